@@ -1,0 +1,4 @@
+pub mod Flags
+pub mod CondCodes
+pub mod Frame
+pub mod Regs

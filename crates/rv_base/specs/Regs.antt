@@ -1,0 +1,33 @@
+-- Registers: their class, their number, and what a real one is.
+use Rattle.std.specs.Prelude.{◌≡◌, ℕ, Option, Some, None}
+use Rattle.rv_base.specs.declared.regs.RegClass.{RegClass}
+use Rattle.rv_base.specs.declared.regs.PReg.{PReg}
+use Rattle.rv_base.specs.declared.regs.Reg.{Reg}
+use Rattle.rv_base.specs.declared.regs.Reg.TheVariants.{Real, Virtual}
+
+abbrev pub class_of : Reg → RegClass
+class_of (Real p) = p.class
+class_of (Virtual v) = v.class
+
+-- the machine's register, where there is one
+abbrev pub real_of : Reg → Option PReg
+real_of (Real p) = Some p
+real_of (Virtual v) = None
+
+-- the number that instructions hold; 0 for a virtual register, which no instruction holds
+abbrev pub number_of : Reg → ℕ
+number_of (Real p) = p.number
+number_of (Virtual v) = 0
+
+abbrev pub IsPReg : PReg → RegClass → ℕ → Type 0
+IsPReg p class number = (p.class ≡ class) × (p.number ≡ number)
+
+-- a real register of this class and number
+abbrev pub IsReal : Reg → RegClass → ℕ → Type 0
+IsReal (Real p) class number = IsPReg p class number
+IsReal (Virtual v) class number = ⊥
+
+-- a virtual register of this index and class
+abbrev pub IsVirtualOf : Reg → ℕ → RegClass → Type 0
+IsVirtualOf (Real p) index class = ⊥
+IsVirtualOf (Virtual v) index class = (v.index ≡ index) × (v.class ≡ class)

@@ -1,0 +1,37 @@
+//! The stack frame of a function.
+
+ghost use Rattle.std.specs.Prelude.{◌≡◌};
+ghost use Rattle.rv_base.specs.Frame.{no_frame};
+
+use crate::list::List;
+use crate::regs::{PReg, Writable};
+use std::alloc::Global;
+
+/// A function's frame, sizes in bytes, from its caller's arguments down to its own outgoing ones.
+#[derive(Drop)]
+pub struct FrameLayout {
+    pub tail_args_size: u32,
+    pub setup_area_size: u32,
+    pub clobber_size: u32,
+    pub fixed_frame_storage_size: u32,
+    pub stackslots_size: u32,
+    pub outgoing_args_size: u32,
+    pub clobbered_callee_saves: List<Writable<PReg>>,
+}
+
+impl FrameLayout {
+    /// A frame of no bytes. Takes no memory.
+    pub fn none(alloc: Global) -> FrameLayout
+        ensures { result ≡ no_frame }
+    {
+        FrameLayout {
+            tail_args_size: 0,
+            setup_area_size: 0,
+            clobber_size: 0,
+            fixed_frame_storage_size: 0,
+            stackslots_size: 0,
+            outgoing_args_size: 0,
+            clobbered_callee_saves: List::new(alloc),
+        }
+    }
+}

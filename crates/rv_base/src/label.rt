@@ -1,0 +1,37 @@
+//! Labels of a listing and of a buffer.
+
+ghost use Rattle.std.specs.Prelude.{◌≡◌};
+
+use std::fmt;
+
+/// A label, by its number. A listing's own labels are below 2^30.
+#[derive(Clone, Copy, PartialEq, Eq, PartialOrd, Ord, Hash)]
+pub struct MachLabel {
+    pub number: u32,
+}
+
+impl MachLabel {
+    pub fn from_u32(number: u32) -> MachLabel
+        ensures { result.number ≡ number }
+    {
+        MachLabel { number }
+    }
+
+    pub fn as_u32(self) -> u32
+        ensures { result ≡ self.number }
+    {
+        self.number
+    }
+}
+
+impl fmt::Display for MachLabel {
+    fn fmt<W: fmt::Write>(&self, f: &mut fmt::Formatter<W>) -> fmt::Result {
+        write!(f, "label{}", self.number)
+    }
+}
+
+impl fmt::Debug for MachLabel {
+    fn fmt<W: fmt::Write>(&self, f: &mut fmt::Formatter<W>) -> fmt::Result {
+        write!(f, "MachLabel({})", self.number)
+    }
+}

@@ -1,0 +1,120 @@
+//! The machine's registers by number and by name.
+
+ghost use Rattle.std.specs.Prelude.{◌≡◌, ◌<◌};
+ghost use Rattle.rv_base.specs.Regs.{IsPReg, IsReal};
+
+use crate::regs::{PReg, Reg, RegClass, Writable};
+
+/// The integer register x0 to x31 of this number.
+pub fn px_reg(enc: usize) -> PReg
+    requires { enc < 32 }
+    ensures { IsPReg result RegClass.Int enc }
+{
+    PReg::new(enc as u8, RegClass::Int)
+}
+
+/// The floating-point register f0 to f31 of this number.
+pub fn pf_reg(enc: usize) -> PReg
+    requires { enc < 32 }
+    ensures { IsPReg result RegClass.Float enc }
+{
+    PReg::new(enc as u8, RegClass::Float)
+}
+
+/// The vector register v0 to v31 of this number.
+pub fn pv_reg(enc: usize) -> PReg
+    requires { enc < 32 }
+    ensures { IsPReg result RegClass.Vector enc }
+{
+    PReg::new(enc as u8, RegClass::Vector)
+}
+
+/// The integer register x0 to x31 of this number.
+pub fn x_reg(enc: usize) -> Reg
+    requires { enc < 32 }
+    ensures { IsReal result RegClass.Int enc }
+{
+    Reg::Real(px_reg(enc))
+}
+
+/// The floating-point register f0 to f31 of this number.
+pub fn f_reg(enc: usize) -> Reg
+    requires { enc < 32 }
+    ensures { IsReal result RegClass.Float enc }
+{
+    Reg::Real(pf_reg(enc))
+}
+
+pub fn zero_reg() -> Reg
+    ensures { IsReal result RegClass.Int 0 }
+{
+    x_reg(0)
+}
+
+pub fn link_reg() -> Reg
+    ensures { IsReal result RegClass.Int 1 }
+{
+    x_reg(1)
+}
+
+pub fn stack_reg() -> Reg
+    ensures { IsReal result RegClass.Int 2 }
+{
+    x_reg(2)
+}
+
+pub fn fp_reg() -> Reg
+    ensures { IsReal result RegClass.Int 8 }
+{
+    x_reg(8)
+}
+
+pub fn a0() -> Reg
+    ensures { IsReal result RegClass.Int 10 }
+{
+    x_reg(10)
+}
+
+pub fn a1() -> Reg
+    ensures { IsReal result RegClass.Int 11 }
+{
+    x_reg(11)
+}
+
+pub fn a2() -> Reg
+    ensures { IsReal result RegClass.Int 12 }
+{
+    x_reg(12)
+}
+
+pub fn fa1() -> Reg
+    ensures { IsReal result RegClass.Float 11 }
+{
+    f_reg(11)
+}
+
+/// The register that expansions and veneers change; no line may name it.
+pub fn spilltmp_reg() -> Reg
+    ensures { IsReal result RegClass.Int 31 }
+{
+    x_reg(31)
+}
+
+/// The second register that expansions change; no line may name it.
+pub fn spilltmp_reg2() -> Reg
+    ensures { IsReal result RegClass.Int 30 }
+{
+    x_reg(30)
+}
+
+pub fn writable_zero_reg() -> Writable<Reg>
+    ensures { IsReal result.reg RegClass.Int 0 }
+{
+    Writable::from_reg(zero_reg())
+}
+
+pub fn writable_link_reg() -> Writable<Reg>
+    ensures { IsReal result.reg RegClass.Int 1 }
+{
+    Writable::from_reg(link_reg())
+}

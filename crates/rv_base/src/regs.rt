@@ -1,0 +1,123 @@
+//! Registers: the machine's own, and virtual ones that no register was chosen for yet.
+
+ghost use Rattle.std.specs.Prelude.{◌≡◌, ◌<◌, ◌≤◌};
+
+/// The three register files.
+#[derive(Clone, Copy, Debug, PartialEq, Eq, PartialOrd, Ord, Hash)]
+pub enum RegClass {
+    Int,
+    Float,
+    Vector,
+}
+
+/// A register of the machine, by its file and its number below 32.
+#[derive(Clone, Copy, Debug, PartialEq, Eq, PartialOrd, Ord, Hash)]
+pub struct PReg {
+    pub class: RegClass,
+    pub number: u8,
+    ghost in_file: { number < 32 },
+}
+
+impl PReg {
+    /// The register of this number; below 32.
+    pub fn new(number: u8, class: RegClass) -> PReg
+        requires { number < 32 }
+        ensures class { result.class ≡ class }
+        ensures number { result.number ≡ number }
+    {
+        PReg { class, number }
+    }
+
+    pub fn class(self) -> RegClass
+        ensures { result ≡ self.class }
+    {
+        self.class
+    }
+
+    /// The number that instructions hold; below 32.
+    pub fn hw_enc(self) -> u8
+        ensures value { result ≡ self.number }
+        ensures in_file { result < 32 }
+    {
+        self.number
+    }
+}
+
+/// A register that none of the machine's was chosen for.
+#[derive(Clone, Copy, Debug, PartialEq, Eq, PartialOrd, Ord, Hash)]
+pub struct VirtualReg {
+    pub index: u32,
+    pub class: RegClass,
+    ghost low: { 192 ≤ index },
+    ghost high: { index < 2097152 },
+}
+
+/// A register of an instruction. Real ones come before virtual ones; real ones by file and number, virtual ones by
+/// index.
+#[derive(Clone, Copy, Debug, PartialEq, Eq, PartialOrd, Ord, Hash)]
+pub enum Reg {
+    Real(PReg),
+    Virtual(VirtualReg),
+}
+
+/// A register that an instruction writes.
+#[derive(Clone, Copy, Debug, PartialEq, Eq, PartialOrd, Ord, Hash)]
+pub struct Writable<R> {
+    pub reg: R,
+}
+
+pub type WritableReg = Writable<Reg>;
+
+impl<R> Writable<R> {
+    pub fn from_reg(reg: R) -> Writable<R>
+        ensures { result.reg ≡ reg }
+    {
+        Writable { reg }
+    }
+
+    pub fn to_reg(self) -> R
+        ensures { result ≡ self.reg }
+    {
+        self.reg
+    }
+}
+
+impl Reg {
+    ghost use Rattle.std.specs.Prelude.{◌≡◌, ◌<◌, ◌≤◌};
+    ghost use Rattle.rv_base.specs.Regs.{class_of, real_of, IsVirtualOf};
+
+    /// The register itself.
+    pub fn from_preg(reg: PReg) -> Reg
+        ensures { result ≡ Reg.Real reg }
+    {
+        Reg::Real(reg)
+    }
+
+    /// A virtual register; its index is from 192 to 2097151.
+    pub fn from_virtual(index: u32, class: RegClass) -> Reg
+        requires low { 192 ≤ index }
+        requires high { index < 2097152 }
+        ensures { IsVirtualOf result index class }
+    {
+        Reg::Virtual(VirtualReg { index, class })
+    }
+
+    pub fn class(self) -> RegClass
+        ensures { result ≡ class_of self }
+    {
+        match self {
+            Reg::Real(reg) => reg.class,
+            Reg::Virtual(reg) => reg.class,
+        }
+    }
+
+    /// None exactly for a virtual register.
+    pub fn to_real_reg(self) -> Option<PReg>
+        ensures { result ≡ real_of self }
+    {
+        match self {
+            Reg::Real(reg) => Some(reg),
+            Reg::Virtual(_) => None,
+        }
+    }
+}
