@@ -1,0 +1,5 @@
+//! Immediates of instructions.
+#![tactic(auto)]
+
+pub mod imm12;
+pub mod imm20;

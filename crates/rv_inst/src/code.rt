@@ -1,0 +1,28 @@
+//! The code of a job, and what is told of it. Offsets and lengths are in bytes from the code's start.
+
+use rv_base::label::MachLabel;
+use rv_base::list::List;
+
+/// Where the bytes of a line begin and end.
+#[derive(Clone, Copy, Debug, PartialEq, Eq)]
+pub struct LineSpan {
+    pub index: usize,
+    pub start: u32,
+    pub end: u32,
+}
+
+/// Where a label stands.
+#[derive(Clone, Copy, Debug, PartialEq, Eq)]
+pub struct LabelPlace {
+    pub label: MachLabel,
+    pub offset: u32,
+}
+
+/// Machine code, with a span for each line, a place for each label, and where the last line ends.
+#[derive(Drop)]
+pub struct Code {
+    pub bytes: List<u8>,
+    pub lines: List<LineSpan>,
+    pub labels: List<LabelPlace>,
+    pub end: u32,
+}

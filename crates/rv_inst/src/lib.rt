@@ -1,0 +1,7 @@
+//! Instructions and lines: what they are, which rules they keep, and what they mean.
+#![tactic(auto)]
+
+pub mod code;
+pub mod error;
+pub mod inst;
+pub mod job;

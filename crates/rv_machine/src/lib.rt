@@ -1,0 +1,2 @@
+//! The machine: decoding, and steps.
+#![tactic(auto)]

@@ -1,0 +1,5 @@
+//! Operations of instructions, as tables.
+#![tactic(auto)]
+
+pub mod alu;
+pub mod compare;
