@@ -1,0 +1,5 @@
+pub mod Blocks
+pub mod Refusal
+pub mod Rows
+pub mod Simulation
+pub mod Told

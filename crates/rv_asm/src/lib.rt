@@ -1,0 +1,4 @@
+//! From a listing to its code.
+#![tactic(auto)]
+
+pub mod refusal;
