@@ -1,3 +1,5 @@
 pub mod Decoding
 pub mod Numbers
+pub mod Puts
 pub mod Refused
+pub mod Turns

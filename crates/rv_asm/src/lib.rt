@@ -4,3 +4,4 @@
 pub mod encode;
 pub mod layout;
 pub mod refusal;
+pub mod words;
