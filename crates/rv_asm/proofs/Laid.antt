@@ -105,7 +105,7 @@ label_is index start (Bind l ∷ lines) label e = at_bind (nat_eq l.number label
 
 -- ---- exits go to labels that are bound
 
-abbrev AllBound : List Line → List MachLabel → Type 0
+abbrev pub AllBound : List Line → List MachLabel → Type 0
 AllBound lines [] = Unit {0}
 AllBound lines (l ∷ labels) = (is_bound lines l.number ≡ true) × AllBound lines labels
 

@@ -9,5 +9,7 @@ pub mod Refused
 pub mod Registers
 pub mod Steps
 pub mod Straight
+pub mod Telling
 pub mod Threads
 pub mod Turns
+pub mod Valid

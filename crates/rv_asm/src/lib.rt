@@ -1,6 +1,7 @@
 //! From a listing to its code.
 #![tactic(auto)]
 
+pub mod assemble;
 pub mod encode;
 pub mod layout;
 pub mod refusal;
