@@ -1,4 +1,5 @@
-pub mod Flags
 pub mod CondCodes
+pub mod Flags
 pub mod Frame
+pub mod Names
 pub mod Regs

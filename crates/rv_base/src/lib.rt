@@ -9,4 +9,5 @@ pub mod label;
 pub mod list;
 pub mod memory;
 pub mod named;
+pub mod names;
 pub mod regs;
