@@ -31,3 +31,8 @@ IsReal (Virtual v) class number = ⊥
 abbrev pub IsVirtualOf : Reg → ℕ → RegClass → Type 0
 IsVirtualOf (Real p) index class = ⊥
 IsVirtualOf (Virtual v) index class = (v.index ≡ index) × (v.class ≡ class)
+
+-- a register's place in the order of its file: a real one's number, and above it a virtual one's index
+abbrev pub place_of : Reg → ℕ
+place_of (Real p) = p.number
+place_of (Virtual v) = v.index
