@@ -1,6 +1,8 @@
 pub mod CondCodes
 pub mod Flags
 pub mod Frame
+pub mod IrType
+pub mod LaneCount
 pub mod Names
 pub mod PRegSet
 pub mod Regs

@@ -7,6 +7,7 @@ pub mod constant;
 pub mod external_name;
 pub mod flags;
 pub mod frame;
+pub mod ir_type;
 pub mod label;
 pub mod list;
 pub mod mem_flags;
