@@ -7,6 +7,7 @@ use Rattle.rv_base.specs.declared.regs.PReg.{PReg}
 use Rattle.rv_base.specs.declared.regs.VirtualReg.{VirtualReg}
 use Rattle.rv_base.specs.declared.regs.Reg.{Reg}
 use Rattle.rv_base.specs.declared.regs.Reg.TheVariants.{Real, Virtual}
+use Rattle.rv_base.specs.Regs.{IsReal, int_reg}
 use Rattle.rv_base.specs.contracts.regs.RegClassPartialEq.TheImpl as class_impl
 use Rattle.rv_base.specs.contracts.regs.PRegPartialEq.TheImpl as preg_impl
 use Rattle.rv_base.specs.contracts.regs.VirtualRegPartialEq.TheImpl as virtual_impl
@@ -63,3 +64,8 @@ pub same_both_ways : (a b : Reg) → IsTrue ((reg_impl.ghosts).eq a b) ↔ (a �
 same_both_ways a b =
     let is_equal : Reg → Type 0 = λ r. IsTrue ((reg_impl.ghosts).eq a r) in
     (same_reg a b, λ same. subst is_equal same (eq_self a))
+
+-- a real integer register of a number is the one that specs name
+pub int_reg_is : (r : Reg) (number : ℕ) (in_file : number < 32) → IsReal r Int number → r ≡ int_reg number in_file
+int_reg_is (Real p) number in_file is = ap (λ q. Real q) (preg_from_fields p (preg Int number in_file) is.0 is.1)
+int_reg_is (Virtual v) number in_file is = absurd is

@@ -1,3 +1,4 @@
+pub mod AMode
 pub mod CondCodes
 pub mod Flags
 pub mod Frame

@@ -92,7 +92,10 @@ impl IrType {
             IrType::I128 | IrType::F128 | IrType::Vector(_) => return None,
         };
         match lanes {
-            2 | 4 | 8 | 16 | 32 | 64 | 128 | 256 => Some(IrType::Vector(VectorType { lane, lanes })),
+            2 | 4 | 8 | 16 | 32 | 64 | 128 | 256 => Some(IrType::Vector(VectorType {
+                lane,
+                lanes,
+            })),
             _ => None,
         }
     }
