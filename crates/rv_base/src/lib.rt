@@ -21,5 +21,7 @@ pub mod operand_list;
 pub mod operands;
 pub mod preg_set;
 pub mod regs;
+#[cfg(test)]
+mod tests;
 pub mod trap;
 pub mod value_regs;

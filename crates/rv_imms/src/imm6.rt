@@ -28,9 +28,7 @@ impl Imm6 {
         ensures { MatchOption result (¬ (IsSigned 6 value)) (λ imm. imm.value ≡ value) }
     {
         if value >= -32 && value <= 31 {
-            Some(Imm6 {
-                value: value as i8,
-            })
+            Some(Imm6 { value: value as i8 })
         } else {
             None
         }
