@@ -6,6 +6,7 @@ pub mod constant;
 pub mod flags;
 pub mod frame;
 pub mod label;
+pub mod label_use;
 pub mod list;
 pub mod memory;
 pub mod named;
