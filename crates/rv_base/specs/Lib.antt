@@ -3,6 +3,7 @@ pub mod CondCodes
 pub mod Flags
 pub mod Frame
 pub mod IrType
+pub mod LabelUse
 pub mod LaneCount
 pub mod Names
 pub mod PRegSet

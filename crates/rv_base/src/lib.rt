@@ -12,6 +12,7 @@ pub mod flags;
 pub mod frame;
 pub mod ir_type;
 pub mod label;
+pub mod label_use;
 pub mod list;
 pub mod mem_flags;
 pub mod memory;
