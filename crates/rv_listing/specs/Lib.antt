@@ -1,0 +1,4 @@
+pub mod Tokens
+pub mod Registers
+pub mod Forms
+pub mod Reading

@@ -1,0 +1,9 @@
+//! Listings read to jobs, and codes told in reports.
+#![tactic(auto)]
+
+pub mod forms;
+pub mod reading;
+pub mod registers;
+#[cfg(test)]
+mod tests;
+pub mod tokens;
