@@ -4,6 +4,7 @@
 pub mod forms;
 pub mod reading;
 pub mod registers;
+pub mod report;
 #[cfg(test)]
 mod tests;
 pub mod tokens;

@@ -1,6 +1,10 @@
 use crate::reading::{ReadError, read_job};
 use crate::registers::register;
+use crate::report::report;
+use rv_base::label::MachLabel;
+use rv_base::list::List;
 use rv_base::regs::{Reg, RegClass};
+use rv_inst::code::{Code, LabelPlace, LineSpan};
 use std::test::Fail;
 
 // Names, classes and numbers as the calling convention has them.
@@ -103,5 +107,50 @@ fn texts(rt: HostRuntime) -> Result<(), Fail> {
             Err(ReadError::OutOfMemory) => assert!(rt; false, "at {text}"),
         }
     }
+    Ok(())
+}
+
+// A code of two rows, with its text as the report's format has it.
+#[test]
+fn reports(rt: HostRuntime) -> Result<(), Fail> {
+    let alloc = rt.alloc();
+    let bytes = Vec::from_array(
+        alloc,
+        [
+            0x13, 0x05, 0xf5, 0xff, 0xe3, 0x1e, 0x05, 0xfe, 0x67, 0x80, 0, 0, 1, 2, 3, 4, 5, 0xab,
+        ],
+    )?;
+    let lines = Vec::from_array(
+        alloc,
+        [
+            LineSpan {
+                index: 0,
+                start: 0,
+                end: 0,
+            },
+            LineSpan {
+                index: 1,
+                start: 0,
+                end: 12,
+            },
+        ],
+    )?;
+    let labels = Vec::from_array(
+        alloc,
+        [LabelPlace {
+            label: MachLabel::from_u32(7),
+            offset: 4,
+        }],
+    )?;
+    let code = Code {
+        bytes: List::from_vec(bytes),
+        lines: List::from_vec(lines),
+        labels: List::from_vec(labels),
+        end: 16,
+    };
+    let wanted =
+        "code 18\n00000000 1305f5ffe31e05fe6780000001020304\n00000010 05ab\nline 0 0 0\nline 1 0 12\nlabel L7 4\nend 16\n";
+    let text = report(alloc, &code)?;
+    assert_eq!(rt; text.as_slice(), wanted.as_bytes());
     Ok(())
 }
