@@ -1,0 +1,5 @@
+pub mod Cuts
+pub mod Ranges
+pub mod Bad
+pub mod Rows
+pub mod ReportTells
