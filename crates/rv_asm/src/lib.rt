@@ -5,4 +5,6 @@ pub mod assemble;
 pub mod encode;
 pub mod layout;
 pub mod refusal;
+#[cfg(test)]
+mod tests;
 pub mod words;
