@@ -3,3 +3,4 @@ pub mod Ranges
 pub mod Bad
 pub mod Rows
 pub mod ReportTells
+pub mod Plain

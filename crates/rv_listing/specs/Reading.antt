@@ -69,3 +69,9 @@ pub record IsBadLine (text : List ℕ) (n : ℕ) : Type 0 where
   pub count : n ≡ length before + 1
   pub fine : reading 1 no_job before ≡ Ok sofar
   pub refused : with_line sofar line ≡ None
+
+-- every flag is off, the frame has no bytes, and there are no constants
+pub record IsPlain (job : Job) : Type 0 where
+  pub flags : job.flags ≡ no_flags
+  pub frame : job.frame ≡ no_frame
+  pub constants : job.constants ≡ []

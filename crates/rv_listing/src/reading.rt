@@ -1,10 +1,10 @@
 //! A whole listing: the job that it means, or its first bad line.
 
-ghost use Rattle.std.specs.Prelude.{◌≡◌, ℕ, IfErr};
+ghost use Rattle.std.specs.Prelude.{◌≡◌, ℕ, IfOk, IfErr};
 ghost use Rattle.rv_listing.specs.Tokens.{more, words_of, lines_of};
 ghost use Rattle.rv_listing.specs.Forms.{line_row};
 ghost use Rattle.std.specs.List.{list_all};
-ghost use Rattle.rv_listing.specs.Reading.{no_job, is_plain, by_words, with_line, reading, TakesLine, reads, Reads, IsBadLine};
+ghost use Rattle.rv_listing.specs.Reading.{no_job, is_plain, by_words, with_line, reading, TakesLine, reads, Reads, IsBadLine, IsPlain};
 
 use crate::forms;
 use crate::tokens::{first_word, next_line};
@@ -92,6 +92,7 @@ fn read_lines(alloc: Global, text: &[u8]) -> Result<Job, ReadError>
 pub fn read_job(alloc: Global, text: &[u8]) -> Result<Job, ReadError>
     ensures reads { Reads text.now result }
     ensures bad_line { IfErr result (λ e. (n : ℕ) → e ≡ ReadError.Syntax n → IsBadLine text.now n) }
+    ensures plain { IfOk result IsPlain }
 {
     read_lines(alloc, text)
 }
