@@ -1,5 +1,5 @@
 -- What each row does, in the manual's terms: registers hold 64 bits, and sums wrap.
-use Rattle.std.specs.Prelude.{ℕ, ◌+◌, ◌*◌, ◌/◌, ◌%◌, ◌^◌, nat_eq, nat_lt, if◌then◌else◌, Bool, true, false, not}
+use Rattle.std.specs.Prelude.{ℕ, ◌+◌, ◌*◌, ◌/◌, ◌^◌, nat_eq, nat_lt, if◌then◌else◌, Bool, true, false, not}
 use Rattle.rv_machine.specs.declared.decode.Decoded.{Decoded}
 use Rattle.rv_machine.specs.declared.ops.MOp.{MOp}
 use Rattle.rv_machine.specs.declared.ops.MOp.TheVariants.{Base, Mul, Bit}
