@@ -1,11 +1,17 @@
 -- What each row does, in the manual's terms: registers hold 64 bits, and sums wrap.
-use Rattle.std.specs.Prelude.{ℕ, ◌+◌, ◌*◌, ◌/◌, ◌%◌, ◌^◌, nat_eq, nat_lt, if◌then◌else◌, Bool, true, false, not}
+use Rattle.std.specs.Prelude.{ℕ, ◌+◌, ◌*◌, ◌/◌, ◌^◌, nat_eq, nat_lt, if◌then◌else◌, Bool, true, false, not}
 use Rattle.rv_machine.specs.declared.decode.Decoded.{Decoded}
 use Rattle.rv_machine.specs.declared.ops.MOp.{MOp}
-use Rattle.rv_machine.specs.declared.ops.MOp.TheVariants.{Base}
+use Rattle.rv_machine.specs.declared.ops.MOp.TheVariants.{Base, Mul, Bit}
 use Rattle.rv_machine.specs.declared.ops.BaseOp.{BaseOp}
-use Rattle.rv_machine.specs.declared.ops.BaseOp.TheVariants.{Lui, Auipc, Jal, Jalr, Beq, Bne, Blt, Bge, Bltu, Bgeu, Addi, Add, Ebreak}
+use Rattle.rv_machine.specs.declared.ops.BaseOp.TheVariants.{Lui, Auipc, Jal, Jalr, Beq, Bne, Blt, Bge, Bltu, Bgeu, Fence, Ebreak}
+use Rattle.rv_machine.specs.declared.ops.MulOp.{MulOp}
+use Rattle.rv_machine.specs.declared.ops.BitOp.{BitOp}
 use Rattle.rv_machine.specs.State.{State, reg, set_reg, at, wrap, low64}
+pub use Rattle.rv_machine.specs.Arithmetic.{signed_below}
+use Rattle.rv_machine.specs.Base.{base_result}
+use Rattle.rv_machine.specs.MulDiv.{mul_result}
+use Rattle.rv_machine.specs.Bits.{bit_result}
 
 -- ---- what rows read and write
 
@@ -37,19 +43,9 @@ links d s target = at target (set_reg s.values d.rd (next_of d s))
 abbrev pub branches : Decoded → State → Bool → State
 branches d s taken = at (if taken then wrap (s.pc + imm_of d) else next_of d s) s.values
 
--- the order of two registers that are read as signed numbers
-abbrev pub signed_below : ℕ → ℕ → Bool
-signed_below x y = nat_lt ((x + 2 ^ 63) % 2 ^ 64) ((y + 2 ^ 63) % 2 ^ 64)
+-- ---- by family
 
--- ---- RV64I
-
--- what a row computes of rs1, rs2 and its number
-abbrev pub base_result : BaseOp → ℕ → ℕ → ℕ → ℕ
-base_result Addi x y imm = wrap (x + imm)
-base_result Add x y imm = wrap (x + y)
--- the other rows compute no such number
-base_result _ x y imm = 0
-
+-- RV64I and Zicond
 abbrev pub base_act : BaseOp → Decoded → State → State
 base_act Lui d s = puts d s (wrap (imm_of d * 2 ^ 12))
 base_act Auipc d s = puts d s (wrap (s.pc + imm_of d * 2 ^ 12))
@@ -61,14 +57,23 @@ base_act Blt d s = branches d s (signed_below (x_of d s) (y_of d s))
 base_act Bge d s = branches d s (not (signed_below (x_of d s) (y_of d s)))
 base_act Bltu d s = branches d s (nat_lt (x_of d s) (y_of d s))
 base_act Bgeu d s = branches d s (not (nat_lt (x_of d s) (y_of d s)))
+base_act Fence d s = at (next_of d s) s.values
 -- no step comes to it
 base_act Ebreak d s = s
 base_act op d s = puts d s (base_result op (x_of d s) (y_of d s) (imm_of d))
 
--- ---- by family
+-- M
+abbrev pub mul_act : MulOp → Decoded → State → State
+mul_act op d s = puts d s (mul_result op (x_of d s) (y_of d s))
+
+-- Zba, Zbb and Zbs
+abbrev pub bit_act : BitOp → Decoded → State → State
+bit_act op d s = puts d s (bit_result op (x_of d s) (y_of d s) (imm_of d))
 
 abbrev pub act_on : MOp → Decoded → State → State
 act_on (Base op) d s = base_act op d s
+act_on (Mul op) d s = mul_act op d s
+act_on (Bit op) d s = bit_act op d s
 
 abbrev pub act : Decoded → State → State
 act d s = act_on d.op d s
@@ -76,4 +81,4 @@ act d s = act_on d.op d s
 -- the rows that have no step
 abbrev pub has_no_step : MOp → Bool
 has_no_step (Base Ebreak) = true
-has_no_step (Base _) = false
+has_no_step _ = false

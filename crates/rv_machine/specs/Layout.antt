@@ -3,6 +3,8 @@ use Rattle.std.specs.Prelude.{ℕ, ◌+◌, ◌*◌, ◌/◌, ◌%◌, ◌^◌, 
 use Rattle.rv_machine.specs.declared.fields.Fields.{Fields}
 use Rattle.rv_machine.specs.declared.decode.Decoded.{Decoded}
 use Rattle.rv_machine.specs.declared.ops.MOp.{MOp}
+use Rattle.rv_machine.specs.declared.ops.MOp.TheVariants.{Base}
+use Rattle.rv_machine.specs.declared.ops.BaseOp.TheVariants.{Fence}
 use Rattle.rv_machine.specs.State.{signed}
 
 -- layout R: opcode 6:0, rd 11:7, funct3 14:12, rs1 19:15, rs2 24:20, funct7 31:25
@@ -63,6 +65,18 @@ r_form f op = record { op = op; rd = f.rd; rs1 = f.rs1; rs2 = f.rs2; rs3 = 0; im
 abbrev pub i_form : Fields → MOp → Decoded
 i_form f op = record { op = op; rd = f.rd; rs1 = f.rs1; rs2 = 0; rs3 = 0; imm = i_number f; rm = 0; vm = false; len = 4 }
 
+-- with an amount of six bits, at 25:20
+abbrev pub shift_form : Fields → MOp → Decoded
+shift_form f op = record { op = op; rd = f.rd; rs1 = f.rs1; rs2 = 0; rs3 = 0; imm = pos (f.funct7 % 2 * 32 + f.rs2); rm = 0; vm = false; len = 4 }
+
+-- with an amount of five bits, at 24:20
+abbrev pub shift32_form : Fields → MOp → Decoded
+shift32_form f op = record { op = op; rd = f.rd; rs1 = f.rs1; rs2 = 0; rs3 = 0; imm = pos f.rs2; rm = 0; vm = false; len = 4 }
+
+-- with one source, and no number
+abbrev pub unary_form : Fields → MOp → Decoded
+unary_form f op = record { op = op; rd = f.rd; rs1 = f.rs1; rs2 = 0; rs3 = 0; imm = pos 0; rm = 0; vm = false; len = 4 }
+
 abbrev pub b_form : Fields → MOp → Decoded
 b_form f op = record { op = op; rd = 0; rs1 = f.rs1; rs2 = f.rs2; rs3 = 0; imm = b_number f; rm = 0; vm = false; len = 4 }
 
@@ -71,6 +85,10 @@ u_form f op = record { op = op; rd = f.rd; rs1 = 0; rs2 = 0; rs3 = 0; imm = u_nu
 
 abbrev pub j_form : Fields → MOp → Decoded
 j_form f op = record { op = op; rd = f.rd; rs1 = 0; rs2 = 0; rs3 = 0; imm = j_number f; rm = 0; vm = false; len = 4 }
+
+-- pred at 27:24, succ at 23:20: 16 * pred + succ
+abbrev pub fence_form : Fields → Decoded
+fence_form f = record { op = Base Fence; rd = 0; rs1 = 0; rs2 = 0; rs3 = 0; imm = pos (f.funct7 * 32 + f.rs2); rm = 0; vm = false; len = 4 }
 
 -- the registers of a row are those of a file of 32
 pub record HasFileRegisters (d : Decoded) : Type 0 where

@@ -2,10 +2,10 @@
 
 ghost use Rattle.std.specs.Prelude.{◌≡◌, ◌<◌, IfSome};
 ghost use Rattle.rv_machine.specs.Layout.{IsFields, HasFileRegisters};
-ghost use Rattle.rv_machine.specs.Decode.{decode_jalr, decode_branch, decode_op_imm, decode_op, decode_system, decode_fields, decode};
+ghost use Rattle.rv_machine.specs.Decode.{decode_jalr, decode_branch, decode_op_imm, decode_op_imm32, decode_op, decode_op32, decode_misc_mem, decode_system, decode_fields, decode};
 
 use crate::fields::{Fields, split};
-use crate::ops::{BaseOp, MOp};
+use crate::ops::{BaseOp, BitOp, MOp};
 use crate::{layouts, rows};
 use rv_base::flags::IsaFlags;
 
@@ -54,8 +54,34 @@ fn op_imm(f: Fields) -> Option<Decoded>
     ensures value { result ≡ decode_op_imm f }
     ensures registers { IfSome result HasFileRegisters }
 {
-    match rows::of_imm(f.funct3) {
-        Some(op) => Some(layouts::immediate(f, op)),
+    if let Some(op) = rows::of_imm(f.funct3) {
+        return Some(layouts::immediate(f, op));
+    }
+    if let Some(op) = rows::of_shift(f.funct3, f.funct7 / 2) {
+        return Some(layouts::shift(f, op));
+    }
+    match rows::of_unary(f.funct3, f.funct7, f.rs2) {
+        Some(op) => Some(layouts::unary(f, op)),
+        None => None,
+    }
+}
+
+fn op_imm32(f: Fields) -> Option<Decoded>
+    requires { IsFields f }
+    ensures value { result ≡ decode_op_imm32 f }
+    ensures registers { IfSome result HasFileRegisters }
+{
+    if f.funct3 == 0 {
+        return Some(layouts::immediate(f, MOp::Base(BaseOp::Addiw)));
+    }
+    if f.funct3 == 1 && f.funct7 / 2 == 0x02 {
+        return Some(layouts::shift(f, MOp::Bit(BitOp::SlliUw)));
+    }
+    if let Some(op) = rows::of_shift32(f.funct3, f.funct7) {
+        return Some(layouts::shift32(f, op));
+    }
+    match rows::of_unary32(f.funct3, f.funct7, f.rs2) {
+        Some(op) => Some(layouts::unary(f, op)),
         None => None,
     }
 }
@@ -68,6 +94,32 @@ fn op(f: Fields) -> Option<Decoded>
     match rows::of_op(f.funct7, f.funct3) {
         Some(op) => Some(layouts::register(f, op)),
         None => None,
+    }
+}
+
+fn op32(f: Fields) -> Option<Decoded>
+    requires { IsFields f }
+    ensures value { result ≡ decode_op32 f }
+    ensures registers { IfSome result HasFileRegisters }
+{
+    if f.funct7 == 0x04 && f.funct3 == 4 && f.rs2 == 0 {
+        return Some(layouts::unary(f, MOp::Bit(BitOp::ZextH)));
+    }
+    match rows::of_op32(f.funct7, f.funct3) {
+        Some(op) => Some(layouts::register(f, op)),
+        None => None,
+    }
+}
+
+fn misc_mem(f: Fields) -> Option<Decoded>
+    requires { IsFields f }
+    ensures value { result ≡ decode_misc_mem f }
+    ensures registers { IfSome result HasFileRegisters }
+{
+    if f.funct3 == 0 && f.rd == 0 && f.rs1 == 0 && f.funct7 / 8 == 0 {
+        Some(layouts::fence(f))
+    } else {
+        None
     }
 }
 
@@ -95,7 +147,10 @@ fn by_opcode(f: Fields) -> Option<Decoded>
         0x67 => jalr(f),
         0x63 => branch(f),
         0x13 => op_imm(f),
+        0x1b => op_imm32(f),
         0x33 => op(f),
+        0x3b => op32(f),
+        0x0f => misc_mem(f),
         0x73 => system(f),
         _ => None,
     }

@@ -1,11 +1,11 @@
 //! A row with the registers and the number that its layout holds.
 
 ghost use Rattle.std.specs.Prelude.{◌≡◌, pos, false};
-ghost use Rattle.rv_machine.specs.Layout.{IsFields, HasFileRegisters, i_number, b_number, u_number, j_number, bare_form, r_form, i_form, b_form, u_form, j_form};
+ghost use Rattle.rv_machine.specs.Layout.{IsFields, HasFileRegisters, i_number, b_number, u_number, j_number, bare_form, r_form, i_form, shift_form, shift32_form, unary_form, b_form, u_form, j_form, fence_form};
 
 use crate::decode::Decoded;
 use crate::fields::{Fields, sign_extend};
-use crate::ops::MOp;
+use crate::ops::{BaseOp, MOp};
 
 fn i_imm(f: Fields) -> i64
     requires { IsFields f }
@@ -91,6 +91,47 @@ pub fn immediate(f: Fields, op: MOp) -> Decoded
     }
 }
 
+/// Layout I with an amount of six bits.
+pub fn shift(f: Fields, op: MOp) -> Decoded
+    requires { IsFields f }
+    ensures value { result ≡ shift_form f op }
+    ensures registers { HasFileRegisters result }
+{
+    Decoded {
+        rd: f.rd,
+        rs1: f.rs1,
+        imm: i64::from(f.funct7) % 2 * 32 + i64::from(f.rs2),
+        ..bare(op)
+    }
+}
+
+/// Layout I with an amount of five bits.
+pub fn shift32(f: Fields, op: MOp) -> Decoded
+    requires { IsFields f }
+    ensures value { result ≡ shift32_form f op }
+    ensures registers { HasFileRegisters result }
+{
+    Decoded {
+        rd: f.rd,
+        rs1: f.rs1,
+        imm: i64::from(f.rs2),
+        ..bare(op)
+    }
+}
+
+/// One source, and no number.
+pub fn unary(f: Fields, op: MOp) -> Decoded
+    requires { IsFields f }
+    ensures value { result ≡ unary_form f op }
+    ensures registers { HasFileRegisters result }
+{
+    Decoded {
+        rd: f.rd,
+        rs1: f.rs1,
+        ..bare(op)
+    }
+}
+
 /// Layout B: two sources and a distance.
 pub fn branch(f: Fields, op: MOp) -> Decoded
     requires { IsFields f }
@@ -128,5 +169,17 @@ pub fn jump(f: Fields, op: MOp) -> Decoded
         rd: f.rd,
         imm: j_imm(f),
         ..bare(op)
+    }
+}
+
+/// `fence`, with its two sets of four bits.
+pub fn fence(f: Fields) -> Decoded
+    requires { IsFields f }
+    ensures value { result ≡ fence_form f }
+    ensures registers { HasFileRegisters result }
+{
+    Decoded {
+        imm: i64::from(f.funct7) * 32 + i64::from(f.rs2),
+        ..bare(MOp::Base(BaseOp::Fence))
     }
 }

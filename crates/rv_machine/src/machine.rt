@@ -4,12 +4,15 @@ ghost use Rattle.std.specs.Prelude.{◌≡◌, ℕ, ◌<◌, ◌≤◌, length, 
 ghost use Rattle.std.specs.FinMap as map;
 ghost use Rattle.rv_machine.specs.Layout.{HasFileRegisters};
 ghost use Rattle.rv_machine.specs.State.{byte, reg};
-ghost use Rattle.rv_machine.specs.Effects.{base_act, act, has_no_step, puts, links, branches};
+ghost use Rattle.rv_machine.specs.Effects.{base_act, mul_act, bit_act, act, has_no_step, puts, links, branches};
 ghost use Rattle.rv_machine.specs.Steps.{fetch, istep, Machine, zero_at, with_state, with_pc, with_reg, with_memory, with_bytes, Steps, Ran};
 
+use crate::arithmetic::is_signed_below;
+use crate::base::base_result;
+use crate::bits::bit_result;
 use crate::decode::{Decoded, decode};
-use crate::ops::{BaseOp, MOp};
-use crate::results::{base_result, is_signed_below};
+use crate::muldiv::mul_result;
+use crate::ops::{BaseOp, BitOp, MOp, MulOp};
 use rv_base::flags::IsaFlags;
 use rv_base::memory::OutOfMemory;
 use std::alloc::Global;
@@ -50,7 +53,7 @@ fn has_no_step(op: MOp) -> bool
 {
     match op {
         MOp::Base(BaseOp::Ebreak) => true,
-        MOp::Base(_) => false,
+        _ => false,
     }
 }
 
@@ -188,9 +191,27 @@ impl IntMachine {
             BaseOp::Bge => self.branch(d, !is_signed_below(x, y)),
             BaseOp::Bltu => self.branch(d, x < y),
             BaseOp::Bgeu => self.branch(d, x >= y),
+            BaseOp::Fence => self.pc = pc.wrapping_add(u64::from(d.len)),
             BaseOp::Ebreak => {}
             _ => self.put(d, base_result(op, x, y, imm)),
         }
+    }
+
+    fn act_mul(&mut self, op: MulOp, d: Decoded)
+        requires { HasFileRegisters d }
+        ensures { self.new ≡ with_state self.old (mul_act op d self.old.state) }
+    {
+        self.put(d, mul_result(op, self.reg(d.rs1), self.reg(d.rs2)));
+    }
+
+    fn act_bit(&mut self, op: BitOp, d: Decoded)
+        requires { HasFileRegisters d }
+        ensures { self.new ≡ with_state self.old (bit_act op d self.old.state) }
+    {
+        self.put(
+            d,
+            bit_result(op, self.reg(d.rs1), self.reg(d.rs2), d.imm.cast_unsigned()),
+        );
     }
 
     fn act(&mut self, d: Decoded)
@@ -199,6 +220,8 @@ impl IntMachine {
     {
         match d.op {
             MOp::Base(op) => self.act_base(op, d),
+            MOp::Mul(op) => self.act_mul(op, d),
+            MOp::Bit(op) => self.act_bit(op, d),
         }
     }
 

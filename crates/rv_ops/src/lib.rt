@@ -3,3 +3,4 @@
 
 pub mod alu;
 pub mod compare;
+pub mod memory;

@@ -1,0 +1,124 @@
+//! Loads and stores of integer registers.
+
+/// A load.
+#[derive(Clone, Copy, Debug, PartialEq, Eq)]
+pub enum LoadOP {
+    Lb,
+    Lh,
+    Lw,
+    Lbu,
+    Lhu,
+    Lwu,
+    Ld,
+}
+
+impl LoadOP {
+    ghost use Rattle.std.specs.Prelude.{◌≡◌, ◌<◌, ◌^◌, pos};
+    ghost use Rattle.rv_ops.specs.Memory.{load_name, load_size, load_funct3};
+
+    /// The mnemonic.
+    pub fn op_name(self) -> &'static str
+        ensures { result.now ≡ load_name self }
+    {
+        match self {
+            LoadOP::Lb => "lb",
+            LoadOP::Lh => "lh",
+            LoadOP::Lw => "lw",
+            LoadOP::Lbu => "lbu",
+            LoadOP::Lhu => "lhu",
+            LoadOP::Lwu => "lwu",
+            LoadOP::Ld => "ld",
+        }
+    }
+
+    /// How many bytes it reads.
+    pub fn size(&self) -> i64
+        ensures { result ≡ pos (load_size self.now) }
+    {
+        match self {
+            LoadOP::Lb | LoadOP::Lbu => 1,
+            LoadOP::Lh | LoadOP::Lhu => 2,
+            LoadOP::Lw | LoadOP::Lwu => 4,
+            LoadOP::Ld => 8,
+        }
+    }
+
+    /// LOAD.
+    pub fn op_code(self) -> u32
+        ensures { result ≡ 0x03 }
+    {
+        0b0000011
+    }
+
+    pub fn funct3(self) -> u32
+        ensures value { result ≡ load_funct3 self }
+        ensures width { result < 2 ^ 3 }
+    {
+        match self {
+            LoadOP::Lb => 0b000,
+            LoadOP::Lh => 0b001,
+            LoadOP::Lw => 0b010,
+            LoadOP::Ld => 0b011,
+            LoadOP::Lbu => 0b100,
+            LoadOP::Lhu => 0b101,
+            LoadOP::Lwu => 0b110,
+        }
+    }
+}
+
+/// A store.
+#[derive(Clone, Copy, Debug, PartialEq, Eq)]
+pub enum StoreOP {
+    Sb,
+    Sh,
+    Sw,
+    Sd,
+}
+
+impl StoreOP {
+    ghost use Rattle.std.specs.Prelude.{◌≡◌, ◌<◌, ◌^◌, pos};
+    ghost use Rattle.rv_ops.specs.Memory.{store_name, store_size, store_funct3};
+
+    /// The mnemonic.
+    pub fn op_name(self) -> &'static str
+        ensures { result.now ≡ store_name self }
+    {
+        match self {
+            StoreOP::Sb => "sb",
+            StoreOP::Sh => "sh",
+            StoreOP::Sw => "sw",
+            StoreOP::Sd => "sd",
+        }
+    }
+
+    /// How many bytes it writes.
+    pub fn size(&self) -> i64
+        ensures { result ≡ pos (store_size self.now) }
+    {
+        match self {
+            StoreOP::Sb => 1,
+            StoreOP::Sh => 2,
+            StoreOP::Sw => 4,
+            StoreOP::Sd => 8,
+        }
+    }
+
+    /// STORE.
+    pub fn op_code(self) -> u32
+        ensures { result ≡ 0x23 }
+    {
+        0b0100011
+    }
+
+    pub fn funct3(self) -> u32
+        ensures value { result ≡ store_funct3 self }
+        ensures width { result < 2 ^ 3 }
+    {
+        match self {
+            StoreOP::Sb => 0b000,
+            StoreOP::Sh => 0b001,
+            StoreOP::Sw => 0b010,
+            StoreOP::Sd => 0b011,
+        }
+    }
+}
