@@ -45,6 +45,12 @@ branches d s taken = at (if taken then wrap (s.pc + imm_of d) else next_of d s) 
 
 -- ---- by family
 
+-- what a row computes of rs1, rs2 and its number, all below 2 ^ 64; 0 where it computes no number of its own
+abbrev pub row_result : MOp → ℕ → ℕ → ℕ → ℕ
+row_result (Base op) x y imm = base_result op x y imm
+row_result (Mul op) x y imm = mul_result op x y
+row_result (Bit op) x y imm = bit_result op x y imm
+
 -- RV64I and Zicond
 abbrev pub base_act : BaseOp → Decoded → State → State
 base_act Lui d s = puts d s (wrap (imm_of d * 2 ^ 12))
