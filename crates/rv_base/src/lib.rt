@@ -2,6 +2,7 @@
 #![tactic(auto)]
 
 pub mod amode;
+pub mod call;
 pub mod class_regs;
 pub mod codegen_error;
 pub mod condcodes;

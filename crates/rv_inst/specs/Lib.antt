@@ -1,3 +1,5 @@
+pub mod Families
 pub mod Fields
 pub mod Meaning
 pub mod Rules
+pub mod Tests

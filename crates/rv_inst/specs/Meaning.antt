@@ -1,58 +1,86 @@
 -- What a line means: what it makes of the values, and how it is left.
-use Rattle.std.specs.Prelude.{ℕ, ◌+◌, ◌*◌, ◌/◌, ◌^◌, if◌then◌else◌}
+use Rattle.std.specs.Prelude.{ℕ, ◌+◌, ◌*◌, ◌/◌, ◌^◌, if◌then◌else◌, ℤ}
 use Rattle.rv_base.specs.Regs.{number_of}
 use Rattle.rv_base.specs.CondCodes.{holds}
 use Rattle.rv_ops.specs.declared.alu.AluOPRRR.{AluOPRRR}
-use Rattle.rv_ops.specs.declared.alu.AluOPRRR.TheVariants.{Add}
 use Rattle.rv_ops.specs.declared.alu.AluOPRRI.{AluOPRRI}
-use Rattle.rv_ops.specs.declared.alu.AluOPRRI.TheVariants.{Addi}
+use Rattle.rv_ops.specs.Alu.{is_reversed}
+use Rattle.rv_encode.specs.Rows.{rrr_op, rri_op}
 use Rattle.rv_inst.specs.declared.inst.Line.{Line}
 use Rattle.rv_inst.specs.declared.inst.Line.TheVariants.{Inst as Put, Bind}
 use Rattle.rv_inst.specs.declared.inst.Inst.{Inst}
-use Rattle.rv_inst.specs.declared.inst.Inst.TheVariants.{Ret, Lui, AluRRR, AluRRImm12, Jal, CondBr}
+use Rattle.rv_inst.specs.declared.inst.Inst.TheVariants.{EBreak, Lui, Auipc, AluRRR, AluRRImm12, Mov, MovFromPReg, Ret, Jal, CondBr, Jalr}
 use Rattle.rv_inst.specs.declared.inst.CondBrTarget.{CondBrTarget}
 use Rattle.rv_inst.specs.declared.inst.CondBrTarget.TheVariants.{Label, Fallthrough}
+use Rattle.rv_inst.specs.Families.{family_of, by_family}
 use Rattle.rv_machine.specs.State.{Values, reg, set_reg, wrap, low64}
+use Rattle.rv_machine.specs.Effects.{row_result}
 
--- how a line is left: to the next one, to a label of this number, or to an address
+-- ---- values
+
+-- an operation of two registers: the manual's row of that name, of which sgt and sgtu exchange the sources
+abbrev pub alu_rrr : AluOPRRR → ℕ → ℕ → ℕ
+alu_rrr op x y = if is_reversed op then row_result (rrr_op op) y x 0 else row_result (rrr_op op) x y 0
+
+-- an operation of a register and a number: the manual's row of that name
+abbrev pub alu_rri : AluOPRRI → ℕ → ℤ → ℕ
+alu_rri op x n = row_result (rri_op op) x 0 (low64 n)
+
+-- where a line's own bytes begin and end in the memory
+pub record Standing : Type 0 where
+  pub start : ℕ
+  pub after : ℕ
+
+abbrev pub plain_effect : Standing → Inst → Values → Values
+plain_effect at (Lui rd imm) v = set_reg v (number_of rd.reg) (wrap (low64 imm.value * 2 ^ 12))
+plain_effect at (Auipc rd imm) v = set_reg v (number_of rd.reg) (wrap (at.start + low64 imm.value * 2 ^ 12))
+plain_effect at (AluRRR op rd rs1 rs2) v = set_reg v (number_of rd.reg) (alu_rrr op (reg v (number_of rs1)) (reg v (number_of rs2)))
+plain_effect at (AluRRImm12 op rd rs imm) v = set_reg v (number_of rd.reg) (alu_rri op (reg v (number_of rs)) imm.value)
+plain_effect at (Mov rd rm type) v = set_reg v (number_of rd.reg) (reg v (number_of rm))
+plain_effect at (MovFromPReg rd rm) v = set_reg v (number_of rd.reg) (reg v rm.number)
+plain_effect at _ v = v
+
+-- a jump to a register links
+abbrev pub control_effect : Standing → Inst → Values → Values
+control_effect at (Jalr rd base offset) v = set_reg v (number_of rd.reg) at.after
+control_effect at _ v = v
+
+-- what a line makes of the values
+abbrev pub inst_effect : Standing → Inst → Values → Values
+inst_effect at inst v = by_family v (plain_effect at inst v) (control_effect at inst v) (family_of inst)
+
+abbrev pub effect_of : Standing → Line → Values → Values
+effect_of at (Put inst) v = inst_effect at inst v
+effect_of at (Bind label) v = v
+
+-- ---- ways on
+
+-- how a line is left: to the next one, to a label of this number, to an address, or not at all
 pub data Exit : Type 0 where
   Next : Exit
   To : ℕ → Exit
   Leave : ℕ → Exit
-
--- an operation of two registers
-abbrev pub alu_rrr : AluOPRRR → ℕ → ℕ → ℕ
-alu_rrr Add x y = wrap (x + y)
-
--- an operation of a register and a number, given modulo 2 ^ 64
-abbrev pub alu_rri : AluOPRRI → ℕ → ℕ → ℕ
-alu_rri Addi x n = wrap (x + n)
-
--- what an instruction makes of the values
-abbrev pub inst_effect : Inst → Values → Values
-inst_effect Ret v = v
-inst_effect (Lui rd imm) v = set_reg v (number_of rd.reg) (wrap (low64 imm.value * 2 ^ 12))
-inst_effect (AluRRR op rd rs1 rs2) v = set_reg v (number_of rd.reg) (alu_rrr op (reg v (number_of rs1)) (reg v (number_of rs2)))
-inst_effect (AluRRImm12 op rd rs imm) v = set_reg v (number_of rd.reg) (alu_rri op (reg v (number_of rs)) (low64 imm.value))
-inst_effect (Jal label) v = v
-inst_effect (CondBr taken not_taken kind) v = v
-
-abbrev pub effect_of : Line → Values → Values
-effect_of (Put inst) v = inst_effect inst v
-effect_of (Bind label) v = v
+  Break : Exit
 
 abbrev pub target_exit : CondBrTarget → Exit
 target_exit (Label label) = To label.number
 target_exit Fallthrough = Next
 
--- how an instruction is left from these values; ra is x1, and an address is even
+abbrev pub marks_exit : Inst → Exit
+marks_exit EBreak = Break
+marks_exit _ = Next
+
+-- an address is even; ra is x1
+abbrev pub control_exit : Inst → Values → Exit
+control_exit Ret v = Leave (reg v 1 / 2 * 2)
+control_exit (Jal label) v = To label.number
+control_exit (CondBr taken not_taken kind) v = if holds kind.kind (reg v (number_of kind.rs1)) (reg v (number_of kind.rs2)) then target_exit taken else target_exit not_taken
+control_exit (Jalr rd base offset) v = Leave (wrap (reg v (number_of base) + low64 offset.value) / 2 * 2)
+control_exit _ v = Next
+
+-- how a line is left from these values
 abbrev pub inst_exit : Inst → Values → Exit
-inst_exit Ret v = Leave (reg v 1 / 2 * 2)
-inst_exit (Lui rd imm) v = Next
-inst_exit (AluRRR op rd rs1 rs2) v = Next
-inst_exit (AluRRImm12 op rd rs imm) v = Next
-inst_exit (Jal label) v = To label.number
-inst_exit (CondBr taken not_taken kind) v = if holds kind.kind (reg v (number_of kind.rs1)) (reg v (number_of kind.rs2)) then target_exit taken else target_exit not_taken
+inst_exit inst v = by_family (marks_exit inst) Next (control_exit inst v) (family_of inst)
 
 abbrev pub exit_of : Line → Values → Exit
 exit_of (Put inst) v = inst_exit inst v

@@ -1,17 +1,19 @@
 //! Which rule a line breaks.
 
-ghost use Rattle.std.specs.Prelude.{◌≡◌, ◌∷◌, ◌++◌, []};
+ghost use Rattle.std.specs.Prelude.{◌≡◌, ◌++◌};
+ghost use Rattle.rv_inst.specs.Rules.{is_inner, is_misplaced, has_bad_type, is_out_of_range, lacks_target, is_fallthrough, inst_rule, broken_rule};
 ghost use Rattle.std.specs.List.{list_any};
-ghost use Rattle.rv_inst.specs.Fields.{target_labels};
-ghost use Rattle.rv_inst.specs.Rules.{is_virtual, is_other_class, is_reserved, is_inner, first_of, registers_rule, labels_rule, taken_rule, inst_rule, broken_rule};
+ghost use Rattle.rv_inst.specs.Fields.{inst_labels, control_labels, target_labels};
 
 use crate::error::Rule;
-use crate::inst::{CondBrTarget, Inst, Line};
+use crate::inst::{CondBrTarget, Family, Inst, Line};
+use crate::places::is_misplaced;
+use crate::ranges::{has_bad_type, is_out_of_range};
+use crate::registers::{RegisterTest, has_register};
 use rv_base::constant::Constant;
 use rv_base::flags::IsaFlags;
 use rv_base::frame::FrameLayout;
 use rv_base::label::MachLabel;
-use rv_base::regs::{Reg, RegClass};
 
 impl Line {
     /// The first rule that the line breaks.
@@ -25,7 +27,13 @@ impl Line {
     {
         match self {
             Line::Inst(inst) => inst.check(flags, frame, constants),
-            Line::Bind(label) => check_label(*label),
+            Line::Bind(label) => {
+                if is_inner(*label) {
+                    Some(Rule::Label)
+                } else {
+                    None
+                }
+            }
         }
     }
 }
@@ -40,94 +48,89 @@ impl Inst {
     ) -> Option<Rule>
         ensures { result ≡ inst_rule self.now }
     {
-        match self {
-            Inst::Ret => None,
-            Inst::Lui { rd, imm: _ } => check_registers(&[rd.reg]),
-            Inst::AluRRR {
-                alu_op: _,
-                rd,
-                rs1,
-                rs2,
-            } => check_registers(&[rd.reg, *rs1, *rs2]),
-            Inst::AluRRImm12 {
-                alu_op: _,
-                rd,
-                rs,
-                imm12: _,
-            } => check_registers(&[rd.reg, *rs]),
-            Inst::Jal { label } => check_label(*label),
-            Inst::CondBr {
-                taken,
-                not_taken,
-                kind,
-            } => match check_registers(&[kind.rs1, kind.rs2]) {
-                Some(rule) => Some(rule),
-                None => check_targets(*taken, *not_taken),
-            },
+        if has_register(RegisterTest::Virtual, self) {
+            Some(Rule::Virtual)
+        } else if is_misplaced(self) {
+            Some(Rule::Class)
+        } else if has_register(RegisterTest::Reserved, self) {
+            Some(Rule::Reserved)
+        } else if has_bad_type(self) {
+            Some(Rule::BadType)
+        } else if is_out_of_range(self) {
+            Some(Rule::Range)
+        } else if lacks_target(self) {
+            Some(Rule::NoTarget)
+        } else if has_inner_label(self) {
+            Some(Rule::Label)
+        } else {
+            None
         }
     }
 }
 
-fn check_registers(registers: &[Reg]) -> Option<Rule>
-    ensures { result ≡ registers_rule registers.now }
+/// Whether a label is one of those that a buffer makes for itself.
+fn is_inner(label: MachLabel) -> bool
+    ensures { result ≡ is_inner label }
 {
-    if any_virtual(registers) {
-        Some(Rule::Virtual)
-    } else if any_other_class(registers) {
-        Some(Rule::Class)
-    } else if any_reserved(registers) {
-        Some(Rule::Reserved)
-    } else {
-        None
+    label.number >= 1 << 30
+}
+
+fn is_fallthrough(target: CondBrTarget) -> bool
+    ensures { result ≡ is_fallthrough target }
+{
+    match target {
+        CondBrTarget::Label(_) => false,
+        CondBrTarget::Fallthrough => true,
     }
 }
 
-fn check_label(label: MachLabel) -> Option<Rule>
-    ensures { result ≡ labels_rule (label ∷ []) }
+fn lacks_target(inst: &Inst) -> bool
+    ensures { result ≡ lacks_target inst.now }
 {
-    if label.number < 1 << 30 {
-        None
-    } else {
-        Some(Rule::Label)
+    match inst {
+        Inst::CondBr {
+            taken,
+            not_taken: _,
+            kind: _,
+        } => is_fallthrough(*taken),
+        _ => false,
     }
 }
 
-fn check_targets(taken: CondBrTarget, not_taken: CondBrTarget) -> Option<Rule>
-    ensures { result ≡ first_of (taken_rule taken) (labels_rule (target_labels taken ++ target_labels not_taken)) }
+fn is_inner_target(target: CondBrTarget) -> bool
+    ensures { result ≡ list_any is_inner (target_labels target) }
 {
-    match (taken, not_taken) {
-        (CondBrTarget::Fallthrough, _) => Some(Rule::NoTarget),
-        (CondBrTarget::Label(label), CondBrTarget::Fallthrough) => check_label(label),
-        (CondBrTarget::Label(first), CondBrTarget::Label(second)) => match check_label(first) {
-            Some(rule) => Some(rule),
-            None => check_label(second),
-        },
+    match target {
+        CondBrTarget::Label(label) => is_inner(label),
+        CondBrTarget::Fallthrough => false,
     }
 }
 
-fn any_virtual(registers: &[Reg]) -> bool
-    ensures { result ≡ list_any is_virtual registers.now }
+fn has_inner_target(taken: CondBrTarget, not_taken: CondBrTarget) -> bool
+    ensures { result ≡ list_any is_inner (target_labels taken ++ target_labels not_taken) }
 {
-    registers.iter().any(|r| matches!(r, Reg::Virtual(_)))
+    is_inner_target(taken) || is_inner_target(not_taken)
 }
 
-fn any_other_class(registers: &[Reg]) -> bool
-    ensures { result ≡ list_any is_other_class registers.now }
+fn control_has_inner_label(inst: &Inst) -> bool
+    ensures { result ≡ list_any is_inner (control_labels inst.now) }
 {
-    registers.iter().any(|r| !matches!(r.class(), RegClass::Int))
-}
-
-fn is_reserved_reg(register: Reg) -> bool
-    ensures { result ≡ is_reserved register }
-{
-    match register {
-        Reg::Real(real) => matches!(real.class, RegClass::Int) && real.number >= 30,
-        Reg::Virtual(_) => false,
+    match inst {
+        Inst::Jal { label } => is_inner(*label),
+        Inst::CondBr {
+            taken,
+            not_taken,
+            kind: _,
+        } => has_inner_target(*taken, *not_taken),
+        _ => false,
     }
 }
 
-fn any_reserved(registers: &[Reg]) -> bool
-    ensures { result ≡ list_any is_reserved registers.now }
+fn has_inner_label(inst: &Inst) -> bool
+    ensures { result ≡ list_any is_inner (inst_labels inst.now) }
 {
-    registers.iter().any(|r| is_reserved_reg(*r))
+    match inst.family() {
+        Family::Marks | Family::Plain => false,
+        Family::Control => control_has_inner_label(inst),
+    }
 }

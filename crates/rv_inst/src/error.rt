@@ -11,6 +11,10 @@ pub enum Rule {
     Class,
     /// No register is x30 or x31.
     Reserved,
+    /// The type is one that the instruction takes.
+    BadType,
+    /// Numbers are in their range.
+    Range,
     /// A branch has a label to go to.
     NoTarget,
     /// A label's number is below 2^30.

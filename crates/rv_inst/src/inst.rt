@@ -1,7 +1,12 @@
 //! Instructions with chosen registers, and the lines of a listing.
 
+ghost use Rattle.std.specs.Prelude.{◌≡◌};
+
+use rv_base::call::{ArgPair, RetPair};
+use rv_base::ir_type::IrType;
 use rv_base::label::MachLabel;
-use rv_base::regs::{Reg, WritableReg};
+use rv_base::list::List;
+use rv_base::regs::{PReg, Reg, WritableReg};
 use rv_imms::imm12::Imm12;
 use rv_imms::imm20::Imm20;
 use rv_ops::alu::{AluOPRRI, AluOPRRR};
@@ -14,11 +19,33 @@ pub enum CondBrTarget {
     Fallthrough,
 }
 
-/// An instruction.
+/// An instruction. Each belongs to one `Family`, by which definitions and functions over instructions are parted.
 #[derive(Drop)]
 pub enum Inst {
-    Ret,
+    /// No bytes.
+    Nop0,
+    /// Four bytes that do nothing.
+    Nop4,
+    EBreak,
+    /// A place that a debugger may stop at; no bytes.
+    SequencePoint,
+    /// The function's arguments; no bytes.
+    Args {
+        args: List<ArgPair>,
+    },
+    /// The function's results; no bytes.
+    Rets {
+        rets: List<RetPair>,
+    },
+    /// A register that counts as used; no bytes.
+    DummyUse {
+        reg: Reg,
+    },
     Lui {
+        rd: WritableReg,
+        imm: Imm20,
+    },
+    Auipc {
         rd: WritableReg,
         imm: Imm20,
     },
@@ -34,6 +61,17 @@ pub enum Inst {
         rs: Reg,
         imm12: Imm12,
     },
+    Mov {
+        rd: WritableReg,
+        rm: Reg,
+        ty: IrType,
+    },
+    /// A copy of the stack or the frame pointer.
+    MovFromPReg {
+        rd: WritableReg,
+        rm: PReg,
+    },
+    Ret,
     Jal {
         label: MachLabel,
     },
@@ -42,6 +80,49 @@ pub enum Inst {
         not_taken: CondBrTarget,
         kind: IntegerCompare,
     },
+    Jalr {
+        rd: WritableReg,
+        base: Reg,
+        offset: Imm12,
+    },
+}
+
+/// The kinds of instructions.
+#[derive(Clone, Copy, Debug, PartialEq, Eq)]
+pub enum Family {
+    /// Those that compute nothing.
+    Marks,
+    /// Those that write registers, and go on.
+    Plain,
+    /// Those that go elsewhere.
+    Control,
+}
+
+impl Inst {
+    ghost use Rattle.rv_inst.specs.Families.{family_of};
+
+    pub fn family(&self) -> Family
+        ensures { result ≡ family_of self.now }
+    {
+        match self {
+            Inst::Nop0
+            | Inst::Nop4
+            | Inst::EBreak
+            | Inst::SequencePoint
+            | Inst::Args { args: _ }
+            | Inst::Rets { rets: _ }
+            | Inst::DummyUse { reg: _ } => Family::Marks,
+            Inst::Lui { .. }
+            | Inst::Auipc { .. }
+            | Inst::AluRRR { .. }
+            | Inst::AluRRImm12 { .. }
+            | Inst::Mov { .. }
+            | Inst::MovFromPReg { .. } => Family::Plain,
+            Inst::Ret | Inst::Jal { label: _ } | Inst::CondBr { .. } | Inst::Jalr { .. } => {
+                Family::Control
+            }
+        }
+    }
 }
 
 /// A line of a listing: an instruction, or a label that stands there.

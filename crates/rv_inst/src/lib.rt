@@ -6,3 +6,6 @@ pub mod code;
 pub mod error;
 pub mod inst;
 pub mod job;
+mod places;
+mod ranges;
+mod registers;

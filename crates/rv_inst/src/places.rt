@@ -1,0 +1,76 @@
+//! Whether each register has the class that its place asks.
+
+ghost use Rattle.std.specs.Prelude.{◌≡◌};
+ghost use Rattle.std.specs.List.{list_any};
+ghost use Rattle.rv_base.specs.declared.call.ArgPair.{ArgPair};
+ghost use Rattle.rv_base.specs.declared.call.RetPair.{RetPair};
+ghost use Rattle.rv_inst.specs.Rules.{differ, is_stack_or_frame, marks_misplaced, plain_misplaced, is_misplaced};
+
+use crate::inst::{Family, Inst};
+use crate::registers::{RegisterTest, control_has, is_other_class, plain_has};
+use rv_base::call::{ArgPair as Arg, RetPair as Ret};
+use rv_base::regs::{PReg, Reg, RegClass};
+
+/// Whether two registers are of different classes.
+fn differ(first: Reg, second: Reg) -> bool
+    ensures { result ≡ differ first second }
+{
+    match (first.class(), second.class()) {
+        (RegClass::Int, RegClass::Int)
+        | (RegClass::Float, RegClass::Float)
+        | (RegClass::Vector, RegClass::Vector) => false,
+        _ => true,
+    }
+}
+
+fn is_stack_or_frame(reg: PReg) -> bool
+    ensures { result ≡ is_stack_or_frame reg }
+{
+    match reg.class {
+        RegClass::Int => reg.number == 2 || reg.number == 8,
+        RegClass::Float | RegClass::Vector => false,
+    }
+}
+
+fn any_arg_differs(args: &[Arg]) -> bool
+    ensures { result ≡ list_any (λ (p : ArgPair). differ p.vreg.reg p.preg) args.now }
+{
+    args.iter().any(|p| differ(p.vreg.reg, p.preg))
+}
+
+fn any_ret_differs(rets: &[Ret]) -> bool
+    ensures { result ≡ list_any (λ (p : RetPair). differ p.vreg p.preg) rets.now }
+{
+    rets.iter().any(|p| differ(p.vreg, p.preg))
+}
+
+fn marks_misplaced(inst: &Inst) -> bool
+    ensures { result ≡ marks_misplaced inst.now }
+{
+    match inst {
+        Inst::Args { args } => any_arg_differs(args.as_slice()),
+        Inst::Rets { rets } => any_ret_differs(rets.as_slice()),
+        _ => false,
+    }
+}
+
+fn plain_misplaced(inst: &Inst) -> bool
+    ensures { result ≡ plain_misplaced inst.now }
+{
+    match inst {
+        Inst::Mov { rd, rm, ty: _ } => differ(rd.reg, *rm),
+        Inst::MovFromPReg { rd, rm } => is_other_class(rd.reg) || !is_stack_or_frame(*rm),
+        _ => plain_has(RegisterTest::OtherClass, inst),
+    }
+}
+
+/// Whether some register has another class than its place asks.
+pub fn is_misplaced(inst: &Inst) -> bool
+    ensures { result ≡ is_misplaced inst.now }
+{
+    match inst.family() {
+        Family::Marks => marks_misplaced(inst),
+        Family::Plain => plain_misplaced(inst),
+        Family::Control => control_has(RegisterTest::OtherClass, inst),
+    }
+}

@@ -1,0 +1,69 @@
+//! Whether types and numbers are those that an instruction takes.
+
+ghost use Rattle.std.specs.Prelude.{◌≡◌, not, ◌&&◌};
+ghost use Rattle.rv_base.specs.Regs.{class_of};
+ghost use Rattle.rv_ops.specs.Alu.{rri_numbers};
+ghost use Rattle.rv_inst.specs.Rules.{is_int_class, is_int_type, has_bad_type, amount_limit, is_beyond, is_out_of_range};
+
+use crate::inst::Inst;
+use rv_base::ir_type::IrType;
+use rv_base::regs::{Reg, RegClass};
+use rv_imms::imm12::Imm12;
+use rv_ops::alu::AluOPRRI;
+
+fn is_int_type(ty: IrType) -> bool
+    ensures { result ≡ is_int_type ty }
+{
+    match ty {
+        IrType::I8 | IrType::I16 | IrType::I32 | IrType::I64 => true,
+        IrType::I128 | IrType::F16 | IrType::F32 | IrType::F64 | IrType::F128 => false,
+        IrType::Vector(_) => false,
+    }
+}
+
+fn is_bad_move(rm: Reg, ty: IrType) -> bool
+    ensures { result ≡ not (is_int_class (class_of rm) && is_int_type ty) }
+{
+    match rm.class() {
+        RegClass::Int => !is_int_type(ty),
+        RegClass::Float | RegClass::Vector => true,
+    }
+}
+
+/// Whether the instruction has a type that it doesn't take.
+pub fn has_bad_type(inst: &Inst) -> bool
+    ensures { result ≡ has_bad_type inst.now }
+{
+    match inst {
+        Inst::Mov { rd: _, rm, ty } => is_bad_move(*rm, *ty),
+        _ => false,
+    }
+}
+
+/// Whether the number is no amount of the operation's width, where it takes one.
+fn is_amount_beyond(op: AluOPRRI, imm12: Imm12) -> bool
+    ensures { result ≡ is_beyond (amount_limit (rri_numbers op).number) imm12.value }
+{
+    if op.option_funct6().is_some() {
+        imm12.value < 0 || imm12.value >= 64
+    } else if op.option_funct7().is_some() {
+        imm12.value < 0 || imm12.value >= 32
+    } else {
+        false
+    }
+}
+
+/// Whether the instruction has a number outside its range.
+pub fn is_out_of_range(inst: &Inst) -> bool
+    ensures { result ≡ is_out_of_range inst.now }
+{
+    match inst {
+        Inst::AluRRImm12 {
+            alu_op,
+            rd: _,
+            rs: _,
+            imm12,
+        } => is_amount_beyond(*alu_op, *imm12),
+        _ => false,
+    }
+}
