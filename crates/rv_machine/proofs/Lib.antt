@@ -2,3 +2,4 @@ pub mod Images
 pub mod Memory
 pub mod Runs
 pub mod Products
+pub mod Ranges
