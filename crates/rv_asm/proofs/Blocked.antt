@@ -71,3 +71,16 @@ writes flags base start after n x d s v b steps does lt fits =
     (are_values_set v n x b.are_values lt fits)
     (are_values_set s.values n x b.is_state.values lt fits)
     refl
+
+-- the machine stays where a line stands
+pub stays : (flags : IsaFlags) (base start after : ℕ) (ds : List Decoded) (s : State) (v : Values) → Begins flags base start after ds s v → Ends flags (wrap (base + start)) v s
+stays flags base start after ds s v b = record {
+  steps = 0;
+  state = s;
+  ran = iter_none flags s;
+  pc = b.pc;
+  same = b.same;
+  is_state = b.is_state;
+  are_values = b.are_values;
+  kept = refl;
+}

@@ -13,15 +13,21 @@ use Rattle.rv_ops.specs.declared.compare.IntegerCompare.{IntegerCompare}
 use Rattle.rv_inst.specs.declared.inst.CondBrTarget.{CondBrTarget}
 use Rattle.rv_inst.specs.declared.inst.CondBrTarget.TheVariants.{Label, Fallthrough}
 use Rattle.rv_inst.specs.declared.inst.Line.TheVariants.{Inst as Put}
-use Rattle.rv_inst.specs.declared.inst.Inst.TheVariants.{Ret, Jal, CondBr}
+use Rattle.rv_inst.specs.declared.inst.Inst.TheVariants.{Ret, Jal, CondBr, Jalr}
 use Rattle.rv_inst.specs.Meaning.{Next, To}
 use Rattle.rv_machine.specs.declared.decode.Decoded.{Decoded}
-use Rattle.rv_machine.specs.declared.ops.BaseOp.TheVariants as base_op
-use Rattle.rv_machine.specs.State.{State, Values, reg, wrap, low64, at}
+use Rattle.rv_imms.specs.declared.imm12.Imm12.{Imm12}
+use Rattle.rv_base.specs.declared.regs.Reg.{Reg}
+use Rattle.rv_base.specs.declared.regs.Writable.{Writable}
+use Rattle.rv_ops.specs.Compare.{rs1_of, rs2_of}
+use Rattle.rv_machine.specs.State.{State, Values, reg, set_reg, wrap, low64, at}
 use Rattle.rv_machine.specs.Effects.{act, has_no_step}
 use Rattle.rv_machine.specs.Steps.{istep}
-use Rattle.rv_asm.specs.Rows.{row, between, branch_row, compare_row, jump_row, branch_rows}
-use Rattle.rv_asm.specs.Blocks.{HasRows, Begins, Ends, Runs, Reaches, IsFineBranch, exit_address}
+use Rattle.rv_encode.specs.Rows.{compare_row}
+use Rattle.rv_asm.specs.Rows.{between, jump_row, jalr_row, branch_rows}
+use Rattle.rv_asm.specs.Blocks.{HasRows, Begins, Ends, Runs, Reaches, IsUsable, IsFineBranch, exit_address}
+use Rattle.rv_asm.proofs.Registers.{same_set, are_values_set}
+use Rattle.rv_asm.proofs.Straight.{low64_small}
 use Rattle.rv_asm.proofs.Blocked.{first_step, ends_one, ends_both}
 
 -- a distance forward, and one backward, modulo 2 ^ 64
@@ -46,7 +52,7 @@ ret_runs flags place start = record {
       let ra' = b.is_state.values.fits 1 in
       let e = b.same.regs 1 (lit< tt) in
       ends_one flags s (wrap (reg s.values 1 + 0) / 2 * 2) (reg v 1 / 2 * 2) v s.values
-      (first_step flags base start after (row base_op.Jalr 0 1 0 (pos 0)) [] s v b refl)
+      (first_step flags base start after (jalr_row 0 1 (pos 0)) [] s v b refl)
       (omega arith) (omega arith) b.same b.are_values b.is_state.values refl;
 }
 
@@ -63,46 +69,67 @@ jal_runs flags place start label r = record {
   run = λ base after s v b. jump_ends flags base start after (place label.number) [] s v b r;
 }
 
--- what the row of a comparison does
-branch_acts : (kind : IntCC) (x y : ℕ) (d : ℤ) (s : State) → act (branch_row kind x y d) s ≡ at (if holds kind (reg s.values x) (reg s.values y) then wrap (s.pc + low64 d) else wrap (s.pc + 4)) s.values
-branch_acts Equal x y d s = refl
-branch_acts NotEqual x y d s = refl
-branch_acts SignedLessThan x y d s = refl
-branch_acts SignedGreaterThanOrEqual x y d s = refl
-branch_acts SignedGreaterThan x y d s = refl
-branch_acts SignedLessThanOrEqual x y d s = refl
-branch_acts UnsignedLessThan x y d s = refl
-branch_acts UnsignedGreaterThanOrEqual x y d s = refl
-branch_acts UnsignedGreaterThan x y d s = refl
-branch_acts UnsignedLessThanOrEqual x y d s = refl
+-- a jump to a register links, and reads the register before
+pub jalr_runs : (flags : IsaFlags) (place : ℕ → ℕ) (start : ℕ) (rd : Writable Reg) (rs : Reg) (offset : Imm12) → IsUsable rd.reg → IsUsable rs → Runs flags place start (Put (Jalr rd rs offset))
+jalr_runs flags place start rd rs offset h h1 = record {
+  run = λ base after s v b.
+      let n = number_of rd.reg in
+      let x = number_of rs in
+      let low = h.1 in
+      let long = b.long in
+      let here = b.pc in
+      let next : wrap (s.pc + 4) ≡ wrap (base + after) = omega arith in
+      let link = wrap (base + after) in
+      ends_one flags s (wrap (reg s.values x + low64 offset.value) / 2 * 2) (wrap (reg v x + low64 offset.value) / 2 * 2) (set_reg v n link) (set_reg s.values n link)
+      (first_step flags base start after (jalr_row n x offset.value) [] s v b refl
+      ∙ (λ i. Some (at (wrap (reg s.values x + low64 offset.value) / 2 * 2) (set_reg s.values n (next i)))))
+      (λ i. wrap (sym (b.same.regs x h1.1) i + low64 offset.value) / 2 * 2)
+      (omega arith)
+      (same_set v s.values n link b.are_values b.is_state.values (omega arith) b.same)
+      (are_values_set v n link b.are_values (omega arith) (omega arith))
+      (are_values_set s.values n link b.is_state.values (omega arith) (omega arith))
+      refl;
+}
 
-branch_steps : (kind : IntCC) (x y : ℕ) (d : ℤ) → has_no_step (branch_row kind x y d).op ≡ false
-branch_steps Equal x y d = refl
-branch_steps NotEqual x y d = refl
-branch_steps SignedLessThan x y d = refl
-branch_steps SignedGreaterThanOrEqual x y d = refl
-branch_steps SignedGreaterThan x y d = refl
-branch_steps SignedLessThanOrEqual x y d = refl
-branch_steps UnsignedLessThan x y d = refl
-branch_steps UnsignedGreaterThanOrEqual x y d = refl
-branch_steps UnsignedGreaterThan x y d = refl
-branch_steps UnsignedLessThanOrEqual x y d = refl
+-- what the row of a comparison does
+branch_acts : (kind : IntegerCompare) (d : ℤ) (s : State) → act (compare_row kind d) s ≡ at (if holds kind.kind (reg s.values (number_of kind.rs1)) (reg s.values (number_of kind.rs2)) then wrap (s.pc + low64 d) else wrap (s.pc + 4)) s.values
+branch_acts kind d s = by_kind kind.kind kind.rs1 kind.rs2 d s
+  where
+    by_kind : (k : IntCC) (x y : Reg) (d : ℤ) (s : State) → act (compare_row (record { kind = k; rs1 = x; rs2 = y }) d) s ≡ at (if holds k (reg s.values (number_of x)) (reg s.values (number_of y)) then wrap (s.pc + low64 d) else wrap (s.pc + 4)) s.values
+    by_kind Equal x y d s = refl
+    by_kind NotEqual x y d s = refl
+    by_kind SignedLessThan x y d s = refl
+    by_kind SignedGreaterThanOrEqual x y d s = refl
+    by_kind SignedGreaterThan x y d s = refl
+    by_kind SignedLessThanOrEqual x y d s = refl
+    by_kind UnsignedLessThan x y d s = refl
+    by_kind UnsignedGreaterThanOrEqual x y d s = refl
+    by_kind UnsignedGreaterThan x y d s = refl
+    by_kind UnsignedLessThanOrEqual x y d s = refl
+
+branch_steps : (kind : IntegerCompare) (d : ℤ) → has_no_step (compare_row kind d).op ≡ false
+branch_steps kind d = by_kind kind.kind kind.rs1 kind.rs2 d
+  where
+    by_kind : (k : IntCC) (x y : Reg) (d : ℤ) → has_no_step (compare_row (record { kind = k; rs1 = x; rs2 = y }) d).op ≡ false
+    by_kind Equal x y d = refl
+    by_kind NotEqual x y d = refl
+    by_kind _ x y d = refl
 
 -- whether a comparison holds of the listing's registers
 abbrev taken_of : IntegerCompare → Values → Bool
 taken_of kind v = holds kind.kind (reg v (number_of kind.rs1)) (reg v (number_of kind.rs2))
 
 -- a branch comes to its target where the comparison holds, and else to the next word
-branch_step : (flags : IsaFlags) (kind : IntegerCompare) (base start after to : ℕ) (ds : List Decoded) (s : State) (v : Values) → number_of kind.rs1 < 30 → number_of kind.rs2 < 30 → Begins flags base start after (compare_row kind (between start to) ∷ ds) s v → Reaches (2 ^ 12) start to → istep flags s ≡ Some (at (if taken_of kind v then wrap (base + to) else wrap (base + (start + 4))) s.values)
+branch_step : (flags : IsaFlags) (kind : IntegerCompare) (base start after to : ℕ) (ds : List Decoded) (s : State) (v : Values) → IsUsable kind.rs1 → IsUsable kind.rs2 → Begins flags base start after (compare_row kind (between start to) ∷ ds) s v → Reaches (2 ^ 12) start to → istep flags s ≡ Some (at (if taken_of kind v then wrap (base + to) else wrap (base + (start + 4))) s.values)
 branch_step flags kind base start after to ds s v h1 h2 b r =
     let x = number_of kind.rs1 in let y = number_of kind.rs2 in
     let d = between start to in
     let here = b.pc in
     let there : wrap (s.pc + low64 d) ≡ wrap (base + to) = (λ i. wrap (b.pc i + low64 d)) ∙ lands base start to r.start_small r.to_small in
     let next : wrap (s.pc + 4) ≡ wrap (base + (start + 4)) = omega arith in
-    first_step flags base start after (compare_row kind d) ds s v b (branch_steps kind.kind x y d)
-    ∙ ap Some (branch_acts kind.kind x y d s)
-    ∙ (λ i. Some (at (if holds kind.kind (sym (b.same.regs x h1) i) (sym (b.same.regs y h2) i) then there i else next i) s.values))
+    first_step flags base start after (compare_row kind d) ds s v b (branch_steps kind d)
+    ∙ ap Some (branch_acts kind d s)
+    ∙ (λ i. Some (at (if holds kind.kind (sym (b.same.regs x h1.1) i) (sym (b.same.regs y h2.1) i) then there i else next i) s.values))
 
 -- an address that a test chose is in its range
 chosen_fits : (c : Bool) (x y : ℕ) → x < 2 ^ 64 → y < 2 ^ 64 → (if c then x else y) < 2 ^ 64
@@ -110,24 +137,24 @@ chosen_fits true x y h g = h
 chosen_fits false x y h g = g
 
 -- the address of the exit that a test chose
-chosen_exit : (c : Bool) (place : ℕ → ℕ) (base after next label : ℕ) → next ≡ wrap (base + after) → (if c then wrap (base + place label) else next) ≡ exit_address place base after (if c then To label else Next)
-chosen_exit true place base after next label e = refl
-chosen_exit false place base after next label e = e
+chosen_exit : (c : Bool) (place : ℕ → ℕ) (base start after next label : ℕ) → next ≡ wrap (base + after) → (if c then wrap (base + place label) else next) ≡ exit_address place base start after (if c then To label else Next)
+chosen_exit true place base start after next label e = refl
+chosen_exit false place base start after next label e = e
 
 -- a branch that goes on where the comparison doesn't hold
-branch_on_runs : (flags : IsaFlags) (place : ℕ → ℕ) (start : ℕ) (kind : IntegerCompare) (t : MachLabel) → number_of kind.rs1 < 30 → number_of kind.rs2 < 30 → Reaches (2 ^ 12) start (place t.number) → Runs flags place start (Put (CondBr (Label t) Fallthrough kind))
+branch_on_runs : (flags : IsaFlags) (place : ℕ → ℕ) (start : ℕ) (kind : IntegerCompare) (t : MachLabel) → IsUsable kind.rs1 → IsUsable kind.rs2 → Reaches (2 ^ 12) start (place t.number) → Runs flags place start (Put (CondBr (Label t) Fallthrough kind))
 branch_on_runs flags place start kind t h1 h2 r = record {
   run = λ base after s v b.
       let c = taken_of kind v in
       let long = b.long in
-      ends_one flags s (if c then wrap (base + place t.number) else wrap (base + (start + 4))) (exit_address place base after (if c then To t.number else Next)) v s.values
+      ends_one flags s (if c then wrap (base + place t.number) else wrap (base + (start + 4))) (exit_address place base start after (if c then To t.number else Next)) v s.values
       (branch_step flags kind base start after (place t.number) [] s v h1 h2 b r)
-      (chosen_exit c place base after (wrap (base + (start + 4))) t.number (omega arith))
+      (chosen_exit c place base start after (wrap (base + (start + 4))) t.number (omega arith))
       (chosen_fits c _ _ (omega arith) (omega arith)) b.same b.are_values b.is_state.values refl;
 }
 
 -- a branch with a jump behind it
-branch_jump_ends : (flags : IsaFlags) (c : Bool) (place : ℕ → ℕ) (base start after t f : ℕ) (d : Decoded) (s : State) (v : Values) → Begins flags base start after (d ∷ jump_row (between (start + 4) (place f)) ∷ []) s v → Reaches (2 ^ 20) (start + 4) (place f) → istep flags s ≡ Some (at (if c then wrap (base + place t) else wrap (base + (start + 4))) s.values) → Ends flags (exit_address place base after (if c then To t else To f)) v s
+branch_jump_ends : (flags : IsaFlags) (c : Bool) (place : ℕ → ℕ) (base start after t f : ℕ) (d : Decoded) (s : State) (v : Values) → Begins flags base start after (d ∷ jump_row (between (start + 4) (place f)) ∷ []) s v → Reaches (2 ^ 20) (start + 4) (place f) → istep flags s ≡ Some (at (if c then wrap (base + place t) else wrap (base + (start + 4))) s.values) → Ends flags (exit_address place base start after (if c then To t else To f)) v s
 branch_jump_ends flags true place base start after t f d s v b r e =
     ends_one flags s (wrap (base + place t)) (wrap (base + place t)) v s.values e refl (omega arith) b.same b.are_values b.is_state.values refl
 branch_jump_ends flags false place base start after t f d s v b r e =
@@ -148,7 +175,7 @@ branch_jump_ends flags false place base start after t f d s v b r e =
     } in
     ends_both flags _ _ v v s first (jump_ends flags base (start + 4) after (place f) [] s1 v b1 r)
 
-pub branch_runs : (flags : IsaFlags) (place : ℕ → ℕ) (start : ℕ) (kind : IntegerCompare) (t f : CondBrTarget) → number_of kind.rs1 < 30 → number_of kind.rs2 < 30 → IsFineBranch place start t f → Runs flags place start (Put (CondBr t f kind))
+pub branch_runs : (flags : IsaFlags) (place : ℕ → ℕ) (start : ℕ) (kind : IntegerCompare) (t f : CondBrTarget) → IsUsable kind.rs1 → IsUsable kind.rs2 → IsFineBranch place start t f → Runs flags place start (Put (CondBr t f kind))
 branch_runs flags place start kind Fallthrough f h1 h2 fine = absurd fine
 branch_runs flags place start kind (Label t) Fallthrough h1 h2 fine = branch_on_runs flags place start kind t h1 h2 fine
 branch_runs flags place start kind (Label t) (Label f) h1 h2 fine = record {

@@ -1,16 +1,23 @@
 -- The second pass, line by line: what stands after so many lines.
-use Rattle.std.proofs.Common.{◌≡◌, ℕ, zero, suc, ◌+◌, ◌*◌, ◌<◌, ◌≤◌, List, [], ◌∷◌, ◌++◌, length, drop, get_or, arith, refl, sym, ap, subst, ◌∙◌, append-nil}
+use Rattle.std.proofs.Common.{◌≡◌, ℕ, zero, suc, ◌+◌, ◌*◌, ◌<◌, ◌≤◌, Bool, true, false, pos, List, [], ◌∷◌, ◌++◌, length, drop, get_or, arith, refl, sym, ap, subst, ◌∙◌, append-nil}
 use Rattle.rv_base.specs.declared.flags.IsaFlags.{IsaFlags}
 use Rattle.rv_inst.specs.declared.inst.Line.{Line}
 use Rattle.rv_inst.specs.declared.inst.Line.TheVariants.{Inst as Put, Bind}
 use Rattle.rv_inst.specs.declared.inst.Inst.{Inst}
-use Rattle.rv_inst.specs.declared.inst.Inst.TheVariants.{Ret, Lui, AluRRR, AluRRImm12, Jal, CondBr}
+use Rattle.rv_inst.specs.declared.inst.Inst.TheVariants.{Mov, MovFromPReg, CondBr}
 use Rattle.rv_inst.specs.declared.inst.CondBrTarget.{CondBrTarget}
 use Rattle.rv_inst.specs.declared.inst.CondBrTarget.TheVariants.{Label, Fallthrough}
 use Rattle.rv_ops.specs.declared.compare.IntegerCompare.{IntegerCompare}
-use Rattle.rv_asm.specs.Rows.{rows_of, inst_rows, branch_rows, size_of, inst_size, branch_size}
+use Rattle.std.specs.Prelude.{nat_eq, if◌then◌else◌}
+use Rattle.rv_base.specs.Regs.{number_of}
+use Rattle.rv_machine.specs.declared.decode.Decoded.{Decoded}
+use Rattle.rv_asm.specs.Rows.{addi_row, rows_of, inst_rows, branch_rows, size_of, inst_size, branch_size}
 use Rattle.rv_asm.specs.Blocks.{Puts, LinesStand, Extends, AllFine, end_from}
 use Rattle.rv_asm.proofs.Puts.{puts_long, lines_more, extends_before}
+
+move_sized : (c : Bool) (d : Decoded) → 4 * length (if c then [] else d ∷ []) ≡ (if c then 0 else 4)
+move_sized true d = refl
+move_sized false d = refl
 
 branch_sized : (place : ℕ → ℕ) (start : ℕ) (kind : IntegerCompare) (t f : CondBrTarget) → 4 * length (branch_rows place start kind t f) ≡ branch_size t f
 branch_sized place start kind Fallthrough f = refl
@@ -18,17 +25,19 @@ branch_sized place start kind (Label t) Fallthrough = refl
 branch_sized place start kind (Label t) (Label f) = refl
 
 inst_sized : (place : ℕ → ℕ) (start : ℕ) (inst : Inst) → 4 * length (inst_rows place start inst) ≡ inst_size inst
-inst_sized place start Ret = refl
-inst_sized place start (Lui rd imm) = refl
-inst_sized place start (AluRRR op rd rs1 rs2) = refl
-inst_sized place start (AluRRImm12 op rd rs imm) = refl
-inst_sized place start (Jal label) = refl
+inst_sized place start (Mov rd rm type) = move_sized (nat_eq (number_of rd.reg) (number_of rm)) (addi_row (number_of rd.reg) (number_of rm) (pos 0))
+inst_sized place start (MovFromPReg rd rm) = move_sized (nat_eq (number_of rd.reg) rm.number) (addi_row (number_of rd.reg) rm.number (pos 0))
 inst_sized place start (CondBr t f kind) = branch_sized place start kind t f
+inst_sized place start _ = refl
 
 -- the rows of a line have its size
 pub line_sized : (place : ℕ → ℕ) (start : ℕ) (line : Line) → 4 * length (rows_of place start line) ≡ size_of line
 line_sized place start (Put inst) = inst_sized place start inst
 line_sized place start (Bind label) = refl
+
+move_small : (c : Bool) → (if c then 0 else 4) ≤ 8
+move_small true = omega arith
+move_small false = omega arith
 
 branch_small : (t f : CondBrTarget) → branch_size t f ≤ 8
 branch_small Fallthrough f = omega arith
@@ -36,12 +45,10 @@ branch_small (Label t) Fallthrough = omega arith
 branch_small (Label t) (Label f) = omega arith
 
 inst_small : (inst : Inst) → inst_size inst ≤ 8
-inst_small Ret = omega arith
-inst_small (Lui rd imm) = omega arith
-inst_small (AluRRR op rd rs1 rs2) = omega arith
-inst_small (AluRRImm12 op rd rs imm) = omega arith
-inst_small (Jal label) = omega arith
+inst_small (Mov rd rm type) = move_small (nat_eq (number_of rd.reg) (number_of rm))
+inst_small (MovFromPReg rd rm) = move_small (nat_eq (number_of rd.reg) rm.number)
 inst_small (CondBr t f kind) = branch_small t f
+inst_small _ = omega arith
 
 pub line_small : (line : Line) → size_of line ≤ 8
 line_small (Put inst) = inst_small inst

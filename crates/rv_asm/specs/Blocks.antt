@@ -1,5 +1,5 @@
 -- What it is for the rows of one line to run as the line says, and for code to be laid out line by line.
-use Rattle.std.specs.Prelude.{◌≡◌, ℕ, suc, ◌+◌, ◌*◌, ◌%◌, ◌^◌, ◌<◌, ◌≤◌, Bool, true, nat_eq, if◌then◌else◌, List, [], ◌∷◌, ◌++◌, length, slice_index, slice_get, Option, Some, None, unwrap_or}
+use Rattle.std.specs.Prelude.{◌≡◌, ℕ, suc, ◌+◌, ◌*◌, ◌%◌, ◌^◌, ◌<◌, ◌≤◌, Bool, true, false, nat_eq, if◌then◌else◌, List, [], ◌∷◌, ◌++◌, length, slice_index, slice_get, Option, Some, None, unwrap_or}
 use Rattle.std.specs.BTreeMap.{BTreeMap, get}
 use Rattle.std.specs.Ordering.{nat_cmp}
 use Rattle.rv_base.specs.declared.flags.IsaFlags.{IsaFlags}
@@ -9,11 +9,18 @@ use Rattle.rv_inst.specs.declared.inst.Line.TheVariants.{Inst as Put, Bind}
 use Rattle.rv_inst.specs.declared.inst.Inst.{Inst}
 use Rattle.rv_inst.specs.declared.inst.CondBrTarget.{CondBrTarget}
 use Rattle.rv_inst.specs.declared.inst.CondBrTarget.TheVariants.{Label, Fallthrough}
-use Rattle.rv_inst.specs.declared.inst.Inst.TheVariants.{Ret, Lui, AluRRR, AluRRImm12, Jal, CondBr}
+use Rattle.rv_inst.specs.declared.inst.Inst.TheVariants.{Lui, Auipc, AluRRR, AluRRImm12, Mov, MovFromPReg, Jal, CondBr, Jalr}
+use Rattle.rv_inst.specs.declared.inst.Family.{Family}
+use Rattle.rv_inst.specs.declared.inst.Family.TheVariants.{Marks, Plain, Control}
+use Rattle.rv_inst.specs.Families.{family_of}
+use Rattle.rv_inst.specs.Rules.{is_out_of_range}
+use Rattle.rv_encode.specs.Registers.{IsIntRegister}
+use Rattle.rv_base.specs.declared.regs.Reg.{Reg}
+use Rattle.rv_base.specs.declared.regs.Reg.TheVariants.{Real}
 use Rattle.rv_inst.specs.declared.code.Code.{Code}
 use Rattle.rv_inst.specs.declared.code.LineSpan.{LineSpan}
 use Rattle.rv_inst.specs.declared.code.LabelPlace.{LabelPlace}
-use Rattle.rv_inst.specs.Meaning.{Exit, Next, To, Leave, exit_of, effect_of}
+use Rattle.rv_inst.specs.Meaning.{Standing, Exit, Next, To, Leave, Break, exit_of, effect_of}
 use Rattle.rv_machine.specs.declared.decode.Decoded.{Decoded}
 use Rattle.rv_machine.specs.Decode.{decode}
 use Rattle.rv_machine.specs.State.{State, IsState, Values, AreValues, Memory, wrap}
@@ -51,15 +58,19 @@ pub record Ends (flags : IsaFlags) (address : ℕ) (v : Values) (s : State) : Ty
   pub are_values : AreValues v
   pub kept : state.values.mem ≡ s.values.mem
 
--- where an exit leads, from a line that ends at an offset
-abbrev pub exit_address : (ℕ → ℕ) → ℕ → ℕ → Exit → ℕ
-exit_address place base after Next = wrap (base + after)
-exit_address place base after (To label) = wrap (base + place label)
-exit_address place base after (Leave a) = a
+-- where an exit leads, from a line that stands between two offsets
+abbrev pub exit_address : (ℕ → ℕ) → ℕ → ℕ → ℕ → Exit → ℕ
+exit_address place base start after Next = wrap (base + after)
+exit_address place base start after (To label) = wrap (base + place label)
+exit_address place base start after (Leave a) = a
+exit_address place base start after Break = wrap (base + start)
+
+abbrev pub standing : ℕ → ℕ → ℕ → Standing
+standing base start after = record { start = wrap (base + start); after = wrap (base + after) }
 
 -- the rows of a line run as the line says, wherever they stand
 pub record Runs (flags : IsaFlags) (place : ℕ → ℕ) (start : ℕ) (line : Line) : Type 0 where
-  pub run : (base after : ℕ) (s : State) (v : Values) → Begins flags base start after (rows_of place start line) s v → Ends flags (exit_address place base after (exit_of line v)) (effect_of line v) s
+  pub run : (base after : ℕ) (s : State) (v : Values) → Begins flags base start after (rows_of place start line) s v → Ends flags (exit_address place base start after (exit_of line v)) (effect_of (standing base start after) line v) s
 
 -- an offset that a distance of so many bits reaches, half of whose range is given
 pub record Reaches (half start to : ℕ) : Type 0 where
@@ -70,19 +81,38 @@ pub record Reaches (half start to : ℕ) : Type 0 where
   pub start_aligned : start % 4 ≡ 0
   pub to_aligned : to % 4 ≡ 0
 
--- what the rows of a line ask of it: registers below x30, and targets within reach
+-- an integer register below x30
+abbrev pub IsUsable : Reg → Type 0
+IsUsable r = IsIntRegister r × (number_of r < 30)
+
+-- what the rows of a line ask of it: registers that a line may name, numbers in range, and targets within reach
+abbrev pub IsFinePlain : Inst → Type 0
+IsFinePlain (Lui rd imm) = IsUsable rd.reg
+IsFinePlain (Auipc rd imm) = IsUsable rd.reg
+IsFinePlain (AluRRR op rd rs1 rs2) = IsUsable rd.reg × IsUsable rs1 × IsUsable rs2
+IsFinePlain (AluRRImm12 op rd rs imm) = IsUsable rd.reg × IsUsable rs × (is_out_of_range (AluRRImm12 op rd rs imm) ≡ false)
+IsFinePlain (Mov rd rm type) = IsUsable rd.reg × IsUsable rm
+IsFinePlain (MovFromPReg rd rm) = IsUsable rd.reg × IsUsable (Real rm)
+IsFinePlain _ = Unit {0}
+
 abbrev pub IsFineBranch : (ℕ → ℕ) → ℕ → CondBrTarget → CondBrTarget → Type 0
 IsFineBranch place start Fallthrough not_taken = ⊥
 IsFineBranch place start (Label t) Fallthrough = Reaches (2 ^ 12) start (place t.number)
 IsFineBranch place start (Label t) (Label f) = Reaches (2 ^ 12) start (place t.number) × Reaches (2 ^ 20) (start + 4) (place f.number)
 
+abbrev pub IsFineControl : (ℕ → ℕ) → ℕ → Inst → Type 0
+IsFineControl place start (Jal label) = Reaches (2 ^ 20) start (place label.number)
+IsFineControl place start (CondBr taken not_taken kind) = IsUsable kind.rs1 × IsUsable kind.rs2 × IsFineBranch place start taken not_taken
+IsFineControl place start (Jalr rd base offset) = IsUsable rd.reg × IsUsable base
+IsFineControl place start _ = Unit {0}
+
+abbrev pub fine_by_family : Type 0 → Type 0 → Family → Type 0
+fine_by_family plain control Marks = Unit {0}
+fine_by_family plain control Plain = plain
+fine_by_family plain control Control = control
+
 abbrev pub IsFineInst : (ℕ → ℕ) → ℕ → Inst → Type 0
-IsFineInst place start Ret = Unit {0}
-IsFineInst place start (Lui rd imm) = number_of rd.reg < 30
-IsFineInst place start (AluRRR op rd rs1 rs2) = (number_of rd.reg < 30) × (number_of rs1 < 30) × (number_of rs2 < 30)
-IsFineInst place start (AluRRImm12 op rd rs imm) = (number_of rd.reg < 30) × (number_of rs < 30)
-IsFineInst place start (Jal label) = Reaches (2 ^ 20) start (place label.number)
-IsFineInst place start (CondBr taken not_taken kind) = (number_of kind.rs1 < 30) × (number_of kind.rs2 < 30) × IsFineBranch place start taken not_taken
+IsFineInst place start inst = fine_by_family (IsFinePlain inst) (IsFineControl place start inst) (family_of inst)
 
 abbrev pub IsFine : (ℕ → ℕ) → ℕ → Line → Type 0
 IsFine place start (Put inst) = IsFineInst place start inst

@@ -1,57 +1,56 @@
--- Which rows of the machine a line becomes.
-use Rattle.std.specs.Prelude.{ℕ, ◌+◌, List, [], ◌∷◌, ℤ, pos, ◌-ℤ◌, false}
-use Rattle.rv_base.specs.declared.condcodes.IntCC.{IntCC}
-use Rattle.rv_base.specs.declared.condcodes.IntCC.TheVariants.{Equal, NotEqual, SignedLessThan, SignedGreaterThanOrEqual, SignedGreaterThan, SignedLessThanOrEqual, UnsignedLessThan, UnsignedGreaterThanOrEqual, UnsignedGreaterThan, UnsignedLessThanOrEqual}
+-- Which rows of the machine a line becomes, and how many bytes they have.
+use Rattle.std.specs.Prelude.{ℕ, ◌+◌, nat_eq, if◌then◌else◌, List, [], ◌∷◌, ℤ, pos, ◌-ℤ◌}
 use Rattle.rv_base.specs.Regs.{number_of}
-use Rattle.rv_ops.specs.declared.alu.AluOPRRR.{AluOPRRR}
-use Rattle.rv_ops.specs.declared.alu.AluOPRRR.TheVariants as alu_rrr
-use Rattle.rv_ops.specs.declared.alu.AluOPRRI.{AluOPRRI}
-use Rattle.rv_ops.specs.declared.alu.AluOPRRI.TheVariants as alu_rri
 use Rattle.rv_ops.specs.declared.compare.IntegerCompare.{IntegerCompare}
 use Rattle.rv_inst.specs.declared.inst.Line.{Line}
 use Rattle.rv_inst.specs.declared.inst.Line.TheVariants.{Inst as Put, Bind}
 use Rattle.rv_inst.specs.declared.inst.Inst.{Inst}
-use Rattle.rv_inst.specs.declared.inst.Inst.TheVariants.{Ret, Lui, AluRRR, AluRRImm12, Jal, CondBr}
+use Rattle.rv_inst.specs.declared.inst.Inst.TheVariants.{Nop4, EBreak, Lui, Auipc, AluRRR, AluRRImm12, Mov, MovFromPReg, Ret, Jal, CondBr, Jalr}
 use Rattle.rv_inst.specs.declared.inst.CondBrTarget.{CondBrTarget}
 use Rattle.rv_inst.specs.declared.inst.CondBrTarget.TheVariants.{Label, Fallthrough}
+use Rattle.rv_inst.specs.Families.{family_of, by_family}
 use Rattle.rv_machine.specs.declared.decode.Decoded.{Decoded}
 use Rattle.rv_machine.specs.declared.ops.MOp.TheVariants.{Base}
-use Rattle.rv_machine.specs.declared.ops.BaseOp.{BaseOp}
 use Rattle.rv_machine.specs.declared.ops.BaseOp.TheVariants as base
-
--- a base row of 32 bits
-abbrev pub row : BaseOp → ℕ → ℕ → ℕ → ℤ → Decoded
-row op rd rs1 rs2 imm = record { op = Base op; rd = rd; rs1 = rs1; rs2 = rs2; rs3 = 0; imm = imm; rm = 0; vm = false; len = 4 }
+use Rattle.rv_machine.specs.Layout.{bare_form}
+use Rattle.rv_encode.specs.Rows.{row, alu_rrr_row, alu_rri_row, compare_row}
 
 -- how far it is from one offset to another
 abbrev pub between : ℕ → ℕ → ℤ
 between from to = pos to -ℤ pos from
 
--- the branch by a distance where a comparison of two registers holds; some have their registers exchanged
-abbrev pub branch_row : IntCC → ℕ → ℕ → ℤ → Decoded
-branch_row Equal x y d = row base.Beq 0 x y d
-branch_row NotEqual x y d = row base.Bne 0 x y d
-branch_row SignedLessThan x y d = row base.Blt 0 x y d
-branch_row SignedGreaterThanOrEqual x y d = row base.Bge 0 x y d
-branch_row SignedGreaterThan x y d = row base.Blt 0 y x d
-branch_row SignedLessThanOrEqual x y d = row base.Bge 0 y x d
-branch_row UnsignedLessThan x y d = row base.Bltu 0 x y d
-branch_row UnsignedGreaterThanOrEqual x y d = row base.Bgeu 0 x y d
-branch_row UnsignedGreaterThan x y d = row base.Bltu 0 y x d
-branch_row UnsignedLessThanOrEqual x y d = row base.Bgeu 0 y x d
+-- rd is rs plus a number
+abbrev pub addi_row : ℕ → ℕ → ℤ → Decoded
+addi_row rd rs imm = row (Base base.Addi) rd rs 0 imm
 
-abbrev pub compare_row : IntegerCompare → ℤ → Decoded
-compare_row kind d = branch_row kind.kind (number_of kind.rs1) (number_of kind.rs2) d
+abbrev pub ebreak_row : Decoded
+ebreak_row = bare_form (Base base.Ebreak)
+
+-- to a register's address plus a number
+abbrev pub jalr_row : ℕ → ℕ → ℤ → Decoded
+jalr_row rd rs imm = row (Base base.Jalr) rd rs 0 imm
 
 -- a jump that doesn't link
 abbrev pub jump_row : ℤ → Decoded
-jump_row d = row base.Jal 0 0 0 d
+jump_row d = row (Base base.Jal) 0 0 0 d
 
-abbrev pub alu_rrr_row : AluOPRRR → ℕ → ℕ → ℕ → Decoded
-alu_rrr_row alu_rrr.Add rd rs1 rs2 = row base.Add rd rs1 rs2 (pos 0)
+-- a move of one integer register to another; none is a move to itself
+abbrev pub move_rows : ℕ → ℕ → List Decoded
+move_rows rd rs = if nat_eq rd rs then [] else addi_row rd rs (pos 0) ∷ []
 
-abbrev pub alu_rri_row : AluOPRRI → ℕ → ℕ → ℤ → Decoded
-alu_rri_row alu_rri.Addi rd rs imm = row base.Addi rd rs 0 imm
+abbrev pub marks_rows : Inst → List Decoded
+marks_rows Nop4 = addi_row 0 0 (pos 0) ∷ []
+marks_rows EBreak = ebreak_row ∷ []
+marks_rows _ = []
+
+abbrev pub plain_rows : Inst → List Decoded
+plain_rows (Lui rd imm) = row (Base base.Lui) (number_of rd.reg) 0 0 imm.value ∷ []
+plain_rows (Auipc rd imm) = row (Base base.Auipc) (number_of rd.reg) 0 0 imm.value ∷ []
+plain_rows (AluRRR op rd rs1 rs2) = alu_rrr_row op (number_of rd.reg) (number_of rs1) (number_of rs2) ∷ []
+plain_rows (AluRRImm12 op rd rs imm) = alu_rri_row op (number_of rd.reg) (number_of rs) imm.value ∷ []
+plain_rows (Mov rd rm type) = move_rows (number_of rd.reg) (number_of rm)
+plain_rows (MovFromPReg rd rm) = move_rows (number_of rd.reg) rm.number
+plain_rows _ = []
 
 -- a branch that starts at an offset, where labels stand at these places
 abbrev pub branch_rows : (ℕ → ℕ) → ℕ → IntegerCompare → CondBrTarget → CondBrTarget → List Decoded
@@ -59,31 +58,46 @@ branch_rows place start kind Fallthrough not_taken = []
 branch_rows place start kind (Label t) Fallthrough = compare_row kind (between start (place t.number)) ∷ []
 branch_rows place start kind (Label t) (Label f) = compare_row kind (between start (place t.number)) ∷ jump_row (between (start + 4) (place f.number)) ∷ []
 
+abbrev pub control_rows : (ℕ → ℕ) → ℕ → Inst → List Decoded
+control_rows place start Ret = jalr_row 0 1 (pos 0) ∷ []
+control_rows place start (Jal label) = jump_row (between start (place label.number)) ∷ []
+control_rows place start (CondBr taken not_taken kind) = branch_rows place start kind taken not_taken
+control_rows place start (Jalr rd base offset) = jalr_row (number_of rd.reg) (number_of base) offset.value ∷ []
+control_rows place start _ = []
+
 abbrev pub inst_rows : (ℕ → ℕ) → ℕ → Inst → List Decoded
-inst_rows place start Ret = row base.Jalr 0 1 0 (pos 0) ∷ []
-inst_rows place start (Lui rd imm) = row base.Lui (number_of rd.reg) 0 0 imm.value ∷ []
-inst_rows place start (AluRRR op rd rs1 rs2) = alu_rrr_row op (number_of rd.reg) (number_of rs1) (number_of rs2) ∷ []
-inst_rows place start (AluRRImm12 op rd rs imm) = alu_rri_row op (number_of rd.reg) (number_of rs) imm.value ∷ []
-inst_rows place start (Jal label) = jump_row (between start (place label.number)) ∷ []
-inst_rows place start (CondBr taken not_taken kind) = branch_rows place start kind taken not_taken
+inst_rows place start inst = by_family (marks_rows inst) (plain_rows inst) (control_rows place start inst) (family_of inst)
 
 abbrev pub rows_of : (ℕ → ℕ) → ℕ → Line → List Decoded
 rows_of place start (Put inst) = inst_rows place start inst
 rows_of place start (Bind label) = []
 
--- how many bytes a line has, wherever its labels stand
+-- ---- sizes, wherever the labels stand
+
+abbrev pub marks_size : Inst → ℕ
+marks_size Nop4 = 4
+marks_size EBreak = 4
+marks_size _ = 0
+
+abbrev pub move_size : ℕ → ℕ → ℕ
+move_size rd rs = if nat_eq rd rs then 0 else 4
+
+abbrev pub plain_size : Inst → ℕ
+plain_size (Mov rd rm type) = move_size (number_of rd.reg) (number_of rm)
+plain_size (MovFromPReg rd rm) = move_size (number_of rd.reg) rm.number
+plain_size _ = 4
+
 abbrev pub branch_size : CondBrTarget → CondBrTarget → ℕ
 branch_size Fallthrough not_taken = 0
 branch_size (Label t) Fallthrough = 4
 branch_size (Label t) (Label f) = 8
 
+abbrev pub control_size : Inst → ℕ
+control_size (CondBr taken not_taken kind) = branch_size taken not_taken
+control_size _ = 4
+
 abbrev pub inst_size : Inst → ℕ
-inst_size Ret = 4
-inst_size (Lui rd imm) = 4
-inst_size (AluRRR op rd rs1 rs2) = 4
-inst_size (AluRRImm12 op rd rs imm) = 4
-inst_size (Jal label) = 4
-inst_size (CondBr taken not_taken kind) = branch_size taken not_taken
+inst_size inst = by_family (marks_size inst) (plain_size inst) (control_size inst) (family_of inst)
 
 abbrev pub size_of : Line → ℕ
 size_of (Put inst) = inst_size inst

@@ -6,16 +6,22 @@ use Rattle.rv_inst.specs.declared.inst.Line.{Line}
 use Rattle.rv_inst.specs.declared.inst.Line.TheVariants.{Inst as Put, Bind}
 use Rattle.rv_inst.specs.declared.job.Job.{Job}
 use Rattle.rv_inst.specs.declared.code.Code.{Code}
-use Rattle.rv_inst.specs.Meaning.{Exit, Next, To, Leave, exit_of, effect_of}
+use Rattle.rv_inst.specs.Meaning.{Standing, Exit, Next, To, Leave, Break, exit_of, effect_of}
 use Rattle.rv_machine.specs.State.{State, IsState, Values, AreValues, Memory, byte, reg, wrap}
-use Rattle.rv_machine.specs.Steps.{iter}
-use Rattle.rv_asm.specs.Told.{start_of}
+use Rattle.rv_base.specs.declared.flags.IsaFlags.{IsaFlags}
+use Rattle.rv_machine.specs.declared.ops.MOp.TheVariants.{Base}
+use Rattle.rv_machine.specs.declared.ops.BaseOp.TheVariants.{Ebreak}
+use Rattle.rv_machine.specs.Layout.{bare_form}
+use Rattle.rv_machine.specs.Decode.{decode}
+use Rattle.rv_machine.specs.Steps.{fetch, iter}
+use Rattle.rv_asm.specs.Told.{start_of, end_of}
 
--- the start of a line, by its number; an address outside the code; or the end of the last line
+-- the start of a line, by its number; an address outside the code; the end of the last line; or the break of a line
 pub data Point : Type 0 where
   At : ℕ → Point
   Out : ℕ → Point
   End : Point
+  Stop : ℕ → Point
 
 -- the number of the first line that binds a label
 abbrev pub place_of : List Line → ℕ → ℕ
@@ -31,26 +37,37 @@ abbrev pub point_of : List Line → ℕ → Exit → Point
 point_of lines i Next = next_point lines i
 point_of lines i (To label) = At (place_of lines label)
 point_of lines i (Leave a) = Out a
+point_of lines i Break = Stop i
 
 -- x1 to x29 and the memories are equal; x30 and x31 may hold anything
 pub record Same (v w : Values) : Type 0 where
   pub regs : (n : ℕ) → n < 30 → reg v n ≡ reg w n
   pub mem : (a : ℕ) → byte v.mem a ≡ byte w.mem a
 
+-- where a line's own bytes begin and end, for code that stands at a base
+abbrev pub standing_of : Code → ℕ → ℕ → Standing
+standing_of code base i = record { start = wrap (base + start_of code.lines i); after = wrap (base + end_of code.lines i) }
+
 -- one line at once, from a point and values to a point and values
-pub record OneLine (job : Job) (p : Point) (v : Values) (q : Point) (w : Values) : Type 0 where
+pub record OneLine (job : Job) (code : Code) (base : ℕ) (p : Point) (v : Values) (q : Point) (w : Values) : Type 0 where
   pub index : ℕ
   pub line : Line
   pub at : p ≡ At index
   pub listed : slice_get job.lines index ≡ Some line
   pub leads : q ≡ point_of job.lines index (exit_of line v)
-  pub effect : Same (effect_of line v) w
+  pub effect : Same (effect_of (standing_of code base index) line v) w
 
 -- the address of a point, for code that stands at a base
 abbrev pub address_of : Code → ℕ → Point → ℕ
 address_of code base (At i) = wrap (base + start_of code.lines i)
 address_of code base End = wrap (base + code.end)
 address_of code base (Out a) = a
+address_of code base (Stop i) = wrap (base + start_of code.lines i)
+
+-- at a break the word is that of ebreak, so the machine has no step
+abbrev pub IsStopped : IsaFlags → Point → State → Type 0
+IsStopped flags (Stop i) s = decode flags (fetch s.values.mem s.pc) ≡ Some (bare_form (Base Ebreak))
+IsStopped flags _ s = Unit {0}
 
 -- addresses of symbols, or of the slots that hold them, by the number of a name
 abbrev pub Addresses : Type 0
@@ -68,9 +85,10 @@ pub record Comes (job : Job) (code : Code) (base : ℕ) (p : Point) (v : Values)
   pub point : Point
   pub values : Values
   pub state : State
-  pub line : OneLine job p v point values
+  pub line : OneLine job code base p v point values
   pub ran : iter job.flags steps s ≡ Some state
   pub stands : state.pc ≡ address_of code base point
+  pub stopped : IsStopped job.flags point state
   pub same : Same values state.values
   pub is_state : IsState state
   pub are_values : AreValues values

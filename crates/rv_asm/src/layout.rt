@@ -3,14 +3,16 @@
 ghost use Rattle.std.specs.Prelude.{◌≡◌, ℕ, [], ◌∷◌, ◌++◌, ◌+◌, ◌*◌, ◌%◌, ◌^◌, ◌<◌, ◌≤◌, length, IfOk, OnOk, Some, None, nat_eq, if◌then◌else◌};
 ghost use Rattle.std.specs.BTreeMap.{get};
 ghost use Rattle.std.specs.Ordering.{nat_cmp};
-ghost use Rattle.rv_asm.specs.Rows.{size_of, inst_size, branch_size};
+ghost use Rattle.rv_asm.specs.Rows.{size_of, inst_size, marks_size, plain_size, move_size, control_size, branch_size};
+ghost use Rattle.rv_base.specs.Regs.{number_of};
 ghost use Rattle.rv_inst.specs.Rules.{first_of};
 ghost use Rattle.rv_asm.specs.Blocks.{spans_from, labels_from, end_from, bound_at};
 
 use rv_base::label::MachLabel;
 use rv_base::memory::OutOfMemory;
+use rv_base::regs::Reg;
 use rv_inst::code::{LabelPlace, LineSpan};
-use rv_inst::inst::{CondBrTarget, Inst, Line};
+use rv_inst::inst::{CondBrTarget, Family, Inst, Line};
 use std::alloc::Global;
 use std::collections::BTreeMap;
 
@@ -39,6 +41,46 @@ fn inst_size(inst: &Inst) -> u32
     ensures value { result ≡ inst_size inst.now }
     ensures small { result ≤ 8 }
 {
+    match inst.family() {
+        Family::Marks => marks_size(inst),
+        Family::Plain => plain_size(inst),
+        Family::Control => control_size(inst),
+    }
+}
+
+fn marks_size(inst: &Inst) -> u32
+    ensures value { result ≡ marks_size inst.now }
+    ensures small { result ≤ 8 }
+{
+    match inst {
+        Inst::Nop4 => 4,
+        Inst::EBreak => 4,
+        _ => 0,
+    }
+}
+
+fn plain_size(inst: &Inst) -> u32
+    ensures value { result ≡ plain_size inst.now }
+    ensures small { result ≤ 8 }
+{
+    match inst {
+        Inst::Mov { rd, rm, ty: _ } => move_size(rd.reg, *rm),
+        Inst::MovFromPReg { rd, rm } => move_size(rd.reg, Reg::Real(*rm)),
+        _ => 4,
+    }
+}
+
+fn move_size(rd: Reg, rm: Reg) -> u32
+    ensures value { result ≡ move_size (number_of rd) (number_of rm) }
+    ensures small { result ≤ 8 }
+{
+    if number(rd) == number(rm) { 0 } else { 4 }
+}
+
+fn control_size(inst: &Inst) -> u32
+    ensures value { result ≡ control_size inst.now }
+    ensures small { result ≤ 8 }
+{
     match inst {
         Inst::CondBr {
             taken,
@@ -46,6 +88,16 @@ fn inst_size(inst: &Inst) -> u32
             kind: _,
         } => branch_size(*taken, *not_taken),
         _ => 4,
+    }
+}
+
+/// The number of a register of the machine.
+pub fn number(reg: Reg) -> u8
+    ensures { result ≡ number_of reg }
+{
+    match reg {
+        Reg::Real(reg) => reg.number,
+        Reg::Virtual(_) => 0,
     }
 }
 

@@ -2,7 +2,6 @@
 #![tactic(auto)]
 
 pub mod assemble;
-pub mod encode;
 pub mod layout;
 pub mod refusal;
 #[cfg(test)]

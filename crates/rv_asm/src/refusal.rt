@@ -3,7 +3,7 @@
 ghost use Rattle.std.specs.Prelude.{◌≡◌, ℕ, [], ◌∷◌, ◌++◌, ◌||◌, false, nat_eq, IfOk, OnOk};
 ghost use Rattle.std.specs.BTreeSet.{contains};
 ghost use Rattle.std.specs.Ordering.{nat_cmp};
-ghost use Rattle.rv_inst.specs.Fields.{named_labels, inst_labels, target_labels};
+ghost use Rattle.rv_inst.specs.Fields.{named_labels, inst_labels, control_labels, target_labels};
 ghost use Rattle.rv_asm.specs.Refusal.{is_bound, broken_from, binds, twice_of, twice_in, twice_from, unbound_among, unbound_in, refusal, Finds};
 
 use rv_base::constant::Constant;
@@ -11,7 +11,7 @@ use rv_base::flags::IsaFlags;
 use rv_base::frame::FrameLayout;
 use rv_base::label::MachLabel;
 use rv_inst::error::EmitError;
-use rv_inst::inst::{CondBrTarget, Inst, Line};
+use rv_inst::inst::{CondBrTarget, Family, Inst, Line};
 use std::alloc::Global;
 use std::collections::BTreeSet;
 
@@ -116,6 +116,15 @@ fn find_labels_of(bound: &BTreeSet<u32>, line: &Line) -> Result<(), EmitError>
 
 fn find_labels_in(bound: &BTreeSet<u32>, inst: &Inst) -> Result<(), EmitError>
     ensures { Finds (unbound_among (contains nat_cmp bound.now) (inst_labels inst.now)) result }
+{
+    match inst.family() {
+        Family::Marks | Family::Plain => Ok(()),
+        Family::Control => find_labels_in_control(bound, inst),
+    }
+}
+
+fn find_labels_in_control(bound: &BTreeSet<u32>, inst: &Inst) -> Result<(), EmitError>
+    ensures { Finds (unbound_among (contains nat_cmp bound.now) (control_labels inst.now)) result }
 {
     match inst {
         Inst::Jal { label } => find_label(bound, *label),

@@ -5,15 +5,22 @@ ghost use Rattle.std.specs.Int.{to_le_bytes, w32};
 ghost use Rattle.rv_base.specs.declared.flags.IsaFlags.{IsaFlags};
 ghost use Rattle.rv_machine.specs.declared.decode.Decoded.{Decoded};
 ghost use Rattle.rv_machine.specs.Decode.{decode};
-ghost use Rattle.rv_asm.specs.Rows.{inst_rows, branch_rows, compare_row, jump_row, between, rows_of, size_of};
-ghost use Rattle.rv_asm.specs.Blocks.{place_in, Puts, Reaches, IsFineBranch, IsFineInst, IsFine, AllFine, LinesStand, end_from};
+ghost use Rattle.rv_base.specs.Regs.{number_of};
+ghost use Rattle.rv_encode.specs.Registers.{IsIntRegister};
+ghost use Rattle.rv_encode.specs.Rows.{compare_row};
+ghost use Rattle.rv_asm.specs.Rows.{inst_rows, marks_rows, plain_rows, move_rows, control_rows, branch_rows, jump_row, between, rows_of, size_of};
+ghost use Rattle.rv_asm.specs.Blocks.{place_in, Puts, Reaches, IsUsable, IsFinePlain, IsFineBranch, IsFineControl, IsFineInst, IsFine, AllFine, LinesStand, end_from};
 
-use crate::encode::{
-    encode_alu_rr_imm12, encode_alu_rrr, encode_branch, encode_jump, encode_lui, encode_ret,
-};
+use crate::layout::number;
 use rv_base::label::MachLabel;
 use rv_base::memory::OutOfMemory;
-use rv_inst::inst::{CondBrTarget, Inst, Line};
+use rv_base::named::{link_reg, writable_zero_reg, zero_reg};
+use rv_base::regs::{Reg, WritableReg};
+use rv_encode::jumps::{enc_auipc, enc_jalr, encode_branch, encode_ebreak, encode_jal, encode_lui};
+use rv_encode::operations::{encode_alu_rr_imm12, encode_alu_rrr};
+use rv_imms::imm12::Imm12;
+use rv_inst::inst::{CondBrTarget, Family, Inst, Line};
+use rv_ops::alu::AluOPRRI;
 use rv_ops::compare::IntegerCompare;
 use std::alloc::Global;
 use std::collections::BTreeMap;
@@ -61,9 +68,38 @@ fn put_inst(
     requires fine { IsFineInst (place_in offsets.now) (length bytes.old.items) inst.now }
     ensures { OnOk result (Puts bytes.old.items bytes.new.items (inst_rows (place_in offsets.now) (length bytes.old.items) inst.now)) }
 {
+    match inst.family() {
+        Family::Marks => put_mark(bytes, inst),
+        Family::Plain => put_plain(bytes, inst),
+        Family::Control => put_control(bytes, offsets, inst),
+    }
+}
+
+fn put_mark(bytes: &mut Vec<u8>, inst: &Inst) -> Result<(), OutOfMemory>
+    ensures { OnOk result (Puts bytes.old.items bytes.new.items (marks_rows inst.now)) }
+{
     match inst {
-        Inst::Ret => put_word(bytes, encode_ret()),
+        Inst::Nop4 => put_word(
+            bytes,
+            encode_alu_rr_imm12(
+                AluOPRRI::Addi,
+                writable_zero_reg(),
+                zero_reg(),
+                Imm12::ZERO,
+            ),
+        ),
+        Inst::EBreak => put_word(bytes, encode_ebreak()),
+        _ => Ok(()),
+    }
+}
+
+fn put_plain(bytes: &mut Vec<u8>, inst: &Inst) -> Result<(), OutOfMemory>
+    requires { IsFinePlain inst.now }
+    ensures { OnOk result (Puts bytes.old.items bytes.new.items (plain_rows inst.now)) }
+{
+    match inst {
         Inst::Lui { rd, imm } => put_word(bytes, encode_lui(*rd, *imm)),
+        Inst::Auipc { rd, imm } => put_word(bytes, enc_auipc(*rd, *imm)),
         Inst::AluRRR {
             alu_op,
             rd,
@@ -76,12 +112,49 @@ fn put_inst(
             rs,
             imm12,
         } => put_word(bytes, encode_alu_rr_imm12(*alu_op, *rd, *rs, *imm12)),
+        Inst::Mov { rd, rm, ty: _ } => put_move(bytes, *rd, *rm),
+        Inst::MovFromPReg { rd, rm } => put_move(bytes, *rd, Reg::Real(*rm)),
+        _ => Ok(()),
+    }
+}
+
+/// A move of one integer register to another.
+fn put_move(bytes: &mut Vec<u8>, rd: WritableReg, rm: Reg) -> Result<(), OutOfMemory>
+    requires rd { IsUsable rd.reg }
+    requires rm { IsUsable rm }
+    ensures { OnOk result (Puts bytes.old.items bytes.new.items (move_rows (number_of rd.reg) (number_of rm))) }
+{
+    if number(rd.reg) == number(rm) {
+        return Ok(());
+    }
+    put_word(
+        bytes,
+        encode_alu_rr_imm12(AluOPRRI::Addi, rd, rm, Imm12::ZERO),
+    )
+}
+
+fn put_control(
+    bytes: &mut Vec<u8>,
+    offsets: &BTreeMap<u32, u32>,
+    inst: &Inst,
+) -> Result<(), OutOfMemory>
+    requires small { length bytes.old.items < 2 ^ 31 }
+    requires fine { IsFineControl (place_in offsets.now) (length bytes.old.items) inst.now }
+    ensures { OnOk result (Puts bytes.old.items bytes.new.items (control_rows (place_in offsets.now) (length bytes.old.items) inst.now)) }
+{
+    match inst {
+        Inst::Ret => put_word(
+            bytes,
+            enc_jalr(writable_zero_reg(), link_reg(), Imm12::ZERO),
+        ),
         Inst::Jal { label } => put_jump(bytes, offsets, *label),
         Inst::CondBr {
             taken,
             not_taken,
             kind,
         } => put_branch(bytes, offsets, *kind, *taken, *not_taken),
+        Inst::Jalr { rd, base, offset } => put_word(bytes, enc_jalr(*rd, *base, *offset)),
+        _ => Ok(()),
     }
 }
 
@@ -92,6 +165,8 @@ fn put_branch(
     taken: CondBrTarget,
     not_taken: CondBrTarget,
 ) -> Result<(), OutOfMemory>
+    requires rs1 { IsIntRegister kind.rs1 }
+    requires rs2 { IsIntRegister kind.rs2 }
     requires small { length bytes.old.items < 2 ^ 31 }
     requires fine { IsFineBranch (place_in offsets.now) (length bytes.old.items) taken not_taken }
     ensures { OnOk result (Puts bytes.old.items bytes.new.items (branch_rows (place_in offsets.now) (length bytes.old.items) kind taken not_taken)) }
@@ -115,6 +190,8 @@ fn put_compare_and_jump(
     taken: MachLabel,
     not_taken: MachLabel,
 ) -> Result<(), OutOfMemory>
+    requires rs1 { IsIntRegister kind.rs1 }
+    requires rs2 { IsIntRegister kind.rs2 }
     requires taken { Reaches (2 ^ 12) (length bytes.old.items) (place_in offsets.now taken.number) }
     requires not_taken { Reaches (2 ^ 20) (length bytes.old.items + 4) (place_in offsets.now not_taken.number) }
     ensures { OnOk result (Puts bytes.old.items bytes.new.items (compare_row kind (between (length bytes.old.items) (place_in offsets.now taken.number)) ∷ jump_row (between (length bytes.old.items + 4) (place_in offsets.now not_taken.number)) ∷ [])) }
@@ -130,7 +207,9 @@ fn put_compare(
     kind: IntegerCompare,
     label: MachLabel,
 ) -> Result<(), OutOfMemory>
-    requires { Reaches (2 ^ 12) (length bytes.old.items) (place_in offsets.now label.number) }
+    requires rs1 { IsIntRegister kind.rs1 }
+    requires rs2 { IsIntRegister kind.rs2 }
+    requires reach { Reaches (2 ^ 12) (length bytes.old.items) (place_in offsets.now label.number) }
     ensures { OnOk result (Puts bytes.old.items bytes.new.items (compare_row kind (between (length bytes.old.items) (place_in offsets.now label.number)) ∷ [])) }
 {
     let distance = distance_to(bytes.len(), offset_of(offsets, label));
@@ -147,7 +226,7 @@ fn put_jump(
     ensures { OnOk result (Puts bytes.old.items bytes.new.items (jump_row (between (length bytes.old.items) (place_in offsets.now label.number)) ∷ [])) }
 {
     let distance = distance_to(bytes.len(), offset_of(offsets, label));
-    put_word(bytes, encode_jump(distance))
+    put_word(bytes, encode_jal(writable_zero_reg(), distance))
 }
 
 /// The offset of a label.
