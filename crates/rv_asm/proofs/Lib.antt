@@ -1,5 +1,6 @@
 pub mod Blocked
 pub mod Decoding
+pub mod Ending
 pub mod Jumps
 pub mod Laid
 pub mod Lines

@@ -5,3 +5,4 @@ pub mod Refusal
 pub mod Rows
 pub mod Simulation
 pub mod Told
+pub mod Outcomes

@@ -4,5 +4,7 @@
 pub mod assemble;
 pub mod encode;
 pub mod layout;
+pub mod outcome;
 pub mod refusal;
+pub mod run;
 pub mod words;
