@@ -43,9 +43,10 @@ word_there code base symbols slots mem at placed long =
 rows_there : (flags : IsaFlags) (code : Code) (base : ℕ) (symbols slots : Addresses) (mem : Memory) (at : ℕ) (ds : List Decoded) → IsPlaced code base symbols slots mem → StandRows flags code.bytes at ds → HasRows flags mem (base + at) ds
 rows_there flags code base symbols slots mem at [] placed h = tt
 rows_there flags code base symbols slots mem at (d ∷ ds) placed h =
-    let moved : base + (at + 4) ≡ base + at + 4 = omega arith in
-    (ap (decode flags) (word_there code base symbols slots mem at placed h.0) ∙ h.1,
-    subst (λ a. HasRows flags mem a ds) moved (rows_there flags code base symbols slots mem (at + 4) ds placed h.2))
+    let moved : base + (at + 4) ≡ base + at + 4 = omega arith in (
+      ap (decode flags) (word_there code base symbols slots mem at placed h.0) ∙ h.1,
+      subst (λ a. HasRows flags mem a ds) moved (rows_there flags code base symbols slots mem (at + 4) ds placed h.2),
+    )
 
 -- ---- where each line stands
 

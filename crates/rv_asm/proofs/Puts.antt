@@ -74,9 +74,10 @@ puts_two a b c x y (Ok u) first second =
 
 -- the lines that stand once one more was put
 pub lines_more : (flags : IsaFlags) (place : ℕ → ℕ) (old new final : List ℕ) (line : Line) (lines : List Line) → length new ≡ length old + size_of line → Puts old new (rows_of place (length old) line) → Extends new final → LinesStand flags place final (length new) lines → LinesStand flags place final (length old) (line ∷ lines)
-lines_more flags place old new final line lines long put (more, e) rest =
-    (subst (λ (bytes : List ℕ). StandRows flags bytes (length old) (rows_of place (length old) line)) (sym e) (stand_kept flags new more (length old) (rows_of place (length old) line) (put.stand flags)),
-    subst (λ (n : ℕ). LinesStand flags place final n lines) long rest)
+lines_more flags place old new final line lines long put (more, e) rest = (
+  subst (λ (bytes : List ℕ). StandRows flags bytes (length old) (rows_of place (length old) line)) (sym e) (stand_kept flags new more (length old) (rows_of place (length old) line) (put.stand flags)),
+  subst (λ (n : ℕ). LinesStand flags place final n lines) long rest,
+)
 
 pub extends_before : (old new final : List ℕ) (ds : List Decoded) → Puts old new ds → Extends new final → Extends old final
 extends_before old new final ds put (more, e) = (put.more ++ more, e ∙ ap (λ l. l ++ more) put.kept ∙ append_assoc old put.more more)

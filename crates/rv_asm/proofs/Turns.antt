@@ -80,9 +80,10 @@ words_next place lines i line old new lt e put h =
 
 pub words_last : (place : ℕ → ℕ) (lines : List Line) (i : ℕ) (bytes : List ℕ) → length lines ≤ i → WordsSoFar place lines i bytes → ((flags : IsaFlags) → LinesStand flags place bytes 0 lines) × (length bytes ≡ end_from 0 lines)
 words_last place lines i bytes le h =
-    let none : drop i lines ≡ [] = drop_all lines i le in
-    (λ flags. h.stand flags bytes ([], sym (append-nil bytes)) (subst (λ (ls : List Line). LinesStand flags place bytes (length bytes) ls) (sym none) tt),
-    ap (end_from (length bytes)) (sym none) ∙ h.finish)
+    let none : drop i lines ≡ [] = drop_all lines i le in (
+      λ flags. h.stand flags bytes ([], sym (append-nil bytes)) (subst (λ (ls : List Line). LinesStand flags place bytes (length bytes) ls) (sym none) tt),
+      ap (end_from (length bytes)) (sym none) ∙ h.finish,
+    )
   where
     drop_all : (xs : List Line) (i : ℕ) → length xs ≤ i → drop i xs ≡ []
     drop_all [] zero le = refl

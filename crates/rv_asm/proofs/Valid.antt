@@ -148,9 +148,10 @@ rule_none index (Some r) e = absurd (cc)
 all_fine : (place : ℕ → ℕ) (index start : ℕ) (lines : List Line) → AreNear place → start + 8 * length lines ≤ 4000 → start % 4 ≡ 0 → broken_from index lines ≡ None → AllFine place start lines
 all_fine place index start [] near h e g = tt
 all_fine place index start (line ∷ lines) near h e g =
-    let small = line_small line in
-    (line_fine place start line near (omega arith) e (rule_none index (broken_rule line) (none_left _ _ g)),
-    all_fine place (suc index) (start + size_of line) lines near (omega arith) (omega arith) (none_right (malformed index (broken_rule line)) _ g))
+    let small = line_small line in (
+      line_fine place start line near (omega arith) e (rule_none index (broken_rule line) (none_left _ _ g)),
+      all_fine place (suc index) (start + size_of line) lines near (omega arith) (omega arith) (none_right (malformed index (broken_rule line)) _ g),
+    )
 
 label_bound : (c : Bool) (x : Option EmitError) (e : EmitError) → (if c then x else Some e) ≡ None → (c ≡ true) × (x ≡ None)
 label_bound true x e h = (refl, h)

@@ -101,7 +101,9 @@ fn error_line(alloc: Global, error: &EmitError) -> Result<Vec<u8>, OutOfMemory>
 {
     match error {
         EmitError::OutOfMemory => bytes_of(alloc, b"rvemit: OutOfMemory\n"),
-        EmitError::Malformed { index, rule } => Ok(malformed_line(alloc, *index, *rule)?.into_bytes()),
+        EmitError::Malformed { index, rule } => Ok(malformed_line(
+            alloc, *index, *rule,
+        )?.into_bytes()),
         EmitError::LabelTwice { label } => Ok(label_twice_line(alloc, *label)?.into_bytes()),
         EmitError::UnboundLabel { label } => Ok(unbound_label_line(alloc, *label)?.into_bytes()),
         EmitError::TooLarge => bytes_of(alloc, b"rvemit: TooLarge\n"),

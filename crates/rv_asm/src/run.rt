@@ -30,7 +30,13 @@ fn answer(alloc: Global, input: &[u8]) -> Result<Outcome, OutOfMemory>
         Err(ReadError::Syntax { line }) => return Ok(Outcome::Syntax { line }),
         Err(ReadError::OutOfMemory) => return Err(OutOfMemory),
     };
-    match assemble(alloc, job.lines.as_slice(), job.flags, &job.frame, job.constants.as_slice()) {
+    match assemble(
+        alloc,
+        job.lines.as_slice(),
+        job.flags,
+        &job.frame,
+        job.constants.as_slice(),
+    ) {
         Ok(code) => Ok(Outcome::Done { code }),
         Err(error) => refused(error),
     }
@@ -72,10 +78,18 @@ fn end<S: Source, K: Sink>(alloc: Global, words: &[String], source: &mut S, sink
 
 /// Reads a listing, assembles it, and writes its report, or one line that says why there is none. The words are those
 /// behind the program's name.
-pub fn run<S: Source, K: Sink>(alloc: Global, words: &[String], source: &mut S, sink: &mut K) -> Outcome
+pub fn run<S: Source, K: Sink>(
+    alloc: Global,
+    words: &[String],
+    source: &mut S,
+    sink: &mut K,
+) -> Outcome
     ensures ended { Ended (call (length words.now) (S.left source.old) (S.faults source.old) (S.faults source.new) (K.taken sink.old) (K.taken sink.new) (K.faults sink.old) (K.faults sink.new)) result }
     ensures unread { 0 < length words.now → source.new ≡ source.old }
     ensures settled { IsSettled (call (length words.now) (S.left source.old) (S.faults source.old) (S.faults source.new) (K.taken sink.old) (K.taken sink.new) (K.faults sink.old) (K.faults sink.new)) result }
 {
     end(alloc, words, source, sink)
 }
+
+#[cfg(test)]
+mod tests;
