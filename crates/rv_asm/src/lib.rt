@@ -7,4 +7,6 @@ pub mod layout;
 pub mod outcome;
 pub mod refusal;
 pub mod run;
+#[cfg(test)]
+mod tests;
 pub mod words;
