@@ -22,7 +22,7 @@ fn listings(rt: HostRuntime) -> Result<(), Fail> {
             "rvemit: syntax at line 3\n",
         ),
         ("# caf\u{e9}\n", 3, "rvemit: syntax at line 1\n"),
-        ("Ret\n\u{0}\n", 3, "rvemit: syntax at line 2\n"),
+        ("Ret\n\n\u{0}\n", 3, "rvemit: syntax at line 3\n"),
         (
             "AluRRR add a0 %192 a1\n",
             4,
