@@ -1,9 +1,8 @@
 pub mod Blocked
-pub mod Decoding
+pub mod Ending
 pub mod Jumps
 pub mod Laid
 pub mod Lines
-pub mod Numbers
 pub mod Puts
 pub mod Refused
 pub mod Registers

@@ -4,3 +4,4 @@ pub mod Refusal
 pub mod Rows
 pub mod Simulation
 pub mod Told
+pub mod Outcomes

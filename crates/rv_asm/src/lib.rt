@@ -3,7 +3,9 @@
 
 pub mod assemble;
 pub mod layout;
+pub mod outcome;
 pub mod refusal;
+pub mod run;
 #[cfg(test)]
 mod tests;
 pub mod words;

@@ -1,8 +1,8 @@
 -- The derived equality of registers is that of their values.
-use Rattle.std.proofs.Common.{◌≡◌, ◌↔◌, IsTrue, ℕ, ◌<◌, ◌≤◌, ap, subst, refl, rules, arith}
+use Rattle.std.proofs.Common.{◌≡◌, ◌↔◌, IsTrue, ℕ, ◌<◌, ◌≤◌, ap, subst, rules}
 use Rattle.std.proofs.Math.Bridge.{le_prop}
 use Rattle.rv_base.specs.declared.regs.RegClass.{RegClass}
-use Rattle.rv_base.specs.declared.regs.RegClass.TheVariants.{Int, Float, Vector}
+use Rattle.rv_base.specs.declared.regs.RegClass.TheVariants.{Int}
 use Rattle.rv_base.specs.declared.regs.PReg.{PReg}
 use Rattle.rv_base.specs.declared.regs.VirtualReg.{VirtualReg}
 use Rattle.rv_base.specs.declared.regs.Reg.{Reg}

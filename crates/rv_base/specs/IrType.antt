@@ -1,5 +1,5 @@
 -- Types of values: their widths and names.
-use Rattle.std.specs.Prelude.{ℕ, ◌≡◌, ◌*◌, ◌/◌, Bool, true, false, List, [], ◌∷◌, ◌++◌, codes}
+use Rattle.std.specs.Prelude.{ℕ, ◌≡◌, ◌*◌, Bool, true, false, List, ◌++◌, codes}
 use Rattle.std.specs.Fmt.{decimal}
 use Rattle.rv_base.specs.declared.ir_type.LaneType.{LaneType}
 use Rattle.rv_base.specs.declared.ir_type.LaneType.TheVariants as lane

@@ -1,5 +1,5 @@
 -- How many lanes a vector type may have.
-use Rattle.std.specs.Prelude.{ℕ, Bool, nat_eq, List, [], ◌∷◌}
+use Rattle.std.specs.Prelude.{ℕ, Bool, nat_eq, [], ◌∷◌}
 use Rattle.std.specs.List.{list_any}
 
 -- a power of two from 2 to 256

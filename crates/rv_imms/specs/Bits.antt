@@ -1,5 +1,5 @@
 -- Signed numbers: their bits, the range of so many bits, and their text with a sign.
-use Rattle.std.specs.Prelude.{ℕ, suc, ◌-◌, ◌^◌, ℤ, pos, negsuc, ◌≤ℤ◌, List, ◌∷◌, ◌++◌, codes}
+use Rattle.std.specs.Prelude.{ℕ, suc, ◌-◌, ◌^◌, ℤ, pos, negsuc, ◌≤ℤ◌, List, ◌++◌, codes}
 use Rattle.std.specs.Fmt.{decimal}
 
 -- the low bits of a signed number, modulo a power of 2
