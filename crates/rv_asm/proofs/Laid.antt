@@ -6,13 +6,13 @@ use Rattle.rv_base.specs.declared.label.MachLabel.{MachLabel}
 use Rattle.rv_inst.specs.declared.inst.Line.{Line}
 use Rattle.rv_inst.specs.declared.inst.Line.TheVariants.{Inst as Put, Bind}
 use Rattle.rv_inst.specs.declared.inst.Inst.{Inst}
-use Rattle.rv_inst.specs.declared.inst.Inst.TheVariants.{Ret, Lui, AluRRR, AluRRImm12, Jal, CondBr}
+use Rattle.rv_inst.specs.declared.inst.Inst.TheVariants.{EBreak, Jal, CondBr}
 use Rattle.rv_inst.specs.declared.inst.CondBrTarget.{CondBrTarget}
 use Rattle.rv_inst.specs.declared.inst.CondBrTarget.TheVariants.{Label, Fallthrough}
 use Rattle.rv_inst.specs.declared.job.Job.{Job}
 use Rattle.rv_inst.specs.declared.code.Code.{Code}
 use Rattle.rv_inst.specs.declared.code.LineSpan.{LineSpan}
-use Rattle.rv_inst.specs.Meaning.{Exit, Next, To, Leave, exit_of, inst_exit, target_exit, effect_of}
+use Rattle.rv_inst.specs.Meaning.{Exit, Next, To, Leave, Break, exit_of, inst_exit, target_exit, effect_of}
 use Rattle.rv_inst.specs.Fields.{named_labels, inst_labels, target_labels}
 use Rattle.rv_base.specs.CondCodes.{holds}
 use Rattle.rv_base.specs.Regs.{number_of}
@@ -20,33 +20,16 @@ use Rattle.rv_machine.specs.declared.decode.Decoded.{Decoded}
 use Rattle.rv_machine.specs.Decode.{decode}
 use Rattle.rv_machine.specs.State.{State, Values, AreValues, IsState, Memory, byte, reg, wrap}
 use Rattle.rv_machine.specs.Steps.{fetch}
-use Rattle.rv_asm.specs.Rows.{rows_of, size_of, inst_size}
+use Rattle.rv_asm.specs.Rows.{rows_of, size_of, inst_size, ebreak_row}
 use Rattle.rv_asm.specs.Told.{start_of, end_of}
 use Rattle.rv_asm.specs.Refusal.{is_bound, binds}
-use Rattle.rv_asm.specs.Simulation.{Addresses, IsPlaced, place_of, RunsAsListed}
-use Rattle.rv_asm.specs.Blocks.{HasRows, StandRows, LinesStand, word_at, spans_from, end_from, bound_at, offset_in, IsFine, AllFine, IsLaidOut, Runs, Ends, exit_address}
+use Rattle.rv_asm.specs.Simulation.{place_of, RunsAsListed}
+use Rattle.rv_asm.specs.Blocks.{StandRows, LinesStand, spans_from, end_from, bound_at, offset_in, IsFine, AllFine, IsLaidOut, Runs, Ends, exit_address, standing}
+use Rattle.rv_asm.proofs.Placed.{rows_there}
 use Rattle.rv_asm.proofs.Turns.{line_sized}
 use Rattle.rv_asm.proofs.Steps.{iter_none}
 use Rattle.rv_asm.proofs.Lines.{line_runs}
 use Rattle.rv_asm.proofs.Threads.{Leads, LineLeads, label_place, IsThreaded, threaded_runs}
-
--- ---- the words of placed code
-
-word_there : (code : Code) (base : ℕ) (symbols slots : Addresses) (mem : Memory) (at : ℕ) → IsPlaced code base symbols slots mem → at + 4 ≤ length code.bytes → fetch mem (base + at) ≡ word_at code.bytes at
-word_there code base symbols slots mem at placed long =
-    let room = placed.room in
-    let a1 : wrap (base + at + 1) ≡ base + (at + 1) = omega arith in
-    let a2 : wrap (base + at + 2) ≡ base + (at + 2) = omega arith in
-    let a3 : wrap (base + at + 3) ≡ base + (at + 3) = omega arith in
-    (λ i. placed.there at (omega arith) i + (ap (byte mem) a1 ∙ placed.there (at + 1) (omega arith)) i * 2 ^ 8 + (ap (byte mem) a2 ∙ placed.there (at + 2) (omega arith)) i * 2 ^ 16 + (ap (byte mem) a3 ∙ placed.there (at + 3) (omega arith)) i * 2 ^ 24)
-
-rows_there : (flags : IsaFlags) (code : Code) (base : ℕ) (symbols slots : Addresses) (mem : Memory) (at : ℕ) (ds : List Decoded) → IsPlaced code base symbols slots mem → StandRows flags code.bytes at ds → HasRows flags mem (base + at) ds
-rows_there flags code base symbols slots mem at [] placed h = tt
-rows_there flags code base symbols slots mem at (d ∷ ds) placed h =
-    let moved : base + (at + 4) ≡ base + at + 4 = omega arith in (
-      ap (decode flags) (word_there code base symbols slots mem at placed h.0) ∙ h.1,
-      subst (λ a. HasRows flags mem a ds) moved (rows_there flags code base symbols slots mem (at + 4) ds placed h.2),
-    )
 
 -- ---- where each line stands
 
@@ -114,6 +97,7 @@ abbrev IsBoundExit : List Line → Exit → Type 0
 IsBoundExit lines Next = Unit {0}
 IsBoundExit lines (To label) = is_bound lines label ≡ true
 IsBoundExit lines (Leave a) = Unit {0}
+IsBoundExit lines Break = Unit {0}
 
 either_bound : (c : Bool) (lines : List Line) (p q : Exit) → IsBoundExit lines p → IsBoundExit lines q → IsBoundExit lines (if c then p else q)
 either_bound true lines p q h g = h
@@ -126,22 +110,20 @@ branch_bound lines c (Label t) Fallthrough h = either_bound c lines (To t.number
 branch_bound lines c (Label t) (Label f) h = either_bound c lines (To t.number) (To f.number) h.0 h.1.0
 
 inst_exit_bound : (lines : List Line) (inst : Inst) (v : Values) → AllBound lines (inst_labels inst) → IsBoundExit lines (inst_exit inst v)
-inst_exit_bound lines Ret v h = tt
-inst_exit_bound lines (Lui rd imm) v h = tt
-inst_exit_bound lines (AluRRR op rd rs1 rs2) v h = tt
-inst_exit_bound lines (AluRRImm12 op rd rs imm) v h = tt
 inst_exit_bound lines (Jal label) v h = h.0
 inst_exit_bound lines (CondBr t f kind) v h = branch_bound lines (holds kind.kind (reg v (number_of kind.rs1)) (reg v (number_of kind.rs2))) t f h
+inst_exit_bound lines _ v h = tt
 
 exit_bound : (lines : List Line) (line : Line) (v : Values) → AllBound lines (named_labels line) → IsBoundExit lines (exit_of line v)
 exit_bound lines (Put inst) v h = inst_exit_bound lines inst v h
 exit_bound lines (Bind label) v h = tt
 
 -- the address of an exit, by the offsets of labels and by the lines that bind them
-exit_same : (lines : List Line) (code : Code) (base after : ℕ) (x : Exit) → code.lines ≡ spans_from 0 0 lines → IsBoundExit lines x → exit_address (offset_in lines) base after x ≡ exit_address (label_place lines code) base after x
-exit_same lines code base after Next spans h = refl
-exit_same lines code base after (To label) spans h = ap (λ n. wrap (base + n)) (label_is 0 0 lines label h ∙ ap (λ s. start_of s (place_of lines label)) (sym spans))
-exit_same lines code base after (Leave a) spans h = refl
+exit_same : (lines : List Line) (code : Code) (base start after : ℕ) (x : Exit) → code.lines ≡ spans_from 0 0 lines → IsBoundExit lines x → exit_address (offset_in lines) base start after x ≡ exit_address (label_place lines code) base start after x
+exit_same lines code base start after Next spans h = refl
+exit_same lines code base start after Break spans h = refl
+exit_same lines code base start after (To label) spans h = ap (λ n. wrap (base + n)) (label_is 0 0 lines label h ∙ ap (λ s. start_of s (place_of lines label)) (sym spans))
+exit_same lines code base start after (Leave a) spans h = refl
 
 -- ---- all together
 
@@ -163,7 +145,7 @@ line_leads job code i line spans known bound = record {
       let after = end_of code.lines i in
       let room = placed.room in
       let below = known.below in
-      subst (λ a. Ends job.flags a (effect_of line v) s) (exit_same job.lines code base after (exit_of line v) spans (exit_bound job.lines line v bound))
+      subst (λ a. Ends job.flags a (effect_of (standing base start after) line v) s) (exit_same job.lines code base start after (exit_of line v) spans (exit_bound job.lines line v bound))
       ((line_runs job.flags place start line known.fine).run base after s v (record {
         base_aligned = placed.aligned;
         start_aligned = known.aligned;
@@ -178,7 +160,7 @@ line_leads job code i line spans known bound = record {
 }
 
 -- where one line ends the next begins, so nothing is left to do
-no_gap : (flags : IsaFlags) (code : Code) (at next : ℕ) → at ≡ next → Leads flags code at (λ base v. wrap (base + next)) (λ v. v)
+no_gap : (flags : IsaFlags) (code : Code) (at next : ℕ) → at ≡ next → Leads flags code at (λ base v. wrap (base + next)) (λ base v. v)
 no_gap flags code at next e = record {
   run = λ base symbols slots s v placed pc is_state are_values same. record {
     steps = 0;
@@ -192,6 +174,19 @@ no_gap flags code at next e = record {
   };
 }
 
+-- only a break stays where it stands
+never_breaks : (c : Bool) (t f : CondBrTarget) → (if c then target_exit t else target_exit f) ≡ Break → ⊥
+never_breaks true Fallthrough f e = cc
+never_breaks true (Label t) f e = cc
+never_breaks false t Fallthrough e = cc
+never_breaks false t (Label f) e = cc
+
+halts : (flags : IsaFlags) (place : ℕ → ℕ) (bytes : List ℕ) (start after : ℕ) (line : Line) (v : Values) → IsLine flags place bytes start after line → exit_of line v ≡ Break → StandRows flags bytes start (ebreak_row ∷ [])
+halts flags place bytes start after (Put EBreak) v h e = h.stand
+halts flags place bytes start after (Put (CondBr t f kind)) v h e = absurd (never_breaks (holds kind.kind (reg v (number_of kind.rs1)) (reg v (number_of kind.rs2))) t f e)
+halts flags place bytes start after (Put inst) v h e = absurd (cc)
+halts flags place bytes start after (Bind label) v h e = absurd (cc)
+
 pub laid_threaded : (job : Job) (code : Code) → IsLaidOut job.flags job.lines code → AllFine (offset_in job.lines) 0 job.lines → NamesBound job.lines job.lines → IsThreaded job code
 laid_threaded job code laid fine bound = record {
   line = λ i line e.
@@ -199,6 +194,9 @@ laid_threaded job code laid fine bound = record {
       (subst (λ s. IsLine job.flags (offset_in job.lines) code.bytes (start_of s i) (end_of s i) line) (sym laid.spans)
       (line_is job.flags (offset_in job.lines) code.bytes 0 0 job.lines i line refl (let long = laid.long in omega arith) fine laid.rows e))
       (names_at job.lines job.lines i line bound e);
+  halt = λ i line v e stops. halts job.flags (offset_in job.lines) code.bytes _ _ line v
+      (subst (λ s. IsLine job.flags (offset_in job.lines) code.bytes (start_of s i) (end_of s i) line) (sym laid.spans)
+      (line_is job.flags (offset_in job.lines) code.bytes 0 0 job.lines i line refl (let long = laid.long in omega arith) fine laid.rows e)) stops;
   gap = λ i lt. no_gap job.flags code _ _ (subst (λ s. end_of s i ≡ start_of s (suc i)) (sym laid.spans) (next_is 0 0 job.lines i lt));
   last = λ i e. laid.finish ∙ last_is 0 0 job.lines i e ∙ ap (λ s. end_of s i) (sym laid.spans);
 }

@@ -3,6 +3,7 @@ pub mod Ending
 pub mod Jumps
 pub mod Laid
 pub mod Lines
+pub mod Placed
 pub mod Puts
 pub mod Refused
 pub mod Registers

@@ -7,16 +7,20 @@ use Rattle.rv_base.specs.declared.flags.IsaFlags.{IsaFlags}
 use Rattle.rv_inst.specs.declared.inst.Line.{Line}
 use Rattle.rv_inst.specs.declared.job.Job.{Job}
 use Rattle.rv_inst.specs.declared.code.Code.{Code}
-use Rattle.rv_inst.specs.Meaning.{Exit, Next, To, Leave, exit_of, effect_of}
+use Rattle.rv_inst.specs.Meaning.{Exit, Next, To, Leave, Break, exit_of, effect_of}
 use Rattle.rv_machine.specs.State.{State, IsState, Values, AreValues, byte, wrap}
 use Rattle.rv_asm.specs.Told.{start_of, end_of}
-use Rattle.rv_asm.specs.Simulation.{Same, At, End, Addresses, place_of, point_of, address_of, IsPlaced, Comes, RunsAsListed}
-use Rattle.rv_asm.specs.Blocks.{Ends, exit_address}
+use Rattle.rv_asm.specs.Simulation.{Same, At, End, Addresses, place_of, point_of, address_of, standing_of, IsPlaced, IsStopped, Comes, RunsAsListed}
+use Rattle.rv_machine.specs.Decode.{decode}
+use Rattle.rv_machine.specs.Steps.{fetch}
+use Rattle.rv_asm.specs.Rows.{ebreak_row}
+use Rattle.rv_asm.specs.Blocks.{StandRows, Ends, exit_address}
+use Rattle.rv_asm.proofs.Placed.{word_there}
 use Rattle.rv_asm.proofs.Blocked.{ends_both}
 
 -- under the whole code, placed, the machine comes from an offset to an address, with an effect
-pub record Leads (flags : IsaFlags) (code : Code) (start : ℕ) (address : ℕ → Values → ℕ) (effect : Values → Values) : Type 0 where
-  pub run : (base : ℕ) (symbols slots : Addresses) (s : State) (v : Values) → IsPlaced code base symbols slots s.values.mem → s.pc ≡ wrap (base + start) → IsState s → AreValues v → Same v s.values → Ends flags (address base v) (effect v) s
+pub record Leads (flags : IsaFlags) (code : Code) (start : ℕ) (address : ℕ → Values → ℕ) (effect : ℕ → Values → Values) : Type 0 where
+  pub run : (base : ℕ) (symbols slots : Addresses) (s : State) (v : Values) → IsPlaced code base symbols slots s.values.mem → s.pc ≡ wrap (base + start) → IsState s → AreValues v → Same v s.values → Ends flags (address base v) (effect base v) s
 
 -- where a label of the listing stands
 abbrev pub label_place : List Line → Code → ℕ → ℕ
@@ -24,12 +28,14 @@ label_place lines code label = start_of code.lines (place_of lines label)
 
 abbrev pub LineLeads : Job → Code → ℕ → Line → Type 0
 LineLeads job code i line =
-    Leads job.flags code (start_of code.lines i) (λ base v. exit_address (label_place job.lines code) base (end_of code.lines i) (exit_of line v)) (effect_of line)
+    Leads job.flags code (start_of code.lines i) (λ base v. exit_address (label_place job.lines code) base (start_of code.lines i) (end_of code.lines i) (exit_of line v)) (λ base. effect_of (standing_of code base i) line)
 
--- each line's block leads as the line means, what stands behind it leads to the next one, and the last ends the code
+-- each line's block leads as the line means, what stands behind it leads to the next one, at a break stands ebreak, and
+-- the last line ends the code
 pub record IsThreaded (job : Job) (code : Code) : Type 0 where
   pub line : (i : ℕ) (line : Line) → slice_get job.lines i ≡ Some line → LineLeads job code i line
-  pub gap : (i : ℕ) → suc i < length job.lines → Leads job.flags code (end_of code.lines i) (λ base v. wrap (base + start_of code.lines (suc i))) (λ v. v)
+  pub gap : (i : ℕ) → suc i < length job.lines → Leads job.flags code (end_of code.lines i) (λ base v. wrap (base + start_of code.lines (suc i))) (λ base v. v)
+  pub halt : (i : ℕ) (line : Line) (v : Values) → slice_get job.lines i ≡ Some line → exit_of line v ≡ Break → StandRows job.flags code.bytes (start_of code.lines i) (ebreak_row ∷ [])
   pub last : (i : ℕ) → suc i ≡ length job.lines → code.end ≡ end_of code.lines i
 
 -- a block that wrote no byte left the code where it was placed
@@ -37,9 +43,10 @@ placed_still : (flags : IsaFlags) (code : Code) (base : ℕ) (symbols slots : Ad
 placed_still flags code base symbols slots s address v e placed = subst (λ m. IsPlaced code base symbols slots m) (sym e.kept) placed
 
 -- from where a line is left the machine comes to its point
-reaches : (job : Job) (code : Code) (base : ℕ) (symbols slots : Addresses) (i : ℕ) (x : Exit) (v : Values) (s : State) → IsThreaded job code → i < length job.lines → IsPlaced code base symbols slots s.values.mem → Ends job.flags (exit_address (label_place job.lines code) base (end_of code.lines i) x) v s → Ends job.flags (address_of code base (point_of job.lines i x)) v s
+reaches : (job : Job) (code : Code) (base : ℕ) (symbols slots : Addresses) (i : ℕ) (x : Exit) (v : Values) (s : State) → IsThreaded job code → i < length job.lines → IsPlaced code base symbols slots s.values.mem → Ends job.flags (exit_address (label_place job.lines code) base (start_of code.lines i) (end_of code.lines i) x) v s → Ends job.flags (address_of code base (point_of job.lines i x)) v s
 reaches job code base symbols slots i (To label) v s t lt placed e = e
 reaches job code base symbols slots i (Leave a) v s t lt placed e = e
+reaches job code base symbols slots i Break v s t lt placed e = e
 reaches job code base symbols slots i Next v s t lt placed e = on (nat_lt (suc i) (length job.lines)) refl
   where
     on : (c : Bool) → nat_lt (suc i) (length job.lines) ≡ c → Ends job.flags (address_of code base (if c then At (suc i) else End)) v s
@@ -50,18 +57,37 @@ reaches job code base symbols slots i Next v s t lt placed e = on (nat_lt (suc i
         let most = ltb-false _ _ h in
         subst (λ a. Ends job.flags a v s) (ap (λ n. wrap (base + n)) (sym (t.last i (omega arith)))) e
 
+-- what stands where the line stops
+stops : (job : Job) (code : Code) (base : ℕ) (symbols slots : Addresses) (i : ℕ) (line : Line) (v : Values) (x : Exit) (t : State) → IsThreaded job code → slice_get job.lines i ≡ Some line → exit_of line v ≡ x → IsPlaced code base symbols slots t.values.mem → t.pc ≡ address_of code base (point_of job.lines i x) → IsStopped job.flags (point_of job.lines i x) t
+stops job code base symbols slots i line v Next t threaded e is placed pc = on (nat_lt (suc i) (length job.lines))
+  where
+    on : (c : Bool) → IsStopped job.flags (if c then At (suc i) else End) t
+    on true = tt
+    on false = tt
+stops job code base symbols slots i line v (To label) t threaded e is placed pc = tt
+stops job code base symbols slots i line v (Leave a) t threaded e is placed pc = tt
+stops job code base symbols slots i line v Break t threaded e is placed pc =
+    let start = start_of code.lines i in
+    let stand = threaded.halt i line v e is in
+    let room = placed.room in
+    let long = stand.0 in
+    let here : t.pc ≡ base + start = pc ∙ omega arith in
+    ap (λ a. decode job.flags (fetch t.values.mem a)) here ∙ ap (decode job.flags) (word_there code base symbols slots t.values.mem start placed stand.0) ∙ stand.1
+
 comes : (job : Job) (code : Code) (base : ℕ) (symbols slots : Addresses) (i : ℕ) (line : Line) (s : State) (v : Values) → IsThreaded job code → i < length job.lines → slice_get job.lines i ≡ Some line → IsPlaced code base symbols slots s.values.mem → IsState s → AreValues v → s.pc ≡ address_of code base (At i) → Same v s.values → Comes job code base (At i) v s
 comes job code base symbols slots i line s v t lt e placed is_state are_values pc same =
     let first = (t.line i line e).run base symbols slots s v placed pc is_state are_values same in
-    let ends = reaches job code base symbols slots i (exit_of line v) (effect_of line v) s t lt placed first in
+    let values = effect_of (standing_of code base i) line v in
+    let ends = reaches job code base symbols slots i (exit_of line v) values s t lt placed first in
     record {
       steps = ends.steps;
       point = point_of job.lines i (exit_of line v);
-      values = effect_of line v;
+      values = values;
       state = ends.state;
       line = record { index = i; line = line; at = refl; listed = e; leads = refl; effect = record { regs = λ n h. refl; mem = λ a. refl } };
       ran = ends.ran;
       stands = ends.pc;
+      stopped = stops job code base symbols slots i line v (exit_of line v) ends.state t e refl (placed_still job.flags code base symbols slots s _ values ends placed) ends.pc;
       same = ends.same;
       is_state = ends.is_state;
       are_values = ends.are_values;

@@ -1,6 +1,6 @@
 -- Lines that are not refused are fine, where each begins.
 use Rattle.std.proofs.Common.{◌≡◌, ℕ, suc, ◌+◌, ◌*◌, ◌%◌, ◌^◌, ◌<◌, ◌≤◌, Bool, true, false, List, [], ◌∷◌, ◌++◌, length, Option, Some, None, arith, refl, ap, subst, sym, ◌∙◌}
-use Rattle.std.specs.Prelude.{nat_eq, nat_lt, nat_le, ◌||◌, ◌&&◌, if◌then◌else◌, unwrap_or}
+use Rattle.std.specs.Prelude.{nat_eq, nat_lt, nat_le, ◌||◌, ◌&&◌, ◌==◌, not, if◌then◌else◌, unwrap_or}
 use Rattle.std.specs.List.{list_any}
 use mathlib.Core.Path.{fun_ext}
 use Rattle.std.specs.BTreeMap.{BTreeMap, get}
@@ -10,21 +10,26 @@ use Rattle.std.proofs.lemmas.Bool.Decides.{nat_tests}
 use Rattle.rv_base.specs.declared.label.MachLabel.{MachLabel}
 use Rattle.rv_base.specs.declared.regs.Reg.{Reg}
 use Rattle.rv_base.specs.declared.regs.Reg.TheVariants.{Real, Virtual as AVirtual}
-use Rattle.rv_base.specs.Regs.{number_of}
+use Rattle.rv_base.specs.declared.regs.PReg.{PReg}
+use Rattle.rv_base.specs.declared.regs.RegClass.{RegClass}
+use Rattle.rv_base.specs.declared.regs.RegClass.TheVariants.{Int, Float, Vector}
+use Rattle.rv_base.specs.declared.regs.Writable.{Writable}
+use Rattle.rv_base.specs.declared.ir_type.IrType.{IrType}
+use Rattle.rv_base.specs.Regs.{class_of, number_of}
 use Rattle.rv_inst.specs.declared.inst.Line.{Line}
 use Rattle.rv_inst.specs.declared.inst.Line.TheVariants.{Inst as Put, Bind}
 use Rattle.rv_inst.specs.declared.inst.Inst.{Inst}
-use Rattle.rv_inst.specs.declared.inst.Inst.TheVariants.{Ret, Lui, AluRRR, AluRRImm12, Jal, CondBr}
+use Rattle.rv_inst.specs.declared.inst.Inst.TheVariants.{Lui, Auipc, AluRRR, AluRRImm12, Mov, MovFromPReg, Jal, CondBr, Jalr}
 use Rattle.rv_inst.specs.declared.inst.CondBrTarget.{CondBrTarget}
 use Rattle.rv_inst.specs.declared.inst.CondBrTarget.TheVariants.{Label, Fallthrough}
 use Rattle.rv_inst.specs.declared.error.Rule.{Rule}
 use Rattle.rv_inst.specs.declared.error.Rule.TheVariants as rule
 use Rattle.rv_inst.specs.declared.error.EmitError.{EmitError}
 use Rattle.rv_inst.specs.Fields.{inst_registers, inst_labels, named_labels}
-use Rattle.rv_inst.specs.Rules.{is_int_class, is_virtual, is_other_class, is_reserved, first_of, registers_rule, taken_rule, inst_target_rule, labels_rule, inst_rule, broken_rule}
+use Rattle.rv_inst.specs.Rules.{is_int_class, is_virtual, is_other_class, is_reserved, same_class, is_stack_or_frame, is_misplaced, is_int_type, has_bad_type, is_out_of_range, is_fallthrough, lacks_target, is_inner, first_of, inst_rule, broken_rule}
 use Rattle.rv_asm.specs.Rows.{size_of, inst_size, branch_size}
 use Rattle.rv_asm.specs.Refusal.{is_bound, malformed, broken_from, twice_from, unbound_among, unbound_in, too_large, refusal}
-use Rattle.rv_asm.specs.Blocks.{Reaches, IsFine, IsFineInst, IsFineBranch, AllFine, bound_at, offset_in, place_in, end_from}
+use Rattle.rv_asm.specs.Blocks.{Reaches, IsUsable, IsFine, IsFineInst, IsFineBranch, AllFine, bound_at, offset_in, place_in, end_from}
 use Rattle.rv_asm.proofs.Laid.{AllBound, NamesBound}
 
 none_left : {X : Type 0} (a b : Option X) → first_of a b ≡ None → a ≡ None
@@ -37,9 +42,9 @@ none_right (Some x) b e = absurd (cc)
 
 -- ---- registers
 
-abbrev AreLow : List Reg → Type 0
-AreLow [] = Unit {0}
-AreLow (r ∷ rs) = (number_of r < 30) × AreLow rs
+abbrev AreUsable : List Reg → Type 0
+AreUsable [] = Unit {0}
+AreUsable (r ∷ rs) = IsUsable r × AreUsable rs
 
 or_left : (a b : Bool) → (a || b) ≡ false → a ≡ false
 or_left true b e = e
@@ -52,30 +57,83 @@ or_right false b e = e
 below_30 : (n : ℕ) → nat_le 30 n ≡ false → n < 30
 below_30 n h = grind (arith, nat_tests)
 
--- a register of class Int that isn't reserved
-int_low : (int : Bool) (n : ℕ) → (if int then false else true) ≡ false → (int && nat_le 30 n) ≡ false → n < 30
-int_low true n h g = below_30 n g
-int_low false n h g = absurd (cc)
+-- a real register of class Int that isn't reserved
+int_usable : (class : RegClass) (n : ℕ) → not (is_int_class class) ≡ false → (is_int_class class && nat_le 30 n) ≡ false → (class ≡ Int) × (n < 30)
+int_usable Int n h g = (refl, below_30 n g)
+int_usable Float n h g = absurd (cc)
+int_usable Vector n h g = absurd (cc)
 
-is_low : (r : Reg) → is_other_class r ≡ false → is_reserved r ≡ false → number_of r < 30
-is_low (Real p) h g = int_low (is_int_class p.class) p.number h g
-is_low (AVirtual v) h g = omega arith
+is_usable : (r : Reg) → is_virtual r ≡ false → is_other_class r ≡ false → is_reserved r ≡ false → IsUsable r
+is_usable (Real p) v h g = int_usable p.class p.number h g
+is_usable (AVirtual x) v h g = absurd (cc)
 
-are_low : (rs : List Reg) → list_any is_other_class rs ≡ false → list_any is_reserved rs ≡ false → AreLow rs
-are_low [] h g = tt
-are_low (r ∷ rs) h g =
-    (is_low r (or_left (is_other_class r) _ h) (or_left (is_reserved r) _ g), are_low rs (or_right (is_other_class r) _ h) (or_right (is_reserved r) _ g))
+are_usable : (rs : List Reg) → list_any is_virtual rs ≡ false → list_any is_other_class rs ≡ false → list_any is_reserved rs ≡ false → AreUsable rs
+are_usable [] v h g = tt
+are_usable (r ∷ rs) v h g =
+    (is_usable r (or_left (is_virtual r) _ v) (or_left (is_other_class r) _ h) (or_left (is_reserved r) _ g),
+    are_usable rs (or_right (is_virtual r) _ v) (or_right (is_other_class r) _ h) (or_right (is_reserved r) _ g))
 
-neither : (a b c : Bool) (x y z : Rule) → (if a then Some x else if b then Some y else if c then Some z else None) ≡ None → (b ≡ false) × (c ≡ false)
-neither true b c x y z e = absurd (cc)
-neither false true c x y z e = absurd (cc)
-neither false false true x y z e = absurd (cc)
-neither false false false x y z e = (refl, refl)
+-- what an instruction that breaks no rule doesn't break
+record Keeps (inst : Inst) : Type 0 where
+  real : list_any is_virtual (inst_registers inst) ≡ false
+  placed : is_misplaced inst ≡ false
+  free : list_any is_reserved (inst_registers inst) ≡ false
+  typed : has_bad_type inst ≡ false
+  ranged : is_out_of_range inst ≡ false
+  aimed : lacks_target inst ≡ false
 
-registers_low : (rs : List Reg) → registers_rule rs ≡ None → AreLow rs
-registers_low rs e =
-    let h = neither (list_any is_virtual rs) (list_any is_other_class rs) (list_any is_reserved rs) rule.Virtual rule.Class rule.Reserved e in
-    are_low rs h.0 h.1
+keeps : (inst : Inst) → inst_rule inst ≡ None → Keeps inst
+keeps inst e = from (list_any is_virtual (inst_registers inst)) (is_misplaced inst) (list_any is_reserved (inst_registers inst)) (has_bad_type inst) (is_out_of_range inst) (lacks_target inst) (list_any is_inner (inst_labels inst)) refl refl refl refl refl refl e
+  where
+    from : (a b c d f g h : Bool) → list_any is_virtual (inst_registers inst) ≡ a → is_misplaced inst ≡ b → list_any is_reserved (inst_registers inst) ≡ c → has_bad_type inst ≡ d → is_out_of_range inst ≡ f → lacks_target inst ≡ g → (if a then Some rule.Virtual else if b then Some rule.Class else if c then Some rule.Reserved else if d then Some rule.BadType else if f then Some rule.Range else if g then Some rule.NoTarget else if h then Some rule.Label else None) ≡ None → Keeps inst
+    from true b c d f g h ea eb ec ed ef eg e = absurd (cc)
+    from false true c d f g h ea eb ec ed ef eg e = absurd (cc)
+    from false false true d f g h ea eb ec ed ef eg e = absurd (cc)
+    from false false false true f g h ea eb ec ed ef eg e = absurd (cc)
+    from false false false false true g h ea eb ec ed ef eg e = absurd (cc)
+    from false false false false false true h ea eb ec ed ef eg e = absurd (cc)
+    from false false false false false false h ea eb ec ed ef eg e = record { real = ea; placed = eb; free = ec; typed = ed; ranged = ef; aimed = eg }
+
+-- the registers of a move are usable: both have one class, and that of the source is Int
+class_usable : (r s : RegClass) → not (same_class r s) ≡ false → is_int_class s ≡ true → not (is_int_class r) ≡ false
+class_usable Int Int h g = refl
+class_usable Float Int h g = absurd (cc)
+class_usable Vector Int h g = absurd (cc)
+class_usable r Float h g = absurd (cc)
+class_usable r Vector h g = absurd (cc)
+
+not_and : (a b : Bool) → not (a && b) ≡ false → a ≡ true
+not_and true b e = refl
+not_and false b e = absurd (cc)
+
+not_true : (a : Bool) → a ≡ true → not a ≡ false
+not_true true e = refl
+not_true false e = absurd (cc)
+
+move_usable : (rd : Writable Reg) (rm : Reg) (type : IrType) → Keeps (Mov rd rm type) → IsUsable rd.reg × IsUsable rm
+move_usable rd rm type k =
+    let int = not_and (is_int_class (class_of rm)) (is_int_type type) k.typed in
+    let others = class_usable (class_of rd.reg) (class_of rm) k.placed int in
+    let all = are_usable (rd.reg ∷ rm ∷ []) k.real (both others (not_true (is_int_class (class_of rm)) int)) k.free in
+    (all.0, all.1.0)
+  where
+    both : {a b : Bool} → a ≡ false → b ≡ false → (a || (b || false)) ≡ false
+    both e f = (λ i. e i || (f i || false))
+
+-- sp and fp are integer registers below x30
+sp_or_fp_other : (p : PReg) → not (is_stack_or_frame p) ≡ false → is_other_class (Real p) ≡ false
+sp_or_fp_other p e = from (is_int_class p.class) ((p.number == 2) || (p.number == 8)) e
+  where
+    from : (a b : Bool) → not (a && b) ≡ false → not a ≡ false
+    from true b e = refl
+    from false b e = absurd (cc)
+
+preg_usable : (rd : Writable Reg) (rm : PReg) → Keeps (MovFromPReg rd rm) → IsUsable rd.reg × IsUsable (Real rm)
+preg_usable rd rm k =
+    let first = or_left (is_other_class rd.reg) (not (is_stack_or_frame rm)) k.placed in
+    let second = sp_or_fp_other rm (or_right (is_other_class rd.reg) (not (is_stack_or_frame rm)) k.placed) in
+    let all = are_usable (rd.reg ∷ Real rm ∷ []) k.real (λ i. first i || (second i || false)) k.free in
+    (all.0, all.1.0)
 
 -- ---- offsets
 
@@ -90,24 +148,32 @@ reaches_branch place start label near h e = let b = near.below label in record {
 reaches_jump : (place : ℕ → ℕ) (start label : ℕ) → AreNear place → start ≤ 4004 → start % 4 ≡ 0 → Reaches (2 ^ 20) start (place label)
 reaches_jump place start label near h e = let b = near.below label in record { forward = omega arith; backward = omega arith; start_small = omega arith; to_small = omega arith; start_aligned = e; to_aligned = near.aligned label }
 
-branch_fine : (place : ℕ → ℕ) (start : ℕ) (t f : CondBrTarget) → AreNear place → start ≤ 4000 → start % 4 ≡ 0 → taken_rule t ≡ None → IsFineBranch place start t f
+branch_fine : (place : ℕ → ℕ) (start : ℕ) (t f : CondBrTarget) → AreNear place → start ≤ 4000 → start % 4 ≡ 0 → is_fallthrough t ≡ false → IsFineBranch place start t f
 branch_fine place start Fallthrough f near h e g = absurd (cc)
 branch_fine place start (Label t) Fallthrough near h e g = reaches_branch place start t.number near h e
 branch_fine place start (Label t) (Label f) near h e g = (reaches_branch place start t.number near h e, reaches_jump place (start + 4) f.number near (omega arith) (omega arith))
 
-inst_fine : (place : ℕ → ℕ) (start : ℕ) (inst : Inst) → AreNear place → start ≤ 4000 → start % 4 ≡ 0 → inst_rule inst ≡ None → IsFineInst place start inst
-inst_fine place start Ret near h e g = tt
-inst_fine place start (Lui rd imm) near h e g = (registers_low (rd.reg ∷ []) (none_left _ _ g)).0
-inst_fine place start (AluRRR op rd rs1 rs2) near h e g = let low = registers_low (rd.reg ∷ rs1 ∷ rs2 ∷ []) (none_left _ _ g) in (low.0, low.1.0, low.1.1.0)
-inst_fine place start (AluRRImm12 op rd rs imm) near h e g = let low = registers_low (rd.reg ∷ rs ∷ []) (none_left _ _ g) in (low.0, low.1.0)
-inst_fine place start (Jal label) near h e g = reaches_jump place start label.number near (omega arith) e
-inst_fine place start (CondBr t f kind) near h e g =
-    let low = registers_low (kind.rs1 ∷ kind.rs2 ∷ []) (none_left _ _ g) in
-    (low.0, low.1.0, branch_fine place start t f near h e (none_left _ _ (none_right (registers_rule (inst_registers (CondBr t f kind))) _ g)))
+inst_fine : (place : ℕ → ℕ) (start : ℕ) (inst : Inst) → AreNear place → start ≤ 4000 → start % 4 ≡ 0 → Keeps inst → IsFineInst place start inst
+inst_fine place start (Lui rd imm) near h e k = (are_usable (rd.reg ∷ []) k.real k.placed k.free).0
+inst_fine place start (Auipc rd imm) near h e k = (are_usable (rd.reg ∷ []) k.real k.placed k.free).0
+inst_fine place start (AluRRR op rd rs1 rs2) near h e k = let all = are_usable (rd.reg ∷ rs1 ∷ rs2 ∷ []) k.real k.placed k.free in (all.0, all.1.0, all.1.1.0)
+inst_fine place start (AluRRImm12 op rd rs imm) near h e k = let all = are_usable (rd.reg ∷ rs ∷ []) k.real k.placed k.free in (all.0, all.1.0, k.ranged)
+inst_fine place start (Mov rd rm type) near h e k = move_usable rd rm type k
+inst_fine place start (MovFromPReg rd rm) near h e k = preg_usable rd rm k
+inst_fine place start (Jal label) near h e k = reaches_jump place start label.number near (omega arith) e
+inst_fine place start (CondBr t f kind) near h e k =
+    let all = are_usable (kind.rs1 ∷ kind.rs2 ∷ []) k.real k.placed k.free in
+    (all.0, all.1.0, branch_fine place start t f near h e k.aimed)
+inst_fine place start (Jalr rd base offset) near h e k = let all = are_usable (rd.reg ∷ base ∷ []) k.real k.placed k.free in (all.0, all.1.0)
+inst_fine place start _ near h e k = tt
 
 line_fine : (place : ℕ → ℕ) (start : ℕ) (line : Line) → AreNear place → start ≤ 4000 → start % 4 ≡ 0 → broken_rule line ≡ None → IsFine place start line
-line_fine place start (Put inst) near h e g = inst_fine place start inst near h e g
+line_fine place start (Put inst) near h e g = inst_fine place start inst near h e (keeps inst g)
 line_fine place start (Bind label) near h e g = tt
+
+move_small : (c : Bool) → ((if c then 0 else 4) ≤ 8) × ((if c then 0 else 4) % 4 ≡ 0)
+move_small true = omega arith
+move_small false = omega arith
 
 branch_small : (t f : CondBrTarget) → (branch_size t f ≤ 8) × (branch_size t f % 4 ≡ 0)
 branch_small Fallthrough f = omega arith
@@ -115,12 +181,10 @@ branch_small (Label t) Fallthrough = omega arith
 branch_small (Label t) (Label f) = omega arith
 
 inst_small : (inst : Inst) → (inst_size inst ≤ 8) × (inst_size inst % 4 ≡ 0)
-inst_small Ret = omega arith
-inst_small (Lui rd imm) = omega arith
-inst_small (AluRRR op rd rs1 rs2) = omega arith
-inst_small (AluRRImm12 op rd rs imm) = omega arith
-inst_small (Jal label) = omega arith
+inst_small (Mov rd rm type) = move_small (nat_eq (number_of rd.reg) (number_of rm))
+inst_small (MovFromPReg rd rm) = move_small (nat_eq (number_of rd.reg) rm.number)
 inst_small (CondBr t f kind) = branch_small t f
+inst_small _ = omega arith
 
 line_small : (line : Line) → (size_of line ≤ 8) × (size_of line % 4 ≡ 0)
 line_small (Put inst) = inst_small inst
