@@ -13,7 +13,7 @@ use Rattle.rv_base.specs.Regs.{class_of, stack_pointer, frame_pointer}
 use Rattle.rv_base.specs.Names.{name_of}
 use Rattle.rv_base.specs.Frame.{sp_to_args_end}
 
--- an offset that sums with frames stay clear of 64 bits' ends with
+-- an offset whose sums with a frame's sizes stay within 64 bits
 abbrev pub IsNear : ℤ → Type 0
 IsNear offset = (negsuc (2 ^ 62 - 1) ≤ℤ offset) × (offset ≤ℤ pos (2 ^ 62))
 
