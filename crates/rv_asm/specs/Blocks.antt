@@ -1,7 +1,8 @@
 -- What it is for the rows of one line to run as the line says, and for code to be laid out line by line.
 use Rattle.std.specs.Prelude.{◌≡◌, ℕ, suc, ◌+◌, ◌*◌, ◌%◌, ◌^◌, ◌<◌, ◌≤◌, Bool, true, nat_eq, if◌then◌else◌, List, [], ◌∷◌, ◌++◌, length, slice_index, slice_get, Option, Some, None, unwrap_or}
+use Rattle.std.specs.BTreeMap.{BTreeMap, get}
+use Rattle.std.specs.Ordering.{nat_cmp}
 use Rattle.rv_base.specs.declared.flags.IsaFlags.{IsaFlags}
-use Rattle.rv_base.specs.declared.regs.Reg.{Reg}
 use Rattle.rv_base.specs.Regs.{number_of}
 use Rattle.rv_inst.specs.declared.inst.Line.{Line}
 use Rattle.rv_inst.specs.declared.inst.Line.TheVariants.{Inst as Put, Bind}
@@ -60,9 +61,37 @@ exit_address place base after (Leave a) = a
 pub record Runs (flags : IsaFlags) (place : ℕ → ℕ) (start : ℕ) (line : Line) : Type 0 where
   pub run : (base after : ℕ) (s : State) (v : Values) → Begins flags base start after (rows_of place start line) s v → Ends flags (exit_address place base after (exit_of line v)) (effect_of line v) s
 
--- a real integer register below x30
-pub record IsUsable (r : Reg) : Type 0 where
-  pub low : number_of r < 30
+-- an offset that a distance of so many bits reaches, half of whose range is given
+pub record Reaches (half start to : ℕ) : Type 0 where
+  pub forward : to < start + half
+  pub backward : start ≤ to + half
+  pub start_small : start < 2 ^ 31
+  pub to_small : to < 2 ^ 31
+  pub start_aligned : start % 4 ≡ 0
+  pub to_aligned : to % 4 ≡ 0
+
+-- what the rows of a line ask of it: registers below x30, and targets within reach
+abbrev pub IsFineBranch : (ℕ → ℕ) → ℕ → CondBrTarget → CondBrTarget → Type 0
+IsFineBranch place start Fallthrough not_taken = ⊥
+IsFineBranch place start (Label t) Fallthrough = Reaches (2 ^ 12) start (place t.number)
+IsFineBranch place start (Label t) (Label f) = Reaches (2 ^ 12) start (place t.number) × Reaches (2 ^ 20) (start + 4) (place f.number)
+
+abbrev pub IsFineInst : (ℕ → ℕ) → ℕ → Inst → Type 0
+IsFineInst place start Ret = Unit {0}
+IsFineInst place start (Lui rd imm) = number_of rd.reg < 30
+IsFineInst place start (AluRRR op rd rs1 rs2) = (number_of rd.reg < 30) × (number_of rs1 < 30) × (number_of rs2 < 30)
+IsFineInst place start (AluRRImm12 op rd rs imm) = (number_of rd.reg < 30) × (number_of rs < 30)
+IsFineInst place start (Jal label) = Reaches (2 ^ 20) start (place label.number)
+IsFineInst place start (CondBr taken not_taken kind) = (number_of kind.rs1 < 30) × (number_of kind.rs2 < 30) × IsFineBranch place start taken not_taken
+
+abbrev pub IsFine : (ℕ → ℕ) → ℕ → Line → Type 0
+IsFine place start (Put inst) = IsFineInst place start inst
+IsFine place start (Bind label) = Unit {0}
+
+-- each of these lines, the first of which begins at a start, is fine
+abbrev pub AllFine : (ℕ → ℕ) → ℕ → List Line → Type 0
+AllFine place start [] = Unit {0}
+AllFine place start (line ∷ lines) = IsFine place start line × AllFine place (start + size_of line) lines
 
 -- ---- code
 
@@ -79,6 +108,13 @@ StandRows flags bytes at (d ∷ rows) = (at + 4 ≤ length bytes) × (decode fla
 abbrev pub LinesStand : IsaFlags → (ℕ → ℕ) → List ℕ → ℕ → List Line → Type 0
 LinesStand flags place bytes start [] = Unit {0}
 LinesStand flags place bytes start (line ∷ lines) = StandRows flags bytes start (rows_of place start line) × LinesStand flags place bytes (start + size_of line) lines
+
+-- words that decode to these rows were put behind the bytes that were there
+pub record Puts (old new : List ℕ) (ds : List Decoded) : Type 0 where
+  pub more : List ℕ
+  pub kept : new ≡ old ++ more
+  pub long : length more ≡ 4 * length ds
+  pub stand : (flags : IsaFlags) → StandRows flags new (length old) ds
 
 -- the spans of lines that begin at a start, the first of which has an index
 abbrev pub spans_from : ℕ → ℕ → List Line → List LineSpan
@@ -104,6 +140,10 @@ bound_at start (Put inst ∷ lines) label = bound_at (start + inst_size inst) li
 abbrev pub offset_in : List Line → ℕ → ℕ
 offset_in lines label = unwrap_or (bound_at 0 lines label) 0
 
+-- where a map of offsets by label says that labels stand
+abbrev pub place_in : BTreeMap ℕ ℕ → ℕ → ℕ
+place_in offsets label = unwrap_or (get nat_cmp offsets label) 0
+
 -- the code is that of the lines, one after the other
 pub record IsLaidOut (flags : IsaFlags) (lines : List Line) (code : Code) : Type 0 where
   pub rows : LinesStand flags (offset_in lines) code.bytes 0 lines
@@ -111,3 +151,7 @@ pub record IsLaidOut (flags : IsaFlags) (lines : List Line) (code : Code) : Type
   pub spans : code.lines ≡ spans_from 0 0 lines
   pub labels : code.labels ≡ labels_from 0 lines
   pub finish : code.end ≡ end_from 0 lines
+
+-- bytes with more behind them
+abbrev pub Extends : List ℕ → List ℕ → Type 0
+Extends old new = (more : List ℕ) × (new ≡ old ++ more)

@@ -1,4 +1,4 @@
--- Comparisons of integers: their names, and which holds where another doesn't.
+-- Comparisons of integers: their names, when each holds, and which holds where another doesn't.
 use Rattle.std.specs.Prelude.{ℕ, ◌+◌, ◌%◌, ◌^◌, Bool, not, nat_eq, nat_lt, List, codes}
 use Rattle.rv_base.specs.declared.condcodes.IntCC.{IntCC}
 use Rattle.rv_base.specs.declared.condcodes.IntCC.TheVariants.{Equal, NotEqual, SignedLessThan, SignedGreaterThanOrEqual, SignedGreaterThan, SignedLessThanOrEqual, UnsignedLessThan, UnsignedGreaterThanOrEqual, UnsignedGreaterThan, UnsignedLessThanOrEqual}
@@ -27,11 +27,11 @@ name_of UnsignedGreaterThanOrEqual = codes "uge"
 name_of UnsignedGreaterThan = codes "ugt"
 name_of UnsignedLessThanOrEqual = codes "ule"
 
--- x below y, both read as signed numbers of 64 bits
+-- x is below y, both of 64 bits and read signed
 abbrev pub signed_below : ℕ → ℕ → Bool
 signed_below x y = nat_lt ((x + 2 ^ 63) % 2 ^ 64) ((y + 2 ^ 63) % 2 ^ 64)
 
--- whether a comparison of two numbers of 64 bits holds
+-- the comparison of x with y, both of 64 bits
 abbrev pub holds : IntCC → ℕ → ℕ → Bool
 holds Equal x y = nat_eq x y
 holds NotEqual x y = not (nat_eq x y)

@@ -1,0 +1,36 @@
+-- What it means that a window of bytes is fresh, that it keeps its bits outside the fields of a use, and what a veneer is.
+use Rattle.std.specs.Prelude.{◌≡◌, ℕ, ◌+◌, ◌-◌, ◌%◌, ◌≤◌, List, [], ◌∷◌, length, drop, Bool, false, slice_index, bit_and}
+
+-- from the byte at i on, a window has no bit where the marks have one
+abbrev pub IsFreshFrom : ℕ → List ℕ → List ℕ → Type 0
+IsFreshFrom i [] window = Unit {0}
+IsFreshFrom i (m ∷ marks) window = (bit_and (slice_index window i) m ≡ 0) × IsFreshFrom (i + 1) marks window
+
+-- a window that has no bit where the marks have one
+abbrev pub IsFresh : List ℕ → List ℕ → Type 0
+IsFresh marks window = IsFreshFrom 0 marks window
+
+-- from the byte at i on, two windows have the same bits where the marks have none
+abbrev pub SameOutsideFrom : ℕ → List ℕ → List ℕ → List ℕ → Type 0
+SameOutsideFrom i [] old new = Unit {0}
+SameOutsideFrom i (m ∷ marks) old new = (bit_and (slice_index new i) (255 - m) ≡ bit_and (slice_index old i) (255 - m)) × SameOutsideFrom (i + 1) marks old new
+
+-- two windows with the same bits where the marks have none
+abbrev pub SameOutside : List ℕ → List ℕ → List ℕ → Type 0
+SameOutside marks old new = SameOutsideFrom 0 marks old new
+
+-- the bytes of a veneer, and the place and the kind of the use among them
+pub record Veneer (K : Type 0) : Type 0 where
+  pub bytes : List ℕ
+  pub place : ℕ
+  pub kind : K
+
+-- eight bytes, with a fresh use at an even place that needs no veneer itself and reaches every distance below 2^31 - 4096
+pub record IsVeneer {K : Type 0} (fields : K → List ℕ) (forward backward : K → ℕ) (has_veneer : K → Bool) (v : Veneer K) : Type 0 where
+  pub eight : length v.bytes ≡ 8
+  pub place_even : v.place % 2 ≡ 0
+  pub inside : v.place + length (fields v.kind) ≤ 8
+  pub fresh : IsFresh (fields v.kind) (drop v.place v.bytes)
+  pub final : has_veneer v.kind ≡ false
+  pub far_forward : 2147479551 ≤ forward v.kind
+  pub far_backward : 2147479551 ≤ backward v.kind
