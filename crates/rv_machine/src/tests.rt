@@ -1,6 +1,8 @@
 //! Rows at their edges: the answers were computed from the manual's sentences, by whole numbers, outside this project.
 
+use crate::decode::{Decoded, decode};
 use crate::machine::{IntMachine, Step};
+use crate::ops::{BaseOp, BitOp, MOp, MulOp};
 use rv_base::flags::IsaFlags;
 use rv_base::memory::OutOfMemory;
 use std::test::Fail;
@@ -239,4 +241,44 @@ fn machines_run(rt: HostRuntime) -> Result<(), Fail> {
     machine.set_pc(0xffff_ffff_ffff_fffe);
     assert_eq!(rt; machine.step()?, Step::Stopped);
     Ok(())
+}
+
+/// A word with its row, rd, rs1, rs2 and number; and words without a row.
+#[test]
+fn words_are_decoded(rt: HostRuntime) {
+    for (word, op, rd, rs1, rs2, imm) in [
+        (0x0120000f, MOp::Base(BaseOp::Fence), 0, 0, 0, 18),
+        (0x00100073, MOp::Base(BaseOp::Ebreak), 0, 0, 0, 0),
+        (0x00078037, MOp::Base(BaseOp::Lui), 0, 0, 0, 120),
+        (0xfffff517, MOp::Base(BaseOp::Auipc), 10, 0, 0, -1),
+        (0xffdff0ef, MOp::Base(BaseOp::Jal), 1, 0, 0, -4),
+        (0x00c0006f, MOp::Base(BaseOp::Jal), 0, 0, 0, 12),
+        (0x06450567, MOp::Base(BaseOp::Jalr), 10, 10, 0, 100),
+        (0xfe051ee3, MOp::Base(BaseOp::Bne), 0, 10, 0, -4),
+        (0x78b504e3, MOp::Base(BaseOp::Beq), 0, 10, 11, 3976),
+        (0x80050513, MOp::Base(BaseOp::Addi), 10, 10, 0, -2048),
+        (0x43f55513, MOp::Base(BaseOp::Srai), 10, 10, 0, 63),
+        (0x080545bb, MOp::Bit(BitOp::ZextH), 11, 10, 0, 0),
+        (0x60555593, MOp::Bit(BitOp::Rori), 11, 10, 0, 5),
+        (0x02b55533, MOp::Mul(MulOp::Divu), 10, 10, 11, 0),
+    ] {
+        let row = Decoded {
+            op,
+            rd,
+            rs1,
+            rs2,
+            rs3: 0,
+            imm,
+            rm: 0,
+            vm: false,
+            len: 4,
+        };
+        assert_eq!(rt; decode(IsaFlags::none(), word), Some(row), "{word:x}");
+    }
+    for word in [
+        0, 0x4501, 0xffffffff, 0x00000073, 0x00200073, 0x0200552b, 0x08b545bb, 0x0240559b,
+        0x80000033, 0x00052063,
+    ] {
+        assert_eq!(rt; decode(IsaFlags::none(), word), None, "{word:x}");
+    }
 }
