@@ -4,3 +4,5 @@
 pub mod jumps;
 pub mod layouts;
 pub mod operations;
+#[cfg(test)]
+mod tests;

@@ -68,6 +68,12 @@ base_act Fence d s = at (next_of d s) s.values
 base_act Ebreak d s = s
 base_act op d s = puts d s (base_result op (x_of d s) (y_of d s) (imm_of d))
 
+-- what a row computes of rs1, rs2 and its number
+abbrev pub op_result : MOp → ℕ → ℕ → ℕ → ℕ
+op_result (Base op) x y imm = base_result op x y imm
+op_result (Mul op) x y imm = mul_result op x y
+op_result (Bit op) x y imm = bit_result op x y imm
+
 -- M
 abbrev pub mul_act : MulOp → Decoded → State → State
 mul_act op d s = puts d s (mul_result op (x_of d s) (y_of d s))

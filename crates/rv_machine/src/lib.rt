@@ -11,3 +11,5 @@ pub mod machine;
 pub mod muldiv;
 pub mod ops;
 pub mod rows;
+#[cfg(test)]
+mod tests;

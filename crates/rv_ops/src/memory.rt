@@ -1,5 +1,7 @@
 //! Loads and stores of integer registers.
 
+use rv_base::ir_type::IrType;
+
 /// A load.
 #[derive(Clone, Copy, Debug, PartialEq, Eq)]
 pub enum LoadOP {
@@ -13,8 +15,8 @@ pub enum LoadOP {
 }
 
 impl LoadOP {
-    ghost use Rattle.std.specs.Prelude.{◌≡◌, ◌<◌, ◌^◌, pos};
-    ghost use Rattle.rv_ops.specs.Memory.{load_name, load_size, load_funct3};
+    ghost use Rattle.std.specs.Prelude.{◌≡◌, ◌<◌, ◌^◌, pos, Some, IsSome};
+    ghost use Rattle.rv_ops.specs.Memory.{load_of, load_name, load_size, load_funct3};
 
     /// The mnemonic.
     pub fn op_name(self) -> &'static str
@@ -28,6 +30,19 @@ impl LoadOP {
             LoadOP::Lhu => "lhu",
             LoadOP::Lwu => "lwu",
             LoadOP::Ld => "ld",
+        }
+    }
+
+    /// The load of an integer of 8, 16, 32 or 64 bits, signed where it is narrower than a register.
+    pub fn from_type(ty: IrType) -> LoadOP
+        requires { IsSome (load_of ty) }
+        ensures { load_of ty ≡ Some result }
+    {
+        match ty {
+            IrType::I8 => LoadOP::Lb,
+            IrType::I16 => LoadOP::Lh,
+            IrType::I32 => LoadOP::Lw,
+            _ => LoadOP::Ld,
         }
     }
 
@@ -76,8 +91,8 @@ pub enum StoreOP {
 }
 
 impl StoreOP {
-    ghost use Rattle.std.specs.Prelude.{◌≡◌, ◌<◌, ◌^◌, pos};
-    ghost use Rattle.rv_ops.specs.Memory.{store_name, store_size, store_funct3};
+    ghost use Rattle.std.specs.Prelude.{◌≡◌, ◌<◌, ◌^◌, pos, Some, IsSome};
+    ghost use Rattle.rv_ops.specs.Memory.{store_of, store_name, store_size, store_funct3};
 
     /// The mnemonic.
     pub fn op_name(self) -> &'static str
@@ -88,6 +103,19 @@ impl StoreOP {
             StoreOP::Sh => "sh",
             StoreOP::Sw => "sw",
             StoreOP::Sd => "sd",
+        }
+    }
+
+    /// The store of an integer of 8, 16, 32 or 64 bits.
+    pub fn from_type(ty: IrType) -> StoreOP
+        requires { IsSome (store_of ty) }
+        ensures { store_of ty ≡ Some result }
+    {
+        match ty {
+            IrType::I8 => StoreOP::Sb,
+            IrType::I16 => StoreOP::Sh,
+            IrType::I32 => StoreOP::Sw,
+            _ => StoreOP::Sd,
         }
     }
 
