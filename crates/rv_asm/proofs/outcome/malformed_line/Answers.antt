@@ -1,4 +1,4 @@
-use Rattle.std.proofs.Common.{ℕ, List, [], ◌∷◌, ◌++◌, ◌≡◌, ◌∙◌, ap, sym, append_assoc}
+use Rattle.std.proofs.Common.{ℕ, List, [], ◌∷◌, ◌++◌, ◌≡◌, append_assoc}
 use Rattle.std.specs.Fmt.{decimal}
 use Rattle.rv_asm.proofs.outcome.malformed_line.Goals as goal
 

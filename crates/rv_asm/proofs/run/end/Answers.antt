@@ -1,6 +1,6 @@
 use Rattle.std.proofs.Common.{arith, rules}
 use Rattle.rv_asm.specs.declared.outcome.Outcome.TheVariants as ends
-use Rattle.rv_asm.proofs.Ending.{ended_told, due_read}
+use Rattle.rv_asm.proofs.Ending.{ended_told}
 use Rattle.rv_asm.proofs.run.end.Goals as goal
 
 pub returns-then-words-gt0-clause-ended : goal.returns-then-words-gt0-clause-ended
