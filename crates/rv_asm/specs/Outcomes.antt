@@ -24,6 +24,8 @@ abbrev pub rule_name : Rule → List ℕ
 rule_name rules.Virtual = codes "Virtual"
 rule_name rules.Class = codes "Class"
 rule_name rules.Reserved = codes "Reserved"
+rule_name rules.BadType = codes "BadType"
+rule_name rules.Range = codes "Range"
 rule_name rules.NoTarget = codes "NoTarget"
 rule_name rules.Label = codes "Label"
 

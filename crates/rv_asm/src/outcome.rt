@@ -54,6 +54,8 @@ fn rule_name(rule: Rule) -> &'static str
         Rule::Virtual => "Virtual",
         Rule::Class => "Class",
         Rule::Reserved => "Reserved",
+        Rule::BadType => "BadType",
+        Rule::Range => "Range",
         Rule::NoTarget => "NoTarget",
         Rule::Label => "Label",
     }

@@ -271,6 +271,7 @@ impl Registers {
                     CondBrTarget::Fallthrough => (None, false),
                 }
             }
+            _ => (None, false),
         }
     }
 }

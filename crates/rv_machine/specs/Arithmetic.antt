@@ -1,12 +1,9 @@
 -- Registers of 64 bits, and their low words of 32, as numbers.
-use Rattle.std.specs.Prelude.{ℕ, ◌+◌, ◌/◌, ◌%◌, ◌^◌, nat_lt, Bool, ℤ}
+use Rattle.std.specs.Prelude.{ℕ, ◌/◌, ◌%◌, ◌^◌, ℤ}
 use Rattle.std.specs.Int.{cast_signed, cast_unsigned}
 use mir.Syntax.{w32, w64, w128}
 use Rattle.rv_machine.specs.State.{low64}
-
--- the order of two registers that are read as signed numbers
-abbrev pub signed_below : ℕ → ℕ → Bool
-signed_below x y = nat_lt ((x + 2 ^ 63) % 2 ^ 64) ((y + 2 ^ 63) % 2 ^ 64)
+pub use Rattle.rv_base.specs.CondCodes.{signed_below}
 
 -- a register, read as a signed number
 abbrev pub signed64 : ℕ → ℤ

@@ -3,14 +3,21 @@
 
 use rv_asm::run::run;
 use rv_stream::standard::{StdSink, StdSource};
-use std::alloc::AllocError;
 use std::env;
+use std::io::{self, ErrorKind};
 use std::process::ExitCode;
 
-fn words(rt: &HostRuntime) -> Result<Vec<String>, AllocError> {
+// The words behind the program's name. One that is not UTF-8 stands there as an empty word.
+fn words(rt: &HostRuntime) -> io::Result<Vec<String>> {
     let mut words = Vec::new(rt.alloc());
-    for word in env::args(rt)?.skip(1) {
-        words.push(word)?;
+    match env::args(rt) {
+        Ok(all) => {
+            for word in all.skip(1) {
+                words.push(word)?;
+            }
+        }
+        Err(error) if error.kind() == ErrorKind::InvalidData => words.push(String::new(rt.alloc()))?,
+        Err(error) => return Err(error),
     }
     Ok(words)
 }
