@@ -1,6 +1,11 @@
 //! `rvemit`: reads a listing from standard input, and writes the report of its code to standard output.
 #![tactic(auto)]
 
+ghost use Rattle.std.specs.Prelude.{◌≡◌};
+ghost use Rattle.std.specs.Process.{exit_status};
+ghost use Rattle.rv_asm.specs.Outcomes.{status_of};
+
+use rv_asm::outcome::Outcome;
 use rv_asm::run::run;
 use rv_stream::standard::{StdSink, StdSource};
 use std::env;
@@ -16,10 +21,18 @@ fn words(rt: &HostRuntime) -> io::Result<Vec<String>> {
                 words.push(word)?;
             }
         }
-        Err(error) if error.kind() == ErrorKind::InvalidData => words.push(String::new(rt.alloc()))?,
+        Err(error) if error.kind() == ErrorKind::InvalidData => words.push(String::new(
+            rt.alloc(),
+        ))?,
         Err(error) => return Err(error),
     }
     Ok(words)
+}
+
+fn exit(outcome: &Outcome) -> ExitCode
+    ensures { exit_status result ≡ status_of outcome.now }
+{
+    ExitCode::from(outcome.status())
 }
 
 fn main(rt: HostRuntime) -> ExitCode {
@@ -29,5 +42,5 @@ fn main(rt: HostRuntime) -> ExitCode {
     let mut source = StdSource::new(rt.stdin());
     let mut sink = StdSink::new(rt.stdout());
     let outcome = run(rt.alloc(), &words, &mut source, &mut sink);
-    ExitCode::from(outcome.status())
+    exit(&outcome)
 }
