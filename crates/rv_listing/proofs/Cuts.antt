@@ -1,19 +1,19 @@
--- A text cut at the first LF, and a line at the first space.
+-- A text cut at the first LF, and a word or a line at the first separator.
 use Rattle.std.proofs.Common.{◌≡◌, ◌≢◌, ℕ, suc, ◌+◌, Bool, true, false, cond, not, eqb, List, [], ◌∷◌, take, drop, length, ◌-◌, ◌<◌, ◌≤◌, ltb, Option, Some, None, refl, sym, arith}
 use Rattle.std.specs.List.{position_or_len}
 use Rattle.std.specs.Prelude.{MatchOption}
 use Rattle.std.proofs.lemmas.Bool.{ltb-false}
 use Rattle.std.proofs.lemmas.List.{take_all}
-use Rattle.rv_listing.specs.Tokens.{onto, lines_of, words_of, more, behind}
+use Rattle.rv_listing.specs.Tokens.{onto, lines_of, parts_of, parts_behind, behind}
 
-words_step : (b : Bool) (c : ℕ) (cs : List ℕ) (k : ℕ) → words_of cs ≡ take k cs ∷ more (drop k cs)
-    → cond b ([] ∷ words_of cs) (onto c (words_of cs)) ≡ take (cond (not b) (1 + k) 0) (c ∷ cs) ∷ more (drop (cond (not b) (1 + k) 0) (c ∷ cs))
-words_step true c cs k h = refl
-words_step false c cs k h = let e : 1 + k ≡ suc k = omega arith in rw (e, h) refl
+parts_step : (sep : ℕ) (b : Bool) (c : ℕ) (cs : List ℕ) (k : ℕ) → parts_of sep cs ≡ take k cs ∷ parts_behind sep (drop k cs)
+    → cond b ([] ∷ parts_of sep cs) (onto c (parts_of sep cs)) ≡ take (cond (not b) (1 + k) 0) (c ∷ cs) ∷ parts_behind sep (drop (cond (not b) (1 + k) 0) (c ∷ cs))
+parts_step sep true c cs k h = refl
+parts_step sep false c cs k h = let e : 1 + k ≡ suc k = omega arith in rw (e, h) refl
 
-pub words_cut : (t : List ℕ) → words_of t ≡ take (position_or_len (λ c. eqb c 32) t) t ∷ more (drop (position_or_len (λ c. eqb c 32) t) t)
-words_cut [] = refl
-words_cut (c ∷ cs) = words_step (eqb c 32) c cs (position_or_len (λ c. eqb c 32) cs) (words_cut cs)
+pub parts_cut : (sep : ℕ) (t : List ℕ) → parts_of sep t ≡ take (position_or_len (λ c. eqb c sep) t) t ∷ parts_behind sep (drop (position_or_len (λ c. eqb c sep) t) t)
+parts_cut sep [] = refl
+parts_cut sep (c ∷ cs) = parts_step sep (eqb c sep) c cs (position_or_len (λ c. eqb c sep) cs) (parts_cut sep cs)
 
 lines_step : (b : Bool) (c : ℕ) (cs : List ℕ) (k : ℕ) → lines_of cs ≡ take k cs ∷ lines_of (behind (drop k cs))
     → cond b ([] ∷ lines_of cs) (onto c (lines_of cs)) ≡ take (cond (not b) (1 + k) 0) (c ∷ cs) ∷ lines_of (behind (drop (cond (not b) (1 + k) 0) (c ∷ cs)))

@@ -9,7 +9,7 @@ use Rattle.rv_base.specs.declared.regs.RegClass.TheVariants.{Int}
 use Rattle.rv_base.specs.declared.regs.Reg.TheVariants.{Real, Virtual}
 use Rattle.rv_listing.specs.Tokens.{where_true}
 use Rattle.rv_listing.specs.Registers.{real, virtual_register}
-use Rattle.rv_listing.specs.Forms.{imm12_of, imm20_of}
+use Rattle.rv_listing.specs.Operands.{imm12_of, imm20_of}
 
 where_holds : {A : Type 0} (t : Bool) (f : T t → Option A) (x : Option A) → T t → ((h : T t) → x ≡ f h) → x ≡ where_true t f
 where_holds true f x h same = same tt

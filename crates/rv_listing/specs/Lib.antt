@@ -1,5 +1,10 @@
 pub mod Tokens
 pub mod Registers
+pub mod Fields
+pub mod Operands
+pub mod Operations
+pub mod Types
+pub mod Pairs
 pub mod Forms
 pub mod Reading
 pub mod CodeRanges

@@ -7,8 +7,8 @@ use Rattle.rv_inst.specs.declared.inst.Line.{Line}
 use Rattle.rv_inst.specs.declared.job.Job.{Job}
 use Rattle.rv_listing.specs.Tokens.{◌>>=◌, starts, lines_of, words_of}
 use Rattle.rv_listing.specs.Forms.{line_row}
-use Rattle.rv_listing.specs.declared.reading.LineError.{LineError}
-use Rattle.rv_listing.specs.declared.reading.LineError.TheVariants as bad
+use Rattle.rv_listing.specs.declared.fields.LineError.{LineError}
+use Rattle.rv_listing.specs.declared.fields.LineError.TheVariants as bad
 use Rattle.rv_listing.specs.declared.reading.ReadError.{ReadError}
 use Rattle.rv_listing.specs.declared.reading.ReadError.TheVariants as errors
 

@@ -6,7 +6,7 @@ use Rattle.rv_base.specs.declared.regs.RegClass.{RegClass}
 use Rattle.rv_base.specs.declared.regs.RegClass.TheVariants.{Int, Float, Vector}
 use Rattle.rv_base.specs.declared.regs.Reg.{Reg}
 use Rattle.rv_base.specs.declared.regs.Reg.TheVariants.{Real, Virtual}
-use Rattle.rv_listing.specs.Tokens.{◌>>=◌, where_true, starts, decimal}
+use Rattle.rv_listing.specs.Tokens.{◌>>=◌, where_true, or_else, starts, decimal}
 
 -- a register of the machine; each class has 32
 unfoldable pub real : RegClass → ℕ → Option Reg
@@ -63,10 +63,6 @@ lettered w =
     if starts 102 w then float (drop 1 w) else
     if starts 118 w then (decimal (drop 1 w) >>= real Vector) else
     if starts 37 w then (decimal (drop 1 w) >>= virtual_register) else None
-
-abbrev pub or_else : {A : Type 0} → Option A → Option A → Option A
-or_else (Some x) other = Some x
-or_else None other = other
 
 unfoldable pub register : List ℕ → Option Reg
 register w = or_else (named w) (lettered w)

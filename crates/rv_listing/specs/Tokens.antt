@@ -6,6 +6,10 @@ abbrev pub ◌>>=◌ : {A B : Type 0} → Option A → (A → Option B) → Opti
 (Some x) >>= f = f x
 None >>= f = None
 
+abbrev pub or_else : {A : Type 0} → Option A → Option A → Option A
+or_else (Some x) other = Some x
+or_else None other = other
+
 -- what stands where a test holds, given that it holds
 abbrev pub where_true : {A : Type 0} (t : Bool) → (T t → Option A) → Option A
 where_true true f = f tt
@@ -21,15 +25,28 @@ abbrev pub lines_of : List ℕ → List (List ℕ)
 lines_of [] = []
 lines_of (c ∷ cs) = if c == 10 then [] ∷ lines_of cs else onto c (lines_of cs)
 
--- A word goes up to a space or the end, so two spaces in a row have an empty word between them.
+-- A part goes up to a separator or the end, so two separators in a row have an empty part between them.
+abbrev pub parts_of : ℕ → List ℕ → List (List ℕ)
+parts_of separator [] = [] ∷ []
+parts_of separator (c ∷ cs) = if c == separator then [] ∷ parts_of separator cs else onto c (parts_of separator cs)
+
+-- the parts behind a separator, or none at the end
+abbrev pub parts_behind : ℕ → List ℕ → List (List ℕ)
+parts_behind separator [] = []
+parts_behind separator (c ∷ cs) = parts_of separator cs
+
+-- the words of a line, each a space apart
 abbrev pub words_of : List ℕ → List (List ℕ)
-words_of [] = [] ∷ []
-words_of (c ∷ cs) = if c == 32 then [] ∷ words_of cs else onto c (words_of cs)
+words_of = parts_of 32
 
 -- the words behind a space, or none at the end of the line
 abbrev pub more : List ℕ → List (List ℕ)
-more [] = []
-more (c ∷ cs) = words_of cs
+more = parts_behind 32
+
+-- both parts, where there are two
+abbrev pub two : List (List ℕ) → Option (List ℕ × List ℕ)
+two (a ∷ b ∷ []) = Some (a, b)
+two _ = None
 
 -- what is behind an LF, or nothing at the end of the text
 abbrev pub behind : List ℕ → List ℕ

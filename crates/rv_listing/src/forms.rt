@@ -1,211 +1,102 @@
 //! The forms of lines: a row for each kind, its name and a token for each field.
 
-ghost use Rattle.std.specs.Prelude.{◌≡◌, ℕ, List, Option};
+ghost use Rattle.std.specs.Prelude.{◌≡◌};
 ghost use Rattle.rv_listing.specs.Tokens.{more};
-ghost use Rattle.rv_listing.specs.Registers.{register};
-ghost use Rattle.rv_listing.specs.Forms.{writable, imm12_of, imm12, imm20_of, imm20, label, target, cond_code, alu_rri, alu_rrr, field, no_more, Takes, alu_rr_imm12_row, alu_rrr_row, lui_row, ret_row, cond_br_row, jal_row, bind_row, inst_row, line_row};
+ghost use Rattle.rv_listing.specs.Fields.{Makes, TakesFirst, field};
+ghost use Rattle.rv_listing.specs.Pairs.{listed};
+ghost use Rattle.rv_listing.specs.Forms.{args_row, rets_row, nop0_row, nop4_row, ebreak_row, sequence_point_row, dummy_use_row, lui_row, auipc_row, alu_rrr_row, alu_rr_imm12_row, mov_row, mov_from_preg_row, ret_row, jal_row, cond_br_row, jalr_row, bind_row, marks_row, plain_row, control_row, flat_row, inst_row, line_row};
 
-use crate::registers::register;
-use crate::tokens::{decimal, next_word, signed, starts, tail};
-use rv_base::condcodes::IntCC;
-use rv_base::label::MachLabel;
-use rv_base::regs::{Reg, Writable};
-use rv_imms::imm12::Imm12;
-use rv_imms::imm20::Imm20;
-use rv_inst::inst::{CondBrTarget, Inst, Line};
-use rv_ops::alu::{AluOPRRI, AluOPRRR};
+use crate::fields::{LineError, Token, allowed, field, whole};
+use crate::pairs::listed;
+use crate::tokens::next_word;
+use rv_base::list::List;
+use rv_inst::inst::{Inst, Line};
 use rv_ops::compare::IntegerCompare;
+use std::alloc::Global;
 
-/// What one word of a line stands for.
-pub trait Token: Copy {
-    ghost reads: { List ℕ → Option Self };
+// ---- those that compute nothing
 
-    fn read(w: &[u8]) -> Option<Self>
-        ensures { result ≡ reads w.now };
-}
-
-impl Token for Reg {
-    ghost reads = { register };
-
-    fn read(w: &[u8]) -> Option<Reg> {
-        register(w)
-    }
-}
-
-impl Token for Writable<Reg> {
-    ghost reads = { writable };
-
-    #[tactic(auto, unfolding(crate::specs::Forms::writable))]
-    fn read(w: &[u8]) -> Option<Writable<Reg>> {
-        Some(Writable { reg: register(w)? })
-    }
-}
-
-#[tactic(auto, unfolding(crate::specs::Forms::imm12_of))]
-fn imm12_of(n: i128) -> Option<Imm12>
-    ensures { result ≡ imm12_of n }
+#[tactic(auto, unfolding(crate::specs::Forms::nop0_row))]
+fn nop0(rest: &[u8]) -> Option<Inst>
+    ensures { result ≡ nop0_row (more rest.now) }
 {
-    if n < -2048 {
-        None
-    } else if n <= 2047 {
-        Some(Imm12 { value: n as i16 })
-    } else {
-        None
-    }
+    whole(Inst::Nop0, rest)
 }
 
-impl Token for Imm12 {
-    ghost reads = { imm12 };
-
-    #[tactic(auto, unfolding(crate::specs::Forms::imm12))]
-    fn read(w: &[u8]) -> Option<Imm12> {
-        imm12_of(signed(w)?)
-    }
-}
-
-#[tactic(auto, unfolding(crate::specs::Forms::imm20_of))]
-fn imm20_of(n: i128) -> Option<Imm20>
-    ensures { result ≡ imm20_of n }
+#[tactic(auto, unfolding(crate::specs::Forms::nop4_row))]
+fn nop4(rest: &[u8]) -> Option<Inst>
+    ensures { result ≡ nop4_row (more rest.now) }
 {
-    if n < -524288 {
-        None
-    } else if n <= 524287 {
-        Some(Imm20 { value: n as i32 })
-    } else {
-        None
-    }
+    whole(Inst::Nop4, rest)
 }
 
-impl Token for Imm20 {
-    ghost reads = { imm20 };
-
-    #[tactic(auto, unfolding(crate::specs::Forms::imm20))]
-    fn read(w: &[u8]) -> Option<Imm20> {
-        imm20_of(signed(w)?)
-    }
-}
-
-impl Token for MachLabel {
-    ghost reads = { label };
-
-    #[tactic(auto, unfolding(crate::specs::Forms::label))]
-    fn read(w: &[u8]) -> Option<MachLabel> {
-        if !starts(b'L', w) {
-            return None;
-        }
-        let n = decimal(tail(w))?;
-        if n < 0x1_0000_0000 {
-            Some(MachLabel { number: n as u32 })
-        } else {
-            None
-        }
-    }
-}
-
-impl Token for CondBrTarget {
-    ghost reads = { target };
-
-    #[tactic(auto, unfolding(crate::specs::Forms::target))]
-    fn read(w: &[u8]) -> Option<CondBrTarget> {
-        if w == b"-".as_slice() {
-            return Some(CondBrTarget::Fallthrough);
-        }
-        Some(CondBrTarget::Label(MachLabel::read(w)?))
-    }
-}
-
-impl Token for IntCC {
-    ghost reads = { cond_code };
-
-    #[tactic(auto, unfolding(crate::specs::Forms::cond_code))]
-    fn read(w: &[u8]) -> Option<IntCC> {
-        if w == b"eq".as_slice() {
-            Some(IntCC::Equal)
-        } else if w == b"ne".as_slice() {
-            Some(IntCC::NotEqual)
-        } else if w == b"slt".as_slice() {
-            Some(IntCC::SignedLessThan)
-        } else if w == b"sge".as_slice() {
-            Some(IntCC::SignedGreaterThanOrEqual)
-        } else if w == b"sgt".as_slice() {
-            Some(IntCC::SignedGreaterThan)
-        } else if w == b"sle".as_slice() {
-            Some(IntCC::SignedLessThanOrEqual)
-        } else if w == b"ult".as_slice() {
-            Some(IntCC::UnsignedLessThan)
-        } else if w == b"uge".as_slice() {
-            Some(IntCC::UnsignedGreaterThanOrEqual)
-        } else if w == b"ugt".as_slice() {
-            Some(IntCC::UnsignedGreaterThan)
-        } else if w == b"ule".as_slice() {
-            Some(IntCC::UnsignedLessThanOrEqual)
-        } else {
-            None
-        }
-    }
-}
-
-impl Token for AluOPRRI {
-    ghost reads = { alu_rri };
-
-    #[tactic(auto, unfolding(crate::specs::Forms::alu_rri))]
-    fn read(w: &[u8]) -> Option<AluOPRRI> {
-        if w == b"addi".as_slice() {
-            Some(AluOPRRI::Addi)
-        } else {
-            None
-        }
-    }
-}
-
-impl Token for AluOPRRR {
-    ghost reads = { alu_rrr };
-
-    #[tactic(auto, unfolding(crate::specs::Forms::alu_rrr))]
-    fn read(w: &[u8]) -> Option<AluOPRRR> {
-        if w == b"add".as_slice() {
-            Some(AluOPRRR::Add)
-        } else {
-            None
-        }
-    }
-}
-
-// The next word, as a token.
-fn field<T: Token>(rest: &[u8]) -> Option<(T, &[u8])>
-    ensures { Takes result (field T.reads (more rest.now)) }
+#[tactic(auto, unfolding(crate::specs::Forms::ebreak_row))]
+fn ebreak(rest: &[u8]) -> Option<Inst>
+    ensures { result ≡ ebreak_row (more rest.now) }
 {
-    let (w, rest) = next_word(rest)?;
-    let x = T::read(w)?;
-    Some((x, rest))
+    whole(Inst::EBreak, rest)
 }
 
-fn whole<T: Drop>(made: T, rest: &[u8]) -> Option<T>
-    ensures { result ≡ no_more (made, more rest.now) }
+#[tactic(auto, unfolding(crate::specs::Forms::sequence_point_row))]
+fn sequence_point(rest: &[u8]) -> Option<Inst>
+    ensures { result ≡ sequence_point_row (more rest.now) }
 {
-    match next_word(rest) {
-        None => Some(made),
-        Some(_) => None,
-    }
+    whole(Inst::SequencePoint, rest)
 }
 
-#[tactic(auto, unfolding(crate::specs::Forms::alu_rr_imm12_row))]
-fn alu_rr_imm12(rest: &[u8]) -> Option<Inst>
-    ensures { result ≡ alu_rr_imm12_row (more rest.now) }
+#[tactic(auto, unfolding(crate::specs::Forms::dummy_use_row))]
+fn dummy_use(rest: &[u8]) -> Option<Inst>
+    ensures { result ≡ dummy_use_row (more rest.now) }
 {
-    let (alu_op, rest) = field(rest)?;
+    let (reg, rest) = field(rest)?;
+    whole(Inst::DummyUse { reg }, rest)
+}
+
+// The next word, as a list of tokens.
+fn listed_field<T: Token + Drop>(alloc: Global, rest: &[u8]) -> Result<(List<T>, &[u8]), LineError>
+    ensures { TakesFirst result (field (listed T.reads) (more rest.now)) }
+{
+    let Some((w, rest)) = next_word(rest) else {
+        return Err(LineError::NotAllowed);
+    };
+    let made = listed(alloc, w)?;
+    Ok((made, rest))
+}
+
+#[tactic(auto, unfolding(crate::specs::Forms::args_row))]
+fn args(alloc: Global, rest: &[u8]) -> Result<Inst, LineError>
+    ensures { Makes result (args_row (more rest.now)) }
+{
+    let (args, rest) = listed_field(alloc, rest)?;
+    allowed(whole(Inst::Args { args }, rest))
+}
+
+#[tactic(auto, unfolding(crate::specs::Forms::rets_row))]
+fn rets(alloc: Global, rest: &[u8]) -> Result<Inst, LineError>
+    ensures { Makes result (rets_row (more rest.now)) }
+{
+    let (rets, rest) = listed_field(alloc, rest)?;
+    allowed(whole(Inst::Rets { rets }, rest))
+}
+
+// ---- those that write registers, and go on
+
+#[tactic(auto, unfolding(crate::specs::Forms::lui_row))]
+fn lui(rest: &[u8]) -> Option<Inst>
+    ensures { result ≡ lui_row (more rest.now) }
+{
     let (rd, rest) = field(rest)?;
-    let (rs, rest) = field(rest)?;
-    let (imm12, rest) = field(rest)?;
-    whole(
-        Inst::AluRRImm12 {
-            alu_op,
-            rd,
-            rs,
-            imm12,
-        },
-        rest,
-    )
+    let (imm, rest) = field(rest)?;
+    whole(Inst::Lui { rd, imm }, rest)
+}
+
+#[tactic(auto, unfolding(crate::specs::Forms::auipc_row))]
+fn auipc(rest: &[u8]) -> Option<Inst>
+    ensures { result ≡ auipc_row (more rest.now) }
+{
+    let (rd, rest) = field(rest)?;
+    let (imm, rest) = field(rest)?;
+    whole(Inst::Auipc { rd, imm }, rest)
 }
 
 #[tactic(auto, unfolding(crate::specs::Forms::alu_rrr_row))]
@@ -227,14 +118,45 @@ fn alu_rrr(rest: &[u8]) -> Option<Inst>
     )
 }
 
-#[tactic(auto, unfolding(crate::specs::Forms::lui_row))]
-fn lui(rest: &[u8]) -> Option<Inst>
-    ensures { result ≡ lui_row (more rest.now) }
+#[tactic(auto, unfolding(crate::specs::Forms::alu_rr_imm12_row))]
+fn alu_rr_imm12(rest: &[u8]) -> Option<Inst>
+    ensures { result ≡ alu_rr_imm12_row (more rest.now) }
+{
+    let (alu_op, rest) = field(rest)?;
+    let (rd, rest) = field(rest)?;
+    let (rs, rest) = field(rest)?;
+    let (imm12, rest) = field(rest)?;
+    whole(
+        Inst::AluRRImm12 {
+            alu_op,
+            rd,
+            rs,
+            imm12,
+        },
+        rest,
+    )
+}
+
+#[tactic(auto, unfolding(crate::specs::Forms::mov_row))]
+fn mov(rest: &[u8]) -> Option<Inst>
+    ensures { result ≡ mov_row (more rest.now) }
 {
     let (rd, rest) = field(rest)?;
-    let (imm, rest) = field(rest)?;
-    whole(Inst::Lui { rd, imm }, rest)
+    let (rm, rest) = field(rest)?;
+    let (ty, rest) = field(rest)?;
+    whole(Inst::Mov { rd, rm, ty }, rest)
 }
+
+#[tactic(auto, unfolding(crate::specs::Forms::mov_from_preg_row))]
+fn mov_from_preg(rest: &[u8]) -> Option<Inst>
+    ensures { result ≡ mov_from_preg_row (more rest.now) }
+{
+    let (rd, rest) = field(rest)?;
+    let (rm, rest) = field(rest)?;
+    whole(Inst::MovFromPReg { rd, rm }, rest)
+}
+
+// ---- those that go elsewhere
 
 #[tactic(auto, unfolding(crate::specs::Forms::ret_row))]
 fn ret(rest: &[u8]) -> Option<Inst>
@@ -270,6 +192,18 @@ fn jal(rest: &[u8]) -> Option<Inst>
     whole(Inst::Jal { label }, rest)
 }
 
+#[tactic(auto, unfolding(crate::specs::Forms::jalr_row))]
+fn jalr(rest: &[u8]) -> Option<Inst>
+    ensures { result ≡ jalr_row (more rest.now) }
+{
+    let (rd, rest) = field(rest)?;
+    let (base, rest) = field(rest)?;
+    let (offset, rest) = field(rest)?;
+    whole(Inst::Jalr { rd, base, offset }, rest)
+}
+
+// ---- lines
+
 #[tactic(auto, unfolding(crate::specs::Forms::bind_row))]
 fn bind(rest: &[u8]) -> Option<Line>
     ensures { result ≡ bind_row (more rest.now) }
@@ -278,34 +212,100 @@ fn bind(rest: &[u8]) -> Option<Line>
     whole(Line::Bind(label), rest)
 }
 
-#[tactic(auto, unfolding(crate::specs::Forms::inst_row))]
-fn inst(name: &[u8], rest: &[u8]) -> Option<Inst>
-    ensures { result ≡ inst_row name.now (more rest.now) }
+// Those that compute nothing, save the lists.
+#[tactic(auto, unfolding(crate::specs::Forms::marks_row))]
+fn marks(name: &[u8], rest: &[u8]) -> Option<Inst>
+    ensures { result ≡ marks_row name.now (more rest.now) }
 {
-    if name == b"AluRRImm12".as_slice() {
-        alu_rr_imm12(rest)
-    } else if name == b"AluRRR".as_slice() {
-        alu_rrr(rest)
-    } else if name == b"Lui".as_slice() {
-        lui(rest)
-    } else if name == b"Ret".as_slice() {
-        ret(rest)
-    } else if name == b"CondBr".as_slice() {
-        cond_br(rest)
-    } else if name == b"Jal".as_slice() {
-        jal(rest)
+    if name == b"Nop0".as_slice() {
+        nop0(rest)
+    } else if name == b"Nop4".as_slice() {
+        nop4(rest)
+    } else if name == b"EBreak".as_slice() {
+        ebreak(rest)
+    } else if name == b"SequencePoint".as_slice() {
+        sequence_point(rest)
+    } else if name == b"DummyUse".as_slice() {
+        dummy_use(rest)
     } else {
         None
     }
 }
 
+// Those that write registers, and go on.
+#[tactic(auto, unfolding(crate::specs::Forms::plain_row))]
+fn plain(name: &[u8], rest: &[u8]) -> Option<Inst>
+    ensures { result ≡ plain_row name.now (more rest.now) }
+{
+    if name == b"Lui".as_slice() {
+        lui(rest)
+    } else if name == b"Auipc".as_slice() {
+        auipc(rest)
+    } else if name == b"AluRRR".as_slice() {
+        alu_rrr(rest)
+    } else if name == b"AluRRImm12".as_slice() {
+        alu_rr_imm12(rest)
+    } else if name == b"Mov".as_slice() {
+        mov(rest)
+    } else if name == b"MovFromPReg".as_slice() {
+        mov_from_preg(rest)
+    } else {
+        None
+    }
+}
+
+// Those that go elsewhere.
+#[tactic(auto, unfolding(crate::specs::Forms::control_row))]
+fn control(name: &[u8], rest: &[u8]) -> Option<Inst>
+    ensures { result ≡ control_row name.now (more rest.now) }
+{
+    if name == b"Ret".as_slice() {
+        ret(rest)
+    } else if name == b"Jal".as_slice() {
+        jal(rest)
+    } else if name == b"CondBr".as_slice() {
+        cond_br(rest)
+    } else if name == b"Jalr".as_slice() {
+        jalr(rest)
+    } else {
+        None
+    }
+}
+
+// Those that have no list.
+#[tactic(auto, unfolding(crate::specs::Forms::flat_row))]
+fn flat(name: &[u8], rest: &[u8]) -> Option<Inst>
+    ensures { result ≡ flat_row name.now (more rest.now) }
+{
+    match marks(name, rest) {
+        Some(inst) => Some(inst),
+        None => match plain(name, rest) {
+            Some(inst) => Some(inst),
+            None => control(name, rest),
+        },
+    }
+}
+
+#[tactic(auto, unfolding(crate::specs::Forms::inst_row))]
+fn inst(alloc: Global, name: &[u8], rest: &[u8]) -> Result<Inst, LineError>
+    ensures { Makes result (inst_row name.now (more rest.now)) }
+{
+    if name == b"Args".as_slice() {
+        args(alloc, rest)
+    } else if name == b"Rets".as_slice() {
+        rets(alloc, rest)
+    } else {
+        allowed(flat(name, rest))
+    }
+}
+
 /// The line of this name, with these fields behind the name.
 #[tactic(auto, unfolding(crate::specs::Forms::line_row))]
-pub fn line(name: &[u8], rest: &[u8]) -> Option<Line>
-    ensures { result ≡ line_row name.now (more rest.now) }
+pub fn line(alloc: Global, name: &[u8], rest: &[u8]) -> Result<Line, LineError>
+    ensures { Makes result (line_row name.now (more rest.now)) }
 {
     if name == b"Bind".as_slice() {
-        return bind(rest);
+        return allowed(bind(rest));
     }
-    Some(Line::Inst(inst(name, rest)?))
+    Ok(Line::Inst(inst(alloc, name, rest)?))
 }

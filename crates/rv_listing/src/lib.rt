@@ -1,10 +1,15 @@
 //! Listings read to jobs, and codes told in reports.
 #![tactic(auto)]
 
+pub mod fields;
 pub mod forms;
+mod operands;
+mod operations;
+mod pairs;
 pub mod reading;
 pub mod registers;
 pub mod report;
 #[cfg(test)]
 mod tests;
 pub mod tokens;
+mod types;

@@ -6,6 +6,7 @@ ghost use Rattle.rv_listing.specs.Forms.{line_row};
 ghost use Rattle.std.specs.List.{list_all};
 ghost use Rattle.rv_listing.specs.Reading.{no_job, is_plain, by_words, with_line, reading, TakesLine, reads, Reads, IsBadLine, IsPlain};
 
+use crate::fields::LineError;
 use crate::forms;
 use crate::tokens::{first_word, next_line};
 use rv_base::flags::IsaFlags;
@@ -19,13 +20,6 @@ use std::alloc::Global;
 pub enum ReadError {
     /// The first line, counted from 1, that isn't of a form allowed there.
     Syntax { line: usize },
-    OutOfMemory,
-}
-
-// Why a line isn't taken.
-#[derive(Clone, Copy)]
-enum LineError {
-    NotAllowed,
     OutOfMemory,
 }
 
@@ -47,7 +41,7 @@ fn is_comment(line: &[u8]) -> bool
 }
 
 #[tactic(auto, unfolding(crate::specs::Reading::with_line))]
-fn take_line(job: &mut Job, line: &[u8]) -> Result<(), LineError>
+fn take_line(alloc: Global, job: &mut Job, line: &[u8]) -> Result<(), LineError>
     ensures { TakesLine job.old job.new line.now result }
 {
     if line.is_empty() {
@@ -61,12 +55,10 @@ fn take_line(job: &mut Job, line: &[u8]) -> Result<(), LineError>
         };
     }
     let (name, rest) = first_word(line);
-    match forms::line(name, rest) {
-        None => Err(LineError::NotAllowed),
-        Some(line) => match job.lines.push(line) {
-            Ok(()) => Ok(()),
-            Err(_) => Err(LineError::OutOfMemory),
-        },
+    let line = forms::line(alloc, name, rest)?;
+    match job.lines.push(line) {
+        Ok(()) => Ok(()),
+        Err(_) => Err(LineError::OutOfMemory),
     }
 }
 
@@ -77,7 +69,7 @@ fn read_lines(alloc: Global, text: &[u8]) -> Result<Job, ReadError>
     let mut rest = text;
     let mut number = 1;
     while let Some((line, after)) = next_line(rest) {
-        match take_line(&mut job, line) {
+        match take_line(alloc, &mut job, line) {
             Ok(()) => {}
             Err(LineError::NotAllowed) => return Err(ReadError::Syntax { line: number }),
             Err(LineError::OutOfMemory) => return Err(ReadError::OutOfMemory),

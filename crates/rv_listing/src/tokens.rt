@@ -2,7 +2,7 @@
 
 ghost use Rattle.std.specs.Prelude.{◌≡◌, ℕ, ◌+◌, ◌-◌, ◌*◌, ◌<◌, ◌≤◌, ◌^◌, ◌==◌, IsTrue, drop, length, List, [], ◌∷◌, MatchOption, OnSome, IfSome, Some, None};
 ghost use Rattle.std.specs.List.{position_or_len, position};
-ghost use Rattle.rv_listing.specs.Tokens.{words_of, lines_of, more, behind, below, digit, digits_after, digits, starts, decimal, natural, signed};
+ghost use Rattle.rv_listing.specs.Tokens.{parts_of, parts_behind, words_of, lines_of, more, behind, two, below, digit, digits_after, digits, starts, decimal, natural, signed};
 
 // Where the byte first stands.
 fn find(byte: u8, text: &[u8]) -> Option<usize>
@@ -37,22 +37,48 @@ pub fn next_line(text: &[u8]) -> Option<(&[u8], &[u8])>
     }
 }
 
+/// The first part of a word or a line, and what is behind it, with its separator.
+pub fn first_part(separator: u8, w: &[u8]) -> (&[u8], &[u8])
+    ensures part { parts_of separator w.now ≡ result.0.now ∷ parts_behind separator result.1.now }
+    ensures no_longer { length result.1.now ≤ length w.now }
+{
+    w.split_at(place_of(separator, w))
+}
+
+/// The next part, and what is behind it.
+pub fn next_part(separator: u8, rest: &[u8]) -> Option<(&[u8], &[u8])>
+    ensures part { MatchOption result (parts_behind separator rest.now ≡ []) (λ p. parts_behind separator rest.now ≡ p.0.now ∷ parts_behind separator p.1.now) }
+    ensures shorter { IfSome result (λ p. length p.1.now < length rest.now) }
+{
+    match rest {
+        [] => None,
+        [_, rest @ ..] => Some(first_part(separator, rest)),
+    }
+}
+
 /// The first word of a line, and what is behind it, with its space.
 pub fn first_word(line: &[u8]) -> (&[u8], &[u8])
     ensures word { words_of line.now ≡ result.0.now ∷ more result.1.now }
-    ensures no_longer { length result.1.now ≤ length line.now }
 {
-    line.split_at(place_of(b' ', line))
+    first_part(b' ', line)
 }
 
 /// The next word, and what is behind it.
 pub fn next_word(rest: &[u8]) -> Option<(&[u8], &[u8])>
     ensures word { MatchOption result (more rest.now ≡ []) (λ p. more rest.now ≡ p.0.now ∷ more p.1.now) }
-    ensures shorter { IfSome result (λ p. length p.1.now < length rest.now) }
 {
-    match rest {
-        [] => None,
-        [_, rest @ ..] => Some(first_word(rest)),
+    next_part(b' ', rest)
+}
+
+/// The two parts around the only separator.
+pub fn two_parts(separator: u8, w: &[u8]) -> Option<(&[u8], &[u8])>
+    ensures { MatchOption result (two (parts_of separator w.now) ≡ None) (λ p. two (parts_of separator w.now) ≡ Some (p.0.now, p.1.now)) }
+{
+    let (first, rest) = first_part(separator, w);
+    let (second, rest) = next_part(separator, rest)?;
+    match next_part(separator, rest) {
+        None => Some((first, second)),
+        Some(_) => None,
     }
 }
 

@@ -1,9 +1,9 @@
 use Rattle.std.proofs.Common.{◌≡◌, ap, ◌∙◌, arith, to_z, of_z}
 use Rattle.std.proofs.lemmas.Int.{ints}
 use mir.Syntax.{w32, w128}
-use Rattle.rv_listing.specs.Forms.{imm20_of}
+use Rattle.rv_listing.specs.Operands.{imm20_of}
 use Rattle.rv_listing.proofs.Ranges.{imm20_is, imm20_high}
-use Rattle.rv_listing.proofs.forms.imm20_of.Goals as goal
+use Rattle.rv_listing.proofs.operands.imm20_of.Goals as goal
 
 pub returns-then-n-le524287 : goal.returns-then-n-le524287
 returns-then-n-le524287 c =

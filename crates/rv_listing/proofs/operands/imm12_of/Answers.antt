@@ -1,9 +1,9 @@
 use Rattle.std.proofs.Common.{◌≡◌, ap, ◌∙◌, arith, to_z, of_z}
 use Rattle.std.proofs.lemmas.Int.{ints}
 use mir.Syntax.{w16, w128}
-use Rattle.rv_listing.specs.Forms.{imm12_of}
+use Rattle.rv_listing.specs.Operands.{imm12_of}
 use Rattle.rv_listing.proofs.Ranges.{imm12_is, imm12_high}
-use Rattle.rv_listing.proofs.forms.imm12_of.Goals as goal
+use Rattle.rv_listing.proofs.operands.imm12_of.Goals as goal
 
 pub returns-then-n-le2047 : goal.returns-then-n-le2047
 returns-then-n-le2047 c =

@@ -1,0 +1,57 @@
+-- The tokens for registers, numbers, labels and conditions.
+use Rattle.std.specs.Prelude.{ℕ, ◌^◌, List, Option, Some, None, drop, if◌then◌else◌, codes, ℤ, pos, negsuc, int_le}
+use Rattle.std.specs.Str.{bytes_eq}
+use lib.Signed.{le_z_yes}
+use Rattle.rv_base.specs.declared.label.MachLabel.{MachLabel}
+use Rattle.rv_base.specs.declared.regs.PReg.{PReg}
+use Rattle.rv_base.specs.declared.regs.Reg.{Reg}
+use Rattle.rv_base.specs.declared.regs.Writable.{Writable}
+use Rattle.rv_base.specs.declared.condcodes.IntCC.{IntCC}
+use Rattle.rv_base.specs.declared.condcodes.IntCC.TheVariants.{Equal, NotEqual, SignedLessThan, SignedGreaterThanOrEqual, SignedGreaterThan, SignedLessThanOrEqual, UnsignedLessThan, UnsignedGreaterThanOrEqual, UnsignedGreaterThan, UnsignedLessThanOrEqual}
+use Rattle.rv_base.specs.Regs.{real_of}
+use Rattle.rv_imms.specs.declared.imm12.Imm12.{Imm12}
+use Rattle.rv_imms.specs.declared.imm20.Imm20.{Imm20}
+use Rattle.rv_inst.specs.declared.inst.CondBrTarget.{CondBrTarget}
+use Rattle.rv_inst.specs.declared.inst.CondBrTarget.TheVariants as targets
+use Rattle.rv_listing.specs.Tokens.{◌>>=◌, where_true, below, starts, decimal, signed}
+use Rattle.rv_listing.specs.Registers.{register}
+
+unfoldable pub writable : List ℕ → Option (Writable Reg)
+writable w = register w >>= λ r. Some (record { reg = r })
+
+-- a register of the machine alone
+unfoldable pub real_register : List ℕ → Option PReg
+real_register w = register w >>= real_of
+
+unfoldable pub imm12_of : ℤ → Option Imm12
+imm12_of n = where_true (int_le (negsuc 2047) n) (λ low. where_true (int_le n (pos 2047)) (λ high. Some (record { value = n; low = le_z_yes low; high = le_z_yes high })))
+
+unfoldable pub imm12 : List ℕ → Option Imm12
+imm12 w = signed w >>= imm12_of
+
+unfoldable pub imm20_of : ℤ → Option Imm20
+imm20_of n = where_true (int_le (negsuc 524287) n) (λ low. where_true (int_le n (pos 524287)) (λ high. Some (record { value = n; low = le_z_yes low; high = le_z_yes high })))
+
+unfoldable pub imm20 : List ℕ → Option Imm20
+imm20 w = signed w >>= imm20_of
+
+-- L and the label's number
+unfoldable pub label : List ℕ → Option MachLabel
+label w = if starts 76 w then (decimal (drop 1 w) >>= below (2 ^ 32) >>= λ n. Some (record { number = n })) else None
+
+-- a label, or - for the next line
+unfoldable pub target : List ℕ → Option CondBrTarget
+target w = if bytes_eq w (codes "-") then Some targets.Fallthrough else label w >>= λ l. Some (targets.Label l)
+
+unfoldable pub cond_code : List ℕ → Option IntCC
+cond_code w =
+    if bytes_eq w (codes "eq") then Some Equal else
+    if bytes_eq w (codes "ne") then Some NotEqual else
+    if bytes_eq w (codes "slt") then Some SignedLessThan else
+    if bytes_eq w (codes "sge") then Some SignedGreaterThanOrEqual else
+    if bytes_eq w (codes "sgt") then Some SignedGreaterThan else
+    if bytes_eq w (codes "sle") then Some SignedLessThanOrEqual else
+    if bytes_eq w (codes "ult") then Some UnsignedLessThan else
+    if bytes_eq w (codes "uge") then Some UnsignedGreaterThanOrEqual else
+    if bytes_eq w (codes "ugt") then Some UnsignedGreaterThan else
+    if bytes_eq w (codes "ule") then Some UnsignedLessThanOrEqual else None

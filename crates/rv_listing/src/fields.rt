@@ -1,0 +1,51 @@
+//! The fields of a line: a token for each.
+
+ghost use Rattle.std.specs.Prelude.{◌≡◌, ℕ, List, Option};
+ghost use Rattle.rv_listing.specs.Tokens.{more};
+ghost use Rattle.rv_listing.specs.Fields.{field, no_more, Takes, Makes};
+
+use crate::tokens::next_word;
+
+/// What one word of a line stands for.
+pub trait Token: Copy {
+    ghost reads: { List ℕ → Option Self };
+
+    fn read(w: &[u8]) -> Option<Self>
+        ensures { result ≡ reads w.now };
+}
+
+/// Why a line isn't taken.
+#[derive(Clone, Copy, Debug, PartialEq, Eq)]
+pub enum LineError {
+    NotAllowed,
+    OutOfMemory,
+}
+
+/// The next word, as a token.
+pub fn field<T: Token>(rest: &[u8]) -> Option<(T, &[u8])>
+    ensures { Takes result (field T.reads (more rest.now)) }
+{
+    let (w, rest) = next_word(rest)?;
+    let x = T::read(w)?;
+    Some((x, rest))
+}
+
+/// What was made, where no word is left.
+pub fn whole<T: Drop>(made: T, rest: &[u8]) -> Option<T>
+    ensures { result ≡ no_more (made, more rest.now) }
+{
+    match next_word(rest) {
+        None => Some(made),
+        Some(_) => None,
+    }
+}
+
+/// What was made, where the line is allowed.
+pub fn allowed<T: Drop>(made: Option<T>) -> Result<T, LineError>
+    ensures { Makes result made }
+{
+    match made {
+        Some(made) => Ok(made),
+        None => Err(LineError::NotAllowed),
+    }
+}

@@ -1,0 +1,146 @@
+//! The tokens for registers, numbers, labels and conditions.
+
+ghost use Rattle.std.specs.Prelude.{◌≡◌};
+ghost use Rattle.rv_base.specs.Regs.{real_of};
+ghost use Rattle.rv_listing.specs.Registers.{register};
+ghost use Rattle.rv_listing.specs.Operands.{writable, real_register, imm12_of, imm12, imm20_of, imm20, label, target, cond_code};
+
+use crate::fields::Token;
+use crate::registers::register;
+use crate::tokens::{decimal, signed, starts, tail};
+use rv_base::condcodes::IntCC;
+use rv_base::label::MachLabel;
+use rv_base::regs::{PReg, Reg, Writable};
+use rv_imms::imm12::Imm12;
+use rv_imms::imm20::Imm20;
+use rv_inst::inst::CondBrTarget;
+
+impl Token for Reg {
+    ghost reads = { register };
+
+    fn read(w: &[u8]) -> Option<Reg> {
+        register(w)
+    }
+}
+
+impl Token for Writable<Reg> {
+    ghost reads = { writable };
+
+    #[tactic(auto, unfolding(crate::specs::Operands::writable))]
+    fn read(w: &[u8]) -> Option<Writable<Reg>> {
+        Some(Writable { reg: register(w)? })
+    }
+}
+
+impl Token for PReg {
+    ghost reads = { real_register };
+
+    #[tactic(auto, unfolding(crate::specs::Operands::real_register))]
+    fn read(w: &[u8]) -> Option<PReg> {
+        register(w)?.to_real_reg()
+    }
+}
+
+#[tactic(auto, unfolding(crate::specs::Operands::imm12_of))]
+fn imm12_of(n: i128) -> Option<Imm12>
+    ensures { result ≡ imm12_of n }
+{
+    if n < -2048 {
+        None
+    } else if n <= 2047 {
+        Some(Imm12 { value: n as i16 })
+    } else {
+        None
+    }
+}
+
+impl Token for Imm12 {
+    ghost reads = { imm12 };
+
+    #[tactic(auto, unfolding(crate::specs::Operands::imm12))]
+    fn read(w: &[u8]) -> Option<Imm12> {
+        imm12_of(signed(w)?)
+    }
+}
+
+#[tactic(auto, unfolding(crate::specs::Operands::imm20_of))]
+fn imm20_of(n: i128) -> Option<Imm20>
+    ensures { result ≡ imm20_of n }
+{
+    if n < -524288 {
+        None
+    } else if n <= 524287 {
+        Some(Imm20 { value: n as i32 })
+    } else {
+        None
+    }
+}
+
+impl Token for Imm20 {
+    ghost reads = { imm20 };
+
+    #[tactic(auto, unfolding(crate::specs::Operands::imm20))]
+    fn read(w: &[u8]) -> Option<Imm20> {
+        imm20_of(signed(w)?)
+    }
+}
+
+impl Token for MachLabel {
+    ghost reads = { label };
+
+    #[tactic(auto, unfolding(crate::specs::Operands::label))]
+    fn read(w: &[u8]) -> Option<MachLabel> {
+        if !starts(b'L', w) {
+            return None;
+        }
+        let n = decimal(tail(w))?;
+        if n < 0x1_0000_0000 {
+            Some(MachLabel { number: n as u32 })
+        } else {
+            None
+        }
+    }
+}
+
+impl Token for CondBrTarget {
+    ghost reads = { target };
+
+    #[tactic(auto, unfolding(crate::specs::Operands::target))]
+    fn read(w: &[u8]) -> Option<CondBrTarget> {
+        if w == b"-".as_slice() {
+            return Some(CondBrTarget::Fallthrough);
+        }
+        Some(CondBrTarget::Label(MachLabel::read(w)?))
+    }
+}
+
+impl Token for IntCC {
+    ghost reads = { cond_code };
+
+    #[tactic(auto, unfolding(crate::specs::Operands::cond_code))]
+    fn read(w: &[u8]) -> Option<IntCC> {
+        if w == b"eq".as_slice() {
+            Some(IntCC::Equal)
+        } else if w == b"ne".as_slice() {
+            Some(IntCC::NotEqual)
+        } else if w == b"slt".as_slice() {
+            Some(IntCC::SignedLessThan)
+        } else if w == b"sge".as_slice() {
+            Some(IntCC::SignedGreaterThanOrEqual)
+        } else if w == b"sgt".as_slice() {
+            Some(IntCC::SignedGreaterThan)
+        } else if w == b"sle".as_slice() {
+            Some(IntCC::SignedLessThanOrEqual)
+        } else if w == b"ult".as_slice() {
+            Some(IntCC::UnsignedLessThan)
+        } else if w == b"uge".as_slice() {
+            Some(IntCC::UnsignedGreaterThanOrEqual)
+        } else if w == b"ugt".as_slice() {
+            Some(IntCC::UnsignedGreaterThan)
+        } else if w == b"ule".as_slice() {
+            Some(IntCC::UnsignedLessThanOrEqual)
+        } else {
+            None
+        }
+    }
+}

@@ -1,0 +1,66 @@
+//! Types by their names.
+
+ghost use Rattle.std.specs.Prelude.{◌≡◌};
+ghost use Rattle.rv_listing.specs.Types.{scalar, type_named, vector, vector_of};
+
+use crate::fields::Token;
+use crate::tokens::{decimal, two_parts};
+use rv_base::ir_type::IrType;
+
+#[tactic(auto, unfolding(crate::specs::Types::scalar))]
+fn scalar(w: &[u8]) -> Option<IrType>
+    ensures { result ≡ scalar w.now }
+{
+    if w == b"i8".as_slice() {
+        Some(IrType::I8)
+    } else if w == b"i16".as_slice() {
+        Some(IrType::I16)
+    } else if w == b"i32".as_slice() {
+        Some(IrType::I32)
+    } else if w == b"i64".as_slice() {
+        Some(IrType::I64)
+    } else if w == b"i128".as_slice() {
+        Some(IrType::I128)
+    } else if w == b"f16".as_slice() {
+        Some(IrType::F16)
+    } else if w == b"f32".as_slice() {
+        Some(IrType::F32)
+    } else if w == b"f64".as_slice() {
+        Some(IrType::F64)
+    } else if w == b"f128".as_slice() {
+        Some(IrType::F128)
+    } else {
+        None
+    }
+}
+
+fn vector_of(lane: IrType, lanes: u64) -> Option<IrType>
+    ensures { result ≡ vector_of lane lanes }
+{
+    if lanes <= 256 {
+        IrType::vector(lane, lanes as u32)
+    } else {
+        None
+    }
+}
+
+#[tactic(auto, unfolding(crate::specs::Types::vector))]
+fn vector(w: &[u8]) -> Option<IrType>
+    ensures { result ≡ vector w.now }
+{
+    let (lane, lanes) = two_parts(b'x', w)?;
+    let lane = scalar(lane)?;
+    vector_of(lane, decimal(lanes)?)
+}
+
+impl Token for IrType {
+    ghost reads = { type_named };
+
+    #[tactic(auto, unfolding(crate::specs::Types::type_named))]
+    fn read(w: &[u8]) -> Option<IrType> {
+        match scalar(w) {
+            Some(scalar) => Some(scalar),
+            None => vector(w),
+        }
+    }
+}
