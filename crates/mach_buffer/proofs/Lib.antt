@@ -1,0 +1,9 @@
+pub mod Links
+pub mod Maps
+pub mod Needed
+pub mod Progress
+pub mod Putting
+pub mod Slack
+pub mod Sound
+pub mod Turns
+pub mod Windows

@@ -1,0 +1,5 @@
+pub mod Buffer
+pub mod Finish
+pub mod Islands
+pub mod Reach
+pub mod Windows
