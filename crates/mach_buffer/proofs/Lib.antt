@@ -1,8 +1,13 @@
+pub mod Apart
+pub mod Firsts
+pub mod Islanded
 pub mod Links
 pub mod Maps
 pub mod Needed
+pub mod Others
 pub mod Progress
 pub mod Putting
+pub mod Rounds
 pub mod Slack
 pub mod Sound
 pub mod Turns

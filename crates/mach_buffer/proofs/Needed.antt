@@ -8,10 +8,10 @@ use Rattle.std.proofs.lemmas.List.{length-append, map-append}
 use Rattle.mach_buffer.specs.declared.uses.Use.{Use}
 use Rattle.mach_buffer.specs.declared.uses.Turn.{Turn}
 use Rattle.mach_buffer.specs.Reach.{AllOf, deadline, deadlines, due_by, HasSlack, is_needed, is_needed_from}
-use Rattle.mach_buffer.specs.Buffer.{users, HaveTurns}
+use Rattle.mach_buffer.specs.Buffer.{users, HaveTurns, Later, by_deadline, by_offset, by_index}
 use Rattle.mach_buffer.proofs.Slack.{due_append, deadlines_append, slack_none, slack_same, slack_not_needed, each_from_slack}
 use Rattle.mach_buffer.proofs.Links.{slice_get-append, slice_get-append_at}
-use Rattle.mach_buffer.proofs.Turns.{turn_cmp, Later, by_deadline, by_offset, by_index, later_in_order}
+use Rattle.mach_buffer.proofs.Turns.{turn_cmp, later_in_order}
 
 -- so far a number of deadlines were met, none of which might be missed
 pub record Scanned {L : Type 0} (forward : L → ℕ) (test : Use L → Bool) (cur : ℕ) (turns left : List (Turn × Use L)) (due : ℕ) : Type 0 where

@@ -1,6 +1,6 @@
 -- A veneer for each use that waits, in the order of turns.
 use Rattle.std.proofs.Common.{◌≡◌, ◌≢◌, ℕ, zero, suc, ◌+◌, ◌-◌, ◌*◌, ◌%◌, ◌<◌, ◌≤◌, ◌⊎◌, inl, inr, ⊎_elim, Bool, true, false, not, ◌&&◌, ◌||◌, cond, List, [], ◌∷◌, ◌++◌, length, take, drop, set, map, Option, Some, None, unwrap_or, refl, ap, sym, ◌∙◌, subst, arith}
-use Rattle.std.specs.Prelude.{slice_get, nat_eq, nat_lt, is_none}
+use Rattle.std.specs.Prelude.{slice_get, nat_eq, nat_lt, is_none, IsSomeAnd}
 use Rattle.std.proofs.lemmas.Bool.{true≢false, and_parts, cases_eq}
 use Rattle.std.proofs.lemmas.Option.{same_Some}
 use Rattle.std.proofs.lemmas.List.{take-append-le, length-append, take_all}
@@ -9,11 +9,11 @@ use Rattle.mach_buffer.specs.declared.uses.Use.{Use}
 use Rattle.mach_buffer.specs.declared.uses.VeneerUse.{VeneerUse}
 use Rattle.mach_buffer.specs.declared.uses.Turn.{Turn}
 use Rattle.mach_buffer.specs.Reach.{deadline, deadlines, due_by, is_sooner, StillReaches}
-use Rattle.mach_buffer.specs.Buffer.{IsLinked, HaveTurns, recorded, veneer_use}
+use Rattle.mach_buffer.specs.Buffer.{IsLinked, IsTurn, HaveTurns, AllLater, recorded, veneer_use}
 use Rattle.mach_buffer.specs.Islands.{AreWindows, PutAt, InOrder, VeneersPut}
 use Rattle.mach_buffer.proofs.Links.{slice_get-set_other, slice_get-set_same, recorded_set}
 use Rattle.mach_buffer.proofs.Slack.{due_set, length_set, reaches_next, reaches_due, none_waits}
-use Rattle.mach_buffer.proofs.Turns.{AllLater, turns_pass, turns_take, turns_end, turns_least, turns_first}
+use Rattle.mach_buffer.proofs.Turns.{turns_pass, turns_take, turns_end, turns_least, turns_first}
 
 -- what holds between two turns
 pub record Putting {L : Type 0} (fields : L → List ℕ) (has_veneer : L → Bool) (forward : L → ℕ) (veneer : L → Veneer L) (test : Use L → Bool) (bytes0 : List ℕ) (uses0 : List (Use L)) (veneers0 : List (VeneerUse L)) (bytes : List ℕ) (uses : List (Use L)) (veneers : List (VeneerUse L)) (turns : List (Turn × Use L)) : Type 0 where
@@ -182,3 +182,16 @@ module _ {L : Type 0} {fields : L → List ℕ} {has_veneer : L → Bool} {forwa
           ⊎_elim (λ still. absurd (differs test clears (slice_get uses j) u u a tu still (sym (other j ji) ∙ pj)))
           (λ q. let first : q.at ≡ a = same_place u u q.at a (sym q.is ∙ sym (other j ji) ∙ pj) in let le = q.inside in omega arith) (p.done j u hj tu)
       order j k u w a b hj hk tu tw s pj pk (inr ji) (inr ki) = p.ordered j k u w a b hj hk tu tw s (sym (other j ji) ∙ pj) (sym (other k ki) ∙ pk)
+
+-- the same parts
+pub putting_as : {L : Type 0} {fields : L → List ℕ} {has_veneer : L → Bool} {forward : L → ℕ} {veneer : L → Veneer L} {test : Use L → Bool} {bytes0 : List ℕ} {uses0 : List (Use L)} {veneers0 : List (VeneerUse L)} {bytes new_bytes : List ℕ} {uses new_uses : List (Use L)} {veneers new_veneers : List (VeneerUse L)} {turns new_turns : List (Turn × Use L)} →
+    Putting fields has_veneer forward veneer test bytes0 uses0 veneers0 bytes uses veneers turns → new_bytes ≡ bytes → new_uses ≡ uses → new_veneers ≡ veneers → new_turns ≡ turns → Putting fields has_veneer forward veneer test bytes0 uses0 veneers0 new_bytes new_uses new_veneers new_turns
+putting_as p eb eu ev et = rw (eb, eu, ev, et) p
+
+-- the use of the first turn is there
+pub putting_turn : {L : Type 0} {fields : L → List ℕ} {has_veneer : L → Bool} {forward : L → ℕ} {veneer : L → Veneer L} {test : Use L → Bool} {bytes0 : List ℕ} {uses0 : List (Use L)} {veneers0 : List (VeneerUse L)} {bytes : List ℕ} {uses : List (Use L)} {veneers : List (VeneerUse L)} {turns rest : List (Turn × Use L)} {e : Turn × Use L} →
+    Putting fields has_veneer forward veneer test bytes0 uses0 veneers0 bytes uses veneers turns → turns ≡ e ∷ rest → test e.1 ≡ true → IsTurn forward uses e.0 e.1
+putting_turn {L} {fields} {has_veneer} {forward} {veneer} {test} {bytes0} {uses0} {veneers0} {bytes} {uses} {veneers} {turns} {rest} {e} p et waits = (subst (λ ts. HaveTurns forward test ts uses) et p.waits).each 0 e refl waits
+
+pub is_some : {X : Type 0} (o : Option X) (P : X → Type 0) (x : X) → o ≡ Some x → P x → IsSomeAnd o P
+is_some o P x e h = subst (λ z. IsSomeAnd z P) (sym e) h

@@ -14,7 +14,7 @@ use Rattle.std.proofs.Math.ListN.{length-set}
 use Rattle.mach_buffer.specs.declared.uses.Use.{Use}
 use Rattle.mach_buffer.specs.declared.uses.Turn.{Turn}
 use Rattle.mach_buffer.specs.Reach.{deadline, deadlines, due_by, is_sooner}
-use Rattle.mach_buffer.specs.Buffer.{users, IsTurn, HaveTurns}
+use Rattle.mach_buffer.specs.Buffer.{users, IsTurn, HaveTurns, Later, by_deadline, by_offset, by_index, AllLater}
 use Rattle.mach_buffer.proofs.Links.{below, slice_get-append, slice_get-append_last, slice_get-set_other, append_each}
 use Rattle.mach_buffer.proofs.Slack.{due_append, deadlines_append, due_set, none_from_due, deadlines_set_idle}
 
@@ -39,12 +39,6 @@ cmp_less m n e = on (nat_lt m n) (nat_eq m n) refl e
     on true b h q = ltb-true _ _ h
     on false true h q = absurd (cc)
     on false false h q = absurd (cc)
-
--- one turn comes after another
-pub data Later (a b : Turn) : Type 0 where
-  by_deadline : a.deadline < b.deadline → Later a b
-  by_offset : a.deadline ≡ b.deadline → a.offset < b.offset → Later a b
-  by_index : a.deadline ≡ b.deadline → a.offset ≡ b.offset → a.index < b.index → Later a b
 
 pub later_from_less : (a b : Turn) → turn_cmp a b ≡ Less → Later a b
 later_from_less a b e = on (nat_cmp a.deadline b.deadline) (nat_cmp a.offset b.offset) (nat_cmp a.index b.index) refl refl refl e
@@ -186,10 +180,6 @@ turns_none {L} {forward} {test} {uses} none = record { each = λ i e q t. absurd
     nothing i e (x ∷ es) z q = absurd (cc)
 
 -- ---- the first turn
-
--- each turn comes after this one
-abbrev pub AllLater : {L : Type 0} → Turn → List (Turn × Use L) → Type 0
-AllLater {L} t es = (i : ℕ) (e : Turn × Use L) → slice_get es i ≡ Some e → Later t e.0
 
 -- it is passed over
 pub turns_pass : {L : Type 0} {forward : L → ℕ} {test : Use L → Bool} {e : Turn × Use L} {rest turns : List (Turn × Use L)} {uses : List (Use L)} → HaveTurns forward test turns uses → turns ≡ e ∷ rest → test e.1 ≡ false → HaveTurns forward test rest uses

@@ -101,6 +101,16 @@ pub record IsLinked {L : Type 0} (has_veneer : L → Bool) (forward : L → ℕ)
 abbrev pub users : {L : Type 0} → List (Turn × Use L) → List (Use L)
 users es = map (λ e. e.1) es
 
+-- one turn comes after another
+pub data Later (a b : Turn) : Type 0 where
+  by_deadline : a.deadline < b.deadline → Later a b
+  by_offset : a.deadline ≡ b.deadline → a.offset < b.offset → Later a b
+  by_index : a.deadline ≡ b.deadline → a.offset ≡ b.offset → a.index < b.index → Later a b
+
+-- each turn comes after this one
+abbrev pub AllLater : {L : Type 0} → Turn → List (Turn × Use L) → Type 0
+AllLater {L} t es = (i : ℕ) (e : Turn × Use L) → slice_get es i ≡ Some e → Later t e.0
+
 -- a turn is that of a use that is there
 pub record IsTurn {L : Type 0} (forward : L → ℕ) (uses : List (Use L)) (t : Turn) (u : Use L) : Type 0 where
   pub there : slice_get uses t.index ≡ Some u

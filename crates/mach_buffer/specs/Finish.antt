@@ -1,33 +1,14 @@
 -- The end: the last veneers, and the patches.
 use Rattle.std.specs.Prelude.{◌≡◌, ◌≢◌, ℕ, ◌+◌, ◌*◌, ◌%◌, ◌<◌, ◌≤◌, ◌⊎◌, Bool, true, false, cond, nat_eq, List, [], ◌++◌, length, take, drop, map, Option, Some, None, is_some, unwrap_or, ◌-◌, slice_get, ℤ, pos, ◌-ℤ◌}
 use Rattle.rv_base.specs.LabelUse.{Veneer, SameOutside}
-use Rattle.mach_buffer.specs.declared.patches.Patch.{Patch}
 use Rattle.mach_buffer.specs.declared.uses.Use.{Use}
 use Rattle.mach_buffer.specs.declared.uses.VeneerUse.{VeneerUse}
 use Rattle.mach_buffer.specs.declared.buffer.MachBuffer.{MachBuffer}
 use Rattle.mach_buffer.specs.Windows.{window, AllKept, KeepsOthers}
 use Rattle.mach_buffer.specs.Reach.{is_reached, is_pending, StillReaches}
 use Rattle.mach_buffer.specs.Buffer.{bytes_of, uses_of, veneers_of, place_of, pending_of, IsLinked, IsSound}
-use Rattle.mach_buffer.specs.Islands.{aligned, padding, AreWindows, VeneersPut}
-
--- where a use is to go: to its veneer, or else to its label's place
-abbrev pub or_place : Option ℕ → Option ℕ → Option ℕ
-or_place (Some at) place = Some at
-or_place None place = place
-
-abbrev pub target_of : {L : Type 0} → (ℕ → Option ℕ) → Use L → Option ℕ
-target_of place u = or_place u.veneer (place u.label.number)
-
--- its patch
-abbrev pub patch_of : {L : Type 0} → (ℕ → Option ℕ) → Use L → Patch L
-patch_of place u = record { offset = u.offset; kind = u.kind; target = unwrap_or (target_of place u) 0 }
-
--- and that of the use in a veneer
-abbrev pub veneer_patch : {L : Type 0} → (ℕ → Option ℕ) → VeneerUse L → Patch L
-veneer_patch place w = record { offset = w.offset; kind = w.kind; target = unwrap_or (place w.label.number) 0 }
-
-abbrev pub patches_of : {L : Type 0} → (ℕ → Option ℕ) → List (Use L) → List (VeneerUse L) → List (Patch L)
-patches_of place uses veneers = map (patch_of place) uses ++ map (veneer_patch place) veneers
+use Rattle.mach_buffer.specs.Islands.{padding, AreWindows, VeneersPut}
+use Rattle.mach_buffer.specs.Targets.{patches_of}
 
 -- a use goes by a veneer that stands at `at`: its window aims there, the eight bytes there are the veneer's outside the
 -- fields of the veneer's own use, and the window of that use aims at the label's place

@@ -1,12 +1,12 @@
 -- Islands: what one asks, and what it brings.
-use Rattle.std.specs.Prelude.{◌≡◌, ◌≢◌, ℕ, zero, suc, ◌+◌, ◌-◌, ◌*◌, ◌/◌, ◌%◌, ◌<◌, ◌≤◌, Bool, true, false, cond, nat_lt, List, [], ◌∷◌, ◌++◌, length, take, map, Option, Some, None, slice_get}
+use Rattle.std.specs.Prelude.{◌≡◌, ◌≢◌, ℕ, zero, suc, ◌+◌, ◌-◌, ◌*◌, ◌/◌, ◌%◌, ◌^◌, ◌<◌, ◌≤◌, Bool, true, false, cond, nat_lt, List, [], ◌∷◌, ◌++◌, length, take, map, Option, Some, None, slice_get}
 use Rattle.rv_base.specs.declared.label.MachLabel.{MachLabel}
 use Rattle.rv_base.specs.LabelUse.{Veneer, IsFresh}
 use Rattle.mach_buffer.specs.declared.uses.Use.{Use}
 use Rattle.mach_buffer.specs.declared.uses.VeneerUse.{VeneerUse}
 use Rattle.mach_buffer.specs.declared.buffer.MachBuffer.{MachBuffer}
 use Rattle.mach_buffer.specs.Windows.{window, IsApart}
-use Rattle.mach_buffer.specs.Reach.{deadline, is_other, is_sooner, deadlines, CanReach}
+use Rattle.mach_buffer.specs.Reach.{deadline, is_pending, is_other, is_sooner, deadlines, CanReach}
 use Rattle.mach_buffer.specs.Buffer.{bytes_of, uses_of, veneers_of, place_of, labels_of, drawn_of, pending_of, recorded, IsKnown, IsSound}
 
 -- the next multiple of four
@@ -86,6 +86,23 @@ island_end start count last = first_of start count last + 8 * count
 abbrev pub own_jump : {L : Type 0} → ℕ → ℕ → ℕ → Use L → Use L
 own_jump start count last jump = cond (needs_own start count last) (record jump { veneer = Some start }) jump
 
+-- there is such a jump, and room for the veneers
+pub record HasRound {L : Type 0} (has_veneer : L → Bool) (forward : L → ℕ) (gap : ℕ) (bytes : List ℕ) (uses : List (Use L)) (round count : ℕ) : Type 0 where
+  pub jump : IsRound has_veneer forward gap bytes uses round
+  pub room : island_end (length bytes) count (deadline forward jump.jump) < 2147479552
+
+-- the jump got its own veneer, where it needs one
+pub record OwnPut {L : Type 0} (forward : L → ℕ) (bytes : List ℕ) (uses : List (Use L)) (round count : ℕ) (new_bytes : List ℕ) (new_uses : List (Use L)) : Type 0 where
+  pub index : ℕ
+  pub jump : Use L
+  pub stands : slice_get uses index ≡ Some jump
+  pub names : jump.label.number ≡ round
+  pub before : take (length bytes) new_bytes ≡ bytes
+  pub long : length new_bytes ≡ first_of (length bytes) count (deadline forward jump)
+  pub same : recorded new_uses ≡ recorded uses
+  pub own : slice_get new_uses index ≡ Some (own_jump (length bytes) count (deadline forward jump) jump)
+  pub kept : (j : ℕ) (u : Use L) → slice_get uses j ≡ Some u → j ≢ index → slice_get new_uses j ≡ Some u
+
 -- the deadlines of the pending uses of other labels
 abbrev pub others_of : {L : Type 0} → (L → Bool) → (L → ℕ) → (L → ℕ) → MachBuffer L → MachLabel → List ℕ
 others_of has_veneer forward backward b round = deadlines (is_other has_veneer forward backward (place_of b) (Some round)) forward (uses_of b)
@@ -93,6 +110,7 @@ others_of has_veneer forward backward b round = deadlines (is_other has_veneer f
 -- what an island asks: its jump's four bytes stand last, Reach held before them, and there is room
 pub record CanIsland {L : Type 0} (has_veneer : L → Bool) (forward backward : L → ℕ) (veneer : L → Veneer L) (b : MachBuffer L) (round : MachLabel) : Type 0 where
   pub sound : IsSound has_veneer forward backward veneer b
+  pub inner : 2 ^ 30 ≤ round.number
   pub known : IsKnown round.number (drawn_of b)
   pub unbound : place_of b round.number ≡ None
   pub four : 4 ≤ length (bytes_of b)
@@ -100,20 +118,24 @@ pub record CanIsland {L : Type 0} (has_veneer : L → Bool) (forward backward : 
   pub reach : CanReach (length (bytes_of b) - 4) (others_of has_veneer forward backward b round)
   pub room : island_end (aligned (length (bytes_of b))) (length (others_of has_veneer forward backward b round)) (deadline forward jump.jump) < 2147479552
 
--- what an island brings
-pub record Islanded {L : Type 0} (has_veneer : L → Bool) (forward backward : L → ℕ) (b : MachBuffer L) (round : MachLabel) (new : MachBuffer L) : Type 0 where
+-- what an island brings, in the parts of a buffer
+pub record AreIslanded {L : Type 0} (has_veneer : L → Bool) (forward backward : L → ℕ) (bytes : List ℕ) (uses : List (Use L)) (place : ℕ → Option ℕ) (round : MachLabel) (others : ℕ) (new_bytes : List ℕ) (new_uses : List (Use L)) (new_place : ℕ → Option ℕ) : Type 0 where
   pub index : ℕ
   pub jump : Use L
-  pub stands : slice_get (uses_of b) index ≡ Some jump
-  pub names : jump.label ≡ round
-  pub padded : take (aligned (length (bytes_of b))) (bytes_of new) ≡ bytes_of b ++ padding (length (bytes_of b))
-  pub end : length (bytes_of new) ≡ island_end (aligned (length (bytes_of b))) (length (others_of has_veneer forward backward b round)) (deadline forward jump)
-  pub same : recorded (uses_of new) ≡ recorded (uses_of b)
-  pub own : slice_get (uses_of new) index ≡ Some (own_jump (aligned (length (bytes_of b))) (length (others_of has_veneer forward backward b round)) (deadline forward jump) jump)
-  pub put : (j : ℕ) (u : Use L) → slice_get (uses_of b) j ≡ Some u → is_other has_veneer forward backward (place_of b) (Some round) u ≡ true →
-      PutAt (first_of (aligned (length (bytes_of b))) (length (others_of has_veneer forward backward b round)) (deadline forward jump)) (length (bytes_of new)) u (slice_get (uses_of new) j)
-  pub ordered : InOrder forward (is_other has_veneer forward backward (place_of b) (Some round)) (uses_of b) (uses_of new)
-  pub kept : (j : ℕ) (u : Use L) → slice_get (uses_of b) j ≡ Some u → is_other has_veneer forward backward (place_of b) (Some round) u ≡ false → j ≢ index → slice_get (uses_of new) j ≡ Some u
-  pub bound : place_of new round.number ≡ Some (length (bytes_of new))
-  pub places : (label : ℕ) → label ≢ round.number → place_of new label ≡ place_of b label
-  pub settled : pending_of has_veneer forward backward new ≡ []
+  pub stands : slice_get uses index ≡ Some jump
+  pub names : jump.label.number ≡ round.number
+  pub padded : take (aligned (length bytes)) new_bytes ≡ bytes ++ padding (length bytes)
+  pub end : length new_bytes ≡ island_end (aligned (length bytes)) others (deadline forward jump)
+  pub same : recorded new_uses ≡ recorded uses
+  pub own : slice_get new_uses index ≡ Some (own_jump (aligned (length bytes)) others (deadline forward jump) jump)
+  pub put : (j : ℕ) (u : Use L) → slice_get uses j ≡ Some u → is_other has_veneer forward backward place (Some round) u ≡ true → PutAt (first_of (aligned (length bytes)) others (deadline forward jump)) (length new_bytes) u (slice_get new_uses j)
+  pub ordered : InOrder forward (is_other has_veneer forward backward place (Some round)) uses new_uses
+  pub kept : (j : ℕ) (u : Use L) → slice_get uses j ≡ Some u → is_other has_veneer forward backward place (Some round) u ≡ false → j ≢ index → slice_get new_uses j ≡ Some u
+  pub bound : new_place round.number ≡ Some (length new_bytes)
+  pub places : (label : ℕ) → label ≢ round.number → new_place label ≡ place label
+  pub settled : deadlines (is_pending has_veneer forward backward new_place) forward new_uses ≡ []
+
+-- what an island brings
+abbrev pub Islanded : {L : Type 0} → (L → Bool) → (L → ℕ) → (L → ℕ) → MachBuffer L → MachLabel → MachBuffer L → Type 0
+Islanded has_veneer forward backward b round new =
+    AreIslanded has_veneer forward backward (bytes_of b) (uses_of b) (place_of b) round (length (others_of has_veneer forward backward b round)) (bytes_of new) (uses_of new) (place_of new)

@@ -35,7 +35,7 @@ impl<L: MachInstLabelUse> MachBuffer<L> {
     ghost use Rattle.std.specs.Int.{to_le_bytes};
     ghost use mir.Syntax.{w16, w32, w64};
     ghost use Rattle.mach_buffer.specs.Buffer.{bytes_of, uses_of, veneers_of, place_of, labels_of, drawn_of, spoiled_of, pending_of, turns_of, listed, IsKnown, IsSound, HaveTurns};
-    ghost use Rattle.mach_buffer.specs.Reach.{is_reached, is_pending, is_needed, due_by};
+    ghost use Rattle.mach_buffer.specs.Reach.{is_reached, is_pending, is_other, is_needed, deadlines, due_by};
 
     /// An empty buffer. Takes no memory.
     pub fn new(alloc: Global) -> MachBuffer<L>
@@ -235,6 +235,24 @@ impl<L: MachInstLabelUse> MachBuffer<L> {
         ensures refused { OnErr result (spoiled_of self.new ≡ true) }
         ensures sound { OnOk result (IsSound L.has_veneer L.forward L.backward L.veneer self.new) }
     {
+        self.place_label(label)?;
+        Ok(())
+    }
+
+    /// Notes where a label stands.
+    pub(crate) fn place_label(&mut self, label: MachLabel) -> Result<(), OutOfMemory>
+        requires unbound { place_of self.old label.number ≡ None }
+        ensures bound { OnOk result (place_of self.new label.number ≡ Some (length (bytes_of self.old))) }
+        ensures kept { OnOk result ((other : ℕ) → other ≢ label.number → place_of self.new other ≡ place_of self.old other) }
+        ensures labels { OnOk result (labels_of self.new ≡ labels_of self.old ++ listed label (length (bytes_of self.old))) }
+        ensures bytes { bytes_of self.new ≡ bytes_of self.old }
+        ensures uses { uses_of self.new ≡ uses_of self.old }
+        ensures veneers { veneers_of self.new ≡ veneers_of self.old }
+        ensures turns { turns_of self.new ≡ turns_of self.old }
+        ensures drawn { drawn_of self.new ≡ drawn_of self.old }
+        ensures unspoiled { OnOk result ((spoiled_of self.old ≡ false) × (spoiled_of self.new ≡ false)) }
+        ensures refused { OnErr result (spoiled_of self.new ≡ true) }
+    {
         self.check()?;
         let offset = self.bytes.len() as u32;
         if label.number < FIRST_INNER && self.labels.push(LabelPlace { label, offset }).is_err() {
@@ -326,14 +344,21 @@ impl<L: MachInstLabelUse> MachBuffer<L> {
         u.kind.supports_veneer() && u.veneer.is_none() && !self.is_reached(u)
     }
 
-    /// How many uses are pending.
-    pub(crate) fn count_pending(&self) -> usize
-        requires sound { IsSound L.has_veneer L.forward L.backward L.veneer self.now }
-        ensures { result ≡ length (pending_of L.has_veneer L.forward L.backward self.now) }
+    /// Whether a pending use does not name this label.
+    pub(crate) fn is_other(&self, round: Option<MachLabel>, u: &Use<L>) -> bool
+        ensures { result ≡ is_other L.has_veneer L.forward L.backward (place_of self.now) round u.now }
+    {
+        self.is_pending(u) && !names(round, u)
+    }
+
+    /// How many pending uses do not name this label.
+    pub(crate) fn count_others(&self, round: Option<MachLabel>) -> usize
+        requires waits { HaveTurns L.forward (is_other L.has_veneer L.forward L.backward (place_of self.now) round) (turns_of self.now) (uses_of self.now) }
+        ensures { result ≡ length (deadlines (is_other L.has_veneer L.forward L.backward (place_of self.now) round) L.forward (uses_of self.now)) }
     {
         let mut count = 0;
         for u in self.waiting.values() {
-            if self.is_pending(u) {
+            if self.is_other(round, u) {
                 count += 1;
             }
         }
@@ -363,7 +388,7 @@ impl<L: MachInstLabelUse> MachBuffer<L> {
         requires sound { IsSound L.has_veneer L.forward L.backward L.veneer self.now }
         ensures { result ≡ (nat_lt (drawn_of self.now) (2 ^ 29) && nat_lt (length (bytes_of self.now) + part + 8 * length (pending_of L.has_veneer L.forward L.backward self.now) + 32) 2147479552) }
     {
-        let end = self.bytes.len() as u128 + part as u128 + 8 * self.count_pending() as u128 + 32;
+        let end = self.bytes.len() as u128 + part as u128 + 8 * self.count_others(None) as u128 + 32;
         self.drawn < 0x20000000 && end < 2147479552
     }
 }
@@ -377,4 +402,16 @@ pub(crate) fn deadline<L: MachInstLabelUse>(u: &Use<L>) -> u64
     ensures small { result < 8589934592 }
 {
     u.offset as u64 + u.kind.max_pos_range() as u64
+}
+
+ghost use Rattle.mach_buffer.specs.Reach.{names as names_label};
+
+/// Whether a use names this label.
+fn names<L: MachInstLabelUse>(label: Option<MachLabel>, u: &Use<L>) -> bool
+    ensures { result ≡ names_label label u.now }
+{
+    match label {
+        Some(named) => u.label.number == named.number,
+        None => false,
+    }
 }

@@ -2,6 +2,7 @@
 #![tactic(auto)]
 
 pub mod buffer;
+pub mod finish;
 pub mod islands;
 pub mod patches;
 pub mod uses;
