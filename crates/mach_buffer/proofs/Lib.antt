@@ -1,4 +1,5 @@
 pub mod Apart
+pub mod Ends
 pub mod Firsts
 pub mod Islanded
 pub mod Links

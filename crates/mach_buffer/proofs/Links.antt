@@ -108,7 +108,7 @@ recorded_set [] i u v h e = refl
 recorded_set (w ∷ uses) zero u v h e = ap (λ x. x ∷ recorded uses) (e ∙ ap core (sym (same_Some _ _ h)))
 recorded_set (w ∷ uses) (suc i) u v h e = ap (λ xs. core w ∷ xs) (recorded_set uses i u v h e)
 
-recorded_get : {L : Type 0} (uses : List (Use L)) (i : ℕ) (u : Use L) → slice_get uses i ≡ Some u → slice_get (recorded uses) i ≡ Some (core u)
+pub recorded_get : {L : Type 0} (uses : List (Use L)) (i : ℕ) (u : Use L) → slice_get uses i ≡ Some u → slice_get (recorded uses) i ≡ Some (core u)
 recorded_get [] i u h = absurd (cc)
 recorded_get (w ∷ uses) zero u h = ap (λ x. Some (core x)) (same_Some _ _ h)
 recorded_get (w ∷ uses) (suc i) u h = recorded_get uses i u h

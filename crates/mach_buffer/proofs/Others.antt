@@ -1,10 +1,10 @@
 -- Which pending uses name a label.
-use Rattle.std.proofs.Common.{◌≡◌, ◌≢◌, ℕ, Bool, true, false, not, ◌&&◌, Option, Some, None, refl, ap, sym, ◌∙◌, subst}
+use Rattle.std.proofs.Common.{◌≡◌, ◌≢◌, ℕ, Bool, true, false, not, ◌&&◌, List, length, Option, Some, None, refl, ap, sym, ◌∙◌, subst}
 use Rattle.std.specs.Prelude.{nat_eq, is_none}
 use Rattle.std.proofs.lemmas.Bool.{true≢false, and_parts, and_right, eq-eqb}
 use Rattle.rv_base.specs.declared.label.MachLabel.{MachLabel}
 use Rattle.mach_buffer.specs.declared.uses.Use.{Use}
-use Rattle.mach_buffer.specs.Reach.{is_pending, is_other, is_reached, names}
+use Rattle.mach_buffer.specs.Reach.{is_pending, is_other, is_reached, names, deadlines}
 use Rattle.mach_buffer.proofs.Putting.{Clears}
 
 and_true : (b : Bool) → (b && true) ≡ b
@@ -33,3 +33,6 @@ pub own_idle : {L : Type 0} (has_veneer : L → Bool) (forward backward : L → 
 own_idle has_veneer forward backward place round u e =
     let same : nat_eq u.label.number round.number ≡ true = eq-eqb u.label.number round.number e in
     and_right (is_pending has_veneer forward backward place u) (not (nat_eq u.label.number round.number)) (ap not same)
+
+pub count_none : {L : Type 0} (has_veneer : L → Bool) (forward backward : L → ℕ) (place : ℕ → Option ℕ) (uses : List (Use L)) → length (deadlines (is_other has_veneer forward backward place None) forward uses) ≡ length (deadlines (is_pending has_veneer forward backward place) forward uses)
+count_none has_veneer forward backward place uses = ap (λ test. length (deadlines test forward uses)) (other_none has_veneer forward backward place)

@@ -71,3 +71,7 @@ module _ {L : Type 0} {aims : L → List ℕ → ℤ → Type 0} {fields : L →
 
   pub progress_kept : (p : Progress aims fields first now uses i) → length uses ≤ i → AllKept fields first now uses
   progress_kept p h j u k = p.kept j u (let within = slice_get_within uses j u k in omega arith) k
+
+-- the number of patches, written otherwise
+pub progress_at : {L : Type 0} {aims : L → List ℕ → ℤ → Type 0} {fields : L → List ℕ} {first now : List ℕ} {uses : List (Patch L)} {i : ℕ} (j : ℕ) → j ≡ i → Progress aims fields first now uses i → Progress aims fields first now uses j
+progress_at {L} {aims} {fields} {first} {now} {uses} j e p = subst (Progress aims fields first now uses) (sym e) p

@@ -61,10 +61,27 @@ impl<L: MachInstLabelUse> MachBuffer<L> {
         ensures labels { labels_of self.new ≡ labels_of self.old }
         ensures unspoiled { OnOk result (spoiled_of self.old ≡ false) }
     {
+        self.pad_last()?;
+        self.put_waiting(None)?;
+        Ok(())
+    }
+
+    /// Puts zero bytes to a multiple of four, where some use is pending.
+    fn pad_last(&mut self) -> Result<(), OutOfMemory>
+        requires sound { IsSound L.has_veneer L.forward L.backward L.veneer self.old }
+        requires short { length (before_last (bytes_of self.old) (length (pending_of L.has_veneer L.forward L.backward self.old))) < 2147479552 }
+        ensures bytes { OnOk result (bytes_of self.new ≡ before_last (bytes_of self.old) (length (pending_of L.has_veneer L.forward L.backward self.old))) }
+        ensures uses { uses_of self.new ≡ uses_of self.old }
+        ensures veneers { veneers_of self.new ≡ veneers_of self.old }
+        ensures places { place_of self.new ≡ place_of self.old }
+        ensures labels { labels_of self.new ≡ labels_of self.old }
+        ensures unspoiled { OnOk result (spoiled_of self.old ≡ false) }
+        ensures sound { OnOk result (IsSound L.has_veneer L.forward L.backward L.veneer self.new) }
+    {
+        self.check()?;
         if self.count_others(None) != 0 {
             self.pad()?;
         }
-        self.put_waiting(None)?;
         Ok(())
     }
 }
