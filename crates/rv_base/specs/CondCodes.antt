@@ -1,5 +1,5 @@
--- Comparisons of integers: their names, and which holds where another doesn't.
-use Rattle.std.specs.Prelude.{ℕ, List, codes}
+-- Comparisons of integers: their names, when each holds, and which holds where another doesn't.
+use Rattle.std.specs.Prelude.{ℕ, ◌+◌, ◌%◌, ◌^◌, Bool, not, nat_eq, nat_lt, List, codes}
 use Rattle.rv_base.specs.declared.condcodes.IntCC.{IntCC}
 use Rattle.rv_base.specs.declared.condcodes.IntCC.TheVariants.{Equal, NotEqual, SignedLessThan, SignedGreaterThanOrEqual, SignedGreaterThan, SignedLessThanOrEqual, UnsignedLessThan, UnsignedGreaterThanOrEqual, UnsignedGreaterThan, UnsignedLessThanOrEqual}
 
@@ -26,3 +26,20 @@ name_of UnsignedLessThan = codes "ult"
 name_of UnsignedGreaterThanOrEqual = codes "uge"
 name_of UnsignedGreaterThan = codes "ugt"
 name_of UnsignedLessThanOrEqual = codes "ule"
+
+-- x is below y, both of 64 bits and read signed
+abbrev pub signed_below : ℕ → ℕ → Bool
+signed_below x y = nat_lt ((x + 2 ^ 63) % 2 ^ 64) ((y + 2 ^ 63) % 2 ^ 64)
+
+-- the comparison of x with y, both of 64 bits
+abbrev pub holds : IntCC → ℕ → ℕ → Bool
+holds Equal x y = nat_eq x y
+holds NotEqual x y = not (nat_eq x y)
+holds SignedLessThan x y = signed_below x y
+holds SignedGreaterThanOrEqual x y = not (signed_below x y)
+holds SignedGreaterThan x y = signed_below y x
+holds SignedLessThanOrEqual x y = not (signed_below y x)
+holds UnsignedLessThan x y = nat_lt x y
+holds UnsignedGreaterThanOrEqual x y = not (nat_lt x y)
+holds UnsignedGreaterThan x y = nat_lt y x
+holds UnsignedLessThanOrEqual x y = not (nat_lt y x)

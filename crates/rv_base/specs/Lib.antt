@@ -1,5 +1,12 @@
-pub mod Flags
+pub mod AMode
 pub mod CondCodes
+pub mod Flags
 pub mod Frame
+pub mod IrType
 pub mod LabelUse
+pub mod LaneCount
+pub mod Names
+pub mod PRegSet
 pub mod Regs
+pub mod Trap
+pub mod ValueRegs

@@ -1,6 +1,8 @@
 -- Registers: their class, their number, and what a real one is.
-use Rattle.std.specs.Prelude.{◌≡◌, ℕ, Option, Some, None}
+use Rattle.std.specs.Prelude.{◌≡◌, ℕ, ◌<◌, Option, Some, None}
+use Rattle.std.proofs.Common.{lit<}
 use Rattle.rv_base.specs.declared.regs.RegClass.{RegClass}
+use Rattle.rv_base.specs.declared.regs.RegClass.TheVariants.{Int}
 use Rattle.rv_base.specs.declared.regs.PReg.{PReg}
 use Rattle.rv_base.specs.declared.regs.Reg.{Reg}
 use Rattle.rv_base.specs.declared.regs.Reg.TheVariants.{Real, Virtual}
@@ -31,3 +33,18 @@ IsReal (Virtual v) class number = ⊥
 abbrev pub IsVirtualOf : Reg → ℕ → RegClass → Type 0
 IsVirtualOf (Real p) index class = ⊥
 IsVirtualOf (Virtual v) index class = (v.index ≡ index) × (v.class ≡ class)
+
+-- a register's place in the order of its file: a real one's number, and above it a virtual one's index
+abbrev pub place_of : Reg → ℕ
+place_of (Real p) = p.number
+place_of (Virtual v) = v.index
+
+-- the integer register of a number
+abbrev pub int_reg : (number : ℕ) → number < 32 → Reg
+int_reg number in_file = Real (record { class = Int; number = number; in_file = in_file })
+
+abbrev pub stack_pointer : Reg
+stack_pointer = int_reg 2 (lit< tt)
+
+abbrev pub frame_pointer : Reg
+frame_pointer = int_reg 8 (lit< tt)

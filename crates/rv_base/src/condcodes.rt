@@ -18,12 +18,13 @@ pub enum IntCC {
 }
 
 impl IntCC {
-    ghost use Rattle.std.specs.Prelude.{◌≡◌};
-    ghost use Rattle.rv_base.specs.CondCodes.{complement_of, name_of};
+    ghost use Rattle.std.specs.Prelude.{◌≡◌, ℕ, not};
+    ghost use Rattle.rv_base.specs.CondCodes.{complement_of, holds, name_of};
 
     /// The comparison that holds exactly where this one doesn't.
     pub fn complement(self) -> IntCC
-        ensures { result ≡ complement_of self }
+        ensures row { result ≡ complement_of self }
+        ensures opposite { (x : ℕ) (y : ℕ) → holds result x y ≡ not (holds self x y) }
     {
         match self {
             IntCC::Equal => IntCC::NotEqual,
@@ -59,6 +60,11 @@ impl IntCC {
 }
 
 impl fmt::Display for IntCC {
+    ghost use Rattle.std.specs.Prelude.{Some};
+    ghost use Rattle.rv_base.specs.CondCodes.{name_of};
+
+    ghost output = { λ kind. Some (name_of kind) };
+
     fn fmt<W: fmt::Write>(&self, f: &mut fmt::Formatter<W>) -> fmt::Result {
         f.write_str(self.to_static_str())
     }

@@ -1,5 +1,7 @@
 //! Constants that stand beside the code.
 
+ghost use Rattle.std.specs.Prelude.{◌≡◌};
+
 use crate::list::List;
 
 /// What a constant's offset is a multiple of, in bytes.
@@ -17,4 +19,24 @@ pub enum ConstAlign {
 pub struct Constant {
     pub bytes: List<u8>,
     pub align: ConstAlign,
+}
+
+/// A constant of the code, by its number.
+#[derive(Clone, Copy, Debug, PartialEq, Eq, PartialOrd, Ord, Hash)]
+pub struct VCodeConstant {
+    pub number: u32,
+}
+
+impl VCodeConstant {
+    pub fn from_u32(number: u32) -> VCodeConstant
+        ensures { result.number ≡ number }
+    {
+        VCodeConstant { number }
+    }
+
+    pub fn as_u32(self) -> u32
+        ensures { result ≡ self.number }
+    {
+        self.number
+    }
 }

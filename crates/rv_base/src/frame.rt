@@ -1,7 +1,7 @@
 //! The stack frame of a function.
 
-ghost use Rattle.std.specs.Prelude.{◌≡◌};
-ghost use Rattle.rv_base.specs.Frame.{no_frame};
+ghost use Rattle.std.specs.Prelude.{◌≡◌, ◌<◌, ◌^◌};
+ghost use Rattle.rv_base.specs.Frame.{no_frame, sp_to_fp_of};
 
 use crate::list::List;
 use crate::regs::{PReg, Writable};
@@ -33,5 +33,13 @@ impl FrameLayout {
             outgoing_args_size: 0,
             clobbered_callee_saves: List::new(alloc),
         }
+    }
+
+    /// How many bytes the frame pointer is above the stack pointer; below 2^31.
+    pub fn sp_to_fp(&self) -> u32
+        requires { sp_to_fp_of self.now < 2 ^ 31 }
+        ensures { result ≡ sp_to_fp_of self.now }
+    {
+        self.clobber_size + self.fixed_frame_storage_size + self.outgoing_args_size
     }
 }

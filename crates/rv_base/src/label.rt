@@ -1,6 +1,7 @@
 //! Labels of a listing and of a buffer.
 
-ghost use Rattle.std.specs.Prelude.{◌≡◌};
+ghost use Rattle.std.specs.Prelude.{◌≡◌, ◌++◌, Some, codes};
+ghost use Rattle.std.specs.Fmt.{decimal};
 
 use std::fmt;
 
@@ -25,13 +26,19 @@ impl MachLabel {
 }
 
 impl fmt::Display for MachLabel {
+    ghost output = { λ label. Some (codes "label" ++ decimal label.number) };
+
     fn fmt<W: fmt::Write>(&self, f: &mut fmt::Formatter<W>) -> fmt::Result {
-        write!(f, "label{}", self.number)
+        let number = self.number;
+        write!(f, "label{number}")
     }
 }
 
 impl fmt::Debug for MachLabel {
+    ghost debug_output = { λ label. Some (codes "MachLabel(" ++ decimal label.number ++ codes ")") };
+
     fn fmt<W: fmt::Write>(&self, f: &mut fmt::Formatter<W>) -> fmt::Result {
-        write!(f, "MachLabel({})", self.number)
+        let number = self.number;
+        write!(f, "MachLabel({number})")
     }
 }

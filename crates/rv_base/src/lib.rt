@@ -1,13 +1,28 @@
-//! The base layer: registers, labels, conditions, flags, frames and constants.
+//! The base layer: registers, types, addresses, labels, conditions, flags, frames, constants and operands.
 #![tactic(auto)]
 
+pub mod amode;
+pub mod class_regs;
+pub mod codegen_error;
 pub mod condcodes;
 pub mod constant;
+pub mod constraint;
+pub mod external_name;
 pub mod flags;
 pub mod frame;
+pub mod ir_type;
 pub mod label;
 pub mod label_use;
 pub mod list;
+pub mod mem_flags;
 pub mod memory;
 pub mod named;
+pub mod names;
+pub mod operand_list;
+pub mod operands;
+pub mod preg_set;
 pub mod regs;
+#[cfg(test)]
+mod tests;
+pub mod trap;
+pub mod value_regs;

@@ -118,3 +118,45 @@ pub fn writable_link_reg() -> Writable<Reg>
 {
     Writable::from_reg(link_reg())
 }
+
+pub fn writable_stack_reg() -> Writable<Reg>
+    ensures { IsReal result.reg RegClass.Int 2 }
+{
+    Writable::from_reg(stack_reg())
+}
+
+pub fn writable_fp_reg() -> Writable<Reg>
+    ensures { IsReal result.reg RegClass.Int 8 }
+{
+    Writable::from_reg(fp_reg())
+}
+
+pub fn writable_a0() -> Writable<Reg>
+    ensures { IsReal result.reg RegClass.Int 10 }
+{
+    Writable::from_reg(a0())
+}
+
+pub fn writable_a2() -> Writable<Reg>
+    ensures { IsReal result.reg RegClass.Int 12 }
+{
+    Writable::from_reg(a2())
+}
+
+pub fn writable_fa1() -> Writable<Reg>
+    ensures { IsReal result.reg RegClass.Float 11 }
+{
+    Writable::from_reg(fa1())
+}
+
+pub fn writable_spilltmp_reg() -> Writable<Reg>
+    ensures { IsReal result.reg RegClass.Int 31 }
+{
+    Writable::from_reg(spilltmp_reg())
+}
+
+pub fn writable_spilltmp_reg2() -> Writable<Reg>
+    ensures { IsReal result.reg RegClass.Int 30 }
+{
+    Writable::from_reg(spilltmp_reg2())
+}

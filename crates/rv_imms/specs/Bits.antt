@@ -1,7 +1,17 @@
--- The bits of a signed number.
-use Rattle.std.specs.Prelude.{ℕ, suc, ◌-◌, ℤ, pos, negsuc}
+-- Signed numbers: their bits, the range of so many bits, and their text with a sign.
+use Rattle.std.specs.Prelude.{ℕ, suc, ◌-◌, ◌^◌, ℤ, pos, negsuc, ◌≤ℤ◌, List, ◌++◌, codes}
+use Rattle.std.specs.Fmt.{decimal}
 
 -- the low bits of a signed number, modulo a power of 2
 abbrev pub low_bits : ℕ → ℤ → ℕ
 low_bits m (pos n) = n
 low_bits m (negsuc n) = m - suc n
+
+-- a number that fits so many bits, read signed
+abbrev pub IsSigned : ℕ → ℤ → Type 0
+IsSigned bits z = (negsuc (2 ^ (bits - 1) - 1) ≤ℤ z) × (z ≤ℤ pos (2 ^ (bits - 1) - 1))
+
+-- the decimal digits behind a sign, which stands before 0 and above too
+abbrev pub text_with_sign : ℤ → List ℕ
+text_with_sign (pos n) = codes "+" ++ decimal n
+text_with_sign (negsuc n) = codes "-" ++ decimal (suc n)

@@ -1,7 +1,10 @@
 //! Immediates of twelve bits, read signed.
 
-ghost use Rattle.std.specs.Prelude.{◌≡◌, ◌<◌, ◌^◌, ◌≤ℤ◌, pos, negsuc};
-ghost use Rattle.rv_imms.specs.Bits.{low_bits};
+ghost use Rattle.std.specs.Prelude.{◌≡◌, ◌<◌, ◌^◌, ◌≤ℤ◌, pos, negsuc, Some, MatchOption};
+ghost use Rattle.std.specs.Int.{cast_signed, w64};
+ghost use Rattle.rv_imms.specs.Bits.{low_bits, IsSigned, text_with_sign};
+
+use std::fmt;
 
 /// A number from -2048 to 2047.
 #[derive(Clone, Copy, Debug, PartialEq, Eq)]
@@ -12,6 +15,30 @@ pub struct Imm12 {
 }
 
 impl Imm12 {
+    pub const ZERO: Imm12 = Imm12 { value: 0 };
+
+    pub const ONE: Imm12 = Imm12 { value: 1 };
+
+    /// The number that the 64 bits are, read signed. None exactly outside -2048 to 2047.
+    pub fn maybe_from_u64(value: u64) -> Option<Imm12>
+        ensures { MatchOption result (¬ (IsSigned 12 (cast_signed w64 value))) (λ imm. imm.value ≡ cast_signed w64 value) }
+    {
+        Imm12::maybe_from_i64(value.cast_signed())
+    }
+
+    /// None exactly outside -2048 to 2047.
+    pub fn maybe_from_i64(value: i64) -> Option<Imm12>
+        ensures { MatchOption result (¬ (IsSigned 12 value)) (λ imm. imm.value ≡ value) }
+    {
+        if value >= -2048 && value <= 2047 {
+            Some(Imm12 {
+                value: value as i16,
+            })
+        } else {
+            None
+        }
+    }
+
     /// The number; from -2048 to 2047.
     pub fn from_i16(value: i16) -> Imm12
         requires low { negsuc 2047 ≤ℤ value }
@@ -33,5 +60,34 @@ impl Imm12 {
         ensures small { result < 2 ^ 12 }
     {
         i32::from(self.value).cast_unsigned() & 0xfff
+    }
+}
+
+impl Default for Imm12 {
+    ghost is_default = { λ imm. imm.value ≡ pos 0 };
+
+    fn default() -> Imm12 {
+        Imm12::ZERO
+    }
+}
+
+impl From<Imm12> for i64 {
+    ghost from_gives = { λ imm number. number ≡ imm.value };
+
+    fn from(imm: Imm12) -> i64 {
+        i64::from(imm.value)
+    }
+}
+
+impl fmt::Display for Imm12 {
+    ghost output = { λ imm. Some (text_with_sign imm.value) };
+
+    fn fmt<W: fmt::Write>(&self, f: &mut fmt::Formatter<W>) -> fmt::Result {
+        let value = self.value;
+        if value < 0 {
+            write!(f, "{value}")
+        } else {
+            write!(f, "+{value}")
+        }
     }
 }

@@ -1,5 +1,7 @@
 //! The code of a job, and what is told of it. Offsets and lengths are in bytes from the code's start.
 
+ghost use Rattle.std.specs.Prelude.{length, ◌<◌, ◌^◌};
+
 use rv_base::label::MachLabel;
 use rv_base::list::List;
 
@@ -25,4 +27,5 @@ pub struct Code {
     pub lines: List<LineSpan>,
     pub labels: List<LabelPlace>,
     pub end: u32,
+    ghost small: { length bytes < 2 ^ 32 },
 }

@@ -1,6 +1,7 @@
 //! Instructions and lines: what they are, which rules they keep, and what they mean.
 #![tactic(auto)]
 
+pub mod check;
 pub mod code;
 pub mod error;
 pub mod inst;

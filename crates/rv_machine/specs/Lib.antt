@@ -1,1 +1,11 @@
 pub mod State
+pub mod Layout
+pub mod Rows
+pub mod Decode
+pub mod Arithmetic
+pub mod Base
+pub mod MulDiv
+pub mod Bits
+pub mod Effects
+pub mod Steps
+pub mod View

@@ -1,0 +1,3 @@
+pub mod Alu
+pub mod Compare
+pub mod Memory

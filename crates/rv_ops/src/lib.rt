@@ -3,3 +3,7 @@
 
 pub mod alu;
 pub mod compare;
+pub mod memory;
+#[cfg(test)]
+mod tests;
+pub mod vec_amode;

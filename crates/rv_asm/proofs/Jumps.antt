@@ -1,0 +1,158 @@
+-- The lines that lead elsewhere run as they mean.
+use Rattle.std.proofs.Common.{◌≡◌, ℕ, suc, ◌+◌, ◌-◌, ◌*◌, ◌/◌, ◌%◌, ◌^◌, ◌<◌, ◌≤◌, Bool, true, false, ℤ, pos, negsuc, ◌-ℤ◌, List, [], ◌∷◌, Some, arith, refl, sym, ap, subst, ◌∙◌, ⊎_elim, lit<}
+use Rattle.std.specs.Prelude.{if◌then◌else◌}
+use Rattle.std.proofs.lemmas.Int.{ints}
+use Rattle.std.proofs.lemmas.Bool.{cases_lt}
+use Rattle.rv_base.specs.declared.flags.IsaFlags.{IsaFlags}
+use Rattle.rv_base.specs.declared.condcodes.IntCC.{IntCC}
+use Rattle.rv_base.specs.declared.condcodes.IntCC.TheVariants.{Equal, NotEqual, SignedLessThan, SignedGreaterThanOrEqual, SignedGreaterThan, SignedLessThanOrEqual, UnsignedLessThan, UnsignedGreaterThanOrEqual, UnsignedGreaterThan, UnsignedLessThanOrEqual}
+use Rattle.rv_base.specs.declared.label.MachLabel.{MachLabel}
+use Rattle.rv_base.specs.CondCodes.{holds}
+use Rattle.rv_base.specs.Regs.{number_of}
+use Rattle.rv_ops.specs.declared.compare.IntegerCompare.{IntegerCompare}
+use Rattle.rv_inst.specs.declared.inst.CondBrTarget.{CondBrTarget}
+use Rattle.rv_inst.specs.declared.inst.CondBrTarget.TheVariants.{Label, Fallthrough}
+use Rattle.rv_inst.specs.declared.inst.Line.TheVariants.{Inst as Put}
+use Rattle.rv_inst.specs.declared.inst.Inst.TheVariants.{Ret, Jal, CondBr}
+use Rattle.rv_inst.specs.Meaning.{Next, To}
+use Rattle.rv_machine.specs.declared.decode.Decoded.{Decoded}
+use Rattle.rv_machine.specs.declared.ops.BaseOp.TheVariants as base_op
+use Rattle.rv_machine.specs.State.{State, Values, reg, wrap, low64, at}
+use Rattle.rv_machine.specs.Effects.{act, has_no_step}
+use Rattle.rv_machine.specs.Steps.{istep}
+use Rattle.rv_asm.specs.Rows.{row, between, branch_row, compare_row, jump_row, branch_rows}
+use Rattle.rv_asm.specs.Blocks.{HasRows, Begins, Ends, Runs, Reaches, IsFineBranch, exit_address}
+use Rattle.rv_asm.proofs.Blocked.{first_step, ends_one, ends_both}
+
+-- a distance forward, and one backward, modulo 2 ^ 64
+ahead : (start to : ℕ) → start ≤ to → to < 2 ^ 31 → low64 (between start to) ≡ to - start
+ahead start to le small = let e : between start to ≡ pos (to - start) = omega (arith, ints) in ap low64 e
+
+behind : (start to : ℕ) → to < start → start < 2 ^ 31 → low64 (between start to) ≡ 2 ^ 64 - (start - to)
+behind start to lt small = let e : between start to ≡ negsuc (start - to - 1) = omega (arith, ints) in ap low64 e ∙ omega arith
+
+-- by the distance from where it stands to an offset, the machine comes to that offset
+pub lands : (base start to : ℕ) → start < 2 ^ 31 → to < 2 ^ 31 → wrap (wrap (base + start) + low64 (between start to)) ≡ wrap (base + to)
+lands base start to h g =
+    ⊎_elim
+    (λ (lt : to < start). let e = behind start to lt h in omega arith)
+    (λ (le : start ≤ to). let e = ahead start to le g in omega arith)
+    (cases_lt to start)
+
+pub ret_runs : (flags : IsaFlags) (place : ℕ → ℕ) (start : ℕ) → Runs flags place start (Put Ret)
+ret_runs flags place start = record {
+  run = λ base after s v b.
+      let ra = b.are_values.fits 1 in
+      let ra' = b.is_state.values.fits 1 in
+      let e = b.same.regs 1 (lit< tt) in
+      ends_one flags s (wrap (reg s.values 1 + 0) / 2 * 2) (reg v 1 / 2 * 2) v s.values
+      (first_step flags base start after (row base_op.Jalr 0 1 0 (pos 0)) [] s v b refl)
+      (omega arith) (omega arith) b.same b.are_values b.is_state.values refl;
+}
+
+-- a jump to an offset comes there, and changes nothing
+jump_ends : (flags : IsaFlags) (base start after to : ℕ) (ds : List Decoded) (s : State) (v : Values) → Begins flags base start after (jump_row (between start to) ∷ ds) s v → Reaches (2 ^ 20) start to → Ends flags (wrap (base + to)) v s
+jump_ends flags base start after to ds s v b r =
+    ends_one flags s (wrap (s.pc + low64 (between start to))) (wrap (base + to)) v s.values
+    (first_step flags base start after (jump_row (between start to)) ds s v b refl)
+    ((λ i. wrap (b.pc i + low64 (between start to))) ∙ lands base start to r.start_small r.to_small)
+    (omega arith) b.same b.are_values b.is_state.values refl
+
+pub jal_runs : (flags : IsaFlags) (place : ℕ → ℕ) (start : ℕ) (label : MachLabel) → Reaches (2 ^ 20) start (place label.number) → Runs flags place start (Put (Jal label))
+jal_runs flags place start label r = record {
+  run = λ base after s v b. jump_ends flags base start after (place label.number) [] s v b r;
+}
+
+-- what the row of a comparison does
+branch_acts : (kind : IntCC) (x y : ℕ) (d : ℤ) (s : State) → act (branch_row kind x y d) s ≡ at (if holds kind (reg s.values x) (reg s.values y) then wrap (s.pc + low64 d) else wrap (s.pc + 4)) s.values
+branch_acts Equal x y d s = refl
+branch_acts NotEqual x y d s = refl
+branch_acts SignedLessThan x y d s = refl
+branch_acts SignedGreaterThanOrEqual x y d s = refl
+branch_acts SignedGreaterThan x y d s = refl
+branch_acts SignedLessThanOrEqual x y d s = refl
+branch_acts UnsignedLessThan x y d s = refl
+branch_acts UnsignedGreaterThanOrEqual x y d s = refl
+branch_acts UnsignedGreaterThan x y d s = refl
+branch_acts UnsignedLessThanOrEqual x y d s = refl
+
+branch_steps : (kind : IntCC) (x y : ℕ) (d : ℤ) → has_no_step (branch_row kind x y d).op ≡ false
+branch_steps Equal x y d = refl
+branch_steps NotEqual x y d = refl
+branch_steps SignedLessThan x y d = refl
+branch_steps SignedGreaterThanOrEqual x y d = refl
+branch_steps SignedGreaterThan x y d = refl
+branch_steps SignedLessThanOrEqual x y d = refl
+branch_steps UnsignedLessThan x y d = refl
+branch_steps UnsignedGreaterThanOrEqual x y d = refl
+branch_steps UnsignedGreaterThan x y d = refl
+branch_steps UnsignedLessThanOrEqual x y d = refl
+
+-- whether a comparison holds of the listing's registers
+abbrev taken_of : IntegerCompare → Values → Bool
+taken_of kind v = holds kind.kind (reg v (number_of kind.rs1)) (reg v (number_of kind.rs2))
+
+-- a branch comes to its target where the comparison holds, and else to the next word
+branch_step : (flags : IsaFlags) (kind : IntegerCompare) (base start after to : ℕ) (ds : List Decoded) (s : State) (v : Values) → number_of kind.rs1 < 30 → number_of kind.rs2 < 30 → Begins flags base start after (compare_row kind (between start to) ∷ ds) s v → Reaches (2 ^ 12) start to → istep flags s ≡ Some (at (if taken_of kind v then wrap (base + to) else wrap (base + (start + 4))) s.values)
+branch_step flags kind base start after to ds s v h1 h2 b r =
+    let x = number_of kind.rs1 in let y = number_of kind.rs2 in
+    let d = between start to in
+    let here = b.pc in
+    let there : wrap (s.pc + low64 d) ≡ wrap (base + to) = (λ i. wrap (b.pc i + low64 d)) ∙ lands base start to r.start_small r.to_small in
+    let next : wrap (s.pc + 4) ≡ wrap (base + (start + 4)) = omega arith in
+    first_step flags base start after (compare_row kind d) ds s v b (branch_steps kind.kind x y d)
+    ∙ ap Some (branch_acts kind.kind x y d s)
+    ∙ (λ i. Some (at (if holds kind.kind (sym (b.same.regs x h1) i) (sym (b.same.regs y h2) i) then there i else next i) s.values))
+
+-- an address that a test chose is in its range
+chosen_fits : (c : Bool) (x y : ℕ) → x < 2 ^ 64 → y < 2 ^ 64 → (if c then x else y) < 2 ^ 64
+chosen_fits true x y h g = h
+chosen_fits false x y h g = g
+
+-- the address of the exit that a test chose
+chosen_exit : (c : Bool) (place : ℕ → ℕ) (base after next label : ℕ) → next ≡ wrap (base + after) → (if c then wrap (base + place label) else next) ≡ exit_address place base after (if c then To label else Next)
+chosen_exit true place base after next label e = refl
+chosen_exit false place base after next label e = e
+
+-- a branch that goes on where the comparison doesn't hold
+branch_on_runs : (flags : IsaFlags) (place : ℕ → ℕ) (start : ℕ) (kind : IntegerCompare) (t : MachLabel) → number_of kind.rs1 < 30 → number_of kind.rs2 < 30 → Reaches (2 ^ 12) start (place t.number) → Runs flags place start (Put (CondBr (Label t) Fallthrough kind))
+branch_on_runs flags place start kind t h1 h2 r = record {
+  run = λ base after s v b.
+      let c = taken_of kind v in
+      let long = b.long in
+      ends_one flags s (if c then wrap (base + place t.number) else wrap (base + (start + 4))) (exit_address place base after (if c then To t.number else Next)) v s.values
+      (branch_step flags kind base start after (place t.number) [] s v h1 h2 b r)
+      (chosen_exit c place base after (wrap (base + (start + 4))) t.number (omega arith))
+      (chosen_fits c _ _ (omega arith) (omega arith)) b.same b.are_values b.is_state.values refl;
+}
+
+-- a branch with a jump behind it
+branch_jump_ends : (flags : IsaFlags) (c : Bool) (place : ℕ → ℕ) (base start after t f : ℕ) (d : Decoded) (s : State) (v : Values) → Begins flags base start after (d ∷ jump_row (between (start + 4) (place f)) ∷ []) s v → Reaches (2 ^ 20) (start + 4) (place f) → istep flags s ≡ Some (at (if c then wrap (base + place t) else wrap (base + (start + 4))) s.values) → Ends flags (exit_address place base after (if c then To t else To f)) v s
+branch_jump_ends flags true place base start after t f d s v b r e =
+    ends_one flags s (wrap (base + place t)) (wrap (base + place t)) v s.values e refl (omega arith) b.same b.are_values b.is_state.values refl
+branch_jump_ends flags false place base start after t f d s v b r e =
+    let jump = jump_row (between (start + 4) (place f)) ∷ [] in
+    let s1 = at (wrap (base + (start + 4))) s.values in
+    let first = ends_one flags s (wrap (base + (start + 4))) (wrap (base + (start + 4))) v s.values e refl (omega arith) b.same b.are_values b.is_state.values refl in
+    let moved : base + start + 4 ≡ base + (start + 4) = omega arith in
+    let b1 : Begins flags base (start + 4) after jump s1 v = record {
+      base_aligned = b.base_aligned;
+      start_aligned = let h = b.start_aligned in omega arith;
+      long = let h = b.long in omega arith;
+      room = b.room;
+      has = subst (λ a. HasRows flags s.values.mem a jump) moved b.has.1;
+      pc = refl;
+      is_state = record { pc = omega arith; values = b.is_state.values };
+      are_values = b.are_values;
+      same = b.same;
+    } in
+    ends_both flags _ _ v v s first (jump_ends flags base (start + 4) after (place f) [] s1 v b1 r)
+
+pub branch_runs : (flags : IsaFlags) (place : ℕ → ℕ) (start : ℕ) (kind : IntegerCompare) (t f : CondBrTarget) → number_of kind.rs1 < 30 → number_of kind.rs2 < 30 → IsFineBranch place start t f → Runs flags place start (Put (CondBr t f kind))
+branch_runs flags place start kind Fallthrough f h1 h2 fine = absurd fine
+branch_runs flags place start kind (Label t) Fallthrough h1 h2 fine = branch_on_runs flags place start kind t h1 h2 fine
+branch_runs flags place start kind (Label t) (Label f) h1 h2 fine = record {
+  run = λ base after s v b.
+      branch_jump_ends flags (taken_of kind v) place base start after t.number f.number (compare_row kind (between start (place t.number))) s v b fine.1
+      (branch_step flags kind base start after (place t.number) _ s v h1 h2 b fine.0);
+}

@@ -1,0 +1,16 @@
+pub mod Blocked
+pub mod Decoding
+pub mod Ending
+pub mod Jumps
+pub mod Laid
+pub mod Lines
+pub mod Numbers
+pub mod Puts
+pub mod Refused
+pub mod Registers
+pub mod Steps
+pub mod Straight
+pub mod Telling
+pub mod Threads
+pub mod Turns
+pub mod Valid

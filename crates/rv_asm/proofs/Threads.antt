@@ -1,0 +1,81 @@
+-- The join of lines: where each line's block, placed with the whole code, leads as the line means, and what stands
+-- between two lines leads on, the code runs as its job says. Nothing here knows how the blocks were laid out.
+use Rattle.std.proofs.Common.{◌≡◌, ℕ, zero, suc, ◌+◌, ◌<◌, ◌≤◌, Bool, true, false, List, [], ◌∷◌, length, Some, arith, refl, sym, ap, subst, ◌∙◌}
+use Rattle.std.specs.Prelude.{slice_get, nat_lt, if◌then◌else◌}
+use Rattle.std.proofs.lemmas.Bool.{ltb-true, ltb-false}
+use Rattle.rv_base.specs.declared.flags.IsaFlags.{IsaFlags}
+use Rattle.rv_inst.specs.declared.inst.Line.{Line}
+use Rattle.rv_inst.specs.declared.job.Job.{Job}
+use Rattle.rv_inst.specs.declared.code.Code.{Code}
+use Rattle.rv_inst.specs.Meaning.{Exit, Next, To, Leave, exit_of, effect_of}
+use Rattle.rv_machine.specs.State.{State, IsState, Values, AreValues, byte, wrap}
+use Rattle.rv_asm.specs.Told.{start_of, end_of}
+use Rattle.rv_asm.specs.Simulation.{Same, At, End, Addresses, place_of, point_of, address_of, IsPlaced, Comes, RunsAsListed}
+use Rattle.rv_asm.specs.Blocks.{Ends, exit_address}
+use Rattle.rv_asm.proofs.Blocked.{ends_both}
+
+-- under the whole code, placed, the machine comes from an offset to an address, with an effect
+pub record Leads (flags : IsaFlags) (code : Code) (start : ℕ) (address : ℕ → Values → ℕ) (effect : Values → Values) : Type 0 where
+  pub run : (base : ℕ) (symbols slots : Addresses) (s : State) (v : Values) → IsPlaced code base symbols slots s.values.mem → s.pc ≡ wrap (base + start) → IsState s → AreValues v → Same v s.values → Ends flags (address base v) (effect v) s
+
+-- where a label of the listing stands
+abbrev pub label_place : List Line → Code → ℕ → ℕ
+label_place lines code label = start_of code.lines (place_of lines label)
+
+abbrev pub LineLeads : Job → Code → ℕ → Line → Type 0
+LineLeads job code i line =
+    Leads job.flags code (start_of code.lines i) (λ base v. exit_address (label_place job.lines code) base (end_of code.lines i) (exit_of line v)) (effect_of line)
+
+-- each line's block leads as the line means, what stands behind it leads to the next one, and the last ends the code
+pub record IsThreaded (job : Job) (code : Code) : Type 0 where
+  pub line : (i : ℕ) (line : Line) → slice_get job.lines i ≡ Some line → LineLeads job code i line
+  pub gap : (i : ℕ) → suc i < length job.lines → Leads job.flags code (end_of code.lines i) (λ base v. wrap (base + start_of code.lines (suc i))) (λ v. v)
+  pub last : (i : ℕ) → suc i ≡ length job.lines → code.end ≡ end_of code.lines i
+
+-- a block that wrote no byte left the code where it was placed
+placed_still : (flags : IsaFlags) (code : Code) (base : ℕ) (symbols slots : Addresses) (s : State) (address : ℕ) (v : Values) (e : Ends flags address v s) → IsPlaced code base symbols slots s.values.mem → IsPlaced code base symbols slots e.state.values.mem
+placed_still flags code base symbols slots s address v e placed = subst (λ m. IsPlaced code base symbols slots m) (sym e.kept) placed
+
+-- from where a line is left the machine comes to its point
+reaches : (job : Job) (code : Code) (base : ℕ) (symbols slots : Addresses) (i : ℕ) (x : Exit) (v : Values) (s : State) → IsThreaded job code → i < length job.lines → IsPlaced code base symbols slots s.values.mem → Ends job.flags (exit_address (label_place job.lines code) base (end_of code.lines i) x) v s → Ends job.flags (address_of code base (point_of job.lines i x)) v s
+reaches job code base symbols slots i (To label) v s t lt placed e = e
+reaches job code base symbols slots i (Leave a) v s t lt placed e = e
+reaches job code base symbols slots i Next v s t lt placed e = on (nat_lt (suc i) (length job.lines)) refl
+  where
+    on : (c : Bool) → nat_lt (suc i) (length job.lines) ≡ c → Ends job.flags (address_of code base (if c then At (suc i) else End)) v s
+    on true h =
+        ends_both job.flags _ _ v v s e
+        ((t.gap i (ltb-true _ _ h)).run base symbols slots e.state v (placed_still job.flags code base symbols slots s _ v e placed) e.pc e.is_state e.are_values e.same)
+    on false h =
+        let most = ltb-false _ _ h in
+        subst (λ a. Ends job.flags a v s) (ap (λ n. wrap (base + n)) (sym (t.last i (omega arith)))) e
+
+comes : (job : Job) (code : Code) (base : ℕ) (symbols slots : Addresses) (i : ℕ) (line : Line) (s : State) (v : Values) → IsThreaded job code → i < length job.lines → slice_get job.lines i ≡ Some line → IsPlaced code base symbols slots s.values.mem → IsState s → AreValues v → s.pc ≡ address_of code base (At i) → Same v s.values → Comes job code base (At i) v s
+comes job code base symbols slots i line s v t lt e placed is_state are_values pc same =
+    let first = (t.line i line e).run base symbols slots s v placed pc is_state are_values same in
+    let ends = reaches job code base symbols slots i (exit_of line v) (effect_of line v) s t lt placed first in
+    record {
+      steps = ends.steps;
+      point = point_of job.lines i (exit_of line v);
+      values = effect_of line v;
+      state = ends.state;
+      line = record { index = i; line = line; at = refl; listed = e; leads = refl; effect = record { regs = λ n h. refl; mem = λ a. refl } };
+      ran = ends.ran;
+      stands = ends.pc;
+      same = ends.same;
+      is_state = ends.is_state;
+      are_values = ends.are_values;
+    }
+
+-- an index below the length has its line
+line_at : (lines : List Line) (i : ℕ) → i < length lines → (line : Line) × (slice_get lines i ≡ Some line)
+line_at [] i lt = absurd (omega arith)
+line_at (l ∷ lines) zero lt = (l, refl)
+line_at (l ∷ lines) (suc i) lt = line_at lines i (omega arith)
+
+pub threaded_runs : (job : Job) (code : Code) → IsThreaded job code → RunsAsListed job code
+threaded_runs job code t = record {
+  from = λ base symbols slots i s v lt placed is_state are_values pc same.
+      let here = line_at job.lines i lt in
+      comes job code base symbols slots i here.0 s v t lt here.1 placed is_state are_values pc same;
+}

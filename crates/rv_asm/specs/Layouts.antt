@@ -1,0 +1,54 @@
+-- The fields of the manual's layouts, of the bits of a number.
+use Rattle.std.specs.Prelude.{◌≡◌, ℕ, ◌+◌, ◌*◌, ◌/◌, ◌%◌, ◌^◌, ℤ, unsigned_abs}
+use Rattle.rv_base.specs.declared.condcodes.IntCC.{IntCC}
+use Rattle.rv_base.specs.declared.condcodes.IntCC.TheVariants.{Equal, NotEqual, SignedLessThan, SignedGreaterThanOrEqual, SignedGreaterThan, SignedLessThanOrEqual, UnsignedLessThan, UnsignedGreaterThanOrEqual, UnsignedGreaterThan, UnsignedLessThanOrEqual}
+use Rattle.rv_machine.specs.declared.fields.Fields.{Fields}
+
+-- layout I: imm[11:5] at 31:25, [4:0] at 24:20
+abbrev pub i_fields : ℕ → ℕ → ℕ → ℕ → ℕ → Fields
+i_fields opcode rd funct3 rs1 bits = record { opcode = opcode; rd = rd; funct3 = funct3; rs1 = rs1; rs2 = bits % 2 ^ 5; funct7 = bits / 2 ^ 5 }
+
+-- layout U: imm[19:0] at 31:12
+abbrev pub u_fields : ℕ → ℕ → ℕ → Fields
+u_fields opcode rd bits = record { opcode = opcode; rd = rd; funct3 = bits % 2 ^ 3; rs1 = bits / 2 ^ 3 % 2 ^ 5; rs2 = bits / 2 ^ 8 % 2 ^ 5; funct7 = bits / 2 ^ 13 }
+
+-- layout B: imm[12] at 31, [10:5] at 30:25, [4:1] at 11:8, [11] at 7
+abbrev pub b_fields : ℕ → ℕ → ℕ → ℕ → ℕ → Fields
+b_fields opcode funct3 rs1 rs2 bits = record { opcode = opcode; rd = bits / 2 % 2 ^ 4 * 2 + bits / 2 ^ 11 % 2; funct3 = funct3; rs1 = rs1; rs2 = rs2; funct7 = bits / 2 ^ 12 * 2 ^ 6 + bits / 2 ^ 5 % 2 ^ 6 }
+
+-- layout J: imm[20] at 31, [10:1] at 30:21, [11] at 20, [19:12] at 19:12
+abbrev pub j_fields : ℕ → ℕ → ℕ → Fields
+j_fields opcode rd bits = record { opcode = opcode; rd = rd; funct3 = bits / 2 ^ 12 % 2 ^ 3; rs1 = bits / 2 ^ 15 % 2 ^ 5; rs2 = bits / 2 % 2 ^ 4 * 2 + bits / 2 ^ 11 % 2; funct7 = bits / 2 ^ 20 * 2 ^ 6 + bits / 2 ^ 5 % 2 ^ 6 }
+
+-- a distance that is even
+abbrev pub IsEven : ℤ → Type 0
+IsEven z = unsigned_abs z % 2 ≡ 0
+
+abbrev pub funct3_of : IntCC → ℕ
+funct3_of Equal = 0
+funct3_of NotEqual = 1
+funct3_of SignedLessThan = 4
+funct3_of SignedGreaterThanOrEqual = 5
+funct3_of SignedGreaterThan = 4
+funct3_of SignedLessThanOrEqual = 5
+funct3_of UnsignedLessThan = 6
+funct3_of UnsignedGreaterThanOrEqual = 7
+funct3_of UnsignedGreaterThan = 6
+funct3_of UnsignedLessThanOrEqual = 7
+
+-- the first register that a branch's word compares
+abbrev pub rs1_of : IntCC → ℕ → ℕ → ℕ
+rs1_of Equal x y = x
+rs1_of NotEqual x y = x
+rs1_of SignedLessThan x y = x
+rs1_of SignedGreaterThanOrEqual x y = x
+rs1_of SignedGreaterThan x y = y
+rs1_of SignedLessThanOrEqual x y = y
+rs1_of UnsignedLessThan x y = x
+rs1_of UnsignedGreaterThanOrEqual x y = x
+rs1_of UnsignedGreaterThan x y = y
+rs1_of UnsignedLessThanOrEqual x y = y
+
+-- and the second one
+abbrev pub rs2_of : IntCC → ℕ → ℕ → ℕ
+rs2_of kind x y = rs1_of kind y x

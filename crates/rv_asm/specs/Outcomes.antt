@@ -1,0 +1,162 @@
+-- How a call of the program ends, and why.
+use Rattle.std.specs.Prelude.{◌≡◌, ℕ, ◌<◌, ◌≤◌, ◌⊎◌, List, [], ◌++◌, length, Option, Some, None, Result, Ok, Err, IfSome, codes}
+use Rattle.std.specs.Io.KnownBytes.{Appends, Keeps}
+use Rattle.std.specs.Fmt.{decimal}
+use Rattle.rv_base.specs.declared.memory.OutOfMemory.{OutOfMemory}
+use Rattle.rv_inst.specs.declared.code.Code.{Code}
+use Rattle.rv_inst.specs.declared.error.Rule.{Rule}
+use Rattle.rv_inst.specs.declared.error.Rule.TheVariants as rules
+use Rattle.rv_inst.specs.declared.error.EmitError.{EmitError}
+use Rattle.rv_inst.specs.declared.error.EmitError.TheVariants as errors
+use Rattle.rv_inst.specs.declared.job.Job.{Job}
+use Rattle.rv_listing.specs.Reading.{reads}
+use Rattle.rv_listing.specs.Report.{report}
+use Rattle.rv_stream.specs.Ends.{Rose, TookFront}
+use Rattle.rv_asm.specs.Refusal.{refusal}
+use Rattle.rv_asm.specs.Told.{Told}
+use Rattle.rv_asm.specs.Simulation.{RunsAsListed}
+use Rattle.rv_asm.specs.declared.outcome.Outcome.{Outcome}
+use Rattle.rv_asm.specs.declared.outcome.Outcome.TheVariants as ends
+
+-- ---- what is written
+
+abbrev pub rule_name : Rule → List ℕ
+rule_name rules.Virtual = codes "Virtual"
+rule_name rules.Class = codes "Class"
+rule_name rules.Reserved = codes "Reserved"
+rule_name rules.NoTarget = codes "NoTarget"
+rule_name rules.Label = codes "Label"
+
+abbrev pub error_line : EmitError → List ℕ
+error_line errors.OutOfMemory = codes "rvemit: OutOfMemory\n"
+error_line (errors.Malformed index rule) = codes "rvemit: Malformed " ++ decimal index ++ codes " " ++ rule_name rule ++ codes "\n"
+error_line (errors.LabelTwice label) = codes "rvemit: LabelTwice " ++ decimal label ++ codes "\n"
+error_line (errors.UnboundLabel label) = codes "rvemit: UnboundLabel " ++ decimal label ++ codes "\n"
+error_line errors.TooLarge = codes "rvemit: TooLarge\n"
+
+-- the text that a call with this outcome writes
+abbrev pub text_of : Outcome → List ℕ
+text_of (ends.Done code) = report code
+text_of ends.Usage = codes "rvemit: usage\n"
+text_of (ends.Syntax line) = codes "rvemit: syntax at line " ++ decimal line ++ codes "\n"
+text_of (ends.Refused error) = error_line error
+text_of ends.TooLong = codes "rvemit: too long\n"
+text_of ends.ReadFault = []
+text_of ends.WriteFault = []
+text_of ends.OutOfMemory = []
+
+abbrev pub status_of : Outcome → ℕ
+status_of (ends.Done code) = 0
+status_of ends.Usage = 2
+status_of (ends.Syntax line) = 3
+status_of (ends.Refused error) = 4
+status_of ends.ReadFault = 5
+status_of ends.WriteFault = 6
+status_of ends.TooLong = 7
+status_of ends.OutOfMemory = 8
+
+-- ---- what an input means
+
+-- the code of the job that the input means, which tells its lines and runs as they say
+abbrev pub IsCodeOf : List ℕ → Code → Type 0
+IsCodeOf input code = (job : Job) × (reads input ≡ Ok job) × (refusal job.lines ≡ None) × Told job code × RunsAsListed job code
+
+-- the input means a job that is refused so; never for want of memory
+abbrev pub IsRefused : List ℕ → EmitError → Type 0
+IsRefused input errors.OutOfMemory = ⊥
+IsRefused input error = (job : Job) × (reads input ≡ Ok job) × (refusal job.lines ≡ Some error)
+
+-- the outcome of an input that was read
+abbrev pub Means : List ℕ → Outcome → Type 0
+Means input (ends.Done code) = IsCodeOf input code
+Means input (ends.Syntax line) = reads input ≡ Err line
+Means input (ends.Refused error) = IsRefused input error
+Means input ends.Usage = ⊥
+Means input ends.TooLong = ⊥
+Means input ends.ReadFault = ⊥
+Means input ends.WriteFault = ⊥
+Means input ends.OutOfMemory = ⊥
+
+-- ---- a call
+
+-- What a call began with, and what it left: how many words the command has, the bytes left and taken, where they are
+-- told, and the counts of faults.
+pub record Call : Type 0 where
+  pub words : ℕ
+  pub left : Option (List ℕ)
+  pub read_faults : ℕ
+  pub read_faults_after : ℕ
+  pub taken : Option (List ℕ)
+  pub taken_after : Option (List ℕ)
+  pub write_faults : ℕ
+  pub write_faults_after : ℕ
+
+abbrev pub call : ℕ → Option (List ℕ) → ℕ → ℕ → Option (List ℕ) → Option (List ℕ) → ℕ → ℕ → Call
+call words left r r_after taken taken_after w w_after = record { words = words; left = left; read_faults = r; read_faults_after = r_after; taken = taken; taken_after = taken_after; write_faults = w; write_faults_after = w_after }
+
+abbrev pub limit : ℕ
+limit = 16777216
+
+-- the command asks for a listing
+abbrev pub Asked : Call → Type 0
+Asked call = call.words ≡ 0
+
+-- All that was left was read, and it has this outcome.
+abbrev pub Read : Call → Outcome → Type 0
+Read call outcome = (input : List ℕ) × IfSome call.left (λ left. input ≡ left) × (length input ≤ limit) × Means input outcome
+
+-- why a call has a text to write, and the outcome once it is written
+abbrev pub Due : Call → Outcome → Type 0
+Due call ends.Usage = 0 < call.words
+Due call ends.TooLong = Asked call × IfSome call.left (λ left. limit < length left)
+Due call outcome = Asked call × Read call outcome
+
+-- the text that was due was written
+abbrev pub Wrote : Call → Outcome → Type 0
+Wrote call outcome = Due call outcome × Appends call.taken call.taken_after (text_of outcome)
+
+-- a front of a text that was due was written
+abbrev pub WroteFront : Call → Type 0
+WroteFront call = (outcome : Outcome) × Due call outcome × TookFront call.taken call.taken_after (text_of outcome)
+
+-- why a call ended so, and what it left written
+abbrev pub Ended : Call → Outcome → Type 0
+Ended call ends.ReadFault = Asked call × Rose call.read_faults call.read_faults_after × Keeps call.taken call.taken_after
+Ended call ends.WriteFault = Rose call.write_faults call.write_faults_after × WroteFront call
+Ended call ends.OutOfMemory = Keeps call.taken call.taken_after ⊎ WroteFront call
+Ended call outcome = Wrote call outcome
+
+-- ---- where no fault rose
+
+-- the answer is this outcome, or memory was wanting
+abbrev pub IsOr : Outcome → Outcome → Type 0
+IsOr answer outcome = (answer ≡ outcome) ⊎ (answer ≡ ends.OutOfMemory)
+
+abbrev pub IsDone : Outcome → Type 0
+IsDone (ends.Done code) = Unit {0}
+IsDone ends.OutOfMemory = Unit {0}
+IsDone other = ⊥
+
+pub record NoFault (call : Call) : Type 0 where
+  pub reads : ¬ Rose call.read_faults call.read_faults_after
+  pub writes : ¬ Rose call.write_faults call.write_faults_after
+
+-- Without a fault the words and the input settle how a call ends, want of memory aside.
+pub record IsSettled (call : Call) (answer : Outcome) : Type 0 where
+  pub usage : 0 < call.words → ¬ Rose call.write_faults call.write_faults_after → IsOr answer ends.Usage
+  pub too_long : Asked call → NoFault call → IfSome call.left (λ input. limit < length input → IsOr answer ends.TooLong)
+  pub syntax_line : Asked call → NoFault call → IfSome call.left (λ input. length input ≤ limit → (line : ℕ) → reads input ≡ Err line → IsOr answer (ends.Syntax line))
+  pub refused : Asked call → NoFault call → IfSome call.left (λ input. length input ≤ limit → (job : Job) (error : EmitError) → reads input ≡ Ok job → refusal job.lines ≡ Some error → IsOr answer (ends.Refused error))
+  pub complete : Asked call → NoFault call → IfSome call.left (λ input. length input ≤ limit → (job : Job) → reads input ≡ Ok job → refusal job.lines ≡ None → IsDone answer)
+
+-- A text was written and the answer is the outcome meant, or a fault of the sink or want of memory came.
+abbrev pub Tells : Outcome → Option (List ℕ) → Option (List ℕ) → ℕ → ℕ → Outcome → Type 0
+Tells outcome old new before after answer =
+    ((answer ≡ outcome) × Appends old new (text_of outcome))
+    ⊎ ((answer ≡ ends.WriteFault) × Rose before after × TookFront old new (text_of outcome))
+    ⊎ ((answer ≡ ends.OutOfMemory) × TookFront old new (text_of outcome))
+
+-- the outcome of a job that is refused so
+abbrev pub outcome_of : EmitError → Result Outcome OutOfMemory
+outcome_of errors.OutOfMemory = Err (record {})
+outcome_of error = Ok (ends.Refused error)

@@ -1,0 +1,69 @@
+-- Why a job is refused: the first cause, in the order in which the causes are looked for.
+use Rattle.std.specs.Prelude.{◌≡◌, ℕ, suc, Bool, true, false, ◌||◌, nat_eq, nat_lt, if◌then◌else◌, List, [], ◌∷◌, ◌++◌, length, Option, Some, None, Result, Ok, Err}
+use Rattle.rv_base.specs.declared.label.MachLabel.{MachLabel}
+use Rattle.rv_inst.specs.declared.inst.Line.{Line}
+use Rattle.rv_inst.specs.declared.inst.Line.TheVariants.{Inst as Put, Bind}
+use Rattle.rv_inst.specs.declared.error.Rule.{Rule}
+use Rattle.rv_inst.specs.declared.error.EmitError.{EmitError}
+use Rattle.rv_inst.specs.declared.error.EmitError.TheVariants.{Malformed, LabelTwice, UnboundLabel, TooLarge, OutOfMemory}
+use Rattle.rv_inst.specs.Fields.{named_labels}
+use Rattle.rv_inst.specs.Rules.{first_of, broken_rule}
+
+abbrev pub malformed : ℕ → Option Rule → Option EmitError
+malformed index None = None
+malformed index (Some rule) = Some (Malformed index rule)
+
+-- the first line that breaks a rule, the first of them all having an index
+abbrev pub broken_from : ℕ → List Line → Option EmitError
+broken_from index [] = None
+broken_from index (line ∷ lines) = first_of (malformed index (broken_rule line)) (broken_from (suc index) lines)
+
+-- whether a line binds a label
+abbrev pub binds : Line → ℕ → Bool
+binds (Bind l) label = nat_eq l.number label
+binds (Put inst) label = false
+
+-- whether one of these lines binds a label
+abbrev pub is_bound : List Line → ℕ → Bool
+is_bound [] label = false
+is_bound (line ∷ lines) label = binds line label || is_bound lines label
+
+-- a label that is bound already, by this test, is bound twice
+abbrev pub twice_of : (ℕ → Bool) → MachLabel → Option EmitError
+twice_of bound l = if bound l.number then Some (LabelTwice l.number) else None
+
+abbrev pub twice_in : (ℕ → Bool) → Line → Option EmitError
+twice_in bound (Bind l) = twice_of bound l
+twice_in bound (Put inst) = None
+
+-- the first line that binds a label which is bound already, before or by a line in front of it
+abbrev pub twice_from : (ℕ → Bool) → List Line → Option EmitError
+twice_from bound [] = None
+twice_from bound (line ∷ lines) = first_of (twice_in bound line) (twice_from (λ label. binds line label || bound label) lines)
+
+-- the first of these labels that isn't bound
+abbrev pub unbound_among : (ℕ → Bool) → List MachLabel → Option EmitError
+unbound_among bound [] = None
+unbound_among bound (l ∷ labels) = if bound l.number then unbound_among bound labels else Some (UnboundLabel l.number)
+
+-- the first line that names a label that isn't bound
+abbrev pub unbound_in : (ℕ → Bool) → List Line → Option EmitError
+unbound_in bound [] = None
+unbound_in bound (line ∷ lines) = first_of (unbound_among bound (named_labels line)) (unbound_in bound lines)
+
+-- more lines than branches reach over
+abbrev pub too_large : List Line → Option EmitError
+too_large lines = if nat_lt 500 (length lines) then Some TooLarge else None
+
+-- why these lines are refused, if they are
+unfoldable pub refusal : List Line → Option EmitError
+refusal lines = first_of (broken_from 0 lines) (first_of (twice_from (λ label. false) lines) (first_of (unbound_in (is_bound lines) lines) (too_large lines)))
+
+-- what a look for an error answers; want of memory may come at any time
+abbrev pub Finds : {X : Type 0} → Option EmitError → Result X EmitError → Type 0
+Finds found (Ok x) = found ≡ None
+Finds found (Err OutOfMemory) = Unit {0}
+Finds found (Err (Malformed index rule)) = found ≡ Some (Malformed index rule)
+Finds found (Err (LabelTwice label)) = found ≡ Some (LabelTwice label)
+Finds found (Err (UnboundLabel label)) = found ≡ Some (UnboundLabel label)
+Finds found (Err TooLarge) = found ≡ Some TooLarge

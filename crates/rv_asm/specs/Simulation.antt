@@ -1,0 +1,80 @@
+-- What it is for code to run as its job says.
+use Rattle.std.specs.Prelude.{◌≡◌, ℕ, suc, ◌+◌, ◌%◌, ◌^◌, ◌<◌, ◌≤◌, nat_eq, nat_lt, if◌then◌else◌, List, [], ◌∷◌, length, slice_get, slice_index, Some}
+use Rattle.std.specs.FinMap.{FinMap}
+use Rattle.std.specs.Ordering.{nat_cmp}
+use Rattle.rv_inst.specs.declared.inst.Line.{Line}
+use Rattle.rv_inst.specs.declared.inst.Line.TheVariants.{Inst as Put, Bind}
+use Rattle.rv_inst.specs.declared.job.Job.{Job}
+use Rattle.rv_inst.specs.declared.code.Code.{Code}
+use Rattle.rv_inst.specs.Meaning.{Exit, Next, To, Leave, exit_of, effect_of}
+use Rattle.rv_machine.specs.State.{State, IsState, Values, AreValues, Memory, byte, reg, wrap}
+use Rattle.rv_machine.specs.Steps.{iter}
+use Rattle.rv_asm.specs.Told.{start_of}
+
+-- the start of a line, by its number; an address outside the code; or the end of the last line
+pub data Point : Type 0 where
+  At : ℕ → Point
+  Out : ℕ → Point
+  End : Point
+
+-- the number of the first line that binds a label
+abbrev pub place_of : List Line → ℕ → ℕ
+place_of [] label = 0
+place_of (Bind l ∷ lines) label = if nat_eq l.number label then 0 else suc (place_of lines label)
+place_of (Put inst ∷ lines) label = suc (place_of lines label)
+
+abbrev pub next_point : List Line → ℕ → Point
+next_point lines i = if nat_lt (suc i) (length lines) then At (suc i) else End
+
+-- where an exit from line i leads
+abbrev pub point_of : List Line → ℕ → Exit → Point
+point_of lines i Next = next_point lines i
+point_of lines i (To label) = At (place_of lines label)
+point_of lines i (Leave a) = Out a
+
+-- x1 to x29 and the memories are equal; x30 and x31 may hold anything
+pub record Same (v w : Values) : Type 0 where
+  pub regs : (n : ℕ) → n < 30 → reg v n ≡ reg w n
+  pub mem : (a : ℕ) → byte v.mem a ≡ byte w.mem a
+
+-- one line at once, from a point and values to a point and values
+pub record OneLine (job : Job) (p : Point) (v : Values) (q : Point) (w : Values) : Type 0 where
+  pub index : ℕ
+  pub line : Line
+  pub at : p ≡ At index
+  pub listed : slice_get job.lines index ≡ Some line
+  pub leads : q ≡ point_of job.lines index (exit_of line v)
+  pub effect : Same (effect_of line v) w
+
+-- the address of a point, for code that stands at a base
+abbrev pub address_of : Code → ℕ → Point → ℕ
+address_of code base (At i) = wrap (base + start_of code.lines i)
+address_of code base End = wrap (base + code.end)
+address_of code base (Out a) = a
+
+-- addresses of symbols, or of the slots that hold them, by the number of a name
+abbrev pub Addresses : Type 0
+Addresses = FinMap nat_cmp ℕ
+
+-- The code's bytes stand in the memory from base on. No relocation is recorded, so no symbol is asked for.
+pub record IsPlaced (code : Code) (base : ℕ) (symbols slots : Addresses) (mem : Memory) : Type 0 where
+  pub aligned : base % 4 ≡ 0
+  pub room : base + length code.bytes ≤ 2 ^ 64
+  pub there : (k : ℕ) → k < length code.bytes → byte mem (base + k) ≡ slice_index code.bytes k
+
+-- From this point the machine comes, in some steps, where one line leads, with values that are the same.
+pub record Comes (job : Job) (code : Code) (base : ℕ) (p : Point) (v : Values) (s : State) : Type 0 where
+  pub steps : ℕ
+  pub point : Point
+  pub values : Values
+  pub state : State
+  pub line : OneLine job p v point values
+  pub ran : iter job.flags steps s ≡ Some state
+  pub stands : state.pc ≡ address_of code base point
+  pub same : Same values state.values
+  pub is_state : IsState state
+  pub are_values : AreValues values
+
+-- The code runs as its job says: from the start of every line, wherever the code is placed, and from all values.
+pub record RunsAsListed (job : Job) (code : Code) : Type 0 where
+  pub from : (base : ℕ) (symbols slots : Addresses) (i : ℕ) (s : State) (v : Values) → i < length job.lines → IsPlaced code base symbols slots s.values.mem → IsState s → AreValues v → s.pc ≡ address_of code base (At i) → Same v s.values → Comes job code base (At i) v s

@@ -1,0 +1,33 @@
+-- What the code tells of its lines.
+use Rattle.std.specs.Prelude.{◌≡◌, ℕ, suc, ◌<◌, ◌≤◌, List, [], ◌∷◌, length, slice_get, Some, option_map, unwrap_or}
+use Rattle.rv_inst.specs.declared.inst.Line.{Line}
+use Rattle.rv_inst.specs.declared.inst.Line.TheVariants.{Inst as Put, Bind}
+use Rattle.rv_inst.specs.declared.job.Job.{Job}
+use Rattle.rv_inst.specs.declared.code.Code.{Code}
+use Rattle.rv_inst.specs.declared.code.LineSpan.{LineSpan}
+use Rattle.rv_inst.specs.declared.code.LabelPlace.{LabelPlace}
+
+abbrev pub start_of : List LineSpan → ℕ → ℕ
+start_of spans i = unwrap_or (option_map (λ (s : LineSpan). s.start) (slice_get spans i)) 0
+
+abbrev pub end_of : List LineSpan → ℕ → ℕ
+end_of spans i = unwrap_or (option_map (λ (s : LineSpan). s.end) (slice_get spans i)) 0
+
+-- the binds among lines, the first of which has index i: each label with the start of its line
+abbrev pub binds_from : List LineSpan → ℕ → List Line → List LabelPlace
+binds_from spans i [] = []
+binds_from spans i (Bind l ∷ lines) = (record { label = l; offset = start_of spans i }) ∷ binds_from spans (suc i) lines
+binds_from spans i (Put inst ∷ lines) = binds_from spans (suc i) lines
+
+-- Every line has one span, in order; the first starts at 0, none ends before it starts, and none starts before the
+-- one before it ends. The code's end is that of the last line, and its labels are the binds.
+pub record Told (job : Job) (code : Code) : Type 0 where
+  pub count : length code.lines ≡ length job.lines
+  pub indices : (i : ℕ) (span : LineSpan) → slice_get code.lines i ≡ Some span → span.index ≡ i
+  pub first : start_of code.lines 0 ≡ 0
+  pub forward : (i : ℕ) → start_of code.lines i ≤ end_of code.lines i
+  pub joined : (i : ℕ) → suc i < length job.lines → end_of code.lines i ≤ start_of code.lines (suc i)
+  pub last : (i : ℕ) → suc i ≡ length job.lines → code.end ≡ end_of code.lines i
+  pub none : length job.lines ≡ 0 → code.end ≡ 0
+  pub within : code.end ≤ length code.bytes
+  pub labels : code.labels ≡ binds_from code.lines 0 job.lines

@@ -1,0 +1,62 @@
+//! From lines to the code that runs as they say.
+
+ghost use Rattle.std.specs.Prelude.{◌≡◌, ℕ, [], None, IfOk, OnOk};
+ghost use Rattle.rv_base.specs.declared.flags.IsaFlags.{IsaFlags};
+ghost use Rattle.rv_base.specs.Flags.{no_flags};
+ghost use Rattle.rv_base.specs.Frame.{no_frame};
+ghost use Rattle.rv_asm.specs.Job.{job_of};
+ghost use Rattle.rv_asm.specs.Refusal.{refusal, Finds};
+ghost use Rattle.rv_asm.specs.Told.{Told};
+ghost use Rattle.rv_asm.specs.Simulation.{RunsAsListed};
+ghost use Rattle.rv_asm.specs.Blocks.{IsLaidOut};
+
+use crate::layout::lay_out;
+use crate::refusal::accept;
+use crate::words::put_lines;
+use rv_base::constant::Constant;
+use rv_base::flags::IsaFlags;
+use rv_base::frame::FrameLayout;
+use rv_base::list::List;
+use rv_base::memory::OutOfMemory;
+use rv_inst::code::Code;
+use rv_inst::error::EmitError;
+use rv_inst::inst::Line;
+use std::alloc::Global;
+
+/// The code of a listing, which runs as its lines say. Every flag is off, the frame has no bytes, and there are no
+/// constants.
+pub fn assemble(
+    alloc: Global,
+    lines: &[Line],
+    flags: IsaFlags,
+    frame: &FrameLayout,
+    constants: &[Constant],
+) -> Result<Code, EmitError>
+    requires flags { flags ≡ no_flags }
+    requires frame { frame.now ≡ no_frame }
+    requires constants { constants.now ≡ [] }
+    ensures told { IfOk result (λ code. Told (job_of lines.now flags frame.now constants.now) code) }
+    ensures runs { IfOk result (λ code. RunsAsListed (job_of lines.now flags frame.now constants.now) code) }
+    ensures refused { Finds (refusal lines.now) result }
+{
+    accept(alloc, lines, flags, frame, constants)?;
+    match build(alloc, lines) {
+        Ok(code) => Ok(code),
+        Err(OutOfMemory) => Err(EmitError::OutOfMemory),
+    }
+}
+
+/// The code of lines that aren't refused.
+fn build(alloc: Global, lines: &[Line]) -> Result<Code, OutOfMemory>
+    requires { refusal lines.now ≡ None }
+    ensures { IfOk result (λ code. (flags : IsaFlags) → IsLaidOut flags lines.now code) }
+{
+    let layout = lay_out(alloc, lines)?;
+    let bytes = put_lines(alloc, &layout.offsets, lines)?;
+    Ok(Code {
+        bytes: List::from_vec(bytes),
+        lines: List::from_vec(layout.spans),
+        labels: List::from_vec(layout.labels),
+        end: layout.end,
+    })
+}

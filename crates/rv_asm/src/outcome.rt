@@ -1,0 +1,125 @@
+//! How a call of the program ends, with its status and its text.
+
+ghost use Rattle.std.specs.Prelude.{◌≡◌, ◌++◌, IfOk, string_bytes, codes};
+ghost use Rattle.std.specs.Fmt.{decimal};
+ghost use Rattle.rv_asm.specs.Outcomes.{rule_name, error_line, text_of, status_of};
+
+use rv_base::memory::OutOfMemory;
+use rv_inst::code::Code;
+use rv_inst::error::{EmitError, Rule};
+use rv_listing::report::report;
+use std::alloc::Global;
+
+/// How a call of the program ended.
+#[derive(Drop)]
+pub enum Outcome {
+    /// The listing has this code, and its report was written.
+    Done { code: Code },
+    /// The command has words.
+    Usage,
+    /// The listing's first bad line, counted from 1.
+    Syntax { line: usize },
+    Refused { error: EmitError },
+    ReadFault,
+    WriteFault,
+    /// The input has more than 16777216 bytes.
+    TooLong,
+    OutOfMemory,
+}
+
+impl Outcome {
+    ghost use Rattle.rv_asm.specs.Outcomes.{status_of};
+
+    /// The status that the process ends with.
+    pub fn status(&self) -> u8
+        ensures { result ≡ status_of self.now }
+    {
+        match self {
+            Outcome::Done { code: _ } => 0,
+            Outcome::Usage => 2,
+            Outcome::Syntax { line: _ } => 3,
+            Outcome::Refused { error: _ } => 4,
+            Outcome::ReadFault => 5,
+            Outcome::WriteFault => 6,
+            Outcome::TooLong => 7,
+            Outcome::OutOfMemory => 8,
+        }
+    }
+}
+
+fn rule_name(rule: Rule) -> &'static str
+    ensures { result.now ≡ rule_name rule }
+{
+    match rule {
+        Rule::Virtual => "Virtual",
+        Rule::Class => "Class",
+        Rule::Reserved => "Reserved",
+        Rule::NoTarget => "NoTarget",
+        Rule::Label => "Label",
+    }
+}
+
+fn malformed_line(alloc: Global, index: usize, rule: Rule) -> Result<String, OutOfMemory>
+    ensures { IfOk result (λ text. string_bytes text ≡ codes "rvemit: Malformed " ++ decimal index ++ codes " " ++ rule_name rule ++ codes "\n") }
+{
+    let name = rule_name(rule);
+    let text = format!(in alloc; "rvemit: Malformed {index} {name}\n")?;
+    Ok(text)
+}
+
+fn label_twice_line(alloc: Global, label: u32) -> Result<String, OutOfMemory>
+    ensures { IfOk result (λ text. string_bytes text ≡ codes "rvemit: LabelTwice " ++ decimal label ++ codes "\n") }
+{
+    let text = format!(in alloc; "rvemit: LabelTwice {label}\n")?;
+    Ok(text)
+}
+
+fn unbound_label_line(alloc: Global, label: u32) -> Result<String, OutOfMemory>
+    ensures { IfOk result (λ text. string_bytes text ≡ codes "rvemit: UnboundLabel " ++ decimal label ++ codes "\n") }
+{
+    let text = format!(in alloc; "rvemit: UnboundLabel {label}\n")?;
+    Ok(text)
+}
+
+fn syntax_line(alloc: Global, line: usize) -> Result<String, OutOfMemory>
+    ensures { IfOk result (λ text. string_bytes text ≡ codes "rvemit: syntax at line " ++ decimal line ++ codes "\n") }
+{
+    let text = format!(in alloc; "rvemit: syntax at line {line}\n")?;
+    Ok(text)
+}
+
+fn bytes_of(alloc: Global, text: &[u8]) -> Result<Vec<u8>, OutOfMemory>
+    ensures { IfOk result (λ bytes. bytes.items ≡ text.now) }
+{
+    let mut bytes = Vec::new(alloc);
+    bytes.extend_from_slice(text)?;
+    Ok(bytes)
+}
+
+fn error_line(alloc: Global, error: &EmitError) -> Result<Vec<u8>, OutOfMemory>
+    ensures { IfOk result (λ bytes. bytes.items ≡ error_line error.now) }
+{
+    match error {
+        EmitError::OutOfMemory => bytes_of(alloc, b"rvemit: OutOfMemory\n"),
+        EmitError::Malformed { index, rule } => Ok(malformed_line(
+            alloc, *index, *rule,
+        )?.into_bytes()),
+        EmitError::LabelTwice { label } => Ok(label_twice_line(alloc, *label)?.into_bytes()),
+        EmitError::UnboundLabel { label } => Ok(unbound_label_line(alloc, *label)?.into_bytes()),
+        EmitError::TooLarge => bytes_of(alloc, b"rvemit: TooLarge\n"),
+    }
+}
+
+/// The text that a call with this outcome writes: a report, or one line that LF ends; nothing for faults.
+pub fn text_of(alloc: Global, outcome: &Outcome) -> Result<Vec<u8>, OutOfMemory>
+    ensures { IfOk result (λ bytes. bytes.items ≡ text_of outcome.now) }
+{
+    match outcome {
+        Outcome::Done { code } => report(alloc, code),
+        Outcome::Usage => bytes_of(alloc, b"rvemit: usage\n"),
+        Outcome::Syntax { line } => Ok(syntax_line(alloc, *line)?.into_bytes()),
+        Outcome::Refused { error } => error_line(alloc, error),
+        Outcome::TooLong => bytes_of(alloc, b"rvemit: too long\n"),
+        Outcome::ReadFault | Outcome::WriteFault | Outcome::OutOfMemory => Ok(Vec::new(alloc)),
+    }
+}

@@ -1,0 +1,159 @@
+//! Why a job is refused.
+
+ghost use Rattle.std.specs.Prelude.{◌≡◌, ℕ, [], ◌∷◌, ◌++◌, ◌||◌, false, nat_eq, IfOk, OnOk};
+ghost use Rattle.std.specs.BTreeSet.{contains};
+ghost use Rattle.std.specs.Ordering.{nat_cmp};
+ghost use Rattle.rv_inst.specs.Fields.{named_labels, inst_labels, target_labels};
+ghost use Rattle.rv_asm.specs.Refusal.{is_bound, broken_from, binds, twice_of, twice_in, twice_from, unbound_among, unbound_in, refusal, Finds};
+
+use rv_base::constant::Constant;
+use rv_base::flags::IsaFlags;
+use rv_base::frame::FrameLayout;
+use rv_base::label::MachLabel;
+use rv_inst::error::EmitError;
+use rv_inst::inst::{CondBrTarget, Inst, Line};
+use std::alloc::Global;
+use std::collections::BTreeSet;
+
+/// Refuses a job for its first cause, where it has one.
+#[tactic(auto, unfolding(crate::specs::Refusal::refusal))]
+pub fn accept(
+    alloc: Global,
+    lines: &[Line],
+    flags: IsaFlags,
+    frame: &FrameLayout,
+    constants: &[Constant],
+) -> Result<(), EmitError>
+    ensures { Finds (refusal lines.now) result }
+{
+    keep_rules(lines, flags, frame, constants)?;
+    let bound = bind_labels(alloc, lines)?;
+    find_all(&bound, lines)?;
+    if lines.len() > 500 {
+        return Err(EmitError::TooLarge);
+    }
+    Ok(())
+}
+
+/// Refuses the first line that breaks a rule.
+fn keep_rules(
+    lines: &[Line],
+    flags: IsaFlags,
+    frame: &FrameLayout,
+    constants: &[Constant],
+) -> Result<(), EmitError>
+    ensures { Finds (broken_from 0 lines.now) result }
+{
+    for (index, line) in lines.iter().enumerate() {
+        if let Some(rule) = line.check(flags, frame, constants) {
+            return Err(EmitError::Malformed { index, rule });
+        }
+    }
+    Ok(())
+}
+
+/// The labels that the lines bind; refuses the first line that binds one a second time.
+fn bind_labels(alloc: Global, lines: &[Line]) -> Result<BTreeSet<u32>, EmitError>
+    ensures once { Finds (twice_from (λ _. false) lines.now) result }
+    ensures bound { IfOk result (λ bound. (label : ℕ) → contains nat_cmp bound label ≡ is_bound lines.now label) }
+{
+    let mut bound = BTreeSet::new(alloc);
+    for line in lines {
+        bind_label_of(&mut bound, line)?;
+    }
+    Ok(bound)
+}
+
+fn bind_label_of(bound: &mut BTreeSet<u32>, line: &Line) -> Result<(), EmitError>
+    ensures once { Finds (twice_in (contains nat_cmp bound.old) line.now) result }
+    ensures added { OnOk result ((label : ℕ) → contains nat_cmp bound.new label ≡ binds line.now label || contains nat_cmp bound.old label) }
+{
+    match line {
+        Line::Inst(_) => Ok(()),
+        Line::Bind(label) => bind_label(bound, *label),
+    }
+}
+
+fn bind_label(bound: &mut BTreeSet<u32>, label: MachLabel) -> Result<(), EmitError>
+    ensures once { Finds (twice_of (contains nat_cmp bound.old) label) result }
+    ensures added { OnOk result ((q : ℕ) → contains nat_cmp bound.new q ≡ nat_eq label.number q || contains nat_cmp bound.old q) }
+{
+    match bound.insert(label.number) {
+        Ok(true) => Ok(()),
+        Ok(false) => Err(EmitError::LabelTwice {
+            label: label.number,
+        }),
+        Err(_) => Err(EmitError::OutOfMemory),
+    }
+}
+
+/// Refuses the first line that names a label that none of the lines binds.
+fn find_all(bound: &BTreeSet<u32>, lines: &[Line]) -> Result<(), EmitError>
+    requires { (label : ℕ) → contains nat_cmp bound.now label ≡ is_bound lines.now label }
+    ensures { Finds (unbound_in (is_bound lines.now) lines.now) result }
+{
+    find_labels(bound, lines)
+}
+
+/// Refuses the first line that names a label that isn't bound.
+fn find_labels(bound: &BTreeSet<u32>, lines: &[Line]) -> Result<(), EmitError>
+    ensures { Finds (unbound_in (contains nat_cmp bound.now) lines.now) result }
+{
+    for line in lines {
+        find_labels_of(bound, line)?;
+    }
+    Ok(())
+}
+
+fn find_labels_of(bound: &BTreeSet<u32>, line: &Line) -> Result<(), EmitError>
+    ensures { Finds (unbound_among (contains nat_cmp bound.now) (named_labels line.now)) result }
+{
+    match line {
+        Line::Inst(inst) => find_labels_in(bound, inst),
+        Line::Bind(_) => Ok(()),
+    }
+}
+
+fn find_labels_in(bound: &BTreeSet<u32>, inst: &Inst) -> Result<(), EmitError>
+    ensures { Finds (unbound_among (contains nat_cmp bound.now) (inst_labels inst.now)) result }
+{
+    match inst {
+        Inst::Jal { label } => find_label(bound, *label),
+        Inst::CondBr {
+            taken,
+            not_taken,
+            kind: _,
+        } => find_targets(bound, *taken, *not_taken),
+        _ => Ok(()),
+    }
+}
+
+fn find_targets(
+    bound: &BTreeSet<u32>,
+    taken: CondBrTarget,
+    not_taken: CondBrTarget,
+) -> Result<(), EmitError>
+    ensures { Finds (unbound_among (contains nat_cmp bound.now) (target_labels taken ++ target_labels not_taken)) result }
+{
+    match (taken, not_taken) {
+        (CondBrTarget::Label(first), CondBrTarget::Label(second)) => {
+            find_label(bound, first)?;
+            find_label(bound, second)
+        }
+        (CondBrTarget::Label(label), CondBrTarget::Fallthrough) => find_label(bound, label),
+        (CondBrTarget::Fallthrough, CondBrTarget::Label(label)) => find_label(bound, label),
+        (CondBrTarget::Fallthrough, CondBrTarget::Fallthrough) => Ok(()),
+    }
+}
+
+fn find_label(bound: &BTreeSet<u32>, label: MachLabel) -> Result<(), EmitError>
+    ensures { Finds (unbound_among (contains nat_cmp bound.now) (label ∷ [])) result }
+{
+    if bound.contains(&label.number) {
+        Ok(())
+    } else {
+        Err(EmitError::UnboundLabel {
+            label: label.number,
+        })
+    }
+}

@@ -1,0 +1,342 @@
+//! Listings on the machine, beside a plain interpreter of the listing.
+
+ghost use Rattle.std.specs.Prelude.{◌<◌, ◌≤◌, length};
+
+use crate::assemble::assemble;
+use rv_base::condcodes::IntCC;
+use rv_base::flags::IsaFlags;
+use rv_base::frame::FrameLayout;
+use rv_base::label::MachLabel;
+use rv_base::named::{a0, link_reg, x_reg, zero_reg};
+use rv_base::regs::{Reg, Writable};
+use rv_imms::imm12::Imm12;
+use rv_imms::imm20::Imm20;
+use rv_inst::inst::{CondBrTarget, Inst, Line};
+use rv_machine::machine::{IntMachine, Step};
+use rv_ops::alu::{AluOPRRI, AluOPRRR};
+use rv_ops::compare::IntegerCompare;
+use std::alloc::{AllocError, Global};
+use std::test::Fail;
+
+const BASE: u64 = 0x1000;
+
+const CALLER: u64 = 0x20000;
+
+fn addi(rd: Reg, rs: Reg, value: i16) -> Line {
+    Line::Inst(Inst::AluRRImm12 {
+        alu_op: AluOPRRI::Addi,
+        rd: Writable::from_reg(rd),
+        rs,
+        imm12: Imm12::maybe_from_i64(i64::from(value)).unwrap_or(Imm12::ZERO),
+    })
+}
+
+fn branch(kind: IntCC, rs1: Reg, rs2: Reg, taken: CondBrTarget, not_taken: CondBrTarget) -> Line {
+    Line::Inst(Inst::CondBr {
+        taken,
+        not_taken,
+        kind: IntegerCompare { kind, rs1, rs2 },
+    })
+}
+
+fn label(number: u32) -> CondBrTarget {
+    CondBrTarget::Label(MachLabel::from_u32(number))
+}
+
+/// The countdown loop, of which the bytes and the spans are known.
+#[test]
+fn counts_down(rt: HostRuntime) -> Result<(), Fail> {
+    let lines = [
+        Line::Bind(MachLabel::from_u32(0)),
+        addi(a0(), a0(), -1),
+        branch(
+            IntCC::NotEqual,
+            a0(),
+            zero_reg(),
+            label(0),
+            CondBrTarget::Fallthrough,
+        ),
+        Line::Inst(Inst::Ret),
+    ];
+    let frame = FrameLayout::none(rt.alloc());
+    let code = assemble(rt.alloc(), &lines, IsaFlags::none(), &frame, &[])?;
+    let bytes = [
+        0x13, 0x05, 0xf5, 0xff, 0xe3, 0x1e, 0x05, 0xfe, 0x67, 0x80, 0x00, 0x00,
+    ];
+    assert_eq!(rt; code.bytes.as_slice(), bytes.as_slice());
+    let mut machine = IntMachine::new(rt.alloc(), IsaFlags::none(), BASE);
+    machine.load_image(BASE, code.bytes.as_slice())?;
+    machine.set_reg(1, CALLER + 1);
+    machine.set_reg(10, 2);
+    assert_eq!(rt; machine.run(5)?, 5);
+    assert_eq!(rt; machine.pc(), CALLER);
+    assert_eq!(rt; machine.reg(10), 0);
+    Ok(())
+}
+
+/// A sequence of small numbers that looks random.
+#[derive(Drop)]
+struct Draws {
+    state: u64,
+}
+
+impl Draws {
+    /// A number below `limit`.
+    fn below(&mut self, limit: u64) -> u64
+        requires { 0 < limit }
+        ensures { result < limit }
+    {
+        self.state = self
+            .state
+            .wrapping_mul(6364136223846793005)
+            .wrapping_add(1442695040888963407);
+        (self.state >> 33) % limit
+    }
+
+    /// One of a0 to a5.
+    fn register(&mut self) -> Reg {
+        x_reg(10 + self.below(6) as usize)
+    }
+
+    fn comparison(&mut self) -> IntCC {
+        match self.below(10) {
+            0 => IntCC::Equal,
+            1 => IntCC::NotEqual,
+            2 => IntCC::SignedLessThan,
+            3 => IntCC::SignedGreaterThanOrEqual,
+            4 => IntCC::SignedGreaterThan,
+            5 => IntCC::SignedLessThanOrEqual,
+            6 => IntCC::UnsignedLessThan,
+            7 => IntCC::UnsignedGreaterThanOrEqual,
+            8 => IntCC::UnsignedGreaterThan,
+            _ => IntCC::UnsignedLessThanOrEqual,
+        }
+    }
+
+    /// A line that writes one register and goes on.
+    fn straight(&mut self) -> Line {
+        let rd = self.register();
+        match self.below(3) {
+            0 => Line::Inst(Inst::Lui {
+                rd: Writable::from_reg(rd),
+                imm: Imm20::maybe_from_i64(self.below(1048576) as i64 - 524288).unwrap_or(
+                    Imm20::ZERO,
+                ),
+            }),
+            1 => Line::Inst(Inst::AluRRR {
+                alu_op: AluOPRRR::Add,
+                rd: Writable::from_reg(rd),
+                rs1: self.register(),
+                rs2: self.register(),
+            }),
+            _ => {
+                let rs = self.register();
+                addi(rd, rs, self.below(4096) as i16 - 2048)
+            }
+        }
+    }
+
+    /// A few such lines.
+    fn straights(&mut self, lines: &mut Vec<Line>) -> Result<(), AllocError> {
+        for _ in 0..self.below(4) {
+            lines.push(self.straight())?;
+        }
+        Ok(())
+    }
+
+    fn branch(&mut self, taken: CondBrTarget, not_taken: CondBrTarget) -> Line {
+        let kind = self.comparison();
+        let rs1 = self.register();
+        branch(kind, rs1, self.register(), taken, not_taken)
+    }
+
+    /// A loop of one to five turns, counted in t0, with branches forward in it.
+    fn listing(&mut self, alloc: Global) -> Result<Vec<Line>, AllocError> {
+        let t0 = x_reg(5);
+        let mut lines = Vec::new(alloc);
+        lines.push(addi(t0, zero_reg(), self.below(5) as i16 + 1))?;
+        lines.push(Line::Bind(MachLabel::from_u32(7)))?;
+        self.straights(&mut lines)?;
+        lines.push(self.branch(label(1), label(2)))?;
+        self.straights(&mut lines)?;
+        lines.push(Line::Bind(MachLabel::from_u32(1)))?;
+        self.straights(&mut lines)?;
+        lines.push(self.branch(label(3), CondBrTarget::Fallthrough))?;
+        self.straights(&mut lines)?;
+        lines.push(Line::Bind(MachLabel::from_u32(2)))?;
+        lines.push(Line::Inst(Inst::Jal {
+            label: MachLabel::from_u32(4),
+        }))?;
+        lines.push(Line::Bind(MachLabel::from_u32(3)))?;
+        self.straights(&mut lines)?;
+        lines.push(Line::Bind(MachLabel::from_u32(4)))?;
+        self.straights(&mut lines)?;
+        lines.push(addi(t0, t0, -1))?;
+        lines.push(branch(
+            IntCC::NotEqual,
+            t0,
+            zero_reg(),
+            label(7),
+            CondBrTarget::Fallthrough,
+        ))?;
+        lines.push(Line::Inst(Inst::Ret))?;
+        Ok(lines)
+    }
+}
+
+/// The registers x0 to x31 of the plain interpreter.
+#[derive(Drop)]
+struct Registers {
+    values: [u64; 32],
+}
+
+fn number(reg: Reg) -> usize
+    ensures { result < 32 }
+{
+    match reg {
+        Reg::Real(reg) => usize::from(reg.number),
+        Reg::Virtual(_) => 0,
+    }
+}
+
+impl Registers {
+    fn read(&self, reg: Reg) -> u64 {
+        self.values[number(reg)]
+    }
+
+    fn write(&mut self, reg: Reg, value: u64) {
+        if number(reg) > 0 {
+            self.values[number(reg)] = value;
+        }
+    }
+
+    fn compares(&self, kind: &IntegerCompare) -> bool {
+        let (x, y) = (self.read(kind.rs1), self.read(kind.rs2));
+        let (i, j) = (x.cast_signed(), y.cast_signed());
+        match kind.kind {
+            IntCC::Equal => x == y,
+            IntCC::NotEqual => x != y,
+            IntCC::SignedLessThan => i < j,
+            IntCC::SignedGreaterThanOrEqual => i >= j,
+            IntCC::SignedGreaterThan => i > j,
+            IntCC::SignedLessThanOrEqual => i <= j,
+            IntCC::UnsignedLessThan => x < y,
+            IntCC::UnsignedGreaterThanOrEqual => x >= y,
+            IntCC::UnsignedGreaterThan => x > y,
+            IntCC::UnsignedLessThanOrEqual => x <= y,
+        }
+    }
+
+    /// What an instruction does; the label that it goes to, where it goes to one, and whether it returns.
+    fn act(&mut self, inst: &Inst) -> (Option<MachLabel>, bool) {
+        match inst {
+            Inst::Ret => (None, true),
+            Inst::Lui { rd, imm } => {
+                let value = i64::from(imm.as_i32()) * 4096;
+                self.write(rd.to_reg(), value.cast_unsigned());
+                (None, false)
+            }
+            Inst::AluRRR {
+                alu_op: AluOPRRR::Add,
+                rd,
+                rs1,
+                rs2,
+            } => {
+                self.write(rd.to_reg(), self.read(*rs1).wrapping_add(self.read(*rs2)));
+                (None, false)
+            }
+            Inst::AluRRImm12 {
+                alu_op: AluOPRRI::Addi,
+                rd,
+                rs,
+                imm12,
+            } => {
+                let value = i64::from(imm12.as_i16()).cast_unsigned();
+                self.write(rd.to_reg(), self.read(*rs).wrapping_add(value));
+                (None, false)
+            }
+            Inst::Jal { label } => (Some(*label), false),
+            Inst::CondBr {
+                taken,
+                not_taken,
+                kind,
+            } => {
+                let target = if self.compares(kind) {
+                    *taken
+                } else {
+                    *not_taken
+                };
+                match target {
+                    CondBrTarget::Label(label) => (Some(label), false),
+                    CondBrTarget::Fallthrough => (None, false),
+                }
+            }
+        }
+    }
+}
+
+fn place(lines: &[Line], label: MachLabel) -> usize {
+    for (index, line) in lines.iter().enumerate() {
+        if let Line::Bind(bound) = line {
+            if *bound == label {
+                return index;
+            }
+        }
+    }
+    lines.len()
+}
+
+/// Runs the listing line by line; whether it returned.
+fn interpret(lines: &[Line], registers: &mut Registers) -> bool {
+    let mut at = 0;
+    for _ in 0..10000 {
+        if at >= lines.len() {
+            return false;
+        }
+        let mut next = at + 1;
+        if let Line::Inst(inst) = &lines[at] {
+            let (target, returned) = registers.act(inst);
+            if returned {
+                return true;
+            }
+            if let Some(label) = target {
+                next = place(lines, label);
+            }
+        }
+        at = next;
+    }
+    false
+}
+
+/// Listings of loops and branches end on the machine as in the plain interpreter.
+#[test]
+fn runs_like_the_listing(rt: HostRuntime) -> Result<(), Fail> {
+    let frame = FrameLayout::none(rt.alloc());
+    for seed in 0..40 {
+        let mut draws = Draws { state: seed };
+        let lines = draws.listing(rt.alloc())?;
+        let code = assemble(rt.alloc(), &lines, IsaFlags::none(), &frame, &[])?;
+        let mut machine = IntMachine::new(rt.alloc(), IsaFlags::none(), BASE);
+        machine.load_image(BASE, code.bytes.as_slice())?;
+        let mut registers = Registers { values: [0; 32] };
+        registers.write(link_reg(), CALLER);
+        machine.set_reg(1, CALLER);
+        for n in 10..16 {
+            let value = draws.below(1 << 31);
+            registers.write(x_reg(n), value);
+            machine.set_reg(n as u8, value);
+        }
+        assert!(rt; interpret(&lines, &mut registers));
+        'steps: for _ in 0..10000 {
+            if machine.pc() == CALLER {
+                break 'steps;
+            }
+            assert_eq!(rt; machine.step()?, Step::Stepped);
+        }
+        assert_eq!(rt; machine.pc(), CALLER);
+        for n in 1..30 {
+            assert_eq!(rt; machine.reg(n as u8), registers.values[n], "x{n} at {seed}");
+        }
+    }
+    Ok(())
+}

@@ -1,0 +1,130 @@
+//! Addresses of loads and stores.
+
+use crate::constant::VCodeConstant;
+use crate::frame::FrameLayout;
+use crate::label::MachLabel;
+use crate::memory::OutOfMemory;
+use crate::named::{fp_reg, stack_reg};
+use crate::operands::OperandVisitor;
+use crate::regs::Reg;
+use std::fmt;
+
+/// An address in the frame, as the rules of calls name it. Offsets are bytes.
+#[derive(Clone, Copy, Debug)]
+pub enum StackAMode {
+    /// An offset into the incoming arguments, and their size.
+    IncomingArg(i64, u32),
+    Slot(i64),
+    OutgoingArg(i64),
+}
+
+/// An address of a load or a store. Offsets are bytes.
+#[derive(Clone, Copy, Debug)]
+pub enum AMode {
+    RegOffset(Reg, i64),
+    SPOffset(i64),
+    FPOffset(i64),
+    /// From the stack slots, which lie above the outgoing arguments.
+    SlotOffset(i64),
+    /// Down from the end of the incoming arguments.
+    IncomingArg(i64),
+    Const(VCodeConstant),
+    Label(MachLabel),
+}
+
+impl AMode {
+    ghost use Rattle.std.specs.Prelude.{◌≡◌, ◌<◌, ◌^◌, ◌++◌, OnOk, OnErr};
+    ghost use Rattle.rv_base.specs.Frame.{sp_to_args_end};
+    ghost use Rattle.rv_base.specs.AMode.{IsNear, own_offset, own_stack_offset, base_of, offset_of, amode_of, operands_of, IsRenamed};
+
+    /// The address of a place in the frame; its offset from -2^62 to 2^62.
+    pub fn from_stack(mode: StackAMode) -> AMode
+        requires { IsNear (own_stack_offset mode) }
+        ensures { result ≡ amode_of mode }
+    {
+        match mode {
+            StackAMode::IncomingArg(offset, size) => AMode::IncomingArg(i64::from(size) - offset),
+            StackAMode::Slot(offset) => AMode::SlotOffset(offset),
+            StackAMode::OutgoingArg(offset) => AMode::SPOffset(offset),
+        }
+    }
+
+    /// Hands over the register that it reads.
+    pub fn get_operands<V: OperandVisitor>(&mut self, collector: &mut V) -> Result<(), OutOfMemory>
+        ensures ok { OnOk result (V.recorded collector.new ≡ V.recorded collector.old ++ operands_of self.old) }
+        ensures err { OnErr result (V.recorded collector.new ≡ V.recorded collector.old) }
+        ensures others { IsRenamed self.old self.new }
+    {
+        match *self {
+            AMode::RegOffset(reg, offset) => {
+                let mut reg = reg;
+                collector.reg_use(&mut reg)?;
+                *self = AMode::RegOffset(reg, offset);
+                Ok(())
+            }
+            _ => Ok(()),
+        }
+    }
+
+    /// The register that it counts from. None for a constant or a label.
+    pub fn get_base_register(&self) -> Option<Reg>
+        ensures { result ≡ base_of self.now }
+    {
+        match *self {
+            AMode::RegOffset(reg, _) => Some(reg),
+            AMode::SPOffset(_) => Some(stack_reg()),
+            AMode::FPOffset(_) => Some(fp_reg()),
+            AMode::SlotOffset(_) => Some(stack_reg()),
+            AMode::IncomingArg(_) => Some(stack_reg()),
+            AMode::Const(_) | AMode::Label(_) => None,
+        }
+    }
+
+    /// Its offset from the base in a frame whose sizes sum to less than 2^31; its own offset from -2^62 to 2^62.
+    pub fn get_offset(&self, frame: &FrameLayout) -> i64
+        requires frame { sp_to_args_end frame.now < 2 ^ 31 }
+        requires near { IsNear (own_offset self.now) }
+        ensures { result ≡ offset_of frame.now self.now }
+    {
+        match *self {
+            AMode::RegOffset(_, offset) => offset,
+            AMode::SPOffset(offset) => offset,
+            AMode::FPOffset(offset) => offset,
+            AMode::SlotOffset(offset) => offset + i64::from(frame.outgoing_args_size),
+            AMode::IncomingArg(offset) => {
+                let above_sp = frame.tail_args_size
+                    + frame.setup_area_size
+                    + frame.clobber_size
+                    + frame.fixed_frame_storage_size
+                    + frame.outgoing_args_size;
+                i64::from(above_sp) - offset
+            }
+            AMode::Const(_) | AMode::Label(_) => 0,
+        }
+    }
+}
+
+impl fmt::Display for AMode {
+    ghost use Rattle.std.specs.Prelude.{Some};
+    ghost use Rattle.rv_base.specs.AMode.{text_of};
+
+    ghost output = { λ mode. Some (text_of mode) };
+
+    fn fmt<W: fmt::Write>(&self, f: &mut fmt::Formatter<W>) -> fmt::Result {
+        match *self {
+            AMode::RegOffset(reg, offset) => write!(f, "{offset}({reg})"),
+            AMode::SPOffset(offset) => write!(f, "{offset}(sp)"),
+            AMode::FPOffset(offset) => write!(f, "{offset}(fp)"),
+            AMode::SlotOffset(offset) => write!(f, "{offset}(slot)"),
+            AMode::IncomingArg(offset) => write!(f, "-{offset}(incoming_arg)"),
+            AMode::Const(constant) => {
+                let number = constant.number;
+                write!(f, "[const({number})]")
+            }
+            AMode::Label(label) => {
+                let number = label.number;
+                write!(f, "[label{number}]")
+            }
+        }
+    }
+}

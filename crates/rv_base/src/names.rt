@@ -1,0 +1,117 @@
+//! The names of registers: those of the manual's calling convention, and a number for a vector or a virtual register.
+
+ghost use Rattle.std.specs.Prelude.{◌≡◌, ◌<◌, Some, IfOk, string_bytes};
+ghost use Rattle.rv_base.specs.Names.{int_names, float_names, name_at, name_of};
+
+use crate::memory::OutOfMemory;
+use crate::regs::{Reg, RegClass};
+use std::alloc::Global;
+use std::fmt;
+
+/// The name of a register; of a virtual one, `%` and its index.
+pub fn reg_name(alloc: Global, reg: Reg) -> Result<String, OutOfMemory>
+    ensures { IfOk result (λ name. string_bytes name ≡ name_of reg) }
+{
+    Ok(reg.to_string(alloc)?)
+}
+
+impl fmt::Display for Reg {
+    ghost output = { λ reg. Some (name_of reg) };
+
+    fn fmt<W: fmt::Write>(&self, f: &mut fmt::Formatter<W>) -> fmt::Result {
+        match self {
+            Reg::Real(reg) => match reg.class {
+                RegClass::Int => f.write_str(int_name(reg.hw_enc())),
+                RegClass::Float => f.write_str(float_name(reg.hw_enc())),
+                RegClass::Vector => {
+                    let number = reg.hw_enc();
+                    write!(f, "v{number}")
+                }
+            },
+            Reg::Virtual(reg) => {
+                let index = reg.index;
+                write!(f, "%{index}")
+            }
+        }
+    }
+}
+
+fn int_name(number: u8) -> &'static str
+    requires { number < 32 }
+    ensures { result.now ≡ name_at int_names number }
+{
+    match number {
+        0 => "zero",
+        1 => "ra",
+        2 => "sp",
+        3 => "gp",
+        4 => "tp",
+        5 => "t0",
+        6 => "t1",
+        7 => "t2",
+        8 => "fp",
+        9 => "s1",
+        10 => "a0",
+        11 => "a1",
+        12 => "a2",
+        13 => "a3",
+        14 => "a4",
+        15 => "a5",
+        16 => "a6",
+        17 => "a7",
+        18 => "s2",
+        19 => "s3",
+        20 => "s4",
+        21 => "s5",
+        22 => "s6",
+        23 => "s7",
+        24 => "s8",
+        25 => "s9",
+        26 => "s10",
+        27 => "s11",
+        28 => "t3",
+        29 => "t4",
+        30 => "t5",
+        _ => "t6",
+    }
+}
+
+fn float_name(number: u8) -> &'static str
+    requires { number < 32 }
+    ensures { result.now ≡ name_at float_names number }
+{
+    match number {
+        0 => "ft0",
+        1 => "ft1",
+        2 => "ft2",
+        3 => "ft3",
+        4 => "ft4",
+        5 => "ft5",
+        6 => "ft6",
+        7 => "ft7",
+        8 => "fs0",
+        9 => "fs1",
+        10 => "fa0",
+        11 => "fa1",
+        12 => "fa2",
+        13 => "fa3",
+        14 => "fa4",
+        15 => "fa5",
+        16 => "fa6",
+        17 => "fa7",
+        18 => "fs2",
+        19 => "fs3",
+        20 => "fs4",
+        21 => "fs5",
+        22 => "fs6",
+        23 => "fs7",
+        24 => "fs8",
+        25 => "fs9",
+        26 => "fs10",
+        27 => "fs11",
+        28 => "ft8",
+        29 => "ft9",
+        30 => "ft10",
+        _ => "ft11",
+    }
+}

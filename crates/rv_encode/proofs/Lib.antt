@@ -1,0 +1,4 @@
+pub mod Decoding
+pub mod Numbers
+pub mod Tables
+pub mod Steps

@@ -1,0 +1,4 @@
+pub mod Layouts
+pub mod Registers
+pub mod Rows
+pub mod Results

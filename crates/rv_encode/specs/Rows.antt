@@ -1,0 +1,139 @@
+-- The rows of the machine that operations with their operands are.
+use Rattle.std.specs.Prelude.{ℕ, ◌%◌, ◌^◌, if◌then◌else◌, ℤ, pos, false}
+use Rattle.rv_base.specs.Regs.{number_of}
+use Rattle.rv_imms.specs.Bits.{low_bits}
+use Rattle.rv_ops.specs.declared.alu.AluOPRRR.{AluOPRRR}
+use Rattle.rv_ops.specs.declared.alu.AluOPRRR.TheVariants as rrr
+use Rattle.rv_ops.specs.declared.alu.AluOPRRI.{AluOPRRI}
+use Rattle.rv_ops.specs.declared.alu.AluOPRRI.TheVariants as rri
+use Rattle.rv_ops.specs.declared.compare.BranchFunct3.{BranchFunct3}
+use Rattle.rv_ops.specs.declared.compare.BranchFunct3.TheVariants as branch
+use Rattle.rv_ops.specs.declared.compare.IntegerCompare.{IntegerCompare}
+use Rattle.rv_ops.specs.Alu.{Upper, Number, Amount6, Amount5, Fixed, is_reversed, rri_numbers}
+use Rattle.rv_ops.specs.Compare.{branch_of, rs1_of, rs2_of}
+use Rattle.rv_machine.specs.declared.decode.Decoded.{Decoded}
+use Rattle.rv_machine.specs.declared.ops.MOp.{MOp}
+use Rattle.rv_machine.specs.declared.ops.MOp.TheVariants.{Base, Mul, Bit}
+use Rattle.rv_machine.specs.declared.ops.BaseOp.TheVariants as base
+use Rattle.rv_machine.specs.declared.ops.MulOp.TheVariants as mul
+use Rattle.rv_machine.specs.declared.ops.BitOp.TheVariants as bit
+
+-- a row of 32 bits
+abbrev pub row : MOp → ℕ → ℕ → ℕ → ℤ → Decoded
+row op rd rs1 rs2 imm = record { op = op; rd = rd; rs1 = rs1; rs2 = rs2; rs3 = 0; imm = imm; rm = 0; vm = false; len = 4 }
+
+-- the manual's row of an operation; sgt and sgtu are slt and sltu
+abbrev pub rrr_op : AluOPRRR → MOp
+rrr_op rrr.Add = Base base.Add
+rrr_op rrr.Sub = Base base.Sub
+rrr_op rrr.Sll = Base base.Sll
+rrr_op rrr.Slt = Base base.Slt
+rrr_op rrr.Sgt = Base base.Slt
+rrr_op rrr.SltU = Base base.Sltu
+rrr_op rrr.Sgtu = Base base.Sltu
+rrr_op rrr.Xor = Base base.Xor
+rrr_op rrr.Srl = Base base.Srl
+rrr_op rrr.Sra = Base base.Sra
+rrr_op rrr.Or = Base base.Or
+rrr_op rrr.And = Base base.And
+rrr_op rrr.Addw = Base base.Addw
+rrr_op rrr.Subw = Base base.Subw
+rrr_op rrr.Sllw = Base base.Sllw
+rrr_op rrr.Srlw = Base base.Srlw
+rrr_op rrr.Sraw = Base base.Sraw
+rrr_op rrr.Mul = Mul mul.Mul
+rrr_op rrr.Mulh = Mul mul.Mulh
+rrr_op rrr.Mulhsu = Mul mul.Mulhsu
+rrr_op rrr.Mulhu = Mul mul.Mulhu
+rrr_op rrr.Div = Mul mul.Div
+rrr_op rrr.DivU = Mul mul.Divu
+rrr_op rrr.Rem = Mul mul.Rem
+rrr_op rrr.RemU = Mul mul.Remu
+rrr_op rrr.Mulw = Mul mul.Mulw
+rrr_op rrr.Divw = Mul mul.Divw
+rrr_op rrr.Divuw = Mul mul.Divuw
+rrr_op rrr.Remw = Mul mul.Remw
+rrr_op rrr.Remuw = Mul mul.Remuw
+rrr_op rrr.Adduw = Bit bit.AddUw
+rrr_op rrr.Andn = Bit bit.Andn
+rrr_op rrr.Bclr = Bit bit.Bclr
+rrr_op rrr.Bext = Bit bit.Bext
+rrr_op rrr.Binv = Bit bit.Binv
+rrr_op rrr.Bset = Bit bit.Bset
+rrr_op rrr.Max = Bit bit.Max
+rrr_op rrr.Maxu = Bit bit.Maxu
+rrr_op rrr.Min = Bit bit.Min
+rrr_op rrr.Minu = Bit bit.Minu
+rrr_op rrr.Orn = Bit bit.Orn
+rrr_op rrr.Rol = Bit bit.Rol
+rrr_op rrr.Rolw = Bit bit.Rolw
+rrr_op rrr.Ror = Bit bit.Ror
+rrr_op rrr.Rorw = Bit bit.Rorw
+rrr_op rrr.Sh1add = Bit bit.Sh1add
+rrr_op rrr.Sh1adduw = Bit bit.Sh1addUw
+rrr_op rrr.Sh2add = Bit bit.Sh2add
+rrr_op rrr.Sh2adduw = Bit bit.Sh2addUw
+rrr_op rrr.Sh3add = Bit bit.Sh3add
+rrr_op rrr.Sh3adduw = Bit bit.Sh3addUw
+rrr_op rrr.Xnor = Bit bit.Xnor
+rrr_op rrr.CzeroEqz = Base base.CzeroEqz
+rrr_op rrr.CzeroNez = Base base.CzeroNez
+
+-- with its registers; sgt and sgtu have their sources exchanged
+abbrev pub alu_rrr_row : AluOPRRR → ℕ → ℕ → ℕ → Decoded
+alu_rrr_row op rd rs1 rs2 = if is_reversed op then row (rrr_op op) rd rs2 rs1 (pos 0) else row (rrr_op op) rd rs1 rs2 (pos 0)
+
+abbrev pub rri_op : AluOPRRI → MOp
+rri_op rri.Addi = Base base.Addi
+rri_op rri.Slti = Base base.Slti
+rri_op rri.SltiU = Base base.Sltiu
+rri_op rri.Xori = Base base.Xori
+rri_op rri.Ori = Base base.Ori
+rri_op rri.Andi = Base base.Andi
+rri_op rri.Slli = Base base.Slli
+rri_op rri.Srli = Base base.Srli
+rri_op rri.Srai = Base base.Srai
+rri_op rri.Addiw = Base base.Addiw
+rri_op rri.Slliw = Base base.Slliw
+rri_op rri.SrliW = Base base.Srliw
+rri_op rri.Sraiw = Base base.Sraiw
+rri_op rri.Bclri = Bit bit.Bclri
+rri_op rri.Bexti = Bit bit.Bexti
+rri_op rri.Binvi = Bit bit.Binvi
+rri_op rri.Bseti = Bit bit.Bseti
+rri_op rri.Rori = Bit bit.Rori
+rri_op rri.Roriw = Bit bit.Roriw
+rri_op rri.SlliUw = Bit bit.SlliUw
+rri_op rri.Clz = Bit bit.Clz
+rri_op rri.Clzw = Bit bit.Clzw
+rri_op rri.Cpop = Bit bit.Cpop
+rri_op rri.Cpopw = Bit bit.Cpopw
+rri_op rri.Ctz = Bit bit.Ctz
+rri_op rri.Ctzw = Bit bit.Ctzw
+rri_op rri.Rev8 = Bit bit.Rev8
+rri_op rri.Sextb = Bit bit.SextB
+rri_op rri.Sexth = Bit bit.SextH
+rri_op rri.Zexth = Bit bit.ZextH
+rri_op rri.Orcb = Bit bit.OrcB
+
+-- what a row keeps of a number: all of it, or the low six or five bits as an amount, or nothing
+abbrev pub kept : Upper → ℤ → ℤ
+kept Number imm = imm
+kept (Amount6 f) imm = pos (low_bits (2 ^ 12) imm % 2 ^ 6)
+kept (Amount5 f) imm = pos (low_bits (2 ^ 12) imm % 2 ^ 5)
+kept (Fixed f) imm = pos 0
+
+abbrev pub alu_rri_row : AluOPRRI → ℕ → ℕ → ℤ → Decoded
+alu_rri_row op rd rs imm = row (rri_op op) rd rs 0 (kept (rri_numbers op).number imm)
+
+abbrev pub branch_op : BranchFunct3 → MOp
+branch_op branch.Eq = Base base.Beq
+branch_op branch.Ne = Base base.Bne
+branch_op branch.Lt = Base base.Blt
+branch_op branch.Ge = Base base.Bge
+branch_op branch.Ltu = Base base.Bltu
+branch_op branch.Geu = Base base.Bgeu
+
+-- the branch by a distance where a comparison holds; some have their registers exchanged
+abbrev pub compare_row : IntegerCompare → ℤ → Decoded
+compare_row c distance = row (branch_op (branch_of c.kind)) 0 (number_of (rs1_of c)) (number_of (rs2_of c)) distance

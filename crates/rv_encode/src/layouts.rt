@@ -1,0 +1,198 @@
+//! Words put together from the fields of the manual's layouts.
+
+ghost use Rattle.std.specs.Prelude.{◌≡◌, ◌<◌, ◌^◌};
+ghost use Rattle.rv_base.specs.declared.flags.IsaFlags.{IsaFlags};
+ghost use Rattle.rv_base.specs.Regs.{number_of};
+ghost use Rattle.rv_imms.specs.Bits.{low_bits};
+ghost use Rattle.rv_machine.specs.Layout.{fields_of};
+ghost use Rattle.rv_machine.specs.Decode.{decode, decode_word};
+ghost use Rattle.rv_encode.specs.Registers.{IsRealRegister};
+ghost use Rattle.rv_encode.specs.Layouts.{r_fields, i_fields, s_fields, b_fields, u_fields, j_fields};
+
+use rv_base::regs::{Reg, WritableReg};
+use rv_imms::imm12::Imm12;
+
+/// The number that a word holds for a real register.
+pub fn reg_to_gpr_num(m: Reg) -> u32
+    requires { IsRealRegister m }
+    ensures value { result ≡ number_of m }
+    ensures width { result < 2 ^ 5 }
+{
+    match m {
+        Reg::Real(reg) => u32::from(reg.number),
+        Reg::Virtual(_) => 0,
+    }
+}
+
+/// Layout R, of real registers; opcode and functs within their widths.
+///
+/// ```text
+/// 31    25 24  20 19  15 14  12 11  7 6      0
+/// | funct7 | rs2 | rs1 | funct3 | rd | opcode |
+/// ```
+pub fn encode_r_type(
+    opcode: u32,
+    rd: WritableReg,
+    funct3: u32,
+    rs1: Reg,
+    rs2: Reg,
+    funct7: u32,
+) -> u32
+    requires opcode { opcode < 2 ^ 7 }
+    requires rd { IsRealRegister rd.reg }
+    requires funct3 { funct3 < 2 ^ 3 }
+    requires rs1 { IsRealRegister rs1 }
+    requires rs2 { IsRealRegister rs2 }
+    requires funct7 { funct7 < 2 ^ 7 }
+    ensures fields { fields_of result ≡ r_fields opcode (number_of rd.reg) funct3 (number_of rs1) (number_of rs2) funct7 }
+    ensures decodes { (flags : IsaFlags) → decode flags result ≡ decode_word (r_fields opcode (number_of rd.reg) funct3 (number_of rs1) (number_of rs2) funct7) }
+{
+    r_word(
+        opcode,
+        reg_to_gpr_num(rd.reg),
+        funct3,
+        reg_to_gpr_num(rs1),
+        reg_to_gpr_num(rs2),
+        funct7,
+    )
+}
+
+/// Layout I, of real registers; opcode and width, which is the manual's funct3, within their widths.
+///
+/// ```text
+/// 31          20 19  15 14 12 11  7 6      0
+/// | offset[11:0] | rs1 | width | rd | opcode |
+/// ```
+pub fn encode_i_type(opcode: u32, rd: WritableReg, width: u32, rs1: Reg, offset: Imm12) -> u32
+    requires opcode { opcode < 2 ^ 7 }
+    requires rd { IsRealRegister rd.reg }
+    requires width { width < 2 ^ 3 }
+    requires rs1 { IsRealRegister rs1 }
+    ensures fields { fields_of result ≡ i_fields opcode (number_of rd.reg) width (number_of rs1) (low_bits (2 ^ 12) offset.value) }
+    ensures decodes { (flags : IsaFlags) → decode flags result ≡ decode_word (i_fields opcode (number_of rd.reg) width (number_of rs1) (low_bits (2 ^ 12) offset.value)) }
+{
+    i_word(
+        opcode,
+        reg_to_gpr_num(rd.reg),
+        width,
+        reg_to_gpr_num(rs1),
+        offset.bits(),
+    )
+}
+
+/// Layout S, of real registers; opcode and width, which is the manual's funct3, within their widths.
+///
+/// ```text
+/// 31          25 24  20 19   15 14 12 11         7 6      0
+/// | offset[11:5] | src | base | width | offset[4:0] | opcode |
+/// ```
+pub fn encode_s_type(opcode: u32, width: u32, base: Reg, src: Reg, offset: Imm12) -> u32
+    requires opcode { opcode < 2 ^ 7 }
+    requires width { width < 2 ^ 3 }
+    requires base { IsRealRegister base }
+    requires src { IsRealRegister src }
+    ensures fields { fields_of result ≡ s_fields opcode width (number_of base) (number_of src) (low_bits (2 ^ 12) offset.value) }
+    ensures decodes { (flags : IsaFlags) → decode flags result ≡ decode_word (s_fields opcode width (number_of base) (number_of src) (low_bits (2 ^ 12) offset.value)) }
+{
+    s_word(
+        opcode,
+        width,
+        reg_to_gpr_num(base),
+        reg_to_gpr_num(src),
+        offset.bits(),
+    )
+}
+
+fn r_word(opcode: u32, rd: u32, funct3: u32, rs1: u32, rs2: u32, funct7: u32) -> u32
+    requires opcode { opcode < 2 ^ 7 }
+    requires rd { rd < 2 ^ 5 }
+    requires funct3 { funct3 < 2 ^ 3 }
+    requires rs1 { rs1 < 2 ^ 5 }
+    requires rs2 { rs2 < 2 ^ 5 }
+    requires funct7 { funct7 < 2 ^ 7 }
+    ensures { fields_of result ≡ r_fields opcode rd funct3 rs1 rs2 funct7 }
+{
+    opcode | rd << 7 | funct3 << 12 | rs1 << 15 | rs2 << 20 | funct7 << 25
+}
+
+/// Layout I, of the twelve bits of its number.
+pub fn i_word(opcode: u32, rd: u32, funct3: u32, rs1: u32, bits: u32) -> u32
+    requires opcode { opcode < 2 ^ 7 }
+    requires rd { rd < 2 ^ 5 }
+    requires funct3 { funct3 < 2 ^ 3 }
+    requires rs1 { rs1 < 2 ^ 5 }
+    requires bits { bits < 2 ^ 12 }
+    ensures { fields_of result ≡ i_fields opcode rd funct3 rs1 bits }
+{
+    opcode | rd << 7 | funct3 << 12 | rs1 << 15 | bits << 20
+}
+
+fn s_word(opcode: u32, funct3: u32, rs1: u32, rs2: u32, bits: u32) -> u32
+    requires opcode { opcode < 2 ^ 7 }
+    requires funct3 { funct3 < 2 ^ 3 }
+    requires rs1 { rs1 < 2 ^ 5 }
+    requires rs2 { rs2 < 2 ^ 5 }
+    requires bits { bits < 2 ^ 12 }
+    ensures { fields_of result ≡ s_fields opcode funct3 rs1 rs2 bits }
+{
+    opcode | (bits & 0x1f) << 7 | funct3 << 12 | rs1 << 15 | rs2 << 20 | (bits >> 5) << 25
+}
+
+/// Layout B, of the thirteen bits of an even distance.
+///
+/// ```text
+/// 31        30        25 24  20 19  15 14  12 11        8 7        6      0
+/// | imm[12] | imm[10:5] | rs2 | rs1 | funct3 | imm[4:1] | imm[11] | opcode |
+/// ```
+pub fn b_word(opcode: u32, funct3: u32, rs1: u32, rs2: u32, bits: u32) -> u32
+    requires opcode { opcode < 2 ^ 7 }
+    requires funct3 { funct3 < 2 ^ 3 }
+    requires rs1 { rs1 < 2 ^ 5 }
+    requires rs2 { rs2 < 2 ^ 5 }
+    requires bits { bits < 2 ^ 13 }
+    ensures { fields_of result ≡ b_fields opcode funct3 rs1 rs2 bits }
+{
+    opcode
+        | (bits >> 11 & 1) << 7
+        | (bits >> 1 & 0xf) << 8
+        | funct3 << 12
+        | rs1 << 15
+        | rs2 << 20
+        | (bits >> 5 & 0x3f) << 25
+        | (bits >> 12) << 31
+}
+
+/// Layout U, of the twenty bits of its number.
+///
+/// ```text
+/// 31       12 11  7 6      0
+/// | imm[19:0] | rd | opcode |
+/// ```
+pub fn u_word(opcode: u32, rd: u32, bits: u32) -> u32
+    requires opcode { opcode < 2 ^ 7 }
+    requires rd { rd < 2 ^ 5 }
+    requires bits { bits < 2 ^ 20 }
+    ensures { fields_of result ≡ u_fields opcode rd bits }
+{
+    opcode | rd << 7 | bits << 12
+}
+
+/// Layout J, of the twenty-one bits of an even distance.
+///
+/// ```text
+/// 31        30        21 20        19         12 11  7 6      0
+/// | imm[20] | imm[10:1] | imm[11] | imm[19:12] | rd | opcode |
+/// ```
+pub fn j_word(opcode: u32, rd: u32, bits: u32) -> u32
+    requires opcode { opcode < 2 ^ 7 }
+    requires rd { rd < 2 ^ 5 }
+    requires bits { bits < 2 ^ 21 }
+    ensures { fields_of result ≡ j_fields opcode rd bits }
+{
+    opcode
+        | rd << 7
+        | (bits >> 12 & 0xff) << 12
+        | (bits >> 11 & 1) << 20
+        | (bits >> 1 & 0x3ff) << 21
+        | (bits >> 20) << 31
+}

@@ -1,0 +1,8 @@
+//! The words of 32 bits of operations with their operands.
+#![tactic(auto)]
+
+pub mod jumps;
+pub mod layouts;
+pub mod operations;
+#[cfg(test)]
+mod tests;

@@ -1,0 +1,42 @@
+//! The words of integer operations.
+
+ghost use Rattle.std.specs.Prelude.{◌≡◌, Some};
+ghost use Rattle.rv_base.specs.declared.flags.IsaFlags.{IsaFlags};
+ghost use Rattle.rv_base.specs.Regs.{number_of};
+ghost use Rattle.rv_machine.specs.Decode.{decode};
+ghost use Rattle.rv_encode.specs.Registers.{IsIntRegister};
+ghost use Rattle.rv_encode.specs.Rows.{alu_rrr_row, alu_rri_row};
+
+use crate::layouts::{encode_r_type, i_word, reg_to_gpr_num};
+use rv_base::regs::{Reg, WritableReg};
+use rv_imms::imm12::Imm12;
+use rv_ops::alu::{AluOPRRI, AluOPRRR};
+
+/// The word of an operation of two integer registers.
+pub fn encode_alu_rrr(op: AluOPRRR, rd: WritableReg, rs1: Reg, rs2: Reg) -> u32
+    requires rd { IsIntRegister rd.reg }
+    requires rs1 { IsIntRegister rs1 }
+    requires rs2 { IsIntRegister rs2 }
+    ensures { (flags : IsaFlags) → decode flags result ≡ Some (alu_rrr_row op (number_of rd.reg) (number_of rs1) (number_of rs2)) }
+{
+    if op.reverse_rs() {
+        return encode_r_type(op.op_code(), rd, op.funct3(), rs2, rs1, op.funct7());
+    }
+    encode_r_type(op.op_code(), rd, op.funct3(), rs1, rs2, op.funct7())
+}
+
+/// The word of an operation of an integer register and a number. A shift keeps the low bits of the number, and an
+/// operation of one source none.
+pub fn encode_alu_rr_imm12(op: AluOPRRI, rd: WritableReg, rs: Reg, imm12: Imm12) -> u32
+    requires rd { IsIntRegister rd.reg }
+    requires rs { IsIntRegister rs }
+    ensures { (flags : IsaFlags) → decode flags result ≡ Some (alu_rri_row op (number_of rd.reg) (number_of rs) imm12.value) }
+{
+    i_word(
+        op.op_code(),
+        reg_to_gpr_num(rd.reg),
+        op.funct3(),
+        reg_to_gpr_num(rs),
+        op.imm12(imm12),
+    )
+}

@@ -1,0 +1,64 @@
+//! Immediates and texts whose expected values come from outside.
+
+use crate::imm5::Imm5;
+use crate::imm6::Imm6;
+use crate::imm12::Imm12;
+use crate::imm20::Imm20;
+use crate::splitting::generate_imm;
+use crate::uimm5::UImm5;
+use crate::unsigned::{Uimm2, Uimm5, Uimm6};
+use std::test::Fail;
+
+#[test]
+fn constants_split(rt: HostRuntime) {
+    let rows = [
+        (2147481599i64, Some((524287, 2047))),
+        (2147481600, None),
+        (-2147485696, Some((-524288, -2048))),
+        (-2147485697, None),
+        (2048, Some((1, -2048))),
+        (2047, Some((0, 2047))),
+        (-1, Some((0, -1))),
+        (0, Some((0, 0))),
+    ];
+    for (value, expected) in rows {
+        let parts = generate_imm(value.cast_unsigned()).map(|p| (p.0.as_i32(), p.1.as_i16()));
+        assert_eq!(rt; parts, expected, "at {value}");
+    }
+}
+
+#[test]
+fn immediates_print(rt: HostRuntime) -> Result<(), Fail> {
+    let (Some(minus), Some(upper), Some(five), Some(six)) = (
+        Imm12::maybe_from_u64(0xffff_ffff_ffff_ffff),
+        Imm20::maybe_from_i64(-1),
+        Imm5::maybe_from_i8(-16),
+        Imm6::maybe_from_i16(31),
+    ) else {
+        assert!(rt; false, "each is in range");
+        return Ok(());
+    };
+    let (zero, one, upper_zero) = (Imm12::ZERO, Imm12::ONE, Imm20::ZERO);
+    let text = format!(in rt.alloc();
+        "{minus} {zero} {one} {upper} {upper:?} {upper_zero} {five} {six}"
+    )?;
+    assert_eq!(rt; text.as_str(), "-1 +0 +1 1048575 -1 0 -16 31");
+    assert_eq!(rt; (zero.bits(), minus.bits()), (0, 4095));
+    Ok(())
+}
+
+#[test]
+fn unsigned_immediates_print(rt: HostRuntime) -> Result<(), Fail> {
+    let (Some(two), Some(five), Some(six), Some(csr)) = (
+        Uimm2::maybe_from_u8(3),
+        Uimm5::maybe_from_u8(31),
+        Uimm6::maybe_from_u8(63),
+        UImm5::maybe_from_u8(31),
+    ) else {
+        assert!(rt; false, "each is in range");
+        return Ok(());
+    };
+    let text = format!(in rt.alloc(); "{two} {five} {six} {csr}")?;
+    assert_eq!(rt; text.as_str(), "3 31 63 31");
+    Ok(())
+}

@@ -1,0 +1,6 @@
+pub mod Cuts
+pub mod Ranges
+pub mod Bad
+pub mod Rows
+pub mod ReportTells
+pub mod Plain

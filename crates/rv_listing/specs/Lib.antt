@@ -1,0 +1,6 @@
+pub mod Tokens
+pub mod Registers
+pub mod Forms
+pub mod Reading
+pub mod CodeRanges
+pub mod Report

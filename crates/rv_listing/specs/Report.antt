@@ -1,0 +1,41 @@
+-- The report of a code.
+use Rattle.std.specs.Prelude.{ℕ, zero, suc, ◌+◌, ◌/◌, List, [], ◌∷◌, ◌++◌, length, take, drop, codes}
+use Rattle.std.specs.List.{flat_map}
+use Rattle.std.specs.Fmt.{decimal}
+use Rattle.std.specs.Int.{w32, to_be_bytes}
+use Rattle.hex.specs.Hex.{encode_lower}
+use Rattle.rv_inst.specs.declared.code.LineSpan.{LineSpan}
+use Rattle.rv_inst.specs.declared.code.LabelPlace.{LabelPlace}
+use Rattle.rv_inst.specs.declared.code.Code.{Code}
+
+abbrev pub lf : List ℕ
+lf = 10 ∷ []
+
+abbrev pub sp : List ℕ
+sp = 32 ∷ []
+
+-- eight hex digits of the offset, then the bytes
+abbrev pub row : ℕ → List ℕ → List ℕ
+row at bytes = encode_lower (to_be_bytes w32 at) ++ sp ++ encode_lower bytes ++ lf
+
+-- n rows of 16 bytes or the rest, from offset `at`
+abbrev pub rows : ℕ → ℕ → List ℕ → List ℕ
+rows zero at bytes = []
+rows (suc n) at bytes = row at (take 16 bytes) ++ rows n (at + 16) (drop 16 bytes)
+
+abbrev pub all_rows : List ℕ → List ℕ
+all_rows bytes = rows ((length bytes + 15) / 16) 0 bytes
+
+abbrev pub span_line : LineSpan → List ℕ
+span_line l = codes "line " ++ decimal l.index ++ sp ++ decimal l.start ++ sp ++ decimal l.end ++ lf
+
+abbrev pub label_line : LabelPlace → List ℕ
+label_line l = codes "label L" ++ decimal l.label.number ++ sp ++ decimal l.offset ++ lf
+
+abbrev pub report : Code → List ℕ
+report c =
+    codes "code " ++ decimal (length c.bytes) ++ lf
+    ++ all_rows c.bytes
+    ++ flat_map span_line c.lines
+    ++ flat_map label_line c.labels
+    ++ codes "end " ++ decimal c.end ++ lf

@@ -1,0 +1,4 @@
+pub mod Images
+pub mod Memory
+pub mod Runs
+pub mod Products

@@ -1,0 +1,13 @@
+use Rattle.std.proofs.Common.{ap, ◌∙◌}
+use Rattle.std.specs.FinMap as map
+use Rattle.rv_machine.specs.View.{machine_of}
+use Rattle.rv_machine.specs.State.{Memory}
+use Rattle.rv_machine.specs.Steps.{Machine, with_memory}
+use Rattle.rv_machine.proofs.Memory.{inserted}
+use Rattle.rv_machine.proofs.machine.IntMachine.set_byte.Goals as goal
+
+pub returns-clause-ok : goal.returns-clause-ok
+returns-clause-ok c =
+    let old = machine_of c.self.inside.flags c.self.inside.pc c.self.inside.regs c.self.inside.bytes.entries in
+    ap (λ (mem : Memory). with_memory old mem) (inserted c.self.inside.bytes.entries c.insert.new.self.entries c.args.at c.args.byte c.in_ok-insert.ensures.updates.0)
+    ∙ ap (λ (m : Machine). with_memory m (map.insert m.state.values.mem c.args.at c.args.byte)) c.self.view_is

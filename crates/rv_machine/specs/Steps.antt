@@ -1,0 +1,66 @@
+-- Steps of the machine, one and many.
+use Rattle.std.specs.Prelude.{◌≡◌, ℕ, zero, suc, ◌+◌, ◌*◌, ◌%◌, ◌^◌, nat_eq, if◌then◌else◌, List, Option, Some, None, replicate}
+use Rattle.std.specs.FinMap as map
+use Rattle.rv_base.specs.declared.flags.IsaFlags.{IsaFlags}
+use Rattle.rv_machine.specs.declared.decode.Decoded.{Decoded}
+use Rattle.rv_machine.specs.declared.machine.Step.{Step}
+use Rattle.rv_machine.specs.declared.machine.Step.TheVariants.{Stepped, Stopped}
+use Rattle.rv_machine.specs.State.{Memory, State, byte, store, wrap, at, set_reg}
+use Rattle.rv_machine.specs.Decode.{decode}
+use Rattle.rv_machine.specs.Effects.{act, has_no_step}
+
+-- four bytes, the lowest first
+abbrev pub fetch : Memory → ℕ → ℕ
+fetch mem pc = byte mem pc + byte mem (wrap (pc + 1)) * 2 ^ 8 + byte mem (wrap (pc + 2)) * 2 ^ 16 + byte mem (wrap (pc + 3)) * 2 ^ 24
+
+abbrev pub step_on : Option Decoded → State → Option State
+step_on None s = None
+step_on (Some d) s = if has_no_step d.op then None else Some (act d s)
+
+-- one step, where the pc is even and the word there is a row that has one
+unfoldable pub istep : IsaFlags → State → Option State
+istep flags s = if nat_eq (s.pc % 2) 0 then step_on (decode flags (fetch s.values.mem s.pc)) s else None
+
+abbrev pub then_step : IsaFlags → Option State → Option State
+then_step flags None = None
+then_step flags (Some s) = istep flags s
+
+-- the state after so many steps, each of which exists
+unfoldable pub iter : IsaFlags → ℕ → State → Option State
+iter flags zero s = Some s
+iter flags (suc n) s = then_step flags (iter flags n s)
+
+-- a machine: its flags, and the state that it is in
+pub record Machine : Type 0 where
+  pub flags : IsaFlags
+  pub state : State
+
+-- all registers 0, and every byte 0
+abbrev pub zero_at : ℕ → State
+zero_at pc = at pc (record { regs = replicate 31 0; mem = map.empty })
+
+abbrev pub with_state : Machine → State → Machine
+with_state m s = record { flags = m.flags; state = s }
+
+abbrev pub with_pc : Machine → ℕ → Machine
+with_pc m pc = with_state m (at pc m.state.values)
+
+abbrev pub with_reg : Machine → ℕ → ℕ → Machine
+with_reg m n x = with_state m (at m.state.pc (set_reg m.state.values n x))
+
+abbrev pub with_memory : Machine → Memory → Machine
+with_memory m mem = with_state m (at m.state.pc (record { regs = m.state.values.regs; mem = mem }))
+
+-- bytes put at an address and on
+abbrev pub with_bytes : Machine → ℕ → List ℕ → Machine
+with_bytes m at bytes = with_memory m (store m.state.values.mem at bytes)
+
+-- what a step answers
+abbrev pub Steps : Step → Machine → Machine → Type 0
+Steps Stepped m n = (istep m.flags m.state ≡ Some n.state) × (n.flags ≡ m.flags)
+Steps Stopped m n = (istep m.flags m.state ≡ None) × (n ≡ m)
+
+-- so many steps of a machine
+pub record Ran (k : ℕ) (m n : Machine) : Type 0 where
+  pub steps : iter m.flags k m.state ≡ Some n.state
+  pub flags_stay : n.flags ≡ m.flags

@@ -1,0 +1,284 @@
+//! Rows at their edges: the answers were computed from the manual's sentences, by whole numbers, outside this project.
+
+use crate::decode::{Decoded, decode};
+use crate::machine::{IntMachine, Step};
+use crate::ops::{BaseOp, BitOp, MOp, MulOp};
+use rv_base::flags::IsaFlags;
+use rv_base::memory::OutOfMemory;
+use std::test::Fail;
+
+/// The sources, in hex, that each row of `TWO_SOURCES` is tried with.
+const PAIRS: [(u64, u64); 8] = [
+    (0x8000000000000000, 0xffffffffffffffff),
+    (0xffffffffffffffff, 0x0),
+    (0x7fffffffffffffff, 0x3f),
+    (0x180000001, 0x1f),
+    (0x123456789abcdef0, 0x20),
+    (0x0, 0x8000000000000000),
+    (0x1, 0x7fffffffffffffff),
+    (0xffffffff80000000, 0xffffffffffffffff),
+];
+
+/// The mnemonic and word of `op a2, a0, a1`, and what it gives for each of the pairs.
+const TWO_SOURCES: &str = "\
+add 00b50633 7fffffffffffffff ffffffffffffffff 800000000000003e 180000020 123456789abcdf10 8000000000000000 8000000000000000 ffffffff7fffffff
+sub 40b50633 8000000000000001 ffffffffffffffff 7fffffffffffffc0 17fffffe2 123456789abcded0 8000000000000000 8000000000000002 ffffffff80000001
+sll 00b51633 0 ffffffffffffffff 8000000000000000 c000000080000000 9abcdef000000000 0 8000000000000000 0
+slt 00b52633 1 1 0 0 0 0 1 1
+sltu 00b53633 1 0 0 0 0 1 1 1
+xor 00b54633 7fffffffffffffff ffffffffffffffff 7fffffffffffffc0 18000001e 123456789abcded0 8000000000000000 7ffffffffffffffe 7fffffff
+srl 00b55633 1 ffffffffffffffff 0 3 12345678 0 0 1
+sra 40b55633 ffffffffffffffff ffffffffffffffff 0 3 12345678 0 0 ffffffffffffffff
+or 00b56633 ffffffffffffffff ffffffffffffffff 7fffffffffffffff 18000001f 123456789abcdef0 8000000000000000 7fffffffffffffff ffffffffffffffff
+and 00b57633 8000000000000000 0 3f 1 20 0 1 ffffffff80000000
+addw 00b5063b ffffffffffffffff ffffffffffffffff 3e ffffffff80000020 ffffffff9abcdf10 0 0 7fffffff
+subw 40b5063b 1 ffffffffffffffff ffffffffffffffc0 7fffffe2 ffffffff9abcded0 0 2 ffffffff80000001
+sllw 00b5163b 0 ffffffffffffffff ffffffff80000000 ffffffff80000000 ffffffff9abcdef0 0 ffffffff80000000 0
+srlw 00b5563b 0 ffffffffffffffff 1 1 ffffffff9abcdef0 0 0 1
+sraw 40b5563b 0 ffffffffffffffff ffffffffffffffff ffffffffffffffff ffffffff9abcdef0 0 0 ffffffffffffffff
+mul 02b50633 8000000000000000 0 7fffffffffffffc1 2e8000001f 468acf13579bde00 0 7fffffffffffffff 80000000
+mulh 02b51633 0 0 1f 0 2 0 0 0
+mulhsu 02b52633 8000000000000000 0 1f 0 2 0 0 ffffffff80000000
+mulhu 02b53633 7fffffffffffffff 0 1f 0 2 0 0 ffffffff7fffffff
+div 02b54633 8000000000000000 ffffffffffffffff 208208208208208 c6318c6 91a2b3c4d5e6f7 0 0 80000000
+divu 02b55633 0 ffffffffffffffff 208208208208208 c6318c6 91a2b3c4d5e6f7 0 0 0
+rem 02b56633 0 ffffffffffffffff 7 7 10 0 1 0
+remu 02b57633 8000000000000000 ffffffffffffffff 7 7 10 0 1 ffffffff80000000
+mulw 02b5063b 0 0 ffffffffffffffc1 ffffffff8000001f 579bde00 0 ffffffffffffffff ffffffff80000000
+divw 02b5463b 0 ffffffffffffffff 0 fffffffffbdef7be fffffffffcd5e6f8 ffffffffffffffff ffffffffffffffff ffffffff80000000
+divuw 02b5563b 0 ffffffffffffffff 4104104 4210842 4d5e6f7 ffffffffffffffff 0 0
+remw 02b5663b 0 ffffffffffffffff ffffffffffffffff ffffffffffffffff fffffffffffffff0 0 0 0
+remuw 02b5763b 0 ffffffffffffffff 3 3 10 0 1 ffffffff80000000
+add.uw 08b5063b ffffffffffffffff ffffffff 10000003e 80000020 9abcdf10 8000000000000000 8000000000000000 7fffffff
+sh1add 20b52633 ffffffffffffffff fffffffffffffffe 3d 300000021 2468acf13579be00 8000000000000000 8000000000000001 fffffffeffffffff
+sh1add.uw 20b5263b ffffffffffffffff 1fffffffe 20000003d 100000021 13579be00 8000000000000000 8000000000000001 ffffffff
+sh2add 20b54633 ffffffffffffffff fffffffffffffffc 3b 600000023 48d159e26af37be0 8000000000000000 8000000000000003 fffffffdffffffff
+sh2add.uw 20b5463b ffffffffffffffff 3fffffffc 40000003b 200000023 26af37be0 8000000000000000 8000000000000003 1ffffffff
+sh3add 20b56633 ffffffffffffffff fffffffffffffff8 37 c00000027 91a2b3c4d5e6f7a0 8000000000000000 8000000000000007 fffffffbffffffff
+sh3add.uw 20b5663b ffffffffffffffff 7fffffff8 800000037 400000027 4d5e6f7a0 8000000000000000 8000000000000007 3ffffffff
+andn 40b57633 0 ffffffffffffffff 7fffffffffffffc0 180000000 123456789abcded0 0 0 0
+orn 40b56633 8000000000000000 ffffffffffffffff ffffffffffffffff ffffffffffffffe1 ffffffffffffffff 7fffffffffffffff 8000000000000001 ffffffff80000000
+xnor 40b54633 8000000000000000 0 800000000000003f fffffffe7fffffe1 edcba9876543212f 7fffffffffffffff 8000000000000001 ffffffff80000000
+max 0ab56633 ffffffffffffffff 0 7fffffffffffffff 180000001 123456789abcdef0 0 7fffffffffffffff ffffffffffffffff
+maxu 0ab57633 ffffffffffffffff ffffffffffffffff 7fffffffffffffff 180000001 123456789abcdef0 8000000000000000 7fffffffffffffff ffffffffffffffff
+min 0ab54633 8000000000000000 ffffffffffffffff 3f 1f 20 8000000000000000 1 ffffffff80000000
+minu 0ab55633 8000000000000000 0 3f 1f 20 0 1 ffffffff80000000
+rol 60b51633 4000000000000000 ffffffffffffffff bfffffffffffffff c000000080000000 9abcdef012345678 0 8000000000000000 7fffffffc0000000
+rolw 60b5163b 0 ffffffffffffffff ffffffffffffffff ffffffffc0000000 ffffffff9abcdef0 0 ffffffff80000000 40000000
+ror 60b55633 1 ffffffffffffffff fffffffffffffffe 200000003 9abcdef012345678 0 2 ffffffff00000001
+rorw 60b5563b 0 ffffffffffffffff ffffffffffffffff 3 ffffffff9abcdef0 0 2 1
+bclr 48b51633 0 fffffffffffffffe 7fffffffffffffff 100000001 123456789abcdef0 0 1 7fffffff80000000
+bext 48b55633 1 1 0 1 0 0 0 1
+binv 68b51633 0 fffffffffffffffe ffffffffffffffff 100000001 123456799abcdef0 1 8000000000000001 7fffffff80000000
+bset 28b51633 8000000000000000 ffffffffffffffff ffffffffffffffff 180000001 123456799abcdef0 1 8000000000000001 ffffffff80000000
+czero.eqz 0eb55633 8000000000000000 0 7fffffffffffffff 180000001 123456789abcdef0 0 1 ffffffff80000000
+czero.nez 0eb57633 0 ffffffffffffffff 0 0 0 0 0 0
+";
+
+/// The mnemonic and word of `op a2, a0, number`, and sources with what it gives for each.
+const ONE_SOURCE: &str = "\
+addi 80050613 0:fffffffffffff800 ffffffffffffffff:fffffffffffff7ff 8000000000000000:7ffffffffffff800
+addi 7ff50613 0:7ff ffffffffffffffff:7fe 8000000000000000:80000000000007ff
+addi fff50613 0:ffffffffffffffff ffffffffffffffff:fffffffffffffffe 8000000000000000:7fffffffffffffff
+slti 80052613 0:0 ffffffffffffffff:0 8000000000000000:1
+slti 7ff52613 0:1 ffffffffffffffff:1 8000000000000000:1
+slti fff52613 0:0 ffffffffffffffff:0 8000000000000000:1
+sltiu 80053613 0:1 ffffffffffffffff:0 8000000000000000:1
+sltiu 7ff53613 0:1 ffffffffffffffff:0 8000000000000000:0
+sltiu fff53613 0:1 ffffffffffffffff:0 8000000000000000:1
+xori 80054613 0:fffffffffffff800 ffffffffffffffff:7ff 8000000000000000:7ffffffffffff800
+xori 7ff54613 0:7ff ffffffffffffffff:fffffffffffff800 8000000000000000:80000000000007ff
+xori fff54613 0:ffffffffffffffff ffffffffffffffff:0 8000000000000000:7fffffffffffffff
+ori 80056613 0:fffffffffffff800 ffffffffffffffff:ffffffffffffffff 8000000000000000:fffffffffffff800
+ori 7ff56613 0:7ff ffffffffffffffff:ffffffffffffffff 8000000000000000:80000000000007ff
+ori fff56613 0:ffffffffffffffff ffffffffffffffff:ffffffffffffffff 8000000000000000:ffffffffffffffff
+andi 80057613 0:0 ffffffffffffffff:fffffffffffff800 8000000000000000:8000000000000000
+andi 7ff57613 0:0 ffffffffffffffff:7ff 8000000000000000:0
+andi fff57613 0:0 ffffffffffffffff:ffffffffffffffff 8000000000000000:8000000000000000
+addiw 8005061b 0:fffffffffffff800 ffffffffffffffff:fffffffffffff7ff 8000000000000000:fffffffffffff800
+addiw 7ff5061b 0:7ff ffffffffffffffff:7fe 8000000000000000:7ff
+addiw fff5061b 0:ffffffffffffffff ffffffffffffffff:fffffffffffffffe 8000000000000000:ffffffffffffffff
+slli 00051613 1:1 ffffffffffffffff:ffffffffffffffff 180000001:180000001
+slli 01f51613 1:80000000 ffffffffffffffff:ffffffff80000000 180000001:c000000080000000
+slli 02051613 1:100000000 ffffffffffffffff:ffffffff00000000 180000001:8000000100000000
+slli 03f51613 1:8000000000000000 ffffffffffffffff:8000000000000000 180000001:8000000000000000
+srli 00055613 1:1 ffffffffffffffff:ffffffffffffffff 180000001:180000001
+srli 01f55613 1:0 ffffffffffffffff:1ffffffff 180000001:3
+srli 02055613 1:0 ffffffffffffffff:ffffffff 180000001:1
+srli 03f55613 1:0 ffffffffffffffff:1 180000001:0
+srai 40055613 1:1 ffffffffffffffff:ffffffffffffffff 180000001:180000001
+srai 41f55613 1:0 ffffffffffffffff:ffffffffffffffff 180000001:3
+srai 42055613 1:0 ffffffffffffffff:ffffffffffffffff 180000001:1
+srai 43f55613 1:0 ffffffffffffffff:ffffffffffffffff 180000001:0
+slliw 0005161b 1:1 ffffffffffffffff:ffffffffffffffff 180000001:ffffffff80000001
+slliw 01f5161b 1:ffffffff80000000 ffffffffffffffff:ffffffff80000000 180000001:ffffffff80000000
+srliw 0005561b 1:1 ffffffffffffffff:ffffffffffffffff 180000001:ffffffff80000001
+srliw 01f5561b 1:0 ffffffffffffffff:1 180000001:1
+sraiw 4005561b 1:1 ffffffffffffffff:ffffffffffffffff 180000001:ffffffff80000001
+sraiw 41f5561b 1:0 ffffffffffffffff:ffffffffffffffff 180000001:ffffffffffffffff
+slli.uw 0805161b 1:1 ffffffffffffffff:ffffffff 180000001:80000001
+slli.uw 09f5161b 1:80000000 ffffffffffffffff:7fffffff80000000 180000001:4000000080000000
+slli.uw 0a05161b 1:100000000 ffffffffffffffff:ffffffff00000000 180000001:8000000100000000
+slli.uw 0bf5161b 1:8000000000000000 ffffffffffffffff:8000000000000000 180000001:8000000000000000
+rori 60055613 1:1 ffffffffffffffff:ffffffffffffffff 180000001:180000001
+rori 61f55613 1:200000000 ffffffffffffffff:ffffffffffffffff 180000001:200000003
+rori 62055613 1:100000000 ffffffffffffffff:ffffffffffffffff 180000001:8000000100000001
+rori 63f55613 1:2 ffffffffffffffff:ffffffffffffffff 180000001:300000002
+roriw 6005561b 1:1 ffffffffffffffff:ffffffffffffffff 180000001:ffffffff80000001
+roriw 61f5561b 1:2 ffffffffffffffff:ffffffffffffffff 180000001:3
+bclri 48051613 1:0 ffffffffffffffff:fffffffffffffffe 180000001:180000000
+bclri 49f51613 1:1 ffffffffffffffff:ffffffff7fffffff 180000001:100000001
+bclri 4a051613 1:1 ffffffffffffffff:fffffffeffffffff 180000001:80000001
+bclri 4bf51613 1:1 ffffffffffffffff:7fffffffffffffff 180000001:180000001
+bexti 48055613 1:1 ffffffffffffffff:1 180000001:1
+bexti 49f55613 1:0 ffffffffffffffff:1 180000001:1
+bexti 4a055613 1:0 ffffffffffffffff:1 180000001:1
+bexti 4bf55613 1:0 ffffffffffffffff:1 180000001:0
+binvi 68051613 1:0 ffffffffffffffff:fffffffffffffffe 180000001:180000000
+binvi 69f51613 1:80000001 ffffffffffffffff:ffffffff7fffffff 180000001:100000001
+binvi 6a051613 1:100000001 ffffffffffffffff:fffffffeffffffff 180000001:80000001
+binvi 6bf51613 1:8000000000000001 ffffffffffffffff:7fffffffffffffff 180000001:8000000180000001
+bseti 28051613 1:1 ffffffffffffffff:ffffffffffffffff 180000001:180000001
+bseti 29f51613 1:80000001 ffffffffffffffff:ffffffffffffffff 180000001:180000001
+bseti 2a051613 1:100000001 ffffffffffffffff:ffffffffffffffff 180000001:180000001
+bseti 2bf51613 1:8000000000000001 ffffffffffffffff:ffffffffffffffff 180000001:8000000180000001
+clz 60051613 0:40 8000000000000000:0 ff0080010080f1:8
+clzw 6005161b 0:20 8000000000000000:20 ff0080010080f1:7
+ctz 60151613 0:40 8000000000000000:3f ff0080010080f1:0
+ctzw 6015161b 0:20 8000000000000000:20 ff0080010080f1:0
+cpop 60251613 0:0 8000000000000000:1 ff0080010080f1:10
+cpopw 6025161b 0:0 8000000000000000:0 ff0080010080f1:7
+sext.b 60451613 0:0 8000000000000000:0 ff0080010080f1:fffffffffffffff1
+sext.h 60551613 0:0 8000000000000000:0 ff0080010080f1:ffffffffffff80f1
+zext.h 0805463b 0:0 8000000000000000:0 ff0080010080f1:80f1
+orc.b 28755613 0:0 8000000000000000:ff00000000000000 ff0080010080f1:ff00ffff00ffff
+rev8 6b855613 0:0 8000000000000000:80 ff0080010080f1:f18000018000ff00
+";
+
+/// Does one row, and answers what it leaves in a2.
+fn answer(machine: &mut IntMachine, word: u64, x: u64, y: u64) -> Result<(Step, u64), OutOfMemory> {
+    machine.load_image(0x1000, &word.to_le_bytes())?;
+    machine.set_pc(0x1000);
+    machine.set_reg(10, x);
+    machine.set_reg(11, y);
+    let step = machine.step()?;
+    Ok((step, machine.reg(12)))
+}
+
+/// A number in hex; a table has no other.
+fn number(text: &str) -> u64 {
+    u64::from_str_radix(text, 16).unwrap_or(0)
+}
+
+#[test]
+fn rows_of_two_sources(rt: HostRuntime) -> Result<(), Fail> {
+    let mut machine = IntMachine::new(rt.alloc(), IsaFlags::none(), 0);
+    let mut rows = 0u32;
+    for line in TWO_SOURCES.lines() {
+        let mut columns = line.split(' ');
+        let (Some(name), Some(word)) = (columns.next(), columns.next()) else {
+            continue;
+        };
+        for ((x, y), expected) in PAIRS.into_iter().zip(columns) {
+            let got = answer(&mut machine, number(word), x, y)?;
+            assert_eq!(rt;
+                got,
+                (Step::Stepped, number(expected)),
+                "{name} of {x:x} and {y:x}"
+            );
+            rows = rows.wrapping_add(1);
+        }
+    }
+    assert_eq!(rt; rows, 416);
+    Ok(())
+}
+
+#[test]
+fn rows_of_one_source(rt: HostRuntime) -> Result<(), Fail> {
+    let mut machine = IntMachine::new(rt.alloc(), IsaFlags::none(), 0);
+    let mut rows = 0u32;
+    for line in ONE_SOURCE.lines() {
+        let mut columns = line.split(' ');
+        let (Some(name), Some(word)) = (columns.next(), columns.next()) else {
+            continue;
+        };
+        for column in columns {
+            let Some((x, expected)) = column.split_once(':') else {
+                continue;
+            };
+            let got = answer(&mut machine, number(word), number(x), 0)?;
+            assert_eq!(rt; got, (Step::Stepped, number(expected)), "{name} of {x}");
+            rows = rows.wrapping_add(1);
+        }
+    }
+    assert_eq!(rt; rows, 228);
+    Ok(())
+}
+
+/// The loop `addi a0, a0, -1; bne a0, zero, -4; jalr zero, 0(ra)`, and a stop at an odd pc, at no row and at `ebreak`.
+#[test]
+fn machines_run(rt: HostRuntime) -> Result<(), Fail> {
+    let mut machine = IntMachine::new(rt.alloc(), IsaFlags::none(), 0x1000);
+    machine.load_image(
+        0x1000,
+        &[
+            0x13, 0x05, 0xf5, 0xff, 0xe3, 0x1e, 0x05, 0xfe, 0x67, 0x80, 0, 0,
+        ],
+    )?;
+    machine.set_reg(10, 2);
+    machine.set_reg(1, 0x2001);
+    machine.set_reg(0, 7);
+    assert_eq!(rt; machine.run(5)?, 5);
+    assert_eq!(rt;
+        (machine.pc(), machine.reg(10), machine.reg(0)),
+        (0x2000, 0, 0)
+    );
+    assert_eq!(rt; (machine.run(3)?, machine.step()?), (0, Step::Stopped));
+    machine.set_pc(0x1001);
+    assert_eq!(rt; machine.step()?, Step::Stopped);
+    machine.load_image(0xffff_ffff_ffff_fffe, &[0x73, 0x00, 0x10, 0x00])?;
+    assert_eq!(rt; (machine.byte(0), machine.byte(1)), (0x10, 0));
+    machine.set_pc(0xffff_ffff_ffff_fffe);
+    assert_eq!(rt; machine.step()?, Step::Stopped);
+    Ok(())
+}
+
+/// A word with its row, rd, rs1, rs2 and number; and words without a row.
+#[test]
+fn words_are_decoded(rt: HostRuntime) {
+    for (word, op, rd, rs1, rs2, imm) in [
+        (0x0120000f, MOp::Base(BaseOp::Fence), 0, 0, 0, 18),
+        (0x00100073, MOp::Base(BaseOp::Ebreak), 0, 0, 0, 0),
+        (0x00078037, MOp::Base(BaseOp::Lui), 0, 0, 0, 120),
+        (0xfffff517, MOp::Base(BaseOp::Auipc), 10, 0, 0, -1),
+        (0xffdff0ef, MOp::Base(BaseOp::Jal), 1, 0, 0, -4),
+        (0x00c0006f, MOp::Base(BaseOp::Jal), 0, 0, 0, 12),
+        (0x06450567, MOp::Base(BaseOp::Jalr), 10, 10, 0, 100),
+        (0xfe051ee3, MOp::Base(BaseOp::Bne), 0, 10, 0, -4),
+        (0x78b504e3, MOp::Base(BaseOp::Beq), 0, 10, 11, 3976),
+        (0x80050513, MOp::Base(BaseOp::Addi), 10, 10, 0, -2048),
+        (0x43f55513, MOp::Base(BaseOp::Srai), 10, 10, 0, 63),
+        (0x080545bb, MOp::Bit(BitOp::ZextH), 11, 10, 0, 0),
+        (0x60555593, MOp::Bit(BitOp::Rori), 11, 10, 0, 5),
+        (0x02b55533, MOp::Mul(MulOp::Divu), 10, 10, 11, 0),
+    ] {
+        let row = Decoded {
+            op,
+            rd,
+            rs1,
+            rs2,
+            rs3: 0,
+            imm,
+            rm: 0,
+            vm: false,
+            len: 4,
+        };
+        assert_eq!(rt; decode(IsaFlags::none(), word), Some(row), "{word:x}");
+    }
+    for word in [
+        0, 0x4501, 0xffffffff, 0x00000073, 0x00200073, 0x0200552b, 0x08b545bb, 0x0240559b,
+        0x80000033, 0x00052063,
+    ] {
+        assert_eq!(rt; decode(IsaFlags::none(), word), None, "{word:x}");
+    }
+}

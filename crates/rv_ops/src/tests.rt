@@ -1,0 +1,20 @@
+//! What no clause says: that a visitor with ample memory is handed the register of an address.
+
+use crate::vec_amode::VecAMode;
+use rv_base::amode::AMode;
+use rv_base::constraint::Constraint;
+use rv_base::named::a0;
+use rv_base::operand_list::OperandList;
+use std::test::Fail;
+
+#[test]
+fn vector_addresses_read_their_base(rt: HostRuntime) -> Result<(), Fail> {
+    let mut visitor = OperandList::new(rt.alloc());
+    let mut mode = VecAMode {
+        base: AMode::RegOffset(a0(), 8),
+    };
+    mode.get_operands(&mut visitor)?;
+    let expected = [Constraint::RegUse(a0())];
+    assert_eq!(rt; visitor.constraints().as_slice(), expected.as_slice());
+    Ok(())
+}

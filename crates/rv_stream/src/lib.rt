@@ -1,0 +1,9 @@
+//! Where a program's bytes come from, and where they go.
+#![tactic(auto)]
+
+pub mod ends;
+pub mod in_memory;
+pub mod standard;
+#[cfg(test)]
+mod tests;
+pub mod whole;
