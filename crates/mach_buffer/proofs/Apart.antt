@@ -78,6 +78,7 @@ spans_end {L} {fields} {has_veneer} {forward} {backward} {veneer} {bytes} {uses}
   where
     of_use : Use L → ℕ × ℕ
     of_use u = (u.offset, length (fields u.kind))
+
     of_veneer : VeneerUse L → ℕ × ℕ
     of_veneer x = (x.at, 8)
 
@@ -88,7 +89,7 @@ pub windows_veneer : {L : Type 0} {fields : L → List ℕ} {has_veneer : L → 
 windows_veneer {L} {fields} {has_veneer} {forward} {backward} {veneer} {bytes} {uses} {veneers} l law code new_bytes new_uses new_veneers own eb same ev at w =
     let more = windows_bytes w code new_bytes eb in
     let spans : spans_of fields (recorded new_uses) new_veneers ≡ spans_of fields (recorded uses) veneers ++ (own.at, 8) ∷ [] =
-        ap (λ us. spans_of fields us new_veneers) same ∙ ap (spans_of fields (recorded uses)) ev ∙ ap (λ ss. map of_use (recorded uses) ++ ss) (map-append of_veneer veneers (own ∷ [])) ∙ sym (append_assoc (map of_use (recorded uses)) (map of_veneer veneers) ((own.at, 8) ∷ [])) in
+    ap (λ us. spans_of fields us new_veneers) same ∙ ap (spans_of fields (recorded uses)) ev ∙ ap (λ ss. map of_use (recorded uses) ++ ss) (map-append of_veneer veneers (own ∷ [])) ∙ sym (append_assoc (map of_use (recorded uses)) (map of_veneer veneers) ((own.at, 8) ∷ [])) in
     record {
       even = λ j u h. more.even j u (ap (λ us. slice_get us j) (sym same) ∙ h);
       inside = λ j u h. more.inside j u (ap (λ us. slice_get us j) (sym same) ∙ h);
@@ -98,6 +99,7 @@ windows_veneer {L} {fields} {has_veneer} {forward} {backward} {veneer} {bytes} {
   where
     of_use : Use L → ℕ × ℕ
     of_use u = (u.offset, length (fields u.kind))
+
     of_veneer : VeneerUse L → ℕ × ℕ
     of_veneer x = (x.at, 8)
 

@@ -141,6 +141,7 @@ module _ {L : Type 0} {fields : L → List ℕ} {has_veneer : L → Bool} {forwa
     where
       of_use : Use L → ℕ × ℕ
       of_use u = (u.offset, length (fields u.kind))
+
       of_veneer : VeneerUse L → ℕ × ℕ
       of_veneer w = (w.at, 8)
 
@@ -162,6 +163,7 @@ module _ {L : Type 0} {fields : L → List ℕ} {has_veneer : L → Bool} {forwa
     where
       at_core : slice_get (recorded uses) j ≡ Some (core u)
       at_core = recorded_get uses j u h
+
       can : (target : ℕ) → (patch_of place u).target ≡ target → target ≤ u.offset + forward u.kind → u.offset ≤ target + backward u.kind → target % 2 ≡ 0 → CanPatch fields forward backward bytes (patch_of place u)
       can target e fw bw ev = record {
         forward_in = subst (λ n. n ≤ u.offset + forward u.kind) (sym e) fw;
@@ -171,11 +173,13 @@ module _ {L : Type 0} {fields : L → List ℕ} {has_veneer : L → Bool} {forwa
         inside = f.windows.inside j (core u) at_core;
         fresh = f.windows.fresh j (core u) at_core;
       }
+
       reached : (o : Option ℕ) → place u.label.number ≡ o → is_reached forward backward o u ≡ true → u.veneer ≡ None → CanPatch fields forward backward bytes (patch_of place u)
       reached None e r v = absurd (true≢false (sym r))
       reached (Some at) e r v =
           let parts : (nat_le at (u.offset + forward u.kind) ≡ true) × (nat_le u.offset (at + backward u.kind) ≡ true) = and_parts _ _ r in
           can at (ap (λ o. unwrap_or (or_place o (place u.label.number)) 0) v ∙ ap (λ o. unwrap_or o 0) e) (leb-true _ _ parts.0) (leb-true _ _ parts.1) (f.places u.label.number at e).1
+
       on : (o : Option ℕ) → u.veneer ≡ o → CanPatch fields forward backward bytes (patch_of place u)
       on (Some at) e =
           let near = f.linked.near j u at h e in
@@ -244,10 +248,13 @@ module _ {L : Type 0} {fields : L → List ℕ} {has_veneer : L → Bool} {forwa
     where
       of_use : Use L → ℕ × ℕ
       of_use u = (u.offset, length (fields u.kind))
+
       of_veneer : VeneerUse L → ℕ × ℕ
       of_veneer x = (x.at, 8)
+
       long : length (map of_use (recorded uses)) ≡ length uses
       long = length_map of_use (recorded uses) ∙ length_map core uses
+
       span : slice_get (spans_of fields (recorded uses) veneers) (length uses + index) ≡ Some (w.at, 8)
       span = ap (λ n. slice_get (spans_of fields (recorded uses) veneers) (n + index)) (sym long) ∙ get_right (map of_use (recorded uses)) (map of_veneer veneers) index _ (slice_get-map of_veneer veneers index ∙ ap (option_map of_veneer) hw)
 

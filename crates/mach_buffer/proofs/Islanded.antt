@@ -46,6 +46,7 @@ recorded_at (w ∷ new_uses) (x ∷ uses) e zero u h = record { was = x; there =
     head_or : {A : Type 0} → A → List A → A
     head_or d [] = d
     head_or d (y ∷ ys) = y
+
     head_same : recorded (w ∷ new_uses) ≡ recorded (x ∷ uses) → core w ≡ core x
     head_same q = ap (head_or (core w)) q
 recorded_at {L} (w ∷ new_uses) (x ∷ uses) e (suc j) u h = on (recorded_at new_uses uses (ap (λ ys. tail_of ys) e) j u h)
@@ -53,6 +54,7 @@ recorded_at {L} (w ∷ new_uses) (x ∷ uses) e (suc j) u h = on (recorded_at ne
     tail_of : List (Use L) → List (Use L)
     tail_of [] = []
     tail_of (y ∷ ys) = ys
+
     on : Was uses j u → Was (x ∷ uses) (suc j) u
     on q = record { was = q.was; there = q.there; alike = q.alike }
 
@@ -87,33 +89,46 @@ module _ {L : Type 0} {has_veneer : L → Bool} {forward backward : L → ℕ} {
     where
       last : ℕ
       last = deadline forward o.jump
+
       test : Use L → Bool
       test = is_other has_veneer forward backward place (Some round)
+
       start : length pad_bytes ≡ aligned (length bytes)
       start = ap (length {A = ℕ}) ep ∙ length_padded bytes
+
       own_end : length own_bytes ≡ first_of (aligned (length bytes)) others last
       own_end = o.long ∙ ap (λ n. first_of n count last) start ∙ ap (λ n. first_of (aligned (length bytes)) n last) ec
+
       ends : length new_bytes ≡ island_end (aligned (length bytes)) others last
       ends = p.long ∙ ap (λ n. length own_bytes + 8 * n) (sym eo) ∙ ap (λ n. n + 8 * others) own_end
+
       first_later : (b : Bool) (n : ℕ) → n ≤ cond b (n + 8) n
       first_later true n = omega arith
       first_later false n = omega arith
+
       longer : length pad_bytes ≤ length own_bytes
       longer = let f = first_later (needs_own (length pad_bytes) count last) (length pad_bytes) in let l = o.long in omega arith
+
       jump_now : own_jump (length pad_bytes) count last o.jump ≡ own_jump (aligned (length bytes)) others last o.jump
       jump_now = ap (λ n. own_jump n count last o.jump) start ∙ ap (λ n. own_jump (aligned (length bytes)) n last o.jump) ec
+
       own_idle_now : test (own_jump (length pad_bytes) count last o.jump) ≡ false
       own_idle_now = own_idle has_veneer forward backward place round _ (ap (λ (l : MachLabel). l.number) (own_label (needs_own (length pad_bytes) count last) (length pad_bytes) o.jump) ∙ o.names)
+
       there : slice_get new_uses o.index ≡ Some (own_jump (aligned (length bytes)) others last o.jump)
       there = p.kept o.index _ o.own own_idle_now ∙ ap Some jump_now
+
       not_own : (j : ℕ) (u : Use L) → slice_get uses j ≡ Some u → test u ≡ true → j ≢ o.index
       not_own j u h t same = true≢false (sym t ∙ ap test (same_Some _ _ (sym h ∙ ap (slice_get uses) same ∙ o.stands)) ∙ own_idle has_veneer forward backward place round o.jump o.names)
+
       index_is : (j : ℕ) (u : Use L) → slice_get new_uses j ≡ Some u → u.label.number ≡ round.number → j ≡ o.index
       index_is j u h e =
           let w = recorded_at new_uses uses (p.same ∙ o.same) j u h in
           r.only j w.was w.there (ap (λ (x : Use L). x.label.number) w.alike ∙ e) ∙ sym (r.only o.index o.jump o.stands o.names)
+
       cleared : (u : Use L) → is_none u.veneer ≡ false → is_pending has_veneer forward backward new_place u ≡ false
       cleared u e = and_right (has_veneer u.kind) _ (and_left (is_none u.veneer) (not (is_reached forward backward (new_place u.label.number) u)) e)
+
       reached : (u : Use L) → u.label.number ≡ round.number → length new_bytes ≤ deadline forward u → u.offset ≤ length new_bytes → is_pending has_veneer forward backward new_place u ≡ false
       reached u e le off =
           let at : new_place u.label.number ≡ Some (length new_bytes) = ap new_place e ∙ bound in
@@ -121,12 +136,14 @@ module _ {L : Type 0} {has_veneer : L → Bool} {forward backward : L → ℕ} {
           let far : nat_le u.offset (length new_bytes + backward u.kind) ≡ true = le-leb _ _ (omega arith) in
           let is : is_reached forward backward (new_place u.label.number) u ≡ true = ap (λ q. is_reached forward backward q u) at ∙ and_from _ _ near far in
           and_right (has_veneer u.kind) _ (and_right (is_none u.veneer) (not (is_reached forward backward (new_place u.label.number) u)) (ap not is))
+
       own_case : (b : Bool) → needs_own (aligned (length bytes)) others last ≡ b → (u : Use L) → cond b (record o.jump { veneer = Some (aligned (length bytes)) }) o.jump ≡ u → u.label.number ≡ round.number → u.offset ≤ length new_bytes → is_pending has_veneer forward backward new_place u ≡ false
       own_case true n u is e off = cleared u (ap (λ (x : Use L). is_none x.veneer) (sym is))
       own_case false n u is e off =
           let le = ltb-false _ _ n in
           let whole : length new_bytes ≡ aligned (length bytes) + 8 * others = ends ∙ ap (λ b. cond b (aligned (length bytes) + 8) (aligned (length bytes)) + 8 * others) n in
           reached u e (subst (λ (x : Use L). length new_bytes ≤ deadline forward x) is (omega arith)) off
+
       each : (j : ℕ) (u : Use L) → slice_get new_uses j ≡ Some u → is_pending has_veneer forward backward new_place u ≡ false
       each j u h = ⊎_elim
           (λ e. own_case (needs_own (aligned (length bytes)) others last) refl u (same_Some _ _ (sym there ∙ ap (slice_get new_uses) (sym (index_is j u h e)) ∙ h)) e (behind j u h))

@@ -188,12 +188,15 @@ linked_use {L} {has_veneer} {forward} {veneer} {bytes} {uses} {veneers} l u none
     none_some : (o : Option ℕ) (a : ℕ) → o ≡ None → o ≡ Some a → ⊥
     none_some None a p q = absurd (cc)
     none_some (Some b) a p q = absurd (cc)
+
     differ : (a : ℕ) → u.veneer ≡ Some a → ⊥
     differ a r = none_some u.veneer a none r
+
     still : (us : List (Use L)) (k : ℕ) (P : Use L → Type 0) → IsSomeAnd (slice_get (recorded us) k) P → IsSomeAnd (slice_get (recorded (us ++ u ∷ [])) k) P
     still [] k P h = absurd h
     still (x ∷ us) zero P h = h
     still (x ∷ us) (suc k) P h = still us k P h
+
     made_named : {w : VeneerUse L} → IsMade has_veneer veneer bytes uses w → IsMade has_veneer veneer bytes (uses ++ u ∷ []) w
     made_named {w} h = record { kind = h.kind; is = h.is; supported = h.supported; even = h.even; inside = h.inside; code = h.code; user = h.user; named = still uses h.user _ h.named }
 
@@ -203,4 +206,3 @@ pub linked_by : {L : Type 0} {has_veneer : L → Bool} {forward : L → ℕ} {ve
     new_uses ≡ set uses i (record { offset = u.offset; label = u.label; kind = u.kind; veneer = Some at }) → new_veneers ≡ veneers ++ veneer_use (veneer u.kind) at u.label ∷ [] →
     IsLinked has_veneer forward veneer new_bytes new_uses new_veneers
 linked_by l i u h near supported is_even at new_bytes new_uses new_veneers e eb eu ev = rw (eb, eu, ev, e) (linked_more l i u h near supported is_even)
-

@@ -82,7 +82,7 @@ pub scan_end : {L : Type 0} {forward : L → ℕ} {test : Use L → Bool} (cur d
 scan_end {L} {forward} {test} cur distance {turns} {left} {due} {uses} h s el =
     let whole : turns ≡ s.front = s.whole ∙ ap (λ l. s.front ++ l) el ∙ append_none s.front in
     let slack = slack_same (cur + distance) 30 (deadlines test forward (users s.front)) (deadlines test forward uses)
-        (λ end. let c = h.counts test (λ u t. t) end in let d : due_by end (deadlines test forward (users turns)) ≡ due_by end (deadlines test forward (users s.front)) = ap (λ ts. due_by end (deadlines test forward (users ts))) whole in omega arith) s.slack in
+    (λ end. let c = h.counts test (λ u t. t) end in let d : due_by end (deadlines test forward (users turns)) ≡ due_by end (deadlines test forward (users s.front)) = ap (λ ts. due_by end (deadlines test forward (users ts))) whole in omega arith) s.slack in
     not_needed_from (cur + distance) (deadlines test forward uses) (deadlines test forward uses) (each_from_slack (cur + distance) 30 (deadlines test forward uses) slack)
 
 all_due : {L : Type 0} (forward : L → ℕ) (test : Use L → Bool) (end : ℕ) (es : List (Turn × Use L)) → ((i : ℕ) (y : Turn × Use L) → slice_get es i ≡ Some y → test y.1 ≡ true → deadline forward y.1 ≤ end) → due_by end (deadlines test forward (users es)) ≡ length (deadlines test forward (users es))
@@ -100,6 +100,7 @@ scan_found {L} {forward} {test} cur distance {turns} {all} {left} {e} {due} {use
   where
     whole : turns ≡ s.front ++ e ∷ left
     whole = s.whole ∙ ap (λ l. s.front ++ l) ea
+
     sooner : (i : ℕ) (y : Turn × Use L) → slice_get s.front i ≡ Some y → test y.1 ≡ true → deadline forward y.1 ≤ e.0.deadline
     sooner i y q t =
         let own = h.each i y (ap (λ ts. slice_get ts i) whole ∙ slice_get-append s.front (e ∷ left) i y q) t in
@@ -111,6 +112,7 @@ scan_found {L} {forward} {test} cur distance {turns} {all} {left} {e} {due} {use
         not_after (by_deadline l) = omega arith
         not_after (by_offset x l) = omega arith
         not_after (by_index x y l) = omega arith
+
     on : (b : Bool) → is_needed cur distance (deadlines test forward uses) ≡ b → is_needed cur distance (deadlines test forward uses) ≡ true
     on true q = q
     on false q =

@@ -146,29 +146,41 @@ module _ {L : Type 0} {fields : L → List ℕ} {has_veneer : L → Bool} {forwa
     where
       i : ℕ
       i = e.0.index
+
       v : Use L
       v = record e.1 { veneer = Some (length bytes) }
+
       no_wait : test v ≡ false
       no_wait = clears e.1 (length bytes)
+
       there : slice_get uses i ≡ Some e.1
       there = ((subst (λ ts. HaveTurns forward test ts uses) et p.waits).each 0 e refl waits).there
+
       long : length new_bytes ≡ length bytes + 8
       long = ap (length {A = ℕ}) eb ∙ length-append bytes (veneer e.1.kind).bytes ∙ ap (λ n. length bytes + n) eight
+
       other : (j : ℕ) → j ≢ i → slice_get new_uses j ≡ slice_get uses j
       other j ne = ap (λ us. slice_get us j) eu ∙ slice_get-set_other uses i j v ne
+
       at_i : (j : ℕ) → j ≡ i → slice_get new_uses j ≡ Some v
       at_i j same = ap (slice_get new_uses) same ∙ ap (λ us. slice_get us i) eu ∙ slice_get-set_same uses i v e.1 there
+
       here : (j : ℕ) (u : Use L) → j ≡ i → slice_get uses j ≡ Some u → e.1 ≡ u
       here j u same k = same_Some _ _ (sym there ∙ ap (slice_get uses) (sym same) ∙ k)
+
       put_here : (j : ℕ) (u : Use L) → j ≡ i → e.1 ≡ u → PutAt (length bytes0) (length new_bytes) u (slice_get new_uses j)
       put_here j u same is = record { at = length bytes; is = at_i j same ∙ ap (λ (x : Use L). Some (record x { veneer = Some (length bytes) })) is; after = p.longer; inside = omega (arith, long) }
+
       put_before : (j : ℕ) (u : Use L) → (q : PutAt (length bytes0) (length bytes) u (slice_get uses j)) → j ≢ i → PutAt (length bytes0) (length new_bytes) u (slice_get new_uses j)
       put_before j u q ne = record { at = q.at; is = other j ne ∙ q.is; after = q.after; inside = let l = q.inside in omega (arith, long) }
+
       is_other_place : (j : ℕ) (u : Use L) → PutAt (length bytes0) (length bytes) u (slice_get uses j) → j ≢ i
       is_other_place j u q same = differs test clears (slice_get uses j) e.1 u q.at waits (ap (slice_get uses) same ∙ there) q.is
+
       -- what stood at first at the place of the turn
       origin : (j : ℕ) (u : Use L) → slice_get uses0 j ≡ Some u → test u ≡ true → j ≡ i → e.1 ≡ u
       origin j u h t same = ⊎_elim (λ still. here j u same still) (λ q. absurd (is_other_place j u q same)) (p.done j u h t)
+
       order : (j k : ℕ) (u w : Use L) (a b : ℕ) → slice_get uses0 j ≡ Some u → slice_get uses0 k ≡ Some w → test u ≡ true → test w ≡ true → is_sooner forward u w ≡ true → slice_get new_uses j ≡ Some (record u { veneer = Some a }) → slice_get new_uses k ≡ Some (record w { veneer = Some b }) →
           ((j ≡ i) ⊎ (j ≢ i)) → ((k ≡ i) ⊎ (k ≢ i)) → a < b
       order j k u w a b hj hk tu tw s pj pk (inl ji) (inl ki) =

@@ -172,6 +172,7 @@ due_set test forward end (w ∷ uses) (suc i) u v h tu tv = on (test w) (due_set
     step : (c : Bool) (m n k : ℕ) → m ≡ k + n → cond c (suc m) m ≡ k + cond c (suc n) n
     step true m n k e = omega arith
     step false m n k e = e
+
     on : (c : Bool) → due_by end (deadlines test forward uses) ≡ due_by end (deadline forward u ∷ []) + due_by end (deadlines test forward (set uses i v)) →
         due_by end (cond c (deadline forward w ∷ deadlines test forward uses) (deadlines test forward uses)) ≡ due_by end (deadline forward u ∷ []) + due_by end (cond c (deadline forward w ∷ deadlines test forward (set uses i v)) (deadlines test forward (set uses i v)))
     on true rest = step (nat_le (deadline forward w) end) _ _ _ rest
@@ -199,9 +200,11 @@ due_fewer test new_test forward end (u ∷ uses) h = on (new_test u) (test u) (h
     step : (c : Bool) (m n : ℕ) → m ≤ n → cond c (suc m) m ≤ cond c (suc n) n
     step true m n le = omega arith
     step false m n le = le
+
     more : (c : Bool) (m n : ℕ) → m ≤ n → m ≤ cond c (suc n) n
     more true m n le = omega arith
     more false m n le = le
+
     on : (b a : Bool) → (b ≡ true → a ≡ true) → due_by end (deadlines new_test forward uses) ≤ due_by end (deadlines test forward uses) →
         due_by end (cond b (deadline forward u ∷ deadlines new_test forward uses) (deadlines new_test forward uses)) ≤ due_by end (cond a (deadline forward u ∷ deadlines test forward uses) (deadlines test forward uses))
     on true true i rest = step (nat_le (deadline forward u) end) _ _ rest

@@ -109,6 +109,7 @@ due_insert {L} forward some end (x ∷ es) k u ne = on (turn_cmp k x.0) refl (du
   where
     front : (y : Use L) (ys : List (Use L)) → due_by end (deadlines some forward (y ∷ ys)) ≡ due_by end (deadlines some forward (y ∷ [])) + due_by end (deadlines some forward ys)
     front y ys = ap (due_by end) (deadlines_append some forward (y ∷ []) ys) ∙ due_append end (deadlines some forward (y ∷ [])) (deadlines some forward ys)
+
     on : (o : Ordering) → turn_cmp k x.0 ≡ o → due_by end (deadlines some forward (users (insert_entry turn_cmp es k u))) ≡ due_by end (deadlines some forward (users es)) + due_by end (deadlines some forward (u ∷ [])) →
         due_by end (deadlines some forward (users (match_ordering o ((k, u) ∷ x ∷ es) ((x.0, u) ∷ es) (x ∷ insert_entry turn_cmp es k u)))) ≡ due_by end (deadlines some forward (x.1 ∷ users es)) + due_by end (deadlines some forward (u ∷ []))
     on Equal c rest = absurd (ne 0 x refl (sym (same_index k x.0 c)))
@@ -132,6 +133,7 @@ turns_add {L} {forward} {test} {turns} {uses} h k u kd ko ki new_turns new_uses 
   where
     apart : (i : ℕ) (e : Turn × Use L) → slice_get turns i ≡ Some e → e.0.index ≢ k.index
     apart i e q same = let l = h.low i e q in absurd (omega arith)
+
     more : {t : Turn} {v : Use L} → IsTurn forward uses t v → IsTurn forward (uses ++ u ∷ []) t v
     more {t} {v} s = record { there = slice_get-append uses (u ∷ []) t.index v s.there; deadline = s.deadline; offset = s.offset }
 
@@ -234,12 +236,14 @@ turns_take {L} {forward} {test} {e} {rest} {turns} {uses} g et waits later v tv 
         no (by_deadline lt) i d o = absurd (omega arith)
         no (by_offset s lt) i d o = absurd (omega arith)
         no (by_index s p lt) i d o = absurd (omega arith)
+
     off : (some : Use L → Bool) (w : Use L) → test w ≡ false → ((x : Use L) → some x ≡ true → test x ≡ true) → some w ≡ false
     off some w idle sub = go (some w) refl
       where
         go : (b : Bool) → some w ≡ b → some w ≡ false
         go true q = absurd (true≢false (sym (sub w q) ∙ idle))
         go false q = q
+
     on : (some : Use L → Bool) → ((x : Use L) → some x ≡ true → test x ≡ true) → (end : ℕ) (b : Bool) → some e.1 ≡ b → slice_get uses e.0.index ≡ Some e.1 → due_by end (deadlines some forward (e.1 ∷ users rest)) ≡ due_by end (deadlines some forward uses) →
         due_by end (deadlines some forward (users rest)) ≡ due_by end (deadlines some forward (set uses e.0.index v))
     on some sub end true q there c =
@@ -265,6 +269,7 @@ find_due {L} forward some (e ∷ es) end one = on (some e.1) (nat_le (deadline f
   where
     further : Found forward some es end → Found forward some (e ∷ es) end
     further f = record { place = suc f.place; entry = f.entry; there = f.there; yes_some = f.yes_some; due = f.due }
+
     on : (a b : Bool) → some e.1 ≡ a → nat_le (deadline forward e.1) end ≡ b → 1 ≤ due_by end (cond a (deadline forward e.1 ∷ deadlines some forward (users es)) (deadlines some forward (users es))) → (1 ≤ due_by end (deadlines some forward (users es)) → Found forward some es end) → Found forward some (e ∷ es) end
     on true true ha hb o rest = record { place = 0; entry = e; there = refl; yes_some = ha; due = leb-true _ _ hb }
     on true false ha hb o rest = further (rest (subst (λ b. 1 ≤ cond b (suc (due_by end (deadlines some forward (users es)))) (due_by end (deadlines some forward (users es)))) hb o))
@@ -336,10 +341,12 @@ module _ {L : Type 0} {forward : L → ℕ} {test : Use L → Bool} {e : Turn ×
     where
       eqb_eq : (m n : ℕ) → nat_eq m n ≡ true → m ≡ n
       eqb_eq m n q = ⊎_elim (λ s. s) (λ ne. absurd (true≢false (sym q ∙ ne_eqb m n ne))) (cases_eq m n)
+
       order : {a b : Turn} → Later a b → (a.deadline < b.deadline) ⊎ ((a.deadline ≡ b.deadline) × (a.offset ≤ b.offset))
       order (by_deadline lt) = inl lt
       order (by_offset s lt) = inr (s, omega arith)
       order (by_index s p lt) = inr (s, omega arith)
+
       not_sooner : (a b x y : ℕ) → (b < a) ⊎ ((b ≡ a) × (y ≤ x)) → (nat_lt a b || (nat_eq a b && nat_lt x y)) ≡ false
       not_sooner a b x y (inl lt) = grind arith
       not_sooner a b x y (inr p) = grind arith

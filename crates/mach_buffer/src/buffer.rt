@@ -267,7 +267,12 @@ impl<L: MachInstLabelUse> MachBuffer<L> {
     }
 
     /// Records a use, whose window is put next or stands there.
-    pub fn use_label_at_offset(&mut self, offset: u32, label: MachLabel, kind: L) -> Result<(), OutOfMemory>
+    pub fn use_label_at_offset(
+        &mut self,
+        offset: u32,
+        label: MachLabel,
+        kind: L,
+    ) -> Result<(), OutOfMemory>
         requires there { offset ≤ length (bytes_of self.old) }
         requires known { IsKnown label.number (drawn_of self.old) }
         requires sound { IsSound L.has_veneer L.forward L.backward L.veneer self.old }
@@ -306,7 +311,12 @@ impl<L: MachInstLabelUse> MachBuffer<L> {
     }
 
     /// Tells of an unconditional branch that ends at the current offset, for later folding.
-    pub fn add_uncond_branch(&mut self, start: u32, end: u32, target: MachLabel) -> Result<(), OutOfMemory>
+    pub fn add_uncond_branch(
+        &mut self,
+        start: u32,
+        end: u32,
+        target: MachLabel,
+    ) -> Result<(), OutOfMemory>
         ensures same { self.new ≡ self.old }
         ensures ok { OnOk result (spoiled_of self.old ≡ false) }
         ensures err { OnErr result (spoiled_of self.old ≡ true) }
@@ -315,7 +325,13 @@ impl<L: MachInstLabelUse> MachBuffer<L> {
     }
 
     /// Tells of a conditional branch that ends at the current offset, for later folding.
-    pub fn add_cond_branch(&mut self, start: u32, end: u32, target: MachLabel, inverted: &[u8]) -> Result<(), OutOfMemory>
+    pub fn add_cond_branch(
+        &mut self,
+        start: u32,
+        end: u32,
+        target: MachLabel,
+        inverted: &[u8],
+    ) -> Result<(), OutOfMemory>
         ensures same { self.new ≡ self.old }
         ensures ok { OnOk result (spoiled_of self.old ≡ false) }
         ensures err { OnErr result (spoiled_of self.old ≡ true) }
@@ -388,7 +404,10 @@ impl<L: MachInstLabelUse> MachBuffer<L> {
         requires sound { IsSound L.has_veneer L.forward L.backward L.veneer self.now }
         ensures { result ≡ (nat_lt (drawn_of self.now) (2 ^ 29) && nat_lt (length (bytes_of self.now) + part + 8 * length (pending_of L.has_veneer L.forward L.backward self.now) + 32) 2147479552) }
     {
-        let end = self.bytes.len() as u128 + part as u128 + 8 * self.count_others(None) as u128 + 32;
+        let end = self.bytes.len() as u128
+            + part as u128
+            + 8 * self.count_others(None) as u128
+            + 32;
         self.drawn < 0x20000000 && end < 2147479552
     }
 }

@@ -31,7 +31,7 @@ put_own-requires-clause-round g c =
     let long : length (bytes_of c.pad.new.self) ≡ aligned (length (bytes_of b)) = ap (length {A = ℕ}) e.bytes ∙ length_padded (bytes_of b) in
     let count : c.count_others-count.result ≡ length (ds (place_of b) (uses_of b)) = c.count_others-count.ensures ∙ ap (λ p. length (ds p (uses_of c.pad.new.self))) e.places ∙ ap (λ us. length (ds (place_of b) us)) e.uses in
     let round = round_padded c.count_others-count.result c.requires.jump (bytes_of c.pad.new.self) (uses_of c.pad.new.self) long c.requires.sound.even e.uses
-        (subst (λ n. island_end (aligned (length (bytes_of b))) n (deadline K.forward c.requires.jump.jump) < 2147479552) (sym count) c.requires.room) in
+    (subst (λ n. island_end (aligned (length (bytes_of b))) n (deadline K.forward c.requires.jump.jump) < 2147479552) (sym count) c.requires.room) in
     round
 
 pub put_own-requires-clause-waits : goal.put_own-requires-clause-waits
@@ -52,7 +52,7 @@ put_waiting-requires-clause-room g c =
     let long : length (bytes_of c.pad.new.self) ≡ aligned (length (bytes_of b)) = ap (length {A = ℕ}) e.bytes ∙ length_padded (bytes_of b) in
     let count : c.count_others-count.result ≡ length (ds (place_of b) (uses_of b)) = c.count_others-count.ensures ∙ ap (λ p. length (ds p (uses_of c.pad.new.self))) e.places ∙ ap (λ us. length (ds (place_of b) us)) e.uses in
     let round = round_padded c.count_others-count.result c.requires.jump (bytes_of c.pad.new.self) (uses_of c.pad.new.self) long c.requires.sound.even e.uses
-        (subst (λ n. island_end (aligned (length (bytes_of b))) n (deadline K.forward c.requires.jump.jump) < 2147479552) (sym count) c.requires.room) in
+    (subst (λ n. island_end (aligned (length (bytes_of b))) n (deadline K.forward c.requires.jump.jump) < 2147479552) (sym count) c.requires.room) in
     let o = c.in_ok-put_own.ensures in
     let moved : place_of c.put_own.new.self ≡ place_of b = o.places ∙ e.places in
     let same : ds (place_of c.put_own.new.self) (uses_of c.put_own.new.self) ≡ ds (place_of b) (uses_of b) = ap (λ p. ds p (uses_of c.put_own.new.self)) o.places ∙ o.others ∙ ap (λ p. ds p (uses_of c.pad.new.self)) e.places ∙ ap (ds (place_of b)) e.uses in

@@ -19,4 +19,3 @@ pad-requires-clause-room g c =
     let some : n ≢ 0 = λ e. c.if-count_others-ne0.true (count ∙ e) in
     let same : length (before_last (bytes_of c.args.self.now) n) ≡ aligned (length (bytes_of c.args.self.now)) = ap (length {A = ℕ}) (before_some (bytes_of c.args.self.now) n some) ∙ length_padded (bytes_of c.args.self.now) in
     subst (λ m. m < 2147479552) same c.requires.short
-

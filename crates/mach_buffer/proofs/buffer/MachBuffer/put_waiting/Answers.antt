@@ -54,8 +54,8 @@ loop-turn-preserved-in-Continue-branch-2 g c =
     let uses = some_is o _ c.in-Some.u own.there p.uses in
     let veneers = some_is o _ c.in-Some.u own.there p.veneers in
     let next = putting_next now refl waits c.in-Some.ensures.later clears (law c.in-Some.u.kind (other_supported K.has_veneer K.forward K.backward (place_of c.args.self.now) c.args.round c.in-Some.u waits)).eight
-        (bytes_of c.put_veneer.new.self) (uses_of c.put_veneer.new.self) (veneers_of c.put_veneer.new.self) bytes uses p.linked
-        (λ w. windows_veneer now.linked law _ _ _ _ _ bytes (ap recorded uses ∙ recorded_set (uses_of c.take_turn.new.self) c.in-Some.turn.index c.in-Some.u _ own.there refl) veneers refl w) in (
+    (bytes_of c.put_veneer.new.self) (uses_of c.put_veneer.new.self) (veneers_of c.put_veneer.new.self) bytes uses p.linked
+    (λ w. windows_veneer now.linked law _ _ _ _ _ bytes (ap recorded uses ∙ recorded_set (uses_of c.take_turn.new.self) c.in-Some.turn.index c.in-Some.u _ own.there refl) veneers refl w) in (
       putting_as next refl refl refl p.turns,
       p.places ∙ t.places ∙ c.loop-turn.invariant.1,
       p.labels ∙ t.labels ∙ c.loop-turn.invariant.2,
