@@ -6,3 +6,4 @@ pub mod code;
 pub mod error;
 pub mod inst;
 pub mod job;
+pub mod label_use;

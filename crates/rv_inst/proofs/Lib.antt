@@ -1,0 +1,3 @@
+pub mod Patch
+pub mod PatchPair
+pub mod PatchPart
