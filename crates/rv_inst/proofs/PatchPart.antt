@@ -59,7 +59,7 @@ lower_keeps_part old new n h b f =
 
 -- ---- the parts of a distance between offsets
 
-low32_difference : (l u : ℕ) → u < 4294967296 → low32 (pos l -ℤ pos u) ≡ (l + (4294967296 - u)) % 4294967296
+pub low32_difference : (l u : ℕ) → u < 4294967296 → low32 (pos l -ℤ pos u) ≡ (l + (4294967296 - u)) % 4294967296
 low32_difference l u hu = ⊎_elim
     (λ lt. let e : pos l -ℤ pos u ≡ negsuc (u - l - 1) = grind (arith, ints) in ap low32 e ∙ omega arith)
     (λ le. let e : pos l -ℤ pos u ≡ pos (l - u) = grind (arith, ints) in ap low32 e ∙ omega arith)

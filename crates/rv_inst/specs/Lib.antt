@@ -1,5 +1,6 @@
 pub mod Fields
 pub mod LabelUse
+pub mod LabelUseBridges
 pub mod LabelUseWords
 pub mod Meaning
 pub mod Rules
