@@ -6,6 +6,7 @@ pub mod code;
 pub mod error;
 pub mod inst;
 pub mod job;
+pub mod label_use;
 mod places;
 mod ranges;
 mod registers;

@@ -1,0 +1,15 @@
+pub mod Apart
+pub mod Ends
+pub mod Firsts
+pub mod Islanded
+pub mod Links
+pub mod Maps
+pub mod Needed
+pub mod Others
+pub mod Progress
+pub mod Putting
+pub mod Rounds
+pub mod Slack
+pub mod Sound
+pub mod Turns
+pub mod Windows

@@ -1,0 +1,76 @@
+-- The jump round an island, and that nothing waits behind one.
+use Rattle.std.proofs.Common.{◌≡◌, ◌≢◌, ℕ, zero, suc, ◌+◌, ◌-◌, ◌*◌, ◌/◌, ◌%◌, ◌<◌, ◌≤◌, ◌⊎◌, inl, inr, ⊎_elim, Bool, true, false, not, ◌&&◌, cond, List, [], ◌∷◌, ◌++◌, length, take, set, Option, Some, None, refl, ap, sym, ◌∙◌, subst, arith}
+use Rattle.std.specs.Prelude.{slice_get, nat_lt, nat_le, nat_eq, is_none}
+use Rattle.std.proofs.lemmas.Bool.{true≢false, and_left, and_right, and_cases, and_from, cases_eq, le-leb, eq-eqb, ne_eqb, lt-ltb, le-ltb}
+use Rattle.std.proofs.lemmas.Option.{same_Some}
+use Rattle.std.proofs.lemmas.List.{take-append-le, length-append, take_all, take-take}
+use Rattle.rv_base.specs.declared.label.MachLabel.{MachLabel}
+use Rattle.mach_buffer.specs.declared.uses.Use.{Use}
+use Rattle.mach_buffer.specs.Reach.{deadline, deadlines, is_reached, is_pending, is_other, names}
+use Rattle.mach_buffer.specs.Buffer.{recorded}
+use Rattle.mach_buffer.specs.Islands.{aligned, needs_own, first_of, island_end, own_jump, IsRound, HasRound, OwnPut}
+use Rattle.mach_buffer.proofs.Links.{slice_get-set_other, slice_get-set_same, recorded_set}
+use Rattle.mach_buffer.proofs.Apart.{take_front}
+use Rattle.mach_buffer.proofs.Slack.{none_waits, none_from}
+
+lt-ltb_yes : (a b : ℕ) → a < b → nat_lt a b ≡ true
+lt-ltb_yes a b lt = lt-ltb a b lt
+
+lt-ltb_no : (a b : ℕ) → b ≤ a → nat_lt a b ≡ false
+lt-ltb_no a b le = le-ltb a b le
+
+-- the jump does not reach the veneers' end, and got its veneer
+pub own_put : {L : Type 0} {forward : L → ℕ} {bytes : List ℕ} {uses : List (Use L)} (round count k : ℕ) (u : Use L) → slice_get uses k ≡ Some u → u.label.number ≡ round → deadline forward u < length bytes + 8 * count →
+    (code new_bytes : List ℕ) (new_uses : List (Use L)) → new_bytes ≡ bytes ++ code → length code ≡ 8 → new_uses ≡ set uses k (record u { veneer = Some (length bytes) }) → OwnPut forward bytes uses round count new_bytes new_uses
+own_put {L} {forward} {bytes} {uses} round count k u h e lt code new_bytes new_uses eb eight eu =
+    let needs : needs_own (length bytes) count (deadline forward u) ≡ true = lt-ltb_yes (deadline forward u) (length bytes + 8 * count) lt in
+    let long : length new_bytes ≡ length bytes + 8 = ap (length {A = ℕ}) eb ∙ length-append bytes code ∙ ap (λ n. length bytes + n) eight in
+    record {
+      index = k;
+      jump = u;
+      stands = h;
+      names = e;
+      before = ap (take (length bytes)) eb ∙ take_front bytes code;
+      long = long ∙ sym (ap (λ b. cond b (length bytes + 8) (length bytes)) needs);
+      same = ap recorded eu ∙ recorded_set uses k u _ h refl;
+      own = ap (λ us. slice_get us k) eu ∙ slice_get-set_same uses k _ u h ∙ sym (ap (λ b. Some (cond b (record u { veneer = Some (length bytes) }) u)) needs);
+      kept = λ j w q ne. ap (λ us. slice_get us j) eu ∙ slice_get-set_other uses k j _ ne ∙ q;
+    }
+
+-- it reaches that end
+pub own_skip : {L : Type 0} {forward : L → ℕ} {bytes : List ℕ} {uses : List (Use L)} (round count k : ℕ) (u : Use L) → slice_get uses k ≡ Some u → u.label.number ≡ round → length bytes + 8 * count ≤ deadline forward u → OwnPut forward bytes uses round count bytes uses
+own_skip {L} {forward} {bytes} {uses} round count k u h e le =
+    let needs : needs_own (length bytes) count (deadline forward u) ≡ false = lt-ltb_no (deadline forward u) (length bytes + 8 * count) le in
+    record {
+      index = k;
+      jump = u;
+      stands = h;
+      names = e;
+      before = take_all (length bytes) bytes (omega arith);
+      long = sym (ap (λ b. cond b (length bytes + 8) (length bytes)) needs);
+      same = refl;
+      own = h ∙ sym (ap (λ b. Some (cond b (record u { veneer = Some (length bytes) }) u)) needs);
+      kept = λ j w q ne. q;
+    }
+
+-- the use of the label may go by a veneer
+pub round_supported : {L : Type 0} {has_veneer : L → Bool} {forward : L → ℕ} {gap : ℕ} {bytes : List ℕ} {uses : List (Use L)} {round : ℕ} → IsRound has_veneer forward gap bytes uses round → (k : ℕ) (u : Use L) → slice_get uses k ≡ Some u → u.label.number ≡ round → has_veneer u.kind ≡ true
+round_supported {L} {has_veneer} {forward} {gap} {bytes} {uses} r k u h e =
+    subst (λ (x : Use L). has_veneer x.kind ≡ true) (same_Some _ _ (sym r.stands ∙ ap (slice_get uses) (sym (r.only k u h e)) ∙ h)) r.supported
+
+pub round_padded : {L : Type 0} {has_veneer : L → Bool} {forward : L → ℕ} {bytes : List ℕ} {uses : List (Use L)} {round : ℕ} (count : ℕ) (r : IsRound has_veneer forward 4 bytes uses round) → (new_bytes : List ℕ) (new_uses : List (Use L)) → length new_bytes ≡ aligned (length bytes) → length bytes % 2 ≡ 0 → new_uses ≡ uses →
+    island_end (aligned (length bytes)) count (deadline forward r.jump) < 2147479552 → HasRound has_veneer forward 6 new_bytes new_uses round count
+round_padded {L} {has_veneer} {forward} {bytes} {uses} {round} count r new_bytes new_uses long even eu room = subst (λ us. HasRound has_veneer forward 6 new_bytes us round count) (sym eu) (record {
+  jump = record {
+    index = r.index;
+    jump = r.jump;
+    stands = r.stands;
+    names = r.names;
+    bare = r.bare;
+    last = let l = r.last in omega arith;
+    supported = r.supported;
+    reach = r.reach;
+    only = r.only;
+  };
+  room = subst (λ n. island_end n count (deadline forward r.jump) < 2147479552) (sym long) room;
+})

@@ -1,0 +1,324 @@
+-- Deadlines and the room before them.
+use Rattle.std.proofs.Common.{◌≡◌, ◌≢◌, ℕ, zero, suc, ◌+◌, ◌-◌, ◌*◌, ◌<◌, ◌≤◌, Bool, true, false, cond, not, ◌&&◌, ◌||◌, List, [], ◌∷◌, ◌++◌, ◌⊎◌, length, Option, Some, None, refl, ap, sym, ◌∙◌, subst, arith, inl, inr, ⊎_elim}
+use Rattle.mach_buffer.specs.declared.uses.Use.{Use}
+use Rattle.std.proofs.Common.{set}
+use Rattle.std.proofs.lemmas.Option.{same_Some}
+use Rattle.std.specs.Prelude.{is_none, slice_get, nat_le, nat_lt, nat_eq}
+use Rattle.std.proofs.lemmas.Bool.{leb-true, leb-false, ltb-true, ltb-false, or_parts, true≢false, and_parts, and_from, cases_eq}
+use Rattle.mach_buffer.specs.Reach.{AllOf, CanReach, StillReaches, deadline, is_reached, is_pending, deadlines, due_by, HasSlack, is_needed_from, is_needed}
+
+-- ---- how many are due
+
+pub due_append : (end : ℕ) (ds es : List ℕ) → due_by end (ds ++ es) ≡ due_by end ds + due_by end es
+due_append end [] es = omega arith
+due_append end (d ∷ ds) es = on (nat_le d end) (due_append end ds es)
+  where
+    on : (c : Bool) → due_by end (ds ++ es) ≡ due_by end ds + due_by end es → cond c (suc (due_by end (ds ++ es))) (due_by end (ds ++ es)) ≡ cond c (suc (due_by end ds)) (due_by end ds) + due_by end es
+    on true rest = omega (arith, rest)
+    on false rest = rest
+
+-- what is due by an offset, and not before it, has it as its deadline
+due_earlier : (end : ℕ) (ds : List ℕ) → due_by end ds ≤ due_by (suc end) ds
+due_earlier end [] = omega arith
+due_earlier end (d ∷ ds) = on (nat_le d end) (nat_le d (suc end)) refl refl (due_earlier end ds)
+  where
+    on : (a b : Bool) → nat_le d end ≡ a → nat_le d (suc end) ≡ b → due_by end ds ≤ due_by (suc end) ds → cond a (suc (due_by end ds)) (due_by end ds) ≤ cond b (suc (due_by (suc end) ds)) (due_by (suc end) ds)
+    on true true ha hb rest = omega (arith, rest)
+    on true false ha hb rest = let p = leb-true _ _ ha in let q = leb-false _ _ hb in absurd (omega arith)
+    on false true ha hb rest = omega (arith, rest)
+    on false false ha hb rest = rest
+
+-- ---- slack as code grows
+
+pub slack_less : (cur slack new_cur new_slack : ℕ) (ds : List ℕ) → new_cur + new_slack ≤ cur + slack → HasSlack cur slack ds → HasSlack new_cur new_slack ds
+slack_less cur slack new_cur new_slack ds le h = record { each = λ end one. let e = h.each end one in omega arith }
+
+pub slack_none : (cur slack : ℕ) → HasSlack cur slack []
+slack_none cur slack = record { each = λ end one. absurd (omega arith) }
+
+-- a use more takes eight bytes of it
+pub slack_more : (cur slack d : ℕ) (ds : List ℕ) → cur + slack + 8 ≤ d → HasSlack cur (slack + 8) ds → HasSlack cur slack (d ∷ ds)
+slack_more cur slack d ds le h = record { each = λ end one. on end (nat_le d end) refl one }
+  where
+    on : (end : ℕ) (c : Bool) → nat_le d end ≡ c → 1 ≤ cond c (suc (due_by end ds)) (due_by end ds) → cur + slack + 8 * cond c (suc (due_by end ds)) (due_by end ds) ≤ end
+    on end false e one = let g = h.each end one in omega arith
+    on end true e one = some (due_by end ds) refl
+      where
+        some : (n : ℕ) → due_by end ds ≡ n → cur + slack + 8 * suc n ≤ end
+        some zero z = let p = leb-true _ _ e in omega arith
+        some (suc n) z = let g = h.each end (omega (arith, z)) in omega (arith, z)
+
+-- what counts as much at each end has as much slack
+pub slack_same : (cur slack : ℕ) (ds es : List ℕ) → ((end : ℕ) → due_by end es ≤ due_by end ds) → HasSlack cur slack ds → HasSlack cur slack es
+slack_same cur slack ds es le h = record { each = λ end one. let l = le end in let g = h.each end (omega arith) in omega arith }
+
+-- the soonest gets its veneer: eight bytes on, and one less is due
+pub slack_next : (cur slack d : ℕ) (ds es : List ℕ) → ((end : ℕ) → 1 ≤ due_by end ds → d ≤ end) → ((end : ℕ) → due_by end ds ≡ due_by end (d ∷ []) + due_by end es) → HasSlack cur slack ds → HasSlack (cur + 8) slack es
+slack_next cur slack d ds es least counts h = record { each = λ end one. on end (nat_le d end) refl one (counts end) }
+  where
+    on : (end : ℕ) (c : Bool) → nat_le d end ≡ c → 1 ≤ due_by end es → due_by end ds ≡ cond c 1 0 + due_by end es → cur + 8 + slack + 8 * due_by end es ≤ end
+    on end true e one counts = let g = h.each end (omega arith) in omega arith
+    on end false e one counts = let p = leb-false _ _ e in let q = least end (omega arith) in absurd (omega arith)
+
+-- and it is in reach
+pub soonest_due : (cur slack d : ℕ) (ds es : List ℕ) → due_by d ds ≡ due_by d (d ∷ []) + due_by d es → HasSlack cur slack ds → cur + slack + 8 ≤ d
+soonest_due cur slack d ds es counts h = on (nat_le d d) refl counts
+  where
+    on : (c : Bool) → nat_le d d ≡ c → due_by d ds ≡ cond c 1 0 + due_by d es → cur + slack + 8 ≤ d
+    on true e counts = let g = h.each d (omega arith) in omega arith
+    on false e counts = let p = leb-false _ _ e in absurd (omega arith)
+
+-- ---- from the deadlines themselves to every offset
+
+-- Each deadline among some keeps a bound; so does every offset by which one is due.
+from_each : (cur slack : ℕ) (all : List ℕ) → ((d : ℕ) → suc (due_by d all) ≤ due_by (suc d) all → cur + slack + 8 * due_by (suc d) all ≤ suc d) → (1 ≤ due_by 0 all → cur + slack + 8 * due_by 0 all ≤ 0) → (end : ℕ) → 1 ≤ due_by end all → cur + slack + 8 * due_by end all ≤ end
+from_each cur slack all step base zero one = base one
+from_each cur slack all step base (suc end) one = on (nat_le (suc (due_by end all)) (due_by (suc end) all)) refl (from_each cur slack all step base end)
+  where
+    on : (c : Bool) → nat_le (suc (due_by end all)) (due_by (suc end) all) ≡ c → (1 ≤ due_by end all → cur + slack + 8 * due_by end all ≤ end) → cur + slack + 8 * due_by (suc end) all ≤ suc end
+    on true e before = step end (leb-true _ _ e)
+    on false e before = let more = due_earlier end all in let p = leb-false _ _ e in let g = before (omega arith) in omega arith
+
+-- an offset at which one more is due is a deadline
+due_is_deadline : (P : ℕ → Type 0) (d : ℕ) (ds : List ℕ) → AllOf P ds → suc (due_by d ds) ≤ due_by (suc d) ds → P (suc d)
+due_is_deadline P d [] h lt = absurd (omega arith)
+due_is_deadline P d (e ∷ ds) h lt = on (nat_le e d) (nat_le e (suc d)) refl refl lt (due_is_deadline P d ds h.1)
+  where
+    on : (a b : Bool) → nat_le e d ≡ a → nat_le e (suc d) ≡ b → suc (cond a (suc (due_by d ds)) (due_by d ds)) ≤ cond b (suc (due_by (suc d) ds)) (due_by (suc d) ds) → (suc (due_by d ds) ≤ due_by (suc d) ds → P (suc d)) → P (suc d)
+    on true true ha hb le rest = rest (omega arith)
+    on true false ha hb le rest = rest (omega arith)
+    on false true ha hb le rest = let p = leb-false _ _ ha in let q = leb-true _ _ hb in let same : e ≡ suc d = omega arith in subst P same h.0
+    on false false ha hb le rest = rest (omega arith)
+
+due_at_zero : (P : ℕ → Type 0) (ds : List ℕ) → AllOf P ds → 1 ≤ due_by 0 ds → P 0
+due_at_zero P [] h one = absurd (omega arith)
+due_at_zero P (e ∷ ds) h one = on (nat_le e 0) refl one (due_at_zero P ds h.1)
+  where
+    on : (a : Bool) → nat_le e 0 ≡ a → 1 ≤ cond a (suc (due_by 0 ds)) (due_by 0 ds) → (1 ≤ due_by 0 ds → P 0) → P 0
+    on true ha le rest = let p = leb-true _ _ ha in let same : e ≡ 0 = omega arith in subst P same h.0
+    on false ha le rest = rest le
+
+pub slack_from_each : (cur slack : ℕ) (ds : List ℕ) → AllOf (λ d. cur + slack + 8 * due_by d ds ≤ d) ds → HasSlack cur slack ds
+slack_from_each cur slack ds h = record {
+  each = from_each cur slack ds (λ e. due_is_deadline (λ d. cur + slack + 8 * due_by d ds ≤ d) e ds h) (due_at_zero (λ d. cur + slack + 8 * due_by d ds ≤ d) ds h);
+}
+
+-- and back
+due_own : (d : ℕ) (ds : List ℕ) → 1 ≤ due_by d (d ∷ ds)
+due_own d ds = on (nat_le d d) refl
+  where
+    on : (c : Bool) → nat_le d d ≡ c → 1 ≤ cond c (suc (due_by d ds)) (due_by d ds)
+    on true e = omega arith
+    on false e = let p = leb-false _ _ e in absurd (omega arith)
+
+due_later : (end e : ℕ) (ds : List ℕ) → due_by end ds ≤ due_by end (e ∷ ds)
+due_later end e ds = on (nat_le e end)
+  where
+    on : (c : Bool) → due_by end ds ≤ cond c (suc (due_by end ds)) (due_by end ds)
+    on true = omega arith
+    on false = omega arith
+
+each_from : (cur slack : ℕ) (all ds : List ℕ) → ((end : ℕ) → due_by end ds ≤ due_by end all) → HasSlack cur slack all → AllOf (λ d. cur + slack + 8 * due_by d all ≤ d) ds
+each_from cur slack all [] part h = tt
+each_from cur slack all (d ∷ ds) part h =
+    let own = due_own d ds in
+    let whole = part d in (
+      h.each d (omega arith),
+      each_from cur slack all ds (λ end. let a = due_later end d ds in let b = part end in omega arith) h,
+    )
+
+pub each_from_slack : (cur slack : ℕ) (ds : List ℕ) → HasSlack cur slack ds → AllOf (λ d. cur + slack + 8 * due_by d ds ≤ d) ds
+each_from_slack cur slack ds h = each_from cur slack ds ds (λ end. omega arith) h
+
+-- where no island is needed before so many bytes, there is slack for them
+not_needed_each : (cur : ℕ) (all ds : List ℕ) → is_needed_from cur all ds ≡ false → AllOf (λ d. cur + 30 + 8 * due_by d all ≤ d) ds
+not_needed_each cur all [] h = tt
+not_needed_each cur all (d ∷ ds) h =
+    let parts : (nat_lt d (cur + 14 + 8 * (due_by d all + 2)) ≡ false) × (is_needed_from cur all ds ≡ false) = or_parts _ _ h in
+    let le : cur + 14 + 8 * (due_by d all + 2) ≤ d = ltb-false _ _ parts.0 in (
+      omega arith,
+      not_needed_each cur all ds parts.1,
+    )
+
+pub slack_not_needed : (cur distance : ℕ) (ds : List ℕ) → is_needed cur distance ds ≡ false → HasSlack (cur + distance) 30 ds
+slack_not_needed cur distance ds h = slack_from_each (cur + distance) 30 ds (not_needed_each (cur + distance) ds ds h)
+
+-- ---- the deadlines of uses
+
+-- a use more
+pub deadlines_append : {L : Type 0} (test : Use L → Bool) (forward : L → ℕ) (uses more : List (Use L)) → deadlines test forward (uses ++ more) ≡ deadlines test forward uses ++ deadlines test forward more
+deadlines_append test forward [] more = refl
+deadlines_append test forward (u ∷ uses) more = on (test u) (deadlines_append test forward uses more)
+  where
+    on : (c : Bool) → deadlines test forward (uses ++ more) ≡ deadlines test forward uses ++ deadlines test forward more →
+        cond c (deadline forward u ∷ deadlines test forward (uses ++ more)) (deadlines test forward (uses ++ more)) ≡ cond c (deadline forward u ∷ deadlines test forward uses) (deadlines test forward uses) ++ deadlines test forward more
+    on true rest = ap (λ ds. deadline forward u ∷ ds) rest
+    on false rest = rest
+
+-- a use is changed so that it waits no longer: what its deadline counted is gone
+pub due_set : {L : Type 0} (test : Use L → Bool) (forward : L → ℕ) (end : ℕ) (uses : List (Use L)) (i : ℕ) (u v : Use L) → slice_get uses i ≡ Some u → test u ≡ true → test v ≡ false →
+    due_by end (deadlines test forward uses) ≡ due_by end (deadline forward u ∷ []) + due_by end (deadlines test forward (set uses i v))
+due_set test forward end [] i u v h tu tv = absurd (cc)
+due_set test forward end (w ∷ uses) zero u v h tu tv =
+    let same : w ≡ u = same_Some _ _ h in
+    let yes : test w ≡ true = ap test same ∙ tu in
+    rw (yes, tv, same) (on (nat_le (deadline forward u) end))
+  where
+    on : (c : Bool) → cond c (suc (due_by end (deadlines test forward uses))) (due_by end (deadlines test forward uses)) ≡ cond c 1 0 + due_by end (deadlines test forward uses)
+    on true = omega arith
+    on false = omega arith
+due_set test forward end (w ∷ uses) (suc i) u v h tu tv = on (test w) (due_set test forward end uses i u v h tu tv)
+  where
+    step : (c : Bool) (m n k : ℕ) → m ≡ k + n → cond c (suc m) m ≡ k + cond c (suc n) n
+    step true m n k e = omega arith
+    step false m n k e = e
+
+    on : (c : Bool) → due_by end (deadlines test forward uses) ≡ due_by end (deadline forward u ∷ []) + due_by end (deadlines test forward (set uses i v)) →
+        due_by end (cond c (deadline forward w ∷ deadlines test forward uses) (deadlines test forward uses)) ≡ due_by end (deadline forward u ∷ []) + due_by end (cond c (deadline forward w ∷ deadlines test forward (set uses i v)) (deadlines test forward (set uses i v)))
+    on true rest = step (nat_le (deadline forward w) end) _ _ _ rest
+    on false rest = rest
+
+pub length_set : {L : Type 0} (test : Use L → Bool) (forward : L → ℕ) (uses : List (Use L)) (i : ℕ) (u v : Use L) → slice_get uses i ≡ Some u → test u ≡ true → test v ≡ false →
+    length (deadlines test forward uses) ≡ suc (length (deadlines test forward (set uses i v)))
+length_set test forward [] i u v h tu tv = absurd (cc)
+length_set test forward (w ∷ uses) zero u v h tu tv =
+    let same : w ≡ u = same_Some _ _ h in
+    let yes : test w ≡ true = ap test same ∙ tu in
+    rw (yes, tv) refl
+length_set test forward (w ∷ uses) (suc i) u v h tu tv = on (test w) (length_set test forward uses i u v h tu tv)
+  where
+    on : (c : Bool) → length (deadlines test forward uses) ≡ suc (length (deadlines test forward (set uses i v))) →
+        length (cond c (deadline forward w ∷ deadlines test forward uses) (deadlines test forward uses)) ≡ suc (length (cond c (deadline forward w ∷ deadlines test forward (set uses i v)) (deadlines test forward (set uses i v))))
+    on true rest = ap suc rest
+    on false rest = rest
+
+-- a label is bound: fewer wait
+pub due_fewer : {L : Type 0} (test new_test : Use L → Bool) (forward : L → ℕ) (end : ℕ) (uses : List (Use L)) → ((u : Use L) → new_test u ≡ true → test u ≡ true) → due_by end (deadlines new_test forward uses) ≤ due_by end (deadlines test forward uses)
+due_fewer test new_test forward end [] h = omega arith
+due_fewer test new_test forward end (u ∷ uses) h = on (new_test u) (test u) (h u) (due_fewer test new_test forward end uses h)
+  where
+    step : (c : Bool) (m n : ℕ) → m ≤ n → cond c (suc m) m ≤ cond c (suc n) n
+    step true m n le = omega arith
+    step false m n le = le
+
+    more : (c : Bool) (m n : ℕ) → m ≤ n → m ≤ cond c (suc n) n
+    more true m n le = omega arith
+    more false m n le = le
+
+    on : (b a : Bool) → (b ≡ true → a ≡ true) → due_by end (deadlines new_test forward uses) ≤ due_by end (deadlines test forward uses) →
+        due_by end (cond b (deadline forward u ∷ deadlines new_test forward uses) (deadlines new_test forward uses)) ≤ due_by end (cond a (deadline forward u ∷ deadlines test forward uses) (deadlines test forward uses))
+    on true true i rest = step (nat_le (deadline forward u) end) _ _ rest
+    on true false i rest = absurd (true≢false (sym (i refl)))
+    on false true i rest = more (nat_le (deadline forward u) end) _ _ rest
+    on false false i rest = rest
+
+-- bound where none was: what waits now waited before
+pub bound_waits : {L : Type 0} (has_veneer : L → Bool) (forward backward : L → ℕ) (place new_place : ℕ → Option ℕ) (label : ℕ) → place label ≡ None → ((other : ℕ) → other ≢ label → new_place other ≡ place other) → (u : Use L) →
+    is_pending has_veneer forward backward new_place u ≡ true → is_pending has_veneer forward backward place u ≡ true
+bound_waits has_veneer forward backward place new_place label none kept u h =
+    let parts : (has_veneer u.kind ≡ true) × ((is_none u.veneer && not (is_reached forward backward (new_place u.label.number) u)) ≡ true) = and_parts _ _ h in
+    let inner : (is_none u.veneer ≡ true) × (not (is_reached forward backward (new_place u.label.number) u) ≡ true) = and_parts _ _ parts.1 in
+    ⊎_elim
+    (λ e.
+    let open_ : place u.label.number ≡ None = ap place e ∙ none in
+    and_from _ _ parts.0 (and_from _ _ inner.0 (ap (λ o. not (is_reached forward backward o u)) open_)))
+    (λ other. and_from _ _ parts.0 (and_from _ _ inner.0 (ap (λ o. not (is_reached forward backward o u)) (sym (kept u.label.number other)) ∙ inner.1)))
+    (cases_eq u.label.number label)
+
+-- a use is recorded: eight bytes of slack for it
+pub slack_use : {L : Type 0} (test : Use L → Bool) (forward : L → ℕ) (cur slack : ℕ) (uses : List (Use L)) (u : Use L) → cur + slack + 8 ≤ deadline forward u → HasSlack cur (slack + 8) (deadlines test forward uses) → HasSlack cur slack (deadlines test forward (uses ++ u ∷ []))
+slack_use test forward cur slack uses u le h = on (test u) refl
+  where
+    on : (c : Bool) → test u ≡ c → HasSlack cur slack (deadlines test forward (uses ++ u ∷ []))
+    on true e =
+        let whole : deadlines test forward (uses ++ u ∷ []) ≡ deadlines test forward uses ++ deadline forward u ∷ [] = deadlines_append test forward uses (u ∷ []) ∙ rw e refl in
+        subst (HasSlack cur slack) (sym whole)
+        (slack_same cur slack (deadline forward u ∷ deadlines test forward uses) _ (λ end. let a = due_append end (deadlines test forward uses) (deadline forward u ∷ []) in let b = due_append end (deadline forward u ∷ []) (deadlines test forward uses) in omega arith)
+        (slack_more cur slack (deadline forward u) (deadlines test forward uses) le h))
+    on false e =
+        let whole : deadlines test forward (uses ++ u ∷ []) ≡ deadlines test forward uses ++ [] = deadlines_append test forward uses (u ∷ []) ∙ rw e refl in
+        subst (HasSlack cur slack) (sym whole)
+        (slack_same cur slack (deadlines test forward uses) _ (λ end. let a = due_append end (deadlines test forward uses) [] in omega arith) (slack_less cur (slack + 8) cur slack (deadlines test forward uses) (omega arith) h))
+
+-- ---- what is put from here on
+
+-- the soonest gets its veneer: eight bytes on, and one less is due
+pub reaches_next : (cur d : ℕ) (ds es : List ℕ) → ((end : ℕ) → 1 ≤ due_by end ds → d ≤ end) → ((end : ℕ) → due_by end ds ≡ due_by end (d ∷ []) + due_by end es) → StillReaches cur ds → StillReaches (cur + 8) es
+reaches_next cur d ds es least counts h = record { each = λ end one. on end (nat_le d end) refl one (counts end) }
+  where
+    on : (end : ℕ) (c : Bool) → nat_le d end ≡ c → 1 ≤ due_by end es → due_by end ds ≡ cond c 1 0 + due_by end es → cur + 8 + 8 * due_by end es ≤ end + 8
+    on end true e one counts = let g = h.each end (omega arith) in omega arith
+    on end false e one counts = let p = leb-false _ _ e in let q = least end (omega arith) in absurd (omega arith)
+
+-- and it begins in reach
+pub reaches_due : (cur d : ℕ) (ds es : List ℕ) → due_by d ds ≡ due_by d (d ∷ []) + due_by d es → StillReaches cur ds → cur ≤ d
+reaches_due cur d ds es counts h = on (nat_le d d) refl counts
+  where
+    on : (c : Bool) → nat_le d d ≡ c → due_by d ds ≡ cond c 1 0 + due_by d es → cur ≤ d
+    on true e counts = let g = h.each d (omega arith) in omega arith
+    on false e counts = let p = leb-false _ _ e in absurd (omega arith)
+
+pub reaches_from_slack : (cur slack new_cur : ℕ) (ds : List ℕ) → new_cur ≤ cur + slack + 8 → HasSlack cur slack ds → StillReaches new_cur ds
+reaches_from_slack cur slack new_cur ds le h = record { each = λ end one. let g = h.each end one in omega arith }
+
+-- Reach is slack of 14 bytes
+pub slack_from_reach : (cur : ℕ) (ds : List ℕ) → CanReach cur ds → HasSlack cur 14 ds
+slack_from_reach cur ds h = slack_from_each cur 14 ds h
+
+pub reach_from_slack : (cur : ℕ) (ds : List ℕ) → HasSlack cur 14 ds → CanReach cur ds
+reach_from_slack cur ds h = each_from_slack cur 14 ds h
+
+-- ---- counts that agree everywhere
+
+abbrev total : List ℕ → ℕ
+total [] = 0
+total (d ∷ ds) = d + total ds
+
+due_total : (ds : List ℕ) (end : ℕ) → total ds ≤ end → due_by end ds ≡ length ds
+due_total [] end le = refl
+due_total (d ∷ ds) end le = on (nat_le d end) refl (due_total ds end (omega arith))
+  where
+    on : (c : Bool) → nat_le d end ≡ c → due_by end ds ≡ length ds → cond c (suc (due_by end ds)) (due_by end ds) ≡ suc (length ds)
+    on true e rest = ap suc rest
+    on false e rest = let p = leb-false _ _ e in absurd (omega arith)
+
+-- as many are due at each end, so as many there are
+pub same_length_from_due : (ds es : List ℕ) → ((end : ℕ) → due_by end ds ≡ due_by end es) → length ds ≡ length es
+same_length_from_due ds es h =
+    let end = total ds + total es in
+    sym (due_total ds end (omega arith)) ∙ h end ∙ due_total es end (omega arith)
+
+pub none_from_due : (ds : List ℕ) → ((end : ℕ) → due_by end ds ≡ 0) → ds ≡ []
+none_from_due [] h = refl
+none_from_due (d ∷ ds) h = on (nat_le d d) refl (h d)
+  where
+    on : (c : Bool) → nat_le d d ≡ c → cond c (suc (due_by d ds)) (due_by d ds) ≡ 0 → d ∷ ds ≡ []
+    on true e z = absurd (omega arith)
+    on false e z = let p = leb-false _ _ e in absurd (omega arith)
+
+-- a use that did not wait is changed, and waits not
+pub deadlines_set_idle : {L : Type 0} (test : Use L → Bool) (forward : L → ℕ) (uses : List (Use L)) (i : ℕ) (u v : Use L) → slice_get uses i ≡ Some u → test u ≡ false → test v ≡ false → deadlines test forward (set uses i v) ≡ deadlines test forward uses
+deadlines_set_idle test forward [] i u v h tu tv = refl
+deadlines_set_idle test forward (w ∷ uses) zero u v h tu tv =
+    let idle : test w ≡ false = ap test (same_Some _ _ h) ∙ tu in
+    rw (tv, idle) refl
+deadlines_set_idle test forward (w ∷ uses) (suc i) u v h tu tv = on (test w) (deadlines_set_idle test forward uses i u v h tu tv)
+  where
+    on : (c : Bool) → deadlines test forward (set uses i v) ≡ deadlines test forward uses → cond c (deadline forward w ∷ deadlines test forward (set uses i v)) (deadlines test forward (set uses i v)) ≡ cond c (deadline forward w ∷ deadlines test forward uses) (deadlines test forward uses)
+    on true rest = ap (λ ds. deadline forward w ∷ ds) rest
+    on false rest = rest
+
+pub none_waits : {L : Type 0} (test : Use L → Bool) (forward : L → ℕ) (uses : List (Use L)) → deadlines test forward uses ≡ [] → (j : ℕ) (u : Use L) → slice_get uses j ≡ Some u → test u ≡ false
+none_waits test forward [] e j u h = absurd (cc)
+none_waits {L} test forward (w ∷ uses) e j u h = on (test w) refl e (none_waits test forward uses) j h
+  where
+    on : (c : Bool) → test w ≡ c → cond c (deadline forward w ∷ deadlines test forward uses) (deadlines test forward uses) ≡ [] → (deadlines test forward uses ≡ [] → (k : ℕ) (x : Use L) → slice_get uses k ≡ Some x → test x ≡ false) → (k : ℕ) → slice_get (w ∷ uses) k ≡ Some u → test u ≡ false
+    on true t e rest k h = absurd (cc)
+    on false t e rest zero h = ap test (sym (same_Some _ _ h)) ∙ t
+    on false t e rest (suc k) h = rest e k u h
+
+pub none_from : {L : Type 0} (test : Use L → Bool) (forward : L → ℕ) (uses : List (Use L)) → ((j : ℕ) (u : Use L) → slice_get uses j ≡ Some u → test u ≡ false) → deadlines test forward uses ≡ []
+none_from test forward [] h = refl
+none_from test forward (w ∷ uses) h =
+    let idle : test w ≡ false = h 0 w refl in
+    rw idle (none_from test forward uses (λ j u e. h (suc j) u e))

@@ -1,0 +1,74 @@
+use Rattle.std.proofs.Common.{arith, rules, refl, ◌≡◌, ◌∙◌, ◌+◌, ◌*◌, ◌≤◌, ap, sym, subst, length, ℕ}
+use Rattle.std.proofs.lemmas.List.{take_at}
+use Rattle.mach_buffer.specs.Buffer.{bytes_of, uses_of, veneers_of, place_of, pending_of}
+use Rattle.mach_buffer.specs.Finish.{before_last, Finishes}
+use Rattle.mach_buffer.specs.Targets.{patches_of}
+use Rattle.mach_buffer.specs.Windows.{CanPatchAll, AllAim, AllKept, KeepsOthers}
+use Rattle.mach_buffer.proofs.Ends.{CanEnd, bound_still, direct_still, before_longer, can_patch_all, all_go}
+use Rattle.mach_buffer.proofs.buffer.MachBuffer.finish.Goals as goal
+
+pub patch_all-requires : goal.patch_all-requires
+patch_all-requires g c =
+    let K = g.L.MachInstLabelUse in
+    let b = c.args.self in
+    let n = length (pending_of K.has_veneer K.forward K.backward b) in
+    let r = c.requires.ready in
+    let p = c.in_ok-put_last.ensures in
+    let now = c.put_last.new.self in
+    let law = g.met.L.MachInstLabelUse.veneer_ok in
+    let long = p.put.long in
+    let short = r.short in
+    let longer = before_longer (bytes_of b) n in
+    let ends : CanEnd K.fields K.has_veneer K.forward K.backward K.veneer (bytes_of now) (place_of b) (uses_of now) (veneers_of now) = record {
+      linked = p.linked;
+      windows = p.windows r.windows;
+      none = p.none;
+      short = omega (arith, long, short);
+      places = λ label at h. let q = r.sound.places label at h in let le : at ≤ length (bytes_of b) = q.0 in (omega (arith, le, long, longer), q.1);
+      bound = bound_still (place_of b) (uses_of b) (uses_of now) p.put.same r.bound;
+      direct = direct_still K.has_veneer K.forward K.backward (place_of b) (uses_of b) (uses_of now) p.put.same r.direct;
+    } in
+    let patches : patches_of (place_of now) c.deref.result.now c.deref-2.result.now ≡ patches_of (place_of b) (uses_of now) (veneers_of now) = ap (λ q. patches_of q c.deref.result.now c.deref-2.result.now) p.places ∙ ap (λ us. patches_of (place_of b) us c.deref-2.result.now) c.deref.ensures.value ∙ ap (patches_of (place_of b) (uses_of now)) c.deref-2.ensures.value in
+    subst (λ s. CanPatchAll K.fields K.forward K.backward s (patches_of (place_of now) c.deref.result.now c.deref-2.result.now)) (sym c.deref_mut.ensures.value) (subst (CanPatchAll K.fields K.forward K.backward (bytes_of now)) (sym patches) (can_patch_all ends law))
+
+pub returns-clause-code : goal.returns-clause-code
+returns-clause-code g c =
+    let K = g.L.MachInstLabelUse in
+    let b = c.args.self in
+    let n = length (pending_of K.has_veneer K.forward K.backward b) in
+    let r = c.requires.ready in
+    let p = c.in_ok-put_last.ensures in
+    let now = c.put_last.new.self in
+    let law = g.met.L.MachInstLabelUse.veneer_ok in
+    let long = p.put.long in
+    let short = r.short in
+    let longer = before_longer (bytes_of b) n in
+    let ends : CanEnd K.fields K.has_veneer K.forward K.backward K.veneer (bytes_of now) (place_of b) (uses_of now) (veneers_of now) = record {
+      linked = p.linked;
+      windows = p.windows r.windows;
+      none = p.none;
+      short = omega (arith, long, short);
+      places = λ label at h. let q = r.sound.places label at h in let le : at ≤ length (bytes_of b) = q.0 in (omega (arith, le, long, longer), q.1);
+      bound = bound_still (place_of b) (uses_of b) (uses_of now) p.put.same r.bound;
+      direct = direct_still K.has_veneer K.forward K.backward (place_of b) (uses_of b) (uses_of now) p.put.same r.direct;
+    } in
+    let patches : patches_of (place_of now) c.deref.result.now c.deref-2.result.now ≡ patches_of (place_of b) (uses_of now) (veneers_of now) = ap (λ q. patches_of q c.deref.result.now c.deref-2.result.now) p.places ∙ ap (λ us. patches_of (place_of b) us c.deref-2.result.now) c.deref.ensures.value ∙ ap (patches_of (place_of b) (uses_of now)) c.deref-2.ensures.value in
+    let q = c.patch_all.ensures in
+    let final = c.patch_all.new.bytes in
+    let same_length : length final ≡ length (bytes_of now) = q.same_length ∙ ap (length {A = ℕ}) c.deref_mut.ensures.value in
+    let aim = subst (AllAim K.aims K.fields final) patches q.aims in
+    let kept = subst (λ s. AllKept K.fields s final (patches_of (place_of b) (uses_of now) (veneers_of now))) c.deref_mut.ensures.value (subst (AllKept K.fields c.deref_mut.result.now final) patches q.kept) in
+    let others = subst (λ s. KeepsOthers K.fields s final (patches_of (place_of b) (uses_of now) (veneers_of now))) c.deref_mut.ensures.value (subst (KeepsOthers K.fields c.deref_mut.result.now final) patches q.others) in
+    let whole : c.from_vec.result ≡ final = c.from_vec.ensures ∙ take_at final _ _ (q.same_length ∙ c.deref_mut.ensures.len) in
+    subst (Finishes K.aims K.fields K.has_veneer K.forward K.backward K.veneer b) (sym whole) (record {
+      old = bytes_of now;
+      uses = uses_of now;
+      veneers = veneers_of now;
+      put = p.put;
+      linked = p.linked;
+      windows = p.windows r.windows;
+      long = same_length;
+      kept = kept;
+      others = others;
+      arrive = all_go ends law K.aims final same_length aim kept others;
+    })

@@ -1,0 +1,72 @@
+use Rattle.std.proofs.Common.{arith, rules, refl, ◌≡◌, ◌∙◌, ◌+◌, ◌*◌, ap, sym, subst, length, None, [], ℕ}
+use Rattle.mach_buffer.specs.Buffer.{bytes_of, uses_of, place_of, pending_of}
+use Rattle.mach_buffer.specs.Finish.{before_last}
+use Rattle.mach_buffer.specs.Islands.{VeneersPut}
+use Rattle.mach_buffer.specs.Reach.{is_pending, is_other, deadlines, StillReaches}
+use Rattle.mach_buffer.proofs.Apart.{windows_as}
+use Rattle.mach_buffer.proofs.Ends.{windows_before}
+use Rattle.mach_buffer.proofs.Others.{other_none, other_pending}
+use Rattle.mach_buffer.proofs.Turns.{turns_fewer}
+use Rattle.mach_buffer.proofs.buffer.MachBuffer.put_last.Goals as goal
+
+pub put_waiting-requires-clause-room : goal.put_waiting-requires-clause-room
+put_waiting-requires-clause-room g c =
+    let K = g.L.MachInstLabelUse in
+    let b = c.args.self.now in
+    let e = c.in_ok-pad_last.ensures in
+    let test : is_other K.has_veneer K.forward K.backward (place_of c.pad_last.new.self) None ≡ is_pending K.has_veneer K.forward K.backward (place_of b) = other_none K.has_veneer K.forward K.backward (place_of c.pad_last.new.self) ∙ ap (is_pending K.has_veneer K.forward K.backward) e.places in
+    let same : deadlines (is_other K.has_veneer K.forward K.backward (place_of c.pad_last.new.self) None) K.forward (uses_of c.pad_last.new.self) ≡ pending_of K.has_veneer K.forward K.backward b = ap (λ t. deadlines t K.forward (uses_of c.pad_last.new.self)) test ∙ ap (deadlines (is_pending K.has_veneer K.forward K.backward (place_of b)) K.forward) e.uses in
+    let long = ap (length {A = ℕ}) e.bytes in
+    let many = ap (length {A = ℕ}) same in
+    let short = c.requires.short in
+    omega (arith, long, many, short)
+
+pub put_waiting-requires-clause-waits : goal.put_waiting-requires-clause-waits
+put_waiting-requires-clause-waits g c =
+    let K = g.L.MachInstLabelUse in
+    let b = c.args.self.now in
+    let e = c.in_ok-pad_last.ensures in
+    let test : is_other K.has_veneer K.forward K.backward (place_of c.pad_last.new.self) None ≡ is_pending K.has_veneer K.forward K.backward (place_of b) = other_none K.has_veneer K.forward K.backward (place_of c.pad_last.new.self) ∙ ap (is_pending K.has_veneer K.forward K.backward) e.places in
+    let same : deadlines (is_other K.has_veneer K.forward K.backward (place_of c.pad_last.new.self) None) K.forward (uses_of c.pad_last.new.self) ≡ pending_of K.has_veneer K.forward K.backward b = ap (λ t. deadlines t K.forward (uses_of c.pad_last.new.self)) test ∙ ap (deadlines (is_pending K.has_veneer K.forward K.backward (place_of b)) K.forward) e.uses in
+    turns_fewer _ (other_pending K.has_veneer K.forward K.backward (place_of c.pad_last.new.self) None) e.sound.waits
+
+pub put_waiting-requires-clause-reach : goal.put_waiting-requires-clause-reach
+put_waiting-requires-clause-reach g c =
+    let K = g.L.MachInstLabelUse in
+    let b = c.args.self.now in
+    let e = c.in_ok-pad_last.ensures in
+    let test : is_other K.has_veneer K.forward K.backward (place_of c.pad_last.new.self) None ≡ is_pending K.has_veneer K.forward K.backward (place_of b) = other_none K.has_veneer K.forward K.backward (place_of c.pad_last.new.self) ∙ ap (is_pending K.has_veneer K.forward K.backward) e.places in
+    let same : deadlines (is_other K.has_veneer K.forward K.backward (place_of c.pad_last.new.self) None) K.forward (uses_of c.pad_last.new.self) ≡ pending_of K.has_veneer K.forward K.backward b = ap (λ t. deadlines t K.forward (uses_of c.pad_last.new.self)) test ∙ ap (deadlines (is_pending K.has_veneer K.forward K.backward (place_of b)) K.forward) e.uses in
+    subst (StillReaches (length (bytes_of c.pad_last.new.self))) (sym same) (subst (λ s. StillReaches (length s) (pending_of K.has_veneer K.forward K.backward b)) (sym e.bytes) c.requires.reach)
+
+pub returns-clause-put : goal.returns-clause-put
+returns-clause-put g c =
+    let K = g.L.MachInstLabelUse in
+    let b = c.args.self.now in
+    let e = c.in_ok-pad_last.ensures in
+    let test : is_other K.has_veneer K.forward K.backward (place_of c.pad_last.new.self) None ≡ is_pending K.has_veneer K.forward K.backward (place_of b) = other_none K.has_veneer K.forward K.backward (place_of c.pad_last.new.self) ∙ ap (is_pending K.has_veneer K.forward K.backward) e.places in
+    let same : deadlines (is_other K.has_veneer K.forward K.backward (place_of c.pad_last.new.self) None) K.forward (uses_of c.pad_last.new.self) ≡ pending_of K.has_veneer K.forward K.backward b = ap (λ t. deadlines t K.forward (uses_of c.pad_last.new.self)) test ∙ ap (deadlines (is_pending K.has_veneer K.forward K.backward (place_of b)) K.forward) e.uses in
+    let w = c.in_ok-put_waiting.ensures in
+    subst (λ t. VeneersPut K.forward t (before_last (bytes_of b) (length (pending_of K.has_veneer K.forward K.backward b))) (uses_of b) (bytes_of c.put_waiting.new.self) (uses_of c.put_waiting.new.self)) test
+    (subst (λ us. VeneersPut K.forward (is_other K.has_veneer K.forward K.backward (place_of c.pad_last.new.self) None) (before_last (bytes_of b) (length (pending_of K.has_veneer K.forward K.backward b))) us (bytes_of c.put_waiting.new.self) (uses_of c.put_waiting.new.self)) e.uses
+    (subst (λ s. VeneersPut K.forward (is_other K.has_veneer K.forward K.backward (place_of c.pad_last.new.self) None) s (uses_of c.pad_last.new.self) (bytes_of c.put_waiting.new.self) (uses_of c.put_waiting.new.self)) e.bytes w.put))
+
+pub returns-clause-windows : goal.returns-clause-windows
+returns-clause-windows g c =
+    let K = g.L.MachInstLabelUse in
+    let b = c.args.self.now in
+    let e = c.in_ok-pad_last.ensures in
+    let test : is_other K.has_veneer K.forward K.backward (place_of c.pad_last.new.self) None ≡ is_pending K.has_veneer K.forward K.backward (place_of b) = other_none K.has_veneer K.forward K.backward (place_of c.pad_last.new.self) ∙ ap (is_pending K.has_veneer K.forward K.backward) e.places in
+    let same : deadlines (is_other K.has_veneer K.forward K.backward (place_of c.pad_last.new.self) None) K.forward (uses_of c.pad_last.new.self) ≡ pending_of K.has_veneer K.forward K.backward b = ap (λ t. deadlines t K.forward (uses_of c.pad_last.new.self)) test ∙ ap (deadlines (is_pending K.has_veneer K.forward K.backward (place_of b)) K.forward) e.uses in
+    let w = c.in_ok-put_waiting.ensures in
+    λ h. w.windows (windows_as (windows_before (length (pending_of K.has_veneer K.forward K.backward b)) h) e.bytes e.uses e.veneers)
+
+pub returns-clause-none : goal.returns-clause-none
+returns-clause-none g c =
+    let K = g.L.MachInstLabelUse in
+    let b = c.args.self.now in
+    let e = c.in_ok-pad_last.ensures in
+    let test : is_other K.has_veneer K.forward K.backward (place_of c.pad_last.new.self) None ≡ is_pending K.has_veneer K.forward K.backward (place_of b) = other_none K.has_veneer K.forward K.backward (place_of c.pad_last.new.self) ∙ ap (is_pending K.has_veneer K.forward K.backward) e.places in
+    let same : deadlines (is_other K.has_veneer K.forward K.backward (place_of c.pad_last.new.self) None) K.forward (uses_of c.pad_last.new.self) ≡ pending_of K.has_veneer K.forward K.backward b = ap (λ t. deadlines t K.forward (uses_of c.pad_last.new.self)) test ∙ ap (deadlines (is_pending K.has_veneer K.forward K.backward (place_of b)) K.forward) e.uses in
+    let w = c.in_ok-put_waiting.ensures in
+    subst (λ t. deadlines t K.forward (uses_of c.put_waiting.new.self) ≡ []) test w.none

@@ -1,0 +1,183 @@
+//! Islands: veneers that stand among the code, and the end of an island's jump.
+
+use crate::buffer::{MachBuffer, deadline};
+use crate::uses::{Turn, Use, VeneerUse};
+use rv_base::label::MachLabel;
+use rv_base::label_use::MachInstLabelUse;
+use rv_base::memory::OutOfMemory;
+
+impl<L: MachInstLabelUse> MachBuffer<L> {
+    ghost use Rattle.std.specs.Prelude.{◌≡◌, ◌≢◌, ℕ, ◌+◌, ◌*◌, ◌%◌, ◌<◌, ◌≤◌, ◌++◌, [], length, take, ◌∷◌, OnOk, OnErr, IfSome, IfNone, None, Some, true, false, IsTrue, slice_get, slice_set, IsSomeAnd};
+    ghost use Rattle.mach_buffer.specs.Buffer.{bytes_of, uses_of, veneers_of, place_of, labels_of, drawn_of, spoiled_of, pending_of, turns_of, veneer_use, recorded, AreSound, IsSound, IsLinked, HaveTurns, AllLater};
+    ghost use Rattle.mach_buffer.specs.Reach.{is_other, names, deadline as last_of, deadlines, CanReach, StillReaches};
+    ghost use Rattle.mach_buffer.specs.Islands.{aligned, padding, HasRound, OwnPut, AreWindows, IsRound, CanIsland, Islanded, VeneersPut};
+
+    /// Makes an island behind its jump, whose four bytes stand last: zero bytes to a multiple of four, the jump's own
+    /// veneer where it needs one, and a veneer for each other pending use, by deadline and then by place. Binds `round`
+    /// at the end.
+    pub fn emit_island(&mut self, round: MachLabel) -> Result<(), OutOfMemory>
+        requires { CanIsland L.has_veneer L.forward L.backward L.veneer self.old round }
+        ensures island { OnOk result (Islanded L.has_veneer L.forward L.backward self.old round self.new) }
+        ensures reach { OnOk result (CanReach (length (bytes_of self.new)) (pending_of L.has_veneer L.forward L.backward self.new)) }
+        ensures windows { OnOk result (AreWindows L.fields (bytes_of self.old) (uses_of self.old) (veneers_of self.old) → AreWindows L.fields (bytes_of self.new) (uses_of self.new) (veneers_of self.new)) }
+        ensures labels { OnOk result (labels_of self.new ≡ labels_of self.old) }
+        ensures drawn { drawn_of self.new ≡ drawn_of self.old }
+        ensures unspoiled { OnOk result ((spoiled_of self.old ≡ false) × (spoiled_of self.new ≡ false)) }
+        ensures refused { OnErr result (spoiled_of self.new ≡ true) }
+        ensures sound { OnOk result (IsSound L.has_veneer L.forward L.backward L.veneer self.new) }
+    {
+        self.pad()?;
+        let count = self.count_others(Some(round));
+        self.put_own(round, count)?;
+        self.put_waiting(Some(round))?;
+        self.place_label(round)?;
+        Ok(())
+    }
+
+    /// Puts zero bytes to a multiple of four.
+    pub(crate) fn pad(&mut self) -> Result<(), OutOfMemory>
+        requires room { aligned (length (bytes_of self.old)) < 2147479552 }
+        requires sound { IsSound L.has_veneer L.forward L.backward L.veneer self.old }
+        ensures bytes { OnOk result (bytes_of self.new ≡ bytes_of self.old ++ padding (length (bytes_of self.old))) }
+        ensures uses { uses_of self.new ≡ uses_of self.old }
+        ensures veneers { veneers_of self.new ≡ veneers_of self.old }
+        ensures turns { turns_of self.new ≡ turns_of self.old }
+        ensures places { place_of self.new ≡ place_of self.old }
+        ensures labels { labels_of self.new ≡ labels_of self.old }
+        ensures drawn { drawn_of self.new ≡ drawn_of self.old }
+        ensures unspoiled { OnOk result ((spoiled_of self.old ≡ false) × (spoiled_of self.new ≡ false)) }
+        ensures refused { OnErr result (spoiled_of self.new ≡ true) }
+        ensures sound { OnOk result (IsSound L.has_veneer L.forward L.backward L.veneer self.new) }
+    {
+        if self.bytes.len() % 4 != 0 {
+            return self.append(&[0, 0]);
+        }
+        self.append(&[])
+    }
+
+    /// Puts the veneer of the use at `index`, which has none yet and whose turn was taken.
+    pub(crate) fn put_veneer(&mut self, index: usize) -> Result<(), OutOfMemory>
+        requires room { length (bytes_of self.old) + 8 < 2147479552 }
+        requires even { length (bytes_of self.old) % 2 ≡ 0 }
+        requires may { IsSomeAnd (slice_get (uses_of self.old) index) (λ u. IsTrue (L.has_veneer u.kind)) }
+        requires near { IsSomeAnd (slice_get (uses_of self.old) index) (λ u. length (bytes_of self.old) ≤ last_of L.forward u) }
+        requires linked { IsLinked L.has_veneer L.forward L.veneer (bytes_of self.old) (uses_of self.old) (veneers_of self.old) }
+        ensures bytes { OnOk result (IsSomeAnd (slice_get (uses_of self.old) index) (λ u. bytes_of self.new ≡ bytes_of self.old ++ (L.veneer u.kind).bytes)) }
+        ensures uses { OnOk result (IsSomeAnd (slice_get (uses_of self.old) index) (λ u. uses_of self.new ≡ slice_set (uses_of self.old) index (record u { veneer = Some (length (bytes_of self.old)) }))) }
+        ensures veneers { OnOk result (IsSomeAnd (slice_get (uses_of self.old) index) (λ u. veneers_of self.new ≡ veneers_of self.old ++ veneer_use (L.veneer u.kind) (length (bytes_of self.old)) u.label ∷ [])) }
+        ensures turns { turns_of self.new ≡ turns_of self.old }
+        ensures places { place_of self.new ≡ place_of self.old }
+        ensures labels { labels_of self.new ≡ labels_of self.old }
+        ensures drawn { drawn_of self.new ≡ drawn_of self.old }
+        ensures unspoiled { OnOk result ((spoiled_of self.old ≡ false) × (spoiled_of self.new ≡ false)) }
+        ensures refused { OnErr result (spoiled_of self.new ≡ true) }
+        ensures linked { OnOk result (IsLinked L.has_veneer L.forward L.veneer (bytes_of self.new) (uses_of self.new) (veneers_of self.new)) }
+    {
+        self.check()?;
+        let at = self.bytes.len() as u32;
+        let mut code = [0; 8];
+        let u = self.uses[index];
+        let (offset, kind) = u.kind.generate_veneer(&mut code, at);
+        let own = VeneerUse {
+            at,
+            offset,
+            label: u.label,
+            kind,
+        };
+        if self.veneers.push(own).is_err() {
+            self.spoiled = true;
+            return Err(OutOfMemory);
+        }
+        if self.bytes.extend_from_slice(&code).is_err() {
+            self.spoiled = true;
+            return Err(OutOfMemory);
+        }
+        self.uses[index] = Use {
+            veneer: Some(at),
+            ..u
+        };
+        Ok(())
+    }
+
+    /// Puts a veneer for each pending use that does not name this label, in the order of turns.
+    pub(crate) fn put_waiting(&mut self, round: Option<MachLabel>) -> Result<(), OutOfMemory>
+        requires room { length (bytes_of self.old) + 8 * length (deadlines (is_other L.has_veneer L.forward L.backward (place_of self.old) round) L.forward (uses_of self.old)) < 2147479552 }
+        requires even { length (bytes_of self.old) % 2 ≡ 0 }
+        requires linked { IsLinked L.has_veneer L.forward L.veneer (bytes_of self.old) (uses_of self.old) (veneers_of self.old) }
+        requires waits { HaveTurns L.forward (is_other L.has_veneer L.forward L.backward (place_of self.old) round) (turns_of self.old) (uses_of self.old) }
+        requires reach { StillReaches (length (bytes_of self.old)) (deadlines (is_other L.has_veneer L.forward L.backward (place_of self.old) round) L.forward (uses_of self.old)) }
+        ensures put { OnOk result (VeneersPut L.forward (is_other L.has_veneer L.forward L.backward (place_of self.old) round) (bytes_of self.old) (uses_of self.old) (bytes_of self.new) (uses_of self.new)) }
+        ensures linked { OnOk result (IsLinked L.has_veneer L.forward L.veneer (bytes_of self.new) (uses_of self.new) (veneers_of self.new)) }
+        ensures even { OnOk result (length (bytes_of self.new) % 2 ≡ 0) }
+        ensures windows { OnOk result (AreWindows L.fields (bytes_of self.old) (uses_of self.old) (veneers_of self.old) → AreWindows L.fields (bytes_of self.new) (uses_of self.new) (veneers_of self.new)) }
+        ensures none { OnOk result (deadlines (is_other L.has_veneer L.forward L.backward (place_of self.old) round) L.forward (uses_of self.new) ≡ []) }
+        ensures turns { OnOk result (turns_of self.new ≡ []) }
+        ensures places { place_of self.new ≡ place_of self.old }
+        ensures labels { labels_of self.new ≡ labels_of self.old }
+        ensures drawn { drawn_of self.new ≡ drawn_of self.old }
+        ensures unspoiled { OnOk result ((spoiled_of self.old ≡ false) × (spoiled_of self.new ≡ false)) }
+        ensures refused { OnErr result (spoiled_of self.new ≡ true) }
+    {
+        self.check()?;
+        while let Some((turn, u)) = self.take_turn() {
+            if self.is_other(round, &u) {
+                self.put_veneer(turn.index)?;
+            }
+        }
+        Ok(())
+    }
+
+    /// The use of a label by the jump round an island.
+    fn use_of(&self, round: MachLabel) -> usize
+        requires { IsRound L.has_veneer L.forward 6 (bytes_of self.now) (uses_of self.now) round.number }
+        ensures { IsSomeAnd (slice_get (uses_of self.now) result) (λ u. u.label.number ≡ round.number) }
+    {
+        self.uses
+            .iter()
+            .rposition(|u| u.label.number == round.number)
+            .unwrap_or(0)
+    }
+
+    /// Puts the veneer of the jump round an island, where `count` veneers from here on end out of its reach.
+    fn put_own(&mut self, round: MachLabel, count: usize) -> Result<(), OutOfMemory>
+        requires round { HasRound L.has_veneer L.forward 6 (bytes_of self.old) (uses_of self.old) round.number count }
+        requires even { length (bytes_of self.old) % 2 ≡ 0 }
+        requires linked { IsLinked L.has_veneer L.forward L.veneer (bytes_of self.old) (uses_of self.old) (veneers_of self.old) }
+        requires waits { HaveTurns L.forward (is_other L.has_veneer L.forward L.backward (place_of self.old) (Some round)) (turns_of self.old) (uses_of self.old) }
+        ensures put { OnOk result (OwnPut L.forward (bytes_of self.old) (uses_of self.old) round.number count (bytes_of self.new) (uses_of self.new)) }
+        ensures others { OnOk result (deadlines (is_other L.has_veneer L.forward L.backward (place_of self.old) (Some round)) L.forward (uses_of self.new) ≡ deadlines (is_other L.has_veneer L.forward L.backward (place_of self.old) (Some round)) L.forward (uses_of self.old)) }
+        ensures even { OnOk result (length (bytes_of self.new) % 2 ≡ 0) }
+        ensures linked { OnOk result (IsLinked L.has_veneer L.forward L.veneer (bytes_of self.new) (uses_of self.new) (veneers_of self.new)) }
+        ensures waits { OnOk result (HaveTurns L.forward (is_other L.has_veneer L.forward L.backward (place_of self.old) (Some round)) (turns_of self.new) (uses_of self.new)) }
+        ensures windows { OnOk result (AreWindows L.fields (bytes_of self.old) (uses_of self.old) (veneers_of self.old) → AreWindows L.fields (bytes_of self.new) (uses_of self.new) (veneers_of self.new)) }
+        ensures places { place_of self.new ≡ place_of self.old }
+        ensures labels { labels_of self.new ≡ labels_of self.old }
+        ensures drawn { drawn_of self.new ≡ drawn_of self.old }
+        ensures unspoiled { OnOk result ((spoiled_of self.old ≡ false) × (spoiled_of self.new ≡ false)) }
+        ensures refused { OnErr result (spoiled_of self.new ≡ true) }
+    {
+        self.check()?;
+        let index = self.use_of(round);
+        let end = self.bytes.len() as u64 + 8 * count as u64;
+        if deadline(&self.uses[index]) < end {
+            self.put_veneer(index)?;
+        }
+        Ok(())
+    }
+
+    /// Takes the first turn.
+    fn take_turn(&mut self) -> Option<(Turn, Use<L>)>
+        ensures first { IfSome result (λ e. turns_of self.old ≡ e ∷ turns_of self.new) }
+        ensures later { IfSome result (λ e. AllLater e.0 (turns_of self.new)) }
+        ensures none { IfNone result ((turns_of self.old ≡ []) × (turns_of self.new ≡ [])) }
+        ensures bytes { bytes_of self.new ≡ bytes_of self.old }
+        ensures uses { uses_of self.new ≡ uses_of self.old }
+        ensures veneers { veneers_of self.new ≡ veneers_of self.old }
+        ensures places { place_of self.new ≡ place_of self.old }
+        ensures labels { labels_of self.new ≡ labels_of self.old }
+        ensures drawn { drawn_of self.new ≡ drawn_of self.old }
+        ensures spoiled { spoiled_of self.new ≡ spoiled_of self.old }
+    {
+        self.waiting.pop_first()
+    }
+}

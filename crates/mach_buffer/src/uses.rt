@@ -1,0 +1,37 @@
+//! Uses of labels.
+
+use rv_base::label::MachLabel;
+
+/// A use of a label: a window of code that is to hold the distance to it. Offsets are in bytes from the code's start.
+#[derive(Clone, Copy)]
+pub struct Use<L> {
+    pub offset: u32,
+    pub label: MachLabel,
+    pub kind: L,
+    /// Where its veneer stands, once it has one.
+    pub veneer: Option<u32>,
+}
+
+/// The use in a veneer, and where the veneer stands.
+#[derive(Clone, Copy)]
+pub struct VeneerUse<L> {
+    pub at: u32,
+    pub offset: u32,
+    pub label: MachLabel,
+    pub kind: L,
+}
+
+/// The order in which veneers are put: by deadline, then by place, then as recorded.
+#[derive(Clone, Copy, Debug, PartialEq, Eq, PartialOrd, Ord)]
+pub struct Turn {
+    pub deadline: u64,
+    pub offset: u32,
+    pub index: usize,
+}
+
+/// Where a label stands.
+#[derive(Clone, Copy, Debug, PartialEq, Eq)]
+pub struct LabelPlace {
+    pub label: MachLabel,
+    pub offset: u32,
+}

@@ -1,0 +1,4 @@
+pub mod Bridges
+pub mod Patch
+pub mod PatchPair
+pub mod PatchPart

@@ -1,0 +1,12 @@
+use Rattle.std.proofs.Common.{◌≡◌, List, ℕ}
+use Rattle.rv_inst.proofs.Patch.{jal_holds, jal_keeps}
+use Rattle.rv_inst.proofs.label_use.patch_jal.Goals as goal
+
+pub returns-clause-distance : goal.returns-clause-distance
+returns-clause-distance c =
+    jal_holds c.args.buffer.now c.write_word.new.buffer c.args.bits (rw (c.read_word-word.ensures.value, c.jal_field.ensures) at c.write_word.ensures) c.read_word-word.ensures.in_range c.requires.fresh
+    c.requires.bits_in c.requires.even
+
+pub returns-clause-others : goal.returns-clause-others
+returns-clause-others c =
+    jal_keeps c.args.buffer.now c.write_word.new.buffer c.args.bits (rw (c.read_word-word.ensures.value, c.jal_field.ensures) at c.write_word.ensures) c.read_word-word.ensures.in_range c.requires.fresh

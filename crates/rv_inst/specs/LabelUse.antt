@@ -1,0 +1,65 @@
+-- The kinds of use: what a window of each encodes, which bits hold it, how far it reaches, and the veneer.
+use Rattle.std.specs.Prelude.{◌≡◌, ℕ, ◌+◌, ◌-◌, ◌/◌, ◌%◌, List, [], ◌∷◌, drop, ℤ, pos, negsuc, ◌+ℤ◌, ◌*ℤ◌, ◌-ℤ◌, int_le, Bool, true, false, ◌&&◌}
+use Rattle.rv_base.specs.LabelUse.{Veneer}
+use Rattle.rv_machine.specs.Layout.{fields_of, b_number, j_number, u_number, i_number, u_bits, i_bits}
+use Rattle.rv_inst.specs.declared.label_use.LabelUse.{LabelUse}
+use Rattle.rv_inst.specs.declared.label_use.LabelUse.TheVariants.{Jal20, PCRel32, B12, PCRelHi20, PCRelLo12I}
+use Rattle.rv_inst.specs.LabelUseWords.{word_at}
+
+-- the low 32 bits of a signed number
+abbrev pub low32 : ℤ → ℕ
+low32 (pos n) = n % 4294967296
+low32 (negsuc n) = 4294967295 - n % 4294967296
+
+-- the low twenty bits of (d + 0x800) >> 12
+abbrev pub upper_part : ℤ → ℕ
+upper_part d = low32 (d +ℤ pos 2048) / 4096
+
+-- the low twelve bits of d + 4
+abbrev pub lower_part : ℤ → ℕ
+lower_part d = low32 (d +ℤ pos 4) % 4096
+
+-- a window encodes a distance or, for the two kinds that hold one part of it, that part
+abbrev pub Aims : LabelUse → List ℕ → ℤ → Type 0
+Aims Jal20 window d = j_number (fields_of (word_at window)) ≡ d
+Aims B12 window d = b_number (fields_of (word_at window)) ≡ d
+Aims PCRel32 window d = (u_number (fields_of (word_at window)) *ℤ pos 4096) +ℤ i_number (fields_of (word_at (drop 4 window))) ≡ d
+Aims PCRelHi20 window d = u_bits (fields_of (word_at window)) ≡ upper_part d
+Aims PCRelLo12I window d = i_bits (fields_of (word_at window)) ≡ lower_part d
+
+-- the bits of the distance: 31:12 of layouts J and U, 31:25 with 11:7 of B, 31:20 of I
+abbrev pub marks_of : LabelUse → List ℕ
+marks_of Jal20 = 0x00 ∷ 0xf0 ∷ 0xff ∷ 0xff ∷ []
+marks_of B12 = 0x80 ∷ 0x0f ∷ 0x00 ∷ 0xfe ∷ []
+marks_of PCRel32 = 0x00 ∷ 0xf0 ∷ 0xff ∷ 0xff ∷ 0x00 ∷ 0x00 ∷ 0xf0 ∷ 0xff ∷ []
+marks_of PCRelHi20 = 0x00 ∷ 0xf0 ∷ 0xff ∷ 0xff ∷ []
+marks_of PCRelLo12I = 0x00 ∷ 0x00 ∷ 0xf0 ∷ 0xff ∷ []
+
+abbrev pub forward_of : LabelUse → ℕ
+forward_of Jal20 = 1048574
+forward_of B12 = 4094
+forward_of PCRel32 = 2147481599
+forward_of PCRelHi20 = 2147481599
+forward_of PCRelLo12I = 2147481599
+
+abbrev pub backward_of : LabelUse → ℕ
+backward_of Jal20 = 1048576
+backward_of B12 = 4096
+backward_of PCRel32 = 2147485696
+backward_of PCRelHi20 = 2147481601
+backward_of PCRelLo12I = 2147481601
+
+-- whether a distance is in reach
+abbrev pub in_range : LabelUse → ℤ → Bool
+in_range kind d = int_le (pos 0 -ℤ pos (backward_of kind)) d && int_le d (pos (forward_of kind))
+
+abbrev pub has_veneer_of : LabelUse → Bool
+has_veneer_of Jal20 = true
+has_veneer_of B12 = true
+has_veneer_of PCRel32 = false
+has_veneer_of PCRelHi20 = false
+has_veneer_of PCRelLo12I = false
+
+-- auipc x31, 0 and jalr x0, 0(x31)
+abbrev pub veneer_of : LabelUse → Veneer LabelUse
+veneer_of kind = record { bytes = 0x97 ∷ 0x0f ∷ 0x00 ∷ 0x00 ∷ 0x67 ∷ 0x80 ∷ 0x0f ∷ 0x00 ∷ []; place = 0; kind = PCRel32 }

@@ -1,0 +1,275 @@
+//! The kinds of use by which instructions refer to labels.
+
+ghost use Rattle.std.specs.Prelude.{◌≡◌, ◌+◌, ◌*◌, ◌<◌, ◌≤◌, ◌%◌, ◌/◌, ◌++◌, ◌∷◌, ◌&&◌, [], length, take, drop, pos, ◌-ℤ◌, int_le};
+ghost use Rattle.rv_base.specs.LabelUse.{IsFresh, SameOutside};
+ghost use Rattle.rv_machine.specs.State.{signed};
+ghost use Rattle.rv_machine.specs.Layout.{fields_of, j_number, b_number, u_number, i_number, u_bits, i_bits};
+ghost use Rattle.rv_inst.specs.LabelUseWords.{word_at, word_bytes, AreBytes, jal_bits, branch_bits, distance_bits, upper_bits};
+
+use rv_base::label_use::MachInstLabelUse;
+
+/// A kind of use.
+#[derive(Clone, Copy, Debug, PartialEq, Eq)]
+pub enum LabelUse {
+    /// The number of a `jal`.
+    Jal20,
+    /// The two numbers of an `auipc` and the instruction behind it.
+    PCRel32,
+    /// The number of a branch.
+    B12,
+    /// The number of an `auipc` alone.
+    PCRelHi20,
+    /// The number of the instruction right behind an `auipc`, alone.
+    PCRelLo12I,
+}
+
+impl LabelUse {
+    ghost use Rattle.rv_inst.specs.LabelUse.{in_range};
+
+    /// Whether a label is in reach that lies so many bytes from the use.
+    pub fn offset_in_range(self, offset: i64) -> bool
+        ensures { result ≡ in_range self offset }
+    {
+        -(self.max_neg_range() as i64) <= offset && offset <= self.max_pos_range() as i64
+    }
+}
+
+impl MachInstLabelUse for LabelUse {
+    ghost use Rattle.rv_inst.specs.LabelUse.{Aims, marks_of, forward_of, backward_of, has_veneer_of, veneer_of};
+    ghost use Rattle.std.specs.Prelude.{refl};
+    ghost use Rattle.std.proofs.Common.{rules};
+
+    ghost aims = { Aims };
+
+    ghost fields = { marks_of };
+
+    ghost forward = { forward_of };
+
+    ghost backward = { backward_of };
+
+    ghost has_veneer = { has_veneer_of };
+
+    ghost veneer = { veneer_of };
+
+    ghost ALIGN = { 4 };
+
+    ghost align_ok = { refl };
+
+    ghost veneer_ok = { Prim.search rules };
+
+    const ALIGN: u32 = 4;
+
+    fn max_pos_range(self) -> u32 {
+        match self {
+            LabelUse::Jal20 => 1048574,
+            LabelUse::B12 => 4094,
+            LabelUse::PCRel32 => 2147481599,
+            LabelUse::PCRelHi20 => 2147481599,
+            LabelUse::PCRelLo12I => 2147481599,
+        }
+    }
+
+    fn max_neg_range(self) -> u32 {
+        match self {
+            LabelUse::Jal20 => 1048576,
+            LabelUse::B12 => 4096,
+            LabelUse::PCRel32 => 2147485696,
+            LabelUse::PCRelHi20 => 2147481601,
+            LabelUse::PCRelLo12I => 2147481601,
+        }
+    }
+
+    fn patch_size(self) -> u32 {
+        match self {
+            LabelUse::PCRel32 => 8,
+            _ => 4,
+        }
+    }
+
+    fn patch(self, buffer: &mut [u8], use_offset: u32, label_offset: u32) {
+        match self {
+            LabelUse::Jal20 => patch_jal(
+                buffer,
+                bits_of_distance(use_offset, label_offset, 2097152),
+            ),
+            LabelUse::B12 => patch_branch(buffer, bits_of_distance(use_offset, label_offset, 8192)),
+            LabelUse::PCRel32 => patch_pair(buffer, label_offset.wrapping_sub(use_offset)),
+            LabelUse::PCRelHi20 => patch_upper(buffer, label_offset.wrapping_sub(use_offset)),
+            LabelUse::PCRelLo12I => patch_lower(
+                buffer,
+                label_offset.wrapping_sub(use_offset).wrapping_add(4),
+            ),
+        }
+    }
+
+    fn supports_veneer(self) -> bool {
+        matches!(self, LabelUse::Jal20 | LabelUse::B12)
+    }
+
+    fn veneer_size(self) -> u32 {
+        8
+    }
+
+    fn worst_case_veneer_size() -> u32 {
+        8
+    }
+
+    fn generate_veneer(self, buffer: &mut [u8], veneer_offset: u32) -> (u32, LabelUse) {
+        buffer.copy_from_slice(&[0x97, 0x0f, 0, 0, 0x67, 0x80, 0x0f, 0]);
+        (veneer_offset, LabelUse::PCRel32)
+    }
+}
+
+/// The word that four bytes begin with.
+fn read_word(buffer: &[u8]) -> u32
+    requires { 4 ≤ length buffer.now }
+    ensures value { result ≡ word_at buffer.now }
+    ensures in_range { AreBytes buffer.now }
+{
+    buffer[0] as u32
+        + 256 * buffer[1] as u32
+        + 65536 * buffer[2] as u32
+        + 16777216 * buffer[3] as u32
+}
+
+/// Puts a word into the first four bytes.
+fn write_word(buffer: &mut [u8], word: u32)
+    requires { 4 ≤ length buffer.old }
+    ensures { buffer.new ≡ word_bytes word ++ drop 4 buffer.old }
+{
+    buffer[0] = (word & 0xff) as u8;
+    buffer[1] = (word >> 8 & 0xff) as u8;
+    buffer[2] = (word >> 16 & 0xff) as u8;
+    buffer[3] = (word >> 24) as u8;
+}
+
+/// Puts two words into the first eight bytes.
+fn write_pair(buffer: &mut [u8], first: u32, second: u32)
+    requires { 8 ≤ length buffer.old }
+    ensures { buffer.new ≡ word_bytes first ++ word_bytes second ++ drop 8 buffer.old }
+{
+    buffer[0] = (first & 0xff) as u8;
+    buffer[1] = (first >> 8 & 0xff) as u8;
+    buffer[2] = (first >> 16 & 0xff) as u8;
+    buffer[3] = (first >> 24) as u8;
+    buffer[4] = (second & 0xff) as u8;
+    buffer[5] = (second >> 8 & 0xff) as u8;
+    buffer[6] = (second >> 16 & 0xff) as u8;
+    buffer[7] = (second >> 24) as u8;
+}
+
+/// The bits of a distance, below `size`.
+fn bits_of_distance(use_offset: u32, label_offset: u32, size: u32) -> u32
+    requires forward { label_offset < use_offset + size }
+    requires backward { use_offset ≤ label_offset + size }
+    ensures { result ≡ distance_bits size use_offset label_offset }
+{
+    if label_offset < use_offset {
+        size - (use_offset - label_offset)
+    } else {
+        label_offset - use_offset
+    }
+}
+
+/// A distance's bits at their places in a jump.
+fn jal_field(bits: u32) -> u32
+    requires { bits < 2097152 }
+    ensures { result ≡ jal_bits bits }
+{
+    (bits >> 12 & 0xff) << 12
+        | (bits >> 11 & 1) << 20
+        | (bits >> 1 & 0x3ff) << 21
+        | (bits >> 20) << 31
+}
+
+/// A distance's bits at their places in a branch.
+fn branch_field(bits: u32) -> u32
+    requires { bits < 8192 }
+    ensures { result ≡ branch_bits bits }
+{
+    (bits >> 11 & 1) << 7 | (bits >> 1 & 0xf) << 8 | (bits >> 5 & 0x3f) << 25 | (bits >> 12) << 31
+}
+
+/// The upper twenty bits of a distance, at 31:12, for a lower part that is read signed.
+fn upper_field(distance: u32) -> u32
+    ensures { result ≡ upper_bits distance * 4096 }
+{
+    distance.wrapping_add(0x800) >> 12 << 12
+}
+
+/// The lower twelve bits of a distance, at 31:20.
+fn lower_field(distance: u32) -> u32
+    ensures { result ≡ distance % 4096 * 1048576 }
+{
+    (distance & 0xfff) << 20
+}
+
+/// Puts twenty-one bits of a distance into a jump's word.
+fn patch_jal(buffer: &mut [u8], bits: u32)
+    requires bits_in { bits < 2097152 }
+    requires even { bits % 2 ≡ 0 }
+    requires long { 4 ≤ length buffer.old }
+    requires fresh { IsFresh (0x00 ∷ 0xf0 ∷ 0xff ∷ 0xff ∷ []) buffer.old }
+    ensures distance { j_number (fields_of (word_at (take 4 buffer.new))) ≡ signed 1048576 bits }
+    ensures others { SameOutside (0x00 ∷ 0xf0 ∷ 0xff ∷ 0xff ∷ []) buffer.old buffer.new }
+    ensures rest { drop 4 buffer.new ≡ drop 4 buffer.old }
+{
+    let word = read_word(buffer);
+    write_word(buffer, word | jal_field(bits));
+}
+
+/// Puts thirteen bits of a distance into a branch's word.
+fn patch_branch(buffer: &mut [u8], bits: u32)
+    requires bits_in { bits < 8192 }
+    requires even { bits % 2 ≡ 0 }
+    requires long { 4 ≤ length buffer.old }
+    requires fresh { IsFresh (0x80 ∷ 0x0f ∷ 0x00 ∷ 0xfe ∷ []) buffer.old }
+    ensures distance { b_number (fields_of (word_at (take 4 buffer.new))) ≡ signed 4096 bits }
+    ensures others { SameOutside (0x80 ∷ 0x0f ∷ 0x00 ∷ 0xfe ∷ []) buffer.old buffer.new }
+    ensures rest { drop 4 buffer.new ≡ drop 4 buffer.old }
+{
+    let word = read_word(buffer);
+    write_word(buffer, word | branch_field(bits));
+}
+
+/// Puts a distance into an `auipc` and the number of the word behind it.
+fn patch_pair(buffer: &mut [u8], distance: u32)
+    requires long { 8 ≤ length buffer.old }
+    requires fresh { IsFresh (0x00 ∷ 0xf0 ∷ 0xff ∷ 0xff ∷ 0x00 ∷ 0x00 ∷ 0xf0 ∷ 0xff ∷ []) buffer.old }
+    ensures upper { u_number (fields_of (word_at (take 8 buffer.new))) ≡ signed 524288 (upper_bits distance) }
+    ensures lower { i_number (fields_of (word_at (drop 4 (take 8 buffer.new)))) ≡ signed 2048 (distance % 4096) }
+    ensures others { SameOutside (0x00 ∷ 0xf0 ∷ 0xff ∷ 0xff ∷ 0x00 ∷ 0x00 ∷ 0xf0 ∷ 0xff ∷ []) buffer.old buffer.new }
+    ensures rest { drop 8 buffer.new ≡ drop 8 buffer.old }
+{
+    let first = read_word(buffer);
+    let second = read_word(&buffer[4..]);
+    write_pair(
+        buffer,
+        first | upper_field(distance),
+        second | lower_field(distance),
+    );
+}
+
+/// Puts the upper part of a distance into an `auipc`.
+fn patch_upper(buffer: &mut [u8], distance: u32)
+    requires long { 4 ≤ length buffer.old }
+    requires fresh { IsFresh (0x00 ∷ 0xf0 ∷ 0xff ∷ 0xff ∷ []) buffer.old }
+    ensures bits { u_bits (fields_of (word_at (take 4 buffer.new))) ≡ upper_bits distance }
+    ensures others { SameOutside (0x00 ∷ 0xf0 ∷ 0xff ∷ 0xff ∷ []) buffer.old buffer.new }
+    ensures rest { drop 4 buffer.new ≡ drop 4 buffer.old }
+{
+    let word = read_word(buffer);
+    write_word(buffer, word | upper_field(distance));
+}
+
+/// Puts the lower part of a distance into the number of a word.
+fn patch_lower(buffer: &mut [u8], distance: u32)
+    requires long { 4 ≤ length buffer.old }
+    requires fresh { IsFresh (0x00 ∷ 0x00 ∷ 0xf0 ∷ 0xff ∷ []) buffer.old }
+    ensures bits { i_bits (fields_of (word_at (take 4 buffer.new))) ≡ distance % 4096 }
+    ensures others { SameOutside (0x00 ∷ 0x00 ∷ 0xf0 ∷ 0xff ∷ []) buffer.old buffer.new }
+    ensures rest { drop 4 buffer.new ≡ drop 4 buffer.old }
+{
+    let word = read_word(buffer);
+    write_word(buffer, word | lower_field(distance));
+}
