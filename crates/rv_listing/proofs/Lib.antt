@@ -4,3 +4,4 @@ pub mod Bad
 pub mod Rows
 pub mod ReportTells
 pub mod Plain
+pub mod Names
