@@ -1,7 +1,8 @@
-pub mod Cuts
-pub mod Ranges
 pub mod Bad
-pub mod Rows
-pub mod ReportTells
+pub mod Cuts
+pub mod Names
 pub mod Plain
+pub mod Ranges
+pub mod ReportTells
+pub mod Rows
 pub mod Vectors

@@ -1,6 +1,8 @@
 //! Registers by name: `x`, `f` or `v` and a number, the names of the calling convention, and virtual ones.
 
-ghost use Rattle.std.specs.Prelude.{◌≡◌};
+ghost use Rattle.std.specs.Prelude.{◌≡◌, ℕ, ◌<◌};
+ghost use Rattle.rv_base.specs.declared.regs.RegClass.{RegClass};
+ghost use Rattle.rv_base.specs.Names.{real_name};
 ghost use Rattle.rv_listing.specs.Registers.{argument, float, float_saved, float_temporary, lettered, named, real, register, saved, temporary, virtual_register};
 
 use crate::tokens::{decimal, starts, tail};
@@ -150,10 +152,12 @@ fn lettered(w: &[u8]) -> Option<Reg>
     }
 }
 
-/// The register of this name. A virtual one is `%` and its index, and is of the integer class.
+/// The register of this name; each of the machine's has a name that `reg_name` gives, and its letter and number. A
+/// virtual one is `%` and its index, and is of the integer class.
 #[tactic(auto, unfolding(crate::specs::Registers::register))]
 pub fn register(w: &[u8]) -> Option<Reg>
-    ensures { result ≡ register w.now }
+    ensures value { result ≡ register w.now }
+    ensures names { (class : RegClass) (n : ℕ) → n < 32 → register (real_name class n) ≡ real class n }
 {
     match named(w) {
         Some(reg) => Some(reg),
