@@ -9,6 +9,7 @@ use Rattle.rv_base.specs.declared.regs.Writable.{Writable}
 use Rattle.rv_base.specs.declared.condcodes.IntCC.{IntCC}
 use Rattle.rv_base.specs.declared.condcodes.IntCC.TheVariants.{Equal, NotEqual, SignedLessThan, SignedGreaterThanOrEqual, SignedGreaterThan, SignedLessThanOrEqual, UnsignedLessThan, UnsignedGreaterThanOrEqual, UnsignedGreaterThan, UnsignedLessThanOrEqual}
 use Rattle.rv_base.specs.Regs.{real_of}
+use Rattle.rv_base.specs.CondCodes.{name_of}
 use Rattle.rv_imms.specs.declared.imm12.Imm12.{Imm12}
 use Rattle.rv_imms.specs.declared.imm20.Imm20.{Imm20}
 use Rattle.rv_inst.specs.declared.inst.CondBrTarget.{CondBrTarget}
@@ -43,15 +44,16 @@ label w = if starts 76 w then (decimal (drop 1 w) >>= below (2 ^ 32) >>= λ n. S
 unfoldable pub target : List ℕ → Option CondBrTarget
 target w = if bytes_eq w (codes "-") then Some targets.Fallthrough else label w >>= λ l. Some (targets.Label l)
 
+-- a comparison by its name
 unfoldable pub cond_code : List ℕ → Option IntCC
 cond_code w =
-    if bytes_eq w (codes "eq") then Some Equal else
-    if bytes_eq w (codes "ne") then Some NotEqual else
-    if bytes_eq w (codes "slt") then Some SignedLessThan else
-    if bytes_eq w (codes "sge") then Some SignedGreaterThanOrEqual else
-    if bytes_eq w (codes "sgt") then Some SignedGreaterThan else
-    if bytes_eq w (codes "sle") then Some SignedLessThanOrEqual else
-    if bytes_eq w (codes "ult") then Some UnsignedLessThan else
-    if bytes_eq w (codes "uge") then Some UnsignedGreaterThanOrEqual else
-    if bytes_eq w (codes "ugt") then Some UnsignedGreaterThan else
-    if bytes_eq w (codes "ule") then Some UnsignedLessThanOrEqual else None
+    if bytes_eq w (name_of Equal) then Some Equal else
+    if bytes_eq w (name_of NotEqual) then Some NotEqual else
+    if bytes_eq w (name_of SignedLessThan) then Some SignedLessThan else
+    if bytes_eq w (name_of SignedGreaterThanOrEqual) then Some SignedGreaterThanOrEqual else
+    if bytes_eq w (name_of SignedGreaterThan) then Some SignedGreaterThan else
+    if bytes_eq w (name_of SignedLessThanOrEqual) then Some SignedLessThanOrEqual else
+    if bytes_eq w (name_of UnsignedLessThan) then Some UnsignedLessThan else
+    if bytes_eq w (name_of UnsignedGreaterThanOrEqual) then Some UnsignedGreaterThanOrEqual else
+    if bytes_eq w (name_of UnsignedGreaterThan) then Some UnsignedGreaterThan else
+    if bytes_eq w (name_of UnsignedLessThanOrEqual) then Some UnsignedLessThanOrEqual else None
