@@ -5,3 +5,5 @@ pub mod Rows
 pub mod ReportTells
 pub mod Plain
 pub mod Vectors
+pub mod Named
+pub mod NamedTypes
