@@ -6,3 +6,5 @@ pub mod Ranges
 pub mod ReportTells
 pub mod Rows
 pub mod Vectors
+pub mod Named
+pub mod NamedTypes

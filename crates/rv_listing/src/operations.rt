@@ -1,6 +1,7 @@
 //! Integer operations by their names.
 
-ghost use Rattle.std.specs.Prelude.{◌≡◌};
+ghost use Rattle.std.specs.Prelude.{◌≡◌, Some};
+ghost use Rattle.rv_ops.specs.Alu.{rri_name, rrr_name};
 ghost use Rattle.rv_listing.specs.Operations.{alu_rri, alu_rrr, every_rri, every_rrr};
 
 use crate::fields::Token;
@@ -97,26 +98,54 @@ const EVERY_RRI: [AluOPRRI; 31] = [
     AluOPRRI::Orcb,
 ];
 
+#[tactic(auto, unfolding(crate::specs::Operations::alu_rrr, crate::specs::Operations::every_rrr))]
+fn find_rrr(w: &[u8]) -> Option<AluOPRRR>
+    ensures { result ≡ alu_rrr w.now }
+{
+    EVERY_RRR
+        .iter()
+        .copied()
+        .find(|op| w == op.op_name().as_bytes())
+}
+
+/// The operation of two registers that has this name.
+pub fn rrr_named(w: &[u8]) -> Option<AluOPRRR>
+    ensures reads { result ≡ alu_rrr w.now }
+    ensures named { (op : AluOPRRR) → w.now ≡ rrr_name op → result ≡ Some op }
+{
+    find_rrr(w)
+}
+
 impl Token for AluOPRRR {
     ghost reads = { alu_rrr };
 
-    #[tactic(auto, unfolding(crate::specs::Operations::alu_rrr, crate::specs::Operations::every_rrr))]
     fn read(w: &[u8]) -> Option<AluOPRRR> {
-        EVERY_RRR
-            .iter()
-            .copied()
-            .find(|op| w == op.op_name().as_bytes())
+        rrr_named(w)
     }
+}
+
+#[tactic(auto, unfolding(crate::specs::Operations::alu_rri, crate::specs::Operations::every_rri))]
+fn find_rri(w: &[u8]) -> Option<AluOPRRI>
+    ensures { result ≡ alu_rri w.now }
+{
+    EVERY_RRI
+        .iter()
+        .copied()
+        .find(|op| w == op.op_name().as_bytes())
+}
+
+/// The operation of a register and a number that has this name.
+pub fn rri_named(w: &[u8]) -> Option<AluOPRRI>
+    ensures reads { result ≡ alu_rri w.now }
+    ensures named { (op : AluOPRRI) → w.now ≡ rri_name op → result ≡ Some op }
+{
+    find_rri(w)
 }
 
 impl Token for AluOPRRI {
     ghost reads = { alu_rri };
 
-    #[tactic(auto, unfolding(crate::specs::Operations::alu_rri, crate::specs::Operations::every_rri))]
     fn read(w: &[u8]) -> Option<AluOPRRI> {
-        EVERY_RRI
-            .iter()
-            .copied()
-            .find(|op| w == op.op_name().as_bytes())
+        rri_named(w)
     }
 }

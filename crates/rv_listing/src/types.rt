@@ -1,6 +1,7 @@
 //! Types by their names.
 
-ghost use Rattle.std.specs.Prelude.{◌≡◌};
+ghost use Rattle.std.specs.Prelude.{◌≡◌, Some};
+ghost use Rattle.rv_base.specs.IrType.{name_of};
 ghost use Rattle.rv_listing.specs.Types.{scalar, type_named, vector, vector_of};
 
 use crate::fields::Token;
@@ -53,14 +54,28 @@ fn vector(w: &[u8]) -> Option<IrType>
     vector_of(lane, decimal(lanes)?)
 }
 
+#[tactic(auto, unfolding(crate::specs::Types::type_named))]
+fn find_type(w: &[u8]) -> Option<IrType>
+    ensures { result ≡ type_named w.now }
+{
+    match scalar(w) {
+        Some(scalar) => Some(scalar),
+        None => vector(w),
+    }
+}
+
+/// The type of this name.
+pub fn type_named(w: &[u8]) -> Option<IrType>
+    ensures reads { result ≡ type_named w.now }
+    ensures named { (type : IrType) → w.now ≡ name_of type → result ≡ Some type }
+{
+    find_type(w)
+}
+
 impl Token for IrType {
     ghost reads = { type_named };
 
-    #[tactic(auto, unfolding(crate::specs::Types::type_named))]
     fn read(w: &[u8]) -> Option<IrType> {
-        match scalar(w) {
-            Some(scalar) => Some(scalar),
-            None => vector(w),
-        }
+        type_named(w)
     }
 }
