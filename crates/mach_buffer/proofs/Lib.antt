@@ -8,6 +8,7 @@ pub mod Needed
 pub mod Others
 pub mod Progress
 pub mod Putting
+pub mod Released
 pub mod Rounds
 pub mod Slack
 pub mod Sound

@@ -6,3 +6,6 @@ pub mod finish;
 pub mod islands;
 pub mod patches;
 pub mod uses;
+
+#[cfg(test)]
+mod tests;
