@@ -6,6 +6,7 @@ use crate::buffer::MachBuffer;
 use rv_base::label::MachLabel;
 use rv_base::label_use::MachInstLabelUse;
 use rv_base::memory::OutOfMemory;
+use std::alloc::Global;
 
 /// A kind of use.
 #[derive(Clone, Copy, Debug, PartialEq, Eq)]
@@ -100,4 +101,46 @@ fn write_word(buffer: &mut [u8], word: u32)
     buffer[1] = (word >> 8 & 0xff) as u8;
     buffer[2] = (word >> 16 & 0xff) as u8;
     buffer[3] = (word >> 24) as u8;
+}
+
+ghost use Rattle.std.specs.Prelude.{◌<◌, ◌^◌, IfOk, None};
+ghost use Rattle.mach_buffer.specs.Buffer.{bytes_of, place_of, drawn_of, IsSound};
+
+/// A use of one byte, and 200 bytes.
+fn waiting(alloc: Global, label: MachLabel) -> Result<MachBuffer<Toy>, OutOfMemory>
+    requires { label.number < 2 ^ 30 }
+    ensures long { IfOk result (λ b. length (bytes_of b) ≡ 200) }
+    ensures unbound { IfOk result (λ b. place_of b label.number ≡ None) }
+    ensures drawn { IfOk result (λ b. drawn_of b ≡ 0) }
+    ensures sound { IfOk result (λ b. IsSound ⟦<Toy as MachInstLabelUse>⟧.has_veneer ⟦<Toy as MachInstLabelUse>⟧.forward ⟦<Toy as MachInstLabelUse>⟧.backward ⟦<Toy as MachInstLabelUse>⟧.veneer b) }
+{
+    let mut buffer = MachBuffer::<Toy>::new(alloc);
+    buffer.register_constants(&[])?;
+    buffer.use_label_at_offset(0, label, Toy::Short)?;
+    buffer.put2(0x1100)?;
+    buffer.put4(0x22222222)?;
+    buffer.put8(0x3333333333333333)?;
+    buffer.put_data(&[0x44; 186])?;
+    Ok(buffer)
+}
+
+#[test]
+fn islands_are_needed_by_the_rule(rt: HostRuntime) {
+    let label = MachLabel::from_u32(5);
+    let Ok(mut buffer) = waiting(rt.alloc(), label) else {
+        assert!(rt; false, "there is memory");
+        return;
+    };
+    assert_eq!(rt; buffer.cur_offset(), 200);
+    assert_eq!(rt; buffer.island_needed(16), false);
+    assert_eq!(rt; buffer.island_needed(17), true);
+    assert_eq!(rt; buffer.has_room(2147479552 - 240), false);
+    assert_eq!(rt; buffer.has_room(2147479551 - 240), true);
+    assert_eq!(rt; buffer.label_offset(label), None);
+    assert_eq!(rt; buffer.bind_label(label).is_ok(), true);
+    assert_eq!(rt; buffer.label_offset(label), Some(200));
+    assert_eq!(rt; buffer.island_needed(1000), false);
+    assert_eq!(rt; buffer.has_room(2147479551 - 232), true);
+    buffer.spoil();
+    assert_eq!(rt; buffer.register_constants(&[]), Err(OutOfMemory));
 }
