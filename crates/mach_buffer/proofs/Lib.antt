@@ -1,4 +1,5 @@
 pub mod Apart
+pub mod Blocks
 pub mod Ends
 pub mod Firsts
 pub mod Islanded

@@ -32,6 +32,7 @@ due_remove {L} forward some t end (x ∷ es) h = on (t x.0) refl (due_remove for
     step : (b : Bool) (ds es : List ℕ) → due_by end ds ≡ due_by end es → due_by end (cond b (deadline forward x.1 ∷ ds) ds) ≡ due_by end (cond b (deadline forward x.1 ∷ es) es)
     step true ds es e = ap (λ n. cond (nat_le (deadline forward x.1) end) (suc n) n) e
     step false ds es e = e
+
     on : (b : Bool) → t x.0 ≡ b → due_by end (deadlines some forward (users (remove_entry t es))) ≡ due_by end (deadlines some forward (users es)) → due_by end (deadlines some forward (users (cond b es (x ∷ remove_entry t es)))) ≡ due_by end (deadlines some forward (x.1 ∷ users es))
     on true q rest = sym (ap (λ b. due_by end (cond b (deadline forward x.1 ∷ deadlines some forward (users es)) (deadlines some forward (users es)))) (h 0 x refl q))
     on false q rest = step (some x.1) _ _ rest
@@ -48,6 +49,7 @@ turns_remove {L} {forward} {test} {turns} {uses} h k u there idle new_turns et =
     equal Less e = absurd (true≢false (sym e))
     equal Equal e = refl
     equal Greater e = absurd (true≢false (sym e))
+
     idle_at : (i : ℕ) (e : Turn × Use L) → slice_get turns i ≡ Some e → is_at (turn_cmp k) e.0 ≡ true → test e.1 ≡ false
     idle_at i e q at = on (test e.1) refl
       where
@@ -57,6 +59,7 @@ turns_remove {L} {forward} {test} {turns} {uses} h k u there idle new_turns et =
             let s = h.each i e q t in
             let index = same_index k e.0 (equal (turn_cmp k e.0) at) in
             absurd (true≢false (sym t ∙ ap test (same_Some _ _ (sym s.there ∙ ap (slice_get uses) (sym index) ∙ there)) ∙ idle))
+
     off : (some : Use L → Bool) → ((x : Use L) → some x ≡ true → test x ≡ true) → (e : Turn × Use L) → test e.1 ≡ false → some e.1 ≡ false
     off some sub e t = go (some e.1) refl
       where

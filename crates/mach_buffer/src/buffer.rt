@@ -315,13 +315,7 @@ impl<L: MachInstLabelUse> MachBuffer<L> {
             return None;
         }
         match self.earlier[index] {
-            Some(before) => {
-                if before < index {
-                    Some(before)
-                } else {
-                    None
-                }
-            }
+            Some(before) => { if before < index { Some(before) } else { None } }
             None => None,
         }
     }

@@ -5,7 +5,6 @@ pub mod buffer;
 pub mod finish;
 pub mod islands;
 pub mod patches;
-pub mod uses;
-
 #[cfg(test)]
 mod tests;
+pub mod uses;

@@ -14,16 +14,16 @@ returns-clause-sound g c =
     let n = c.note_use.ensures in
     let b = c.note_use.new.self in
     let sound = subst (λ q. AreSound K.has_veneer K.forward K.backward K.veneer (bytes_of b) (uses_of b) (veneers_of b) (turns_of b) q (drawn_of b)) (sym n.places)
-        (sound_as c.requires.sound n.bytes n.uses n.veneers n.turns n.drawn) in
+    (sound_as c.requires.sound n.bytes n.uses n.veneers n.turns n.drawn) in
     let there : c.args.offset ≤ length (bytes_of b) = subst (λ s. c.args.offset ≤ length s) (sym n.bytes) c.requires.there in
     let known : IsKnown c.args.label.number (drawn_of b) = subst (IsKnown c.args.label.number) (sym n.drawn) c.requires.known in
     let items : c.push.new.self.items ≡ uses_of b ++ record { offset = c.args.offset; label = c.args.label; kind = c.args.kind; veneer = None } ∷ [] = search rules in
     elim c.else-waits.branch [
-    | else-waits-via-then-waits+else-is_err-2 w ↦ subst Sound (sym w.self-is)
-      (sound_use sound _ refl there known _ items _
-      (turns_add sound.waits _ _ c.deadline.ensures.value refl (search rules) _ _ (not_refused w.insert.result _ (search rules) w.insert.ensures.entries) items))
-    | else-waits-via-else-waits w ↦ subst Sound (sym w.self-is)
-      (sound_use sound _ refl there known _ items _ (turns_skip sound.waits _ (sym c.is_pending-waits.ensures ∙ w.if-waits.false) _ items))
+      | else-waits-via-then-waits+else-is_err-2 w ↦ subst Sound (sym w.self-is)
+          (sound_use sound _ refl there known _ items _
+          (turns_add sound.waits _ _ c.deadline.ensures.value refl (search rules) _ _ (not_refused w.insert.result _ (search rules) w.insert.ensures.entries) items))
+      | else-waits-via-else-waits w ↦ subst Sound (sym w.self-is)
+          (sound_use sound _ refl there known _ items _ (turns_skip sound.waits _ (sym c.is_pending-waits.ensures ∙ w.if-waits.false) _ items))
     ]
 
 pub returns-clause-places : goal.returns-clause-places
@@ -31,6 +31,6 @@ returns-clause-places g c =
     let n = c.note_use.ensures in
     let place = λ (b : MachBuffer g.row.L.Denot). place_of b in
     elim c.else-waits.branch [
-    | else-waits-via-then-waits+else-is_err-2 w ↦ ap place w.self-is ∙ n.places
-    | else-waits-via-else-waits w ↦ ap place w.self-is ∙ n.places
+      | else-waits-via-then-waits+else-is_err-2 w ↦ ap place w.self-is ∙ n.places
+      | else-waits-via-else-waits w ↦ ap place w.self-is ∙ n.places
     ]
