@@ -1,4 +1,5 @@
 pub mod Apart
+pub mod Blocks
 pub mod Ends
 pub mod Firsts
 pub mod Islanded
@@ -8,6 +9,7 @@ pub mod Needed
 pub mod Others
 pub mod Progress
 pub mod Putting
+pub mod Released
 pub mod Rounds
 pub mod Slack
 pub mod Sound

@@ -114,3 +114,8 @@ sound_use {L} {has_veneer} {forward} {backward} {veneer} {bytes} {uses} {veneers
 pub sound_as : {L : Type 0} {has_veneer : L → Bool} {forward backward : L → ℕ} {veneer : L → Veneer L} {bytes new_bytes : List ℕ} {uses new_uses : List (Use L)} {veneers new_veneers : List (VeneerUse L)} {turns new_turns : List (Turn × Use L)} {place : ℕ → Option ℕ} {drawn new_drawn : ℕ} →
     AreSound has_veneer forward backward veneer bytes uses veneers turns place drawn → new_bytes ≡ bytes → new_uses ≡ uses → new_veneers ≡ veneers → new_turns ≡ turns → new_drawn ≡ drawn → AreSound has_veneer forward backward veneer new_bytes new_uses new_veneers new_turns place new_drawn
 sound_as s eb eu ev et ed = rw (eb, eu, ev, et, ed) s
+
+-- other turns
+pub sound_waits : {L : Type 0} {has_veneer : L → Bool} {forward backward : L → ℕ} {veneer : L → Veneer L} {bytes : List ℕ} {uses : List (Use L)} {veneers : List (VeneerUse L)} {turns : List (Turn × Use L)} {place : ℕ → Option ℕ} {drawn : ℕ} →
+    AreSound has_veneer forward backward veneer bytes uses veneers turns place drawn → (new_turns : List (Turn × Use L)) → HaveTurns forward (is_pending has_veneer forward backward place) new_turns uses → AreSound has_veneer forward backward veneer bytes uses veneers new_turns place drawn
+sound_waits s new_turns w = record { linked = s.linked; even = s.even; places = s.places; known = s.known; waits = w }

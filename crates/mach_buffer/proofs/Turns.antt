@@ -52,7 +52,7 @@ later_from_less a b e = on (nat_cmp a.deadline b.deadline) (nat_cmp a.offset b.o
     on Equal Greater z hx hy hz q = absurd (cc)
     on Greater y z hx hy hz q = absurd (cc)
 
-same_index : (a b : Turn) → turn_cmp a b ≡ Equal → a.index ≡ b.index
+pub same_index : (a b : Turn) → turn_cmp a b ≡ Equal → a.index ≡ b.index
 same_index a b e = on (nat_cmp a.deadline b.deadline) (nat_cmp a.offset b.offset) (nat_cmp a.index b.index) refl e
   where
     on : (x y z : Ordering) → nat_cmp a.index b.index ≡ z → ordering_then x (ordering_then y z) ≡ Equal → a.index ≡ b.index

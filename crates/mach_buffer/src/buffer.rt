@@ -21,6 +21,8 @@ pub struct MachBuffer<L> {
     pub(crate) bytes: Vec<u8>,
     pub(crate) uses: Vec<Use<L>>,
     pub(crate) waiting: BTreeMap<Turn, Use<L>>,
+    pub(crate) latest: BTreeMap<u32, usize>,
+    pub(crate) earlier: Vec<Option<usize>>,
     pub(crate) veneers: Vec<VeneerUse<L>>,
     pub(crate) places: BTreeMap<u32, u32>,
     pub(crate) labels: Vec<LabelPlace>,
@@ -31,7 +33,7 @@ pub struct MachBuffer<L> {
 }
 
 impl<L: MachInstLabelUse> MachBuffer<L> {
-    ghost use Rattle.std.specs.Prelude.{◌≡◌, ◌≢◌, ℕ, ◌+◌, ◌*◌, ◌%◌, ◌++◌, ◌∷◌, [], length, slice_get, OnOk, OnErr, IfOk, None, Some, true, false, Bool, ◌&&◌, nat_lt, if◌then◌else◌};
+    ghost use Rattle.std.specs.Prelude.{◌≡◌, ◌≢◌, ℕ, ◌+◌, ◌*◌, ◌%◌, ◌++◌, ◌∷◌, [], length, slice_get, OnOk, OnErr, IfOk, IfSome, None, Some, true, false, Bool, ◌&&◌, nat_lt, if◌then◌else◌};
     ghost use Rattle.std.specs.Int.{to_le_bytes};
     ghost use mir.Syntax.{w16, w32, w64};
     ghost use Rattle.mach_buffer.specs.Buffer.{bytes_of, uses_of, veneers_of, place_of, labels_of, drawn_of, spoiled_of, pending_of, turns_of, listed, IsKnown, IsSound, HaveTurns};
@@ -52,6 +54,8 @@ impl<L: MachInstLabelUse> MachBuffer<L> {
             bytes: Vec::new(alloc),
             uses: Vec::new(alloc),
             waiting: BTreeMap::new(alloc),
+            latest: BTreeMap::new(alloc),
+            earlier: Vec::new(alloc),
             veneers: Vec::new(alloc),
             places: BTreeMap::new(alloc),
             labels: Vec::new(alloc),
@@ -236,6 +240,108 @@ impl<L: MachInstLabelUse> MachBuffer<L> {
         ensures sound { OnOk result (IsSound L.has_veneer L.forward L.backward L.veneer self.new) }
     {
         self.place_label(label)?;
+        self.release(label.number);
+        Ok(())
+    }
+
+    /// Takes the turns of those uses of a label that it is in reach of.
+    fn release(&mut self, label: u32)
+        requires waits { HaveTurns L.forward (is_pending L.has_veneer L.forward L.backward (place_of self.old)) (turns_of self.old) (uses_of self.old) }
+        ensures waits { HaveTurns L.forward (is_pending L.has_veneer L.forward L.backward (place_of self.old)) (turns_of self.new) (uses_of self.old) }
+        ensures bytes { bytes_of self.new ≡ bytes_of self.old }
+        ensures uses { uses_of self.new ≡ uses_of self.old }
+        ensures veneers { veneers_of self.new ≡ veneers_of self.old }
+        ensures places { place_of self.new ≡ place_of self.old }
+        ensures labels { labels_of self.new ≡ labels_of self.old }
+        ensures drawn { drawn_of self.new ≡ drawn_of self.old }
+        ensures spoiled { spoiled_of self.new ≡ spoiled_of self.old }
+    {
+        let mut next = self.latest.get(&label).copied();
+        while let Some(index) = next {
+            next = self.release_use(index);
+        }
+    }
+
+    /// Takes the turn of a use that is not pending. Gives the use of the same label before it.
+    fn release_use(&mut self, index: usize) -> Option<usize>
+        requires waits { HaveTurns L.forward (is_pending L.has_veneer L.forward L.backward (place_of self.old)) (turns_of self.old) (uses_of self.old) }
+        ensures waits { HaveTurns L.forward (is_pending L.has_veneer L.forward L.backward (place_of self.old)) (turns_of self.new) (uses_of self.old) }
+        ensures before { IfSome result (λ before. before < index) }
+        ensures bytes { bytes_of self.new ≡ bytes_of self.old }
+        ensures uses { uses_of self.new ≡ uses_of self.old }
+        ensures veneers { veneers_of self.new ≡ veneers_of self.old }
+        ensures places { place_of self.new ≡ place_of self.old }
+        ensures labels { labels_of self.new ≡ labels_of self.old }
+        ensures drawn { drawn_of self.new ≡ drawn_of self.old }
+        ensures spoiled { spoiled_of self.new ≡ spoiled_of self.old }
+    {
+        if index >= self.uses.len() {
+            return None;
+        }
+        let u = self.uses[index];
+        if !self.is_pending(&u) {
+            self.take_idle(&u, index);
+        }
+        self.use_before(index)
+    }
+
+    /// Takes the turn of the use at `index`, which is not pending.
+    fn take_idle(&mut self, u: &Use<L>, index: usize)
+        requires there { slice_get (uses_of self.old) index ≡ Some u.now }
+        requires idle { is_pending L.has_veneer L.forward L.backward (place_of self.old) u.now ≡ false }
+        requires waits { HaveTurns L.forward (is_pending L.has_veneer L.forward L.backward (place_of self.old)) (turns_of self.old) (uses_of self.old) }
+        ensures waits { HaveTurns L.forward (is_pending L.has_veneer L.forward L.backward (place_of self.old)) (turns_of self.new) (uses_of self.old) }
+        ensures bytes { bytes_of self.new ≡ bytes_of self.old }
+        ensures uses { uses_of self.new ≡ uses_of self.old }
+        ensures veneers { veneers_of self.new ≡ veneers_of self.old }
+        ensures places { place_of self.new ≡ place_of self.old }
+        ensures labels { labels_of self.new ≡ labels_of self.old }
+        ensures drawn { drawn_of self.new ≡ drawn_of self.old }
+        ensures spoiled { spoiled_of self.new ≡ spoiled_of self.old }
+    {
+        let turn = Turn {
+            deadline: deadline(u),
+            offset: u.offset,
+            index,
+        };
+        let _ = self.waiting.remove(&turn);
+    }
+
+    /// The use of the same label before that at `index`.
+    fn use_before(&self, index: usize) -> Option<usize>
+        ensures { IfSome result (λ before. before < index) }
+    {
+        if index >= self.earlier.len() {
+            return None;
+        }
+        match self.earlier[index] {
+            Some(before) => { if before < index { Some(before) } else { None } }
+            None => None,
+        }
+    }
+
+    /// Notes the use that is recorded next as the latest of its label.
+    fn note_use(&mut self, label: u32) -> Result<(), OutOfMemory>
+        ensures bytes { bytes_of self.new ≡ bytes_of self.old }
+        ensures uses { uses_of self.new ≡ uses_of self.old }
+        ensures veneers { veneers_of self.new ≡ veneers_of self.old }
+        ensures turns { turns_of self.new ≡ turns_of self.old }
+        ensures places { place_of self.new ≡ place_of self.old }
+        ensures labels { labels_of self.new ≡ labels_of self.old }
+        ensures drawn { drawn_of self.new ≡ drawn_of self.old }
+        ensures unspoiled { OnOk result ((spoiled_of self.old ≡ false) × (spoiled_of self.new ≡ false)) }
+        ensures refused { OnErr result (spoiled_of self.new ≡ true) }
+    {
+        self.check()?;
+        let before = self.latest.get(&label).copied();
+        if self.earlier.push(before).is_err() {
+            self.spoiled = true;
+            return Err(OutOfMemory);
+        }
+        if self.latest.insert(label, self.uses.len()).is_err() {
+            self.spoiled = true;
+            return Err(OutOfMemory);
+        }
         Ok(())
     }
 
@@ -286,7 +392,7 @@ impl<L: MachInstLabelUse> MachBuffer<L> {
         ensures refused { OnErr result (spoiled_of self.new ≡ true) }
         ensures sound { OnOk result (IsSound L.has_veneer L.forward L.backward L.veneer self.new) }
     {
-        self.check()?;
+        self.note_use(label.number)?;
         let u = Use {
             offset,
             label,

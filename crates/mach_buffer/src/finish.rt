@@ -35,6 +35,8 @@ impl<L: MachInstLabelUse> MachBuffer<L> {
             mut bytes,
             uses,
             waiting,
+            latest,
+            earlier,
             veneers,
             places,
             labels,

@@ -5,4 +5,6 @@ pub mod buffer;
 pub mod finish;
 pub mod islands;
 pub mod patches;
+#[cfg(test)]
+mod tests;
 pub mod uses;

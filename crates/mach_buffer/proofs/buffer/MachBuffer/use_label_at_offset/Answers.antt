@@ -1,8 +1,8 @@
-use Rattle.std.proofs.Common.{arith, rules, refl, sym, subst, ◌∙◌, ◌≡◌, ◌++◌, ◌∷◌, [], None}
+use Rattle.std.proofs.Common.{arith, rules, refl, sym, ap, subst, ◌∙◌, ◌≡◌, ◌≤◌, ◌++◌, ◌∷◌, [], None, length}
 use Rattle.mach_buffer.specs.declared.buffer.MachBuffer.{MachBuffer}
-use Rattle.mach_buffer.specs.Buffer.{uses_of, turns_of, IsSound}
+use Rattle.mach_buffer.specs.Buffer.{bytes_of, uses_of, veneers_of, turns_of, place_of, drawn_of, IsKnown, IsSound, AreSound}
 use Rattle.mach_buffer.proofs.Maps.{not_refused}
-use Rattle.mach_buffer.proofs.Sound.{sound_use}
+use Rattle.mach_buffer.proofs.Sound.{sound_use, sound_as}
 use Rattle.mach_buffer.proofs.Turns.{turns_add, turns_skip}
 use Rattle.mach_buffer.proofs.buffer.MachBuffer.use_label_at_offset.Goals.{else-waits-via-then-waits+else-is_err-2, else-waits-via-else-waits}
 use Rattle.mach_buffer.proofs.buffer.MachBuffer.use_label_at_offset.Goals as goal
@@ -11,11 +11,26 @@ pub returns-clause-sound : goal.returns-clause-sound
 returns-clause-sound g c =
     let K = g.L.MachInstLabelUse in
     let Sound = λ (b : MachBuffer g.row.L.Denot). IsSound K.has_veneer K.forward K.backward K.veneer b in
-    let items : c.push.new.self.items ≡ uses_of c.args.self.now ++ record { offset = c.args.offset; label = c.args.label; kind = c.args.kind; veneer = None } ∷ [] = search rules in
+    let n = c.note_use.ensures in
+    let b = c.note_use.new.self in
+    let sound = subst (λ q. AreSound K.has_veneer K.forward K.backward K.veneer (bytes_of b) (uses_of b) (veneers_of b) (turns_of b) q (drawn_of b)) (sym n.places)
+    (sound_as c.requires.sound n.bytes n.uses n.veneers n.turns n.drawn) in
+    let there : c.args.offset ≤ length (bytes_of b) = subst (λ s. c.args.offset ≤ length s) (sym n.bytes) c.requires.there in
+    let known : IsKnown c.args.label.number (drawn_of b) = subst (IsKnown c.args.label.number) (sym n.drawn) c.requires.known in
+    let items : c.push.new.self.items ≡ uses_of b ++ record { offset = c.args.offset; label = c.args.label; kind = c.args.kind; veneer = None } ∷ [] = search rules in
     elim c.else-waits.branch [
       | else-waits-via-then-waits+else-is_err-2 w ↦ subst Sound (sym w.self-is)
-          (sound_use c.requires.sound _ refl c.requires.there c.requires.known _ items _
-          (turns_add c.requires.sound.waits _ _ c.deadline.ensures.value refl (search rules) _ _ (not_refused w.insert.result _ (search rules) w.insert.ensures.entries) items))
+          (sound_use sound _ refl there known _ items _
+          (turns_add sound.waits _ _ c.deadline.ensures.value refl (search rules) _ _ (not_refused w.insert.result _ (search rules) w.insert.ensures.entries) items))
       | else-waits-via-else-waits w ↦ subst Sound (sym w.self-is)
-          (sound_use c.requires.sound _ refl c.requires.there c.requires.known _ items _ (turns_skip c.requires.sound.waits _ (sym c.is_pending-waits.ensures ∙ w.if-waits.false) _ items))
+          (sound_use sound _ refl there known _ items _ (turns_skip sound.waits _ (sym c.is_pending-waits.ensures ∙ w.if-waits.false) _ items))
+    ]
+
+pub returns-clause-places : goal.returns-clause-places
+returns-clause-places g c =
+    let n = c.note_use.ensures in
+    let place = λ (b : MachBuffer g.row.L.Denot). place_of b in
+    elim c.else-waits.branch [
+      | else-waits-via-then-waits+else-is_err-2 w ↦ ap place w.self-is ∙ n.places
+      | else-waits-via-else-waits w ↦ ap place w.self-is ∙ n.places
     ]

@@ -1,0 +1,10 @@
+use Rattle.std.proofs.Common.{ap, ◌∙◌}
+use Rattle.mach_buffer.specs.declared.buffer.MachBuffer.{MachBuffer}
+use Rattle.mach_buffer.specs.declared.tests.Toy.{Toy}
+use Rattle.mach_buffer.specs.Buffer.{place_of}
+use Rattle.mach_buffer.proofs.tests.waiting.Goals as goal
+
+pub returns-clause-unbound : goal.returns-clause-unbound
+returns-clause-unbound c =
+    let n = c.args.label.number in
+    ap (λ f. f n) (c.put_data.ensures.places ∙ c.put8.ensures.places ∙ c.put4.ensures.places ∙ c.put2.ensures.places ∙ c.use_label_at_offset.ensures.places ∙ ap (λ (b : MachBuffer Toy). place_of b) c.register_constants.ensures.same) ∙ c.new-buffer.ensures.places n
