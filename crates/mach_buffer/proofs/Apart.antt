@@ -1,17 +1,14 @@
 -- The windows of uses, as a buffer grows.
-use Rattle.std.proofs.Common.{◌≡◌, ◌≢◌, ℕ, zero, suc, ◌+◌, ◌*◌, ◌%◌, ◌<◌, ◌≤◌, ◌⊎◌, inl, inr, ⊎_elim, Bool, true, List, [], ◌∷◌, ◌++◌, length, take, drop, set, map, Option, Some, None, refl, ap, sym, ◌∙◌, subst, arith, append_assoc}
+use Rattle.std.proofs.Common.{◌≡◌, ℕ, zero, suc, ◌+◌, ◌≤◌, ◌⊎◌, inl, inr, ⊎_elim, Bool, true, List, [], ◌∷◌, ◌++◌, length, take, drop, map, Some, refl, ap, sym, ◌∙◌, subst, arith, append_assoc}
 use Rattle.std.specs.Prelude.{slice_get}
-use Rattle.std.specs.Option.{option_map}
-use Rattle.std.proofs.lemmas.Option.{same_Some, slice_get-map}
-use Rattle.std.proofs.lemmas.Bool.{cases_eq}
-use Rattle.std.proofs.lemmas.List.{take-take, drop-take, take-append-le, length-append, map-append}
+use Rattle.std.proofs.lemmas.Option.{same_Some}
+use Rattle.std.proofs.lemmas.List.{take-take, drop-take, length-append, map-append}
 use Rattle.rv_base.specs.LabelUse.{Veneer, IsVeneer, IsFresh}
 use Rattle.mach_buffer.specs.declared.uses.Use.{Use}
 use Rattle.mach_buffer.specs.declared.uses.VeneerUse.{VeneerUse}
 use Rattle.mach_buffer.specs.Windows.{window, IsApart}
-use Rattle.mach_buffer.specs.Buffer.{IsLinked, recorded, veneer_use}
+use Rattle.mach_buffer.specs.Buffer.{IsLinked, recorded}
 use Rattle.mach_buffer.specs.Islands.{AllApart, AreWindows, spans_of}
-use Rattle.mach_buffer.proofs.Links.{below, append_each}
 
 -- a window stays as bytes are added
 pub window_stays : (bytes new : List ℕ) (p n : ℕ) → p + n ≤ length bytes → take (length bytes) new ≡ bytes → window new p n ≡ window bytes p n

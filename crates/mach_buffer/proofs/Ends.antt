@@ -1,5 +1,5 @@
 -- From what stands before the last patches to where each use goes.
-use Rattle.std.proofs.Common.{◌≡◌, ◌≢◌, ℕ, zero, suc, ◌+◌, ◌-◌, ◌*◌, ◌%◌, ◌<◌, ◌≤◌, ◌⊎◌, Bool, true, false, not, ◌&&◌, cond, List, [], ◌∷◌, ◌++◌, length, take, drop, map, Option, Some, None, unwrap_or, refl, ap, sym, ◌∙◌, subst, arith, inl, inr, ⊎_elim, ℤ, pos, ◌-ℤ◌}
+use Rattle.std.proofs.Common.{◌≡◌, ◌≢◌, ℕ, zero, suc, ◌+◌, ◌-◌, ◌%◌, ◌<◌, ◌≤◌, ◌⊎◌, Bool, true, false, not, ◌&&◌, cond, List, [], ◌∷◌, ◌++◌, length, take, drop, map, Option, Some, None, unwrap_or, refl, ap, sym, ◌∙◌, subst, arith, inl, inr, ⊎_elim, ℤ, pos, ◌-ℤ◌}
 use Rattle.std.specs.Prelude.{slice_get, nat_le, nat_eq, is_none, is_some}
 use Rattle.std.specs.Option.{option_map, IsSomeAnd}
 use Rattle.std.proofs.lemmas.Bool.{and_parts, and_cases, leb-true, not-false, true≢false, cases_eq}
@@ -11,14 +11,14 @@ use Rattle.mach_buffer.specs.declared.patches.Patch.{Patch}
 use Rattle.mach_buffer.specs.declared.uses.Use.{Use}
 use Rattle.mach_buffer.specs.declared.uses.VeneerUse.{VeneerUse}
 use Rattle.mach_buffer.specs.Windows.{window, CanPatch, CanPatchAll, IsApart, AllAim, AllKept, KeepsOthers}
-use Rattle.mach_buffer.specs.Targets.{or_place, target_of, patch_of, veneer_patch, patches_of}
-use Rattle.mach_buffer.specs.Reach.{deadline, is_reached, is_pending, deadlines}
-use Rattle.mach_buffer.specs.Buffer.{core, recorded, IsLinked, IsMade, HasVeneer, veneer_use}
-use Rattle.mach_buffer.specs.Islands.{AreWindows, AllApart, spans_of, padding}
+use Rattle.mach_buffer.specs.Targets.{or_place, patch_of, veneer_patch, patches_of}
+use Rattle.mach_buffer.specs.Reach.{is_reached, is_pending, deadlines}
+use Rattle.mach_buffer.specs.Buffer.{core, recorded, IsLinked, veneer_use}
+use Rattle.mach_buffer.specs.Islands.{AreWindows, spans_of, padding}
 use Rattle.mach_buffer.specs.Finish.{IsVia, AllGo, before_last}
-use Rattle.mach_buffer.proofs.Apart.{both_lists, Comes, comes_from, windows_bytes}
+use Rattle.mach_buffer.proofs.Apart.{both_lists, comes_from, windows_bytes}
 use Rattle.mach_buffer.proofs.Islanded.{recorded_at}
-use Rattle.mach_buffer.proofs.Links.{some_is, recorded_get, slice_get-append}
+use Rattle.mach_buffer.proofs.Links.{recorded_get, slice_get-append}
 use Rattle.mach_buffer.proofs.Slack.{none_waits}
 use Rattle.mach_buffer.proofs.Windows.{fresh_in_prefix}
 

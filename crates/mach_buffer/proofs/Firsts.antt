@@ -1,5 +1,5 @@
 -- The first of the turns of a map.
-use Rattle.std.proofs.Common.{◌≡◌, ℕ, zero, suc, ◌<◌, List, [], ◌∷◌, map, Option, Some, None, Less, refl, ap, sym, ◌∙◌, subst, length}
+use Rattle.std.proofs.Common.{◌≡◌, ℕ, zero, suc, List, [], ◌∷◌, map, Option, Some, None, Less, ap, ◌∙◌, subst}
 use Rattle.std.specs.Prelude.{slice_get, slice_index_or, All, IfSome}
 use Rattle.std.specs.Option.{option_map}
 use Rattle.std.specs.BTreeMap.Range.{IsLtBy}

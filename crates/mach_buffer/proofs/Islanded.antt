@@ -1,7 +1,7 @@
 -- From the parts of an island to what it brings.
-use Rattle.std.proofs.Common.{◌≡◌, ◌≢◌, ℕ, zero, suc, ◌+◌, ◌-◌, ◌*◌, ◌/◌, ◌%◌, ◌^◌, ◌<◌, ◌≤◌, ◌⊎◌, inl, inr, ⊎_elim, Bool, true, false, not, ◌&&◌, cond, List, [], ◌∷◌, ◌++◌, length, take, set, Option, Some, None, refl, ap, sym, ◌∙◌, subst, arith}
-use Rattle.std.specs.Prelude.{slice_get, nat_lt, nat_le, nat_eq, is_none}
-use Rattle.std.proofs.lemmas.Bool.{true≢false, and_left, and_right, and_cases, and_from, cases_eq, le-leb, eq-eqb, ne_eqb, lt-ltb, le-ltb, ltb-false, ltb-true}
+use Rattle.std.proofs.Common.{◌≡◌, ◌≢◌, ℕ, zero, suc, ◌+◌, ◌-◌, ◌*◌, ◌%◌, ◌<◌, ◌≤◌, ⊎_elim, Bool, true, false, not, ◌&&◌, cond, List, [], ◌∷◌, ◌++◌, length, take, Option, Some, refl, ap, sym, ◌∙◌, subst, arith}
+use Rattle.std.specs.Prelude.{slice_get, nat_le, nat_eq, is_none}
+use Rattle.std.proofs.lemmas.Bool.{true≢false, and_left, and_right, and_cases, and_from, cases_eq, le-leb, ne_eqb, ltb-false}
 use Rattle.std.proofs.lemmas.Option.{same_Some}
 use Rattle.std.proofs.lemmas.List.{length-append, take-take}
 use Rattle.rv_base.specs.declared.label.MachLabel.{MachLabel}
@@ -9,9 +9,9 @@ use Rattle.rv_base.specs.LabelUse.{Veneer}
 use Rattle.mach_buffer.specs.declared.uses.Use.{Use}
 use Rattle.mach_buffer.specs.declared.uses.VeneerUse.{VeneerUse}
 use Rattle.mach_buffer.specs.declared.uses.Turn.{Turn}
-use Rattle.mach_buffer.specs.Reach.{deadline, deadlines, is_reached, is_pending, is_other, is_sooner, names}
+use Rattle.mach_buffer.specs.Reach.{deadline, deadlines, is_reached, is_pending, is_other}
 use Rattle.mach_buffer.specs.Buffer.{core, recorded, IsKnown, IsLinked, HaveTurns, AreSound}
-use Rattle.mach_buffer.specs.Islands.{aligned, zeros, padding, needs_own, first_of, island_end, own_jump, IsRound, HasRound, OwnPut, PutAt, InOrder, VeneersPut, AreIslanded}
+use Rattle.mach_buffer.specs.Islands.{aligned, zeros, padding, needs_own, first_of, island_end, own_jump, IsRound, HasRound, OwnPut, VeneersPut, AreIslanded}
 use Rattle.mach_buffer.proofs.Others.{own_idle}
 use Rattle.mach_buffer.proofs.Slack.{none_waits, none_from}
 use Rattle.mach_buffer.proofs.Turns.{turns_none}

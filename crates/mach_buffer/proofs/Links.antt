@@ -1,8 +1,7 @@
-use Rattle.std.proofs.Common.{◌≡◌, ◌≢◌, ℕ, zero, suc, ◌+◌, ◌-◌, ◌<◌, ◌≤◌, List, [], ◌∷◌, ◌++◌, ◌⊎◌, length, take, drop, set, map, Option, Some, None, unwrap_or, refl, ap, sym, ◌∙◌, subst, arith, inl, inr, ⊎_elim, Bool, true, ◌%◌, ℤ, pos, ◌-ℤ◌}
+use Rattle.std.proofs.Common.{◌≡◌, ◌≢◌, ℕ, zero, suc, ◌<◌, ◌≤◌, List, [], ◌∷◌, ◌++◌, length, take, drop, set, Option, Some, None, refl, ap, sym, ◌∙◌, subst, arith, Bool, true, ◌%◌}
 use Rattle.std.specs.List.{slice_get}
-use Rattle.std.specs.Option.{option_map, IsSomeAnd}
-use Rattle.std.proofs.lemmas.Option.{slice_get_within, slice_get-map, same_Some}
-use Rattle.std.proofs.lemmas.Bool.{cases_eq}
+use Rattle.std.specs.Option.{IsSomeAnd}
+use Rattle.std.proofs.lemmas.Option.{same_Some}
 use Rattle.std.proofs.lemmas.List.{take-append-le, drop-append-le, drop_at, length-append, length-drop, take_all}
 use Rattle.rv_base.specs.LabelUse.{Veneer}
 use Rattle.mach_buffer.specs.declared.uses.Use.{Use}

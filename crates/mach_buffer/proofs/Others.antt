@@ -1,7 +1,7 @@
 -- Which pending uses name a label.
-use Rattle.std.proofs.Common.{◌≡◌, ◌≢◌, ℕ, Bool, true, false, not, ◌&&◌, List, length, Option, Some, None, refl, ap, sym, ◌∙◌, subst}
+use Rattle.std.proofs.Common.{◌≡◌, ℕ, Bool, true, false, not, ◌&&◌, List, length, Option, Some, None, refl, ap}
 use Rattle.std.specs.Prelude.{nat_eq, is_none}
-use Rattle.std.proofs.lemmas.Bool.{true≢false, and_parts, and_right, eq-eqb}
+use Rattle.std.proofs.lemmas.Bool.{and_parts, and_right, eq-eqb}
 use Rattle.rv_base.specs.declared.label.MachLabel.{MachLabel}
 use Rattle.mach_buffer.specs.declared.uses.Use.{Use}
 use Rattle.mach_buffer.specs.Reach.{is_pending, is_other, is_reached, names, deadlines}

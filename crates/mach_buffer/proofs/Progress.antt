@@ -1,9 +1,9 @@
-use Rattle.std.proofs.Common.{◌≡◌, ◌≢◌, ℕ, ◌+◌, ◌-◌, ◌<◌, ◌≤◌, List, ◌⊎◌, length, Option, Some, None, refl, ap, sym, ◌∙◌, subst, arith, inl, inr, ⊎_elim, ℤ, pos, ◌-ℤ◌}
+use Rattle.std.proofs.Common.{◌≡◌, ◌≢◌, ℕ, ◌+◌, ◌<◌, ◌≤◌, List, length, Some, refl, sym, ◌∙◌, subst, arith, ⊎_elim, ℤ, pos, ◌-ℤ◌}
 use Rattle.std.specs.List.{slice_get}
 use Rattle.std.proofs.lemmas.Option.{slice_get_within}
 use Rattle.std.proofs.lemmas.Bool.{cases_lt}
 use Rattle.mach_buffer.specs.declared.patches.Patch.{Patch}
-use Rattle.mach_buffer.specs.Windows.{window, CanPatch, CanPatchAll, ChangesOnly, AllAim, AllKept, KeepsOthers, IsApart}
+use Rattle.mach_buffer.specs.Windows.{window, CanPatch, CanPatchAll, ChangesOnly, AllAim, AllKept, KeepsOthers}
 use Rattle.rv_base.specs.LabelUse.{SameOutside}
 use Rattle.mach_buffer.proofs.Windows.{window_apart}
 

@@ -1,7 +1,7 @@
 -- A veneer for each use that waits, in the order of turns.
-use Rattle.std.proofs.Common.{◌≡◌, ◌≢◌, ℕ, zero, suc, ◌+◌, ◌-◌, ◌*◌, ◌%◌, ◌<◌, ◌≤◌, ◌⊎◌, inl, inr, ⊎_elim, Bool, true, false, not, ◌&&◌, ◌||◌, cond, List, [], ◌∷◌, ◌++◌, length, take, drop, set, map, Option, Some, None, unwrap_or, refl, ap, sym, ◌∙◌, subst, arith}
-use Rattle.std.specs.Prelude.{slice_get, nat_eq, nat_lt, is_none, IsSomeAnd}
-use Rattle.std.proofs.lemmas.Bool.{true≢false, and_parts, cases_eq}
+use Rattle.std.proofs.Common.{◌≡◌, ◌≢◌, ℕ, suc, ◌+◌, ◌*◌, ◌%◌, ◌<◌, ◌≤◌, ◌⊎◌, inl, inr, ⊎_elim, Bool, true, false, ◌&&◌, ◌||◌, List, [], ◌∷◌, ◌++◌, length, take, set, Option, Some, unwrap_or, refl, ap, sym, ◌∙◌, subst, arith}
+use Rattle.std.specs.Prelude.{slice_get, nat_eq, nat_lt, IsSomeAnd}
+use Rattle.std.proofs.lemmas.Bool.{true≢false, cases_eq}
 use Rattle.std.proofs.lemmas.Option.{same_Some}
 use Rattle.std.proofs.lemmas.List.{take-append-le, length-append, take_all}
 use Rattle.rv_base.specs.LabelUse.{Veneer}
@@ -9,7 +9,7 @@ use Rattle.mach_buffer.specs.declared.uses.Use.{Use}
 use Rattle.mach_buffer.specs.declared.uses.VeneerUse.{VeneerUse}
 use Rattle.mach_buffer.specs.declared.uses.Turn.{Turn}
 use Rattle.mach_buffer.specs.Reach.{deadline, deadlines, due_by, is_sooner, StillReaches}
-use Rattle.mach_buffer.specs.Buffer.{IsLinked, IsTurn, HaveTurns, AllLater, recorded, veneer_use}
+use Rattle.mach_buffer.specs.Buffer.{IsLinked, IsTurn, HaveTurns, AllLater, recorded}
 use Rattle.mach_buffer.specs.Islands.{AreWindows, PutAt, InOrder, VeneersPut}
 use Rattle.mach_buffer.proofs.Links.{slice_get-set_other, slice_get-set_same, recorded_set}
 use Rattle.mach_buffer.proofs.Slack.{due_set, length_set, reaches_next, reaches_due, none_waits}

@@ -1,5 +1,5 @@
 -- A turn is taken away whose use does not wait.
-use Rattle.std.proofs.Common.{◌≡◌, ◌≢◌, ℕ, zero, suc, ◌+◌, ◌<◌, Bool, true, false, cond, List, [], ◌∷◌, length, Option, Some, None, refl, ap, sym, ◌∙◌, subst, arith, Ordering, Less, Equal, Greater}
+use Rattle.std.proofs.Common.{◌≡◌, ℕ, zero, suc, ◌<◌, Bool, true, false, cond, List, [], ◌∷◌, length, Some, refl, ap, sym, ◌∙◌, Ordering, Less, Equal, Greater}
 use Rattle.std.specs.Prelude.{slice_get, nat_le}
 use Rattle.std.specs.Map.{remove_entry}
 use Rattle.std.specs.Ordering.{is_eq}

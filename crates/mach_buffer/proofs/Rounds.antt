@@ -1,17 +1,15 @@
 -- The jump round an island, and that nothing waits behind one.
-use Rattle.std.proofs.Common.{◌≡◌, ◌≢◌, ℕ, zero, suc, ◌+◌, ◌-◌, ◌*◌, ◌/◌, ◌%◌, ◌<◌, ◌≤◌, ◌⊎◌, inl, inr, ⊎_elim, Bool, true, false, not, ◌&&◌, cond, List, [], ◌∷◌, ◌++◌, length, take, set, Option, Some, None, refl, ap, sym, ◌∙◌, subst, arith}
-use Rattle.std.specs.Prelude.{slice_get, nat_lt, nat_le, nat_eq, is_none}
-use Rattle.std.proofs.lemmas.Bool.{true≢false, and_left, and_right, and_cases, and_from, cases_eq, le-leb, eq-eqb, ne_eqb, lt-ltb, le-ltb}
+use Rattle.std.proofs.Common.{◌≡◌, ℕ, ◌+◌, ◌*◌, ◌%◌, ◌<◌, ◌≤◌, Bool, true, false, cond, List, ◌++◌, length, take, set, Some, refl, ap, sym, ◌∙◌, subst, arith}
+use Rattle.std.specs.Prelude.{slice_get, nat_lt}
+use Rattle.std.proofs.lemmas.Bool.{lt-ltb, le-ltb}
 use Rattle.std.proofs.lemmas.Option.{same_Some}
-use Rattle.std.proofs.lemmas.List.{take-append-le, length-append, take_all, take-take}
-use Rattle.rv_base.specs.declared.label.MachLabel.{MachLabel}
+use Rattle.std.proofs.lemmas.List.{length-append, take_all}
 use Rattle.mach_buffer.specs.declared.uses.Use.{Use}
-use Rattle.mach_buffer.specs.Reach.{deadline, deadlines, is_reached, is_pending, is_other, names}
+use Rattle.mach_buffer.specs.Reach.{deadline}
 use Rattle.mach_buffer.specs.Buffer.{recorded}
-use Rattle.mach_buffer.specs.Islands.{aligned, needs_own, first_of, island_end, own_jump, IsRound, HasRound, OwnPut}
+use Rattle.mach_buffer.specs.Islands.{aligned, needs_own, island_end, IsRound, HasRound, OwnPut}
 use Rattle.mach_buffer.proofs.Links.{slice_get-set_other, slice_get-set_same, recorded_set}
 use Rattle.mach_buffer.proofs.Apart.{take_front}
-use Rattle.mach_buffer.proofs.Slack.{none_waits, none_from}
 
 lt-ltb_yes : (a b : ℕ) → a < b → nat_lt a b ≡ true
 lt-ltb_yes a b lt = lt-ltb a b lt

@@ -1,10 +1,10 @@
 -- Deadlines and the room before them.
-use Rattle.std.proofs.Common.{◌≡◌, ◌≢◌, ℕ, zero, suc, ◌+◌, ◌-◌, ◌*◌, ◌<◌, ◌≤◌, Bool, true, false, cond, not, ◌&&◌, ◌||◌, List, [], ◌∷◌, ◌++◌, ◌⊎◌, length, Option, Some, None, refl, ap, sym, ◌∙◌, subst, arith, inl, inr, ⊎_elim}
+use Rattle.std.proofs.Common.{◌≡◌, ◌≢◌, ℕ, zero, suc, ◌+◌, ◌*◌, ◌≤◌, Bool, true, false, cond, not, ◌&&◌, List, [], ◌∷◌, ◌++◌, length, Option, Some, None, refl, ap, sym, ◌∙◌, subst, arith, ⊎_elim}
 use Rattle.mach_buffer.specs.declared.uses.Use.{Use}
 use Rattle.std.proofs.Common.{set}
 use Rattle.std.proofs.lemmas.Option.{same_Some}
-use Rattle.std.specs.Prelude.{is_none, slice_get, nat_le, nat_lt, nat_eq}
-use Rattle.std.proofs.lemmas.Bool.{leb-true, leb-false, ltb-true, ltb-false, or_parts, true≢false, and_parts, and_from, cases_eq}
+use Rattle.std.specs.Prelude.{is_none, slice_get, nat_le, nat_lt}
+use Rattle.std.proofs.lemmas.Bool.{leb-true, leb-false, ltb-false, or_parts, true≢false, and_parts, and_from, cases_eq}
 use Rattle.mach_buffer.specs.Reach.{AllOf, CanReach, StillReaches, deadline, is_reached, is_pending, deadlines, due_by, HasSlack, is_needed_from, is_needed}
 
 -- ---- how many are due

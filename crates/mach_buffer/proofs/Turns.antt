@@ -1,6 +1,6 @@
 -- The turns of the uses that wait.
-use Rattle.std.proofs.Common.{◌≡◌, ◌≢◌, ℕ, zero, suc, ◌+◌, ◌*◌, ◌<◌, ◌≤◌, Bool, true, false, not, ◌&&◌, ◌||◌, cond, List, [], ◌∷◌, ◌++◌, ◌⊎◌, length, set, Option, Some, None, refl, ap, sym, ◌∙◌, subst, arith, inl, inr, ⊎_elim, Ordering, Less, Equal, Greater}
-use Rattle.std.specs.Prelude.{slice_get, nat_le, nat_lt, nat_eq, is_none}
+use Rattle.std.proofs.Common.{◌≡◌, ◌≢◌, ℕ, zero, suc, ◌+◌, ◌<◌, ◌≤◌, Bool, true, false, ◌&&◌, ◌||◌, cond, List, [], ◌∷◌, ◌++◌, ◌⊎◌, length, set, Some, refl, ap, sym, ◌∙◌, subst, arith, inl, inr, ⊎_elim, Ordering, Less, Equal, Greater}
+use Rattle.std.specs.Prelude.{slice_get, nat_le, nat_lt, nat_eq}
 use Rattle.std.specs.Ordering.{nat_cmp, ordering_then, match_ordering}
 use Rattle.std.specs.BTreeMap.{insert_entry}
 use Rattle.std.specs.List.{AllByRecursion}
@@ -8,14 +8,14 @@ use Rattle.std.specs.List.Sorted.{IsStrictlySortedBy}
 use Rattle.std.specs.Option.{option_map}
 use Rattle.std.proofs.Common.{map}
 use Rattle.std.proofs.lemmas.Option.{same_Some, slice_get-map}
-use Rattle.std.proofs.lemmas.Bool.{true≢false, and_parts, and_from, and_right, cases_eq, cases_Bool, eq-eqb, ne_eqb, leb-true, leb-false, ltb-true, ltb-false, le-leb}
+use Rattle.std.proofs.lemmas.Bool.{true≢false, and_parts, and_from, cases_eq, eq-eqb, ne_eqb, leb-true, leb-false, ltb-true}
 use Rattle.std.proofs.lemmas.List.{length-append, map-append}
 use Rattle.std.proofs.Math.ListN.{length-set}
 use Rattle.mach_buffer.specs.declared.uses.Use.{Use}
 use Rattle.mach_buffer.specs.declared.uses.Turn.{Turn}
 use Rattle.mach_buffer.specs.Reach.{deadline, deadlines, due_by, is_sooner}
 use Rattle.mach_buffer.specs.Buffer.{users, IsTurn, HaveTurns, Later, by_deadline, by_offset, by_index, AllLater}
-use Rattle.mach_buffer.proofs.Links.{below, slice_get-append, slice_get-append_last, slice_get-set_other, append_each}
+use Rattle.mach_buffer.proofs.Links.{slice_get-append, slice_get-append_last, slice_get-set_other, append_each}
 use Rattle.mach_buffer.proofs.Slack.{due_append, deadlines_append, due_set, none_from_due, deadlines_set_idle}
 
 -- ---- the order of turns

@@ -1,8 +1,8 @@
-use Rattle.std.proofs.Common.{◌≡◌, ℕ, ◌+◌, ◌-◌, ◌<◌, ◌≤◌, List, [], ◌∷◌, ◌++◌, ◌⊎◌, length, take, drop, get_or, slice_index, refl, ap, sym, subst, ◌∙◌, arith, inl, inr, bit_and}
-use Rattle.std.proofs.lemmas.List.{get_or-take, take-append-drop, drop-take, take-take, drop-drop, drop_at, drop-append-le, take-append-le, length-take, length-drop, length-append, length-take-le}
+use Rattle.std.proofs.Common.{◌≡◌, ℕ, ◌+◌, ◌-◌, ◌≤◌, List, [], ◌∷◌, ◌++◌, ◌⊎◌, length, take, drop, ap, sym, subst, ◌∙◌, arith, inl, inr, bit_and}
+use Rattle.std.proofs.lemmas.List.{get_or-take, take-append-drop, drop-take, take-take, drop-drop, drop_at, drop-append-le, take-append-le, length-drop, length-append, length-take-le}
 use Rattle.std.proofs.lemmas.Slice.{take-put_mid_below}
 use borrow.Rule.Slice.PartMut.{put_mid}
-use Rattle.rv_base.specs.LabelUse.{IsFresh, IsFreshFrom, SameOutside, SameOutsideFrom}
+use Rattle.rv_base.specs.LabelUse.{IsFreshFrom, SameOutside, SameOutsideFrom}
 use Rattle.mach_buffer.specs.Windows.{window, ChangesOnly}
 
 -- to be fresh asks for the bytes of the marks alone

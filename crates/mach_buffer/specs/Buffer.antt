@@ -1,16 +1,15 @@
 -- What a buffer shows: bytes, recorded uses with their veneers, the uses in veneers, places of labels.
-use Rattle.std.specs.Prelude.{◌≡◌, ◌≢◌, ℕ, ◌+◌, ◌*◌, ◌%◌, ◌^◌, ◌<◌, ◌≤◌, List, [], ◌∷◌, length, take, drop, map, Option, Some, None, slice_get, Bool, true, nat_lt, if◌then◌else◌}
+use Rattle.std.specs.Prelude.{◌≡◌, ℕ, ◌+◌, ◌%◌, ◌^◌, ◌<◌, ◌≤◌, List, [], ◌∷◌, length, take, drop, map, Option, Some, None, slice_get, Bool, true, nat_lt, if◌then◌else◌}
 use Rattle.std.specs.Option.{IsSomeAnd}
 use Rattle.std.specs.Ordering.{nat_cmp}
 use Rattle.std.specs.BTreeMap.{get}
 use Rattle.rv_base.specs.declared.label.MachLabel.{MachLabel}
-use Rattle.rv_base.specs.LabelUse.{Veneer, IsFresh}
+use Rattle.rv_base.specs.LabelUse.{Veneer}
 use Rattle.mach_buffer.specs.declared.uses.Use.{Use}
 use Rattle.mach_buffer.specs.declared.uses.VeneerUse.{VeneerUse}
 use Rattle.mach_buffer.specs.declared.uses.Turn.{Turn}
 use Rattle.mach_buffer.specs.declared.uses.LabelPlace.{LabelPlace}
 use Rattle.mach_buffer.specs.declared.buffer.MachBuffer.{MachBuffer}
-use Rattle.mach_buffer.specs.Windows.{window, IsApart}
 use Rattle.mach_buffer.specs.Reach.{deadline, is_pending, deadlines, due_by}
 
 -- the bytes so far

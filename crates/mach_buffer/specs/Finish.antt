@@ -1,5 +1,5 @@
 -- The end: the last veneers, and the patches.
-use Rattle.std.specs.Prelude.{◌≡◌, ◌≢◌, ℕ, ◌+◌, ◌*◌, ◌%◌, ◌<◌, ◌≤◌, ◌⊎◌, Bool, true, false, cond, nat_eq, List, [], ◌++◌, length, take, drop, map, Option, Some, None, is_some, unwrap_or, ◌-◌, slice_get, ℤ, pos, ◌-ℤ◌}
+use Rattle.std.specs.Prelude.{◌≡◌, ℕ, ◌+◌, ◌*◌, ◌<◌, ◌≤◌, ◌⊎◌, Bool, true, false, cond, nat_eq, List, ◌++◌, length, take, drop, Option, Some, is_some, ◌-◌, slice_get, ℤ, pos, ◌-ℤ◌}
 use Rattle.rv_base.specs.LabelUse.{Veneer, SameOutside}
 use Rattle.mach_buffer.specs.declared.uses.Use.{Use}
 use Rattle.mach_buffer.specs.declared.uses.VeneerUse.{VeneerUse}

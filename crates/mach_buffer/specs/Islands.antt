@@ -7,7 +7,7 @@ use Rattle.mach_buffer.specs.declared.uses.VeneerUse.{VeneerUse}
 use Rattle.mach_buffer.specs.declared.buffer.MachBuffer.{MachBuffer}
 use Rattle.mach_buffer.specs.Windows.{window, IsApart}
 use Rattle.mach_buffer.specs.Reach.{deadline, is_pending, is_other, is_sooner, deadlines, CanReach}
-use Rattle.mach_buffer.specs.Buffer.{bytes_of, uses_of, veneers_of, place_of, labels_of, drawn_of, pending_of, recorded, IsKnown, IsSound}
+use Rattle.mach_buffer.specs.Buffer.{bytes_of, uses_of, place_of, drawn_of, recorded, IsKnown, IsSound}
 
 -- the next multiple of four
 abbrev pub aligned : ℕ → ℕ

@@ -1,5 +1,5 @@
 -- From the start of a block to its end.
-use Rattle.std.proofs.Common.{◌≡◌, ℕ, suc, ◌+◌, ◌*◌, ◌%◌, ◌^◌, ◌<◌, ◌≤◌, false, List, [], ◌∷◌, length, Some, arith, refl, sym, ap, subst, ◌∙◌}
+use Rattle.std.proofs.Common.{◌≡◌, ℕ, ◌+◌, ◌^◌, ◌<◌, false, List, [], ◌∷◌, Some, arith, refl, ap, ◌∙◌}
 use Rattle.rv_base.specs.declared.flags.IsaFlags.{IsaFlags}
 use Rattle.rv_machine.specs.declared.decode.Decoded.{Decoded}
 use Rattle.rv_machine.specs.State.{State, Values, AreValues, set_reg, wrap, at}
@@ -7,7 +7,7 @@ use Rattle.rv_machine.specs.Decode.{decode}
 use Rattle.rv_machine.specs.Effects.{act, has_no_step}
 use Rattle.rv_machine.specs.Steps.{fetch, istep}
 use Rattle.rv_asm.specs.Simulation.{Same}
-use Rattle.rv_asm.specs.Blocks.{HasRows, Begins, Ends}
+use Rattle.rv_asm.specs.Blocks.{Begins, Ends}
 use Rattle.rv_asm.proofs.Registers.{same_set, are_values_set}
 use Rattle.rv_asm.proofs.Steps.{istep_at, iter_none, iter_one, iter_after}
 

@@ -1,5 +1,5 @@
 -- The lines that lead elsewhere run as they mean.
-use Rattle.std.proofs.Common.{◌≡◌, ℕ, suc, ◌+◌, ◌-◌, ◌*◌, ◌/◌, ◌%◌, ◌^◌, ◌<◌, ◌≤◌, Bool, true, false, ℤ, pos, negsuc, ◌-ℤ◌, List, [], ◌∷◌, Some, arith, refl, sym, ap, subst, ◌∙◌, ⊎_elim, lit<}
+use Rattle.std.proofs.Common.{◌≡◌, ℕ, ◌+◌, ◌-◌, ◌*◌, ◌/◌, ◌^◌, ◌<◌, ◌≤◌, Bool, true, false, ℤ, pos, negsuc, List, [], ◌∷◌, Some, arith, refl, sym, ap, subst, ◌∙◌, ⊎_elim, lit<}
 use Rattle.std.specs.Prelude.{if◌then◌else◌}
 use Rattle.std.proofs.lemmas.Int.{ints}
 use Rattle.std.proofs.lemmas.Bool.{cases_lt}
@@ -19,15 +19,13 @@ use Rattle.rv_machine.specs.declared.decode.Decoded.{Decoded}
 use Rattle.rv_imms.specs.declared.imm12.Imm12.{Imm12}
 use Rattle.rv_base.specs.declared.regs.Reg.{Reg}
 use Rattle.rv_base.specs.declared.regs.Writable.{Writable}
-use Rattle.rv_ops.specs.Compare.{rs1_of, rs2_of}
 use Rattle.rv_machine.specs.State.{State, Values, reg, set_reg, wrap, low64, at}
 use Rattle.rv_machine.specs.Effects.{act, has_no_step}
 use Rattle.rv_machine.specs.Steps.{istep}
 use Rattle.rv_encode.specs.Rows.{compare_row}
-use Rattle.rv_asm.specs.Rows.{between, jump_row, jalr_row, branch_rows}
+use Rattle.rv_asm.specs.Rows.{between, jump_row, jalr_row}
 use Rattle.rv_asm.specs.Blocks.{HasRows, Begins, Ends, Runs, Reaches, IsUsable, IsFineBranch, exit_address}
 use Rattle.rv_asm.proofs.Registers.{same_set, are_values_set}
-use Rattle.rv_asm.proofs.Straight.{low64_small}
 use Rattle.rv_asm.proofs.Blocked.{first_step, ends_one, ends_both}
 
 -- a distance forward, and one backward, modulo 2 ^ 64

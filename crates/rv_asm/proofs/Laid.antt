@@ -1,6 +1,6 @@
 -- Code that is laid out line by line: each line's rows, placed, lead as the line means.
-use Rattle.std.proofs.Common.{◌≡◌, ℕ, zero, suc, ◌+◌, ◌-◌, ◌*◌, ◌%◌, ◌^◌, ◌<◌, ◌≤◌, Bool, true, false, List, [], ◌∷◌, ◌++◌, length, Option, Some, None, arith, refl, sym, ap, subst, ◌∙◌}
-use Rattle.std.specs.Prelude.{slice_get, slice_index, nat_eq, if◌then◌else◌, unwrap_or, option_map, ◌||◌}
+use Rattle.std.proofs.Common.{◌≡◌, ℕ, zero, suc, ◌+◌, ◌%◌, ◌<◌, ◌≤◌, Bool, true, false, List, [], ◌∷◌, ◌++◌, length, Some, arith, refl, sym, ap, subst, ◌∙◌}
+use Rattle.std.specs.Prelude.{slice_get, nat_eq, if◌then◌else◌, unwrap_or, ◌||◌}
 use Rattle.rv_base.specs.declared.flags.IsaFlags.{IsaFlags}
 use Rattle.rv_base.specs.declared.label.MachLabel.{MachLabel}
 use Rattle.rv_inst.specs.declared.inst.Line.{Line}
@@ -11,20 +11,16 @@ use Rattle.rv_inst.specs.declared.inst.CondBrTarget.{CondBrTarget}
 use Rattle.rv_inst.specs.declared.inst.CondBrTarget.TheVariants.{Label, Fallthrough}
 use Rattle.rv_inst.specs.declared.job.Job.{Job}
 use Rattle.rv_inst.specs.declared.code.Code.{Code}
-use Rattle.rv_inst.specs.declared.code.LineSpan.{LineSpan}
 use Rattle.rv_inst.specs.Meaning.{Exit, Next, To, Leave, Break, exit_of, inst_exit, target_exit, effect_of}
 use Rattle.rv_inst.specs.Fields.{named_labels, inst_labels, target_labels}
 use Rattle.rv_base.specs.CondCodes.{holds}
 use Rattle.rv_base.specs.Regs.{number_of}
-use Rattle.rv_machine.specs.declared.decode.Decoded.{Decoded}
-use Rattle.rv_machine.specs.Decode.{decode}
-use Rattle.rv_machine.specs.State.{State, Values, AreValues, IsState, Memory, byte, reg, wrap}
-use Rattle.rv_machine.specs.Steps.{fetch}
+use Rattle.rv_machine.specs.State.{Values, reg, wrap}
 use Rattle.rv_asm.specs.Rows.{rows_of, size_of, inst_size, ebreak_row}
 use Rattle.rv_asm.specs.Told.{start_of, end_of}
-use Rattle.rv_asm.specs.Refusal.{is_bound, binds}
+use Rattle.rv_asm.specs.Refusal.{is_bound}
 use Rattle.rv_asm.specs.Simulation.{place_of, RunsAsListed}
-use Rattle.rv_asm.specs.Blocks.{StandRows, LinesStand, spans_from, end_from, bound_at, offset_in, IsFine, AllFine, IsLaidOut, Runs, Ends, exit_address, standing}
+use Rattle.rv_asm.specs.Blocks.{StandRows, LinesStand, spans_from, end_from, bound_at, offset_in, IsFine, AllFine, IsLaidOut, Ends, exit_address, standing}
 use Rattle.rv_asm.proofs.Placed.{rows_there}
 use Rattle.rv_asm.proofs.Turns.{line_sized}
 use Rattle.rv_asm.proofs.Steps.{iter_none}

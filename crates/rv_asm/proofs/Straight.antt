@@ -1,6 +1,6 @@
 -- The lines that compute nothing, and those that write one register, run as they mean.
-use Rattle.std.proofs.Common.{◌≡◌, ℕ, zero, suc, ◌+◌, ◌*◌, ◌%◌, ◌^◌, ◌<◌, ◌≤ℤ◌, ℤ, pos, negsuc, Bool, true, false, List, [], ◌∷◌, Some, arith, refl, sym, ap, subst, ◌∙◌, lit<}
-use Rattle.std.specs.Prelude.{nat_eq, nat_le, if◌then◌else◌, slice_set}
+use Rattle.std.proofs.Common.{◌≡◌, ℕ, zero, suc, ◌+◌, ◌*◌, ◌%◌, ◌^◌, ◌<◌, ◌≤ℤ◌, ℤ, pos, negsuc, Bool, true, false, [], ◌∷◌, Some, arith, refl, sym, ap, subst, ◌∙◌, lit<}
+use Rattle.std.specs.Prelude.{nat_eq, nat_le, if◌then◌else◌}
 use Rattle.std.proofs.lemmas.Int.{ints}
 use Rattle.std.proofs.lemmas.List.{set-get_or}
 use Rattle.std.proofs.lemmas.Bool.Decides.{nat_tests}
@@ -21,22 +21,19 @@ use Rattle.rv_ops.specs.declared.alu.AluOPRRR.TheVariants as rrr
 use Rattle.rv_ops.specs.declared.alu.AluOPRRI.{AluOPRRI}
 use Rattle.rv_ops.specs.declared.alu.AluOPRRI.TheVariants as rri
 use Rattle.rv_ops.specs.Alu.{is_reversed, rri_numbers}
-use Rattle.rv_inst.specs.declared.inst.Line.{Line}
 use Rattle.rv_inst.specs.declared.inst.Line.TheVariants.{Inst as Put, Bind}
 use Rattle.rv_inst.specs.declared.inst.Inst.TheVariants.{Lui, Auipc, AluRRR, AluRRImm12, Mov, MovFromPReg}
 use Rattle.rv_inst.specs.Rules.{is_out_of_range, amount_limit, is_beyond}
 use Rattle.rv_inst.specs.Meaning.{alu_rrr, alu_rri}
-use Rattle.rv_machine.specs.declared.decode.Decoded.{Decoded}
 use Rattle.rv_machine.specs.declared.ops.MOp.TheVariants.{Base}
 use Rattle.rv_machine.specs.declared.ops.BaseOp.TheVariants as base_op
-use Rattle.rv_machine.specs.State.{State, Values, AreValues, reg, set_reg, wrap, low64, at}
+use Rattle.rv_machine.specs.State.{State, Values, reg, set_reg, wrap, low64, at}
 use Rattle.rv_machine.specs.Effects.{act, has_no_step, row_result}
 use Rattle.rv_machine.proofs.Ranges.{row_fits}
 use Rattle.rv_encode.specs.Rows.{row, rrr_op, rri_op, alu_rrr_row, alu_rri_row, kept}
-use Rattle.rv_asm.specs.Simulation.{Same}
-use Rattle.rv_asm.specs.Rows.{addi_row, move_rows}
+use Rattle.rv_asm.specs.Rows.{addi_row}
 use Rattle.rv_asm.specs.Blocks.{IsUsable, Begins, Ends, Runs}
-use Rattle.rv_asm.proofs.Blocked.{writes, ends_one, ends_here, first_step}
+use Rattle.rv_asm.proofs.Blocked.{writes, ends_here}
 
 -- ---- operations of two registers
 

@@ -1,6 +1,6 @@
 -- The join of lines: where each line's block, placed with the whole code, leads as the line means, and what stands
 -- between two lines leads on, the code runs as its job says. Nothing here knows how the blocks were laid out.
-use Rattle.std.proofs.Common.{◌≡◌, ℕ, zero, suc, ◌+◌, ◌<◌, ◌≤◌, Bool, true, false, List, [], ◌∷◌, length, Some, arith, refl, sym, ap, subst, ◌∙◌}
+use Rattle.std.proofs.Common.{◌≡◌, ℕ, zero, suc, ◌+◌, ◌<◌, Bool, true, false, List, [], ◌∷◌, length, Some, arith, refl, sym, ap, subst, ◌∙◌}
 use Rattle.std.specs.Prelude.{slice_get, nat_lt, if◌then◌else◌}
 use Rattle.std.proofs.lemmas.Bool.{ltb-true, ltb-false}
 use Rattle.rv_base.specs.declared.flags.IsaFlags.{IsaFlags}
@@ -8,7 +8,7 @@ use Rattle.rv_inst.specs.declared.inst.Line.{Line}
 use Rattle.rv_inst.specs.declared.job.Job.{Job}
 use Rattle.rv_inst.specs.declared.code.Code.{Code}
 use Rattle.rv_inst.specs.Meaning.{Exit, Next, To, Leave, Break, exit_of, effect_of}
-use Rattle.rv_machine.specs.State.{State, IsState, Values, AreValues, byte, wrap}
+use Rattle.rv_machine.specs.State.{State, IsState, Values, AreValues, wrap}
 use Rattle.rv_asm.specs.Told.{start_of, end_of}
 use Rattle.rv_asm.specs.Simulation.{Same, At, End, Addresses, place_of, point_of, address_of, standing_of, IsPlaced, IsStopped, Comes, RunsAsListed}
 use Rattle.rv_machine.specs.Decode.{decode}

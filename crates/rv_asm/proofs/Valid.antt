@@ -1,5 +1,5 @@
 -- Lines that are not refused are fine, where each begins.
-use Rattle.std.proofs.Common.{◌≡◌, ℕ, suc, ◌+◌, ◌*◌, ◌%◌, ◌^◌, ◌<◌, ◌≤◌, Bool, true, false, List, [], ◌∷◌, ◌++◌, length, Option, Some, None, arith, refl, ap, subst, sym, ◌∙◌}
+use Rattle.std.proofs.Common.{◌≡◌, ℕ, suc, ◌+◌, ◌*◌, ◌%◌, ◌^◌, ◌<◌, ◌≤◌, Bool, true, false, List, [], ◌∷◌, length, Option, Some, None, arith, refl, ap}
 use Rattle.std.specs.Prelude.{nat_eq, nat_lt, nat_le, ◌||◌, ◌&&◌, ◌==◌, not, if◌then◌else◌, unwrap_or}
 use Rattle.std.specs.List.{list_any}
 use mathlib.Core.Path.{fun_ext}
@@ -69,9 +69,10 @@ is_usable (AVirtual x) v h g = absurd (cc)
 
 are_usable : (rs : List Reg) → list_any is_virtual rs ≡ false → list_any is_other_class rs ≡ false → list_any is_reserved rs ≡ false → AreUsable rs
 are_usable [] v h g = tt
-are_usable (r ∷ rs) v h g =
-    (is_usable r (or_left (is_virtual r) _ v) (or_left (is_other_class r) _ h) (or_left (is_reserved r) _ g),
-    are_usable rs (or_right (is_virtual r) _ v) (or_right (is_other_class r) _ h) (or_right (is_reserved r) _ g))
+are_usable (r ∷ rs) v h g = (
+  is_usable r (or_left (is_virtual r) _ v) (or_left (is_other_class r) _ h) (or_left (is_reserved r) _ g),
+  are_usable rs (or_right (is_virtual r) _ v) (or_right (is_other_class r) _ h) (or_right (is_reserved r) _ g),
+)
 
 -- what an instruction that breaks no rule doesn't break
 record Keeps (inst : Inst) : Type 0 where

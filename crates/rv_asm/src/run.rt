@@ -92,4 +92,6 @@ pub fn run<S: Source, K: Sink>(
 }
 
 #[cfg(test)]
+mod operations;
+#[cfg(test)]
 mod tests;

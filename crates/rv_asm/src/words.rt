@@ -81,12 +81,7 @@ fn put_mark(bytes: &mut Vec<u8>, inst: &Inst) -> Result<(), OutOfMemory>
     match inst {
         Inst::Nop4 => put_word(
             bytes,
-            encode_alu_rr_imm12(
-                AluOPRRI::Addi,
-                writable_zero_reg(),
-                zero_reg(),
-                Imm12::ZERO,
-            ),
+            encode_alu_rr_imm12(AluOPRRI::Addi, writable_zero_reg(), zero_reg(), Imm12::ZERO),
         ),
         Inst::EBreak => put_word(bytes, encode_ebreak()),
         _ => Ok(()),

@@ -1,5 +1,5 @@
 -- From a patched window to what it decodes to.
-use Rattle.std.proofs.Common.{◌≡◌, ℕ, ◌+◌, ◌-◌, ◌*◌, ◌/◌, ◌%◌, ◌^◌, ◌<◌, ◌≤◌, ◌⊎◌, inl, inr, List, [], ◌∷◌, drop, slice_index, refl, ap, sym, ◌∙◌, subst, ℤ, pos, ◌+ℤ◌, ◌*ℤ◌, ◌-ℤ◌, Option, Some, None, Bool, true, false, cond, arith, bit_and, get_or-drop}
+use Rattle.std.proofs.Common.{◌≡◌, ℕ, ◌+◌, ◌-◌, ◌*◌, ◌/◌, ◌%◌, ◌^◌, ◌<◌, ◌≤◌, inl, inr, List, drop, slice_index, refl, ap, sym, ◌∙◌, ℤ, pos, ◌+ℤ◌, ◌*ℤ◌, ◌-ℤ◌, Option, Some, None, Bool, true, false, cond, arith, bit_and, get_or-drop}
 use Rattle.std.specs.Prelude.{nat_eq}
 use Rattle.std.specs.Option.{option_map}
 use Rattle.std.proofs.lemmas.Int.{ints}
@@ -8,12 +8,11 @@ use Rattle.std.proofs.lemmas.Nat.Bits.{and_high}
 use Rattle.rv_base.specs.LabelUse.{SameOutside}
 use Rattle.rv_base.specs.declared.flags.IsaFlags.{IsaFlags}
 use Rattle.rv_machine.specs.declared.fields.Fields.{Fields}
-use Rattle.rv_machine.specs.declared.decode.Decoded.{Decoded}
 use Rattle.rv_machine.specs.declared.ops.MOp.{MOp}
 use Rattle.rv_machine.specs.declared.ops.MOp.TheVariants.{Base}
 use Rattle.rv_machine.specs.declared.ops.BaseOp.TheVariants.{Auipc, Jal, Jalr, Addi}
 use Rattle.rv_machine.specs.State.{signed}
-use Rattle.rv_machine.specs.Layout.{fields_of, b_number, j_number, u_number, i_number, u_bits, i_bits, b_form, j_form, u_form, i_form}
+use Rattle.rv_machine.specs.Layout.{fields_of, b_number, j_number, u_number, i_number, b_form, j_form, u_form, i_form}
 use Rattle.rv_machine.specs.Rows.{branch_row}
 use Rattle.rv_machine.specs.Decode.{decode, decode_word, decode_jalr}
 use Rattle.rv_inst.specs.declared.label_use.LabelUse.TheVariants.{Jal20, PCRel32, B12, PCRelHi20, PCRelLo12I}

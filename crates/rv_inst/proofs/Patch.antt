@@ -1,7 +1,7 @@
-use Rattle.std.proofs.Common.{◌≡◌, ℕ, ◌+◌, ◌-◌, ◌*◌, ◌/◌, ◌%◌, ◌^◌, ◌<◌, ◌≤◌, List, [], ◌∷◌, ◌++◌, take, drop, slice_index, refl, ap, sym, subst, ◌∙◌, ℤ, pos, ◌-ℤ◌, arith, bit_and, bit_or}
+use Rattle.std.proofs.Common.{◌≡◌, ℕ, ◌+◌, ◌*◌, ◌/◌, ◌%◌, ◌<◌, ◌≤◌, List, [], ◌∷◌, ◌++◌, take, drop, slice_index, refl, ap, sym, subst, ◌∙◌, pos, ◌-ℤ◌, arith, bit_and, bit_or}
 use Rattle.std.proofs.lemmas.Int.{ints}
 use Rattle.std.proofs.lemmas.Nat.{and_mask, or_block, and_comm, or_comm}
-use Rattle.std.proofs.lemmas.Nat.Bits.{and_high, and_pow}
+use Rattle.std.proofs.lemmas.Nat.Bits.{and_high}
 use Rattle.std.specs.Int.Bits.{or_shifted_r}
 use Rattle.rv_machine.specs.State.{signed}
 use Rattle.rv_machine.specs.Layout.{fields_of}

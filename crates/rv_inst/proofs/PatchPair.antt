@@ -1,6 +1,5 @@
-use Rattle.std.proofs.Common.{◌≡◌, ℕ, ◌+◌, ◌-◌, ◌*◌, ◌/◌, ◌%◌, ◌^◌, ◌<◌, ◌≤◌, List, [], ◌∷◌, ◌++◌, take, drop, slice_index, refl, ap, sym, ◌∙◌, subst, ℤ, pos, ◌-ℤ◌, ◌+ℤ◌, ◌*ℤ◌, arith, bit_and, bit_or, get_or-drop}
+use Rattle.std.proofs.Common.{◌≡◌, ℕ, ◌+◌, ◌-◌, ◌*◌, ◌/◌, ◌%◌, ◌<◌, ◌≤◌, List, [], ◌∷◌, ◌++◌, take, drop, slice_index, ap, sym, ◌∙◌, subst, pos, ◌-ℤ◌, ◌+ℤ◌, ◌*ℤ◌, arith, bit_and, bit_or, get_or-drop}
 use Rattle.std.proofs.lemmas.Int.{ints}
-use Rattle.std.proofs.lemmas.Nat.{and_mask, and_comm}
 use Rattle.std.specs.Int.Bits.{or_shifted_r}
 use Rattle.rv_machine.specs.State.{signed}
 use Rattle.rv_machine.specs.Layout.{fields_of, u_number, i_number, u_bits, i_bits}

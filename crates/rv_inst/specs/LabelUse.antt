@@ -1,5 +1,5 @@
 -- The kinds of use: what a window of each encodes, which bits hold it, how far it reaches, and the veneer.
-use Rattle.std.specs.Prelude.{◌≡◌, ℕ, ◌+◌, ◌-◌, ◌/◌, ◌%◌, List, [], ◌∷◌, drop, ℤ, pos, negsuc, ◌+ℤ◌, ◌*ℤ◌, ◌-ℤ◌, int_le, Bool, true, false, ◌&&◌}
+use Rattle.std.specs.Prelude.{◌≡◌, ℕ, ◌-◌, ◌/◌, ◌%◌, List, [], ◌∷◌, drop, ℤ, pos, negsuc, ◌+ℤ◌, ◌*ℤ◌, ◌-ℤ◌, int_le, Bool, true, false, ◌&&◌}
 use Rattle.rv_base.specs.LabelUse.{Veneer}
 use Rattle.rv_machine.specs.Layout.{fields_of, b_number, j_number, u_number, i_number, u_bits, i_bits}
 use Rattle.rv_inst.specs.declared.label_use.LabelUse.{LabelUse}

@@ -299,7 +299,11 @@ fn offsets_are_in_range(rt: HostRuntime) {
         (LabelUse::PCRelLo12I, -2147481602, false),
     ];
     for (kind, offset, expected) in rows {
-        assert_eq!(rt; kind.offset_in_range(offset), expected, "{kind:?} at {offset}");
+        assert_eq!(rt;
+            kind.offset_in_range(offset),
+            expected,
+            "{kind:?} at {offset}"
+        );
     }
 }
 

@@ -40,6 +40,12 @@ fn listings(rt: HostRuntime) -> Result<(), Fail> {
         ),
         ("CondBr eq a0 a1 - -\n", 4, "rvemit: Malformed 0 NoTarget\n"),
         ("Bind L1073741824\n", 4, "rvemit: Malformed 0 Label\n"),
+        (
+            "AluRRImm12 slli a0 a0 64\n",
+            4,
+            "rvemit: Malformed 0 Range\n",
+        ),
+        ("Mov a0 a1 i128\n", 4, "rvemit: Malformed 0 BadType\n"),
         ("Bind L0\nBind L0\n", 4, "rvemit: LabelTwice 0\n"),
         ("Jal L7\n", 4, "rvemit: UnboundLabel 7\n"),
     ];

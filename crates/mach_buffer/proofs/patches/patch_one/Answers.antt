@@ -1,4 +1,4 @@
-use Rattle.std.proofs.Common.{arith, rules, ◌-◌, length, ◌+◌}
+use Rattle.std.proofs.Common.{arith, rules, ◌-◌, length}
 use Rattle.mach_buffer.proofs.Windows.{fresh_in_prefix, changes_part, kept_in_part}
 use Rattle.mach_buffer.proofs.patches.patch_one.Goals as goal
 

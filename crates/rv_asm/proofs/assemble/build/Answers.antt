@@ -1,6 +1,5 @@
 use Rattle.std.proofs.Common.{◌≡◌, ℕ, sym, ◌∙◌, subst, length}
-use Rattle.rv_base.specs.declared.flags.IsaFlags.{IsaFlags}
-use Rattle.rv_asm.specs.Blocks.{place_in, offset_in, AllFine, LinesStand, end_from}
+use Rattle.rv_asm.specs.Blocks.{offset_in, AllFine, LinesStand, end_from}
 use Rattle.rv_asm.proofs.Valid.{few, fine, places}
 use Rattle.rv_asm.proofs.assemble.build.Goals as goal
 

@@ -1,4 +1,4 @@
-use Rattle.std.proofs.Common.{ℕ, ◌+◌, ◌^◌, length, sym, subst}
+use Rattle.std.proofs.Common.{ℕ, ◌^◌, sym, subst}
 use Rattle.rv_asm.specs.Rows.{jump_row, between}
 use Rattle.rv_asm.specs.Blocks.{place_in, Reaches}
 use Rattle.rv_asm.proofs.Puts.{puts_two, puts_long}

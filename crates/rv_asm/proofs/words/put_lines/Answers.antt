@@ -1,6 +1,5 @@
-use Rattle.std.proofs.Common.{subst, sym}
 use Rattle.rv_asm.specs.Blocks.{place_in}
-use Rattle.rv_asm.proofs.Turns.{WordsSoFar, words_first, words_next, words_last}
+use Rattle.rv_asm.proofs.Turns.{words_next}
 use Rattle.rv_asm.proofs.words.put_lines.Goals as goal
 
 pub loop-line-preserved : goal.loop-line-preserved

@@ -1,4 +1,3 @@
-use Rattle.std.proofs.Common.{◌≡◌, List, ℕ}
 use Rattle.rv_inst.proofs.Patch.{branch_holds, branch_keeps}
 use Rattle.rv_inst.proofs.label_use.patch_branch.Goals as goal
 

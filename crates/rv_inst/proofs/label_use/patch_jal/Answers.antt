@@ -1,4 +1,3 @@
-use Rattle.std.proofs.Common.{◌≡◌, List, ℕ}
 use Rattle.rv_inst.proofs.Patch.{jal_holds, jal_keeps}
 use Rattle.rv_inst.proofs.label_use.patch_jal.Goals as goal
 

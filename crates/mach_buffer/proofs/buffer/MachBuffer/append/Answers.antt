@@ -1,4 +1,4 @@
-use Rattle.std.proofs.Common.{arith, rules, refl}
+use Rattle.std.proofs.Common.{rules}
 use Rattle.mach_buffer.proofs.Sound.{sound_bytes}
 use Rattle.mach_buffer.proofs.buffer.MachBuffer.append.Goals as goal
 

@@ -1,4 +1,4 @@
-use Rattle.std.proofs.Common.{arith, rules, refl, sym, subst, ◌≤◌, ◌∙◌, ap, ◌≡◌}
+use Rattle.std.proofs.Common.{refl, sym, subst, ◌≤◌, ◌∙◌, ap}
 use Rattle.mach_buffer.specs.Buffer.{bytes_of, uses_of, veneers_of, place_of, pending_of, turns_of, drawn_of, AreSound}
 use Rattle.mach_buffer.specs.Reach.{is_pending, deadlines, due_by}
 use Rattle.mach_buffer.proofs.Slack.{due_fewer, bound_waits}

@@ -1,4 +1,4 @@
-use Rattle.std.proofs.Common.{arith, rules, ◌≡◌, [], length, ap, ℕ}
+use Rattle.std.proofs.Common.{arith, rules, ◌≡◌, [], length, ap}
 use Rattle.mach_buffer.specs.Buffer.{place_of}
 use Rattle.mach_buffer.specs.Reach.{is_other, deadlines}
 use Rattle.mach_buffer.proofs.Slack.{same_length_from_due}

@@ -1,10 +1,9 @@
-use Rattle.std.proofs.Common.{arith, rules, ◌≡◌, ◌≤◌, ◌<◌, ◌+◌, ◌-◌, ◌*◌, ◌%◌, ◌++◌, ◌≢◌, Some, true, refl, ap, sym, ◌∙◌, subst, length, ℕ, [], None, Option, List}
-use Rattle.rv_base.specs.declared.label.MachLabel.{MachLabel}
-use Rattle.mach_buffer.specs.Buffer.{bytes_of, uses_of, veneers_of, turns_of, place_of, drawn_of, IsKnown, HaveTurns}
+use Rattle.std.proofs.Common.{arith, ◌≡◌, ◌<◌, ◌-◌, ◌≢◌, Some, refl, ap, sym, ◌∙◌, subst, length, ℕ, [], Option, List}
+use Rattle.mach_buffer.specs.Buffer.{bytes_of, uses_of, turns_of, place_of, IsKnown}
 use Rattle.mach_buffer.specs.Reach.{is_pending, is_other, deadline, deadlines, StillReaches, CanReach}
 use Rattle.mach_buffer.specs.Islands.{aligned, padding, island_end, OwnPut, VeneersPut}
 use Rattle.mach_buffer.proofs.Apart.{windows_bytes, windows_as}
-use Rattle.mach_buffer.proofs.Islanded.{length_padded, aligned_near, aligned_even, island_parts, island_sound, islanded_as, room_left, own_short}
+use Rattle.mach_buffer.proofs.Islanded.{length_padded, aligned_near, island_parts, island_sound, islanded_as, room_left, own_short}
 use Rattle.mach_buffer.proofs.Others.{other_pending}
 use Rattle.mach_buffer.proofs.Rounds.{round_padded}
 use Rattle.mach_buffer.proofs.Slack.{slack_from_reach, reaches_from_slack}

@@ -1,7 +1,7 @@
-use Rattle.std.proofs.Common.{arith, rules, refl, ◌≡◌, ◌∙◌, ◌+◌, ◌*◌, ◌≤◌, ap, sym, subst, length, ℕ}
+use Rattle.std.proofs.Common.{arith, ◌≡◌, ◌∙◌, ◌≤◌, ap, sym, subst, length, ℕ}
 use Rattle.std.proofs.lemmas.List.{take_at}
 use Rattle.mach_buffer.specs.Buffer.{bytes_of, uses_of, veneers_of, place_of, pending_of}
-use Rattle.mach_buffer.specs.Finish.{before_last, Finishes}
+use Rattle.mach_buffer.specs.Finish.{Finishes}
 use Rattle.mach_buffer.specs.Targets.{patches_of}
 use Rattle.mach_buffer.specs.Windows.{CanPatchAll, AllAim, AllKept, KeepsOthers}
 use Rattle.mach_buffer.proofs.Ends.{CanEnd, bound_still, direct_still, before_longer, can_patch_all, all_go}

@@ -1,7 +1,6 @@
 use Rattle.std.proofs.Common.{None}
-use Rattle.mach_buffer.specs.Buffer.{uses_of, place_of}
-use Rattle.mach_buffer.specs.Reach.{is_pending, is_other}
-use Rattle.mach_buffer.proofs.Others.{other_none, other_pending}
+use Rattle.mach_buffer.specs.Buffer.{place_of}
+use Rattle.mach_buffer.proofs.Others.{other_pending}
 use Rattle.mach_buffer.proofs.Turns.{turns_fewer}
 use Rattle.mach_buffer.proofs.buffer.MachBuffer.has_room.Goals as goal
 

@@ -1,6 +1,6 @@
-use Rattle.std.proofs.Common.{arith, rules, refl, sym, ap, ◌∙◌, ◌≡◌, ◌∷◌, ◌+◌, ◌<◌, ◌^◌, [], length}
+use Rattle.std.proofs.Common.{arith, rules, sym, ◌∙◌, ◌≡◌, ◌<◌, ◌^◌, length}
 use Rattle.mach_buffer.specs.Buffer.{bytes_of, turns_of}
-use Rattle.mach_buffer.proofs.Needed.{scan_start, scan_skip, scan_next, scan_end, scan_found, scan_few, scan_turn}
+use Rattle.mach_buffer.proofs.Needed.{scan_skip, scan_next, scan_end, scan_found, scan_few, scan_turn}
 use Rattle.mach_buffer.proofs.buffer.MachBuffer.island_needed.Goals as goal
 
 pub overflow_add-due : goal.overflow_add-due

@@ -1,8 +1,8 @@
-use Rattle.std.proofs.Common.{arith, rules, ◌≡◌, ◌≢◌, ◌∙◌, ◌<◌, ap, sym, subst, length, None, Some, ℕ}
+use Rattle.std.proofs.Common.{◌≡◌, ◌≢◌, ◌∙◌, ◌<◌, ap, subst, length, None, ℕ}
 use Rattle.mach_buffer.specs.Buffer.{bytes_of, uses_of, place_of, pending_of}
 use Rattle.mach_buffer.specs.Finish.{before_last}
 use Rattle.mach_buffer.specs.Islands.{aligned}
-use Rattle.mach_buffer.proofs.Ends.{before_some, before_none}
+use Rattle.mach_buffer.proofs.Ends.{before_some}
 use Rattle.mach_buffer.proofs.Islanded.{length_padded}
 use Rattle.mach_buffer.proofs.Others.{other_pending, count_none}
 use Rattle.mach_buffer.proofs.Turns.{turns_fewer}

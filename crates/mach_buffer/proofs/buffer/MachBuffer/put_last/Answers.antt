@@ -1,4 +1,4 @@
-use Rattle.std.proofs.Common.{arith, rules, refl, ◌≡◌, ◌∙◌, ◌+◌, ◌*◌, ap, sym, subst, length, None, [], ℕ}
+use Rattle.std.proofs.Common.{arith, ◌≡◌, ◌∙◌, ap, sym, subst, length, None, [], ℕ}
 use Rattle.mach_buffer.specs.Buffer.{bytes_of, uses_of, place_of, pending_of}
 use Rattle.mach_buffer.specs.Finish.{before_last}
 use Rattle.mach_buffer.specs.Islands.{VeneersPut}

@@ -1,9 +1,9 @@
-use Rattle.std.proofs.Common.{arith, rules, ◌≡◌, ◌≤◌, ◌<◌, ◌+◌, ◌*◌, ◌%◌, Some, true, refl, ap, sym, ◌∙◌, subst, length, ℕ}
+use Rattle.std.proofs.Common.{arith, rules, ◌≡◌, ◌+◌, Some, refl, ap, sym, ◌∙◌, subst, length, ℕ}
 use Rattle.std.specs.List.{slice_get}
 use Rattle.std.proofs.lemmas.Option.{slice_get_read}
 use Rattle.std.proofs.lemmas.List.{length-append}
-use Rattle.mach_buffer.specs.Buffer.{bytes_of, uses_of, veneers_of, place_of, recorded, HaveTurns}
-use Rattle.mach_buffer.specs.Reach.{is_other, deadline, deadlines}
+use Rattle.mach_buffer.specs.Buffer.{bytes_of, uses_of, place_of, recorded, HaveTurns}
+use Rattle.mach_buffer.specs.Reach.{is_other, deadlines}
 use Rattle.mach_buffer.proofs.Apart.{windows_veneer}
 use Rattle.mach_buffer.proofs.Links.{some_is, within_from_some, recorded_set}
 use Rattle.mach_buffer.proofs.Others.{own_idle, other_clears}

@@ -1,7 +1,7 @@
-use Rattle.std.proofs.Common.{arith, rules, ◌≡◌, ◌∷◌, ◌++◌, [], ◌+◌, length, Some, None, refl, ap, ◌∙◌}
+use Rattle.std.proofs.Common.{rules, ◌≡◌, ◌∷◌, ◌++◌, [], length, Some, refl, ap, ◌∙◌}
 use Rattle.std.specs.List.{slice_get}
 use Rattle.std.proofs.lemmas.Option.{slice_get_read}
-use Rattle.mach_buffer.specs.Buffer.{veneer_use, bytes_of, uses_of, veneers_of}
+use Rattle.mach_buffer.specs.Buffer.{bytes_of, uses_of, veneers_of}
 use Rattle.mach_buffer.proofs.Links.{linked_by, within_from_some, some_is}
 use Rattle.mach_buffer.proofs.buffer.MachBuffer.put_veneer.Goals as goal
 

@@ -1,12 +1,11 @@
-use Rattle.std.proofs.Common.{arith, rules, refl, ◌≡◌, ◌∙◌, ◌∷◌, ◌++◌, ◌<◌, ◌≤◌, ◌+◌, Some, true, false, ap, sym, subst, length, ℕ}
+use Rattle.std.proofs.Common.{arith, refl, ◌≡◌, ◌∙◌, ◌≤◌, true, false, ap, sym, subst, length, ℕ}
 use Rattle.std.specs.Prelude.{slice_get}
-use Rattle.std.specs.Option.{IsSomeAnd}
-use Rattle.mach_buffer.specs.Buffer.{bytes_of, uses_of, veneers_of, turns_of, place_of, recorded}
+use Rattle.mach_buffer.specs.Buffer.{bytes_of, uses_of, veneers_of, place_of, recorded}
 use Rattle.mach_buffer.specs.Reach.{is_other, deadline}
 use Rattle.mach_buffer.proofs.Links.{some_is, recorded_set}
 use Rattle.mach_buffer.proofs.Apart.{windows_veneer}
 use Rattle.mach_buffer.proofs.Others.{other_clears, other_supported}
-use Rattle.mach_buffer.proofs.Putting.{Putting, putting_start, putting_pass, putting_near, putting_room, putting_next, putting_end, putting_as, putting_turn, is_some}
+use Rattle.mach_buffer.proofs.Putting.{putting_pass, putting_near, putting_room, putting_next, putting_end, putting_as, putting_turn, is_some}
 use Rattle.mach_buffer.proofs.Turns.{turns_end}
 use Rattle.mach_buffer.proofs.buffer.MachBuffer.put_waiting.Goals as goal
 

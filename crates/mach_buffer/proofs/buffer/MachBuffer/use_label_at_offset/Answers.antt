@@ -1,4 +1,4 @@
-use Rattle.std.proofs.Common.{arith, rules, refl, sym, ap, subst, ◌∙◌, ◌≡◌, ◌≤◌, ◌++◌, ◌∷◌, [], None, length}
+use Rattle.std.proofs.Common.{rules, refl, sym, ap, subst, ◌∙◌, ◌≡◌, ◌≤◌, ◌++◌, ◌∷◌, [], None, length}
 use Rattle.mach_buffer.specs.declared.buffer.MachBuffer.{MachBuffer}
 use Rattle.mach_buffer.specs.Buffer.{bytes_of, uses_of, veneers_of, turns_of, place_of, drawn_of, IsKnown, IsSound, AreSound}
 use Rattle.mach_buffer.proofs.Maps.{not_refused}

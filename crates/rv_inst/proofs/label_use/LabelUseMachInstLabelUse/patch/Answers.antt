@@ -1,4 +1,4 @@
-use Rattle.std.proofs.Common.{◌≡◌, ◌∙◌, ap, arith, ◌+◌, ◌<◌, ◌≤◌}
+use Rattle.std.proofs.Common.{◌∙◌, ap, arith, ◌+◌, ◌<◌, ◌≤◌}
 use Rattle.rv_machine.specs.State.{signed}
 use Rattle.std.proofs.Common.{sym}
 use Rattle.rv_inst.proofs.PatchPair.{pair_distance}
