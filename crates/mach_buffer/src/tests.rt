@@ -6,6 +6,7 @@ use crate::buffer::MachBuffer;
 use rv_base::label::MachLabel;
 use rv_base::label_use::MachInstLabelUse;
 use rv_base::memory::OutOfMemory;
+use rv_base::reloc::Reloc;
 use std::alloc::Global;
 
 /// A kind of use.
@@ -19,7 +20,7 @@ pub enum Toy {
 
 impl MachInstLabelUse for Toy {
     ghost use Rattle.mach_buffer.specs.declared.tests.Toy.TheVariants.{Short, Far};
-    ghost use Rattle.std.specs.Prelude.{refl, ℕ, ◌+◌, ◌*◌, ◌/◌, ◌%◌, slice_index, ℤ, true, false};
+    ghost use Rattle.std.specs.Prelude.{refl, ℕ, ◌+◌, ◌*◌, ◌/◌, ◌%◌, slice_index, ℤ, true, false, None};
     ghost use Rattle.std.specs.Int.{cast_unsigned};
     ghost use Rattle.std.proofs.Common.{rules};
     ghost use mir.Syntax.{w32};
@@ -35,6 +36,8 @@ impl MachInstLabelUse for Toy {
     ghost has_veneer = { elim [ Short ↦ true | Far ↦ false ] };
 
     ghost veneer = { λ kind. record { bytes = 0 ∷ 0 ∷ 0 ∷ 0 ∷ 0xee ∷ 0xee ∷ 0xee ∷ 0xee ∷ []; place = 0; kind = Far } };
+
+    ghost of_reloc = { λ reloc addend. None };
 
     ghost ALIGN = { 4 };
 
@@ -87,6 +90,10 @@ impl MachInstLabelUse for Toy {
     fn generate_veneer(self, buffer: &mut [u8], veneer_offset: u32) -> (u32, Toy) {
         buffer.copy_from_slice(&[0, 0, 0, 0, 0xee, 0xee, 0xee, 0xee]);
         (veneer_offset, Toy::Far)
+    }
+
+    fn from_reloc(_reloc: Reloc, _addend: i64) -> Option<Toy> {
+        None
     }
 }
 

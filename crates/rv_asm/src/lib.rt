@@ -9,3 +9,9 @@ pub mod run;
 #[cfg(test)]
 mod tests;
 pub mod words;
+
+pub use rv_listing::reading::{ReadError, read_job};
+pub use rv_listing::report::report;
+pub use rv_stream::ends::{Sink, Source};
+pub use rv_stream::in_memory::{MemSink, MemSource, SureSink, SureSource};
+pub use rv_stream::standard::{StdSink, StdSource};

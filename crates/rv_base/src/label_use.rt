@@ -1,11 +1,14 @@
 //! What a buffer of code asks of the kinds of use by which code refers to labels.
 
+use crate::reloc::Reloc;
+
 /// A kind of use. Some bits of its window, the fields, hold the distance from the use to its label, in bytes.
 ///
 /// A window is fresh while all bits of its fields are 0.
 pub trait MachInstLabelUse: Copy + Eq {
-    ghost use Rattle.std.specs.Prelude.{◌≡◌, ℕ, ◌+◌, ◌%◌, ◌≤◌, List, length, drop, take, ℤ, pos, ◌-ℤ◌, Bool, IsTrue};
+    ghost use Rattle.std.specs.Prelude.{◌≡◌, ℕ, ◌+◌, ◌%◌, ◌≤◌, List, length, drop, take, ℤ, pos, ◌-ℤ◌, Bool, IsTrue, Option};
     ghost use Rattle.rv_base.specs.LabelUse.{IsFresh, SameOutside, Veneer, IsVeneer};
+    ghost use Rattle.rv_base.specs.declared.reloc.Reloc.{Reloc as Relocation};
 
     /// Whether a window encodes a distance or, for a kind that holds one part of it, that part.
     ghost aims: { Self → List ℕ → ℤ → Type 0 };
@@ -24,6 +27,9 @@ pub trait MachInstLabelUse: Copy + Eq {
 
     /// By which veneer, where it may.
     ghost veneer: { Self → Veneer Self };
+
+    /// Which kind is as a relocation with this addend, where one is.
+    ghost of_reloc: { Relocation → ℤ → Option Self };
 
     ghost ALIGN: { ℕ };
 
@@ -71,6 +77,10 @@ pub trait MachInstLabelUse: Copy + Eq {
         ensures bytes { buffer.new ≡ (veneer self).bytes }
         ensures place { result.0 ≡ veneer_offset + (veneer self).place }
         ensures kind { result.1 ≡ (veneer self).kind };
+
+    /// The kind of use that fills the same bits as this relocation, where there is one.
+    fn from_reloc(reloc: Reloc, addend: i64) -> Option<Self>
+        ensures { result ≡ of_reloc reloc addend };
 
     ghost align_ok: { ALIGN ≡ 4 };
 

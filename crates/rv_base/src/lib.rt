@@ -23,6 +23,7 @@ pub mod operand_list;
 pub mod operands;
 pub mod preg_set;
 pub mod regs;
+pub mod reloc;
 #[cfg(test)]
 mod tests;
 pub mod trap;

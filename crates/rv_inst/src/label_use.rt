@@ -7,6 +7,7 @@ ghost use Rattle.rv_machine.specs.Layout.{fields_of, j_number, b_number, u_numbe
 ghost use Rattle.rv_inst.specs.LabelUseWords.{word_at, word_bytes, AreBytes, jal_bits, branch_bits, distance_bits, upper_bits};
 
 use rv_base::label_use::MachInstLabelUse;
+use rv_base::reloc::Reloc;
 
 /// A kind of use.
 #[derive(Clone, Copy, Debug, PartialEq, Eq)]
@@ -35,7 +36,7 @@ impl LabelUse {
 }
 
 impl MachInstLabelUse for LabelUse {
-    ghost use Rattle.rv_inst.specs.LabelUse.{Aims, marks_of, forward_of, backward_of, has_veneer_of, veneer_of};
+    ghost use Rattle.rv_inst.specs.LabelUse.{Aims, marks_of, forward_of, backward_of, has_veneer_of, veneer_of, kind_of_reloc};
     ghost use Rattle.std.specs.Prelude.{refl};
     ghost use Rattle.std.proofs.Common.{rules};
 
@@ -50,6 +51,8 @@ impl MachInstLabelUse for LabelUse {
     ghost has_veneer = { has_veneer_of };
 
     ghost veneer = { veneer_of };
+
+    ghost of_reloc = { kind_of_reloc };
 
     ghost ALIGN = { 4 };
 
@@ -117,6 +120,13 @@ impl MachInstLabelUse for LabelUse {
     fn generate_veneer(self, buffer: &mut [u8], veneer_offset: u32) -> (u32, LabelUse) {
         buffer.copy_from_slice(&[0x97, 0x0f, 0, 0, 0x67, 0x80, 0x0f, 0]);
         (veneer_offset, LabelUse::PCRel32)
+    }
+
+    fn from_reloc(reloc: Reloc, _addend: i64) -> Option<LabelUse> {
+        match reloc {
+            Reloc::RiscvCallPlt => Some(LabelUse::PCRel32),
+            _ => None,
+        }
     }
 }
 
