@@ -4,85 +4,91 @@ use crate::run::run;
 use rv_stream::in_memory::{SureSink, SureSource};
 use std::test::Fail;
 
+// A line, and its word with the highest digit first.
+const ROWS: &str = "\
+AluRRImm12 rev8 a1 a0 0 = 6b855593\n\
+AluRRImm12 clz a1 a0 0 = 60051593\n\
+AluRRImm12 clzw a1 a0 0 = 6005159b\n\
+AluRRImm12 cpop a1 a0 0 = 60251593\n\
+AluRRImm12 cpopw a1 a0 0 = 6025159b\n\
+AluRRImm12 ctz a1 a0 0 = 60151593\n\
+AluRRImm12 ctzw a1 a0 0 = 6015159b\n\
+AluRRImm12 sext.b a1 a0 0 = 60451593\n\
+AluRRImm12 sext.h a1 a0 0 = 60551593\n\
+AluRRImm12 orc.b a1 a0 0 = 28755593\n\
+AluRRImm12 bclri a1 a0 5 = 48551593\n\
+AluRRImm12 bexti a1 a0 5 = 48555593\n\
+AluRRImm12 binvi a1 a0 5 = 68551593\n\
+AluRRImm12 bseti a1 a0 5 = 28551593\n\
+AluRRImm12 rori a1 a0 5 = 60555593\n\
+AluRRImm12 roriw a1 a0 5 = 6055559b\n\
+AluRRImm12 slli.uw a1 a0 5 = 0855159b\n\
+AluRRImm12 slli a0 a0 5 = 00551513\n\
+AluRRImm12 srli a0 a0 5 = 00555513\n\
+AluRRImm12 srai a0 a0 5 = 40555513\n\
+AluRRImm12 slliw a0 a0 5 = 0055151b\n\
+AluRRImm12 srliw a0 a0 5 = 0055551b\n\
+AluRRImm12 sraiw a0 a0 5 = 4055551b\n\
+AluRRImm12 slti a0 a0 100 = 06452513\n\
+AluRRImm12 sltiu a0 a0 100 = 06453513\n\
+AluRRImm12 xori a0 a0 100 = 06454513\n\
+AluRRImm12 andi a0 a0 100 = 06457513\n\
+AluRRR andn a1 a0 zero = 400575b3\n\
+AluRRR bclr a1 a0 zero = 480515b3\n\
+AluRRR bext a1 a0 zero = 480555b3\n\
+AluRRR binv a1 a0 zero = 680515b3\n\
+AluRRR bset a1 a0 zero = 280515b3\n\
+AluRRR max a1 a0 zero = 0a0565b3\n\
+AluRRR maxu a1 a0 zero = 0a0575b3\n\
+AluRRR min a1 a0 zero = 0a0545b3\n\
+AluRRR minu a1 a0 zero = 0a0555b3\n\
+AluRRR orn a1 a0 zero = 400565b3\n\
+AluRRR rol a1 a0 zero = 600515b3\n\
+AluRRR rolw a1 a0 zero = 600515bb\n\
+AluRRR ror a1 a0 zero = 600555b3\n\
+AluRRR rorw a1 a0 zero = 600555bb\n\
+AluRRR sh1add a1 a0 zero = 200525b3\n\
+AluRRR sh1add.uw a1 a0 zero = 200525bb\n\
+AluRRR sh2add a1 a0 zero = 200545b3\n\
+AluRRR sh2add.uw a1 a0 zero = 200545bb\n\
+AluRRR sh3add a1 a0 zero = 200565b3\n\
+AluRRR sh3add.uw a1 a0 zero = 200565bb\n\
+AluRRR xnor a1 a0 zero = 400545b3\n\
+AluRRR sll a0 a0 a1 = 00b51533\n\
+AluRRR slt a0 a0 a1 = 00b52533\n\
+AluRRR sltu a0 a0 a1 = 00b53533\n\
+AluRRR xor a0 a0 a1 = 00b54533\n\
+AluRRR srl a0 a0 a1 = 00b55533\n\
+AluRRR sra a0 a0 a1 = 40b55533\n\
+AluRRR or a0 a0 a1 = 00b56533\n\
+AluRRR and a0 a0 a1 = 00b57533\n\
+AluRRR addw a0 a0 a1 = 00b5053b\n\
+AluRRR subw a0 a0 a1 = 40b5053b\n\
+AluRRR sllw a0 a0 a1 = 00b5153b\n\
+AluRRR srlw a0 a0 a1 = 00b5553b\n\
+AluRRR sraw a0 a0 a1 = 40b5553b\n\
+AluRRR mul a0 a0 a1 = 02b50533\n\
+AluRRR mulh a0 a0 a1 = 02b51533\n\
+AluRRR mulhsu a0 a0 a1 = 02b52533\n\
+AluRRR mulhu a0 a0 a1 = 02b53533\n\
+AluRRR div a0 a0 a1 = 02b54533\n\
+AluRRR divu a0 a0 a1 = 02b55533\n\
+AluRRR rem a0 a0 a1 = 02b56533\n\
+AluRRR remu a0 a0 a1 = 02b57533\n\
+AluRRR mulw a0 a0 a1 = 02b5053b\n\
+AluRRR divw a0 a0 a1 = 02b5453b\n\
+AluRRR remw a0 a0 a1 = 02b5653b\n\
+AluRRR remuw a0 a0 a1 = 02b5753b\n\
+AluRRImm12 zext.h a1 a0 0 = 080545bb";
+
 #[test]
 fn operations(rt: HostRuntime) -> Result<(), Fail> {
-    let rows = [
-        ("AluRRImm12 rev8 a1 a0 0", 0x6b855593u32),
-        ("AluRRImm12 clz a1 a0 0", 0x60051593),
-        ("AluRRImm12 clzw a1 a0 0", 0x6005159b),
-        ("AluRRImm12 cpop a1 a0 0", 0x60251593),
-        ("AluRRImm12 cpopw a1 a0 0", 0x6025159b),
-        ("AluRRImm12 ctz a1 a0 0", 0x60151593),
-        ("AluRRImm12 ctzw a1 a0 0", 0x6015159b),
-        ("AluRRImm12 sext.b a1 a0 0", 0x60451593),
-        ("AluRRImm12 sext.h a1 a0 0", 0x60551593),
-        ("AluRRImm12 orc.b a1 a0 0", 0x28755593),
-        ("AluRRImm12 bclri a1 a0 5", 0x48551593),
-        ("AluRRImm12 bexti a1 a0 5", 0x48555593),
-        ("AluRRImm12 binvi a1 a0 5", 0x68551593),
-        ("AluRRImm12 bseti a1 a0 5", 0x28551593),
-        ("AluRRImm12 rori a1 a0 5", 0x60555593),
-        ("AluRRImm12 roriw a1 a0 5", 0x6055559b),
-        ("AluRRImm12 slli.uw a1 a0 5", 0x0855159b),
-        ("AluRRImm12 slli a0 a0 5", 0x00551513),
-        ("AluRRImm12 srli a0 a0 5", 0x00555513),
-        ("AluRRImm12 srai a0 a0 5", 0x40555513),
-        ("AluRRImm12 slliw a0 a0 5", 0x0055151b),
-        ("AluRRImm12 srliw a0 a0 5", 0x0055551b),
-        ("AluRRImm12 sraiw a0 a0 5", 0x4055551b),
-        ("AluRRImm12 slti a0 a0 100", 0x06452513),
-        ("AluRRImm12 sltiu a0 a0 100", 0x06453513),
-        ("AluRRImm12 xori a0 a0 100", 0x06454513),
-        ("AluRRImm12 andi a0 a0 100", 0x06457513),
-        ("AluRRR andn a1 a0 zero", 0x400575b3),
-        ("AluRRR bclr a1 a0 zero", 0x480515b3),
-        ("AluRRR bext a1 a0 zero", 0x480555b3),
-        ("AluRRR binv a1 a0 zero", 0x680515b3),
-        ("AluRRR bset a1 a0 zero", 0x280515b3),
-        ("AluRRR max a1 a0 zero", 0x0a0565b3),
-        ("AluRRR maxu a1 a0 zero", 0x0a0575b3),
-        ("AluRRR min a1 a0 zero", 0x0a0545b3),
-        ("AluRRR minu a1 a0 zero", 0x0a0555b3),
-        ("AluRRR orn a1 a0 zero", 0x400565b3),
-        ("AluRRR rol a1 a0 zero", 0x600515b3),
-        ("AluRRR rolw a1 a0 zero", 0x600515bb),
-        ("AluRRR ror a1 a0 zero", 0x600555b3),
-        ("AluRRR rorw a1 a0 zero", 0x600555bb),
-        ("AluRRR sh1add a1 a0 zero", 0x200525b3),
-        ("AluRRR sh1add.uw a1 a0 zero", 0x200525bb),
-        ("AluRRR sh2add a1 a0 zero", 0x200545b3),
-        ("AluRRR sh2add.uw a1 a0 zero", 0x200545bb),
-        ("AluRRR sh3add a1 a0 zero", 0x200565b3),
-        ("AluRRR sh3add.uw a1 a0 zero", 0x200565bb),
-        ("AluRRR xnor a1 a0 zero", 0x400545b3),
-        ("AluRRR sll a0 a0 a1", 0x00b51533),
-        ("AluRRR slt a0 a0 a1", 0x00b52533),
-        ("AluRRR sltu a0 a0 a1", 0x00b53533),
-        ("AluRRR xor a0 a0 a1", 0x00b54533),
-        ("AluRRR srl a0 a0 a1", 0x00b55533),
-        ("AluRRR sra a0 a0 a1", 0x40b55533),
-        ("AluRRR or a0 a0 a1", 0x00b56533),
-        ("AluRRR and a0 a0 a1", 0x00b57533),
-        ("AluRRR addw a0 a0 a1", 0x00b5053b),
-        ("AluRRR subw a0 a0 a1", 0x40b5053b),
-        ("AluRRR sllw a0 a0 a1", 0x00b5153b),
-        ("AluRRR srlw a0 a0 a1", 0x00b5553b),
-        ("AluRRR sraw a0 a0 a1", 0x40b5553b),
-        ("AluRRR mul a0 a0 a1", 0x02b50533),
-        ("AluRRR mulh a0 a0 a1", 0x02b51533),
-        ("AluRRR mulhsu a0 a0 a1", 0x02b52533),
-        ("AluRRR mulhu a0 a0 a1", 0x02b53533),
-        ("AluRRR div a0 a0 a1", 0x02b54533),
-        ("AluRRR divu a0 a0 a1", 0x02b55533),
-        ("AluRRR rem a0 a0 a1", 0x02b56533),
-        ("AluRRR remu a0 a0 a1", 0x02b57533),
-        ("AluRRR mulw a0 a0 a1", 0x02b5053b),
-        ("AluRRR divw a0 a0 a1", 0x02b5453b),
-        ("AluRRR remw a0 a0 a1", 0x02b5653b),
-        ("AluRRR remuw a0 a0 a1", 0x02b5753b),
-        ("AluRRImm12 zext.h a1 a0 0", 0x080545bb),
-    ];
-    for (listing, word) in rows {
+    let mut count = 0;
+    for row in ROWS.lines() {
+        let Some((listing, digits)) = row.split_once(" = ") else {
+            continue;
+        };
+        let word = u32::from_str_radix(digits, 16).unwrap_or(0);
         let mut sink = SureSink::new(rt.alloc());
         let outcome = run(
             rt.alloc(),
@@ -94,6 +100,8 @@ fn operations(rt: HostRuntime) -> Result<(), Fail> {
         let text = format!(in rt.alloc(); "code 4\n00000000 {bytes:08x}\nline 0 0 4\nend 4\n")?;
         assert_eq!(rt; outcome.status(), 0, "at {listing}");
         assert_eq!(rt; sink.bytes(), text.as_bytes(), "at {listing}");
+        count += 1;
     }
+    assert_eq!(rt; count, 74);
     Ok(())
 }
