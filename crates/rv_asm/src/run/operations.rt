@@ -83,9 +83,10 @@ AluRRImm12 zext.h a1 a0 0 = 080545bb";
 
 #[test]
 fn operations(rt: HostRuntime) -> Result<(), Fail> {
-    let mut count = 0;
+    assert_eq!(rt; ROWS.lines().count(), 74);
     for row in ROWS.lines() {
         let Some((listing, digits)) = row.split_once(" = ") else {
+            assert!(rt; false, "at {row}");
             continue;
         };
         let word = u32::from_str_radix(digits, 16).unwrap_or(0);
@@ -100,8 +101,6 @@ fn operations(rt: HostRuntime) -> Result<(), Fail> {
         let text = format!(in rt.alloc(); "code 4\n00000000 {bytes:08x}\nline 0 0 4\nend 4\n")?;
         assert_eq!(rt; outcome.status(), 0, "at {listing}");
         assert_eq!(rt; sink.bytes(), text.as_bytes(), "at {listing}");
-        count += 1;
     }
-    assert_eq!(rt; count, 74);
     Ok(())
 }
