@@ -1,0 +1,149 @@
+-- What an instruction puts into a buffer.
+use Rattle.std.specs.Prelude.{◌≡◌, ℕ, ◌+◌, ◌*◌, ◌%◌, ◌^◌, ◌<◌, ◌≤◌, ◌⊎◌, ◌≢◌, Bool, true, false, List, [], ◌∷◌, ◌++◌, length, take, Option, Some, None, slice_get, flat_map}
+use Rattle.rv_base.specs.declared.flags.IsaFlags.{IsaFlags}
+use Rattle.rv_base.specs.declared.label.MachLabel.{MachLabel}
+use Rattle.rv_base.specs.LabelUse.{IsFresh}
+use Rattle.rv_machine.specs.declared.decode.Decoded.{Decoded}
+use Rattle.rv_machine.specs.Decode.{decode}
+use Rattle.rv_machine.specs.Layout.{fields_of}
+use Rattle.rv_inst.specs.declared.inst.Inst.{Inst}
+use Rattle.rv_inst.specs.declared.inst.Inst.TheVariants.{EmitIsland, Jal, CondBr}
+use Rattle.rv_inst.specs.declared.inst.CondBrTarget.{CondBrTarget}
+use Rattle.rv_inst.specs.declared.inst.CondBrTarget.TheVariants.{Label, Fallthrough}
+use Rattle.rv_inst.specs.declared.label_use.LabelUse.{LabelUse}
+use Rattle.rv_inst.specs.declared.label_use.LabelUse.TheVariants.{Jal20, PCRel32, B12, PCRelHi20, PCRelLo12I}
+use Rattle.rv_inst.specs.Families.{family_of, by_family}
+use Rattle.rv_inst.specs.LabelUse.{marks_of, forward_of, backward_of, has_veneer_of, veneer_of}
+use Rattle.rv_inst.specs.LabelUseWords.{word_bytes}
+use Rattle.rv_inst.specs.Rules.{inst_rule}
+use Rattle.mach_buffer.specs.declared.buffer.MachBuffer.{MachBuffer}
+use Rattle.mach_buffer.specs.declared.uses.Use.{Use}
+use Rattle.mach_buffer.specs.Reach.{is_needed}
+use Rattle.mach_buffer.specs.Buffer.{bytes_of, uses_of, veneers_of, place_of, labels_of, drawn_of, pending_of, recorded, IsSound}
+use Rattle.mach_buffer.specs.Islands.{AreWindows, VeneersBehind}
+use Rattle.rv_emit.specs.Rows.{blank, rows_of}
+
+-- ---- buffers of code
+
+abbrev pub Buffer : Type 0
+Buffer = MachBuffer LabelUse
+
+abbrev pub IsSoundBuffer : Buffer → Type 0
+IsSoundBuffer b = IsSound has_veneer_of forward_of backward_of veneer_of b
+
+-- the windows of uses stand in the bytes, fresh and apart from one another and from veneers
+abbrev pub HasWindows : Buffer → Type 0
+HasWindows b = AreWindows marks_of (bytes_of b) (uses_of b) (veneers_of b)
+
+-- the deadlines of the pending uses
+abbrev pub pending : Buffer → List ℕ
+pending b = pending_of has_veneer_of forward_of backward_of b
+
+-- ---- uses
+
+abbrev pub use_at : ℕ → MachLabel → LabelUse → Use LabelUse
+use_at offset label kind = record { offset = offset; label = label; kind = kind; veneer = None }
+
+abbrev pub branch_uses : ℕ → CondBrTarget → CondBrTarget → List (Use LabelUse)
+branch_uses start Fallthrough not_taken = []
+branch_uses start (Label t) Fallthrough = use_at start t B12 ∷ []
+branch_uses start (Label t) (Label f) = use_at start t B12 ∷ use_at (start + 4) f Jal20 ∷ []
+
+abbrev pub control_uses : ℕ → Inst → List (Use LabelUse)
+control_uses start (Jal label) = use_at start label Jal20 ∷ []
+control_uses start (CondBr taken not_taken kind) = branch_uses start taken not_taken
+control_uses start _ = []
+
+-- the uses of an instruction that starts at an offset, in the order in which it names their labels
+abbrev pub uses_in : ℕ → Inst → List (Use LabelUse)
+uses_in start inst = by_family [] [] (control_uses start inst) (family_of inst)
+
+-- ---- a block
+
+-- bytes and uses were put at the end, and nothing else was changed
+pub record Adds (block : List ℕ) (own : List (Use LabelUse)) (old new : Buffer) : Type 0 where
+  pub bytes : bytes_of new ≡ bytes_of old ++ block
+  pub uses : uses_of new ≡ uses_of old ++ own
+  pub veneers : veneers_of new ≡ veneers_of old
+  pub places : place_of new ≡ place_of old
+  pub labels : labels_of new ≡ labels_of old
+  pub drawn : drawn_of new ≡ drawn_of old
+  pub sound : IsSoundBuffer new
+
+-- the bytes of words
+abbrev pub bytes_of_words : List ℕ → List ℕ
+bytes_of_words [] = []
+bytes_of_words (w ∷ words) = word_bytes w ++ bytes_of_words words
+
+-- words decode to these rows, under all flags
+abbrev pub AreRows : List ℕ → List Decoded → Type 0
+AreRows [] [] = Unit {0}
+AreRows [] (d ∷ rows) = ⊥
+AreRows (w ∷ words) [] = ⊥
+AreRows (w ∷ words) (d ∷ rows) = (w < 2 ^ 32) × ((flags : IsaFlags) → decode flags w ≡ Some d) × AreRows words rows
+
+-- the opcode of a use's first word
+abbrev pub opcode_of : LabelUse → ℕ
+opcode_of Jal20 = 0x6f
+opcode_of B12 = 0x63
+opcode_of PCRel32 = 0x17
+opcode_of PCRelHi20 = 0x17
+opcode_of PCRelLo12I = 0x13
+
+-- each use stands in a word of its own, from an offset on, of its kind's opcode and with a fresh window
+abbrev pub UsesStand : ℕ → List ℕ → List (Use LabelUse) → Type 0
+UsesStand start words [] = Unit {0}
+UsesStand start [] (u ∷ uses) = ⊥
+UsesStand start (w ∷ words) (u ∷ uses) = (u.offset ≡ start) × IsFresh (marks_of u.kind) (word_bytes w) × ((fields_of w).opcode ≡ opcode_of u.kind) × (length (marks_of u.kind) ≡ 4) × UsesStand (start + 4) words uses
+
+-- the words of an instruction's rows with no distance in them yet, and its uses, were put at the end
+pub record PutsBlock (inst : Inst) (old new : Buffer) : Type 0 where
+  pub words : List ℕ
+  pub adds : Adds (bytes_of_words words) (uses_in (length (bytes_of old)) inst) old new
+  pub decode : AreRows words (rows_of blank inst)
+  pub used : UsesStand (length (bytes_of old)) words (uses_in (length (bytes_of old)) inst)
+
+-- ---- an island
+
+-- an island was put: a jump to a new label that is bound at the end, and the veneers of all that was pending
+pub record PutsIsland (old new : Buffer) : Type 0 where
+  pub round : MachLabel
+  pub drawn_label : round.number ≡ 2 ^ 30 + drawn_of old
+  pub drawn : drawn_of new ≡ drawn_of old + 1
+  pub jump : take (length (bytes_of old) + 4) (bytes_of new) ≡ bytes_of old ++ word_bytes 0x6f
+  pub longer : length (bytes_of old) + 4 ≤ length (bytes_of new)
+  pub uses : recorded (uses_of new) ≡ recorded (uses_of old) ++ use_at (length (bytes_of old)) round Jal20 ∷ []
+  pub veneers : VeneersBehind (length (bytes_of old) + 4) (veneers_of old) (veneers_of new)
+  pub bound : place_of new round.number ≡ Some (length (bytes_of new))
+  pub places : (label : ℕ) → label ≢ round.number → place_of new label ≡ place_of old label
+  pub labels : labels_of new ≡ labels_of old
+  pub settled : pending new ≡ []
+  pub aligned : length (bytes_of new) % 4 ≡ 0
+  pub short : length (bytes_of new) ≤ length (bytes_of old) + 14 + 8 * length (pending old)
+  pub windows : HasWindows old → HasWindows new
+  pub sound : IsSoundBuffer new
+
+-- an island was put exactly where one is needed before so many bytes
+pub record MakesRoom (distance : ℕ) (old new : Buffer) (made : Bool) : Type 0 where
+  pub asked : made ≡ is_needed (length (bytes_of old)) distance (pending old)
+  pub put : ((made ≡ false) × (new ≡ old)) ⊎ ((made ≡ true) × PutsIsland old new)
+
+-- ---- an instruction
+
+-- how much an instruction adds to the size of a listing
+abbrev pub inst_sum : Inst → ℕ
+inst_sum (EmitIsland space) = 128 + space
+inst_sum inst = 128
+
+-- what an instruction asks of the buffer
+pub record CanEmit (inst : Inst) (b : Buffer) : Type 0 where
+  pub rule : inst_rule inst ≡ None
+  pub sound : IsSoundBuffer b
+  pub calm : is_needed (length (bytes_of b)) 88 (pending b) ≡ false
+  pub few : drawn_of b < 2 ^ 29
+  pub room : length (bytes_of b) + inst_sum inst + 8 * length (pending b) + 32 < 2147479552
+
+-- what it puts there
+abbrev pub Emitted : Inst → Buffer → Buffer → Type 0
+Emitted (EmitIsland space) old new = (made : Bool) × MakesRoom space old new made
+Emitted inst old new = PutsBlock inst old new

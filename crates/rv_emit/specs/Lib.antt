@@ -1,0 +1,4 @@
+pub mod Blocks
+pub mod Emitted
+pub mod Rows
+pub mod Runs

@@ -1,0 +1,2 @@
+//! An instruction becomes a block of code, with its uses of labels.
+#![tactic(auto)]
