@@ -1,7 +1,9 @@
 pub mod Blocks
+pub mod Built
 pub mod Job
+pub mod Outcomes
+pub mod Reaching
 pub mod Refusal
 pub mod Rows
 pub mod Simulation
 pub mod Told
-pub mod Outcomes

@@ -1,0 +1,127 @@
+-- What stands in the buffer after some lines: what the loop of `assemble` keeps, and what one line adds.
+use Rattle.std.specs.Prelude.{◌≡◌, ◌≢◌, ℕ, zero, suc, ◌+◌, ◌*◌, ◌%◌, ◌^◌, ◌<◌, ◌≤◌, ◌⊎◌, Bool, true, false, List, [], ◌∷◌, ◌++◌, length, Option, Some, None, is_some, slice_get}
+use Rattle.rv_base.specs.declared.label.MachLabel.{MachLabel}
+use Rattle.rv_inst.specs.declared.inst.Line.{Line}
+use Rattle.rv_inst.specs.declared.inst.Line.TheVariants.{Inst as Put, Bind}
+use Rattle.rv_inst.specs.declared.inst.Inst.{Inst}
+use Rattle.rv_inst.specs.declared.inst.Inst.TheVariants.{EmitIsland}
+use Rattle.rv_inst.specs.declared.code.LineSpan.{LineSpan}
+use Rattle.rv_inst.specs.declared.label_use.LabelUse.{LabelUse}
+use Rattle.rv_inst.specs.declared.label_use.LabelUse.TheVariants.{Jal20}
+use Rattle.rv_inst.specs.Fields.{named_labels}
+use Rattle.rv_inst.specs.LabelUse.{marks_of, has_veneer_of}
+use Rattle.rv_inst.specs.LabelUseWords.{word_bytes}
+use Rattle.mach_buffer.specs.declared.uses.Use.{Use}
+use Rattle.mach_buffer.specs.Reach.{CanReach, due_by}
+use Rattle.mach_buffer.specs.Buffer.{bytes_of, uses_of, veneers_of, place_of, labels_of, drawn_of, listed, recorded}
+use Rattle.mach_buffer.specs.Blocks.{BlockStands}
+use Rattle.rv_emit.specs.Rows.{blank, rows_of}
+use Rattle.rv_emit.specs.Emitted.{Buffer, IsSoundBuffer, HasWindows, pending, use_at, uses_in, bytes_of_words, AreRows, UsesStand, MakesRoom, Emitted}
+use Rattle.rv_asm.specs.Told.{start_of, end_of, binds_from}
+use Rattle.rv_asm.specs.Refusal.{is_bound, size_sum}
+
+-- ---- where lines stand
+
+-- where the line before this one ends
+abbrev pub end_before : List LineSpan → ℕ → ℕ
+end_before spans zero = 0
+end_before spans (suc i) = end_of spans i
+
+-- between two offsets an island stands: first a jump to a label that is bound at the second
+pub record IslandStands (b : Buffer) (from to : ℕ) : Type 0 where
+  pub round : MachLabel
+  pub jump : BlockStands marks_of (bytes_of b) (uses_of b) (veneers_of b) from (word_bytes 0x6f) (use_at from round Jal20 ∷ [])
+  pub bound : place_of b round.number ≡ Some to
+  pub longer : from + 4 ≤ to
+
+-- nothing, or an island
+abbrev pub Gap : Buffer → ℕ → ℕ → Type 0
+Gap b from to = (from ≡ to) ⊎ IslandStands b from to
+
+-- the block of an instruction stands between two offsets, with its uses
+pub record BlockThere (inst : Inst) (b : Buffer) (start end : ℕ) : Type 0 where
+  pub words : List ℕ
+  pub decode : AreRows words (rows_of blank inst)
+  pub used : UsesStand start words (uses_in start inst)
+  pub block : BlockStands marks_of (bytes_of b) (uses_of b) (veneers_of b) start (bytes_of_words words) (uses_in start inst)
+  pub ends : end ≡ start + length (bytes_of_words words)
+
+abbrev pub InstThere : Inst → Buffer → ℕ → ℕ → Type 0
+InstThere (EmitIsland space) b start end = Gap b start end
+InstThere inst b start end = BlockThere inst b start end
+
+abbrev pub LineThere : Line → Buffer → ℕ → ℕ → Type 0
+LineThere (Put inst) b start end = InstThere inst b start end
+LineThere (Bind label) b start end = (start ≡ end) × (place_of b label.number ≡ Some start)
+
+-- each line stands at its span, and before it nothing or an island
+pub record Built (lines : List Line) (spans : List LineSpan) (b : Buffer) : Type 0 where
+  pub count : length spans ≡ length lines
+  pub indices : (i : ℕ) (s : LineSpan) → slice_get spans i ≡ Some s → s.index ≡ i
+  pub stand : (i : ℕ) (line : Line) → slice_get lines i ≡ Some line → LineThere line b (start_of spans i) (end_of spans i)
+  pub gap : (i : ℕ) → i < length lines → Gap b (end_before spans i) (start_of spans i)
+  pub ends : length (bytes_of b) ≡ end_before spans (length lines)
+  pub first : start_of spans 0 ≡ 0
+  pub nothing : length lines ≡ 0 → uses_of b ≡ []
+  pub aligned : (i : ℕ) → i < length lines → start_of spans i % 4 ≡ 0
+  pub whole : length (bytes_of b) % 4 ≡ 0
+  pub windows : HasWindows b
+  pub sound : IsSoundBuffer b
+
+-- ---- labels
+
+-- a line of these names a label of this number
+pub record IsNamed (lines : List Line) (number : ℕ) : Type 0 where
+  pub index : ℕ
+  pub line : Line
+  pub there : slice_get lines index ≡ Some line
+  pub place : ℕ
+  pub label : MachLabel
+  pub names : slice_get (named_labels line) place ≡ Some label
+  pub is : label.number ≡ number
+
+-- the labels that are bound are those of binds; each use may go by a veneer, and its label is named by a line or bound
+pub record Named (lines : List Line) (spans : List LineSpan) (b : Buffer) : Type 0 where
+  pub labels : labels_of b ≡ binds_from spans 0 lines
+  pub unbound : (label : ℕ) → label < 2 ^ 30 → is_bound lines label ≡ false → place_of b label ≡ None
+  pub kinds : (j : ℕ) (u : Use LabelUse) → slice_get (uses_of b) j ≡ Some u → has_veneer_of u.kind ≡ true
+  pub named : (j : ℕ) (u : Use LabelUse) → slice_get (uses_of b) j ≡ Some u → (is_some (place_of b u.label.number) ≡ true) ⊎ IsNamed lines u.label.number
+
+-- ---- reach and room
+
+-- Reach holds, and the bytes with a veneer for each pending use are within the size of the lines
+pub record Sized (lines : List Line) (b : Buffer) : Type 0 where
+  pub reach : CanReach (length (bytes_of b)) (pending b)
+  pub size : length (bytes_of b) + 8 * length (pending b) ≤ size_sum lines
+  pub drawn : 64 * drawn_of b ≤ size_sum lines
+
+-- ---- one line more
+
+-- an instruction was put, behind an island where one was needed
+pub record InstPut (inst : Inst) (old new : Buffer) (span : LineSpan) : Type 0 where
+  pub mid : Buffer
+  pub made : Bool
+  pub room : MakesRoom 88 old mid made
+  pub emitted : Emitted inst mid new
+  pub reach : CanReach (length (bytes_of new)) (pending new)
+  pub start : span.start ≡ length (bytes_of mid)
+  pub end : span.end ≡ length (bytes_of new)
+
+-- a label was bound
+pub record BindPut (label : MachLabel) (old new : Buffer) (span : LineSpan) : Type 0 where
+  pub bound : place_of new label.number ≡ Some (length (bytes_of old))
+  pub kept : (other : ℕ) → other ≢ label.number → place_of new other ≡ place_of old other
+  pub unbound : place_of old label.number ≡ None
+  pub labels : labels_of new ≡ labels_of old ++ listed label (length (bytes_of old))
+  pub bytes : bytes_of new ≡ bytes_of old
+  pub uses : uses_of new ≡ uses_of old
+  pub veneers : veneers_of new ≡ veneers_of old
+  pub drawn : drawn_of new ≡ drawn_of old
+  pub fewer : (end : ℕ) → due_by end (pending new) ≤ due_by end (pending old)
+  pub sound : IsSoundBuffer new
+  pub start : span.start ≡ length (bytes_of old)
+  pub end : span.end ≡ length (bytes_of old)
+
+abbrev pub LinePut : Line → Buffer → Buffer → LineSpan → Type 0
+LinePut (Put inst) old new span = InstPut inst old new span
+LinePut (Bind label) old new span = BindPut label old new span
