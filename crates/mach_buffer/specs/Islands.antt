@@ -37,18 +37,18 @@ pub record AreWindows {L : Type 0} (fields : L → List ℕ) (bytes : List ℕ) 
   pub fresh : (j : ℕ) (u : Use L) → slice_get (recorded uses) j ≡ Some u → IsFresh (fields u.kind) (window bytes u.offset (length (fields u.kind)))
   pub apart : AllApart (spans_of fields (recorded uses) veneers)
 
--- uses in veneers were only added, and their veneers stand at or behind an offset
-pub record VeneersBehind {L : Type 0} (from : ℕ) (old new : List (VeneerUse L)) : Type 0 where
-  pub more : List (VeneerUse L)
-  pub grown : new ≡ old ++ more
-  pub behind : (k : ℕ) (w : VeneerUse L) → slice_get more k ≡ Some w → from ≤ w.at
-
 -- a use has got its veneer, between two offsets
 pub record PutAt {L : Type 0} (from to : ℕ) (u : Use L) (now : Option (Use L)) : Type 0 where
   pub at : ℕ
   pub is : now ≡ Some (record u { veneer = Some at })
   pub after : from ≤ at
   pub inside : at + 8 ≤ to
+
+-- uses in veneers were only added, and their veneers stand at or behind an offset
+pub record VeneersBehind {L : Type 0} (from : ℕ) (old new : List (VeneerUse L)) : Type 0 where
+  pub more : List (VeneerUse L)
+  pub grown : new ≡ old ++ more
+  pub behind : (k : ℕ) (w : VeneerUse L) → slice_get more k ≡ Some w → from ≤ w.at
 
 -- what is sooner has its veneer before what is later
 abbrev pub InOrder : {L : Type 0} → (L → ℕ) → (Use L → Bool) → List (Use L) → List (Use L) → Type 0
