@@ -96,12 +96,16 @@ UsesStand start words [] = Unit {0}
 UsesStand start [] (u ∷ uses) = ⊥
 UsesStand start (w ∷ words) (u ∷ uses) = (u.offset ≡ start) × IsFresh (marks_of u.kind) (word_bytes w) × ((fields_of w).opcode ≡ opcode_of u.kind) × (length (marks_of u.kind) ≡ 4) × UsesStand (start + 4) words uses
 
--- the words of an instruction's rows with no distance in them yet, and its uses, were put at the end
-pub record PutsBlock (inst : Inst) (old new : Buffer) : Type 0 where
+-- words that decode to these rows were put at the end, with these uses
+pub record PutsWords (rows : List Decoded) (own : List (Use LabelUse)) (old new : Buffer) : Type 0 where
   pub words : List ℕ
-  pub adds : Adds (bytes_of_words words) (uses_in (length (bytes_of old)) inst) old new
-  pub decode : AreRows words (rows_of blank inst)
-  pub used : UsesStand (length (bytes_of old)) words (uses_in (length (bytes_of old)) inst)
+  pub adds : Adds (bytes_of_words words) own old new
+  pub decode : AreRows words rows
+  pub used : UsesStand (length (bytes_of old)) words own
+
+-- the words of an instruction's rows with no distance in them yet, and its uses, were put at the end
+abbrev pub PutsBlock : Inst → Buffer → Buffer → Type 0
+PutsBlock inst old new = PutsWords (rows_of blank inst) (uses_in (length (bytes_of old)) inst) old new
 
 -- ---- an island
 
@@ -130,10 +134,15 @@ pub record MakesRoom (distance : ℕ) (old new : Buffer) (made : Bool) : Type 0 
 
 -- ---- an instruction
 
+-- how many bytes an instruction asks for an island before, where it does
+abbrev pub island_space : Inst → Option ℕ
+island_space (EmitIsland space) = Some space
+island_space _ = None
+
 -- how much an instruction adds to the size of a listing
 abbrev pub inst_sum : Inst → ℕ
 inst_sum (EmitIsland space) = 128 + space
-inst_sum inst = 128
+inst_sum _ = 128
 
 -- what an instruction asks of the buffer
 pub record CanEmit (inst : Inst) (b : Buffer) : Type 0 where
@@ -143,7 +152,10 @@ pub record CanEmit (inst : Inst) (b : Buffer) : Type 0 where
   pub few : drawn_of b < 2 ^ 29
   pub room : length (bytes_of b) + inst_sum inst + 8 * length (pending b) + 32 < 2147479552
 
--- what it puts there
+-- what it puts there: an island where one is asked for and needed, or else its block
+abbrev pub Puts : Option ℕ → Inst → Buffer → Buffer → Type 0
+Puts (Some space) inst old new = (made : Bool) × MakesRoom space old new made
+Puts None inst old new = PutsBlock inst old new
+
 abbrev pub Emitted : Inst → Buffer → Buffer → Type 0
-Emitted (EmitIsland space) old new = (made : Bool) × MakesRoom space old new made
-Emitted inst old new = PutsBlock inst old new
+Emitted inst old new = Puts (island_space inst) inst old new

@@ -2,3 +2,4 @@ pub mod Blocks
 pub mod Emitted
 pub mod Rows
 pub mod Runs
+pub mod Usable

@@ -1,0 +1,242 @@
+//! The words of an instruction, and its uses of labels.
+
+ghost use Rattle.std.specs.Prelude.{◌≡◌, [], ◌∷◌, ◌+◌, ◌<◌, ◌^◌, length, OnOk, OnErr, None, Some, true, pos};
+ghost use Rattle.rv_base.specs.declared.flags.IsaFlags.{IsaFlags};
+ghost use Rattle.rv_base.specs.Regs.{number_of};
+ghost use Rattle.rv_machine.specs.declared.decode.Decoded.{Decoded};
+ghost use Rattle.rv_machine.specs.Decode.{decode};
+ghost use Rattle.rv_encode.specs.Registers.{IsIntRegister};
+ghost use Rattle.rv_encode.specs.Rows.{compare_row};
+ghost use Rattle.rv_inst.specs.declared.label_use.LabelUse.TheVariants.{Jal20, B12};
+ghost use Rattle.rv_inst.specs.LabelUseWords.{word_bytes};
+ghost use Rattle.rv_inst.specs.Rules.{inst_rule};
+ghost use Rattle.mach_buffer.specs.Buffer.{bytes_of, drawn_of, spoiled_of, IsKnown};
+ghost use Rattle.rv_emit.specs.Usable.{IsFinePlain, IsFineBranch, IsFineControl};
+ghost use Rattle.rv_emit.specs.Emitted.{IsSoundBuffer, Adds, PutsWords, PutsBlock, use_at, branch_uses, control_uses};
+ghost use Rattle.rv_emit.specs.Rows.{marks_rows, plain_rows, move_rows, control_rows, branch_rows, jump_row, blank};
+
+use mach_buffer::buffer::MachBuffer;
+use rv_base::label::MachLabel;
+use rv_base::memory::OutOfMemory;
+use rv_base::named::{link_reg, writable_zero_reg, zero_reg};
+use rv_base::regs::{Reg, WritableReg};
+use rv_encode::jumps::{enc_auipc, enc_jalr, encode_ebreak, encode_lui};
+use rv_encode::operations::{encode_alu_rr_imm12, encode_alu_rrr};
+use rv_imms::imm12::Imm12;
+use rv_inst::inst::{CondBrTarget, Family, Inst};
+use rv_inst::label_use::LabelUse;
+use rv_ops::alu::AluOPRRI;
+use rv_ops::compare::IntegerCompare;
+
+/// Puts the block of an instruction that breaks no rule.
+pub(crate) fn put_block(sink: &mut MachBuffer<LabelUse>, inst: &Inst) -> Result<(), OutOfMemory>
+    requires rule { inst_rule inst.now ≡ None }
+    requires room { length (bytes_of sink.old) + 8 < 2147479552 }
+    requires sound { IsSoundBuffer sink.old }
+    ensures block { OnOk result (PutsBlock inst.now sink.old sink.new) }
+    ensures refused { OnErr result (spoiled_of sink.new ≡ true) }
+{
+    match inst.family() {
+        Family::Marks => put_mark(sink, inst),
+        Family::Plain => put_plain(sink, inst),
+        Family::Control => put_control(sink, inst),
+    }
+}
+
+fn put_mark(sink: &mut MachBuffer<LabelUse>, inst: &Inst) -> Result<(), OutOfMemory>
+    requires room { length (bytes_of sink.old) + 8 < 2147479552 }
+    requires sound { IsSoundBuffer sink.old }
+    ensures block { OnOk result (PutsWords (marks_rows inst.now) [] sink.old sink.new) }
+    ensures refused { OnErr result (spoiled_of sink.new ≡ true) }
+{
+    match inst {
+        Inst::Nop4 => put_word(
+            sink,
+            encode_alu_rr_imm12(AluOPRRI::Addi, writable_zero_reg(), zero_reg(), Imm12::ZERO),
+        ),
+        Inst::EBreak => put_word(sink, encode_ebreak()),
+        _ => Ok(()),
+    }
+}
+
+fn put_plain(sink: &mut MachBuffer<LabelUse>, inst: &Inst) -> Result<(), OutOfMemory>
+    requires fine { IsFinePlain inst.now }
+    requires room { length (bytes_of sink.old) + 8 < 2147479552 }
+    requires sound { IsSoundBuffer sink.old }
+    ensures block { OnOk result (PutsWords (plain_rows inst.now) [] sink.old sink.new) }
+    ensures refused { OnErr result (spoiled_of sink.new ≡ true) }
+{
+    match inst {
+        Inst::Lui { rd, imm } => put_word(sink, encode_lui(*rd, *imm)),
+        Inst::Auipc { rd, imm } => put_word(sink, enc_auipc(*rd, *imm)),
+        Inst::AluRRR {
+            alu_op,
+            rd,
+            rs1,
+            rs2,
+        } => put_word(sink, encode_alu_rrr(*alu_op, *rd, *rs1, *rs2)),
+        Inst::AluRRImm12 {
+            alu_op,
+            rd,
+            rs,
+            imm12,
+        } => put_word(sink, encode_alu_rr_imm12(*alu_op, *rd, *rs, *imm12)),
+        Inst::Mov { rd, rm, ty: _ } => put_move(sink, *rd, *rm),
+        Inst::MovFromPReg { rd, rm } => put_move(sink, *rd, Reg::Real(*rm)),
+        _ => Ok(()),
+    }
+}
+
+/// A move of one integer register to another; none to itself.
+fn put_move(
+    sink: &mut MachBuffer<LabelUse>,
+    rd: WritableReg,
+    rm: Reg,
+) -> Result<(), OutOfMemory>
+    requires rd { IsIntRegister rd.reg }
+    requires rm { IsIntRegister rm }
+    requires room { length (bytes_of sink.old) + 8 < 2147479552 }
+    requires sound { IsSoundBuffer sink.old }
+    ensures block { OnOk result (PutsWords (move_rows (number_of rd.reg) (number_of rm)) [] sink.old sink.new) }
+    ensures refused { OnErr result (spoiled_of sink.new ≡ true) }
+{
+    if number(rd.reg) == number(rm) {
+        return Ok(());
+    }
+    put_word(
+        sink,
+        encode_alu_rr_imm12(AluOPRRI::Addi, rd, rm, Imm12::ZERO),
+    )
+}
+
+/// The number of a register of the machine.
+fn number(reg: Reg) -> u8
+    ensures { result ≡ number_of reg }
+{
+    match reg {
+        Reg::Real(reg) => reg.number,
+        Reg::Virtual(_) => 0,
+    }
+}
+
+fn put_control(sink: &mut MachBuffer<LabelUse>, inst: &Inst) -> Result<(), OutOfMemory>
+    requires fine { IsFineControl inst.now }
+    requires room { length (bytes_of sink.old) + 8 < 2147479552 }
+    requires sound { IsSoundBuffer sink.old }
+    ensures block { OnOk result (PutsWords (control_rows blank inst.now) (control_uses (length (bytes_of sink.old)) inst.now) sink.old sink.new) }
+    ensures refused { OnErr result (spoiled_of sink.new ≡ true) }
+{
+    match inst {
+        Inst::Ret => put_word(
+            sink,
+            enc_jalr(writable_zero_reg(), link_reg(), Imm12::ZERO),
+        ),
+        Inst::Jal { label } => put_jump(sink, *label),
+        Inst::CondBr {
+            taken,
+            not_taken,
+            kind,
+        } => put_branch(sink, *kind, *taken, *not_taken),
+        Inst::Jalr { rd, base, offset } => put_word(sink, enc_jalr(*rd, *base, *offset)),
+        _ => Ok(()),
+    }
+}
+
+/// A branch to a label where a comparison holds, and a jump to another one, where there is one, where it doesn't.
+fn put_branch(
+    sink: &mut MachBuffer<LabelUse>,
+    kind: IntegerCompare,
+    taken: CondBrTarget,
+    not_taken: CondBrTarget,
+) -> Result<(), OutOfMemory>
+    requires fine { IsFineBranch kind taken not_taken }
+    requires room { length (bytes_of sink.old) + 8 < 2147479552 }
+    requires sound { IsSoundBuffer sink.old }
+    ensures block { OnOk result (PutsWords (branch_rows blank kind taken not_taken) (branch_uses (length (bytes_of sink.old)) taken not_taken) sink.old sink.new) }
+    ensures refused { OnErr result (spoiled_of sink.new ≡ true) }
+{
+    match (taken, not_taken) {
+        (CondBrTarget::Fallthrough, _) => Ok(()),
+        (CondBrTarget::Label(label), CondBrTarget::Fallthrough) => put_compare(sink, kind, label),
+        (CondBrTarget::Label(first), CondBrTarget::Label(second)) => {
+            put_compare_and_jump(sink, kind, first, second)
+        }
+    }
+}
+
+/// A branch to a label where a comparison holds, and a jump to another one where it doesn't.
+fn put_compare_and_jump(
+    sink: &mut MachBuffer<LabelUse>,
+    kind: IntegerCompare,
+    taken: MachLabel,
+    not_taken: MachLabel,
+) -> Result<(), OutOfMemory>
+    requires rs1 { IsIntRegister kind.rs1 }
+    requires rs2 { IsIntRegister kind.rs2 }
+    requires taken { taken.number < 2 ^ 30 }
+    requires not_taken { not_taken.number < 2 ^ 30 }
+    requires room { length (bytes_of sink.old) + 8 < 2147479552 }
+    requires sound { IsSoundBuffer sink.old }
+    ensures block { OnOk result (PutsWords (compare_row kind (pos 0) ∷ jump_row (pos 0) ∷ []) (use_at (length (bytes_of sink.old)) taken B12 ∷ use_at (length (bytes_of sink.old) + 4) not_taken Jal20 ∷ []) sink.old sink.new) }
+    ensures refused { OnErr result (spoiled_of sink.new ≡ true) }
+{
+    put_compare(sink, kind, taken)?;
+    put_jump(sink, not_taken)
+}
+
+/// A branch to a label, where a comparison holds.
+fn put_compare(
+    sink: &mut MachBuffer<LabelUse>,
+    kind: IntegerCompare,
+    label: MachLabel,
+) -> Result<(), OutOfMemory>
+    requires rs1 { IsIntRegister kind.rs1 }
+    requires rs2 { IsIntRegister kind.rs2 }
+    requires label { label.number < 2 ^ 30 }
+    requires room { length (bytes_of sink.old) + 4 < 2147479552 }
+    requires sound { IsSoundBuffer sink.old }
+    ensures block { OnOk result (PutsWords (compare_row kind (pos 0) ∷ []) (use_at (length (bytes_of sink.old)) label B12 ∷ []) sink.old sink.new) }
+    ensures refused { OnErr result (spoiled_of sink.new ≡ true) }
+{
+    put_use(sink, kind.emit(), label, LabelUse::B12)
+}
+
+/// A jump to a label.
+pub(crate) fn put_jump(sink: &mut MachBuffer<LabelUse>, label: MachLabel) -> Result<(), OutOfMemory>
+    requires known { IsKnown label.number (drawn_of sink.old) }
+    requires room { length (bytes_of sink.old) + 4 < 2147479552 }
+    requires sound { IsSoundBuffer sink.old }
+    ensures block { OnOk result (PutsWords (jump_row (pos 0) ∷ []) (use_at (length (bytes_of sink.old)) label Jal20 ∷ []) sink.old sink.new) }
+    ensures word { OnOk result (Adds (word_bytes 0x6f) (use_at (length (bytes_of sink.old)) label Jal20 ∷ []) sink.old sink.new) }
+    ensures refused { OnErr result (spoiled_of sink.new ≡ true) }
+{
+    put_use(sink, 0x6f, label, LabelUse::Jal20)
+}
+
+/// Puts a word whose distance to a label is still to come, and the use of that label.
+fn put_use(
+    sink: &mut MachBuffer<LabelUse>,
+    word: u32,
+    label: MachLabel,
+    kind: LabelUse,
+) -> Result<(), OutOfMemory>
+    requires known { IsKnown label.number (drawn_of sink.old) }
+    requires room { length (bytes_of sink.old) + 4 < 2147479552 }
+    requires sound { IsSoundBuffer sink.old }
+    ensures added { OnOk result (Adds (word_bytes word) (use_at (length (bytes_of sink.old)) label kind ∷ []) sink.old sink.new) }
+    ensures refused { OnErr result (spoiled_of sink.new ≡ true) }
+{
+    let here = sink.cur_offset();
+    sink.use_label_at_offset(here, label, kind)?;
+    sink.put4(word)
+}
+
+/// Puts a word that names no label.
+fn put_word(sink: &mut MachBuffer<LabelUse>, word: u32) -> Result<(), OutOfMemory>
+    requires room { length (bytes_of sink.old) + 4 < 2147479552 }
+    requires sound { IsSoundBuffer sink.old }
+    ensures block { OnOk result ((d : Decoded) → ((flags : IsaFlags) → decode flags word ≡ Some d) → PutsWords (d ∷ []) [] sink.old sink.new) }
+    ensures refused { OnErr result (spoiled_of sink.new ≡ true) }
+{
+    sink.put4(word)
+}

@@ -1,0 +1,92 @@
+//! Emission of an instruction.
+
+ghost use Rattle.std.specs.Prelude.{◌≡◌, length, OnOk, OnErr, true};
+ghost use Rattle.mach_buffer.specs.Reach.{CanReach};
+ghost use Rattle.mach_buffer.specs.Buffer.{bytes_of, spoiled_of};
+ghost use Rattle.rv_emit.specs.Emitted.{pending, CanEmit, Emitted, island_space as space_of};
+
+use crate::block::put_block;
+use crate::island::make_room;
+use crate::state::{EmitInfo, EmitState};
+use mach_buffer::buffer::MachBuffer;
+use rv_base::memory::OutOfMemory;
+use rv_inst::error::EmitError;
+use rv_inst::inst::Inst;
+use rv_inst::label_use::LabelUse;
+use std::alloc::Global;
+
+/// What can be emitted into a buffer.
+pub trait MachInstEmit {
+    ghost use Rattle.std.specs.Prelude.{◌≡◌, length, OnOk, OnErr, IfErr, true};
+    ghost use Rattle.rv_inst.specs.declared.error.EmitError.TheVariants as error;
+    ghost use Rattle.mach_buffer.specs.Reach.{CanReach};
+    ghost use Rattle.mach_buffer.specs.Buffer.{bytes_of, spoiled_of};
+    ghost use Rattle.rv_emit.specs.Emitted.{Buffer, pending};
+
+    /// What emission asks of the buffer.
+    ghost asks: { Self → Buffer → Type 0 };
+
+    /// What it puts there.
+    ghost puts: { Self → Buffer → Buffer → Type 0 };
+
+    /// Puts the block. Its only refusal is for want of memory; the buffer is then spoiled.
+    fn emit(
+        &self,
+        alloc: Global,
+        sink: &mut MachBuffer<LabelUse>,
+        info: &EmitInfo,
+        state: &mut EmitState,
+    ) -> Result<(), EmitError>
+        requires { asks self.now sink.old }
+        ensures emitted { OnOk result (puts self.now sink.old sink.new) }
+        ensures reach { OnOk result (CanReach (length (bytes_of sink.new)) (pending sink.new)) }
+        ensures wanting { IfErr result (λ e. e ≡ error.OutOfMemory) }
+        ensures spoiled { OnErr result (spoiled_of sink.new ≡ true) };
+}
+
+impl MachInstEmit for Inst {
+    ghost use Rattle.rv_emit.specs.Emitted.{CanEmit, Emitted};
+
+    ghost asks = { CanEmit };
+
+    ghost puts = { Emitted };
+
+    fn emit(
+        &self,
+        _alloc: Global,
+        sink: &mut MachBuffer<LabelUse>,
+        _info: &EmitInfo,
+        _state: &mut EmitState,
+    ) -> Result<(), EmitError> {
+        match put(sink, self) {
+            Ok(()) => Ok(()),
+            Err(OutOfMemory) => Err(EmitError::OutOfMemory),
+        }
+    }
+}
+
+/// Puts the block of an instruction, or an island where the instruction asks for one.
+fn put(sink: &mut MachBuffer<LabelUse>, inst: &Inst) -> Result<(), OutOfMemory>
+    requires { CanEmit inst.now sink.old }
+    ensures emitted { OnOk result (Emitted inst.now sink.old sink.new) }
+    ensures reach { OnOk result (CanReach (length (bytes_of sink.new)) (pending sink.new)) }
+    ensures spoiled { OnErr result (spoiled_of sink.new ≡ true) }
+{
+    match island_space(inst) {
+        Some(space) => {
+            make_room(sink, space)?;
+            Ok(())
+        }
+        None => put_block(sink, inst),
+    }
+}
+
+/// How many bytes an instruction asks for an island before, where it does.
+fn island_space(inst: &Inst) -> Option<u32>
+    ensures { result ≡ space_of inst.now }
+{
+    match inst {
+        Inst::EmitIsland { needed_space } => Some(*needed_space),
+        _ => None,
+    }
+}
