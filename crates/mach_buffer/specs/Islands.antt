@@ -44,6 +44,12 @@ pub record PutAt {L : Type 0} (from to : ℕ) (u : Use L) (now : Option (Use L))
   pub after : from ≤ at
   pub inside : at + 8 ≤ to
 
+-- uses in veneers were only added, and their veneers stand at or behind an offset
+pub record VeneersBehind {L : Type 0} (from : ℕ) (old new : List (VeneerUse L)) : Type 0 where
+  pub more : List (VeneerUse L)
+  pub grown : new ≡ old ++ more
+  pub behind : (k : ℕ) (w : VeneerUse L) → slice_get more k ≡ Some w → from ≤ w.at
+
 -- what is sooner has its veneer before what is later
 abbrev pub InOrder : {L : Type 0} → (L → ℕ) → (Use L → Bool) → List (Use L) → List (Use L) → Type 0
 InOrder {L} forward test uses new_uses = (j k : ℕ) (u v : Use L) (a b : ℕ) → slice_get uses j ≡ Some u → slice_get uses k ≡ Some v → test u ≡ true → test v ≡ true → is_sooner forward u v ≡ true →

@@ -1,3 +1,4 @@
+pub mod Blocks
 pub mod Buffer
 pub mod Finish
 pub mod Islands
