@@ -1,5 +1,5 @@
 -- The end: the last veneers, and the patches.
-use Rattle.std.specs.Prelude.{◌≡◌, ℕ, ◌+◌, ◌*◌, ◌<◌, ◌≤◌, ◌⊎◌, Bool, true, false, cond, nat_eq, List, ◌++◌, length, take, drop, Option, Some, is_some, ◌-◌, slice_get, ℤ, pos, ◌-ℤ◌}
+use Rattle.std.specs.Prelude.{◌≡◌, ℕ, ◌+◌, ◌*◌, ◌%◌, ◌<◌, ◌≤◌, ◌⊎◌, Bool, true, false, cond, nat_eq, List, ◌++◌, length, take, drop, Option, Some, is_some, ◌-◌, slice_get, ℤ, pos, ◌-ℤ◌}
 use Rattle.rv_base.specs.LabelUse.{Veneer, SameOutside}
 use Rattle.mach_buffer.specs.declared.uses.Use.{Use}
 use Rattle.mach_buffer.specs.declared.uses.VeneerUse.{VeneerUse}
@@ -7,7 +7,7 @@ use Rattle.mach_buffer.specs.declared.buffer.MachBuffer.{MachBuffer}
 use Rattle.mach_buffer.specs.Windows.{window, AllKept, KeepsOthers}
 use Rattle.mach_buffer.specs.Reach.{is_reached, is_pending, StillReaches}
 use Rattle.mach_buffer.specs.Buffer.{bytes_of, uses_of, veneers_of, place_of, pending_of, IsLinked, IsSound}
-use Rattle.mach_buffer.specs.Islands.{padding, AreWindows, VeneersPut}
+use Rattle.mach_buffer.specs.Islands.{padding, AreWindows, VeneersPut, VeneersBehind}
 use Rattle.mach_buffer.specs.Targets.{patches_of}
 
 -- a use goes by a veneer that stands at `at`: its window aims there, the eight bytes there are the veneer's outside the
@@ -15,6 +15,7 @@ use Rattle.mach_buffer.specs.Targets.{patches_of}
 pub record IsVia {L : Type 0} (aims : L → List ℕ → ℤ → Type 0) (fields : L → List ℕ) (v : Veneer L) (bytes : List ℕ) (u : Use L) (to : ℕ) : Type 0 where
   pub at : ℕ
   pub there : aims u.kind (window bytes u.offset (length (fields u.kind))) (pos at -ℤ pos u.offset)
+  pub even : at % 2 ≡ 0
   pub inside : at + 8 ≤ length bytes
   pub front : window bytes at v.place ≡ take v.place v.bytes
   pub own : SameOutside (fields v.kind) (take (length (fields v.kind)) (drop v.place v.bytes)) (window bytes (at + v.place) (length (fields v.kind)))
@@ -45,6 +46,7 @@ pub record Finishes {L : Type 0} (aims : L → List ℕ → ℤ → Type 0) (fie
   pub uses : List (Use L)
   pub veneers : List (VeneerUse L)
   pub put : VeneersPut forward (is_pending has_veneer forward backward (place_of b)) (before_last (bytes_of b) (length (pending_of has_veneer forward backward b))) (uses_of b) old uses
+  pub grown : VeneersBehind (length (bytes_of b)) (veneers_of b) veneers
   pub linked : IsLinked has_veneer forward veneer old uses veneers
   pub windows : AreWindows fields old uses veneers
   pub long : length bytes ≡ length old
