@@ -7,7 +7,6 @@ use Rattle.std.proofs.Math.Seq.{drop-append-add}
 use Rattle.rv_base.specs.declared.flags.IsaFlags.{IsaFlags}
 use Rattle.rv_base.specs.declared.label.MachLabel.{MachLabel}
 use Rattle.rv_base.specs.LabelUse.{SameOutside}
-use Rattle.rv_ops.specs.declared.compare.IntegerCompare.{IntegerCompare}
 use Rattle.rv_machine.specs.declared.decode.Decoded.{Decoded}
 use Rattle.rv_machine.specs.Decode.{decode}
 use Rattle.rv_machine.specs.Layout.{fields_of}
@@ -24,7 +23,7 @@ use Rattle.rv_inst.proofs.Bridges.{decode-patched_branch, decode-patched_jump}
 use Rattle.mach_buffer.specs.declared.uses.Use.{Use}
 use Rattle.mach_buffer.specs.Windows.{window}
 use Rattle.rv_emit.specs.Rows.{between, blank, distances, jump_row, rows_of}
-use Rattle.rv_emit.specs.Emitted.{use_at, uses_in, bytes_of_words, AreRows, UsesStand}
+use Rattle.rv_emit.specs.Emitted.{use_at, uses_in, bytes_of_words, AreRows, opcode_of, UsesStand}
 use Rattle.rv_emit.specs.Blocks.{StandRows, IsAimed, IsPatchedTo, word_in}
 
 -- ---- words and their bytes
@@ -86,28 +85,18 @@ unused_rows flags targets start words rows bytes h p = kept_rows flags bytes sta
 
 -- ---- words whose windows are patched
 
-jump_word : (flags : IsaFlags) (w : ℕ) (new : List ℕ) (d : ℤ) → w < 2 ^ 32 → AreBytes new → SameOutside (marks_of Jal20) (word_bytes w) new → (fields_of w).opcode ≡ 0x6f → Aims Jal20 new d → decode flags (word_at new) ≡ option_map (with_number d) (decode flags w)
-jump_word flags w new d h fits same e aims =
-    decode-patched_jump flags (word_bytes w) new d (word_fits w h) fits same (ap (λ x. (fields_of x).opcode) (word_back w) ∙ e) aims
-    ∙ ap (λ x. option_map (with_number d) (decode flags x)) (word_back w)
+-- a word whose window is patched to a distance decodes to the same row with that number
+abbrev Bridge : LabelUse → Type 0
+Bridge kind = (flags : IsaFlags) (old new : List ℕ) (d : ℤ) → AreBytes old → AreBytes new → SameOutside (marks_of kind) old new → (fields_of (word_at old)).opcode ≡ opcode_of kind → Aims kind new d → decode flags (word_at new) ≡ option_map (with_number d) (decode flags (word_at old))
 
-branch_word : (flags : IsaFlags) (w : ℕ) (new : List ℕ) (d : ℤ) → w < 2 ^ 32 → AreBytes new → SameOutside (marks_of B12) (word_bytes w) new → (fields_of w).opcode ≡ 0x63 → Aims B12 new d → decode flags (word_at new) ≡ option_map (with_number d) (decode flags w)
-branch_word flags w new d h fits same e aims =
-    decode-patched_branch flags (word_bytes w) new d (word_fits w h) fits same (ap (λ x. (fields_of x).opcode) (word_back w) ∙ e) aims
-    ∙ ap (λ x. option_map (with_number d) (decode flags x)) (word_back w)
-
-jump_stands : (flags : IsaFlags) (target start at w : ℕ) (label : MachLabel) (block bytes : List ℕ) → window block (at - start) 4 ≡ word_bytes w → w < 2 ^ 32 → decode flags w ≡ Some (jump_row (pos 0)) → (fields_of w).opcode ≡ 0x6f → AllBytes bytes → at + 4 ≤ length bytes → IsAimed target start block bytes (use_at at label Jal20) →
-    decode flags (word_in bytes at) ≡ Some (jump_row (between at target))
-jump_stands flags target start at w label block bytes stood h row e fits long aimed =
+use_stands : (kind : LabelUse) → Bridge kind → (flags : IsaFlags) (target start at w : ℕ) (label : MachLabel) (d : Decoded) (block bytes : List ℕ) → window block (at - start) 4 ≡ word_bytes w → w < 2 ^ 32 → decode flags w ≡ Some d → (fields_of w).opcode ≡ opcode_of kind → length (marks_of kind) ≡ 4 → AllBytes bytes → at + 4 ≤ length bytes → IsAimed target start block bytes (use_at at label kind) →
+    decode flags (word_in bytes at) ≡ Some (with_number (between at target) d)
+use_stands kind bridge flags target start at w label d block bytes stood h row e four fits long aimed =
+    let aims : Aims kind (window bytes at 4) (between at target) = subst (λ n. Aims kind (window bytes at n) (between at target)) four aimed.aims in
+    let kept : SameOutside (marks_of kind) (window block (at - start) 4) (window bytes at 4) = subst (λ n. SameOutside (marks_of kind) (window block (at - start) n) (window bytes at n)) four aimed.kept in
     ap (decode flags) (sym (window_word bytes at))
-    ∙ jump_word flags w (window bytes at 4) (between at target) h (window_fits bytes at fits long) (subst (λ old. SameOutside (marks_of Jal20) old (window bytes at 4)) stood aimed.kept) e aimed.aims
-    ∙ ap (option_map (with_number (between at target))) row
-
-branch_stands : (flags : IsaFlags) (target start at w : ℕ) (label : MachLabel) (kind : IntegerCompare) (block bytes : List ℕ) → window block (at - start) 4 ≡ word_bytes w → w < 2 ^ 32 → decode flags w ≡ Some (compare_row kind (pos 0)) → (fields_of w).opcode ≡ 0x63 → AllBytes bytes → at + 4 ≤ length bytes → IsAimed target start block bytes (use_at at label B12) →
-    decode flags (word_in bytes at) ≡ Some (compare_row kind (between at target))
-branch_stands flags target start at w label kind block bytes stood h row e fits long aimed =
-    ap (decode flags) (sym (window_word bytes at))
-    ∙ branch_word flags w (window bytes at 4) (between at target) h (window_fits bytes at fits long) (subst (λ old. SameOutside (marks_of B12) old (window bytes at 4)) stood aimed.kept) e aimed.aims
+    ∙ bridge flags (word_bytes w) (window bytes at 4) (between at target) (word_fits w h) (window_fits bytes at fits long) (subst (λ old. SameOutside (marks_of kind) old (window bytes at 4)) stood kept) (ap (λ x. (fields_of x).opcode) (word_back w) ∙ e) aims
+    ∙ ap (λ x. option_map (with_number (between at target)) (decode flags x)) (word_back w)
     ∙ ap (option_map (with_number (between at target))) row
 
 -- the first word of a block, and the second
@@ -117,48 +106,42 @@ first_window start w words = let here : start - start ≡ 0 = omega arith in ap 
 second_window : (start w x : ℕ) (words : List ℕ) → window (bytes_of_words (w ∷ x ∷ words)) (start + 4 - start) 4 ≡ word_bytes x
 second_window start w x words = let here : start + 4 - start ≡ 4 = omega arith in ap (λ k. window (bytes_of_words (w ∷ x ∷ words)) k 4) here
 
--- ---- instructions
+-- ---- blocks
 
-jal_rows : (flags : IsaFlags) (targets : ℕ → ℕ) (start : ℕ) (label : MachLabel) (words bytes : List ℕ) → AreRows words (rows_of blank (Jal label)) → UsesStand start words (uses_in start (Jal label)) → AllBytes bytes → IsPatchedTo targets start (bytes_of_words words) (uses_in start (Jal label)) bytes → StandRows flags bytes start (rows_of (distances targets start) (Jal label))
-jal_rows flags targets start label [] bytes h used fits p = absurd h
-jal_rows flags targets start label (w ∷ x ∷ words) bytes h used fits p = absurd h.2
-jal_rows flags targets start label (w ∷ []) bytes h used fits p =
-    let long = p.within in (
+one_use_rows : (kind : LabelUse) → Bridge kind → (flags : IsaFlags) (targets : ℕ → ℕ) (start : ℕ) (label : MachLabel) (d : Decoded) (words bytes : List ℕ) → AreRows words (d ∷ []) → UsesStand start words (use_at start label kind ∷ []) → AllBytes bytes → IsPatchedTo targets start (bytes_of_words words) (use_at start label kind ∷ []) bytes →
+    StandRows flags bytes start (with_number (between start (targets 0)) d ∷ [])
+one_use_rows kind bridge flags targets start label d [] bytes h used fits p = absurd h
+one_use_rows kind bridge flags targets start label d (w ∷ x ∷ words) bytes h used fits p = absurd h.2
+one_use_rows kind bridge flags targets start label d (w ∷ []) bytes h used fits p =
+    let long = p.within in
+    let block = bytes_of_words (w ∷ []) in (
       omega arith,
-      jump_stands flags (targets 0) start start w label (bytes_of_words (w ∷ [])) bytes (first_window start w []) h.0 (h.1 flags) used.2 fits (omega arith) (p.each 0 (use_at start label Jal20) refl),
+      use_stands kind bridge flags (targets 0) start start w label d block bytes (first_window start w []) h.0 (h.1 flags) used.2 used.3 fits (omega arith) (p.each 0 (use_at start label kind) refl),
       tt,
     )
 
-one_way_rows : (flags : IsaFlags) (targets : ℕ → ℕ) (start : ℕ) (t : MachLabel) (kind : IntegerCompare) (words bytes : List ℕ) → AreRows words (rows_of blank (CondBr (Label t) Fallthrough kind)) → UsesStand start words (uses_in start (CondBr (Label t) Fallthrough kind)) → AllBytes bytes → IsPatchedTo targets start (bytes_of_words words) (uses_in start (CondBr (Label t) Fallthrough kind)) bytes → StandRows flags bytes start (rows_of (distances targets start) (CondBr (Label t) Fallthrough kind))
-one_way_rows flags targets start t kind [] bytes h used fits p = absurd h
-one_way_rows flags targets start t kind (w ∷ x ∷ words) bytes h used fits p = absurd h.2
-one_way_rows flags targets start t kind (w ∷ []) bytes h used fits p =
-    let long = p.within in (
-      omega arith,
-      branch_stands flags (targets 0) start start w t kind (bytes_of_words (w ∷ [])) bytes (first_window start w []) h.0 (h.1 flags) used.2 fits (omega arith) (p.each 0 (use_at start t B12) refl),
-      tt,
-    )
-
-two_way_rows : (flags : IsaFlags) (targets : ℕ → ℕ) (start : ℕ) (t f : MachLabel) (kind : IntegerCompare) (words bytes : List ℕ) → AreRows words (rows_of blank (CondBr (Label t) (Label f) kind)) → UsesStand start words (uses_in start (CondBr (Label t) (Label f) kind)) → AllBytes bytes → IsPatchedTo targets start (bytes_of_words words) (uses_in start (CondBr (Label t) (Label f) kind)) bytes → StandRows flags bytes start (rows_of (distances targets start) (CondBr (Label t) (Label f) kind))
-two_way_rows flags targets start t f kind [] bytes h used fits p = absurd h
-two_way_rows flags targets start t f kind (w ∷ []) bytes h used fits p = absurd h.2
-two_way_rows flags targets start t f kind (w ∷ x ∷ y ∷ words) bytes h used fits p = absurd h.2.2
-two_way_rows flags targets start t f kind (w ∷ x ∷ []) bytes h used fits p =
+-- a branch, and a jump behind it
+two_use_rows : (flags : IsaFlags) (targets : ℕ → ℕ) (start : ℕ) (t f : MachLabel) (c d : Decoded) (words bytes : List ℕ) → AreRows words (c ∷ d ∷ []) → UsesStand start words (use_at start t B12 ∷ use_at (start + 4) f Jal20 ∷ []) → AllBytes bytes → IsPatchedTo targets start (bytes_of_words words) (use_at start t B12 ∷ use_at (start + 4) f Jal20 ∷ []) bytes →
+    StandRows flags bytes start (with_number (between start (targets 0)) c ∷ with_number (between (start + 4) (targets 1)) d ∷ [])
+two_use_rows flags targets start t f c d [] bytes h used fits p = absurd h
+two_use_rows flags targets start t f c d (w ∷ []) bytes h used fits p = absurd h.2
+two_use_rows flags targets start t f c d (w ∷ x ∷ y ∷ words) bytes h used fits p = absurd h.2.2
+two_use_rows flags targets start t f c d (w ∷ x ∷ []) bytes h used fits p =
     let long = p.within in
     let block = bytes_of_words (w ∷ x ∷ []) in (
       omega arith,
-      branch_stands flags (targets 0) start start w t kind block bytes (first_window start w (x ∷ [])) h.0 (h.1 flags) used.2 fits (omega arith) (p.each 0 (use_at start t B12) refl),
+      use_stands B12 decode-patched_branch flags (targets 0) start start w t c block bytes (first_window start w (x ∷ [])) h.0 (h.1 flags) used.2 used.3 fits (omega arith) (p.each 0 (use_at start t B12) refl),
       (
         omega arith,
-        jump_stands flags (targets 1) start (start + 4) x f block bytes (second_window start w x []) h.2.0 (h.2.1 flags) used.4.2 fits (omega arith) (p.each 1 (use_at (start + 4) f Jal20) refl),
+        use_stands Jal20 decode-patched_jump flags (targets 1) start (start + 4) x f d block bytes (second_window start w x []) h.2.0 (h.2.1 flags) used.4.2 used.4.3 fits (omega arith) (p.each 1 (use_at (start + 4) f Jal20) refl),
         tt,
       ),
     )
 
 -- the rows of an instruction stand in finished code, by the distances from its uses to where they aim
 pub patched_rows : (flags : IsaFlags) (targets : ℕ → ℕ) (start : ℕ) (inst : Inst) (words bytes : List ℕ) → AreRows words (rows_of blank inst) → UsesStand start words (uses_in start inst) → AllBytes bytes → IsPatchedTo targets start (bytes_of_words words) (uses_in start inst) bytes → StandRows flags bytes start (rows_of (distances targets start) inst)
-patched_rows flags targets start (Jal label) words bytes h used fits p = jal_rows flags targets start label words bytes h used fits p
+patched_rows flags targets start (Jal label) words bytes h used fits p = one_use_rows Jal20 decode-patched_jump flags targets start label (jump_row (pos 0)) words bytes h used fits p
 patched_rows flags targets start (CondBr Fallthrough f kind) words bytes h used fits p = tt
-patched_rows flags targets start (CondBr (Label t) Fallthrough kind) words bytes h used fits p = one_way_rows flags targets start t kind words bytes h used fits p
-patched_rows flags targets start (CondBr (Label t) (Label f) kind) words bytes h used fits p = two_way_rows flags targets start t f kind words bytes h used fits p
+patched_rows flags targets start (CondBr (Label t) Fallthrough kind) words bytes h used fits p = one_use_rows B12 decode-patched_branch flags targets start t (compare_row kind (pos 0)) words bytes h used fits p
+patched_rows flags targets start (CondBr (Label t) (Label f) kind) words bytes h used fits p = two_use_rows flags targets start t f (compare_row kind (pos 0)) (jump_row (pos 0)) words bytes h used fits p
 patched_rows flags targets start _ words bytes h used fits p = unused_rows flags targets start words _ bytes h p
