@@ -25,6 +25,7 @@ use Rattle.mach_buffer.specs.Windows.{window}
 use Rattle.rv_emit.specs.Rows.{between, blank, distances, jump_row, rows_of}
 use Rattle.rv_emit.specs.Emitted.{use_at, uses_in, bytes_of_words, AreRows, opcode_of, UsesStand}
 use Rattle.rv_emit.specs.Blocks.{StandRows, IsAimed, IsPatchedTo, word_in}
+use Rattle.rv_emit.proofs.Placed.{AllBytes}
 
 -- ---- words and their bytes
 
@@ -45,10 +46,6 @@ window_word bytes at =
     let third = index_in bytes at 2 (lit< tt) in
     let fourth = index_in bytes at 3 (lit< tt) in
     omega arith
-
--- all are bytes
-abbrev pub AllBytes : List ℕ → Type 0
-AllBytes bytes = (k : ℕ) → k < length bytes → slice_index bytes k < 256
 
 window_fits : (bytes : List ℕ) (at : ℕ) → AllBytes bytes → at + 4 ≤ length bytes → AreBytes (window bytes at 4)
 window_fits bytes at fits h = record { first = byte 0 (lit< tt); second = byte 1 (lit< tt); third = byte 2 (lit< tt); fourth = byte 3 (lit< tt) }

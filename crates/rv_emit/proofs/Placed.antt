@@ -9,8 +9,11 @@ use Rattle.rv_machine.specs.Steps.{fetch}
 use Rattle.rv_emit.specs.Runs.{HasRows}
 use Rattle.rv_emit.specs.Blocks.{StandRows, BytesStand, word_in}
 
--- numbers that stand in the memory are bytes
-pub bytes_fit : (base : ℕ) (bytes : List ℕ) (mem : Memory) → BytesStand base bytes mem → ((a : ℕ) → byte mem a < 256) → (k : ℕ) → k < length bytes → slice_index bytes k < 256
+-- all are bytes
+abbrev pub AllBytes : List ℕ → Type 0
+AllBytes bytes = (k : ℕ) → k < length bytes → slice_index bytes k < 256
+
+pub bytes_fit : (base : ℕ) (bytes : List ℕ) (mem : Memory) → BytesStand base bytes mem → ((a : ℕ) → byte mem a < 256) → AllBytes bytes
 bytes_fit base bytes mem placed fits k h = let e = placed.there k h in let f = fits (base + k) in omega arith
 
 pub word_there : (base : ℕ) (bytes : List ℕ) (mem : Memory) (at : ℕ) → BytesStand base bytes mem → at + 4 ≤ length bytes → fetch mem (base + at) ≡ word_in bytes at
