@@ -1,4 +1,5 @@
 pub mod Blocked
+pub mod Building
 pub mod Ending
 pub mod Jumps
 pub mod Laid
@@ -7,6 +8,7 @@ pub mod Placed
 pub mod Puts
 pub mod Refused
 pub mod Registers
+pub mod Standing
 pub mod Steps
 pub mod Straight
 pub mod Telling

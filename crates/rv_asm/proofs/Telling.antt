@@ -1,73 +1,67 @@
--- Code that is laid out line by line tells of its lines.
-use Rattle.std.proofs.Common.{◌≡◌, ℕ, zero, suc, ◌+◌, ◌<◌, ◌≤◌, List, [], ◌∷◌, length, Some, arith, refl, sym, ap, subst, ◌∙◌}
+-- What stands in the buffer is what the code tells of its lines.
+use Rattle.std.proofs.Common.{◌≡◌, ℕ, zero, suc, ◌<◌, ◌≤◌, inl, inr, ⊎_elim, List, [], ◌∷◌, length, Some, refl, ap, sym, ◌∙◌, arith}
 use Rattle.std.specs.Prelude.{slice_get}
+use Rattle.std.proofs.lemmas.Bool.{cases_lt}
 use Rattle.rv_inst.specs.declared.inst.Line.{Line}
 use Rattle.rv_inst.specs.declared.inst.Line.TheVariants.{Inst as Put, Bind}
+use Rattle.rv_inst.specs.declared.inst.Inst.{Inst}
+use Rattle.rv_inst.specs.declared.inst.Inst.TheVariants.{EmitIsland}
 use Rattle.rv_inst.specs.declared.job.Job.{Job}
 use Rattle.rv_inst.specs.declared.code.Code.{Code}
 use Rattle.rv_inst.specs.declared.code.LineSpan.{LineSpan}
-use Rattle.rv_asm.specs.Rows.{size_of, inst_size}
+use Rattle.mach_buffer.specs.Buffer.{bytes_of}
+use Rattle.rv_emit.specs.Emitted.{Buffer}
 use Rattle.rv_asm.specs.Told.{start_of, end_of, binds_from, Told}
-use Rattle.rv_asm.specs.Blocks.{spans_from, labels_from, end_from, IsLaidOut}
-use Rattle.rv_asm.proofs.Laid.{last_is}
+use Rattle.rv_asm.specs.Built.{end_before, Gap, BlockThere, InstThere, LineThere, Built}
 
-count_is : (index start : ℕ) (lines : List Line) → length (spans_from index start lines) ≡ length lines
-count_is index start [] = refl
-count_is index start (l ∷ lines) = ap suc (count_is (suc index) (start + size_of l) lines)
+gap_forward : (b : Buffer) (from to : ℕ) → Gap b from to → from ≤ to
+gap_forward b from to (inl e) = omega arith
+gap_forward b from to (inr i) = let l = i.longer in omega arith
 
-span_of : ℕ → ℕ → Line → LineSpan
-span_of index start l = record { index = index; start = start; end = start + size_of l }
+block_forward : {inst : Inst} (b : Buffer) (start end : ℕ) → BlockThere inst b start end → start ≤ end
+block_forward b start end t = let e = t.ends in omega arith
 
-index_is : (index start : ℕ) (lines : List Line) (i : ℕ) (span : LineSpan) → slice_get (spans_from index start lines) i ≡ Some span → span.index ≡ index + i
-unfolding span_of
-index_is index start [] i span e = absurd (cc)
-index_is index start (l ∷ lines) zero span e =
-    let first : span_of index start l ≡ span = cc in
-    ap (λ (s : LineSpan). s.index) (sym first) ∙ omega arith
-index_is index start (l ∷ lines) (suc i) span e = index_is (suc index) (start + size_of l) lines i span e ∙ omega arith
+inst_forward : (inst : Inst) (b : Buffer) (start end : ℕ) → InstThere inst b start end → start ≤ end
+inst_forward (EmitIsland space) b start end h = gap_forward b start end h
+inst_forward inst b start end h = block_forward b start end h
 
-forward_is : (index start : ℕ) (lines : List Line) (i : ℕ) → start_of (spans_from index start lines) i ≤ end_of (spans_from index start lines) i
-forward_is index start [] i = omega arith
-forward_is index start (l ∷ lines) zero = omega arith
-forward_is index start (l ∷ lines) (suc i) = forward_is (suc index) (start + size_of l) lines i
+line_forward : (line : Line) (b : Buffer) (start end : ℕ) → LineThere line b start end → start ≤ end
+line_forward (Put inst) b start end h = inst_forward inst b start end h
+line_forward (Bind label) b start end h = let e = h.0 in omega arith
 
-joined_is : (index start : ℕ) (lines : List Line) (i : ℕ) → suc i < length lines → end_of (spans_from index start lines) i ≤ start_of (spans_from index start lines) (suc i)
-joined_is index start [] i lt = absurd (omega arith)
-joined_is index start (l ∷ []) i lt = absurd (omega arith)
-joined_is index start (l ∷ m ∷ lines) zero lt = omega arith
-joined_is index start (l ∷ m ∷ lines) (suc i) lt = joined_is (suc index) (start + size_of l) (m ∷ lines) i (omega arith)
+-- behind the last span
+none_forward : (spans : List LineSpan) (i : ℕ) → length spans ≤ i → start_of spans i ≤ end_of spans i
+none_forward [] i le = omega arith
+none_forward (s ∷ spans) zero le = absurd (omega arith)
+none_forward (s ∷ spans) (suc i) le = none_forward spans i (omega arith)
 
-none_is : (lines : List Line) → length lines ≡ 0 → end_from 0 lines ≡ 0
-none_is [] e = refl
-none_is (l ∷ lines) e = absurd (omega arith)
+-- an element below the length
+record At {X : Type 0} (xs : List X) (i : ℕ) : Type 0 where
+  pub item : X
+  pub there : slice_get xs i ≡ Some item
 
-labels_are : (spans : List LineSpan) (index start : ℕ) (lines : List Line) → ((k : ℕ) → k < length lines → start_of spans (index + k) ≡ start_of (spans_from index start lines) k) → labels_from start lines ≡ binds_from spans index lines
-labels_are spans index start [] h = refl
-labels_are spans index start (Put inst ∷ lines) h =
-    labels_are spans (suc index) (start + inst_size inst) lines (λ k lt. let same : suc index + k ≡ index + suc k = omega arith in ap (start_of spans) same ∙ h (suc k) (omega arith))
-labels_are spans index start (Bind l ∷ lines) h =
-    let here : index ≡ index + 0 = omega arith in
-    let same : start + 0 ≡ start = omega arith in
-    let offset : start ≡ start_of spans index = sym (ap (start_of spans) here ∙ h 0 (omega arith)) in
-    let more = labels_are spans (suc index) (start + 0) lines (λ k lt. let moved : suc index + k ≡ index + suc k = omega arith in ap (start_of spans) moved ∙ h (suc k) (omega arith)) in
-    (λ i. (record { label = l; offset = offset i }) ∷ labels_from (sym same i) lines)
-    ∙ ap (λ ps. (record { label = l; offset = start_of spans index }) ∷ ps) more
+item_at : {X : Type 0} (xs : List X) (i : ℕ) → i < length xs → At xs i
+item_at [] i lt = absurd (omega arith)
+item_at (x ∷ xs) zero lt = record { item = x; there = refl }
+item_at {X} (x ∷ xs) (suc i) lt = on (item_at xs i (omega arith))
+  where
+    on : At xs i → At (x ∷ xs) (suc i)
+    on a = record { item = a.item; there = a.there }
 
-first_is : (lines : List Line) → start_of (spans_from 0 0 lines) 0 ≡ 0
-first_is [] = refl
-first_is (l ∷ lines) = refl
+-- no line ends before it starts
+pub built_forward : {lines : List Line} {spans : List LineSpan} {b : Buffer} → Built lines spans b → (i : ℕ) → start_of spans i ≤ end_of spans i
+built_forward {lines} {spans} {b} k i = let c = k.count in
+    ⊎_elim (λ lt. let a = item_at lines i lt in line_forward a.item b (start_of spans i) (end_of spans i) (k.stand i a.item a.there)) (λ ge. none_forward spans i (omega arith)) (cases_lt i (length lines))
 
-pub laid_told : (job : Job) (code : Code) → IsLaidOut job.flags job.lines code → Told job code
-laid_told job code laid =
-    let lines = job.lines in
-    record {
-      count = ap length laid.spans ∙ count_is 0 0 lines;
-      indices = λ i span e. index_is 0 0 lines i span (ap (λ s. slice_get s i) (sym laid.spans) ∙ e) ∙ omega arith;
-      first = ap (λ s. start_of s 0) laid.spans ∙ first_is lines;
-      forward = λ i. subst (λ s. start_of s i ≤ end_of s i) (sym laid.spans) (forward_is 0 0 lines i);
-      joined = λ i lt. subst (λ s. end_of s i ≤ start_of s (suc i)) (sym laid.spans) (joined_is 0 0 lines i lt);
-      last = λ i e. laid.finish ∙ last_is 0 0 lines i e ∙ ap (λ s. end_of s i) (sym laid.spans);
-      none = λ e. laid.finish ∙ none_is lines e;
-      within = let long = laid.long in let finish = laid.finish in omega arith;
-      labels = laid.labels ∙ labels_are code.lines 0 0 lines (λ k lt. let same : 0 + k ≡ k = omega arith in ap (start_of code.lines) same ∙ ap (λ s. start_of s k) laid.spans);
-    }
+pub built_told : (job : Job) (code : Code) (b : Buffer) → Built job.lines code.lines b → code.labels ≡ binds_from code.lines 0 job.lines → code.end ≡ length (bytes_of b) → length (bytes_of b) ≤ length code.bytes → Told job code
+built_told job code b k labels end within = record {
+  count = k.count;
+  indices = k.indices;
+  first = k.first;
+  forward = built_forward k;
+  joined = λ i lt. gap_forward b (end_of code.lines i) (start_of code.lines (suc i)) (k.gap (suc i) lt);
+  last = λ i e. end ∙ k.ends ∙ ap (end_before code.lines) (sym e);
+  none = λ e. end ∙ k.ends ∙ ap (end_before code.lines) e;
+  within = omega arith;
+  labels = labels;
+}

@@ -1,5 +1,6 @@
 pub mod Blocked
 pub mod Blocks
+pub mod Grows
 pub mod Jumps
 pub mod Lines
 pub mod Patched
