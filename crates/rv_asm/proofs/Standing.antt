@@ -83,18 +83,18 @@ record Emits (inst : Inst) (old new : Buffer) : Type 0 where
   pub windows : HasWindows new
   pub sound : IsSoundBuffer new
 
-put_there : {inst : Inst} {old new : Buffer} → IsSoundBuffer old → HasWindows old → PutsBlock inst old new → BlockThere inst new (length (bytes_of old)) (length (bytes_of new))
-put_there {inst} {old} s w p = record {
+put_there : (inst : Inst) {old new : Buffer} → IsSoundBuffer old → HasWindows old → PutsBlock inst old new → BlockThere inst new (length (bytes_of old)) (length (bytes_of new))
+put_there inst {old} s w p = record {
   words = p.words;
   decode = p.decode;
   used = p.used;
-  block = block_there s p w;
+  block = block_there inst s p w;
   ends = ap (length {A = ℕ}) p.adds.bytes ∙ length-append (bytes_of old) (bytes_of_words p.words);
 }
 
 emits : (inst : Inst) {old new : Buffer} → IsSoundBuffer old → HasWindows old → length (bytes_of old) % 4 ≡ 0 → Emitted inst old new → Emits inst old new
 emits (EmitIsland space) s w a e = let r = room_made s w a e.1 in record { grows = r.grows; there = r.gap; whole = r.whole; windows = r.windows; sound = r.sound }
-emits inst s w a e = record { grows = block_grows s e; there = put_there s w e; whole = block_whole e a; windows = block_has_windows s e w; sound = e.adds.sound }
+emits inst s w a e = record { grows = block_grows inst s e; there = put_there inst s w e; whole = block_whole inst e a; windows = block_has_windows inst s e w; sound = e.adds.sound }
 
 -- ---- a line
 

@@ -103,7 +103,7 @@ recorded_more uses own new e = ap recorded e ∙ map-append core uses own
 pub adds_grow : {block : List ℕ} {own : List (Use LabelUse)} {old new : Buffer} → Adds block own old new → ((k : ℕ) (u : Use LabelUse) → slice_get own k ≡ Some u → length (bytes_of old) ≤ u.offset) → GrowsTo old new
 adds_grow {block} {own} {old} {new} a behind = grows_put block own behind (bytes_of new) (uses_of new) (veneers_of new) (place_of new) a.bytes (recorded_more (uses_of old) own (uses_of new) a.uses) a.veneers (λ label to h. ap (λ (p : ℕ → Option ℕ). p label) a.places ∙ h)
 
-module _ {inst : Inst} {old new : Buffer} where
+module _ (inst : Inst) {old new : Buffer} where
   -- the windows of a block that was put
   pub block_windows : IsSoundBuffer old → (p : PutsBlock inst old new) → OwnWindows marks_of (length (bytes_of old)) (bytes_of_words p.words) (uses_in (length (bytes_of old)) inst)
   block_windows s p = own_windows (length (bytes_of old)) p.words (uses_in (length (bytes_of old)) inst) s.even p.used
@@ -130,8 +130,8 @@ pub words_whole : (words : List ℕ) → length (bytes_of_words words) % 4 ≡ 0
 words_whole [] = refl
 words_whole (w ∷ words) = let h = words_whole words in omega arith
 
-pub block_whole : {inst : Inst} {old new : Buffer} → PutsBlock inst old new → length (bytes_of old) % 4 ≡ 0 → length (bytes_of new) % 4 ≡ 0
-block_whole {inst} {old} {new} p h =
+pub block_whole : (inst : Inst) {old new : Buffer} → PutsBlock inst old new → length (bytes_of old) % 4 ≡ 0 → length (bytes_of new) % 4 ≡ 0
+block_whole inst {old} {new} p h =
     let l : length (bytes_of new) ≡ length (bytes_of old) + length (bytes_of_words p.words) = ap (length {A = ℕ}) p.adds.bytes ∙ length-append (bytes_of old) (bytes_of_words p.words) in
     let w = words_whole p.words in
     omega arith

@@ -80,7 +80,7 @@ jump_round old new round p = record {
 }
 
 -- how far an island reaches
-end_near : (start count last : ℕ) → island_end start count last ≤ start + 8 + 8 * count
+pub end_near : (start count last : ℕ) → island_end start count last ≤ start + 8 + 8 * count
 end_near start count last = on (needs_own start count last)
   where
     on : (c : Bool) → cond c (start + 8) start + 8 * count ≤ start + 8 + 8 * count

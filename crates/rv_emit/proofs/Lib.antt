@@ -1,11 +1,15 @@
 pub mod Blocked
 pub mod Blocks
 pub mod Grows
+pub mod Islanding
+pub mod Islands
 pub mod Jumps
 pub mod Lines
 pub mod Patched
 pub mod Placed
 pub mod Registers
+pub mod Room
 pub mod Steps
 pub mod Straight
 pub mod Usable
+pub mod Words

@@ -5,6 +5,7 @@ ghost use Rattle.rv_base.specs.declared.flags.IsaFlags.{IsaFlags};
 ghost use Rattle.rv_base.specs.Regs.{number_of};
 ghost use Rattle.rv_machine.specs.declared.decode.Decoded.{Decoded};
 ghost use Rattle.rv_machine.specs.Decode.{decode};
+ghost use Rattle.rv_ops.specs.Compare.{branch_word};
 ghost use Rattle.rv_encode.specs.Registers.{IsIntRegister};
 ghost use Rattle.rv_encode.specs.Rows.{compare_row};
 ghost use Rattle.rv_inst.specs.declared.label_use.LabelUse.TheVariants.{Jal20, B12};
@@ -181,7 +182,8 @@ fn put_compare_and_jump(
     ensures refused { OnErr result (spoiled_of sink.new ≡ true) }
 {
     put_compare(sink, kind, taken)?;
-    put_jump(sink, not_taken)
+    put_jump(sink, not_taken)?;
+    Ok(())
 }
 
 /// A branch to a label, where a comparison holds.
@@ -196,9 +198,11 @@ fn put_compare(
     requires room { length (bytes_of sink.old) + 4 < 2147479552 }
     requires sound { IsSoundBuffer sink.old }
     ensures block { OnOk result (PutsWords (compare_row kind (pos 0) ∷ []) (use_at (length (bytes_of sink.old)) label B12 ∷ []) sink.old sink.new) }
+    ensures word { OnOk result (Adds (word_bytes (branch_word kind)) (use_at (length (bytes_of sink.old)) label B12 ∷ []) sink.old sink.new) }
     ensures refused { OnErr result (spoiled_of sink.new ≡ true) }
 {
-    put_use(sink, kind.emit(), label, LabelUse::B12)
+    put_use(sink, kind.emit(), label, LabelUse::B12)?;
+    Ok(())
 }
 
 /// A jump to a label.
@@ -210,7 +214,8 @@ pub(crate) fn put_jump(sink: &mut MachBuffer<LabelUse>, label: MachLabel) -> Res
     ensures word { OnOk result (Adds (word_bytes 0x6f) (use_at (length (bytes_of sink.old)) label Jal20 ∷ []) sink.old sink.new) }
     ensures refused { OnErr result (spoiled_of sink.new ≡ true) }
 {
-    put_use(sink, 0x6f, label, LabelUse::Jal20)
+    put_use(sink, 0x6f, label, LabelUse::Jal20)?;
+    Ok(())
 }
 
 /// Puts a word whose distance to a label is still to come, and the use of that label.
@@ -238,5 +243,6 @@ fn put_word(sink: &mut MachBuffer<LabelUse>, word: u32) -> Result<(), OutOfMemor
     ensures block { OnOk result ((d : Decoded) → ((flags : IsaFlags) → decode flags word ≡ Some d) → PutsWords (d ∷ []) [] sink.old sink.new) }
     ensures refused { OnErr result (spoiled_of sink.new ≡ true) }
 {
-    sink.put4(word)
+    sink.put4(word)?;
+    Ok(())
 }

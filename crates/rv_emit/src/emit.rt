@@ -77,7 +77,10 @@ fn put(sink: &mut MachBuffer<LabelUse>, inst: &Inst) -> Result<(), OutOfMemory>
             make_room(sink, space)?;
             Ok(())
         }
-        None => put_block(sink, inst),
+        None => {
+            put_block(sink, inst)?;
+            Ok(())
+        }
     }
 }
 

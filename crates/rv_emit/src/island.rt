@@ -37,5 +37,6 @@ fn put_island(sink: &mut MachBuffer<LabelUse>) -> Result<(), OutOfMemory>
 {
     let round = sink.get_label()?;
     put_jump(sink, round)?;
-    sink.emit_island(round)
+    sink.emit_island(round)?;
+    Ok(())
 }

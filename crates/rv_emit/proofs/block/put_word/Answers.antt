@@ -1,19 +1,15 @@
-use Rattle.std.proofs.Common.{rules, ◌≡◌, [], ◌∷◌, ◌+◌, ◌<◌, ◌^◌, length, OnOk, OnErr, None, Some, true, pos, ℕ, ◌-◌, ◌*◌, ◌≤◌, ◌/◌, ◌%◌, Bool, false, nat_eq, nat_lt, List, ◌++◌, slice_index_or, slice_set, bit_and, bit_or, Fits, w8, w32, w64, Bor, MutBor}
-use Rattle.rv_base.specs.declared.flags.IsaFlags.{IsaFlags}
-use Rattle.rv_base.specs.Regs.{number_of}
-use Rattle.rv_machine.specs.declared.decode.Decoded.{Decoded}
-use Rattle.rv_machine.specs.Decode.{decode}
-use Rattle.rv_encode.specs.Registers.{IsIntRegister}
-use Rattle.rv_encode.specs.Rows.{compare_row}
-use Rattle.rv_inst.specs.declared.label_use.LabelUse.TheVariants.{Jal20, B12}
-use Rattle.rv_inst.specs.LabelUseWords.{word_bytes}
-use Rattle.rv_inst.specs.Rules.{inst_rule}
-use Rattle.mach_buffer.specs.Buffer.{bytes_of, drawn_of, spoiled_of, IsKnown}
-use Rattle.rv_emit.specs.Usable.{IsFinePlain, IsFineBranch, IsFineControl}
-use Rattle.rv_emit.specs.Emitted.{IsSoundBuffer, Adds, PutsWords, PutsBlock, use_at, branch_uses, control_uses}
-use Rattle.rv_emit.specs.Rows.{marks_rows, plain_rows, move_rows, control_rows, branch_rows, jump_row, blank}
+use Rattle.std.proofs.Common.{arith, ap, sym, ◌∙◌, ◌++◌, [], append-nil}
+use Rattle.mach_buffer.specs.Buffer.{bytes_of, uses_of}
+use Rattle.rv_emit.proofs.Words.{bytes_of_word, puts_word}
 use Rattle.rv_emit.proofs.block.put_word.Goals as goal
 
--- src/block.rt:235:1
 pub returns-clause-block : goal.returns-clause-block
-returns-clause-block c = ?
+returns-clause-block c = λ d decodes. puts_word _ _ c.args.word d (omega arith) decodes (record {
+  bytes = c.in_ok-put4.ensures.bytes ∙ ap (λ b. bytes_of c.args.sink.now ++ b) (bytes_of_word c.args.word (omega arith));
+  uses = c.in_ok-put4.ensures.uses ∙ sym (append-nil (uses_of c.args.sink.now));
+  veneers = c.in_ok-put4.ensures.veneers;
+  places = c.in_ok-put4.ensures.places;
+  labels = c.in_ok-put4.ensures.labels;
+  drawn = c.in_ok-put4.ensures.drawn;
+  sound = c.in_ok-put4.ensures.sound;
+})

@@ -1,13 +1,24 @@
-use Rattle.std.proofs.Common.{rules, ◌≡◌, ◌+◌, ◌*◌, ◌<◌, ◌^◌, length, IfOk, OnOk, OnErr, true, ℕ, ◌-◌, ◌≤◌, ◌/◌, ◌%◌, Bool, false, nat_eq, nat_lt, List, [], ◌∷◌, ◌++◌, slice_index_or, slice_set, bit_and, bit_or, Fits, w8, w32, w64, Bor, MutBor}
-use Rattle.mach_buffer.specs.Reach.{CanReach}
-use Rattle.mach_buffer.specs.Buffer.{bytes_of, drawn_of, spoiled_of}
-use Rattle.rv_emit.specs.Emitted.{IsSoundBuffer, pending, PutsIsland, MakesRoom}
+use Rattle.std.proofs.Common.{subst, sym, List, ℕ}
+use Rattle.rv_inst.specs.declared.label_use.LabelUse.{LabelUse}
+use Rattle.rv_inst.specs.LabelUse.{marks_of}
+use Rattle.mach_buffer.specs.declared.uses.Use.{Use}
+use Rattle.mach_buffer.specs.declared.uses.VeneerUse.{VeneerUse}
+use Rattle.mach_buffer.specs.Buffer.{bytes_of, uses_of, veneers_of}
+use Rattle.mach_buffer.specs.Islands.{AreWindows}
+use Rattle.rv_emit.proofs.Islands.{can_island}
+use Rattle.rv_emit.proofs.Islanding.{jump_put, puts_island, same_windows}
 use Rattle.rv_emit.proofs.island.put_island.Goals as goal
 
--- src/island.rt:40:5
 pub emit_island-requires : goal.emit_island-requires
-emit_island-requires c = ?
+emit_island-requires c =
+    can_island c.args.sink.now c.put_jump.new.sink c.in_ok-round.round
+    (jump_put c.args.sink.now c.get_label.new.self c.put_jump.new.sink c.in_ok-round.round c.requires.sound c.in_ok-round.ensures.number c.in_ok-round.ensures.drawn c.in_ok-round.ensures.bytes c.in_ok-round.ensures.uses c.in_ok-round.ensures.places c.in_ok-put_jump.ensures.word)
+    c.requires.reach c.requires.room
 
--- src/island.rt:30:1
 pub returns-clause-island : goal.returns-clause-island
-returns-clause-island c = ?
+returns-clause-island c =
+    puts_island c.args.sink.now c.get_label.new.self c.put_jump.new.sink c.emit_island.new.self c.in_ok-round.round
+    (jump_put c.args.sink.now c.get_label.new.self c.put_jump.new.sink c.in_ok-round.round c.requires.sound c.in_ok-round.ensures.number c.in_ok-round.ensures.drawn c.in_ok-round.ensures.bytes c.in_ok-round.ensures.uses c.in_ok-round.ensures.places c.in_ok-put_jump.ensures.word)
+    c.in_ok-round.ensures.veneers c.in_ok-round.ensures.labels c.in_ok-round.ensures.sound
+    (same_windows c.args.sink.now c.get_label.new.self c.in_ok-round.ensures.bytes c.in_ok-round.ensures.uses c.in_ok-round.ensures.veneers)
+    c.in_ok-put_jump.ensures.word c.in_ok-emit_island.ensures.island c.in_ok-emit_island.ensures.grown c.in_ok-emit_island.ensures.windows c.in_ok-emit_island.ensures.labels c.in_ok-emit_island.ensures.drawn c.in_ok-emit_island.ensures.sound

@@ -1,0 +1,160 @@
+-- The words that an instruction puts, with no distance in them yet.
+use Rattle.std.proofs.Common.{◌≡◌, ℕ, ◌+◌, ◌*◌, ◌/◌, ◌%◌, ◌^◌, ◌<◌, ◌≤◌, List, [], ◌∷◌, ◌++◌, length, pos, Some, refl, ap, sym, ◌∙◌, subst, arith, bit_and, append_assoc, lit<}
+use Rattle.std.specs.Int.{to_le_bytes, w32}
+use Rattle.std.proofs.lemmas.List.{length-append}
+use Rattle.std.proofs.lemmas.Int.{ints}
+use Rattle.std.proofs.lemmas.Nat.{and_mask, and_comm}
+use Rattle.std.proofs.lemmas.Nat.Bits.{and_high}
+use Rattle.rv_base.specs.declared.flags.IsaFlags.{IsaFlags}
+use Rattle.rv_base.specs.declared.label.MachLabel.{MachLabel}
+use Rattle.rv_base.specs.declared.regs.Reg.{Reg}
+use Rattle.rv_base.specs.declared.regs.Reg.TheVariants.{Real, Virtual}
+use Rattle.rv_base.specs.declared.condcodes.IntCC.{IntCC}
+use Rattle.rv_base.specs.LabelUse.{IsFresh}
+use Rattle.rv_base.specs.Regs.{number_of}
+use Rattle.rv_machine.specs.declared.decode.Decoded.{Decoded}
+use Rattle.rv_machine.specs.declared.fields.Fields.{Fields}
+use Rattle.rv_machine.specs.Decode.{decode}
+use Rattle.rv_machine.specs.Layout.{fields_of}
+use Rattle.rv_ops.specs.declared.compare.IntegerCompare.{IntegerCompare}
+use Rattle.rv_ops.specs.declared.compare.BranchFunct3.{BranchFunct3}
+use Rattle.rv_ops.specs.declared.compare.BranchFunct3.TheVariants as branch
+use Rattle.rv_ops.specs.Compare.{branch_of, funct3_of, rs1_of, rs2_of, branch_word}
+use Rattle.rv_encode.specs.Registers.{IsIntRegister}
+use Rattle.rv_encode.specs.Layouts.{b_fields}
+use Rattle.rv_encode.specs.Rows.{compare_row}
+use Rattle.rv_encode.proofs.Decoding.{branch_decodes}
+use Rattle.rv_inst.specs.declared.label_use.LabelUse.{LabelUse}
+use Rattle.rv_inst.specs.declared.label_use.LabelUse.TheVariants.{Jal20, B12}
+use Rattle.rv_inst.specs.LabelUse.{marks_of}
+use Rattle.rv_inst.specs.LabelUseWords.{word_bytes}
+use Rattle.mach_buffer.specs.declared.uses.Use.{Use}
+use Rattle.mach_buffer.specs.Buffer.{bytes_of, uses_of}
+use Rattle.rv_emit.specs.Rows.{jump_row}
+use Rattle.rv_emit.specs.Emitted.{Buffer, Adds, AreRows, UsesStand, PutsWords, bytes_of_words, use_at}
+
+-- a word's bytes, the least first
+pub bytes_of_word : (w : ℕ) → w < 2 ^ 32 → to_le_bytes w32 w ≡ word_bytes w
+bytes_of_word w h = let e : w / 16777216 % 256 ≡ w / 16777216 = omega arith in ap (λ (b : ℕ). w % 256 ∷ w / 256 % 256 ∷ w / 65536 % 256 ∷ b ∷ []) e
+
+-- ---- one word
+
+pub puts_word : (old new : Buffer) (w : ℕ) (d : Decoded) → w < 2 ^ 32 → ((flags : IsaFlags) → decode flags w ≡ Some d) → Adds (word_bytes w) [] old new → PutsWords (d ∷ []) [] old new
+puts_word old new w d fits decodes a = record { words = w ∷ []; adds = a; decode = (fits, decodes, tt); used = tt }
+
+-- the jump with no distance
+pub jump_decodes : (flags : IsaFlags) → decode flags 0x6f ≡ Some (jump_row (pos 0))
+unfolding decode
+jump_decodes flags = refl
+
+pub puts_jump : (old new : Buffer) (label : MachLabel) → Adds (word_bytes 0x6f) (use_at (length (bytes_of old)) label Jal20 ∷ []) old new → PutsWords (jump_row (pos 0) ∷ []) (use_at (length (bytes_of old)) label Jal20 ∷ []) old new
+puts_jump old new label a = record {
+  words = 0x6f ∷ [];
+  adds = a;
+  decode = (lit< tt, jump_decodes, tt);
+  used = (refl, (refl, (refl, (refl, (refl, tt)))), refl, refl, tt);
+}
+
+-- ---- branches
+
+-- a branch's word by its fields
+branch_is : (w f r1 r2 : ℕ) → f < 8 → r1 < 32 → r2 < 32 → w ≡ 0x63 + f * 2 ^ 12 + r1 * 2 ^ 15 + r2 * 2 ^ 20 → fields_of w ≡ b_fields 0x63 f r1 r2 0
+branch_is w f r1 r2 hf h1 h2 e = (λ i. record { opcode = opcode i; rd = rd i; funct3 = funct3 i; rs1 = rs1 i; rs2 = rs2 i; funct7 = funct7 i })
+  where
+    opcode : (fields_of w).opcode ≡ 0x63
+    opcode = omega arith
+    rd : (fields_of w).rd ≡ 0
+    rd = omega arith
+    funct3 : (fields_of w).funct3 ≡ f
+    funct3 = omega arith
+    rs1 : (fields_of w).rs1 ≡ r1
+    rs1 = omega arith
+    rs2 : (fields_of w).rs2 ≡ r2
+    rs2 = omega arith
+    funct7 : (fields_of w).funct7 ≡ 0
+    funct7 = omega arith
+
+-- a word with nothing at 7, 11:8 and 31:25 is fresh
+no_bits : (x k n : ℕ) → bit_and x 0 ≡ 0
+no_bits x k n = and_comm x 0
+
+branch_fresh : (w : ℕ) → w % 4096 ≡ 0x63 → w < 33554432 → IsFresh (marks_of B12) (word_bytes w)
+branch_fresh w low high = (top, (second, (no_bits _ 0 0, (fourth, tt))))
+  where
+    top : bit_and (w % 256) 0x80 ≡ 0
+    top = let f : bit_and (w % 256) 128 ≡ (w % 256 / 128 % 2) * 128 = and_high (w % 256) 1 7 in omega (arith, f)
+    second : bit_and (w / 256 % 256) 0x0f ≡ 0
+    second = let f : bit_and (w / 256 % 256) 15 ≡ w / 256 % 256 % 16 = and_mask (w / 256 % 256) 4 in omega (arith, f)
+    fourth : bit_and (w / 16777216) 0xfe ≡ 0
+    fourth = let f : bit_and (w / 16777216) 254 ≡ (w / 16777216 / 2 % 128) * 2 = and_high (w / 16777216) 7 1 in omega (arith, f)
+
+-- a branch's funct3 has three bits
+funct3_small : (b : BranchFunct3) → funct3_of b < 8
+funct3_small branch.Eq = lit< tt
+funct3_small branch.Ne = lit< tt
+funct3_small branch.Lt = lit< tt
+funct3_small branch.Ge = lit< tt
+funct3_small branch.Ltu = lit< tt
+funct3_small branch.Geu = lit< tt
+
+number_small : (r : Reg) → number_of r < 32
+number_small (Real p) = p.in_file
+number_small (Virtual v) = lit< tt
+
+-- what the word of a branch is
+pub record IsBranch (w : ℕ) (kind : IntegerCompare) : Type 0 where
+  pub fits : w < 2 ^ 32
+  pub decodes : (flags : IsaFlags) → decode flags w ≡ Some (compare_row kind (pos 0))
+  pub fresh : IsFresh (marks_of B12) (word_bytes w)
+  pub opcode : (fields_of w).opcode ≡ 0x63
+
+is_branch : (kind : IntegerCompare) (w f r1 r2 : ℕ) → f < 8 → r1 < 32 → r2 < 32 → w ≡ 0x63 + f * 2 ^ 12 + r1 * 2 ^ 15 + r2 * 2 ^ 20 → f ≡ funct3_of (branch_of kind.kind) → r1 ≡ number_of (rs1_of kind) → r2 ≡ number_of (rs2_of kind) → IsBranch w kind
+is_branch kind w f r1 r2 hf h1 h2 e ef e1 e2 = record {
+  fits = omega arith;
+  decodes = λ flags. branch_decodes flags w kind (pos 0) (omega (arith, ints)) (omega (arith, ints)) refl (branch_is w f r1 r2 hf h1 h2 e ∙ (λ i. b_fields 0x63 (ef i) (e1 i) (e2 i) 0));
+  fresh = branch_fresh w (omega arith) (omega arith);
+  opcode = omega arith;
+}
+
+pub branch_word_is : (kind : IntegerCompare) (w : ℕ) → w ≡ branch_word kind → IsBranch w kind
+branch_word_is kind w e =
+    is_branch kind w (funct3_of (branch_of kind.kind)) (number_of (rs1_of kind)) (number_of (rs2_of kind)) (funct3_small (branch_of kind.kind)) (number_small (rs1_of kind)) (number_small (rs2_of kind)) e refl refl refl
+
+pub puts_compare : (old new : Buffer) (kind : IntegerCompare) (w : ℕ) (label : MachLabel) → IsBranch w kind → Adds (word_bytes w) (use_at (length (bytes_of old)) label B12 ∷ []) old new → PutsWords (compare_row kind (pos 0) ∷ []) (use_at (length (bytes_of old)) label B12 ∷ []) old new
+puts_compare old new kind w label b a = record {
+  words = w ∷ [];
+  adds = a;
+  decode = (b.fits, b.decodes, tt);
+  used = (refl, b.fresh, b.opcode, refl, tt);
+}
+
+-- ---- two words
+
+-- one addition after another
+pub adds_more : (b1 b2 : List ℕ) (u1 u2 : List (Use LabelUse)) (old mid new : Buffer) → Adds b1 u1 old mid → Adds b2 u2 mid new → Adds (b1 ++ b2) (u1 ++ u2) old new
+adds_more b1 b2 u1 u2 old mid new a b = record {
+  bytes = b.bytes ∙ ap (λ bs. bs ++ b2) a.bytes ∙ append_assoc (bytes_of old) b1 b2;
+  uses = b.uses ∙ ap (λ us. us ++ u2) a.uses ∙ append_assoc (uses_of old) u1 u2;
+  veneers = b.veneers ∙ a.veneers;
+  places = b.places ∙ a.places;
+  labels = b.labels ∙ a.labels;
+  drawn = b.drawn ∙ a.drawn;
+  sound = b.sound;
+}
+
+-- four bytes longer
+pub four_longer : (old new : Buffer) (w : ℕ) (own : List (Use LabelUse)) → Adds (word_bytes w) own old new → length (bytes_of new) ≡ length (bytes_of old) + 4
+four_longer old new w own a = ap (length {A = ℕ}) a.bytes ∙ length-append (bytes_of old) (word_bytes w)
+
+-- a branch, and a jump behind it
+pub puts_both : (old mid new : Buffer) (kind : IntegerCompare) (w : ℕ) (t f : MachLabel) → IsBranch w kind → Adds (word_bytes w) (use_at (length (bytes_of old)) t B12 ∷ []) old mid → Adds (word_bytes 0x6f) (use_at (length (bytes_of mid)) f Jal20 ∷ []) mid new →
+    PutsWords (compare_row kind (pos 0) ∷ jump_row (pos 0) ∷ []) (use_at (length (bytes_of old)) t B12 ∷ use_at (length (bytes_of old) + 4) f Jal20 ∷ []) old new
+puts_both old mid new kind w t f b a c =
+    let there = four_longer old mid w (use_at (length (bytes_of old)) t B12 ∷ []) a in
+    let moved : Adds (word_bytes 0x6f) (use_at (length (bytes_of old) + 4) f Jal20 ∷ []) mid new = subst (λ (n : ℕ). Adds (word_bytes 0x6f) (use_at n f Jal20 ∷ []) mid new) there c in
+    record {
+      words = w ∷ 0x6f ∷ [];
+      adds = adds_more (word_bytes w) (word_bytes 0x6f) (use_at (length (bytes_of old)) t B12 ∷ []) (use_at (length (bytes_of old) + 4) f Jal20 ∷ []) old mid new a moved;
+      decode = (b.fits, b.decodes, (lit< tt, jump_decodes, tt));
+      used = (refl, b.fresh, b.opcode, refl, (refl, (refl, (refl, (refl, (refl, tt)))), refl, refl, tt));
+    }

@@ -1,0 +1,11 @@
+use Rattle.rv_emit.proofs.Room.{reach_calm, reach_after, reach_after_island}
+use Rattle.rv_emit.proofs.emit.put.Goals as goal
+
+pub make_room-requires-clause-reach : goal.make_room-requires-clause-reach
+make_room-requires-clause-reach c = reach_calm c.args.sink.now c.requires.calm
+
+pub returns-in_ok-make_room-in-Some-clause-reach : goal.returns-in_ok-make_room-in-Some-clause-reach
+returns-in_ok-make_room-in-Some-clause-reach c = reach_after_island _ c.args.sink.now c.make_room.new.sink _ c.in_ok-make_room-in-Some.ensures.made (reach_calm c.args.sink.now c.requires.calm)
+
+pub returns-in_ok-put_block-in-None-clause-reach : goal.returns-in_ok-put_block-in-None-clause-reach
+returns-in_ok-put_block-in-None-clause-reach c = reach_after c.args.inst.now c.args.sink.now c.put_block.new.sink c.requires c.in_ok-put_block-in-None.ensures.block
