@@ -10,13 +10,14 @@ use Rattle.rv_inst.specs.declared.code.Code.{Code}
 use Rattle.rv_inst.specs.Meaning.{Exit, Next, To, Leave, Break, exit_of, effect_of}
 use Rattle.rv_machine.specs.State.{State, IsState, Values, AreValues, wrap}
 use Rattle.rv_asm.specs.Told.{start_of, end_of}
-use Rattle.rv_asm.specs.Simulation.{Same, At, End, Addresses, place_of, point_of, address_of, standing_of, IsPlaced, IsStopped, Comes, RunsAsListed}
+use Rattle.rv_asm.specs.Simulation.{At, End, Addresses, place_of, point_of, address_of, standing_of, IsPlaced, IsStopped, Comes, RunsAsListed}
 use Rattle.rv_machine.specs.Decode.{decode}
 use Rattle.rv_machine.specs.Steps.{fetch}
-use Rattle.rv_asm.specs.Rows.{ebreak_row}
-use Rattle.rv_asm.specs.Blocks.{StandRows, Ends, exit_address}
-use Rattle.rv_asm.proofs.Placed.{word_there}
-use Rattle.rv_asm.proofs.Blocked.{ends_both}
+use Rattle.rv_emit.specs.Rows.{ebreak_row}
+use Rattle.rv_emit.specs.Runs.{Same, Ends, exit_address}
+use Rattle.rv_emit.specs.Blocks.{StandRows}
+use Rattle.rv_emit.proofs.Blocked.{ends_both}
+use Rattle.rv_asm.proofs.Placed.{bytes_stand, word_there}
 
 -- under the whole code, placed, the machine comes from an offset to an address, with an effect
 pub record Leads (flags : IsaFlags) (code : Code) (start : ℕ) (address : ℕ → Values → ℕ) (effect : ℕ → Values → Values) : Type 0 where
@@ -72,7 +73,7 @@ stops job code base symbols slots i line v Break t threaded e is placed pc =
     let room = placed.room in
     let long = stand.0 in
     let here : t.pc ≡ base + start = pc ∙ omega arith in
-    ap (λ a. decode job.flags (fetch t.values.mem a)) here ∙ ap (decode job.flags) (word_there code base symbols slots t.values.mem start placed stand.0) ∙ stand.1
+    ap (λ a. decode job.flags (fetch t.values.mem a)) here ∙ ap (decode job.flags) (word_there code.bytes base t.values.mem start (bytes_stand code base symbols slots t.values.mem placed) stand.0) ∙ stand.1
 
 comes : (job : Job) (code : Code) (base : ℕ) (symbols slots : Addresses) (i : ℕ) (line : Line) (s : State) (v : Values) → IsThreaded job code → i < length job.lines → slice_get job.lines i ≡ Some line → IsPlaced code base symbols slots s.values.mem → IsState s → AreValues v → s.pc ≡ address_of code base (At i) → Same v s.values → Comes job code base (At i) v s
 comes job code base symbols slots i line s v t lt e placed is_state are_values pc same =
