@@ -19,7 +19,7 @@ use Rattle.rv_base.specs.declared.regs.Reg.{Reg}
 use Rattle.rv_base.specs.declared.regs.Reg.TheVariants.{Real}
 use Rattle.rv_inst.specs.declared.code.Code.{Code}
 use Rattle.rv_inst.specs.declared.code.LineSpan.{LineSpan}
-use Rattle.rv_inst.specs.declared.code.LabelPlace.{LabelPlace}
+use Rattle.mach_buffer.specs.declared.uses.LabelPlace.{LabelPlace}
 use Rattle.rv_inst.specs.Meaning.{Standing, Exit, Next, To, Leave, Break, exit_of, effect_of}
 use Rattle.rv_machine.specs.declared.decode.Decoded.{Decoded}
 use Rattle.rv_machine.specs.Decode.{decode}

@@ -5,7 +5,7 @@ use Rattle.rv_inst.specs.declared.inst.Line.TheVariants.{Inst as Put, Bind}
 use Rattle.rv_inst.specs.declared.job.Job.{Job}
 use Rattle.rv_inst.specs.declared.code.Code.{Code}
 use Rattle.rv_inst.specs.declared.code.LineSpan.{LineSpan}
-use Rattle.rv_inst.specs.declared.code.LabelPlace.{LabelPlace}
+use Rattle.mach_buffer.specs.declared.uses.LabelPlace.{LabelPlace}
 
 abbrev pub start_of : List LineSpan → ℕ → ℕ
 start_of spans i = unwrap_or (option_map (λ (s : LineSpan). s.start) (slice_get spans i)) 0

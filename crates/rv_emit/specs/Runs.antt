@@ -1,8 +1,10 @@
 -- What it is for the rows of an instruction to run as the instruction means.
 use Rattle.std.specs.Prelude.{◌≡◌, ℕ, ◌+◌, ◌*◌, ◌%◌, ◌^◌, ◌<◌, ◌≤◌, if◌then◌else◌, List, [], ◌∷◌, length, Some}
 use Rattle.rv_base.specs.declared.flags.IsaFlags.{IsaFlags}
+use Rattle.rv_base.specs.declared.regs.Reg.{Reg}
 use Rattle.rv_base.specs.Regs.{number_of}
 use Rattle.rv_base.specs.CondCodes.{holds}
+use Rattle.rv_encode.specs.Registers.{IsIntRegister}
 use Rattle.rv_inst.specs.declared.inst.Inst.{Inst}
 use Rattle.rv_inst.specs.declared.inst.Inst.TheVariants.{Jal, CondBr}
 use Rattle.rv_inst.specs.declared.inst.CondBrTarget.{CondBrTarget}
@@ -36,6 +38,10 @@ pub record Begins (flags : IsaFlags) (base start after : ℕ) (rows : List Decod
   pub is_state : IsState s
   pub are_values : AreValues v
   pub same : Same v s.values
+
+-- an integer register below x30
+abbrev pub IsUsable : Reg → Type 0
+IsUsable r = IsIntRegister r × (number_of r < 30)
 
 -- in some steps the machine comes to an address with values that are the same as these
 pub record Ends (flags : IsaFlags) (address : ℕ) (v : Values) (s : State) : Type 0 where

@@ -1,6 +1,6 @@
 -- The families of instructions.
 use Rattle.rv_inst.specs.declared.inst.Inst.{Inst}
-use Rattle.rv_inst.specs.declared.inst.Inst.TheVariants.{Nop0, Nop4, EBreak, SequencePoint, Args, Rets, DummyUse, Lui, Auipc, AluRRR, AluRRImm12, Mov, MovFromPReg, Ret, Jal, CondBr, Jalr}
+use Rattle.rv_inst.specs.declared.inst.Inst.TheVariants.{Nop0, Nop4, EBreak, SequencePoint, Args, Rets, DummyUse, EmitIsland, Lui, Auipc, AluRRR, AluRRImm12, Mov, MovFromPReg, Ret, Jal, CondBr, Jalr}
 use Rattle.rv_inst.specs.declared.inst.Family.{Family}
 use Rattle.rv_inst.specs.declared.inst.Family.TheVariants.{Marks, Plain, Control}
 
@@ -12,6 +12,7 @@ family_of SequencePoint = Marks
 family_of (Args args) = Marks
 family_of (Rets rets) = Marks
 family_of (DummyUse reg) = Marks
+family_of (EmitIsland needed_space) = Marks
 family_of (Lui rd imm) = Plain
 family_of (Auipc rd imm) = Plain
 family_of (AluRRR op rd rs1 rs2) = Plain

@@ -2,7 +2,7 @@
 
 ghost use Rattle.std.specs.Prelude.{length, ◌<◌, ◌^◌};
 
-use rv_base::label::MachLabel;
+pub use mach_buffer::uses::LabelPlace;
 use rv_base::list::List;
 
 /// Where the bytes of a line begin and end.
@@ -11,13 +11,6 @@ pub struct LineSpan {
     pub index: usize,
     pub start: u32,
     pub end: u32,
-}
-
-/// Where a label stands.
-#[derive(Clone, Copy, Debug, PartialEq, Eq)]
-pub struct LabelPlace {
-    pub label: MachLabel,
-    pub offset: u32,
 }
 
 /// Machine code, with a span for each line, a place for each label, and where the last line ends.

@@ -41,6 +41,10 @@ pub enum Inst {
     DummyUse {
         reg: Reg,
     },
+    /// An island stands here, where one is needed before so many bytes.
+    EmitIsland {
+        needed_space: u32,
+    },
     Lui {
         rd: WritableReg,
         imm: Imm20,
@@ -111,7 +115,8 @@ impl Inst {
             | Inst::SequencePoint
             | Inst::Args { args: _ }
             | Inst::Rets { rets: _ }
-            | Inst::DummyUse { reg: _ } => Family::Marks,
+            | Inst::DummyUse { reg: _ }
+            | Inst::EmitIsland { needed_space: _ } => Family::Marks,
             Inst::Lui { .. }
             | Inst::Auipc { .. }
             | Inst::AluRRR { .. }

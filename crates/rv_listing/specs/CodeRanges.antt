@@ -2,7 +2,7 @@
 use Rattle.std.specs.Prelude.{◌<◌, ◌^◌}
 use Rattle.std.specs.List.{AllByRecursion}
 use Rattle.rv_inst.specs.declared.code.LineSpan.{LineSpan}
-use Rattle.rv_inst.specs.declared.code.LabelPlace.{LabelPlace}
+use Rattle.mach_buffer.specs.declared.uses.LabelPlace.{LabelPlace}
 use Rattle.rv_inst.specs.declared.code.Code.{Code}
 
 pub record SpanFits (l : LineSpan) : Type 0 where

@@ -1,0 +1,78 @@
+-- A block runs as its instruction means, once its uses are patched.
+use Rattle.std.proofs.Common.{◌≡◌, ℕ, ◌+◌, ◌*◌, ◌%◌, Bool, true, false, List, [], ◌∷◌, length, None, ℤ, arith, refl}
+use Rattle.std.specs.Prelude.{if◌then◌else◌}
+use Rattle.rv_base.specs.declared.flags.IsaFlags.{IsaFlags}
+use Rattle.rv_base.specs.Regs.{number_of}
+use Rattle.rv_base.specs.CondCodes.{holds}
+use Rattle.rv_machine.specs.declared.decode.Decoded.{Decoded}
+use Rattle.rv_machine.specs.State.{State, IsState, Values, AreValues, reg, wrap}
+use Rattle.rv_inst.specs.declared.inst.Inst.{Inst}
+use Rattle.rv_inst.specs.declared.inst.Inst.TheVariants.{EBreak, CondBr}
+use Rattle.rv_inst.specs.declared.inst.CondBrTarget.{CondBrTarget}
+use Rattle.rv_inst.specs.declared.inst.CondBrTarget.TheVariants.{Label, Fallthrough}
+use Rattle.rv_inst.specs.Meaning.{Break}
+use Rattle.rv_inst.specs.Rules.{inst_rule}
+use Rattle.rv_emit.specs.Rows.{blank, distances, ebreak_row, rows_of}
+use Rattle.rv_emit.specs.Runs.{Same, Begins, used_target, used_exit}
+use Rattle.rv_emit.specs.Emitted.{uses_in, bytes_of_words, AreRows, UsesStand}
+use Rattle.rv_emit.specs.Blocks.{StandRows, IsPatchedTo, BytesStand, BlockRuns}
+use Rattle.rv_emit.proofs.Lines.{inst_runs}
+use Rattle.rv_emit.proofs.Placed.{bytes_fit, rows_there}
+use Rattle.rv_emit.proofs.Patched.{patched_rows, unused_rows}
+
+-- ---- lengths
+
+four_each : (words : List ℕ) (rows : List Decoded) → AreRows words rows → length (bytes_of_words words) ≡ 4 * length rows
+four_each [] [] h = refl
+four_each [] (d ∷ rows) h = absurd h
+four_each (w ∷ words) [] h = absurd h
+four_each (w ∷ words) (d ∷ rows) h = let e = four_each words rows h.2 in omega arith
+
+-- how many rows an instruction has does not depend on distances
+same_count : (distance other : ℕ → ℤ) (inst : Inst) → length (rows_of distance inst) ≡ length (rows_of other inst)
+same_count distance other (CondBr Fallthrough f kind) = refl
+same_count distance other (CondBr (Label t) Fallthrough kind) = refl
+same_count distance other (CondBr (Label t) (Label f) kind) = refl
+same_count distance other _ = refl
+
+-- ---- breaks
+
+never : (k : ℕ) (t : CondBrTarget) → used_target k t ≡ Break → ⊥
+never k (Label l) e = absurd (cc)
+never k Fallthrough e = absurd (cc)
+
+never_either : (c : Bool) (t f : CondBrTarget) → (if c then used_target 0 t else used_target 1 f) ≡ Break → ⊥
+never_either true t f e = never 0 t e
+never_either false t f e = never 1 f e
+
+halts : (flags : IsaFlags) (targets : ℕ → ℕ) (start : ℕ) (inst : Inst) (words bytes : List ℕ) (v : Values) → AreRows words (rows_of blank inst) → IsPatchedTo targets start (bytes_of_words words) (uses_in start inst) bytes → used_exit inst v ≡ Break → StandRows flags bytes start (ebreak_row ∷ [])
+halts flags targets start EBreak words bytes v h p e = unused_rows flags targets start words (ebreak_row ∷ []) bytes h p
+halts flags targets start (CondBr t f kind) words bytes v h p e = absurd (never_either (holds kind.kind (reg v (number_of kind.rs1)) (reg v (number_of kind.rs2))) t f e)
+halts flags targets start _ words bytes v h p e = absurd (cc)
+
+-- ---- the block
+
+-- the machine stands before the block's rows
+block_begins : (flags : IsaFlags) (targets : ℕ → ℕ) (start : ℕ) (inst : Inst) (words bytes : List ℕ) (base : ℕ) (s : State) (v : Values) → start % 4 ≡ 0 → AreRows words (rows_of blank inst) → UsesStand start words (uses_in start inst) → IsPatchedTo targets start (bytes_of_words words) (uses_in start inst) bytes →
+    BytesStand base bytes s.values.mem → s.pc ≡ wrap (base + start) → IsState s → AreValues v → Same v s.values → Begins flags base start (start + length (bytes_of_words words)) (rows_of (distances targets start) inst) s v
+block_begins flags targets start inst words bytes base s v aligned h used p placed here state values same =
+    let long = four_each words (rows_of blank inst) h in
+    let count = same_count (distances targets start) blank inst in
+    record {
+      base_aligned = placed.aligned;
+      start_aligned = aligned;
+      long = omega arith;
+      room = let room = placed.room in let within = p.within in omega arith;
+      has = rows_there flags base bytes s.values.mem start (rows_of (distances targets start) inst) placed (patched_rows flags targets start inst words bytes h used (bytes_fit base bytes s.values.mem placed state.values.bytes) p);
+      pc = here;
+      is_state = state;
+      are_values = values;
+      same = same;
+    }
+
+pub block_runs : (flags : IsaFlags) (inst : Inst) (start : ℕ) (words : List ℕ) → inst_rule inst ≡ None → start % 4 ≡ 0 → AreRows words (rows_of blank inst) → UsesStand start words (uses_in start inst) → BlockRuns flags inst start (bytes_of_words words)
+block_runs flags inst start words rule aligned h used = record {
+  run = λ targets bytes near small p base s v placed here state values same.
+      (inst_runs flags targets start inst rule).run base (start + length (bytes_of_words words)) s v (block_begins flags targets start inst words bytes base s v aligned h used p placed here state values same);
+  halt = λ targets bytes v p e. halts flags targets start inst words bytes v h p e;
+}

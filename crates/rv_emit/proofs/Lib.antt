@@ -1,0 +1,10 @@
+pub mod Blocked
+pub mod Blocks
+pub mod Jumps
+pub mod Lines
+pub mod Patched
+pub mod Placed
+pub mod Registers
+pub mod Steps
+pub mod Straight
+pub mod Usable
