@@ -17,7 +17,7 @@ pub record After {X : Type 0} (xs ys : List X) (j : ℕ) (x : X) : Type 0 where
   pub is : j ≡ length xs + index
   pub there : slice_get ys index ≡ Some x
 
-locate : {X : Type 0} (xs ys : List X) (j : ℕ) (x : X) → slice_get (xs ++ ys) j ≡ Some x → (slice_get xs j ≡ Some x) ⊎ After xs ys j x
+pub locate : {X : Type 0} (xs ys : List X) (j : ℕ) (x : X) → slice_get (xs ++ ys) j ≡ Some x → (slice_get xs j ≡ Some x) ⊎ After xs ys j x
 locate [] ys j x h = inr (record { index = j; is = omega arith; there = h })
 locate (y ∷ xs) ys zero x h = inl h
 locate {X} (y ∷ xs) ys (suc j) x h = ⊎_elim (λ a. inl a) (λ b. inr (on b)) (locate xs ys j x h)

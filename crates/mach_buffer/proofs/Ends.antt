@@ -65,7 +65,7 @@ pub get_right : {X : Type 0} (xs ys : List X) (i : ℕ) (x : X) → slice_get ys
 get_right [] ys i x h = let same : 0 + i ≡ i = omega arith in ap (slice_get ys) same ∙ h
 get_right (y ∷ xs) ys i x h = let same : suc (length xs) + i ≡ suc (length xs + i) = omega arith in ap (slice_get (y ∷ (xs ++ ys))) same ∙ get_right xs ys i x h
 
-length_map : {X Y : Type 0} (f : X → Y) (xs : List X) → length (map f xs) ≡ length xs
+pub length_map : {X Y : Type 0} (f : X → Y) (xs : List X) → length (map f xs) ≡ length xs
 length_map f [] = refl
 length_map f (x ∷ xs) = ap suc (length_map f xs)
 
@@ -126,7 +126,7 @@ veneer_window bytes v_bytes at from size le code =
 fresh_short : (marks s : List ℕ) → length marks ≤ length s → IsFresh marks s → IsFresh marks (take (length marks) s)
 fresh_short marks s le h = fresh_in_prefix marks 0 (length s) (length marks) s (omega arith) (omega arith) (subst (IsFresh marks) (sym (take_all (length s) s (omega arith))) h)
 
-some_at : (o : Option ℕ) → is_some o ≡ true → (at : ℕ) × (o ≡ Some at)
+pub some_at : (o : Option ℕ) → is_some o ≡ true → (at : ℕ) × (o ≡ Some at)
 some_at None e = absurd (true≢false (sym e))
 some_at (Some at) e = (at, refl)
 
@@ -289,6 +289,7 @@ module _ {L : Type 0} {fields : L → List ℕ} {has_veneer : L → Bool} {forwa
           inr (record {
             at = at;
             there = subst (λ n. aims u.kind (window new_bytes u.offset (length (fields u.kind))) (pos n -ℤ pos u.offset)) target (aim j (patch_of place u) (use_patch_at place uses veneers j u h));
+            even = f.linked.even j u at h v;
             inside = omega arith;
             front = others at from (piece_apart f law has.index w has.recorded at from (omega arith) (omega arith) (inl (omega arith))) ∙ ap (λ n. window bytes n from) (sym zero_more) ∙ front;
             own = subst (λ s. SameOutside (fields (veneer u.kind).kind) s (window new_bytes (at + from) size)) same (kept k (veneer_patch place w) there);

@@ -1,3 +1,4 @@
+pub mod Added
 pub mod Apart
 pub mod Blocks
 pub mod Ends
@@ -7,6 +8,7 @@ pub mod Links
 pub mod Maps
 pub mod Needed
 pub mod Others
+pub mod Patched
 pub mod Progress
 pub mod Putting
 pub mod Released

@@ -1,17 +1,20 @@
 -- The search for a deadline that might be missed.
-use Rattle.std.proofs.Common.{◌≡◌, ℕ, suc, ◌+◌, ◌*◌, ◌<◌, ◌≤◌, Bool, true, false, cond, ◌||◌, List, [], ◌∷◌, ◌++◌, length, map, Some, refl, ap, sym, ◌∙◌, subst, arith}
+use Rattle.std.proofs.Common.{◌≡◌, ℕ, zero, suc, ◌⊎◌, inl, inr, ◌+◌, ◌*◌, ◌<◌, ◌≤◌, Bool, true, false, cond, ◌||◌, List, [], ◌∷◌, ◌++◌, length, map, Some, refl, ap, sym, ◌∙◌, subst, arith}
 use Rattle.std.specs.Prelude.{slice_get, nat_le, nat_lt}
 use Rattle.std.specs.List.Sorted.{IsStrictlySortedBy}
 use Rattle.std.proofs.Common.{append_assoc}
-use Rattle.std.proofs.lemmas.Bool.{leb-true, ltb-true, le-leb}
+use Rattle.std.proofs.lemmas.Bool.{leb-true, ltb-true, le-leb, lt-leb, cases_lt}
+use Rattle.std.proofs.lemmas.Option.{same_Some}
 use Rattle.std.proofs.lemmas.List.{length-append, map-append}
 use Rattle.mach_buffer.specs.declared.uses.Use.{Use}
 use Rattle.mach_buffer.specs.declared.uses.Turn.{Turn}
 use Rattle.mach_buffer.specs.Reach.{AllOf, deadline, deadlines, due_by, HasSlack, is_needed, is_needed_from}
 use Rattle.mach_buffer.specs.Buffer.{users, HaveTurns, Later, by_deadline, by_offset, by_index}
-use Rattle.mach_buffer.proofs.Slack.{due_append, deadlines_append, slack_none, slack_same, slack_not_needed, each_from_slack}
+use Rattle.mach_buffer.proofs.Slack.{due_append, deadlines_append, slack_none, slack_same, slack_not_needed, each_from_slack, same_length_from_due}
+use Rattle.mach_buffer.proofs.Added.{append_none}
+use Rattle.mach_buffer.proofs.Ends.{get_right}
 use Rattle.mach_buffer.proofs.Links.{slice_get-append, slice_get-append_at}
-use Rattle.mach_buffer.proofs.Turns.{turn_cmp, later_in_order}
+use Rattle.mach_buffer.proofs.Turns.{turn_cmp, later_in_order, earlier_in_order}
 
 -- so far a number of deadlines were met, none of which might be missed
 pub record Scanned {L : Type 0} (forward : L → ℕ) (test : Use L → Bool) (cur : ℕ) (turns left : List (Turn × Use L)) (due : ℕ) : Type 0 where
@@ -41,10 +44,6 @@ slack_last cur d ds le h = record { each = λ end one. on end (nat_le d end) ref
 
 grown : {L : Type 0} (forward : L → ℕ) (test : Use L → Bool) (front : List (Turn × Use L)) (e : Turn × Use L) → deadlines test forward (users (front ++ e ∷ [])) ≡ deadlines test forward (users front) ++ cond (test e.1) (deadline forward e.1 ∷ []) []
 grown forward test front e = ap (deadlines test forward) (map-append (λ (x : Turn × Use _). x.1) front (e ∷ [])) ∙ deadlines_append test forward (users front) (e.1 ∷ [])
-
-append_none : {X : Type 0} (xs : List X) → xs ++ [] ≡ xs
-append_none [] = refl
-append_none (x ∷ xs) = ap (λ ys. x ∷ ys) (append_none xs)
 
 module _ {L : Type 0} {forward : L → ℕ} {test : Use L → Bool} {cur : ℕ} {turns : List (Turn × Use L)} {due : ℕ} where
   pub scan_skip : {e : Turn × Use L} {all left : List (Turn × Use L)} → Scanned forward test cur turns all due → all ≡ e ∷ left → test e.1 ≡ false → Scanned forward test cur turns left due
@@ -148,6 +147,61 @@ scan_few {L} {forward} {test} {cur} {turns} {all} {due} s =
     let b : length turns ≡ length s.front + length all = ap (length {A = Turn × Use L}) s.whole ∙ length-append s.front all in
     let n = s.count in
     omega arith
+
+-- no fewer turns there are than uses that wait
+pub turns_many : {L : Type 0} {forward : L → ℕ} {test : Use L → Bool} {turns : List (Turn × Use L)} {uses : List (Use L)} → HaveTurns forward test turns uses → length (deadlines test forward uses) ≤ length turns
+turns_many {L} {forward} {test} {turns} {uses} h =
+    let a = deadlines_few forward test turns in
+    let b = same_length_from_due (deadlines test forward (users turns)) (deadlines test forward uses) (h.counts test (λ u t. t)) in
+    omega arith
+
+-- none of these is due yet
+none_due : {L : Type 0} (forward : L → ℕ) (test : Use L → Bool) (end : ℕ) (es : List (Turn × Use L)) → ((i : ℕ) (y : Turn × Use L) → slice_get es i ≡ Some y → test y.1 ≡ true → end < deadline forward y.1) → due_by end (deadlines test forward (users es)) ≡ 0
+none_due forward test end [] h = refl
+none_due {L} forward test end (e ∷ es) h = on (test e.1) refl (none_due forward test end es (λ i y q t. h (suc i) y q t))
+  where
+    on : (b : Bool) → test e.1 ≡ b → due_by end (deadlines test forward (users es)) ≡ 0 → due_by end (cond b (deadline forward e.1 ∷ deadlines test forward (users es)) (deadlines test forward (users es))) ≡ 0
+    on true t rest = ap (λ c. cond c (suc (due_by end (deadlines test forward (users es)))) (due_by end (deadlines test forward (users es)))) (lt-leb _ _ (h 0 e refl t)) ∙ rest
+    on false t rest = rest
+
+-- from here on all deadlines are so late that no count of uses matters
+pub scan_far : {L : Type 0} {forward : L → ℕ} {test : Use L → Bool} (cur distance : ℕ) {turns all left : List (Turn × Use L)} {e : Turn × Use L} {due : ℕ} {uses : List (Use L)} → HaveTurns forward test turns uses → IsStrictlySortedBy turn_cmp (map (λ (x : Turn × Use L). x.0) turns) →
+    Scanned forward test (cur + distance) turns all due → all ≡ e ∷ left → cur + distance + 14 + 8 * (length turns + 2) ≤ e.0.deadline → is_needed cur distance (deadlines test forward uses) ≡ false
+scan_far {L} {forward} {test} cur distance {turns} {all} {left} {e} {due} {uses} h sorted s ea far =
+    not_needed_from (cur + distance) (deadlines test forward uses) (deadlines test forward uses)
+    (each_from_slack (cur + distance) 30 (deadlines test forward uses)
+    (slack_same (cur + distance) 30 (deadlines test forward (users turns)) (deadlines test forward uses) (λ end. let c = h.counts test (λ u t. t) end in omega arith) (record { each = λ end one. on end (cases_lt end e.0.deadline) one })))
+  where
+    whole : turns ≡ s.front ++ e ∷ left
+    whole = s.whole ∙ ap (λ l. s.front ++ l) ea
+
+    not_after : {a b : Turn} → Later a b → a.deadline ≤ b.deadline
+    not_after (by_deadline l) = omega arith
+    not_after (by_offset x l) = omega arith
+    not_after (by_index x y l) = omega arith
+
+    behind : (end : ℕ) → end < e.0.deadline → (i : ℕ) (y : Turn × Use L) → slice_get (e ∷ left) i ≡ Some y → test y.1 ≡ true → end < deadline forward y.1
+    behind end lt i y q t =
+        let own = h.each (length s.front + i) y (ap (λ ts. slice_get ts (length s.front + i)) whole ∙ get_right s.front (e ∷ left) i y q) t in
+        let d = own.deadline in
+        let le = later i q in
+        omega arith
+      where
+        later : (n : ℕ) → slice_get (e ∷ left) n ≡ Some y → e.0.deadline ≤ y.0.deadline
+        later zero r = let same = ap (λ (x : Turn × Use L). x.0.deadline) (same_Some _ _ r) in omega arith
+        later (suc n) r = not_after (earlier_in_order s.front e left (subst (λ ts. IsStrictlySortedBy turn_cmp (map (λ (x : Turn × Use L). x.0) ts)) whole sorted) n y r)
+
+    on : (end : ℕ) → (end < e.0.deadline) ⊎ (e.0.deadline ≤ end) → 1 ≤ due_by end (deadlines test forward (users turns)) → cur + distance + 30 + 8 * due_by end (deadlines test forward (users turns)) ≤ end
+    on end (inr ge) one =
+        let l = due_le_length end (deadlines test forward (users turns)) in
+        let f = deadlines_few forward test turns in
+        omega arith
+    on end (inl lt) one =
+        let w : due_by end (deadlines test forward (users turns)) ≡ due_by end (deadlines test forward (users s.front)) + due_by end (deadlines test forward (users (e ∷ left))) =
+        ap (λ ts. due_by end (deadlines test forward (users ts))) whole ∙ ap (λ us. due_by end (deadlines test forward us)) (map-append (λ (x : Turn × Use L). x.1) s.front (e ∷ left)) ∙ ap (due_by end) (deadlines_append test forward (users s.front) (users (e ∷ left))) ∙ due_append end (deadlines test forward (users s.front)) (deadlines test forward (users (e ∷ left))) in
+        let n = none_due forward test end (e ∷ left) (behind end lt) in
+        let k = s.slack.each end (omega arith) in
+        omega arith
 
 -- the next turn's deadline is its use's
 pub scan_turn : {L : Type 0} {forward : L → ℕ} {test : Use L → Bool} {cur : ℕ} {turns all left : List (Turn × Use L)} {e : Turn × Use L} {due : ℕ} {uses : List (Use L)} → HaveTurns forward test turns uses → Scanned forward test cur turns all due → all ≡ e ∷ left → test e.1 ≡ true → e.0.deadline ≡ deadline forward e.1

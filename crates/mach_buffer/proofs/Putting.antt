@@ -10,7 +10,8 @@ use Rattle.mach_buffer.specs.declared.uses.VeneerUse.{VeneerUse}
 use Rattle.mach_buffer.specs.declared.uses.Turn.{Turn}
 use Rattle.mach_buffer.specs.Reach.{deadline, deadlines, due_by, is_sooner, StillReaches}
 use Rattle.mach_buffer.specs.Buffer.{IsLinked, IsTurn, HaveTurns, AllLater, recorded}
-use Rattle.mach_buffer.specs.Islands.{AreWindows, PutAt, InOrder, VeneersPut}
+use Rattle.mach_buffer.specs.Islands.{AreWindows, PutAt, InOrder, VeneersPut, VeneersBehind}
+use Rattle.mach_buffer.proofs.Added.{added_none, added_more}
 use Rattle.mach_buffer.proofs.Links.{slice_get-set_other, slice_get-set_same, recorded_set}
 use Rattle.mach_buffer.proofs.Slack.{due_set, length_set, reaches_next, reaches_due, none_waits}
 use Rattle.mach_buffer.proofs.Turns.{turns_pass, turns_take, turns_end, turns_least, turns_first}
@@ -20,6 +21,7 @@ pub record Putting {L : Type 0} (fields : L → List ℕ) (has_veneer : L → Bo
   pub before : take (length bytes0) bytes ≡ bytes0
   pub longer : length bytes0 ≤ length bytes
   pub same : recorded uses ≡ recorded uses0
+  pub grown : VeneersBehind (length bytes0) veneers0 veneers
   pub linked : IsLinked has_veneer forward veneer bytes uses veneers
   pub even : length bytes % 2 ≡ 0
   pub waits : HaveTurns forward test turns uses
@@ -53,6 +55,7 @@ putting_start {L} {fields} {has_veneer} {forward} {veneer} {test} {bytes} {uses}
   before = take_all (length bytes) bytes (omega arith);
   longer = omega arith;
   same = refl;
+  grown = added_none (length bytes) refl;
   linked = linked;
   even = even;
   waits = waits;
@@ -72,6 +75,7 @@ module _ {L : Type 0} {fields : L → List ℕ} {has_veneer : L → Bool} {forwa
     before = p.before;
     longer = p.longer;
     same = p.same;
+    grown = p.grown;
     linked = p.linked;
     even = p.even;
     waits = turns_pass p.waits et idle;
@@ -116,12 +120,13 @@ module _ {L : Type 0} {fields : L → List ℕ} {has_veneer : L → Bool} {forwa
   -- the first turn is taken
   pub putting_next : {e : Turn × Use L} {rest : List (Turn × Use L)} → Putting fields has_veneer forward veneer test bytes0 uses0 veneers0 bytes uses veneers turns → turns ≡ e ∷ rest → test e.1 ≡ true → AllLater e.0 rest → Clears test → length (veneer e.1.kind).bytes ≡ 8 →
       (new_bytes : List ℕ) (new_uses : List (Use L)) (new_veneers : List (VeneerUse L)) → new_bytes ≡ bytes ++ (veneer e.1.kind).bytes → new_uses ≡ set uses e.0.index (record e.1 { veneer = Some (length bytes) }) →
-      IsLinked has_veneer forward veneer new_bytes new_uses new_veneers → (AreWindows fields bytes uses veneers → AreWindows fields new_bytes new_uses new_veneers) →
+      IsLinked has_veneer forward veneer new_bytes new_uses new_veneers → (AreWindows fields bytes uses veneers → AreWindows fields new_bytes new_uses new_veneers) → VeneersBehind (length bytes) veneers new_veneers →
       Putting fields has_veneer forward veneer test bytes0 uses0 veneers0 new_bytes new_uses new_veneers rest
-  putting_next {e} {rest} p et waits all_later clears eight new_bytes new_uses new_veneers eb eu linked windows = record {
+  putting_next {e} {rest} p et waits all_later clears eight new_bytes new_uses new_veneers eb eu linked windows added = record {
     before = ap (take (length bytes0)) eb ∙ take-append-le (length bytes0) bytes (veneer e.1.kind).bytes p.longer ∙ p.before;
     longer = let l = p.longer in omega (arith, long);
     same = ap recorded eu ∙ recorded_set uses i e.1 v there refl ∙ p.same;
+    grown = added_more p.longer p.grown added;
     linked = linked;
     even = let l = p.even in omega (arith, long);
     waits = turns_take p.waits et waits all_later v no_wait new_uses eu;

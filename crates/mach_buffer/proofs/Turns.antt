@@ -82,6 +82,25 @@ later_in_order {L} front e left h i y q =
     key : Turn × Use L → Turn
     key x = x.0
 
+all_at : (P : Turn → Type 0) (ys : List Turn) → AllByRecursion P ys → (i : ℕ) (y : Turn) → slice_get ys i ≡ Some y → P y
+all_at P [] a i y q = absurd (cc)
+all_at P (z ∷ ys) a zero y q = subst P (same_Some _ _ q) a.0
+all_at P (z ∷ ys) a (suc i) y q = all_at P ys a.1 i y q
+
+behind_in_order : (front : List Turn) (x : Turn) (left : List Turn) → IsStrictlySortedBy turn_cmp (front ++ x ∷ left) → (i : ℕ) (y : Turn) → slice_get left i ≡ Some y → turn_cmp x y ≡ Less
+unfolding IsStrictlySortedBy
+behind_in_order [] x left h i y q = all_at (λ w. turn_cmp x w ≡ Less) left h.0 i y q
+behind_in_order (z ∷ front) x left h i y q = behind_in_order front x left h.1 i y q
+
+-- and before those behind it
+pub earlier_in_order : {L : Type 0} (front : List (Turn × Use L)) (e : Turn × Use L) (left : List (Turn × Use L)) → IsStrictlySortedBy turn_cmp (map (λ (x : Turn × Use L). x.0) (front ++ e ∷ left)) → (i : ℕ) (y : Turn × Use L) → slice_get left i ≡ Some y → Later e.0 y.0
+earlier_in_order {L} front e left h i y q =
+    later_from_less e.0 y.0
+    (behind_in_order (map key front) e.0 (map key left) (subst (IsStrictlySortedBy turn_cmp) (map-append key front (e ∷ left)) h) i y.0 (slice_get-map key left i ∙ ap (option_map key) q))
+  where
+    key : Turn × Use L → Turn
+    key x = x.0
+
 -- ---- one more turn
 
 insert_each : {L : Type 0} (P : Turn × Use L → Type 0) (es : List (Turn × Use L)) (k : Turn) (u : Use L) → P (k, u) → ((i : ℕ) (e : Turn × Use L) → slice_get es i ≡ Some e → P e) → ((i : ℕ) (e : Turn × Use L) → slice_get es i ≡ Some e → e.0.index ≢ k.index) →

@@ -493,8 +493,12 @@ impl<L: MachInstLabelUse> MachBuffer<L> {
         ensures { result ≡ is_needed (length (bytes_of self.now)) distance (pending_of L.has_veneer L.forward L.backward self.now) }
     {
         let here = self.bytes.len() as u128 + distance as u128 + 14;
+        let far = here + 8 * (self.waiting.len() as u128 + 2);
         let mut due: usize = 0;
         for (turn, u) in self.waiting.iter() {
+            if turn.deadline as u128 >= far {
+                return false;
+            }
             if self.is_pending(u) {
                 due += 1;
                 if (turn.deadline as u128) < here + 8 * (due as u128 + 2) {
@@ -510,11 +514,14 @@ impl<L: MachInstLabelUse> MachBuffer<L> {
         requires sound { IsSound L.has_veneer L.forward L.backward L.veneer self.now }
         ensures { result ≡ (nat_lt (drawn_of self.now) (2 ^ 29) && nat_lt (length (bytes_of self.now) + part + 8 * length (pending_of L.has_veneer L.forward L.backward self.now) + 32) 2147479552) }
     {
-        let end = self.bytes.len() as u128
-            + part as u128
-            + 8 * self.count_others(None) as u128
-            + 32;
-        self.drawn < 0x20000000 && end < 2147479552
+        let end = self.bytes.len() as u128 + part as u128 + 32;
+        if self.drawn >= 0x20000000 {
+            return false;
+        }
+        if end + 8 * (self.waiting.len() as u128) < 2147479552 {
+            return true;
+        }
+        end + 8 * (self.count_others(None) as u128) < 2147479552
     }
 }
 

@@ -19,7 +19,7 @@ impl<L: MachInstLabelUse> MachBuffer<L> {
     ghost use Rattle.std.specs.Prelude.{◌≡◌, ℕ, ◌+◌, ◌*◌, ◌<◌, [], length, OnOk, OnErr, IfOk, None, true, false};
     ghost use Rattle.mach_buffer.specs.Buffer.{bytes_of, uses_of, veneers_of, place_of, labels_of, spoiled_of, pending_of, IsSound, IsLinked};
     ghost use Rattle.mach_buffer.specs.Reach.{is_pending, deadlines, StillReaches};
-    ghost use Rattle.mach_buffer.specs.Islands.{AreWindows, VeneersPut};
+    ghost use Rattle.mach_buffer.specs.Islands.{AreWindows, VeneersPut, VeneersBehind};
     ghost use Rattle.mach_buffer.specs.Finish.{before_last, CanFinish, Finishes};
 
     /// Puts a veneer for each use that is pending, by deadline and then by place, and patches every window.
@@ -56,6 +56,7 @@ impl<L: MachInstLabelUse> MachBuffer<L> {
         requires reach { StillReaches (length (before_last (bytes_of self.old) (length (pending_of L.has_veneer L.forward L.backward self.old)))) (pending_of L.has_veneer L.forward L.backward self.old) }
         requires short { length (before_last (bytes_of self.old) (length (pending_of L.has_veneer L.forward L.backward self.old))) + 8 * length (pending_of L.has_veneer L.forward L.backward self.old) < 2147479552 }
         ensures put { OnOk result (VeneersPut L.forward (is_pending L.has_veneer L.forward L.backward (place_of self.old)) (before_last (bytes_of self.old) (length (pending_of L.has_veneer L.forward L.backward self.old))) (uses_of self.old) (bytes_of self.new) (uses_of self.new)) }
+        ensures grown { OnOk result (VeneersBehind (length (bytes_of self.old)) (veneers_of self.old) (veneers_of self.new)) }
         ensures linked { OnOk result (IsLinked L.has_veneer L.forward L.veneer (bytes_of self.new) (uses_of self.new) (veneers_of self.new)) }
         ensures windows { OnOk result (AreWindows L.fields (bytes_of self.old) (uses_of self.old) (veneers_of self.old) → AreWindows L.fields (bytes_of self.new) (uses_of self.new) (veneers_of self.new)) }
         ensures none { OnOk result (deadlines (is_pending L.has_veneer L.forward L.backward (place_of self.old)) L.forward (uses_of self.new) ≡ []) }

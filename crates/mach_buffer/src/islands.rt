@@ -10,7 +10,7 @@ impl<L: MachInstLabelUse> MachBuffer<L> {
     ghost use Rattle.std.specs.Prelude.{◌≡◌, ◌≢◌, ℕ, ◌+◌, ◌*◌, ◌%◌, ◌<◌, ◌≤◌, ◌++◌, [], length, take, ◌∷◌, OnOk, OnErr, IfSome, IfNone, None, Some, true, false, IsTrue, slice_get, slice_set, IsSomeAnd};
     ghost use Rattle.mach_buffer.specs.Buffer.{bytes_of, uses_of, veneers_of, place_of, labels_of, drawn_of, spoiled_of, pending_of, turns_of, veneer_use, recorded, AreSound, IsSound, IsLinked, HaveTurns, AllLater};
     ghost use Rattle.mach_buffer.specs.Reach.{is_other, names, deadline as last_of, deadlines, CanReach, StillReaches};
-    ghost use Rattle.mach_buffer.specs.Islands.{aligned, padding, HasRound, OwnPut, AreWindows, IsRound, CanIsland, Islanded, VeneersPut};
+    ghost use Rattle.mach_buffer.specs.Islands.{aligned, padding, HasRound, OwnPut, AreWindows, IsRound, CanIsland, Islanded, VeneersPut, VeneersBehind};
 
     /// Makes an island behind its jump, whose four bytes stand last: zero bytes to a multiple of four, the jump's own
     /// veneer where it needs one, and a veneer for each other pending use, by deadline and then by place. Binds `round`
@@ -18,6 +18,7 @@ impl<L: MachInstLabelUse> MachBuffer<L> {
     pub fn emit_island(&mut self, round: MachLabel) -> Result<(), OutOfMemory>
         requires { CanIsland L.has_veneer L.forward L.backward L.veneer self.old round }
         ensures island { OnOk result (Islanded L.has_veneer L.forward L.backward self.old round self.new) }
+        ensures grown { OnOk result (VeneersBehind (length (bytes_of self.old)) (veneers_of self.old) (veneers_of self.new)) }
         ensures reach { OnOk result (CanReach (length (bytes_of self.new)) (pending_of L.has_veneer L.forward L.backward self.new)) }
         ensures windows { OnOk result (AreWindows L.fields (bytes_of self.old) (uses_of self.old) (veneers_of self.old) → AreWindows L.fields (bytes_of self.new) (uses_of self.new) (veneers_of self.new)) }
         ensures labels { OnOk result (labels_of self.new ≡ labels_of self.old) }
@@ -107,6 +108,7 @@ impl<L: MachInstLabelUse> MachBuffer<L> {
         requires waits { HaveTurns L.forward (is_other L.has_veneer L.forward L.backward (place_of self.old) round) (turns_of self.old) (uses_of self.old) }
         requires reach { StillReaches (length (bytes_of self.old)) (deadlines (is_other L.has_veneer L.forward L.backward (place_of self.old) round) L.forward (uses_of self.old)) }
         ensures put { OnOk result (VeneersPut L.forward (is_other L.has_veneer L.forward L.backward (place_of self.old) round) (bytes_of self.old) (uses_of self.old) (bytes_of self.new) (uses_of self.new)) }
+        ensures grown { OnOk result (VeneersBehind (length (bytes_of self.old)) (veneers_of self.old) (veneers_of self.new)) }
         ensures linked { OnOk result (IsLinked L.has_veneer L.forward L.veneer (bytes_of self.new) (uses_of self.new) (veneers_of self.new)) }
         ensures even { OnOk result (length (bytes_of self.new) % 2 ≡ 0) }
         ensures windows { OnOk result (AreWindows L.fields (bytes_of self.old) (uses_of self.old) (veneers_of self.old) → AreWindows L.fields (bytes_of self.new) (uses_of self.new) (veneers_of self.new)) }
@@ -145,6 +147,7 @@ impl<L: MachInstLabelUse> MachBuffer<L> {
         requires linked { IsLinked L.has_veneer L.forward L.veneer (bytes_of self.old) (uses_of self.old) (veneers_of self.old) }
         requires waits { HaveTurns L.forward (is_other L.has_veneer L.forward L.backward (place_of self.old) (Some round)) (turns_of self.old) (uses_of self.old) }
         ensures put { OnOk result (OwnPut L.forward (bytes_of self.old) (uses_of self.old) round.number count (bytes_of self.new) (uses_of self.new)) }
+        ensures grown { OnOk result (VeneersBehind (length (bytes_of self.old)) (veneers_of self.old) (veneers_of self.new)) }
         ensures others { OnOk result (deadlines (is_other L.has_veneer L.forward L.backward (place_of self.old) (Some round)) L.forward (uses_of self.new) ≡ deadlines (is_other L.has_veneer L.forward L.backward (place_of self.old) (Some round)) L.forward (uses_of self.old)) }
         ensures even { OnOk result (length (bytes_of self.new) % 2 ≡ 0) }
         ensures linked { OnOk result (IsLinked L.has_veneer L.forward L.veneer (bytes_of self.new) (uses_of self.new) (veneers_of self.new)) }

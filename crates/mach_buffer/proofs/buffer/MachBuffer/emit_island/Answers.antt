@@ -2,6 +2,7 @@ use Rattle.std.proofs.Common.{arith, ◌≡◌, ◌<◌, ◌-◌, ◌≢◌, Som
 use Rattle.mach_buffer.specs.Buffer.{bytes_of, uses_of, turns_of, place_of, IsKnown}
 use Rattle.mach_buffer.specs.Reach.{is_pending, is_other, deadline, deadlines, StillReaches, CanReach}
 use Rattle.mach_buffer.specs.Islands.{aligned, padding, island_end, OwnPut, VeneersPut}
+use Rattle.mach_buffer.proofs.Added.{added_none, added_more}
 use Rattle.mach_buffer.proofs.Apart.{windows_bytes, windows_as}
 use Rattle.mach_buffer.proofs.Islanded.{length_padded, aligned_near, island_parts, island_sound, islanded_as, room_left, own_short}
 use Rattle.mach_buffer.proofs.Others.{other_pending}
@@ -148,3 +149,14 @@ returns-clause-sound g c =
     (subst (IsKnown c.args.round.number) (sym e.drawn) c.requires.known) (omega (arith, short.1, grown)) w.even (w.put.same ∙ o.put.same) w.linked l.bound kept
     (subst (λ us. deadlines (is_pending K.has_veneer K.forward K.backward (place_of c.place_label.new.self)) K.forward us ≡ []) l.uses i.settled) w.turns)
     l.bytes l.uses l.veneers l.turns (l.drawn ∙ w.drawn ∙ o.drawn)
+
+pub returns-clause-grown : goal.returns-clause-grown
+returns-clause-grown g c =
+    let b = c.args.self.now in
+    let e = c.in_ok-pad.ensures in
+    let o = c.in_ok-put_own.ensures in
+    let w = c.in_ok-put_waiting.ensures in
+    let l = c.in_ok-place_label.ensures in
+    let long : length (bytes_of c.pad.new.self) ≡ aligned (length (bytes_of b)) = ap (length {A = ℕ}) e.bytes ∙ length_padded (bytes_of b) in
+    let short = own_short o.put in
+    added_more (omega (arith, long)) (added_none (length (bytes_of b)) e.veneers) (added_more short.1 o.grown (added_more (omega arith) w.grown (added_none (length (bytes_of c.put_own.new.self)) l.veneers)))

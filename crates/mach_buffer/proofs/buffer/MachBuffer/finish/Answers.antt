@@ -65,6 +65,7 @@ returns-clause-code g c =
       uses = uses_of now;
       veneers = veneers_of now;
       put = p.put;
+      grown = p.grown;
       linked = p.linked;
       windows = p.windows r.windows;
       long = same_length;

@@ -1,6 +1,6 @@
 use Rattle.std.proofs.Common.{arith, rules, sym, ◌∙◌, ◌≡◌, ◌<◌, ◌^◌, length}
 use Rattle.mach_buffer.specs.Buffer.{bytes_of, turns_of}
-use Rattle.mach_buffer.proofs.Needed.{scan_skip, scan_next, scan_end, scan_found, scan_few, scan_turn}
+use Rattle.mach_buffer.proofs.Needed.{scan_skip, scan_next, scan_end, scan_found, scan_far, scan_few, scan_turn}
 use Rattle.mach_buffer.proofs.buffer.MachBuffer.island_needed.Goals as goal
 
 pub overflow_add-due : goal.overflow_add-due
@@ -27,3 +27,9 @@ loop-turn-preserved g c = scan_skip c.loop-turn.invariant c.in-Some.ensures.step
 
 pub returns : goal.returns
 returns g c = sym (scan_end (length (bytes_of c.args.self.now)) c.args.distance c.requires.sound.waits c.loop-turn.invariant (search rules))
+
+pub returns-then-turn-far : goal.returns-then-turn-far
+returns-then-turn-far g c =
+    let len : c.len.result ≡ length (bytes_of c.args.self.now) = search rules in
+    let turns : c.len-2.result ≡ length (turns_of c.args.self.now) = search rules in
+    sym (scan_far (length (bytes_of c.args.self.now)) c.args.distance c.requires.sound.waits c.iter-turn-items.ensures.ordered c.loop-turn.invariant c.in-Some.ensures.steps (omega (arith, len, turns, c.if-turn-far.true)))

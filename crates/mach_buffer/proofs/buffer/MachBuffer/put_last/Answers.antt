@@ -3,8 +3,9 @@ use Rattle.mach_buffer.specs.Buffer.{bytes_of, uses_of, place_of, pending_of}
 use Rattle.mach_buffer.specs.Finish.{before_last}
 use Rattle.mach_buffer.specs.Islands.{VeneersPut}
 use Rattle.mach_buffer.specs.Reach.{is_pending, is_other, deadlines, StillReaches}
+use Rattle.mach_buffer.proofs.Added.{added_none, added_more}
 use Rattle.mach_buffer.proofs.Apart.{windows_as}
-use Rattle.mach_buffer.proofs.Ends.{windows_before}
+use Rattle.mach_buffer.proofs.Ends.{windows_before, before_longer}
 use Rattle.mach_buffer.proofs.Others.{other_none, other_pending}
 use Rattle.mach_buffer.proofs.Turns.{turns_fewer}
 use Rattle.mach_buffer.proofs.buffer.MachBuffer.put_last.Goals as goal
@@ -70,3 +71,12 @@ returns-clause-none g c =
     let same : deadlines (is_other K.has_veneer K.forward K.backward (place_of c.pad_last.new.self) None) K.forward (uses_of c.pad_last.new.self) ≡ pending_of K.has_veneer K.forward K.backward b = ap (λ t. deadlines t K.forward (uses_of c.pad_last.new.self)) test ∙ ap (deadlines (is_pending K.has_veneer K.forward K.backward (place_of b)) K.forward) e.uses in
     let w = c.in_ok-put_waiting.ensures in
     subst (λ t. deadlines t K.forward (uses_of c.put_waiting.new.self) ≡ []) test w.none
+
+pub returns-clause-grown : goal.returns-clause-grown
+returns-clause-grown g c =
+    let K = g.L.MachInstLabelUse in
+    let b = c.args.self.now in
+    let e = c.in_ok-pad_last.ensures in
+    let longer = before_longer (bytes_of b) (length (pending_of K.has_veneer K.forward K.backward b)) in
+    let long = ap (length {A = ℕ}) e.bytes in
+    added_more (omega (arith, longer, long)) (added_none (length (bytes_of b)) e.veneers) c.in_ok-put_waiting.ensures.grown

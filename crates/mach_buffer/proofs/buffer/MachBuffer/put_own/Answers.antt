@@ -4,6 +4,7 @@ use Rattle.std.proofs.lemmas.Option.{slice_get_read}
 use Rattle.std.proofs.lemmas.List.{length-append}
 use Rattle.mach_buffer.specs.Buffer.{bytes_of, uses_of, place_of, recorded, HaveTurns}
 use Rattle.mach_buffer.specs.Reach.{is_other, deadlines}
+use Rattle.mach_buffer.proofs.Added.{added_none, added_one}
 use Rattle.mach_buffer.proofs.Apart.{windows_veneer}
 use Rattle.mach_buffer.proofs.Links.{some_is, within_from_some, recorded_set}
 use Rattle.mach_buffer.proofs.Others.{own_idle, other_clears}
@@ -101,3 +102,14 @@ returns-else-deadline-end-clause-put g c =
     let named = some_is (slice_get uses k) _ _ item c.use_of-index.ensures in
     let value = c.deadline.ensures.value in
     own_skip c.args.round.number c.args.count k u item named (search rules)
+
+pub returns-in_ok-put_veneer-clause-grown : goal.returns-in_ok-put_veneer-clause-grown
+returns-in_ok-put_veneer-clause-grown g c =
+    let uses = uses_of c.args.self.now in
+    let k = c.use_of-index.result in
+    let u = c.index.result.now in
+    let item : slice_get uses k ≡ Some u = slice_get_read uses _ _ _ refl (within_from_some uses k _ c.use_of-index.ensures) c.index.ensures in
+    added_one (length (bytes_of c.args.self.now)) _ (omega arith) (some_is (slice_get uses k) _ _ item c.in_ok-put_veneer.ensures.veneers)
+
+pub returns-else-deadline-end-clause-grown : goal.returns-else-deadline-end-clause-grown
+returns-else-deadline-end-clause-grown g c = added_none (length (bytes_of c.args.self.now)) refl

@@ -2,6 +2,7 @@ use Rattle.std.proofs.Common.{arith, refl, ◌≡◌, ◌∙◌, ◌≤◌, true
 use Rattle.std.specs.Prelude.{slice_get}
 use Rattle.mach_buffer.specs.Buffer.{bytes_of, uses_of, veneers_of, place_of, recorded}
 use Rattle.mach_buffer.specs.Reach.{is_other, deadline}
+use Rattle.mach_buffer.proofs.Added.{added_one}
 use Rattle.mach_buffer.proofs.Links.{some_is, recorded_set}
 use Rattle.mach_buffer.proofs.Apart.{windows_veneer}
 use Rattle.mach_buffer.proofs.Others.{other_clears, other_supported}
@@ -54,7 +55,7 @@ loop-turn-preserved-in-Continue-branch-2 g c =
     let veneers = some_is o _ c.in-Some.u own.there p.veneers in
     let next = putting_next now refl waits c.in-Some.ensures.later clears (law c.in-Some.u.kind (other_supported K.has_veneer K.forward K.backward (place_of c.args.self.now) c.args.round c.in-Some.u waits)).eight
     (bytes_of c.put_veneer.new.self) (uses_of c.put_veneer.new.self) (veneers_of c.put_veneer.new.self) bytes uses p.linked
-    (λ w. windows_veneer now.linked law _ _ _ _ _ bytes (ap recorded uses ∙ recorded_set (uses_of c.take_turn.new.self) c.in-Some.turn.index c.in-Some.u _ own.there refl) veneers refl w) in (
+    (λ w. windows_veneer now.linked law _ _ _ _ _ bytes (ap recorded uses ∙ recorded_set (uses_of c.take_turn.new.self) c.in-Some.turn.index c.in-Some.u _ own.there refl) veneers refl w) (added_one _ _ (omega arith) veneers) in (
       putting_as next refl refl refl p.turns,
       p.places ∙ t.places ∙ c.loop-turn.invariant.1,
       p.labels ∙ t.labels ∙ c.loop-turn.invariant.2,
