@@ -17,7 +17,8 @@ use Rattle.rv_emit.specs.Rows.{ebreak_row}
 use Rattle.rv_emit.specs.Runs.{Same, Ends, exit_address}
 use Rattle.rv_emit.specs.Blocks.{StandRows}
 use Rattle.rv_emit.proofs.Blocked.{ends_both}
-use Rattle.rv_asm.proofs.Placed.{bytes_stand, word_there}
+use Rattle.rv_emit.proofs.Placed.{word_there}
+use Rattle.rv_asm.proofs.Placed.{bytes_stand}
 
 -- under the whole code, placed, the machine comes from an offset to an address, with an effect
 pub record Leads (flags : IsaFlags) (code : Code) (start : ℕ) (address : ℕ → Values → ℕ) (effect : ℕ → Values → Values) : Type 0 where
@@ -40,7 +41,7 @@ pub record IsThreaded (job : Job) (code : Code) : Type 0 where
   pub last : (i : ℕ) → suc i ≡ length job.lines → code.end ≡ end_of code.lines i
 
 -- a block that wrote no byte left the code where it was placed
-placed_still : (flags : IsaFlags) (code : Code) (base : ℕ) (symbols slots : Addresses) (s : State) (address : ℕ) (v : Values) (e : Ends flags address v s) → IsPlaced code base symbols slots s.values.mem → IsPlaced code base symbols slots e.state.values.mem
+pub placed_still : (flags : IsaFlags) (code : Code) (base : ℕ) (symbols slots : Addresses) (s : State) (address : ℕ) (v : Values) (e : Ends flags address v s) → IsPlaced code base symbols slots s.values.mem → IsPlaced code base symbols slots e.state.values.mem
 placed_still flags code base symbols slots s address v e placed = subst (λ m. IsPlaced code base symbols slots m) (sym e.kept) placed
 
 -- from where a line is left the machine comes to its point
@@ -73,7 +74,7 @@ stops job code base symbols slots i line v Break t threaded e is placed pc =
     let room = placed.room in
     let long = stand.0 in
     let here : t.pc ≡ base + start = pc ∙ omega arith in
-    ap (λ a. decode job.flags (fetch t.values.mem a)) here ∙ ap (decode job.flags) (word_there code.bytes base t.values.mem start (bytes_stand code base symbols slots t.values.mem placed) stand.0) ∙ stand.1
+    ap (λ a. decode job.flags (fetch t.values.mem a)) here ∙ ap (decode job.flags) (word_there base code.bytes t.values.mem start (bytes_stand code base symbols slots t.values.mem placed) stand.0) ∙ stand.1
 
 comes : (job : Job) (code : Code) (base : ℕ) (symbols slots : Addresses) (i : ℕ) (line : Line) (s : State) (v : Values) → IsThreaded job code → i < length job.lines → slice_get job.lines i ≡ Some line → IsPlaced code base symbols slots s.values.mem → IsState s → AreValues v → s.pc ≡ address_of code base (At i) → Same v s.values → Comes job code base (At i) v s
 comes job code base symbols slots i line s v t lt e placed is_state are_values pc same =

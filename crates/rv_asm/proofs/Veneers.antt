@@ -32,7 +32,8 @@ use Rattle.rv_emit.specs.Blocks.{BytesStand, word_in}
 use Rattle.rv_emit.proofs.Registers.{are_values_set}
 use Rattle.rv_emit.proofs.Steps.{istep_at}
 use Rattle.rv_emit.proofs.Blocked.{ends_one, ends_both}
-use Rattle.rv_asm.proofs.Placed.{bytes_stand, word_there, byte_there}
+use Rattle.rv_emit.proofs.Placed.{word_there, bytes_fit}
+use Rattle.rv_asm.proofs.Placed.{bytes_stand}
 use Rattle.rv_asm.proofs.Threads.{Leads}
 
 -- ---- the words of a window
@@ -151,11 +152,11 @@ veneer_ends flags bytes base place to s v stand even to_even inside p pc is_stat
     let x = wrap (s.pc + low64 p.upper * 2 ^ 12) in
     let held : slice_index (slice_set s.values.regs 30 x) 30 ≡ x = get_or-set_at s.values.regs 30 30 x 0 refl (let n = is_state.values.count in omega arith) in
     let first : decode flags (fetch s.values.mem s.pc) ≡ Some (auipc_row p.upper) =
-        ap (λ a. decode flags (fetch s.values.mem a)) here ∙ ap (decode flags) (word_there bytes base s.values.mem place stand (omega arith) ∙ word_in_window bytes place 8 (lit< tt))
+        ap (λ a. decode flags (fetch s.values.mem a)) here ∙ ap (decode flags) (word_there base bytes s.values.mem place stand (omega arith) ∙ word_in_window bytes place 8 (lit< tt))
         ∙ p.first ∙ ap (option_map (with_number p.upper)) (old_first flags)
     in
     let second : decode flags (fetch s.values.mem (wrap (s.pc + 4))) ≡ Some (jalr_row 0 31 p.lower) =
-        ap (λ a. decode flags (fetch s.values.mem a)) next ∙ ap (decode flags) (word_there bytes base s.values.mem (place + 4) stand (omega arith) ∙ second_in_window bytes place 8 (lit< tt))
+        ap (λ a. decode flags (fetch s.values.mem a)) next ∙ ap (decode flags) (word_there base bytes s.values.mem (place + 4) stand (omega arith) ∙ second_in_window bytes place 8 (lit< tt))
         ∙ p.second ∙ ap (option_map (with_number p.lower)) (old_second flags)
     in
     let spare = same_spare v s.values x same in
@@ -175,7 +176,7 @@ veneer_leads flags code kind u to g even = record {
       let inside = g.inside in
       let same_place : g.at + 0 ≡ g.at = omega arith in
       veneer_ends flags code.bytes base g.at to s v stand g.even even g.inside
-      (veneer_pair flags code.bytes g.at to (λ k lt. byte_there code.bytes base s.values.mem (g.at + k) stand is_state.values.bytes (omega arith))
+      (veneer_pair flags code.bytes g.at to (λ k lt. bytes_fit base code.bytes s.values.mem stand is_state.values.bytes (g.at + k) (omega arith))
       (subst (λ n. SameOutside (marks_of PCRel32) (veneer_of PCRel32).bytes (window code.bytes n 8)) same_place g.own)
       (subst (λ n. Aims PCRel32 (window code.bytes n 8) (pos to -ℤ pos n)) same_place g.on))
       pc is_state are_values same;
