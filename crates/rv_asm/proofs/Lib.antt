@@ -1,5 +1,8 @@
 pub mod Blocked
 pub mod Ending
+pub mod Exits
+pub mod Gaps
+pub mod Joined
 pub mod Jumps
 pub mod Laid
 pub mod Lines
@@ -9,7 +12,10 @@ pub mod Refused
 pub mod Registers
 pub mod Steps
 pub mod Straight
+pub mod Targets
 pub mod Telling
+pub mod Threaded
 pub mod Threads
 pub mod Turns
 pub mod Valid
+pub mod Veneers

@@ -96,7 +96,7 @@ comes job code base symbols slots i line s v t lt e placed is_state are_values p
     }
 
 -- an index below the length has its line
-line_at : (lines : List Line) (i : ℕ) → i < length lines → (line : Line) × (slice_get lines i ≡ Some line)
+pub line_at : (lines : List Line) (i : ℕ) → i < length lines → (line : Line) × (slice_get lines i ≡ Some line)
 line_at [] i lt = absurd (omega arith)
 line_at (l ∷ lines) zero lt = (l, refl)
 line_at (l ∷ lines) (suc i) lt = line_at lines i (omega arith)

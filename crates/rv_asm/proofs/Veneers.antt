@@ -1,5 +1,5 @@
 -- A use of a label leads on: straight to where its label stands, or by a veneer.
-use Rattle.std.proofs.Common.{◌≡◌, ◌≢◌, ℕ, zero, suc, ◌+◌, ◌-◌, ◌*◌, ◌/◌, ◌%◌, ◌^◌, ◌<◌, ◌≤◌, inl, Bool, true, false, List, [], ◌∷◌, length, take, drop, slice_index, Option, Some, None, arith, refl, sym, ap, subst, ◌∙◌, ℤ, pos, negsuc, ◌+ℤ◌, ◌*ℤ◌, ◌-ℤ◌, lit<}
+use Rattle.std.proofs.Common.{◌≡◌, ℕ, zero, suc, ◌+◌, ◌-◌, ◌*◌, ◌/◌, ◌%◌, ◌^◌, ◌<◌, ◌≤◌, inl, Bool, true, false, List, length, drop, slice_index, Some, arith, refl, sym, ap, subst, ◌∙◌, ℤ, pos, negsuc, ◌+ℤ◌, ◌*ℤ◌, ◌-ℤ◌, lit<}
 use Rattle.std.specs.Prelude.{slice_set, nat_lt, if◌then◌else◌}
 use Rattle.std.specs.Option.{option_map}
 use Rattle.std.proofs.lemmas.Int.{ints}
@@ -152,12 +152,12 @@ veneer_ends flags bytes base place to s v stand even to_even inside p pc is_stat
     let x = wrap (s.pc + low64 p.upper * 2 ^ 12) in
     let held : slice_index (slice_set s.values.regs 30 x) 30 ≡ x = get_or-set_at s.values.regs 30 30 x 0 refl (let n = is_state.values.count in omega arith) in
     let first : decode flags (fetch s.values.mem s.pc) ≡ Some (auipc_row p.upper) =
-        ap (λ a. decode flags (fetch s.values.mem a)) here ∙ ap (decode flags) (word_there base bytes s.values.mem place stand (omega arith) ∙ word_in_window bytes place 8 (lit< tt))
-        ∙ p.first ∙ ap (option_map (with_number p.upper)) (old_first flags)
+    ap (λ a. decode flags (fetch s.values.mem a)) here ∙ ap (decode flags) (word_there base bytes s.values.mem place stand (omega arith) ∙ word_in_window bytes place 8 (lit< tt))
+    ∙ p.first ∙ ap (option_map (with_number p.upper)) (old_first flags)
     in
     let second : decode flags (fetch s.values.mem (wrap (s.pc + 4))) ≡ Some (jalr_row 0 31 p.lower) =
-        ap (λ a. decode flags (fetch s.values.mem a)) next ∙ ap (decode flags) (word_there base bytes s.values.mem (place + 4) stand (omega arith) ∙ second_in_window bytes place 8 (lit< tt))
-        ∙ p.second ∙ ap (option_map (with_number p.lower)) (old_second flags)
+    ap (λ a. decode flags (fetch s.values.mem a)) next ∙ ap (decode flags) (word_there base bytes s.values.mem (place + 4) stand (omega arith) ∙ second_in_window bytes place 8 (lit< tt))
+    ∙ p.second ∙ ap (option_map (with_number p.lower)) (old_second flags)
     in
     let spare = same_spare v s.values x same in
     let fits = are_values_set s.values 31 x is_state.values (lit< tt) (omega arith) in
