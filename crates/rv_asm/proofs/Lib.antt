@@ -5,6 +5,7 @@ pub mod Gaps
 pub mod Joined
 pub mod Jumps
 pub mod Laid
+pub mod Lawful
 pub mod Lines
 pub mod Placed
 pub mod Puts
