@@ -1,8 +1,12 @@
 pub mod Blocked
 pub mod Building
 pub mod Ending
+pub mod Exits
+pub mod Gaps
+pub mod Joined
 pub mod Jumps
 pub mod Laid
+pub mod Lawful
 pub mod Lines
 pub mod Placed
 pub mod Puts
@@ -11,7 +15,10 @@ pub mod Registers
 pub mod Standing
 pub mod Steps
 pub mod Straight
+pub mod Targets
 pub mod Telling
+pub mod Threaded
 pub mod Threads
 pub mod Turns
 pub mod Valid
+pub mod Veneers

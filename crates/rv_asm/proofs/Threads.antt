@@ -10,13 +10,15 @@ use Rattle.rv_inst.specs.declared.code.Code.{Code}
 use Rattle.rv_inst.specs.Meaning.{Exit, Next, To, Leave, Break, exit_of, effect_of}
 use Rattle.rv_machine.specs.State.{State, IsState, Values, AreValues, wrap}
 use Rattle.rv_asm.specs.Told.{start_of, end_of}
-use Rattle.rv_asm.specs.Simulation.{Same, At, End, Addresses, place_of, point_of, address_of, standing_of, IsPlaced, IsStopped, Comes, RunsAsListed}
+use Rattle.rv_asm.specs.Simulation.{At, End, Addresses, place_of, point_of, address_of, standing_of, IsPlaced, IsStopped, Comes, RunsAsListed}
 use Rattle.rv_machine.specs.Decode.{decode}
 use Rattle.rv_machine.specs.Steps.{fetch}
-use Rattle.rv_asm.specs.Rows.{ebreak_row}
-use Rattle.rv_asm.specs.Blocks.{StandRows, Ends, exit_address}
-use Rattle.rv_asm.proofs.Placed.{word_there}
-use Rattle.rv_asm.proofs.Blocked.{ends_both}
+use Rattle.rv_emit.specs.Rows.{ebreak_row}
+use Rattle.rv_emit.specs.Runs.{Same, Ends, exit_address}
+use Rattle.rv_emit.specs.Blocks.{StandRows}
+use Rattle.rv_emit.proofs.Blocked.{ends_both}
+use Rattle.rv_emit.proofs.Placed.{word_there}
+use Rattle.rv_asm.proofs.Placed.{bytes_stand}
 
 -- under the whole code, placed, the machine comes from an offset to an address, with an effect
 pub record Leads (flags : IsaFlags) (code : Code) (start : ℕ) (address : ℕ → Values → ℕ) (effect : ℕ → Values → Values) : Type 0 where
@@ -39,7 +41,7 @@ pub record IsThreaded (job : Job) (code : Code) : Type 0 where
   pub last : (i : ℕ) → suc i ≡ length job.lines → code.end ≡ end_of code.lines i
 
 -- a block that wrote no byte left the code where it was placed
-placed_still : (flags : IsaFlags) (code : Code) (base : ℕ) (symbols slots : Addresses) (s : State) (address : ℕ) (v : Values) (e : Ends flags address v s) → IsPlaced code base symbols slots s.values.mem → IsPlaced code base symbols slots e.state.values.mem
+pub placed_still : (flags : IsaFlags) (code : Code) (base : ℕ) (symbols slots : Addresses) (s : State) (address : ℕ) (v : Values) (e : Ends flags address v s) → IsPlaced code base symbols slots s.values.mem → IsPlaced code base symbols slots e.state.values.mem
 placed_still flags code base symbols slots s address v e placed = subst (λ m. IsPlaced code base symbols slots m) (sym e.kept) placed
 
 -- from where a line is left the machine comes to its point
@@ -72,7 +74,7 @@ stops job code base symbols slots i line v Break t threaded e is placed pc =
     let room = placed.room in
     let long = stand.0 in
     let here : t.pc ≡ base + start = pc ∙ omega arith in
-    ap (λ a. decode job.flags (fetch t.values.mem a)) here ∙ ap (decode job.flags) (word_there code base symbols slots t.values.mem start placed stand.0) ∙ stand.1
+    ap (λ a. decode job.flags (fetch t.values.mem a)) here ∙ ap (decode job.flags) (word_there base code.bytes t.values.mem start (bytes_stand code base symbols slots t.values.mem placed) stand.0) ∙ stand.1
 
 comes : (job : Job) (code : Code) (base : ℕ) (symbols slots : Addresses) (i : ℕ) (line : Line) (s : State) (v : Values) → IsThreaded job code → i < length job.lines → slice_get job.lines i ≡ Some line → IsPlaced code base symbols slots s.values.mem → IsState s → AreValues v → s.pc ≡ address_of code base (At i) → Same v s.values → Comes job code base (At i) v s
 comes job code base symbols slots i line s v t lt e placed is_state are_values pc same =
@@ -94,7 +96,7 @@ comes job code base symbols slots i line s v t lt e placed is_state are_values p
     }
 
 -- an index below the length has its line
-line_at : (lines : List Line) (i : ℕ) → i < length lines → (line : Line) × (slice_get lines i ≡ Some line)
+pub line_at : (lines : List Line) (i : ℕ) → i < length lines → (line : Line) × (slice_get lines i ≡ Some line)
 line_at [] i lt = absurd (omega arith)
 line_at (l ∷ lines) zero lt = (l, refl)
 line_at (l ∷ lines) (suc i) lt = line_at lines i (omega arith)

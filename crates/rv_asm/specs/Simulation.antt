@@ -7,13 +7,14 @@ use Rattle.rv_inst.specs.declared.inst.Line.TheVariants.{Inst as Put, Bind}
 use Rattle.rv_inst.specs.declared.job.Job.{Job}
 use Rattle.rv_inst.specs.declared.code.Code.{Code}
 use Rattle.rv_inst.specs.Meaning.{Standing, Exit, Next, To, Leave, Break, exit_of, effect_of}
-use Rattle.rv_machine.specs.State.{State, IsState, Values, AreValues, Memory, byte, reg, wrap}
+use Rattle.rv_machine.specs.State.{State, IsState, Values, AreValues, Memory, byte, wrap}
 use Rattle.rv_base.specs.declared.flags.IsaFlags.{IsaFlags}
 use Rattle.rv_machine.specs.declared.ops.MOp.TheVariants.{Base}
 use Rattle.rv_machine.specs.declared.ops.BaseOp.TheVariants.{Ebreak}
 use Rattle.rv_machine.specs.Layout.{bare_form}
 use Rattle.rv_machine.specs.Decode.{decode}
 use Rattle.rv_machine.specs.Steps.{fetch, iter}
+use Rattle.rv_emit.specs.Runs.{Same}
 use Rattle.rv_asm.specs.Told.{start_of, end_of}
 
 -- the start of a line, by its number; an address outside the code; the end of the last line; or the break of a line
@@ -38,11 +39,6 @@ point_of lines i Next = next_point lines i
 point_of lines i (To label) = At (place_of lines label)
 point_of lines i (Leave a) = Out a
 point_of lines i Break = Stop i
-
--- x1 to x29 and the memories are equal; x30 and x31 may hold anything
-pub record Same (v w : Values) : Type 0 where
-  pub regs : (n : ℕ) → n < 30 → reg v n ≡ reg w n
-  pub mem : (a : ℕ) → byte v.mem a ≡ byte w.mem a
 
 -- where a line's own bytes begin and end, for code that stands at a base
 abbrev pub standing_of : Code → ℕ → ℕ → Standing

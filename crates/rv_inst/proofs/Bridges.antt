@@ -186,6 +186,8 @@ unfolding decode
 decode-patched_pair flags old new d b c b' c' s e a n = record {
   upper = u_number (fields_of (word_at new));
   lower = i_number (fields_of (word_at (drop 4 new)));
+  upper_is = refl;
+  lower_is = refl;
   first = upper_word (fields_of (word_at old)) (fields_of (word_at new)) _ (same_upper old new b c (first_half old new s)) e refl;
   second = lower_word (fields_of (word_at (drop 4 old))) (fields_of (word_at (drop 4 new))) _ (same_lower (drop 4 old) (drop 4 new) b' c' (second_half old new s)) a refl;
   sum = n;
