@@ -12,4 +12,5 @@ pub mod Straight
 pub mod Telling
 pub mod Threads
 pub mod Turns
+pub mod Usable
 pub mod Valid
