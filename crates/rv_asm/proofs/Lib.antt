@@ -20,5 +20,6 @@ pub mod Telling
 pub mod Threaded
 pub mod Threads
 pub mod Turns
+pub mod Usable
 pub mod Valid
 pub mod Veneers

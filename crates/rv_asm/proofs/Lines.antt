@@ -4,7 +4,7 @@ use Rattle.rv_base.specs.declared.flags.IsaFlags.{IsaFlags}
 use Rattle.rv_inst.specs.declared.inst.Line.{Line}
 use Rattle.rv_inst.specs.declared.inst.Line.TheVariants.{Inst as Put, Bind}
 use Rattle.rv_inst.specs.declared.inst.Inst.{Inst}
-use Rattle.rv_inst.specs.declared.inst.Inst.TheVariants.{Nop0, Nop4, EBreak, SequencePoint, Args, Rets, DummyUse, Lui, Auipc, AluRRR, AluRRImm12, Mov, MovFromPReg, Ret, Jal, CondBr, Jalr}
+use Rattle.rv_inst.specs.declared.inst.Inst.TheVariants.{Nop0, Nop4, EBreak, SequencePoint, Args, Rets, DummyUse, EmitIsland, Lui, Auipc, AluRRR, AluRRImm12, Mov, MovFromPReg, Ret, Jal, CondBr, Jalr}
 use Rattle.rv_asm.specs.Blocks.{Runs, IsFine, IsFineInst}
 use Rattle.rv_asm.proofs.Blocked.{ends_here, stays}
 use Rattle.rv_asm.proofs.Straight.{alu_rrr_runs, alu_rri_runs, lui_runs, auipc_runs, mov_runs, mov_from_preg_runs, bind_runs, nop4_ends}
@@ -29,6 +29,7 @@ inst_runs flags place start SequencePoint h = record { run = λ base after s v b
 inst_runs flags place start (Args args) h = record { run = λ base after s v b. ends_here flags base start after s v b }
 inst_runs flags place start (Rets rets) h = record { run = λ base after s v b. ends_here flags base start after s v b }
 inst_runs flags place start (DummyUse reg) h = record { run = λ base after s v b. ends_here flags base start after s v b }
+inst_runs flags place start (EmitIsland needed_space) h = record { run = λ base after s v b. ends_here flags base start after s v b }
 
 pub line_runs : (flags : IsaFlags) (place : ℕ → ℕ) (start : ℕ) (line : Line) → IsFine place start line → Runs flags place start line
 line_runs flags place start (Put inst) h = inst_runs flags place start inst h

@@ -1,8 +1,10 @@
 -- Why a job is refused: the first cause, in the order in which the causes are looked for.
-use Rattle.std.specs.Prelude.{◌≡◌, ℕ, suc, Bool, false, ◌||◌, nat_eq, nat_lt, if◌then◌else◌, List, [], ◌∷◌, length, Option, Some, None, Result, Ok, Err}
+use Rattle.std.specs.Prelude.{◌≡◌, ℕ, suc, ◌+◌, ◌^◌, Bool, false, ◌||◌, nat_eq, nat_lt, if◌then◌else◌, List, [], ◌∷◌, Option, Some, None, Result, Ok, Err}
 use Rattle.rv_base.specs.declared.label.MachLabel.{MachLabel}
 use Rattle.rv_inst.specs.declared.inst.Line.{Line}
 use Rattle.rv_inst.specs.declared.inst.Line.TheVariants.{Inst as Put, Bind}
+use Rattle.rv_inst.specs.declared.inst.Inst.{Inst}
+use Rattle.rv_inst.specs.declared.inst.Inst.TheVariants.{EmitIsland}
 use Rattle.rv_inst.specs.declared.error.Rule.{Rule}
 use Rattle.rv_inst.specs.declared.error.EmitError.{EmitError}
 use Rattle.rv_inst.specs.declared.error.EmitError.TheVariants.{Malformed, LabelTwice, UnboundLabel, TooLarge, OutOfMemory}
@@ -51,9 +53,23 @@ abbrev pub unbound_in : (ℕ → Bool) → List Line → Option EmitError
 unbound_in bound [] = None
 unbound_in bound (line ∷ lines) = first_of (unbound_among bound (named_labels line)) (unbound_in bound lines)
 
--- more lines than branches reach over
+-- the bytes that an instruction counts for: its line's, and those before which it asks for an island
+abbrev pub inst_sum : Inst → ℕ
+inst_sum (EmitIsland needed_space) = 128 + needed_space
+inst_sum _ = 128
+
+abbrev pub line_sum : Line → ℕ
+line_sum (Put inst) = inst_sum inst
+line_sum (Bind label) = 128
+
+-- the bytes that lines count for, which their code doesn't pass
+abbrev pub size_sum : List Line → ℕ
+size_sum [] = 0
+size_sum (line ∷ lines) = line_sum line + size_sum lines
+
+-- lines that count for more than branches and spans are sure to take
 abbrev pub too_large : List Line → Option EmitError
-too_large lines = if nat_lt 500 (length lines) then Some TooLarge else None
+too_large lines = if nat_lt (2 ^ 30) (size_sum lines) then Some TooLarge else None
 
 -- why these lines are refused, if they are
 unfoldable pub refusal : List Line → Option EmitError

@@ -1,10 +1,10 @@
 //! Why a job is refused.
 
-ghost use Rattle.std.specs.Prelude.{◌≡◌, ℕ, [], ◌∷◌, ◌++◌, ◌||◌, false, nat_eq, IfOk, OnOk};
+ghost use Rattle.std.specs.Prelude.{◌≡◌, ℕ, ◌^◌, [], ◌∷◌, ◌++◌, ◌||◌, false, nat_eq, nat_lt, IfOk, OnOk};
 ghost use Rattle.std.specs.BTreeSet.{contains};
 ghost use Rattle.std.specs.Ordering.{nat_cmp};
 ghost use Rattle.rv_inst.specs.Fields.{named_labels, inst_labels, control_labels, target_labels};
-ghost use Rattle.rv_asm.specs.Refusal.{is_bound, broken_from, binds, twice_of, twice_in, twice_from, unbound_among, unbound_in, refusal, Finds};
+ghost use Rattle.rv_asm.specs.Refusal.{is_bound, broken_from, binds, twice_of, twice_in, twice_from, unbound_among, unbound_in, inst_sum, line_sum, size_sum, refusal, Finds};
 
 use rv_base::constant::Constant;
 use rv_base::flags::IsaFlags;
@@ -29,7 +29,7 @@ pub fn accept(
     keep_rules(lines, flags, frame, constants)?;
     let bound = bind_labels(alloc, lines)?;
     find_all(&bound, lines)?;
-    if lines.len() > 500 {
+    if is_too_large(lines) {
         return Err(EmitError::TooLarge);
     }
     Ok(())
@@ -164,5 +164,39 @@ fn find_label(bound: &BTreeSet<u32>, label: MachLabel) -> Result<(), EmitError>
         Err(EmitError::UnboundLabel {
             label: label.number,
         })
+    }
+}
+
+/// Whether the lines count for more than 2^30 bytes.
+fn is_too_large(lines: &[Line]) -> bool
+    ensures { result ≡ nat_lt (2 ^ 30) (size_sum lines.now) }
+{
+    let mut left: u64 = 1 << 30;
+    for line in lines {
+        let sum = line_sum(line);
+        if sum > left {
+            return true;
+        }
+        left -= sum;
+    }
+    false
+}
+
+/// The bytes that a line counts for.
+fn line_sum(line: &Line) -> u64
+    ensures { result ≡ line_sum line.now }
+{
+    match line {
+        Line::Inst(inst) => inst_sum(inst),
+        Line::Bind(_) => 128,
+    }
+}
+
+fn inst_sum(inst: &Inst) -> u64
+    ensures { result ≡ inst_sum inst.now }
+{
+    match inst {
+        Inst::EmitIsland { needed_space } => 128 + *needed_space as u64,
+        _ => 128,
     }
 }

@@ -11,7 +11,7 @@ use Rattle.rv_inst.specs.declared.inst.Line.TheVariants as kinds
 use Rattle.rv_listing.specs.Tokens.{◌>>=◌, or_else}
 use Rattle.rv_listing.specs.Fields.{done, ◌⊛◌, whole}
 use Rattle.rv_listing.specs.Registers.{register}
-use Rattle.rv_listing.specs.Operands.{writable, real_register, imm12, imm20, label, target, cond_code}
+use Rattle.rv_listing.specs.Operands.{writable, real_register, imm12, imm20, space, label, target, cond_code}
 use Rattle.rv_listing.specs.Operations.{alu_rri, alu_rrr}
 use Rattle.rv_listing.specs.Types.{type_named}
 use Rattle.rv_listing.specs.Pairs.{arg_pair, ret_pair, listed}
@@ -32,6 +32,9 @@ sequence_point_row = whole (done form.SequencePoint)
 
 unfoldable pub dummy_use_row : List (List ℕ) → Option Inst
 dummy_use_row = whole (done form.DummyUse ⊛ register)
+
+unfoldable pub emit_island_row : List (List ℕ) → Option Inst
+emit_island_row = whole (done form.EmitIsland ⊛ space)
 
 unfoldable pub args_row : List (List ℕ) → Option Inst
 args_row = whole (done form.Args ⊛ listed arg_pair)
@@ -89,7 +92,8 @@ marks_row name ws =
     if bytes_eq name (codes "Nop4") then nop4_row ws else
     if bytes_eq name (codes "EBreak") then ebreak_row ws else
     if bytes_eq name (codes "SequencePoint") then sequence_point_row ws else
-    if bytes_eq name (codes "DummyUse") then dummy_use_row ws else None
+    if bytes_eq name (codes "DummyUse") then dummy_use_row ws else
+    if bytes_eq name (codes "EmitIsland") then emit_island_row ws else None
 
 -- those that write registers, and go on
 unfoldable pub plain_row : List ℕ → List (List ℕ) → Option Inst

@@ -14,7 +14,7 @@ use Rattle.rv_imms.specs.declared.imm12.Imm12.{Imm12}
 use Rattle.rv_imms.specs.declared.imm20.Imm20.{Imm20}
 use Rattle.rv_inst.specs.declared.inst.CondBrTarget.{CondBrTarget}
 use Rattle.rv_inst.specs.declared.inst.CondBrTarget.TheVariants as targets
-use Rattle.rv_listing.specs.Tokens.{◌>>=◌, where_true, below, starts, decimal, signed}
+use Rattle.rv_listing.specs.Tokens.{◌>>=◌, where_true, below, starts, decimal, natural, signed}
 use Rattle.rv_listing.specs.Registers.{register}
 
 unfoldable pub writable : List ℕ → Option (Writable Reg)
@@ -35,6 +35,10 @@ imm20_of n = where_true (int_le (negsuc 524287) n) (λ low. where_true (int_le n
 
 unfoldable pub imm20 : List ℕ → Option Imm20
 imm20 w = signed w >>= imm20_of
+
+-- a count of bytes, without a sign
+unfoldable pub space : List ℕ → Option ℕ
+space w = natural w >>= below (2 ^ 32)
 
 -- L and the label's number
 unfoldable pub label : List ℕ → Option MachLabel

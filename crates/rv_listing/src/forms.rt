@@ -4,7 +4,7 @@ ghost use Rattle.std.specs.Prelude.{◌≡◌};
 ghost use Rattle.rv_listing.specs.Tokens.{more};
 ghost use Rattle.rv_listing.specs.Fields.{Makes, TakesFirst, field};
 ghost use Rattle.rv_listing.specs.Pairs.{listed};
-ghost use Rattle.rv_listing.specs.Forms.{args_row, rets_row, nop0_row, nop4_row, ebreak_row, sequence_point_row, dummy_use_row, lui_row, auipc_row, alu_rrr_row, alu_rr_imm12_row, mov_row, mov_from_preg_row, ret_row, jal_row, cond_br_row, jalr_row, bind_row, marks_row, plain_row, control_row, flat_row, inst_row, line_row};
+ghost use Rattle.rv_listing.specs.Forms.{args_row, rets_row, nop0_row, nop4_row, ebreak_row, sequence_point_row, dummy_use_row, emit_island_row, lui_row, auipc_row, alu_rrr_row, alu_rr_imm12_row, mov_row, mov_from_preg_row, ret_row, jal_row, cond_br_row, jalr_row, bind_row, marks_row, plain_row, control_row, flat_row, inst_row, line_row};
 
 use crate::fields::{LineError, Token, allowed, field, whole};
 use crate::pairs::listed;
@@ -50,6 +50,14 @@ fn dummy_use(rest: &[u8]) -> Option<Inst>
 {
     let (reg, rest) = field(rest)?;
     whole(Inst::DummyUse { reg }, rest)
+}
+
+#[tactic(auto, unfolding(crate::specs::Forms::emit_island_row))]
+fn emit_island(rest: &[u8]) -> Option<Inst>
+    ensures { result ≡ emit_island_row (more rest.now) }
+{
+    let (needed_space, rest) = field(rest)?;
+    whole(Inst::EmitIsland { needed_space }, rest)
 }
 
 // The next word, as a list of tokens.
@@ -227,6 +235,8 @@ fn marks(name: &[u8], rest: &[u8]) -> Option<Inst>
         sequence_point(rest)
     } else if name == b"DummyUse".as_slice() {
         dummy_use(rest)
+    } else if name == b"EmitIsland".as_slice() {
+        emit_island(rest)
     } else {
         None
     }

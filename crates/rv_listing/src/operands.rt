@@ -3,11 +3,11 @@
 ghost use Rattle.std.specs.Prelude.{◌≡◌};
 ghost use Rattle.rv_base.specs.Regs.{real_of};
 ghost use Rattle.rv_listing.specs.Registers.{register};
-ghost use Rattle.rv_listing.specs.Operands.{writable, real_register, imm12_of, imm12, imm20_of, imm20, label, target, cond_code};
+ghost use Rattle.rv_listing.specs.Operands.{writable, real_register, imm12_of, imm12, imm20_of, imm20, space, label, target, cond_code};
 
 use crate::fields::Token;
 use crate::registers::register;
-use crate::tokens::{decimal, signed, starts, tail};
+use crate::tokens::{decimal, natural, signed, starts, tail};
 use rv_base::condcodes::IntCC;
 use rv_base::label::MachLabel;
 use rv_base::regs::{PReg, Reg, Writable};
@@ -82,6 +82,20 @@ impl Token for Imm20 {
     #[tactic(auto, unfolding(crate::specs::Operands::imm20))]
     fn read(w: &[u8]) -> Option<Imm20> {
         imm20_of(signed(w)?)
+    }
+}
+
+impl Token for u32 {
+    ghost reads = { space };
+
+    #[tactic(auto, unfolding(crate::specs::Operands::space))]
+    fn read(w: &[u8]) -> Option<u32> {
+        let n = natural(w)?;
+        if n < 0x1_0000_0000 {
+            Some(n as u32)
+        } else {
+            None
+        }
     }
 }
 

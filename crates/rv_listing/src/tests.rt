@@ -79,6 +79,10 @@ fn texts(rt: HostRuntime) -> Result<(), Fail> {
             Ok(3),
         ),
         ("Lui a0 524287\nLui a0 -524288\nJal L4294967295\n", Ok(3)),
+        (
+            "EmitIsland 88\nEmitIsland 4294967295\nEmitIsland 0x58\n",
+            Ok(3),
+        ),
         ("AluRRR add %192 x31 v0\n", Ok(1)),
         ("Nop0\nNop4\nEBreak\nSequencePoint\nDummyUse v3\n", Ok(5)),
         (
@@ -104,6 +108,9 @@ fn texts(rt: HostRuntime) -> Result<(), Fail> {
         ("Bind 0\n", Err(1)),
         ("Bind L00\n", Err(1)),
         ("Jal L4294967296\n", Err(1)),
+        ("EmitIsland 4294967296\n", Err(1)),
+        ("EmitIsland -1\n", Err(1)),
+        ("EmitIsland\n", Err(1)),
         ("Jal -\n", Err(1)),
         ("CondBr lt a0 a1 - -\n", Err(1)),
         ("ret\n", Err(1)),

@@ -48,6 +48,8 @@ fn listings(rt: HostRuntime) -> Result<(), Fail> {
         ("Mov a0 a1 i128\n", 4, "rvemit: Malformed 0 BadType\n"),
         ("Bind L0\nBind L0\n", 4, "rvemit: LabelTwice 0\n"),
         ("Jal L7\n", 4, "rvemit: UnboundLabel 7\n"),
+        ("EmitIsland 1073741696\n", 0, "code 0\nline 0 0 0\nend 0\n"),
+        ("EmitIsland 1073741697\n", 4, "rvemit: TooLarge\n"),
     ];
     for (listing, status, text) in rows {
         let mut sink = SureSink::new(rt.alloc());
@@ -63,19 +65,9 @@ fn listings(rt: HostRuntime) -> Result<(), Fail> {
     Ok(())
 }
 
-// How many returns: the status, and how the text begins.
+// How long an input is: the status, and the text.
 #[test]
 fn lengths(rt: HostRuntime) -> Result<(), Fail> {
-    for (count, status, begins) in [(500, 0, "code 2000\n"), (501, 4, "rvemit: TooLarge\n")] {
-        let mut listing = Vec::new(rt.alloc());
-        for _ in 0..count {
-            listing.extend_from_slice(b"Ret\n")?;
-        }
-        let mut sink = SureSink::new(rt.alloc());
-        let outcome = run(rt.alloc(), &[], &mut SureSource::new(&listing), &mut sink);
-        assert_eq!(rt; outcome.status(), status, "at {count}");
-        assert!(rt; sink.bytes().starts_with(begins.as_bytes()), "at {count}");
-    }
     for (length, status, text) in [
         (16777216, 0, "code 0\nend 0\n"),
         (16777217, 7, "rvemit: too long\n"),
