@@ -1,9 +1,7 @@
-pub mod Blocks
 pub mod Built
 pub mod Job
 pub mod Outcomes
 pub mod Reaching
 pub mod Refusal
-pub mod Rows
 pub mod Simulation
 pub mod Told

@@ -3,13 +3,12 @@ use Rattle.std.specs.Prelude.{◌≡◌, ℕ, suc, ◌+◌, ◌^◌, Bool, false
 use Rattle.rv_base.specs.declared.label.MachLabel.{MachLabel}
 use Rattle.rv_inst.specs.declared.inst.Line.{Line}
 use Rattle.rv_inst.specs.declared.inst.Line.TheVariants.{Inst as Put, Bind}
-use Rattle.rv_inst.specs.declared.inst.Inst.{Inst}
-use Rattle.rv_inst.specs.declared.inst.Inst.TheVariants.{EmitIsland}
 use Rattle.rv_inst.specs.declared.error.Rule.{Rule}
 use Rattle.rv_inst.specs.declared.error.EmitError.{EmitError}
 use Rattle.rv_inst.specs.declared.error.EmitError.TheVariants.{Malformed, LabelTwice, UnboundLabel, TooLarge, OutOfMemory}
 use Rattle.rv_inst.specs.Fields.{named_labels}
 use Rattle.rv_inst.specs.Rules.{first_of, broken_rule}
+use Rattle.rv_emit.specs.Emitted.{inst_sum}
 
 abbrev pub malformed : ℕ → Option Rule → Option EmitError
 malformed index None = None
@@ -53,11 +52,7 @@ abbrev pub unbound_in : (ℕ → Bool) → List Line → Option EmitError
 unbound_in bound [] = None
 unbound_in bound (line ∷ lines) = first_of (unbound_among bound (named_labels line)) (unbound_in bound lines)
 
--- the bytes that an instruction counts for: its line's, and those before which it asks for an island
-abbrev pub inst_sum : Inst → ℕ
-inst_sum (EmitIsland needed_space) = 128 + needed_space
-inst_sum _ = 128
-
+-- the bytes that a line counts for: 128, and those before which it asks for an island
 abbrev pub line_sum : Line → ℕ
 line_sum (Put inst) = inst_sum inst
 line_sum (Bind label) = 128

@@ -8,19 +8,21 @@ ghost use Rattle.rv_asm.specs.Job.{job_of};
 ghost use Rattle.rv_asm.specs.Refusal.{refusal, Finds};
 ghost use Rattle.rv_asm.specs.Told.{Told};
 ghost use Rattle.rv_asm.specs.Simulation.{RunsAsListed};
-ghost use Rattle.rv_asm.specs.Blocks.{IsLaidOut};
+ghost use Rattle.rv_asm.specs.Built.{IsFinished};
 
-use crate::layout::lay_out;
+use crate::lines::put_line;
 use crate::refusal::accept;
-use crate::words::put_lines;
+use mach_buffer::buffer::MachBuffer;
 use rv_base::constant::Constant;
 use rv_base::flags::IsaFlags;
 use rv_base::frame::FrameLayout;
 use rv_base::list::List;
 use rv_base::memory::OutOfMemory;
+use rv_emit::state::{EmitInfo, EmitState, MachInstEmitState};
 use rv_inst::code::Code;
 use rv_inst::error::EmitError;
 use rv_inst::inst::Line;
+use rv_inst::label_use::LabelUse;
 use std::alloc::Global;
 
 /// The code of a listing, which runs as its lines say. Every flag is off, the frame has no bytes, and there are no
@@ -40,23 +42,38 @@ pub fn assemble(
     ensures refused { Finds (refusal lines.now) result }
 {
     accept(alloc, lines, flags, frame, constants)?;
-    match build(alloc, lines) {
+    match build(alloc, lines, flags, constants) {
         Ok(code) => Ok(code),
         Err(OutOfMemory) => Err(EmitError::OutOfMemory),
     }
 }
 
 /// The code of lines that aren't refused.
-fn build(alloc: Global, lines: &[Line]) -> Result<Code, OutOfMemory>
-    requires { refusal lines.now ≡ None }
-    ensures { IfOk result (λ code. (flags : IsaFlags) → IsLaidOut flags lines.now code) }
+fn build(
+    alloc: Global,
+    lines: &[Line],
+    flags: IsaFlags,
+    constants: &[Constant],
+) -> Result<Code, OutOfMemory>
+    requires accepted { refusal lines.now ≡ None }
+    requires constants { constants.now ≡ [] }
+    ensures { IfOk result (IsFinished lines.now) }
 {
-    let layout = lay_out(alloc, lines)?;
-    let bytes = put_lines(alloc, &layout.offsets, lines)?;
+    let info = EmitInfo::new(flags);
+    let mut state = EmitState::new(FrameLayout::none(alloc));
+    let mut sink = MachBuffer::<LabelUse>::new(alloc);
+    sink.register_constants(constants)?;
+    let mut spans = Vec::new(alloc);
+    for (index, line) in lines.iter().enumerate() {
+        let span = put_line(alloc, &mut sink, &info, &mut state, index, line)?;
+        spans.push(span)?;
+    }
+    let end = sink.cur_offset();
+    let finished = sink.finish(constants)?;
     Ok(Code {
-        bytes: List::from_vec(bytes),
-        lines: List::from_vec(layout.spans),
-        labels: List::from_vec(layout.labels),
-        end: layout.end,
+        bytes: finished.bytes,
+        lines: List::from_vec(spans),
+        labels: finished.labels,
+        end,
     })
 }

@@ -2,13 +2,12 @@
 #![tactic(auto)]
 
 pub mod assemble;
-pub mod layout;
+pub mod lines;
 pub mod outcome;
 pub mod refusal;
 pub mod run;
 #[cfg(test)]
 mod tests;
-pub mod words;
 
 pub use rv_listing::reading::{ReadError, read_job};
 pub use rv_listing::report::report;

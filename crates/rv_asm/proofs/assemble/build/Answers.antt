@@ -1,27 +1,34 @@
-use Rattle.std.proofs.Common.{◌≡◌, ℕ, sym, ◌∙◌, subst, length}
-use Rattle.rv_asm.specs.Blocks.{offset_in, AllFine, LinesStand, end_from}
-use Rattle.rv_asm.proofs.Valid.{few, fine, places}
+use Rattle.std.proofs.Common.{sym, subst, ap, ◌∙◌}
+use Rattle.rv_inst.specs.declared.code.LineSpan.{LineSpan}
+use Rattle.std.proofs.Common.{List}
+use Rattle.rv_asm.proofs.Turning.{SoFar, so_far_none, line_read, can_put, so_far_next, ready, finished, code_short}
 use Rattle.rv_asm.proofs.assemble.build.Goals as goal
 
-pub lay_out-requires : goal.lay_out-requires
-lay_out-requires c = few c.args.lines.now c.requires
+pub put_line-requires : goal.put_line-requires
+put_line-requires c =
+    let lines = c.args.lines.now in
+    let n = c.loop-index.index in
+    let line = c.index-lines-index.result in
+    can_put lines n c.loop-index.spans.items c.loop-index.sink line c.requires.accepted c.loop-index.invariant (line_read lines n line c.loop-index-test.true c.index-lines-index.is)
 
-pub put_lines-requires-clause-count : goal.put_lines-requires-clause-count
-put_lines-requires-clause-count c = few c.args.lines.now c.requires
+pub loop-index-preserved : goal.loop-index-preserved
+loop-index-preserved c =
+    let lines = c.args.lines.now in
+    let n = c.loop-index.index in
+    let line = c.index-lines-index.result in
+    so_far_next lines n c.loop-index.spans.items c.push.new.self.items c.loop-index.sink c.put_line.new.sink line c.in_ok-span.span c.requires.accepted c.loop-index.invariant (line_read lines n line c.loop-index-test.true c.index-lines-index.is)
+    c.in_ok-span.ensures.index c.in_ok-span.ensures.put c.in_ok-push.ensures.items
 
-pub put_lines-requires-clause-fine : goal.put_lines-requires-clause-fine
-put_lines-requires-clause-fine c =
-    subst (λ (place : ℕ → ℕ). AllFine place 0 c.args.lines.now) (sym (places c.in_ok-layout.layout.offsets c.args.lines.now c.in_ok-layout.ensures.offsets))
-    (fine c.args.lines.now c.requires)
+pub finish-requires-clause-ready : goal.finish-requires-clause-ready
+finish-requires-clause-ready c = ready c.args.lines.now c.loop-index.index c.loop-index.spans.items c.loop-index.sink c.requires.accepted c.loop-index-test.false c.loop-index.invariant
+
+pub invariant_of-result : goal.invariant_of-result
+invariant_of-result c = record {
+  small = code_short c.args.lines.now c.loop-index.index c.loop-index.spans.items c.loop-index.sink c.in_ok-finished.finished.bytes c.requires.accepted c.loop-index-test.false c.loop-index.invariant c.in_ok-finished.ensures.code;
+}
 
 pub returns : goal.returns
-returns c = λ flags. record {
-  rows =
-      subst (λ bytes. LinesStand flags (offset_in c.args.lines.now) bytes 0 c.args.lines.now) (sym c.from_vec.ensures)
-      (subst (λ (place : ℕ → ℕ). LinesStand flags place c.in_ok-bytes.bytes.items 0 c.args.lines.now) (places c.in_ok-layout.layout.offsets c.args.lines.now c.in_ok-layout.ensures.offsets)
-      (c.in_ok-bytes.ensures.rows flags));
-  long = subst (λ bytes. length bytes ≡ end_from 0 c.args.lines.now) (sym c.from_vec.ensures) c.in_ok-bytes.ensures.long;
-  spans = c.from_vec-2.ensures ∙ c.in_ok-layout.ensures.spans;
-  labels = c.from_vec-3.ensures ∙ c.in_ok-layout.ensures.labels;
-  finish = c.in_ok-layout.ensures.finish;
-}
+returns c =
+    finished c.args.lines.now c.loop-index.index _ c.loop-index.sink c.requires.accepted c.loop-index-test.false
+    (subst (λ (spans : List LineSpan). SoFar c.args.lines.now c.loop-index.index spans c.loop-index.sink) (sym c.from_vec.ensures) c.loop-index.invariant)
+    c.in_ok-finished.ensures.code c.in_ok-finished.ensures.labels c.cur_offset-end.ensures

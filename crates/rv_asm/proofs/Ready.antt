@@ -1,0 +1,26 @@
+-- Code that was built and finished keeps what is promised of it.
+use Rattle.std.proofs.Common.{◌≡◌, ℕ, ◌+◌, ◌^◌, ◌<◌, ◌≤◌, length, None, sym, ◌∙◌, arith}
+use Rattle.rv_inst.specs.declared.job.Job.{Job}
+use Rattle.rv_inst.specs.declared.code.Code.{Code}
+use Rattle.mach_buffer.proofs.Patched.{old_kept}
+use Rattle.rv_asm.specs.Refusal.{refusal}
+use Rattle.rv_asm.specs.Told.{Told}
+use Rattle.rv_asm.specs.Simulation.{RunsAsListed}
+use Rattle.rv_asm.specs.Built.{IsFinished}
+use Rattle.rv_asm.proofs.Finishing.{finished_short}
+use Rattle.rv_asm.proofs.Lawful.{names_bound}
+use Rattle.rv_asm.proofs.Refused.{parts, no_rule_broken, sum_small}
+use Rattle.rv_asm.proofs.Telling.{built_told}
+use Rattle.rv_asm.proofs.Threaded.{built_runs}
+
+pub finished_told : (job : Job) (code : Code) → IsFinished job.lines code → Told job code
+finished_told job code f =
+    let kept = old_kept f.finished in
+    let long = f.finished.long in
+    built_told job code f.sink f.built (f.labels ∙ f.named.labels) f.end (omega (arith, kept.1, long))
+
+pub finished_runs : (job : Job) (code : Code) → refusal job.lines ≡ None → IsFinished job.lines code → RunsAsListed job code
+finished_runs job code e f =
+    let short = finished_short job.lines f.sink code.bytes f.sized f.finished in
+    let small = sum_small job.lines e in
+    built_runs job code f.sink f.built f.ready f.finished f.end (omega arith) (no_rule_broken job.lines e) (names_bound job.lines job.lines (parts job.lines e).unbound)

@@ -1,0 +1,115 @@
+//! One line after another into the buffer.
+
+ghost use Rattle.std.specs.Prelude.{◌≡◌, ◌+◌, ◌*◌, ◌^◌, ◌<◌, length, IfOk, OnOk, None};
+ghost use Rattle.rv_inst.specs.declared.inst.Line.TheVariants.{Inst as Put, Bind};
+ghost use Rattle.mach_buffer.specs.Reach.{CanReach};
+ghost use Rattle.mach_buffer.specs.Buffer.{bytes_of, drawn_of};
+ghost use Rattle.rv_emit.specs.Emitted.{IsSoundBuffer, pending, MakesRoom, CanEmit, Emitted};
+ghost use Rattle.rv_asm.specs.Built.{CanPut, InstPut, BindPut, LinePut};
+
+use mach_buffer::buffer::MachBuffer;
+use rv_base::label::MachLabel;
+use rv_base::memory::OutOfMemory;
+use rv_emit::emit::MachInstEmit;
+use rv_emit::island::make_room;
+use rv_emit::state::{EmitInfo, EmitState, MachInstEmitState};
+use rv_inst::code::LineSpan;
+use rv_inst::inst::{Inst, Line};
+use rv_inst::label_use::LabelUse;
+use std::alloc::Global;
+
+/// How many bytes an island is asked for before, at each instruction.
+const LINE_SPACE: u32 = 88;
+
+/// Puts a line, behind an island where one is needed, and gives its span.
+pub fn put_line(
+    alloc: Global,
+    sink: &mut MachBuffer<LabelUse>,
+    info: &EmitInfo,
+    state: &mut EmitState,
+    index: usize,
+    line: &Line,
+) -> Result<LineSpan, OutOfMemory>
+    requires { CanPut line.now sink.old }
+    ensures index { IfOk result (λ span. span.index ≡ index) }
+    ensures put { IfOk result (λ span. LinePut line.now sink.old sink.new span) }
+{
+    match line {
+        Line::Inst(inst) => put_inst(alloc, sink, info, state, index, inst),
+        Line::Bind(label) => put_bind(sink, state, index, *label),
+    }
+}
+
+/// Binds a label here.
+fn put_bind(
+    sink: &mut MachBuffer<LabelUse>,
+    state: &mut EmitState,
+    index: usize,
+    label: MachLabel,
+) -> Result<LineSpan, OutOfMemory>
+    requires { CanPut (Bind label) sink.old }
+    ensures index { IfOk result (λ span. span.index ≡ index) }
+    ensures put { IfOk result (λ span. BindPut label sink.old sink.new span) }
+{
+    let here = sink.cur_offset();
+    sink.bind_label(label)?;
+    state.on_new_block();
+    Ok(LineSpan {
+        index,
+        start: here,
+        end: here,
+    })
+}
+
+/// Emits an instruction, behind an island where one is needed.
+fn put_inst(
+    alloc: Global,
+    sink: &mut MachBuffer<LabelUse>,
+    info: &EmitInfo,
+    state: &mut EmitState,
+    index: usize,
+    inst: &Inst,
+) -> Result<LineSpan, OutOfMemory>
+    requires { CanPut (Put inst.now) sink.old }
+    ensures index { IfOk result (λ span. span.index ≡ index) }
+    ensures put { IfOk result (λ span. InstPut inst.now sink.old sink.new span) }
+{
+    make_way(sink, state)?;
+    let start = sink.cur_offset();
+    emit(alloc, sink, info, state, inst)?;
+    let end = sink.cur_offset();
+    Ok(LineSpan { index, start, end })
+}
+
+/// Puts an island where one is needed before a line. Whether it did.
+fn make_way(sink: &mut MachBuffer<LabelUse>, state: &mut EmitState) -> Result<bool, OutOfMemory>
+    requires sound { IsSoundBuffer sink.old }
+    requires reach { CanReach (length (bytes_of sink.old)) (pending sink.old) }
+    requires few { drawn_of sink.old < 2 ^ 30 }
+    requires room { length (bytes_of sink.old) + 8 * length (pending sink.old) + 32 < 2147479552 }
+    ensures { IfOk result (λ made. MakesRoom 88 sink.old sink.new made) }
+{
+    let made = make_room(sink, LINE_SPACE)?;
+    if made {
+        state.on_new_block();
+    }
+    Ok(made)
+}
+
+/// Emits an instruction.
+fn emit(
+    alloc: Global,
+    sink: &mut MachBuffer<LabelUse>,
+    info: &EmitInfo,
+    state: &mut EmitState,
+    inst: &Inst,
+) -> Result<(), OutOfMemory>
+    requires { CanEmit inst.now sink.old }
+    ensures emitted { OnOk result (Emitted inst.now sink.old sink.new) }
+    ensures reach { OnOk result (CanReach (length (bytes_of sink.new)) (pending sink.new)) }
+{
+    match inst.emit(alloc, sink, info, state) {
+        Ok(()) => Ok(()),
+        Err(_) => Err(OutOfMemory),
+    }
+}
