@@ -16,6 +16,7 @@ use Rattle.rv_emit.specs.Emitted.{uses_in}
 use Rattle.rv_asm.specs.Told.{start_of, end_of}
 use Rattle.rv_asm.specs.Built.{end_before}
 use Rattle.rv_asm.specs.Reaching.{is_behind_island, is_island, last_island, is_island_at, open_from, uses_from, bound_by, waiting, IsDue, label_count}
+use Rattle.rv_asm.specs.Since.{open_uses}
 use Rattle.rv_asm.proofs.Naming.{start_more, end_more, start_last, end_last}
 
 -- ---- where islands stand
@@ -168,9 +169,6 @@ due_more lines more spans more_spans i at distance count le d =
     }
 
 -- ---- the uses that are open, as one line is added
-
-abbrev pub open_uses : List Line → List LineSpan → List (Use LabelUse)
-open_uses lines spans = uses_from spans (open_from lines spans (length lines)) (drop (open_from lines spans (length lines)) lines)
 
 -- those of a line that starts at an offset
 abbrev pub own_uses : Line → ℕ → List (Use LabelUse)
