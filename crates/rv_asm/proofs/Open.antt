@@ -1,11 +1,10 @@
 -- The uses behind which no island stands: whose they are, how far they reach, and how many.
 use Rattle.std.proofs.Common.{◌≡◌, ℕ, zero, suc, ◌+◌, ◌*◌, ◌^◌, ◌<◌, ◌≤◌, Bool, true, false, cond, not, ◌&&◌, ◌||◌, List, [], ◌∷◌, ◌++◌, length, take, drop, Option, Some, None, refl, ap, sym, ◌∙◌, subst, arith}
-use Rattle.std.specs.Prelude.{slice_get, nat_le, nat_lt, is_none, if◌then◌else◌}
+use Rattle.std.specs.Prelude.{slice_get, nat_le, nat_lt, is_none}
 use Rattle.std.specs.List.{list_any}
 use Rattle.std.proofs.lemmas.Bool.{true≢false, ltb-true, leb-false, or_parts}
 use Rattle.std.proofs.lemmas.Option.{slice_get_within}
 use Rattle.std.proofs.lemmas.List.{length-append, take_all}
-use Rattle.rv_base.specs.declared.label.MachLabel.{MachLabel}
 use Rattle.rv_inst.specs.declared.code.LineSpan.{LineSpan}
 use Rattle.rv_inst.specs.declared.error.Rule.{Rule}
 use Rattle.rv_inst.specs.declared.inst.Inst.{Inst}
@@ -15,13 +14,13 @@ use Rattle.rv_inst.specs.declared.inst.Line.{Line}
 use Rattle.rv_inst.specs.declared.inst.Line.TheVariants.{Inst as Put, Bind}
 use Rattle.rv_inst.specs.declared.label_use.LabelUse.{LabelUse}
 use Rattle.rv_inst.specs.declared.label_use.LabelUse.TheVariants.{Jal20}
-use Rattle.rv_inst.specs.Fields.{named_labels, inst_labels, inst_registers}
+use Rattle.rv_inst.specs.Fields.{inst_labels, inst_registers}
 use Rattle.rv_inst.specs.LabelUse.{forward_of, backward_of, has_veneer_of}
 use Rattle.rv_inst.specs.declared.error.Rule.TheVariants as rule_of
-use Rattle.rv_inst.specs.Rules.{inst_rule, broken_rule, is_inner, is_virtual, is_misplaced, is_reserved, has_bad_type, is_out_of_range, lacks_target}
+use Rattle.rv_inst.specs.Rules.{inst_rule, is_inner, is_virtual, is_misplaced, is_reserved, has_bad_type, is_out_of_range, lacks_target}
 use Rattle.mach_buffer.specs.declared.uses.Use.{Use}
 use Rattle.mach_buffer.specs.Reach.{deadline, deadlines, due_by, is_needed, is_needed_from, is_reached}
-use Rattle.mach_buffer.specs.Buffer.{bytes_of, uses_of, place_of}
+use Rattle.mach_buffer.specs.Buffer.{bytes_of, place_of}
 use Rattle.mach_buffer.proofs.Apart.{both_lists}
 use Rattle.mach_buffer.proofs.Slack.{deadlines_append, none_from}
 use Rattle.rv_emit.specs.Emitted.{Buffer, pending, use_at, uses_in}
@@ -31,7 +30,7 @@ use Rattle.rv_asm.specs.Told.{start_of}
 use Rattle.rv_asm.specs.Reaching.{least_reach, label_count, last_island, open_from, uses_from, bound_by, waiting, IsDue}
 use Rattle.rv_asm.specs.Since.{open_uses, Since}
 use Rattle.rv_asm.proofs.Naming.{uses_labels}
-use Rattle.rv_asm.proofs.Prefixes.{open_low, last_open}
+use Rattle.rv_asm.proofs.Prefixes.{last_open}
 
 -- ---- the uses of one instruction
 

@@ -1,8 +1,8 @@
 -- What waits since the last island, as lines are put.
-use Rattle.std.proofs.Common.{◌≡◌, ◌≢◌, ℕ, zero, suc, ◌+◌, ◌^◌, ◌<◌, ◌≤◌, ◌⊎◌, inl, inr, Bool, true, false, cond, not, ◌&&◌, List, [], ◌∷◌, ◌++◌, length, take, drop, Option, Some, None, refl, ap, sym, ◌∙◌, subst, arith, ⊎_elim, append_assoc}
-use Rattle.std.specs.Prelude.{slice_get, nat_eq, nat_le, nat_lt, if◌then◌else◌}
-use Rattle.std.proofs.lemmas.Bool.{true≢false, eqb-true, eq-eqb, ne_eqb, cases_eq, lt-ltb, ltb-true}
-use Rattle.std.proofs.lemmas.List.{append-nil, take_all}
+use Rattle.std.proofs.Common.{◌≡◌, ℕ, ◌+◌, ◌⊎◌, inl, inr, Bool, true, false, cond, List, [], ◌∷◌, ◌++◌, length, Option, Some, None, refl, ap, sym, ◌∙◌, subst, arith, ⊎_elim, append_assoc}
+use Rattle.std.specs.Prelude.{slice_get, nat_eq, nat_lt}
+use Rattle.std.proofs.lemmas.Bool.{true≢false, eq-eqb, ne_eqb, cases_eq, lt-ltb, ltb-true}
+use Rattle.std.proofs.lemmas.List.{append-nil}
 use Rattle.rv_base.specs.declared.label.MachLabel.{MachLabel}
 use Rattle.rv_inst.specs.declared.code.LineSpan.{LineSpan}
 use Rattle.rv_inst.specs.declared.inst.Inst.{Inst}
@@ -13,10 +13,8 @@ use Rattle.rv_inst.specs.declared.label_use.LabelUse.{LabelUse}
 use Rattle.rv_inst.specs.LabelUse.{forward_of, backward_of, has_veneer_of}
 use Rattle.rv_inst.specs.Rules.{broken_rule}
 use Rattle.mach_buffer.specs.declared.uses.Use.{Use}
-use Rattle.mach_buffer.specs.Reach.{deadlines}
 use Rattle.mach_buffer.specs.Buffer.{bytes_of, uses_of, place_of}
 use Rattle.mach_buffer.specs.Targets.{or_place}
-use Rattle.mach_buffer.proofs.Apart.{both_lists}
 use Rattle.mach_buffer.proofs.Links.{append_each}
 use Rattle.mach_buffer.proofs.Slack.{none_waits, bound_waits}
 use Rattle.rv_emit.specs.Emitted.{Buffer, uses_in, PutsBlock, PutsIsland, MakesRoom, Emitted}
@@ -25,7 +23,7 @@ use Rattle.rv_asm.specs.Told.{start_of}
 use Rattle.rv_asm.specs.Built.{end_before, Built, InstPut, BindPut, LinePut}
 use Rattle.rv_asm.specs.Reaching.{is_island, bound_by}
 use Rattle.rv_asm.specs.Since.{open_uses, EndsIn, Since}
-use Rattle.rv_asm.proofs.Naming.{start_last, room_keeps, emitted_keeps, low_label}
+use Rattle.rv_asm.proofs.Naming.{start_last, room_keeps, emitted_keeps}
 use Rattle.rv_asm.proofs.Prefixes.{own_uses, open_in_island, open_behind, open_on, bound_by_more, bound_by_append}
 
 not_less : (m n : ℕ) → m ≡ n → nat_lt m n ≡ false
