@@ -29,15 +29,15 @@ use Rattle.rv_asm.specs.Built.{IsNamed, Named, InstPut, BindPut, LinePut}
 -- ---- the binds of lines
 
 -- a span more changes no start before it
-pub start_before : (spans more : List LineSpan) (i : ℕ) → i < length spans → start_of (spans ++ more) i ≡ start_of spans i
-start_before [] more i lt = absurd (omega arith)
-start_before (s ∷ spans) more zero lt = refl
-start_before (s ∷ spans) more (suc i) lt = start_before spans more i (omega arith)
+pub start_more : (spans more : List LineSpan) (i : ℕ) → i < length spans → start_of (spans ++ more) i ≡ start_of spans i
+start_more [] more i lt = absurd (omega arith)
+start_more (s ∷ spans) more zero lt = refl
+start_more (s ∷ spans) more (suc i) lt = start_more spans more i (omega arith)
 
-pub end_before_more : (spans more : List LineSpan) (i : ℕ) → i < length spans → end_of (spans ++ more) i ≡ end_of spans i
-end_before_more [] more i lt = absurd (omega arith)
-end_before_more (s ∷ spans) more zero lt = refl
-end_before_more (s ∷ spans) more (suc i) lt = end_before_more spans more i (omega arith)
+pub end_more : (spans more : List LineSpan) (i : ℕ) → i < length spans → end_of (spans ++ more) i ≡ end_of spans i
+end_more [] more i lt = absurd (omega arith)
+end_more (s ∷ spans) more zero lt = refl
+end_more (s ∷ spans) more (suc i) lt = end_more spans more i (omega arith)
 
 pub start_last : (spans : List LineSpan) (span : LineSpan) → start_of (spans ++ span ∷ []) (length spans) ≡ span.start
 start_last spans span = ap (λ o. unwrap_or (option_map (λ (s : LineSpan). s.start) o) 0) (slice_get-append_last spans span)
@@ -51,7 +51,7 @@ binds_spans spans more i [] le = refl
 binds_spans spans more i (Put inst ∷ lines) le = binds_spans spans more (suc i) lines (omega arith)
 binds_spans spans more i (Bind l ∷ lines) le =
     let rest = binds_spans spans more (suc i) lines (omega arith) in
-    let start = start_before spans more i (omega arith) in
+    let start = start_more spans more i (omega arith) in
     λ j. (record { label = l; offset = start j }) ∷ rest j
 
 binds_append : (spans : List LineSpan) (i : ℕ) (lines more : List Line) → binds_from spans i (lines ++ more) ≡ binds_from spans i lines ++ binds_from spans (i + length lines) more
@@ -154,13 +154,13 @@ pub good_room : (lines : List Line) (distance : ℕ) (old new : Buffer) (made : 
 good_room lines distance old new made m h = ⊎_elim (λ same. subst (AreGood lines) (sym same.1) h) (λ put. good_island lines old new put.1 h) m.put
 
 -- a label is one of these
-record IsOf (labels : List MachLabel) (number : ℕ) : Type 0 where
+pub record IsOf (labels : List MachLabel) (number : ℕ) : Type 0 where
   pub place : ℕ
   pub label : MachLabel
   pub names : slice_get labels place ≡ Some label
   pub is : label.number ≡ number
 
-uses_labels : (start : ℕ) (inst : Inst) → Each (λ u. IsOf (inst_labels inst) u.label.number) (uses_in start inst)
+pub uses_labels : (start : ℕ) (inst : Inst) → Each (λ u. IsOf (inst_labels inst) u.label.number) (uses_in start inst)
 uses_labels start (Jal label) = each_more (λ u. IsOf (label ∷ []) u.label.number) _ [] (record { place = 0; label = label; names = refl; is = refl }) (each_none _)
 uses_labels start (CondBr Fallthrough not_taken kind) = each_none _
 uses_labels start (CondBr (Label t) Fallthrough kind) = each_more (λ u. IsOf (t ∷ []) u.label.number) _ [] (record { place = 0; label = t; names = refl; is = refl }) (each_none _)
