@@ -1,4 +1,5 @@
 pub mod Building
+pub mod Early
 pub mod Ending
 pub mod Exits
 pub mod Finishing
@@ -6,9 +7,12 @@ pub mod Gaps
 pub mod Joined
 pub mod Lawful
 pub mod Naming
+pub mod Open
 pub mod Placed
+pub mod Prefixes
 pub mod Ready
 pub mod Refused
+pub mod Since
 pub mod Sizing
 pub mod Standing
 pub mod Targets

@@ -15,18 +15,26 @@ use Rattle.rv_inst.specs.Rules.{broken_rule}
 use Rattle.mach_buffer.specs.Buffer.{bytes_of, uses_of, veneers_of, place_of, labels_of, drawn_of}
 use Rattle.rv_emit.specs.Emitted.{Buffer, IsSoundBuffer, pending}
 use Rattle.rv_asm.specs.Refusal.{binds, is_bound, line_sum, size_sum, refusal}
-use Rattle.rv_asm.specs.Built.{Built, Named, Sized, CanPut, LinePut, IsFinished}
+use Rattle.rv_asm.specs.Built.{Built, Named, Sized, CanPut, LinePut}
+use Rattle.rv_asm.specs.Since.{Since}
+use Rattle.rv_asm.specs.Reaching.{NotEarly, ReachesOn}
+use Rattle.rv_asm.specs.Finished.{IsFinished}
 use Rattle.rv_asm.proofs.Refused.{no_rule_broken, bound_once, bound_by, named_is_bound, sum_small}
 use Rattle.rv_asm.proofs.Finishing.{can_finish, finished_short}
 use Rattle.rv_asm.proofs.Building.{built_none, built_next}
 use Rattle.rv_asm.proofs.Naming.{named_none, named_next, low_label}
-use Rattle.rv_asm.proofs.Sizing.{sum_append, sum_next, sized_none, sized_next}
+use Rattle.rv_asm.proofs.Sizing.{sized_none, sized_next}
+use Rattle.rv_asm.proofs.Since.{since_none, since_next}
+use Rattle.rv_asm.proofs.Early.{early_none, early_next, reaches_none, reaches_next}
 
 -- after so many lines
 pub record SoFar (lines : List Line) (count : ℕ) (spans : List LineSpan) (b : Buffer) : Type 0 where
   pub built : Built (take count lines) spans b
   pub named : Named (take count lines) spans b
   pub sized : Sized (take count lines) b
+  pub since : Since (take count lines) spans b
+  pub early : NotEarly (take count lines) spans
+  pub reach : ReachesOn (take count lines) spans
 
 -- before the first
 pub so_far_none : (lines : List Line) (b : Buffer) → bytes_of b ≡ [] → uses_of b ≡ [] → veneers_of b ≡ [] → ((label : ℕ) → place_of b label ≡ None) → labels_of b ≡ [] → drawn_of b ≡ 0 → IsSoundBuffer b → SoFar lines 0 [] b
@@ -34,6 +42,9 @@ so_far_none lines b bytes uses veneers places labels drawn sound = record {
   built = built_none b bytes uses veneers sound;
   named = named_none b uses labels places;
   sized = sized_none b bytes uses drawn;
+  since = since_none b uses places;
+  early = early_none;
+  reach = reaches_none;
 }
 
 -- ---- lists by an index
@@ -119,41 +130,61 @@ can_put lines n spans b line e s h =
 -- and once it was put the loop goes on
 pub so_far_next : (lines : List Line) (n : ℕ) (spans new_spans : List LineSpan) (old new : Buffer) (line : Line) (span : LineSpan) → refusal lines ≡ None → SoFar lines n spans old → slice_get lines n ≡ Some line → span.index ≡ n → LinePut line old new span → new_spans ≡ spans ++ span ∷ [] → SoFar lines (n + 1) new_spans new
 so_far_next lines n spans new_spans old new line span e s h index put pushed =
-    let more = sym (take_next lines n line h) in
+    let rule = no_rule_broken lines e n line h in
     let count = take_count lines n line h in
     let at : span.index ≡ length (take n lines) = index ∙ sym count in
-    let long : length spans ≡ length (take n lines) = s.built.count in
-    record {
-      built = subst (λ ls. Built ls new_spans new) more (subst (λ ss. Built (take n lines ++ line ∷ []) ss new) (sym pushed) (built_next (take n lines) line spans span old new s.built put at));
-      named = subst (λ ls. Named ls new_spans new) more (subst (λ ss. Named (take n lines ++ line ∷ []) ss new) (sym pushed) (named_next (take n lines) spans line span old new (no_rule_broken lines e n line h) s.named long put));
-      sized = subst (λ ls. Sized ls new) more (sized_next (take n lines) line old new span s.sized put);
+    let built = built_next (take n lines) line spans span old new s.built put at in
+    let named = named_next (take n lines) spans line span old new rule s.named s.built.count put in
+    let sized = sized_next (take n lines) line old new span s.sized put in
+    let since = since_next (take n lines) spans line span old new s.built s.since rule put in
+    let early = early_next (take n lines) spans line span old new s.built s.since put s.early in
+    let reach = reaches_next (take n lines) spans line span old new s.built put since sized s.reach in
+    subst (λ ss. SoFar lines (n + 1) ss new) (sym pushed) (moved (sym (take_next lines n line h)) built named sized since early reach)
+  where
+    moved : take n lines ++ line ∷ [] ≡ take (n + 1) lines → Built (take n lines ++ line ∷ []) (spans ++ span ∷ []) new → Named (take n lines ++ line ∷ []) (spans ++ span ∷ []) new → Sized (take n lines ++ line ∷ []) new → Since (take n lines ++ line ∷ []) (spans ++ span ∷ []) new → NotEarly (take n lines ++ line ∷ []) (spans ++ span ∷ []) → ReachesOn (take n lines ++ line ∷ []) (spans ++ span ∷ []) → SoFar lines (n + 1) (spans ++ span ∷ []) new
+    moved more built named sized since early reach = record {
+      built = subst (λ ls. Built ls (spans ++ span ∷ []) new) more built;
+      named = subst (λ ls. Named ls (spans ++ span ∷ []) new) more named;
+      sized = subst (λ ls. Sized ls new) more sized;
+      since = subst (λ ls. Since ls (spans ++ span ∷ []) new) more since;
+      early = subst (λ ls. NotEarly ls (spans ++ span ∷ [])) more early;
+      reach = subst (λ ls. ReachesOn ls (spans ++ span ∷ [])) more reach;
     }
 
 -- after the last
-pub so_far_all : (lines : List Line) (n : ℕ) (spans : List LineSpan) (b : Buffer) → length lines ≤ n → SoFar lines n spans b → (Built lines spans b) × (Named lines spans b) × Sized lines b
-so_far_all lines n spans b le s =
-    let whole = take_whole lines n le in (
-      subst (λ ls. Built ls spans b) whole s.built,
-      subst (λ ls. Named ls spans b) whole s.named,
-      subst (λ ls. Sized ls b) whole s.sized,
-    )
+record AtEnd (lines : List Line) (spans : List LineSpan) (b : Buffer) : Type 0 where
+  built : Built lines spans b
+  named : Named lines spans b
+  sized : Sized lines b
+  early : NotEarly lines spans
+  reach : ReachesOn lines spans
+
+at_end : (lines : List Line) (n : ℕ) (spans : List LineSpan) (b : Buffer) → length lines ≤ n → SoFar lines n spans b → AtEnd lines spans b
+at_end lines n spans b le s =
+    let whole = take_whole lines n le in
+    record {
+      built = subst (λ ls. Built ls spans b) whole s.built;
+      named = subst (λ ls. Named ls spans b) whole s.named;
+      sized = subst (λ ls. Sized ls b) whole s.sized;
+      early = subst (λ ls. NotEarly ls spans) whole s.early;
+      reach = subst (λ ls. ReachesOn ls spans) whole s.reach;
+    }
 
 -- after the last, the buffer can be finished
 pub ready : (lines : List Line) (n : ℕ) (spans : List LineSpan) (b : Buffer) → refusal lines ≡ None → length lines ≤ n → SoFar lines n spans b → CanFinish marks_of has_veneer_of forward_of backward_of veneer_of b
 ready lines n spans b e le s =
-    let all = so_far_all lines n spans b le s in
-    can_finish lines spans b all.0 all.1 all.2 (sum_small lines e) (named_is_bound lines e)
+    let all = at_end lines n spans b le s in
+    can_finish lines spans b all.built all.named all.sized (sum_small lines e) (named_is_bound lines e)
 
 -- and then it is finished
 pub finished : (lines : List Line) (n : ℕ) (code : Code) (b : Buffer) → refusal lines ≡ None → length lines ≤ n → SoFar lines n code.lines b → Finishes Aims marks_of has_veneer_of forward_of backward_of veneer_of b code.bytes → code.labels ≡ labels_of b → code.end ≡ length (bytes_of b) → IsFinished lines code
 finished lines n code b e le s f labels end =
-    let all = so_far_all lines n code.lines b le s in
-    record { sink = b; built = all.0; named = all.1; sized = all.2; ready = ready lines n code.lines b e le s; finished = f; labels = labels; end = end }
+    let all = at_end lines n code.lines b le s in
+    record { sink = b; built = all.built; named = all.named; sized = all.sized; early = all.early; reach = all.reach; ready = ready lines n code.lines b e le s; finished = f; labels = labels; end = end }
 
 -- the code is short
 pub code_short : (lines : List Line) (n : ℕ) (spans : List LineSpan) (b : Buffer) (bytes : List ℕ) → refusal lines ≡ None → length lines ≤ n → SoFar lines n spans b → Finishes Aims marks_of has_veneer_of forward_of backward_of veneer_of b bytes → length bytes < 2 ^ 32
 code_short lines n spans b bytes e le s f =
-    let all = so_far_all lines n spans b le s in
-    let short = finished_short lines b bytes all.2 f in
+    let short = finished_short lines b bytes (at_end lines n spans b le s).sized f in
     let small = sum_small lines e in
     omega arith

@@ -5,19 +5,17 @@ use Rattle.rv_inst.specs.declared.inst.Line.{Line}
 use Rattle.rv_inst.specs.declared.inst.Line.TheVariants.{Inst as Put, Bind}
 use Rattle.rv_inst.specs.declared.inst.Inst.{Inst}
 use Rattle.rv_inst.specs.declared.inst.Inst.TheVariants.{EmitIsland}
-use Rattle.rv_inst.specs.declared.code.Code.{Code}
 use Rattle.rv_inst.specs.declared.code.LineSpan.{LineSpan}
 use Rattle.rv_inst.specs.declared.label_use.LabelUse.{LabelUse}
 use Rattle.rv_inst.specs.declared.label_use.LabelUse.TheVariants.{Jal20}
 use Rattle.rv_inst.specs.Fields.{named_labels}
 use Rattle.rv_inst.specs.Rules.{broken_rule}
-use Rattle.rv_inst.specs.LabelUse.{Aims, marks_of, has_veneer_of, forward_of, backward_of, veneer_of}
+use Rattle.rv_inst.specs.LabelUse.{marks_of, has_veneer_of}
 use Rattle.rv_inst.specs.LabelUseWords.{word_bytes}
 use Rattle.mach_buffer.specs.declared.uses.Use.{Use}
 use Rattle.mach_buffer.specs.Reach.{CanReach, due_by}
 use Rattle.mach_buffer.specs.Buffer.{bytes_of, uses_of, veneers_of, place_of, labels_of, drawn_of, listed, recorded}
 use Rattle.mach_buffer.specs.Blocks.{BlockStands}
-use Rattle.mach_buffer.specs.Finish.{CanFinish, Finishes}
 use Rattle.rv_emit.specs.Rows.{blank, rows_of}
 use Rattle.rv_emit.specs.Emitted.{Buffer, IsSoundBuffer, HasWindows, pending, use_at, uses_in, bytes_of_words, AreRows, UsesStand, MakesRoom, Emitted}
 use Rattle.rv_asm.specs.Told.{start_of, end_of, binds_from}
@@ -137,16 +135,3 @@ pub record BindPut (label : MachLabel) (old new : Buffer) (span : LineSpan) : Ty
 abbrev pub LinePut : Line → Buffer → Buffer → LineSpan → Type 0
 LinePut (Put inst) old new span = InstPut inst old new span
 LinePut (Bind label) old new span = BindPut label old new span
-
--- ---- the end
-
--- code that was built line by line, and finished
-pub record IsFinished (lines : List Line) (code : Code) : Type 0 where
-  pub sink : Buffer
-  pub built : Built lines code.lines sink
-  pub named : Named lines code.lines sink
-  pub sized : Sized lines sink
-  pub ready : CanFinish marks_of has_veneer_of forward_of backward_of veneer_of sink
-  pub finished : Finishes Aims marks_of has_veneer_of forward_of backward_of veneer_of sink code.bytes
-  pub labels : code.labels ≡ labels_of sink
-  pub end : code.end ≡ length (bytes_of sink)

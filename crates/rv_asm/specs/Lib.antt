@@ -1,7 +1,9 @@
 pub mod Built
+pub mod Finished
 pub mod Job
 pub mod Outcomes
 pub mod Reaching
 pub mod Refusal
 pub mod Simulation
+pub mod Since
 pub mod Told

@@ -15,6 +15,7 @@ use Rattle.rv_stream.specs.Ends.{Rose, TookFront}
 use Rattle.rv_asm.specs.Refusal.{refusal}
 use Rattle.rv_asm.specs.Told.{Told}
 use Rattle.rv_asm.specs.Simulation.{RunsAsListed}
+use Rattle.rv_asm.specs.Reaching.{InReach}
 use Rattle.rv_asm.specs.declared.outcome.Outcome.{Outcome}
 use Rattle.rv_asm.specs.declared.outcome.Outcome.TheVariants as ends
 
@@ -59,9 +60,9 @@ status_of ends.OutOfMemory = 8
 
 -- ---- what an input means
 
--- the code of the job that the input means, which tells its lines and runs as they say
+-- the code of the job that the input means, which tells its lines and runs as they say, with no island early
 abbrev pub IsCodeOf : List ℕ → Code → Type 0
-IsCodeOf input code = (job : Job) × (reads input ≡ Ok job) × (refusal job.lines ≡ None) × Told job code × RunsAsListed job code
+IsCodeOf input code = (job : Job) × (reads input ≡ Ok job) × (refusal job.lines ≡ None) × Told job code × RunsAsListed job code × InReach job code
 
 -- the input means a job that is refused so; never for want of memory
 abbrev pub IsRefused : List ℕ → EmitError → Type 0

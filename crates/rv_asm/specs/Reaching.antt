@@ -13,7 +13,7 @@ use Rattle.rv_inst.specs.Fields.{named_labels}
 use Rattle.rv_inst.specs.LabelUse.{forward_of, backward_of}
 use Rattle.mach_buffer.specs.declared.uses.Use.{Use}
 use Rattle.mach_buffer.specs.Reach.{is_reached, deadlines, CanReach}
-use Rattle.rv_emit.specs.Emitted.{uses_in}
+use Rattle.rv_emit.specs.Emitted.{uses_in, island_space}
 use Rattle.rv_asm.specs.Told.{start_of, end_of}
 use Rattle.rv_asm.specs.Refusal.{size_sum}
 use Rattle.rv_asm.specs.Built.{end_before}
@@ -103,8 +103,14 @@ ReachesOn lines spans = (n : ℕ) → n ≤ length lines → CanReach (end_befor
 
 -- ---- all of it
 
--- no island is early, Reach holds after every line, and the code is no longer than its lines allow
+-- the most bytes between a line's begin and its end
+abbrev pub AllNarrow : List Line → List LineSpan → Type 0
+AllNarrow lines spans = (i : ℕ) (inst : Inst) → slice_get lines i ≡ Some (Put inst) → island_space inst ≡ None → end_of spans i ≤ start_of spans i + 88
+
+-- no island is early, Reach holds after every line, a line's own bytes are few, and the code is no longer than its lines
+-- allow
 pub record InReach (job : Job) (code : Code) : Type 0 where
   pub early : NotEarly job.lines code.lines
   pub reach : ReachesOn job.lines code.lines
+  pub narrow : AllNarrow job.lines code.lines
   pub short : length code.bytes ≤ size_sum job.lines + 16

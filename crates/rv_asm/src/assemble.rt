@@ -8,7 +8,8 @@ ghost use Rattle.rv_asm.specs.Job.{job_of};
 ghost use Rattle.rv_asm.specs.Refusal.{refusal, Finds};
 ghost use Rattle.rv_asm.specs.Told.{Told};
 ghost use Rattle.rv_asm.specs.Simulation.{RunsAsListed};
-ghost use Rattle.rv_asm.specs.Built.{IsFinished};
+ghost use Rattle.rv_asm.specs.Reaching.{InReach};
+ghost use Rattle.rv_asm.specs.Finished.{IsFinished};
 
 use crate::lines::put_line;
 use crate::refusal::accept;
@@ -39,6 +40,7 @@ pub fn assemble(
     requires constants { constants.now ≡ [] }
     ensures told { IfOk result (λ code. Told (job_of lines.now flags frame.now constants.now) code) }
     ensures runs { IfOk result (λ code. RunsAsListed (job_of lines.now flags frame.now constants.now) code) }
+    ensures reach { IfOk result (λ code. InReach (job_of lines.now flags frame.now constants.now) code) }
     ensures refused { Finds (refusal lines.now) result }
 {
     accept(alloc, lines, flags, frame, constants)?;
