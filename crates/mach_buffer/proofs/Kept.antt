@@ -27,11 +27,16 @@ map_append_core : {L : Type 0} (uses : List (Use L)) (u : Use L) → recorded (u
 map_append_core [] u = refl
 map_append_core (w ∷ uses) u = ap (λ us. core w ∷ us) (map_append_core uses u)
 
+take_short : (n : ℕ) (xs : List ℕ) → length (take n xs) ≤ n
+take_short zero xs = omega arith
+take_short (suc n) [] = omega arith
+take_short (suc n) (x ∷ xs) = let le = take_short n xs in omega arith
+
 none_bound : (o : Option ℕ) → o ≡ None → is_some o ≡ true → ⊥
 none_bound None e s = true≢false (sym s)
 none_bound (Some at) e s = absurd (cc)
 
-same_pending : {L : Type 0} (has_veneer : L → Bool) (forward backward : L → ℕ) (b new : MachBuffer L) → uses_of new ≡ uses_of b → place_of new ≡ place_of b → pending_of has_veneer forward backward new ≡ pending_of has_veneer forward backward b
+pub same_pending : {L : Type 0} (has_veneer : L → Bool) (forward backward : L → ℕ) (b new : MachBuffer L) → uses_of new ≡ uses_of b → place_of new ≡ place_of b → pending_of has_veneer forward backward new ≡ pending_of has_veneer forward backward b
 same_pending has_veneer forward backward b new eu ep = ap (λ us. deadlines (is_pending has_veneer forward backward (place_of new)) forward us) eu ∙ ap (λ p. deadlines (is_pending has_veneer forward backward p) forward (uses_of b)) ep
 
 -- what is bound stays so
@@ -107,8 +112,26 @@ module _ {L : Type 0} {fields : L → List ℕ} {has_veneer : L → Bool} {forwa
     named = λ j u h. ⊎_elim (λ a. inl a) (λ s. inr (ap (λ p. is_some (p u.label.number)) ep ∙ s)) (k.named j u (ap (λ us. slice_get us j) (sym eu) ∙ h));
   }
 
+  -- so many bytes at most
+  pub kept_front : {labels : ℕ} {b : MachBuffer L} → IsKept fields has_veneer forward backward veneer labels b → (new : MachBuffer L) (n : ℕ) (code : List ℕ) → IsSound has_veneer forward backward veneer new →
+      bytes_of new ≡ bytes_of b ++ take n code → uses_of new ≡ uses_of b → veneers_of new ≡ veneers_of b → place_of new ≡ place_of b → HasSlack (length (bytes_of b) + n) 30 (pending_of has_veneer forward backward b) → IsKept fields has_veneer forward backward veneer labels new
+  kept_front {labels} {b} k new n code sound eb eu ev ep slack =
+      kept_bytes k new (take n code) sound eb eu ev ep
+      (slack_less (length (bytes_of b) + n) 30 (length (bytes_of b) + length (take n code)) 14 (pending_of has_veneer forward backward b) (let le = take_short n code in omega arith) slack)
+
+  -- the same parts
+  pub kept_same : {labels : ℕ} {b : MachBuffer L} → IsKept fields has_veneer forward backward veneer labels b → (new : MachBuffer L) → IsSound has_veneer forward backward veneer new → bytes_of new ≡ bytes_of b → uses_of new ≡ uses_of b → veneers_of new ≡ veneers_of b → place_of new ≡ place_of b →
+      IsKept fields has_veneer forward backward veneer labels new
+  kept_same {labels} {b} k new sound eb eu ev ep = record {
+    sound = sound;
+    windows = windows_as k.windows eb eu ev;
+    slack = subst (λ s. HasSlack (length s) 14 (pending_of has_veneer forward backward new)) (sym eb) (subst (HasSlack (length (bytes_of b)) 14) (sym (same_pending has_veneer forward backward b new eu ep)) k.slack);
+    supported = λ j u h. k.supported j u (ap (λ us. slice_get us j) (sym eu) ∙ h);
+    named = λ j u h. ⊎_elim (λ a. inl a) (λ s. inr (ap (λ p. is_some (p u.label.number)) ep ∙ s)) (k.named j u (ap (λ us. slice_get us j) (sym eu) ∙ h));
+  }
+
   -- the windows with those of a use of one byte, whose bytes are put behind it
-  windows_one : (b new : MachBuffer L) → AreWindows fields (bytes_of b) (uses_of b) (veneers_of b) → IsSound has_veneer forward backward veneer b → ((kind : L) → has_veneer kind ≡ true → IsVeneer fields forward backward has_veneer (veneer kind)) →
+  pub windows_one : (b new : MachBuffer L) → AreWindows fields (bytes_of b) (uses_of b) (veneers_of b) → IsSound has_veneer forward backward veneer b → ((kind : L) → has_veneer kind ≡ true → IsVeneer fields forward backward has_veneer (veneer kind)) →
       (u : Use L) (rest : List ℕ) → u.offset ≡ length (bytes_of b) → fields u.kind ≡ 255 ∷ [] → bytes_of new ≡ bytes_of b ++ 0 ∷ rest → uses_of new ≡ uses_of b ++ u ∷ [] → veneers_of new ≡ veneers_of b → AreWindows fields (bytes_of new) (uses_of new) (veneers_of new)
   windows_one b new w s law u rest at one eb eu ev =
       windows_as (windows_block w s.linked law (0 ∷ rest) (u ∷ []) own (bytes_of new) (uses_of new) eb (ap recorded eu ∙ map_append_core (uses_of b) u)) refl refl ev
@@ -249,3 +272,11 @@ module _ {L : Type 0} {fields : L → List ℕ} {has_veneer : L → Bool} {forwa
         reach = reaches_from_slack (length (bytes_of b)) 14 (length (before_last (bytes_of b) (length pending))) pending (omega (arith, near)) k.slack;
         short = omega (arith, near, room);
       }
+
+-- each of four
+pub each_of_four : (P : ℕ → Type 0) → P 0 → P 1 → P 2 → P 3 → (n : ℕ) → n < 4 → P n
+each_of_four P a b c d zero lt = a
+each_of_four P a b c d (suc zero) lt = b
+each_of_four P a b c d (suc (suc zero)) lt = c
+each_of_four P a b c d (suc (suc (suc zero))) lt = d
+each_of_four P a b c d (suc (suc (suc (suc n)))) lt = absurd (omega arith)

@@ -1,5 +1,5 @@
 -- What a caller keeps of a buffer from one item of code to the next.
-use Rattle.std.specs.Prelude.{◌≡◌, ℕ, ◌<◌, ◌⊎◌, Bool, true, List, length, Some, is_some, slice_get}
+use Rattle.std.specs.Prelude.{◌≡◌, ℕ, ◌<◌, ◌≤◌, ◌⊎◌, Bool, true, List, [], ◌∷◌, length, Some, is_some, slice_get}
 use Rattle.rv_base.specs.LabelUse.{Veneer}
 use Rattle.mach_buffer.specs.declared.uses.Use.{Use}
 use Rattle.mach_buffer.specs.declared.buffer.MachBuffer.{MachBuffer}
@@ -15,3 +15,9 @@ pub record IsKept {L : Type 0} (fields : L → List ℕ) (has_veneer : L → Boo
   pub slack : HasSlack (length (bytes_of b)) 14 (pending_of has_veneer forward backward b)
   pub supported : (j : ℕ) (u : Use L) → slice_get (uses_of b) j ≡ Some u → has_veneer u.kind ≡ true
   pub named : (j : ℕ) (u : Use L) → slice_get (uses_of b) j ≡ Some u → (u.label.number < labels) ⊎ (is_some (place_of b u.label.number) ≡ true)
+
+-- a kind of use of one byte that reaches a little way forward, and may go by a veneer
+pub record IsOneByte {L : Type 0} (fields : L → List ℕ) (has_veneer : L → Bool) (forward : L → ℕ) (kind : L) : Type 0 where
+  pub one : fields kind ≡ 255 ∷ []
+  pub supported : has_veneer kind ≡ true
+  pub far : 32 ≤ forward kind
