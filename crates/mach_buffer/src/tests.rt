@@ -322,117 +322,71 @@ fn assemble<L: MachInstLabelUse>(
     end(buffer)
 }
 
-/// Items, where islands are to stand, how long the code is to be, and what is to stand at an offset in it.
-#[derive(Clone, Copy)]
-struct Row<'a> {
-    items: &'a [Item],
-    islands: &'a [u32],
-    long: usize,
-    at: usize,
-    bytes: &'a [u8],
+use self::Item::{Bind, Fill, Use};
+
+#[test]
+fn islands_stand_by_the_rule(rt: HostRuntime) -> Result<(), OutOfMemory> {
+    // One use that waits at 0 has the deadline 254, and 254 - 14 - 8 * 3 = 216. Of two the later has 256, and
+    // 256 - 14 - 8 * 4 = 210. Of 28 the last has 308, and 308 - 14 - 8 * 30 = 54.
+    for (items, at, long) in [
+        ([Use(0), Fill(100), Bind(0)].as_slice(), [].as_slice(), 102),
+        ([Use(0), Fill(214), Bind(0)].as_slice(), [].as_slice(), 216),
+        ([Use(0), Fill(216), Bind(0)].as_slice(), [2].as_slice(), 232),
+        (
+            [Use(0), Fill(214), Fill(2)].as_slice(),
+            [216].as_slice(),
+            230,
+        ),
+        ([Use(0), Use(0), Fill(206)].as_slice(), [].as_slice(), 210),
+        ([Use(0), Use(1), Fill(208)].as_slice(), [4].as_slice(), 232),
+        (
+            [Use(0), Use(1), Bind(0), Fill(214)].as_slice(),
+            [].as_slice(),
+            218,
+        ),
+        ([Bind(0), Fill(250), Use(0)].as_slice(), [].as_slice(), 252),
+        ([Use(0); 28].as_slice(), [].as_slice(), 56),
+        ([Use(0); 40].as_slice(), [56].as_slice(), 308),
+    ] {
+        let mut islands = Vec::new(rt.alloc());
+        let code = assemble(rt.alloc(), Toy::Short, items, &mut islands)?;
+        assert_eq!(rt; islands.as_slice(), at);
+        assert_eq!(rt; code.bytes.len(), long);
+    }
+    Ok(())
 }
 
 #[test]
-fn islands_stand_by_the_rule(rt: HostRuntime) {
-    let many = [Item::Use(0); 40];
-    let rows = [
-        // None is needed.
-        Row {
-            items: [Item::Use(0), Item::Fill(100), Item::Bind(0)].as_slice(),
-            islands: [].as_slice(),
-            long: 102,
-            at: 0,
-            bytes: [51, 0x11, 0x44].as_slice(),
-        },
-        // The use at 0 has the deadline 254, and 254 - 14 - 8 * 3 = 216 is the last end without an island.
-        Row {
-            items: [
-                Item::Use(0),
-                Item::Fill(214),
-                Item::Bind(0),
-                Item::Fill(250),
-            ]
-            .as_slice(),
-            islands: [].as_slice(),
-            long: 466,
-            at: 0,
-            bytes: [108, 0x11, 0x44].as_slice(),
-        },
-        // Two bytes further: the use goes by a veneer at 8.
-        Row {
-            items: [Item::Use(0), Item::Fill(216)].as_slice(),
-            islands: [2].as_slice(),
-            long: 232,
-            at: 0,
-            bytes: [
-                4, 0x11, 7, 0xaa, 0xaa, 0xaa, 0, 0, 0xe0, 0, 0, 0, 0xee, 0xee, 0xee, 0xee, 0x44,
-            ]
-            .as_slice(),
-        },
-        // At the last moment.
-        Row {
-            items: [Item::Use(0), Item::Fill(214), Item::Fill(2)].as_slice(),
-            islands: [216].as_slice(),
-            long: 230,
-            at: 214,
-            bytes: [
-                0x44, 0x44, 6, 0xaa, 0xaa, 0xaa, 10, 0, 0, 0, 0xee, 0xee, 0xee, 0xee, 0x44, 0x44,
-            ]
-            .as_slice(),
-        },
-        // Of two uses of a label the later has the deadline 256, and 256 - 14 - 8 * 4 = 210.
-        Row {
-            items: [Item::Use(0), Item::Use(0), Item::Fill(206), Item::Bind(0)].as_slice(),
-            islands: [].as_slice(),
-            long: 210,
-            at: 0,
-            bytes: [105, 0x11, 104, 0x11, 0x44].as_slice(),
-        },
-        Row {
-            items: [Item::Use(0), Item::Use(0), Item::Fill(208)].as_slice(),
-            islands: [4].as_slice(),
-            long: 232,
-            at: 0,
-            bytes: [
-                4, 0x11, 7, 0x11, 10, 0xaa, 0xaa, 0xaa, 0xe0, 0, 0, 0, 0xee, 0xee, 0xee, 0xee,
-                0xd8, 0, 0, 0,
-            ]
-            .as_slice(),
-        },
-        // A label out of reach behind: the use goes by a veneer that is put at the end.
-        Row {
-            items: [Item::Bind(0), Item::Fill(250), Item::Fill(10), Item::Use(0)].as_slice(),
-            islands: [].as_slice(),
-            long: 272,
-            at: 258,
-            bytes: [
-                0x44, 0x44, 2, 0x11, 0, 0, 0xf8, 0xfe, 0xff, 0xff, 0xee, 0xee, 0xee, 0xee,
-            ]
-            .as_slice(),
-        },
-        // 28 uses wait at 56, of which the last has the deadline 308, and 56 + 2 + 14 + 8 * 30 = 312.
-        Row {
-            items: many.as_slice(),
-            islands: [56].as_slice(),
-            long: 308,
-            at: 54,
-            bytes: [111, 0x11, 114, 0xaa, 0xaa, 0xaa, 0xf8, 0, 0, 0, 0xee].as_slice(),
-        },
+fn windows_aim_at_labels_and_veneers(rt: HostRuntime) -> Result<(), OutOfMemory> {
+    let near = [2, 0x11, 0x44, 0x44];
+    // A jump at 2 round an island, whose veneer at 8 goes to 232.
+    let island = [
+        4, 0x11, 7, 0xaa, 0xaa, 0xaa, 0, 0, 0xe0, 0, 0, 0, 0xee, 0xee, 0xee, 0xee, 0x44,
     ];
-    for row in rows {
+    // A jump at 4; the earlier use has the earlier veneer.
+    let two = [
+        4, 0x11, 7, 0x11, 10, 0xaa, 0xaa, 0xaa, 0xe0, 0, 0, 0, 0xee, 0xee, 0xee, 0xee, 0xd8,
+    ];
+    // A use at 260 of a label at 0 goes by a veneer at 264, which is put at the end.
+    let last = [
+        2, 0x11, 0, 0, 0xf8, 0xfe, 0xff, 0xff, 0xee, 0xee, 0xee, 0xee,
+    ];
+    for (items, at, bytes) in [
+        ([Use(0), Fill(2), Bind(0)].as_slice(), 0, near.as_slice()),
+        ([Use(0), Fill(216)].as_slice(), 0, island.as_slice()),
+        ([Use(0), Use(0), Fill(208)].as_slice(), 0, two.as_slice()),
+        (
+            [Bind(0), Fill(250), Fill(10), Use(0)].as_slice(),
+            260,
+            last.as_slice(),
+        ),
+    ] {
         let mut islands = Vec::new(rt.alloc());
-        let Ok(code) = assemble(rt.alloc(), Toy::Short, row.items, &mut islands) else {
-            assert!(rt; false, "there is memory");
-            return;
-        };
-        let bytes = code.bytes.as_slice();
-        assert_eq!(rt; islands.as_slice(), row.islands);
-        assert_eq!(rt; bytes.len(), row.long);
-        assert_eq!(rt;
-            bytes.get(row.at..row.at + row.bytes.len()),
-            Some(row.bytes)
-        );
+        let code = assemble(rt.alloc(), Toy::Short, items, &mut islands)?;
+        let found = code.bytes.as_slice().get(at..at + bytes.len());
+        assert_eq!(rt; found, Some(bytes));
     }
+    Ok(())
 }
 
 #[test]
