@@ -1,18 +1,16 @@
 -- What a caller keeps of a buffer, through each call.
 use Rattle.std.proofs.Common.{◌≡◌, ◌≢◌, ℕ, zero, suc, ◌+◌, ◌-◌, ◌*◌, ◌%◌, ◌^◌, ◌<◌, ◌≤◌, Bool, true, false, cond, List, [], ◌∷◌, ◌++◌, ◌⊎◌, length, take, Option, Some, None, refl, ap, sym, ◌∙◌, subst, arith, inl, inr, ⊎_elim}
 use Rattle.std.specs.Prelude.{slice_get, nat_eq, is_some}
-use Rattle.std.proofs.lemmas.Bool.{true≢false, cases_eq}
-use Rattle.std.proofs.lemmas.Option.{same_Some}
+use Rattle.std.proofs.lemmas.Bool.{true≢false}
 use Rattle.std.proofs.lemmas.List.{length-append}
 use Rattle.rv_base.specs.declared.label.MachLabel.{MachLabel}
 use Rattle.rv_base.specs.LabelUse.{Veneer, IsVeneer, IsFresh}
 use Rattle.mach_buffer.specs.declared.uses.Use.{Use}
-use Rattle.mach_buffer.specs.declared.uses.VeneerUse.{VeneerUse}
 use Rattle.mach_buffer.specs.declared.buffer.MachBuffer.{MachBuffer}
 use Rattle.mach_buffer.specs.Windows.{window}
-use Rattle.mach_buffer.specs.Reach.{deadline, deadlines, due_by, is_pending, is_other, HasSlack, CanReach, StillReaches}
-use Rattle.mach_buffer.specs.Buffer.{bytes_of, uses_of, veneers_of, place_of, drawn_of, pending_of, core, recorded, IsKnown, IsLinked, IsSound}
-use Rattle.mach_buffer.specs.Islands.{aligned, padding, needs_own, island_end, others_of, AllApart, AreWindows, IsRound, CanIsland, Islanded}
+use Rattle.mach_buffer.specs.Reach.{deadline, deadlines, due_by, is_pending, is_other, HasSlack}
+use Rattle.mach_buffer.specs.Buffer.{bytes_of, uses_of, veneers_of, place_of, drawn_of, pending_of, core, recorded, IsKnown, IsSound}
+use Rattle.mach_buffer.specs.Islands.{aligned, padding, needs_own, others_of, AllApart, AreWindows, IsRound, CanIsland, Islanded}
 use Rattle.mach_buffer.specs.Finish.{before_last, CanFinish}
 use Rattle.mach_buffer.specs.Kept.{IsKept}
 use Rattle.mach_buffer.proofs.Added.{append_none}
@@ -21,7 +19,7 @@ use Rattle.mach_buffer.proofs.Blocks.{OwnWindows, windows_block, windows_none}
 use Rattle.mach_buffer.proofs.Islanded.{aligned_near, length_padded, recorded_at}
 use Rattle.mach_buffer.proofs.Links.{append_each, slice_get-append_last}
 use Rattle.mach_buffer.proofs.Others.{other_pending, own_idle}
-use Rattle.mach_buffer.proofs.Slack.{due_append, due_fewer, deadlines_append, reaches_from_slack, reach_from_slack, slack_less, slack_none, slack_same, slack_use}
+use Rattle.mach_buffer.proofs.Slack.{due_fewer, deadlines_append, reaches_from_slack, reach_from_slack, slack_less, slack_none, slack_same, slack_use}
 
 map_append_core : {L : Type 0} (uses : List (Use L)) (u : Use L) → recorded (uses ++ u ∷ []) ≡ recorded uses ++ recorded (u ∷ [])
 map_append_core [] u = refl
