@@ -30,7 +30,7 @@ windows_bytes {L} {fields} {bytes} w more new_bytes e =
     }
 
 -- a span behind all others
-last_or_before : {X : Type 0} (xs : List X) (y : X) (j : ℕ) (x : X) → slice_get (xs ++ y ∷ []) j ≡ Some x → (slice_get xs j ≡ Some x) ⊎ ((j ≡ length xs) × (y ≡ x))
+pub last_or_before : {X : Type 0} (xs : List X) (y : X) (j : ℕ) (x : X) → slice_get (xs ++ y ∷ []) j ≡ Some x → (slice_get xs j ≡ Some x) ⊎ ((j ≡ length xs) × (y ≡ x))
 last_or_before [] y zero x h = inr (refl, same_Some _ _ h)
 last_or_before [] y (suc j) x h = absurd (cc)
 last_or_before (z ∷ xs) y zero x h = inl h

@@ -9,7 +9,7 @@ use Rattle.mach_buffer.specs.Windows.{window, IsApart}
 use Rattle.mach_buffer.specs.Buffer.{IsLinked, core, recorded}
 use Rattle.mach_buffer.specs.Islands.{AllApart, AreWindows, spans_of}
 use Rattle.mach_buffer.proofs.Apart.{both_lists, comes_from, spans_end, window_stays, take_front}
-use Rattle.mach_buffer.proofs.Links.{below}
+use Rattle.mach_buffer.proofs.Links.{below, get_right, slice_get-append}
 
 -- where an element of two lists stands
 pub record After {X : Type 0} (xs ys : List X) (j : ℕ) (x : X) : Type 0 where
@@ -25,16 +25,6 @@ locate {X} (y ∷ xs) ys (suc j) x h = ⊎_elim (λ a. inl a) (λ b. inr (on b))
     on : After xs ys j x → After (y ∷ xs) ys (suc j) x
     on b = record { index = b.index; is = let e = b.is in omega arith; there = b.there }
 
--- an element of the first of two lists, or of the second
-front_of : {X : Type 0} (xs ys : List X) (j : ℕ) (x : X) → slice_get xs j ≡ Some x → slice_get (xs ++ ys) j ≡ Some x
-front_of [] ys j x h = absurd (cc)
-front_of (y ∷ xs) ys zero x h = h
-front_of (y ∷ xs) ys (suc j) x h = front_of xs ys j x h
-
-back_of : {X : Type 0} (xs ys : List X) (i : ℕ) (x : X) → slice_get ys i ≡ Some x → slice_get (xs ++ ys) (length xs + i) ≡ Some x
-back_of [] ys i x h = let same : 0 + i ≡ i = omega arith in ap (slice_get ys) same ∙ h
-back_of (y ∷ xs) ys i x h = let same : suc (length xs) + i ≡ suc (length xs + i) = omega arith in ap (slice_get (y ∷ (xs ++ ys))) same ∙ back_of xs ys i x h
-
 -- spans apart from one another, with spans between them that stand behind all of them
 apart_between : (xs ys zs : List (ℕ × ℕ)) (start : ℕ) → AllApart (xs ++ zs) → AllApart ys → ((j : ℕ) (p : ℕ × ℕ) → slice_get (xs ++ zs) j ≡ Some p → p.0 + p.1 ≤ start) → ((j : ℕ) (p : ℕ × ℕ) → slice_get ys j ≡ Some p → start ≤ p.0) → AllApart (xs ++ (ys ++ zs))
 apart_between xs ys zs start outer inner ends begins j k p q ne hj hk = on (side j p hj) (side k q hk)
@@ -42,8 +32,8 @@ apart_between xs ys zs start outer inner ends begins j k p q ne hj hk = on (side
     -- an outer one by its place without the inner ones, or an inner one
     side : (n : ℕ) (x : ℕ × ℕ) → slice_get (xs ++ (ys ++ zs)) n ≡ Some x → ((m : ℕ) × (slice_get (xs ++ zs) m ≡ Some x) × ((n ≡ m) × (n < length xs) ⊎ (n ≡ length ys + m) × (length xs ≤ m))) ⊎ ((m : ℕ) × (slice_get ys m ≡ Some x) × (n ≡ length xs + m))
     side n x h = ⊎_elim
-        (λ a. inl (n, front_of xs zs n x a, inl (refl, below xs n x a)))
-        (λ b. ⊎_elim (λ c. inr (b.index, c, b.is)) (λ d. let e = b.is in let f = d.is in inl (length xs + d.index, back_of xs zs d.index x d.there, inr (omega arith, omega arith))) (locate ys zs b.index x b.there))
+        (λ a. inl (n, slice_get-append xs zs n x a, inl (refl, below xs n x a)))
+        (λ b. ⊎_elim (λ c. inr (b.index, c, b.is)) (λ d. let e = b.is in let f = d.is in inl (length xs + d.index, get_right xs zs d.index x d.there, inr (omega arith, omega arith))) (locate ys zs b.index x b.there))
         (locate xs (ys ++ zs) n x h)
 
     differ : (m n : ℕ) → ((j ≡ m) × (j < length xs)) ⊎ ((j ≡ length ys + m) × (length xs ≤ m)) → ((k ≡ n) × (k < length xs)) ⊎ ((k ≡ length ys + n) × (length xs ≤ n)) → m ≢ n

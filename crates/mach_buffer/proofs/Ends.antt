@@ -18,7 +18,7 @@ use Rattle.mach_buffer.specs.Islands.{AreWindows, spans_of, padding}
 use Rattle.mach_buffer.specs.Finish.{IsVia, AllGo, before_last}
 use Rattle.mach_buffer.proofs.Apart.{both_lists, comes_from, windows_bytes}
 use Rattle.mach_buffer.proofs.Islanded.{recorded_at}
-use Rattle.mach_buffer.proofs.Links.{recorded_get, slice_get-append}
+use Rattle.mach_buffer.proofs.Links.{get_right, recorded_get, slice_get-append}
 use Rattle.mach_buffer.proofs.Slack.{none_waits}
 use Rattle.mach_buffer.proofs.Windows.{fresh_in_prefix}
 
@@ -60,10 +60,6 @@ direct_still {L} has_veneer forward backward place uses new_uses same direct j u
     ∙ direct j w.was w.there (ap (λ (x : Use L). has_veneer x.kind) w.alike ∙ s)
 
 -- ---- places in two lists
-
-pub get_right : {X : Type 0} (xs ys : List X) (i : ℕ) (x : X) → slice_get ys i ≡ Some x → slice_get (xs ++ ys) (length xs + i) ≡ Some x
-get_right [] ys i x h = let same : 0 + i ≡ i = omega arith in ap (slice_get ys) same ∙ h
-get_right (y ∷ xs) ys i x h = let same : suc (length xs) + i ≡ suc (length xs + i) = omega arith in ap (slice_get (y ∷ (xs ++ ys))) same ∙ get_right xs ys i x h
 
 pub length_map : {X Y : Type 0} (f : X → Y) (xs : List X) → length (map f xs) ≡ length xs
 length_map f [] = refl

@@ -12,8 +12,7 @@ use Rattle.mach_buffer.specs.Reach.{AllOf, deadline, deadlines, due_by, HasSlack
 use Rattle.mach_buffer.specs.Buffer.{users, HaveTurns, Later, by_deadline, by_offset, by_index}
 use Rattle.mach_buffer.proofs.Slack.{due_append, deadlines_append, slack_none, slack_same, slack_not_needed, each_from_slack, same_length_from_due}
 use Rattle.mach_buffer.proofs.Added.{append_none}
-use Rattle.mach_buffer.proofs.Ends.{get_right}
-use Rattle.mach_buffer.proofs.Links.{slice_get-append, slice_get-append_at}
+use Rattle.mach_buffer.proofs.Links.{get_right, slice_get-append, slice_get-append_at}
 use Rattle.mach_buffer.proofs.Turns.{turn_cmp, later_in_order, earlier_in_order}
 
 -- so far a number of deadlines were met, none of which might be missed

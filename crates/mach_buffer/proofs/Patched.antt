@@ -1,5 +1,5 @@
 -- What stays of a block as a buffer grows, and from the last patches to each block.
-use Rattle.std.proofs.Common.{◌≡◌, ℕ, zero, suc, ◌+◌, ◌-◌, ◌*◌, ◌%◌, ◌<◌, ◌≤◌, Bool, true, false, cond, List, [], ◌∷◌, ◌++◌, ◌⊎◌, length, take, drop, map, Option, Some, None, refl, ap, sym, ◌∙◌, subst, arith, inl, inr, ⊎_elim, ℤ, pos, ◌-ℤ◌, append_assoc}
+use Rattle.std.proofs.Common.{◌≡◌, ◌≢◌, ℕ, zero, suc, ◌+◌, ◌-◌, ◌*◌, ◌%◌, ◌<◌, ◌≤◌, Bool, true, false, cond, List, [], ◌∷◌, ◌++◌, ◌⊎◌, length, take, drop, map, Option, Some, None, refl, ap, sym, ◌∙◌, subst, arith, inl, inr, ⊎_elim, ℤ, pos, ◌-ℤ◌, append_assoc}
 use Rattle.std.specs.Prelude.{slice_get, nat_eq}
 use Rattle.std.proofs.lemmas.Bool.{cases_lt}
 use Rattle.std.proofs.lemmas.Option.{same_Some}
@@ -20,10 +20,14 @@ use Rattle.mach_buffer.specs.Blocks.{BlockStands, AllInside, Grows, GoesBy, UseP
 use Rattle.mach_buffer.proofs.Added.{append_none, added_none, added_more}
 use Rattle.mach_buffer.proofs.Apart.{both_lists, comes_from, window_stays, take_front}
 use Rattle.mach_buffer.proofs.Blocks.{locate}
-use Rattle.mach_buffer.proofs.Ends.{before_longer, bound_still, get_right, length_map, some_at, use_patch_at}
-use Rattle.mach_buffer.proofs.Links.{slice_get-append, recorded_get, below}
+use Rattle.mach_buffer.proofs.Ends.{before_longer, bound_still, length_map, some_at, use_patch_at}
+use Rattle.mach_buffer.proofs.Links.{below, get_right, recorded_get, slice_get-append}
 
 -- ---- how a buffer grows
+
+none_some : (o : Option ℕ) (to : ℕ) → o ≡ None → o ≡ Some to → ⊥
+none_some None to p q = absurd (cc)
+none_some (Some b) to p q = absurd (cc)
 
 -- not at all
 pub grows_none : {L : Type 0} (bytes : List ℕ) (uses : List (Use L)) (veneers : List (VeneerUse L)) (place : ℕ → Option ℕ) → Grows bytes uses veneers place bytes uses veneers place
@@ -63,13 +67,26 @@ grows_put {L} {bytes} {uses} {veneers} {place} block own behind new_bytes new_us
   places = kept;
 }
 
+-- by a label that is bound, or drawn
+pub grows_same : {L : Type 0} {bytes new_bytes : List ℕ} {uses new_uses : List (Use L)} {veneers new_veneers : List (VeneerUse L)} {place new_place : ℕ → Option ℕ} → new_bytes ≡ bytes → new_uses ≡ uses → new_veneers ≡ veneers → ((label to : ℕ) → place label ≡ Some to → new_place label ≡ Some to) →
+    Grows bytes uses veneers place new_bytes new_uses new_veneers new_place
+grows_same {L} {bytes} {new_bytes} {uses} {new_uses} {veneers} {new_veneers} {place} {new_place} eb eu ev kept = record {
+  before = ap (take (length bytes)) eb ∙ take_all (length bytes) bytes (omega arith);
+  longer = let l : length new_bytes ≡ length bytes = ap (length {A = ℕ}) eb in omega arith;
+  more = [];
+  grown = ap recorded eu ∙ sym (append_none (recorded uses));
+  behind = λ k u h. absurd (cc);
+  added = added_none (length bytes) ev;
+  places = kept;
+}
+
+-- what is bound stays, where a label is bound that was not
+pub places_bound : (place new_place : ℕ → Option ℕ) (label : ℕ) → place label ≡ None → ((other : ℕ) → other ≢ label → new_place other ≡ place other) → (other to : ℕ) → place other ≡ Some to → new_place other ≡ Some to
+places_bound place new_place label none kept other to h = kept other (λ e. none_some (place other) to (ap place e ∙ none) h) ∙ h
+
 first_later : (b : Bool) (n m : ℕ) → n ≤ cond b (n + 8) n + m
 first_later true n m = omega arith
 first_later false n m = omega arith
-
-none_some : (o : Option ℕ) (to : ℕ) → o ≡ None → o ≡ Some to → ⊥
-none_some None to p q = absurd (cc)
-none_some (Some b) to p q = absurd (cc)
 
 -- by an island, whose label was not bound
 pub grows_island : {L : Type 0} {has_veneer : L → Bool} {forward backward : L → ℕ} {bytes new_bytes : List ℕ} {uses new_uses : List (Use L)} {veneers new_veneers : List (VeneerUse L)} {place new_place : ℕ → Option ℕ} {round : MachLabel} {others : ℕ} →
