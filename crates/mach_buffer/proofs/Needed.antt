@@ -25,7 +25,7 @@ pub record Scanned {L : Type 0} (forward : L → ℕ) (test : Use L → Bool) (c
 pub scan_start : {L : Type 0} (forward : L → ℕ) (test : Use L → Bool) (cur : ℕ) (turns : List (Turn × Use L)) → Scanned forward test cur turns turns 0
 scan_start forward test cur turns = record { front = []; whole = refl; count = refl; slack = slack_none cur 30 }
 
-due_le_length : (end : ℕ) (ds : List ℕ) → due_by end ds ≤ length ds
+pub due_le_length : (end : ℕ) (ds : List ℕ) → due_by end ds ≤ length ds
 due_le_length end [] = omega arith
 due_le_length end (d ∷ ds) = on (nat_le d end) (due_le_length end ds)
   where

@@ -179,11 +179,11 @@ same_window : {L : Type 0} (fields : L → List ℕ) (old new : List ℕ) (u w :
 same_window {L} fields old new u w e h = subst (λ (x : Use L). window old x.offset (length (fields x.kind)) ≡ window new x.offset (length (fields x.kind))) (sym e) h
 
 -- an element below the length
-record At {X : Type 0} (xs : List X) (k : ℕ) : Type 0 where
+pub record At {X : Type 0} (xs : List X) (k : ℕ) : Type 0 where
   pub item : X
   pub there : slice_get xs k ≡ Some item
 
-item_at : {X : Type 0} (xs : List X) (k : ℕ) → k < length xs → At xs k
+pub item_at : {X : Type 0} (xs : List X) (k : ℕ) → k < length xs → At xs k
 item_at [] k lt = absurd (omega arith)
 item_at (x ∷ xs) zero lt = record { item = x; there = refl }
 item_at {X} (x ∷ xs) (suc k) lt = on (item_at xs k (omega arith))

@@ -270,11 +270,11 @@ reach_from_slack cur ds h = each_from_slack cur 14 ds h
 
 -- ---- counts that agree everywhere
 
-abbrev total : List ℕ → ℕ
+abbrev pub total : List ℕ → ℕ
 total [] = 0
 total (d ∷ ds) = d + total ds
 
-due_total : (ds : List ℕ) (end : ℕ) → total ds ≤ end → due_by end ds ≡ length ds
+pub due_total : (ds : List ℕ) (end : ℕ) → total ds ≤ end → due_by end ds ≡ length ds
 due_total [] end le = refl
 due_total (d ∷ ds) end le = on (nat_le d end) refl (due_total ds end (omega arith))
   where

@@ -23,6 +23,7 @@ use Rattle.mach_buffer.specs.Reach.{deadline, deadlines, due_by, is_needed, is_n
 use Rattle.mach_buffer.specs.Buffer.{bytes_of, place_of}
 use Rattle.mach_buffer.proofs.Apart.{both_lists}
 use Rattle.mach_buffer.proofs.Slack.{deadlines_append, none_from}
+use Rattle.mach_buffer.proofs.Needed.{due_le_length}
 use Rattle.rv_emit.specs.Emitted.{Buffer, pending, use_at, uses_in}
 use Rattle.rv_emit.proofs.Islands.{deadlines_as}
 use Rattle.rv_emit.proofs.Room.{Each, each_none, each_more, uses_bare, uses_kinds, few_deadlines, waits}
@@ -199,14 +200,6 @@ of_use test (u ∷ uses) = on (test u) (λ j d h. later d (of_use test uses j d 
     on true rest = each_more (OfUse (u ∷ uses)) (deadline forward_of u) (deadlines test forward_of uses) (record { index = 0; user = u; there = refl; is = refl }) rest
     on false rest = rest
 
-few_due : (end : ℕ) (ds : List ℕ) → due_by end ds ≤ length ds
-few_due end [] = omega arith
-few_due end (d ∷ ds) = on (nat_le d end) (few_due end ds)
-  where
-    on : (c : Bool) → due_by end ds ≤ length ds → cond c (suc (due_by end ds)) (due_by end ds) ≤ suc (length ds)
-    on true le = omega arith
-    on false le = omega arith
-
 -- an island that is needed behind some lines is due there
 pub due_now : (lines : List Line) (spans : List LineSpan) (b : Buffer) (distance : ℕ) → Since lines spans b → is_needed (length (bytes_of b)) distance (pending b) ≡ true → IsDue lines spans (length lines) (length (bytes_of b)) distance
 due_now lines spans b distance s needed =
@@ -226,7 +219,7 @@ due_now lines spans b distance s needed =
     let late = m.late in
     let last : last_island spans n ≤ k = last_open lines spans n in
     let whole : take n lines ≡ lines = take_all n lines (omega arith) in
-    let a : due_by m.due ds ≤ length ds = few_due m.due ds in
+    let a : due_by m.due ds ≤ length ds = due_le_length m.due ds in
     let c : length ds ≤ length us = few_deadlines (waits (place_of b)) forward_of us in
     let e : length us ≤ label_count (drop k lines) = few_in_lines spans k (drop k lines) in
     let g : label_count (drop k lines) ≤ label_count (drop (last_island spans n) lines) = count_drop lines (last_island spans n) k last in

@@ -12,7 +12,7 @@ use Rattle.rv_inst.specs.LabelUse.{forward_of}
 use Rattle.rv_inst.specs.Rules.{inst_rule}
 use Rattle.mach_buffer.specs.Reach.{CanReach, HasSlack, deadlines, due_by}
 use Rattle.mach_buffer.specs.Buffer.{bytes_of, uses_of, place_of, drawn_of}
-use Rattle.mach_buffer.proofs.Slack.{slack_same, slack_from_reach, reach_from_slack}
+use Rattle.mach_buffer.proofs.Slack.{slack_same, slack_from_reach, reach_from_slack, total, due_total}
 use Rattle.rv_emit.specs.Emitted.{Buffer, IsSoundBuffer, pending, inst_sum, PutsBlock, PutsIsland, MakesRoom, CanEmit, Emitted}
 use Rattle.rv_emit.proofs.Room.{waits, bytes_after, pending_after, calm_after}
 use Rattle.rv_asm.specs.Refusal.{line_sum, size_sum}
@@ -42,18 +42,6 @@ sum_least (Put inst) = on inst
     on _ = omega arith
 
 -- ---- fewer that are due
-
-abbrev total : List ℕ → ℕ
-total [] = 0
-total (d ∷ ds) = d + total ds
-
-due_total : (ds : List ℕ) (end : ℕ) → total ds ≤ end → due_by end ds ≡ length ds
-due_total [] end le = refl
-due_total (d ∷ ds) end le = on (nat_le d end) refl (due_total ds end (omega arith))
-  where
-    on : (c : Bool) → nat_le d end ≡ c → due_by end ds ≡ length ds → cond c (suc (due_by end ds)) (due_by end ds) ≡ suc (length ds)
-    on true e rest = ap suc rest
-    on false e rest = let p = leb-false _ _ e in absurd (omega arith)
 
 -- where fewer are due at each end, there are fewer
 pub fewer_from_due : (ds es : List ℕ) → ((end : ℕ) → due_by end ds ≤ due_by end es) → length ds ≤ length es

@@ -11,6 +11,7 @@ use Rattle.rv_inst.specs.declared.code.Code.{Code}
 use Rattle.rv_inst.specs.declared.code.LineSpan.{LineSpan}
 use Rattle.mach_buffer.specs.Buffer.{bytes_of}
 use Rattle.rv_emit.specs.Emitted.{Buffer}
+use Rattle.mach_buffer.proofs.Patched.{At, item_at}
 use Rattle.rv_asm.specs.Told.{start_of, end_of, binds_from, Told}
 use Rattle.rv_asm.specs.Built.{end_before, Gap, BlockThere, InstThere, LineThere, Built}
 
@@ -34,19 +35,6 @@ none_forward : (spans : List LineSpan) (i : ℕ) → length spans ≤ i → star
 none_forward [] i le = omega arith
 none_forward (s ∷ spans) zero le = absurd (omega arith)
 none_forward (s ∷ spans) (suc i) le = none_forward spans i (omega arith)
-
--- an element below the length
-record At {X : Type 0} (xs : List X) (i : ℕ) : Type 0 where
-  pub item : X
-  pub there : slice_get xs i ≡ Some item
-
-item_at : {X : Type 0} (xs : List X) (i : ℕ) → i < length xs → At xs i
-item_at [] i lt = absurd (omega arith)
-item_at (x ∷ xs) zero lt = record { item = x; there = refl }
-item_at {X} (x ∷ xs) (suc i) lt = on (item_at xs i (omega arith))
-  where
-    on : At xs i → At (x ∷ xs) (suc i)
-    on a = record { item = a.item; there = a.there }
 
 -- no line ends before it starts
 pub built_forward : {lines : List Line} {spans : List LineSpan} {b : Buffer} → Built lines spans b → (i : ℕ) → start_of spans i ≤ end_of spans i
