@@ -4,7 +4,6 @@ pub mod Blocks
 pub mod Ends
 pub mod Firsts
 pub mod Islanded
-pub mod Kept
 pub mod Links
 pub mod Maps
 pub mod Needed

@@ -2,7 +2,6 @@ pub mod Blocks
 pub mod Buffer
 pub mod Finish
 pub mod Islands
-pub mod Kept
 pub mod Reach
 pub mod Targets
 pub mod Windows

@@ -5,6 +5,4 @@ pub mod buffer;
 pub mod finish;
 pub mod islands;
 pub mod patches;
-#[cfg(test)]
-mod tests;
 pub mod uses;

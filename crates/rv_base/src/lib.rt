@@ -24,7 +24,5 @@ pub mod operands;
 pub mod preg_set;
 pub mod regs;
 pub mod reloc;
-#[cfg(test)]
-mod tests;
 pub mod trap;
 pub mod value_regs;

@@ -4,5 +4,3 @@
 pub mod jumps;
 pub mod layouts;
 pub mod operations;
-#[cfg(test)]
-mod tests;

@@ -6,7 +6,5 @@ pub mod imm20;
 pub mod imm5;
 pub mod imm6;
 pub mod splitting;
-#[cfg(test)]
-mod tests;
 pub mod uimm5;
 pub mod unsigned;

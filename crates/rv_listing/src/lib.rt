@@ -9,7 +9,5 @@ mod pairs;
 pub mod reading;
 pub mod registers;
 pub mod report;
-#[cfg(test)]
-mod tests;
 pub mod tokens;
 mod types;

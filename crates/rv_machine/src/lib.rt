@@ -11,5 +11,3 @@ pub mod machine;
 pub mod muldiv;
 pub mod ops;
 pub mod rows;
-#[cfg(test)]
-mod tests;

@@ -4,6 +4,4 @@
 pub mod alu;
 pub mod compare;
 pub mod memory;
-#[cfg(test)]
-mod tests;
 pub mod vec_amode;

@@ -4,6 +4,4 @@
 pub mod ends;
 pub mod in_memory;
 pub mod standard;
-#[cfg(test)]
-mod tests;
 pub mod whole;

@@ -2,8 +2,8 @@
 
 ghost use Rattle.std.specs.Prelude.{◌≡◌, ◌∷◌, []};
 
-use crate::buffer::MachBuffer;
-use crate::finish::Finished;
+use mach_buffer::buffer::MachBuffer;
+use mach_buffer::finish::Finished;
 use rv_base::label::MachLabel;
 use rv_base::label_use::MachInstLabelUse;
 use rv_base::memory::OutOfMemory;
@@ -20,7 +20,7 @@ pub enum Toy {
 }
 
 impl MachInstLabelUse for Toy {
-    ghost use Rattle.mach_buffer.specs.declared.tests.Toy.TheVariants.{Short, Far};
+    ghost use Rattle.rv_vectors.specs.declared.buffer.Toy.TheVariants.{Short, Far};
     ghost use Rattle.std.specs.Prelude.{refl, ℕ, ◌+◌, ◌*◌, ◌/◌, ◌%◌, slice_index, ℤ, true, false, None};
     ghost use Rattle.std.specs.Int.{cast_unsigned};
     ghost use Rattle.std.proofs.Common.{rules};
@@ -167,7 +167,7 @@ enum Item {
 ghost use Rattle.std.specs.Prelude.{OnOk, ℕ, ◌+◌, ◌*◌, true, is_some};
 ghost use Rattle.mach_buffer.specs.Buffer.{pending_of};
 ghost use Rattle.mach_buffer.specs.Reach.{HasSlack};
-ghost use Rattle.mach_buffer.specs.Kept.{IsKept, IsOneByte};
+ghost use Rattle.rv_vectors.specs.Kept.{IsKept, IsOneByte};
 
 /// Puts a jump of four bytes round an island, and the island.
 fn put_jump<L: MachInstLabelUse>(buffer: &mut MachBuffer<L>, kind: L) -> Result<(), OutOfMemory>

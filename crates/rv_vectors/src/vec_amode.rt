@@ -1,10 +1,10 @@
 //! What no clause says: that a visitor with ample memory is handed the register of an address.
 
-use crate::vec_amode::VecAMode;
 use rv_base::amode::AMode;
 use rv_base::constraint::Constraint;
 use rv_base::named::a0;
 use rv_base::operand_list::OperandList;
+use rv_ops::vec_amode::VecAMode;
 use std::test::Fail;
 
 #[test]

@@ -3,11 +3,11 @@
 ghost use Rattle.std.specs.Prelude.{◌<◌};
 ghost use Rattle.rv_encode.specs.Registers.{IsIntRegister};
 
-use crate::jumps::{enc_auipc, enc_jalr, encode_branch, encode_ebreak, encode_jal, encode_lui};
-use crate::layouts::encode_s_type;
-use crate::operations::{encode_alu_rr_imm12, encode_alu_rrr};
 use rv_base::condcodes::IntCC;
 use rv_base::regs::{PReg, Reg, RegClass, Writable, WritableReg};
+use rv_encode::jumps::{enc_auipc, enc_jalr, encode_branch, encode_ebreak, encode_jal, encode_lui};
+use rv_encode::layouts::encode_s_type;
+use rv_encode::operations::{encode_alu_rr_imm12, encode_alu_rrr};
 use rv_imms::imm12::Imm12;
 use rv_imms::imm20::Imm20;
 use rv_ops::alu::{AluOPRRI, AluOPRRR};

@@ -1,10 +1,10 @@
-use crate::reading::{ReadError, read_job};
-use crate::registers::register;
-use crate::report::report;
 use rv_base::label::MachLabel;
 use rv_base::list::List;
 use rv_base::regs::{Reg, RegClass};
 use rv_inst::code::{Code, LabelPlace, LineSpan};
+use rv_listing::reading::{ReadError, read_job};
+use rv_listing::registers::register;
+use rv_listing::report::report;
 use std::test::Fail;
 
 // Names, classes and numbers as the calling convention has them.

@@ -2,8 +2,8 @@ use Rattle.std.proofs.Common.{arith, sym, ◌∙◌, ◌≡◌, ◌<◌, ◌+◌
 use Rattle.std.specs.Prelude.{is_some, nat_lt}
 use Rattle.std.proofs.lemmas.Bool.{and_parts, ltb-true}
 use Rattle.mach_buffer.specs.Buffer.{bytes_of, place_of, drawn_of, pending_of}
-use Rattle.mach_buffer.proofs.Kept.{can_finish, each_of_four}
-use Rattle.mach_buffer.proofs.tests.end.Goals as goal
+use Rattle.rv_vectors.proofs.Kept.{can_finish, each_of_four}
+use Rattle.rv_vectors.proofs.buffer.end.Goals as goal
 
 pub finish-requires-clause-ready : goal.finish-requires-clause-ready
 finish-requires-clause-ready g c =

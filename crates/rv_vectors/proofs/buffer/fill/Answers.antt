@@ -1,5 +1,5 @@
-use Rattle.mach_buffer.proofs.Kept.{kept_front}
-use Rattle.mach_buffer.proofs.tests.fill.Goals as goal
+use Rattle.rv_vectors.proofs.Kept.{kept_front}
+use Rattle.rv_vectors.proofs.buffer.fill.Goals as goal
 
 pub returns : goal.returns
 returns g c =

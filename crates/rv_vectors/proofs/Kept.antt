@@ -12,7 +12,7 @@ use Rattle.mach_buffer.specs.Reach.{deadline, deadlines, due_by, is_pending, is_
 use Rattle.mach_buffer.specs.Buffer.{bytes_of, uses_of, veneers_of, place_of, drawn_of, pending_of, core, recorded, IsKnown, IsSound}
 use Rattle.mach_buffer.specs.Islands.{aligned, padding, needs_own, others_of, AllApart, AreWindows, IsRound, CanIsland, Islanded}
 use Rattle.mach_buffer.specs.Finish.{before_last, CanFinish}
-use Rattle.mach_buffer.specs.Kept.{IsKept}
+use Rattle.rv_vectors.specs.Kept.{IsKept}
 use Rattle.mach_buffer.proofs.Added.{append_none}
 use Rattle.mach_buffer.proofs.Apart.{last_or_before, windows_bytes, windows_as}
 use Rattle.mach_buffer.proofs.Blocks.{OwnWindows, windows_block, windows_none}

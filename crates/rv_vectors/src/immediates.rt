@@ -1,12 +1,12 @@
 //! Immediates and texts whose expected values come from outside.
 
-use crate::imm5::Imm5;
-use crate::imm6::Imm6;
-use crate::imm12::Imm12;
-use crate::imm20::Imm20;
-use crate::splitting::generate_imm;
-use crate::uimm5::UImm5;
-use crate::unsigned::{Uimm2, Uimm5, Uimm6};
+use rv_imms::imm5::Imm5;
+use rv_imms::imm6::Imm6;
+use rv_imms::imm12::Imm12;
+use rv_imms::imm20::Imm20;
+use rv_imms::splitting::generate_imm;
+use rv_imms::uimm5::UImm5;
+use rv_imms::unsigned::{Uimm2, Uimm5, Uimm6};
 use std::test::Fail;
 
 #[test]

@@ -1,5 +1,5 @@
-use Rattle.mach_buffer.specs.Kept.{IsKept}
-use Rattle.mach_buffer.proofs.tests.assemble.Given as goal
+use Rattle.rv_vectors.specs.Kept.{IsKept}
+use Rattle.rv_vectors.proofs.buffer.assemble.Given as goal
 
 abbrev pub invariant-loop-item : goal.invariant-loop-item
 invariant-loop-item g l = let K = g.L.MachInstLabelUse in IsKept K.fields K.has_veneer K.forward K.backward K.veneer 4 l.buffer

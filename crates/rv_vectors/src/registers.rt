@@ -1,19 +1,19 @@
 //! Texts and records whose expected values come from outside.
 
-use crate::amode::AMode;
-use crate::constant::VCodeConstant;
-use crate::constraint::Constraint;
-use crate::external_name::ExternalName;
-use crate::ir_type::IrType;
-use crate::label::MachLabel;
-use crate::list::List;
-use crate::named::{a0, a1, a2, f_reg, pv_reg, writable_a0, x_reg};
-use crate::names::reg_name;
-use crate::operand_list::OperandList;
-use crate::operands::OperandVisitor;
-use crate::preg_set::PRegSet;
-use crate::regs::{Reg, RegClass};
-use crate::trap::TrapCode;
+use rv_base::amode::AMode;
+use rv_base::constant::VCodeConstant;
+use rv_base::constraint::Constraint;
+use rv_base::external_name::ExternalName;
+use rv_base::ir_type::IrType;
+use rv_base::label::MachLabel;
+use rv_base::list::List;
+use rv_base::named::{a0, a1, a2, f_reg, pv_reg, writable_a0, x_reg};
+use rv_base::names::reg_name;
+use rv_base::operand_list::OperandList;
+use rv_base::operands::OperandVisitor;
+use rv_base::preg_set::PRegSet;
+use rv_base::regs::{Reg, RegClass};
+use rv_base::trap::TrapCode;
 use std::test::Fail;
 
 #[test]

@@ -2,7 +2,7 @@ use Rattle.std.proofs.Common.{ap, ◌∙◌}
 use Rattle.mach_buffer.specs.declared.buffer.MachBuffer.{MachBuffer}
 use Rattle.mach_buffer.specs.declared.tests.Toy.{Toy}
 use Rattle.mach_buffer.specs.Buffer.{place_of}
-use Rattle.mach_buffer.proofs.tests.waiting.Goals as goal
+use Rattle.rv_vectors.proofs.buffer.waiting.Goals as goal
 
 pub returns-clause-unbound : goal.returns-clause-unbound
 returns-clause-unbound c =

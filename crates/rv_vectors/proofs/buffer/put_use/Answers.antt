@@ -1,9 +1,9 @@
 use Rattle.std.proofs.Common.{arith, ◌≡◌, ◌∙◌, ◌∷◌, [], ◌++◌, ◌+◌, ◌<◌, ◌≤◌, None, ap, length}
 use Rattle.mach_buffer.specs.declared.uses.Use.{Use}
 use Rattle.mach_buffer.specs.Buffer.{bytes_of, pending_of}
-use Rattle.mach_buffer.proofs.Kept.{kept_use}
+use Rattle.rv_vectors.proofs.Kept.{kept_use}
 use Rattle.mach_buffer.proofs.Slack.{slack_less}
-use Rattle.mach_buffer.proofs.tests.put_use.Goals as goal
+use Rattle.rv_vectors.proofs.buffer.put_use.Goals as goal
 
 pub returns : goal.returns
 returns g c =

@@ -1,7 +1,7 @@
-use crate::ends::WriteError;
-use crate::in_memory::{MemSink, MemSource, SureSink, SureSource};
-use crate::standard::{StdSink, StdSource};
-use crate::whole::{ReadAllError, read_all, write_all};
+use rv_stream::ends::WriteError;
+use rv_stream::in_memory::{MemSink, MemSource, SureSink, SureSource};
+use rv_stream::standard::{StdSink, StdSource};
+use rv_stream::whole::{ReadAllError, read_all, write_all};
 use std::test::Fail;
 
 // What is read of ten bytes: a chunk, the calls that fail, and whether all comes. Three bytes a call are four calls,

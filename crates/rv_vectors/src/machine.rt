@@ -1,10 +1,10 @@
 //! Rows at their edges: the answers were computed from the manual's sentences, by whole numbers, outside this project.
 
-use crate::decode::{Decoded, decode};
-use crate::machine::{IntMachine, Step};
-use crate::ops::{BaseOp, BitOp, MOp, MulOp};
 use rv_base::flags::IsaFlags;
 use rv_base::memory::OutOfMemory;
+use rv_machine::decode::{Decoded, decode};
+use rv_machine::machine::{IntMachine, Step};
+use rv_machine::ops::{BaseOp, BitOp, MOp, MulOp};
 use std::test::Fail;
 
 /// The sources, in hex, that each row of `TWO_SOURCES` is tried with.

@@ -1,0 +1,21 @@
+//! Worked rows: each crate's public calls, by tables of values from outside.
+#![tactic(auto)]
+
+#[cfg(test)]
+mod buffer;
+#[cfg(test)]
+mod immediates;
+#[cfg(test)]
+mod label_uses;
+#[cfg(test)]
+mod listings;
+#[cfg(test)]
+mod machine;
+#[cfg(test)]
+mod registers;
+#[cfg(test)]
+mod streams;
+#[cfg(test)]
+mod vec_amode;
+#[cfg(test)]
+mod words;
