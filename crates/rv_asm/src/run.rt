@@ -94,4 +94,6 @@ pub fn run<S: Source, K: Sink>(
 #[cfg(test)]
 mod operations;
 #[cfg(test)]
+mod samples;
+#[cfg(test)]
 mod tests;

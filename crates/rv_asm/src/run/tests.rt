@@ -1,6 +1,7 @@
 use crate::outcome::Outcome;
 use crate::run::run;
 use rv_stream::in_memory::{MemSink, MemSource, SureSink, SureSource};
+use std::alloc::{AllocError, Global};
 use std::test::Fail;
 
 const COUNTDOWN: &str = "Bind L0\nAluRRImm12 addi a0 a0 -1\nCondBr ne a0 zero L0 -\nRet\n";
@@ -127,5 +128,66 @@ fn words(rt: HostRuntime) -> Result<(), Fail> {
     );
     assert_eq!(rt; outcome.status(), 2);
     assert_eq!(rt; sink.bytes(), b"rvemit: usage\n".as_slice());
+    Ok(())
+}
+
+/// `first`, then so many copies of `line`, then `last`.
+fn long_listing(
+    alloc: Global,
+    first: &str,
+    count: usize,
+    line: &str,
+    last: &str,
+) -> Result<String, AllocError> {
+    let mut text = String::from_str(alloc, first)?;
+    for _ in 0..count {
+        text.push_str(line)?;
+    }
+    text.push_str(last)?;
+    Ok(text)
+}
+
+// A long listing, how its report begins, and pieces that the report has.
+#[test]
+fn long_listings(rt: HostRuntime) -> Result<(), Fail> {
+    let rows = [
+        (
+            "CondBr eq a0 a1 L0 -\n",
+            1100,
+            "Nop4\n",
+            "Bind L0\nRet\n",
+            "code 4420\n00000000 e304b578",
+            [
+                "\n00000f80 130000006f00c000970f000067808f1b\n",
+                "\nline 992 3968 3972\nline 993 3984 3988\n",
+                "\nlabel L0 4416\n",
+                "\nend 4420\n",
+            ],
+        ),
+        (
+            "",
+            501,
+            "Ret\n",
+            "",
+            "code 2004\n",
+            ["\nline 500 2000 2004\nend 2004\n"; 4],
+        ),
+    ];
+    for (first, count, line, last, start, pieces) in rows {
+        let listing = long_listing(rt.alloc(), first, count, line, last)?;
+        let mut sink = SureSink::new(rt.alloc());
+        let outcome = run(
+            rt.alloc(),
+            &[],
+            &mut SureSource::new(listing.as_bytes()),
+            &mut sink,
+        );
+        assert_eq!(rt; outcome.status(), 0, "at {count}");
+        let report = str::from_utf8(sink.bytes()).unwrap_or("");
+        assert!(rt; report.starts_with(start), "at {count}");
+        for piece in pieces {
+            assert!(rt; report.find(piece).is_some(), "at {piece}");
+        }
+    }
     Ok(())
 }

@@ -1,0 +1,110 @@
+//! Listings with the reports of another program: each report is compared byte for byte.
+
+mod islands;
+mod random;
+
+use crate::run::run;
+use islands::{
+    ASKED_LISTING, ASKED_REPORT, LONG_LISTING, LONG_REPORT, NARROW_LISTING, NARROW_REPORT,
+};
+use random::{
+    FIFTH_LISTING, FIFTH_REPORT, FIRST_LISTING, FIRST_REPORT, FOURTH_LISTING, FOURTH_REPORT,
+    SECOND_LISTING, SECOND_REPORT, THIRD_LISTING, THIRD_REPORT,
+};
+use rv_stream::in_memory::{SureSink, SureSource};
+use std::alloc::{AllocError, Global};
+use std::test::Fail;
+
+#[test]
+fn samples(rt: HostRuntime) -> Result<(), Fail> {
+    let rows = [
+        (FIRST_LISTING, FIRST_REPORT),
+        (SECOND_LISTING, SECOND_REPORT),
+        (THIRD_LISTING, THIRD_REPORT),
+        (FOURTH_LISTING, FOURTH_REPORT),
+        (FIFTH_LISTING, FIFTH_REPORT),
+        (ASKED_LISTING, ASKED_REPORT),
+        (NARROW_LISTING, NARROW_REPORT),
+        (LONG_LISTING, LONG_REPORT),
+    ];
+    for (n, (listing, report)) in rows.iter().enumerate() {
+        let listing = written_out(rt.alloc(), listing)?;
+        let report = written_out(rt.alloc(), report)?;
+        let mut sink = SureSink::new(rt.alloc());
+        let outcome = run(
+            rt.alloc(),
+            &[],
+            &mut SureSource::new(listing.as_bytes()),
+            &mut sink,
+        );
+        assert_eq!(rt; outcome.status(), 0, "at {n}");
+        assert_eq!(rt; sink.bytes(), report.as_bytes(), "at {n}");
+    }
+    Ok(())
+}
+
+/// The text of which `short` writes some lines in short.
+fn written_out(alloc: Global, short: &str) -> Result<String, AllocError> {
+    let mut text = String::new(alloc);
+    for row in short.lines() {
+        put_row(&mut text, row)?;
+    }
+    Ok(text)
+}
+
+/// The lines that a row stands for.
+fn put_row(text: &mut String, row: &str) -> Result<(), AllocError> {
+    let Some((kind, rest)) = row.split_once(' ') else {
+        return put_line(text, row);
+    };
+    match kind {
+        "times" => put_copies(text, rest),
+        "rows" => put_rows(text, rest),
+        "lines" => put_spans(text, rest),
+        _ => put_line(text, row),
+    }
+}
+
+fn put_line(text: &mut String, line: &str) -> Result<(), AllocError> {
+    text.push_str(line)?;
+    text.push_str("\n")
+}
+
+/// A number, and what stands behind it.
+fn number(words: &str) -> (u32, &str) {
+    let (word, rest) = words.split_once(' ').unwrap_or((words, ""));
+    (word.parse().unwrap_or(0), rest)
+}
+
+/// `COUNT LINE`: so many copies of the line.
+fn put_copies(text: &mut String, words: &str) -> Result<(), AllocError> {
+    let (count, line) = number(words);
+    for _ in 0..count {
+        put_line(text, line)?;
+    }
+    Ok(())
+}
+
+/// `FROM TO DIGITS`: rows of 16 bytes, counted from 0.
+fn put_rows(text: &mut String, words: &str) -> Result<(), AllocError> {
+    let (from, words) = number(words);
+    let (to, digits) = number(words);
+    for row in from..to {
+        let offset = row.wrapping_mul(16);
+        write!(text, "{offset:08x} {digits}\n")?;
+    }
+    Ok(())
+}
+
+/// `FROM TO SHIFT`: lines of four bytes each, shifted by so many bytes.
+fn put_spans(text: &mut String, words: &str) -> Result<(), AllocError> {
+    let (from, words) = number(words);
+    let (to, words) = number(words);
+    let (shift, _) = number(words);
+    for line in from..to {
+        let start = line.wrapping_mul(4).wrapping_add(shift);
+        let end = start.wrapping_add(4);
+        write!(text, "line {line} {start} {end}\n")?;
+    }
+    Ok(())
+}
