@@ -63,14 +63,19 @@ branch_is w f r1 r2 hf h1 h2 e = (λ i. record { opcode = opcode i; rd = rd i; f
   where
     opcode : (fields_of w).opcode ≡ 0x63
     opcode = omega arith
+
     rd : (fields_of w).rd ≡ 0
     rd = omega arith
+
     funct3 : (fields_of w).funct3 ≡ f
     funct3 = omega arith
+
     rs1 : (fields_of w).rs1 ≡ r1
     rs1 = omega arith
+
     rs2 : (fields_of w).rs2 ≡ r2
     rs2 = omega arith
+
     funct7 : (fields_of w).funct7 ≡ 0
     funct7 = omega arith
 
@@ -83,8 +88,10 @@ branch_fresh w low high = (top, (second, (no_bits _ 0 0, (fourth, tt))))
   where
     top : bit_and (w % 256) 0x80 ≡ 0
     top = let f : bit_and (w % 256) 128 ≡ (w % 256 / 128 % 2) * 128 = and_high (w % 256) 1 7 in omega (arith, f)
+
     second : bit_and (w / 256 % 256) 0x0f ≡ 0
     second = let f : bit_and (w / 256 % 256) 15 ≡ w / 256 % 256 % 16 = and_mask (w / 256 % 256) 4 in omega (arith, f)
+
     fourth : bit_and (w / 16777216) 0xfe ≡ 0
     fourth = let f : bit_and (w / 16777216) 254 ≡ (w / 16777216 / 2 % 128) * 2 = and_high (w / 16777216) 7 1 in omega (arith, f)
 
