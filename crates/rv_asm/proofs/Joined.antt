@@ -24,7 +24,7 @@ use Rattle.rv_asm.specs.Simulation.{Addresses, IsPlaced, place_of}
 use Rattle.rv_asm.specs.Built.{BlockThere, Built}
 use Rattle.rv_asm.proofs.Placed.{bytes_stand}
 use Rattle.rv_asm.proofs.Threads.{Leads, label_place, placed_still}
-use Rattle.rv_asm.proofs.Targets.{IsDone, targets_of, targets_near, targets_lead, uses_inside, patched_to}
+use Rattle.rv_asm.proofs.Targets.{IsDone, targets_of, targets_lead, uses_inside, patched_to}
 use Rattle.rv_asm.proofs.Exits.{AllBound, Matches, exits_match, used_break, bind_at}
 use Rattle.rv_asm.proofs.Gaps.{Finished, block_done}
 
@@ -77,7 +77,7 @@ module _ (job : Job) (code : Code) (b : Buffer) (start after : ℕ) (inst : Inst
     run = λ base symbols slots s v placed pc is_state are_values same.
         arrives job code b start after (bytes_of_words there.words) (uses_in start inst) done base symbols slots s (inst_effect (standing base start after) inst v) (used_exit inst v) (inst_exit inst v) f placed (matches v)
         (subst (λ n. Ends job.flags (exit_address targets base start n (used_exit inst v)) (inst_effect (standing base start n) inst v) s) (sym there.ends)
-        (runs.run targets code.bytes (targets_near (bound_at b) (bytes_of b) code.bytes start (bytes_of_words there.words) (uses_in start inst) done f.small) f.small patched base s v (bytes_stand code base symbols slots s.values.mem placed) pc is_state are_values same));
+        (runs.run targets code.bytes patched base s v (bytes_stand code base symbols slots s.values.mem placed) pc is_state are_values same));
   }
 
   pub block_halts : (v : Values) → inst_exit inst v ≡ Break → StandRows job.flags code.bytes start (ebreak_row ∷ [])

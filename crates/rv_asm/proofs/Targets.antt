@@ -57,10 +57,6 @@ abbrev pub target_for : (place : ℕ → Option ℕ) (old new : List ℕ) (o : O
 target_for place old new None f = 0
 target_for place old new (Some u) f = (f u refl).target
 
-target_near : (place : ℕ → Option ℕ) (old new : List ℕ) (o : Option (Use LabelUse)) (f : (u : Use LabelUse) → o ≡ Some u → IsUsed place old new u) → length new < 2 ^ 31 → target_for place old new o f < 2 ^ 31
-target_near place old new None f small = lit< tt
-target_near place old new (Some u) f small = let i = (f u refl).inside in omega arith
-
 target_leads : (flags : IsaFlags) (code : Code) (place : ℕ → Option ℕ) (old : List ℕ) (o : Option (Use LabelUse)) (f : (u : Use LabelUse) → o ≡ Some u → IsUsed place old code.bytes u) (u : Use LabelUse) (to : ℕ) → o ≡ Some u → place u.label.number ≡ Some to → to % 2 ≡ 0 → Leads flags code (target_for place old code.bytes o f) (λ base v. wrap (base + to)) (λ base v. v)
 target_leads flags code place old None f u to h e even = absurd (cc)
 target_leads flags code place old (Some x) f u to h e even = use_leads flags code place old x to (f x refl) (ap (λ (y : Use LabelUse). place y.label.number) (same_Some x u h) ∙ e) even
@@ -72,9 +68,6 @@ IsDone place old new start block own = IsPatched Aims marks_of veneer_of place o
 -- the targets of its uses
 abbrev pub targets_of : (place : ℕ → Option ℕ) (old new : List ℕ) (start : ℕ) (block : List ℕ) (own : List (Use LabelUse)) → IsDone place old new start block own → ℕ → ℕ
 targets_of place old new start block own p k = target_for place old new (slice_get own k) (p.each k)
-
-pub targets_near : (place : ℕ → Option ℕ) (old new : List ℕ) (start : ℕ) (block : List ℕ) (own : List (Use LabelUse)) (p : IsDone place old new start block own) → length new < 2 ^ 31 → (k : ℕ) → targets_of place old new start block own p k < 2 ^ 31
-targets_near place old new start block own p small k = target_near place old new (slice_get own k) (p.each k) small
 
 pub targets_lead : (flags : IsaFlags) (code : Code) (place : ℕ → Option ℕ) (old : List ℕ) (start : ℕ) (block : List ℕ) (own : List (Use LabelUse)) (p : IsDone place old code.bytes start block own) (k : ℕ) (u : Use LabelUse) (to : ℕ) → slice_get own k ≡ Some u → place u.label.number ≡ Some to → to % 2 ≡ 0 →
     Leads flags code (targets_of place old code.bytes start block own p k) (λ base v. wrap (base + to)) (λ base v. v)

@@ -1,5 +1,6 @@
 -- A block runs as its instruction means, once its uses are patched.
-use Rattle.std.proofs.Common.{◌≡◌, ℕ, ◌+◌, ◌*◌, ◌%◌, Bool, true, false, List, [], ◌∷◌, length, None, ℤ, arith, refl}
+use Rattle.std.proofs.Common.{◌≡◌, ℕ, ◌+◌, ◌*◌, ◌%◌, Bool, true, false, List, [], ◌∷◌, length, drop, None, ℤ, arith, refl, sym, ap, subst, ◌∙◌}
+use Rattle.std.proofs.Math.Seq.{drop-append_seam}
 use Rattle.std.specs.Prelude.{if◌then◌else◌}
 use Rattle.rv_base.specs.declared.flags.IsaFlags.{IsaFlags}
 use Rattle.rv_base.specs.Regs.{number_of}
@@ -12,10 +13,11 @@ use Rattle.rv_inst.specs.declared.inst.CondBrTarget.{CondBrTarget}
 use Rattle.rv_inst.specs.declared.inst.CondBrTarget.TheVariants.{Label, Fallthrough}
 use Rattle.rv_inst.specs.Meaning.{Break}
 use Rattle.rv_inst.specs.Rules.{inst_rule}
+use Rattle.mach_buffer.specs.Buffer.{bytes_of}
 use Rattle.rv_emit.specs.Rows.{blank, distances, ebreak_row, rows_of}
 use Rattle.rv_emit.specs.Runs.{Same, Begins, used_target, used_exit}
-use Rattle.rv_emit.specs.Emitted.{uses_in, bytes_of_words, AreRows, UsesStand}
-use Rattle.rv_emit.specs.Blocks.{StandRows, IsPatchedTo, BytesStand, BlockRuns}
+use Rattle.rv_emit.specs.Emitted.{Buffer, uses_in, bytes_of_words, AreRows, UsesStand, PutsBlock}
+use Rattle.rv_emit.specs.Blocks.{StandRows, IsPatchedTo, BytesStand, BlockRuns, PutRuns}
 use Rattle.rv_emit.proofs.Lines.{inst_runs}
 use Rattle.rv_emit.proofs.Placed.{bytes_fit, rows_there}
 use Rattle.rv_emit.proofs.Patched.{patched_rows, unused_rows}
@@ -72,7 +74,14 @@ block_begins flags targets start inst words bytes base s v aligned h used p plac
 
 pub block_runs : (flags : IsaFlags) (inst : Inst) (start : ℕ) (words : List ℕ) → inst_rule inst ≡ None → start % 4 ≡ 0 → AreRows words (rows_of blank inst) → UsesStand start words (uses_in start inst) → BlockRuns flags inst start (bytes_of_words words)
 block_runs flags inst start words rule aligned h used = record {
-  run = λ targets bytes near small p base s v placed here state values same.
+  run = λ targets bytes p base s v placed here state values same.
       (inst_runs flags targets start inst rule).run base (start + length (bytes_of_words words)) s v (block_begins flags targets start inst words bytes base s v aligned h used p placed here state values same);
   halt = λ targets bytes v p e. halts flags targets start inst words bytes v h p e;
 }
+
+-- so does the one that was put
+pub put_runs : (inst : Inst) (old new : Buffer) → inst_rule inst ≡ None → PutsBlock inst old new → PutRuns inst old new
+put_runs inst old new rule p asks aligned flags =
+    let start = length (bytes_of old) in
+    let block : drop start (bytes_of new) ≡ bytes_of_words p.words = ap (drop start) p.adds.bytes ∙ drop-append_seam (bytes_of old) (bytes_of_words p.words) in
+    subst (BlockRuns flags inst start) (sym block) (block_runs flags inst start p.words rule aligned p.decode p.used)

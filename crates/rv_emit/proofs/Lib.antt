@@ -9,6 +9,7 @@ pub mod Patched
 pub mod Placed
 pub mod Registers
 pub mod Room
+pub mod Single
 pub mod Steps
 pub mod Straight
 pub mod Usable

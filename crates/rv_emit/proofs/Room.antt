@@ -10,13 +10,14 @@ use Rattle.rv_inst.specs.declared.inst.CondBrTarget.TheVariants.{Label, Fallthro
 use Rattle.rv_inst.specs.declared.label_use.LabelUse.{LabelUse}
 use Rattle.rv_inst.specs.declared.label_use.LabelUse.TheVariants.{Jal20, B12}
 use Rattle.rv_inst.specs.LabelUse.{forward_of, backward_of, has_veneer_of}
+use Rattle.rv_inst.specs.Fields.{inst_labels}
 use Rattle.rv_machine.specs.declared.decode.Decoded.{Decoded}
 use Rattle.mach_buffer.specs.declared.uses.Use.{Use}
 use Rattle.mach_buffer.specs.Reach.{CanReach, HasSlack, deadline, deadlines, is_pending, is_needed}
 use Rattle.mach_buffer.specs.Buffer.{bytes_of, uses_of, place_of}
 use Rattle.mach_buffer.proofs.Slack.{deadlines_append, slack_use, slack_less, slack_not_needed, reach_from_slack}
 use Rattle.rv_emit.specs.Rows.{blank, rows_of, move_rows, addi_row}
-use Rattle.rv_emit.specs.Emitted.{Buffer, pending, use_at, uses_in, Adds, AreRows, PutsBlock, MakesRoom, CanEmit, bytes_of_words}
+use Rattle.rv_emit.specs.Emitted.{Buffer, pending, use_at, uses_in, Adds, AreRows, PutsBlock, MakesRoom, CanEmit, IsBounded, bytes_of_words}
 
 -- whether a use waits
 abbrev pub waits : (ℕ → Option ℕ) → Use LabelUse → Bool
@@ -130,6 +131,22 @@ pending_uses inst old new p =
 
 pub pending_after : (inst : Inst) (old new : Buffer) → PutsBlock inst old new → length (pending new) ≤ length (pending old) + 2
 pending_after inst old new p = let a = pending_uses inst old new p in let b = few_uses (length (bytes_of old)) inst in omega arith
+
+-- none more where it names no label
+no_uses : (start : ℕ) (inst : Inst) → inst_labels inst ≡ [] → length (uses_in start inst) ≡ 0
+no_uses start (Jal label) e = absurd (cc)
+no_uses start (CondBr Fallthrough not_taken kind) e = refl
+no_uses start (CondBr (Label t) Fallthrough kind) e = absurd (cc)
+no_uses start (CondBr (Label t) (Label f) kind) e = absurd (cc)
+no_uses start _ e = refl
+
+-- a block is within its bounds
+pub block_bounds : (inst : Inst) (old new : Buffer) → PutsBlock inst old new → IsBounded inst old new
+block_bounds inst old new p asks = record {
+  long = let a = bytes_after inst old new p in omega arith;
+  waiting = pending_after inst old new p;
+  without = λ e. let a = pending_uses inst old new p in let b = no_uses (length (bytes_of old)) inst e in omega arith;
+}
 
 -- ---- Reach
 

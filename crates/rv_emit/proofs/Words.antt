@@ -1,5 +1,5 @@
 -- The words that an instruction puts, with no distance in them yet.
-use Rattle.std.proofs.Common.{◌≡◌, ℕ, ◌+◌, ◌*◌, ◌/◌, ◌%◌, ◌^◌, ◌<◌, ◌≤◌, List, [], ◌∷◌, ◌++◌, length, pos, Some, refl, ap, sym, ◌∙◌, subst, arith, bit_and, append_assoc, lit<}
+use Rattle.std.proofs.Common.{◌≡◌, ℕ, ◌+◌, ◌*◌, ◌/◌, ◌%◌, ◌^◌, ◌<◌, List, [], ◌∷◌, ◌++◌, length, pos, Some, refl, ap, ◌∙◌, subst, arith, bit_and, append_assoc, lit<}
 use Rattle.std.specs.Int.{to_le_bytes, w32}
 use Rattle.std.proofs.lemmas.List.{length-append}
 use Rattle.std.proofs.lemmas.Int.{ints}
@@ -9,18 +9,15 @@ use Rattle.rv_base.specs.declared.flags.IsaFlags.{IsaFlags}
 use Rattle.rv_base.specs.declared.label.MachLabel.{MachLabel}
 use Rattle.rv_base.specs.declared.regs.Reg.{Reg}
 use Rattle.rv_base.specs.declared.regs.Reg.TheVariants.{Real, Virtual}
-use Rattle.rv_base.specs.declared.condcodes.IntCC.{IntCC}
 use Rattle.rv_base.specs.LabelUse.{IsFresh}
 use Rattle.rv_base.specs.Regs.{number_of}
 use Rattle.rv_machine.specs.declared.decode.Decoded.{Decoded}
-use Rattle.rv_machine.specs.declared.fields.Fields.{Fields}
 use Rattle.rv_machine.specs.Decode.{decode}
 use Rattle.rv_machine.specs.Layout.{fields_of}
 use Rattle.rv_ops.specs.declared.compare.IntegerCompare.{IntegerCompare}
 use Rattle.rv_ops.specs.declared.compare.BranchFunct3.{BranchFunct3}
 use Rattle.rv_ops.specs.declared.compare.BranchFunct3.TheVariants as branch
 use Rattle.rv_ops.specs.Compare.{branch_of, funct3_of, rs1_of, rs2_of, branch_word}
-use Rattle.rv_encode.specs.Registers.{IsIntRegister}
 use Rattle.rv_encode.specs.Layouts.{b_fields}
 use Rattle.rv_encode.specs.Rows.{compare_row}
 use Rattle.rv_encode.proofs.Decoding.{branch_decodes}
@@ -31,7 +28,7 @@ use Rattle.rv_inst.specs.LabelUseWords.{word_bytes}
 use Rattle.mach_buffer.specs.declared.uses.Use.{Use}
 use Rattle.mach_buffer.specs.Buffer.{bytes_of, uses_of}
 use Rattle.rv_emit.specs.Rows.{jump_row}
-use Rattle.rv_emit.specs.Emitted.{Buffer, Adds, AreRows, UsesStand, PutsWords, bytes_of_words, use_at}
+use Rattle.rv_emit.specs.Emitted.{Buffer, Adds, PutsWords, use_at}
 
 -- a word's bytes, the least first
 pub bytes_of_word : (w : ℕ) → w < 2 ^ 32 → to_le_bytes w32 w ≡ word_bytes w
@@ -63,14 +60,19 @@ branch_is w f r1 r2 hf h1 h2 e = (λ i. record { opcode = opcode i; rd = rd i; f
   where
     opcode : (fields_of w).opcode ≡ 0x63
     opcode = omega arith
+
     rd : (fields_of w).rd ≡ 0
     rd = omega arith
+
     funct3 : (fields_of w).funct3 ≡ f
     funct3 = omega arith
+
     rs1 : (fields_of w).rs1 ≡ r1
     rs1 = omega arith
+
     rs2 : (fields_of w).rs2 ≡ r2
     rs2 = omega arith
+
     funct7 : (fields_of w).funct7 ≡ 0
     funct7 = omega arith
 
@@ -83,8 +85,10 @@ branch_fresh w low high = (top, (second, (no_bits _ 0 0, (fourth, tt))))
   where
     top : bit_and (w % 256) 0x80 ≡ 0
     top = let f : bit_and (w % 256) 128 ≡ (w % 256 / 128 % 2) * 128 = and_high (w % 256) 1 7 in omega (arith, f)
+
     second : bit_and (w / 256 % 256) 0x0f ≡ 0
     second = let f : bit_and (w / 256 % 256) 15 ≡ w / 256 % 256 % 16 = and_mask (w / 256 % 256) 4 in omega (arith, f)
+
     fourth : bit_and (w / 16777216) 0xfe ≡ 0
     fourth = let f : bit_and (w / 16777216) 254 ≡ (w / 16777216 / 2 % 128) * 2 = and_high (w / 16777216) 7 1 in omega (arith, f)
 

@@ -15,6 +15,7 @@ use Rattle.rv_inst.specs.declared.label_use.LabelUse.TheVariants.{Jal20, PCRel32
 use Rattle.rv_inst.specs.Families.{family_of, by_family}
 use Rattle.rv_inst.specs.LabelUse.{marks_of, forward_of, backward_of, has_veneer_of, veneer_of}
 use Rattle.rv_inst.specs.LabelUseWords.{word_bytes}
+use Rattle.rv_inst.specs.Fields.{inst_labels}
 use Rattle.rv_inst.specs.Rules.{inst_rule}
 use Rattle.mach_buffer.specs.declared.buffer.MachBuffer.{MachBuffer}
 use Rattle.mach_buffer.specs.declared.uses.Use.{Use}
@@ -159,3 +160,15 @@ Puts None inst old new = PutsBlock inst old new
 
 abbrev pub Emitted : Inst → Buffer → Buffer → Type 0
 Emitted inst old new = Puts (island_space inst) inst old new
+
+-- ---- bounds
+
+-- how much longer a buffer is, and how many more uses are pending
+pub record EmitBounds (inst : Inst) (old new : Buffer) : Type 0 where
+  pub long : length (bytes_of new) ≤ length (bytes_of old) + 84
+  pub waiting : length (pending new) ≤ length (pending old) + 2
+  pub without : inst_labels inst ≡ [] → length (pending new) ≤ length (pending old)
+
+-- the bounds of an instruction that asks for no island
+abbrev pub IsBounded : Inst → Buffer → Buffer → Type 0
+IsBounded inst old new = island_space inst ≡ None → EmitBounds inst old new

@@ -1,6 +1,5 @@
 -- What the words of an instruction ask of its registers, labels and numbers.
-use Rattle.std.specs.Prelude.{◌≡◌, ℕ, ◌^◌, ◌<◌, false}
-use Rattle.rv_base.specs.declared.regs.Reg.{Reg}
+use Rattle.std.specs.Prelude.{◌^◌, ◌<◌}
 use Rattle.rv_base.specs.declared.regs.Reg.TheVariants.{Real}
 use Rattle.rv_base.specs.declared.label.MachLabel.{MachLabel}
 use Rattle.rv_ops.specs.declared.compare.IntegerCompare.{IntegerCompare}

@@ -89,11 +89,7 @@ fn put_plain(sink: &mut MachBuffer<LabelUse>, inst: &Inst) -> Result<(), OutOfMe
 }
 
 /// A move of one integer register to another; none to itself.
-fn put_move(
-    sink: &mut MachBuffer<LabelUse>,
-    rd: WritableReg,
-    rm: Reg,
-) -> Result<(), OutOfMemory>
+fn put_move(sink: &mut MachBuffer<LabelUse>, rd: WritableReg, rm: Reg) -> Result<(), OutOfMemory>
     requires rd { IsIntRegister rd.reg }
     requires rm { IsIntRegister rm }
     requires room { length (bytes_of sink.old) + 8 < 2147479552 }
@@ -128,10 +124,7 @@ fn put_control(sink: &mut MachBuffer<LabelUse>, inst: &Inst) -> Result<(), OutOf
     ensures refused { OnErr result (spoiled_of sink.new ≡ true) }
 {
     match inst {
-        Inst::Ret => put_word(
-            sink,
-            enc_jalr(writable_zero_reg(), link_reg(), Imm12::ZERO),
-        ),
+        Inst::Ret => put_word(sink, enc_jalr(writable_zero_reg(), link_reg(), Imm12::ZERO)),
         Inst::Jal { label } => put_jump(sink, *label),
         Inst::CondBr {
             taken,

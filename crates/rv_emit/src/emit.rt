@@ -3,7 +3,8 @@
 ghost use Rattle.std.specs.Prelude.{◌≡◌, length, OnOk, OnErr, true};
 ghost use Rattle.mach_buffer.specs.Reach.{CanReach};
 ghost use Rattle.mach_buffer.specs.Buffer.{bytes_of, spoiled_of};
-ghost use Rattle.rv_emit.specs.Emitted.{pending, CanEmit, Emitted, island_space as space_of};
+ghost use Rattle.rv_emit.specs.Emitted.{pending, CanEmit, Emitted, IsBounded, island_space as space_of};
+ghost use Rattle.rv_emit.specs.Blocks.{PutRuns};
 
 use crate::block::put_block;
 use crate::island::make_room;
@@ -29,6 +30,12 @@ pub trait MachInstEmit {
     /// What it puts there.
     ghost puts: { Self → Buffer → Buffer → Type 0 };
 
+    /// That what it put runs as it means.
+    ghost runs: { Self → Buffer → Buffer → Type 0 };
+
+    /// How much it puts there at most.
+    ghost bounds: { Self → Buffer → Buffer → Type 0 };
+
     /// Puts the block. Its only refusal is for want of memory; the buffer is then spoiled.
     fn emit(
         &self,
@@ -39,17 +46,24 @@ pub trait MachInstEmit {
     ) -> Result<(), EmitError>
         requires { asks self.now sink.old }
         ensures emitted { OnOk result (puts self.now sink.old sink.new) }
+        ensures runs { OnOk result (runs self.now sink.old sink.new) }
+        ensures bounds { OnOk result (bounds self.now sink.old sink.new) }
         ensures reach { OnOk result (CanReach (length (bytes_of sink.new)) (pending sink.new)) }
         ensures wanting { IfErr result (λ e. e ≡ error.OutOfMemory) }
         ensures spoiled { OnErr result (spoiled_of sink.new ≡ true) };
 }
 
 impl MachInstEmit for Inst {
-    ghost use Rattle.rv_emit.specs.Emitted.{CanEmit, Emitted};
+    ghost use Rattle.rv_emit.specs.Emitted.{CanEmit, Emitted, IsBounded};
+    ghost use Rattle.rv_emit.specs.Blocks.{PutRuns};
 
     ghost asks = { CanEmit };
 
     ghost puts = { Emitted };
+
+    ghost runs = { PutRuns };
+
+    ghost bounds = { IsBounded };
 
     fn emit(
         &self,
@@ -69,6 +83,8 @@ impl MachInstEmit for Inst {
 fn put(sink: &mut MachBuffer<LabelUse>, inst: &Inst) -> Result<(), OutOfMemory>
     requires { CanEmit inst.now sink.old }
     ensures emitted { OnOk result (Emitted inst.now sink.old sink.new) }
+    ensures runs { OnOk result (PutRuns inst.now sink.old sink.new) }
+    ensures bounds { OnOk result (IsBounded inst.now sink.old sink.new) }
     ensures reach { OnOk result (CanReach (length (bytes_of sink.new)) (pending sink.new)) }
     ensures spoiled { OnErr result (spoiled_of sink.new ≡ true) }
 {

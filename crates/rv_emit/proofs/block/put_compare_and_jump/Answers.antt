@@ -1,5 +1,4 @@
 use Rattle.std.proofs.Common.{arith, refl}
-use Rattle.mach_buffer.specs.Buffer.{bytes_of}
 use Rattle.rv_emit.proofs.Words.{puts_both, branch_word_is, four_longer}
 use Rattle.rv_emit.proofs.block.put_compare_and_jump.Goals as goal
 

@@ -1,4 +1,4 @@
-use Rattle.std.proofs.Common.{arith, ap, sym, ◌∙◌, ◌++◌, [], append-nil}
+use Rattle.std.proofs.Common.{arith, ap, sym, ◌∙◌, ◌++◌, append-nil}
 use Rattle.mach_buffer.specs.Buffer.{bytes_of, uses_of}
 use Rattle.rv_emit.proofs.Words.{bytes_of_word, puts_word}
 use Rattle.rv_emit.proofs.block.put_word.Goals as goal

@@ -1,10 +1,3 @@
-use Rattle.std.proofs.Common.{subst, sym, List, ℕ}
-use Rattle.rv_inst.specs.declared.label_use.LabelUse.{LabelUse}
-use Rattle.rv_inst.specs.LabelUse.{marks_of}
-use Rattle.mach_buffer.specs.declared.uses.Use.{Use}
-use Rattle.mach_buffer.specs.declared.uses.VeneerUse.{VeneerUse}
-use Rattle.mach_buffer.specs.Buffer.{bytes_of, uses_of, veneers_of}
-use Rattle.mach_buffer.specs.Islands.{AreWindows}
 use Rattle.rv_emit.proofs.Islands.{can_island}
 use Rattle.rv_emit.proofs.Islanding.{jump_put, puts_island, same_windows}
 use Rattle.rv_emit.proofs.island.put_island.Goals as goal

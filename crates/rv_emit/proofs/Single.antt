@@ -1,0 +1,111 @@
+-- A buffer of a single instruction can be emitted into and finished.
+use Rattle.std.proofs.Common.{◌≡◌, ℕ, ◌+◌, ◌≤◌, Bool, true, false, cond, List, [], ◌∷◌, ◌++◌, length, Option, Some, None, refl, ap, sym, ◌∙◌, subst, arith}
+use Rattle.std.specs.Prelude.{nat_eq, slice_get, is_some}
+use Rattle.std.proofs.lemmas.Bool.{and_parts, eqb-true, true≢false}
+use Rattle.rv_inst.specs.declared.inst.Inst.{Inst}
+use Rattle.rv_inst.specs.declared.inst.Inst.TheVariants.{EmitIsland, Jal, CondBr}
+use Rattle.rv_inst.specs.declared.inst.CondBrTarget.TheVariants.{Label, Fallthrough}
+use Rattle.rv_inst.specs.declared.label_use.LabelUse.{LabelUse}
+use Rattle.rv_inst.specs.declared.label_use.LabelUse.TheVariants.{Jal20, B12}
+use Rattle.rv_inst.specs.LabelUse.{marks_of, forward_of, backward_of, has_veneer_of, veneer_of}
+use Rattle.rv_inst.specs.Rules.{inst_rule}
+use Rattle.mach_buffer.specs.declared.uses.Use.{Use}
+use Rattle.mach_buffer.specs.declared.uses.VeneerUse.{VeneerUse}
+use Rattle.mach_buffer.specs.Reach.{CanReach, is_needed, deadlines}
+use Rattle.mach_buffer.specs.Buffer.{bytes_of, uses_of, veneers_of, place_of}
+use Rattle.mach_buffer.specs.Islands.{AreWindows, padding}
+use Rattle.mach_buffer.specs.Finish.{before_last, CanFinish}
+use Rattle.mach_buffer.proofs.Blocks.{windows_none}
+use Rattle.mach_buffer.proofs.Islanded.{length_padded}
+use Rattle.mach_buffer.proofs.Slack.{slack_from_reach, reaches_from_slack}
+use Rattle.rv_emit.specs.Emitted.{Buffer, HasWindows, pending, use_at, uses_in, island_space, inst_sum, PutsBlock, Puts, Emitted, CanEmit, IsBounded}
+use Rattle.rv_emit.specs.Single.{names_first, IsStart, HoldsOne}
+use Rattle.rv_emit.proofs.Grows.{block_has_windows}
+use Rattle.rv_emit.proofs.Room.{Each, waits, each_none, each_more, uses_kinds}
+
+-- ---- at the start
+
+pub none_there : {X : Type 0} (o : Option X) → is_some o ≡ false → o ≡ None
+none_there None h = refl
+none_there (Some x) h = absurd (cc)
+
+start_pending : (b : Buffer) → IsStart b → pending b ≡ []
+start_pending b s = ap (deadlines (waits (place_of b)) forward_of) s.uses
+
+start_windows : (b : Buffer) → IsStart b → HasWindows b
+start_windows b s =
+    subst (λ (bs : List ℕ). AreWindows marks_of bs (uses_of b) (veneers_of b)) (sym s.bytes)
+    (subst (λ (us : List (Use LabelUse)). AreWindows marks_of [] us (veneers_of b)) (sym s.uses)
+    (subst (λ (vs : List (VeneerUse LabelUse)). AreWindows marks_of [] [] vs) (sym s.veneers) windows_none))
+
+plain_sum : (inst : Inst) → island_space inst ≡ None → inst_sum inst ≡ 128
+plain_sum (EmitIsland space) none = absurd (cc)
+plain_sum _ none = refl
+
+-- any instruction may be put that asks for no island
+pub can_start : (inst : Inst) (b : Buffer) → inst_rule inst ≡ None → island_space inst ≡ None → IsStart b → CanEmit inst b
+can_start inst b rule none s = record {
+  rule = rule;
+  sound = s.sound;
+  calm = ap (is_needed (length (bytes_of b)) 88) (start_pending b s);
+  few = let d = s.drawn in omega arith;
+  room =
+      let sum = plain_sum inst none in
+      let bytes : length (bytes_of b) ≡ 0 = ap (length {A = ℕ}) s.bytes in
+      let waiting : length (pending b) ≡ 0 = ap (length {A = ℕ}) (start_pending b s) in
+      omega arith;
+}
+
+-- ---- one instruction
+
+-- its uses name the label 0
+uses_first : (start : ℕ) (inst : Inst) → names_first inst ≡ true → Each (λ (u : Use LabelUse). u.label.number ≡ 0) (uses_in start inst)
+uses_first start (Jal label) h = each_more _ (use_at start label Jal20) [] (eqb-true _ _ h) (each_none _)
+uses_first start (CondBr Fallthrough not_taken kind) h = each_none _
+uses_first start (CondBr (Label t) Fallthrough kind) h = each_more _ (use_at start t B12) [] (eqb-true _ _ (and_parts _ _ h).0) (each_none _)
+uses_first start (CondBr (Label t) (Label f) kind) h = let p = and_parts _ _ h in each_more _ (use_at start t B12) (use_at (start + 4) f Jal20 ∷ []) (eqb-true _ _ p.0) (each_more _ (use_at (start + 4) f Jal20) [] (eqb-true _ _ p.1) (each_none _))
+uses_first start _ h = each_none _
+
+pub holds_one : (inst : Inst) (old new : Buffer) → island_space inst ≡ None → IsStart old → Emitted inst old new → CanReach (length (bytes_of new)) (pending new) → IsBounded inst old new → HoldsOne inst new
+holds_one inst old new none s e reach bounded = record {
+  sound = p.adds.sound;
+  windows = block_has_windows inst s.sound p (start_windows old s);
+  reach = reach;
+  drawn = p.adds.drawn ∙ s.drawn;
+  long = let l = (bounded none).long in let bytes : length (bytes_of old) ≡ 0 = ap (length {A = ℕ}) s.bytes in omega arith;
+  waiting = let w = (bounded none).waiting in let waiting : length (pending old) ≡ 0 = ap (length {A = ℕ}) (start_pending old s) in omega arith;
+  kinds = λ j u h. uses_kinds start inst j u (own j u h);
+  bound = λ first j u h. ap (λ n. is_some (place_of new n)) (uses_first start inst first j u (own j u h)) ∙ ap is_some (ap (λ (place : ℕ → Option ℕ). place 0) p.adds.places ∙ s.first);
+}
+  where
+    start : ℕ
+    start = length (bytes_of old)
+
+    p : PutsBlock inst old new
+    p = subst (λ (o : Option ℕ). Puts o inst old new) none e
+
+    own : (j : ℕ) (u : Use LabelUse) → slice_get (uses_of new) j ≡ Some u → slice_get (uses_in start inst) j ≡ Some u
+    own j u h = ap (λ (us : List (Use LabelUse)). slice_get us j) (sym (p.adds.uses ∙ ap (λ (us : List (Use LabelUse)). us ++ uses_in start inst) s.uses)) ∙ h
+
+-- at most three bytes of padding stand before the last veneers
+last_near : (bytes : List ℕ) (count : ℕ) → length (before_last bytes count) ≤ length bytes + 3
+last_near bytes count = on (nat_eq count 0)
+  where
+    on : (c : Bool) → length (cond c bytes (bytes ++ padding (length bytes))) ≤ length bytes + 3
+    on true = omega arith
+    on false = let long = length_padded bytes in omega arith
+
+-- the buffer can be finished where its labels are bound
+pub can_finish_one : (inst : Inst) (b : Buffer) → HoldsOne inst b → names_first inst ≡ true → CanFinish marks_of has_veneer_of forward_of backward_of veneer_of b
+can_finish_one inst b one first =
+    let near : length (before_last (bytes_of b) (length (pending b))) ≤ length (bytes_of b) + 3 = last_near (bytes_of b) (length (pending b)) in
+    let long = one.long in
+    let waiting = one.waiting in
+    record {
+      sound = one.sound;
+      windows = one.windows;
+      bound = one.bound first;
+      direct = λ j u h none. absurd (true≢false (sym (one.kinds j u h) ∙ none));
+      reach = reaches_from_slack (length (bytes_of b)) 14 (length (before_last (bytes_of b) (length (pending b)))) (pending b) (omega (arith, near)) (slack_from_reach (length (bytes_of b)) (pending b) one.reach);
+      short = omega (arith, near, long, waiting);
+    }

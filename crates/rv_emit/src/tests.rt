@@ -1,0 +1,211 @@
+//! The words of instructions, as the manual has them, and the islands before them.
+
+ghost use Rattle.std.specs.Prelude.{◌≡◌, IfOk, None, is_some, true};
+ghost use Rattle.rv_inst.specs.Rules.{inst_rule};
+ghost use Rattle.rv_emit.specs.Emitted.{island_space};
+ghost use Rattle.rv_emit.specs.Single.{is_first, names_first, IsStart, HoldsOne};
+
+use crate::emit::MachInstEmit;
+use crate::island::make_room;
+use crate::state::{EmitInfo, EmitState, EmitVState, MachInstEmitState};
+use mach_buffer::buffer::MachBuffer;
+use rv_base::condcodes::IntCC;
+use rv_base::flags::IsaFlags;
+use rv_base::frame::FrameLayout;
+use rv_base::ir_type::IrType;
+use rv_base::label::MachLabel;
+use rv_base::list::List;
+use rv_base::memory::OutOfMemory;
+use rv_base::named::{a0, a1, a2, px_reg, stack_reg, writable_a0, writable_link_reg};
+use rv_imms::imm12::Imm12;
+use rv_imms::imm20::Imm20;
+use rv_inst::inst::{CondBrTarget, Inst};
+use rv_inst::label_use::LabelUse;
+use rv_ops::alu::{AluOPRRI, AluOPRRR};
+use rv_ops::compare::IntegerCompare;
+use std::alloc::Global;
+
+/// A buffer in which the label 0 is bound.
+fn start(alloc: Global) -> Result<MachBuffer<LabelUse>, OutOfMemory>
+    ensures { IfOk result (λ b. IsStart b) }
+{
+    let mut buffer = MachBuffer::<LabelUse>::new(alloc);
+    buffer.bind_label(MachLabel::from_u32(0))?;
+    Ok(buffer)
+}
+
+/// Whether a target is the label 0, where it is a label.
+fn is_first(target: CondBrTarget) -> bool
+    ensures { result ≡ is_first target }
+{
+    match target {
+        CondBrTarget::Label(label) => label.as_u32() == 0,
+        CondBrTarget::Fallthrough => true,
+    }
+}
+
+/// Whether an instruction names no label but 0.
+fn names_first(inst: &Inst) -> bool
+    ensures { result ≡ names_first inst.now }
+{
+    match inst {
+        Inst::Jal { label } => label.as_u32() == 0,
+        Inst::CondBr {
+            taken,
+            not_taken,
+            kind: _,
+        } => is_first(*taken) && is_first(*not_taken),
+        _ => true,
+    }
+}
+
+/// Whether an instruction asks for an island.
+fn asks_island(inst: &Inst) -> bool
+    ensures { result ≡ is_some (island_space inst.now) }
+{
+    matches!(inst, Inst::EmitIsland { needed_space: _ })
+}
+
+/// A buffer of one instruction, which keeps the rules and asks for no island.
+fn buffer_of(alloc: Global, inst: &Inst) -> Result<MachBuffer<LabelUse>, OutOfMemory>
+    ensures { IfOk result (λ b. HoldsOne inst.now b) }
+{
+    let info = EmitInfo::new(IsaFlags::none());
+    let mut state = EmitState::new(FrameLayout::none(alloc));
+    if asks_island(inst) {
+        return Err(OutOfMemory);
+    }
+    if inst
+        .check(info.isa_flags, state.frame_layout(), &[])
+        .is_some()
+    {
+        return Err(OutOfMemory);
+    }
+    let mut buffer = start(alloc)?;
+    match inst.emit(alloc, &mut buffer, &info, &mut state) {
+        Ok(()) => Ok(buffer),
+        Err(_) => Err(OutOfMemory),
+    }
+}
+
+/// The code of an instruction whose labels are where it starts.
+fn code_of(alloc: Global, inst: &Inst) -> Result<List<u8>, OutOfMemory> {
+    if !names_first(inst) {
+        return Err(OutOfMemory);
+    }
+    let buffer = buffer_of(alloc, inst)?;
+    let code = buffer.finish(&[])?;
+    Ok(code.bytes)
+}
+
+/// Whether an island is put behind an instruction and before so many bytes, and where it ends.
+fn room_of(alloc: Global, inst: &Inst, distance: u32) -> Result<(bool, u32), OutOfMemory> {
+    let mut buffer = buffer_of(alloc, inst)?;
+    let made = make_room(&mut buffer, distance)?;
+    Ok((made, buffer.cur_offset()))
+}
+
+/// A branch where a0 and a1 are equal.
+fn branch(taken: CondBrTarget, not_taken: CondBrTarget) -> Inst {
+    Inst::CondBr {
+        taken,
+        not_taken,
+        kind: IntegerCompare {
+            kind: IntCC::Equal,
+            rs1: a0(),
+            rs2: a1(),
+        },
+    }
+}
+
+#[test]
+fn words_are_the_manuals(rt: HostRuntime) -> Result<(), OutOfMemory> {
+    let rd = writable_a0();
+    let ty = IrType::I64;
+    let here = CondBrTarget::Label(MachLabel::from_u32(0));
+    let sub = Inst::AluRRR {
+        alu_op: AluOPRRR::Sub,
+        rd,
+        rs1: a1(),
+        rs2: a2(),
+    };
+    let addi = Inst::AluRRImm12 {
+        alu_op: AluOPRRI::Addi,
+        rd,
+        rs: a1(),
+        imm12: Imm12::from_i16(-1),
+    };
+    let lui = Inst::Lui {
+        rd,
+        imm: Imm20::from_i32(0x12345),
+    };
+    let auipc = Inst::Auipc {
+        rd,
+        imm: Imm20::from_i32(1),
+    };
+    let from_sp = Inst::MovFromPReg { rd, rm: px_reg(2) };
+    let jalr = Inst::Jalr {
+        rd: writable_link_reg(),
+        base: a0(),
+        offset: Imm12::from_i16(16),
+    };
+    let jal = Inst::Jal {
+        label: MachLabel::from_u32(0),
+    };
+    let beq = branch(here, CondBrTarget::Fallthrough);
+    let beq_j = branch(here, here);
+    for (inst, bytes) in [
+        (Inst::Nop0, [].as_slice()),
+        (Inst::Nop4, [0x13, 0, 0, 0].as_slice()),
+        (Inst::EBreak, [0x73, 0, 0x10, 0].as_slice()),
+        (lui, [0x37, 0x55, 0x34, 0x12].as_slice()),
+        (auipc, [0x17, 0x15, 0, 0].as_slice()),
+        (sub, [0x33, 0x85, 0xc5, 0x40].as_slice()),
+        (addi, [0x13, 0x85, 0xf5, 0xff].as_slice()),
+        (
+            Inst::Mov { rd, rm: a1(), ty },
+            [0x13, 0x85, 5, 0].as_slice(),
+        ),
+        (Inst::Mov { rd, rm: a0(), ty }, [].as_slice()),
+        (from_sp, [0x13, 5, 1, 0].as_slice()),
+        (Inst::Ret, [0x67, 0x80, 0, 0].as_slice()),
+        (jalr, [0xe7, 0, 5, 1].as_slice()),
+        (jal, [0x6f, 0, 0, 0].as_slice()),
+        (beq, [0x63, 0, 0xb5, 0].as_slice()),
+        (beq_j, [0x63, 0, 0xb5, 0, 0x6f, 0xf0, 0xdf, 0xff].as_slice()),
+    ] {
+        let code = code_of(rt.alloc(), &inst)?;
+        assert_eq!(rt; code.as_slice(), bytes);
+    }
+    Ok(())
+}
+
+#[test]
+fn islands_are_made_by_the_rule(rt: HostRuntime) -> Result<(), OutOfMemory> {
+    // A branch that waits at 0 reaches 4094, and 4094 - 14 - 8 * 3 = 4056. Of two uses the jump reaches farther.
+    let far = CondBrTarget::Label(MachLabel::from_u32(5));
+    let beq = branch(far, CondBrTarget::Fallthrough);
+    let beq_j = branch(far, far);
+    for (inst, distance, made, end) in [
+        (&beq, 4052, false, 4),
+        (&beq, 4053, true, 16),
+        (&beq_j, 4048, false, 8),
+        (&beq_j, 4049, true, 28),
+        (&Inst::Ret, 4294967295, false, 4),
+    ] {
+        assert_eq!(rt; room_of(rt.alloc(), inst, distance)?, (made, end));
+    }
+    Ok(())
+}
+
+#[test]
+fn a_new_block_keeps_the_frame(rt: HostRuntime) {
+    let frame = FrameLayout {
+        clobber_size: 16,
+        ..FrameLayout::none(rt.alloc())
+    };
+    let mut state = EmitState::new(frame);
+    state.on_new_block();
+    assert_eq!(rt; state.frame_layout().clobber_size, 16);
+    assert_eq!(rt; state.vstate(), EmitVState::Unknown);
+}
