@@ -6,8 +6,6 @@ pub mod lines;
 pub mod outcome;
 pub mod refusal;
 pub mod run;
-#[cfg(test)]
-mod tests;
 
 pub use rv_listing::reading::{ReadError, read_job};
 pub use rv_listing::report::report;

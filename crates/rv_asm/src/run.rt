@@ -90,10 +90,3 @@ pub fn run<S: Source, K: Sink>(
 {
     end(alloc, words, source, sink)
 }
-
-#[cfg(test)]
-mod operations;
-#[cfg(test)]
-mod samples;
-#[cfg(test)]
-mod tests;

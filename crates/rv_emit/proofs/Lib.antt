@@ -9,7 +9,6 @@ pub mod Patched
 pub mod Placed
 pub mod Registers
 pub mod Room
-pub mod Single
 pub mod Steps
 pub mod Straight
 pub mod Usable

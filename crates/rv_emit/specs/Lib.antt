@@ -2,5 +2,4 @@ pub mod Blocks
 pub mod Emitted
 pub mod Rows
 pub mod Runs
-pub mod Single
 pub mod Usable

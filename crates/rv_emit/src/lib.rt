@@ -5,5 +5,3 @@ pub mod block;
 pub mod emit;
 pub mod island;
 pub mod state;
-#[cfg(test)]
-mod tests;

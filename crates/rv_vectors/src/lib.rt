@@ -4,6 +4,8 @@
 #[cfg(test)]
 mod buffer;
 #[cfg(test)]
+mod emission;
+#[cfg(test)]
 mod immediates;
 #[cfg(test)]
 mod label_uses;
@@ -12,7 +14,15 @@ mod listings;
 #[cfg(test)]
 mod machine;
 #[cfg(test)]
+mod operations;
+#[cfg(test)]
+mod program;
+#[cfg(test)]
 mod registers;
+#[cfg(test)]
+mod runs;
+#[cfg(test)]
+mod samples;
 #[cfg(test)]
 mod streams;
 #[cfg(test)]

@@ -1,6 +1,6 @@
 use Rattle.std.proofs.Common.{ap, ◌∙◌}
 use Rattle.mach_buffer.specs.declared.buffer.MachBuffer.{MachBuffer}
-use Rattle.mach_buffer.specs.declared.tests.Toy.{Toy}
+use Rattle.rv_vectors.specs.declared.buffer.Toy.{Toy}
 use Rattle.mach_buffer.specs.Buffer.{place_of}
 use Rattle.rv_vectors.proofs.buffer.waiting.Goals as goal
 

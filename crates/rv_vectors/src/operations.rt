@@ -1,6 +1,6 @@
 //! Words from outside: each row is a listing of one line, and the word that an assembler makes of it.
 
-use crate::run::run;
+use rv_asm::run::run;
 use rv_stream::in_memory::{SureSink, SureSource};
 use std::test::Fail;
 

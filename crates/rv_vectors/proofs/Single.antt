@@ -19,7 +19,7 @@ use Rattle.mach_buffer.proofs.Blocks.{windows_none}
 use Rattle.mach_buffer.proofs.Islanded.{length_padded}
 use Rattle.mach_buffer.proofs.Slack.{slack_from_reach, reaches_from_slack}
 use Rattle.rv_emit.specs.Emitted.{Buffer, HasWindows, pending, use_at, uses_in, island_space, inst_sum, PutsBlock, Puts, Emitted, CanEmit, IsBounded}
-use Rattle.rv_emit.specs.Single.{names_first, IsStart, HoldsOne}
+use Rattle.rv_vectors.specs.Single.{names_first, IsStart, HoldsOne}
 use Rattle.rv_emit.proofs.Grows.{block_has_windows}
 use Rattle.rv_emit.proofs.Room.{Each, waits, each_none, each_more, uses_kinds}
 

@@ -3,11 +3,8 @@
 ghost use Rattle.std.specs.Prelude.{◌≡◌, IfOk, None, is_some, true};
 ghost use Rattle.rv_inst.specs.Rules.{inst_rule};
 ghost use Rattle.rv_emit.specs.Emitted.{island_space};
-ghost use Rattle.rv_emit.specs.Single.{is_first, names_first, IsStart, HoldsOne};
+ghost use Rattle.rv_vectors.specs.Single.{is_first, names_first, IsStart, HoldsOne};
 
-use crate::emit::MachInstEmit;
-use crate::island::make_room;
-use crate::state::{EmitInfo, EmitState, EmitVState, MachInstEmitState};
 use mach_buffer::buffer::MachBuffer;
 use rv_base::condcodes::IntCC;
 use rv_base::flags::IsaFlags;
@@ -17,6 +14,9 @@ use rv_base::label::MachLabel;
 use rv_base::list::List;
 use rv_base::memory::OutOfMemory;
 use rv_base::named::{a0, a1, a2, px_reg, stack_reg, writable_a0, writable_link_reg};
+use rv_emit::emit::MachInstEmit;
+use rv_emit::island::make_room;
+use rv_emit::state::{EmitInfo, EmitState, EmitVState, MachInstEmitState};
 use rv_imms::imm12::Imm12;
 use rv_imms::imm20::Imm20;
 use rv_inst::inst::{CondBrTarget, Inst};

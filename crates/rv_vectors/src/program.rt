@@ -1,5 +1,5 @@
-use crate::outcome::Outcome;
-use crate::run::run;
+use rv_asm::outcome::Outcome;
+use rv_asm::run::run;
 use rv_stream::in_memory::{MemSink, MemSource, SureSink, SureSource};
 use std::alloc::{AllocError, Global};
 use std::test::Fail;

@@ -3,7 +3,6 @@
 mod islands;
 mod random;
 
-use crate::run::run;
 use islands::{
     ASKED_LISTING, ASKED_REPORT, LONG_LISTING, LONG_REPORT, NARROW_LISTING, NARROW_REPORT,
 };
@@ -11,6 +10,7 @@ use random::{
     FIFTH_LISTING, FIFTH_REPORT, FIRST_LISTING, FIRST_REPORT, FOURTH_LISTING, FOURTH_REPORT,
     SECOND_LISTING, SECOND_REPORT, THIRD_LISTING, THIRD_REPORT,
 };
+use rv_asm::run::run;
 use rv_stream::in_memory::{SureSink, SureSource};
 use std::alloc::{AllocError, Global};
 use std::test::Fail;

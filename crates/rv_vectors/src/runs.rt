@@ -2,7 +2,7 @@
 
 ghost use Rattle.std.specs.Prelude.{◌<◌, ◌≤◌, length};
 
-use crate::assemble::assemble;
+use rv_asm::assemble::assemble;
 use rv_base::condcodes::IntCC;
 use rv_base::flags::IsaFlags;
 use rv_base::frame::FrameLayout;
