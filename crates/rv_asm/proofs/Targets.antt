@@ -1,5 +1,5 @@
 -- A block once it is patched: where its uses aim, and that these lead on to where their labels stand.
-use Rattle.std.proofs.Common.{◌≡◌, ℕ, zero, suc, ◌+◌, ◌-◌, ◌%◌, ◌^◌, ◌<◌, ◌≤◌, true, List, [], ◌∷◌, length, take, drop, Option, Some, None, arith, refl, sym, ap, subst, ◌∙◌, ⊎_elim, lit<, lit≤}
+use Rattle.std.proofs.Common.{◌≡◌, ℕ, zero, suc, ◌+◌, ◌-◌, ◌%◌, ◌≤◌, true, List, [], ◌∷◌, length, take, drop, Option, Some, None, arith, refl, sym, ap, subst, ◌∙◌, ⊎_elim, lit≤}
 use Rattle.std.specs.Prelude.{slice_get}
 use Rattle.std.proofs.lemmas.Option.{same_Some}
 use Rattle.std.proofs.lemmas.List.{drop-take, take-take, drop-drop}
