@@ -1,5 +1,5 @@
 -- Code that was built and finished keeps what is promised of it.
-use Rattle.std.proofs.Common.{◌≡◌, ℕ, ◌+◌, ◌^◌, ◌<◌, ◌≤◌, length, None, sym, ◌∙◌, arith}
+use Rattle.std.proofs.Common.{◌≡◌, None, ◌∙◌, arith}
 use Rattle.rv_inst.specs.declared.job.Job.{Job}
 use Rattle.rv_inst.specs.declared.code.Code.{Code}
 use Rattle.mach_buffer.proofs.Patched.{old_kept}
