@@ -1,11 +1,9 @@
 -- What a listing that is not refused gives of each of its lines.
-use Rattle.std.proofs.Common.{◌≡◌, ℕ, zero, suc, Bool, true, false, List, [], ◌∷◌, Option, Some, None, refl, sym, ap, subst, ◌∙◌}
-use Rattle.std.specs.Prelude.{slice_get, if◌then◌else◌}
+use Rattle.std.proofs.Common.{◌≡◌, ℕ, zero, suc, List, [], ◌∷◌, Some, None, subst}
+use Rattle.std.specs.Prelude.{slice_get}
 use Rattle.std.proofs.lemmas.Option.{same_Some}
 use Rattle.rv_base.specs.declared.label.MachLabel.{MachLabel}
 use Rattle.rv_inst.specs.declared.inst.Line.{Line}
-use Rattle.rv_inst.specs.declared.error.Rule.{Rule}
-use Rattle.rv_inst.specs.declared.error.EmitError.{EmitError}
 use Rattle.rv_inst.specs.Fields.{named_labels}
 use Rattle.rv_asm.specs.Refusal.{is_bound, unbound_among, unbound_in}
 use Rattle.rv_asm.proofs.Exits.{AllBound}

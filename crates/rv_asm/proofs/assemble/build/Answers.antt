@@ -1,7 +1,7 @@
-use Rattle.std.proofs.Common.{sym, subst, ap, ◌∙◌}
+use Rattle.std.proofs.Common.{sym, subst}
 use Rattle.rv_inst.specs.declared.code.LineSpan.{LineSpan}
 use Rattle.std.proofs.Common.{List}
-use Rattle.rv_asm.proofs.Turning.{SoFar, so_far_none, line_read, can_put, so_far_next, ready, finished, code_short}
+use Rattle.rv_asm.proofs.Turning.{SoFar, line_read, can_put, so_far_next, ready, finished, code_short}
 use Rattle.rv_asm.proofs.assemble.build.Goals as goal
 
 pub put_line-requires : goal.put_line-requires
