@@ -17,7 +17,7 @@ use Rattle.mach_buffer.specs.Buffer.{core, recorded, IsLinked, veneer_use}
 use Rattle.mach_buffer.specs.Islands.{AreWindows, spans_of, padding}
 use Rattle.mach_buffer.specs.Finish.{IsVia, AllGo, before_last}
 use Rattle.mach_buffer.proofs.Apart.{both_lists, comes_from, windows_bytes}
-use Rattle.mach_buffer.proofs.Islanded.{recorded_at}
+use Rattle.mach_buffer.proofs.Islanded.{length_padded, recorded_at}
 use Rattle.mach_buffer.proofs.Links.{get_right, recorded_get, slice_get-append}
 use Rattle.mach_buffer.proofs.Slack.{none_waits}
 use Rattle.mach_buffer.proofs.Windows.{fresh_in_prefix}
@@ -299,6 +299,14 @@ windows_before {L} {fields} {bytes} {uses} {veneers} n w = on (nat_eq n 0)
     on : (b : Bool) → AreWindows fields (cond b bytes (bytes ++ padding (length bytes))) uses veneers
     on true = w
     on false = windows_bytes w (padding (length bytes)) (bytes ++ padding (length bytes)) refl
+
+-- at most three bytes of padding stand before the last veneers
+pub last_near : (bytes : List ℕ) (count : ℕ) → length (before_last bytes count) ≤ length bytes + 3
+last_near bytes count = on (nat_eq count 0)
+  where
+    on : (c : Bool) → length (cond c bytes (bytes ++ padding (length bytes))) ≤ length bytes + 3
+    on true = omega arith
+    on false = let long = length_padded bytes in omega arith
 
 pub before_longer : (bytes : List ℕ) (n : ℕ) → length bytes ≤ length (before_last bytes n)
 before_longer bytes n = on (nat_eq n 0)

@@ -1,6 +1,6 @@
 -- A buffer of lines can be finished, and how long its code is.
-use Rattle.std.proofs.Common.{◌≡◌, ℕ, ◌+◌, ◌*◌, ◌^◌, ◌≤◌, Bool, true, false, cond, List, ◌++◌, length, Some, ap, sym, ◌∙◌, arith, ⊎_elim}
-use Rattle.std.specs.Prelude.{slice_get, nat_eq, is_some}
+use Rattle.std.proofs.Common.{◌≡◌, ℕ, ◌+◌, ◌*◌, ◌^◌, ◌≤◌, true, List, length, Some, ap, sym, ◌∙◌, arith, ⊎_elim}
+use Rattle.std.specs.Prelude.{slice_get, is_some}
 use Rattle.std.proofs.lemmas.Bool.{true≢false}
 use Rattle.rv_base.specs.declared.label.MachLabel.{MachLabel}
 use Rattle.rv_inst.specs.declared.code.LineSpan.{LineSpan}
@@ -9,10 +9,9 @@ use Rattle.rv_inst.specs.declared.inst.Line.TheVariants.{Bind}
 use Rattle.rv_inst.specs.Fields.{named_labels}
 use Rattle.rv_inst.specs.LabelUse.{Aims, marks_of, forward_of, backward_of, has_veneer_of, veneer_of}
 use Rattle.mach_buffer.specs.Buffer.{bytes_of, place_of}
-use Rattle.mach_buffer.specs.Islands.{padding}
 use Rattle.mach_buffer.specs.Finish.{before_last, CanFinish, Finishes}
+use Rattle.mach_buffer.proofs.Ends.{last_near}
 use Rattle.mach_buffer.proofs.Slack.{slack_from_reach, reaches_from_slack}
-use Rattle.mach_buffer.proofs.Islanded.{length_padded}
 use Rattle.rv_emit.specs.Emitted.{Buffer, pending}
 use Rattle.rv_asm.specs.Refusal.{is_bound, size_sum}
 use Rattle.rv_asm.specs.Built.{IsNamed, Built, Named, Sized}
@@ -32,14 +31,6 @@ bound_place lines spans b number built h =
 named_place : (lines : List Line) (spans : List LineSpan) (b : Buffer) (number : ℕ) → Built lines spans b → AllBound lines → IsNamed lines number → is_some (place_of b number) ≡ true
 named_place lines spans b number built all n =
     ap (λ m. is_some (place_of b m)) (sym n.is) ∙ bound_place lines spans b n.label.number built (all n.index n.line n.there n.place n.label n.names)
-
--- at most three bytes of padding stand before the last veneers
-pub last_near : (bytes : List ℕ) (count : ℕ) → length (before_last bytes count) ≤ length bytes + 3
-last_near bytes count = on (nat_eq count 0)
-  where
-    on : (c : Bool) → length (cond c bytes (bytes ++ padding (length bytes))) ≤ length bytes + 3
-    on true = omega arith
-    on false = let long = length_padded bytes in omega arith
 
 pub can_finish : (lines : List Line) (spans : List LineSpan) (b : Buffer) → Built lines spans b → Named lines spans b → Sized lines b → size_sum lines ≤ 2 ^ 30 → AllBound lines → CanFinish marks_of has_veneer_of forward_of backward_of veneer_of b
 can_finish lines spans b built n s sum all =

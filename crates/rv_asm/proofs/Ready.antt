@@ -1,5 +1,5 @@
 -- Code that was built and finished keeps what is promised of it.
-use Rattle.std.proofs.Common.{◌≡◌, ℕ, ◌+◌, ◌^◌, ◌<◌, ◌≤◌, length, None, sym, ◌∙◌, arith}
+use Rattle.std.proofs.Common.{◌≡◌, ℕ, ◌+◌, ◌≤◌, None, ◌∙◌, arith}
 use Rattle.rv_inst.specs.declared.inst.Inst.{Inst}
 use Rattle.rv_inst.specs.declared.inst.Inst.TheVariants.{EmitIsland}
 use Rattle.rv_inst.specs.declared.inst.Line.TheVariants.{Inst as Put}
@@ -11,7 +11,7 @@ use Rattle.mach_buffer.proofs.Patched.{old_kept}
 use Rattle.rv_asm.specs.Refusal.{refusal}
 use Rattle.rv_asm.specs.Told.{Told}
 use Rattle.rv_asm.specs.Simulation.{RunsAsListed}
-use Rattle.rv_asm.specs.Built.{BlockThere, InstThere}
+use Rattle.rv_asm.specs.Built.{InstThere}
 use Rattle.rv_asm.specs.Finished.{IsFinished}
 use Rattle.rv_asm.specs.Reaching.{InReach}
 use Rattle.rv_asm.proofs.Finishing.{finished_short}

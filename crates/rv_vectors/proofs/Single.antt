@@ -18,6 +18,7 @@ use Rattle.mach_buffer.specs.Finish.{before_last, CanFinish}
 use Rattle.mach_buffer.proofs.Blocks.{windows_none}
 use Rattle.mach_buffer.proofs.Islanded.{length_padded}
 use Rattle.mach_buffer.proofs.Slack.{slack_from_reach, reaches_from_slack}
+use Rattle.mach_buffer.proofs.Ends.{last_near}
 use Rattle.rv_emit.specs.Emitted.{Buffer, HasWindows, pending, use_at, uses_in, island_space, inst_sum, PutsBlock, Puts, Emitted, CanEmit, IsBounded}
 use Rattle.rv_vectors.specs.Single.{names_first, IsStart, HoldsOne}
 use Rattle.rv_emit.proofs.Grows.{block_has_windows}
@@ -86,14 +87,6 @@ holds_one inst old new none s e reach bounded = record {
 
     own : (j : ℕ) (u : Use LabelUse) → slice_get (uses_of new) j ≡ Some u → slice_get (uses_in start inst) j ≡ Some u
     own j u h = ap (λ (us : List (Use LabelUse)). slice_get us j) (sym (p.adds.uses ∙ ap (λ (us : List (Use LabelUse)). us ++ uses_in start inst) s.uses)) ∙ h
-
--- at most three bytes of padding stand before the last veneers
-last_near : (bytes : List ℕ) (count : ℕ) → length (before_last bytes count) ≤ length bytes + 3
-last_near bytes count = on (nat_eq count 0)
-  where
-    on : (c : Bool) → length (cond c bytes (bytes ++ padding (length bytes))) ≤ length bytes + 3
-    on true = omega arith
-    on false = let long = length_padded bytes in omega arith
 
 -- the buffer can be finished where its labels are bound
 pub can_finish_one : (inst : Inst) (b : Buffer) → HoldsOne inst b → names_first inst ≡ true → CanFinish marks_of has_veneer_of forward_of backward_of veneer_of b
