@@ -145,12 +145,20 @@ fn islands_are_needed_by_the_rule(rt: HostRuntime) {
     assert_eq!(rt; buffer.has_room(2147479552 - 240), false);
     assert_eq!(rt; buffer.has_room(2147479551 - 240), true);
     assert_eq!(rt; buffer.label_offset(label), None);
+    assert_eq!(rt; buffer.add_uncond_branch(196, 200, label), Ok(()));
+    assert_eq!(rt; buffer.add_cond_branch(196, 200, label, &[0x44; 4]), Ok(()));
+    assert_eq!(rt; buffer.cur_offset(), 200);
     assert_eq!(rt; buffer.bind_label(label).is_ok(), true);
     assert_eq!(rt; buffer.label_offset(label), Some(200));
     assert_eq!(rt; buffer.island_needed(1000), false);
     assert_eq!(rt; buffer.has_room(2147479551 - 232), true);
     buffer.spoil();
     assert_eq!(rt; buffer.register_constants(&[]), Err(OutOfMemory));
+    assert_eq!(rt; buffer.add_uncond_branch(196, 200, label), Err(OutOfMemory));
+    assert_eq!(rt;
+        buffer.add_cond_branch(196, 200, label, &[0x44; 4]),
+        Err(OutOfMemory)
+    );
 }
 
 /// What the assembler below reads.
