@@ -5,4 +5,5 @@ pub mod LabelUseBridges
 pub mod LabelUseWords
 pub mod Meaning
 pub mod Rules
+pub mod Targets
 pub mod Tests

@@ -11,12 +11,49 @@ use rv_imms::imm12::Imm12;
 use rv_imms::imm20::Imm20;
 use rv_ops::alu::{AluOPRRI, AluOPRRR};
 use rv_ops::compare::IntegerCompare;
+use std::fmt;
 
 /// Where a branch goes on one of its two sides.
 #[derive(Clone, Copy, Debug, PartialEq, Eq)]
 pub enum CondBrTarget {
     Label(MachLabel),
     Fallthrough,
+}
+
+impl CondBrTarget {
+    ghost use Rattle.std.specs.Prelude.{is_none};
+    ghost use Rattle.rv_inst.specs.Targets.{label_of};
+
+    /// The label, where it is one.
+    pub fn as_label(self) -> Option<MachLabel>
+        ensures { result ≡ label_of self }
+    {
+        match self {
+            CondBrTarget::Label(label) => Some(label),
+            CondBrTarget::Fallthrough => None,
+        }
+    }
+
+    /// Whether control goes on with the next line.
+    pub fn is_fallthrouh(&self) -> bool
+        ensures { result ≡ is_none (label_of self.now) }
+    {
+        *self == CondBrTarget::Fallthrough
+    }
+}
+
+impl fmt::Display for CondBrTarget {
+    ghost use Rattle.std.specs.Prelude.{Some};
+    ghost use Rattle.rv_inst.specs.Targets.{text_of};
+
+    ghost output = { λ target. Some (text_of target) };
+
+    fn fmt<W: fmt::Write>(&self, f: &mut fmt::Formatter<W>) -> fmt::Result {
+        match self {
+            CondBrTarget::Label(label) => write!(f, "{label}"),
+            CondBrTarget::Fallthrough => write!(f, "0"),
+        }
+    }
 }
 
 /// An instruction. Each belongs to one `Family`, by which definitions and functions over instructions are parted.
