@@ -5,7 +5,7 @@ use rv_base::memory::OutOfMemory;
 use rv_base::operands::OperandVisitor;
 
 /// Where a vector lies, with unit stride: its elements one after the other.
-#[derive(Clone, Copy)]
+#[derive(Clone, Copy, Debug)]
 pub struct VecAMode {
     pub base: AMode,
 }
