@@ -28,12 +28,28 @@ pub enum EmitVState {
 
 /// What changes from line to line.
 pub trait MachInstEmitState {
-    fn new(frame: FrameLayout) -> Self;
+    ghost use Rattle.std.specs.Prelude.{◌≡◌};
+    ghost use Rattle.rv_base.specs.declared.frame.FrameLayout.{FrameLayout as Frame};
+    ghost use Rattle.rv_emit.specs.declared.state.EmitVState.{EmitVState as Setting};
+    ghost use Rattle.rv_emit.specs.declared.state.EmitVState.TheVariants.{Unknown};
+
+    /// The frame of the function.
+    ghost frame_of: { Self → Frame };
+
+    /// What is known of the vector unit's setting.
+    ghost setting: { Self → Setting };
+
+    fn new(frame: FrameLayout) -> Self
+        ensures frame { frame_of result ≡ frame }
+        ensures setting { setting result ≡ Unknown };
 
     /// A label is bound here, or code comes here from elsewhere.
-    fn on_new_block(&mut self);
+    fn on_new_block(&mut self)
+        ensures frame { frame_of self.new ≡ frame_of self.old }
+        ensures setting { setting self.new ≡ Unknown };
 
-    fn frame_layout(&self) -> &FrameLayout;
+    fn frame_layout(&self) -> &FrameLayout
+        ensures { result.now ≡ frame_of self.now };
 }
 
 /// The state of emission.
@@ -44,29 +60,22 @@ pub struct EmitState {
 }
 
 impl MachInstEmitState for EmitState {
-    ghost use Rattle.std.specs.Prelude.{◌≡◌};
-    ghost use Rattle.rv_emit.specs.declared.state.EmitVState.TheVariants.{Unknown};
+    ghost frame_of = { λ state. state.frame };
 
-    fn new(frame: FrameLayout) -> EmitState
-        ensures frame { result.frame ≡ frame }
-        ensures vstate { result.vstate ≡ Unknown }
-    {
+    ghost setting = { λ state. state.vstate };
+
+    fn new(frame: FrameLayout) -> EmitState {
         EmitState {
             frame,
             vstate: EmitVState::Unknown,
         }
     }
 
-    fn on_new_block(&mut self)
-        ensures frame { self.new.frame ≡ self.old.frame }
-        ensures vstate { self.new.vstate ≡ Unknown }
-    {
+    fn on_new_block(&mut self) {
         self.vstate = EmitVState::Unknown;
     }
 
-    fn frame_layout(&self) -> &FrameLayout
-        ensures { result.now ≡ self.now.frame }
-    {
+    fn frame_layout(&self) -> &FrameLayout {
         &self.frame
     }
 }
