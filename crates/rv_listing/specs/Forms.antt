@@ -11,7 +11,8 @@ use Rattle.rv_inst.specs.declared.inst.Line.TheVariants as kinds
 use Rattle.rv_listing.specs.Tokens.{◌>>=◌, or_else}
 use Rattle.rv_listing.specs.Fields.{done, ◌⊛◌, whole}
 use Rattle.rv_listing.specs.Registers.{register}
-use Rattle.rv_listing.specs.Operands.{writable, real_register, imm12, imm20, space, label, target, cond_code}
+use Rattle.rv_listing.specs.Operands.{writable, real_register, imm12, imm20, space, label, target}
+use Rattle.rv_listing.specs.Comparisons.{cond_code}
 use Rattle.rv_listing.specs.Operations.{alu_rri, alu_rrr}
 use Rattle.rv_listing.specs.Types.{type_named}
 use Rattle.rv_listing.specs.Pairs.{arg_pair, ret_pair, listed}

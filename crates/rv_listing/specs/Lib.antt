@@ -2,6 +2,7 @@ pub mod Tokens
 pub mod Registers
 pub mod Fields
 pub mod Operands
+pub mod Comparisons
 pub mod Operations
 pub mod Types
 pub mod Pairs

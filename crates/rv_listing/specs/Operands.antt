@@ -1,4 +1,4 @@
--- The tokens for registers, numbers, labels and conditions.
+-- The tokens for registers, numbers and labels.
 use Rattle.std.specs.Prelude.{ℕ, ◌^◌, List, Option, Some, None, drop, if◌then◌else◌, codes, ℤ, pos, negsuc, int_le}
 use Rattle.std.specs.Str.{bytes_eq}
 use lib.Signed.{le_z_yes}
@@ -6,10 +6,7 @@ use Rattle.rv_base.specs.declared.label.MachLabel.{MachLabel}
 use Rattle.rv_base.specs.declared.regs.PReg.{PReg}
 use Rattle.rv_base.specs.declared.regs.Reg.{Reg}
 use Rattle.rv_base.specs.declared.regs.Writable.{Writable}
-use Rattle.rv_base.specs.declared.condcodes.IntCC.{IntCC}
-use Rattle.rv_base.specs.declared.condcodes.IntCC.TheVariants.{Equal, NotEqual, SignedLessThan, SignedGreaterThanOrEqual, SignedGreaterThan, SignedLessThanOrEqual, UnsignedLessThan, UnsignedGreaterThanOrEqual, UnsignedGreaterThan, UnsignedLessThanOrEqual}
 use Rattle.rv_base.specs.Regs.{real_of}
-use Rattle.rv_base.specs.CondCodes.{name_of}
 use Rattle.rv_imms.specs.declared.imm12.Imm12.{Imm12}
 use Rattle.rv_imms.specs.declared.imm20.Imm20.{Imm20}
 use Rattle.rv_inst.specs.declared.inst.CondBrTarget.{CondBrTarget}
@@ -47,17 +44,3 @@ label w = if starts 76 w then (decimal (drop 1 w) >>= below (2 ^ 32) >>= λ n. S
 -- a label, or - for the next line
 unfoldable pub target : List ℕ → Option CondBrTarget
 target w = if bytes_eq w (codes "-") then Some targets.Fallthrough else label w >>= λ l. Some (targets.Label l)
-
--- a comparison by its name
-unfoldable pub cond_code : List ℕ → Option IntCC
-cond_code w =
-    if bytes_eq w (name_of Equal) then Some Equal else
-    if bytes_eq w (name_of NotEqual) then Some NotEqual else
-    if bytes_eq w (name_of SignedLessThan) then Some SignedLessThan else
-    if bytes_eq w (name_of SignedGreaterThanOrEqual) then Some SignedGreaterThanOrEqual else
-    if bytes_eq w (name_of SignedGreaterThan) then Some SignedGreaterThan else
-    if bytes_eq w (name_of SignedLessThanOrEqual) then Some SignedLessThanOrEqual else
-    if bytes_eq w (name_of UnsignedLessThan) then Some UnsignedLessThan else
-    if bytes_eq w (name_of UnsignedGreaterThanOrEqual) then Some UnsignedGreaterThanOrEqual else
-    if bytes_eq w (name_of UnsignedGreaterThan) then Some UnsignedGreaterThan else
-    if bytes_eq w (name_of UnsignedLessThanOrEqual) then Some UnsignedLessThanOrEqual else None

@@ -1,6 +1,7 @@
 //! Listings read to jobs, and codes told in reports.
 #![tactic(auto)]
 
+mod comparisons;
 pub mod fields;
 pub mod forms;
 mod operands;

@@ -3,12 +3,11 @@
 ghost use Rattle.std.specs.Prelude.{◌≡◌};
 ghost use Rattle.rv_base.specs.Regs.{real_of};
 ghost use Rattle.rv_listing.specs.Registers.{register};
-ghost use Rattle.rv_listing.specs.Operands.{writable, real_register, imm12_of, imm12, imm20_of, imm20, space, label, target, cond_code};
+ghost use Rattle.rv_listing.specs.Operands.{writable, real_register, imm12_of, imm12, imm20_of, imm20, space, label, target};
 
 use crate::fields::Token;
 use crate::registers::register;
 use crate::tokens::{decimal, natural, signed, starts, tail};
-use rv_base::condcodes::IntCC;
 use rv_base::label::MachLabel;
 use rv_base::regs::{PReg, Reg, Writable};
 use rv_imms::imm12::Imm12;
@@ -125,36 +124,5 @@ impl Token for CondBrTarget {
             return Some(CondBrTarget::Fallthrough);
         }
         Some(CondBrTarget::Label(MachLabel::read(w)?))
-    }
-}
-
-impl Token for IntCC {
-    ghost reads = { cond_code };
-
-    #[tactic(auto, unfolding(crate::specs::Operands::cond_code))]
-    fn read(w: &[u8]) -> Option<IntCC> {
-        if w == b"eq".as_slice() {
-            Some(IntCC::Equal)
-        } else if w == b"ne".as_slice() {
-            Some(IntCC::NotEqual)
-        } else if w == b"slt".as_slice() {
-            Some(IntCC::SignedLessThan)
-        } else if w == b"sge".as_slice() {
-            Some(IntCC::SignedGreaterThanOrEqual)
-        } else if w == b"sgt".as_slice() {
-            Some(IntCC::SignedGreaterThan)
-        } else if w == b"sle".as_slice() {
-            Some(IntCC::SignedLessThanOrEqual)
-        } else if w == b"ult".as_slice() {
-            Some(IntCC::UnsignedLessThan)
-        } else if w == b"uge".as_slice() {
-            Some(IntCC::UnsignedGreaterThanOrEqual)
-        } else if w == b"ugt".as_slice() {
-            Some(IntCC::UnsignedGreaterThan)
-        } else if w == b"ule".as_slice() {
-            Some(IntCC::UnsignedLessThanOrEqual)
-        } else {
-            None
-        }
     }
 }
