@@ -13,6 +13,7 @@ pub mod Progress
 pub mod Putting
 pub mod Released
 pub mod Rounds
+pub mod Same
 pub mod Slack
 pub mod Sound
 pub mod Turns

@@ -1,9 +1,12 @@
 -- Which pending uses name a label.
-use Rattle.std.proofs.Common.{◌≡◌, ℕ, Bool, true, false, not, ◌&&◌, List, length, Option, Some, None, refl, ap}
+use Rattle.std.proofs.Common.{◌≡◌, ◌∙◌, ℕ, Bool, true, false, not, ◌&&◌, List, length, Option, Some, None, refl, ap}
 use Rattle.std.specs.Prelude.{nat_eq, is_none}
 use Rattle.std.proofs.lemmas.Bool.{and_parts, and_right, eq-eqb}
 use Rattle.rv_base.specs.declared.label.MachLabel.{MachLabel}
+use Rattle.mach_buffer.specs.declared.buffer.MachBuffer.{MachBuffer}
 use Rattle.mach_buffer.specs.declared.uses.Use.{Use}
+use Rattle.mach_buffer.specs.Buffer.{uses_of, place_of, SameLabels}
+use Rattle.mach_buffer.specs.Islands.{others_of}
 use Rattle.mach_buffer.specs.Reach.{is_pending, is_other, is_reached, names, deadlines}
 use Rattle.mach_buffer.proofs.Putting.{Clears}
 
@@ -36,3 +39,8 @@ own_idle has_veneer forward backward place round u e =
 
 pub count_none : {L : Type 0} (has_veneer : L → Bool) (forward backward : L → ℕ) (place : ℕ → Option ℕ) (uses : List (Use L)) → length (deadlines (is_other has_veneer forward backward place None) forward uses) ≡ length (deadlines (is_pending has_veneer forward backward place) forward uses)
 count_none has_veneer forward backward place uses = ap (λ test. length (deadlines test forward uses)) (other_none has_veneer forward backward place)
+
+-- where the labels stay and so do the deadlines by the old places, these stay
+pub others_as : {L : Type 0} (has_veneer : L → Bool) (forward backward : L → ℕ) (round : MachLabel) {old new : MachBuffer L} → SameLabels old new → deadlines (is_other has_veneer forward backward (place_of old) (Some round)) forward (uses_of new) ≡ others_of has_veneer forward backward old round →
+    others_of has_veneer forward backward new round ≡ others_of has_veneer forward backward old round
+others_as has_veneer forward backward round {old} {new} l e = ap (λ p. deadlines (is_other has_veneer forward backward p (Some round)) forward (uses_of new)) l.places ∙ e

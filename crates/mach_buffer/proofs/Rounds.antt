@@ -51,10 +51,25 @@ own_skip {L} {forward} {bytes} {uses} round count k u h e le =
       kept = λ j w q ne. q;
     }
 
--- the use of the label may go by a veneer
+-- the use of the label is the jump: it may go by a veneer, and the end is in its reach
 pub round_supported : {L : Type 0} {has_veneer : L → Bool} {forward : L → ℕ} {gap : ℕ} {bytes : List ℕ} {uses : List (Use L)} {round : ℕ} → IsRound has_veneer forward gap bytes uses round → (k : ℕ) (u : Use L) → slice_get uses k ≡ Some u → u.label.number ≡ round → has_veneer u.kind ≡ true
 round_supported {L} {has_veneer} {forward} {gap} {bytes} {uses} r k u h e =
     subst (λ (x : Use L). has_veneer x.kind ≡ true) (same_Some _ _ (sym r.stands ∙ ap (slice_get uses) (sym (r.only k u h e)) ∙ h)) r.supported
+
+pub round_near : {L : Type 0} {has_veneer : L → Bool} {forward : L → ℕ} {bytes : List ℕ} {uses : List (Use L)} {round : ℕ} → IsRound has_veneer forward 6 bytes uses round → (k : ℕ) (u : Use L) → slice_get uses k ≡ Some u → u.label.number ≡ round → length bytes ≤ deadline forward u
+round_near {L} {has_veneer} {forward} {bytes} {uses} r k u h e =
+    let last = r.last in
+    let reach = r.reach in
+    subst (λ (x : Use L). length bytes ≤ deadline forward x) (same_Some _ _ (sym r.stands ∙ ap (slice_get uses) (sym (r.only k u h e)) ∙ h)) (omega arith)
+
+-- there is room for the jump's own veneer, where it needs one
+pub round_room : {L : Type 0} {has_veneer : L → Bool} {forward : L → ℕ} {bytes : List ℕ} {uses : List (Use L)} {round count : ℕ} → HasRound has_veneer forward 6 bytes uses round count → (k : ℕ) (u : Use L) → slice_get uses k ≡ Some u → u.label.number ≡ round → deadline forward u < length bytes + 8 * count →
+    length bytes + 8 < 2147479552
+round_room {L} {has_veneer} {forward} {bytes} {uses} {round} {count} r k u h e lt =
+    let j = r.jump in
+    let room : island_end (length bytes) count (deadline forward u) < 2147479552 = subst (λ (x : Use L). island_end (length bytes) count (deadline forward x) < 2147479552) (same_Some _ _ (sym j.stands ∙ ap (slice_get uses) (sym (j.only k u h e)) ∙ h)) r.room in
+    let own : length bytes + 8 + 8 * count < 2147479552 = subst (λ b. cond b (length bytes + 8) (length bytes) + 8 * count < 2147479552) (lt-ltb_yes (deadline forward u) (length bytes + 8 * count) lt) room in
+    omega (arith, own)
 
 pub round_padded : {L : Type 0} {has_veneer : L → Bool} {forward : L → ℕ} {bytes : List ℕ} {uses : List (Use L)} {round : ℕ} (count : ℕ) (r : IsRound has_veneer forward 4 bytes uses round) → (new_bytes : List ℕ) (new_uses : List (Use L)) → length new_bytes ≡ aligned (length bytes) → length bytes % 2 ≡ 0 → new_uses ≡ uses →
     island_end (aligned (length bytes)) count (deadline forward r.jump) < 2147479552 → HasRound has_veneer forward 6 new_bytes new_uses round count

@@ -111,9 +111,9 @@ sound_use {L} {has_veneer} {forward} {backward} {veneer} {bytes} {uses} {veneers
 }
 
 -- the same parts
-pub sound_as : {L : Type 0} {has_veneer : L → Bool} {forward backward : L → ℕ} {veneer : L → Veneer L} {bytes new_bytes : List ℕ} {uses new_uses : List (Use L)} {veneers new_veneers : List (VeneerUse L)} {turns new_turns : List (Turn × Use L)} {place : ℕ → Option ℕ} {drawn new_drawn : ℕ} →
-    AreSound has_veneer forward backward veneer bytes uses veneers turns place drawn → new_bytes ≡ bytes → new_uses ≡ uses → new_veneers ≡ veneers → new_turns ≡ turns → new_drawn ≡ drawn → AreSound has_veneer forward backward veneer new_bytes new_uses new_veneers new_turns place new_drawn
-sound_as s eb eu ev et ed = rw (eb, eu, ev, et, ed) s
+pub sound_as : {L : Type 0} {has_veneer : L → Bool} {forward backward : L → ℕ} {veneer : L → Veneer L} {bytes new_bytes : List ℕ} {uses new_uses : List (Use L)} {veneers new_veneers : List (VeneerUse L)} {turns new_turns : List (Turn × Use L)} {place new_place : ℕ → Option ℕ} {drawn new_drawn : ℕ} →
+    AreSound has_veneer forward backward veneer bytes uses veneers turns place drawn → new_bytes ≡ bytes → new_uses ≡ uses → new_veneers ≡ veneers → new_turns ≡ turns → new_place ≡ place → new_drawn ≡ drawn → AreSound has_veneer forward backward veneer new_bytes new_uses new_veneers new_turns new_place new_drawn
+sound_as s eb eu ev et ep ed = rw (eb, eu, ev, et, ep, ed) s
 
 -- other turns
 pub sound_waits : {L : Type 0} {has_veneer : L → Bool} {forward backward : L → ℕ} {veneer : L → Veneer L} {bytes : List ℕ} {uses : List (Use L)} {veneers : List (VeneerUse L)} {turns : List (Turn × Use L)} {place : ℕ → Option ℕ} {drawn : ℕ} →

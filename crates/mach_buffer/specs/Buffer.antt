@@ -1,5 +1,5 @@
 -- What a buffer shows: bytes, recorded uses with their veneers, the uses in veneers, places of labels.
-use Rattle.std.specs.Prelude.{◌≡◌, ℕ, ◌+◌, ◌%◌, ◌^◌, ◌<◌, ◌≤◌, List, [], ◌∷◌, length, take, drop, map, Option, Some, None, slice_get, Bool, true, nat_lt, if◌then◌else◌}
+use Rattle.std.specs.Prelude.{◌≡◌, ◌≢◌, ℕ, ◌+◌, ◌%◌, ◌^◌, ◌<◌, ◌≤◌, List, [], ◌∷◌, ◌++◌, length, take, drop, map, Option, Some, None, Result, Ok, Err, OnOk, slice_get, Bool, true, false, nat_lt, if◌then◌else◌}
 use Rattle.std.specs.Option.{IsSomeAnd}
 use Rattle.std.specs.Ordering.{nat_cmp}
 use Rattle.std.specs.BTreeMap.{get}
@@ -138,3 +138,41 @@ pub record AreSound {L : Type 0} (has_veneer : L → Bool) (forward backward : L
 -- what holds of every buffer that was made by its calls
 abbrev pub IsSound : {L : Type 0} → (L → Bool) → (L → ℕ) → (L → ℕ) → (L → Veneer L) → MachBuffer L → Type 0
 IsSound has_veneer forward backward veneer b = AreSound has_veneer forward backward veneer (bytes_of b) (uses_of b) (veneers_of b) (turns_of b) (place_of b) (drawn_of b)
+
+-- ---- what a call changes, and what it leaves as it was
+
+-- the code is as it was: its bytes, its uses, and those in veneers
+pub record SameCode {L : Type 0} (old new : MachBuffer L) : Type 0 where
+  pub bytes : bytes_of new ≡ bytes_of old
+  pub uses : uses_of new ≡ uses_of old
+  pub veneers : veneers_of new ≡ veneers_of old
+
+-- the labels are as they were: their places, those of a listing, and how many inner ones were drawn
+pub record SameLabels {L : Type 0} (old new : MachBuffer L) : Type 0 where
+  pub places : place_of new ≡ place_of old
+  pub labels : labels_of new ≡ labels_of old
+  pub drawn : drawn_of new ≡ drawn_of old
+
+-- only turns were taken
+pub record SameButTurns {L : Type 0} (old new : MachBuffer L) : Type 0 where
+  pub code : SameCode old new
+  pub labels : SameLabels old new
+  pub spoiled : spoiled_of new ≡ spoiled_of old
+
+-- bytes were put at the end, unless memory was wanted, and neither uses nor labels were changed
+pub record Puts {L A E : Type 0} (result : Result A E) (more : List ℕ) (old new : MachBuffer L) : Type 0 where
+  pub bytes : OnOk result (bytes_of new ≡ bytes_of old ++ more)
+  pub uses : uses_of new ≡ uses_of old
+  pub veneers : veneers_of new ≡ veneers_of old
+  pub labels : SameLabels old new
+
+-- a label was bound at the end of the code
+pub record Binds {L : Type 0} (label : MachLabel) (old new : MachBuffer L) : Type 0 where
+  pub bound : place_of new label.number ≡ Some (length (bytes_of old))
+  pub kept : (other : ℕ) → other ≢ label.number → place_of new other ≡ place_of old other
+  pub labels : labels_of new ≡ labels_of old ++ listed label (length (bytes_of old))
+
+-- a call that takes memory: it is refused where the buffer is spoiled, and spoils it where memory is wanted
+abbrev pub TakesMemory : {L A E : Type 0} → Result A E → MachBuffer L → MachBuffer L → Type 0
+TakesMemory (Ok value) old new = (spoiled_of old ≡ false) × (spoiled_of new ≡ false)
+TakesMemory (Err error) old new = spoiled_of new ≡ true

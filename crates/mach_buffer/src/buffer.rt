@@ -36,7 +36,7 @@ impl<L: MachInstLabelUse> MachBuffer<L> {
     ghost use Rattle.std.specs.Prelude.{◌≡◌, ◌≢◌, ℕ, ◌+◌, ◌*◌, ◌%◌, ◌++◌, ◌∷◌, [], length, slice_get, OnOk, OnErr, IfOk, IfSome, None, Some, true, false, Bool, ◌&&◌, nat_lt, if◌then◌else◌};
     ghost use Rattle.std.specs.Int.{to_le_bytes};
     ghost use mir.Syntax.{w16, w32, w64};
-    ghost use Rattle.mach_buffer.specs.Buffer.{bytes_of, uses_of, veneers_of, place_of, labels_of, drawn_of, spoiled_of, pending_of, turns_of, listed, IsKnown, IsSound, HaveTurns};
+    ghost use Rattle.mach_buffer.specs.Buffer.{bytes_of, uses_of, veneers_of, place_of, labels_of, drawn_of, spoiled_of, pending_of, turns_of, IsKnown, IsSound, HaveTurns, SameCode, SameLabels, SameButTurns, Puts, Binds, TakesMemory};
     ghost use Rattle.mach_buffer.specs.Reach.{is_reached, is_pending, is_other, is_needed, deadlines, due_by};
 
     /// An empty buffer. Takes no memory.
@@ -111,16 +111,21 @@ impl<L: MachInstLabelUse> MachBuffer<L> {
         requires room { length (bytes_of self.old) + length bytes.now < 2147479552 }
         requires even { length bytes.now % 2 ≡ 0 }
         requires sound { IsSound L.has_veneer L.forward L.backward L.veneer self.old }
-        ensures bytes { OnOk result (bytes_of self.new ≡ bytes_of self.old ++ bytes.now) }
-        ensures uses { uses_of self.new ≡ uses_of self.old }
-        ensures veneers { veneers_of self.new ≡ veneers_of self.old }
+        ensures put { Puts result bytes.now self.old self.new }
         ensures turns { turns_of self.new ≡ turns_of self.old }
-        ensures places { place_of self.new ≡ place_of self.old }
-        ensures labels { labels_of self.new ≡ labels_of self.old }
-        ensures drawn { drawn_of self.new ≡ drawn_of self.old }
-        ensures unspoiled { OnOk result ((spoiled_of self.old ≡ false) × (spoiled_of self.new ≡ false)) }
-        ensures refused { OnErr result (spoiled_of self.new ≡ true) }
+        ensures memory { TakesMemory result self.old self.new }
         ensures sound { OnOk result (IsSound L.has_veneer L.forward L.backward L.veneer self.new) }
+    {
+        self.extend(bytes)?;
+        Ok(())
+    }
+
+    /// Appends bytes, in the midst of a call too.
+    pub(crate) fn extend(&mut self, bytes: &[u8]) -> Result<(), OutOfMemory>
+        requires room { length (bytes_of self.old) + length bytes.now < 2147479552 }
+        ensures put { Puts result bytes.now self.old self.new }
+        ensures turns { turns_of self.new ≡ turns_of self.old }
+        ensures memory { TakesMemory result self.old self.new }
     {
         self.check()?;
         if self.bytes.extend_from_slice(bytes).is_err() {
@@ -134,14 +139,8 @@ impl<L: MachInstLabelUse> MachBuffer<L> {
     pub fn put2(&mut self, value: u16) -> Result<(), OutOfMemory>
         requires room { length (bytes_of self.old) + 2 < 2147479552 }
         requires sound { IsSound L.has_veneer L.forward L.backward L.veneer self.old }
-        ensures bytes { OnOk result (bytes_of self.new ≡ bytes_of self.old ++ to_le_bytes w16 value) }
-        ensures uses { uses_of self.new ≡ uses_of self.old }
-        ensures veneers { veneers_of self.new ≡ veneers_of self.old }
-        ensures places { place_of self.new ≡ place_of self.old }
-        ensures labels { labels_of self.new ≡ labels_of self.old }
-        ensures drawn { drawn_of self.new ≡ drawn_of self.old }
-        ensures unspoiled { OnOk result ((spoiled_of self.old ≡ false) × (spoiled_of self.new ≡ false)) }
-        ensures refused { OnErr result (spoiled_of self.new ≡ true) }
+        ensures put { Puts result (to_le_bytes w16 value) self.old self.new }
+        ensures memory { TakesMemory result self.old self.new }
         ensures sound { OnOk result (IsSound L.has_veneer L.forward L.backward L.veneer self.new) }
     {
         self.append(&value.to_le_bytes())
@@ -151,14 +150,8 @@ impl<L: MachInstLabelUse> MachBuffer<L> {
     pub fn put4(&mut self, value: u32) -> Result<(), OutOfMemory>
         requires room { length (bytes_of self.old) + 4 < 2147479552 }
         requires sound { IsSound L.has_veneer L.forward L.backward L.veneer self.old }
-        ensures bytes { OnOk result (bytes_of self.new ≡ bytes_of self.old ++ to_le_bytes w32 value) }
-        ensures uses { uses_of self.new ≡ uses_of self.old }
-        ensures veneers { veneers_of self.new ≡ veneers_of self.old }
-        ensures places { place_of self.new ≡ place_of self.old }
-        ensures labels { labels_of self.new ≡ labels_of self.old }
-        ensures drawn { drawn_of self.new ≡ drawn_of self.old }
-        ensures unspoiled { OnOk result ((spoiled_of self.old ≡ false) × (spoiled_of self.new ≡ false)) }
-        ensures refused { OnErr result (spoiled_of self.new ≡ true) }
+        ensures put { Puts result (to_le_bytes w32 value) self.old self.new }
+        ensures memory { TakesMemory result self.old self.new }
         ensures sound { OnOk result (IsSound L.has_veneer L.forward L.backward L.veneer self.new) }
     {
         self.append(&value.to_le_bytes())
@@ -168,14 +161,8 @@ impl<L: MachInstLabelUse> MachBuffer<L> {
     pub fn put8(&mut self, value: u64) -> Result<(), OutOfMemory>
         requires room { length (bytes_of self.old) + 8 < 2147479552 }
         requires sound { IsSound L.has_veneer L.forward L.backward L.veneer self.old }
-        ensures bytes { OnOk result (bytes_of self.new ≡ bytes_of self.old ++ to_le_bytes w64 value) }
-        ensures uses { uses_of self.new ≡ uses_of self.old }
-        ensures veneers { veneers_of self.new ≡ veneers_of self.old }
-        ensures places { place_of self.new ≡ place_of self.old }
-        ensures labels { labels_of self.new ≡ labels_of self.old }
-        ensures drawn { drawn_of self.new ≡ drawn_of self.old }
-        ensures unspoiled { OnOk result ((spoiled_of self.old ≡ false) × (spoiled_of self.new ≡ false)) }
-        ensures refused { OnErr result (spoiled_of self.new ≡ true) }
+        ensures put { Puts result (to_le_bytes w64 value) self.old self.new }
+        ensures memory { TakesMemory result self.old self.new }
         ensures sound { OnOk result (IsSound L.has_veneer L.forward L.backward L.veneer self.new) }
     {
         self.append(&value.to_le_bytes())
@@ -186,14 +173,8 @@ impl<L: MachInstLabelUse> MachBuffer<L> {
         requires room { length (bytes_of self.old) + length bytes.now < 2147479552 }
         requires even { length bytes.now % 2 ≡ 0 }
         requires sound { IsSound L.has_veneer L.forward L.backward L.veneer self.old }
-        ensures bytes { OnOk result (bytes_of self.new ≡ bytes_of self.old ++ bytes.now) }
-        ensures uses { uses_of self.new ≡ uses_of self.old }
-        ensures veneers { veneers_of self.new ≡ veneers_of self.old }
-        ensures places { place_of self.new ≡ place_of self.old }
-        ensures labels { labels_of self.new ≡ labels_of self.old }
-        ensures drawn { drawn_of self.new ≡ drawn_of self.old }
-        ensures unspoiled { OnOk result ((spoiled_of self.old ≡ false) × (spoiled_of self.new ≡ false)) }
-        ensures refused { OnErr result (spoiled_of self.new ≡ true) }
+        ensures put { Puts result bytes.now self.old self.new }
+        ensures memory { TakesMemory result self.old self.new }
         ensures sound { OnOk result (IsSound L.has_veneer L.forward L.backward L.veneer self.new) }
     {
         self.append(bytes)
@@ -206,14 +187,11 @@ impl<L: MachInstLabelUse> MachBuffer<L> {
         ensures number { IfOk result (λ label. label.number ≡ 2 ^ 30 + drawn_of self.old) }
         ensures unbound { IfOk result (λ label. place_of self.new label.number ≡ None) }
         ensures unnamed { IfOk result (λ label. (j : ℕ) (u : Use L) → slice_get (uses_of self.new) j ≡ Some u → u.label.number ≢ label.number) }
-        ensures bytes { bytes_of self.new ≡ bytes_of self.old }
-        ensures uses { uses_of self.new ≡ uses_of self.old }
-        ensures veneers { veneers_of self.new ≡ veneers_of self.old }
+        ensures code { SameCode self.old self.new }
         ensures places { place_of self.new ≡ place_of self.old }
         ensures labels { labels_of self.new ≡ labels_of self.old }
         ensures drawn { OnOk result (drawn_of self.new ≡ drawn_of self.old + 1) }
-        ensures unspoiled { OnOk result ((spoiled_of self.old ≡ false) × (spoiled_of self.new ≡ false)) }
-        ensures refused { OnErr result (spoiled_of self.new ≡ true) }
+        ensures memory { TakesMemory result self.old self.new }
         ensures sound { OnOk result (IsSound L.has_veneer L.forward L.backward L.veneer self.new) }
     {
         self.check()?;
@@ -227,16 +205,11 @@ impl<L: MachInstLabelUse> MachBuffer<L> {
         requires known { IsKnown label.number (drawn_of self.old) }
         requires unbound { place_of self.old label.number ≡ None }
         requires sound { IsSound L.has_veneer L.forward L.backward L.veneer self.old }
-        ensures bound { OnOk result (place_of self.new label.number ≡ Some (length (bytes_of self.old))) }
-        ensures kept { OnOk result ((other : ℕ) → other ≢ label.number → place_of self.new other ≡ place_of self.old other) }
-        ensures labels { OnOk result (labels_of self.new ≡ labels_of self.old ++ listed label (length (bytes_of self.old))) }
-        ensures bytes { bytes_of self.new ≡ bytes_of self.old }
-        ensures uses { uses_of self.new ≡ uses_of self.old }
-        ensures veneers { veneers_of self.new ≡ veneers_of self.old }
+        ensures binds { OnOk result (Binds label self.old self.new) }
+        ensures code { SameCode self.old self.new }
         ensures drawn { drawn_of self.new ≡ drawn_of self.old }
         ensures fewer { OnOk result ((end : ℕ) → due_by end (pending_of L.has_veneer L.forward L.backward self.new) ≤ due_by end (pending_of L.has_veneer L.forward L.backward self.old)) }
-        ensures unspoiled { OnOk result ((spoiled_of self.old ≡ false) × (spoiled_of self.new ≡ false)) }
-        ensures refused { OnErr result (spoiled_of self.new ≡ true) }
+        ensures memory { TakesMemory result self.old self.new }
         ensures sound { OnOk result (IsSound L.has_veneer L.forward L.backward L.veneer self.new) }
     {
         self.place_label(label)?;
@@ -248,13 +221,7 @@ impl<L: MachInstLabelUse> MachBuffer<L> {
     fn release(&mut self, label: u32)
         requires waits { HaveTurns L.forward (is_pending L.has_veneer L.forward L.backward (place_of self.old)) (turns_of self.old) (uses_of self.old) }
         ensures waits { HaveTurns L.forward (is_pending L.has_veneer L.forward L.backward (place_of self.old)) (turns_of self.new) (uses_of self.old) }
-        ensures bytes { bytes_of self.new ≡ bytes_of self.old }
-        ensures uses { uses_of self.new ≡ uses_of self.old }
-        ensures veneers { veneers_of self.new ≡ veneers_of self.old }
-        ensures places { place_of self.new ≡ place_of self.old }
-        ensures labels { labels_of self.new ≡ labels_of self.old }
-        ensures drawn { drawn_of self.new ≡ drawn_of self.old }
-        ensures spoiled { spoiled_of self.new ≡ spoiled_of self.old }
+        ensures rest { SameButTurns self.old self.new }
     {
         let mut next = self.latest.get(&label).copied();
         while let Some(index) = next {
@@ -267,13 +234,7 @@ impl<L: MachInstLabelUse> MachBuffer<L> {
         requires waits { HaveTurns L.forward (is_pending L.has_veneer L.forward L.backward (place_of self.old)) (turns_of self.old) (uses_of self.old) }
         ensures waits { HaveTurns L.forward (is_pending L.has_veneer L.forward L.backward (place_of self.old)) (turns_of self.new) (uses_of self.old) }
         ensures before { IfSome result (λ before. before < index) }
-        ensures bytes { bytes_of self.new ≡ bytes_of self.old }
-        ensures uses { uses_of self.new ≡ uses_of self.old }
-        ensures veneers { veneers_of self.new ≡ veneers_of self.old }
-        ensures places { place_of self.new ≡ place_of self.old }
-        ensures labels { labels_of self.new ≡ labels_of self.old }
-        ensures drawn { drawn_of self.new ≡ drawn_of self.old }
-        ensures spoiled { spoiled_of self.new ≡ spoiled_of self.old }
+        ensures rest { SameButTurns self.old self.new }
     {
         if index >= self.uses.len() {
             return None;
@@ -291,13 +252,7 @@ impl<L: MachInstLabelUse> MachBuffer<L> {
         requires idle { is_pending L.has_veneer L.forward L.backward (place_of self.old) u.now ≡ false }
         requires waits { HaveTurns L.forward (is_pending L.has_veneer L.forward L.backward (place_of self.old)) (turns_of self.old) (uses_of self.old) }
         ensures waits { HaveTurns L.forward (is_pending L.has_veneer L.forward L.backward (place_of self.old)) (turns_of self.new) (uses_of self.old) }
-        ensures bytes { bytes_of self.new ≡ bytes_of self.old }
-        ensures uses { uses_of self.new ≡ uses_of self.old }
-        ensures veneers { veneers_of self.new ≡ veneers_of self.old }
-        ensures places { place_of self.new ≡ place_of self.old }
-        ensures labels { labels_of self.new ≡ labels_of self.old }
-        ensures drawn { drawn_of self.new ≡ drawn_of self.old }
-        ensures spoiled { spoiled_of self.new ≡ spoiled_of self.old }
+        ensures rest { SameButTurns self.old self.new }
     {
         let turn = Turn {
             deadline: deadline(u),
@@ -322,15 +277,10 @@ impl<L: MachInstLabelUse> MachBuffer<L> {
 
     /// Notes the use that is recorded next as the latest of its label.
     fn note_use(&mut self, label: u32) -> Result<(), OutOfMemory>
-        ensures bytes { bytes_of self.new ≡ bytes_of self.old }
-        ensures uses { uses_of self.new ≡ uses_of self.old }
-        ensures veneers { veneers_of self.new ≡ veneers_of self.old }
+        ensures code { SameCode self.old self.new }
         ensures turns { turns_of self.new ≡ turns_of self.old }
-        ensures places { place_of self.new ≡ place_of self.old }
-        ensures labels { labels_of self.new ≡ labels_of self.old }
-        ensures drawn { drawn_of self.new ≡ drawn_of self.old }
-        ensures unspoiled { OnOk result ((spoiled_of self.old ≡ false) × (spoiled_of self.new ≡ false)) }
-        ensures refused { OnErr result (spoiled_of self.new ≡ true) }
+        ensures labels { SameLabels self.old self.new }
+        ensures memory { TakesMemory result self.old self.new }
     {
         self.check()?;
         let before = self.latest.get(&label).copied();
@@ -348,16 +298,11 @@ impl<L: MachInstLabelUse> MachBuffer<L> {
     /// Notes where a label stands.
     pub(crate) fn place_label(&mut self, label: MachLabel) -> Result<(), OutOfMemory>
         requires unbound { place_of self.old label.number ≡ None }
-        ensures bound { OnOk result (place_of self.new label.number ≡ Some (length (bytes_of self.old))) }
-        ensures kept { OnOk result ((other : ℕ) → other ≢ label.number → place_of self.new other ≡ place_of self.old other) }
-        ensures labels { OnOk result (labels_of self.new ≡ labels_of self.old ++ listed label (length (bytes_of self.old))) }
-        ensures bytes { bytes_of self.new ≡ bytes_of self.old }
-        ensures uses { uses_of self.new ≡ uses_of self.old }
-        ensures veneers { veneers_of self.new ≡ veneers_of self.old }
+        ensures binds { OnOk result (Binds label self.old self.new) }
+        ensures code { SameCode self.old self.new }
         ensures turns { turns_of self.new ≡ turns_of self.old }
         ensures drawn { drawn_of self.new ≡ drawn_of self.old }
-        ensures unspoiled { OnOk result ((spoiled_of self.old ≡ false) × (spoiled_of self.new ≡ false)) }
-        ensures refused { OnErr result (spoiled_of self.new ≡ true) }
+        ensures memory { TakesMemory result self.old self.new }
     {
         self.check()?;
         let offset = self.bytes.len() as u32;
@@ -385,11 +330,8 @@ impl<L: MachInstLabelUse> MachBuffer<L> {
         ensures uses { OnOk result (uses_of self.new ≡ uses_of self.old ++ record { offset = offset; label = label; kind = kind; veneer = None } ∷ []) }
         ensures bytes { bytes_of self.new ≡ bytes_of self.old }
         ensures veneers { veneers_of self.new ≡ veneers_of self.old }
-        ensures places { place_of self.new ≡ place_of self.old }
-        ensures labels { labels_of self.new ≡ labels_of self.old }
-        ensures drawn { drawn_of self.new ≡ drawn_of self.old }
-        ensures unspoiled { OnOk result ((spoiled_of self.old ≡ false) × (spoiled_of self.new ≡ false)) }
-        ensures refused { OnErr result (spoiled_of self.new ≡ true) }
+        ensures labels { SameLabels self.old self.new }
+        ensures memory { TakesMemory result self.old self.new }
         ensures sound { OnOk result (IsSound L.has_veneer L.forward L.backward L.veneer self.new) }
     {
         self.note_use(label.number)?;

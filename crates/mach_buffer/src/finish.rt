@@ -17,7 +17,7 @@ pub struct Finished {
 
 impl<L: MachInstLabelUse> MachBuffer<L> {
     ghost use Rattle.std.specs.Prelude.{◌≡◌, ℕ, ◌+◌, ◌*◌, ◌<◌, [], length, OnOk, OnErr, IfOk, None, true, false};
-    ghost use Rattle.mach_buffer.specs.Buffer.{bytes_of, uses_of, veneers_of, place_of, labels_of, spoiled_of, pending_of, IsSound, IsLinked};
+    ghost use Rattle.mach_buffer.specs.Buffer.{bytes_of, uses_of, veneers_of, place_of, labels_of, spoiled_of, pending_of, IsSound, IsLinked, SameLabels, TakesMemory};
     ghost use Rattle.mach_buffer.specs.Reach.{is_pending, deadlines, StillReaches};
     ghost use Rattle.mach_buffer.specs.Islands.{AreWindows, VeneersPut, VeneersBehind};
     ghost use Rattle.mach_buffer.specs.Finish.{before_last, CanFinish, Finishes};
@@ -60,9 +60,8 @@ impl<L: MachInstLabelUse> MachBuffer<L> {
         ensures linked { OnOk result (IsLinked L.has_veneer L.forward L.veneer (bytes_of self.new) (uses_of self.new) (veneers_of self.new)) }
         ensures windows { OnOk result (AreWindows L.fields (bytes_of self.old) (uses_of self.old) (veneers_of self.old) → AreWindows L.fields (bytes_of self.new) (uses_of self.new) (veneers_of self.new)) }
         ensures none { OnOk result (deadlines (is_pending L.has_veneer L.forward L.backward (place_of self.old)) L.forward (uses_of self.new) ≡ []) }
-        ensures places { place_of self.new ≡ place_of self.old }
-        ensures labels { labels_of self.new ≡ labels_of self.old }
-        ensures unspoiled { OnOk result (spoiled_of self.old ≡ false) }
+        ensures labels { SameLabels self.old self.new }
+        ensures memory { TakesMemory result self.old self.new }
     {
         self.pad_last()?;
         self.put_waiting(None)?;
@@ -76,9 +75,8 @@ impl<L: MachInstLabelUse> MachBuffer<L> {
         ensures bytes { OnOk result (bytes_of self.new ≡ before_last (bytes_of self.old) (length (pending_of L.has_veneer L.forward L.backward self.old))) }
         ensures uses { uses_of self.new ≡ uses_of self.old }
         ensures veneers { veneers_of self.new ≡ veneers_of self.old }
-        ensures places { place_of self.new ≡ place_of self.old }
-        ensures labels { labels_of self.new ≡ labels_of self.old }
-        ensures unspoiled { OnOk result (spoiled_of self.old ≡ false) }
+        ensures labels { SameLabels self.old self.new }
+        ensures memory { TakesMemory result self.old self.new }
         ensures sound { OnOk result (IsSound L.has_veneer L.forward L.backward L.veneer self.new) }
     {
         self.check()?;

@@ -7,8 +7,8 @@ use rv_base::label_use::MachInstLabelUse;
 use rv_base::memory::OutOfMemory;
 
 impl<L: MachInstLabelUse> MachBuffer<L> {
-    ghost use Rattle.std.specs.Prelude.{◌≡◌, ◌≢◌, ℕ, ◌+◌, ◌*◌, ◌%◌, ◌<◌, ◌≤◌, ◌++◌, [], length, take, ◌∷◌, OnOk, OnErr, IfSome, IfNone, None, Some, true, false, IsTrue, slice_get, slice_set, IsSomeAnd};
-    ghost use Rattle.mach_buffer.specs.Buffer.{bytes_of, uses_of, veneers_of, place_of, labels_of, drawn_of, spoiled_of, pending_of, turns_of, veneer_use, recorded, AreSound, IsSound, IsLinked, HaveTurns, AllLater};
+    ghost use Rattle.std.specs.Prelude.{◌≡◌, ◌≢◌, ℕ, ◌+◌, ◌*◌, ◌%◌, ◌<◌, ◌≤◌, ◌++◌, [], length, take, ◌∷◌, OnOk, OnErr, IfOk, IfSome, IfNone, None, Some, true, false, IsTrue, slice_get, slice_set, IsSomeAnd};
+    ghost use Rattle.mach_buffer.specs.Buffer.{bytes_of, uses_of, veneers_of, place_of, labels_of, drawn_of, spoiled_of, pending_of, turns_of, veneer_use, IsSound, IsLinked, HaveTurns, AllLater, SameButTurns, SameLabels, Puts, TakesMemory};
     ghost use Rattle.mach_buffer.specs.Reach.{is_other, names, deadline as last_of, deadlines, CanReach, StillReaches};
     ghost use Rattle.mach_buffer.specs.Islands.{aligned, padding, HasRound, OwnPut, AreWindows, IsRound, CanIsland, Islanded, VeneersPut, VeneersBehind};
 
@@ -23,8 +23,7 @@ impl<L: MachInstLabelUse> MachBuffer<L> {
         ensures windows { OnOk result (AreWindows L.fields (bytes_of self.old) (uses_of self.old) (veneers_of self.old) → AreWindows L.fields (bytes_of self.new) (uses_of self.new) (veneers_of self.new)) }
         ensures labels { OnOk result (labels_of self.new ≡ labels_of self.old) }
         ensures drawn { drawn_of self.new ≡ drawn_of self.old }
-        ensures unspoiled { OnOk result ((spoiled_of self.old ≡ false) × (spoiled_of self.new ≡ false)) }
-        ensures refused { OnErr result (spoiled_of self.new ≡ true) }
+        ensures memory { TakesMemory result self.old self.new }
         ensures sound { OnOk result (IsSound L.has_veneer L.forward L.backward L.veneer self.new) }
     {
         self.pad()?;
@@ -39,15 +38,9 @@ impl<L: MachInstLabelUse> MachBuffer<L> {
     pub(crate) fn pad(&mut self) -> Result<(), OutOfMemory>
         requires room { aligned (length (bytes_of self.old)) < 2147479552 }
         requires sound { IsSound L.has_veneer L.forward L.backward L.veneer self.old }
-        ensures bytes { OnOk result (bytes_of self.new ≡ bytes_of self.old ++ padding (length (bytes_of self.old))) }
-        ensures uses { uses_of self.new ≡ uses_of self.old }
-        ensures veneers { veneers_of self.new ≡ veneers_of self.old }
+        ensures put { Puts result (padding (length (bytes_of self.old))) self.old self.new }
         ensures turns { turns_of self.new ≡ turns_of self.old }
-        ensures places { place_of self.new ≡ place_of self.old }
-        ensures labels { labels_of self.new ≡ labels_of self.old }
-        ensures drawn { drawn_of self.new ≡ drawn_of self.old }
-        ensures unspoiled { OnOk result ((spoiled_of self.old ≡ false) × (spoiled_of self.new ≡ false)) }
-        ensures refused { OnErr result (spoiled_of self.new ≡ true) }
+        ensures memory { TakesMemory result self.old self.new }
         ensures sound { OnOk result (IsSound L.has_veneer L.forward L.backward L.veneer self.new) }
     {
         if self.bytes.len() % 4 != 0 {
@@ -57,46 +50,69 @@ impl<L: MachInstLabelUse> MachBuffer<L> {
     }
 
     /// Puts the veneer of the use at `index`, which has none yet and whose turn was taken.
-    pub(crate) fn put_veneer(&mut self, index: usize) -> Result<(), OutOfMemory>
+    pub(crate) fn put_veneer(&mut self, index: usize, u: &Use<L>) -> Result<(), OutOfMemory>
+        requires there { slice_get (uses_of self.old) index ≡ Some u.now }
         requires room { length (bytes_of self.old) + 8 < 2147479552 }
         requires even { length (bytes_of self.old) % 2 ≡ 0 }
-        requires may { IsSomeAnd (slice_get (uses_of self.old) index) (λ u. IsTrue (L.has_veneer u.kind)) }
-        requires near { IsSomeAnd (slice_get (uses_of self.old) index) (λ u. length (bytes_of self.old) ≤ last_of L.forward u) }
+        requires may { L.has_veneer u.now.kind ≡ true }
+        requires near { length (bytes_of self.old) ≤ last_of L.forward u.now }
         requires linked { IsLinked L.has_veneer L.forward L.veneer (bytes_of self.old) (uses_of self.old) (veneers_of self.old) }
-        ensures bytes { OnOk result (IsSomeAnd (slice_get (uses_of self.old) index) (λ u. bytes_of self.new ≡ bytes_of self.old ++ (L.veneer u.kind).bytes)) }
-        ensures uses { OnOk result (IsSomeAnd (slice_get (uses_of self.old) index) (λ u. uses_of self.new ≡ slice_set (uses_of self.old) index (record u { veneer = Some (length (bytes_of self.old)) }))) }
-        ensures veneers { OnOk result (IsSomeAnd (slice_get (uses_of self.old) index) (λ u. veneers_of self.new ≡ veneers_of self.old ++ veneer_use (L.veneer u.kind) (length (bytes_of self.old)) u.label ∷ [])) }
+        ensures bytes { OnOk result (bytes_of self.new ≡ bytes_of self.old ++ (L.veneer u.now.kind).bytes) }
+        ensures uses { OnOk result (uses_of self.new ≡ slice_set (uses_of self.old) index (record u.now { veneer = Some (length (bytes_of self.old)) })) }
+        ensures veneers { OnOk result (veneers_of self.new ≡ veneers_of self.old ++ veneer_use (L.veneer u.now.kind) (length (bytes_of self.old)) u.now.label ∷ []) }
         ensures turns { turns_of self.new ≡ turns_of self.old }
-        ensures places { place_of self.new ≡ place_of self.old }
-        ensures labels { labels_of self.new ≡ labels_of self.old }
-        ensures drawn { drawn_of self.new ≡ drawn_of self.old }
-        ensures unspoiled { OnOk result ((spoiled_of self.old ≡ false) × (spoiled_of self.new ≡ false)) }
-        ensures refused { OnErr result (spoiled_of self.new ≡ true) }
+        ensures labels { SameLabels self.old self.new }
+        ensures memory { TakesMemory result self.old self.new }
         ensures linked { OnOk result (IsLinked L.has_veneer L.forward L.veneer (bytes_of self.new) (uses_of self.new) (veneers_of self.new)) }
     {
-        self.check()?;
+        let at = self.append_veneer(u)?;
+        self.uses[index] = Use {
+            veneer: Some(at),
+            ..*u
+        };
+        Ok(())
+    }
+
+    /// Appends the veneer of a use. Gives where it stands.
+    fn append_veneer(&mut self, u: &Use<L>) -> Result<u32, OutOfMemory>
+        requires room { length (bytes_of self.old) + 8 < 2147479552 }
+        requires even { length (bytes_of self.old) % 2 ≡ 0 }
+        requires may { L.has_veneer u.now.kind ≡ true }
+        ensures at { IfOk result (λ at. at ≡ length (bytes_of self.old)) }
+        ensures bytes { OnOk result (bytes_of self.new ≡ bytes_of self.old ++ (L.veneer u.now.kind).bytes) }
+        ensures veneers { OnOk result (veneers_of self.new ≡ veneers_of self.old ++ veneer_use (L.veneer u.now.kind) (length (bytes_of self.old)) u.now.label ∷ []) }
+        ensures uses { uses_of self.new ≡ uses_of self.old }
+        ensures turns { turns_of self.new ≡ turns_of self.old }
+        ensures labels { SameLabels self.old self.new }
+        ensures memory { TakesMemory result self.old self.new }
+    {
         let at = self.bytes.len() as u32;
         let mut code = [0; 8];
-        let u = self.uses[index];
         let (offset, kind) = u.kind.generate_veneer(&mut code, at);
-        let own = VeneerUse {
+        self.push_veneer(VeneerUse {
             at,
             offset,
             label: u.label,
             kind,
-        };
+        })?;
+        self.extend(&code)?;
+        Ok(at)
+    }
+
+    /// Records the use in a veneer.
+    fn push_veneer(&mut self, own: VeneerUse<L>) -> Result<(), OutOfMemory>
+        ensures veneers { OnOk result (veneers_of self.new ≡ veneers_of self.old ++ own ∷ []) }
+        ensures bytes { bytes_of self.new ≡ bytes_of self.old }
+        ensures uses { uses_of self.new ≡ uses_of self.old }
+        ensures turns { turns_of self.new ≡ turns_of self.old }
+        ensures labels { SameLabels self.old self.new }
+        ensures memory { TakesMemory result self.old self.new }
+    {
+        self.check()?;
         if self.veneers.push(own).is_err() {
             self.spoiled = true;
             return Err(OutOfMemory);
         }
-        if self.bytes.extend_from_slice(&code).is_err() {
-            self.spoiled = true;
-            return Err(OutOfMemory);
-        }
-        self.uses[index] = Use {
-            veneer: Some(at),
-            ..u
-        };
         Ok(())
     }
 
@@ -114,16 +130,13 @@ impl<L: MachInstLabelUse> MachBuffer<L> {
         ensures windows { OnOk result (AreWindows L.fields (bytes_of self.old) (uses_of self.old) (veneers_of self.old) → AreWindows L.fields (bytes_of self.new) (uses_of self.new) (veneers_of self.new)) }
         ensures none { OnOk result (deadlines (is_other L.has_veneer L.forward L.backward (place_of self.old) round) L.forward (uses_of self.new) ≡ []) }
         ensures turns { OnOk result (turns_of self.new ≡ []) }
-        ensures places { place_of self.new ≡ place_of self.old }
-        ensures labels { labels_of self.new ≡ labels_of self.old }
-        ensures drawn { drawn_of self.new ≡ drawn_of self.old }
-        ensures unspoiled { OnOk result ((spoiled_of self.old ≡ false) × (spoiled_of self.new ≡ false)) }
-        ensures refused { OnErr result (spoiled_of self.new ≡ true) }
+        ensures labels { SameLabels self.old self.new }
+        ensures memory { TakesMemory result self.old self.new }
     {
         self.check()?;
         while let Some((turn, u)) = self.take_turn() {
             if self.is_other(round, &u) {
-                self.put_veneer(turn.index)?;
+                self.put_veneer(turn.index, &u)?;
             }
         }
         Ok(())
@@ -153,17 +166,15 @@ impl<L: MachInstLabelUse> MachBuffer<L> {
         ensures linked { OnOk result (IsLinked L.has_veneer L.forward L.veneer (bytes_of self.new) (uses_of self.new) (veneers_of self.new)) }
         ensures waits { OnOk result (HaveTurns L.forward (is_other L.has_veneer L.forward L.backward (place_of self.old) (Some round)) (turns_of self.new) (uses_of self.new)) }
         ensures windows { OnOk result (AreWindows L.fields (bytes_of self.old) (uses_of self.old) (veneers_of self.old) → AreWindows L.fields (bytes_of self.new) (uses_of self.new) (veneers_of self.new)) }
-        ensures places { place_of self.new ≡ place_of self.old }
-        ensures labels { labels_of self.new ≡ labels_of self.old }
-        ensures drawn { drawn_of self.new ≡ drawn_of self.old }
-        ensures unspoiled { OnOk result ((spoiled_of self.old ≡ false) × (spoiled_of self.new ≡ false)) }
-        ensures refused { OnErr result (spoiled_of self.new ≡ true) }
+        ensures labels { SameLabels self.old self.new }
+        ensures memory { TakesMemory result self.old self.new }
     {
         self.check()?;
         let index = self.use_of(round);
         let end = self.bytes.len() as u64 + 8 * count as u64;
-        if deadline(&self.uses[index]) < end {
-            self.put_veneer(index)?;
+        let u = self.uses[index];
+        if deadline(&u) < end {
+            self.put_veneer(index, &u)?;
         }
         Ok(())
     }
@@ -173,13 +184,7 @@ impl<L: MachInstLabelUse> MachBuffer<L> {
         ensures first { IfSome result (λ e. turns_of self.old ≡ e ∷ turns_of self.new) }
         ensures later { IfSome result (λ e. AllLater e.0 (turns_of self.new)) }
         ensures none { IfNone result ((turns_of self.old ≡ []) × (turns_of self.new ≡ [])) }
-        ensures bytes { bytes_of self.new ≡ bytes_of self.old }
-        ensures uses { uses_of self.new ≡ uses_of self.old }
-        ensures veneers { veneers_of self.new ≡ veneers_of self.old }
-        ensures places { place_of self.new ≡ place_of self.old }
-        ensures labels { labels_of self.new ≡ labels_of self.old }
-        ensures drawn { drawn_of self.new ≡ drawn_of self.old }
-        ensures spoiled { spoiled_of self.new ≡ spoiled_of self.old }
+        ensures rest { SameButTurns self.old self.new }
     {
         self.waiting.pop_first()
     }

@@ -28,7 +28,7 @@ patch_all-requires g c =
       bound = bound_still (place_of b) (uses_of b) (uses_of now) p.put.same r.bound;
       direct = direct_still K.has_veneer K.forward K.backward (place_of b) (uses_of b) (uses_of now) p.put.same r.direct;
     } in
-    let patches : patches_of (place_of now) c.deref.result.now c.deref-2.result.now ≡ patches_of (place_of b) (uses_of now) (veneers_of now) = ap (λ q. patches_of q c.deref.result.now c.deref-2.result.now) p.places ∙ ap (λ us. patches_of (place_of b) us c.deref-2.result.now) c.deref.ensures.value ∙ ap (patches_of (place_of b) (uses_of now)) c.deref-2.ensures.value in
+    let patches : patches_of (place_of now) c.deref.result.now c.deref-2.result.now ≡ patches_of (place_of b) (uses_of now) (veneers_of now) = ap (λ q. patches_of q c.deref.result.now c.deref-2.result.now) p.labels.places ∙ ap (λ us. patches_of (place_of b) us c.deref-2.result.now) c.deref.ensures.value ∙ ap (patches_of (place_of b) (uses_of now)) c.deref-2.ensures.value in
     subst (λ s. CanPatchAll K.fields K.forward K.backward s (patches_of (place_of now) c.deref.result.now c.deref-2.result.now)) (sym c.deref_mut.ensures.value) (subst (CanPatchAll K.fields K.forward K.backward (bytes_of now)) (sym patches) (can_patch_all ends law))
 
 pub returns-clause-code : goal.returns-clause-code
@@ -52,7 +52,7 @@ returns-clause-code g c =
       bound = bound_still (place_of b) (uses_of b) (uses_of now) p.put.same r.bound;
       direct = direct_still K.has_veneer K.forward K.backward (place_of b) (uses_of b) (uses_of now) p.put.same r.direct;
     } in
-    let patches : patches_of (place_of now) c.deref.result.now c.deref-2.result.now ≡ patches_of (place_of b) (uses_of now) (veneers_of now) = ap (λ q. patches_of q c.deref.result.now c.deref-2.result.now) p.places ∙ ap (λ us. patches_of (place_of b) us c.deref-2.result.now) c.deref.ensures.value ∙ ap (patches_of (place_of b) (uses_of now)) c.deref-2.ensures.value in
+    let patches : patches_of (place_of now) c.deref.result.now c.deref-2.result.now ≡ patches_of (place_of b) (uses_of now) (veneers_of now) = ap (λ q. patches_of q c.deref.result.now c.deref-2.result.now) p.labels.places ∙ ap (λ us. patches_of (place_of b) us c.deref-2.result.now) c.deref.ensures.value ∙ ap (patches_of (place_of b) (uses_of now)) c.deref-2.ensures.value in
     let q = c.patch_all.ensures in
     let final = c.patch_all.new.bytes in
     let same_length : length final ≡ length (bytes_of now) = q.same_length ∙ ap (length {A = ℕ}) c.deref_mut.ensures.value in

@@ -15,7 +15,7 @@ put_waiting-requires-clause-room g c =
     let K = g.L.MachInstLabelUse in
     let b = c.args.self.now in
     let e = c.in_ok-pad_last.ensures in
-    let test : is_other K.has_veneer K.forward K.backward (place_of c.pad_last.new.self) None ≡ is_pending K.has_veneer K.forward K.backward (place_of b) = other_none K.has_veneer K.forward K.backward (place_of c.pad_last.new.self) ∙ ap (is_pending K.has_veneer K.forward K.backward) e.places in
+    let test : is_other K.has_veneer K.forward K.backward (place_of c.pad_last.new.self) None ≡ is_pending K.has_veneer K.forward K.backward (place_of b) = other_none K.has_veneer K.forward K.backward (place_of c.pad_last.new.self) ∙ ap (is_pending K.has_veneer K.forward K.backward) e.labels.places in
     let same : deadlines (is_other K.has_veneer K.forward K.backward (place_of c.pad_last.new.self) None) K.forward (uses_of c.pad_last.new.self) ≡ pending_of K.has_veneer K.forward K.backward b = ap (λ t. deadlines t K.forward (uses_of c.pad_last.new.self)) test ∙ ap (deadlines (is_pending K.has_veneer K.forward K.backward (place_of b)) K.forward) e.uses in
     let long = ap (length {A = ℕ}) e.bytes in
     let many = ap (length {A = ℕ}) same in
@@ -27,7 +27,7 @@ put_waiting-requires-clause-waits g c =
     let K = g.L.MachInstLabelUse in
     let b = c.args.self.now in
     let e = c.in_ok-pad_last.ensures in
-    let test : is_other K.has_veneer K.forward K.backward (place_of c.pad_last.new.self) None ≡ is_pending K.has_veneer K.forward K.backward (place_of b) = other_none K.has_veneer K.forward K.backward (place_of c.pad_last.new.self) ∙ ap (is_pending K.has_veneer K.forward K.backward) e.places in
+    let test : is_other K.has_veneer K.forward K.backward (place_of c.pad_last.new.self) None ≡ is_pending K.has_veneer K.forward K.backward (place_of b) = other_none K.has_veneer K.forward K.backward (place_of c.pad_last.new.self) ∙ ap (is_pending K.has_veneer K.forward K.backward) e.labels.places in
     let same : deadlines (is_other K.has_veneer K.forward K.backward (place_of c.pad_last.new.self) None) K.forward (uses_of c.pad_last.new.self) ≡ pending_of K.has_veneer K.forward K.backward b = ap (λ t. deadlines t K.forward (uses_of c.pad_last.new.self)) test ∙ ap (deadlines (is_pending K.has_veneer K.forward K.backward (place_of b)) K.forward) e.uses in
     turns_fewer _ (other_pending K.has_veneer K.forward K.backward (place_of c.pad_last.new.self) None) e.sound.waits
 
@@ -36,7 +36,7 @@ put_waiting-requires-clause-reach g c =
     let K = g.L.MachInstLabelUse in
     let b = c.args.self.now in
     let e = c.in_ok-pad_last.ensures in
-    let test : is_other K.has_veneer K.forward K.backward (place_of c.pad_last.new.self) None ≡ is_pending K.has_veneer K.forward K.backward (place_of b) = other_none K.has_veneer K.forward K.backward (place_of c.pad_last.new.self) ∙ ap (is_pending K.has_veneer K.forward K.backward) e.places in
+    let test : is_other K.has_veneer K.forward K.backward (place_of c.pad_last.new.self) None ≡ is_pending K.has_veneer K.forward K.backward (place_of b) = other_none K.has_veneer K.forward K.backward (place_of c.pad_last.new.self) ∙ ap (is_pending K.has_veneer K.forward K.backward) e.labels.places in
     let same : deadlines (is_other K.has_veneer K.forward K.backward (place_of c.pad_last.new.self) None) K.forward (uses_of c.pad_last.new.self) ≡ pending_of K.has_veneer K.forward K.backward b = ap (λ t. deadlines t K.forward (uses_of c.pad_last.new.self)) test ∙ ap (deadlines (is_pending K.has_veneer K.forward K.backward (place_of b)) K.forward) e.uses in
     subst (StillReaches (length (bytes_of c.pad_last.new.self))) (sym same) (subst (λ s. StillReaches (length s) (pending_of K.has_veneer K.forward K.backward b)) (sym e.bytes) c.requires.reach)
 
@@ -45,7 +45,7 @@ returns-clause-put g c =
     let K = g.L.MachInstLabelUse in
     let b = c.args.self.now in
     let e = c.in_ok-pad_last.ensures in
-    let test : is_other K.has_veneer K.forward K.backward (place_of c.pad_last.new.self) None ≡ is_pending K.has_veneer K.forward K.backward (place_of b) = other_none K.has_veneer K.forward K.backward (place_of c.pad_last.new.self) ∙ ap (is_pending K.has_veneer K.forward K.backward) e.places in
+    let test : is_other K.has_veneer K.forward K.backward (place_of c.pad_last.new.self) None ≡ is_pending K.has_veneer K.forward K.backward (place_of b) = other_none K.has_veneer K.forward K.backward (place_of c.pad_last.new.self) ∙ ap (is_pending K.has_veneer K.forward K.backward) e.labels.places in
     let same : deadlines (is_other K.has_veneer K.forward K.backward (place_of c.pad_last.new.self) None) K.forward (uses_of c.pad_last.new.self) ≡ pending_of K.has_veneer K.forward K.backward b = ap (λ t. deadlines t K.forward (uses_of c.pad_last.new.self)) test ∙ ap (deadlines (is_pending K.has_veneer K.forward K.backward (place_of b)) K.forward) e.uses in
     let w = c.in_ok-put_waiting.ensures in
     subst (λ t. VeneersPut K.forward t (before_last (bytes_of b) (length (pending_of K.has_veneer K.forward K.backward b))) (uses_of b) (bytes_of c.put_waiting.new.self) (uses_of c.put_waiting.new.self)) test
@@ -57,7 +57,7 @@ returns-clause-windows g c =
     let K = g.L.MachInstLabelUse in
     let b = c.args.self.now in
     let e = c.in_ok-pad_last.ensures in
-    let test : is_other K.has_veneer K.forward K.backward (place_of c.pad_last.new.self) None ≡ is_pending K.has_veneer K.forward K.backward (place_of b) = other_none K.has_veneer K.forward K.backward (place_of c.pad_last.new.self) ∙ ap (is_pending K.has_veneer K.forward K.backward) e.places in
+    let test : is_other K.has_veneer K.forward K.backward (place_of c.pad_last.new.self) None ≡ is_pending K.has_veneer K.forward K.backward (place_of b) = other_none K.has_veneer K.forward K.backward (place_of c.pad_last.new.self) ∙ ap (is_pending K.has_veneer K.forward K.backward) e.labels.places in
     let same : deadlines (is_other K.has_veneer K.forward K.backward (place_of c.pad_last.new.self) None) K.forward (uses_of c.pad_last.new.self) ≡ pending_of K.has_veneer K.forward K.backward b = ap (λ t. deadlines t K.forward (uses_of c.pad_last.new.self)) test ∙ ap (deadlines (is_pending K.has_veneer K.forward K.backward (place_of b)) K.forward) e.uses in
     let w = c.in_ok-put_waiting.ensures in
     λ h. w.windows (windows_as (windows_before (length (pending_of K.has_veneer K.forward K.backward b)) h) e.bytes e.uses e.veneers)
@@ -67,7 +67,7 @@ returns-clause-none g c =
     let K = g.L.MachInstLabelUse in
     let b = c.args.self.now in
     let e = c.in_ok-pad_last.ensures in
-    let test : is_other K.has_veneer K.forward K.backward (place_of c.pad_last.new.self) None ≡ is_pending K.has_veneer K.forward K.backward (place_of b) = other_none K.has_veneer K.forward K.backward (place_of c.pad_last.new.self) ∙ ap (is_pending K.has_veneer K.forward K.backward) e.places in
+    let test : is_other K.has_veneer K.forward K.backward (place_of c.pad_last.new.self) None ≡ is_pending K.has_veneer K.forward K.backward (place_of b) = other_none K.has_veneer K.forward K.backward (place_of c.pad_last.new.self) ∙ ap (is_pending K.has_veneer K.forward K.backward) e.labels.places in
     let same : deadlines (is_other K.has_veneer K.forward K.backward (place_of c.pad_last.new.self) None) K.forward (uses_of c.pad_last.new.self) ≡ pending_of K.has_veneer K.forward K.backward b = ap (λ t. deadlines t K.forward (uses_of c.pad_last.new.self)) test ∙ ap (deadlines (is_pending K.has_veneer K.forward K.backward (place_of b)) K.forward) e.uses in
     let w = c.in_ok-put_waiting.ensures in
     subst (λ t. deadlines t K.forward (uses_of c.put_waiting.new.self) ≡ []) test w.none

@@ -1,5 +1,5 @@
 use Rattle.std.proofs.Common.{◌≡◌, length, false}
-use Rattle.mach_buffer.specs.Buffer.{bytes_of, uses_of, veneers_of, place_of, labels_of, drawn_of, spoiled_of, turns_of}
+use Rattle.mach_buffer.specs.Buffer.{bytes_of, uses_of, veneers_of, place_of, spoiled_of, turns_of, SameLabels}
 use Rattle.mach_buffer.specs.Reach.{is_other}
 use Rattle.mach_buffer.proofs.Putting.{Putting}
 use Rattle.mach_buffer.proofs.buffer.MachBuffer.put_waiting.Given as goal
@@ -12,4 +12,4 @@ invariant-loop-turn g l =
     let K = g.L.MachInstLabelUse in
     Putting K.fields K.has_veneer K.forward K.veneer (is_other K.has_veneer K.forward K.backward (place_of l.initial.self) l.round)
     (bytes_of l.initial.self) (uses_of l.initial.self) (veneers_of l.initial.self) (bytes_of l.self) (uses_of l.self) (veneers_of l.self) (turns_of l.self) ×
-    (place_of l.self ≡ place_of l.initial.self) × (labels_of l.self ≡ labels_of l.initial.self) × (drawn_of l.self ≡ drawn_of l.initial.self) × (spoiled_of l.self ≡ false) × (spoiled_of l.initial.self ≡ false)
+    SameLabels l.initial.self l.self × (spoiled_of l.self ≡ false) × (spoiled_of l.initial.self ≡ false)

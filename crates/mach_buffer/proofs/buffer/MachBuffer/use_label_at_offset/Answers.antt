@@ -1,6 +1,6 @@
-use Rattle.std.proofs.Common.{rules, refl, sym, ap, subst, ◌∙◌, ◌≡◌, ◌≤◌, ◌++◌, ◌∷◌, [], None, length}
+use Rattle.std.proofs.Common.{rules, refl, sym, subst, ◌∙◌, ◌≡◌, ◌≤◌, ◌++◌, ◌∷◌, [], None, length}
 use Rattle.mach_buffer.specs.declared.buffer.MachBuffer.{MachBuffer}
-use Rattle.mach_buffer.specs.Buffer.{bytes_of, uses_of, veneers_of, turns_of, place_of, drawn_of, IsKnown, IsSound, AreSound}
+use Rattle.mach_buffer.specs.Buffer.{bytes_of, uses_of, drawn_of, IsKnown, IsSound, SameLabels}
 use Rattle.mach_buffer.proofs.Maps.{not_refused}
 use Rattle.mach_buffer.proofs.Sound.{sound_use, sound_as}
 use Rattle.mach_buffer.proofs.Turns.{turns_add, turns_skip}
@@ -13,10 +13,9 @@ returns-clause-sound g c =
     let Sound = λ (b : MachBuffer g.row.L.Denot). IsSound K.has_veneer K.forward K.backward K.veneer b in
     let n = c.note_use.ensures in
     let b = c.note_use.new.self in
-    let sound = subst (λ q. AreSound K.has_veneer K.forward K.backward K.veneer (bytes_of b) (uses_of b) (veneers_of b) (turns_of b) q (drawn_of b)) (sym n.places)
-    (sound_as c.requires.sound n.bytes n.uses n.veneers n.turns n.drawn) in
-    let there : c.args.offset ≤ length (bytes_of b) = subst (λ s. c.args.offset ≤ length s) (sym n.bytes) c.requires.there in
-    let known : IsKnown c.args.label.number (drawn_of b) = subst (IsKnown c.args.label.number) (sym n.drawn) c.requires.known in
+    let sound = sound_as c.requires.sound n.code.bytes n.code.uses n.code.veneers n.turns n.labels.places n.labels.drawn in
+    let there : c.args.offset ≤ length (bytes_of b) = subst (λ s. c.args.offset ≤ length s) (sym n.code.bytes) c.requires.there in
+    let known : IsKnown c.args.label.number (drawn_of b) = subst (IsKnown c.args.label.number) (sym n.labels.drawn) c.requires.known in
     let items : c.push.new.self.items ≡ uses_of b ++ record { offset = c.args.offset; label = c.args.label; kind = c.args.kind; veneer = None } ∷ [] = search rules in
     elim c.else-waits.branch [
       | else-waits-via-then-waits+else-is_err-2 w ↦ subst Sound (sym w.self-is)
@@ -26,11 +25,11 @@ returns-clause-sound g c =
           (sound_use sound _ refl there known _ items _ (turns_skip sound.waits _ (sym c.is_pending-waits.ensures ∙ w.if-waits.false) _ items))
     ]
 
-pub returns-clause-places : goal.returns-clause-places
-returns-clause-places g c =
-    let n = c.note_use.ensures in
-    let place = λ (b : MachBuffer g.row.L.Denot). place_of b in
+pub returns-clause-labels : goal.returns-clause-labels
+returns-clause-labels g c =
+    let Same = λ (b : MachBuffer g.row.L.Denot). SameLabels c.args.self.now b in
+    let n = c.note_use.ensures.labels in
     elim c.else-waits.branch [
-      | else-waits-via-then-waits+else-is_err-2 w ↦ ap place w.self-is ∙ n.places
-      | else-waits-via-else-waits w ↦ ap place w.self-is ∙ n.places
+      | else-waits-via-then-waits+else-is_err-2 w ↦ subst Same (sym w.self-is) (record { places = n.places; labels = n.labels; drawn = n.drawn })
+      | else-waits-via-else-waits w ↦ subst Same (sym w.self-is) (record { places = n.places; labels = n.labels; drawn = n.drawn })
     ]
