@@ -133,32 +133,62 @@ fn waiting(alloc: Global, label: MachLabel) -> Result<MachBuffer<Toy>, OutOfMemo
 }
 
 #[test]
-fn islands_are_needed_by_the_rule(rt: HostRuntime) {
+fn islands_are_needed_by_the_rule(rt: HostRuntime) -> Result<(), OutOfMemory> {
     let label = MachLabel::from_u32(5);
-    let Ok(mut buffer) = waiting(rt.alloc(), label) else {
-        assert!(rt; false, "there is memory");
-        return;
-    };
-    assert_eq!(rt; buffer.cur_offset(), 200);
+    let mut buffer = waiting(rt.alloc(), label)?;
     assert_eq!(rt; buffer.island_needed(16), false);
     assert_eq!(rt; buffer.island_needed(17), true);
+    buffer.bind_label(label)?;
+    assert_eq!(rt; buffer.island_needed(1000), false);
+    Ok(())
+}
+
+#[test]
+fn room_is_left_by_the_rule(rt: HostRuntime) -> Result<(), OutOfMemory> {
+    let label = MachLabel::from_u32(5);
+    let mut buffer = waiting(rt.alloc(), label)?;
     assert_eq!(rt; buffer.has_room(2147479552 - 240), false);
     assert_eq!(rt; buffer.has_room(2147479551 - 240), true);
-    assert_eq!(rt; buffer.label_offset(label), None);
-    assert_eq!(rt; buffer.add_uncond_branch(196, 200, label), Ok(()));
-    assert_eq!(rt; buffer.add_cond_branch(196, 200, label, &[0x44; 4]), Ok(()));
-    assert_eq!(rt; buffer.cur_offset(), 200);
-    assert_eq!(rt; buffer.bind_label(label).is_ok(), true);
-    assert_eq!(rt; buffer.label_offset(label), Some(200));
-    assert_eq!(rt; buffer.island_needed(1000), false);
+    buffer.bind_label(label)?;
     assert_eq!(rt; buffer.has_room(2147479551 - 232), true);
+    Ok(())
+}
+
+#[test]
+fn labels_are_bound_at_the_end(rt: HostRuntime) -> Result<(), OutOfMemory> {
+    let label = MachLabel::from_u32(5);
+    let mut buffer = waiting(rt.alloc(), label)?;
+    assert_eq!(rt; buffer.cur_offset(), 200);
+    assert_eq!(rt; buffer.label_offset(label), None);
+    buffer.bind_label(label)?;
+    assert_eq!(rt; buffer.label_offset(label), Some(200));
+    Ok(())
+}
+
+/// What a buffer answers to branches that it is told of.
+fn told_of_branches(buffer: &mut MachBuffer<Toy>) -> [Result<(), OutOfMemory>; 2] {
+    let label = MachLabel::from_u32(5);
+    [
+        buffer.add_uncond_branch(196, 200, label),
+        buffer.add_cond_branch(196, 200, label, &[0x44; 4]),
+    ]
+}
+
+#[test]
+fn branches_put_nothing(rt: HostRuntime) -> Result<(), OutOfMemory> {
+    let mut buffer = waiting(rt.alloc(), MachLabel::from_u32(5))?;
+    assert_eq!(rt; told_of_branches(&mut buffer), [Ok(()); 2]);
+    assert_eq!(rt; buffer.cur_offset(), 200);
+    Ok(())
+}
+
+#[test]
+fn spoiled_buffers_refuse(rt: HostRuntime) -> Result<(), OutOfMemory> {
+    let mut buffer = waiting(rt.alloc(), MachLabel::from_u32(5))?;
     buffer.spoil();
     assert_eq!(rt; buffer.register_constants(&[]), Err(OutOfMemory));
-    assert_eq!(rt; buffer.add_uncond_branch(196, 200, label), Err(OutOfMemory));
-    assert_eq!(rt;
-        buffer.add_cond_branch(196, 200, label, &[0x44; 4]),
-        Err(OutOfMemory)
-    );
+    assert_eq!(rt; told_of_branches(&mut buffer), [Err(OutOfMemory); 2]);
+    Ok(())
 }
 
 /// What the assembler below reads.

@@ -1,7 +1,10 @@
-//! The reach and the patches of each kind of label use.
+//! The reach and the patches of each kind of label use, and the targets of branches.
 
+use rv_base::label::MachLabel;
 use rv_base::label_use::MachInstLabelUse;
+use rv_inst::inst::CondBrTarget;
 use rv_inst::label_use::LabelUse;
+use std::test::Fail;
 
 #[test]
 fn offsets_are_in_range(rt: HostRuntime) {
@@ -57,4 +60,19 @@ fn windows_are_patched(rt: HostRuntime) {
     let (place, kind) = LabelUse::B12.generate_veneer(&mut veneer, 3976);
     assert_eq!(rt; veneer, [0x97, 0xf, 0, 0, 0x67, 0x80, 0xf, 0]);
     assert_eq!(rt; (place, kind), (3976, LabelUse::PCRel32));
+}
+
+#[test]
+fn targets_give_their_labels(rt: HostRuntime) -> Result<(), Fail> {
+    let label = MachLabel::from_u32(7);
+    for (target, given, text) in [
+        (CondBrTarget::Label(label), Some(label), "label7"),
+        (CondBrTarget::Fallthrough, None, "0"),
+    ] {
+        let printed = format!(in rt.alloc(); "{target}")?;
+        assert_eq!(rt; printed.as_str(), text);
+        assert_eq!(rt; target.as_label(), given, "{text}");
+        assert_eq!(rt; target.is_fallthrouh(), given.is_none(), "{text}");
+    }
+    Ok(())
 }

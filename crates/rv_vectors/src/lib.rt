@@ -20,6 +20,8 @@ mod program;
 #[cfg(test)]
 mod registers;
 #[cfg(test)]
+mod reported;
+#[cfg(test)]
 mod runs;
 #[cfg(test)]
 mod samples;

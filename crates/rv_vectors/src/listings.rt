@@ -5,146 +5,155 @@ use rv_inst::code::{Code, LabelPlace, LineSpan};
 use rv_listing::reading::{ReadError, read_job};
 use rv_listing::registers::register;
 use rv_listing::report::report;
+use std::alloc::Global;
 use std::test::Fail;
 
-// Names, classes and numbers as the calling convention has them.
+/// Names of registers with their classes and numbers, as the calling convention has them.
+const NAMES: [(RegClass, &str); 3] = [
+    (
+        RegClass::Int,
+        "zero:0 ra:1 sp:2 gp:3 tp:4 t0:5 t2:7 fp:8 s1:9 a0:10 a7:17 s2:18 s11:27 t3:28 t6:31 x31:31",
+    ),
+    (
+        RegClass::Float,
+        "ft0:0 ft7:7 fs0:8 fs1:9 fa0:10 fa7:17 fs2:18 fs11:27 ft8:28 ft11:31 f16:16",
+    ),
+    (RegClass::Vector, "v0:0 v31:31"),
+];
+
+/// The class and the number of a name, where it is a real register's.
+fn class_and_number(name: &str) -> Option<(RegClass, u8)> {
+    match register(name.as_bytes()) {
+        Some(Reg::Real(reg)) => Some((reg.class, reg.number)),
+        _ => None,
+    }
+}
+
 #[test]
-fn names(rt: HostRuntime) -> Result<(), Fail> {
-    let rows = [
-        ("zero", RegClass::Int, 0),
-        ("ra", RegClass::Int, 1),
-        ("sp", RegClass::Int, 2),
-        ("gp", RegClass::Int, 3),
-        ("tp", RegClass::Int, 4),
-        ("t0", RegClass::Int, 5),
-        ("t2", RegClass::Int, 7),
-        ("fp", RegClass::Int, 8),
-        ("s1", RegClass::Int, 9),
-        ("a0", RegClass::Int, 10),
-        ("a7", RegClass::Int, 17),
-        ("s2", RegClass::Int, 18),
-        ("s11", RegClass::Int, 27),
-        ("t3", RegClass::Int, 28),
-        ("t6", RegClass::Int, 31),
-        ("x31", RegClass::Int, 31),
-        ("ft0", RegClass::Float, 0),
-        ("ft7", RegClass::Float, 7),
-        ("fs0", RegClass::Float, 8),
-        ("fs1", RegClass::Float, 9),
-        ("fa0", RegClass::Float, 10),
-        ("fa7", RegClass::Float, 17),
-        ("fs2", RegClass::Float, 18),
-        ("fs11", RegClass::Float, 27),
-        ("ft8", RegClass::Float, 28),
-        ("ft11", RegClass::Float, 31),
-        ("f16", RegClass::Float, 16),
-        ("v0", RegClass::Vector, 0),
-        ("v31", RegClass::Vector, 31),
-    ];
-    for (name, class, number) in rows {
-        match register(name.as_bytes()) {
-            Some(Reg::Real(reg)) => {
-                assert_eq!(rt; reg.class, class, "at {name}");
-                assert_eq!(rt; reg.number, number, "at {name}");
-            }
-            _ => assert!(rt; false, "at {name}"),
+fn registers_have_their_names(rt: HostRuntime) {
+    for (class, names) in NAMES {
+        for row in names.split(' ') {
+            let (name, number) = row.split_once(':').unwrap_or((row, ""));
+            let wanted = (class, number.parse().unwrap_or(255));
+            assert_eq!(rt; class_and_number(name), Some(wanted), "at {row}");
         }
     }
-    for name in [
-        "", "x", "x32", "x01", "s0", "s12", "t7", "a8", "f32", "fa8", "fs12", "ft12", "v32", "v",
-        "%191", "%2097152", "A0",
-    ] {
+}
+
+#[test]
+fn other_names_are_refused(rt: HostRuntime) {
+    let names = "x x32 x01 s0 s12 t7 a8 f32 fa8 fs12 ft12 v32 v %191 %2097152 A0";
+    for name in names.split(' ') {
         assert!(rt; register(name.as_bytes()).is_none(), "at {name}");
     }
+    assert!(rt; register(b"").is_none());
+}
+
+#[test]
+fn virtual_registers_have_numbers(rt: HostRuntime) {
     match register(b"%192") {
         Some(Reg::Virtual(reg)) => assert_eq!(rt; (reg.index, reg.class), (192, RegClass::Int)),
         _ => assert!(rt; false),
     }
-    Ok(())
 }
 
-// Each text with how many lines of a job it has, or its first bad line.
+/// How many lines the job of a text has.
+fn line_count(alloc: Global, text: &str) -> Result<usize, ReadError> {
+    let job = read_job(alloc, text.as_bytes())?;
+    Ok(job.lines.len())
+}
+
 #[test]
-fn texts(rt: HostRuntime) -> Result<(), Fail> {
-    let rows = [
-        ("", Ok(0)),
-        ("\n\n# Ret\n", Ok(0)),
-        ("Ret", Ok(1)),
+fn texts_are_read(rt: HostRuntime) -> Result<(), Fail> {
+    for (text, lines) in [
+        ("", 0),
+        ("\n\n# Ret\n", 0),
+        ("Ret", 1),
         (
             "Bind L0\nAluRRImm12 addi a0 a0 -1\nCondBr ne a0 zero L0 -\nRet\n",
-            Ok(4),
+            4,
         ),
         (
             "AluRRImm12 addi a0 a0 -2048\nAluRRImm12 addi a0 a0 0x7ff\nAluRRImm12 addi a0 a0 -0x00",
-            Ok(3),
+            3,
         ),
-        ("Lui a0 524287\nLui a0 -524288\nJal L4294967295\n", Ok(3)),
-        (
-            "EmitIsland 88\nEmitIsland 4294967295\nEmitIsland 0x58\n",
-            Ok(3),
-        ),
-        ("AluRRR add %192 x31 v0\n", Ok(1)),
-        ("Nop0\nNop4\nEBreak\nSequencePoint\nDummyUse v3\n", Ok(5)),
+        ("Lui a0 524287\nLui a0 -524288\nJal L4294967295\n", 3),
+        ("EmitIsland 88\nEmitIsland 4294967295\nEmitIsland 0x58\n", 3),
+        ("AluRRR add %192 x31 v0\n", 1),
+        ("Nop0\nNop4\nEBreak\nSequencePoint\nDummyUse v3\n", 5),
         (
             "Args a0:a1,%192:fa2,v1:v2\nArgs -\nRets %192:a0\nRets -\n",
-            Ok(4),
+            4,
         ),
         (
             "Auipc a0 -1\nMov a0 a1 i8\nMov fa0 fa1 f128\nMov v1 v2 i8x16\nMov v1 v2 f64x256\nMovFromPReg a0 fp\nJalr ra t0 -4\n",
-            Ok(7),
+            7,
         ),
         (
             "AluRRR sh3add.uw a0 a1 a2\nAluRRR czero.nez a0 a1 a2\nAluRRImm12 zext.h a0 a1 0\nAluRRImm12 slli.uw a0 a1 3\n",
-            Ok(4),
+            4,
         ),
-        ("AluRRImm12 addi a0 a0\n", Err(1)),
-        ("Ret\nAluRRImm12 addi a0 a0 2048\n", Err(2)),
-        ("AluRRImm12 addi a0 a0 +1\n", Err(1)),
-        ("AluRRImm12 addi a0 a0 01\n", Err(1)),
-        ("AluRRImm12 addi a0 a0 0xFF\n", Err(1)),
-        ("Ret\n\nRet \n", Err(3)),
-        (" Ret\n", Err(1)),
-        ("AluRRR  add a0 a0 a0\n", Err(1)),
-        ("Bind 0\n", Err(1)),
-        ("Bind L00\n", Err(1)),
-        ("Jal L4294967296\n", Err(1)),
-        ("EmitIsland 4294967296\n", Err(1)),
-        ("EmitIsland -1\n", Err(1)),
-        ("EmitIsland\n", Err(1)),
-        ("Jal -\n", Err(1)),
-        ("CondBr lt a0 a1 - -\n", Err(1)),
-        ("ret\n", Err(1)),
-        ("Nop0 0\n", Err(1)),
-        ("Nop\n", Err(1)),
-        ("AluRRR addi a0 a0 a0\n", Err(1)),
-        ("AluRRImm12 add a0 a0 0\n", Err(1)),
-        ("MovFromPReg a0 %192\n", Err(1)),
-        ("Mov a0 a1 i8x3\n", Err(1)),
-        ("Mov a0 a1 i8x1\n", Err(1)),
-        ("Mov a0 a1 i8x512\n", Err(1)),
-        ("Mov a0 a1 i8x016\n", Err(1)),
-        ("Mov a0 a1 i128x2\n", Err(1)),
-        ("Mov a0 a1 i8x\n", Err(1)),
-        ("Mov a0 a1 i8x2x2\n", Err(1)),
-        ("Mov a0 a1\n", Err(1)),
-        ("Args\n", Err(1)),
-        ("Args a0\n", Err(1)),
-        ("Args a0:a1,\n", Err(1)),
-        ("Args a0:a1:a2\n", Err(1)),
-        ("Args a0:a1 a2:a3\n", Err(1)),
-        ("Rets -,a0:a1\n", Err(1)),
-        ("Ret\r\n", Err(1)),
-        ("# comment\r\n", Err(1)),
-        ("# caf\u{e9}\n", Err(1)),
-        ("flags m\n", Err(1)),
-        ("frame 0 0 0 0 0 0 -\n", Err(1)),
-    ];
-    for (text, wanted) in rows {
-        match read_job(rt.alloc(), text.as_bytes()) {
-            Ok(job) => assert_eq!(rt; Ok(job.lines.len()), wanted, "at {text}"),
-            Err(ReadError::Syntax { line }) => assert_eq!(rt; Err(line), wanted, "at {text}"),
-            Err(ReadError::OutOfMemory) => assert!(rt; false, "at {text}"),
-        }
+    ] {
+        assert_eq!(rt; line_count(rt.alloc(), text), Ok(lines), "at {text}");
+    }
+    Ok(())
+}
+
+/// Lines that are of no form.
+const BAD_LINES: &str = "\
+AluRRImm12 addi a0 a0
+AluRRImm12 addi a0 a0 +1
+AluRRImm12 addi a0 a0 01
+AluRRImm12 addi a0 a0 0xFF
+ Ret
+AluRRR  add a0 a0 a0
+Bind 0
+Bind L00
+Jal L4294967296
+EmitIsland 4294967296
+EmitIsland -1
+EmitIsland
+Jal -
+CondBr lt a0 a1 - -
+ret
+Nop0 0
+Nop
+AluRRR addi a0 a0 a0
+AluRRImm12 add a0 a0 0
+MovFromPReg a0 %192
+Mov a0 a1 i8x3
+Mov a0 a1 i8x1
+Mov a0 a1 i8x512
+Mov a0 a1 i8x016
+Mov a0 a1 i128x2
+Mov a0 a1 i8x
+Mov a0 a1 i8x2x2
+Mov a0 a1
+Args
+Args a0
+Args a0:a1,
+Args a0:a1:a2
+Args a0:a1 a2:a3
+Rets -,a0:a1
+Ret\r
+# comment\r
+# caf\u{e9}
+flags m
+frame 0 0 0 0 0 0 -
+";
+
+#[test]
+fn bad_lines_are_found(rt: HostRuntime) -> Result<(), Fail> {
+    for text in BAD_LINES.split_inclusive('\n') {
+        let bad = ReadError::Syntax { line: 1 };
+        assert_eq!(rt; line_count(rt.alloc(), text), Err(bad), "at {text}");
+    }
+    for (text, line) in [
+        ("Ret\nAluRRImm12 addi a0 a0 2048\n", 2),
+        ("Ret\n\nRet \n", 3),
+    ] {
+        let bad = ReadError::Syntax { line };
+        assert_eq!(rt; line_count(rt.alloc(), text), Err(bad), "at {text}");
     }
     Ok(())
 }

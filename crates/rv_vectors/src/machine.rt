@@ -5,6 +5,7 @@ use rv_base::memory::OutOfMemory;
 use rv_machine::decode::{Decoded, decode};
 use rv_machine::machine::{IntMachine, Step};
 use rv_machine::ops::{BaseOp, BitOp, MOp, MulOp};
+use std::alloc::Global;
 use std::test::Fail;
 
 /// The sources, in hex, that each row of `TWO_SOURCES` is tried with.
@@ -215,10 +216,9 @@ fn rows_of_one_source(rt: HostRuntime) -> Result<(), Fail> {
     Ok(())
 }
 
-/// The loop `addi a0, a0, -1; bne a0, zero, -4; jalr zero, 0(ra)`, and a stop at an odd pc, at no row and at `ebreak`.
-#[test]
-fn machines_run(rt: HostRuntime) -> Result<(), Fail> {
-    let mut machine = IntMachine::new(rt.alloc(), IsaFlags::none(), 0x1000);
+/// A machine with the loop `addi a0, a0, -1; bne a0, zero, -4; jalr zero, 0(ra)`, before two turns of it.
+fn looping(alloc: Global) -> Result<IntMachine, OutOfMemory> {
+    let mut machine = IntMachine::new(alloc, IsaFlags::none(), 0x1000);
     machine.load_image(
         0x1000,
         &[
@@ -228,12 +228,25 @@ fn machines_run(rt: HostRuntime) -> Result<(), Fail> {
     machine.set_reg(10, 2);
     machine.set_reg(1, 0x2001);
     machine.set_reg(0, 7);
+    Ok(machine)
+}
+
+#[test]
+fn machines_run(rt: HostRuntime) -> Result<(), Fail> {
+    let mut machine = looping(rt.alloc())?;
     assert_eq!(rt; machine.run(5)?, 5);
     assert_eq!(rt;
         (machine.pc(), machine.reg(10), machine.reg(0)),
         (0x2000, 0, 0)
     );
     assert_eq!(rt; (machine.run(3)?, machine.step()?), (0, Step::Stopped));
+    Ok(())
+}
+
+/// A stop at an odd pc, and at `ebreak`, which stands round the end of the memory.
+#[test]
+fn machines_stop(rt: HostRuntime) -> Result<(), Fail> {
+    let mut machine = looping(rt.alloc())?;
     machine.set_pc(0x1001);
     assert_eq!(rt; machine.step()?, Step::Stopped);
     machine.load_image(0xffff_ffff_ffff_fffe, &[0x73, 0x00, 0x10, 0x00])?;

@@ -1,7 +1,6 @@
 //! Words from outside: each row is a listing of one line, and the word that an assembler makes of it.
 
-use rv_asm::run::run;
-use rv_stream::in_memory::{SureSink, SureSource};
+use crate::reported::reported;
 use std::test::Fail;
 
 // A line, and its word with the highest digit first.
@@ -79,28 +78,33 @@ AluRRR mulw a0 a0 a1 = 02b5053b\n\
 AluRRR divw a0 a0 a1 = 02b5453b\n\
 AluRRR remw a0 a0 a1 = 02b5653b\n\
 AluRRR remuw a0 a0 a1 = 02b5753b\n\
-AluRRImm12 zext.h a1 a0 0 = 080545bb";
+AluRRImm12 zext.h a1 a0 0 = 080545bb\n\
+AluRRR add.uw a1 a0 zero = 080505bb\n\
+AluRRR sub a0 a0 a1 = 40b50533\n\
+AluRRR add a0 a0 a1 = 00b50533\n\
+AluRRR sgt a0 a0 a1 = 00a5a533\n\
+AluRRR sgtu a0 a0 a1 = 00a5b533\n\
+AluRRR czero.eqz a0 a0 a1 = 0eb55533\n\
+AluRRR czero.nez a0 a0 a1 = 0eb57533\n\
+AluRRR divuw a0 a0 a1 = 02b5553b\n\
+AluRRImm12 addi a0 a0 -1 = fff50513\n\
+AluRRImm12 addiw a0 a0 -1 = fff5051b\n\
+AluRRImm12 ori a0 a0 -1 = fff56513\n\
+AluRRImm12 srai a0 a0 63 = 43f55513";
 
 #[test]
 fn operations(rt: HostRuntime) -> Result<(), Fail> {
-    assert_eq!(rt; ROWS.lines().count(), 74);
+    assert_eq!(rt; ROWS.lines().count(), 86);
     for row in ROWS.lines() {
         let Some((listing, digits)) = row.split_once(" = ") else {
             assert!(rt; false, "at {row}");
             continue;
         };
-        let word = u32::from_str_radix(digits, 16).unwrap_or(0);
-        let mut sink = SureSink::new(rt.alloc());
-        let outcome = run(
-            rt.alloc(),
-            &[],
-            &mut SureSource::new(listing.as_bytes()),
-            &mut sink,
-        );
-        let bytes = word.swap_bytes();
+        let bytes = u32::from_str_radix(digits, 16).unwrap_or(0).swap_bytes();
         let text = format!(in rt.alloc(); "code 4\n00000000 {bytes:08x}\nline 0 0 4\nend 4\n")?;
-        assert_eq!(rt; outcome.status(), 0, "at {listing}");
-        assert_eq!(rt; sink.bytes(), text.as_bytes(), "at {listing}");
+        let (status, report) = reported(rt.alloc(), listing.as_bytes());
+        assert_eq!(rt; status, 0, "at {listing}");
+        assert_eq!(rt; report.bytes(), text.as_bytes(), "at {listing}");
     }
     Ok(())
 }

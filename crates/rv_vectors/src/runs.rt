@@ -7,10 +7,13 @@ use rv_base::condcodes::IntCC;
 use rv_base::flags::IsaFlags;
 use rv_base::frame::FrameLayout;
 use rv_base::label::MachLabel;
+use rv_base::list::List;
+use rv_base::memory::OutOfMemory;
 use rv_base::named::{a0, link_reg, x_reg, zero_reg};
 use rv_base::regs::{Reg, Writable};
 use rv_imms::imm12::Imm12;
 use rv_imms::imm20::Imm20;
+use rv_inst::error::EmitError;
 use rv_inst::inst::{CondBrTarget, Inst, Line};
 use rv_machine::machine::{IntMachine, Step};
 use rv_ops::alu::{AluOPRRI, AluOPRRR};
@@ -43,11 +46,45 @@ fn label(number: u32) -> CondBrTarget {
     CondBrTarget::Label(MachLabel::from_u32(number))
 }
 
+fn bind(number: u32) -> Line {
+    Line::Bind(MachLabel::from_u32(number))
+}
+
+/// The bytes of a listing's code.
+fn code_of(alloc: Global, lines: &[Line]) -> Result<List<u8>, EmitError> {
+    let frame = FrameLayout::none(alloc);
+    let code = assemble(alloc, lines, IsaFlags::none(), &frame, &[])?;
+    Ok(code.bytes)
+}
+
+/// A machine that is to run this code at `BASE`, with these registers.
+fn started(alloc: Global, code: &[u8], registers: &Registers) -> Result<IntMachine, OutOfMemory> {
+    let mut machine = IntMachine::new(alloc, IsaFlags::none(), BASE);
+    machine.load_image(BASE, code)?;
+    for n in 1..32 {
+        machine.set_reg(n as u8, registers.values[n]);
+    }
+    Ok(machine)
+}
+
+/// Whether each step is done until the machine is back at its caller.
+fn returns(machine: &mut IntMachine) -> Result<bool, OutOfMemory> {
+    for _ in 0..10000 {
+        if machine.pc() == CALLER {
+            return Ok(true);
+        }
+        if machine.step()? != Step::Stepped {
+            return Ok(false);
+        }
+    }
+    Ok(machine.pc() == CALLER)
+}
+
 /// The countdown loop, of which the bytes and the spans are known.
 #[test]
 fn counts_down(rt: HostRuntime) -> Result<(), Fail> {
     let lines = [
-        Line::Bind(MachLabel::from_u32(0)),
+        bind(0),
         addi(a0(), a0(), -1),
         branch(
             IntCC::NotEqual,
@@ -58,19 +95,17 @@ fn counts_down(rt: HostRuntime) -> Result<(), Fail> {
         ),
         Line::Inst(Inst::Ret),
     ];
-    let frame = FrameLayout::none(rt.alloc());
-    let code = assemble(rt.alloc(), &lines, IsaFlags::none(), &frame, &[])?;
+    let code = code_of(rt.alloc(), &lines)?;
     let bytes = [
         0x13, 0x05, 0xf5, 0xff, 0xe3, 0x1e, 0x05, 0xfe, 0x67, 0x80, 0x00, 0x00,
     ];
-    assert_eq!(rt; code.bytes.as_slice(), bytes.as_slice());
-    let mut machine = IntMachine::new(rt.alloc(), IsaFlags::none(), BASE);
-    machine.load_image(BASE, code.bytes.as_slice())?;
-    machine.set_reg(1, CALLER + 1);
-    machine.set_reg(10, 2);
+    assert_eq!(rt; code.as_slice(), bytes.as_slice());
+    let mut registers = Registers { values: [0; 32] };
+    registers.write(link_reg(), CALLER + 1);
+    registers.write(a0(), 2);
+    let mut machine = started(rt.alloc(), code.as_slice(), &registers)?;
     assert_eq!(rt; machine.run(5)?, 5);
-    assert_eq!(rt; machine.pc(), CALLER);
-    assert_eq!(rt; machine.reg(10), 0);
+    assert_eq!(rt; (machine.pc(), machine.reg(10)), (CALLER, 0));
     Ok(())
 }
 
@@ -150,31 +185,13 @@ impl Draws {
         branch(kind, rs1, self.register(), taken, not_taken)
     }
 
-    /// A loop of one to five turns, counted in t0, with branches forward in it, and `gap` lines that the branches go
-    /// round.
+    /// A loop of one to five turns, counted in t0.
     fn listing(&mut self, alloc: Global, gap: usize) -> Result<Vec<Line>, AllocError> {
         let t0 = x_reg(5);
         let mut lines = Vec::new(alloc);
         lines.push(addi(t0, zero_reg(), self.below(5) as i16 + 1))?;
-        lines.push(Line::Bind(MachLabel::from_u32(7)))?;
-        self.straights(&mut lines)?;
-        lines.push(self.branch(label(1), label(2)))?;
-        for _ in 0..gap {
-            lines.push(Line::Inst(Inst::Nop4))?;
-        }
-        self.straights(&mut lines)?;
-        lines.push(Line::Bind(MachLabel::from_u32(1)))?;
-        self.straights(&mut lines)?;
-        lines.push(self.branch(label(3), CondBrTarget::Fallthrough))?;
-        self.straights(&mut lines)?;
-        lines.push(Line::Bind(MachLabel::from_u32(2)))?;
-        lines.push(Line::Inst(Inst::Jal {
-            label: MachLabel::from_u32(4),
-        }))?;
-        lines.push(Line::Bind(MachLabel::from_u32(3)))?;
-        self.straights(&mut lines)?;
-        lines.push(Line::Bind(MachLabel::from_u32(4)))?;
-        self.straights(&mut lines)?;
+        lines.push(bind(7))?;
+        self.turn(&mut lines, gap)?;
         lines.push(addi(t0, t0, -1))?;
         lines.push(branch(
             IntCC::NotEqual,
@@ -185,6 +202,38 @@ impl Draws {
         ))?;
         lines.push(Line::Inst(Inst::Ret))?;
         Ok(lines)
+    }
+
+    /// A turn: branches forward, and `gap` lines that the branches go round.
+    fn turn(&mut self, lines: &mut Vec<Line>, gap: usize) -> Result<(), AllocError> {
+        self.straights(lines)?;
+        lines.push(self.branch(label(1), label(2)))?;
+        for _ in 0..gap {
+            lines.push(Line::Inst(Inst::Nop4))?;
+        }
+        self.straights(lines)?;
+        lines.push(bind(1))?;
+        self.straights(lines)?;
+        lines.push(self.branch(label(3), CondBrTarget::Fallthrough))?;
+        self.straights(lines)?;
+        lines.push(bind(2))?;
+        lines.push(Line::Inst(Inst::Jal {
+            label: MachLabel::from_u32(4),
+        }))?;
+        lines.push(bind(3))?;
+        self.straights(lines)?;
+        lines.push(bind(4))?;
+        self.straights(lines)
+    }
+
+    /// The caller's address in ra, and numbers in a0 to a5.
+    fn registers(&mut self) -> Registers {
+        let mut registers = Registers { values: [0; 32] };
+        registers.write(link_reg(), CALLER);
+        for n in 10..16 {
+            registers.write(x_reg(n), self.below(1 << 31));
+        }
+        registers
     }
 }
 
@@ -317,30 +366,15 @@ fn interpret(lines: &[Line], registers: &mut Registers) -> bool {
 /// one instruction, both ways.
 #[test]
 fn runs_like_the_listing(rt: HostRuntime) -> Result<(), Fail> {
-    let frame = FrameLayout::none(rt.alloc());
     for seed in 0..44 {
         let mut draws = Draws { state: seed };
         let gap = if seed < 40 { 0 } else { 1100 };
         let lines = draws.listing(rt.alloc(), gap)?;
-        let code = assemble(rt.alloc(), &lines, IsaFlags::none(), &frame, &[])?;
-        let mut machine = IntMachine::new(rt.alloc(), IsaFlags::none(), BASE);
-        machine.load_image(BASE, code.bytes.as_slice())?;
-        let mut registers = Registers { values: [0; 32] };
-        registers.write(link_reg(), CALLER);
-        machine.set_reg(1, CALLER);
-        for n in 10..16 {
-            let value = draws.below(1 << 31);
-            registers.write(x_reg(n), value);
-            machine.set_reg(n as u8, value);
-        }
-        assert!(rt; interpret(&lines, &mut registers));
-        'steps: for _ in 0..10000 {
-            if machine.pc() == CALLER {
-                break 'steps;
-            }
-            assert_eq!(rt; machine.step()?, Step::Stepped);
-        }
-        assert_eq!(rt; machine.pc(), CALLER);
+        let code = code_of(rt.alloc(), &lines)?;
+        let mut registers = draws.registers();
+        let mut machine = started(rt.alloc(), code.as_slice(), &registers)?;
+        assert!(rt; interpret(&lines, &mut registers), "at {seed}");
+        assert!(rt; returns(&mut machine)?, "at {seed}");
         for n in 1..30 {
             assert_eq!(rt; machine.reg(n as u8), registers.values[n], "x{n} at {seed}");
         }

@@ -3,6 +3,7 @@
 mod islands;
 mod random;
 
+use crate::reported::reported;
 use islands::{
     ASKED_LISTING, ASKED_REPORT, LONG_LISTING, LONG_REPORT, NARROW_LISTING, NARROW_REPORT,
 };
@@ -10,37 +11,41 @@ use random::{
     FIFTH_LISTING, FIFTH_REPORT, FIRST_LISTING, FIRST_REPORT, FOURTH_LISTING, FOURTH_REPORT,
     SECOND_LISTING, SECOND_REPORT, THIRD_LISTING, THIRD_REPORT,
 };
-use rv_asm::run::run;
-use rv_stream::in_memory::{SureSink, SureSource};
+use rv_stream::in_memory::SureSink;
 use std::alloc::{AllocError, Global};
 use std::test::Fail;
 
+/// Listings with their reports, in short.
+static SAMPLES: [(&str, &str); 8] = [
+    (FIRST_LISTING, FIRST_REPORT),
+    (SECOND_LISTING, SECOND_REPORT),
+    (THIRD_LISTING, THIRD_REPORT),
+    (FOURTH_LISTING, FOURTH_REPORT),
+    (FIFTH_LISTING, FIFTH_REPORT),
+    (ASKED_LISTING, ASKED_REPORT),
+    (NARROW_LISTING, NARROW_REPORT),
+    (LONG_LISTING, LONG_REPORT),
+];
+
 #[test]
 fn samples(rt: HostRuntime) -> Result<(), Fail> {
-    let rows = [
-        (FIRST_LISTING, FIRST_REPORT),
-        (SECOND_LISTING, SECOND_REPORT),
-        (THIRD_LISTING, THIRD_REPORT),
-        (FOURTH_LISTING, FOURTH_REPORT),
-        (FIFTH_LISTING, FIFTH_REPORT),
-        (ASKED_LISTING, ASKED_REPORT),
-        (NARROW_LISTING, NARROW_REPORT),
-        (LONG_LISTING, LONG_REPORT),
-    ];
-    for (n, (listing, report)) in rows.iter().enumerate() {
-        let listing = written_out(rt.alloc(), listing)?;
-        let report = written_out(rt.alloc(), report)?;
-        let mut sink = SureSink::new(rt.alloc());
-        let outcome = run(
-            rt.alloc(),
-            &[],
-            &mut SureSource::new(listing.as_bytes()),
-            &mut sink,
-        );
-        assert_eq!(rt; outcome.status(), 0, "at {n}");
-        assert_eq!(rt; sink.bytes(), report.as_bytes(), "at {n}");
+    for (n, (listing, report)) in SAMPLES.iter().enumerate() {
+        let (status, text, wanted) = reported_in_full(rt.alloc(), listing, report)?;
+        assert_eq!(rt; status, 0, "at {n}");
+        assert_eq!(rt; text.bytes(), wanted.as_bytes(), "at {n}");
     }
     Ok(())
+}
+
+/// The status of a call over a listing, the sink that took its text, and the text that is due.
+fn reported_in_full(
+    alloc: Global,
+    listing: &str,
+    report: &str,
+) -> Result<(u8, SureSink, String), AllocError> {
+    let listing = written_out(alloc, listing)?;
+    let (status, sink) = reported(alloc, listing.as_bytes());
+    Ok((status, sink, written_out(alloc, report)?))
 }
 
 /// The text of which `short` writes some lines in short.

@@ -1,85 +1,106 @@
+//! Reading all of a source and writing all of a text, with the calls that fail.
+
+ghost use Rattle.std.specs.Prelude.{◌<◌};
+
 use rv_stream::ends::WriteError;
 use rv_stream::in_memory::{MemSink, MemSource, SureSink, SureSource};
 use rv_stream::standard::{StdSink, StdSource};
 use rv_stream::whole::{ReadAllError, read_all, write_all};
+use std::alloc::Global;
 use std::test::Fail;
 
-// What is read of ten bytes: a chunk, the calls that fail, and whether all comes. Three bytes a call are four calls,
-// and the fifth finds the end.
+const TEN: &[u8] = b"0123456789";
+
+/// Whether ten bytes are read whole, at most `chunk` a call, where the call of this number fails.
+fn are_read(alloc: Global, chunk: usize, call: usize) -> Result<bool, ReadAllError>
+    requires { 0 < chunk }
+{
+    let text = read_all(alloc, &mut MemSource::new(TEN, chunk, &[call]))?;
+    Ok(text.as_slice() == TEN)
+}
+
+// Three bytes a call are four calls, and the fifth finds the end.
 #[test]
-fn reads(rt: HostRuntime) -> Result<(), Fail> {
-    let rows = [
-        (1, 11, true),
-        (1, 10, false),
-        (3, 5, true),
-        (3, 4, false),
-        (3, 0, false),
-        (10, 1, false),
-        (100, 2, true),
-        (100, 0, false),
-    ];
-    for (chunk, call, whole) in rows {
-        let failing = [call];
-        let mut source = MemSource::new(b"0123456789", chunk, &failing);
-        match read_all(rt.alloc(), &mut source) {
-            Ok(text) => assert_eq!(rt;
-                (text.as_slice() == b"0123456789".as_slice(), whole),
-                (true, true),
-                "at {chunk} {call}"
-            ),
-            Err(error) => assert_eq!(rt;
-                (error, whole),
-                (ReadAllError::Failed, false),
-                "at {chunk} {call}"
-            ),
-        }
-    }
-    for (length, fits) in [
-        (0, true),
-        (65536, true),
-        (65537, true),
-        (16777216, true),
-        (16777217, false),
+fn reads_fail_by_number(rt: HostRuntime) -> Result<(), Fail> {
+    let failed = Err(ReadAllError::Failed);
+    for (chunk, call, wanted) in [
+        (1, 11, Ok(true)),
+        (1, 10, failed),
+        (3, 5, Ok(true)),
+        (3, 4, failed),
+        (3, 0, failed),
+        (10, 1, failed),
+        (100, 2, Ok(true)),
+        (100, 0, failed),
     ] {
-        let bytes = Vec::from_elem(rt.alloc(), 35u8, length)?;
-        match read_all(rt.alloc(), &mut SureSource::new(&bytes)) {
-            Ok(text) => assert_eq!(rt; (text.len(), fits), (length, true)),
-            Err(error) => assert_eq!(rt; (error, fits), (ReadAllError::TooLong, false)),
-        }
+        assert_eq!(rt;
+            are_read(rt.alloc(), chunk, call),
+            wanted,
+            "at {chunk} {call}"
+        );
     }
     Ok(())
 }
 
-// What is taken of ten bytes: a chunk, the call that fails, and the bytes.
+/// How many bytes are read of these.
+fn length_read(alloc: Global, bytes: &[u8]) -> Result<usize, ReadAllError> {
+    let text = read_all(alloc, &mut SureSource::new(bytes))?;
+    Ok(text.len())
+}
+
 #[test]
-fn writes(rt: HostRuntime) -> Result<(), Fail> {
-    let rows = [
-        (1, 0, 0),
-        (1, 9, 9),
-        (1, 10, 10),
-        (3, 0, 0),
-        (3, 2, 6),
-        (3, 3, 9),
-        (3, 4, 10),
-        (100, 0, 0),
-        (100, 1, 10),
-    ];
-    for (chunk, call, taken) in rows {
-        let failing = [call];
-        let mut sink = MemSink::new(rt.alloc(), chunk, &failing);
-        match write_all(&mut sink, b"0123456789") {
-            Ok(()) => assert_eq!(rt; taken, 10, "at {chunk} {call}"),
-            Err(error) => assert_eq!(rt;
-                (error, taken < 10),
-                (WriteError::Failed, true),
-                "at {chunk} {call}"
-            ),
-        }
-        assert_eq!(rt; sink.bytes().len(), taken, "at {chunk} {call}");
+fn sources_have_a_greatest_length(rt: HostRuntime) -> Result<(), Fail> {
+    for (length, wanted) in [
+        (0, Ok(0)),
+        (65536, Ok(65536)),
+        (65537, Ok(65537)),
+        (16777216, Ok(16777216)),
+        (16777217, Err(ReadAllError::TooLong)),
+    ] {
+        let bytes = Vec::from_elem(rt.alloc(), b'#', length)?;
+        assert_eq!(rt; length_read(rt.alloc(), &bytes), wanted, "at {length}");
     }
+    Ok(())
+}
+
+/// How a write of ten bytes ends, at most `chunk` a call, where the call of this number fails; and how many are taken.
+fn are_written(alloc: Global, chunk: usize, call: usize) -> (Result<(), WriteError>, usize)
+    requires { 0 < chunk }
+{
+    let failing = [call];
+    let mut sink = MemSink::new(alloc, chunk, &failing);
+    let result = write_all(&mut sink, TEN);
+    (result, sink.bytes().len())
+}
+
+#[test]
+fn writes_fail_by_number(rt: HostRuntime) -> Result<(), Fail> {
+    let failed = Err(WriteError::Failed);
+    for (chunk, call, wanted) in [
+        (1, 0, (failed, 0)),
+        (1, 9, (failed, 9)),
+        (1, 10, (Ok(()), 10)),
+        (3, 0, (failed, 0)),
+        (3, 2, (failed, 6)),
+        (3, 3, (failed, 9)),
+        (3, 4, (Ok(()), 10)),
+        (100, 0, (failed, 0)),
+        (100, 1, (Ok(()), 10)),
+    ] {
+        assert_eq!(rt;
+            are_written(rt.alloc(), chunk, call),
+            wanted,
+            "at {chunk} {call}"
+        );
+    }
+    Ok(())
+}
+
+#[test]
+fn all_is_written(rt: HostRuntime) -> Result<(), Fail> {
     let mut sink = SureSink::new(rt.alloc());
-    assert!(rt; write_all(&mut sink, b"0123456789").is_ok());
-    assert_eq!(rt; sink.bytes(), b"0123456789".as_slice());
+    assert!(rt; write_all(&mut sink, TEN).is_ok());
+    assert_eq!(rt; sink.bytes(), TEN);
     Ok(())
 }
 

@@ -7,4 +7,4 @@ use Rattle.rv_vectors.proofs.buffer.waiting.Goals as goal
 pub returns-clause-unbound : goal.returns-clause-unbound
 returns-clause-unbound c =
     let n = c.args.label.number in
-    ap (λ f. f n) (c.put_data.ensures.places ∙ c.put8.ensures.places ∙ c.put4.ensures.places ∙ c.put2.ensures.places ∙ c.use_label_at_offset.ensures.places ∙ ap (λ (b : MachBuffer Toy). place_of b) c.register_constants.ensures.same) ∙ c.new-buffer.ensures.places n
+    ap (λ f. f n) (c.put_data.ensures.put.labels.places ∙ c.put8.ensures.put.labels.places ∙ c.put4.ensures.put.labels.places ∙ c.put2.ensures.put.labels.places ∙ c.use_label_at_offset.ensures.labels.places ∙ ap (λ (b : MachBuffer Toy). place_of b) c.register_constants.ensures.same) ∙ c.new-buffer.ensures.places n

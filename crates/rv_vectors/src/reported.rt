@@ -1,0 +1,17 @@
+//! What the program tells of a listing.
+
+use rv_asm::run::run;
+use rv_stream::in_memory::{SureSink, SureSource};
+use std::alloc::Global;
+
+/// The status of a call with these words over a listing, and the sink that took its text.
+pub fn told(alloc: Global, words: &[String], listing: &[u8]) -> (u8, SureSink) {
+    let mut sink = SureSink::new(alloc);
+    let outcome = run(alloc, words, &mut SureSource::new(listing), &mut sink);
+    (outcome.status(), sink)
+}
+
+/// The status of a call without words over a listing, and the sink that took its text.
+pub fn reported(alloc: Global, listing: &[u8]) -> (u8, SureSink) {
+    told(alloc, &[], listing)
+}
