@@ -1,6 +1,6 @@
 -- A buffer of a single instruction can be emitted into and finished.
-use Rattle.std.proofs.Common.{◌≡◌, ℕ, ◌+◌, ◌≤◌, Bool, true, false, cond, List, [], ◌∷◌, ◌++◌, length, Option, Some, None, refl, ap, sym, ◌∙◌, subst, arith}
-use Rattle.std.specs.Prelude.{nat_eq, slice_get, is_some}
+use Rattle.std.proofs.Common.{◌≡◌, ℕ, ◌+◌, ◌≤◌, true, false, List, [], ◌∷◌, ◌++◌, length, Option, Some, None, refl, ap, sym, ◌∙◌, subst, arith}
+use Rattle.std.specs.Prelude.{slice_get, is_some}
 use Rattle.std.proofs.lemmas.Bool.{and_parts, eqb-true, true≢false}
 use Rattle.rv_inst.specs.declared.inst.Inst.{Inst}
 use Rattle.rv_inst.specs.declared.inst.Inst.TheVariants.{EmitIsland, Jal, CondBr}
@@ -13,10 +13,9 @@ use Rattle.mach_buffer.specs.declared.uses.Use.{Use}
 use Rattle.mach_buffer.specs.declared.uses.VeneerUse.{VeneerUse}
 use Rattle.mach_buffer.specs.Reach.{CanReach, is_needed, deadlines}
 use Rattle.mach_buffer.specs.Buffer.{bytes_of, uses_of, veneers_of, place_of}
-use Rattle.mach_buffer.specs.Islands.{AreWindows, padding}
+use Rattle.mach_buffer.specs.Islands.{AreWindows}
 use Rattle.mach_buffer.specs.Finish.{before_last, CanFinish}
 use Rattle.mach_buffer.proofs.Blocks.{windows_none}
-use Rattle.mach_buffer.proofs.Islanded.{length_padded}
 use Rattle.mach_buffer.proofs.Slack.{slack_from_reach, reaches_from_slack}
 use Rattle.mach_buffer.proofs.Ends.{last_near}
 use Rattle.rv_emit.specs.Emitted.{Buffer, HasWindows, pending, use_at, uses_in, island_space, inst_sum, PutsBlock, Puts, Emitted, CanEmit, IsBounded}

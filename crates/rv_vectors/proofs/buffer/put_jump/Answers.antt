@@ -14,20 +14,20 @@ emit_island-requires g c =
     let d = c.in_ok-round.ensures in
     let e = c.in_ok-use_label_at_offset.ensures in
     let p = c.in_ok-put4.ensures in
-    let k1 = kept_same c.requires.kept b1 d.sound d.bytes d.uses d.veneers d.places in
+    let k1 = kept_same c.requires.kept b1 d.sound d.code.bytes d.code.uses d.code.veneers d.places in
     let u : Use g.row.L.Denot = record { offset = c.cur_offset-at.result; label = c.in_ok-round.round; kind = c.args.kind; veneer = None } in
     let reach = c.requires.kind.far in
     let number = d.number in
     let more = d.drawn in
-    let still : drawn_of mid ≡ drawn_of b1 = p.drawn ∙ e.drawn in
+    let still : drawn_of mid ≡ drawn_of b1 = p.put.labels.drawn ∙ e.labels.drawn in
     let inner : 2 ^ 30 ≤ c.in_ok-round.round.number = omega (arith, number) in
     let known : IsKnown c.in_ok-round.round.number (drawn_of mid) = omega (arith, number, more, still) in
-    let pending = ap (length {A = ℕ}) (same_pending K.has_veneer K.forward K.backward b b1 d.uses d.places) in
-    let long = ap (length {A = ℕ}) d.bytes in
+    let pending = ap (length {A = ℕ}) (same_pending K.has_veneer K.forward K.backward b b1 d.code.uses d.places) in
+    let long = ap (length {A = ℕ}) d.code.bytes in
     let fits = c.requires.room in
     let room : length (bytes_of b1) + 8 * length (pending_of K.has_veneer K.forward K.backward b1) + 14 < 2147479552 = omega (arith, pending, long, fits) in
     can_island k1 mid p.sound u (0 ∷ 170 ∷ 170 ∷ 170 ∷ []) refl c.cur_offset-at.ensures c.requires.kind.supported refl (omega (arith, reach)) c.in_ok-round.round refl inner known d.unbound d.unnamed
-    (p.bytes ∙ ap (λ s. s ++ 0 ∷ 170 ∷ 170 ∷ 170 ∷ []) e.bytes) (p.uses ∙ e.uses) (p.places ∙ e.places) room
+    (p.put.bytes ∙ ap (λ s. s ++ 0 ∷ 170 ∷ 170 ∷ 170 ∷ []) e.bytes) (p.put.uses ∙ e.uses) (p.put.labels.places ∙ e.labels.places) room
 
 pub returns-clause-kept : goal.returns-clause-kept
 returns-clause-kept g c =
@@ -38,10 +38,10 @@ returns-clause-kept g c =
     let e = c.in_ok-use_label_at_offset.ensures in
     let p = c.in_ok-put4.ensures in
     let i = c.in_ok-emit_island.ensures in
-    let k1 = kept_same c.requires.kept b1 d.sound d.bytes d.uses d.veneers d.places in
+    let k1 = kept_same c.requires.kept b1 d.sound d.code.bytes d.code.uses d.code.veneers d.places in
     let u : Use g.row.L.Denot = record { offset = c.cur_offset-at.result; label = c.in_ok-round.round; kind = c.args.kind; veneer = None } in
-    let windows = windows_one b1 mid k1.windows k1.sound g.met.L.MachInstLabelUse.veneer_ok u (170 ∷ 170 ∷ 170 ∷ []) c.cur_offset-at.ensures c.requires.kind.one (p.bytes ∙ ap (λ s. s ++ 0 ∷ 170 ∷ 170 ∷ 170 ∷ []) e.bytes) (p.uses ∙ e.uses) (p.veneers ∙ e.veneers) in
-    kept_island mid c.emit_island.new.self k1 u c.requires.kind.supported refl (p.uses ∙ e.uses) (p.places ∙ e.places) d.unbound i.sound (i.windows windows) i.island
+    let windows = windows_one b1 mid k1.windows k1.sound g.met.L.MachInstLabelUse.veneer_ok u (170 ∷ 170 ∷ 170 ∷ []) c.cur_offset-at.ensures c.requires.kind.one (p.put.bytes ∙ ap (λ s. s ++ 0 ∷ 170 ∷ 170 ∷ 170 ∷ []) e.bytes) (p.put.uses ∙ e.uses) (p.put.veneers ∙ e.veneers) in
+    kept_island mid c.emit_island.new.self k1 u c.requires.kind.supported refl (p.put.uses ∙ e.uses) (p.put.labels.places ∙ e.labels.places) d.unbound i.sound (i.windows windows) i.island
 
 pub returns-clause-near : goal.returns-clause-near
 returns-clause-near g c =
@@ -53,8 +53,8 @@ returns-clause-near g c =
     let e = c.in_ok-use_label_at_offset.ensures in
     let p = c.in_ok-put4.ensures in
     let u : Use g.row.L.Denot = record { offset = c.cur_offset-at.result; label = c.in_ok-round.round; kind = c.args.kind; veneer = None } in
-    let long : length (bytes_of mid) ≡ length (bytes_of b1) + 4 = ap (length {A = ℕ}) (p.bytes ∙ ap (λ s. s ++ 0 ∷ 170 ∷ 170 ∷ 170 ∷ []) e.bytes) ∙ length-append (bytes_of b1) (0 ∷ 170 ∷ 170 ∷ 170 ∷ []) in
-    let near = island_near K.has_veneer K.forward K.backward b1 mid c.emit_island.new.self u refl (p.uses ∙ e.uses) (p.places ∙ e.places) long p.sound.even c.in_ok-emit_island.ensures.island in
-    let pending = ap (length {A = ℕ}) (same_pending K.has_veneer K.forward K.backward b b1 d.uses d.places) in
-    let same = ap (length {A = ℕ}) d.bytes in
+    let long : length (bytes_of mid) ≡ length (bytes_of b1) + 4 = ap (length {A = ℕ}) (p.put.bytes ∙ ap (λ s. s ++ 0 ∷ 170 ∷ 170 ∷ 170 ∷ []) e.bytes) ∙ length-append (bytes_of b1) (0 ∷ 170 ∷ 170 ∷ 170 ∷ []) in
+    let near = island_near K.has_veneer K.forward K.backward b1 mid c.emit_island.new.self u refl (p.put.uses ∙ e.uses) (p.put.labels.places ∙ e.labels.places) long p.sound.even c.in_ok-emit_island.ensures.island in
+    let pending = ap (length {A = ℕ}) (same_pending K.has_veneer K.forward K.backward b b1 d.code.uses d.places) in
+    let same = ap (length {A = ℕ}) d.code.bytes in
     omega (arith, near, pending, same)

@@ -19,6 +19,6 @@ returns g c =
     let far : 24 ≤ K.forward c.args.kind = omega (arith, reach) in
     record {
       kept = kept_use m.kept c.put2.new.self p.sound g.met.L.MachInstLabelUse.veneer_ok u (17 ∷ []) c.cur_offset-at.ensures c.requires.kind.one c.requires.kind.supported low far
-          (p.bytes ∙ ap (λ s. s ++ 0 ∷ 17 ∷ []) e.bytes) (p.uses ∙ e.uses) (p.veneers ∙ e.veneers) (p.places ∙ e.places)
+          (p.put.bytes ∙ ap (λ s. s ++ 0 ∷ 17 ∷ []) e.bytes) (p.put.uses ∙ e.uses) (p.put.veneers ∙ e.veneers) (p.put.labels.places ∙ e.labels.places)
           (slack_less (length (bytes_of b) + 2) 30 (length (bytes_of b) + 2) 22 (pending_of K.has_veneer K.forward K.backward b) (omega arith) m.slack);
     }
