@@ -1,3 +1,5 @@
+use Rattle.std.proofs.Common.{subst}
+use Rattle.rv_emit.specs.Emitted.{Puts}
 use Rattle.rv_emit.proofs.Blocks.{put_runs}
 use Rattle.rv_emit.proofs.Room.{block_bounds, reach_calm, reach_after, reach_after_island}
 use Rattle.rv_emit.proofs.emit.put.Goals as goal
@@ -16,3 +18,9 @@ returns-in_ok-put_block-in-None-clause-runs c = put_runs c.args.inst.now c.args.
 
 pub returns-in_ok-put_block-in-None-clause-bounds : goal.returns-in_ok-put_block-in-None-clause-bounds
 returns-in_ok-put_block-in-None-clause-bounds c = block_bounds c.args.inst.now c.args.sink.now c.put_block.new.sink c.in_ok-put_block-in-None.ensures.block
+
+pub returns-in_ok-make_room-in-Some-clause-emitted : goal.returns-in_ok-make_room-in-Some-clause-emitted
+returns-in_ok-make_room-in-Some-clause-emitted c = subst (λ space. Puts space c.args.inst.now c.args.sink.now c.make_room.new.sink) c.in-Some.ensures (c.in_ok-make_room-in-Some.field-0, c.in_ok-make_room-in-Some.ensures.made)
+
+pub returns-in_ok-put_block-in-None-clause-emitted : goal.returns-in_ok-put_block-in-None-clause-emitted
+returns-in_ok-put_block-in-None-clause-emitted c = subst (λ space. Puts space c.args.inst.now c.args.sink.now c.put_block.new.sink) c.in-None.ensures c.in_ok-put_block-in-None.ensures.block
