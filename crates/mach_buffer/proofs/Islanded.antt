@@ -1,7 +1,7 @@
 -- From the parts of an island to what it brings.
 use Rattle.std.proofs.Common.{◌≡◌, ◌≢◌, ℕ, zero, suc, ◌+◌, ◌-◌, ◌*◌, ◌%◌, ◌<◌, ◌≤◌, ⊎_elim, Bool, true, false, not, ◌&&◌, cond, List, [], ◌∷◌, ◌++◌, length, take, Option, Some, refl, ap, sym, ◌∙◌, subst, arith}
-use Rattle.std.specs.Prelude.{slice_get, nat_le, nat_eq, is_none}
-use Rattle.std.proofs.lemmas.Bool.{true≢false, and_left, and_right, and_cases, and_from, cases_eq, le-leb, ne_eqb, ltb-false}
+use Rattle.std.specs.Prelude.{slice_get, nat_le, nat_eq, is_none, if◌then◌else◌, ◌^◌}
+use Rattle.std.proofs.lemmas.Bool.{true≢false, and_left, and_right, and_cases, and_from, cases_eq, le-leb, le-ltb, ne_eqb, ltb-false}
 use Rattle.std.proofs.lemmas.Option.{same_Some}
 use Rattle.std.proofs.lemmas.List.{length-append, take-take}
 use Rattle.rv_base.specs.declared.label.MachLabel.{MachLabel}
@@ -10,7 +10,7 @@ use Rattle.mach_buffer.specs.declared.uses.Use.{Use}
 use Rattle.mach_buffer.specs.declared.uses.VeneerUse.{VeneerUse}
 use Rattle.mach_buffer.specs.declared.uses.Turn.{Turn}
 use Rattle.mach_buffer.specs.Reach.{deadline, deadlines, is_reached, is_pending, is_other}
-use Rattle.mach_buffer.specs.Buffer.{core, recorded, IsKnown, IsLinked, HaveTurns, AreSound}
+use Rattle.mach_buffer.specs.Buffer.{core, recorded, listed, IsKnown, IsLinked, HaveTurns, AreSound}
 use Rattle.mach_buffer.specs.Islands.{aligned, zeros, padding, needs_own, first_of, island_end, own_jump, IsRound, HasRound, OwnPut, VeneersPut, AreIslanded}
 use Rattle.mach_buffer.proofs.Others.{own_idle}
 use Rattle.mach_buffer.proofs.Slack.{none_waits, none_from}
@@ -191,3 +191,15 @@ own_short {L} {forward} {bytes} {own_bytes} {uses} {own_uses} {round} {count} o 
     on : (b : Bool) → length own_bytes ≡ cond b (length bytes + 8) (length bytes) → (length own_bytes ≤ length bytes + 8) × (length bytes ≤ length own_bytes)
     on true e = (omega arith, omega arith)
     on false e = (omega arith, omega arith)
+
+-- an island begins before it ends
+pub start_before : (start count last limit : ℕ) → island_end start count last < limit → start < limit
+start_before start count last limit = on (needs_own start count last)
+  where
+    on : (b : Bool) → cond b (start + 8) start + 8 * count < limit → start < limit
+    on true lt = omega arith
+    on false lt = omega arith
+
+-- the label of an island's end is no listing's
+pub unlisted : (label : MachLabel) (at : ℕ) → 2 ^ 30 ≤ label.number → listed label at ≡ []
+unlisted label at le = ap (λ b. if b then record { label = label; offset = at } ∷ [] else []) (le-ltb _ _ le)

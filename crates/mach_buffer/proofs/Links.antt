@@ -47,6 +47,11 @@ within_from_some [] i P h = absurd h
 within_from_some (x ∷ xs) zero P h = omega arith
 within_from_some (x ∷ xs) (suc i) P h = let below : i < length xs = within_from_some xs i P h in omega arith
 
+pub within_from_get : {X : Type 0} (xs : List X) (i : ℕ) (x : X) → slice_get xs i ≡ Some x → i < length xs
+within_from_get [] i x h = absurd (cc)
+within_from_get (y ∷ xs) zero x h = omega arith
+within_from_get (y ∷ xs) (suc i) x h = let below : i < length xs = within_from_get xs i x h in omega arith
+
 -- what is said of the element there
 pub some_is : {X : Type 0} (o : Option X) (P : X → Type 0) (x : X) → o ≡ Some x → IsSomeAnd o P → P x
 some_is None P x e h = absurd h

@@ -1,11 +1,11 @@
-use Rattle.std.proofs.Common.{arith, ◌≡◌, ◌<◌, ◌-◌, ◌≢◌, Some, refl, ap, sym, ◌∙◌, subst, length, ℕ, [], Option, List}
+use Rattle.std.proofs.Common.{arith, ◌≡◌, ◌<◌, ◌-◌, ◌≢◌, Some, refl, ap, sym, ◌∙◌, ◌++◌, subst, length, ℕ, [], Option, List}
 use Rattle.mach_buffer.specs.declared.uses.Use.{Use}
-use Rattle.mach_buffer.specs.Buffer.{bytes_of, uses_of, turns_of, place_of, IsKnown}
+use Rattle.mach_buffer.specs.Buffer.{bytes_of, uses_of, turns_of, place_of, labels_of, HaveTurns, IsKnown}
 use Rattle.mach_buffer.specs.Reach.{is_pending, is_other, deadline, deadlines, StillReaches, CanReach}
 use Rattle.mach_buffer.specs.Islands.{aligned, padding, island_end, others_of, HasRound, OwnPut, VeneersPut}
-use Rattle.mach_buffer.proofs.Added.{added_none, added_more}
+use Rattle.mach_buffer.proofs.Added.{added_none, added_more, append_none}
 use Rattle.mach_buffer.proofs.Apart.{windows_bytes, windows_as}
-use Rattle.mach_buffer.proofs.Islanded.{length_padded, aligned_near, island_parts, island_sound, islanded_as, room_left, own_short}
+use Rattle.mach_buffer.proofs.Islanded.{start_before, unlisted, length_padded, aligned_near, island_parts, island_sound, islanded_as, room_left, own_short}
 use Rattle.mach_buffer.proofs.Others.{other_pending, others_as}
 use Rattle.mach_buffer.proofs.Rounds.{round_padded}
 use Rattle.mach_buffer.proofs.Slack.{slack_from_reach, reaches_from_slack}
@@ -33,6 +33,27 @@ has_round g c count e =
     (subst (λ n. island_end (aligned (length (bytes_of c.args.self.now))) n (deadline K.forward c.requires.jump.jump) < 2147479552) (sym e) c.requires.room)
 
 -- ---- what the calls ask
+
+pub pad-requires-clause-room : goal.pad-requires-clause-room
+pad-requires-clause-room g c = start_before _ _ _ _ c.requires.room
+
+pub put_own-requires-clause-even : goal.put_own-requires-clause-even
+put_own-requires-clause-even g c = c.in_ok-pad.ensures.sound.even
+
+pub put_own-requires-clause-linked : goal.put_own-requires-clause-linked
+put_own-requires-clause-linked g c = c.in_ok-pad.ensures.sound.linked
+
+pub put_waiting-requires-clause-even : goal.put_waiting-requires-clause-even
+put_waiting-requires-clause-even g c = c.in_ok-put_own.ensures.even
+
+pub put_waiting-requires-clause-linked : goal.put_waiting-requires-clause-linked
+put_waiting-requires-clause-linked g c = c.in_ok-put_own.ensures.linked
+
+pub put_waiting-requires-clause-waits : goal.put_waiting-requires-clause-waits
+put_waiting-requires-clause-waits g c =
+    let K = g.L.MachInstLabelUse in
+    let o = c.in_ok-put_own.ensures in
+    subst (λ p. HaveTurns K.forward (is_other K.has_veneer K.forward K.backward p (Some c.args.round)) (turns_of c.put_own.new.self) (uses_of c.put_own.new.self)) (sym o.labels.places) o.waits
 
 pub count_others-count-requires : goal.count_others-count-requires
 count_others-count-requires g c = let K = g.L.MachInstLabelUse in record { waits = turns_fewer _ (other_pending K.has_veneer K.forward K.backward (place_of c.pad.new.self) (Some c.args.round)) c.in_ok-pad.ensures.sound.waits }
@@ -125,3 +146,12 @@ returns-clause-grown g c =
     let short = own_short o.put in
     added_more (omega (arith, long g d)) (added_none (length (bytes_of c.args.self.now)) c.in_ok-pad.ensures.put.veneers)
     (added_more short.1 o.grown (added_more (omega arith) c.in_ok-put_waiting.ensures.grown (added_none (length (bytes_of c.put_own.new.self)) c.in_ok-place_label.ensures.code.veneers)))
+
+pub returns-clause-labels : goal.returns-clause-labels
+returns-clause-labels g c =
+    let l = c.in_ok-place_label.ensures.binds in
+    l.labels ∙ ap (λ more. labels_of c.put_waiting.new.self ++ more) (unlisted c.args.round (length (bytes_of c.put_waiting.new.self)) c.requires.inner) ∙ append_none (labels_of c.put_waiting.new.self)
+    ∙ c.in_ok-put_waiting.ensures.labels.labels ∙ c.in_ok-put_own.ensures.labels.labels ∙ c.in_ok-pad.ensures.put.labels.labels
+
+pub returns-clause-drawn : goal.returns-clause-drawn
+returns-clause-drawn g c = c.in_ok-place_label.ensures.drawn ∙ c.in_ok-put_waiting.ensures.labels.drawn ∙ c.in_ok-put_own.ensures.labels.drawn ∙ c.in_ok-pad.ensures.put.labels.drawn

@@ -1,4 +1,4 @@
-use Rattle.std.proofs.Common.{arith, rules, sym, ◌∙◌, ◌≡◌, ◌<◌, ◌^◌, length}
+use Rattle.std.proofs.Common.{arith, rules, ap, sym, ◌∙◌, ◌≡◌, ◌<◌, ◌^◌, length}
 use Rattle.mach_buffer.specs.Buffer.{bytes_of, turns_of}
 use Rattle.mach_buffer.proofs.Needed.{scan_skip, scan_next, scan_end, scan_found, scan_far, scan_few, scan_turn}
 use Rattle.mach_buffer.proofs.buffer.MachBuffer.island_needed.Goals as goal
@@ -14,6 +14,12 @@ returns-then-turn-here g c =
     let len : c.len.result ≡ length (bytes_of c.args.self.now) = search rules in
     let own = c.requires.sound.waits in
     sym (scan_found (length (bytes_of c.args.self.now)) c.args.distance own c.iter-turn-items.ensures.ordered c.loop-turn.invariant c.in-Some.ensures.steps (sym c.is_pending.ensures ∙ c.if-is_pending.true) (omega (arith, len, c.if-turn-here.true)))
+
+pub loop-turn-smaller-else-turn-here : goal.loop-turn-smaller-else-turn-here
+loop-turn-smaller-else-turn-here g c = let steps = ap length c.in-Some.ensures.steps in omega (arith, steps)
+
+pub loop-turn-smaller : goal.loop-turn-smaller
+loop-turn-smaller g c = let steps = ap length c.in-Some.ensures.steps in omega (arith, steps)
 
 pub loop-turn-preserved-else-turn-here : goal.loop-turn-preserved-else-turn-here
 loop-turn-preserved-else-turn-here g c =

@@ -7,6 +7,7 @@ use Rattle.mach_buffer.proofs.Added.{added_none, added_more}
 use Rattle.mach_buffer.proofs.Apart.{windows_as}
 use Rattle.mach_buffer.proofs.Ends.{windows_before, before_longer}
 use Rattle.mach_buffer.proofs.Others.{other_none, other_pending}
+use Rattle.mach_buffer.proofs.Same.{labels_then}
 use Rattle.mach_buffer.proofs.Turns.{turns_fewer}
 use Rattle.mach_buffer.proofs.buffer.MachBuffer.put_last.Goals as goal
 
@@ -80,3 +81,21 @@ returns-clause-grown g c =
     let longer = before_longer (bytes_of b) (length (pending_of K.has_veneer K.forward K.backward b)) in
     let long = ap (length {A = ℕ}) e.bytes in
     added_more (omega (arith, longer, long)) (added_none (length (bytes_of b)) e.veneers) c.in_ok-put_waiting.ensures.grown
+
+pub put_waiting-requires-clause-even : goal.put_waiting-requires-clause-even
+put_waiting-requires-clause-even g c = c.in_ok-pad_last.ensures.sound.even
+
+pub put_waiting-requires-clause-linked : goal.put_waiting-requires-clause-linked
+put_waiting-requires-clause-linked g c = c.in_ok-pad_last.ensures.sound.linked
+
+pub returns-in_err-put_waiting-clause-labels : goal.returns-in_err-put_waiting-clause-labels
+returns-in_err-put_waiting-clause-labels g c = labels_then c.pad_last.ensures.labels c.put_waiting.ensures.labels
+
+pub returns-clause-labels : goal.returns-clause-labels
+returns-clause-labels g c = labels_then c.pad_last.ensures.labels c.put_waiting.ensures.labels
+
+pub returns-clause-linked : goal.returns-clause-linked
+returns-clause-linked g c = c.in_ok-put_waiting.ensures.linked
+
+pub returns-clause-memory : goal.returns-clause-memory
+returns-clause-memory g c = (c.in_ok-pad_last.ensures.memory.0, c.in_ok-put_waiting.ensures.memory.1)

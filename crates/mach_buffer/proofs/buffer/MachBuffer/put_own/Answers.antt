@@ -29,6 +29,9 @@ supported g c = round_supported c.requires.round.jump c.use_of-index.result c.in
 eight : (g : given.Over) (c : After-deadline g) → length (g.L.MachInstLabelUse.veneer c.index.result.now.kind).bytes ≡ 8
 eight g c = (g.met.L.MachInstLabelUse.veneer_ok c.index.result.now.kind (supported g c)).eight
 
+pub index-requires : goal.index-requires
+index-requires g c = let at = within_from_some (uses_of c.args.self.now) c.use_of-index.result _ c.use_of-index.ensures in omega (arith, at)
+
 -- ---- its veneer
 
 pub put_veneer-requires-clause-there : goal.put_veneer-requires-clause-there

@@ -1,14 +1,24 @@
-use Rattle.std.proofs.Common.{arith, refl, ◌≡◌, ◌∙◌, true, false, ap, sym, subst}
+use Rattle.std.proofs.Common.{arith, refl, ◌≡◌, ◌∙◌, true, false, ap, sym, subst, length}
 use Rattle.mach_buffer.specs.Buffer.{bytes_of, uses_of, veneers_of, place_of, recorded}
 use Rattle.mach_buffer.specs.Reach.{is_other}
 use Rattle.mach_buffer.proofs.Added.{added_one}
 use Rattle.mach_buffer.proofs.Apart.{windows_veneer}
 use Rattle.mach_buffer.proofs.Links.{recorded_set}
 use Rattle.mach_buffer.proofs.Others.{other_clears, other_supported}
-use Rattle.mach_buffer.proofs.Putting.{putting_pass, putting_near, putting_room, putting_next, putting_end, putting_as, putting_turn}
+use Rattle.mach_buffer.proofs.Putting.{putting_start, putting_pass, putting_near, putting_room, putting_next, putting_end, putting_as, putting_turn}
 use Rattle.mach_buffer.proofs.Same.{labels_then}
 use Rattle.mach_buffer.proofs.Turns.{turns_end}
 use Rattle.mach_buffer.proofs.buffer.MachBuffer.put_waiting.Goals as goal
+
+pub loop-turn-init : goal.loop-turn-init
+loop-turn-init g c =
+    let K = g.L.MachInstLabelUse in
+    let r = c.requires in (
+      putting_start (other_clears K.has_veneer K.forward K.backward (place_of c.args.self.now) c.args.round) r.linked r.even r.waits r.reach,
+      record { places = refl; labels = refl; drawn = refl },
+      c.in_ok-check.ensures.ok,
+      c.in_ok-check.ensures.ok,
+    )
 
 pub put_veneer-requires : goal.put_veneer-requires
 put_veneer-requires g c =
@@ -58,6 +68,18 @@ loop-turn-preserved g c =
       c.loop-turn.invariant.3,
     )
 
+pub loop-turn-smaller-in-Continue-branch-2 : goal.loop-turn-smaller-in-Continue-branch-2
+loop-turn-smaller-in-Continue-branch-2 g c =
+    let first = ap length c.in-Some.ensures.first in
+    let same = ap length c.in_ok-put_veneer.ensures.turns in
+    omega (arith, first, same)
+
+pub loop-turn-smaller : goal.loop-turn-smaller
+loop-turn-smaller g c = let first = ap length c.in-Some.ensures.first in omega (arith, first)
+
+pub returns-in_err-put_veneer-clause-labels : goal.returns-in_err-put_veneer-clause-labels
+returns-in_err-put_veneer-clause-labels g c = labels_then (labels_then c.loop-turn.invariant.1 c.take_turn.ensures.rest.labels) c.in_err-put_veneer.ensures.labels
+
 pub returns-clause-put : goal.returns-clause-put
 returns-clause-put g c = let t = c.take_turn.ensures.rest.code in putting_end (putting_as c.loop-turn.invariant.0 t.bytes t.uses t.veneers refl) c.in_default.ensures.none.0
 
@@ -66,3 +88,9 @@ returns-clause-none g c = let t = c.take_turn.ensures.rest.code in turns_end (pu
 
 pub returns-clause-labels : goal.returns-clause-labels
 returns-clause-labels g c = labels_then c.loop-turn.invariant.1 c.take_turn.ensures.rest.labels
+
+pub returns-clause-turns : goal.returns-clause-turns
+returns-clause-turns g c = c.in_default.ensures.none.1
+
+pub returns-clause-memory : goal.returns-clause-memory
+returns-clause-memory g c = (c.loop-turn.invariant.3, c.take_turn.ensures.rest.spoiled ∙ c.loop-turn.invariant.2)
