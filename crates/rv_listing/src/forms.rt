@@ -8,7 +8,7 @@ ghost use Rattle.rv_listing.specs.Forms.{args_row, rets_row, nop0_row, nop4_row,
 
 use crate::fields::{LineError, Token, allowed, field, whole};
 use crate::pairs::listed;
-use crate::tokens::next_word;
+use crate::tokens::{is, next_word};
 use rv_base::list::List;
 use rv_inst::inst::{Inst, Line};
 use rv_ops::compare::IntegerCompare;
@@ -225,17 +225,17 @@ fn bind(rest: &[u8]) -> Option<Line>
 fn marks(name: &[u8], rest: &[u8]) -> Option<Inst>
     ensures { result ≡ marks_row name.now (more rest.now) }
 {
-    if name == b"Nop0".as_slice() {
+    if is(b"Nop0", name) {
         nop0(rest)
-    } else if name == b"Nop4".as_slice() {
+    } else if is(b"Nop4", name) {
         nop4(rest)
-    } else if name == b"EBreak".as_slice() {
+    } else if is(b"EBreak", name) {
         ebreak(rest)
-    } else if name == b"SequencePoint".as_slice() {
+    } else if is(b"SequencePoint", name) {
         sequence_point(rest)
-    } else if name == b"DummyUse".as_slice() {
+    } else if is(b"DummyUse", name) {
         dummy_use(rest)
-    } else if name == b"EmitIsland".as_slice() {
+    } else if is(b"EmitIsland", name) {
         emit_island(rest)
     } else {
         None
@@ -247,17 +247,17 @@ fn marks(name: &[u8], rest: &[u8]) -> Option<Inst>
 fn plain(name: &[u8], rest: &[u8]) -> Option<Inst>
     ensures { result ≡ plain_row name.now (more rest.now) }
 {
-    if name == b"Lui".as_slice() {
+    if is(b"Lui", name) {
         lui(rest)
-    } else if name == b"Auipc".as_slice() {
+    } else if is(b"Auipc", name) {
         auipc(rest)
-    } else if name == b"AluRRR".as_slice() {
+    } else if is(b"AluRRR", name) {
         alu_rrr(rest)
-    } else if name == b"AluRRImm12".as_slice() {
+    } else if is(b"AluRRImm12", name) {
         alu_rr_imm12(rest)
-    } else if name == b"Mov".as_slice() {
+    } else if is(b"Mov", name) {
         mov(rest)
-    } else if name == b"MovFromPReg".as_slice() {
+    } else if is(b"MovFromPReg", name) {
         mov_from_preg(rest)
     } else {
         None
@@ -269,13 +269,13 @@ fn plain(name: &[u8], rest: &[u8]) -> Option<Inst>
 fn control(name: &[u8], rest: &[u8]) -> Option<Inst>
     ensures { result ≡ control_row name.now (more rest.now) }
 {
-    if name == b"Ret".as_slice() {
+    if is(b"Ret", name) {
         ret(rest)
-    } else if name == b"Jal".as_slice() {
+    } else if is(b"Jal", name) {
         jal(rest)
-    } else if name == b"CondBr".as_slice() {
+    } else if is(b"CondBr", name) {
         cond_br(rest)
-    } else if name == b"Jalr".as_slice() {
+    } else if is(b"Jalr", name) {
         jalr(rest)
     } else {
         None
@@ -300,9 +300,9 @@ fn flat(name: &[u8], rest: &[u8]) -> Option<Inst>
 fn inst(alloc: Global, name: &[u8], rest: &[u8]) -> Result<Inst, LineError>
     ensures { Makes result (inst_row name.now (more rest.now)) }
 {
-    if name == b"Args".as_slice() {
+    if is(b"Args", name) {
         args(alloc, rest)
-    } else if name == b"Rets".as_slice() {
+    } else if is(b"Rets", name) {
         rets(alloc, rest)
     } else {
         allowed(flat(name, rest))
@@ -314,7 +314,7 @@ fn inst(alloc: Global, name: &[u8], rest: &[u8]) -> Result<Inst, LineError>
 pub fn line(alloc: Global, name: &[u8], rest: &[u8]) -> Result<Line, LineError>
     ensures { Makes result (line_row name.now (more rest.now)) }
 {
-    if name == b"Bind".as_slice() {
+    if is(b"Bind", name) {
         return allowed(bind(rest));
     }
     Ok(Line::Inst(inst(alloc, name, rest)?))
