@@ -40,6 +40,7 @@ fn virtual_register(number: u64) -> Option<Reg>
     }
 }
 
+// The number that a name stands for, by the number behind its first letter.
 fn argument(w: &[u8]) -> Option<u64>
     ensures { result ≡ and_then (decimal (drop 1 w.now)) argument }
 {
@@ -99,6 +100,7 @@ fn float_saved(w: &[u8]) -> Option<u64>
     }
 }
 
+// The names without a number.
 #[tactic(auto, unfolding(crate::specs::Registers::named))]
 fn named(w: &[u8]) -> Option<Reg>
     ensures { result ≡ named w.now }
@@ -140,7 +142,7 @@ fn float(w: &[u8]) -> Option<Reg>
 
 // A name that isn't an integer register's.
 fn other(w: &[u8]) -> Option<Reg>
-    ensures { result ≡ (if starts 102 w.now then float (drop 1 w.now) else if starts 118 w.now then (and_then (decimal (drop 1 w.now)) (real Vector)) else if starts 37 w.now then (and_then (decimal (drop 1 w.now)) virtual_register) else None) }
+    ensures { result ≡ (if starts 102 w.now then float (drop 1 w.now) else if starts 118 w.now then and_then (decimal (drop 1 w.now)) (real Vector) else if starts 37 w.now then and_then (decimal (drop 1 w.now)) virtual_register else None) }
 {
     if starts(b'f', w) {
         float(tail(w))
@@ -153,6 +155,7 @@ fn other(w: &[u8]) -> Option<Reg>
     }
 }
 
+// A name that is a letter, or `%`, and a number.
 #[tactic(auto, unfolding(crate::specs::Registers::lettered))]
 fn lettered(w: &[u8]) -> Option<Reg>
     ensures { result ≡ lettered w.now }
