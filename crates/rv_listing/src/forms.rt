@@ -4,45 +4,17 @@ ghost use Rattle.std.specs.Prelude.{◌≡◌};
 ghost use Rattle.rv_listing.specs.Tokens.{more};
 ghost use Rattle.rv_listing.specs.Fields.{Makes, TakesFirst, field};
 ghost use Rattle.rv_listing.specs.Pairs.{listed};
-ghost use Rattle.rv_listing.specs.Forms.{args_row, rets_row, nop0_row, nop4_row, ebreak_row, sequence_point_row, dummy_use_row, emit_island_row, lui_row, auipc_row, alu_rrr_row, alu_rr_imm12_row, mov_row, mov_from_preg_row, ret_row, jal_row, cond_br_row, jalr_row, bind_row, marks_row, plain_row, control_row, flat_row, inst_row, line_row};
+ghost use Rattle.rv_listing.specs.Forms.{args_row, rets_row, dummy_use_row, emit_island_row, lui_row, auipc_row, alu_rrr_row, alu_rr_imm12_row, mov_row, mov_from_preg_row, jal_row, cond_br_row, jalr_row, bind_row, marks_row, plain_row, control_row, flat_row, inst_row, line_row};
 
 use crate::fields::{LineError, Token, allowed, field, whole};
 use crate::pairs::listed;
-use crate::tokens::next_word;
+use crate::tokens::{is, next_word};
 use rv_base::list::List;
 use rv_inst::inst::{Inst, Line};
 use rv_ops::compare::IntegerCompare;
 use std::alloc::Global;
 
 // ---- those that compute nothing
-
-#[tactic(auto, unfolding(crate::specs::Forms::nop0_row))]
-fn nop0(rest: &[u8]) -> Option<Inst>
-    ensures { result ≡ nop0_row (more rest.now) }
-{
-    whole(Inst::Nop0, rest)
-}
-
-#[tactic(auto, unfolding(crate::specs::Forms::nop4_row))]
-fn nop4(rest: &[u8]) -> Option<Inst>
-    ensures { result ≡ nop4_row (more rest.now) }
-{
-    whole(Inst::Nop4, rest)
-}
-
-#[tactic(auto, unfolding(crate::specs::Forms::ebreak_row))]
-fn ebreak(rest: &[u8]) -> Option<Inst>
-    ensures { result ≡ ebreak_row (more rest.now) }
-{
-    whole(Inst::EBreak, rest)
-}
-
-#[tactic(auto, unfolding(crate::specs::Forms::sequence_point_row))]
-fn sequence_point(rest: &[u8]) -> Option<Inst>
-    ensures { result ≡ sequence_point_row (more rest.now) }
-{
-    whole(Inst::SequencePoint, rest)
-}
 
 #[tactic(auto, unfolding(crate::specs::Forms::dummy_use_row))]
 fn dummy_use(rest: &[u8]) -> Option<Inst>
@@ -166,13 +138,6 @@ fn mov_from_preg(rest: &[u8]) -> Option<Inst>
 
 // ---- those that go elsewhere
 
-#[tactic(auto, unfolding(crate::specs::Forms::ret_row))]
-fn ret(rest: &[u8]) -> Option<Inst>
-    ensures { result ≡ ret_row (more rest.now) }
-{
-    whole(Inst::Ret, rest)
-}
-
 #[tactic(auto, unfolding(crate::specs::Forms::cond_br_row))]
 fn cond_br(rest: &[u8]) -> Option<Inst>
     ensures { result ≡ cond_br_row (more rest.now) }
@@ -221,25 +186,26 @@ fn bind(rest: &[u8]) -> Option<Line>
 }
 
 // Those that compute nothing, save the lists.
-#[tactic(auto, unfolding(crate::specs::Forms::marks_row))]
+#[tactic(auto, unfolding(crate::specs::Forms::marks_row, crate::specs::Forms::nop0_row, crate::specs::Forms::nop4_row, crate::specs::Forms::ebreak_row, crate::specs::Forms::sequence_point_row))]
 fn marks(name: &[u8], rest: &[u8]) -> Option<Inst>
     ensures { result ≡ marks_row name.now (more rest.now) }
 {
-    if name == b"Nop0".as_slice() {
-        nop0(rest)
-    } else if name == b"Nop4".as_slice() {
-        nop4(rest)
-    } else if name == b"EBreak".as_slice() {
-        ebreak(rest)
-    } else if name == b"SequencePoint".as_slice() {
-        sequence_point(rest)
-    } else if name == b"DummyUse".as_slice() {
-        dummy_use(rest)
-    } else if name == b"EmitIsland".as_slice() {
-        emit_island(rest)
+    let inst = if is(b"Nop0", name) {
+        Inst::Nop0
+    } else if is(b"Nop4", name) {
+        Inst::Nop4
+    } else if is(b"EBreak", name) {
+        Inst::EBreak
+    } else if is(b"SequencePoint", name) {
+        Inst::SequencePoint
+    } else if is(b"DummyUse", name) {
+        return dummy_use(rest);
+    } else if is(b"EmitIsland", name) {
+        return emit_island(rest);
     } else {
-        None
-    }
+        return None;
+    };
+    whole(inst, rest)
 }
 
 // Those that write registers, and go on.
@@ -247,17 +213,17 @@ fn marks(name: &[u8], rest: &[u8]) -> Option<Inst>
 fn plain(name: &[u8], rest: &[u8]) -> Option<Inst>
     ensures { result ≡ plain_row name.now (more rest.now) }
 {
-    if name == b"Lui".as_slice() {
+    if is(b"Lui", name) {
         lui(rest)
-    } else if name == b"Auipc".as_slice() {
+    } else if is(b"Auipc", name) {
         auipc(rest)
-    } else if name == b"AluRRR".as_slice() {
+    } else if is(b"AluRRR", name) {
         alu_rrr(rest)
-    } else if name == b"AluRRImm12".as_slice() {
+    } else if is(b"AluRRImm12", name) {
         alu_rr_imm12(rest)
-    } else if name == b"Mov".as_slice() {
+    } else if is(b"Mov", name) {
         mov(rest)
-    } else if name == b"MovFromPReg".as_slice() {
+    } else if is(b"MovFromPReg", name) {
         mov_from_preg(rest)
     } else {
         None
@@ -265,17 +231,17 @@ fn plain(name: &[u8], rest: &[u8]) -> Option<Inst>
 }
 
 // Those that go elsewhere.
-#[tactic(auto, unfolding(crate::specs::Forms::control_row))]
+#[tactic(auto, unfolding(crate::specs::Forms::control_row, crate::specs::Forms::ret_row))]
 fn control(name: &[u8], rest: &[u8]) -> Option<Inst>
     ensures { result ≡ control_row name.now (more rest.now) }
 {
-    if name == b"Ret".as_slice() {
-        ret(rest)
-    } else if name == b"Jal".as_slice() {
+    if is(b"Ret", name) {
+        whole(Inst::Ret, rest)
+    } else if is(b"Jal", name) {
         jal(rest)
-    } else if name == b"CondBr".as_slice() {
+    } else if is(b"CondBr", name) {
         cond_br(rest)
-    } else if name == b"Jalr".as_slice() {
+    } else if is(b"Jalr", name) {
         jalr(rest)
     } else {
         None
@@ -300,9 +266,9 @@ fn flat(name: &[u8], rest: &[u8]) -> Option<Inst>
 fn inst(alloc: Global, name: &[u8], rest: &[u8]) -> Result<Inst, LineError>
     ensures { Makes result (inst_row name.now (more rest.now)) }
 {
-    if name == b"Args".as_slice() {
+    if is(b"Args", name) {
         args(alloc, rest)
-    } else if name == b"Rets".as_slice() {
+    } else if is(b"Rets", name) {
         rets(alloc, rest)
     } else {
         allowed(flat(name, rest))
@@ -314,7 +280,7 @@ fn inst(alloc: Global, name: &[u8], rest: &[u8]) -> Result<Inst, LineError>
 pub fn line(alloc: Global, name: &[u8], rest: &[u8]) -> Result<Line, LineError>
     ensures { Makes result (line_row name.now (more rest.now)) }
 {
-    if name == b"Bind".as_slice() {
+    if is(b"Bind", name) {
         return allowed(bind(rest));
     }
     Ok(Line::Inst(inst(alloc, name, rest)?))

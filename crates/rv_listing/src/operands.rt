@@ -7,7 +7,7 @@ ghost use Rattle.rv_listing.specs.Operands.{writable, real_register, imm12_of, i
 
 use crate::fields::Token;
 use crate::registers::register;
-use crate::tokens::{decimal, natural, signed, starts, tail};
+use crate::tokens::{is, natural, number, signed, starts};
 use rv_base::label::MachLabel;
 use rv_base::regs::{PReg, Reg, Writable};
 use rv_imms::imm12::Imm12;
@@ -106,7 +106,7 @@ impl Token for MachLabel {
         if !starts(b'L', w) {
             return None;
         }
-        let n = decimal(tail(w))?;
+        let n = number(w)?;
         if n < 0x1_0000_0000 {
             Some(MachLabel { number: n as u32 })
         } else {
@@ -120,7 +120,7 @@ impl Token for CondBrTarget {
 
     #[tactic(auto, unfolding(crate::specs::Operands::target))]
     fn read(w: &[u8]) -> Option<CondBrTarget> {
-        if w == b"-".as_slice() {
+        if is(b"-", w) {
             return Some(CondBrTarget::Fallthrough);
         }
         Some(CondBrTarget::Label(MachLabel::read(w)?))

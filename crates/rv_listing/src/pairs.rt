@@ -6,7 +6,7 @@ ghost use Rattle.rv_listing.specs.Pairs.{arg_pair, listed, ret_pair};
 
 use crate::fields::{LineError, Token};
 use crate::registers::register;
-use crate::tokens::{first_part, next_part, two_parts};
+use crate::tokens::{first_part, is, next_part, two_parts};
 use rv_base::call::{ArgPair, RetPair};
 use rv_base::list::List;
 use rv_base::regs::Writable;
@@ -57,7 +57,7 @@ pub fn listed<T: Token + Drop>(alloc: Global, w: &[u8]) -> Result<List<T>, LineE
     ensures { Makes result (listed T.reads w.now) }
 {
     let mut made = List::new(alloc);
-    if w == b"-".as_slice() {
+    if is(b"-", w) {
         return Ok(made);
     }
     let (part, rest) = first_part(b',', w);

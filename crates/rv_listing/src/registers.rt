@@ -1,11 +1,13 @@
 //! Registers by name: `x`, `f` or `v` and a number, the names of the calling convention, and virtual ones.
 
-ghost use Rattle.std.specs.Prelude.{◌≡◌, ℕ, ◌<◌};
+ghost use Rattle.std.specs.Prelude.{◌≡◌, ℕ, ◌<◌, None, drop, if◌then◌else◌};
 ghost use Rattle.rv_base.specs.declared.regs.RegClass.{RegClass};
+ghost use Rattle.rv_base.specs.declared.regs.RegClass.TheVariants.{Vector};
 ghost use Rattle.rv_base.specs.Names.{real_name};
+ghost use Rattle.rv_listing.specs.Tokens.{◌>>=◌ as and_then, decimal, starts};
 ghost use Rattle.rv_listing.specs.Registers.{argument, float, float_saved, float_temporary, lettered, named, real, register, saved, temporary, virtual_register};
 
-use crate::tokens::{decimal, starts, tail};
+use crate::tokens::{decimal, is, number, starts, tail};
 use rv_base::regs::{PReg, Reg, RegClass, VirtualReg};
 
 #[tactic(auto, unfolding(crate::specs::Registers::real))]
@@ -38,15 +40,18 @@ fn virtual_register(number: u64) -> Option<Reg>
     }
 }
 
-fn argument(n: u64) -> Option<u64>
-    ensures { result ≡ argument n }
+// The number that a name stands for, by the number behind its first letter.
+fn argument(w: &[u8]) -> Option<u64>
+    ensures { result ≡ and_then (decimal (drop 1 w.now)) argument }
 {
+    let n = number(w)?;
     if n < 8 { Some(10 + n) } else { None }
 }
 
-fn temporary(n: u64) -> Option<u64>
-    ensures { result ≡ temporary n }
+fn temporary(w: &[u8]) -> Option<u64>
+    ensures { result ≡ and_then (decimal (drop 1 w.now)) temporary }
 {
+    let n = number(w)?;
     if n < 3 {
         Some(5 + n)
     } else if n < 7 {
@@ -56,9 +61,10 @@ fn temporary(n: u64) -> Option<u64>
     }
 }
 
-fn saved(n: u64) -> Option<u64>
-    ensures { result ≡ saved n }
+fn saved(w: &[u8]) -> Option<u64>
+    ensures { result ≡ and_then (decimal (drop 1 w.now)) saved }
 {
+    let n = number(w)?;
     if n == 1 {
         Some(9)
     } else if 2 <= n && n < 12 {
@@ -68,9 +74,10 @@ fn saved(n: u64) -> Option<u64>
     }
 }
 
-fn float_temporary(n: u64) -> Option<u64>
-    ensures { result ≡ float_temporary n }
+fn float_temporary(w: &[u8]) -> Option<u64>
+    ensures { result ≡ and_then (decimal (drop 1 w.now)) float_temporary }
 {
+    let n = number(w)?;
     if n < 8 {
         Some(n)
     } else if n < 12 {
@@ -80,9 +87,10 @@ fn float_temporary(n: u64) -> Option<u64>
     }
 }
 
-fn float_saved(n: u64) -> Option<u64>
-    ensures { result ≡ float_saved n }
+fn float_saved(w: &[u8]) -> Option<u64>
+    ensures { result ≡ and_then (decimal (drop 1 w.now)) float_saved }
 {
+    let n = number(w)?;
     if n < 2 {
         Some(8 + n)
     } else if n < 12 {
@@ -92,25 +100,27 @@ fn float_saved(n: u64) -> Option<u64>
     }
 }
 
+// The names without a number.
 #[tactic(auto, unfolding(crate::specs::Registers::named))]
 fn named(w: &[u8]) -> Option<Reg>
     ensures { result ≡ named w.now }
 {
-    if w == b"zero".as_slice() {
-        real(RegClass::Int, 0)
-    } else if w == b"ra".as_slice() {
-        real(RegClass::Int, 1)
-    } else if w == b"sp".as_slice() {
-        real(RegClass::Int, 2)
-    } else if w == b"gp".as_slice() {
-        real(RegClass::Int, 3)
-    } else if w == b"tp".as_slice() {
-        real(RegClass::Int, 4)
-    } else if w == b"fp".as_slice() {
-        real(RegClass::Int, 8)
+    let number = if is(b"zero", w) {
+        0
+    } else if is(b"ra", w) {
+        1
+    } else if is(b"sp", w) {
+        2
+    } else if is(b"gp", w) {
+        3
+    } else if is(b"tp", w) {
+        4
+    } else if is(b"fp", w) {
+        8
     } else {
-        None
-    }
+        return None;
+    };
+    real(RegClass::Int, number)
 }
 
 // A name behind its `f`.
@@ -118,38 +128,50 @@ fn named(w: &[u8]) -> Option<Reg>
 fn float(w: &[u8]) -> Option<Reg>
     ensures { result ≡ float w.now }
 {
-    if starts(b't', w) {
-        real(RegClass::Float, float_temporary(decimal(tail(w))?)?)
+    let number = if starts(b't', w) {
+        float_temporary(w)
     } else if starts(b's', w) {
-        real(RegClass::Float, float_saved(decimal(tail(w))?)?)
+        float_saved(w)
     } else if starts(b'a', w) {
-        real(RegClass::Float, argument(decimal(tail(w))?)?)
+        argument(w)
     } else {
-        real(RegClass::Float, decimal(w)?)
+        decimal(w)
+    };
+    real(RegClass::Float, number?)
+}
+
+// A name that isn't an integer register's.
+fn other(w: &[u8]) -> Option<Reg>
+    ensures { result ≡ (if starts 102 w.now then float (drop 1 w.now) else if starts 118 w.now then and_then (decimal (drop 1 w.now)) (real Vector) else if starts 37 w.now then and_then (decimal (drop 1 w.now)) virtual_register else None) }
+{
+    if starts(b'f', w) {
+        float(tail(w))
+    } else if starts(b'v', w) {
+        real(RegClass::Vector, number(w)?)
+    } else if starts(b'%', w) {
+        virtual_register(number(w)?)
+    } else {
+        None
     }
 }
 
+// A name that is a letter, or `%`, and a number.
 #[tactic(auto, unfolding(crate::specs::Registers::lettered))]
 fn lettered(w: &[u8]) -> Option<Reg>
     ensures { result ≡ lettered w.now }
 {
-    if starts(b'x', w) {
-        real(RegClass::Int, decimal(tail(w))?)
+    let number = if starts(b'x', w) {
+        number(w)
     } else if starts(b'a', w) {
-        real(RegClass::Int, argument(decimal(tail(w))?)?)
+        argument(w)
     } else if starts(b't', w) {
-        real(RegClass::Int, temporary(decimal(tail(w))?)?)
+        temporary(w)
     } else if starts(b's', w) {
-        real(RegClass::Int, saved(decimal(tail(w))?)?)
-    } else if starts(b'f', w) {
-        float(tail(w))
-    } else if starts(b'v', w) {
-        real(RegClass::Vector, decimal(tail(w))?)
-    } else if starts(b'%', w) {
-        virtual_register(decimal(tail(w))?)
+        saved(w)
     } else {
-        None
-    }
+        return other(w);
+    };
+    real(RegClass::Int, number?)
 }
 
 /// The register of this name; each of the machine's has a name that `reg_name` gives, and its letter and number. A

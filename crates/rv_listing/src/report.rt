@@ -6,7 +6,7 @@ ghost use Rattle.std.specs.Fmt.{decimal};
 ghost use Rattle.hex.specs.Hex.{encode_lower};
 ghost use Rattle.rv_inst.specs.declared.code.Code.{Code as ACode};
 ghost use Rattle.rv_listing.specs.CodeRanges.{CodeFits};
-ghost use Rattle.rv_listing.specs.Report.{row, all_rows, span_line, label_line, report};
+ghost use Rattle.rv_listing.specs.Report.{lf, row, all_rows, span_line, label_line, report};
 
 use itoa::Buffer;
 use rv_base::memory::OutOfMemory;
@@ -25,6 +25,22 @@ fn put_number(out: &mut Vec<u8>, n: u64) -> Result<(), OutOfMemory>
 {
     let mut buffer = Buffer::new();
     put(out, buffer.format(n).as_bytes())
+}
+
+// A text, and a number behind it.
+fn put_numbered(out: &mut Vec<u8>, text: &[u8], n: u64) -> Result<(), OutOfMemory>
+    ensures { OnOk result (out.new.items ≡ out.old.items ++ text.now ++ decimal n) }
+{
+    put(out, text)?;
+    put_number(out, n)
+}
+
+// The same, up to the end of a line.
+fn end_line(out: &mut Vec<u8>, text: &[u8], n: u64) -> Result<(), OutOfMemory>
+    ensures { OnOk result (out.new.items ≡ out.old.items ++ text.now ++ decimal n ++ lf) }
+{
+    put_numbered(out, text, n)?;
+    put(out, b"\n")
 }
 
 // At most 16 bytes as hex digits.
@@ -78,23 +94,16 @@ fn put_rows(out: &mut Vec<u8>, bytes: &[u8]) -> Result<(), OutOfMemory>
 fn put_span(out: &mut Vec<u8>, l: &LineSpan) -> Result<(), OutOfMemory>
     ensures { OnOk result (out.new.items ≡ out.old.items ++ span_line l.now) }
 {
-    put(out, b"line ")?;
-    put_number(out, l.index as u64)?;
-    put(out, b" ")?;
-    put_number(out, l.start as u64)?;
-    put(out, b" ")?;
-    put_number(out, l.end as u64)?;
-    put(out, b"\n")
+    put_numbered(out, b"line ", l.index as u64)?;
+    put_numbered(out, b" ", l.start as u64)?;
+    end_line(out, b" ", l.end as u64)
 }
 
 fn put_label(out: &mut Vec<u8>, l: &LabelPlace) -> Result<(), OutOfMemory>
     ensures { OnOk result (out.new.items ≡ out.old.items ++ label_line l.now) }
 {
-    put(out, b"label L")?;
-    put_number(out, l.label.number as u64)?;
-    put(out, b" ")?;
-    put_number(out, l.offset as u64)?;
-    put(out, b"\n")
+    put_numbered(out, b"label L", l.label.number as u64)?;
+    end_line(out, b" ", l.offset as u64)
 }
 
 fn put_spans(out: &mut Vec<u8>, lines: &[LineSpan]) -> Result<(), OutOfMemory>
@@ -119,15 +128,11 @@ fn text_of(alloc: Global, code: &Code) -> Result<Vec<u8>, OutOfMemory>
     ensures { IfOk result (λ text. text.items ≡ report code.now) }
 {
     let mut out = Vec::new(alloc);
-    put(&mut out, b"code ")?;
-    put_number(&mut out, code.bytes.len() as u64)?;
-    put(&mut out, b"\n")?;
+    end_line(&mut out, b"code ", code.bytes.len() as u64)?;
     put_rows(&mut out, code.bytes.as_slice())?;
     put_spans(&mut out, code.lines.as_slice())?;
     put_labels(&mut out, code.labels.as_slice())?;
-    put(&mut out, b"end ")?;
-    put_number(&mut out, code.end as u64)?;
-    put(&mut out, b"\n")?;
+    end_line(&mut out, b"end ", code.end as u64)?;
     Ok(out)
 }
 

@@ -2,6 +2,7 @@
 
 ghost use Rattle.std.specs.Prelude.{◌≡◌, ℕ, ◌+◌, ◌-◌, ◌*◌, ◌<◌, ◌≤◌, ◌^◌, ◌==◌, IsTrue, drop, length, List, [], ◌∷◌, MatchOption, OnSome, IfSome, Some, None};
 ghost use Rattle.std.specs.List.{position_or_len, position};
+ghost use Rattle.std.specs.Str.{bytes_eq};
 ghost use Rattle.rv_listing.specs.Tokens.{parts_of, parts_behind, words_of, lines_of, more, behind, two, below, digit, digits_after, digits, starts, decimal, natural, signed};
 
 // Where the byte first stands.
@@ -136,6 +137,13 @@ fn digits(base: u64, w: &[u8]) -> Option<u64>
     Some(n)
 }
 
+/// Whether the word is this one.
+pub(crate) fn is(word: &[u8], w: &[u8]) -> bool
+    ensures { result ≡ bytes_eq w.now word.now }
+{
+    w == word
+}
+
 /// Decimal digits without leading zeros.
 pub fn decimal(w: &[u8]) -> Option<u64>
     ensures { result ≡ decimal w.now }
@@ -145,6 +153,13 @@ pub fn decimal(w: &[u8]) -> Option<u64>
     } else {
         digits(10, w)
     }
+}
+
+/// The decimal digits behind the first byte.
+pub(crate) fn number(w: &[u8]) -> Option<u64>
+    ensures { result ≡ decimal (drop 1 w.now) }
+{
+    decimal(tail(w))
 }
 
 /// A number without a sign: decimal, or `0x` and lower-case hex digits.

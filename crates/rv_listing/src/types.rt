@@ -5,34 +5,35 @@ ghost use Rattle.rv_base.specs.IrType.{name_of};
 ghost use Rattle.rv_listing.specs.Types.{scalar, type_named, vector, vector_of};
 
 use crate::fields::Token;
-use crate::tokens::{decimal, two_parts};
+use crate::tokens::{decimal, is, two_parts};
 use rv_base::ir_type::IrType;
 
 #[tactic(auto, unfolding(crate::specs::Types::scalar))]
 fn scalar(w: &[u8]) -> Option<IrType>
     ensures { result ≡ scalar w.now }
 {
-    if w == b"i8".as_slice() {
-        Some(IrType::I8)
-    } else if w == b"i16".as_slice() {
-        Some(IrType::I16)
-    } else if w == b"i32".as_slice() {
-        Some(IrType::I32)
-    } else if w == b"i64".as_slice() {
-        Some(IrType::I64)
-    } else if w == b"i128".as_slice() {
-        Some(IrType::I128)
-    } else if w == b"f16".as_slice() {
-        Some(IrType::F16)
-    } else if w == b"f32".as_slice() {
-        Some(IrType::F32)
-    } else if w == b"f64".as_slice() {
-        Some(IrType::F64)
-    } else if w == b"f128".as_slice() {
-        Some(IrType::F128)
+    let scalar = if is(b"i8", w) {
+        IrType::I8
+    } else if is(b"i16", w) {
+        IrType::I16
+    } else if is(b"i32", w) {
+        IrType::I32
+    } else if is(b"i64", w) {
+        IrType::I64
+    } else if is(b"i128", w) {
+        IrType::I128
+    } else if is(b"f16", w) {
+        IrType::F16
+    } else if is(b"f32", w) {
+        IrType::F32
+    } else if is(b"f64", w) {
+        IrType::F64
+    } else if is(b"f128", w) {
+        IrType::F128
     } else {
-        None
-    }
+        return None;
+    };
+    Some(scalar)
 }
 
 fn vector_of(lane: IrType, lanes: u64) -> Option<IrType>

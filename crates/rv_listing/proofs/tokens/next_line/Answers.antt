@@ -1,3 +1,5 @@
+use Rattle.std.proofs.Common.{arith}
+use Rattle.std.proofs.lemmas.Grind.{common_steps}
 use Rattle.rv_listing.proofs.Cuts.{lines_cut, not_nil, behind_short, behind_rest}
 use Rattle.rv_listing.proofs.tokens.next_line.Goals as goal
 
@@ -8,3 +10,6 @@ returns-in-empty-clause-cut c =
 pub returns-in-len1-up-clause-cut : goal.returns-in-len1-up-clause-cut
 returns-in-len1-up-clause-cut c =
     rw (← behind_rest c.split_at.result.1.now, c.split_at.ensures.front, c.split_at.ensures.back, c.place_of.ensures.place) (lines_cut c.args.text.now (not_nil c.args.text.now c.is_empty.result c.if-is_empty.false c.is_empty.ensures))
+
+pub returns-in-len1-up-clause-shorter : goal.returns-in-len1-up-clause-shorter
+returns-in-len1-up-clause-shorter c = grind (arith, common_steps)
