@@ -7,6 +7,7 @@ use rv_base::external_name::ExternalName;
 use rv_base::ir_type::IrType;
 use rv_base::label::MachLabel;
 use rv_base::list::List;
+use rv_base::memory::OutOfMemory;
 use rv_base::named::{a0, a1, a2, f_reg, pv_reg, writable_a0, x_reg};
 use rv_base::names::reg_name;
 use rv_base::operand_list::OperandList;
@@ -14,64 +15,90 @@ use rv_base::operands::OperandVisitor;
 use rv_base::preg_set::PRegSet;
 use rv_base::regs::{Reg, RegClass};
 use rv_base::trap::TrapCode;
-use std::test::Fail;
+use std::alloc::{AllocError, Global};
+use std::process::Abort;
 
-#[test]
-fn registers_print_their_names(rt: HostRuntime) -> Result<(), Fail> {
-    let rows = [
-        (x_reg(0), "zero"),
-        (x_reg(8), "fp"),
-        (x_reg(27), "s11"),
-        (f_reg(9), "fs1"),
-        (f_reg(31), "ft11"),
-        (Reg::from_preg(pv_reg(30)), "v30"),
-        (Reg::from_virtual(192, RegClass::Int), "%192"),
-    ];
-    for (reg, name) in rows {
-        let text = reg_name(rt.alloc(), reg)?;
-        assert_eq!(rt; text.as_str(), name);
-    }
+/// Stops unless a register has this name.
+fn assert_register(
+    rt: &impl Abort,
+    alloc: Global,
+    reg: Reg,
+    name: &str,
+) -> Result<(), OutOfMemory> {
+    let text = reg_name(alloc, reg)?;
+    assert_eq!(rt; text.as_str(), name);
     Ok(())
 }
 
 #[test]
-fn addresses_print(rt: HostRuntime) -> Result<(), Fail> {
-    let rows = [
-        (AMode::RegOffset(a0(), -8), "-8(a0)"),
-        (AMode::SPOffset(16), "16(sp)"),
-        (AMode::FPOffset(0), "0(fp)"),
-        (AMode::SlotOffset(24), "24(slot)"),
-        (AMode::IncomingArg(-5), "--5(incoming_arg)"),
-        (AMode::Const(VCodeConstant::from_u32(2)), "[const(2)]"),
-        (AMode::Label(MachLabel::from_u32(7)), "[label7]"),
-    ];
-    for (mode, expected) in rows {
-        let text = mode.to_string(rt.alloc())?;
-        assert_eq!(rt; text.as_str(), expected);
-    }
+fn registers_print_their_names(rt: HostRuntime) -> Result<(), OutOfMemory> {
+    let alloc = rt.alloc();
+    assert_register(&rt, alloc, x_reg(0), "zero")?;
+    assert_register(&rt, alloc, x_reg(8), "fp")?;
+    assert_register(&rt, alloc, x_reg(27), "s11")?;
+    assert_register(&rt, alloc, f_reg(9), "fs1")?;
+    assert_register(&rt, alloc, f_reg(31), "ft11")?;
+    assert_register(&rt, alloc, Reg::from_preg(pv_reg(30)), "v30")?;
+    assert_register(&rt, alloc, Reg::from_virtual(192, RegClass::Int), "%192")
+}
+
+/// Stops unless an address prints so.
+fn assert_address(
+    rt: &impl Abort,
+    alloc: Global,
+    mode: AMode,
+    expected: &str,
+) -> Result<(), AllocError> {
+    let text = mode.to_string(alloc)?;
+    assert_eq!(rt; text.as_str(), expected);
     Ok(())
 }
 
 #[test]
-fn types_traps_and_symbols_print(rt: HostRuntime) -> Result<(), Fail> {
+fn addresses_print(rt: HostRuntime) -> Result<(), AllocError> {
+    let alloc = rt.alloc();
+    assert_address(&rt, alloc, AMode::RegOffset(a0(), -8), "-8(a0)")?;
+    assert_address(&rt, alloc, AMode::SPOffset(16), "16(sp)")?;
+    assert_address(&rt, alloc, AMode::FPOffset(0), "0(fp)")?;
+    assert_address(&rt, alloc, AMode::SlotOffset(24), "24(slot)")?;
+    assert_address(&rt, alloc, AMode::IncomingArg(-5), "--5(incoming_arg)")?;
+    let constant = VCodeConstant::from_u32(2);
+    assert_address(&rt, alloc, AMode::Const(constant), "[const(2)]")?;
+    let label = MachLabel::from_u32(7);
+    assert_address(&rt, alloc, AMode::Label(label), "[label7]")
+}
+
+#[test]
+fn vector_types_print(rt: HostRuntime) -> Result<(), AllocError> {
     let Some(vector) = IrType::vector(IrType::I8, 16) else {
         assert!(rt; false, "i8x16 is a type");
         return Ok(());
     };
-    let name = ExternalName::from_u32(0);
-    let label = MachLabel::from_u32(3);
-    let trap = TrapCode::user(9).unwrap_or(TrapCode::STACK_OVERFLOW);
-    let text = format!(in rt.alloc(); "{vector} {name} {name:?} {label} {label:?} {trap}")?;
-    assert_eq!(rt;
-        text.as_str(),
-        "i8x16 userextname0 User(userextname0) label3 MachLabel(3) user9"
-    );
-    assert_eq!(rt; IrType::vector(IrType::I8, 3), None);
+    let text = format!(in rt.alloc(); "{vector}")?;
+    assert_eq!(rt; text.as_str(), "i8x16");
     Ok(())
 }
 
 #[test]
-fn trap_codes_have_their_names(rt: HostRuntime) -> Result<(), Fail> {
+fn vectors_of_three_are_no_types(rt: HostRuntime) {
+    assert_eq!(rt; IrType::vector(IrType::I8, 3), None);
+}
+
+#[test]
+fn traps_and_symbols_print(rt: HostRuntime) -> Result<(), AllocError> {
+    let name = ExternalName::from_u32(0);
+    let label = MachLabel::from_u32(3);
+    let trap = TrapCode::user(9).unwrap_or(TrapCode::STACK_OVERFLOW);
+    let text = format!(in rt.alloc(); "{name} {name:?} {label} {label:?} {trap}")?;
+    assert_eq!(rt;
+        text.as_str(),
+        "userextname0 User(userextname0) label3 MachLabel(3) user9"
+    );
+    Ok(())
+}
+
+#[test]
+fn trap_codes_have_their_names(rt: HostRuntime) -> Result<(), AllocError> {
     let rows = [
         (TrapCode::STACK_OVERFLOW, "stk_ovf"),
         (TrapCode::HEAP_OUT_OF_BOUNDS, "heap_oob"),
@@ -79,28 +106,39 @@ fn trap_codes_have_their_names(rt: HostRuntime) -> Result<(), Fail> {
         (TrapCode::INTEGER_DIVISION_BY_ZERO, "int_divz"),
         (TrapCode::BAD_CONVERSION_TO_INTEGER, "bad_toint"),
     ];
-    for (code, name) in rows {
+    for (code, name) in &rows {
         let text = code.to_string(rt.alloc())?;
-        assert_eq!(rt; text.as_str(), name);
+        assert_eq!(rt; text.as_str(), *name);
     }
     Ok(())
 }
 
-#[test]
-fn requests_are_recorded_in_order(rt: HostRuntime) -> Result<(), Fail> {
-    let mut visitor = OperandList::new(rt.alloc());
+/// Asks to read the register of an address, and a1 in three ways.
+fn ask_reads(visitor: &mut OperandList) -> Result<(), OutOfMemory> {
     let mut mode = AMode::RegOffset(a0(), 8);
-    mode.get_operands(&mut visitor)?;
-    let (mut read, mut written) = (a1(), writable_a0());
+    mode.get_operands(visitor)?;
+    let mut read = a1();
     visitor.reg_late_use(&mut read)?;
     visitor.reg_fixed_use(&mut read, a2())?;
-    visitor.reg_fixed_late_use(&mut read, a2())?;
+    visitor.reg_fixed_late_use(&mut read, a2())
+}
+
+/// Asks to write a0, in five ways, and for no clobbers.
+fn ask_writes(visitor: &mut OperandList) -> Result<(), OutOfMemory> {
+    let mut written = writable_a0();
     visitor.reg_def(&mut written)?;
     visitor.reg_early_def(&mut written)?;
     visitor.reg_fixed_def(&mut written, a2())?;
     visitor.reg_reuse_def(&mut written, 1)?;
     visitor.any_def(&mut written)?;
-    visitor.reg_clobbers(PRegSet::new())?;
+    visitor.reg_clobbers(PRegSet::new())
+}
+
+#[test]
+fn requests_are_recorded_in_order(rt: HostRuntime) -> Result<(), OutOfMemory> {
+    let mut visitor = OperandList::new(rt.alloc());
+    ask_reads(&mut visitor)?;
+    ask_writes(&mut visitor)?;
     let expected = [
         Constraint::RegUse(a0()),
         Constraint::RegLateUse(a1()),
@@ -118,7 +156,7 @@ fn requests_are_recorded_in_order(rt: HostRuntime) -> Result<(), Fail> {
 }
 
 #[test]
-fn lists_grow(rt: HostRuntime) -> Result<(), Fail> {
+fn lists_grow(rt: HostRuntime) -> Result<(), OutOfMemory> {
     let mut list = List::new(rt.alloc());
     list.push(3)?;
     list.push(4)?;

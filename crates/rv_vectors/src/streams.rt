@@ -6,8 +6,8 @@ use rv_stream::ends::WriteError;
 use rv_stream::in_memory::{MemSink, MemSource, SureSink, SureSource};
 use rv_stream::standard::{StdSink, StdSource};
 use rv_stream::whole::{ReadAllError, read_all, write_all};
-use std::alloc::Global;
-use std::test::Fail;
+use std::alloc::{AllocError, Global};
+use std::process::Abort;
 
 const TEN: &[u8] = b"0123456789";
 
@@ -19,27 +19,32 @@ fn are_read(alloc: Global, chunk: usize, call: usize) -> Result<bool, ReadAllErr
     Ok(text.as_slice() == TEN)
 }
 
+/// Stops unless the reading of ten bytes ends so.
+fn assert_read(
+    rt: &impl Abort,
+    alloc: Global,
+    chunk: usize,
+    call: usize,
+    wanted: Result<bool, ReadAllError>,
+)
+    requires { 0 < chunk }
+{
+    assert_eq!(rt; are_read(alloc, chunk, call), wanted, "at {chunk} {call}");
+}
+
 // Three bytes a call are four calls, and the fifth finds the end.
 #[test]
-fn reads_fail_by_number(rt: HostRuntime) -> Result<(), Fail> {
+fn reads_fail_by_number(rt: HostRuntime) {
+    let alloc = rt.alloc();
     let failed = Err(ReadAllError::Failed);
-    for (chunk, call, wanted) in [
-        (1, 11, Ok(true)),
-        (1, 10, failed),
-        (3, 5, Ok(true)),
-        (3, 4, failed),
-        (3, 0, failed),
-        (10, 1, failed),
-        (100, 2, Ok(true)),
-        (100, 0, failed),
-    ] {
-        assert_eq!(rt;
-            are_read(rt.alloc(), chunk, call),
-            wanted,
-            "at {chunk} {call}"
-        );
-    }
-    Ok(())
+    assert_read(&rt, alloc, 1, 11, Ok(true));
+    assert_read(&rt, alloc, 1, 10, failed);
+    assert_read(&rt, alloc, 3, 5, Ok(true));
+    assert_read(&rt, alloc, 3, 4, failed);
+    assert_read(&rt, alloc, 3, 0, failed);
+    assert_read(&rt, alloc, 10, 1, failed);
+    assert_read(&rt, alloc, 100, 2, Ok(true));
+    assert_read(&rt, alloc, 100, 0, failed);
 }
 
 /// How many bytes are read of these.
@@ -48,19 +53,26 @@ fn length_read(alloc: Global, bytes: &[u8]) -> Result<usize, ReadAllError> {
     Ok(text.len())
 }
 
-#[test]
-fn sources_have_a_greatest_length(rt: HostRuntime) -> Result<(), Fail> {
-    for (length, wanted) in [
-        (0, Ok(0)),
-        (65536, Ok(65536)),
-        (65537, Ok(65537)),
-        (16777216, Ok(16777216)),
-        (16777217, Err(ReadAllError::TooLong)),
-    ] {
-        let bytes = Vec::from_elem(rt.alloc(), b'#', length)?;
-        assert_eq!(rt; length_read(rt.alloc(), &bytes), wanted, "at {length}");
-    }
+/// Stops unless so many bytes are read so.
+fn assert_length(
+    rt: &impl Abort,
+    alloc: Global,
+    length: usize,
+    wanted: Result<usize, ReadAllError>,
+) -> Result<(), AllocError> {
+    let bytes = Vec::from_elem(alloc, b'#', length)?;
+    assert_eq!(rt; length_read(alloc, &bytes), wanted, "at {length}");
     Ok(())
+}
+
+#[test]
+fn sources_have_a_greatest_length(rt: HostRuntime) -> Result<(), AllocError> {
+    let alloc = rt.alloc();
+    assert_length(&rt, alloc, 0, Ok(0))?;
+    assert_length(&rt, alloc, 65536, Ok(65536))?;
+    assert_length(&rt, alloc, 65537, Ok(65537))?;
+    assert_length(&rt, alloc, 16777216, Ok(16777216))?;
+    assert_length(&rt, alloc, 16777217, Err(ReadAllError::TooLong))
 }
 
 /// How a write of ten bytes ends, at most `chunk` a call, where the call of this number fails; and how many are taken.
@@ -73,40 +85,48 @@ fn are_written(alloc: Global, chunk: usize, call: usize) -> (Result<(), WriteErr
     (result, sink.bytes().len())
 }
 
-#[test]
-fn writes_fail_by_number(rt: HostRuntime) -> Result<(), Fail> {
-    let failed = Err(WriteError::Failed);
-    for (chunk, call, wanted) in [
-        (1, 0, (failed, 0)),
-        (1, 9, (failed, 9)),
-        (1, 10, (Ok(()), 10)),
-        (3, 0, (failed, 0)),
-        (3, 2, (failed, 6)),
-        (3, 3, (failed, 9)),
-        (3, 4, (Ok(()), 10)),
-        (100, 0, (failed, 0)),
-        (100, 1, (Ok(()), 10)),
-    ] {
-        assert_eq!(rt;
-            are_written(rt.alloc(), chunk, call),
-            wanted,
-            "at {chunk} {call}"
-        );
-    }
-    Ok(())
+/// Stops unless the writing of ten bytes ends so, with so many taken.
+fn assert_written(
+    rt: &impl Abort,
+    alloc: Global,
+    chunk: usize,
+    call: usize,
+    wanted: (Result<(), WriteError>, usize),
+)
+    requires { 0 < chunk }
+{
+    assert_eq!(rt;
+        are_written(alloc, chunk, call),
+        wanted,
+        "at {chunk} {call}"
+    );
 }
 
 #[test]
-fn all_is_written(rt: HostRuntime) -> Result<(), Fail> {
+fn writes_fail_by_number(rt: HostRuntime) {
+    let alloc = rt.alloc();
+    let failed = Err(WriteError::Failed);
+    assert_written(&rt, alloc, 1, 0, (failed, 0));
+    assert_written(&rt, alloc, 1, 9, (failed, 9));
+    assert_written(&rt, alloc, 1, 10, (Ok(()), 10));
+    assert_written(&rt, alloc, 3, 0, (failed, 0));
+    assert_written(&rt, alloc, 3, 2, (failed, 6));
+    assert_written(&rt, alloc, 3, 3, (failed, 9));
+    assert_written(&rt, alloc, 3, 4, (Ok(()), 10));
+    assert_written(&rt, alloc, 100, 0, (failed, 0));
+    assert_written(&rt, alloc, 100, 1, (Ok(()), 10));
+}
+
+#[test]
+fn all_is_written(rt: HostRuntime) {
     let mut sink = SureSink::new(rt.alloc());
     assert!(rt; write_all(&mut sink, TEN).is_ok());
     assert_eq!(rt; sink.bytes(), TEN);
-    Ok(())
 }
 
 // Slices and vectors as the readers and writers of std that they are.
 #[test]
-fn adapters(rt: HostRuntime) -> Result<(), Fail> {
+fn adapters(rt: HostRuntime) {
     let mut source = StdSource::new(b"Ret\n".as_slice());
     match read_all(rt.alloc(), &mut source) {
         Ok(text) => assert_eq!(rt; text.as_slice(), b"Ret\n".as_slice()),
@@ -114,5 +134,4 @@ fn adapters(rt: HostRuntime) -> Result<(), Fail> {
     }
     let mut sink = StdSink::new(Vec::new(rt.alloc()));
     assert!(rt; write_all(&mut sink, b"code 0\n").is_ok());
-    Ok(())
 }
