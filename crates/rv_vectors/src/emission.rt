@@ -211,36 +211,22 @@ fn words_of_branches_are_the_manuals(rt: HostRuntime) -> Result<(), OutOfMemory>
     assert_code(&rt, rt.alloc(), &beq_j, &bytes)
 }
 
-/// Stops unless an island is put behind an instruction, or not, before so many bytes, and ends there.
-fn assert_room(
-    rt: &impl Abort,
-    alloc: Global,
-    inst: &Inst,
-    distance: u32,
-    wanted: (bool, u32),
-) -> Result<(), OutOfMemory> {
-    let found = room_of(alloc, inst, distance)?;
-    assert_eq!(rt; found, wanted, "before {distance}");
-    Ok(())
-}
-
-// A branch that waits at 0 reaches 4094, and 4094 - 14 - 8 * 3 = 4056.
 #[test]
 fn islands_are_made_by_the_rule(rt: HostRuntime) -> Result<(), OutOfMemory> {
+    // A branch that waits at 0 reaches 4094, and 4094 - 14 - 8 * 3 = 4056. Of two uses the jump reaches farther.
     let far = CondBrTarget::Label(MachLabel::from_u32(5));
     let beq = branch(far, CondBrTarget::Fallthrough);
-    assert_room(&rt, rt.alloc(), &beq, 4052, (false, 4))?;
-    assert_room(&rt, rt.alloc(), &beq, 4053, (true, 16))?;
-    assert_room(&rt, rt.alloc(), &Inst::Ret, 4294967295, (false, 4))
-}
-
-// Of two uses the jump reaches farther.
-#[test]
-fn islands_of_two_uses_are_made_by_the_rule(rt: HostRuntime) -> Result<(), OutOfMemory> {
-    let far = CondBrTarget::Label(MachLabel::from_u32(5));
     let beq_j = branch(far, far);
-    assert_room(&rt, rt.alloc(), &beq_j, 4048, (false, 8))?;
-    assert_room(&rt, rt.alloc(), &beq_j, 4049, (true, 28))
+    for (inst, distance, made, end) in [
+        (&beq, 4052, false, 4),
+        (&beq, 4053, true, 16),
+        (&beq_j, 4048, false, 8),
+        (&beq_j, 4049, true, 28),
+        (&Inst::Ret, 4294967295, false, 4),
+    ] {
+        assert_eq!(rt; room_of(rt.alloc(), inst, distance)?, (made, end));
+    }
+    Ok(())
 }
 
 #[test]

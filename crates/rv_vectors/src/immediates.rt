@@ -28,11 +28,12 @@ fn constants_split(rt: HostRuntime) {
 }
 
 #[test]
-fn immediates_of_twelve_bits_print(rt: HostRuntime) -> Result<(), AllocError> {
+fn immediates_print(rt: HostRuntime) -> Result<(), AllocError> {
     let minus = Imm12::maybe_from_u64(0xffff_ffff_ffff_ffff).unwrap_or(Imm12::ZERO);
-    let (zero, one) = (Imm12::ZERO, Imm12::ONE);
-    let text = format!(in rt.alloc(); "{minus} {zero} {one}")?;
-    assert_eq!(rt; text.as_str(), "-1 +0 +1");
+    let upper = Imm20::maybe_from_i64(-1).unwrap_or(Imm20::ZERO);
+    let (zero, one, upper_zero) = (Imm12::ZERO, Imm12::ONE, Imm20::ZERO);
+    let text = format!(in rt.alloc(); "{minus} {zero} {one} {upper} {upper:?} {upper_zero}")?;
+    assert_eq!(rt; text.as_str(), "-1 +0 +1 1048575 -1 0");
     Ok(())
 }
 
@@ -40,17 +41,6 @@ fn immediates_of_twelve_bits_print(rt: HostRuntime) -> Result<(), AllocError> {
 fn immediates_have_their_bits(rt: HostRuntime) {
     let minus = Imm12::maybe_from_u64(0xffff_ffff_ffff_ffff).unwrap_or(Imm12::ZERO);
     assert_eq!(rt; (Imm12::ZERO.bits(), minus.bits()), (0, 4095));
-}
-
-#[test]
-fn immediates_of_twenty_bits_print(rt: HostRuntime) -> Result<(), AllocError> {
-    let (upper, zero) = (
-        Imm20::maybe_from_i64(-1).unwrap_or(Imm20::ZERO),
-        Imm20::ZERO,
-    );
-    let text = format!(in rt.alloc(); "{upper} {upper:?} {zero}")?;
-    assert_eq!(rt; text.as_str(), "1048575 -1 0");
-    Ok(())
 }
 
 #[test]

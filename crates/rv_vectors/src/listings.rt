@@ -70,9 +70,9 @@ fn line_count(alloc: Global, text: &str) -> Result<usize, ReadError> {
     Ok(job.lines.len())
 }
 
-/// Stops unless a text is a job of so many lines.
-fn assert_read(rt: &impl Abort, alloc: Global, text: &str, lines: usize) {
-    assert_eq!(rt; line_count(alloc, text), Ok(lines), "at {text}");
+/// Stops unless the reading of a text ends so, with so many lines where it is a job.
+fn assert_count(rt: &impl Abort, alloc: Global, text: &str, wanted: Result<usize, ReadError>) {
+    assert_eq!(rt; line_count(alloc, text), wanted, "at {text}");
 }
 
 /// A text with how many lines its job has.
@@ -132,7 +132,7 @@ const JOBS: [Job; 12] = [
 #[test]
 fn texts_are_read(rt: HostRuntime) {
     for job in &JOBS {
-        assert_read(&rt, rt.alloc(), job.text, job.lines);
+        assert_count(&rt, rt.alloc(), job.text, Ok(job.lines));
     }
 }
 
@@ -179,23 +179,19 @@ flags m
 frame 0 0 0 0 0 0 -
 ";
 
-/// Stops unless this line of a text is of no form.
-fn assert_bad(rt: &impl Abort, alloc: Global, text: &str, line: usize) {
-    let bad = ReadError::Syntax { line };
-    assert_eq!(rt; line_count(alloc, text), Err(bad), "at {text}");
-}
-
 #[test]
 fn bad_lines_are_found(rt: HostRuntime) {
     for text in BAD_LINES.split_inclusive('\n') {
-        assert_bad(&rt, rt.alloc(), text, 1);
+        assert_count(&rt, rt.alloc(), text, Err(ReadError::Syntax { line: 1 }));
     }
 }
 
 #[test]
 fn bad_lines_have_their_numbers(rt: HostRuntime) {
-    assert_bad(&rt, rt.alloc(), "Ret\nAluRRImm12 addi a0 a0 2048\n", 2);
-    assert_bad(&rt, rt.alloc(), "Ret\n\nRet \n", 3);
+    let second = Err(ReadError::Syntax { line: 2 });
+    assert_count(&rt, rt.alloc(), "Ret\nAluRRImm12 addi a0 a0 2048\n", second);
+    let third = Err(ReadError::Syntax { line: 3 });
+    assert_count(&rt, rt.alloc(), "Ret\n\nRet \n", third);
 }
 
 // A code of two rows, with its text as the report's format has it.

@@ -15,85 +15,59 @@ use rv_base::operands::OperandVisitor;
 use rv_base::preg_set::PRegSet;
 use rv_base::regs::{Reg, RegClass};
 use rv_base::trap::TrapCode;
-use std::alloc::{AllocError, Global};
-use std::process::Abort;
-
-/// Stops unless a register has this name.
-fn assert_register(
-    rt: &impl Abort,
-    alloc: Global,
-    reg: Reg,
-    name: &str,
-) -> Result<(), OutOfMemory> {
-    let text = reg_name(alloc, reg)?;
-    assert_eq!(rt; text.as_str(), name);
-    Ok(())
-}
+use std::alloc::AllocError;
 
 #[test]
 fn registers_print_their_names(rt: HostRuntime) -> Result<(), OutOfMemory> {
-    let alloc = rt.alloc();
-    assert_register(&rt, alloc, x_reg(0), "zero")?;
-    assert_register(&rt, alloc, x_reg(8), "fp")?;
-    assert_register(&rt, alloc, x_reg(27), "s11")?;
-    assert_register(&rt, alloc, f_reg(9), "fs1")?;
-    assert_register(&rt, alloc, f_reg(31), "ft11")?;
-    assert_register(&rt, alloc, Reg::from_preg(pv_reg(30)), "v30")?;
-    assert_register(&rt, alloc, Reg::from_virtual(192, RegClass::Int), "%192")
-}
-
-/// Stops unless an address prints so.
-fn assert_address(
-    rt: &impl Abort,
-    alloc: Global,
-    mode: AMode,
-    expected: &str,
-) -> Result<(), AllocError> {
-    let text = mode.to_string(alloc)?;
-    assert_eq!(rt; text.as_str(), expected);
+    let rows = [
+        (x_reg(0), "zero"),
+        (x_reg(8), "fp"),
+        (x_reg(27), "s11"),
+        (f_reg(9), "fs1"),
+        (f_reg(31), "ft11"),
+        (Reg::from_preg(pv_reg(30)), "v30"),
+        (Reg::from_virtual(192, RegClass::Int), "%192"),
+    ];
+    for (reg, name) in rows {
+        let text = reg_name(rt.alloc(), reg)?;
+        assert_eq!(rt; text.as_str(), name);
+    }
     Ok(())
 }
 
 #[test]
 fn addresses_print(rt: HostRuntime) -> Result<(), AllocError> {
-    let alloc = rt.alloc();
-    assert_address(&rt, alloc, AMode::RegOffset(a0(), -8), "-8(a0)")?;
-    assert_address(&rt, alloc, AMode::SPOffset(16), "16(sp)")?;
-    assert_address(&rt, alloc, AMode::FPOffset(0), "0(fp)")?;
-    assert_address(&rt, alloc, AMode::SlotOffset(24), "24(slot)")?;
-    assert_address(&rt, alloc, AMode::IncomingArg(-5), "--5(incoming_arg)")?;
-    let constant = VCodeConstant::from_u32(2);
-    assert_address(&rt, alloc, AMode::Const(constant), "[const(2)]")?;
-    let label = MachLabel::from_u32(7);
-    assert_address(&rt, alloc, AMode::Label(label), "[label7]")
-}
-
-#[test]
-fn vector_types_print(rt: HostRuntime) -> Result<(), AllocError> {
-    let Some(vector) = IrType::vector(IrType::I8, 16) else {
-        assert!(rt; false, "i8x16 is a type");
-        return Ok(());
-    };
-    let text = format!(in rt.alloc(); "{vector}")?;
-    assert_eq!(rt; text.as_str(), "i8x16");
+    let rows = [
+        (AMode::RegOffset(a0(), -8), "-8(a0)"),
+        (AMode::SPOffset(16), "16(sp)"),
+        (AMode::FPOffset(0), "0(fp)"),
+        (AMode::SlotOffset(24), "24(slot)"),
+        (AMode::IncomingArg(-5), "--5(incoming_arg)"),
+        (AMode::Const(VCodeConstant::from_u32(2)), "[const(2)]"),
+        (AMode::Label(MachLabel::from_u32(7)), "[label7]"),
+    ];
+    for (mode, expected) in rows {
+        let text = mode.to_string(rt.alloc())?;
+        assert_eq!(rt; text.as_str(), expected);
+    }
     Ok(())
 }
 
 #[test]
-fn vectors_of_three_are_no_types(rt: HostRuntime) {
-    assert_eq!(rt; IrType::vector(IrType::I8, 3), None);
-}
-
-#[test]
-fn traps_and_symbols_print(rt: HostRuntime) -> Result<(), AllocError> {
+fn types_traps_and_symbols_print(rt: HostRuntime) -> Result<(), AllocError> {
+    let Some(vector) = IrType::vector(IrType::I8, 16) else {
+        assert!(rt; false, "i8x16 is a type");
+        return Ok(());
+    };
     let name = ExternalName::from_u32(0);
     let label = MachLabel::from_u32(3);
     let trap = TrapCode::user(9).unwrap_or(TrapCode::STACK_OVERFLOW);
-    let text = format!(in rt.alloc(); "{name} {name:?} {label} {label:?} {trap}")?;
+    let text = format!(in rt.alloc(); "{vector} {name} {name:?} {label} {label:?} {trap}")?;
     assert_eq!(rt;
         text.as_str(),
-        "userextname0 User(userextname0) label3 MachLabel(3) user9"
+        "i8x16 userextname0 User(userextname0) label3 MachLabel(3) user9"
     );
+    assert_eq!(rt; IrType::vector(IrType::I8, 3), None);
     Ok(())
 }
 

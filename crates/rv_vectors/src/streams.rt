@@ -7,7 +7,6 @@ use rv_stream::in_memory::{MemSink, MemSource, SureSink, SureSource};
 use rv_stream::standard::{StdSink, StdSource};
 use rv_stream::whole::{ReadAllError, read_all, write_all};
 use std::alloc::{AllocError, Global};
-use std::process::Abort;
 
 const TEN: &[u8] = b"0123456789";
 
@@ -19,32 +18,26 @@ fn are_read(alloc: Global, chunk: usize, call: usize) -> Result<bool, ReadAllErr
     Ok(text.as_slice() == TEN)
 }
 
-/// Stops unless the reading of ten bytes ends so.
-fn assert_read(
-    rt: &impl Abort,
-    alloc: Global,
-    chunk: usize,
-    call: usize,
-    wanted: Result<bool, ReadAllError>,
-)
-    requires { 0 < chunk }
-{
-    assert_eq!(rt; are_read(alloc, chunk, call), wanted, "at {chunk} {call}");
-}
-
 // Three bytes a call are four calls, and the fifth finds the end.
 #[test]
 fn reads_fail_by_number(rt: HostRuntime) {
-    let alloc = rt.alloc();
     let failed = Err(ReadAllError::Failed);
-    assert_read(&rt, alloc, 1, 11, Ok(true));
-    assert_read(&rt, alloc, 1, 10, failed);
-    assert_read(&rt, alloc, 3, 5, Ok(true));
-    assert_read(&rt, alloc, 3, 4, failed);
-    assert_read(&rt, alloc, 3, 0, failed);
-    assert_read(&rt, alloc, 10, 1, failed);
-    assert_read(&rt, alloc, 100, 2, Ok(true));
-    assert_read(&rt, alloc, 100, 0, failed);
+    for (chunk, call, wanted) in [
+        (1, 11, Ok(true)),
+        (1, 10, failed),
+        (3, 5, Ok(true)),
+        (3, 4, failed),
+        (3, 0, failed),
+        (10, 1, failed),
+        (100, 2, Ok(true)),
+        (100, 0, failed),
+    ] {
+        assert_eq!(rt;
+            are_read(rt.alloc(), chunk, call),
+            wanted,
+            "at {chunk} {call}"
+        );
+    }
 }
 
 /// How many bytes are read of these.
@@ -53,26 +46,19 @@ fn length_read(alloc: Global, bytes: &[u8]) -> Result<usize, ReadAllError> {
     Ok(text.len())
 }
 
-/// Stops unless so many bytes are read so.
-fn assert_length(
-    rt: &impl Abort,
-    alloc: Global,
-    length: usize,
-    wanted: Result<usize, ReadAllError>,
-) -> Result<(), AllocError> {
-    let bytes = Vec::from_elem(alloc, b'#', length)?;
-    assert_eq!(rt; length_read(alloc, &bytes), wanted, "at {length}");
-    Ok(())
-}
-
 #[test]
 fn sources_have_a_greatest_length(rt: HostRuntime) -> Result<(), AllocError> {
-    let alloc = rt.alloc();
-    assert_length(&rt, alloc, 0, Ok(0))?;
-    assert_length(&rt, alloc, 65536, Ok(65536))?;
-    assert_length(&rt, alloc, 65537, Ok(65537))?;
-    assert_length(&rt, alloc, 16777216, Ok(16777216))?;
-    assert_length(&rt, alloc, 16777217, Err(ReadAllError::TooLong))
+    for (length, wanted) in [
+        (0, Ok(0)),
+        (65536, Ok(65536)),
+        (65537, Ok(65537)),
+        (16777216, Ok(16777216)),
+        (16777217, Err(ReadAllError::TooLong)),
+    ] {
+        let bytes = Vec::from_elem(rt.alloc(), b'#', length)?;
+        assert_eq!(rt; length_read(rt.alloc(), &bytes), wanted, "at {length}");
+    }
+    Ok(())
 }
 
 /// How a write of ten bytes ends, at most `chunk` a call, where the call of this number fails; and how many are taken.
@@ -85,36 +71,26 @@ fn are_written(alloc: Global, chunk: usize, call: usize) -> (Result<(), WriteErr
     (result, sink.bytes().len())
 }
 
-/// Stops unless the writing of ten bytes ends so, with so many taken.
-fn assert_written(
-    rt: &impl Abort,
-    alloc: Global,
-    chunk: usize,
-    call: usize,
-    wanted: (Result<(), WriteError>, usize),
-)
-    requires { 0 < chunk }
-{
-    assert_eq!(rt;
-        are_written(alloc, chunk, call),
-        wanted,
-        "at {chunk} {call}"
-    );
-}
-
 #[test]
 fn writes_fail_by_number(rt: HostRuntime) {
-    let alloc = rt.alloc();
     let failed = Err(WriteError::Failed);
-    assert_written(&rt, alloc, 1, 0, (failed, 0));
-    assert_written(&rt, alloc, 1, 9, (failed, 9));
-    assert_written(&rt, alloc, 1, 10, (Ok(()), 10));
-    assert_written(&rt, alloc, 3, 0, (failed, 0));
-    assert_written(&rt, alloc, 3, 2, (failed, 6));
-    assert_written(&rt, alloc, 3, 3, (failed, 9));
-    assert_written(&rt, alloc, 3, 4, (Ok(()), 10));
-    assert_written(&rt, alloc, 100, 0, (failed, 0));
-    assert_written(&rt, alloc, 100, 1, (Ok(()), 10));
+    for (chunk, call, wanted) in [
+        (1, 0, (failed, 0)),
+        (1, 9, (failed, 9)),
+        (1, 10, (Ok(()), 10)),
+        (3, 0, (failed, 0)),
+        (3, 2, (failed, 6)),
+        (3, 3, (failed, 9)),
+        (3, 4, (Ok(()), 10)),
+        (100, 0, (failed, 0)),
+        (100, 1, (Ok(()), 10)),
+    ] {
+        assert_eq!(rt;
+            are_written(rt.alloc(), chunk, call),
+            wanted,
+            "at {chunk} {call}"
+        );
+    }
 }
 
 #[test]
