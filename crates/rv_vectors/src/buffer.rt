@@ -9,6 +9,7 @@ use rv_base::label_use::MachInstLabelUse;
 use rv_base::memory::OutOfMemory;
 use rv_base::reloc::Reloc;
 use std::alloc::Global;
+use std::process::Abort;
 
 /// A kind of use.
 #[derive(Clone, Copy, Debug, PartialEq, Eq)]
@@ -70,9 +71,10 @@ impl MachInstLabelUse for Toy {
     }
 
     fn patch(self, buffer: &mut [u8], use_offset: u32, label_offset: u32) {
+        let distance = label_offset.wrapping_sub(use_offset);
         match self {
-            Toy::Short => buffer[0] = (label_offset.wrapping_sub(use_offset) / 2 & 0xff) as u8,
-            Toy::Far => write_word(buffer, label_offset.wrapping_sub(use_offset)),
+            Toy::Short => write_half(buffer, distance),
+            Toy::Far => write_word(buffer, distance),
         }
     }
 
@@ -100,6 +102,14 @@ impl MachInstLabelUse for Toy {
 
 ghost use Rattle.std.specs.Prelude.{◌≤◌, ◌/◌, ◌%◌, length, drop};
 
+/// Puts half a distance into the first byte, modulo 256.
+fn write_half(buffer: &mut [u8], distance: u32)
+    requires { 1 ≤ length buffer.old }
+    ensures { buffer.new ≡ distance / 2 % 256 ∷ drop 1 buffer.old }
+{
+    buffer[0] = (distance / 2 & 0xff) as u8;
+}
+
 /// Puts a word into the first four bytes.
 fn write_word(buffer: &mut [u8], word: u32)
     requires { 4 ≤ length buffer.old }
@@ -114,6 +124,20 @@ fn write_word(buffer: &mut [u8], word: u32)
 ghost use Rattle.std.specs.Prelude.{◌<◌, ◌^◌, IfOk, None};
 ghost use Rattle.mach_buffer.specs.Buffer.{bytes_of, place_of, drawn_of, IsSound};
 
+/// A use of one byte, and no bytes.
+fn noted(alloc: Global, label: MachLabel) -> Result<MachBuffer<Toy>, OutOfMemory>
+    requires { label.number < 2 ^ 30 }
+    ensures empty { IfOk result (λ b. bytes_of b ≡ []) }
+    ensures unbound { IfOk result (λ b. place_of b label.number ≡ None) }
+    ensures drawn { IfOk result (λ b. drawn_of b ≡ 0) }
+    ensures sound { IfOk result (λ b. IsSound ⟦<Toy as MachInstLabelUse>⟧.has_veneer ⟦<Toy as MachInstLabelUse>⟧.forward ⟦<Toy as MachInstLabelUse>⟧.backward ⟦<Toy as MachInstLabelUse>⟧.veneer b) }
+{
+    let mut buffer = MachBuffer::<Toy>::new(alloc);
+    buffer.register_constants(&[])?;
+    buffer.use_label_at_offset(0, label, Toy::Short)?;
+    Ok(buffer)
+}
+
 /// A use of one byte, and 200 bytes.
 fn waiting(alloc: Global, label: MachLabel) -> Result<MachBuffer<Toy>, OutOfMemory>
     requires { label.number < 2 ^ 30 }
@@ -122,9 +146,7 @@ fn waiting(alloc: Global, label: MachLabel) -> Result<MachBuffer<Toy>, OutOfMemo
     ensures drawn { IfOk result (λ b. drawn_of b ≡ 0) }
     ensures sound { IfOk result (λ b. IsSound ⟦<Toy as MachInstLabelUse>⟧.has_veneer ⟦<Toy as MachInstLabelUse>⟧.forward ⟦<Toy as MachInstLabelUse>⟧.backward ⟦<Toy as MachInstLabelUse>⟧.veneer b) }
 {
-    let mut buffer = MachBuffer::<Toy>::new(alloc);
-    buffer.register_constants(&[])?;
-    buffer.use_label_at_offset(0, label, Toy::Short)?;
+    let mut buffer = noted(alloc, label)?;
     buffer.put2(0x1100)?;
     buffer.put4(0x22222222)?;
     buffer.put8(0x3333333333333333)?;
@@ -132,36 +154,51 @@ fn waiting(alloc: Global, label: MachLabel) -> Result<MachBuffer<Toy>, OutOfMemo
     Ok(buffer)
 }
 
+/// Whether an island is needed before 16 bytes and before 17, and before 1000 once the label is bound.
+fn needed(alloc: Global) -> Result<[bool; 3], OutOfMemory> {
+    let label = MachLabel::from_u32(5);
+    let mut buffer = waiting(alloc, label)?;
+    let before_16 = buffer.island_needed(16);
+    let before_17 = buffer.island_needed(17);
+    buffer.bind_label(label)?;
+    Ok([before_16, before_17, buffer.island_needed(1000)])
+}
+
 #[test]
 fn islands_are_needed_by_the_rule(rt: HostRuntime) -> Result<(), OutOfMemory> {
-    let label = MachLabel::from_u32(5);
-    let mut buffer = waiting(rt.alloc(), label)?;
-    assert_eq!(rt; buffer.island_needed(16), false);
-    assert_eq!(rt; buffer.island_needed(17), true);
-    buffer.bind_label(label)?;
-    assert_eq!(rt; buffer.island_needed(1000), false);
+    assert_eq!(rt; needed(rt.alloc())?, [false, true, false]);
     Ok(())
+}
+
+/// Whether there is room for one byte too many and for as many as may be, and for eight more once the label is bound.
+fn room_left(alloc: Global) -> Result<[bool; 3], OutOfMemory> {
+    let label = MachLabel::from_u32(5);
+    let mut buffer = waiting(alloc, label)?;
+    let too_many = buffer.has_room(2147479552 - 240);
+    let most = buffer.has_room(2147479551 - 240);
+    buffer.bind_label(label)?;
+    Ok([too_many, most, buffer.has_room(2147479551 - 232)])
 }
 
 #[test]
 fn room_is_left_by_the_rule(rt: HostRuntime) -> Result<(), OutOfMemory> {
-    let label = MachLabel::from_u32(5);
-    let mut buffer = waiting(rt.alloc(), label)?;
-    assert_eq!(rt; buffer.has_room(2147479552 - 240), false);
-    assert_eq!(rt; buffer.has_room(2147479551 - 240), true);
-    buffer.bind_label(label)?;
-    assert_eq!(rt; buffer.has_room(2147479551 - 232), true);
+    assert_eq!(rt; room_left(rt.alloc())?, [false, true, true]);
     Ok(())
+}
+
+/// Where the code ends, and where the label stands before it is bound and then.
+fn places(alloc: Global) -> Result<(u32, [Option<u32>; 2]), OutOfMemory> {
+    let label = MachLabel::from_u32(5);
+    let mut buffer = waiting(alloc, label)?;
+    let end = buffer.cur_offset();
+    let before = buffer.label_offset(label);
+    buffer.bind_label(label)?;
+    Ok((end, [before, buffer.label_offset(label)]))
 }
 
 #[test]
 fn labels_are_bound_at_the_end(rt: HostRuntime) -> Result<(), OutOfMemory> {
-    let label = MachLabel::from_u32(5);
-    let mut buffer = waiting(rt.alloc(), label)?;
-    assert_eq!(rt; buffer.cur_offset(), 200);
-    assert_eq!(rt; buffer.label_offset(label), None);
-    buffer.bind_label(label)?;
-    assert_eq!(rt; buffer.label_offset(label), Some(200));
+    assert_eq!(rt; places(rt.alloc())?, (200, [None, Some(200)]));
     Ok(())
 }
 
@@ -174,20 +211,36 @@ fn told_of_branches(buffer: &mut MachBuffer<Toy>) -> [Result<(), OutOfMemory>; 2
     ]
 }
 
+/// What a buffer answers to branches, and where its code ends then.
+fn branches(alloc: Global) -> Result<([Result<(), OutOfMemory>; 2], u32), OutOfMemory> {
+    let mut buffer = waiting(alloc, MachLabel::from_u32(5))?;
+    let answers = told_of_branches(&mut buffer);
+    Ok((answers, buffer.cur_offset()))
+}
+
 #[test]
 fn branches_put_nothing(rt: HostRuntime) -> Result<(), OutOfMemory> {
-    let mut buffer = waiting(rt.alloc(), MachLabel::from_u32(5))?;
-    assert_eq!(rt; told_of_branches(&mut buffer), [Ok(()); 2]);
-    assert_eq!(rt; buffer.cur_offset(), 200);
+    let (answers, end) = branches(rt.alloc())?;
+    assert_eq!(rt; answers, [Ok(()); 2]);
+    assert_eq!(rt; end, 200);
     Ok(())
+}
+
+/// What a spoiled buffer answers to no constants, and to branches.
+fn refusals(
+    alloc: Global,
+) -> Result<(Result<(), OutOfMemory>, [Result<(), OutOfMemory>; 2]), OutOfMemory> {
+    let mut buffer = waiting(alloc, MachLabel::from_u32(5))?;
+    buffer.spoil();
+    let constants = buffer.register_constants(&[]);
+    Ok((constants, told_of_branches(&mut buffer)))
 }
 
 #[test]
 fn spoiled_buffers_refuse(rt: HostRuntime) -> Result<(), OutOfMemory> {
-    let mut buffer = waiting(rt.alloc(), MachLabel::from_u32(5))?;
-    buffer.spoil();
-    assert_eq!(rt; buffer.register_constants(&[]), Err(OutOfMemory));
-    assert_eq!(rt; told_of_branches(&mut buffer), [Err(OutOfMemory); 2]);
+    let (constants, branches) = refusals(rt.alloc())?;
+    assert_eq!(rt; constants, Err(OutOfMemory));
+    assert_eq!(rt; branches, [Err(OutOfMemory); 2]);
     Ok(())
 }
 
@@ -330,18 +383,35 @@ fn put_item<L: MachInstLabelUse>(
     }
 }
 
+/// Binds each of the four labels that is not bound.
+fn bind_each<L: MachInstLabelUse>(buffer: &mut MachBuffer<L>) -> Result<(), OutOfMemory>
+    requires kept { IsKept L.fields L.has_veneer L.forward L.backward L.veneer 4 buffer.old }
+    ensures kept { OnOk result (IsKept L.fields L.has_veneer L.forward L.backward L.veneer 4 buffer.new) }
+    ensures bound { OnOk result ((label : ℕ) → label < 4 → is_some (place_of buffer.new label) ≡ true) }
+{
+    bind(buffer, 0)?;
+    bind(buffer, 1)?;
+    bind(buffer, 2)?;
+    bind(buffer, 3)?;
+    Ok(())
+}
+
 /// Binds each label that is not bound, and finishes.
 fn end<L: MachInstLabelUse>(mut buffer: MachBuffer<L>) -> Result<Finished, OutOfMemory>
     requires kept { IsKept L.fields L.has_veneer L.forward L.backward L.veneer 4 buffer }
 {
-    bind(&mut buffer, 0)?;
-    bind(&mut buffer, 1)?;
-    bind(&mut buffer, 2)?;
-    bind(&mut buffer, 3)?;
+    bind_each(&mut buffer)?;
     if !buffer.has_room(0) {
         return Err(OutOfMemory);
     }
     buffer.finish(&[])
+}
+
+/// An empty buffer.
+fn empty<L: MachInstLabelUse>(alloc: Global) -> MachBuffer<L>
+    ensures kept { IsKept L.fields L.has_veneer L.forward L.backward L.veneer 4 result }
+{
+    MachBuffer::<L>::new(alloc)
 }
 
 /// Assembles items, and notes where islands stand.
@@ -353,7 +423,7 @@ fn assemble<L: MachInstLabelUse>(
 ) -> Result<Finished, OutOfMemory>
     requires kind { IsOneByte L.fields L.has_veneer L.forward kind }
 {
-    let mut buffer = MachBuffer::<L>::new(alloc);
+    let mut buffer = empty::<L>(alloc);
     for item in items {
         put_item(&mut buffer, kind, *item, islands)?;
     }
@@ -362,77 +432,152 @@ fn assemble<L: MachInstLabelUse>(
 
 use self::Item::{Bind, Fill, Use};
 
+/// Items with the places of their islands, and how long their code is.
+struct Stand {
+    items: &'static [Item],
+    at: &'static [u32],
+    long: usize,
+}
+
+// One use that waits at 0 has the deadline 254, and 254 - 14 - 8 * 3 = 216. Of two the later has 256, and
+// 256 - 14 - 8 * 4 = 210. Of 28 the last has 308, and 308 - 14 - 8 * 30 = 54.
+const STANDS: [Stand; 10] = [
+    Stand {
+        items: &[Use(0), Fill(100), Bind(0)],
+        at: &[],
+        long: 102,
+    },
+    Stand {
+        items: &[Use(0), Fill(214), Bind(0)],
+        at: &[],
+        long: 216,
+    },
+    Stand {
+        items: &[Use(0), Fill(216), Bind(0)],
+        at: &[2],
+        long: 232,
+    },
+    Stand {
+        items: &[Use(0), Fill(214), Fill(2)],
+        at: &[216],
+        long: 230,
+    },
+    Stand {
+        items: &[Use(0), Use(0), Fill(206)],
+        at: &[],
+        long: 210,
+    },
+    Stand {
+        items: &[Use(0), Use(1), Fill(208)],
+        at: &[4],
+        long: 232,
+    },
+    Stand {
+        items: &[Use(0), Use(1), Bind(0), Fill(214)],
+        at: &[],
+        long: 218,
+    },
+    Stand {
+        items: &[Bind(0), Fill(250), Use(0)],
+        at: &[],
+        long: 252,
+    },
+    Stand {
+        items: &[Use(0); 28],
+        at: &[],
+        long: 56,
+    },
+    Stand {
+        items: &[Use(0); 40],
+        at: &[56],
+        long: 308,
+    },
+];
+
+/// Stops unless the islands of a row stand where it tells, and its code is as long.
+fn assert_stand(rt: &impl Abort, alloc: Global, row: &Stand) -> Result<(), OutOfMemory> {
+    let mut islands = Vec::new(alloc);
+    let code = assemble(alloc, Toy::Short, row.items, &mut islands)?;
+    assert_eq!(rt; islands.as_slice(), row.at);
+    assert_eq!(rt; code.bytes.len(), row.long);
+    Ok(())
+}
+
 #[test]
 fn islands_stand_by_the_rule(rt: HostRuntime) -> Result<(), OutOfMemory> {
-    // One use that waits at 0 has the deadline 254, and 254 - 14 - 8 * 3 = 216. Of two the later has 256, and
-    // 256 - 14 - 8 * 4 = 210. Of 28 the last has 308, and 308 - 14 - 8 * 30 = 54.
-    for (items, at, long) in [
-        ([Use(0), Fill(100), Bind(0)].as_slice(), [].as_slice(), 102),
-        ([Use(0), Fill(214), Bind(0)].as_slice(), [].as_slice(), 216),
-        ([Use(0), Fill(216), Bind(0)].as_slice(), [2].as_slice(), 232),
-        (
-            [Use(0), Fill(214), Fill(2)].as_slice(),
-            [216].as_slice(),
-            230,
-        ),
-        ([Use(0), Use(0), Fill(206)].as_slice(), [].as_slice(), 210),
-        ([Use(0), Use(1), Fill(208)].as_slice(), [4].as_slice(), 232),
-        (
-            [Use(0), Use(1), Bind(0), Fill(214)].as_slice(),
-            [].as_slice(),
-            218,
-        ),
-        ([Bind(0), Fill(250), Use(0)].as_slice(), [].as_slice(), 252),
-        ([Use(0); 28].as_slice(), [].as_slice(), 56),
-        ([Use(0); 40].as_slice(), [56].as_slice(), 308),
-    ] {
-        let mut islands = Vec::new(rt.alloc());
-        let code = assemble(rt.alloc(), Toy::Short, items, &mut islands)?;
-        assert_eq!(rt; islands.as_slice(), at);
-        assert_eq!(rt; code.bytes.len(), long);
+    for row in &STANDS {
+        assert_stand(&rt, rt.alloc(), row)?;
     }
+    Ok(())
+}
+
+/// Items with some bytes of their code, from `at` on.
+struct Aim {
+    items: &'static [Item],
+    at: usize,
+    bytes: &'static [u8],
+}
+
+const AIMS: [Aim; 4] = [
+    Aim {
+        items: &[Use(0), Fill(2), Bind(0)],
+        at: 0,
+        bytes: &[2, 0x11, 0x44, 0x44],
+    },
+    // A jump at 2 round an island, whose veneer at 8 goes to 232.
+    Aim {
+        items: &[Use(0), Fill(216)],
+        at: 0,
+        bytes: &[
+            4, 0x11, 7, 0xaa, 0xaa, 0xaa, 0, 0, 0xe0, 0, 0, 0, 0xee, 0xee, 0xee, 0xee, 0x44,
+        ],
+    },
+    // A jump at 4; the earlier use has the earlier veneer.
+    Aim {
+        items: &[Use(0), Use(0), Fill(208)],
+        at: 0,
+        bytes: &[
+            4, 0x11, 7, 0x11, 10, 0xaa, 0xaa, 0xaa, 0xe0, 0, 0, 0, 0xee, 0xee, 0xee, 0xee, 0xd8,
+        ],
+    },
+    // A use at 260 of a label at 0 goes by a veneer at 264, which is put at the end.
+    Aim {
+        items: &[Bind(0), Fill(250), Fill(10), Use(0)],
+        at: 260,
+        bytes: &[
+            2, 0x11, 0, 0, 0xf8, 0xfe, 0xff, 0xff, 0xee, 0xee, 0xee, 0xee,
+        ],
+    },
+];
+
+/// Stops unless the code of a row has its bytes.
+fn assert_aim(rt: &impl Abort, alloc: Global, row: &Aim) -> Result<(), OutOfMemory> {
+    let mut islands = Vec::new(alloc);
+    let code = assemble(alloc, Toy::Short, row.items, &mut islands)?;
+    let rest = code.bytes.as_slice().get(row.at..).unwrap_or(&[]);
+    let found = rest.get(..row.bytes.len()).unwrap_or(&[]);
+    assert_eq!(rt; found, row.bytes);
     Ok(())
 }
 
 #[test]
 fn windows_aim_at_labels_and_veneers(rt: HostRuntime) -> Result<(), OutOfMemory> {
-    let near = [2, 0x11, 0x44, 0x44];
-    // A jump at 2 round an island, whose veneer at 8 goes to 232.
-    let island = [
-        4, 0x11, 7, 0xaa, 0xaa, 0xaa, 0, 0, 0xe0, 0, 0, 0, 0xee, 0xee, 0xee, 0xee, 0x44,
-    ];
-    // A jump at 4; the earlier use has the earlier veneer.
-    let two = [
-        4, 0x11, 7, 0x11, 10, 0xaa, 0xaa, 0xaa, 0xe0, 0, 0, 0, 0xee, 0xee, 0xee, 0xee, 0xd8,
-    ];
-    // A use at 260 of a label at 0 goes by a veneer at 264, which is put at the end.
-    let last = [
-        2, 0x11, 0, 0, 0xf8, 0xfe, 0xff, 0xff, 0xee, 0xee, 0xee, 0xee,
-    ];
-    for (items, at, bytes) in [
-        ([Use(0), Fill(2), Bind(0)].as_slice(), 0, near.as_slice()),
-        ([Use(0), Fill(216)].as_slice(), 0, island.as_slice()),
-        ([Use(0), Use(0), Fill(208)].as_slice(), 0, two.as_slice()),
-        (
-            [Bind(0), Fill(250), Fill(10), Use(0)].as_slice(),
-            260,
-            last.as_slice(),
-        ),
-    ] {
-        let mut islands = Vec::new(rt.alloc());
-        let code = assemble(rt.alloc(), Toy::Short, items, &mut islands)?;
-        let found = code.bytes.as_slice().get(at..at + bytes.len());
-        assert_eq!(rt; found, Some(bytes));
+    for row in &AIMS {
+        assert_aim(&rt, rt.alloc(), row)?;
     }
     Ok(())
 }
 
-#[test]
-fn labels_are_drawn_in_order(rt: HostRuntime) -> Result<(), OutOfMemory> {
-    let mut buffer = MachBuffer::<Toy>::new(rt.alloc());
+/// The first labels that a buffer draws.
+fn drawn(alloc: Global) -> Result<[u32; 2], OutOfMemory> {
+    let mut buffer = MachBuffer::<Toy>::new(alloc);
     let first = buffer.get_label()?;
     let second = buffer.get_label()?;
-    assert_eq!(rt; first.as_u32(), 0x40000000);
-    assert_eq!(rt; second.as_u32(), 0x40000001);
+    Ok([first.as_u32(), second.as_u32()])
+}
+
+#[test]
+fn labels_are_drawn_in_order(rt: HostRuntime) -> Result<(), OutOfMemory> {
+    assert_eq!(rt; drawn(rt.alloc())?, [0x40000000, 0x40000001]);
     Ok(())
 }

@@ -13,7 +13,7 @@ use rv_base::ir_type::IrType;
 use rv_base::label::MachLabel;
 use rv_base::list::List;
 use rv_base::memory::OutOfMemory;
-use rv_base::named::{a0, a1, a2, px_reg, stack_reg, writable_a0, writable_link_reg};
+use rv_base::named::{a0, a1, a2, px_reg, writable_a0, writable_link_reg};
 use rv_emit::emit::MachInstEmit;
 use rv_emit::island::make_room;
 use rv_emit::state::{EmitInfo, EmitState, EmitVState, MachInstEmitState};
@@ -24,6 +24,7 @@ use rv_inst::label_use::LabelUse;
 use rv_ops::alu::{AluOPRRI, AluOPRRR};
 use rv_ops::compare::IntegerCompare;
 use std::alloc::Global;
+use std::process::Abort;
 
 /// A buffer in which the label 0 is bound.
 fn start(alloc: Global) -> Result<MachBuffer<LabelUse>, OutOfMemory>
@@ -118,66 +119,96 @@ fn branch(taken: CondBrTarget, not_taken: CondBrTarget) -> Inst {
     }
 }
 
+/// Stops unless these are the bytes of an instruction.
+fn assert_code(
+    rt: &impl Abort,
+    alloc: Global,
+    inst: &Inst,
+    bytes: &[u8],
+) -> Result<(), OutOfMemory> {
+    let code = code_of(alloc, inst)?;
+    assert_eq!(rt; code.as_slice(), bytes);
+    Ok(())
+}
+
 #[test]
-fn words_are_the_manuals(rt: HostRuntime) -> Result<(), OutOfMemory> {
+fn plain_words_are_the_manuals(rt: HostRuntime) -> Result<(), OutOfMemory> {
+    let alloc = rt.alloc();
+    assert_code(&rt, alloc, &Inst::Nop0, &[])?;
+    assert_code(&rt, alloc, &Inst::Nop4, &[0x13, 0, 0, 0])?;
+    assert_code(&rt, alloc, &Inst::EBreak, &[0x73, 0, 0x10, 0])?;
+    assert_code(&rt, alloc, &Inst::Ret, &[0x67, 0x80, 0, 0])?;
+    Ok(())
+}
+
+#[test]
+fn words_of_upper_numbers_are_the_manuals(rt: HostRuntime) -> Result<(), OutOfMemory> {
     let rd = writable_a0();
-    let ty = IrType::I64;
-    let here = CondBrTarget::Label(MachLabel::from_u32(0));
+    let lui = Inst::Lui {
+        rd,
+        imm: Imm20::from_i32(0x12345),
+    };
+    assert_code(&rt, rt.alloc(), &lui, &[0x37, 0x55, 0x34, 0x12])?;
+    let auipc = Inst::Auipc {
+        rd,
+        imm: Imm20::from_i32(1),
+    };
+    assert_code(&rt, rt.alloc(), &auipc, &[0x17, 0x15, 0, 0])
+}
+
+#[test]
+fn words_of_sums_are_the_manuals(rt: HostRuntime) -> Result<(), OutOfMemory> {
+    let rd = writable_a0();
     let sub = Inst::AluRRR {
         alu_op: AluOPRRR::Sub,
         rd,
         rs1: a1(),
         rs2: a2(),
     };
+    assert_code(&rt, rt.alloc(), &sub, &[0x33, 0x85, 0xc5, 0x40])?;
     let addi = Inst::AluRRImm12 {
         alu_op: AluOPRRI::Addi,
         rd,
         rs: a1(),
         imm12: Imm12::from_i16(-1),
     };
-    let lui = Inst::Lui {
-        rd,
-        imm: Imm20::from_i32(0x12345),
-    };
-    let auipc = Inst::Auipc {
-        rd,
-        imm: Imm20::from_i32(1),
-    };
+    assert_code(&rt, rt.alloc(), &addi, &[0x13, 0x85, 0xf5, 0xff])
+}
+
+#[test]
+fn words_of_moves_are_the_manuals(rt: HostRuntime) -> Result<(), OutOfMemory> {
+    let rd = writable_a0();
+    let ty = IrType::I64;
+    let from_a1 = Inst::Mov { rd, rm: a1(), ty };
+    assert_code(&rt, rt.alloc(), &from_a1, &[0x13, 0x85, 5, 0])?;
+    let from_itself = Inst::Mov { rd, rm: a0(), ty };
+    assert_code(&rt, rt.alloc(), &from_itself, &[])?;
     let from_sp = Inst::MovFromPReg { rd, rm: px_reg(2) };
+    assert_code(&rt, rt.alloc(), &from_sp, &[0x13, 5, 1, 0])
+}
+
+#[test]
+fn words_of_jumps_are_the_manuals(rt: HostRuntime) -> Result<(), OutOfMemory> {
     let jalr = Inst::Jalr {
         rd: writable_link_reg(),
         base: a0(),
         offset: Imm12::from_i16(16),
     };
+    assert_code(&rt, rt.alloc(), &jalr, &[0xe7, 0, 5, 1])?;
     let jal = Inst::Jal {
         label: MachLabel::from_u32(0),
     };
+    assert_code(&rt, rt.alloc(), &jal, &[0x6f, 0, 0, 0])
+}
+
+#[test]
+fn words_of_branches_are_the_manuals(rt: HostRuntime) -> Result<(), OutOfMemory> {
+    let here = CondBrTarget::Label(MachLabel::from_u32(0));
     let beq = branch(here, CondBrTarget::Fallthrough);
+    assert_code(&rt, rt.alloc(), &beq, &[0x63, 0, 0xb5, 0])?;
     let beq_j = branch(here, here);
-    for (inst, bytes) in [
-        (Inst::Nop0, [].as_slice()),
-        (Inst::Nop4, [0x13, 0, 0, 0].as_slice()),
-        (Inst::EBreak, [0x73, 0, 0x10, 0].as_slice()),
-        (lui, [0x37, 0x55, 0x34, 0x12].as_slice()),
-        (auipc, [0x17, 0x15, 0, 0].as_slice()),
-        (sub, [0x33, 0x85, 0xc5, 0x40].as_slice()),
-        (addi, [0x13, 0x85, 0xf5, 0xff].as_slice()),
-        (
-            Inst::Mov { rd, rm: a1(), ty },
-            [0x13, 0x85, 5, 0].as_slice(),
-        ),
-        (Inst::Mov { rd, rm: a0(), ty }, [].as_slice()),
-        (from_sp, [0x13, 5, 1, 0].as_slice()),
-        (Inst::Ret, [0x67, 0x80, 0, 0].as_slice()),
-        (jalr, [0xe7, 0, 5, 1].as_slice()),
-        (jal, [0x6f, 0, 0, 0].as_slice()),
-        (beq, [0x63, 0, 0xb5, 0].as_slice()),
-        (beq_j, [0x63, 0, 0xb5, 0, 0x6f, 0xf0, 0xdf, 0xff].as_slice()),
-    ] {
-        let code = code_of(rt.alloc(), &inst)?;
-        assert_eq!(rt; code.as_slice(), bytes);
-    }
-    Ok(())
+    let bytes = [0x63, 0, 0xb5, 0, 0x6f, 0xf0, 0xdf, 0xff];
+    assert_code(&rt, rt.alloc(), &beq_j, &bytes)
 }
 
 #[test]

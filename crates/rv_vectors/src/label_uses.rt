@@ -4,75 +4,164 @@ use rv_base::label::MachLabel;
 use rv_base::label_use::MachInstLabelUse;
 use rv_inst::inst::CondBrTarget;
 use rv_inst::label_use::LabelUse;
-use std::test::Fail;
+use std::alloc::{AllocError, Global};
+use std::process::Abort;
+
+/// A kind with the offset that is farthest in its range one way, and the next.
+struct Reach {
+    kind: LabelUse,
+    farthest: i64,
+    beyond: i64,
+}
+
+const REACHES: [Reach; 10] = [
+    Reach {
+        kind: LabelUse::Jal20,
+        farthest: 1048574,
+        beyond: 1048575,
+    },
+    Reach {
+        kind: LabelUse::Jal20,
+        farthest: -1048576,
+        beyond: -1048577,
+    },
+    Reach {
+        kind: LabelUse::B12,
+        farthest: 4094,
+        beyond: 4095,
+    },
+    Reach {
+        kind: LabelUse::B12,
+        farthest: -4096,
+        beyond: -4097,
+    },
+    Reach {
+        kind: LabelUse::PCRel32,
+        farthest: 2147481599,
+        beyond: 2147481600,
+    },
+    Reach {
+        kind: LabelUse::PCRel32,
+        farthest: -2147485696,
+        beyond: -2147485697,
+    },
+    Reach {
+        kind: LabelUse::PCRelHi20,
+        farthest: 2147481599,
+        beyond: 2147481600,
+    },
+    Reach {
+        kind: LabelUse::PCRelHi20,
+        farthest: -2147481601,
+        beyond: -2147481602,
+    },
+    Reach {
+        kind: LabelUse::PCRelLo12I,
+        farthest: 2147481599,
+        beyond: 2147481600,
+    },
+    Reach {
+        kind: LabelUse::PCRelLo12I,
+        farthest: -2147481601,
+        beyond: -2147481602,
+    },
+];
 
 #[test]
 fn offsets_are_in_range(rt: HostRuntime) {
-    let rows = [
-        (LabelUse::Jal20, 1048574i64, true),
-        (LabelUse::Jal20, 1048575, false),
-        (LabelUse::Jal20, -1048576, true),
-        (LabelUse::Jal20, -1048577, false),
-        (LabelUse::B12, 4094, true),
-        (LabelUse::B12, 4095, false),
-        (LabelUse::B12, -4096, true),
-        (LabelUse::B12, -4097, false),
-        (LabelUse::PCRel32, 2147481599, true),
-        (LabelUse::PCRel32, 2147481600, false),
-        (LabelUse::PCRel32, -2147485696, true),
-        (LabelUse::PCRel32, -2147485697, false),
-        (LabelUse::PCRelHi20, 2147481599, true),
-        (LabelUse::PCRelHi20, 2147481600, false),
-        (LabelUse::PCRelHi20, -2147481601, true),
-        (LabelUse::PCRelHi20, -2147481602, false),
-        (LabelUse::PCRelLo12I, 2147481599, true),
-        (LabelUse::PCRelLo12I, 2147481600, false),
-        (LabelUse::PCRelLo12I, -2147481601, true),
-        (LabelUse::PCRelLo12I, -2147481602, false),
-    ];
-    for (kind, offset, expected) in rows {
-        assert_eq!(rt;
-            kind.offset_in_range(offset),
-            expected,
-            "{kind:?} at {offset}"
+    for row in &REACHES {
+        assert!(rt;
+            row.kind.offset_in_range(row.farthest),
+            "{:?} at {}",
+            row.kind,
+            row.farthest
         );
     }
 }
 
 #[test]
-fn windows_are_patched(rt: HostRuntime) {
+fn offsets_are_out_of_range(rt: HostRuntime) {
+    for row in &REACHES {
+        assert!(rt;
+            !row.kind.offset_in_range(row.beyond),
+            "{:?} at {}",
+            row.kind,
+            row.beyond
+        );
+    }
+}
+
+#[test]
+fn jumps_are_patched(rt: HostRuntime) {
     let mut jump = [0x6f, 0, 0, 0];
     LabelUse::Jal20.patch(&mut jump, 3972, 3984);
     assert_eq!(rt; jump, [0x6f, 0, 0xc0, 0]);
+}
+
+#[test]
+fn branches_are_patched(rt: HostRuntime) {
     let mut branch = [0x63, 0, 0xb5, 0];
     LabelUse::B12.patch(&mut branch, 0, 3976);
     assert_eq!(rt; branch, [0xe3, 4, 0xb5, 0x78]);
+}
+
+#[test]
+fn pairs_are_patched(rt: HostRuntime) {
     let mut pair = [0x97, 0xf, 0, 0, 0x67, 0x80, 0xf, 0];
     LabelUse::PCRel32.patch(&mut pair, 3976, 4416);
     assert_eq!(rt; pair, [0x97, 0xf, 0, 0, 0x67, 0x80, 0x8f, 0x1b]);
+}
+
+#[test]
+fn upper_parts_are_patched(rt: HostRuntime) {
     let mut upper = [0x17, 5, 0, 0];
     LabelUse::PCRelHi20.patch(&mut upper, 0, 4000);
     assert_eq!(rt; upper, [0x17, 0x15, 0, 0]);
+}
+
+#[test]
+fn lower_parts_are_patched(rt: HostRuntime) {
     let mut lower = [0x13, 5, 5, 0];
     LabelUse::PCRelLo12I.patch(&mut lower, 4, 4000);
     assert_eq!(rt; lower, [0x13, 5, 5, 0xfa]);
+}
+
+#[test]
+fn veneers_are_made(rt: HostRuntime) {
     let mut veneer = [0; 8];
     let (place, kind) = LabelUse::B12.generate_veneer(&mut veneer, 3976);
     assert_eq!(rt; veneer, [0x97, 0xf, 0, 0, 0x67, 0x80, 0xf, 0]);
     assert_eq!(rt; (place, kind), (3976, LabelUse::PCRel32));
 }
 
+/// Stops unless a target has this label, where one is told.
+fn assert_label(rt: &impl Abort, target: CondBrTarget, given: Option<MachLabel>) {
+    assert_eq!(rt; target.as_label(), given);
+    assert_eq!(rt; target.is_fallthrouh(), given.is_none(), "{target}");
+}
+
 #[test]
-fn targets_give_their_labels(rt: HostRuntime) -> Result<(), Fail> {
+fn targets_give_their_labels(rt: HostRuntime) {
     let label = MachLabel::from_u32(7);
-    for (target, given, text) in [
-        (CondBrTarget::Label(label), Some(label), "label7"),
-        (CondBrTarget::Fallthrough, None, "0"),
-    ] {
-        let printed = format!(in rt.alloc(); "{target}")?;
-        assert_eq!(rt; printed.as_str(), text);
-        assert_eq!(rt; target.as_label(), given, "{text}");
-        assert_eq!(rt; target.is_fallthrouh(), given.is_none(), "{text}");
-    }
+    assert_label(&rt, CondBrTarget::Label(label), Some(label));
+    assert_label(&rt, CondBrTarget::Fallthrough, None);
+}
+
+/// Stops unless a target prints so.
+fn assert_printed(
+    rt: &impl Abort,
+    alloc: Global,
+    target: CondBrTarget,
+    text: &str,
+) -> Result<(), AllocError> {
+    let printed = format!(in alloc; "{target}")?;
+    assert_eq!(rt; printed.as_str(), text);
     Ok(())
+}
+
+#[test]
+fn targets_print(rt: HostRuntime) -> Result<(), AllocError> {
+    let label = MachLabel::from_u32(7);
+    assert_printed(&rt, rt.alloc(), CondBrTarget::Label(label), "label7")?;
+    assert_printed(&rt, rt.alloc(), CondBrTarget::Fallthrough, "0")
 }

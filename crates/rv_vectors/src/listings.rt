@@ -1,25 +1,22 @@
 use rv_base::label::MachLabel;
 use rv_base::list::List;
+use rv_base::memory::OutOfMemory;
 use rv_base::regs::{Reg, RegClass};
 use rv_inst::code::{Code, LabelPlace, LineSpan};
 use rv_listing::reading::{ReadError, read_job};
 use rv_listing::registers::register;
 use rv_listing::report::report;
 use std::alloc::Global;
-use std::test::Fail;
+use std::process::Abort;
 
-/// Names of registers with their classes and numbers, as the calling convention has them.
-const NAMES: [(RegClass, &str); 3] = [
-    (
-        RegClass::Int,
-        "zero:0 ra:1 sp:2 gp:3 tp:4 t0:5 t2:7 fp:8 s1:9 a0:10 a7:17 s2:18 s11:27 t3:28 t6:31 x31:31",
-    ),
-    (
-        RegClass::Float,
-        "ft0:0 ft7:7 fs0:8 fs1:9 fa0:10 fa7:17 fs2:18 fs11:27 ft8:28 ft11:31 f16:16",
-    ),
-    (RegClass::Vector, "v0:0 v31:31"),
-];
+/// Names of registers with their numbers, as the calling convention has them.
+const INT_NAMES: &str =
+    "zero:0 ra:1 sp:2 gp:3 tp:4 t0:5 t2:7 fp:8 s1:9 a0:10 a7:17 s2:18 s11:27 t3:28 t6:31 x31:31";
+
+const FLOAT_NAMES: &str =
+    "ft0:0 ft7:7 fs0:8 fs1:9 fa0:10 fa7:17 fs2:18 fs11:27 ft8:28 ft11:31 f16:16";
+
+const VECTOR_NAMES: &str = "v0:0 v31:31";
 
 /// The class and the number of a name, where it is a real register's.
 fn class_and_number(name: &str) -> Option<(RegClass, u8)> {
@@ -29,15 +26,25 @@ fn class_and_number(name: &str) -> Option<(RegClass, u8)> {
     }
 }
 
+/// Stops unless a name has its class and number.
+fn assert_name(rt: &impl Abort, class: RegClass, row: &str) {
+    let (name, number) = row.split_once(':').unwrap_or((row, ""));
+    let wanted = (class, number.parse().unwrap_or(255));
+    assert_eq!(rt; class_and_number(name), Some(wanted), "at {row}");
+}
+
+/// Stops unless the names of a class have their numbers.
+fn assert_names(rt: &impl Abort, class: RegClass, names: &str) {
+    for row in names.split(' ') {
+        assert_name(rt, class, row);
+    }
+}
+
 #[test]
 fn registers_have_their_names(rt: HostRuntime) {
-    for (class, names) in NAMES {
-        for row in names.split(' ') {
-            let (name, number) = row.split_once(':').unwrap_or((row, ""));
-            let wanted = (class, number.parse().unwrap_or(255));
-            assert_eq!(rt; class_and_number(name), Some(wanted), "at {row}");
-        }
-    }
+    assert_names(&rt, RegClass::Int, INT_NAMES);
+    assert_names(&rt, RegClass::Float, FLOAT_NAMES);
+    assert_names(&rt, RegClass::Vector, VECTOR_NAMES);
 }
 
 #[test]
@@ -63,40 +70,70 @@ fn line_count(alloc: Global, text: &str) -> Result<usize, ReadError> {
     Ok(job.lines.len())
 }
 
+/// Stops unless the reading of a text ends so, with so many lines where it is a job.
+fn assert_count(rt: &impl Abort, alloc: Global, text: &str, wanted: Result<usize, ReadError>) {
+    assert_eq!(rt; line_count(alloc, text), wanted, "at {text}");
+}
+
+/// A text with how many lines its job has.
+struct Job {
+    text: &'static str,
+    lines: usize,
+}
+
+const JOBS: [Job; 12] = [
+    Job { text: "", lines: 0 },
+    Job {
+        text: "\n\n# Ret\n",
+        lines: 0,
+    },
+    Job {
+        text: "Ret",
+        lines: 1,
+    },
+    Job {
+        text: "Bind L0\nAluRRImm12 addi a0 a0 -1\nCondBr ne a0 zero L0 -\nRet\n",
+        lines: 4,
+    },
+    Job {
+        text: "AluRRImm12 addi a0 a0 -2048\nAluRRImm12 addi a0 a0 0x7ff\nAluRRImm12 addi a0 a0 -0x00",
+        lines: 3,
+    },
+    Job {
+        text: "Lui a0 524287\nLui a0 -524288\nJal L4294967295\n",
+        lines: 3,
+    },
+    Job {
+        text: "EmitIsland 88\nEmitIsland 4294967295\nEmitIsland 0x58\n",
+        lines: 3,
+    },
+    Job {
+        text: "AluRRR add %192 x31 v0\n",
+        lines: 1,
+    },
+    Job {
+        text: "Nop0\nNop4\nEBreak\nSequencePoint\nDummyUse v3\n",
+        lines: 5,
+    },
+    Job {
+        text: "Args a0:a1,%192:fa2,v1:v2\nArgs -\nRets %192:a0\nRets -\n",
+        lines: 4,
+    },
+    Job {
+        text: "Auipc a0 -1\nMov a0 a1 i8\nMov fa0 fa1 f128\nMov v1 v2 i8x16\nMov v1 v2 f64x256\nMovFromPReg a0 fp\nJalr ra t0 -4\n",
+        lines: 7,
+    },
+    Job {
+        text: "AluRRR sh3add.uw a0 a1 a2\nAluRRR czero.nez a0 a1 a2\nAluRRImm12 zext.h a0 a1 0\nAluRRImm12 slli.uw a0 a1 3\n",
+        lines: 4,
+    },
+];
+
 #[test]
-fn texts_are_read(rt: HostRuntime) -> Result<(), Fail> {
-    for (text, lines) in [
-        ("", 0),
-        ("\n\n# Ret\n", 0),
-        ("Ret", 1),
-        (
-            "Bind L0\nAluRRImm12 addi a0 a0 -1\nCondBr ne a0 zero L0 -\nRet\n",
-            4,
-        ),
-        (
-            "AluRRImm12 addi a0 a0 -2048\nAluRRImm12 addi a0 a0 0x7ff\nAluRRImm12 addi a0 a0 -0x00",
-            3,
-        ),
-        ("Lui a0 524287\nLui a0 -524288\nJal L4294967295\n", 3),
-        ("EmitIsland 88\nEmitIsland 4294967295\nEmitIsland 0x58\n", 3),
-        ("AluRRR add %192 x31 v0\n", 1),
-        ("Nop0\nNop4\nEBreak\nSequencePoint\nDummyUse v3\n", 5),
-        (
-            "Args a0:a1,%192:fa2,v1:v2\nArgs -\nRets %192:a0\nRets -\n",
-            4,
-        ),
-        (
-            "Auipc a0 -1\nMov a0 a1 i8\nMov fa0 fa1 f128\nMov v1 v2 i8x16\nMov v1 v2 f64x256\nMovFromPReg a0 fp\nJalr ra t0 -4\n",
-            7,
-        ),
-        (
-            "AluRRR sh3add.uw a0 a1 a2\nAluRRR czero.nez a0 a1 a2\nAluRRImm12 zext.h a0 a1 0\nAluRRImm12 slli.uw a0 a1 3\n",
-            4,
-        ),
-    ] {
-        assert_eq!(rt; line_count(rt.alloc(), text), Ok(lines), "at {text}");
+fn texts_are_read(rt: HostRuntime) {
+    for job in &JOBS {
+        assert_count(&rt, rt.alloc(), job.text, Ok(job.lines));
     }
-    Ok(())
 }
 
 /// Lines that are of no form.
@@ -143,34 +180,33 @@ frame 0 0 0 0 0 0 -
 ";
 
 #[test]
-fn bad_lines_are_found(rt: HostRuntime) -> Result<(), Fail> {
+fn bad_lines_are_found(rt: HostRuntime) {
     for text in BAD_LINES.split_inclusive('\n') {
-        let bad = ReadError::Syntax { line: 1 };
-        assert_eq!(rt; line_count(rt.alloc(), text), Err(bad), "at {text}");
+        assert_count(&rt, rt.alloc(), text, Err(ReadError::Syntax { line: 1 }));
     }
-    for (text, line) in [
-        ("Ret\nAluRRImm12 addi a0 a0 2048\n", 2),
-        ("Ret\n\nRet \n", 3),
-    ] {
-        let bad = ReadError::Syntax { line };
-        assert_eq!(rt; line_count(rt.alloc(), text), Err(bad), "at {text}");
-    }
-    Ok(())
+}
+
+#[test]
+fn bad_lines_have_their_numbers(rt: HostRuntime) {
+    let second = Err(ReadError::Syntax { line: 2 });
+    assert_count(&rt, rt.alloc(), "Ret\nAluRRImm12 addi a0 a0 2048\n", second);
+    let third = Err(ReadError::Syntax { line: 3 });
+    assert_count(&rt, rt.alloc(), "Ret\n\nRet \n", third);
 }
 
 // A code of two rows, with its text as the report's format has it.
 #[test]
-fn reports(rt: HostRuntime) -> Result<(), Fail> {
+fn reports(rt: HostRuntime) -> Result<(), OutOfMemory> {
     let alloc = rt.alloc();
-    let bytes = Vec::from_array(
+    let bytes = Vec::from_slice(
         alloc,
-        [
+        &[
             0x13, 0x05, 0xf5, 0xff, 0xe3, 0x1e, 0x05, 0xfe, 0x67, 0x80, 0, 0, 1, 2, 3, 4, 5, 0xab,
         ],
     )?;
-    let lines = Vec::from_array(
+    let lines = Vec::from_slice(
         alloc,
-        [
+        &[
             LineSpan {
                 index: 0,
                 start: 0,
@@ -183,9 +219,9 @@ fn reports(rt: HostRuntime) -> Result<(), Fail> {
             },
         ],
     )?;
-    let labels = Vec::from_array(
+    let labels = Vec::from_slice(
         alloc,
-        [LabelPlace {
+        &[LabelPlace {
             label: MachLabel::from_u32(7),
             offset: 4,
         }],

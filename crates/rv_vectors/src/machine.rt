@@ -6,7 +6,7 @@ use rv_machine::decode::{Decoded, decode};
 use rv_machine::machine::{IntMachine, Step};
 use rv_machine::ops::{BaseOp, BitOp, MOp, MulOp};
 use std::alloc::Global;
-use std::test::Fail;
+use std::process::Abort;
 
 /// The sources, in hex, that each row of `TWO_SOURCES` is tried with.
 const PAIRS: [(u64, u64); 8] = [
@@ -171,46 +171,83 @@ fn number(text: &str) -> u64 {
     u64::from_str_radix(text, 16).unwrap_or(0)
 }
 
+/// Does one row, and stops unless it leaves `expected` in a2.
+fn assert_answer(
+    rt: &impl Abort,
+    machine: &mut IntMachine,
+    name: &str,
+    word: u64,
+    x: u64,
+    y: u64,
+    expected: u64,
+) -> Result<(), OutOfMemory> {
+    let (step, got) = answer(machine, word, x, y)?;
+    assert!(rt; step == Step::Stepped, "{name} of {x:x} and {y:x}");
+    assert_eq!(rt; got, expected, "{name} of {x:x} and {y:x}");
+    Ok(())
+}
+
+/// Does the rows of a line of `TWO_SOURCES`, and answers how many they are.
+fn do_two_sources(
+    rt: &impl Abort,
+    machine: &mut IntMachine,
+    line: &str,
+) -> Result<u32, OutOfMemory> {
+    let mut columns = line.split(' ');
+    let (Some(name), Some(word)) = (columns.next(), columns.next()) else {
+        return Ok(0);
+    };
+    let word = number(word);
+    let mut rows = 0u32;
+    for (x, y) in &PAIRS {
+        let Some(expected) = columns.next() else {
+            return Ok(rows);
+        };
+        assert_answer(rt, machine, name, word, *x, *y, number(expected))?;
+        rows = rows.wrapping_add(1);
+    }
+    Ok(rows)
+}
+
 #[test]
-fn rows_of_two_sources(rt: HostRuntime) -> Result<(), Fail> {
+fn rows_of_two_sources(rt: HostRuntime) -> Result<(), OutOfMemory> {
     let mut machine = IntMachine::new(rt.alloc(), IsaFlags::none(), 0);
     let mut rows = 0u32;
     for line in TWO_SOURCES.lines() {
-        let mut columns = line.split(' ');
-        let (Some(name), Some(word)) = (columns.next(), columns.next()) else {
-            continue;
-        };
-        for ((x, y), expected) in PAIRS.into_iter().zip(columns) {
-            let got = answer(&mut machine, number(word), x, y)?;
-            assert_eq!(rt;
-                got,
-                (Step::Stepped, number(expected)),
-                "{name} of {x:x} and {y:x}"
-            );
-            rows = rows.wrapping_add(1);
-        }
+        let done = do_two_sources(&rt, &mut machine, line)?;
+        rows = rows.wrapping_add(done);
     }
     assert_eq!(rt; rows, 416);
     Ok(())
 }
 
+/// Does the rows of a line of `ONE_SOURCE`, and answers how many they are.
+fn do_one_source(
+    rt: &impl Abort,
+    machine: &mut IntMachine,
+    line: &str,
+) -> Result<u32, OutOfMemory> {
+    let mut columns = line.split(' ');
+    let (Some(name), Some(word)) = (columns.next(), columns.next()) else {
+        return Ok(0);
+    };
+    let word = number(word);
+    let mut rows = 0u32;
+    for column in columns {
+        let (x, expected) = column.split_once(':').unwrap_or((column, ""));
+        assert_answer(rt, machine, name, word, number(x), 0, number(expected))?;
+        rows = rows.wrapping_add(1);
+    }
+    Ok(rows)
+}
+
 #[test]
-fn rows_of_one_source(rt: HostRuntime) -> Result<(), Fail> {
+fn rows_of_one_source(rt: HostRuntime) -> Result<(), OutOfMemory> {
     let mut machine = IntMachine::new(rt.alloc(), IsaFlags::none(), 0);
     let mut rows = 0u32;
     for line in ONE_SOURCE.lines() {
-        let mut columns = line.split(' ');
-        let (Some(name), Some(word)) = (columns.next(), columns.next()) else {
-            continue;
-        };
-        for column in columns {
-            let Some((x, expected)) = column.split_once(':') else {
-                continue;
-            };
-            let got = answer(&mut machine, number(word), number(x), 0)?;
-            assert_eq!(rt; got, (Step::Stepped, number(expected)), "{name} of {x}");
-            rows = rows.wrapping_add(1);
-        }
+        let done = do_one_source(&rt, &mut machine, line)?;
+        rows = rows.wrapping_add(done);
     }
     assert_eq!(rt; rows, 228);
     Ok(())
@@ -231,67 +268,92 @@ fn looping(alloc: Global) -> Result<IntMachine, OutOfMemory> {
     Ok(machine)
 }
 
+/// What the loop leaves behind five steps and three more: how many are done, pc, a0, zero, and how many more are done.
+fn ran(alloc: Global) -> Result<([u64; 5], Step), OutOfMemory> {
+    let mut machine = looping(alloc)?;
+    let done = machine.run(5)?;
+    let (pc, a0, zero) = (machine.pc(), machine.reg(10), machine.reg(0));
+    let more = machine.run(3)?;
+    Ok(([done, pc, a0, zero, more], machine.step()?))
+}
+
 #[test]
-fn machines_run(rt: HostRuntime) -> Result<(), Fail> {
-    let mut machine = looping(rt.alloc())?;
-    assert_eq!(rt; machine.run(5)?, 5);
-    assert_eq!(rt;
-        (machine.pc(), machine.reg(10), machine.reg(0)),
-        (0x2000, 0, 0)
-    );
-    assert_eq!(rt; (machine.run(3)?, machine.step()?), (0, Step::Stopped));
+fn machines_run(rt: HostRuntime) -> Result<(), OutOfMemory> {
+    let (numbers, last) = ran(rt.alloc())?;
+    assert_eq!(rt; numbers, [5, 0x2000, 0, 0, 0]);
+    assert_eq!(rt; last, Step::Stopped);
     Ok(())
 }
 
-/// A stop at an odd pc, and at `ebreak`, which stands round the end of the memory.
-#[test]
-fn machines_stop(rt: HostRuntime) -> Result<(), Fail> {
-    let mut machine = looping(rt.alloc())?;
+/// The step at an odd pc.
+fn odd_step(alloc: Global) -> Result<Step, OutOfMemory> {
+    let mut machine = looping(alloc)?;
     machine.set_pc(0x1001);
-    assert_eq!(rt; machine.step()?, Step::Stopped);
+    machine.step()
+}
+
+/// The step at `ebreak`, which stands round the end of the memory, and its last two bytes.
+fn break_step(alloc: Global) -> Result<(Step, [u8; 2]), OutOfMemory> {
+    let mut machine = looping(alloc)?;
     machine.load_image(0xffff_ffff_ffff_fffe, &[0x73, 0x00, 0x10, 0x00])?;
-    assert_eq!(rt; (machine.byte(0), machine.byte(1)), (0x10, 0));
     machine.set_pc(0xffff_ffff_ffff_fffe);
-    assert_eq!(rt; machine.step()?, Step::Stopped);
+    let step = machine.step()?;
+    Ok((step, [machine.byte(0), machine.byte(1)]))
+}
+
+#[test]
+fn machines_stop(rt: HostRuntime) -> Result<(), OutOfMemory> {
+    assert_eq!(rt; odd_step(rt.alloc())?, Step::Stopped);
+    let (step, bytes) = break_step(rt.alloc())?;
+    assert_eq!(rt; step, Step::Stopped);
+    assert_eq!(rt; bytes, [0x10, 0]);
     Ok(())
 }
 
-/// A word with its row, rd, rs1, rs2 and number; and words without a row.
+/// Stops unless a word has this row, these rd, rs1 and rs2, and this number.
+fn assert_decoded(rt: &impl Abort, word: u32, op: MOp, registers: [u8; 3], imm: i64) {
+    let [rd, rs1, rs2] = registers;
+    let row = Decoded {
+        op,
+        rd,
+        rs1,
+        rs2,
+        rs3: 0,
+        imm,
+        rm: 0,
+        vm: false,
+        len: 4,
+    };
+    assert_eq!(rt; decode(IsaFlags::none(), word), Some(row), "{word:x}");
+}
+
 #[test]
 fn words_are_decoded(rt: HostRuntime) {
-    for (word, op, rd, rs1, rs2, imm) in [
-        (0x0120000f, MOp::Base(BaseOp::Fence), 0, 0, 0, 18),
-        (0x00100073, MOp::Base(BaseOp::Ebreak), 0, 0, 0, 0),
-        (0x00078037, MOp::Base(BaseOp::Lui), 0, 0, 0, 120),
-        (0xfffff517, MOp::Base(BaseOp::Auipc), 10, 0, 0, -1),
-        (0xffdff0ef, MOp::Base(BaseOp::Jal), 1, 0, 0, -4),
-        (0x00c0006f, MOp::Base(BaseOp::Jal), 0, 0, 0, 12),
-        (0x06450567, MOp::Base(BaseOp::Jalr), 10, 10, 0, 100),
-        (0xfe051ee3, MOp::Base(BaseOp::Bne), 0, 10, 0, -4),
-        (0x78b504e3, MOp::Base(BaseOp::Beq), 0, 10, 11, 3976),
-        (0x80050513, MOp::Base(BaseOp::Addi), 10, 10, 0, -2048),
-        (0x43f55513, MOp::Base(BaseOp::Srai), 10, 10, 0, 63),
-        (0x080545bb, MOp::Bit(BitOp::ZextH), 11, 10, 0, 0),
-        (0x60555593, MOp::Bit(BitOp::Rori), 11, 10, 0, 5),
-        (0x02b55533, MOp::Mul(MulOp::Divu), 10, 10, 11, 0),
-    ] {
-        let row = Decoded {
-            op,
-            rd,
-            rs1,
-            rs2,
-            rs3: 0,
-            imm,
-            rm: 0,
-            vm: false,
-            len: 4,
-        };
-        assert_eq!(rt; decode(IsaFlags::none(), word), Some(row), "{word:x}");
-    }
-    for word in [
-        0, 0x4501, 0xffffffff, 0x00000073, 0x00200073, 0x0200552b, 0x08b545bb, 0x0240559b,
-        0x80000033, 0x00052063,
-    ] {
-        assert_eq!(rt; decode(IsaFlags::none(), word), None, "{word:x}");
+    assert_decoded(&rt, 0x0120000f, MOp::Base(BaseOp::Fence), [0, 0, 0], 18);
+    assert_decoded(&rt, 0x00100073, MOp::Base(BaseOp::Ebreak), [0, 0, 0], 0);
+    assert_decoded(&rt, 0x00078037, MOp::Base(BaseOp::Lui), [0, 0, 0], 120);
+    assert_decoded(&rt, 0xfffff517, MOp::Base(BaseOp::Auipc), [10, 0, 0], -1);
+    assert_decoded(&rt, 0xffdff0ef, MOp::Base(BaseOp::Jal), [1, 0, 0], -4);
+    assert_decoded(&rt, 0x00c0006f, MOp::Base(BaseOp::Jal), [0, 0, 0], 12);
+    assert_decoded(&rt, 0x06450567, MOp::Base(BaseOp::Jalr), [10, 10, 0], 100);
+    assert_decoded(&rt, 0xfe051ee3, MOp::Base(BaseOp::Bne), [0, 10, 0], -4);
+    assert_decoded(&rt, 0x78b504e3, MOp::Base(BaseOp::Beq), [0, 10, 11], 3976);
+    assert_decoded(&rt, 0x80050513, MOp::Base(BaseOp::Addi), [10, 10, 0], -2048);
+    assert_decoded(&rt, 0x43f55513, MOp::Base(BaseOp::Srai), [10, 10, 0], 63);
+    assert_decoded(&rt, 0x080545bb, MOp::Bit(BitOp::ZextH), [11, 10, 0], 0);
+    assert_decoded(&rt, 0x60555593, MOp::Bit(BitOp::Rori), [11, 10, 0], 5);
+    assert_decoded(&rt, 0x02b55533, MOp::Mul(MulOp::Divu), [10, 10, 11], 0);
+}
+
+/// Words without a row.
+const NO_ROWS: [u32; 10] = [
+    0, 0x4501, 0xffffffff, 0x00000073, 0x00200073, 0x0200552b, 0x08b545bb, 0x0240559b, 0x80000033,
+    0x00052063,
+];
+
+#[test]
+fn other_words_are_not_decoded(rt: HostRuntime) {
+    for word in &NO_ROWS {
+        assert!(rt; decode(IsaFlags::none(), *word).is_none(), "{word:x}");
     }
 }

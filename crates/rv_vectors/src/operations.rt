@@ -1,7 +1,8 @@
 //! Words from outside: each row is a listing of one line, and the word that an assembler makes of it.
 
-use crate::reported::reported;
-use std::test::Fail;
+use crate::reported::assert_reported;
+use std::alloc::{AllocError, Global};
+use std::process::Abort;
 
 // A line, and its word with the highest digit first.
 const ROWS: &str = "\
@@ -92,19 +93,22 @@ AluRRImm12 addiw a0 a0 -1 = fff5051b\n\
 AluRRImm12 ori a0 a0 -1 = fff56513\n\
 AluRRImm12 srai a0 a0 63 = 43f55513";
 
+/// Stops unless the listing of a row has its word.
+fn assert_word(rt: &impl Abort, alloc: Global, row: &str) -> Result<(), AllocError> {
+    let (listing, digits) = row.split_once(" = ").unwrap_or((row, ""));
+    let bytes = u32::from_str_radix(digits, 16).unwrap_or(0).swap_bytes();
+    let text = format!(in alloc; "code 4\n00000000 {bytes:08x}\nline 0 0 4\nend 4\n")?;
+    assert_reported(rt, alloc, listing, listing.as_bytes(), 0, &text);
+    Ok(())
+}
+
 #[test]
-fn operations(rt: HostRuntime) -> Result<(), Fail> {
-    assert_eq!(rt; ROWS.lines().count(), 86);
+fn operations(rt: HostRuntime) -> Result<(), AllocError> {
+    let mut rows = 0u32;
     for row in ROWS.lines() {
-        let Some((listing, digits)) = row.split_once(" = ") else {
-            assert!(rt; false, "at {row}");
-            continue;
-        };
-        let bytes = u32::from_str_radix(digits, 16).unwrap_or(0).swap_bytes();
-        let text = format!(in rt.alloc(); "code 4\n00000000 {bytes:08x}\nline 0 0 4\nend 4\n")?;
-        let (status, report) = reported(rt.alloc(), listing.as_bytes());
-        assert_eq!(rt; status, 0, "at {listing}");
-        assert_eq!(rt; report.bytes(), text.as_bytes(), "at {listing}");
+        assert_word(&rt, rt.alloc(), row)?;
+        rows = rows.wrapping_add(1);
     }
+    assert_eq!(rt; rows, 86);
     Ok(())
 }

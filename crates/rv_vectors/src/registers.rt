@@ -7,6 +7,7 @@ use rv_base::external_name::ExternalName;
 use rv_base::ir_type::IrType;
 use rv_base::label::MachLabel;
 use rv_base::list::List;
+use rv_base::memory::OutOfMemory;
 use rv_base::named::{a0, a1, a2, f_reg, pv_reg, writable_a0, x_reg};
 use rv_base::names::reg_name;
 use rv_base::operand_list::OperandList;
@@ -14,10 +15,10 @@ use rv_base::operands::OperandVisitor;
 use rv_base::preg_set::PRegSet;
 use rv_base::regs::{Reg, RegClass};
 use rv_base::trap::TrapCode;
-use std::test::Fail;
+use std::alloc::AllocError;
 
 #[test]
-fn registers_print_their_names(rt: HostRuntime) -> Result<(), Fail> {
+fn registers_print_their_names(rt: HostRuntime) -> Result<(), OutOfMemory> {
     let rows = [
         (x_reg(0), "zero"),
         (x_reg(8), "fp"),
@@ -35,7 +36,7 @@ fn registers_print_their_names(rt: HostRuntime) -> Result<(), Fail> {
 }
 
 #[test]
-fn addresses_print(rt: HostRuntime) -> Result<(), Fail> {
+fn addresses_print(rt: HostRuntime) -> Result<(), AllocError> {
     let rows = [
         (AMode::RegOffset(a0(), -8), "-8(a0)"),
         (AMode::SPOffset(16), "16(sp)"),
@@ -53,7 +54,7 @@ fn addresses_print(rt: HostRuntime) -> Result<(), Fail> {
 }
 
 #[test]
-fn types_traps_and_symbols_print(rt: HostRuntime) -> Result<(), Fail> {
+fn types_traps_and_symbols_print(rt: HostRuntime) -> Result<(), AllocError> {
     let Some(vector) = IrType::vector(IrType::I8, 16) else {
         assert!(rt; false, "i8x16 is a type");
         return Ok(());
@@ -71,7 +72,7 @@ fn types_traps_and_symbols_print(rt: HostRuntime) -> Result<(), Fail> {
 }
 
 #[test]
-fn trap_codes_have_their_names(rt: HostRuntime) -> Result<(), Fail> {
+fn trap_codes_have_their_names(rt: HostRuntime) -> Result<(), AllocError> {
     let rows = [
         (TrapCode::STACK_OVERFLOW, "stk_ovf"),
         (TrapCode::HEAP_OUT_OF_BOUNDS, "heap_oob"),
@@ -79,28 +80,39 @@ fn trap_codes_have_their_names(rt: HostRuntime) -> Result<(), Fail> {
         (TrapCode::INTEGER_DIVISION_BY_ZERO, "int_divz"),
         (TrapCode::BAD_CONVERSION_TO_INTEGER, "bad_toint"),
     ];
-    for (code, name) in rows {
+    for (code, name) in &rows {
         let text = code.to_string(rt.alloc())?;
-        assert_eq!(rt; text.as_str(), name);
+        assert_eq!(rt; text.as_str(), *name);
     }
     Ok(())
 }
 
-#[test]
-fn requests_are_recorded_in_order(rt: HostRuntime) -> Result<(), Fail> {
-    let mut visitor = OperandList::new(rt.alloc());
+/// Asks to read the register of an address, and a1 in three ways.
+fn ask_reads(visitor: &mut OperandList) -> Result<(), OutOfMemory> {
     let mut mode = AMode::RegOffset(a0(), 8);
-    mode.get_operands(&mut visitor)?;
-    let (mut read, mut written) = (a1(), writable_a0());
+    mode.get_operands(visitor)?;
+    let mut read = a1();
     visitor.reg_late_use(&mut read)?;
     visitor.reg_fixed_use(&mut read, a2())?;
-    visitor.reg_fixed_late_use(&mut read, a2())?;
+    visitor.reg_fixed_late_use(&mut read, a2())
+}
+
+/// Asks to write a0, in five ways, and for no clobbers.
+fn ask_writes(visitor: &mut OperandList) -> Result<(), OutOfMemory> {
+    let mut written = writable_a0();
     visitor.reg_def(&mut written)?;
     visitor.reg_early_def(&mut written)?;
     visitor.reg_fixed_def(&mut written, a2())?;
     visitor.reg_reuse_def(&mut written, 1)?;
     visitor.any_def(&mut written)?;
-    visitor.reg_clobbers(PRegSet::new())?;
+    visitor.reg_clobbers(PRegSet::new())
+}
+
+#[test]
+fn requests_are_recorded_in_order(rt: HostRuntime) -> Result<(), OutOfMemory> {
+    let mut visitor = OperandList::new(rt.alloc());
+    ask_reads(&mut visitor)?;
+    ask_writes(&mut visitor)?;
     let expected = [
         Constraint::RegUse(a0()),
         Constraint::RegLateUse(a1()),
@@ -118,7 +130,7 @@ fn requests_are_recorded_in_order(rt: HostRuntime) -> Result<(), Fail> {
 }
 
 #[test]
-fn lists_grow(rt: HostRuntime) -> Result<(), Fail> {
+fn lists_grow(rt: HostRuntime) -> Result<(), OutOfMemory> {
     let mut list = List::new(rt.alloc());
     list.push(3)?;
     list.push(4)?;

@@ -3,6 +3,7 @@
 use rv_asm::run::run;
 use rv_stream::in_memory::{SureSink, SureSource};
 use std::alloc::Global;
+use std::process::Abort;
 
 /// The status of a call with these words over a listing, and the sink that took its text.
 pub fn told(alloc: Global, words: &[String], listing: &[u8]) -> (u8, SureSink) {
@@ -14,4 +15,18 @@ pub fn told(alloc: Global, words: &[String], listing: &[u8]) -> (u8, SureSink) {
 /// The status of a call without words over a listing, and the sink that took its text.
 pub fn reported(alloc: Global, listing: &[u8]) -> (u8, SureSink) {
     told(alloc, &[], listing)
+}
+
+/// Stops unless a call without words over a listing ends with this status and writes this text.
+pub fn assert_reported(
+    rt: &impl Abort,
+    alloc: Global,
+    name: &str,
+    listing: &[u8],
+    status: u8,
+    text: &str,
+) {
+    let (found, report) = reported(alloc, listing);
+    assert!(rt; found == status, "status {found} at {name}");
+    assert_eq!(rt; report.bytes(), text.as_bytes(), "at {name}");
 }

@@ -19,6 +19,7 @@ use rv_machine::machine::{IntMachine, Step};
 use rv_ops::alu::{AluOPRRI, AluOPRRR};
 use rv_ops::compare::IntegerCompare;
 use std::alloc::{AllocError, Global};
+use std::process::Abort;
 use std::test::Fail;
 
 const BASE: u64 = 0x1000;
@@ -80,32 +81,48 @@ fn returns(machine: &mut IntMachine) -> Result<bool, OutOfMemory> {
     Ok(machine.pc() == CALLER)
 }
 
-/// The countdown loop, of which the bytes and the spans are known.
+/// The countdown loop.
+fn countdown(alloc: Global) -> Result<Vec<Line>, AllocError> {
+    let mut lines = Vec::new(alloc);
+    lines.push(bind(0))?;
+    lines.push(addi(a0(), a0(), -1))?;
+    lines.push(branch(
+        IntCC::NotEqual,
+        a0(),
+        zero_reg(),
+        label(0),
+        CondBrTarget::Fallthrough,
+    ))?;
+    lines.push(Line::Inst(Inst::Ret))?;
+    Ok(lines)
+}
+
+/// Its bytes.
+const COUNTDOWN: [u8; 12] = [
+    0x13, 0x05, 0xf5, 0xff, 0xe3, 0x1e, 0x05, 0xfe, 0x67, 0x80, 0x00, 0x00,
+];
+
 #[test]
-fn counts_down(rt: HostRuntime) -> Result<(), Fail> {
-    let lines = [
-        bind(0),
-        addi(a0(), a0(), -1),
-        branch(
-            IntCC::NotEqual,
-            a0(),
-            zero_reg(),
-            label(0),
-            CondBrTarget::Fallthrough,
-        ),
-        Line::Inst(Inst::Ret),
-    ];
+fn the_countdown_has_its_bytes(rt: HostRuntime) -> Result<(), Fail> {
+    let lines = countdown(rt.alloc())?;
     let code = code_of(rt.alloc(), &lines)?;
-    let bytes = [
-        0x13, 0x05, 0xf5, 0xff, 0xe3, 0x1e, 0x05, 0xfe, 0x67, 0x80, 0x00, 0x00,
-    ];
-    assert_eq!(rt; code.as_slice(), bytes.as_slice());
+    assert_eq!(rt; code.as_slice(), COUNTDOWN.as_slice());
+    Ok(())
+}
+
+/// What the countdown from 2 leaves behind five steps: how many are done, pc and a0.
+fn counted(alloc: Global) -> Result<[u64; 3], OutOfMemory> {
     let mut registers = Registers { values: [0; 32] };
     registers.write(link_reg(), CALLER + 1);
     registers.write(a0(), 2);
-    let mut machine = started(rt.alloc(), code.as_slice(), &registers)?;
-    assert_eq!(rt; machine.run(5)?, 5);
-    assert_eq!(rt; (machine.pc(), machine.reg(10)), (CALLER, 0));
+    let mut machine = started(alloc, &COUNTDOWN, &registers)?;
+    let done = machine.run(5)?;
+    Ok([done, machine.pc(), machine.reg(10)])
+}
+
+#[test]
+fn counts_down(rt: HostRuntime) -> Result<(), OutOfMemory> {
+    assert_eq!(rt; counted(rt.alloc())?, [5, CALLER, 0]);
     Ok(())
 }
 
@@ -362,22 +379,39 @@ fn interpret(lines: &[Line], registers: &mut Registers) -> bool {
     false
 }
 
-/// Listings of loops and branches end on the machine as in the plain interpreter. The last have branches too far for
-/// one instruction, both ways.
+/// Stops unless the machine has the values of the plain interpreter in x1 to x29.
+fn assert_registers(rt: &impl Abort, machine: &IntMachine, registers: &Registers, seed: u64) {
+    for n in 1..30 {
+        assert_eq!(rt; machine.reg(n as u8), registers.values[n], "x{n} at {seed}");
+    }
+}
+
+/// Stops unless the listing that is drawn from a seed ends on the machine as in the plain interpreter.
+fn assert_runs(rt: &impl Abort, alloc: Global, seed: u64, gap: usize) -> Result<(), Fail> {
+    let mut draws = Draws { state: seed };
+    let lines = draws.listing(alloc, gap)?;
+    let code = code_of(alloc, &lines)?;
+    let mut registers = draws.registers();
+    let mut machine = started(alloc, code.as_slice(), &registers)?;
+    assert!(rt; interpret(&lines, &mut registers), "at {seed}");
+    assert!(rt; returns(&mut machine)?, "at {seed}");
+    assert_registers(rt, &machine, &registers, seed);
+    Ok(())
+}
+
 #[test]
 fn runs_like_the_listing(rt: HostRuntime) -> Result<(), Fail> {
-    for seed in 0..44 {
-        let mut draws = Draws { state: seed };
-        let gap = if seed < 40 { 0 } else { 1100 };
-        let lines = draws.listing(rt.alloc(), gap)?;
-        let code = code_of(rt.alloc(), &lines)?;
-        let mut registers = draws.registers();
-        let mut machine = started(rt.alloc(), code.as_slice(), &registers)?;
-        assert!(rt; interpret(&lines, &mut registers), "at {seed}");
-        assert!(rt; returns(&mut machine)?, "at {seed}");
-        for n in 1..30 {
-            assert_eq!(rt; machine.reg(n as u8), registers.values[n], "x{n} at {seed}");
-        }
+    for seed in 0..40 {
+        assert_runs(&rt, rt.alloc(), seed, 0)?;
+    }
+    Ok(())
+}
+
+// The branches are too far for one instruction, both ways.
+#[test]
+fn far_branches_run_like_the_listing(rt: HostRuntime) -> Result<(), Fail> {
+    for seed in 40..44 {
+        assert_runs(&rt, rt.alloc(), seed, 1100)?;
     }
     Ok(())
 }

@@ -3,7 +3,7 @@
 mod islands;
 mod random;
 
-use crate::reported::reported;
+use crate::reported::assert_reported;
 use islands::{
     ASKED_LISTING, ASKED_REPORT, LONG_LISTING, LONG_REPORT, NARROW_LISTING, NARROW_REPORT,
 };
@@ -11,41 +11,73 @@ use random::{
     FIFTH_LISTING, FIFTH_REPORT, FIRST_LISTING, FIRST_REPORT, FOURTH_LISTING, FOURTH_REPORT,
     SECOND_LISTING, SECOND_REPORT, THIRD_LISTING, THIRD_REPORT,
 };
-use rv_stream::in_memory::SureSink;
 use std::alloc::{AllocError, Global};
-use std::test::Fail;
+use std::process::Abort;
 
-/// Listings with their reports, in short.
-static SAMPLES: [(&str, &str); 8] = [
-    (FIRST_LISTING, FIRST_REPORT),
-    (SECOND_LISTING, SECOND_REPORT),
-    (THIRD_LISTING, THIRD_REPORT),
-    (FOURTH_LISTING, FOURTH_REPORT),
-    (FIFTH_LISTING, FIFTH_REPORT),
-    (ASKED_LISTING, ASKED_REPORT),
-    (NARROW_LISTING, NARROW_REPORT),
-    (LONG_LISTING, LONG_REPORT),
+/// A listing with its report, in short.
+struct Sample {
+    name: &'static str,
+    listing: &'static str,
+    report: &'static str,
+}
+
+const SAMPLES: [Sample; 8] = [
+    Sample {
+        name: "first",
+        listing: FIRST_LISTING,
+        report: FIRST_REPORT,
+    },
+    Sample {
+        name: "second",
+        listing: SECOND_LISTING,
+        report: SECOND_REPORT,
+    },
+    Sample {
+        name: "third",
+        listing: THIRD_LISTING,
+        report: THIRD_REPORT,
+    },
+    Sample {
+        name: "fourth",
+        listing: FOURTH_LISTING,
+        report: FOURTH_REPORT,
+    },
+    Sample {
+        name: "fifth",
+        listing: FIFTH_LISTING,
+        report: FIFTH_REPORT,
+    },
+    Sample {
+        name: "asked",
+        listing: ASKED_LISTING,
+        report: ASKED_REPORT,
+    },
+    Sample {
+        name: "narrow",
+        listing: NARROW_LISTING,
+        report: NARROW_REPORT,
+    },
+    Sample {
+        name: "long",
+        listing: LONG_LISTING,
+        report: LONG_REPORT,
+    },
 ];
 
-#[test]
-fn samples(rt: HostRuntime) -> Result<(), Fail> {
-    for (n, (listing, report)) in SAMPLES.iter().enumerate() {
-        let (status, text, wanted) = reported_in_full(rt.alloc(), listing, report)?;
-        assert_eq!(rt; status, 0, "at {n}");
-        assert_eq!(rt; text.bytes(), wanted.as_bytes(), "at {n}");
-    }
+/// Stops unless the listing of a sample has its report.
+fn assert_sample(rt: &impl Abort, alloc: Global, sample: &Sample) -> Result<(), AllocError> {
+    let listing = written_out(alloc, sample.listing)?;
+    let report = written_out(alloc, sample.report)?;
+    assert_reported(rt, alloc, sample.name, listing.as_bytes(), 0, &report);
     Ok(())
 }
 
-/// The status of a call over a listing, the sink that took its text, and the text that is due.
-fn reported_in_full(
-    alloc: Global,
-    listing: &str,
-    report: &str,
-) -> Result<(u8, SureSink, String), AllocError> {
-    let listing = written_out(alloc, listing)?;
-    let (status, sink) = reported(alloc, listing.as_bytes());
-    Ok((status, sink, written_out(alloc, report)?))
+#[test]
+fn samples(rt: HostRuntime) -> Result<(), AllocError> {
+    for sample in &SAMPLES {
+        assert_sample(&rt, rt.alloc(), sample)?;
+    }
+    Ok(())
 }
 
 /// The text of which `short` writes some lines in short.

@@ -6,8 +6,7 @@ use rv_stream::ends::WriteError;
 use rv_stream::in_memory::{MemSink, MemSource, SureSink, SureSource};
 use rv_stream::standard::{StdSink, StdSource};
 use rv_stream::whole::{ReadAllError, read_all, write_all};
-use std::alloc::Global;
-use std::test::Fail;
+use std::alloc::{AllocError, Global};
 
 const TEN: &[u8] = b"0123456789";
 
@@ -21,7 +20,7 @@ fn are_read(alloc: Global, chunk: usize, call: usize) -> Result<bool, ReadAllErr
 
 // Three bytes a call are four calls, and the fifth finds the end.
 #[test]
-fn reads_fail_by_number(rt: HostRuntime) -> Result<(), Fail> {
+fn reads_fail_by_number(rt: HostRuntime) {
     let failed = Err(ReadAllError::Failed);
     for (chunk, call, wanted) in [
         (1, 11, Ok(true)),
@@ -39,7 +38,6 @@ fn reads_fail_by_number(rt: HostRuntime) -> Result<(), Fail> {
             "at {chunk} {call}"
         );
     }
-    Ok(())
 }
 
 /// How many bytes are read of these.
@@ -49,7 +47,7 @@ fn length_read(alloc: Global, bytes: &[u8]) -> Result<usize, ReadAllError> {
 }
 
 #[test]
-fn sources_have_a_greatest_length(rt: HostRuntime) -> Result<(), Fail> {
+fn sources_have_a_greatest_length(rt: HostRuntime) -> Result<(), AllocError> {
     for (length, wanted) in [
         (0, Ok(0)),
         (65536, Ok(65536)),
@@ -74,7 +72,7 @@ fn are_written(alloc: Global, chunk: usize, call: usize) -> (Result<(), WriteErr
 }
 
 #[test]
-fn writes_fail_by_number(rt: HostRuntime) -> Result<(), Fail> {
+fn writes_fail_by_number(rt: HostRuntime) {
     let failed = Err(WriteError::Failed);
     for (chunk, call, wanted) in [
         (1, 0, (failed, 0)),
@@ -93,20 +91,18 @@ fn writes_fail_by_number(rt: HostRuntime) -> Result<(), Fail> {
             "at {chunk} {call}"
         );
     }
-    Ok(())
 }
 
 #[test]
-fn all_is_written(rt: HostRuntime) -> Result<(), Fail> {
+fn all_is_written(rt: HostRuntime) {
     let mut sink = SureSink::new(rt.alloc());
     assert!(rt; write_all(&mut sink, TEN).is_ok());
     assert_eq!(rt; sink.bytes(), TEN);
-    Ok(())
 }
 
 // Slices and vectors as the readers and writers of std that they are.
 #[test]
-fn adapters(rt: HostRuntime) -> Result<(), Fail> {
+fn adapters(rt: HostRuntime) {
     let mut source = StdSource::new(b"Ret\n".as_slice());
     match read_all(rt.alloc(), &mut source) {
         Ok(text) => assert_eq!(rt; text.as_slice(), b"Ret\n".as_slice()),
@@ -114,5 +110,4 @@ fn adapters(rt: HostRuntime) -> Result<(), Fail> {
     }
     let mut sink = StdSink::new(Vec::new(rt.alloc()));
     assert!(rt; write_all(&mut sink, b"code 0\n").is_ok());
-    Ok(())
 }

@@ -2,13 +2,13 @@
 
 use rv_base::amode::AMode;
 use rv_base::constraint::Constraint;
+use rv_base::memory::OutOfMemory;
 use rv_base::named::a0;
 use rv_base::operand_list::OperandList;
 use rv_ops::vec_amode::VecAMode;
-use std::test::Fail;
 
 #[test]
-fn vector_addresses_read_their_base(rt: HostRuntime) -> Result<(), Fail> {
+fn vector_addresses_read_their_base(rt: HostRuntime) -> Result<(), OutOfMemory> {
     let mut visitor = OperandList::new(rt.alloc());
     let mut mode = VecAMode {
         base: AMode::RegOffset(a0(), 8),

@@ -1,19 +1,16 @@
 use Rattle.std.proofs.Common.{arith, sym, ◌∙◌, ◌≡◌, ◌<◌, ◌+◌, ◌*◌, ◌^◌, true, length}
-use Rattle.std.specs.Prelude.{is_some, nat_lt}
+use Rattle.std.specs.Prelude.{nat_lt}
 use Rattle.std.proofs.lemmas.Bool.{and_parts, ltb-true}
-use Rattle.mach_buffer.specs.Buffer.{bytes_of, place_of, drawn_of, pending_of}
-use Rattle.rv_vectors.proofs.Kept.{can_finish, each_of_four}
+use Rattle.mach_buffer.specs.Buffer.{bytes_of, drawn_of, pending_of}
+use Rattle.rv_vectors.proofs.Kept.{can_finish}
 use Rattle.rv_vectors.proofs.buffer.end.Goals as goal
 
 pub finish-requires-clause-ready : goal.finish-requires-clause-ready
 finish-requires-clause-ready g c =
     let K = g.L.MachInstLabelUse in
-    let b = c.bind-4.new.buffer in
-    let e1 = c.in_ok-bind.ensures in
-    let e2 = c.in_ok-bind-2.ensures in
-    let e3 = c.in_ok-bind-3.ensures in
-    let e4 = c.in_ok-bind-4.ensures in
+    let b = c.bind_each.new.buffer in
+    let e = c.in_ok-bind_each.ensures in
     let parts : (nat_lt (drawn_of b) (2 ^ 29) ≡ true) × (nat_lt (length (bytes_of b) + 0 + 8 * length (pending_of K.has_veneer K.forward K.backward b) + 32) 2147479552 ≡ true) = and_parts _ _ (sym c.has_room.ensures ∙ c.if-not-has_room.false) in
     let fits : length (bytes_of b) + 0 + 8 * length (pending_of K.has_veneer K.forward K.backward b) + 32 < 2147479552 = ltb-true _ _ parts.1 in
     let room : length (bytes_of b) + 8 * length (pending_of K.has_veneer K.forward K.backward b) + 2 < 2147479552 = omega (arith, fits) in
-    can_finish e4.kept (each_of_four (λ n. is_some (place_of b n) ≡ true) (e4.still 0 (e3.still 0 (e2.still 0 e1.bound))) (e4.still 1 (e3.still 1 e2.bound)) (e4.still 2 e3.bound) e4.bound) room
+    can_finish e.kept e.bound room

@@ -1,10 +1,7 @@
 use Rattle.std.proofs.Common.{ap, ◌∙◌}
-use Rattle.mach_buffer.specs.declared.buffer.MachBuffer.{MachBuffer}
-use Rattle.rv_vectors.specs.declared.buffer.Toy.{Toy}
-use Rattle.mach_buffer.specs.Buffer.{place_of}
 use Rattle.rv_vectors.proofs.buffer.waiting.Goals as goal
 
 pub returns-clause-unbound : goal.returns-clause-unbound
 returns-clause-unbound c =
     let n = c.args.label.number in
-    ap (λ f. f n) (c.put_data.ensures.put.labels.places ∙ c.put8.ensures.put.labels.places ∙ c.put4.ensures.put.labels.places ∙ c.put2.ensures.put.labels.places ∙ c.use_label_at_offset.ensures.labels.places ∙ ap (λ (b : MachBuffer Toy). place_of b) c.register_constants.ensures.same) ∙ c.new-buffer.ensures.places n
+    ap (λ f. f n) (c.put_data.ensures.put.labels.places ∙ c.put8.ensures.put.labels.places ∙ c.put4.ensures.put.labels.places ∙ c.put2.ensures.put.labels.places) ∙ c.in_ok-buffer.ensures.unbound
