@@ -53,16 +53,20 @@ float w =
     if starts 115 w then (decimal (drop 1 w) >>= float_saved >>= real Float) else
     if starts 97 w then (decimal (drop 1 w) >>= argument >>= real Float) else (decimal w >>= real Float)
 
--- a name that is a letter, or %, and a number
+-- a name that begins with f or v, or with %
+unfoldable pub other : List ℕ → Option Reg
+other w =
+    if starts 102 w then float (drop 1 w) else
+    if starts 118 w then (decimal (drop 1 w) >>= real Vector) else
+    if starts 37 w then (decimal (drop 1 w) >>= virtual_register) else None
+
+-- a name that is a letter, or %, and a number; x, a, t and s are the integer registers'
 unfoldable pub lettered : List ℕ → Option Reg
 lettered w =
     if starts 120 w then (decimal (drop 1 w) >>= real Int) else
     if starts 97 w then (decimal (drop 1 w) >>= argument >>= real Int) else
     if starts 116 w then (decimal (drop 1 w) >>= temporary >>= real Int) else
-    if starts 115 w then (decimal (drop 1 w) >>= saved >>= real Int) else
-    if starts 102 w then float (drop 1 w) else
-    if starts 118 w then (decimal (drop 1 w) >>= real Vector) else
-    if starts 37 w then (decimal (drop 1 w) >>= virtual_register) else None
+    if starts 115 w then (decimal (drop 1 w) >>= saved >>= real Int) else other w
 
 unfoldable pub register : List ℕ → Option Reg
 register w = or_else (named w) (lettered w)

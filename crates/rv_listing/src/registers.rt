@@ -1,11 +1,10 @@
 //! Registers by name: `x`, `f` or `v` and a number, the names of the calling convention, and virtual ones.
 
-ghost use Rattle.std.specs.Prelude.{◌≡◌, ℕ, ◌<◌, None, drop, if◌then◌else◌};
+ghost use Rattle.std.specs.Prelude.{◌≡◌, ℕ, ◌<◌, drop};
 ghost use Rattle.rv_base.specs.declared.regs.RegClass.{RegClass};
-ghost use Rattle.rv_base.specs.declared.regs.RegClass.TheVariants.{Vector};
 ghost use Rattle.rv_base.specs.Names.{real_name};
-ghost use Rattle.rv_listing.specs.Tokens.{◌>>=◌ as and_then, decimal, starts};
-ghost use Rattle.rv_listing.specs.Registers.{argument, float, float_saved, float_temporary, lettered, named, real, register, saved, temporary, virtual_register};
+ghost use Rattle.rv_listing.specs.Tokens.{◌>>=◌ as and_then, decimal};
+ghost use Rattle.rv_listing.specs.Registers.{argument, float, float_saved, float_temporary, lettered, named, other, real, register, saved, temporary, virtual_register};
 
 use crate::tokens::{decimal, is, number, starts, tail};
 use rv_base::regs::{PReg, Reg, RegClass, VirtualReg};
@@ -140,9 +139,10 @@ fn float(w: &[u8]) -> Option<Reg>
     real(RegClass::Float, number?)
 }
 
-// A name that isn't an integer register's.
+// A name that begins with `f` or `v`, or with `%`.
+#[tactic(auto, unfolding(crate::specs::Registers::other))]
 fn other(w: &[u8]) -> Option<Reg>
-    ensures { result ≡ (if starts 102 w.now then float (drop 1 w.now) else if starts 118 w.now then and_then (decimal (drop 1 w.now)) (real Vector) else if starts 37 w.now then and_then (decimal (drop 1 w.now)) virtual_register else None) }
+    ensures { result ≡ other w.now }
 {
     if starts(b'f', w) {
         float(tail(w))
