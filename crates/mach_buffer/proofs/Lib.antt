@@ -4,6 +4,7 @@ pub mod Blocks
 pub mod Ends
 pub mod Firsts
 pub mod Islanded
+pub mod LastVeneers
 pub mod Links
 pub mod Maps
 pub mod Needed

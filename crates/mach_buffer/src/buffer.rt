@@ -88,6 +88,8 @@ impl<L: MachInstLabelUse> MachBuffer<L> {
     /// Spoils the buffer, where memory was wanted elsewhere. Takes no memory.
     pub fn spoil(&mut self)
         ensures spoiled { spoiled_of self.new ≡ true }
+        ensures code { SameCode self.old self.new }
+        ensures labels { SameLabels self.old self.new }
     {
         self.spoiled = true;
     }

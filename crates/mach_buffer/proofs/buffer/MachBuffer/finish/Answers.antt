@@ -1,58 +1,31 @@
-use Rattle.std.proofs.Common.{arith, ◌≡◌, ◌∙◌, ◌≤◌, ap, sym, subst, length, ℕ}
+use Rattle.std.proofs.Common.{◌≡◌, ◌∙◌, ap, sym, subst, length, ℕ}
 use Rattle.std.proofs.lemmas.List.{take_at}
-use Rattle.mach_buffer.specs.Buffer.{bytes_of, uses_of, veneers_of, place_of, pending_of}
+use Rattle.mach_buffer.specs.Buffer.{bytes_of, uses_of, veneers_of, place_of}
 use Rattle.mach_buffer.specs.Finish.{Finishes}
 use Rattle.mach_buffer.specs.Targets.{patches_of}
 use Rattle.mach_buffer.specs.Windows.{CanPatchAll, AllAim, AllKept, KeepsOthers}
-use Rattle.mach_buffer.proofs.Ends.{CanEnd, bound_still, direct_still, before_longer, can_patch_all, all_go}
+use Rattle.mach_buffer.proofs.Ends.{can_patch_all, all_go}
+use Rattle.mach_buffer.proofs.LastVeneers.{can_end, same_patches}
 use Rattle.mach_buffer.proofs.buffer.MachBuffer.finish.Goals as goal
 
 pub patch_all-requires : goal.patch_all-requires
 patch_all-requires g c =
     let K = g.L.MachInstLabelUse in
-    let b = c.args.self in
-    let n = length (pending_of K.has_veneer K.forward K.backward b) in
-    let r = c.requires.ready in
     let p = c.in_ok-put_last.ensures in
     let now = c.put_last.new.self in
-    let law = g.met.L.MachInstLabelUse.veneer_ok in
-    let long = p.put.long in
-    let short = r.short in
-    let longer = before_longer (bytes_of b) n in
-    let ends : CanEnd K.fields K.has_veneer K.forward K.backward K.veneer (bytes_of now) (place_of b) (uses_of now) (veneers_of now) = record {
-      linked = p.linked;
-      windows = p.windows r.windows;
-      none = p.none;
-      short = omega (arith, long, short);
-      places = λ label at h. let q = r.sound.places label at h in let le : at ≤ length (bytes_of b) = q.0 in (omega (arith, le, long, longer), q.1);
-      bound = bound_still (place_of b) (uses_of b) (uses_of now) p.put.same r.bound;
-      direct = direct_still K.has_veneer K.forward K.backward (place_of b) (uses_of b) (uses_of now) p.put.same r.direct;
-    } in
-    let patches : patches_of (place_of now) c.deref.result.now c.deref-2.result.now ≡ patches_of (place_of b) (uses_of now) (veneers_of now) = ap (λ q. patches_of q c.deref.result.now c.deref-2.result.now) p.labels.places ∙ ap (λ us. patches_of (place_of b) us c.deref-2.result.now) c.deref.ensures.value ∙ ap (patches_of (place_of b) (uses_of now)) c.deref-2.ensures.value in
-    subst (λ s. CanPatchAll K.fields K.forward K.backward s (patches_of (place_of now) c.deref.result.now c.deref-2.result.now)) (sym c.deref_mut.ensures.value) (subst (CanPatchAll K.fields K.forward K.backward (bytes_of now)) (sym patches) (can_patch_all ends law))
+    let ends = can_end c.args.self now c.requires.ready p.put p.linked (p.windows c.requires.ready.windows) p.none in
+    let patches = same_patches c.args.self now c.deref.result.now c.deref-2.result.now p.labels.places c.deref.ensures.value c.deref-2.ensures.value in
+    subst (λ s. CanPatchAll K.fields K.forward K.backward s (patches_of (place_of now) c.deref.result.now c.deref-2.result.now)) (sym c.deref_mut.ensures.value) (subst (CanPatchAll K.fields K.forward K.backward (bytes_of now)) (sym patches) (can_patch_all ends g.met.L.MachInstLabelUse.veneer_ok))
 
 pub returns-clause-code : goal.returns-clause-code
 returns-clause-code g c =
     let K = g.L.MachInstLabelUse in
     let b = c.args.self in
-    let n = length (pending_of K.has_veneer K.forward K.backward b) in
-    let r = c.requires.ready in
     let p = c.in_ok-put_last.ensures in
     let now = c.put_last.new.self in
-    let law = g.met.L.MachInstLabelUse.veneer_ok in
-    let long = p.put.long in
-    let short = r.short in
-    let longer = before_longer (bytes_of b) n in
-    let ends : CanEnd K.fields K.has_veneer K.forward K.backward K.veneer (bytes_of now) (place_of b) (uses_of now) (veneers_of now) = record {
-      linked = p.linked;
-      windows = p.windows r.windows;
-      none = p.none;
-      short = omega (arith, long, short);
-      places = λ label at h. let q = r.sound.places label at h in let le : at ≤ length (bytes_of b) = q.0 in (omega (arith, le, long, longer), q.1);
-      bound = bound_still (place_of b) (uses_of b) (uses_of now) p.put.same r.bound;
-      direct = direct_still K.has_veneer K.forward K.backward (place_of b) (uses_of b) (uses_of now) p.put.same r.direct;
-    } in
-    let patches : patches_of (place_of now) c.deref.result.now c.deref-2.result.now ≡ patches_of (place_of b) (uses_of now) (veneers_of now) = ap (λ q. patches_of q c.deref.result.now c.deref-2.result.now) p.labels.places ∙ ap (λ us. patches_of (place_of b) us c.deref-2.result.now) c.deref.ensures.value ∙ ap (patches_of (place_of b) (uses_of now)) c.deref-2.ensures.value in
+    let windows = p.windows c.requires.ready.windows in
+    let ends = can_end b now c.requires.ready p.put p.linked windows p.none in
+    let patches = same_patches b now c.deref.result.now c.deref-2.result.now p.labels.places c.deref.ensures.value c.deref-2.ensures.value in
     let q = c.patch_all.ensures in
     let final = c.patch_all.new.bytes in
     let same_length : length final ≡ length (bytes_of now) = q.same_length ∙ ap (length {A = ℕ}) c.deref_mut.ensures.value in
@@ -67,9 +40,9 @@ returns-clause-code g c =
       put = p.put;
       grown = p.grown;
       linked = p.linked;
-      windows = p.windows r.windows;
+      windows = windows;
       long = same_length;
       kept = kept;
       others = others;
-      arrive = all_go ends law K.aims final same_length aim kept others;
+      arrive = all_go ends g.met.L.MachInstLabelUse.veneer_ok K.aims final same_length aim kept others;
     })

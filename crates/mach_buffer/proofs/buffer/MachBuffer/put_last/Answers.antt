@@ -1,12 +1,13 @@
-use Rattle.std.proofs.Common.{arith, ◌≡◌, ◌∙◌, ap, sym, subst, length, None, [], ℕ}
+use Rattle.std.proofs.Common.{arith, ◌≡◌, ap, sym, subst, length, None, [], ℕ}
 use Rattle.mach_buffer.specs.Buffer.{bytes_of, uses_of, place_of, pending_of}
 use Rattle.mach_buffer.specs.Finish.{before_last}
 use Rattle.mach_buffer.specs.Islands.{VeneersPut}
-use Rattle.mach_buffer.specs.Reach.{is_pending, is_other, deadlines, StillReaches}
+use Rattle.mach_buffer.specs.Reach.{is_other, deadlines, StillReaches}
 use Rattle.mach_buffer.proofs.Added.{added_none, added_more}
 use Rattle.mach_buffer.proofs.Apart.{windows_as}
 use Rattle.mach_buffer.proofs.Ends.{windows_before, before_longer}
-use Rattle.mach_buffer.proofs.Others.{other_none, other_pending}
+use Rattle.mach_buffer.proofs.LastVeneers.{same_test, same_deadlines}
+use Rattle.mach_buffer.proofs.Others.{other_pending}
 use Rattle.mach_buffer.proofs.Same.{labels_then}
 use Rattle.mach_buffer.proofs.Turns.{turns_fewer}
 use Rattle.mach_buffer.proofs.buffer.MachBuffer.put_last.Goals as goal
@@ -16,8 +17,7 @@ put_waiting-requires-clause-room g c =
     let K = g.L.MachInstLabelUse in
     let b = c.args.self.now in
     let e = c.in_ok-pad_last.ensures in
-    let test : is_other K.has_veneer K.forward K.backward (place_of c.pad_last.new.self) None ≡ is_pending K.has_veneer K.forward K.backward (place_of b) = other_none K.has_veneer K.forward K.backward (place_of c.pad_last.new.self) ∙ ap (is_pending K.has_veneer K.forward K.backward) e.labels.places in
-    let same : deadlines (is_other K.has_veneer K.forward K.backward (place_of c.pad_last.new.self) None) K.forward (uses_of c.pad_last.new.self) ≡ pending_of K.has_veneer K.forward K.backward b = ap (λ t. deadlines t K.forward (uses_of c.pad_last.new.self)) test ∙ ap (deadlines (is_pending K.has_veneer K.forward K.backward (place_of b)) K.forward) e.uses in
+    let same = same_deadlines K.has_veneer K.forward K.backward b c.pad_last.new.self e.labels.places e.uses in
     let long = ap (length {A = ℕ}) e.bytes in
     let many = ap (length {A = ℕ}) same in
     let short = c.requires.short in
@@ -26,19 +26,14 @@ put_waiting-requires-clause-room g c =
 pub put_waiting-requires-clause-waits : goal.put_waiting-requires-clause-waits
 put_waiting-requires-clause-waits g c =
     let K = g.L.MachInstLabelUse in
-    let b = c.args.self.now in
-    let e = c.in_ok-pad_last.ensures in
-    let test : is_other K.has_veneer K.forward K.backward (place_of c.pad_last.new.self) None ≡ is_pending K.has_veneer K.forward K.backward (place_of b) = other_none K.has_veneer K.forward K.backward (place_of c.pad_last.new.self) ∙ ap (is_pending K.has_veneer K.forward K.backward) e.labels.places in
-    let same : deadlines (is_other K.has_veneer K.forward K.backward (place_of c.pad_last.new.self) None) K.forward (uses_of c.pad_last.new.self) ≡ pending_of K.has_veneer K.forward K.backward b = ap (λ t. deadlines t K.forward (uses_of c.pad_last.new.self)) test ∙ ap (deadlines (is_pending K.has_veneer K.forward K.backward (place_of b)) K.forward) e.uses in
-    turns_fewer _ (other_pending K.has_veneer K.forward K.backward (place_of c.pad_last.new.self) None) e.sound.waits
+    turns_fewer _ (other_pending K.has_veneer K.forward K.backward (place_of c.pad_last.new.self) None) c.in_ok-pad_last.ensures.sound.waits
 
 pub put_waiting-requires-clause-reach : goal.put_waiting-requires-clause-reach
 put_waiting-requires-clause-reach g c =
     let K = g.L.MachInstLabelUse in
     let b = c.args.self.now in
     let e = c.in_ok-pad_last.ensures in
-    let test : is_other K.has_veneer K.forward K.backward (place_of c.pad_last.new.self) None ≡ is_pending K.has_veneer K.forward K.backward (place_of b) = other_none K.has_veneer K.forward K.backward (place_of c.pad_last.new.self) ∙ ap (is_pending K.has_veneer K.forward K.backward) e.labels.places in
-    let same : deadlines (is_other K.has_veneer K.forward K.backward (place_of c.pad_last.new.self) None) K.forward (uses_of c.pad_last.new.self) ≡ pending_of K.has_veneer K.forward K.backward b = ap (λ t. deadlines t K.forward (uses_of c.pad_last.new.self)) test ∙ ap (deadlines (is_pending K.has_veneer K.forward K.backward (place_of b)) K.forward) e.uses in
+    let same = same_deadlines K.has_veneer K.forward K.backward b c.pad_last.new.self e.labels.places e.uses in
     subst (StillReaches (length (bytes_of c.pad_last.new.self))) (sym same) (subst (λ s. StillReaches (length s) (pending_of K.has_veneer K.forward K.backward b)) (sym e.bytes) c.requires.reach)
 
 pub returns-clause-put : goal.returns-clause-put
@@ -46,8 +41,7 @@ returns-clause-put g c =
     let K = g.L.MachInstLabelUse in
     let b = c.args.self.now in
     let e = c.in_ok-pad_last.ensures in
-    let test : is_other K.has_veneer K.forward K.backward (place_of c.pad_last.new.self) None ≡ is_pending K.has_veneer K.forward K.backward (place_of b) = other_none K.has_veneer K.forward K.backward (place_of c.pad_last.new.self) ∙ ap (is_pending K.has_veneer K.forward K.backward) e.labels.places in
-    let same : deadlines (is_other K.has_veneer K.forward K.backward (place_of c.pad_last.new.self) None) K.forward (uses_of c.pad_last.new.self) ≡ pending_of K.has_veneer K.forward K.backward b = ap (λ t. deadlines t K.forward (uses_of c.pad_last.new.self)) test ∙ ap (deadlines (is_pending K.has_veneer K.forward K.backward (place_of b)) K.forward) e.uses in
+    let test = same_test K.has_veneer K.forward K.backward b c.pad_last.new.self e.labels.places in
     let w = c.in_ok-put_waiting.ensures in
     subst (λ t. VeneersPut K.forward t (before_last (bytes_of b) (length (pending_of K.has_veneer K.forward K.backward b))) (uses_of b) (bytes_of c.put_waiting.new.self) (uses_of c.put_waiting.new.self)) test
     (subst (λ us. VeneersPut K.forward (is_other K.has_veneer K.forward K.backward (place_of c.pad_last.new.self) None) (before_last (bytes_of b) (length (pending_of K.has_veneer K.forward K.backward b))) us (bytes_of c.put_waiting.new.self) (uses_of c.put_waiting.new.self)) e.uses
@@ -58,8 +52,6 @@ returns-clause-windows g c =
     let K = g.L.MachInstLabelUse in
     let b = c.args.self.now in
     let e = c.in_ok-pad_last.ensures in
-    let test : is_other K.has_veneer K.forward K.backward (place_of c.pad_last.new.self) None ≡ is_pending K.has_veneer K.forward K.backward (place_of b) = other_none K.has_veneer K.forward K.backward (place_of c.pad_last.new.self) ∙ ap (is_pending K.has_veneer K.forward K.backward) e.labels.places in
-    let same : deadlines (is_other K.has_veneer K.forward K.backward (place_of c.pad_last.new.self) None) K.forward (uses_of c.pad_last.new.self) ≡ pending_of K.has_veneer K.forward K.backward b = ap (λ t. deadlines t K.forward (uses_of c.pad_last.new.self)) test ∙ ap (deadlines (is_pending K.has_veneer K.forward K.backward (place_of b)) K.forward) e.uses in
     let w = c.in_ok-put_waiting.ensures in
     λ h. w.windows (windows_as (windows_before (length (pending_of K.has_veneer K.forward K.backward b)) h) e.bytes e.uses e.veneers)
 
@@ -68,8 +60,7 @@ returns-clause-none g c =
     let K = g.L.MachInstLabelUse in
     let b = c.args.self.now in
     let e = c.in_ok-pad_last.ensures in
-    let test : is_other K.has_veneer K.forward K.backward (place_of c.pad_last.new.self) None ≡ is_pending K.has_veneer K.forward K.backward (place_of b) = other_none K.has_veneer K.forward K.backward (place_of c.pad_last.new.self) ∙ ap (is_pending K.has_veneer K.forward K.backward) e.labels.places in
-    let same : deadlines (is_other K.has_veneer K.forward K.backward (place_of c.pad_last.new.self) None) K.forward (uses_of c.pad_last.new.self) ≡ pending_of K.has_veneer K.forward K.backward b = ap (λ t. deadlines t K.forward (uses_of c.pad_last.new.self)) test ∙ ap (deadlines (is_pending K.has_veneer K.forward K.backward (place_of b)) K.forward) e.uses in
+    let test = same_test K.has_veneer K.forward K.backward b c.pad_last.new.self e.labels.places in
     let w = c.in_ok-put_waiting.ensures in
     subst (λ t. deadlines t K.forward (uses_of c.put_waiting.new.self) ≡ []) test w.none
 
