@@ -8,7 +8,7 @@ use rv_machine::ops::{BaseOp, BitOp, MOp, MulOp};
 use std::alloc::Global;
 use std::process::Abort;
 
-/// The sources, in hex, that each row of `TWO_SOURCES` is tried with.
+/// The sources of rows with two.
 const PAIRS: [(u64, u64); 8] = [
     (0x8000000000000000, 0xffffffffffffffff),
     (0xffffffffffffffff, 0x0),
@@ -20,8 +20,9 @@ const PAIRS: [(u64, u64); 8] = [
     (0xffffffff80000000, 0xffffffffffffffff),
 ];
 
-/// The mnemonic and word of `op a2, a0, a1`, and what it gives for each of the pairs.
-const TWO_SOURCES: &str = "\
+/// The mnemonic and word of `op a2, a0, a1` with what it gives for each of the pairs; and of `op a2, a0` and a number
+/// with sources, each with what it gives. All in hex.
+const ANSWERS: &str = "\
 add 00b50633 7fffffffffffffff ffffffffffffffff 800000000000003e 180000020 123456789abcdf10 8000000000000000 8000000000000000 ffffffff7fffffff
 sub 40b50633 8000000000000001 ffffffffffffffff 7fffffffffffffc0 17fffffe2 123456789abcded0 8000000000000000 8000000000000002 ffffffff80000001
 sll 00b51633 0 ffffffffffffffff 8000000000000000 c000000080000000 9abcdef000000000 0 8000000000000000 0
@@ -74,10 +75,6 @@ binv 68b51633 0 fffffffffffffffe ffffffffffffffff 100000001 123456799abcdef0 1 8
 bset 28b51633 8000000000000000 ffffffffffffffff ffffffffffffffff 180000001 123456799abcdef0 1 8000000000000001 ffffffff80000000
 czero.eqz 0eb55633 8000000000000000 0 7fffffffffffffff 180000001 123456789abcdef0 0 1 ffffffff80000000
 czero.nez 0eb57633 0 ffffffffffffffff 0 0 0 0 0 0
-";
-
-/// The mnemonic and word of `op a2, a0, number`, and sources with what it gives for each.
-const ONE_SOURCE: &str = "\
 addi 80050613 0:fffffffffffff800 ffffffffffffffff:fffffffffffff7ff 8000000000000000:7ffffffffffff800
 addi 7ff50613 0:7ff ffffffffffffffff:7fe 8000000000000000:80000000000007ff
 addi fff50613 0:ffffffffffffffff ffffffffffffffff:fffffffffffffffe 8000000000000000:7fffffffffffffff
@@ -187,46 +184,19 @@ fn assert_answer(
     Ok(())
 }
 
-/// Does the rows of a line of `TWO_SOURCES`, and answers how many they are.
-fn do_two_sources(
-    rt: &impl Abort,
-    machine: &mut IntMachine,
-    line: &str,
-) -> Result<u32, OutOfMemory> {
-    let mut columns = line.split(' ');
-    let (Some(name), Some(word)) = (columns.next(), columns.next()) else {
-        return Ok(0);
-    };
-    let word = number(word);
-    let mut rows = 0u32;
-    for (x, y) in &PAIRS {
-        let Some(expected) = columns.next() else {
-            return Ok(rows);
-        };
-        assert_answer(rt, machine, name, word, *x, *y, number(expected))?;
-        rows = rows.wrapping_add(1);
+/// The sources and the answer of a column: `x:answer`, or the answer for the pair at its place.
+fn sources(at: usize, column: &str) -> (u64, u64, u64) {
+    match column.split_once(':') {
+        Some((x, answer)) => (number(x), 0, number(answer)),
+        None => {
+            let (x, y) = PAIRS.get(at).copied().unwrap_or((0, 0));
+            (x, y, number(column))
+        }
     }
-    Ok(rows)
 }
 
-#[test]
-fn rows_of_two_sources(rt: HostRuntime) -> Result<(), OutOfMemory> {
-    let mut machine = IntMachine::new(rt.alloc(), IsaFlags::none(), 0);
-    let mut rows = 0u32;
-    for line in TWO_SOURCES.lines() {
-        let done = do_two_sources(&rt, &mut machine, line)?;
-        rows = rows.wrapping_add(done);
-    }
-    assert_eq!(rt; rows, 416);
-    Ok(())
-}
-
-/// Does the rows of a line of `ONE_SOURCE`, and answers how many they are.
-fn do_one_source(
-    rt: &impl Abort,
-    machine: &mut IntMachine,
-    line: &str,
-) -> Result<u32, OutOfMemory> {
+/// Does the rows of a line of `ANSWERS`, and answers how many they are.
+fn do_line(rt: &impl Abort, machine: &mut IntMachine, line: &str) -> Result<u32, OutOfMemory> {
     let mut columns = line.split(' ');
     let (Some(name), Some(word)) = (columns.next(), columns.next()) else {
         return Ok(0);
@@ -234,22 +204,22 @@ fn do_one_source(
     let word = number(word);
     let mut rows = 0u32;
     for column in columns {
-        let (x, expected) = column.split_once(':').unwrap_or((column, ""));
-        assert_answer(rt, machine, name, word, number(x), 0, number(expected))?;
+        let (x, y, expected) = sources(rows as usize, column);
+        assert_answer(rt, machine, name, word, x, y, expected)?;
         rows = rows.wrapping_add(1);
     }
     Ok(rows)
 }
 
 #[test]
-fn rows_of_one_source(rt: HostRuntime) -> Result<(), OutOfMemory> {
+fn rows_have_their_answers(rt: HostRuntime) -> Result<(), OutOfMemory> {
     let mut machine = IntMachine::new(rt.alloc(), IsaFlags::none(), 0);
     let mut rows = 0u32;
-    for line in ONE_SOURCE.lines() {
-        let done = do_one_source(&rt, &mut machine, line)?;
+    for line in ANSWERS.lines() {
+        let done = do_line(&rt, &mut machine, line)?;
         rows = rows.wrapping_add(done);
     }
-    assert_eq!(rt; rows, 228);
+    assert_eq!(rt; rows, 644);
     Ok(())
 }
 
