@@ -1,6 +1,7 @@
 -- Addresses: base, offset, name, and the registers that they read.
 use Rattle.std.specs.Prelude.{◌≡◌, ℕ, ◌-◌, ◌^◌, ℤ, pos, negsuc, ◌+ℤ◌, ◌-ℤ◌, ◌≤ℤ◌, Option, Some, None, List, [], ◌∷◌, ◌++◌, codes}
 use Rattle.std.specs.Fmt.{decimal, signed_decimal}
+use Rattle.rv_base.specs.declared.regs.RegClass.{RegClass}
 use Rattle.rv_base.specs.declared.regs.Reg.{Reg}
 use Rattle.rv_base.specs.declared.frame.FrameLayout.{FrameLayout}
 use Rattle.rv_base.specs.declared.constraint.Constraint.{Constraint}
@@ -57,16 +58,45 @@ amode_of (stack.IncomingArg o size) = IncomingArg (pos size -ℤ o)
 amode_of (stack.Slot o) = SlotOffset o
 amode_of (stack.OutgoingArg o) = SPOffset o
 
--- what an address asks of its registers
+-- the registers that an address holds
+abbrev pub registers_of : AMode → List Reg
+registers_of (RegOffset r o) = r ∷ []
+registers_of (SPOffset o) = []
+registers_of (FPOffset o) = []
+registers_of (SlotOffset o) = []
+registers_of (IncomingArg o) = []
+registers_of (Const k) = []
+registers_of (Label l) = []
+
+-- the requests that an address makes: it reads its register
 abbrev pub operands_of : AMode → List Constraint
 operands_of (RegOffset r o) = RegUse r ∷ []
-operands_of _ = []
+operands_of (SPOffset o) = []
+operands_of (FPOffset o) = []
+operands_of (SlotOffset o) = []
+operands_of (IncomingArg o) = []
+operands_of (Const k) = []
+operands_of (Label l) = []
+
+-- this offset from a register of this class
+abbrev pub IsFromClass : RegClass → ℤ → AMode → Type 0
+IsFromClass class o (RegOffset r p) = (class_of r ≡ class) × (p ≡ o)
+IsFromClass class o (SPOffset p) = ⊥
+IsFromClass class o (FPOffset p) = ⊥
+IsFromClass class o (SlotOffset p) = ⊥
+IsFromClass class o (IncomingArg p) = ⊥
+IsFromClass class o (Const k) = ⊥
+IsFromClass class o (Label l) = ⊥
 
 -- the same address, maybe from another register of the same class
 abbrev pub IsRenamed : AMode → AMode → Type 0
-IsRenamed (RegOffset r o) (RegOffset s p) = (class_of s ≡ class_of r) × (p ≡ o)
-IsRenamed (RegOffset r o) new = ⊥
-IsRenamed old new = new ≡ old
+IsRenamed (RegOffset r o) new = IsFromClass (class_of r) o new
+IsRenamed (SPOffset o) new = new ≡ SPOffset o
+IsRenamed (FPOffset o) new = new ≡ FPOffset o
+IsRenamed (SlotOffset o) new = new ≡ SlotOffset o
+IsRenamed (IncomingArg o) new = new ≡ IncomingArg o
+IsRenamed (Const k) new = new ≡ Const k
+IsRenamed (Label l) new = new ≡ Label l
 
 abbrev pub text_of : AMode → List ℕ
 text_of (RegOffset r o) = signed_decimal o ++ codes "(" ++ name_of r ++ codes ")"

@@ -31,8 +31,16 @@ is_lane (Vector v) = false
 
 -- the vector type of these lanes
 abbrev pub IsVectorOf : IrType → ℕ → IrType → Type 0
+IsVectorOf type lanes I8 = ⊥
+IsVectorOf type lanes I16 = ⊥
+IsVectorOf type lanes I32 = ⊥
+IsVectorOf type lanes I64 = ⊥
+IsVectorOf type lanes I128 = ⊥
+IsVectorOf type lanes F16 = ⊥
+IsVectorOf type lanes F32 = ⊥
+IsVectorOf type lanes F64 = ⊥
+IsVectorOf type lanes F128 = ⊥
 IsVectorOf type lanes (Vector v) = (scalar_of v.lane ≡ type) × (v.lanes ≡ lanes)
-IsVectorOf type lanes _ = ⊥
 
 abbrev pub bits_of_lane : LaneType → ℕ
 bits_of_lane lane.I8 = 8
@@ -58,8 +66,16 @@ lane_bits_of (Vector v) = bits_of_lane v.lane
 
 -- a scalar is one lane
 abbrev pub lane_count_of : IrType → ℕ
+lane_count_of I8 = 1
+lane_count_of I16 = 1
+lane_count_of I32 = 1
+lane_count_of I64 = 1
+lane_count_of I128 = 1
+lane_count_of F16 = 1
+lane_count_of F32 = 1
+lane_count_of F64 = 1
+lane_count_of F128 = 1
 lane_count_of (Vector v) = v.lanes
-lane_count_of _ = 1
 
 abbrev pub bits_of : IrType → ℕ
 bits_of type = lane_bits_of type * lane_count_of type
@@ -70,11 +86,23 @@ is_scalar_int I16 = true
 is_scalar_int I32 = true
 is_scalar_int I64 = true
 is_scalar_int I128 = true
-is_scalar_int _ = false
+is_scalar_int F16 = false
+is_scalar_int F32 = false
+is_scalar_int F64 = false
+is_scalar_int F128 = false
+is_scalar_int (Vector v) = false
 
 abbrev pub is_vector_type : IrType → Bool
+is_vector_type I8 = false
+is_vector_type I16 = false
+is_vector_type I32 = false
+is_vector_type I64 = false
+is_vector_type I128 = false
+is_vector_type F16 = false
+is_vector_type F32 = false
+is_vector_type F64 = false
+is_vector_type F128 = false
 is_vector_type (Vector v) = true
-is_vector_type _ = false
 
 abbrev pub name_of_lane : LaneType → List ℕ
 name_of_lane lane.I8 = codes "i8"

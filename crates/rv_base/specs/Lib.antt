@@ -6,6 +6,7 @@ pub mod IrType
 pub mod LabelUse
 pub mod LaneCount
 pub mod Names
+pub mod Operands
 pub mod PRegSet
 pub mod Regs
 pub mod Trap

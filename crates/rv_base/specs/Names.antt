@@ -6,7 +6,7 @@ use Rattle.rv_base.specs.declared.regs.RegClass.TheVariants.{Int, Float, Vector}
 use Rattle.rv_base.specs.declared.regs.Reg.{Reg}
 use Rattle.rv_base.specs.declared.regs.Reg.TheVariants.{Real, Virtual}
 
--- x0 to x31, as the manual's calling convention calls them
+-- x0 to x31, as the psABI's "Integer Register Convention" names them
 abbrev pub int_names : List (List ℕ)
 int_names =
     codes "zero" ∷ codes "ra" ∷ codes "sp" ∷ codes "gp" ∷ codes "tp" ∷ codes "t0" ∷ codes "t1" ∷ codes "t2" ∷
@@ -14,7 +14,7 @@ int_names =
     codes "a6" ∷ codes "a7" ∷ codes "s2" ∷ codes "s3" ∷ codes "s4" ∷ codes "s5" ∷ codes "s6" ∷ codes "s7" ∷
     codes "s8" ∷ codes "s9" ∷ codes "s10" ∷ codes "s11" ∷ codes "t3" ∷ codes "t4" ∷ codes "t5" ∷ codes "t6" ∷ []
 
--- f0 to f31
+-- f0 to f31, as its "Floating-point Register Convention" names them
 abbrev pub float_names : List (List ℕ)
 float_names =
     codes "ft0" ∷ codes "ft1" ∷ codes "ft2" ∷ codes "ft3" ∷ codes "ft4" ∷ codes "ft5" ∷ codes "ft6" ∷ codes "ft7" ∷

@@ -14,5 +14,9 @@ name_of (User trap) = codes "user" ++ decimal trap.number
 
 -- the user's code of this number
 abbrev pub IsUserOf : ℕ → TrapCode → Type 0
+IsUserOf number StackOverflow = ⊥
+IsUserOf number HeapOutOfBounds = ⊥
+IsUserOf number IntegerOverflow = ⊥
+IsUserOf number IntegerDivisionByZero = ⊥
+IsUserOf number BadConversionToInteger = ⊥
 IsUserOf number (User trap) = trap.number ≡ number
-IsUserOf number _ = ⊥

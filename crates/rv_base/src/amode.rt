@@ -9,35 +9,42 @@ use crate::operands::OperandVisitor;
 use crate::regs::Reg;
 use std::fmt;
 
-/// An address in the frame, as the rules of calls name it. Offsets are bytes.
+/// An address in the frame, as a calling convention names it. Offsets and sizes are in bytes.
 #[derive(Clone, Copy, Debug)]
 pub enum StackAMode {
     /// An offset into the incoming arguments, and their size.
     IncomingArg(i64, u32),
+    /// An offset into the stack slots.
     Slot(i64),
+    /// An offset into the outgoing arguments.
     OutgoingArg(i64),
 }
 
-/// An address of a load or a store. Offsets are bytes.
+/// An address of a load or a store. Offsets are in bytes.
 #[derive(Clone, Copy, Debug)]
 pub enum AMode {
+    /// A register plus an offset.
     RegOffset(Reg, i64),
+    /// The stack pointer plus an offset.
     SPOffset(i64),
+    /// The frame pointer plus an offset.
     FPOffset(i64),
-    /// From the stack slots, which lie above the outgoing arguments.
+    /// The start of the stack slots, which lie above the outgoing arguments, plus an offset.
     SlotOffset(i64),
-    /// Down from the end of the incoming arguments.
+    /// The end of the incoming arguments minus an offset.
     IncomingArg(i64),
+    /// A constant of the code.
     Const(VCodeConstant),
+    /// A place in the code.
     Label(MachLabel),
 }
 
 impl AMode {
     ghost use Rattle.std.specs.Prelude.{◌≡◌, ◌<◌, ◌^◌, ◌++◌, OnOk, OnErr};
     ghost use Rattle.rv_base.specs.Frame.{sp_to_args_end};
-    ghost use Rattle.rv_base.specs.AMode.{IsNear, own_offset, own_stack_offset, base_of, offset_of, amode_of, operands_of, IsRenamed};
+    ghost use Rattle.rv_base.specs.AMode.{IsNear, own_offset, own_stack_offset, base_of, offset_of, amode_of, operands_of, registers_of, IsRenamed};
 
-    /// The address of a place in the frame; its offset from -2^62 to 2^62.
+    /// The address of a place in the frame. Its offset is from -2^62 to 2^62.
     pub fn from_stack(mode: StackAMode) -> AMode
         requires { IsNear (own_stack_offset mode) }
         ensures { result ≡ amode_of mode }
@@ -49,11 +56,14 @@ impl AMode {
         }
     }
 
-    /// Hands over the register that it reads.
+    /// Hands over the register that it reads, and keeps the one that the visitor gives in its place.
     pub fn get_operands<V: OperandVisitor>(&mut self, collector: &mut V) -> Result<(), OutOfMemory>
         ensures ok { OnOk result (V.recorded collector.new ≡ V.recorded collector.old ++ operands_of self.old) }
+        ensures given { OnOk result (V.given collector.new ≡ V.given collector.old ++ registers_of self.new) }
         ensures err { OnErr result (V.recorded collector.new ≡ V.recorded collector.old) }
-        ensures others { IsRenamed self.old self.new }
+        ensures none_given { OnErr result (V.given collector.new ≡ V.given collector.old) }
+        ensures same_place { IsRenamed self.old self.new }
+        ensures kept { OnErr result (self.new ≡ self.old) }
     {
         match *self {
             AMode::RegOffset(reg, offset) => {
@@ -62,11 +72,16 @@ impl AMode {
                 *self = AMode::RegOffset(reg, offset);
                 Ok(())
             }
-            _ => Ok(()),
+            AMode::SPOffset(_)
+            | AMode::FPOffset(_)
+            | AMode::SlotOffset(_)
+            | AMode::IncomingArg(_)
+            | AMode::Const(_)
+            | AMode::Label(_) => Ok(()),
         }
     }
 
-    /// The register that it counts from. None for a constant or a label.
+    /// The register that the offset counts from; none for a constant or a label.
     pub fn get_base_register(&self) -> Option<Reg>
         ensures { result ≡ base_of self.now }
     {
@@ -80,7 +95,8 @@ impl AMode {
         }
     }
 
-    /// Its offset from the base in a frame whose sizes sum to less than 2^31; its own offset from -2^62 to 2^62.
+    /// The offset from the base register, in bytes; 0 for a constant or a label. The frame's sizes sum to less than 2^31, and
+    /// the written offset is from -2^62 to 2^62.
     pub fn get_offset(&self, frame: &FrameLayout) -> i64
         requires frame { sp_to_args_end frame.now < 2 ^ 31 }
         requires near { IsNear (own_offset self.now) }

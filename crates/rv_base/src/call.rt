@@ -1,4 +1,4 @@
-//! Registers that stand for values at a function's edges.
+//! The registers of arguments and results, where a function begins and returns.
 
 use crate::regs::{Reg, Writable};
 
@@ -9,7 +9,7 @@ pub struct ArgPair {
     pub preg: Reg,
 }
 
-/// A result: the register that the body leaves it in, and the one that it goes out in.
+/// A result: the register that the body leaves it in, and the one that the caller finds it in.
 #[derive(Clone, Copy, Debug)]
 pub struct RetPair {
     pub vreg: Reg,

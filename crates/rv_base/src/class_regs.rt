@@ -22,7 +22,7 @@ impl XReg {
     ghost use Rattle.rv_base.specs.Regs.{class_of, place_of};
     ghost use Rattle.rv_base.specs.declared.class_regs.XReg.{XReg as Same};
 
-    /// None exactly for a register of another file.
+    /// The same register; none where it is of another file.
     pub fn new(reg: Reg) -> Option<XReg>
         ensures { MatchOption result (class_of reg ≢ RegClass.Int) (λ x. x.reg ≡ reg) }
     {
@@ -43,7 +43,7 @@ impl XReg {
         self.reg
     }
 
-    /// Whether it is this register.
+    /// Returns whether it is this register.
     pub fn eq_reg(self, reg: Reg) -> bool
         ensures { IsTrue result ↔ (self.reg ≡ reg) }
     {
@@ -74,7 +74,7 @@ impl FReg {
     ghost use Rattle.rv_base.specs.Regs.{class_of, place_of};
     ghost use Rattle.rv_base.specs.declared.class_regs.FReg.{FReg as Same};
 
-    /// None exactly for a register of another file.
+    /// The same register; none where it is of another file.
     pub fn new(reg: Reg) -> Option<FReg>
         ensures { MatchOption result (class_of reg ≢ RegClass.Float) (λ f. f.reg ≡ reg) }
     {
@@ -95,7 +95,7 @@ impl FReg {
         self.reg
     }
 
-    /// Whether it is this register.
+    /// Returns whether it is this register.
     pub fn eq_reg(self, reg: Reg) -> bool
         ensures { IsTrue result ↔ (self.reg ≡ reg) }
     {
@@ -126,7 +126,7 @@ impl VReg {
     ghost use Rattle.rv_base.specs.Regs.{class_of, place_of};
     ghost use Rattle.rv_base.specs.declared.class_regs.VReg.{VReg as Same};
 
-    /// None exactly for a register of another file.
+    /// The same register; none where it is of another file.
     pub fn new(reg: Reg) -> Option<VReg>
         ensures { MatchOption result (class_of reg ≢ RegClass.Vector) (λ v. v.reg ≡ reg) }
     {
@@ -147,7 +147,7 @@ impl VReg {
         self.reg
     }
 
-    /// Whether it is this register.
+    /// Returns whether it is this register.
     pub fn eq_reg(self, reg: Reg) -> bool
         ensures { IsTrue result ↔ (self.reg ≡ reg) }
     {

@@ -1,11 +1,15 @@
-//! Why a question about types has no answer.
+//! The errors of calls about types.
 
 use crate::memory::OutOfMemory;
+use thiserror::Error;
 
-#[derive(Clone, Copy, Debug, PartialEq, Eq)]
+/// Why a call about a type has no result.
+#[derive(Clone, Copy, Debug, PartialEq, Eq, Error)]
 pub enum CodegenError {
     /// No class of registers holds the type.
+    #[error("no class of registers holds the type")]
     Unsupported,
+    #[error("out of memory")]
     OutOfMemory,
 }
 

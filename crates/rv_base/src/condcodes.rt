@@ -2,7 +2,7 @@
 
 use std::fmt;
 
-/// A comparison of two integers, signed or unsigned.
+/// A comparison of two integers of 64 bits, signed or unsigned.
 #[derive(Clone, Copy, Debug, PartialEq, Eq)]
 pub enum IntCC {
     Equal,
@@ -21,7 +21,7 @@ impl IntCC {
     ghost use Rattle.std.specs.Prelude.{◌≡◌, ℕ, not};
     ghost use Rattle.rv_base.specs.CondCodes.{complement_of, holds, name_of};
 
-    /// The comparison that holds exactly where this one doesn't.
+    /// The comparison that holds where this one doesn't, and nowhere else.
     pub fn complement(self) -> IntCC
         ensures row { result ≡ complement_of self }
         ensures opposite { (x : ℕ) (y : ℕ) → holds result x y ≡ not (holds self x y) }
@@ -40,7 +40,7 @@ impl IntCC {
         }
     }
 
-    /// Its name in a listing.
+    /// Its name in a listing: `eq`, `ne`, `slt` and so on.
     pub fn to_static_str(self) -> &'static str
         ensures { result.now ≡ name_of self }
     {

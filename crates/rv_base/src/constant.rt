@@ -1,4 +1,4 @@
-//! Constants that stand beside the code.
+//! Constants that are placed with the code.
 
 ghost use Rattle.std.specs.Prelude.{◌≡◌};
 
@@ -14,14 +14,14 @@ pub enum ConstAlign {
     A16,
 }
 
-/// A constant's bytes, and their alignment.
+/// A constant's bytes, and the alignment of their offset.
 #[derive(Drop)]
 pub struct Constant {
     pub bytes: List<u8>,
     pub align: ConstAlign,
 }
 
-/// A constant of the code, by its number.
+/// A constant of the code, by its index in the job's list of constants.
 #[derive(Clone, Copy, Debug, PartialEq, Eq, PartialOrd, Ord, Hash)]
 pub struct VCodeConstant {
     pub number: u32,

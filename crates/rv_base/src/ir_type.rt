@@ -32,7 +32,7 @@ pub enum LaneType {
     F64,
 }
 
-/// A vector: its lanes, a power of two from 2 to 256.
+/// A vector: the type of its lanes and how many there are, a power of two from 2 to 256.
 #[derive(Clone, Copy, Debug, PartialEq, Eq)]
 pub struct VectorType {
     pub lane: LaneType,
@@ -128,26 +128,35 @@ impl IrType {
         }
     }
 
-    /// 1 for a scalar.
+    /// How many lanes a vector has; 1 for a scalar.
     pub fn lane_count(self) -> u32
         ensures { result ≡ lane_count_of self }
     {
         match self {
+            IrType::I8
+            | IrType::I16
+            | IrType::I32
+            | IrType::I64
+            | IrType::I128
+            | IrType::F16
+            | IrType::F32
+            | IrType::F64
+            | IrType::F128 => 1,
             IrType::Vector(vector) => vector.lanes,
-            _ => 1,
         }
     }
 
-    /// Whether it is a single integer.
+    /// Returns whether it is a scalar integer.
     pub fn is_int(self) -> bool
         ensures { result ≡ is_scalar_int self }
     {
         match self {
             IrType::I8 | IrType::I16 | IrType::I32 | IrType::I64 | IrType::I128 => true,
-            _ => false,
+            IrType::F16 | IrType::F32 | IrType::F64 | IrType::F128 | IrType::Vector(_) => false,
         }
     }
 
+    /// Returns whether it is a vector.
     pub fn is_vector(self) -> bool
         ensures { result ≡ is_vector_type self }
     {

@@ -5,7 +5,7 @@ ghost use Rattle.std.specs.Fmt.{decimal};
 
 use std::fmt;
 
-/// A label, by its number. A listing's own labels are below 2^30.
+/// A label, by its number. A listing's labels are below 2^30: those from there on are the ones that a buffer allocates.
 #[derive(Clone, Copy, PartialEq, Eq, PartialOrd, Ord, Hash)]
 pub struct MachLabel {
     pub number: u32,

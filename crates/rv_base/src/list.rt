@@ -1,4 +1,4 @@
-//! A list that contracts see as its elements, without where they lie in memory.
+//! A list that contracts see as its elements, wherever they lie in memory.
 
 ghost use Rattle.std.specs.Prelude.{◌≡◌, ◌++◌, ◌∷◌, [], ◌==◌, length, OnOk, OnErr};
 
@@ -64,7 +64,7 @@ impl<T> List<T> {
 }
 
 impl<T: Drop> List<T> {
-    /// Puts one more element at the end. After a refusal the list is as it was.
+    /// Appends an element. After an error the list is as it was.
     pub fn push(&mut self, element: T) -> Result<(), OutOfMemory>
         ensures ok { OnOk result (self.new ≡ self.old ++ element ∷ []) }
         ensures err { OnErr result (self.new ≡ self.old) }

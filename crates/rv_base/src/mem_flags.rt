@@ -1,10 +1,10 @@
-//! What is known of an access to memory.
+//! What is known of a load or a store.
 
 ghost use Rattle.std.specs.Prelude.{◌≡◌};
 
 use crate::trap::TrapCode;
 
-/// The trap that an access may take, if any.
+/// The cause of the trap that an access may take, if any.
 #[derive(Clone, Copy, Debug, PartialEq, Eq)]
 pub struct MemFlagsData {
     trap: Option<TrapCode>,

@@ -1,9 +1,11 @@
-//! Want of memory, the one refusal of a call that only allocates.
+//! The error of a call that can only fail by running out of memory.
 
 use std::alloc::{AllocError, AllocFailed};
+use thiserror::Error;
 
-/// There was not enough memory.
-#[derive(Clone, Copy, Debug, PartialEq, Eq)]
+/// Out of memory.
+#[derive(Clone, Copy, Debug, PartialEq, Eq, Error)]
+#[error("out of memory")]
 pub struct OutOfMemory;
 
 impl From<AllocError> for OutOfMemory {

@@ -1,4 +1,5 @@
-//! The machine's registers by number and by name.
+//! The machine's registers by number, and those that have a use of their own by their name in the psABI's "Integer Register
+//! Convention" and "Floating-point Register Convention".
 
 ghost use Rattle.std.specs.Prelude.{◌≡◌, ◌<◌};
 ghost use Rattle.rv_base.specs.Regs.{IsPReg, IsReal};
@@ -45,62 +46,70 @@ pub fn f_reg(enc: usize) -> Reg
     Reg::Real(pf_reg(enc))
 }
 
+/// x0, which always reads 0.
 pub fn zero_reg() -> Reg
     ensures { IsReal result RegClass.Int 0 }
 {
     x_reg(0)
 }
 
+/// x1, `ra`: the return address.
 pub fn link_reg() -> Reg
     ensures { IsReal result RegClass.Int 1 }
 {
     x_reg(1)
 }
 
+/// x2, `sp`: the stack pointer.
 pub fn stack_reg() -> Reg
     ensures { IsReal result RegClass.Int 2 }
 {
     x_reg(2)
 }
 
+/// x8, `fp` or `s0`: the frame pointer.
 pub fn fp_reg() -> Reg
     ensures { IsReal result RegClass.Int 8 }
 {
     x_reg(8)
 }
 
+/// x10: the first integer argument and result.
 pub fn a0() -> Reg
     ensures { IsReal result RegClass.Int 10 }
 {
     x_reg(10)
 }
 
+/// x11: the second integer argument and result.
 pub fn a1() -> Reg
     ensures { IsReal result RegClass.Int 11 }
 {
     x_reg(11)
 }
 
+/// x12: the third integer argument.
 pub fn a2() -> Reg
     ensures { IsReal result RegClass.Int 12 }
 {
     x_reg(12)
 }
 
+/// f11: the second floating-point argument and result.
 pub fn fa1() -> Reg
     ensures { IsReal result RegClass.Float 11 }
 {
     f_reg(11)
 }
 
-/// The register that expansions and veneers change; no line may name it.
+/// x31, `t6`: the register that expansions and veneers overwrite. No line may name it.
 pub fn spilltmp_reg() -> Reg
     ensures { IsReal result RegClass.Int 31 }
 {
     x_reg(31)
 }
 
-/// The second register that expansions change; no line may name it.
+/// x30, `t5`: the second register that expansions overwrite. No line may name it.
 pub fn spilltmp_reg2() -> Reg
     ensures { IsReal result RegClass.Int 30 }
 {

@@ -1,4 +1,4 @@
-//! The names of registers: those of the manual's calling convention, and a number for a vector or a virtual register.
+//! The names of registers: those of the psABI's "Register Convention", and a number for a vector or a virtual register.
 
 ghost use Rattle.std.specs.Prelude.{◌≡◌, ◌<◌, Some, IfOk, string_bytes};
 ghost use Rattle.rv_base.specs.Names.{int_names, float_names, name_at, name_of};
@@ -8,7 +8,7 @@ use crate::regs::{Reg, RegClass};
 use std::alloc::Global;
 use std::fmt;
 
-/// The name of a register; of a virtual one, `%` and its index.
+/// The name of a register, as `a0`, `fa0` or `v8`; of a virtual one, `%` and its index.
 pub fn reg_name(alloc: Global, reg: Reg) -> Result<String, OutOfMemory>
     ensures { IfOk result (λ name. string_bytes name ≡ name_of reg) }
 {

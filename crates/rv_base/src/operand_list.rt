@@ -1,4 +1,4 @@
-//! A visitor that keeps a list.
+//! A visitor that lists the requests.
 
 ghost use Rattle.std.specs.Prelude.{◌≡◌, [], ◌∷◌, ◌++◌, OnOk, OnErr};
 
@@ -17,7 +17,7 @@ pub struct OperandList {
 }
 
 impl OperandList {
-    /// Nothing recorded. Takes no memory.
+    /// A visitor that has recorded nothing. Allocates nothing.
     pub fn new(alloc: Global) -> OperandList
         ensures { result.constraints ≡ [] }
     {
@@ -26,7 +26,7 @@ impl OperandList {
         }
     }
 
-    /// What was recorded, in order.
+    /// The requests that were recorded, in order.
     pub fn constraints(&self) -> &List<Constraint>
         ensures { result.now ≡ self.now.constraints }
     {
@@ -35,7 +35,11 @@ impl OperandList {
 }
 
 impl OperandVisitor for OperandList {
+    ghost use Rattle.rv_base.specs.Operands.{registers_of};
+
     ghost recorded = { λ visitor. visitor.constraints };
+
+    ghost given = { λ visitor. registers_of visitor.constraints };
 
     fn reg_use(&mut self, r: &mut Reg) -> Result<(), OutOfMemory>
         ensures ok { OnOk result (self.new.constraints ≡ self.old.constraints ++ (Constraint.RegUse r.old) ∷ []) }

@@ -5,7 +5,7 @@ ghost use Rattle.std.specs.Int.{bit_at};
 
 use crate::regs::{PReg, RegClass};
 
-/// A set of registers of the machine. Takes no memory of its own.
+/// A set of registers of the machine. Allocates nothing.
 #[derive(Clone, Copy, Debug, PartialEq, Eq)]
 pub struct PRegSet {
     int: u32,
@@ -30,7 +30,7 @@ impl PRegSet {
         }
     }
 
-    /// Puts a register in; the others stay in or out.
+    /// Adds a register, and leaves the others in or out.
     pub fn add(&mut self, reg: PReg)
         ensures has { IsTrue (contains self.new reg.class reg.number) }
         ensures others { (class : Class) (number : ℕ) → ¬ (IsPReg reg class number) →
@@ -44,6 +44,7 @@ impl PRegSet {
         }
     }
 
+    /// Returns whether the register is in the set.
     pub fn contains(&self, reg: PReg) -> bool
         ensures { result ≡ contains self.now reg.class reg.number }
     {

@@ -1,8 +1,8 @@
-//! Registers: the machine's own, and virtual ones that no register was chosen for yet.
+//! Registers: the machine's own, and virtual ones, which wait for a register allocator.
 
 ghost use Rattle.std.specs.Prelude.{◌≡◌, ◌<◌, ◌≤◌};
 
-/// The three register files.
+/// The register files: x0 to x31, f0 to f31 and v0 to v31 (the manual's chapters "RV32I", "F" and "V").
 #[derive(Clone, Copy, Debug, PartialEq, Eq, PartialOrd, Ord, Hash)]
 pub enum RegClass {
     Int,
@@ -10,7 +10,7 @@ pub enum RegClass {
     Vector,
 }
 
-/// A register of the machine, by its file and its number below 32.
+/// A register of the machine, by its file and its number, which is below 32.
 #[derive(Clone, Copy, Debug, PartialEq, Eq, PartialOrd, Ord, Hash)]
 pub struct PReg {
     pub class: RegClass,
@@ -19,7 +19,7 @@ pub struct PReg {
 }
 
 impl PReg {
-    /// The register of this number; below 32.
+    /// The register of this number, which is below 32.
     pub fn new(number: u8, class: RegClass) -> PReg
         requires { number < 32 }
         ensures class { result.class ≡ class }
@@ -28,13 +28,14 @@ impl PReg {
         PReg { class, number }
     }
 
+    /// The file that it is of.
     pub fn class(self) -> RegClass
         ensures { result ≡ self.class }
     {
         self.class
     }
 
-    /// The number that instructions hold; below 32.
+    /// The number that an instruction's field holds, below 32.
     pub fn hw_enc(self) -> u8
         ensures value { result ≡ self.number }
         ensures in_file { result < 32 }
@@ -43,7 +44,8 @@ impl PReg {
     }
 }
 
-/// A register that none of the machine's was chosen for.
+/// A register that a register allocator has yet to choose a real one for. Its index is from 192 to 2^21 - 1: those below
+/// 192, 64 for each file, stand for the real registers, and the allocator keeps 21 bits of an index.
 #[derive(Clone, Copy, Debug, PartialEq, Eq, PartialOrd, Ord, Hash)]
 pub struct VirtualReg {
     pub index: u32,
@@ -93,7 +95,7 @@ impl Reg {
         Reg::Real(reg)
     }
 
-    /// A virtual register; its index is from 192 to 2097151.
+    /// The virtual register of this index, which is from 192 to 2^21 - 1 = 2097151.
     pub fn from_virtual(index: u32, class: RegClass) -> Reg
         requires low { 192 ≤ index }
         requires high { index < 2097152 }
@@ -102,6 +104,7 @@ impl Reg {
         Reg::Virtual(VirtualReg { index, class })
     }
 
+    /// The file that it is of.
     pub fn class(self) -> RegClass
         ensures { result ≡ class_of self }
     {
@@ -111,7 +114,7 @@ impl Reg {
         }
     }
 
-    /// None exactly for a virtual register.
+    /// The machine's register; none for a virtual one.
     pub fn to_real_reg(self) -> Option<PReg>
         ensures { result ≡ real_of self }
     {

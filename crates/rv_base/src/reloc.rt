@@ -1,17 +1,17 @@
 //! Relocations.
 
-/// How a place in code depends on a symbol, by the names of the RISC-V ELF psABI. S is the symbol's address plus the
-/// addend, P the place's own address.
+/// How a place in code depends on a symbol, by the names of the RISC-V ELF psABI's section "Relocations". S is the
+/// symbol's address plus the addend, P the place's own address.
 #[derive(Clone, Copy, Debug, PartialEq, Eq)]
 pub enum Reloc {
-    /// An `auipc` and the `jalr` behind it, with S - P in both numbers.
+    /// R_RISCV_CALL_PLT: an `auipc` and the `jalr` after it, whose two immediates make S - P.
     RiscvCallPlt,
-    /// An `auipc` with the upper part of the distance to the slot that holds the symbol's address.
+    /// R_RISCV_GOT_HI20: an `auipc` with the upper part of the distance to the GOT slot that holds the symbol's address.
     RiscvGotHi20,
-    /// An `auipc` with the upper part of S - P.
+    /// R_RISCV_PCREL_HI20: an `auipc` with the upper part of S - P.
     RiscvPCRelHi20,
-    /// The lower part of the distance that the `auipc` at the target has.
+    /// R_RISCV_PCREL_LO12_I: an I-type instruction with the lower part of the distance whose upper part the `auipc` at S has.
     RiscvPCRelLo12I,
-    /// Eight bytes with S.
+    /// R_RISCV_64: eight bytes with S.
     Abs8,
 }

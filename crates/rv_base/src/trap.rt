@@ -1,4 +1,4 @@
-//! Why code may trap.
+//! The causes of traps.
 
 ghost use Rattle.std.specs.Prelude.{◌≡◌, ◌<◌, ◌≤◌, ◌⊎◌, Some, MatchOption};
 
@@ -7,11 +7,17 @@ use std::fmt;
 /// The cause of a trap.
 #[derive(Clone, Copy, Debug, PartialEq, Eq)]
 pub enum TrapCode {
+    /// The stack has no room.
     StackOverflow,
+    /// An access outside the heap.
     HeapOutOfBounds,
+    /// A signed sum, difference or quotient that doesn't fit.
     IntegerOverflow,
+    /// A division by zero.
     IntegerDivisionByZero,
+    /// A floating-point number that is no integer of the type asked for.
     BadConversionToInteger,
+    /// A cause of the user's.
     User(UserTrap),
 }
 
@@ -37,7 +43,7 @@ impl TrapCode {
 
     pub const BAD_CONVERSION_TO_INTEGER: TrapCode = TrapCode::BadConversionToInteger;
 
-    /// None exactly for 0 and above 250.
+    /// The user's cause of this number; none for 0 and above 250.
     pub fn user(number: u8) -> Option<TrapCode>
         ensures { MatchOption result ((number ≡ 0) ⊎ (250 < number)) (IsUserOf number) }
     {
@@ -68,4 +74,13 @@ impl fmt::Display for TrapCode {
             }
         }
     }
+}
+
+// Each constant is the cause of its name.
+fn constants_hold() {
+    prove!(matches!(&TrapCode::STACK_OVERFLOW, TrapCode::StackOverflow));
+    prove!(matches!(&TrapCode::HEAP_OUT_OF_BOUNDS, TrapCode::HeapOutOfBounds));
+    prove!(matches!(&TrapCode::INTEGER_OVERFLOW, TrapCode::IntegerOverflow));
+    prove!(matches!(&TrapCode::INTEGER_DIVISION_BY_ZERO, TrapCode::IntegerDivisionByZero));
+    prove!(matches!(&TrapCode::BAD_CONVERSION_TO_INTEGER, TrapCode::BadConversionToInteger));
 }

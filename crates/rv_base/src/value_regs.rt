@@ -11,7 +11,7 @@ impl<R> ValueRegs<R> {
     ghost use Rattle.std.specs.Prelude.{◌≡◌};
     ghost use Rattle.rv_base.specs.ValueRegs.{count_of};
 
-    /// How many registers they are.
+    /// How many registers there are: 1 or 2.
     pub fn len(&self) -> usize
         ensures { result ≡ count_of self.now }
     {

@@ -1,4 +1,4 @@
-//! Immediates of five bits, read signed.
+//! Signed immediates of five bits: those of vector instructions (the manual's chapter "V", "Vector Instruction Formats").
 
 ghost use Rattle.std.specs.Prelude.{◌≡◌, ◌<◌, ◌^◌, ◌≤ℤ◌, pos, negsuc, Some, MatchOption};
 ghost use Rattle.std.specs.Fmt.{signed_decimal};
@@ -6,7 +6,7 @@ ghost use Rattle.rv_imms.specs.Bits.{low_bits, IsSigned};
 
 use std::fmt;
 
-/// A number from -16 to 15.
+/// An immediate from -16 to 15.
 #[derive(Clone, Copy, Debug, PartialEq)]
 pub struct Imm5 {
     pub value: i8,
@@ -15,7 +15,7 @@ pub struct Imm5 {
 }
 
 impl Imm5 {
-    /// None exactly outside -16 to 15.
+    /// The immediate of this value; none outside -16 to 15.
     pub fn maybe_from_i8(value: i8) -> Option<Imm5>
         ensures { MatchOption result (¬ (IsSigned 5 value)) (λ imm. imm.value ≡ value) }
     {
@@ -26,7 +26,7 @@ impl Imm5 {
         }
     }
 
-    /// The number of these five bits; below 32.
+    /// The immediate of these five bits, which are below 32 as an unsigned number.
     pub fn from_bits(value: u8) -> Imm5
         requires { value < 32 }
         ensures { low_bits (2 ^ 5) result.value ≡ value }
@@ -37,7 +37,7 @@ impl Imm5 {
         }
     }
 
-    /// Its five bits.
+    /// Its five bits in two's complement, as an instruction's field holds them.
     pub fn bits(&self) -> u8
         ensures value { result ≡ low_bits (2 ^ 5) self.now.value }
         ensures small { result < 2 ^ 5 }

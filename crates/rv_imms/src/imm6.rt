@@ -1,4 +1,5 @@
-//! Immediates of six bits, read signed.
+//! Signed immediates of six bits: those of compressed instructions (the manual's chapter "C", "Integer Computational
+//! Instructions").
 
 ghost use Rattle.std.specs.Prelude.{◌≡◌, ◌<◌, ◌^◌, ◌≤ℤ◌, pos, negsuc, Some, MatchOption};
 ghost use Rattle.std.specs.Fmt.{signed_decimal};
@@ -7,7 +8,7 @@ ghost use Rattle.rv_imms.specs.Bits.{low_bits, IsSigned};
 use crate::imm12::Imm12;
 use std::fmt;
 
-/// A number from -32 to 31.
+/// An immediate from -32 to 31.
 #[derive(Clone, Copy, Debug, PartialEq)]
 pub struct Imm6 {
     pub value: i8,
@@ -16,14 +17,14 @@ pub struct Imm6 {
 }
 
 impl Imm6 {
-    /// None exactly outside -32 to 31.
+    /// The immediate of this value; none outside -32 to 31.
     pub fn maybe_from_i16(value: i16) -> Option<Imm6>
         ensures { MatchOption result (¬ (IsSigned 6 value)) (λ imm. imm.value ≡ value) }
     {
         Imm6::maybe_from_i32(i32::from(value))
     }
 
-    /// None exactly outside -32 to 31.
+    /// The immediate of this value; none outside -32 to 31.
     pub fn maybe_from_i32(value: i32) -> Option<Imm6>
         ensures { MatchOption result (¬ (IsSigned 6 value)) (λ imm. imm.value ≡ value) }
     {
@@ -34,14 +35,14 @@ impl Imm6 {
         }
     }
 
-    /// None exactly outside -32 to 31.
+    /// The immediate of this value; none outside -32 to 31.
     pub fn maybe_from_imm12(value: Imm12) -> Option<Imm6>
         ensures { MatchOption result (¬ (IsSigned 6 value.value)) (λ imm. imm.value ≡ value.value) }
     {
         Imm6::maybe_from_i16(value.as_i16())
     }
 
-    /// Its six bits.
+    /// Its six bits in two's complement, as an instruction's field holds them.
     pub fn bits(&self) -> u8
         ensures value { result ≡ low_bits (2 ^ 6) self.now.value }
         ensures small { result < 2 ^ 6 }

@@ -1,4 +1,4 @@
-//! Immediates of instructions.
+//! Immediates of instructions: each type is one width of field, and holds only the values that fit it.
 #![tactic(auto)]
 
 pub mod imm12;

@@ -1,11 +1,11 @@
-//! The unsigned immediate of CSR instructions.
+//! The unsigned immediate of CSR instructions (the manual's chapter "Zicsr").
 
 ghost use Rattle.std.specs.Prelude.{◌≡◌, ◌<◌, ◌≤◌, Some, MatchOption};
 ghost use Rattle.std.specs.Fmt.{decimal};
 
 use std::fmt;
 
-/// A number below 32.
+/// An immediate from 0 to 31.
 #[derive(Clone, Copy, Debug, PartialEq)]
 pub struct UImm5 {
     pub value: u8,
@@ -13,7 +13,7 @@ pub struct UImm5 {
 }
 
 impl UImm5 {
-    /// None exactly from 32 on.
+    /// The immediate of this value; none from 32 on.
     pub fn maybe_from_u8(value: u8) -> Option<UImm5>
         ensures { MatchOption result (32 ≤ value) (λ imm. imm.value ≡ value) }
     {
@@ -24,7 +24,7 @@ impl UImm5 {
         }
     }
 
-    /// The number; below 32.
+    /// Its five bits: its value, below 32.
     pub fn bits(&self) -> u32
         ensures value { result ≡ self.now.value }
         ensures small { result < 32 }

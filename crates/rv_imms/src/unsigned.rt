@@ -1,11 +1,11 @@
-//! Unsigned immediates of vector and compressed instructions.
+//! Unsigned immediates of vector and compressed instructions (the manual's chapters "V" and "C").
 
 ghost use Rattle.std.specs.Prelude.{◌≡◌, ◌<◌, ◌≤◌, Some, MatchOption};
 ghost use Rattle.std.specs.Fmt.{decimal};
 
 use std::fmt;
 
-/// A number below 4.
+/// An immediate of two bits, from 0 to 3.
 #[derive(Clone, Copy, Debug, PartialEq)]
 pub struct Uimm2 {
     pub value: u8,
@@ -13,7 +13,7 @@ pub struct Uimm2 {
 }
 
 impl Uimm2 {
-    /// None exactly from 4 on.
+    /// The immediate of this value; none from 4 on.
     pub fn maybe_from_u8(value: u8) -> Option<Uimm2>
         ensures { MatchOption result (4 ≤ value) (λ imm. imm.value ≡ value) }
     {
@@ -24,7 +24,7 @@ impl Uimm2 {
         }
     }
 
-    /// The number; below 4.
+    /// Its bits: its value, below 4.
     pub fn bits(&self) -> u8
         ensures value { result ≡ self.now.value }
         ensures small { result < 4 }
@@ -42,7 +42,7 @@ impl fmt::Display for Uimm2 {
     }
 }
 
-/// A number below 32.
+/// An immediate of five bits, from 0 to 31.
 #[derive(Clone, Copy, Debug, PartialEq)]
 pub struct Uimm5 {
     pub value: u8,
@@ -50,7 +50,7 @@ pub struct Uimm5 {
 }
 
 impl Uimm5 {
-    /// None exactly from 32 on.
+    /// The immediate of this value; none from 32 on.
     pub fn maybe_from_u8(value: u8) -> Option<Uimm5>
         ensures { MatchOption result (32 ≤ value) (λ imm. imm.value ≡ value) }
     {
@@ -61,7 +61,7 @@ impl Uimm5 {
         }
     }
 
-    /// The number; below 32.
+    /// Its bits: its value, below 32.
     pub fn bits(&self) -> u8
         ensures value { result ≡ self.now.value }
         ensures small { result < 32 }
@@ -79,7 +79,7 @@ impl fmt::Display for Uimm5 {
     }
 }
 
-/// A number below 64.
+/// An immediate of six bits, from 0 to 63.
 #[derive(Clone, Copy, Debug, PartialEq)]
 pub struct Uimm6 {
     pub value: u8,
@@ -87,7 +87,7 @@ pub struct Uimm6 {
 }
 
 impl Uimm6 {
-    /// None exactly from 64 on.
+    /// The immediate of this value; none from 64 on.
     pub fn maybe_from_u8(value: u8) -> Option<Uimm6>
         ensures { MatchOption result (64 ≤ value) (λ imm. imm.value ≡ value) }
     {
@@ -98,7 +98,7 @@ impl Uimm6 {
         }
     }
 
-    /// The number; below 64.
+    /// Its bits: its value, below 64.
     pub fn bits(&self) -> u8
         ensures value { result ≡ self.now.value }
         ensures small { result < 64 }

@@ -1,4 +1,4 @@
-//! Why a job is refused.
+//! The errors of a job: the rules of its lines, and why it has no code.
 
 use thiserror::Error;
 
@@ -24,17 +24,18 @@ pub enum Rule {
 /// Why a job has no code.
 #[derive(Debug, Drop, Error)]
 pub enum EmitError {
-    #[error("OutOfMemory")]
+    #[error("out of memory")]
     OutOfMemory,
     /// The first line, counted from 0, that breaks a rule, and the first rule that it breaks.
-    #[error("Malformed {index} {rule:?}")]
+    #[error("line {index}, counted from 0, breaks the rule {rule:?}")]
     Malformed { index: usize, rule: Rule },
     /// A label that is bound a second time.
-    #[error("LabelTwice {label}")]
+    #[error("label {label} is bound twice")]
     LabelTwice { label: u32 },
     /// A label that a line names and none binds.
-    #[error("UnboundLabel {label}")]
+    #[error("label {label} is used and bound nowhere")]
     UnboundLabel { label: u32 },
-    #[error("TooLarge")]
+    #[error("the code may be longer than 2^30 bytes")]
+    /// The bound on the sizes of its lines is above 2^30 bytes, so that some distance may not fit its field.
     TooLarge,
 }

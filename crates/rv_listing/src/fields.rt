@@ -5,6 +5,7 @@ ghost use Rattle.rv_listing.specs.Tokens.{more};
 ghost use Rattle.rv_listing.specs.Fields.{field, no_more, Takes, Makes};
 
 use crate::tokens::next_word;
+use thiserror::Error;
 
 /// What one word of a line stands for.
 pub trait Token: Copy {
@@ -15,9 +16,11 @@ pub trait Token: Copy {
 }
 
 /// Why a line isn't taken.
-#[derive(Clone, Copy, Debug, PartialEq, Eq)]
+#[derive(Clone, Copy, Debug, PartialEq, Eq, Error)]
 pub enum LineError {
+    #[error("not a line of a form allowed here")]
     NotAllowed,
+    #[error("out of memory")]
     OutOfMemory,
 }
 

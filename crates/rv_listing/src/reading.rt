@@ -14,12 +14,15 @@ use rv_base::frame::FrameLayout;
 use rv_base::list::List;
 use rv_inst::job::Job;
 use std::alloc::Global;
+use thiserror::Error;
 
 /// Why a text is no job.
-#[derive(Clone, Copy, Debug, PartialEq, Eq)]
+#[derive(Clone, Copy, Debug, PartialEq, Eq, Error)]
 pub enum ReadError {
     /// The first line, counted from 1, that isn't of a form allowed there.
+    #[error("syntax at line {line}")]
     Syntax { line: usize },
+    #[error("out of memory")]
     OutOfMemory,
 }
 

@@ -1,4 +1,5 @@
--- Integer operations: their names, and the numbers of their words as the manual's opcode lists have them.
+-- Integer operations: their mnemonics, and the fields of their words, as in the manual's chapter "RV32/64G Instruction
+-- Set Listings" and those of Zba, Zbb, Zbs and Zicond.
 use Rattle.std.specs.Prelude.{ℕ, ◌+◌, ◌*◌, ◌%◌, ◌^◌, Bool, true, false, Option, Some, None, List, codes}
 use Rattle.rv_ops.specs.declared.alu.AluOPRRR.{AluOPRRR}
 use Rattle.rv_ops.specs.declared.alu.AluOPRRR.TheVariants as rrr
@@ -7,26 +8,32 @@ use Rattle.rv_ops.specs.declared.alu.AluOPRRI.TheVariants as rri
 
 -- ---- two registers
 
+-- the fields of an R-type word that tell its operation, and whether the word has the sources exchanged
 pub record RegisterNumbers : Type 0 where
   pub opcode : ℕ
   pub funct3 : ℕ
   pub funct7 : ℕ
+  pub exchanged : Bool
 
 -- OP and OP-32
 abbrev pub op : ℕ → ℕ → RegisterNumbers
-op funct7 funct3 = record { opcode = 0x33; funct3 = funct3; funct7 = funct7 }
+op funct7 funct3 = record { opcode = 0x33; funct3 = funct3; funct7 = funct7; exchanged = false }
 
 abbrev pub op32 : ℕ → ℕ → RegisterNumbers
-op32 funct7 funct3 = record { opcode = 0x3b; funct3 = funct3; funct7 = funct7 }
+op32 funct7 funct3 = record { opcode = 0x3b; funct3 = funct3; funct7 = funct7; exchanged = false }
+
+-- OP, with the sources exchanged: a pseudo-instruction
+abbrev pub op_exchanged : ℕ → ℕ → RegisterNumbers
+op_exchanged funct7 funct3 = record { opcode = 0x33; funct3 = funct3; funct7 = funct7; exchanged = true }
 
 abbrev pub rrr_numbers : AluOPRRR → RegisterNumbers
 rrr_numbers rrr.Add = op 0x00 0
 rrr_numbers rrr.Sub = op 0x20 0
 rrr_numbers rrr.Sll = op 0x00 1
 rrr_numbers rrr.Slt = op 0x00 2
-rrr_numbers rrr.Sgt = op 0x00 2
+rrr_numbers rrr.Sgt = op_exchanged 0x00 2
 rrr_numbers rrr.SltU = op 0x00 3
-rrr_numbers rrr.Sgtu = op 0x00 3
+rrr_numbers rrr.Sgtu = op_exchanged 0x00 3
 rrr_numbers rrr.Xor = op 0x00 4
 rrr_numbers rrr.Srl = op 0x00 5
 rrr_numbers rrr.Sra = op 0x20 5
@@ -77,9 +84,7 @@ rrr_numbers rrr.CzeroNez = op 0x07 7
 
 -- whether the word has the sources exchanged
 abbrev pub is_reversed : AluOPRRR → Bool
-is_reversed rrr.Sgt = true
-is_reversed rrr.Sgtu = true
-is_reversed _ = false
+is_reversed operation = (rrr_numbers operation).exchanged
 
 abbrev pub rrr_name : AluOPRRR → List ℕ
 rrr_name rrr.Add = codes "add"
@@ -137,16 +142,17 @@ rrr_name rrr.Xnor = codes "xnor"
 rrr_name rrr.CzeroEqz = codes "czero.eqz"
 rrr_name rrr.CzeroNez = codes "czero.nez"
 
--- ---- a register and a number
+-- ---- a register and an immediate
 
--- what the upper twelve bits of a word are
+-- what bits 31 to 20 of an I-type word are
 pub data Upper : Type 0 where
-  -- the number
+  -- the immediate
   Number : Upper
-  -- six or seven bits of their own, and as many of the number as are left
+  -- funct6 and a shift amount of six bits
   Amount6 : ℕ → Upper
+  -- funct7 and a shift amount of five bits
   Amount5 : ℕ → Upper
-  -- bits of their own
+  -- funct12, and no immediate
   Fixed : ℕ → Upper
 
 pub record ImmediateNumbers : Type 0 where
@@ -196,17 +202,23 @@ rri_numbers rri.Orcb = op_imm 5 (Fixed 0x287)
 
 abbrev pub funct6_of : Upper → Option ℕ
 funct6_of (Amount6 f) = Some f
-funct6_of _ = None
+funct6_of Number = None
+funct6_of (Amount5 f) = None
+funct6_of (Fixed f) = None
 
 abbrev pub funct7_of : Upper → Option ℕ
 funct7_of (Amount5 f) = Some f
-funct7_of _ = None
+funct7_of Number = None
+funct7_of (Amount6 f) = None
+funct7_of (Fixed f) = None
 
 abbrev pub funct12_of : Upper → Option ℕ
 funct12_of (Fixed f) = Some f
-funct12_of _ = None
+funct12_of Number = None
+funct12_of (Amount6 f) = None
+funct12_of (Amount5 f) = None
 
--- the upper twelve bits, with the bits of a number
+-- bits 31 to 20 of the word, of an immediate with these twelve bits
 abbrev pub imm12_of : Upper → ℕ → ℕ
 imm12_of Number bits = bits
 imm12_of (Amount6 f) bits = f * 2 ^ 6 + bits % 2 ^ 6

@@ -1,4 +1,4 @@
--- Comparisons as branches of the manual.
+-- Comparisons as the manual's conditional branches (chapter "RV32I Base Integer Instruction Set", "Conditional Branches").
 use Rattle.std.specs.Prelude.{ℕ, ◌+◌, ◌*◌, ◌^◌, if◌then◌else◌, Bool, true, false, List, codes}
 use Rattle.rv_base.specs.declared.condcodes.IntCC.{IntCC}
 use Rattle.rv_base.specs.declared.condcodes.IntCC.TheVariants.{Equal, NotEqual, SignedLessThan, SignedGreaterThanOrEqual, SignedGreaterThan, SignedLessThanOrEqual, UnsignedLessThan, UnsignedGreaterThanOrEqual, UnsignedGreaterThan, UnsignedLessThanOrEqual}
@@ -30,11 +30,16 @@ branch_of UnsignedLessThanOrEqual = branch.Geu
 
 -- whether the word has the registers exchanged
 abbrev pub is_reversed : IntCC → Bool
+is_reversed Equal = false
+is_reversed NotEqual = false
+is_reversed SignedLessThan = false
+is_reversed SignedGreaterThanOrEqual = false
 is_reversed SignedGreaterThan = true
 is_reversed SignedLessThanOrEqual = true
+is_reversed UnsignedLessThan = false
+is_reversed UnsignedGreaterThanOrEqual = false
 is_reversed UnsignedGreaterThan = true
 is_reversed UnsignedLessThanOrEqual = true
-is_reversed _ = false
 
 -- the registers of the word
 abbrev pub rs1_of : IntegerCompare → Reg
@@ -43,7 +48,7 @@ rs1_of c = if is_reversed c.kind then c.rs2 else c.rs1
 abbrev pub rs2_of : IntegerCompare → Reg
 rs2_of c = if is_reversed c.kind then c.rs1 else c.rs2
 
--- the word of the branch by distance 0
+-- the word of the branch with offset 0: a B-type word, of the opcode BRANCH
 abbrev pub branch_word : IntegerCompare → ℕ
 branch_word c = 0x63 + funct3_of (branch_of c.kind) * 2 ^ 12 + number_of (rs1_of c) * 2 ^ 15 + number_of (rs2_of c) * 2 ^ 20
 

@@ -1,26 +1,37 @@
--- Loads and stores: their names, how many bytes they move, and their funct3.
+-- Loads and stores of integer registers (chapter "RV32I Base Integer Instruction Set", "Load and Store Instructions", and
+-- that of RV64I): their mnemonics, how many bytes they move, and their funct3.
 use Rattle.std.specs.Prelude.{ℕ, Option, Some, None, List, codes}
 use Rattle.rv_base.specs.declared.ir_type.IrType.{IrType}
-use Rattle.rv_base.specs.declared.ir_type.IrType.TheVariants.{I8, I16, I32, I64}
+use Rattle.rv_base.specs.declared.ir_type.IrType.TheVariants.{I8, I16, I32, I64, I128, F16, F32, F64, F128, Vector}
 use Rattle.rv_ops.specs.declared.memory.LoadOP.{LoadOP}
 use Rattle.rv_ops.specs.declared.memory.LoadOP.TheVariants.{Lb, Lh, Lw, Lbu, Lhu, Lwu, Ld}
 use Rattle.rv_ops.specs.declared.memory.StoreOP.{StoreOP}
 use Rattle.rv_ops.specs.declared.memory.StoreOP.TheVariants.{Sb, Sh, Sw, Sd}
 
--- the load of a type, and the store
+-- the load of an integer type, signed where it is narrower than a register, and the store; none for other types
 abbrev pub load_of : IrType → Option LoadOP
 load_of I8 = Some Lb
 load_of I16 = Some Lh
 load_of I32 = Some Lw
 load_of I64 = Some Ld
-load_of _ = None
+load_of I128 = None
+load_of F16 = None
+load_of F32 = None
+load_of F64 = None
+load_of F128 = None
+load_of (Vector v) = None
 
 abbrev pub store_of : IrType → Option StoreOP
 store_of I8 = Some Sb
 store_of I16 = Some Sh
 store_of I32 = Some Sw
 store_of I64 = Some Sd
-store_of _ = None
+store_of I128 = None
+store_of F16 = None
+store_of F32 = None
+store_of F64 = None
+store_of F128 = None
+store_of (Vector v) = None
 
 abbrev pub load_funct3 : LoadOP → ℕ
 load_funct3 Lb = 0

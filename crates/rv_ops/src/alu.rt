@@ -1,8 +1,10 @@
-//! Integer operations of two registers, and of a register and a number.
+//! Integer operations of two registers (R-type), and of a register and an immediate (I-type): those of RV64I, M, Zba, Zbb,
+//! Zbs and Zicond. The fields are those of the manual's chapter "RV32/64G Instruction Set Listings" and of the extensions'
+//! own chapters.
 
 use rv_imms::imm12::Imm12;
 
-/// An operation of two source registers.
+/// An operation of two source registers, by its mnemonic. `Sgt` and `Sgtu` are pseudo-instructions.
 #[derive(Clone, Copy, Debug, PartialEq, Eq)]
 pub enum AluOPRRR {
     Add,
@@ -127,6 +129,7 @@ impl AluOPRRR {
         }
     }
 
+    /// Bits 14 to 12 of the word.
     pub fn funct3(self) -> u32
         ensures value { result ≡ (rrr_numbers self).funct3 }
         ensures width { result < 2 ^ 3 }
@@ -179,6 +182,7 @@ impl AluOPRRR {
         }
     }
 
+    /// Bits 6 to 0 of the word.
     pub fn op_code(self) -> u32
         ensures value { result ≡ (rrr_numbers self).opcode }
         ensures width { result < 2 ^ 7 }
@@ -241,6 +245,7 @@ impl AluOPRRR {
         }
     }
 
+    /// Bits 31 to 25 of the word.
     pub fn funct7(self) -> u32
         ensures value { result ≡ (rrr_numbers self).funct7 }
         ensures width { result < 2 ^ 7 }
@@ -290,7 +295,7 @@ impl AluOPRRR {
         }
     }
 
-    /// Whether its word has the sources exchanged: `sgt` and `sgtu` are `slt` and `sltu` of them.
+    /// Returns whether its word has the sources exchanged: `sgt` and `sgtu` are `slt` and `sltu` of them.
     pub fn reverse_rs(self) -> bool
         ensures { result ≡ is_reversed self }
     {
@@ -298,7 +303,7 @@ impl AluOPRRR {
     }
 }
 
-/// An operation of a source register and a number.
+/// An operation of a source register and an immediate or a shift amount, or of a source register alone, by its mnemonic.
 #[derive(Clone, Copy, Debug, PartialEq, Eq)]
 pub enum AluOPRRI {
     Addi,
@@ -378,6 +383,7 @@ impl AluOPRRI {
         }
     }
 
+    /// Bits 14 to 12 of the word.
     pub fn funct3(self) -> u32
         ensures value { result ≡ (rri_numbers self).funct3 }
         ensures width { result < 2 ^ 3 }
@@ -415,6 +421,7 @@ impl AluOPRRI {
         }
     }
 
+    /// Bits 6 to 0 of the word.
     pub fn op_code(self) -> u32
         ensures value { result ≡ (rri_numbers self).opcode }
         ensures width { result < 2 ^ 7 }
@@ -454,7 +461,7 @@ impl AluOPRRI {
         }
     }
 
-    /// What stands above an amount of six bits.
+    /// Bits 31 to 26 of the word, where a shift amount of six bits is below them.
     pub fn option_funct6(self) -> Option<u32>
         ensures { result ≡ funct6_of (rri_numbers self).number }
     {
@@ -470,7 +477,7 @@ impl AluOPRRI {
         }
     }
 
-    /// What stands above an amount of five bits.
+    /// Bits 31 to 25 of the word, where a shift amount of five bits is below them.
     pub fn option_funct7(self) -> Option<u32>
         ensures { result ≡ funct7_of (rri_numbers self).number }
     {
@@ -482,7 +489,7 @@ impl AluOPRRI {
         }
     }
 
-    /// What stands in place of the number.
+    /// Bits 31 to 20 of the word, where the operation takes no immediate.
     pub fn option_funct12(self) -> Option<u32>
         ensures { result ≡ funct12_of (rri_numbers self).number }
     {
@@ -499,7 +506,7 @@ impl AluOPRRI {
         }
     }
 
-    /// The upper twelve bits of its word, of which the number has as many as the operation takes.
+    /// Bits 31 to 20 of the word: the immediate, or the shift amount below the operation's own bits, or those bits alone.
     pub fn imm12(self, imm12: Imm12) -> u32
         ensures value { result ≡ imm12_of (rri_numbers self).number (low_bits (2 ^ 12) imm12.value) }
         ensures width { result < 2 ^ 12 }

@@ -1,4 +1,5 @@
-//! Comparisons of two registers, as branches have them.
+//! Comparisons of two registers, as conditional branches (the manual's chapter "RV32I Base Integer Instruction Set",
+//! "Conditional Branches").
 
 ghost use Rattle.std.specs.Prelude.{◌≡◌, ◌<◌, ◌^◌};
 ghost use Rattle.rv_base.specs.Regs.{number_of};
@@ -6,7 +7,7 @@ ghost use Rattle.rv_base.specs.Regs.{number_of};
 use rv_base::condcodes::IntCC;
 use rv_base::regs::Reg;
 
-/// The branches of the manual.
+/// The manual's branches: `beq`, `bne`, `blt`, `bge`, `bltu` and `bgeu`.
 #[derive(Clone, Copy, Debug, PartialEq, Eq)]
 pub enum BranchFunct3 {
     Eq,
@@ -21,6 +22,7 @@ impl BranchFunct3 {
     ghost use Rattle.std.specs.Prelude.{◌≡◌, ◌<◌, ◌^◌};
     ghost use Rattle.rv_ops.specs.Compare.{funct3_of};
 
+    /// Bits 14 to 12 of the word.
     pub fn funct3(self) -> u32
         ensures value { result ≡ funct3_of self }
         ensures width { result < 2 ^ 3 }
@@ -36,7 +38,7 @@ impl BranchFunct3 {
     }
 }
 
-/// The number that a word holds for a real register.
+/// The number of a real register, as a word's field holds it.
 fn number(reg: Reg) -> u32
     ensures value { result ≡ number_of reg }
     ensures width { result < 2 ^ 5 }
@@ -47,7 +49,7 @@ fn number(reg: Reg) -> u32
     }
 }
 
-/// A comparison of two registers, in order.
+/// A comparison of two registers of 64 bits, `rs1` on the left.
 #[derive(Clone, Copy, Debug)]
 pub struct IntegerCompare {
     pub kind: IntCC,
@@ -61,14 +63,14 @@ impl IntegerCompare {
     ghost use Rattle.rv_base.specs.Regs.{real_of};
     ghost use Rattle.rv_ops.specs.Compare.{branch_of, is_reversed, branch_name, branch_word};
 
-    /// BRANCH.
+    /// Bits 6 to 0 of the word: BRANCH.
     pub fn op_code(self) -> u32
         ensures { result ≡ 0x63 }
     {
         0b1100011
     }
 
-    /// The branch of the manual, and whether its word has the registers exchanged.
+    /// The manual's branch, and whether its word has the registers exchanged.
     pub fn funct3(&self) -> (BranchFunct3, bool)
         ensures branch { result.0 ≡ branch_of self.now.kind }
         ensures reversed { result.1 ≡ is_reversed self.now.kind }
@@ -87,7 +89,7 @@ impl IntegerCompare {
         }
     }
 
-    /// The mnemonic, an assembler's own for a branch with exchanged registers.
+    /// The mnemonic; for a branch with exchanged registers, the pseudo-instruction's.
     pub fn op_name(&self) -> &'static str
         ensures { result.now ≡ branch_name self.now.kind }
     {
@@ -105,7 +107,7 @@ impl IntegerCompare {
         }
     }
 
-    /// The word of the branch by distance 0; of real registers.
+    /// The word of the branch with offset 0. The registers are real.
     pub fn emit(self) -> u32
         requires rs1 { IsSome (real_of self.rs1) }
         requires rs2 { IsSome (real_of self.rs2) }
@@ -120,7 +122,7 @@ impl IntegerCompare {
         self.op_code() | branch.funct3() << 12 | number(rs1) << 15 | number(rs2) << 20
     }
 
-    /// The comparison that holds exactly where this one doesn't.
+    /// The comparison that holds where this one doesn't, and nowhere else.
     pub fn inverse(self) -> IntegerCompare
         ensures { result ≡ record self { kind = complement_of self.kind } }
     {

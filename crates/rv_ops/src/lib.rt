@@ -1,4 +1,4 @@
-//! Operations of instructions, as tables.
+//! The operations that instructions are parameterized by, with their mnemonics and the fields of their words.
 #![tactic(auto)]
 
 pub mod alu;

@@ -1,8 +1,9 @@
-//! Loads and stores of integer registers.
+//! Loads and stores of integer registers (the manual's chapters "RV32I" and "RV64I Base Integer Instruction Set", "Load and
+//! Store Instructions").
 
 use rv_base::ir_type::IrType;
 
-/// A load.
+/// A load, by its mnemonic.
 #[derive(Clone, Copy, Debug, PartialEq, Eq)]
 pub enum LoadOP {
     Lb,
@@ -46,7 +47,7 @@ impl LoadOP {
         }
     }
 
-    /// How many bytes it reads.
+    /// How many bytes it reads: 1, 2, 4 or 8.
     pub fn size(&self) -> i64
         ensures { result ≡ pos (load_size self.now) }
     {
@@ -58,13 +59,14 @@ impl LoadOP {
         }
     }
 
-    /// LOAD.
+    /// Bits 6 to 0 of the word: LOAD.
     pub fn op_code(self) -> u32
         ensures { result ≡ 0x03 }
     {
         0b0000011
     }
 
+    /// Bits 14 to 12 of the word.
     pub fn funct3(self) -> u32
         ensures value { result ≡ load_funct3 self }
         ensures width { result < 2 ^ 3 }
@@ -81,7 +83,7 @@ impl LoadOP {
     }
 }
 
-/// A store.
+/// A store, by its mnemonic.
 #[derive(Clone, Copy, Debug, PartialEq, Eq)]
 pub enum StoreOP {
     Sb,
@@ -119,7 +121,7 @@ impl StoreOP {
         }
     }
 
-    /// How many bytes it writes.
+    /// How many bytes it writes: 1, 2, 4 or 8.
     pub fn size(&self) -> i64
         ensures { result ≡ pos (store_size self.now) }
     {
@@ -131,13 +133,14 @@ impl StoreOP {
         }
     }
 
-    /// STORE.
+    /// Bits 6 to 0 of the word: STORE.
     pub fn op_code(self) -> u32
         ensures { result ≡ 0x23 }
     {
         0b0100011
     }
 
+    /// Bits 14 to 12 of the word.
     pub fn funct3(self) -> u32
         ensures value { result ≡ store_funct3 self }
         ensures width { result < 2 ^ 3 }

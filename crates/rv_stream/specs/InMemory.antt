@@ -34,7 +34,7 @@ Gives old new buf result = MatchResult result
     (λ n. (fails old ≡ false) × (n ≡ min (min (length buf) (length old.bytes)) old.chunk) × (take n buf ≡ take n old.bytes) × (new ≡ moved old (drop n old.bytes)))
     (λ _. (fails old ≡ true) × (new ≡ failed old))
 
--- A write takes as many bytes as there are and it has leave for, unless it fails or memory is wanting.
+-- A write takes as many bytes as there are and it has leave for, unless it fails or runs out of memory.
 abbrev pub TakesIn : Metered → Metered → List ℕ → Result ℕ WriteError → Type 0
 TakesIn old new piece result = MatchResult result
     (λ n. (fails old ≡ false) × (n ≡ min (length piece) old.chunk) × (new ≡ moved old (old.bytes ++ take n piece)))

@@ -1,29 +1,34 @@
-//! Sources and sinks: what a read and a write do, and what their counts of faults say.
+//! Sources and sinks: what a read and a write do, and what their counts of faults mean.
 
 ghost use Rattle.std.specs.Prelude.{◌≡◌, ℕ, ◌<◌, ◌≤◌, List, length, Option, IfOk, IsErr, IsErrOf};
 ghost use Rattle.std.specs.Io.KnownBytes.{ReadConsumes, WriteAppends};
 ghost use Rattle.rv_stream.specs.Ends.{Counts};
 
+use thiserror::Error;
+
 /// A read that failed.
-#[derive(Clone, Copy, Debug, PartialEq, Eq)]
+#[derive(Clone, Copy, Debug, PartialEq, Eq, Error)]
+#[error("the read failed")]
 pub struct Failed;
 
-/// A write that took nothing.
-#[derive(Clone, Copy, Debug, PartialEq, Eq)]
+/// Why a write took no byte.
+#[derive(Clone, Copy, Debug, PartialEq, Eq, Error)]
 pub enum WriteError {
+    #[error("the write failed")]
     Failed,
+    #[error("out of memory")]
     OutOfMemory,
 }
 
 /// Where bytes are read from.
 pub trait Source {
-    /// The bytes that are left, where they are told.
+    /// The bytes that are left, where they are known.
     ghost left: { Self → Option (List ℕ) };
 
     /// How often reading has failed, at most 2 ^ 64 - 1.
     ghost faults: { Self → ℕ };
 
-    /// Reads bytes to the front of the buffer, and answers how many; 0 at the end alone.
+    /// Reads bytes to the front of the buffer, and returns how many; 0 only at the end.
     fn read(&mut self, buf: &mut [u8]) -> Result<usize, Failed>
         requires { 0 < length buf.old }
         ensures bound { IfOk result (λ n. n ≤ length buf.new) }
@@ -33,13 +38,13 @@ pub trait Source {
 
 /// Where bytes are written to.
 pub trait Sink {
-    /// The bytes that were taken, where they are told.
+    /// The bytes that were taken, where they are known.
     ghost taken: { Self → Option (List ℕ) };
 
     /// How often writing has failed, at most 2 ^ 64 - 1.
     ghost faults: { Self → ℕ };
 
-    /// Takes bytes from the front of the piece, at least one, and answers how many.
+    /// Takes bytes from the front of the piece, at least one, and returns how many.
     fn write(&mut self, piece: &[u8]) -> Result<usize, WriteError>
         requires { 0 < length piece.now }
         ensures some { IfOk result (λ n. 0 < n) }

@@ -6,18 +6,24 @@ ghost use Rattle.rv_stream.specs.Ends.{Rose, TookFront};
 
 use crate::ends::{Sink, Source, WriteError};
 use std::alloc::{AllocError, Global};
+use thiserror::Error;
 
 /// Why not all of a source was read.
-#[derive(Clone, Copy, Debug, PartialEq, Eq)]
+#[derive(Clone, Copy, Debug, PartialEq, Eq, Error)]
 pub enum ReadAllError {
+    #[error("a read failed")]
     Failed,
-    /// It had more than 16777216 bytes.
+    /// The source has more than 16777216 bytes (16 MiB).
+    #[error("longer than 16777216 bytes")]
     TooLong,
+    #[error("out of memory")]
     OutOfMemory,
 }
 
+/// The most bytes that are read: 16 MiB.
 const LIMIT: usize = 16777216;
 
+/// How many bytes one read may give: 64 KiB.
 const CHUNK: usize = 65536;
 
 // Room for one read.
@@ -73,7 +79,7 @@ pub fn read_all<S: Source>(alloc: Global, source: &mut S) -> Result<Vec<u8>, Rea
     }
 }
 
-/// Gives all of the text to the sink. After an error a front of it was taken.
+/// Writes all of the text to the sink. After an error a front of it was taken.
 pub fn write_all<K: Sink>(sink: &mut K, text: &[u8]) -> Result<(), WriteError>
     ensures ok { OnOk result (Appends (K.taken sink.old) (K.taken sink.new) text.now) }
     ensures front { TookFront (K.taken sink.old) (K.taken sink.new) text.now }
