@@ -5,5 +5,8 @@ pub mod LabelUseBridges
 pub mod LabelUseWords
 pub mod Meaning
 pub mod Rules
+pub mod Same
+pub mod Sizes
 pub mod Targets
 pub mod Tests
+pub mod Uses
