@@ -2,12 +2,13 @@
 #![tactic(auto)]
 
 pub mod arithmetic;
-pub mod base;
+pub mod int;
 pub mod bits;
 pub mod decode;
 pub mod fields;
 pub mod layouts;
 pub mod machine;
 pub mod muldiv;
+pub mod opcodes;
 pub mod ops;
-pub mod rows;
+pub mod tables;
