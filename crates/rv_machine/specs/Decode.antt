@@ -40,8 +40,8 @@ decode_op word = option_map (λ op. r_layout word (Alu op)) (op_entry (word_func
 
 abbrev pub decode_op_32 : ℕ → Option Decoded
 decode_op_32 word =
-    or_else (option_map (λ op. unary_layout word (Alu op)) (unary_op_32_entry (word_funct12 word) (word_funct3 word)))
-    (option_map (λ op. r_layout word (Alu op)) (op_32_entry (word_funct7 word) (word_funct3 word)))
+    or_else (option_map (λ op. r_layout word (Alu op)) (op_32_entry (word_funct7 word) (word_funct3 word)))
+    (option_map (λ op. unary_layout word (Alu op)) (unary_op_32_entry (word_funct12 word) (word_funct3 word)))
 
 -- fence, with rd, rs1 and fm 0
 abbrev pub decode_misc_mem : ℕ → Option Decoded

@@ -42,7 +42,7 @@ pub fn decode(flags: IsaFlags, word: u32) -> Option<Decoded>
     by_opcode(opcode(word), word)
 }
 
-fn by_opcode(opcode: u8, word: u32) -> Option<Decoded>
+fn by_opcode(opcode: u32, word: u32) -> Option<Decoded>
     ensures value { result ≡ by_opcode opcode word }
     ensures registers { IfSome result HasFileRegisters }
 {
@@ -131,11 +131,11 @@ fn op_32(word: u32) -> Option<Decoded>
     ensures value { result ≡ decode_op_32 word }
     ensures registers { IfSome result HasFileRegisters }
 {
-    if let Some(op) = tables::unary_op_32(funct12(word), funct3(word)) {
-        return Some(layouts::unary(word, MOp::Alu(op)));
+    if let Some(op) = tables::op_32(funct7(word), funct3(word)) {
+        return Some(layouts::register(word, MOp::Alu(op)));
     }
-    match tables::op_32(funct7(word), funct3(word)) {
-        Some(op) => Some(layouts::register(word, MOp::Alu(op))),
+    match tables::unary_op_32(funct12(word), funct3(word)) {
+        Some(op) => Some(layouts::unary(word, MOp::Alu(op))),
         None => None,
     }
 }

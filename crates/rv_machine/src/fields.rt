@@ -5,10 +5,10 @@ ghost use Rattle.rv_machine.specs.State.{signed};
 ghost use Rattle.rv_machine.specs.Layout.{word_opcode, word_rd, word_funct3, word_rs1, word_rs2, word_funct6, word_funct7, word_funct12};
 
 /// Bits 6:0.
-pub fn opcode(word: u32) -> u8
+pub fn opcode(word: u32) -> u32
     ensures { result ≡ word_opcode word }
 {
-    (word & 0x7f) as u8
+    word & 0x7f
 }
 
 /// Bits 11:7.
