@@ -1,5 +1,5 @@
 -- What stands between two lines leads on: nothing, or an island, which begins with a jump round it.
-use Rattle.std.proofs.Common.{◌≡◌, ℕ, ◌+◌, ◌%◌, ◌^◌, ◌<◌, List, [], ◌∷◌, length, Some, arith, refl, ap, ◌∙◌, ⊎_elim, pos, lit<}
+use Rattle.std.proofs.Common.{◌≡◌, ℕ, ◌+◌, ◌%◌, ◌^◌, ◌<◌, List, [], ◌∷◌, length, Some, arith, refl, ap, ◌∙◌, ⊎_elim, pos, lit<, lit≤}
 use Rattle.rv_base.specs.declared.flags.IsaFlags.{IsaFlags}
 use Rattle.rv_base.specs.declared.label.MachLabel.{MachLabel}
 use Rattle.rv_machine.specs.Decode.{decode}
@@ -28,7 +28,7 @@ use Rattle.rv_emit.proofs.Placed.{word_there, bytes_fit}
 use Rattle.rv_emit.proofs.Patched.{patched_rows}
 use Rattle.rv_asm.specs.Built.{IslandStands, Gap, Built}
 use Rattle.rv_asm.proofs.Placed.{bytes_stand}
-use Rattle.rv_asm.proofs.Threads.{Leads, placed_still}
+use Rattle.rv_asm.proofs.Threads.{LeadsTo, placed_still}
 use Rattle.rv_asm.proofs.Targets.{IsDone, targets_of, targets_lead, leads_here, uses_inside, patched_to, is_veneer}
 
 -- a buffer of lines that was finished to code
@@ -43,7 +43,7 @@ pub block_done : (job : Job) (code : Code) (b : Buffer) (start : ℕ) (block : L
 block_done job code b start block own f stands inside = block_patched is_veneer f.can f.finishes stands inside
 
 -- one offset leads to another, and that one on
-pub leads_both : (flags : IsaFlags) (code : Code) (from mid to : ℕ) → Leads flags code from (λ base v. wrap (base + mid)) (λ base v. v) → Leads flags code mid (λ base v. wrap (base + to)) (λ base v. v) → Leads flags code from (λ base v. wrap (base + to)) (λ base v. v)
+pub leads_both : (flags : IsaFlags) (code : Code) (from mid to : ℕ) → LeadsTo flags code from mid → LeadsTo flags code mid to → LeadsTo flags code from to
 leads_both flags code from mid to first second = record {
   run = λ base symbols slots s v placed pc is_state are_values same.
       let e = first.run base symbols slots s v placed pc is_state are_values same in
@@ -58,7 +58,7 @@ unfolding decode
 jump_decodes flags = refl
 
 -- a jump of which the distance is known
-jump_ends : (flags : IsaFlags) (bytes : List ℕ) (base from to : ℕ) (s : State) (v : Values) → BytesStand base bytes s.values.mem → length bytes < 2 ^ 31 → from % 2 ≡ 0 → to % 2 ≡ 0 → StandRows flags bytes from (jump_row (between from to) ∷ []) → s.pc ≡ wrap (base + from) → IsState s → AreValues v → Same v s.values → Ends flags (wrap (base + to)) v s
+jump_ends : (flags : IsaFlags) (bytes : List ℕ) (base from to : ℕ) (s : State) (v : Values) → BytesStand base bytes s.values.mem → length bytes < 2 ^ 31 → from % 2 ≡ 0 → to % 2 ≡ 0 → StandRows flags bytes from (jump_row (between from to) ∷ []) → s.pc ≡ wrap (base + from) → IsState s → AreValues v → Same v s.values → Ends flags 0 (wrap (base + to)) v s
 jump_ends flags bytes base from to s v stand small even to_even rows pc is_state are_values same =
     let room = stand.room in
     let aligned = stand.aligned in
@@ -68,7 +68,7 @@ jump_ends flags bytes base from to s v stand small even to_even rows pc is_state
     ends_one flags s (wrap (s.pc + low64 (between from to))) (wrap (base + to)) v s.values
     (istep_at flags s (jump_row (between from to)) (omega arith)
     (ap (λ a. decode flags (fetch s.values.mem a)) here ∙ ap (decode flags) (word_there base bytes s.values.mem from stand long) ∙ rows.1) refl)
-    there (omega arith) same are_values is_state.values refl
+    there (omega arith) same are_values is_state.values refl (lit≤ tt)
 
 -- the jump of an island as the block of one
 words_are : (round : MachLabel) → AreRows (0x6f ∷ []) (rows_of blank (Jal round))
@@ -79,7 +79,7 @@ uses_are from round = (refl, (refl, (refl, (refl, (refl, tt)))), refl, refl, tt)
 
 -- ---- the island
 
-pub island_leads : (job : Job) (code : Code) (b : Buffer) (from to : ℕ) → Finished job code b → IslandStands b from to → from % 2 ≡ 0 → Leads job.flags code from (λ base v. wrap (base + to)) (λ base v. v)
+pub island_leads : (job : Job) (code : Code) (b : Buffer) (from to : ℕ) → Finished job code b → IslandStands b from to → from % 2 ≡ 0 → LeadsTo job.flags code from to
 island_leads job code b from to f island even =
     let own = uses_in from (Jal island.round) in
     let inside = uses_inside from (0x6f ∷ []) own (uses_are from island.round) in
@@ -98,7 +98,7 @@ island_leads job code b from to f island even =
     (targets_lead job.flags code (place_of b) (bytes_of b) from (word_bytes 0x6f) own p 0 (use_at from island.round Jal20) to refl island.bound there.1)
 
 -- nothing, or an island
-pub gap_leads : (job : Job) (code : Code) (b : Buffer) (from to : ℕ) → Finished job code b → Gap b from to → from % 2 ≡ 0 → Leads job.flags code from (λ base v. wrap (base + to)) (λ base v. v)
+pub gap_leads : (job : Job) (code : Code) (b : Buffer) (from to : ℕ) → Finished job code b → Gap b from to → from % 2 ≡ 0 → LeadsTo job.flags code from to
 gap_leads job code b from to f gap even = ⊎_elim (λ same. leads_here job.flags code from to same) (λ island. island_leads job code b from to f island even) gap
 
 -- and ends at an even offset

@@ -18,6 +18,9 @@ use Rattle.mach_buffer.specs.Buffer.{bytes_of, uses_of, veneers_of, place_of, la
 use Rattle.mach_buffer.specs.Blocks.{BlockStands}
 use Rattle.rv_emit.specs.Rows.{blank, rows_of}
 use Rattle.rv_emit.specs.Emitted.{Buffer, IsSoundBuffer, HasWindows, pending, use_at, uses_in, bytes_of_words, AreRows, UsesStand, MakesRoom, Emitted}
+use Rattle.rv_emit.specs.declared.state.EmitVState.{EmitVState}
+use Rattle.rv_emit.specs.declared.state.EmitVState.TheVariants.{Unknown}
+use Rattle.rv_emit.specs.State.{setting_after, setting_beyond}
 use Rattle.rv_asm.specs.Told.{start_of, end_of, binds_from}
 use Rattle.rv_asm.specs.Refusal.{binds, is_bound, line_sum, size_sum}
 
@@ -131,6 +134,11 @@ pub record BindPut (label : MachLabel) (old new : Buffer) (span : LineSpan) : Ty
   pub sound : IsSoundBuffer new
   pub start : span.start ≡ length (bytes_of old)
   pub end : span.end ≡ length (bytes_of old)
+
+-- the vector unit's setting known after a line, by whether an island was put before it and the setting known then
+abbrev pub line_setting : Bool → Line → EmitVState → EmitVState
+line_setting made (Put inst) setting = setting_after inst (setting_beyond made setting)
+line_setting made (Bind label) setting = Unknown
 
 abbrev pub LinePut : Line → Buffer → Buffer → LineSpan → Type 0
 LinePut (Put inst) old new span = InstPut inst old new span

@@ -13,7 +13,7 @@ use Rattle.mach_buffer.specs.declared.uses.Use.{Use}
 use Rattle.mach_buffer.specs.Buffer.{bytes_of}
 use Rattle.mach_buffer.specs.Windows.{window, IsApart}
 use Rattle.rv_emit.specs.Rows.{ebreak_row}
-use Rattle.rv_emit.specs.Runs.{Same, Ends, used_exit, exit_address, standing}
+use Rattle.rv_emit.specs.Runs.{Same, Ends, used_exit, least_steps, exit_address, standing}
 use Rattle.rv_emit.specs.Emitted.{Buffer, island_space, uses_in}
 
 -- the word that stands in bytes at an offset, the least byte first
@@ -47,7 +47,7 @@ pub record BytesStand (base : ℕ) (bytes : List ℕ) (mem : Memory) : Type 0 wh
 pub record BlockRuns (flags : IsaFlags) (inst : Inst) (start : ℕ) (block : List ℕ) : Type 0 where
   pub run : (targets : ℕ → ℕ) (bytes : List ℕ) → IsPatchedTo targets start block (uses_in start inst) bytes →
       (base : ℕ) (s : State) (v : Values) → BytesStand base bytes s.values.mem → s.pc ≡ wrap (base + start) → IsState s → AreValues v → Same v s.values →
-      Ends flags (exit_address targets base start (start + length block) (used_exit inst v)) (inst_effect (standing base start (start + length block)) inst v) s
+      Ends flags (least_steps (used_exit inst v)) (exit_address targets base start (start + length block) (used_exit inst v)) (inst_effect (standing base start (start + length block)) inst v) s
   pub halt : (targets : ℕ → ℕ) (bytes : List ℕ) (v : Values) → IsPatchedTo targets start block (uses_in start inst) bytes → used_exit inst v ≡ Break → StandRows flags bytes start (ebreak_row ∷ [])
 
 -- the block that was put runs as its instruction means, with its uses taken as reaching where they aim

@@ -43,10 +43,11 @@ pub record Begins (flags : IsaFlags) (base start after : ℕ) (rows : List Decod
 abbrev pub IsUsable : Reg → Type 0
 IsUsable r = IsIntRegister r × (number_of r < 30)
 
--- in some steps the machine comes to an address with values that are the same as these
-pub record Ends (flags : IsaFlags) (address : ℕ) (v : Values) (s : State) : Type 0 where
+-- in some steps, at least so many, the machine comes to an address with values that are the same as these
+pub record Ends (flags : IsaFlags) (least address : ℕ) (v : Values) (s : State) : Type 0 where
   pub steps : ℕ
   pub state : State
+  pub moved : least ≤ steps
   pub ran : iter flags steps s ≡ Some state
   pub pc : state.pc ≡ address
   pub same : Same v state.values
@@ -67,6 +68,13 @@ control_used_exit inst v = control_exit inst v
 abbrev pub used_exit : Inst → Values → Exit
 used_exit inst v = by_family (marks_exit inst) Next (control_used_exit inst v) (family_of inst)
 
+-- a jump takes a step; the next line may be reached in none, and a break has none
+abbrev pub least_steps : Exit → ℕ
+least_steps Next = 0
+least_steps (To label) = 1
+least_steps (Leave a) = 1
+least_steps Break = 0
+
 -- where an exit leads, from a line that stands between two offsets
 abbrev pub exit_address : (ℕ → ℕ) → ℕ → ℕ → ℕ → Exit → ℕ
 exit_address place base start after Next = wrap (base + after)
@@ -79,4 +87,4 @@ standing base start after = record { start = wrap (base + start); after = wrap (
 
 -- the rows of an instruction run as it means, wherever they stand, with each use taken as reaching its target
 pub record Runs (flags : IsaFlags) (targets : ℕ → ℕ) (start : ℕ) (inst : Inst) : Type 0 where
-  pub run : (base after : ℕ) (s : State) (v : Values) → Begins flags base start after (rows_of (distances targets start) inst) s v → Ends flags (exit_address targets base start after (used_exit inst v)) (inst_effect (standing base start after) inst v) s
+  pub run : (base after : ℕ) (s : State) (v : Values) → Begins flags base start after (rows_of (distances targets start) inst) s v → Ends flags (least_steps (used_exit inst v)) (exit_address targets base start after (used_exit inst v)) (inst_effect (standing base start after) inst v) s
