@@ -1,5 +1,7 @@
 -- Comparisons of integers: their names, when each holds, and which holds where another doesn't.
-use Rattle.std.specs.Prelude.{ℕ, ◌+◌, ◌%◌, ◌^◌, Bool, not, nat_eq, nat_lt, List, codes}
+use Rattle.std.specs.Prelude.{ℕ, ℤ, Bool, not, nat_eq, nat_lt, int_lt, List, codes}
+use Rattle.std.specs.Int.{cast_signed}
+use mir.Syntax.{w64}
 use Rattle.rv_base.specs.declared.condcodes.IntCC.{IntCC}
 use Rattle.rv_base.specs.declared.condcodes.IntCC.TheVariants.{Equal, NotEqual, SignedLessThan, SignedGreaterThanOrEqual, SignedGreaterThan, SignedLessThanOrEqual, UnsignedLessThan, UnsignedGreaterThanOrEqual, UnsignedGreaterThan, UnsignedLessThanOrEqual}
 
@@ -27,9 +29,13 @@ name_of UnsignedGreaterThanOrEqual = codes "uge"
 name_of UnsignedGreaterThan = codes "ugt"
 name_of UnsignedLessThanOrEqual = codes "ule"
 
--- x is below y, both of 64 bits and read signed
+-- 64 bits, read as a signed integer
+abbrev pub signed64 : ℕ → ℤ
+signed64 x = cast_signed w64 x
+
+-- x is below y, both of 64 bits and read as signed integers
 abbrev pub signed_below : ℕ → ℕ → Bool
-signed_below x y = nat_lt ((x + 2 ^ 63) % 2 ^ 64) ((y + 2 ^ 63) % 2 ^ 64)
+signed_below x y = int_lt (signed64 x) (signed64 y)
 
 -- the comparison of x with y, both of 64 bits
 abbrev pub holds : IntCC → ℕ → ℕ → Bool

@@ -1,4 +1,3 @@
 pub mod Decoding
 pub mod Numbers
 pub mod Tables
-pub mod Steps

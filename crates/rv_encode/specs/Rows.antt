@@ -1,5 +1,5 @@
--- The rows of the machine that operations with their operands are.
-use Rattle.std.specs.Prelude.{ℕ, ◌%◌, ◌^◌, if◌then◌else◌, ℤ, pos, false}
+-- The operations of the machine that instructions are, with their operands.
+use Rattle.std.specs.Prelude.{ℕ, ◌%◌, ◌^◌, if◌then◌else◌, ℤ, pos}
 use Rattle.rv_base.specs.Regs.{number_of}
 use Rattle.rv_imms.specs.Bits.{low_bits}
 use Rattle.rv_ops.specs.declared.alu.AluOPRRR.{AluOPRRR}
@@ -12,35 +12,35 @@ use Rattle.rv_ops.specs.declared.compare.IntegerCompare.{IntegerCompare}
 use Rattle.rv_ops.specs.Alu.{Upper, Number, Amount6, Amount5, Fixed, is_reversed, rri_numbers}
 use Rattle.rv_ops.specs.Compare.{branch_of, rs1_of, rs2_of}
 use Rattle.rv_machine.specs.declared.decode.Decoded.{Decoded}
-use Rattle.rv_machine.specs.declared.ops.MOp.{MOp}
-use Rattle.rv_machine.specs.declared.ops.MOp.TheVariants.{Base, Mul, Bit}
+use Rattle.rv_machine.specs.declared.ops.MOp.TheVariants.{Base, Alu}
+use Rattle.rv_machine.specs.declared.ops.BaseOp.{BaseOp}
 use Rattle.rv_machine.specs.declared.ops.BaseOp.TheVariants as base
+use Rattle.rv_machine.specs.declared.ops.AluOp.{AluOp}
+use Rattle.rv_machine.specs.declared.ops.AluOp.TheVariants.{Int, Mul, Bit}
+use Rattle.rv_machine.specs.declared.ops.IntOp.TheVariants as int
 use Rattle.rv_machine.specs.declared.ops.MulOp.TheVariants as mul
 use Rattle.rv_machine.specs.declared.ops.BitOp.TheVariants as bit
+pub use Rattle.rv_machine.specs.Layout.{decoded as row}
 
--- a row of 32 bits
-abbrev pub row : MOp → ℕ → ℕ → ℕ → ℤ → Decoded
-row op rd rs1 rs2 imm = record { op = op; rd = rd; rs1 = rs1; rs2 = rs2; rs3 = 0; imm = imm; rm = 0; vm = false; len = 4 }
-
--- the manual's row of an operation; sgt and sgtu are slt and sltu
-abbrev pub rrr_op : AluOPRRR → MOp
-rrr_op rrr.Add = Base base.Add
-rrr_op rrr.Sub = Base base.Sub
-rrr_op rrr.Sll = Base base.Sll
-rrr_op rrr.Slt = Base base.Slt
-rrr_op rrr.Sgt = Base base.Slt
-rrr_op rrr.SltU = Base base.Sltu
-rrr_op rrr.Sgtu = Base base.Sltu
-rrr_op rrr.Xor = Base base.Xor
-rrr_op rrr.Srl = Base base.Srl
-rrr_op rrr.Sra = Base base.Sra
-rrr_op rrr.Or = Base base.Or
-rrr_op rrr.And = Base base.And
-rrr_op rrr.Addw = Base base.Addw
-rrr_op rrr.Subw = Base base.Subw
-rrr_op rrr.Sllw = Base base.Sllw
-rrr_op rrr.Srlw = Base base.Srlw
-rrr_op rrr.Sraw = Base base.Sraw
+-- the manual's operation of an instruction; sgt and sgtu are slt and sltu
+abbrev pub rrr_op : AluOPRRR → AluOp
+rrr_op rrr.Add = Int int.Add
+rrr_op rrr.Sub = Int int.Sub
+rrr_op rrr.Sll = Int int.Sll
+rrr_op rrr.Slt = Int int.Slt
+rrr_op rrr.Sgt = Int int.Slt
+rrr_op rrr.SltU = Int int.Sltu
+rrr_op rrr.Sgtu = Int int.Sltu
+rrr_op rrr.Xor = Int int.Xor
+rrr_op rrr.Srl = Int int.Srl
+rrr_op rrr.Sra = Int int.Sra
+rrr_op rrr.Or = Int int.Or
+rrr_op rrr.And = Int int.And
+rrr_op rrr.Addw = Int int.Addw
+rrr_op rrr.Subw = Int int.Subw
+rrr_op rrr.Sllw = Int int.Sllw
+rrr_op rrr.Srlw = Int int.Srlw
+rrr_op rrr.Sraw = Int int.Sraw
 rrr_op rrr.Mul = Mul mul.Mul
 rrr_op rrr.Mulh = Mul mul.Mulh
 rrr_op rrr.Mulhsu = Mul mul.Mulhsu
@@ -76,27 +76,27 @@ rrr_op rrr.Sh2adduw = Bit bit.Sh2addUw
 rrr_op rrr.Sh3add = Bit bit.Sh3add
 rrr_op rrr.Sh3adduw = Bit bit.Sh3addUw
 rrr_op rrr.Xnor = Bit bit.Xnor
-rrr_op rrr.CzeroEqz = Base base.CzeroEqz
-rrr_op rrr.CzeroNez = Base base.CzeroNez
+rrr_op rrr.CzeroEqz = Int int.CzeroEqz
+rrr_op rrr.CzeroNez = Int int.CzeroNez
 
 -- with its registers; sgt and sgtu have their sources exchanged
 abbrev pub alu_rrr_row : AluOPRRR → ℕ → ℕ → ℕ → Decoded
-alu_rrr_row op rd rs1 rs2 = if is_reversed op then row (rrr_op op) rd rs2 rs1 (pos 0) else row (rrr_op op) rd rs1 rs2 (pos 0)
+alu_rrr_row op rd rs1 rs2 = if is_reversed op then row (Alu (rrr_op op)) rd rs2 rs1 (pos 0) else row (Alu (rrr_op op)) rd rs1 rs2 (pos 0)
 
-abbrev pub rri_op : AluOPRRI → MOp
-rri_op rri.Addi = Base base.Addi
-rri_op rri.Slti = Base base.Slti
-rri_op rri.SltiU = Base base.Sltiu
-rri_op rri.Xori = Base base.Xori
-rri_op rri.Ori = Base base.Ori
-rri_op rri.Andi = Base base.Andi
-rri_op rri.Slli = Base base.Slli
-rri_op rri.Srli = Base base.Srli
-rri_op rri.Srai = Base base.Srai
-rri_op rri.Addiw = Base base.Addiw
-rri_op rri.Slliw = Base base.Slliw
-rri_op rri.SrliW = Base base.Srliw
-rri_op rri.Sraiw = Base base.Sraiw
+abbrev pub rri_op : AluOPRRI → AluOp
+rri_op rri.Addi = Int int.Addi
+rri_op rri.Slti = Int int.Slti
+rri_op rri.SltiU = Int int.Sltiu
+rri_op rri.Xori = Int int.Xori
+rri_op rri.Ori = Int int.Ori
+rri_op rri.Andi = Int int.Andi
+rri_op rri.Slli = Int int.Slli
+rri_op rri.Srli = Int int.Srli
+rri_op rri.Srai = Int int.Srai
+rri_op rri.Addiw = Int int.Addiw
+rri_op rri.Slliw = Int int.Slliw
+rri_op rri.SrliW = Int int.Srliw
+rri_op rri.Sraiw = Int int.Sraiw
 rri_op rri.Bclri = Bit bit.Bclri
 rri_op rri.Bexti = Bit bit.Bexti
 rri_op rri.Binvi = Bit bit.Binvi
@@ -116,7 +116,7 @@ rri_op rri.Sexth = Bit bit.SextH
 rri_op rri.Zexth = Bit bit.ZextH
 rri_op rri.Orcb = Bit bit.OrcB
 
--- what a row keeps of a number: all of it, or the low six or five bits as an amount, or nothing
+-- what a word keeps of an immediate: all of it, or the low six or five bits as a shift amount, or nothing
 abbrev pub kept : Upper → ℤ → ℤ
 kept Number imm = imm
 kept (Amount6 f) imm = pos (low_bits (2 ^ 12) imm % 2 ^ 6)
@@ -124,16 +124,16 @@ kept (Amount5 f) imm = pos (low_bits (2 ^ 12) imm % 2 ^ 5)
 kept (Fixed f) imm = pos 0
 
 abbrev pub alu_rri_row : AluOPRRI → ℕ → ℕ → ℤ → Decoded
-alu_rri_row op rd rs imm = row (rri_op op) rd rs 0 (kept (rri_numbers op).number imm)
+alu_rri_row op rd rs imm = row (Alu (rri_op op)) rd rs 0 (kept (rri_numbers op).number imm)
 
-abbrev pub branch_op : BranchFunct3 → MOp
-branch_op branch.Eq = Base base.Beq
-branch_op branch.Ne = Base base.Bne
-branch_op branch.Lt = Base base.Blt
-branch_op branch.Ge = Base base.Bge
-branch_op branch.Ltu = Base base.Bltu
-branch_op branch.Geu = Base base.Bgeu
+abbrev pub branch_op : BranchFunct3 → BaseOp
+branch_op branch.Eq = base.Beq
+branch_op branch.Ne = base.Bne
+branch_op branch.Lt = base.Blt
+branch_op branch.Ge = base.Bge
+branch_op branch.Ltu = base.Bltu
+branch_op branch.Geu = base.Bgeu
 
 -- the branch by a distance where a comparison holds; some have their registers exchanged
 abbrev pub compare_row : IntegerCompare → ℤ → Decoded
-compare_row c distance = row (branch_op (branch_of c.kind)) 0 (number_of (rs1_of c)) (number_of (rs2_of c)) distance
+compare_row c distance = row (Base (branch_op (branch_of c.kind))) 0 (number_of (rs1_of c)) (number_of (rs2_of c)) distance

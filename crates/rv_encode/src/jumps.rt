@@ -1,4 +1,4 @@
-//! The words of upper numbers, jumps and branches.
+//! The words of `lui` and `auipc`, of "2.5 Control Transfer Instructions", and of `ebreak`.
 
 ghost use Rattle.std.specs.Prelude.{◌≡◌, ◌<◌, ◌^◌, ◌≤ℤ◌, ◌<ℤ◌, pos, neg_ℤ, Some};
 ghost use Rattle.rv_base.specs.declared.flags.IsaFlags.{IsaFlags};
@@ -7,41 +7,43 @@ ghost use Rattle.rv_imms.specs.Bits.{low_bits};
 ghost use Rattle.rv_machine.specs.declared.ops.MOp.TheVariants.{Base};
 ghost use Rattle.rv_machine.specs.declared.ops.BaseOp.TheVariants as base_row;
 ghost use Rattle.rv_machine.specs.Layout.{bare_form};
+ghost use Rattle.rv_machine.specs.Opcodes.{BRANCH, JAL};
 ghost use Rattle.rv_machine.specs.Decode.{decode};
-ghost use Rattle.rv_encode.specs.Registers.{IsIntRegister};
-ghost use Rattle.rv_encode.specs.Layouts.{IsEven};
-ghost use Rattle.rv_ops.specs.Compare.{is_reversed as reverses, rs1_of, rs2_of};
+ghost use Rattle.rv_encode.specs.Registers.{IsIntRegister, IsRealRegister};
+ghost use Rattle.rv_encode.specs.Layouts.{IsEven, IsBType, IsJType};
+ghost use Rattle.rv_ops.specs.Compare.{funct3_of, branch_of, is_reversed as reverses, rs1_of, rs2_of};
 ghost use Rattle.rv_encode.specs.Rows.{row, compare_row};
 
 use crate::layouts::{b_word, encode_i_type, i_word, j_word, reg_to_gpr_num, u_word};
 use rv_base::regs::{Reg, WritableReg};
 use rv_imms::imm12::Imm12;
 use rv_imms::imm20::Imm20;
+use rv_machine::opcodes::{AUIPC, JAL, JALR, LUI, SYSTEM};
 use rv_ops::compare::IntegerCompare;
 
-/// The word of `lui`: the number times 2^12 into an integer register.
+/// The word of `lui`: the immediate times 2^12 into an integer register.
 pub fn encode_lui(rd: WritableReg, imm: Imm20) -> u32
     requires { IsIntRegister rd.reg }
     ensures { (flags : IsaFlags) → decode flags result ≡ Some (row (Base base_row.Lui) (number_of rd.reg) 0 0 imm.value) }
 {
-    u_word(0x37, reg_to_gpr_num(rd.reg), imm.bits())
+    u_word(LUI, reg_to_gpr_num(rd.reg), imm.bits())
 }
 
-/// The word of `auipc`: the number times 2^12 past its own address into an integer register.
+/// The word of `auipc`: the immediate times 2^12 past its own address into a real register.
 pub fn enc_auipc(rd: WritableReg, imm: Imm20) -> u32
-    requires { IsIntRegister rd.reg }
+    requires { IsRealRegister rd.reg }
     ensures { (flags : IsaFlags) → decode flags result ≡ Some (row (Base base_row.Auipc) (number_of rd.reg) 0 0 imm.value) }
 {
-    u_word(0x17, reg_to_gpr_num(rd.reg), imm.bits())
+    u_word(AUIPC, reg_to_gpr_num(rd.reg), imm.bits())
 }
 
-/// The word of `jalr`, of integer registers.
+/// The word of `jalr`, of real registers.
 pub fn enc_jalr(rd: WritableReg, base: Reg, offset: Imm12) -> u32
-    requires rd { IsIntRegister rd.reg }
-    requires base { IsIntRegister base }
+    requires rd { IsRealRegister rd.reg }
+    requires base { IsRealRegister base }
     ensures { (flags : IsaFlags) → decode flags result ≡ Some (row (Base base_row.Jalr) (number_of rd.reg) (number_of base) 0 offset.value) }
 {
-    encode_i_type(0x67, rd, 0, base, offset)
+    encode_i_type(JALR, rd, 0, base, offset)
 }
 
 /// The word of `jal`, by an even distance from -2^20 to below 2^20 bytes; into an integer register.
@@ -50,9 +52,10 @@ pub fn encode_jal(rd: WritableReg, distance: i32) -> u32
     requires low { neg_ℤ (pos (2 ^ 20)) ≤ℤ distance }
     requires high { distance <ℤ pos (2 ^ 20) }
     requires even { IsEven distance }
-    ensures { (flags : IsaFlags) → decode flags result ≡ Some (row (Base base_row.Jal) (number_of rd.reg) 0 0 distance) }
+    ensures layout { IsJType result JAL (number_of rd.reg) (low_bits (2 ^ 21) distance) }
+    ensures decodes { (flags : IsaFlags) → decode flags result ≡ Some (row (Base base_row.Jal) (number_of rd.reg) 0 0 distance) }
 {
-    j_word(0x6f, reg_to_gpr_num(rd.reg), jump_bits(distance))
+    j_word(JAL, reg_to_gpr_num(rd.reg), jump_bits(distance))
 }
 
 /// The word of the branch where a comparison of integer registers holds, by an even distance from -4096 to 4095 bytes.
@@ -62,7 +65,8 @@ pub fn encode_branch(kind: IntegerCompare, distance: i32) -> u32
     requires low { neg_ℤ (pos (2 ^ 12)) ≤ℤ distance }
     requires high { distance <ℤ pos (2 ^ 12) }
     requires even { IsEven distance }
-    ensures { (flags : IsaFlags) → decode flags result ≡ Some (compare_row kind distance) }
+    ensures layout { IsBType result BRANCH (funct3_of (branch_of kind.kind)) (number_of (rs1_of kind)) (number_of (rs2_of kind)) (low_bits (2 ^ 13) distance) }
+    ensures decodes { (flags : IsaFlags) → decode flags result ≡ Some (compare_row kind distance) }
 {
     let (branch, is_reversed) = kind.funct3();
     let (rs1, rs2) = ordered(kind, is_reversed);
@@ -79,14 +83,14 @@ pub fn encode_branch(kind: IntegerCompare, distance: i32) -> u32
 pub fn encode_ebreak() -> u32
     ensures { (flags : IsaFlags) → decode flags result ≡ Some (bare_form (Base base_row.Ebreak)) }
 {
-    i_word(0x73, 0, 0, 0, 1)
+    i_word(SYSTEM, 0, 0, 0, 1)
 }
 
 /// The numbers of the registers of a branch, in the order of its word.
 fn ordered(kind: IntegerCompare, is_reversed: bool) -> (u32, u32)
     requires rs1 { IsIntRegister kind.rs1 }
     requires rs2 { IsIntRegister kind.rs2 }
-    requires told { is_reversed ≡ reverses kind.kind }
+    requires reversed { is_reversed ≡ reverses kind.kind }
     ensures first { result.0 ≡ number_of (rs1_of kind) }
     ensures second { result.1 ≡ number_of (rs2_of kind) }
     ensures first_width { result.0 < 2 ^ 5 }

@@ -1,18 +1,15 @@
-//! Words put together from the fields of the manual's layouts.
+//! Words put together from the fields of the manual's types: "2.2 Base Instruction Formats".
 
-ghost use Rattle.std.specs.Prelude.{◌≡◌, ◌<◌, ◌^◌};
-ghost use Rattle.rv_base.specs.declared.flags.IsaFlags.{IsaFlags};
+ghost use Rattle.std.specs.Prelude.{◌≡◌, ◌<◌, ◌*◌, ◌/◌, ◌^◌};
 ghost use Rattle.rv_base.specs.Regs.{number_of};
 ghost use Rattle.rv_imms.specs.Bits.{low_bits};
-ghost use Rattle.rv_machine.specs.Layout.{fields_of};
-ghost use Rattle.rv_machine.specs.Decode.{decode, decode_word};
 ghost use Rattle.rv_encode.specs.Registers.{IsRealRegister};
-ghost use Rattle.rv_encode.specs.Layouts.{r_fields, i_fields, s_fields, b_fields, u_fields, j_fields};
+ghost use Rattle.rv_encode.specs.Layouts.{IsRType, IsIType, IsSType, IsBType, IsUType, IsJType};
 
 use rv_base::regs::{Reg, WritableReg};
 use rv_imms::imm12::Imm12;
 
-/// The number that a word holds for a real register.
+/// The number of a real register, as words hold it.
 pub fn reg_to_gpr_num(m: Reg) -> u32
     requires { IsRealRegister m }
     ensures value { result ≡ number_of m }
@@ -44,8 +41,7 @@ pub fn encode_r_type(
     requires rs1 { IsRealRegister rs1 }
     requires rs2 { IsRealRegister rs2 }
     requires funct7 { funct7 < 2 ^ 7 }
-    ensures fields { fields_of result ≡ r_fields opcode (number_of rd.reg) funct3 (number_of rs1) (number_of rs2) funct7 }
-    ensures decodes { (flags : IsaFlags) → decode flags result ≡ decode_word (r_fields opcode (number_of rd.reg) funct3 (number_of rs1) (number_of rs2) funct7) }
+    ensures { IsRType result opcode (number_of rd.reg) funct3 (number_of rs1) (number_of rs2) funct7 }
 {
     r_word(
         opcode,
@@ -68,8 +64,7 @@ pub fn encode_i_type(opcode: u32, rd: WritableReg, width: u32, rs1: Reg, offset:
     requires rd { IsRealRegister rd.reg }
     requires width { width < 2 ^ 3 }
     requires rs1 { IsRealRegister rs1 }
-    ensures fields { fields_of result ≡ i_fields opcode (number_of rd.reg) width (number_of rs1) (low_bits (2 ^ 12) offset.value) }
-    ensures decodes { (flags : IsaFlags) → decode flags result ≡ decode_word (i_fields opcode (number_of rd.reg) width (number_of rs1) (low_bits (2 ^ 12) offset.value)) }
+    ensures { IsIType result opcode (number_of rd.reg) width (number_of rs1) (low_bits (2 ^ 12) offset.value) }
 {
     i_word(
         opcode,
@@ -91,8 +86,7 @@ pub fn encode_s_type(opcode: u32, width: u32, base: Reg, src: Reg, offset: Imm12
     requires width { width < 2 ^ 3 }
     requires base { IsRealRegister base }
     requires src { IsRealRegister src }
-    ensures fields { fields_of result ≡ s_fields opcode width (number_of base) (number_of src) (low_bits (2 ^ 12) offset.value) }
-    ensures decodes { (flags : IsaFlags) → decode flags result ≡ decode_word (s_fields opcode width (number_of base) (number_of src) (low_bits (2 ^ 12) offset.value)) }
+    ensures { IsSType result opcode width (number_of base) (number_of src) (low_bits (2 ^ 12) offset.value) }
 {
     s_word(
         opcode,
@@ -110,19 +104,19 @@ fn r_word(opcode: u32, rd: u32, funct3: u32, rs1: u32, rs2: u32, funct7: u32) ->
     requires rs1 { rs1 < 2 ^ 5 }
     requires rs2 { rs2 < 2 ^ 5 }
     requires funct7 { funct7 < 2 ^ 7 }
-    ensures { fields_of result ≡ r_fields opcode rd funct3 rs1 rs2 funct7 }
+    ensures { IsRType result opcode rd funct3 rs1 rs2 funct7 }
 {
     opcode | rd << 7 | funct3 << 12 | rs1 << 15 | rs2 << 20 | funct7 << 25
 }
 
-/// Layout I, of the twelve bits of its number.
-pub fn i_word(opcode: u32, rd: u32, funct3: u32, rs1: u32, bits: u32) -> u32
+/// Layout I, of the twelve bits of its immediate.
+pub(crate) fn i_word(opcode: u32, rd: u32, funct3: u32, rs1: u32, bits: u32) -> u32
     requires opcode { opcode < 2 ^ 7 }
     requires rd { rd < 2 ^ 5 }
     requires funct3 { funct3 < 2 ^ 3 }
     requires rs1 { rs1 < 2 ^ 5 }
     requires bits { bits < 2 ^ 12 }
-    ensures { fields_of result ≡ i_fields opcode rd funct3 rs1 bits }
+    ensures { IsIType result opcode rd funct3 rs1 bits }
 {
     opcode | rd << 7 | funct3 << 12 | rs1 << 15 | bits << 20
 }
@@ -133,7 +127,7 @@ fn s_word(opcode: u32, funct3: u32, rs1: u32, rs2: u32, bits: u32) -> u32
     requires rs1 { rs1 < 2 ^ 5 }
     requires rs2 { rs2 < 2 ^ 5 }
     requires bits { bits < 2 ^ 12 }
-    ensures { fields_of result ≡ s_fields opcode funct3 rs1 rs2 bits }
+    ensures { IsSType result opcode funct3 rs1 rs2 bits }
 {
     opcode | (bits & 0x1f) << 7 | funct3 << 12 | rs1 << 15 | rs2 << 20 | (bits >> 5) << 25
 }
@@ -144,13 +138,13 @@ fn s_word(opcode: u32, funct3: u32, rs1: u32, rs2: u32, bits: u32) -> u32
 /// 31        30        25 24  20 19  15 14  12 11        8 7        6      0
 /// | imm[12] | imm[10:5] | rs2 | rs1 | funct3 | imm[4:1] | imm[11] | opcode |
 /// ```
-pub fn b_word(opcode: u32, funct3: u32, rs1: u32, rs2: u32, bits: u32) -> u32
+pub(crate) fn b_word(opcode: u32, funct3: u32, rs1: u32, rs2: u32, bits: u32) -> u32
     requires opcode { opcode < 2 ^ 7 }
     requires funct3 { funct3 < 2 ^ 3 }
     requires rs1 { rs1 < 2 ^ 5 }
     requires rs2 { rs2 < 2 ^ 5 }
     requires bits { bits < 2 ^ 13 }
-    ensures { fields_of result ≡ b_fields opcode funct3 rs1 rs2 bits }
+    ensures { IsBType result opcode funct3 rs1 rs2 (bits / 2 * 2) }
 {
     opcode
         | (bits >> 11 & 1) << 7
@@ -162,17 +156,17 @@ pub fn b_word(opcode: u32, funct3: u32, rs1: u32, rs2: u32, bits: u32) -> u32
         | (bits >> 12) << 31
 }
 
-/// Layout U, of the twenty bits of its number.
+/// Layout U, of the twenty bits of its immediate.
 ///
 /// ```text
 /// 31       12 11  7 6      0
 /// | imm[19:0] | rd | opcode |
 /// ```
-pub fn u_word(opcode: u32, rd: u32, bits: u32) -> u32
+pub(crate) fn u_word(opcode: u32, rd: u32, bits: u32) -> u32
     requires opcode { opcode < 2 ^ 7 }
     requires rd { rd < 2 ^ 5 }
     requires bits { bits < 2 ^ 20 }
-    ensures { fields_of result ≡ u_fields opcode rd bits }
+    ensures { IsUType result opcode rd bits }
 {
     opcode | rd << 7 | bits << 12
 }
@@ -183,11 +177,11 @@ pub fn u_word(opcode: u32, rd: u32, bits: u32) -> u32
 /// 31        30        21 20        19         12 11  7 6      0
 /// | imm[20] | imm[10:1] | imm[11] | imm[19:12] | rd | opcode |
 /// ```
-pub fn j_word(opcode: u32, rd: u32, bits: u32) -> u32
+pub(crate) fn j_word(opcode: u32, rd: u32, bits: u32) -> u32
     requires opcode { opcode < 2 ^ 7 }
     requires rd { rd < 2 ^ 5 }
     requires bits { bits < 2 ^ 21 }
-    ensures { fields_of result ≡ j_fields opcode rd bits }
+    ensures { IsJType result opcode rd (bits / 2 * 2) }
 {
     opcode
         | rd << 7

@@ -1,4 +1,4 @@
-//! The words of integer operations.
+//! The words of operations of integer registers: "2.4 Integer Computational Instructions" and the chapters "M", "Zicond" and "B".
 
 ghost use Rattle.std.specs.Prelude.{◌≡◌, Some};
 ghost use Rattle.rv_base.specs.declared.flags.IsaFlags.{IsaFlags};
@@ -25,7 +25,7 @@ pub fn encode_alu_rrr(op: AluOPRRR, rd: WritableReg, rs1: Reg, rs2: Reg) -> u32
     encode_r_type(op.op_code(), rd, op.funct3(), rs1, rs2, op.funct7())
 }
 
-/// The word of an operation of an integer register and a number. A shift keeps the low bits of the number, and an
+/// The word of an operation of an integer register and an immediate. A shift keeps the low bits of the immediate, and an
 /// operation of one source none.
 pub fn encode_alu_rr_imm12(op: AluOPRRI, rd: WritableReg, rs: Reg, imm12: Imm12) -> u32
     requires rd { IsIntRegister rd.reg }

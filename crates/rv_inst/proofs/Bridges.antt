@@ -1,20 +1,23 @@
 -- From a patched window to what it decodes to.
 use Rattle.std.proofs.Common.{◌≡◌, ℕ, ◌+◌, ◌-◌, ◌*◌, ◌/◌, ◌%◌, ◌^◌, ◌<◌, ◌≤◌, inl, inr, List, drop, slice_index, refl, ap, sym, ◌∙◌, ℤ, pos, ◌+ℤ◌, ◌*ℤ◌, ◌-ℤ◌, Option, Some, None, Bool, true, false, cond, arith, bit_and, get_or-drop}
-use Rattle.std.specs.Prelude.{nat_eq}
+use Rattle.std.specs.Prelude.{◌==◌, if◌then◌else◌}
 use Rattle.std.specs.Option.{option_map}
 use Rattle.std.proofs.lemmas.Int.{ints}
 use Rattle.std.proofs.lemmas.Nat.{and_mask}
 use Rattle.std.proofs.lemmas.Nat.Bits.{and_high}
 use Rattle.rv_base.specs.LabelUse.{SameOutside}
 use Rattle.rv_base.specs.declared.flags.IsaFlags.{IsaFlags}
-use Rattle.rv_machine.specs.declared.fields.Fields.{Fields}
+use Rattle.rv_machine.specs.declared.decode.Decoded.{Decoded}
 use Rattle.rv_machine.specs.declared.ops.MOp.{MOp}
-use Rattle.rv_machine.specs.declared.ops.MOp.TheVariants.{Base}
-use Rattle.rv_machine.specs.declared.ops.BaseOp.TheVariants.{Auipc, Jal, Jalr, Addi}
+use Rattle.rv_machine.specs.declared.ops.MOp.TheVariants.{Base, Alu}
+use Rattle.rv_machine.specs.declared.ops.BaseOp.TheVariants.{Auipc, Jal, Jalr}
+use Rattle.rv_machine.specs.declared.ops.AluOp.TheVariants.{Int}
+use Rattle.rv_machine.specs.declared.ops.IntOp.TheVariants.{Addi}
 use Rattle.rv_machine.specs.State.{signed}
-use Rattle.rv_machine.specs.Layout.{fields_of, b_number, j_number, u_number, i_number, b_form, j_form, u_form, i_form}
-use Rattle.rv_machine.specs.Rows.{branch_row}
-use Rattle.rv_machine.specs.Decode.{decode, decode_word, decode_jalr}
+use Rattle.rv_machine.specs.Layout.{word_opcode, word_rd, word_funct3, word_rs1, word_rs2, b_imm, j_imm, u_imm, i_imm, decoded, b_layout, j_layout, u_layout, i_layout}
+use Rattle.rv_machine.specs.Opcodes.{AUIPC, JAL, JALR, BRANCH, OP_IMM}
+use Rattle.rv_machine.specs.Tables.{branch_entry}
+use Rattle.rv_machine.specs.Decode.{decode, by_opcode, decode_branch, decode_jalr}
 use Rattle.rv_inst.specs.declared.label_use.LabelUse.TheVariants.{Jal20, PCRel32, B12, PCRelHi20, PCRelLo12I}
 use Rattle.rv_inst.specs.LabelUse.{Aims, marks_of, low32, upper_part, lower_part}
 use Rattle.rv_inst.specs.LabelUseWords.{word_at, AreBytes}
@@ -40,132 +43,137 @@ same_one : (x y : ℕ) → bit_and x 1 ≡ bit_and y 1 → x % 2 ≡ y % 2
 same_one x y e = sym (and_mask x 1) ∙ e ∙ and_mask y 1
 
 -- a branch's fields outside its distance
-pub record SameBranch (f g : Fields) : Type 0 where
-  pub opcode : g.opcode ≡ f.opcode
-  pub funct3 : g.funct3 ≡ f.funct3
-  pub rs1 : g.rs1 ≡ f.rs1
-  pub rs2 : g.rs2 ≡ f.rs2
+pub record SameBranch (f g : ℕ) : Type 0 where
+  pub opcode : word_opcode g ≡ word_opcode f
+  pub funct3 : word_funct3 g ≡ word_funct3 f
+  pub rs1 : word_rs1 g ≡ word_rs1 f
+  pub rs2 : word_rs2 g ≡ word_rs2 f
 
 -- a jump's, and those of an upper part
-pub record SameUpper (f g : Fields) : Type 0 where
-  pub opcode : g.opcode ≡ f.opcode
-  pub rd : g.rd ≡ f.rd
+pub record SameUpper (f g : ℕ) : Type 0 where
+  pub opcode : word_opcode g ≡ word_opcode f
+  pub rd : word_rd g ≡ word_rd f
 
 -- those of a lower part
-pub record SameLower (f g : Fields) : Type 0 where
-  pub opcode : g.opcode ≡ f.opcode
-  pub rd : g.rd ≡ f.rd
-  pub funct3 : g.funct3 ≡ f.funct3
-  pub rs1 : g.rs1 ≡ f.rs1
+pub record SameLower (f g : ℕ) : Type 0 where
+  pub opcode : word_opcode g ≡ word_opcode f
+  pub rd : word_rd g ≡ word_rd f
+  pub funct3 : word_funct3 g ≡ word_funct3 f
+  pub rs1 : word_rs1 g ≡ word_rs1 f
 
 branch_fields : (a b c d a' b' c' d' : ℕ) → a < 256 → b < 256 → c < 256 → d < 256 → a' < 256 → b' < 256 → c' < 256 → d' < 256 →
     a' % 128 ≡ a % 128 → b' / 16 % 16 ≡ b / 16 % 16 → c' ≡ c → d' % 2 ≡ d % 2 →
-    SameBranch (fields_of (a + 256 * b + 65536 * c + 16777216 * d)) (fields_of (a' + 256 * b' + 65536 * c' + 16777216 * d'))
+    SameBranch (a + 256 * b + 65536 * c + 16777216 * d) (a' + 256 * b' + 65536 * c' + 16777216 * d')
 branch_fields a b c d a' b' c' d' ha hb hc hd ha' hb' hc' hd' ea eb ec ed = record { opcode = omega arith; funct3 = omega arith; rs1 = omega arith; rs2 = omega arith }
 
 upper_fields : (a b c d a' b' c' d' : ℕ) → a < 256 → b < 256 → c < 256 → d < 256 → a' < 256 → b' < 256 → c' < 256 → d' < 256 →
-    a' ≡ a → b' % 16 ≡ b % 16 → SameUpper (fields_of (a + 256 * b + 65536 * c + 16777216 * d)) (fields_of (a' + 256 * b' + 65536 * c' + 16777216 * d'))
+    a' ≡ a → b' % 16 ≡ b % 16 → SameUpper (a + 256 * b + 65536 * c + 16777216 * d) (a' + 256 * b' + 65536 * c' + 16777216 * d')
 upper_fields a b c d a' b' c' d' ha hb hc hd ha' hb' hc' hd' ea eb = record { opcode = omega arith; rd = omega arith }
 
 lower_fields : (a b c d a' b' c' d' : ℕ) → a < 256 → b < 256 → c < 256 → d < 256 → a' < 256 → b' < 256 → c' < 256 → d' < 256 →
-    a' ≡ a → b' ≡ b → c' % 16 ≡ c % 16 → SameLower (fields_of (a + 256 * b + 65536 * c + 16777216 * d)) (fields_of (a' + 256 * b' + 65536 * c' + 16777216 * d'))
+    a' ≡ a → b' ≡ b → c' % 16 ≡ c % 16 → SameLower (a + 256 * b + 65536 * c + 16777216 * d) (a' + 256 * b' + 65536 * c' + 16777216 * d')
 lower_fields a b c d a' b' c' d' ha hb hc hd ha' hb' hc' hd' ea eb ec = record { opcode = omega arith; rd = omega arith; funct3 = omega arith; rs1 = omega arith }
 
-same_branch : (old new : List ℕ) → AreBytes old → AreBytes new → SameOutside (marks_of B12) old new → SameBranch (fields_of (word_at old)) (fields_of (word_at new))
+same_branch : (old new : List ℕ) → AreBytes old → AreBytes new → SameOutside (marks_of B12) old new → SameBranch (word_at old) (word_at new)
 same_branch old new b c s =
     branch_fields (slice_index old 0) (slice_index old 1) (slice_index old 2) (slice_index old 3) (slice_index new 0) (slice_index new 1) (slice_index new 2) (slice_index new 3)
     b.first b.second b.third b.fourth c.first c.second c.third c.fourth
     (same_seven _ _ s.0) (same_high _ _ s.1.0) (same_byte _ _ c.third b.third s.1.1.0) (same_one _ _ s.1.1.1.0)
 
-same_upper : (old new : List ℕ) → AreBytes old → AreBytes new → SameOutside (marks_of Jal20) old new → SameUpper (fields_of (word_at old)) (fields_of (word_at new))
+same_upper : (old new : List ℕ) → AreBytes old → AreBytes new → SameOutside (marks_of Jal20) old new → SameUpper (word_at old) (word_at new)
 same_upper old new b c s =
     upper_fields (slice_index old 0) (slice_index old 1) (slice_index old 2) (slice_index old 3) (slice_index new 0) (slice_index new 1) (slice_index new 2) (slice_index new 3)
     b.first b.second b.third b.fourth c.first c.second c.third c.fourth
     (same_byte _ _ c.first b.first s.0) (same_low _ _ s.1.0)
 
-same_lower : (old new : List ℕ) → AreBytes old → AreBytes new → SameOutside (marks_of PCRelLo12I) old new → SameLower (fields_of (word_at old)) (fields_of (word_at new))
+same_lower : (old new : List ℕ) → AreBytes old → AreBytes new → SameOutside (marks_of PCRelLo12I) old new → SameLower (word_at old) (word_at new)
 same_lower old new b c s =
     lower_fields (slice_index old 0) (slice_index old 1) (slice_index old 2) (slice_index old 3) (slice_index new 0) (slice_index new 1) (slice_index new 2) (slice_index new 3)
     b.first b.second b.third b.fourth c.first c.second c.third c.fourth
     (same_byte _ _ c.first b.first s.0) (same_byte _ _ c.second b.second s.1.0) (same_low _ _ s.1.1.0)
 
--- ---- rows by their fields
+-- ---- operations by their opcode
 
-word_branch : (f : Fields) → f.opcode ≡ 0x63 → decode_word f ≡ option_map (b_form f) (branch_row f.funct3)
-word_branch f e = rw e
+-- what a word decodes to
+abbrev read : ℕ → Option Decoded
+read w = by_opcode (word_opcode w) w
 
-word_jal : (f : Fields) → f.opcode ≡ 0x6f → decode_word f ≡ Some (j_form f (Base Jal))
-word_jal f e = rw e
+word_branch : (w : ℕ) → word_opcode w ≡ BRANCH → read w ≡ decode_branch w
+word_branch w e = ap (λ k. by_opcode k w) e
 
-word_auipc : (f : Fields) → f.opcode ≡ 0x17 → decode_word f ≡ Some (u_form f (Base Auipc))
-word_auipc f e = rw e
+word_jal : (w : ℕ) → word_opcode w ≡ JAL → read w ≡ Some (j_layout w (Base Jal))
+word_jal w e = ap (λ k. by_opcode k w) e
 
-word_jalr : (f : Fields) → f.opcode ≡ 0x67 → decode_word f ≡ decode_jalr f
-word_jalr f e = rw e
+word_auipc : (w : ℕ) → word_opcode w ≡ AUIPC → read w ≡ Some (u_layout w (Base Auipc))
+word_auipc w e = ap (λ k. by_opcode k w) e
 
-word_addi : (f : Fields) → f.opcode ≡ 0x13 → f.funct3 ≡ 0 → decode_word f ≡ Some (i_form f (Base Addi))
-word_addi f e z = rw (e, z)
+word_jalr : (w : ℕ) → word_opcode w ≡ JALR → read w ≡ decode_jalr w
+word_jalr w e = ap (λ k. by_opcode k w) e
+
+word_addi : (w : ℕ) → word_opcode w ≡ OP_IMM → word_funct3 w ≡ 0 → read w ≡ Some (i_layout w (Alu (Int Addi)))
+word_addi w e z = ap (λ k. by_opcode k w) e ∙ rw z
 
 map_map : {A B C : Type 0} (g : B → C) (f : A → B) (h : A → C) → ((x : A) → h x ≡ g (f x)) → (o : Option A) → option_map h o ≡ option_map g (option_map f o)
 map_map g f h e None = refl
 map_map g f h e (Some x) = ap Some (e x)
 
-branch_form : (op : MOp) (f g : Fields) (d : ℤ) → SameBranch f g → b_number g ≡ d → b_form g op ≡ with_number d (b_form f op)
-branch_form op f g d s n = rw (s.rs1, s.rs2, n)
+branch_layout : (op : MOp) (f g : ℕ) (d : ℤ) → SameBranch f g → b_imm g ≡ d → b_layout g op ≡ with_number d (b_layout f op)
+branch_layout op f g d s n = λ i. decoded op 0 (s.rs1 i) (s.rs2 i) (n i)
 
-jump_form : (op : MOp) (f g : Fields) (d : ℤ) → SameUpper f g → j_number g ≡ d → j_form g op ≡ with_number d (j_form f op)
-jump_form op f g d s n = rw (s.rd, n)
+jump_layout : (op : MOp) (f g : ℕ) (d : ℤ) → SameUpper f g → j_imm g ≡ d → j_layout g op ≡ with_number d (j_layout f op)
+jump_layout op f g d s n = λ i. decoded op (s.rd i) 0 0 (n i)
 
-upper_form : (op : MOp) (f g : Fields) (d : ℤ) → SameUpper f g → u_number g ≡ d → u_form g op ≡ with_number d (u_form f op)
-upper_form op f g d s n = rw (s.rd, n)
+upper_layout : (op : MOp) (f g : ℕ) (d : ℤ) → SameUpper f g → u_imm g ≡ d → u_layout g op ≡ with_number d (u_layout f op)
+upper_layout op f g d s n = λ i. decoded op (s.rd i) 0 0 (n i)
 
-lower_form : (op : MOp) (f g : Fields) (d : ℤ) → SameLower f g → i_number g ≡ d → i_form g op ≡ with_number d (i_form f op)
-lower_form op f g d s n = rw (s.rd, s.rs1, n)
+lower_layout : (op : MOp) (f g : ℕ) (d : ℤ) → SameLower f g → i_imm g ≡ d → i_layout g op ≡ with_number d (i_layout f op)
+lower_layout op f g d s n = λ i. decoded op (s.rd i) (s.rs1 i) 0 (n i)
 
-branch_word : (f g : Fields) (d : ℤ) → SameBranch f g → f.opcode ≡ 0x63 → b_number g ≡ d → decode_word g ≡ option_map (with_number d) (decode_word f)
+branch_word : (f g : ℕ) (d : ℤ) → SameBranch f g → word_opcode f ≡ BRANCH → b_imm g ≡ d → read g ≡ option_map (with_number d) (read f)
 branch_word f g d s e n =
-    word_branch g (s.opcode ∙ e) ∙ ap (option_map (b_form g)) (ap branch_row s.funct3)
-    ∙ map_map (with_number d) (b_form f) (b_form g) (λ op. branch_form op f g d s n) (branch_row f.funct3)
+    word_branch g (s.opcode ∙ e) ∙ ap (option_map (λ op. b_layout g (Base op))) (ap branch_entry s.funct3)
+    ∙ map_map (with_number d) (λ op. b_layout f (Base op)) (λ op. b_layout g (Base op)) (λ op. branch_layout (Base op) f g d s n) (branch_entry (word_funct3 f))
     ∙ ap (option_map (with_number d)) (sym (word_branch f e))
 
-jump_word : (f g : Fields) (d : ℤ) → SameUpper f g → f.opcode ≡ 0x6f → j_number g ≡ d → decode_word g ≡ option_map (with_number d) (decode_word f)
-jump_word f g d s e n = word_jal g (s.opcode ∙ e) ∙ ap Some (jump_form (Base Jal) f g d s n) ∙ ap (option_map (with_number d)) (sym (word_jal f e))
+jump_word : (f g : ℕ) (d : ℤ) → SameUpper f g → word_opcode f ≡ JAL → j_imm g ≡ d → read g ≡ option_map (with_number d) (read f)
+jump_word f g d s e n = word_jal g (s.opcode ∙ e) ∙ ap Some (jump_layout (Base Jal) f g d s n) ∙ ap (option_map (with_number d)) (sym (word_jal f e))
 
-upper_word : (f g : Fields) (d : ℤ) → SameUpper f g → f.opcode ≡ 0x17 → u_number g ≡ d → decode_word g ≡ option_map (with_number d) (decode_word f)
-upper_word f g d s e n = word_auipc g (s.opcode ∙ e) ∙ ap Some (upper_form (Base Auipc) f g d s n) ∙ ap (option_map (with_number d)) (sym (word_auipc f e))
+upper_word : (f g : ℕ) (d : ℤ) → SameUpper f g → word_opcode f ≡ AUIPC → u_imm g ≡ d → read g ≡ option_map (with_number d) (read f)
+upper_word f g d s e n = word_auipc g (s.opcode ∙ e) ∙ ap Some (upper_layout (Base Auipc) f g d s n) ∙ ap (option_map (with_number d)) (sym (word_auipc f e))
 
-jalr_word : (f g : Fields) (d : ℤ) → SameLower f g → i_number g ≡ d → decode_jalr g ≡ option_map (with_number d) (decode_jalr f)
-jalr_word f g d s n = rw s.funct3 (on (nat_eq f.funct3 0))
+jalr_word : (f g : ℕ) (d : ℤ) → SameLower f g → i_imm g ≡ d → decode_jalr g ≡ option_map (with_number d) (decode_jalr f)
+jalr_word f g d s n = ap (λ k. if k == 0 then Some (i_layout g (Base Jalr)) else None) s.funct3 ∙ on (word_funct3 f == 0)
   where
-    on : (b : Bool) → cond b (Some (i_form g (Base Jalr))) None ≡ option_map (with_number d) (cond b (Some (i_form f (Base Jalr))) None)
-    on true = ap Some (lower_form (Base Jalr) f g d s n)
+    on : (b : Bool) → (if b then Some (i_layout g (Base Jalr)) else None) ≡ option_map (with_number d) (if b then Some (i_layout f (Base Jalr)) else None)
+    on true = ap Some (lower_layout (Base Jalr) f g d s n)
     on false = refl
 
-lower_word : (f g : Fields) (d : ℤ) → SameLower f g → IsAccess f → i_number g ≡ d → decode_word g ≡ option_map (with_number d) (decode_word f)
+lower_word : (f g : ℕ) (d : ℤ) → SameLower f g → IsAccess f → i_imm g ≡ d → read g ≡ option_map (with_number d) (read f)
 lower_word f g d s (inl e) n = word_jalr g (s.opcode ∙ e) ∙ jalr_word f g d s n ∙ ap (option_map (with_number d)) (sym (word_jalr f e))
-lower_word f g d s (inr e) n = word_addi g (s.opcode ∙ e.0) (s.funct3 ∙ e.1) ∙ ap Some (lower_form (Base Addi) f g d s n) ∙ ap (option_map (with_number d)) (sym (word_addi f e.0 e.1))
+lower_word f g d s (inr e) n =
+    word_addi g (s.opcode ∙ e.0) (s.funct3 ∙ e.1) ∙ ap Some (lower_layout (Alu (Int Addi)) f g d s n) ∙ ap (option_map (with_number d)) (sym (word_addi f e.0 e.1))
 
 -- ---- the bridges
 
-pub decode-patched_branch : (flags : IsaFlags) (old new : List ℕ) (d : ℤ) → AreBytes old → AreBytes new → SameOutside (marks_of B12) old new → (fields_of (word_at old)).opcode ≡ 0x63 → Aims B12 new d →
+pub decode-patched_branch : (flags : IsaFlags) (old new : List ℕ) (d : ℤ) → AreBytes old → AreBytes new → SameOutside (marks_of B12) old new → word_opcode (word_at old) ≡ BRANCH → Aims B12 new d →
     decode flags (word_at new) ≡ option_map (with_number d) (decode flags (word_at old))
 unfolding decode
-decode-patched_branch flags old new d b c s e n = branch_word (fields_of (word_at old)) (fields_of (word_at new)) d (same_branch old new b c s) e n
+decode-patched_branch flags old new d b c s e n = branch_word (word_at old) (word_at new) d (same_branch old new b c s) e n
 
-pub decode-patched_jump : (flags : IsaFlags) (old new : List ℕ) (d : ℤ) → AreBytes old → AreBytes new → SameOutside (marks_of Jal20) old new → (fields_of (word_at old)).opcode ≡ 0x6f → Aims Jal20 new d →
+pub decode-patched_jump : (flags : IsaFlags) (old new : List ℕ) (d : ℤ) → AreBytes old → AreBytes new → SameOutside (marks_of Jal20) old new → word_opcode (word_at old) ≡ JAL → Aims Jal20 new d →
     decode flags (word_at new) ≡ option_map (with_number d) (decode flags (word_at old))
 unfolding decode
-decode-patched_jump flags old new d b c s e n = jump_word (fields_of (word_at old)) (fields_of (word_at new)) d (same_upper old new b c s) e n
+decode-patched_jump flags old new d b c s e n = jump_word (word_at old) (word_at new) d (same_upper old new b c s) e n
 
-pub decode-patched_upper : (flags : IsaFlags) (old new : List ℕ) (d : ℤ) → AreBytes old → AreBytes new → SameOutside (marks_of PCRelHi20) old new → (fields_of (word_at old)).opcode ≡ 0x17 → Aims PCRelHi20 new d →
+pub decode-patched_upper : (flags : IsaFlags) (old new : List ℕ) (d : ℤ) → AreBytes old → AreBytes new → SameOutside (marks_of PCRelHi20) old new → word_opcode (word_at old) ≡ AUIPC → Aims PCRelHi20 new d →
     decode flags (word_at new) ≡ option_map (with_number (signed (2 ^ 19) (upper_part d))) (decode flags (word_at old))
 unfolding decode
-decode-patched_upper flags old new d b c s e n = upper_word (fields_of (word_at old)) (fields_of (word_at new)) (signed (2 ^ 19) (upper_part d)) (same_upper old new b c s) e (ap (signed (2 ^ 19)) n)
+decode-patched_upper flags old new d b c s e n = upper_word (word_at old) (word_at new) (signed (2 ^ 19) (upper_part d)) (same_upper old new b c s) e (ap (signed (2 ^ 19)) n)
 
-pub decode-patched_lower : (flags : IsaFlags) (old new : List ℕ) (d : ℤ) → AreBytes old → AreBytes new → SameOutside (marks_of PCRelLo12I) old new → IsAccess (fields_of (word_at old)) → Aims PCRelLo12I new d →
+pub decode-patched_lower : (flags : IsaFlags) (old new : List ℕ) (d : ℤ) → AreBytes old → AreBytes new → SameOutside (marks_of PCRelLo12I) old new → IsAccess (word_at old) → Aims PCRelLo12I new d →
     decode flags (word_at new) ≡ option_map (with_number (signed (2 ^ 11) (lower_part d))) (decode flags (word_at old))
 unfolding decode
-decode-patched_lower flags old new d b c s e n = lower_word (fields_of (word_at old)) (fields_of (word_at new)) (signed (2 ^ 11) (lower_part d)) (same_lower old new b c s) e (ap (signed (2 ^ 11)) n)
+decode-patched_lower flags old new d b c s e n = lower_word (word_at old) (word_at new) (signed (2 ^ 11) (lower_part d)) (same_lower old new b c s) e (ap (signed (2 ^ 11)) n)
 
 -- the halves of a pair's window
 at_four : (s : List ℕ) (i : ℕ) → slice_index (drop 4 s) i ≡ slice_index s (4 + i)
@@ -180,16 +188,16 @@ second_half old new s = (at 255 0 s.1.1.1.1.0, (at 255 1 s.1.1.1.1.1.0, (at 15 2
     at : (m i : ℕ) → bit_and (slice_index new (4 + i)) m ≡ bit_and (slice_index old (4 + i)) m → bit_and (slice_index (drop 4 new) i) m ≡ bit_and (slice_index (drop 4 old) i) m
     at m i e = ap (λ (x : ℕ). bit_and x m) (at_four new i) ∙ e ∙ sym (ap (λ (x : ℕ). bit_and x m) (at_four old i))
 
-pub decode-patched_pair : (flags : IsaFlags) (old new : List ℕ) (d : ℤ) → AreBytes old → AreBytes new → AreBytes (drop 4 old) → AreBytes (drop 4 new) → SameOutside (marks_of PCRel32) old new → (fields_of (word_at old)).opcode ≡ 0x17 → IsAccess (fields_of (word_at (drop 4 old))) → Aims PCRel32 new d →
+pub decode-patched_pair : (flags : IsaFlags) (old new : List ℕ) (d : ℤ) → AreBytes old → AreBytes new → AreBytes (drop 4 old) → AreBytes (drop 4 new) → SameOutside (marks_of PCRel32) old new → word_opcode (word_at old) ≡ AUIPC → IsAccess (word_at (drop 4 old)) → Aims PCRel32 new d →
     PairDecodes flags old new d
 unfolding decode
 decode-patched_pair flags old new d b c b' c' s e a n = record {
-  upper = u_number (fields_of (word_at new));
-  lower = i_number (fields_of (word_at (drop 4 new)));
+  upper = u_imm (word_at new);
+  lower = i_imm (word_at (drop 4 new));
   upper_is = refl;
   lower_is = refl;
-  first = upper_word (fields_of (word_at old)) (fields_of (word_at new)) _ (same_upper old new b c (first_half old new s)) e refl;
-  second = lower_word (fields_of (word_at (drop 4 old))) (fields_of (word_at (drop 4 new))) _ (same_lower (drop 4 old) (drop 4 new) b' c' (second_half old new s)) a refl;
+  first = upper_word (word_at old) (word_at new) _ (same_upper old new b c (first_half old new s)) e refl;
+  second = lower_word (word_at (drop 4 old)) (word_at (drop 4 new)) _ (same_lower (drop 4 old) (drop 4 new) b' c' (second_half old new s)) a refl;
   sum = n;
 }
 

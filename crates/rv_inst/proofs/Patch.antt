@@ -1,11 +1,11 @@
+-- Windows that hold a whole distance.
 use Rattle.std.proofs.Common.{◌≡◌, ℕ, ◌+◌, ◌*◌, ◌/◌, ◌%◌, ◌<◌, ◌≤◌, List, [], ◌∷◌, ◌++◌, take, drop, slice_index, refl, ap, sym, subst, ◌∙◌, pos, ◌-ℤ◌, arith, bit_and, bit_or}
 use Rattle.std.proofs.lemmas.Int.{ints}
 use Rattle.std.proofs.lemmas.Nat.{and_mask, or_block, and_comm, or_comm}
 use Rattle.std.proofs.lemmas.Nat.Bits.{and_high}
 use Rattle.std.specs.Int.Bits.{or_shifted_r}
 use Rattle.rv_machine.specs.State.{signed}
-use Rattle.rv_machine.specs.Layout.{fields_of}
-use Rattle.rv_machine.specs.Layout.{j_number, b_number, j_bits, b_bits}
+use Rattle.rv_machine.specs.Layout.{j_imm, b_imm, j_bits, b_bits}
 use Rattle.rv_base.specs.LabelUse.{IsFresh, SameOutside}
 use Rattle.rv_inst.specs.LabelUseWords.{word_at, word_bytes, AreBytes}
 use Rattle.rv_inst.specs.LabelUseWords.{jal_bits, branch_bits, distance_bits}
@@ -67,11 +67,11 @@ or_branch w n h hn =
 
 -- ---- the distance that the new word holds
 
-jal_distance : (w n : ℕ) → w < 4096 → n < 2097152 → n % 2 ≡ 0 → j_number (fields_of (w + jal_bits n)) ≡ signed 1048576 n
-jal_distance w n hw hn e = let held : j_bits (fields_of (w + jal_bits n)) ≡ n = omega arith in ap (signed 1048576) held
+jal_distance : (w n : ℕ) → w < 4096 → n < 2097152 → n % 2 ≡ 0 → j_imm (w + jal_bits n) ≡ signed 1048576 n
+jal_distance w n hw hn e = let held : j_bits (w + jal_bits n) ≡ n = omega arith in ap (signed 1048576) held
 
-branch_distance : (w n : ℕ) → IsBranchFresh w → n < 8192 → n % 2 ≡ 0 → b_number (fields_of (w + branch_bits n)) ≡ signed 4096 n
-branch_distance w n hw hn e = let held : b_bits (fields_of (w + branch_bits n)) ≡ n = omega (arith, hw.low, hw.high) in ap (signed 4096) held
+branch_distance : (w n : ℕ) → IsBranchFresh w → n < 8192 → n % 2 ≡ 0 → b_imm (w + branch_bits n) ≡ signed 4096 n
+branch_distance w n hw hn e = let held : b_bits (w + branch_bits n) ≡ n = omega (arith, hw.low, hw.high) in ap (signed 4096) held
 
 -- a word's bytes are the word
 pub whole : (w : ℕ) → w % 256 + 256 * (w / 256 % 256) + 65536 * (w / 65536 % 256) + 16777216 * (w / 16777216) ≡ w
@@ -89,16 +89,16 @@ branch_word old b f =
     record { low = omega (arith, first, second); high = omega (arith, first, b.second, b.third, fourth) }
 
 pub jal_holds : (old new : List ℕ) (n : ℕ) → new ≡ word_bytes (bit_or (word_at old) (jal_bits n)) ++ drop 4 old → AreBytes old → IsFresh (0x00 ∷ 0xf0 ∷ 0xff ∷ 0xff ∷ []) old →
-    n < 2097152 → n % 2 ≡ 0 → j_number (fields_of (word_at (take 4 new))) ≡ signed 1048576 n
+    n < 2097152 → n % 2 ≡ 0 → j_imm (word_at (take 4 new)) ≡ signed 1048576 n
 jal_holds old new n h b f hn e =
     let small = jal_word old b f in
-    ap (λ s. j_number (fields_of (word_at (take 4 s)))) h ∙ ap (λ w. j_number (fields_of w)) (whole (bit_or (word_at old) (jal_bits n)) ∙ or_jal (word_at old) n small) ∙ jal_distance (word_at old) n small hn e
+    ap (λ s. j_imm (word_at (take 4 s))) h ∙ ap (λ w. j_imm w) (whole (bit_or (word_at old) (jal_bits n)) ∙ or_jal (word_at old) n small) ∙ jal_distance (word_at old) n small hn e
 
 pub branch_holds : (old new : List ℕ) (n : ℕ) → new ≡ word_bytes (bit_or (word_at old) (branch_bits n)) ++ drop 4 old → AreBytes old → IsFresh (0x80 ∷ 0x0f ∷ 0x00 ∷ 0xfe ∷ []) old →
-    n < 8192 → n % 2 ≡ 0 → b_number (fields_of (word_at (take 4 new))) ≡ signed 4096 n
+    n < 8192 → n % 2 ≡ 0 → b_imm (word_at (take 4 new)) ≡ signed 4096 n
 branch_holds old new n h b f hn e =
     let small = branch_word old b f in
-    ap (λ s. b_number (fields_of (word_at (take 4 s)))) h ∙ ap (λ w. b_number (fields_of w)) (whole (bit_or (word_at old) (branch_bits n)) ∙ or_branch (word_at old) n small hn) ∙ branch_distance (word_at old) n small hn e
+    ap (λ s. b_imm (word_at (take 4 s))) h ∙ ap (λ w. b_imm w) (whole (bit_or (word_at old) (branch_bits n)) ∙ or_branch (word_at old) n small hn) ∙ branch_distance (word_at old) n small hn e
 
 -- ---- the bits that stay
 

@@ -1,8 +1,9 @@
+-- Windows of an auipc and the word after it, which hold a distance in two parts.
 use Rattle.std.proofs.Common.{◌≡◌, ℕ, ◌+◌, ◌-◌, ◌*◌, ◌/◌, ◌%◌, ◌<◌, ◌≤◌, List, [], ◌∷◌, ◌++◌, take, drop, slice_index, ap, sym, ◌∙◌, subst, pos, ◌-ℤ◌, ◌+ℤ◌, ◌*ℤ◌, arith, bit_and, bit_or, get_or-drop}
 use Rattle.std.proofs.lemmas.Int.{ints}
 use Rattle.std.specs.Int.Bits.{or_shifted_r}
 use Rattle.rv_machine.specs.State.{signed}
-use Rattle.rv_machine.specs.Layout.{fields_of, u_number, i_number, u_bits, i_bits}
+use Rattle.rv_machine.specs.Layout.{u_imm, i_imm, u_bits, i_bits}
 use Rattle.rv_base.specs.LabelUse.{IsFresh, SameOutside}
 use Rattle.rv_inst.specs.LabelUseWords.{word_at, word_bytes, AreBytes}
 use Rattle.rv_inst.specs.LabelUseWords.{upper_bits}
@@ -29,17 +30,17 @@ second_fresh old b f =
 
 -- ---- the new words
 
-upper_holds : (w x : ℕ) → w < 4096 → x < 1048576 → u_number (fields_of (bit_or w (x * 4096))) ≡ signed 524288 x
+upper_holds : (w x : ℕ) → w < 4096 → x < 1048576 → u_imm (bit_or w (x * 4096)) ≡ signed 524288 x
 upper_holds w x h k =
     let sum : bit_or w (x * 4096) ≡ x * 4096 + w = or_shifted_r x 12 w h in
-    let held : u_bits (fields_of (x * 4096 + w)) ≡ x = omega arith in
-    ap (λ (n : ℕ). u_number (fields_of n)) sum ∙ ap (signed 524288) held
+    let held : u_bits (x * 4096 + w) ≡ x = omega arith in
+    ap (λ (n : ℕ). u_imm n) sum ∙ ap (signed 524288) held
 
-lower_holds : (w x : ℕ) → w < 1048576 → x < 4096 → i_number (fields_of (bit_or w (x * 1048576))) ≡ signed 2048 x
+lower_holds : (w x : ℕ) → w < 1048576 → x < 4096 → i_imm (bit_or w (x * 1048576)) ≡ signed 2048 x
 lower_holds w x h k =
     let sum : bit_or w (x * 1048576) ≡ x * 1048576 + w = or_shifted_r x 20 w h in
-    let held : i_bits (fields_of (x * 1048576 + w)) ≡ x = omega arith in
-    ap (λ (n : ℕ). i_number (fields_of n)) sum ∙ ap (signed 2048) held
+    let held : i_bits (x * 1048576 + w) ≡ x = omega arith in
+    ap (λ (n : ℕ). i_imm n) sum ∙ ap (signed 2048) held
 
 pub first_bytes : (a b c d x w : ℕ) → a < 256 → b < 16 → c ≡ 0 → d ≡ 0 → w ≡ a + 256 * b + 65536 * c + 16777216 * d + x * 4096 → (w % 256 ≡ a) × (w / 256 % 256 % 16 ≡ b % 16)
 first_bytes a b c d x w ha hb hc hd e = (omega arith, omega arith)
@@ -49,14 +50,14 @@ second_bytes a b c d x w ha hb hc hd e = (omega arith, omega arith, omega arith)
 
 module _ (old new : List ℕ) (n : ℕ) (h : new ≡ word_bytes (bit_or (word_at old) (upper_bits n * 4096)) ++ word_bytes (bit_or (word_at (drop 4 old)) (n % 4096 * 1048576)) ++ drop 8 old)
     (b : AreBytes old) (c : AreBytes (drop 4 old)) (f : IsFresh (0x00 ∷ 0xf0 ∷ 0xff ∷ 0xff ∷ 0x00 ∷ 0x00 ∷ 0xf0 ∷ 0xff ∷ []) old) where
-  pub pair_upper : u_number (fields_of (word_at (take 8 new))) ≡ signed 524288 (upper_bits n)
+  pub pair_upper : u_imm (word_at (take 8 new)) ≡ signed 524288 (upper_bits n)
   pair_upper =
-      ap (λ s. u_number (fields_of (word_at (take 8 s)))) h ∙ ap (λ (w : ℕ). u_number (fields_of w)) (whole (bit_or (word_at old) (upper_bits n * 4096)))
+      ap (λ s. u_imm (word_at (take 8 s))) h ∙ ap (λ (w : ℕ). u_imm w) (whole (bit_or (word_at old) (upper_bits n * 4096)))
       ∙ upper_holds (word_at old) (upper_bits n) (first_fresh old b f) (omega arith)
 
-  pub pair_lower : i_number (fields_of (word_at (drop 4 (take 8 new)))) ≡ signed 2048 (n % 4096)
+  pub pair_lower : i_imm (word_at (drop 4 (take 8 new))) ≡ signed 2048 (n % 4096)
   pair_lower =
-      ap (λ s. i_number (fields_of (word_at (drop 4 (take 8 s))))) h ∙ ap (λ (w : ℕ). i_number (fields_of w)) (whole (bit_or (word_at (drop 4 old)) (n % 4096 * 1048576)))
+      ap (λ s. i_imm (word_at (drop 4 (take 8 s)))) h ∙ ap (λ (w : ℕ). i_imm w) (whole (bit_or (word_at (drop 4 old)) (n % 4096 * 1048576)))
       ∙ lower_holds (word_at (drop 4 old)) (n % 4096) (second_fresh old c f) (omega arith)
 
   pub pair_keeps : SameOutside (0x00 ∷ 0xf0 ∷ 0xff ∷ 0xff ∷ 0x00 ∷ 0x00 ∷ 0xf0 ∷ 0xff ∷ []) old new

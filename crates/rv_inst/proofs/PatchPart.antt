@@ -4,7 +4,7 @@ use Rattle.std.proofs.lemmas.Int.{ints}
 use Rattle.std.proofs.lemmas.Bool.{cases_lt}
 use Rattle.std.specs.Int.Bits.{or_shifted_r}
 use Rattle.rv_base.specs.LabelUse.{IsFresh, SameOutside}
-use Rattle.rv_machine.specs.Layout.{fields_of, u_bits, i_bits}
+use Rattle.rv_machine.specs.Layout.{u_bits, i_bits}
 use Rattle.rv_inst.specs.LabelUse.{low32, upper_part, lower_part}
 use Rattle.rv_inst.specs.LabelUseWords.{word_at, word_bytes, AreBytes, upper_bits}
 use Rattle.rv_inst.proofs.Patch.{no_high, none, jal_word, keeps_none, keeps_low, whole}
@@ -12,13 +12,13 @@ use Rattle.rv_inst.proofs.PatchPair.{first_bytes, second_bytes}
 
 -- ---- the upper part
 
-pub upper_holds_part : (old new : List ℕ) (n : ℕ) → new ≡ word_bytes (bit_or (word_at old) (upper_bits n * 4096)) ++ drop 4 old → AreBytes old → IsFresh (0x00 ∷ 0xf0 ∷ 0xff ∷ 0xff ∷ []) old → u_bits (fields_of (word_at (take 4 new))) ≡ upper_bits n
+pub upper_holds_part : (old new : List ℕ) (n : ℕ) → new ≡ word_bytes (bit_or (word_at old) (upper_bits n * 4096)) ++ drop 4 old → AreBytes old → IsFresh (0x00 ∷ 0xf0 ∷ 0xff ∷ 0xff ∷ []) old → u_bits (word_at (take 4 new)) ≡ upper_bits n
 upper_holds_part old new n h b f =
     let small = jal_word old b f in
     let sum : bit_or (word_at old) (upper_bits n * 4096) ≡ upper_bits n * 4096 + word_at old = or_shifted_r (upper_bits n) 12 (word_at old) small in
-    ap (λ s. u_bits (fields_of (word_at (take 4 s)))) h ∙ ap (λ (w : ℕ). u_bits (fields_of w)) (whole (bit_or (word_at old) (upper_bits n * 4096)) ∙ sum) ∙ held (word_at old) (upper_bits n) small (omega arith)
+    ap (λ s. u_bits (word_at (take 4 s))) h ∙ ap (λ (w : ℕ). u_bits w) (whole (bit_or (word_at old) (upper_bits n * 4096)) ∙ sum) ∙ held (word_at old) (upper_bits n) small (omega arith)
   where
-    held : (w x : ℕ) → w < 4096 → x < 1048576 → u_bits (fields_of (x * 4096 + w)) ≡ x
+    held : (w x : ℕ) → w < 4096 → x < 1048576 → u_bits (x * 4096 + w) ≡ x
     held w x hw hx = omega arith
 
 pub upper_keeps_part : (old new : List ℕ) (n : ℕ) → new ≡ word_bytes (bit_or (word_at old) (upper_bits n * 4096)) ++ drop 4 old → AreBytes old → IsFresh (0x00 ∷ 0xf0 ∷ 0xff ∷ 0xff ∷ []) old → SameOutside (0x00 ∷ 0xf0 ∷ 0xff ∷ 0xff ∷ []) old new
@@ -39,13 +39,13 @@ lower_word old b f =
     let fourth = none (slice_index old 3) b.fourth f.1.1.1.0 in
     omega (arith, b.first, b.second, third, fourth)
 
-pub lower_holds_part : (old new : List ℕ) (n : ℕ) → new ≡ word_bytes (bit_or (word_at old) (n % 4096 * 1048576)) ++ drop 4 old → AreBytes old → IsFresh (0x00 ∷ 0x00 ∷ 0xf0 ∷ 0xff ∷ []) old → i_bits (fields_of (word_at (take 4 new))) ≡ n % 4096
+pub lower_holds_part : (old new : List ℕ) (n : ℕ) → new ≡ word_bytes (bit_or (word_at old) (n % 4096 * 1048576)) ++ drop 4 old → AreBytes old → IsFresh (0x00 ∷ 0x00 ∷ 0xf0 ∷ 0xff ∷ []) old → i_bits (word_at (take 4 new)) ≡ n % 4096
 lower_holds_part old new n h b f =
     let small = lower_word old b f in
     let sum : bit_or (word_at old) (n % 4096 * 1048576) ≡ n % 4096 * 1048576 + word_at old = or_shifted_r (n % 4096) 20 (word_at old) small in
-    ap (λ s. i_bits (fields_of (word_at (take 4 s)))) h ∙ ap (λ (w : ℕ). i_bits (fields_of w)) (whole (bit_or (word_at old) (n % 4096 * 1048576)) ∙ sum) ∙ held (word_at old) (n % 4096) small (omega arith)
+    ap (λ s. i_bits (word_at (take 4 s))) h ∙ ap (λ (w : ℕ). i_bits w) (whole (bit_or (word_at old) (n % 4096 * 1048576)) ∙ sum) ∙ held (word_at old) (n % 4096) small (omega arith)
   where
-    held : (w x : ℕ) → w < 1048576 → x < 4096 → i_bits (fields_of (x * 1048576 + w)) ≡ x
+    held : (w x : ℕ) → w < 1048576 → x < 4096 → i_bits (x * 1048576 + w) ≡ x
     held w x hw hx = omega arith
 
 pub lower_keeps_part : (old new : List ℕ) (n : ℕ) → new ≡ word_bytes (bit_or (word_at old) (n % 4096 * 1048576)) ++ drop 4 old → AreBytes old → IsFresh (0x00 ∷ 0x00 ∷ 0xf0 ∷ 0xff ∷ []) old → SameOutside (0x00 ∷ 0x00 ∷ 0xf0 ∷ 0xff ∷ []) old new

@@ -3,7 +3,7 @@ use Rattle.std.specs.Prelude.{◌≡◌, Option, Some, None, ℕ, ◌-◌, ◌/�
 use Rattle.rv_base.specs.LabelUse.{Veneer}
 use Rattle.rv_base.specs.declared.reloc.Reloc.{Reloc}
 use Rattle.rv_base.specs.declared.reloc.Reloc.TheVariants.{RiscvCallPlt}
-use Rattle.rv_machine.specs.Layout.{fields_of, b_number, j_number, u_number, i_number, u_bits, i_bits}
+use Rattle.rv_machine.specs.Layout.{b_imm, j_imm, u_imm, i_imm, u_bits, i_bits}
 use Rattle.rv_inst.specs.declared.label_use.LabelUse.{LabelUse}
 use Rattle.rv_inst.specs.declared.label_use.LabelUse.TheVariants.{Jal20, PCRel32, B12, PCRelHi20, PCRelLo12I}
 use Rattle.rv_inst.specs.LabelUseWords.{word_at}
@@ -23,11 +23,11 @@ lower_part d = low32 (d +ℤ pos 4) % 4096
 
 -- a window encodes a distance or, for the two kinds that hold one part of it, that part
 abbrev pub Aims : LabelUse → List ℕ → ℤ → Type 0
-Aims Jal20 window d = j_number (fields_of (word_at window)) ≡ d
-Aims B12 window d = b_number (fields_of (word_at window)) ≡ d
-Aims PCRel32 window d = (u_number (fields_of (word_at window)) *ℤ pos 4096) +ℤ i_number (fields_of (word_at (drop 4 window))) ≡ d
-Aims PCRelHi20 window d = u_bits (fields_of (word_at window)) ≡ upper_part d
-Aims PCRelLo12I window d = i_bits (fields_of (word_at window)) ≡ lower_part d
+Aims Jal20 window d = j_imm (word_at window) ≡ d
+Aims B12 window d = b_imm (word_at window) ≡ d
+Aims PCRel32 window d = (u_imm (word_at window) *ℤ pos 4096) +ℤ i_imm (word_at (drop 4 window)) ≡ d
+Aims PCRelHi20 window d = u_bits (word_at window) ≡ upper_part d
+Aims PCRelLo12I window d = i_bits (word_at window) ≡ lower_part d
 
 -- the bits of the distance: 31:12 of layouts J and U, 31:25 with 11:7 of B, 31:20 of I
 abbrev pub marks_of : LabelUse → List ℕ

@@ -3,7 +3,7 @@
 ghost use Rattle.std.specs.Prelude.{◌≡◌, ◌+◌, ◌*◌, ◌<◌, ◌≤◌, ◌%◌, ◌/◌, ◌++◌, ◌∷◌, ◌&&◌, [], length, take, drop, pos, ◌-ℤ◌, int_le};
 ghost use Rattle.rv_base.specs.LabelUse.{IsFresh, SameOutside};
 ghost use Rattle.rv_machine.specs.State.{signed};
-ghost use Rattle.rv_machine.specs.Layout.{fields_of, j_number, b_number, u_number, i_number, u_bits, i_bits};
+ghost use Rattle.rv_machine.specs.Layout.{j_imm, b_imm, u_imm, i_imm, u_bits, i_bits};
 ghost use Rattle.rv_inst.specs.LabelUseWords.{word_at, word_bytes, AreBytes, jal_bits, branch_bits, distance_bits, upper_bits};
 
 use rv_base::label_use::MachInstLabelUse;
@@ -220,7 +220,7 @@ fn patch_jal(buffer: &mut [u8], bits: u32)
     requires even { bits % 2 ≡ 0 }
     requires long { 4 ≤ length buffer.old }
     requires fresh { IsFresh (0x00 ∷ 0xf0 ∷ 0xff ∷ 0xff ∷ []) buffer.old }
-    ensures distance { j_number (fields_of (word_at (take 4 buffer.new))) ≡ signed 1048576 bits }
+    ensures distance { j_imm (word_at (take 4 buffer.new)) ≡ signed 1048576 bits }
     ensures others { SameOutside (0x00 ∷ 0xf0 ∷ 0xff ∷ 0xff ∷ []) buffer.old buffer.new }
     ensures rest { drop 4 buffer.new ≡ drop 4 buffer.old }
 {
@@ -234,7 +234,7 @@ fn patch_branch(buffer: &mut [u8], bits: u32)
     requires even { bits % 2 ≡ 0 }
     requires long { 4 ≤ length buffer.old }
     requires fresh { IsFresh (0x80 ∷ 0x0f ∷ 0x00 ∷ 0xfe ∷ []) buffer.old }
-    ensures distance { b_number (fields_of (word_at (take 4 buffer.new))) ≡ signed 4096 bits }
+    ensures distance { b_imm (word_at (take 4 buffer.new)) ≡ signed 4096 bits }
     ensures others { SameOutside (0x80 ∷ 0x0f ∷ 0x00 ∷ 0xfe ∷ []) buffer.old buffer.new }
     ensures rest { drop 4 buffer.new ≡ drop 4 buffer.old }
 {
@@ -246,8 +246,8 @@ fn patch_branch(buffer: &mut [u8], bits: u32)
 fn patch_pair(buffer: &mut [u8], distance: u32)
     requires long { 8 ≤ length buffer.old }
     requires fresh { IsFresh (0x00 ∷ 0xf0 ∷ 0xff ∷ 0xff ∷ 0x00 ∷ 0x00 ∷ 0xf0 ∷ 0xff ∷ []) buffer.old }
-    ensures upper { u_number (fields_of (word_at (take 8 buffer.new))) ≡ signed 524288 (upper_bits distance) }
-    ensures lower { i_number (fields_of (word_at (drop 4 (take 8 buffer.new)))) ≡ signed 2048 (distance % 4096) }
+    ensures upper { u_imm (word_at (take 8 buffer.new)) ≡ signed 524288 (upper_bits distance) }
+    ensures lower { i_imm (word_at (drop 4 (take 8 buffer.new))) ≡ signed 2048 (distance % 4096) }
     ensures others { SameOutside (0x00 ∷ 0xf0 ∷ 0xff ∷ 0xff ∷ 0x00 ∷ 0x00 ∷ 0xf0 ∷ 0xff ∷ []) buffer.old buffer.new }
     ensures rest { drop 8 buffer.new ≡ drop 8 buffer.old }
 {
@@ -264,7 +264,7 @@ fn patch_pair(buffer: &mut [u8], distance: u32)
 fn patch_upper(buffer: &mut [u8], distance: u32)
     requires long { 4 ≤ length buffer.old }
     requires fresh { IsFresh (0x00 ∷ 0xf0 ∷ 0xff ∷ 0xff ∷ []) buffer.old }
-    ensures bits { u_bits (fields_of (word_at (take 4 buffer.new))) ≡ upper_bits distance }
+    ensures bits { u_bits (word_at (take 4 buffer.new)) ≡ upper_bits distance }
     ensures others { SameOutside (0x00 ∷ 0xf0 ∷ 0xff ∷ 0xff ∷ []) buffer.old buffer.new }
     ensures rest { drop 4 buffer.new ≡ drop 4 buffer.old }
 {
@@ -276,7 +276,7 @@ fn patch_upper(buffer: &mut [u8], distance: u32)
 fn patch_lower(buffer: &mut [u8], distance: u32)
     requires long { 4 ≤ length buffer.old }
     requires fresh { IsFresh (0x00 ∷ 0x00 ∷ 0xf0 ∷ 0xff ∷ []) buffer.old }
-    ensures bits { i_bits (fields_of (word_at (take 4 buffer.new))) ≡ distance % 4096 }
+    ensures bits { i_bits (word_at (take 4 buffer.new)) ≡ distance % 4096 }
     ensures others { SameOutside (0x00 ∷ 0x00 ∷ 0xf0 ∷ 0xff ∷ []) buffer.old buffer.new }
     ensures rest { drop 4 buffer.new ≡ drop 4 buffer.old }
 {

@@ -3,3 +3,4 @@ pub mod Memory
 pub mod Runs
 pub mod Products
 pub mod Ranges
+pub mod States

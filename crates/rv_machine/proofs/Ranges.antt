@@ -1,4 +1,4 @@
--- What a row computes of numbers of 64 bits is a number of 64 bits.
+-- What an operation computes of 64 bits has 64 bits.
 use Rattle.std.proofs.Common.{ℕ, zero, suc, ◌-◌, ◌*◌, ◌/◌, ◌%◌, ◌^◌, ◌<◌, ◌≤◌, Bool, true, false, T, leb, [], ◌∷◌, map, if◌then◌else◌, ◌==◌, ℤ, pos, ◌*ℤ◌, int_div, int_rem, unsigned_abs, negsuc, FitsSigned, bit_and, arith, lit<, lit≤, pow_pos, shr_lt, mul-le-mul, mod-lt, div-le_self, le_trans, lt_of_le_of_lt, lt_of_lt_of_le, w8, w16, w32, w64}
 use mir.Syntax.{Width, w128}
 use mir.Val.{bits, hbits}
@@ -10,17 +10,17 @@ use Rattle.std.proofs.lemmas.Nat.Bits.{bit_at-lt}
 use Rattle.std.proofs.lemmas.Int.{ints, fits_signed_mul}
 use Rattle.std.specs.Int.{from_bool, int_shr, int_wrapping_div, byte_at, cast_signed, cast_unsigned, bit_at, bit_not, rotate_left, rotate_right, swap_bytes, from_le_bytes, to_le_bytes}
 use Rattle.std.specs.Int.Signed.{mag_shr, mag_rem}
-use Rattle.rv_machine.specs.declared.ops.MOp.{MOp}
-use Rattle.rv_machine.specs.declared.ops.MOp.TheVariants.{Base, Mul as MulFamily, Bit}
-use Rattle.rv_machine.specs.declared.ops.BaseOp.{BaseOp}
-use Rattle.rv_machine.specs.declared.ops.BaseOp.TheVariants.{Addi, Slti, Sltiu, Xori, Ori, Andi, Slli, Srli, Srai, Add, Sub, Sll, Slt, Sltu, Xor, Srl, Sra, Or, And, Addiw, Slliw, Srliw, Sraiw, Addw, Subw, Sllw, Srlw, Sraw, CzeroEqz, CzeroNez}
+use Rattle.rv_machine.specs.declared.ops.AluOp.{AluOp}
+use Rattle.rv_machine.specs.declared.ops.AluOp.TheVariants.{Int as IntFamily, Mul as MulFamily, Bit}
+use Rattle.rv_machine.specs.declared.ops.IntOp.{IntOp}
+use Rattle.rv_machine.specs.declared.ops.IntOp.TheVariants.{Addi, Slti, Sltiu, Xori, Ori, Andi, Slli, Srli, Srai, Add, Sub, Sll, Slt, Sltu, Xor, Srl, Sra, Or, And, Addiw, Slliw, Srliw, Sraiw, Addw, Subw, Sllw, Srlw, Sraw, CzeroEqz, CzeroNez}
 use Rattle.rv_machine.specs.declared.ops.MulOp.{MulOp}
 use Rattle.rv_machine.specs.declared.ops.MulOp.TheVariants.{Mul, Mulh, Mulhsu, Mulhu, Div, Divu, Rem, Remu, Mulw, Divw, Divuw, Remw, Remuw}
 use Rattle.rv_machine.specs.declared.ops.BitOp.{BitOp}
 use Rattle.rv_machine.specs.declared.ops.BitOp.TheVariants.{AddUw, Sh1add, Sh1addUw, Sh2add, Sh2addUw, Sh3add, Sh3addUw, SlliUw, Andn, Orn, Xnor, Clz, Clzw, Ctz, Ctzw, Cpop, Cpopw, Max, Maxu, Min, Minu, SextB, SextH, ZextH, Rol, Rolw, Ror, Rori, Roriw, Rorw, OrcB, Rev8, Bclr, Bclri, Bext, Bexti, Binv, Binvi, Bset, Bseti}
 use Rattle.rv_machine.specs.State.{wrap, low64}
 use Rattle.rv_machine.specs.Arithmetic.{signed_below, signed64, signed32, low_word, extend_word, high64}
-use Rattle.rv_machine.specs.Base.{base_result}
+use Rattle.rv_machine.specs.Int.{int_result}
 use Rattle.rv_machine.specs.MulDiv.{mul_result}
 use Rattle.rv_machine.specs.Bits.{bit_result, spread}
 use Rattle.rv_machine.specs.Effects.{row_result}
@@ -143,38 +143,37 @@ swapped_fits x =
 
 -- ---- by family
 
-pub base_fits : (op : BaseOp) (x y imm : ℕ) → x < 2 ^ 64 → y < 2 ^ 64 → imm < 2 ^ 64 → base_result op x y imm < 2 ^ 64
-base_fits Addi x y imm hx hy hi = wrap_fits _
-base_fits Slti x y imm hx hy hi = test_fits _
-base_fits Sltiu x y imm hx hy hi = test_fits _
-base_fits Xori x y imm hx hy hi = xor_lt 64 x imm hx hi
-base_fits Ori x y imm hx hy hi = or_lt 64 x imm hx hi
-base_fits Andi x y imm hx hy hi = and_fits x imm (2 ^ 64) hx
-base_fits Slli x y imm hx hy hi = wrap_fits _
-base_fits Srli x y imm hx hy hi = quotient_fits x _ (2 ^ 64) hx
-base_fits Srai x y imm hx hy hi = shifted_fits _ _ (signed64_fits x)
-base_fits Add x y imm hx hy hi = wrap_fits _
-base_fits Sub x y imm hx hy hi = wrap_fits _
-base_fits Sll x y imm hx hy hi = wrap_fits _
-base_fits Slt x y imm hx hy hi = test_fits _
-base_fits Sltu x y imm hx hy hi = test_fits _
-base_fits Xor x y imm hx hy hi = xor_lt 64 x y hx hy
-base_fits Srl x y imm hx hy hi = quotient_fits x _ (2 ^ 64) hx
-base_fits Sra x y imm hx hy hi = shifted_fits _ _ (signed64_fits x)
-base_fits Or x y imm hx hy hi = or_lt 64 x y hx hy
-base_fits And x y imm hx hy hi = and_fits x y (2 ^ 64) hx
-base_fits Addiw x y imm hx hy hi = extend_word_fits _
-base_fits Slliw x y imm hx hy hi = extend_word_fits _
-base_fits Srliw x y imm hx hy hi = extend_word_fits _
-base_fits Sraiw x y imm hx hy hi = shifted_fits _ _ (signed32_fits x)
-base_fits Addw x y imm hx hy hi = extend_word_fits _
-base_fits Subw x y imm hx hy hi = extend_word_fits _
-base_fits Sllw x y imm hx hy hi = extend_word_fits _
-base_fits Srlw x y imm hx hy hi = extend_word_fits _
-base_fits Sraw x y imm hx hy hi = shifted_fits _ _ (signed32_fits x)
-base_fits CzeroEqz x y imm hx hy hi = chosen_fits (y == 0) 0 x (2 ^ 64) (lit< tt) hx
-base_fits CzeroNez x y imm hx hy hi = chosen_fits (y == 0) x 0 (2 ^ 64) hx (lit< tt)
-base_fits _ x y imm hx hy hi = lit< tt
+pub int_fits : (op : IntOp) (x y imm : ℕ) → x < 2 ^ 64 → y < 2 ^ 64 → imm < 2 ^ 64 → int_result op x y imm < 2 ^ 64
+int_fits Addi x y imm hx hy hi = wrap_fits _
+int_fits Slti x y imm hx hy hi = test_fits _
+int_fits Sltiu x y imm hx hy hi = test_fits _
+int_fits Xori x y imm hx hy hi = xor_lt 64 x imm hx hi
+int_fits Ori x y imm hx hy hi = or_lt 64 x imm hx hi
+int_fits Andi x y imm hx hy hi = and_fits x imm (2 ^ 64) hx
+int_fits Slli x y imm hx hy hi = wrap_fits _
+int_fits Srli x y imm hx hy hi = quotient_fits x _ (2 ^ 64) hx
+int_fits Srai x y imm hx hy hi = shifted_fits _ _ (signed64_fits x)
+int_fits Add x y imm hx hy hi = wrap_fits _
+int_fits Sub x y imm hx hy hi = wrap_fits _
+int_fits Sll x y imm hx hy hi = wrap_fits _
+int_fits Slt x y imm hx hy hi = test_fits _
+int_fits Sltu x y imm hx hy hi = test_fits _
+int_fits Xor x y imm hx hy hi = xor_lt 64 x y hx hy
+int_fits Srl x y imm hx hy hi = quotient_fits x _ (2 ^ 64) hx
+int_fits Sra x y imm hx hy hi = shifted_fits _ _ (signed64_fits x)
+int_fits Or x y imm hx hy hi = or_lt 64 x y hx hy
+int_fits And x y imm hx hy hi = and_fits x y (2 ^ 64) hx
+int_fits Addiw x y imm hx hy hi = extend_word_fits _
+int_fits Slliw x y imm hx hy hi = extend_word_fits _
+int_fits Srliw x y imm hx hy hi = extend_word_fits _
+int_fits Sraiw x y imm hx hy hi = shifted_fits _ _ (signed32_fits x)
+int_fits Addw x y imm hx hy hi = extend_word_fits _
+int_fits Subw x y imm hx hy hi = extend_word_fits _
+int_fits Sllw x y imm hx hy hi = extend_word_fits _
+int_fits Srlw x y imm hx hy hi = extend_word_fits _
+int_fits Sraw x y imm hx hy hi = shifted_fits _ _ (signed32_fits x)
+int_fits CzeroEqz x y imm hx hy hi = chosen_fits (y == 0) 0 x (2 ^ 64) (lit< tt) hx
+int_fits CzeroNez x y imm hx hy hi = chosen_fits (y == 0) x 0 (2 ^ 64) hx (lit< tt)
 
 pub mul_fits : (op : MulOp) (x y : ℕ) → x < 2 ^ 64 → y < 2 ^ 64 → mul_result op x y < 2 ^ 64
 mul_fits Mul x y hx hy = wrap_fits _
@@ -234,7 +233,7 @@ bit_fits Bset x y imm hx hy hi = or_lt 64 x _ hx (power_fits y)
 bit_fits Bseti x y imm hx hy hi = or_lt 64 x _ hx (power_fits imm)
 
 -- over all families
-pub row_fits : (op : MOp) (x y imm : ℕ) → x < 2 ^ 64 → y < 2 ^ 64 → imm < 2 ^ 64 → row_result op x y imm < 2 ^ 64
-row_fits (Base op) x y imm hx hy hi = base_fits op x y imm hx hy hi
+pub row_fits : (op : AluOp) (x y imm : ℕ) → x < 2 ^ 64 → y < 2 ^ 64 → imm < 2 ^ 64 → row_result op x y imm < 2 ^ 64
+row_fits (IntFamily op) x y imm hx hy hi = int_fits op x y imm hx hy hi
 row_fits (MulFamily op) x y imm hx hy hi = mul_fits op x y hx hy
 row_fits (Bit op) x y imm hx hy hi = bit_fits op x y imm hx hy hi

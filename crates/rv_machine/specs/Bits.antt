@@ -1,4 +1,4 @@
--- What the rows of Zba, Zbb and Zbs compute of rs1, rs2 and their number.
+-- "B", Bit Manipulation: what the operations of Zba, Zbb and Zbs compute of rs1, rs2 and their immediate.
 use Rattle.std.specs.Prelude.{ℕ, ◌+◌, ◌*◌, ◌%◌, ◌^◌, ◌==◌, if◌then◌else◌, min, max, map, bit_and, bit_or, bit_xor, count_ones}
 use Rattle.std.specs.Int.{bit_at, bit_not, leading_zeros, trailing_zeros, rotate_left, rotate_right, swap_bytes, from_le_bytes, to_le_bytes, cast_signed}
 use mir.Syntax.{w8, w16, w32, w64}

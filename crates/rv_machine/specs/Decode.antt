@@ -1,14 +1,13 @@
--- Decoding: a word's row, its registers and its number.
-use Rattle.std.specs.Prelude.{ℕ, ◌%◌, ◌/◌, ◌==◌, if◌then◌else◌, ◌&&◌, Option, Some, None}
+-- "RV32/64G Instruction Set Listings": decoding, from a word to its operation, its registers and its immediate.
+use Rattle.std.specs.Prelude.{ℕ, ◌==◌, if◌then◌else◌, ◌&&◌, Option, Some, None}
 use Rattle.std.specs.Option.{option_map}
 use Rattle.rv_base.specs.declared.flags.IsaFlags.{IsaFlags}
-use Rattle.rv_machine.specs.declared.fields.Fields.{Fields}
 use Rattle.rv_machine.specs.declared.decode.Decoded.{Decoded}
-use Rattle.rv_machine.specs.declared.ops.MOp.TheVariants.{Base, Bit}
-use Rattle.rv_machine.specs.declared.ops.BaseOp.TheVariants.{Lui, Auipc, Jal, Jalr, Ebreak, Addiw}
-use Rattle.rv_machine.specs.declared.ops.BitOp.TheVariants.{SlliUw, ZextH}
-use Rattle.rv_machine.specs.Layout.{fields_of, bare_form, r_form, i_form, shift_form, shift32_form, unary_form, b_form, u_form, j_form, fence_form}
-use Rattle.rv_machine.specs.Rows.{branch_row, imm_row, shift_row, shift32_row, unary_row, unary32_row, op_row, op32_row}
+use Rattle.rv_machine.specs.declared.ops.MOp.TheVariants.{Base, Alu}
+use Rattle.rv_machine.specs.declared.ops.BaseOp.TheVariants.{Lui, Auipc, Jal, Jalr, Fence, Ebreak}
+use Rattle.rv_machine.specs.Opcodes.{LUI, AUIPC, JAL, JALR, BRANCH, OP_IMM, OP_IMM_32, OP, OP_32, MISC_MEM, SYSTEM}
+use Rattle.rv_machine.specs.Layout.{bits, word_opcode, word_rd, word_funct3, word_rs1, word_funct6, word_funct7, word_funct12, bare_form, r_layout, i_layout, shift_layout, shift_32_layout, unary_layout, b_layout, u_layout, j_layout, fence_layout}
+use Rattle.rv_machine.specs.Tables.{branch_entry, imm_entry, imm_32_entry, shift_entry, unary_entry, long_shift_32_entry, shift_32_entry, unary_32_entry, op_entry, op_32_entry, unary_op_32_entry}
 
 -- the first that is there
 abbrev pub or_else : Option Decoded → Option Decoded → Option Decoded
@@ -17,60 +16,60 @@ or_else None e = e
 
 -- ---- by opcode
 
-abbrev pub decode_jalr : Fields → Option Decoded
-decode_jalr f = if f.funct3 == 0 then Some (i_form f (Base Jalr)) else None
+abbrev pub decode_jalr : ℕ → Option Decoded
+decode_jalr word = if word_funct3 word == 0 then Some (i_layout word (Base Jalr)) else None
 
-abbrev pub decode_branch : Fields → Option Decoded
-decode_branch f = option_map (b_form f) (branch_row f.funct3)
+abbrev pub decode_branch : ℕ → Option Decoded
+decode_branch word = option_map (λ op. b_layout word (Base op)) (branch_entry (word_funct3 word))
 
-abbrev pub decode_op_imm : Fields → Option Decoded
-decode_op_imm f =
-    or_else (option_map (i_form f) (imm_row f.funct3)) (or_else (option_map (shift_form f) (shift_row f.funct3 (f.funct7 / 2)))
-    (option_map (unary_form f) (unary_row f.funct3 f.funct7 f.rs2)))
+abbrev pub decode_op_imm : ℕ → Option Decoded
+decode_op_imm word =
+    or_else (option_map (λ op. i_layout word (Alu op)) (imm_entry (word_funct3 word)))
+    (or_else (option_map (λ op. shift_layout word (Alu op)) (shift_entry (word_funct6 word) (word_funct3 word)))
+    (option_map (λ op. unary_layout word (Alu op)) (unary_entry (word_funct12 word) (word_funct3 word))))
 
-abbrev pub decode_op_imm32 : Fields → Option Decoded
-decode_op_imm32 f =
-    if f.funct3 == 0 then Some (i_form f (Base Addiw)) else
-    if (f.funct3 == 1) && (f.funct7 / 2 == 0x02) then Some (shift_form f (Bit SlliUw)) else
-    or_else (option_map (shift32_form f) (shift32_row f.funct3 f.funct7)) (option_map (unary_form f) (unary32_row f.funct3 f.funct7 f.rs2))
+abbrev pub decode_op_imm_32 : ℕ → Option Decoded
+decode_op_imm_32 word =
+    or_else (option_map (λ op. i_layout word (Alu op)) (imm_32_entry (word_funct3 word)))
+    (or_else (option_map (λ op. shift_layout word (Alu op)) (long_shift_32_entry (word_funct6 word) (word_funct3 word)))
+    (or_else (option_map (λ op. shift_32_layout word (Alu op)) (shift_32_entry (word_funct7 word) (word_funct3 word)))
+    (option_map (λ op. unary_layout word (Alu op)) (unary_32_entry (word_funct12 word) (word_funct3 word)))))
 
-abbrev pub decode_op : Fields → Option Decoded
-decode_op f = option_map (r_form f) (op_row f.funct7 f.funct3)
+abbrev pub decode_op : ℕ → Option Decoded
+decode_op word = option_map (λ op. r_layout word (Alu op)) (op_entry (word_funct7 word) (word_funct3 word))
 
--- packw of rs2 x0 is zext.h
-abbrev pub decode_op32 : Fields → Option Decoded
-decode_op32 f =
-    if (f.funct7 == 0x04) && (f.funct3 == 4) && (f.rs2 == 0) then Some (unary_form f (Bit ZextH)) else
-    option_map (r_form f) (op32_row f.funct7 f.funct3)
+abbrev pub decode_op_32 : ℕ → Option Decoded
+decode_op_32 word =
+    or_else (option_map (λ op. r_layout word (Alu op)) (op_32_entry (word_funct7 word) (word_funct3 word)))
+    (option_map (λ op. unary_layout word (Alu op)) (unary_op_32_entry (word_funct12 word) (word_funct3 word)))
 
 -- fence, with rd, rs1 and fm 0
-abbrev pub decode_misc_mem : Fields → Option Decoded
-decode_misc_mem f = if (f.funct3 == 0) && (f.rd == 0) && (f.rs1 == 0) && (f.funct7 / 8 == 0) then Some (fence_form f) else None
-
--- ebreak is the only row, and all its fields are fixed
-abbrev pub decode_system : Fields → Option Decoded
-decode_system f =
-    if (f.funct3 == 0) && (f.rd == 0) && (f.rs1 == 0) && (f.rs2 == 1) && (f.funct7 == 0) then Some (bare_form (Base Ebreak)) else None
-
-abbrev pub decode_fields : Fields → Option Decoded
-decode_fields f =
-    if f.opcode == 0x37 then Some (u_form f (Base Lui)) else
-    if f.opcode == 0x17 then Some (u_form f (Base Auipc)) else
-    if f.opcode == 0x6f then Some (j_form f (Base Jal)) else
-    if f.opcode == 0x67 then decode_jalr f else
-    if f.opcode == 0x63 then decode_branch f else
-    if f.opcode == 0x13 then decode_op_imm f else
-    if f.opcode == 0x1b then decode_op_imm32 f else
-    if f.opcode == 0x33 then decode_op f else
-    if f.opcode == 0x3b then decode_op32 f else
-    if f.opcode == 0x0f then decode_misc_mem f else
-    if f.opcode == 0x73 then decode_system f else
+abbrev pub decode_misc_mem : ℕ → Option Decoded
+decode_misc_mem word =
+    if (word_funct3 word == 0) && (word_rd word == 0) && (word_rs1 word == 0) && (bits word 31 28 == 0) then Some (fence_layout word (Base Fence)) else
     None
 
--- by the two lowest bits: a word of 32 bits, or a compressed one, of which no row is known
-abbrev pub decode_word : Fields → Option Decoded
-decode_word f = if f.opcode % 4 == 3 then decode_fields f else None
+-- ebreak, all of whose fields are fixed
+abbrev pub decode_system : ℕ → Option Decoded
+decode_system word =
+    if (word_funct3 word == 0) && (word_rd word == 0) && (word_rs1 word == 0) && (word_funct12 word == 0x001) then Some (bare_form (Base Ebreak)) else
+    None
 
--- the row of a word
+abbrev pub by_opcode : ℕ → ℕ → Option Decoded
+by_opcode opcode word =
+    if opcode == LUI then Some (u_layout word (Base Lui)) else
+    if opcode == AUIPC then Some (u_layout word (Base Auipc)) else
+    if opcode == JAL then Some (j_layout word (Base Jal)) else
+    if opcode == JALR then decode_jalr word else
+    if opcode == BRANCH then decode_branch word else
+    if opcode == OP_IMM then decode_op_imm word else
+    if opcode == OP_IMM_32 then decode_op_imm_32 word else
+    if opcode == OP then decode_op word else
+    if opcode == OP_32 then decode_op_32 word else
+    if opcode == MISC_MEM then decode_misc_mem word else
+    if opcode == SYSTEM then decode_system word else
+    None
+
+-- the operation of a word, whatever the flags; a word whose two lowest bits aren't 11 is a compressed one, and none of these opcodes
 unfoldable pub decode : IsaFlags → ℕ → Option Decoded
-decode flags word = decode_word (fields_of word)
+decode flags word = by_opcode (word_opcode word) word

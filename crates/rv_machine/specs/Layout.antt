@@ -1,96 +1,131 @@
--- The manual's layouts of a word of 32 bits: its fields, its numbers, and the row that they make.
-use Rattle.std.specs.Prelude.{ℕ, ◌+◌, ◌*◌, ◌/◌, ◌%◌, ◌^◌, ◌<◌, ℤ, pos, false}
-use Rattle.rv_machine.specs.declared.fields.Fields.{Fields}
+-- "2.2 Base Instruction Formats" and "2.3 Immediate Encoding Variants": the fields of a word of 32 bits, its immediates,
+-- and the operation that each layout holds.
+use Rattle.std.specs.Prelude.{ℕ, ◌+◌, ◌-◌, ◌*◌, ◌/◌, ◌%◌, ◌^◌, ◌<◌, ℤ, pos, false}
 use Rattle.rv_machine.specs.declared.decode.Decoded.{Decoded}
 use Rattle.rv_machine.specs.declared.ops.MOp.{MOp}
-use Rattle.rv_machine.specs.declared.ops.MOp.TheVariants.{Base}
-use Rattle.rv_machine.specs.declared.ops.BaseOp.TheVariants.{Fence}
 use Rattle.rv_machine.specs.State.{signed}
 
--- layout R: opcode 6:0, rd 11:7, funct3 14:12, rs1 19:15, rs2 24:20, funct7 31:25
-abbrev pub fields_of : ℕ → Fields
-fields_of word = record { opcode = word % 2 ^ 7; rd = word / 2 ^ 7 % 2 ^ 5; funct3 = word / 2 ^ 12 % 2 ^ 3; rs1 = word / 2 ^ 15 % 2 ^ 5; rs2 = word / 2 ^ 20 % 2 ^ 5; funct7 = word / 2 ^ 25 }
+-- bits hi to lo of a word
+abbrev pub bits : ℕ → ℕ → ℕ → ℕ
+bits word hi lo = word / 2 ^ lo % 2 ^ (hi - lo + 1)
 
--- the word of these fields
-abbrev pub word_of : Fields → ℕ
-word_of f = f.opcode + f.rd * 2 ^ 7 + f.funct3 * 2 ^ 12 + f.rs1 * 2 ^ 15 + f.rs2 * 2 ^ 20 + f.funct7 * 2 ^ 25
+-- ---- fields
 
--- each field has its width
-pub record IsFields (f : Fields) : Type 0 where
-  pub opcode_fits : f.opcode < 2 ^ 7
-  pub rd_fits : f.rd < 2 ^ 5
-  pub funct3_fits : f.funct3 < 2 ^ 3
-  pub rs1_fits : f.rs1 < 2 ^ 5
-  pub rs2_fits : f.rs2 < 2 ^ 5
-  pub funct7_fits : f.funct7 < 2 ^ 7
+abbrev pub word_opcode : ℕ → ℕ
+word_opcode word = bits word 6 0
 
--- ---- the numbers of the layouts
+abbrev pub word_rd : ℕ → ℕ
+word_rd word = bits word 11 7
 
--- layout I: imm[11:5] at 31:25, [4:0] at 24:20
-abbrev pub i_bits : Fields → ℕ
-i_bits f = f.funct7 * 2 ^ 5 + f.rs2
+abbrev pub word_funct3 : ℕ → ℕ
+word_funct3 word = bits word 14 12
 
-abbrev pub i_number : Fields → ℤ
-i_number f = signed (2 ^ 11) (i_bits f)
+abbrev pub word_rs1 : ℕ → ℕ
+word_rs1 word = bits word 19 15
 
--- layout B: imm[12] at 31, [11] at 7, [10:5] at 30:25, [4:1] at 11:8
-abbrev pub b_bits : Fields → ℕ
-b_bits f = f.funct7 / 2 ^ 6 * 2 ^ 12 + f.rd % 2 * 2 ^ 11 + (f.funct7 % 2 ^ 6 * 2 ^ 5 + f.rd / 2 * 2)
+abbrev pub word_rs2 : ℕ → ℕ
+word_rs2 word = bits word 24 20
 
-abbrev pub b_number : Fields → ℤ
-b_number f = signed (2 ^ 12) (b_bits f)
+abbrev pub word_funct7 : ℕ → ℕ
+word_funct7 word = bits word 31 25
 
--- layout U: imm[19:0] at 31:12
-abbrev pub u_bits : Fields → ℕ
-u_bits f = f.funct7 * 2 ^ 13 + f.rs2 * 2 ^ 8 + (f.rs1 * 2 ^ 3 + f.funct3)
+-- of shifts by six bits, over the shift amount at 25:20
+abbrev pub word_funct6 : ℕ → ℕ
+word_funct6 word = bits word 31 26
 
-abbrev pub u_number : Fields → ℤ
-u_number f = signed (2 ^ 19) (u_bits f)
+-- of operations of one source
+abbrev pub word_funct12 : ℕ → ℕ
+word_funct12 word = bits word 31 20
 
--- layout J: imm[20] at 31, [19:12] at 19:12, [11] at 20, [10:1] at 30:21
-abbrev pub j_bits : Fields → ℕ
-j_bits f = f.funct7 / 2 ^ 6 * 2 ^ 20 + f.rs1 * 2 ^ 15 + f.funct3 * 2 ^ 12 + (f.rs2 % 2 * 2 ^ 11 + f.funct7 % 2 ^ 6 * 2 ^ 5 + f.rs2 / 2 * 2)
+-- ---- immediates
 
-abbrev pub j_number : Fields → ℤ
-j_number f = signed (2 ^ 20) (j_bits f)
+--  31           20 19  15 14    12 11  7 6      0
+--  |  imm[11:0]   |  rs1 | funct3 |  rd | opcode |   I
+abbrev pub i_bits : ℕ → ℕ
+i_bits word = bits word 31 20
 
--- ---- a row with what its layout holds
+abbrev pub i_imm : ℕ → ℤ
+i_imm word = signed (2 ^ 11) (i_bits word)
 
+--  31        25 24  20 19  15 14    12 11       7 6      0
+--  | imm[11:5] |  rs2 |  rs1 | funct3 | imm[4:0] | opcode |   S
+abbrev pub s_bits : ℕ → ℕ
+s_bits word = bits word 31 25 * 2 ^ 5 + bits word 11 7
+
+--  31      31 30        25 24  20 19  15 14    12 11       8 7       7 6      0
+--  | imm[12] | imm[10:5]  |  rs2 |  rs1 | funct3 | imm[4:1] | imm[11] | opcode |   B
+abbrev pub b_bits : ℕ → ℕ
+b_bits word = bits word 31 31 * 2 ^ 12 + bits word 7 7 * 2 ^ 11 + bits word 30 25 * 2 ^ 5 + bits word 11 8 * 2
+
+abbrev pub b_imm : ℕ → ℤ
+b_imm word = signed (2 ^ 12) (b_bits word)
+
+--  31                              12 11  7 6      0
+--  |            imm[31:12]           |  rd | opcode |   U
+-- The immediate is the number that stands there, without the twelve zeros.
+abbrev pub u_bits : ℕ → ℕ
+u_bits word = bits word 31 12
+
+abbrev pub u_imm : ℕ → ℤ
+u_imm word = signed (2 ^ 19) (u_bits word)
+
+--  31      31 30        21 20       20 19        12 11  7 6      0
+--  | imm[20] | imm[10:1]  |  imm[11]  | imm[19:12] |  rd | opcode |   J
+abbrev pub j_bits : ℕ → ℕ
+j_bits word = bits word 31 31 * 2 ^ 20 + bits word 19 12 * 2 ^ 12 + bits word 20 20 * 2 ^ 11 + bits word 30 21 * 2
+
+abbrev pub j_imm : ℕ → ℤ
+j_imm word = signed (2 ^ 20) (j_bits word)
+
+-- ---- operations with their registers and immediates
+
+-- an operation of 32 bits; what it doesn't have is 0
+abbrev pub decoded : MOp → ℕ → ℕ → ℕ → ℤ → Decoded
+decoded op rd rs1 rs2 imm = record { op = op; rd = rd; rs1 = rs1; rs2 = rs2; rs3 = 0; imm = imm; rm = 0; vm = false; len = 4 }
+
+-- all fields fixed
 abbrev pub bare_form : MOp → Decoded
-bare_form op = record { op = op; rd = 0; rs1 = 0; rs2 = 0; rs3 = 0; imm = pos 0; rm = 0; vm = false; len = 4 }
+bare_form op = decoded op 0 0 0 (pos 0)
 
-abbrev pub r_form : Fields → MOp → Decoded
-r_form f op = record { op = op; rd = f.rd; rs1 = f.rs1; rs2 = f.rs2; rs3 = 0; imm = pos 0; rm = 0; vm = false; len = 4 }
+--  31     25 24  20 19  15 14    12 11  7 6      0
+--  | funct7 |  rs2 |  rs1 | funct3 |  rd | opcode |   R
+abbrev pub r_layout : ℕ → MOp → Decoded
+r_layout word op = decoded op (word_rd word) (word_rs1 word) (word_rs2 word) (pos 0)
 
-abbrev pub i_form : Fields → MOp → Decoded
-i_form f op = record { op = op; rd = f.rd; rs1 = f.rs1; rs2 = 0; rs3 = 0; imm = i_number f; rm = 0; vm = false; len = 4 }
+abbrev pub i_layout : ℕ → MOp → Decoded
+i_layout word op = decoded op (word_rd word) (word_rs1 word) 0 (i_imm word)
 
--- with an amount of six bits, at 25:20
-abbrev pub shift_form : Fields → MOp → Decoded
-shift_form f op = record { op = op; rd = f.rd; rs1 = f.rs1; rs2 = 0; rs3 = 0; imm = pos (f.funct7 % 2 * 32 + f.rs2); rm = 0; vm = false; len = 4 }
+--  31     26 25      20 19  15 14    12 11  7 6      0
+--  | funct6 |   shamt  |  rs1 | funct3 |  rd | opcode |   I, a shift by up to 63
+abbrev pub shift_layout : ℕ → MOp → Decoded
+shift_layout word op = decoded op (word_rd word) (word_rs1 word) 0 (pos (bits word 25 20))
 
--- with an amount of five bits, at 24:20
-abbrev pub shift32_form : Fields → MOp → Decoded
-shift32_form f op = record { op = op; rd = f.rd; rs1 = f.rs1; rs2 = 0; rs3 = 0; imm = pos f.rs2; rm = 0; vm = false; len = 4 }
+--  31      25 24     20 19  15 14    12 11  7 6      0
+--  | funct7  |  shamt  |  rs1 | funct3 |  rd | opcode |   I, a shift by up to 31
+abbrev pub shift_32_layout : ℕ → MOp → Decoded
+shift_32_layout word op = decoded op (word_rd word) (word_rs1 word) 0 (pos (bits word 24 20))
 
--- with one source, and no number
-abbrev pub unary_form : Fields → MOp → Decoded
-unary_form f op = record { op = op; rd = f.rd; rs1 = f.rs1; rs2 = 0; rs3 = 0; imm = pos 0; rm = 0; vm = false; len = 4 }
+--  31           20 19  15 14    12 11  7 6      0
+--  |   funct12    |  rs1 | funct3 |  rd | opcode |   I, of one source
+abbrev pub unary_layout : ℕ → MOp → Decoded
+unary_layout word op = decoded op (word_rd word) (word_rs1 word) 0 (pos 0)
 
-abbrev pub b_form : Fields → MOp → Decoded
-b_form f op = record { op = op; rd = 0; rs1 = f.rs1; rs2 = f.rs2; rs3 = 0; imm = b_number f; rm = 0; vm = false; len = 4 }
+abbrev pub b_layout : ℕ → MOp → Decoded
+b_layout word op = decoded op 0 (word_rs1 word) (word_rs2 word) (b_imm word)
 
-abbrev pub u_form : Fields → MOp → Decoded
-u_form f op = record { op = op; rd = f.rd; rs1 = 0; rs2 = 0; rs3 = 0; imm = u_number f; rm = 0; vm = false; len = 4 }
+abbrev pub u_layout : ℕ → MOp → Decoded
+u_layout word op = decoded op (word_rd word) 0 0 (u_imm word)
 
-abbrev pub j_form : Fields → MOp → Decoded
-j_form f op = record { op = op; rd = f.rd; rs1 = 0; rs2 = 0; rs3 = 0; imm = j_number f; rm = 0; vm = false; len = 4 }
+abbrev pub j_layout : ℕ → MOp → Decoded
+j_layout word op = decoded op (word_rd word) 0 0 (j_imm word)
 
--- pred at 27:24, succ at 23:20: 16 * pred + succ
-abbrev pub fence_form : Fields → Decoded
-fence_form f = record { op = Base Fence; rd = 0; rs1 = 0; rs2 = 0; rs3 = 0; imm = pos (f.funct7 * 32 + f.rs2); rm = 0; vm = false; len = 4 }
+--  31  28 27  24 23  20 19  15 14    12 11  7 6      0
+--  |  fm | pred | succ |  rs1 | funct3 |  rd | opcode |   fence
+-- The immediate is 16 * pred + succ.
+abbrev pub fence_layout : ℕ → MOp → Decoded
+fence_layout word op = decoded op 0 0 0 (pos (bits word 27 20))
 
--- the registers of a row are those of a file of 32
+-- the registers of an operation are those of a file of 32
 pub record HasFileRegisters (d : Decoded) : Type 0 where
   pub rd : d.rd < 32
   pub rs1 : d.rs1 < 32

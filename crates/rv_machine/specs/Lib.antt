@@ -1,9 +1,10 @@
 pub mod State
 pub mod Layout
-pub mod Rows
+pub mod Opcodes
+pub mod Tables
 pub mod Decode
 pub mod Arithmetic
-pub mod Base
+pub mod Int
 pub mod MulDiv
 pub mod Bits
 pub mod Effects

@@ -1,4 +1,5 @@
--- What the rows of M compute of rs1 and rs2. Quotients are rounded to 0; one that is too large keeps its low bits.
+-- "M", Integer Multiplication and Division: what the operations compute of rs1 and rs2. Quotients are rounded to 0; one that
+-- is too large keeps its low bits.
 use Rattle.std.specs.Prelude.{ℕ, ◌-◌, ◌*◌, ◌/◌, ◌%◌, ◌^◌, ◌==◌, if◌then◌else◌, pos, ◌*ℤ◌, int_rem}
 use Rattle.std.specs.Int.{int_wrapping_div}
 use mir.Syntax.{w32, w64}

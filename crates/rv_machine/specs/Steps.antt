@@ -7,7 +7,7 @@ use Rattle.rv_machine.specs.declared.machine.Step.{Step}
 use Rattle.rv_machine.specs.declared.machine.Step.TheVariants.{Stepped, Stopped}
 use Rattle.rv_machine.specs.State.{Memory, State, byte, store, wrap, at, set_reg}
 use Rattle.rv_machine.specs.Decode.{decode}
-use Rattle.rv_machine.specs.Effects.{act, has_no_step}
+use Rattle.rv_machine.specs.Effects.{act}
 
 -- four bytes, the lowest first
 abbrev pub fetch : Memory → ℕ → ℕ
@@ -15,9 +15,9 @@ fetch mem pc = byte mem pc + byte mem (wrap (pc + 1)) * 2 ^ 8 + byte mem (wrap (
 
 abbrev pub step_on : Option Decoded → State → Option State
 step_on None s = None
-step_on (Some d) s = if has_no_step d.op then None else Some (act d s)
+step_on (Some d) s = act d s
 
--- one step, where the pc is even and the word there is a row that has one
+-- one step, where the pc is even and the word there is an operation that has one
 unfoldable pub istep : IsaFlags → State → Option State
 istep flags s = if nat_eq (s.pc % 2) 0 then step_on (decode flags (fetch s.values.mem s.pc)) s else None
 
@@ -55,10 +55,14 @@ with_memory m mem = with_state m (at m.state.pc (record { regs = m.state.values.
 abbrev pub with_bytes : Machine → ℕ → List ℕ → Machine
 with_bytes m at bytes = with_memory m (store m.state.values.mem at bytes)
 
+-- what is answered where the next state is known: that the machine is in it, or that there is none and nothing changed
+abbrev pub Goes : Step → Option State → Machine → Machine → Type 0
+Goes Stepped next m n = (next ≡ Some n.state) × (n.flags ≡ m.flags)
+Goes Stopped next m n = (next ≡ None) × (n ≡ m)
+
 -- what a step answers
 abbrev pub Steps : Step → Machine → Machine → Type 0
-Steps Stepped m n = (istep m.flags m.state ≡ Some n.state) × (n.flags ≡ m.flags)
-Steps Stopped m n = (istep m.flags m.state ≡ None) × (n ≡ m)
+Steps step m n = Goes step (istep m.flags m.state) m n
 
 -- so many steps of a machine
 pub record Ran (k : ℕ) (m n : Machine) : Type 0 where

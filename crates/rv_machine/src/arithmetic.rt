@@ -1,14 +1,14 @@
-//! Registers of 64 bits, and their low words of 32, as numbers.
+//! Registers of 64 bits, and their low words of 32, as integers: "4.2 Integer Computational Instructions" of RV64I.
 
 ghost use Rattle.std.specs.Prelude.{◌≡◌, ◌<◌, ◌%◌};
 ghost use Rattle.rv_machine.specs.State.{low64};
 ghost use Rattle.rv_machine.specs.Arithmetic.{signed_below, low_word, signed32, extend_word, high64};
 
-/// Whether x is below y where both are read as signed numbers.
+/// Returns whether x is below y where both are read as signed integers.
 pub fn is_signed_below(x: u64, y: u64) -> bool
     ensures { result ≡ signed_below x y }
 {
-    x.wrapping_add(1 << 63) < y.wrapping_add(1 << 63)
+    x.cast_signed() < y.cast_signed()
 }
 
 /// The low 32 bits.
@@ -46,7 +46,7 @@ pub fn high64(z: i128) -> u64
     (z.cast_unsigned() >> 64) as u64
 }
 
-/// How far a row of 64 bits shifts: the low six bits.
+/// The shift amount of an operation of 64 bits: the low six bits.
 pub fn amount64(n: u64) -> u32
     ensures value { result ≡ n % 64 }
     ensures below { result < 64 }
@@ -54,7 +54,7 @@ pub fn amount64(n: u64) -> u32
     (n % 64) as u32
 }
 
-/// How far a row of 32 bits shifts: the low five bits.
+/// The shift amount of an operation of 32 bits: the low five bits.
 pub fn amount32(n: u64) -> u32
     ensures value { result ≡ n % 32 }
     ensures below { result < 32 }

@@ -1,4 +1,4 @@
-//! What the rows of Zba, Zbb and Zbs compute.
+//! "B", Bit Manipulation: what the operations of Zba, Zbb and Zbs compute.
 
 ghost use Rattle.std.specs.Prelude.{◌≡◌, ◌%◌, ◌^◌};
 ghost use Rattle.rv_machine.specs.Bits.{bit_result, spread};
@@ -6,7 +6,7 @@ ghost use Rattle.rv_machine.specs.Bits.{bit_result, spread};
 use crate::arithmetic::{amount32, amount64, extend_word, is_signed_below, low_word};
 use crate::ops::BitOp;
 
-/// The number of a row, of rs1, rs2 and the row's number.
+/// What an operation computes of rs1, rs2 and its immediate.
 pub fn bit_result(op: BitOp, x: u64, y: u64, imm: u64) -> u64
     ensures { result ≡ bit_result op x y imm }
 {

@@ -1,171 +1,162 @@
-//! The row of a word, with its registers and its number.
+//! The operation of a word, with its registers and its immediate: "RV32/64G Instruction Set Listings".
 
-ghost use Rattle.std.specs.Prelude.{◌≡◌, ◌<◌, IfSome};
-ghost use Rattle.rv_machine.specs.Layout.{IsFields, HasFileRegisters};
-ghost use Rattle.rv_machine.specs.Decode.{decode_jalr, decode_branch, decode_op_imm, decode_op_imm32, decode_op, decode_op32, decode_misc_mem, decode_system, decode_fields, decode};
+ghost use Rattle.std.specs.Prelude.{◌≡◌, IfSome};
+ghost use Rattle.rv_machine.specs.Layout.{HasFileRegisters};
+ghost use Rattle.rv_machine.specs.Decode.{decode_jalr, decode_branch, decode_op_imm, decode_op_imm_32, decode_op, decode_op_32, decode_misc_mem, decode_system, by_opcode, decode};
 
-use crate::fields::{Fields, split};
-use crate::ops::{BaseOp, BitOp, MOp};
-use crate::{layouts, rows};
+use crate::fields::{funct3, funct6, funct7, funct12, opcode, rd, rs1};
+use crate::opcodes::{
+    AUIPC, BRANCH, JAL, JALR, LUI, MISC_MEM, OP, OP_32, OP_IMM, OP_IMM_32, SYSTEM,
+};
+use crate::ops::{BaseOp, MOp};
+use crate::{layouts, tables};
 use rv_base::flags::IsaFlags;
 
-/// A row with its registers and its number. A field that a row doesn't have is 0, or false.
+/// An operation with its registers and its immediate. A field that an operation doesn't have is 0, or false.
 #[derive(Clone, Copy, Debug, PartialEq, Eq)]
 pub struct Decoded {
     pub op: MOp,
+    /// The numbers of the registers, below 32.
     pub rd: u8,
     pub rs1: u8,
     pub rs2: u8,
     pub rs3: u8,
-    /// Of `lui` and `auipc` the number of twenty bits, of branches and jumps the distance in bytes.
+    /// Of `lui` and `auipc` the number that stands in the word's upper twenty bits, of branches and jumps the distance
+    /// in bytes, of shifts the shift amount in bits.
     pub imm: i64,
     /// The rounding mode.
     pub rm: u8,
-    /// Whether a vector row has no mask.
+    /// Whether a vector operation has no mask.
     pub vm: bool,
     /// The word's length in bytes.
     pub len: u8,
 }
 
-fn jalr(f: Fields) -> Option<Decoded>
-    requires { IsFields f }
-    ensures value { result ≡ decode_jalr f }
-    ensures registers { IfSome result HasFileRegisters }
-{
-    match f.funct3 {
-        0 => Some(layouts::immediate(f, MOp::Base(BaseOp::Jalr))),
-        _ => None,
-    }
-}
-
-fn branch(f: Fields) -> Option<Decoded>
-    requires { IsFields f }
-    ensures value { result ≡ decode_branch f }
-    ensures registers { IfSome result HasFileRegisters }
-{
-    match rows::of_branch(f.funct3) {
-        Some(op) => Some(layouts::branch(f, op)),
-        None => None,
-    }
-}
-
-fn op_imm(f: Fields) -> Option<Decoded>
-    requires { IsFields f }
-    ensures value { result ≡ decode_op_imm f }
-    ensures registers { IfSome result HasFileRegisters }
-{
-    if let Some(op) = rows::of_imm(f.funct3) {
-        return Some(layouts::immediate(f, op));
-    }
-    if let Some(op) = rows::of_shift(f.funct3, f.funct7 / 2) {
-        return Some(layouts::shift(f, op));
-    }
-    match rows::of_unary(f.funct3, f.funct7, f.rs2) {
-        Some(op) => Some(layouts::unary(f, op)),
-        None => None,
-    }
-}
-
-fn op_imm32(f: Fields) -> Option<Decoded>
-    requires { IsFields f }
-    ensures value { result ≡ decode_op_imm32 f }
-    ensures registers { IfSome result HasFileRegisters }
-{
-    if f.funct3 == 0 {
-        return Some(layouts::immediate(f, MOp::Base(BaseOp::Addiw)));
-    }
-    if f.funct3 == 1 && f.funct7 / 2 == 0x02 {
-        return Some(layouts::shift(f, MOp::Bit(BitOp::SlliUw)));
-    }
-    if let Some(op) = rows::of_shift32(f.funct3, f.funct7) {
-        return Some(layouts::shift32(f, op));
-    }
-    match rows::of_unary32(f.funct3, f.funct7, f.rs2) {
-        Some(op) => Some(layouts::unary(f, op)),
-        None => None,
-    }
-}
-
-fn op(f: Fields) -> Option<Decoded>
-    requires { IsFields f }
-    ensures value { result ≡ decode_op f }
-    ensures registers { IfSome result HasFileRegisters }
-{
-    match rows::of_op(f.funct7, f.funct3) {
-        Some(op) => Some(layouts::register(f, op)),
-        None => None,
-    }
-}
-
-fn op32(f: Fields) -> Option<Decoded>
-    requires { IsFields f }
-    ensures value { result ≡ decode_op32 f }
-    ensures registers { IfSome result HasFileRegisters }
-{
-    if f.funct7 == 0x04 && f.funct3 == 4 && f.rs2 == 0 {
-        return Some(layouts::unary(f, MOp::Bit(BitOp::ZextH)));
-    }
-    match rows::of_op32(f.funct7, f.funct3) {
-        Some(op) => Some(layouts::register(f, op)),
-        None => None,
-    }
-}
-
-fn misc_mem(f: Fields) -> Option<Decoded>
-    requires { IsFields f }
-    ensures value { result ≡ decode_misc_mem f }
-    ensures registers { IfSome result HasFileRegisters }
-{
-    if f.funct3 == 0 && f.rd == 0 && f.rs1 == 0 && f.funct7 / 8 == 0 {
-        Some(layouts::fence(f))
-    } else {
-        None
-    }
-}
-
-fn system(f: Fields) -> Option<Decoded>
-    requires { IsFields f }
-    ensures value { result ≡ decode_system f }
-    ensures registers { IfSome result HasFileRegisters }
-{
-    if f.funct3 == 0 && f.rd == 0 && f.rs1 == 0 && f.rs2 == 1 && f.funct7 == 0 {
-        Some(layouts::bare(MOp::Base(BaseOp::Ebreak)))
-    } else {
-        None
-    }
-}
-
-fn by_opcode(f: Fields) -> Option<Decoded>
-    requires { IsFields f }
-    ensures value { result ≡ decode_fields f }
-    ensures registers { IfSome result HasFileRegisters }
-{
-    match f.opcode {
-        0x37 => Some(layouts::upper(f, MOp::Base(BaseOp::Lui))),
-        0x17 => Some(layouts::upper(f, MOp::Base(BaseOp::Auipc))),
-        0x6f => Some(layouts::jump(f, MOp::Base(BaseOp::Jal))),
-        0x67 => jalr(f),
-        0x63 => branch(f),
-        0x13 => op_imm(f),
-        0x1b => op_imm32(f),
-        0x33 => op(f),
-        0x3b => op32(f),
-        0x0f => misc_mem(f),
-        0x73 => system(f),
-        _ => None,
-    }
-}
-
-/// The row of a word, where it has one. A word whose two lowest bits aren't 11 is a compressed one.
+/// The operation of a word, where it has one. A word whose two lowest bits aren't 11 is a compressed one.
 #[tactic(auto, unfolding(crate::specs::Decode::decode))]
 pub fn decode(flags: IsaFlags, word: u32) -> Option<Decoded>
     ensures value { result ≡ decode flags word }
     ensures registers { IfSome result HasFileRegisters }
 {
     let _ = flags;
-    let fields = split(word);
-    if fields.opcode % 4 == 3 {
-        by_opcode(fields)
+    by_opcode(opcode(word), word)
+}
+
+fn by_opcode(opcode: u32, word: u32) -> Option<Decoded>
+    ensures value { result ≡ by_opcode opcode word }
+    ensures registers { IfSome result HasFileRegisters }
+{
+    match opcode {
+        LUI => Some(layouts::upper(word, MOp::Base(BaseOp::Lui))),
+        AUIPC => Some(layouts::upper(word, MOp::Base(BaseOp::Auipc))),
+        JAL => Some(layouts::jump(word, MOp::Base(BaseOp::Jal))),
+        JALR => jalr(word),
+        BRANCH => branch(word),
+        OP_IMM => op_imm(word),
+        OP_IMM_32 => op_imm_32(word),
+        OP => op(word),
+        OP_32 => op_32(word),
+        MISC_MEM => misc_mem(word),
+        SYSTEM => system(word),
+        _ => None,
+    }
+}
+
+fn jalr(word: u32) -> Option<Decoded>
+    ensures value { result ≡ decode_jalr word }
+    ensures registers { IfSome result HasFileRegisters }
+{
+    match funct3(word) {
+        0 => Some(layouts::immediate(word, MOp::Base(BaseOp::Jalr))),
+        _ => None,
+    }
+}
+
+fn branch(word: u32) -> Option<Decoded>
+    ensures value { result ≡ decode_branch word }
+    ensures registers { IfSome result HasFileRegisters }
+{
+    match tables::branch(funct3(word)) {
+        Some(op) => Some(layouts::branch(word, MOp::Base(op))),
+        None => None,
+    }
+}
+
+fn op_imm(word: u32) -> Option<Decoded>
+    ensures value { result ≡ decode_op_imm word }
+    ensures registers { IfSome result HasFileRegisters }
+{
+    if let Some(op) = tables::imm(funct3(word)) {
+        return Some(layouts::immediate(word, MOp::Alu(op)));
+    }
+    if let Some(op) = tables::shift(funct6(word), funct3(word)) {
+        return Some(layouts::shift(word, MOp::Alu(op)));
+    }
+    match tables::unary(funct12(word), funct3(word)) {
+        Some(op) => Some(layouts::unary(word, MOp::Alu(op))),
+        None => None,
+    }
+}
+
+fn op_imm_32(word: u32) -> Option<Decoded>
+    ensures value { result ≡ decode_op_imm_32 word }
+    ensures registers { IfSome result HasFileRegisters }
+{
+    if let Some(op) = tables::imm_32(funct3(word)) {
+        return Some(layouts::immediate(word, MOp::Alu(op)));
+    }
+    if let Some(op) = tables::long_shift_32(funct6(word), funct3(word)) {
+        return Some(layouts::shift(word, MOp::Alu(op)));
+    }
+    if let Some(op) = tables::shift_32(funct7(word), funct3(word)) {
+        return Some(layouts::shift_32(word, MOp::Alu(op)));
+    }
+    match tables::unary_32(funct12(word), funct3(word)) {
+        Some(op) => Some(layouts::unary(word, MOp::Alu(op))),
+        None => None,
+    }
+}
+
+fn op(word: u32) -> Option<Decoded>
+    ensures value { result ≡ decode_op word }
+    ensures registers { IfSome result HasFileRegisters }
+{
+    match tables::op(funct7(word), funct3(word)) {
+        Some(op) => Some(layouts::register(word, MOp::Alu(op))),
+        None => None,
+    }
+}
+
+fn op_32(word: u32) -> Option<Decoded>
+    ensures value { result ≡ decode_op_32 word }
+    ensures registers { IfSome result HasFileRegisters }
+{
+    if let Some(op) = tables::op_32(funct7(word), funct3(word)) {
+        return Some(layouts::register(word, MOp::Alu(op)));
+    }
+    match tables::unary_op_32(funct12(word), funct3(word)) {
+        Some(op) => Some(layouts::unary(word, MOp::Alu(op))),
+        None => None,
+    }
+}
+
+fn misc_mem(word: u32) -> Option<Decoded>
+    ensures value { result ≡ decode_misc_mem word }
+    ensures registers { IfSome result HasFileRegisters }
+{
+    if funct3(word) == 0 && rd(word) == 0 && rs1(word) == 0 && word >> 28 == 0 {
+        Some(layouts::fence(word, MOp::Base(BaseOp::Fence)))
+    } else {
+        None
+    }
+}
+
+fn system(word: u32) -> Option<Decoded>
+    ensures value { result ≡ decode_system word }
+    ensures registers { IfSome result HasFileRegisters }
+{
+    if funct3(word) == 0 && rd(word) == 0 && rs1(word) == 0 && funct12(word) == 0x001 {
+        Some(layouts::bare(MOp::Base(BaseOp::Ebreak)))
     } else {
         None
     }

@@ -1,33 +1,66 @@
-//! The fields of a word of 32 bits, as the manual's layout R parts it.
+//! The fields of a word of 32 bits: "2.2 Base Instruction Formats".
 
 ghost use Rattle.std.specs.Prelude.{◌≡◌, ◌<◌, ◌*◌};
 ghost use Rattle.rv_machine.specs.State.{signed};
-ghost use Rattle.rv_machine.specs.Layout.{fields_of, IsFields};
+ghost use Rattle.rv_machine.specs.Layout.{word_opcode, word_rd, word_funct3, word_rs1, word_rs2, word_funct6, word_funct7, word_funct12};
 
-/// The six fields of layout R.
-#[derive(Clone, Copy, Debug, PartialEq, Eq)]
-pub struct Fields {
-    pub opcode: u8,
-    pub rd: u8,
-    pub funct3: u8,
-    pub rs1: u8,
-    pub rs2: u8,
-    pub funct7: u8,
+/// Bits 6:0.
+pub fn opcode(word: u32) -> u32
+    ensures { result ≡ word_opcode word }
+{
+    word & 0x7f
 }
 
-/// The fields of a word.
-pub fn split(word: u32) -> Fields
-    ensures value { result ≡ fields_of word }
-    ensures widths { IsFields result }
+/// Bits 11:7.
+pub fn rd(word: u32) -> u8
+    ensures value { result ≡ word_rd word }
+    ensures width { result < 32 }
 {
-    Fields {
-        opcode: (word & 0x7f) as u8,
-        rd: (word >> 7 & 0x1f) as u8,
-        funct3: (word >> 12 & 7) as u8,
-        rs1: (word >> 15 & 0x1f) as u8,
-        rs2: (word >> 20 & 0x1f) as u8,
-        funct7: (word >> 25) as u8,
-    }
+    (word >> 7 & 0x1f) as u8
+}
+
+/// Bits 14:12.
+pub fn funct3(word: u32) -> u8
+    ensures { result ≡ word_funct3 word }
+{
+    (word >> 12 & 7) as u8
+}
+
+/// Bits 19:15.
+pub fn rs1(word: u32) -> u8
+    ensures value { result ≡ word_rs1 word }
+    ensures width { result < 32 }
+{
+    (word >> 15 & 0x1f) as u8
+}
+
+/// Bits 24:20.
+pub fn rs2(word: u32) -> u8
+    ensures value { result ≡ word_rs2 word }
+    ensures width { result < 32 }
+{
+    (word >> 20 & 0x1f) as u8
+}
+
+/// Bits 31:26.
+pub fn funct6(word: u32) -> u8
+    ensures { result ≡ word_funct6 word }
+{
+    (word >> 26) as u8
+}
+
+/// Bits 31:25.
+pub fn funct7(word: u32) -> u8
+    ensures { result ≡ word_funct7 word }
+{
+    (word >> 25) as u8
+}
+
+/// Bits 31:20.
+pub fn funct12(word: u32) -> u16
+    ensures { result ≡ word_funct12 word }
+{
+    (word >> 20) as u16
 }
 
 /// A number below twice `half`, read as a signed one.

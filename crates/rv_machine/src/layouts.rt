@@ -1,51 +1,60 @@
-//! A row with the registers and the number that its layout holds.
+//! An operation with the registers and the immediate that its layout holds: "2.3 Immediate Encoding Variants". The
+//! layouts are drawn beside their definitions, in specs/Layout.antt.
 
-ghost use Rattle.std.specs.Prelude.{◌≡◌, pos, false};
-ghost use Rattle.rv_machine.specs.Layout.{IsFields, HasFileRegisters, i_number, b_number, u_number, j_number, bare_form, r_form, i_form, shift_form, shift32_form, unary_form, b_form, u_form, j_form, fence_form};
+ghost use Rattle.std.specs.Prelude.{◌≡◌};
+ghost use Rattle.rv_machine.specs.Layout.{HasFileRegisters, i_imm, b_bits, b_imm, u_imm, j_bits, j_imm, bare_form, r_layout, i_layout, shift_layout, shift_32_layout, unary_layout, b_layout, u_layout, j_layout, fence_layout};
 
 use crate::decode::Decoded;
-use crate::fields::{Fields, sign_extend};
-use crate::ops::{BaseOp, MOp};
+use crate::fields::{rd, rs1, rs2, sign_extend};
+use crate::ops::MOp;
 
-fn i_imm(f: Fields) -> i64
-    requires { IsFields f }
-    ensures { result ≡ i_number f }
+/// imm[11:0] of layout I.
+fn i_imm(word: u32) -> i64
+    ensures { result ≡ i_imm word }
 {
-    sign_extend(2048, u32::from(f.funct7) * 32 + u32::from(f.rs2))
+    sign_extend(1 << 11, word >> 20)
 }
 
-fn b_imm(f: Fields) -> i64
-    requires { IsFields f }
-    ensures { result ≡ b_number f }
+/// The bits of imm[12:1] of layout B.
+fn b_bits(word: u32) -> u32
+    ensures { result ≡ b_bits word }
 {
-    let high = u32::from(f.funct7) / 64 * 4096 + u32::from(f.rd) % 2 * 2048;
-    let low = u32::from(f.funct7) % 64 * 32 + u32::from(f.rd) / 2 * 2;
-    sign_extend(4096, high + low)
+    (word >> 31) * 4096
+        + (word >> 7 & 1) * 2048
+        + (word >> 25 & 0x3f) * 32
+        + (word >> 8 & 0xf) * 2
 }
 
-fn u_imm(f: Fields) -> i64
-    requires { IsFields f }
-    ensures { result ≡ u_number f }
+fn b_imm(word: u32) -> i64
+    ensures { result ≡ b_imm word }
 {
-    let high = u32::from(f.funct7) * 8192 + u32::from(f.rs2) * 256;
-    let low = u32::from(f.rs1) * 8 + u32::from(f.funct3);
-    sign_extend(524288, high + low)
+    sign_extend(1 << 12, b_bits(word))
 }
 
-fn j_imm(f: Fields) -> i64
-    requires { IsFields f }
-    ensures { result ≡ j_number f }
+/// imm[31:12] of layout U.
+fn u_imm(word: u32) -> i64
+    ensures { result ≡ u_imm word }
 {
-    let high = u32::from(f.funct7) / 64 * 1048576
-        + u32::from(f.rs1) * 32768
-        + u32::from(f.funct3) * 4096;
-    let low = u32::from(f.rs2) % 2 * 2048
-        + u32::from(f.funct7) % 64 * 32
-        + u32::from(f.rs2) / 2 * 2;
-    sign_extend(1048576, high + low)
+    sign_extend(1 << 19, word >> 12)
 }
 
-/// A row without registers and number.
+/// The bits of imm[20:1] of layout J.
+fn j_bits(word: u32) -> u32
+    ensures { result ≡ j_bits word }
+{
+    (word >> 31) * 1048576
+        + (word >> 12 & 0xff) * 4096
+        + (word >> 20 & 1) * 2048
+        + (word >> 21 & 0x3ff) * 2
+}
+
+fn j_imm(word: u32) -> i64
+    ensures { result ≡ j_imm word }
+{
+    sign_extend(1 << 20, j_bits(word))
+}
+
+/// An operation without registers and immediate.
 pub fn bare(op: MOp) -> Decoded
     ensures value { result ≡ bare_form op }
     ensures registers { HasFileRegisters result }
@@ -64,122 +73,113 @@ pub fn bare(op: MOp) -> Decoded
 }
 
 /// Layout R: two sources.
-pub fn register(f: Fields, op: MOp) -> Decoded
-    requires { IsFields f }
-    ensures value { result ≡ r_form f op }
+pub fn register(word: u32, op: MOp) -> Decoded
+    ensures value { result ≡ r_layout word op }
     ensures registers { HasFileRegisters result }
 {
     Decoded {
-        rd: f.rd,
-        rs1: f.rs1,
-        rs2: f.rs2,
+        rd: rd(word),
+        rs1: rs1(word),
+        rs2: rs2(word),
         ..bare(op)
     }
 }
 
-/// Layout I: a source and a number of twelve bits.
-pub fn immediate(f: Fields, op: MOp) -> Decoded
-    requires { IsFields f }
-    ensures value { result ≡ i_form f op }
+/// Layout I: a source and an immediate of twelve bits.
+pub fn immediate(word: u32, op: MOp) -> Decoded
+    ensures value { result ≡ i_layout word op }
     ensures registers { HasFileRegisters result }
 {
     Decoded {
-        rd: f.rd,
-        rs1: f.rs1,
-        imm: i_imm(f),
+        rd: rd(word),
+        rs1: rs1(word),
+        imm: i_imm(word),
         ..bare(op)
     }
 }
 
-/// Layout I with an amount of six bits.
-pub fn shift(f: Fields, op: MOp) -> Decoded
-    requires { IsFields f }
-    ensures value { result ≡ shift_form f op }
+/// Layout I with a shift amount of six bits.
+pub fn shift(word: u32, op: MOp) -> Decoded
+    ensures value { result ≡ shift_layout word op }
     ensures registers { HasFileRegisters result }
 {
     Decoded {
-        rd: f.rd,
-        rs1: f.rs1,
-        imm: i64::from(f.funct7) % 2 * 32 + i64::from(f.rs2),
+        rd: rd(word),
+        rs1: rs1(word),
+        imm: i64::from(word >> 20 & 0x3f),
         ..bare(op)
     }
 }
 
-/// Layout I with an amount of five bits.
-pub fn shift32(f: Fields, op: MOp) -> Decoded
-    requires { IsFields f }
-    ensures value { result ≡ shift32_form f op }
+/// Layout I with a shift amount of five bits.
+pub fn shift_32(word: u32, op: MOp) -> Decoded
+    ensures value { result ≡ shift_32_layout word op }
     ensures registers { HasFileRegisters result }
 {
     Decoded {
-        rd: f.rd,
-        rs1: f.rs1,
-        imm: i64::from(f.rs2),
+        rd: rd(word),
+        rs1: rs1(word),
+        imm: i64::from(rs2(word)),
         ..bare(op)
     }
 }
 
-/// One source, and no number.
-pub fn unary(f: Fields, op: MOp) -> Decoded
-    requires { IsFields f }
-    ensures value { result ≡ unary_form f op }
+/// Layout I of one source, and no immediate.
+pub fn unary(word: u32, op: MOp) -> Decoded
+    ensures value { result ≡ unary_layout word op }
     ensures registers { HasFileRegisters result }
 {
     Decoded {
-        rd: f.rd,
-        rs1: f.rs1,
+        rd: rd(word),
+        rs1: rs1(word),
         ..bare(op)
     }
 }
 
-/// Layout B: two sources and a distance.
-pub fn branch(f: Fields, op: MOp) -> Decoded
-    requires { IsFields f }
-    ensures value { result ≡ b_form f op }
+/// Layout B: two sources and a distance in bytes.
+pub fn branch(word: u32, op: MOp) -> Decoded
+    ensures value { result ≡ b_layout word op }
     ensures registers { HasFileRegisters result }
 {
     Decoded {
-        rs1: f.rs1,
-        rs2: f.rs2,
-        imm: b_imm(f),
+        rs1: rs1(word),
+        rs2: rs2(word),
+        imm: b_imm(word),
         ..bare(op)
     }
 }
 
-/// Layout U: a number of twenty bits.
-pub fn upper(f: Fields, op: MOp) -> Decoded
-    requires { IsFields f }
-    ensures value { result ≡ u_form f op }
+/// Layout U: an immediate of twenty bits.
+pub fn upper(word: u32, op: MOp) -> Decoded
+    ensures value { result ≡ u_layout word op }
     ensures registers { HasFileRegisters result }
 {
     Decoded {
-        rd: f.rd,
-        imm: u_imm(f),
+        rd: rd(word),
+        imm: u_imm(word),
         ..bare(op)
     }
 }
 
-/// Layout J: a distance.
-pub fn jump(f: Fields, op: MOp) -> Decoded
-    requires { IsFields f }
-    ensures value { result ≡ j_form f op }
+/// Layout J: a distance in bytes.
+pub fn jump(word: u32, op: MOp) -> Decoded
+    ensures value { result ≡ j_layout word op }
     ensures registers { HasFileRegisters result }
 {
     Decoded {
-        rd: f.rd,
-        imm: j_imm(f),
+        rd: rd(word),
+        imm: j_imm(word),
         ..bare(op)
     }
 }
 
 /// `fence`, with its two sets of four bits.
-pub fn fence(f: Fields) -> Decoded
-    requires { IsFields f }
-    ensures value { result ≡ fence_form f }
+pub fn fence(word: u32, op: MOp) -> Decoded
+    ensures value { result ≡ fence_layout word op }
     ensures registers { HasFileRegisters result }
 {
     Decoded {
-        imm: i64::from(f.funct7) * 32 + i64::from(f.rs2),
-        ..bare(MOp::Base(BaseOp::Fence))
+        imm: i64::from(word >> 20 & 0xff),
+        ..bare(op)
     }
 }

@@ -1,13 +1,17 @@
-//! The machine: decoding of words, and steps.
+//! The machine, of the unprivileged RISC-V manual: decoding of words of 32 bits, and steps of one hart.
 #![tactic(auto)]
 
-pub mod arithmetic;
-pub mod base;
-pub mod bits;
+mod arithmetic;
+mod bits;
 pub mod decode;
-pub mod fields;
-pub mod layouts;
+mod fields;
+mod int;
+mod layouts;
 pub mod machine;
-pub mod muldiv;
+mod muldiv;
+pub mod opcodes;
 pub mod ops;
-pub mod rows;
+mod tables;
+
+pub use machine::{IntMachine, Step};
+pub use ops::{AluOp, BaseOp, BitOp, IntOp, MOp, MulOp};

@@ -1,18 +1,19 @@
-//! A machine that does one row at a time.
+//! A machine that does one operation at a time: one hart of "2.1 Programmers' Model", with the integer registers.
 
 ghost use Rattle.std.specs.Prelude.{◌≡◌, ℕ, ◌<◌, ◌≤◌, length, take, OnOk, OnErr, IfOk};
 ghost use Rattle.std.specs.FinMap as map;
 ghost use Rattle.rv_machine.specs.Layout.{HasFileRegisters};
-ghost use Rattle.rv_machine.specs.State.{byte, reg};
-ghost use Rattle.rv_machine.specs.Effects.{base_act, mul_act, bit_act, act, has_no_step, puts, links, branches};
-ghost use Rattle.rv_machine.specs.Steps.{fetch, istep, Machine, zero_at, with_state, with_pc, with_reg, with_memory, with_bytes, Steps, Ran};
+ghost use Rattle.rv_machine.specs.State.{IsState, byte, reg};
+ghost use Rattle.rv_machine.specs.declared.machine.Step.TheVariants.{Stepped};
+ghost use Rattle.rv_machine.specs.Effects.{x_of, y_of, imm_of, next_of, puts, links, branches, row_result, base_act, act};
+ghost use Rattle.rv_machine.specs.Steps.{fetch, istep, Machine, zero_at, with_state, with_pc, with_reg, with_memory, with_bytes, Goes, Steps, Ran};
 
 use crate::arithmetic::is_signed_below;
-use crate::base::base_result;
 use crate::bits::bit_result;
 use crate::decode::{Decoded, decode};
+use crate::int::int_result;
 use crate::muldiv::mul_result;
-use crate::ops::{BaseOp, BitOp, MOp, MulOp};
+use crate::ops::{AluOp, BaseOp, MOp};
 use rv_base::flags::IsaFlags;
 use rv_base::memory::OutOfMemory;
 use std::alloc::Global;
@@ -40,27 +41,33 @@ pub struct IntMachine {
 impl Model for IntMachine {
     ghost use Rattle.rv_machine.specs.Steps.{Machine};
     ghost use Rattle.rv_machine.specs.View.{machine_code, machine_of};
+    ghost use Rattle.rv_machine.specs.State.{IsState};
 
     ghost Value = { Machine };
 
     ghost coded = { machine_code };
 
     ghost view = { λ m. machine_of m.flags m.pc m.regs m.bytes.entries };
+
+    ghost invariant = { λ m. IsState (machine_of m.flags m.pc m.regs m.bytes.entries).state };
 }
 
-fn has_no_step(op: MOp) -> bool
-    ensures { result ≡ has_no_step op }
+/// What an operation computes of rs1, rs2 and its immediate.
+fn alu_result(op: AluOp, x: u64, y: u64, imm: u64) -> u64
+    ensures { result ≡ row_result op x y imm }
 {
     match op {
-        MOp::Base(BaseOp::Ebreak) => true,
-        _ => false,
+        AluOp::Int(op) => int_result(op, x, y, imm),
+        AluOp::Mul(op) => mul_result(op, x, y),
+        AluOp::Bit(op) => bit_result(op, x, y, imm),
     }
 }
 
 impl IntMachine {
     /// All registers 0, and every byte 0. Takes no memory.
     pub fn new(alloc: Global, flags: IsaFlags, pc: u64) -> IntMachine
-        ensures { result ≡ record { flags = flags; state = zero_at pc } }
+        ensures value { result ≡ record { flags = flags; state = zero_at pc } }
+        ensures state { IsState result.state }
     {
         IntMachine {
             flags,
@@ -70,8 +77,16 @@ impl IntMachine {
         }
     }
 
+    fn flags(&self) -> IsaFlags
+        ensures { result ≡ self.now.flags }
+    {
+        self.flags
+    }
+
+    /// The address of the next instruction. What the machine is in is always a state.
     pub fn pc(&self) -> u64
-        ensures { result ≡ self.now.state.pc }
+        ensures value { result ≡ self.now.state.pc }
+        ensures state { IsState self.now.state }
     {
         self.pc
     }
@@ -96,7 +111,8 @@ impl IntMachine {
     }
 
     pub fn set_pc(&mut self, pc: u64)
-        ensures { self.new ≡ with_pc self.old pc }
+        ensures value { self.new ≡ with_pc self.old pc }
+        ensures state { IsState self.new.state }
     {
         self.pc = pc;
     }
@@ -104,7 +120,9 @@ impl IntMachine {
     /// Writes the register of this number, below 32; x0 stays 0.
     pub fn set_reg(&mut self, n: u8, value: u64)
         requires { n < 32 }
-        ensures { self.new ≡ with_reg self.old n value }
+        ensures value { self.new ≡ with_reg self.old n value }
+        ensures state { IsState self.new.state }
+        ensures written { 0 < n → reg self.new.state.values n ≡ value }
     {
         if n > 0 {
             self.regs[usize::from(n) - 1] = value;
@@ -144,37 +162,50 @@ impl IntMachine {
         ])
     }
 
-    fn put(&mut self, d: Decoded, value: u64)
+    fn put(&mut self, d: Decoded, value: u64) -> Step
         requires { HasFileRegisters d }
-        ensures { self.new ≡ with_state self.old (puts d self.old.state value) }
+        ensures stepped { result ≡ Stepped }
+        ensures state { self.new ≡ with_state self.old (puts d self.old.state value) }
     {
         self.set_reg(d.rd, value);
-        self.pc = self.pc.wrapping_add(u64::from(d.len));
+        self.go_on(d)
     }
 
-    fn link(&mut self, d: Decoded, target: u64)
+    fn link(&mut self, d: Decoded, target: u64) -> Step
         requires { HasFileRegisters d }
-        ensures { self.new ≡ with_state self.old (links d self.old.state target) }
+        ensures stepped { result ≡ Stepped }
+        ensures state { self.new ≡ with_state self.old (links d self.old.state target) }
     {
         self.set_reg(d.rd, self.pc().wrapping_add(u64::from(d.len)));
-        self.pc = target;
+        self.set_pc(target);
+        Step::Stepped
     }
 
-    fn branch(&mut self, d: Decoded, taken: bool)
-        requires { HasFileRegisters d }
-        ensures { self.new ≡ with_state self.old (branches d self.old.state taken) }
+    fn branch(&mut self, d: Decoded, taken: bool) -> Step
+        ensures stepped { result ≡ Stepped }
+        ensures state { self.new ≡ with_state self.old (branches d self.old.state taken) }
     {
         let distance = if taken {
             d.imm.cast_unsigned()
         } else {
             u64::from(d.len)
         };
-        self.pc = self.pc.wrapping_add(distance);
+        self.set_pc(self.pc().wrapping_add(distance));
+        Step::Stepped
     }
 
-    fn act_base(&mut self, op: BaseOp, d: Decoded)
+    /// To the address after the word.
+    fn go_on(&mut self, d: Decoded) -> Step
+        ensures stepped { result ≡ Stepped }
+        ensures state { self.new ≡ with_pc self.old (next_of d self.old.state) }
+    {
+        self.set_pc(self.pc().wrapping_add(u64::from(d.len)));
+        Step::Stepped
+    }
+
+    fn act_base(&mut self, op: BaseOp, d: Decoded) -> Step
         requires { HasFileRegisters d }
-        ensures { self.new ≡ with_state self.old (base_act op d self.old.state) }
+        ensures { Goes result (base_act op d self.old.state) self.old self.new }
     {
         let pc = self.pc();
         let imm = d.imm.cast_unsigned();
@@ -191,37 +222,28 @@ impl IntMachine {
             BaseOp::Bge => self.branch(d, !is_signed_below(x, y)),
             BaseOp::Bltu => self.branch(d, x < y),
             BaseOp::Bgeu => self.branch(d, x >= y),
-            BaseOp::Fence => self.pc = pc.wrapping_add(u64::from(d.len)),
-            BaseOp::Ebreak => {}
-            _ => self.put(d, base_result(op, x, y, imm)),
+            BaseOp::Fence => self.go_on(d),
+            BaseOp::Ebreak => Step::Stopped,
         }
     }
 
-    fn act_mul(&mut self, op: MulOp, d: Decoded)
+    fn act_alu(&mut self, op: AluOp, d: Decoded) -> Step
         requires { HasFileRegisters d }
-        ensures { self.new ≡ with_state self.old (mul_act op d self.old.state) }
+        ensures stepped { result ≡ Stepped }
+        ensures state { self.new ≡ with_state self.old (puts d self.old.state (row_result op (x_of d self.old.state) (y_of d self.old.state) (imm_of d))) }
     {
-        self.put(d, mul_result(op, self.reg(d.rs1), self.reg(d.rs2)));
+        let x = self.reg(d.rs1);
+        let y = self.reg(d.rs2);
+        self.put(d, alu_result(op, x, y, d.imm.cast_unsigned()))
     }
 
-    fn act_bit(&mut self, op: BitOp, d: Decoded)
+    fn act(&mut self, d: Decoded) -> Step
         requires { HasFileRegisters d }
-        ensures { self.new ≡ with_state self.old (bit_act op d self.old.state) }
-    {
-        self.put(
-            d,
-            bit_result(op, self.reg(d.rs1), self.reg(d.rs2), d.imm.cast_unsigned()),
-        );
-    }
-
-    fn act(&mut self, d: Decoded)
-        requires { HasFileRegisters d }
-        ensures { self.new ≡ with_state self.old (act d self.old.state) }
+        ensures { Goes result (act d self.old.state) self.old self.new }
     {
         match d.op {
             MOp::Base(op) => self.act_base(op, d),
-            MOp::Mul(op) => self.act_mul(op, d),
-            MOp::Bit(op) => self.act_bit(op, d),
+            MOp::Alu(op) => self.act_alu(op, d),
         }
     }
 
@@ -234,14 +256,8 @@ impl IntMachine {
         if self.pc() % 2 != 0 {
             return Ok(Step::Stopped);
         }
-        match decode(self.flags, self.fetch()) {
-            Some(decoded) => {
-                if has_no_step(decoded.op) {
-                    return Ok(Step::Stopped);
-                }
-                self.act(decoded);
-                Ok(Step::Stepped)
-            }
+        match decode(self.flags(), self.fetch()) {
+            Some(decoded) => Ok(self.act(decoded)),
             None => Ok(Step::Stopped),
         }
     }

@@ -1,4 +1,4 @@
-//! What the rows of M compute.
+//! "M", Integer Multiplication and Division: what the operations compute.
 
 ghost use Rattle.std.specs.Prelude.{◌≡◌};
 ghost use Rattle.rv_machine.specs.MulDiv.{mul_result};
@@ -6,7 +6,7 @@ ghost use Rattle.rv_machine.specs.MulDiv.{mul_result};
 use crate::arithmetic::{extend, extend_word, high64, low_word, signed_word};
 use crate::ops::MulOp;
 
-/// The number of a row, of rs1 and rs2.
+/// What an operation computes of rs1 and rs2.
 pub fn mul_result(op: MulOp, x: u64, y: u64) -> u64
     ensures { result ≡ mul_result op x y }
 {

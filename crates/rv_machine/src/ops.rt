@@ -1,14 +1,15 @@
-//! The rows of the manual, by mnemonic.
+//! The operations of the manual, by mnemonic, each chapter's in its order.
 
-/// A row of the manual, by the extension that it belongs to.
+/// An operation: one that computes a register's value of registers and an immediate, or any other.
 #[derive(Clone, Copy, Debug, PartialEq, Eq)]
 pub enum MOp {
     Base(BaseOp),
-    Mul(MulOp),
-    Bit(BitOp),
+    Alu(AluOp),
 }
 
-/// The rows of RV64I, its loads and stores aside, and those of Zicond.
+/// The operations of RV64I that do more than compute, its loads and stores aside: "2.4 Integer Computational
+/// Instructions" (`lui` and `auipc`), "2.5 Control Transfer Instructions", "2.7 Memory Ordering Instructions" and
+/// "2.8 Environment Call and Breakpoints".
 #[derive(Clone, Copy, Debug, PartialEq, Eq)]
 pub enum BaseOp {
     Lui,
@@ -21,6 +22,22 @@ pub enum BaseOp {
     Bge,
     Bltu,
     Bgeu,
+    Fence,
+    Ebreak,
+}
+
+/// An operation that writes to rd what it computes of rs1 and of rs2 or an immediate, by its chapter.
+#[derive(Clone, Copy, Debug, PartialEq, Eq)]
+pub enum AluOp {
+    Int(IntOp),
+    Mul(MulOp),
+    Bit(BitOp),
+}
+
+/// "2.4 Integer Computational Instructions" of RV32I and "4.2 Integer Computational Instructions" of RV64I; and
+/// "Zicond", Integer Conditional Operations.
+#[derive(Clone, Copy, Debug, PartialEq, Eq)]
+pub enum IntOp {
     Addi,
     Slti,
     Sltiu,
@@ -40,8 +57,6 @@ pub enum BaseOp {
     Sra,
     Or,
     And,
-    Fence,
-    Ebreak,
     Addiw,
     Slliw,
     Srliw,
@@ -55,7 +70,7 @@ pub enum BaseOp {
     CzeroNez,
 }
 
-/// The rows of M.
+/// "M", Integer Multiplication and Division.
 #[derive(Clone, Copy, Debug, PartialEq, Eq)]
 pub enum MulOp {
     Mul,
@@ -73,7 +88,7 @@ pub enum MulOp {
     Remuw,
 }
 
-/// The rows of Zba, Zbb and Zbs.
+/// "B", Bit Manipulation: Zba (address generation), Zbb (basic bit manipulation) and Zbs (single bits).
 #[derive(Clone, Copy, Debug, PartialEq, Eq)]
 pub enum BitOp {
     AddUw,
