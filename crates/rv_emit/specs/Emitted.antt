@@ -5,7 +5,8 @@ use Rattle.rv_base.specs.declared.label.MachLabel.{MachLabel}
 use Rattle.rv_base.specs.LabelUse.{IsFresh}
 use Rattle.rv_machine.specs.declared.decode.Decoded.{Decoded}
 use Rattle.rv_machine.specs.Decode.{decode}
-use Rattle.rv_machine.specs.Layout.{fields_of}
+use Rattle.rv_machine.specs.Opcodes.{JAL, BRANCH, AUIPC, OP_IMM}
+use Rattle.rv_machine.specs.Layout.{word_opcode}
 use Rattle.rv_inst.specs.declared.inst.Inst.{Inst}
 use Rattle.rv_inst.specs.declared.inst.Inst.TheVariants.{EmitIsland, Jal, CondBr}
 use Rattle.rv_inst.specs.declared.inst.CondBrTarget.{CondBrTarget}
@@ -85,17 +86,17 @@ AreRows (w ∷ words) (d ∷ rows) = (w < 2 ^ 32) × ((flags : IsaFlags) → dec
 
 -- the opcode of a use's first word
 abbrev pub opcode_of : LabelUse → ℕ
-opcode_of Jal20 = 0x6f
-opcode_of B12 = 0x63
-opcode_of PCRel32 = 0x17
-opcode_of PCRelHi20 = 0x17
-opcode_of PCRelLo12I = 0x13
+opcode_of Jal20 = JAL
+opcode_of B12 = BRANCH
+opcode_of PCRel32 = AUIPC
+opcode_of PCRelHi20 = AUIPC
+opcode_of PCRelLo12I = OP_IMM
 
 -- each use stands in a word of its own, from an offset on, of its kind's opcode and with a fresh window
 abbrev pub UsesStand : ℕ → List ℕ → List (Use LabelUse) → Type 0
 UsesStand start words [] = Unit {0}
 UsesStand start [] (u ∷ uses) = ⊥
-UsesStand start (w ∷ words) (u ∷ uses) = (u.offset ≡ start) × IsFresh (marks_of u.kind) (word_bytes w) × ((fields_of w).opcode ≡ opcode_of u.kind) × (length (marks_of u.kind) ≡ 4) × UsesStand (start + 4) words uses
+UsesStand start (w ∷ words) (u ∷ uses) = (u.offset ≡ start) × IsFresh (marks_of u.kind) (word_bytes w) × (word_opcode w ≡ opcode_of u.kind) × (length (marks_of u.kind) ≡ 4) × UsesStand (start + 4) words uses
 
 -- words that decode to these rows were put at the end, with these uses
 pub record PutsWords (rows : List Decoded) (own : List (Use LabelUse)) (old new : Buffer) : Type 0 where

@@ -8,8 +8,10 @@ use Rattle.rv_inst.specs.declared.inst.CondBrTarget.{CondBrTarget}
 use Rattle.rv_inst.specs.declared.inst.CondBrTarget.TheVariants.{Label, Fallthrough}
 use Rattle.rv_inst.specs.Families.{family_of, by_family}
 use Rattle.rv_machine.specs.declared.decode.Decoded.{Decoded}
-use Rattle.rv_machine.specs.declared.ops.MOp.TheVariants.{Base}
+use Rattle.rv_machine.specs.declared.ops.MOp.TheVariants.{Base, Alu}
 use Rattle.rv_machine.specs.declared.ops.BaseOp.TheVariants as base
+use Rattle.rv_machine.specs.declared.ops.AluOp.TheVariants.{Int}
+use Rattle.rv_machine.specs.declared.ops.IntOp.TheVariants as int
 use Rattle.rv_machine.specs.Layout.{bare_form}
 use Rattle.rv_encode.specs.Rows.{row, alu_rrr_row, alu_rri_row, compare_row}
 
@@ -32,7 +34,7 @@ blank k = pos 0
 
 -- rd is rs plus a number
 abbrev pub addi_row : ℕ → ℕ → ℤ → Decoded
-addi_row rd rs imm = row (Base base.Addi) rd rs 0 imm
+addi_row rd rs imm = row (Alu (Int int.Addi)) rd rs 0 imm
 
 abbrev pub ebreak_row : Decoded
 ebreak_row = bare_form (Base base.Ebreak)

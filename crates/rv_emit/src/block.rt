@@ -21,7 +21,9 @@ use rv_base::label::MachLabel;
 use rv_base::memory::OutOfMemory;
 use rv_base::named::{link_reg, writable_zero_reg, zero_reg};
 use rv_base::regs::{Reg, WritableReg};
-use rv_encode::jumps::{enc_auipc, enc_jalr, encode_ebreak, encode_lui};
+use rv_encode::jumps::{
+    enc_auipc, enc_jalr, encode_branch, encode_ebreak, encode_jal, encode_lui,
+};
 use rv_encode::operations::{encode_alu_rr_imm12, encode_alu_rrr};
 use rv_imms::imm12::Imm12;
 use rv_inst::inst::{CondBrTarget, Family, Inst};
@@ -194,8 +196,24 @@ fn put_compare(
     ensures word { OnOk result (Adds (word_bytes (branch_word kind)) (use_at (length (bytes_of sink.old)) label B12 ∷ []) sink.old sink.new) }
     ensures refused { OnErr result (spoiled_of sink.new ≡ true) }
 {
-    put_use(sink, kind.emit(), label, LabelUse::B12)?;
+    put_use(sink, compare_word(kind), label, LabelUse::B12)?;
     Ok(())
+}
+
+/// The word of a branch whose distance is still to come.
+fn compare_word(kind: IntegerCompare) -> u32
+    requires rs1 { IsIntRegister kind.rs1 }
+    requires rs2 { IsIntRegister kind.rs2 }
+    ensures { result ≡ branch_word kind }
+{
+    encode_branch(kind, 0)
+}
+
+/// The word of a jump whose distance is still to come.
+fn jump_word() -> u32
+    ensures { result ≡ 0x6f }
+{
+    encode_jal(writable_zero_reg(), 0)
 }
 
 /// A jump to a label.
@@ -207,7 +225,7 @@ pub(crate) fn put_jump(sink: &mut MachBuffer<LabelUse>, label: MachLabel) -> Res
     ensures word { OnOk result (Adds (word_bytes 0x6f) (use_at (length (bytes_of sink.old)) label Jal20 ∷ []) sink.old sink.new) }
     ensures refused { OnErr result (spoiled_of sink.new ≡ true) }
 {
-    put_use(sink, 0x6f, label, LabelUse::Jal20)?;
+    put_use(sink, jump_word(), label, LabelUse::Jal20)?;
     Ok(())
 }
 
