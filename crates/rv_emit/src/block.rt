@@ -21,10 +21,10 @@ use rv_base::label::MachLabel;
 use rv_base::memory::OutOfMemory;
 use rv_base::named::{link_reg, writable_zero_reg, zero_reg};
 use rv_base::regs::{Reg, WritableReg};
-use rv_encode::jumps::{
-    enc_auipc, enc_jalr, encode_branch, encode_ebreak, encode_jal, encode_lui,
+use rv_encode::{
+    enc_auipc, enc_jalr, encode_alu_rr_imm12, encode_alu_rrr, encode_branch, encode_ebreak,
+    encode_jal, encode_lui,
 };
-use rv_encode::operations::{encode_alu_rr_imm12, encode_alu_rrr};
 use rv_imms::imm12::Imm12;
 use rv_inst::inst::{CondBrTarget, Family, Inst};
 use rv_inst::label_use::LabelUse;
