@@ -18,8 +18,10 @@ use Rattle.mach_buffer.specs.Blocks.{BlockStands, AllInside}
 use Rattle.mach_buffer.specs.Finish.{CanFinish, Finishes}
 use Rattle.mach_buffer.proofs.Patched.{block_patched}
 use Rattle.rv_emit.specs.Rows.{between, blank, jump_row, rows_of}
-use Rattle.rv_emit.specs.Runs.{Same, Ends}
-use Rattle.rv_emit.specs.Emitted.{Buffer, use_at, uses_in, AreRows, UsesStand}
+use Rattle.rv_inst.specs.Same.{Same}
+use Rattle.rv_emit.specs.Runs.{Ends}
+use Rattle.rv_emit.specs.Emitted.{Buffer, AreRows, UsesStand}
+use Rattle.rv_inst.specs.Uses.{use_at, uses_in}
 use Rattle.rv_emit.specs.Blocks.{BytesStand, StandRows}
 use Rattle.rv_emit.proofs.Steps.{istep_at}
 use Rattle.rv_emit.proofs.Blocked.{ends_one, ends_both}

@@ -14,7 +14,8 @@ use Rattle.mach_buffer.specs.declared.uses.Use.{Use}
 use Rattle.mach_buffer.specs.Buffer.{bytes_of, place_of as bound_at}
 use Rattle.rv_emit.specs.Rows.{ebreak_row}
 use Rattle.rv_emit.specs.Runs.{Ends, least_steps, exit_address, standing, used_exit}
-use Rattle.rv_emit.specs.Emitted.{Buffer, uses_in, bytes_of_words}
+use Rattle.rv_emit.specs.Emitted.{Buffer, bytes_of_words}
+use Rattle.rv_inst.specs.Uses.{uses_in}
 use Rattle.rv_emit.specs.Blocks.{StandRows, IsPatchedTo, BlockRuns}
 use Rattle.rv_emit.proofs.Blocked.{ends_both}
 use Rattle.rv_emit.proofs.Blocks.{block_runs}

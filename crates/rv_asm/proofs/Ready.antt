@@ -3,7 +3,8 @@ use Rattle.std.proofs.Common.{◌≡◌, ℕ, ◌+◌, ◌≤◌, None, ◌∙�
 use Rattle.rv_inst.specs.declared.inst.Inst.{Inst}
 use Rattle.rv_inst.specs.declared.inst.Inst.TheVariants.{EmitIsland}
 use Rattle.rv_inst.specs.declared.inst.Line.TheVariants.{Inst as Put}
-use Rattle.rv_emit.specs.Emitted.{Buffer, island_space}
+use Rattle.rv_emit.specs.Emitted.{Buffer}
+use Rattle.rv_inst.specs.Sizes.{island_space}
 use Rattle.rv_emit.proofs.Room.{block_short}
 use Rattle.rv_inst.specs.declared.job.Job.{Job}
 use Rattle.rv_inst.specs.declared.code.Code.{Code}

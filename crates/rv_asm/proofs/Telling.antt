@@ -12,7 +12,8 @@ use Rattle.mach_buffer.specs.Buffer.{bytes_of}
 use Rattle.rv_emit.specs.Emitted.{Buffer}
 use Rattle.mach_buffer.proofs.Patched.{item_at}
 use Rattle.rv_asm.specs.Told.{start_of, end_of, binds_from, Told}
-use Rattle.rv_asm.specs.Built.{end_before, Gap, BlockThere, InstThere, LineThere, Built}
+use Rattle.rv_asm.specs.Told.{end_before}
+use Rattle.rv_asm.specs.Built.{Gap, BlockThere, InstThere, LineThere, Built}
 
 gap_forward : (b : Buffer) (from to : ℕ) → Gap b from to → from ≤ to
 gap_forward b from to (inl e) = omega arith

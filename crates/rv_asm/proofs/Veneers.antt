@@ -27,7 +27,8 @@ use Rattle.mach_buffer.specs.declared.uses.Use.{Use}
 use Rattle.mach_buffer.specs.Windows.{window}
 use Rattle.mach_buffer.specs.Finish.{IsVia}
 use Rattle.rv_emit.specs.Rows.{jalr_row}
-use Rattle.rv_emit.specs.Runs.{Same, Ends}
+use Rattle.rv_inst.specs.Same.{Same}
+use Rattle.rv_emit.specs.Runs.{Ends}
 use Rattle.rv_emit.specs.Blocks.{BytesStand, word_in}
 use Rattle.rv_emit.proofs.Registers.{are_values_set}
 use Rattle.rv_emit.proofs.Steps.{istep_at}

@@ -17,12 +17,14 @@ use Rattle.mach_buffer.specs.Reach.{CanReach, due_by}
 use Rattle.mach_buffer.specs.Buffer.{bytes_of, uses_of, veneers_of, place_of, labels_of, drawn_of, listed}
 use Rattle.mach_buffer.specs.Blocks.{BlockStands}
 use Rattle.rv_emit.specs.Rows.{blank, rows_of}
-use Rattle.rv_emit.specs.Emitted.{Buffer, IsSoundBuffer, HasWindows, pending, use_at, uses_in, bytes_of_words, AreRows, UsesStand, MakesRoom, Emitted}
+use Rattle.rv_emit.specs.Emitted.{Buffer, IsSoundBuffer, HasWindows, pending, bytes_of_words, AreRows, UsesStand, MakesRoom, Emitted}
+use Rattle.rv_inst.specs.Uses.{use_at, uses_in}
 use Rattle.rv_emit.specs.declared.state.EmitVState.{EmitVState}
 use Rattle.rv_emit.specs.declared.state.EmitVState.TheVariants.{Unknown}
 use Rattle.rv_emit.specs.State.{setting_after, setting_beyond}
 use Rattle.rv_asm.specs.Told.{start_of, end_of, binds_from}
-use Rattle.rv_asm.specs.Refusal.{binds, is_bound, line_sum, size_sum}
+use Rattle.rv_asm.specs.Refusal.{binds, is_bound, size_sum}
+use Rattle.rv_inst.specs.Sizes.{line_sum}
 
 -- ---- where lines stand
 

@@ -13,10 +13,11 @@ use Rattle.rv_inst.specs.Fields.{named_labels}
 use Rattle.rv_inst.specs.LabelUse.{forward_of, backward_of}
 use Rattle.mach_buffer.specs.declared.uses.Use.{Use}
 use Rattle.mach_buffer.specs.Reach.{is_reached, deadlines, CanReach}
-use Rattle.rv_emit.specs.Emitted.{uses_in, island_space}
+use Rattle.rv_inst.specs.Uses.{uses_in}
+use Rattle.rv_inst.specs.Sizes.{island_space}
 use Rattle.rv_asm.specs.Told.{start_of, end_of}
 use Rattle.rv_asm.specs.Refusal.{size_sum}
-use Rattle.rv_asm.specs.Built.{end_before}
+use Rattle.rv_asm.specs.Told.{end_before}
 
 -- ---- where islands stand
 

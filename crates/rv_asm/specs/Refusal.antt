@@ -8,7 +8,7 @@ use Rattle.rv_inst.specs.declared.error.EmitError.{EmitError}
 use Rattle.rv_inst.specs.declared.error.EmitError.TheVariants.{Malformed, LabelTwice, UnboundLabel, TooLarge, OutOfMemory}
 use Rattle.rv_inst.specs.Fields.{named_labels}
 use Rattle.rv_inst.specs.Rules.{first_of, broken_rule}
-use Rattle.rv_emit.specs.Emitted.{inst_sum}
+use Rattle.rv_inst.specs.Sizes.{inst_sum}
 
 abbrev pub malformed : ℕ → Option Rule → Option EmitError
 malformed index None = None

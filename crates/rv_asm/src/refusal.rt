@@ -4,8 +4,9 @@ ghost use Rattle.std.specs.Prelude.{◌≡◌, ℕ, ◌^◌, [], ◌∷◌, ◌+
 ghost use Rattle.std.specs.BTreeSet.{contains};
 ghost use Rattle.std.specs.Ordering.{nat_cmp};
 ghost use Rattle.rv_inst.specs.Fields.{named_labels, inst_labels, control_labels, target_labels};
-ghost use Rattle.rv_asm.specs.Refusal.{is_bound, broken_from, binds, twice_of, twice_in, twice_from, unbound_among, unbound_in, line_sum, size_sum, refusal, Finds};
-ghost use Rattle.rv_emit.specs.Emitted.{inst_sum};
+ghost use Rattle.rv_asm.specs.Refusal.{is_bound, broken_from, binds, twice_of, twice_in, twice_from, unbound_among, unbound_in, size_sum, refusal, Finds};
+ghost use Rattle.rv_inst.specs.Sizes.{line_sum};
+ghost use Rattle.rv_inst.specs.Sizes.{inst_sum};
 
 use rv_base::constant::Constant;
 use rv_base::flags::IsaFlags;

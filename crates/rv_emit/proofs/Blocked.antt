@@ -6,7 +6,8 @@ use Rattle.rv_machine.specs.State.{State, Values, AreValues, set_reg, wrap, at}
 use Rattle.rv_machine.specs.Decode.{decode}
 use Rattle.rv_machine.specs.Effects.{act, has_no_step}
 use Rattle.rv_machine.specs.Steps.{fetch, istep}
-use Rattle.rv_emit.specs.Runs.{Same, Begins, Ends}
+use Rattle.rv_inst.specs.Same.{Same}
+use Rattle.rv_emit.specs.Runs.{Begins, Ends}
 use Rattle.rv_emit.proofs.Registers.{same_set, are_values_set}
 use Rattle.rv_emit.proofs.Steps.{istep_at, iter_none, iter_one, iter_after}
 

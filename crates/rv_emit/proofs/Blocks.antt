@@ -15,8 +15,10 @@ use Rattle.rv_inst.specs.Meaning.{Break}
 use Rattle.rv_inst.specs.Rules.{inst_rule}
 use Rattle.mach_buffer.specs.Buffer.{bytes_of}
 use Rattle.rv_emit.specs.Rows.{blank, distances, ebreak_row, rows_of}
-use Rattle.rv_emit.specs.Runs.{Same, Begins, used_target, used_exit}
-use Rattle.rv_emit.specs.Emitted.{Buffer, uses_in, bytes_of_words, AreRows, UsesStand, PutsBlock}
+use Rattle.rv_inst.specs.Same.{Same}
+use Rattle.rv_emit.specs.Runs.{Begins, used_target, used_exit}
+use Rattle.rv_emit.specs.Emitted.{Buffer, bytes_of_words, AreRows, UsesStand, PutsBlock}
+use Rattle.rv_inst.specs.Uses.{uses_in}
 use Rattle.rv_emit.specs.Blocks.{StandRows, IsPatchedTo, BytesStand, BlockRuns, PutRuns}
 use Rattle.rv_emit.proofs.Lines.{inst_runs}
 use Rattle.rv_emit.proofs.Placed.{bytes_fit, rows_there}

@@ -1,4 +1,5 @@
--- A block in finished code, with its uses patched, and what it is for it to run as its instruction means.
+-- A block in finished code, with its uses patched, and what it is for it to run as its instruction means: links of the
+-- proof.
 use Rattle.std.specs.Prelude.{◌≡◌, ℕ, ◌+◌, ◌-◌, ◌*◌, ◌%◌, ◌^◌, ◌<◌, ◌≤◌, List, [], ◌∷◌, length, drop, None, Some, pos, ◌-ℤ◌, slice_get, slice_index}
 use Rattle.rv_base.specs.declared.flags.IsaFlags.{IsaFlags}
 use Rattle.rv_base.specs.LabelUse.{SameOutside}
@@ -13,8 +14,11 @@ use Rattle.mach_buffer.specs.declared.uses.Use.{Use}
 use Rattle.mach_buffer.specs.Buffer.{bytes_of}
 use Rattle.mach_buffer.specs.Windows.{window, IsApart}
 use Rattle.rv_emit.specs.Rows.{ebreak_row}
-use Rattle.rv_emit.specs.Runs.{Same, Ends, used_exit, least_steps, exit_address, standing}
-use Rattle.rv_emit.specs.Emitted.{Buffer, island_space, uses_in}
+use Rattle.rv_inst.specs.Same.{Same}
+use Rattle.rv_emit.specs.Runs.{Ends, used_exit, least_steps, exit_address, standing}
+use Rattle.rv_emit.specs.Emitted.{Buffer}
+use Rattle.rv_inst.specs.Sizes.{island_space}
+use Rattle.rv_inst.specs.Uses.{uses_in}
 
 -- the word that stands in bytes at an offset, the least byte first
 abbrev pub word_in : List ℕ → ℕ → ℕ
