@@ -4,7 +4,7 @@ use Rattle.std.specs.Prelude.{◌≡◌, ℕ, zero, suc, ◌+◌, ◌*◌, ◌<�
 use Rattle.rv_inst.specs.declared.inst.Line.{Line}
 use Rattle.rv_inst.specs.declared.inst.Line.TheVariants.{Inst as Put, Bind}
 use Rattle.rv_inst.specs.declared.inst.Inst.{Inst}
-use Rattle.rv_inst.specs.declared.inst.Inst.TheVariants.{EmitIsland, CondBr}
+use Rattle.rv_inst.specs.declared.inst.Inst.TheVariants.{EmitIsland}
 use Rattle.rv_inst.specs.declared.job.Job.{Job}
 use Rattle.rv_inst.specs.declared.code.Code.{Code}
 use Rattle.rv_inst.specs.declared.code.LineSpan.{LineSpan}
@@ -13,11 +13,9 @@ use Rattle.rv_inst.specs.Fields.{named_labels}
 use Rattle.rv_inst.specs.LabelUse.{forward_of, backward_of}
 use Rattle.mach_buffer.specs.declared.uses.Use.{Use}
 use Rattle.mach_buffer.specs.Reach.{is_reached, deadlines, CanReach}
-use Rattle.rv_inst.specs.Uses.{uses_in}
-use Rattle.rv_inst.specs.Sizes.{island_space}
-use Rattle.rv_asm.specs.Told.{start_of, end_of}
+use Rattle.rv_inst.specs.Uses.{uses_in, least_reach}
+use Rattle.rv_asm.specs.Told.{start_of, end_of, end_before}
 use Rattle.rv_asm.specs.Refusal.{size_sum}
-use Rattle.rv_asm.specs.Told.{end_before}
 
 -- ---- where islands stand
 
@@ -41,11 +39,6 @@ last_island spans (suc i) = if is_behind_island spans i then i else last_island 
 abbrev pub label_count : List Line → ℕ
 label_count [] = 0
 label_count (line ∷ lines) = length (named_labels line) + label_count lines
-
--- how far the shortest use of a line reaches, counted from the line's start
-abbrev pub least_reach : Line → ℕ
-least_reach (Put (CondBr taken not_taken kind)) = 4094
-least_reach line = 1048574
 
 -- an island at an offset is due: some line since the last island might not reach its label or a veneer, were the island put
 -- only behind so many bytes more and two uses more
@@ -104,14 +97,8 @@ ReachesOn lines spans = (n : ℕ) → n ≤ length lines → CanReach (end_befor
 
 -- ---- all of it
 
--- the most bytes between a line's begin and its end
-abbrev pub AllNarrow : List Line → List LineSpan → Type 0
-AllNarrow lines spans = (i : ℕ) (inst : Inst) → slice_get lines i ≡ Some (Put inst) → island_space inst ≡ None → end_of spans i ≤ start_of spans i + 88
-
--- no island is early, Reach holds after every line, a line's own bytes are few, and the code is no longer than its lines
--- allow
+-- no island is early, Reach holds after every line, and the code is no longer than its lines allow
 pub record InReach (job : Job) (code : Code) : Type 0 where
   pub early : NotEarly job.lines code.lines
   pub reach : ReachesOn job.lines code.lines
-  pub narrow : AllNarrow job.lines code.lines
   pub short : length code.bytes ≤ size_sum job.lines + 16

@@ -26,7 +26,7 @@ use Rattle.rv_emit.proofs.Patched.{patched_rows, unused_rows}
 
 -- ---- lengths
 
-four_each : (words : List ℕ) (rows : List Decoded) → AreRows words rows → length (bytes_of_words words) ≡ 4 * length rows
+pub four_each : (words : List ℕ) (rows : List Decoded) → AreRows words rows → length (bytes_of_words words) ≡ 4 * length rows
 four_each [] [] h = refl
 four_each [] (d ∷ rows) h = absurd h
 four_each (w ∷ words) [] h = absurd h

@@ -8,6 +8,7 @@ use Rattle.rv_machine.specs.Decode.{decode}
 use Rattle.rv_machine.specs.State.{State, IsState, Values, AreValues, Memory, byte, wrap}
 use Rattle.rv_inst.specs.declared.inst.Inst.{Inst}
 use Rattle.rv_inst.specs.declared.label_use.LabelUse.{LabelUse}
+use Rattle.rv_inst.specs.Islands.{word_in}
 use Rattle.rv_inst.specs.LabelUse.{Aims, marks_of}
 use Rattle.rv_inst.specs.Meaning.{Break, inst_effect}
 use Rattle.mach_buffer.specs.declared.uses.Use.{Use}
@@ -19,10 +20,6 @@ use Rattle.rv_emit.specs.Runs.{Ends, used_exit, least_steps, exit_address, stand
 use Rattle.rv_emit.specs.Emitted.{Buffer}
 use Rattle.rv_inst.specs.Sizes.{island_space}
 use Rattle.rv_inst.specs.Uses.{uses_in}
-
--- the word that stands in bytes at an offset, the least byte first
-abbrev pub word_in : List ℕ → ℕ → ℕ
-word_in bytes at = slice_index bytes at + slice_index bytes (at + 1) * 2 ^ 8 + slice_index bytes (at + 2) * 2 ^ 16 + slice_index bytes (at + 3) * 2 ^ 24
 
 -- words that decode to these rows stand in bytes from an offset on
 abbrev pub StandRows : IsaFlags → List ℕ → ℕ → List Decoded → Type 0
