@@ -19,7 +19,7 @@ begins_at flags base start after d ds s v b = let room = b.room in let long = b.
 pub first_step : (flags : IsaFlags) (base start after : ℕ) (d : Decoded) (ds : List Decoded) (s : State) (v : Values) → Begins flags base start after (d ∷ ds) s v → has_no_step d.op ≡ false → istep flags s ≡ Some (act d s)
 first_step flags base start after d ds s v b steps =
     let here = begins_at flags base start after d ds s v b in
-    let h1 = b.base_aligned in let h2 = b.start_aligned in
+    let h1 = b.base_aligned in let h2 = b.start_even in
     istep_at flags s d (omega arith) (ap (λ a. decode flags (fetch s.values.mem a)) here ∙ b.has.0) steps
 
 -- what one step made

@@ -53,4 +53,4 @@ pub record BlockRuns (flags : IsaFlags) (inst : Inst) (start : ℕ) (block : Lis
 
 -- the block that was put runs as its instruction means, with its uses taken as reaching where they aim
 abbrev pub PutRuns : Inst → Buffer → Buffer → Type 0
-PutRuns inst old new = island_space inst ≡ None → length (bytes_of old) % 4 ≡ 0 → (flags : IsaFlags) → BlockRuns flags inst (length (bytes_of old)) (drop (length (bytes_of old)) (bytes_of new))
+PutRuns inst old new = island_space inst ≡ None → length (bytes_of old) % 2 ≡ 0 → (flags : IsaFlags) → BlockRuns flags inst (length (bytes_of old)) (drop (length (bytes_of old)) (bytes_of new))

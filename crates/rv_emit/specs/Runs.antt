@@ -25,7 +25,7 @@ HasRows flags mem a (d ∷ rows) = (decode flags (fetch mem a) ≡ Some d) × Ha
 -- a machine before the rows of a line, beside the listing's values
 pub record Begins (flags : IsaFlags) (base start after : ℕ) (rows : List Decoded) (s : State) (v : Values) : Type 0 where
   pub base_aligned : base % 4 ≡ 0
-  pub start_aligned : start % 4 ≡ 0
+  pub start_even : start % 2 ≡ 0
   pub long : after ≡ start + 4 * length rows
   pub room : base + after ≤ 2 ^ 64
   pub has : HasRows flags s.values.mem (base + start) rows
