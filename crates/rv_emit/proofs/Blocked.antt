@@ -6,7 +6,8 @@ use Rattle.rv_machine.specs.State.{State, Values, AreValues, set_reg, wrap, at}
 use Rattle.rv_machine.specs.Decode.{decode}
 use Rattle.rv_machine.specs.Effects.{act}
 use Rattle.rv_machine.specs.Steps.{fetch, istep}
-use Rattle.rv_emit.specs.Runs.{Same, Begins, Ends}
+use Rattle.rv_inst.specs.Same.{Same}
+use Rattle.rv_emit.specs.Runs.{Begins, Ends}
 use Rattle.rv_emit.proofs.Registers.{same_set, are_values_set}
 use Rattle.rv_emit.proofs.Steps.{istep_at, iter_none, iter_one, iter_after}
 
@@ -18,7 +19,7 @@ begins_at flags base start after d ds s v b = let room = b.room in let long = b.
 pub first_step : {t : State} (flags : IsaFlags) (base start after : ℕ) (d : Decoded) (ds : List Decoded) (s : State) (v : Values) → Begins flags base start after (d ∷ ds) s v → act d s ≡ Some t → istep flags s ≡ Some t
 first_step flags base start after d ds s v b acts =
     let here = begins_at flags base start after d ds s v b in
-    let h1 = b.base_aligned in let h2 = b.start_aligned in
+    let h1 = b.base_aligned in let h2 = b.start_even in
     istep_at flags s d (omega arith) (ap (λ a. decode flags (fetch s.values.mem a)) here ∙ b.has.0) acts
 
 -- what one step made

@@ -163,7 +163,7 @@ branch_jump_ends flags false targets base start after d s v b e =
     let moved : base + start + 4 ≡ base + (start + 4) = omega arith in
     let b1 : Begins flags base (start + 4) after jump s1 v = record {
       base_aligned = b.base_aligned;
-      start_aligned = let h = b.start_aligned in omega arith;
+      start_even = let h = b.start_even in omega arith;
       long = let h = b.long in omega arith;
       room = b.room;
       has = subst (λ a. HasRows flags s.values.mem a jump) moved b.has.1;
