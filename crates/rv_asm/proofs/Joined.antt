@@ -1,5 +1,5 @@
 -- Code that a buffer of lines was finished to: each line's block leads as the line means, so it runs as its job says.
-use Rattle.std.proofs.Common.{◌≡◌, ℕ, ◌+◌, ◌%◌, true, List, [], ◌∷◌, Some, None, sym, ap, subst, ◌∙◌}
+use Rattle.std.proofs.Common.{◌≡◌, ℕ, ◌+◌, ◌%◌, true, List, [], ◌∷◌, Some, None, arith, sym, ap, subst, ◌∙◌}
 use Rattle.rv_machine.specs.State.{State, Values, wrap}
 use Rattle.rv_inst.specs.declared.inst.Line.{Line}
 use Rattle.rv_inst.specs.declared.inst.Line.TheVariants.{Bind}
@@ -14,7 +14,8 @@ use Rattle.mach_buffer.specs.declared.uses.Use.{Use}
 use Rattle.mach_buffer.specs.Buffer.{bytes_of, place_of as bound_at}
 use Rattle.rv_emit.specs.Rows.{ebreak_row}
 use Rattle.rv_emit.specs.Runs.{Ends, least_steps, exit_address, standing, used_exit}
-use Rattle.rv_emit.specs.Emitted.{Buffer, uses_in, bytes_of_words}
+use Rattle.rv_emit.specs.Emitted.{Buffer, bytes_of_words}
+use Rattle.rv_inst.specs.Uses.{uses_in}
 use Rattle.rv_emit.specs.Blocks.{StandRows, IsPatchedTo, BlockRuns}
 use Rattle.rv_emit.proofs.Blocked.{ends_both}
 use Rattle.rv_emit.proofs.Blocks.{block_runs}
@@ -58,7 +59,7 @@ arrives job code b start after block own p base symbols slots s w (To k) y f pla
 
 module _ (job : Job) (code : Code) (b : Buffer) (start after : ℕ) (inst : Inst) (f : Finished job code b) (there : BlockThere inst b start after) (rule : inst_rule inst ≡ None) (aligned : start % 4 ≡ 0) (bound : AllBound job.lines (inst_labels inst)) where
   runs : BlockRuns job.flags inst start (bytes_of_words there.words)
-  runs = block_runs job.flags inst start there.words rule aligned there.decode there.used
+  runs = block_runs job.flags inst start there.words rule (omega arith) there.decode there.used
 
   abbrev done : IsDone (bound_at b) (bytes_of b) code.bytes start (bytes_of_words there.words) (uses_in start inst)
   done = block_done job code b start (bytes_of_words there.words) (uses_in start inst) f there.block (uses_inside start there.words (uses_in start inst) there.used)

@@ -21,7 +21,8 @@ use Rattle.rv_emit.specs.Emitted.{Buffer, bytes_of_words}
 use Rattle.rv_emit.specs.Blocks.{StandRows}
 use Rattle.rv_asm.specs.Told.{start_of, end_of}
 use Rattle.rv_asm.specs.Simulation.{RunsAsListed}
-use Rattle.rv_asm.specs.Built.{end_before, InstThere, LineThere, Built}
+use Rattle.rv_asm.specs.Told.{end_before}
+use Rattle.rv_asm.specs.Built.{InstThere, LineThere, Built}
 use Rattle.rv_asm.proofs.Threads.{Leads, LineLeads, label_place, IsThreaded, line_at, threaded_runs}
 use Rattle.rv_asm.proofs.Targets.{leads_here}
 use Rattle.rv_asm.proofs.Exits.{AllBound}

@@ -14,7 +14,8 @@ use Rattle.rv_asm.specs.Simulation.{At, End, Stop, Addresses, IsBack, place_of, 
 use Rattle.rv_machine.specs.Decode.{decode}
 use Rattle.rv_machine.specs.Steps.{fetch}
 use Rattle.rv_emit.specs.Rows.{ebreak_row}
-use Rattle.rv_emit.specs.Runs.{Same, Ends, least_steps, exit_address}
+use Rattle.rv_inst.specs.Same.{Same}
+use Rattle.rv_emit.specs.Runs.{Ends, least_steps, exit_address}
 use Rattle.rv_emit.specs.Blocks.{StandRows}
 use Rattle.rv_emit.proofs.Blocked.{ends_both}
 use Rattle.rv_emit.proofs.Placed.{word_there}

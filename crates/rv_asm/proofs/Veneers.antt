@@ -27,12 +27,14 @@ use Rattle.mach_buffer.specs.declared.uses.Use.{Use}
 use Rattle.mach_buffer.specs.Windows.{window}
 use Rattle.mach_buffer.specs.Finish.{IsVia}
 use Rattle.rv_emit.specs.Rows.{jalr_row}
-use Rattle.rv_emit.specs.Runs.{Same, Ends}
-use Rattle.rv_emit.specs.Blocks.{BytesStand, word_in}
+use Rattle.rv_inst.specs.Same.{Same}
+use Rattle.rv_emit.specs.Runs.{Ends}
+use Rattle.rv_emit.specs.Blocks.{BytesStand}
+use Rattle.rv_inst.specs.Islands.{word_in, GoesOn}
 use Rattle.rv_emit.proofs.Registers.{are_values_set}
 use Rattle.rv_emit.proofs.Steps.{istep_at}
 use Rattle.rv_emit.proofs.Blocked.{ends_one, ends_both}
-use Rattle.rv_emit.proofs.Placed.{word_there, bytes_fit}
+use Rattle.rv_emit.proofs.Placed.{AllBytes, word_there, bytes_fit}
 use Rattle.rv_asm.proofs.Placed.{bytes_stand}
 use Rattle.rv_asm.proofs.Threads.{LeadsTo}
 
@@ -181,3 +183,20 @@ veneer_leads flags code kind u to g even = record {
       (subst (λ n. Aims PCRel32 (window code.bytes n 8) (pos to -ℤ pos n)) same_place g.on))
       pc is_state are_values same;
 }
+
+-- its two words go on there
+pub veneer_goes_on : (flags : IsaFlags) (bytes : List ℕ) (kind : LabelUse) (u : Use LabelUse) (to : ℕ) (g : IsVia Aims marks_of (veneer_of kind) bytes u to) → AllBytes bytes → GoesOn flags bytes g.at to
+veneer_goes_on flags bytes kind u to g fits =
+    let inside = g.inside in
+    let same_place : g.at + 0 ≡ g.at = omega arith in
+    let p = veneer_pair flags bytes g.at to (λ k lt. fits (g.at + k) (omega arith))
+        (subst (λ n. SameOutside (marks_of PCRel32) (veneer_of PCRel32).bytes (window bytes n 8)) same_place g.own)
+        (subst (λ n. Aims PCRel32 (window bytes n 8) (pos to -ℤ pos n)) same_place g.on)
+    in
+    record {
+      upper = p.upper;
+      lower = p.lower;
+      first = ap (decode flags) (word_in_window bytes g.at 8 (lit≤ tt)) ∙ p.first ∙ ap (option_map (with_number p.upper)) (old_first flags);
+      second = ap (decode flags) (second_in_window bytes g.at 8 (lit≤ tt)) ∙ p.second ∙ ap (option_map (with_number p.lower)) (old_second flags);
+      sum = p.sum;
+    }

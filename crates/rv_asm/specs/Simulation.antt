@@ -14,7 +14,7 @@ use Rattle.rv_machine.specs.declared.ops.BaseOp.TheVariants.{Ebreak}
 use Rattle.rv_machine.specs.Layout.{bare_form}
 use Rattle.rv_machine.specs.Decode.{decode}
 use Rattle.rv_machine.specs.Steps.{fetch, iter}
-use Rattle.rv_emit.specs.Runs.{Same}
+use Rattle.rv_inst.specs.Same.{Same}
 use Rattle.rv_asm.specs.Told.{start_of, end_of}
 
 -- the start of a line, by its number; an address outside the code; the end of the last line; or the break of a line

@@ -4,9 +4,10 @@ use Rattle.rv_base.specs.declared.flags.IsaFlags.{IsaFlags}
 use Rattle.rv_machine.specs.declared.decode.Decoded.{Decoded}
 use Rattle.rv_machine.specs.State.{State, Values, AreValues, set_reg, wrap, at}
 use Rattle.rv_machine.specs.Decode.{decode}
-use Rattle.rv_machine.specs.Effects.{act, has_no_step}
+use Rattle.rv_machine.specs.Effects.{act}
 use Rattle.rv_machine.specs.Steps.{fetch, istep}
-use Rattle.rv_emit.specs.Runs.{Same, Begins, Ends}
+use Rattle.rv_inst.specs.Same.{Same}
+use Rattle.rv_emit.specs.Runs.{Begins, Ends}
 use Rattle.rv_emit.proofs.Registers.{same_set, are_values_set}
 use Rattle.rv_emit.proofs.Steps.{istep_at, iter_none, iter_one, iter_after}
 
@@ -15,11 +16,11 @@ begins_at : (flags : IsaFlags) (base start after : ℕ) (d : Decoded) (ds : List
 begins_at flags base start after d ds s v b = let room = b.room in let long = b.long in let pc = b.pc in omega arith
 
 -- the row at the first word is done
-pub first_step : (flags : IsaFlags) (base start after : ℕ) (d : Decoded) (ds : List Decoded) (s : State) (v : Values) → Begins flags base start after (d ∷ ds) s v → has_no_step d.op ≡ false → istep flags s ≡ Some (act d s)
-first_step flags base start after d ds s v b steps =
+pub first_step : {t : State} (flags : IsaFlags) (base start after : ℕ) (d : Decoded) (ds : List Decoded) (s : State) (v : Values) → Begins flags base start after (d ∷ ds) s v → act d s ≡ Some t → istep flags s ≡ Some t
+first_step flags base start after d ds s v b acts =
     let here = begins_at flags base start after d ds s v b in
-    let h1 = b.base_aligned in let h2 = b.start_aligned in
-    istep_at flags s d (omega arith) (ap (λ a. decode flags (fetch s.values.mem a)) here ∙ b.has.0) steps
+    let h1 = b.base_aligned in let h2 = b.start_even in
+    istep_at flags s d (omega arith) (ap (λ a. decode flags (fetch s.values.mem a)) here ∙ b.has.0) acts
 
 -- what one step made
 abbrev pub ends_one : {least : ℕ} (flags : IsaFlags) (s : State) (pc address : ℕ) (v w : Values) → istep flags s ≡ Some (at pc w) → pc ≡ address → pc < 2 ^ 64 → Same v w → AreValues v → AreValues w → w.mem ≡ s.values.mem → least ≤ 1 → Ends flags least address v s
@@ -64,10 +65,10 @@ ends_both flags first second v w s e f = record {
 }
 
 -- a row that writes one register and goes on
-pub writes : (flags : IsaFlags) (base start after n x : ℕ) (d : Decoded) (s : State) (v : Values) → Begins flags base start after (d ∷ []) s v → has_no_step d.op ≡ false → act d s ≡ at (wrap (s.pc + 4)) (set_reg s.values n x) → n < 32 → x < 2 ^ 64 → Ends flags 0 (wrap (base + after)) (set_reg v n x) s
-writes flags base start after n x d s v b steps does lt fits =
+pub writes : (flags : IsaFlags) (base start after n x : ℕ) (d : Decoded) (s : State) (v : Values) → Begins flags base start after (d ∷ []) s v → act d s ≡ Some (at (wrap (s.pc + 4)) (set_reg s.values n x)) → n < 32 → x < 2 ^ 64 → Ends flags 0 (wrap (base + after)) (set_reg v n x) s
+writes flags base start after n x d s v b does lt fits =
     ends_one flags s (wrap (s.pc + 4)) (wrap (base + after)) (set_reg v n x) (set_reg s.values n x)
-    (first_step flags base start after d [] s v b steps ∙ ap Some does)
+    (first_step flags base start after d [] s v b does)
     (let here = b.pc in let long = b.long in omega arith) (omega arith)
     (same_set v s.values n x b.are_values b.is_state.values lt b.same)
     (are_values_set v n x b.are_values lt fits)

@@ -20,7 +20,7 @@ use Rattle.rv_imms.specs.declared.imm12.Imm12.{Imm12}
 use Rattle.rv_base.specs.declared.regs.Reg.{Reg}
 use Rattle.rv_base.specs.declared.regs.Writable.{Writable}
 use Rattle.rv_machine.specs.State.{State, Values, reg, set_reg, wrap, low64, at}
-use Rattle.rv_machine.specs.Effects.{act, has_no_step}
+use Rattle.rv_machine.specs.Effects.{act}
 use Rattle.rv_machine.specs.Steps.{istep}
 use Rattle.rv_encode.specs.Rows.{compare_row}
 use Rattle.rv_emit.specs.Rows.{between, jump_row, jalr_row}
@@ -91,10 +91,10 @@ jalr_runs flags targets start rd rs offset h h1 = record {
 }
 
 -- what the row of a comparison does
-branch_acts : (kind : IntegerCompare) (d : ℤ) (s : State) → act (compare_row kind d) s ≡ at (if holds kind.kind (reg s.values (number_of kind.rs1)) (reg s.values (number_of kind.rs2)) then wrap (s.pc + low64 d) else wrap (s.pc + 4)) s.values
+branch_acts : (kind : IntegerCompare) (d : ℤ) (s : State) → act (compare_row kind d) s ≡ Some (at (if holds kind.kind (reg s.values (number_of kind.rs1)) (reg s.values (number_of kind.rs2)) then wrap (s.pc + low64 d) else wrap (s.pc + 4)) s.values)
 branch_acts kind d s = by_kind kind.kind kind.rs1 kind.rs2 d s
   where
-    by_kind : (k : IntCC) (x y : Reg) (d : ℤ) (s : State) → act (compare_row (record { kind = k; rs1 = x; rs2 = y }) d) s ≡ at (if holds k (reg s.values (number_of x)) (reg s.values (number_of y)) then wrap (s.pc + low64 d) else wrap (s.pc + 4)) s.values
+    by_kind : (k : IntCC) (x y : Reg) (d : ℤ) (s : State) → act (compare_row (record { kind = k; rs1 = x; rs2 = y }) d) s ≡ Some (at (if holds k (reg s.values (number_of x)) (reg s.values (number_of y)) then wrap (s.pc + low64 d) else wrap (s.pc + 4)) s.values)
     by_kind Equal x y d s = refl
     by_kind NotEqual x y d s = refl
     by_kind SignedLessThan x y d s = refl
@@ -105,14 +105,6 @@ branch_acts kind d s = by_kind kind.kind kind.rs1 kind.rs2 d s
     by_kind UnsignedGreaterThanOrEqual x y d s = refl
     by_kind UnsignedGreaterThan x y d s = refl
     by_kind UnsignedLessThanOrEqual x y d s = refl
-
-branch_steps : (kind : IntegerCompare) (d : ℤ) → has_no_step (compare_row kind d).op ≡ false
-branch_steps kind d = by_kind kind.kind kind.rs1 kind.rs2 d
-  where
-    by_kind : (k : IntCC) (x y : Reg) (d : ℤ) → has_no_step (compare_row (record { kind = k; rs1 = x; rs2 = y }) d).op ≡ false
-    by_kind Equal x y d = refl
-    by_kind NotEqual x y d = refl
-    by_kind _ x y d = refl
 
 -- whether a comparison holds of the listing's registers
 abbrev taken_of : IntegerCompare → Values → Bool
@@ -126,8 +118,7 @@ branch_step flags kind base start after to ds s v h1 h2 b =
     let here = b.pc in let long = b.long in let room = b.room in
     let there : wrap (s.pc + low64 d) ≡ wrap (base + to) = (λ i. wrap (b.pc i + low64 d)) ∙ lands base start to (omega arith) in
     let next : wrap (s.pc + 4) ≡ wrap (base + (start + 4)) = omega arith in
-    first_step flags base start after (compare_row kind d) ds s v b (branch_steps kind d)
-    ∙ ap Some (branch_acts kind d s)
+    first_step flags base start after (compare_row kind d) ds s v b (branch_acts kind d s)
     ∙ (λ i. Some (at (if holds kind.kind (sym (b.same.regs x h1.1) i) (sym (b.same.regs y h2.1) i) then there i else next i) s.values))
 
 -- an address that a test chose is in its range
@@ -172,7 +163,7 @@ branch_jump_ends flags false targets base start after d s v b e =
     let moved : base + start + 4 ≡ base + (start + 4) = omega arith in
     let b1 : Begins flags base (start + 4) after jump s1 v = record {
       base_aligned = b.base_aligned;
-      start_aligned = let h = b.start_aligned in omega arith;
+      start_even = let h = b.start_even in omega arith;
       long = let h = b.long in omega arith;
       room = b.room;
       has = subst (λ a. HasRows flags s.values.mem a jump) moved b.has.1;

@@ -9,7 +9,7 @@ use Rattle.rv_base.specs.declared.label.MachLabel.{MachLabel}
 use Rattle.rv_base.specs.LabelUse.{SameOutside}
 use Rattle.rv_machine.specs.declared.decode.Decoded.{Decoded}
 use Rattle.rv_machine.specs.Decode.{decode}
-use Rattle.rv_machine.specs.Layout.{fields_of}
+use Rattle.rv_machine.specs.Layout.{word_opcode}
 use Rattle.rv_encode.specs.Rows.{compare_row}
 use Rattle.rv_inst.specs.declared.inst.Inst.{Inst}
 use Rattle.rv_inst.specs.declared.inst.Inst.TheVariants.{Jal, CondBr}
@@ -23,8 +23,10 @@ use Rattle.rv_inst.proofs.Bridges.{decode-patched_branch, decode-patched_jump}
 use Rattle.mach_buffer.specs.declared.uses.Use.{Use}
 use Rattle.mach_buffer.specs.Windows.{window}
 use Rattle.rv_emit.specs.Rows.{between, blank, distances, jump_row, rows_of}
-use Rattle.rv_emit.specs.Emitted.{use_at, uses_in, bytes_of_words, AreRows, opcode_of, UsesStand}
-use Rattle.rv_emit.specs.Blocks.{StandRows, IsAimed, IsPatchedTo, word_in}
+use Rattle.rv_inst.specs.Uses.{use_at, uses_in}
+use Rattle.rv_emit.specs.Emitted.{bytes_of_words, AreRows, opcode_of, UsesStand}
+use Rattle.rv_emit.specs.Blocks.{StandRows, IsAimed, IsPatchedTo}
+use Rattle.rv_inst.specs.Islands.{word_in}
 use Rattle.rv_emit.proofs.Placed.{AllBytes}
 
 -- ---- words and their bytes
@@ -84,15 +86,15 @@ unused_rows flags targets start words rows bytes h p = kept_rows flags bytes sta
 
 -- a word whose window is patched to a distance decodes to the same row with that number
 abbrev Bridge : LabelUse → Type 0
-Bridge kind = (flags : IsaFlags) (old new : List ℕ) (d : ℤ) → AreBytes old → AreBytes new → SameOutside (marks_of kind) old new → (fields_of (word_at old)).opcode ≡ opcode_of kind → Aims kind new d → decode flags (word_at new) ≡ option_map (with_number d) (decode flags (word_at old))
+Bridge kind = (flags : IsaFlags) (old new : List ℕ) (d : ℤ) → AreBytes old → AreBytes new → SameOutside (marks_of kind) old new → word_opcode (word_at old) ≡ opcode_of kind → Aims kind new d → decode flags (word_at new) ≡ option_map (with_number d) (decode flags (word_at old))
 
-use_stands : (kind : LabelUse) → Bridge kind → (flags : IsaFlags) (target start at w : ℕ) (label : MachLabel) (d : Decoded) (block bytes : List ℕ) → window block (at - start) 4 ≡ word_bytes w → w < 2 ^ 32 → decode flags w ≡ Some d → (fields_of w).opcode ≡ opcode_of kind → length (marks_of kind) ≡ 4 → AllBytes bytes → at + 4 ≤ length bytes → IsAimed target start block bytes (use_at at label kind) →
+use_stands : (kind : LabelUse) → Bridge kind → (flags : IsaFlags) (target start at w : ℕ) (label : MachLabel) (d : Decoded) (block bytes : List ℕ) → window block (at - start) 4 ≡ word_bytes w → w < 2 ^ 32 → decode flags w ≡ Some d → word_opcode w ≡ opcode_of kind → length (marks_of kind) ≡ 4 → AllBytes bytes → at + 4 ≤ length bytes → IsAimed target start block bytes (use_at at label kind) →
     decode flags (word_in bytes at) ≡ Some (with_number (between at target) d)
 use_stands kind bridge flags target start at w label d block bytes stood h row e four fits long aimed =
     let aims : Aims kind (window bytes at 4) (between at target) = subst (λ n. Aims kind (window bytes at n) (between at target)) four aimed.aims in
     let kept : SameOutside (marks_of kind) (window block (at - start) 4) (window bytes at 4) = subst (λ n. SameOutside (marks_of kind) (window block (at - start) n) (window bytes at n)) four aimed.kept in
     ap (decode flags) (sym (window_word bytes at))
-    ∙ bridge flags (word_bytes w) (window bytes at 4) (between at target) (word_fits w h) (window_fits bytes at fits long) (subst (λ old. SameOutside (marks_of kind) old (window bytes at 4)) stood kept) (ap (λ x. (fields_of x).opcode) (word_back w) ∙ e) aims
+    ∙ bridge flags (word_bytes w) (window bytes at 4) (between at target) (word_fits w h) (window_fits bytes at fits long) (subst (λ old. SameOutside (marks_of kind) old (window bytes at 4)) stood kept) (ap word_opcode (word_back w) ∙ e) aims
     ∙ ap (λ x. option_map (with_number (between at target)) (decode flags x)) (word_back w)
     ∙ ap (option_map (with_number (between at target))) row
 

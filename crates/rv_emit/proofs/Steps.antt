@@ -1,17 +1,16 @@
--- One step at a row that is known, and steps after steps.
+-- One step at an operation that is known, and steps after steps.
 use Rattle.std.proofs.Common.{◌≡◌, ℕ, zero, suc, ◌+◌, ◌%◌, false, Option, Some, None, arith, refl, sym, ap, ◌∙◌}
 use Rattle.std.specs.Prelude.{nat_eq, if◌then◌else◌}
 use Rattle.rv_base.specs.declared.flags.IsaFlags.{IsaFlags}
 use Rattle.rv_machine.specs.declared.decode.Decoded.{Decoded}
 use Rattle.rv_machine.specs.State.{State}
 use Rattle.rv_machine.specs.Decode.{decode}
-use Rattle.rv_machine.specs.Effects.{act, has_no_step}
+use Rattle.rv_machine.specs.Effects.{act}
 use Rattle.rv_machine.specs.Steps.{fetch, step_on, istep, iter, then_step}
 
-pub istep_at : (flags : IsaFlags) (s : State) (d : Decoded) → s.pc % 2 ≡ 0 → decode flags (fetch s.values.mem s.pc) ≡ Some d → has_no_step d.op ≡ false → istep flags s ≡ Some (act d s)
+pub istep_at : {t : State} (flags : IsaFlags) (s : State) (d : Decoded) → s.pc % 2 ≡ 0 → decode flags (fetch s.values.mem s.pc) ≡ Some d → act d s ≡ Some t → istep flags s ≡ Some t
 unfolding istep
-istep_at flags s d even e steps =
-    (λ i. if nat_eq (even i) 0 then step_on (e i) s else None) ∙ (λ i. if steps i then None else Some (act d s))
+istep_at flags s d even e acts = (λ i. if nat_eq (even i) 0 then step_on (e i) s else None) ∙ acts
 
 pub iter_none : (flags : IsaFlags) (s : State) → iter flags 0 s ≡ Some s
 unfolding iter

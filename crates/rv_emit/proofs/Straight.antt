@@ -26,7 +26,7 @@ use Rattle.rv_inst.specs.Meaning.{alu_rrr, alu_rri}
 use Rattle.rv_machine.specs.declared.ops.MOp.TheVariants.{Base}
 use Rattle.rv_machine.specs.declared.ops.BaseOp.TheVariants as base_op
 use Rattle.rv_machine.specs.State.{State, Values, reg, set_reg, wrap, low64, at}
-use Rattle.rv_machine.specs.Effects.{act, has_no_step, row_result}
+use Rattle.rv_machine.specs.Effects.{act, row_result}
 use Rattle.rv_machine.proofs.Ranges.{row_fits}
 use Rattle.rv_encode.specs.Rows.{row, rrr_op, rri_op, alu_rrr_row, alu_rri_row, kept}
 use Rattle.rv_emit.specs.Rows.{addi_row}
@@ -36,13 +36,9 @@ use Rattle.rv_emit.proofs.Blocked.{writes, ends_here}
 -- ---- operations of two registers
 
 -- what the row of an operation does
-rrr_acts : (op : AluOPRRR) (rd rs1 rs2 : ℕ) (s : State) → act (alu_rrr_row op rd rs1 rs2) s ≡ at (wrap (s.pc + 4)) (set_reg s.values rd (alu_rrr op (reg s.values rs1) (reg s.values rs2)))
+rrr_acts : (op : AluOPRRR) (rd rs1 rs2 : ℕ) (s : State) → act (alu_rrr_row op rd rs1 rs2) s ≡ Some (at (wrap (s.pc + 4)) (set_reg s.values rd (alu_rrr op (reg s.values rs1) (reg s.values rs2))))
 rrr_acts rrr.Add rd rs1 rs2 s = refl
 rrr_acts _ rd rs1 rs2 s = refl
-
-rrr_steps : (op : AluOPRRR) (rd rs1 rs2 : ℕ) → has_no_step (alu_rrr_row op rd rs1 rs2).op ≡ false
-rrr_steps rrr.Add rd rs1 rs2 = refl
-rrr_steps _ rd rs1 rs2 = refl
 
 chosen_below : (c : Bool) (x y most : ℕ) → x < most → y < most → (if c then x else y) < most
 chosen_below true x y most h g = h
@@ -57,21 +53,16 @@ alu_rrr_runs flags targets start op rd rs1 rs2 h h1 h2 = record {
       let m = number_of rs1 in let n = number_of rs2 in
       let low = h.1 in
       writes flags base start after (number_of rd.reg) (alu_rrr op (reg v m) (reg v n)) (alu_rrr_row op (number_of rd.reg) m n) s v b
-      (rrr_steps op (number_of rd.reg) m n)
-      (rrr_acts op (number_of rd.reg) m n s ∙ (λ i. at (wrap (s.pc + 4)) (set_reg s.values (number_of rd.reg) (alu_rrr op (sym (b.same.regs m h1.1) i) (sym (b.same.regs n h2.1) i)))))
+      (rrr_acts op (number_of rd.reg) m n s ∙ (λ i. Some (at (wrap (s.pc + 4)) (set_reg s.values (number_of rd.reg) (alu_rrr op (sym (b.same.regs m h1.1) i) (sym (b.same.regs n h2.1) i))))))
       (omega arith) (rrr_fits op (reg v m) (reg v n) (b.are_values.fits m) (b.are_values.fits n));
 }
 
 -- ---- operations of a register and a number
 
 -- what the row of an operation does, by the bits that it keeps of its number
-rri_acts : (op : AluOPRRI) (rd rs : ℕ) (imm : ℤ) (s : State) → act (alu_rri_row op rd rs imm) s ≡ at (wrap (s.pc + 4)) (set_reg s.values rd (row_result (rri_op op) (reg s.values rs) 0 (low64 (kept (rri_numbers op).number imm))))
+rri_acts : (op : AluOPRRI) (rd rs : ℕ) (imm : ℤ) (s : State) → act (alu_rri_row op rd rs imm) s ≡ Some (at (wrap (s.pc + 4)) (set_reg s.values rd (row_result (rri_op op) (reg s.values rs) 0 (low64 (kept (rri_numbers op).number imm)))))
 rri_acts rri.Addi rd rs imm s = refl
 rri_acts _ rd rs imm s = refl
-
-rri_steps : (op : AluOPRRI) (rd rs : ℕ) (imm : ℤ) → has_no_step (alu_rri_row op rd rs imm).op ≡ false
-rri_steps rri.Addi rd rs imm = refl
-rri_steps _ rd rs imm = refl
 
 below_limit : (limit n : ℕ) → nat_le limit n ≡ false → n < limit
 below_limit limit n h = grind (arith, nat_tests)
@@ -111,10 +102,9 @@ alu_rri_runs flags targets start op rd rs imm h h1 range = record {
       let n = number_of rs in
       let low = h.1 in
       writes flags base start after (number_of rd.reg) (alu_rri op (reg v n) imm.value) (alu_rri_row op (number_of rd.reg) n imm.value) s v b
-      (rri_steps op (number_of rd.reg) n imm.value)
       (rri_acts op (number_of rd.reg) n imm.value s
-      ∙ ap (λ x. at (wrap (s.pc + 4)) (set_reg s.values (number_of rd.reg) x)) (rri_same op (reg s.values n) imm.value range)
-      ∙ (λ i. at (wrap (s.pc + 4)) (set_reg s.values (number_of rd.reg) (alu_rri op (sym (b.same.regs n h1.1) i) imm.value))))
+      ∙ ap (λ x. Some (at (wrap (s.pc + 4)) (set_reg s.values (number_of rd.reg) x))) (rri_same op (reg s.values n) imm.value range)
+      ∙ (λ i. Some (at (wrap (s.pc + 4)) (set_reg s.values (number_of rd.reg) (alu_rri op (sym (b.same.regs n h1.1) i) imm.value)))))
       (omega arith) (row_fits (rri_op op) (reg v n) 0 (low64 imm.value) (b.are_values.fits n) (lit< tt) (low64_small imm.value imm.low imm.high));
 }
 
@@ -124,15 +114,15 @@ pub lui_runs : (flags : IsaFlags) (targets : ℕ → ℕ) (start : ℕ) (rd : Wr
 lui_runs flags targets start rd imm h = record {
   run = λ base after s v b.
       let low = h.1 in
-      writes flags base start after (number_of rd.reg) (wrap (low64 imm.value * 2 ^ 12)) (row (Base base_op.Lui) (number_of rd.reg) 0 0 imm.value) s v b refl refl (omega arith) (omega arith);
+      writes flags base start after (number_of rd.reg) (wrap (low64 imm.value * 2 ^ 12)) (row (Base base_op.Lui) (number_of rd.reg) 0 0 imm.value) s v b refl (omega arith) (omega arith);
 }
 
 pub auipc_runs : (flags : IsaFlags) (targets : ℕ → ℕ) (start : ℕ) (rd : Writable Reg) (imm : Imm20) → IsUsable rd.reg → Runs flags targets start (Auipc rd imm)
 auipc_runs flags targets start rd imm h = record {
   run = λ base after s v b.
       let low = h.1 in
-      writes flags base start after (number_of rd.reg) (wrap (wrap (base + start) + low64 imm.value * 2 ^ 12)) (row (Base base_op.Auipc) (number_of rd.reg) 0 0 imm.value) s v b refl
-      (λ i. at (wrap (s.pc + 4)) (set_reg s.values (number_of rd.reg) (wrap (b.pc i + low64 imm.value * 2 ^ 12))))
+      writes flags base start after (number_of rd.reg) (wrap (wrap (base + start) + low64 imm.value * 2 ^ 12)) (row (Base base_op.Auipc) (number_of rd.reg) 0 0 imm.value) s v b
+      (λ i. Some (at (wrap (s.pc + 4)) (set_reg s.values (number_of rd.reg) (wrap (b.pc i + low64 imm.value * 2 ^ 12)))))
       (omega arith) (omega arith);
 }
 
@@ -150,8 +140,8 @@ move_ends flags base start after rd rs true s v e h h1 b =
     let same : rd ≡ rs = eqb-true rd rs e in
     subst (λ (w : Values). Ends flags 0 (wrap (base + after)) w s) (sym (ap (λ n. set_reg v rd (reg v n)) (sym same) ∙ set_own v rd)) (ends_here flags base start after s v b)
 move_ends flags base start after rd rs false s v e h h1 b =
-    writes flags base start after rd (reg v rs) (addi_row rd rs (pos 0)) s v b refl
-    (λ i. at (wrap (s.pc + 4)) (set_reg s.values rd ((plus_none (reg s.values rs) (b.is_state.values.fits rs) ∙ sym (b.same.regs rs h1)) i)))
+    writes flags base start after rd (reg v rs) (addi_row rd rs (pos 0)) s v b
+    (λ i. Some (at (wrap (s.pc + 4)) (set_reg s.values rd ((plus_none (reg s.values rs) (b.is_state.values.fits rs) ∙ sym (b.same.regs rs h1)) i))))
     (omega arith) (b.are_values.fits rs)
 
 pub mov_runs : (flags : IsaFlags) (targets : ℕ → ℕ) (start : ℕ) (rd : Writable Reg) (rm : Reg) (type : IrType) → IsUsable rd.reg → IsUsable rm → Runs flags targets start (Mov rd rm type)
@@ -167,4 +157,4 @@ mov_from_preg_runs flags targets start rd rm h h1 = record {
 -- x0 drops what an addition puts there
 pub nop4_ends : (flags : IsaFlags) (base start after : ℕ) (s : State) (v : Values) → Begins flags base start after (addi_row 0 0 (pos 0) ∷ []) s v → Ends flags 0 (wrap (base + after)) v s
 nop4_ends flags base start after s v b =
-    writes flags base start after 0 0 (addi_row 0 0 (pos 0)) s v b refl refl (lit< tt) (lit< tt)
+    writes flags base start after 0 0 (addi_row 0 0 (pos 0)) s v b refl (lit< tt) (lit< tt)

@@ -13,12 +13,13 @@ use Rattle.rv_base.specs.LabelUse.{IsFresh}
 use Rattle.rv_base.specs.Regs.{number_of}
 use Rattle.rv_machine.specs.declared.decode.Decoded.{Decoded}
 use Rattle.rv_machine.specs.Decode.{decode}
-use Rattle.rv_machine.specs.Layout.{fields_of}
+use Rattle.rv_machine.specs.Layout.{word_opcode}
 use Rattle.rv_ops.specs.declared.compare.IntegerCompare.{IntegerCompare}
 use Rattle.rv_ops.specs.declared.compare.BranchFunct3.{BranchFunct3}
 use Rattle.rv_ops.specs.declared.compare.BranchFunct3.TheVariants as branch
 use Rattle.rv_ops.specs.Compare.{branch_of, funct3_of, rs1_of, rs2_of, branch_word}
-use Rattle.rv_encode.specs.Layouts.{b_fields}
+use Rattle.rv_machine.specs.Opcodes.{BRANCH}
+use Rattle.rv_encode.specs.Layouts.{IsBType}
 use Rattle.rv_encode.specs.Rows.{compare_row}
 use Rattle.rv_encode.proofs.Decoding.{branch_decodes}
 use Rattle.rv_inst.specs.declared.label_use.LabelUse.{LabelUse}
@@ -28,7 +29,8 @@ use Rattle.rv_inst.specs.LabelUseWords.{word_bytes}
 use Rattle.mach_buffer.specs.declared.uses.Use.{Use}
 use Rattle.mach_buffer.specs.Buffer.{bytes_of, uses_of}
 use Rattle.rv_emit.specs.Rows.{jump_row}
-use Rattle.rv_emit.specs.Emitted.{Buffer, Adds, PutsWords, use_at}
+use Rattle.rv_emit.specs.Emitted.{Buffer, Adds, PutsWords}
+use Rattle.rv_inst.specs.Uses.{use_at}
 
 -- a word's bytes, the least first
 pub bytes_of_word : (w : ℕ) → w < 2 ^ 32 → to_le_bytes w32 w ≡ word_bytes w
@@ -55,26 +57,8 @@ puts_jump old new label a = record {
 -- ---- branches
 
 -- a branch's word by its fields
-branch_is : (w f r1 r2 : ℕ) → f < 8 → r1 < 32 → r2 < 32 → w ≡ 0x63 + f * 2 ^ 12 + r1 * 2 ^ 15 + r2 * 2 ^ 20 → fields_of w ≡ b_fields 0x63 f r1 r2 0
-branch_is w f r1 r2 hf h1 h2 e = (λ i. record { opcode = opcode i; rd = rd i; funct3 = funct3 i; rs1 = rs1 i; rs2 = rs2 i; funct7 = funct7 i })
-  where
-    opcode : (fields_of w).opcode ≡ 0x63
-    opcode = omega arith
-
-    rd : (fields_of w).rd ≡ 0
-    rd = omega arith
-
-    funct3 : (fields_of w).funct3 ≡ f
-    funct3 = omega arith
-
-    rs1 : (fields_of w).rs1 ≡ r1
-    rs1 = omega arith
-
-    rs2 : (fields_of w).rs2 ≡ r2
-    rs2 = omega arith
-
-    funct7 : (fields_of w).funct7 ≡ 0
-    funct7 = omega arith
+branch_is : (w f r1 r2 : ℕ) → f < 8 → r1 < 32 → r2 < 32 → w ≡ 0x63 + f * 2 ^ 12 + r1 * 2 ^ 15 + r2 * 2 ^ 20 → IsBType w BRANCH f r1 r2 0
+branch_is w f r1 r2 hf h1 h2 e = record { opcode_is = omega arith; funct3_is = omega arith; rs1_is = omega arith; rs2_is = omega arith; imm_is = omega arith }
 
 -- a word with nothing at 7, 11:8 and 31:25 is fresh
 no_bits : (x k n : ℕ) → bit_and x 0 ≡ 0
@@ -110,12 +94,18 @@ pub record IsBranch (w : ℕ) (kind : IntegerCompare) : Type 0 where
   pub fits : w < 2 ^ 32
   pub decodes : (flags : IsaFlags) → decode flags w ≡ Some (compare_row kind (pos 0))
   pub fresh : IsFresh (marks_of B12) (word_bytes w)
-  pub opcode : (fields_of w).opcode ≡ 0x63
+  pub opcode : word_opcode w ≡ 0x63
 
 is_branch : (kind : IntegerCompare) (w f r1 r2 : ℕ) → f < 8 → r1 < 32 → r2 < 32 → w ≡ 0x63 + f * 2 ^ 12 + r1 * 2 ^ 15 + r2 * 2 ^ 20 → f ≡ funct3_of (branch_of kind.kind) → r1 ≡ number_of (rs1_of kind) → r2 ≡ number_of (rs2_of kind) → IsBranch w kind
 is_branch kind w f r1 r2 hf h1 h2 e ef e1 e2 = record {
   fits = omega arith;
-  decodes = λ flags. branch_decodes flags w kind (pos 0) (omega (arith, ints)) (omega (arith, ints)) refl (branch_is w f r1 r2 hf h1 h2 e ∙ (λ i. b_fields 0x63 (ef i) (e1 i) (e2 i) 0));
+  decodes = λ flags. branch_decodes flags w kind (pos 0) (omega (arith, ints)) (omega (arith, ints)) (record {
+    opcode_is = omega arith;
+    funct3_is = (branch_is w f r1 r2 hf h1 h2 e).funct3_is ∙ ef;
+    rs1_is = (branch_is w f r1 r2 hf h1 h2 e).rs1_is ∙ e1;
+    rs2_is = (branch_is w f r1 r2 hf h1 h2 e).rs2_is ∙ e2;
+    imm_is = (branch_is w f r1 r2 hf h1 h2 e).imm_is;
+  });
   fresh = branch_fresh w (omega arith) (omega arith);
   opcode = omega arith;
 }

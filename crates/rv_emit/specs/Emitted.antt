@@ -1,22 +1,21 @@
--- What an instruction puts into a buffer.
+-- What an instruction puts into a buffer: links of the proof.
 use Rattle.std.specs.Prelude.{◌≡◌, ℕ, ◌+◌, ◌*◌, ◌%◌, ◌^◌, ◌<◌, ◌≤◌, ◌⊎◌, ◌≢◌, Bool, true, false, List, [], ◌∷◌, ◌++◌, length, take, Option, Some, None}
 use Rattle.rv_base.specs.declared.flags.IsaFlags.{IsaFlags}
 use Rattle.rv_base.specs.declared.label.MachLabel.{MachLabel}
 use Rattle.rv_base.specs.LabelUse.{IsFresh}
 use Rattle.rv_machine.specs.declared.decode.Decoded.{Decoded}
 use Rattle.rv_machine.specs.Decode.{decode}
-use Rattle.rv_machine.specs.Layout.{fields_of}
+use Rattle.rv_machine.specs.Opcodes.{JAL, BRANCH, AUIPC, OP_IMM}
+use Rattle.rv_machine.specs.Layout.{word_opcode}
 use Rattle.rv_inst.specs.declared.inst.Inst.{Inst}
-use Rattle.rv_inst.specs.declared.inst.Inst.TheVariants.{EmitIsland, Jal, CondBr}
-use Rattle.rv_inst.specs.declared.inst.CondBrTarget.{CondBrTarget}
-use Rattle.rv_inst.specs.declared.inst.CondBrTarget.TheVariants.{Label, Fallthrough}
 use Rattle.rv_inst.specs.declared.label_use.LabelUse.{LabelUse}
 use Rattle.rv_inst.specs.declared.label_use.LabelUse.TheVariants.{Jal20, PCRel32, B12, PCRelHi20, PCRelLo12I}
-use Rattle.rv_inst.specs.Families.{family_of, by_family}
 use Rattle.rv_inst.specs.LabelUse.{marks_of, forward_of, backward_of, has_veneer_of, veneer_of}
 use Rattle.rv_inst.specs.LabelUseWords.{word_bytes}
 use Rattle.rv_inst.specs.Fields.{inst_labels}
 use Rattle.rv_inst.specs.Rules.{inst_rule}
+use Rattle.rv_inst.specs.Sizes.{island_space, inst_sum}
+use Rattle.rv_inst.specs.Uses.{use_at, uses_in}
 use Rattle.mach_buffer.specs.declared.buffer.MachBuffer.{MachBuffer}
 use Rattle.mach_buffer.specs.declared.uses.Use.{Use}
 use Rattle.mach_buffer.specs.Reach.{is_needed}
@@ -39,25 +38,6 @@ HasWindows b = AreWindows marks_of (bytes_of b) (uses_of b) (veneers_of b)
 -- the deadlines of the pending uses
 abbrev pub pending : Buffer → List ℕ
 pending b = pending_of has_veneer_of forward_of backward_of b
-
--- ---- uses
-
-abbrev pub use_at : ℕ → MachLabel → LabelUse → Use LabelUse
-use_at offset label kind = record { offset = offset; label = label; kind = kind; veneer = None }
-
-abbrev pub branch_uses : ℕ → CondBrTarget → CondBrTarget → List (Use LabelUse)
-branch_uses start Fallthrough not_taken = []
-branch_uses start (Label t) Fallthrough = use_at start t B12 ∷ []
-branch_uses start (Label t) (Label f) = use_at start t B12 ∷ use_at (start + 4) f Jal20 ∷ []
-
-abbrev pub control_uses : ℕ → Inst → List (Use LabelUse)
-control_uses start (Jal label) = use_at start label Jal20 ∷ []
-control_uses start (CondBr taken not_taken kind) = branch_uses start taken not_taken
-control_uses start _ = []
-
--- the uses of an instruction that starts at an offset, in the order in which it names their labels
-abbrev pub uses_in : ℕ → Inst → List (Use LabelUse)
-uses_in start inst = by_family [] [] (control_uses start inst) (family_of inst)
 
 -- ---- a block
 
@@ -85,17 +65,17 @@ AreRows (w ∷ words) (d ∷ rows) = (w < 2 ^ 32) × ((flags : IsaFlags) → dec
 
 -- the opcode of a use's first word
 abbrev pub opcode_of : LabelUse → ℕ
-opcode_of Jal20 = 0x6f
-opcode_of B12 = 0x63
-opcode_of PCRel32 = 0x17
-opcode_of PCRelHi20 = 0x17
-opcode_of PCRelLo12I = 0x13
+opcode_of Jal20 = JAL
+opcode_of B12 = BRANCH
+opcode_of PCRel32 = AUIPC
+opcode_of PCRelHi20 = AUIPC
+opcode_of PCRelLo12I = OP_IMM
 
 -- each use stands in a word of its own, from an offset on, of its kind's opcode and with a fresh window
 abbrev pub UsesStand : ℕ → List ℕ → List (Use LabelUse) → Type 0
 UsesStand start words [] = Unit {0}
 UsesStand start [] (u ∷ uses) = ⊥
-UsesStand start (w ∷ words) (u ∷ uses) = (u.offset ≡ start) × IsFresh (marks_of u.kind) (word_bytes w) × ((fields_of w).opcode ≡ opcode_of u.kind) × (length (marks_of u.kind) ≡ 4) × UsesStand (start + 4) words uses
+UsesStand start (w ∷ words) (u ∷ uses) = (u.offset ≡ start) × IsFresh (marks_of u.kind) (word_bytes w) × (word_opcode w ≡ opcode_of u.kind) × (length (marks_of u.kind) ≡ 4) × UsesStand (start + 4) words uses
 
 -- words that decode to these rows were put at the end, with these uses
 pub record PutsWords (rows : List Decoded) (own : List (Use LabelUse)) (old new : Buffer) : Type 0 where
@@ -134,16 +114,6 @@ pub record MakesRoom (distance : ℕ) (old new : Buffer) (made : Bool) : Type 0 
   pub put : ((made ≡ false) × (new ≡ old)) ⊎ ((made ≡ true) × PutsIsland old new)
 
 -- ---- an instruction
-
--- how many bytes an instruction asks for an island before, where it does
-abbrev pub island_space : Inst → Option ℕ
-island_space (EmitIsland space) = Some space
-island_space _ = None
-
--- how much an instruction adds to the size of a listing
-abbrev pub inst_sum : Inst → ℕ
-inst_sum (EmitIsland space) = 128 + space
-inst_sum _ = 128
 
 -- what an instruction asks of the buffer
 pub record CanEmit (inst : Inst) (b : Buffer) : Type 0 where

@@ -1,4 +1,4 @@
--- What it is for the rows of an instruction to run as the instruction means.
+-- What it is for the rows of an instruction to run as the instruction means: links of the proof.
 use Rattle.std.specs.Prelude.{◌≡◌, ℕ, ◌+◌, ◌*◌, ◌%◌, ◌^◌, ◌<◌, ◌≤◌, if◌then◌else◌, List, [], ◌∷◌, length, Some}
 use Rattle.rv_base.specs.declared.flags.IsaFlags.{IsaFlags}
 use Rattle.rv_base.specs.declared.regs.Reg.{Reg}
@@ -9,18 +9,13 @@ use Rattle.rv_inst.specs.declared.inst.Inst.{Inst}
 use Rattle.rv_inst.specs.declared.inst.Inst.TheVariants.{Jal, CondBr}
 use Rattle.rv_inst.specs.declared.inst.CondBrTarget.{CondBrTarget}
 use Rattle.rv_inst.specs.declared.inst.CondBrTarget.TheVariants.{Label, Fallthrough}
-use Rattle.rv_inst.specs.Families.{family_of, by_family}
-use Rattle.rv_inst.specs.Meaning.{Standing, Exit, Next, To, Leave, Break, marks_exit, control_exit, inst_effect}
+use Rattle.rv_inst.specs.Meaning.{Standing, Exit, Next, To, Leave, Break, inst_exit, inst_effect}
+use Rattle.rv_inst.specs.Same.{Same}
 use Rattle.rv_machine.specs.declared.decode.Decoded.{Decoded}
 use Rattle.rv_machine.specs.Decode.{decode}
 use Rattle.rv_machine.specs.State.{State, IsState, Values, AreValues, Memory, byte, reg, wrap}
 use Rattle.rv_machine.specs.Steps.{fetch, iter}
 use Rattle.rv_emit.specs.Rows.{distances, rows_of}
-
--- x1 to x29 and the memories are equal; x30 and x31 may hold anything
-pub record Same (v w : Values) : Type 0 where
-  pub regs : (n : ℕ) → n < 30 → reg v n ≡ reg w n
-  pub mem : (a : ℕ) → byte v.mem a ≡ byte w.mem a
 
 -- words that decode to these rows stand in the memory from an address on
 abbrev pub HasRows : IsaFlags → Memory → ℕ → List Decoded → Type 0
@@ -30,7 +25,7 @@ HasRows flags mem a (d ∷ rows) = (decode flags (fetch mem a) ≡ Some d) × Ha
 -- a machine before the rows of a line, beside the listing's values
 pub record Begins (flags : IsaFlags) (base start after : ℕ) (rows : List Decoded) (s : State) (v : Values) : Type 0 where
   pub base_aligned : base % 4 ≡ 0
-  pub start_aligned : start % 4 ≡ 0
+  pub start_even : start % 2 ≡ 0
   pub long : after ≡ start + 4 * length rows
   pub room : base + after ≤ 2 ^ 64
   pub has : HasRows flags s.values.mem (base + start) rows
@@ -60,13 +55,10 @@ abbrev pub used_target : ℕ → CondBrTarget → Exit
 used_target k (Label label) = To k
 used_target k Fallthrough = Next
 
-abbrev pub control_used_exit : Inst → Values → Exit
-control_used_exit (Jal label) v = To 0
-control_used_exit (CondBr taken not_taken kind) v = if holds kind.kind (reg v (number_of kind.rs1)) (reg v (number_of kind.rs2)) then used_target 0 taken else used_target 1 not_taken
-control_used_exit inst v = control_exit inst v
-
 abbrev pub used_exit : Inst → Values → Exit
-used_exit inst v = by_family (marks_exit inst) Next (control_used_exit inst v) (family_of inst)
+used_exit (Jal label) v = To 0
+used_exit (CondBr taken not_taken kind) v = if holds kind.kind (reg v (number_of kind.rs1)) (reg v (number_of kind.rs2)) then used_target 0 taken else used_target 1 not_taken
+used_exit inst v = inst_exit inst v
 
 -- a jump takes a step; the next line may be reached in none, and a break has none
 abbrev pub least_steps : Exit → ℕ

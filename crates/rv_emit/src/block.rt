@@ -12,17 +12,22 @@ ghost use Rattle.rv_inst.specs.declared.label_use.LabelUse.TheVariants.{Jal20, B
 ghost use Rattle.rv_inst.specs.LabelUseWords.{word_bytes};
 ghost use Rattle.rv_inst.specs.Rules.{inst_rule};
 ghost use Rattle.mach_buffer.specs.Buffer.{bytes_of, drawn_of, spoiled_of, IsKnown};
-ghost use Rattle.rv_emit.specs.Usable.{IsFinePlain, IsFineBranch, IsFineControl};
-ghost use Rattle.rv_emit.specs.Emitted.{IsSoundBuffer, Adds, PutsWords, PutsBlock, use_at, branch_uses, control_uses};
-ghost use Rattle.rv_emit.specs.Rows.{marks_rows, plain_rows, move_rows, control_rows, branch_rows, jump_row, blank};
+ghost use Rattle.rv_emit.specs.Usable.{IsFine, IsFineBranch};
+ghost use Rattle.rv_emit.specs.Emitted.{IsSoundBuffer, Adds, PutsWords, PutsBlock};
+ghost use Rattle.rv_inst.specs.Uses.{use_at, branch_uses};
+ghost use Rattle.rv_inst.specs.Families.{family_of};
+ghost use Rattle.rv_inst.specs.declared.inst.Family.TheVariants.{Marks, Plain, Control};
+ghost use Rattle.rv_emit.specs.Rows.{move_rows, branch_rows, jump_row, blank};
 
 use mach_buffer::buffer::MachBuffer;
 use rv_base::label::MachLabel;
 use rv_base::memory::OutOfMemory;
 use rv_base::named::{link_reg, writable_zero_reg, zero_reg};
 use rv_base::regs::{Reg, WritableReg};
-use rv_encode::jumps::{enc_auipc, enc_jalr, encode_ebreak, encode_lui};
-use rv_encode::operations::{encode_alu_rr_imm12, encode_alu_rrr};
+use rv_encode::{
+    enc_auipc, enc_jalr, encode_alu_rr_imm12, encode_alu_rrr, encode_branch, encode_ebreak,
+    encode_jal, encode_lui,
+};
 use rv_imms::imm12::Imm12;
 use rv_inst::inst::{CondBrTarget, Family, Inst};
 use rv_inst::label_use::LabelUse;
@@ -47,7 +52,7 @@ pub(crate) fn put_block(sink: &mut MachBuffer<LabelUse>, inst: &Inst) -> Result<
 fn put_mark(sink: &mut MachBuffer<LabelUse>, inst: &Inst) -> Result<(), OutOfMemory>
     requires room { length (bytes_of sink.old) + 8 < 2147479552 }
     requires sound { IsSoundBuffer sink.old }
-    ensures block { OnOk result (PutsWords (marks_rows inst.now) [] sink.old sink.new) }
+    ensures block { family_of inst.now ≡ Marks → OnOk result (PutsBlock inst.now sink.old sink.new) }
     ensures refused { OnErr result (spoiled_of sink.new ≡ true) }
 {
     match inst {
@@ -61,10 +66,10 @@ fn put_mark(sink: &mut MachBuffer<LabelUse>, inst: &Inst) -> Result<(), OutOfMem
 }
 
 fn put_plain(sink: &mut MachBuffer<LabelUse>, inst: &Inst) -> Result<(), OutOfMemory>
-    requires fine { IsFinePlain inst.now }
+    requires fine { IsFine inst.now }
     requires room { length (bytes_of sink.old) + 8 < 2147479552 }
     requires sound { IsSoundBuffer sink.old }
-    ensures block { OnOk result (PutsWords (plain_rows inst.now) [] sink.old sink.new) }
+    ensures block { family_of inst.now ≡ Plain → OnOk result (PutsBlock inst.now sink.old sink.new) }
     ensures refused { OnErr result (spoiled_of sink.new ≡ true) }
 {
     match inst {
@@ -117,10 +122,10 @@ fn number(reg: Reg) -> u8
 }
 
 fn put_control(sink: &mut MachBuffer<LabelUse>, inst: &Inst) -> Result<(), OutOfMemory>
-    requires fine { IsFineControl inst.now }
+    requires fine { IsFine inst.now }
     requires room { length (bytes_of sink.old) + 8 < 2147479552 }
     requires sound { IsSoundBuffer sink.old }
-    ensures block { OnOk result (PutsWords (control_rows blank inst.now) (control_uses (length (bytes_of sink.old)) inst.now) sink.old sink.new) }
+    ensures block { family_of inst.now ≡ Control → OnOk result (PutsBlock inst.now sink.old sink.new) }
     ensures refused { OnErr result (spoiled_of sink.new ≡ true) }
 {
     match inst {
@@ -194,8 +199,24 @@ fn put_compare(
     ensures word { OnOk result (Adds (word_bytes (branch_word kind)) (use_at (length (bytes_of sink.old)) label B12 ∷ []) sink.old sink.new) }
     ensures refused { OnErr result (spoiled_of sink.new ≡ true) }
 {
-    put_use(sink, kind.emit(), label, LabelUse::B12)?;
+    put_use(sink, compare_word(kind), label, LabelUse::B12)?;
     Ok(())
+}
+
+/// The word of a branch whose distance is still to come.
+fn compare_word(kind: IntegerCompare) -> u32
+    requires rs1 { IsIntRegister kind.rs1 }
+    requires rs2 { IsIntRegister kind.rs2 }
+    ensures { result ≡ branch_word kind }
+{
+    encode_branch(kind, 0)
+}
+
+/// The word of a jump whose distance is still to come.
+fn jump_word() -> u32
+    ensures { result ≡ 0x6f }
+{
+    encode_jal(writable_zero_reg(), 0)
 }
 
 /// A jump to a label.
@@ -207,7 +228,7 @@ pub(crate) fn put_jump(sink: &mut MachBuffer<LabelUse>, label: MachLabel) -> Res
     ensures word { OnOk result (Adds (word_bytes 0x6f) (use_at (length (bytes_of sink.old)) label Jal20 ∷ []) sink.old sink.new) }
     ensures refused { OnErr result (spoiled_of sink.new ≡ true) }
 {
-    put_use(sink, 0x6f, label, LabelUse::Jal20)?;
+    put_use(sink, jump_word(), label, LabelUse::Jal20)?;
     Ok(())
 }
 

@@ -3,7 +3,8 @@
 ghost use Rattle.std.specs.Prelude.{◌≡◌, length, OnOk, OnErr, true};
 ghost use Rattle.mach_buffer.specs.Reach.{CanReach};
 ghost use Rattle.mach_buffer.specs.Buffer.{bytes_of, spoiled_of};
-ghost use Rattle.rv_emit.specs.Emitted.{pending, CanEmit, Emitted, IsBounded, island_space as space_of};
+ghost use Rattle.rv_emit.specs.Emitted.{pending, CanEmit, Emitted, IsBounded};
+ghost use Rattle.rv_inst.specs.Sizes.{island_space as space_of};
 ghost use Rattle.rv_emit.specs.Blocks.{PutRuns};
 
 use crate::block::put_block;

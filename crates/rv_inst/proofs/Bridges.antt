@@ -165,16 +165,6 @@ pub decode-patched_jump : (flags : IsaFlags) (old new : List ℕ) (d : ℤ) → 
 unfolding decode
 decode-patched_jump flags old new d b c s e n = jump_word (word_at old) (word_at new) d (same_upper old new b c s) e n
 
-pub decode-patched_upper : (flags : IsaFlags) (old new : List ℕ) (d : ℤ) → AreBytes old → AreBytes new → SameOutside (marks_of PCRelHi20) old new → word_opcode (word_at old) ≡ AUIPC → Aims PCRelHi20 new d →
-    decode flags (word_at new) ≡ option_map (with_number (signed (2 ^ 19) (upper_part d))) (decode flags (word_at old))
-unfolding decode
-decode-patched_upper flags old new d b c s e n = upper_word (word_at old) (word_at new) (signed (2 ^ 19) (upper_part d)) (same_upper old new b c s) e (ap (signed (2 ^ 19)) n)
-
-pub decode-patched_lower : (flags : IsaFlags) (old new : List ℕ) (d : ℤ) → AreBytes old → AreBytes new → SameOutside (marks_of PCRelLo12I) old new → IsAccess (word_at old) → Aims PCRelLo12I new d →
-    decode flags (word_at new) ≡ option_map (with_number (signed (2 ^ 11) (lower_part d))) (decode flags (word_at old))
-unfolding decode
-decode-patched_lower flags old new d b c s e n = lower_word (word_at old) (word_at new) (signed (2 ^ 11) (lower_part d)) (same_lower old new b c s) e (ap (signed (2 ^ 11)) n)
-
 -- the halves of a pair's window
 at_four : (s : List ℕ) (i : ℕ) → slice_index (drop 4 s) i ≡ slice_index s (4 + i)
 at_four s i = get_or-drop 4 s i 0
@@ -200,14 +190,3 @@ decode-patched_pair flags old new d b c b' c' s e a n = record {
   second = lower_word (word_at (drop 4 old)) (word_at (drop 4 new)) _ (same_lower (drop 4 old) (drop 4 new) b' c' (second_half old new s)) a refl;
   sum = n;
 }
-
--- the two parts that stand one behind the other sum to the distance of the first
-pub parts_sum : (l u : ℕ) → l < 2 ^ 32 → u < 2 ^ 32 → l ≤ u + 2147481599 → u ≤ l + 2147485696 →
-    (signed (2 ^ 19) (upper_part (pos l -ℤ pos u)) *ℤ pos 4096) +ℤ signed (2 ^ 11) (lower_part (pos l -ℤ pos (u + 4))) ≡ pos l -ℤ pos u
-parts_sum l u hl hu up low =
-    let x = (l + (4294967296 - u)) % 4294967296 in
-    let same : (pos l -ℤ pos (u + 4)) +ℤ pos 4 ≡ pos l -ℤ pos u = omega (arith, ints) in
-    let lower : lower_part (pos l -ℤ pos (u + 4)) ≡ x % 4096 = ap (λ z. low32 z % 4096) same ∙ ap (λ (n : ℕ). n % 4096) (low32_difference l u hu) in
-    ap (λ (n : ℕ). (signed (2 ^ 19) n *ℤ pos 4096) +ℤ signed (2 ^ 11) (lower_part (pos l -ℤ pos (u + 4)))) (upper_of_difference l u hl hu)
-    ∙ ap (λ (n : ℕ). (signed (2 ^ 19) ((x + 2048) % 4294967296 / 4096) *ℤ pos 4096) +ℤ signed (2 ^ 11) n) lower
-    ∙ pair_distance l u hl hu up low

@@ -148,9 +148,3 @@ branch_keeps old new n h b f hn =
 -- the bits of a distance, read signed, are the distance
 pub signed-distance_bits : (half from to : ℕ) → to < from + half → from ≤ to + half → signed half (distance_bits (2 * half) from to) ≡ pos to -ℤ pos from
 signed-distance_bits half from to h k = grind (arith, ints)
-
-pub distance_bits_below : (half from to : ℕ) → to < from + half → from ≤ to + half → distance_bits (2 * half) from to < 2 * half
-distance_bits_below half from to h k = grind arith
-
-pub distance_bits_even : (half from to : ℕ) → from % 2 ≡ 0 → to % 2 ≡ 0 → to < from + half → from ≤ to + half → distance_bits (2 * half) from to % 2 ≡ 0
-distance_bits_even half from to h k up low = grind arith

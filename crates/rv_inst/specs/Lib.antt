@@ -1,5 +1,6 @@
 pub mod Families
 pub mod Fields
+pub mod Islands
 pub mod LabelUse
 pub mod LabelUseBridges
 pub mod LabelUseWords

@@ -37,14 +37,6 @@ are_values_set v n x h lt fits = record {
   bytes = h.bytes;
 }
 
-pub set_reg_state : (s : State) (n x : ℕ) → IsState s → n < 32 → x < 2 ^ 64 → IsState (at s.pc (set_reg s.values n x))
-set_reg_state s n x h lt fits = record { pc = h.pc; values = are_values_set s.values n x h.values lt fits }
-
--- ---- the pc
-
-pub set_pc_state : (s : State) (pc : ℕ) → IsState s → pc < 2 ^ 64 → IsState (at pc s.values)
-set_pc_state s pc h fits = record { pc = fits; values = h.values }
-
 -- ---- memory
 
 byte_set_fits : (mem : Memory) (k b a : ℕ) → b < 256 → byte mem a < 256 → byte (map.insert mem k b) a < 256

@@ -1,5 +1,5 @@
 -- Steps of the machine, one and many.
-use Rattle.std.specs.Prelude.{◌≡◌, ℕ, zero, suc, ◌+◌, ◌*◌, ◌%◌, ◌^◌, nat_eq, if◌then◌else◌, List, Option, Some, None, replicate}
+use Rattle.std.specs.Prelude.{◌≡◌, ℕ, zero, suc, ◌+◌, ◌*◌, ◌%◌, ◌^◌, ◌<◌, nat_eq, if◌then◌else◌, List, length, slice_index, Option, Some, None, replicate}
 use Rattle.std.specs.FinMap as map
 use Rattle.rv_base.specs.declared.flags.IsaFlags.{IsaFlags}
 use Rattle.rv_machine.specs.declared.decode.Decoded.{Decoded}
@@ -54,6 +54,10 @@ with_memory m mem = with_state m (at m.state.pc (record { regs = m.state.values.
 -- bytes put at an address and on
 abbrev pub with_bytes : Machine → ℕ → List ℕ → Machine
 with_bytes m at bytes = with_memory m (store m.state.values.mem at bytes)
+
+-- these bytes stand at an address and on
+abbrev pub HasBytes : Machine → ℕ → List ℕ → Type 0
+HasBytes m at bytes = (k : ℕ) → k < length bytes → byte m.state.values.mem (at + k) ≡ slice_index bytes k
 
 -- what is answered where the next state is known: that the machine is in it, or that there is none and nothing changed
 abbrev pub Goes : Step → Option State → Machine → Machine → Type 0

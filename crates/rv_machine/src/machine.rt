@@ -1,12 +1,12 @@
 //! A machine that does one operation at a time: one hart of "2.1 Programmers' Model", with the integer registers.
 
-ghost use Rattle.std.specs.Prelude.{◌≡◌, ℕ, ◌<◌, ◌≤◌, length, take, OnOk, OnErr, IfOk};
+ghost use Rattle.std.specs.Prelude.{◌≡◌, ℕ, ◌+◌, ◌^◌, ◌<◌, ◌≤◌, length, take, OnOk, OnErr, IfOk};
 ghost use Rattle.std.specs.FinMap as map;
 ghost use Rattle.rv_machine.specs.Layout.{HasFileRegisters};
 ghost use Rattle.rv_machine.specs.State.{IsState, byte, reg};
 ghost use Rattle.rv_machine.specs.declared.machine.Step.TheVariants.{Stepped};
 ghost use Rattle.rv_machine.specs.Effects.{x_of, y_of, imm_of, next_of, puts, links, branches, row_result, base_act, act};
-ghost use Rattle.rv_machine.specs.Steps.{fetch, istep, Machine, zero_at, with_state, with_pc, with_reg, with_memory, with_bytes, Goes, Steps, Ran};
+ghost use Rattle.rv_machine.specs.Steps.{fetch, istep, Machine, zero_at, with_state, with_pc, with_reg, with_memory, with_bytes, HasBytes, Goes, Steps, Ran};
 
 use crate::arithmetic::is_signed_below;
 use crate::bits::bit_result;
@@ -140,6 +140,7 @@ impl IntMachine {
     /// Writes bytes at an address and on; after the last address comes 0.
     pub fn load_image(&mut self, at: u64, bytes: &[u8]) -> Result<(), OutOfMemory>
         ensures ok { OnOk result (self.new ≡ with_bytes self.old at bytes.now) }
+        ensures there { OnOk result (at + length bytes.now ≤ 2 ^ 64 → HasBytes self.new at bytes.now) }
         ensures err { OnErr result ((k : ℕ) × (k < length bytes.now) × (self.new ≡ with_bytes self.old at (take k bytes.now))) }
     {
         let mut place = at;

@@ -12,6 +12,8 @@ mod label_uses;
 #[cfg(test)]
 mod listings;
 #[cfg(test)]
+mod loaded;
+#[cfg(test)]
 mod machine;
 #[cfg(test)]
 mod operations;

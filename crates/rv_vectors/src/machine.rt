@@ -3,8 +3,7 @@
 use rv_base::flags::IsaFlags;
 use rv_base::memory::OutOfMemory;
 use rv_machine::decode::{Decoded, decode};
-use rv_machine::machine::{IntMachine, Step};
-use rv_machine::ops::{BaseOp, BitOp, MOp, MulOp};
+use rv_machine::{AluOp, BaseOp, BitOp, IntMachine, IntOp, MOp, MulOp, Step};
 use std::alloc::Global;
 use std::process::Abort;
 
@@ -308,11 +307,11 @@ fn words_are_decoded(rt: HostRuntime) {
     assert_decoded(&rt, 0x06450567, MOp::Base(BaseOp::Jalr), [10, 10, 0], 100);
     assert_decoded(&rt, 0xfe051ee3, MOp::Base(BaseOp::Bne), [0, 10, 0], -4);
     assert_decoded(&rt, 0x78b504e3, MOp::Base(BaseOp::Beq), [0, 10, 11], 3976);
-    assert_decoded(&rt, 0x80050513, MOp::Base(BaseOp::Addi), [10, 10, 0], -2048);
-    assert_decoded(&rt, 0x43f55513, MOp::Base(BaseOp::Srai), [10, 10, 0], 63);
-    assert_decoded(&rt, 0x080545bb, MOp::Bit(BitOp::ZextH), [11, 10, 0], 0);
-    assert_decoded(&rt, 0x60555593, MOp::Bit(BitOp::Rori), [11, 10, 0], 5);
-    assert_decoded(&rt, 0x02b55533, MOp::Mul(MulOp::Divu), [10, 10, 11], 0);
+    assert_decoded(&rt, 0x80050513, MOp::Alu(AluOp::Int(IntOp::Addi)), [10, 10, 0], -2048);
+    assert_decoded(&rt, 0x43f55513, MOp::Alu(AluOp::Int(IntOp::Srai)), [10, 10, 0], 63);
+    assert_decoded(&rt, 0x080545bb, MOp::Alu(AluOp::Bit(BitOp::ZextH)), [11, 10, 0], 0);
+    assert_decoded(&rt, 0x60555593, MOp::Alu(AluOp::Bit(BitOp::Rori)), [11, 10, 0], 5);
+    assert_decoded(&rt, 0x02b55533, MOp::Alu(AluOp::Mul(MulOp::Divu)), [10, 10, 11], 0);
 }
 
 /// Words without a row.

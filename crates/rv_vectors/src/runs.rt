@@ -15,7 +15,7 @@ use rv_imms::imm12::Imm12;
 use rv_imms::imm20::Imm20;
 use rv_inst::error::EmitError;
 use rv_inst::inst::{CondBrTarget, Inst, Line};
-use rv_machine::machine::{IntMachine, Step};
+use rv_machine::{IntMachine, Step};
 use rv_ops::alu::{AluOPRRI, AluOPRRR};
 use rv_ops::compare::IntegerCompare;
 use std::alloc::{AllocError, Global};

@@ -1,7 +1,8 @@
-use Rattle.std.proofs.Common.{ap, refl, arith, get_or, ◌∙◌}
+use Rattle.std.proofs.Common.{◌≡◌, ◌≤◌, length, ap, refl, sym, subst, arith, get_or, ◌∙◌}
+use Rattle.std.proofs.lemmas.List.{take_all}
 use Rattle.std.specs.FinMap as map
-use Rattle.rv_machine.specs.Steps.{Machine, with_memory}
-use Rattle.rv_machine.proofs.Images.{image-push}
+use Rattle.rv_machine.specs.Steps.{Machine, with_memory, with_bytes, HasBytes}
+use Rattle.rv_machine.proofs.Images.{image-push, has_bytes}
 use Rattle.rv_machine.proofs.machine.IntMachine.load_image.Goals as goal
 
 pub loop-byte-preserved : goal.loop-byte-preserved
@@ -15,3 +16,9 @@ loop-byte-preserved c =
           ∙ image-push c.args.self.now c.args.at c.loop-byte.place b i c.args.bytes.now c.ranges.at.fits c.loop-byte.invariant.place c.loop-byte-test.true refl;
       place = omega arith;
     }
+
+pub returns-clause-there : goal.returns-clause-there
+returns-clause-there c =
+    let come : length c.args.bytes.now ≤ c.loop-byte.byte-index = omega (arith, c.loop-byte-test.false) in
+    let whole : c.loop-byte.self ≡ with_bytes c.args.self.now c.args.at c.args.bytes.now = c.loop-byte.invariant.image ∙ ap (with_bytes c.args.self.now c.args.at) (take_all c.loop-byte.byte-index c.args.bytes.now come) in
+    λ room. subst (λ (m : Machine). HasBytes m c.args.at c.args.bytes.now) (sym whole) (has_bytes c.args.self.now c.args.at c.args.bytes.now room)

@@ -1,0 +1,58 @@
+//! Assembled code in the machine: what the headline asks of a state is so of the machine's.
+
+ghost use Rattle.std.specs.Prelude.{◌≡◌, ◌+◌, ◌<◌, ◌≤◌, ◌%◌, ◌^◌, [], length, IfOk};
+ghost use Rattle.rv_inst.specs.declared.code.Code.{Code as Assembled};
+ghost use Rattle.rv_base.specs.Flags.{no_flags};
+ghost use Rattle.rv_base.specs.Frame.{no_frame};
+ghost use Rattle.rv_asm.specs.Job.{job_of};
+ghost use Rattle.rv_asm.specs.Told.{start_of};
+ghost use Rattle.rv_vectors.specs.Loaded.{IsBefore, Starts};
+
+use rv_asm::assemble::assemble;
+use rv_base::flags::IsaFlags;
+use rv_base::frame::FrameLayout;
+use rv_base::memory::OutOfMemory;
+use rv_inst::code::Code;
+use rv_inst::error::EmitError;
+use rv_inst::inst::{Inst, Line};
+use rv_machine::{IntMachine, Step};
+use std::alloc::Global;
+use std::test::Fail;
+
+/// A machine that holds code at an address, and stands at its start.
+fn loaded(alloc: Global, code: &Code, base: u64) -> Result<IntMachine, OutOfMemory>
+    requires aligned { base % 4 ≡ 0 }
+    requires room { base + length code.now.bytes ≤ 2 ^ 64 }
+    requires first { start_of code.now.lines 0 ≡ 0 }
+    ensures { IfOk result (IsBefore code.now base 0) }
+{
+    let mut machine = IntMachine::new(alloc, IsaFlags::none(), base);
+    machine.load_image(base, code.bytes.as_slice())?;
+    machine.pc();
+    Ok(machine)
+}
+
+/// A machine before the code of a listing, which runs as the listing says.
+fn started(alloc: Global, lines: &[Line], base: u64) -> Result<IntMachine, EmitError>
+    requires aligned { base % 4 ≡ 0 }
+    requires room { base + 2 ^ 32 ≤ 2 ^ 64 }
+    requires some { 0 < length lines.now }
+    ensures { IfOk result (Starts (job_of lines.now no_flags no_frame []) base) }
+{
+    let frame = FrameLayout::none(alloc);
+    let code = assemble(alloc, lines, IsaFlags::none(), &frame, &[])?;
+    match loaded(alloc, &code, base) {
+        Ok(machine) => Ok(machine),
+        Err(OutOfMemory) => Err(EmitError::OutOfMemory),
+    }
+}
+
+#[test]
+fn a_machine_starts(rt: HostRuntime) -> Result<(), Fail> {
+    let mut machine = started(rt.alloc(), &[Line::Inst(Inst::Nop4)], 0x1000)?;
+    assert_eq!(rt; machine.pc(), 0x1000);
+    let step = machine.step()?;
+    assert_eq!(rt; step, Step::Stepped);
+    assert_eq!(rt; machine.pc(), 0x1004);
+    Ok(())
+}
