@@ -15,7 +15,7 @@ fn holds(rt: &impl Abort, table: &LabelTable<u32>, numbers: &[u32]) {
 
 fn fill(alloc: Global, numbers: &[u32]) -> Result<LabelTable<u32>, OutOfMemory> {
     let mut table = LabelTable::new(alloc);
-    let mut place = 0;
+    let mut place: u32 = 0;
     for number in numbers {
         table.set(*number, place)?;
         place = place.saturating_add(1);
