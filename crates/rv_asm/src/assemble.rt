@@ -12,7 +12,7 @@ ghost use Rattle.rv_asm.specs.Reaching.{InReach};
 ghost use Rattle.rv_asm.specs.Finished.{IsFinished};
 
 use crate::lines::put_line;
-use crate::refusal::accept;
+use crate::refusal::refuse;
 use mach_buffer::buffer::MachBuffer;
 use rv_base::constant::Constant;
 use rv_base::flags::IsaFlags;
@@ -43,7 +43,7 @@ pub fn assemble(
     ensures reach { IfOk result (λ code. InReach (job_of lines.now flags frame.now constants.now) code) }
     ensures refused { Finds (refusal lines.now) result }
 {
-    accept(alloc, lines, flags, frame, constants)?;
+    refuse(alloc, lines, flags, frame, constants)?;
     match build(alloc, lines, flags, constants) {
         Ok(code) => Ok(code),
         Err(OutOfMemory) => Err(EmitError::OutOfMemory),
