@@ -1,3 +1,4 @@
+pub mod Slots
 pub mod Tokens
 pub mod Registers
 pub mod Fields

@@ -10,5 +10,6 @@ mod pairs;
 pub mod reading;
 pub mod registers;
 pub mod report;
+mod slots;
 pub mod tokens;
 mod types;
