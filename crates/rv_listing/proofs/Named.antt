@@ -15,6 +15,10 @@ use Rattle.rv_listing.specs.Comparisons.{every, cond_code}
 use Rattle.rv_listing.specs.declared.comparisons.TheConstants.{SLOTS, FACTOR}
 use Rattle.rv_listing.specs.declared.operations.TheConstants.{RRR_SLOTS, RRR_FACTOR, RRI_SLOTS, RRI_FACTOR}
 use Rattle.rv_listing.specs.Slots.{candidate, slot, hash}
+use Rattle.rv_listing.specs.declared.form_names.TheConstants.{FORM_SLOTS, FORM_FACTOR}
+use Rattle.rv_listing.specs.declared.form_names.Form.{Form}
+use Rattle.rv_listing.specs.declared.form_names.Form.TheVariants as forms
+use Rattle.rv_listing.specs.FormNames.{form_name, every_form, form_named}
 use Rattle.rv_listing.specs.Operations.{every_rrr, alu_rrr, every_rri, alu_rri}
 
 -- where a name is found, a word that is this name gives what it names
@@ -115,3 +119,17 @@ rri_by_slot = by_slot rri_name every_rri (candidate every_rri RRI_SLOTS RRI_FACT
 pub cc_by_slot : (w : List ℕ) → checked name_of w (candidate every SLOTS FACTOR w) ≡ cond_code w
 unfolding cond_code
 cc_by_slot = by_slot name_of every (candidate every SLOTS FACTOR) cc_found cc_hit
+
+form_found : (form : Form) → form_named (form_name form) ≡ Some form
+unfolding form_named every_form
+form_found forms.Nop0 = refl
+form_found _ = refl
+
+form_hit : (form : Form) → candidate every_form FORM_SLOTS FORM_FACTOR (form_name form) ≡ Some form
+unfolding every_form candidate slot hash
+form_hit forms.Nop0 = refl
+form_hit _ = refl
+
+pub form_by_slot : (w : List ℕ) → checked form_name w (candidate every_form FORM_SLOTS FORM_FACTOR w) ≡ form_named w
+unfolding form_named
+form_by_slot = by_slot form_name every_form (candidate every_form FORM_SLOTS FORM_FACTOR) form_found form_hit

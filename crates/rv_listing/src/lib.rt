@@ -3,6 +3,7 @@
 
 mod comparisons;
 pub mod fields;
+pub mod form_names;
 pub mod forms;
 mod operands;
 mod operations;
