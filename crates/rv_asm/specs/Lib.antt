@@ -1,3 +1,4 @@
+pub mod BoundLabels
 pub mod Built
 pub mod Finished
 pub mod Job

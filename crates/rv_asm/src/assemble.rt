@@ -14,7 +14,7 @@ ghost use Rattle.rv_asm.specs.Finished.{IsFinished};
 
 use crate::lines::put_line;
 use crate::ranges::code_fits;
-use crate::refusal::accept;
+use crate::refusal::refuse;
 use mach_buffer::buffer::MachBuffer;
 use rv_base::constant::Constant;
 use rv_base::flags::IsaFlags;
@@ -46,7 +46,7 @@ pub fn assemble(
     ensures ranges { IfOk result CodeFits }
     ensures refused { Finds (refusal lines.now) result }
 {
-    accept(alloc, lines, flags, frame, constants)?;
+    refuse(alloc, lines, flags, frame, constants)?;
     match build(alloc, lines, flags, constants) {
         Ok(code) => {
             code_fits(&code);

@@ -1,14 +1,14 @@
 //! Why a job is refused.
 
 ghost use Rattle.std.specs.Prelude.{◌≡◌, ℕ, ◌^◌, [], ◌∷◌, ◌++◌, ◌||◌, false, nat_eq, nat_lt, IfOk, OnOk};
-ghost use Rattle.std.specs.BTreeSet.{contains};
-ghost use Rattle.std.specs.Ordering.{nat_cmp};
 ghost use Rattle.rv_inst.specs.Fields.{named_labels, inst_labels, target_labels};
 ghost use Rattle.rv_inst.specs.Families.{family_of};
 ghost use Rattle.rv_inst.specs.declared.inst.Family.TheVariants.{Control};
 ghost use Rattle.rv_asm.specs.Refusal.{is_bound, broken_from, binds, twice_of, twice_in, twice_from, unbound_among, unbound_in, size_sum, refusal, Finds};
 ghost use Rattle.rv_inst.specs.Sizes.{line_sum, inst_sum};
+ghost use Rattle.rv_asm.specs.BoundLabels.{is_in};
 
+use mach_labels::table::LabelTable;
 use rv_base::constant::Constant;
 use rv_base::flags::IsaFlags;
 use rv_base::frame::FrameLayout;
@@ -16,11 +16,10 @@ use rv_base::label::MachLabel;
 use rv_inst::error::EmitError;
 use rv_inst::inst::{CondBrTarget, Family, Inst, Line};
 use std::alloc::Global;
-use std::collections::BTreeSet;
 
 /// Refuses a job for its first cause, where it has one.
 #[tactic(auto, unfolding(crate::specs::Refusal::refusal))]
-pub fn accept(
+pub fn refuse(
     alloc: Global,
     lines: &[Line],
     flags: IsaFlags,
@@ -29,7 +28,7 @@ pub fn accept(
 ) -> Result<(), EmitError>
     ensures { Finds (refusal lines.now) result }
 {
-    keep_rules(lines, flags, frame, constants)?;
+    check_rules(lines, flags, frame, constants)?;
     let bound = bind_labels(alloc, lines)?;
     find_all(&bound, lines)?;
     if is_too_large(lines) {
@@ -39,7 +38,7 @@ pub fn accept(
 }
 
 /// Refuses the first line that breaks a rule.
-fn keep_rules(
+fn check_rules(
     lines: &[Line],
     flags: IsaFlags,
     frame: &FrameLayout,
@@ -56,20 +55,20 @@ fn keep_rules(
 }
 
 /// The labels that the lines bind; refuses the first line that binds one a second time.
-fn bind_labels(alloc: Global, lines: &[Line]) -> Result<BTreeSet<u32>, EmitError>
+fn bind_labels(alloc: Global, lines: &[Line]) -> Result<LabelTable<()>, EmitError>
     ensures once { Finds (twice_from (λ _. false) lines.now) result }
-    ensures bound { IfOk result (λ bound. (label : ℕ) → contains nat_cmp bound label ≡ is_bound lines.now label) }
+    ensures bound { IfOk result (λ bound. (label : ℕ) → is_in bound label ≡ is_bound lines.now label) }
 {
-    let mut bound = BTreeSet::new(alloc);
+    let mut bound = LabelTable::new(alloc);
     for line in lines {
         bind_label_of(&mut bound, line)?;
     }
     Ok(bound)
 }
 
-fn bind_label_of(bound: &mut BTreeSet<u32>, line: &Line) -> Result<(), EmitError>
-    ensures once { Finds (twice_in (contains nat_cmp bound.old) line.now) result }
-    ensures added { OnOk result ((label : ℕ) → contains nat_cmp bound.new label ≡ binds line.now label || contains nat_cmp bound.old label) }
+fn bind_label_of(bound: &mut LabelTable<()>, line: &Line) -> Result<(), EmitError>
+    ensures once { Finds (twice_in (is_in bound.old) line.now) result }
+    ensures added { OnOk result ((label : ℕ) → is_in bound.new label ≡ binds line.now label || is_in bound.old label) }
 {
     match line {
         Line::Inst(_) => Ok(()),
@@ -77,30 +76,32 @@ fn bind_label_of(bound: &mut BTreeSet<u32>, line: &Line) -> Result<(), EmitError
     }
 }
 
-fn bind_label(bound: &mut BTreeSet<u32>, label: MachLabel) -> Result<(), EmitError>
-    ensures once { Finds (twice_of (contains nat_cmp bound.old) label) result }
-    ensures added { OnOk result ((q : ℕ) → contains nat_cmp bound.new q ≡ nat_eq label.number q || contains nat_cmp bound.old q) }
+fn bind_label(bound: &mut LabelTable<()>, label: MachLabel) -> Result<(), EmitError>
+    ensures once { Finds (twice_of (is_in bound.old) label) result }
+    ensures added { OnOk result ((q : ℕ) → is_in bound.new q ≡ nat_eq label.number q || is_in bound.old q) }
 {
-    match bound.insert(label.number) {
-        Ok(true) => Ok(()),
-        Ok(false) => Err(EmitError::LabelTwice {
+    if bound.get(label.number).is_some() {
+        return Err(EmitError::LabelTwice {
             label: label.number,
-        }),
+        });
+    }
+    match bound.set(label.number, ()) {
+        Ok(()) => Ok(()),
         Err(_) => Err(EmitError::OutOfMemory),
     }
 }
 
 /// Refuses the first line that names a label that none of the lines binds.
-fn find_all(bound: &BTreeSet<u32>, lines: &[Line]) -> Result<(), EmitError>
-    requires { (label : ℕ) → contains nat_cmp bound.now label ≡ is_bound lines.now label }
+fn find_all(bound: &LabelTable<()>, lines: &[Line]) -> Result<(), EmitError>
+    requires { (label : ℕ) → is_in bound.now label ≡ is_bound lines.now label }
     ensures { Finds (unbound_in (is_bound lines.now) lines.now) result }
 {
     find_labels(bound, lines)
 }
 
 /// Refuses the first line that names a label that isn't bound.
-fn find_labels(bound: &BTreeSet<u32>, lines: &[Line]) -> Result<(), EmitError>
-    ensures { Finds (unbound_in (contains nat_cmp bound.now) lines.now) result }
+fn find_labels(bound: &LabelTable<()>, lines: &[Line]) -> Result<(), EmitError>
+    ensures { Finds (unbound_in (is_in bound.now) lines.now) result }
 {
     for line in lines {
         find_labels_of(bound, line)?;
@@ -108,8 +109,8 @@ fn find_labels(bound: &BTreeSet<u32>, lines: &[Line]) -> Result<(), EmitError>
     Ok(())
 }
 
-fn find_labels_of(bound: &BTreeSet<u32>, line: &Line) -> Result<(), EmitError>
-    ensures { Finds (unbound_among (contains nat_cmp bound.now) (named_labels line.now)) result }
+fn find_labels_of(bound: &LabelTable<()>, line: &Line) -> Result<(), EmitError>
+    ensures { Finds (unbound_among (is_in bound.now) (named_labels line.now)) result }
 {
     match line {
         Line::Inst(inst) => find_labels_in(bound, inst),
@@ -117,8 +118,8 @@ fn find_labels_of(bound: &BTreeSet<u32>, line: &Line) -> Result<(), EmitError>
     }
 }
 
-fn find_labels_in(bound: &BTreeSet<u32>, inst: &Inst) -> Result<(), EmitError>
-    ensures { Finds (unbound_among (contains nat_cmp bound.now) (inst_labels inst.now)) result }
+fn find_labels_in(bound: &LabelTable<()>, inst: &Inst) -> Result<(), EmitError>
+    ensures { Finds (unbound_among (is_in bound.now) (inst_labels inst.now)) result }
 {
     match inst.family() {
         Family::Marks | Family::Plain => Ok(()),
@@ -126,8 +127,8 @@ fn find_labels_in(bound: &BTreeSet<u32>, inst: &Inst) -> Result<(), EmitError>
     }
 }
 
-fn find_labels_in_control(bound: &BTreeSet<u32>, inst: &Inst) -> Result<(), EmitError>
-    ensures { family_of inst.now ≡ Control → Finds (unbound_among (contains nat_cmp bound.now) (inst_labels inst.now)) result }
+fn find_labels_in_control(bound: &LabelTable<()>, inst: &Inst) -> Result<(), EmitError>
+    ensures { family_of inst.now ≡ Control → Finds (unbound_among (is_in bound.now) (inst_labels inst.now)) result }
 {
     match inst {
         Inst::Jal { label } => find_label(bound, *label),
@@ -141,11 +142,11 @@ fn find_labels_in_control(bound: &BTreeSet<u32>, inst: &Inst) -> Result<(), Emit
 }
 
 fn find_targets(
-    bound: &BTreeSet<u32>,
+    bound: &LabelTable<()>,
     taken: CondBrTarget,
     not_taken: CondBrTarget,
 ) -> Result<(), EmitError>
-    ensures { Finds (unbound_among (contains nat_cmp bound.now) (target_labels taken ++ target_labels not_taken)) result }
+    ensures { Finds (unbound_among (is_in bound.now) (target_labels taken ++ target_labels not_taken)) result }
 {
     match (taken, not_taken) {
         (CondBrTarget::Label(first), CondBrTarget::Label(second)) => {
@@ -158,19 +159,18 @@ fn find_targets(
     }
 }
 
-fn find_label(bound: &BTreeSet<u32>, label: MachLabel) -> Result<(), EmitError>
-    ensures { Finds (unbound_among (contains nat_cmp bound.now) (label ∷ [])) result }
+fn find_label(bound: &LabelTable<()>, label: MachLabel) -> Result<(), EmitError>
+    ensures { Finds (unbound_among (is_in bound.now) (label ∷ [])) result }
 {
-    if bound.contains(&label.number) {
-        Ok(())
-    } else {
-        Err(EmitError::UnboundLabel {
+    match bound.get(label.number) {
+        Some(()) => Ok(()),
+        None => Err(EmitError::UnboundLabel {
             label: label.number,
-        })
+        }),
     }
 }
 
-/// Whether the lines count for more than 2^30 bytes.
+/// Returns whether the lines count for more than 2^30 bytes.
 fn is_too_large(lines: &[Line]) -> bool
     ensures { result ≡ nat_lt (2 ^ 30) (size_sum lines.now) }
 {

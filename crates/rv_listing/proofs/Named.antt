@@ -1,5 +1,8 @@
 -- Each operation and each comparison is read by its name.
-use Rattle.std.proofs.Common.{◌≡◌, ℕ, List, Option, Some, refl, ap, ◌∙◌}
+use Rattle.std.proofs.Common.{◌≡◌, ℕ, Bool, true, false, cond, List, [], ◌∷◌, Option, None, Some, refl, sym, ap, ◌∙◌}
+use Rattle.std.specs.List.{find}
+use Rattle.std.specs.Str.{bytes_eq}
+use Rattle.std.proofs.lemmas.Slice.Eq.{bytes_eq-Decides}
 use Rattle.rv_base.specs.declared.condcodes.IntCC.{IntCC}
 use Rattle.rv_base.specs.declared.condcodes.IntCC.TheVariants as comparison
 use Rattle.rv_base.specs.CondCodes.{name_of}
@@ -9,11 +12,70 @@ use Rattle.rv_ops.specs.declared.alu.AluOPRRI.{AluOPRRI}
 use Rattle.rv_ops.specs.declared.alu.AluOPRRI.TheVariants as rri
 use Rattle.rv_ops.specs.Alu.{rrr_name, rri_name}
 use Rattle.rv_listing.specs.Comparisons.{every, cond_code}
+use Rattle.rv_listing.specs.declared.comparisons.TheConstants.{SLOTS, FACTOR}
+use Rattle.rv_listing.specs.declared.operations.TheConstants.{RRR_SLOTS, RRR_FACTOR, RRI_SLOTS, RRI_FACTOR}
+use Rattle.rv_listing.specs.Slots.{candidate, slot, hash}
+use Rattle.rv_listing.specs.declared.form_names.TheConstants.{FORM_SLOTS, FORM_FACTOR}
+use Rattle.rv_listing.specs.declared.form_names.Form.{Form}
+use Rattle.rv_listing.specs.declared.form_names.Form.TheVariants as forms
+use Rattle.rv_listing.specs.FormNames.{form_name, every_form, form_named}
 use Rattle.rv_listing.specs.Operations.{every_rrr, alu_rrr, every_rri, alu_rri}
 
 -- where a name is found, a word that is this name gives what it names
 pub told : {A : Type 0} (named : List ℕ → Option A) (name : A → List ℕ) → ((a : A) → named (name a) ≡ Some a) → (w : List ℕ) (r : Option A) → r ≡ named w → (a : A) → w ≡ name a → r ≡ Some a
 told named name found w r reads a same = reads ∙ ap named same ∙ found a
+
+-- ---- by slots
+
+find_passes : {A : Type 0} (p : A → Bool) (xs : List A) (a : A) → find p xs ≡ Some a → p a ≡ true
+find_passes p [] a e = absurd (cc)
+find_passes {A} p (x ∷ xs) a e = on (p x) refl (find_passes p xs a) e
+  where
+    on : (t : Bool) → p x ≡ t → (find p xs ≡ Some a → p a ≡ true) → cond t (Some x) (find p xs) ≡ Some a → p a ≡ true
+    on true passes later found = let same : x ≡ a = cc in ap p (sym same) ∙ passes
+    on false fails later found = later found
+
+-- the one that may have the name, where it has
+abbrev pub checked : {A : Type 0} → (A → List ℕ) → List ℕ → Option A → Option A
+checked name w None = None
+checked name w (Some a) = cond (bytes_eq w (name a)) (Some a) None
+
+-- Where each name's slot holds what it names, a word is found by its slot.
+pub by_slot : {A : Type 0} (name : A → List ℕ) (every : List A) (at : List ℕ → Option A)
+    → ((a : A) → find (λ b. bytes_eq (name a) (name b)) every ≡ Some a) → ((a : A) → at (name a) ≡ Some a)
+    → (w : List ℕ) → checked name w (at w) ≡ find (λ b. bytes_eq w (name b)) every
+by_slot {A} name every at found hit w = step (find (λ b. bytes_eq w (name b)) every) refl
+  where
+    same_name : (a : A) → bytes_eq w (name a) ≡ true → w ≡ name a
+    same_name a e = (bytes_eq-Decides w (name a)).0 e
+
+    none : (r : Option A) → find (λ b. bytes_eq w (name b)) every ≡ None → checked name w r ≡ None
+    none None e = refl
+    none (Some a) e = on (bytes_eq w (name a)) refl
+      where
+        on : (t : Bool) → bytes_eq w (name a) ≡ t → cond t (Some a) None ≡ None
+        on false differs = refl
+        on true same =
+            let it : find (λ b. bytes_eq w (name b)) every ≡ Some a = ap (λ v. find (λ b. bytes_eq v (name b)) every) (same_name a same) ∙ found a in
+            absurd (cc)
+
+    step : (r : Option A) → find (λ b. bytes_eq w (name b)) every ≡ r → checked name w (at w) ≡ r
+    step None e = none (at w) e
+    step (Some a) e =
+        let passes : bytes_eq w (name a) ≡ true = find_passes (λ b. bytes_eq w (name b)) every a e in
+        let here : at w ≡ Some a = ap at (same_name a passes) ∙ hit a in
+        ap (checked name w) here ∙ ap (λ t. cond t (Some a) None) passes
+
+pub slot_none : {A : Type 0} (name : A → List ℕ) (w : List ℕ) (at r : Option A) → checked name w at ≡ r → at ≡ None → None ≡ r
+slot_none name w at r is none = ap (checked name w) (sym none) ∙ is
+
+pub slot_same : {A : Type 0} (name : A → List ℕ) (w : List ℕ) (at r : Option A) (a : A) → checked name w at ≡ r → at ≡ Some a → bytes_eq w (name a) ≡ true → Some a ≡ r
+slot_same name w at r a is some same = ap (λ t. cond t (Some a) None) (sym same) ∙ ap (checked name w) (sym some) ∙ is
+
+pub slot_other : {A : Type 0} (name : A → List ℕ) (w : List ℕ) (at r : Option A) (a : A) → checked name w at ≡ r → at ≡ Some a → bytes_eq w (name a) ≡ false → None ≡ r
+slot_other name w at r a is some other = ap (λ t. cond t (Some a) None) (sym other) ∙ ap (checked name w) (sym some) ∙ is
+
+-- ---- each table
 
 pub rrr_found : (op : AluOPRRR) → alu_rrr (rrr_name op) ≡ Some op
 unfolding alu_rrr every_rrr
@@ -29,3 +91,45 @@ pub cc_found : (c : IntCC) → cond_code (name_of c) ≡ Some c
 unfolding cond_code every
 cc_found comparison.Equal = refl
 cc_found _ = refl
+
+-- each name's slot holds what it names
+rrr_hit : (op : AluOPRRR) → candidate every_rrr RRR_SLOTS RRR_FACTOR (rrr_name op) ≡ Some op
+unfolding every_rrr candidate slot hash
+rrr_hit rrr.Add = refl
+rrr_hit _ = refl
+
+rri_hit : (op : AluOPRRI) → candidate every_rri RRI_SLOTS RRI_FACTOR (rri_name op) ≡ Some op
+unfolding every_rri candidate slot hash
+rri_hit rri.Addi = refl
+rri_hit _ = refl
+
+cc_hit : (c : IntCC) → candidate every SLOTS FACTOR (name_of c) ≡ Some c
+unfolding every candidate slot hash
+cc_hit comparison.Equal = refl
+cc_hit _ = refl
+
+pub rrr_by_slot : (w : List ℕ) → checked rrr_name w (candidate every_rrr RRR_SLOTS RRR_FACTOR w) ≡ alu_rrr w
+unfolding alu_rrr
+rrr_by_slot = by_slot rrr_name every_rrr (candidate every_rrr RRR_SLOTS RRR_FACTOR) rrr_found rrr_hit
+
+pub rri_by_slot : (w : List ℕ) → checked rri_name w (candidate every_rri RRI_SLOTS RRI_FACTOR w) ≡ alu_rri w
+unfolding alu_rri
+rri_by_slot = by_slot rri_name every_rri (candidate every_rri RRI_SLOTS RRI_FACTOR) rri_found rri_hit
+
+pub cc_by_slot : (w : List ℕ) → checked name_of w (candidate every SLOTS FACTOR w) ≡ cond_code w
+unfolding cond_code
+cc_by_slot = by_slot name_of every (candidate every SLOTS FACTOR) cc_found cc_hit
+
+form_found : (form : Form) → form_named (form_name form) ≡ Some form
+unfolding form_named every_form
+form_found forms.Nop0 = refl
+form_found _ = refl
+
+form_hit : (form : Form) → candidate every_form FORM_SLOTS FORM_FACTOR (form_name form) ≡ Some form
+unfolding every_form candidate slot hash
+form_hit forms.Nop0 = refl
+form_hit _ = refl
+
+pub form_by_slot : (w : List ℕ) → checked form_name w (candidate every_form FORM_SLOTS FORM_FACTOR w) ≡ form_named w
+unfolding form_named
+form_by_slot = by_slot form_name every_form (candidate every_form FORM_SLOTS FORM_FACTOR) form_found form_hit

@@ -1,6 +1,5 @@
--- The forms of lines: a row for each kind, its name and a token for each field.
-use Rattle.std.specs.Prelude.{ℕ, List, Option, Some, None, if◌then◌else◌, codes}
-use Rattle.std.specs.Str.{bytes_eq}
+-- The forms of lines: a token for each field.
+use Rattle.std.specs.Prelude.{ℕ, List, Option, Some, None}
 use Rattle.rv_base.specs.declared.regs.Reg.{Reg}
 use Rattle.rv_base.specs.declared.condcodes.IntCC.{IntCC}
 use Rattle.rv_inst.specs.declared.inst.CondBrTarget.{CondBrTarget}
@@ -8,7 +7,10 @@ use Rattle.rv_inst.specs.declared.inst.Inst.{Inst}
 use Rattle.rv_inst.specs.declared.inst.Inst.TheVariants as form
 use Rattle.rv_inst.specs.declared.inst.Line.{Line}
 use Rattle.rv_inst.specs.declared.inst.Line.TheVariants as kinds
-use Rattle.rv_listing.specs.Tokens.{◌>>=◌, or_else}
+use Rattle.rv_listing.specs.declared.form_names.Form.{Form}
+use Rattle.rv_listing.specs.declared.form_names.Form.TheVariants as forms
+use Rattle.rv_listing.specs.Tokens.{◌>>=◌}
+use Rattle.rv_listing.specs.FormNames.{form_named}
 use Rattle.rv_listing.specs.Fields.{done, ◌⊛◌, whole}
 use Rattle.rv_listing.specs.Registers.{register}
 use Rattle.rv_listing.specs.Operands.{writable, real_register, imm12, imm20, space, label, target}
@@ -86,42 +88,31 @@ jalr_row = whole (done form.Jalr ⊛ writable ⊛ register ⊛ imm12)
 unfoldable pub bind_row : List (List ℕ) → Option Line
 bind_row = whole (done kinds.Bind ⊛ label)
 
--- those that compute nothing, save the lists
-unfoldable pub marks_row : List ℕ → List (List ℕ) → Option Inst
-marks_row name ws =
-    if bytes_eq name (codes "Nop0") then nop0_row ws else
-    if bytes_eq name (codes "Nop4") then nop4_row ws else
-    if bytes_eq name (codes "EBreak") then ebreak_row ws else
-    if bytes_eq name (codes "SequencePoint") then sequence_point_row ws else
-    if bytes_eq name (codes "DummyUse") then dummy_use_row ws else
-    if bytes_eq name (codes "EmitIsland") then emit_island_row ws else None
+-- an instruction as a line
+abbrev pub put : Option Inst → Option Line
+put made = made >>= λ inst. Some (kinds.Inst inst)
 
--- those that write registers, and go on
-unfoldable pub plain_row : List ℕ → List (List ℕ) → Option Inst
-plain_row name ws =
-    if bytes_eq name (codes "Lui") then lui_row ws else
-    if bytes_eq name (codes "Auipc") then auipc_row ws else
-    if bytes_eq name (codes "AluRRR") then alu_rrr_row ws else
-    if bytes_eq name (codes "AluRRImm12") then alu_rr_imm12_row ws else
-    if bytes_eq name (codes "Mov") then mov_row ws else
-    if bytes_eq name (codes "MovFromPReg") then mov_from_preg_row ws else None
-
--- those that go elsewhere
-unfoldable pub control_row : List ℕ → List (List ℕ) → Option Inst
-control_row name ws =
-    if bytes_eq name (codes "Ret") then ret_row ws else
-    if bytes_eq name (codes "Jal") then jal_row ws else
-    if bytes_eq name (codes "CondBr") then cond_br_row ws else
-    if bytes_eq name (codes "Jalr") then jalr_row ws else None
-
--- those that have no list
-unfoldable pub flat_row : List ℕ → List (List ℕ) → Option Inst
-flat_row name ws = or_else (marks_row name ws) (or_else (plain_row name ws) (control_row name ws))
-
-unfoldable pub inst_row : List ℕ → List (List ℕ) → Option Inst
-inst_row name ws =
-    if bytes_eq name (codes "Args") then args_row ws else
-    if bytes_eq name (codes "Rets") then rets_row ws else flat_row name ws
+-- the words after a name, by the form of that name
+unfoldable pub form_row : Form → List (List ℕ) → Option Line
+form_row forms.Nop0 ws = put (nop0_row ws)
+form_row forms.Nop4 ws = put (nop4_row ws)
+form_row forms.EBreak ws = put (ebreak_row ws)
+form_row forms.SequencePoint ws = put (sequence_point_row ws)
+form_row forms.DummyUse ws = put (dummy_use_row ws)
+form_row forms.EmitIsland ws = put (emit_island_row ws)
+form_row forms.Args ws = put (args_row ws)
+form_row forms.Rets ws = put (rets_row ws)
+form_row forms.Lui ws = put (lui_row ws)
+form_row forms.Auipc ws = put (auipc_row ws)
+form_row forms.AluRRR ws = put (alu_rrr_row ws)
+form_row forms.AluRRImm12 ws = put (alu_rr_imm12_row ws)
+form_row forms.Mov ws = put (mov_row ws)
+form_row forms.MovFromPReg ws = put (mov_from_preg_row ws)
+form_row forms.Ret ws = put (ret_row ws)
+form_row forms.Jal ws = put (jal_row ws)
+form_row forms.CondBr ws = put (cond_br_row ws)
+form_row forms.Jalr ws = put (jalr_row ws)
+form_row forms.Bind ws = bind_row ws
 
 unfoldable pub line_row : List ℕ → List (List ℕ) → Option Line
-line_row name ws = if bytes_eq name (codes "Bind") then bind_row ws else inst_row name ws >>= λ inst. Some (kinds.Inst inst)
+line_row name ws = form_named name >>= λ form. form_row form ws

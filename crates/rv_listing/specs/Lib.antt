@@ -1,3 +1,4 @@
+pub mod Slots
 pub mod Tokens
 pub mod Registers
 pub mod Fields
@@ -6,6 +7,7 @@ pub mod Comparisons
 pub mod Operations
 pub mod Types
 pub mod Pairs
+pub mod FormNames
 pub mod Forms
 pub mod Reading
 pub mod CodeRanges

@@ -1,12 +1,12 @@
 -- Registers by name: x, f or v and a number, the names of the calling convention, and virtual ones.
-use Rattle.std.specs.Prelude.{ℕ, ◌+◌, ◌==◌, ◌&&◌, List, Option, Some, None, drop, nat_lt, nat_le, if◌then◌else◌, codes}
+use Rattle.std.specs.Prelude.{ℕ, ◌+◌, ◌==◌, ◌&&◌, List, [], ◌∷◌, Option, Some, None, drop, nat_lt, nat_le, if◌then◌else◌, codes}
 use Rattle.std.specs.Str.{bytes_eq}
 use lib.Dec.{ltb→lt, leb→le}
 use Rattle.rv_base.specs.declared.regs.RegClass.{RegClass}
 use Rattle.rv_base.specs.declared.regs.RegClass.TheVariants.{Int, Float, Vector}
 use Rattle.rv_base.specs.declared.regs.Reg.{Reg}
 use Rattle.rv_base.specs.declared.regs.Reg.TheVariants.{Real, Virtual}
-use Rattle.rv_listing.specs.Tokens.{◌>>=◌, where_true, or_else, starts, decimal}
+use Rattle.rv_listing.specs.Tokens.{◌>>=◌, where_true, starts, decimal}
 
 -- a register of the machine; each class has 32
 unfoldable pub real : RegClass → ℕ → Option Reg
@@ -36,37 +36,49 @@ float_temporary n = if nat_lt n 8 then Some n else if nat_lt n 12 then Some (20 
 abbrev pub float_saved : ℕ → Option ℕ
 float_saved n = if nat_lt n 2 then Some (8 + n) else if nat_lt n 12 then Some (16 + n) else None
 
--- the names without a number
-unfoldable pub named : List ℕ → Option Reg
-named w =
-    if bytes_eq w (codes "zero") then real Int 0 else
-    if bytes_eq w (codes "ra") then real Int 1 else
-    if bytes_eq w (codes "sp") then real Int 2 else
-    if bytes_eq w (codes "gp") then real Int 3 else
-    if bytes_eq w (codes "tp") then real Int 4 else
-    if bytes_eq w (codes "fp") then real Int 8 else None
-
--- a name behind its f
+-- a name of the class of floats, without its f
 unfoldable pub float : List ℕ → Option Reg
 float w =
     if starts 116 w then (decimal (drop 1 w) >>= float_temporary >>= real Float) else
     if starts 115 w then (decimal (drop 1 w) >>= float_saved >>= real Float) else
     if starts 97 w then (decimal (drop 1 w) >>= argument >>= real Float) else (decimal w >>= real Float)
 
--- a name that begins with f or v, or with %
-unfoldable pub other : List ℕ → Option Reg
-other w =
-    if starts 102 w then float (drop 1 w) else
-    if starts 118 w then (decimal (drop 1 w) >>= real Vector) else
-    if starts 37 w then (decimal (drop 1 w) >>= virtual_register) else None
+-- what stands after a letter; fp is x8, tp is x4 and sp is x2
+unfoldable pub after_f : List ℕ → Option Reg
+after_f w = if bytes_eq w (codes "p") then real Int 8 else float w
 
--- a name that is a letter, or %, and a number; x, a, t and s are the integer registers'
-unfoldable pub lettered : List ℕ → Option Reg
-lettered w =
-    if starts 120 w then (decimal (drop 1 w) >>= real Int) else
-    if starts 97 w then (decimal (drop 1 w) >>= argument >>= real Int) else
-    if starts 116 w then (decimal (drop 1 w) >>= temporary >>= real Int) else
-    if starts 115 w then (decimal (drop 1 w) >>= saved >>= real Int) else other w
+unfoldable pub after_t : List ℕ → Option Reg
+after_t w = if bytes_eq w (codes "p") then real Int 4 else (decimal w >>= temporary >>= real Int)
+
+unfoldable pub after_s : List ℕ → Option Reg
+after_s w = if bytes_eq w (codes "p") then real Int 2 else (decimal w >>= saved >>= real Int)
+
+-- the one name of its letter
+unfoldable pub fixed : List ℕ → ℕ → List ℕ → Option Reg
+fixed name n w = if bytes_eq w name then real Int n else None
+
+-- zero, ra and gp
+unfoldable pub single : ℕ → List ℕ → Option Reg
+single letter w =
+    if letter == 122 then fixed (codes "ero") 0 w else
+    if letter == 114 then fixed (codes "a") 1 w else
+    if letter == 103 then fixed (codes "p") 3 w else None
+
+-- a name that begins with f or v, or with %, or is one of a kind
+unfoldable pub other : ℕ → List ℕ → Option Reg
+other letter w =
+    if letter == 102 then after_f w else
+    if letter == 118 then (decimal w >>= real Vector) else
+    if letter == 37 then (decimal w >>= virtual_register) else single letter w
+
+-- a name by its first letter; x, a, t and s are the integer registers'
+unfoldable pub by_letter : ℕ → List ℕ → Option Reg
+by_letter letter w =
+    if letter == 120 then (decimal w >>= real Int) else
+    if letter == 97 then (decimal w >>= argument >>= real Int) else
+    if letter == 116 then after_t w else
+    if letter == 115 then after_s w else other letter w
 
 unfoldable pub register : List ℕ → Option Reg
-register w = or_else (named w) (lettered w)
+register [] = None
+register (letter ∷ w) = by_letter letter w

@@ -5,6 +5,7 @@ ghost use Rattle.rv_base.specs.CondCodes.{name_of};
 ghost use Rattle.rv_listing.specs.Comparisons.{cond_code};
 
 use crate::fields::Token;
+use crate::slots::candidate;
 use rv_base::condcodes::IntCC;
 
 /// The ten comparisons.
@@ -21,14 +22,29 @@ const EVERY: [IntCC; 10] = [
     IntCC::UnsignedLessThanOrEqual,
 ];
 
-#[tactic(auto, unfolding(crate::specs::Comparisons::cond_code, crate::specs::Comparisons::every))]
+/// The indices in `EVERY` by the names' slots.
+const SLOTS: [u8; 256] = [
+    0, 0, 0, 0, 0, 0, 0, 0, 0, 0, 0, 0, 0, 0, 0, 0, 0, 0, 0, 0, 0, 0, 0, 0, 0, 0, 0, 0, 0, 0, 0, 0,
+    0, 0, 0, 0, 0, 0, 0, 0, 0, 0, 3, 0, 7, 0, 0, 0, 0, 0, 0, 0, 0, 0, 0, 0, 0, 0, 0, 0, 0, 0, 0, 0,
+    0, 0, 0, 0, 0, 0, 0, 0, 0, 0, 0, 0, 0, 0, 0, 0, 0, 0, 0, 0, 0, 0, 0, 0, 0, 0, 0, 0, 0, 0, 0, 0,
+    0, 0, 0, 0, 0, 0, 0, 0, 0, 0, 0, 0, 0, 0, 0, 0, 0, 0, 0, 0, 0, 0, 0, 0, 0, 0, 2, 0, 0, 6, 0, 0,
+    0, 0, 0, 0, 0, 0, 0, 0, 0, 0, 0, 0, 0, 0, 0, 0, 0, 0, 0, 0, 0, 0, 0, 0, 0, 0, 0, 0, 0, 0, 0, 0,
+    0, 0, 0, 0, 0, 0, 0, 0, 0, 0, 0, 0, 0, 0, 0, 0, 0, 0, 0, 0, 0, 0, 0, 0, 0, 0, 0, 0, 0, 0, 0, 0,
+    0, 0, 0, 0, 0, 0, 0, 5, 0, 0, 9, 0, 0, 0, 0, 0, 0, 0, 0, 0, 0, 0, 0, 0, 0, 0, 0, 0, 0, 4, 0, 0,
+    8, 0, 0, 0, 1, 0, 0, 0, 0, 0, 0, 0, 0, 0, 0, 0, 0, 0, 0, 0, 0, 0, 0, 0, 0, 0, 0, 0, 0, 0, 0, 0,
+];
+
+const FACTOR: u32 = 1632056469;
+
 fn find(w: &[u8]) -> Option<IntCC>
     ensures { result ≡ cond_code w.now }
 {
-    EVERY
-        .iter()
-        .copied()
-        .find(|code| w == code.to_static_str().as_bytes())
+    let code = candidate(&EVERY, &SLOTS, FACTOR, w)?;
+    if w == code.to_static_str().as_bytes() {
+        Some(code)
+    } else {
+        None
+    }
 }
 
 /// The comparison of this name.

@@ -1,14 +1,15 @@
-//! The forms of lines: a row for each kind, its name and a token for each field.
+//! The forms of lines: a token for each field.
 
 ghost use Rattle.std.specs.Prelude.{◌≡◌};
 ghost use Rattle.rv_listing.specs.Tokens.{more};
 ghost use Rattle.rv_listing.specs.Fields.{Makes, TakesFirst, field};
 ghost use Rattle.rv_listing.specs.Pairs.{listed};
-ghost use Rattle.rv_listing.specs.Forms.{args_row, rets_row, dummy_use_row, emit_island_row, lui_row, auipc_row, alu_rrr_row, alu_rr_imm12_row, mov_row, mov_from_preg_row, jal_row, cond_br_row, jalr_row, bind_row, marks_row, plain_row, control_row, flat_row, inst_row, line_row};
+ghost use Rattle.rv_listing.specs.Forms.{args_row, rets_row, dummy_use_row, emit_island_row, lui_row, auipc_row, alu_rrr_row, alu_rr_imm12_row, mov_row, mov_from_preg_row, jal_row, cond_br_row, jalr_row, bind_row, put, form_row, line_row};
 
 use crate::fields::{LineError, Token, allowed, field, whole};
+use crate::form_names::{Form, form_named};
 use crate::pairs::listed;
-use crate::tokens::{is, next_word};
+use crate::tokens::next_word;
 use rv_base::list::List;
 use rv_inst::inst::{Inst, Line};
 use rv_ops::compare::IntegerCompare;
@@ -185,103 +186,50 @@ fn bind(rest: &[u8]) -> Option<Line>
     whole(Line::Bind(label), rest)
 }
 
-// Those that compute nothing, save the lists.
-#[tactic(auto, unfolding(crate::specs::Forms::marks_row, crate::specs::Forms::nop0_row, crate::specs::Forms::nop4_row, crate::specs::Forms::ebreak_row, crate::specs::Forms::sequence_point_row))]
-fn marks(name: &[u8], rest: &[u8]) -> Option<Inst>
-    ensures { result ≡ marks_row name.now (more rest.now) }
+fn put(made: Option<Inst>) -> Result<Line, LineError>
+    ensures { Makes result (put made) }
 {
-    let inst = if is(b"Nop0", name) {
-        Inst::Nop0
-    } else if is(b"Nop4", name) {
-        Inst::Nop4
-    } else if is(b"EBreak", name) {
-        Inst::EBreak
-    } else if is(b"SequencePoint", name) {
-        Inst::SequencePoint
-    } else if is(b"DummyUse", name) {
-        return dummy_use(rest);
-    } else if is(b"EmitIsland", name) {
-        return emit_island(rest);
-    } else {
-        return None;
-    };
-    whole(inst, rest)
-}
-
-// Those that write registers, and go on.
-#[tactic(auto, unfolding(crate::specs::Forms::plain_row))]
-fn plain(name: &[u8], rest: &[u8]) -> Option<Inst>
-    ensures { result ≡ plain_row name.now (more rest.now) }
-{
-    if is(b"Lui", name) {
-        lui(rest)
-    } else if is(b"Auipc", name) {
-        auipc(rest)
-    } else if is(b"AluRRR", name) {
-        alu_rrr(rest)
-    } else if is(b"AluRRImm12", name) {
-        alu_rr_imm12(rest)
-    } else if is(b"Mov", name) {
-        mov(rest)
-    } else if is(b"MovFromPReg", name) {
-        mov_from_preg(rest)
-    } else {
-        None
+    match made {
+        Some(inst) => Ok(Line::Inst(inst)),
+        None => Err(LineError::NotAllowed),
     }
 }
 
-// Those that go elsewhere.
-#[tactic(auto, unfolding(crate::specs::Forms::control_row, crate::specs::Forms::ret_row))]
-fn control(name: &[u8], rest: &[u8]) -> Option<Inst>
-    ensures { result ≡ control_row name.now (more rest.now) }
+// The words after a name, by the form of that name.
+#[tactic(auto, unfolding(crate::specs::Forms::form_row, crate::specs::Forms::nop0_row, crate::specs::Forms::nop4_row, crate::specs::Forms::ebreak_row, crate::specs::Forms::sequence_point_row, crate::specs::Forms::ret_row))]
+fn line_of(alloc: Global, form: Form, rest: &[u8]) -> Result<Line, LineError>
+    ensures { Makes result (form_row form (more rest.now)) }
 {
-    if is(b"Ret", name) {
-        whole(Inst::Ret, rest)
-    } else if is(b"Jal", name) {
-        jal(rest)
-    } else if is(b"CondBr", name) {
-        cond_br(rest)
-    } else if is(b"Jalr", name) {
-        jalr(rest)
-    } else {
-        None
+    match form {
+        Form::Nop0 => put(whole(Inst::Nop0, rest)),
+        Form::Nop4 => put(whole(Inst::Nop4, rest)),
+        Form::EBreak => put(whole(Inst::EBreak, rest)),
+        Form::SequencePoint => put(whole(Inst::SequencePoint, rest)),
+        Form::DummyUse => put(dummy_use(rest)),
+        Form::EmitIsland => put(emit_island(rest)),
+        Form::Args => Ok(Line::Inst(args(alloc, rest)?)),
+        Form::Rets => Ok(Line::Inst(rets(alloc, rest)?)),
+        Form::Lui => put(lui(rest)),
+        Form::Auipc => put(auipc(rest)),
+        Form::AluRRR => put(alu_rrr(rest)),
+        Form::AluRRImm12 => put(alu_rr_imm12(rest)),
+        Form::Mov => put(mov(rest)),
+        Form::MovFromPReg => put(mov_from_preg(rest)),
+        Form::Ret => put(whole(Inst::Ret, rest)),
+        Form::Jal => put(jal(rest)),
+        Form::CondBr => put(cond_br(rest)),
+        Form::Jalr => put(jalr(rest)),
+        Form::Bind => allowed(bind(rest)),
     }
 }
 
-// Those that have no list.
-#[tactic(auto, unfolding(crate::specs::Forms::flat_row))]
-fn flat(name: &[u8], rest: &[u8]) -> Option<Inst>
-    ensures { result ≡ flat_row name.now (more rest.now) }
-{
-    match marks(name, rest) {
-        Some(inst) => Some(inst),
-        None => match plain(name, rest) {
-            Some(inst) => Some(inst),
-            None => control(name, rest),
-        },
-    }
-}
-
-#[tactic(auto, unfolding(crate::specs::Forms::inst_row))]
-fn inst(alloc: Global, name: &[u8], rest: &[u8]) -> Result<Inst, LineError>
-    ensures { Makes result (inst_row name.now (more rest.now)) }
-{
-    if is(b"Args", name) {
-        args(alloc, rest)
-    } else if is(b"Rets", name) {
-        rets(alloc, rest)
-    } else {
-        allowed(flat(name, rest))
-    }
-}
-
-/// The line of this name, with these fields behind the name.
+/// The line of this name, with these fields after the name.
 #[tactic(auto, unfolding(crate::specs::Forms::line_row))]
 pub fn line(alloc: Global, name: &[u8], rest: &[u8]) -> Result<Line, LineError>
     ensures { Makes result (line_row name.now (more rest.now)) }
 {
-    if is(b"Bind", name) {
-        return allowed(bind(rest));
+    match form_named(name) {
+        Some(form) => line_of(alloc, form, rest),
+        None => Err(LineError::NotAllowed),
     }
-    Ok(Line::Inst(inst(alloc, name, rest)?))
 }

@@ -3,6 +3,7 @@
 
 mod comparisons;
 pub mod fields;
+pub mod form_names;
 pub mod forms;
 mod operands;
 mod operations;
@@ -10,5 +11,6 @@ mod pairs;
 pub mod reading;
 pub mod registers;
 pub mod report;
+mod slots;
 pub mod tokens;
 mod types;

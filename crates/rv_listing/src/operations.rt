@@ -5,6 +5,7 @@ ghost use Rattle.rv_ops.specs.Alu.{rri_name, rrr_name};
 ghost use Rattle.rv_listing.specs.Operations.{alu_rri, alu_rrr, every_rri, every_rrr};
 
 use crate::fields::Token;
+use crate::slots::candidate;
 use rv_ops::alu::{AluOPRRI, AluOPRRR};
 
 const EVERY_RRR: [AluOPRRR; 54] = [
@@ -98,14 +99,45 @@ const EVERY_RRI: [AluOPRRI; 31] = [
     AluOPRRI::Orcb,
 ];
 
-#[tactic(auto, unfolding(crate::specs::Operations::alu_rrr, crate::specs::Operations::every_rrr))]
+/// The indices in `EVERY_RRR` by the names' slots.
+const RRR_SLOTS: [u8; 256] = [
+    0, 32, 0, 0, 0, 0, 0, 0, 39, 0, 53, 16, 21, 0, 0, 0, 40, 0, 27, 0, 0, 0, 0, 0, 0, 0, 0, 0, 0,
+    0, 0, 0, 20, 0, 0, 0, 4, 0, 0, 0, 0, 0, 0, 0, 0, 9, 0, 0, 18, 0, 44, 0, 0, 0, 0, 0, 0, 0, 0, 0,
+    0, 33, 0, 0, 0, 34, 37, 23, 0, 0, 10, 0, 0, 0, 0, 50, 0, 0, 5, 0, 0, 0, 0, 0, 0, 14, 45, 0, 0,
+    43, 0, 0, 19, 0, 0, 0, 0, 0, 0, 0, 0, 0, 0, 0, 0, 0, 0, 0, 0, 0, 25, 0, 0, 0, 30, 0, 41, 0, 0,
+    0, 0, 0, 0, 29, 6, 0, 0, 0, 0, 46, 0, 0, 0, 0, 0, 0, 0, 0, 0, 0, 0, 0, 0, 0, 0, 0, 52, 0, 0, 0,
+    0, 24, 49, 0, 0, 0, 0, 2, 12, 0, 0, 0, 22, 0, 0, 0, 0, 0, 0, 0, 0, 0, 0, 0, 0, 0, 0, 0, 0, 0,
+    0, 0, 0, 0, 0, 0, 0, 38, 0, 11, 0, 0, 0, 0, 0, 0, 0, 0, 0, 0, 0, 0, 35, 0, 0, 0, 0, 3, 0, 8, 0,
+    0, 0, 0, 17, 0, 0, 0, 0, 0, 0, 51, 13, 0, 0, 0, 0, 0, 28, 0, 48, 0, 0, 31, 15, 0, 0, 1, 7, 26,
+    0, 0, 0, 36, 0, 0, 0, 47, 0, 0, 0, 0, 0, 0, 42, 0,
+];
+
+const RRR_FACTOR: u32 = 641159195;
+
+/// The indices in `EVERY_RRI` by the names' slots.
+const RRI_SLOTS: [u8; 256] = [
+    0, 2, 17, 0, 28, 0, 11, 0, 0, 0, 0, 0, 0, 0, 0, 0, 16, 0, 0, 0, 0, 0, 0, 0, 1, 0, 0, 0, 0, 0,
+    0, 0, 0, 0, 12, 0, 0, 0, 0, 0, 0, 0, 23, 0, 0, 0, 0, 0, 0, 0, 0, 0, 0, 0, 13, 0, 0, 0, 0, 0, 0,
+    0, 0, 0, 0, 0, 0, 0, 0, 0, 0, 0, 0, 0, 0, 0, 0, 0, 0, 0, 27, 0, 0, 26, 0, 0, 0, 0, 0, 0, 0, 29,
+    0, 0, 0, 0, 0, 0, 0, 0, 0, 0, 0, 0, 6, 0, 0, 0, 0, 0, 0, 0, 22, 3, 0, 0, 0, 0, 0, 0, 0, 0, 0,
+    0, 0, 0, 0, 0, 0, 0, 0, 0, 0, 0, 0, 0, 0, 0, 0, 0, 0, 0, 0, 0, 0, 0, 18, 0, 5, 0, 0, 10, 0, 0,
+    0, 0, 0, 0, 0, 0, 0, 0, 0, 0, 0, 25, 0, 15, 0, 0, 0, 0, 0, 24, 0, 19, 0, 0, 0, 0, 0, 0, 0, 0,
+    0, 0, 0, 0, 0, 9, 4, 0, 0, 0, 0, 0, 0, 0, 0, 0, 0, 0, 30, 0, 0, 0, 0, 0, 0, 0, 0, 8, 0, 0, 0,
+    0, 0, 0, 0, 0, 0, 0, 0, 0, 0, 0, 0, 0, 0, 7, 0, 0, 0, 0, 0, 14, 0, 0, 0, 0, 0, 0, 0, 0, 0, 0,
+    0, 0, 0, 0, 0, 0, 0, 20, 0, 21,
+];
+
+const RRI_FACTOR: u32 = 500975653;
+
 fn find_rrr(w: &[u8]) -> Option<AluOPRRR>
     ensures { result ≡ alu_rrr w.now }
 {
-    EVERY_RRR
-        .iter()
-        .copied()
-        .find(|op| w == op.op_name().as_bytes())
+    let op = candidate(&EVERY_RRR, &RRR_SLOTS, RRR_FACTOR, w)?;
+    if w == op.op_name().as_bytes() {
+        Some(op)
+    } else {
+        None
+    }
 }
 
 /// The operation of two registers that has this name.
@@ -124,14 +156,15 @@ impl Token for AluOPRRR {
     }
 }
 
-#[tactic(auto, unfolding(crate::specs::Operations::alu_rri, crate::specs::Operations::every_rri))]
 fn find_rri(w: &[u8]) -> Option<AluOPRRI>
     ensures { result ≡ alu_rri w.now }
 {
-    EVERY_RRI
-        .iter()
-        .copied()
-        .find(|op| w == op.op_name().as_bytes())
+    let op = candidate(&EVERY_RRI, &RRI_SLOTS, RRI_FACTOR, w)?;
+    if w == op.op_name().as_bytes() {
+        Some(op)
+    } else {
+        None
+    }
 }
 
 /// The operation of a register and a number that has this name.

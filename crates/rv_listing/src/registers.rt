@@ -1,12 +1,12 @@
 //! Registers by name: `x`, `f` or `v` and a number, the names of the calling convention, and virtual ones.
 
-ghost use Rattle.std.specs.Prelude.{◌≡◌, ℕ, ◌<◌, drop};
+ghost use Rattle.std.specs.Prelude.{◌≡◌, ℕ, ◌<◌};
 ghost use Rattle.rv_base.specs.declared.regs.RegClass.{RegClass};
 ghost use Rattle.rv_base.specs.Names.{real_name};
 ghost use Rattle.rv_listing.specs.Tokens.{◌>>=◌ as and_then, decimal};
-ghost use Rattle.rv_listing.specs.Registers.{argument, float, float_saved, float_temporary, lettered, named, other, real, register, saved, temporary, virtual_register};
+ghost use Rattle.rv_listing.specs.Registers.{after_f, after_s, after_t, argument, by_letter, fixed, float, float_saved, float_temporary, other, real, register, saved, single, temporary, virtual_register};
 
-use crate::tokens::{decimal, is, number, starts, tail};
+use crate::tokens::{decimal, is, starts, tail};
 use rv_base::regs::{PReg, Reg, RegClass, VirtualReg};
 
 #[tactic(auto, unfolding(crate::specs::Registers::real))]
@@ -39,18 +39,18 @@ fn virtual_register(number: u64) -> Option<Reg>
     }
 }
 
-// The number that a name stands for, by the number behind its first letter.
+// The number of the register that a letter and a number stand for.
 fn argument(w: &[u8]) -> Option<u64>
-    ensures { result ≡ and_then (decimal (drop 1 w.now)) argument }
+    ensures { result ≡ and_then (decimal w.now) argument }
 {
-    let n = number(w)?;
+    let n = decimal(w)?;
     if n < 8 { Some(10 + n) } else { None }
 }
 
 fn temporary(w: &[u8]) -> Option<u64>
-    ensures { result ≡ and_then (decimal (drop 1 w.now)) temporary }
+    ensures { result ≡ and_then (decimal w.now) temporary }
 {
-    let n = number(w)?;
+    let n = decimal(w)?;
     if n < 3 {
         Some(5 + n)
     } else if n < 7 {
@@ -61,9 +61,9 @@ fn temporary(w: &[u8]) -> Option<u64>
 }
 
 fn saved(w: &[u8]) -> Option<u64>
-    ensures { result ≡ and_then (decimal (drop 1 w.now)) saved }
+    ensures { result ≡ and_then (decimal w.now) saved }
 {
-    let n = number(w)?;
+    let n = decimal(w)?;
     if n == 1 {
         Some(9)
     } else if 2 <= n && n < 12 {
@@ -74,9 +74,9 @@ fn saved(w: &[u8]) -> Option<u64>
 }
 
 fn float_temporary(w: &[u8]) -> Option<u64>
-    ensures { result ≡ and_then (decimal (drop 1 w.now)) float_temporary }
+    ensures { result ≡ and_then (decimal w.now) float_temporary }
 {
-    let n = number(w)?;
+    let n = decimal(w)?;
     if n < 8 {
         Some(n)
     } else if n < 12 {
@@ -87,9 +87,9 @@ fn float_temporary(w: &[u8]) -> Option<u64>
 }
 
 fn float_saved(w: &[u8]) -> Option<u64>
-    ensures { result ≡ and_then (decimal (drop 1 w.now)) float_saved }
+    ensures { result ≡ and_then (decimal w.now) float_saved }
 {
-    let n = number(w)?;
+    let n = decimal(w)?;
     if n < 2 {
         Some(8 + n)
     } else if n < 12 {
@@ -99,79 +99,113 @@ fn float_saved(w: &[u8]) -> Option<u64>
     }
 }
 
-// The names without a number.
-#[tactic(auto, unfolding(crate::specs::Registers::named))]
-fn named(w: &[u8]) -> Option<Reg>
-    ensures { result ≡ named w.now }
-{
-    let number = if is(b"zero", w) {
-        0
-    } else if is(b"ra", w) {
-        1
-    } else if is(b"sp", w) {
-        2
-    } else if is(b"gp", w) {
-        3
-    } else if is(b"tp", w) {
-        4
-    } else if is(b"fp", w) {
-        8
-    } else {
-        return None;
-    };
-    real(RegClass::Int, number)
-}
-
-// A name behind its `f`.
+// A name of the class of floats, without its `f`.
 #[tactic(auto, unfolding(crate::specs::Registers::float))]
 fn float(w: &[u8]) -> Option<Reg>
     ensures { result ≡ float w.now }
 {
     let number = if starts(b't', w) {
-        float_temporary(w)
+        float_temporary(tail(w))
     } else if starts(b's', w) {
-        float_saved(w)
+        float_saved(tail(w))
     } else if starts(b'a', w) {
-        argument(w)
+        argument(tail(w))
     } else {
         decimal(w)
     };
     real(RegClass::Float, number?)
 }
 
-// A name that begins with `f` or `v`, or with `%`.
-#[tactic(auto, unfolding(crate::specs::Registers::other))]
-fn other(w: &[u8]) -> Option<Reg>
-    ensures { result ≡ other w.now }
+#[tactic(auto, unfolding(crate::specs::Registers::after_f))]
+fn after_f(w: &[u8]) -> Option<Reg>
+    ensures { result ≡ after_f w.now }
 {
-    if starts(b'f', w) {
-        float(tail(w))
-    } else if starts(b'v', w) {
-        real(RegClass::Vector, number(w)?)
-    } else if starts(b'%', w) {
-        virtual_register(number(w)?)
+    if is(b"p", w) {
+        real(RegClass::Int, 8)
+    } else {
+        float(w)
+    }
+}
+
+#[tactic(auto, unfolding(crate::specs::Registers::after_t))]
+fn after_t(w: &[u8]) -> Option<Reg>
+    ensures { result ≡ after_t w.now }
+{
+    if is(b"p", w) {
+        real(RegClass::Int, 4)
+    } else {
+        real(RegClass::Int, temporary(w)?)
+    }
+}
+
+#[tactic(auto, unfolding(crate::specs::Registers::after_s))]
+fn after_s(w: &[u8]) -> Option<Reg>
+    ensures { result ≡ after_s w.now }
+{
+    if is(b"p", w) {
+        real(RegClass::Int, 2)
+    } else {
+        real(RegClass::Int, saved(w)?)
+    }
+}
+
+// The one name of its letter.
+#[tactic(auto, unfolding(crate::specs::Registers::fixed))]
+fn fixed(name: &[u8], number: u64, w: &[u8]) -> Option<Reg>
+    ensures { result ≡ fixed name.now number w.now }
+{
+    if is(name, w) {
+        real(RegClass::Int, number)
     } else {
         None
     }
 }
 
-// A name that is a letter, or `%`, and a number.
-#[tactic(auto, unfolding(crate::specs::Registers::lettered))]
-fn lettered(w: &[u8]) -> Option<Reg>
-    ensures { result ≡ lettered w.now }
+#[tactic(auto, unfolding(crate::specs::Registers::single))]
+fn single(letter: u8, w: &[u8]) -> Option<Reg>
+    ensures { result ≡ single letter w.now }
 {
-    let number = if starts(b'x', w) {
-        number(w)
-    } else if starts(b'a', w) {
-        argument(w)
-    } else if starts(b't', w) {
-        temporary(w)
-    } else if starts(b's', w) {
-        saved(w)
+    if letter == b'z' {
+        fixed(b"ero", 0, w)
+    } else if letter == b'r' {
+        fixed(b"a", 1, w)
+    } else if letter == b'g' {
+        fixed(b"p", 3, w)
     } else {
-        return other(w);
-    };
-    real(RegClass::Int, number?)
+        None
+    }
+}
+
+#[tactic(auto, unfolding(crate::specs::Registers::other))]
+fn other(letter: u8, w: &[u8]) -> Option<Reg>
+    ensures { result ≡ other letter w.now }
+{
+    if letter == b'f' {
+        after_f(w)
+    } else if letter == b'v' {
+        real(RegClass::Vector, decimal(w)?)
+    } else if letter == b'%' {
+        virtual_register(decimal(w)?)
+    } else {
+        single(letter, w)
+    }
+}
+
+#[tactic(auto, unfolding(crate::specs::Registers::by_letter))]
+fn by_letter(letter: u8, w: &[u8]) -> Option<Reg>
+    ensures { result ≡ by_letter letter w.now }
+{
+    if letter == b'x' {
+        real(RegClass::Int, decimal(w)?)
+    } else if letter == b'a' {
+        real(RegClass::Int, argument(w)?)
+    } else if letter == b't' {
+        after_t(w)
+    } else if letter == b's' {
+        after_s(w)
+    } else {
+        other(letter, w)
+    }
 }
 
 /// The register of this name; each of the machine's has a name that `reg_name` gives, and its letter and number. A
@@ -181,8 +215,8 @@ pub fn register(w: &[u8]) -> Option<Reg>
     ensures value { result ≡ register w.now }
     ensures names { (class : RegClass) (n : ℕ) → n < 32 → register (real_name class n) ≡ real class n }
 {
-    match named(w) {
-        Some(reg) => Some(reg),
-        None => lettered(w),
+    match w {
+        [] => None,
+        [letter, rest @ ..] => by_letter(*letter, rest),
     }
 }

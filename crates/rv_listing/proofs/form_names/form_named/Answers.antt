@@ -1,0 +1,22 @@
+use Rattle.std.proofs.Common.{◌≡◌, ap, ◌∙◌, sym, true, false, None, Some}
+use Rattle.std.specs.Str.{bytes_eq}
+use Rattle.rv_listing.specs.FormNames.{form_name}
+use Rattle.rv_listing.specs.FormNames.{every_form}
+use Rattle.rv_listing.proofs.Named.{form_by_slot, slot_none, slot_same, slot_other}
+use Rattle.rv_listing.proofs.form_names.form_named.Goals as goal
+
+pub returns-in_err-form : goal.returns-in_err-form
+unfolding every_form
+returns-in_err-form c = c.from_residual.ensures ∙ slot_none form_name c.args.w.now _ _ (form_by_slot c.args.w.now) (sym c.candidate.ensures ∙ c.in_err-form.was)
+
+pub returns-then-eq : goal.returns-then-eq
+unfolding every_form
+returns-then-eq c =
+    let same : bytes_eq c.args.w.now (form_name c.in_ok-form.form) ≡ true = rw (sym c.name.ensures, sym c.as_bytes.ensures.value) (sym c.eq.ensures ∙ c.if-eq.true) in
+    slot_same form_name c.args.w.now _ _ c.in_ok-form.form (form_by_slot c.args.w.now) (sym c.candidate.ensures ∙ c.in_ok-form.was) same
+
+pub returns-else-eq : goal.returns-else-eq
+unfolding every_form
+returns-else-eq c =
+    let other : bytes_eq c.args.w.now (form_name c.in_ok-form.form) ≡ false = rw (sym c.name.ensures, sym c.as_bytes.ensures.value) (sym c.eq.ensures ∙ c.if-eq.false) in
+    slot_other form_name c.args.w.now _ _ c.in_ok-form.form (form_by_slot c.args.w.now) (sym c.candidate.ensures ∙ c.in_ok-form.was) other

@@ -1,0 +1,22 @@
+use Rattle.std.proofs.Common.{◌≡◌, ap, ◌∙◌, sym, true, false, None, Some}
+use Rattle.std.specs.Str.{bytes_eq}
+use Rattle.rv_ops.specs.Alu.{rri_name}
+use Rattle.rv_listing.specs.Operations.{every_rri}
+use Rattle.rv_listing.proofs.Named.{rri_by_slot, slot_none, slot_same, slot_other}
+use Rattle.rv_listing.proofs.operations.find_rri.Goals as goal
+
+pub returns-in_err-op : goal.returns-in_err-op
+unfolding every_rri
+returns-in_err-op c = c.from_residual.ensures ∙ slot_none rri_name c.args.w.now _ _ (rri_by_slot c.args.w.now) (sym c.candidate.ensures ∙ c.in_err-op.was)
+
+pub returns-then-eq : goal.returns-then-eq
+unfolding every_rri
+returns-then-eq c =
+    let same : bytes_eq c.args.w.now (rri_name c.in_ok-op.op) ≡ true = rw (sym c.op_name.ensures, sym c.as_bytes.ensures.value) (sym c.eq.ensures ∙ c.if-eq.true) in
+    slot_same rri_name c.args.w.now _ _ c.in_ok-op.op (rri_by_slot c.args.w.now) (sym c.candidate.ensures ∙ c.in_ok-op.was) same
+
+pub returns-else-eq : goal.returns-else-eq
+unfolding every_rri
+returns-else-eq c =
+    let other : bytes_eq c.args.w.now (rri_name c.in_ok-op.op) ≡ false = rw (sym c.op_name.ensures, sym c.as_bytes.ensures.value) (sym c.eq.ensures ∙ c.if-eq.false) in
+    slot_other rri_name c.args.w.now _ _ c.in_ok-op.op (rri_by_slot c.args.w.now) (sym c.candidate.ensures ∙ c.in_ok-op.was) other

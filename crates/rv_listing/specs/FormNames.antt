@@ -1,0 +1,38 @@
+-- The forms of lines, by the names that begin them.
+use Rattle.std.specs.Prelude.{ℕ, List, [], ◌∷◌, Option, codes}
+use Rattle.std.specs.List.{find}
+use Rattle.std.specs.Str.{bytes_eq}
+use Rattle.rv_listing.specs.declared.form_names.Form.{Form}
+use Rattle.rv_listing.specs.declared.form_names.Form.TheVariants as forms
+
+-- the word that begins a line of this form
+abbrev pub form_name : Form → List ℕ
+form_name forms.Nop0 = codes "Nop0"
+form_name forms.Nop4 = codes "Nop4"
+form_name forms.EBreak = codes "EBreak"
+form_name forms.SequencePoint = codes "SequencePoint"
+form_name forms.DummyUse = codes "DummyUse"
+form_name forms.EmitIsland = codes "EmitIsland"
+form_name forms.Args = codes "Args"
+form_name forms.Rets = codes "Rets"
+form_name forms.Lui = codes "Lui"
+form_name forms.Auipc = codes "Auipc"
+form_name forms.AluRRR = codes "AluRRR"
+form_name forms.AluRRImm12 = codes "AluRRImm12"
+form_name forms.Mov = codes "Mov"
+form_name forms.MovFromPReg = codes "MovFromPReg"
+form_name forms.Ret = codes "Ret"
+form_name forms.Jal = codes "Jal"
+form_name forms.CondBr = codes "CondBr"
+form_name forms.Jalr = codes "Jalr"
+form_name forms.Bind = codes "Bind"
+
+unfoldable pub every_form : List Form
+every_form =
+    forms.Nop0 ∷ forms.Nop4 ∷ forms.EBreak ∷ forms.SequencePoint ∷ forms.DummyUse ∷ forms.EmitIsland ∷ forms.Args ∷ forms.Rets ∷
+    forms.Lui ∷ forms.Auipc ∷ forms.AluRRR ∷ forms.AluRRImm12 ∷ forms.Mov ∷ forms.MovFromPReg ∷ forms.Ret ∷
+    forms.Jal ∷ forms.CondBr ∷ forms.Jalr ∷ forms.Bind ∷ []
+
+-- the form of the lines that begin with this word
+unfoldable pub form_named : List ℕ → Option Form
+form_named w = find (λ form. bytes_eq w (form_name form)) every_form

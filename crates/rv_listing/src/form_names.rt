@@ -1,0 +1,108 @@
+//! The forms of lines, by the names that begin them.
+
+ghost use Rattle.std.specs.Prelude.{◌≡◌};
+ghost use Rattle.rv_listing.specs.FormNames.{form_name, form_named};
+
+use crate::slots::candidate;
+
+/// The form of a line.
+#[derive(Clone, Copy, Debug, PartialEq, Eq)]
+pub enum Form {
+    Nop0,
+    Nop4,
+    EBreak,
+    SequencePoint,
+    DummyUse,
+    EmitIsland,
+    Args,
+    Rets,
+    Lui,
+    Auipc,
+    AluRRR,
+    AluRRImm12,
+    Mov,
+    MovFromPReg,
+    Ret,
+    Jal,
+    CondBr,
+    Jalr,
+    Bind,
+}
+
+impl Form {
+    /// The word that begins a line of this form.
+    pub fn name(self) -> &'static str
+        ensures { result.now ≡ form_name self }
+    {
+        match self {
+            Self::Nop0 => "Nop0",
+            Self::Nop4 => "Nop4",
+            Self::EBreak => "EBreak",
+            Self::SequencePoint => "SequencePoint",
+            Self::DummyUse => "DummyUse",
+            Self::EmitIsland => "EmitIsland",
+            Self::Args => "Args",
+            Self::Rets => "Rets",
+            Self::Lui => "Lui",
+            Self::Auipc => "Auipc",
+            Self::AluRRR => "AluRRR",
+            Self::AluRRImm12 => "AluRRImm12",
+            Self::Mov => "Mov",
+            Self::MovFromPReg => "MovFromPReg",
+            Self::Ret => "Ret",
+            Self::Jal => "Jal",
+            Self::CondBr => "CondBr",
+            Self::Jalr => "Jalr",
+            Self::Bind => "Bind",
+        }
+    }
+}
+
+const EVERY_FORM: [Form; 19] = [
+    Form::Nop0,
+    Form::Nop4,
+    Form::EBreak,
+    Form::SequencePoint,
+    Form::DummyUse,
+    Form::EmitIsland,
+    Form::Args,
+    Form::Rets,
+    Form::Lui,
+    Form::Auipc,
+    Form::AluRRR,
+    Form::AluRRImm12,
+    Form::Mov,
+    Form::MovFromPReg,
+    Form::Ret,
+    Form::Jal,
+    Form::CondBr,
+    Form::Jalr,
+    Form::Bind,
+];
+
+/// The indices in `EVERY_FORM` by the names' slots.
+const FORM_SLOTS: [u8; 256] = [
+    0, 0, 0, 0, 0, 0, 0, 0, 0, 0, 0, 0, 0, 0, 12, 0, 0, 0, 0, 0, 0, 0, 0, 0, 0, 0, 17, 0, 0, 0, 0,
+    0, 0, 0, 0, 0, 0, 0, 0, 0, 0, 0, 5, 0, 0, 0, 0, 0, 0, 0, 0, 0, 0, 0, 0, 0, 0, 0, 0, 0, 0, 0, 0,
+    0, 0, 0, 0, 0, 0, 0, 0, 0, 0, 0, 0, 0, 0, 0, 0, 0, 0, 0, 0, 0, 0, 16, 0, 0, 0, 0, 2, 0, 0, 0,
+    0, 0, 0, 0, 0, 0, 0, 0, 0, 0, 0, 0, 0, 11, 0, 0, 0, 0, 0, 0, 0, 0, 0, 0, 0, 0, 0, 0, 0, 10, 0,
+    0, 0, 0, 0, 0, 0, 0, 0, 0, 0, 0, 6, 9, 0, 0, 0, 0, 0, 0, 0, 0, 0, 0, 0, 0, 0, 0, 3, 0, 0, 0, 0,
+    0, 0, 0, 0, 13, 0, 0, 0, 14, 0, 0, 0, 0, 0, 0, 0, 0, 0, 0, 0, 0, 0, 0, 0, 0, 0, 0, 0, 0, 0, 0,
+    0, 0, 0, 0, 0, 18, 0, 0, 0, 0, 0, 0, 0, 0, 0, 0, 0, 7, 0, 0, 0, 0, 0, 0, 0, 0, 0, 0, 0, 8, 0,
+    0, 0, 0, 0, 0, 0, 0, 0, 0, 0, 4, 0, 0, 0, 0, 0, 0, 0, 0, 0, 0, 0, 0, 0, 0, 0, 0, 0, 0, 0, 15,
+    0, 0, 0, 0, 0, 1,
+];
+
+const FORM_FACTOR: u32 = 3986238883;
+
+/// The form of the lines that begin with this word.
+pub fn form_named(w: &[u8]) -> Option<Form>
+    ensures { result ≡ form_named w.now }
+{
+    let form = candidate(&EVERY_FORM, &FORM_SLOTS, FORM_FACTOR, w)?;
+    if w == form.name().as_bytes() {
+        Some(form)
+    } else {
+        None
+    }
+}
