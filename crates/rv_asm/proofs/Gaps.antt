@@ -23,11 +23,7 @@ use Rattle.rv_emit.specs.Runs.{Ends}
 use Rattle.rv_emit.specs.Emitted.{Buffer, AreRows, UsesStand}
 use Rattle.rv_inst.specs.Uses.{use_at, uses_in}
 use Rattle.rv_emit.specs.Blocks.{BytesStand, StandRows}
-use Rattle.rv_emit.proofs.Steps.{istep_at}
-use Rattle.rv_emit.proofs.Blocked.{ends_one, ends_both}
-use Rattle.rv_emit.proofs.Jumps.{lands}
-use Rattle.rv_emit.proofs.Placed.{AllBytes, word_there, bytes_fit}
-use Rattle.rv_emit.proofs.Patched.{patched_rows}
+use Rattle.rv_emit.proofs.Laws.{istep_at, ends_one, ends_both, lands, AllBytes, word_there, bytes_fit, patched_rows}
 use Rattle.std.proofs.lemmas.Option.{same_Some}
 use Rattle.rv_inst.specs.Islands.{GoesOn, IsIsland}
 use Rattle.rv_asm.specs.Told.{IsGap}

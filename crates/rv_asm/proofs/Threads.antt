@@ -17,8 +17,7 @@ use Rattle.rv_emit.specs.Rows.{ebreak_row}
 use Rattle.rv_inst.specs.Same.{Same}
 use Rattle.rv_emit.specs.Runs.{Ends, least_steps, exit_address}
 use Rattle.rv_emit.specs.Blocks.{StandRows}
-use Rattle.rv_emit.proofs.Blocked.{ends_both}
-use Rattle.rv_emit.proofs.Placed.{word_there}
+use Rattle.rv_emit.proofs.Laws.{ends_both, word_there}
 use Rattle.rv_asm.proofs.Placed.{bytes_stand}
 
 -- under the whole code, placed, the machine comes from an offset to an address in at least so many steps, with an effect

@@ -31,10 +31,7 @@ use Rattle.rv_inst.specs.Same.{Same}
 use Rattle.rv_emit.specs.Runs.{Ends}
 use Rattle.rv_emit.specs.Blocks.{BytesStand}
 use Rattle.rv_inst.specs.Islands.{word_in, GoesOn}
-use Rattle.rv_emit.proofs.Registers.{are_values_set}
-use Rattle.rv_emit.proofs.Steps.{istep_at}
-use Rattle.rv_emit.proofs.Blocked.{ends_one, ends_both}
-use Rattle.rv_emit.proofs.Placed.{AllBytes, word_there, bytes_fit}
+use Rattle.rv_emit.proofs.Laws.{are_values_set, istep_at, ends_one, ends_both, AllBytes, word_there, bytes_fit}
 use Rattle.rv_asm.proofs.Placed.{bytes_stand}
 use Rattle.rv_asm.proofs.Threads.{LeadsTo}
 

@@ -4,6 +4,7 @@ pub mod Grows
 pub mod Islanding
 pub mod Islands
 pub mod Jumps
+pub mod Laws
 pub mod Lines
 pub mod Patched
 pub mod Placed
