@@ -88,7 +88,7 @@ island_is job code b from to f fits island =
     let inside = uses_inside from (0x6f ∷ []) own (uses_are from island.round) in
     let p = block_done job code b from (word_bytes 0x6f) own f island.jump inside in
     let rows = patched_rows job.flags (targets_of (place_of b) (bytes_of b) code.bytes from (word_bytes 0x6f) own p) from (Jal island.round) (0x6f ∷ []) code.bytes (words_are island.round) (uses_are from island.round) fits
-        (patched_to (place_of b) (bytes_of b) code.bytes from (word_bytes 0x6f) own p island.jump.within island.jump.stands inside)
+    (patched_to (place_of b) (bytes_of b) code.bytes from (word_bytes 0x6f) own p island.jump.within island.jump.stands inside)
     in
     let used = p.each 0 (use_at from island.round Jal20) refl in
     record {

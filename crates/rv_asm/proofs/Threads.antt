@@ -10,7 +10,7 @@ use Rattle.rv_inst.specs.declared.code.Code.{Code}
 use Rattle.rv_inst.specs.Meaning.{Exit, Next, To, Leave, Break, exit_of, effect_of}
 use Rattle.rv_machine.specs.State.{State, IsState, Values, AreValues, wrap}
 use Rattle.rv_asm.specs.Told.{start_of, end_of}
-use Rattle.rv_asm.specs.Simulation.{At, End, Stop, Addresses, IsBack, place_of, point_of, address_of, standing_of, IsPlaced, IsStopped, Comes, RunsAsListed}
+use Rattle.rv_asm.specs.Simulation.{At, End, Addresses, IsBack, place_of, point_of, address_of, standing_of, IsPlaced, IsStopped, Comes, RunsAsListed}
 use Rattle.rv_machine.specs.Decode.{decode}
 use Rattle.rv_machine.specs.Steps.{fetch}
 use Rattle.rv_emit.specs.Rows.{ebreak_row}

@@ -187,8 +187,8 @@ veneer_goes_on flags bytes kind u to g fits =
     let inside = g.inside in
     let same_place : g.at + 0 ≡ g.at = omega arith in
     let p = veneer_pair flags bytes g.at to (λ k lt. fits (g.at + k) (omega arith))
-        (subst (λ n. SameOutside (marks_of PCRel32) (veneer_of PCRel32).bytes (window bytes n 8)) same_place g.own)
-        (subst (λ n. Aims PCRel32 (window bytes n 8) (pos to -ℤ pos n)) same_place g.on)
+    (subst (λ n. SameOutside (marks_of PCRel32) (veneer_of PCRel32).bytes (window bytes n 8)) same_place g.own)
+    (subst (λ n. Aims PCRel32 (window bytes n 8) (pos to -ℤ pos n)) same_place g.on)
     in
     record {
       upper = p.upper;
