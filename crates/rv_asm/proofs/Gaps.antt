@@ -23,11 +23,7 @@ use Rattle.rv_emit.specs.Runs.{Ends}
 use Rattle.rv_emit.specs.Emitted.{Buffer, AreRows, UsesStand}
 use Rattle.rv_inst.specs.Uses.{use_at, uses_in}
 use Rattle.rv_emit.specs.Blocks.{BytesStand, StandRows}
-use Rattle.rv_emit.proofs.Steps.{istep_at}
-use Rattle.rv_emit.proofs.Blocked.{ends_one, ends_both}
-use Rattle.rv_emit.proofs.Jumps.{lands}
-use Rattle.rv_emit.proofs.Placed.{AllBytes, word_there, bytes_fit}
-use Rattle.rv_emit.proofs.Patched.{patched_rows}
+use Rattle.rv_emit.proofs.Laws.{istep_at, ends_one, ends_both, lands, AllBytes, word_there, bytes_fit, patched_rows}
 use Rattle.std.proofs.lemmas.Option.{same_Some}
 use Rattle.rv_inst.specs.Islands.{GoesOn, IsIsland}
 use Rattle.rv_asm.specs.Told.{IsGap}
@@ -92,7 +88,7 @@ island_is job code b from to f fits island =
     let inside = uses_inside from (0x6f ∷ []) own (uses_are from island.round) in
     let p = block_done job code b from (word_bytes 0x6f) own f island.jump inside in
     let rows = patched_rows job.flags (targets_of (place_of b) (bytes_of b) code.bytes from (word_bytes 0x6f) own p) from (Jal island.round) (0x6f ∷ []) code.bytes (words_are island.round) (uses_are from island.round) fits
-        (patched_to (place_of b) (bytes_of b) code.bytes from (word_bytes 0x6f) own p island.jump.within island.jump.stands inside)
+    (patched_to (place_of b) (bytes_of b) code.bytes from (word_bytes 0x6f) own p island.jump.within island.jump.stands inside)
     in
     let used = p.each 0 (use_at from island.round Jal20) refl in
     record {

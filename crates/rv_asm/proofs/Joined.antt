@@ -17,9 +17,7 @@ use Rattle.rv_emit.specs.Runs.{Ends, least_steps, exit_address, standing, used_e
 use Rattle.rv_emit.specs.Emitted.{Buffer, bytes_of_words}
 use Rattle.rv_inst.specs.Uses.{uses_in}
 use Rattle.rv_emit.specs.Blocks.{StandRows, IsPatchedTo, BlockRuns}
-use Rattle.rv_emit.proofs.Blocked.{ends_both}
-use Rattle.rv_emit.proofs.Blocks.{block_runs}
-use Rattle.rv_emit.proofs.Usable.{keeps}
+use Rattle.rv_emit.proofs.Laws.{ends_both, block_runs, keeps}
 use Rattle.rv_asm.specs.Refusal.{is_bound}
 use Rattle.rv_asm.specs.Simulation.{Addresses, IsPlaced, place_of}
 use Rattle.rv_asm.specs.Built.{BlockThere, Built}

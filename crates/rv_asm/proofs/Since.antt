@@ -19,7 +19,7 @@ use Rattle.mach_buffer.proofs.Links.{append_each}
 use Rattle.mach_buffer.proofs.Slack.{none_waits, bound_waits}
 use Rattle.rv_emit.specs.Emitted.{Buffer, PutsBlock, PutsIsland, MakesRoom, Emitted}
 use Rattle.rv_inst.specs.Uses.{uses_in}
-use Rattle.rv_emit.proofs.Room.{waits}
+use Rattle.rv_emit.proofs.Laws.{waits}
 use Rattle.rv_asm.specs.Told.{start_of}
 use Rattle.rv_asm.specs.Told.{end_before}
 use Rattle.rv_asm.specs.Built.{Built, InstPut, BindPut, LinePut}

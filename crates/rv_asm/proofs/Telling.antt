@@ -15,8 +15,7 @@ use Rattle.rv_inst.specs.Sizes.{extent_of, island_space}
 use Rattle.mach_buffer.specs.Buffer.{bytes_of}
 use Rattle.rv_emit.specs.Rows.{blank, rows_of, move_rows, addi_row}
 use Rattle.rv_emit.specs.Emitted.{Buffer, bytes_of_words}
-use Rattle.rv_emit.proofs.Blocks.{four_each}
-use Rattle.rv_emit.proofs.Placed.{AllBytes}
+use Rattle.rv_emit.proofs.Laws.{four_each, AllBytes}
 use Rattle.rv_asm.specs.Told.{end_before, start_of, end_of, binds_from, IsSized, IsSpan, Told}
 use Rattle.rv_asm.specs.Built.{InstThere, LineThere}
 use Rattle.rv_asm.proofs.Gaps.{Finished, gap_is}

@@ -10,15 +10,14 @@ use Rattle.rv_inst.specs.declared.code.Code.{Code}
 use Rattle.rv_inst.specs.Meaning.{Exit, Next, To, Leave, Break, exit_of, effect_of}
 use Rattle.rv_machine.specs.State.{State, IsState, Values, AreValues, wrap}
 use Rattle.rv_asm.specs.Told.{start_of, end_of}
-use Rattle.rv_asm.specs.Simulation.{At, End, Stop, Addresses, IsBack, place_of, point_of, address_of, standing_of, IsPlaced, IsStopped, Comes, RunsAsListed}
+use Rattle.rv_asm.specs.Simulation.{At, End, Addresses, IsBack, place_of, point_of, address_of, standing_of, IsPlaced, IsStopped, Comes, RunsAsListed}
 use Rattle.rv_machine.specs.Decode.{decode}
 use Rattle.rv_machine.specs.Steps.{fetch}
 use Rattle.rv_emit.specs.Rows.{ebreak_row}
 use Rattle.rv_inst.specs.Same.{Same}
 use Rattle.rv_emit.specs.Runs.{Ends, least_steps, exit_address}
 use Rattle.rv_emit.specs.Blocks.{StandRows}
-use Rattle.rv_emit.proofs.Blocked.{ends_both}
-use Rattle.rv_emit.proofs.Placed.{word_there}
+use Rattle.rv_emit.proofs.Laws.{ends_both, word_there}
 use Rattle.rv_asm.proofs.Placed.{bytes_stand}
 
 -- under the whole code, placed, the machine comes from an offset to an address in at least so many steps, with an effect

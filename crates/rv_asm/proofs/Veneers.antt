@@ -31,10 +31,7 @@ use Rattle.rv_inst.specs.Same.{Same}
 use Rattle.rv_emit.specs.Runs.{Ends}
 use Rattle.rv_emit.specs.Blocks.{BytesStand}
 use Rattle.rv_inst.specs.Islands.{word_in, GoesOn}
-use Rattle.rv_emit.proofs.Registers.{are_values_set}
-use Rattle.rv_emit.proofs.Steps.{istep_at}
-use Rattle.rv_emit.proofs.Blocked.{ends_one, ends_both}
-use Rattle.rv_emit.proofs.Placed.{AllBytes, word_there, bytes_fit}
+use Rattle.rv_emit.proofs.Laws.{are_values_set, istep_at, ends_one, ends_both, AllBytes, word_there, bytes_fit}
 use Rattle.rv_asm.proofs.Placed.{bytes_stand}
 use Rattle.rv_asm.proofs.Threads.{LeadsTo}
 
@@ -190,8 +187,8 @@ veneer_goes_on flags bytes kind u to g fits =
     let inside = g.inside in
     let same_place : g.at + 0 ≡ g.at = omega arith in
     let p = veneer_pair flags bytes g.at to (λ k lt. fits (g.at + k) (omega arith))
-        (subst (λ n. SameOutside (marks_of PCRel32) (veneer_of PCRel32).bytes (window bytes n 8)) same_place g.own)
-        (subst (λ n. Aims PCRel32 (window bytes n 8) (pos to -ℤ pos n)) same_place g.on)
+    (subst (λ n. SameOutside (marks_of PCRel32) (veneer_of PCRel32).bytes (window bytes n 8)) same_place g.own)
+    (subst (λ n. Aims PCRel32 (window bytes n 8) (pos to -ℤ pos n)) same_place g.on)
     in
     record {
       upper = p.upper;

@@ -18,13 +18,11 @@ pub(crate) fn code_fits(code: &Code)
 
 fn offset_fits(offset: u32)
     ensures { offset < 2 ^ 32 }
-{
-}
+{}
 
 fn bytes_fit(bytes: &[u8])
     ensures { AllByRecursion (λ b. b < 256) bytes.now }
-{
-}
+{}
 
 fn spans_fit(spans: &[LineSpan])
     ensures { AllByRecursion SpanFits spans.now }
@@ -36,8 +34,7 @@ fn spans_fit(spans: &[LineSpan])
 
 fn span_fits(span: LineSpan)
     ensures { SpanFits span }
-{
-}
+{}
 
 fn labels_fit(labels: &[LabelPlace])
     ensures { AllByRecursion LabelFits labels.now }
@@ -49,5 +46,4 @@ fn labels_fit(labels: &[LabelPlace])
 
 fn label_fits(label: LabelPlace)
     ensures { LabelFits label }
-{
-}
+{}

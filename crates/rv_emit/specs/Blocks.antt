@@ -1,6 +1,6 @@
 -- A block in finished code, with its uses patched, and what it is for it to run as its instruction means: links of the
 -- proof.
-use Rattle.std.specs.Prelude.{◌≡◌, ℕ, ◌+◌, ◌-◌, ◌*◌, ◌%◌, ◌^◌, ◌<◌, ◌≤◌, List, [], ◌∷◌, length, drop, None, Some, pos, ◌-ℤ◌, slice_get, slice_index}
+use Rattle.std.specs.Prelude.{◌≡◌, ℕ, ◌+◌, ◌-◌, ◌%◌, ◌^◌, ◌<◌, ◌≤◌, List, [], ◌∷◌, length, drop, None, Some, pos, ◌-ℤ◌, slice_get, slice_index}
 use Rattle.rv_base.specs.declared.flags.IsaFlags.{IsaFlags}
 use Rattle.rv_base.specs.LabelUse.{SameOutside}
 use Rattle.rv_machine.specs.declared.decode.Decoded.{Decoded}

@@ -13,7 +13,7 @@ use Rattle.rv_inst.specs.Meaning.{Standing, Exit, Next, To, Leave, Break, inst_e
 use Rattle.rv_inst.specs.Same.{Same}
 use Rattle.rv_machine.specs.declared.decode.Decoded.{Decoded}
 use Rattle.rv_machine.specs.Decode.{decode}
-use Rattle.rv_machine.specs.State.{State, IsState, Values, AreValues, Memory, byte, reg, wrap}
+use Rattle.rv_machine.specs.State.{State, IsState, Values, AreValues, Memory, reg, wrap}
 use Rattle.rv_machine.specs.Steps.{fetch, iter}
 use Rattle.rv_emit.specs.Rows.{distances, rows_of}
 

@@ -22,8 +22,7 @@ use Rattle.rv_emit.specs.Emitted.{Buffer, HasWindows, pending, PutsBlock, Puts, 
 use Rattle.rv_inst.specs.Uses.{use_at, uses_in}
 use Rattle.rv_inst.specs.Sizes.{island_space, inst_sum}
 use Rattle.rv_vectors.specs.Single.{names_first, IsStart, HoldsOne}
-use Rattle.rv_emit.proofs.Grows.{block_has_windows}
-use Rattle.rv_emit.proofs.Room.{Each, waits, each_none, each_more, uses_kinds}
+use Rattle.rv_emit.proofs.Laws.{block_has_windows, Each, waits, each_none, each_more, uses_kinds}
 
 -- ---- at the start
 

@@ -1,5 +1,3 @@
-use Rattle.std.proofs.Common.{ap, sym, ◌∙◌}
-use Rattle.rv_emit.specs.State.{setting_beyond}
 use Rattle.rv_asm.proofs.lines.make_way.Goals as goal
 
 pub returns-then-made-clause-room : goal.returns-then-made-clause-room
