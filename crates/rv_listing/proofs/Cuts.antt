@@ -4,6 +4,8 @@ use Rattle.std.specs.List.{position_or_len}
 use Rattle.std.specs.Prelude.{MatchOption}
 use Rattle.std.proofs.lemmas.Bool.{ltb-false}
 use Rattle.std.proofs.lemmas.List.{take_all}
+use Rattle.std.proofs.lemmas.List.Sums.{position_or_len_is}
+use Rattle.memchr.specs.Find.{IsFirstByte, is_byte}
 use Rattle.rv_listing.specs.Tokens.{onto, lines_of, parts_of, parts_behind, behind}
 
 parts_step : (sep : ℕ) (b : Bool) (c : ℕ) (cs : List ℕ) (k : ℕ) → parts_of sep cs ≡ take k cs ∷ parts_behind sep (drop k cs)
@@ -57,3 +59,17 @@ within_step false k n h = omega arith
 pub place_within : (byte : ℕ) (t : List ℕ) → position_or_len (λ c. eqb c byte) t ≤ length t
 place_within byte [] = omega arith
 place_within byte (c ∷ cs) = within_step (eqb c byte) (position_or_len (λ c. eqb c byte) cs) (length cs) (place_within byte cs)
+
+-- ---- where a search finds the byte
+
+not_true : (b : Bool) → (b ≡ true → ⊥) → b ≡ false
+not_true true h = absurd (h refl)
+not_true false h = refl
+
+pub first_at : (byte : ℕ) (t : List ℕ) (at : ℕ) → IsFirstByte (is_byte byte) t (Some at) → at ≡ position_or_len (λ c. eqb c byte) t
+first_at byte t at first =
+    sym (position_or_len_is (λ c. eqb c byte) t at 0 (let high = first.0.high in omega arith) (λ k lt. not_true _ (first.0.before k (omega arith) lt)) (λ lt. first.1))
+
+pub first_nowhere : (byte : ℕ) (t : List ℕ) → IsFirstByte (is_byte byte) t None → length t ≡ position_or_len (λ c. eqb c byte) t
+first_nowhere byte t nowhere =
+    sym (position_or_len_is (λ c. eqb c byte) t (length t) 0 (omega arith) (λ k lt. not_true _ (nowhere k (omega arith) lt)) (λ lt. absurd (omega arith)))

@@ -5,6 +5,8 @@ ghost use Rattle.std.specs.List.{position_or_len, position};
 ghost use Rattle.std.specs.Str.{bytes_eq};
 ghost use Rattle.rv_listing.specs.Tokens.{parts_of, parts_behind, words_of, lines_of, more, behind, two, below, digit, digits_after, digits, starts, decimal, natural, signed};
 
+use memchr::memchr;
+
 // Where the byte first stands.
 fn find(byte: u8, text: &[u8]) -> Option<usize>
     ensures { result ≡ position (λ c. c == byte) text.now }
@@ -23,6 +25,17 @@ fn place_of(byte: u8, text: &[u8]) -> usize
     }
 }
 
+// Where the first line ends.
+fn line_end(text: &[u8]) -> usize
+    ensures place { result ≡ position_or_len (λ c. c == 10) text.now }
+    ensures within { result ≤ length text.now }
+{
+    match memchr(b'\n', text) {
+        Some(at) => at,
+        None => text.len(),
+    }
+}
+
 /// The first line, and what is behind it.
 pub fn next_line(text: &[u8]) -> Option<(&[u8], &[u8])>
     ensures cut { MatchOption result (text.now ≡ []) (λ p. lines_of text.now ≡ p.0.now ∷ lines_of p.1.now) }
@@ -31,7 +44,7 @@ pub fn next_line(text: &[u8]) -> Option<(&[u8], &[u8])>
     if text.is_empty() {
         return None;
     }
-    let (line, rest) = text.split_at(place_of(b'\n', text));
+    let (line, rest) = text.split_at(line_end(text));
     match rest {
         [] => Some((line, rest)),
         [_, rest @ ..] => Some((line, rest)),
