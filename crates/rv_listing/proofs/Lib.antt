@@ -1,10 +1,10 @@
-pub mod Bad
+pub mod FirstBadLine
 pub mod Cuts
-pub mod Names
-pub mod Plain
+pub mod RegisterNames
+pub mod PlainJobs
 pub mod Ranges
-pub mod ReportTells
-pub mod Rows
+pub mod OneReport
+pub mod HexLines
 pub mod Vectors
-pub mod Named
-pub mod NamedTypes
+pub mod BySlot
+pub mod TypeNames

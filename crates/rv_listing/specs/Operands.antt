@@ -34,8 +34,8 @@ unfoldable pub imm20 : List ℕ → Option Imm20
 imm20 w = signed w >>= imm20_of
 
 -- a count of bytes, without a sign
-unfoldable pub space : List ℕ → Option ℕ
-space w = natural w >>= below (2 ^ 32)
+unfoldable pub byte_count : List ℕ → Option ℕ
+byte_count w = natural w >>= below (2 ^ 32)
 
 -- L and the label's number
 unfoldable pub label : List ℕ → Option MachLabel

@@ -28,6 +28,6 @@ every_rri =
     rri.SlliUw ∷ rri.Clz ∷ rri.Clzw ∷ rri.Cpop ∷ rri.Cpopw ∷ rri.Ctz ∷ rri.Ctzw ∷ rri.Rev8 ∷ rri.Sextb ∷ rri.Sexth ∷
     rri.Zexth ∷ rri.Orcb ∷ []
 
--- the operation of a register and a number that has this name
+-- the operation of a register and an immediate that has this name
 unfoldable pub alu_rri : List ℕ → Option AluOPRRI
 alu_rri w = find (λ op. bytes_eq w (rri_name op)) every_rri

@@ -6,7 +6,7 @@ use Rattle.rv_base.specs.Frame.{no_frame}
 use Rattle.rv_inst.specs.declared.inst.Line.{Line}
 use Rattle.rv_inst.specs.declared.job.Job.{Job}
 use Rattle.rv_listing.specs.Tokens.{◌>>=◌, starts, lines_of, words_of}
-use Rattle.rv_listing.specs.Forms.{line_row}
+use Rattle.rv_listing.specs.Forms.{line_form}
 use Rattle.rv_listing.specs.declared.fields.LineError.{LineError}
 use Rattle.rv_listing.specs.declared.fields.LineError.TheVariants as bad
 use Rattle.rv_listing.specs.declared.reading.ReadError.{ReadError}
@@ -25,7 +25,7 @@ is_plain c = nat_lt c 128 && not (c == 13)
 
 abbrev pub by_words : List (List ℕ) → Option Line
 by_words [] = None
-by_words (name ∷ ws) = line_row name ws
+by_words (name ∷ ws) = line_form name ws
 
 -- A line after what was read so far. One that is empty or begins with # says nothing.
 unfoldable pub with_line : Job → List ℕ → Option Job
@@ -47,13 +47,13 @@ reading n job (l ∷ ls) = or_line n (with_line job l) (λ next. reading (n + 1)
 abbrev pub reads : List ℕ → Result Job ℕ
 reads text = reading 1 no_job (lines_of text)
 
--- a line that was taken, or isn't allowed; want of memory says nothing
+-- a line that was taken, or isn't allowed; out of memory says nothing
 abbrev pub TakesLine : Job → Job → List ℕ → Result Unit LineError → Type 0
 TakesLine old new line (Ok x) = with_line old line ≡ Some new
 TakesLine old new line (Err bad.NotAllowed) = with_line old line ≡ None
 TakesLine old new line (Err bad.OutOfMemory) = Unit {0}
 
--- what a reader of the text returned; want of memory says nothing
+-- what a reader of the text returned; out of memory says nothing
 abbrev pub Reads : List ℕ → Result Job ReadError → Type 0
 Reads text (Ok job) = reads text ≡ Ok job
 Reads text (Err (errors.Syntax n)) = reads text ≡ Err n

@@ -15,16 +15,16 @@ abbrev pub sp : List ℕ
 sp = 32 ∷ []
 
 -- eight hex digits of the offset, then the bytes
-abbrev pub row : ℕ → List ℕ → List ℕ
-row at bytes = encode_lower (to_be_bytes w32 at) ++ sp ++ encode_lower bytes ++ lf
+abbrev pub hex_line : ℕ → List ℕ → List ℕ
+hex_line at bytes = encode_lower (to_be_bytes w32 at) ++ sp ++ encode_lower bytes ++ lf
 
--- n rows of 16 bytes or the rest, from offset `at`
-abbrev pub rows : ℕ → ℕ → List ℕ → List ℕ
-rows zero at bytes = []
-rows (suc n) at bytes = row at (take 16 bytes) ++ rows n (at + 16) (drop 16 bytes)
+-- n lines of 16 bytes or the rest, from offset `at`
+abbrev pub hex_lines : ℕ → ℕ → List ℕ → List ℕ
+hex_lines zero at bytes = []
+hex_lines (suc n) at bytes = hex_line at (take 16 bytes) ++ hex_lines n (at + 16) (drop 16 bytes)
 
-abbrev pub all_rows : List ℕ → List ℕ
-all_rows bytes = rows ((length bytes + 15) / 16) 0 bytes
+abbrev pub all_hex_lines : List ℕ → List ℕ
+all_hex_lines bytes = hex_lines ((length bytes + 15) / 16) 0 bytes
 
 abbrev pub span_line : LineSpan → List ℕ
 span_line l = codes "line " ++ decimal l.index ++ sp ++ decimal l.start ++ sp ++ decimal l.end ++ lf
@@ -35,7 +35,7 @@ label_line l = codes "label L" ++ decimal l.label.number ++ sp ++ decimal l.offs
 abbrev pub report : Code → List ℕ
 report c =
     codes "code " ++ decimal (length c.bytes) ++ lf
-    ++ all_rows c.bytes
+    ++ all_hex_lines c.bytes
     ++ flat_map span_line c.lines
     ++ flat_map label_line c.labels
     ++ codes "end " ++ decimal c.end ++ lf

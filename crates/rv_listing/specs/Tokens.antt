@@ -30,28 +30,28 @@ abbrev pub parts_of : ℕ → List ℕ → List (List ℕ)
 parts_of separator [] = [] ∷ []
 parts_of separator (c ∷ cs) = if c == separator then [] ∷ parts_of separator cs else onto c (parts_of separator cs)
 
--- the parts behind a separator, or none at the end
-abbrev pub parts_behind : ℕ → List ℕ → List (List ℕ)
-parts_behind separator [] = []
-parts_behind separator (c ∷ cs) = parts_of separator cs
+-- the parts after a separator, or none at the end
+abbrev pub parts_after : ℕ → List ℕ → List (List ℕ)
+parts_after separator [] = []
+parts_after separator (c ∷ cs) = parts_of separator cs
 
 -- the words of a line, each a space apart
 abbrev pub words_of : List ℕ → List (List ℕ)
 words_of = parts_of 32
 
--- the words behind a space, or none at the end of the line
-abbrev pub more : List ℕ → List (List ℕ)
-more = parts_behind 32
+-- the words after a space, or none at the end of the line
+abbrev pub words_after : List ℕ → List (List ℕ)
+words_after = parts_after 32
 
 -- both parts, where there are two
-abbrev pub two : List (List ℕ) → Option (List ℕ × List ℕ)
-two (a ∷ b ∷ []) = Some (a, b)
-two _ = None
+abbrev pub as_pair : List (List ℕ) → Option (List ℕ × List ℕ)
+as_pair (a ∷ b ∷ []) = Some (a, b)
+as_pair _ = None
 
--- what is behind an LF, or nothing at the end of the text
-abbrev pub behind : List ℕ → List ℕ
-behind [] = []
-behind (c ∷ cs) = cs
+-- what is after an LF, or nothing at the end of the text
+abbrev pub after_lf : List ℕ → List ℕ
+after_lf [] = []
+after_lf (c ∷ cs) = cs
 
 abbrev pub below : ℕ → ℕ → Option ℕ
 below limit n = if nat_lt n limit then Some n else None

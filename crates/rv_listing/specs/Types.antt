@@ -9,7 +9,7 @@ use Rattle.rv_base.specs.declared.ir_type.LaneType.{LaneType}
 use Rattle.rv_base.specs.declared.ir_type.LaneType.TheVariants as lane
 use Rattle.rv_base.specs.IrType.{name_of}
 use Rattle.rv_base.specs.LaneCount.{is_lane_count}
-use Rattle.rv_listing.specs.Tokens.{◌>>=◌, or_else, parts_of, two, decimal}
+use Rattle.rv_listing.specs.Tokens.{◌>>=◌, or_else, parts_of, as_pair, decimal}
 
 -- the type of a single value that has this name
 unfoldable pub scalar : List ℕ → Option IrType
@@ -38,7 +38,7 @@ vector_of type n = lane_of type >>= λ lane. given (is_lane_count n) (λ counted
 
 -- a lane, x, and how many of them
 unfoldable pub vector : List ℕ → Option IrType
-vector w = two (parts_of 120 w) >>= λ p. scalar p.0 >>= λ type. decimal p.1 >>= vector_of type
+vector w = as_pair (parts_of 120 w) >>= λ p. scalar p.0 >>= λ type. decimal p.1 >>= vector_of type
 
 unfoldable pub type_named : List ℕ → Option IrType
 type_named w = or_else (scalar w) (vector w)

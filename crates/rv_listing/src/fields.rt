@@ -1,7 +1,7 @@
 //! The fields of a line: a token for each.
 
 ghost use Rattle.std.specs.Prelude.{◌≡◌, ℕ, List, Option};
-ghost use Rattle.rv_listing.specs.Tokens.{more};
+ghost use Rattle.rv_listing.specs.Tokens.{words_after};
 ghost use Rattle.rv_listing.specs.Fields.{field, no_more, Takes, Makes};
 
 use crate::tokens::next_word;
@@ -26,7 +26,7 @@ pub enum LineError {
 
 /// The next word, as a token.
 pub fn field<T: Token>(rest: &[u8]) -> Option<(T, &[u8])>
-    ensures { Takes result (field T.reads (more rest.now)) }
+    ensures { Takes result (field T.reads (words_after rest.now)) }
 {
     let (w, rest) = next_word(rest)?;
     let x = T::read(w)?;
@@ -35,7 +35,7 @@ pub fn field<T: Token>(rest: &[u8]) -> Option<(T, &[u8])>
 
 /// What was made, where no word is left.
 pub fn whole<T: Drop>(made: T, rest: &[u8]) -> Option<T>
-    ensures { result ≡ no_more (made, more rest.now) }
+    ensures { result ≡ no_more (made, words_after rest.now) }
 {
     match next_word(rest) {
         None => Some(made),

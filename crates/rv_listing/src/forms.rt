@@ -1,10 +1,10 @@
 //! The forms of lines: a token for each field.
 
 ghost use Rattle.std.specs.Prelude.{◌≡◌};
-ghost use Rattle.rv_listing.specs.Tokens.{more};
+ghost use Rattle.rv_listing.specs.Tokens.{words_after};
 ghost use Rattle.rv_listing.specs.Fields.{Makes, TakesFirst, field};
 ghost use Rattle.rv_listing.specs.Pairs.{listed};
-ghost use Rattle.rv_listing.specs.Forms.{args_row, rets_row, dummy_use_row, emit_island_row, lui_row, auipc_row, alu_rrr_row, alu_rr_imm12_row, mov_row, mov_from_preg_row, jal_row, cond_br_row, jalr_row, bind_row, put, form_row, line_row};
+ghost use Rattle.rv_listing.specs.Forms.{args_form, rets_form, dummy_use_form, emit_island_form, lui_form, auipc_form, alu_rrr_form, alu_rr_imm12_form, mov_form, mov_from_preg_form, jal_form, cond_br_form, jalr_form, bind_form, put, by_form, line_form};
 
 use crate::fields::{LineError, Token, allowed, field, whole};
 use crate::form_names::{Form, form_named};
@@ -17,17 +17,17 @@ use std::alloc::Global;
 
 // ---- those that compute nothing
 
-#[tactic(auto, unfolding(crate::specs::Forms::dummy_use_row))]
+#[tactic(auto, unfolding(crate::specs::Forms::dummy_use_form))]
 fn dummy_use(rest: &[u8]) -> Option<Inst>
-    ensures { result ≡ dummy_use_row (more rest.now) }
+    ensures { result ≡ dummy_use_form (words_after rest.now) }
 {
     let (reg, rest) = field(rest)?;
     whole(Inst::DummyUse { reg }, rest)
 }
 
-#[tactic(auto, unfolding(crate::specs::Forms::emit_island_row))]
+#[tactic(auto, unfolding(crate::specs::Forms::emit_island_form))]
 fn emit_island(rest: &[u8]) -> Option<Inst>
-    ensures { result ≡ emit_island_row (more rest.now) }
+    ensures { result ≡ emit_island_form (words_after rest.now) }
 {
     let (needed_space, rest) = field(rest)?;
     whole(Inst::EmitIsland { needed_space }, rest)
@@ -35,7 +35,7 @@ fn emit_island(rest: &[u8]) -> Option<Inst>
 
 // The next word, as a list of tokens.
 fn listed_field<T: Token + Drop>(alloc: Global, rest: &[u8]) -> Result<(List<T>, &[u8]), LineError>
-    ensures { TakesFirst result (field (listed T.reads) (more rest.now)) }
+    ensures { TakesFirst result (field (listed T.reads) (words_after rest.now)) }
 {
     let Some((w, rest)) = next_word(rest) else {
         return Err(LineError::NotAllowed);
@@ -44,17 +44,17 @@ fn listed_field<T: Token + Drop>(alloc: Global, rest: &[u8]) -> Result<(List<T>,
     Ok((made, rest))
 }
 
-#[tactic(auto, unfolding(crate::specs::Forms::args_row))]
+#[tactic(auto, unfolding(crate::specs::Forms::args_form))]
 fn args(alloc: Global, rest: &[u8]) -> Result<Inst, LineError>
-    ensures { Makes result (args_row (more rest.now)) }
+    ensures { Makes result (args_form (words_after rest.now)) }
 {
     let (args, rest) = listed_field(alloc, rest)?;
     allowed(whole(Inst::Args { args }, rest))
 }
 
-#[tactic(auto, unfolding(crate::specs::Forms::rets_row))]
+#[tactic(auto, unfolding(crate::specs::Forms::rets_form))]
 fn rets(alloc: Global, rest: &[u8]) -> Result<Inst, LineError>
-    ensures { Makes result (rets_row (more rest.now)) }
+    ensures { Makes result (rets_form (words_after rest.now)) }
 {
     let (rets, rest) = listed_field(alloc, rest)?;
     allowed(whole(Inst::Rets { rets }, rest))
@@ -62,27 +62,27 @@ fn rets(alloc: Global, rest: &[u8]) -> Result<Inst, LineError>
 
 // ---- those that write registers, and go on
 
-#[tactic(auto, unfolding(crate::specs::Forms::lui_row))]
+#[tactic(auto, unfolding(crate::specs::Forms::lui_form))]
 fn lui(rest: &[u8]) -> Option<Inst>
-    ensures { result ≡ lui_row (more rest.now) }
+    ensures { result ≡ lui_form (words_after rest.now) }
 {
     let (rd, rest) = field(rest)?;
     let (imm, rest) = field(rest)?;
     whole(Inst::Lui { rd, imm }, rest)
 }
 
-#[tactic(auto, unfolding(crate::specs::Forms::auipc_row))]
+#[tactic(auto, unfolding(crate::specs::Forms::auipc_form))]
 fn auipc(rest: &[u8]) -> Option<Inst>
-    ensures { result ≡ auipc_row (more rest.now) }
+    ensures { result ≡ auipc_form (words_after rest.now) }
 {
     let (rd, rest) = field(rest)?;
     let (imm, rest) = field(rest)?;
     whole(Inst::Auipc { rd, imm }, rest)
 }
 
-#[tactic(auto, unfolding(crate::specs::Forms::alu_rrr_row))]
+#[tactic(auto, unfolding(crate::specs::Forms::alu_rrr_form))]
 fn alu_rrr(rest: &[u8]) -> Option<Inst>
-    ensures { result ≡ alu_rrr_row (more rest.now) }
+    ensures { result ≡ alu_rrr_form (words_after rest.now) }
 {
     let (alu_op, rest) = field(rest)?;
     let (rd, rest) = field(rest)?;
@@ -99,9 +99,9 @@ fn alu_rrr(rest: &[u8]) -> Option<Inst>
     )
 }
 
-#[tactic(auto, unfolding(crate::specs::Forms::alu_rr_imm12_row))]
+#[tactic(auto, unfolding(crate::specs::Forms::alu_rr_imm12_form))]
 fn alu_rr_imm12(rest: &[u8]) -> Option<Inst>
-    ensures { result ≡ alu_rr_imm12_row (more rest.now) }
+    ensures { result ≡ alu_rr_imm12_form (words_after rest.now) }
 {
     let (alu_op, rest) = field(rest)?;
     let (rd, rest) = field(rest)?;
@@ -118,9 +118,9 @@ fn alu_rr_imm12(rest: &[u8]) -> Option<Inst>
     )
 }
 
-#[tactic(auto, unfolding(crate::specs::Forms::mov_row))]
+#[tactic(auto, unfolding(crate::specs::Forms::mov_form))]
 fn mov(rest: &[u8]) -> Option<Inst>
-    ensures { result ≡ mov_row (more rest.now) }
+    ensures { result ≡ mov_form (words_after rest.now) }
 {
     let (rd, rest) = field(rest)?;
     let (rm, rest) = field(rest)?;
@@ -128,9 +128,9 @@ fn mov(rest: &[u8]) -> Option<Inst>
     whole(Inst::Mov { rd, rm, ty }, rest)
 }
 
-#[tactic(auto, unfolding(crate::specs::Forms::mov_from_preg_row))]
+#[tactic(auto, unfolding(crate::specs::Forms::mov_from_preg_form))]
 fn mov_from_preg(rest: &[u8]) -> Option<Inst>
-    ensures { result ≡ mov_from_preg_row (more rest.now) }
+    ensures { result ≡ mov_from_preg_form (words_after rest.now) }
 {
     let (rd, rest) = field(rest)?;
     let (rm, rest) = field(rest)?;
@@ -139,9 +139,9 @@ fn mov_from_preg(rest: &[u8]) -> Option<Inst>
 
 // ---- those that go elsewhere
 
-#[tactic(auto, unfolding(crate::specs::Forms::cond_br_row))]
+#[tactic(auto, unfolding(crate::specs::Forms::cond_br_form))]
 fn cond_br(rest: &[u8]) -> Option<Inst>
-    ensures { result ≡ cond_br_row (more rest.now) }
+    ensures { result ≡ cond_br_form (words_after rest.now) }
 {
     let (kind, rest) = field(rest)?;
     let (rs1, rest) = field(rest)?;
@@ -158,17 +158,17 @@ fn cond_br(rest: &[u8]) -> Option<Inst>
     )
 }
 
-#[tactic(auto, unfolding(crate::specs::Forms::jal_row))]
+#[tactic(auto, unfolding(crate::specs::Forms::jal_form))]
 fn jal(rest: &[u8]) -> Option<Inst>
-    ensures { result ≡ jal_row (more rest.now) }
+    ensures { result ≡ jal_form (words_after rest.now) }
 {
     let (label, rest) = field(rest)?;
     whole(Inst::Jal { label }, rest)
 }
 
-#[tactic(auto, unfolding(crate::specs::Forms::jalr_row))]
+#[tactic(auto, unfolding(crate::specs::Forms::jalr_form))]
 fn jalr(rest: &[u8]) -> Option<Inst>
-    ensures { result ≡ jalr_row (more rest.now) }
+    ensures { result ≡ jalr_form (words_after rest.now) }
 {
     let (rd, rest) = field(rest)?;
     let (base, rest) = field(rest)?;
@@ -178,9 +178,9 @@ fn jalr(rest: &[u8]) -> Option<Inst>
 
 // ---- lines
 
-#[tactic(auto, unfolding(crate::specs::Forms::bind_row))]
+#[tactic(auto, unfolding(crate::specs::Forms::bind_form))]
 fn bind(rest: &[u8]) -> Option<Line>
-    ensures { result ≡ bind_row (more rest.now) }
+    ensures { result ≡ bind_form (words_after rest.now) }
 {
     let (label, rest) = field(rest)?;
     whole(Line::Bind(label), rest)
@@ -196,9 +196,9 @@ fn put(made: Option<Inst>) -> Result<Line, LineError>
 }
 
 // The words after a name, by the form of that name.
-#[tactic(auto, unfolding(crate::specs::Forms::form_row, crate::specs::Forms::nop0_row, crate::specs::Forms::nop4_row, crate::specs::Forms::ebreak_row, crate::specs::Forms::sequence_point_row, crate::specs::Forms::ret_row))]
+#[tactic(auto, unfolding(crate::specs::Forms::by_form, crate::specs::Forms::nop0_form, crate::specs::Forms::nop4_form, crate::specs::Forms::ebreak_form, crate::specs::Forms::sequence_point_form, crate::specs::Forms::ret_form))]
 fn line_of(alloc: Global, form: Form, rest: &[u8]) -> Result<Line, LineError>
-    ensures { Makes result (form_row form (more rest.now)) }
+    ensures { Makes result (by_form form (words_after rest.now)) }
 {
     match form {
         Form::Nop0 => put(whole(Inst::Nop0, rest)),
@@ -224,9 +224,9 @@ fn line_of(alloc: Global, form: Form, rest: &[u8]) -> Result<Line, LineError>
 }
 
 /// The line of this name, with these fields after the name.
-#[tactic(auto, unfolding(crate::specs::Forms::line_row))]
+#[tactic(auto, unfolding(crate::specs::Forms::line_form))]
 pub fn line(alloc: Global, name: &[u8], rest: &[u8]) -> Result<Line, LineError>
-    ensures { Makes result (line_row name.now (more rest.now)) }
+    ensures { Makes result (line_form name.now (words_after rest.now)) }
 {
     match form_named(name) {
         Some(form) => line_of(alloc, form, rest),

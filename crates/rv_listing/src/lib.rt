@@ -1,4 +1,4 @@
-//! Listings read to jobs, and codes told in reports.
+//! Listings read to jobs, and codes reported.
 #![tactic(auto)]
 
 mod comparisons;

@@ -3,7 +3,7 @@
 ghost use Rattle.std.specs.Prelude.{◌≡◌};
 ghost use Rattle.rv_base.specs.Regs.{real_of};
 ghost use Rattle.rv_listing.specs.Registers.{register};
-ghost use Rattle.rv_listing.specs.Operands.{writable, real_register, imm12_of, imm12, imm20_of, imm20, space, label, target};
+ghost use Rattle.rv_listing.specs.Operands.{writable, real_register, imm12_of, imm12, imm20_of, imm20, byte_count, label, target};
 
 use crate::fields::Token;
 use crate::registers::register;
@@ -85,9 +85,9 @@ impl Token for Imm20 {
 }
 
 impl Token for u32 {
-    ghost reads = { space };
+    ghost reads = { byte_count };
 
-    #[tactic(auto, unfolding(crate::specs::Operands::space))]
+    #[tactic(auto, unfolding(crate::specs::Operands::byte_count))]
     fn read(w: &[u8]) -> Option<u32> {
         let n = natural(w)?;
         if n < 0x1_0000_0000 {

@@ -167,7 +167,7 @@ fn find_rri(w: &[u8]) -> Option<AluOPRRI>
     }
 }
 
-/// The operation of a register and a number that has this name.
+/// The operation of a register and an immediate that has this name.
 pub fn rri_named(w: &[u8]) -> Option<AluOPRRI>
     ensures reads { result ≡ alu_rri w.now }
     ensures named { (op : AluOPRRI) → w.now ≡ rri_name op → result ≡ Some op }

@@ -1,8 +1,8 @@
 //! A whole listing: the job that it means, or its first bad line.
 
 ghost use Rattle.std.specs.Prelude.{◌≡◌, ℕ, IfOk, IfErr};
-ghost use Rattle.rv_listing.specs.Tokens.{more, words_of, lines_of};
-ghost use Rattle.rv_listing.specs.Forms.{line_row};
+ghost use Rattle.rv_listing.specs.Tokens.{words_after, words_of, lines_of};
+ghost use Rattle.rv_listing.specs.Forms.{line_form};
 ghost use Rattle.std.specs.List.{list_all};
 ghost use Rattle.rv_listing.specs.Reading.{no_job, is_plain, by_words, with_line, reading, TakesLine, reads, Reads, IsBadLine, IsPlain};
 

@@ -6,7 +6,7 @@ ghost use Rattle.std.specs.Fmt.{decimal};
 ghost use Rattle.hex.specs.Hex.{encode_lower};
 ghost use Rattle.rv_inst.specs.declared.code.Code.{Code as ACode};
 ghost use Rattle.rv_listing.specs.CodeRanges.{CodeFits};
-ghost use Rattle.rv_listing.specs.Report.{lf, row, all_rows, span_line, label_line, report};
+ghost use Rattle.rv_listing.specs.Report.{lf, hex_line, all_hex_lines, span_line, label_line, report};
 
 use itoa::Buffer;
 use rv_base::memory::OutOfMemory;
@@ -27,7 +27,7 @@ fn put_number(out: &mut Vec<u8>, n: u64) -> Result<(), OutOfMemory>
     put(out, buffer.format(n).as_bytes())
 }
 
-// A text, and a number behind it.
+// A text, and a number after it.
 fn put_numbered(out: &mut Vec<u8>, text: &[u8], n: u64) -> Result<(), OutOfMemory>
     ensures { OnOk result (out.new.items ≡ out.old.items ++ text.now ++ decimal n) }
 {
@@ -54,9 +54,9 @@ fn put_hex(out: &mut Vec<u8>, bytes: &[u8]) -> Result<(), OutOfMemory>
     put(out, digits)
 }
 
-fn put_row(out: &mut Vec<u8>, at: u32, bytes: &[u8]) -> Result<(), OutOfMemory>
+fn put_hex_line(out: &mut Vec<u8>, at: u32, bytes: &[u8]) -> Result<(), OutOfMemory>
     requires { length bytes.now ≤ 16 }
-    ensures { OnOk result (out.new.items ≡ out.old.items ++ row at bytes.now) }
+    ensures { OnOk result (out.new.items ≡ out.old.items ++ hex_line at bytes.now) }
 {
     put_hex(out, &at.to_be_bytes())?;
     put(out, b" ")?;
@@ -77,15 +77,15 @@ fn front(bytes: &[u8]) -> (&[u8], &[u8])
     }
 }
 
-fn put_rows(out: &mut Vec<u8>, bytes: &[u8]) -> Result<(), OutOfMemory>
+fn put_hex_lines(out: &mut Vec<u8>, bytes: &[u8]) -> Result<(), OutOfMemory>
     requires { length bytes.now < 2 ^ 32 }
-    ensures { OnOk result (out.new.items ≡ out.old.items ++ all_rows bytes.now) }
+    ensures { OnOk result (out.new.items ≡ out.old.items ++ all_hex_lines bytes.now) }
 {
     let count = (bytes.len() + 15) / 16;
     let mut rest = bytes;
     for k in 0..count {
         let (sixteen, after) = front(rest);
-        put_row(out, (16 * k) as u32, sixteen)?;
+        put_hex_line(out, (16 * k) as u32, sixteen)?;
         rest = after;
     }
     Ok(())
@@ -129,18 +129,18 @@ fn text_of(alloc: Global, code: &Code) -> Result<Vec<u8>, OutOfMemory>
 {
     let mut out = Vec::new(alloc);
     end_line(&mut out, b"code ", code.bytes.len() as u64)?;
-    put_rows(&mut out, code.bytes.as_slice())?;
+    put_hex_lines(&mut out, code.bytes.as_slice())?;
     put_spans(&mut out, code.lines.as_slice())?;
     put_labels(&mut out, code.labels.as_slice())?;
     end_line(&mut out, b"end ", code.end as u64)?;
     Ok(out)
 }
 
-/// The text of the code, in lines that LF ends: its length, its bytes in rows of sixteen, where each line and each
-/// label stands, and where the last line ends. Numbers are decimal but in the rows. No other code has this text.
+/// The text of the code, in lines that LF ends: its length, its bytes in lines of sixteen, where each line and each
+/// label stands, and where the last line ends. Numbers are decimal but in the lines of bytes. No other code has this text.
 pub fn report(alloc: Global, code: &Code) -> Result<Vec<u8>, OutOfMemory>
     ensures text { IfOk result (λ text. text.items ≡ report code.now) }
-    ensures tells { IfOk result (λ text. (other : ACode) → CodeFits code.now → CodeFits other → report other ≡ text.items → other ≡ code.now) }
+    ensures one_code { IfOk result (λ text. (other : ACode) → CodeFits code.now → CodeFits other → report other ≡ text.items → other ≡ code.now) }
 {
     let text = text_of(alloc, code)?;
     Ok(text)

@@ -3,7 +3,9 @@
 ghost use Rattle.std.specs.Prelude.{◌≡◌, ℕ, ◌+◌, ◌-◌, ◌*◌, ◌<◌, ◌≤◌, ◌^◌, ◌==◌, IsTrue, drop, length, List, [], ◌∷◌, MatchOption, OnSome, IfSome, Some, None};
 ghost use Rattle.std.specs.List.{position_or_len, position};
 ghost use Rattle.std.specs.Str.{bytes_eq};
-ghost use Rattle.rv_listing.specs.Tokens.{parts_of, parts_behind, words_of, lines_of, more, behind, two, below, digit, digits_after, digits, starts, decimal, natural, signed};
+ghost use Rattle.rv_listing.specs.Tokens.{parts_of, parts_after, words_of, lines_of, words_after, after_lf, as_pair, below, digit, digits_after, digits, starts, decimal, natural, signed};
+
+use memchr::memchr;
 
 // Where the byte first stands.
 fn find(byte: u8, text: &[u8]) -> Option<usize>
@@ -13,7 +15,7 @@ fn find(byte: u8, text: &[u8]) -> Option<usize>
 }
 
 // Where the byte first stands, or the text's length.
-fn place_of(byte: u8, text: &[u8]) -> usize
+fn index_or_len(byte: u8, text: &[u8]) -> usize
     ensures place { result ≡ position_or_len (λ c. c == byte) text.now }
     ensures within { result ≤ length text.now }
 {
@@ -23,7 +25,18 @@ fn place_of(byte: u8, text: &[u8]) -> usize
     }
 }
 
-/// The first line, and what is behind it.
+// Where the first line ends.
+fn line_end(text: &[u8]) -> usize
+    ensures place { result ≡ position_or_len (λ c. c == 10) text.now }
+    ensures within { result ≤ length text.now }
+{
+    match memchr(b'\n', text) {
+        Some(at) => at,
+        None => text.len(),
+    }
+}
+
+/// The first line, and what is after it.
 pub fn next_line(text: &[u8]) -> Option<(&[u8], &[u8])>
     ensures cut { MatchOption result (text.now ≡ []) (λ p. lines_of text.now ≡ p.0.now ∷ lines_of p.1.now) }
     ensures shorter { MatchOption result (text.now ≡ []) (λ p. length p.1.now < length text.now) }
@@ -31,24 +44,24 @@ pub fn next_line(text: &[u8]) -> Option<(&[u8], &[u8])>
     if text.is_empty() {
         return None;
     }
-    let (line, rest) = text.split_at(place_of(b'\n', text));
+    let (line, rest) = text.split_at(line_end(text));
     match rest {
         [] => Some((line, rest)),
         [_, rest @ ..] => Some((line, rest)),
     }
 }
 
-/// The first part of a word or a line, and what is behind it, with its separator.
+/// The first part of a word or a line, and what is after it, with its separator.
 pub fn first_part(separator: u8, w: &[u8]) -> (&[u8], &[u8])
-    ensures part { parts_of separator w.now ≡ result.0.now ∷ parts_behind separator result.1.now }
+    ensures part { parts_of separator w.now ≡ result.0.now ∷ parts_after separator result.1.now }
     ensures no_longer { length result.1.now ≤ length w.now }
 {
-    w.split_at(place_of(separator, w))
+    w.split_at(index_or_len(separator, w))
 }
 
-/// The next part, and what is behind it.
+/// The next part, and what is after it.
 pub fn next_part(separator: u8, rest: &[u8]) -> Option<(&[u8], &[u8])>
-    ensures part { MatchOption result (parts_behind separator rest.now ≡ []) (λ p. parts_behind separator rest.now ≡ p.0.now ∷ parts_behind separator p.1.now) }
+    ensures part { MatchOption result (parts_after separator rest.now ≡ []) (λ p. parts_after separator rest.now ≡ p.0.now ∷ parts_after separator p.1.now) }
     ensures shorter { IfSome result (λ p. length p.1.now < length rest.now) }
 {
     match rest {
@@ -57,23 +70,23 @@ pub fn next_part(separator: u8, rest: &[u8]) -> Option<(&[u8], &[u8])>
     }
 }
 
-/// The first word of a line, and what is behind it, with its space.
+/// The first word of a line, and what is after it, with its space.
 pub fn first_word(line: &[u8]) -> (&[u8], &[u8])
-    ensures word { words_of line.now ≡ result.0.now ∷ more result.1.now }
+    ensures word { words_of line.now ≡ result.0.now ∷ words_after result.1.now }
 {
     first_part(b' ', line)
 }
 
-/// The next word, and what is behind it.
+/// The next word, and what is after it.
 pub fn next_word(rest: &[u8]) -> Option<(&[u8], &[u8])>
-    ensures word { MatchOption result (more rest.now ≡ []) (λ p. more rest.now ≡ p.0.now ∷ more p.1.now) }
+    ensures word { MatchOption result (words_after rest.now ≡ []) (λ p. words_after rest.now ≡ p.0.now ∷ words_after p.1.now) }
 {
     next_part(b' ', rest)
 }
 
 /// The two parts around the only separator.
 pub fn two_parts(separator: u8, w: &[u8]) -> Option<(&[u8], &[u8])>
-    ensures { MatchOption result (two (parts_of separator w.now) ≡ None) (λ p. two (parts_of separator w.now) ≡ Some (p.0.now, p.1.now)) }
+    ensures { MatchOption result (as_pair (parts_of separator w.now) ≡ None) (λ p. as_pair (parts_of separator w.now) ≡ Some (p.0.now, p.1.now)) }
 {
     let (first, rest) = first_part(separator, w);
     let (second, rest) = next_part(separator, rest)?;
@@ -83,7 +96,7 @@ pub fn two_parts(separator: u8, w: &[u8]) -> Option<(&[u8], &[u8])>
     }
 }
 
-/// What is behind the first byte.
+/// What is after the first byte.
 pub fn tail(w: &[u8]) -> &[u8]
     ensures { result.now ≡ drop 1 w.now }
 {
@@ -93,7 +106,7 @@ pub fn tail(w: &[u8]) -> &[u8]
     }
 }
 
-/// Whether the word begins with this byte.
+/// Returns whether the word begins with this byte.
 pub fn starts(c: u8, w: &[u8]) -> bool
     ensures { result ≡ starts c w.now }
 {
@@ -137,7 +150,7 @@ fn digits(base: u64, w: &[u8]) -> Option<u64>
     Some(n)
 }
 
-/// Whether the word is this one.
+/// Returns whether the word is this one.
 pub(crate) fn is(word: &[u8], w: &[u8]) -> bool
     ensures { result ≡ bytes_eq w.now word.now }
 {
@@ -155,7 +168,7 @@ pub fn decimal(w: &[u8]) -> Option<u64>
     }
 }
 
-/// The decimal digits behind the first byte.
+/// The decimal digits after the first byte.
 pub(crate) fn number(w: &[u8]) -> Option<u64>
     ensures { result ≡ decimal (drop 1 w.now) }
 {

@@ -2,7 +2,7 @@ use Rattle.std.proofs.Common.{◌≡◌, ap, ◌∙◌, sym, true, false, None, 
 use Rattle.std.specs.Str.{bytes_eq}
 use Rattle.rv_base.specs.CondCodes.{name_of}
 use Rattle.rv_listing.specs.Comparisons.{every}
-use Rattle.rv_listing.proofs.Named.{cc_by_slot, slot_none, slot_same, slot_other}
+use Rattle.rv_listing.proofs.BySlot.{cc_by_slot, slot_none, slot_same, slot_other}
 use Rattle.rv_listing.proofs.comparisons.find.Goals as goal
 
 pub returns-in_err-code : goal.returns-in_err-code

@@ -2,7 +2,7 @@ use Rattle.std.proofs.Common.{◌≡◌, ap, ◌∙◌, sym, true, false, None, 
 use Rattle.std.specs.Str.{bytes_eq}
 use Rattle.rv_listing.specs.FormNames.{form_name}
 use Rattle.rv_listing.specs.FormNames.{every_form}
-use Rattle.rv_listing.proofs.Named.{form_by_slot, slot_none, slot_same, slot_other}
+use Rattle.rv_listing.proofs.BySlot.{form_by_slot, slot_none, slot_same, slot_other}
 use Rattle.rv_listing.proofs.form_names.form_named.Goals as goal
 
 pub returns-in_err-form : goal.returns-in_err-form

@@ -2,7 +2,7 @@ use Rattle.std.proofs.Common.{◌≡◌, ap, ◌∙◌, sym, true, false, None, 
 use Rattle.std.specs.Str.{bytes_eq}
 use Rattle.rv_ops.specs.Alu.{rri_name}
 use Rattle.rv_listing.specs.Operations.{every_rri}
-use Rattle.rv_listing.proofs.Named.{rri_by_slot, slot_none, slot_same, slot_other}
+use Rattle.rv_listing.proofs.BySlot.{rri_by_slot, slot_none, slot_same, slot_other}
 use Rattle.rv_listing.proofs.operations.find_rri.Goals as goal
 
 pub returns-in_err-op : goal.returns-in_err-op

@@ -2,7 +2,7 @@ use Rattle.std.proofs.Common.{◌≡◌, ap, ◌∙◌, sym, true, false, None, 
 use Rattle.std.specs.Str.{bytes_eq}
 use Rattle.rv_ops.specs.Alu.{rrr_name}
 use Rattle.rv_listing.specs.Operations.{every_rrr}
-use Rattle.rv_listing.proofs.Named.{rrr_by_slot, slot_none, slot_same, slot_other}
+use Rattle.rv_listing.proofs.BySlot.{rrr_by_slot, slot_none, slot_same, slot_other}
 use Rattle.rv_listing.proofs.operations.find_rrr.Goals as goal
 
 pub returns-in_err-op : goal.returns-in_err-op

@@ -1,4 +1,4 @@
-use Rattle.rv_listing.proofs.Names.{names_read}
+use Rattle.rv_listing.proofs.RegisterNames.{names_read}
 use Rattle.rv_listing.proofs.registers.register.Goals as goal
 
 pub returns-in-empty-clause-names : goal.returns-in-empty-clause-names

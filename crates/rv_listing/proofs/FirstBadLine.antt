@@ -44,7 +44,7 @@ is_bad_line text n e =
     let b = first_bad 1 no_job (lines_of text) n e in
     record { before = b.before; line = b.line; after = b.after; sofar = b.sofar; cut = b.cut; count = b.count; fine = b.fine; refused = b.refused }
 
-pub bad_told : (text : List ℕ) (r : Result Job ReadError) → Reads text r → IfErr r (λ e. (n : ℕ) → e ≡ errors.Syntax n → IsBadLine text n)
-bad_told text (Ok job) given = tt
-bad_told text (Err (errors.Syntax m)) given = λ n same. let e : m ≡ n = cc in is_bad_line text n (given ∙ ap (λ (k : ℕ). Err k) e)
-bad_told text (Err errors.OutOfMemory) given = λ n same. absurd (cc)
+pub bad_line_is : (text : List ℕ) (r : Result Job ReadError) → Reads text r → IfErr r (λ e. (n : ℕ) → e ≡ errors.Syntax n → IsBadLine text n)
+bad_line_is text (Ok job) given = tt
+bad_line_is text (Err (errors.Syntax m)) given = λ n same. let e : m ≡ n = cc in is_bad_line text n (given ∙ ap (λ (k : ℕ). Err k) e)
+bad_line_is text (Err errors.OutOfMemory) given = λ n same. absurd (cc)

@@ -22,8 +22,8 @@ use Rattle.rv_listing.specs.FormNames.{form_name, every_form, form_named}
 use Rattle.rv_listing.specs.Operations.{every_rrr, alu_rrr, every_rri, alu_rri}
 
 -- where a name is found, a word that is this name gives what it names
-pub told : {A : Type 0} (named : List ℕ → Option A) (name : A → List ℕ) → ((a : A) → named (name a) ≡ Some a) → (w : List ℕ) (r : Option A) → r ≡ named w → (a : A) → w ≡ name a → r ≡ Some a
-told named name found w r reads a same = reads ∙ ap named same ∙ found a
+pub found_by_name : {A : Type 0} (named : List ℕ → Option A) (name : A → List ℕ) → ((a : A) → named (name a) ≡ Some a) → (w : List ℕ) (r : Option A) → r ≡ named w → (a : A) → w ≡ name a → r ≡ Some a
+found_by_name named name found w r reads a same = reads ∙ ap named same ∙ found a
 
 -- ---- by slots
 

@@ -1,4 +1,4 @@
--- A report tells its code, made of pieces that open a text in one way alone.
+-- A report is of one code alone: it is made of pieces that open a text in one way alone.
 use Rattle.std.proofs.Common.{◌≡◌, ℕ, zero, suc, ◌+◌, ◌/◌, ◌%◌, ◌*◌, ◌^◌, ◌<◌, ◌≤◌, List, [], ◌∷◌, ◌++◌, length, get_or, take, drop, refl, sym, ap, ◌∙◌, subst, append_assoc, arith}
 use Rattle.std.specs.Prelude.{codes}
 use Rattle.std.specs.List.{flat_map, AllByRecursion}
@@ -12,7 +12,7 @@ use Rattle.std.proofs.lemmas.List.{length-take, length-drop, take-append-drop}
 use Rattle.hex.specs.Hex.{IsBytes, encode_lower, lower_digits, decode_of}
 use Rattle.hex.proofs.HexLemmas.{decode_of-encode_lower, length-encode_with}
 use Rattle.rv_inst.specs.declared.code.Code.{Code}
-use Rattle.rv_listing.specs.Report.{span_line, label_line, rows, all_rows, report}
+use Rattle.rv_listing.specs.Report.{span_line, label_line, hex_lines, all_hex_lines, report}
 use Rattle.rv_listing.specs.CodeRanges.{SpanFits, LabelFits, CodeFits}
 
 abbrev Digits : List ℕ → Type 0
@@ -50,11 +50,11 @@ span_opens x y a b fx fy e =
     let ex = regroup (codes "line ") (decimal x.index) (decimal x.start) (decimal x.end) a in
     let ey = regroup (codes "line ") (decimal y.index) (decimal y.start) (decimal y.end) b in
     let all = sym ex ∙ e ∙ ey in
-    let behind : decimal x.index ++ 32 ∷ (decimal x.start ++ 32 ∷ (decimal x.end ++ 10 ∷ a)) ≡ decimal y.index ++ 32 ∷ (decimal y.start ++ 32 ∷ (decimal y.end ++ 10 ∷ b)) = ap (drop 5) all in
-    let one = number_opens x.index y.index _ _ 32 (omega arith) (omega (arith, fx.index)) (omega (arith, fy.index)) behind in
-    let two = number_opens x.start y.start _ _ 32 (omega arith) (omega (arith, fx.start)) (omega (arith, fy.start)) one.1 in
-    let three = number_opens x.end y.end _ _ 10 (omega arith) (omega (arith, fx.end)) (omega (arith, fy.end)) two.1 in
-    (made x y one.0 two.0 three.0, three.1)
+    let after_lf : decimal x.index ++ 32 ∷ (decimal x.start ++ 32 ∷ (decimal x.end ++ 10 ∷ a)) ≡ decimal y.index ++ 32 ∷ (decimal y.start ++ 32 ∷ (decimal y.end ++ 10 ∷ b)) = ap (drop 5) all in
+    let one = number_opens x.index y.index _ _ 32 (omega arith) (omega (arith, fx.index)) (omega (arith, fy.index)) after_lf in
+    let as_pair = number_opens x.start y.start _ _ 32 (omega arith) (omega (arith, fx.start)) (omega (arith, fy.start)) one.1 in
+    let three = number_opens x.end y.end _ _ 10 (omega arith) (omega (arith, fx.end)) (omega (arith, fy.end)) as_pair.1 in
+    (made x y one.0 as_pair.0 three.0, three.1)
   where
     made : (x y : LineSpan) → x.index ≡ y.index → x.start ≡ y.start → x.end ≡ y.end → x ≡ y
     made x y p q r = λ i. record { index = p i; start = q i; end = r i }
@@ -67,15 +67,15 @@ label_opens x y a b fx fy e =
     let ex = regroup_label (codes "label L") (decimal x.label.number) (decimal x.offset) a in
     let ey = regroup_label (codes "label L") (decimal y.label.number) (decimal y.offset) b in
     let all = sym ex ∙ e ∙ ey in
-    let behind : decimal x.label.number ++ 32 ∷ (decimal x.offset ++ 10 ∷ a) ≡ decimal y.label.number ++ 32 ∷ (decimal y.offset ++ 10 ∷ b) = ap (drop 7) all in
-    let one = number_opens x.label.number y.label.number _ _ 32 (omega arith) (omega (arith, fx.label)) (omega (arith, fy.label)) behind in
-    let two = number_opens x.offset y.offset _ _ 10 (omega arith) (omega (arith, fx.offset)) (omega (arith, fy.offset)) one.1 in
-    (made x y one.0 two.0, two.1)
+    let after_lf : decimal x.label.number ++ 32 ∷ (decimal x.offset ++ 10 ∷ a) ≡ decimal y.label.number ++ 32 ∷ (decimal y.offset ++ 10 ∷ b) = ap (drop 7) all in
+    let one = number_opens x.label.number y.label.number _ _ 32 (omega arith) (omega (arith, fx.label)) (omega (arith, fy.label)) after_lf in
+    let as_pair = number_opens x.offset y.offset _ _ 10 (omega arith) (omega (arith, fx.offset)) (omega (arith, fy.offset)) one.1 in
+    (made x y one.0 as_pair.0, as_pair.1)
   where
     made : (x y : LabelPlace) → x.label.number ≡ y.label.number → x.offset ≡ y.offset → x ≡ y
     made x y p q = λ i. record { label = record { number = p i }; offset = q i }
 
--- A piece that opens a text in one way: what it stands for, and what is behind it, is known.
+-- A piece that opens a text in one way: what it stands for, and what is after it, is known.
 pub record Opens {A : Type 0} (P : A → Type 0) (f : A → List ℕ) : Type 0 where
   pub one : (x y : A) (a b : List ℕ) → P x → P y → f x ++ a ≡ f y ++ b → (x ≡ y) × (a ≡ b)
 
@@ -119,30 +119,30 @@ Each-drop zero xs h = h
 Each-drop (suc n) [] h = tt
 Each-drop (suc n) (x ∷ xs) h = Each-drop n xs h.1
 
-hex_tells : (xs ys : List ℕ) → AllByRecursion (λ b. b < 256) xs → AllByRecursion (λ b. b < 256) ys → encode_lower xs ≡ encode_lower ys → xs ≡ ys
-hex_tells xs ys fx fy e =
+hex_is_one : (xs ys : List ℕ) → AllByRecursion (λ b. b < 256) xs → AllByRecursion (λ b. b < 256) ys → encode_lower xs ≡ encode_lower ys → xs ≡ ys
+hex_is_one xs ys fx fy e =
     let same = sym (decode_of-encode_lower xs (IsBytes-each xs fx)) ∙ ap decode_of e ∙ decode_of-encode_lower ys (IsBytes-each ys fy) in
     cc
 
-regroup_row : (h x r a : List ℕ) → ((h ++ 32 ∷ [] ++ x ++ 10 ∷ []) ++ r) ++ a ≡ h ++ (32 ∷ (x ++ (10 ∷ (r ++ a))))
-regroup_row h x r a = simp append_assoc
+regroup_form : (h x r a : List ℕ) → ((h ++ 32 ∷ [] ++ x ++ 10 ∷ []) ++ r) ++ a ≡ h ++ (32 ∷ (x ++ (10 ∷ (r ++ a))))
+regroup_form h x r a = simp append_assoc
 
-rows_open : (n at : ℕ) (xs ys a b : List ℕ) → length xs ≡ length ys → length xs ≤ 16 * n → AllByRecursion (λ b. b < 256) xs → AllByRecursion (λ b. b < 256) ys
-    → rows n at xs ++ a ≡ rows n at ys ++ b → (xs ≡ ys) × (a ≡ b)
-rows_open zero at [] [] a b len fits fx fy e = (refl, e)
-rows_open zero at [] (y ∷ ys) a b len fits fx fy e = absurd (omega arith)
-rows_open zero at (x ∷ xs) ys a b len fits fx fy e = absurd (omega arith)
-rows_open (suc n) at xs ys a b len fits fx fy e =
+hex_lines_open : (n at : ℕ) (xs ys a b : List ℕ) → length xs ≡ length ys → length xs ≤ 16 * n → AllByRecursion (λ b. b < 256) xs → AllByRecursion (λ b. b < 256) ys
+    → hex_lines n at xs ++ a ≡ hex_lines n at ys ++ b → (xs ≡ ys) × (a ≡ b)
+hex_lines_open zero at [] [] a b len fits fx fy e = (refl, e)
+hex_lines_open zero at [] (y ∷ ys) a b len fits fx fy e = absurd (omega arith)
+hex_lines_open zero at (x ∷ xs) ys a b len fits fx fy e = absurd (omega arith)
+hex_lines_open (suc n) at xs ys a b len fits fx fy e =
     let h = encode_lower (to_be_bytes w32 at) in
-    let ex = regroup_row h (encode_lower (take 16 xs)) (rows n (at + 16) (drop 16 xs)) a in
-    let ey = regroup_row h (encode_lower (take 16 ys)) (rows n (at + 16) (drop 16 ys)) b in
-    let behind = same_front h h _ _ refl (sym ex ∙ e ∙ ey) in
-    let words : encode_lower (take 16 xs) ++ (10 ∷ (rows n (at + 16) (drop 16 xs) ++ a)) ≡ encode_lower (take 16 ys) ++ (10 ∷ (rows n (at + 16) (drop 16 ys) ++ b)) = ap (drop 1) behind.1 in
+    let ex = regroup_form h (encode_lower (take 16 xs)) (hex_lines n (at + 16) (drop 16 xs)) a in
+    let ey = regroup_form h (encode_lower (take 16 ys)) (hex_lines n (at + 16) (drop 16 ys)) b in
+    let after_lf = same_front h h _ _ refl (sym ex ∙ e ∙ ey) in
+    let words : encode_lower (take 16 xs) ++ (10 ∷ (hex_lines n (at + 16) (drop 16 xs) ++ a)) ≡ encode_lower (take 16 ys) ++ (10 ∷ (hex_lines n (at + 16) (drop 16 ys) ++ b)) = ap (drop 1) after_lf.1 in
     let lengths : length (encode_lower (take 16 xs)) ≡ length (encode_lower (take 16 ys)) = omega (arith, length-encode_with lower_digits (take 16 xs), length-encode_with lower_digits (take 16 ys), length-take 16 xs, length-take 16 ys) in
     let front = same_front _ _ _ _ lengths words in
-    let fronts = hex_tells (take 16 xs) (take 16 ys) (Each-take 16 xs fx) (Each-take 16 ys fy) front.0 in
-    let later : rows n (at + 16) (drop 16 xs) ++ a ≡ rows n (at + 16) (drop 16 ys) ++ b = ap (drop 1) front.1 in
-    let rest = rows_open n (at + 16) (drop 16 xs) (drop 16 ys) a b (omega (arith, length-drop 16 xs, length-drop 16 ys)) (omega (arith, length-drop 16 xs)) (Each-drop 16 xs fx) (Each-drop 16 ys fy) later in
+    let fronts = hex_is_one (take 16 xs) (take 16 ys) (Each-take 16 xs fx) (Each-take 16 ys fy) front.0 in
+    let later : hex_lines n (at + 16) (drop 16 xs) ++ a ≡ hex_lines n (at + 16) (drop 16 ys) ++ b = ap (drop 1) front.1 in
+    let rest = hex_lines_open n (at + 16) (drop 16 xs) (drop 16 ys) a b (omega (arith, length-drop 16 xs, length-drop 16 ys)) (omega (arith, length-drop 16 xs)) (Each-drop 16 xs fx) (Each-drop 16 ys fy) later in
     (sym (take-append-drop 16 xs) ∙ (λ i. fronts i ++ rest.0 i) ∙ take-append-drop 16 ys, rest.1)
 
 -- ---- the whole report
@@ -166,21 +166,21 @@ no_label n x t fits e = far 108 101 (ap (λ (w : List ℕ). get_or w 0 0) e) (om
 abbrev labels_and_end : Code → List ℕ
 labels_and_end c = flat_map label_line c.labels ++ ending c.end
 
-abbrev behind_rows : Code → List ℕ
-behind_rows c = flat_map span_line c.lines ++ labels_and_end c
+abbrev after_hex_lines : Code → List ℕ
+after_hex_lines c = flat_map span_line c.lines ++ labels_and_end c
 
-grouped : (c : Code) → report c ≡ codes "code " ++ (decimal (length c.bytes) ++ 10 ∷ (all_rows c.bytes ++ behind_rows c))
-grouped c = regroup_report (codes "code ") (decimal (length c.bytes)) (all_rows c.bytes) (flat_map span_line c.lines) (flat_map label_line c.labels) (codes "end ") (decimal c.end)
+grouped : (c : Code) → report c ≡ codes "code " ++ (decimal (length c.bytes) ++ 10 ∷ (all_hex_lines c.bytes ++ after_hex_lines c))
+grouped c = regroup_report (codes "code ") (decimal (length c.bytes)) (all_hex_lines c.bytes) (flat_map span_line c.lines) (flat_map label_line c.labels) (codes "end ") (decimal c.end)
 
-all_rows_open : (xs ys a b : List ℕ) → length xs ≡ length ys → AllByRecursion (λ b. b < 256) xs → AllByRecursion (λ b. b < 256) ys → all_rows xs ++ a ≡ all_rows ys ++ b → (xs ≡ ys) × (a ≡ b)
-all_rows_open xs ys a b len fx fy e =
-    rows_open ((length xs + 15) / 16) 0 xs ys a b len (omega arith) fx fy (e ∙ ap (λ (n : ℕ). rows ((n + 15) / 16) 0 ys ++ b) (sym len))
+all_hex_lines_open : (xs ys a b : List ℕ) → length xs ≡ length ys → AllByRecursion (λ b. b < 256) xs → AllByRecursion (λ b. b < 256) ys → all_hex_lines xs ++ a ≡ all_hex_lines ys ++ b → (xs ≡ ys) × (a ≡ b)
+all_hex_lines_open xs ys a b len fx fy e =
+    hex_lines_open ((length xs + 15) / 16) 0 xs ys a b len (omega arith) fx fy (e ∙ ap (λ (n : ℕ). hex_lines ((n + 15) / 16) 0 ys ++ b) (sym len))
 
 pub same_code : (c d : Code) → CodeFits c → CodeFits d → report c ≡ report d → c ≡ d
 same_code c d fc fd e =
     let whole = ap (drop 5) (sym (grouped c) ∙ e ∙ grouped d) in
-    let count = number_opens (length c.bytes) (length d.bytes) (all_rows c.bytes ++ behind_rows c) (all_rows d.bytes ++ behind_rows d) 10 (omega arith) (omega (arith, c.small)) (omega (arith, d.small)) whole in
-    let bytes = all_rows_open c.bytes d.bytes (behind_rows c) (behind_rows d) count.0 fc.bytes fd.bytes count.1 in
+    let count = number_opens (length c.bytes) (length d.bytes) (all_hex_lines c.bytes ++ after_hex_lines c) (all_hex_lines d.bytes ++ after_hex_lines d) 10 (omega arith) (omega (arith, c.small)) (omega (arith, d.small)) whole in
+    let bytes = all_hex_lines_open c.bytes d.bytes (after_hex_lines c) (after_hex_lines d) count.0 fc.bytes fd.bytes count.1 in
     let lines = all_open SpanFits span_line (record { one = span_opens }) c.lines d.lines (labels_and_end c) (labels_and_end d) fc.lines fd.lines (no_span c.labels c.end) (no_span d.labels d.end) bytes.1 in
     let labels = all_open LabelFits label_line (record { one = label_opens }) c.labels d.labels (ending c.end) (ending d.end) fc.labels fd.labels (no_label c.end) (no_label d.end) lines.1 in
     let last = number_opens c.end d.end [] [] 10 (omega arith) (omega (arith, fc.end)) (omega (arith, fd.end)) (ap (drop 4) labels.1) in

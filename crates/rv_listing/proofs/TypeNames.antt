@@ -72,5 +72,5 @@ type_found (Vector v) = each_count v.lanes v.counted v.lane v.counted
 type_found I8 = refl
 type_found _ = refl
 
-pub type_told : (w : List ℕ) (r : Option IrType) → r ≡ type_named w → (type : IrType) → w ≡ name_of type → r ≡ Some type
-type_told w r reads type same = reads ∙ ap type_named same ∙ type_found type
+pub type_by_name : (w : List ℕ) (r : Option IrType) → r ≡ type_named w → (type : IrType) → w ≡ name_of type → r ≡ Some type
+type_by_name w r reads type same = reads ∙ ap type_named same ∙ type_found type
