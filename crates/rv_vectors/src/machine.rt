@@ -1,4 +1,4 @@
-//! Rows at their edges: the answers were computed from the manual's sentences, by whole numbers, outside this project.
+//! Operations at their edges: the answers were computed from the manual's sentences, by whole numbers, outside this project.
 
 use rv_base::flags::IsaFlags;
 use rv_base::memory::OutOfMemory;
@@ -279,7 +279,7 @@ fn machines_stop(rt: HostRuntime) -> Result<(), OutOfMemory> {
     Ok(())
 }
 
-/// Stops unless a word has this row, these rd, rs1 and rs2, and this number.
+/// Stops unless a word has this operation, these rd, rs1 and rs2, and this immediate.
 fn assert_decoded(rt: &impl Abort, word: u32, op: MOp, registers: [u8; 3], imm: i64) {
     let [rd, rs1, rs2] = registers;
     let row = Decoded {
@@ -296,6 +296,18 @@ fn assert_decoded(rt: &impl Abort, word: u32, op: MOp, registers: [u8; 3], imm: 
     assert_eq!(rt; decode(IsaFlags::none(), word), Some(row), "{word:x}");
 }
 
+fn int(op: IntOp) -> MOp {
+    MOp::Alu(AluOp::Int(op))
+}
+
+fn bit(op: BitOp) -> MOp {
+    MOp::Alu(AluOp::Bit(op))
+}
+
+fn mul(op: MulOp) -> MOp {
+    MOp::Alu(AluOp::Mul(op))
+}
+
 #[test]
 fn words_are_decoded(rt: HostRuntime) {
     assert_decoded(&rt, 0x0120000f, MOp::Base(BaseOp::Fence), [0, 0, 0], 18);
@@ -307,14 +319,14 @@ fn words_are_decoded(rt: HostRuntime) {
     assert_decoded(&rt, 0x06450567, MOp::Base(BaseOp::Jalr), [10, 10, 0], 100);
     assert_decoded(&rt, 0xfe051ee3, MOp::Base(BaseOp::Bne), [0, 10, 0], -4);
     assert_decoded(&rt, 0x78b504e3, MOp::Base(BaseOp::Beq), [0, 10, 11], 3976);
-    assert_decoded(&rt, 0x80050513, MOp::Alu(AluOp::Int(IntOp::Addi)), [10, 10, 0], -2048);
-    assert_decoded(&rt, 0x43f55513, MOp::Alu(AluOp::Int(IntOp::Srai)), [10, 10, 0], 63);
-    assert_decoded(&rt, 0x080545bb, MOp::Alu(AluOp::Bit(BitOp::ZextH)), [11, 10, 0], 0);
-    assert_decoded(&rt, 0x60555593, MOp::Alu(AluOp::Bit(BitOp::Rori)), [11, 10, 0], 5);
-    assert_decoded(&rt, 0x02b55533, MOp::Alu(AluOp::Mul(MulOp::Divu)), [10, 10, 11], 0);
+    assert_decoded(&rt, 0x80050513, int(IntOp::Addi), [10, 10, 0], -2048);
+    assert_decoded(&rt, 0x43f55513, int(IntOp::Srai), [10, 10, 0], 63);
+    assert_decoded(&rt, 0x080545bb, bit(BitOp::ZextH), [11, 10, 0], 0);
+    assert_decoded(&rt, 0x60555593, bit(BitOp::Rori), [11, 10, 0], 5);
+    assert_decoded(&rt, 0x02b55533, mul(MulOp::Divu), [10, 10, 11], 0);
 }
 
-/// Words without a row.
+/// Words that are no operation.
 const NO_ROWS: [u32; 10] = [
     0, 0x4501, 0xffffffff, 0x00000073, 0x00200073, 0x0200552b, 0x08b545bb, 0x0240559b, 0x80000033,
     0x00052063,
