@@ -6,7 +6,7 @@ use crate::uses::{LabelPlace, Turn, Use, VeneerUse};
 use rv_base::constant::Constant;
 use rv_base::label::MachLabel;
 use rv_base::label_use::MachInstLabelUse;
-use rv_base::memory::OutOfMemory;
+use rv_base::out_of_memory::OutOfMemory;
 use std::alloc::Global;
 use std::collections::BTreeMap;
 

@@ -6,7 +6,7 @@ use crate::uses::LabelPlace;
 use rv_base::constant::Constant;
 use rv_base::label_use::MachInstLabelUse;
 use rv_base::list::List;
-use rv_base::memory::OutOfMemory;
+use rv_base::out_of_memory::OutOfMemory;
 
 /// Patched code, and where the labels below 2^30 stand, in order of binding.
 #[derive(Drop)]

@@ -18,7 +18,7 @@ use rv_base::constant::Constant;
 use rv_base::flags::IsaFlags;
 use rv_base::frame::FrameLayout;
 use rv_base::list::List;
-use rv_base::memory::OutOfMemory;
+use rv_base::out_of_memory::OutOfMemory;
 use rv_emit::state::{EmitInfo, EmitState, MachInstEmitState};
 use rv_inst::code::Code;
 use rv_inst::error::EmitError;

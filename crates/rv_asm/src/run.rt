@@ -5,7 +5,7 @@ ghost use Rattle.rv_asm.specs.Outcomes.{Means, call, Ended, IsSettled, Tells, ou
 
 use crate::assemble::assemble;
 use crate::outcome::{Outcome, text_of};
-use rv_base::memory::OutOfMemory;
+use rv_base::out_of_memory::OutOfMemory;
 use rv_inst::error::EmitError;
 use rv_listing::reading::{ReadError, read_job};
 use rv_stream::ends::{Sink, Source, WriteError};

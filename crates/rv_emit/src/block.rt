@@ -17,9 +17,9 @@ ghost use Rattle.rv_emit.specs.Emitted.{IsSoundBuffer, Adds, PutsWords, PutsBloc
 ghost use Rattle.rv_emit.specs.Rows.{marks_rows, plain_rows, move_rows, control_rows, branch_rows, jump_row, blank};
 
 use mach_buffer::buffer::MachBuffer;
+use rv_base::fixed_regs::{link_reg, writable_zero_reg, zero_reg};
 use rv_base::label::MachLabel;
-use rv_base::memory::OutOfMemory;
-use rv_base::named::{link_reg, writable_zero_reg, zero_reg};
+use rv_base::out_of_memory::OutOfMemory;
 use rv_base::regs::{Reg, WritableReg};
 use rv_encode::jumps::{enc_auipc, enc_jalr, encode_ebreak, encode_lui};
 use rv_encode::operations::{encode_alu_rr_imm12, encode_alu_rrr};

@@ -2,7 +2,7 @@
 
 ghost use Rattle.std.specs.Prelude.{◌≡◌, ℕ, ◌<◌, drop};
 ghost use Rattle.rv_base.specs.declared.regs.RegClass.{RegClass};
-ghost use Rattle.rv_base.specs.Names.{real_name};
+ghost use Rattle.rv_base.specs.RegNames.{real_name};
 ghost use Rattle.rv_listing.specs.Tokens.{◌>>=◌ as and_then, decimal};
 ghost use Rattle.rv_listing.specs.Registers.{argument, float, float_saved, float_temporary, lettered, named, other, real, register, saved, temporary, virtual_register};
 

@@ -14,7 +14,7 @@ use crate::decode::{Decoded, decode};
 use crate::muldiv::mul_result;
 use crate::ops::{BaseOp, BitOp, MOp, MulOp};
 use rv_base::flags::IsaFlags;
-use rv_base::memory::OutOfMemory;
+use rv_base::out_of_memory::OutOfMemory;
 use std::alloc::Global;
 use std::collections::BTreeMap;
 use std::marker::Model;

@@ -6,7 +6,7 @@ use mach_buffer::buffer::MachBuffer;
 use mach_buffer::finish::Finished;
 use rv_base::label::MachLabel;
 use rv_base::label_use::MachInstLabelUse;
-use rv_base::memory::OutOfMemory;
+use rv_base::out_of_memory::OutOfMemory;
 use rv_base::reloc::Reloc;
 use std::alloc::Global;
 use std::process::Abort;

@@ -7,13 +7,13 @@ ghost use Rattle.rv_vectors.specs.Single.{is_first, names_first, IsStart, HoldsO
 
 use mach_buffer::buffer::MachBuffer;
 use rv_base::condcodes::IntCC;
+use rv_base::fixed_regs::{a0, a1, a2, px_reg, writable_a0, writable_link_reg};
 use rv_base::flags::IsaFlags;
 use rv_base::frame::FrameLayout;
 use rv_base::ir_type::IrType;
 use rv_base::label::MachLabel;
 use rv_base::list::List;
-use rv_base::memory::OutOfMemory;
-use rv_base::named::{a0, a1, a2, px_reg, writable_a0, writable_link_reg};
+use rv_base::out_of_memory::OutOfMemory;
 use rv_emit::emit::MachInstEmit;
 use rv_emit::island::make_room;
 use rv_emit::state::{EmitInfo, EmitState, EmitVState, MachInstEmitState};

@@ -4,12 +4,12 @@ ghost use Rattle.std.specs.Prelude.{◌<◌, ◌≤◌, length};
 
 use rv_asm::assemble::assemble;
 use rv_base::condcodes::IntCC;
+use rv_base::fixed_regs::{a0, link_reg, x_reg, zero_reg};
 use rv_base::flags::IsaFlags;
 use rv_base::frame::FrameLayout;
 use rv_base::label::MachLabel;
 use rv_base::list::List;
-use rv_base::memory::OutOfMemory;
-use rv_base::named::{a0, link_reg, x_reg, zero_reg};
+use rv_base::out_of_memory::OutOfMemory;
 use rv_base::regs::{Reg, Writable};
 use rv_imms::imm12::Imm12;
 use rv_imms::imm20::Imm20;

@@ -2,9 +2,9 @@
 
 use rv_base::amode::AMode;
 use rv_base::constraint::Constraint;
-use rv_base::memory::OutOfMemory;
-use rv_base::named::a0;
+use rv_base::fixed_regs::a0;
 use rv_base::operand_list::OperandList;
+use rv_base::out_of_memory::OutOfMemory;
 use rv_ops::vec_amode::VecAMode;
 
 #[test]
