@@ -8,8 +8,7 @@ ghost use Rattle.rv_emit.specs.Emitted.{IsSoundBuffer, pending, MakesRoom, CanEm
 ghost use Rattle.rv_asm.specs.Built.{CanPut, InstPut, BindPut, LinePut};
 
 use mach_buffer::buffer::MachBuffer;
-use rv_base::label::MachLabel;
-use rv_base::out_of_memory::OutOfMemory;
+use rv_base::{MachLabel, OutOfMemory};
 use rv_emit::emit::MachInstEmit;
 use rv_emit::island::make_room;
 use rv_emit::state::{EmitInfo, EmitState, MachInstEmitState};

@@ -7,10 +7,7 @@ ghost use Rattle.rv_inst.specs.Fields.{named_labels, inst_labels, control_labels
 ghost use Rattle.rv_asm.specs.Refusal.{is_bound, broken_from, binds, twice_of, twice_in, twice_from, unbound_among, unbound_in, line_sum, size_sum, refusal, Finds};
 ghost use Rattle.rv_emit.specs.Emitted.{inst_sum};
 
-use rv_base::constant::Constant;
-use rv_base::flags::IsaFlags;
-use rv_base::frame::FrameLayout;
-use rv_base::label::MachLabel;
+use rv_base::{Constant, FrameLayout, IsaFlags, MachLabel};
 use rv_inst::error::EmitError;
 use rv_inst::inst::{CondBrTarget, Family, Inst, Line};
 use std::alloc::Global;

@@ -17,17 +17,13 @@ ghost use Rattle.rv_emit.specs.Emitted.{IsSoundBuffer, Adds, PutsWords, PutsBloc
 ghost use Rattle.rv_emit.specs.Rows.{marks_rows, plain_rows, move_rows, control_rows, branch_rows, jump_row, blank};
 
 use mach_buffer::buffer::MachBuffer;
-use rv_base::fixed_regs::{link_reg, writable_zero_reg, zero_reg};
-use rv_base::label::MachLabel;
-use rv_base::out_of_memory::OutOfMemory;
-use rv_base::regs::{Reg, WritableReg};
+use rv_base::{MachLabel, OutOfMemory, Reg, WritableReg, link_reg, writable_zero_reg, zero_reg};
 use rv_encode::jumps::{enc_auipc, enc_jalr, encode_ebreak, encode_lui};
 use rv_encode::operations::{encode_alu_rr_imm12, encode_alu_rrr};
-use rv_imms::imm12::Imm12;
+use rv_imms::Imm12;
 use rv_inst::inst::{CondBrTarget, Family, Inst};
 use rv_inst::label_use::LabelUse;
-use rv_ops::alu::AluOPRRI;
-use rv_ops::compare::IntegerCompare;
+use rv_ops::{AluOPRRI, IntegerCompare};
 
 /// Puts the block of an instruction that breaks no rule.
 pub(crate) fn put_block(sink: &mut MachBuffer<LabelUse>, inst: &Inst) -> Result<(), OutOfMemory>

@@ -10,7 +10,7 @@ use crate::block::put_block;
 use crate::island::make_room;
 use crate::state::{EmitInfo, EmitState};
 use mach_buffer::buffer::MachBuffer;
-use rv_base::out_of_memory::OutOfMemory;
+use rv_base::OutOfMemory;
 use rv_inst::error::EmitError;
 use rv_inst::inst::Inst;
 use rv_inst::label_use::LabelUse;

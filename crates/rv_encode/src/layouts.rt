@@ -9,8 +9,8 @@ ghost use Rattle.rv_machine.specs.Decode.{decode, decode_word};
 ghost use Rattle.rv_encode.specs.Registers.{IsRealRegister};
 ghost use Rattle.rv_encode.specs.Layouts.{r_fields, i_fields, s_fields, b_fields, u_fields, j_fields};
 
-use rv_base::regs::{Reg, WritableReg};
-use rv_imms::imm12::Imm12;
+use rv_base::{Reg, WritableReg};
+use rv_imms::Imm12;
 
 /// The number that a word holds for a real register.
 pub fn reg_to_gpr_num(m: Reg) -> u32

@@ -5,7 +5,7 @@ ghost use Rattle.rv_base.specs.CondCodes.{name_of};
 ghost use Rattle.rv_listing.specs.Comparisons.{cond_code};
 
 use crate::fields::Token;
-use rv_base::condcodes::IntCC;
+use rv_base::IntCC;
 
 /// The ten comparisons.
 const EVERY: [IntCC; 10] = [

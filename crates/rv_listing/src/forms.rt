@@ -9,9 +9,9 @@ ghost use Rattle.rv_listing.specs.Forms.{args_row, rets_row, dummy_use_row, emit
 use crate::fields::{LineError, Token, allowed, field, whole};
 use crate::pairs::listed;
 use crate::tokens::{is, next_word};
-use rv_base::list::List;
+use rv_base::List;
 use rv_inst::inst::{Inst, Line};
-use rv_ops::compare::IntegerCompare;
+use rv_ops::IntegerCompare;
 use std::alloc::Global;
 
 // ---- those that compute nothing

@@ -5,7 +5,7 @@ ghost use Rattle.rv_ops.specs.Alu.{rri_name, rrr_name};
 ghost use Rattle.rv_listing.specs.Operations.{alu_rri, alu_rrr, every_rri, every_rrr};
 
 use crate::fields::Token;
-use rv_ops::alu::{AluOPRRI, AluOPRRR};
+use rv_ops::{AluOPRRI, AluOPRRR};
 
 const EVERY_RRR: [AluOPRRR; 54] = [
     AluOPRRR::Add,

@@ -7,7 +7,7 @@ ghost use Rattle.rv_listing.specs.Tokens.{◌>>=◌ as and_then, decimal};
 ghost use Rattle.rv_listing.specs.Registers.{argument, float, float_saved, float_temporary, lettered, named, other, real, register, saved, temporary, virtual_register};
 
 use crate::tokens::{decimal, is, number, starts, tail};
-use rv_base::regs::{PReg, Reg, RegClass, VirtualReg};
+use rv_base::{PReg, Reg, RegClass, VirtualReg};
 
 #[tactic(auto, unfolding(crate::specs::Registers::real))]
 fn real(class: RegClass, number: u64) -> Option<Reg>

@@ -7,7 +7,7 @@ ghost use Rattle.rv_machine.specs.Decode.{decode_jalr, decode_branch, decode_op_
 use crate::fields::{Fields, split};
 use crate::ops::{BaseOp, BitOp, MOp};
 use crate::{layouts, rows};
-use rv_base::flags::IsaFlags;
+use rv_base::IsaFlags;
 
 /// A row with its registers and its number. A field that a row doesn't have is 0, or false.
 #[derive(Clone, Copy, Debug, PartialEq, Eq)]

@@ -1,7 +1,6 @@
 //! Rows at their edges: the answers were computed from the manual's sentences, by whole numbers, outside this project.
 
-use rv_base::flags::IsaFlags;
-use rv_base::out_of_memory::OutOfMemory;
+use rv_base::{IsaFlags, OutOfMemory};
 use rv_machine::decode::{Decoded, decode};
 use rv_machine::machine::{IntMachine, Step};
 use rv_machine::ops::{BaseOp, BitOp, MOp, MulOp};
