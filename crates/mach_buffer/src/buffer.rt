@@ -3,10 +3,7 @@
 ghost use Rattle.std.specs.Prelude.{◌<◌, ◌≤◌, ◌^◌, vec_len};
 
 use crate::uses::{LabelPlace, Turn, Use, VeneerUse};
-use rv_base::constant::Constant;
-use rv_base::label::MachLabel;
-use rv_base::label_use::MachInstLabelUse;
-use rv_base::memory::OutOfMemory;
+use rv_base::{Constant, MachInstLabelUse, MachLabel, OutOfMemory};
 use std::alloc::Global;
 use std::collections::BTreeMap;
 

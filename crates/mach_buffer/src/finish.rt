@@ -3,10 +3,7 @@
 use crate::buffer::MachBuffer;
 use crate::patches::patch_all;
 use crate::uses::LabelPlace;
-use rv_base::constant::Constant;
-use rv_base::label_use::MachInstLabelUse;
-use rv_base::list::List;
-use rv_base::memory::OutOfMemory;
+use rv_base::{Constant, List, MachInstLabelUse, OutOfMemory};
 
 /// Patched code, and where the labels below 2^30 stand, in order of binding.
 #[derive(Drop)]

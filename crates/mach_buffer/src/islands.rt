@@ -2,9 +2,7 @@
 
 use crate::buffer::{MachBuffer, deadline};
 use crate::uses::{Turn, Use, VeneerUse};
-use rv_base::label::MachLabel;
-use rv_base::label_use::MachInstLabelUse;
-use rv_base::memory::OutOfMemory;
+use rv_base::{MachInstLabelUse, MachLabel, OutOfMemory};
 
 impl<L: MachInstLabelUse> MachBuffer<L> {
     ghost use Rattle.std.specs.Prelude.{◌≡◌, ◌≢◌, ℕ, ◌+◌, ◌*◌, ◌%◌, ◌<◌, ◌≤◌, ◌++◌, [], length, take, ◌∷◌, OnOk, OnErr, IfOk, IfSome, IfNone, None, Some, true, false, IsTrue, slice_get, slice_set, IsSomeAnd};

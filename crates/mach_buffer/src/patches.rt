@@ -8,7 +8,7 @@ ghost use Rattle.mach_buffer.specs.Windows.{CanPatch, window, ChangesOnly, CanPa
 ghost use Rattle.mach_buffer.specs.Targets.{patch_of, veneer_patch, patches_of};
 
 use crate::uses::{Use, VeneerUse};
-use rv_base::label_use::MachInstLabelUse;
+use rv_base::MachInstLabelUse;
 use std::collections::BTreeMap;
 
 /// The window at `offset` is to aim at `target`.

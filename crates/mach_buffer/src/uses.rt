@@ -1,6 +1,6 @@
 //! Uses of labels.
 
-use rv_base::label::MachLabel;
+use rv_base::MachLabel;
 
 /// A use of a label: a window of code that is to hold the distance to it. Offsets are in bytes from the code's start.
 #[derive(Clone, Copy)]

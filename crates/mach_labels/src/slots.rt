@@ -3,7 +3,7 @@
 ghost use Rattle.std.specs.Prelude.{◌≡◌, ◌+◌, ◌≤◌, ℕ, Some, OnOk, OnErr, nat_eq, if◌then◌else◌, vec_len};
 ghost use Rattle.mach_labels.specs.Slots.{slot_of};
 
-use rv_base::memory::OutOfMemory;
+use rv_base::OutOfMemory;
 
 /// What stands at an index.
 pub(crate) fn slot<T: Copy>(slots: &Vec<Option<T>>, index: usize) -> Option<T>

@@ -1,7 +1,7 @@
 //! The table: two vectors for the numbers that lie close together, and a map for the others.
 
 use crate::slots::{put, slot};
-use rv_base::memory::OutOfMemory;
+use rv_base::OutOfMemory;
 use std::alloc::Global;
 use std::collections::BTreeMap;
 

@@ -10,6 +10,4 @@ pub mod run;
 
 pub use rv_listing::reading::{ReadError, read_job};
 pub use rv_listing::report::report;
-pub use rv_stream::ends::{Sink, Source};
-pub use rv_stream::in_memory::{MemSink, MemSource, SureSink, SureSource};
-pub use rv_stream::standard::{StdSink, StdSource};
+pub use rv_stream::{MemSink, MemSource, Sink, Source, StdSink, StdSource, SureSink, SureSource};

@@ -11,8 +11,7 @@ ghost use Rattle.rv_emit.specs.State.{setting_after, setting_beyond};
 ghost use Rattle.rv_asm.specs.Built.{CanPut, InstPut, BindPut, LinePut, line_setting};
 
 use mach_buffer::buffer::MachBuffer;
-use rv_base::label::MachLabel;
-use rv_base::memory::OutOfMemory;
+use rv_base::{MachLabel, OutOfMemory};
 use rv_emit::emit::MachInstEmit;
 use rv_emit::island::make_room;
 use rv_emit::state::{EmitInfo, EmitState, MachInstEmitState};

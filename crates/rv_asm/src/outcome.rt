@@ -4,7 +4,7 @@ ghost use Rattle.std.specs.Prelude.{◌≡◌, ◌++◌, IfOk, string_bytes, cod
 ghost use Rattle.std.specs.Fmt.{decimal};
 ghost use Rattle.rv_asm.specs.Outcomes.{rule_name, error_line, text_of, status_of};
 
-use rv_base::memory::OutOfMemory;
+use rv_base::OutOfMemory;
 use rv_inst::code::Code;
 use rv_inst::error::{EmitError, Rule};
 use rv_listing::report::report;

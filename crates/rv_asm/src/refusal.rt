@@ -9,10 +9,7 @@ ghost use Rattle.rv_inst.specs.Sizes.{line_sum, inst_sum};
 ghost use Rattle.rv_asm.specs.BoundLabels.{is_in};
 
 use mach_labels::table::LabelTable;
-use rv_base::constant::Constant;
-use rv_base::flags::IsaFlags;
-use rv_base::frame::FrameLayout;
-use rv_base::label::MachLabel;
+use rv_base::{Constant, FrameLayout, IsaFlags, MachLabel};
 use rv_inst::error::EmitError;
 use rv_inst::inst::{CondBrTarget, Family, Inst, Line};
 use std::alloc::Global;

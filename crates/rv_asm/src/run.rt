@@ -5,11 +5,10 @@ ghost use Rattle.rv_asm.specs.Outcomes.{Means, call, Ended, IsSettled, Tells, ou
 
 use crate::assemble::assemble;
 use crate::outcome::{Outcome, text_of};
-use rv_base::memory::OutOfMemory;
+use rv_base::OutOfMemory;
 use rv_inst::error::EmitError;
 use rv_listing::reading::{ReadError, read_job};
-use rv_stream::ends::{Sink, Source, WriteError};
-use rv_stream::whole::{ReadAllError, read_all, write_all};
+use rv_stream::{ReadAllError, Sink, Source, WriteError, read_all, write_all};
 use std::alloc::Global;
 
 fn refused(error: EmitError) -> Result<Outcome, OutOfMemory>

@@ -11,7 +11,7 @@ use Rattle.rv_base.specs.declared.amode.StackAMode.TheVariants as stack
 use Rattle.rv_base.specs.declared.amode.AMode.{AMode}
 use Rattle.rv_base.specs.declared.amode.AMode.TheVariants.{RegOffset, SPOffset, FPOffset, SlotOffset, IncomingArg, Const, Label}
 use Rattle.rv_base.specs.Regs.{class_of, stack_pointer, frame_pointer}
-use Rattle.rv_base.specs.Names.{name_of}
+use Rattle.rv_base.specs.RegNames.{name_of}
 use Rattle.rv_base.specs.Frame.{sp_to_args_end}
 
 -- an offset whose sums with a frame's sizes stay within 64 bits

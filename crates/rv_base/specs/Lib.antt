@@ -5,9 +5,9 @@ pub mod Frame
 pub mod IrType
 pub mod LabelUse
 pub mod LaneCount
-pub mod Names
 pub mod Operands
 pub mod PRegSet
+pub mod RegNames
 pub mod Regs
 pub mod Trap
 pub mod ValueRegs

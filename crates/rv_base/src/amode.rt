@@ -1,11 +1,11 @@
 //! Addresses of loads and stores.
 
 use crate::constant::VCodeConstant;
+use crate::fixed_regs::{fp_reg, stack_reg};
 use crate::frame::FrameLayout;
 use crate::label::MachLabel;
-use crate::memory::OutOfMemory;
-use crate::named::{fp_reg, stack_reg};
 use crate::operands::OperandVisitor;
+use crate::out_of_memory::OutOfMemory;
 use crate::regs::Reg;
 use std::fmt;
 

@@ -1,6 +1,6 @@
 //! The errors of calls about types.
 
-use crate::memory::OutOfMemory;
+use crate::out_of_memory::OutOfMemory;
 use thiserror::Error;
 
 /// Why a call about a type has no result.

@@ -14,7 +14,7 @@ pub struct FrameLayout {
     pub tail_args_size: u32,
     /// The return address and the caller's frame pointer.
     pub setup_area_size: u32,
-    /// The saved registers of the caller.
+    /// The callee-saved registers that this function saves.
     pub clobber_size: u32,
     /// The stack slots and the register allocator's spills.
     pub fixed_frame_storage_size: u32,

@@ -4,8 +4,8 @@ ghost use Rattle.std.specs.Prelude.{◌≡◌, [], ◌∷◌, ◌++◌, OnOk, On
 
 use crate::constraint::Constraint;
 use crate::list::List;
-use crate::memory::OutOfMemory;
 use crate::operands::OperandVisitor;
+use crate::out_of_memory::OutOfMemory;
 use crate::preg_set::PRegSet;
 use crate::regs::{Reg, Writable};
 use std::alloc::Global;

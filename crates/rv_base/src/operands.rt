@@ -1,6 +1,6 @@
 //! The visitor of an instruction's registers, as a register allocator is one.
 
-use crate::memory::OutOfMemory;
+use crate::out_of_memory::OutOfMemory;
 use crate::preg_set::PRegSet;
 use crate::regs::{Reg, Writable};
 

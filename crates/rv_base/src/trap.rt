@@ -81,6 +81,12 @@ fn constants_hold() {
     prove!(matches!(&TrapCode::STACK_OVERFLOW, TrapCode::StackOverflow));
     prove!(matches!(&TrapCode::HEAP_OUT_OF_BOUNDS, TrapCode::HeapOutOfBounds));
     prove!(matches!(&TrapCode::INTEGER_OVERFLOW, TrapCode::IntegerOverflow));
-    prove!(matches!(&TrapCode::INTEGER_DIVISION_BY_ZERO, TrapCode::IntegerDivisionByZero));
-    prove!(matches!(&TrapCode::BAD_CONVERSION_TO_INTEGER, TrapCode::BadConversionToInteger));
+    prove!(matches!(
+        &TrapCode::INTEGER_DIVISION_BY_ZERO,
+        TrapCode::IntegerDivisionByZero
+    ));
+    prove!(matches!(
+        &TrapCode::BAD_CONVERSION_TO_INTEGER,
+        TrapCode::BadConversionToInteger
+    ));
 }

@@ -20,19 +20,15 @@ ghost use Rattle.rv_inst.specs.declared.inst.Family.TheVariants.{Marks, Plain, C
 ghost use Rattle.rv_emit.specs.Rows.{move_rows, branch_rows, jump_row, blank};
 
 use mach_buffer::buffer::MachBuffer;
-use rv_base::label::MachLabel;
-use rv_base::memory::OutOfMemory;
-use rv_base::named::{link_reg, writable_zero_reg, zero_reg};
-use rv_base::regs::{Reg, WritableReg};
+use rv_base::{MachLabel, OutOfMemory, Reg, WritableReg, link_reg, writable_zero_reg, zero_reg};
 use rv_encode::{
     enc_auipc, enc_jalr, encode_alu_rr_imm12, encode_alu_rrr, encode_branch, encode_ebreak,
     encode_jal, encode_lui,
 };
-use rv_imms::imm12::Imm12;
+use rv_imms::Imm12;
 use rv_inst::inst::{CondBrTarget, Family, Inst};
 use rv_inst::label_use::LabelUse;
-use rv_ops::alu::AluOPRRI;
-use rv_ops::compare::IntegerCompare;
+use rv_ops::{AluOPRRI, IntegerCompare};
 
 /// Puts the block of an instruction that breaks no rule.
 pub(crate) fn put_block(sink: &mut MachBuffer<LabelUse>, inst: &Inst) -> Result<(), OutOfMemory>

@@ -11,7 +11,7 @@ use crate::block::put_block;
 use crate::island::make_room;
 use crate::state::{EmitInfo, EmitState};
 use mach_buffer::buffer::MachBuffer;
-use rv_base::memory::OutOfMemory;
+use rv_base::OutOfMemory;
 use rv_inst::error::EmitError;
 use rv_inst::inst::Inst;
 use rv_inst::label_use::LabelUse;

@@ -7,7 +7,7 @@ ghost use Rattle.rv_emit.specs.Emitted.{IsSoundBuffer, pending, PutsIsland, Make
 
 use crate::block::put_jump;
 use mach_buffer::buffer::MachBuffer;
-use rv_base::memory::OutOfMemory;
+use rv_base::OutOfMemory;
 use rv_inst::label_use::LabelUse;
 
 /// Puts an island where one is needed before so many bytes. Whether it did.

@@ -1,7 +1,6 @@
 //! What emission knows beside the buffer: the flags, the frame, and the setting of the vector unit.
 
-use rv_base::flags::IsaFlags;
-use rv_base::frame::FrameLayout;
+use rv_base::{FrameLayout, IsaFlags};
 
 /// What is the same for all of a listing.
 #[derive(Clone, Copy, Debug)]

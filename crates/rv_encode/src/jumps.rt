@@ -15,11 +15,10 @@ ghost use Rattle.rv_ops.specs.Compare.{funct3_of, branch_of, is_reversed as reve
 ghost use Rattle.rv_encode.specs.Rows.{row, compare_row};
 
 use crate::layouts::{b_word, encode_i_type, i_word, j_word, reg_to_gpr_num, u_word};
-use rv_base::regs::{Reg, WritableReg};
-use rv_imms::imm12::Imm12;
-use rv_imms::imm20::Imm20;
+use rv_base::{Reg, WritableReg};
+use rv_imms::{Imm12, Imm20};
 use rv_machine::opcodes::{AUIPC, JAL, JALR, LUI, SYSTEM};
-use rv_ops::compare::IntegerCompare;
+use rv_ops::IntegerCompare;
 
 /// The word of `lui`: the immediate times 2^12 into an integer register.
 pub fn encode_lui(rd: WritableReg, imm: Imm20) -> u32

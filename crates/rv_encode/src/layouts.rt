@@ -6,8 +6,8 @@ ghost use Rattle.rv_imms.specs.Bits.{low_bits};
 ghost use Rattle.rv_encode.specs.Registers.{IsRealRegister};
 ghost use Rattle.rv_encode.specs.Layouts.{IsRType, IsIType, IsSType, IsBType, IsUType, IsJType};
 
-use rv_base::regs::{Reg, WritableReg};
-use rv_imms::imm12::Imm12;
+use rv_base::{Reg, WritableReg};
+use rv_imms::Imm12;
 
 /// The number of a real register, as words hold it.
 pub fn reg_to_gpr_num(m: Reg) -> u32

@@ -8,9 +8,9 @@ ghost use Rattle.rv_encode.specs.Registers.{IsIntRegister};
 ghost use Rattle.rv_encode.specs.Rows.{alu_rrr_row, alu_rri_row};
 
 use crate::layouts::{encode_r_type, i_word, reg_to_gpr_num};
-use rv_base::regs::{Reg, WritableReg};
-use rv_imms::imm12::Imm12;
-use rv_ops::alu::{AluOPRRI, AluOPRRR};
+use rv_base::{Reg, WritableReg};
+use rv_imms::Imm12;
+use rv_ops::{AluOPRRI, AluOPRRR};
 
 /// The word of an operation of two integer registers.
 pub fn encode_alu_rrr(op: AluOPRRR, rd: WritableReg, rs1: Reg, rs2: Reg) -> u32

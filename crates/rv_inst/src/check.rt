@@ -12,10 +12,7 @@ use crate::inst::{CondBrTarget, Family, Inst, Line};
 use crate::places::is_misplaced;
 use crate::ranges::{has_bad_type, is_out_of_range};
 use crate::registers::{RegisterTest, has_register};
-use rv_base::constant::Constant;
-use rv_base::flags::IsaFlags;
-use rv_base::frame::FrameLayout;
-use rv_base::label::MachLabel;
+use rv_base::{Constant, FrameLayout, IsaFlags, MachLabel};
 
 impl Line {
     /// The first rule that the line breaks.

@@ -3,7 +3,7 @@
 ghost use Rattle.std.specs.Prelude.{length, ◌<◌, ◌^◌};
 
 pub use mach_buffer::uses::LabelPlace;
-use rv_base::list::List;
+use rv_base::List;
 
 /// Where the bytes of a line begin and end.
 #[derive(Clone, Copy, Debug, PartialEq, Eq)]

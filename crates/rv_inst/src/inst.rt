@@ -2,15 +2,9 @@
 
 ghost use Rattle.std.specs.Prelude.{◌≡◌};
 
-use rv_base::call::{ArgPair, RetPair};
-use rv_base::ir_type::IrType;
-use rv_base::label::MachLabel;
-use rv_base::list::List;
-use rv_base::regs::{PReg, Reg, WritableReg};
-use rv_imms::imm12::Imm12;
-use rv_imms::imm20::Imm20;
-use rv_ops::alu::{AluOPRRI, AluOPRRR};
-use rv_ops::compare::IntegerCompare;
+use rv_base::{ArgPair, IrType, List, MachLabel, PReg, Reg, RetPair, WritableReg};
+use rv_imms::{Imm12, Imm20};
+use rv_ops::{AluOPRRI, AluOPRRR, IntegerCompare};
 use std::fmt;
 
 /// Where a branch goes on one of its two sides.

@@ -1,10 +1,7 @@
 //! A job: lines to emit, and for which machine and frame.
 
 use crate::inst::Line;
-use rv_base::constant::Constant;
-use rv_base::flags::IsaFlags;
-use rv_base::frame::FrameLayout;
-use rv_base::list::List;
+use rv_base::{Constant, FrameLayout, IsaFlags, List};
 
 /// Lines in order, with the flags of the machine, the frame and the constants that they stand on.
 #[derive(Drop)]

@@ -6,8 +6,7 @@ ghost use Rattle.rv_machine.specs.State.{signed};
 ghost use Rattle.rv_machine.specs.Layout.{j_imm, b_imm, u_imm, i_imm, u_bits, i_bits};
 ghost use Rattle.rv_inst.specs.LabelUseWords.{word_at, word_bytes, AreBytes, jal_bits, branch_bits, distance_bits, upper_bits};
 
-use rv_base::label_use::MachInstLabelUse;
-use rv_base::reloc::Reloc;
+use rv_base::{MachInstLabelUse, Reloc};
 
 /// A kind of use.
 #[derive(Clone, Copy, Debug, PartialEq, Eq)]

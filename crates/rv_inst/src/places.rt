@@ -10,8 +10,7 @@ ghost use Rattle.rv_inst.specs.Families.{family_of};
 
 use crate::inst::{Family, Inst};
 use crate::registers::{RegisterTest, control_has, is_other_class, plain_has};
-use rv_base::call::{ArgPair as Arg, RetPair as Ret};
-use rv_base::regs::{PReg, Reg, RegClass};
+use rv_base::{ArgPair as Arg, PReg, Reg, RegClass, RetPair as Ret};
 
 /// Whether two registers are of different classes.
 fn differ(first: Reg, second: Reg) -> bool

@@ -6,10 +6,9 @@ ghost use Rattle.rv_ops.specs.Alu.{rri_numbers};
 ghost use Rattle.rv_inst.specs.Rules.{is_int_class, is_int_type, has_bad_type, amount_limit, is_beyond, is_out_of_range};
 
 use crate::inst::Inst;
-use rv_base::ir_type::IrType;
-use rv_base::regs::{Reg, RegClass};
-use rv_imms::imm12::Imm12;
-use rv_ops::alu::AluOPRRI;
+use rv_base::{IrType, Reg, RegClass};
+use rv_imms::Imm12;
+use rv_ops::AluOPRRI;
 
 fn is_int_type(ty: IrType) -> bool
     ensures { result ≡ is_int_type ty }

@@ -8,8 +8,7 @@ ghost use Rattle.rv_inst.specs.Families.{family_of};
 ghost use Rattle.rv_inst.specs.Tests.{test_of};
 
 use crate::inst::{Family, Inst};
-use rv_base::call::{ArgPair, RetPair};
-use rv_base::regs::{Reg, RegClass};
+use rv_base::{ArgPair, Reg, RegClass, RetPair};
 
 /// What is asked of a register.
 #[derive(Clone, Copy, Debug, PartialEq, Eq)]

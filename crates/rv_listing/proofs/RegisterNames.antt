@@ -5,7 +5,7 @@ use Rattle.std.proofs.lemmas.Fmt.{decimal_digit, decimal_step}
 use borrow.Author.Count.{below_none, below_more}
 use Rattle.rv_base.specs.declared.regs.RegClass.{RegClass}
 use Rattle.rv_base.specs.declared.regs.RegClass.TheVariants.{Int, Float, Vector}
-use Rattle.rv_base.specs.Names.{real_name}
+use Rattle.rv_base.specs.RegNames.{real_name}
 use Rattle.rv_listing.specs.Registers.{register, by_letter, after_t, after_s, other, after_f, single, fixed, float, real}
 
 abbrev IsNamed : RegClass → ℕ → Type 0

@@ -6,7 +6,7 @@ ghost use Rattle.rv_listing.specs.Comparisons.{cond_code};
 
 use crate::fields::Token;
 use crate::slots::candidate;
-use rv_base::condcodes::IntCC;
+use rv_base::IntCC;
 
 /// The ten comparisons.
 const EVERY: [IntCC; 10] = [

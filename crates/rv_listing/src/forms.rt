@@ -10,9 +10,9 @@ use crate::fields::{LineError, Token, allowed, field, whole};
 use crate::form_names::{Form, form_named};
 use crate::pairs::listed;
 use crate::tokens::next_word;
-use rv_base::list::List;
+use rv_base::List;
 use rv_inst::inst::{Inst, Line};
-use rv_ops::compare::IntegerCompare;
+use rv_ops::IntegerCompare;
 use std::alloc::Global;
 
 // ---- those that compute nothing

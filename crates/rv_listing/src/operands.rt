@@ -8,10 +8,8 @@ ghost use Rattle.rv_listing.specs.Operands.{writable, real_register, imm12_of, i
 use crate::fields::Token;
 use crate::registers::register;
 use crate::tokens::{is, natural, number, signed, starts};
-use rv_base::label::MachLabel;
-use rv_base::regs::{PReg, Reg, Writable};
-use rv_imms::imm12::Imm12;
-use rv_imms::imm20::Imm20;
+use rv_base::{MachLabel, PReg, Reg, Writable};
+use rv_imms::{Imm12, Imm20};
 use rv_inst::inst::CondBrTarget;
 
 impl Token for Reg {

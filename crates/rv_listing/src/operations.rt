@@ -6,7 +6,7 @@ ghost use Rattle.rv_listing.specs.Operations.{alu_rri, alu_rrr, every_rri, every
 
 use crate::fields::Token;
 use crate::slots::candidate;
-use rv_ops::alu::{AluOPRRI, AluOPRRR};
+use rv_ops::{AluOPRRI, AluOPRRR};
 
 const EVERY_RRR: [AluOPRRR; 54] = [
     AluOPRRR::Add,

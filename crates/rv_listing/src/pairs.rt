@@ -7,9 +7,7 @@ ghost use Rattle.rv_listing.specs.Pairs.{arg_pair, listed, ret_pair};
 use crate::fields::{LineError, Token};
 use crate::registers::register;
 use crate::tokens::{first_part, is, next_part, two_parts};
-use rv_base::call::{ArgPair, RetPair};
-use rv_base::list::List;
-use rv_base::regs::Writable;
+use rv_base::{ArgPair, List, RetPair, Writable};
 use std::alloc::Global;
 
 impl Token for ArgPair {

@@ -9,9 +9,7 @@ ghost use Rattle.rv_listing.specs.Reading.{no_job, is_plain, by_words, with_line
 use crate::fields::LineError;
 use crate::forms;
 use crate::tokens::{first_word, next_line};
-use rv_base::flags::IsaFlags;
-use rv_base::frame::FrameLayout;
-use rv_base::list::List;
+use rv_base::{FrameLayout, IsaFlags, List};
 use rv_inst::job::Job;
 use std::alloc::Global;
 use thiserror::Error;

@@ -2,12 +2,12 @@
 
 ghost use Rattle.std.specs.Prelude.{◌≡◌, ℕ, ◌<◌};
 ghost use Rattle.rv_base.specs.declared.regs.RegClass.{RegClass};
-ghost use Rattle.rv_base.specs.Names.{real_name};
+ghost use Rattle.rv_base.specs.RegNames.{real_name};
 ghost use Rattle.rv_listing.specs.Tokens.{◌>>=◌ as and_then, decimal};
 ghost use Rattle.rv_listing.specs.Registers.{after_f, after_s, after_t, argument, by_letter, fixed, float, float_saved, float_temporary, other, real, register, saved, single, temporary, virtual_register};
 
 use crate::tokens::{decimal, is, starts, tail};
-use rv_base::regs::{PReg, Reg, RegClass, VirtualReg};
+use rv_base::{PReg, Reg, RegClass, VirtualReg};
 
 #[tactic(auto, unfolding(crate::specs::Registers::real))]
 fn real(class: RegClass, number: u64) -> Option<Reg>

@@ -9,7 +9,7 @@ ghost use Rattle.rv_listing.specs.CodeRanges.{CodeFits};
 ghost use Rattle.rv_listing.specs.Report.{lf, hex_line, all_hex_lines, span_line, label_line, report};
 
 use itoa::Buffer;
-use rv_base::memory::OutOfMemory;
+use rv_base::OutOfMemory;
 use rv_inst::code::{Code, LabelPlace, LineSpan};
 use std::alloc::Global;
 

@@ -6,7 +6,7 @@ ghost use Rattle.rv_listing.specs.Types.{scalar, type_named, vector, vector_of};
 
 use crate::fields::Token;
 use crate::tokens::{decimal, is, two_parts};
-use rv_base::ir_type::IrType;
+use rv_base::IrType;
 
 #[tactic(auto, unfolding(crate::specs::Types::scalar))]
 fn scalar(w: &[u8]) -> Option<IrType>

@@ -10,7 +10,7 @@ use crate::opcodes::{
 };
 use crate::ops::{BaseOp, MOp};
 use crate::{layouts, tables};
-use rv_base::flags::IsaFlags;
+use rv_base::IsaFlags;
 
 /// An operation with its registers and its immediate. A field that an operation doesn't have is 0, or false.
 #[derive(Clone, Copy, Debug, PartialEq, Eq)]

@@ -2,7 +2,7 @@
 //! Zbs and Zicond. The fields are those of the manual's chapter "RV32/64G Instruction Set Listings" and of the extensions'
 //! own chapters.
 
-use rv_imms::imm12::Imm12;
+use rv_imms::Imm12;
 
 /// An operation of two source registers, by its mnemonic. `Sgt` and `Sgtu` are pseudo-instructions.
 #[derive(Clone, Copy, Debug, PartialEq, Eq)]

@@ -4,8 +4,7 @@
 ghost use Rattle.std.specs.Prelude.{◌≡◌, ◌<◌, ◌^◌};
 ghost use Rattle.rv_base.specs.Regs.{number_of};
 
-use rv_base::condcodes::IntCC;
-use rv_base::regs::Reg;
+use rv_base::{IntCC, Reg};
 
 /// The manual's branches: `beq`, `bne`, `blt`, `bge`, `bltu` and `bgeu`.
 #[derive(Clone, Copy, Debug, PartialEq, Eq)]

@@ -1,7 +1,12 @@
 //! The operations that instructions are parameterized by, with their mnemonics and the fields of their words.
 #![tactic(auto)]
 
-pub mod alu;
-pub mod compare;
-pub mod memory;
-pub mod vec_amode;
+mod alu;
+mod compare;
+mod memory;
+mod vec_amode;
+
+pub use alu::{AluOPRRI, AluOPRRR};
+pub use compare::{BranchFunct3, IntegerCompare};
+pub use memory::{LoadOP, StoreOP};
+pub use vec_amode::VecAMode;

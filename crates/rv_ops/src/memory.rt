@@ -1,7 +1,7 @@
 //! Loads and stores of integer registers (the manual's chapters "RV32I" and "RV64I Base Integer Instruction Set", "Load and
 //! Store Instructions").
 
-use rv_base::ir_type::IrType;
+use rv_base::IrType;
 
 /// A load, by its mnemonic.
 #[derive(Clone, Copy, Debug, PartialEq, Eq)]

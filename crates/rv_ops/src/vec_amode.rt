@@ -1,8 +1,6 @@
 //! Addresses of vector loads and stores (the manual's chapter "V", "Vector Load/Store Addressing Modes").
 
-use rv_base::amode::AMode;
-use rv_base::memory::OutOfMemory;
-use rv_base::operands::OperandVisitor;
+use rv_base::{AMode, OperandVisitor, OutOfMemory};
 
 /// The address of a vector with unit stride: its elements lie one after the other.
 #[derive(Clone, Copy, Debug)]

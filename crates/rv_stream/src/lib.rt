@@ -1,7 +1,12 @@
 //! Where a program's bytes come from, and where they go.
 #![tactic(auto)]
 
-pub mod ends;
-pub mod in_memory;
-pub mod standard;
-pub mod whole;
+mod ends;
+mod in_memory;
+mod standard;
+mod whole;
+
+pub use ends::{Failed, Sink, Source, WriteError};
+pub use in_memory::{MemSink, MemSource, SureSink, SureSource};
+pub use standard::{StdSink, StdSource};
+pub use whole::{ReadAllError, read_all, write_all};

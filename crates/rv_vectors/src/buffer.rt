@@ -4,10 +4,7 @@ ghost use Rattle.std.specs.Prelude.{◌≡◌, ◌∷◌, []};
 
 use mach_buffer::buffer::MachBuffer;
 use mach_buffer::finish::Finished;
-use rv_base::label::MachLabel;
-use rv_base::label_use::MachInstLabelUse;
-use rv_base::memory::OutOfMemory;
-use rv_base::reloc::Reloc;
+use rv_base::{MachInstLabelUse, MachLabel, OutOfMemory, Reloc};
 use std::alloc::Global;
 use std::process::Abort;
 

@@ -6,23 +6,14 @@ ghost use Rattle.rv_inst.specs.Sizes.{island_space};
 ghost use Rattle.rv_vectors.specs.Single.{is_first, names_first, IsStart, HoldsOne};
 
 use mach_buffer::buffer::MachBuffer;
-use rv_base::condcodes::IntCC;
-use rv_base::flags::IsaFlags;
-use rv_base::frame::FrameLayout;
-use rv_base::ir_type::IrType;
-use rv_base::label::MachLabel;
-use rv_base::list::List;
-use rv_base::memory::OutOfMemory;
-use rv_base::named::{a0, a1, a2, px_reg, writable_a0, writable_link_reg};
+use rv_base::{FrameLayout, IntCC, IrType, IsaFlags, List, MachLabel, OutOfMemory, a0, a1, a2, px_reg, writable_a0, writable_link_reg};
 use rv_emit::emit::MachInstEmit;
 use rv_emit::island::make_room;
 use rv_emit::state::{EmitInfo, EmitState, EmitVState, MachInstEmitState};
-use rv_imms::imm12::Imm12;
-use rv_imms::imm20::Imm20;
+use rv_imms::{Imm12, Imm20};
 use rv_inst::inst::{CondBrTarget, Inst};
 use rv_inst::label_use::LabelUse;
-use rv_ops::alu::{AluOPRRI, AluOPRRR};
-use rv_ops::compare::IntegerCompare;
+use rv_ops::{AluOPRRI, AluOPRRR, IntegerCompare};
 use std::alloc::Global;
 use std::process::Abort;
 

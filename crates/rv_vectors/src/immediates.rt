@@ -1,12 +1,6 @@
 //! Immediates and texts whose expected values come from outside.
 
-use rv_imms::imm5::Imm5;
-use rv_imms::imm6::Imm6;
-use rv_imms::imm12::Imm12;
-use rv_imms::imm20::Imm20;
-use rv_imms::splitting::generate_imm;
-use rv_imms::uimm5::UImm5;
-use rv_imms::unsigned::{Uimm2, Uimm5, Uimm6};
+use rv_imms::{Imm12, Imm20, Imm5, Imm6, UImm5, Uimm2, Uimm5, Uimm6, generate_imm};
 use std::alloc::AllocError;
 
 #[test]

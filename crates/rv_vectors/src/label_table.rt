@@ -1,7 +1,7 @@
 //! The table of labels, at numbers that lie close together, far apart, and in both halves.
 
 use mach_labels::table::LabelTable;
-use rv_base::memory::OutOfMemory;
+use rv_base::OutOfMemory;
 use std::alloc::Global;
 use std::process::Abort;
 

@@ -1,7 +1,6 @@
 //! The reach and the patches of each kind of label use, and the targets of branches.
 
-use rv_base::label::MachLabel;
-use rv_base::label_use::MachInstLabelUse;
+use rv_base::{MachInstLabelUse, MachLabel};
 use rv_inst::inst::CondBrTarget;
 use rv_inst::label_use::LabelUse;
 use std::alloc::{AllocError, Global};

@@ -1,7 +1,4 @@
-use rv_base::label::MachLabel;
-use rv_base::list::List;
-use rv_base::memory::OutOfMemory;
-use rv_base::regs::{Reg, RegClass};
+use rv_base::{List, MachLabel, OutOfMemory, Reg, RegClass};
 use rv_inst::code::{Code, LabelPlace, LineSpan};
 use rv_listing::reading::{ReadError, read_job};
 use rv_listing::registers::register;

@@ -5,9 +5,7 @@ ghost use Rattle.rv_asm.specs.Told.{start_of};
 ghost use Rattle.rv_vectors.specs.Loaded.{IsBefore};
 
 use rv_asm::assemble::assemble;
-use rv_base::flags::IsaFlags;
-use rv_base::frame::FrameLayout;
-use rv_base::memory::OutOfMemory;
+use rv_base::{FrameLayout, IsaFlags, OutOfMemory};
 use rv_inst::code::Code;
 use rv_inst::error::EmitError;
 use rv_inst::inst::{Inst, Line};

@@ -1,7 +1,6 @@
 //! Operations at their edges: the answers were computed from the manual's sentences, by whole numbers, outside this project.
 
-use rv_base::flags::IsaFlags;
-use rv_base::memory::OutOfMemory;
+use rv_base::{IsaFlags, OutOfMemory};
 use rv_machine::decode::{Decoded, decode};
 use rv_machine::{AluOp, BaseOp, BitOp, IntMachine, IntOp, MOp, MulOp, Step};
 use std::alloc::Global;

@@ -2,7 +2,7 @@
 
 use crate::reported::{assert_reported, reported, told};
 use rv_asm::run::run;
-use rv_stream::in_memory::{MemSink, MemSource, SureSink, SureSource};
+use rv_stream::{MemSink, MemSource, SureSink, SureSource};
 use std::alloc::{AllocError, Global};
 use std::process::Abort;
 

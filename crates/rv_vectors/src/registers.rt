@@ -1,20 +1,6 @@
 //! Texts and records whose expected values come from outside.
 
-use rv_base::amode::AMode;
-use rv_base::constant::VCodeConstant;
-use rv_base::constraint::Constraint;
-use rv_base::external_name::ExternalName;
-use rv_base::ir_type::IrType;
-use rv_base::label::MachLabel;
-use rv_base::list::List;
-use rv_base::memory::OutOfMemory;
-use rv_base::named::{a0, a1, a2, f_reg, pv_reg, writable_a0, x_reg};
-use rv_base::names::reg_name;
-use rv_base::operand_list::OperandList;
-use rv_base::operands::OperandVisitor;
-use rv_base::preg_set::PRegSet;
-use rv_base::regs::{Reg, RegClass};
-use rv_base::trap::TrapCode;
+use rv_base::{AMode, Constraint, ExternalName, IrType, List, MachLabel, OperandList, OperandVisitor, OutOfMemory, PRegSet, Reg, RegClass, TrapCode, VCodeConstant, a0, a1, a2, f_reg, pv_reg, reg_name, writable_a0, x_reg};
 use std::alloc::AllocError;
 
 #[test]

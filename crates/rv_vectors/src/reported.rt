@@ -1,7 +1,7 @@
 //! What the program tells of a listing.
 
 use rv_asm::run::run;
-use rv_stream::in_memory::{SureSink, SureSource};
+use rv_stream::{SureSink, SureSource};
 use std::alloc::Global;
 use std::process::Abort;
 

@@ -3,21 +3,12 @@
 ghost use Rattle.std.specs.Prelude.{◌<◌, ◌≤◌, length};
 
 use rv_asm::assemble::assemble;
-use rv_base::condcodes::IntCC;
-use rv_base::flags::IsaFlags;
-use rv_base::frame::FrameLayout;
-use rv_base::label::MachLabel;
-use rv_base::list::List;
-use rv_base::memory::OutOfMemory;
-use rv_base::named::{a0, link_reg, x_reg, zero_reg};
-use rv_base::regs::{Reg, Writable};
-use rv_imms::imm12::Imm12;
-use rv_imms::imm20::Imm20;
+use rv_base::{FrameLayout, IntCC, IsaFlags, List, MachLabel, OutOfMemory, Reg, Writable, a0, link_reg, x_reg, zero_reg};
+use rv_imms::{Imm12, Imm20};
 use rv_inst::error::EmitError;
 use rv_inst::inst::{CondBrTarget, Inst, Line};
 use rv_machine::{IntMachine, Step};
-use rv_ops::alu::{AluOPRRI, AluOPRRR};
-use rv_ops::compare::IntegerCompare;
+use rv_ops::{AluOPRRI, AluOPRRR, IntegerCompare};
 use std::alloc::{AllocError, Global};
 use std::process::Abort;
 use std::test::Fail;

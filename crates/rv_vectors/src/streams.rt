@@ -2,10 +2,7 @@
 
 ghost use Rattle.std.specs.Prelude.{◌<◌};
 
-use rv_stream::ends::WriteError;
-use rv_stream::in_memory::{MemSink, MemSource, SureSink, SureSource};
-use rv_stream::standard::{StdSink, StdSource};
-use rv_stream::whole::{ReadAllError, read_all, write_all};
+use rv_stream::{MemSink, MemSource, ReadAllError, StdSink, StdSource, SureSink, SureSource, WriteError, read_all, write_all};
 use std::alloc::{AllocError, Global};
 
 const TEN: &[u8] = b"0123456789";

@@ -1,11 +1,7 @@
 //! What no clause says: that a visitor with ample memory is handed the register of an address.
 
-use rv_base::amode::AMode;
-use rv_base::constraint::Constraint;
-use rv_base::memory::OutOfMemory;
-use rv_base::named::a0;
-use rv_base::operand_list::OperandList;
-use rv_ops::vec_amode::VecAMode;
+use rv_base::{AMode, Constraint, OperandList, OutOfMemory, a0};
+use rv_ops::VecAMode;
 
 #[test]
 fn vector_addresses_read_their_base(rt: HostRuntime) -> Result<(), OutOfMemory> {

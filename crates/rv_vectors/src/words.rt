@@ -3,14 +3,12 @@
 ghost use Rattle.std.specs.Prelude.{◌<◌};
 ghost use Rattle.rv_encode.specs.Registers.{IsIntRegister};
 
-use rv_base::condcodes::IntCC;
-use rv_base::regs::{PReg, Reg, RegClass, Writable, WritableReg};
+use rv_base::{IntCC, PReg, Reg, RegClass, Writable, WritableReg};
 use rv_encode::{
     enc_auipc, enc_jalr, encode_branch, encode_ebreak, encode_jal, encode_lui, encode_s_type,
 };
-use rv_imms::imm12::Imm12;
-use rv_imms::imm20::Imm20;
-use rv_ops::compare::IntegerCompare;
+use rv_imms::{Imm12, Imm20};
+use rv_ops::IntegerCompare;
 
 fn x(number: u8) -> Reg
     requires { number < 32 }

@@ -7,7 +7,7 @@ ghost use Rattle.rv_asm.specs.Outcomes.{status_of};
 
 use rv_asm::outcome::Outcome;
 use rv_asm::run::run;
-use rv_stream::standard::{StdSink, StdSource};
+use rv_stream::{StdSink, StdSource};
 use std::env;
 use std::io::{self, ErrorKind};
 use std::process::ExitCode;

@@ -1,9 +1,9 @@
 //! The names of registers: those of the psABI's "Register Convention", and a number for a vector or a virtual register.
 
 ghost use Rattle.std.specs.Prelude.{◌≡◌, ◌<◌, Some, IfOk, string_bytes};
-ghost use Rattle.rv_base.specs.Names.{int_names, float_names, name_at, name_of};
+ghost use Rattle.rv_base.specs.RegNames.{int_names, float_names, name_at, name_of};
 
-use crate::memory::OutOfMemory;
+use crate::out_of_memory::OutOfMemory;
 use crate::regs::{Reg, RegClass};
 use std::alloc::Global;
 use std::fmt;
