@@ -13,7 +13,6 @@ use rv_base::memory::OutOfMemory;
 use rv_inst::code::{Code, LabelPlace, LineSpan};
 use std::alloc::Global;
 
-#[inline(always)]
 fn put(out: &mut Vec<u8>, text: &[u8]) -> Result<(), OutOfMemory>
     ensures { OnOk result (out.new.items ≡ out.old.items ++ text.now) }
 {
@@ -28,8 +27,7 @@ fn put_number(out: &mut Vec<u8>, n: u64) -> Result<(), OutOfMemory>
     put(out, buffer.format(n).as_bytes())
 }
 
-// A text, and a number after it. Inlined, so that the texts' lengths are known.
-#[inline(always)]
+// A text, and a number after it.
 fn put_numbered(out: &mut Vec<u8>, text: &[u8], n: u64) -> Result<(), OutOfMemory>
     ensures { OnOk result (out.new.items ≡ out.old.items ++ text.now ++ decimal n) }
 {
