@@ -1,4 +1,4 @@
-//! Names by a table of slots: a word's slot holds the index of the one name that it may be.
+//! Names by a table of slots: a word's slot holds the index of the one name that it may be. `bench/slots` makes tables.
 
 ghost use Rattle.std.specs.Prelude.{◌≡◌, ◌<◌, ◌/◌, ◌^◌, slice_get, slice_index};
 ghost use Rattle.rv_listing.specs.Slots.{hash, slot, candidate};
