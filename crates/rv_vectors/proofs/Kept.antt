@@ -128,7 +128,7 @@ module _ {L : Type 0} {fields : L → List ℕ} {has_veneer : L → Bool} {forwa
     named = λ j u h. ⊎_elim (λ a. inl a) (λ s. inr (ap (λ p. is_some (p u.label.number)) ep ∙ s)) (k.named j u (ap (λ us. slice_get us j) (sym eu) ∙ h));
   }
 
-  -- the windows with those of a use of one byte, whose bytes are put behind it
+  -- the windows with those of a use of one byte, whose bytes are put after it
   pub windows_one : (b new : MachBuffer L) → AreWindows fields (bytes_of b) (uses_of b) (veneers_of b) → IsSound has_veneer forward backward veneer b → ((kind : L) → has_veneer kind ≡ true → IsVeneer fields forward backward has_veneer (veneer kind)) →
       (u : Use L) (rest : List ℕ) → u.offset ≡ length (bytes_of b) → fields u.kind ≡ 255 ∷ [] → bytes_of new ≡ bytes_of b ++ 0 ∷ rest → uses_of new ≡ uses_of b ++ u ∷ [] → veneers_of new ≡ veneers_of b → AreWindows fields (bytes_of new) (uses_of new) (veneers_of new)
   windows_one b new w s law u rest at one eb eu ev =
@@ -235,7 +235,7 @@ module _ {L : Type 0} {fields : L → List ℕ} {has_veneer : L → Bool} {forwa
         only = λ j v h e. ⊎_elim (λ a. absurd (unnamed j v a e)) (λ c. c.0) (last_or_before (uses_of b) u j v (ap (λ us. slice_get us j) (sym eu) ∙ h));
       }
 
-  -- and behind the island
+  -- and after the island
   pub kept_island : {labels : ℕ} {b : MachBuffer L} (mid new : MachBuffer L) {round : MachLabel} → IsKept fields has_veneer forward backward veneer labels b → (u : Use L) → has_veneer u.kind ≡ true → u.label ≡ round → uses_of mid ≡ uses_of b ++ u ∷ [] → place_of mid ≡ place_of b → place_of b round.number ≡ None →
       IsSound has_veneer forward backward veneer new → AreWindows fields (bytes_of new) (uses_of new) (veneers_of new) → Islanded has_veneer forward backward mid round new → IsKept fields has_veneer forward backward veneer labels new
   kept_island {labels} {b} mid new {round} k u supported el eu ep none sound windows i = record {

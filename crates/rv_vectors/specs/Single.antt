@@ -1,7 +1,7 @@
 -- A buffer of a single instruction, as the tests have it.
 use Rattle.std.specs.Prelude.{◌≡◌, ℕ, ◌≤◌, Bool, true, ◌&&◌, ◌==◌, [], length, Some, slice_get, is_some}
 use Rattle.rv_inst.specs.declared.inst.Inst.{Inst}
-use Rattle.rv_inst.specs.declared.inst.Inst.TheVariants.{Jal, CondBr}
+use Rattle.rv_inst.specs.declared.inst.Inst.TheVariants.{Nop0, Nop4, EBreak, SequencePoint, Args, Rets, DummyUse, EmitIsland, Lui, Auipc, AluRRR, AluRRImm12, Mov, MovFromPReg, Ret, Jal, CondBr, Jalr}
 use Rattle.rv_inst.specs.declared.inst.CondBrTarget.{CondBrTarget}
 use Rattle.rv_inst.specs.declared.inst.CondBrTarget.TheVariants.{Label, Fallthrough}
 use Rattle.rv_inst.specs.declared.label_use.LabelUse.{LabelUse}
@@ -20,7 +20,22 @@ is_first Fallthrough = true
 abbrev pub names_first : Inst → Bool
 names_first (Jal label) = label.number == 0
 names_first (CondBr taken not_taken kind) = is_first taken && is_first not_taken
-names_first _ = true
+names_first Nop0 = true
+names_first Nop4 = true
+names_first EBreak = true
+names_first SequencePoint = true
+names_first (Args pairs) = true
+names_first (Rets pairs) = true
+names_first (DummyUse reg) = true
+names_first (EmitIsland needed_space) = true
+names_first (Lui rd imm) = true
+names_first (Auipc rd imm) = true
+names_first (AluRRR op rd rs1 rs2) = true
+names_first (AluRRImm12 op rd rs imm12) = true
+names_first (Mov rd rm ty) = true
+names_first (MovFromPReg rd rm) = true
+names_first Ret = true
+names_first (Jalr rd base offset) = true
 
 -- a buffer in which the label 0 is bound, and nothing else was done
 pub record IsStart (b : Buffer) : Type 0 where

@@ -7,6 +7,7 @@ use mach_buffer::finish::Finished;
 use rv_base::{MachInstLabelUse, MachLabel, OutOfMemory, Reloc};
 use std::alloc::Global;
 use std::process::Abort;
+use std::test::Fail;
 
 /// A kind of use.
 #[derive(Clone, Copy, Debug, PartialEq, Eq)]
@@ -199,7 +200,7 @@ fn labels_are_bound_at_the_end(rt: HostRuntime) -> Result<(), OutOfMemory> {
     Ok(())
 }
 
-/// What a buffer answers to branches that it is told of.
+/// What a buffer answers to branches that are reported to it.
 fn told_of_branches(buffer: &mut MachBuffer<Toy>) -> [Result<(), OutOfMemory>; 2] {
     let label = MachLabel::from_u32(5);
     [
@@ -281,7 +282,7 @@ fn make_way<L: MachInstLabelUse>(
     kind: L,
     distance: u32,
     islands: &mut Vec<u32>,
-) -> Result<(), OutOfMemory>
+) -> Result<(), Fail>
     requires kind { IsOneByte L.fields L.has_veneer L.forward kind }
     requires kept { IsKept L.fields L.has_veneer L.forward L.backward L.veneer 4 buffer.old }
     ensures kept { OnOk result (IsKept L.fields L.has_veneer L.forward L.backward L.veneer 4 buffer.new) }
@@ -289,7 +290,7 @@ fn make_way<L: MachInstLabelUse>(
     ensures room { OnOk result (length (bytes_of buffer.new) + distance + 10 < 2147479552) }
 {
     if !buffer.has_room(distance as u64) {
-        return Err(OutOfMemory);
+        return Err(Fail::new("no room"));
     }
     if !buffer.island_needed(distance) {
         return Ok(());
@@ -305,13 +306,13 @@ fn fill<L: MachInstLabelUse>(
     kind: L,
     count: u32,
     islands: &mut Vec<u32>,
-) -> Result<(), OutOfMemory>
+) -> Result<(), Fail>
     requires kind { IsOneByte L.fields L.has_veneer L.forward kind }
     requires kept { IsKept L.fields L.has_veneer L.forward L.backward L.veneer 4 buffer.old }
     ensures kept { OnOk result (IsKept L.fields L.has_veneer L.forward L.backward L.veneer 4 buffer.new) }
 {
     if count > 250 || count % 2 != 0 {
-        return Err(OutOfMemory);
+        return Err(Fail::new("an odd count of filler bytes, or more than 250"));
     }
     make_way(buffer, kind, count, islands)?;
     let bytes = [0x44; 250];
@@ -325,13 +326,13 @@ fn put_use<L: MachInstLabelUse>(
     kind: L,
     label: u32,
     islands: &mut Vec<u32>,
-) -> Result<(), OutOfMemory>
+) -> Result<(), Fail>
     requires kind { IsOneByte L.fields L.has_veneer L.forward kind }
     requires kept { IsKept L.fields L.has_veneer L.forward L.backward L.veneer 4 buffer.old }
     ensures kept { OnOk result (IsKept L.fields L.has_veneer L.forward L.backward L.veneer 4 buffer.new) }
 {
     if label >= 4 {
-        return Err(OutOfMemory);
+        return Err(Fail::new("none of the four labels"));
     }
     make_way(buffer, kind, 2, islands)?;
     let at = buffer.cur_offset();
@@ -362,7 +363,7 @@ fn put_item<L: MachInstLabelUse>(
     kind: L,
     item: Item,
     islands: &mut Vec<u32>,
-) -> Result<(), OutOfMemory>
+) -> Result<(), Fail>
     requires kind { IsOneByte L.fields L.has_veneer L.forward kind }
     requires kept { IsKept L.fields L.has_veneer L.forward L.backward L.veneer 4 buffer.old }
     ensures kept { OnOk result (IsKept L.fields L.has_veneer L.forward L.backward L.veneer 4 buffer.new) }
@@ -372,10 +373,11 @@ fn put_item<L: MachInstLabelUse>(
         Item::Use(label) => put_use(buffer, kind, label, islands),
         Item::Bind(label) => {
             if label >= 4 {
-                return Err(OutOfMemory);
+                return Err(Fail::new("none of the four labels"));
             }
             make_way(buffer, kind, 0, islands)?;
-            bind(buffer, label)
+            bind(buffer, label)?;
+            Ok(())
         }
     }
 }
@@ -394,14 +396,15 @@ fn bind_each<L: MachInstLabelUse>(buffer: &mut MachBuffer<L>) -> Result<(), OutO
 }
 
 /// Binds each label that is not bound, and finishes.
-fn end<L: MachInstLabelUse>(mut buffer: MachBuffer<L>) -> Result<Finished, OutOfMemory>
+fn end<L: MachInstLabelUse>(mut buffer: MachBuffer<L>) -> Result<Finished, Fail>
     requires kept { IsKept L.fields L.has_veneer L.forward L.backward L.veneer 4 buffer }
 {
     bind_each(&mut buffer)?;
     if !buffer.has_room(0) {
-        return Err(OutOfMemory);
+        return Err(Fail::new("no room"));
     }
-    buffer.finish(&[])
+    let finished = buffer.finish(&[])?;
+    Ok(finished)
 }
 
 /// An empty buffer.
@@ -417,7 +420,7 @@ fn assemble<L: MachInstLabelUse>(
     kind: L,
     items: &[Item],
     islands: &mut Vec<u32>,
-) -> Result<Finished, OutOfMemory>
+) -> Result<Finished, Fail>
     requires kind { IsOneByte L.fields L.has_veneer L.forward kind }
 {
     let mut buffer = empty::<L>(alloc);
@@ -491,8 +494,8 @@ const STANDS: [Stand; 10] = [
     },
 ];
 
-/// Stops unless the islands of a row stand where it tells, and its code is as long.
-fn assert_stand(rt: &impl Abort, alloc: Global, row: &Stand) -> Result<(), OutOfMemory> {
+/// Stops unless the islands of a row stand at its offsets, and its code is as long.
+fn assert_stand(rt: &impl Abort, alloc: Global, row: &Stand) -> Result<(), Fail> {
     let mut islands = Vec::new(alloc);
     let code = assemble(alloc, Toy::Short, row.items, &mut islands)?;
     assert_eq!(rt; islands.as_slice(), row.at);
@@ -501,7 +504,7 @@ fn assert_stand(rt: &impl Abort, alloc: Global, row: &Stand) -> Result<(), OutOf
 }
 
 #[test]
-fn islands_stand_by_the_rule(rt: HostRuntime) -> Result<(), OutOfMemory> {
+fn islands_stand_by_the_rule(rt: HostRuntime) -> Result<(), Fail> {
     for row in &STANDS {
         assert_stand(&rt, rt.alloc(), row)?;
     }
@@ -548,7 +551,7 @@ const AIMS: [Aim; 4] = [
 ];
 
 /// Stops unless the code of a row has its bytes.
-fn assert_aim(rt: &impl Abort, alloc: Global, row: &Aim) -> Result<(), OutOfMemory> {
+fn assert_aim(rt: &impl Abort, alloc: Global, row: &Aim) -> Result<(), Fail> {
     let mut islands = Vec::new(alloc);
     let code = assemble(alloc, Toy::Short, row.items, &mut islands)?;
     let rest = code.bytes.as_slice().get(row.at..).unwrap_or(&[]);
@@ -558,7 +561,7 @@ fn assert_aim(rt: &impl Abort, alloc: Global, row: &Aim) -> Result<(), OutOfMemo
 }
 
 #[test]
-fn windows_aim_at_labels_and_veneers(rt: HostRuntime) -> Result<(), OutOfMemory> {
+fn windows_aim_at_labels_and_veneers(rt: HostRuntime) -> Result<(), Fail> {
     for row in &AIMS {
         assert_aim(&rt, rt.alloc(), row)?;
     }

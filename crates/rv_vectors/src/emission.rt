@@ -16,6 +16,7 @@ use rv_inst::label_use::LabelUse;
 use rv_ops::{AluOPRRI, AluOPRRR, IntegerCompare};
 use std::alloc::Global;
 use std::process::Abort;
+use std::test::Fail;
 
 /// A buffer in which the label 0 is bound.
 fn start(alloc: Global) -> Result<MachBuffer<LabelUse>, OutOfMemory>
@@ -26,7 +27,7 @@ fn start(alloc: Global) -> Result<MachBuffer<LabelUse>, OutOfMemory>
     Ok(buffer)
 }
 
-/// Whether a target is the label 0, where it is a label.
+/// Returns whether a target is the label 0, where it is a label.
 fn is_first(target: CondBrTarget) -> bool
     ensures { result ≡ is_first target }
 {
@@ -36,7 +37,7 @@ fn is_first(target: CondBrTarget) -> bool
     }
 }
 
-/// Whether an instruction names no label but 0.
+/// Returns whether an instruction names no label but 0.
 fn names_first(inst: &Inst) -> bool
     ensures { result ≡ names_first inst.now }
 {
@@ -47,11 +48,26 @@ fn names_first(inst: &Inst) -> bool
             not_taken,
             kind: _,
         } => is_first(*taken) && is_first(*not_taken),
-        _ => true,
+        Inst::Nop0
+        | Inst::Nop4
+        | Inst::EBreak
+        | Inst::SequencePoint
+        | Inst::Args { .. }
+        | Inst::Rets { .. }
+        | Inst::DummyUse { .. }
+        | Inst::EmitIsland { .. }
+        | Inst::Lui { .. }
+        | Inst::Auipc { .. }
+        | Inst::AluRRR { .. }
+        | Inst::AluRRImm12 { .. }
+        | Inst::Mov { .. }
+        | Inst::MovFromPReg { .. }
+        | Inst::Ret
+        | Inst::Jalr { .. } => true,
     }
 }
 
-/// Whether an instruction asks for an island.
+/// Returns whether an instruction asks for an island.
 fn asks_island(inst: &Inst) -> bool
     ensures { result ≡ is_some (island_space inst.now) }
 {
@@ -59,39 +75,39 @@ fn asks_island(inst: &Inst) -> bool
 }
 
 /// A buffer of one instruction, which keeps the rules and asks for no island.
-fn buffer_of(alloc: Global, inst: &Inst) -> Result<MachBuffer<LabelUse>, OutOfMemory>
+fn buffer_of(alloc: Global, inst: &Inst) -> Result<MachBuffer<LabelUse>, Fail>
     ensures { IfOk result (λ b. HoldsOne inst.now b) }
 {
     let info = EmitInfo::new(IsaFlags::none());
     let mut state = EmitState::new(FrameLayout::none(alloc));
     if asks_island(inst) {
-        return Err(OutOfMemory);
+        return Err(Fail::new("the instruction asks for an island"));
     }
     if inst
         .check(info.isa_flags, state.frame_layout(), &[])
         .is_some()
     {
-        return Err(OutOfMemory);
+        return Err(Fail::new("the instruction breaks a rule"));
     }
     let mut buffer = start(alloc)?;
     match inst.emit(alloc, &mut buffer, &info, &mut state) {
         Ok(()) => Ok(buffer),
-        Err(_) => Err(OutOfMemory),
+        Err(error) => Err(Fail::new(error)),
     }
 }
 
 /// The code of an instruction whose labels are where it starts.
-fn code_of(alloc: Global, inst: &Inst) -> Result<List<u8>, OutOfMemory> {
+fn code_of(alloc: Global, inst: &Inst) -> Result<List<u8>, Fail> {
     if !names_first(inst) {
-        return Err(OutOfMemory);
+        return Err(Fail::new("the instruction names a label but 0"));
     }
     let buffer = buffer_of(alloc, inst)?;
     let code = buffer.finish(&[])?;
     Ok(code.bytes)
 }
 
-/// Whether an island is put behind an instruction and before so many bytes, and where it ends.
-fn room_of(alloc: Global, inst: &Inst, distance: u32) -> Result<(bool, u32), OutOfMemory> {
+/// Whether an island is emitted after an instruction, before this many bytes, and the offset after it.
+fn room_of(alloc: Global, inst: &Inst, distance: u32) -> Result<(bool, u32), Fail> {
     let mut buffer = buffer_of(alloc, inst)?;
     let made = make_room(&mut buffer, distance)?;
     Ok((made, buffer.cur_offset()))
@@ -111,19 +127,14 @@ fn branch(taken: CondBrTarget, not_taken: CondBrTarget) -> Inst {
 }
 
 /// Stops unless these are the bytes of an instruction.
-fn assert_code(
-    rt: &impl Abort,
-    alloc: Global,
-    inst: &Inst,
-    bytes: &[u8],
-) -> Result<(), OutOfMemory> {
+fn assert_code(rt: &impl Abort, alloc: Global, inst: &Inst, bytes: &[u8]) -> Result<(), Fail> {
     let code = code_of(alloc, inst)?;
     assert_eq!(rt; code.as_slice(), bytes);
     Ok(())
 }
 
 #[test]
-fn plain_words_are_the_manuals(rt: HostRuntime) -> Result<(), OutOfMemory> {
+fn words_without_fields_are_the_manuals(rt: HostRuntime) -> Result<(), Fail> {
     let alloc = rt.alloc();
     assert_code(&rt, alloc, &Inst::Nop0, &[])?;
     assert_code(&rt, alloc, &Inst::Nop4, &[0x13, 0, 0, 0])?;
@@ -133,7 +144,7 @@ fn plain_words_are_the_manuals(rt: HostRuntime) -> Result<(), OutOfMemory> {
 }
 
 #[test]
-fn words_of_upper_numbers_are_the_manuals(rt: HostRuntime) -> Result<(), OutOfMemory> {
+fn words_of_upper_immediates_are_the_manuals(rt: HostRuntime) -> Result<(), Fail> {
     let rd = writable_a0();
     let lui = Inst::Lui {
         rd,
@@ -148,7 +159,7 @@ fn words_of_upper_numbers_are_the_manuals(rt: HostRuntime) -> Result<(), OutOfMe
 }
 
 #[test]
-fn words_of_sums_are_the_manuals(rt: HostRuntime) -> Result<(), OutOfMemory> {
+fn words_of_sums_are_the_manuals(rt: HostRuntime) -> Result<(), Fail> {
     let rd = writable_a0();
     let sub = Inst::AluRRR {
         alu_op: AluOPRRR::Sub,
@@ -167,7 +178,7 @@ fn words_of_sums_are_the_manuals(rt: HostRuntime) -> Result<(), OutOfMemory> {
 }
 
 #[test]
-fn words_of_moves_are_the_manuals(rt: HostRuntime) -> Result<(), OutOfMemory> {
+fn words_of_moves_are_the_manuals(rt: HostRuntime) -> Result<(), Fail> {
     let rd = writable_a0();
     let ty = IrType::I64;
     let from_a1 = Inst::Mov { rd, rm: a1(), ty };
@@ -179,7 +190,7 @@ fn words_of_moves_are_the_manuals(rt: HostRuntime) -> Result<(), OutOfMemory> {
 }
 
 #[test]
-fn words_of_jumps_are_the_manuals(rt: HostRuntime) -> Result<(), OutOfMemory> {
+fn words_of_jumps_are_the_manuals(rt: HostRuntime) -> Result<(), Fail> {
     let jalr = Inst::Jalr {
         rd: writable_link_reg(),
         base: a0(),
@@ -193,7 +204,7 @@ fn words_of_jumps_are_the_manuals(rt: HostRuntime) -> Result<(), OutOfMemory> {
 }
 
 #[test]
-fn words_of_branches_are_the_manuals(rt: HostRuntime) -> Result<(), OutOfMemory> {
+fn words_of_branches_are_the_manuals(rt: HostRuntime) -> Result<(), Fail> {
     let here = CondBrTarget::Label(MachLabel::from_u32(0));
     let beq = branch(here, CondBrTarget::Fallthrough);
     assert_code(&rt, rt.alloc(), &beq, &[0x63, 0, 0xb5, 0])?;
@@ -203,7 +214,7 @@ fn words_of_branches_are_the_manuals(rt: HostRuntime) -> Result<(), OutOfMemory>
 }
 
 #[test]
-fn islands_are_made_by_the_rule(rt: HostRuntime) -> Result<(), OutOfMemory> {
+fn islands_are_made_by_the_rule(rt: HostRuntime) -> Result<(), Fail> {
     // A branch that waits at 0 reaches 4094, and 4094 - 14 - 8 * 3 = 4056. Of two uses the jump reaches farther.
     let far = CondBrTarget::Label(MachLabel::from_u32(5));
     let beq = branch(far, CondBrTarget::Fallthrough);
@@ -218,16 +229,4 @@ fn islands_are_made_by_the_rule(rt: HostRuntime) -> Result<(), OutOfMemory> {
         assert_eq!(rt; room_of(rt.alloc(), inst, distance)?, (made, end));
     }
     Ok(())
-}
-
-#[test]
-fn a_new_block_keeps_the_frame(rt: HostRuntime) {
-    let frame = FrameLayout {
-        clobber_size: 16,
-        ..FrameLayout::none(rt.alloc())
-    };
-    let mut state = EmitState::new(frame);
-    state.on_new_block();
-    assert_eq!(rt; state.frame_layout().clobber_size, 16);
-    assert_eq!(rt; state.vstate(), EmitVState::Unknown);
 }

@@ -133,7 +133,7 @@ fn veneers_are_made(rt: HostRuntime) {
     assert_eq!(rt; (place, kind), (3976, LabelUse::PCRel32));
 }
 
-/// Stops unless a target has this label, where one is told.
+/// Stops unless a target has this label, where one is given.
 fn assert_label(rt: &impl Abort, target: CondBrTarget, given: Option<MachLabel>) {
     assert_eq!(rt; target.as_label(), given);
     assert_eq!(rt; target.is_fallthrouh(), given.is_none(), "{target}");

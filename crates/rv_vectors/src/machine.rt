@@ -18,8 +18,8 @@ const PAIRS: [(u64, u64); 8] = [
     (0xffffffff80000000, 0xffffffffffffffff),
 ];
 
-/// The mnemonic and word of `op a2, a0, a1` with what it gives for each of the pairs; and of `op a2, a0` and a number
-/// with sources, each with what it gives. All in hex.
+/// The mnemonic and word of `op a2, a0, a1` with what it gives for each of the pairs; and of `op a2, a0` and an
+/// immediate with sources, each with what it gives. All in hex.
 const ANSWERS: &str = "\
 add 00b50633 7fffffffffffffff ffffffffffffffff 800000000000003e 180000020 123456789abcdf10 8000000000000000 8000000000000000 ffffffff7fffffff
 sub 40b50633 8000000000000001 ffffffffffffffff 7fffffffffffffc0 17fffffe2 123456789abcded0 8000000000000000 8000000000000002 ffffffff80000001
@@ -151,7 +151,7 @@ orc.b 28755613 0:0 8000000000000000:ff00000000000000 ff0080010080f1:ff00ffff00ff
 rev8 6b855613 0:0 8000000000000000:80 ff0080010080f1:f18000018000ff00
 ";
 
-/// Does one row, and answers what it leaves in a2.
+/// Does one row, and returns its step and what it leaves in a2.
 fn answer(machine: &mut IntMachine, word: u64, x: u64, y: u64) -> Result<(Step, u64), OutOfMemory> {
     machine.load_image(0x1000, &word.to_le_bytes())?;
     machine.set_pc(0x1000);
@@ -193,7 +193,7 @@ fn sources(at: usize, column: &str) -> (u64, u64, u64) {
     }
 }
 
-/// Does the rows of a line of `ANSWERS`, and answers how many they are.
+/// Does the rows of a line of `ANSWERS`, and returns how many there are.
 fn do_line(rt: &impl Abort, machine: &mut IntMachine, line: &str) -> Result<u32, OutOfMemory> {
     let mut columns = line.split(' ');
     let (Some(name), Some(word)) = (columns.next(), columns.next()) else {
@@ -236,7 +236,7 @@ fn looping(alloc: Global) -> Result<IntMachine, OutOfMemory> {
     Ok(machine)
 }
 
-/// What the loop leaves behind five steps and three more: how many are done, pc, a0, zero, and how many more are done.
+/// The loop after five steps and three more: how many are done, pc, a0, zero, and how many more are done.
 fn ran(alloc: Global) -> Result<([u64; 5], Step), OutOfMemory> {
     let mut machine = looping(alloc)?;
     let done = machine.run(5)?;
@@ -260,7 +260,7 @@ fn odd_step(alloc: Global) -> Result<Step, OutOfMemory> {
     machine.step()
 }
 
-/// The step at `ebreak`, which stands round the end of the memory, and its last two bytes.
+/// The step at `ebreak`, which wraps round the end of the memory, and its last two bytes.
 fn break_step(alloc: Global) -> Result<(Step, [u8; 2]), OutOfMemory> {
     let mut machine = looping(alloc)?;
     machine.load_image(0xffff_ffff_ffff_fffe, &[0x73, 0x00, 0x10, 0x00])?;

@@ -1,6 +1,6 @@
 //! Whole calls of the program, with their status and their text.
 
-use crate::reported::{assert_reported, reported, told};
+use crate::reported::{assert_reported, reported, run_with};
 use rv_asm::run::run;
 use rv_stream::{MemSink, MemSource, SureSink, SureSource};
 use std::alloc::{AllocError, Global};
@@ -18,7 +18,7 @@ struct Call {
     text: &'static str,
 }
 
-const CALLS: [Call; 18] = [
+const CALLS: [Call; 19] = [
     Call {
         listing: "",
         status: 0,
@@ -33,6 +33,12 @@ const CALLS: [Call; 18] = [
         listing: COUNTDOWN,
         status: 0,
         text: REPORT,
+    },
+    // A line that leads to its own start takes at least one step, so it has bytes.
+    Call {
+        listing: "Bind L0\nJal L0\n",
+        status: 0,
+        text: "code 4\n00000000 6f000000\nline 0 0 0\nline 1 0 4\nlabel L0 0\nend 4\n",
     },
     Call {
         listing: "AluRRImm12 addi a0 a0",
@@ -201,7 +207,7 @@ fn each_write_may_fail(rt: HostRuntime) -> Result<(), AllocError> {
 fn words_are_refused(rt: HostRuntime) -> Result<(), AllocError> {
     let mut words = Vec::new(rt.alloc());
     words.push(String::from_str(rt.alloc(), "--bad")?)?;
-    let (status, report) = told(rt.alloc(), &words, b"Ret\n");
+    let (status, report) = run_with(rt.alloc(), &words, b"Ret\n");
     assert_eq!(rt; status, 2);
     assert_eq!(rt; report.bytes(), b"rvemit: usage\n".as_slice());
     Ok(())

@@ -1,4 +1,4 @@
-//! What the program tells of a listing.
+//! The status and the text of a call of the program over a listing.
 
 use rv_asm::run::run;
 use rv_stream::{SureSink, SureSource};
@@ -6,7 +6,7 @@ use std::alloc::Global;
 use std::process::Abort;
 
 /// The status of a call with these words over a listing, and the sink that took its text.
-pub fn told(alloc: Global, words: &[String], listing: &[u8]) -> (u8, SureSink) {
+pub fn run_with(alloc: Global, words: &[String], listing: &[u8]) -> (u8, SureSink) {
     let mut sink = SureSink::new(alloc);
     let outcome = run(alloc, words, &mut SureSource::new(listing), &mut sink);
     (outcome.status(), sink)
@@ -14,7 +14,7 @@ pub fn told(alloc: Global, words: &[String], listing: &[u8]) -> (u8, SureSink) {
 
 /// The status of a call without words over a listing, and the sink that took its text.
 pub fn reported(alloc: Global, listing: &[u8]) -> (u8, SureSink) {
-    told(alloc, &[], listing)
+    run_with(alloc, &[], listing)
 }
 
 /// Stops unless a call without words over a listing ends with this status and writes this text.

@@ -12,6 +12,7 @@ use rv_ops::{AluOPRRI, AluOPRRR, IntegerCompare};
 use std::alloc::{AllocError, Global};
 use std::process::Abort;
 use std::test::Fail;
+use thiserror::Error;
 
 const BASE: u64 = 0x1000;
 
@@ -59,7 +60,7 @@ fn started(alloc: Global, code: &[u8], registers: &Registers) -> Result<IntMachi
     Ok(machine)
 }
 
-/// Whether each step is done until the machine is back at its caller.
+/// Returns whether each step is done until the machine is back at its caller.
 fn returns(machine: &mut IntMachine) -> Result<bool, OutOfMemory> {
     for _ in 0..10000 {
         if machine.pc() == CALLER {
@@ -101,7 +102,7 @@ fn the_countdown_has_its_bytes(rt: HostRuntime) -> Result<(), Fail> {
     Ok(())
 }
 
-/// What the countdown from 2 leaves behind five steps: how many are done, pc and a0.
+/// The countdown from 2, after five steps: how many are done, pc and a0.
 fn counted(alloc: Global) -> Result<[u64; 3], OutOfMemory> {
     let mut registers = Registers { values: [0; 32] };
     registers.write(link_reg(), CALLER + 1);
@@ -251,6 +252,18 @@ struct Registers {
     values: [u64; 32],
 }
 
+/// Where an instruction leads.
+enum Exit {
+    Next,
+    To(MachLabel),
+    Return,
+}
+
+/// A line of a kind that the plain interpreter doesn't know.
+#[derive(Debug, Drop, Error)]
+#[error("no instruction that the interpreter knows")]
+struct Unknown;
+
 fn number(reg: Reg) -> usize
     ensures { result < 32 }
 {
@@ -288,14 +301,15 @@ impl Registers {
         }
     }
 
-    /// What an instruction does; the label that it goes to, where it goes to one, and whether it returns.
-    fn act(&mut self, inst: &Inst) -> (Option<MachLabel>, bool) {
+    /// Does an instruction, and returns where it leads.
+    fn act(&mut self, inst: &Inst) -> Result<Exit, Unknown> {
         match inst {
-            Inst::Ret => (None, true),
+            Inst::Nop4 => Ok(Exit::Next),
+            Inst::Ret => Ok(Exit::Return),
             Inst::Lui { rd, imm } => {
                 let value = i64::from(imm.as_i32()) * 4096;
                 self.write(rd.to_reg(), value.cast_unsigned());
-                (None, false)
+                Ok(Exit::Next)
             }
             Inst::AluRRR {
                 alu_op: AluOPRRR::Add,
@@ -304,7 +318,7 @@ impl Registers {
                 rs2,
             } => {
                 self.write(rd.to_reg(), self.read(*rs1).wrapping_add(self.read(*rs2)));
-                (None, false)
+                Ok(Exit::Next)
             }
             Inst::AluRRImm12 {
                 alu_op: AluOPRRI::Addi,
@@ -314,9 +328,9 @@ impl Registers {
             } => {
                 let value = i64::from(imm12.as_i16()).cast_unsigned();
                 self.write(rd.to_reg(), self.read(*rs).wrapping_add(value));
-                (None, false)
+                Ok(Exit::Next)
             }
-            Inst::Jal { label } => (Some(*label), false),
+            Inst::Jal { label } => Ok(Exit::To(*label)),
             Inst::CondBr {
                 taken,
                 not_taken,
@@ -328,11 +342,11 @@ impl Registers {
                     *not_taken
                 };
                 match target {
-                    CondBrTarget::Label(label) => (Some(label), false),
-                    CondBrTarget::Fallthrough => (None, false),
+                    CondBrTarget::Label(label) => Ok(Exit::To(label)),
+                    CondBrTarget::Fallthrough => Ok(Exit::Next),
                 }
             }
-            _ => (None, false),
+            _ => Err(Unknown),
         }
     }
 }
@@ -348,26 +362,23 @@ fn place(lines: &[Line], label: MachLabel) -> usize {
     lines.len()
 }
 
-/// Runs the listing line by line; whether it returned.
-fn interpret(lines: &[Line], registers: &mut Registers) -> bool {
+/// Runs the listing line by line, and returns whether it returned.
+fn interpret(lines: &[Line], registers: &mut Registers) -> Result<bool, Unknown> {
     let mut at = 0;
     for _ in 0..10000 {
         if at >= lines.len() {
-            return false;
+            return Ok(false);
         }
-        let mut next = at + 1;
-        if let Line::Inst(inst) = &lines[at] {
-            let (target, returned) = registers.act(inst);
-            if returned {
-                return true;
-            }
-            if let Some(label) = target {
-                next = place(lines, label);
-            }
-        }
-        at = next;
+        at = match &lines[at] {
+            Line::Bind(_) => at + 1,
+            Line::Inst(inst) => match registers.act(inst)? {
+                Exit::Next => at + 1,
+                Exit::To(label) => place(lines, label),
+                Exit::Return => return Ok(true),
+            },
+        };
     }
-    false
+    Ok(false)
 }
 
 /// Stops unless the machine has the values of the plain interpreter in x1 to x29.
@@ -384,7 +395,7 @@ fn assert_runs(rt: &impl Abort, alloc: Global, seed: u64, gap: usize) -> Result<
     let code = code_of(alloc, &lines)?;
     let mut registers = draws.registers();
     let mut machine = started(alloc, code.as_slice(), &registers)?;
-    assert!(rt; interpret(&lines, &mut registers), "at {seed}");
+    assert!(rt; interpret(&lines, &mut registers)?, "at {seed}");
     assert!(rt; returns(&mut machine)?, "at {seed}");
     assert_registers(rt, &machine, &registers, seed);
     Ok(())

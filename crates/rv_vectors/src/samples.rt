@@ -1,4 +1,4 @@
-//! Listings with the reports of another program: each report is compared byte for byte.
+//! Listings with the reports of a harness with the Rust's own emission code: each report is compared byte for byte.
 
 mod islands;
 mod random;
@@ -80,7 +80,7 @@ fn samples(rt: HostRuntime) -> Result<(), AllocError> {
     Ok(())
 }
 
-/// The text of which `short` writes some lines in short.
+/// The whole text of one in which some rows stand for many lines.
 fn written_out(alloc: Global, short: &str) -> Result<String, AllocError> {
     let mut text = String::new(alloc);
     for row in short.lines() {
@@ -107,13 +107,13 @@ fn put_line(text: &mut String, line: &str) -> Result<(), AllocError> {
     text.push_str("\n")
 }
 
-/// A number, and what stands behind it.
+/// A number, and what comes after it.
 fn number(words: &str) -> (u32, &str) {
     let (word, rest) = words.split_once(' ').unwrap_or((words, ""));
     (word.parse().unwrap_or(0), rest)
 }
 
-/// `COUNT LINE`: so many copies of the line.
+/// `COUNT LINE`: this many copies of the line.
 fn put_copies(text: &mut String, words: &str) -> Result<(), AllocError> {
     let (count, line) = number(words);
     for _ in 0..count {
@@ -133,7 +133,7 @@ fn put_rows(text: &mut String, words: &str) -> Result<(), AllocError> {
     Ok(())
 }
 
-/// `FROM TO SHIFT`: lines of four bytes each, shifted by so many bytes.
+/// `FROM TO SHIFT`: lines of four bytes each, shifted by this many bytes.
 fn put_spans(text: &mut String, words: &str) -> Result<(), AllocError> {
     let (from, words) = number(words);
     let (to, words) = number(words);

@@ -1,424 +1,76 @@
-//! Random listings of the built lines, each with the report that a harness around the emission code of the Rust crate
-//! writes for it. A generator drew lines of every form from a seed; those that break a rule, or whose form is not
-//! built, were left out. Nothing here comes from this crate's own output.
+//! Random listings of the built forms of line, each with the report that a harness with the Rust's own emission code
+//! writes for it. The
+//! harness's listing generator (version of November 2026, SHA-256 bc79f6b7..) wrote 80 lines from the seed that each
+//! names. Left out were lines of forms that are not built, those with floating-point or vector registers, and those
+//! that break a rule (the harness's `--filter`). Nothing here comes from this project's own output.
 
-/// A listing.
+/// A listing of the generator, seed 1.
 pub const FIRST_LISTING: &str = "\
-AluRRImm12 clzw s1 s1 -2048
-CondBr slt s5 a0 L0 -
-Jalr ra s5 16
-AluRRR sgtu s1 s1 a2
-Nop4
-AluRRImm12 ctz a1 t0 -2048
-AluRRImm12 sltiu t2 t2 0
-AluRRR rem a3 a7 ra
-AluRRImm12 ctzw a1 a1 -2048
-AluRRImm12 bclri s2 s8 13
-AluRRImm12 srai s1 s1 24
-Rets a0:a0
-AluRRImm12 bexti a3 ra 39
-AluRRR ror ra t4 ra
-AluRRR sgt a1 a4 sp
-AluRRImm12 zext.h fp s1 -32
-AluRRR bclr a3 t1 a0
-Args -
-Auipc t1 -1
-Bind L1
-MovFromPReg s7 fp
-AluRRImm12 andi s4 s1 -2048
-AluRRR binv a5 a0 a5
-AluRRR orn s5 a5 s5
-AluRRR bext a0 tp s1
-SequencePoint
-AluRRR rem a0 t0 a0
-AluRRImm12 sext.b sp sp 255
-CondBr sgt ra zero L0 -
-Jal L0
-Bind L0
-AluRRImm12 bseti fp a1 13
-AluRRImm12 bclri a6 a6 37
-AluRRImm12 addi s3 s3 -1
-CondBr ule a0 zero L1 -
-AluRRR sraw a2 s8 zero
-CondBr slt a6 zero L2 -
-Jal L1
+AluRRR remw s1 s1 gp
 Bind L2
-CondBr slt a2 zero L0 L0
-CondBr ne a1 a0 L2 -
-AluRRR bset s1 a1 s1
-AluRRImm12 rori s4 s4 25
-Mov tp a2 i16
-CondBr uge a2 ra L1 -
+AluRRR czero.eqz a7 a2 a7
+Jalr zero s9 0
+CondBr sge a2 a1 L2 -
+AluRRR sra a1 s5 a1
+AluRRR srl tp s10 s1
+Bind L0
+MovFromPReg s2 fp
+AluRRImm12 andi fp s1 -32
+AluRRImm12 clz gp a5 -1
+AluRRImm12 sext.h s3 s3 0
+AluRRImm12 roriw a2 fp 9
+AluRRImm12 cpop s8 s8 32
+AluRRR bclr s8 s2 a3
+AluRRImm12 ctz fp fp 16
+Jalr ra a5 -32
+AluRRR sgt a3 a0 a3
+AluRRR sltu s6 fp s6
+Auipc s2 32
+AluRRImm12 sltiu a5 a1 -2048
+CondBr sgt fp a1 L0 -
 Jal L0
+AluRRImm12 andi t3 s11 0
+AluRRR addw s8 s8 a0
+CondBr ugt t1 a7 L2 L0
+Jal L0
+CondBr slt ra fp L1 -
+CondBr sgt fp zero L0 L1
+AluRRR bext a0 s9 a0
+AluRRR sgt t1 a6 s11
+AluRRImm12 sext.b a3 a3 -2048
+Nop0
+Jalr zero a2 0
+CondBr uge a2 gp L1 -
+AluRRImm12 slti s1 a1 255
+Jal L2
+CondBr ult a3 fp L1 -
+Jal L1
+Bind L1
 ";
 
 /// Its report.
 pub const FIRST_REPORT: &str = "\
-code 164
-00000000 9b94046063c2aa06e7800a01b3349600
-00000010 130000009395126093b30300b3e61802
-00000020 9b9515601319dc4893d4844193d6704a
-00000030 b3d01e60b325e1003bc40408b316a348
-00000040 17f3ffff930b040013fa0480b317f568
-00000050 b3ea57413355924833e5a20213114160
-00000060 634410006f0040001394d5281318584a
-00000070 9389f9ffe378a0fc3b560c4063440800
-00000080 6ff05ffce34206fe6ff01ffee39ca5fe
-00000090 b3949528135a9a6113020600e37416fa
-000000a0 6ff09ffc
+code 152
+00000000 bbe43402b358160f67800c00e35cb6fe
+00000010 b3d5ba4033529d001309040013f404fe
+00000020 93910760939959601b569460131c2c60
+00000030 331cd94813141460e78007feb3a6a600
+00000040 333b64011709020093b70580e3c685fc
+00000050 6ff09ffc13fe0d003b0cac00e3e468fa
+00000060 6ff09ffb6ff05ffb63c88002e34680fa
+00000070 6f00800233d5ac4833a30d0193964660
+00000080 67000600637a360093a4f50f6ff09ff7
+00000090 63e486006f004000
 line 0 0 4
-line 1 4 8
-line 2 8 12
-line 3 12 16
-line 4 16 20
-line 5 20 24
-line 6 24 28
-line 7 28 32
-line 8 32 36
-line 9 36 40
-line 10 40 44
-line 11 44 44
-line 12 44 48
-line 13 48 52
-line 14 52 56
-line 15 56 60
-line 16 60 64
-line 17 64 64
-line 18 64 68
-line 19 68 68
-line 20 68 72
-line 21 72 76
-line 22 76 80
-line 23 80 84
-line 24 84 88
-line 25 88 88
-line 26 88 92
-line 27 92 96
-line 28 96 100
-line 29 100 104
-line 30 104 104
-line 31 104 108
-line 32 108 112
-line 33 112 116
-line 34 116 120
-line 35 120 124
-line 36 124 128
-line 37 128 132
-line 38 132 132
-line 39 132 140
-line 40 140 144
-line 41 144 148
-line 42 148 152
-line 43 152 156
-line 44 156 160
-line 45 160 164
-label L1 68
-label L0 104
-label L2 132
-end 164
-";
-
-/// A listing.
-pub const SECOND_LISTING: &str = "\
-CondBr uge a3 a2 L1 L0
-Bind L0
-Lui s5 0
-AluRRR binv s7 tp s1
-EBreak
-AluRRImm12 ctzw s5 s5 129
-AluRRR add.uw a3 t0 a1
-AluRRImm12 sraiw a3 a3 15
-AluRRR mulhsu s7 t1 s7
-CondBr uge a0 zero L0 L0
-AluRRImm12 ctzw s10 s10 -1040
-Jal L1
-CondBr uge t2 zero L1 -
-Jal L0
-Bind L1
-CondBr eq sp s10 L0 -
-AluRRImm12 sltiu s11 s11 -32
-AluRRR bext fp t2 s5
-AluRRImm12 sext.h a1 a3 16
-AluRRImm12 addi s1 a2 0
-DummyUse s8
-AluRRR xor a0 a0 a6
-AluRRR sgtu s8 t3 s11
-Ret
-AluRRR sll s8 a2 zero
-CondBr ugt fp s7 L0 L0
-Jalr zero a2 0
-CondBr slt a7 a5 L0 -
-AluRRImm12 addi a3 a3 0
-AluRRR minu t2 t3 a0
-AluRRR sh2add.uw s7 s6 s7
-AluRRImm12 binvi a2 a2 46
-AluRRR divuw a3 a3 fp
-AluRRImm12 bclri a6 a6 42
-AluRRR rol s6 s3 s6
-AluRRImm12 bseti gp gp 6
-AluRRR add a2 a6 a2
-CondBr ult a0 a1 L2 -
-Jal L2
-Bind L2
-AluRRImm12 addi a1 a1 1
-AluRRImm12 sext.b s1 s1 0
-AluRRR sh3add s1 s4 a2
-CondBr slt sp s4 L1 -
-Mov a2 a7 i16
-AluRRImm12 sraiw ra ra 15
-CondBr slt t2 zero L1 L1
-Nop0
-";
-
-/// Its report.
-pub const SECOND_REPORT: &str = "\
-code 188
-00000000 63fec6026f004000b70a0000b31b9268
-00000010 730010009b9a1a60bb86b2089bd6f640
-00000020 b32b7303e37205fe6ff01ffe1b1d1d60
-00000030 6f00c00063f403006ff01ffde306a1fd
-00000040 93bd0dfe33d453499395566093040600
-00000050 3345050133bccd0167800000331c0600
-00000060 e3e48bfa6ff05ffa67000600e3cef8f8
-00000070 93860600b353ae0abb4b7b211316e66a
-00000080 bbd686021318a84a339b696193916128
-00000090 3306c8006364b5006f00400093851500
-000000a0 93944460b364ca20e34a41f913860800
-000000b0 9bd0f040e3c403f86ff05ff8
-line 0 0 8
-line 1 8 8
-line 2 8 12
-line 3 12 16
-line 4 16 20
-line 5 20 24
-line 6 24 28
-line 7 28 32
-line 8 32 36
-line 9 36 44
-line 10 44 48
-line 11 48 52
-line 12 52 56
-line 13 56 60
-line 14 60 60
-line 15 60 64
-line 16 64 68
-line 17 68 72
-line 18 72 76
-line 19 76 80
-line 20 80 80
-line 21 80 84
-line 22 84 88
-line 23 88 92
-line 24 92 96
-line 25 96 104
-line 26 104 108
-line 27 108 112
-line 28 112 116
-line 29 116 120
-line 30 120 124
-line 31 124 128
-line 32 128 132
-line 33 132 136
-line 34 136 140
-line 35 140 144
-line 36 144 148
-line 37 148 152
-line 38 152 156
-line 39 156 156
-line 40 156 160
-line 41 160 164
-line 42 164 168
-line 43 168 172
-line 44 172 176
-line 45 176 180
-line 46 180 188
-line 47 188 188
-label L0 8
-label L1 60
-label L2 156
-end 188
-";
-
-/// A listing.
-pub const THIRD_LISTING: &str = "\
-AluRRImm12 orc.b a1 a0 255
-MovFromPReg a3 fp
-AluRRR sltu a7 s1 a7
-AluRRR binv s3 s3 fp
-Jal L1
-Bind L1
-AluRRR mulh tp tp a1
-Jalr ra zero 31
-MovFromPReg sp sp
-CondBr sge s2 zero L0 L1
-CondBr ugt s1 zero L0 -
-Jal L0
-AluRRImm12 slli a0 a0 33
-AluRRR czero.eqz a3 fp a3
-AluRRR sraw s11 fp gp
-Bind L2
-AluRRR bset fp fp a5
-Nop0
-AluRRImm12 rev8 t1 t1 802
-AluRRImm12 sraiw a3 a3 18
-AluRRImm12 roriw a5 a3 11
-AluRRR sh2add t2 a0 t2
-AluRRR rolw s6 s6 a2
-EmitIsland 0
-AluRRR sllw t3 t3 fp
-AluRRImm12 ori a1 zero 31
-CondBr uge a1 zero L1 -
-AluRRR rolw a5 s5 a5
-CondBr slt s3 a4 L0 -
-Jal L2
-Bind L0
-CondBr ule s3 zero L1 L1
-Jal L0
-AluRRR addw s1 s9 s1
-AluRRR czero.nez a1 fp a1
-AluRRImm12 slli.uw s3 s3 54
-AluRRImm12 clzw a6 a6 -32
-CondBr ult t2 s1 L0 -
-AluRRImm12 addiw s2 t4 0
-CondBr uge fp zero L1 -
-AluRRR rol a3 a0 a3
-AluRRR subw a4 s9 a4
-Jal L0
-";
-
-/// Its report.
-pub const THIRD_REPORT: &str = "\
-code 156
-00000000 9355752893060400b3b81401b3998968
-00000010 6f0040003312b202e700f00163560904
-00000020 6ff05fff636290046f00000413151502
-00000030 b356d40ebb5d34403314f4281353836b
-00000040 9bd626419bd7b660b34375203b1bcb60
-00000050 3b1e8e009365f001e3fe05fabb97fa60
-00000060 63c4e9006ff05ffde37630fb6ff09ffa
-00000070 6ff09fffbb849c00b375b40e9b99690b
-00000080 1b180860e3e293fe1b890e00e37404f8
-00000090 b316d5603b87ec406ff01ffd
-line 0 0 4
-line 1 4 8
-line 2 8 12
-line 3 12 16
-line 4 16 20
-line 5 20 20
+line 1 4 4
+line 2 4 8
+line 3 8 12
+line 4 12 16
+line 5 16 20
 line 6 20 24
-line 7 24 28
-line 8 28 28
-line 9 28 36
-line 10 36 40
-line 11 40 44
-line 12 44 48
-line 13 48 52
-line 14 52 56
-line 15 56 56
-line 16 56 60
-line 17 60 60
-line 18 60 64
-line 19 64 68
-line 20 68 72
-line 21 72 76
-line 22 76 80
-line 23 80 80
-line 24 80 84
-line 25 84 88
-line 26 88 92
-line 27 92 96
-line 28 96 100
-line 29 100 104
-line 30 104 104
-line 31 104 112
-line 32 112 116
-line 33 116 120
-line 34 120 124
-line 35 124 128
-line 36 128 132
-line 37 132 136
-line 38 136 140
-line 39 140 144
-line 40 144 148
-line 41 148 152
-line 42 152 156
-label L1 20
-label L2 56
-label L0 104
-end 156
-";
-
-/// A listing.
-pub const FOURTH_LISTING: &str = "\
-AluRRR and fp fp a1
-CondBr ult s8 zero L0 -
-AluRRR andn a3 a3 s1
-AluRRImm12 andi a1 a1 -1
-CondBr slt a0 zero L0 -
-Mov s3 a2 i64
-CondBr uge fp zero L0 -
-Bind L0
-AluRRImm12 zext.h s6 s6 1149
-Rets a0:a0
-AluRRR czero.nez a2 a3 a2
-AluRRImm12 cpop s8 s1 0
-AluRRImm12 xori fp fp 255
-Jal L1
-AluRRR remu a1 t3 a1
-AluRRImm12 zext.h a3 a3 32
-AluRRImm12 bseti a1 a1 31
-AluRRImm12 sext.h a3 a3 -2048
-MovFromPReg s1 fp
-CondBr ult a3 a2 L2 L0
-AluRRR sh1add.uw a6 t2 a7
-AluRRR divw a6 a2 a6
-CondBr ult s6 a2 L1 L2
-AluRRImm12 sltiu t4 s11 -32
-AluRRR and s5 s5 fp
-CondBr sle a1 a3 L1 -
-Jal L1
-Bind L1
-CondBr ne a0 zero L1 L0
-AluRRImm12 clz t1 t1 31
-Bind L2
-AluRRR remu s6 fp tp
-AluRRImm12 sext.b s1 t2 -1
-AluRRImm12 srliw t3 s11 8
-AluRRR srl a3 s1 s9
-AluRRImm12 bseti s2 s2 16
-CondBr ult s2 zero L1 -
-AluRRImm12 slliw s11 s11 0
-AluRRR remuw t1 s1 a2
-AluRRR czero.eqz sp zero sp
-Jal L1
-AluRRImm12 ctz fp s6 -32
-AluRRImm12 sraiw a5 a0 22
-";
-
-/// Its report.
-pub const FOURTH_REPORT: &str = "\
-code 168
-00000000 3374b400636c0c00b3f6964093f5f5ff
-00000010 6346050093090600637204003b4b0b08
-00000020 33f6c60e139c24601344f40f6f000004
-00000030 b375be02bbc606089395f52993965660
-00000040 9304040063eac6026ff05ffd3ba81321
-00000050 3b480603636ccb006f00000293be0dfe
-00000060 b3fa8a0063d4b6006f00400063100500
-00000070 6ff0dffa13130360337b440293944360
-00000080 1bde8d00b3d6940113190929e36009fe
-00000090 9b9d0d003bf3c4023351200e6ff01ffd
-000000a0 13141b609b576541
-line 0 0 4
-line 1 4 8
-line 2 8 12
-line 3 12 16
-line 4 16 20
-line 5 20 24
-line 6 24 28
-line 7 28 28
-line 8 28 32
-line 9 32 32
+line 7 24 24
+line 8 24 28
+line 9 28 32
 line 10 32 36
 line 11 36 40
 line 12 40 44
@@ -428,107 +80,179 @@ line 15 52 56
 line 16 56 60
 line 17 60 64
 line 18 64 68
-line 19 68 76
-line 20 76 80
-line 21 80 84
-line 22 84 92
-line 23 92 96
-line 24 96 100
-line 25 100 104
-line 26 104 108
-line 27 108 108
+line 19 68 72
+line 20 72 76
+line 21 76 80
+line 22 80 84
+line 23 84 88
+line 24 88 92
+line 25 92 100
+line 26 100 104
+line 27 104 108
 line 28 108 116
 line 29 116 120
-line 30 120 120
-line 31 120 124
-line 32 124 128
+line 30 120 124
+line 31 124 128
+line 32 128 128
 line 33 128 132
 line 34 132 136
 line 35 136 140
 line 36 140 144
 line 37 144 148
 line 38 148 152
-line 39 152 156
-line 40 156 160
-line 41 160 164
-line 42 164 168
-label L0 28
-label L1 108
-label L2 120
-end 168
+line 39 152 152
+label L2 4
+label L0 24
+label L1 152
+end 152
 ";
 
-/// A listing.
-pub const FIFTH_LISTING: &str = "\
-AluRRR mulhu tp s1 fp
-AluRRImm12 ctz s10 s10 -2048
-AluRRImm12 zext.h a1 sp 2047
-Jal L0
-CondBr slt t1 t4 L0 -
+/// A listing of the generator, seed 2.
+pub const SECOND_LISTING: &str = "\
+AluRRImm12 sltiu gp s4 31
+CondBr uge a3 zero L1 L1
+Args a0:a0
+AluRRImm12 ctzw s1 a2 2047
+Lui s6 0
+AluRRR bext a0 a1 a0
+AluRRR sh2add.uw a1 a1 tp
+Bind L1
+CondBr ugt fp zero L2 -
+AluRRR sh2add fp a2 fp
+Bind L2
+Mov fp a1 i64
+AluRRR sh1add zero a2 fp
 Jal L0
 Bind L0
-AluRRImm12 ori t3 t3 -2048
-AluRRR addw s3 s3 a2
-AluRRR bset fp s2 fp
-AluRRImm12 cpopw s3 s3 31
-Jal L2
-Bind L2
-AluRRR rol s9 s4 s9
-AluRRR sh3add.uw a1 t0 a0
-AluRRR maxu a1 s9 tp
-CondBr sgt a2 zero L0 -
-AluRRR bclr t3 a2 fp
-AluRRImm12 rori a2 a2 35
-AluRRR bset a1 a1 t3
-AluRRR max s8 a7 s8
-CondBr sgt s3 s3 L0 -
-AluRRR addw a4 s1 tp
-AluRRR rem s1 a7 t3
-AluRRR or a0 a1 s1
-AluRRR rolw gp a1 a3
-AluRRR sgtu a2 fp fp
-AluRRImm12 binvi s1 s1 58
-AluRRR mulhsu a0 a0 s10
-AluRRR sh1add a3 t2 t0
-AluRRR slt a3 fp fp
-CondBr eq a1 zero L1 L1
-Bind L1
-Jal L2
-AluRRR sh1add.uw a1 a1 t4
-AluRRImm12 ctzw sp sp -1239
-AluRRR mul a0 s1 a0
-AluRRR min s1 s1 fp
-CondBr sle zero zero L1 L1
-AluRRR rorw fp fp a0
-EmitIsland 0
-AluRRImm12 cpop s1 fp 16
-AluRRR min a0 a0 a2
-AluRRR sh1add.uw a2 s6 fp
-MovFromPReg sp fp
-AluRRImm12 zext.h a5 a5 2047
+AluRRR sra s9 s9 a2
+CondBr sge a1 ra L1 L2
+AluRRR remw a3 t0 a3
+AluRRR subw a0 a0 a3
+AluRRImm12 slliw fp fp 20
+AluRRR mul a6 a3 a6
+AluRRR binv a1 a1 a1
+AluRRR czero.nez a1 a1 s5
+MovFromPReg tp sp
+AluRRR binv s11 fp fp
+AluRRR divuw a6 a6 a3
+AluRRImm12 sltiu s7 s7 -2048
+CondBr ne t4 zero L0 L0
+Jalr a2 t4 0
+Lui a0 31
 ";
 
 /// Its report.
-pub const FIFTH_REPORT: &str = "\
-code 176
-00000000 33b28402131d1d60bb4501086f00c000
-00000010 6344d3016f004000136e0e80bb89c900
-00000020 331489289b9929606f004000b31c9a61
-00000030 bbe5a220b3f54c0ae340c0fe331e8648
-00000040 13563662b395c52933ec880be3c639fd
-00000050 3b874400b3e4c80333e59500bb91d560
-00000060 333684009394a46b3325a503b3a65320
-00000070 b3268400638405006f0040006ff01ffb
-00000080 bba5d5211b1111603385a402b3c4840a
-00000090 e35600fe6ff09ffe3b54a46093142460
-000000a0 3345c50a3b268b2013010400bbc70708
+pub const SECOND_REPORT: &str = "\
+code 116
+00000000 9331fa0163fc06006f0040019b141660
+00000010 370b000033d5a548bbc5452063648000
+00000020 3344862013840500332086206f004000
+00000030 b3dccc40e3d415fe6ff0dffebbe6d202
+00000040 3b05d5401b14440133880603b395b568
+00000050 b3f5550f13020100b31d84683b58d802
+00000060 93bb0b80e3960efc6ff09ffc67860e00
+00000070 37f50100
 line 0 0 4
-line 1 4 8
-line 2 8 12
+line 1 4 12
+line 2 12 12
 line 3 12 16
 line 4 16 20
 line 5 20 24
-line 6 24 24
+line 6 24 28
+line 7 28 28
+line 8 28 32
+line 9 32 36
+line 10 36 36
+line 11 36 40
+line 12 40 44
+line 13 44 48
+line 14 48 48
+line 15 48 52
+line 16 52 60
+line 17 60 64
+line 18 64 68
+line 19 68 72
+line 20 72 76
+line 21 76 80
+line 22 80 84
+line 23 84 88
+line 24 88 92
+line 25 92 96
+line 26 96 100
+line 27 100 108
+line 28 108 112
+line 29 112 116
+label L1 28
+label L2 36
+label L0 48
+end 116
+";
+
+/// A listing of the generator, seed 3.
+pub const THIRD_LISTING: &str = "\
+AluRRImm12 rev8 a2 fp -2048
+Jal L0
+Bind L0
+AluRRImm12 ctz a2 a2 -32
+AluRRR max s2 s2 a3
+AluRRImm12 addi a3 a3 -2048
+AluRRR bext s7 s10 s7
+AluRRImm12 slliw a0 a0 19
+AluRRImm12 slliw t4 t4 15
+AluRRR add.uw s11 ra a0
+CondBr ugt t0 a2 L2 -
+Jal L2
+Bind L2
+Jal L2
+AluRRImm12 sltiu s9 s9 -32
+AluRRImm12 zext.h a6 a6 -1040
+Mov a3 a0 i8
+AluRRImm12 ori s8 a4 -1
+AluRRR remw a5 a5 a6
+AluRRImm12 rori a1 s1 25
+AluRRImm12 bseti s8 s8 30
+AluRRImm12 sext.h a2 s6 1
+AluRRR sll a3 a3 a1
+AluRRImm12 andi a0 a0 1
+Bind L1
+AluRRImm12 zext.h a1 a2 255
+AluRRR sub a3 a3 s4
+CondBr ne s9 fp L1 -
+AluRRR div t3 t1 t3
+MovFromPReg a0 fp
+AluRRImm12 ctz a4 a3 -1
+CondBr sgt a6 s3 L1 -
+AluRRImm12 slti s5 s5 1
+CondBr ule a3 zero L0 -
+AluRRImm12 addiw s1 a1 1
+AluRRR max a3 a3 fp
+MovFromPReg a4 fp
+AluRRImm12 srli a0 s7 0
+AluRRImm12 bclri t4 s7 27
+CondBr sge a3 s8 L1 -
+AluRRR sll a1 a1 a3
+";
+
+/// Its report.
+pub const THIRD_REPORT: &str = "\
+code 152
+00000000 1356846b6f004000131616603369d90a
+00000010 93860680b35b7d491b1535019b9efe00
+00000020 bb8da008636456006f0040006f000000
+00000030 93bc0cfe3b48080893060500136cf7ff
+00000040 bbe7070393d59461131cec2913165b60
+00000050 b396b60013751500bb450608b3864641
+00000060 e39c8cfe334ec3031305040013971660
+00000070 e3c409ff93aa1a00e378d0f89b841500
+00000080 b3e6860a1307040013d50b00939ebb49
+00000090 e3d486fdb395d500
+line 0 0 4
+line 1 4 8
+line 2 8 8
+line 3 8 12
+line 4 12 16
+line 5 16 20
+line 6 20 24
 line 7 24 28
 line 8 28 32
 line 9 32 36
@@ -546,30 +270,246 @@ line 20 72 76
 line 21 76 80
 line 22 80 84
 line 23 84 88
+line 24 88 88
+line 25 88 92
+line 26 92 96
+line 27 96 100
+line 28 100 104
+line 29 104 108
+line 30 108 112
+line 31 112 116
+line 32 116 120
+line 33 120 124
+line 34 124 128
+line 35 128 132
+line 36 132 136
+line 37 136 140
+line 38 140 144
+line 39 144 148
+line 40 148 152
+label L0 8
+label L2 44
+label L1 88
+end 152
+";
+
+/// A listing of the generator, seed 4.
+pub const FOURTH_LISTING: &str = "\
+CondBr slt a1 a2 L2 L0
+AluRRImm12 addi s3 a5 1
+CondBr ne s1 zero L0 L0
+AluRRR bclr fp a1 fp
+CondBr ugt sp s3 L0 -
+Jal L2
+Bind L0
+AluRRR sra a1 ra fp
+MovFromPReg s6 fp
+AluRRImm12 sext.b t4 a3 -1
+AluRRR rol a2 s9 a0
+AluRRR mulh s2 a0 a2
+AluRRImm12 ori a1 s9 0
+AluRRR xnor s4 s4 s1
+AluRRR sllw a2 ra a2
+AluRRImm12 cpop t1 gp 31
+AluRRImm12 bclri fp a1 2
+Mov s2 fp i32
+AluRRR sra tp s3 a1
+AluRRR rolw s9 a1 sp
+AluRRImm12 srliw s11 s1 16
+AluRRImm12 orc.b s1 ra 2047
+AluRRR xnor t4 s1 t4
+AluRRImm12 slli.uw a2 a2 20
+CondBr sle t3 zero L1 -
+Bind L1
+CondBr ult s10 a3 L2 -
+Mov s5 a3 i8
+AluRRR add t2 a6 t2
+AluRRImm12 sext.h t4 t4 2047
+AluRRR bext t4 a3 t4
+AluRRR sh1add.uw a1 zero a1
+Jalr zero s7 -2048
+CondBr sge a5 zero L1 -
+AluRRImm12 sraiw a1 a0 29
+AluRRImm12 srli s3 t3 32
+AluRRImm12 ctz a1 a1 -607
+AluRRImm12 sraiw sp a3 30
+Bind L2
+AluRRR srl a3 a3 fp
+";
+
+/// Its report.
+pub const FOURTH_REPORT: &str = "\
+code 156
+00000000 63ccc5086f00c00193891700639a0400
+00000010 6f0000013394854863e429006f00c007
+00000020 b3d58040130b0400939e46603396ac60
+00000030 3319c50293e50c00334a9a403b96c000
+00000040 13932160139425481309040033d2b940
+00000050 bb9c25609bdd040193d47028b3ced441
+00000060 1b1646096352c0016368dd02938a0600
+00000070 b3037800939e5e60b3ded649bb25b020
+00000080 67800b80e3d207fe9b55d54193590e02
+00000090 939515601bd1e641b3d68600
+line 0 0 8
+line 1 8 12
+line 2 12 20
+line 3 20 24
+line 4 24 28
+line 5 28 32
+line 6 32 32
+line 7 32 36
+line 8 36 40
+line 9 40 44
+line 10 44 48
+line 11 48 52
+line 12 52 56
+line 13 56 60
+line 14 60 64
+line 15 64 68
+line 16 68 72
+line 17 72 76
+line 18 76 80
+line 19 80 84
+line 20 84 88
+line 21 88 92
+line 22 92 96
+line 23 96 100
+line 24 100 104
+line 25 104 104
+line 26 104 108
+line 27 108 112
+line 28 112 116
+line 29 116 120
+line 30 120 124
+line 31 124 128
+line 32 128 132
+line 33 132 136
+line 34 136 140
+line 35 140 144
+line 36 144 148
+line 37 148 152
+line 38 152 152
+line 39 152 156
+label L0 32
+label L1 104
+label L2 152
+end 156
+";
+
+/// A listing of the generator, seed 5.
+pub const FIFTH_LISTING: &str = "\
+AluRRImm12 addiw s3 s1 1
+AluRRR and a2 a2 a0
+CondBr eq a1 zero L0 -
+Jal L1
+Bind L0
+Jal L2
+AluRRR xor a1 s6 a1
+CondBr ugt s1 zero L2 -
+CondBr slt a3 zero L2 -
+Mov a7 s4 i64
+MovFromPReg s4 sp
+Ret
+AluRRImm12 sext.h ra t0 16
+AluRRR xor s11 a2 s11
+AluRRR bclr s1 s1 s1
+CondBr slt s10 a7 L1 -
+Jal L0
+Lui s5 1
+AluRRR sh1add.uw s3 a7 a3
+AluRRR mul s5 s5 a0
+Jalr tp s4 2047
+AluRRR srlw a4 a0 a4
+Bind L2
+AluRRR slt a3 zero a2
+CondBr sle a0 s5 L1 -
+Mov s2 a0 i64
+AluRRR sltu ra t2 a5
+CondBr eq s9 a2 L1 -
+Jal L1
+Bind L1
+AluRRR czero.eqz a0 s9 s1
+AluRRImm12 slti a3 a3 2047
+Nop4
+AluRRImm12 andi s9 s9 16
+Jal L2
+Lui sp 0
+AluRRImm12 xori fp fp 31
+AluRRImm12 orc.b a1 a1 -2048
+AluRRImm12 addi a2 fp -2048
+AluRRImm12 sraiw s1 s1 17
+CondBr sle s10 zero L2 -
+CondBr slt a1 zero L0 -
+Lui a7 -216793
+AluRRImm12 bclri t3 a0 41
+AluRRImm12 clz ra a0 -1210
+AluRRImm12 ori a1 s4 16
+AluRRR div fp fp a0
+";
+
+/// Its report.
+pub const FIFTH_REPORT: &str = "\
+code 176
+00000000 9b8914003376a600638405006f000006
+00000010 6f004004b345bb00636e900263cc0602
+00000020 93080a00130a01006780000093905260
+00000030 b34db601b3949448634a1d036ff05ffd
+00000040 b71a0000bba9d820b38aaa026702fa7f
+00000050 3b57e500b326c00063daaa0013090500
+00000060 b3b0f3006384cc006f00400033d59c0e
+00000070 93a6f67f1300000093fc0c016ff09ffd
+00000080 370100001344f40193d5752813060480
+00000090 9bd41441e350a0fde3cc05f6b77812cb
+000000a0 131e954a9310056093650a013344a402
+line 0 0 4
+line 1 4 8
+line 2 8 12
+line 3 12 16
+line 4 16 16
+line 5 16 20
+line 6 20 24
+line 7 24 28
+line 8 28 32
+line 9 32 36
+line 10 36 40
+line 11 40 44
+line 12 44 48
+line 13 48 52
+line 14 52 56
+line 15 56 60
+line 16 60 64
+line 17 64 68
+line 18 68 72
+line 19 72 76
+line 20 76 80
+line 21 80 84
+line 22 84 84
+line 23 84 88
 line 24 88 92
 line 25 92 96
 line 26 96 100
 line 27 100 104
 line 28 104 108
-line 29 108 112
-line 30 112 116
-line 31 116 124
-line 32 124 124
-line 33 124 128
-line 34 128 132
-line 35 132 136
-line 36 136 140
-line 37 140 144
-line 38 144 152
-line 39 152 156
-line 40 156 156
-line 41 156 160
-line 42 160 164
-line 43 164 168
-line 44 168 172
-line 45 172 176
-label L0 24
-label L2 44
-label L1 124
+line 29 108 108
+line 30 108 112
+line 31 112 116
+line 32 116 120
+line 33 120 124
+line 34 124 128
+line 35 128 132
+line 36 132 136
+line 37 136 140
+line 38 140 144
+line 39 144 148
+line 40 148 152
+line 41 152 156
+line 42 156 160
+line 43 160 164
+line 44 164 168
+line 45 168 172
+line 46 172 176
+label L0 16
+label L2 84
+label L1 108
 end 176
 ";
