@@ -2,4 +2,6 @@
 #![tactic(auto)]
 
 mod slots;
-pub mod table;
+mod table;
+
+pub use table::LabelTable;

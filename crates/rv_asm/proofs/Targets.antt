@@ -13,9 +13,9 @@ use Rattle.mach_buffer.specs.declared.uses.Use.{Use}
 use Rattle.mach_buffer.specs.Windows.{window}
 use Rattle.mach_buffer.specs.Blocks.{AllInside, GoesBy, UsePatched, IsPatched}
 use Rattle.rv_emit.specs.Emitted.{bytes_of_words, UsesStand}
-use Rattle.rv_emit.specs.Blocks.{IsAimed, IsPatchedTo}
+use Rattle.rv_emit.specs.Sequences.{IsAimed, IsPatchedTo}
 use Rattle.rv_emit.proofs.Laws.{iter_none}
-use Rattle.rv_asm.proofs.Threads.{LeadsTo}
+use Rattle.rv_asm.proofs.LinesJoin.{LeadsTo}
 use Rattle.rv_asm.proofs.Veneers.{veneer_leads}
 
 -- ---- one use

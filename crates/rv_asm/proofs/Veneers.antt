@@ -14,26 +14,26 @@ use Rattle.rv_inst.specs.declared.label_use.LabelUse.{LabelUse}
 use Rattle.rv_inst.specs.declared.label_use.LabelUse.TheVariants.{PCRel32}
 use Rattle.rv_inst.specs.LabelUse.{Aims, marks_of, veneer_of}
 use Rattle.rv_inst.specs.LabelUseWords.{word_at, AreBytes}
-use Rattle.rv_inst.specs.LabelUseBridges.{with_number, PairDecodes}
+use Rattle.rv_inst.specs.LabelUseBridges.{with_immediate, PairDecodes}
 use Rattle.rv_inst.proofs.Bridges.{decode-patched_pair}
-use Rattle.rv_machine.specs.declared.decode.Decoded.{Decoded}
+use Rattle.rv_machine.specs.declared.decoding.Decoded.{Decoded}
 use Rattle.rv_machine.specs.declared.ops.MOp.TheVariants.{Base}
 use Rattle.rv_machine.specs.declared.ops.BaseOp.TheVariants.{Auipc}
 use Rattle.rv_machine.specs.State.{State, Values, IsState, AreValues, reg, set_reg, wrap, low64, signed, at}
 use Rattle.rv_machine.specs.Decode.{decode}
 use Rattle.rv_machine.specs.Steps.{fetch}
-use Rattle.rv_encode.specs.Rows.{row}
+use Rattle.rv_encode.specs.Operations.{row}
 use Rattle.mach_buffer.specs.declared.uses.Use.{Use}
 use Rattle.mach_buffer.specs.Windows.{window}
 use Rattle.mach_buffer.specs.Finish.{IsVia}
-use Rattle.rv_emit.specs.Rows.{jalr_row}
-use Rattle.rv_inst.specs.Same.{Same}
-use Rattle.rv_emit.specs.Runs.{Ends}
-use Rattle.rv_emit.specs.Blocks.{BytesStand}
+use Rattle.rv_emit.specs.Operations.{decoded_jalr}
+use Rattle.rv_inst.specs.SameValues.{Same}
+use Rattle.rv_emit.specs.Runs.{ComesTo}
+use Rattle.rv_emit.specs.Sequences.{BytesStand}
 use Rattle.rv_inst.specs.Islands.{word_in, GoesOn}
 use Rattle.rv_emit.proofs.Laws.{are_values_set, istep_at, ends_one, ends_both, AllBytes, word_there, bytes_fit}
-use Rattle.rv_asm.proofs.Placed.{bytes_stand}
-use Rattle.rv_asm.proofs.Threads.{LeadsTo}
+use Rattle.rv_asm.proofs.PlacedCode.{bytes_stand}
+use Rattle.rv_asm.proofs.LinesJoin.{LeadsTo}
 
 -- ---- the words of a window
 
@@ -119,7 +119,7 @@ old_first : (flags : IsaFlags) → decode flags (word_at (veneer_of PCRel32).byt
 unfolding decode
 old_first flags = refl
 
-old_second : (flags : IsaFlags) → decode flags (word_at (drop 4 (veneer_of PCRel32).bytes)) ≡ Some (jalr_row 0 31 (pos 0))
+old_second : (flags : IsaFlags) → decode flags (word_at (drop 4 (veneer_of PCRel32).bytes)) ≡ Some (decoded_jalr 0 31 (pos 0))
 unfolding decode
 old_second flags = refl
 
@@ -142,7 +142,7 @@ veneer_pair flags bytes place to below kept aims =
     kept refl (inl refl) aims
 
 -- the two steps
-veneer_ends : (flags : IsaFlags) (bytes : List ℕ) (base place to : ℕ) (s : State) (v : Values) → BytesStand base bytes s.values.mem → place % 2 ≡ 0 → to % 2 ≡ 0 → place + 8 ≤ length bytes → PairDecodes flags (veneer_of PCRel32).bytes (window bytes place 8) (pos to -ℤ pos place) → s.pc ≡ wrap (base + place) → IsState s → AreValues v → Same v s.values → Ends flags 0 (wrap (base + to)) v s
+veneer_ends : (flags : IsaFlags) (bytes : List ℕ) (base place to : ℕ) (s : State) (v : Values) → BytesStand base bytes s.values.mem → place % 2 ≡ 0 → to % 2 ≡ 0 → place + 8 ≤ length bytes → PairDecodes flags (veneer_of PCRel32).bytes (window bytes place 8) (pos to -ℤ pos place) → s.pc ≡ wrap (base + place) → IsState s → AreValues v → Same v s.values → ComesTo flags 0 (wrap (base + to)) v s
 veneer_ends flags bytes base place to s v stand even to_even inside p pc is_state are_values same =
     let room = stand.room in
     let aligned = stand.aligned in
@@ -152,11 +152,11 @@ veneer_ends flags bytes base place to s v stand even to_even inside p pc is_stat
     let held : slice_index (slice_set s.values.regs 30 x) 30 ≡ x = get_or-set_at s.values.regs 30 30 x 0 refl (let n = is_state.values.count in omega arith) in
     let first : decode flags (fetch s.values.mem s.pc) ≡ Some (auipc_row p.upper) =
     ap (λ a. decode flags (fetch s.values.mem a)) here ∙ ap (decode flags) (word_there base bytes s.values.mem place stand (omega arith) ∙ word_in_window bytes place 8 (lit< tt))
-    ∙ p.first ∙ ap (option_map (with_number p.upper)) (old_first flags)
+    ∙ p.first ∙ ap (option_map (with_immediate p.upper)) (old_first flags)
     in
-    let second : decode flags (fetch s.values.mem (wrap (s.pc + 4))) ≡ Some (jalr_row 0 31 p.lower) =
+    let second : decode flags (fetch s.values.mem (wrap (s.pc + 4))) ≡ Some (decoded_jalr 0 31 p.lower) =
     ap (λ a. decode flags (fetch s.values.mem a)) next ∙ ap (decode flags) (word_there base bytes s.values.mem (place + 4) stand (omega arith) ∙ second_in_window bytes place 8 (lit< tt))
-    ∙ p.second ∙ ap (option_map (with_number p.lower)) (old_second flags)
+    ∙ p.second ∙ ap (option_map (with_immediate p.lower)) (old_second flags)
     in
     let spare = same_spare v s.values x same in
     let fits = are_values_set s.values 31 x is_state.values (lit< tt) (omega arith) in
@@ -164,7 +164,7 @@ veneer_ends flags bytes base place to s v stand even to_even inside p pc is_stat
     ends_both flags (wrap (s.pc + 4)) (wrap (base + to)) v v s
     (ends_one flags s (wrap (s.pc + 4)) (wrap (s.pc + 4)) v (set_reg s.values 31 x) (istep_at flags s (auipc_row p.upper) (omega arith) first refl) refl (omega arith) spare are_values fits refl (lit≤ tt))
     (ends_one flags (at (wrap (s.pc + 4)) (set_reg s.values 31 x)) (wrap (slice_index (slice_set s.values.regs 30 x) 30 + low64 p.lower) / 2 * 2) (wrap (base + to)) v (set_reg s.values 31 x)
-    (istep_at flags (at (wrap (s.pc + 4)) (set_reg s.values 31 x)) (jalr_row 0 31 p.lower) (omega arith) second refl)
+    (istep_at flags (at (wrap (s.pc + 4)) (set_reg s.values 31 x)) (decoded_jalr 0 31 p.lower) (omega arith) second refl)
     ((λ i. wrap (held i + low64 p.lower) / 2 * 2) ∙ (λ i. wrap (wrap (pc i + low64 p.upper * 2 ^ 12) + low64 p.lower) / 2 * 2) ∙ ap (λ (n : ℕ). n / 2 * 2) lands ∙ omega arith) (omega arith) spare are_values fits refl (lit≤ tt))
 
 -- a patched veneer leads where its use aims
@@ -193,7 +193,7 @@ veneer_goes_on flags bytes kind u to g fits =
     record {
       upper = p.upper;
       lower = p.lower;
-      first = ap (decode flags) (word_in_window bytes g.at 8 (lit≤ tt)) ∙ p.first ∙ ap (option_map (with_number p.upper)) (old_first flags);
-      second = ap (decode flags) (second_in_window bytes g.at 8 (lit≤ tt)) ∙ p.second ∙ ap (option_map (with_number p.lower)) (old_second flags);
+      first = ap (decode flags) (word_in_window bytes g.at 8 (lit≤ tt)) ∙ p.first ∙ ap (option_map (with_immediate p.upper)) (old_first flags);
+      second = ap (decode flags) (second_in_window bytes g.at 8 (lit≤ tt)) ∙ p.second ∙ ap (option_map (with_immediate p.lower)) (old_second flags);
       sum = p.sum;
     }

@@ -1,10 +1,10 @@
 pub mod BoundLabels
-pub mod Built
-pub mod Finished
+pub mod LinesInBuffer
+pub mod FinishedCode
 pub mod Job
 pub mod Outcomes
-pub mod Reaching
+pub mod Reach
 pub mod Refusal
 pub mod Simulation
-pub mod Since
-pub mod Told
+pub mod AfterLastIsland
+pub mod Reported

@@ -14,9 +14,9 @@ use Rattle.rv_listing.specs.CodeRanges.{CodeFits}
 use Rattle.rv_listing.specs.Report.{report}
 use Rattle.rv_stream.specs.Ends.{Rose, TookFront}
 use Rattle.rv_asm.specs.Refusal.{refusal}
-use Rattle.rv_asm.specs.Told.{Told}
+use Rattle.rv_asm.specs.Reported.{Reported}
 use Rattle.rv_asm.specs.Simulation.{RunsAsListed}
-use Rattle.rv_asm.specs.Reaching.{InReach}
+use Rattle.rv_asm.specs.Reach.{InReach}
 use Rattle.rv_asm.specs.declared.outcome.Outcome.{Outcome}
 use Rattle.rv_asm.specs.declared.outcome.Outcome.TheVariants as ends
 
@@ -64,7 +64,7 @@ status_of ends.OutOfMemory = 8
 -- the code of the job that the input means, which tells its lines and runs as they say, with no island early, and its
 -- numbers in the ranges in which no other code has its report
 abbrev pub IsCodeOf : List ℕ → Code → Type 0
-IsCodeOf input code = (job : Job) × (reads input ≡ Ok job) × (refusal job.lines ≡ None) × Told job code × RunsAsListed job code × InReach job code × CodeFits code
+IsCodeOf input code = (job : Job) × (reads input ≡ Ok job) × (refusal job.lines ≡ None) × Reported job code × RunsAsListed job code × InReach job code × CodeFits code
 
 -- the input means a job that is refused so; never for want of memory
 abbrev pub IsRefused : List ℕ → EmitError → Type 0
@@ -99,8 +99,8 @@ pub record Call : Type 0 where
 abbrev pub call : ℕ → Option (List ℕ) → ℕ → ℕ → Option (List ℕ) → Option (List ℕ) → ℕ → ℕ → Call
 call words left r r_after taken taken_after w w_after = record { words = words; left = left; read_faults = r; read_faults_after = r_after; taken = taken; taken_after = taken_after; write_faults = w; write_faults_after = w_after }
 
-abbrev pub limit : ℕ
-limit = 16777216
+abbrev pub input_limit : ℕ
+input_limit = 16777216
 
 -- the command asks for a listing
 abbrev pub Asked : Call → Type 0
@@ -108,12 +108,12 @@ Asked call = call.words ≡ 0
 
 -- All that was left was read, and it has this outcome.
 abbrev pub Read : Call → Outcome → Type 0
-Read call outcome = (input : List ℕ) × IfSome call.left (λ left. input ≡ left) × (length input ≤ limit) × Means input outcome
+Read call outcome = (input : List ℕ) × IfSome call.left (λ left. input ≡ left) × (length input ≤ input_limit) × Means input outcome
 
 -- why a call has a text to write, and the outcome once it is written
 abbrev pub Due : Call → Outcome → Type 0
 Due call ends.Usage = 0 < call.words
-Due call ends.TooLong = Asked call × IfSome call.left (λ left. limit < length left)
+Due call ends.TooLong = Asked call × IfSome call.left (λ left. input_limit < length left)
 Due call outcome = Asked call × Read call outcome
 
 -- the text that was due was written
@@ -134,8 +134,8 @@ Ended call outcome = Wrote call outcome
 -- ---- where no fault rose
 
 -- the answer is this outcome, or memory was wanting
-abbrev pub IsOr : Outcome → Outcome → Type 0
-IsOr answer outcome = (answer ≡ outcome) ⊎ (answer ≡ ends.OutOfMemory)
+abbrev pub IsOrOutOfMemory : Outcome → Outcome → Type 0
+IsOrOutOfMemory answer outcome = (answer ≡ outcome) ⊎ (answer ≡ ends.OutOfMemory)
 
 abbrev pub IsDone : Outcome → Type 0
 IsDone (ends.Done code) = Unit {0}
@@ -148,15 +148,15 @@ pub record NoFault (call : Call) : Type 0 where
 
 -- Without a fault the words and the input settle how a call ends, want of memory aside.
 pub record IsSettled (call : Call) (answer : Outcome) : Type 0 where
-  pub usage : 0 < call.words → ¬ Rose call.write_faults call.write_faults_after → IsOr answer ends.Usage
-  pub too_long : Asked call → NoFault call → IfSome call.left (λ input. limit < length input → IsOr answer ends.TooLong)
-  pub syntax_line : Asked call → NoFault call → IfSome call.left (λ input. length input ≤ limit → (line : ℕ) → reads input ≡ Err line → IsOr answer (ends.Syntax line))
-  pub refused : Asked call → NoFault call → IfSome call.left (λ input. length input ≤ limit → (job : Job) (error : EmitError) → reads input ≡ Ok job → refusal job.lines ≡ Some error → IsOr answer (ends.Refused error))
-  pub complete : Asked call → NoFault call → IfSome call.left (λ input. length input ≤ limit → (job : Job) → reads input ≡ Ok job → refusal job.lines ≡ None → IsDone answer)
+  pub usage : 0 < call.words → ¬ Rose call.write_faults call.write_faults_after → IsOrOutOfMemory answer ends.Usage
+  pub too_long : Asked call → NoFault call → IfSome call.left (λ input. input_limit < length input → IsOrOutOfMemory answer ends.TooLong)
+  pub syntax_line : Asked call → NoFault call → IfSome call.left (λ input. length input ≤ input_limit → (line : ℕ) → reads input ≡ Err line → IsOrOutOfMemory answer (ends.Syntax line))
+  pub refused : Asked call → NoFault call → IfSome call.left (λ input. length input ≤ input_limit → (job : Job) (error : EmitError) → reads input ≡ Ok job → refusal job.lines ≡ Some error → IsOrOutOfMemory answer (ends.Refused error))
+  pub complete : Asked call → NoFault call → IfSome call.left (λ input. length input ≤ input_limit → (job : Job) → reads input ≡ Ok job → refusal job.lines ≡ None → IsDone answer)
 
 -- A text was written and the answer is the outcome meant, or a fault of the sink or want of memory came.
-abbrev pub Tells : Outcome → Option (List ℕ) → Option (List ℕ) → ℕ → ℕ → Outcome → Type 0
-Tells outcome old new before after answer =
+abbrev pub WritesOutcome : Outcome → Option (List ℕ) → Option (List ℕ) → ℕ → ℕ → Outcome → Type 0
+WritesOutcome outcome old new before after answer =
     ((answer ≡ outcome) × Appends old new (text_of outcome))
     ⊎ ((answer ≡ ends.WriteFault) × Rose before after × TookFront old new (text_of outcome))
     ⊎ ((answer ≡ ends.OutOfMemory) × TookFront old new (text_of outcome))

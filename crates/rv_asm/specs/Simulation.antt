@@ -6,7 +6,7 @@ use Rattle.rv_inst.specs.declared.inst.Line.{Line}
 use Rattle.rv_inst.specs.declared.inst.Line.TheVariants.{Inst as Put, Bind}
 use Rattle.rv_inst.specs.declared.job.Job.{Job}
 use Rattle.rv_inst.specs.declared.code.Code.{Code}
-use Rattle.rv_inst.specs.Meaning.{Standing, Exit, Next, To, Leave, Break, exit_of, effect_of}
+use Rattle.rv_inst.specs.Meaning.{Placement, Exit, Next, To, Leave, Break, exit_of, effect_of}
 use Rattle.rv_machine.specs.State.{State, IsState, Values, AreValues, Memory, byte, wrap}
 use Rattle.rv_base.specs.declared.flags.IsaFlags.{IsaFlags}
 use Rattle.rv_machine.specs.declared.ops.MOp.TheVariants.{Base}
@@ -14,8 +14,8 @@ use Rattle.rv_machine.specs.declared.ops.BaseOp.TheVariants.{Ebreak}
 use Rattle.rv_machine.specs.Layout.{bare_form}
 use Rattle.rv_machine.specs.Decode.{decode}
 use Rattle.rv_machine.specs.Steps.{fetch, iter}
-use Rattle.rv_inst.specs.Same.{Same}
-use Rattle.rv_asm.specs.Told.{start_of, end_of}
+use Rattle.rv_inst.specs.SameValues.{Same}
+use Rattle.rv_asm.specs.Reported.{start_of, end_of}
 
 -- the start of a line, by its number; an address outside the code; the end of the last line; or the break of a line
 pub data Point : Type 0 where
@@ -25,10 +25,10 @@ pub data Point : Type 0 where
   Stop : ℕ → Point
 
 -- the number of the first line that binds a label
-abbrev pub place_of : List Line → ℕ → ℕ
-place_of [] label = 0
-place_of (Bind l ∷ lines) label = if nat_eq l.number label then 0 else suc (place_of lines label)
-place_of (Put inst ∷ lines) label = suc (place_of lines label)
+abbrev pub binding_line : List Line → ℕ → ℕ
+binding_line [] label = 0
+binding_line (Bind l ∷ lines) label = if nat_eq l.number label then 0 else suc (binding_line lines label)
+binding_line (Put inst ∷ lines) label = suc (binding_line lines label)
 
 abbrev pub next_point : List Line → ℕ → Point
 next_point lines i = if nat_lt (suc i) (length lines) then At (suc i) else End
@@ -36,13 +36,13 @@ next_point lines i = if nat_lt (suc i) (length lines) then At (suc i) else End
 -- where an exit from line i leads
 abbrev pub point_of : List Line → ℕ → Exit → Point
 point_of lines i Next = next_point lines i
-point_of lines i (To label) = At (place_of lines label)
+point_of lines i (To label) = At (binding_line lines label)
 point_of lines i (Leave a) = Out a
 point_of lines i Break = Stop i
 
 -- where a line's own bytes begin and end, for code that stands at a base
-abbrev pub standing_of : Code → ℕ → ℕ → Standing
-standing_of code base i = record { start = wrap (base + start_of code.lines i); after = wrap (base + end_of code.lines i) }
+abbrev pub placement_of : Code → ℕ → ℕ → Placement
+placement_of code base i = record { start = wrap (base + start_of code.lines i); after = wrap (base + end_of code.lines i) }
 
 -- one line at once, from a point and values to a point and values
 pub record OneLine (job : Job) (code : Code) (base : ℕ) (p : Point) (v : Values) (q : Point) (w : Values) : Type 0 where
@@ -51,7 +51,7 @@ pub record OneLine (job : Job) (code : Code) (base : ℕ) (p : Point) (v : Value
   pub at : p ≡ At index
   pub listed : slice_get job.lines index ≡ Some line
   pub leads : q ≡ point_of job.lines index (exit_of line v)
-  pub effect : Same (effect_of (standing_of code base index) line v) w
+  pub effect : Same (effect_of (placement_of code base index) line v) w
 
 -- the address of a point, for code that stands at a base
 abbrev pub address_of : Code → ℕ → Point → ℕ

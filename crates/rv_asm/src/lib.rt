@@ -1,13 +1,15 @@
 //! From a listing to its code.
 #![tactic(auto)]
 
-pub mod assemble;
-pub mod lines;
-pub mod outcome;
+mod assembly;
+mod lines;
+mod outcome;
+mod program;
 mod ranges;
-pub mod refusal;
-pub mod run;
+mod refusal;
 
-pub use rv_listing::reading::{ReadError, read_job};
-pub use rv_listing::report::report;
+pub use assembly::assemble;
+pub use outcome::Outcome;
+pub use program::run;
+pub use rv_listing::{ReadError, read_job, report};
 pub use rv_stream::{MemSink, MemSource, Sink, Source, StdSink, StdSource, SureSink, SureSource};

@@ -4,20 +4,16 @@ ghost use Rattle.std.specs.Prelude.{◌≡◌, ◌+◌, ◌*◌, ◌^◌, ◌<�
 ghost use Rattle.rv_inst.specs.declared.inst.Line.TheVariants.{Inst as Put, Bind};
 ghost use Rattle.mach_buffer.specs.Reach.{CanReach};
 ghost use Rattle.mach_buffer.specs.Buffer.{bytes_of, drawn_of};
-ghost use Rattle.rv_emit.specs.Emitted.{IsSoundBuffer, pending, MakesRoom, CanEmit, Emitted};
+ghost use Rattle.rv_emit.specs.Emitted.{IsSoundBuffer, pending, IslandIfNeeded, CanEmit, Emitted};
 ghost use Rattle.mach_buffer.specs.Reach.{is_needed};
 ghost use Rattle.rv_emit.specs.declared.state.EmitVState.TheVariants.{Unknown};
 ghost use Rattle.rv_emit.specs.State.{setting_after, setting_beyond};
-ghost use Rattle.rv_asm.specs.Built.{CanPut, InstPut, BindPut, LinePut, line_setting};
+ghost use Rattle.rv_asm.specs.LinesInBuffer.{CanPut, InstPut, BindPut, LinePut, line_setting};
 
 use mach_buffer::buffer::MachBuffer;
 use rv_base::{MachLabel, OutOfMemory};
-use rv_emit::emit::MachInstEmit;
-use rv_emit::island::make_room;
-use rv_emit::state::{EmitInfo, EmitState, MachInstEmitState};
-use rv_inst::code::LineSpan;
-use rv_inst::inst::{Inst, Line};
-use rv_inst::label_use::LabelUse;
+use rv_emit::{EmitInfo, EmitState, MachInstEmit, MachInstEmitState, emit_island_if_needed};
+use rv_inst::{Inst, LabelUse, Line, LineSpan};
 use std::alloc::Global;
 
 /// How many bytes an island is asked for before, at each instruction.
@@ -82,7 +78,7 @@ fn put_inst(
     ensures frame { state.new.frame ≡ state.old.frame }
     ensures setting { OnOk result (state.new.vstate ≡ setting_after inst.now (setting_beyond (is_needed (length (bytes_of sink.old)) 88 (pending sink.old)) state.old.vstate)) }
 {
-    make_way(sink, state)?;
+    emit_needed_island(sink, state)?;
     let start = sink.cur_offset();
     emit(alloc, sink, info, state, inst)?;
     let end = sink.cur_offset();
@@ -90,16 +86,19 @@ fn put_inst(
 }
 
 /// Puts an island where one is needed before a line. Whether it did.
-fn make_way(sink: &mut MachBuffer<LabelUse>, state: &mut EmitState) -> Result<bool, OutOfMemory>
+fn emit_needed_island(
+    sink: &mut MachBuffer<LabelUse>,
+    state: &mut EmitState,
+) -> Result<bool, OutOfMemory>
     requires sound { IsSoundBuffer sink.old }
     requires reach { CanReach (length (bytes_of sink.old)) (pending sink.old) }
     requires few { drawn_of sink.old < 2 ^ 30 }
     requires room { length (bytes_of sink.old) + 8 * length (pending sink.old) + 32 < 2147479552 }
-    ensures room { IfOk result (λ made. MakesRoom 88 sink.old sink.new made) }
+    ensures room { IfOk result (λ made. IslandIfNeeded 88 sink.old sink.new made) }
     ensures frame { state.new.frame ≡ state.old.frame }
     ensures setting { OnOk result (state.new.vstate ≡ setting_beyond (is_needed (length (bytes_of sink.old)) 88 (pending sink.old)) state.old.vstate) }
 {
-    let made = make_room(sink, LINE_SPACE)?;
+    let made = emit_island_if_needed(sink, LINE_SPACE)?;
     if made {
         state.on_new_block();
     }

@@ -5,9 +5,8 @@ ghost use Rattle.std.specs.Fmt.{decimal};
 ghost use Rattle.rv_asm.specs.Outcomes.{rule_name, error_line, text_of, status_of};
 
 use rv_base::OutOfMemory;
-use rv_inst::code::Code;
-use rv_inst::error::{EmitError, Rule};
-use rv_listing::report::report;
+use rv_inst::{Code, EmitError, Rule};
+use rv_listing::report;
 use std::alloc::Global;
 
 /// How a call of the program ended.

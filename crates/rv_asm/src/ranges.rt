@@ -4,7 +4,7 @@ ghost use Rattle.std.specs.List.{AllByRecursion};
 ghost use Rattle.std.specs.Prelude.{◌<◌, ◌^◌};
 ghost use Rattle.rv_listing.specs.CodeRanges.{SpanFits, LabelFits, CodeFits};
 
-use rv_inst::code::{Code, LabelPlace, LineSpan};
+use rv_inst::{Code, LabelPlace, LineSpan};
 
 /// The numbers of a code are in the ranges of their types.
 pub(crate) fn code_fits(code: &Code)

@@ -1,17 +1,16 @@
 //! Why a job is refused.
 
 ghost use Rattle.std.specs.Prelude.{◌≡◌, ℕ, ◌^◌, [], ◌∷◌, ◌++◌, ◌||◌, false, nat_eq, nat_lt, IfOk, OnOk};
-ghost use Rattle.rv_inst.specs.Fields.{named_labels, inst_labels, target_labels};
+ghost use Rattle.rv_inst.specs.Operands.{named_labels, inst_labels, target_labels};
 ghost use Rattle.rv_inst.specs.Families.{family_of};
 ghost use Rattle.rv_inst.specs.declared.inst.Family.TheVariants.{Control};
 ghost use Rattle.rv_asm.specs.Refusal.{is_bound, broken_from, binds, twice_of, twice_in, twice_from, unbound_among, unbound_in, size_sum, refusal, Finds};
 ghost use Rattle.rv_inst.specs.Sizes.{line_sum, inst_sum};
 ghost use Rattle.rv_asm.specs.BoundLabels.{is_in};
 
-use mach_labels::table::LabelTable;
+use mach_labels::LabelTable;
 use rv_base::{Constant, FrameLayout, IsaFlags, MachLabel};
-use rv_inst::error::EmitError;
-use rv_inst::inst::{CondBrTarget, Family, Inst, Line};
+use rv_inst::{CondBrTarget, EmitError, Family, Inst, Line};
 use std::alloc::Global;
 
 /// Refuses a job for its first cause, where it has one.
@@ -119,7 +118,7 @@ fn find_labels_in(bound: &LabelTable<()>, inst: &Inst) -> Result<(), EmitError>
     ensures { Finds (unbound_among (is_in bound.now) (inst_labels inst.now)) result }
 {
     match inst.family() {
-        Family::Marks | Family::Plain => Ok(()),
+        Family::Pseudo | Family::Integer => Ok(()),
         Family::Control => find_labels_in_control(bound, inst),
     }
 }

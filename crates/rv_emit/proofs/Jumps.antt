@@ -15,18 +15,18 @@ use Rattle.rv_inst.specs.declared.inst.CondBrTarget.TheVariants.{Label, Fallthro
 use Rattle.rv_inst.specs.declared.inst.Inst.TheVariants.{Ret, Jal, CondBr, Jalr}
 use Rattle.rv_inst.specs.Meaning.{Next, To}
 use Rattle.rv_inst.specs.Rules.{is_fallthrough}
-use Rattle.rv_machine.specs.declared.decode.Decoded.{Decoded}
+use Rattle.rv_machine.specs.declared.decoding.Decoded.{Decoded}
 use Rattle.rv_imms.specs.declared.imm12.Imm12.{Imm12}
 use Rattle.rv_base.specs.declared.regs.Reg.{Reg}
 use Rattle.rv_base.specs.declared.regs.Writable.{Writable}
 use Rattle.rv_machine.specs.State.{State, Values, reg, set_reg, wrap, low64, at}
 use Rattle.rv_machine.specs.Effects.{act}
 use Rattle.rv_machine.specs.Steps.{istep}
-use Rattle.rv_encode.specs.Rows.{compare_row}
-use Rattle.rv_emit.specs.Rows.{between, jump_row, jalr_row}
-use Rattle.rv_emit.specs.Runs.{HasRows, IsUsable, Begins, Ends, Runs, least_steps, exit_address}
+use Rattle.rv_encode.specs.Operations.{decoded_branch}
+use Rattle.rv_emit.specs.Operations.{between, decoded_jump, decoded_jalr}
+use Rattle.rv_emit.specs.Runs.{HasOps, IsUsable, Begins, ComesTo, Runs, least_steps, exit_address}
 use Rattle.rv_emit.proofs.Registers.{same_set, are_values_set}
-use Rattle.rv_emit.proofs.Blocked.{first_step, ends_one, ends_both}
+use Rattle.rv_emit.proofs.SequenceStart.{first_step, ends_one, ends_both}
 
 -- a distance forward, and one backward, modulo 2 ^ 64
 ahead : (start to : ℕ) → start ≤ to → low64 (between start to) ≡ to - start
@@ -50,16 +50,16 @@ ret_runs flags targets start = record {
       let ra' = b.is_state.values.fits 1 in
       let e = b.same.regs 1 (lit< tt) in
       ends_one flags s (wrap (reg s.values 1 + 0) / 2 * 2) (reg v 1 / 2 * 2) v s.values
-      (first_step flags base start after (jalr_row 0 1 (pos 0)) [] s v b refl)
+      (first_step flags base start after (decoded_jalr 0 1 (pos 0)) [] s v b refl)
       (omega arith) (omega arith) b.same b.are_values b.is_state.values refl (lit≤ tt);
 }
 
 -- a jump to an offset comes there, and changes nothing
-jump_ends : (flags : IsaFlags) (base start after to : ℕ) (ds : List Decoded) (s : State) (v : Values) → Begins flags base start after (jump_row (between start to) ∷ ds) s v → Ends flags 1 (wrap (base + to)) v s
+jump_ends : (flags : IsaFlags) (base start after to : ℕ) (ds : List Decoded) (s : State) (v : Values) → Begins flags base start after (decoded_jump (between start to) ∷ ds) s v → ComesTo flags 1 (wrap (base + to)) v s
 jump_ends flags base start after to ds s v b =
     let long = b.long in let room = b.room in
     ends_one flags s (wrap (s.pc + low64 (between start to))) (wrap (base + to)) v s.values
-    (first_step flags base start after (jump_row (between start to)) ds s v b refl)
+    (first_step flags base start after (decoded_jump (between start to)) ds s v b refl)
     ((λ i. wrap (b.pc i + low64 (between start to))) ∙ lands base start to (omega arith))
     (omega arith) b.same b.are_values b.is_state.values refl (lit≤ tt)
 
@@ -80,7 +80,7 @@ jalr_runs flags targets start rd rs offset h h1 = record {
       let next : wrap (s.pc + 4) ≡ wrap (base + after) = omega arith in
       let link = wrap (base + after) in
       ends_one flags s (wrap (reg s.values x + low64 offset.value) / 2 * 2) (wrap (reg v x + low64 offset.value) / 2 * 2) (set_reg v n link) (set_reg s.values n link)
-      (first_step flags base start after (jalr_row n x offset.value) [] s v b refl
+      (first_step flags base start after (decoded_jalr n x offset.value) [] s v b refl
       ∙ (λ i. Some (at (wrap (reg s.values x + low64 offset.value) / 2 * 2) (set_reg s.values n (next i)))))
       (λ i. wrap (sym (b.same.regs x h1.1) i + low64 offset.value) / 2 * 2)
       (omega arith)
@@ -91,10 +91,10 @@ jalr_runs flags targets start rd rs offset h h1 = record {
 }
 
 -- what the row of a comparison does
-branch_acts : (kind : IntegerCompare) (d : ℤ) (s : State) → act (compare_row kind d) s ≡ Some (at (if holds kind.kind (reg s.values (number_of kind.rs1)) (reg s.values (number_of kind.rs2)) then wrap (s.pc + low64 d) else wrap (s.pc + 4)) s.values)
+branch_acts : (kind : IntegerCompare) (d : ℤ) (s : State) → act (decoded_branch kind d) s ≡ Some (at (if holds kind.kind (reg s.values (number_of kind.rs1)) (reg s.values (number_of kind.rs2)) then wrap (s.pc + low64 d) else wrap (s.pc + 4)) s.values)
 branch_acts kind d s = by_kind kind.kind kind.rs1 kind.rs2 d s
   where
-    by_kind : (k : IntCC) (x y : Reg) (d : ℤ) (s : State) → act (compare_row (record { kind = k; rs1 = x; rs2 = y }) d) s ≡ Some (at (if holds k (reg s.values (number_of x)) (reg s.values (number_of y)) then wrap (s.pc + low64 d) else wrap (s.pc + 4)) s.values)
+    by_kind : (k : IntCC) (x y : Reg) (d : ℤ) (s : State) → act (decoded_branch (record { kind = k; rs1 = x; rs2 = y }) d) s ≡ Some (at (if holds k (reg s.values (number_of x)) (reg s.values (number_of y)) then wrap (s.pc + low64 d) else wrap (s.pc + 4)) s.values)
     by_kind Equal x y d s = refl
     by_kind NotEqual x y d s = refl
     by_kind SignedLessThan x y d s = refl
@@ -111,14 +111,14 @@ abbrev taken_of : IntegerCompare → Values → Bool
 taken_of kind v = holds kind.kind (reg v (number_of kind.rs1)) (reg v (number_of kind.rs2))
 
 -- a branch comes to its target where the comparison holds, and else to the next word
-branch_step : (flags : IsaFlags) (kind : IntegerCompare) (base start after to : ℕ) (ds : List Decoded) (s : State) (v : Values) → IsUsable kind.rs1 → IsUsable kind.rs2 → Begins flags base start after (compare_row kind (between start to) ∷ ds) s v → istep flags s ≡ Some (at (if taken_of kind v then wrap (base + to) else wrap (base + (start + 4))) s.values)
+branch_step : (flags : IsaFlags) (kind : IntegerCompare) (base start after to : ℕ) (ds : List Decoded) (s : State) (v : Values) → IsUsable kind.rs1 → IsUsable kind.rs2 → Begins flags base start after (decoded_branch kind (between start to) ∷ ds) s v → istep flags s ≡ Some (at (if taken_of kind v then wrap (base + to) else wrap (base + (start + 4))) s.values)
 branch_step flags kind base start after to ds s v h1 h2 b =
     let x = number_of kind.rs1 in let y = number_of kind.rs2 in
     let d = between start to in
     let here = b.pc in let long = b.long in let room = b.room in
     let there : wrap (s.pc + low64 d) ≡ wrap (base + to) = (λ i. wrap (b.pc i + low64 d)) ∙ lands base start to (omega arith) in
     let next : wrap (s.pc + 4) ≡ wrap (base + (start + 4)) = omega arith in
-    first_step flags base start after (compare_row kind d) ds s v b (branch_acts kind d s)
+    first_step flags base start after (decoded_branch kind d) ds s v b (branch_acts kind d s)
     ∙ (λ i. Some (at (if holds kind.kind (sym (b.same.regs x h1.1) i) (sym (b.same.regs y h2.1) i) then there i else next i) s.values))
 
 -- an address that a test chose is in its range
@@ -149,24 +149,24 @@ branch_on_runs flags targets start kind t h1 h2 = record {
 }
 
 -- at least none
-unhurried : {flags : IsaFlags} {least address : ℕ} {v : Values} {s : State} → Ends flags least address v s → Ends flags 0 address v s
+unhurried : {flags : IsaFlags} {least address : ℕ} {v : Values} {s : State} → ComesTo flags least address v s → ComesTo flags 0 address v s
 unhurried e = record { steps = e.steps; state = e.state; moved = omega arith; ran = e.ran; pc = e.pc; same = e.same; is_state = e.is_state; are_values = e.are_values; kept = e.kept }
 
 -- a branch with a jump behind it
-branch_jump_ends : (flags : IsaFlags) (c : Bool) (targets : ℕ → ℕ) (base start after : ℕ) (d : Decoded) (s : State) (v : Values) → Begins flags base start after (d ∷ jump_row (between (start + 4) (targets 1)) ∷ []) s v → istep flags s ≡ Some (at (if c then wrap (base + targets 0) else wrap (base + (start + 4))) s.values) → Ends flags (least_steps (if c then To 0 else To 1)) (exit_address targets base start after (if c then To 0 else To 1)) v s
+branch_jump_ends : (flags : IsaFlags) (c : Bool) (targets : ℕ → ℕ) (base start after : ℕ) (d : Decoded) (s : State) (v : Values) → Begins flags base start after (d ∷ decoded_jump (between (start + 4) (targets 1)) ∷ []) s v → istep flags s ≡ Some (at (if c then wrap (base + targets 0) else wrap (base + (start + 4))) s.values) → ComesTo flags (least_steps (if c then To 0 else To 1)) (exit_address targets base start after (if c then To 0 else To 1)) v s
 branch_jump_ends flags true targets base start after d s v b e =
     ends_one flags s (wrap (base + targets 0)) (wrap (base + targets 0)) v s.values e refl (omega arith) b.same b.are_values b.is_state.values refl (lit≤ tt)
 branch_jump_ends flags false targets base start after d s v b e =
-    let jump = jump_row (between (start + 4) (targets 1)) ∷ [] in
+    let jump = decoded_jump (between (start + 4) (targets 1)) ∷ [] in
     let s1 = at (wrap (base + (start + 4))) s.values in
-    let first : Ends flags 1 (wrap (base + (start + 4))) v s = ends_one flags s (wrap (base + (start + 4))) (wrap (base + (start + 4))) v s.values e refl (omega arith) b.same b.are_values b.is_state.values refl (lit≤ tt) in
+    let first : ComesTo flags 1 (wrap (base + (start + 4))) v s = ends_one flags s (wrap (base + (start + 4))) (wrap (base + (start + 4))) v s.values e refl (omega arith) b.same b.are_values b.is_state.values refl (lit≤ tt) in
     let moved : base + start + 4 ≡ base + (start + 4) = omega arith in
     let b1 : Begins flags base (start + 4) after jump s1 v = record {
       base_aligned = b.base_aligned;
       start_even = let h = b.start_even in omega arith;
       long = let h = b.long in omega arith;
       room = b.room;
-      has = subst (λ a. HasRows flags s.values.mem a jump) moved b.has.1;
+      has = subst (λ a. HasOps flags s.values.mem a jump) moved b.has.1;
       pc = refl;
       is_state = record { pc = omega arith; values = b.is_state.values };
       are_values = b.are_values;
@@ -180,6 +180,6 @@ branch_runs flags targets start kind Fallthrough f h1 h2 aimed = absurd (cc)
 branch_runs flags targets start kind (Label t) Fallthrough h1 h2 aimed = branch_on_runs flags targets start kind t h1 h2
 branch_runs flags targets start kind (Label t) (Label f) h1 h2 aimed = record {
   run = λ base after s v b.
-      branch_jump_ends flags (taken_of kind v) targets base start after (compare_row kind (between start (targets 0))) s v b
+      branch_jump_ends flags (taken_of kind v) targets base start after (decoded_branch kind (between start (targets 0))) s v b
       (branch_step flags kind base start after (targets 0) _ s v h1 h2 b);
 }

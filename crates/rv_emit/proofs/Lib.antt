@@ -1,16 +1,16 @@
-mod Blocked
-mod Blocks
-mod Grows
-mod Islanding
+mod SequenceStart
+mod SequencesRun
+mod BufferGrowth
+mod JumpAndIsland
 mod Islands
 mod Jumps
 pub mod Laws
 mod Lines
-mod Patched
-mod Placed
+mod PatchedWords
+mod PlacedWords
 mod Registers
-mod Room
+mod ReachKept
 mod Steps
-mod Straight
-mod Usable
+mod RegisterWrites
+mod Operands
 mod Words

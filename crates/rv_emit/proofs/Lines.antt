@@ -5,9 +5,9 @@ use Rattle.rv_inst.specs.declared.inst.Inst.{Inst}
 use Rattle.rv_inst.specs.declared.inst.Inst.TheVariants.{Nop4, EBreak, Lui, Auipc, AluRRR, AluRRImm12, Mov, MovFromPReg, Ret, Jal, CondBr, Jalr}
 use Rattle.rv_inst.specs.Rules.{inst_rule}
 use Rattle.rv_emit.specs.Runs.{Runs}
-use Rattle.rv_emit.proofs.Usable.{Keeps, keeps, are_usable, move_usable, preg_usable}
-use Rattle.rv_emit.proofs.Blocked.{ends_here, stays}
-use Rattle.rv_emit.proofs.Straight.{alu_rrr_runs, alu_rri_runs, lui_runs, auipc_runs, mov_runs, mov_from_preg_runs, nop4_ends}
+use Rattle.rv_emit.proofs.Operands.{Keeps, keeps, are_usable, move_usable, preg_usable}
+use Rattle.rv_emit.proofs.SequenceStart.{ends_here, stays}
+use Rattle.rv_emit.proofs.RegisterWrites.{alu_rrr_runs, alu_rri_runs, lui_runs, auipc_runs, mov_runs, mov_from_preg_runs, nop4_ends}
 use Rattle.rv_emit.proofs.Jumps.{ret_runs, jal_runs, jalr_runs, branch_runs}
 
 kept_runs : (flags : IsaFlags) (targets : ℕ → ℕ) (start : ℕ) (inst : Inst) → Keeps inst → Runs flags targets start inst

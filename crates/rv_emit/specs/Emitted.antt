@@ -3,7 +3,7 @@ use Rattle.std.specs.Prelude.{◌≡◌, ℕ, ◌+◌, ◌*◌, ◌%◌, ◌^◌
 use Rattle.rv_base.specs.declared.flags.IsaFlags.{IsaFlags}
 use Rattle.rv_base.specs.declared.label.MachLabel.{MachLabel}
 use Rattle.rv_base.specs.LabelUse.{IsFresh}
-use Rattle.rv_machine.specs.declared.decode.Decoded.{Decoded}
+use Rattle.rv_machine.specs.declared.decoding.Decoded.{Decoded}
 use Rattle.rv_machine.specs.Decode.{decode}
 use Rattle.rv_machine.specs.Opcodes.{JAL, BRANCH, AUIPC, OP_IMM}
 use Rattle.rv_machine.specs.Layout.{word_opcode}
@@ -12,7 +12,7 @@ use Rattle.rv_inst.specs.declared.label_use.LabelUse.{LabelUse}
 use Rattle.rv_inst.specs.declared.label_use.LabelUse.TheVariants.{Jal20, PCRel32, B12, PCRelHi20, PCRelLo12I}
 use Rattle.rv_inst.specs.LabelUse.{marks_of, forward_of, backward_of, has_veneer_of, veneer_of}
 use Rattle.rv_inst.specs.LabelUseWords.{word_bytes}
-use Rattle.rv_inst.specs.Fields.{inst_labels}
+use Rattle.rv_inst.specs.Operands.{inst_labels}
 use Rattle.rv_inst.specs.Rules.{inst_rule}
 use Rattle.rv_inst.specs.Sizes.{island_space, inst_sum}
 use Rattle.rv_inst.specs.Uses.{use_at, uses_in}
@@ -21,7 +21,7 @@ use Rattle.mach_buffer.specs.declared.uses.Use.{Use}
 use Rattle.mach_buffer.specs.Reach.{is_needed}
 use Rattle.mach_buffer.specs.Buffer.{bytes_of, uses_of, veneers_of, place_of, labels_of, drawn_of, pending_of, recorded, IsSound}
 use Rattle.mach_buffer.specs.Islands.{AreWindows, VeneersBehind}
-use Rattle.rv_emit.specs.Rows.{blank, rows_of}
+use Rattle.rv_emit.specs.Operations.{no_distance, ops_of}
 
 -- ---- buffers of code
 
@@ -42,7 +42,7 @@ pending b = pending_of has_veneer_of forward_of backward_of b
 -- ---- a block
 
 -- bytes and uses were put at the end, and nothing else was changed
-pub record Adds (block : List ℕ) (own : List (Use LabelUse)) (old new : Buffer) : Type 0 where
+pub record AppendsCode (block : List ℕ) (own : List (Use LabelUse)) (old new : Buffer) : Type 0 where
   pub bytes : bytes_of new ≡ bytes_of old ++ block
   pub uses : uses_of new ≡ uses_of old ++ own
   pub veneers : veneers_of new ≡ veneers_of old
@@ -57,11 +57,11 @@ bytes_of_words [] = []
 bytes_of_words (w ∷ words) = word_bytes w ++ bytes_of_words words
 
 -- words decode to these rows, under all flags
-abbrev pub AreRows : List ℕ → List Decoded → Type 0
-AreRows [] [] = Unit {0}
-AreRows [] (d ∷ rows) = ⊥
-AreRows (w ∷ words) [] = ⊥
-AreRows (w ∷ words) (d ∷ rows) = (w < 2 ^ 32) × ((flags : IsaFlags) → decode flags w ≡ Some d) × AreRows words rows
+abbrev pub AreOps : List ℕ → List Decoded → Type 0
+AreOps [] [] = Unit {0}
+AreOps [] (d ∷ rows) = ⊥
+AreOps (w ∷ words) [] = ⊥
+AreOps (w ∷ words) (d ∷ rows) = (w < 2 ^ 32) × ((flags : IsaFlags) → decode flags w ≡ Some d) × AreOps words rows
 
 -- the opcode of a use's first word
 abbrev pub opcode_of : LabelUse → ℕ
@@ -78,20 +78,20 @@ UsesStand start [] (u ∷ uses) = ⊥
 UsesStand start (w ∷ words) (u ∷ uses) = (u.offset ≡ start) × IsFresh (marks_of u.kind) (word_bytes w) × (word_opcode w ≡ opcode_of u.kind) × (length (marks_of u.kind) ≡ 4) × UsesStand (start + 4) words uses
 
 -- words that decode to these rows were put at the end, with these uses
-pub record PutsWords (rows : List Decoded) (own : List (Use LabelUse)) (old new : Buffer) : Type 0 where
+pub record AppendsWords (rows : List Decoded) (own : List (Use LabelUse)) (old new : Buffer) : Type 0 where
   pub words : List ℕ
-  pub adds : Adds (bytes_of_words words) own old new
-  pub decode : AreRows words rows
+  pub adds : AppendsCode (bytes_of_words words) own old new
+  pub decode : AreOps words rows
   pub used : UsesStand (length (bytes_of old)) words own
 
 -- the words of an instruction's rows with no distance in them yet, and its uses, were put at the end
-abbrev pub PutsBlock : Inst → Buffer → Buffer → Type 0
-PutsBlock inst old new = PutsWords (rows_of blank inst) (uses_in (length (bytes_of old)) inst) old new
+abbrev pub AppendsInst : Inst → Buffer → Buffer → Type 0
+AppendsInst inst old new = AppendsWords (ops_of no_distance inst) (uses_in (length (bytes_of old)) inst) old new
 
 -- ---- an island
 
 -- an island was put: a jump to a new label that is bound at the end, and the veneers of all that was pending
-pub record PutsIsland (old new : Buffer) : Type 0 where
+pub record AppendsIsland (old new : Buffer) : Type 0 where
   pub round : MachLabel
   pub drawn_label : round.number ≡ 2 ^ 30 + drawn_of old
   pub drawn : drawn_of new ≡ drawn_of old + 1
@@ -109,9 +109,9 @@ pub record PutsIsland (old new : Buffer) : Type 0 where
   pub sound : IsSoundBuffer new
 
 -- an island was put exactly where one is needed before so many bytes
-pub record MakesRoom (distance : ℕ) (old new : Buffer) (made : Bool) : Type 0 where
+pub record IslandIfNeeded (distance : ℕ) (old new : Buffer) (made : Bool) : Type 0 where
   pub asked : made ≡ is_needed (length (bytes_of old)) distance (pending old)
-  pub put : ((made ≡ false) × (new ≡ old)) ⊎ ((made ≡ true) × PutsIsland old new)
+  pub put : ((made ≡ false) × (new ≡ old)) ⊎ ((made ≡ true) × AppendsIsland old new)
 
 -- ---- an instruction
 
@@ -124,12 +124,12 @@ pub record CanEmit (inst : Inst) (b : Buffer) : Type 0 where
   pub room : length (bytes_of b) + inst_sum inst + 8 * length (pending b) + 32 < 2147479552
 
 -- what it puts there: an island where one is asked for and needed, or else its block
-abbrev pub Puts : Option ℕ → Inst → Buffer → Buffer → Type 0
-Puts (Some space) inst old new = (made : Bool) × MakesRoom space old new made
-Puts None inst old new = PutsBlock inst old new
+abbrev pub EmitsInst : Option ℕ → Inst → Buffer → Buffer → Type 0
+EmitsInst (Some space) inst old new = (made : Bool) × IslandIfNeeded space old new made
+EmitsInst None inst old new = AppendsInst inst old new
 
 abbrev pub Emitted : Inst → Buffer → Buffer → Type 0
-Emitted inst old new = Puts (island_space inst) inst old new
+Emitted inst old new = EmitsInst (island_space inst) inst old new
 
 -- ---- bounds
 

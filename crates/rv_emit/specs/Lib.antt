@@ -1,6 +1,6 @@
-pub mod Blocks
+pub mod Sequences
 pub mod Emitted
-pub mod Rows
+pub mod Operations
 pub mod Runs
 pub mod State
 pub mod Usable

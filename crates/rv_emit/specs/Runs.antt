@@ -9,18 +9,18 @@ use Rattle.rv_inst.specs.declared.inst.Inst.{Inst}
 use Rattle.rv_inst.specs.declared.inst.Inst.TheVariants.{Jal, CondBr}
 use Rattle.rv_inst.specs.declared.inst.CondBrTarget.{CondBrTarget}
 use Rattle.rv_inst.specs.declared.inst.CondBrTarget.TheVariants.{Label, Fallthrough}
-use Rattle.rv_inst.specs.Meaning.{Standing, Exit, Next, To, Leave, Break, inst_exit, inst_effect}
-use Rattle.rv_inst.specs.Same.{Same}
-use Rattle.rv_machine.specs.declared.decode.Decoded.{Decoded}
+use Rattle.rv_inst.specs.Meaning.{Placement, Exit, Next, To, Leave, Break, inst_exit, inst_effect}
+use Rattle.rv_inst.specs.SameValues.{Same}
+use Rattle.rv_machine.specs.declared.decoding.Decoded.{Decoded}
 use Rattle.rv_machine.specs.Decode.{decode}
 use Rattle.rv_machine.specs.State.{State, IsState, Values, AreValues, Memory, reg, wrap}
 use Rattle.rv_machine.specs.Steps.{fetch, iter}
-use Rattle.rv_emit.specs.Rows.{distances, rows_of}
+use Rattle.rv_emit.specs.Operations.{distances, ops_of}
 
 -- words that decode to these rows stand in the memory from an address on
-abbrev pub HasRows : IsaFlags → Memory → ℕ → List Decoded → Type 0
-HasRows flags mem a [] = Unit {0}
-HasRows flags mem a (d ∷ rows) = (decode flags (fetch mem a) ≡ Some d) × HasRows flags mem (a + 4) rows
+abbrev pub HasOps : IsaFlags → Memory → ℕ → List Decoded → Type 0
+HasOps flags mem a [] = Unit {0}
+HasOps flags mem a (d ∷ rows) = (decode flags (fetch mem a) ≡ Some d) × HasOps flags mem (a + 4) rows
 
 -- a machine before the rows of a line, beside the listing's values
 pub record Begins (flags : IsaFlags) (base start after : ℕ) (rows : List Decoded) (s : State) (v : Values) : Type 0 where
@@ -28,7 +28,7 @@ pub record Begins (flags : IsaFlags) (base start after : ℕ) (rows : List Decod
   pub start_even : start % 2 ≡ 0
   pub long : after ≡ start + 4 * length rows
   pub room : base + after ≤ 2 ^ 64
-  pub has : HasRows flags s.values.mem (base + start) rows
+  pub has : HasOps flags s.values.mem (base + start) rows
   pub pc : s.pc ≡ wrap (base + start)
   pub is_state : IsState s
   pub are_values : AreValues v
@@ -39,7 +39,7 @@ abbrev pub IsUsable : Reg → Type 0
 IsUsable r = IsIntRegister r × (number_of r < 30)
 
 -- in some steps, at least so many, the machine comes to an address with values that are the same as these
-pub record Ends (flags : IsaFlags) (least address : ℕ) (v : Values) (s : State) : Type 0 where
+pub record ComesTo (flags : IsaFlags) (least address : ℕ) (v : Values) (s : State) : Type 0 where
   pub steps : ℕ
   pub state : State
   pub moved : least ≤ steps
@@ -74,9 +74,9 @@ exit_address place base start after (To label) = wrap (base + place label)
 exit_address place base start after (Leave a) = a
 exit_address place base start after Break = wrap (base + start)
 
-abbrev pub standing : ℕ → ℕ → ℕ → Standing
-standing base start after = record { start = wrap (base + start); after = wrap (base + after) }
+abbrev pub placement : ℕ → ℕ → ℕ → Placement
+placement base start after = record { start = wrap (base + start); after = wrap (base + after) }
 
 -- the rows of an instruction run as it means, wherever they stand, with each use taken as reaching its target
 pub record Runs (flags : IsaFlags) (targets : ℕ → ℕ) (start : ℕ) (inst : Inst) : Type 0 where
-  pub run : (base after : ℕ) (s : State) (v : Values) → Begins flags base start after (rows_of (distances targets start) inst) s v → Ends flags (least_steps (used_exit inst v)) (exit_address targets base start after (used_exit inst v)) (inst_effect (standing base start after) inst v) s
+  pub run : (base after : ℕ) (s : State) (v : Values) → Begins flags base start after (ops_of (distances targets start) inst) s v → ComesTo flags (least_steps (used_exit inst v)) (exit_address targets base start after (used_exit inst v)) (inst_effect (placement base start after) inst v) s

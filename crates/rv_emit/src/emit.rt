@@ -5,16 +5,14 @@ ghost use Rattle.mach_buffer.specs.Reach.{CanReach};
 ghost use Rattle.mach_buffer.specs.Buffer.{bytes_of, spoiled_of};
 ghost use Rattle.rv_emit.specs.Emitted.{pending, CanEmit, Emitted, IsBounded};
 ghost use Rattle.rv_inst.specs.Sizes.{island_space as space_of};
-ghost use Rattle.rv_emit.specs.Blocks.{PutRuns};
+ghost use Rattle.rv_emit.specs.Sequences.{AppendedRuns};
 
-use crate::block::put_block;
-use crate::island::make_room;
+use crate::island::emit_island_if_needed;
+use crate::sequence::put_sequence;
 use crate::state::{EmitInfo, EmitState};
 use mach_buffer::buffer::MachBuffer;
 use rv_base::OutOfMemory;
-use rv_inst::error::EmitError;
-use rv_inst::inst::Inst;
-use rv_inst::label_use::LabelUse;
+use rv_inst::{EmitError, Inst, LabelUse};
 use std::alloc::Global;
 
 /// What can be emitted into a buffer.
@@ -62,14 +60,14 @@ pub trait MachInstEmit {
 
 impl MachInstEmit for Inst {
     ghost use Rattle.rv_emit.specs.Emitted.{CanEmit, Emitted, IsBounded};
-    ghost use Rattle.rv_emit.specs.Blocks.{PutRuns};
+    ghost use Rattle.rv_emit.specs.Sequences.{AppendedRuns};
     ghost use Rattle.rv_emit.specs.State.{setting_after as after};
 
     ghost asks = { CanEmit };
 
     ghost puts = { Emitted };
 
-    ghost runs = { PutRuns };
+    ghost runs = { AppendedRuns };
 
     ghost bounds = { IsBounded };
 
@@ -93,18 +91,18 @@ impl MachInstEmit for Inst {
 fn put(sink: &mut MachBuffer<LabelUse>, inst: &Inst) -> Result<(), OutOfMemory>
     requires { CanEmit inst.now sink.old }
     ensures emitted { OnOk result (Emitted inst.now sink.old sink.new) }
-    ensures runs { OnOk result (PutRuns inst.now sink.old sink.new) }
+    ensures runs { OnOk result (AppendedRuns inst.now sink.old sink.new) }
     ensures bounds { OnOk result (IsBounded inst.now sink.old sink.new) }
     ensures reach { OnOk result (CanReach (length (bytes_of sink.new)) (pending sink.new)) }
     ensures spoiled { OnErr result (spoiled_of sink.new ≡ true) }
 {
     match island_space(inst) {
         Some(space) => {
-            make_room(sink, space)?;
+            emit_island_if_needed(sink, space)?;
             Ok(())
         }
         None => {
-            put_block(sink, inst)?;
+            put_sequence(sink, inst)?;
             Ok(())
         }
     }

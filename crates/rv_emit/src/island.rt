@@ -3,20 +3,23 @@
 ghost use Rattle.std.specs.Prelude.{◌≡◌, ◌+◌, ◌*◌, ◌<◌, ◌^◌, length, IfOk, OnOk, OnErr, true};
 ghost use Rattle.mach_buffer.specs.Reach.{CanReach};
 ghost use Rattle.mach_buffer.specs.Buffer.{bytes_of, drawn_of, spoiled_of};
-ghost use Rattle.rv_emit.specs.Emitted.{IsSoundBuffer, pending, PutsIsland, MakesRoom};
+ghost use Rattle.rv_emit.specs.Emitted.{IsSoundBuffer, pending, AppendsIsland, IslandIfNeeded};
 
-use crate::block::put_jump;
+use crate::sequence::put_jump;
 use mach_buffer::buffer::MachBuffer;
 use rv_base::OutOfMemory;
-use rv_inst::label_use::LabelUse;
+use rv_inst::LabelUse;
 
 /// Puts an island where one is needed before so many bytes. Whether it did.
-pub fn make_room(sink: &mut MachBuffer<LabelUse>, distance: u32) -> Result<bool, OutOfMemory>
+pub fn emit_island_if_needed(
+    sink: &mut MachBuffer<LabelUse>,
+    distance: u32,
+) -> Result<bool, OutOfMemory>
     requires sound { IsSoundBuffer sink.old }
     requires reach { CanReach (length (bytes_of sink.old)) (pending sink.old) }
     requires few { drawn_of sink.old < 2 ^ 30 }
     requires room { length (bytes_of sink.old) + 8 * length (pending sink.old) + 32 < 2147479552 }
-    ensures made { IfOk result (λ made. MakesRoom distance sink.old sink.new made) }
+    ensures made { IfOk result (λ made. IslandIfNeeded distance sink.old sink.new made) }
     ensures refused { OnErr result (spoiled_of sink.new ≡ true) }
 {
     if !sink.island_needed(distance) {
@@ -32,7 +35,7 @@ fn put_island(sink: &mut MachBuffer<LabelUse>) -> Result<(), OutOfMemory>
     requires reach { CanReach (length (bytes_of sink.old)) (pending sink.old) }
     requires few { drawn_of sink.old < 2 ^ 30 }
     requires room { length (bytes_of sink.old) + 8 * length (pending sink.old) + 32 < 2147479552 }
-    ensures island { OnOk result (PutsIsland sink.old sink.new) }
+    ensures island { OnOk result (AppendsIsland sink.old sink.new) }
     ensures refused { OnErr result (spoiled_of sink.new ≡ true) }
 {
     let round = sink.get_label()?;

@@ -1,7 +1,11 @@
-//! An instruction becomes a block of code, with its uses of labels.
+//! An instruction becomes a sequence of bytes, with its uses of labels.
 #![tactic(auto)]
 
-pub mod block;
-pub mod emit;
-pub mod island;
-pub mod state;
+mod emit;
+mod island;
+mod sequence;
+mod state;
+
+pub use emit::MachInstEmit;
+pub use island::emit_island_if_needed;
+pub use state::{EmitInfo, EmitState, EmitVState, MachInstEmitState};

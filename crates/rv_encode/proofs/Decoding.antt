@@ -20,7 +20,7 @@ use Rattle.rv_machine.specs.Layout.{word_opcode, i_imm, b_imm, u_bits, u_imm, j_
 use Rattle.rv_machine.specs.Tables.{branch_entry}
 use Rattle.rv_machine.specs.Decode.{decode, by_opcode}
 use Rattle.rv_encode.specs.Layouts.{IsRType, IsIType, IsBType, IsUType, IsJType}
-use Rattle.rv_encode.specs.Rows.{row, alu_rrr_row, alu_rri_row, branch_op, compare_row}
+use Rattle.rv_encode.specs.Operations.{row, decoded_rrr, decoded_rri, branch_op, decoded_branch}
 use Rattle.rv_encode.proofs.Numbers.{signed-low_bits}
 use Rattle.rv_encode.proofs.Tables.{rrr_fields, rri_fields, branch_table}
 
@@ -30,13 +30,13 @@ unfolding decode
 opcode_decodes flags w opcode h = ap (λ k. by_opcode k w) h
 
 -- an operation of two registers, whose word has them as they are or exchanged
-pub rrr_straight : (flags : IsaFlags) (op : AluOPRRR) (w rd rs1 rs2 : ℕ) → is_reversed op ≡ false → IsRType w (rrr_numbers op).opcode rd (rrr_numbers op).funct3 rs1 rs2 (rrr_numbers op).funct7 → decode flags w ≡ Some (alu_rrr_row op rd rs1 rs2)
+pub rrr_straight : (flags : IsaFlags) (op : AluOPRRR) (w rd rs1 rs2 : ℕ) → is_reversed op ≡ false → IsRType w (rrr_numbers op).opcode rd (rrr_numbers op).funct3 rs1 rs2 (rrr_numbers op).funct7 → decode flags w ≡ Some (decoded_rrr op rd rs1 rs2)
 rrr_straight flags op w rd rs1 rs2 straight h = rw straight (opcode_decodes flags w _ h.opcode_is ∙ rrr_fields op w rd rs1 rs2 h)
 
-pub rrr_exchanged : (flags : IsaFlags) (op : AluOPRRR) (w rd rs1 rs2 : ℕ) → is_reversed op ≡ true → IsRType w (rrr_numbers op).opcode rd (rrr_numbers op).funct3 rs2 rs1 (rrr_numbers op).funct7 → decode flags w ≡ Some (alu_rrr_row op rd rs1 rs2)
+pub rrr_exchanged : (flags : IsaFlags) (op : AluOPRRR) (w rd rs1 rs2 : ℕ) → is_reversed op ≡ true → IsRType w (rrr_numbers op).opcode rd (rrr_numbers op).funct3 rs2 rs1 (rrr_numbers op).funct7 → decode flags w ≡ Some (decoded_rrr op rd rs1 rs2)
 rrr_exchanged flags op w rd rs1 rs2 exchanged h = rw exchanged (opcode_decodes flags w _ h.opcode_is ∙ rrr_fields op w rd rs2 rs1 h)
 
-pub rri_decodes : (flags : IsaFlags) (op : AluOPRRI) (w rd rs : ℕ) (imm : Imm12) → IsIType w (rri_numbers op).opcode rd (rri_numbers op).funct3 rs (imm12_of (rri_numbers op).number (low_bits (2 ^ 12) imm.value)) → decode flags w ≡ Some (alu_rri_row op rd rs imm.value)
+pub rri_decodes : (flags : IsaFlags) (op : AluOPRRI) (w rd rs : ℕ) (imm : Imm12) → IsIType w (rri_numbers op).opcode rd (rri_numbers op).funct3 rs (imm12_of (rri_numbers op).number (low_bits (2 ^ 12) imm.value)) → decode flags w ≡ Some (decoded_rri op rd rs imm.value)
 rri_decodes flags op w rd rs imm h = opcode_decodes flags w _ h.opcode_is ∙ rri_fields op w rd rs imm.value (omega (arith, ints)) (omega (arith, ints)) h
 
 upper_imm : (w : ℕ) (imm : Imm20) → u_bits w ≡ low_bits (2 ^ 20) imm.value → u_imm w ≡ imm.value
@@ -58,7 +58,7 @@ jal_decodes flags w rd d up low h =
     let value : j_imm w ≡ d = ap (signed (2 ^ 20)) h.imm_is ∙ signed-low_bits (2 ^ 20) d up low in
     opcode_decodes flags w JAL h.opcode_is ∙ (λ i. Some (row (Base base.Jal) (h.rd_is i) 0 0 (value i)))
 
-pub branch_decodes : (flags : IsaFlags) (w : ℕ) (c : IntegerCompare) (d : ℤ) → d <ℤ pos (2 ^ 12) → neg_ℤ (pos (2 ^ 12)) ≤ℤ d → IsBType w BRANCH (funct3_of (branch_of c.kind)) (number_of (rs1_of c)) (number_of (rs2_of c)) (low_bits (2 ^ 13) d) → decode flags w ≡ Some (compare_row c d)
+pub branch_decodes : (flags : IsaFlags) (w : ℕ) (c : IntegerCompare) (d : ℤ) → d <ℤ pos (2 ^ 12) → neg_ℤ (pos (2 ^ 12)) ≤ℤ d → IsBType w BRANCH (funct3_of (branch_of c.kind)) (number_of (rs1_of c)) (number_of (rs2_of c)) (low_bits (2 ^ 13) d) → decode flags w ≡ Some (decoded_branch c d)
 branch_decodes flags w c d up low h =
     let value : b_imm w ≡ d = ap (signed (2 ^ 12)) h.imm_is ∙ signed-low_bits (2 ^ 12) d up low in
     opcode_decodes flags w BRANCH h.opcode_is

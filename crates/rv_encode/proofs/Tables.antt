@@ -10,7 +10,7 @@ use Rattle.rv_ops.specs.declared.compare.BranchFunct3.{BranchFunct3}
 use Rattle.rv_ops.specs.declared.compare.BranchFunct3.TheVariants as branch
 use Rattle.rv_ops.specs.Alu.{rrr_numbers, rri_numbers, imm12_of}
 use Rattle.rv_ops.specs.Compare.{funct3_of}
-use Rattle.rv_machine.specs.declared.decode.Decoded.{Decoded}
+use Rattle.rv_machine.specs.declared.decoding.Decoded.{Decoded}
 use Rattle.rv_machine.specs.declared.ops.MOp.TheVariants.{Alu}
 use Rattle.rv_machine.specs.State.{signed}
 use Rattle.rv_machine.specs.Opcodes.{OP, OP_IMM, OP_IMM_32}
@@ -18,7 +18,7 @@ use Rattle.rv_machine.specs.Layout.{bits, word_rd, word_funct3, word_rs1, word_r
 use Rattle.rv_machine.specs.Tables.{branch_entry, imm_entry, imm_32_entry, shift_entry, unary_entry, long_shift_32_entry, shift_32_entry, unary_32_entry, op_entry, op_32_entry, unary_op_32_entry}
 use Rattle.rv_machine.specs.Decode.{or_else, by_opcode}
 use Rattle.rv_encode.specs.Layouts.{IsRType, IsIType}
-use Rattle.rv_encode.specs.Rows.{row, rrr_op, alu_rri_row, branch_op}
+use Rattle.rv_encode.specs.Operations.{row, rrr_op, decoded_rri, branch_op}
 use Rattle.rv_encode.proofs.Numbers.{signed-low_bits, funct6_above, amount6_below, funct7_above, amount5_below, funct6_over}
 
 -- ---- operations of two registers
@@ -72,7 +72,7 @@ i_at w opcode rd funct3 rs1 imm h = λ i. i_decoded opcode (h.rd_is i) (h.funct3
     amount5 = let e = h.imm_is in omega (arith, e)
 
 -- an immediate of twelve bits, in its place
-pub rri_fields : (op : AluOPRRI) (w rd rs : ℕ) (imm : ℤ) → imm <ℤ pos (2 ^ 11) → neg_ℤ (pos (2 ^ 11)) ≤ℤ imm → IsIType w (rri_numbers op).opcode rd (rri_numbers op).funct3 rs (imm12_of (rri_numbers op).number (low_bits (2 ^ 12) imm)) → by_opcode (rri_numbers op).opcode w ≡ Some (alu_rri_row op rd rs imm)
+pub rri_fields : (op : AluOPRRI) (w rd rs : ℕ) (imm : ℤ) → imm <ℤ pos (2 ^ 11) → neg_ℤ (pos (2 ^ 11)) ≤ℤ imm → IsIType w (rri_numbers op).opcode rd (rri_numbers op).funct3 rs (imm12_of (rri_numbers op).number (low_bits (2 ^ 12) imm)) → by_opcode (rri_numbers op).opcode w ≡ Some (decoded_rri op rd rs imm)
 rri_fields rri.Addi w rd rs imm up low h = i_at w _ rd _ rs _ h ∙ rw (signed-low_bits (2 ^ 11) imm up low)
 rri_fields rri.Slti w rd rs imm up low h = i_at w _ rd _ rs _ h ∙ rw (signed-low_bits (2 ^ 11) imm up low)
 rri_fields rri.SltiU w rd rs imm up low h = i_at w _ rd _ rs _ h ∙ rw (signed-low_bits (2 ^ 11) imm up low)

@@ -1,3 +1,3 @@
 pub mod Layouts
 pub mod Registers
-pub mod Rows
+pub mod Operations

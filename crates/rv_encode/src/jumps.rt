@@ -12,12 +12,12 @@ ghost use Rattle.rv_machine.specs.Decode.{decode};
 ghost use Rattle.rv_encode.specs.Registers.{IsIntRegister, IsRealRegister};
 ghost use Rattle.rv_encode.specs.Layouts.{IsEven, IsBType, IsJType};
 ghost use Rattle.rv_ops.specs.Compare.{funct3_of, branch_of, is_reversed as reverses, rs1_of, rs2_of};
-ghost use Rattle.rv_encode.specs.Rows.{row, compare_row};
+ghost use Rattle.rv_encode.specs.Operations.{row, decoded_branch};
 
 use crate::layouts::{b_word, encode_i_type, i_word, j_word, reg_to_gpr_num, u_word};
 use rv_base::{Reg, WritableReg};
 use rv_imms::{Imm12, Imm20};
-use rv_machine::opcodes::{AUIPC, JAL, JALR, LUI, SYSTEM};
+use rv_machine::{AUIPC, JAL, JALR, LUI, SYSTEM};
 use rv_ops::IntegerCompare;
 
 /// The word of `lui`: the immediate times 2^12 into an integer register.
@@ -65,7 +65,7 @@ pub fn encode_branch(kind: IntegerCompare, distance: i32) -> u32
     requires high { distance <ℤ pos (2 ^ 12) }
     requires even { IsEven distance }
     ensures layout { IsBType result BRANCH (funct3_of (branch_of kind.kind)) (number_of (rs1_of kind)) (number_of (rs2_of kind)) (low_bits (2 ^ 13) distance) }
-    ensures decodes { (flags : IsaFlags) → decode flags result ≡ Some (compare_row kind distance) }
+    ensures decodes { (flags : IsaFlags) → decode flags result ≡ Some (decoded_branch kind distance) }
 {
     let (branch, is_reversed) = kind.funct3();
     let (rs1, rs2) = ordered(kind, is_reversed);

@@ -7,7 +7,7 @@ use Rattle.std.proofs.lemmas.Nat.{and_mask}
 use Rattle.std.proofs.lemmas.Nat.Bits.{and_high}
 use Rattle.rv_base.specs.LabelUse.{SameOutside}
 use Rattle.rv_base.specs.declared.flags.IsaFlags.{IsaFlags}
-use Rattle.rv_machine.specs.declared.decode.Decoded.{Decoded}
+use Rattle.rv_machine.specs.declared.decoding.Decoded.{Decoded}
 use Rattle.rv_machine.specs.declared.ops.MOp.{MOp}
 use Rattle.rv_machine.specs.declared.ops.MOp.TheVariants.{Base, Alu}
 use Rattle.rv_machine.specs.declared.ops.BaseOp.TheVariants.{Auipc, Jal, Jalr}
@@ -21,7 +21,7 @@ use Rattle.rv_machine.specs.Decode.{decode, by_opcode, decode_branch, decode_jal
 use Rattle.rv_inst.specs.declared.label_use.LabelUse.TheVariants.{Jal20, PCRel32, B12, PCRelHi20, PCRelLo12I}
 use Rattle.rv_inst.specs.LabelUse.{Aims, marks_of, low32, upper_part, lower_part}
 use Rattle.rv_inst.specs.LabelUseWords.{word_at, AreBytes}
-use Rattle.rv_inst.specs.LabelUseBridges.{with_number, IsAccess, PairDecodes}
+use Rattle.rv_inst.specs.LabelUseBridges.{with_immediate, TakesLowerPart, PairDecodes}
 use Rattle.rv_inst.proofs.PatchPart.{upper_of_difference, low32_difference}
 use Rattle.rv_inst.proofs.PatchPair.{pair_distance}
 
@@ -117,51 +117,51 @@ map_map : {A B C : Type 0} (g : B → C) (f : A → B) (h : A → C) → ((x : A
 map_map g f h e None = refl
 map_map g f h e (Some x) = ap Some (e x)
 
-branch_layout : (op : MOp) (f g : ℕ) (d : ℤ) → SameBranch f g → b_imm g ≡ d → b_layout g op ≡ with_number d (b_layout f op)
+branch_layout : (op : MOp) (f g : ℕ) (d : ℤ) → SameBranch f g → b_imm g ≡ d → b_layout g op ≡ with_immediate d (b_layout f op)
 branch_layout op f g d s n = λ i. decoded op 0 (s.rs1 i) (s.rs2 i) (n i)
 
-jump_layout : (op : MOp) (f g : ℕ) (d : ℤ) → SameUpper f g → j_imm g ≡ d → j_layout g op ≡ with_number d (j_layout f op)
+jump_layout : (op : MOp) (f g : ℕ) (d : ℤ) → SameUpper f g → j_imm g ≡ d → j_layout g op ≡ with_immediate d (j_layout f op)
 jump_layout op f g d s n = λ i. decoded op (s.rd i) 0 0 (n i)
 
-upper_layout : (op : MOp) (f g : ℕ) (d : ℤ) → SameUpper f g → u_imm g ≡ d → u_layout g op ≡ with_number d (u_layout f op)
+upper_layout : (op : MOp) (f g : ℕ) (d : ℤ) → SameUpper f g → u_imm g ≡ d → u_layout g op ≡ with_immediate d (u_layout f op)
 upper_layout op f g d s n = λ i. decoded op (s.rd i) 0 0 (n i)
 
-lower_layout : (op : MOp) (f g : ℕ) (d : ℤ) → SameLower f g → i_imm g ≡ d → i_layout g op ≡ with_number d (i_layout f op)
+lower_layout : (op : MOp) (f g : ℕ) (d : ℤ) → SameLower f g → i_imm g ≡ d → i_layout g op ≡ with_immediate d (i_layout f op)
 lower_layout op f g d s n = λ i. decoded op (s.rd i) (s.rs1 i) 0 (n i)
 
-branch_word : (f g : ℕ) (d : ℤ) → SameBranch f g → word_opcode f ≡ BRANCH → b_imm g ≡ d → read g ≡ option_map (with_number d) (read f)
+branch_word : (f g : ℕ) (d : ℤ) → SameBranch f g → word_opcode f ≡ BRANCH → b_imm g ≡ d → read g ≡ option_map (with_immediate d) (read f)
 branch_word f g d s e n =
     word_branch g (s.opcode ∙ e) ∙ ap (option_map (λ op. b_layout g (Base op))) (ap branch_entry s.funct3)
-    ∙ map_map (with_number d) (λ op. b_layout f (Base op)) (λ op. b_layout g (Base op)) (λ op. branch_layout (Base op) f g d s n) (branch_entry (word_funct3 f))
-    ∙ ap (option_map (with_number d)) (sym (word_branch f e))
+    ∙ map_map (with_immediate d) (λ op. b_layout f (Base op)) (λ op. b_layout g (Base op)) (λ op. branch_layout (Base op) f g d s n) (branch_entry (word_funct3 f))
+    ∙ ap (option_map (with_immediate d)) (sym (word_branch f e))
 
-jump_word : (f g : ℕ) (d : ℤ) → SameUpper f g → word_opcode f ≡ JAL → j_imm g ≡ d → read g ≡ option_map (with_number d) (read f)
-jump_word f g d s e n = word_jal g (s.opcode ∙ e) ∙ ap Some (jump_layout (Base Jal) f g d s n) ∙ ap (option_map (with_number d)) (sym (word_jal f e))
+jump_word : (f g : ℕ) (d : ℤ) → SameUpper f g → word_opcode f ≡ JAL → j_imm g ≡ d → read g ≡ option_map (with_immediate d) (read f)
+jump_word f g d s e n = word_jal g (s.opcode ∙ e) ∙ ap Some (jump_layout (Base Jal) f g d s n) ∙ ap (option_map (with_immediate d)) (sym (word_jal f e))
 
-upper_word : (f g : ℕ) (d : ℤ) → SameUpper f g → word_opcode f ≡ AUIPC → u_imm g ≡ d → read g ≡ option_map (with_number d) (read f)
-upper_word f g d s e n = word_auipc g (s.opcode ∙ e) ∙ ap Some (upper_layout (Base Auipc) f g d s n) ∙ ap (option_map (with_number d)) (sym (word_auipc f e))
+upper_word : (f g : ℕ) (d : ℤ) → SameUpper f g → word_opcode f ≡ AUIPC → u_imm g ≡ d → read g ≡ option_map (with_immediate d) (read f)
+upper_word f g d s e n = word_auipc g (s.opcode ∙ e) ∙ ap Some (upper_layout (Base Auipc) f g d s n) ∙ ap (option_map (with_immediate d)) (sym (word_auipc f e))
 
-jalr_word : (f g : ℕ) (d : ℤ) → SameLower f g → i_imm g ≡ d → decode_jalr g ≡ option_map (with_number d) (decode_jalr f)
+jalr_word : (f g : ℕ) (d : ℤ) → SameLower f g → i_imm g ≡ d → decode_jalr g ≡ option_map (with_immediate d) (decode_jalr f)
 jalr_word f g d s n = ap (λ k. if k == 0 then Some (i_layout g (Base Jalr)) else None) s.funct3 ∙ on (word_funct3 f == 0)
   where
-    on : (b : Bool) → (if b then Some (i_layout g (Base Jalr)) else None) ≡ option_map (with_number d) (if b then Some (i_layout f (Base Jalr)) else None)
+    on : (b : Bool) → (if b then Some (i_layout g (Base Jalr)) else None) ≡ option_map (with_immediate d) (if b then Some (i_layout f (Base Jalr)) else None)
     on true = ap Some (lower_layout (Base Jalr) f g d s n)
     on false = refl
 
-lower_word : (f g : ℕ) (d : ℤ) → SameLower f g → IsAccess f → i_imm g ≡ d → read g ≡ option_map (with_number d) (read f)
-lower_word f g d s (inl e) n = word_jalr g (s.opcode ∙ e) ∙ jalr_word f g d s n ∙ ap (option_map (with_number d)) (sym (word_jalr f e))
+lower_word : (f g : ℕ) (d : ℤ) → SameLower f g → TakesLowerPart f → i_imm g ≡ d → read g ≡ option_map (with_immediate d) (read f)
+lower_word f g d s (inl e) n = word_jalr g (s.opcode ∙ e) ∙ jalr_word f g d s n ∙ ap (option_map (with_immediate d)) (sym (word_jalr f e))
 lower_word f g d s (inr e) n =
-    word_addi g (s.opcode ∙ e.0) (s.funct3 ∙ e.1) ∙ ap Some (lower_layout (Alu (Int Addi)) f g d s n) ∙ ap (option_map (with_number d)) (sym (word_addi f e.0 e.1))
+    word_addi g (s.opcode ∙ e.0) (s.funct3 ∙ e.1) ∙ ap Some (lower_layout (Alu (Int Addi)) f g d s n) ∙ ap (option_map (with_immediate d)) (sym (word_addi f e.0 e.1))
 
 -- ---- the bridges
 
 pub decode-patched_branch : (flags : IsaFlags) (old new : List ℕ) (d : ℤ) → AreBytes old → AreBytes new → SameOutside (marks_of B12) old new → word_opcode (word_at old) ≡ BRANCH → Aims B12 new d →
-    decode flags (word_at new) ≡ option_map (with_number d) (decode flags (word_at old))
+    decode flags (word_at new) ≡ option_map (with_immediate d) (decode flags (word_at old))
 unfolding decode
 decode-patched_branch flags old new d b c s e n = branch_word (word_at old) (word_at new) d (same_branch old new b c s) e n
 
 pub decode-patched_jump : (flags : IsaFlags) (old new : List ℕ) (d : ℤ) → AreBytes old → AreBytes new → SameOutside (marks_of Jal20) old new → word_opcode (word_at old) ≡ JAL → Aims Jal20 new d →
-    decode flags (word_at new) ≡ option_map (with_number d) (decode flags (word_at old))
+    decode flags (word_at new) ≡ option_map (with_immediate d) (decode flags (word_at old))
 unfolding decode
 decode-patched_jump flags old new d b c s e n = jump_word (word_at old) (word_at new) d (same_upper old new b c s) e n
 
@@ -178,7 +178,7 @@ second_half old new s = (at 255 0 s.1.1.1.1.0, (at 255 1 s.1.1.1.1.1.0, (at 15 2
     at : (m i : ℕ) → bit_and (slice_index new (4 + i)) m ≡ bit_and (slice_index old (4 + i)) m → bit_and (slice_index (drop 4 new) i) m ≡ bit_and (slice_index (drop 4 old) i) m
     at m i e = ap (λ (x : ℕ). bit_and x m) (at_four new i) ∙ e ∙ sym (ap (λ (x : ℕ). bit_and x m) (at_four old i))
 
-pub decode-patched_pair : (flags : IsaFlags) (old new : List ℕ) (d : ℤ) → AreBytes old → AreBytes new → AreBytes (drop 4 old) → AreBytes (drop 4 new) → SameOutside (marks_of PCRel32) old new → word_opcode (word_at old) ≡ AUIPC → IsAccess (word_at (drop 4 old)) → Aims PCRel32 new d →
+pub decode-patched_pair : (flags : IsaFlags) (old new : List ℕ) (d : ℤ) → AreBytes old → AreBytes new → AreBytes (drop 4 old) → AreBytes (drop 4 new) → SameOutside (marks_of PCRel32) old new → word_opcode (word_at old) ≡ AUIPC → TakesLowerPart (word_at (drop 4 old)) → Aims PCRel32 new d →
     PairDecodes flags old new d
 unfolding decode
 decode-patched_pair flags old new d b c b' c' s e a n = record {

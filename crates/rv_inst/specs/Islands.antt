@@ -4,7 +4,7 @@ use Rattle.rv_base.specs.declared.flags.IsaFlags.{IsaFlags}
 use Rattle.rv_machine.specs.declared.ops.MOp.TheVariants.{Base}
 use Rattle.rv_machine.specs.declared.ops.BaseOp.TheVariants.{Auipc, Jal, Jalr}
 use Rattle.rv_machine.specs.Decode.{decode}
-use Rattle.rv_encode.specs.Rows.{row}
+use Rattle.rv_encode.specs.Operations.{row}
 
 -- the word that stands in bytes at an offset, the least byte first
 abbrev pub word_in : List ℕ → ℕ → ℕ

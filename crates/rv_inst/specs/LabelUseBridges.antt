@@ -2,19 +2,19 @@
 use Rattle.std.specs.Prelude.{◌≡◌, ℕ, ◌⊎◌, List, drop, ℤ, pos, ◌+ℤ◌, ◌*ℤ◌}
 use Rattle.std.specs.Option.{option_map}
 use Rattle.rv_base.specs.declared.flags.IsaFlags.{IsaFlags}
-use Rattle.rv_machine.specs.declared.decode.Decoded.{Decoded}
+use Rattle.rv_machine.specs.declared.decoding.Decoded.{Decoded}
 use Rattle.rv_machine.specs.Layout.{word_opcode, word_funct3, u_imm, i_imm}
 use Rattle.rv_machine.specs.Opcodes.{JALR, OP_IMM}
 use Rattle.rv_machine.specs.Decode.{decode}
 use Rattle.rv_inst.specs.LabelUseWords.{word_at}
 
 -- an operation with another immediate
-abbrev pub with_number : ℤ → Decoded → Decoded
-with_number d r = record r { imm = d }
+abbrev pub with_immediate : ℤ → Decoded → Decoded
+with_immediate d r = record r { imm = d }
 
 -- the word of a jalr, or of an addi
-abbrev pub IsAccess : ℕ → Type 0
-IsAccess word = (word_opcode word ≡ JALR) ⊎ ((word_opcode word ≡ OP_IMM) × (word_funct3 word ≡ 0))
+abbrev pub TakesLowerPart : ℕ → Type 0
+TakesLowerPart word = (word_opcode word ≡ JALR) ⊎ ((word_opcode word ≡ OP_IMM) × (word_funct3 word ≡ 0))
 
 -- the two words of a window decode as before, with the upper and the lower immediate that they hold, which sum to a distance
 pub record PairDecodes (flags : IsaFlags) (old new : List ℕ) (d : ℤ) : Type 0 where
@@ -22,6 +22,6 @@ pub record PairDecodes (flags : IsaFlags) (old new : List ℕ) (d : ℤ) : Type 
   pub lower : ℤ
   pub upper_is : upper ≡ u_imm (word_at new)
   pub lower_is : lower ≡ i_imm (word_at (drop 4 new))
-  pub first : decode flags (word_at new) ≡ option_map (with_number upper) (decode flags (word_at old))
-  pub second : decode flags (word_at (drop 4 new)) ≡ option_map (with_number lower) (decode flags (word_at (drop 4 old)))
+  pub first : decode flags (word_at new) ≡ option_map (with_immediate upper) (decode flags (word_at old))
+  pub second : decode flags (word_at (drop 4 new)) ≡ option_map (with_immediate lower) (decode flags (word_at (drop 4 old)))
   pub sum : (upper *ℤ pos 4096) +ℤ lower ≡ d

@@ -5,7 +5,7 @@ use Rattle.rv_base.specs.CondCodes.{holds}
 use Rattle.rv_ops.specs.declared.alu.AluOPRRR.{AluOPRRR}
 use Rattle.rv_ops.specs.declared.alu.AluOPRRI.{AluOPRRI}
 use Rattle.rv_ops.specs.Alu.{is_reversed}
-use Rattle.rv_encode.specs.Rows.{rrr_op, rri_op}
+use Rattle.rv_encode.specs.Operations.{rrr_op, rri_op}
 use Rattle.rv_inst.specs.declared.inst.Line.{Line}
 use Rattle.rv_inst.specs.declared.inst.Line.TheVariants.{Inst as Put, Bind}
 use Rattle.rv_inst.specs.declared.inst.Inst.{Inst}
@@ -13,25 +13,25 @@ use Rattle.rv_inst.specs.declared.inst.Inst.TheVariants.{Nop0, Nop4, EBreak, Seq
 use Rattle.rv_inst.specs.declared.inst.CondBrTarget.{CondBrTarget}
 use Rattle.rv_inst.specs.declared.inst.CondBrTarget.TheVariants.{Label, Fallthrough}
 use Rattle.rv_machine.specs.State.{Values, reg, set_reg, wrap, low64}
-use Rattle.rv_machine.specs.Effects.{row_result}
+use Rattle.rv_machine.specs.Effects.{alu_result}
 
 -- ---- values
 
 -- an operation of two registers: the manual's row of that name, of which sgt and sgtu exchange the sources
 abbrev pub alu_rrr : AluOPRRR → ℕ → ℕ → ℕ
-alu_rrr op x y = if is_reversed op then row_result (rrr_op op) y x 0 else row_result (rrr_op op) x y 0
+alu_rrr op x y = if is_reversed op then alu_result (rrr_op op) y x 0 else alu_result (rrr_op op) x y 0
 
 -- an operation of a register and a number: the manual's row of that name
 abbrev pub alu_rri : AluOPRRI → ℕ → ℤ → ℕ
-alu_rri op x n = row_result (rri_op op) x 0 (low64 n)
+alu_rri op x n = alu_result (rri_op op) x 0 (low64 n)
 
 -- where a line's own bytes begin and end in the memory
-pub record Standing : Type 0 where
+pub record Placement : Type 0 where
   pub start : ℕ
   pub after : ℕ
 
 -- what an instruction makes of the values; a jump to a register links
-abbrev pub inst_effect : Standing → Inst → Values → Values
+abbrev pub inst_effect : Placement → Inst → Values → Values
 inst_effect at Nop0 v = v
 inst_effect at Nop4 v = v
 inst_effect at EBreak v = v
@@ -52,7 +52,7 @@ inst_effect at (CondBr taken not_taken kind) v = v
 inst_effect at (Jalr rd base offset) v = set_reg v (number_of rd.reg) at.after
 
 -- what a line makes of the values
-abbrev pub effect_of : Standing → Line → Values → Values
+abbrev pub effect_of : Placement → Line → Values → Values
 effect_of at (Put inst) v = inst_effect at inst v
 effect_of at (Bind label) v = v
 

@@ -12,7 +12,7 @@ use Rattle.rv_base.specs.declared.regs.Reg.TheVariants.{Real, Virtual as AVirtua
 use Rattle.rv_base.specs.declared.regs.RegClass.{RegClass}
 use Rattle.rv_base.specs.declared.regs.RegClass.TheVariants.{Int, Float, Vector}
 use Rattle.rv_base.specs.Regs.{class_of}
-use Rattle.rv_ops.specs.Alu.{Upper, Number, Amount6, Amount5, Fixed, rri_numbers}
+use Rattle.rv_ops.specs.Alu.{Upper, Number, Shamt6, Shamt5, Fixed, rri_numbers}
 use Rattle.rv_inst.specs.declared.inst.Line.{Line}
 use Rattle.rv_inst.specs.declared.inst.Line.TheVariants.{Inst as Put, Bind}
 use Rattle.rv_inst.specs.declared.inst.Inst.{Inst}
@@ -21,7 +21,7 @@ use Rattle.rv_inst.specs.declared.inst.CondBrTarget.{CondBrTarget}
 use Rattle.rv_inst.specs.declared.inst.CondBrTarget.TheVariants.{Label as ToLabel, Fallthrough}
 use Rattle.rv_inst.specs.declared.error.Rule.{Rule}
 use Rattle.rv_inst.specs.declared.error.Rule.TheVariants.{Virtual, Class, Reserved, BadType, Range, NoTarget, Label}
-use Rattle.rv_inst.specs.Fields.{inst_registers, inst_labels}
+use Rattle.rv_inst.specs.Operands.{inst_registers, inst_labels}
 
 -- ---- registers
 
@@ -51,8 +51,8 @@ same_class Vector Int = false
 same_class Vector Float = false
 same_class Vector Vector = true
 
-abbrev pub differ : Reg → Reg → Bool
-differ r s = not (same_class (class_of r) (class_of s))
+abbrev pub differ_in_class : Reg → Reg → Bool
+differ_in_class r s = not (same_class (class_of r) (class_of s))
 
 -- sp or fp
 abbrev pub is_stack_or_frame : PReg → Bool
@@ -73,11 +73,11 @@ is_int_type F128 = false
 is_int_type (VectorOf v) = false
 
 -- one more than the largest number that an operation takes, where that is an amount or an index
-abbrev pub amount_limit : Upper → Option ℕ
-amount_limit (Amount6 funct6) = Some 64
-amount_limit (Amount5 funct7) = Some 32
-amount_limit Number = None
-amount_limit (Fixed funct12) = None
+abbrev pub shift_limit : Upper → Option ℕ
+shift_limit (Shamt6 funct6) = Some 64
+shift_limit (Shamt5 funct7) = Some 32
+shift_limit Number = None
+shift_limit (Fixed funct12) = None
 
 abbrev pub is_beyond : Option ℕ → ℤ → Bool
 is_beyond None n = false
@@ -91,8 +91,8 @@ is_fallthrough (ToLabel label) = false
 is_fallthrough Fallthrough = true
 
 -- the labels from 2 ^ 30 on are a buffer's own
-abbrev pub is_inner : MachLabel → Bool
-is_inner label = nat_le (2 ^ 30) label.number
+abbrev pub is_buffer_label : MachLabel → Bool
+is_buffer_label label = nat_le (2 ^ 30) label.number
 
 -- ---- what an instruction's own fields break
 
@@ -104,30 +104,30 @@ pub record Faults : Type 0 where
   pub range : Bool
   pub target : Bool
 
-abbrev pub misplaced : Bool → Faults
-misplaced class = record { class = class; type = false; range = false; target = false }
+abbrev pub has_other_class : Bool → Faults
+has_other_class class = record { class = class; type = false; range = false; target = false }
 
 -- A register's place asks the class Int, but the two of a pair or of a move have one class. A move of an integer register
 -- has an integer type of at most 64 bits; of other registers none is built.
 abbrev pub faults_of : Inst → Faults
-faults_of Nop0 = misplaced false
-faults_of Nop4 = misplaced false
-faults_of EBreak = misplaced false
-faults_of SequencePoint = misplaced false
-faults_of (Args args) = misplaced (list_any (λ (p : ArgPair). differ p.vreg.reg p.preg) args)
-faults_of (Rets rets) = misplaced (list_any (λ (p : RetPair). differ p.vreg p.preg) rets)
-faults_of (DummyUse reg) = misplaced false
-faults_of (EmitIsland needed_space) = misplaced false
-faults_of (Lui rd imm) = misplaced (list_any is_other_class (rd.reg ∷ []))
-faults_of (Auipc rd imm) = misplaced (list_any is_other_class (rd.reg ∷ []))
-faults_of (AluRRR op rd rs1 rs2) = misplaced (list_any is_other_class (rd.reg ∷ rs1 ∷ rs2 ∷ []))
-faults_of (AluRRImm12 op rd rs imm) = record { class = list_any is_other_class (rd.reg ∷ rs ∷ []); type = false; range = is_beyond (amount_limit (rri_numbers op).number) imm.value; target = false }
-faults_of (Mov rd rm type) = record { class = differ rd.reg rm; type = not (is_int_class (class_of rm) && is_int_type type); range = false; target = false }
-faults_of (MovFromPReg rd rm) = misplaced (is_other_class rd.reg || not (is_stack_or_frame rm))
-faults_of Ret = misplaced false
-faults_of (Jal label) = misplaced false
+faults_of Nop0 = has_other_class false
+faults_of Nop4 = has_other_class false
+faults_of EBreak = has_other_class false
+faults_of SequencePoint = has_other_class false
+faults_of (Args args) = has_other_class (list_any (λ (p : ArgPair). differ_in_class p.vreg.reg p.preg) args)
+faults_of (Rets rets) = has_other_class (list_any (λ (p : RetPair). differ_in_class p.vreg p.preg) rets)
+faults_of (DummyUse reg) = has_other_class false
+faults_of (EmitIsland needed_space) = has_other_class false
+faults_of (Lui rd imm) = has_other_class (list_any is_other_class (rd.reg ∷ []))
+faults_of (Auipc rd imm) = has_other_class (list_any is_other_class (rd.reg ∷ []))
+faults_of (AluRRR op rd rs1 rs2) = has_other_class (list_any is_other_class (rd.reg ∷ rs1 ∷ rs2 ∷ []))
+faults_of (AluRRImm12 op rd rs imm) = record { class = list_any is_other_class (rd.reg ∷ rs ∷ []); type = false; range = is_beyond (shift_limit (rri_numbers op).number) imm.value; target = false }
+faults_of (Mov rd rm type) = record { class = differ_in_class rd.reg rm; type = not (is_int_class (class_of rm) && is_int_type type); range = false; target = false }
+faults_of (MovFromPReg rd rm) = has_other_class (is_other_class rd.reg || not (is_stack_or_frame rm))
+faults_of Ret = has_other_class false
+faults_of (Jal label) = has_other_class false
 faults_of (CondBr taken not_taken kind) = record { class = list_any is_other_class (kind.rs1 ∷ kind.rs2 ∷ []); type = false; range = false; target = is_fallthrough taken }
-faults_of (Jalr rd base offset) = misplaced (list_any is_other_class (rd.reg ∷ base ∷ []))
+faults_of (Jalr rd base offset) = has_other_class (list_any is_other_class (rd.reg ∷ base ∷ []))
 
 abbrev pub is_misplaced : Inst → Bool
 is_misplaced inst = (faults_of inst).class
@@ -156,9 +156,9 @@ inst_rule inst =
     if has_bad_type inst then Some BadType else
     if is_out_of_range inst then Some Range else
     if lacks_target inst then Some NoTarget else
-    if list_any is_inner (inst_labels inst) then Some Label else None
+    if list_any is_buffer_label (inst_labels inst) then Some Label else None
 
 -- the first rule that a line breaks
 abbrev pub broken_rule : Line → Option Rule
 broken_rule (Put inst) = inst_rule inst
-broken_rule (Bind label) = if is_inner label then Some Label else None
+broken_rule (Bind label) = if is_buffer_label label then Some Label else None

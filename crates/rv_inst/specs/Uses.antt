@@ -8,7 +8,7 @@ use Rattle.rv_inst.specs.declared.inst.CondBrTarget.{CondBrTarget}
 use Rattle.rv_inst.specs.declared.inst.CondBrTarget.TheVariants.{Label, Fallthrough}
 use Rattle.rv_inst.specs.declared.label_use.LabelUse.{LabelUse}
 use Rattle.rv_inst.specs.declared.label_use.LabelUse.TheVariants.{Jal20, B12}
-use Rattle.rv_inst.specs.Fields.{Targets, NoTarget, Jumps, Branches, targets_of}
+use Rattle.rv_inst.specs.Operands.{Targets, NoTarget, Jumps, Branches, targets_of}
 use Rattle.mach_buffer.specs.declared.uses.Use.{Use}
 
 abbrev pub use_at : ℕ → MachLabel → LabelUse → Use LabelUse

@@ -1,9 +1,9 @@
 //! Which rule a line breaks.
 
 ghost use Rattle.std.specs.Prelude.{◌≡◌, ◌++◌};
-ghost use Rattle.rv_inst.specs.Rules.{is_inner, is_misplaced, has_bad_type, is_out_of_range, lacks_target, is_fallthrough, inst_rule, broken_rule};
+ghost use Rattle.rv_inst.specs.Rules.{is_buffer_label, is_misplaced, has_bad_type, is_out_of_range, lacks_target, is_fallthrough, inst_rule, broken_rule};
 ghost use Rattle.std.specs.List.{list_any};
-ghost use Rattle.rv_inst.specs.Fields.{inst_labels, target_labels};
+ghost use Rattle.rv_inst.specs.Operands.{inst_labels, target_labels};
 ghost use Rattle.rv_inst.specs.declared.inst.Family.TheVariants.{Control};
 ghost use Rattle.rv_inst.specs.Families.{family_of};
 
@@ -27,7 +27,7 @@ impl Line {
         match self {
             Line::Inst(inst) => inst.check(flags, frame, constants),
             Line::Bind(label) => {
-                if is_inner(*label) {
+                if is_buffer_label(*label) {
                     Some(Rule::Label)
                 } else {
                     None
@@ -68,8 +68,8 @@ impl Inst {
 }
 
 /// Whether a label is one of those that a buffer makes for itself.
-fn is_inner(label: MachLabel) -> bool
-    ensures { result ≡ is_inner label }
+fn is_buffer_label(label: MachLabel) -> bool
+    ensures { result ≡ is_buffer_label label }
 {
     label.number >= 1 << 30
 }
@@ -97,25 +97,25 @@ fn lacks_target(inst: &Inst) -> bool
 }
 
 fn is_inner_target(target: CondBrTarget) -> bool
-    ensures { result ≡ list_any is_inner (target_labels target) }
+    ensures { result ≡ list_any is_buffer_label (target_labels target) }
 {
     match target {
-        CondBrTarget::Label(label) => is_inner(label),
+        CondBrTarget::Label(label) => is_buffer_label(label),
         CondBrTarget::Fallthrough => false,
     }
 }
 
 fn has_inner_target(taken: CondBrTarget, not_taken: CondBrTarget) -> bool
-    ensures { result ≡ list_any is_inner (target_labels taken ++ target_labels not_taken) }
+    ensures { result ≡ list_any is_buffer_label (target_labels taken ++ target_labels not_taken) }
 {
     is_inner_target(taken) || is_inner_target(not_taken)
 }
 
 fn control_has_inner_label(inst: &Inst) -> bool
-    ensures { family_of inst.now ≡ Control → result ≡ list_any is_inner (inst_labels inst.now) }
+    ensures { family_of inst.now ≡ Control → result ≡ list_any is_buffer_label (inst_labels inst.now) }
 {
     match inst {
-        Inst::Jal { label } => is_inner(*label),
+        Inst::Jal { label } => is_buffer_label(*label),
         Inst::CondBr {
             taken,
             not_taken,
@@ -126,10 +126,10 @@ fn control_has_inner_label(inst: &Inst) -> bool
 }
 
 fn has_inner_label(inst: &Inst) -> bool
-    ensures { result ≡ list_any is_inner (inst_labels inst.now) }
+    ensures { result ≡ list_any is_buffer_label (inst_labels inst.now) }
 {
     match inst.family() {
-        Family::Marks | Family::Plain => false,
+        Family::Pseudo | Family::Integer => false,
         Family::Control => control_has_inner_label(inst),
     }
 }

@@ -16,7 +16,7 @@ pub enum CondBrTarget {
 
 impl CondBrTarget {
     ghost use Rattle.std.specs.Prelude.{is_none};
-    ghost use Rattle.rv_inst.specs.Targets.{label_of};
+    ghost use Rattle.rv_inst.specs.CondBrTargets.{label_of};
 
     /// The label, where it is one.
     pub fn as_label(self) -> Option<MachLabel>
@@ -38,7 +38,7 @@ impl CondBrTarget {
 
 impl fmt::Display for CondBrTarget {
     ghost use Rattle.std.specs.Prelude.{Some};
-    ghost use Rattle.rv_inst.specs.Targets.{text_of};
+    ghost use Rattle.rv_inst.specs.CondBrTargets.{text_of};
 
     ghost output = { λ target. Some (text_of target) };
 
@@ -126,9 +126,9 @@ pub enum Inst {
 #[derive(Clone, Copy, Debug, PartialEq, Eq)]
 pub enum Family {
     /// Those that compute nothing.
-    Marks,
+    Pseudo,
     /// Those that write registers, and go on.
-    Plain,
+    Integer,
     /// Those that go elsewhere.
     Control,
 }
@@ -147,13 +147,13 @@ impl Inst {
             | Inst::Args { args: _ }
             | Inst::Rets { rets: _ }
             | Inst::DummyUse { reg: _ }
-            | Inst::EmitIsland { needed_space: _ } => Family::Marks,
+            | Inst::EmitIsland { needed_space: _ } => Family::Pseudo,
             Inst::Lui { .. }
             | Inst::Auipc { .. }
             | Inst::AluRRR { .. }
             | Inst::AluRRImm12 { .. }
             | Inst::Mov { .. }
-            | Inst::MovFromPReg { .. } => Family::Plain,
+            | Inst::MovFromPReg { .. } => Family::Integer,
             Inst::Ret | Inst::Jal { label: _ } | Inst::CondBr { .. } | Inst::Jalr { .. } => {
                 Family::Control
             }

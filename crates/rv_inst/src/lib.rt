@@ -1,12 +1,18 @@
 //! Instructions and lines: what they are, which rules they keep, and what they mean.
 #![tactic(auto)]
 
-pub mod check;
-pub mod code;
-pub mod error;
-pub mod inst;
-pub mod job;
-pub mod label_use;
+mod check;
+mod code;
+mod error;
+mod inst;
+mod job;
+mod label_use;
 mod places;
 mod ranges;
 mod registers;
+
+pub use code::{Code, LabelPlace, LineSpan};
+pub use error::{EmitError, Rule};
+pub use inst::{CondBrTarget, Family, Inst, Line};
+pub use job::Job;
+pub use label_use::LabelUse;

@@ -4,8 +4,8 @@ ghost use Rattle.std.specs.Prelude.{◌≡◌};
 ghost use Rattle.std.specs.List.{list_any};
 ghost use Rattle.rv_base.specs.declared.call.ArgPair.{ArgPair};
 ghost use Rattle.rv_base.specs.declared.call.RetPair.{RetPair};
-ghost use Rattle.rv_inst.specs.Rules.{differ, is_stack_or_frame, is_misplaced};
-ghost use Rattle.rv_inst.specs.declared.inst.Family.TheVariants.{Marks, Plain};
+ghost use Rattle.rv_inst.specs.Rules.{differ_in_class, is_stack_or_frame, is_misplaced};
+ghost use Rattle.rv_inst.specs.declared.inst.Family.TheVariants.{Pseudo, Integer};
 ghost use Rattle.rv_inst.specs.Families.{family_of};
 
 use crate::inst::{Family, Inst};
@@ -13,8 +13,8 @@ use crate::registers::{RegisterTest, control_has, is_other_class, plain_has};
 use rv_base::{ArgPair as Arg, PReg, Reg, RegClass, RetPair as Ret};
 
 /// Whether two registers are of different classes.
-fn differ(first: Reg, second: Reg) -> bool
-    ensures { result ≡ differ first second }
+fn differ_in_class(first: Reg, second: Reg) -> bool
+    ensures { result ≡ differ_in_class first second }
 {
     match (first.class(), second.class()) {
         (RegClass::Int, RegClass::Int)
@@ -34,19 +34,19 @@ fn is_stack_or_frame(reg: PReg) -> bool
 }
 
 fn any_arg_differs(args: &[Arg]) -> bool
-    ensures { result ≡ list_any (λ (p : ArgPair). differ p.vreg.reg p.preg) args.now }
+    ensures { result ≡ list_any (λ (p : ArgPair). differ_in_class p.vreg.reg p.preg) args.now }
 {
-    args.iter().any(|p| differ(p.vreg.reg, p.preg))
+    args.iter().any(|p| differ_in_class(p.vreg.reg, p.preg))
 }
 
 fn any_ret_differs(rets: &[Ret]) -> bool
-    ensures { result ≡ list_any (λ (p : RetPair). differ p.vreg p.preg) rets.now }
+    ensures { result ≡ list_any (λ (p : RetPair). differ_in_class p.vreg p.preg) rets.now }
 {
-    rets.iter().any(|p| differ(p.vreg, p.preg))
+    rets.iter().any(|p| differ_in_class(p.vreg, p.preg))
 }
 
 fn marks_misplaced(inst: &Inst) -> bool
-    ensures { family_of inst.now ≡ Marks → result ≡ is_misplaced inst.now }
+    ensures { family_of inst.now ≡ Pseudo → result ≡ is_misplaced inst.now }
 {
     match inst {
         Inst::Args { args } => any_arg_differs(args.as_slice()),
@@ -56,10 +56,10 @@ fn marks_misplaced(inst: &Inst) -> bool
 }
 
 fn plain_misplaced(inst: &Inst) -> bool
-    ensures { family_of inst.now ≡ Plain → result ≡ is_misplaced inst.now }
+    ensures { family_of inst.now ≡ Integer → result ≡ is_misplaced inst.now }
 {
     match inst {
-        Inst::Mov { rd, rm, ty: _ } => differ(rd.reg, *rm),
+        Inst::Mov { rd, rm, ty: _ } => differ_in_class(rd.reg, *rm),
         Inst::MovFromPReg { rd, rm } => is_other_class(rd.reg) || !is_stack_or_frame(*rm),
         _ => plain_has(RegisterTest::OtherClass, inst),
     }
@@ -70,8 +70,8 @@ pub fn is_misplaced(inst: &Inst) -> bool
     ensures { result ≡ is_misplaced inst.now }
 {
     match inst.family() {
-        Family::Marks => marks_misplaced(inst),
-        Family::Plain => plain_misplaced(inst),
+        Family::Pseudo => marks_misplaced(inst),
+        Family::Integer => plain_misplaced(inst),
         Family::Control => control_has(RegisterTest::OtherClass, inst),
     }
 }

@@ -3,7 +3,7 @@
 ghost use Rattle.std.specs.Prelude.{◌≡◌, not, ◌&&◌};
 ghost use Rattle.rv_base.specs.Regs.{class_of};
 ghost use Rattle.rv_ops.specs.Alu.{rri_numbers};
-ghost use Rattle.rv_inst.specs.Rules.{is_int_class, is_int_type, has_bad_type, amount_limit, is_beyond, is_out_of_range};
+ghost use Rattle.rv_inst.specs.Rules.{is_int_class, is_int_type, has_bad_type, shift_limit, is_beyond, is_out_of_range};
 
 use crate::inst::Inst;
 use rv_base::{IrType, Reg, RegClass};
@@ -41,7 +41,7 @@ pub fn has_bad_type(inst: &Inst) -> bool
 
 /// Whether the number is no amount of the operation's width, where it takes one.
 fn is_amount_beyond(op: AluOPRRI, imm12: Imm12) -> bool
-    ensures { result ≡ is_beyond (amount_limit (rri_numbers op).number) imm12.value }
+    ensures { result ≡ is_beyond (shift_limit (rri_numbers op).number) imm12.value }
 {
     if op.option_funct6().is_some() {
         imm12.value < 0 || imm12.value >= 64

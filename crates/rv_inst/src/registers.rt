@@ -2,10 +2,10 @@
 
 ghost use Rattle.std.specs.Prelude.{◌≡◌};
 ghost use Rattle.std.specs.List.{list_any};
-ghost use Rattle.rv_inst.specs.Fields.{arg_registers, ret_registers, inst_registers};
-ghost use Rattle.rv_inst.specs.declared.inst.Family.TheVariants.{Marks, Plain, Control};
+ghost use Rattle.rv_inst.specs.Operands.{arg_registers, ret_registers, inst_registers};
+ghost use Rattle.rv_inst.specs.declared.inst.Family.TheVariants.{Pseudo, Integer, Control};
 ghost use Rattle.rv_inst.specs.Families.{family_of};
-ghost use Rattle.rv_inst.specs.Tests.{test_of};
+ghost use Rattle.rv_inst.specs.RegisterTests.{test_of};
 
 use crate::inst::{Family, Inst};
 use rv_base::{ArgPair, Reg, RegClass, RetPair};
@@ -91,7 +91,7 @@ fn any_of_rets(test: RegisterTest, pairs: &[RetPair]) -> bool
 }
 
 fn marks_has(test: RegisterTest, inst: &Inst) -> bool
-    ensures { family_of inst.now ≡ Marks → result ≡ list_any (test_of test) (inst_registers inst.now) }
+    ensures { family_of inst.now ≡ Pseudo → result ≡ list_any (test_of test) (inst_registers inst.now) }
 {
     match inst {
         Inst::Args { args } => any_of_args(test, args.as_slice()),
@@ -103,7 +103,7 @@ fn marks_has(test: RegisterTest, inst: &Inst) -> bool
 
 /// Whether the test holds of a register of a plain instruction.
 pub fn plain_has(test: RegisterTest, inst: &Inst) -> bool
-    ensures { family_of inst.now ≡ Plain → result ≡ list_any (test_of test) (inst_registers inst.now) }
+    ensures { family_of inst.now ≡ Integer → result ≡ list_any (test_of test) (inst_registers inst.now) }
 {
     match inst {
         Inst::Lui { rd, imm: _ } => any_of(test, &[rd.reg]),
@@ -150,8 +150,8 @@ pub fn has_register(test: RegisterTest, inst: &Inst) -> bool
     ensures { result ≡ list_any (test_of test) (inst_registers inst.now) }
 {
     match inst.family() {
-        Family::Marks => marks_has(test, inst),
-        Family::Plain => plain_has(test, inst),
+        Family::Pseudo => marks_has(test, inst),
+        Family::Integer => plain_has(test, inst),
         Family::Control => control_has(test, inst),
     }
 }

@@ -11,7 +11,7 @@ use crate::form_names::{Form, form_named};
 use crate::pairs::listed;
 use crate::tokens::next_word;
 use rv_base::List;
-use rv_inst::inst::{Inst, Line};
+use rv_inst::{Inst, Line};
 use rv_ops::IntegerCompare;
 use std::alloc::Global;
 

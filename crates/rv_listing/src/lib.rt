@@ -1,16 +1,20 @@
 //! Listings read to jobs, and codes reported.
 #![tactic(auto)]
 
+mod code_report;
 mod comparisons;
-pub mod fields;
-pub mod form_names;
-pub mod forms;
+mod fields;
+mod form_names;
+mod forms;
 mod operands;
 mod operations;
 mod pairs;
-pub mod reading;
-pub mod registers;
-pub mod report;
+mod reading;
+mod registers;
 mod slots;
-pub mod tokens;
+mod tokens;
 mod types;
+
+pub use code_report::report;
+pub use reading::{ReadError, read_job};
+pub use registers::register;

@@ -10,7 +10,7 @@ use crate::registers::register;
 use crate::tokens::{is, natural, number, signed, starts};
 use rv_base::{MachLabel, PReg, Reg, Writable};
 use rv_imms::{Imm12, Imm20};
-use rv_inst::inst::CondBrTarget;
+use rv_inst::CondBrTarget;
 
 impl Token for Reg {
     ghost reads = { register };

@@ -10,7 +10,7 @@ use crate::fields::LineError;
 use crate::forms;
 use crate::tokens::{first_word, next_line};
 use rv_base::{FrameLayout, IsaFlags, List};
-use rv_inst::job::Job;
+use rv_inst::Job;
 use std::alloc::Global;
 use thiserror::Error;
 

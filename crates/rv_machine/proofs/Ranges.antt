@@ -23,7 +23,7 @@ use Rattle.rv_machine.specs.Arithmetic.{signed_below, signed64, signed32, low_wo
 use Rattle.rv_machine.specs.Int.{int_result}
 use Rattle.rv_machine.specs.MulDiv.{mul_result}
 use Rattle.rv_machine.specs.Bits.{bit_result, spread}
-use Rattle.rv_machine.specs.Effects.{row_result}
+use Rattle.rv_machine.specs.Effects.{alu_result}
 
 -- ---- by the kind of word
 
@@ -233,7 +233,7 @@ bit_fits Bset x y imm hx hy hi = or_lt 64 x _ hx (power_fits y)
 bit_fits Bseti x y imm hx hy hi = or_lt 64 x _ hx (power_fits imm)
 
 -- over all families
-pub row_fits : (op : AluOp) (x y imm : ℕ) → x < 2 ^ 64 → y < 2 ^ 64 → imm < 2 ^ 64 → row_result op x y imm < 2 ^ 64
-row_fits (IntFamily op) x y imm hx hy hi = int_fits op x y imm hx hy hi
-row_fits (MulFamily op) x y imm hx hy hi = mul_fits op x y hx hy
-row_fits (Bit op) x y imm hx hy hi = bit_fits op x y imm hx hy hi
+pub alu_result_fits : (op : AluOp) (x y imm : ℕ) → x < 2 ^ 64 → y < 2 ^ 64 → imm < 2 ^ 64 → alu_result op x y imm < 2 ^ 64
+alu_result_fits (IntFamily op) x y imm hx hy hi = int_fits op x y imm hx hy hi
+alu_result_fits (MulFamily op) x y imm hx hy hi = mul_fits op x y hx hy
+alu_result_fits (Bit op) x y imm hx hy hi = bit_fits op x y imm hx hy hi

@@ -1,6 +1,6 @@
 -- What each operation does, in the manual's terms: registers hold 64 bits, and sums wrap.
 use Rattle.std.specs.Prelude.{ℕ, ◌+◌, ◌*◌, ◌/◌, ◌^◌, nat_eq, nat_lt, if◌then◌else◌, Bool, not, Option, Some, None}
-use Rattle.rv_machine.specs.declared.decode.Decoded.{Decoded}
+use Rattle.rv_machine.specs.declared.decoding.Decoded.{Decoded}
 use Rattle.rv_machine.specs.declared.ops.MOp.{MOp}
 use Rattle.rv_machine.specs.declared.ops.MOp.TheVariants.{Base, Alu}
 use Rattle.rv_machine.specs.declared.ops.BaseOp.{BaseOp}
@@ -46,10 +46,10 @@ branches d s taken = at (if taken then wrap (s.pc + imm_of d) else next_of d s) 
 -- ---- by family
 
 -- what an operation computes of rs1, rs2 and its immediate, all below 2 ^ 64
-abbrev pub row_result : AluOp → ℕ → ℕ → ℕ → ℕ
-row_result (Int op) x y imm = int_result op x y imm
-row_result (Mul op) x y imm = mul_result op x y
-row_result (Bit op) x y imm = bit_result op x y imm
+abbrev pub alu_result : AluOp → ℕ → ℕ → ℕ → ℕ
+alu_result (Int op) x y imm = int_result op x y imm
+alu_result (Mul op) x y imm = mul_result op x y
+alu_result (Bit op) x y imm = bit_result op x y imm
 
 -- what the other operations of RV64I do; ebreak has no step
 abbrev pub base_act : BaseOp → Decoded → State → Option State
@@ -68,7 +68,7 @@ base_act Ebreak d s = None
 
 abbrev pub act_on : MOp → Decoded → State → Option State
 act_on (Base op) d s = base_act op d s
-act_on (Alu op) d s = Some (puts d s (row_result op (x_of d s) (y_of d s) (imm_of d)))
+act_on (Alu op) d s = Some (puts d s (alu_result op (x_of d s) (y_of d s) (imm_of d)))
 
 -- the state after an operation, where it has a step
 abbrev pub act : Decoded → State → Option State

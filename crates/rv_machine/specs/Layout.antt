@@ -1,7 +1,7 @@
 -- "2.2 Base Instruction Formats" and "2.3 Immediate Encoding Variants": the fields of a word of 32 bits, its immediates,
 -- and the operation that each layout holds.
 use Rattle.std.specs.Prelude.{ℕ, ◌+◌, ◌-◌, ◌*◌, ◌/◌, ◌%◌, ◌^◌, ◌<◌, ℤ, pos, false}
-use Rattle.rv_machine.specs.declared.decode.Decoded.{Decoded}
+use Rattle.rv_machine.specs.declared.decoding.Decoded.{Decoded}
 use Rattle.rv_machine.specs.declared.ops.MOp.{MOp}
 use Rattle.rv_machine.specs.State.{signed}
 

@@ -2,7 +2,7 @@
 use Rattle.std.specs.Prelude.{◌≡◌, ℕ, zero, suc, ◌+◌, ◌*◌, ◌%◌, ◌^◌, ◌<◌, nat_eq, if◌then◌else◌, List, length, slice_index, Option, Some, None, replicate}
 use Rattle.std.specs.FinMap as map
 use Rattle.rv_base.specs.declared.flags.IsaFlags.{IsaFlags}
-use Rattle.rv_machine.specs.declared.decode.Decoded.{Decoded}
+use Rattle.rv_machine.specs.declared.decoding.Decoded.{Decoded}
 use Rattle.rv_machine.specs.declared.machine.Step.{Step}
 use Rattle.rv_machine.specs.declared.machine.Step.TheVariants.{Stepped, Stopped}
 use Rattle.rv_machine.specs.State.{Memory, State, byte, store, wrap, at, set_reg}

@@ -4,7 +4,7 @@
 ghost use Rattle.std.specs.Prelude.{◌≡◌};
 ghost use Rattle.rv_machine.specs.Layout.{HasFileRegisters, i_imm, b_bits, b_imm, u_imm, j_bits, j_imm, bare_form, r_layout, i_layout, shift_layout, shift_32_layout, unary_layout, b_layout, u_layout, j_layout, fence_layout};
 
-use crate::decode::Decoded;
+use crate::decoding::Decoded;
 use crate::fields::{rd, rs1, rs2, sign_extend};
 use crate::ops::MOp;
 

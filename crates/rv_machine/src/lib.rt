@@ -3,15 +3,17 @@
 
 mod arithmetic;
 mod bits;
-pub mod decode;
+mod decoding;
 mod fields;
 mod int;
 mod layouts;
-pub mod machine;
+mod machine;
 mod muldiv;
-pub mod opcodes;
-pub mod ops;
+mod opcodes;
+mod ops;
 mod tables;
 
+pub use decoding::{Decoded, decode};
 pub use machine::{IntMachine, Step};
+pub use opcodes::{AUIPC, BRANCH, JAL, JALR, LUI, MISC_MEM, OP, OP_32, OP_IMM, OP_IMM_32, SYSTEM};
 pub use ops::{AluOp, BaseOp, BitOp, IntOp, MOp, MulOp};

@@ -5,12 +5,12 @@ ghost use Rattle.std.specs.FinMap as map;
 ghost use Rattle.rv_machine.specs.Layout.{HasFileRegisters};
 ghost use Rattle.rv_machine.specs.State.{IsState, byte, reg};
 ghost use Rattle.rv_machine.specs.declared.machine.Step.TheVariants.{Stepped};
-ghost use Rattle.rv_machine.specs.Effects.{x_of, y_of, imm_of, next_of, puts, links, branches, row_result, base_act, act};
+ghost use Rattle.rv_machine.specs.Effects.{x_of, y_of, imm_of, next_of, puts, links, branches, alu_result, base_act, act};
 ghost use Rattle.rv_machine.specs.Steps.{fetch, istep, Machine, zero_at, with_state, with_pc, with_reg, with_memory, with_bytes, HasBytes, Goes, Steps, Ran};
 
 use crate::arithmetic::is_signed_below;
 use crate::bits::bit_result;
-use crate::decode::{Decoded, decode};
+use crate::decoding::{Decoded, decode};
 use crate::int::int_result;
 use crate::muldiv::mul_result;
 use crate::ops::{AluOp, BaseOp, MOp};
@@ -53,7 +53,7 @@ impl Model for IntMachine {
 
 /// What an operation computes of rs1, rs2 and its immediate.
 fn alu_result(op: AluOp, x: u64, y: u64, imm: u64) -> u64
-    ensures { result ≡ row_result op x y imm }
+    ensures { result ≡ alu_result op x y imm }
 {
     match op {
         AluOp::Int(op) => int_result(op, x, y, imm),
@@ -230,7 +230,7 @@ impl IntMachine {
     fn act_alu(&mut self, op: AluOp, d: Decoded) -> Step
         requires { HasFileRegisters d }
         ensures stepped { result ≡ Stepped }
-        ensures state { self.new ≡ with_state self.old (puts d self.old.state (row_result op (x_of d self.old.state) (y_of d self.old.state) (imm_of d))) }
+        ensures state { self.new ≡ with_state self.old (puts d self.old.state (alu_result op (x_of d self.old.state) (y_of d self.old.state) (imm_of d))) }
     {
         let x = self.reg(d.rs1);
         let y = self.reg(d.rs2);

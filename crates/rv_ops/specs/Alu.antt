@@ -149,9 +149,9 @@ pub data Upper : Type 0 where
   -- the immediate
   Number : Upper
   -- funct6 and a shift amount of six bits
-  Amount6 : ℕ → Upper
+  Shamt6 : ℕ → Upper
   -- funct7 and a shift amount of five bits
-  Amount5 : ℕ → Upper
+  Shamt5 : ℕ → Upper
   -- funct12, and no immediate
   Fixed : ℕ → Upper
 
@@ -174,20 +174,20 @@ rri_numbers rri.SltiU = op_imm 3 Number
 rri_numbers rri.Xori = op_imm 4 Number
 rri_numbers rri.Ori = op_imm 6 Number
 rri_numbers rri.Andi = op_imm 7 Number
-rri_numbers rri.Slli = op_imm 1 (Amount6 0x00)
-rri_numbers rri.Srli = op_imm 5 (Amount6 0x00)
-rri_numbers rri.Srai = op_imm 5 (Amount6 0x10)
+rri_numbers rri.Slli = op_imm 1 (Shamt6 0x00)
+rri_numbers rri.Srli = op_imm 5 (Shamt6 0x00)
+rri_numbers rri.Srai = op_imm 5 (Shamt6 0x10)
 rri_numbers rri.Addiw = op_imm32 0 Number
-rri_numbers rri.Slliw = op_imm32 1 (Amount5 0x00)
-rri_numbers rri.SrliW = op_imm32 5 (Amount5 0x00)
-rri_numbers rri.Sraiw = op_imm32 5 (Amount5 0x20)
-rri_numbers rri.Bclri = op_imm 1 (Amount6 0x12)
-rri_numbers rri.Bexti = op_imm 5 (Amount6 0x12)
-rri_numbers rri.Binvi = op_imm 1 (Amount6 0x1a)
-rri_numbers rri.Bseti = op_imm 1 (Amount6 0x0a)
-rri_numbers rri.Rori = op_imm 5 (Amount6 0x18)
-rri_numbers rri.Roriw = op_imm32 5 (Amount5 0x30)
-rri_numbers rri.SlliUw = op_imm32 1 (Amount6 0x02)
+rri_numbers rri.Slliw = op_imm32 1 (Shamt5 0x00)
+rri_numbers rri.SrliW = op_imm32 5 (Shamt5 0x00)
+rri_numbers rri.Sraiw = op_imm32 5 (Shamt5 0x20)
+rri_numbers rri.Bclri = op_imm 1 (Shamt6 0x12)
+rri_numbers rri.Bexti = op_imm 5 (Shamt6 0x12)
+rri_numbers rri.Binvi = op_imm 1 (Shamt6 0x1a)
+rri_numbers rri.Bseti = op_imm 1 (Shamt6 0x0a)
+rri_numbers rri.Rori = op_imm 5 (Shamt6 0x18)
+rri_numbers rri.Roriw = op_imm32 5 (Shamt5 0x30)
+rri_numbers rri.SlliUw = op_imm32 1 (Shamt6 0x02)
 rri_numbers rri.Clz = op_imm 1 (Fixed 0x600)
 rri_numbers rri.Clzw = op_imm32 1 (Fixed 0x600)
 rri_numbers rri.Cpop = op_imm 1 (Fixed 0x602)
@@ -201,28 +201,28 @@ rri_numbers rri.Zexth = record { opcode = 0x3b; funct3 = 4; number = Fixed 0x080
 rri_numbers rri.Orcb = op_imm 5 (Fixed 0x287)
 
 abbrev pub funct6_of : Upper → Option ℕ
-funct6_of (Amount6 f) = Some f
+funct6_of (Shamt6 f) = Some f
 funct6_of Number = None
-funct6_of (Amount5 f) = None
+funct6_of (Shamt5 f) = None
 funct6_of (Fixed f) = None
 
 abbrev pub funct7_of : Upper → Option ℕ
-funct7_of (Amount5 f) = Some f
+funct7_of (Shamt5 f) = Some f
 funct7_of Number = None
-funct7_of (Amount6 f) = None
+funct7_of (Shamt6 f) = None
 funct7_of (Fixed f) = None
 
 abbrev pub funct12_of : Upper → Option ℕ
 funct12_of (Fixed f) = Some f
 funct12_of Number = None
-funct12_of (Amount6 f) = None
-funct12_of (Amount5 f) = None
+funct12_of (Shamt6 f) = None
+funct12_of (Shamt5 f) = None
 
 -- bits 31 to 20 of the word, of an immediate with these twelve bits
 abbrev pub imm12_of : Upper → ℕ → ℕ
 imm12_of Number bits = bits
-imm12_of (Amount6 f) bits = f * 2 ^ 6 + bits % 2 ^ 6
-imm12_of (Amount5 f) bits = f * 2 ^ 5 + bits % 2 ^ 5
+imm12_of (Shamt6 f) bits = f * 2 ^ 6 + bits % 2 ^ 6
+imm12_of (Shamt5 f) bits = f * 2 ^ 5 + bits % 2 ^ 5
 imm12_of (Fixed f) bits = f
 
 abbrev pub rri_name : AluOPRRI → List ℕ

@@ -18,7 +18,7 @@ use Rattle.mach_buffer.specs.Finish.{before_last, CanFinish}
 use Rattle.mach_buffer.proofs.Blocks.{windows_none}
 use Rattle.mach_buffer.proofs.Slack.{slack_from_reach, reaches_from_slack}
 use Rattle.mach_buffer.proofs.Ends.{last_near}
-use Rattle.rv_emit.specs.Emitted.{Buffer, HasWindows, pending, PutsBlock, Puts, Emitted, CanEmit, IsBounded}
+use Rattle.rv_emit.specs.Emitted.{Buffer, HasWindows, pending, AppendsInst, EmitsInst, Emitted, CanEmit, IsBounded}
 use Rattle.rv_inst.specs.Uses.{use_at, uses_in}
 use Rattle.rv_inst.specs.Sizes.{island_space, inst_sum}
 use Rattle.rv_vectors.specs.Single.{names_first, IsStart, HoldsOne}
@@ -82,8 +82,8 @@ holds_one inst old new none s e reach bounded = record {
     start : ℕ
     start = length (bytes_of old)
 
-    p : PutsBlock inst old new
-    p = subst (λ (o : Option ℕ). Puts o inst old new) none e
+    p : AppendsInst inst old new
+    p = subst (λ (o : Option ℕ). EmitsInst o inst old new) none e
 
     own : (j : ℕ) (u : Use LabelUse) → slice_get (uses_of new) j ≡ Some u → slice_get (uses_in start inst) j ≡ Some u
     own j u h = ap (λ (us : List (Use LabelUse)). slice_get us j) (sym (p.adds.uses ∙ ap (λ (us : List (Use LabelUse)). us ++ uses_in start inst) s.uses)) ∙ h

@@ -1,7 +1,7 @@
 -- Code in the machine of this project, at its start.
 use Rattle.std.specs.Prelude.{◌≡◌, ℕ}
 use Rattle.rv_inst.specs.declared.code.Code.{Code}
-use Rattle.rv_inst.specs.Same.{Same}
+use Rattle.rv_inst.specs.SameValues.{Same}
 use Rattle.rv_machine.specs.State.{IsState, AreValues}
 use Rattle.rv_machine.specs.Steps.{Machine}
 use Rattle.rv_asm.specs.Simulation.{Addresses, At, IsPlaced, address_of}

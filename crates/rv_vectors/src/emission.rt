@@ -6,13 +6,15 @@ ghost use Rattle.rv_inst.specs.Sizes.{island_space};
 ghost use Rattle.rv_vectors.specs.Single.{is_first, names_first, IsStart, HoldsOne};
 
 use mach_buffer::buffer::MachBuffer;
-use rv_base::{FrameLayout, IntCC, IrType, IsaFlags, List, MachLabel, OutOfMemory, a0, a1, a2, px_reg, writable_a0, writable_link_reg};
-use rv_emit::emit::MachInstEmit;
-use rv_emit::island::make_room;
-use rv_emit::state::{EmitInfo, EmitState, EmitVState, MachInstEmitState};
+use rv_base::{
+    FrameLayout, IntCC, IrType, IsaFlags, List, MachLabel, OutOfMemory, a0, a1, a2, px_reg,
+    writable_a0, writable_link_reg,
+};
+use rv_emit::{
+    EmitInfo, EmitState, EmitVState, MachInstEmit, MachInstEmitState, emit_island_if_needed,
+};
 use rv_imms::{Imm12, Imm20};
-use rv_inst::inst::{CondBrTarget, Inst};
-use rv_inst::label_use::LabelUse;
+use rv_inst::{CondBrTarget, Inst, LabelUse};
 use rv_ops::{AluOPRRI, AluOPRRR, IntegerCompare};
 use std::alloc::Global;
 use std::process::Abort;
@@ -109,7 +111,7 @@ fn code_of(alloc: Global, inst: &Inst) -> Result<List<u8>, Fail> {
 /// Whether an island is emitted after an instruction, before this many bytes, and the offset after it.
 fn room_of(alloc: Global, inst: &Inst, distance: u32) -> Result<(bool, u32), Fail> {
     let mut buffer = buffer_of(alloc, inst)?;
-    let made = make_room(&mut buffer, distance)?;
+    let made = emit_island_if_needed(&mut buffer, distance)?;
     Ok((made, buffer.cur_offset()))
 }
 

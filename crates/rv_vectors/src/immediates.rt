@@ -1,6 +1,6 @@
 //! Immediates and texts whose expected values come from outside.
 
-use rv_imms::{Imm12, Imm20, Imm5, Imm6, UImm5, Uimm2, Uimm5, Uimm6, generate_imm};
+use rv_imms::{Imm5, Imm6, Imm12, Imm20, UImm5, Uimm2, Uimm5, Uimm6, generate_imm};
 use std::alloc::AllocError;
 
 #[test]

@@ -1,6 +1,6 @@
 //! The table of labels, at numbers that lie close together, far apart, and in both halves.
 
-use mach_labels::table::LabelTable;
+use mach_labels::LabelTable;
 use rv_base::OutOfMemory;
 use std::alloc::Global;
 use std::process::Abort;

@@ -1,8 +1,7 @@
 //! The reach and the patches of each kind of label use, and the targets of branches.
 
 use rv_base::{MachInstLabelUse, MachLabel};
-use rv_inst::inst::CondBrTarget;
-use rv_inst::label_use::LabelUse;
+use rv_inst::{CondBrTarget, LabelUse};
 use std::alloc::{AllocError, Global};
 use std::process::Abort;
 

@@ -1,8 +1,6 @@
 use rv_base::{List, MachLabel, OutOfMemory, Reg, RegClass};
-use rv_inst::code::{Code, LabelPlace, LineSpan};
-use rv_listing::reading::{ReadError, read_job};
-use rv_listing::registers::register;
-use rv_listing::report::report;
+use rv_inst::{Code, LabelPlace, LineSpan};
+use rv_listing::{ReadError, read_job, register, report};
 use std::alloc::Global;
 use std::process::Abort;
 

@@ -1,14 +1,12 @@
 //! Assembled code in the machine: what the headline asks of a state is so of the machine's.
 
 ghost use Rattle.std.specs.Prelude.{◌≡◌, ◌+◌, ◌≤◌, ◌%◌, ◌^◌, length, IfOk};
-ghost use Rattle.rv_asm.specs.Told.{start_of};
+ghost use Rattle.rv_asm.specs.Reported.{start_of};
 ghost use Rattle.rv_vectors.specs.Loaded.{IsBefore};
 
-use rv_asm::assemble::assemble;
+use rv_asm::assemble;
 use rv_base::{FrameLayout, IsaFlags, OutOfMemory};
-use rv_inst::code::Code;
-use rv_inst::error::EmitError;
-use rv_inst::inst::{Inst, Line};
+use rv_inst::{Code, EmitError, Inst, Line};
 use rv_machine::{IntMachine, Step};
 use std::alloc::Global;
 use std::test::Fail;

@@ -1,8 +1,7 @@
 //! Operations at their edges: the answers were computed from the manual's sentences, by whole numbers, outside this project.
 
 use rv_base::{IsaFlags, OutOfMemory};
-use rv_machine::decode::{Decoded, decode};
-use rv_machine::{AluOp, BaseOp, BitOp, IntMachine, IntOp, MOp, MulOp, Step};
+use rv_machine::{AluOp, BaseOp, BitOp, Decoded, IntMachine, IntOp, MOp, MulOp, Step, decode};
 use std::alloc::Global;
 use std::process::Abort;
 

@@ -1,6 +1,10 @@
 //! Texts and records whose expected values come from outside.
 
-use rv_base::{AMode, Constraint, ExternalName, IrType, List, MachLabel, OperandList, OperandVisitor, OutOfMemory, PRegSet, Reg, RegClass, TrapCode, VCodeConstant, a0, a1, a2, f_reg, pv_reg, reg_name, writable_a0, x_reg};
+use rv_base::{
+    AMode, Constraint, ExternalName, IrType, List, MachLabel, OperandList, OperandVisitor,
+    OutOfMemory, PRegSet, Reg, RegClass, TrapCode, VCodeConstant, a0, a1, a2, f_reg, pv_reg,
+    reg_name, writable_a0, x_reg,
+};
 use std::alloc::AllocError;
 
 #[test]

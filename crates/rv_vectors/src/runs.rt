@@ -2,11 +2,13 @@
 
 ghost use Rattle.std.specs.Prelude.{◌<◌, ◌≤◌, length};
 
-use rv_asm::assemble::assemble;
-use rv_base::{FrameLayout, IntCC, IsaFlags, List, MachLabel, OutOfMemory, Reg, Writable, a0, link_reg, x_reg, zero_reg};
+use rv_asm::assemble;
+use rv_base::{
+    FrameLayout, IntCC, IsaFlags, List, MachLabel, OutOfMemory, Reg, Writable, a0, link_reg, x_reg,
+    zero_reg,
+};
 use rv_imms::{Imm12, Imm20};
-use rv_inst::error::EmitError;
-use rv_inst::inst::{CondBrTarget, Inst, Line};
+use rv_inst::{CondBrTarget, EmitError, Inst, Line};
 use rv_machine::{IntMachine, Step};
 use rv_ops::{AluOPRRI, AluOPRRR, IntegerCompare};
 use std::alloc::{AllocError, Global};

@@ -2,7 +2,10 @@
 
 ghost use Rattle.std.specs.Prelude.{◌<◌};
 
-use rv_stream::{MemSink, MemSource, ReadAllError, StdSink, StdSource, SureSink, SureSource, WriteError, read_all, write_all};
+use rv_stream::{
+    MemSink, MemSource, ReadAllError, StdSink, StdSource, SureSink, SureSource, WriteError,
+    read_all, write_all,
+};
 use std::alloc::{AllocError, Global};
 
 const TEN: &[u8] = b"0123456789";

@@ -5,8 +5,7 @@ ghost use Rattle.std.specs.Prelude.{◌≡◌};
 ghost use Rattle.std.specs.Process.{exit_status};
 ghost use Rattle.rv_asm.specs.Outcomes.{status_of};
 
-use rv_asm::outcome::Outcome;
-use rv_asm::run::run;
+use rv_asm::{Outcome, run};
 use rv_stream::{StdSink, StdSource};
 use std::env;
 use std::io::{self, ErrorKind};

@@ -2,11 +2,11 @@ use Rattle.rv_asm.proofs.lines.put_inst.Goals as goal
 
 pub returns-clause-put : goal.returns-clause-put
 returns-clause-put c = record {
-  mid = c.make_way.new.sink;
-  made = c.in_ok-make_way.field-0;
-  room = c.in_ok-make_way.ensures.room;
+  mid = c.emit_needed_island.new.sink;
+  made = c.in_ok-emit_needed_island.field-0;
+  room = c.in_ok-emit_needed_island.ensures.room;
   emitted = c.in_ok-emit.ensures.emitted;
   reach = c.in_ok-emit.ensures.reach;
   start = c.cur_offset-start.ensures;
-  end = c.cur_offset-end.ensures;
+  end = c.cur_offset-outcome_of_call.ensures;
 }

@@ -1,6 +1,6 @@
 use Rattle.rv_asm.specs.BoundLabels.{is_in}
 use Rattle.rv_asm.specs.Refusal.{is_bound}
-use Rattle.rv_asm.proofs.Refused.{finds_by_test}
+use Rattle.rv_asm.proofs.RefusalOrder.{finds_by_test}
 use Rattle.rv_asm.proofs.refusal.find_all.Goals as goal
 
 pub returns : goal.returns

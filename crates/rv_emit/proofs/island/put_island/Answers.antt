@@ -1,5 +1,5 @@
 use Rattle.rv_emit.proofs.Islands.{can_island}
-use Rattle.rv_emit.proofs.Islanding.{jump_put, puts_island, same_windows}
+use Rattle.rv_emit.proofs.JumpAndIsland.{jump_put, puts_island, same_windows}
 use Rattle.rv_emit.proofs.island.put_island.Goals as goal
 
 pub emit_island-requires : goal.emit_island-requires

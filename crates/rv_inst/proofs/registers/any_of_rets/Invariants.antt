@@ -1,7 +1,7 @@
 use Rattle.std.proofs.Common.{◌≡◌, drop}
 use Rattle.std.specs.List.{list_any}
-use Rattle.rv_inst.specs.Fields.{ret_registers}
-use Rattle.rv_inst.specs.Tests.{test_of}
+use Rattle.rv_inst.specs.Operands.{ret_registers}
+use Rattle.rv_inst.specs.RegisterTests.{test_of}
 use Rattle.rv_inst.proofs.registers.any_of_rets.Given as goal
 
 abbrev pub invariant-loop-pair : goal.invariant-loop-pair

@@ -1,0 +1,175 @@
+-- What waits since the last island, as lines are put.
+use Rattle.std.proofs.Common.{◌≡◌, ℕ, ◌+◌, ◌⊎◌, inl, inr, Bool, true, false, cond, List, [], ◌∷◌, ◌++◌, length, Option, Some, None, refl, ap, sym, ◌∙◌, subst, arith, ⊎_elim, append_assoc}
+use Rattle.std.specs.Prelude.{slice_get, nat_eq, nat_lt}
+use Rattle.std.proofs.lemmas.Bool.{true≢false, eq-eqb, ne_eqb, cases_eq, lt-ltb, ltb-true}
+use Rattle.std.proofs.lemmas.List.{append-nil}
+use Rattle.rv_base.specs.declared.label.MachLabel.{MachLabel}
+use Rattle.rv_inst.specs.declared.code.LineSpan.{LineSpan}
+use Rattle.rv_inst.specs.declared.inst.Inst.{Inst}
+use Rattle.rv_inst.specs.declared.inst.Inst.TheVariants.{EmitIsland}
+use Rattle.rv_inst.specs.declared.inst.Line.{Line}
+use Rattle.rv_inst.specs.declared.inst.Line.TheVariants.{Inst as Put, Bind}
+use Rattle.rv_inst.specs.declared.label_use.LabelUse.{LabelUse}
+use Rattle.rv_inst.specs.LabelUse.{forward_of, backward_of, has_veneer_of}
+use Rattle.rv_inst.specs.Rules.{broken_rule}
+use Rattle.mach_buffer.specs.declared.uses.Use.{Use}
+use Rattle.mach_buffer.specs.Buffer.{bytes_of, uses_of, place_of}
+use Rattle.mach_buffer.specs.Targets.{or_place}
+use Rattle.mach_buffer.proofs.Links.{append_each}
+use Rattle.mach_buffer.proofs.Slack.{none_waits, bound_waits}
+use Rattle.rv_emit.specs.Emitted.{Buffer, AppendsInst, AppendsIsland, IslandIfNeeded, Emitted}
+use Rattle.rv_inst.specs.Uses.{uses_in}
+use Rattle.rv_emit.proofs.Laws.{waits}
+use Rattle.rv_asm.specs.Reported.{start_of}
+use Rattle.rv_asm.specs.Reported.{end_before}
+use Rattle.rv_asm.specs.LinesInBuffer.{LinesStand, InstPut, BindPut, LinePut}
+use Rattle.rv_asm.specs.Reach.{is_island, bound_by}
+use Rattle.rv_asm.specs.AfterLastIsland.{uses_after_island, EndsIn, AfterLastIsland}
+use Rattle.rv_asm.proofs.LabelNames.{start_last, room_keeps, emitted_keeps}
+use Rattle.rv_asm.proofs.FirstLines.{own_uses, open_in_island, open_behind, open_on, bound_by_more, bound_by_append}
+
+not_less : (m n : ℕ) → m ≡ n → nat_lt m n ≡ false
+not_less m n level = on (nat_lt m n) refl
+  where
+    on : (c : Bool) → nat_lt m n ≡ c → c ≡ false
+    on false t = refl
+    on true t = let lt = ltb-true _ _ t in absurd (omega arith)
+
+-- ---- what a step does to the uses that are open
+
+-- behind an island nothing waits
+ends_island : (old new : Buffer) → AppendsIsland old new → EndsIn [] new
+ends_island old new p = record {
+  before = uses_of new;
+  whole = sym (append-nil (uses_of new));
+  idle = none_waits (waits (place_of new)) forward_of (uses_of new) p.settled;
+}
+
+ends_block : (inst : Inst) (old new : Buffer) (uses : List (Use LabelUse)) → AppendsInst inst old new → EndsIn uses old → EndsIn (uses ++ uses_in (length (bytes_of old)) inst) new
+ends_block inst old new uses p e =
+    let own = uses_in (length (bytes_of old)) inst in
+    record {
+      before = e.before;
+      whole = p.adds.uses ∙ ap (λ us. us ++ own) e.whole ∙ append_assoc e.before uses own;
+      idle = λ j u h. ap (λ (place : ℕ → Option ℕ). waits place u) p.adds.places ∙ e.idle j u h;
+    }
+
+-- what did not wait does not wait once a label more is bound
+ends_bind : (label : MachLabel) (old new : Buffer) (span : LineSpan) (uses : List (Use LabelUse)) → BindPut label old new span → EndsIn uses old → EndsIn uses new
+ends_bind label old new span uses p e = record {
+  before = e.before;
+  whole = p.uses ∙ e.whole;
+  idle = λ j u h. on u (waits (place_of new) u) refl (e.idle j u h);
+}
+  where
+    on : (u : Use LabelUse) (c : Bool) → waits (place_of new) u ≡ c → waits (place_of old) u ≡ false → c ≡ false
+    on u false h before = refl
+    on u true h before = absurd (true≢false (sym (bound_waits has_veneer_of forward_of backward_of (place_of old) (place_of new) label.number p.unbound p.kept u h) ∙ before))
+
+-- an instruction: it is an island, or its uses are added
+emitted_ends : (inst : Inst) (mid new : Buffer) (start end : ℕ) (uses : List (Use LabelUse)) → start ≡ length (bytes_of mid) → end ≡ length (bytes_of new) → Emitted inst mid new → EndsIn uses mid →
+    ((is_island (Put inst) start end ≡ true) × EndsIn [] new) ⊎ ((is_island (Put inst) start end ≡ false) × EndsIn (uses ++ uses_in start inst) new)
+emitted_ends (EmitIsland space) mid new start end uses starts ends e h = ⊎_elim
+    (λ same.
+    let level : start ≡ end = starts ∙ sym (ap (λ (b : Buffer). length (bytes_of b)) same.1) ∙ sym ends in
+    inr (not_less start end level, subst (λ us. EndsIn us new) (sym (append-nil uses)) (subst (EndsIn uses) (sym same.1) h)))
+    (λ put.
+    let longer = put.1.longer in
+    inl (lt-ltb start end (omega arith), ends_island mid new put.1))
+    e.1.put
+emitted_ends inst mid new start end uses starts ends e h = inr (refl, subst (λ n. EndsIn (uses ++ uses_in n inst) new) (sym starts) (ends_block inst mid new uses e h))
+
+-- ---- labels
+
+or_none : (o : Option ℕ) → or_place o None ≡ o
+or_none None = refl
+or_none (Some at) = refl
+
+bound_next : (lines : List Line) (spans : List LineSpan) (line : Line) (span : LineSpan) (label : ℕ) → length spans ≡ length lines → bound_by (spans ++ span ∷ []) 0 (lines ++ line ∷ []) label ≡ or_place (bound_by spans 0 lines label) (bound_by (spans ++ span ∷ []) (length spans) (line ∷ []) label)
+bound_next lines spans line span label count =
+    let at : 0 + length lines ≡ length spans = omega arith in
+    let same = bound_by_more spans (span ∷ []) 0 lines label (omega arith) in
+    bound_by_append (spans ++ span ∷ []) 0 lines (line ∷ []) label ∙ (λ j. or_place (same j) (bound_by (spans ++ span ∷ []) (at j) (line ∷ []) label))
+
+bound_put : (lines : List Line) (spans : List LineSpan) (inst : Inst) (span : LineSpan) (label : ℕ) → length spans ≡ length lines → bound_by (spans ++ span ∷ []) 0 (lines ++ Put inst ∷ []) label ≡ bound_by spans 0 lines label
+bound_put lines spans inst span label count = bound_next lines spans (Put inst) span label count ∙ or_none _
+
+bound_bind : (lines : List Line) (spans : List LineSpan) (l : MachLabel) (span : LineSpan) (old new : Buffer) (label : ℕ) → length spans ≡ length lines → BindPut l old new span → place_of old label ≡ bound_by spans 0 lines label → place_of new label ≡ bound_by (spans ++ span ∷ []) 0 (lines ++ Bind l ∷ []) label
+bound_bind lines spans l span old new label count p places = ⊎_elim
+    (λ e.
+    let none : bound_by spans 0 lines label ≡ None = sym places ∙ ap (place_of old) e ∙ p.unbound in
+    let here : nat_eq l.number label ≡ true = eq-eqb l.number label (sym e) in
+    let start : start_of (spans ++ span ∷ []) (length spans) ≡ length (bytes_of old) = start_last spans span ∙ p.start in
+    ap (place_of new) e ∙ p.bound ∙ sym (λ j. or_place (none j) (cond (here j) (Some (start j)) None)) ∙ sym whole)
+    (λ differ.
+    let elsewhere : nat_eq l.number label ≡ false = ne_eqb l.number label (λ e. differ (sym e)) in
+    p.kept label differ ∙ places ∙ sym (or_none _) ∙ sym (λ j. or_place (bound_by spans 0 lines label) (cond (elsewhere j) (Some (start_of (spans ++ span ∷ []) (length spans))) None)) ∙ sym whole)
+    (cases_eq label l.number)
+  where
+    whole : bound_by (spans ++ span ∷ []) 0 (lines ++ Bind l ∷ []) label ≡ or_place (bound_by spans 0 lines label) (bound_by (spans ++ span ∷ []) (length spans) (Bind l ∷ []) label)
+    whole = bound_next lines spans (Bind l) span label count
+
+-- ---- the loop's invariant
+
+pub since_none : (b : Buffer) → uses_of b ≡ [] → ((label : ℕ) → place_of b label ≡ None) → AfterLastIsland [] [] b
+since_none b uses none = record {
+  ends = record { before = []; whole = uses; idle = λ j u h. absurd (none_at j u h) };
+  places = λ label low. none label;
+  ruled = λ i line h. absurd (no_line i line h);
+}
+  where
+    none_at : (j : ℕ) (u : Use LabelUse) → slice_get [] j ≡ Some u → ⊥
+    none_at j u h = absurd (cc)
+
+    no_line : (j : ℕ) (line : Line) → slice_get [] j ≡ Some line → ⊥
+    no_line j line h = absurd (cc)
+
+-- the uses that are open behind what stands before a line, to which the line adds its own
+record Roomed (lines : List Line) (spans : List LineSpan) (line : Line) (span : LineSpan) (mid : Buffer) : Type 0 where
+  pub uses : List (Use LabelUse)
+  pub ends : EndsIn uses mid
+  pub adds : is_island line span.start span.end ≡ false → uses_after_island (lines ++ line ∷ []) (spans ++ span ∷ []) ≡ uses ++ own_uses line span.start
+
+room_ends : (lines : List Line) (spans : List LineSpan) (line : Line) (span : LineSpan) (old mid : Buffer) (made : Bool) → length spans ≡ length lines → length (bytes_of old) ≡ end_before spans (length lines) → IslandIfNeeded 88 old mid made → span.start ≡ length (bytes_of mid) → EndsIn (uses_after_island lines spans) old → Roomed lines spans line span mid
+room_ends lines spans line span old mid made count ends m start h = ⊎_elim
+    (λ same.
+    let level : end_before spans (length lines) ≡ span.start = sym ends ∙ ap (λ (b : Buffer). length (bytes_of b)) (sym same.1) ∙ sym start in
+    record { uses = uses_after_island lines spans; ends = subst (EndsIn (uses_after_island lines spans)) (sym same.1) h; adds = λ e. open_on lines spans line span count e (not_less (end_before spans (length lines)) span.start level) })
+    (λ put.
+    let longer = put.1.longer in
+    record { uses = []; ends = ends_island old mid put.1; adds = λ e. open_behind lines spans line span count e (lt-ltb (end_before spans (length lines)) span.start (omega arith)) })
+    m.put
+
+inst_ends : (lines : List Line) (spans : List LineSpan) (inst : Inst) (span : LineSpan) (old new : Buffer) → length spans ≡ length lines → length (bytes_of old) ≡ end_before spans (length lines) → InstPut inst old new span → EndsIn (uses_after_island lines spans) old → EndsIn (uses_after_island (lines ++ Put inst ∷ []) (spans ++ span ∷ [])) new
+inst_ends lines spans inst span old new count ends p h =
+    let r = room_ends lines spans (Put inst) span old p.mid p.made count ends p.room p.start h in
+    ⊎_elim
+    (λ island. subst (λ us. EndsIn us new) (sym (open_in_island lines spans (Put inst) span count island.0)) island.1)
+    (λ block. subst (λ us. EndsIn us new) (sym (r.adds block.0)) block.1)
+    (emitted_ends inst p.mid new span.start span.end r.uses p.start p.end p.emitted r.ends)
+
+bind_ends : (lines : List Line) (spans : List LineSpan) (label : MachLabel) (span : LineSpan) (old new : Buffer) → length spans ≡ length lines → length (bytes_of old) ≡ end_before spans (length lines) → BindPut label old new span → EndsIn (uses_after_island lines spans) old → EndsIn (uses_after_island (lines ++ Bind label ∷ []) (spans ++ span ∷ [])) new
+bind_ends lines spans label span old new count ends p h =
+    let level : end_before spans (length lines) ≡ span.start = sym ends ∙ sym p.start in
+    let same = open_on lines spans (Bind label) span count refl (not_less (end_before spans (length lines)) span.start level) ∙ append-nil (uses_after_island lines spans) in
+    subst (λ us. EndsIn us new) (sym same) (ends_bind label old new span (uses_after_island lines spans) p h)
+
+pub since_next : (lines : List Line) (spans : List LineSpan) (line : Line) (span : LineSpan) (old new : Buffer) → LinesStand lines spans old → AfterLastIsland lines spans old → broken_rule line ≡ None → LinePut line old new span → AfterLastIsland (lines ++ line ∷ []) (spans ++ span ∷ []) new
+since_next lines spans (Put inst) span old new b s rule p =
+    let first = room_keeps 88 old p.mid p.made p.room in
+    let next = emitted_keeps inst p.mid new p.emitted in
+    record {
+      ends = inst_ends lines spans inst span old new b.count b.ends p s.ends;
+      places = λ label low. next.1 label low ∙ first.1 label low ∙ s.places label low ∙ sym (bound_put lines spans inst span label b.count);
+      ruled = append_each (λ line. broken_rule line ≡ None) lines (Put inst) rule s.ruled;
+    }
+since_next lines spans (Bind label) span old new b s rule p = record {
+  ends = bind_ends lines spans label span old new b.count b.ends p s.ends;
+  places = λ other low. bound_bind lines spans label span old new other b.count p (s.places other low);
+  ruled = append_each (λ line. broken_rule line ≡ None) lines (Bind label) rule s.ruled;
+}
+
+-- it ends where the line ends
+pub line_end : (line : Line) (old new : Buffer) (span : LineSpan) → LinePut line old new span → length (bytes_of new) ≡ span.end
+line_end (Put inst) old new span p = sym p.end
+line_end (Bind label) old new span p = ap length p.bytes ∙ sym p.end

@@ -1,0 +1,189 @@
+-- The loop over lines: what it keeps, turn by turn, and what it ends with.
+use Rattle.std.proofs.Common.{◌≡◌, ℕ, zero, suc, ◌+◌, ◌^◌, ◌<◌, ◌≤◌, Bool, true, false, List, [], ◌∷◌, ◌++◌, length, take, Some, None, refl, ap, sym, ◌∙◌, subst, arith}
+use Rattle.std.specs.Prelude.{slice_get, slice_index_or, nat_eq}
+use Rattle.std.proofs.lemmas.Bool.Decides.{nat_tests}
+use Rattle.std.proofs.lemmas.Option.{same_Some}
+use Rattle.rv_base.specs.declared.label.MachLabel.{MachLabel}
+use Rattle.rv_inst.specs.declared.inst.Line.{Line}
+use Rattle.rv_inst.specs.declared.inst.Line.TheVariants.{Inst as Put, Bind}
+use Rattle.rv_inst.specs.declared.code.Code.{Code}
+use Rattle.rv_inst.specs.declared.code.LineSpan.{LineSpan}
+use Rattle.rv_inst.specs.LabelUse.{Aims, marks_of, has_veneer_of, forward_of, backward_of, veneer_of}
+use Rattle.mach_buffer.specs.Finish.{CanFinish, Finishes}
+use Rattle.mach_buffer.specs.Buffer.{bytes_of, uses_of, veneers_of, place_of, labels_of, drawn_of}
+use Rattle.rv_emit.specs.Emitted.{Buffer, IsSoundBuffer}
+use Rattle.rv_asm.specs.Refusal.{binds, is_bound, size_sum, refusal}
+use Rattle.rv_inst.specs.Sizes.{line_sum}
+use Rattle.rv_asm.specs.LinesInBuffer.{LinesStand, Named, Sized, CanPut, LinePut}
+use Rattle.rv_asm.specs.AfterLastIsland.{AfterLastIsland}
+use Rattle.rv_asm.specs.Reach.{NotEarly, ReachesOn}
+use Rattle.rv_asm.specs.FinishedCode.{IsFinished}
+use Rattle.rv_asm.proofs.RefusalOrder.{no_rule_broken, bound_once, bound_by, named_is_bound, sum_small}
+use Rattle.rv_asm.proofs.Finish.{can_finish, finished_short}
+use Rattle.rv_asm.proofs.OneLineMore.{built_none, built_next}
+use Rattle.rv_asm.proofs.LabelNames.{named_none, named_next, low_label}
+use Rattle.rv_asm.proofs.Sizes.{sized_none, sized_next}
+use Rattle.rv_asm.proofs.AfterLastIsland.{since_none, since_next}
+use Rattle.rv_asm.proofs.NoEarlyIsland.{early_none, early_next, reaches_none, reaches_next}
+
+-- after so many lines
+pub record SoFar (lines : List Line) (count : ℕ) (spans : List LineSpan) (b : Buffer) : Type 0 where
+  pub built : LinesStand (take count lines) spans b
+  pub named : Named (take count lines) spans b
+  pub sized : Sized (take count lines) b
+  pub since : AfterLastIsland (take count lines) spans b
+  pub early : NotEarly (take count lines) spans
+  pub reach : ReachesOn (take count lines) spans
+
+-- before the first
+pub so_far_none : (lines : List Line) (b : Buffer) → bytes_of b ≡ [] → uses_of b ≡ [] → veneers_of b ≡ [] → ((label : ℕ) → place_of b label ≡ None) → labels_of b ≡ [] → drawn_of b ≡ 0 → IsSoundBuffer b → SoFar lines 0 [] b
+so_far_none lines b bytes uses veneers places labels drawn sound = record {
+  built = built_none b bytes uses veneers sound;
+  named = named_none b uses labels places;
+  sized = sized_none b bytes uses drawn;
+  since = since_none b uses places;
+  early = early_none;
+  reach = reaches_none;
+}
+
+-- ---- lists by an index
+
+take_next : (lines : List Line) (n : ℕ) (line : Line) → slice_get lines n ≡ Some line → take (n + 1) lines ≡ take n lines ++ line ∷ []
+take_next [] n line h = absurd (cc)
+take_next (l ∷ lines) zero line h = ap (λ (x : Line). x ∷ []) (same_Some _ _ h)
+take_next (l ∷ lines) (suc n) line h = let more : suc n + 1 ≡ suc (n + 1) = omega arith in ap (λ k. take k (l ∷ lines)) more ∙ ap (λ (ls : List Line). l ∷ ls) (take_next lines n line h)
+
+take_whole : (lines : List Line) (n : ℕ) → length lines ≤ n → take n lines ≡ lines
+take_whole [] zero le = refl
+take_whole [] (suc n) le = refl
+take_whole (l ∷ lines) zero le = absurd (omega arith)
+take_whole (l ∷ lines) (suc n) le = ap (λ (ls : List Line). l ∷ ls) (take_whole lines n (omega arith))
+
+take_count : (lines : List Line) (n : ℕ) (line : Line) → slice_get lines n ≡ Some line → length (take n lines) ≡ n
+take_count [] n line h = absurd (cc)
+take_count (l ∷ lines) zero line h = refl
+take_count (l ∷ lines) (suc n) line h = ap suc (take_count lines n line h)
+
+-- what stands among the first lines stands there among all
+record Among (lines : List Line) (n j : ℕ) (line : Line) : Type 0 where
+  there : slice_get lines j ≡ Some line
+  before : j < n
+
+among : (lines : List Line) (n j : ℕ) (line : Line) → slice_get (take n lines) j ≡ Some line → Among lines n j line
+among lines zero j line h = absurd (cc)
+among [] (suc n) j line h = absurd (cc)
+among (l ∷ lines) (suc n) zero line h = record { there = h; before = omega arith }
+among (l ∷ lines) (suc n) (suc j) line h = let a = among lines n j line h in record { there = a.there; before = let b = a.before in omega arith }
+
+-- the first lines and the next one count for no more than all
+sum_take : (lines : List Line) (n : ℕ) (line : Line) → slice_get lines n ≡ Some line → size_sum (take n lines) + line_sum line ≤ size_sum lines
+sum_take [] n line h = absurd (cc)
+sum_take (l ∷ lines) zero line h = let same : line_sum l ≡ line_sum line = ap line_sum (same_Some _ _ h) in omega arith
+sum_take (l ∷ lines) (suc n) line h = let rest = sum_take lines n line h in omega arith
+
+-- the line that a turn reads
+pub line_read : (lines : List Line) (n : ℕ) (line : Line) → n < length lines → line ≡ slice_index_or lines n line → slice_get lines n ≡ Some line
+line_read [] n line lt e = absurd (omega arith)
+line_read (l ∷ lines) zero line lt e = ap Some (sym e)
+line_read (l ∷ lines) (suc n) line lt e = line_read lines n line (omega arith) e
+
+-- ---- a turn
+
+label_is : (l : MachLabel) (label : ℕ) → nat_eq l.number label ≡ true → l.number ≡ label
+label_is l label e = grind (arith, nat_tests)
+
+-- what the next line binds is not bound yet
+not_bound : (lines : List Line) (n : ℕ) (l : MachLabel) → refusal lines ≡ None → slice_get lines n ≡ Some (Bind l) → is_bound (take n lines) l.number ≡ false
+not_bound lines n l e h = on (is_bound (take n lines) l.number) refl
+  where
+    on : (c : Bool) → is_bound (take n lines) l.number ≡ c → is_bound (take n lines) l.number ≡ false
+    on false g = g
+    on true g =
+        let by = bound_by (take n lines) l g in
+        let a = among lines n by.0 (Bind l) by.1 in
+        let same = bound_once lines e by.0 n l l a.there h refl in
+        let lt = a.before in
+        absurd (omega arith)
+
+unbound_next : (lines : List Line) (n : ℕ) (spans : List LineSpan) (b : Buffer) (line : Line) → refusal lines ≡ None → SoFar lines n spans b → slice_get lines n ≡ Some line → (label : ℕ) → binds line label ≡ true → place_of b label ≡ None
+unbound_next lines n spans b (Put inst) e s h label is = absurd (cc)
+unbound_next lines n spans b (Bind l) e s h label is =
+    subst (λ k. place_of b k ≡ None) (label_is l label is) (s.named.unbound l.number (low_label l (no_rule_broken lines e n (Bind l) h)) (not_bound lines n l e h))
+
+-- the next line can be put
+pub can_put : (lines : List Line) (n : ℕ) (spans : List LineSpan) (b : Buffer) (line : Line) → refusal lines ≡ None → SoFar lines n spans b → slice_get lines n ≡ Some line → CanPut line b
+can_put lines n spans b line e s h =
+    let small = sum_small lines e in
+    let least = sum_take lines n line h in
+    let size = s.sized.size in
+    let drawn = s.sized.drawn in
+    record {
+      rule = no_rule_broken lines e n line h;
+      sound = s.built.sound;
+      reach = s.sized.reach;
+      few = omega (arith, small, least, drawn);
+      room = omega (arith, small, least, size);
+      unbound = unbound_next lines n spans b line e s h;
+    }
+
+-- and once it was put the loop goes on
+pub so_far_next : (lines : List Line) (n : ℕ) (spans new_spans : List LineSpan) (old new : Buffer) (line : Line) (span : LineSpan) → refusal lines ≡ None → SoFar lines n spans old → slice_get lines n ≡ Some line → span.index ≡ n → LinePut line old new span → new_spans ≡ spans ++ span ∷ [] → SoFar lines (n + 1) new_spans new
+so_far_next lines n spans new_spans old new line span e s h index put pushed =
+    let rule = no_rule_broken lines e n line h in
+    let count = take_count lines n line h in
+    let at : span.index ≡ length (take n lines) = index ∙ sym count in
+    let built = built_next (take n lines) line spans span old new s.built put at in
+    let named = named_next (take n lines) spans line span old new rule s.named s.built.count put in
+    let sized = sized_next (take n lines) line old new span s.sized put in
+    let since = since_next (take n lines) spans line span old new s.built s.since rule put in
+    let early = early_next (take n lines) spans line span old new s.built s.since put s.early in
+    let reach = reaches_next (take n lines) spans line span old new s.built put since sized s.reach in
+    subst (λ ss. SoFar lines (n + 1) ss new) (sym pushed) (moved (sym (take_next lines n line h)) built named sized since early reach)
+  where
+    moved : take n lines ++ line ∷ [] ≡ take (n + 1) lines → LinesStand (take n lines ++ line ∷ []) (spans ++ span ∷ []) new → Named (take n lines ++ line ∷ []) (spans ++ span ∷ []) new → Sized (take n lines ++ line ∷ []) new → AfterLastIsland (take n lines ++ line ∷ []) (spans ++ span ∷ []) new → NotEarly (take n lines ++ line ∷ []) (spans ++ span ∷ []) → ReachesOn (take n lines ++ line ∷ []) (spans ++ span ∷ []) → SoFar lines (n + 1) (spans ++ span ∷ []) new
+    moved more built named sized since early reach = record {
+      built = subst (λ ls. LinesStand ls (spans ++ span ∷ []) new) more built;
+      named = subst (λ ls. Named ls (spans ++ span ∷ []) new) more named;
+      sized = subst (λ ls. Sized ls new) more sized;
+      since = subst (λ ls. AfterLastIsland ls (spans ++ span ∷ []) new) more since;
+      early = subst (λ ls. NotEarly ls (spans ++ span ∷ [])) more early;
+      reach = subst (λ ls. ReachesOn ls (spans ++ span ∷ [])) more reach;
+    }
+
+-- after the last
+record AtEnd (lines : List Line) (spans : List LineSpan) (b : Buffer) : Type 0 where
+  built : LinesStand lines spans b
+  named : Named lines spans b
+  sized : Sized lines b
+  early : NotEarly lines spans
+  reach : ReachesOn lines spans
+
+at_end : (lines : List Line) (n : ℕ) (spans : List LineSpan) (b : Buffer) → length lines ≤ n → SoFar lines n spans b → AtEnd lines spans b
+at_end lines n spans b le s =
+    let whole = take_whole lines n le in
+    record {
+      built = subst (λ ls. LinesStand ls spans b) whole s.built;
+      named = subst (λ ls. Named ls spans b) whole s.named;
+      sized = subst (λ ls. Sized ls b) whole s.sized;
+      early = subst (λ ls. NotEarly ls spans) whole s.early;
+      reach = subst (λ ls. ReachesOn ls spans) whole s.reach;
+    }
+
+-- after the last, the buffer can be finished
+pub ready : (lines : List Line) (n : ℕ) (spans : List LineSpan) (b : Buffer) → refusal lines ≡ None → length lines ≤ n → SoFar lines n spans b → CanFinish marks_of has_veneer_of forward_of backward_of veneer_of b
+ready lines n spans b e le s =
+    let all = at_end lines n spans b le s in
+    can_finish lines spans b all.built all.named all.sized (sum_small lines e) (named_is_bound lines e)
+
+-- and then it is finished
+pub finished : (lines : List Line) (n : ℕ) (code : Code) (b : Buffer) → refusal lines ≡ None → length lines ≤ n → SoFar lines n code.lines b → Finishes Aims marks_of has_veneer_of forward_of backward_of veneer_of b code.bytes → code.labels ≡ labels_of b → code.end ≡ length (bytes_of b) → IsFinished lines code
+finished lines n code b e le s f labels end =
+    let all = at_end lines n code.lines b le s in
+    record { sink = b; built = all.built; named = all.named; sized = all.sized; early = all.early; reach = all.reach; ready = ready lines n code.lines b e le s; finished = f; labels = labels; end = end }
+
+-- the code is short
+pub code_short : (lines : List Line) (n : ℕ) (spans : List LineSpan) (b : Buffer) (bytes : List ℕ) → refusal lines ≡ None → length lines ≤ n → SoFar lines n spans b → Finishes Aims marks_of has_veneer_of forward_of backward_of veneer_of b bytes → length bytes < 2 ^ 32
+code_short lines n spans b bytes e le s f =
+    let short = finished_short lines b bytes (at_end lines n spans b le s).sized f in
+    let small = sum_small lines e in
+    omega arith

@@ -1,0 +1,290 @@
+-- Which labels are bound and named, and that a buffer can be finished.
+use Rattle.std.proofs.Common.{◌≡◌, ℕ, zero, suc, ◌+◌, ◌^◌, ◌<◌, ◌≤◌, ◌⊎◌, inl, inr, Bool, true, false, cond, ◌||◌, List, [], ◌∷◌, ◌++◌, length, Option, Some, None, refl, ap, sym, ◌∙◌, subst, arith, ⊎_elim}
+use Rattle.std.specs.Prelude.{slice_get, nat_eq, nat_le, is_some, option_map, unwrap_or}
+use Rattle.std.proofs.lemmas.Bool.{true≢false, eq-eqb, eqb-true, leb-false, or_parts, cases_eq, lt-ltb}
+use Rattle.std.proofs.lemmas.List.{append-nil, map-append}
+use Rattle.rv_base.specs.declared.label.MachLabel.{MachLabel}
+use Rattle.rv_inst.specs.declared.code.LineSpan.{LineSpan}
+use Rattle.rv_inst.specs.declared.inst.Inst.{Inst}
+use Rattle.rv_inst.specs.declared.inst.Inst.TheVariants.{EmitIsland, Jal, CondBr}
+use Rattle.rv_inst.specs.declared.inst.CondBrTarget.TheVariants.{Label, Fallthrough}
+use Rattle.rv_inst.specs.declared.inst.Line.{Line}
+use Rattle.rv_inst.specs.declared.inst.Line.TheVariants.{Inst as Put, Bind}
+use Rattle.rv_inst.specs.declared.label_use.LabelUse.{LabelUse}
+use Rattle.rv_inst.specs.declared.label_use.LabelUse.TheVariants.{Jal20}
+use Rattle.rv_inst.specs.declared.error.Rule.TheVariants as rule_of
+use Rattle.rv_inst.specs.Rules.{broken_rule}
+use Rattle.rv_inst.specs.Operands.{inst_labels}
+use Rattle.rv_inst.specs.LabelUse.{has_veneer_of}
+use Rattle.mach_buffer.specs.declared.uses.Use.{Use}
+use Rattle.mach_buffer.specs.Buffer.{bytes_of, uses_of, place_of, labels_of, recorded, core, listed}
+use Rattle.mach_buffer.proofs.Apart.{both_lists, comes_from}
+use Rattle.mach_buffer.proofs.Links.{slice_get-append, slice_get-append_last, append_each, recorded_get}
+use Rattle.rv_emit.specs.Emitted.{Buffer, AppendsInst, AppendsIsland, IslandIfNeeded, Emitted}
+use Rattle.rv_inst.specs.Uses.{use_at, uses_in}
+use Rattle.rv_emit.proofs.Laws.{Each, each_none, each_more, uses_kinds}
+use Rattle.rv_asm.specs.Reported.{start_of, end_of, binds_from}
+use Rattle.rv_asm.specs.Refusal.{binds, is_bound}
+use Rattle.rv_asm.specs.LinesInBuffer.{IsNamed, Named, InstPut, BindPut, LinePut}
+
+-- ---- the binds of lines
+
+-- a span more changes no start before it
+pub start_more : (spans more : List LineSpan) (i : ℕ) → i < length spans → start_of (spans ++ more) i ≡ start_of spans i
+start_more [] more i lt = absurd (omega arith)
+start_more (s ∷ spans) more zero lt = refl
+start_more (s ∷ spans) more (suc i) lt = start_more spans more i (omega arith)
+
+pub end_more : (spans more : List LineSpan) (i : ℕ) → i < length spans → end_of (spans ++ more) i ≡ end_of spans i
+end_more [] more i lt = absurd (omega arith)
+end_more (s ∷ spans) more zero lt = refl
+end_more (s ∷ spans) more (suc i) lt = end_more spans more i (omega arith)
+
+pub start_last : (spans : List LineSpan) (span : LineSpan) → start_of (spans ++ span ∷ []) (length spans) ≡ span.start
+start_last spans span = ap (λ o. unwrap_or (option_map (λ (s : LineSpan). s.start) o) 0) (slice_get-append_last spans span)
+
+pub end_last : (spans : List LineSpan) (span : LineSpan) → end_of (spans ++ span ∷ []) (length spans) ≡ span.end
+end_last spans span = ap (λ o. unwrap_or (option_map (λ (s : LineSpan). s.end) o) 0) (slice_get-append_last spans span)
+
+-- a span more changes nothing for the lines before it
+binds_spans : (spans more : List LineSpan) (i : ℕ) (lines : List Line) → i + length lines ≤ length spans → binds_from (spans ++ more) i lines ≡ binds_from spans i lines
+binds_spans spans more i [] le = refl
+binds_spans spans more i (Put inst ∷ lines) le = binds_spans spans more (suc i) lines (omega arith)
+binds_spans spans more i (Bind l ∷ lines) le =
+    let rest = binds_spans spans more (suc i) lines (omega arith) in
+    let start = start_more spans more i (omega arith) in
+    λ j. (record { label = l; offset = start j }) ∷ rest j
+
+binds_append : (spans : List LineSpan) (i : ℕ) (lines more : List Line) → binds_from spans i (lines ++ more) ≡ binds_from spans i lines ++ binds_from spans (i + length lines) more
+binds_append spans i [] more = let same : i ≡ i + 0 = omega arith in ap (λ n. binds_from spans n more) same
+binds_append spans i (Put inst ∷ lines) more =
+    let same : suc i + length lines ≡ i + suc (length lines) = omega arith in
+    binds_append spans (suc i) lines more ∙ ap (λ n. binds_from spans (suc i) lines ++ binds_from spans n more) same
+binds_append spans i (Bind l ∷ lines) more =
+    let same : suc i + length lines ≡ i + suc (length lines) = omega arith in
+    ap (λ bs. (record { label = l; offset = start_of spans i }) ∷ bs) (binds_append spans (suc i) lines more ∙ ap (λ n. binds_from spans (suc i) lines ++ binds_from spans n more) same)
+
+-- the binds of one line more
+pub binds_next : (lines : List Line) (spans : List LineSpan) (line : Line) (span : LineSpan) → length spans ≡ length lines → binds_from (spans ++ span ∷ []) 0 (lines ++ line ∷ []) ≡ binds_from spans 0 lines ++ binds_from (spans ++ span ∷ []) (length spans) (line ∷ [])
+binds_next lines spans line span count =
+    let at : 0 + length lines ≡ length spans = omega arith in
+    binds_append (spans ++ span ∷ []) 0 lines (line ∷ []) ∙ (λ i. binds_spans spans (span ∷ []) 0 lines (omega arith) i ++ binds_from (spans ++ span ∷ []) (at i) (line ∷ []))
+
+or_assoc : (a b c : Bool) → (a || (b || c)) ≡ ((a || b) || c)
+or_assoc true b c = refl
+or_assoc false b c = refl
+
+pub bound_append : (lines more : List Line) (label : ℕ) → is_bound (lines ++ more) label ≡ (is_bound lines label || is_bound more label)
+bound_append [] more label = refl
+bound_append (line ∷ lines) more label = ap (λ b. binds line label || b) (bound_append lines more label) ∙ or_assoc (binds line label) (is_bound lines label) (is_bound more label)
+
+-- the line that binds a label
+pub record BoundAt (lines : List Line) (number : ℕ) : Type 0 where
+  pub index : ℕ
+  pub label : MachLabel
+  pub there : slice_get lines index ≡ Some (Bind label)
+  pub is : label.number ≡ number
+
+later_bound : {lines : List Line} {number : ℕ} (line : Line) → BoundAt lines number → BoundAt (line ∷ lines) number
+later_bound line b = record { index = suc b.index; label = b.label; there = b.there; is = b.is }
+
+pub bound_at : (lines : List Line) (number : ℕ) → is_bound lines number ≡ true → BoundAt lines number
+bound_at [] number h = absurd (true≢false (sym h))
+bound_at (Put inst ∷ lines) number h = later_bound (Put inst) (bound_at lines number h)
+bound_at (Bind l ∷ lines) number h = on (nat_eq l.number number) refl h (bound_at lines number)
+  where
+    on : (c : Bool) → nat_eq l.number number ≡ c → (c || is_bound lines number) ≡ true → (is_bound lines number ≡ true → BoundAt lines number) → BoundAt (Bind l ∷ lines) number
+    on true e h rest = record { index = 0; label = l; there = refl; is = eqb-true _ _ e }
+    on false e h rest = later_bound (Bind l) (rest h)
+
+-- ---- the uses and what they name
+
+-- a use may go by a veneer, and its label is named by a line or bound
+abbrev pub IsGood : List Line → Buffer → Use LabelUse → Type 0
+IsGood lines b u = (has_veneer_of u.kind ≡ true) × ((is_some (place_of b u.label.number) ≡ true) ⊎ IsNamed lines u.label.number)
+
+abbrev pub AreGood : List Line → Buffer → Type 0
+AreGood lines b = Each (IsGood lines b) (recorded (uses_of b))
+
+pub good_from_named : (lines : List Line) (spans : List LineSpan) (b : Buffer) → Named lines spans b → AreGood lines b
+good_from_named lines spans b n j u h =
+    let from = comes_from core (uses_of b) j u h in
+    subst (IsGood lines b) from.is (n.kinds j from.from from.there, n.named j from.from from.there)
+
+more_named : (lines more : List Line) (number : ℕ) → IsNamed lines number → IsNamed (lines ++ more) number
+more_named lines more number n = record {
+  index = n.index;
+  line = n.line;
+  there = slice_get-append lines more n.index n.line n.there;
+  place = n.place;
+  label = n.label;
+  names = n.names;
+  is = n.is;
+}
+
+-- places are only added
+abbrev Keeps : Buffer → Buffer → Type 0
+Keeps old new = (label : ℕ) → is_some (place_of old label) ≡ true → is_some (place_of new label) ≡ true
+
+good_kept : (lines more : List Line) (old new : Buffer) → Keeps old new → (u : Use LabelUse) → IsGood lines old u → IsGood (lines ++ more) new u
+good_kept lines more old new keeps u g = (g.0, ⊎_elim (λ bound. inl (keeps u.label.number bound)) (λ n. inr (more_named lines more u.label.number n)) g.1)
+
+good_as : (lines : List Line) (b : Buffer) (uses : List (Use LabelUse)) → recorded (uses_of b) ≡ uses → Each (IsGood lines b) uses → AreGood lines b
+good_as lines b uses e h j u at = h j u (sym (ap (λ us. slice_get us j) e) ∙ at)
+
+no_more : (lines : List Line) (b : Buffer) → AreGood (lines ++ []) b → AreGood lines b
+no_more lines b h j u at = let g = h j u at in (g.0, subst (λ ls. (is_some (place_of b u.label.number) ≡ true) ⊎ IsNamed ls u.label.number) (append-nil lines) g.1)
+
+-- ---- an island and a block
+
+island_keeps : (old new : Buffer) → AppendsIsland old new → Keeps old new
+island_keeps old new p label h = ⊎_elim
+    (λ e. ap is_some (ap (place_of new) e ∙ p.bound))
+    (λ other. ap is_some (p.places label other) ∙ h)
+    (cases_eq label p.round.number)
+
+good_island : (lines : List Line) (old new : Buffer) → AppendsIsland old new → AreGood lines old → AreGood lines new
+good_island lines old new p h =
+    let jump = use_at (length (bytes_of old)) p.round Jal20 in
+    let own : IsGood (lines ++ []) new jump = (refl, inl (ap is_some p.bound)) in
+    no_more lines new
+    (good_as (lines ++ []) new (recorded (uses_of old) ++ jump ∷ []) p.uses
+    (append_each (IsGood (lines ++ []) new) (recorded (uses_of old)) jump own (λ j u e. good_kept lines [] old new (island_keeps old new p) u (h j u e))))
+
+pub good_room : (lines : List Line) (distance : ℕ) (old new : Buffer) (made : Bool) → IslandIfNeeded distance old new made → AreGood lines old → AreGood lines new
+good_room lines distance old new made m h = ⊎_elim (λ same. subst (AreGood lines) (sym same.1) h) (λ put. good_island lines old new put.1 h) m.put
+
+-- a label is one of these
+pub record IsOf (labels : List MachLabel) (number : ℕ) : Type 0 where
+  pub place : ℕ
+  pub label : MachLabel
+  pub names : slice_get labels place ≡ Some label
+  pub is : label.number ≡ number
+
+pub uses_labels : (start : ℕ) (inst : Inst) → Each (λ u. IsOf (inst_labels inst) u.label.number) (uses_in start inst)
+uses_labels start (Jal label) = each_more (λ u. IsOf (label ∷ []) u.label.number) _ [] (record { place = 0; label = label; names = refl; is = refl }) (each_none _)
+uses_labels start (CondBr Fallthrough not_taken kind) = each_none _
+uses_labels start (CondBr (Label t) Fallthrough kind) = each_more (λ u. IsOf (t ∷ []) u.label.number) _ [] (record { place = 0; label = t; names = refl; is = refl }) (each_none _)
+uses_labels start (CondBr (Label t) (Label f) kind) =
+    each_more (λ u. IsOf (t ∷ f ∷ []) u.label.number) _ (use_at (start + 4) f Jal20 ∷ []) (record { place = 0; label = t; names = refl; is = refl })
+    (each_more (λ u. IsOf (t ∷ f ∷ []) u.label.number) _ [] (record { place = 1; label = f; names = refl; is = refl }) (each_none _))
+uses_labels start inst = each_none _
+
+own_named : (lines : List Line) (inst : Inst) (number : ℕ) → IsOf (inst_labels inst) number → IsNamed (lines ++ Put inst ∷ []) number
+own_named lines inst number o = record {
+  index = length lines;
+  line = Put inst;
+  there = slice_get-append_last lines (Put inst);
+  place = o.place;
+  label = o.label;
+  names = o.names;
+  is = o.is;
+}
+
+good_block : (lines : List Line) (inst : Inst) (old new : Buffer) → AppendsInst inst old new → AreGood lines old → AreGood (lines ++ Put inst ∷ []) new
+good_block lines inst old new p h =
+    let start = length (bytes_of old) in
+    let own = uses_in start inst in
+    let all = lines ++ Put inst ∷ [] in
+    let whole : recorded (uses_of new) ≡ recorded (uses_of old) ++ recorded own = ap recorded p.adds.uses ∙ map-append core (uses_of old) own in
+    let keeps : Keeps old new = λ label e. ap (λ (place : ℕ → Option ℕ). is_some (place label)) p.adds.places ∙ e in
+    let each : Each (IsGood all new) (recorded own) = λ j u e.
+    let from = comes_from core own j u e in
+    subst (IsGood all new) from.is (uses_kinds start inst j from.from from.there, inr (own_named lines inst from.from.label.number (uses_labels start inst j from.from from.there))) in
+    good_as all new (recorded (uses_of old) ++ recorded own) whole
+    (both_lists (IsGood all new) (recorded (uses_of old)) (recorded own) (λ j u e. good_kept lines (Put inst ∷ []) old new keeps u (h j u e)) each)
+
+good_line : (lines more : List Line) (b : Buffer) → AreGood lines b → AreGood (lines ++ more) b
+good_line lines more b h j u e = good_kept lines more b b (λ label g. g) u (h j u e)
+
+pub good_emitted : (lines : List Line) (inst : Inst) (old new : Buffer) → Emitted inst old new → AreGood lines old → AreGood (lines ++ Put inst ∷ []) new
+good_emitted lines (EmitIsland space) old new e h = good_line lines (Put (EmitIsland space) ∷ []) new (good_room lines space old new e.0 e.1 h)
+good_emitted lines inst old new e h = good_block lines inst old new e h
+
+-- ---- the loop's invariant
+
+-- labels of lines stay as they are, but where a line binds one
+abbrev KeepsLow : Buffer → Buffer → Type 0
+KeepsLow old new = (label : ℕ) → label < 2 ^ 30 → place_of new label ≡ place_of old label
+
+pub room_keeps : (distance : ℕ) (old new : Buffer) (made : Bool) → IslandIfNeeded distance old new made → (labels_of new ≡ labels_of old) × KeepsLow old new
+room_keeps distance old new made m = ⊎_elim
+    (λ same. (ap labels_of same.1, λ label low. ap (λ (b : Buffer). place_of b label) same.1))
+    (λ put. (put.1.labels, λ label low. put.1.places label (λ e. let at = put.1.drawn_label in absurd (omega arith))))
+    m.put
+
+pub emitted_keeps : (inst : Inst) (old new : Buffer) → Emitted inst old new → (labels_of new ≡ labels_of old) × KeepsLow old new
+emitted_keeps (EmitIsland space) old new e = room_keeps space old new e.0 e.1
+emitted_keeps inst old new e = block_keeps inst old new e
+  where
+    block_keeps : (inst : Inst) (old new : Buffer) → AppendsInst inst old new → (labels_of new ≡ labels_of old) × KeepsLow old new
+    block_keeps inst old new p = (p.adds.labels, λ label low. ap (λ (place : ℕ → Option ℕ). place label) p.adds.places)
+
+pub named_none : (b : Buffer) → uses_of b ≡ [] → labels_of b ≡ [] → ((label : ℕ) → place_of b label ≡ None) → Named [] [] b
+named_none b uses labels none = record {
+  labels = labels;
+  unbound = λ label low free. none label;
+  kinds = λ j u h. absurd (no_use j u h);
+  named = λ j u h. absurd (no_use j u h);
+}
+  where
+    no_use : (j : ℕ) (u : Use LabelUse) → slice_get (uses_of b) j ≡ Some u → ⊥
+    no_use j u h = none_at j u (sym (ap (λ us. slice_get us j) uses) ∙ h)
+      where
+        none_at : (j : ℕ) (u : Use LabelUse) → slice_get [] j ≡ Some u → ⊥
+        none_at j u e = absurd (cc)
+
+named_from : (lines : List Line) (spans : List LineSpan) (b : Buffer) → labels_of b ≡ binds_from spans 0 lines → ((label : ℕ) → label < 2 ^ 30 → is_bound lines label ≡ false → place_of b label ≡ None) → AreGood lines b → Named lines spans b
+named_from lines spans b labels unbound good = record {
+  labels = labels;
+  unbound = unbound;
+  kinds = λ j u h. (good j (core u) (recorded_get (uses_of b) j u h)).0;
+  named = λ j u h. (good j (core u) (recorded_get (uses_of b) j u h)).1;
+}
+
+inst_named : (lines : List Line) (spans : List LineSpan) (inst : Inst) (span : LineSpan) (old new : Buffer) → Named lines spans old → length spans ≡ length lines → InstPut inst old new span → Named (lines ++ Put inst ∷ []) (spans ++ span ∷ []) new
+inst_named lines spans inst span old new n count p =
+    let first = room_keeps 88 old p.mid p.made p.room in
+    let then_ = emitted_keeps inst p.mid new p.emitted in
+    named_from (lines ++ Put inst ∷ []) (spans ++ span ∷ []) new
+    (then_.0 ∙ first.0 ∙ n.labels ∙ sym (append-nil _) ∙ sym (binds_next lines spans (Put inst) span count))
+    (λ label low free.
+    let before : is_bound lines label ≡ false = (or_parts (is_bound lines label) false (sym (bound_append lines (Put inst ∷ []) label) ∙ free)).0 in
+    then_.1 label low ∙ first.1 label low ∙ n.unbound label low before)
+    (good_emitted lines inst p.mid new p.emitted (good_room lines 88 old p.mid p.made p.room (good_from_named lines spans old n)))
+
+bind_keeps : (label : MachLabel) (old new : Buffer) (span : LineSpan) → BindPut label old new span → Keeps old new
+bind_keeps label old new span p other h = ⊎_elim
+    (λ e. ap is_some (ap (place_of new) e ∙ p.bound))
+    (λ differ. ap is_some (p.kept other differ) ∙ h)
+    (cases_eq other label.number)
+
+-- a label of the listing is told
+listed_low : (label : MachLabel) (at : ℕ) → label.number < 2 ^ 30 → listed label at ≡ (record { label = label; offset = at }) ∷ []
+listed_low label at low = ap (λ b. cond b ((record { label = label; offset = at }) ∷ []) []) (lt-ltb label.number (2 ^ 30) low)
+
+bind_named : (lines : List Line) (spans : List LineSpan) (label : MachLabel) (span : LineSpan) (old new : Buffer) → label.number < 2 ^ 30 → Named lines spans old → length spans ≡ length lines → BindPut label old new span → Named (lines ++ Bind label ∷ []) (spans ++ span ∷ []) new
+bind_named lines spans label span old new low n count p =
+    let start : start_of (spans ++ span ∷ []) (length spans) ≡ length (bytes_of old) = start_last spans span ∙ p.start in
+    let own : labels_of new ≡ binds_from spans 0 lines ++ binds_from (spans ++ span ∷ []) (length spans) (Bind label ∷ []) =
+    p.labels ∙ (λ i. n.labels i ++ listed_low label (length (bytes_of old)) low i) ∙ ap (λ at. binds_from spans 0 lines ++ (record { label = label; offset = at }) ∷ []) (sym start) in
+    named_from (lines ++ Bind label ∷ []) (spans ++ span ∷ []) new
+    (own ∙ sym (binds_next lines spans (Bind label) span count))
+    (λ other lt free.
+    let parts = or_parts (is_bound lines other) (is_bound (Bind label ∷ []) other) (sym (bound_append lines (Bind label ∷ []) other) ∙ free) in
+    let mine = or_parts (nat_eq label.number other) false parts.1 in
+    p.kept other (λ e. true≢false (sym (eq-eqb label.number other (sym e)) ∙ mine.0)) ∙ n.unbound other lt parts.0)
+    (good_as (lines ++ Bind label ∷ []) new (recorded (uses_of old)) (ap recorded p.uses)
+    (λ j u e. good_kept lines (Bind label ∷ []) old new (bind_keeps label old new span p) u (good_from_named lines spans old n j u e)))
+
+-- a label that a line binds is one of the listing's
+pub low_label : (label : MachLabel) → broken_rule (Bind label) ≡ None → label.number < 2 ^ 30
+low_label label rule = on (nat_le (2 ^ 30) label.number) refl rule
+  where
+    on : (c : Bool) → nat_le (2 ^ 30) label.number ≡ c → cond c (Some rule_of.Label) None ≡ None → label.number < 2 ^ 30
+    on true e h = absurd (cc)
+    on false e h = leb-false _ _ e
+
+pub named_next : (lines : List Line) (spans : List LineSpan) (line : Line) (span : LineSpan) (old new : Buffer) → broken_rule line ≡ None → Named lines spans old → length spans ≡ length lines → LinePut line old new span → Named (lines ++ line ∷ []) (spans ++ span ∷ []) new
+named_next lines spans (Put inst) span old new rule n count p = inst_named lines spans inst span old new n count p
+named_next lines spans (Bind label) span old new rule n count p = bind_named lines spans label span old new (low_label label rule) n count p

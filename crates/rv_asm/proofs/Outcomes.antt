@@ -1,0 +1,160 @@
+-- What was due and was told ends a call, and without a fault the words and the input settle how it ends.
+use Rattle.std.proofs.Common.{◌≡◌, ℕ, ◌<◌, ◌≤◌, inl, inr, List, length, Option, Some, None, Result, Ok, Err, refl, sym, ap, subst, arith}
+use Rattle.std.specs.Prelude.{IfSome}
+use Rattle.std.specs.Io.KnownBytes.{Appends}
+use Rattle.rv_base.specs.declared.out_of_memory.OutOfMemory.{OutOfMemory}
+use Rattle.rv_inst.specs.declared.code.Code.{Code}
+use Rattle.rv_inst.specs.declared.error.EmitError.{EmitError}
+use Rattle.rv_inst.specs.declared.error.EmitError.TheVariants as errors
+use Rattle.rv_inst.specs.declared.job.Job.{Job}
+use Rattle.rv_listing.specs.Reading.{reads}
+use Rattle.rv_stream.specs.Ends.{Rose}
+use Rattle.rv_asm.specs.Refusal.{refusal, Finds}
+use Rattle.rv_asm.specs.declared.outcome.Outcome.{Outcome}
+use Rattle.rv_asm.specs.declared.outcome.Outcome.TheVariants as ends
+use Rattle.rv_asm.specs.Outcomes.{Call, input_limit, Asked, Read, Due, Means, IsRefused, WritesOutcome, text_of, Ended, IsOrOutOfMemory, IsDone, NoFault, IsSettled, outcome_of}
+
+written : (c : Call) (outcome : Outcome) → Due c outcome → Appends c.taken c.taken_after (text_of outcome) → Ended c outcome
+written c ends.Usage due appended = (due, appended)
+written c ends.TooLong due appended = (due, appended)
+written c (ends.Syntax line) due appended = (due, appended)
+written c (ends.Refused error) due appended = (due, appended)
+written c (ends.Done code) due appended = (due, appended)
+written c ends.ReadFault due appended = absurd due.1.3
+written c ends.WriteFault due appended = absurd due.1.3
+written c ends.OutOfMemory due appended = absurd due.1.3
+
+pub ended_told : (c : Call) (outcome answer : Outcome) → Due c outcome → WritesOutcome outcome c.taken c.taken_after c.write_faults c.write_faults_after answer → Ended c answer
+ended_told c outcome answer due (inl (is, appended)) = subst (λ (o : Outcome). Ended c o) (sym is) (written c outcome due appended)
+ended_told c outcome answer due (inr (inl (is, rose, front))) = subst (λ (o : Outcome). Ended c o) (sym is) (rose, (outcome, due, front))
+ended_told c outcome answer due (inr (inr (is, front))) = subst (λ (o : Outcome). Ended c o) (sym is) (inr (outcome, due, front))
+
+-- an outcome that an input means is due where the input was read
+pub due_read : (c : Call) (outcome : Outcome) → Asked c → Read c outcome → Due c outcome
+due_read c ends.Usage asked read = absurd read.3
+due_read c ends.TooLong asked read = absurd read.3
+due_read c (ends.Syntax line) asked read = (asked, read)
+due_read c (ends.Refused error) asked read = (asked, read)
+due_read c (ends.Done code) asked read = (asked, read)
+due_read c ends.ReadFault asked read = (asked, read)
+due_read c ends.WriteFault asked read = (asked, read)
+due_read c ends.OutOfMemory asked read = (asked, read)
+
+-- ---- refusals
+
+refused_job : (input : List ℕ) (error : EmitError) → IsRefused input error → (job : Job) × (reads input ≡ Ok job) × (refusal job.lines ≡ Some error)
+refused_job input errors.OutOfMemory is = absurd is
+refused_job input (errors.Malformed index rule) is = is
+refused_job input (errors.LabelTwice label) is = is
+refused_job input (errors.UnboundLabel label) is = is
+refused_job input errors.TooLarge is = is
+
+pub means_refused : (input : List ℕ) (job : Job) (error : EmitError) (r : Result Outcome OutOfMemory) → reads input ≡ Ok job → Finds {X = Code} (refusal job.lines) (Err error) → r ≡ outcome_of error
+    → (outcome : Outcome) → r ≡ Ok outcome → Means input outcome
+means_refused input job errors.OutOfMemory r read found is outcome ok = absurd (cc)
+means_refused input job (errors.Malformed index rule) r read found is outcome ok = let same : ends.Refused (errors.Malformed index rule) ≡ outcome = cc in subst (Means input) same (job, read, found)
+means_refused input job (errors.LabelTwice label) r read found is outcome ok = let same : ends.Refused (errors.LabelTwice label) ≡ outcome = cc in subst (Means input) same (job, read, found)
+means_refused input job (errors.UnboundLabel label) r read found is outcome ok = let same : ends.Refused (errors.UnboundLabel label) ≡ outcome = cc in subst (Means input) same (job, read, found)
+means_refused input job errors.TooLarge r read found is outcome ok = let same : ends.Refused errors.TooLarge ≡ outcome = cc in subst (Means input) same (job, read, found)
+
+-- ---- without a fault
+
+told : (left : Option (List ℕ)) (P : List ℕ → Type 0) → ((input : List ℕ) → left ≡ Some input → P input) → IfSome left P
+told None P f = tt
+told (Some input) P f = f input refl
+
+at_left : (left : Option (List ℕ)) (P : List ℕ → Type 0) (input : List ℕ) → IfSome left P → left ≡ Some input → P input
+at_left left P input holds is = subst (λ (l : Option (List ℕ)). IfSome l P) is holds
+
+-- what was read is what was left
+input_is : (c : Call) (outcome : Outcome) (input : List ℕ) → c.left ≡ Some input → (read : Read c outcome) → read.0 ≡ input
+input_is c outcome input is read = at_left c.left (λ left. read.0 ≡ left) input read.1 is
+
+means_input : (c : Call) (outcome : Outcome) (input : List ℕ) → c.left ≡ Some input → Read c outcome → Means input outcome
+means_input c outcome input is read = subst (λ (xs : List ℕ). Means xs outcome) (input_is c outcome input is read) read.3
+
+short_input : (c : Call) (outcome : Outcome) (input : List ℕ) → c.left ≡ Some input → Read c outcome → length input ≤ input_limit
+short_input c outcome input is read = subst (λ (xs : List ℕ). length xs ≤ input_limit) (input_is c outcome input is read) read.2
+
+long_input : (c : Call) (input : List ℕ) → c.left ≡ Some input → IfSome c.left (λ left. input_limit < length left) → input_limit < length input
+long_input c input is long = at_left c.left (λ left. input_limit < length left) input long is
+
+settles_usage : (c : Call) (answer : Outcome) → Ended c answer → 0 < c.words → ¬ Rose c.write_faults c.write_faults_after → IsOrOutOfMemory answer ends.Usage
+settles_usage c ends.Usage ended words fine = inl refl
+settles_usage c ends.OutOfMemory ended words fine = inr refl
+settles_usage c ends.WriteFault ended words fine = absurd (fine ended.0)
+settles_usage c ends.ReadFault ended words fine = absurd (omega (arith, ended.0))
+settles_usage c ends.TooLong ended words fine = absurd (omega (arith, ended.0.0))
+settles_usage c (ends.Syntax line) ended words fine = absurd (omega (arith, ended.0.0))
+settles_usage c (ends.Refused error) ended words fine = absurd (omega (arith, ended.0.0))
+settles_usage c (ends.Done code) ended words fine = absurd (omega (arith, ended.0.0))
+
+settles_long : (c : Call) (answer : Outcome) (input : List ℕ) → c.left ≡ Some input → Ended c answer → Asked c → NoFault c → input_limit < length input → IsOrOutOfMemory answer ends.TooLong
+settles_long c ends.Usage input is ended asked fine long = absurd (omega (arith, ended.0))
+settles_long c ends.OutOfMemory input is ended asked fine long = inr refl
+settles_long c ends.WriteFault input is ended asked fine long = absurd (fine.writes ended.0)
+settles_long c ends.ReadFault input is ended asked fine long = absurd (fine.reads ended.1)
+settles_long c ends.TooLong input is ended asked fine long = inl refl
+settles_long c (ends.Syntax line) input is ended asked fine long = absurd (omega (arith, short_input c (ends.Syntax line) input is ended.0.1))
+settles_long c (ends.Refused error) input is ended asked fine long = absurd (omega (arith, short_input c (ends.Refused error) input is ended.0.1))
+settles_long c (ends.Done code) input is ended asked fine long = absurd (omega (arith, short_input c (ends.Done code) input is ended.0.1))
+
+settles_syntax : (c : Call) (answer : Outcome) (input : List ℕ) (line : ℕ) → c.left ≡ Some input → Ended c answer → Asked c → NoFault c → length input ≤ input_limit → reads input ≡ Err line → IsOrOutOfMemory answer (ends.Syntax line)
+settles_syntax c ends.Usage input line is ended asked fine short bad = absurd (omega (arith, ended.0))
+settles_syntax c ends.OutOfMemory input line is ended asked fine short bad = inr refl
+settles_syntax c ends.WriteFault input line is ended asked fine short bad = absurd (fine.writes ended.0)
+settles_syntax c ends.ReadFault input line is ended asked fine short bad = absurd (fine.reads ended.1)
+settles_syntax c ends.TooLong input line is ended asked fine short bad = absurd (omega (arith, long_input c input is ended.0.1))
+settles_syntax c (ends.Syntax other) input line is ended asked fine short bad =
+    let read = means_input c (ends.Syntax other) input is ended.0.1 in
+    let same : other ≡ line = cc in
+    inl (ap (λ (n : ℕ). ends.Syntax n) same)
+settles_syntax c (ends.Refused error) input line is ended asked fine short bad =
+    let (job, read, found) = refused_job input error (means_input c (ends.Refused error) input is ended.0.1) in
+    absurd (cc)
+settles_syntax c (ends.Done code) input line is ended asked fine short bad =
+    let (job, read, found, told, runs, reach, ranges) = means_input c (ends.Done code) input is ended.0.1 in
+    absurd (cc)
+
+settles_refused : (c : Call) (answer : Outcome) (input : List ℕ) (job : Job) (error : EmitError) → c.left ≡ Some input → Ended c answer → Asked c → NoFault c → length input ≤ input_limit → reads input ≡ Ok job → refusal job.lines ≡ Some error → IsOrOutOfMemory answer (ends.Refused error)
+settles_refused c ends.Usage input job error is ended asked fine short good due = absurd (omega (arith, ended.0))
+settles_refused c ends.OutOfMemory input job error is ended asked fine short good due = inr refl
+settles_refused c ends.WriteFault input job error is ended asked fine short good due = absurd (fine.writes ended.0)
+settles_refused c ends.ReadFault input job error is ended asked fine short good due = absurd (fine.reads ended.1)
+settles_refused c ends.TooLong input job error is ended asked fine short good due = absurd (omega (arith, long_input c input is ended.0.1))
+settles_refused c (ends.Syntax line) input job error is ended asked fine short good due =
+    let read = means_input c (ends.Syntax line) input is ended.0.1 in
+    absurd (cc)
+settles_refused c (ends.Refused other) input job error is ended asked fine short good due =
+    let (own, read, found) = refused_job input other (means_input c (ends.Refused other) input is ended.0.1) in
+    let jobs : own ≡ job = cc in
+    let same : other ≡ error = cc (ap (λ (j : Job). refusal j.lines) jobs) in
+    inl (ap (λ (e : EmitError). ends.Refused e) same)
+settles_refused c (ends.Done code) input job error is ended asked fine short good due =
+    let (own, read, found, told, runs, reach, ranges) = means_input c (ends.Done code) input is ended.0.1 in
+    let jobs : own ≡ job = cc in
+    absurd (cc (ap (λ (j : Job). refusal j.lines) jobs))
+
+completes : (c : Call) (answer : Outcome) (input : List ℕ) (job : Job) → c.left ≡ Some input → Ended c answer → Asked c → NoFault c → length input ≤ input_limit → reads input ≡ Ok job → refusal job.lines ≡ None → IsDone answer
+completes c ends.Usage input job is ended asked fine short good valid = absurd (omega (arith, ended.0))
+completes c ends.OutOfMemory input job is ended asked fine short good valid = tt
+completes c ends.WriteFault input job is ended asked fine short good valid = absurd (fine.writes ended.0)
+completes c ends.ReadFault input job is ended asked fine short good valid = absurd (fine.reads ended.1)
+completes c ends.TooLong input job is ended asked fine short good valid = absurd (omega (arith, long_input c input is ended.0.1))
+completes c (ends.Syntax line) input job is ended asked fine short good valid =
+    let read = means_input c (ends.Syntax line) input is ended.0.1 in
+    absurd (cc)
+completes c (ends.Refused other) input job is ended asked fine short good valid =
+    let (own, read, found) = refused_job input other (means_input c (ends.Refused other) input is ended.0.1) in
+    let jobs : own ≡ job = cc in
+    absurd (cc (ap (λ (j : Job). refusal j.lines) jobs))
+completes c (ends.Done code) input job is ended asked fine short good valid = tt
+
+pub settled : (c : Call) (answer : Outcome) → Ended c answer → IsSettled c answer
+settled c answer ended = record {
+  usage = settles_usage c answer ended;
+  too_long = λ asked fine. told c.left _ (λ input is long. settles_long c answer input is ended asked fine long);
+  syntax_line = λ asked fine. told c.left _ (λ input is short line bad. settles_syntax c answer input line is ended asked fine short bad);
+  refused = λ asked fine. told c.left _ (λ input is short job error good due. settles_refused c answer input job error is ended asked fine short good due);
+  complete = λ asked fine. told c.left _ (λ input is short job good valid. completes c answer input job is ended asked fine short good valid);
+}

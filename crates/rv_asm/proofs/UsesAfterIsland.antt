@@ -1,0 +1,236 @@
+-- The uses behind which no island stands: whose they are, how far they reach, and how many.
+use Rattle.std.proofs.Common.{◌≡◌, ℕ, zero, suc, ◌+◌, ◌*◌, ◌^◌, ◌<◌, ◌≤◌, Bool, true, false, cond, not, ◌&&◌, ◌||◌, List, [], ◌∷◌, ◌++◌, length, take, drop, Option, Some, None, refl, ap, sym, ◌∙◌, subst, arith}
+use Rattle.std.specs.Prelude.{slice_get, nat_lt, is_none}
+use Rattle.std.specs.List.{list_any}
+use Rattle.std.proofs.lemmas.Bool.{true≢false, ltb-true, leb-false, or_parts}
+use Rattle.std.proofs.lemmas.Option.{slice_get_within}
+use Rattle.std.proofs.lemmas.List.{length-append, take_all}
+use Rattle.rv_inst.specs.declared.code.LineSpan.{LineSpan}
+use Rattle.rv_inst.specs.declared.error.Rule.{Rule}
+use Rattle.rv_inst.specs.declared.inst.Inst.{Inst}
+use Rattle.rv_inst.specs.declared.inst.Inst.TheVariants.{Jal, CondBr}
+use Rattle.rv_inst.specs.declared.inst.CondBrTarget.TheVariants.{Label, Fallthrough}
+use Rattle.rv_inst.specs.declared.inst.Line.{Line}
+use Rattle.rv_inst.specs.declared.inst.Line.TheVariants.{Inst as Put, Bind}
+use Rattle.rv_inst.specs.declared.label_use.LabelUse.{LabelUse}
+use Rattle.rv_inst.specs.declared.label_use.LabelUse.TheVariants.{Jal20}
+use Rattle.rv_inst.specs.Operands.{inst_labels, inst_registers}
+use Rattle.rv_inst.specs.LabelUse.{forward_of, backward_of, has_veneer_of}
+use Rattle.rv_inst.specs.declared.error.Rule.TheVariants as rule_of
+use Rattle.rv_inst.specs.Rules.{inst_rule, is_buffer_label, is_virtual, is_misplaced, is_reserved, has_bad_type, is_out_of_range, lacks_target}
+use Rattle.mach_buffer.specs.declared.uses.Use.{Use}
+use Rattle.mach_buffer.specs.Reach.{deadline, deadlines, due_by, is_needed, is_needed_from, is_reached}
+use Rattle.mach_buffer.specs.Buffer.{bytes_of, place_of}
+use Rattle.mach_buffer.proofs.Apart.{both_lists}
+use Rattle.mach_buffer.proofs.Slack.{deadlines_append, none_from}
+use Rattle.mach_buffer.proofs.Needed.{due_le_length}
+use Rattle.rv_emit.specs.Emitted.{Buffer, pending}
+use Rattle.rv_inst.specs.Uses.{use_at, uses_in}
+use Rattle.rv_emit.proofs.Laws.{deadlines_as, Each, each_none, each_more, uses_bare, uses_kinds, few_deadlines, waits}
+use Rattle.rv_asm.specs.Reported.{start_of}
+use Rattle.rv_inst.specs.Uses.{least_reach}
+use Rattle.rv_asm.specs.Reach.{label_count, last_island, first_after_island, uses_from, bound_by, pending_deadlines, IsDue}
+use Rattle.rv_asm.specs.AfterLastIsland.{uses_after_island, AfterLastIsland}
+use Rattle.rv_asm.proofs.LabelNames.{uses_labels}
+use Rattle.rv_asm.proofs.FirstLines.{last_open}
+
+-- ---- the uses of one instruction
+
+-- each reaches as far as the shortest of its line
+uses_least : (start : ℕ) (inst : Inst) → Each (λ u. start + least_reach (Put inst) ≤ deadline forward_of u) (uses_in start inst)
+uses_least start (Jal label) = each_more (λ u. start + 1048574 ≤ deadline forward_of u) _ [] (omega arith) (each_none _)
+uses_least start (CondBr Fallthrough not_taken kind) = each_none _
+uses_least start (CondBr (Label t) Fallthrough kind) = each_more (λ u. start + 4094 ≤ deadline forward_of u) _ [] (omega arith) (each_none _)
+uses_least start (CondBr (Label t) (Label f) kind) =
+    each_more (λ u. start + 4094 ≤ deadline forward_of u) _ (use_at (start + 4) f Jal20 ∷ []) (omega arith) (each_more (λ u. start + 4094 ≤ deadline forward_of u) _ [] (omega arith) (each_none _))
+uses_least start inst = each_none _
+
+-- there are no more than it names labels
+few_labels : (start : ℕ) (inst : Inst) → length (uses_in start inst) ≤ length (inst_labels inst)
+few_labels start (Jal label) = omega arith
+few_labels start (CondBr Fallthrough Fallthrough kind) = omega arith
+few_labels start (CondBr Fallthrough (Label f) kind) = omega arith
+few_labels start (CondBr (Label t) Fallthrough kind) = omega arith
+few_labels start (CondBr (Label t) (Label f) kind) = omega arith
+few_labels start inst = omega arith
+
+skip : (c : Bool) (rule : Rule) (rest : Option Rule) → cond c (Some rule) rest ≡ None → rest ≡ None
+skip true rule rest h = absurd (cc)
+skip false rule rest h = h
+
+last_test : (c : Bool) (rule : Rule) → cond c (Some rule) None ≡ None → c ≡ false
+last_test true rule h = absurd (cc)
+last_test false rule h = refl
+
+any_none : {X : Type 0} (f : X → Bool) (xs : List X) → list_any f xs ≡ false → Each (λ x. f x ≡ false) xs
+any_none f [] h = each_none _
+any_none f (x ∷ xs) h = let parts = or_parts (f x) (list_any f xs) h in each_more (λ y. f y ≡ false) x xs parts.0 (any_none f xs parts.1)
+
+labels_outer : (inst : Inst) → inst_rule inst ≡ None → list_any is_buffer_label (inst_labels inst) ≡ false
+labels_outer inst rule =
+    let a = skip (list_any is_virtual (inst_registers inst)) rule_of.Virtual _ rule in
+    let b = skip (is_misplaced inst) rule_of.Class _ a in
+    let c = skip (list_any is_reserved (inst_registers inst)) rule_of.Reserved _ b in
+    let d = skip (has_bad_type inst) rule_of.BadType _ c in
+    let e = skip (is_out_of_range inst) rule_of.Range _ d in
+    let f = skip (lacks_target inst) rule_of.NoTarget _ e in
+    last_test (list_any is_buffer_label (inst_labels inst)) rule_of.Label f
+
+-- each names a label of the listing's
+uses_outer : (start : ℕ) (inst : Inst) → inst_rule inst ≡ None → Each (λ u. u.label.number < 2 ^ 30) (uses_in start inst)
+uses_outer start inst rule j u h =
+    let named = uses_labels start inst j u h in
+    let outer : is_buffer_label named.label ≡ false = any_none is_buffer_label (inst_labels inst) (labels_outer inst rule) named.place named.label named.names in
+    let low : named.label.number < 2 ^ 30 = leb-false _ _ outer in
+    subst (λ n. n < 2 ^ 30) named.is low
+
+-- ---- the uses of lines
+
+-- a use is one of an instruction among lines, the first of which has an index
+pub record FromLine (spans : List LineSpan) (first : ℕ) (lines : List Line) (u : Use LabelUse) : Type 0 where
+  pub index : ℕ
+  pub inst : Inst
+  pub there : slice_get lines index ≡ Some (Put inst)
+  pub place : ℕ
+  pub own : slice_get (uses_in (start_of spans (first + index)) inst) place ≡ Some u
+
+later_line : (spans : List LineSpan) (first : ℕ) (line : Line) (lines : List Line) (u : Use LabelUse) → FromLine spans (suc first) lines u → FromLine spans first (line ∷ lines) u
+later_line spans first line lines u f =
+    let same : suc first + f.index ≡ first + suc f.index = omega arith in
+    record { index = suc f.index; inst = f.inst; there = f.there; place = f.place; own = subst (λ n. slice_get (uses_in (start_of spans n) f.inst) f.place ≡ Some u) same f.own }
+
+pub from_line : (spans : List LineSpan) (first : ℕ) (lines : List Line) → Each (FromLine spans first lines) (uses_from spans first lines)
+from_line spans first [] = each_none _
+from_line spans first (Put inst ∷ lines) =
+    let here : first ≡ first + 0 = omega arith in
+    both_lists (FromLine spans first (Put inst ∷ lines)) (uses_in (start_of spans first) inst) (uses_from spans (suc first) lines)
+    (λ j u h. record { index = 0; inst = inst; there = refl; place = j; own = subst (λ n. slice_get (uses_in (start_of spans n) inst) j ≡ Some u) here h })
+    (λ j u h. later_line spans first (Put inst) lines u (from_line spans (suc first) lines j u h))
+from_line spans first (Bind label ∷ lines) = λ j u h. later_line spans first (Bind label) lines u (from_line spans (suc first) lines j u h)
+
+few_in_lines : (spans : List LineSpan) (first : ℕ) (lines : List Line) → length (uses_from spans first lines) ≤ label_count lines
+few_in_lines spans first [] = omega arith
+few_in_lines spans first (Put inst ∷ lines) =
+    let rest = few_in_lines spans (suc first) lines in
+    let own = few_labels (start_of spans first) inst in
+    let whole = length-append (uses_in (start_of spans first) inst) (uses_from spans (suc first) lines) in
+    omega (arith, rest, own, whole)
+few_in_lines spans first (Bind label ∷ lines) = let rest = few_in_lines spans (suc first) lines in omega (arith, rest)
+
+-- fewer labels from a later line on
+count_drop : (lines : List Line) (j k : ℕ) → j ≤ k → label_count (drop k lines) ≤ label_count (drop j lines)
+count_drop [] zero zero le = omega arith
+count_drop [] zero (suc k) le = omega arith
+count_drop [] (suc j) zero le = omega arith
+count_drop [] (suc j) (suc k) le = omega arith
+count_drop (line ∷ lines) zero zero le = omega arith
+count_drop (line ∷ lines) zero (suc k) le = let rest = count_drop lines zero k (omega arith) in omega (arith, rest)
+count_drop (line ∷ lines) (suc j) zero le = absurd (omega arith)
+count_drop (line ∷ lines) (suc j) (suc k) le = count_drop lines j k (omega arith)
+
+get_drop : {X : Type 0} (xs : List X) (k i : ℕ) (x : X) → slice_get (drop k xs) i ≡ Some x → slice_get xs (k + i) ≡ Some x
+get_drop xs zero i x h = let same : 0 + i ≡ i = omega arith in ap (slice_get xs) same ∙ h
+get_drop [] (suc k) i x h = absurd (cc)
+get_drop (y ∷ xs) (suc k) i x h = let same : suc k + i ≡ suc (k + i) = omega arith in ap (slice_get (y ∷ xs)) same ∙ get_drop xs k i x h
+
+-- ---- what waits
+
+-- of the open uses alone
+open_waits : (lines : List Line) (spans : List LineSpan) (b : Buffer) → AfterLastIsland lines spans b → pending b ≡ deadlines (waits (place_of b)) forward_of (uses_after_island lines spans)
+open_waits lines spans b s =
+    let test = waits (place_of b) in
+    ap (deadlines test forward_of) s.ends.whole ∙ deadlines_append test forward_of s.ends.before (uses_after_island lines spans)
+    ∙ ap (λ ds. ds ++ deadlines test forward_of (uses_after_island lines spans)) (none_from test forward_of s.ends.before s.ends.idle)
+
+pub open_from_line : (lines : List Line) (spans : List LineSpan) → Each (FromLine spans (first_after_island lines spans (length lines)) (drop (first_after_island lines spans (length lines)) lines)) (uses_after_island lines spans)
+open_from_line lines spans = from_line spans (first_after_island lines spans (length lines)) (drop (first_after_island lines spans (length lines)) lines)
+
+-- what waits in the buffer is what waits by the spans
+pub pending_waiting : (lines : List Line) (spans : List LineSpan) (b : Buffer) → AfterLastIsland lines spans b → pending b ≡ pending_deadlines lines spans (length lines)
+pending_waiting lines spans b s =
+    let n = length lines in
+    let k = first_after_island lines spans n in
+    let whole : take n lines ≡ lines = take_all n lines (omega arith) in
+    let test : Use LabelUse → Bool = λ u. not (is_reached forward_of backward_of (bound_by spans 0 lines u.label.number) u) in
+    let same : deadlines (waits (place_of b)) forward_of (uses_after_island lines spans) ≡ deadlines test forward_of (uses_after_island lines spans) = deadlines_as (waits (place_of b)) test forward_of (uses_after_island lines spans) each in
+    open_waits lines spans b s ∙ same ∙ sym (λ j. deadlines (λ (u : Use LabelUse). not (is_reached forward_of backward_of (bound_by spans 0 (whole j) u.label.number) u)) forward_of (uses_from spans k (drop k (whole j))))
+  where
+    each : (j : ℕ) (u : Use LabelUse) → slice_get (uses_after_island lines spans) j ≡ Some u → waits (place_of b) u ≡ not (is_reached forward_of backward_of (bound_by spans 0 lines u.label.number) u)
+    each j u h =
+        let f = open_from_line lines spans j u h in
+        let start = start_of spans (first_after_island lines spans (length lines) + f.index) in
+        let kind : has_veneer_of u.kind ≡ true = uses_kinds start f.inst f.place u f.own in
+        let bare : u.veneer ≡ None = uses_bare start f.inst f.place u f.own in
+        let rule : inst_rule f.inst ≡ None = s.ruled (first_after_island lines spans (length lines) + f.index) (Put f.inst) (get_drop lines (first_after_island lines spans (length lines)) f.index (Put f.inst) f.there) in
+        let low : u.label.number < 2 ^ 30 = uses_outer start f.inst rule f.place u f.own in
+        let place : place_of b u.label.number ≡ bound_by spans 0 lines u.label.number = s.places u.label.number low in
+        λ i. kind i && (is_none (bare i) && not (is_reached forward_of backward_of (place i) u))
+
+-- ---- an island that is needed
+
+-- some deadline might be missed
+record Missed (cur : ℕ) (all ds : List ℕ) : Type 0 where
+  pub due : ℕ
+  pub index : ℕ
+  pub there : slice_get ds index ≡ Some due
+  pub late : due < cur + 14 + 8 * (due_by due all + 2)
+
+missed : (cur : ℕ) (all ds : List ℕ) → is_needed_from cur all ds ≡ true → Missed cur all ds
+missed cur all [] h = absurd (true≢false (sym h))
+missed cur all (d ∷ ds) h = on (nat_lt d (cur + 14 + 8 * (due_by d all + 2))) refl h (missed cur all ds)
+  where
+    on : (c : Bool) → nat_lt d (cur + 14 + 8 * (due_by d all + 2)) ≡ c → (c || is_needed_from cur all ds) ≡ true → (is_needed_from cur all ds ≡ true → Missed cur all ds) → Missed cur all (d ∷ ds)
+    on true e h rest = record { due = d; index = 0; there = refl; late = ltb-true _ _ e }
+    on false e h rest = let m = rest h in record { due = m.due; index = suc m.index; there = m.there; late = m.late }
+
+-- a deadline is that of a use
+record OfUse (uses : List (Use LabelUse)) (due : ℕ) : Type 0 where
+  pub index : ℕ
+  pub user : Use LabelUse
+  pub there : slice_get uses index ≡ Some user
+  pub is : deadline forward_of user ≡ due
+
+of_use : (test : Use LabelUse → Bool) (uses : List (Use LabelUse)) → Each (OfUse uses) (deadlines test forward_of uses)
+of_use test [] = each_none _
+of_use test (u ∷ uses) = on (test u) (λ j d h. later d (of_use test uses j d h))
+  where
+    later : (d : ℕ) → OfUse uses d → OfUse (u ∷ uses) d
+    later d o = record { index = suc o.index; user = o.user; there = o.there; is = o.is }
+
+    on : (c : Bool) → Each (OfUse (u ∷ uses)) (deadlines test forward_of uses) → Each (OfUse (u ∷ uses)) (cond c (deadline forward_of u ∷ deadlines test forward_of uses) (deadlines test forward_of uses))
+    on true rest = each_more (OfUse (u ∷ uses)) (deadline forward_of u) (deadlines test forward_of uses) (record { index = 0; user = u; there = refl; is = refl }) rest
+    on false rest = rest
+
+-- an island that is needed behind some lines is due there
+pub due_now : (lines : List Line) (spans : List LineSpan) (b : Buffer) (distance : ℕ) → AfterLastIsland lines spans b → is_needed (length (bytes_of b)) distance (pending b) ≡ true → IsDue lines spans (length lines) (length (bytes_of b)) distance
+due_now lines spans b distance s needed =
+    let n = length lines in
+    let k = first_after_island lines spans n in
+    let cur = length (bytes_of b) in
+    let us = uses_after_island lines spans in
+    let ds = deadlines (waits (place_of b)) forward_of us in
+    let m : Missed (cur + distance) ds ds = missed (cur + distance) ds ds (sym (ap (is_needed cur distance) (open_waits lines spans b s)) ∙ needed) in
+    let o : OfUse us m.due = of_use (waits (place_of b)) us m.index m.due m.there in
+    let f : FromLine spans k (drop k lines) o.user = open_from_line lines spans o.index o.user o.there in
+    let there : slice_get lines (k + f.index) ≡ Some (Put f.inst) = get_drop lines k f.index (Put f.inst) f.there in
+    let named = uses_labels (start_of spans (k + f.index)) f.inst f.place o.user f.own in
+    let some : named.place < length (inst_labels f.inst) = slice_get_within (inst_labels f.inst) named.place named.label named.names in
+    let least : start_of spans (k + f.index) + least_reach (Put f.inst) ≤ deadline forward_of o.user = uses_least (start_of spans (k + f.index)) f.inst f.place o.user f.own in
+    let is : deadline forward_of o.user ≡ m.due = o.is in
+    let late = m.late in
+    let last : last_island spans n ≤ k = last_open lines spans n in
+    let whole : take n lines ≡ lines = take_all n lines (omega arith) in
+    let a : due_by m.due ds ≤ length ds = due_le_length m.due ds in
+    let c : length ds ≤ length us = few_deadlines (waits (place_of b)) forward_of us in
+    let e : length us ≤ label_count (drop k lines) = few_in_lines spans k (drop k lines) in
+    let g : label_count (drop k lines) ≤ label_count (drop (last_island spans n) lines) = count_drop lines (last_island spans n) k last in
+    let h : label_count (drop (last_island spans n) (take n lines)) ≡ label_count (drop (last_island spans n) lines) = ap (λ ls. label_count (drop (last_island spans n) ls)) whole in
+    record {
+      index = k + f.index;
+      line = Put f.inst;
+      there = there;
+      jumps = omega (arith, some);
+      behind = omega (arith, last);
+      before = slice_get_within lines (k + f.index) (Put f.inst) there;
+      due = omega (arith, least, is, late, a, c, e, g, h);
+    }

@@ -1,5 +1,0 @@
-use Rattle.rv_asm.proofs.Turning.{SoFar}
-use Rattle.rv_asm.proofs.assemble.build.Given as goal
-
-abbrev pub invariant-loop-index : goal.invariant-loop-index
-invariant-loop-index l = SoFar l.lines l.index l.spans.items l.sink

@@ -1,0 +1,80 @@
+//! From lines to the code that runs as they say.
+
+ghost use Rattle.std.specs.Prelude.{◌≡◌, ℕ, [], None, IfOk, OnOk};
+ghost use Rattle.rv_base.specs.declared.flags.IsaFlags.{IsaFlags};
+ghost use Rattle.rv_base.specs.Flags.{no_flags};
+ghost use Rattle.rv_base.specs.Frame.{no_frame};
+ghost use Rattle.rv_listing.specs.CodeRanges.{CodeFits};
+ghost use Rattle.rv_asm.specs.Job.{job_of};
+ghost use Rattle.rv_asm.specs.Refusal.{refusal, Finds};
+ghost use Rattle.rv_asm.specs.Reported.{Reported};
+ghost use Rattle.rv_asm.specs.Simulation.{RunsAsListed};
+ghost use Rattle.rv_asm.specs.Reach.{InReach};
+ghost use Rattle.rv_asm.specs.FinishedCode.{IsFinished};
+
+use crate::lines::put_line;
+use crate::ranges::code_fits;
+use crate::refusal::refuse;
+use mach_buffer::buffer::MachBuffer;
+use rv_base::{Constant, FrameLayout, IsaFlags, List, OutOfMemory};
+use rv_emit::{EmitInfo, EmitState, MachInstEmitState};
+use rv_inst::{Code, EmitError, LabelUse, Line};
+use std::alloc::Global;
+
+/// The code of a listing, which runs as its lines say. Every flag is off, the frame has no bytes, and there are no
+/// constants.
+pub fn assemble(
+    alloc: Global,
+    lines: &[Line],
+    flags: IsaFlags,
+    frame: &FrameLayout,
+    constants: &[Constant],
+) -> Result<Code, EmitError>
+    requires flags { flags ≡ no_flags }
+    requires frame { frame.now ≡ no_frame }
+    requires constants { constants.now ≡ [] }
+    ensures reported { IfOk result (λ code. Reported (job_of lines.now flags frame.now constants.now) code) }
+    ensures runs { IfOk result (λ code. RunsAsListed (job_of lines.now flags frame.now constants.now) code) }
+    ensures reach { IfOk result (λ code. InReach (job_of lines.now flags frame.now constants.now) code) }
+    ensures ranges { IfOk result CodeFits }
+    ensures refused { Finds (refusal lines.now) result }
+{
+    refuse(alloc, lines, flags, frame, constants)?;
+    match build(alloc, lines, flags, constants) {
+        Ok(code) => {
+            code_fits(&code);
+            Ok(code)
+        }
+        Err(OutOfMemory) => Err(EmitError::OutOfMemory),
+    }
+}
+
+/// The code of lines that aren't refused.
+fn build(
+    alloc: Global,
+    lines: &[Line],
+    flags: IsaFlags,
+    constants: &[Constant],
+) -> Result<Code, OutOfMemory>
+    requires accepted { refusal lines.now ≡ None }
+    requires constants { constants.now ≡ [] }
+    ensures { IfOk result (IsFinished lines.now) }
+{
+    let info = EmitInfo::new(flags);
+    let mut state = EmitState::new(FrameLayout::none(alloc));
+    let mut sink = MachBuffer::<LabelUse>::new(alloc);
+    sink.register_constants(constants)?;
+    let mut spans = Vec::new(alloc);
+    for (index, line) in lines.iter().enumerate() {
+        let span = put_line(alloc, &mut sink, &info, &mut state, index, line)?;
+        spans.push(span)?;
+    }
+    let end = sink.cur_offset();
+    let finished = sink.finish(constants)?;
+    Ok(Code {
+        bytes: finished.bytes,
+        lines: List::from_vec(spans),
+        labels: finished.labels,
+        end,
+    })
+}

@@ -1,0 +1,195 @@
+-- How a block and an island keep Reach, and how many uses wait behind them.
+use Rattle.std.proofs.Common.{◌≡◌, ℕ, zero, suc, ◌+◌, ◌*◌, ◌≤◌, Bool, true, false, cond, List, [], ◌∷◌, ◌++◌, length, Option, Some, None, refl, ap, sym, ◌∙◌, subst, arith, ⊎_elim, append_assoc}
+use Rattle.std.specs.Prelude.{slice_get, nat_eq, pos}
+use Rattle.std.proofs.lemmas.Option.{same_Some}
+use Rattle.std.proofs.lemmas.List.{length-append, append-nil}
+use Rattle.rv_base.specs.declared.label.MachLabel.{MachLabel}
+use Rattle.rv_inst.specs.declared.inst.Inst.{Inst}
+use Rattle.rv_inst.specs.declared.inst.Inst.TheVariants.{Jal, CondBr, Mov, MovFromPReg}
+use Rattle.rv_inst.specs.declared.inst.CondBrTarget.TheVariants.{Label, Fallthrough}
+use Rattle.rv_inst.specs.declared.label_use.LabelUse.{LabelUse}
+use Rattle.rv_inst.specs.declared.label_use.LabelUse.TheVariants.{Jal20, B12}
+use Rattle.rv_inst.specs.LabelUse.{forward_of, backward_of, has_veneer_of}
+use Rattle.rv_inst.specs.Operands.{inst_labels}
+use Rattle.rv_machine.specs.declared.decoding.Decoded.{Decoded}
+use Rattle.mach_buffer.specs.declared.uses.Use.{Use}
+use Rattle.mach_buffer.specs.Reach.{CanReach, HasSlack, deadline, deadlines, is_pending, is_needed}
+use Rattle.mach_buffer.specs.Buffer.{bytes_of, uses_of, place_of}
+use Rattle.mach_buffer.proofs.Slack.{deadlines_append, slack_use, slack_less, slack_not_needed, reach_from_slack}
+use Rattle.rv_emit.specs.Operations.{no_distance, ops_of, move_ops, decoded_addi}
+use Rattle.rv_emit.specs.Emitted.{Buffer, pending, AppendsCode, AreOps, AppendsInst, IslandIfNeeded, CanEmit, IsBounded, bytes_of_words}
+use Rattle.rv_inst.specs.Uses.{use_at, uses_in}
+
+-- whether a use waits
+abbrev pub waits : (ℕ → Option ℕ) → Use LabelUse → Bool
+waits place = is_pending has_veneer_of forward_of backward_of place
+
+-- ---- uses of an instruction
+
+-- what holds of each list of uses that an instruction may have, holds of its own
+pub each_uses : (P : List (Use LabelUse) → Type 0) (start : ℕ) (inst : Inst) → P [] → ((label : MachLabel) → P (use_at start label Jal20 ∷ [])) → ((t : MachLabel) → P (use_at start t B12 ∷ [])) → ((t f : MachLabel) → P (use_at start t B12 ∷ use_at (start + 4) f Jal20 ∷ [])) → P (uses_in start inst)
+each_uses P start (Jal label) none jump one two = jump label
+each_uses P start (CondBr Fallthrough not_taken kind) none jump one two = none
+each_uses P start (CondBr (Label t) Fallthrough kind) none jump one two = one t
+each_uses P start (CondBr (Label t) (Label f) kind) none jump one two = two t f
+each_uses P start _ none jump one two = none
+
+-- at most two
+pub few_uses : (start : ℕ) (inst : Inst) → length (uses_in start inst) ≤ 2
+few_uses start inst = each_uses (λ us. length us ≤ 2) start inst (omega arith) (λ label. omega arith) (λ t. omega arith) (λ t f. omega arith)
+
+-- what holds of each element
+abbrev pub Each : {X : Type 0} → (X → Type 0) → List X → Type 0
+Each {X} P xs = (k : ℕ) (x : X) → slice_get xs k ≡ Some x → P x
+
+pub each_none : {X : Type 0} (P : X → Type 0) → Each P []
+each_none P k x h = absurd (cc)
+
+pub each_more : {X : Type 0} (P : X → Type 0) (x : X) (xs : List X) → P x → Each P xs → Each P (x ∷ xs)
+each_more P x xs p rest zero y h = subst P (same_Some _ _ h) p
+each_more P x xs p rest (suc k) y h = rest k y h
+
+-- what holds of each use that may stand in a block holds of those of an instruction
+pub each_use : (P : Use LabelUse → Type 0) (start : ℕ) (inst : Inst) → ((label : MachLabel) → P (use_at start label Jal20)) → ((label : MachLabel) → P (use_at start label B12)) → ((label : MachLabel) → P (use_at (start + 4) label Jal20)) → Each P (uses_in start inst)
+each_use P start inst jump branch second =
+    each_uses (Each P) start inst (each_none P)
+    (λ label. each_more P _ [] (jump label) (each_none P))
+    (λ t. each_more P _ [] (branch t) (each_none P))
+    (λ t f. each_more P _ (use_at (start + 4) f Jal20 ∷ []) (branch t) (each_more P _ [] (second f) (each_none P)))
+
+-- each reaches over 4094 bytes
+pub uses_far : (start : ℕ) (inst : Inst) → Each (λ u. start + 4094 ≤ deadline forward_of u) (uses_in start inst)
+uses_far start inst = each_use (λ u. start + 4094 ≤ deadline forward_of u) start inst (λ label. omega arith) (λ label. omega arith) (λ label. omega arith)
+
+-- each may go by a veneer
+pub uses_kinds : (start : ℕ) (inst : Inst) → Each (λ u. has_veneer_of u.kind ≡ true) (uses_in start inst)
+uses_kinds start inst = each_use (λ u. has_veneer_of u.kind ≡ true) start inst (λ label. refl) (λ label. refl) (λ label. refl)
+
+-- none has a veneer yet
+pub uses_bare : (start : ℕ) (inst : Inst) → Each (λ u. u.veneer ≡ None) (uses_in start inst)
+uses_bare start inst = each_use (λ u. u.veneer ≡ None) start inst (λ label. refl) (λ label. refl) (λ label. refl)
+
+-- ---- bytes of a block
+
+few_moves : (rd rs : ℕ) → length (move_ops rd rs) ≤ 2
+few_moves rd rs = on (nat_eq rd rs)
+  where
+    on : (c : Bool) → length (cond c [] (decoded_addi rd rs (pos 0) ∷ [])) ≤ 2
+    on true = omega arith
+    on false = omega arith
+
+few_rows : (inst : Inst) → length (ops_of no_distance inst) ≤ 2
+few_rows (Mov rd rm type) = few_moves _ _
+few_rows (MovFromPReg rd rm) = few_moves _ _
+few_rows (CondBr Fallthrough not_taken kind) = omega arith
+few_rows (CondBr (Label t) Fallthrough kind) = omega arith
+few_rows (CondBr (Label t) (Label f) kind) = omega arith
+few_rows _ = omega arith
+
+pub length_words : (words : List ℕ) → length (bytes_of_words words) ≡ 4 * length words
+length_words [] = refl
+length_words (w ∷ words) = let rest = length_words words in omega arith
+
+same_length : (words : List ℕ) (rows : List Decoded) → AreOps words rows → length words ≡ length rows
+same_length [] [] h = refl
+same_length [] (d ∷ rows) h = absurd h
+same_length (w ∷ words) [] h = absurd h
+same_length (w ∷ words) (d ∷ rows) h = ap suc (same_length words rows h.2)
+
+-- at most eight bytes
+pub block_short : (inst : Inst) (words : List ℕ) → AreOps words (ops_of no_distance inst) → length (bytes_of_words words) ≤ 8
+block_short inst words rows = let a = length_words words in let b = same_length words (ops_of no_distance inst) rows in let c = few_rows inst in omega arith
+
+pub bytes_after : (inst : Inst) (old new : Buffer) → AppendsInst inst old new → length (bytes_of new) ≤ length (bytes_of old) + 8
+bytes_after inst old new p =
+    let a = block_short inst p.words p.decode in
+    let b : length (bytes_of new) ≡ length (bytes_of old) + length (bytes_of_words p.words) = ap length p.adds.bytes ∙ length-append (bytes_of old) (bytes_of_words p.words) in
+    omega arith
+
+-- ---- what waits
+
+-- what waits once uses are added
+pub pending_adds : {block : List ℕ} {own : List (Use LabelUse)} {old new : Buffer} → AppendsCode block own old new → pending new ≡ deadlines (waits (place_of old)) forward_of (uses_of old ++ own)
+pending_adds a = λ i. deadlines (waits (a.places i)) forward_of (a.uses i)
+
+pub few_deadlines : {L : Type 0} (test : Use L → Bool) (forward : L → ℕ) (uses : List (Use L)) → length (deadlines test forward uses) ≤ length uses
+few_deadlines test forward [] = omega arith
+few_deadlines test forward (u ∷ uses) = on (test u) (few_deadlines test forward uses)
+  where
+    on : (c : Bool) → length (deadlines test forward uses) ≤ length uses → length (cond c (deadline forward u ∷ deadlines test forward uses) (deadlines test forward uses)) ≤ suc (length uses)
+    on true le = omega arith
+    on false le = omega arith
+
+-- as many more as the instruction has uses, at most
+pub pending_uses : (inst : Inst) (old new : Buffer) → AppendsInst inst old new → length (pending new) ≤ length (pending old) + length (uses_in (length (bytes_of old)) inst)
+pending_uses inst old new p =
+    let own = uses_in (length (bytes_of old)) inst in
+    let test = waits (place_of old) in
+    let whole : length (pending new) ≡ length (pending old) + length (deadlines test forward_of own) =
+    ap length (pending_adds p.adds ∙ deadlines_append test forward_of (uses_of old) own) ∙ length-append (pending old) (deadlines test forward_of own) in
+    let few = few_deadlines test forward_of own in
+    omega arith
+
+pub pending_after : (inst : Inst) (old new : Buffer) → AppendsInst inst old new → length (pending new) ≤ length (pending old) + 2
+pending_after inst old new p = let a = pending_uses inst old new p in let b = few_uses (length (bytes_of old)) inst in omega arith
+
+-- none more where it names no label
+no_uses : (start : ℕ) (inst : Inst) → inst_labels inst ≡ [] → length (uses_in start inst) ≡ 0
+no_uses start (Jal label) e = absurd (cc)
+no_uses start (CondBr Fallthrough not_taken kind) e = refl
+no_uses start (CondBr (Label t) Fallthrough kind) e = absurd (cc)
+no_uses start (CondBr (Label t) (Label f) kind) e = absurd (cc)
+no_uses start _ e = refl
+
+-- a block is within its bounds
+pub block_bounds : (inst : Inst) (old new : Buffer) → AppendsInst inst old new → IsBounded inst old new
+block_bounds inst old new p asks = record {
+  long = let a = bytes_after inst old new p in omega arith;
+  waiting = pending_after inst old new p;
+  without = λ e. let a = pending_uses inst old new p in let b = no_uses (length (bytes_of old)) inst e in omega arith;
+}
+
+-- ---- Reach
+
+-- uses are recorded: eight bytes of slack for each
+pub slack_uses : (test : Use LabelUse → Bool) (cur slack : ℕ) (uses own : List (Use LabelUse)) → Each (λ u. cur + slack + 8 * length own ≤ deadline forward_of u) own → HasSlack cur (slack + 8 * length own) (deadlines test forward_of uses) → HasSlack cur slack (deadlines test forward_of (uses ++ own))
+slack_uses test cur slack uses [] far h =
+    subst (λ us. HasSlack cur slack (deadlines test forward_of us)) (sym (append-nil uses)) (slack_less cur (slack + 8 * 0) cur slack _ (omega arith) h)
+slack_uses test cur slack uses (u ∷ own) far h =
+    let least = far 0 u refl in
+    let first : HasSlack cur (slack + 8 * length own) (deadlines test forward_of (uses ++ u ∷ [])) =
+    slack_use test forward_of cur (slack + 8 * length own) uses u (omega arith) (slack_less cur (slack + 8 * suc (length own)) cur (slack + 8 * length own + 8) _ (omega arith) h) in
+    subst (λ us. HasSlack cur slack (deadlines test forward_of us)) (append_assoc uses (u ∷ []) own)
+    (slack_uses test cur slack (uses ++ u ∷ []) own (λ k v e. let f = far (suc k) v e in omega arith) first)
+
+-- where no island is needed before 88 bytes, Reach holds
+pub reach_calm : (b : Buffer) → is_needed (length (bytes_of b)) 88 (pending b) ≡ false → CanReach (length (bytes_of b)) (pending b)
+reach_calm b calm =
+    reach_from_slack (length (bytes_of b)) (pending b) (slack_less (length (bytes_of b) + 88) 30 (length (bytes_of b)) 14 (pending b) (omega arith) (slack_not_needed (length (bytes_of b)) 88 (pending b) calm))
+
+-- and it holds after an instruction
+pub reach_after : (inst : Inst) (old new : Buffer) → CanEmit inst old → AppendsInst inst old new → CanReach (length (bytes_of new)) (pending new)
+reach_after inst old new can p =
+    let start = length (bytes_of old) in
+    let own = uses_in start inst in
+    let cur = length (bytes_of new) in
+    let near : cur ≤ start + 8 = bytes_after inst old new p in
+    let few : length own ≤ 2 = few_uses start inst in
+    let spare : HasSlack cur (14 + 8 * length own) (pending old) =
+    slack_less (start + 88) 30 cur (14 + 8 * length own) (pending old) (omega arith) (slack_not_needed start 88 (pending old) can.calm) in
+    let far : Each (λ u. cur + 14 + 8 * length own ≤ deadline forward_of u) own = λ k u e. let f = uses_far start inst k u e in omega arith in
+    reach_from_slack cur (pending new) (subst (HasSlack cur 14) (sym (pending_adds p.adds)) (slack_uses (waits (place_of old)) cur 14 (uses_of old) own far spare))
+
+-- an island leaves nothing that waits
+pub reach_after_island : (distance : ℕ) (old new : Buffer) (made : Bool) → IslandIfNeeded distance old new made → CanReach (length (bytes_of old)) (pending old) → CanReach (length (bytes_of new)) (pending new)
+reach_after_island distance old new made m h = ⊎_elim
+    (λ same. subst (λ (b : Buffer). CanReach (length (bytes_of b)) (pending b)) (sym same.1) h)
+    (λ put. subst (CanReach (length (bytes_of new))) (sym put.1.settled) tt)
+    m.put
+
+-- no island is needed where one was just put, or where none was needed
+pub calm_after : (distance : ℕ) (old new : Buffer) (made : Bool) → IslandIfNeeded distance old new made → is_needed (length (bytes_of new)) distance (pending new) ≡ false
+calm_after distance old new made m = ⊎_elim
+    (λ same. subst (λ (b : Buffer). is_needed (length (bytes_of b)) distance (pending b) ≡ false) (sym same.1) (sym m.asked ∙ same.0))
+    (λ put. ap (is_needed (length (bytes_of new)) distance) put.1.settled)
+    m.put

@@ -1,0 +1,15 @@
+use Rattle.std.proofs.Common.{arith, ap, sym, ◌∙◌, ◌++◌, append-nil}
+use Rattle.mach_buffer.specs.Buffer.{bytes_of, uses_of}
+use Rattle.rv_emit.proofs.Words.{bytes_of_word, puts_word}
+use Rattle.rv_emit.proofs.sequence.put_word.Goals as goal
+
+pub returns-clause-block : goal.returns-clause-block
+returns-clause-block c = λ d decodes. puts_word _ _ c.args.word d (omega arith) decodes (record {
+  bytes = c.in_ok-put4.ensures.put.bytes ∙ ap (λ b. bytes_of c.args.sink.now ++ b) (bytes_of_word c.args.word (omega arith));
+  uses = c.in_ok-put4.ensures.put.uses ∙ sym (append-nil (uses_of c.args.sink.now));
+  veneers = c.in_ok-put4.ensures.put.veneers;
+  places = c.in_ok-put4.ensures.put.labels.places;
+  labels = c.in_ok-put4.ensures.put.labels.labels;
+  drawn = c.in_ok-put4.ensures.put.labels.drawn;
+  sound = c.in_ok-put4.ensures.sound;
+})

@@ -1,0 +1,257 @@
+//! The words of an instruction, and its uses of labels.
+
+ghost use Rattle.std.specs.Prelude.{◌≡◌, [], ◌∷◌, ◌+◌, ◌<◌, ◌^◌, length, OnOk, OnErr, None, Some, true, pos};
+ghost use Rattle.rv_base.specs.declared.flags.IsaFlags.{IsaFlags};
+ghost use Rattle.rv_base.specs.Regs.{number_of};
+ghost use Rattle.rv_machine.specs.declared.decoding.Decoded.{Decoded};
+ghost use Rattle.rv_machine.specs.Decode.{decode};
+ghost use Rattle.rv_ops.specs.Compare.{branch_word};
+ghost use Rattle.rv_encode.specs.Registers.{IsIntRegister};
+ghost use Rattle.rv_encode.specs.Operations.{decoded_branch};
+ghost use Rattle.rv_inst.specs.declared.label_use.LabelUse.TheVariants.{Jal20, B12};
+ghost use Rattle.rv_inst.specs.LabelUseWords.{word_bytes};
+ghost use Rattle.rv_inst.specs.Rules.{inst_rule};
+ghost use Rattle.mach_buffer.specs.Buffer.{bytes_of, drawn_of, spoiled_of, IsKnown};
+ghost use Rattle.rv_emit.specs.Usable.{IsFine, IsFineBranch};
+ghost use Rattle.rv_emit.specs.Emitted.{IsSoundBuffer, AppendsCode, AppendsWords, AppendsInst};
+ghost use Rattle.rv_inst.specs.Uses.{use_at, branch_uses};
+ghost use Rattle.rv_inst.specs.Families.{family_of};
+ghost use Rattle.rv_inst.specs.declared.inst.Family.TheVariants.{Pseudo, Integer, Control};
+ghost use Rattle.rv_emit.specs.Operations.{move_ops, branch_ops, decoded_jump, no_distance};
+
+use mach_buffer::buffer::MachBuffer;
+use rv_base::{MachLabel, OutOfMemory, Reg, WritableReg, link_reg, writable_zero_reg, zero_reg};
+use rv_encode::{
+    enc_auipc, enc_jalr, encode_alu_rr_imm12, encode_alu_rrr, encode_branch, encode_ebreak,
+    encode_jal, encode_lui,
+};
+use rv_imms::Imm12;
+use rv_inst::{CondBrTarget, Family, Inst, LabelUse};
+use rv_ops::{AluOPRRI, IntegerCompare};
+
+/// Puts the block of an instruction that breaks no rule.
+pub(crate) fn put_sequence(sink: &mut MachBuffer<LabelUse>, inst: &Inst) -> Result<(), OutOfMemory>
+    requires rule { inst_rule inst.now ≡ None }
+    requires room { length (bytes_of sink.old) + 8 < 2147479552 }
+    requires sound { IsSoundBuffer sink.old }
+    ensures block { OnOk result (AppendsInst inst.now sink.old sink.new) }
+    ensures refused { OnErr result (spoiled_of sink.new ≡ true) }
+{
+    match inst.family() {
+        Family::Pseudo => put_pseudo(sink, inst),
+        Family::Integer => put_integer(sink, inst),
+        Family::Control => put_control(sink, inst),
+    }
+}
+
+fn put_pseudo(sink: &mut MachBuffer<LabelUse>, inst: &Inst) -> Result<(), OutOfMemory>
+    requires room { length (bytes_of sink.old) + 8 < 2147479552 }
+    requires sound { IsSoundBuffer sink.old }
+    ensures block { family_of inst.now ≡ Pseudo → OnOk result (AppendsInst inst.now sink.old sink.new) }
+    ensures refused { OnErr result (spoiled_of sink.new ≡ true) }
+{
+    match inst {
+        Inst::Nop4 => put_word(
+            sink,
+            encode_alu_rr_imm12(AluOPRRI::Addi, writable_zero_reg(), zero_reg(), Imm12::ZERO),
+        ),
+        Inst::EBreak => put_word(sink, encode_ebreak()),
+        _ => Ok(()),
+    }
+}
+
+fn put_integer(sink: &mut MachBuffer<LabelUse>, inst: &Inst) -> Result<(), OutOfMemory>
+    requires fine { IsFine inst.now }
+    requires room { length (bytes_of sink.old) + 8 < 2147479552 }
+    requires sound { IsSoundBuffer sink.old }
+    ensures block { family_of inst.now ≡ Integer → OnOk result (AppendsInst inst.now sink.old sink.new) }
+    ensures refused { OnErr result (spoiled_of sink.new ≡ true) }
+{
+    match inst {
+        Inst::Lui { rd, imm } => put_word(sink, encode_lui(*rd, *imm)),
+        Inst::Auipc { rd, imm } => put_word(sink, enc_auipc(*rd, *imm)),
+        Inst::AluRRR {
+            alu_op,
+            rd,
+            rs1,
+            rs2,
+        } => put_word(sink, encode_alu_rrr(*alu_op, *rd, *rs1, *rs2)),
+        Inst::AluRRImm12 {
+            alu_op,
+            rd,
+            rs,
+            imm12,
+        } => put_word(sink, encode_alu_rr_imm12(*alu_op, *rd, *rs, *imm12)),
+        Inst::Mov { rd, rm, ty: _ } => put_move(sink, *rd, *rm),
+        Inst::MovFromPReg { rd, rm } => put_move(sink, *rd, Reg::Real(*rm)),
+        _ => Ok(()),
+    }
+}
+
+/// A move of one integer register to another; none to itself.
+fn put_move(sink: &mut MachBuffer<LabelUse>, rd: WritableReg, rm: Reg) -> Result<(), OutOfMemory>
+    requires rd { IsIntRegister rd.reg }
+    requires rm { IsIntRegister rm }
+    requires room { length (bytes_of sink.old) + 8 < 2147479552 }
+    requires sound { IsSoundBuffer sink.old }
+    ensures block { OnOk result (AppendsWords (move_ops (number_of rd.reg) (number_of rm)) [] sink.old sink.new) }
+    ensures refused { OnErr result (spoiled_of sink.new ≡ true) }
+{
+    if number(rd.reg) == number(rm) {
+        return Ok(());
+    }
+    put_word(
+        sink,
+        encode_alu_rr_imm12(AluOPRRI::Addi, rd, rm, Imm12::ZERO),
+    )
+}
+
+/// The number of a register of the machine.
+fn number(reg: Reg) -> u8
+    ensures { result ≡ number_of reg }
+{
+    match reg {
+        Reg::Real(reg) => reg.number,
+        Reg::Virtual(_) => 0,
+    }
+}
+
+fn put_control(sink: &mut MachBuffer<LabelUse>, inst: &Inst) -> Result<(), OutOfMemory>
+    requires fine { IsFine inst.now }
+    requires room { length (bytes_of sink.old) + 8 < 2147479552 }
+    requires sound { IsSoundBuffer sink.old }
+    ensures block { family_of inst.now ≡ Control → OnOk result (AppendsInst inst.now sink.old sink.new) }
+    ensures refused { OnErr result (spoiled_of sink.new ≡ true) }
+{
+    match inst {
+        Inst::Ret => put_word(sink, enc_jalr(writable_zero_reg(), link_reg(), Imm12::ZERO)),
+        Inst::Jal { label } => put_jump(sink, *label),
+        Inst::CondBr {
+            taken,
+            not_taken,
+            kind,
+        } => put_branch(sink, *kind, *taken, *not_taken),
+        Inst::Jalr { rd, base, offset } => put_word(sink, enc_jalr(*rd, *base, *offset)),
+        _ => Ok(()),
+    }
+}
+
+/// A branch to a label where a comparison holds, and a jump to another one, where there is one, where it doesn't.
+fn put_branch(
+    sink: &mut MachBuffer<LabelUse>,
+    kind: IntegerCompare,
+    taken: CondBrTarget,
+    not_taken: CondBrTarget,
+) -> Result<(), OutOfMemory>
+    requires fine { IsFineBranch kind taken not_taken }
+    requires room { length (bytes_of sink.old) + 8 < 2147479552 }
+    requires sound { IsSoundBuffer sink.old }
+    ensures block { OnOk result (AppendsWords (branch_ops no_distance kind taken not_taken) (branch_uses (length (bytes_of sink.old)) taken not_taken) sink.old sink.new) }
+    ensures refused { OnErr result (spoiled_of sink.new ≡ true) }
+{
+    match (taken, not_taken) {
+        (CondBrTarget::Fallthrough, _) => Ok(()),
+        (CondBrTarget::Label(label), CondBrTarget::Fallthrough) => put_compare(sink, kind, label),
+        (CondBrTarget::Label(first), CondBrTarget::Label(second)) => {
+            put_compare_and_jump(sink, kind, first, second)
+        }
+    }
+}
+
+/// A branch to a label where a comparison holds, and a jump to another one where it doesn't.
+fn put_compare_and_jump(
+    sink: &mut MachBuffer<LabelUse>,
+    kind: IntegerCompare,
+    taken: MachLabel,
+    not_taken: MachLabel,
+) -> Result<(), OutOfMemory>
+    requires rs1 { IsIntRegister kind.rs1 }
+    requires rs2 { IsIntRegister kind.rs2 }
+    requires taken { taken.number < 2 ^ 30 }
+    requires not_taken { not_taken.number < 2 ^ 30 }
+    requires room { length (bytes_of sink.old) + 8 < 2147479552 }
+    requires sound { IsSoundBuffer sink.old }
+    ensures block { OnOk result (AppendsWords (decoded_branch kind (pos 0) ∷ decoded_jump (pos 0) ∷ []) (use_at (length (bytes_of sink.old)) taken B12 ∷ use_at (length (bytes_of sink.old) + 4) not_taken Jal20 ∷ []) sink.old sink.new) }
+    ensures refused { OnErr result (spoiled_of sink.new ≡ true) }
+{
+    put_compare(sink, kind, taken)?;
+    put_jump(sink, not_taken)?;
+    Ok(())
+}
+
+/// A branch to a label, where a comparison holds.
+fn put_compare(
+    sink: &mut MachBuffer<LabelUse>,
+    kind: IntegerCompare,
+    label: MachLabel,
+) -> Result<(), OutOfMemory>
+    requires rs1 { IsIntRegister kind.rs1 }
+    requires rs2 { IsIntRegister kind.rs2 }
+    requires label { label.number < 2 ^ 30 }
+    requires room { length (bytes_of sink.old) + 4 < 2147479552 }
+    requires sound { IsSoundBuffer sink.old }
+    ensures block { OnOk result (AppendsWords (decoded_branch kind (pos 0) ∷ []) (use_at (length (bytes_of sink.old)) label B12 ∷ []) sink.old sink.new) }
+    ensures word { OnOk result (AppendsCode (word_bytes (branch_word kind)) (use_at (length (bytes_of sink.old)) label B12 ∷ []) sink.old sink.new) }
+    ensures refused { OnErr result (spoiled_of sink.new ≡ true) }
+{
+    put_use(sink, compare_word(kind), label, LabelUse::B12)?;
+    Ok(())
+}
+
+/// The word of a branch whose distance is still to come.
+fn compare_word(kind: IntegerCompare) -> u32
+    requires rs1 { IsIntRegister kind.rs1 }
+    requires rs2 { IsIntRegister kind.rs2 }
+    ensures { result ≡ branch_word kind }
+{
+    encode_branch(kind, 0)
+}
+
+/// The word of a jump whose distance is still to come.
+fn jump_word() -> u32
+    ensures { result ≡ 0x6f }
+{
+    encode_jal(writable_zero_reg(), 0)
+}
+
+/// A jump to a label.
+pub(crate) fn put_jump(sink: &mut MachBuffer<LabelUse>, label: MachLabel) -> Result<(), OutOfMemory>
+    requires known { IsKnown label.number (drawn_of sink.old) }
+    requires room { length (bytes_of sink.old) + 4 < 2147479552 }
+    requires sound { IsSoundBuffer sink.old }
+    ensures block { OnOk result (AppendsWords (decoded_jump (pos 0) ∷ []) (use_at (length (bytes_of sink.old)) label Jal20 ∷ []) sink.old sink.new) }
+    ensures word { OnOk result (AppendsCode (word_bytes 0x6f) (use_at (length (bytes_of sink.old)) label Jal20 ∷ []) sink.old sink.new) }
+    ensures refused { OnErr result (spoiled_of sink.new ≡ true) }
+{
+    put_use(sink, jump_word(), label, LabelUse::Jal20)?;
+    Ok(())
+}
+
+/// Puts a word whose distance to a label is still to come, and the use of that label.
+fn put_use(
+    sink: &mut MachBuffer<LabelUse>,
+    word: u32,
+    label: MachLabel,
+    kind: LabelUse,
+) -> Result<(), OutOfMemory>
+    requires known { IsKnown label.number (drawn_of sink.old) }
+    requires room { length (bytes_of sink.old) + 4 < 2147479552 }
+    requires sound { IsSoundBuffer sink.old }
+    ensures added { OnOk result (AppendsCode (word_bytes word) (use_at (length (bytes_of sink.old)) label kind ∷ []) sink.old sink.new) }
+    ensures refused { OnErr result (spoiled_of sink.new ≡ true) }
+{
+    let here = sink.cur_offset();
+    sink.use_label_at_offset(here, label, kind)?;
+    sink.put4(word)
+}
+
+/// Puts a word that names no label.
+fn put_word(sink: &mut MachBuffer<LabelUse>, word: u32) -> Result<(), OutOfMemory>
+    requires room { length (bytes_of sink.old) + 4 < 2147479552 }
+    requires sound { IsSoundBuffer sink.old }
+    ensures block { OnOk result ((d : Decoded) → ((flags : IsaFlags) → decode flags word ≡ Some d) → AppendsWords (d ∷ []) [] sink.old sink.new) }
+    ensures refused { OnErr result (spoiled_of sink.new ≡ true) }
+{
+    sink.put4(word)?;
+    Ok(())
+}

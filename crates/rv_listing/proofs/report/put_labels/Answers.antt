@@ -1,6 +1,0 @@
-use Rattle.std.proofs.Common.{arith}
-use Rattle.std.proofs.lemmas.Grind.{common_steps}
-use Rattle.rv_listing.proofs.report.put_labels.Goals as goal
-
-pub loop-l-preserved : goal.loop-l-preserved
-loop-l-preserved c = grind (arith, common_steps)

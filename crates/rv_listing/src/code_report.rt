@@ -1,0 +1,147 @@
+//! The report of a code: what the program writes.
+
+ghost use Rattle.std.specs.Prelude.{◌≡◌, ◌<◌, ◌≤◌, ◌^◌, ◌++◌, length, take, drop, IfOk, OnOk};
+ghost use Rattle.std.specs.List.{flat_map};
+ghost use Rattle.std.specs.Fmt.{decimal};
+ghost use Rattle.hex.specs.Hex.{encode_lower};
+ghost use Rattle.rv_inst.specs.declared.code.Code.{Code as ACode};
+ghost use Rattle.rv_listing.specs.CodeRanges.{CodeFits};
+ghost use Rattle.rv_listing.specs.Report.{lf, hex_line, all_hex_lines, span_line, label_line, report};
+
+use itoa::Buffer;
+use rv_base::OutOfMemory;
+use rv_inst::{Code, LabelPlace, LineSpan};
+use std::alloc::Global;
+
+fn put(out: &mut Vec<u8>, text: &[u8]) -> Result<(), OutOfMemory>
+    ensures { OnOk result (out.new.items ≡ out.old.items ++ text.now) }
+{
+    out.extend_from_slice(text)?;
+    Ok(())
+}
+
+fn put_number(out: &mut Vec<u8>, n: u64) -> Result<(), OutOfMemory>
+    ensures { OnOk result (out.new.items ≡ out.old.items ++ decimal n) }
+{
+    let mut buffer = Buffer::new();
+    put(out, buffer.format(n).as_bytes())
+}
+
+// A text, and a number after it.
+fn put_numbered(out: &mut Vec<u8>, text: &[u8], n: u64) -> Result<(), OutOfMemory>
+    ensures { OnOk result (out.new.items ≡ out.old.items ++ text.now ++ decimal n) }
+{
+    put(out, text)?;
+    put_number(out, n)
+}
+
+// The same, up to the end of a line.
+fn end_line(out: &mut Vec<u8>, text: &[u8], n: u64) -> Result<(), OutOfMemory>
+    ensures { OnOk result (out.new.items ≡ out.old.items ++ text.now ++ decimal n ++ lf) }
+{
+    put_numbered(out, text, n)?;
+    put(out, b"\n")
+}
+
+// At most 16 bytes as hex digits.
+fn put_hex(out: &mut Vec<u8>, bytes: &[u8]) -> Result<(), OutOfMemory>
+    requires { length bytes.now ≤ 16 }
+    ensures { OnOk result (out.new.items ≡ out.old.items ++ encode_lower bytes.now) }
+{
+    let mut room = [0u8; 32];
+    let digits = &mut room[..2 * bytes.len()];
+    let _ = hex::encode_to_slice(bytes, digits);
+    put(out, digits)
+}
+
+fn put_hex_line(out: &mut Vec<u8>, at: u32, bytes: &[u8]) -> Result<(), OutOfMemory>
+    requires { length bytes.now ≤ 16 }
+    ensures { OnOk result (out.new.items ≡ out.old.items ++ hex_line at bytes.now) }
+{
+    put_hex(out, &at.to_be_bytes())?;
+    put(out, b" ")?;
+    put_hex(out, bytes)?;
+    put(out, b"\n")
+}
+
+// At most 16 bytes, and the rest.
+fn front(bytes: &[u8]) -> (&[u8], &[u8])
+    ensures front { result.0.now ≡ take 16 bytes.now }
+    ensures rest { result.1.now ≡ drop 16 bytes.now }
+    ensures short { length result.0.now ≤ 16 }
+{
+    if bytes.len() < 16 {
+        bytes.split_at(bytes.len())
+    } else {
+        bytes.split_at(16)
+    }
+}
+
+fn put_hex_lines(out: &mut Vec<u8>, bytes: &[u8]) -> Result<(), OutOfMemory>
+    requires { length bytes.now < 2 ^ 32 }
+    ensures { OnOk result (out.new.items ≡ out.old.items ++ all_hex_lines bytes.now) }
+{
+    let count = (bytes.len() + 15) / 16;
+    let mut rest = bytes;
+    for k in 0..count {
+        let (sixteen, after) = front(rest);
+        put_hex_line(out, (16 * k) as u32, sixteen)?;
+        rest = after;
+    }
+    Ok(())
+}
+
+fn put_span(out: &mut Vec<u8>, l: &LineSpan) -> Result<(), OutOfMemory>
+    ensures { OnOk result (out.new.items ≡ out.old.items ++ span_line l.now) }
+{
+    put_numbered(out, b"line ", l.index as u64)?;
+    put_numbered(out, b" ", l.start as u64)?;
+    end_line(out, b" ", l.end as u64)
+}
+
+fn put_label(out: &mut Vec<u8>, l: &LabelPlace) -> Result<(), OutOfMemory>
+    ensures { OnOk result (out.new.items ≡ out.old.items ++ label_line l.now) }
+{
+    put_numbered(out, b"label L", l.label.number as u64)?;
+    end_line(out, b" ", l.offset as u64)
+}
+
+fn put_spans(out: &mut Vec<u8>, lines: &[LineSpan]) -> Result<(), OutOfMemory>
+    ensures { OnOk result (out.new.items ≡ out.old.items ++ flat_map span_line lines.now) }
+{
+    for l in lines {
+        put_span(out, l)?;
+    }
+    Ok(())
+}
+
+fn put_labels(out: &mut Vec<u8>, labels: &[LabelPlace]) -> Result<(), OutOfMemory>
+    ensures { OnOk result (out.new.items ≡ out.old.items ++ flat_map label_line labels.now) }
+{
+    for l in labels {
+        put_label(out, l)?;
+    }
+    Ok(())
+}
+
+fn text_of(alloc: Global, code: &Code) -> Result<Vec<u8>, OutOfMemory>
+    ensures { IfOk result (λ text. text.items ≡ report code.now) }
+{
+    let mut out = Vec::new(alloc);
+    end_line(&mut out, b"code ", code.bytes.len() as u64)?;
+    put_hex_lines(&mut out, code.bytes.as_slice())?;
+    put_spans(&mut out, code.lines.as_slice())?;
+    put_labels(&mut out, code.labels.as_slice())?;
+    end_line(&mut out, b"end ", code.end as u64)?;
+    Ok(out)
+}
+
+/// The text of the code, in lines that LF ends: its length, its bytes in lines of sixteen, where each line and each
+/// label stands, and where the last line ends. Numbers are decimal but in the lines of bytes. No other code has this text.
+pub fn report(alloc: Global, code: &Code) -> Result<Vec<u8>, OutOfMemory>
+    ensures text { IfOk result (λ text. text.items ≡ report code.now) }
+    ensures one_code { IfOk result (λ text. (other : ACode) → CodeFits code.now → CodeFits other → report other ≡ text.items → other ≡ code.now) }
+{
+    let text = text_of(alloc, code)?;
+    Ok(text)
+}
