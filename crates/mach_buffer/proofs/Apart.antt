@@ -3,7 +3,7 @@ use Rattle.std.proofs.Common.{◌≡◌, ℕ, zero, suc, ◌+◌, ◌≤◌, ◌
 use Rattle.std.specs.Prelude.{slice_get}
 use Rattle.std.proofs.lemmas.Option.{same_Some}
 use Rattle.std.proofs.lemmas.List.{take-take, drop-take, length-append, map-append}
-use Rattle.rv_base.specs.LabelUse.{Veneer, IsVeneer, IsFresh}
+use Rattle.rv_base.specs.LabelUse.{Kinds, Veneer, IsVeneer, IsFresh}
 use Rattle.mach_buffer.specs.declared.uses.Use.{Use}
 use Rattle.mach_buffer.specs.declared.uses.VeneerUse.{VeneerUse}
 use Rattle.mach_buffer.specs.Windows.{window, IsApart}
@@ -19,13 +19,13 @@ pub take_front : (bytes more : List ℕ) → take (length bytes) (bytes ++ more)
 take_front [] more = refl
 take_front (b ∷ bytes) more = ap (λ xs. b ∷ xs) (take_front bytes more)
 
-pub windows_bytes : {L : Type 0} {fields : L → List ℕ} {bytes : List ℕ} {uses : List (Use L)} {veneers : List (VeneerUse L)} → AreWindows fields bytes uses veneers → (more new_bytes : List ℕ) → new_bytes ≡ bytes ++ more → AreWindows fields new_bytes uses veneers
-windows_bytes {L} {fields} {bytes} w more new_bytes e =
+pub windows_bytes : {L : Type 0} {kinds : Kinds L} {bytes : List ℕ} {uses : List (Use L)} {veneers : List (VeneerUse L)} → AreWindows kinds bytes uses veneers → (more new_bytes : List ℕ) → new_bytes ≡ bytes ++ more → AreWindows kinds new_bytes uses veneers
+windows_bytes {L} {kinds} {bytes} w more new_bytes e =
     let long : length new_bytes ≡ length bytes + length more = ap (length {A = ℕ}) e ∙ length-append bytes more in
     record {
       even = w.even;
       inside = λ j u h. let i = w.inside j u h in omega arith;
-      fresh = λ j u h. subst (IsFresh (fields u.kind)) (sym (window_stays bytes new_bytes u.offset (length (fields u.kind)) (w.inside j u h) (ap (take (length bytes)) e ∙ take_front bytes more))) (w.fresh j u h);
+      fresh = λ j u h. subst (IsFresh (kinds.fields u.kind)) (sym (window_stays bytes new_bytes u.offset (length (kinds.fields u.kind)) (w.inside j u h) (ap (take (length bytes)) e ∙ take_front bytes more))) (w.fresh j u h);
       apart = w.apart;
     }
 
@@ -66,40 +66,40 @@ comes_from {X} {Y} f (x ∷ xs) (suc j) y h = on (comes_from f xs j y h)
     on c = record { from = c.from; there = c.there; is = c.is }
 
 -- each span ends by the end of the bytes
-pub spans_end : {L : Type 0} {fields : L → List ℕ} {has_veneer : L → Bool} {forward backward : L → ℕ} {veneer : L → Veneer L} {bytes : List ℕ} {uses : List (Use L)} {veneers : List (VeneerUse L)} → AreWindows fields bytes uses veneers → IsLinked has_veneer forward veneer bytes uses veneers →
-    ((kind : L) → has_veneer kind ≡ true → IsVeneer fields forward backward has_veneer (veneer kind)) → (j : ℕ) (p : ℕ × ℕ) → slice_get (spans_of fields (recorded uses) veneers) j ≡ Some p → p.0 + p.1 ≤ length bytes
-spans_end {L} {fields} {has_veneer} {forward} {backward} {veneer} {bytes} {uses} {veneers} w l law =
+pub spans_end : {L : Type 0} {kinds : Kinds L} {bytes : List ℕ} {uses : List (Use L)} {veneers : List (VeneerUse L)} → AreWindows kinds bytes uses veneers → IsLinked kinds bytes uses veneers →
+    ((kind : L) → kinds.has_veneer kind ≡ true → IsVeneer kinds (kinds.veneer kind)) → (j : ℕ) (p : ℕ × ℕ) → slice_get (spans_of kinds (recorded uses) veneers) j ≡ Some p → p.0 + p.1 ≤ length bytes
+spans_end {L} {kinds} {bytes} {uses} {veneers} w l law =
     both_lists (λ (p : ℕ × ℕ). p.0 + p.1 ≤ length bytes) (map of_use (recorded uses)) (map of_veneer veneers)
     (λ j p h. let c = comes_from of_use (recorded uses) j p h in subst (λ (x : ℕ × ℕ). x.0 + x.1 ≤ length bytes) c.is (w.inside j c.from c.there))
     (λ k p h. let c = comes_from of_veneer veneers k p h in let m = l.made k c.from c.there in let i = m.inside in let eight = (law m.kind m.supported).eight in subst (λ (x : ℕ × ℕ). x.0 + x.1 ≤ length bytes) c.is (omega (arith, i, eight)))
   where
     of_use : Use L → ℕ × ℕ
-    of_use u = (u.offset, length (fields u.kind))
+    of_use u = (u.offset, length (kinds.fields u.kind))
 
     of_veneer : VeneerUse L → ℕ × ℕ
     of_veneer x = (x.at, 8)
 
 -- a veneer is put at the end
-pub windows_veneer : {L : Type 0} {fields : L → List ℕ} {has_veneer : L → Bool} {forward backward : L → ℕ} {veneer : L → Veneer L} {bytes : List ℕ} {uses : List (Use L)} {veneers : List (VeneerUse L)} → IsLinked has_veneer forward veneer bytes uses veneers →
-    ((kind : L) → has_veneer kind ≡ true → IsVeneer fields forward backward has_veneer (veneer kind)) → (code new_bytes : List ℕ) (new_uses : List (Use L)) (new_veneers : List (VeneerUse L)) (own : VeneerUse L) →
-    new_bytes ≡ bytes ++ code → recorded new_uses ≡ recorded uses → new_veneers ≡ veneers ++ own ∷ [] → own.at ≡ length bytes → AreWindows fields bytes uses veneers → AreWindows fields new_bytes new_uses new_veneers
-windows_veneer {L} {fields} {has_veneer} {forward} {backward} {veneer} {bytes} {uses} {veneers} l law code new_bytes new_uses new_veneers own eb same ev at w =
+pub windows_veneer : {L : Type 0} {kinds : Kinds L} {bytes : List ℕ} {uses : List (Use L)} {veneers : List (VeneerUse L)} → IsLinked kinds bytes uses veneers →
+    ((kind : L) → kinds.has_veneer kind ≡ true → IsVeneer kinds (kinds.veneer kind)) → (code new_bytes : List ℕ) (new_uses : List (Use L)) (new_veneers : List (VeneerUse L)) (own : VeneerUse L) →
+    new_bytes ≡ bytes ++ code → recorded new_uses ≡ recorded uses → new_veneers ≡ veneers ++ own ∷ [] → own.at ≡ length bytes → AreWindows kinds bytes uses veneers → AreWindows kinds new_bytes new_uses new_veneers
+windows_veneer {L} {kinds} {bytes} {uses} {veneers} l law code new_bytes new_uses new_veneers own eb same ev at w =
     let more = windows_bytes w code new_bytes eb in
-    let spans : spans_of fields (recorded new_uses) new_veneers ≡ spans_of fields (recorded uses) veneers ++ (own.at, 8) ∷ [] =
-    ap (λ us. spans_of fields us new_veneers) same ∙ ap (spans_of fields (recorded uses)) ev ∙ ap (λ ss. map of_use (recorded uses) ++ ss) (map-append of_veneer veneers (own ∷ [])) ∙ sym (append_assoc (map of_use (recorded uses)) (map of_veneer veneers) ((own.at, 8) ∷ [])) in
+    let spans : spans_of kinds (recorded new_uses) new_veneers ≡ spans_of kinds (recorded uses) veneers ++ (own.at, 8) ∷ [] =
+    ap (λ us. spans_of kinds us new_veneers) same ∙ ap (spans_of kinds (recorded uses)) ev ∙ ap (λ ss. map of_use (recorded uses) ++ ss) (map-append of_veneer veneers (own ∷ [])) ∙ sym (append_assoc (map of_use (recorded uses)) (map of_veneer veneers) ((own.at, 8) ∷ [])) in
     record {
       even = λ j u h. more.even j u (ap (λ us. slice_get us j) (sym same) ∙ h);
       inside = λ j u h. more.inside j u (ap (λ us. slice_get us j) (sym same) ∙ h);
       fresh = λ j u h. more.fresh j u (ap (λ us. slice_get us j) (sym same) ∙ h);
-      apart = subst AllApart (sym spans) (apart_last (spans_of fields (recorded uses) veneers) (own.at, 8) w.apart (λ j p h. subst (λ n. p.0 + p.1 ≤ n) (sym at) (spans_end w l law j p h)));
+      apart = subst AllApart (sym spans) (apart_last (spans_of kinds (recorded uses) veneers) (own.at, 8) w.apart (λ j p h. subst (λ n. p.0 + p.1 ≤ n) (sym at) (spans_end w l law j p h)));
     }
   where
     of_use : Use L → ℕ × ℕ
-    of_use u = (u.offset, length (fields u.kind))
+    of_use u = (u.offset, length (kinds.fields u.kind))
 
     of_veneer : VeneerUse L → ℕ × ℕ
     of_veneer x = (x.at, 8)
 
 -- the same parts
-pub windows_as : {L : Type 0} {fields : L → List ℕ} {bytes new_bytes : List ℕ} {uses new_uses : List (Use L)} {veneers new_veneers : List (VeneerUse L)} → AreWindows fields bytes uses veneers → new_bytes ≡ bytes → new_uses ≡ uses → new_veneers ≡ veneers → AreWindows fields new_bytes new_uses new_veneers
+pub windows_as : {L : Type 0} {kinds : Kinds L} {bytes new_bytes : List ℕ} {uses new_uses : List (Use L)} {veneers new_veneers : List (VeneerUse L)} → AreWindows kinds bytes uses veneers → new_bytes ≡ bytes → new_uses ≡ uses → new_veneers ≡ veneers → AreWindows kinds new_bytes new_uses new_veneers
 windows_as w eb eu ev = rw (eb, eu, ev) w

@@ -2,7 +2,7 @@
 use Rattle.std.proofs.Common.{◌≡◌, ◌≢◌, ℕ, zero, suc, ◌+◌, ◌-◌, ◌%◌, ◌<◌, ◌≤◌, ◌⊎◌, inl, inr, ⊎_elim, Bool, true, List, [], ◌∷◌, ◌++◌, length, take, drop, map, Some, refl, ap, sym, ◌∙◌, subst, arith, append_assoc}
 use Rattle.std.specs.Prelude.{slice_get}
 use Rattle.std.proofs.lemmas.List.{drop_at, drop-drop, length-append, map-append}
-use Rattle.rv_base.specs.LabelUse.{Veneer, IsVeneer, IsFresh}
+use Rattle.rv_base.specs.LabelUse.{Kinds, Veneer, IsVeneer, IsFresh}
 use Rattle.mach_buffer.specs.declared.uses.Use.{Use}
 use Rattle.mach_buffer.specs.declared.uses.VeneerUse.{VeneerUse}
 use Rattle.mach_buffer.specs.Windows.{window, IsApart}
@@ -50,30 +50,30 @@ apart_between xs ys zs start outer inner ends begins j k p q ne hj hk = on (side
     on (inr a) (inr b) = inner a.0 b.0 p q (λ e. let x = a.2 in let y = b.2 in ne (omega arith)) a.1 b.1
 
 -- the windows of a block's own uses stand in it, at even places, fresh and apart
-pub record OwnWindows {L : Type 0} (fields : L → List ℕ) (start : ℕ) (block : List ℕ) (own : List (Use L)) : Type 0 where
+pub record OwnWindows {L : Type 0} (kinds : Kinds L) (start : ℕ) (block : List ℕ) (own : List (Use L)) : Type 0 where
   pub even : (k : ℕ) (u : Use L) → slice_get own k ≡ Some u → u.offset % 2 ≡ 0
   pub begins : (k : ℕ) (u : Use L) → slice_get own k ≡ Some u → start ≤ u.offset
-  pub ends : (k : ℕ) (u : Use L) → slice_get own k ≡ Some u → u.offset + length (fields u.kind) ≤ start + length block
-  pub fresh : (k : ℕ) (u : Use L) → slice_get own k ≡ Some u → IsFresh (fields u.kind) (window block (u.offset - start) (length (fields u.kind)))
-  pub apart : AllApart (map (λ (u : Use L). (u.offset, length (fields u.kind))) (recorded own))
+  pub ends : (k : ℕ) (u : Use L) → slice_get own k ≡ Some u → u.offset + length (kinds.fields u.kind) ≤ start + length block
+  pub fresh : (k : ℕ) (u : Use L) → slice_get own k ≡ Some u → IsFresh (kinds.fields u.kind) (window block (u.offset - start) (length (kinds.fields u.kind)))
+  pub apart : AllApart (map (λ (u : Use L). (u.offset, length (kinds.fields u.kind))) (recorded own))
 
 -- a block is put at the end, with its uses
-pub windows_block : {L : Type 0} {fields : L → List ℕ} {has_veneer : L → Bool} {forward backward : L → ℕ} {veneer : L → Veneer L} {bytes : List ℕ} {uses : List (Use L)} {veneers : List (VeneerUse L)} → AreWindows fields bytes uses veneers → IsLinked has_veneer forward veneer bytes uses veneers →
-    ((kind : L) → has_veneer kind ≡ true → IsVeneer fields forward backward has_veneer (veneer kind)) → (block : List ℕ) (own : List (Use L)) → OwnWindows fields (length bytes) block own →
-    (new_bytes : List ℕ) (new_uses : List (Use L)) → new_bytes ≡ bytes ++ block → recorded new_uses ≡ recorded uses ++ recorded own → AreWindows fields new_bytes new_uses veneers
-windows_block {L} {fields} {has_veneer} {forward} {backward} {veneer} {bytes} {uses} {veneers} w l law block own o new_bytes new_uses eb eu = record {
+pub windows_block : {L : Type 0} {kinds : Kinds L} {bytes : List ℕ} {uses : List (Use L)} {veneers : List (VeneerUse L)} → AreWindows kinds bytes uses veneers → IsLinked kinds bytes uses veneers →
+    ((kind : L) → kinds.has_veneer kind ≡ true → IsVeneer kinds (kinds.veneer kind)) → (block : List ℕ) (own : List (Use L)) → OwnWindows kinds (length bytes) block own →
+    (new_bytes : List ℕ) (new_uses : List (Use L)) → new_bytes ≡ bytes ++ block → recorded new_uses ≡ recorded uses ++ recorded own → AreWindows kinds new_bytes new_uses veneers
+windows_block {L} {kinds} {bytes} {uses} {veneers} w l law block own o new_bytes new_uses eb eu = record {
   even = λ j u h. each (λ x. x.offset % 2 ≡ 0) w.even (λ k x q. o.even k x q) j u h;
-  inside = λ j u h. each (λ x. x.offset + length (fields x.kind) ≤ length new_bytes) (λ k x q. let i = w.inside k x q in omega (arith, long)) (λ k x q. let i = o.ends k x q in omega (arith, long)) j u h;
-  fresh = λ j u h. each (λ x. IsFresh (fields x.kind) (window new_bytes x.offset (length (fields x.kind))))
-      (λ k x q. subst (IsFresh (fields x.kind)) (sym (window_stays bytes new_bytes x.offset (length (fields x.kind)) (w.inside k x q) (ap (take (length bytes)) eb ∙ take_front bytes block))) (w.fresh k x q))
-      (λ k x q. subst (IsFresh (fields x.kind)) (sym (in_block x (o.begins k x q))) (o.fresh k x q)) j u h;
+  inside = λ j u h. each (λ x. x.offset + length (kinds.fields x.kind) ≤ length new_bytes) (λ k x q. let i = w.inside k x q in omega (arith, long)) (λ k x q. let i = o.ends k x q in omega (arith, long)) j u h;
+  fresh = λ j u h. each (λ x. IsFresh (kinds.fields x.kind) (window new_bytes x.offset (length (kinds.fields x.kind))))
+      (λ k x q. subst (IsFresh (kinds.fields x.kind)) (sym (window_stays bytes new_bytes x.offset (length (kinds.fields x.kind)) (w.inside k x q) (ap (take (length bytes)) eb ∙ take_front bytes block))) (w.fresh k x q))
+      (λ k x q. subst (IsFresh (kinds.fields x.kind)) (sym (in_block x (o.begins k x q))) (o.fresh k x q)) j u h;
   apart = subst AllApart (sym spans) (apart_between (map of_use (recorded uses)) (map of_use (recorded own)) (map of_veneer veneers) (length bytes) w.apart o.apart (spans_end w l law)
       (λ j p h. let c = comes_from of_use (recorded own) j p h in let d = comes_from core own j c.from c.there in
       subst (λ (x : ℕ × ℕ). length bytes ≤ x.0) c.is (subst (λ (x : Use L). length bytes ≤ x.offset) d.is (o.begins j d.from d.there))));
 }
   where
     of_use : Use L → ℕ × ℕ
-    of_use u = (u.offset, length (fields u.kind))
+    of_use u = (u.offset, length (kinds.fields u.kind))
 
     of_veneer : VeneerUse L → ℕ × ℕ
     of_veneer x = (x.at, 8)
@@ -81,18 +81,18 @@ windows_block {L} {fields} {has_veneer} {forward} {backward} {veneer} {bytes} {u
     long : length new_bytes ≡ length bytes + length block
     long = ap (length {A = ℕ}) eb ∙ length-append bytes block
 
-    spans : spans_of fields (recorded new_uses) veneers ≡ map of_use (recorded uses) ++ (map of_use (recorded own) ++ map of_veneer veneers)
-    spans = ap (λ us. spans_of fields us veneers) eu ∙ ap (λ ss. ss ++ map of_veneer veneers) (map-append of_use (recorded uses) (recorded own)) ∙ append_assoc (map of_use (recorded uses)) (map of_use (recorded own)) (map of_veneer veneers)
+    spans : spans_of kinds (recorded new_uses) veneers ≡ map of_use (recorded uses) ++ (map of_use (recorded own) ++ map of_veneer veneers)
+    spans = ap (λ us. spans_of kinds us veneers) eu ∙ ap (λ ss. ss ++ map of_veneer veneers) (map-append of_use (recorded uses) (recorded own)) ∙ append_assoc (map of_use (recorded uses)) (map of_use (recorded own)) (map of_veneer veneers)
 
     each : (P : Use L → Type 0) → ((k : ℕ) (x : Use L) → slice_get (recorded uses) k ≡ Some x → P x) → ((k : ℕ) (x : Use L) → slice_get own k ≡ Some x → P (core x)) → (j : ℕ) (u : Use L) → slice_get (recorded new_uses) j ≡ Some u → P u
     each P old new j u h =
         both_lists P (recorded uses) (recorded own) old (λ k x q. let c = comes_from core own k x q in subst P c.is (new k c.from c.there)) j u (ap (λ us. slice_get us j) (sym eu) ∙ h)
 
-    in_block : (x : Use L) → length bytes ≤ x.offset → window new_bytes x.offset (length (fields x.kind)) ≡ window block (x.offset - length bytes) (length (fields x.kind))
+    in_block : (x : Use L) → length bytes ≤ x.offset → window new_bytes x.offset (length (kinds.fields x.kind)) ≡ window block (x.offset - length bytes) (length (kinds.fields x.kind))
     in_block x le =
         let split : length bytes + (x.offset - length bytes) ≡ x.offset = omega arith in
-        ap (take (length (fields x.kind))) (ap (λ n. drop n new_bytes) (sym split) ∙ sym (drop-drop (x.offset - length bytes) (length bytes) new_bytes) ∙ ap (drop (x.offset - length bytes)) (ap (drop (length bytes)) eb ∙ drop_at bytes block (length bytes) refl))
+        ap (take (length (kinds.fields x.kind))) (ap (λ n. drop n new_bytes) (sym split) ∙ sym (drop-drop (x.offset - length bytes) (length bytes) new_bytes) ∙ ap (drop (x.offset - length bytes)) (ap (drop (length bytes)) eb ∙ drop_at bytes block (length bytes) refl))
 
 -- nothing is put yet
-pub windows_none : {L : Type 0} {fields : L → List ℕ} → AreWindows fields [] [] []
-windows_none {L} {fields} = record { even = λ j u h. absurd (cc); inside = λ j u h. absurd (cc); fresh = λ j u h. absurd (cc); apart = λ j k p q ne hj hk. absurd (cc) }
+pub windows_none : {L : Type 0} {kinds : Kinds L} → AreWindows kinds [] [] []
+windows_none {L} {kinds} = record { even = λ j u h. absurd (cc); inside = λ j u h. absurd (cc); fresh = λ j u h. absurd (cc); apart = λ j k p q ne hj hk. absurd (cc) }

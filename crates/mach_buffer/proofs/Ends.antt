@@ -6,7 +6,7 @@ use Rattle.std.proofs.lemmas.Bool.{and_parts, and_cases, leb-true, not-false, tr
 use Rattle.std.proofs.lemmas.Option.{same_Some, slice_get-map}
 use Rattle.std.proofs.lemmas.List.{take-take, drop-drop, drop-take, length-drop, length-append, take_all}
 use Rattle.rv_base.specs.declared.label.MachLabel.{MachLabel}
-use Rattle.rv_base.specs.LabelUse.{IsFresh, SameOutside, Veneer, IsVeneer}
+use Rattle.rv_base.specs.LabelUse.{Kinds, IsFresh, SameOutside, Veneer, IsVeneer}
 use Rattle.mach_buffer.specs.declared.patches.Patch.{Patch}
 use Rattle.mach_buffer.specs.declared.uses.Use.{Use}
 use Rattle.mach_buffer.specs.declared.uses.VeneerUse.{VeneerUse}
@@ -15,7 +15,7 @@ use Rattle.mach_buffer.specs.Targets.{or_place, patch_of, veneer_patch, patches_
 use Rattle.mach_buffer.specs.Reach.{is_reached, is_pending, deadlines}
 use Rattle.mach_buffer.specs.Buffer.{core, recorded, IsLinked, veneer_use}
 use Rattle.mach_buffer.specs.Islands.{AreWindows, spans_of, padding}
-use Rattle.mach_buffer.specs.Finish.{IsVia, AllGo, before_last}
+use Rattle.mach_buffer.specs.Finish.{Arrives, AllArrive, before_last}
 use Rattle.mach_buffer.proofs.Apart.{both_lists, comes_from, windows_bytes}
 use Rattle.mach_buffer.proofs.Islanded.{length_padded, recorded_at}
 use Rattle.mach_buffer.proofs.Links.{get_right, recorded_get, slice_get-append}
@@ -33,18 +33,18 @@ pub before_none : (bytes : List ℕ) (n : ℕ) → n ≡ 0 → before_last bytes
 before_none bytes n e = ap (before_last bytes) e
 
 -- what stands once no use waits
-pub record CanEnd {L : Type 0} (fields : L → List ℕ) (has_veneer : L → Bool) (forward backward : L → ℕ) (veneer : L → Veneer L) (bytes : List ℕ) (place : ℕ → Option ℕ) (uses : List (Use L)) (veneers : List (VeneerUse L)) : Type 0 where
-  pub linked : IsLinked has_veneer forward veneer bytes uses veneers
-  pub windows : AreWindows fields bytes uses veneers
-  pub none : deadlines (is_pending has_veneer forward backward place) forward uses ≡ []
+pub record CanEnd {L : Type 0} (kinds : Kinds L) (bytes : List ℕ) (place : ℕ → Option ℕ) (uses : List (Use L)) (veneers : List (VeneerUse L)) : Type 0 where
+  pub linked : IsLinked kinds bytes uses veneers
+  pub windows : AreWindows kinds bytes uses veneers
+  pub none : deadlines (is_pending kinds place) kinds uses ≡ []
   pub short : length bytes < 2147479552
   pub places : (label at : ℕ) → place label ≡ Some at → (at ≤ length bytes) × (at % 2 ≡ 0)
   pub bound : (j : ℕ) (u : Use L) → slice_get uses j ≡ Some u → is_some (place u.label.number) ≡ true
-  pub direct : (j : ℕ) (u : Use L) → slice_get uses j ≡ Some u → has_veneer u.kind ≡ false → is_reached forward backward (place u.label.number) u ≡ true
+  pub direct : (j : ℕ) (u : Use L) → slice_get uses j ≡ Some u → kinds.has_veneer u.kind ≡ false → is_reached kinds (place u.label.number) u ≡ true
 
-reached_core : {L : Type 0} (forward backward : L → ℕ) (o : Option ℕ) (u : Use L) → is_reached forward backward o (core u) ≡ is_reached forward backward o u
-reached_core forward backward None u = refl
-reached_core forward backward (Some at) u = refl
+reached_core : {L : Type 0} (kinds : Kinds L) (o : Option ℕ) (u : Use L) → is_reached kinds o (core u) ≡ is_reached kinds o u
+reached_core kinds None u = refl
+reached_core kinds (Some at) u = refl
 
 -- what was said of the uses before the last veneers holds of them still
 pub bound_still : {L : Type 0} (place : ℕ → Option ℕ) (uses new_uses : List (Use L)) → recorded new_uses ≡ recorded uses → ((j : ℕ) (u : Use L) → slice_get uses j ≡ Some u → is_some (place u.label.number) ≡ true) → (j : ℕ) (u : Use L) → slice_get new_uses j ≡ Some u → is_some (place u.label.number) ≡ true
@@ -52,12 +52,12 @@ bound_still place uses new_uses same bound j u h =
     let w = recorded_at new_uses uses same j u h in
     sym (ap (λ (x : Use _). is_some (place x.label.number)) w.alike) ∙ bound j w.was w.there
 
-pub direct_still : {L : Type 0} (has_veneer : L → Bool) (forward backward : L → ℕ) (place : ℕ → Option ℕ) (uses new_uses : List (Use L)) → recorded new_uses ≡ recorded uses →
-    ((j : ℕ) (u : Use L) → slice_get uses j ≡ Some u → has_veneer u.kind ≡ false → is_reached forward backward (place u.label.number) u ≡ true) → (j : ℕ) (u : Use L) → slice_get new_uses j ≡ Some u → has_veneer u.kind ≡ false → is_reached forward backward (place u.label.number) u ≡ true
-direct_still {L} has_veneer forward backward place uses new_uses same direct j u h s =
+pub direct_still : {L : Type 0} (kinds : Kinds L) (place : ℕ → Option ℕ) (uses new_uses : List (Use L)) → recorded new_uses ≡ recorded uses →
+    ((j : ℕ) (u : Use L) → slice_get uses j ≡ Some u → kinds.has_veneer u.kind ≡ false → is_reached kinds (place u.label.number) u ≡ true) → (j : ℕ) (u : Use L) → slice_get new_uses j ≡ Some u → kinds.has_veneer u.kind ≡ false → is_reached kinds (place u.label.number) u ≡ true
+direct_still {L} kinds place uses new_uses same direct j u h s =
     let w = recorded_at new_uses uses same j u h in
-    sym (reached_core forward backward (place u.label.number) u) ∙ sym (ap (λ (x : Use L). is_reached forward backward (place x.label.number) x) w.alike) ∙ reached_core forward backward (place w.was.label.number) w.was
-    ∙ direct j w.was w.there (ap (λ (x : Use L). has_veneer x.kind) w.alike ∙ s)
+    sym (reached_core kinds (place u.label.number) u) ∙ sym (ap (λ (x : Use L). is_reached kinds (place x.label.number) x) w.alike) ∙ reached_core kinds (place w.was.label.number) w.was
+    ∙ direct j w.was w.there (ap (λ (x : Use L). kinds.has_veneer x.kind) w.alike ∙ s)
 
 -- ---- places in two lists
 
@@ -104,8 +104,8 @@ paired {X} {Y} {A} {B} f g s t R (x ∷ xs) ys hx hy (suc j) a h = on (paired f 
     on p = record { other = p.other; there = p.there; holds = p.holds }
 
 -- a patch's window lies in a span
-abbrev pub Inside : {L : Type 0} → (L → List ℕ) → Patch L → ℕ × ℕ → Type 0
-Inside fields p q = (q.0 ≤ p.offset) × (p.offset + length (fields p.kind) ≤ q.0 + q.1)
+abbrev pub Inside : {L : Type 0} → Kinds L → Patch L → ℕ × ℕ → Type 0
+Inside kinds p q = (q.0 ≤ p.offset) × (p.offset + length (kinds.fields p.kind) ≤ q.0 + q.1)
 
 narrow : (a b c d q n r m : ℕ) → IsApart q n r m → q ≤ a → a + b ≤ q + n → r ≤ c → c + d ≤ r + m → IsApart a b c d
 narrow a b c d q n r m (inl h) l1 l2 l3 l4 = inl (omega arith)
@@ -126,68 +126,68 @@ pub some_at : (o : Option ℕ) → is_some o ≡ true → (at : ℕ) × (o ≡ S
 some_at None e = absurd (true≢false (sym e))
 some_at (Some at) e = (at, refl)
 
-module _ {L : Type 0} {fields : L → List ℕ} {has_veneer : L → Bool} {forward backward : L → ℕ} {veneer : L → Veneer L} {bytes : List ℕ} {place : ℕ → Option ℕ} {uses : List (Use L)} {veneers : List (VeneerUse L)} where
-  inside_spans : CanEnd fields has_veneer forward backward veneer bytes place uses veneers → ((kind : L) → has_veneer kind ≡ true → IsVeneer fields forward backward has_veneer (veneer kind)) →
-      (j : ℕ) (p : Patch L) → slice_get (patches_of place uses veneers) j ≡ Some p → Paired (Inside fields) (spans_of fields (recorded uses) veneers) j p
+module _ {L : Type 0} {kinds : Kinds L} {bytes : List ℕ} {place : ℕ → Option ℕ} {uses : List (Use L)} {veneers : List (VeneerUse L)} where
+  inside_spans : CanEnd kinds bytes place uses veneers → ((kind : L) → kinds.has_veneer kind ≡ true → IsVeneer kinds (kinds.veneer kind)) →
+      (j : ℕ) (p : Patch L) → slice_get (patches_of place uses veneers) j ≡ Some p → Paired (Inside kinds) (spans_of kinds (recorded uses) veneers) j p
   inside_spans f law j p h =
-      subst (λ ss. Paired (Inside fields) (ss ++ map of_veneer veneers) j p) (sym (map_map of_use core uses))
-      (paired (patch_of place) (veneer_patch place) (λ u. of_use (core u)) of_veneer (Inside fields) uses veneers (λ k u q. (omega arith, omega arith))
+      subst (λ ss. Paired (Inside kinds) (ss ++ map of_veneer veneers) j p) (sym (map_map of_use core uses))
+      (paired (patch_of place) (veneer_patch place) (λ u. of_use (core u)) of_veneer (Inside kinds) uses veneers (λ k u q. (omega arith, omega arith))
       (λ k w q. let m = f.linked.made k w q in let ok = law m.kind m.supported in let i = ok.inside in
-      subst (λ (x : VeneerUse L). Inside fields (veneer_patch place x) (of_veneer x)) (sym m.is) (omega arith, omega arith)) j p h)
+      subst (λ (x : VeneerUse L). Inside kinds (veneer_patch place x) (of_veneer x)) (sym m.is) (omega arith, omega arith)) j p h)
     where
       of_use : Use L → ℕ × ℕ
-      of_use u = (u.offset, length (fields u.kind))
+      of_use u = (u.offset, length (kinds.fields u.kind))
 
       of_veneer : VeneerUse L → ℕ × ℕ
       of_veneer w = (w.at, 8)
 
   -- ---- each can be patched
 
-  settled_reach : CanEnd fields has_veneer forward backward veneer bytes place uses veneers → (j : ℕ) (u : Use L) → slice_get uses j ≡ Some u → u.veneer ≡ None → is_reached forward backward (place u.label.number) u ≡ true
-  settled_reach f j u h e = on (has_veneer u.kind) refl
+  settled_reach : CanEnd kinds bytes place uses veneers → (j : ℕ) (u : Use L) → slice_get uses j ≡ Some u → u.veneer ≡ None → is_reached kinds (place u.label.number) u ≡ true
+  settled_reach f j u h e = on (kinds.has_veneer u.kind) refl
     where
-      on : (c : Bool) → has_veneer u.kind ≡ c → is_reached forward backward (place u.label.number) u ≡ true
+      on : (c : Bool) → kinds.has_veneer u.kind ≡ c → is_reached kinds (place u.label.number) u ≡ true
       on false s = f.direct j u h s
       on true s =
-          let idle : (has_veneer u.kind && (is_none u.veneer && not (is_reached forward backward (place u.label.number) u))) ≡ false = none_waits (is_pending has_veneer forward backward place) forward uses f.none j u h in
+          let idle : (kinds.has_veneer u.kind && (is_none u.veneer && not (is_reached kinds (place u.label.number) u))) ≡ false = none_waits (is_pending kinds place) kinds uses f.none j u h in
           let bare : is_none u.veneer ≡ true = ap is_none e in
-          not-false (is_reached forward backward (place u.label.number) u)
-          (⊎_elim (λ a. absurd (true≢false (sym s ∙ a))) (λ b. ⊎_elim (λ x. absurd (true≢false (sym bare ∙ x))) (λ y. y) (and_cases (is_none u.veneer) (not (is_reached forward backward (place u.label.number) u)) b)) (and_cases (has_veneer u.kind) _ idle))
+          not-false (is_reached kinds (place u.label.number) u)
+          (⊎_elim (λ a. absurd (true≢false (sym s ∙ a))) (λ b. ⊎_elim (λ x. absurd (true≢false (sym bare ∙ x))) (λ y. y) (and_cases (is_none u.veneer) (not (is_reached kinds (place u.label.number) u)) b)) (and_cases (kinds.has_veneer u.kind) _ idle))
 
-  use_can : CanEnd fields has_veneer forward backward veneer bytes place uses veneers → (j : ℕ) (u : Use L) → slice_get uses j ≡ Some u → CanPatch fields forward backward bytes (patch_of place u)
+  use_can : CanEnd kinds bytes place uses veneers → (j : ℕ) (u : Use L) → slice_get uses j ≡ Some u → CanPatch kinds bytes (patch_of place u)
   use_can f j u h = on u.veneer refl
     where
       at_core : slice_get (recorded uses) j ≡ Some (core u)
       at_core = recorded_get uses j u h
 
-      can : (target : ℕ) → (patch_of place u).target ≡ target → target ≤ u.offset + forward u.kind → u.offset ≤ target + backward u.kind → target % 2 ≡ 0 → CanPatch fields forward backward bytes (patch_of place u)
+      can : (target : ℕ) → (patch_of place u).target ≡ target → target ≤ u.offset + kinds.forward u.kind → u.offset ≤ target + kinds.backward u.kind → target % 2 ≡ 0 → CanPatch kinds bytes (patch_of place u)
       can target e fw bw ev = record {
-        forward_in = subst (λ n. n ≤ u.offset + forward u.kind) (sym e) fw;
-        backward_in = subst (λ n. u.offset ≤ n + backward u.kind) (sym e) bw;
+        forward_in = subst (λ n. n ≤ u.offset + kinds.forward u.kind) (sym e) fw;
+        backward_in = subst (λ n. u.offset ≤ n + kinds.backward u.kind) (sym e) bw;
         place_even = f.windows.even j (core u) at_core;
         target_even = subst (λ n. n % 2 ≡ 0) (sym e) ev;
         inside = f.windows.inside j (core u) at_core;
         fresh = f.windows.fresh j (core u) at_core;
       }
 
-      reached : (o : Option ℕ) → place u.label.number ≡ o → is_reached forward backward o u ≡ true → u.veneer ≡ None → CanPatch fields forward backward bytes (patch_of place u)
+      reached : (o : Option ℕ) → place u.label.number ≡ o → is_reached kinds o u ≡ true → u.veneer ≡ None → CanPatch kinds bytes (patch_of place u)
       reached None e r v = absurd (true≢false (sym r))
       reached (Some at) e r v =
-          let parts : (nat_le at (u.offset + forward u.kind) ≡ true) × (nat_le u.offset (at + backward u.kind) ≡ true) = and_parts _ _ r in
+          let parts : (nat_le at (u.offset + kinds.forward u.kind) ≡ true) × (nat_le u.offset (at + kinds.backward u.kind) ≡ true) = and_parts _ _ r in
           can at (ap (λ o. unwrap_or (or_place o (place u.label.number)) 0) v ∙ ap (λ o. unwrap_or o 0) e) (leb-true _ _ parts.0) (leb-true _ _ parts.1) (f.places u.label.number at e).1
 
-      on : (o : Option ℕ) → u.veneer ≡ o → CanPatch fields forward backward bytes (patch_of place u)
+      on : (o : Option ℕ) → u.veneer ≡ o → CanPatch kinds bytes (patch_of place u)
       on (Some at) e =
           let near = f.linked.near j u at h e in
           let behind = f.linked.behind j u at h e in
           can at (ap (λ o. unwrap_or (or_place o (place u.label.number)) 0) e) near (omega arith) (f.linked.even j u at h e)
       on None e = reached (place u.label.number) refl (settled_reach f j u h e) e
 
-  veneer_can : CanEnd fields has_veneer forward backward veneer bytes place uses veneers → ((kind : L) → has_veneer kind ≡ true → IsVeneer fields forward backward has_veneer (veneer kind)) →
-      (k : ℕ) (w : VeneerUse L) → slice_get veneers k ≡ Some w → CanPatch fields forward backward bytes (veneer_patch place w)
+  veneer_can : CanEnd kinds bytes place uses veneers → ((kind : L) → kinds.has_veneer kind ≡ true → IsVeneer kinds (kinds.veneer kind)) →
+      (k : ℕ) (w : VeneerUse L) → slice_get veneers k ≡ Some w → CanPatch kinds bytes (veneer_patch place w)
   veneer_can f law k w h =
       let made = f.linked.made k w h in
-      let v = veneer made.kind in
+      let v = kinds.veneer made.kind in
       let ok = law made.kind made.supported in
       let user = on (slice_get (recorded uses) made.user) refl made.named in
       let b = some_at (place w.label.number) user in
@@ -204,13 +204,13 @@ module _ {L : Type 0} {fields : L → List ℕ} {has_veneer : L → Bool} {forwa
       let e2 = ok.place_even in
       let e3 = there.1 in
       let long = length-drop v.place v.bytes in
-      subst (λ (x : VeneerUse L). CanPatch fields forward backward bytes (veneer_patch place x)) (sym made.is) (record {
+      subst (λ (x : VeneerUse L). CanPatch kinds bytes (veneer_patch place x)) (sym made.is) (record {
         forward_in = omega arith;
         backward_in = omega arith;
         place_even = omega arith;
         target_even = subst (λ n. n % 2 ≡ 0) (sym target) e3;
         inside = omega arith;
-        fresh = subst (IsFresh (fields v.kind)) (sym (veneer_window bytes v.bytes w.at v.place (length (fields v.kind)) (omega arith) made.code)) (fresh_short (fields v.kind) (drop v.place v.bytes) (omega arith) ok.fresh);
+        fresh = subst (IsFresh (kinds.fields v.kind)) (sym (veneer_window bytes v.bytes w.at v.place (length (kinds.fields v.kind)) (omega arith) made.code)) (fresh_short (kinds.fields v.kind) (drop v.place v.bytes) (omega arith) ok.fresh);
       })
     where
       on : (o : Option (Use L)) → slice_get (recorded uses) (f.linked.made k w h).user ≡ o → IsSomeAnd o (λ u. u.label ≡ w.label) → is_some (place w.label.number) ≡ true
@@ -219,31 +219,31 @@ module _ {L : Type 0} {fields : L → List ℕ} {has_veneer : L → Bool} {forwa
           let c = comes_from core uses (f.linked.made k w h).user u e in
           ap (λ (l : MachLabel). is_some (place l.number)) (sym n ∙ sym (ap (λ (x : Use L). x.label) c.is)) ∙ f.bound (f.linked.made k w h).user c.from c.there
 
-  pub can_patch_all : CanEnd fields has_veneer forward backward veneer bytes place uses veneers → ((kind : L) → has_veneer kind ≡ true → IsVeneer fields forward backward has_veneer (veneer kind)) → CanPatchAll fields forward backward bytes (patches_of place uses veneers)
+  pub can_patch_all : CanEnd kinds bytes place uses veneers → ((kind : L) → kinds.has_veneer kind ≡ true → IsVeneer kinds (kinds.veneer kind)) → CanPatchAll kinds bytes (patches_of place uses veneers)
   can_patch_all f law = record {
-    each = both_lists (CanPatch fields forward backward bytes) (map (patch_of place) uses) (map (veneer_patch place) veneers)
-        (λ j p h. let c = comes_from (patch_of place) uses j p h in subst (CanPatch fields forward backward bytes) c.is (use_can f j c.from c.there))
-        (λ j p h. let c = comes_from (veneer_patch place) veneers j p h in subst (CanPatch fields forward backward bytes) c.is (veneer_can f law j c.from c.there));
+    each = both_lists (CanPatch kinds bytes) (map (patch_of place) uses) (map (veneer_patch place) veneers)
+        (λ j p h. let c = comes_from (patch_of place) uses j p h in subst (CanPatch kinds bytes) c.is (use_can f j c.from c.there))
+        (λ j p h. let c = comes_from (veneer_patch place) veneers j p h in subst (CanPatch kinds bytes) c.is (veneer_can f law j c.from c.there));
     apart = λ j k p q ne hj hk.
         let a = inside_spans f law j p hj in
         let b = inside_spans f law k q hk in
-        narrow p.offset (length (fields p.kind)) q.offset (length (fields q.kind)) a.other.0 a.other.1 b.other.0 b.other.1 (f.windows.apart j k a.other b.other ne a.there b.there) a.holds.0 a.holds.1 b.holds.0 b.holds.1;
+        narrow p.offset (length (kinds.fields p.kind)) q.offset (length (kinds.fields q.kind)) a.other.0 a.other.1 b.other.0 b.other.1 (f.windows.apart j k a.other b.other ne a.there b.there) a.holds.0 a.holds.1 b.holds.0 b.holds.1;
   }
 
   -- a piece of a veneer beside its use's window shares no byte with any window
-  piece_apart : CanEnd fields has_veneer forward backward veneer bytes place uses veneers → ((kind : L) → has_veneer kind ≡ true → IsVeneer fields forward backward has_veneer (veneer kind)) → (index : ℕ) (w : VeneerUse L) → slice_get veneers index ≡ Some w → (p m : ℕ) → w.at ≤ p → p + m ≤ w.at + 8 →
-      IsApart p m w.offset (length (fields w.kind)) → (i : ℕ) (q : Patch L) → slice_get (patches_of place uses veneers) i ≡ Some q → IsApart p m q.offset (length (fields q.kind))
+  piece_apart : CanEnd kinds bytes place uses veneers → ((kind : L) → kinds.has_veneer kind ≡ true → IsVeneer kinds (kinds.veneer kind)) → (index : ℕ) (w : VeneerUse L) → slice_get veneers index ≡ Some w → (p m : ℕ) → w.at ≤ p → p + m ≤ w.at + 8 →
+      IsApart p m w.offset (length (kinds.fields w.kind)) → (i : ℕ) (q : Patch L) → slice_get (patches_of place uses veneers) i ≡ Some q → IsApart p m q.offset (length (kinds.fields q.kind))
   piece_apart f law index w hw p m lo hi apart i q hq = ⊎_elim
       (λ same.
       let is : veneer_patch place w ≡ q = same_Some _ _ (sym (veneer_patch_at place uses veneers index w hw) ∙ ap (slice_get (patches_of place uses veneers)) (sym same) ∙ hq) in
-      subst (λ (x : Patch L). IsApart p m x.offset (length (fields x.kind))) is apart)
+      subst (λ (x : Patch L). IsApart p m x.offset (length (kinds.fields x.kind))) is apart)
       (λ ne.
       let b = inside_spans f law i q hq in
-      narrow p m q.offset (length (fields q.kind)) w.at 8 b.other.0 b.other.1 (f.windows.apart (length uses + index) i (w.at, 8) b.other (λ x. ne (sym x)) span b.there) lo hi b.holds.0 b.holds.1)
+      narrow p m q.offset (length (kinds.fields q.kind)) w.at 8 b.other.0 b.other.1 (f.windows.apart (length uses + index) i (w.at, 8) b.other (λ x. ne (sym x)) span b.there) lo hi b.holds.0 b.holds.1)
       (cases_eq i (length uses + index))
     where
       of_use : Use L → ℕ × ℕ
-      of_use u = (u.offset, length (fields u.kind))
+      of_use u = (u.offset, length (kinds.fields u.kind))
 
       of_veneer : VeneerUse L → ℕ × ℕ
       of_veneer x = (x.at, 8)
@@ -251,52 +251,54 @@ module _ {L : Type 0} {fields : L → List ℕ} {has_veneer : L → Bool} {forwa
       long : length (map of_use (recorded uses)) ≡ length uses
       long = length_map of_use (recorded uses) ∙ length_map core uses
 
-      span : slice_get (spans_of fields (recorded uses) veneers) (length uses + index) ≡ Some (w.at, 8)
-      span = ap (λ n. slice_get (spans_of fields (recorded uses) veneers) (n + index)) (sym long) ∙ get_right (map of_use (recorded uses)) (map of_veneer veneers) index _ (slice_get-map of_veneer veneers index ∙ ap (option_map of_veneer) hw)
+      span : slice_get (spans_of kinds (recorded uses) veneers) (length uses + index) ≡ Some (w.at, 8)
+      span = ap (λ n. slice_get (spans_of kinds (recorded uses) veneers) (n + index)) (sym long) ∙ get_right (map of_use (recorded uses)) (map of_veneer veneers) index _ (slice_get-map of_veneer veneers index ∙ ap (option_map of_veneer) hw)
 
   -- ---- where each use goes
 
-  pub all_go : CanEnd fields has_veneer forward backward veneer bytes place uses veneers → ((kind : L) → has_veneer kind ≡ true → IsVeneer fields forward backward has_veneer (veneer kind)) → (aims : L → List ℕ → ℤ → Type 0) (new_bytes : List ℕ) → length new_bytes ≡ length bytes →
-      AllAim aims fields new_bytes (patches_of place uses veneers) → AllKept fields bytes new_bytes (patches_of place uses veneers) → KeepsOthers fields bytes new_bytes (patches_of place uses veneers) → AllGo aims fields veneer new_bytes place uses
-  all_go f law aims new_bytes long aim kept others j u to h e = on u.veneer refl
+  pub all_arrive : CanEnd kinds bytes place uses veneers → ((kind : L) → kinds.has_veneer kind ≡ true → IsVeneer kinds (kinds.veneer kind)) → (new_bytes : List ℕ) → length new_bytes ≡ length bytes →
+      AllAim kinds new_bytes (patches_of place uses veneers) → AllKept kinds bytes new_bytes (patches_of place uses veneers) → KeepsOthers kinds bytes new_bytes (patches_of place uses veneers) → AllArrive kinds new_bytes place uses
+  all_arrive f law new_bytes long aim kept others j u to h e = on u.veneer refl
     where
-      on : (o : Option ℕ) → u.veneer ≡ o → (aims u.kind (window new_bytes u.offset (length (fields u.kind))) (pos to -ℤ pos u.offset)) ⊎ IsVia aims fields (veneer u.kind) new_bytes u to
+      on : (o : Option ℕ) → u.veneer ≡ o → Arrives kinds new_bytes u to o
       on None v =
           let target : (patch_of place u).target ≡ to = ap (λ o. unwrap_or (or_place o (place u.label.number)) 0) v ∙ ap (λ o. unwrap_or o 0) e in
-          inl (subst (λ n. aims u.kind (window new_bytes u.offset (length (fields u.kind))) (pos n -ℤ pos u.offset)) target (aim j (patch_of place u) (use_patch_at place uses veneers j u h)))
+          (subst (λ n. kinds.aims u.kind (window new_bytes u.offset (length (kinds.fields u.kind))) (pos n -ℤ pos u.offset)) target (aim j (patch_of place u) (use_patch_at place uses veneers j u h)))
       on (Some at) v =
           let has = f.linked.each j u at h v in
           let ok = law u.kind (f.linked.supported j u at h v) in
           let eight = ok.eight in
           let inside = ok.inside in
           let stands = has.inside in
-          let w : VeneerUse L = veneer_use (veneer u.kind) at u.label in
+          let w : VeneerUse L = veneer_use (kinds.veneer u.kind) at u.label in
           let k = length uses + has.index in
-          let size = length (fields (veneer u.kind).kind) in
-          let from = (veneer u.kind).place in
+          let size = length (kinds.fields (kinds.veneer u.kind).kind) in
+          let from = (kinds.veneer u.kind).place in
           let there = veneer_patch_at place uses veneers has.index w has.recorded in
           let target : (patch_of place u).target ≡ at = ap (λ o. unwrap_or (or_place o (place u.label.number)) 0) v in
           let on_target : (veneer_patch place w).target ≡ to = ap (λ o. unwrap_or o 0) e in
-          let same = veneer_window bytes (veneer u.kind).bytes at from size (omega arith) has.code in
-          let front : window bytes (at + 0) from ≡ take from (drop 0 (veneer u.kind).bytes) = veneer_window bytes (veneer u.kind).bytes at 0 from (omega arith) has.code in
-          let back = veneer_window bytes (veneer u.kind).bytes at (from + size) (8 - (from + size)) (omega arith) has.code in
+          let same = veneer_window bytes (kinds.veneer u.kind).bytes at from size (omega arith) has.code in
+          let front : window bytes (at + 0) from ≡ take from (drop 0 (kinds.veneer u.kind).bytes) = veneer_window bytes (kinds.veneer u.kind).bytes at 0 from (omega arith) has.code in
+          let back = veneer_window bytes (kinds.veneer u.kind).bytes at (from + size) (8 - (from + size)) (omega arith) has.code in
           let zero_more : at + 0 ≡ at = omega arith in
-          let rest = length-drop (from + size) (veneer u.kind).bytes in
-          inr (record {
-            at = at;
-            there = subst (λ n. aims u.kind (window new_bytes u.offset (length (fields u.kind))) (pos n -ℤ pos u.offset)) target (aim j (patch_of place u) (use_patch_at place uses veneers j u h));
-            even = f.linked.even j u at h v;
-            inside = omega arith;
-            front = others at from (piece_apart f law has.index w has.recorded at from (omega arith) (omega arith) (inl (omega arith))) ∙ ap (λ n. window bytes n from) (sym zero_more) ∙ front;
-            own = subst (λ s. SameOutside (fields (veneer u.kind).kind) s (window new_bytes (at + from) size)) same (kept k (veneer_patch place w) there);
-            back = others (at + (from + size)) (8 - (from + size)) (piece_apart f law has.index w has.recorded (at + (from + size)) (8 - (from + size)) (omega arith) (omega arith) (inr (omega arith))) ∙ back ∙ take_all (8 - (from + size)) (drop (from + size) (veneer u.kind).bytes) (omega arith);
-            on = subst (λ n. aims (veneer u.kind).kind (window new_bytes (at + from) size) (pos n -ℤ pos (at + from))) on_target (aim k (veneer_patch place w) there);
-          })
+          let rest = length-drop (from + size) (kinds.veneer u.kind).bytes in (
+            record {
+              at = at;
+              there = subst (λ n. kinds.aims u.kind (window new_bytes u.offset (length (kinds.fields u.kind))) (pos n -ℤ pos u.offset)) target (aim j (patch_of place u) (use_patch_at place uses veneers j u h));
+              even = f.linked.even j u at h v;
+              inside = omega arith;
+              front = others at from (piece_apart f law has.index w has.recorded at from (omega arith) (omega arith) (inl (omega arith))) ∙ ap (λ n. window bytes n from) (sym zero_more) ∙ front;
+              own = subst (λ s. SameOutside (kinds.fields (kinds.veneer u.kind).kind) s (window new_bytes (at + from) size)) same (kept k (veneer_patch place w) there);
+              back = others (at + (from + size)) (8 - (from + size)) (piece_apart f law has.index w has.recorded (at + (from + size)) (8 - (from + size)) (omega arith) (omega arith) (inr (omega arith))) ∙ back ∙ take_all (8 - (from + size)) (drop (from + size) (kinds.veneer u.kind).bytes) (omega arith);
+              on = subst (λ n. kinds.aims (kinds.veneer u.kind).kind (window new_bytes (at + from) size) (pos n -ℤ pos (at + from))) on_target (aim k (veneer_patch place w) there);
+            },
+            refl,
+          )
 
-pub windows_before : {L : Type 0} {fields : L → List ℕ} {bytes : List ℕ} {uses : List (Use L)} {veneers : List (VeneerUse L)} (n : ℕ) → AreWindows fields bytes uses veneers → AreWindows fields (before_last bytes n) uses veneers
-windows_before {L} {fields} {bytes} {uses} {veneers} n w = on (nat_eq n 0)
+pub windows_before : {L : Type 0} {kinds : Kinds L} {bytes : List ℕ} {uses : List (Use L)} {veneers : List (VeneerUse L)} (n : ℕ) → AreWindows kinds bytes uses veneers → AreWindows kinds (before_last bytes n) uses veneers
+windows_before {L} {kinds} {bytes} {uses} {veneers} n w = on (nat_eq n 0)
   where
-    on : (b : Bool) → AreWindows fields (cond b bytes (bytes ++ padding (length bytes))) uses veneers
+    on : (b : Bool) → AreWindows kinds (cond b bytes (bytes ++ padding (length bytes))) uses veneers
     on true = w
     on false = windows_bytes w (padding (length bytes)) (bytes ++ padding (length bytes)) refl
 

@@ -1,6 +1,6 @@
 -- What the last veneers are put for, and what they leave to the patches.
 use Rattle.std.proofs.Common.{◌≡◌, ℕ, ◌≤◌, Bool, List, [], length, None, ap, ◌∙◌, arith}
-use Rattle.rv_base.specs.LabelUse.{Veneer}
+use Rattle.rv_base.specs.LabelUse.{Kinds, Veneer}
 use Rattle.mach_buffer.specs.declared.uses.Use.{Use}
 use Rattle.mach_buffer.specs.declared.uses.VeneerUse.{VeneerUse}
 use Rattle.mach_buffer.specs.declared.buffer.MachBuffer.{MachBuffer}
@@ -13,23 +13,23 @@ use Rattle.mach_buffer.proofs.Ends.{CanEnd, bound_still, direct_still, before_lo
 use Rattle.mach_buffer.proofs.Others.{other_none}
 
 -- where no label is given and the places stay, the uses that wait are those that waited
-pub same_test : {L : Type 0} (has_veneer : L → Bool) (forward backward : L → ℕ) (old new : MachBuffer L) → place_of new ≡ place_of old → is_other has_veneer forward backward (place_of new) None ≡ is_pending has_veneer forward backward (place_of old)
-same_test has_veneer forward backward old new places = other_none has_veneer forward backward (place_of new) ∙ ap (is_pending has_veneer forward backward) places
+pub same_test : {L : Type 0} (kinds : Kinds L) (old new : MachBuffer L) → place_of new ≡ place_of old → is_other kinds (place_of new) None ≡ is_pending kinds (place_of old)
+same_test kinds old new places = other_none kinds (place_of new) ∙ ap (is_pending kinds) places
 
-pub same_deadlines : {L : Type 0} (has_veneer : L → Bool) (forward backward : L → ℕ) (old new : MachBuffer L) → place_of new ≡ place_of old → uses_of new ≡ uses_of old → deadlines (is_other has_veneer forward backward (place_of new) None) forward (uses_of new) ≡ pending_of has_veneer forward backward old
-same_deadlines has_veneer forward backward old new places uses =
-    ap (λ test. deadlines test forward (uses_of new)) (same_test has_veneer forward backward old new places)
-    ∙ ap (deadlines (is_pending has_veneer forward backward (place_of old)) forward) uses
+pub same_deadlines : {L : Type 0} (kinds : Kinds L) (old new : MachBuffer L) → place_of new ≡ place_of old → uses_of new ≡ uses_of old → deadlines (is_other kinds (place_of new) None) kinds (uses_of new) ≡ pending_of kinds old
+same_deadlines kinds old new places uses =
+    ap (λ test. deadlines test kinds (uses_of new)) (same_test kinds old new places)
+    ∙ ap (deadlines (is_pending kinds (place_of old)) kinds) uses
 
 -- once they are put, all can be patched
-pub can_end : {L : Type 0} {fields : L → List ℕ} {has_veneer : L → Bool} {forward backward : L → ℕ} {veneer : L → Veneer L} (old new : MachBuffer L) → CanFinish fields has_veneer forward backward veneer old →
-    VeneersPut forward (is_pending has_veneer forward backward (place_of old)) (before_last (bytes_of old) (length (pending_of has_veneer forward backward old))) (uses_of old) (bytes_of new) (uses_of new) →
-    IsLinked has_veneer forward veneer (bytes_of new) (uses_of new) (veneers_of new) → AreWindows fields (bytes_of new) (uses_of new) (veneers_of new) → deadlines (is_pending has_veneer forward backward (place_of old)) forward (uses_of new) ≡ [] →
-    CanEnd fields has_veneer forward backward veneer (bytes_of new) (place_of old) (uses_of new) (veneers_of new)
-can_end {has_veneer} {forward} {backward} old new ready put linked windows none =
+pub can_end : {L : Type 0} {kinds : Kinds L} (old new : MachBuffer L) → CanFinish kinds old →
+    VeneersPut kinds (is_pending kinds (place_of old)) (before_last (bytes_of old) (length (pending_of kinds old))) (uses_of old) (bytes_of new) (uses_of new) →
+    IsLinked kinds (bytes_of new) (uses_of new) (veneers_of new) → AreWindows kinds (bytes_of new) (uses_of new) (veneers_of new) → deadlines (is_pending kinds (place_of old)) kinds (uses_of new) ≡ [] →
+    CanEnd kinds (bytes_of new) (place_of old) (uses_of new) (veneers_of new)
+can_end {kinds} old new ready put linked windows none =
     let long = put.long in
     let short = ready.short in
-    let longer = before_longer (bytes_of old) (length (pending_of has_veneer forward backward old)) in
+    let longer = before_longer (bytes_of old) (length (pending_of kinds old)) in
     record {
       linked = linked;
       windows = windows;
@@ -37,7 +37,7 @@ can_end {has_veneer} {forward} {backward} old new ready put linked windows none 
       short = omega (arith, long, short);
       places = λ label at h. let q = ready.sound.places label at h in let le : at ≤ length (bytes_of old) = q.0 in (omega (arith, le, long, longer), q.1);
       bound = bound_still (place_of old) (uses_of old) (uses_of new) put.same ready.bound;
-      direct = direct_still has_veneer forward backward (place_of old) (uses_of old) (uses_of new) put.same ready.direct;
+      direct = direct_still kinds (place_of old) (uses_of old) (uses_of new) put.same ready.direct;
     }
 
 -- the patches by the places of before

@@ -3,7 +3,7 @@ use Rattle.std.specs.List.{slice_get}
 use Rattle.std.specs.Option.{IsSomeAnd}
 use Rattle.std.proofs.lemmas.Option.{same_Some}
 use Rattle.std.proofs.lemmas.List.{take-append-le, drop-append-le, drop_at, length-append, length-drop, take_all}
-use Rattle.rv_base.specs.LabelUse.{Veneer}
+use Rattle.rv_base.specs.LabelUse.{Kinds, Veneer}
 use Rattle.mach_buffer.specs.declared.uses.Use.{Use}
 use Rattle.mach_buffer.specs.declared.uses.VeneerUse.{VeneerUse}
 use Rattle.rv_base.specs.declared.label.MachLabel.{MachLabel}
@@ -81,17 +81,17 @@ veneer_new v bytes veneers label = record {
   recorded = slice_get-append_last veneers _;
 }
 
-made_stays : {L : Type 0} {has_veneer : L → Bool} {veneer : L → Veneer L} {bytes : List ℕ} {uses : List (Use L)} {w : VeneerUse L} (more : List ℕ) (new_uses : List (Use L)) →
-    ((k : ℕ) (P : Use L → Type 0) → IsSomeAnd (slice_get (recorded uses) k) P → IsSomeAnd (slice_get (recorded new_uses) k) P) → IsMade has_veneer veneer bytes uses w → IsMade has_veneer veneer (bytes ++ more) new_uses w
-made_stays {L} {has_veneer} {veneer} {bytes} {uses} {w} more new_uses stay h = record {
+made_stays : {L : Type 0} {kinds : Kinds L} {bytes : List ℕ} {uses : List (Use L)} {w : VeneerUse L} (more : List ℕ) (new_uses : List (Use L)) →
+    ((k : ℕ) (P : Use L → Type 0) → IsSomeAnd (slice_get (recorded uses) k) P → IsSomeAnd (slice_get (recorded new_uses) k) P) → IsMade kinds bytes uses w → IsMade kinds (bytes ++ more) new_uses w
+made_stays {L} {kinds} {bytes} {uses} {w} more new_uses stay h = record {
   kind = h.kind;
   is = h.is;
   supported = h.supported;
   even = h.even;
   inside = omega (arith, h.inside, length-append bytes more);
   code =
-      ap (take (length (veneer h.kind).bytes)) (drop-append-le w.at bytes more (omega (arith, h.inside)))
-      ∙ take-append-le (length (veneer h.kind).bytes) (drop w.at bytes) more (omega (arith, h.inside, length-drop w.at bytes)) ∙ h.code;
+      ap (take (length (kinds.veneer h.kind).bytes)) (drop-append-le w.at bytes more (omega (arith, h.inside)))
+      ∙ take-append-le (length (kinds.veneer h.kind).bytes) (drop w.at bytes) more (omega (arith, h.inside, length-drop w.at bytes)) ∙ h.code;
   user = h.user;
   named = stay h.user _ h.named;
 }
@@ -126,25 +126,25 @@ below [] i x h = absurd (cc)
 below (y ∷ xs) zero x h = omega arith
 below (y ∷ xs) (suc i) x h = let lt : i < length xs = below xs i x h in omega arith
 
-pub linked_more : {L : Type 0} {has_veneer : L → Bool} {forward : L → ℕ} {veneer : L → Veneer L} {bytes : List ℕ} {uses : List (Use L)} {veneers : List (VeneerUse L)} → IsLinked has_veneer forward veneer bytes uses veneers → (i : ℕ) (u : Use L) →
-    slice_get uses i ≡ Some u → length bytes ≤ deadline forward u → has_veneer u.kind ≡ true → length bytes % 2 ≡ 0 →
-    IsLinked has_veneer forward veneer (bytes ++ (veneer u.kind).bytes) (set uses i (record u { veneer = Some (length bytes) })) (veneers ++ veneer_use (veneer u.kind) (length bytes) u.label ∷ [])
-linked_more {L} {has_veneer} {forward} {veneer} {bytes} {uses} {veneers} l i u h near supported is_even =
-    let code = (veneer u.kind).bytes in
+pub linked_more : {L : Type 0} {kinds : Kinds L} {bytes : List ℕ} {uses : List (Use L)} {veneers : List (VeneerUse L)} → IsLinked kinds bytes uses veneers → (i : ℕ) (u : Use L) →
+    slice_get uses i ≡ Some u → length bytes ≤ deadline kinds u → kinds.has_veneer u.kind ≡ true → length bytes % 2 ≡ 0 →
+    IsLinked kinds (bytes ++ (kinds.veneer u.kind).bytes) (set uses i (record u { veneer = Some (length bytes) })) (veneers ++ veneer_use (kinds.veneer u.kind) (length bytes) u.label ∷ [])
+linked_more {L} {kinds} {bytes} {uses} {veneers} l i u h near supported is_even =
+    let code = (kinds.veneer u.kind).bytes in
     let new : Use L = record u { veneer = Some (length bytes) } in
     let lt = below uses i u h in
     let was = l.before i u h in
     let same : recorded (set uses i new) ≡ recorded uses = recorded_set uses i u new h refl in
     record {
-      each = λ j w at k e. set_each (λ x. (a : ℕ) → x.veneer ≡ Some a → HasVeneer (veneer x.kind) (bytes ++ code) (veneers ++ veneer_use (veneer u.kind) (length bytes) u.label ∷ []) x.label a) uses i new lt
-          (λ a q. subst (λ n. HasVeneer (veneer u.kind) (bytes ++ code) (veneers ++ veneer_use (veneer u.kind) (length bytes) u.label ∷ []) u.label n) (same_Some _ _ q) (veneer_new (veneer u.kind) bytes veneers u.label))
+      each = λ j w at k e. set_each (λ x. (a : ℕ) → x.veneer ≡ Some a → HasVeneer (kinds.veneer x.kind) (bytes ++ code) (veneers ++ veneer_use (kinds.veneer u.kind) (length bytes) u.label ∷ []) x.label a) uses i new lt
+          (λ a q. subst (λ n. HasVeneer (kinds.veneer u.kind) (bytes ++ code) (veneers ++ veneer_use (kinds.veneer u.kind) (length bytes) u.label ∷ []) u.label n) (same_Some _ _ q) (veneer_new (kinds.veneer u.kind) bytes veneers u.label))
           (λ n x p a q. veneer_stays code _ (l.each n x a p q)) j w k at e;
-      near = λ j w at k e. set_each (λ x. (a : ℕ) → x.veneer ≡ Some a → a ≤ deadline forward x) uses i new lt (λ a q. subst (λ n. n ≤ deadline forward u) (same_Some _ _ q) near) (λ n x p a q. l.near n x a p q) j w k at e;
+      near = λ j w at k e. set_each (λ x. (a : ℕ) → x.veneer ≡ Some a → a ≤ deadline kinds x) uses i new lt (λ a q. subst (λ n. n ≤ deadline kinds u) (same_Some _ _ q) near) (λ n x p a q. l.near n x a p q) j w k at e;
       behind = λ j w at k e. set_each (λ x. (a : ℕ) → x.veneer ≡ Some a → x.offset ≤ a) uses i new lt (λ a q. subst (λ n. u.offset ≤ n) (same_Some _ _ q) was) (λ n x p a q. l.behind n x a p q) j w k at e;
-      supported = λ j w at k e. set_each (λ x. (a : ℕ) → x.veneer ≡ Some a → has_veneer x.kind ≡ true) uses i new lt (λ a q. supported) (λ n x p a q. l.supported n x a p q) j w k at e;
+      supported = λ j w at k e. set_each (λ x. (a : ℕ) → x.veneer ≡ Some a → kinds.has_veneer x.kind ≡ true) uses i new lt (λ a q. supported) (λ n x p a q. l.supported n x a p q) j w k at e;
       even = λ j w at k e. set_each (λ x. (a : ℕ) → x.veneer ≡ Some a → a % 2 ≡ 0) uses i new lt (λ a q. subst (λ n. n % 2 ≡ 0) (same_Some _ _ q) is_even) (λ n x p a q. l.even n x a p q) j w k at e;
       before = λ j w k. set_each (λ x. x.offset ≤ length (bytes ++ code)) uses i new lt (omega (arith, length-append bytes code)) (λ n x p. let b = l.before n x p in omega (arith, length-append bytes code)) j w k;
-      made = append_each (IsMade has_veneer veneer (bytes ++ code) (set uses i new)) veneers (veneer_use (veneer u.kind) (length bytes) u.label)
+      made = append_each (IsMade kinds (bytes ++ code) (set uses i new)) veneers (veneer_use (kinds.veneer u.kind) (length bytes) u.label)
           (record {
             kind = u.kind;
             is = refl;
@@ -159,8 +159,8 @@ linked_more {L} {has_veneer} {forward} {veneer} {bytes} {uses} {veneers} l i u h
     }
 
 -- bytes that are added, no use and no veneer with them
-pub linked_bytes : {L : Type 0} {has_veneer : L → Bool} {forward : L → ℕ} {veneer : L → Veneer L} {bytes : List ℕ} {uses : List (Use L)} {veneers : List (VeneerUse L)} → IsLinked has_veneer forward veneer bytes uses veneers → (more new_bytes : List ℕ) → new_bytes ≡ bytes ++ more → IsLinked has_veneer forward veneer new_bytes uses veneers
-linked_bytes {L} {has_veneer} {forward} {veneer} {bytes} {uses} {veneers} l more new_bytes e = subst (λ b. IsLinked has_veneer forward veneer b uses veneers) (sym e) (record {
+pub linked_bytes : {L : Type 0} {kinds : Kinds L} {bytes : List ℕ} {uses : List (Use L)} {veneers : List (VeneerUse L)} → IsLinked kinds bytes uses veneers → (more new_bytes : List ℕ) → new_bytes ≡ bytes ++ more → IsLinked kinds new_bytes uses veneers
+linked_bytes {L} {kinds} {bytes} {uses} {veneers} l more new_bytes e = subst (λ b. IsLinked kinds b uses veneers) (sym e) (record {
   each = λ j u at k e. has_more (l.each j u at k e);
   near = l.near;
   behind = l.behind;
@@ -181,13 +181,13 @@ linked_bytes {L} {has_veneer} {forward} {veneer} {bytes} {uses} {veneers} l more
     }
 
 -- a use that is added, with no veneer yet
-pub linked_use : {L : Type 0} {has_veneer : L → Bool} {forward : L → ℕ} {veneer : L → Veneer L} {bytes : List ℕ} {uses : List (Use L)} {veneers : List (VeneerUse L)} → IsLinked has_veneer forward veneer bytes uses veneers → (u : Use L) → u.veneer ≡ None → u.offset ≤ length bytes → (new_uses : List (Use L)) → new_uses ≡ uses ++ u ∷ [] →
-    IsLinked has_veneer forward veneer bytes new_uses veneers
-linked_use {L} {has_veneer} {forward} {veneer} {bytes} {uses} {veneers} l u none le new_uses e = subst (λ us. IsLinked has_veneer forward veneer bytes us veneers) (sym e) (record {
-  each = λ j w at k q. append_each (λ x. (a : ℕ) → x.veneer ≡ Some a → HasVeneer (veneer x.kind) bytes veneers x.label a) uses u (λ a r. absurd (differ a r)) (λ n x p a r. l.each n x a p r) j w k at q;
-  near = λ j w at k q. append_each (λ x. (a : ℕ) → x.veneer ≡ Some a → a ≤ deadline forward x) uses u (λ a r. absurd (differ a r)) (λ n x p a r. l.near n x a p r) j w k at q;
+pub linked_use : {L : Type 0} {kinds : Kinds L} {bytes : List ℕ} {uses : List (Use L)} {veneers : List (VeneerUse L)} → IsLinked kinds bytes uses veneers → (u : Use L) → u.veneer ≡ None → u.offset ≤ length bytes → (new_uses : List (Use L)) → new_uses ≡ uses ++ u ∷ [] →
+    IsLinked kinds bytes new_uses veneers
+linked_use {L} {kinds} {bytes} {uses} {veneers} l u none le new_uses e = subst (λ us. IsLinked kinds bytes us veneers) (sym e) (record {
+  each = λ j w at k q. append_each (λ x. (a : ℕ) → x.veneer ≡ Some a → HasVeneer (kinds.veneer x.kind) bytes veneers x.label a) uses u (λ a r. absurd (differ a r)) (λ n x p a r. l.each n x a p r) j w k at q;
+  near = λ j w at k q. append_each (λ x. (a : ℕ) → x.veneer ≡ Some a → a ≤ deadline kinds x) uses u (λ a r. absurd (differ a r)) (λ n x p a r. l.near n x a p r) j w k at q;
   behind = λ j w at k q. append_each (λ x. (a : ℕ) → x.veneer ≡ Some a → x.offset ≤ a) uses u (λ a r. absurd (differ a r)) (λ n x p a r. l.behind n x a p r) j w k at q;
-  supported = λ j w at k q. append_each (λ x. (a : ℕ) → x.veneer ≡ Some a → has_veneer x.kind ≡ true) uses u (λ a r. absurd (differ a r)) (λ n x p a r. l.supported n x a p r) j w k at q;
+  supported = λ j w at k q. append_each (λ x. (a : ℕ) → x.veneer ≡ Some a → kinds.has_veneer x.kind ≡ true) uses u (λ a r. absurd (differ a r)) (λ n x p a r. l.supported n x a p r) j w k at q;
   even = λ j w at k q. append_each (λ x. (a : ℕ) → x.veneer ≡ Some a → a % 2 ≡ 0) uses u (λ a r. absurd (differ a r)) (λ n x p a r. l.even n x a p r) j w k at q;
   before = append_each (λ x. x.offset ≤ length bytes) uses u le l.before;
   made = λ k w e. made_named (l.made k w e);
@@ -205,12 +205,12 @@ linked_use {L} {has_veneer} {forward} {veneer} {bytes} {uses} {veneers} l u none
     still (x ∷ us) zero P h = h
     still (x ∷ us) (suc k) P h = still us k P h
 
-    made_named : {w : VeneerUse L} → IsMade has_veneer veneer bytes uses w → IsMade has_veneer veneer bytes (uses ++ u ∷ []) w
+    made_named : {w : VeneerUse L} → IsMade kinds bytes uses w → IsMade kinds bytes (uses ++ u ∷ []) w
     made_named {w} h = record { kind = h.kind; is = h.is; supported = h.supported; even = h.even; inside = h.inside; code = h.code; user = h.user; named = still uses h.user _ h.named }
 
-pub linked_by : {L : Type 0} {has_veneer : L → Bool} {forward : L → ℕ} {veneer : L → Veneer L} {bytes : List ℕ} {uses : List (Use L)} {veneers : List (VeneerUse L)} → IsLinked has_veneer forward veneer bytes uses veneers → (i : ℕ) (u : Use L) →
-    slice_get uses i ≡ Some u → length bytes ≤ deadline forward u → has_veneer u.kind ≡ true → length bytes % 2 ≡ 0 →
-    (at : ℕ) (new_bytes : List ℕ) (new_uses : List (Use L)) (new_veneers : List (VeneerUse L)) → at ≡ length bytes → new_bytes ≡ bytes ++ (veneer u.kind).bytes →
-    new_uses ≡ set uses i (record { offset = u.offset; label = u.label; kind = u.kind; veneer = Some at }) → new_veneers ≡ veneers ++ veneer_use (veneer u.kind) at u.label ∷ [] →
-    IsLinked has_veneer forward veneer new_bytes new_uses new_veneers
+pub linked_by : {L : Type 0} {kinds : Kinds L} {bytes : List ℕ} {uses : List (Use L)} {veneers : List (VeneerUse L)} → IsLinked kinds bytes uses veneers → (i : ℕ) (u : Use L) →
+    slice_get uses i ≡ Some u → length bytes ≤ deadline kinds u → kinds.has_veneer u.kind ≡ true → length bytes % 2 ≡ 0 →
+    (at : ℕ) (new_bytes : List ℕ) (new_uses : List (Use L)) (new_veneers : List (VeneerUse L)) → at ≡ length bytes → new_bytes ≡ bytes ++ (kinds.veneer u.kind).bytes →
+    new_uses ≡ set uses i (record { offset = u.offset; label = u.label; kind = u.kind; veneer = Some at }) → new_veneers ≡ veneers ++ veneer_use (kinds.veneer u.kind) at u.label ∷ [] →
+    IsLinked kinds new_bytes new_uses new_veneers
 linked_by l i u h near supported is_even at new_bytes new_uses new_veneers e eb eu ev = rw (eb, eu, ev, e) (linked_more l i u h near supported is_even)

@@ -5,7 +5,7 @@ use Rattle.std.proofs.lemmas.Bool.{cases_lt}
 use Rattle.std.proofs.lemmas.Option.{same_Some}
 use Rattle.std.proofs.lemmas.List.{take-take, take_all, drop_at, length-append}
 use Rattle.rv_base.specs.declared.label.MachLabel.{MachLabel}
-use Rattle.rv_base.specs.LabelUse.{Veneer, IsVeneer, SameOutside}
+use Rattle.rv_base.specs.LabelUse.{Kinds, Veneer, IsVeneer, SameOutside}
 use Rattle.mach_buffer.specs.declared.patches.Patch.{Patch}
 use Rattle.mach_buffer.specs.declared.uses.Use.{Use}
 use Rattle.mach_buffer.specs.declared.uses.VeneerUse.{VeneerUse}
@@ -15,7 +15,7 @@ use Rattle.mach_buffer.specs.Targets.{patch_of, veneer_patch, patches_of}
 use Rattle.mach_buffer.specs.Buffer.{bytes_of, uses_of, veneers_of, place_of, pending_of, core, recorded, IsLinked}
 use Rattle.mach_buffer.specs.Islands.{aligned, padding, needs_own, AreWindows, VeneersBehind, AreIslanded}
 use Rattle.mach_buffer.specs.Reach.{deadline}
-use Rattle.mach_buffer.specs.Finish.{IsVia, before_last, CanFinish, Finishes}
+use Rattle.mach_buffer.specs.Finish.{IsVia, Arrives, before_last, CanFinish, Finishes}
 use Rattle.mach_buffer.specs.Blocks.{BlockStands, AllInside, Grows, GoesBy, UsePatched, IsPatched}
 use Rattle.mach_buffer.proofs.Added.{append_none, added_none, added_more}
 use Rattle.mach_buffer.proofs.Apart.{both_lists, comes_from, window_stays, take_front}
@@ -89,11 +89,11 @@ first_later true n m = omega arith
 first_later false n m = omega arith
 
 -- by an island, whose label was not bound
-pub grows_island : {L : Type 0} {has_veneer : L → Bool} {forward backward : L → ℕ} {bytes new_bytes : List ℕ} {uses new_uses : List (Use L)} {veneers new_veneers : List (VeneerUse L)} {place new_place : ℕ → Option ℕ} {round : MachLabel} {others : ℕ} →
-    AreIslanded has_veneer forward backward bytes uses place round others new_bytes new_uses new_place → VeneersBehind (length bytes) veneers new_veneers → place round.number ≡ None → Grows bytes uses veneers place new_bytes new_uses new_veneers new_place
-grows_island {L} {has_veneer} {forward} {backward} {bytes} {new_bytes} {uses} {new_uses} {veneers} {new_veneers} {place} {new_place} {round} {others} i added none = record {
+pub grows_island : {L : Type 0} {kinds : Kinds L} {bytes new_bytes : List ℕ} {uses new_uses : List (Use L)} {veneers new_veneers : List (VeneerUse L)} {place new_place : ℕ → Option ℕ} {round : MachLabel} {others : ℕ} →
+    AreIslanded kinds bytes uses place round others new_bytes new_uses new_place → VeneersBehind (length bytes) veneers new_veneers → place round.number ≡ None → Grows bytes uses veneers place new_bytes new_uses new_veneers new_place
+grows_island {L} {kinds} {bytes} {new_bytes} {uses} {new_uses} {veneers} {new_veneers} {place} {new_place} {round} {others} i added none = record {
   before = sym (take-take (length bytes) (aligned (length bytes)) new_bytes (omega arith)) ∙ ap (take (length bytes)) i.padded ∙ take_front bytes (padding (length bytes));
-  longer = let e = i.end in let f = first_later (needs_own (aligned (length bytes)) others (deadline forward i.jump)) (aligned (length bytes)) (8 * others) in omega arith;
+  longer = let e = i.end in let f = first_later (needs_own (aligned (length bytes)) others (deadline kinds i.jump)) (aligned (length bytes)) (8 * others) in omega arith;
   more = [];
   grown = i.same ∙ sym (append_none (recorded uses));
   behind = λ k u h. absurd (cc);
@@ -108,11 +108,11 @@ before_front bytes n = on (nat_eq n 0)
     on true = take_all (length bytes) bytes (omega arith)
     on false = take_front bytes (padding (length bytes))
 
-module _ {L : Type 0} {aims : L → List ℕ → ℤ → Type 0} {fields : L → List ℕ} {has_veneer : L → Bool} {forward backward : L → ℕ} {veneer : L → Veneer L} {b : MachBuffer L} {bytes : List ℕ} where
+module _ {L : Type 0} {kinds : Kinds L} {b : MachBuffer L} {bytes : List ℕ} where
   -- what stands before the last patches begins with what was put
-  pub old_kept : (f : Finishes aims fields has_veneer forward backward veneer b bytes) → (take (length (bytes_of b)) f.old ≡ bytes_of b) × (length (bytes_of b) ≤ length f.old)
+  pub old_kept : (f : Finishes kinds b bytes) → (take (length (bytes_of b)) f.old ≡ bytes_of b) × (length (bytes_of b) ≤ length f.old)
   old_kept f =
-      let n = length (pending_of has_veneer forward backward b) in
+      let n = length (pending_of kinds b) in
       let longer = before_longer (bytes_of b) n in
       let long = f.put.long in (
         sym (take-take (length (bytes_of b)) (length (before_last (bytes_of b) n)) f.old longer) ∙ ap (take (length (bytes_of b))) f.put.before ∙ before_front (bytes_of b) n,
@@ -120,7 +120,7 @@ module _ {L : Type 0} {aims : L → List ℕ → ℤ → Type 0} {fields : L →
       )
 
   -- by the last veneers
-  pub grows_finish : (f : Finishes aims fields has_veneer forward backward veneer b bytes) → Grows (bytes_of b) (uses_of b) (veneers_of b) (place_of b) f.old f.uses f.veneers (place_of b)
+  pub grows_finish : (f : Finishes kinds b bytes) → Grows (bytes_of b) (uses_of b) (veneers_of b) (place_of b) f.old f.uses f.veneers (place_of b)
   grows_finish f = record {
     before = (old_kept f).0;
     longer = (old_kept f).1;
@@ -133,10 +133,10 @@ module _ {L : Type 0} {aims : L → List ℕ → ℤ → Type 0} {fields : L →
 
 -- ---- a block that is put, and stays
 
-pub block_put : {L : Type 0} {fields : L → List ℕ} {has_veneer : L → Bool} {forward backward : L → ℕ} {veneer : L → Veneer L} {bytes : List ℕ} {uses : List (Use L)} {veneers : List (VeneerUse L)} → AreWindows fields bytes uses veneers → IsLinked has_veneer forward veneer bytes uses veneers →
-    ((kind : L) → has_veneer kind ≡ true → IsVeneer fields forward backward has_veneer (veneer kind)) → (block : List ℕ) (own : List (Use L)) (new_bytes : List ℕ) (new_uses : List (Use L)) → new_bytes ≡ bytes ++ block → recorded new_uses ≡ recorded uses ++ recorded own →
-    BlockStands fields new_bytes new_uses veneers (length bytes) block own
-block_put {L} {fields} {has_veneer} {forward} {backward} {veneer} {bytes} {uses} {veneers} w l law block own new_bytes new_uses eb eu = record {
+pub block_put : {L : Type 0} {kinds : Kinds L} {bytes : List ℕ} {uses : List (Use L)} {veneers : List (VeneerUse L)} → AreWindows kinds bytes uses veneers → IsLinked kinds bytes uses veneers →
+    ((kind : L) → kinds.has_veneer kind ≡ true → IsVeneer kinds (kinds.veneer kind)) → (block : List ℕ) (own : List (Use L)) (new_bytes : List ℕ) (new_uses : List (Use L)) → new_bytes ≡ bytes ++ block → recorded new_uses ≡ recorded uses ++ recorded own →
+    BlockStands kinds new_bytes new_uses veneers (length bytes) block own
+block_put {L} {kinds} {bytes} {uses} {veneers} w l law block own new_bytes new_uses eb eu = record {
   within = omega (arith, long);
   stands = ap (λ s. take (length block) s) (ap (drop (length bytes)) eb ∙ drop_at bytes block (length bytes) refl) ∙ take_all (length block) block (omega arith);
   first = length (recorded uses);
@@ -153,9 +153,9 @@ block_put {L} {fields} {has_veneer} {forward} {backward} {veneer} {bytes} {uses}
     long : length new_bytes ≡ length bytes + length block
     long = ap (length {A = ℕ}) eb ∙ length-append bytes block
 
-pub block_stays : {L : Type 0} {fields : L → List ℕ} {bytes new_bytes : List ℕ} {uses new_uses : List (Use L)} {veneers new_veneers : List (VeneerUse L)} {place new_place : ℕ → Option ℕ} {start : ℕ} {block : List ℕ} {own : List (Use L)} →
-    Grows bytes uses veneers place new_bytes new_uses new_veneers new_place → BlockStands fields bytes uses veneers start block own → BlockStands fields new_bytes new_uses new_veneers start block own
-block_stays {L} {fields} {bytes} {new_bytes} {uses} {new_uses} {veneers} {new_veneers} {place} {new_place} {start} {block} {own} x b = record {
+pub block_stays : {L : Type 0} {kinds : Kinds L} {bytes new_bytes : List ℕ} {uses new_uses : List (Use L)} {veneers new_veneers : List (VeneerUse L)} {place new_place : ℕ → Option ℕ} {start : ℕ} {block : List ℕ} {own : List (Use L)} →
+    Grows bytes uses veneers place new_bytes new_uses new_veneers new_place → BlockStands kinds bytes uses veneers start block own → BlockStands kinds new_bytes new_uses new_veneers start block own
+block_stays {L} {kinds} {bytes} {new_bytes} {uses} {new_uses} {veneers} {new_veneers} {place} {new_place} {start} {block} {own} x b = record {
   within = let w = b.within in let l = x.longer in omega arith;
   stands = window_stays bytes new_bytes start (length block) b.within x.before ∙ b.stands;
   first = b.first;
@@ -168,15 +168,15 @@ block_stays {L} {fields} {bytes} {new_bytes} {uses} {new_uses} {veneers} {new_ve
 
 -- ---- once it is patched
 
-abbrev via_core : {L : Type 0} {aims : L → List ℕ → ℤ → Type 0} {fields : L → List ℕ} {v : Veneer L} {bytes : List ℕ} {u : Use L} {to : ℕ} → IsVia aims fields v bytes u to → IsVia aims fields v bytes (core u) to
+abbrev via_core : {L : Type 0} {kinds : Kinds L} {v : Veneer L} {bytes : List ℕ} {u : Use L} {to : ℕ} → IsVia kinds v bytes u to → IsVia kinds v bytes (core u) to
 via_core v = record { at = v.at; there = v.there; even = v.even; inside = v.inside; front = v.front; own = v.own; back = v.back; on = v.on }
 
-abbrev via_whole : {L : Type 0} {aims : L → List ℕ → ℤ → Type 0} {fields : L → List ℕ} {v : Veneer L} {bytes : List ℕ} {u : Use L} {to : ℕ} → IsVia aims fields v bytes (core u) to → IsVia aims fields v bytes u to
+abbrev via_whole : {L : Type 0} {kinds : Kinds L} {v : Veneer L} {bytes : List ℕ} {u : Use L} {to : ℕ} → IsVia kinds v bytes (core u) to → IsVia kinds v bytes u to
 via_whole v = record { at = v.at; there = v.there; even = v.even; inside = v.inside; front = v.front; own = v.own; back = v.back; on = v.on }
 
 -- uses that were recorded alike have the same window
-same_window : {L : Type 0} (fields : L → List ℕ) (old new : List ℕ) (u w : Use L) → core u ≡ core w → window old w.offset (length (fields w.kind)) ≡ window new w.offset (length (fields w.kind)) → window old u.offset (length (fields u.kind)) ≡ window new u.offset (length (fields u.kind))
-same_window {L} fields old new u w e h = subst (λ (x : Use L). window old x.offset (length (fields x.kind)) ≡ window new x.offset (length (fields x.kind))) (sym e) h
+same_window : {L : Type 0} (kinds : Kinds L) (old new : List ℕ) (u w : Use L) → core u ≡ core w → window old w.offset (length (kinds.fields w.kind)) ≡ window new w.offset (length (kinds.fields w.kind)) → window old u.offset (length (kinds.fields u.kind)) ≡ window new u.offset (length (kinds.fields u.kind))
+same_window {L} kinds old new u w e h = subst (λ (x : Use L). window old x.offset (length (kinds.fields x.kind)) ≡ window new x.offset (length (kinds.fields x.kind))) (sym e) h
 
 -- an element below the length
 pub record At {X : Type 0} (xs : List X) (k : ℕ) : Type 0 where
@@ -191,30 +191,30 @@ item_at {X} (x ∷ xs) (suc k) lt = on (item_at xs k (omega arith))
     on : At xs k → At (x ∷ xs) (suc k)
     on a = record { item = a.item; there = a.there }
 
-use_patched : {L : Type 0} {aims : L → List ℕ → ℤ → Type 0} {fields : L → List ℕ} {veneer : L → Veneer L} {place : ℕ → Option ℕ} {old bytes : List ℕ} (u w : Use L) (to : ℕ) → core u ≡ core w → place u.label.number ≡ Some to → to % 2 ≡ 0 → to ≤ length bytes →
-    SameOutside (fields u.kind) (window old u.offset (length (fields u.kind))) (window bytes u.offset (length (fields u.kind))) →
-    (aims u.kind (window bytes u.offset (length (fields u.kind))) (pos to -ℤ pos u.offset)) ⊎ IsVia aims fields (veneer u.kind) bytes u to → UsePatched aims fields veneer place old bytes w
-use_patched {L} {aims} {fields} {veneer} {place} {old} {bytes} u w to same e even le kept goes = whole (subst (UsePatched aims fields veneer place old bytes) same (on goes))
+use_patched : {L : Type 0} {kinds : Kinds L} {place : ℕ → Option ℕ} {old bytes : List ℕ} (u w : Use L) (to : ℕ) → core u ≡ core w → place u.label.number ≡ Some to → to % 2 ≡ 0 → to ≤ length bytes →
+    SameOutside (kinds.fields u.kind) (window old u.offset (length (kinds.fields u.kind))) (window bytes u.offset (length (kinds.fields u.kind))) →
+    Arrives kinds bytes u to u.veneer → UsePatched kinds place old bytes w
+use_patched {L} {kinds} {place} {old} {bytes} u w to same e even le kept goes = whole (subst (UsePatched kinds place old bytes) same (on u.veneer goes))
   where
-    on : (aims u.kind (window bytes u.offset (length (fields u.kind))) (pos to -ℤ pos u.offset)) ⊎ IsVia aims fields (veneer u.kind) bytes u to → UsePatched aims fields veneer place old bytes (core u)
-    on (inl a) = record { target = to; aimed = a; kept = kept; even = even; inside = le; goes = inl e }
-    on (inr v) = record { target = v.at; aimed = v.there; kept = kept; even = v.even; inside = let i = v.inside in omega arith; goes = inr (record { to = to; bound = e; via = via_core v; here = refl }) }
+    on : (o : Option ℕ) → Arrives kinds bytes u to o → UsePatched kinds place old bytes (core u)
+    on None a = record { target = to; aimed = a; kept = kept; even = even; inside = le; goes = inl e }
+    on (Some at) (v, here) = record { target = v.at; aimed = v.there; kept = kept; even = v.even; inside = let i = v.inside in omega arith; goes = inr (record { to = to; bound = e; via = via_core v; here = refl }) }
 
-    by : {at : ℕ} → GoesBy aims fields veneer bytes place (core w) at → GoesBy aims fields veneer bytes place w at
+    by : {at : ℕ} → GoesBy kinds bytes place (core w) at → GoesBy kinds bytes place w at
     by g = record { to = g.to; bound = g.bound; via = via_whole g.via; here = g.here }
 
-    whole : UsePatched aims fields veneer place old bytes (core w) → UsePatched aims fields veneer place old bytes w
+    whole : UsePatched kinds place old bytes (core w) → UsePatched kinds place old bytes w
     whole p = record { target = p.target; aimed = p.aimed; kept = p.kept; even = p.even; inside = p.inside; goes = ⊎_elim (λ x. inl x) (λ g. inr (by g)) p.goes }
 
 -- a piece of a block apart from its own windows shares no byte with any window
-piece_alone : {L : Type 0} {fields : L → List ℕ} {has_veneer : L → Bool} {forward backward : L → ℕ} {veneer : L → Veneer L} {old : List ℕ} {uses : List (Use L)} {veneers : List (VeneerUse L)} {start : ℕ} {block : List ℕ} {own : List (Use L)} → BlockStands fields old uses veneers start block own → IsLinked has_veneer forward veneer old uses veneers → ((kind : L) → has_veneer kind ≡ true → IsVeneer fields forward backward has_veneer (veneer kind)) → (place : ℕ → Option ℕ) →
-    (p m : ℕ) → start ≤ p → p + m ≤ start + length block → ((k : ℕ) (u : Use L) → slice_get own k ≡ Some u → IsApart p m u.offset (length (fields u.kind))) → (j : ℕ) (q : Patch L) → slice_get (patches_of place uses veneers) j ≡ Some q → IsApart p m q.offset (length (fields q.kind))
-piece_alone {L} {fields} {has_veneer} {forward} {backward} {veneer} {old} {uses} {veneers} {start} {block} {own} s l law place p m lo hi apart =
-    both_lists (λ (q : Patch L). IsApart p m q.offset (length (fields q.kind))) (map (patch_of place) uses) (map (veneer_patch place) veneers)
-    (λ j q h. let c = comes_from (patch_of place) uses j q h in subst (λ (x : Patch L). IsApart p m x.offset (length (fields x.kind))) c.is (of_use j c.from (recorded_get uses j c.from c.there)))
-    (λ k q h. let c = comes_from (veneer_patch place) veneers k q h in subst (λ (x : Patch L). IsApart p m x.offset (length (fields x.kind))) c.is (of_veneer k c.from c.there))
+piece_alone : {L : Type 0} {kinds : Kinds L} {old : List ℕ} {uses : List (Use L)} {veneers : List (VeneerUse L)} {start : ℕ} {block : List ℕ} {own : List (Use L)} → BlockStands kinds old uses veneers start block own → IsLinked kinds old uses veneers → ((kind : L) → kinds.has_veneer kind ≡ true → IsVeneer kinds (kinds.veneer kind)) → (place : ℕ → Option ℕ) →
+    (p m : ℕ) → start ≤ p → p + m ≤ start + length block → ((k : ℕ) (u : Use L) → slice_get own k ≡ Some u → IsApart p m u.offset (length (kinds.fields u.kind))) → (j : ℕ) (q : Patch L) → slice_get (patches_of place uses veneers) j ≡ Some q → IsApart p m q.offset (length (kinds.fields q.kind))
+piece_alone {L} {kinds} {old} {uses} {veneers} {start} {block} {own} s l law place p m lo hi apart =
+    both_lists (λ (q : Patch L). IsApart p m q.offset (length (kinds.fields q.kind))) (map (patch_of place) uses) (map (veneer_patch place) veneers)
+    (λ j q h. let c = comes_from (patch_of place) uses j q h in subst (λ (x : Patch L). IsApart p m x.offset (length (kinds.fields x.kind))) c.is (of_use j c.from (recorded_get uses j c.from c.there)))
+    (λ k q h. let c = comes_from (veneer_patch place) veneers k q h in subst (λ (x : Patch L). IsApart p m x.offset (length (kinds.fields x.kind))) c.is (of_veneer k c.from c.there))
   where
-    of_use : (j : ℕ) (u : Use L) → slice_get (recorded uses) j ≡ Some (core u) → IsApart p m u.offset (length (fields u.kind))
+    of_use : (j : ℕ) (u : Use L) → slice_get (recorded uses) j ≡ Some (core u) → IsApart p m u.offset (length (kinds.fields u.kind))
     of_use j u h = ⊎_elim
         (λ lt. let e = s.before j (core u) h lt in inr (omega arith))
         (λ ge. ⊎_elim
@@ -222,22 +222,22 @@ piece_alone {L} {fields} {has_veneer} {forward} {backward} {veneer} {old} {uses}
         let a = item_at own (j - s.first) (omega arith) in
         let index : s.first + (j - s.first) ≡ j = omega arith in
         let is : core a.item ≡ core u = same_Some _ _ (sym (s.own_uses (j - s.first) a.item a.there) ∙ ap (slice_get (recorded uses)) index ∙ h) in
-        subst (λ (x : Use L). IsApart p m x.offset (length (fields x.kind))) is (apart (j - s.first) a.item a.there))
+        subst (λ (x : Use L). IsApart p m x.offset (length (kinds.fields x.kind))) is (apart (j - s.first) a.item a.there))
         (λ far. let e = s.behind j (core u) h far in inl (omega arith))
         (cases_lt j (s.first + length own)))
         (cases_lt j s.first)
 
-    of_veneer : (k : ℕ) (w : VeneerUse L) → slice_get veneers k ≡ Some w → IsApart p m w.offset (length (fields w.kind))
+    of_veneer : (k : ℕ) (w : VeneerUse L) → slice_get veneers k ≡ Some w → IsApart p m w.offset (length (kinds.fields w.kind))
     of_veneer k w h =
         let made = l.made k w h in
         let i = (law made.kind made.supported).inside in
-        subst (λ (x : VeneerUse L). IsApart p m x.offset (length (fields x.kind))) (sym made.is)
+        subst (λ (x : VeneerUse L). IsApart p m x.offset (length (kinds.fields x.kind))) (sym made.is)
         (⊎_elim (λ e. inr (omega arith)) (λ e. inl (omega arith)) (s.apart k w h))
 
-module _ {L : Type 0} {aims : L → List ℕ → ℤ → Type 0} {fields : L → List ℕ} {has_veneer : L → Bool} {forward backward : L → ℕ} {veneer : L → Veneer L} {b : MachBuffer L} {bytes : List ℕ} {start : ℕ} {block : List ℕ} {own : List (Use L)} where
+module _ {L : Type 0} {kinds : Kinds L} {b : MachBuffer L} {bytes : List ℕ} {start : ℕ} {block : List ℕ} {own : List (Use L)} where
   -- the block once the buffer is finished
-  pub block_patched : ((kind : L) → has_veneer kind ≡ true → IsVeneer fields forward backward has_veneer (veneer kind)) → CanFinish fields has_veneer forward backward veneer b → Finishes aims fields has_veneer forward backward veneer b bytes →
-      BlockStands fields (bytes_of b) (uses_of b) (veneers_of b) start block own → AllInside fields start (length block) own → IsPatched aims fields veneer (place_of b) (bytes_of b) bytes start (length block) own
+  pub block_patched : ((kind : L) → kinds.has_veneer kind ≡ true → IsVeneer kinds (kinds.veneer kind)) → CanFinish kinds b → Finishes kinds b bytes →
+      BlockStands kinds (bytes_of b) (uses_of b) (veneers_of b) start block own → AllInside kinds start (length block) own → IsPatched kinds (place_of b) (bytes_of b) bytes start (length block) own
   block_patched law r f stands inside =
       let old = old_kept f in
       let long = f.long in
@@ -254,10 +254,10 @@ module _ {L : Type 0} {aims : L → List ℕ → ℤ → Type 0} {fields : L →
             let i = inside k u h in
             let i1 = i.1 in
             let kept = f.kept (s.first + k) (patch_of (place_of b) c.from) (use_patch_at (place_of b) f.uses f.veneers (s.first + k) c.from c.there) in
-            let stays = window_stays (bytes_of b) f.old u.offset (length (fields u.kind)) (omega arith) old.0 in
-            let moved = same_window fields f.old (bytes_of b) c.from u c.is stays in
+            let stays = window_stays (bytes_of b) f.old u.offset (length (kinds.fields u.kind)) (omega arith) old.0 in
+            let moved = same_window kinds f.old (bytes_of b) c.from u c.is stays in
             use_patched c.from u to.0 c.is to.1 there.1 (omega arith)
-            (subst (λ a. SameOutside (fields c.from.kind) a (window bytes c.from.offset (length (fields c.from.kind)))) moved kept)
+            (subst (λ a. SameOutside (kinds.fields c.from.kind) a (window bytes c.from.offset (length (kinds.fields c.from.kind)))) moved kept)
             (f.arrive (s.first + k) c.from to.0 c.there to.1);
         others = λ p m lo hi apart. f.others p m (piece_alone s f.linked law (place_of b) p m lo hi apart) ∙ window_stays (bytes_of b) f.old p m (omega arith) old.0;
       }

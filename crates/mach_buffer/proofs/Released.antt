@@ -6,6 +6,7 @@ use Rattle.std.specs.Ordering.{is_eq}
 use Rattle.std.specs.BTreeMap.{is_at}
 use Rattle.std.proofs.lemmas.Option.{same_Some}
 use Rattle.std.proofs.lemmas.Bool.{true≢false}
+use Rattle.rv_base.specs.LabelUse.{Kinds}
 use Rattle.mach_buffer.specs.declared.uses.Use.{Use}
 use Rattle.mach_buffer.specs.declared.uses.Turn.{Turn}
 use Rattle.mach_buffer.specs.Reach.{deadline, deadlines, due_by}
@@ -24,25 +25,25 @@ remove_each {L} P t (x ∷ es) h i e q = on (t x.0) q (remove_each P t es (λ k 
         at zero r = h 0 e r
         at (suc n) r = rest n e r
 
-due_remove : {L : Type 0} (forward : L → ℕ) (some : Use L → Bool) (t : Turn → Bool) (end : ℕ) (es : List (Turn × Use L)) → ((i : ℕ) (e : Turn × Use L) → slice_get es i ≡ Some e → t e.0 ≡ true → some e.1 ≡ false) →
-    due_by end (deadlines some forward (users (remove_entry t es))) ≡ due_by end (deadlines some forward (users es))
-due_remove forward some t end [] h = refl
-due_remove {L} forward some t end (x ∷ es) h = on (t x.0) refl (due_remove forward some t end es (λ k y z. h (suc k) y z))
+due_remove : {L : Type 0} (kinds : Kinds L) (some : Use L → Bool) (t : Turn → Bool) (end : ℕ) (es : List (Turn × Use L)) → ((i : ℕ) (e : Turn × Use L) → slice_get es i ≡ Some e → t e.0 ≡ true → some e.1 ≡ false) →
+    due_by end (deadlines some kinds (users (remove_entry t es))) ≡ due_by end (deadlines some kinds (users es))
+due_remove kinds some t end [] h = refl
+due_remove {L} kinds some t end (x ∷ es) h = on (t x.0) refl (due_remove kinds some t end es (λ k y z. h (suc k) y z))
   where
-    step : (b : Bool) (ds es : List ℕ) → due_by end ds ≡ due_by end es → due_by end (cond b (deadline forward x.1 ∷ ds) ds) ≡ due_by end (cond b (deadline forward x.1 ∷ es) es)
-    step true ds es e = ap (λ n. cond (nat_le (deadline forward x.1) end) (suc n) n) e
+    step : (b : Bool) (ds es : List ℕ) → due_by end ds ≡ due_by end es → due_by end (cond b (deadline kinds x.1 ∷ ds) ds) ≡ due_by end (cond b (deadline kinds x.1 ∷ es) es)
+    step true ds es e = ap (λ n. cond (nat_le (deadline kinds x.1) end) (suc n) n) e
     step false ds es e = e
 
-    on : (b : Bool) → t x.0 ≡ b → due_by end (deadlines some forward (users (remove_entry t es))) ≡ due_by end (deadlines some forward (users es)) → due_by end (deadlines some forward (users (cond b es (x ∷ remove_entry t es)))) ≡ due_by end (deadlines some forward (x.1 ∷ users es))
-    on true q rest = sym (ap (λ b. due_by end (cond b (deadline forward x.1 ∷ deadlines some forward (users es)) (deadlines some forward (users es)))) (h 0 x refl q))
+    on : (b : Bool) → t x.0 ≡ b → due_by end (deadlines some kinds (users (remove_entry t es))) ≡ due_by end (deadlines some kinds (users es)) → due_by end (deadlines some kinds (users (cond b es (x ∷ remove_entry t es)))) ≡ due_by end (deadlines some kinds (x.1 ∷ users es))
+    on true q rest = sym (ap (λ b. due_by end (cond b (deadline kinds x.1 ∷ deadlines some kinds (users es)) (deadlines some kinds (users es)))) (h 0 x refl q))
     on false q rest = step (some x.1) _ _ rest
 
-pub turns_remove : {L : Type 0} {forward : L → ℕ} {test : Use L → Bool} {turns : List (Turn × Use L)} {uses : List (Use L)} → HaveTurns forward test turns uses → (k : Turn) (u : Use L) → slice_get uses k.index ≡ Some u → test u ≡ false →
-    (new_turns : List (Turn × Use L)) → new_turns ≡ remove_entry (is_at (turn_cmp k)) turns → HaveTurns forward test new_turns uses
-turns_remove {L} {forward} {test} {turns} {uses} h k u there idle new_turns et = rw et (record {
-  each = remove_each (λ e. test e.1 ≡ true → IsTurn forward uses e.0 e.1) (is_at (turn_cmp k)) turns h.each;
+pub turns_remove : {L : Type 0} {kinds : Kinds L} {test : Use L → Bool} {turns : List (Turn × Use L)} {uses : List (Use L)} → HaveTurns kinds test turns uses → (k : Turn) (u : Use L) → slice_get uses k.index ≡ Some u → test u ≡ false →
+    (new_turns : List (Turn × Use L)) → new_turns ≡ remove_entry (is_at (turn_cmp k)) turns → HaveTurns kinds test new_turns uses
+turns_remove {L} {kinds} {test} {turns} {uses} h k u there idle new_turns et = rw et (record {
+  each = remove_each (λ e. test e.1 ≡ true → IsTurn kinds uses e.0 e.1) (is_at (turn_cmp k)) turns h.each;
   low = remove_each (λ e. e.0.index < length uses) (is_at (turn_cmp k)) turns h.low;
-  counts = λ some sub end. due_remove forward some (is_at (turn_cmp k)) end turns (λ i e q at. off some sub e (idle_at i e q at)) ∙ h.counts some sub end;
+  counts = λ some sub end. due_remove kinds some (is_at (turn_cmp k)) end turns (λ i e q at. off some sub e (idle_at i e q at)) ∙ h.counts some sub end;
 })
   where
     equal : (o : Ordering) → is_eq o ≡ true → o ≡ Equal

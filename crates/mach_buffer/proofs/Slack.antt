@@ -5,6 +5,7 @@ use Rattle.std.proofs.Common.{set}
 use Rattle.std.proofs.lemmas.Option.{same_Some}
 use Rattle.std.specs.Prelude.{is_none, slice_get, nat_le, nat_lt}
 use Rattle.std.proofs.lemmas.Bool.{leb-true, leb-false, ltb-false, or_parts, true≢false, and_parts, and_from, cases_eq}
+use Rattle.rv_base.specs.LabelUse.{Kinds}
 use Rattle.mach_buffer.specs.Reach.{AllOf, CanReach, StillReaches, deadline, is_reached, is_pending, deadlines, due_by, HasSlack, is_needed_from, is_needed}
 
 -- ---- how many are due
@@ -146,56 +147,56 @@ slack_not_needed cur distance ds h = slack_from_each (cur + distance) 30 ds (not
 -- ---- the deadlines of uses
 
 -- a use more
-pub deadlines_append : {L : Type 0} (test : Use L → Bool) (forward : L → ℕ) (uses more : List (Use L)) → deadlines test forward (uses ++ more) ≡ deadlines test forward uses ++ deadlines test forward more
-deadlines_append test forward [] more = refl
-deadlines_append test forward (u ∷ uses) more = on (test u) (deadlines_append test forward uses more)
+pub deadlines_append : {L : Type 0} (test : Use L → Bool) (kinds : Kinds L) (uses more : List (Use L)) → deadlines test kinds (uses ++ more) ≡ deadlines test kinds uses ++ deadlines test kinds more
+deadlines_append test kinds [] more = refl
+deadlines_append test kinds (u ∷ uses) more = on (test u) (deadlines_append test kinds uses more)
   where
-    on : (c : Bool) → deadlines test forward (uses ++ more) ≡ deadlines test forward uses ++ deadlines test forward more →
-        cond c (deadline forward u ∷ deadlines test forward (uses ++ more)) (deadlines test forward (uses ++ more)) ≡ cond c (deadline forward u ∷ deadlines test forward uses) (deadlines test forward uses) ++ deadlines test forward more
-    on true rest = ap (λ ds. deadline forward u ∷ ds) rest
+    on : (c : Bool) → deadlines test kinds (uses ++ more) ≡ deadlines test kinds uses ++ deadlines test kinds more →
+        cond c (deadline kinds u ∷ deadlines test kinds (uses ++ more)) (deadlines test kinds (uses ++ more)) ≡ cond c (deadline kinds u ∷ deadlines test kinds uses) (deadlines test kinds uses) ++ deadlines test kinds more
+    on true rest = ap (λ ds. deadline kinds u ∷ ds) rest
     on false rest = rest
 
 -- a use is changed so that it waits no longer: what its deadline counted is gone
-pub due_set : {L : Type 0} (test : Use L → Bool) (forward : L → ℕ) (end : ℕ) (uses : List (Use L)) (i : ℕ) (u v : Use L) → slice_get uses i ≡ Some u → test u ≡ true → test v ≡ false →
-    due_by end (deadlines test forward uses) ≡ due_by end (deadline forward u ∷ []) + due_by end (deadlines test forward (set uses i v))
-due_set test forward end [] i u v h tu tv = absurd (cc)
-due_set test forward end (w ∷ uses) zero u v h tu tv =
+pub due_set : {L : Type 0} (test : Use L → Bool) (kinds : Kinds L) (end : ℕ) (uses : List (Use L)) (i : ℕ) (u v : Use L) → slice_get uses i ≡ Some u → test u ≡ true → test v ≡ false →
+    due_by end (deadlines test kinds uses) ≡ due_by end (deadline kinds u ∷ []) + due_by end (deadlines test kinds (set uses i v))
+due_set test kinds end [] i u v h tu tv = absurd (cc)
+due_set test kinds end (w ∷ uses) zero u v h tu tv =
     let same : w ≡ u = same_Some _ _ h in
     let yes : test w ≡ true = ap test same ∙ tu in
-    rw (yes, tv, same) (on (nat_le (deadline forward u) end))
+    rw (yes, tv, same) (on (nat_le (deadline kinds u) end))
   where
-    on : (c : Bool) → cond c (suc (due_by end (deadlines test forward uses))) (due_by end (deadlines test forward uses)) ≡ cond c 1 0 + due_by end (deadlines test forward uses)
+    on : (c : Bool) → cond c (suc (due_by end (deadlines test kinds uses))) (due_by end (deadlines test kinds uses)) ≡ cond c 1 0 + due_by end (deadlines test kinds uses)
     on true = omega arith
     on false = omega arith
-due_set test forward end (w ∷ uses) (suc i) u v h tu tv = on (test w) (due_set test forward end uses i u v h tu tv)
+due_set test kinds end (w ∷ uses) (suc i) u v h tu tv = on (test w) (due_set test kinds end uses i u v h tu tv)
   where
     step : (c : Bool) (m n k : ℕ) → m ≡ k + n → cond c (suc m) m ≡ k + cond c (suc n) n
     step true m n k e = omega arith
     step false m n k e = e
 
-    on : (c : Bool) → due_by end (deadlines test forward uses) ≡ due_by end (deadline forward u ∷ []) + due_by end (deadlines test forward (set uses i v)) →
-        due_by end (cond c (deadline forward w ∷ deadlines test forward uses) (deadlines test forward uses)) ≡ due_by end (deadline forward u ∷ []) + due_by end (cond c (deadline forward w ∷ deadlines test forward (set uses i v)) (deadlines test forward (set uses i v)))
-    on true rest = step (nat_le (deadline forward w) end) _ _ _ rest
+    on : (c : Bool) → due_by end (deadlines test kinds uses) ≡ due_by end (deadline kinds u ∷ []) + due_by end (deadlines test kinds (set uses i v)) →
+        due_by end (cond c (deadline kinds w ∷ deadlines test kinds uses) (deadlines test kinds uses)) ≡ due_by end (deadline kinds u ∷ []) + due_by end (cond c (deadline kinds w ∷ deadlines test kinds (set uses i v)) (deadlines test kinds (set uses i v)))
+    on true rest = step (nat_le (deadline kinds w) end) _ _ _ rest
     on false rest = rest
 
-pub length_set : {L : Type 0} (test : Use L → Bool) (forward : L → ℕ) (uses : List (Use L)) (i : ℕ) (u v : Use L) → slice_get uses i ≡ Some u → test u ≡ true → test v ≡ false →
-    length (deadlines test forward uses) ≡ suc (length (deadlines test forward (set uses i v)))
-length_set test forward [] i u v h tu tv = absurd (cc)
-length_set test forward (w ∷ uses) zero u v h tu tv =
+pub length_set : {L : Type 0} (test : Use L → Bool) (kinds : Kinds L) (uses : List (Use L)) (i : ℕ) (u v : Use L) → slice_get uses i ≡ Some u → test u ≡ true → test v ≡ false →
+    length (deadlines test kinds uses) ≡ suc (length (deadlines test kinds (set uses i v)))
+length_set test kinds [] i u v h tu tv = absurd (cc)
+length_set test kinds (w ∷ uses) zero u v h tu tv =
     let same : w ≡ u = same_Some _ _ h in
     let yes : test w ≡ true = ap test same ∙ tu in
     rw (yes, tv) refl
-length_set test forward (w ∷ uses) (suc i) u v h tu tv = on (test w) (length_set test forward uses i u v h tu tv)
+length_set test kinds (w ∷ uses) (suc i) u v h tu tv = on (test w) (length_set test kinds uses i u v h tu tv)
   where
-    on : (c : Bool) → length (deadlines test forward uses) ≡ suc (length (deadlines test forward (set uses i v))) →
-        length (cond c (deadline forward w ∷ deadlines test forward uses) (deadlines test forward uses)) ≡ suc (length (cond c (deadline forward w ∷ deadlines test forward (set uses i v)) (deadlines test forward (set uses i v))))
+    on : (c : Bool) → length (deadlines test kinds uses) ≡ suc (length (deadlines test kinds (set uses i v))) →
+        length (cond c (deadline kinds w ∷ deadlines test kinds uses) (deadlines test kinds uses)) ≡ suc (length (cond c (deadline kinds w ∷ deadlines test kinds (set uses i v)) (deadlines test kinds (set uses i v))))
     on true rest = ap suc rest
     on false rest = rest
 
 -- a label is bound: fewer wait
-pub due_fewer : {L : Type 0} (test new_test : Use L → Bool) (forward : L → ℕ) (end : ℕ) (uses : List (Use L)) → ((u : Use L) → new_test u ≡ true → test u ≡ true) → due_by end (deadlines new_test forward uses) ≤ due_by end (deadlines test forward uses)
-due_fewer test new_test forward end [] h = omega arith
-due_fewer test new_test forward end (u ∷ uses) h = on (new_test u) (test u) (h u) (due_fewer test new_test forward end uses h)
+pub due_fewer : {L : Type 0} (test new_test : Use L → Bool) (kinds : Kinds L) (end : ℕ) (uses : List (Use L)) → ((u : Use L) → new_test u ≡ true → test u ≡ true) → due_by end (deadlines new_test kinds uses) ≤ due_by end (deadlines test kinds uses)
+due_fewer test new_test kinds end [] h = omega arith
+due_fewer test new_test kinds end (u ∷ uses) h = on (new_test u) (test u) (h u) (due_fewer test new_test kinds end uses h)
   where
     step : (c : Bool) (m n : ℕ) → m ≤ n → cond c (suc m) m ≤ cond c (suc n) n
     step true m n le = omega arith
@@ -205,40 +206,40 @@ due_fewer test new_test forward end (u ∷ uses) h = on (new_test u) (test u) (h
     more true m n le = omega arith
     more false m n le = le
 
-    on : (b a : Bool) → (b ≡ true → a ≡ true) → due_by end (deadlines new_test forward uses) ≤ due_by end (deadlines test forward uses) →
-        due_by end (cond b (deadline forward u ∷ deadlines new_test forward uses) (deadlines new_test forward uses)) ≤ due_by end (cond a (deadline forward u ∷ deadlines test forward uses) (deadlines test forward uses))
-    on true true i rest = step (nat_le (deadline forward u) end) _ _ rest
+    on : (b a : Bool) → (b ≡ true → a ≡ true) → due_by end (deadlines new_test kinds uses) ≤ due_by end (deadlines test kinds uses) →
+        due_by end (cond b (deadline kinds u ∷ deadlines new_test kinds uses) (deadlines new_test kinds uses)) ≤ due_by end (cond a (deadline kinds u ∷ deadlines test kinds uses) (deadlines test kinds uses))
+    on true true i rest = step (nat_le (deadline kinds u) end) _ _ rest
     on true false i rest = absurd (true≢false (sym (i refl)))
-    on false true i rest = more (nat_le (deadline forward u) end) _ _ rest
+    on false true i rest = more (nat_le (deadline kinds u) end) _ _ rest
     on false false i rest = rest
 
 -- bound where none was: what waits now waited before
-pub bound_waits : {L : Type 0} (has_veneer : L → Bool) (forward backward : L → ℕ) (place new_place : ℕ → Option ℕ) (label : ℕ) → place label ≡ None → ((other : ℕ) → other ≢ label → new_place other ≡ place other) → (u : Use L) →
-    is_pending has_veneer forward backward new_place u ≡ true → is_pending has_veneer forward backward place u ≡ true
-bound_waits has_veneer forward backward place new_place label none kept u h =
-    let parts : (has_veneer u.kind ≡ true) × ((is_none u.veneer && not (is_reached forward backward (new_place u.label.number) u)) ≡ true) = and_parts _ _ h in
-    let inner : (is_none u.veneer ≡ true) × (not (is_reached forward backward (new_place u.label.number) u) ≡ true) = and_parts _ _ parts.1 in
+pub bound_waits : {L : Type 0} (kinds : Kinds L) (place new_place : ℕ → Option ℕ) (label : ℕ) → place label ≡ None → ((other : ℕ) → other ≢ label → new_place other ≡ place other) → (u : Use L) →
+    is_pending kinds new_place u ≡ true → is_pending kinds place u ≡ true
+bound_waits kinds place new_place label none kept u h =
+    let parts : (kinds.has_veneer u.kind ≡ true) × ((is_none u.veneer && not (is_reached kinds (new_place u.label.number) u)) ≡ true) = and_parts _ _ h in
+    let inner : (is_none u.veneer ≡ true) × (not (is_reached kinds (new_place u.label.number) u) ≡ true) = and_parts _ _ parts.1 in
     ⊎_elim
     (λ e.
     let open_ : place u.label.number ≡ None = ap place e ∙ none in
-    and_from _ _ parts.0 (and_from _ _ inner.0 (ap (λ o. not (is_reached forward backward o u)) open_)))
-    (λ other. and_from _ _ parts.0 (and_from _ _ inner.0 (ap (λ o. not (is_reached forward backward o u)) (sym (kept u.label.number other)) ∙ inner.1)))
+    and_from _ _ parts.0 (and_from _ _ inner.0 (ap (λ o. not (is_reached kinds o u)) open_)))
+    (λ other. and_from _ _ parts.0 (and_from _ _ inner.0 (ap (λ o. not (is_reached kinds o u)) (sym (kept u.label.number other)) ∙ inner.1)))
     (cases_eq u.label.number label)
 
 -- a use is recorded: eight bytes of slack for it
-pub slack_use : {L : Type 0} (test : Use L → Bool) (forward : L → ℕ) (cur slack : ℕ) (uses : List (Use L)) (u : Use L) → cur + slack + 8 ≤ deadline forward u → HasSlack cur (slack + 8) (deadlines test forward uses) → HasSlack cur slack (deadlines test forward (uses ++ u ∷ []))
-slack_use test forward cur slack uses u le h = on (test u) refl
+pub slack_use : {L : Type 0} (test : Use L → Bool) (kinds : Kinds L) (cur slack : ℕ) (uses : List (Use L)) (u : Use L) → cur + slack + 8 ≤ deadline kinds u → HasSlack cur (slack + 8) (deadlines test kinds uses) → HasSlack cur slack (deadlines test kinds (uses ++ u ∷ []))
+slack_use test kinds cur slack uses u le h = on (test u) refl
   where
-    on : (c : Bool) → test u ≡ c → HasSlack cur slack (deadlines test forward (uses ++ u ∷ []))
+    on : (c : Bool) → test u ≡ c → HasSlack cur slack (deadlines test kinds (uses ++ u ∷ []))
     on true e =
-        let whole : deadlines test forward (uses ++ u ∷ []) ≡ deadlines test forward uses ++ deadline forward u ∷ [] = deadlines_append test forward uses (u ∷ []) ∙ rw e refl in
+        let whole : deadlines test kinds (uses ++ u ∷ []) ≡ deadlines test kinds uses ++ deadline kinds u ∷ [] = deadlines_append test kinds uses (u ∷ []) ∙ rw e refl in
         subst (HasSlack cur slack) (sym whole)
-        (slack_same cur slack (deadline forward u ∷ deadlines test forward uses) _ (λ end. let a = due_append end (deadlines test forward uses) (deadline forward u ∷ []) in let b = due_append end (deadline forward u ∷ []) (deadlines test forward uses) in omega arith)
-        (slack_more cur slack (deadline forward u) (deadlines test forward uses) le h))
+        (slack_same cur slack (deadline kinds u ∷ deadlines test kinds uses) _ (λ end. let a = due_append end (deadlines test kinds uses) (deadline kinds u ∷ []) in let b = due_append end (deadline kinds u ∷ []) (deadlines test kinds uses) in omega arith)
+        (slack_more cur slack (deadline kinds u) (deadlines test kinds uses) le h))
     on false e =
-        let whole : deadlines test forward (uses ++ u ∷ []) ≡ deadlines test forward uses ++ [] = deadlines_append test forward uses (u ∷ []) ∙ rw e refl in
+        let whole : deadlines test kinds (uses ++ u ∷ []) ≡ deadlines test kinds uses ++ [] = deadlines_append test kinds uses (u ∷ []) ∙ rw e refl in
         subst (HasSlack cur slack) (sym whole)
-        (slack_same cur slack (deadlines test forward uses) _ (λ end. let a = due_append end (deadlines test forward uses) [] in omega arith) (slack_less cur (slack + 8) cur slack (deadlines test forward uses) (omega arith) h))
+        (slack_same cur slack (deadlines test kinds uses) _ (λ end. let a = due_append end (deadlines test kinds uses) [] in omega arith) (slack_less cur (slack + 8) cur slack (deadlines test kinds uses) (omega arith) h))
 
 -- ---- what is put from here on
 
@@ -297,28 +298,28 @@ none_from_due (d ∷ ds) h = on (nat_le d d) refl (h d)
     on false e z = let p = leb-false _ _ e in absurd (omega arith)
 
 -- a use that did not wait is changed, and waits not
-pub deadlines_set_idle : {L : Type 0} (test : Use L → Bool) (forward : L → ℕ) (uses : List (Use L)) (i : ℕ) (u v : Use L) → slice_get uses i ≡ Some u → test u ≡ false → test v ≡ false → deadlines test forward (set uses i v) ≡ deadlines test forward uses
-deadlines_set_idle test forward [] i u v h tu tv = refl
-deadlines_set_idle test forward (w ∷ uses) zero u v h tu tv =
+pub deadlines_set_idle : {L : Type 0} (test : Use L → Bool) (kinds : Kinds L) (uses : List (Use L)) (i : ℕ) (u v : Use L) → slice_get uses i ≡ Some u → test u ≡ false → test v ≡ false → deadlines test kinds (set uses i v) ≡ deadlines test kinds uses
+deadlines_set_idle test kinds [] i u v h tu tv = refl
+deadlines_set_idle test kinds (w ∷ uses) zero u v h tu tv =
     let idle : test w ≡ false = ap test (same_Some _ _ h) ∙ tu in
     rw (tv, idle) refl
-deadlines_set_idle test forward (w ∷ uses) (suc i) u v h tu tv = on (test w) (deadlines_set_idle test forward uses i u v h tu tv)
+deadlines_set_idle test kinds (w ∷ uses) (suc i) u v h tu tv = on (test w) (deadlines_set_idle test kinds uses i u v h tu tv)
   where
-    on : (c : Bool) → deadlines test forward (set uses i v) ≡ deadlines test forward uses → cond c (deadline forward w ∷ deadlines test forward (set uses i v)) (deadlines test forward (set uses i v)) ≡ cond c (deadline forward w ∷ deadlines test forward uses) (deadlines test forward uses)
-    on true rest = ap (λ ds. deadline forward w ∷ ds) rest
+    on : (c : Bool) → deadlines test kinds (set uses i v) ≡ deadlines test kinds uses → cond c (deadline kinds w ∷ deadlines test kinds (set uses i v)) (deadlines test kinds (set uses i v)) ≡ cond c (deadline kinds w ∷ deadlines test kinds uses) (deadlines test kinds uses)
+    on true rest = ap (λ ds. deadline kinds w ∷ ds) rest
     on false rest = rest
 
-pub none_waits : {L : Type 0} (test : Use L → Bool) (forward : L → ℕ) (uses : List (Use L)) → deadlines test forward uses ≡ [] → (j : ℕ) (u : Use L) → slice_get uses j ≡ Some u → test u ≡ false
-none_waits test forward [] e j u h = absurd (cc)
-none_waits {L} test forward (w ∷ uses) e j u h = on (test w) refl e (none_waits test forward uses) j h
+pub none_waits : {L : Type 0} (test : Use L → Bool) (kinds : Kinds L) (uses : List (Use L)) → deadlines test kinds uses ≡ [] → (j : ℕ) (u : Use L) → slice_get uses j ≡ Some u → test u ≡ false
+none_waits test kinds [] e j u h = absurd (cc)
+none_waits {L} test kinds (w ∷ uses) e j u h = on (test w) refl e (none_waits test kinds uses) j h
   where
-    on : (c : Bool) → test w ≡ c → cond c (deadline forward w ∷ deadlines test forward uses) (deadlines test forward uses) ≡ [] → (deadlines test forward uses ≡ [] → (k : ℕ) (x : Use L) → slice_get uses k ≡ Some x → test x ≡ false) → (k : ℕ) → slice_get (w ∷ uses) k ≡ Some u → test u ≡ false
+    on : (c : Bool) → test w ≡ c → cond c (deadline kinds w ∷ deadlines test kinds uses) (deadlines test kinds uses) ≡ [] → (deadlines test kinds uses ≡ [] → (k : ℕ) (x : Use L) → slice_get uses k ≡ Some x → test x ≡ false) → (k : ℕ) → slice_get (w ∷ uses) k ≡ Some u → test u ≡ false
     on true t e rest k h = absurd (cc)
     on false t e rest zero h = ap test (sym (same_Some _ _ h)) ∙ t
     on false t e rest (suc k) h = rest e k u h
 
-pub none_from : {L : Type 0} (test : Use L → Bool) (forward : L → ℕ) (uses : List (Use L)) → ((j : ℕ) (u : Use L) → slice_get uses j ≡ Some u → test u ≡ false) → deadlines test forward uses ≡ []
-none_from test forward [] h = refl
-none_from test forward (w ∷ uses) h =
+pub none_from : {L : Type 0} (test : Use L → Bool) (kinds : Kinds L) (uses : List (Use L)) → ((j : ℕ) (u : Use L) → slice_get uses j ≡ Some u → test u ≡ false) → deadlines test kinds uses ≡ []
+none_from test kinds [] h = refl
+none_from test kinds (w ∷ uses) h =
     let idle : test w ≡ false = h 0 w refl in
-    rw idle (none_from test forward uses (λ j u e. h (suc j) u e))
+    rw idle (none_from test kinds uses (λ j u e. h (suc j) u e))

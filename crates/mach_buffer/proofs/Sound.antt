@@ -2,7 +2,7 @@
 use Rattle.std.proofs.Common.{◌≡◌, ◌≢◌, ℕ, ◌+◌, ◌%◌, ◌^◌, ◌≤◌, Bool, List, [], ◌∷◌, ◌++◌, length, Option, Some, None, refl, ap, sym, ◌∙◌, subst, arith}
 use Rattle.std.specs.Prelude.{slice_get}
 use Rattle.std.proofs.lemmas.List.{length-append}
-use Rattle.rv_base.specs.LabelUse.{Veneer}
+use Rattle.rv_base.specs.LabelUse.{Kinds, Veneer}
 use Rattle.mach_buffer.specs.declared.uses.Use.{Use}
 use Rattle.mach_buffer.specs.declared.uses.VeneerUse.{VeneerUse}
 use Rattle.mach_buffer.specs.declared.uses.Turn.{Turn}
@@ -23,9 +23,9 @@ no_item {X} {xs} e k x h = on xs e h
     on (y ∷ ys) e h = absurd (cc)
 
 -- nothing yet
-pub sound_none : {L : Type 0} (has_veneer : L → Bool) (forward backward : L → ℕ) (veneer : L → Veneer L) {bytes : List ℕ} {uses : List (Use L)} {veneers : List (VeneerUse L)} {turns : List (Turn × Use L)} {place : ℕ → Option ℕ} {drawn : ℕ} →
-    bytes ≡ [] → uses ≡ [] → veneers ≡ [] → turns ≡ [] → ((label : ℕ) → place label ≡ None) → AreSound has_veneer forward backward veneer bytes uses veneers turns place drawn
-sound_none {L} has_veneer forward backward veneer {bytes} {uses} {veneers} {turns} {place} {drawn} eb eu ev et none = record {
+pub sound_none : {L : Type 0} (kinds : Kinds L) {bytes : List ℕ} {uses : List (Use L)} {veneers : List (VeneerUse L)} {turns : List (Turn × Use L)} {place : ℕ → Option ℕ} {drawn : ℕ} →
+    bytes ≡ [] → uses ≡ [] → veneers ≡ [] → turns ≡ [] → ((label : ℕ) → place label ≡ None) → AreSound kinds bytes uses veneers turns place drawn
+sound_none {L} kinds {bytes} {uses} {veneers} {turns} {place} {drawn} eb eu ev et none = record {
   linked = record {
     each = λ j u at h e. absurd (no_item eu j u h);
     near = λ j u at h e. absurd (no_item eu j u h);
@@ -46,10 +46,10 @@ sound_none {L} has_veneer forward backward veneer {bytes} {uses} {veneers} {turn
     unbound (Some x) at e h = absurd (cc)
 
 -- bytes that are added
-pub sound_bytes : {L : Type 0} {has_veneer : L → Bool} {forward backward : L → ℕ} {veneer : L → Veneer L} {bytes : List ℕ} {uses : List (Use L)} {veneers : List (VeneerUse L)} {turns : List (Turn × Use L)} {place : ℕ → Option ℕ} {drawn : ℕ} →
-    AreSound has_veneer forward backward veneer bytes uses veneers turns place drawn → (more new_bytes : List ℕ) → new_bytes ≡ bytes ++ more → length more % 2 ≡ 0 →
-    AreSound has_veneer forward backward veneer new_bytes uses veneers turns place drawn
-sound_bytes {L} {has_veneer} {forward} {backward} {veneer} {bytes} s more new_bytes eb even =
+pub sound_bytes : {L : Type 0} {kinds : Kinds L} {bytes : List ℕ} {uses : List (Use L)} {veneers : List (VeneerUse L)} {turns : List (Turn × Use L)} {place : ℕ → Option ℕ} {drawn : ℕ} →
+    AreSound kinds bytes uses veneers turns place drawn → (more new_bytes : List ℕ) → new_bytes ≡ bytes ++ more → length more % 2 ≡ 0 →
+    AreSound kinds new_bytes uses veneers turns place drawn
+sound_bytes {L} {kinds} {bytes} s more new_bytes eb even =
     let long : length new_bytes ≡ length bytes + length more = ap (length {A = ℕ}) eb ∙ length-append bytes more in
     let was = s.even in
     record {
@@ -61,8 +61,8 @@ sound_bytes {L} {has_veneer} {forward} {backward} {veneer} {bytes} s more new_by
     }
 
 -- a label is drawn
-pub sound_drawn : {L : Type 0} {has_veneer : L → Bool} {forward backward : L → ℕ} {veneer : L → Veneer L} {bytes : List ℕ} {uses : List (Use L)} {veneers : List (VeneerUse L)} {turns : List (Turn × Use L)} {place : ℕ → Option ℕ} {drawn : ℕ} →
-    AreSound has_veneer forward backward veneer bytes uses veneers turns place drawn → (new_drawn : ℕ) → drawn ≤ new_drawn → AreSound has_veneer forward backward veneer bytes uses veneers turns place new_drawn
+pub sound_drawn : {L : Type 0} {kinds : Kinds L} {bytes : List ℕ} {uses : List (Use L)} {veneers : List (VeneerUse L)} {turns : List (Turn × Use L)} {place : ℕ → Option ℕ} {drawn : ℕ} →
+    AreSound kinds bytes uses veneers turns place drawn → (new_drawn : ℕ) → drawn ≤ new_drawn → AreSound kinds bytes uses veneers turns place new_drawn
 sound_drawn s new_drawn le = record {
   linked = s.linked;
   even = s.even;
@@ -72,19 +72,19 @@ sound_drawn s new_drawn le = record {
 }
 
 -- what no bound label is
-pub unbound_new : {L : Type 0} {has_veneer : L → Bool} {forward backward : L → ℕ} {veneer : L → Veneer L} {bytes : List ℕ} {uses : List (Use L)} {veneers : List (VeneerUse L)} {turns : List (Turn × Use L)} {place : ℕ → Option ℕ} {drawn : ℕ} →
-    AreSound has_veneer forward backward veneer bytes uses veneers turns place drawn → (label : ℕ) → 2 ^ 30 + drawn ≤ label → place label ≡ None
-unbound_new {L} {has_veneer} {forward} {backward} {veneer} {bytes} {uses} {veneers} {turns} {place} {drawn} s label le = on (place label) refl
+pub unbound_new : {L : Type 0} {kinds : Kinds L} {bytes : List ℕ} {uses : List (Use L)} {veneers : List (VeneerUse L)} {turns : List (Turn × Use L)} {place : ℕ → Option ℕ} {drawn : ℕ} →
+    AreSound kinds bytes uses veneers turns place drawn → (label : ℕ) → 2 ^ 30 + drawn ≤ label → place label ≡ None
+unbound_new {L} {kinds} {bytes} {uses} {veneers} {turns} {place} {drawn} s label le = on (place label) refl
   where
     on : (o : Option ℕ) → place label ≡ o → place label ≡ None
     on None e = e
     on (Some at) e = let p = s.places label at e in let k = p.2 in absurd (omega arith)
 
 -- a label is bound at the end
-pub sound_bind : {L : Type 0} {has_veneer : L → Bool} {forward backward : L → ℕ} {veneer : L → Veneer L} {bytes : List ℕ} {uses : List (Use L)} {veneers : List (VeneerUse L)} {turns : List (Turn × Use L)} {place : ℕ → Option ℕ} {drawn : ℕ} →
-    AreSound has_veneer forward backward veneer bytes uses veneers turns place drawn → (label : ℕ) (new_place : ℕ → Option ℕ) → IsKnown label drawn → place label ≡ None → new_place label ≡ Some (length bytes) → ((other : ℕ) → other ≢ label → new_place other ≡ place other) →
-    AreSound has_veneer forward backward veneer bytes uses veneers turns new_place drawn
-sound_bind {L} {has_veneer} {forward} {backward} {veneer} {bytes} {uses} {veneers} {turns} {place} {drawn} s label new_place known none bound kept = record {
+pub sound_bind : {L : Type 0} {kinds : Kinds L} {bytes : List ℕ} {uses : List (Use L)} {veneers : List (VeneerUse L)} {turns : List (Turn × Use L)} {place : ℕ → Option ℕ} {drawn : ℕ} →
+    AreSound kinds bytes uses veneers turns place drawn → (label : ℕ) (new_place : ℕ → Option ℕ) → IsKnown label drawn → place label ≡ None → new_place label ≡ Some (length bytes) → ((other : ℕ) → other ≢ label → new_place other ≡ place other) →
+    AreSound kinds bytes uses veneers turns new_place drawn
+sound_bind {L} {kinds} {bytes} {uses} {veneers} {turns} {place} {drawn} s label new_place known none bound kept = record {
   linked = s.linked;
   even = s.even;
   places = λ other at h. ⊎_elim
@@ -95,14 +95,14 @@ sound_bind {L} {has_veneer} {forward} {backward} {veneer} {bytes} {uses} {veneer
       (λ differs. s.places other at (sym (kept other differs) ∙ h))
       (cases_eq other label);
   known = s.known;
-  waits = turns_fewer (is_pending has_veneer forward backward new_place) (bound_waits has_veneer forward backward place new_place label none kept) s.waits;
+  waits = turns_fewer (is_pending kinds new_place) (bound_waits kinds place new_place label none kept) s.waits;
 }
 
 -- a use is recorded
-pub sound_use : {L : Type 0} {has_veneer : L → Bool} {forward backward : L → ℕ} {veneer : L → Veneer L} {bytes : List ℕ} {uses : List (Use L)} {veneers : List (VeneerUse L)} {turns : List (Turn × Use L)} {place : ℕ → Option ℕ} {drawn : ℕ} →
-    AreSound has_veneer forward backward veneer bytes uses veneers turns place drawn → (u : Use L) → u.veneer ≡ None → u.offset ≤ length bytes → IsKnown u.label.number drawn → (new_uses : List (Use L)) → new_uses ≡ uses ++ u ∷ [] →
-    (new_turns : List (Turn × Use L)) → HaveTurns forward (is_pending has_veneer forward backward place) new_turns new_uses → AreSound has_veneer forward backward veneer bytes new_uses veneers new_turns place drawn
-sound_use {L} {has_veneer} {forward} {backward} {veneer} {bytes} {uses} {veneers} {turns} {place} {drawn} s u none there known new_uses eu new_turns waits = record {
+pub sound_use : {L : Type 0} {kinds : Kinds L} {bytes : List ℕ} {uses : List (Use L)} {veneers : List (VeneerUse L)} {turns : List (Turn × Use L)} {place : ℕ → Option ℕ} {drawn : ℕ} →
+    AreSound kinds bytes uses veneers turns place drawn → (u : Use L) → u.veneer ≡ None → u.offset ≤ length bytes → IsKnown u.label.number drawn → (new_uses : List (Use L)) → new_uses ≡ uses ++ u ∷ [] →
+    (new_turns : List (Turn × Use L)) → HaveTurns kinds (is_pending kinds place) new_turns new_uses → AreSound kinds bytes new_uses veneers new_turns place drawn
+sound_use {L} {kinds} {bytes} {uses} {veneers} {turns} {place} {drawn} s u none there known new_uses eu new_turns waits = record {
   linked = linked_use s.linked u none there new_uses eu;
   even = s.even;
   places = s.places;
@@ -111,11 +111,11 @@ sound_use {L} {has_veneer} {forward} {backward} {veneer} {bytes} {uses} {veneers
 }
 
 -- the same parts
-pub sound_as : {L : Type 0} {has_veneer : L → Bool} {forward backward : L → ℕ} {veneer : L → Veneer L} {bytes new_bytes : List ℕ} {uses new_uses : List (Use L)} {veneers new_veneers : List (VeneerUse L)} {turns new_turns : List (Turn × Use L)} {place new_place : ℕ → Option ℕ} {drawn new_drawn : ℕ} →
-    AreSound has_veneer forward backward veneer bytes uses veneers turns place drawn → new_bytes ≡ bytes → new_uses ≡ uses → new_veneers ≡ veneers → new_turns ≡ turns → new_place ≡ place → new_drawn ≡ drawn → AreSound has_veneer forward backward veneer new_bytes new_uses new_veneers new_turns new_place new_drawn
+pub sound_as : {L : Type 0} {kinds : Kinds L} {bytes new_bytes : List ℕ} {uses new_uses : List (Use L)} {veneers new_veneers : List (VeneerUse L)} {turns new_turns : List (Turn × Use L)} {place new_place : ℕ → Option ℕ} {drawn new_drawn : ℕ} →
+    AreSound kinds bytes uses veneers turns place drawn → new_bytes ≡ bytes → new_uses ≡ uses → new_veneers ≡ veneers → new_turns ≡ turns → new_place ≡ place → new_drawn ≡ drawn → AreSound kinds new_bytes new_uses new_veneers new_turns new_place new_drawn
 sound_as s eb eu ev et ep ed = rw (eb, eu, ev, et, ep, ed) s
 
 -- other turns
-pub sound_waits : {L : Type 0} {has_veneer : L → Bool} {forward backward : L → ℕ} {veneer : L → Veneer L} {bytes : List ℕ} {uses : List (Use L)} {veneers : List (VeneerUse L)} {turns : List (Turn × Use L)} {place : ℕ → Option ℕ} {drawn : ℕ} →
-    AreSound has_veneer forward backward veneer bytes uses veneers turns place drawn → (new_turns : List (Turn × Use L)) → HaveTurns forward (is_pending has_veneer forward backward place) new_turns uses → AreSound has_veneer forward backward veneer bytes uses veneers new_turns place drawn
+pub sound_waits : {L : Type 0} {kinds : Kinds L} {bytes : List ℕ} {uses : List (Use L)} {veneers : List (VeneerUse L)} {turns : List (Turn × Use L)} {place : ℕ → Option ℕ} {drawn : ℕ} →
+    AreSound kinds bytes uses veneers turns place drawn → (new_turns : List (Turn × Use L)) → HaveTurns kinds (is_pending kinds place) new_turns uses → AreSound kinds bytes uses veneers new_turns place drawn
 sound_waits s new_turns w = record { linked = s.linked; even = s.even; places = s.places; known = s.known; waits = w }

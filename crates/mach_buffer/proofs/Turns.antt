@@ -11,6 +11,7 @@ use Rattle.std.proofs.lemmas.Option.{same_Some, slice_get-map}
 use Rattle.std.proofs.lemmas.Bool.{true≢false, and_parts, and_from, cases_eq, eq-eqb, ne_eqb, leb-true, leb-false, ltb-true}
 use Rattle.std.proofs.lemmas.List.{length-append, map-append}
 use Rattle.std.proofs.Math.ListN.{length-set}
+use Rattle.rv_base.specs.LabelUse.{Kinds}
 use Rattle.mach_buffer.specs.declared.uses.Use.{Use}
 use Rattle.mach_buffer.specs.declared.uses.Turn.{Turn}
 use Rattle.mach_buffer.specs.Reach.{deadline, deadlines, due_by, is_sooner}
@@ -121,51 +122,51 @@ insert_each {L} P (x ∷ es) k u pk h ne i e q = on (turn_cmp k x.0) refl q (ins
         later zero r = h 0 e r
         later (suc n) r = rest n e r
 
-due_insert : {L : Type 0} (forward : L → ℕ) (some : Use L → Bool) (end : ℕ) (es : List (Turn × Use L)) (k : Turn) (u : Use L) → ((i : ℕ) (e : Turn × Use L) → slice_get es i ≡ Some e → e.0.index ≢ k.index) →
-    due_by end (deadlines some forward (users (insert_entry turn_cmp es k u))) ≡ due_by end (deadlines some forward (users es)) + due_by end (deadlines some forward (u ∷ []))
-due_insert forward some end [] k u ne = omega arith
-due_insert {L} forward some end (x ∷ es) k u ne = on (turn_cmp k x.0) refl (due_insert forward some end es k u (λ m y z. ne (suc m) y z))
+due_insert : {L : Type 0} (kinds : Kinds L) (some : Use L → Bool) (end : ℕ) (es : List (Turn × Use L)) (k : Turn) (u : Use L) → ((i : ℕ) (e : Turn × Use L) → slice_get es i ≡ Some e → e.0.index ≢ k.index) →
+    due_by end (deadlines some kinds (users (insert_entry turn_cmp es k u))) ≡ due_by end (deadlines some kinds (users es)) + due_by end (deadlines some kinds (u ∷ []))
+due_insert kinds some end [] k u ne = omega arith
+due_insert {L} kinds some end (x ∷ es) k u ne = on (turn_cmp k x.0) refl (due_insert kinds some end es k u (λ m y z. ne (suc m) y z))
   where
-    front : (y : Use L) (ys : List (Use L)) → due_by end (deadlines some forward (y ∷ ys)) ≡ due_by end (deadlines some forward (y ∷ [])) + due_by end (deadlines some forward ys)
-    front y ys = ap (due_by end) (deadlines_append some forward (y ∷ []) ys) ∙ due_append end (deadlines some forward (y ∷ [])) (deadlines some forward ys)
+    front : (y : Use L) (ys : List (Use L)) → due_by end (deadlines some kinds (y ∷ ys)) ≡ due_by end (deadlines some kinds (y ∷ [])) + due_by end (deadlines some kinds ys)
+    front y ys = ap (due_by end) (deadlines_append some kinds (y ∷ []) ys) ∙ due_append end (deadlines some kinds (y ∷ [])) (deadlines some kinds ys)
 
-    on : (o : Ordering) → turn_cmp k x.0 ≡ o → due_by end (deadlines some forward (users (insert_entry turn_cmp es k u))) ≡ due_by end (deadlines some forward (users es)) + due_by end (deadlines some forward (u ∷ [])) →
-        due_by end (deadlines some forward (users (match_ordering o ((k, u) ∷ x ∷ es) ((x.0, u) ∷ es) (x ∷ insert_entry turn_cmp es k u)))) ≡ due_by end (deadlines some forward (x.1 ∷ users es)) + due_by end (deadlines some forward (u ∷ []))
+    on : (o : Ordering) → turn_cmp k x.0 ≡ o → due_by end (deadlines some kinds (users (insert_entry turn_cmp es k u))) ≡ due_by end (deadlines some kinds (users es)) + due_by end (deadlines some kinds (u ∷ [])) →
+        due_by end (deadlines some kinds (users (match_ordering o ((k, u) ∷ x ∷ es) ((x.0, u) ∷ es) (x ∷ insert_entry turn_cmp es k u)))) ≡ due_by end (deadlines some kinds (x.1 ∷ users es)) + due_by end (deadlines some kinds (u ∷ []))
     on Equal c rest = absurd (ne 0 x refl (sym (same_index k x.0 c)))
     on Less c rest = let a = front u (x.1 ∷ users es) in omega arith
     on Greater c rest = let a = front x.1 (users (insert_entry turn_cmp es k u)) in let b = front x.1 (users es) in omega arith
 
 -- a use is recorded, with its turn
-pub turns_add : {L : Type 0} {forward : L → ℕ} {test : Use L → Bool} {turns : List (Turn × Use L)} {uses : List (Use L)} → HaveTurns forward test turns uses → (k : Turn) (u : Use L) → k.deadline ≡ deadline forward u → k.offset ≡ u.offset → k.index ≡ length uses →
-    (new_turns : List (Turn × Use L)) (new_uses : List (Use L)) → new_turns ≡ insert_entry turn_cmp turns k u → new_uses ≡ uses ++ u ∷ [] → HaveTurns forward test new_turns new_uses
-turns_add {L} {forward} {test} {turns} {uses} h k u kd ko ki new_turns new_uses et eu = rw (et, eu) (record {
-  each = insert_each (λ e. test e.1 ≡ true → IsTurn forward (uses ++ u ∷ []) e.0 e.1) turns k u
+pub turns_add : {L : Type 0} {kinds : Kinds L} {test : Use L → Bool} {turns : List (Turn × Use L)} {uses : List (Use L)} → HaveTurns kinds test turns uses → (k : Turn) (u : Use L) → k.deadline ≡ deadline kinds u → k.offset ≡ u.offset → k.index ≡ length uses →
+    (new_turns : List (Turn × Use L)) (new_uses : List (Use L)) → new_turns ≡ insert_entry turn_cmp turns k u → new_uses ≡ uses ++ u ∷ [] → HaveTurns kinds test new_turns new_uses
+turns_add {L} {kinds} {test} {turns} {uses} h k u kd ko ki new_turns new_uses et eu = rw (et, eu) (record {
+  each = insert_each (λ e. test e.1 ≡ true → IsTurn kinds (uses ++ u ∷ []) e.0 e.1) turns k u
       (λ t. record { there = ap (slice_get (uses ++ u ∷ [])) ki ∙ slice_get-append_last uses u; deadline = kd; offset = ko })
       (λ i e q t. more (h.each i e q t)) apart;
   low = insert_each (λ e. e.0.index < length (uses ++ u ∷ [])) turns k u (omega (arith, length-append uses (u ∷ []))) (λ i e q. let l = h.low i e q in omega (arith, length-append uses (u ∷ []))) apart;
   counts = λ some sub end.
-      let a = due_insert forward some end turns k u apart in
+      let a = due_insert kinds some end turns k u apart in
       let b = h.counts some sub end in
-      let c : due_by end (deadlines some forward (uses ++ u ∷ [])) ≡ due_by end (deadlines some forward uses) + due_by end (deadlines some forward (u ∷ [])) = ap (due_by end) (deadlines_append some forward uses (u ∷ [])) ∙ due_append end _ _ in
+      let c : due_by end (deadlines some kinds (uses ++ u ∷ [])) ≡ due_by end (deadlines some kinds uses) + due_by end (deadlines some kinds (u ∷ [])) = ap (due_by end) (deadlines_append some kinds uses (u ∷ [])) ∙ due_append end _ _ in
       omega arith;
 })
   where
     apart : (i : ℕ) (e : Turn × Use L) → slice_get turns i ≡ Some e → e.0.index ≢ k.index
     apart i e q same = let l = h.low i e q in absurd (omega arith)
 
-    more : {t : Turn} {v : Use L} → IsTurn forward uses t v → IsTurn forward (uses ++ u ∷ []) t v
+    more : {t : Turn} {v : Use L} → IsTurn kinds uses t v → IsTurn kinds (uses ++ u ∷ []) t v
     more {t} {v} s = record { there = slice_get-append uses (u ∷ []) t.index v s.there; deadline = s.deadline; offset = s.offset }
 
 -- a use that does not wait is recorded
-pub turns_skip : {L : Type 0} {forward : L → ℕ} {test : Use L → Bool} {turns : List (Turn × Use L)} {uses : List (Use L)} → HaveTurns forward test turns uses → (u : Use L) → test u ≡ false → (new_uses : List (Use L)) → new_uses ≡ uses ++ u ∷ [] → HaveTurns forward test turns new_uses
-turns_skip {L} {forward} {test} {turns} {uses} h u idle new_uses eu = rw eu (record {
+pub turns_skip : {L : Type 0} {kinds : Kinds L} {test : Use L → Bool} {turns : List (Turn × Use L)} {uses : List (Use L)} → HaveTurns kinds test turns uses → (u : Use L) → test u ≡ false → (new_uses : List (Use L)) → new_uses ≡ uses ++ u ∷ [] → HaveTurns kinds test turns new_uses
+turns_skip {L} {kinds} {test} {turns} {uses} h u idle new_uses eu = rw eu (record {
   each = λ i e q t. let s = h.each i e q t in record { there = slice_get-append uses (u ∷ []) e.0.index e.1 s.there; deadline = s.deadline; offset = s.offset };
   low = λ i e q. let l = h.low i e q in omega (arith, length-append uses (u ∷ []));
   counts = λ some sub end.
       let none : some u ≡ false = off some (some u) refl (sub u) in
       let b = h.counts some sub end in
-      let c : due_by end (deadlines some forward (uses ++ u ∷ [])) ≡ due_by end (deadlines some forward uses) + due_by end (deadlines some forward (u ∷ [])) = ap (due_by end) (deadlines_append some forward uses (u ∷ [])) ∙ due_append end _ _ in
-      let d : due_by end (deadlines some forward (u ∷ [])) ≡ 0 = ap (λ b. due_by end (cond b (deadline forward u ∷ []) [])) none in
+      let c : due_by end (deadlines some kinds (uses ++ u ∷ [])) ≡ due_by end (deadlines some kinds uses) + due_by end (deadlines some kinds (u ∷ [])) = ap (due_by end) (deadlines_append some kinds uses (u ∷ [])) ∙ due_append end _ _ in
+      let d : due_by end (deadlines some kinds (u ∷ [])) ≡ 0 = ap (λ b. due_by end (cond b (deadline kinds u ∷ []) [])) none in
       omega arith;
 })
   where
@@ -174,27 +175,27 @@ turns_skip {L} {forward} {test} {turns} {uses} h u idle new_uses eu = rw eu (rec
     off some false e i = e
 
 -- fewer uses wait
-pub turns_fewer : {L : Type 0} {forward : L → ℕ} {test : Use L → Bool} {turns : List (Turn × Use L)} {uses : List (Use L)} (less : Use L → Bool) → ((u : Use L) → less u ≡ true → test u ≡ true) → HaveTurns forward test turns uses → HaveTurns forward less turns uses
+pub turns_fewer : {L : Type 0} {kinds : Kinds L} {test : Use L → Bool} {turns : List (Turn × Use L)} {uses : List (Use L)} (less : Use L → Bool) → ((u : Use L) → less u ≡ true → test u ≡ true) → HaveTurns kinds test turns uses → HaveTurns kinds less turns uses
 turns_fewer less sub h = record { each = λ i e q t. h.each i e q (sub e.1 t); low = h.low; counts = λ some part end. h.counts some (λ u t. sub u (part u t)) end }
 
 -- no turn is left
-pub turns_end : {L : Type 0} {forward : L → ℕ} {test : Use L → Bool} {turns : List (Turn × Use L)} {uses : List (Use L)} → HaveTurns forward test turns uses → turns ≡ [] → deadlines test forward uses ≡ []
-turns_end {L} {forward} {test} {turns} {uses} h e = none_from_due (deadlines test forward uses) (λ end. sym (h.counts test (λ u t. t) end) ∙ ap (λ ts. due_by end (deadlines test forward (users ts))) e)
+pub turns_end : {L : Type 0} {kinds : Kinds L} {test : Use L → Bool} {turns : List (Turn × Use L)} {uses : List (Use L)} → HaveTurns kinds test turns uses → turns ≡ [] → deadlines test kinds uses ≡ []
+turns_end {L} {kinds} {test} {turns} {uses} h e = none_from_due (deadlines test kinds uses) (λ end. sym (h.counts test (λ u t. t) end) ∙ ap (λ ts. due_by end (deadlines test kinds (users ts))) e)
 
-fewest : {L : Type 0} (forward : L → ℕ) (test some : Use L → Bool) → ((u : Use L) → some u ≡ true → test u ≡ true) → (end : ℕ) (us : List (Use L)) → deadlines test forward us ≡ [] → due_by end (deadlines some forward us) ≡ 0
-fewest forward test some sub end [] n = refl
-fewest {L} forward test some sub end (u ∷ us) n = on (some u) (test u) refl refl n (fewest forward test some sub end us)
+fewest : {L : Type 0} (kinds : Kinds L) (test some : Use L → Bool) → ((u : Use L) → some u ≡ true → test u ≡ true) → (end : ℕ) (us : List (Use L)) → deadlines test kinds us ≡ [] → due_by end (deadlines some kinds us) ≡ 0
+fewest kinds test some sub end [] n = refl
+fewest {L} kinds test some sub end (u ∷ us) n = on (some u) (test u) refl refl n (fewest kinds test some sub end us)
   where
-    on : (a b : Bool) → some u ≡ a → test u ≡ b → cond b (deadline forward u ∷ deadlines test forward us) (deadlines test forward us) ≡ [] → (deadlines test forward us ≡ [] → due_by end (deadlines some forward us) ≡ 0) →
-        due_by end (cond a (deadline forward u ∷ deadlines some forward us) (deadlines some forward us)) ≡ 0
+    on : (a b : Bool) → some u ≡ a → test u ≡ b → cond b (deadline kinds u ∷ deadlines test kinds us) (deadlines test kinds us) ≡ [] → (deadlines test kinds us ≡ [] → due_by end (deadlines some kinds us) ≡ 0) →
+        due_by end (cond a (deadline kinds u ∷ deadlines some kinds us) (deadlines some kinds us)) ≡ 0
     on true true ea eb z rest = absurd (cc)
     on true false ea eb z rest = absurd (true≢false (sym (sub u ea) ∙ eb))
     on false true ea eb z rest = absurd (cc)
     on false false ea eb z rest = rest z
 
 -- where nothing waits, no turn is needed
-pub turns_none : {L : Type 0} {forward : L → ℕ} {test : Use L → Bool} {uses : List (Use L)} → deadlines test forward uses ≡ [] → HaveTurns forward test [] uses
-turns_none {L} {forward} {test} {uses} none = record { each = λ i e q t. absurd (nothing i e [] refl q); low = λ i e q. absurd (nothing i e [] refl q); counts = λ some sub end. sym (fewest forward test some sub end uses none) }
+pub turns_none : {L : Type 0} {kinds : Kinds L} {test : Use L → Bool} {uses : List (Use L)} → deadlines test kinds uses ≡ [] → HaveTurns kinds test [] uses
+turns_none {L} {kinds} {test} {uses} none = record { each = λ i e q t. absurd (nothing i e [] refl q); low = λ i e q. absurd (nothing i e [] refl q); counts = λ some sub end. sym (fewest kinds test some sub end uses none) }
   where
     nothing : (i : ℕ) (e : Turn × Use L) (es : List (Turn × Use L)) → es ≡ [] → slice_get es i ≡ Some e → ⊥
     nothing i e [] z q = absurd (cc)
@@ -203,26 +204,26 @@ turns_none {L} {forward} {test} {uses} none = record { each = λ i e q t. absurd
 -- ---- the first turn
 
 -- it is passed over
-pub turns_pass : {L : Type 0} {forward : L → ℕ} {test : Use L → Bool} {e : Turn × Use L} {rest turns : List (Turn × Use L)} {uses : List (Use L)} → HaveTurns forward test turns uses → turns ≡ e ∷ rest → test e.1 ≡ false → HaveTurns forward test rest uses
-turns_pass {L} {forward} {test} {e} {rest} {turns} {uses} g et idle = let h = subst (λ ts. HaveTurns forward test ts uses) et g in record {
+pub turns_pass : {L : Type 0} {kinds : Kinds L} {test : Use L → Bool} {e : Turn × Use L} {rest turns : List (Turn × Use L)} {uses : List (Use L)} → HaveTurns kinds test turns uses → turns ≡ e ∷ rest → test e.1 ≡ false → HaveTurns kinds test rest uses
+turns_pass {L} {kinds} {test} {e} {rest} {turns} {uses} g et idle = let h = subst (λ ts. HaveTurns kinds test ts uses) et g in record {
   each = λ i x q t. h.each (suc i) x q t;
   low = λ i x q. h.low (suc i) x q;
   counts = λ some sub end. off some (some e.1) refl (sub e.1) end (h.counts some sub end);
 }
   where
-    off : (some : Use L → Bool) (b : Bool) → some e.1 ≡ b → (some e.1 ≡ true → test e.1 ≡ true) → (end : ℕ) → due_by end (deadlines some forward (e.1 ∷ users rest)) ≡ due_by end (deadlines some forward uses) → due_by end (deadlines some forward (users rest)) ≡ due_by end (deadlines some forward uses)
+    off : (some : Use L → Bool) (b : Bool) → some e.1 ≡ b → (some e.1 ≡ true → test e.1 ≡ true) → (end : ℕ) → due_by end (deadlines some kinds (e.1 ∷ users rest)) ≡ due_by end (deadlines some kinds uses) → due_by end (deadlines some kinds (users rest)) ≡ due_by end (deadlines some kinds uses)
     off some true q i end c = absurd (true≢false (sym (i q) ∙ idle))
-    off some false q i end c = sym (ap (λ b. due_by end (cond b (deadline forward e.1 ∷ deadlines some forward (users rest)) (deadlines some forward (users rest)))) q) ∙ c
+    off some false q i end c = sym (ap (λ b. due_by end (cond b (deadline kinds e.1 ∷ deadlines some kinds (users rest)) (deadlines some kinds (users rest)))) q) ∙ c
 
 -- a use that does not wait is changed, and waits not
-pub turns_idle : {L : Type 0} {forward : L → ℕ} {test : Use L → Bool} {turns : List (Turn × Use L)} {uses : List (Use L)} → HaveTurns forward test turns uses → (i : ℕ) (u v : Use L) → slice_get uses i ≡ Some u → test u ≡ false → test v ≡ false → (new_uses : List (Use L)) → new_uses ≡ set uses i v → HaveTurns forward test turns new_uses
-turns_idle {L} {forward} {test} {turns} {uses} h i u v hu tu tv new_uses eu = rw eu (record {
+pub turns_idle : {L : Type 0} {kinds : Kinds L} {test : Use L → Bool} {turns : List (Turn × Use L)} {uses : List (Use L)} → HaveTurns kinds test turns uses → (i : ℕ) (u v : Use L) → slice_get uses i ≡ Some u → test u ≡ false → test v ≡ false → (new_uses : List (Use L)) → new_uses ≡ set uses i v → HaveTurns kinds test turns new_uses
+turns_idle {L} {kinds} {test} {turns} {uses} h i u v hu tu tv new_uses eu = rw eu (record {
   each = λ k e q t.
       let s = h.each k e q t in
       let other : e.0.index ≢ i = λ same. true≢false (sym t ∙ ap test (same_Some _ _ (sym s.there ∙ ap (slice_get uses) same ∙ hu)) ∙ tu) in
       record { there = slice_get-set_other uses i e.0.index v other ∙ s.there; deadline = s.deadline; offset = s.offset };
   low = λ k e q. let l = h.low k e q in omega (arith, length-set uses i v);
-  counts = λ some sub end. h.counts some sub end ∙ sym (ap (due_by end) (deadlines_set_idle some forward uses i u v hu (off some u tu sub) (off some v tv sub)));
+  counts = λ some sub end. h.counts some sub end ∙ sym (ap (due_by end) (deadlines_set_idle some kinds uses i u v hu (off some u tu sub) (off some v tv sub)));
 })
   where
     off : (some : Use L → Bool) (w : Use L) → test w ≡ false → ((x : Use L) → some x ≡ true → test x ≡ true) → some w ≡ false
@@ -233,9 +234,9 @@ turns_idle {L} {forward} {test} {turns} {uses} h i u v hu tu tv new_uses eu = rw
         on false e = e
 
 -- it is taken: its use is changed, and waits no longer
-pub turns_take : {L : Type 0} {forward : L → ℕ} {test : Use L → Bool} {e : Turn × Use L} {rest turns : List (Turn × Use L)} {uses : List (Use L)} → HaveTurns forward test turns uses → turns ≡ e ∷ rest → test e.1 ≡ true → AllLater e.0 rest → (v : Use L) → test v ≡ false →
-    (new_uses : List (Use L)) → new_uses ≡ set uses e.0.index v → HaveTurns forward test rest new_uses
-turns_take {L} {forward} {test} {e} {rest} {turns} {uses} g et waits later v tv new_uses eu = let h = subst (λ ts. HaveTurns forward test ts uses) et g in let own = h.each 0 e refl waits in rw eu (record {
+pub turns_take : {L : Type 0} {kinds : Kinds L} {test : Use L → Bool} {e : Turn × Use L} {rest turns : List (Turn × Use L)} {uses : List (Use L)} → HaveTurns kinds test turns uses → turns ≡ e ∷ rest → test e.1 ≡ true → AllLater e.0 rest → (v : Use L) → test v ≡ false →
+    (new_uses : List (Use L)) → new_uses ≡ set uses e.0.index v → HaveTurns kinds test rest new_uses
+turns_take {L} {kinds} {test} {e} {rest} {turns} {uses} g et waits later v tv new_uses eu = let h = subst (λ ts. HaveTurns kinds test ts uses) et g in let own = h.each 0 e refl waits in rw eu (record {
   each = λ k x q t.
       let s = h.each (suc k) x q t in
       let other : x.0.index ≢ e.0.index = λ same. clash (later k x q) same s own in
@@ -244,10 +245,10 @@ turns_take {L} {forward} {test} {e} {rest} {turns} {uses} g et waits later v tv 
   counts = λ some sub end. on some sub end (some e.1) refl own.there (h.counts some sub end);
 })
   where
-    clash : {x : Turn × Use L} → Later e.0 x.0 → x.0.index ≡ e.0.index → IsTurn forward uses x.0 x.1 → IsTurn forward uses e.0 e.1 → ⊥
+    clash : {x : Turn × Use L} → Later e.0 x.0 → x.0.index ≡ e.0.index → IsTurn kinds uses x.0 x.1 → IsTurn kinds uses e.0 e.1 → ⊥
     clash {x} l same s own =
         let u : x.1 ≡ e.1 = same_Some _ _ (sym s.there ∙ ap (slice_get uses) same ∙ own.there) in
-        let d : x.0.deadline ≡ e.0.deadline = s.deadline ∙ ap (deadline forward) u ∙ sym own.deadline in
+        let d : x.0.deadline ≡ e.0.deadline = s.deadline ∙ ap (deadline kinds) u ∙ sym own.deadline in
         let o : x.0.offset ≡ e.0.offset = s.offset ∙ ap (λ (w : Use L). w.offset) u ∙ sym own.offset in
         no l same d o
       where
@@ -263,51 +264,51 @@ turns_take {L} {forward} {test} {e} {rest} {turns} {uses} g et waits later v tv 
         go true q = absurd (true≢false (sym (sub w q) ∙ idle))
         go false q = q
 
-    on : (some : Use L → Bool) → ((x : Use L) → some x ≡ true → test x ≡ true) → (end : ℕ) (b : Bool) → some e.1 ≡ b → slice_get uses e.0.index ≡ Some e.1 → due_by end (deadlines some forward (e.1 ∷ users rest)) ≡ due_by end (deadlines some forward uses) →
-        due_by end (deadlines some forward (users rest)) ≡ due_by end (deadlines some forward (set uses e.0.index v))
+    on : (some : Use L → Bool) → ((x : Use L) → some x ≡ true → test x ≡ true) → (end : ℕ) (b : Bool) → some e.1 ≡ b → slice_get uses e.0.index ≡ Some e.1 → due_by end (deadlines some kinds (e.1 ∷ users rest)) ≡ due_by end (deadlines some kinds uses) →
+        due_by end (deadlines some kinds (users rest)) ≡ due_by end (deadlines some kinds (set uses e.0.index v))
     on some sub end true q there c =
-        let a = due_set some forward end uses e.0.index e.1 v there q (off some v tv sub) in
-        let f : due_by end (deadlines some forward (e.1 ∷ users rest)) ≡ due_by end (deadline forward e.1 ∷ []) + due_by end (deadlines some forward (users rest)) =
-        ap (λ b. due_by end (cond b (deadline forward e.1 ∷ deadlines some forward (users rest)) (deadlines some forward (users rest)))) q ∙ due_append end (deadline forward e.1 ∷ []) (deadlines some forward (users rest)) in
+        let a = due_set some kinds end uses e.0.index e.1 v there q (off some v tv sub) in
+        let f : due_by end (deadlines some kinds (e.1 ∷ users rest)) ≡ due_by end (deadline kinds e.1 ∷ []) + due_by end (deadlines some kinds (users rest)) =
+        ap (λ b. due_by end (cond b (deadline kinds e.1 ∷ deadlines some kinds (users rest)) (deadlines some kinds (users rest)))) q ∙ due_append end (deadline kinds e.1 ∷ []) (deadlines some kinds (users rest)) in
         omega arith
     on some sub end false q there c =
-        sym (ap (λ b. due_by end (cond b (deadline forward e.1 ∷ deadlines some forward (users rest)) (deadlines some forward (users rest)))) q) ∙ c ∙ sym (ap (due_by end) (deadlines_set_idle some forward uses e.0.index e.1 v there q (off some v tv sub)))
+        sym (ap (λ b. due_by end (cond b (deadline kinds e.1 ∷ deadlines some kinds (users rest)) (deadlines some kinds (users rest)))) q) ∙ c ∙ sym (ap (due_by end) (deadlines_set_idle some kinds uses e.0.index e.1 v there q (off some v tv sub)))
 
 -- ---- nothing is sooner
 
-pub record Found {L : Type 0} (forward : L → ℕ) (some : Use L → Bool) (es : List (Turn × Use L)) (end : ℕ) : Type 0 where
+pub record Found {L : Type 0} (kinds : Kinds L) (some : Use L → Bool) (es : List (Turn × Use L)) (end : ℕ) : Type 0 where
   pub place : ℕ
   pub entry : Turn × Use L
   pub there : slice_get es place ≡ Some entry
   pub yes_some : some entry.1 ≡ true
-  pub due : deadline forward entry.1 ≤ end
+  pub due : deadline kinds entry.1 ≤ end
 
-find_due : {L : Type 0} (forward : L → ℕ) (some : Use L → Bool) (es : List (Turn × Use L)) (end : ℕ) → 1 ≤ due_by end (deadlines some forward (users es)) → Found forward some es end
-find_due forward some [] end one = absurd (omega arith)
-find_due {L} forward some (e ∷ es) end one = on (some e.1) (nat_le (deadline forward e.1) end) refl refl one (find_due forward some es end)
+find_due : {L : Type 0} (kinds : Kinds L) (some : Use L → Bool) (es : List (Turn × Use L)) (end : ℕ) → 1 ≤ due_by end (deadlines some kinds (users es)) → Found kinds some es end
+find_due kinds some [] end one = absurd (omega arith)
+find_due {L} kinds some (e ∷ es) end one = on (some e.1) (nat_le (deadline kinds e.1) end) refl refl one (find_due kinds some es end)
   where
-    further : Found forward some es end → Found forward some (e ∷ es) end
+    further : Found kinds some es end → Found kinds some (e ∷ es) end
     further f = record { place = suc f.place; entry = f.entry; there = f.there; yes_some = f.yes_some; due = f.due }
 
-    on : (a b : Bool) → some e.1 ≡ a → nat_le (deadline forward e.1) end ≡ b → 1 ≤ due_by end (cond a (deadline forward e.1 ∷ deadlines some forward (users es)) (deadlines some forward (users es))) → (1 ≤ due_by end (deadlines some forward (users es)) → Found forward some es end) → Found forward some (e ∷ es) end
+    on : (a b : Bool) → some e.1 ≡ a → nat_le (deadline kinds e.1) end ≡ b → 1 ≤ due_by end (cond a (deadline kinds e.1 ∷ deadlines some kinds (users es)) (deadlines some kinds (users es))) → (1 ≤ due_by end (deadlines some kinds (users es)) → Found kinds some es end) → Found kinds some (e ∷ es) end
     on true true ha hb o rest = record { place = 0; entry = e; there = refl; yes_some = ha; due = leb-true _ _ hb }
-    on true false ha hb o rest = further (rest (subst (λ b. 1 ≤ cond b (suc (due_by end (deadlines some forward (users es)))) (due_by end (deadlines some forward (users es)))) hb o))
+    on true false ha hb o rest = further (rest (subst (λ b. 1 ≤ cond b (suc (due_by end (deadlines some kinds (users es)))) (due_by end (deadlines some kinds (users es)))) hb o))
     on false b ha hb o rest = further (rest o)
 
-member_due : {L : Type 0} (forward : L → ℕ) (some : Use L → Bool) (uses : List (Use L)) (k : ℕ) (v : Use L) → slice_get uses k ≡ Some v → some v ≡ true → 1 ≤ due_by (deadline forward v) (deadlines some forward uses)
-member_due forward some [] k v h t = absurd (cc)
-member_due forward some (u ∷ uses) zero v h t =
+member_due : {L : Type 0} (kinds : Kinds L) (some : Use L → Bool) (uses : List (Use L)) (k : ℕ) (v : Use L) → slice_get uses k ≡ Some v → some v ≡ true → 1 ≤ due_by (deadline kinds v) (deadlines some kinds uses)
+member_due kinds some [] k v h t = absurd (cc)
+member_due kinds some (u ∷ uses) zero v h t =
     let same : u ≡ v = same_Some _ _ h in
-    subst (λ w. 1 ≤ due_by (deadline forward v) (deadlines some forward (w ∷ uses))) (sym same) (subst (λ b. 1 ≤ due_by (deadline forward v) (cond b (deadline forward v ∷ deadlines some forward uses) (deadlines some forward uses))) (sym t) (own (nat_le (deadline forward v) (deadline forward v)) refl))
+    subst (λ w. 1 ≤ due_by (deadline kinds v) (deadlines some kinds (w ∷ uses))) (sym same) (subst (λ b. 1 ≤ due_by (deadline kinds v) (cond b (deadline kinds v ∷ deadlines some kinds uses) (deadlines some kinds uses))) (sym t) (own (nat_le (deadline kinds v) (deadline kinds v)) refl))
   where
-    own : (c : Bool) → nat_le (deadline forward v) (deadline forward v) ≡ c → 1 ≤ cond c (suc (due_by (deadline forward v) (deadlines some forward uses))) (due_by (deadline forward v) (deadlines some forward uses))
+    own : (c : Bool) → nat_le (deadline kinds v) (deadline kinds v) ≡ c → 1 ≤ cond c (suc (due_by (deadline kinds v) (deadlines some kinds uses))) (due_by (deadline kinds v) (deadlines some kinds uses))
     own true e = omega arith
     own false e = let p = leb-false _ _ e in absurd (omega arith)
-member_due forward some (u ∷ uses) (suc k) v h t = on (some u) (nat_le (deadline forward u) (deadline forward v)) refl (member_due forward some uses k v h t)
+member_due kinds some (u ∷ uses) (suc k) v h t = on (some u) (nat_le (deadline kinds u) (deadline kinds v)) refl (member_due kinds some uses k v h t)
   where
-    on : (a b : Bool) → nat_le (deadline forward u) (deadline forward v) ≡ b → 1 ≤ due_by (deadline forward v) (deadlines some forward uses) → 1 ≤ due_by (deadline forward v) (cond a (deadline forward u ∷ deadlines some forward uses) (deadlines some forward uses))
-    on true true e one = subst (λ c. 1 ≤ cond c (suc (due_by (deadline forward v) (deadlines some forward uses))) (due_by (deadline forward v) (deadlines some forward uses))) (sym e) (omega arith)
-    on true false e one = subst (λ c. 1 ≤ cond c (suc (due_by (deadline forward v) (deadlines some forward uses))) (due_by (deadline forward v) (deadlines some forward uses))) (sym e) one
+    on : (a b : Bool) → nat_le (deadline kinds u) (deadline kinds v) ≡ b → 1 ≤ due_by (deadline kinds v) (deadlines some kinds uses) → 1 ≤ due_by (deadline kinds v) (cond a (deadline kinds u ∷ deadlines some kinds uses) (deadlines some kinds uses))
+    on true true e one = subst (λ c. 1 ≤ cond c (suc (due_by (deadline kinds v) (deadlines some kinds uses))) (due_by (deadline kinds v) (deadlines some kinds uses))) (sym e) (omega arith)
+    on true false e one = subst (λ c. 1 ≤ cond c (suc (due_by (deadline kinds v) (deadlines some kinds uses))) (due_by (deadline kinds v) (deadlines some kinds uses))) (sym e) one
     on false b e one = one
 
 -- what is at a place in a list with a first turn: that or a later one
@@ -315,17 +316,17 @@ first_or_later : {L : Type 0} (e : Turn × Use L) (rest : List (Turn × Use L)) 
 first_or_later e rest zero x later h = inl (same_Some _ _ h)
 first_or_later e rest (suc n) x later h = inr (later n x h)
 
-module _ {L : Type 0} {forward : L → ℕ} {test : Use L → Bool} {e : Turn × Use L} {rest turns : List (Turn × Use L)} {uses : List (Use L)} where
+module _ {L : Type 0} {kinds : Kinds L} {test : Use L → Bool} {e : Turn × Use L} {rest turns : List (Turn × Use L)} {uses : List (Use L)} where
   -- the first turn has the soonest deadline
-  pub turns_least : HaveTurns forward test turns uses → turns ≡ e ∷ rest → test e.1 ≡ true → AllLater e.0 rest → (end : ℕ) → 1 ≤ due_by end (deadlines test forward uses) → deadline forward e.1 ≤ end
+  pub turns_least : HaveTurns kinds test turns uses → turns ≡ e ∷ rest → test e.1 ≡ true → AllLater e.0 rest → (end : ℕ) → 1 ≤ due_by end (deadlines test kinds uses) → deadline kinds e.1 ≤ end
   turns_least g et waits later end one =
-      let h = subst (λ ts. HaveTurns forward test ts uses) et g in
+      let h = subst (λ ts. HaveTurns kinds test ts uses) et g in
       let own = h.each 0 e refl waits in
       let c = h.counts test (λ u t. t) end in
-      let f = find_due forward test (e ∷ rest) end (omega arith) in
+      let f = find_due kinds test (e ∷ rest) end (omega arith) in
       let s = h.each f.place f.entry f.there f.yes_some in
       let due = f.due in
-      ⊎_elim (λ same. let d : deadline forward e.1 ≡ deadline forward f.entry.1 = ap (λ (x : Turn × Use L). deadline forward x.1) same in omega arith)
+      ⊎_elim (λ same. let d : deadline kinds e.1 ≡ deadline kinds f.entry.1 = ap (λ (x : Turn × Use L). deadline kinds x.1) same in omega arith)
       (λ l. let le = deadline_le l in let a = own.deadline in let b = s.deadline in omega arith)
       (first_or_later e rest f.place f.entry later f.there)
     where
@@ -335,27 +336,27 @@ module _ {L : Type 0} {forward : L → ℕ} {test : Use L → Bool} {e : Turn ×
       deadline_le (by_index s p lt) = omega arith
 
   -- and none that waits is sooner
-  pub turns_first : HaveTurns forward test turns uses → turns ≡ e ∷ rest → test e.1 ≡ true → AllLater e.0 rest → (k : ℕ) (v : Use L) → slice_get uses k ≡ Some v → test v ≡ true → is_sooner forward v e.1 ≡ false
+  pub turns_first : HaveTurns kinds test turns uses → turns ≡ e ∷ rest → test e.1 ≡ true → AllLater e.0 rest → (k : ℕ) (v : Use L) → slice_get uses k ≡ Some v → test v ≡ true → is_sooner kinds v e.1 ≡ false
   turns_first g et waits later k v hv tv =
-      let h = subst (λ ts. HaveTurns forward test ts uses) et g in
+      let h = subst (λ ts. HaveTurns kinds test ts uses) et g in
       let own = h.each 0 e refl waits in
-      let alike : Use L → Bool = λ x. test x && (nat_eq (deadline forward x) (deadline forward v) && nat_eq x.offset v.offset) in
-      let like_v : alike v ≡ true = and_from _ _ tv (and_from _ _ (eq-eqb (deadline forward v) (deadline forward v) refl) (eq-eqb v.offset v.offset refl)) in
-      let one = member_due forward alike uses k v hv like_v in
-      let c = h.counts alike (λ u t. (and_parts (test u) _ t).0) (deadline forward v) in
-      let f = find_due forward alike (e ∷ rest) (deadline forward v) (omega arith) in
-      let parts : (test f.entry.1 ≡ true) × ((nat_eq (deadline forward f.entry.1) (deadline forward v) && nat_eq f.entry.1.offset v.offset) ≡ true) = and_parts _ _ f.yes_some in
-      let inner : (nat_eq (deadline forward f.entry.1) (deadline forward v) ≡ true) × (nat_eq f.entry.1.offset v.offset ≡ true) = and_parts _ _ parts.1 in
-      let d = eqb_eq (deadline forward f.entry.1) (deadline forward v) inner.0 in
+      let alike : Use L → Bool = λ x. test x && (nat_eq (deadline kinds x) (deadline kinds v) && nat_eq x.offset v.offset) in
+      let like_v : alike v ≡ true = and_from _ _ tv (and_from _ _ (eq-eqb (deadline kinds v) (deadline kinds v) refl) (eq-eqb v.offset v.offset refl)) in
+      let one = member_due kinds alike uses k v hv like_v in
+      let c = h.counts alike (λ u t. (and_parts (test u) _ t).0) (deadline kinds v) in
+      let f = find_due kinds alike (e ∷ rest) (deadline kinds v) (omega arith) in
+      let parts : (test f.entry.1 ≡ true) × ((nat_eq (deadline kinds f.entry.1) (deadline kinds v) && nat_eq f.entry.1.offset v.offset) ≡ true) = and_parts _ _ f.yes_some in
+      let inner : (nat_eq (deadline kinds f.entry.1) (deadline kinds v) ≡ true) × (nat_eq f.entry.1.offset v.offset ≡ true) = and_parts _ _ parts.1 in
+      let d = eqb_eq (deadline kinds f.entry.1) (deadline kinds v) inner.0 in
       let o = eqb_eq f.entry.1.offset v.offset inner.1 in
       let s = h.each f.place f.entry f.there parts.0 in
       let sd = s.deadline in let so = s.offset in let od = own.deadline in let oo = own.offset in
       ⊎_elim
       (λ same.
-      let a : deadline forward e.1 ≡ deadline forward f.entry.1 = ap (λ (x : Turn × Use L). deadline forward x.1) same in
+      let a : deadline kinds e.1 ≡ deadline kinds f.entry.1 = ap (λ (x : Turn × Use L). deadline kinds x.1) same in
       let b : e.1.offset ≡ f.entry.1.offset = ap (λ (x : Turn × Use L). x.1.offset) same in
-      not_sooner (deadline forward v) (deadline forward e.1) v.offset e.1.offset (inr (omega arith, omega arith)))
-      (λ l. ⊎_elim (λ x. not_sooner (deadline forward v) (deadline forward e.1) v.offset e.1.offset (inl (omega arith))) (λ y. let y0 = y.0 in let y1 = y.1 in not_sooner (deadline forward v) (deadline forward e.1) v.offset e.1.offset (inr (omega arith, omega arith))) (order l))
+      not_sooner (deadline kinds v) (deadline kinds e.1) v.offset e.1.offset (inr (omega arith, omega arith)))
+      (λ l. ⊎_elim (λ x. not_sooner (deadline kinds v) (deadline kinds e.1) v.offset e.1.offset (inl (omega arith))) (λ y. let y0 = y.0 in let y1 = y.1 in not_sooner (deadline kinds v) (deadline kinds e.1) v.offset e.1.offset (inr (omega arith, omega arith))) (order l))
       (first_or_later e rest f.place f.entry later f.there)
     where
       eqb_eq : (m n : ℕ) → nat_eq m n ≡ true → m ≡ n

@@ -4,7 +4,7 @@ use Rattle.std.specs.Option.{IsSomeAnd}
 use Rattle.std.specs.Ordering.{nat_cmp}
 use Rattle.std.specs.BTreeMap.{get}
 use Rattle.rv_base.specs.declared.label.MachLabel.{MachLabel}
-use Rattle.rv_base.specs.LabelUse.{Veneer}
+use Rattle.rv_base.specs.LabelUse.{Kinds, Veneer}
 use Rattle.mach_buffer.specs.declared.uses.Use.{Use}
 use Rattle.mach_buffer.specs.declared.uses.VeneerUse.{VeneerUse}
 use Rattle.mach_buffer.specs.declared.uses.Turn.{Turn}
@@ -45,8 +45,8 @@ abbrev pub spoiled_of : {L : Type 0} → MachBuffer L → Bool
 spoiled_of b = b.spoiled
 
 -- the deadlines of the pending uses
-abbrev pub pending_of : {L : Type 0} → (L → Bool) → (L → ℕ) → (L → ℕ) → MachBuffer L → List ℕ
-pending_of has_veneer forward backward b = deadlines (is_pending has_veneer forward backward (place_of b)) forward (uses_of b)
+abbrev pub pending_of : {L : Type 0} → Kinds L → MachBuffer L → List ℕ
+pending_of kinds b = deadlines (is_pending kinds (place_of b)) kinds (uses_of b)
 
 -- a use without its veneer
 abbrev pub core : {L : Type 0} → Use L → Use L
@@ -74,25 +74,25 @@ pub record HasVeneer {L : Type 0} (v : Veneer L) (bytes : List ℕ) (veneers : L
   pub recorded : slice_get veneers index ≡ Some (veneer_use v at label)
 
 -- a use in a veneer stands in one, and names the label of a use
-pub record IsMade {L : Type 0} (has_veneer : L → Bool) (veneer : L → Veneer L) (bytes : List ℕ) (uses : List (Use L)) (w : VeneerUse L) : Type 0 where
+pub record IsMade {L : Type 0} (kinds : Kinds L) (bytes : List ℕ) (uses : List (Use L)) (w : VeneerUse L) : Type 0 where
   pub kind : L
-  pub is : w ≡ veneer_use (veneer kind) w.at w.label
-  pub supported : has_veneer kind ≡ true
+  pub is : w ≡ veneer_use (kinds.veneer kind) w.at w.label
+  pub supported : kinds.has_veneer kind ≡ true
   pub even : w.at % 2 ≡ 0
-  pub inside : w.at + length (veneer kind).bytes ≤ length bytes
-  pub code : take (length (veneer kind).bytes) (drop w.at bytes) ≡ (veneer kind).bytes
+  pub inside : w.at + length (kinds.veneer kind).bytes ≤ length bytes
+  pub code : take (length (kinds.veneer kind).bytes) (drop w.at bytes) ≡ (kinds.veneer kind).bytes
   pub user : ℕ
   pub named : IsSomeAnd (slice_get (recorded uses) user) (λ u. u.label ≡ w.label)
 
 -- each use that goes by a veneer has it within its reach, for its own label; and each use in veneers stands in one
-pub record IsLinked {L : Type 0} (has_veneer : L → Bool) (forward : L → ℕ) (veneer : L → Veneer L) (bytes : List ℕ) (uses : List (Use L)) (veneers : List (VeneerUse L)) : Type 0 where
-  pub each : (j : ℕ) (u : Use L) (at : ℕ) → slice_get uses j ≡ Some u → u.veneer ≡ Some at → HasVeneer (veneer u.kind) bytes veneers u.label at
-  pub near : (j : ℕ) (u : Use L) (at : ℕ) → slice_get uses j ≡ Some u → u.veneer ≡ Some at → at ≤ deadline forward u
+pub record IsLinked {L : Type 0} (kinds : Kinds L) (bytes : List ℕ) (uses : List (Use L)) (veneers : List (VeneerUse L)) : Type 0 where
+  pub each : (j : ℕ) (u : Use L) (at : ℕ) → slice_get uses j ≡ Some u → u.veneer ≡ Some at → HasVeneer (kinds.veneer u.kind) bytes veneers u.label at
+  pub near : (j : ℕ) (u : Use L) (at : ℕ) → slice_get uses j ≡ Some u → u.veneer ≡ Some at → at ≤ deadline kinds u
   pub behind : (j : ℕ) (u : Use L) (at : ℕ) → slice_get uses j ≡ Some u → u.veneer ≡ Some at → u.offset ≤ at
-  pub supported : (j : ℕ) (u : Use L) (at : ℕ) → slice_get uses j ≡ Some u → u.veneer ≡ Some at → has_veneer u.kind ≡ true
+  pub supported : (j : ℕ) (u : Use L) (at : ℕ) → slice_get uses j ≡ Some u → u.veneer ≡ Some at → kinds.has_veneer u.kind ≡ true
   pub even : (j : ℕ) (u : Use L) (at : ℕ) → slice_get uses j ≡ Some u → u.veneer ≡ Some at → at % 2 ≡ 0
   pub before : (j : ℕ) (u : Use L) → slice_get uses j ≡ Some u → u.offset ≤ length bytes
-  pub made : (k : ℕ) (w : VeneerUse L) → slice_get veneers k ≡ Some w → IsMade has_veneer veneer bytes uses w
+  pub made : (k : ℕ) (w : VeneerUse L) → slice_get veneers k ≡ Some w → IsMade kinds bytes uses w
 
 -- ---- turns
 
@@ -111,16 +111,16 @@ abbrev pub AllLater : {L : Type 0} → Turn → List (Turn × Use L) → Type 0
 AllLater {L} t es = (i : ℕ) (e : Turn × Use L) → slice_get es i ≡ Some e → Later t e.0
 
 -- a turn is that of a use that is there
-pub record IsTurn {L : Type 0} (forward : L → ℕ) (uses : List (Use L)) (t : Turn) (u : Use L) : Type 0 where
+pub record IsTurn {L : Type 0} (kinds : Kinds L) (uses : List (Use L)) (t : Turn) (u : Use L) : Type 0 where
   pub there : slice_get uses t.index ≡ Some u
-  pub deadline : t.deadline ≡ deadline forward u
+  pub deadline : t.deadline ≡ deadline kinds u
   pub offset : t.offset ≡ u.offset
 
 -- the uses for which a test holds, and maybe others, have their turns
-pub record HaveTurns {L : Type 0} (forward : L → ℕ) (test : Use L → Bool) (turns : List (Turn × Use L)) (uses : List (Use L)) : Type 0 where
-  pub each : (k : ℕ) (e : Turn × Use L) → slice_get turns k ≡ Some e → test e.1 ≡ true → IsTurn forward uses e.0 e.1
+pub record HaveTurns {L : Type 0} (kinds : Kinds L) (test : Use L → Bool) (turns : List (Turn × Use L)) (uses : List (Use L)) : Type 0 where
+  pub each : (k : ℕ) (e : Turn × Use L) → slice_get turns k ≡ Some e → test e.1 ≡ true → IsTurn kinds uses e.0 e.1
   pub low : (k : ℕ) (e : Turn × Use L) → slice_get turns k ≡ Some e → e.0.index < length uses
-  pub counts : (some : Use L → Bool) → ((u : Use L) → some u ≡ true → test u ≡ true) → (end : ℕ) → due_by end (deadlines some forward (users turns)) ≡ due_by end (deadlines some forward uses)
+  pub counts : (some : Use L → Bool) → ((u : Use L) → some u ≡ true → test u ≡ true) → (end : ℕ) → due_by end (deadlines some kinds (users turns)) ≡ due_by end (deadlines some kinds uses)
 
 abbrev pub turns_of : {L : Type 0} → MachBuffer L → List (Turn × Use L)
 turns_of b = b.waiting.entries
@@ -128,16 +128,16 @@ turns_of b = b.waiting.entries
 -- ---- a sound buffer
 
 -- what holds of the parts of a buffer
-pub record AreSound {L : Type 0} (has_veneer : L → Bool) (forward backward : L → ℕ) (veneer : L → Veneer L) (bytes : List ℕ) (uses : List (Use L)) (veneers : List (VeneerUse L)) (turns : List (Turn × Use L)) (place : ℕ → Option ℕ) (drawn : ℕ) : Type 0 where
-  pub linked : IsLinked has_veneer forward veneer bytes uses veneers
+pub record AreSound {L : Type 0} (kinds : Kinds L) (bytes : List ℕ) (uses : List (Use L)) (veneers : List (VeneerUse L)) (turns : List (Turn × Use L)) (place : ℕ → Option ℕ) (drawn : ℕ) : Type 0 where
+  pub linked : IsLinked kinds bytes uses veneers
   pub even : length bytes % 2 ≡ 0
   pub places : (label at : ℕ) → place label ≡ Some at → (at ≤ length bytes) × (at % 2 ≡ 0) × IsKnown label drawn
   pub known : (j : ℕ) (u : Use L) → slice_get uses j ≡ Some u → IsKnown u.label.number drawn
-  pub waits : HaveTurns forward (is_pending has_veneer forward backward place) turns uses
+  pub waits : HaveTurns kinds (is_pending kinds place) turns uses
 
 -- what holds of every buffer that was made by its calls
-abbrev pub IsSound : {L : Type 0} → (L → Bool) → (L → ℕ) → (L → ℕ) → (L → Veneer L) → MachBuffer L → Type 0
-IsSound has_veneer forward backward veneer b = AreSound has_veneer forward backward veneer (bytes_of b) (uses_of b) (veneers_of b) (turns_of b) (place_of b) (drawn_of b)
+abbrev pub IsSound : {L : Type 0} → Kinds L → MachBuffer L → Type 0
+IsSound kinds b = AreSound kinds (bytes_of b) (uses_of b) (veneers_of b) (turns_of b) (place_of b) (drawn_of b)
 
 -- ---- what a call changes, and what it leaves as it was
 

@@ -48,7 +48,7 @@ impl<L: MachInstLabelUse> MachBuffer<L> {
         ensures labels { labels_of result ≡ [] }
         ensures drawn { drawn_of result ≡ 0 }
         ensures spoiled { spoiled_of result ≡ false }
-        ensures sound { IsSound L.has_veneer L.forward L.backward L.veneer result }
+        ensures sound { IsSound L.kinds result }
     {
         MachBuffer {
             bytes: Vec::new(alloc),
@@ -112,11 +112,11 @@ impl<L: MachInstLabelUse> MachBuffer<L> {
     pub(crate) fn append(&mut self, bytes: &[u8]) -> Result<(), OutOfMemory>
         requires room { length (bytes_of self.old) + length bytes.now < 2147479552 }
         requires even { length bytes.now % 2 ≡ 0 }
-        requires sound { IsSound L.has_veneer L.forward L.backward L.veneer self.old }
+        requires sound { IsSound L.kinds self.old }
         ensures put { Puts result bytes.now self.old self.new }
         ensures turns { turns_of self.new ≡ turns_of self.old }
         ensures memory { TakesMemory result self.old self.new }
-        ensures sound { OnOk result (IsSound L.has_veneer L.forward L.backward L.veneer self.new) }
+        ensures sound { OnOk result (IsSound L.kinds self.new) }
     {
         self.extend(bytes)?;
         Ok(())
@@ -140,10 +140,10 @@ impl<L: MachInstLabelUse> MachBuffer<L> {
     /// Appends two bytes, the low one first.
     pub fn put2(&mut self, value: u16) -> Result<(), OutOfMemory>
         requires room { length (bytes_of self.old) + 2 < 2147479552 }
-        requires sound { IsSound L.has_veneer L.forward L.backward L.veneer self.old }
+        requires sound { IsSound L.kinds self.old }
         ensures put { Puts result (to_le_bytes w16 value) self.old self.new }
         ensures memory { TakesMemory result self.old self.new }
-        ensures sound { OnOk result (IsSound L.has_veneer L.forward L.backward L.veneer self.new) }
+        ensures sound { OnOk result (IsSound L.kinds self.new) }
     {
         self.append(&value.to_le_bytes())
     }
@@ -151,10 +151,10 @@ impl<L: MachInstLabelUse> MachBuffer<L> {
     /// Appends four bytes, the low one first.
     pub fn put4(&mut self, value: u32) -> Result<(), OutOfMemory>
         requires room { length (bytes_of self.old) + 4 < 2147479552 }
-        requires sound { IsSound L.has_veneer L.forward L.backward L.veneer self.old }
+        requires sound { IsSound L.kinds self.old }
         ensures put { Puts result (to_le_bytes w32 value) self.old self.new }
         ensures memory { TakesMemory result self.old self.new }
-        ensures sound { OnOk result (IsSound L.has_veneer L.forward L.backward L.veneer self.new) }
+        ensures sound { OnOk result (IsSound L.kinds self.new) }
     {
         self.append(&value.to_le_bytes())
     }
@@ -162,10 +162,10 @@ impl<L: MachInstLabelUse> MachBuffer<L> {
     /// Appends eight bytes, the low one first.
     pub fn put8(&mut self, value: u64) -> Result<(), OutOfMemory>
         requires room { length (bytes_of self.old) + 8 < 2147479552 }
-        requires sound { IsSound L.has_veneer L.forward L.backward L.veneer self.old }
+        requires sound { IsSound L.kinds self.old }
         ensures put { Puts result (to_le_bytes w64 value) self.old self.new }
         ensures memory { TakesMemory result self.old self.new }
-        ensures sound { OnOk result (IsSound L.has_veneer L.forward L.backward L.veneer self.new) }
+        ensures sound { OnOk result (IsSound L.kinds self.new) }
     {
         self.append(&value.to_le_bytes())
     }
@@ -174,10 +174,10 @@ impl<L: MachInstLabelUse> MachBuffer<L> {
     pub fn put_data(&mut self, bytes: &[u8]) -> Result<(), OutOfMemory>
         requires room { length (bytes_of self.old) + length bytes.now < 2147479552 }
         requires even { length bytes.now % 2 ≡ 0 }
-        requires sound { IsSound L.has_veneer L.forward L.backward L.veneer self.old }
+        requires sound { IsSound L.kinds self.old }
         ensures put { Puts result bytes.now self.old self.new }
         ensures memory { TakesMemory result self.old self.new }
-        ensures sound { OnOk result (IsSound L.has_veneer L.forward L.backward L.veneer self.new) }
+        ensures sound { OnOk result (IsSound L.kinds self.new) }
     {
         self.append(bytes)
     }
@@ -185,7 +185,7 @@ impl<L: MachInstLabelUse> MachBuffer<L> {
     /// A label that nothing names yet.
     pub fn get_label(&mut self) -> Result<MachLabel, OutOfMemory>
         requires few { drawn_of self.old < 2 ^ 30 }
-        requires sound { IsSound L.has_veneer L.forward L.backward L.veneer self.old }
+        requires sound { IsSound L.kinds self.old }
         ensures number { IfOk result (λ label. label.number ≡ 2 ^ 30 + drawn_of self.old) }
         ensures unbound { IfOk result (λ label. place_of self.new label.number ≡ None) }
         ensures unnamed { IfOk result (λ label. (j : ℕ) (u : Use L) → slice_get (uses_of self.new) j ≡ Some u → u.label.number ≢ label.number) }
@@ -194,7 +194,7 @@ impl<L: MachInstLabelUse> MachBuffer<L> {
         ensures labels { labels_of self.new ≡ labels_of self.old }
         ensures drawn { OnOk result (drawn_of self.new ≡ drawn_of self.old + 1) }
         ensures memory { TakesMemory result self.old self.new }
-        ensures sound { OnOk result (IsSound L.has_veneer L.forward L.backward L.veneer self.new) }
+        ensures sound { OnOk result (IsSound L.kinds self.new) }
     {
         self.check()?;
         let label = MachLabel::from_u32(FIRST_INNER + self.drawn);
@@ -206,13 +206,13 @@ impl<L: MachInstLabelUse> MachBuffer<L> {
     pub fn bind_label(&mut self, label: MachLabel) -> Result<(), OutOfMemory>
         requires known { IsKnown label.number (drawn_of self.old) }
         requires unbound { place_of self.old label.number ≡ None }
-        requires sound { IsSound L.has_veneer L.forward L.backward L.veneer self.old }
+        requires sound { IsSound L.kinds self.old }
         ensures binds { OnOk result (Binds label self.old self.new) }
         ensures code { SameCode self.old self.new }
         ensures drawn { drawn_of self.new ≡ drawn_of self.old }
-        ensures fewer { OnOk result ((end : ℕ) → due_by end (pending_of L.has_veneer L.forward L.backward self.new) ≤ due_by end (pending_of L.has_veneer L.forward L.backward self.old)) }
+        ensures fewer { OnOk result ((end : ℕ) → due_by end (pending_of L.kinds self.new) ≤ due_by end (pending_of L.kinds self.old)) }
         ensures memory { TakesMemory result self.old self.new }
-        ensures sound { OnOk result (IsSound L.has_veneer L.forward L.backward L.veneer self.new) }
+        ensures sound { OnOk result (IsSound L.kinds self.new) }
     {
         self.place_label(label)?;
         self.release(label.number);
@@ -221,8 +221,8 @@ impl<L: MachInstLabelUse> MachBuffer<L> {
 
     /// Takes the turns of those uses of a label that it is in reach of.
     fn release(&mut self, label: u32)
-        requires waits { HaveTurns L.forward (is_pending L.has_veneer L.forward L.backward (place_of self.old)) (turns_of self.old) (uses_of self.old) }
-        ensures waits { HaveTurns L.forward (is_pending L.has_veneer L.forward L.backward (place_of self.old)) (turns_of self.new) (uses_of self.old) }
+        requires waits { HaveTurns L.kinds (is_pending L.kinds (place_of self.old)) (turns_of self.old) (uses_of self.old) }
+        ensures waits { HaveTurns L.kinds (is_pending L.kinds (place_of self.old)) (turns_of self.new) (uses_of self.old) }
         ensures rest { SameButTurns self.old self.new }
     {
         let mut next = self.latest.get(&label).copied();
@@ -233,8 +233,8 @@ impl<L: MachInstLabelUse> MachBuffer<L> {
 
     /// Takes the turn of a use that is not pending. Gives the use of the same label before it.
     fn release_use(&mut self, index: usize) -> Option<usize>
-        requires waits { HaveTurns L.forward (is_pending L.has_veneer L.forward L.backward (place_of self.old)) (turns_of self.old) (uses_of self.old) }
-        ensures waits { HaveTurns L.forward (is_pending L.has_veneer L.forward L.backward (place_of self.old)) (turns_of self.new) (uses_of self.old) }
+        requires waits { HaveTurns L.kinds (is_pending L.kinds (place_of self.old)) (turns_of self.old) (uses_of self.old) }
+        ensures waits { HaveTurns L.kinds (is_pending L.kinds (place_of self.old)) (turns_of self.new) (uses_of self.old) }
         ensures before { IfSome result (λ before. before < index) }
         ensures rest { SameButTurns self.old self.new }
     {
@@ -251,9 +251,9 @@ impl<L: MachInstLabelUse> MachBuffer<L> {
     /// Takes the turn of the use at `index`, which is not pending.
     fn take_idle(&mut self, u: &Use<L>, index: usize)
         requires there { slice_get (uses_of self.old) index ≡ Some u.now }
-        requires idle { is_pending L.has_veneer L.forward L.backward (place_of self.old) u.now ≡ false }
-        requires waits { HaveTurns L.forward (is_pending L.has_veneer L.forward L.backward (place_of self.old)) (turns_of self.old) (uses_of self.old) }
-        ensures waits { HaveTurns L.forward (is_pending L.has_veneer L.forward L.backward (place_of self.old)) (turns_of self.new) (uses_of self.old) }
+        requires idle { is_pending L.kinds (place_of self.old) u.now ≡ false }
+        requires waits { HaveTurns L.kinds (is_pending L.kinds (place_of self.old)) (turns_of self.old) (uses_of self.old) }
+        ensures waits { HaveTurns L.kinds (is_pending L.kinds (place_of self.old)) (turns_of self.new) (uses_of self.old) }
         ensures rest { SameButTurns self.old self.new }
     {
         let turn = Turn {
@@ -328,13 +328,13 @@ impl<L: MachInstLabelUse> MachBuffer<L> {
     ) -> Result<(), OutOfMemory>
         requires there { offset ≤ length (bytes_of self.old) }
         requires known { IsKnown label.number (drawn_of self.old) }
-        requires sound { IsSound L.has_veneer L.forward L.backward L.veneer self.old }
+        requires sound { IsSound L.kinds self.old }
         ensures uses { OnOk result (uses_of self.new ≡ uses_of self.old ++ record { offset = offset; label = label; kind = kind; veneer = None } ∷ []) }
         ensures bytes { bytes_of self.new ≡ bytes_of self.old }
         ensures veneers { veneers_of self.new ≡ veneers_of self.old }
         ensures labels { SameLabels self.old self.new }
         ensures memory { TakesMemory result self.old self.new }
-        ensures sound { OnOk result (IsSound L.has_veneer L.forward L.backward L.veneer self.new) }
+        ensures sound { OnOk result (IsSound L.kinds self.new) }
     {
         self.note_use(label.number)?;
         let u = Use {
@@ -391,7 +391,7 @@ impl<L: MachInstLabelUse> MachBuffer<L> {
 
     /// Whether the label of a use is bound within its reach.
     fn is_reached(&self, u: &Use<L>) -> bool
-        ensures { result ≡ is_reached L.forward L.backward (place_of self.now u.now.label.number) u.now }
+        ensures { result ≡ is_reached L.kinds (place_of self.now u.now.label.number) u.now }
     {
         match self.places.get(&u.label.number) {
             Some(&at) => {
@@ -405,22 +405,22 @@ impl<L: MachInstLabelUse> MachBuffer<L> {
 
     /// Whether a use waits for its label or a veneer.
     pub(crate) fn is_pending(&self, u: &Use<L>) -> bool
-        ensures { result ≡ is_pending L.has_veneer L.forward L.backward (place_of self.now) u.now }
+        ensures { result ≡ is_pending L.kinds (place_of self.now) u.now }
     {
         u.kind.supports_veneer() && u.veneer.is_none() && !self.is_reached(u)
     }
 
     /// Whether a pending use does not name this label.
     pub(crate) fn is_other(&self, round: Option<MachLabel>, u: &Use<L>) -> bool
-        ensures { result ≡ is_other L.has_veneer L.forward L.backward (place_of self.now) round u.now }
+        ensures { result ≡ is_other L.kinds (place_of self.now) round u.now }
     {
         self.is_pending(u) && !names(round, u)
     }
 
     /// How many pending uses do not name this label.
     pub(crate) fn count_others(&self, round: Option<MachLabel>) -> usize
-        requires waits { HaveTurns L.forward (is_other L.has_veneer L.forward L.backward (place_of self.now) round) (turns_of self.now) (uses_of self.now) }
-        ensures { result ≡ length (deadlines (is_other L.has_veneer L.forward L.backward (place_of self.now) round) L.forward (uses_of self.now)) }
+        requires waits { HaveTurns L.kinds (is_other L.kinds (place_of self.now) round) (turns_of self.now) (uses_of self.now) }
+        ensures { result ≡ length (deadlines (is_other L.kinds (place_of self.now) round) L.kinds (uses_of self.now)) }
     {
         let mut count = 0;
         for u in self.waiting.values() {
@@ -433,8 +433,8 @@ impl<L: MachInstLabelUse> MachBuffer<L> {
 
     /// Whether an island is needed before so many bytes.
     pub fn island_needed(&self, distance: u32) -> bool
-        requires sound { IsSound L.has_veneer L.forward L.backward L.veneer self.now }
-        ensures { result ≡ is_needed (length (bytes_of self.now)) distance (pending_of L.has_veneer L.forward L.backward self.now) }
+        requires sound { IsSound L.kinds self.now }
+        ensures { result ≡ is_needed (length (bytes_of self.now)) distance (pending_of L.kinds self.now) }
     {
         let here = self.bytes.len() as u128 + distance as u128 + 14;
         let far = here + 8 * (self.waiting.len() as u128 + 2);
@@ -455,8 +455,8 @@ impl<L: MachInstLabelUse> MachBuffer<L> {
 
     /// Whether so many bytes, and what is still to be put, end below 2^31 - 4096, and labels are left.
     pub fn has_room(&self, part: u64) -> bool
-        requires sound { IsSound L.has_veneer L.forward L.backward L.veneer self.now }
-        ensures { result ≡ (nat_lt (drawn_of self.now) (2 ^ 29) && nat_lt (length (bytes_of self.now) + part + 8 * length (pending_of L.has_veneer L.forward L.backward self.now) + 32) 2147479552) }
+        requires sound { IsSound L.kinds self.now }
+        ensures { result ≡ (nat_lt (drawn_of self.now) (2 ^ 29) && nat_lt (length (bytes_of self.now) + part + 8 * length (pending_of L.kinds self.now) + 32) 2147479552) }
     {
         let end = self.bytes.len() as u128 + part as u128 + 32;
         if self.drawn >= 0x20000000 {
@@ -474,7 +474,7 @@ ghost use Rattle.mach_buffer.specs.Reach.{deadline as last_of};
 
 /// The last offset that a use reaches.
 pub(crate) fn deadline<L: MachInstLabelUse>(u: &Use<L>) -> u64
-    ensures value { result ≡ last_of L.forward u.now }
+    ensures value { result ≡ last_of L.kinds u.now }
     ensures small { result < 8589934592 }
 {
     u.offset as u64 + u.kind.max_pos_range() as u64

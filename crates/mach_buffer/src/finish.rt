@@ -25,8 +25,8 @@ impl<L: MachInstLabelUse> MachBuffer<L> {
     /// Puts a veneer for each use that is pending, by deadline and then by place, and patches every window.
     pub fn finish(mut self, constants: &[Constant]) -> Result<Finished, OutOfMemory>
         requires none { length constants.now ≡ 0 }
-        requires ready { CanFinish L.fields L.has_veneer L.forward L.backward L.veneer self }
-        ensures code { IfOk result (λ f. Finishes L.aims L.fields L.has_veneer L.forward L.backward L.veneer self f.bytes) }
+        requires ready { CanFinish L.kinds self }
+        ensures code { IfOk result (λ f. Finishes L.kinds self f.bytes) }
         ensures labels { IfOk result (λ f. f.labels ≡ labels_of self) }
         ensures unspoiled { OnOk result (spoiled_of self ≡ false) }
     {
@@ -52,14 +52,14 @@ impl<L: MachInstLabelUse> MachBuffer<L> {
 
     /// Puts zero bytes to a multiple of four and the last veneers, where some use is pending.
     fn put_last(&mut self) -> Result<(), OutOfMemory>
-        requires sound { IsSound L.has_veneer L.forward L.backward L.veneer self.old }
-        requires reach { StillReaches (length (before_last (bytes_of self.old) (length (pending_of L.has_veneer L.forward L.backward self.old)))) (pending_of L.has_veneer L.forward L.backward self.old) }
-        requires short { length (before_last (bytes_of self.old) (length (pending_of L.has_veneer L.forward L.backward self.old))) + 8 * length (pending_of L.has_veneer L.forward L.backward self.old) < 2147479552 }
-        ensures put { OnOk result (VeneersPut L.forward (is_pending L.has_veneer L.forward L.backward (place_of self.old)) (before_last (bytes_of self.old) (length (pending_of L.has_veneer L.forward L.backward self.old))) (uses_of self.old) (bytes_of self.new) (uses_of self.new)) }
+        requires sound { IsSound L.kinds self.old }
+        requires reach { StillReaches (length (before_last (bytes_of self.old) (length (pending_of L.kinds self.old)))) (pending_of L.kinds self.old) }
+        requires short { length (before_last (bytes_of self.old) (length (pending_of L.kinds self.old))) + 8 * length (pending_of L.kinds self.old) < 2147479552 }
+        ensures put { OnOk result (VeneersPut L.kinds (is_pending L.kinds (place_of self.old)) (before_last (bytes_of self.old) (length (pending_of L.kinds self.old))) (uses_of self.old) (bytes_of self.new) (uses_of self.new)) }
         ensures grown { OnOk result (VeneersBehind (length (bytes_of self.old)) (veneers_of self.old) (veneers_of self.new)) }
-        ensures linked { OnOk result (IsLinked L.has_veneer L.forward L.veneer (bytes_of self.new) (uses_of self.new) (veneers_of self.new)) }
-        ensures windows { OnOk result (AreWindows L.fields (bytes_of self.old) (uses_of self.old) (veneers_of self.old) → AreWindows L.fields (bytes_of self.new) (uses_of self.new) (veneers_of self.new)) }
-        ensures none { OnOk result (deadlines (is_pending L.has_veneer L.forward L.backward (place_of self.old)) L.forward (uses_of self.new) ≡ []) }
+        ensures linked { OnOk result (IsLinked L.kinds (bytes_of self.new) (uses_of self.new) (veneers_of self.new)) }
+        ensures windows { OnOk result (AreWindows L.kinds (bytes_of self.old) (uses_of self.old) (veneers_of self.old) → AreWindows L.kinds (bytes_of self.new) (uses_of self.new) (veneers_of self.new)) }
+        ensures none { OnOk result (deadlines (is_pending L.kinds (place_of self.old)) L.kinds (uses_of self.new) ≡ []) }
         ensures labels { SameLabels self.old self.new }
         ensures memory { TakesMemory result self.old self.new }
     {
@@ -70,14 +70,14 @@ impl<L: MachInstLabelUse> MachBuffer<L> {
 
     /// Puts zero bytes to a multiple of four, where some use is pending.
     fn pad_last(&mut self) -> Result<(), OutOfMemory>
-        requires sound { IsSound L.has_veneer L.forward L.backward L.veneer self.old }
-        requires short { length (before_last (bytes_of self.old) (length (pending_of L.has_veneer L.forward L.backward self.old))) < 2147479552 }
-        ensures bytes { OnOk result (bytes_of self.new ≡ before_last (bytes_of self.old) (length (pending_of L.has_veneer L.forward L.backward self.old))) }
+        requires sound { IsSound L.kinds self.old }
+        requires short { length (before_last (bytes_of self.old) (length (pending_of L.kinds self.old))) < 2147479552 }
+        ensures bytes { OnOk result (bytes_of self.new ≡ before_last (bytes_of self.old) (length (pending_of L.kinds self.old))) }
         ensures uses { uses_of self.new ≡ uses_of self.old }
         ensures veneers { veneers_of self.new ≡ veneers_of self.old }
         ensures labels { SameLabels self.old self.new }
         ensures memory { TakesMemory result self.old self.new }
-        ensures sound { OnOk result (IsSound L.has_veneer L.forward L.backward L.veneer self.new) }
+        ensures sound { OnOk result (IsSound L.kinds self.new) }
     {
         self.check()?;
         if self.count_others(None) != 0 {

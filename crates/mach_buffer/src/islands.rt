@@ -16,15 +16,15 @@ impl<L: MachInstLabelUse> MachBuffer<L> {
     /// veneer where it needs one, and a veneer for each other pending use, by deadline and then by place. Binds `round`
     /// at the end.
     pub fn emit_island(&mut self, round: MachLabel) -> Result<(), OutOfMemory>
-        requires { CanIsland L.has_veneer L.forward L.backward L.veneer self.old round }
-        ensures island { OnOk result (Islanded L.has_veneer L.forward L.backward self.old round self.new) }
+        requires { CanIsland L.kinds self.old round }
+        ensures island { OnOk result (Islanded L.kinds self.old round self.new) }
         ensures grown { OnOk result (VeneersBehind (length (bytes_of self.old)) (veneers_of self.old) (veneers_of self.new)) }
-        ensures reach { OnOk result (CanReach (length (bytes_of self.new)) (pending_of L.has_veneer L.forward L.backward self.new)) }
-        ensures windows { OnOk result (AreWindows L.fields (bytes_of self.old) (uses_of self.old) (veneers_of self.old) → AreWindows L.fields (bytes_of self.new) (uses_of self.new) (veneers_of self.new)) }
+        ensures reach { OnOk result (CanReach (length (bytes_of self.new)) (pending_of L.kinds self.new)) }
+        ensures windows { OnOk result (AreWindows L.kinds (bytes_of self.old) (uses_of self.old) (veneers_of self.old) → AreWindows L.kinds (bytes_of self.new) (uses_of self.new) (veneers_of self.new)) }
         ensures labels { OnOk result (labels_of self.new ≡ labels_of self.old) }
         ensures drawn { drawn_of self.new ≡ drawn_of self.old }
         ensures memory { TakesMemory result self.old self.new }
-        ensures sound { OnOk result (IsSound L.has_veneer L.forward L.backward L.veneer self.new) }
+        ensures sound { OnOk result (IsSound L.kinds self.new) }
     {
         self.pad()?;
         let count = self.count_others(Some(round));
@@ -37,11 +37,11 @@ impl<L: MachInstLabelUse> MachBuffer<L> {
     /// Puts zero bytes to a multiple of four.
     pub(crate) fn pad(&mut self) -> Result<(), OutOfMemory>
         requires room { aligned (length (bytes_of self.old)) < 2147479552 }
-        requires sound { IsSound L.has_veneer L.forward L.backward L.veneer self.old }
+        requires sound { IsSound L.kinds self.old }
         ensures put { Puts result (padding (length (bytes_of self.old))) self.old self.new }
         ensures turns { turns_of self.new ≡ turns_of self.old }
         ensures memory { TakesMemory result self.old self.new }
-        ensures sound { OnOk result (IsSound L.has_veneer L.forward L.backward L.veneer self.new) }
+        ensures sound { OnOk result (IsSound L.kinds self.new) }
     {
         if self.bytes.len() % 4 != 0 {
             return self.append(&[0, 0]);
@@ -54,16 +54,16 @@ impl<L: MachInstLabelUse> MachBuffer<L> {
         requires there { slice_get (uses_of self.old) index ≡ Some u.now }
         requires room { length (bytes_of self.old) + 8 < 2147479552 }
         requires even { length (bytes_of self.old) % 2 ≡ 0 }
-        requires may { L.has_veneer u.now.kind ≡ true }
-        requires near { length (bytes_of self.old) ≤ last_of L.forward u.now }
-        requires linked { IsLinked L.has_veneer L.forward L.veneer (bytes_of self.old) (uses_of self.old) (veneers_of self.old) }
-        ensures bytes { OnOk result (bytes_of self.new ≡ bytes_of self.old ++ (L.veneer u.now.kind).bytes) }
+        requires may { L.kinds.has_veneer u.now.kind ≡ true }
+        requires near { length (bytes_of self.old) ≤ last_of L.kinds u.now }
+        requires linked { IsLinked L.kinds (bytes_of self.old) (uses_of self.old) (veneers_of self.old) }
+        ensures bytes { OnOk result (bytes_of self.new ≡ bytes_of self.old ++ (L.kinds.veneer u.now.kind).bytes) }
         ensures uses { OnOk result (uses_of self.new ≡ slice_set (uses_of self.old) index (record u.now { veneer = Some (length (bytes_of self.old)) })) }
-        ensures veneers { OnOk result (veneers_of self.new ≡ veneers_of self.old ++ veneer_use (L.veneer u.now.kind) (length (bytes_of self.old)) u.now.label ∷ []) }
+        ensures veneers { OnOk result (veneers_of self.new ≡ veneers_of self.old ++ veneer_use (L.kinds.veneer u.now.kind) (length (bytes_of self.old)) u.now.label ∷ []) }
         ensures turns { turns_of self.new ≡ turns_of self.old }
         ensures labels { SameLabels self.old self.new }
         ensures memory { TakesMemory result self.old self.new }
-        ensures linked { OnOk result (IsLinked L.has_veneer L.forward L.veneer (bytes_of self.new) (uses_of self.new) (veneers_of self.new)) }
+        ensures linked { OnOk result (IsLinked L.kinds (bytes_of self.new) (uses_of self.new) (veneers_of self.new)) }
     {
         let at = self.append_veneer(u)?;
         self.uses[index] = Use {
@@ -77,10 +77,10 @@ impl<L: MachInstLabelUse> MachBuffer<L> {
     fn append_veneer(&mut self, u: &Use<L>) -> Result<u32, OutOfMemory>
         requires room { length (bytes_of self.old) + 8 < 2147479552 }
         requires even { length (bytes_of self.old) % 2 ≡ 0 }
-        requires may { L.has_veneer u.now.kind ≡ true }
+        requires may { L.kinds.has_veneer u.now.kind ≡ true }
         ensures at { IfOk result (λ at. at ≡ length (bytes_of self.old)) }
-        ensures bytes { OnOk result (bytes_of self.new ≡ bytes_of self.old ++ (L.veneer u.now.kind).bytes) }
-        ensures veneers { OnOk result (veneers_of self.new ≡ veneers_of self.old ++ veneer_use (L.veneer u.now.kind) (length (bytes_of self.old)) u.now.label ∷ []) }
+        ensures bytes { OnOk result (bytes_of self.new ≡ bytes_of self.old ++ (L.kinds.veneer u.now.kind).bytes) }
+        ensures veneers { OnOk result (veneers_of self.new ≡ veneers_of self.old ++ veneer_use (L.kinds.veneer u.now.kind) (length (bytes_of self.old)) u.now.label ∷ []) }
         ensures uses { uses_of self.new ≡ uses_of self.old }
         ensures turns { turns_of self.new ≡ turns_of self.old }
         ensures labels { SameLabels self.old self.new }
@@ -118,17 +118,17 @@ impl<L: MachInstLabelUse> MachBuffer<L> {
 
     /// Puts a veneer for each pending use that does not name this label, in the order of turns.
     pub(crate) fn put_waiting(&mut self, round: Option<MachLabel>) -> Result<(), OutOfMemory>
-        requires room { length (bytes_of self.old) + 8 * length (deadlines (is_other L.has_veneer L.forward L.backward (place_of self.old) round) L.forward (uses_of self.old)) < 2147479552 }
+        requires room { length (bytes_of self.old) + 8 * length (deadlines (is_other L.kinds (place_of self.old) round) L.kinds (uses_of self.old)) < 2147479552 }
         requires even { length (bytes_of self.old) % 2 ≡ 0 }
-        requires linked { IsLinked L.has_veneer L.forward L.veneer (bytes_of self.old) (uses_of self.old) (veneers_of self.old) }
-        requires waits { HaveTurns L.forward (is_other L.has_veneer L.forward L.backward (place_of self.old) round) (turns_of self.old) (uses_of self.old) }
-        requires reach { StillReaches (length (bytes_of self.old)) (deadlines (is_other L.has_veneer L.forward L.backward (place_of self.old) round) L.forward (uses_of self.old)) }
-        ensures put { OnOk result (VeneersPut L.forward (is_other L.has_veneer L.forward L.backward (place_of self.old) round) (bytes_of self.old) (uses_of self.old) (bytes_of self.new) (uses_of self.new)) }
+        requires linked { IsLinked L.kinds (bytes_of self.old) (uses_of self.old) (veneers_of self.old) }
+        requires waits { HaveTurns L.kinds (is_other L.kinds (place_of self.old) round) (turns_of self.old) (uses_of self.old) }
+        requires reach { StillReaches (length (bytes_of self.old)) (deadlines (is_other L.kinds (place_of self.old) round) L.kinds (uses_of self.old)) }
+        ensures put { OnOk result (VeneersPut L.kinds (is_other L.kinds (place_of self.old) round) (bytes_of self.old) (uses_of self.old) (bytes_of self.new) (uses_of self.new)) }
         ensures grown { OnOk result (VeneersBehind (length (bytes_of self.old)) (veneers_of self.old) (veneers_of self.new)) }
-        ensures linked { OnOk result (IsLinked L.has_veneer L.forward L.veneer (bytes_of self.new) (uses_of self.new) (veneers_of self.new)) }
+        ensures linked { OnOk result (IsLinked L.kinds (bytes_of self.new) (uses_of self.new) (veneers_of self.new)) }
         ensures even { OnOk result (length (bytes_of self.new) % 2 ≡ 0) }
-        ensures windows { OnOk result (AreWindows L.fields (bytes_of self.old) (uses_of self.old) (veneers_of self.old) → AreWindows L.fields (bytes_of self.new) (uses_of self.new) (veneers_of self.new)) }
-        ensures none { OnOk result (deadlines (is_other L.has_veneer L.forward L.backward (place_of self.old) round) L.forward (uses_of self.new) ≡ []) }
+        ensures windows { OnOk result (AreWindows L.kinds (bytes_of self.old) (uses_of self.old) (veneers_of self.old) → AreWindows L.kinds (bytes_of self.new) (uses_of self.new) (veneers_of self.new)) }
+        ensures none { OnOk result (deadlines (is_other L.kinds (place_of self.old) round) L.kinds (uses_of self.new) ≡ []) }
         ensures turns { OnOk result (turns_of self.new ≡ []) }
         ensures labels { SameLabels self.old self.new }
         ensures memory { TakesMemory result self.old self.new }
@@ -144,7 +144,7 @@ impl<L: MachInstLabelUse> MachBuffer<L> {
 
     /// The use of a label by the jump round an island.
     fn use_of(&self, round: MachLabel) -> usize
-        requires { IsRound L.has_veneer L.forward 6 (bytes_of self.now) (uses_of self.now) round.number }
+        requires { IsRound L.kinds 6 (bytes_of self.now) (uses_of self.now) round.number }
         ensures { IsSomeAnd (slice_get (uses_of self.now) result) (λ u. u.label.number ≡ round.number) }
     {
         self.uses
@@ -155,17 +155,17 @@ impl<L: MachInstLabelUse> MachBuffer<L> {
 
     /// Puts the veneer of the jump round an island, where `count` veneers from here on end out of its reach.
     fn put_own(&mut self, round: MachLabel, count: usize) -> Result<(), OutOfMemory>
-        requires round { HasRound L.has_veneer L.forward 6 (bytes_of self.old) (uses_of self.old) round.number count }
+        requires round { HasRound L.kinds 6 (bytes_of self.old) (uses_of self.old) round.number count }
         requires even { length (bytes_of self.old) % 2 ≡ 0 }
-        requires linked { IsLinked L.has_veneer L.forward L.veneer (bytes_of self.old) (uses_of self.old) (veneers_of self.old) }
-        requires waits { HaveTurns L.forward (is_other L.has_veneer L.forward L.backward (place_of self.old) (Some round)) (turns_of self.old) (uses_of self.old) }
-        ensures put { OnOk result (OwnPut L.forward (bytes_of self.old) (uses_of self.old) round.number count (bytes_of self.new) (uses_of self.new)) }
+        requires linked { IsLinked L.kinds (bytes_of self.old) (uses_of self.old) (veneers_of self.old) }
+        requires waits { HaveTurns L.kinds (is_other L.kinds (place_of self.old) (Some round)) (turns_of self.old) (uses_of self.old) }
+        ensures put { OnOk result (OwnPut L.kinds (bytes_of self.old) (uses_of self.old) round.number count (bytes_of self.new) (uses_of self.new)) }
         ensures grown { OnOk result (VeneersBehind (length (bytes_of self.old)) (veneers_of self.old) (veneers_of self.new)) }
-        ensures others { OnOk result (deadlines (is_other L.has_veneer L.forward L.backward (place_of self.old) (Some round)) L.forward (uses_of self.new) ≡ deadlines (is_other L.has_veneer L.forward L.backward (place_of self.old) (Some round)) L.forward (uses_of self.old)) }
+        ensures others { OnOk result (deadlines (is_other L.kinds (place_of self.old) (Some round)) L.kinds (uses_of self.new) ≡ deadlines (is_other L.kinds (place_of self.old) (Some round)) L.kinds (uses_of self.old)) }
         ensures even { OnOk result (length (bytes_of self.new) % 2 ≡ 0) }
-        ensures linked { OnOk result (IsLinked L.has_veneer L.forward L.veneer (bytes_of self.new) (uses_of self.new) (veneers_of self.new)) }
-        ensures waits { OnOk result (HaveTurns L.forward (is_other L.has_veneer L.forward L.backward (place_of self.old) (Some round)) (turns_of self.new) (uses_of self.new)) }
-        ensures windows { OnOk result (AreWindows L.fields (bytes_of self.old) (uses_of self.old) (veneers_of self.old) → AreWindows L.fields (bytes_of self.new) (uses_of self.new) (veneers_of self.new)) }
+        ensures linked { OnOk result (IsLinked L.kinds (bytes_of self.new) (uses_of self.new) (veneers_of self.new)) }
+        ensures waits { OnOk result (HaveTurns L.kinds (is_other L.kinds (place_of self.old) (Some round)) (turns_of self.new) (uses_of self.new)) }
+        ensures windows { OnOk result (AreWindows L.kinds (bytes_of self.old) (uses_of self.old) (veneers_of self.old) → AreWindows L.kinds (bytes_of self.new) (uses_of self.new) (veneers_of self.new)) }
         ensures labels { SameLabels self.old self.new }
         ensures memory { TakesMemory result self.old self.new }
     {

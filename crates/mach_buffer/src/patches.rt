@@ -21,10 +21,10 @@ pub struct Patch<L> {
 
 /// Patches one window.
 pub fn patch_one<L: MachInstLabelUse>(bytes: &mut [u8], patch: &Patch<L>)
-    requires { CanPatch L.fields L.forward L.backward bytes.old patch.now }
-    ensures aims { L.aims patch.now.kind (window bytes.new patch.now.offset (length (L.fields patch.now.kind))) (pos patch.now.target -ℤ pos patch.now.offset) }
-    ensures kept { SameOutside (L.fields patch.now.kind) (window bytes.old patch.now.offset (length (L.fields patch.now.kind))) (window bytes.new patch.now.offset (length (L.fields patch.now.kind))) }
-    ensures others { ChangesOnly bytes.old bytes.new patch.now.offset (length (L.fields patch.now.kind)) }
+    requires { CanPatch L.kinds bytes.old patch.now }
+    ensures aims { L.kinds.aims patch.now.kind (window bytes.new patch.now.offset (length (L.kinds.fields patch.now.kind))) (pos patch.now.target -ℤ pos patch.now.offset) }
+    ensures kept { SameOutside (L.kinds.fields patch.now.kind) (window bytes.old patch.now.offset (length (L.kinds.fields patch.now.kind))) (window bytes.new patch.now.offset (length (L.kinds.fields patch.now.kind))) }
+    ensures others { ChangesOnly bytes.old bytes.new patch.now.offset (length (L.kinds.fields patch.now.kind)) }
 {
     let start = patch.offset as usize;
     patch
@@ -65,10 +65,10 @@ pub fn patch_all<L: MachInstLabelUse>(
     veneers: &[VeneerUse<L>],
     places: &BTreeMap<u32, u32>,
 )
-    requires { CanPatchAll L.fields L.forward L.backward bytes.old (patches_of (get nat_cmp places.now) uses.now veneers.now) }
-    ensures aims { AllAim L.aims L.fields bytes.new (patches_of (get nat_cmp places.now) uses.now veneers.now) }
-    ensures kept { AllKept L.fields bytes.old bytes.new (patches_of (get nat_cmp places.now) uses.now veneers.now) }
-    ensures others { KeepsOthers L.fields bytes.old bytes.new (patches_of (get nat_cmp places.now) uses.now veneers.now) }
+    requires { CanPatchAll L.kinds bytes.old (patches_of (get nat_cmp places.now) uses.now veneers.now) }
+    ensures aims { AllAim L.kinds bytes.new (patches_of (get nat_cmp places.now) uses.now veneers.now) }
+    ensures kept { AllKept L.kinds bytes.old bytes.new (patches_of (get nat_cmp places.now) uses.now veneers.now) }
+    ensures others { KeepsOthers L.kinds bytes.old bytes.new (patches_of (get nat_cmp places.now) uses.now veneers.now) }
     ensures same_length { length bytes.new ≡ length bytes.old }
 {
     for u in uses {

@@ -8,7 +8,7 @@ use Rattle.rv_inst.specs.declared.inst.Inst.{Inst}
 use Rattle.rv_inst.specs.declared.inst.Inst.TheVariants.{EmitIsland}
 use Rattle.rv_inst.specs.declared.code.LineSpan.{LineSpan}
 use Rattle.rv_inst.specs.declared.label_use.LabelUse.{LabelUse}
-use Rattle.rv_inst.specs.LabelUse.{marks_of, forward_of, backward_of, has_veneer_of}
+use Rattle.rv_inst.specs.LabelUse.{label_kinds}
 use Rattle.mach_buffer.specs.declared.uses.Use.{Use}
 use Rattle.mach_buffer.specs.declared.uses.VeneerUse.{VeneerUse}
 use Rattle.mach_buffer.specs.Reach.{is_pending, is_needed, deadlines}
@@ -50,7 +50,7 @@ pub record RoomMade (old new : Buffer) : Type 0 where
 
 -- where no use is, no island is needed
 none_needed : (b : Buffer) (distance : ℕ) → uses_of b ≡ [] → is_needed (length (bytes_of b)) distance (pending b) ≡ false
-none_needed b distance e = ap (λ us. is_needed (length (bytes_of b)) distance (deadlines (is_pending has_veneer_of forward_of backward_of (place_of b)) forward_of us)) e
+none_needed b distance e = ap (λ us. is_needed (length (bytes_of b)) distance (deadlines (is_pending label_kinds (place_of b)) label_kinds us)) e
 
 pub room_made : {distance : ℕ} {old new : Buffer} {made : Bool} → IsSoundBuffer old → HasWindows old → length (bytes_of old) % 4 ≡ 0 → MakesRoom distance old new made → RoomMade old new
 room_made {distance} {old} {new} {made} s w a r = on r.put
@@ -139,9 +139,9 @@ bind_added {label} {old} {new} {span} w a p = record {
   end = p.end ∙ ap (length {A = ℕ}) (sym p.bytes);
   aligned = ap (λ n. n % 4) p.start ∙ a;
   whole = ap (λ (bs : List ℕ). length bs % 4) p.bytes ∙ a;
-  windows = subst (λ (bs : List ℕ). AreWindows marks_of bs (uses_of new) (veneers_of new)) (sym p.bytes)
-      (subst (λ (us : List (Use LabelUse)). AreWindows marks_of (bytes_of old) us (veneers_of new)) (sym p.uses)
-      (subst (λ (vs : List (VeneerUse LabelUse)). AreWindows marks_of (bytes_of old) (uses_of old) vs) (sym p.veneers) w));
+  windows = subst (λ (bs : List ℕ). AreWindows label_kinds bs (uses_of new) (veneers_of new)) (sym p.bytes)
+      (subst (λ (us : List (Use LabelUse)). AreWindows label_kinds (bytes_of old) us (veneers_of new)) (sym p.uses)
+      (subst (λ (vs : List (VeneerUse LabelUse)). AreWindows label_kinds (bytes_of old) (uses_of old) vs) (sym p.veneers) w));
   sound = p.sound;
   first = λ h. p.start;
 }

@@ -12,7 +12,7 @@ use Rattle.rv_base.specs.declared.flags.IsaFlags.{IsaFlags}
 use Rattle.rv_inst.specs.declared.code.Code.{Code}
 use Rattle.rv_inst.specs.declared.label_use.LabelUse.{LabelUse}
 use Rattle.rv_inst.specs.declared.label_use.LabelUse.TheVariants.{PCRel32}
-use Rattle.rv_inst.specs.LabelUse.{Aims, marks_of, veneer_of}
+use Rattle.rv_inst.specs.LabelUse.{label_kinds, Aims, marks_of, veneer_of}
 use Rattle.rv_inst.specs.LabelUseWords.{word_at, AreBytes}
 use Rattle.rv_inst.specs.LabelUseBridges.{with_number, PairDecodes}
 use Rattle.rv_inst.proofs.Bridges.{decode-patched_pair}
@@ -169,7 +169,7 @@ veneer_ends flags bytes base place to s v stand even to_even inside p pc is_stat
     ((λ i. wrap (held i + low64 p.lower) / 2 * 2) ∙ (λ i. wrap (wrap (pc i + low64 p.upper * 2 ^ 12) + low64 p.lower) / 2 * 2) ∙ ap (λ (n : ℕ). n / 2 * 2) lands ∙ omega arith) (omega arith) spare are_values fits refl)
 
 -- a patched veneer leads where its use aims
-pub veneer_leads : (flags : IsaFlags) (code : Code) (kind : LabelUse) (u : Use LabelUse) (to : ℕ) (g : IsVia Aims marks_of (veneer_of kind) code.bytes u to) → to % 2 ≡ 0 → Leads flags code g.at (λ base v. wrap (base + to)) (λ base v. v)
+pub veneer_leads : (flags : IsaFlags) (code : Code) (kind : LabelUse) (u : Use LabelUse) (to : ℕ) (g : IsVia label_kinds (veneer_of kind) code.bytes u to) → to % 2 ≡ 0 → Leads flags code g.at (λ base v. wrap (base + to)) (λ base v. v)
 veneer_leads flags code kind u to g even = record {
   run = λ base symbols slots s v placed pc is_state are_values same.
       let stand = bytes_stand code base symbols slots s.values.mem placed in

@@ -10,7 +10,7 @@ use Rattle.rv_inst.specs.declared.label_use.LabelUse.{LabelUse}
 use Rattle.rv_inst.specs.declared.label_use.LabelUse.TheVariants.{Jal20}
 use Rattle.rv_inst.specs.Fields.{named_labels}
 use Rattle.rv_inst.specs.Rules.{broken_rule}
-use Rattle.rv_inst.specs.LabelUse.{marks_of, has_veneer_of}
+use Rattle.rv_inst.specs.LabelUse.{label_kinds, has_veneer_of}
 use Rattle.rv_inst.specs.LabelUseWords.{word_bytes}
 use Rattle.mach_buffer.specs.declared.uses.Use.{Use}
 use Rattle.mach_buffer.specs.Reach.{CanReach, due_by}
@@ -31,7 +31,7 @@ end_before spans (suc i) = end_of spans i
 -- between two offsets an island stands: first a jump to a label that is bound at the second
 pub record IslandStands (b : Buffer) (from to : ℕ) : Type 0 where
   pub round : MachLabel
-  pub jump : BlockStands marks_of (bytes_of b) (uses_of b) (veneers_of b) from (word_bytes 0x6f) (use_at from round Jal20 ∷ [])
+  pub jump : BlockStands label_kinds (bytes_of b) (uses_of b) (veneers_of b) from (word_bytes 0x6f) (use_at from round Jal20 ∷ [])
   pub bound : place_of b round.number ≡ Some to
   pub longer : from + 4 ≤ to
 
@@ -44,7 +44,7 @@ pub record BlockThere (inst : Inst) (b : Buffer) (start end : ℕ) : Type 0 wher
   pub words : List ℕ
   pub decode : AreRows words (rows_of blank inst)
   pub used : UsesStand start words (uses_in start inst)
-  pub block : BlockStands marks_of (bytes_of b) (uses_of b) (veneers_of b) start (bytes_of_words words) (uses_in start inst)
+  pub block : BlockStands label_kinds (bytes_of b) (uses_of b) (veneers_of b) start (bytes_of_words words) (uses_in start inst)
   pub ends : end ≡ start + length (bytes_of_words words)
 
 abbrev pub InstThere : Inst → Buffer → ℕ → ℕ → Type 0

@@ -8,7 +8,7 @@ use Rattle.rv_base.specs.LabelUse.{IsVeneer, IsFresh}
 use Rattle.rv_inst.specs.declared.inst.Inst.{Inst}
 use Rattle.rv_inst.specs.declared.label_use.LabelUse.{LabelUse}
 use Rattle.rv_inst.specs.declared.label_use.LabelUse.TheVariants.{Jal20}
-use Rattle.rv_inst.specs.LabelUse.{marks_of, forward_of, backward_of, has_veneer_of, veneer_of}
+use Rattle.rv_inst.specs.LabelUse.{label_kinds, marks_of, has_veneer_of, veneer_of}
 use Rattle.rv_inst.specs.LabelUseWords.{word_bytes}
 use Rattle.mach_buffer.specs.declared.uses.Use.{Use}
 use Rattle.mach_buffer.specs.declared.uses.VeneerUse.{VeneerUse}
@@ -29,7 +29,7 @@ GrowsTo old new = Grows (bytes_of old) (uses_of old) (veneers_of old) (place_of 
 -- ---- veneers
 
 -- the veneer of each kind that has one
-pub veneer_law : (kind : LabelUse) → has_veneer_of kind ≡ true → IsVeneer marks_of forward_of backward_of has_veneer_of (veneer_of kind)
+pub veneer_law : (kind : LabelUse) → has_veneer_of kind ≡ true → IsVeneer label_kinds (veneer_of kind)
 veneer_law kind h = record { eight = refl; place_even = refl; inside = omega arith; fresh = (refl, (refl, (refl, (refl, (refl, (refl, (refl, (refl, tt)))))))); final = refl; far_forward = omega arith; far_backward = omega arith }
 
 -- ---- the windows of a block
@@ -67,7 +67,7 @@ in_word start (w ∷ words) (x ∷ uses) s (suc k) u h = on (in_word (start + 4)
     }
 
 -- uses that stand in words of their own have their windows in the words' bytes
-pub own_windows : (start : ℕ) (words : List ℕ) (uses : List (Use LabelUse)) → start % 2 ≡ 0 → UsesStand start words uses → OwnWindows marks_of start (bytes_of_words words) uses
+pub own_windows : (start : ℕ) (words : List ℕ) (uses : List (Use LabelUse)) → start % 2 ≡ 0 → UsesStand start words uses → OwnWindows label_kinds start (bytes_of_words words) uses
 own_windows start words uses even s = record {
   even = λ k u h. let i = at k u h in let o = i.offset in omega arith;
   begins = λ k u h. let i = at k u h in let o = i.offset in omega arith;
@@ -105,7 +105,7 @@ adds_grow {block} {own} {old} {new} a behind = grows_put block own behind (bytes
 
 module _ (inst : Inst) {old new : Buffer} where
   -- the windows of a block that was put
-  pub block_windows : IsSoundBuffer old → (p : PutsBlock inst old new) → OwnWindows marks_of (length (bytes_of old)) (bytes_of_words p.words) (uses_in (length (bytes_of old)) inst)
+  pub block_windows : IsSoundBuffer old → (p : PutsBlock inst old new) → OwnWindows label_kinds (length (bytes_of old)) (bytes_of_words p.words) (uses_in (length (bytes_of old)) inst)
   block_windows s p = own_windows (length (bytes_of old)) p.words (uses_in (length (bytes_of old)) inst) s.even p.used
 
   pub block_grows : IsSoundBuffer old → PutsBlock inst old new → GrowsTo old new
@@ -115,14 +115,14 @@ module _ (inst : Inst) {old new : Buffer} where
   pub block_has_windows : IsSoundBuffer old → PutsBlock inst old new → HasWindows old → HasWindows new
   block_has_windows s p w =
       let own = uses_in (length (bytes_of old)) inst in
-      subst (λ (vs : List (VeneerUse LabelUse)). AreWindows marks_of (bytes_of new) (uses_of new) vs) (sym p.adds.veneers)
+      subst (λ (vs : List (VeneerUse LabelUse)). AreWindows label_kinds (bytes_of new) (uses_of new) vs) (sym p.adds.veneers)
       (windows_block w s.linked veneer_law (bytes_of_words p.words) own (block_windows s p) (bytes_of new) (uses_of new) p.adds.bytes (recorded_more (uses_of old) own (uses_of new) p.adds.uses))
 
   -- the block stands where it was put
-  pub block_there : IsSoundBuffer old → (p : PutsBlock inst old new) → HasWindows old → BlockStands marks_of (bytes_of new) (uses_of new) (veneers_of new) (length (bytes_of old)) (bytes_of_words p.words) (uses_in (length (bytes_of old)) inst)
+  pub block_there : IsSoundBuffer old → (p : PutsBlock inst old new) → HasWindows old → BlockStands label_kinds (bytes_of new) (uses_of new) (veneers_of new) (length (bytes_of old)) (bytes_of_words p.words) (uses_in (length (bytes_of old)) inst)
   block_there s p w =
       let own = uses_in (length (bytes_of old)) inst in
-      subst (λ (vs : List (VeneerUse LabelUse)). BlockStands marks_of (bytes_of new) (uses_of new) vs (length (bytes_of old)) (bytes_of_words p.words) own) (sym p.adds.veneers)
+      subst (λ (vs : List (VeneerUse LabelUse)). BlockStands label_kinds (bytes_of new) (uses_of new) vs (length (bytes_of old)) (bytes_of_words p.words) own) (sym p.adds.veneers)
       (block_put w s.linked veneer_law (bytes_of_words p.words) own (bytes_of new) (uses_of new) p.adds.bytes (recorded_more (uses_of old) own (uses_of new) p.adds.uses))
 
 -- a block of words is a multiple of four long
@@ -159,7 +159,7 @@ island_grows {old} {new} s p = record {
     behind (suc k) u h = absurd (cc)
 
 -- its jump stands at its start
-pub island_jump : {old new : Buffer} → IsSoundBuffer old → HasWindows old → (p : PutsIsland old new) → BlockStands marks_of (bytes_of new) (uses_of new) (veneers_of new) (length (bytes_of old)) (word_bytes 0x6f) (use_at (length (bytes_of old)) p.round Jal20 ∷ [])
+pub island_jump : {old new : Buffer} → IsSoundBuffer old → HasWindows old → (p : PutsIsland old new) → BlockStands label_kinds (bytes_of new) (uses_of new) (veneers_of new) (length (bytes_of old)) (word_bytes 0x6f) (use_at (length (bytes_of old)) p.round Jal20 ∷ [])
 island_jump {old} {new} s w p = block_stays on (block_put w s.linked veneer_law (word_bytes 0x6f) own bytes uses refl (recorded_more (uses_of old) own uses refl))
   where
     own : List (Use LabelUse)

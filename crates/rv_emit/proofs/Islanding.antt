@@ -4,7 +4,7 @@ use Rattle.std.proofs.lemmas.List.{length-append, map-append, take-take}
 use Rattle.rv_base.specs.declared.label.MachLabel.{MachLabel}
 use Rattle.rv_inst.specs.declared.label_use.LabelUse.{LabelUse}
 use Rattle.rv_inst.specs.declared.label_use.LabelUse.TheVariants.{Jal20}
-use Rattle.rv_inst.specs.LabelUse.{marks_of, forward_of, backward_of, has_veneer_of}
+use Rattle.rv_inst.specs.LabelUse.{label_kinds}
 use Rattle.rv_inst.specs.LabelUseWords.{word_bytes}
 use Rattle.mach_buffer.specs.declared.uses.Use.{Use}
 use Rattle.mach_buffer.specs.declared.uses.VeneerUse.{VeneerUse}
@@ -34,15 +34,15 @@ jump_put old mid new round sound fresh drawn bytes uses places a = record {
 -- where bytes, uses and veneers are the same, so are the windows
 pub same_windows : (old new : Buffer) → bytes_of new ≡ bytes_of old → uses_of new ≡ uses_of old → veneers_of new ≡ veneers_of old → HasWindows old → HasWindows new
 same_windows old new bytes uses veneers w =
-    subst (λ (bs : List ℕ). AreWindows marks_of bs (uses_of new) (veneers_of new)) (sym bytes)
-    (subst (λ (us : List (Use LabelUse)). AreWindows marks_of (bytes_of old) us (veneers_of new)) (sym uses)
-    (subst (λ (vs : List (VeneerUse LabelUse)). AreWindows marks_of (bytes_of old) (uses_of old) vs) (sym veneers) w))
+    subst (λ (bs : List ℕ). AreWindows label_kinds bs (uses_of new) (veneers_of new)) (sym bytes)
+    (subst (λ (us : List (Use LabelUse)). AreWindows label_kinds (bytes_of old) us (veneers_of new)) (sym uses)
+    (subst (λ (vs : List (VeneerUse LabelUse)). AreWindows label_kinds (bytes_of old) (uses_of old) vs) (sym veneers) w))
 
 -- the jump's window stands fresh
 jump_windows : (old new : Buffer) (round : MachLabel) → IsSoundBuffer old → Adds (word_bytes 0x6f) (use_at (length (bytes_of old)) round Jal20 ∷ []) old new → HasWindows old → HasWindows new
 jump_windows old new round s a w =
     let own = use_at (length (bytes_of old)) round Jal20 ∷ [] in
-    subst (λ (vs : List (VeneerUse LabelUse)). AreWindows marks_of (bytes_of new) (uses_of new) vs) (sym a.veneers)
+    subst (λ (vs : List (VeneerUse LabelUse)). AreWindows label_kinds (bytes_of new) (uses_of new) vs) (sym a.veneers)
     (windows_block w s.linked veneer_law (word_bytes 0x6f) own (own_windows (length (bytes_of old)) (0x6f ∷ []) own s.even (refl, (refl, (refl, (refl, (refl, tt)))), refl, refl, tt)) (bytes_of new) (uses_of new) a.bytes (recorded_more (uses_of old) own (uses_of new) a.uses))
 
 -- an island's end is a multiple of four
@@ -63,12 +63,12 @@ end_behind n count last = on (needs_own (aligned n) count last)
 -- a jump was put, and the island behind it
 pub puts_island : (old drawn mid new : Buffer) (round : MachLabel) → JumpPut old mid round → veneers_of drawn ≡ veneers_of old → labels_of drawn ≡ labels_of old → IsSoundBuffer drawn → (HasWindows old → HasWindows drawn) →
     Adds (word_bytes 0x6f) (use_at (length (bytes_of drawn)) round Jal20 ∷ []) drawn mid →
-    Islanded has_veneer_of forward_of backward_of mid round new → VeneersBehind (length (bytes_of mid)) (veneers_of mid) (veneers_of new) → (HasWindows mid → HasWindows new) → labels_of new ≡ labels_of mid → drawn_of new ≡ drawn_of mid → IsSoundBuffer new → PutsIsland old new
+    Islanded label_kinds mid round new → VeneersBehind (length (bytes_of mid)) (veneers_of mid) (veneers_of new) → (HasWindows mid → HasWindows new) → labels_of new ≡ labels_of mid → drawn_of new ≡ drawn_of mid → IsSoundBuffer new → PutsIsland old new
 puts_island old drawn mid new round p veneers labels sound windows a i behind kept same_labels same_drawn now =
     let long : length (bytes_of mid) ≡ length (bytes_of old) + 4 = ap (length {A = ℕ}) p.bytes ∙ length-append (bytes_of old) (word_bytes 0x6f) in
-    let count = length (others_of has_veneer_of forward_of backward_of mid round) in
+    let count = length (others_of label_kinds mid round) in
     let counted : count ≡ length (pending old) = ap (length {A = ℕ}) (others_pending old mid round p) in
-    let last = deadline forward_of i.jump in
+    let last = deadline label_kinds i.jump in
     let end : length (bytes_of new) ≡ island_end (aligned (length (bytes_of mid))) count last = i.end in
     let near = end_near (aligned (length (bytes_of mid))) count last in
     let ahead = end_behind (length (bytes_of mid)) count last in

@@ -13,7 +13,7 @@ use Rattle.rv_inst.specs.declared.inst.CondBrTarget.TheVariants.{Label, Fallthro
 use Rattle.rv_inst.specs.declared.label_use.LabelUse.{LabelUse}
 use Rattle.rv_inst.specs.declared.label_use.LabelUse.TheVariants.{Jal20, PCRel32, B12, PCRelHi20, PCRelLo12I}
 use Rattle.rv_inst.specs.Families.{family_of, by_family}
-use Rattle.rv_inst.specs.LabelUse.{marks_of, forward_of, backward_of, has_veneer_of, veneer_of}
+use Rattle.rv_inst.specs.LabelUse.{label_kinds, marks_of}
 use Rattle.rv_inst.specs.LabelUseWords.{word_bytes}
 use Rattle.rv_inst.specs.Fields.{inst_labels}
 use Rattle.rv_inst.specs.Rules.{inst_rule}
@@ -30,15 +30,15 @@ abbrev pub Buffer : Type 0
 Buffer = MachBuffer LabelUse
 
 abbrev pub IsSoundBuffer : Buffer → Type 0
-IsSoundBuffer b = IsSound has_veneer_of forward_of backward_of veneer_of b
+IsSoundBuffer b = IsSound label_kinds b
 
 -- the windows of uses stand in the bytes, fresh and apart from one another and from veneers
 abbrev pub HasWindows : Buffer → Type 0
-HasWindows b = AreWindows marks_of (bytes_of b) (uses_of b) (veneers_of b)
+HasWindows b = AreWindows label_kinds (bytes_of b) (uses_of b) (veneers_of b)
 
 -- the deadlines of the pending uses
 abbrev pub pending : Buffer → List ℕ
-pending b = pending_of has_veneer_of forward_of backward_of b
+pending b = pending_of label_kinds b
 
 -- ---- uses
 

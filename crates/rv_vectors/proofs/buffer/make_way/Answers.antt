@@ -8,5 +8,5 @@ pub returns-then-not-island_needed-clause-slack : goal.returns-then-not-island_n
 returns-then-not-island_needed-clause-slack g c =
     let K = g.L.MachInstLabelUse in
     let b = c.args.buffer.now in
-    let idle : is_needed (length (bytes_of b)) c.args.distance (pending_of K.has_veneer K.forward K.backward b) ≡ false = search rules in
-    slack_not_needed (length (bytes_of b)) c.args.distance (pending_of K.has_veneer K.forward K.backward b) idle
+    let idle : is_needed (length (bytes_of b)) c.args.distance (pending_of K.kinds b) ≡ false = search rules in
+    slack_not_needed (length (bytes_of b)) c.args.distance (pending_of K.kinds b) idle

@@ -27,10 +27,10 @@ returns-clause-fewer g c =
     let p = c.in_ok-place_label.ensures in
     let r = c.release.ensures.rest in
     let now = c.release.new.self in
-    let test = is_pending K.has_veneer K.forward K.backward (place_of now) in
-    λ end. subst (λ us. due_by end (deadlines test K.forward us) ≤ due_by end (pending_of K.has_veneer K.forward K.backward b)) (sym (r.code.uses ∙ p.code.uses))
-    (due_fewer (is_pending K.has_veneer K.forward K.backward (place_of b)) test K.forward end (uses_of b)
-    (bound_waits K.has_veneer K.forward K.backward (place_of b) (place_of now) c.args.label.number c.requires.unbound (λ other ne. ap (λ f. f other) r.labels.places ∙ p.binds.kept other ne)))
+    let test = is_pending K.kinds (place_of now) in
+    λ end. subst (λ us. due_by end (deadlines test K.kinds us) ≤ due_by end (pending_of K.kinds b)) (sym (r.code.uses ∙ p.code.uses))
+    (due_fewer (is_pending K.kinds (place_of b)) test K.kinds end (uses_of b)
+    (bound_waits K.kinds (place_of b) (place_of now) c.args.label.number c.requires.unbound (λ other ne. ap (λ f. f other) r.labels.places ∙ p.binds.kept other ne)))
 
 pub returns-clause-sound : goal.returns-clause-sound
 returns-clause-sound g c =

@@ -9,6 +9,6 @@ returns g c =
     let K = g.L.MachInstLabelUse in
     let same = same_length_from_due _ _ (c.requires.waits.counts _ (λ u t. t)) in
     let e : c.loop-u.u-iterator ≡ [] = search rules in
-    let none : length (deadlines (is_other K.has_veneer K.forward K.backward (place_of c.args.self.now) c.args.round) K.forward c.loop-u.u-iterator) ≡ 0 = ap (λ us. length (deadlines (is_other K.has_veneer K.forward K.backward (place_of c.args.self.now) c.args.round) K.forward us)) e in
+    let none : length (deadlines (is_other K.kinds (place_of c.args.self.now) c.args.round) K.kinds c.loop-u.u-iterator) ≡ 0 = ap (λ us. length (deadlines (is_other K.kinds (place_of c.args.self.now) c.args.round) K.kinds us)) e in
     let sum = c.loop-u.invariant.0 in
     omega (arith, same, none, sum)

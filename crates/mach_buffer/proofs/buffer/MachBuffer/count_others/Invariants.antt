@@ -6,5 +6,5 @@ use Rattle.mach_buffer.proofs.buffer.MachBuffer.count_others.Given as goal
 
 abbrev pub invariant-loop-u : goal.invariant-loop-u
 invariant-loop-u g l =
-    let waits = is_other g.L.MachInstLabelUse.has_veneer g.L.MachInstLabelUse.forward g.L.MachInstLabelUse.backward (place_of l.self) l.round in
-    (l.count + length (deadlines waits g.L.MachInstLabelUse.forward l.u-iterator) ≡ length (deadlines waits g.L.MachInstLabelUse.forward (values l.self.waiting))) × (l.count + length l.u-iterator ≤ length (values l.self.waiting))
+    let waits = is_other g.L.MachInstLabelUse.kinds (place_of l.self) l.round in
+    (l.count + length (deadlines waits g.L.MachInstLabelUse.kinds l.u-iterator) ≡ length (deadlines waits g.L.MachInstLabelUse.kinds (values l.self.waiting))) × (l.count + length l.u-iterator ≤ length (values l.self.waiting))

@@ -5,4 +5,4 @@ use Rattle.mach_buffer.proofs.Needed.{Scanned}
 use Rattle.mach_buffer.proofs.buffer.MachBuffer.island_needed.Given as goal
 
 abbrev pub invariant-loop-turn : goal.invariant-loop-turn
-invariant-loop-turn g l = Scanned g.L.MachInstLabelUse.forward (is_pending g.L.MachInstLabelUse.has_veneer g.L.MachInstLabelUse.forward g.L.MachInstLabelUse.backward (place_of l.self)) (length (bytes_of l.self) + l.distance) (turns_of l.self) l.turn-iterator l.due
+invariant-loop-turn g l = Scanned g.L.MachInstLabelUse.kinds (is_pending g.L.MachInstLabelUse.kinds (place_of l.self)) (length (bytes_of l.self) + l.distance) (turns_of l.self) l.turn-iterator l.due

@@ -9,13 +9,13 @@ use Rattle.mach_buffer.proofs.Turns.{turns_fewer}
 use Rattle.mach_buffer.proofs.buffer.MachBuffer.pad_last.Goals as goal
 
 pub count_others-requires : goal.count_others-requires
-count_others-requires g c = let K = g.L.MachInstLabelUse in record { waits = turns_fewer _ (other_pending K.has_veneer K.forward K.backward (place_of c.args.self.now) None) c.requires.sound.waits }
+count_others-requires g c = let K = g.L.MachInstLabelUse in record { waits = turns_fewer _ (other_pending K.kinds (place_of c.args.self.now) None) c.requires.sound.waits }
 
 pub pad-requires-clause-room : goal.pad-requires-clause-room
 pad-requires-clause-room g c =
     let K = g.L.MachInstLabelUse in
-    let n = length (pending_of K.has_veneer K.forward K.backward c.args.self.now) in
-    let count = c.count_others.ensures ∙ count_none K.has_veneer K.forward K.backward (place_of c.args.self.now) (uses_of c.args.self.now) in
+    let n = length (pending_of K.kinds c.args.self.now) in
+    let count = c.count_others.ensures ∙ count_none K.kinds (place_of c.args.self.now) (uses_of c.args.self.now) in
     let some : n ≢ 0 = λ e. c.if-count_others-ne0.true (count ∙ e) in
     let same : length (before_last (bytes_of c.args.self.now) n) ≡ aligned (length (bytes_of c.args.self.now)) = ap (length {A = ℕ}) (before_some (bytes_of c.args.self.now) n some) ∙ length_padded (bytes_of c.args.self.now) in
     subst (λ m. m < 2147479552) same c.requires.short
@@ -26,8 +26,8 @@ pad-requires-clause-sound g c = c.requires.sound
 pub returns-in_ok-pad-clause-bytes : goal.returns-in_ok-pad-clause-bytes
 returns-in_ok-pad-clause-bytes g c =
     let K = g.L.MachInstLabelUse in
-    let n = length (pending_of K.has_veneer K.forward K.backward c.args.self.now) in
-    let count = c.count_others.ensures ∙ count_none K.has_veneer K.forward K.backward (place_of c.args.self.now) (uses_of c.args.self.now) in
+    let n = length (pending_of K.kinds c.args.self.now) in
+    let count = c.count_others.ensures ∙ count_none K.kinds (place_of c.args.self.now) (uses_of c.args.self.now) in
     c.in_ok-pad.ensures.put.bytes ∙ sym (before_some (bytes_of c.args.self.now) n (λ e. c.if-count_others-ne0.true (count ∙ e)))
 
 pub returns-in_ok-pad-clause-uses : goal.returns-in_ok-pad-clause-uses
@@ -45,8 +45,8 @@ returns-in_ok-pad-clause-sound g c = c.in_ok-pad.ensures.sound
 pub returns-else-count_others-ne0-clause-bytes : goal.returns-else-count_others-ne0-clause-bytes
 returns-else-count_others-ne0-clause-bytes g c =
     let K = g.L.MachInstLabelUse in
-    let n = length (pending_of K.has_veneer K.forward K.backward c.args.self.now) in
-    let count = c.count_others.ensures ∙ count_none K.has_veneer K.forward K.backward (place_of c.args.self.now) (uses_of c.args.self.now) in
+    let n = length (pending_of K.kinds c.args.self.now) in
+    let count = c.count_others.ensures ∙ count_none K.kinds (place_of c.args.self.now) (uses_of c.args.self.now) in
     sym (before_none (bytes_of c.args.self.now) n (sym count ∙ c.if-count_others-ne0.false))
 
 pub returns-else-count_others-ne0-clause-memory : goal.returns-else-count_others-ne0-clause-memory

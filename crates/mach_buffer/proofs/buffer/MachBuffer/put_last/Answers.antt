@@ -17,7 +17,7 @@ put_waiting-requires-clause-room g c =
     let K = g.L.MachInstLabelUse in
     let b = c.args.self.now in
     let e = c.in_ok-pad_last.ensures in
-    let same = same_deadlines K.has_veneer K.forward K.backward b c.pad_last.new.self e.labels.places e.uses in
+    let same = same_deadlines K.kinds b c.pad_last.new.self e.labels.places e.uses in
     let long = ap (length {A = ℕ}) e.bytes in
     let many = ap (length {A = ℕ}) same in
     let short = c.requires.short in
@@ -26,26 +26,26 @@ put_waiting-requires-clause-room g c =
 pub put_waiting-requires-clause-waits : goal.put_waiting-requires-clause-waits
 put_waiting-requires-clause-waits g c =
     let K = g.L.MachInstLabelUse in
-    turns_fewer _ (other_pending K.has_veneer K.forward K.backward (place_of c.pad_last.new.self) None) c.in_ok-pad_last.ensures.sound.waits
+    turns_fewer _ (other_pending K.kinds (place_of c.pad_last.new.self) None) c.in_ok-pad_last.ensures.sound.waits
 
 pub put_waiting-requires-clause-reach : goal.put_waiting-requires-clause-reach
 put_waiting-requires-clause-reach g c =
     let K = g.L.MachInstLabelUse in
     let b = c.args.self.now in
     let e = c.in_ok-pad_last.ensures in
-    let same = same_deadlines K.has_veneer K.forward K.backward b c.pad_last.new.self e.labels.places e.uses in
-    subst (StillReaches (length (bytes_of c.pad_last.new.self))) (sym same) (subst (λ s. StillReaches (length s) (pending_of K.has_veneer K.forward K.backward b)) (sym e.bytes) c.requires.reach)
+    let same = same_deadlines K.kinds b c.pad_last.new.self e.labels.places e.uses in
+    subst (StillReaches (length (bytes_of c.pad_last.new.self))) (sym same) (subst (λ s. StillReaches (length s) (pending_of K.kinds b)) (sym e.bytes) c.requires.reach)
 
 pub returns-clause-put : goal.returns-clause-put
 returns-clause-put g c =
     let K = g.L.MachInstLabelUse in
     let b = c.args.self.now in
     let e = c.in_ok-pad_last.ensures in
-    let test = same_test K.has_veneer K.forward K.backward b c.pad_last.new.self e.labels.places in
+    let test = same_test K.kinds b c.pad_last.new.self e.labels.places in
     let w = c.in_ok-put_waiting.ensures in
-    subst (λ t. VeneersPut K.forward t (before_last (bytes_of b) (length (pending_of K.has_veneer K.forward K.backward b))) (uses_of b) (bytes_of c.put_waiting.new.self) (uses_of c.put_waiting.new.self)) test
-    (subst (λ us. VeneersPut K.forward (is_other K.has_veneer K.forward K.backward (place_of c.pad_last.new.self) None) (before_last (bytes_of b) (length (pending_of K.has_veneer K.forward K.backward b))) us (bytes_of c.put_waiting.new.self) (uses_of c.put_waiting.new.self)) e.uses
-    (subst (λ s. VeneersPut K.forward (is_other K.has_veneer K.forward K.backward (place_of c.pad_last.new.self) None) s (uses_of c.pad_last.new.self) (bytes_of c.put_waiting.new.self) (uses_of c.put_waiting.new.self)) e.bytes w.put))
+    subst (λ t. VeneersPut K.kinds t (before_last (bytes_of b) (length (pending_of K.kinds b))) (uses_of b) (bytes_of c.put_waiting.new.self) (uses_of c.put_waiting.new.self)) test
+    (subst (λ us. VeneersPut K.kinds (is_other K.kinds (place_of c.pad_last.new.self) None) (before_last (bytes_of b) (length (pending_of K.kinds b))) us (bytes_of c.put_waiting.new.self) (uses_of c.put_waiting.new.self)) e.uses
+    (subst (λ s. VeneersPut K.kinds (is_other K.kinds (place_of c.pad_last.new.self) None) s (uses_of c.pad_last.new.self) (bytes_of c.put_waiting.new.self) (uses_of c.put_waiting.new.self)) e.bytes w.put))
 
 pub returns-clause-windows : goal.returns-clause-windows
 returns-clause-windows g c =
@@ -53,23 +53,23 @@ returns-clause-windows g c =
     let b = c.args.self.now in
     let e = c.in_ok-pad_last.ensures in
     let w = c.in_ok-put_waiting.ensures in
-    λ h. w.windows (windows_as (windows_before (length (pending_of K.has_veneer K.forward K.backward b)) h) e.bytes e.uses e.veneers)
+    λ h. w.windows (windows_as (windows_before (length (pending_of K.kinds b)) h) e.bytes e.uses e.veneers)
 
 pub returns-clause-none : goal.returns-clause-none
 returns-clause-none g c =
     let K = g.L.MachInstLabelUse in
     let b = c.args.self.now in
     let e = c.in_ok-pad_last.ensures in
-    let test = same_test K.has_veneer K.forward K.backward b c.pad_last.new.self e.labels.places in
+    let test = same_test K.kinds b c.pad_last.new.self e.labels.places in
     let w = c.in_ok-put_waiting.ensures in
-    subst (λ t. deadlines t K.forward (uses_of c.put_waiting.new.self) ≡ []) test w.none
+    subst (λ t. deadlines t K.kinds (uses_of c.put_waiting.new.self) ≡ []) test w.none
 
 pub returns-clause-grown : goal.returns-clause-grown
 returns-clause-grown g c =
     let K = g.L.MachInstLabelUse in
     let b = c.args.self.now in
     let e = c.in_ok-pad_last.ensures in
-    let longer = before_longer (bytes_of b) (length (pending_of K.has_veneer K.forward K.backward b)) in
+    let longer = before_longer (bytes_of b) (length (pending_of K.kinds b)) in
     let long = ap (length {A = ℕ}) e.bytes in
     added_more (omega (arith, longer, long)) (added_none (length (bytes_of b)) e.veneers) c.in_ok-put_waiting.ensures.grown
 

@@ -23,10 +23,10 @@ there g c = let uses = uses_of c.args.self.now in slice_get_read uses _ _ _ refl
 named : (g : given.Over) (c : After-deadline g) → c.index.result.now.label.number ≡ c.args.round.number
 named g c = some_is (slice_get (uses_of c.args.self.now) c.use_of-index.result) _ _ (there g c) c.use_of-index.ensures
 
-supported : (g : given.Over) (c : After-deadline g) → g.L.MachInstLabelUse.has_veneer c.index.result.now.kind ≡ true
+supported : (g : given.Over) (c : After-deadline g) → g.L.MachInstLabelUse.kinds.has_veneer c.index.result.now.kind ≡ true
 supported g c = round_supported c.requires.round.jump c.use_of-index.result c.index.result.now (there g c) (named g c)
 
-eight : (g : given.Over) (c : After-deadline g) → length (g.L.MachInstLabelUse.veneer c.index.result.now.kind).bytes ≡ 8
+eight : (g : given.Over) (c : After-deadline g) → length (g.L.MachInstLabelUse.kinds.veneer c.index.result.now.kind).bytes ≡ 8
 eight g c = (g.met.L.MachInstLabelUse.veneer_ok c.index.result.now.kind (supported g c)).eight
 
 pub index-requires : goal.index-requires
@@ -57,15 +57,15 @@ returns-in_ok-put_veneer-clause-others g c =
     let K = g.L.MachInstLabelUse in
     let d = (goal.at.returns-in_ok-put_veneer-clause-others g c).After-deadline in
     let place = place_of c.args.self.now in
-    let test = is_other K.has_veneer K.forward K.backward place (Some c.args.round) in
-    let idle = own_idle K.has_veneer K.forward K.backward place c.args.round c.index.result.now (named g d) in
-    let cleared = other_clears K.has_veneer K.forward K.backward place (Some c.args.round) c.index.result.now (length (bytes_of c.args.self.now)) in
-    ap (deadlines test K.forward) c.in_ok-put_veneer.ensures.uses ∙ deadlines_set_idle test K.forward (uses_of c.args.self.now) _ _ _ (there g d) idle cleared
+    let test = is_other K.kinds place (Some c.args.round) in
+    let idle = own_idle K.kinds place c.args.round c.index.result.now (named g d) in
+    let cleared = other_clears K.kinds place (Some c.args.round) c.index.result.now (length (bytes_of c.args.self.now)) in
+    ap (deadlines test K.kinds) c.in_ok-put_veneer.ensures.uses ∙ deadlines_set_idle test K.kinds (uses_of c.args.self.now) _ _ _ (there g d) idle cleared
 
 pub returns-in_ok-put_veneer-clause-even : goal.returns-in_ok-put_veneer-clause-even
 returns-in_ok-put_veneer-clause-even g c =
     let d = (goal.at.returns-in_ok-put_veneer-clause-even g c).After-deadline in
-    let long : length (bytes_of c.put_veneer.new.self) ≡ length (bytes_of c.args.self.now) + 8 = ap length c.in_ok-put_veneer.ensures.bytes ∙ length-append (bytes_of c.args.self.now) (g.L.MachInstLabelUse.veneer c.index.result.now.kind).bytes ∙ ap (λ n. length (bytes_of c.args.self.now) + n) (eight g d) in
+    let long : length (bytes_of c.put_veneer.new.self) ≡ length (bytes_of c.args.self.now) + 8 = ap length c.in_ok-put_veneer.ensures.bytes ∙ length-append (bytes_of c.args.self.now) (g.L.MachInstLabelUse.kinds.veneer c.index.result.now.kind).bytes ∙ ap (λ n. length (bytes_of c.args.self.now) + n) (eight g d) in
     let even = c.requires.even in
     omega (arith, long, even)
 
@@ -75,9 +75,9 @@ returns-in_ok-put_veneer-clause-waits g c =
     let d = (goal.at.returns-in_ok-put_veneer-clause-waits g c).After-deadline in
     let p = c.in_ok-put_veneer.ensures in
     let place = place_of c.args.self.now in
-    let idle = own_idle K.has_veneer K.forward K.backward place c.args.round c.index.result.now (named g d) in
-    let cleared = other_clears K.has_veneer K.forward K.backward place (Some c.args.round) c.index.result.now (length (bytes_of c.args.self.now)) in
-    subst (λ ts. HaveTurns K.forward (is_other K.has_veneer K.forward K.backward place (Some c.args.round)) ts (uses_of c.put_veneer.new.self)) (sym p.turns) (turns_idle c.requires.waits _ _ _ (there g d) idle cleared _ p.uses)
+    let idle = own_idle K.kinds place c.args.round c.index.result.now (named g d) in
+    let cleared = other_clears K.kinds place (Some c.args.round) c.index.result.now (length (bytes_of c.args.self.now)) in
+    subst (λ ts. HaveTurns K.kinds (is_other K.kinds place (Some c.args.round)) ts (uses_of c.put_veneer.new.self)) (sym p.turns) (turns_idle c.requires.waits _ _ _ (there g d) idle cleared _ p.uses)
 
 pub returns-in_ok-put_veneer-clause-windows : goal.returns-in_ok-put_veneer-clause-windows
 returns-in_ok-put_veneer-clause-windows g c =

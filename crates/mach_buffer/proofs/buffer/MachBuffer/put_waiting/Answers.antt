@@ -14,7 +14,7 @@ pub loop-turn-init : goal.loop-turn-init
 loop-turn-init g c =
     let K = g.L.MachInstLabelUse in
     let r = c.requires in (
-      putting_start (other_clears K.has_veneer K.forward K.backward (place_of c.args.self.now) c.args.round) r.linked r.even r.waits r.reach,
+      putting_start (other_clears K.kinds (place_of c.args.self.now) c.args.round) r.linked r.even r.waits r.reach,
       record { places = refl; labels = refl; drawn = refl },
       c.in_ok-check.ensures.ok,
       c.in_ok-check.ensures.ok,
@@ -23,9 +23,9 @@ loop-turn-init g c =
 pub put_veneer-requires : goal.put_veneer-requires
 put_veneer-requires g c =
     let K = g.L.MachInstLabelUse in
-    let clears = other_clears K.has_veneer K.forward K.backward (place_of c.args.self.now) c.args.round in
+    let clears = other_clears K.kinds (place_of c.args.self.now) c.args.round in
     let t = c.take_turn.ensures.rest in
-    let waits : is_other K.has_veneer K.forward K.backward (place_of c.args.self.now) c.args.round c.in-Some.u ≡ true = subst (λ p. is_other K.has_veneer K.forward K.backward p c.args.round c.in-Some.u ≡ true) (t.labels.places ∙ c.loop-turn.invariant.1.places) (sym c.is_other.ensures ∙ c.if-is_other.true) in
+    let waits : is_other K.kinds (place_of c.args.self.now) c.args.round c.in-Some.u ≡ true = subst (λ p. is_other K.kinds p c.args.round c.in-Some.u ≡ true) (t.labels.places ∙ c.loop-turn.invariant.1.places) (sym c.is_other.ensures ∙ c.if-is_other.true) in
     let now = putting_as c.loop-turn.invariant.0 t.code.bytes t.code.uses t.code.veneers (sym c.in-Some.ensures.first) in
     let room = putting_room now refl waits clears in
     let fits = c.requires.room in
@@ -33,7 +33,7 @@ put_veneer-requires g c =
       there = (putting_turn now refl waits).there;
       room = omega (arith, room, fits);
       even = now.even;
-      may = other_supported K.has_veneer K.forward K.backward (place_of c.args.self.now) c.args.round c.in-Some.u waits;
+      may = other_supported K.kinds (place_of c.args.self.now) c.args.round c.in-Some.u waits;
       near = putting_near now refl waits clears;
       linked = now.linked;
     }
@@ -42,13 +42,13 @@ pub loop-turn-preserved-in-Continue-branch-2 : goal.loop-turn-preserved-in-Conti
 loop-turn-preserved-in-Continue-branch-2 g c =
     let K = g.L.MachInstLabelUse in
     let law = g.met.L.MachInstLabelUse.veneer_ok in
-    let clears = other_clears K.has_veneer K.forward K.backward (place_of c.args.self.now) c.args.round in
+    let clears = other_clears K.kinds (place_of c.args.self.now) c.args.round in
     let t = c.take_turn.ensures.rest in
     let p = c.in_ok-put_veneer.ensures in
-    let waits : is_other K.has_veneer K.forward K.backward (place_of c.args.self.now) c.args.round c.in-Some.u ≡ true = subst (λ p. is_other K.has_veneer K.forward K.backward p c.args.round c.in-Some.u ≡ true) (t.labels.places ∙ c.loop-turn.invariant.1.places) (sym c.is_other.ensures ∙ c.if-is_other.true) in
+    let waits : is_other K.kinds (place_of c.args.self.now) c.args.round c.in-Some.u ≡ true = subst (λ p. is_other K.kinds p c.args.round c.in-Some.u ≡ true) (t.labels.places ∙ c.loop-turn.invariant.1.places) (sym c.is_other.ensures ∙ c.if-is_other.true) in
     let now = putting_as c.loop-turn.invariant.0 t.code.bytes t.code.uses t.code.veneers (sym c.in-Some.ensures.first) in
     let there = (putting_turn now refl waits).there in
-    let next = putting_next now refl waits c.in-Some.ensures.later clears (law c.in-Some.u.kind (other_supported K.has_veneer K.forward K.backward (place_of c.args.self.now) c.args.round c.in-Some.u waits)).eight
+    let next = putting_next now refl waits c.in-Some.ensures.later clears (law c.in-Some.u.kind (other_supported K.kinds (place_of c.args.self.now) c.args.round c.in-Some.u waits)).eight
     (bytes_of c.put_veneer.new.self) (uses_of c.put_veneer.new.self) (veneers_of c.put_veneer.new.self) p.bytes p.uses p.linked
     (λ w. windows_veneer now.linked law _ _ _ _ _ p.bytes (ap recorded p.uses ∙ recorded_set (uses_of c.take_turn.new.self) c.in-Some.turn.index c.in-Some.u _ there refl) p.veneers refl w) (added_one _ _ (omega arith) p.veneers) in (
       putting_as next refl refl refl p.turns,
@@ -61,7 +61,7 @@ pub loop-turn-preserved : goal.loop-turn-preserved
 loop-turn-preserved g c =
     let K = g.L.MachInstLabelUse in
     let t = c.take_turn.ensures.rest in
-    let idle : is_other K.has_veneer K.forward K.backward (place_of c.args.self.now) c.args.round c.in-Some.u ≡ false = subst (λ p. is_other K.has_veneer K.forward K.backward p c.args.round c.in-Some.u ≡ false) (t.labels.places ∙ c.loop-turn.invariant.1.places) (sym c.is_other.ensures ∙ c.if-is_other.false) in (
+    let idle : is_other K.kinds (place_of c.args.self.now) c.args.round c.in-Some.u ≡ false = subst (λ p. is_other K.kinds p c.args.round c.in-Some.u ≡ false) (t.labels.places ∙ c.loop-turn.invariant.1.places) (sym c.is_other.ensures ∙ c.if-is_other.false) in (
       putting_as (putting_pass c.loop-turn.invariant.0 c.in-Some.ensures.first idle) t.code.bytes t.code.uses t.code.veneers refl,
       labels_then c.loop-turn.invariant.1 t.labels,
       t.spoiled ∙ c.loop-turn.invariant.2,

@@ -10,6 +10,6 @@ decreases-loop-turn g l = length (turns_of l.self)
 abbrev pub invariant-loop-turn : goal.invariant-loop-turn
 invariant-loop-turn g l =
     let K = g.L.MachInstLabelUse in
-    Putting K.fields K.has_veneer K.forward K.veneer (is_other K.has_veneer K.forward K.backward (place_of l.initial.self) l.round)
+    Putting K.kinds (is_other K.kinds (place_of l.initial.self) l.round)
     (bytes_of l.initial.self) (uses_of l.initial.self) (veneers_of l.initial.self) (bytes_of l.self) (uses_of l.self) (veneers_of l.self) (turns_of l.self) ×
     SameLabels l.initial.self l.self × (spoiled_of l.self ≡ false) × (spoiled_of l.initial.self ≡ false)

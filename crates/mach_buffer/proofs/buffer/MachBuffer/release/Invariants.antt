@@ -11,4 +11,4 @@ decreases-loop-next g l = unwrap_or (option_map (λ (i : ℕ). i + 1) l.next) 0
 abbrev pub invariant-loop-next : goal.invariant-loop-next
 invariant-loop-next g l =
     let K = g.L.MachInstLabelUse in
-    HaveTurns K.forward (is_pending K.has_veneer K.forward K.backward (place_of l.initial.self)) (turns_of l.self) (uses_of l.initial.self) × SameButTurns l.initial.self l.self
+    HaveTurns K.kinds (is_pending K.kinds (place_of l.initial.self)) (turns_of l.self) (uses_of l.initial.self) × SameButTurns l.initial.self l.self

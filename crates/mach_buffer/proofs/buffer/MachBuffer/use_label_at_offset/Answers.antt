@@ -11,7 +11,7 @@ use Rattle.mach_buffer.proofs.buffer.MachBuffer.use_label_at_offset.Goals as goa
 pub returns-clause-sound : goal.returns-clause-sound
 returns-clause-sound g c =
     let K = g.L.MachInstLabelUse in
-    let Sound = λ (b : MachBuffer g.row.L.Denot). IsSound K.has_veneer K.forward K.backward K.veneer b in
+    let Sound = λ (b : MachBuffer g.row.L.Denot). IsSound K.kinds b in
     let n = c.note_use.ensures in
     let b = c.note_use.new.self in
     let sound = sound_as c.requires.sound n.code.bytes n.code.uses n.code.veneers n.turns n.labels.places n.labels.drawn in
