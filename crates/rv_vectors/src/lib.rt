@@ -8,6 +8,8 @@ mod emission;
 #[cfg(test)]
 mod immediates;
 #[cfg(test)]
+mod label_table;
+#[cfg(test)]
 mod label_uses;
 #[cfg(test)]
 mod listings;

@@ -1,0 +1,14 @@
+-- What holds where a call was refused, and where it wasn't.
+use Rattle.std.specs.Prelude.{Result, Ok, Err, OnOk, OnErr}
+
+pub on_ok : {T E P Q : Type 0} (r : Result T E) → (P → Q) → OnOk r P → OnOk r Q
+on_ok (Ok x) f p = f p
+on_ok (Err e) f p = tt
+
+pub on_err : {T E P Q : Type 0} (r : Result T E) → (P → Q) → OnErr r P → OnErr r Q
+on_err (Ok x) f p = tt
+on_err (Err e) f p = f p
+
+pub err_holds : {T E P : Type 0} (r : Result T E) → P → OnErr r P
+err_holds (Ok x) p = tt
+err_holds (Err e) p = p

@@ -1,0 +1,23 @@
+-- What a table has for each label.
+use Rattle.std.specs.Prelude.{◌≡◌, ℕ, ◌^◌, ◌-◌, Option, Some, nat_eq, nat_lt, if◌then◌else◌}
+use Rattle.std.specs.Option.{option_or}
+use Rattle.std.specs.BTreeMap.{get}
+use Rattle.std.specs.Ordering.{nat_cmp}
+use Rattle.mach_labels.specs.declared.table.LabelTable.{LabelTable}
+use Rattle.mach_labels.specs.Slots.{slot_of}
+
+-- what the vectors have: a listing's labels are below 2^30, those that a buffer gives out are from there on
+abbrev pub dense_of : {T : Type 0} → LabelTable T → ℕ → Option T
+dense_of table label = if nat_lt label (2 ^ 30) then slot_of table.own.items label else slot_of table.inner.items (label - 2 ^ 30)
+
+-- what the table has for a label
+unfoldable pub entry_of : {T : Type 0} → LabelTable T → ℕ → Option T
+entry_of table label = option_or (dense_of table label) (get nat_cmp table.sparse label)
+
+-- each label has what it had
+abbrev pub Same : {T : Type 0} → LabelTable T → LabelTable T → Type 0
+Same old new = (n : ℕ) → entry_of new n ≡ entry_of old n
+
+-- this label has this value, each other one what it had
+abbrev pub Puts : {T : Type 0} → ℕ → T → LabelTable T → LabelTable T → Type 0
+Puts label value old new = (n : ℕ) → entry_of new n ≡ (if nat_eq n label then Some value else entry_of old n)

@@ -1,0 +1,5 @@
+//! A table of labels by number, in constant time for the numbers that listings and buffers use.
+#![tactic(auto)]
+
+mod slots;
+pub mod table;
