@@ -6,7 +6,7 @@ use Rattle.std.proofs.lemmas.Option.{same_Some}
 use Rattle.std.specs.Prelude.{is_none, slice_get, nat_le, nat_lt}
 use Rattle.std.proofs.lemmas.Bool.{leb-true, leb-false, ltb-false, or_parts, true≢false, and_parts, and_from, cases_eq}
 use Rattle.rv_base.specs.LabelUse.{Kinds}
-use Rattle.mach_buffer.specs.Reach.{AllOf, CanReach, StillReaches, deadline, is_reached, is_pending, deadlines, due_by, HasSlack, is_needed_from, is_needed}
+use Rattle.mach_buffer.specs.Reach.{AllOf, CanReach, VeneersReach, StillReaches, deadline, is_reached, is_pending, deadlines, due_by, HasSlack, is_needed_from, is_needed}
 
 -- ---- how many are due
 
@@ -53,30 +53,16 @@ slack_more cur slack d ds le h = record { each = λ end one. on end (nat_le d en
 pub slack_same : (cur slack : ℕ) (ds es : List ℕ) → ((end : ℕ) → due_by end es ≤ due_by end ds) → HasSlack cur slack ds → HasSlack cur slack es
 slack_same cur slack ds es le h = record { each = λ end one. let l = le end in let g = h.each end (omega arith) in omega arith }
 
--- the soonest gets its veneer: eight bytes on, and one less is due
-pub slack_next : (cur slack d : ℕ) (ds es : List ℕ) → ((end : ℕ) → 1 ≤ due_by end ds → d ≤ end) → ((end : ℕ) → due_by end ds ≡ due_by end (d ∷ []) + due_by end es) → HasSlack cur slack ds → HasSlack (cur + 8) slack es
-slack_next cur slack d ds es least counts h = record { each = λ end one. on end (nat_le d end) refl one (counts end) }
-  where
-    on : (end : ℕ) (c : Bool) → nat_le d end ≡ c → 1 ≤ due_by end es → due_by end ds ≡ cond c 1 0 + due_by end es → cur + 8 + slack + 8 * due_by end es ≤ end
-    on end true e one counts = let g = h.each end (omega arith) in omega arith
-    on end false e one counts = let p = leb-false _ _ e in let q = least end (omega arith) in absurd (omega arith)
 
--- and it is in reach
-pub soonest_due : (cur slack d : ℕ) (ds es : List ℕ) → due_by d ds ≡ due_by d (d ∷ []) + due_by d es → HasSlack cur slack ds → cur + slack + 8 ≤ d
-soonest_due cur slack d ds es counts h = on (nat_le d d) refl counts
-  where
-    on : (c : Bool) → nat_le d d ≡ c → due_by d ds ≡ cond c 1 0 + due_by d es → cur + slack + 8 ≤ d
-    on true e counts = let g = h.each d (omega arith) in omega arith
-    on false e counts = let p = leb-false _ _ e in absurd (omega arith)
 
 -- ---- from the deadlines themselves to every offset
 
--- Each deadline among some keeps a bound; so does every offset by which one is due.
-from_each : (cur slack : ℕ) (all : List ℕ) → ((d : ℕ) → suc (due_by d all) ≤ due_by (suc d) all → cur + slack + 8 * due_by (suc d) all ≤ suc d) → (1 ≤ due_by 0 all → cur + slack + 8 * due_by 0 all ≤ 0) → (end : ℕ) → 1 ≤ due_by end all → cur + slack + 8 * due_by end all ≤ end
-from_each cur slack all step base zero one = base one
-from_each cur slack all step base (suc end) one = on (nat_le (suc (due_by end all)) (due_by (suc end) all)) refl (from_each cur slack all step base end)
+-- Each deadline among some keeps a bound, which may end somewhat past it; so does every offset by which one is due.
+from_each : (cur past : ℕ) (all : List ℕ) → ((d : ℕ) → suc (due_by d all) ≤ due_by (suc d) all → cur + 8 * due_by (suc d) all ≤ suc d + past) → (1 ≤ due_by 0 all → cur + 8 * due_by 0 all ≤ 0 + past) → (end : ℕ) → 1 ≤ due_by end all → cur + 8 * due_by end all ≤ end + past
+from_each cur past all step base zero one = base one
+from_each cur past all step base (suc end) one = on (nat_le (suc (due_by end all)) (due_by (suc end) all)) refl (from_each cur past all step base end)
   where
-    on : (c : Bool) → nat_le (suc (due_by end all)) (due_by (suc end) all) ≡ c → (1 ≤ due_by end all → cur + slack + 8 * due_by end all ≤ end) → cur + slack + 8 * due_by (suc end) all ≤ suc end
+    on : (c : Bool) → nat_le (suc (due_by end all)) (due_by (suc end) all) ≡ c → (1 ≤ due_by end all → cur + 8 * due_by end all ≤ end + past) → cur + 8 * due_by (suc end) all ≤ suc end + past
     on true e before = step end (leb-true _ _ e)
     on false e before = let more = due_earlier end all in let p = leb-false _ _ e in let g = before (omega arith) in omega arith
 
@@ -99,10 +85,19 @@ due_at_zero P (e ∷ ds) h one = on (nat_le e 0) refl one (due_at_zero P ds h.1)
     on true ha le rest = let p = leb-true _ _ ha in let same : e ≡ 0 = omega arith in subst P same h.0
     on false ha le rest = rest le
 
+all_of : (P Q : ℕ → Type 0) → ((d : ℕ) → P d → Q d) → (ds : List ℕ) → AllOf P ds → AllOf Q ds
+all_of P Q f [] h = tt
+all_of P Q f (d ∷ ds) h = (f d h.0, all_of P Q f ds h.1)
+
+each_end : (cur past : ℕ) (ds : List ℕ) → AllOf (λ d. cur + 8 * due_by d ds ≤ d + past) ds → (end : ℕ) → 1 ≤ due_by end ds → cur + 8 * due_by end ds ≤ end + past
+each_end cur past ds h = from_each cur past ds (λ e. due_is_deadline (λ d. cur + 8 * due_by d ds ≤ d + past) e ds h) (due_at_zero (λ d. cur + 8 * due_by d ds ≤ d + past) ds h)
+
 pub slack_from_each : (cur slack : ℕ) (ds : List ℕ) → AllOf (λ d. cur + slack + 8 * due_by d ds ≤ d) ds → HasSlack cur slack ds
-slack_from_each cur slack ds h = record {
-  each = from_each cur slack ds (λ e. due_is_deadline (λ d. cur + slack + 8 * due_by d ds ≤ d) e ds h) (due_at_zero (λ d. cur + slack + 8 * due_by d ds ≤ d) ds h);
-}
+slack_from_each cur slack ds h = record { each = λ end one. let e = each_end (cur + slack) 0 ds (all_of (λ d. cur + slack + 8 * due_by d ds ≤ d) (λ d. cur + slack + 8 * due_by d ds ≤ d + 0) (λ d q. omega arith) ds h) end one in omega arith }
+
+-- and where each pending use reaches its veneer
+pub reaches_from_each : (start : ℕ) (ds : List ℕ) → VeneersReach start ds → StillReaches start ds
+reaches_from_each start ds h = record { each = each_end start 8 ds h }
 
 -- and back
 due_own : (d : ℕ) (ds : List ℕ) → 1 ≤ due_by d (d ∷ ds)
@@ -156,42 +151,7 @@ deadlines_append test kinds (u ∷ uses) more = on (test u) (deadlines_append te
     on true rest = ap (λ ds. deadline kinds u ∷ ds) rest
     on false rest = rest
 
--- a use is changed so that it waits no longer: what its deadline counted is gone
-pub due_set : {L : Type 0} (test : Use L → Bool) (kinds : Kinds L) (end : ℕ) (uses : List (Use L)) (i : ℕ) (u v : Use L) → slice_get uses i ≡ Some u → test u ≡ true → test v ≡ false →
-    due_by end (deadlines test kinds uses) ≡ due_by end (deadline kinds u ∷ []) + due_by end (deadlines test kinds (set uses i v))
-due_set test kinds end [] i u v h tu tv = absurd (cc)
-due_set test kinds end (w ∷ uses) zero u v h tu tv =
-    let same : w ≡ u = same_Some _ _ h in
-    let yes : test w ≡ true = ap test same ∙ tu in
-    rw (yes, tv, same) (on (nat_le (deadline kinds u) end))
-  where
-    on : (c : Bool) → cond c (suc (due_by end (deadlines test kinds uses))) (due_by end (deadlines test kinds uses)) ≡ cond c 1 0 + due_by end (deadlines test kinds uses)
-    on true = omega arith
-    on false = omega arith
-due_set test kinds end (w ∷ uses) (suc i) u v h tu tv = on (test w) (due_set test kinds end uses i u v h tu tv)
-  where
-    step : (c : Bool) (m n k : ℕ) → m ≡ k + n → cond c (suc m) m ≡ k + cond c (suc n) n
-    step true m n k e = omega arith
-    step false m n k e = e
 
-    on : (c : Bool) → due_by end (deadlines test kinds uses) ≡ due_by end (deadline kinds u ∷ []) + due_by end (deadlines test kinds (set uses i v)) →
-        due_by end (cond c (deadline kinds w ∷ deadlines test kinds uses) (deadlines test kinds uses)) ≡ due_by end (deadline kinds u ∷ []) + due_by end (cond c (deadline kinds w ∷ deadlines test kinds (set uses i v)) (deadlines test kinds (set uses i v)))
-    on true rest = step (nat_le (deadline kinds w) end) _ _ _ rest
-    on false rest = rest
-
-pub length_set : {L : Type 0} (test : Use L → Bool) (kinds : Kinds L) (uses : List (Use L)) (i : ℕ) (u v : Use L) → slice_get uses i ≡ Some u → test u ≡ true → test v ≡ false →
-    length (deadlines test kinds uses) ≡ suc (length (deadlines test kinds (set uses i v)))
-length_set test kinds [] i u v h tu tv = absurd (cc)
-length_set test kinds (w ∷ uses) zero u v h tu tv =
-    let same : w ≡ u = same_Some _ _ h in
-    let yes : test w ≡ true = ap test same ∙ tu in
-    rw (yes, tv) refl
-length_set test kinds (w ∷ uses) (suc i) u v h tu tv = on (test w) (length_set test kinds uses i u v h tu tv)
-  where
-    on : (c : Bool) → length (deadlines test kinds uses) ≡ suc (length (deadlines test kinds (set uses i v))) →
-        length (cond c (deadline kinds w ∷ deadlines test kinds uses) (deadlines test kinds uses)) ≡ suc (length (cond c (deadline kinds w ∷ deadlines test kinds (set uses i v)) (deadlines test kinds (set uses i v))))
-    on true rest = ap suc rest
-    on false rest = rest
 
 -- a label is bound: fewer wait
 pub due_fewer : {L : Type 0} (test new_test : Use L → Bool) (kinds : Kinds L) (end : ℕ) (uses : List (Use L)) → ((u : Use L) → new_test u ≡ true → test u ≡ true) → due_by end (deadlines new_test kinds uses) ≤ due_by end (deadlines test kinds uses)
@@ -262,6 +222,19 @@ reaches_due cur d ds es counts h = on (nat_le d d) refl counts
 pub reaches_from_slack : (cur slack new_cur : ℕ) (ds : List ℕ) → new_cur ≤ cur + slack + 8 → HasSlack cur slack ds → StillReaches new_cur ds
 reaches_from_slack cur slack new_cur ds le h = record { each = λ end one. let g = h.each end one in omega arith }
 
+-- and back: each pending use reaches its veneer
+each_reaches : (start : ℕ) (all ds : List ℕ) → ((end : ℕ) → due_by end ds ≤ due_by end all) → StillReaches start all → AllOf (λ d. start + 8 * due_by d all ≤ d + 8) ds
+each_reaches start all [] part h = tt
+each_reaches start all (d ∷ ds) part h =
+    let own = due_own d ds in
+    let whole = part d in (
+      h.each d (omega arith),
+      each_reaches start all ds (λ end. let a = due_later end d ds in let b = part end in omega arith) h,
+    )
+
+pub veneers_reach : (start : ℕ) (ds : List ℕ) → StillReaches start ds → VeneersReach start ds
+veneers_reach start ds h = each_reaches start ds ds (λ end. omega arith) h
+
 -- Reach is slack of 14 bytes
 pub slack_from_reach : (cur : ℕ) (ds : List ℕ) → CanReach cur ds → HasSlack cur 14 ds
 slack_from_reach cur ds h = slack_from_each cur 14 ds h
@@ -283,31 +256,8 @@ due_total (d ∷ ds) end le = on (nat_le d end) refl (due_total ds end (omega ar
     on true e rest = ap suc rest
     on false e rest = let p = leb-false _ _ e in absurd (omega arith)
 
--- as many are due at each end, so as many there are
-pub same_length_from_due : (ds es : List ℕ) → ((end : ℕ) → due_by end ds ≡ due_by end es) → length ds ≡ length es
-same_length_from_due ds es h =
-    let end = total ds + total es in
-    sym (due_total ds end (omega arith)) ∙ h end ∙ due_total es end (omega arith)
 
-pub none_from_due : (ds : List ℕ) → ((end : ℕ) → due_by end ds ≡ 0) → ds ≡ []
-none_from_due [] h = refl
-none_from_due (d ∷ ds) h = on (nat_le d d) refl (h d)
-  where
-    on : (c : Bool) → nat_le d d ≡ c → cond c (suc (due_by d ds)) (due_by d ds) ≡ 0 → d ∷ ds ≡ []
-    on true e z = absurd (omega arith)
-    on false e z = let p = leb-false _ _ e in absurd (omega arith)
 
--- a use that did not wait is changed, and waits not
-pub deadlines_set_idle : {L : Type 0} (test : Use L → Bool) (kinds : Kinds L) (uses : List (Use L)) (i : ℕ) (u v : Use L) → slice_get uses i ≡ Some u → test u ≡ false → test v ≡ false → deadlines test kinds (set uses i v) ≡ deadlines test kinds uses
-deadlines_set_idle test kinds [] i u v h tu tv = refl
-deadlines_set_idle test kinds (w ∷ uses) zero u v h tu tv =
-    let idle : test w ≡ false = ap test (same_Some _ _ h) ∙ tu in
-    rw (tv, idle) refl
-deadlines_set_idle test kinds (w ∷ uses) (suc i) u v h tu tv = on (test w) (deadlines_set_idle test kinds uses i u v h tu tv)
-  where
-    on : (c : Bool) → deadlines test kinds (set uses i v) ≡ deadlines test kinds uses → cond c (deadline kinds w ∷ deadlines test kinds (set uses i v)) (deadlines test kinds (set uses i v)) ≡ cond c (deadline kinds w ∷ deadlines test kinds uses) (deadlines test kinds uses)
-    on true rest = ap (λ ds. deadline kinds w ∷ ds) rest
-    on false rest = rest
 
 pub none_waits : {L : Type 0} (test : Use L → Bool) (kinds : Kinds L) (uses : List (Use L)) → deadlines test kinds uses ≡ [] → (j : ℕ) (u : Use L) → slice_get uses j ≡ Some u → test u ≡ false
 none_waits test kinds [] e j u h = absurd (cc)
@@ -323,3 +273,22 @@ none_from test kinds [] h = refl
 none_from test kinds (w ∷ uses) h =
     let idle : test w ≡ false = h 0 w refl in
     rw idle (none_from test kinds uses (λ j u e. h (suc j) u e))
+
+-- more are due by a later offset
+pub due_mono : (a b : ℕ) (ds : List ℕ) → a ≤ b → due_by a ds ≤ due_by b ds
+due_mono a b [] le = omega arith
+due_mono a b (d ∷ ds) le = on (nat_le d a) (nat_le d b) refl refl (due_mono a b ds le)
+  where
+    on : (x y : Bool) → nat_le d a ≡ x → nat_le d b ≡ y → due_by a ds ≤ due_by b ds → cond x (suc (due_by a ds)) (due_by a ds) ≤ cond y (suc (due_by b ds)) (due_by b ds)
+    on true true p q rest = omega arith
+    on true false p q rest = let l = leb-true _ _ p in let m = leb-false _ _ q in absurd (omega arith)
+    on false true p q rest = omega arith
+    on false false p q rest = rest
+
+pub due_le_length : (end : ℕ) (ds : List ℕ) → due_by end ds ≤ length ds
+due_le_length end [] = omega arith
+due_le_length end (d ∷ ds) = on (nat_le d end) (due_le_length end ds)
+  where
+    on : (c : Bool) → due_by end ds ≤ length ds → cond c (suc (due_by end ds)) (due_by end ds) ≤ suc (length ds)
+    on true le = omega arith
+    on false le = omega arith

@@ -50,6 +50,10 @@ AllOf P (d ∷ ds) = P d × AllOf P ds
 abbrev pub CanReach : ℕ → List ℕ → Type 0
 CanReach cur ds = AllOf (λ d. cur + 14 + 8 * due_by d ds ≤ d) ds
 
+-- each pending use reaches its veneer, where the veneers of all that are due are put from here on
+abbrev pub VeneersReach : ℕ → List ℕ → Type 0
+VeneersReach start ds = AllOf (λ d. start + 8 * due_by d ds ≤ d + 8) ds
+
 -- the veneers of all that is due by an offset, put from here on, begin by then
 pub record StillReaches (cur : ℕ) (ds : List ℕ) : Type 0 where
   pub each : (end : ℕ) → 1 ≤ due_by end ds → cur + 8 * due_by end ds ≤ end + 8
