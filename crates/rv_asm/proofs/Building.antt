@@ -16,7 +16,8 @@ use Rattle.mach_buffer.proofs.Blocks.{locate, windows_none}
 use Rattle.mach_buffer.proofs.Links.{below}
 use Rattle.rv_emit.specs.Emitted.{Buffer, IsSoundBuffer}
 use Rattle.rv_asm.specs.Told.{start_of, end_of}
-use Rattle.rv_asm.specs.Built.{end_before, Gap, LineThere, Built, LinePut}
+use Rattle.rv_asm.specs.Told.{end_before}
+use Rattle.rv_asm.specs.Built.{Gap, LineThere, Built, LinePut}
 use Rattle.rv_asm.proofs.Standing.{LineAdded, gap_stays, line_stays, line_added}
 
 -- no line stands in an empty buffer

@@ -14,7 +14,8 @@ use Rattle.mach_buffer.specs.Buffer.{bytes_of}
 use Rattle.mach_buffer.proofs.Links.{slice_get-append_last}
 use Rattle.rv_emit.specs.Emitted.{Buffer, pending, MakesRoom}
 use Rattle.rv_asm.specs.Told.{start_of, end_of}
-use Rattle.rv_asm.specs.Built.{end_before, Built, Sized, InstPut, LinePut}
+use Rattle.rv_asm.specs.Told.{end_before}
+use Rattle.rv_asm.specs.Built.{Built, Sized, InstPut, LinePut}
 use Rattle.rv_asm.specs.Reaching.{waiting, IsDue, IslandDue, NotEarly, ReachesOn}
 use Rattle.rv_asm.specs.Since.{Since}
 use Rattle.rv_asm.proofs.Naming.{start_more, end_more, start_last, end_last}

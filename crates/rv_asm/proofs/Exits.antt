@@ -19,7 +19,7 @@ use Rattle.rv_inst.specs.Fields.{inst_labels, target_labels}
 use Rattle.rv_inst.specs.Rules.{is_fallthrough, lacks_target}
 use Rattle.mach_buffer.specs.declared.uses.Use.{Use}
 use Rattle.rv_emit.specs.Runs.{used_target, used_exit}
-use Rattle.rv_emit.specs.Emitted.{use_at, branch_uses, uses_in}
+use Rattle.rv_inst.specs.Uses.{use_at, branch_uses, uses_in}
 use Rattle.rv_asm.specs.Refusal.{is_bound}
 use Rattle.rv_asm.specs.Simulation.{place_of}
 

@@ -1,5 +1,5 @@
 -- What stands between two lines leads on: nothing, or an island, which begins with a jump round it.
-use Rattle.std.proofs.Common.{◌≡◌, ℕ, ◌+◌, ◌%◌, ◌^◌, ◌<◌, List, [], ◌∷◌, length, Some, arith, refl, ap, ◌∙◌, ⊎_elim, pos, lit<}
+use Rattle.std.proofs.Common.{◌≡◌, ℕ, ◌+◌, ◌%◌, ◌^◌, ◌<◌, List, [], ◌∷◌, length, Some, arith, refl, sym, ap, subst, ◌∙◌, inl, inr, ⊎_elim, pos, lit<, lit≤}
 use Rattle.rv_base.specs.declared.flags.IsaFlags.{IsaFlags}
 use Rattle.rv_base.specs.declared.label.MachLabel.{MachLabel}
 use Rattle.rv_machine.specs.Decode.{decode}
@@ -14,21 +14,23 @@ use Rattle.rv_inst.specs.LabelUse.{label_kinds}
 use Rattle.rv_inst.specs.LabelUseWords.{word_bytes}
 use Rattle.mach_buffer.specs.declared.uses.Use.{Use}
 use Rattle.mach_buffer.specs.Buffer.{bytes_of, uses_of, veneers_of, place_of}
-use Rattle.mach_buffer.specs.Blocks.{BlockStands, AllInside}
+use Rattle.mach_buffer.specs.Blocks.{BlockStands, AllInside, GoesBy}
 use Rattle.mach_buffer.specs.Finish.{CanFinish, Finishes}
 use Rattle.mach_buffer.proofs.Patched.{block_patched}
 use Rattle.rv_emit.specs.Rows.{between, blank, jump_row, rows_of}
-use Rattle.rv_emit.specs.Runs.{Same, Ends}
-use Rattle.rv_emit.specs.Emitted.{Buffer, use_at, uses_in, AreRows, UsesStand}
+use Rattle.rv_inst.specs.Same.{Same}
+use Rattle.rv_emit.specs.Runs.{Ends}
+use Rattle.rv_emit.specs.Emitted.{Buffer, AreRows, UsesStand}
+use Rattle.rv_inst.specs.Uses.{use_at, uses_in}
 use Rattle.rv_emit.specs.Blocks.{BytesStand, StandRows}
-use Rattle.rv_emit.proofs.Steps.{istep_at}
-use Rattle.rv_emit.proofs.Blocked.{ends_one, ends_both}
-use Rattle.rv_emit.proofs.Jumps.{lands}
-use Rattle.rv_emit.proofs.Placed.{word_there, bytes_fit}
-use Rattle.rv_emit.proofs.Patched.{patched_rows}
+use Rattle.rv_emit.proofs.Laws.{istep_at, ends_one, ends_both, lands, AllBytes, word_there, bytes_fit, patched_rows}
+use Rattle.std.proofs.lemmas.Option.{same_Some}
+use Rattle.rv_inst.specs.Islands.{GoesOn, IsIsland}
+use Rattle.rv_asm.specs.Told.{IsGap}
+use Rattle.rv_asm.proofs.Veneers.{veneer_goes_on}
 use Rattle.rv_asm.specs.Built.{IslandStands, Gap, Built}
 use Rattle.rv_asm.proofs.Placed.{bytes_stand}
-use Rattle.rv_asm.proofs.Threads.{Leads, placed_still}
+use Rattle.rv_asm.proofs.Threads.{LeadsTo, placed_still}
 use Rattle.rv_asm.proofs.Targets.{IsDone, targets_of, targets_lead, leads_here, uses_inside, patched_to, is_veneer}
 
 -- a buffer of lines that was finished to code
@@ -43,7 +45,7 @@ pub block_done : (job : Job) (code : Code) (b : Buffer) (start : ℕ) (block : L
 block_done job code b start block own f stands inside = block_patched is_veneer f.can f.finishes stands inside
 
 -- one offset leads to another, and that one on
-pub leads_both : (flags : IsaFlags) (code : Code) (from mid to : ℕ) → Leads flags code from (λ base v. wrap (base + mid)) (λ base v. v) → Leads flags code mid (λ base v. wrap (base + to)) (λ base v. v) → Leads flags code from (λ base v. wrap (base + to)) (λ base v. v)
+pub leads_both : (flags : IsaFlags) (code : Code) (from mid to : ℕ) → LeadsTo flags code from mid → LeadsTo flags code mid to → LeadsTo flags code from to
 leads_both flags code from mid to first second = record {
   run = λ base symbols slots s v placed pc is_state are_values same.
       let e = first.run base symbols slots s v placed pc is_state are_values same in
@@ -58,7 +60,7 @@ unfolding decode
 jump_decodes flags = refl
 
 -- a jump of which the distance is known
-jump_ends : (flags : IsaFlags) (bytes : List ℕ) (base from to : ℕ) (s : State) (v : Values) → BytesStand base bytes s.values.mem → length bytes < 2 ^ 31 → from % 2 ≡ 0 → to % 2 ≡ 0 → StandRows flags bytes from (jump_row (between from to) ∷ []) → s.pc ≡ wrap (base + from) → IsState s → AreValues v → Same v s.values → Ends flags (wrap (base + to)) v s
+jump_ends : (flags : IsaFlags) (bytes : List ℕ) (base from to : ℕ) (s : State) (v : Values) → BytesStand base bytes s.values.mem → length bytes < 2 ^ 31 → from % 2 ≡ 0 → to % 2 ≡ 0 → StandRows flags bytes from (jump_row (between from to) ∷ []) → s.pc ≡ wrap (base + from) → IsState s → AreValues v → Same v s.values → Ends flags 0 (wrap (base + to)) v s
 jump_ends flags bytes base from to s v stand small even to_even rows pc is_state are_values same =
     let room = stand.room in
     let aligned = stand.aligned in
@@ -68,7 +70,7 @@ jump_ends flags bytes base from to s v stand small even to_even rows pc is_state
     ends_one flags s (wrap (s.pc + low64 (between from to))) (wrap (base + to)) v s.values
     (istep_at flags s (jump_row (between from to)) (omega arith)
     (ap (λ a. decode flags (fetch s.values.mem a)) here ∙ ap (decode flags) (word_there base bytes s.values.mem from stand long) ∙ rows.1) refl)
-    there (omega arith) same are_values is_state.values refl
+    there (omega arith) same are_values is_state.values refl (lit≤ tt)
 
 -- the jump of an island as the block of one
 words_are : (round : MachLabel) → AreRows (0x6f ∷ []) (rows_of blank (Jal round))
@@ -79,7 +81,35 @@ uses_are from round = (refl, (refl, (refl, (refl, (refl, tt)))), refl, refl, tt)
 
 -- ---- the island
 
-pub island_leads : (job : Job) (code : Code) (b : Buffer) (from to : ℕ) → Finished job code b → IslandStands b from to → from % 2 ≡ 0 → Leads job.flags code from (λ base v. wrap (base + to)) (λ base v. v)
+-- an island of the buffer is one in the code
+pub island_is : (job : Job) (code : Code) (b : Buffer) (from to : ℕ) → Finished job code b → AllBytes code.bytes → IslandStands b from to → IsIsland job.flags code.bytes from to
+island_is job code b from to f fits island =
+    let own = uses_in from (Jal island.round) in
+    let inside = uses_inside from (0x6f ∷ []) own (uses_are from island.round) in
+    let p = block_done job code b from (word_bytes 0x6f) own f island.jump inside in
+    let rows = patched_rows job.flags (targets_of (place_of b) (bytes_of b) code.bytes from (word_bytes 0x6f) own p) from (Jal island.round) (0x6f ∷ []) code.bytes (words_are island.round) (uses_are from island.round) fits
+    (patched_to (place_of b) (bytes_of b) code.bytes from (word_bytes 0x6f) own p island.jump.within island.jump.stands inside)
+    in
+    let used = p.each 0 (use_at from island.round Jal20) refl in
+    record {
+      longer = island.longer;
+      target = used.target;
+      jump = rows.1;
+      leads = ⊎_elim (λ here. inl (same_Some used.target to (sym here ∙ island.bound)))
+          (λ g. inr (by used.target g)) used.goes;
+    }
+  where
+    by : (target : ℕ) → GoesBy Aims marks_of veneer_of code.bytes (place_of b) (use_at from island.round Jal20) target → GoesOn job.flags code.bytes target to
+    by target g =
+        subst (λ n. GoesOn job.flags code.bytes n to) g.here
+        (subst (GoesOn job.flags code.bytes g.via.at) (same_Some g.to to (sym g.bound ∙ island.bound))
+        (veneer_goes_on job.flags code.bytes Jal20 (use_at from island.round Jal20) g.to g.via fits))
+
+-- nothing, or an island
+pub gap_is : (job : Job) (code : Code) (b : Buffer) (from to : ℕ) → Finished job code b → AllBytes code.bytes → Gap b from to → IsGap job.flags code.bytes from to
+gap_is job code b from to f fits gap = ⊎_elim (λ same. inl same) (λ island. inr (island_is job code b from to f fits island)) gap
+
+pub island_leads : (job : Job) (code : Code) (b : Buffer) (from to : ℕ) → Finished job code b → IslandStands b from to → from % 2 ≡ 0 → LeadsTo job.flags code from to
 island_leads job code b from to f island even =
     let own = uses_in from (Jal island.round) in
     let inside = uses_inside from (0x6f ∷ []) own (uses_are from island.round) in
@@ -98,7 +128,7 @@ island_leads job code b from to f island even =
     (targets_lead job.flags code (place_of b) (bytes_of b) from (word_bytes 0x6f) own p 0 (use_at from island.round Jal20) to refl island.bound there.1)
 
 -- nothing, or an island
-pub gap_leads : (job : Job) (code : Code) (b : Buffer) (from to : ℕ) → Finished job code b → Gap b from to → from % 2 ≡ 0 → Leads job.flags code from (λ base v. wrap (base + to)) (λ base v. v)
+pub gap_leads : (job : Job) (code : Code) (b : Buffer) (from to : ℕ) → Finished job code b → Gap b from to → from % 2 ≡ 0 → LeadsTo job.flags code from to
 gap_leads job code b from to f gap even = ⊎_elim (λ same. leads_here job.flags code from to same) (λ island. island_leads job code b from to f island even) gap
 
 -- and ends at an even offset

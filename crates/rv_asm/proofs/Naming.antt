@@ -20,8 +20,9 @@ use Rattle.mach_buffer.specs.declared.uses.Use.{Use}
 use Rattle.mach_buffer.specs.Buffer.{bytes_of, uses_of, place_of, labels_of, recorded, core, listed}
 use Rattle.mach_buffer.proofs.Apart.{both_lists, comes_from}
 use Rattle.mach_buffer.proofs.Links.{slice_get-append, slice_get-append_last, append_each, recorded_get}
-use Rattle.rv_emit.specs.Emitted.{Buffer, use_at, uses_in, PutsBlock, PutsIsland, MakesRoom, Emitted}
-use Rattle.rv_emit.proofs.Room.{Each, each_none, each_more, uses_kinds}
+use Rattle.rv_emit.specs.Emitted.{Buffer, PutsBlock, PutsIsland, MakesRoom, Emitted}
+use Rattle.rv_inst.specs.Uses.{use_at, uses_in}
+use Rattle.rv_emit.proofs.Laws.{Each, each_none, each_more, uses_kinds}
 use Rattle.rv_asm.specs.Told.{start_of, end_of, binds_from}
 use Rattle.rv_asm.specs.Refusal.{binds, is_bound}
 use Rattle.rv_asm.specs.Built.{IsNamed, Named, InstPut, BindPut, LinePut}

@@ -24,11 +24,12 @@ use Rattle.mach_buffer.specs.Buffer.{bytes_of, place_of}
 use Rattle.mach_buffer.proofs.Apart.{both_lists}
 use Rattle.mach_buffer.proofs.Slack.{deadlines_append, none_from}
 use Rattle.mach_buffer.proofs.Needed.{due_le_length}
-use Rattle.rv_emit.specs.Emitted.{Buffer, pending, use_at, uses_in}
-use Rattle.rv_emit.proofs.Islands.{deadlines_as}
-use Rattle.rv_emit.proofs.Room.{Each, each_none, each_more, uses_bare, uses_kinds, few_deadlines, waits}
+use Rattle.rv_emit.specs.Emitted.{Buffer, pending}
+use Rattle.rv_inst.specs.Uses.{use_at, uses_in}
+use Rattle.rv_emit.proofs.Laws.{deadlines_as, Each, each_none, each_more, uses_bare, uses_kinds, few_deadlines, waits}
 use Rattle.rv_asm.specs.Told.{start_of}
-use Rattle.rv_asm.specs.Reaching.{least_reach, label_count, last_island, open_from, uses_from, bound_by, waiting, IsDue}
+use Rattle.rv_inst.specs.Uses.{least_reach}
+use Rattle.rv_asm.specs.Reaching.{label_count, last_island, open_from, uses_from, bound_by, waiting, IsDue}
 use Rattle.rv_asm.specs.Since.{open_uses, Since}
 use Rattle.rv_asm.proofs.Naming.{uses_labels}
 use Rattle.rv_asm.proofs.Prefixes.{last_open}

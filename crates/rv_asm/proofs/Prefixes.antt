@@ -12,9 +12,9 @@ use Rattle.mach_buffer.specs.declared.uses.Use.{Use}
 use Rattle.mach_buffer.specs.Reach.{is_reached, deadlines}
 use Rattle.mach_buffer.specs.Targets.{or_place}
 use Rattle.mach_buffer.proofs.Links.{slice_get-append}
-use Rattle.rv_emit.specs.Emitted.{uses_in}
+use Rattle.rv_inst.specs.Uses.{uses_in}
 use Rattle.rv_asm.specs.Told.{start_of, end_of}
-use Rattle.rv_asm.specs.Built.{end_before}
+use Rattle.rv_asm.specs.Told.{end_before}
 use Rattle.rv_asm.specs.Reaching.{is_behind_island, is_island, last_island, is_island_at, open_from, uses_from, bound_by, waiting, IsDue, label_count}
 use Rattle.rv_asm.specs.Since.{open_uses}
 use Rattle.rv_asm.proofs.Naming.{start_more, end_more, start_last, end_last}

@@ -17,10 +17,12 @@ use Rattle.mach_buffer.specs.Buffer.{bytes_of, uses_of, place_of}
 use Rattle.mach_buffer.specs.Targets.{or_place}
 use Rattle.mach_buffer.proofs.Links.{append_each}
 use Rattle.mach_buffer.proofs.Slack.{none_waits, bound_waits}
-use Rattle.rv_emit.specs.Emitted.{Buffer, uses_in, PutsBlock, PutsIsland, MakesRoom, Emitted}
-use Rattle.rv_emit.proofs.Room.{waits}
+use Rattle.rv_emit.specs.Emitted.{Buffer, PutsBlock, PutsIsland, MakesRoom, Emitted}
+use Rattle.rv_inst.specs.Uses.{uses_in}
+use Rattle.rv_emit.proofs.Laws.{waits}
 use Rattle.rv_asm.specs.Told.{start_of}
-use Rattle.rv_asm.specs.Built.{end_before, Built, InstPut, BindPut, LinePut}
+use Rattle.rv_asm.specs.Told.{end_before}
+use Rattle.rv_asm.specs.Built.{Built, InstPut, BindPut, LinePut}
 use Rattle.rv_asm.specs.Reaching.{is_island, bound_by}
 use Rattle.rv_asm.specs.Since.{open_uses, EndsIn, Since}
 use Rattle.rv_asm.proofs.Naming.{start_last, room_keeps, emitted_keeps}

@@ -17,7 +17,7 @@ use Rattle.mach_buffer.specs.Islands.{AreWindows}
 use Rattle.mach_buffer.proofs.Added.{append_none}
 use Rattle.mach_buffer.proofs.Patched.{grows_none, grows_more, grows_put, block_stays}
 use Rattle.rv_emit.specs.Emitted.{Buffer, IsSoundBuffer, HasWindows, pending, bytes_of_words, PutsBlock, PutsIsland, MakesRoom, Emitted}
-use Rattle.rv_emit.proofs.Grows.{GrowsTo, block_grows, block_has_windows, block_there, block_whole, island_grows, island_jump}
+use Rattle.rv_emit.proofs.Laws.{GrowsTo, block_grows, block_has_windows, block_there, block_whole, island_grows, island_jump}
 use Rattle.rv_asm.specs.Built.{Gap, BlockThere, InstThere, LineThere, InstPut, BindPut, LinePut}
 
 -- ---- what stands stays

@@ -8,24 +8,25 @@ use Rattle.rv_base.specs.declared.flags.IsaFlags.{IsaFlags}
 use Rattle.rv_machine.specs.State.{wrap}
 use Rattle.rv_inst.specs.declared.code.Code.{Code}
 use Rattle.rv_inst.specs.declared.label_use.LabelUse.{LabelUse}
-use Rattle.rv_inst.specs.LabelUse.{label_kinds, marks_of, has_veneer_of, veneer_of}
+use Rattle.rv_inst.specs.LabelUse.{Aims, marks_of, forward_of, backward_of, has_veneer_of, veneer_of}
 use Rattle.mach_buffer.specs.declared.uses.Use.{Use}
 use Rattle.mach_buffer.specs.Windows.{window}
 use Rattle.mach_buffer.specs.Blocks.{AllInside, GoesBy, UsePatched, IsPatched}
 use Rattle.rv_emit.specs.Emitted.{bytes_of_words, UsesStand}
 use Rattle.rv_emit.specs.Blocks.{IsAimed, IsPatchedTo}
-use Rattle.rv_emit.proofs.Steps.{iter_none}
-use Rattle.rv_asm.proofs.Threads.{Leads}
+use Rattle.rv_emit.proofs.Laws.{iter_none}
+use Rattle.rv_asm.proofs.Threads.{LeadsTo}
 use Rattle.rv_asm.proofs.Veneers.{veneer_leads}
 
 -- ---- one use
 
 -- where nothing is left to do
-pub leads_here : (flags : IsaFlags) (code : Code) (from to : ℕ) → from ≡ to → Leads flags code from (λ base v. wrap (base + to)) (λ base v. v)
+pub leads_here : (flags : IsaFlags) (code : Code) (from to : ℕ) → from ≡ to → LeadsTo flags code from to
 leads_here flags code from to e = record {
   run = λ base symbols slots s v placed pc is_state are_values same. record {
     steps = 0;
     state = s;
+    moved = lit≤ tt;
     ran = iter_none flags s;
     pc = pc ∙ ap (λ n. wrap (base + n)) e;
     same = same;
@@ -40,14 +41,14 @@ abbrev pub IsUsed : (ℕ → Option ℕ) → List ℕ → List ℕ → Use Label
 IsUsed place old new u = UsePatched label_kinds place old new u
 
 -- what it aims at leads to its label's place
-pub use_leads : (flags : IsaFlags) (code : Code) (place : ℕ → Option ℕ) (old : List ℕ) (u : Use LabelUse) (to : ℕ) (p : IsUsed place old code.bytes u) → place u.label.number ≡ Some to → to % 2 ≡ 0 → Leads flags code p.target (λ base v. wrap (base + to)) (λ base v. v)
+pub use_leads : (flags : IsaFlags) (code : Code) (place : ℕ → Option ℕ) (old : List ℕ) (u : Use LabelUse) (to : ℕ) (p : IsUsed place old code.bytes u) → place u.label.number ≡ Some to → to % 2 ≡ 0 → LeadsTo flags code p.target to
 use_leads flags code place old u to p e even = ⊎_elim (λ here. leads_here flags code p.target to (same_Some p.target to (sym here ∙ e))) (λ g. by g) p.goes
   where
-    by : GoesBy label_kinds code.bytes place u p.target → Leads flags code p.target (λ base v. wrap (base + to)) (λ base v. v)
+    by : GoesBy label_kinds code.bytes place u p.target → LeadsTo flags code p.target to
     by g =
         let same : g.to ≡ to = same_Some g.to to (sym g.bound ∙ e) in
-        subst (λ n. Leads flags code n (λ base v. wrap (base + to)) (λ base v. v)) g.here
-        (subst (λ t. Leads flags code g.via.at (λ base v. wrap (base + t)) (λ base v. v)) same
+        subst (λ n. LeadsTo flags code n to) g.here
+        (subst (λ t. LeadsTo flags code g.via.at t) same
         (veneer_leads flags code u.kind u g.to g.via (subst (λ (n : ℕ). n % 2 ≡ 0) (sym same) even)))
 
 -- ---- by the number of a use
@@ -57,7 +58,7 @@ abbrev pub target_for : (place : ℕ → Option ℕ) (old new : List ℕ) (o : O
 target_for place old new None f = 0
 target_for place old new (Some u) f = (f u refl).target
 
-target_leads : (flags : IsaFlags) (code : Code) (place : ℕ → Option ℕ) (old : List ℕ) (o : Option (Use LabelUse)) (f : (u : Use LabelUse) → o ≡ Some u → IsUsed place old code.bytes u) (u : Use LabelUse) (to : ℕ) → o ≡ Some u → place u.label.number ≡ Some to → to % 2 ≡ 0 → Leads flags code (target_for place old code.bytes o f) (λ base v. wrap (base + to)) (λ base v. v)
+target_leads : (flags : IsaFlags) (code : Code) (place : ℕ → Option ℕ) (old : List ℕ) (o : Option (Use LabelUse)) (f : (u : Use LabelUse) → o ≡ Some u → IsUsed place old code.bytes u) (u : Use LabelUse) (to : ℕ) → o ≡ Some u → place u.label.number ≡ Some to → to % 2 ≡ 0 → LeadsTo flags code (target_for place old code.bytes o f) to
 target_leads flags code place old None f u to h e even = absurd (cc)
 target_leads flags code place old (Some x) f u to h e even = use_leads flags code place old x to (f x refl) (ap (λ (y : Use LabelUse). place y.label.number) (same_Some x u h) ∙ e) even
 
@@ -70,7 +71,7 @@ abbrev pub targets_of : (place : ℕ → Option ℕ) (old new : List ℕ) (start
 targets_of place old new start block own p k = target_for place old new (slice_get own k) (p.each k)
 
 pub targets_lead : (flags : IsaFlags) (code : Code) (place : ℕ → Option ℕ) (old : List ℕ) (start : ℕ) (block : List ℕ) (own : List (Use LabelUse)) (p : IsDone place old code.bytes start block own) (k : ℕ) (u : Use LabelUse) (to : ℕ) → slice_get own k ≡ Some u → place u.label.number ≡ Some to → to % 2 ≡ 0 →
-    Leads flags code (targets_of place old code.bytes start block own p k) (λ base v. wrap (base + to)) (λ base v. v)
+    LeadsTo flags code (targets_of place old code.bytes start block own p k) to
 targets_lead flags code place old start block own p k u to h e even = target_leads flags code place old (slice_get own k) (p.each k) u to h e even
 
 -- ---- the block

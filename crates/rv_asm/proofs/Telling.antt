@@ -1,54 +1,70 @@
--- What stands in the buffer is what the code tells of its lines.
-use Rattle.std.proofs.Common.{◌≡◌, ℕ, zero, suc, ◌≤◌, inl, inr, ⊎_elim, List, [], ◌∷◌, length, ap, sym, ◌∙◌, arith}
-use Rattle.std.proofs.lemmas.Bool.{cases_lt}
+-- What stands in the buffer is what the code tells of its lines: how long each span is, and what stands between two.
+use Rattle.std.proofs.Common.{◌≡◌, ℕ, zero, suc, ◌+◌, ◌*◌, ◌<◌, ◌≤◌, Bool, true, false, List, [], ◌∷◌, length, None, refl, ap, subst, sym, ◌∙◌, arith, pos}
+use Rattle.std.specs.Prelude.{nat_eq, if◌then◌else◌}
+use Rattle.std.specs.List.{AllByRecursion}
+use Rattle.rv_base.specs.declared.flags.IsaFlags.{IsaFlags}
+use Rattle.rv_base.specs.Regs.{number_of}
 use Rattle.rv_inst.specs.declared.inst.Line.{Line}
 use Rattle.rv_inst.specs.declared.inst.Line.TheVariants.{Inst as Put, Bind}
 use Rattle.rv_inst.specs.declared.inst.Inst.{Inst}
-use Rattle.rv_inst.specs.declared.inst.Inst.TheVariants.{EmitIsland}
+use Rattle.rv_inst.specs.declared.inst.Inst.TheVariants.{EmitIsland, Mov, MovFromPReg, CondBr}
+use Rattle.rv_inst.specs.declared.inst.CondBrTarget.TheVariants.{Label, Fallthrough}
 use Rattle.rv_inst.specs.declared.job.Job.{Job}
 use Rattle.rv_inst.specs.declared.code.Code.{Code}
-use Rattle.rv_inst.specs.declared.code.LineSpan.{LineSpan}
+use Rattle.rv_inst.specs.Sizes.{extent_of, island_space}
 use Rattle.mach_buffer.specs.Buffer.{bytes_of}
-use Rattle.rv_emit.specs.Emitted.{Buffer}
-use Rattle.mach_buffer.proofs.Patched.{item_at}
-use Rattle.rv_asm.specs.Told.{start_of, end_of, binds_from, Told}
-use Rattle.rv_asm.specs.Built.{end_before, Gap, BlockThere, InstThere, LineThere, Built}
+use Rattle.rv_emit.specs.Rows.{blank, rows_of, move_rows, addi_row}
+use Rattle.rv_emit.specs.Emitted.{Buffer, bytes_of_words}
+use Rattle.rv_emit.proofs.Laws.{four_each, AllBytes}
+use Rattle.rv_asm.specs.Told.{end_before, start_of, end_of, binds_from, IsSized, IsSpan, Told}
+use Rattle.rv_asm.specs.Built.{InstThere, LineThere}
+use Rattle.rv_asm.proofs.Gaps.{Finished, gap_is}
 
-gap_forward : (b : Buffer) (from to : ℕ) → Gap b from to → from ≤ to
-gap_forward b from to (inl e) = omega arith
-gap_forward b from to (inr i) = let l = i.longer in omega arith
+pub all_bytes : (bytes : List ℕ) → AllByRecursion (λ b. b < 256) bytes → AllBytes bytes
+all_bytes [] h k lt = absurd (omega arith)
+all_bytes (b ∷ bytes) h zero lt = h.0
+all_bytes (b ∷ bytes) h (suc k) lt = all_bytes bytes h.1 k (omega arith)
 
-block_forward : {inst : Inst} (b : Buffer) (start end : ℕ) → BlockThere inst b start end → start ≤ end
-block_forward b start end t = let e = t.ends in omega arith
+-- ---- sizes
 
-inst_forward : (inst : Inst) (b : Buffer) (start end : ℕ) → InstThere inst b start end → start ≤ end
-inst_forward (EmitIsland space) b start end h = gap_forward b start end h
-inst_forward inst b start end h = block_forward b start end h
+move_long : (c : Bool) (rd rs start n : ℕ) → nat_eq rd rs ≡ c → n ≡ 4 * length (move_rows rd rs) → start + n ≡ start + (if nat_eq rd rs then 0 else 4)
+move_long c rd rs start n is e = subst (λ d. n ≡ 4 * length (if d then [] else addi_row rd rs (pos 0) ∷ []) → start + n ≡ start + (if d then 0 else 4)) (sym is) (on c) e
+  where
+    on : (c : Bool) → n ≡ 4 * length (if c then [] else addi_row rd rs (pos 0) ∷ []) → start + n ≡ start + (if c then 0 else 4)
+    on true h = omega arith
+    on false h = omega arith
 
-line_forward : (line : Line) (b : Buffer) (start end : ℕ) → LineThere line b start end → start ≤ end
-line_forward (Put inst) b start end h = inst_forward inst b start end h
-line_forward (Bind label) b start end h = let e = h.0 in omega arith
+-- words of an instruction's rows are as long as it is
+words_sized : (flags : IsaFlags) (bytes : List ℕ) (inst : Inst) (start n : ℕ) → island_space inst ≡ None → n ≡ 4 * length (rows_of blank inst) → IsSized flags bytes (extent_of inst) start (start + n)
+words_sized flags bytes (EmitIsland space) start n none e = absurd (cc)
+words_sized flags bytes (Mov rd rm type) start n none e = move_long (nat_eq (number_of rd.reg) (number_of rm)) (number_of rd.reg) (number_of rm) start n refl e
+words_sized flags bytes (MovFromPReg rd rm) start n none e = move_long (nat_eq (number_of rd.reg) rm.number) (number_of rd.reg) rm.number start n refl e
+words_sized flags bytes (CondBr Fallthrough f kind) start n none e = omega arith
+words_sized flags bytes (CondBr (Label t) Fallthrough kind) start n none e = omega arith
+words_sized flags bytes (CondBr (Label t) (Label f) kind) start n none e = omega arith
+words_sized flags bytes _ start n none e = omega arith
 
--- behind the last span
-none_forward : (spans : List LineSpan) (i : ℕ) → length spans ≤ i → start_of spans i ≤ end_of spans i
-none_forward [] i le = omega arith
-none_forward (s ∷ spans) zero le = absurd (omega arith)
-none_forward (s ∷ spans) (suc i) le = none_forward spans i (omega arith)
+inst_sized : (job : Job) (code : Code) (b : Buffer) (inst : Inst) (start end : ℕ) → Finished job code b → AllBytes code.bytes → InstThere inst b start end → IsSized job.flags code.bytes (extent_of inst) start end
+inst_sized job code b (EmitIsland space) start end f fits there = gap_is job code b start end f fits there
+inst_sized job code b inst start end f fits there =
+    subst (IsSized job.flags code.bytes (extent_of inst) start) (sym there.ends)
+    (words_sized job.flags code.bytes inst start (length (bytes_of_words there.words)) refl (four_each there.words (rows_of blank inst) there.decode))
 
--- no line ends before it starts
-pub built_forward : {lines : List Line} {spans : List LineSpan} {b : Buffer} → Built lines spans b → (i : ℕ) → start_of spans i ≤ end_of spans i
-built_forward {lines} {spans} {b} k i = let c = k.count in
-    ⊎_elim (λ lt. let a = item_at lines i lt in line_forward a.item b (start_of spans i) (end_of spans i) (k.stand i a.item a.there)) (λ ge. none_forward spans i (omega arith)) (cases_lt i (length lines))
+line_long : (job : Job) (code : Code) (b : Buffer) (line : Line) (start end : ℕ) → Finished job code b → AllBytes code.bytes → LineThere line b start end → IsSpan job.flags code.bytes line start end
+line_long job code b (Put inst) start end f fits there = inst_sized job code b inst start end f fits there
+line_long job code b (Bind label) start end f fits there = sym there.0
 
-pub built_told : (job : Job) (code : Code) (b : Buffer) → Built job.lines code.lines b → code.labels ≡ binds_from code.lines 0 job.lines → code.end ≡ length (bytes_of b) → length (bytes_of b) ≤ length code.bytes → Told job code
-built_told job code b k labels end within = record {
-  count = k.count;
-  indices = k.indices;
-  first = k.first;
-  forward = built_forward k;
-  joined = λ i lt. gap_forward b (end_of code.lines i) (start_of code.lines (suc i)) (k.gap (suc i) lt);
-  last = λ i e. end ∙ k.ends ∙ ap (end_before code.lines) (sym e);
-  none = λ e. end ∙ k.ends ∙ ap (end_before code.lines) e;
-  within = omega arith;
-  labels = labels;
-}
+pub built_told : (job : Job) (code : Code) (b : Buffer) → Finished job code b → AllBytes code.bytes → code.labels ≡ binds_from code.lines 0 job.lines → code.end ≡ length (bytes_of b) → length (bytes_of b) ≤ length code.bytes → Told job code
+built_told job code b f fits labels end within =
+    let k = f.built in
+    record {
+      count = k.count;
+      indices = k.indices;
+      first = k.first;
+      long = λ i line e. line_long job code b line (start_of code.lines i) (end_of code.lines i) f fits (k.stand i line e);
+      joined = λ i lt. gap_is job code b (end_of code.lines i) (start_of code.lines (suc i)) f fits (k.gap (suc i) lt);
+      last = λ i e. end ∙ k.ends ∙ ap (end_before code.lines) (sym e);
+      none = λ e. end ∙ k.ends ∙ ap (end_before code.lines) e;
+      within = omega arith;
+      labels = labels;
+    }

@@ -16,12 +16,13 @@ use Rattle.mach_buffer.specs.Buffer.{bytes_of}
 use Rattle.mach_buffer.specs.Finish.{CanFinish, Finishes}
 use Rattle.mach_buffer.proofs.Links.{below}
 use Rattle.rv_emit.specs.Rows.{ebreak_row}
-use Rattle.rv_emit.specs.Runs.{exit_address, standing}
+use Rattle.rv_emit.specs.Runs.{least_steps, exit_address, standing}
 use Rattle.rv_emit.specs.Emitted.{Buffer, bytes_of_words}
 use Rattle.rv_emit.specs.Blocks.{StandRows}
 use Rattle.rv_asm.specs.Told.{start_of, end_of}
 use Rattle.rv_asm.specs.Simulation.{RunsAsListed}
-use Rattle.rv_asm.specs.Built.{end_before, InstThere, LineThere, Built}
+use Rattle.rv_asm.specs.Told.{end_before}
+use Rattle.rv_asm.specs.Built.{InstThere, LineThere, Built}
 use Rattle.rv_asm.proofs.Threads.{Leads, LineLeads, label_place, IsThreaded, line_at, threaded_runs}
 use Rattle.rv_asm.proofs.Targets.{leads_here}
 use Rattle.rv_asm.proofs.Exits.{AllBound}
@@ -31,7 +32,7 @@ use Rattle.rv_asm.proofs.Joined.{block_leads, block_halts}
 -- ---- instructions
 
 inst_leads : (job : Job) (code : Code) (b : Buffer) (start after : ℕ) (inst : Inst) → Finished job code b → InstThere inst b start after → inst_rule inst ≡ None → start % 4 ≡ 0 → AllBound job.lines (inst_labels inst) →
-    Leads job.flags code start (λ base v. exit_address (label_place job.lines code) base start after (inst_exit inst v)) (λ base. inst_effect (standing base start after) inst)
+    Leads job.flags code start (λ v. least_steps (inst_exit inst v)) (λ base v. exit_address (label_place job.lines code) base start after (inst_exit inst v)) (λ base. inst_effect (standing base start after) inst)
 inst_leads job code b start after (EmitIsland space) f there rule aligned bound = gap_leads job code b start after f there (omega arith)
 inst_leads job code b start after inst f there rule aligned bound = block_leads job code b start after inst f there rule aligned bound
 

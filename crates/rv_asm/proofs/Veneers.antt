@@ -1,5 +1,5 @@
 -- A use of a label leads on: straight to where its label stands, or by a veneer.
-use Rattle.std.proofs.Common.{◌≡◌, ℕ, zero, suc, ◌+◌, ◌-◌, ◌*◌, ◌/◌, ◌%◌, ◌^◌, ◌<◌, ◌≤◌, inl, Bool, true, false, List, length, drop, slice_index, Some, arith, refl, sym, ap, subst, ◌∙◌, ℤ, pos, negsuc, ◌+ℤ◌, ◌*ℤ◌, ◌-ℤ◌, lit<}
+use Rattle.std.proofs.Common.{◌≡◌, ℕ, zero, suc, ◌+◌, ◌-◌, ◌*◌, ◌/◌, ◌%◌, ◌^◌, ◌<◌, ◌≤◌, inl, Bool, true, false, List, length, drop, slice_index, Some, arith, refl, sym, ap, subst, ◌∙◌, ℤ, pos, negsuc, ◌+ℤ◌, ◌*ℤ◌, ◌-ℤ◌, lit<, lit≤}
 use Rattle.std.specs.Prelude.{slice_set, nat_lt, if◌then◌else◌}
 use Rattle.std.specs.Option.{option_map}
 use Rattle.std.proofs.lemmas.Int.{ints}
@@ -12,7 +12,7 @@ use Rattle.rv_base.specs.declared.flags.IsaFlags.{IsaFlags}
 use Rattle.rv_inst.specs.declared.code.Code.{Code}
 use Rattle.rv_inst.specs.declared.label_use.LabelUse.{LabelUse}
 use Rattle.rv_inst.specs.declared.label_use.LabelUse.TheVariants.{PCRel32}
-use Rattle.rv_inst.specs.LabelUse.{label_kinds, Aims, marks_of, veneer_of}
+use Rattle.rv_inst.specs.LabelUse.{Aims, marks_of, veneer_of}
 use Rattle.rv_inst.specs.LabelUseWords.{word_at, AreBytes}
 use Rattle.rv_inst.specs.LabelUseBridges.{with_number, PairDecodes}
 use Rattle.rv_inst.proofs.Bridges.{decode-patched_pair}
@@ -27,14 +27,13 @@ use Rattle.mach_buffer.specs.declared.uses.Use.{Use}
 use Rattle.mach_buffer.specs.Windows.{window}
 use Rattle.mach_buffer.specs.Finish.{IsVia}
 use Rattle.rv_emit.specs.Rows.{jalr_row}
-use Rattle.rv_emit.specs.Runs.{Same, Ends}
-use Rattle.rv_emit.specs.Blocks.{BytesStand, word_in}
-use Rattle.rv_emit.proofs.Registers.{are_values_set}
-use Rattle.rv_emit.proofs.Steps.{istep_at}
-use Rattle.rv_emit.proofs.Blocked.{ends_one, ends_both}
-use Rattle.rv_emit.proofs.Placed.{word_there, bytes_fit}
+use Rattle.rv_inst.specs.Same.{Same}
+use Rattle.rv_emit.specs.Runs.{Ends}
+use Rattle.rv_emit.specs.Blocks.{BytesStand}
+use Rattle.rv_inst.specs.Islands.{word_in, GoesOn}
+use Rattle.rv_emit.proofs.Laws.{are_values_set, istep_at, ends_one, ends_both, AllBytes, word_there, bytes_fit}
 use Rattle.rv_asm.proofs.Placed.{bytes_stand}
-use Rattle.rv_asm.proofs.Threads.{Leads}
+use Rattle.rv_asm.proofs.Threads.{LeadsTo}
 
 -- ---- the words of a window
 
@@ -143,7 +142,7 @@ veneer_pair flags bytes place to below kept aims =
     kept refl (inl refl) aims
 
 -- the two steps
-veneer_ends : (flags : IsaFlags) (bytes : List ℕ) (base place to : ℕ) (s : State) (v : Values) → BytesStand base bytes s.values.mem → place % 2 ≡ 0 → to % 2 ≡ 0 → place + 8 ≤ length bytes → PairDecodes flags (veneer_of PCRel32).bytes (window bytes place 8) (pos to -ℤ pos place) → s.pc ≡ wrap (base + place) → IsState s → AreValues v → Same v s.values → Ends flags (wrap (base + to)) v s
+veneer_ends : (flags : IsaFlags) (bytes : List ℕ) (base place to : ℕ) (s : State) (v : Values) → BytesStand base bytes s.values.mem → place % 2 ≡ 0 → to % 2 ≡ 0 → place + 8 ≤ length bytes → PairDecodes flags (veneer_of PCRel32).bytes (window bytes place 8) (pos to -ℤ pos place) → s.pc ≡ wrap (base + place) → IsState s → AreValues v → Same v s.values → Ends flags 0 (wrap (base + to)) v s
 veneer_ends flags bytes base place to s v stand even to_even inside p pc is_state are_values same =
     let room = stand.room in
     let aligned = stand.aligned in
@@ -163,13 +162,13 @@ veneer_ends flags bytes base place to s v stand even to_even inside p pc is_stat
     let fits = are_values_set s.values 31 x is_state.values (lit< tt) (omega arith) in
     let lands = pair_lands base place to p.upper p.lower (subst IsSmall (sym p.upper_is) (signed_small (2 ^ 19) _ (lit< tt))) (subst IsSmall (sym p.lower_is) (signed_small (2 ^ 11) _ (lit< tt))) p.sum in
     ends_both flags (wrap (s.pc + 4)) (wrap (base + to)) v v s
-    (ends_one flags s (wrap (s.pc + 4)) (wrap (s.pc + 4)) v (set_reg s.values 31 x) (istep_at flags s (auipc_row p.upper) (omega arith) first refl) refl (omega arith) spare are_values fits refl)
+    (ends_one flags s (wrap (s.pc + 4)) (wrap (s.pc + 4)) v (set_reg s.values 31 x) (istep_at flags s (auipc_row p.upper) (omega arith) first refl) refl (omega arith) spare are_values fits refl (lit≤ tt))
     (ends_one flags (at (wrap (s.pc + 4)) (set_reg s.values 31 x)) (wrap (slice_index (slice_set s.values.regs 30 x) 30 + low64 p.lower) / 2 * 2) (wrap (base + to)) v (set_reg s.values 31 x)
     (istep_at flags (at (wrap (s.pc + 4)) (set_reg s.values 31 x)) (jalr_row 0 31 p.lower) (omega arith) second refl)
-    ((λ i. wrap (held i + low64 p.lower) / 2 * 2) ∙ (λ i. wrap (wrap (pc i + low64 p.upper * 2 ^ 12) + low64 p.lower) / 2 * 2) ∙ ap (λ (n : ℕ). n / 2 * 2) lands ∙ omega arith) (omega arith) spare are_values fits refl)
+    ((λ i. wrap (held i + low64 p.lower) / 2 * 2) ∙ (λ i. wrap (wrap (pc i + low64 p.upper * 2 ^ 12) + low64 p.lower) / 2 * 2) ∙ ap (λ (n : ℕ). n / 2 * 2) lands ∙ omega arith) (omega arith) spare are_values fits refl (lit≤ tt))
 
 -- a patched veneer leads where its use aims
-pub veneer_leads : (flags : IsaFlags) (code : Code) (kind : LabelUse) (u : Use LabelUse) (to : ℕ) (g : IsVia label_kinds (veneer_of kind) code.bytes u to) → to % 2 ≡ 0 → Leads flags code g.at (λ base v. wrap (base + to)) (λ base v. v)
+pub veneer_leads : (flags : IsaFlags) (code : Code) (kind : LabelUse) (u : Use LabelUse) (to : ℕ) (g : IsVia label_kinds (veneer_of kind) code.bytes u to) → to % 2 ≡ 0 → LeadsTo flags code g.at to
 veneer_leads flags code kind u to g even = record {
   run = λ base symbols slots s v placed pc is_state are_values same.
       let stand = bytes_stand code base symbols slots s.values.mem placed in
@@ -181,3 +180,20 @@ veneer_leads flags code kind u to g even = record {
       (subst (λ n. Aims PCRel32 (window code.bytes n 8) (pos to -ℤ pos n)) same_place g.on))
       pc is_state are_values same;
 }
+
+-- its two words go on there
+pub veneer_goes_on : (flags : IsaFlags) (bytes : List ℕ) (kind : LabelUse) (u : Use LabelUse) (to : ℕ) (g : IsVia label_kinds (veneer_of kind) bytes u to) → AllBytes bytes → GoesOn flags bytes g.at to
+veneer_goes_on flags bytes kind u to g fits =
+    let inside = g.inside in
+    let same_place : g.at + 0 ≡ g.at = omega arith in
+    let p = veneer_pair flags bytes g.at to (λ k lt. fits (g.at + k) (omega arith))
+    (subst (λ n. SameOutside (marks_of PCRel32) (veneer_of PCRel32).bytes (window bytes n 8)) same_place g.own)
+    (subst (λ n. Aims PCRel32 (window bytes n 8) (pos to -ℤ pos n)) same_place g.on)
+    in
+    record {
+      upper = p.upper;
+      lower = p.lower;
+      first = ap (decode flags) (word_in_window bytes g.at 8 (lit≤ tt)) ∙ p.first ∙ ap (option_map (with_number p.upper)) (old_first flags);
+      second = ap (decode flags) (second_in_window bytes g.at 8 (lit≤ tt)) ∙ p.second ∙ ap (option_map (with_number p.lower)) (old_second flags);
+      sum = p.sum;
+    }

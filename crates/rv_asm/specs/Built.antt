@@ -1,5 +1,6 @@
--- What stands in the buffer after some lines: what the loop of `assemble` keeps, and what one line adds.
-use Rattle.std.specs.Prelude.{◌≡◌, ◌≢◌, ℕ, zero, suc, ◌+◌, ◌*◌, ◌%◌, ◌^◌, ◌<◌, ◌≤◌, ◌⊎◌, Bool, true, false, List, [], ◌∷◌, ◌++◌, length, Some, None, is_some, slice_get}
+-- What stands in the buffer after some lines: what the loop of `assemble` keeps, and what one line adds. Links of the
+-- proof.
+use Rattle.std.specs.Prelude.{◌≡◌, ◌≢◌, ℕ, ◌+◌, ◌*◌, ◌%◌, ◌^◌, ◌<◌, ◌≤◌, ◌⊎◌, Bool, true, false, List, [], ◌∷◌, ◌++◌, length, Some, None, is_some, slice_get}
 use Rattle.rv_base.specs.declared.label.MachLabel.{MachLabel}
 use Rattle.rv_inst.specs.declared.inst.Line.{Line}
 use Rattle.rv_inst.specs.declared.inst.Line.TheVariants.{Inst as Put, Bind}
@@ -17,16 +18,16 @@ use Rattle.mach_buffer.specs.Reach.{CanReach, due_by}
 use Rattle.mach_buffer.specs.Buffer.{bytes_of, uses_of, veneers_of, place_of, labels_of, drawn_of, listed}
 use Rattle.mach_buffer.specs.Blocks.{BlockStands}
 use Rattle.rv_emit.specs.Rows.{blank, rows_of}
-use Rattle.rv_emit.specs.Emitted.{Buffer, IsSoundBuffer, HasWindows, pending, use_at, uses_in, bytes_of_words, AreRows, UsesStand, MakesRoom, Emitted}
-use Rattle.rv_asm.specs.Told.{start_of, end_of, binds_from}
-use Rattle.rv_asm.specs.Refusal.{binds, is_bound, line_sum, size_sum}
+use Rattle.rv_emit.specs.Emitted.{Buffer, IsSoundBuffer, HasWindows, pending, bytes_of_words, AreRows, UsesStand, MakesRoom, Emitted}
+use Rattle.rv_inst.specs.Uses.{use_at, uses_in}
+use Rattle.rv_emit.specs.declared.state.EmitVState.{EmitVState}
+use Rattle.rv_emit.specs.declared.state.EmitVState.TheVariants.{Unknown}
+use Rattle.rv_emit.specs.State.{setting_after, setting_beyond}
+use Rattle.rv_asm.specs.Told.{start_of, end_of, end_before, binds_from}
+use Rattle.rv_asm.specs.Refusal.{binds, is_bound, size_sum}
+use Rattle.rv_inst.specs.Sizes.{line_sum}
 
 -- ---- where lines stand
-
--- where the line before this one ends
-abbrev pub end_before : List LineSpan → ℕ → ℕ
-end_before spans zero = 0
-end_before spans (suc i) = end_of spans i
 
 -- between two offsets an island stands: first a jump to a label that is bound at the second
 pub record IslandStands (b : Buffer) (from to : ℕ) : Type 0 where
@@ -131,6 +132,11 @@ pub record BindPut (label : MachLabel) (old new : Buffer) (span : LineSpan) : Ty
   pub sound : IsSoundBuffer new
   pub start : span.start ≡ length (bytes_of old)
   pub end : span.end ≡ length (bytes_of old)
+
+-- the vector unit's setting known after a line, by whether an island was put before it and the setting known then
+abbrev pub line_setting : Bool → Line → EmitVState → EmitVState
+line_setting made (Put inst) setting = setting_after inst (setting_beyond made setting)
+line_setting made (Bind label) setting = Unknown
 
 abbrev pub LinePut : Line → Buffer → Buffer → LineSpan → Type 0
 LinePut (Put inst) old new span = InstPut inst old new span

@@ -1,4 +1,4 @@
--- Code that was built line by line, and finished.
+-- Code that was built line by line, and finished: a link of the proof.
 use Rattle.std.specs.Prelude.{◌≡◌, length, List}
 use Rattle.rv_inst.specs.declared.inst.Line.{Line}
 use Rattle.rv_inst.specs.declared.code.Code.{Code}

@@ -10,6 +10,7 @@ use Rattle.rv_inst.specs.declared.error.EmitError.{EmitError}
 use Rattle.rv_inst.specs.declared.error.EmitError.TheVariants as errors
 use Rattle.rv_inst.specs.declared.job.Job.{Job}
 use Rattle.rv_listing.specs.Reading.{reads}
+use Rattle.rv_listing.specs.CodeRanges.{CodeFits}
 use Rattle.rv_listing.specs.Report.{report}
 use Rattle.rv_stream.specs.Ends.{Rose, TookFront}
 use Rattle.rv_asm.specs.Refusal.{refusal}
@@ -60,9 +61,10 @@ status_of ends.OutOfMemory = 8
 
 -- ---- what an input means
 
--- the code of the job that the input means, which tells its lines and runs as they say, with no island early
+-- the code of the job that the input means, which tells its lines and runs as they say, with no island early, and its
+-- numbers in the ranges in which no other code has its report
 abbrev pub IsCodeOf : List ℕ → Code → Type 0
-IsCodeOf input code = (job : Job) × (reads input ≡ Ok job) × (refusal job.lines ≡ None) × Told job code × RunsAsListed job code × InReach job code
+IsCodeOf input code = (job : Job) × (reads input ≡ Ok job) × (refusal job.lines ≡ None) × Told job code × RunsAsListed job code × InReach job code × CodeFits code
 
 -- the input means a job that is refused so; never for want of memory
 abbrev pub IsRefused : List ℕ → EmitError → Type 0

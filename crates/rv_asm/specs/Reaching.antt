@@ -3,8 +3,6 @@
 use Rattle.std.specs.Prelude.{◌≡◌, ℕ, zero, suc, ◌+◌, ◌*◌, ◌<◌, ◌≤◌, Bool, false, not, nat_eq, nat_lt, if◌then◌else◌, List, [], ◌∷◌, ◌++◌, length, take, drop, Option, Some, None, slice_get}
 use Rattle.rv_inst.specs.declared.inst.Line.{Line}
 use Rattle.rv_inst.specs.declared.inst.Line.TheVariants.{Inst as Put, Bind}
-use Rattle.rv_inst.specs.declared.inst.Inst.{Inst}
-use Rattle.rv_inst.specs.declared.inst.Inst.TheVariants.{EmitIsland, CondBr}
 use Rattle.rv_inst.specs.declared.job.Job.{Job}
 use Rattle.rv_inst.specs.declared.code.Code.{Code}
 use Rattle.rv_inst.specs.declared.code.LineSpan.{LineSpan}
@@ -13,10 +11,10 @@ use Rattle.rv_inst.specs.Fields.{named_labels}
 use Rattle.rv_inst.specs.LabelUse.{label_kinds}
 use Rattle.mach_buffer.specs.declared.uses.Use.{Use}
 use Rattle.mach_buffer.specs.Reach.{is_reached, deadlines, CanReach}
-use Rattle.rv_emit.specs.Emitted.{uses_in, island_space}
-use Rattle.rv_asm.specs.Told.{start_of, end_of}
+use Rattle.rv_inst.specs.Sizes.{Extent, Words, Island, extent_of}
+use Rattle.rv_inst.specs.Uses.{uses_in, least_reach}
+use Rattle.rv_asm.specs.Told.{start_of, end_of, end_before}
 use Rattle.rv_asm.specs.Refusal.{size_sum}
-use Rattle.rv_asm.specs.Built.{end_before}
 
 -- ---- where islands stand
 
@@ -25,9 +23,13 @@ abbrev pub is_behind_island : List LineSpan → ℕ → Bool
 is_behind_island spans i = nat_lt (end_before spans i) (start_of spans i)
 
 -- an island stands in a line: it asks for one, and its span isn't empty
+abbrev pub is_island_of : Extent → ℕ → ℕ → Bool
+is_island_of (Words size) start end = false
+is_island_of (Island space) start end = nat_lt start end
+
 abbrev pub is_island : Line → ℕ → ℕ → Bool
-is_island (Put (EmitIsland space)) start end = nat_lt start end
-is_island line start end = false
+is_island (Put inst) start end = is_island_of (extent_of inst) start end
+is_island (Bind label) start end = false
 
 -- ---- no island stands early
 
@@ -41,11 +43,6 @@ abbrev pub label_count : List Line → ℕ
 label_count [] = 0
 label_count (line ∷ lines) = length (named_labels line) + label_count lines
 
--- how far the shortest use of a line reaches, counted from the line's start
-abbrev pub least_reach : Line → ℕ
-least_reach (Put (CondBr taken not_taken kind)) = 4094
-least_reach line = 1048574
-
 -- an island at an offset is due: some line since the last island might not reach its label or a veneer, were the island put
 -- only behind so many bytes more and two uses more
 pub record IsDue (lines : List Line) (spans : List LineSpan) (i at distance : ℕ) : Type 0 where
@@ -57,9 +54,13 @@ pub record IsDue (lines : List Line) (spans : List LineSpan) (i at distance : �
   pub before : index < i
   pub due : start_of spans index + least_reach line < at + distance + 14 + 8 * (label_count (drop (last_island spans i) (take i lines)) + 2)
 
+abbrev pub IsDueOf : List Line → List LineSpan → ℕ → Extent → Type 0
+IsDueOf lines spans i (Words size) = Unit {0}
+IsDueOf lines spans i (Island space) = start_of spans i < end_of spans i → IsDue lines spans i (start_of spans i) space
+
 abbrev pub IslandDue : List Line → List LineSpan → ℕ → Line → Type 0
-IslandDue lines spans i (Put (EmitIsland space)) = start_of spans i < end_of spans i → IsDue lines spans i (start_of spans i) space
-IslandDue lines spans i line = Unit {0}
+IslandDue lines spans i (Put inst) = IsDueOf lines spans i (extent_of inst)
+IslandDue lines spans i (Bind label) = Unit {0}
 
 -- no island stands before or in a line unless it is due there
 pub record NotEarly (lines : List Line) (spans : List LineSpan) : Type 0 where
@@ -103,14 +104,8 @@ ReachesOn lines spans = (n : ℕ) → n ≤ length lines → CanReach (end_befor
 
 -- ---- all of it
 
--- the most bytes between a line's begin and its end
-abbrev pub AllNarrow : List Line → List LineSpan → Type 0
-AllNarrow lines spans = (i : ℕ) (inst : Inst) → slice_get lines i ≡ Some (Put inst) → island_space inst ≡ None → end_of spans i ≤ start_of spans i + 88
-
--- no island is early, Reach holds after every line, a line's own bytes are few, and the code is no longer than its lines
--- allow
+-- no island is early, Reach holds after every line, and the code is no longer than its lines allow
 pub record InReach (job : Job) (code : Code) : Type 0 where
   pub early : NotEarly job.lines code.lines
   pub reach : ReachesOn job.lines code.lines
-  pub narrow : AllNarrow job.lines code.lines
   pub short : length code.bytes ≤ size_sum job.lines + 16

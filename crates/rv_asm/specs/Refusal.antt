@@ -8,7 +8,7 @@ use Rattle.rv_inst.specs.declared.error.EmitError.{EmitError}
 use Rattle.rv_inst.specs.declared.error.EmitError.TheVariants.{Malformed, LabelTwice, UnboundLabel, TooLarge, OutOfMemory}
 use Rattle.rv_inst.specs.Fields.{named_labels}
 use Rattle.rv_inst.specs.Rules.{first_of, broken_rule}
-use Rattle.rv_emit.specs.Emitted.{inst_sum}
+use Rattle.rv_inst.specs.Sizes.{line_sum}
 
 abbrev pub malformed : ℕ → Option Rule → Option EmitError
 malformed index None = None
@@ -51,11 +51,6 @@ unbound_among bound (l ∷ labels) = if bound l.number then unbound_among bound 
 abbrev pub unbound_in : (ℕ → Bool) → List Line → Option EmitError
 unbound_in bound [] = None
 unbound_in bound (line ∷ lines) = first_of (unbound_among bound (named_labels line)) (unbound_in bound lines)
-
--- the bytes that a line counts for: 128, and those before which it asks for an island
-abbrev pub line_sum : Line → ℕ
-line_sum (Put inst) = inst_sum inst
-line_sum (Bind label) = 128
 
 -- the bytes that lines count for, which their code doesn't pass
 abbrev pub size_sum : List Line → ℕ

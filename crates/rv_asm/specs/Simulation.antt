@@ -14,7 +14,7 @@ use Rattle.rv_machine.specs.declared.ops.BaseOp.TheVariants.{Ebreak}
 use Rattle.rv_machine.specs.Layout.{bare_form}
 use Rattle.rv_machine.specs.Decode.{decode}
 use Rattle.rv_machine.specs.Steps.{fetch, iter}
-use Rattle.rv_emit.specs.Runs.{Same}
+use Rattle.rv_inst.specs.Same.{Same}
 use Rattle.rv_asm.specs.Told.{start_of, end_of}
 
 -- the start of a line, by its number; an address outside the code; the end of the last line; or the break of a line
@@ -63,7 +63,9 @@ address_of code base (Stop i) = wrap (base + start_of code.lines i)
 -- at a break the word is that of ebreak, so the machine has no step
 abbrev pub IsStopped : IsaFlags → Point → State → Type 0
 IsStopped flags (Stop i) s = decode flags (fetch s.values.mem s.pc) ≡ Some (bare_form (Base Ebreak))
-IsStopped flags _ s = Unit {0}
+IsStopped flags (At i) s = Unit {0}
+IsStopped flags (Out a) s = Unit {0}
+IsStopped flags End s = Unit {0}
 
 -- addresses of symbols, or of the slots that hold them, by the number of a name
 abbrev pub Addresses : Type 0
@@ -75,7 +77,15 @@ pub record IsPlaced (code : Code) (base : ℕ) (symbols slots : Addresses) (mem 
   pub room : base + length code.bytes ≤ 2 ^ 64
   pub there : (k : ℕ) → k < length code.bytes → byte mem (base + k) ≡ slice_index code.bytes k
 
--- From this point the machine comes, in some steps, where one line leads, with values that are the same.
+-- the start of the line of an index, or of one before it
+abbrev pub IsBack : ℕ → Point → Type 0
+IsBack index (At j) = j ≤ index
+IsBack index (Out a) = ⊥
+IsBack index End = ⊥
+IsBack index (Stop i) = ⊥
+
+-- From this point the machine comes, in some steps, where one line leads, with values that are the same. To a line that
+-- doesn't stand after this one it takes a step: so where the listing runs without end, the machine does.
 pub record Comes (job : Job) (code : Code) (base : ℕ) (p : Point) (v : Values) (s : State) : Type 0 where
   pub steps : ℕ
   pub point : Point
@@ -83,6 +93,7 @@ pub record Comes (job : Job) (code : Code) (base : ℕ) (p : Point) (v : Values)
   pub state : State
   pub line : OneLine job code base p v point values
   pub ran : iter job.flags steps s ≡ Some state
+  pub moved : IsBack line.index point → 1 ≤ steps
   pub stands : state.pc ≡ address_of code base point
   pub stopped : IsStopped job.flags point state
   pub same : Same values state.values

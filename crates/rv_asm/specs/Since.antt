@@ -1,4 +1,4 @@
--- What waits in the buffer since the last island, by the lines and their spans.
+-- What waits in the buffer since the last island, by the lines and their spans: a link of the proof.
 use Rattle.std.specs.Prelude.{◌≡◌, ℕ, ◌^◌, ◌<◌, false, List, ◌++◌, length, drop, Some, None, slice_get}
 use Rattle.rv_inst.specs.declared.code.LineSpan.{LineSpan}
 use Rattle.rv_inst.specs.declared.inst.Line.{Line}

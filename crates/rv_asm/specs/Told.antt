@@ -1,8 +1,11 @@
 -- What the code tells of its lines.
-use Rattle.std.specs.Prelude.{◌≡◌, ℕ, suc, ◌<◌, ◌≤◌, List, [], ◌∷◌, length, slice_get, Some, option_map, unwrap_or}
+use Rattle.std.specs.Prelude.{◌≡◌, ℕ, zero, suc, ◌+◌, ◌<◌, ◌≤◌, ◌⊎◌, List, [], ◌∷◌, length, slice_get, Some, option_map, unwrap_or}
 use Rattle.rv_inst.specs.declared.inst.Line.{Line}
 use Rattle.rv_inst.specs.declared.inst.Line.TheVariants.{Inst as Put, Bind}
 use Rattle.rv_inst.specs.declared.job.Job.{Job}
+use Rattle.rv_inst.specs.Islands.{IsIsland}
+use Rattle.rv_inst.specs.Sizes.{Extent, Words, Island, extent_of}
+use Rattle.rv_base.specs.declared.flags.IsaFlags.{IsaFlags}
 use Rattle.rv_inst.specs.declared.code.Code.{Code}
 use Rattle.rv_inst.specs.declared.code.LineSpan.{LineSpan}
 use Rattle.mach_buffer.specs.declared.uses.LabelPlace.{LabelPlace}
@@ -13,20 +16,39 @@ start_of spans i = unwrap_or (option_map (λ (s : LineSpan). s.start) (slice_get
 abbrev pub end_of : List LineSpan → ℕ → ℕ
 end_of spans i = unwrap_or (option_map (λ (s : LineSpan). s.end) (slice_get spans i)) 0
 
+-- where the line before this one ends
+abbrev pub end_before : List LineSpan → ℕ → ℕ
+end_before spans zero = 0
+end_before spans (suc i) = end_of spans i
+
 -- the binds among lines, the first of which has index i: each label with the start of its line
 abbrev pub binds_from : List LineSpan → ℕ → List Line → List LabelPlace
 binds_from spans i [] = []
 binds_from spans i (Bind l ∷ lines) = (record { label = l; offset = start_of spans i }) ∷ binds_from spans (suc i) lines
 binds_from spans i (Put inst ∷ lines) = binds_from spans (suc i) lines
 
--- Every line has one span, in order; the first starts at 0, none ends before it starts, and none starts before the
--- one before it ends. The code's end is that of the last line, and its labels are the binds.
+-- nothing stands between two offsets, or an island
+abbrev pub IsGap : IsaFlags → List ℕ → ℕ → ℕ → Type 0
+IsGap flags bytes from to = (from ≡ to) ⊎ IsIsland flags bytes from to
+
+-- an instruction's words are as long as they must be; where it asks for an island, nothing stands, or an island
+abbrev pub IsSized : IsaFlags → List ℕ → Extent → ℕ → ℕ → Type 0
+IsSized flags bytes (Words size) start end = end ≡ start + size
+IsSized flags bytes (Island space) start end = IsGap flags bytes start end
+
+-- a line's span is as long as the line; that of a bind is empty
+abbrev pub IsSpan : IsaFlags → List ℕ → Line → ℕ → ℕ → Type 0
+IsSpan flags bytes (Put inst) start end = IsSized flags bytes (extent_of inst) start end
+IsSpan flags bytes (Bind label) start end = end ≡ start
+
+-- Every line has one span, in order, as long as the line. The first starts at 0; between two stands nothing, or an island.
+-- The code's end is that of the last line, and its labels are the binds.
 pub record Told (job : Job) (code : Code) : Type 0 where
   pub count : length code.lines ≡ length job.lines
   pub indices : (i : ℕ) (span : LineSpan) → slice_get code.lines i ≡ Some span → span.index ≡ i
   pub first : start_of code.lines 0 ≡ 0
-  pub forward : (i : ℕ) → start_of code.lines i ≤ end_of code.lines i
-  pub joined : (i : ℕ) → suc i < length job.lines → end_of code.lines i ≤ start_of code.lines (suc i)
+  pub long : (i : ℕ) (line : Line) → slice_get job.lines i ≡ Some line → IsSpan job.flags code.bytes line (start_of code.lines i) (end_of code.lines i)
+  pub joined : (i : ℕ) → suc i < length job.lines → IsGap job.flags code.bytes (end_of code.lines i) (start_of code.lines (suc i))
   pub last : (i : ℕ) → suc i ≡ length job.lines → code.end ≡ end_of code.lines i
   pub none : length job.lines ≡ 0 → code.end ≡ 0
   pub within : code.end ≤ length code.bytes

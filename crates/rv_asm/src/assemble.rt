@@ -4,6 +4,7 @@ ghost use Rattle.std.specs.Prelude.{◌≡◌, ℕ, [], None, IfOk, OnOk};
 ghost use Rattle.rv_base.specs.declared.flags.IsaFlags.{IsaFlags};
 ghost use Rattle.rv_base.specs.Flags.{no_flags};
 ghost use Rattle.rv_base.specs.Frame.{no_frame};
+ghost use Rattle.rv_listing.specs.CodeRanges.{CodeFits};
 ghost use Rattle.rv_asm.specs.Job.{job_of};
 ghost use Rattle.rv_asm.specs.Refusal.{refusal, Finds};
 ghost use Rattle.rv_asm.specs.Told.{Told};
@@ -12,6 +13,7 @@ ghost use Rattle.rv_asm.specs.Reaching.{InReach};
 ghost use Rattle.rv_asm.specs.Finished.{IsFinished};
 
 use crate::lines::put_line;
+use crate::ranges::code_fits;
 use crate::refusal::accept;
 use mach_buffer::buffer::MachBuffer;
 use rv_base::constant::Constant;
@@ -41,11 +43,15 @@ pub fn assemble(
     ensures told { IfOk result (λ code. Told (job_of lines.now flags frame.now constants.now) code) }
     ensures runs { IfOk result (λ code. RunsAsListed (job_of lines.now flags frame.now constants.now) code) }
     ensures reach { IfOk result (λ code. InReach (job_of lines.now flags frame.now constants.now) code) }
+    ensures ranges { IfOk result CodeFits }
     ensures refused { Finds (refusal lines.now) result }
 {
     accept(alloc, lines, flags, frame, constants)?;
     match build(alloc, lines, flags, constants) {
-        Ok(code) => Ok(code),
+        Ok(code) => {
+            code_fits(&code);
+            Ok(code)
+        }
         Err(OutOfMemory) => Err(EmitError::OutOfMemory),
     }
 }

@@ -4,6 +4,7 @@
 pub mod assemble;
 pub mod lines;
 pub mod outcome;
+mod ranges;
 pub mod refusal;
 pub mod run;
 

@@ -5,7 +5,10 @@ ghost use Rattle.rv_inst.specs.declared.inst.Line.TheVariants.{Inst as Put, Bind
 ghost use Rattle.mach_buffer.specs.Reach.{CanReach};
 ghost use Rattle.mach_buffer.specs.Buffer.{bytes_of, drawn_of};
 ghost use Rattle.rv_emit.specs.Emitted.{IsSoundBuffer, pending, MakesRoom, CanEmit, Emitted};
-ghost use Rattle.rv_asm.specs.Built.{CanPut, InstPut, BindPut, LinePut};
+ghost use Rattle.mach_buffer.specs.Reach.{is_needed};
+ghost use Rattle.rv_emit.specs.declared.state.EmitVState.TheVariants.{Unknown};
+ghost use Rattle.rv_emit.specs.State.{setting_after, setting_beyond};
+ghost use Rattle.rv_asm.specs.Built.{CanPut, InstPut, BindPut, LinePut, line_setting};
 
 use mach_buffer::buffer::MachBuffer;
 use rv_base::label::MachLabel;
@@ -33,6 +36,8 @@ pub fn put_line(
     requires { CanPut line.now sink.old }
     ensures index { IfOk result (λ span. span.index ≡ index) }
     ensures put { IfOk result (λ span. LinePut line.now sink.old sink.new span) }
+    ensures frame { state.new.frame ≡ state.old.frame }
+    ensures setting { OnOk result (state.new.vstate ≡ line_setting (is_needed (length (bytes_of sink.old)) 88 (pending sink.old)) line.now state.old.vstate) }
 {
     match line {
         Line::Inst(inst) => put_inst(alloc, sink, info, state, index, inst),
@@ -50,6 +55,8 @@ fn put_bind(
     requires { CanPut (Bind label) sink.old }
     ensures index { IfOk result (λ span. span.index ≡ index) }
     ensures put { IfOk result (λ span. BindPut label sink.old sink.new span) }
+    ensures frame { state.new.frame ≡ state.old.frame }
+    ensures setting { OnOk result (state.new.vstate ≡ Unknown) }
 {
     let here = sink.cur_offset();
     sink.bind_label(label)?;
@@ -73,6 +80,8 @@ fn put_inst(
     requires { CanPut (Put inst.now) sink.old }
     ensures index { IfOk result (λ span. span.index ≡ index) }
     ensures put { IfOk result (λ span. InstPut inst.now sink.old sink.new span) }
+    ensures frame { state.new.frame ≡ state.old.frame }
+    ensures setting { OnOk result (state.new.vstate ≡ setting_after inst.now (setting_beyond (is_needed (length (bytes_of sink.old)) 88 (pending sink.old)) state.old.vstate)) }
 {
     make_way(sink, state)?;
     let start = sink.cur_offset();
@@ -87,7 +96,9 @@ fn make_way(sink: &mut MachBuffer<LabelUse>, state: &mut EmitState) -> Result<bo
     requires reach { CanReach (length (bytes_of sink.old)) (pending sink.old) }
     requires few { drawn_of sink.old < 2 ^ 30 }
     requires room { length (bytes_of sink.old) + 8 * length (pending sink.old) + 32 < 2147479552 }
-    ensures { IfOk result (λ made. MakesRoom 88 sink.old sink.new made) }
+    ensures room { IfOk result (λ made. MakesRoom 88 sink.old sink.new made) }
+    ensures frame { state.new.frame ≡ state.old.frame }
+    ensures setting { OnOk result (state.new.vstate ≡ setting_beyond (is_needed (length (bytes_of sink.old)) 88 (pending sink.old)) state.old.vstate) }
 {
     let made = make_room(sink, LINE_SPACE)?;
     if made {
@@ -107,6 +118,8 @@ fn emit(
     requires { CanEmit inst.now sink.old }
     ensures emitted { OnOk result (Emitted inst.now sink.old sink.new) }
     ensures reach { OnOk result (CanReach (length (bytes_of sink.new)) (pending sink.new)) }
+    ensures frame { state.new.frame ≡ state.old.frame }
+    ensures setting { OnOk result (state.new.vstate ≡ setting_after inst.now state.old.vstate) }
 {
     match inst.emit(alloc, sink, info, state) {
         Ok(()) => Ok(()),

@@ -3,9 +3,11 @@
 ghost use Rattle.std.specs.Prelude.{◌≡◌, ℕ, ◌^◌, [], ◌∷◌, ◌++◌, ◌||◌, false, nat_eq, nat_lt, IfOk, OnOk};
 ghost use Rattle.std.specs.BTreeSet.{contains};
 ghost use Rattle.std.specs.Ordering.{nat_cmp};
-ghost use Rattle.rv_inst.specs.Fields.{named_labels, inst_labels, control_labels, target_labels};
-ghost use Rattle.rv_asm.specs.Refusal.{is_bound, broken_from, binds, twice_of, twice_in, twice_from, unbound_among, unbound_in, line_sum, size_sum, refusal, Finds};
-ghost use Rattle.rv_emit.specs.Emitted.{inst_sum};
+ghost use Rattle.rv_inst.specs.Fields.{named_labels, inst_labels, target_labels};
+ghost use Rattle.rv_inst.specs.Families.{family_of};
+ghost use Rattle.rv_inst.specs.declared.inst.Family.TheVariants.{Control};
+ghost use Rattle.rv_asm.specs.Refusal.{is_bound, broken_from, binds, twice_of, twice_in, twice_from, unbound_among, unbound_in, size_sum, refusal, Finds};
+ghost use Rattle.rv_inst.specs.Sizes.{line_sum, inst_sum};
 
 use rv_base::constant::Constant;
 use rv_base::flags::IsaFlags;
@@ -125,7 +127,7 @@ fn find_labels_in(bound: &BTreeSet<u32>, inst: &Inst) -> Result<(), EmitError>
 }
 
 fn find_labels_in_control(bound: &BTreeSet<u32>, inst: &Inst) -> Result<(), EmitError>
-    ensures { Finds (unbound_among (contains nat_cmp bound.now) (control_labels inst.now)) result }
+    ensures { family_of inst.now ≡ Control → Finds (unbound_among (contains nat_cmp bound.now) (inst_labels inst.now)) result }
 {
     match inst {
         Inst::Jal { label } => find_label(bound, *label),

@@ -15,8 +15,10 @@ use Rattle.rv_inst.specs.Meaning.{Break}
 use Rattle.rv_inst.specs.Rules.{inst_rule}
 use Rattle.mach_buffer.specs.Buffer.{bytes_of}
 use Rattle.rv_emit.specs.Rows.{blank, distances, ebreak_row, rows_of}
-use Rattle.rv_emit.specs.Runs.{Same, Begins, used_target, used_exit}
-use Rattle.rv_emit.specs.Emitted.{Buffer, uses_in, bytes_of_words, AreRows, UsesStand, PutsBlock}
+use Rattle.rv_inst.specs.Same.{Same}
+use Rattle.rv_emit.specs.Runs.{Begins, used_target, used_exit}
+use Rattle.rv_emit.specs.Emitted.{Buffer, bytes_of_words, AreRows, UsesStand, PutsBlock}
+use Rattle.rv_inst.specs.Uses.{uses_in}
 use Rattle.rv_emit.specs.Blocks.{StandRows, IsPatchedTo, BytesStand, BlockRuns, PutRuns}
 use Rattle.rv_emit.proofs.Lines.{inst_runs}
 use Rattle.rv_emit.proofs.Placed.{bytes_fit, rows_there}
@@ -24,7 +26,7 @@ use Rattle.rv_emit.proofs.Patched.{patched_rows, unused_rows}
 
 -- ---- lengths
 
-four_each : (words : List ℕ) (rows : List Decoded) → AreRows words rows → length (bytes_of_words words) ≡ 4 * length rows
+pub four_each : (words : List ℕ) (rows : List Decoded) → AreRows words rows → length (bytes_of_words words) ≡ 4 * length rows
 four_each [] [] h = refl
 four_each [] (d ∷ rows) h = absurd h
 four_each (w ∷ words) [] h = absurd h
@@ -55,14 +57,14 @@ halts flags targets start _ words bytes v h p e = absurd (cc)
 -- ---- the block
 
 -- the machine stands before the block's rows
-block_begins : (flags : IsaFlags) (targets : ℕ → ℕ) (start : ℕ) (inst : Inst) (words bytes : List ℕ) (base : ℕ) (s : State) (v : Values) → start % 4 ≡ 0 → AreRows words (rows_of blank inst) → UsesStand start words (uses_in start inst) → IsPatchedTo targets start (bytes_of_words words) (uses_in start inst) bytes →
+block_begins : (flags : IsaFlags) (targets : ℕ → ℕ) (start : ℕ) (inst : Inst) (words bytes : List ℕ) (base : ℕ) (s : State) (v : Values) → start % 2 ≡ 0 → AreRows words (rows_of blank inst) → UsesStand start words (uses_in start inst) → IsPatchedTo targets start (bytes_of_words words) (uses_in start inst) bytes →
     BytesStand base bytes s.values.mem → s.pc ≡ wrap (base + start) → IsState s → AreValues v → Same v s.values → Begins flags base start (start + length (bytes_of_words words)) (rows_of (distances targets start) inst) s v
-block_begins flags targets start inst words bytes base s v aligned h used p placed here state values same =
+block_begins flags targets start inst words bytes base s v even h used p placed here state values same =
     let long = four_each words (rows_of blank inst) h in
     let count = same_count (distances targets start) blank inst in
     record {
       base_aligned = placed.aligned;
-      start_aligned = aligned;
+      start_even = even;
       long = omega arith;
       room = let room = placed.room in let within = p.within in omega arith;
       has = rows_there flags base bytes s.values.mem start (rows_of (distances targets start) inst) placed (patched_rows flags targets start inst words bytes h used (bytes_fit base bytes s.values.mem placed state.values.bytes) p);
@@ -72,16 +74,16 @@ block_begins flags targets start inst words bytes base s v aligned h used p plac
       same = same;
     }
 
-pub block_runs : (flags : IsaFlags) (inst : Inst) (start : ℕ) (words : List ℕ) → inst_rule inst ≡ None → start % 4 ≡ 0 → AreRows words (rows_of blank inst) → UsesStand start words (uses_in start inst) → BlockRuns flags inst start (bytes_of_words words)
-block_runs flags inst start words rule aligned h used = record {
+pub block_runs : (flags : IsaFlags) (inst : Inst) (start : ℕ) (words : List ℕ) → inst_rule inst ≡ None → start % 2 ≡ 0 → AreRows words (rows_of blank inst) → UsesStand start words (uses_in start inst) → BlockRuns flags inst start (bytes_of_words words)
+block_runs flags inst start words rule even h used = record {
   run = λ targets bytes p base s v placed here state values same.
-      (inst_runs flags targets start inst rule).run base (start + length (bytes_of_words words)) s v (block_begins flags targets start inst words bytes base s v aligned h used p placed here state values same);
+      (inst_runs flags targets start inst rule).run base (start + length (bytes_of_words words)) s v (block_begins flags targets start inst words bytes base s v even h used p placed here state values same);
   halt = λ targets bytes v p e. halts flags targets start inst words bytes v h p e;
 }
 
 -- so does the one that was put
 pub put_runs : (inst : Inst) (old new : Buffer) → inst_rule inst ≡ None → PutsBlock inst old new → PutRuns inst old new
-put_runs inst old new rule p asks aligned flags =
+put_runs inst old new rule p asks even flags =
     let start = length (bytes_of old) in
     let block : drop start (bytes_of new) ≡ bytes_of_words p.words = ap (drop start) p.adds.bytes ∙ drop-append_seam (bytes_of old) (bytes_of_words p.words) in
-    subst (BlockRuns flags inst start) (sym block) (block_runs flags inst start p.words rule aligned p.decode p.used)
+    subst (BlockRuns flags inst start) (sym block) (block_runs flags inst start p.words rule even p.decode p.used)

@@ -20,7 +20,8 @@ use Rattle.mach_buffer.proofs.Added.{append_none}
 use Rattle.mach_buffer.proofs.Apart.{comes_from, take_front}
 use Rattle.mach_buffer.proofs.Blocks.{OwnWindows, windows_block}
 use Rattle.mach_buffer.proofs.Patched.{grows_put, block_put, block_stays}
-use Rattle.rv_emit.specs.Emitted.{Buffer, IsSoundBuffer, HasWindows, use_at, uses_in, bytes_of_words, UsesStand, Adds, PutsBlock, PutsIsland}
+use Rattle.rv_emit.specs.Emitted.{Buffer, IsSoundBuffer, HasWindows, bytes_of_words, UsesStand, Adds, PutsBlock, PutsIsland}
+use Rattle.rv_inst.specs.Uses.{use_at, uses_in}
 
 -- all that one buffer has is in another, and what is more there stands behind it
 abbrev pub GrowsTo : Buffer → Buffer → Type 0

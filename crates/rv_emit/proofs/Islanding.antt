@@ -14,7 +14,8 @@ use Rattle.mach_buffer.specs.Islands.{Islanded, AreWindows, VeneersBehind, other
 use Rattle.mach_buffer.proofs.Apart.{take_front}
 use Rattle.mach_buffer.proofs.Islanded.{aligned_near}
 use Rattle.mach_buffer.proofs.Blocks.{windows_block}
-use Rattle.rv_emit.specs.Emitted.{Buffer, IsSoundBuffer, HasWindows, pending, use_at, Adds, PutsIsland}
+use Rattle.rv_emit.specs.Emitted.{Buffer, IsSoundBuffer, HasWindows, pending, Adds, PutsIsland}
+use Rattle.rv_inst.specs.Uses.{use_at}
 use Rattle.rv_emit.proofs.Islands.{JumpPut, others_pending, end_near}
 use Rattle.rv_emit.proofs.Grows.{own_windows, veneer_law, recorded_more}
 

@@ -17,7 +17,8 @@ use Rattle.mach_buffer.proofs.Slack.{deadlines_append}
 use Rattle.mach_buffer.proofs.Links.{slice_get-append_last}
 use Rattle.mach_buffer.proofs.Others.{own_idle}
 use Rattle.mach_buffer.proofs.Islanded.{aligned_near}
-use Rattle.rv_emit.specs.Emitted.{Buffer, IsSoundBuffer, pending, use_at}
+use Rattle.rv_emit.specs.Emitted.{Buffer, IsSoundBuffer, pending}
+use Rattle.rv_inst.specs.Uses.{use_at}
 
 -- tests that agree on each use have the same deadlines
 pub deadlines_as : {L : Type 0} (test other : Use L → Bool) (kinds : Kinds L) (uses : List (Use L)) → ((j : ℕ) (u : Use L) → slice_get uses j ≡ Some u → test u ≡ other u) → deadlines test kinds uses ≡ deadlines other kinds uses

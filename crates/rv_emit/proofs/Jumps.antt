@@ -1,5 +1,5 @@
 -- The lines that lead elsewhere run as they mean.
-use Rattle.std.proofs.Common.{◌≡◌, ℕ, ◌+◌, ◌-◌, ◌*◌, ◌/◌, ◌^◌, ◌<◌, ◌≤◌, Bool, true, false, ℤ, pos, negsuc, List, [], ◌∷◌, Some, arith, refl, sym, ap, subst, ◌∙◌, ⊎_elim, lit<}
+use Rattle.std.proofs.Common.{◌≡◌, ℕ, ◌+◌, ◌-◌, ◌*◌, ◌/◌, ◌^◌, ◌<◌, ◌≤◌, Bool, true, false, ℤ, pos, negsuc, List, [], ◌∷◌, Some, arith, refl, sym, ap, subst, ◌∙◌, ⊎_elim, lit<, lit≤}
 use Rattle.std.specs.Prelude.{if◌then◌else◌}
 use Rattle.std.proofs.lemmas.Int.{ints}
 use Rattle.std.proofs.lemmas.Bool.{cases_lt}
@@ -24,7 +24,7 @@ use Rattle.rv_machine.specs.Effects.{act, has_no_step}
 use Rattle.rv_machine.specs.Steps.{istep}
 use Rattle.rv_encode.specs.Rows.{compare_row}
 use Rattle.rv_emit.specs.Rows.{between, jump_row, jalr_row}
-use Rattle.rv_emit.specs.Runs.{HasRows, IsUsable, Begins, Ends, Runs, exit_address}
+use Rattle.rv_emit.specs.Runs.{HasRows, IsUsable, Begins, Ends, Runs, least_steps, exit_address}
 use Rattle.rv_emit.proofs.Registers.{same_set, are_values_set}
 use Rattle.rv_emit.proofs.Blocked.{first_step, ends_one, ends_both}
 
@@ -51,17 +51,17 @@ ret_runs flags targets start = record {
       let e = b.same.regs 1 (lit< tt) in
       ends_one flags s (wrap (reg s.values 1 + 0) / 2 * 2) (reg v 1 / 2 * 2) v s.values
       (first_step flags base start after (jalr_row 0 1 (pos 0)) [] s v b refl)
-      (omega arith) (omega arith) b.same b.are_values b.is_state.values refl;
+      (omega arith) (omega arith) b.same b.are_values b.is_state.values refl (lit≤ tt);
 }
 
 -- a jump to an offset comes there, and changes nothing
-jump_ends : (flags : IsaFlags) (base start after to : ℕ) (ds : List Decoded) (s : State) (v : Values) → Begins flags base start after (jump_row (between start to) ∷ ds) s v → Ends flags (wrap (base + to)) v s
+jump_ends : (flags : IsaFlags) (base start after to : ℕ) (ds : List Decoded) (s : State) (v : Values) → Begins flags base start after (jump_row (between start to) ∷ ds) s v → Ends flags 1 (wrap (base + to)) v s
 jump_ends flags base start after to ds s v b =
     let long = b.long in let room = b.room in
     ends_one flags s (wrap (s.pc + low64 (between start to))) (wrap (base + to)) v s.values
     (first_step flags base start after (jump_row (between start to)) ds s v b refl)
     ((λ i. wrap (b.pc i + low64 (between start to))) ∙ lands base start to (omega arith))
-    (omega arith) b.same b.are_values b.is_state.values refl
+    (omega arith) b.same b.are_values b.is_state.values refl (lit≤ tt)
 
 pub jal_runs : (flags : IsaFlags) (targets : ℕ → ℕ) (start : ℕ) (label : MachLabel) → Runs flags targets start (Jal label)
 jal_runs flags targets start label = record {
@@ -87,7 +87,7 @@ jalr_runs flags targets start rd rs offset h h1 = record {
       (same_set v s.values n link b.are_values b.is_state.values (omega arith) b.same)
       (are_values_set v n link b.are_values (omega arith) (omega arith))
       (are_values_set s.values n link b.is_state.values (omega arith) (omega arith))
-      refl;
+      refl (lit≤ tt);
 }
 
 -- what the row of a comparison does
@@ -140,6 +140,11 @@ chosen_exit : (c : Bool) (targets : ℕ → ℕ) (base start after next k : ℕ)
 chosen_exit true targets base start after next k e = refl
 chosen_exit false targets base start after next k e = e
 
+-- a branch takes one step
+chosen_least : (c : Bool) (k : ℕ) → least_steps (if c then To k else Next) ≤ 1
+chosen_least true k = lit≤ tt
+chosen_least false k = lit≤ tt
+
 -- a branch that goes on where the comparison doesn't hold
 branch_on_runs : (flags : IsaFlags) (targets : ℕ → ℕ) (start : ℕ) (kind : IntegerCompare) (t : MachLabel) → IsUsable kind.rs1 → IsUsable kind.rs2 → Runs flags targets start (CondBr (Label t) Fallthrough kind)
 branch_on_runs flags targets start kind t h1 h2 = record {
@@ -149,21 +154,25 @@ branch_on_runs flags targets start kind t h1 h2 = record {
       ends_one flags s (if c then wrap (base + targets 0) else wrap (base + (start + 4))) (exit_address targets base start after (if c then To 0 else Next)) v s.values
       (branch_step flags kind base start after (targets 0) [] s v h1 h2 b)
       (chosen_exit c targets base start after (wrap (base + (start + 4))) 0 (omega arith))
-      (chosen_fits c _ _ (omega arith) (omega arith)) b.same b.are_values b.is_state.values refl;
+      (chosen_fits c _ _ (omega arith) (omega arith)) b.same b.are_values b.is_state.values refl (chosen_least c 0);
 }
 
+-- at least none
+unhurried : {flags : IsaFlags} {least address : ℕ} {v : Values} {s : State} → Ends flags least address v s → Ends flags 0 address v s
+unhurried e = record { steps = e.steps; state = e.state; moved = omega arith; ran = e.ran; pc = e.pc; same = e.same; is_state = e.is_state; are_values = e.are_values; kept = e.kept }
+
 -- a branch with a jump behind it
-branch_jump_ends : (flags : IsaFlags) (c : Bool) (targets : ℕ → ℕ) (base start after : ℕ) (d : Decoded) (s : State) (v : Values) → Begins flags base start after (d ∷ jump_row (between (start + 4) (targets 1)) ∷ []) s v → istep flags s ≡ Some (at (if c then wrap (base + targets 0) else wrap (base + (start + 4))) s.values) → Ends flags (exit_address targets base start after (if c then To 0 else To 1)) v s
+branch_jump_ends : (flags : IsaFlags) (c : Bool) (targets : ℕ → ℕ) (base start after : ℕ) (d : Decoded) (s : State) (v : Values) → Begins flags base start after (d ∷ jump_row (between (start + 4) (targets 1)) ∷ []) s v → istep flags s ≡ Some (at (if c then wrap (base + targets 0) else wrap (base + (start + 4))) s.values) → Ends flags (least_steps (if c then To 0 else To 1)) (exit_address targets base start after (if c then To 0 else To 1)) v s
 branch_jump_ends flags true targets base start after d s v b e =
-    ends_one flags s (wrap (base + targets 0)) (wrap (base + targets 0)) v s.values e refl (omega arith) b.same b.are_values b.is_state.values refl
+    ends_one flags s (wrap (base + targets 0)) (wrap (base + targets 0)) v s.values e refl (omega arith) b.same b.are_values b.is_state.values refl (lit≤ tt)
 branch_jump_ends flags false targets base start after d s v b e =
     let jump = jump_row (between (start + 4) (targets 1)) ∷ [] in
     let s1 = at (wrap (base + (start + 4))) s.values in
-    let first = ends_one flags s (wrap (base + (start + 4))) (wrap (base + (start + 4))) v s.values e refl (omega arith) b.same b.are_values b.is_state.values refl in
+    let first : Ends flags 1 (wrap (base + (start + 4))) v s = ends_one flags s (wrap (base + (start + 4))) (wrap (base + (start + 4))) v s.values e refl (omega arith) b.same b.are_values b.is_state.values refl (lit≤ tt) in
     let moved : base + start + 4 ≡ base + (start + 4) = omega arith in
     let b1 : Begins flags base (start + 4) after jump s1 v = record {
       base_aligned = b.base_aligned;
-      start_aligned = let h = b.start_aligned in omega arith;
+      start_even = let h = b.start_even in omega arith;
       long = let h = b.long in omega arith;
       room = b.room;
       has = subst (λ a. HasRows flags s.values.mem a jump) moved b.has.1;
@@ -172,7 +181,7 @@ branch_jump_ends flags false targets base start after d s v b e =
       are_values = b.are_values;
       same = b.same;
     } in
-    ends_both flags _ _ v v s first (jump_ends flags base (start + 4) after (targets 1) [] s1 v b1)
+    ends_both flags _ _ v v s first (unhurried (jump_ends flags base (start + 4) after (targets 1) [] s1 v b1))
 
 -- a branch whose taken side is a label
 pub branch_runs : (flags : IsaFlags) (targets : ℕ → ℕ) (start : ℕ) (kind : IntegerCompare) (t f : CondBrTarget) → IsUsable kind.rs1 → IsUsable kind.rs2 → is_fallthrough t ≡ false → Runs flags targets start (CondBr t f kind)

@@ -1,15 +1,16 @@
-pub mod Blocked
-pub mod Blocks
-pub mod Grows
-pub mod Islanding
-pub mod Islands
-pub mod Jumps
-pub mod Lines
-pub mod Patched
-pub mod Placed
-pub mod Registers
-pub mod Room
-pub mod Steps
-pub mod Straight
-pub mod Usable
-pub mod Words
+mod Blocked
+mod Blocks
+mod Grows
+mod Islanding
+mod Islands
+mod Jumps
+pub mod Laws
+mod Lines
+mod Patched
+mod Placed
+mod Registers
+mod Room
+mod Steps
+mod Straight
+mod Usable
+mod Words

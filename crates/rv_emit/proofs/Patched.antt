@@ -23,8 +23,10 @@ use Rattle.rv_inst.proofs.Bridges.{decode-patched_branch, decode-patched_jump}
 use Rattle.mach_buffer.specs.declared.uses.Use.{Use}
 use Rattle.mach_buffer.specs.Windows.{window}
 use Rattle.rv_emit.specs.Rows.{between, blank, distances, jump_row, rows_of}
-use Rattle.rv_emit.specs.Emitted.{use_at, uses_in, bytes_of_words, AreRows, opcode_of, UsesStand}
-use Rattle.rv_emit.specs.Blocks.{StandRows, IsAimed, IsPatchedTo, word_in}
+use Rattle.rv_inst.specs.Uses.{use_at, uses_in}
+use Rattle.rv_emit.specs.Emitted.{bytes_of_words, AreRows, opcode_of, UsesStand}
+use Rattle.rv_emit.specs.Blocks.{StandRows, IsAimed, IsPatchedTo}
+use Rattle.rv_inst.specs.Islands.{word_in}
 use Rattle.rv_emit.proofs.Placed.{AllBytes}
 
 -- ---- words and their bytes

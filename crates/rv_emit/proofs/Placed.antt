@@ -7,7 +7,8 @@ use Rattle.rv_machine.specs.Decode.{decode}
 use Rattle.rv_machine.specs.State.{Memory, byte, wrap}
 use Rattle.rv_machine.specs.Steps.{fetch}
 use Rattle.rv_emit.specs.Runs.{HasRows}
-use Rattle.rv_emit.specs.Blocks.{StandRows, BytesStand, word_in}
+use Rattle.rv_emit.specs.Blocks.{StandRows, BytesStand}
+use Rattle.rv_inst.specs.Islands.{word_in}
 
 -- all are bytes
 abbrev pub AllBytes : List ℕ → Type 0

@@ -6,7 +6,7 @@ use Rattle.std.proofs.Math.ListN.{length-set}
 use Rattle.std.proofs.lemmas.Grind.{get_or-set_at}
 use Rattle.std.proofs.lemmas.Bool.{cases_eq}
 use Rattle.rv_machine.specs.State.{Values, AreValues, reg_of, set_reg, set_reg_of}
-use Rattle.rv_emit.specs.Runs.{Same}
+use Rattle.rv_inst.specs.Same.{Same}
 
 -- at an index, the same number written to two lists
 index_set : (xs ys : List ℕ) (n m v : ℕ) → length xs ≡ 31 → length ys ≡ 31 → n < 31 → slice_index xs m ≡ slice_index ys m → slice_index (slice_set xs n v) m ≡ slice_index (slice_set ys n v) m

@@ -18,7 +18,8 @@ use Rattle.mach_buffer.specs.Reach.{CanReach, HasSlack, deadline, deadlines, is_
 use Rattle.mach_buffer.specs.Buffer.{bytes_of, uses_of, place_of}
 use Rattle.mach_buffer.proofs.Slack.{deadlines_append, slack_use, slack_less, slack_not_needed, reach_from_slack}
 use Rattle.rv_emit.specs.Rows.{blank, rows_of, move_rows, addi_row}
-use Rattle.rv_emit.specs.Emitted.{Buffer, pending, use_at, uses_in, Adds, AreRows, PutsBlock, MakesRoom, CanEmit, IsBounded, bytes_of_words}
+use Rattle.rv_emit.specs.Emitted.{Buffer, pending, Adds, AreRows, PutsBlock, MakesRoom, CanEmit, IsBounded, bytes_of_words}
+use Rattle.rv_inst.specs.Uses.{use_at, uses_in}
 
 -- whether a use waits
 abbrev pub waits : (ℕ → Option ℕ) → Use LabelUse → Bool

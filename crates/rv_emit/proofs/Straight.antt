@@ -145,10 +145,10 @@ set_own : (v : Values) (n : ℕ) → set_reg v n (reg v n) ≡ v
 set_own v zero = refl
 set_own v (suc n) = λ i. record { regs = set-get_or v.regs n 0 i; mem = v.mem }
 
-move_ends : (flags : IsaFlags) (base start after rd rs : ℕ) (c : Bool) (s : State) (v : Values) → nat_eq rd rs ≡ c → rd < 30 → rs < 30 → Begins flags base start after (if c then [] else addi_row rd rs (pos 0) ∷ []) s v → Ends flags (wrap (base + after)) (set_reg v rd (reg v rs)) s
+move_ends : (flags : IsaFlags) (base start after rd rs : ℕ) (c : Bool) (s : State) (v : Values) → nat_eq rd rs ≡ c → rd < 30 → rs < 30 → Begins flags base start after (if c then [] else addi_row rd rs (pos 0) ∷ []) s v → Ends flags 0 (wrap (base + after)) (set_reg v rd (reg v rs)) s
 move_ends flags base start after rd rs true s v e h h1 b =
     let same : rd ≡ rs = eqb-true rd rs e in
-    subst (λ (w : Values). Ends flags (wrap (base + after)) w s) (sym (ap (λ n. set_reg v rd (reg v n)) (sym same) ∙ set_own v rd)) (ends_here flags base start after s v b)
+    subst (λ (w : Values). Ends flags 0 (wrap (base + after)) w s) (sym (ap (λ n. set_reg v rd (reg v n)) (sym same) ∙ set_own v rd)) (ends_here flags base start after s v b)
 move_ends flags base start after rd rs false s v e h h1 b =
     writes flags base start after rd (reg v rs) (addi_row rd rs (pos 0)) s v b refl
     (λ i. at (wrap (s.pc + 4)) (set_reg s.values rd ((plus_none (reg s.values rs) (b.is_state.values.fits rs) ∙ sym (b.same.regs rs h1)) i)))
@@ -165,6 +165,6 @@ mov_from_preg_runs flags targets start rd rm h h1 = record {
 }
 
 -- x0 drops what an addition puts there
-pub nop4_ends : (flags : IsaFlags) (base start after : ℕ) (s : State) (v : Values) → Begins flags base start after (addi_row 0 0 (pos 0) ∷ []) s v → Ends flags (wrap (base + after)) v s
+pub nop4_ends : (flags : IsaFlags) (base start after : ℕ) (s : State) (v : Values) → Begins flags base start after (addi_row 0 0 (pos 0) ∷ []) s v → Ends flags 0 (wrap (base + after)) v s
 nop4_ends flags base start after s v b =
     writes flags base start after 0 0 (addi_row 0 0 (pos 0)) s v b refl refl (lit< tt) (lit< tt)

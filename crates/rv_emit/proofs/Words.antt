@@ -28,7 +28,8 @@ use Rattle.rv_inst.specs.LabelUseWords.{word_bytes}
 use Rattle.mach_buffer.specs.declared.uses.Use.{Use}
 use Rattle.mach_buffer.specs.Buffer.{bytes_of, uses_of}
 use Rattle.rv_emit.specs.Rows.{jump_row}
-use Rattle.rv_emit.specs.Emitted.{Buffer, Adds, PutsWords, use_at}
+use Rattle.rv_emit.specs.Emitted.{Buffer, Adds, PutsWords}
+use Rattle.rv_inst.specs.Uses.{use_at}
 
 -- a word's bytes, the least first
 pub bytes_of_word : (w : ℕ) → w < 2 ^ 32 → to_le_bytes w32 w ≡ word_bytes w

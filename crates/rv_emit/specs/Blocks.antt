@@ -1,5 +1,6 @@
--- A block in finished code, with its uses patched, and what it is for it to run as its instruction means.
-use Rattle.std.specs.Prelude.{◌≡◌, ℕ, ◌+◌, ◌-◌, ◌*◌, ◌%◌, ◌^◌, ◌<◌, ◌≤◌, List, [], ◌∷◌, length, drop, None, Some, pos, ◌-ℤ◌, slice_get, slice_index}
+-- A block in finished code, with its uses patched, and what it is for it to run as its instruction means: links of the
+-- proof.
+use Rattle.std.specs.Prelude.{◌≡◌, ℕ, ◌+◌, ◌-◌, ◌%◌, ◌^◌, ◌<◌, ◌≤◌, List, [], ◌∷◌, length, drop, None, Some, pos, ◌-ℤ◌, slice_get, slice_index}
 use Rattle.rv_base.specs.declared.flags.IsaFlags.{IsaFlags}
 use Rattle.rv_base.specs.LabelUse.{SameOutside}
 use Rattle.rv_machine.specs.declared.decode.Decoded.{Decoded}
@@ -7,18 +8,18 @@ use Rattle.rv_machine.specs.Decode.{decode}
 use Rattle.rv_machine.specs.State.{State, IsState, Values, AreValues, Memory, byte, wrap}
 use Rattle.rv_inst.specs.declared.inst.Inst.{Inst}
 use Rattle.rv_inst.specs.declared.label_use.LabelUse.{LabelUse}
+use Rattle.rv_inst.specs.Islands.{word_in}
 use Rattle.rv_inst.specs.LabelUse.{Aims, marks_of}
 use Rattle.rv_inst.specs.Meaning.{Break, inst_effect}
 use Rattle.mach_buffer.specs.declared.uses.Use.{Use}
 use Rattle.mach_buffer.specs.Buffer.{bytes_of}
 use Rattle.mach_buffer.specs.Windows.{window, IsApart}
 use Rattle.rv_emit.specs.Rows.{ebreak_row}
-use Rattle.rv_emit.specs.Runs.{Same, Ends, used_exit, exit_address, standing}
-use Rattle.rv_emit.specs.Emitted.{Buffer, island_space, uses_in}
-
--- the word that stands in bytes at an offset, the least byte first
-abbrev pub word_in : List ℕ → ℕ → ℕ
-word_in bytes at = slice_index bytes at + slice_index bytes (at + 1) * 2 ^ 8 + slice_index bytes (at + 2) * 2 ^ 16 + slice_index bytes (at + 3) * 2 ^ 24
+use Rattle.rv_inst.specs.Same.{Same}
+use Rattle.rv_emit.specs.Runs.{Ends, used_exit, least_steps, exit_address, standing}
+use Rattle.rv_emit.specs.Emitted.{Buffer}
+use Rattle.rv_inst.specs.Sizes.{island_space}
+use Rattle.rv_inst.specs.Uses.{uses_in}
 
 -- words that decode to these rows stand in bytes from an offset on
 abbrev pub StandRows : IsaFlags → List ℕ → ℕ → List Decoded → Type 0
@@ -47,9 +48,9 @@ pub record BytesStand (base : ℕ) (bytes : List ℕ) (mem : Memory) : Type 0 wh
 pub record BlockRuns (flags : IsaFlags) (inst : Inst) (start : ℕ) (block : List ℕ) : Type 0 where
   pub run : (targets : ℕ → ℕ) (bytes : List ℕ) → IsPatchedTo targets start block (uses_in start inst) bytes →
       (base : ℕ) (s : State) (v : Values) → BytesStand base bytes s.values.mem → s.pc ≡ wrap (base + start) → IsState s → AreValues v → Same v s.values →
-      Ends flags (exit_address targets base start (start + length block) (used_exit inst v)) (inst_effect (standing base start (start + length block)) inst v) s
+      Ends flags (least_steps (used_exit inst v)) (exit_address targets base start (start + length block) (used_exit inst v)) (inst_effect (standing base start (start + length block)) inst v) s
   pub halt : (targets : ℕ → ℕ) (bytes : List ℕ) (v : Values) → IsPatchedTo targets start block (uses_in start inst) bytes → used_exit inst v ≡ Break → StandRows flags bytes start (ebreak_row ∷ [])
 
 -- the block that was put runs as its instruction means, with its uses taken as reaching where they aim
 abbrev pub PutRuns : Inst → Buffer → Buffer → Type 0
-PutRuns inst old new = island_space inst ≡ None → length (bytes_of old) % 4 ≡ 0 → (flags : IsaFlags) → BlockRuns flags inst (length (bytes_of old)) (drop (length (bytes_of old)) (bytes_of new))
+PutRuns inst old new = island_space inst ≡ None → length (bytes_of old) % 2 ≡ 0 → (flags : IsaFlags) → BlockRuns flags inst (length (bytes_of old)) (drop (length (bytes_of old)) (bytes_of new))

@@ -1,4 +1,4 @@
--- What an instruction puts into a buffer.
+-- What an instruction puts into a buffer: links of the proof.
 use Rattle.std.specs.Prelude.{◌≡◌, ℕ, ◌+◌, ◌*◌, ◌%◌, ◌^◌, ◌<◌, ◌≤◌, ◌⊎◌, ◌≢◌, Bool, true, false, List, [], ◌∷◌, ◌++◌, length, take, Option, Some, None}
 use Rattle.rv_base.specs.declared.flags.IsaFlags.{IsaFlags}
 use Rattle.rv_base.specs.declared.label.MachLabel.{MachLabel}
@@ -7,16 +7,14 @@ use Rattle.rv_machine.specs.declared.decode.Decoded.{Decoded}
 use Rattle.rv_machine.specs.Decode.{decode}
 use Rattle.rv_machine.specs.Layout.{fields_of}
 use Rattle.rv_inst.specs.declared.inst.Inst.{Inst}
-use Rattle.rv_inst.specs.declared.inst.Inst.TheVariants.{EmitIsland, Jal, CondBr}
-use Rattle.rv_inst.specs.declared.inst.CondBrTarget.{CondBrTarget}
-use Rattle.rv_inst.specs.declared.inst.CondBrTarget.TheVariants.{Label, Fallthrough}
 use Rattle.rv_inst.specs.declared.label_use.LabelUse.{LabelUse}
 use Rattle.rv_inst.specs.declared.label_use.LabelUse.TheVariants.{Jal20, PCRel32, B12, PCRelHi20, PCRelLo12I}
-use Rattle.rv_inst.specs.Families.{family_of, by_family}
-use Rattle.rv_inst.specs.LabelUse.{label_kinds, marks_of}
+use Rattle.rv_inst.specs.LabelUse.{marks_of, forward_of, backward_of, has_veneer_of, veneer_of}
 use Rattle.rv_inst.specs.LabelUseWords.{word_bytes}
 use Rattle.rv_inst.specs.Fields.{inst_labels}
 use Rattle.rv_inst.specs.Rules.{inst_rule}
+use Rattle.rv_inst.specs.Sizes.{island_space, inst_sum}
+use Rattle.rv_inst.specs.Uses.{use_at, uses_in}
 use Rattle.mach_buffer.specs.declared.buffer.MachBuffer.{MachBuffer}
 use Rattle.mach_buffer.specs.declared.uses.Use.{Use}
 use Rattle.mach_buffer.specs.Reach.{is_needed}
@@ -39,25 +37,6 @@ HasWindows b = AreWindows label_kinds (bytes_of b) (uses_of b) (veneers_of b)
 -- the deadlines of the pending uses
 abbrev pub pending : Buffer → List ℕ
 pending b = pending_of label_kinds b
-
--- ---- uses
-
-abbrev pub use_at : ℕ → MachLabel → LabelUse → Use LabelUse
-use_at offset label kind = record { offset = offset; label = label; kind = kind; veneer = None }
-
-abbrev pub branch_uses : ℕ → CondBrTarget → CondBrTarget → List (Use LabelUse)
-branch_uses start Fallthrough not_taken = []
-branch_uses start (Label t) Fallthrough = use_at start t B12 ∷ []
-branch_uses start (Label t) (Label f) = use_at start t B12 ∷ use_at (start + 4) f Jal20 ∷ []
-
-abbrev pub control_uses : ℕ → Inst → List (Use LabelUse)
-control_uses start (Jal label) = use_at start label Jal20 ∷ []
-control_uses start (CondBr taken not_taken kind) = branch_uses start taken not_taken
-control_uses start _ = []
-
--- the uses of an instruction that starts at an offset, in the order in which it names their labels
-abbrev pub uses_in : ℕ → Inst → List (Use LabelUse)
-uses_in start inst = by_family [] [] (control_uses start inst) (family_of inst)
 
 -- ---- a block
 
@@ -134,16 +113,6 @@ pub record MakesRoom (distance : ℕ) (old new : Buffer) (made : Bool) : Type 0 
   pub put : ((made ≡ false) × (new ≡ old)) ⊎ ((made ≡ true) × PutsIsland old new)
 
 -- ---- an instruction
-
--- how many bytes an instruction asks for an island before, where it does
-abbrev pub island_space : Inst → Option ℕ
-island_space (EmitIsland space) = Some space
-island_space _ = None
-
--- how much an instruction adds to the size of a listing
-abbrev pub inst_sum : Inst → ℕ
-inst_sum (EmitIsland space) = 128 + space
-inst_sum _ = 128
 
 -- what an instruction asks of the buffer
 pub record CanEmit (inst : Inst) (b : Buffer) : Type 0 where

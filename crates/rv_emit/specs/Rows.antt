@@ -1,12 +1,11 @@
--- Which rows of the machine an instruction becomes, by the distances of its uses of labels, and how many bytes they have.
+-- Which rows of the machine an instruction becomes, by the distances of its uses of labels: a link of the proof.
 use Rattle.std.specs.Prelude.{ℕ, zero, suc, ◌+◌, ◌*◌, nat_eq, if◌then◌else◌, List, [], ◌∷◌, ℤ, pos, ◌-ℤ◌}
 use Rattle.rv_base.specs.Regs.{number_of}
 use Rattle.rv_ops.specs.declared.compare.IntegerCompare.{IntegerCompare}
 use Rattle.rv_inst.specs.declared.inst.Inst.{Inst}
-use Rattle.rv_inst.specs.declared.inst.Inst.TheVariants.{Nop4, EBreak, Lui, Auipc, AluRRR, AluRRImm12, Mov, MovFromPReg, Ret, Jal, CondBr, Jalr}
+use Rattle.rv_inst.specs.declared.inst.Inst.TheVariants.{Nop0, Nop4, EBreak, SequencePoint, Args, Rets, DummyUse, EmitIsland, Lui, Auipc, AluRRR, AluRRImm12, Mov, MovFromPReg, Ret, Jal, CondBr, Jalr}
 use Rattle.rv_inst.specs.declared.inst.CondBrTarget.{CondBrTarget}
 use Rattle.rv_inst.specs.declared.inst.CondBrTarget.TheVariants.{Label, Fallthrough}
-use Rattle.rv_inst.specs.Families.{family_of, by_family}
 use Rattle.rv_machine.specs.declared.decode.Decoded.{Decoded}
 use Rattle.rv_machine.specs.declared.ops.MOp.TheVariants.{Base}
 use Rattle.rv_machine.specs.declared.ops.BaseOp.TheVariants as base
@@ -49,60 +48,29 @@ jump_row d = row (Base base.Jal) 0 0 0 d
 abbrev pub move_rows : ℕ → ℕ → List Decoded
 move_rows rd rs = if nat_eq rd rs then [] else addi_row rd rs (pos 0) ∷ []
 
-abbrev pub marks_rows : Inst → List Decoded
-marks_rows Nop4 = addi_row 0 0 (pos 0) ∷ []
-marks_rows EBreak = ebreak_row ∷ []
-marks_rows _ = []
-
-abbrev pub plain_rows : Inst → List Decoded
-plain_rows (Lui rd imm) = row (Base base.Lui) (number_of rd.reg) 0 0 imm.value ∷ []
-plain_rows (Auipc rd imm) = row (Base base.Auipc) (number_of rd.reg) 0 0 imm.value ∷ []
-plain_rows (AluRRR op rd rs1 rs2) = alu_rrr_row op (number_of rd.reg) (number_of rs1) (number_of rs2) ∷ []
-plain_rows (AluRRImm12 op rd rs imm) = alu_rri_row op (number_of rd.reg) (number_of rs) imm.value ∷ []
-plain_rows (Mov rd rm type) = move_rows (number_of rd.reg) (number_of rm)
-plain_rows (MovFromPReg rd rm) = move_rows (number_of rd.reg) rm.number
-plain_rows _ = []
-
 -- a branch, by the distances of its uses
 abbrev pub branch_rows : (ℕ → ℤ) → IntegerCompare → CondBrTarget → CondBrTarget → List Decoded
 branch_rows distance kind Fallthrough not_taken = []
 branch_rows distance kind (Label t) Fallthrough = compare_row kind (distance 0) ∷ []
 branch_rows distance kind (Label t) (Label f) = compare_row kind (distance 0) ∷ jump_row (distance 1) ∷ []
 
-abbrev pub control_rows : (ℕ → ℤ) → Inst → List Decoded
-control_rows distance Ret = jalr_row 0 1 (pos 0) ∷ []
-control_rows distance (Jal label) = jump_row (distance 0) ∷ []
-control_rows distance (CondBr taken not_taken kind) = branch_rows distance kind taken not_taken
-control_rows distance (Jalr rd base offset) = jalr_row (number_of rd.reg) (number_of base) offset.value ∷ []
-control_rows distance _ = []
-
 -- the rows of an instruction; those that put an island where one is needed have none of their own
 abbrev pub rows_of : (ℕ → ℤ) → Inst → List Decoded
-rows_of distance inst = by_family (marks_rows inst) (plain_rows inst) (control_rows distance inst) (family_of inst)
-
--- ---- sizes in bytes, whatever the distances are
-
-abbrev pub marks_size : Inst → ℕ
-marks_size Nop4 = 4
-marks_size EBreak = 4
-marks_size _ = 0
-
-abbrev pub move_size : ℕ → ℕ → ℕ
-move_size rd rs = if nat_eq rd rs then 0 else 4
-
-abbrev pub plain_size : Inst → ℕ
-plain_size (Mov rd rm type) = move_size (number_of rd.reg) (number_of rm)
-plain_size (MovFromPReg rd rm) = move_size (number_of rd.reg) rm.number
-plain_size _ = 4
-
-abbrev pub branch_size : CondBrTarget → CondBrTarget → ℕ
-branch_size Fallthrough not_taken = 0
-branch_size (Label t) Fallthrough = 4
-branch_size (Label t) (Label f) = 8
-
-abbrev pub control_size : Inst → ℕ
-control_size (CondBr taken not_taken kind) = branch_size taken not_taken
-control_size _ = 4
-
-abbrev pub inst_size : Inst → ℕ
-inst_size inst = by_family (marks_size inst) (plain_size inst) (control_size inst) (family_of inst)
+rows_of distance Nop0 = []
+rows_of distance Nop4 = addi_row 0 0 (pos 0) ∷ []
+rows_of distance EBreak = ebreak_row ∷ []
+rows_of distance SequencePoint = []
+rows_of distance (Args args) = []
+rows_of distance (Rets rets) = []
+rows_of distance (DummyUse reg) = []
+rows_of distance (EmitIsland needed_space) = []
+rows_of distance (Lui rd imm) = row (Base base.Lui) (number_of rd.reg) 0 0 imm.value ∷ []
+rows_of distance (Auipc rd imm) = row (Base base.Auipc) (number_of rd.reg) 0 0 imm.value ∷ []
+rows_of distance (AluRRR op rd rs1 rs2) = alu_rrr_row op (number_of rd.reg) (number_of rs1) (number_of rs2) ∷ []
+rows_of distance (AluRRImm12 op rd rs imm) = alu_rri_row op (number_of rd.reg) (number_of rs) imm.value ∷ []
+rows_of distance (Mov rd rm type) = move_rows (number_of rd.reg) (number_of rm)
+rows_of distance (MovFromPReg rd rm) = move_rows (number_of rd.reg) rm.number
+rows_of distance Ret = jalr_row 0 1 (pos 0) ∷ []
+rows_of distance (Jal label) = jump_row (distance 0) ∷ []
+rows_of distance (CondBr taken not_taken kind) = branch_rows distance kind taken not_taken
+rows_of distance (Jalr rd base offset) = jalr_row (number_of rd.reg) (number_of base) offset.value ∷ []

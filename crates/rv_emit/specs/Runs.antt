@@ -1,4 +1,4 @@
--- What it is for the rows of an instruction to run as the instruction means.
+-- What it is for the rows of an instruction to run as the instruction means: links of the proof.
 use Rattle.std.specs.Prelude.{◌≡◌, ℕ, ◌+◌, ◌*◌, ◌%◌, ◌^◌, ◌<◌, ◌≤◌, if◌then◌else◌, List, [], ◌∷◌, length, Some}
 use Rattle.rv_base.specs.declared.flags.IsaFlags.{IsaFlags}
 use Rattle.rv_base.specs.declared.regs.Reg.{Reg}
@@ -9,18 +9,13 @@ use Rattle.rv_inst.specs.declared.inst.Inst.{Inst}
 use Rattle.rv_inst.specs.declared.inst.Inst.TheVariants.{Jal, CondBr}
 use Rattle.rv_inst.specs.declared.inst.CondBrTarget.{CondBrTarget}
 use Rattle.rv_inst.specs.declared.inst.CondBrTarget.TheVariants.{Label, Fallthrough}
-use Rattle.rv_inst.specs.Families.{family_of, by_family}
-use Rattle.rv_inst.specs.Meaning.{Standing, Exit, Next, To, Leave, Break, marks_exit, control_exit, inst_effect}
+use Rattle.rv_inst.specs.Meaning.{Standing, Exit, Next, To, Leave, Break, inst_exit, inst_effect}
+use Rattle.rv_inst.specs.Same.{Same}
 use Rattle.rv_machine.specs.declared.decode.Decoded.{Decoded}
 use Rattle.rv_machine.specs.Decode.{decode}
-use Rattle.rv_machine.specs.State.{State, IsState, Values, AreValues, Memory, byte, reg, wrap}
+use Rattle.rv_machine.specs.State.{State, IsState, Values, AreValues, Memory, reg, wrap}
 use Rattle.rv_machine.specs.Steps.{fetch, iter}
 use Rattle.rv_emit.specs.Rows.{distances, rows_of}
-
--- x1 to x29 and the memories are equal; x30 and x31 may hold anything
-pub record Same (v w : Values) : Type 0 where
-  pub regs : (n : ℕ) → n < 30 → reg v n ≡ reg w n
-  pub mem : (a : ℕ) → byte v.mem a ≡ byte w.mem a
 
 -- words that decode to these rows stand in the memory from an address on
 abbrev pub HasRows : IsaFlags → Memory → ℕ → List Decoded → Type 0
@@ -30,7 +25,7 @@ HasRows flags mem a (d ∷ rows) = (decode flags (fetch mem a) ≡ Some d) × Ha
 -- a machine before the rows of a line, beside the listing's values
 pub record Begins (flags : IsaFlags) (base start after : ℕ) (rows : List Decoded) (s : State) (v : Values) : Type 0 where
   pub base_aligned : base % 4 ≡ 0
-  pub start_aligned : start % 4 ≡ 0
+  pub start_even : start % 2 ≡ 0
   pub long : after ≡ start + 4 * length rows
   pub room : base + after ≤ 2 ^ 64
   pub has : HasRows flags s.values.mem (base + start) rows
@@ -43,10 +38,11 @@ pub record Begins (flags : IsaFlags) (base start after : ℕ) (rows : List Decod
 abbrev pub IsUsable : Reg → Type 0
 IsUsable r = IsIntRegister r × (number_of r < 30)
 
--- in some steps the machine comes to an address with values that are the same as these
-pub record Ends (flags : IsaFlags) (address : ℕ) (v : Values) (s : State) : Type 0 where
+-- in some steps, at least so many, the machine comes to an address with values that are the same as these
+pub record Ends (flags : IsaFlags) (least address : ℕ) (v : Values) (s : State) : Type 0 where
   pub steps : ℕ
   pub state : State
+  pub moved : least ≤ steps
   pub ran : iter flags steps s ≡ Some state
   pub pc : state.pc ≡ address
   pub same : Same v state.values
@@ -59,13 +55,17 @@ abbrev pub used_target : ℕ → CondBrTarget → Exit
 used_target k (Label label) = To k
 used_target k Fallthrough = Next
 
-abbrev pub control_used_exit : Inst → Values → Exit
-control_used_exit (Jal label) v = To 0
-control_used_exit (CondBr taken not_taken kind) v = if holds kind.kind (reg v (number_of kind.rs1)) (reg v (number_of kind.rs2)) then used_target 0 taken else used_target 1 not_taken
-control_used_exit inst v = control_exit inst v
-
 abbrev pub used_exit : Inst → Values → Exit
-used_exit inst v = by_family (marks_exit inst) Next (control_used_exit inst v) (family_of inst)
+used_exit (Jal label) v = To 0
+used_exit (CondBr taken not_taken kind) v = if holds kind.kind (reg v (number_of kind.rs1)) (reg v (number_of kind.rs2)) then used_target 0 taken else used_target 1 not_taken
+used_exit inst v = inst_exit inst v
+
+-- a jump takes a step; the next line may be reached in none, and a break has none
+abbrev pub least_steps : Exit → ℕ
+least_steps Next = 0
+least_steps (To label) = 1
+least_steps (Leave a) = 1
+least_steps Break = 0
 
 -- where an exit leads, from a line that stands between two offsets
 abbrev pub exit_address : (ℕ → ℕ) → ℕ → ℕ → ℕ → Exit → ℕ
@@ -79,4 +79,4 @@ standing base start after = record { start = wrap (base + start); after = wrap (
 
 -- the rows of an instruction run as it means, wherever they stand, with each use taken as reaching its target
 pub record Runs (flags : IsaFlags) (targets : ℕ → ℕ) (start : ℕ) (inst : Inst) : Type 0 where
-  pub run : (base after : ℕ) (s : State) (v : Values) → Begins flags base start after (rows_of (distances targets start) inst) s v → Ends flags (exit_address targets base start after (used_exit inst v)) (inst_effect (standing base start after) inst v) s
+  pub run : (base after : ℕ) (s : State) (v : Values) → Begins flags base start after (rows_of (distances targets start) inst) s v → Ends flags (least_steps (used_exit inst v)) (exit_address targets base start after (used_exit inst v)) (inst_effect (standing base start after) inst v) s

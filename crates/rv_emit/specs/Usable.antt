@@ -5,18 +5,9 @@ use Rattle.rv_base.specs.declared.label.MachLabel.{MachLabel}
 use Rattle.rv_ops.specs.declared.compare.IntegerCompare.{IntegerCompare}
 use Rattle.rv_encode.specs.Registers.{IsIntRegister}
 use Rattle.rv_inst.specs.declared.inst.Inst.{Inst}
-use Rattle.rv_inst.specs.declared.inst.Inst.TheVariants.{Lui, Auipc, AluRRR, AluRRImm12, Mov, MovFromPReg, Jal, CondBr, Jalr}
+use Rattle.rv_inst.specs.declared.inst.Inst.TheVariants.{Nop0, Nop4, EBreak, SequencePoint, Args, Rets, DummyUse, EmitIsland, Lui, Auipc, AluRRR, AluRRImm12, Mov, MovFromPReg, Ret, Jal, CondBr, Jalr}
 use Rattle.rv_inst.specs.declared.inst.CondBrTarget.{CondBrTarget}
 use Rattle.rv_inst.specs.declared.inst.CondBrTarget.TheVariants.{Label, Fallthrough}
-
-abbrev pub IsFinePlain : Inst → Type 0
-IsFinePlain (Lui rd imm) = IsIntRegister rd.reg
-IsFinePlain (Auipc rd imm) = IsIntRegister rd.reg
-IsFinePlain (AluRRR op rd rs1 rs2) = IsIntRegister rd.reg × IsIntRegister rs1 × IsIntRegister rs2
-IsFinePlain (AluRRImm12 op rd rs imm) = IsIntRegister rd.reg × IsIntRegister rs
-IsFinePlain (Mov rd rm type) = IsIntRegister rd.reg × IsIntRegister rm
-IsFinePlain (MovFromPReg rd rm) = IsIntRegister rd.reg × IsIntRegister (Real rm)
-IsFinePlain _ = Unit {0}
 
 -- a label of a listing
 abbrev pub IsListed : MachLabel → Type 0
@@ -29,8 +20,22 @@ IsFineTarget Fallthrough = Unit {0}
 abbrev pub IsFineBranch : IntegerCompare → CondBrTarget → CondBrTarget → Type 0
 IsFineBranch kind taken not_taken = IsIntRegister kind.rs1 × IsIntRegister kind.rs2 × IsFineTarget taken × IsFineTarget not_taken
 
-abbrev pub IsFineControl : Inst → Type 0
-IsFineControl (Jal label) = IsListed label
-IsFineControl (CondBr taken not_taken kind) = IsFineBranch kind taken not_taken
-IsFineControl (Jalr rd base offset) = IsIntRegister rd.reg × IsIntRegister base
-IsFineControl _ = Unit {0}
+abbrev pub IsFine : Inst → Type 0
+IsFine Nop0 = Unit {0}
+IsFine Nop4 = Unit {0}
+IsFine EBreak = Unit {0}
+IsFine SequencePoint = Unit {0}
+IsFine (Args args) = Unit {0}
+IsFine (Rets rets) = Unit {0}
+IsFine (DummyUse reg) = Unit {0}
+IsFine (EmitIsland needed_space) = Unit {0}
+IsFine (Lui rd imm) = IsIntRegister rd.reg
+IsFine (Auipc rd imm) = IsIntRegister rd.reg
+IsFine (AluRRR op rd rs1 rs2) = IsIntRegister rd.reg × IsIntRegister rs1 × IsIntRegister rs2
+IsFine (AluRRImm12 op rd rs imm) = IsIntRegister rd.reg × IsIntRegister rs
+IsFine (Mov rd rm type) = IsIntRegister rd.reg × IsIntRegister rm
+IsFine (MovFromPReg rd rm) = IsIntRegister rd.reg × IsIntRegister (Real rm)
+IsFine Ret = Unit {0}
+IsFine (Jal label) = IsListed label
+IsFine (CondBr taken not_taken kind) = IsFineBranch kind taken not_taken
+IsFine (Jalr rd base offset) = IsIntRegister rd.reg × IsIntRegister base

@@ -12,9 +12,12 @@ ghost use Rattle.rv_inst.specs.declared.label_use.LabelUse.TheVariants.{Jal20, B
 ghost use Rattle.rv_inst.specs.LabelUseWords.{word_bytes};
 ghost use Rattle.rv_inst.specs.Rules.{inst_rule};
 ghost use Rattle.mach_buffer.specs.Buffer.{bytes_of, drawn_of, spoiled_of, IsKnown};
-ghost use Rattle.rv_emit.specs.Usable.{IsFinePlain, IsFineBranch, IsFineControl};
-ghost use Rattle.rv_emit.specs.Emitted.{IsSoundBuffer, Adds, PutsWords, PutsBlock, use_at, branch_uses, control_uses};
-ghost use Rattle.rv_emit.specs.Rows.{marks_rows, plain_rows, move_rows, control_rows, branch_rows, jump_row, blank};
+ghost use Rattle.rv_emit.specs.Usable.{IsFine, IsFineBranch};
+ghost use Rattle.rv_emit.specs.Emitted.{IsSoundBuffer, Adds, PutsWords, PutsBlock};
+ghost use Rattle.rv_inst.specs.Uses.{use_at, branch_uses};
+ghost use Rattle.rv_inst.specs.Families.{family_of};
+ghost use Rattle.rv_inst.specs.declared.inst.Family.TheVariants.{Marks, Plain, Control};
+ghost use Rattle.rv_emit.specs.Rows.{move_rows, branch_rows, jump_row, blank};
 
 use mach_buffer::buffer::MachBuffer;
 use rv_base::label::MachLabel;
@@ -47,7 +50,7 @@ pub(crate) fn put_block(sink: &mut MachBuffer<LabelUse>, inst: &Inst) -> Result<
 fn put_mark(sink: &mut MachBuffer<LabelUse>, inst: &Inst) -> Result<(), OutOfMemory>
     requires room { length (bytes_of sink.old) + 8 < 2147479552 }
     requires sound { IsSoundBuffer sink.old }
-    ensures block { OnOk result (PutsWords (marks_rows inst.now) [] sink.old sink.new) }
+    ensures block { family_of inst.now ≡ Marks → OnOk result (PutsBlock inst.now sink.old sink.new) }
     ensures refused { OnErr result (spoiled_of sink.new ≡ true) }
 {
     match inst {
@@ -61,10 +64,10 @@ fn put_mark(sink: &mut MachBuffer<LabelUse>, inst: &Inst) -> Result<(), OutOfMem
 }
 
 fn put_plain(sink: &mut MachBuffer<LabelUse>, inst: &Inst) -> Result<(), OutOfMemory>
-    requires fine { IsFinePlain inst.now }
+    requires fine { IsFine inst.now }
     requires room { length (bytes_of sink.old) + 8 < 2147479552 }
     requires sound { IsSoundBuffer sink.old }
-    ensures block { OnOk result (PutsWords (plain_rows inst.now) [] sink.old sink.new) }
+    ensures block { family_of inst.now ≡ Plain → OnOk result (PutsBlock inst.now sink.old sink.new) }
     ensures refused { OnErr result (spoiled_of sink.new ≡ true) }
 {
     match inst {
@@ -117,10 +120,10 @@ fn number(reg: Reg) -> u8
 }
 
 fn put_control(sink: &mut MachBuffer<LabelUse>, inst: &Inst) -> Result<(), OutOfMemory>
-    requires fine { IsFineControl inst.now }
+    requires fine { IsFine inst.now }
     requires room { length (bytes_of sink.old) + 8 < 2147479552 }
     requires sound { IsSoundBuffer sink.old }
-    ensures block { OnOk result (PutsWords (control_rows blank inst.now) (control_uses (length (bytes_of sink.old)) inst.now) sink.old sink.new) }
+    ensures block { family_of inst.now ≡ Control → OnOk result (PutsBlock inst.now sink.old sink.new) }
     ensures refused { OnErr result (spoiled_of sink.new ≡ true) }
 {
     match inst {

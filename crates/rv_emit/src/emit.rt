@@ -3,7 +3,8 @@
 ghost use Rattle.std.specs.Prelude.{◌≡◌, length, OnOk, OnErr, true};
 ghost use Rattle.mach_buffer.specs.Reach.{CanReach};
 ghost use Rattle.mach_buffer.specs.Buffer.{bytes_of, spoiled_of};
-ghost use Rattle.rv_emit.specs.Emitted.{pending, CanEmit, Emitted, IsBounded, island_space as space_of};
+ghost use Rattle.rv_emit.specs.Emitted.{pending, CanEmit, Emitted, IsBounded};
+ghost use Rattle.rv_inst.specs.Sizes.{island_space as space_of};
 ghost use Rattle.rv_emit.specs.Blocks.{PutRuns};
 
 use crate::block::put_block;
@@ -23,6 +24,7 @@ pub trait MachInstEmit {
     ghost use Rattle.mach_buffer.specs.Reach.{CanReach};
     ghost use Rattle.mach_buffer.specs.Buffer.{bytes_of, spoiled_of};
     ghost use Rattle.rv_emit.specs.Emitted.{Buffer, pending};
+    ghost use Rattle.rv_emit.specs.declared.state.EmitVState.{EmitVState as Setting};
 
     /// What emission asks of the buffer.
     ghost asks: { Self → Buffer → Type 0 };
@@ -35,6 +37,9 @@ pub trait MachInstEmit {
 
     /// How much it puts there at most.
     ghost bounds: { Self → Buffer → Buffer → Type 0 };
+
+    /// By the vector unit's setting known before it, that known after it.
+    ghost setting_after: { Self → Setting → Setting };
 
     /// Puts the block. Its only refusal is for want of memory; the buffer is then spoiled.
     fn emit(
@@ -49,6 +54,8 @@ pub trait MachInstEmit {
         ensures runs { OnOk result (runs self.now sink.old sink.new) }
         ensures bounds { OnOk result (bounds self.now sink.old sink.new) }
         ensures reach { OnOk result (CanReach (length (bytes_of sink.new)) (pending sink.new)) }
+        ensures frame { state.new.frame ≡ state.old.frame }
+        ensures setting { OnOk result (state.new.vstate ≡ setting_after self.now state.old.vstate) }
         ensures wanting { IfErr result (λ e. e ≡ error.OutOfMemory) }
         ensures spoiled { OnErr result (spoiled_of sink.new ≡ true) };
 }
@@ -56,6 +63,7 @@ pub trait MachInstEmit {
 impl MachInstEmit for Inst {
     ghost use Rattle.rv_emit.specs.Emitted.{CanEmit, Emitted, IsBounded};
     ghost use Rattle.rv_emit.specs.Blocks.{PutRuns};
+    ghost use Rattle.rv_emit.specs.State.{setting_after as after};
 
     ghost asks = { CanEmit };
 
@@ -64,6 +72,8 @@ impl MachInstEmit for Inst {
     ghost runs = { PutRuns };
 
     ghost bounds = { IsBounded };
+
+    ghost setting_after = { after };
 
     fn emit(
         &self,

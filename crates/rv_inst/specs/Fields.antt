@@ -8,10 +8,9 @@ use Rattle.rv_base.specs.declared.regs.Reg.TheVariants.{Real}
 use Rattle.rv_inst.specs.declared.inst.Line.{Line}
 use Rattle.rv_inst.specs.declared.inst.Line.TheVariants.{Inst as Put, Bind}
 use Rattle.rv_inst.specs.declared.inst.Inst.{Inst}
-use Rattle.rv_inst.specs.declared.inst.Inst.TheVariants.{Args, Rets, DummyUse, Lui, Auipc, AluRRR, AluRRImm12, Mov, MovFromPReg, Jal, CondBr, Jalr}
+use Rattle.rv_inst.specs.declared.inst.Inst.TheVariants.{Nop0, Nop4, EBreak, SequencePoint, Args, Rets, DummyUse, EmitIsland, Lui, Auipc, AluRRR, AluRRImm12, Mov, MovFromPReg, Ret, Jal, CondBr, Jalr}
 use Rattle.rv_inst.specs.declared.inst.CondBrTarget.{CondBrTarget}
 use Rattle.rv_inst.specs.declared.inst.CondBrTarget.TheVariants.{Label, Fallthrough}
-use Rattle.rv_inst.specs.Families.{family_of, by_family}
 
 abbrev pub arg_registers : List ArgPair → List Reg
 arg_registers [] = []
@@ -21,42 +20,65 @@ abbrev pub ret_registers : List RetPair → List Reg
 ret_registers [] = []
 ret_registers (p ∷ pairs) = p.vreg ∷ p.preg ∷ ret_registers pairs
 
-abbrev pub marks_registers : Inst → List Reg
-marks_registers (Args args) = arg_registers args
-marks_registers (Rets rets) = ret_registers rets
-marks_registers (DummyUse reg) = reg ∷ []
-marks_registers _ = []
-
-abbrev pub plain_registers : Inst → List Reg
-plain_registers (Lui rd imm) = rd.reg ∷ []
-plain_registers (Auipc rd imm) = rd.reg ∷ []
-plain_registers (AluRRR op rd rs1 rs2) = rd.reg ∷ rs1 ∷ rs2 ∷ []
-plain_registers (AluRRImm12 op rd rs imm) = rd.reg ∷ rs ∷ []
-plain_registers (Mov rd rm type) = rd.reg ∷ rm ∷ []
-plain_registers (MovFromPReg rd rm) = rd.reg ∷ Real rm ∷ []
-plain_registers _ = []
-
-abbrev pub control_registers : Inst → List Reg
-control_registers (CondBr taken not_taken kind) = kind.rs1 ∷ kind.rs2 ∷ []
-control_registers (Jalr rd base offset) = rd.reg ∷ base ∷ []
-control_registers _ = []
-
 -- the registers of an instruction
 abbrev pub inst_registers : Inst → List Reg
-inst_registers inst = by_family (marks_registers inst) (plain_registers inst) (control_registers inst) (family_of inst)
+inst_registers Nop0 = []
+inst_registers Nop4 = []
+inst_registers EBreak = []
+inst_registers SequencePoint = []
+inst_registers (Args args) = arg_registers args
+inst_registers (Rets rets) = ret_registers rets
+inst_registers (DummyUse reg) = reg ∷ []
+inst_registers (EmitIsland needed_space) = []
+inst_registers (Lui rd imm) = rd.reg ∷ []
+inst_registers (Auipc rd imm) = rd.reg ∷ []
+inst_registers (AluRRR op rd rs1 rs2) = rd.reg ∷ rs1 ∷ rs2 ∷ []
+inst_registers (AluRRImm12 op rd rs imm) = rd.reg ∷ rs ∷ []
+inst_registers (Mov rd rm type) = rd.reg ∷ rm ∷ []
+inst_registers (MovFromPReg rd rm) = rd.reg ∷ Real rm ∷ []
+inst_registers Ret = []
+inst_registers (Jal label) = []
+inst_registers (CondBr taken not_taken kind) = kind.rs1 ∷ kind.rs2 ∷ []
+inst_registers (Jalr rd base offset) = rd.reg ∷ base ∷ []
 
 abbrev pub target_labels : CondBrTarget → List MachLabel
 target_labels (Label label) = label ∷ []
 target_labels Fallthrough = []
 
--- the labels that an instruction names
-abbrev pub control_labels : Inst → List MachLabel
-control_labels (Jal label) = label ∷ []
-control_labels (CondBr taken not_taken kind) = target_labels taken ++ target_labels not_taken
-control_labels _ = []
+-- how an instruction goes to labels: to none, to one, or to one or the other of two targets
+pub data Targets : Type 0 where
+  NoTarget : Targets
+  Jumps : MachLabel → Targets
+  Branches : CondBrTarget → CondBrTarget → Targets
 
+abbrev pub targets_of : Inst → Targets
+targets_of Nop0 = NoTarget
+targets_of Nop4 = NoTarget
+targets_of EBreak = NoTarget
+targets_of SequencePoint = NoTarget
+targets_of (Args args) = NoTarget
+targets_of (Rets rets) = NoTarget
+targets_of (DummyUse reg) = NoTarget
+targets_of (EmitIsland needed_space) = NoTarget
+targets_of (Lui rd imm) = NoTarget
+targets_of (Auipc rd imm) = NoTarget
+targets_of (AluRRR op rd rs1 rs2) = NoTarget
+targets_of (AluRRImm12 op rd rs imm) = NoTarget
+targets_of (Mov rd rm type) = NoTarget
+targets_of (MovFromPReg rd rm) = NoTarget
+targets_of Ret = NoTarget
+targets_of (Jal label) = Jumps label
+targets_of (CondBr taken not_taken kind) = Branches taken not_taken
+targets_of (Jalr rd base offset) = NoTarget
+
+abbrev pub labels_of : Targets → List MachLabel
+labels_of NoTarget = []
+labels_of (Jumps label) = label ∷ []
+labels_of (Branches taken not_taken) = target_labels taken ++ target_labels not_taken
+
+-- the labels that an instruction names
 abbrev pub inst_labels : Inst → List MachLabel
-inst_labels inst = by_family [] [] (control_labels inst) (family_of inst)
+inst_labels inst = labels_of (targets_of inst)
 
 -- the labels that a line names; a bind names none
 abbrev pub named_labels : Line → List MachLabel

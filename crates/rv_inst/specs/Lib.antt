@@ -1,9 +1,13 @@
 pub mod Families
 pub mod Fields
+pub mod Islands
 pub mod LabelUse
 pub mod LabelUseBridges
 pub mod LabelUseWords
 pub mod Meaning
 pub mod Rules
+pub mod Same
+pub mod Sizes
 pub mod Targets
 pub mod Tests
+pub mod Uses

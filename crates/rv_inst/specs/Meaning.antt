@@ -9,10 +9,9 @@ use Rattle.rv_encode.specs.Rows.{rrr_op, rri_op}
 use Rattle.rv_inst.specs.declared.inst.Line.{Line}
 use Rattle.rv_inst.specs.declared.inst.Line.TheVariants.{Inst as Put, Bind}
 use Rattle.rv_inst.specs.declared.inst.Inst.{Inst}
-use Rattle.rv_inst.specs.declared.inst.Inst.TheVariants.{EBreak, Lui, Auipc, AluRRR, AluRRImm12, Mov, MovFromPReg, Ret, Jal, CondBr, Jalr}
+use Rattle.rv_inst.specs.declared.inst.Inst.TheVariants.{Nop0, Nop4, EBreak, SequencePoint, Args, Rets, DummyUse, EmitIsland, Lui, Auipc, AluRRR, AluRRImm12, Mov, MovFromPReg, Ret, Jal, CondBr, Jalr}
 use Rattle.rv_inst.specs.declared.inst.CondBrTarget.{CondBrTarget}
 use Rattle.rv_inst.specs.declared.inst.CondBrTarget.TheVariants.{Label, Fallthrough}
-use Rattle.rv_inst.specs.Families.{family_of, by_family}
 use Rattle.rv_machine.specs.State.{Values, reg, set_reg, wrap, low64}
 use Rattle.rv_machine.specs.Effects.{row_result}
 
@@ -31,24 +30,28 @@ pub record Standing : Type 0 where
   pub start : ℕ
   pub after : ℕ
 
-abbrev pub plain_effect : Standing → Inst → Values → Values
-plain_effect at (Lui rd imm) v = set_reg v (number_of rd.reg) (wrap (low64 imm.value * 2 ^ 12))
-plain_effect at (Auipc rd imm) v = set_reg v (number_of rd.reg) (wrap (at.start + low64 imm.value * 2 ^ 12))
-plain_effect at (AluRRR op rd rs1 rs2) v = set_reg v (number_of rd.reg) (alu_rrr op (reg v (number_of rs1)) (reg v (number_of rs2)))
-plain_effect at (AluRRImm12 op rd rs imm) v = set_reg v (number_of rd.reg) (alu_rri op (reg v (number_of rs)) imm.value)
-plain_effect at (Mov rd rm type) v = set_reg v (number_of rd.reg) (reg v (number_of rm))
-plain_effect at (MovFromPReg rd rm) v = set_reg v (number_of rd.reg) (reg v rm.number)
-plain_effect at _ v = v
-
--- a jump to a register links
-abbrev pub control_effect : Standing → Inst → Values → Values
-control_effect at (Jalr rd base offset) v = set_reg v (number_of rd.reg) at.after
-control_effect at _ v = v
+-- what an instruction makes of the values; a jump to a register links
+abbrev pub inst_effect : Standing → Inst → Values → Values
+inst_effect at Nop0 v = v
+inst_effect at Nop4 v = v
+inst_effect at EBreak v = v
+inst_effect at SequencePoint v = v
+inst_effect at (Args args) v = v
+inst_effect at (Rets rets) v = v
+inst_effect at (DummyUse reg) v = v
+inst_effect at (EmitIsland needed_space) v = v
+inst_effect at (Lui rd imm) v = set_reg v (number_of rd.reg) (wrap (low64 imm.value * 2 ^ 12))
+inst_effect at (Auipc rd imm) v = set_reg v (number_of rd.reg) (wrap (at.start + low64 imm.value * 2 ^ 12))
+inst_effect at (AluRRR op rd rs1 rs2) v = set_reg v (number_of rd.reg) (alu_rrr op (reg v (number_of rs1)) (reg v (number_of rs2)))
+inst_effect at (AluRRImm12 op rd rs imm) v = set_reg v (number_of rd.reg) (alu_rri op (reg v (number_of rs)) imm.value)
+inst_effect at (Mov rd rm type) v = set_reg v (number_of rd.reg) (reg v (number_of rm))
+inst_effect at (MovFromPReg rd rm) v = set_reg v (number_of rd.reg) (reg v rm.number)
+inst_effect at Ret v = v
+inst_effect at (Jal label) v = v
+inst_effect at (CondBr taken not_taken kind) v = v
+inst_effect at (Jalr rd base offset) v = set_reg v (number_of rd.reg) at.after
 
 -- what a line makes of the values
-abbrev pub inst_effect : Standing → Inst → Values → Values
-inst_effect at inst v = by_family v (plain_effect at inst v) (control_effect at inst v) (family_of inst)
-
 abbrev pub effect_of : Standing → Line → Values → Values
 effect_of at (Put inst) v = inst_effect at inst v
 effect_of at (Bind label) v = v
@@ -66,22 +69,28 @@ abbrev pub target_exit : CondBrTarget → Exit
 target_exit (Label label) = To label.number
 target_exit Fallthrough = Next
 
-abbrev pub marks_exit : Inst → Exit
-marks_exit EBreak = Break
-marks_exit _ = Next
-
--- an address is even; ra is x1
-abbrev pub control_exit : Inst → Values → Exit
-control_exit Ret v = Leave (reg v 1 / 2 * 2)
-control_exit (Jal label) v = To label.number
-control_exit (CondBr taken not_taken kind) v = if holds kind.kind (reg v (number_of kind.rs1)) (reg v (number_of kind.rs2)) then target_exit taken else target_exit not_taken
-control_exit (Jalr rd base offset) v = Leave (wrap (reg v (number_of base) + low64 offset.value) / 2 * 2)
-control_exit _ v = Next
+-- how an instruction is left from these values; an address is even, and ra is x1
+abbrev pub inst_exit : Inst → Values → Exit
+inst_exit Nop0 v = Next
+inst_exit Nop4 v = Next
+inst_exit EBreak v = Break
+inst_exit SequencePoint v = Next
+inst_exit (Args args) v = Next
+inst_exit (Rets rets) v = Next
+inst_exit (DummyUse reg) v = Next
+inst_exit (EmitIsland needed_space) v = Next
+inst_exit (Lui rd imm) v = Next
+inst_exit (Auipc rd imm) v = Next
+inst_exit (AluRRR op rd rs1 rs2) v = Next
+inst_exit (AluRRImm12 op rd rs imm) v = Next
+inst_exit (Mov rd rm type) v = Next
+inst_exit (MovFromPReg rd rm) v = Next
+inst_exit Ret v = Leave (reg v 1 / 2 * 2)
+inst_exit (Jal label) v = To label.number
+inst_exit (CondBr taken not_taken kind) v = if holds kind.kind (reg v (number_of kind.rs1)) (reg v (number_of kind.rs2)) then target_exit taken else target_exit not_taken
+inst_exit (Jalr rd base offset) v = Leave (wrap (reg v (number_of base) + low64 offset.value) / 2 * 2)
 
 -- how a line is left from these values
-abbrev pub inst_exit : Inst → Values → Exit
-inst_exit inst v = by_family (marks_exit inst) Next (control_exit inst v) (family_of inst)
-
 abbrev pub exit_of : Line → Values → Exit
 exit_of (Put inst) v = inst_exit inst v
 exit_of (Bind label) v = Next

@@ -1,10 +1,10 @@
 -- The rules of a line, in their order. Each is a test of what a line breaks.
-use Rattle.std.specs.Prelude.{ℕ, ◌^◌, Bool, true, false, not, ◌&&◌, ◌||◌, ◌==◌, nat_le, if◌then◌else◌, Option, Some, None, ℤ, pos, negsuc}
+use Rattle.std.specs.Prelude.{ℕ, ◌^◌, Bool, true, false, not, ◌&&◌, ◌||◌, ◌==◌, nat_le, if◌then◌else◌, [], ◌∷◌, Option, Some, None, ℤ, pos, negsuc}
 use Rattle.std.specs.List.{list_any}
 use Rattle.rv_base.specs.declared.call.ArgPair.{ArgPair}
 use Rattle.rv_base.specs.declared.call.RetPair.{RetPair}
 use Rattle.rv_base.specs.declared.ir_type.IrType.{IrType}
-use Rattle.rv_base.specs.declared.ir_type.IrType.TheVariants.{I8, I16, I32, I64}
+use Rattle.rv_base.specs.declared.ir_type.IrType.TheVariants.{I8, I16, I32, I64, I128, F16, F32, F64, F128, Vector as VectorOf}
 use Rattle.rv_base.specs.declared.label.MachLabel.{MachLabel}
 use Rattle.rv_base.specs.declared.regs.PReg.{PReg}
 use Rattle.rv_base.specs.declared.regs.Reg.{Reg}
@@ -16,13 +16,12 @@ use Rattle.rv_ops.specs.Alu.{Upper, Number, Amount6, Amount5, Fixed, rri_numbers
 use Rattle.rv_inst.specs.declared.inst.Line.{Line}
 use Rattle.rv_inst.specs.declared.inst.Line.TheVariants.{Inst as Put, Bind}
 use Rattle.rv_inst.specs.declared.inst.Inst.{Inst}
-use Rattle.rv_inst.specs.declared.inst.Inst.TheVariants.{Args, Rets, AluRRImm12, Mov, MovFromPReg, CondBr}
+use Rattle.rv_inst.specs.declared.inst.Inst.TheVariants.{Nop0, Nop4, EBreak, SequencePoint, Args, Rets, DummyUse, EmitIsland, Lui, Auipc, AluRRR, AluRRImm12, Mov, MovFromPReg, Ret, Jal, CondBr, Jalr}
 use Rattle.rv_inst.specs.declared.inst.CondBrTarget.{CondBrTarget}
 use Rattle.rv_inst.specs.declared.inst.CondBrTarget.TheVariants.{Label as ToLabel, Fallthrough}
 use Rattle.rv_inst.specs.declared.error.Rule.{Rule}
 use Rattle.rv_inst.specs.declared.error.Rule.TheVariants.{Virtual, Class, Reserved, BadType, Range, NoTarget, Label}
-use Rattle.rv_inst.specs.Families.{family_of, by_family}
-use Rattle.rv_inst.specs.Fields.{inst_registers, plain_registers, control_registers, inst_labels}
+use Rattle.rv_inst.specs.Fields.{inst_registers, inst_labels}
 
 -- ---- registers
 
@@ -44,10 +43,13 @@ is_reserved (Real p) = is_int_class p.class && nat_le 30 p.number
 is_reserved (AVirtual v) = false
 
 abbrev pub same_class : RegClass → RegClass → Bool
-same_class Int Int = true
+same_class Int s = is_int_class s
+same_class Float Int = false
 same_class Float Float = true
+same_class Float Vector = false
+same_class Vector Int = false
+same_class Vector Float = false
 same_class Vector Vector = true
-same_class _ _ = false
 
 abbrev pub differ : Reg → Reg → Bool
 differ r s = not (same_class (class_of r) (class_of s))
@@ -56,22 +58,6 @@ differ r s = not (same_class (class_of r) (class_of s))
 abbrev pub is_stack_or_frame : PReg → Bool
 is_stack_or_frame p = is_int_class p.class && (p.number == 2 || p.number == 8)
 
--- the two registers of a pair have one class
-abbrev pub marks_misplaced : Inst → Bool
-marks_misplaced (Args args) = list_any (λ (p : ArgPair). differ p.vreg.reg p.preg) args
-marks_misplaced (Rets rets) = list_any (λ (p : RetPair). differ p.vreg p.preg) rets
-marks_misplaced _ = false
-
--- a register's place asks the class Int, but a move's registers have one class
-abbrev pub plain_misplaced : Inst → Bool
-plain_misplaced (Mov rd rm type) = differ rd.reg rm
-plain_misplaced (MovFromPReg rd rm) = is_other_class rd.reg || not (is_stack_or_frame rm)
-plain_misplaced inst = list_any is_other_class (plain_registers inst)
-
--- some register has another class than its place asks
-abbrev pub is_misplaced : Inst → Bool
-is_misplaced inst = by_family (marks_misplaced inst) (plain_misplaced inst) (list_any is_other_class (control_registers inst)) (family_of inst)
-
 -- ---- types and numbers
 
 abbrev pub is_int_type : IrType → Bool
@@ -79,12 +65,12 @@ is_int_type I8 = true
 is_int_type I16 = true
 is_int_type I32 = true
 is_int_type I64 = true
-is_int_type _ = false
-
--- a move of an integer register has an integer type of at most 64 bits; of other registers none is built
-abbrev pub has_bad_type : Inst → Bool
-has_bad_type (Mov rd rm type) = not (is_int_class (class_of rm) && is_int_type type)
-has_bad_type _ = false
+is_int_type I128 = false
+is_int_type F16 = false
+is_int_type F32 = false
+is_int_type F64 = false
+is_int_type F128 = false
+is_int_type (VectorOf v) = false
 
 -- one more than the largest number that an operation takes, where that is an amount or an index
 abbrev pub amount_limit : Upper → Option ℕ
@@ -98,25 +84,62 @@ is_beyond None n = false
 is_beyond (Some limit) (pos n) = nat_le limit n
 is_beyond (Some limit) (negsuc n) = true
 
--- a shift's amount or a bit's index is in the register's width
-abbrev pub is_out_of_range : Inst → Bool
-is_out_of_range (AluRRImm12 op rd rs imm) = is_beyond (amount_limit (rri_numbers op).number) imm.value
-is_out_of_range _ = false
-
 -- ---- labels
 
 abbrev pub is_fallthrough : CondBrTarget → Bool
 is_fallthrough (ToLabel label) = false
 is_fallthrough Fallthrough = true
 
--- a branch has nowhere to go where its comparison holds
-abbrev pub lacks_target : Inst → Bool
-lacks_target (CondBr taken not_taken kind) = is_fallthrough taken
-lacks_target _ = false
-
 -- the labels from 2 ^ 30 on are a buffer's own
 abbrev pub is_inner : MachLabel → Bool
 is_inner label = nat_le (2 ^ 30) label.number
+
+-- ---- what an instruction's own fields break
+
+-- which of these rules are broken: some register has another class than its place asks; a type isn't taken; a shift amount
+-- or a bit's index is beyond the register's width; a branch has nowhere to go where its comparison holds
+pub record Faults : Type 0 where
+  pub class : Bool
+  pub type : Bool
+  pub range : Bool
+  pub target : Bool
+
+abbrev pub misplaced : Bool → Faults
+misplaced class = record { class = class; type = false; range = false; target = false }
+
+-- A register's place asks the class Int, but the two of a pair or of a move have one class. A move of an integer register
+-- has an integer type of at most 64 bits; of other registers none is built.
+abbrev pub faults_of : Inst → Faults
+faults_of Nop0 = misplaced false
+faults_of Nop4 = misplaced false
+faults_of EBreak = misplaced false
+faults_of SequencePoint = misplaced false
+faults_of (Args args) = misplaced (list_any (λ (p : ArgPair). differ p.vreg.reg p.preg) args)
+faults_of (Rets rets) = misplaced (list_any (λ (p : RetPair). differ p.vreg p.preg) rets)
+faults_of (DummyUse reg) = misplaced false
+faults_of (EmitIsland needed_space) = misplaced false
+faults_of (Lui rd imm) = misplaced (list_any is_other_class (rd.reg ∷ []))
+faults_of (Auipc rd imm) = misplaced (list_any is_other_class (rd.reg ∷ []))
+faults_of (AluRRR op rd rs1 rs2) = misplaced (list_any is_other_class (rd.reg ∷ rs1 ∷ rs2 ∷ []))
+faults_of (AluRRImm12 op rd rs imm) = record { class = list_any is_other_class (rd.reg ∷ rs ∷ []); type = false; range = is_beyond (amount_limit (rri_numbers op).number) imm.value; target = false }
+faults_of (Mov rd rm type) = record { class = differ rd.reg rm; type = not (is_int_class (class_of rm) && is_int_type type); range = false; target = false }
+faults_of (MovFromPReg rd rm) = misplaced (is_other_class rd.reg || not (is_stack_or_frame rm))
+faults_of Ret = misplaced false
+faults_of (Jal label) = misplaced false
+faults_of (CondBr taken not_taken kind) = record { class = list_any is_other_class (kind.rs1 ∷ kind.rs2 ∷ []); type = false; range = false; target = is_fallthrough taken }
+faults_of (Jalr rd base offset) = misplaced (list_any is_other_class (rd.reg ∷ base ∷ []))
+
+abbrev pub is_misplaced : Inst → Bool
+is_misplaced inst = (faults_of inst).class
+
+abbrev pub has_bad_type : Inst → Bool
+has_bad_type inst = (faults_of inst).type
+
+abbrev pub is_out_of_range : Inst → Bool
+is_out_of_range inst = (faults_of inst).range
+
+abbrev pub lacks_target : Inst → Bool
+lacks_target inst = (faults_of inst).target
 
 -- ---- the first rule that is broken
 

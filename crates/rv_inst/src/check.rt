@@ -3,7 +3,9 @@
 ghost use Rattle.std.specs.Prelude.{◌≡◌, ◌++◌};
 ghost use Rattle.rv_inst.specs.Rules.{is_inner, is_misplaced, has_bad_type, is_out_of_range, lacks_target, is_fallthrough, inst_rule, broken_rule};
 ghost use Rattle.std.specs.List.{list_any};
-ghost use Rattle.rv_inst.specs.Fields.{inst_labels, control_labels, target_labels};
+ghost use Rattle.rv_inst.specs.Fields.{inst_labels, target_labels};
+ghost use Rattle.rv_inst.specs.declared.inst.Family.TheVariants.{Control};
+ghost use Rattle.rv_inst.specs.Families.{family_of};
 
 use crate::error::Rule;
 use crate::inst::{CondBrTarget, Family, Inst, Line};
@@ -113,7 +115,7 @@ fn has_inner_target(taken: CondBrTarget, not_taken: CondBrTarget) -> bool
 }
 
 fn control_has_inner_label(inst: &Inst) -> bool
-    ensures { result ≡ list_any is_inner (control_labels inst.now) }
+    ensures { family_of inst.now ≡ Control → result ≡ list_any is_inner (inst_labels inst.now) }
 {
     match inst {
         Inst::Jal { label } => is_inner(*label),

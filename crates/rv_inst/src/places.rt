@@ -4,7 +4,9 @@ ghost use Rattle.std.specs.Prelude.{◌≡◌};
 ghost use Rattle.std.specs.List.{list_any};
 ghost use Rattle.rv_base.specs.declared.call.ArgPair.{ArgPair};
 ghost use Rattle.rv_base.specs.declared.call.RetPair.{RetPair};
-ghost use Rattle.rv_inst.specs.Rules.{differ, is_stack_or_frame, marks_misplaced, plain_misplaced, is_misplaced};
+ghost use Rattle.rv_inst.specs.Rules.{differ, is_stack_or_frame, is_misplaced};
+ghost use Rattle.rv_inst.specs.declared.inst.Family.TheVariants.{Marks, Plain};
+ghost use Rattle.rv_inst.specs.Families.{family_of};
 
 use crate::inst::{Family, Inst};
 use crate::registers::{RegisterTest, control_has, is_other_class, plain_has};
@@ -45,7 +47,7 @@ fn any_ret_differs(rets: &[Ret]) -> bool
 }
 
 fn marks_misplaced(inst: &Inst) -> bool
-    ensures { result ≡ marks_misplaced inst.now }
+    ensures { family_of inst.now ≡ Marks → result ≡ is_misplaced inst.now }
 {
     match inst {
         Inst::Args { args } => any_arg_differs(args.as_slice()),
@@ -55,7 +57,7 @@ fn marks_misplaced(inst: &Inst) -> bool
 }
 
 fn plain_misplaced(inst: &Inst) -> bool
-    ensures { result ≡ plain_misplaced inst.now }
+    ensures { family_of inst.now ≡ Plain → result ≡ is_misplaced inst.now }
 {
     match inst {
         Inst::Mov { rd, rm, ty: _ } => differ(rd.reg, *rm),

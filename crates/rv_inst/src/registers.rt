@@ -2,7 +2,9 @@
 
 ghost use Rattle.std.specs.Prelude.{◌≡◌};
 ghost use Rattle.std.specs.List.{list_any};
-ghost use Rattle.rv_inst.specs.Fields.{arg_registers, ret_registers, marks_registers, plain_registers, control_registers, inst_registers};
+ghost use Rattle.rv_inst.specs.Fields.{arg_registers, ret_registers, inst_registers};
+ghost use Rattle.rv_inst.specs.declared.inst.Family.TheVariants.{Marks, Plain, Control};
+ghost use Rattle.rv_inst.specs.Families.{family_of};
 ghost use Rattle.rv_inst.specs.Tests.{test_of};
 
 use crate::inst::{Family, Inst};
@@ -90,7 +92,7 @@ fn any_of_rets(test: RegisterTest, pairs: &[RetPair]) -> bool
 }
 
 fn marks_has(test: RegisterTest, inst: &Inst) -> bool
-    ensures { result ≡ list_any (test_of test) (marks_registers inst.now) }
+    ensures { family_of inst.now ≡ Marks → result ≡ list_any (test_of test) (inst_registers inst.now) }
 {
     match inst {
         Inst::Args { args } => any_of_args(test, args.as_slice()),
@@ -102,7 +104,7 @@ fn marks_has(test: RegisterTest, inst: &Inst) -> bool
 
 /// Whether the test holds of a register of a plain instruction.
 pub fn plain_has(test: RegisterTest, inst: &Inst) -> bool
-    ensures { result ≡ list_any (test_of test) (plain_registers inst.now) }
+    ensures { family_of inst.now ≡ Plain → result ≡ list_any (test_of test) (inst_registers inst.now) }
 {
     match inst {
         Inst::Lui { rd, imm: _ } => any_of(test, &[rd.reg]),
@@ -127,7 +129,7 @@ pub fn plain_has(test: RegisterTest, inst: &Inst) -> bool
 
 /// Whether the test holds of a register of an instruction that goes elsewhere.
 pub fn control_has(test: RegisterTest, inst: &Inst) -> bool
-    ensures { result ≡ list_any (test_of test) (control_registers inst.now) }
+    ensures { family_of inst.now ≡ Control → result ≡ list_any (test_of test) (inst_registers inst.now) }
 {
     match inst {
         Inst::CondBr {

@@ -18,10 +18,11 @@ use Rattle.mach_buffer.specs.Finish.{before_last, CanFinish}
 use Rattle.mach_buffer.proofs.Blocks.{windows_none}
 use Rattle.mach_buffer.proofs.Slack.{slack_from_reach, reaches_from_slack}
 use Rattle.mach_buffer.proofs.Ends.{last_near}
-use Rattle.rv_emit.specs.Emitted.{Buffer, HasWindows, pending, use_at, uses_in, island_space, inst_sum, PutsBlock, Puts, Emitted, CanEmit, IsBounded}
+use Rattle.rv_emit.specs.Emitted.{Buffer, HasWindows, pending, PutsBlock, Puts, Emitted, CanEmit, IsBounded}
+use Rattle.rv_inst.specs.Uses.{use_at, uses_in}
+use Rattle.rv_inst.specs.Sizes.{island_space, inst_sum}
 use Rattle.rv_vectors.specs.Single.{names_first, IsStart, HoldsOne}
-use Rattle.rv_emit.proofs.Grows.{block_has_windows}
-use Rattle.rv_emit.proofs.Room.{Each, waits, each_none, each_more, uses_kinds}
+use Rattle.rv_emit.proofs.Laws.{block_has_windows, Each, waits, each_none, each_more, uses_kinds}
 
 -- ---- at the start
 

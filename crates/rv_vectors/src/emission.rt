@@ -2,7 +2,7 @@
 
 ghost use Rattle.std.specs.Prelude.{◌≡◌, IfOk, None, is_some, true};
 ghost use Rattle.rv_inst.specs.Rules.{inst_rule};
-ghost use Rattle.rv_emit.specs.Emitted.{island_space};
+ghost use Rattle.rv_inst.specs.Sizes.{island_space};
 ghost use Rattle.rv_vectors.specs.Single.{is_first, names_first, IsStart, HoldsOne};
 
 use mach_buffer::buffer::MachBuffer;

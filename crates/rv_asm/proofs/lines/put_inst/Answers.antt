@@ -4,7 +4,7 @@ pub returns-clause-put : goal.returns-clause-put
 returns-clause-put c = record {
   mid = c.make_way.new.sink;
   made = c.in_ok-make_way.field-0;
-  room = c.in_ok-make_way.ensures;
+  room = c.in_ok-make_way.ensures.room;
   emitted = c.in_ok-emit.ensures.emitted;
   reach = c.in_ok-emit.ensures.reach;
   start = c.cur_offset-start.ensures;

@@ -1,0 +1,7 @@
+use Rattle.std.proofs.Common.{drop}
+use Rattle.std.specs.List.{AllByRecursion}
+use Rattle.rv_listing.specs.CodeRanges.{LabelFits}
+use Rattle.rv_asm.proofs.ranges.labels_fit.Given as goal
+
+abbrev pub invariant-loop-label : goal.invariant-loop-label
+invariant-loop-label l = AllByRecursion LabelFits (drop l.label-index l.labels) → AllByRecursion LabelFits l.labels

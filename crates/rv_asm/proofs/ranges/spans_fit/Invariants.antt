@@ -1,0 +1,7 @@
+use Rattle.std.proofs.Common.{drop}
+use Rattle.std.specs.List.{AllByRecursion}
+use Rattle.rv_listing.specs.CodeRanges.{SpanFits}
+use Rattle.rv_asm.proofs.ranges.spans_fit.Given as goal
+
+abbrev pub invariant-loop-span : goal.invariant-loop-span
+invariant-loop-span l = AllByRecursion SpanFits (drop l.span-index l.spans) → AllByRecursion SpanFits l.spans

@@ -1,0 +1,39 @@
+-- The uses of labels that an instruction makes, and how far they reach.
+use Rattle.std.specs.Prelude.{ℕ, ◌+◌, List, [], ◌∷◌, None}
+use Rattle.rv_base.specs.declared.label.MachLabel.{MachLabel}
+use Rattle.rv_inst.specs.declared.inst.Line.{Line}
+use Rattle.rv_inst.specs.declared.inst.Line.TheVariants.{Inst as Put, Bind}
+use Rattle.rv_inst.specs.declared.inst.Inst.{Inst}
+use Rattle.rv_inst.specs.declared.inst.CondBrTarget.{CondBrTarget}
+use Rattle.rv_inst.specs.declared.inst.CondBrTarget.TheVariants.{Label, Fallthrough}
+use Rattle.rv_inst.specs.declared.label_use.LabelUse.{LabelUse}
+use Rattle.rv_inst.specs.declared.label_use.LabelUse.TheVariants.{Jal20, B12}
+use Rattle.rv_inst.specs.Fields.{Targets, NoTarget, Jumps, Branches, targets_of}
+use Rattle.mach_buffer.specs.declared.uses.Use.{Use}
+
+abbrev pub use_at : ℕ → MachLabel → LabelUse → Use LabelUse
+use_at offset label kind = record { offset = offset; label = label; kind = kind; veneer = None }
+
+abbrev pub branch_uses : ℕ → CondBrTarget → CondBrTarget → List (Use LabelUse)
+branch_uses start Fallthrough not_taken = []
+branch_uses start (Label t) Fallthrough = use_at start t B12 ∷ []
+branch_uses start (Label t) (Label f) = use_at start t B12 ∷ use_at (start + 4) f Jal20 ∷ []
+
+abbrev pub target_uses : ℕ → Targets → List (Use LabelUse)
+target_uses start NoTarget = []
+target_uses start (Jumps label) = use_at start label Jal20 ∷ []
+target_uses start (Branches taken not_taken) = branch_uses start taken not_taken
+
+-- the uses of an instruction that starts at an offset, in the order in which it names their labels
+abbrev pub uses_in : ℕ → Inst → List (Use LabelUse)
+uses_in start inst = target_uses start (targets_of inst)
+
+-- how far the shortest use of a line reaches, counted from the line's start: a branch's, or a jump's
+abbrev pub target_reach : Targets → ℕ
+target_reach NoTarget = 1048574
+target_reach (Jumps label) = 1048574
+target_reach (Branches taken not_taken) = 4094
+
+abbrev pub least_reach : Line → ℕ
+least_reach (Put inst) = target_reach (targets_of inst)
+least_reach (Bind label) = 1048574
