@@ -7,3 +7,5 @@ pub use Rattle.mach_buffer.proofs.Putting.{Was, recorded_at}
 pub use Rattle.mach_buffer.proofs.Rounds.{length_padded, aligned_near, own_idle, jump_there}
 pub use Rattle.mach_buffer.proofs.Last.{last_near, some_place}
 pub use Rattle.mach_buffer.proofs.Growing.{grows_none, grows_more, grows_put, grows_same, places_bound, block_put, block_stays, block_patched}
+pub use Rattle.mach_buffer.proofs.Effects.{IslandRest, island_rest}
+pub use Rattle.mach_buffer.proofs.Sound.{placed_same, placed_other}

@@ -17,3 +17,4 @@ pub mod Last
 pub mod Ends
 pub mod Growing
 pub mod Laws
+pub mod Effects

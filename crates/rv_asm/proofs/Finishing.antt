@@ -10,8 +10,7 @@ use Rattle.rv_inst.specs.Fields.{named_labels}
 use Rattle.rv_inst.specs.LabelUse.{label_kinds}
 use Rattle.mach_buffer.specs.Buffer.{bytes_of, place_of}
 use Rattle.mach_buffer.specs.Finish.{before_last, CanFinish, Finishes}
-use Rattle.mach_buffer.proofs.Ends.{last_near}
-use Rattle.mach_buffer.proofs.Slack.{slack_from_reach, reaches_from_slack}
+use Rattle.mach_buffer.proofs.Laws.{last_near, slack_from_reach, reaches_from_slack}
 use Rattle.rv_emit.specs.Emitted.{Buffer, pending}
 use Rattle.rv_asm.specs.Refusal.{is_bound, size_sum}
 use Rattle.rv_asm.specs.Built.{IsNamed, Built, Named, Sized}

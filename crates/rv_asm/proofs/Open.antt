@@ -21,9 +21,7 @@ use Rattle.rv_inst.specs.Rules.{inst_rule, is_inner, is_virtual, is_misplaced, i
 use Rattle.mach_buffer.specs.declared.uses.Use.{Use}
 use Rattle.mach_buffer.specs.Reach.{deadline, deadlines, due_by, is_needed, is_needed_from, is_reached}
 use Rattle.mach_buffer.specs.Buffer.{bytes_of, place_of}
-use Rattle.mach_buffer.proofs.Apart.{both_lists}
-use Rattle.mach_buffer.proofs.Slack.{deadlines_append, none_from}
-use Rattle.mach_buffer.proofs.Needed.{due_le_length}
+use Rattle.mach_buffer.proofs.Laws.{both_lists, deadlines_append, none_from, due_le_length}
 use Rattle.rv_emit.specs.Emitted.{Buffer, pending}
 use Rattle.rv_inst.specs.Uses.{use_at, uses_in}
 use Rattle.rv_emit.proofs.Laws.{deadlines_as, Each, each_none, each_more, uses_bare, uses_kinds, few_deadlines, waits}

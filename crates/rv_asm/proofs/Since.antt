@@ -14,9 +14,8 @@ use Rattle.rv_inst.specs.LabelUse.{label_kinds}
 use Rattle.rv_inst.specs.Rules.{broken_rule}
 use Rattle.mach_buffer.specs.declared.uses.Use.{Use}
 use Rattle.mach_buffer.specs.Buffer.{bytes_of, uses_of, place_of}
-use Rattle.mach_buffer.specs.Targets.{or_place}
-use Rattle.mach_buffer.proofs.Links.{append_each}
-use Rattle.mach_buffer.proofs.Slack.{none_waits, bound_waits}
+use Rattle.mach_buffer.specs.Windows.{or_place}
+use Rattle.mach_buffer.proofs.Laws.{append_each, none_waits, bound_waits}
 use Rattle.rv_emit.specs.Emitted.{Buffer, PutsBlock, PutsIsland, MakesRoom, Emitted}
 use Rattle.rv_inst.specs.Uses.{uses_in}
 use Rattle.rv_emit.proofs.Laws.{waits}

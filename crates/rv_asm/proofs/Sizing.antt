@@ -10,7 +10,7 @@ use Rattle.rv_inst.specs.LabelUse.{label_kinds}
 use Rattle.rv_inst.specs.Rules.{inst_rule}
 use Rattle.mach_buffer.specs.Reach.{CanReach, HasSlack, deadlines, due_by}
 use Rattle.mach_buffer.specs.Buffer.{bytes_of, uses_of, place_of, drawn_of}
-use Rattle.mach_buffer.proofs.Slack.{slack_same, slack_from_reach, reach_from_slack, total, due_total}
+use Rattle.mach_buffer.proofs.Laws.{slack_same, slack_from_reach, reach_from_slack, total, due_total}
 use Rattle.rv_emit.specs.Emitted.{Buffer, IsSoundBuffer, pending, PutsBlock, PutsIsland, MakesRoom, CanEmit, Emitted}
 use Rattle.rv_inst.specs.Sizes.{inst_sum}
 use Rattle.rv_emit.proofs.Laws.{waits, bytes_after, pending_after, calm_after}

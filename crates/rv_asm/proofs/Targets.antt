@@ -8,7 +8,7 @@ use Rattle.rv_base.specs.declared.flags.IsaFlags.{IsaFlags}
 use Rattle.rv_machine.specs.State.{wrap}
 use Rattle.rv_inst.specs.declared.code.Code.{Code}
 use Rattle.rv_inst.specs.declared.label_use.LabelUse.{LabelUse}
-use Rattle.rv_inst.specs.LabelUse.{Aims, marks_of, forward_of, backward_of, has_veneer_of, veneer_of}
+use Rattle.rv_inst.specs.LabelUse.{label_kinds, marks_of, has_veneer_of, veneer_of}
 use Rattle.mach_buffer.specs.declared.uses.Use.{Use}
 use Rattle.mach_buffer.specs.Windows.{window}
 use Rattle.mach_buffer.specs.Blocks.{AllInside, GoesBy, UsePatched, IsPatched}

@@ -14,7 +14,7 @@ use Rattle.rv_inst.specs.Fields.{named_labels, inst_labels}
 use Rattle.rv_inst.specs.Rules.{inst_rule, broken_rule}
 use Rattle.mach_buffer.specs.Buffer.{bytes_of}
 use Rattle.mach_buffer.specs.Finish.{CanFinish, Finishes}
-use Rattle.mach_buffer.proofs.Links.{below}
+use Rattle.mach_buffer.proofs.Laws.{below}
 use Rattle.rv_emit.specs.Rows.{ebreak_row}
 use Rattle.rv_emit.specs.Runs.{least_steps, exit_address, standing}
 use Rattle.rv_emit.specs.Emitted.{Buffer, bytes_of_words}

@@ -10,7 +10,7 @@ use Rattle.rv_inst.specs.declared.code.Code.{Code}
 use Rattle.rv_inst.specs.declared.code.LineSpan.{LineSpan}
 use Rattle.rv_inst.specs.LabelUse.{label_kinds}
 use Rattle.mach_buffer.specs.Finish.{CanFinish, Finishes}
-use Rattle.mach_buffer.specs.Buffer.{bytes_of, uses_of, veneers_of, place_of, labels_of, drawn_of}
+use Rattle.mach_buffer.specs.Buffer.{bytes_of, uses_of, place_of, labels_of, drawn_of}
 use Rattle.rv_emit.specs.Emitted.{Buffer, IsSoundBuffer}
 use Rattle.rv_asm.specs.Refusal.{binds, is_bound, size_sum, refusal}
 use Rattle.rv_inst.specs.Sizes.{line_sum}

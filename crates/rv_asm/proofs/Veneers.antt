@@ -12,7 +12,7 @@ use Rattle.rv_base.specs.declared.flags.IsaFlags.{IsaFlags}
 use Rattle.rv_inst.specs.declared.code.Code.{Code}
 use Rattle.rv_inst.specs.declared.label_use.LabelUse.{LabelUse}
 use Rattle.rv_inst.specs.declared.label_use.LabelUse.TheVariants.{PCRel32}
-use Rattle.rv_inst.specs.LabelUse.{Aims, marks_of, veneer_of}
+use Rattle.rv_inst.specs.LabelUse.{label_kinds, Aims, marks_of, veneer_of}
 use Rattle.rv_inst.specs.LabelUseWords.{word_at, AreBytes}
 use Rattle.rv_inst.specs.LabelUseBridges.{with_number, PairDecodes}
 use Rattle.rv_inst.proofs.Bridges.{decode-patched_pair}

@@ -16,7 +16,7 @@ use Rattle.rv_machine.specs.declared.decode.Decoded.{Decoded}
 use Rattle.mach_buffer.specs.declared.uses.Use.{Use}
 use Rattle.mach_buffer.specs.Reach.{CanReach, HasSlack, deadline, deadlines, is_pending, is_needed}
 use Rattle.mach_buffer.specs.Buffer.{bytes_of, uses_of, place_of}
-use Rattle.mach_buffer.proofs.Slack.{deadlines_append, slack_use, slack_less, slack_not_needed, reach_from_slack}
+use Rattle.mach_buffer.proofs.Laws.{deadlines_append, slack_use, slack_less, slack_not_needed, reach_from_slack}
 use Rattle.rv_emit.specs.Rows.{blank, rows_of, move_rows, addi_row}
 use Rattle.rv_emit.specs.Emitted.{Buffer, pending, Adds, AreRows, PutsBlock, MakesRoom, CanEmit, IsBounded, bytes_of_words}
 use Rattle.rv_inst.specs.Uses.{use_at, uses_in}

@@ -7,19 +7,14 @@ use Rattle.rv_base.specs.declared.label.MachLabel.{MachLabel}
 use Rattle.rv_base.specs.LabelUse.{Kinds, Veneer, IsVeneer, IsFresh}
 use Rattle.mach_buffer.specs.declared.uses.Use.{Use}
 use Rattle.mach_buffer.specs.declared.buffer.MachBuffer.{MachBuffer}
-use Rattle.mach_buffer.specs.Windows.{window}
+use Rattle.mach_buffer.specs.Windows.{window, AreWindows}
 use Rattle.mach_buffer.specs.Reach.{deadline, deadlines, due_by, is_pending, is_other, HasSlack}
-use Rattle.mach_buffer.specs.Buffer.{bytes_of, uses_of, veneers_of, place_of, drawn_of, pending_of, core, recorded, IsKnown, IsSound}
-use Rattle.mach_buffer.specs.Islands.{aligned, padding, needs_own, others_of, AllApart, AreWindows, IsRound, CanIsland, Islanded}
+use Rattle.mach_buffer.specs.Buffer.{bytes_of, uses_of, place_of, drawn_of, pending_of, IsSound}
+use Rattle.mach_buffer.specs.Shape.{core, recorded, IsKnown}
+use Rattle.mach_buffer.specs.Islands.{aligned, padding, needs_own, others_of, AllApart, IsRound, CanIsland, Islanded}
 use Rattle.mach_buffer.specs.Finish.{before_last, CanFinish}
 use Rattle.rv_vectors.specs.Kept.{IsKept}
-use Rattle.mach_buffer.proofs.Added.{append_none}
-use Rattle.mach_buffer.proofs.Apart.{last_or_before, windows_bytes, windows_as}
-use Rattle.mach_buffer.proofs.Blocks.{OwnWindows, windows_block, windows_none}
-use Rattle.mach_buffer.proofs.Islanded.{aligned_near, length_padded, recorded_at}
-use Rattle.mach_buffer.proofs.Links.{append_each, slice_get-append_last}
-use Rattle.mach_buffer.proofs.Others.{other_pending, own_idle}
-use Rattle.mach_buffer.proofs.Slack.{due_fewer, deadlines_append, reaches_from_slack, reach_from_slack, slack_less, slack_none, slack_same, slack_use}
+use Rattle.mach_buffer.proofs.Laws.{append_none, last_or_before, windows_bytes, OwnWindows, windows_block, windows_none, aligned_near, length_padded, recorded_at, append_each, slice_get-append_last, other_pending, own_idle, due_fewer, deadlines_append, reaches_from_slack, reach_from_slack, slack_less, slack_none, slack_same, slack_use}
 
 map_append_core : {L : Type 0} (uses : List (Use L)) (u : Use L) → recorded (uses ++ u ∷ []) ≡ recorded uses ++ recorded (u ∷ [])
 map_append_core [] u = refl
@@ -129,8 +124,8 @@ module _ {L : Type 0} {kinds : Kinds L} where
   }
 
   -- the windows with those of a use of one byte, whose bytes are put behind it
-  pub windows_one : (b new : MachBuffer L) → AreWindows kinds (bytes_of b) (uses_of b) (veneers_of b) → IsSound kinds b → ((kind : L) → kinds.has_veneer kind ≡ true → IsVeneer kinds (kinds.veneer kind)) →
-      (u : Use L) (rest : List ℕ) → u.offset ≡ length (bytes_of b) → kinds.fields u.kind ≡ 255 ∷ [] → bytes_of new ≡ bytes_of b ++ 0 ∷ rest → uses_of new ≡ uses_of b ++ u ∷ [] → veneers_of new ≡ veneers_of b → AreWindows kinds (bytes_of new) (uses_of new) (veneers_of new)
+  pub windows_one : (b new : MachBuffer L) → AreWindows kinds (bytes_of b) (uses_of b) → IsSound kinds b → ((kind : L) → kinds.has_veneer kind ≡ true → IsVeneer kinds (kinds.veneer kind)) →
+      (u : Use L) (rest : List ℕ) → u.offset ≡ length (bytes_of b) → kinds.fields u.kind ≡ 255 ∷ [] → bytes_of new ≡ bytes_of b ++ 0 ∷ rest → uses_of new ≡ uses_of b ++ u ∷ [] → veneers_of new ≡ veneers_of b → AreWindows kinds (bytes_of new) (uses_of new)
   windows_one b new w s law u rest at one eb eu ev =
       windows_as (windows_block w s.linked law (0 ∷ rest) (u ∷ []) own (bytes_of new) (uses_of new) eb (ap recorded eu ∙ map_append_core (uses_of b) u)) refl refl ev
     where
@@ -237,7 +232,7 @@ module _ {L : Type 0} {kinds : Kinds L} where
 
   -- and behind the island
   pub kept_island : {labels : ℕ} {b : MachBuffer L} (mid new : MachBuffer L) {round : MachLabel} → IsKept kinds labels b → (u : Use L) → kinds.has_veneer u.kind ≡ true → u.label ≡ round → uses_of mid ≡ uses_of b ++ u ∷ [] → place_of mid ≡ place_of b → place_of b round.number ≡ None →
-      IsSound kinds new → AreWindows kinds (bytes_of new) (uses_of new) (veneers_of new) → Islanded kinds mid round new → IsKept kinds labels new
+      IsSound kinds new → AreWindows kinds (bytes_of new) (uses_of new) → Islanded kinds mid round new → IsKept kinds labels new
   kept_island {labels} {b} mid new {round} k u supported el eu ep none sound windows i = record {
     sound = sound;
     windows = windows;

@@ -10,14 +10,11 @@ use Rattle.rv_inst.specs.declared.label_use.LabelUse.TheVariants.{Jal20, B12}
 use Rattle.rv_inst.specs.LabelUse.{label_kinds}
 use Rattle.rv_inst.specs.Rules.{inst_rule}
 use Rattle.mach_buffer.specs.declared.uses.Use.{Use}
-use Rattle.mach_buffer.specs.declared.uses.VeneerUse.{VeneerUse}
 use Rattle.mach_buffer.specs.Reach.{CanReach, is_needed, deadlines}
-use Rattle.mach_buffer.specs.Buffer.{bytes_of, uses_of, veneers_of, place_of}
-use Rattle.mach_buffer.specs.Islands.{AreWindows}
+use Rattle.mach_buffer.specs.Buffer.{bytes_of, uses_of, place_of}
+use Rattle.mach_buffer.specs.Windows.{AreWindows}
 use Rattle.mach_buffer.specs.Finish.{before_last, CanFinish}
-use Rattle.mach_buffer.proofs.Blocks.{windows_none}
-use Rattle.mach_buffer.proofs.Slack.{slack_from_reach, reaches_from_slack}
-use Rattle.mach_buffer.proofs.Ends.{last_near}
+use Rattle.mach_buffer.proofs.Laws.{windows_none, slack_from_reach, reaches_from_slack, last_near}
 use Rattle.rv_emit.specs.Emitted.{Buffer, HasWindows, pending, PutsBlock, Puts, Emitted, CanEmit, IsBounded}
 use Rattle.rv_inst.specs.Uses.{use_at, uses_in}
 use Rattle.rv_inst.specs.Sizes.{island_space, inst_sum}
@@ -35,8 +32,8 @@ start_pending b s = ap (deadlines (waits (place_of b)) label_kinds) s.uses
 
 start_windows : (b : Buffer) → IsStart b → HasWindows b
 start_windows b s =
-    subst (λ (bs : List ℕ). AreWindows label_kinds bs (uses_of b) (veneers_of b)) (sym s.bytes)
-    (subst (λ (us : List (Use LabelUse)). AreWindows label_kinds [] us (veneers_of b)) (sym s.uses)
+    subst (λ (bs : List ℕ). AreWindows label_kinds bs (uses_of b)) (sym s.bytes)
+    (subst (λ (us : List (Use LabelUse)). AreWindows label_kinds [] us) (sym s.uses)
     (subst (λ (vs : List (VeneerUse LabelUse)). AreWindows label_kinds [] [] vs) (sym s.veneers) windows_none))
 
 plain_sum : (inst : Inst) → island_space inst ≡ None → inst_sum inst ≡ 128

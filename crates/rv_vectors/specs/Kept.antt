@@ -4,14 +4,14 @@ use Rattle.rv_base.specs.LabelUse.{Kinds, Veneer}
 use Rattle.mach_buffer.specs.declared.uses.Use.{Use}
 use Rattle.mach_buffer.specs.declared.buffer.MachBuffer.{MachBuffer}
 use Rattle.mach_buffer.specs.Reach.{HasSlack}
-use Rattle.mach_buffer.specs.Buffer.{bytes_of, uses_of, veneers_of, place_of, pending_of, IsSound}
-use Rattle.mach_buffer.specs.Islands.{AreWindows}
+use Rattle.mach_buffer.specs.Buffer.{bytes_of, uses_of, place_of, pending_of, IsSound}
+use Rattle.mach_buffer.specs.Windows.{AreWindows}
 
 -- it is sound, its windows are fresh and apart, Reach holds, each use may go by a veneer, and each label that is named is
 -- one of the first `labels` or is bound
 pub record IsKept {L : Type 0} (kinds : Kinds L) (labels : ℕ) (b : MachBuffer L) : Type 0 where
   pub sound : IsSound kinds b
-  pub windows : AreWindows kinds (bytes_of b) (uses_of b) (veneers_of b)
+  pub windows : AreWindows kinds (bytes_of b) (uses_of b)
   pub slack : HasSlack (length (bytes_of b)) 14 (pending_of kinds b)
   pub supported : (j : ℕ) (u : Use L) → slice_get (uses_of b) j ≡ Some u → kinds.has_veneer u.kind ≡ true
   pub named : (j : ℕ) (u : Use L) → slice_get (uses_of b) j ≡ Some u → (u.label.number < labels) ⊎ (is_some (place_of b u.label.number) ≡ true)

@@ -1,7 +1,8 @@
 use Rattle.std.proofs.Common.{arith, ◌≡◌, ◌∙◌, ◌∷◌, [], ◌++◌, ◌+◌, ◌*◌, ◌^◌, ◌<◌, ◌≤◌, None, refl, ap, length, ℕ}
 use Rattle.std.proofs.lemmas.List.{length-append}
 use Rattle.mach_buffer.specs.declared.uses.Use.{Use}
-use Rattle.mach_buffer.specs.Buffer.{bytes_of, drawn_of, pending_of, IsKnown}
+use Rattle.mach_buffer.specs.Buffer.{bytes_of, drawn_of, pending_of}
+use Rattle.mach_buffer.specs.Shape.{IsKnown}
 use Rattle.rv_vectors.proofs.Kept.{can_island, island_near, kept_island, kept_same, same_pending, windows_one}
 use Rattle.rv_vectors.proofs.buffer.put_jump.Goals as goal
 

@@ -2,7 +2,7 @@ use Rattle.std.proofs.Common.{arith, ◌∙◌, ◌∷◌, [], ◌++◌, ◌+◌
 use Rattle.mach_buffer.specs.declared.uses.Use.{Use}
 use Rattle.mach_buffer.specs.Buffer.{bytes_of, pending_of}
 use Rattle.rv_vectors.proofs.Kept.{kept_use}
-use Rattle.mach_buffer.proofs.Slack.{slack_less}
+use Rattle.mach_buffer.proofs.Laws.{slack_less}
 use Rattle.rv_vectors.proofs.buffer.put_use.Goals as goal
 
 pub returns : goal.returns
