@@ -1,214 +1,181 @@
--- A veneer for each use that waits, in the order of turns.
-use Rattle.std.proofs.Common.{◌≡◌, ◌≢◌, ℕ, suc, ◌+◌, ◌*◌, ◌%◌, ◌<◌, ◌≤◌, ◌⊎◌, inl, inr, ⊎_elim, Bool, true, false, ◌&&◌, ◌||◌, List, [], ◌∷◌, ◌++◌, length, take, set, Option, Some, unwrap_or, refl, ap, sym, ◌∙◌, subst, arith}
-use Rattle.std.specs.Prelude.{slice_get, nat_eq, nat_lt, IsSomeAnd}
-use Rattle.std.proofs.lemmas.Bool.{true≢false, cases_eq}
+-- Veneers put one after the other: what stands after them.
+use Rattle.std.proofs.Common.{◌≡◌, ◌≢◌, ℕ, zero, suc, ◌+◌, ◌*◌, ◌%◌, ◌<◌, ◌≤◌, ◌⊎◌, inl, inr, ⊎_elim, Bool, true, false, List, [], ◌∷◌, ◌++◌, length, take, drop, map, set, Option, Some, None, refl, ap, sym, ◌∙◌, subst, arith, append_assoc}
+use Rattle.std.specs.Prelude.{slice_get, nat_le}
+use Rattle.std.proofs.lemmas.Bool.{true≢false, cases_eq, le-leb, and_from}
 use Rattle.std.proofs.lemmas.Option.{same_Some}
-use Rattle.std.proofs.lemmas.List.{take-append-le, length-append, take_all}
-use Rattle.rv_base.specs.LabelUse.{Veneer}
+use Rattle.std.proofs.lemmas.List.{length-append, take-take, take_all, map-append}
+use Rattle.rv_base.specs.LabelUse.{Kinds, IsVeneer}
 use Rattle.mach_buffer.specs.declared.uses.Use.{Use}
-use Rattle.mach_buffer.specs.declared.uses.VeneerUse.{VeneerUse}
-use Rattle.mach_buffer.specs.declared.uses.Turn.{Turn}
-use Rattle.mach_buffer.specs.Reach.{deadline, deadlines, due_by, is_sooner, StillReaches}
-use Rattle.mach_buffer.specs.Buffer.{IsLinked, IsTurn, HaveTurns, AllLater, recorded}
-use Rattle.mach_buffer.specs.Islands.{AreWindows, PutAt, InOrder, VeneersPut, VeneersBehind}
-use Rattle.mach_buffer.proofs.Added.{added_none, added_more}
-use Rattle.mach_buffer.proofs.Links.{slice_get-set_other, slice_get-set_same, recorded_set}
-use Rattle.mach_buffer.proofs.Slack.{due_set, length_set, reaches_next, reaches_due, none_waits}
-use Rattle.mach_buffer.proofs.Turns.{turns_pass, turns_take, turns_end, turns_least, turns_first}
+use Rattle.mach_buffer.specs.Shape.{Shape, veneer_use, core, recorded}
+use Rattle.mach_buffer.specs.Windows.{AreWindows}
+use Rattle.mach_buffer.specs.Reach.{deadline}
+use Rattle.mach_buffer.specs.Links.{IsLinked}
+use Rattle.mach_buffer.specs.Veneers.{put_at, put_veneer, put_all}
+use Rattle.mach_buffer.specs.Islands.{IsOwn, is_far}
+use Rattle.mach_buffer.specs.Putting.{CanPutAt, IsNone, CanPut, AddsOwn}
+use Rattle.mach_buffer.proofs.Apart.{windows_veneer, changed}
+use Rattle.mach_buffer.proofs.Linked.{HasLaw, linked_veneer}
+use Rattle.mach_buffer.proofs.Lists.{append_none, locate, none_some, slice_get-append, slice_get-set_other, take_front}
+use Rattle.mach_buffer.proofs.Linked.{recorded_set}
 
--- what holds between two turns
-pub record Putting {L : Type 0} (fields : L → List ℕ) (has_veneer : L → Bool) (forward : L → ℕ) (veneer : L → Veneer L) (test : Use L → Bool) (bytes0 : List ℕ) (uses0 : List (Use L)) (veneers0 : List (VeneerUse L)) (bytes : List ℕ) (uses : List (Use L)) (veneers : List (VeneerUse L)) (turns : List (Turn × Use L)) : Type 0 where
-  pub before : take (length bytes0) bytes ≡ bytes0
-  pub longer : length bytes0 ≤ length bytes
-  pub same : recorded uses ≡ recorded uses0
-  pub grown : VeneersBehind (length bytes0) veneers0 veneers
-  pub linked : IsLinked has_veneer forward veneer bytes uses veneers
-  pub even : length bytes % 2 ≡ 0
-  pub waits : HaveTurns forward test turns uses
-  pub reach : StillReaches (length bytes) (deadlines test forward uses)
-  pub long : length bytes + 8 * length (deadlines test forward uses) ≡ length bytes0 + 8 * length (deadlines test forward uses0)
-  pub kept : (j : ℕ) (u : Use L) → slice_get uses0 j ≡ Some u → test u ≡ false → slice_get uses j ≡ Some u
-  pub done : (j : ℕ) (u : Use L) → slice_get uses0 j ≡ Some u → test u ≡ true → (slice_get uses j ≡ Some u) ⊎ PutAt (length bytes0) (length bytes) u (slice_get uses j)
-  pub ordered : InOrder forward test uses0 uses
-  pub later : (j k : ℕ) (u v : Use L) (a : ℕ) → slice_get uses0 j ≡ Some u → slice_get uses0 k ≡ Some v → test u ≡ true → test v ≡ true → slice_get uses j ≡ Some (record u { veneer = Some a }) → slice_get uses k ≡ Some v → is_sooner forward v u ≡ false
-  pub windows : AreWindows fields bytes0 uses0 veneers0 → AreWindows fields bytes uses veneers
+-- ---- uses alike
 
--- a use with a veneer does not wait
-abbrev pub Clears : {L : Type 0} → (Use L → Bool) → Type 0
-Clears {L} test = (u : Use L) (at : ℕ) → test (record u { veneer = Some at }) ≡ false
+-- a use was there, with the same place, kind and label
+pub record Was {L : Type 0} (uses : List (Use L)) (j : ℕ) (u : Use L) : Type 0 where
+  pub was : Use L
+  pub there : slice_get uses j ≡ Some was
+  pub alike : core was ≡ core u
 
-differs : {L : Type 0} (test : Use L → Bool) → Clears test → (o : Option (Use L)) (u v : Use L) (at : ℕ) → test u ≡ true → o ≡ Some u → o ≡ Some (record v { veneer = Some at }) → ⊥
-differs test clears o u v at t p q = true≢false (sym t ∙ ap test (same_Some _ _ (sym p ∙ q)) ∙ clears v at)
-
-same_place : {L : Type 0} (u v : Use L) (a b : ℕ) → Some (record u { veneer = Some a }) ≡ Some (record v { veneer = Some b }) → a ≡ b
-same_place {L} u v a b e = ap (λ (x : Use L). unwrap_or x.veneer 0) (same_Some _ _ e)
-
-not_before_itself : {L : Type 0} (forward : L → ℕ) (u : Use L) → is_sooner forward u u ≡ false
-not_before_itself forward u = on (deadline forward u) u.offset
+pub recorded_at : {L : Type 0} (new_uses uses : List (Use L)) (more : List (Use L)) → recorded new_uses ≡ recorded uses ++ more → (j : ℕ) (u : Use L) → slice_get new_uses j ≡ Some u → Was uses j u ⊎ ((k : ℕ) × (j ≡ length uses + k) × (slice_get more k ≡ Some (core u)))
+recorded_at [] uses more e j u h = absurd (cc)
+recorded_at {L} (w ∷ new_uses) [] more e j u h = inr (j, omega arith, sym (ap (λ us. slice_get us j) e) ∙ get (w ∷ new_uses) j u h)
   where
-    on : (a x : ℕ) → (nat_lt a a || (nat_eq a a && nat_lt x x)) ≡ false
-    on a x = grind arith
+    get : (us : List (Use L)) (k : ℕ) (x : Use L) → slice_get us k ≡ Some x → slice_get (recorded us) k ≡ Some (core x)
+    get [] k x q = absurd (cc)
+    get (y ∷ us) zero x q = ap (λ z. Some (core z)) (same_Some _ _ q)
+    get (y ∷ us) (suc k) x q = get us k x q
+recorded_at {L} (w ∷ new_uses) (x ∷ uses) more e zero u h = inl (record { was = x; there = refl; alike = sym (ap (head_or (core w)) e) ∙ ap core (same_Some _ _ h) })
+  where
+    head_or : Use L → List (Use L) → Use L
+    head_or d [] = d
+    head_or d (y ∷ ys) = y
+recorded_at {L} (w ∷ new_uses) (x ∷ uses) more e (suc j) u h = ⊎_elim (λ q. inl (on q)) (λ q. inr (q.0, (let a = q.1 in omega arith), q.2)) (recorded_at new_uses uses more (ap tail_of e) j u h)
+  where
+    tail_of : List (Use L) → List (Use L)
+    tail_of [] = []
+    tail_of (y ∷ ys) = ys
 
-pub putting_start : {L : Type 0} {fields : L → List ℕ} {has_veneer : L → Bool} {forward : L → ℕ} {veneer : L → Veneer L} {test : Use L → Bool} {bytes : List ℕ} {uses : List (Use L)} {veneers : List (VeneerUse L)} {turns : List (Turn × Use L)} → Clears test →
-    IsLinked has_veneer forward veneer bytes uses veneers → length bytes % 2 ≡ 0 → HaveTurns forward test turns uses → StillReaches (length bytes) (deadlines test forward uses) → Putting fields has_veneer forward veneer test bytes uses veneers bytes uses veneers turns
-putting_start {L} {fields} {has_veneer} {forward} {veneer} {test} {bytes} {uses} clears linked even waits reach = record {
-  before = take_all (length bytes) bytes (omega arith);
-  longer = omega arith;
-  same = refl;
-  grown = added_none (length bytes) refl;
+    on : Was uses j u → Was (x ∷ uses) (suc j) u
+    on q = record { was = q.was; there = q.there; alike = q.alike }
+
+-- ---- one veneer
+
+pub put_is : {L : Type 0} (kinds : Kinds L) (i : ℕ) (s : Shape L) (u : Use L) → slice_get s.uses i ≡ Some u → put_veneer kinds i s ≡ put_at kinds i (Some u) s
+put_is kinds i s u there = ap (λ o. put_at kinds i o s) there
+
+-- the others can still get theirs
+pub can_still : {L : Type 0} (kinds : Kinds L) (uses : List (Use L)) (i : ℕ) (v own : Use L) (cur : ℕ) (order : List ℕ) → IsNone i order → CanPut kinds uses cur order → CanPut kinds (set uses i v ++ own ∷ []) cur order
+can_still kinds uses i v own cur [] none can = tt
+can_still kinds uses i v own cur (j ∷ order) none can =
+    let c = can.0 in (
+      record { user = c.user; there = slice_get-append (set uses i v) (own ∷ []) j c.user (slice_get-set_other uses i j v none.0 ∙ c.there); supported = c.supported; near = c.near },
+      can.1,
+      can_still kinds uses i v own (cur + 8) order none.1 can.2,
+    )
+
+-- ---- all of them
+
+-- a number is one of these
+pub data IsOneOf (i : ℕ) (order : List ℕ) : Type 0 where
+  at : (k : ℕ) → slice_get order k ≡ Some i → IsOneOf i order
+
+-- what stands after the veneers of these uses
+pub record AllPut {L : Type 0} (kinds : Kinds L) (order : List ℕ) (s t : Shape L) : Type 0 where
+  pub linked : IsLinked kinds t.bytes t.uses
+  pub even : length t.bytes % 2 ≡ 0
+  pub long : length t.bytes ≡ length s.bytes + 8 * length order
+  pub before : take (length s.bytes) t.bytes ≡ s.bytes
+  pub grown : AddsOwn kinds (length s.bytes) s.uses t.uses
+  pub kept : (j : ℕ) (u : Use L) → slice_get t.uses j ≡ Some u → u.veneer ≡ None → kinds.has_veneer u.kind ≡ true → (slice_get s.uses j ≡ Some u) × (IsOneOf j order → ⊥)
+  pub windows : AreWindows kinds s.bytes s.uses → AreWindows kinds t.bytes t.uses
+  pub place : t.place ≡ s.place
+  pub labels : t.labels ≡ s.labels
+  pub allocated : t.allocated ≡ s.allocated
+
+own_of : {L : Type 0} {kinds : Kinds L} {uses new_uses : List (Use L)} {from next : ℕ} → from ≤ next → ((j : ℕ) (u : Use L) → slice_get new_uses j ≡ Some u → ((w : Use L) × (k : ℕ) × (slice_get uses k ≡ Some w) × (w.label ≡ u.label))) → (own : Use L) → IsOwn kinds new_uses next own → IsOwn kinds uses from own
+own_of le users own o = let w = users o.user o.used o.there in record { behind = (let b = o.behind in omega arith); bare = o.bare; final = o.final; far = o.far; user = w.1; used = w.0; there = w.2; names = w.3 ∙ o.names }
+
+all_put_none : {L : Type 0} {kinds : Kinds L} (s : Shape L) → IsLinked kinds s.bytes s.uses → length s.bytes % 2 ≡ 0 → AllPut kinds [] s s
+all_put_none s linked even = record {
   linked = linked;
   even = even;
-  waits = waits;
-  reach = reach;
-  long = refl;
-  kept = λ j u h t. h;
-  done = λ j u h t. inl h;
-  ordered = λ j k u v a b hj hk tu tv s pj pk. absurd (differs test clears (slice_get uses j) u u a tu hj pj);
-  later = λ j k u v a hj hk tu tv pj pk. absurd (differs test clears (slice_get uses j) u u a tu hj pj);
+  long = omega arith;
+  before = take_all (length s.bytes) s.bytes (omega arith);
+  grown = record { more = []; grown = sym (append_none (recorded s.uses)); own = λ k u h. absurd (cc) };
+  kept = λ j u h bare has. (h, λ o. nothing o);
   windows = λ w. w;
+  place = refl;
+  labels = refl;
+  allocated = refl;
 }
+  where
+    nothing : {j : ℕ} → IsOneOf j [] → ⊥
+    nothing (at k h) = absurd (cc)
 
-module _ {L : Type 0} {fields : L → List ℕ} {has_veneer : L → Bool} {forward : L → ℕ} {veneer : L → Veneer L} {test : Use L → Bool} {bytes0 : List ℕ} {uses0 : List (Use L)} {veneers0 : List (VeneerUse L)} {bytes : List ℕ} {uses : List (Use L)} {veneers : List (VeneerUse L)} {turns : List (Turn × Use L)} where
-  -- a turn whose use does not wait
-  pub putting_pass : {e : Turn × Use L} {rest : List (Turn × Use L)} → Putting fields has_veneer forward veneer test bytes0 uses0 veneers0 bytes uses veneers turns → turns ≡ e ∷ rest → test e.1 ≡ false → Putting fields has_veneer forward veneer test bytes0 uses0 veneers0 bytes uses veneers rest
-  putting_pass p et idle = record {
-    before = p.before;
-    longer = p.longer;
-    same = p.same;
-    grown = p.grown;
-    linked = p.linked;
-    even = p.even;
-    waits = turns_pass p.waits et idle;
-    reach = p.reach;
-    long = p.long;
-    kept = p.kept;
-    done = p.done;
-    ordered = p.ordered;
-    later = p.later;
-    windows = p.windows;
-  }
+all_put_next : {L : Type 0} {kinds : Kinds L} → HasLaw kinds → (i : ℕ) (order : List ℕ) (s t : Shape L) (u : Use L) → slice_get s.uses i ≡ Some u → kinds.has_veneer u.kind ≡ true → IsLinked kinds s.bytes s.uses → length s.bytes % 2 ≡ 0 → AllPut kinds order (put_at kinds i (Some u) s) t → AllPut kinds (i ∷ order) s t
+all_put_next {L} {kinds} law i order s t u there supported linked even rest = record {
+  linked = rest.linked;
+  even = rest.even;
+  long = let l = rest.long in omega (arith, long);
+  before = sym (take-take (length s.bytes) (length m.bytes) t.bytes (omega (arith, long))) ∙ ap (take (length s.bytes)) rest.before ∙ take_front s.bytes (kinds.veneer u.kind).bytes;
+  grown = record {
+    more = own ∷ rest.grown.more;
+    grown = rest.grown.grown ∙ ap (λ us. us ++ rest.grown.more) recorded_mid ∙ append_assoc (recorded s.uses) (own ∷ []) rest.grown.more;
+    own = owns;
+  };
+  kept = λ j x h bare has. kept j x has bare (rest.kept j x h bare has);
+  windows = λ w. rest.windows (windows_veneer law linked i u there supported even w);
+  place = rest.place;
+  labels = rest.labels;
+  allocated = rest.allocated;
+}
+  where
+    ok : IsVeneer kinds (kinds.veneer u.kind)
+    ok = law u.kind supported
 
-  -- the next veneer begins in reach, and fits
-  pub putting_near : {e : Turn × Use L} {rest : List (Turn × Use L)} → Putting fields has_veneer forward veneer test bytes0 uses0 veneers0 bytes uses veneers turns → turns ≡ e ∷ rest → test e.1 ≡ true → Clears test → length bytes ≤ deadline forward e.1
-  putting_near {e} {rest} p et waits clears =
-      let there = (subst (λ ts. HaveTurns forward test ts uses) et p.waits).each 0 e refl waits in
-      reaches_due (length bytes) (deadline forward e.1) (deadlines test forward uses) (deadlines test forward (set uses e.0.index (record e.1 { veneer = Some 0 })))
-      (due_set test forward (deadline forward e.1) uses e.0.index e.1 (record e.1 { veneer = Some 0 }) there.there waits (clears e.1 0)) p.reach
+    m : Shape L
+    m = put_at kinds i (Some u) s
 
-  pub putting_room : {e : Turn × Use L} {rest : List (Turn × Use L)} → Putting fields has_veneer forward veneer test bytes0 uses0 veneers0 bytes uses veneers turns → turns ≡ e ∷ rest → test e.1 ≡ true → Clears test → length bytes + 8 ≤ length bytes0 + 8 * length (deadlines test forward uses0)
-  putting_room {e} {rest} p et waits clears =
-      let there = (subst (λ ts. HaveTurns forward test ts uses) et p.waits).each 0 e refl waits in
-      let fewer = length_set test forward uses e.0.index e.1 (record e.1 { veneer = Some 0 }) there.there waits (clears e.1 0) in
-      let long = p.long in
-      omega arith
+    v : Use L
+    v = record u { veneer = Some (length s.bytes) }
 
-  -- at the end
-  pub putting_end : Putting fields has_veneer forward veneer test bytes0 uses0 veneers0 bytes uses veneers turns → turns ≡ [] → VeneersPut forward test bytes0 uses0 bytes uses
-  putting_end p et =
-      let none = turns_end p.waits et in
-      let zero_left : length (deadlines test forward uses) ≡ 0 = ap (length {A = ℕ}) none in
-      let long = p.long in
-      record {
-        before = p.before;
-        long = omega arith;
-        same = p.same;
-        kept = p.kept;
-        put = λ j u h t. ⊎_elim (λ still. absurd (true≢false (sym t ∙ none_waits test forward uses none j u still))) (λ q. q) (p.done j u h t);
-        ordered = p.ordered;
-      }
+    own : Use L
+    own = veneer_use (kinds.veneer u.kind) (length s.bytes) u.label
 
-  -- the first turn is taken
-  pub putting_next : {e : Turn × Use L} {rest : List (Turn × Use L)} → Putting fields has_veneer forward veneer test bytes0 uses0 veneers0 bytes uses veneers turns → turns ≡ e ∷ rest → test e.1 ≡ true → AllLater e.0 rest → Clears test → length (veneer e.1.kind).bytes ≡ 8 →
-      (new_bytes : List ℕ) (new_uses : List (Use L)) (new_veneers : List (VeneerUse L)) → new_bytes ≡ bytes ++ (veneer e.1.kind).bytes → new_uses ≡ set uses e.0.index (record e.1 { veneer = Some (length bytes) }) →
-      IsLinked has_veneer forward veneer new_bytes new_uses new_veneers → (AreWindows fields bytes uses veneers → AreWindows fields new_bytes new_uses new_veneers) → VeneersBehind (length bytes) veneers new_veneers →
-      Putting fields has_veneer forward veneer test bytes0 uses0 veneers0 new_bytes new_uses new_veneers rest
-  putting_next {e} {rest} p et waits all_later clears eight new_bytes new_uses new_veneers eb eu linked windows added = record {
-    before = ap (take (length bytes0)) eb ∙ take-append-le (length bytes0) bytes (veneer e.1.kind).bytes p.longer ∙ p.before;
-    longer = let l = p.longer in omega (arith, long);
-    same = ap recorded eu ∙ recorded_set uses i e.1 v there refl ∙ p.same;
-    grown = added_more p.longer p.grown added;
-    linked = linked;
-    even = let l = p.even in omega (arith, long);
-    waits = turns_take p.waits et waits all_later v no_wait new_uses eu;
-    reach = subst (λ n. StillReaches n (deadlines test forward new_uses)) (sym long)
-        (reaches_next (length bytes) (deadline forward e.1) (deadlines test forward uses) (deadlines test forward new_uses) (turns_least p.waits et waits all_later)
-        (λ end. due_set test forward end uses i e.1 v there waits no_wait ∙ ap (λ us. due_by end (deadline forward e.1 ∷ []) + due_by end (deadlines test forward us)) (sym eu)) p.reach);
-    long = let was = p.long in let fewer : length (deadlines test forward uses) ≡ suc (length (deadlines test forward new_uses)) = length_set test forward uses i e.1 v there waits no_wait ∙ ap (λ us. suc (length (deadlines test forward us))) (sym eu) in omega (arith, long);
-    kept = λ j u h t.
-        let k = p.kept j u h t in
-        other j (λ same. true≢false (sym waits ∙ ap test (here j u same k) ∙ t)) ∙ k;
-    done = λ j u h t. ⊎_elim (λ still. ⊎_elim (λ same. inr (put_here j u same (here j u same still))) (λ ne. inl (other j ne ∙ still)) (cases_eq j i)) (λ q. inr (put_before j u q (is_other_place j u q))) (p.done j u h t);
-    ordered = λ j k u v2 a b hj hk tu tv s pj pk. order j k u v2 a b hj hk tu tv s pj pk (cases_eq j i) (cases_eq k i);
-    later = λ j k u v2 a hj hk tu tv pj pk. ⊎_elim
-        (λ same. absurd (differs test clears (slice_get new_uses k) v2 e.1 (length bytes) tv pk (at_i k same)))
-        (λ ne. let still = sym (other k ne) ∙ pk in ⊎_elim
-        (λ same. subst (λ (x : Use L). is_sooner forward v2 x ≡ false) (origin j u hj tu same) (turns_first p.waits et waits all_later k v2 still tv))
-        (λ nj. p.later j k u v2 a hj hk tu tv (sym (other j nj) ∙ pj) still)
-        (cases_eq j i))
-        (cases_eq k i);
-    windows = λ w. windows (p.windows w);
-  }
-    where
-      i : ℕ
-      i = e.0.index
+    long : length m.bytes ≡ length s.bytes + 8
+    long = length-append s.bytes (kinds.veneer u.kind).bytes ∙ ap (λ n. length s.bytes + n) ok.eight
 
-      v : Use L
-      v = record e.1 { veneer = Some (length bytes) }
+    recorded_mid : recorded m.uses ≡ recorded s.uses ++ own ∷ []
+    recorded_mid = map-append core (set s.uses i v) (own ∷ []) ∙ ap (λ us. us ++ own ∷ []) (recorded_set s.uses i u v there refl)
 
-      no_wait : test v ≡ false
-      no_wait = clears e.1 (length bytes)
+    own_first : IsOwn kinds s.uses (length s.bytes) own
+    own_first = record { behind = omega arith; bare = refl; final = ok.final; far = and_from _ _ (le-leb _ _ ok.far_forward) (le-leb _ _ ok.far_backward); user = i; used = u; there = there; names = refl }
 
-      there : slice_get uses i ≡ Some e.1
-      there = ((subst (λ ts. HaveTurns forward test ts uses) et p.waits).each 0 e refl waits).there
+    -- each use names the label of one that was there
+    users : (j : ℕ) (x : Use L) → slice_get m.uses j ≡ Some x → ((w : Use L) × (k : ℕ) × (slice_get s.uses k ≡ Some w) × (w.label ≡ x.label))
+    users j x h = ⊎_elim
+        (λ a. ⊎_elim (λ c. (x, j, c.1, refl)) (λ c. (u, i, there, ap (λ (y : Use L). y.label) c.1)) (changed s.uses i u v there j x a))
+        (λ a. (u, i, there, last a.index a.there))
+        (locate (set s.uses i v) (own ∷ []) j x h)
+      where
+        last : (n : ℕ) → slice_get (own ∷ []) n ≡ Some x → u.label ≡ x.label
+        last zero e = ap (λ (y : Use L). y.label) (same_Some _ _ e)
+        last (suc n) e = absurd (cc)
 
-      long : length new_bytes ≡ length bytes + 8
-      long = ap (length {A = ℕ}) eb ∙ length-append bytes (veneer e.1.kind).bytes ∙ ap (λ n. length bytes + n) eight
+    owns : (k : ℕ) (x : Use L) → slice_get (own ∷ rest.grown.more) k ≡ Some x → IsOwn kinds s.uses (length s.bytes) x
+    owns zero x h = subst (IsOwn kinds s.uses (length s.bytes)) (same_Some _ _ h) own_first
+    owns (suc k) x h = own_of (omega (arith, long)) users x (rest.grown.own k x h)
 
-      other : (j : ℕ) → j ≢ i → slice_get new_uses j ≡ slice_get uses j
-      other j ne = ap (λ us. slice_get us j) eu ∙ slice_get-set_other uses i j v ne
+    neither : (j : ℕ) → j ≢ i → (IsOneOf j order → ⊥) → IsOneOf j (i ∷ order) → ⊥
+    neither j ne f (at zero h) = ne (sym (same_Some _ _ h))
+    neither j ne f (at (suc k) h) = f (at k h)
 
-      at_i : (j : ℕ) → j ≡ i → slice_get new_uses j ≡ Some v
-      at_i j same = ap (slice_get new_uses) same ∙ ap (λ us. slice_get us i) eu ∙ slice_get-set_same uses i v e.1 there
+    kept : (j : ℕ) (x : Use L) → kinds.has_veneer x.kind ≡ true → x.veneer ≡ None → (slice_get m.uses j ≡ Some x) × (IsOneOf j order → ⊥) → (slice_get s.uses j ≡ Some x) × (IsOneOf j (i ∷ order) → ⊥)
+    kept j x has bare k = ⊎_elim
+        (λ a. ⊎_elim (λ c. (c.1, neither j c.0 k.1)) (λ c. absurd (none_some x.veneer (length s.bytes) bare (ap (λ (y : Use L). y.veneer) (sym c.1)))) (changed s.uses i u v there j x a))
+        (λ a. absurd (last a.index a.there))
+        (locate (set s.uses i v) (own ∷ []) j x k.0)
+      where
+        last : (n : ℕ) → slice_get (own ∷ []) n ≡ Some x → ⊥
+        last zero e = true≢false (sym has ∙ ap (λ (y : Use L). kinds.has_veneer y.kind) (sym (same_Some _ _ e)) ∙ ok.final)
+        last (suc n) e = absurd (cc)
 
-      here : (j : ℕ) (u : Use L) → j ≡ i → slice_get uses j ≡ Some u → e.1 ≡ u
-      here j u same k = same_Some _ _ (sym there ∙ ap (slice_get uses) (sym same) ∙ k)
-
-      put_here : (j : ℕ) (u : Use L) → j ≡ i → e.1 ≡ u → PutAt (length bytes0) (length new_bytes) u (slice_get new_uses j)
-      put_here j u same is = record { at = length bytes; is = at_i j same ∙ ap (λ (x : Use L). Some (record x { veneer = Some (length bytes) })) is; after = p.longer; inside = omega (arith, long) }
-
-      put_before : (j : ℕ) (u : Use L) → (q : PutAt (length bytes0) (length bytes) u (slice_get uses j)) → j ≢ i → PutAt (length bytes0) (length new_bytes) u (slice_get new_uses j)
-      put_before j u q ne = record { at = q.at; is = other j ne ∙ q.is; after = q.after; inside = let l = q.inside in omega (arith, long) }
-
-      is_other_place : (j : ℕ) (u : Use L) → PutAt (length bytes0) (length bytes) u (slice_get uses j) → j ≢ i
-      is_other_place j u q same = differs test clears (slice_get uses j) e.1 u q.at waits (ap (slice_get uses) same ∙ there) q.is
-
-      -- what stood at first at the place of the turn
-      origin : (j : ℕ) (u : Use L) → slice_get uses0 j ≡ Some u → test u ≡ true → j ≡ i → e.1 ≡ u
-      origin j u h t same = ⊎_elim (λ still. here j u same still) (λ q. absurd (is_other_place j u q same)) (p.done j u h t)
-
-      order : (j k : ℕ) (u w : Use L) (a b : ℕ) → slice_get uses0 j ≡ Some u → slice_get uses0 k ≡ Some w → test u ≡ true → test w ≡ true → is_sooner forward u w ≡ true → slice_get new_uses j ≡ Some (record u { veneer = Some a }) → slice_get new_uses k ≡ Some (record w { veneer = Some b }) →
-          ((j ≡ i) ⊎ (j ≢ i)) → ((k ≡ i) ⊎ (k ≢ i)) → a < b
-      order j k u w a b hj hk tu tw s pj pk (inl ji) (inl ki) =
-          let eu1 = origin j u hj tu ji in
-          let ew1 = origin k w hk tw ki in
-          absurd (true≢false (sym s ∙ ap (λ (x : Use L). is_sooner forward u x) (sym ew1 ∙ eu1) ∙ not_before_itself forward u))
-      order j k u w a b hj hk tu tw s pj pk (inl ji) (inr ki) =
-          absurd (true≢false (sym s ∙ p.later k j w u b hk hj tw tu (sym (other k ki) ∙ pk) (ap (slice_get uses) ji ∙ there ∙ ap Some (origin j u hj tu ji))))
-      order j k u w a b hj hk tu tw s pj pk (inr ji) (inl ki) =
-          let last : length bytes ≡ b = same_place e.1 w (length bytes) b (sym (at_i k ki) ∙ pk) in
-          ⊎_elim (λ still. absurd (differs test clears (slice_get uses j) u u a tu still (sym (other j ji) ∙ pj)))
-          (λ q. let first : q.at ≡ a = same_place u u q.at a (sym q.is ∙ sym (other j ji) ∙ pj) in let le = q.inside in omega arith) (p.done j u hj tu)
-      order j k u w a b hj hk tu tw s pj pk (inr ji) (inr ki) = p.ordered j k u w a b hj hk tu tw s (sym (other j ji) ∙ pj) (sym (other k ki) ∙ pk)
-
--- the same parts
-pub putting_as : {L : Type 0} {fields : L → List ℕ} {has_veneer : L → Bool} {forward : L → ℕ} {veneer : L → Veneer L} {test : Use L → Bool} {bytes0 : List ℕ} {uses0 : List (Use L)} {veneers0 : List (VeneerUse L)} {bytes new_bytes : List ℕ} {uses new_uses : List (Use L)} {veneers new_veneers : List (VeneerUse L)} {turns new_turns : List (Turn × Use L)} →
-    Putting fields has_veneer forward veneer test bytes0 uses0 veneers0 bytes uses veneers turns → new_bytes ≡ bytes → new_uses ≡ uses → new_veneers ≡ veneers → new_turns ≡ turns → Putting fields has_veneer forward veneer test bytes0 uses0 veneers0 new_bytes new_uses new_veneers new_turns
-putting_as p eb eu ev et = rw (eb, eu, ev, et) p
-
--- the use of the first turn is there
-pub putting_turn : {L : Type 0} {fields : L → List ℕ} {has_veneer : L → Bool} {forward : L → ℕ} {veneer : L → Veneer L} {test : Use L → Bool} {bytes0 : List ℕ} {uses0 : List (Use L)} {veneers0 : List (VeneerUse L)} {bytes : List ℕ} {uses : List (Use L)} {veneers : List (VeneerUse L)} {turns rest : List (Turn × Use L)} {e : Turn × Use L} →
-    Putting fields has_veneer forward veneer test bytes0 uses0 veneers0 bytes uses veneers turns → turns ≡ e ∷ rest → test e.1 ≡ true → IsTurn forward uses e.0 e.1
-putting_turn {L} {fields} {has_veneer} {forward} {veneer} {test} {bytes0} {uses0} {veneers0} {bytes} {uses} {veneers} {turns} {rest} {e} p et waits = (subst (λ ts. HaveTurns forward test ts uses) et p.waits).each 0 e refl waits
-
-pub is_some : {X : Type 0} (o : Option X) (P : X → Type 0) (x : X) → o ≡ Some x → P x → IsSomeAnd o P
-is_some o P x e h = subst (λ z. IsSomeAnd z P) (sym e) h
+pub all_put : {L : Type 0} {kinds : Kinds L} → HasLaw kinds → (order : List ℕ) (s : Shape L) → IsLinked kinds s.bytes s.uses → length s.bytes % 2 ≡ 0 → CanPut kinds s.uses (length s.bytes) order → AllPut kinds order s (put_all kinds order s)
+all_put law [] s linked even can = all_put_none s linked even
+all_put {L} {kinds} law (i ∷ order) s linked even can =
+    let c = can.0 in
+    let m = put_at kinds i (Some c.user) s in
+    let long : length m.bytes ≡ length s.bytes + 8 = length-append s.bytes (kinds.veneer c.user.kind).bytes ∙ ap (λ n. length s.bytes + n) (law c.user.kind c.supported).eight in
+    let still = can_still kinds s.uses i (record c.user { veneer = Some (length s.bytes) }) (veneer_use (kinds.veneer c.user.kind) (length s.bytes) c.user.label) (length s.bytes + 8) order can.1 can.2 in
+    let rest = all_put law order m (linked_veneer law linked i c.user c.there c.near c.supported even) (omega (arith, long, even)) (subst (λ (n : ℕ). CanPut kinds m.uses n order) (sym long) still) in
+    subst (λ (x : Shape L). AllPut kinds (i ∷ order) s (put_all kinds order x)) (sym (put_is kinds i s c.user c.there)) (all_put_next law i order s (put_all kinds order m) c.user c.there c.supported linked even rest)

@@ -1,59 +1,46 @@
--- A block of code with uses, as it is put and as it stands once it is patched; and how a buffer grows.
-use Rattle.std.specs.Prelude.{◌≡◌, ℕ, ◌+◌, ◌%◌, ◌<◌, ◌≤◌, ◌⊎◌, List, ◌++◌, length, take, Option, Some, slice_get, ℤ, pos, ◌-ℤ◌}
-use Rattle.rv_base.specs.LabelUse.{Veneer, SameOutside}
+-- A block of code with uses, as it is put and as it stands once it is patched.
+use Rattle.std.specs.Prelude.{◌≡◌, ℕ, ◌+◌, ◌%◌, ◌<◌, ◌≤◌, ◌⊎◌, List, length, Option, Some, slice_get, pos, ◌-ℤ◌}
+use Rattle.rv_base.specs.LabelUse.{Kinds, SameOutside}
 use Rattle.mach_buffer.specs.declared.uses.Use.{Use}
-use Rattle.mach_buffer.specs.declared.uses.VeneerUse.{VeneerUse}
 use Rattle.mach_buffer.specs.Windows.{window, IsApart}
-use Rattle.mach_buffer.specs.Buffer.{core, recorded}
-use Rattle.mach_buffer.specs.Islands.{VeneersBehind}
+use Rattle.mach_buffer.specs.Shape.{core, recorded}
 use Rattle.mach_buffer.specs.Finish.{IsVia}
 
 -- in the parts of a buffer a block stands at an offset, with its own uses among those recorded; the windows of all other
--- uses and all veneers stand before or behind it
-pub record BlockStands {L : Type 0} (fields : L → List ℕ) (bytes : List ℕ) (uses : List (Use L)) (veneers : List (VeneerUse L)) (start : ℕ) (block : List ℕ) (own : List (Use L)) : Type 0 where
+-- uses stand before or after it
+pub record BlockStands {L : Type 0} (kinds : Kinds L) (bytes : List ℕ) (uses : List (Use L)) (start : ℕ) (block : List ℕ) (own : List (Use L)) : Type 0 where
   pub within : start + length block ≤ length bytes
   pub stands : window bytes start (length block) ≡ block
   pub first : ℕ
   pub low : first ≤ length (recorded uses)
   pub own_uses : (k : ℕ) (u : Use L) → slice_get own k ≡ Some u → slice_get (recorded uses) (first + k) ≡ Some (core u)
-  pub before : (j : ℕ) (u : Use L) → slice_get (recorded uses) j ≡ Some u → j < first → u.offset + length (fields u.kind) ≤ start
+  pub before : (j : ℕ) (u : Use L) → slice_get (recorded uses) j ≡ Some u → j < first → u.offset + length (kinds.fields u.kind) ≤ start
   pub behind : (j : ℕ) (u : Use L) → slice_get (recorded uses) j ≡ Some u → first + length own ≤ j → start + length block ≤ u.offset
-  pub apart : (k : ℕ) (w : VeneerUse L) → slice_get veneers k ≡ Some w → (w.at + 8 ≤ start) ⊎ (start + length block ≤ w.at)
 
 -- the windows of these uses stand in a block
-abbrev pub AllInside : {L : Type 0} → (L → List ℕ) → ℕ → ℕ → List (Use L) → Type 0
-AllInside {L} fields start long own = (k : ℕ) (u : Use L) → slice_get own k ≡ Some u → (start ≤ u.offset) × (u.offset + length (fields u.kind) ≤ start + long)
-
--- what a buffer has stays as it grows, and what is added stands behind it
-pub record Grows {L : Type 0} (bytes : List ℕ) (uses : List (Use L)) (veneers : List (VeneerUse L)) (place : ℕ → Option ℕ) (new_bytes : List ℕ) (new_uses : List (Use L)) (new_veneers : List (VeneerUse L)) (new_place : ℕ → Option ℕ) : Type 0 where
-  pub before : take (length bytes) new_bytes ≡ bytes
-  pub longer : length bytes ≤ length new_bytes
-  pub more : List (Use L)
-  pub grown : recorded new_uses ≡ recorded uses ++ more
-  pub behind : (k : ℕ) (u : Use L) → slice_get more k ≡ Some u → length bytes ≤ u.offset
-  pub added : VeneersBehind (length bytes) veneers new_veneers
-  pub places : (label to : ℕ) → place label ≡ Some to → new_place label ≡ Some to
+abbrev pub AllInside : {L : Type 0} → Kinds L → ℕ → ℕ → List (Use L) → Type 0
+AllInside {L} kinds start long own = (k : ℕ) (u : Use L) → slice_get own k ≡ Some u → (start ≤ u.offset) × (u.offset + length (kinds.fields u.kind) ≤ start + long)
 
 -- a use goes by a veneer that stands at `at`, to where its label stands
-pub record GoesBy {L : Type 0} (aims : L → List ℕ → ℤ → Type 0) (fields : L → List ℕ) (veneer : L → Veneer L) (bytes : List ℕ) (place : ℕ → Option ℕ) (u : Use L) (at : ℕ) : Type 0 where
+pub record GoesBy {L : Type 0} (kinds : Kinds L) (bytes : List ℕ) (place : ℕ → Option ℕ) (u : Use L) (at : ℕ) : Type 0 where
   pub to : ℕ
   pub bound : place u.label.number ≡ Some to
-  pub via : IsVia aims fields (veneer u.kind) bytes u to
+  pub via : IsVia kinds (kinds.veneer u.kind) bytes u to
   pub here : via.at ≡ at
 
 -- one use of a patched block: its window aims at a target, which is its label's place or a veneer that goes there, and
 -- keeps its bits outside the fields
-pub record UsePatched {L : Type 0} (aims : L → List ℕ → ℤ → Type 0) (fields : L → List ℕ) (veneer : L → Veneer L) (place : ℕ → Option ℕ) (old new : List ℕ) (u : Use L) : Type 0 where
+pub record UsePatched {L : Type 0} (kinds : Kinds L) (place : ℕ → Option ℕ) (old new : List ℕ) (u : Use L) : Type 0 where
   pub target : ℕ
-  pub aimed : aims u.kind (window new u.offset (length (fields u.kind))) (pos target -ℤ pos u.offset)
-  pub kept : SameOutside (fields u.kind) (window old u.offset (length (fields u.kind))) (window new u.offset (length (fields u.kind)))
+  pub aimed : kinds.aims u.kind (window new u.offset (length (kinds.fields u.kind))) (pos target -ℤ pos u.offset)
+  pub kept : SameOutside (kinds.fields u.kind) (window old u.offset (length (kinds.fields u.kind))) (window new u.offset (length (kinds.fields u.kind)))
   pub even : target % 2 ≡ 0
   pub inside : target ≤ length new
-  pub goes : (place u.label.number ≡ Some target) ⊎ GoesBy aims fields veneer new place u target
+  pub goes : (place u.label.number ≡ Some target) ⊎ GoesBy kinds new place u target
 
 -- a block once it is patched: each of its own uses aims where it should, and every piece apart from their windows is as it
 -- was put
-pub record IsPatched {L : Type 0} (aims : L → List ℕ → ℤ → Type 0) (fields : L → List ℕ) (veneer : L → Veneer L) (place : ℕ → Option ℕ) (old new : List ℕ) (start long : ℕ) (own : List (Use L)) : Type 0 where
+pub record IsPatched {L : Type 0} (kinds : Kinds L) (place : ℕ → Option ℕ) (old new : List ℕ) (start long : ℕ) (own : List (Use L)) : Type 0 where
   pub longer : length old ≤ length new
-  pub each : (k : ℕ) (u : Use L) → slice_get own k ≡ Some u → UsePatched aims fields veneer place old new u
-  pub others : (p m : ℕ) → start ≤ p → p + m ≤ start + long → ((k : ℕ) (u : Use L) → slice_get own k ≡ Some u → IsApart p m u.offset (length (fields u.kind))) → window new p m ≡ window old p m
+  pub each : (k : ℕ) (u : Use L) → slice_get own k ≡ Some u → UsePatched kinds place old new u
+  pub others : (p m : ℕ) → start ≤ p → p + m ≤ start + long → ((k : ℕ) (u : Use L) → slice_get own k ≡ Some u → IsApart p m u.offset (length (kinds.fields u.kind))) → window new p m ≡ window old p m

@@ -2,7 +2,11 @@
 #![tactic(auto)]
 
 pub mod buffer;
+mod code;
 pub mod finish;
-pub mod islands;
-pub mod patches;
+mod islands;
+mod labels;
+mod patches;
+mod pending;
+mod reach;
 pub mod uses;

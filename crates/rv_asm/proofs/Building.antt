@@ -7,13 +7,11 @@ use Rattle.std.proofs.lemmas.Option.{same_Some}
 use Rattle.rv_inst.specs.declared.inst.Line.{Line}
 use Rattle.rv_inst.specs.declared.code.LineSpan.{LineSpan}
 use Rattle.rv_inst.specs.declared.label_use.LabelUse.{LabelUse}
-use Rattle.rv_inst.specs.LabelUse.{marks_of}
+use Rattle.rv_inst.specs.LabelUse.{label_kinds}
 use Rattle.mach_buffer.specs.declared.uses.Use.{Use}
-use Rattle.mach_buffer.specs.declared.uses.VeneerUse.{VeneerUse}
-use Rattle.mach_buffer.specs.Buffer.{bytes_of, uses_of, veneers_of}
-use Rattle.mach_buffer.specs.Islands.{AreWindows}
-use Rattle.mach_buffer.proofs.Blocks.{locate, windows_none}
-use Rattle.mach_buffer.proofs.Links.{below}
+use Rattle.mach_buffer.specs.Buffer.{bytes_of, uses_of}
+use Rattle.mach_buffer.specs.Windows.{AreWindows}
+use Rattle.mach_buffer.proofs.Laws.{locate, windows_none, below}
 use Rattle.rv_emit.specs.Emitted.{Buffer, IsSoundBuffer}
 use Rattle.rv_asm.specs.Told.{start_of, end_of}
 use Rattle.rv_asm.specs.Told.{end_before}
@@ -34,9 +32,9 @@ built_none b eb eu ev s =
       nothing = λ e. eu;
       aligned = λ i lt. absurd (omega arith);
       whole = ap (λ n. n % 4) none;
-      windows = subst (λ (bs : List ℕ). AreWindows marks_of bs (uses_of b) (veneers_of b)) (sym eb)
-          (subst (λ (us : List (Use LabelUse)). AreWindows marks_of [] us (veneers_of b)) (sym eu)
-          (subst (λ (vs : List (VeneerUse LabelUse)). AreWindows marks_of [] [] vs) (sym ev) windows_none));
+      windows = subst (λ (bs : List ℕ). AreWindows label_kinds bs (uses_of b)) (sym eb)
+          (subst (λ (us : List (Use LabelUse)). AreWindows label_kinds [] us) (sym eu)
+          (subst (λ (vs : List (VeneerUse LabelUse)). AreWindows label_kinds [] [] vs) (sym ev) windows_none));
       sound = s;
     }
 

@@ -7,11 +7,10 @@ use Rattle.rv_inst.specs.declared.code.LineSpan.{LineSpan}
 use Rattle.rv_inst.specs.declared.inst.Line.{Line}
 use Rattle.rv_inst.specs.declared.inst.Line.TheVariants.{Bind}
 use Rattle.rv_inst.specs.Fields.{named_labels}
-use Rattle.rv_inst.specs.LabelUse.{Aims, marks_of, forward_of, backward_of, has_veneer_of, veneer_of}
+use Rattle.rv_inst.specs.LabelUse.{label_kinds}
 use Rattle.mach_buffer.specs.Buffer.{bytes_of, place_of}
 use Rattle.mach_buffer.specs.Finish.{before_last, CanFinish, Finishes}
-use Rattle.mach_buffer.proofs.Ends.{last_near}
-use Rattle.mach_buffer.proofs.Slack.{slack_from_reach, reaches_from_slack}
+use Rattle.mach_buffer.proofs.Laws.{last_near, slack_from_reach, reaches_from_slack}
 use Rattle.rv_emit.specs.Emitted.{Buffer, pending}
 use Rattle.rv_asm.specs.Refusal.{is_bound, size_sum}
 use Rattle.rv_asm.specs.Built.{IsNamed, Built, Named, Sized}
@@ -32,7 +31,7 @@ named_place : (lines : List Line) (spans : List LineSpan) (b : Buffer) (number :
 named_place lines spans b number built all n =
     ap (λ m. is_some (place_of b m)) (sym n.is) ∙ bound_place lines spans b n.label.number built (all n.index n.line n.there n.place n.label n.names)
 
-pub can_finish : (lines : List Line) (spans : List LineSpan) (b : Buffer) → Built lines spans b → Named lines spans b → Sized lines b → size_sum lines ≤ 2 ^ 30 → AllBound lines → CanFinish marks_of has_veneer_of forward_of backward_of veneer_of b
+pub can_finish : (lines : List Line) (spans : List LineSpan) (b : Buffer) → Built lines spans b → Named lines spans b → Sized lines b → size_sum lines ≤ 2 ^ 30 → AllBound lines → CanFinish label_kinds b
 can_finish lines spans b built n s sum all =
     let near : length (before_last (bytes_of b) (length (pending b))) ≤ length (bytes_of b) + 3 = last_near (bytes_of b) (length (pending b)) in
     let size = s.size in
@@ -46,7 +45,7 @@ can_finish lines spans b built n s sum all =
     }
 
 -- and the code is at most 16 bytes longer than its lines count for
-pub finished_short : (lines : List Line) (b : Buffer) (bytes : List ℕ) → Sized lines b → Finishes Aims marks_of has_veneer_of forward_of backward_of veneer_of b bytes → length bytes ≤ size_sum lines + 16
+pub finished_short : (lines : List Line) (b : Buffer) (bytes : List ℕ) → Sized lines b → Finishes label_kinds b bytes → length bytes ≤ size_sum lines + 16
 finished_short lines b bytes s f =
     let near : length (before_last (bytes_of b) (length (pending b))) ≤ length (bytes_of b) + 3 = last_near (bytes_of b) (length (pending b)) in
     let put : length f.old ≡ length (before_last (bytes_of b) (length (pending b))) + 8 * length (pending b) = f.put.long in

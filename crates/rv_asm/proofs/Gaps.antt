@@ -10,13 +10,13 @@ use Rattle.rv_inst.specs.declared.job.Job.{Job}
 use Rattle.rv_inst.specs.declared.code.Code.{Code}
 use Rattle.rv_inst.specs.declared.label_use.LabelUse.{LabelUse}
 use Rattle.rv_inst.specs.declared.label_use.LabelUse.TheVariants.{Jal20}
-use Rattle.rv_inst.specs.LabelUse.{Aims, marks_of, forward_of, backward_of, has_veneer_of, veneer_of}
+use Rattle.rv_inst.specs.LabelUse.{label_kinds}
 use Rattle.rv_inst.specs.LabelUseWords.{word_bytes}
 use Rattle.mach_buffer.specs.declared.uses.Use.{Use}
-use Rattle.mach_buffer.specs.Buffer.{bytes_of, uses_of, veneers_of, place_of}
+use Rattle.mach_buffer.specs.Buffer.{bytes_of, uses_of, place_of}
 use Rattle.mach_buffer.specs.Blocks.{BlockStands, AllInside, GoesBy}
 use Rattle.mach_buffer.specs.Finish.{CanFinish, Finishes}
-use Rattle.mach_buffer.proofs.Patched.{block_patched}
+use Rattle.mach_buffer.proofs.Laws.{block_patched}
 use Rattle.rv_emit.specs.Rows.{between, blank, jump_row, rows_of}
 use Rattle.rv_inst.specs.Same.{Same}
 use Rattle.rv_emit.specs.Runs.{Ends}
@@ -36,12 +36,12 @@ use Rattle.rv_asm.proofs.Targets.{IsDone, targets_of, targets_lead, leads_here, 
 -- a buffer of lines that was finished to code
 pub record Finished (job : Job) (code : Code) (b : Buffer) : Type 0 where
   pub built : Built job.lines code.lines b
-  pub can : CanFinish marks_of has_veneer_of forward_of backward_of veneer_of b
-  pub finishes : Finishes Aims marks_of has_veneer_of forward_of backward_of veneer_of b code.bytes
+  pub can : CanFinish label_kinds b
+  pub finishes : Finishes label_kinds b code.bytes
   pub small : length code.bytes < 2 ^ 31
 
 -- a block of the buffer is patched in the code
-pub block_done : (job : Job) (code : Code) (b : Buffer) (start : ℕ) (block : List ℕ) (own : List (Use LabelUse)) → Finished job code b → BlockStands marks_of (bytes_of b) (uses_of b) (veneers_of b) start block own → AllInside marks_of start (length block) own → IsDone (place_of b) (bytes_of b) code.bytes start block own
+pub block_done : (job : Job) (code : Code) (b : Buffer) (start : ℕ) (block : List ℕ) (own : List (Use LabelUse)) → Finished job code b → BlockStands label_kinds (bytes_of b) (uses_of b) start block own → AllInside label_kinds start (length block) own → IsDone (place_of b) (bytes_of b) code.bytes start block own
 block_done job code b start block own f stands inside = block_patched is_veneer f.can f.finishes stands inside
 
 -- one offset leads to another, and that one on

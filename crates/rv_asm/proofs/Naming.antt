@@ -17,9 +17,9 @@ use Rattle.rv_inst.specs.Rules.{broken_rule}
 use Rattle.rv_inst.specs.Fields.{inst_labels}
 use Rattle.rv_inst.specs.LabelUse.{has_veneer_of}
 use Rattle.mach_buffer.specs.declared.uses.Use.{Use}
-use Rattle.mach_buffer.specs.Buffer.{bytes_of, uses_of, place_of, labels_of, recorded, core, listed}
-use Rattle.mach_buffer.proofs.Apart.{both_lists, comes_from}
-use Rattle.mach_buffer.proofs.Links.{slice_get-append, slice_get-append_last, append_each, recorded_get}
+use Rattle.mach_buffer.specs.Buffer.{bytes_of, uses_of, place_of, labels_of}
+use Rattle.mach_buffer.specs.Shape.{recorded, core, listed}
+use Rattle.mach_buffer.proofs.Laws.{both_lists, comes_from, slice_get-append, slice_get-append_last, append_each, recorded_get}
 use Rattle.rv_emit.specs.Emitted.{Buffer, PutsBlock, PutsIsland, MakesRoom, Emitted}
 use Rattle.rv_inst.specs.Uses.{use_at, uses_in}
 use Rattle.rv_emit.proofs.Laws.{Each, each_none, each_more, uses_kinds}

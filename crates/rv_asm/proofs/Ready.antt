@@ -2,7 +2,7 @@
 use Rattle.std.proofs.Common.{◌≡◌, None, ◌∙◌, arith}
 use Rattle.rv_inst.specs.declared.job.Job.{Job}
 use Rattle.rv_inst.specs.declared.code.Code.{Code}
-use Rattle.mach_buffer.proofs.Patched.{old_kept}
+use Rattle.mach_buffer.proofs.Laws.{old_kept}
 use Rattle.rv_asm.specs.Refusal.{refusal}
 use Rattle.rv_asm.specs.Told.{Told}
 use Rattle.rv_asm.specs.Simulation.{RunsAsListed}

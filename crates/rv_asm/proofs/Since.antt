@@ -10,13 +10,12 @@ use Rattle.rv_inst.specs.declared.inst.Inst.TheVariants.{EmitIsland}
 use Rattle.rv_inst.specs.declared.inst.Line.{Line}
 use Rattle.rv_inst.specs.declared.inst.Line.TheVariants.{Inst as Put, Bind}
 use Rattle.rv_inst.specs.declared.label_use.LabelUse.{LabelUse}
-use Rattle.rv_inst.specs.LabelUse.{forward_of, backward_of, has_veneer_of}
+use Rattle.rv_inst.specs.LabelUse.{label_kinds}
 use Rattle.rv_inst.specs.Rules.{broken_rule}
 use Rattle.mach_buffer.specs.declared.uses.Use.{Use}
 use Rattle.mach_buffer.specs.Buffer.{bytes_of, uses_of, place_of}
-use Rattle.mach_buffer.specs.Targets.{or_place}
-use Rattle.mach_buffer.proofs.Links.{append_each}
-use Rattle.mach_buffer.proofs.Slack.{none_waits, bound_waits}
+use Rattle.mach_buffer.specs.Windows.{or_place}
+use Rattle.mach_buffer.proofs.Laws.{append_each, none_waits, bound_waits}
 use Rattle.rv_emit.specs.Emitted.{Buffer, PutsBlock, PutsIsland, MakesRoom, Emitted}
 use Rattle.rv_inst.specs.Uses.{uses_in}
 use Rattle.rv_emit.proofs.Laws.{waits}
@@ -42,7 +41,7 @@ ends_island : (old new : Buffer) → PutsIsland old new → EndsIn [] new
 ends_island old new p = record {
   before = uses_of new;
   whole = sym (append-nil (uses_of new));
-  idle = none_waits (waits (place_of new)) forward_of (uses_of new) p.settled;
+  idle = none_waits (waits (place_of new)) label_kinds (uses_of new) p.settled;
 }
 
 ends_block : (inst : Inst) (old new : Buffer) (uses : List (Use LabelUse)) → PutsBlock inst old new → EndsIn uses old → EndsIn (uses ++ uses_in (length (bytes_of old)) inst) new
@@ -64,7 +63,7 @@ ends_bind label old new span uses p e = record {
   where
     on : (u : Use LabelUse) (c : Bool) → waits (place_of new) u ≡ c → waits (place_of old) u ≡ false → c ≡ false
     on u false h before = refl
-    on u true h before = absurd (true≢false (sym (bound_waits has_veneer_of forward_of backward_of (place_of old) (place_of new) label.number p.unbound p.kept u h) ∙ before))
+    on u true h before = absurd (true≢false (sym (bound_waits label_kinds (place_of old) (place_of new) label.number p.unbound p.kept u h) ∙ before))
 
 -- an instruction: it is an island, or its uses are added
 emitted_ends : (inst : Inst) (mid new : Buffer) (start end : ℕ) (uses : List (Use LabelUse)) → start ≡ length (bytes_of mid) → end ≡ length (bytes_of new) → Emitted inst mid new → EndsIn uses mid →

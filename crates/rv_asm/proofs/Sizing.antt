@@ -6,11 +6,11 @@ use Rattle.rv_inst.specs.declared.inst.Inst.{Inst}
 use Rattle.rv_inst.specs.declared.inst.Inst.TheVariants.{EmitIsland}
 use Rattle.rv_inst.specs.declared.inst.Line.{Line}
 use Rattle.rv_inst.specs.declared.inst.Line.TheVariants.{Inst as Put, Bind}
-use Rattle.rv_inst.specs.LabelUse.{forward_of}
+use Rattle.rv_inst.specs.LabelUse.{label_kinds}
 use Rattle.rv_inst.specs.Rules.{inst_rule}
 use Rattle.mach_buffer.specs.Reach.{CanReach, HasSlack, deadlines, due_by}
 use Rattle.mach_buffer.specs.Buffer.{bytes_of, uses_of, place_of, drawn_of}
-use Rattle.mach_buffer.proofs.Slack.{slack_same, slack_from_reach, reach_from_slack, total, due_total}
+use Rattle.mach_buffer.proofs.Laws.{slack_same, slack_from_reach, reach_from_slack, total, due_total}
 use Rattle.rv_emit.specs.Emitted.{Buffer, IsSoundBuffer, pending, PutsBlock, PutsIsland, MakesRoom, CanEmit, Emitted}
 use Rattle.rv_inst.specs.Sizes.{inst_sum}
 use Rattle.rv_emit.proofs.Laws.{waits, bytes_after, pending_after, calm_after}
@@ -92,7 +92,7 @@ emitted_uses inst old new e = block_uses inst old new e
 
 pub sized_none : (b : Buffer) → bytes_of b ≡ [] → uses_of b ≡ [] → drawn_of b ≡ 0 → Sized [] b
 sized_none b bytes uses drawn =
-    let none : pending b ≡ [] = ap (deadlines (waits (place_of b)) forward_of) uses in
+    let none : pending b ≡ [] = ap (deadlines (waits (place_of b)) label_kinds) uses in
     let waiting : length (pending b) ≡ 0 = ap length none in
     let long : length (bytes_of b) ≡ 0 = ap length bytes in
     record { reach = subst (CanReach (length (bytes_of b))) (sym none) tt; size = omega arith; drawn = omega arith }

@@ -8,7 +8,7 @@ use Rattle.rv_base.specs.declared.flags.IsaFlags.{IsaFlags}
 use Rattle.rv_machine.specs.State.{wrap}
 use Rattle.rv_inst.specs.declared.code.Code.{Code}
 use Rattle.rv_inst.specs.declared.label_use.LabelUse.{LabelUse}
-use Rattle.rv_inst.specs.LabelUse.{Aims, marks_of, forward_of, backward_of, has_veneer_of, veneer_of}
+use Rattle.rv_inst.specs.LabelUse.{label_kinds, marks_of, has_veneer_of, veneer_of}
 use Rattle.mach_buffer.specs.declared.uses.Use.{Use}
 use Rattle.mach_buffer.specs.Windows.{window}
 use Rattle.mach_buffer.specs.Blocks.{AllInside, GoesBy, UsePatched, IsPatched}
@@ -38,13 +38,13 @@ leads_here flags code from to e = record {
 
 -- a use of a patched block
 abbrev pub IsUsed : (ℕ → Option ℕ) → List ℕ → List ℕ → Use LabelUse → Type 0
-IsUsed place old new u = UsePatched Aims marks_of veneer_of place old new u
+IsUsed place old new u = UsePatched label_kinds place old new u
 
 -- what it aims at leads to its label's place
 pub use_leads : (flags : IsaFlags) (code : Code) (place : ℕ → Option ℕ) (old : List ℕ) (u : Use LabelUse) (to : ℕ) (p : IsUsed place old code.bytes u) → place u.label.number ≡ Some to → to % 2 ≡ 0 → LeadsTo flags code p.target to
 use_leads flags code place old u to p e even = ⊎_elim (λ here. leads_here flags code p.target to (same_Some p.target to (sym here ∙ e))) (λ g. by g) p.goes
   where
-    by : GoesBy Aims marks_of veneer_of code.bytes place u p.target → LeadsTo flags code p.target to
+    by : GoesBy label_kinds code.bytes place u p.target → LeadsTo flags code p.target to
     by g =
         let same : g.to ≡ to = same_Some g.to to (sym g.bound ∙ e) in
         subst (λ n. LeadsTo flags code n to) g.here
@@ -64,7 +64,7 @@ target_leads flags code place old (Some x) f u to h e even = use_leads flags cod
 
 -- a block that is patched in the code
 abbrev pub IsDone : (ℕ → Option ℕ) → List ℕ → List ℕ → ℕ → List ℕ → List (Use LabelUse) → Type 0
-IsDone place old new start block own = IsPatched Aims marks_of veneer_of place old new start (length block) own
+IsDone place old new start block own = IsPatched label_kinds place old new start (length block) own
 
 -- the targets of its uses
 abbrev pub targets_of : (place : ℕ → Option ℕ) (old new : List ℕ) (start : ℕ) (block : List ℕ) (own : List (Use LabelUse)) → IsDone place old new start block own → ℕ → ℕ
@@ -98,7 +98,7 @@ uses_inside start (w ∷ words) (x ∷ own) h (suc k) u e =
     (omega arith, omega arith)
 
 -- each use of a patched block aims at its target, and all else of the block is as it was put
-pub patched_to : (place : ℕ → Option ℕ) (old new : List ℕ) (start : ℕ) (block : List ℕ) (own : List (Use LabelUse)) (p : IsDone place old new start block own) → start + length block ≤ length old → window old start (length block) ≡ block → AllInside marks_of start (length block) own →
+pub patched_to : (place : ℕ → Option ℕ) (old new : List ℕ) (start : ℕ) (block : List ℕ) (own : List (Use LabelUse)) (p : IsDone place old new start block own) → start + length block ≤ length old → window old start (length block) ≡ block → AllInside label_kinds start (length block) own →
     IsPatchedTo (targets_of place old new start block own p) start block own new
 patched_to place old new start block own p within stands inside = record {
   within = let l = p.longer in omega arith;
@@ -128,7 +128,7 @@ patched_to place old new start block own p within stands inside = record {
         (aimed x (f x refl) (subst (λ (y : Use LabelUse). (start ≤ y.offset) × (y.offset + length (marks_of y.kind) ≤ start + length block)) (sym same) i))
 
 -- each kind's veneer is one
-pub is_veneer : (kind : LabelUse) → has_veneer_of kind ≡ true → IsVeneer marks_of forward_of backward_of has_veneer_of (veneer_of kind)
+pub is_veneer : (kind : LabelUse) → has_veneer_of kind ≡ true → IsVeneer label_kinds (veneer_of kind)
 is_veneer kind h = record {
   eight = refl;
   place_even = refl;

@@ -8,9 +8,9 @@ use Rattle.rv_inst.specs.declared.inst.Line.{Line}
 use Rattle.rv_inst.specs.declared.inst.Line.TheVariants.{Inst as Put, Bind}
 use Rattle.rv_inst.specs.declared.code.Code.{Code}
 use Rattle.rv_inst.specs.declared.code.LineSpan.{LineSpan}
-use Rattle.rv_inst.specs.LabelUse.{Aims, marks_of, has_veneer_of, forward_of, backward_of, veneer_of}
+use Rattle.rv_inst.specs.LabelUse.{label_kinds}
 use Rattle.mach_buffer.specs.Finish.{CanFinish, Finishes}
-use Rattle.mach_buffer.specs.Buffer.{bytes_of, uses_of, veneers_of, place_of, labels_of, drawn_of}
+use Rattle.mach_buffer.specs.Buffer.{bytes_of, uses_of, place_of, labels_of, drawn_of}
 use Rattle.rv_emit.specs.Emitted.{Buffer, IsSoundBuffer}
 use Rattle.rv_asm.specs.Refusal.{binds, is_bound, size_sum, refusal}
 use Rattle.rv_inst.specs.Sizes.{line_sum}
@@ -170,19 +170,19 @@ at_end lines n spans b le s =
     }
 
 -- after the last, the buffer can be finished
-pub ready : (lines : List Line) (n : ℕ) (spans : List LineSpan) (b : Buffer) → refusal lines ≡ None → length lines ≤ n → SoFar lines n spans b → CanFinish marks_of has_veneer_of forward_of backward_of veneer_of b
+pub ready : (lines : List Line) (n : ℕ) (spans : List LineSpan) (b : Buffer) → refusal lines ≡ None → length lines ≤ n → SoFar lines n spans b → CanFinish label_kinds b
 ready lines n spans b e le s =
     let all = at_end lines n spans b le s in
     can_finish lines spans b all.built all.named all.sized (sum_small lines e) (named_is_bound lines e)
 
 -- and then it is finished
-pub finished : (lines : List Line) (n : ℕ) (code : Code) (b : Buffer) → refusal lines ≡ None → length lines ≤ n → SoFar lines n code.lines b → Finishes Aims marks_of has_veneer_of forward_of backward_of veneer_of b code.bytes → code.labels ≡ labels_of b → code.end ≡ length (bytes_of b) → IsFinished lines code
+pub finished : (lines : List Line) (n : ℕ) (code : Code) (b : Buffer) → refusal lines ≡ None → length lines ≤ n → SoFar lines n code.lines b → Finishes label_kinds b code.bytes → code.labels ≡ labels_of b → code.end ≡ length (bytes_of b) → IsFinished lines code
 finished lines n code b e le s f labels end =
     let all = at_end lines n code.lines b le s in
     record { sink = b; built = all.built; named = all.named; sized = all.sized; early = all.early; reach = all.reach; ready = ready lines n code.lines b e le s; finished = f; labels = labels; end = end }
 
 -- the code is short
-pub code_short : (lines : List Line) (n : ℕ) (spans : List LineSpan) (b : Buffer) (bytes : List ℕ) → refusal lines ≡ None → length lines ≤ n → SoFar lines n spans b → Finishes Aims marks_of has_veneer_of forward_of backward_of veneer_of b bytes → length bytes < 2 ^ 32
+pub code_short : (lines : List Line) (n : ℕ) (spans : List LineSpan) (b : Buffer) (bytes : List ℕ) → refusal lines ≡ None → length lines ≤ n → SoFar lines n spans b → Finishes label_kinds b bytes → length bytes < 2 ^ 32
 code_short lines n spans b bytes e le s f =
     let short = finished_short lines b bytes (at_end lines n spans b le s).sized f in
     let small = sum_small lines e in

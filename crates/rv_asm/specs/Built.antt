@@ -11,11 +11,12 @@ use Rattle.rv_inst.specs.declared.label_use.LabelUse.{LabelUse}
 use Rattle.rv_inst.specs.declared.label_use.LabelUse.TheVariants.{Jal20}
 use Rattle.rv_inst.specs.Fields.{named_labels}
 use Rattle.rv_inst.specs.Rules.{broken_rule}
-use Rattle.rv_inst.specs.LabelUse.{marks_of, has_veneer_of}
+use Rattle.rv_inst.specs.LabelUse.{label_kinds, has_veneer_of}
 use Rattle.rv_inst.specs.LabelUseWords.{word_bytes}
 use Rattle.mach_buffer.specs.declared.uses.Use.{Use}
 use Rattle.mach_buffer.specs.Reach.{CanReach, due_by}
-use Rattle.mach_buffer.specs.Buffer.{bytes_of, uses_of, veneers_of, place_of, labels_of, drawn_of, listed}
+use Rattle.mach_buffer.specs.Buffer.{bytes_of, uses_of, place_of, labels_of, drawn_of}
+use Rattle.mach_buffer.specs.Shape.{listed}
 use Rattle.mach_buffer.specs.Blocks.{BlockStands}
 use Rattle.rv_emit.specs.Rows.{blank, rows_of}
 use Rattle.rv_emit.specs.Emitted.{Buffer, IsSoundBuffer, HasWindows, pending, bytes_of_words, AreRows, UsesStand, MakesRoom, Emitted}
@@ -32,7 +33,7 @@ use Rattle.rv_inst.specs.Sizes.{line_sum}
 -- between two offsets an island stands: first a jump to a label that is bound at the second
 pub record IslandStands (b : Buffer) (from to : ℕ) : Type 0 where
   pub round : MachLabel
-  pub jump : BlockStands marks_of (bytes_of b) (uses_of b) (veneers_of b) from (word_bytes 0x6f) (use_at from round Jal20 ∷ [])
+  pub jump : BlockStands label_kinds (bytes_of b) (uses_of b) from (word_bytes 0x6f) (use_at from round Jal20 ∷ [])
   pub bound : place_of b round.number ≡ Some to
   pub longer : from + 4 ≤ to
 
@@ -45,7 +46,7 @@ pub record BlockThere (inst : Inst) (b : Buffer) (start end : ℕ) : Type 0 wher
   pub words : List ℕ
   pub decode : AreRows words (rows_of blank inst)
   pub used : UsesStand start words (uses_in start inst)
-  pub block : BlockStands marks_of (bytes_of b) (uses_of b) (veneers_of b) start (bytes_of_words words) (uses_in start inst)
+  pub block : BlockStands label_kinds (bytes_of b) (uses_of b) start (bytes_of_words words) (uses_in start inst)
   pub ends : end ≡ start + length (bytes_of_words words)
 
 abbrev pub InstThere : Inst → Buffer → ℕ → ℕ → Type 0

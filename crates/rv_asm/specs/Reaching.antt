@@ -8,7 +8,7 @@ use Rattle.rv_inst.specs.declared.code.Code.{Code}
 use Rattle.rv_inst.specs.declared.code.LineSpan.{LineSpan}
 use Rattle.rv_inst.specs.declared.label_use.LabelUse.{LabelUse}
 use Rattle.rv_inst.specs.Fields.{named_labels}
-use Rattle.rv_inst.specs.LabelUse.{forward_of, backward_of}
+use Rattle.rv_inst.specs.LabelUse.{label_kinds}
 use Rattle.mach_buffer.specs.declared.uses.Use.{Use}
 use Rattle.mach_buffer.specs.Reach.{is_reached, deadlines, CanReach}
 use Rattle.rv_inst.specs.Sizes.{Extent, Words, Island, extent_of}
@@ -95,7 +95,7 @@ bound_by spans i (Put inst ∷ lines) label = bound_by spans (suc i) lines label
 -- within their reach
 abbrev pub waiting : List Line → List LineSpan → ℕ → List ℕ
 waiting lines spans n =
-    deadlines (λ (u : Use LabelUse). not (is_reached forward_of backward_of (bound_by spans 0 (take n lines) u.label.number) u)) forward_of
+    deadlines (λ (u : Use LabelUse). not (is_reached label_kinds (bound_by spans 0 (take n lines) u.label.number) u)) label_kinds
     (uses_from spans (open_from lines spans n) (drop (open_from lines spans n) (take n lines)))
 
 -- after every line, the veneers of all that waits can still be put in time

@@ -3,7 +3,7 @@ use Rattle.std.specs.Prelude.{◌≡◌, ℕ, ◌^◌, ◌<◌, false, List, ◌
 use Rattle.rv_inst.specs.declared.code.LineSpan.{LineSpan}
 use Rattle.rv_inst.specs.declared.inst.Line.{Line}
 use Rattle.rv_inst.specs.declared.label_use.LabelUse.{LabelUse}
-use Rattle.rv_inst.specs.LabelUse.{forward_of, backward_of, has_veneer_of}
+use Rattle.rv_inst.specs.LabelUse.{label_kinds}
 use Rattle.rv_inst.specs.Rules.{broken_rule}
 use Rattle.mach_buffer.specs.declared.uses.Use.{Use}
 use Rattle.mach_buffer.specs.Reach.{is_pending}
@@ -19,7 +19,7 @@ open_uses lines spans = uses_from spans (open_from lines spans (length lines)) (
 pub record EndsIn (uses : List (Use LabelUse)) (b : Buffer) : Type 0 where
   pub before : List (Use LabelUse)
   pub whole : uses_of b ≡ before ++ uses
-  pub idle : (j : ℕ) (u : Use LabelUse) → slice_get before j ≡ Some u → is_pending has_veneer_of forward_of backward_of (place_of b) u ≡ false
+  pub idle : (j : ℕ) (u : Use LabelUse) → slice_get before j ≡ Some u → is_pending label_kinds (place_of b) u ≡ false
 
 -- no use of a line before the last island waits, and each label stands where a line binds it
 pub record Since (lines : List Line) (spans : List LineSpan) (b : Buffer) : Type 0 where

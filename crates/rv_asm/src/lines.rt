@@ -2,10 +2,9 @@
 
 ghost use Rattle.std.specs.Prelude.{◌≡◌, ◌+◌, ◌*◌, ◌^◌, ◌<◌, length, IfOk, OnOk, None};
 ghost use Rattle.rv_inst.specs.declared.inst.Line.TheVariants.{Inst as Put, Bind};
-ghost use Rattle.mach_buffer.specs.Reach.{CanReach};
+ghost use Rattle.mach_buffer.specs.Reach.{CanReach, is_needed};
 ghost use Rattle.mach_buffer.specs.Buffer.{bytes_of, drawn_of};
 ghost use Rattle.rv_emit.specs.Emitted.{IsSoundBuffer, pending, MakesRoom, CanEmit, Emitted};
-ghost use Rattle.mach_buffer.specs.Reach.{is_needed};
 ghost use Rattle.rv_emit.specs.declared.state.EmitVState.TheVariants.{Unknown};
 ghost use Rattle.rv_emit.specs.State.{setting_after, setting_beyond};
 ghost use Rattle.rv_asm.specs.Built.{CanPut, InstPut, BindPut, LinePut, line_setting};

@@ -9,20 +9,21 @@ use Rattle.rv_inst.specs.declared.inst.Inst.TheVariants.{Jal, CondBr, Mov, MovFr
 use Rattle.rv_inst.specs.declared.inst.CondBrTarget.TheVariants.{Label, Fallthrough}
 use Rattle.rv_inst.specs.declared.label_use.LabelUse.{LabelUse}
 use Rattle.rv_inst.specs.declared.label_use.LabelUse.TheVariants.{Jal20, B12}
-use Rattle.rv_inst.specs.LabelUse.{forward_of, backward_of, has_veneer_of}
+use Rattle.rv_inst.specs.LabelUse.{label_kinds, has_veneer_of}
 use Rattle.rv_inst.specs.Fields.{inst_labels}
+use Rattle.rv_base.specs.LabelUse.{Kinds}
 use Rattle.rv_machine.specs.declared.decode.Decoded.{Decoded}
 use Rattle.mach_buffer.specs.declared.uses.Use.{Use}
 use Rattle.mach_buffer.specs.Reach.{CanReach, HasSlack, deadline, deadlines, is_pending, is_needed}
 use Rattle.mach_buffer.specs.Buffer.{bytes_of, uses_of, place_of}
-use Rattle.mach_buffer.proofs.Slack.{deadlines_append, slack_use, slack_less, slack_not_needed, reach_from_slack}
+use Rattle.mach_buffer.proofs.Laws.{deadlines_append, slack_use, slack_less, slack_not_needed, reach_from_slack}
 use Rattle.rv_emit.specs.Rows.{blank, rows_of, move_rows, addi_row}
 use Rattle.rv_emit.specs.Emitted.{Buffer, pending, Adds, AreRows, PutsBlock, MakesRoom, CanEmit, IsBounded, bytes_of_words}
 use Rattle.rv_inst.specs.Uses.{use_at, uses_in}
 
 -- whether a use waits
 abbrev pub waits : (ℕ → Option ℕ) → Use LabelUse → Bool
-waits place = is_pending has_veneer_of forward_of backward_of place
+waits place = is_pending label_kinds place
 
 -- ---- uses of an instruction
 
@@ -58,8 +59,8 @@ each_use P start inst jump branch second =
     (λ t f. each_more P _ (use_at (start + 4) f Jal20 ∷ []) (branch t) (each_more P _ [] (second f) (each_none P)))
 
 -- each reaches over 4094 bytes
-pub uses_far : (start : ℕ) (inst : Inst) → Each (λ u. start + 4094 ≤ deadline forward_of u) (uses_in start inst)
-uses_far start inst = each_use (λ u. start + 4094 ≤ deadline forward_of u) start inst (λ label. omega arith) (λ label. omega arith) (λ label. omega arith)
+pub uses_far : (start : ℕ) (inst : Inst) → Each (λ u. start + 4094 ≤ deadline label_kinds u) (uses_in start inst)
+uses_far start inst = each_use (λ u. start + 4094 ≤ deadline label_kinds u) start inst (λ label. omega arith) (λ label. omega arith) (λ label. omega arith)
 
 -- each may go by a veneer
 pub uses_kinds : (start : ℕ) (inst : Inst) → Each (λ u. has_veneer_of u.kind ≡ true) (uses_in start inst)
@@ -109,14 +110,14 @@ bytes_after inst old new p =
 -- ---- what waits
 
 -- what waits once uses are added
-pub pending_adds : {block : List ℕ} {own : List (Use LabelUse)} {old new : Buffer} → Adds block own old new → pending new ≡ deadlines (waits (place_of old)) forward_of (uses_of old ++ own)
-pending_adds a = λ i. deadlines (waits (a.places i)) forward_of (a.uses i)
+pub pending_adds : {block : List ℕ} {own : List (Use LabelUse)} {old new : Buffer} → Adds block own old new → pending new ≡ deadlines (waits (place_of old)) label_kinds (uses_of old ++ own)
+pending_adds a = λ i. deadlines (waits (a.places i)) label_kinds (a.uses i)
 
-pub few_deadlines : {L : Type 0} (test : Use L → Bool) (forward : L → ℕ) (uses : List (Use L)) → length (deadlines test forward uses) ≤ length uses
-few_deadlines test forward [] = omega arith
-few_deadlines test forward (u ∷ uses) = on (test u) (few_deadlines test forward uses)
+pub few_deadlines : {L : Type 0} (test : Use L → Bool) (kinds : Kinds L) (uses : List (Use L)) → length (deadlines test kinds uses) ≤ length uses
+few_deadlines test kinds [] = omega arith
+few_deadlines test kinds (u ∷ uses) = on (test u) (few_deadlines test kinds uses)
   where
-    on : (c : Bool) → length (deadlines test forward uses) ≤ length uses → length (cond c (deadline forward u ∷ deadlines test forward uses) (deadlines test forward uses)) ≤ suc (length uses)
+    on : (c : Bool) → length (deadlines test kinds uses) ≤ length uses → length (cond c (deadline kinds u ∷ deadlines test kinds uses) (deadlines test kinds uses)) ≤ suc (length uses)
     on true le = omega arith
     on false le = omega arith
 
@@ -125,9 +126,9 @@ pub pending_uses : (inst : Inst) (old new : Buffer) → PutsBlock inst old new �
 pending_uses inst old new p =
     let own = uses_in (length (bytes_of old)) inst in
     let test = waits (place_of old) in
-    let whole : length (pending new) ≡ length (pending old) + length (deadlines test forward_of own) =
-    ap length (pending_adds p.adds ∙ deadlines_append test forward_of (uses_of old) own) ∙ length-append (pending old) (deadlines test forward_of own) in
-    let few = few_deadlines test forward_of own in
+    let whole : length (pending new) ≡ length (pending old) + length (deadlines test label_kinds own) =
+    ap length (pending_adds p.adds ∙ deadlines_append test label_kinds (uses_of old) own) ∙ length-append (pending old) (deadlines test label_kinds own) in
+    let few = few_deadlines test label_kinds own in
     omega arith
 
 pub pending_after : (inst : Inst) (old new : Buffer) → PutsBlock inst old new → length (pending new) ≤ length (pending old) + 2
@@ -152,14 +153,14 @@ block_bounds inst old new p asks = record {
 -- ---- Reach
 
 -- uses are recorded: eight bytes of slack for each
-pub slack_uses : (test : Use LabelUse → Bool) (cur slack : ℕ) (uses own : List (Use LabelUse)) → Each (λ u. cur + slack + 8 * length own ≤ deadline forward_of u) own → HasSlack cur (slack + 8 * length own) (deadlines test forward_of uses) → HasSlack cur slack (deadlines test forward_of (uses ++ own))
+pub slack_uses : (test : Use LabelUse → Bool) (cur slack : ℕ) (uses own : List (Use LabelUse)) → Each (λ u. cur + slack + 8 * length own ≤ deadline label_kinds u) own → HasSlack cur (slack + 8 * length own) (deadlines test label_kinds uses) → HasSlack cur slack (deadlines test label_kinds (uses ++ own))
 slack_uses test cur slack uses [] far h =
-    subst (λ us. HasSlack cur slack (deadlines test forward_of us)) (sym (append-nil uses)) (slack_less cur (slack + 8 * 0) cur slack _ (omega arith) h)
+    subst (λ us. HasSlack cur slack (deadlines test label_kinds us)) (sym (append-nil uses)) (slack_less cur (slack + 8 * 0) cur slack _ (omega arith) h)
 slack_uses test cur slack uses (u ∷ own) far h =
     let least = far 0 u refl in
-    let first : HasSlack cur (slack + 8 * length own) (deadlines test forward_of (uses ++ u ∷ [])) =
-    slack_use test forward_of cur (slack + 8 * length own) uses u (omega arith) (slack_less cur (slack + 8 * suc (length own)) cur (slack + 8 * length own + 8) _ (omega arith) h) in
-    subst (λ us. HasSlack cur slack (deadlines test forward_of us)) (append_assoc uses (u ∷ []) own)
+    let first : HasSlack cur (slack + 8 * length own) (deadlines test label_kinds (uses ++ u ∷ [])) =
+    slack_use test label_kinds cur (slack + 8 * length own) uses u (omega arith) (slack_less cur (slack + 8 * suc (length own)) cur (slack + 8 * length own + 8) _ (omega arith) h) in
+    subst (λ us. HasSlack cur slack (deadlines test label_kinds us)) (append_assoc uses (u ∷ []) own)
     (slack_uses test cur slack (uses ++ u ∷ []) own (λ k v e. let f = far (suc k) v e in omega arith) first)
 
 -- where no island is needed before 88 bytes, Reach holds
@@ -177,7 +178,7 @@ reach_after inst old new can p =
     let few : length own ≤ 2 = few_uses start inst in
     let spare : HasSlack cur (14 + 8 * length own) (pending old) =
     slack_less (start + 88) 30 cur (14 + 8 * length own) (pending old) (omega arith) (slack_not_needed start 88 (pending old) can.calm) in
-    let far : Each (λ u. cur + 14 + 8 * length own ≤ deadline forward_of u) own = λ k u e. let f = uses_far start inst k u e in omega arith in
+    let far : Each (λ u. cur + 14 + 8 * length own ≤ deadline label_kinds u) own = λ k u e. let f = uses_far start inst k u e in omega arith in
     reach_from_slack cur (pending new) (subst (HasSlack cur 14) (sym (pending_adds p.adds)) (slack_uses (waits (place_of old)) cur 14 (uses_of old) own far spare))
 
 -- an island leaves nothing that waits

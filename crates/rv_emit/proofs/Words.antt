@@ -129,7 +129,6 @@ pub adds_more : (b1 b2 : List ℕ) (u1 u2 : List (Use LabelUse)) (old mid new : 
 adds_more b1 b2 u1 u2 old mid new a b = record {
   bytes = b.bytes ∙ ap (λ bs. bs ++ b2) a.bytes ∙ append_assoc (bytes_of old) b1 b2;
   uses = b.uses ∙ ap (λ us. us ++ u2) a.uses ∙ append_assoc (uses_of old) u1 u2;
-  veneers = b.veneers ∙ a.veneers;
   places = b.places ∙ a.places;
   labels = b.labels ∙ a.labels;
   drawn = b.drawn ∙ a.drawn;

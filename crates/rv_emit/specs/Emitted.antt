@@ -10,7 +10,7 @@ use Rattle.rv_machine.specs.Layout.{word_opcode}
 use Rattle.rv_inst.specs.declared.inst.Inst.{Inst}
 use Rattle.rv_inst.specs.declared.label_use.LabelUse.{LabelUse}
 use Rattle.rv_inst.specs.declared.label_use.LabelUse.TheVariants.{Jal20, PCRel32, B12, PCRelHi20, PCRelLo12I}
-use Rattle.rv_inst.specs.LabelUse.{marks_of, forward_of, backward_of, has_veneer_of, veneer_of}
+use Rattle.rv_inst.specs.LabelUse.{label_kinds, marks_of}
 use Rattle.rv_inst.specs.LabelUseWords.{word_bytes}
 use Rattle.rv_inst.specs.Fields.{inst_labels}
 use Rattle.rv_inst.specs.Rules.{inst_rule}
@@ -19,8 +19,10 @@ use Rattle.rv_inst.specs.Uses.{use_at, uses_in}
 use Rattle.mach_buffer.specs.declared.buffer.MachBuffer.{MachBuffer}
 use Rattle.mach_buffer.specs.declared.uses.Use.{Use}
 use Rattle.mach_buffer.specs.Reach.{is_needed}
-use Rattle.mach_buffer.specs.Buffer.{bytes_of, uses_of, veneers_of, place_of, labels_of, drawn_of, pending_of, recorded, IsSound}
-use Rattle.mach_buffer.specs.Islands.{AreWindows, VeneersBehind}
+use Rattle.mach_buffer.specs.Buffer.{bytes_of, uses_of, place_of, labels_of, drawn_of, pending_of, IsSound}
+use Rattle.mach_buffer.specs.Shape.{recorded}
+use Rattle.mach_buffer.specs.Windows.{AreWindows}
+use Rattle.mach_buffer.specs.Putting.{AddsOwn}
 use Rattle.rv_emit.specs.Rows.{blank, rows_of}
 
 -- ---- buffers of code
@@ -29,15 +31,15 @@ abbrev pub Buffer : Type 0
 Buffer = MachBuffer LabelUse
 
 abbrev pub IsSoundBuffer : Buffer → Type 0
-IsSoundBuffer b = IsSound has_veneer_of forward_of backward_of veneer_of b
+IsSoundBuffer b = IsSound label_kinds b
 
 -- the windows of uses stand in the bytes, fresh and apart from one another and from veneers
 abbrev pub HasWindows : Buffer → Type 0
-HasWindows b = AreWindows marks_of (bytes_of b) (uses_of b) (veneers_of b)
+HasWindows b = AreWindows label_kinds (bytes_of b) (uses_of b)
 
 -- the deadlines of the pending uses
 abbrev pub pending : Buffer → List ℕ
-pending b = pending_of has_veneer_of forward_of backward_of b
+pending b = pending_of label_kinds b
 
 -- ---- a block
 
@@ -45,7 +47,6 @@ pending b = pending_of has_veneer_of forward_of backward_of b
 pub record Adds (block : List ℕ) (own : List (Use LabelUse)) (old new : Buffer) : Type 0 where
   pub bytes : bytes_of new ≡ bytes_of old ++ block
   pub uses : uses_of new ≡ uses_of old ++ own
-  pub veneers : veneers_of new ≡ veneers_of old
   pub places : place_of new ≡ place_of old
   pub labels : labels_of new ≡ labels_of old
   pub drawn : drawn_of new ≡ drawn_of old
@@ -97,8 +98,7 @@ pub record PutsIsland (old new : Buffer) : Type 0 where
   pub drawn : drawn_of new ≡ drawn_of old + 1
   pub jump : take (length (bytes_of old) + 4) (bytes_of new) ≡ bytes_of old ++ word_bytes 0x6f
   pub longer : length (bytes_of old) + 4 ≤ length (bytes_of new)
-  pub uses : recorded (uses_of new) ≡ recorded (uses_of old) ++ use_at (length (bytes_of old)) round Jal20 ∷ []
-  pub veneers : VeneersBehind (length (bytes_of old) + 4) (veneers_of old) (veneers_of new)
+  pub own : AddsOwn label_kinds (length (bytes_of old) + 4) (uses_of old ++ use_at (length (bytes_of old)) round Jal20 ∷ []) (uses_of new)
   pub bound : place_of new round.number ≡ Some (length (bytes_of new))
   pub places : (label : ℕ) → label ≢ round.number → place_of new label ≡ place_of old label
   pub labels : labels_of new ≡ labels_of old

@@ -35,21 +35,11 @@ impl LabelUse {
 }
 
 impl MachInstLabelUse for LabelUse {
-    ghost use Rattle.rv_inst.specs.LabelUse.{Aims, marks_of, forward_of, backward_of, has_veneer_of, veneer_of, kind_of_reloc};
+    ghost use Rattle.rv_inst.specs.LabelUse.{label_kinds, kind_of_reloc};
     ghost use Rattle.std.specs.Prelude.{refl};
     ghost use Rattle.std.proofs.Common.{rules};
 
-    ghost aims = { Aims };
-
-    ghost fields = { marks_of };
-
-    ghost forward = { forward_of };
-
-    ghost backward = { backward_of };
-
-    ghost has_veneer = { has_veneer_of };
-
-    ghost veneer = { veneer_of };
+    ghost kinds = { label_kinds };
 
     ghost of_reloc = { kind_of_reloc };
 

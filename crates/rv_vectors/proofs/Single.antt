@@ -7,17 +7,14 @@ use Rattle.rv_inst.specs.declared.inst.Inst.TheVariants.{EmitIsland, Jal, CondBr
 use Rattle.rv_inst.specs.declared.inst.CondBrTarget.TheVariants.{Label, Fallthrough}
 use Rattle.rv_inst.specs.declared.label_use.LabelUse.{LabelUse}
 use Rattle.rv_inst.specs.declared.label_use.LabelUse.TheVariants.{Jal20, B12}
-use Rattle.rv_inst.specs.LabelUse.{marks_of, forward_of, backward_of, has_veneer_of, veneer_of}
+use Rattle.rv_inst.specs.LabelUse.{label_kinds}
 use Rattle.rv_inst.specs.Rules.{inst_rule}
 use Rattle.mach_buffer.specs.declared.uses.Use.{Use}
-use Rattle.mach_buffer.specs.declared.uses.VeneerUse.{VeneerUse}
 use Rattle.mach_buffer.specs.Reach.{CanReach, is_needed, deadlines}
-use Rattle.mach_buffer.specs.Buffer.{bytes_of, uses_of, veneers_of, place_of}
-use Rattle.mach_buffer.specs.Islands.{AreWindows}
+use Rattle.mach_buffer.specs.Buffer.{bytes_of, uses_of, place_of}
+use Rattle.mach_buffer.specs.Windows.{AreWindows}
 use Rattle.mach_buffer.specs.Finish.{before_last, CanFinish}
-use Rattle.mach_buffer.proofs.Blocks.{windows_none}
-use Rattle.mach_buffer.proofs.Slack.{slack_from_reach, reaches_from_slack}
-use Rattle.mach_buffer.proofs.Ends.{last_near}
+use Rattle.mach_buffer.proofs.Laws.{windows_none, slack_from_reach, reaches_from_slack, last_near}
 use Rattle.rv_emit.specs.Emitted.{Buffer, HasWindows, pending, PutsBlock, Puts, Emitted, CanEmit, IsBounded}
 use Rattle.rv_inst.specs.Uses.{use_at, uses_in}
 use Rattle.rv_inst.specs.Sizes.{island_space, inst_sum}
@@ -31,13 +28,13 @@ none_there None h = refl
 none_there (Some x) h = absurd (cc)
 
 start_pending : (b : Buffer) → IsStart b → pending b ≡ []
-start_pending b s = ap (deadlines (waits (place_of b)) forward_of) s.uses
+start_pending b s = ap (deadlines (waits (place_of b)) label_kinds) s.uses
 
 start_windows : (b : Buffer) → IsStart b → HasWindows b
 start_windows b s =
-    subst (λ (bs : List ℕ). AreWindows marks_of bs (uses_of b) (veneers_of b)) (sym s.bytes)
-    (subst (λ (us : List (Use LabelUse)). AreWindows marks_of [] us (veneers_of b)) (sym s.uses)
-    (subst (λ (vs : List (VeneerUse LabelUse)). AreWindows marks_of [] [] vs) (sym s.veneers) windows_none))
+    subst (λ (bs : List ℕ). AreWindows label_kinds bs (uses_of b)) (sym s.bytes)
+    (subst (λ (us : List (Use LabelUse)). AreWindows label_kinds [] us) (sym s.uses)
+    (subst (λ (vs : List (VeneerUse LabelUse)). AreWindows label_kinds [] [] vs) (sym s.veneers) windows_none))
 
 plain_sum : (inst : Inst) → island_space inst ≡ None → inst_sum inst ≡ 128
 plain_sum (EmitIsland space) none = absurd (cc)
@@ -89,7 +86,7 @@ holds_one inst old new none s e reach bounded = record {
     own j u h = ap (λ (us : List (Use LabelUse)). slice_get us j) (sym (p.adds.uses ∙ ap (λ (us : List (Use LabelUse)). us ++ uses_in start inst) s.uses)) ∙ h
 
 -- the buffer can be finished where its labels are bound
-pub can_finish_one : (inst : Inst) (b : Buffer) → HoldsOne inst b → names_first inst ≡ true → CanFinish marks_of has_veneer_of forward_of backward_of veneer_of b
+pub can_finish_one : (inst : Inst) (b : Buffer) → HoldsOne inst b → names_first inst ≡ true → CanFinish label_kinds b
 can_finish_one inst b one first =
     let near : length (before_last (bytes_of b) (length (pending b))) ≤ length (bytes_of b) + 3 = last_near (bytes_of b) (length (pending b)) in
     let long = one.long in

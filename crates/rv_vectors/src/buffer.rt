@@ -25,17 +25,7 @@ impl MachInstLabelUse for Toy {
     ghost use Rattle.std.proofs.Common.{rules};
     ghost use mir.Syntax.{w32};
 
-    ghost aims = { elim [ Short ↦ λ window d. slice_index window 0 ≡ cast_unsigned w32 d / 2 % 256 | Far ↦ λ window d. slice_index window 0 + 256 * slice_index window 1 + 65536 * slice_index window 2 + 16777216 * slice_index window 3 ≡ cast_unsigned w32 d ] };
-
-    ghost fields = { elim [ Short ↦ 0xff ∷ [] | Far ↦ 0xff ∷ 0xff ∷ 0xff ∷ 0xff ∷ [] ] };
-
-    ghost forward = { elim [ Short ↦ 254 | Far ↦ 4294967295 ] };
-
-    ghost backward = { elim [ Short ↦ 256 | Far ↦ 4294967295 ] };
-
-    ghost has_veneer = { elim [ Short ↦ true | Far ↦ false ] };
-
-    ghost veneer = { λ kind. record { bytes = 0 ∷ 0 ∷ 0 ∷ 0 ∷ 0xee ∷ 0xee ∷ 0xee ∷ 0xee ∷ []; place = 0; kind = Far } };
+    ghost kinds = { record { aims = elim [ Short ↦ λ window d. slice_index window 0 ≡ cast_unsigned w32 d / 2 % 256 | Far ↦ λ window d. slice_index window 0 + 256 * slice_index window 1 + 65536 * slice_index window 2 + 16777216 * slice_index window 3 ≡ cast_unsigned w32 d ]; fields = elim [ Short ↦ 0xff ∷ [] | Far ↦ 0xff ∷ 0xff ∷ 0xff ∷ 0xff ∷ [] ]; forward = elim [ Short ↦ 254 | Far ↦ 4294967295 ]; backward = elim [ Short ↦ 256 | Far ↦ 4294967295 ]; has_veneer = elim [ Short ↦ true | Far ↦ false ]; veneer = λ kind. record { bytes = 0 ∷ 0 ∷ 0 ∷ 0 ∷ 0xee ∷ 0xee ∷ 0xee ∷ 0xee ∷ []; place = 0; kind = Far } } };
 
     ghost of_reloc = { λ reloc addend. None };
 
@@ -260,13 +250,13 @@ ghost use Rattle.rv_vectors.specs.Kept.{IsKept, IsOneByte};
 
 /// Puts a jump of four bytes round an island, and the island.
 fn put_jump<L: MachInstLabelUse>(buffer: &mut MachBuffer<L>, kind: L) -> Result<(), OutOfMemory>
-    requires kind { IsOneByte L.fields L.has_veneer L.forward kind }
-    requires kept { IsKept L.fields L.has_veneer L.forward L.backward L.veneer 4 buffer.old }
+    requires kind { IsOneByte L.kinds kind }
+    requires kept { IsKept L.kinds 4 buffer.old }
     requires few { drawn_of buffer.old < 2 ^ 30 }
-    requires room { length (bytes_of buffer.old) + 8 * length (pending_of L.has_veneer L.forward L.backward buffer.old) + 14 < 2147479552 }
-    ensures kept { OnOk result (IsKept L.fields L.has_veneer L.forward L.backward L.veneer 4 buffer.new) }
-    ensures none { OnOk result (pending_of L.has_veneer L.forward L.backward buffer.new ≡ []) }
-    ensures near { OnOk result (length (bytes_of buffer.new) ≤ length (bytes_of buffer.old) + 14 + 8 * length (pending_of L.has_veneer L.forward L.backward buffer.old)) }
+    requires room { length (bytes_of buffer.old) + 8 * length (pending_of L.kinds buffer.old) + 14 < 2147479552 }
+    ensures kept { OnOk result (IsKept L.kinds 4 buffer.new) }
+    ensures none { OnOk result (pending_of L.kinds buffer.new ≡ []) }
+    ensures near { OnOk result (length (bytes_of buffer.new) ≤ length (bytes_of buffer.old) + 14 + 8 * length (pending_of L.kinds buffer.old)) }
 {
     let round = buffer.get_label()?;
     let at = buffer.cur_offset();
@@ -283,10 +273,10 @@ fn make_way<L: MachInstLabelUse>(
     distance: u32,
     islands: &mut Vec<u32>,
 ) -> Result<(), Fail>
-    requires kind { IsOneByte L.fields L.has_veneer L.forward kind }
-    requires kept { IsKept L.fields L.has_veneer L.forward L.backward L.veneer 4 buffer.old }
-    ensures kept { OnOk result (IsKept L.fields L.has_veneer L.forward L.backward L.veneer 4 buffer.new) }
-    ensures slack { OnOk result (HasSlack (length (bytes_of buffer.new) + distance) 30 (pending_of L.has_veneer L.forward L.backward buffer.new)) }
+    requires kind { IsOneByte L.kinds kind }
+    requires kept { IsKept L.kinds 4 buffer.old }
+    ensures kept { OnOk result (IsKept L.kinds 4 buffer.new) }
+    ensures slack { OnOk result (HasSlack (length (bytes_of buffer.new) + distance) 30 (pending_of L.kinds buffer.new)) }
     ensures room { OnOk result (length (bytes_of buffer.new) + distance + 10 < 2147479552) }
 {
     if !buffer.has_room(distance as u64) {
@@ -307,9 +297,9 @@ fn fill<L: MachInstLabelUse>(
     count: u32,
     islands: &mut Vec<u32>,
 ) -> Result<(), Fail>
-    requires kind { IsOneByte L.fields L.has_veneer L.forward kind }
-    requires kept { IsKept L.fields L.has_veneer L.forward L.backward L.veneer 4 buffer.old }
-    ensures kept { OnOk result (IsKept L.fields L.has_veneer L.forward L.backward L.veneer 4 buffer.new) }
+    requires kind { IsOneByte L.kinds kind }
+    requires kept { IsKept L.kinds 4 buffer.old }
+    ensures kept { OnOk result (IsKept L.kinds 4 buffer.new) }
 {
     if count > 250 || count % 2 != 0 {
         return Err(Fail::new("an odd count of filler bytes, or more than 250"));
@@ -327,9 +317,9 @@ fn put_use<L: MachInstLabelUse>(
     label: u32,
     islands: &mut Vec<u32>,
 ) -> Result<(), Fail>
-    requires kind { IsOneByte L.fields L.has_veneer L.forward kind }
-    requires kept { IsKept L.fields L.has_veneer L.forward L.backward L.veneer 4 buffer.old }
-    ensures kept { OnOk result (IsKept L.fields L.has_veneer L.forward L.backward L.veneer 4 buffer.new) }
+    requires kind { IsOneByte L.kinds kind }
+    requires kept { IsKept L.kinds 4 buffer.old }
+    ensures kept { OnOk result (IsKept L.kinds 4 buffer.new) }
 {
     if label >= 4 {
         return Err(Fail::new("none of the four labels"));
@@ -344,8 +334,8 @@ fn put_use<L: MachInstLabelUse>(
 /// Binds a label, unless it is bound.
 fn bind<L: MachInstLabelUse>(buffer: &mut MachBuffer<L>, label: u32) -> Result<(), OutOfMemory>
     requires low { label < 4 }
-    requires kept { IsKept L.fields L.has_veneer L.forward L.backward L.veneer 4 buffer.old }
-    ensures kept { OnOk result (IsKept L.fields L.has_veneer L.forward L.backward L.veneer 4 buffer.new) }
+    requires kept { IsKept L.kinds 4 buffer.old }
+    ensures kept { OnOk result (IsKept L.kinds 4 buffer.new) }
     ensures bound { OnOk result (is_some (place_of buffer.new label) ≡ true) }
     ensures still { OnOk result ((other : ℕ) → is_some (place_of buffer.old other) ≡ true → is_some (place_of buffer.new other) ≡ true) }
 {
@@ -364,9 +354,9 @@ fn put_item<L: MachInstLabelUse>(
     item: Item,
     islands: &mut Vec<u32>,
 ) -> Result<(), Fail>
-    requires kind { IsOneByte L.fields L.has_veneer L.forward kind }
-    requires kept { IsKept L.fields L.has_veneer L.forward L.backward L.veneer 4 buffer.old }
-    ensures kept { OnOk result (IsKept L.fields L.has_veneer L.forward L.backward L.veneer 4 buffer.new) }
+    requires kind { IsOneByte L.kinds kind }
+    requires kept { IsKept L.kinds 4 buffer.old }
+    ensures kept { OnOk result (IsKept L.kinds 4 buffer.new) }
 {
     match item {
         Item::Fill(count) => fill(buffer, kind, count, islands),
@@ -384,8 +374,8 @@ fn put_item<L: MachInstLabelUse>(
 
 /// Binds each of the four labels that is not bound.
 fn bind_each<L: MachInstLabelUse>(buffer: &mut MachBuffer<L>) -> Result<(), OutOfMemory>
-    requires kept { IsKept L.fields L.has_veneer L.forward L.backward L.veneer 4 buffer.old }
-    ensures kept { OnOk result (IsKept L.fields L.has_veneer L.forward L.backward L.veneer 4 buffer.new) }
+    requires kept { IsKept L.kinds 4 buffer.old }
+    ensures kept { OnOk result (IsKept L.kinds 4 buffer.new) }
     ensures bound { OnOk result ((label : ℕ) → label < 4 → is_some (place_of buffer.new label) ≡ true) }
 {
     bind(buffer, 0)?;
@@ -397,7 +387,7 @@ fn bind_each<L: MachInstLabelUse>(buffer: &mut MachBuffer<L>) -> Result<(), OutO
 
 /// Binds each label that is not bound, and finishes.
 fn end<L: MachInstLabelUse>(mut buffer: MachBuffer<L>) -> Result<Finished, Fail>
-    requires kept { IsKept L.fields L.has_veneer L.forward L.backward L.veneer 4 buffer }
+    requires kept { IsKept L.kinds 4 buffer }
 {
     bind_each(&mut buffer)?;
     if !buffer.has_room(0) {
@@ -409,7 +399,7 @@ fn end<L: MachInstLabelUse>(mut buffer: MachBuffer<L>) -> Result<Finished, Fail>
 
 /// An empty buffer.
 fn empty<L: MachInstLabelUse>(alloc: Global) -> MachBuffer<L>
-    ensures kept { IsKept L.fields L.has_veneer L.forward L.backward L.veneer 4 result }
+    ensures kept { IsKept L.kinds 4 result }
 {
     MachBuffer::<L>::new(alloc)
 }
@@ -421,7 +411,7 @@ fn assemble<L: MachInstLabelUse>(
     items: &[Item],
     islands: &mut Vec<u32>,
 ) -> Result<Finished, Fail>
-    requires kind { IsOneByte L.fields L.has_veneer L.forward kind }
+    requires kind { IsOneByte L.kinds kind }
 {
     let mut buffer = empty::<L>(alloc);
     for item in items {
