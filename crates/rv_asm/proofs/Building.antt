@@ -19,8 +19,8 @@ use Rattle.rv_asm.specs.Built.{Gap, LineThere, Built, LinePut}
 use Rattle.rv_asm.proofs.Standing.{LineAdded, gap_stays, line_stays, line_added}
 
 -- no line stands in an empty buffer
-pub built_none : (b : Buffer) → bytes_of b ≡ [] → uses_of b ≡ [] → veneers_of b ≡ [] → IsSoundBuffer b → Built [] [] b
-built_none b eb eu ev s =
+pub built_none : (b : Buffer) → bytes_of b ≡ [] → uses_of b ≡ [] → IsSoundBuffer b → Built [] [] b
+built_none b eb eu s =
     let none : length (bytes_of b) ≡ 0 = ap (length {A = ℕ}) eb in
     record {
       count = refl;
@@ -33,8 +33,7 @@ built_none b eb eu ev s =
       aligned = λ i lt. absurd (omega arith);
       whole = ap (λ n. n % 4) none;
       windows = subst (λ (bs : List ℕ). AreWindows label_kinds bs (uses_of b)) (sym eb)
-          (subst (λ (us : List (Use LabelUse)). AreWindows label_kinds [] us) (sym eu)
-          (subst (λ (vs : List (VeneerUse LabelUse)). AreWindows label_kinds [] [] vs) (sym ev) windows_none));
+          (subst (λ (us : List (Use LabelUse)). AreWindows label_kinds [] us) (sym eu) windows_none);
       sound = s;
     }
 

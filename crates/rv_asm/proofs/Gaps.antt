@@ -13,7 +13,7 @@ use Rattle.rv_inst.specs.declared.label_use.LabelUse.TheVariants.{Jal20}
 use Rattle.rv_inst.specs.LabelUse.{label_kinds}
 use Rattle.rv_inst.specs.LabelUseWords.{word_bytes}
 use Rattle.mach_buffer.specs.declared.uses.Use.{Use}
-use Rattle.mach_buffer.specs.Buffer.{bytes_of, uses_of, place_of}
+use Rattle.mach_buffer.specs.Buffer.{shape_of, bytes_of, uses_of, place_of}
 use Rattle.mach_buffer.specs.Blocks.{BlockStands, AllInside, GoesBy}
 use Rattle.mach_buffer.specs.Finish.{CanFinish, Finishes}
 use Rattle.mach_buffer.proofs.Laws.{block_patched}
@@ -31,18 +31,18 @@ use Rattle.rv_asm.proofs.Veneers.{veneer_goes_on}
 use Rattle.rv_asm.specs.Built.{IslandStands, Gap, Built}
 use Rattle.rv_asm.proofs.Placed.{bytes_stand}
 use Rattle.rv_asm.proofs.Threads.{LeadsTo, placed_still}
-use Rattle.rv_asm.proofs.Targets.{IsDone, targets_of, targets_lead, leads_here, uses_inside, patched_to, is_veneer}
+use Rattle.rv_asm.proofs.Targets.{IsDone, targets_of, targets_lead, leads_here, uses_inside, patched_to}
 
 -- a buffer of lines that was finished to code
 pub record Finished (job : Job) (code : Code) (b : Buffer) : Type 0 where
   pub built : Built job.lines code.lines b
-  pub can : CanFinish label_kinds b
-  pub finishes : Finishes label_kinds b code.bytes
+  pub can : CanFinish label_kinds (shape_of b)
+  pub finishes : Finishes label_kinds (shape_of b) code.bytes
   pub small : length code.bytes < 2 ^ 31
 
 -- a block of the buffer is patched in the code
 pub block_done : (job : Job) (code : Code) (b : Buffer) (start : ℕ) (block : List ℕ) (own : List (Use LabelUse)) → Finished job code b → BlockStands label_kinds (bytes_of b) (uses_of b) start block own → AllInside label_kinds start (length block) own → IsDone (place_of b) (bytes_of b) code.bytes start block own
-block_done job code b start block own f stands inside = block_patched is_veneer f.can f.finishes stands inside
+block_done job code b start block own f stands inside = block_patched b f.built.sound f.can f.finishes stands inside
 
 -- one offset leads to another, and that one on
 pub leads_both : (flags : IsaFlags) (code : Code) (from mid to : ℕ) → LeadsTo flags code from mid → LeadsTo flags code mid to → LeadsTo flags code from to
@@ -99,7 +99,7 @@ island_is job code b from to f fits island =
           (λ g. inr (by used.target g)) used.goes;
     }
   where
-    by : (target : ℕ) → GoesBy Aims marks_of veneer_of code.bytes (place_of b) (use_at from island.round Jal20) target → GoesOn job.flags code.bytes target to
+    by : (target : ℕ) → GoesBy label_kinds code.bytes (place_of b) (use_at from island.round Jal20) target → GoesOn job.flags code.bytes target to
     by target g =
         subst (λ n. GoesOn job.flags code.bytes n to) g.here
         (subst (GoesOn job.flags code.bytes g.via.at) (same_Some g.to to (sym g.bound ∙ island.bound))
@@ -115,7 +115,7 @@ island_leads job code b from to f island even =
     let inside = uses_inside from (0x6f ∷ []) own (uses_are from island.round) in
     let p = block_done job code b from (word_bytes 0x6f) own f island.jump inside in
     let target = targets_of (place_of b) (bytes_of b) code.bytes from (word_bytes 0x6f) own p 0 in
-    let there = f.can.sound.places island.round.number to island.bound in
+    let there = f.built.sound.places island.round.number to island.bound in
     leads_both job.flags code from target to
     (record {
       run = λ base symbols slots s v placed pc is_state are_values same.
@@ -133,4 +133,4 @@ gap_leads job code b from to f gap even = ⊎_elim (λ same. leads_here job.flag
 
 -- and ends at an even offset
 pub gap_even : (job : Job) (code : Code) (b : Buffer) (from to : ℕ) → Finished job code b → Gap b from to → from % 2 ≡ 0 → to % 2 ≡ 0
-gap_even job code b from to f gap even = ⊎_elim (λ (same : from ≡ to). omega arith) (λ island. (f.can.sound.places island.round.number to island.bound).1) gap
+gap_even job code b from to f gap even = ⊎_elim (λ (same : from ≡ to). omega arith) (λ island. (f.built.sound.places island.round.number to island.bound).1) gap

@@ -47,7 +47,7 @@ arrives job code b start after block own p base symbols slots s w Break y f plac
 arrives job code b start after block own p base symbols slots s w (To k) y f placed m e =
     let label = m.user.label.number in
     let bound = bound_place job.lines code b label f.built m.bound in
-    let there = f.can.sound.places label (label_place job.lines code label) bound in
+    let there = f.built.sound.places label (label_place job.lines code label) bound in
     let on = targets_lead job.flags code (bound_at b) (bytes_of b) start block own p k m.user (label_place job.lines code label) m.there bound there.1 in
     subst (λ z. Ends job.flags (least_steps z) (exit_address (label_place job.lines code) base start after z) w s) (sym m.leads)
     (ends_both job.flags (wrap (base + targets_of (bound_at b) (bytes_of b) code.bytes start block own p k)) (wrap (base + label_place job.lines code label)) w w s e

@@ -131,7 +131,7 @@ none_some (Some b) to p q = absurd (cc)
 
 bind_added : {label : MachLabel} {old new : Buffer} {span : LineSpan} → HasWindows old → length (bytes_of old) % 4 ≡ 0 → BindPut label old new span → LineAdded (Bind label) old new span
 bind_added {label} {old} {new} {span} w a p = record {
-  grows = grows_put [] [] (λ k u h. absurd (cc)) (bytes_of new) (uses_of new) (place_of new) (p.bytes ∙ sym (append_none (bytes_of old))) (ap recorded p.uses ∙ sym (append_none (recorded (uses_of old)))) p.veneers
+  grows = grows_put [] [] (λ k u h. absurd (cc)) (bytes_of new) (uses_of new) (place_of new) (p.bytes ∙ sym (append_none (bytes_of old))) (ap recorded p.uses ∙ sym (append_none (recorded (uses_of old))))
       (λ other to h. p.kept other (λ e. none_some (place_of old label.number) to p.unbound (ap (place_of old) (sym e) ∙ h)) ∙ h);
   gap = inl (sym p.start);
   there = (p.start ∙ sym p.end, subst (λ n. place_of new label.number ≡ Some n) (sym p.start) p.bound);
@@ -139,8 +139,7 @@ bind_added {label} {old} {new} {span} w a p = record {
   aligned = ap (λ n. n % 4) p.start ∙ a;
   whole = ap (λ (bs : List ℕ). length bs % 4) p.bytes ∙ a;
   windows = subst (λ (bs : List ℕ). AreWindows label_kinds bs (uses_of new)) (sym p.bytes)
-      (subst (λ (us : List (Use LabelUse)). AreWindows label_kinds (bytes_of old) us) (sym p.uses)
-      (subst (λ (vs : List (VeneerUse LabelUse)). AreWindows label_kinds (bytes_of old) (uses_of old) vs) (sym p.veneers) w));
+      (subst (λ (us : List (Use LabelUse)). AreWindows label_kinds (bytes_of old) us) (sym p.uses) w);
   sound = p.sound;
   first = λ h. p.start;
 }

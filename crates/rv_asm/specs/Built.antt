@@ -18,6 +18,7 @@ use Rattle.mach_buffer.specs.Reach.{CanReach, due_by}
 use Rattle.mach_buffer.specs.Buffer.{bytes_of, uses_of, place_of, labels_of, drawn_of}
 use Rattle.mach_buffer.specs.Shape.{listed}
 use Rattle.mach_buffer.specs.Blocks.{BlockStands}
+use Rattle.mach_buffer.specs.Islands.{is_far}
 use Rattle.rv_emit.specs.Rows.{blank, rows_of}
 use Rattle.rv_emit.specs.Emitted.{Buffer, IsSoundBuffer, HasWindows, pending, bytes_of_words, AreRows, UsesStand, MakesRoom, Emitted}
 use Rattle.rv_inst.specs.Uses.{use_at, uses_in}
@@ -83,11 +84,11 @@ pub record IsNamed (lines : List Line) (number : ℕ) : Type 0 where
   pub names : slice_get (named_labels line) place ≡ Some label
   pub is : label.number ≡ number
 
--- the labels that are bound are those of binds; each use may go by a veneer, and its label is named by a line or bound
+-- the labels that are bound are those of binds; each use may go by a veneer or reaches all code, and its label is named by a line or bound
 pub record Named (lines : List Line) (spans : List LineSpan) (b : Buffer) : Type 0 where
   pub labels : labels_of b ≡ binds_from spans 0 lines
   pub unbound : (label : ℕ) → label < 2 ^ 30 → is_bound lines label ≡ false → place_of b label ≡ None
-  pub kinds : (j : ℕ) (u : Use LabelUse) → slice_get (uses_of b) j ≡ Some u → has_veneer_of u.kind ≡ true
+  pub kinds : (j : ℕ) (u : Use LabelUse) → slice_get (uses_of b) j ≡ Some u → (has_veneer_of u.kind ≡ true) ⊎ (is_far label_kinds u ≡ true)
   pub named : (j : ℕ) (u : Use LabelUse) → slice_get (uses_of b) j ≡ Some u → (is_some (place_of b u.label.number) ≡ true) ⊎ IsNamed lines u.label.number
 
 -- ---- reach and room
@@ -127,7 +128,6 @@ pub record BindPut (label : MachLabel) (old new : Buffer) (span : LineSpan) : Ty
   pub labels : labels_of new ≡ labels_of old ++ listed label (length (bytes_of old))
   pub bytes : bytes_of new ≡ bytes_of old
   pub uses : uses_of new ≡ uses_of old
-  pub veneers : veneers_of new ≡ veneers_of old
   pub drawn : drawn_of new ≡ drawn_of old
   pub fewer : (end : ℕ) → due_by end (pending new) ≤ due_by end (pending old)
   pub sound : IsSoundBuffer new

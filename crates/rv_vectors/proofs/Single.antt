@@ -11,10 +11,10 @@ use Rattle.rv_inst.specs.LabelUse.{label_kinds}
 use Rattle.rv_inst.specs.Rules.{inst_rule}
 use Rattle.mach_buffer.specs.declared.uses.Use.{Use}
 use Rattle.mach_buffer.specs.Reach.{CanReach, is_needed, deadlines}
-use Rattle.mach_buffer.specs.Buffer.{bytes_of, uses_of, place_of}
+use Rattle.mach_buffer.specs.Buffer.{shape_of, bytes_of, uses_of, place_of}
 use Rattle.mach_buffer.specs.Windows.{AreWindows}
 use Rattle.mach_buffer.specs.Finish.{before_last, CanFinish}
-use Rattle.mach_buffer.proofs.Laws.{windows_none, slack_from_reach, reaches_from_slack, last_near}
+use Rattle.mach_buffer.proofs.Laws.{windows_none, slack_from_reach, reaches_from_slack, veneers_reach, last_near}
 use Rattle.rv_emit.specs.Emitted.{Buffer, HasWindows, pending, PutsBlock, Puts, Emitted, CanEmit, IsBounded}
 use Rattle.rv_inst.specs.Uses.{use_at, uses_in}
 use Rattle.rv_inst.specs.Sizes.{island_space, inst_sum}
@@ -33,8 +33,7 @@ start_pending b s = ap (deadlines (waits (place_of b)) label_kinds) s.uses
 start_windows : (b : Buffer) → IsStart b → HasWindows b
 start_windows b s =
     subst (λ (bs : List ℕ). AreWindows label_kinds bs (uses_of b)) (sym s.bytes)
-    (subst (λ (us : List (Use LabelUse)). AreWindows label_kinds [] us) (sym s.uses)
-    (subst (λ (vs : List (VeneerUse LabelUse)). AreWindows label_kinds [] [] vs) (sym s.veneers) windows_none))
+    (subst (λ (us : List (Use LabelUse)). AreWindows label_kinds [] us) (sym s.uses) windows_none)
 
 plain_sum : (inst : Inst) → island_space inst ≡ None → inst_sum inst ≡ 128
 plain_sum (EmitIsland space) none = absurd (cc)
@@ -86,16 +85,15 @@ holds_one inst old new none s e reach bounded = record {
     own j u h = ap (λ (us : List (Use LabelUse)). slice_get us j) (sym (p.adds.uses ∙ ap (λ (us : List (Use LabelUse)). us ++ uses_in start inst) s.uses)) ∙ h
 
 -- the buffer can be finished where its labels are bound
-pub can_finish_one : (inst : Inst) (b : Buffer) → HoldsOne inst b → names_first inst ≡ true → CanFinish label_kinds b
+pub can_finish_one : (inst : Inst) (b : Buffer) → HoldsOne inst b → names_first inst ≡ true → CanFinish label_kinds (shape_of b)
 can_finish_one inst b one first =
     let near : length (before_last (bytes_of b) (length (pending b))) ≤ length (bytes_of b) + 3 = last_near (bytes_of b) (length (pending b)) in
     let long = one.long in
     let waiting = one.waiting in
     record {
-      sound = one.sound;
       windows = one.windows;
       bound = one.bound first;
-      direct = λ j u h none. absurd (true≢false (sym (one.kinds j u h) ∙ none));
-      reach = reaches_from_slack (length (bytes_of b)) 14 (length (before_last (bytes_of b) (length (pending b)))) (pending b) (omega (arith, near)) (slack_from_reach (length (bytes_of b)) (pending b) one.reach);
+      direct = λ j u h none near. absurd (true≢false (sym (one.kinds j u h) ∙ none));
+      reach = veneers_reach (length (before_last (bytes_of b) (length (pending b)))) (pending b) (reaches_from_slack (length (bytes_of b)) 14 (length (before_last (bytes_of b) (length (pending b)))) (pending b) (omega (arith, near)) (slack_from_reach (length (bytes_of b)) (pending b) one.reach));
       short = omega (arith, near, long, waiting);
     }

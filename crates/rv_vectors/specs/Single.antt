@@ -41,7 +41,6 @@ names_first (Jalr rd base offset) = true
 pub record IsStart (b : Buffer) : Type 0 where
   pub bytes : bytes_of b ≡ []
   pub uses : uses_of b ≡ []
-  pub veneers : veneers_of b ≡ []
   pub first : place_of b 0 ≡ Some 0
   pub drawn : drawn_of b ≡ 0
   pub sound : IsSoundBuffer b

@@ -118,7 +118,7 @@ fn noted(alloc: Global, label: MachLabel) -> Result<MachBuffer<Toy>, OutOfMemory
     ensures empty { IfOk result (λ b. bytes_of b ≡ []) }
     ensures unbound { IfOk result (λ b. place_of b label.number ≡ None) }
     ensures drawn { IfOk result (λ b. drawn_of b ≡ 0) }
-    ensures sound { IfOk result (λ b. IsSound ⟦<Toy as MachInstLabelUse>⟧.has_veneer ⟦<Toy as MachInstLabelUse>⟧.forward ⟦<Toy as MachInstLabelUse>⟧.backward ⟦<Toy as MachInstLabelUse>⟧.veneer b) }
+    ensures sound { IfOk result (λ b. IsSound ⟦<Toy as MachInstLabelUse>⟧.kinds b) }
 {
     let mut buffer = MachBuffer::<Toy>::new(alloc);
     buffer.register_constants(&[])?;
@@ -132,7 +132,7 @@ fn waiting(alloc: Global, label: MachLabel) -> Result<MachBuffer<Toy>, OutOfMemo
     ensures long { IfOk result (λ b. length (bytes_of b) ≡ 200) }
     ensures unbound { IfOk result (λ b. place_of b label.number ≡ None) }
     ensures drawn { IfOk result (λ b. drawn_of b ≡ 0) }
-    ensures sound { IfOk result (λ b. IsSound ⟦<Toy as MachInstLabelUse>⟧.has_veneer ⟦<Toy as MachInstLabelUse>⟧.forward ⟦<Toy as MachInstLabelUse>⟧.backward ⟦<Toy as MachInstLabelUse>⟧.veneer b) }
+    ensures sound { IfOk result (λ b. IsSound ⟦<Toy as MachInstLabelUse>⟧.kinds b) }
 {
     let mut buffer = noted(alloc, label)?;
     buffer.put2(0x1100)?;

@@ -13,4 +13,4 @@ finish-requires-clause-ready g c =
     let parts : (nat_lt (drawn_of b) (2 ^ 29) ≡ true) × (nat_lt (length (bytes_of b) + 0 + 8 * length (pending_of K.kinds b) + 32) 2147479552 ≡ true) = and_parts _ _ (sym c.has_room.ensures ∙ c.if-not-has_room.false) in
     let fits : length (bytes_of b) + 0 + 8 * length (pending_of K.kinds b) + 32 < 2147479552 = ltb-true _ _ parts.1 in
     let room : length (bytes_of b) + 8 * length (pending_of K.kinds b) + 2 < 2147479552 = omega (arith, fits) in
-    can_finish e.kept e.bound room
+    λ unspoiled. can_finish e.kept e.bound room
