@@ -1,105 +1,173 @@
 -- The windows of uses, as a buffer grows.
-use Rattle.std.proofs.Common.{◌≡◌, ℕ, zero, suc, ◌+◌, ◌≤◌, ◌⊎◌, inl, inr, ⊎_elim, Bool, true, List, [], ◌∷◌, ◌++◌, length, take, drop, map, Some, refl, ap, sym, ◌∙◌, subst, arith, append_assoc}
+use Rattle.std.proofs.Common.{◌≡◌, ◌≢◌, ℕ, zero, suc, ◌+◌, ◌-◌, ◌%◌, ◌≤◌, ◌⊎◌, inl, inr, ⊎_elim, Bool, true, List, [], ◌∷◌, ◌++◌, length, take, drop, set, Option, Some, None, refl, ap, sym, ◌∙◌, subst, arith}
 use Rattle.std.specs.Prelude.{slice_get}
+use Rattle.std.proofs.lemmas.Bool.{cases_eq, true≢false}
 use Rattle.std.proofs.lemmas.Option.{same_Some}
-use Rattle.std.proofs.lemmas.List.{take-take, drop-take, length-append, map-append}
-use Rattle.rv_base.specs.LabelUse.{Veneer, IsVeneer, IsFresh}
+use Rattle.std.proofs.lemmas.List.{length-append, drop-drop, drop_at, length-drop, take_all}
+use Rattle.rv_base.specs.LabelUse.{Kinds, IsVeneer, IsFresh}
 use Rattle.mach_buffer.specs.declared.uses.Use.{Use}
-use Rattle.mach_buffer.specs.declared.uses.VeneerUse.{VeneerUse}
-use Rattle.mach_buffer.specs.Windows.{window, IsApart}
-use Rattle.mach_buffer.specs.Buffer.{IsLinked, recorded}
-use Rattle.mach_buffer.specs.Islands.{AllApart, AreWindows, spans_of}
+use Rattle.mach_buffer.specs.Shape.{veneer_use}
+use Rattle.mach_buffer.specs.Windows.{window, IsApart, AreWindows}
+use Rattle.mach_buffer.specs.Links.{HasVeneer, IsLinked}
+use Rattle.mach_buffer.proofs.Links.{HasLaw, window_stays, set_each}
+use Rattle.mach_buffer.proofs.Lists.{After, locate, append_each, below, none_some, slice_get-append_last, slice_get-set_other, slice_get-set_same, take_front, length_set}
+use Rattle.mach_buffer.proofs.Windows.{fresh_in_prefix}
 
--- a window stays as bytes are added
-pub window_stays : (bytes new : List ℕ) (p n : ℕ) → p + n ≤ length bytes → take (length bytes) new ≡ bytes → window new p n ≡ window bytes p n
-window_stays bytes new p n le e =
-    sym (drop-take p n new) ∙ ap (drop p) (sym (take-take (p + n) (length bytes) new le) ∙ ap (take (p + n)) e) ∙ drop-take p n bytes
-
-pub take_front : (bytes more : List ℕ) → take (length bytes) (bytes ++ more) ≡ bytes
-take_front [] more = refl
-take_front (b ∷ bytes) more = ap (λ xs. b ∷ xs) (take_front bytes more)
-
-pub windows_bytes : {L : Type 0} {fields : L → List ℕ} {bytes : List ℕ} {uses : List (Use L)} {veneers : List (VeneerUse L)} → AreWindows fields bytes uses veneers → (more new_bytes : List ℕ) → new_bytes ≡ bytes ++ more → AreWindows fields new_bytes uses veneers
-windows_bytes {L} {fields} {bytes} w more new_bytes e =
-    let long : length new_bytes ≡ length bytes + length more = ap (length {A = ℕ}) e ∙ length-append bytes more in
+pub windows_bytes : {L : Type 0} {kinds : Kinds L} {bytes : List ℕ} {uses : List (Use L)} → AreWindows kinds bytes uses → (more : List ℕ) → AreWindows kinds (bytes ++ more) uses
+windows_bytes {L} {kinds} {bytes} w more =
+    let long = length-append bytes more in
     record {
       even = w.even;
       inside = λ j u h. let i = w.inside j u h in omega arith;
-      fresh = λ j u h. subst (IsFresh (fields u.kind)) (sym (window_stays bytes new_bytes u.offset (length (fields u.kind)) (w.inside j u h) (ap (take (length bytes)) e ∙ take_front bytes more))) (w.fresh j u h);
+      fresh = λ j u h. subst (IsFresh (kinds.fields u.kind)) (sym (window_stays bytes (bytes ++ more) u.offset (length (kinds.fields u.kind)) (w.inside j u h) (take_front bytes more))) (w.fresh j u h);
       apart = w.apart;
+      clear = w.clear;
     }
 
--- a span behind all others
-pub last_or_before : {X : Type 0} (xs : List X) (y : X) (j : ℕ) (x : X) → slice_get (xs ++ y ∷ []) j ≡ Some x → (slice_get xs j ≡ Some x) ⊎ ((j ≡ length xs) × (y ≡ x))
-last_or_before [] y zero x h = inr (refl, same_Some _ _ h)
-last_or_before [] y (suc j) x h = absurd (cc)
-last_or_before (z ∷ xs) y zero x h = inl h
-last_or_before (z ∷ xs) y (suc j) x h = ⊎_elim (λ a. inl a) (λ b. inr (ap suc b.0, b.1)) (last_or_before xs y j x h)
+pub windows_none : {L : Type 0} {kinds : Kinds L} → AreWindows kinds [] []
+windows_none {L} {kinds} = record { even = λ j u h. absurd (cc); inside = λ j u h. absurd (cc); fresh = λ j u h. absurd (cc); apart = λ j k u v ne hj hk. absurd (cc); clear = λ j k u v at hj e hk. absurd (cc) }
 
-apart_last : (spans : List (ℕ × ℕ)) (s : ℕ × ℕ) → AllApart spans → ((j : ℕ) (p : ℕ × ℕ) → slice_get spans j ≡ Some p → p.0 + p.1 ≤ s.0) → AllApart (spans ++ s ∷ [])
-apart_last spans s apart ends j k p q ne hj hk = on (last_or_before spans s j p hj) (last_or_before spans s k q hk)
+fresh_short : (marks s : List ℕ) → length marks ≤ length s → IsFresh marks s → IsFresh marks (take (length marks) s)
+fresh_short marks s le h = fresh_in_prefix marks 0 (length s) (length marks) s (omega arith) (omega arith) (subst (IsFresh marks) (sym (take_all (length s) s (omega arith))) h)
+
+-- ---- a sequence with its own uses
+
+-- the windows of a sequence's own uses stand in it, at even places, fresh and apart, and have no veneers yet
+pub record OwnWindows {L : Type 0} (kinds : Kinds L) (start : ℕ) (block : List ℕ) (own : List (Use L)) : Type 0 where
+  pub bare : (k : ℕ) (u : Use L) → slice_get own k ≡ Some u → u.veneer ≡ None
+  pub even : (k : ℕ) (u : Use L) → slice_get own k ≡ Some u → u.offset % 2 ≡ 0
+  pub begins : (k : ℕ) (u : Use L) → slice_get own k ≡ Some u → start ≤ u.offset
+  pub ends : (k : ℕ) (u : Use L) → slice_get own k ≡ Some u → u.offset + length (kinds.fields u.kind) ≤ start + length block
+  pub fresh : (k : ℕ) (u : Use L) → slice_get own k ≡ Some u → IsFresh (kinds.fields u.kind) (window block (u.offset - start) (length (kinds.fields u.kind)))
+  pub apart : (j k : ℕ) (u v : Use L) → j ≢ k → slice_get own j ≡ Some u → slice_get own k ≡ Some v → IsApart u.offset (length (kinds.fields u.kind)) v.offset (length (kinds.fields v.kind))
+
+pub windows_block : {L : Type 0} {kinds : Kinds L} {bytes : List ℕ} {uses : List (Use L)} → AreWindows kinds bytes uses → IsLinked kinds bytes uses → (block : List ℕ) (own : List (Use L)) → OwnWindows kinds (length bytes) block own → AreWindows kinds (bytes ++ block) (uses ++ own)
+windows_block {L} {kinds} {bytes} {uses} w l block own o = record {
+  even = λ j u h. each (λ x. x.offset % 2 ≡ 0) w.even o.even j u h;
+  inside = λ j u h. each (λ x. x.offset + length (kinds.fields x.kind) ≤ length (bytes ++ block)) (λ k x q. let i = w.inside k x q in omega (arith, long)) (λ k x q. let i = o.ends k x q in omega (arith, long)) j u h;
+  fresh = λ j u h. each (λ x. IsFresh (kinds.fields x.kind) (window (bytes ++ block) x.offset (length (kinds.fields x.kind))))
+      (windows_bytes w block).fresh (λ k x q. subst (IsFresh (kinds.fields x.kind)) (sym (in_block x (o.begins k x q))) (o.fresh k x q)) j u h;
+  apart = λ j k u v ne hj hk. apart j k u v ne (locate uses own j u hj) (locate uses own k v hk);
+  clear = λ j k u v at hj e hk. clear j u v at (locate uses own j u hj) e (locate uses own k v hk);
+}
   where
-    on : (slice_get spans j ≡ Some p) ⊎ ((j ≡ length spans) × (s ≡ p)) → (slice_get spans k ≡ Some q) ⊎ ((k ≡ length spans) × (s ≡ q)) → IsApart p.0 p.1 q.0 q.1
-    on (inl a) (inl b) = apart j k p q ne a b
-    on (inl a) (inr b) = inl (subst (λ (x : ℕ × ℕ). p.0 + p.1 ≤ x.0) b.1 (ends j p a))
-    on (inr a) (inl b) = inr (subst (λ (x : ℕ × ℕ). q.0 + q.1 ≤ x.0) a.1 (ends k q b))
-    on (inr a) (inr b) = absurd (ne (a.0 ∙ sym b.0))
+    long : length (bytes ++ block) ≡ length bytes + length block
+    long = length-append bytes block
 
--- each of two lists
-pub both_lists : {X : Type 0} (P : X → Type 0) (xs ys : List X) → ((j : ℕ) (x : X) → slice_get xs j ≡ Some x → P x) → ((j : ℕ) (x : X) → slice_get ys j ≡ Some x → P x) → (j : ℕ) (x : X) → slice_get (xs ++ ys) j ≡ Some x → P x
-both_lists P [] ys hx hy j x h = hy j x h
-both_lists P (y ∷ xs) ys hx hy zero x h = hx zero x h
-both_lists P (y ∷ xs) ys hx hy (suc j) x h = both_lists P xs ys (λ k z e. hx (suc k) z e) hy j x h
+    each : (P : Use L → Type 0) → ((k : ℕ) (x : Use L) → slice_get uses k ≡ Some x → P x) → ((k : ℕ) (x : Use L) → slice_get own k ≡ Some x → P x) → (j : ℕ) (u : Use L) → slice_get (uses ++ own) j ≡ Some u → P u
+    each P old new j u h = ⊎_elim (λ a. old j u a) (λ a. new a.index u a.there) (locate uses own j u h)
 
--- an element of a mapped list
-pub record Comes {X Y : Type 0} (f : X → Y) (xs : List X) (j : ℕ) (y : Y) : Type 0 where
-  pub from : X
-  pub there : slice_get xs j ≡ Some from
-  pub is : f from ≡ y
+    in_block : (x : Use L) → length bytes ≤ x.offset → window (bytes ++ block) x.offset (length (kinds.fields x.kind)) ≡ window block (x.offset - length bytes) (length (kinds.fields x.kind))
+    in_block x le =
+        let split : length bytes + (x.offset - length bytes) ≡ x.offset = omega arith in
+        ap (take (length (kinds.fields x.kind))) (ap (λ n. drop n (bytes ++ block)) (sym split) ∙ sym (drop-drop (x.offset - length bytes) (length bytes) (bytes ++ block)) ∙ ap (drop (x.offset - length bytes)) (drop_at bytes block (length bytes) refl))
 
-pub comes_from : {X Y : Type 0} (f : X → Y) (xs : List X) (j : ℕ) (y : Y) → slice_get (map f xs) j ≡ Some y → Comes f xs j y
-comes_from f [] j y h = absurd (cc)
-comes_from f (x ∷ xs) zero y h = record { from = x; there = refl; is = same_Some _ _ h }
-comes_from {X} {Y} f (x ∷ xs) (suc j) y h = on (comes_from f xs j y h)
+    apart : (j k : ℕ) (u v : Use L) → j ≢ k → (slice_get uses j ≡ Some u) ⊎ After uses own j u → (slice_get uses k ≡ Some v) ⊎ After uses own k v → IsApart u.offset (length (kinds.fields u.kind)) v.offset (length (kinds.fields v.kind))
+    apart j k u v ne (inl a) (inl b) = w.apart j k u v ne a b
+    apart j k u v ne (inl a) (inr b) = let x = w.inside j u a in let y = o.begins b.index v b.there in inl (omega arith)
+    apart j k u v ne (inr a) (inl b) = let x = o.begins a.index u a.there in let y = w.inside k v b in inr (omega arith)
+    apart j k u v ne (inr a) (inr b) = o.apart a.index b.index u v (λ e. let x = a.is in let y = b.is in ne (omega arith)) a.there b.there
+
+    clear : (j : ℕ) (u v : Use L) (at : ℕ) {k : ℕ} → (slice_get uses j ≡ Some u) ⊎ After uses own j u → u.veneer ≡ Some at → (slice_get uses k ≡ Some v) ⊎ After uses own k v → (v ≡ veneer_use (kinds.veneer u.kind) at u.label) ⊎ IsApart v.offset (length (kinds.fields v.kind)) at 8
+    clear j u v at {k} (inl a) e (inl b) = w.clear j k u v at a e b
+    clear j u v at {k} (inl a) e (inr b) = let x = (l.each j u at a e).inside in let y = o.begins b.index v b.there in inr (inr (omega arith))
+    clear j u v at {k} (inr a) e b = absurd (none_some u.veneer at (o.bare a.index u a.there) e)
+
+-- ---- a veneer
+
+-- an element of a list with one changed
+pub changed : {L : Type 0} (uses : List (Use L)) (i : ℕ) (u v : Use L) → slice_get uses i ≡ Some u → (k : ℕ) (x : Use L) → slice_get (set uses i v) k ≡ Some x → ((k ≢ i) × (slice_get uses k ≡ Some x)) ⊎ ((k ≡ i) × (v ≡ x))
+changed uses i u v there k x h = ⊎_elim
+    (λ same. inr (same, same_Some _ _ (sym (slice_get-set_same uses i v u there) ∙ ap (slice_get (set uses i v)) (sym same) ∙ h)))
+    (λ ne. inl (ne, sym (slice_get-set_other uses i k v ne) ∙ h))
+    (cases_eq k i)
+
+pub windows_veneer : {L : Type 0} {kinds : Kinds L} {bytes : List ℕ} {uses : List (Use L)} → HasLaw kinds → IsLinked kinds bytes uses → (i : ℕ) (u : Use L) → slice_get uses i ≡ Some u → kinds.has_veneer u.kind ≡ true → length bytes % 2 ≡ 0 → AreWindows kinds bytes uses →
+    AreWindows kinds (bytes ++ (kinds.veneer u.kind).bytes) (set uses i (record u { veneer = Some (length bytes) }) ++ veneer_use (kinds.veneer u.kind) (length bytes) u.label ∷ [])
+windows_veneer {L} {kinds} {bytes} {uses} law l i u there supported is_even w = record {
+  even = both (λ o κ. o % 2 ≡ 0) (omega (arith, is_even, ok.place_even)) w.even;
+  inside = both (λ o κ. o + length (kinds.fields κ) ≤ length new_bytes) (omega (arith, long, ok.inside)) (λ j x h. let q = w.inside j x h in omega (arith, long));
+  fresh = both (λ o κ. IsFresh (kinds.fields κ) (window new_bytes o (length (kinds.fields κ)))) fresh_own (windows_bytes w (kinds.veneer u.kind).bytes).fresh;
+  apart = λ j k x y ne hj hk. apart j k x y ne (locate (set uses i v) (own ∷ []) j x hj) (locate (set uses i v) (own ∷ []) k y hk);
+  clear = λ j k x y at hj e hk. clear x y at (locate (set uses i v) (own ∷ []) j x hj) e (locate (set uses i v) (own ∷ []) k y hk);
+}
   where
-    on : Comes f xs j y → Comes f (x ∷ xs) (suc j) y
-    on c = record { from = c.from; there = c.there; is = c.is }
+    ok : IsVeneer kinds (kinds.veneer u.kind)
+    ok = law u.kind supported
 
--- each span ends by the end of the bytes
-pub spans_end : {L : Type 0} {fields : L → List ℕ} {has_veneer : L → Bool} {forward backward : L → ℕ} {veneer : L → Veneer L} {bytes : List ℕ} {uses : List (Use L)} {veneers : List (VeneerUse L)} → AreWindows fields bytes uses veneers → IsLinked has_veneer forward veneer bytes uses veneers →
-    ((kind : L) → has_veneer kind ≡ true → IsVeneer fields forward backward has_veneer (veneer kind)) → (j : ℕ) (p : ℕ × ℕ) → slice_get (spans_of fields (recorded uses) veneers) j ≡ Some p → p.0 + p.1 ≤ length bytes
-spans_end {L} {fields} {has_veneer} {forward} {backward} {veneer} {bytes} {uses} {veneers} w l law =
-    both_lists (λ (p : ℕ × ℕ). p.0 + p.1 ≤ length bytes) (map of_use (recorded uses)) (map of_veneer veneers)
-    (λ j p h. let c = comes_from of_use (recorded uses) j p h in subst (λ (x : ℕ × ℕ). x.0 + x.1 ≤ length bytes) c.is (w.inside j c.from c.there))
-    (λ k p h. let c = comes_from of_veneer veneers k p h in let m = l.made k c.from c.there in let i = m.inside in let eight = (law m.kind m.supported).eight in subst (λ (x : ℕ × ℕ). x.0 + x.1 ≤ length bytes) c.is (omega (arith, i, eight)))
-  where
-    of_use : Use L → ℕ × ℕ
-    of_use u = (u.offset, length (fields u.kind))
+    v : Use L
+    v = record u { veneer = Some (length bytes) }
 
-    of_veneer : VeneerUse L → ℕ × ℕ
-    of_veneer x = (x.at, 8)
+    own : Use L
+    own = veneer_use (kinds.veneer u.kind) (length bytes) u.label
 
--- a veneer is put at the end
-pub windows_veneer : {L : Type 0} {fields : L → List ℕ} {has_veneer : L → Bool} {forward backward : L → ℕ} {veneer : L → Veneer L} {bytes : List ℕ} {uses : List (Use L)} {veneers : List (VeneerUse L)} → IsLinked has_veneer forward veneer bytes uses veneers →
-    ((kind : L) → has_veneer kind ≡ true → IsVeneer fields forward backward has_veneer (veneer kind)) → (code new_bytes : List ℕ) (new_uses : List (Use L)) (new_veneers : List (VeneerUse L)) (own : VeneerUse L) →
-    new_bytes ≡ bytes ++ code → recorded new_uses ≡ recorded uses → new_veneers ≡ veneers ++ own ∷ [] → own.at ≡ length bytes → AreWindows fields bytes uses veneers → AreWindows fields new_bytes new_uses new_veneers
-windows_veneer {L} {fields} {has_veneer} {forward} {backward} {veneer} {bytes} {uses} {veneers} l law code new_bytes new_uses new_veneers own eb same ev at w =
-    let more = windows_bytes w code new_bytes eb in
-    let spans : spans_of fields (recorded new_uses) new_veneers ≡ spans_of fields (recorded uses) veneers ++ (own.at, 8) ∷ [] =
-    ap (λ us. spans_of fields us new_veneers) same ∙ ap (spans_of fields (recorded uses)) ev ∙ ap (λ ss. map of_use (recorded uses) ++ ss) (map-append of_veneer veneers (own ∷ [])) ∙ sym (append_assoc (map of_use (recorded uses)) (map of_veneer veneers) ((own.at, 8) ∷ [])) in
-    record {
-      even = λ j u h. more.even j u (ap (λ us. slice_get us j) (sym same) ∙ h);
-      inside = λ j u h. more.inside j u (ap (λ us. slice_get us j) (sym same) ∙ h);
-      fresh = λ j u h. more.fresh j u (ap (λ us. slice_get us j) (sym same) ∙ h);
-      apart = subst AllApart (sym spans) (apart_last (spans_of fields (recorded uses) veneers) (own.at, 8) w.apart (λ j p h. subst (λ n. p.0 + p.1 ≤ n) (sym at) (spans_end w l law j p h)));
-    }
-  where
-    of_use : Use L → ℕ × ℕ
-    of_use u = (u.offset, length (fields u.kind))
+    new_bytes : List ℕ
+    new_bytes = bytes ++ (kinds.veneer u.kind).bytes
 
-    of_veneer : VeneerUse L → ℕ × ℕ
-    of_veneer x = (x.at, 8)
+    long : length new_bytes ≡ length bytes + 8
+    long = length-append bytes (kinds.veneer u.kind).bytes ∙ ap (λ n. length bytes + n) ok.eight
 
--- the same parts
-pub windows_as : {L : Type 0} {fields : L → List ℕ} {bytes new_bytes : List ℕ} {uses new_uses : List (Use L)} {veneers new_veneers : List (VeneerUse L)} → AreWindows fields bytes uses veneers → new_bytes ≡ bytes → new_uses ≡ uses → new_veneers ≡ veneers → AreWindows fields new_bytes new_uses new_veneers
-windows_as w eb eu ev = rw (eb, eu, ev) w
+    -- what is said of places and kinds
+    both : (P : ℕ → L → Type 0) → P own.offset own.kind → ((j : ℕ) (x : Use L) → slice_get uses j ≡ Some x → P x.offset x.kind) → (j : ℕ) (x : Use L) → slice_get (set uses i v ++ own ∷ []) j ≡ Some x → P x.offset x.kind
+    both P po old = append_each (λ x. P x.offset x.kind) (set uses i v) own po (set_each (λ x. P x.offset x.kind) uses i v (old i u there) old)
+
+    fresh_own : IsFresh (kinds.fields own.kind) (window new_bytes own.offset (length (kinds.fields own.kind)))
+    fresh_own =
+        let m = length (kinds.fields own.kind) in
+        let from = (kinds.veneer u.kind).place in
+        let code = (kinds.veneer u.kind).bytes in
+        let eight = ok.eight in
+        let inside = ok.inside in
+        let rest = length-drop from code in
+        subst (IsFresh (kinds.fields own.kind)) (sym (ap (take m) (sym (drop-drop from (length bytes) new_bytes) ∙ ap (drop from) (drop_at bytes code (length bytes) refl)))) (fresh_short (kinds.fields own.kind) (drop from code) (omega arith) ok.fresh)
+
+    size : Use L → ℕ
+    size x = length (kinds.fields x.kind)
+
+    -- a use that was there has the place and the kind that it had
+    Old : ℕ → Use L → Type 0
+    Old k x = (z : Use L) × (slice_get uses k ≡ Some z) × (z.offset ≡ x.offset) × (size z ≡ size x)
+
+    old_at : (k : ℕ) (x : Use L) → slice_get (set uses i v) k ≡ Some x → Old k x
+    old_at k x h = ⊎_elim (λ a. (x, a.1, refl, refl)) (λ a. (u, ap (slice_get uses) a.0 ∙ there, ap (λ (y : Use L). y.offset) a.1, ap size a.1)) (changed uses i u v there k x h)
+
+    last : (k : ℕ) (x : Use L) → After (set uses i v) (own ∷ []) k x → (k ≡ length (set uses i v)) × (own ≡ x)
+    last k x a = on a.index a.is a.there
+      where
+        on : (n : ℕ) → k ≡ length (set uses i v) + n → slice_get (own ∷ []) n ≡ Some x → (k ≡ length (set uses i v)) × (own ≡ x)
+        on zero e h = (omega arith, same_Some _ _ h)
+        on (suc n) e h = absurd (cc)
+
+    apart_as : (p m q n p1 m1 q1 n1 : ℕ) → p ≡ p1 → m ≡ m1 → q ≡ q1 → n ≡ n1 → IsApart p m q n → IsApart p1 m1 q1 n1
+    apart_as p m q n p1 m1 q1 n1 a b c d (inl h) = inl (omega arith)
+    apart_as p m q n p1 m1 q1 n1 a b c d (inr h) = inr (omega arith)
+
+    own_begins : (x : Use L) → own ≡ x → length bytes ≤ x.offset
+    own_begins x e = subst (λ (y : Use L). length bytes ≤ y.offset) e (omega arith)
+
+    old_ends : (k : ℕ) (x : Use L) → Old k x → x.offset + size x ≤ length bytes
+    old_ends k x o = let z = w.inside k o.0 o.1 in let a = o.2 in let b = o.3 in omega arith
+
+    apart : (j k : ℕ) (x y : Use L) → j ≢ k → (slice_get (set uses i v) j ≡ Some x) ⊎ After (set uses i v) (own ∷ []) j x → (slice_get (set uses i v) k ≡ Some y) ⊎ After (set uses i v) (own ∷ []) k y → IsApart x.offset (size x) y.offset (size y)
+    apart j k x y ne (inl a) (inl b) = let p = old_at j x a in let q = old_at k y b in apart_as _ _ _ _ x.offset (size x) y.offset (size y) p.2 p.3 q.2 q.3 (w.apart j k p.0 q.0 ne p.1 q.1)
+    apart j k x y ne (inl a) (inr b) = let p = old_ends j x (old_at j x a) in let q = own_begins y (last k y b).1 in inl (omega arith)
+    apart j k x y ne (inr a) (inl b) = let p = own_begins x (last j x a).1 in let q = old_ends k y (old_at k y b) in inr (omega arith)
+    apart j k x y ne (inr a) (inr b) = absurd (ne ((last j x a).0 ∙ sym (last k y b).0))
+
+    clear : (x y : Use L) (at : ℕ) {j k : ℕ} → (slice_get (set uses i v) j ≡ Some x) ⊎ After (set uses i v) (own ∷ []) j x → x.veneer ≡ Some at → (slice_get (set uses i v) k ≡ Some y) ⊎ After (set uses i v) (own ∷ []) k y → (y ≡ veneer_use (kinds.veneer x.kind) at x.label) ⊎ IsApart y.offset (size y) at 8
+    clear x y at {j} {k} (inr a) e b = absurd (none_some x.veneer at (ap (λ (z : Use L). z.veneer) (sym (last j x a).1)) e)
+    clear x y at {j} {k} (inl a) e b = on (changed uses i u v there j x a) b
+      where
+        on : ((j ≢ i) × (slice_get uses j ≡ Some x)) ⊎ ((j ≡ i) × (v ≡ x)) → (slice_get (set uses i v) k ≡ Some y) ⊎ After (set uses i v) (own ∷ []) k y → (y ≡ veneer_use (kinds.veneer x.kind) at x.label) ⊎ IsApart y.offset (size y) at 8
+        on (inl o) (inl b) = ⊎_elim (λ c. w.clear j k x y at o.1 e c.1) (λ c. other c.1) (changed uses i u v there k y b)
+          where
+            other : v ≡ y → (y ≡ veneer_use (kinds.veneer x.kind) at x.label) ⊎ IsApart y.offset (size y) at 8
+            other s = ⊎_elim
+                (λ c. absurd (true≢false (sym supported ∙ ap (λ (z : Use L). kinds.has_veneer z.kind) c ∙ (law x.kind (l.each j x at o.1 e).supported).final)))
+                (λ c. inr (apart_as u.offset (size u) at 8 y.offset (size y) at 8 (ap (λ (z : Use L). z.offset) s) (ap size s) refl refl c))
+                (w.clear j i x u at o.1 e there)
+        on (inl o) (inr b) = let p = (l.each j x at o.1 e).inside in let q = own_begins y (last k y b).1 in inr (inr (omega arith))
+        on (inr o) (inl b) = let q = old_ends k y (old_at k y b) in let here : length bytes ≡ at = same_Some _ _ (ap (λ (z : Use L). z.veneer) o.1 ∙ e) in inr (inl (omega arith))
+        on (inr o) (inr b) =
+            let here : length bytes ≡ at = same_Some _ _ (ap (λ (z : Use L). z.veneer) o.1 ∙ e) in
+            inl (sym (last k y b).1 ∙ ap (veneer_use (kinds.veneer u.kind) (length bytes)) (ap (λ (z : Use L). z.label) o.1) ∙ (λ n. veneer_use (kinds.veneer (o.1 n).kind) (here n) x.label))

@@ -1,71 +1,48 @@
 -- The search for a deadline that might be missed.
-use Rattle.std.proofs.Common.{◌≡◌, ℕ, zero, suc, ◌⊎◌, inl, inr, ◌+◌, ◌*◌, ◌<◌, ◌≤◌, Bool, true, false, cond, ◌||◌, List, [], ◌∷◌, ◌++◌, length, map, Some, refl, ap, sym, ◌∙◌, subst, arith}
-use Rattle.std.specs.Prelude.{slice_get, nat_le, nat_lt}
-use Rattle.std.specs.List.Sorted.{IsStrictlySortedBy}
-use Rattle.std.proofs.Common.{append_assoc}
-use Rattle.std.proofs.lemmas.Bool.{leb-true, ltb-true, le-leb, lt-leb, cases_lt}
-use Rattle.std.proofs.lemmas.Option.{same_Some}
-use Rattle.std.proofs.lemmas.List.{length-append, map-append}
+use Rattle.std.proofs.Common.{◌≡◌, ℕ, suc, ◌+◌, ◌-◌, ◌*◌, ◌<◌, ◌≤◌, zero, Bool, true, false, not, ◌&&◌, cond, ◌||◌, List, [], ◌∷◌, ◌++◌, length, map, Option, Some, refl, ap, sym, ◌∙◌, subst, arith}
+use Rattle.std.specs.Prelude.{slice_get, nat_le, nat_lt, filter, count_by, is_some}
+use Rattle.std.proofs.lemmas.Bool.{and_parts, leb-true, leb-false, ltb-true, ltb-false, true≢false}
+use Rattle.rv_base.specs.LabelUse.{Kinds}
 use Rattle.mach_buffer.specs.declared.uses.Use.{Use}
-use Rattle.mach_buffer.specs.declared.uses.Turn.{Turn}
-use Rattle.mach_buffer.specs.Reach.{AllOf, deadline, deadlines, due_by, HasSlack, is_needed, is_needed_from}
-use Rattle.mach_buffer.specs.Buffer.{users, HaveTurns, Later, by_deadline, by_offset, by_index}
-use Rattle.mach_buffer.proofs.Slack.{due_append, deadlines_append, slack_none, slack_same, slack_not_needed, each_from_slack, same_length_from_due}
-use Rattle.mach_buffer.proofs.Added.{append_none}
-use Rattle.mach_buffer.proofs.Links.{get_right, slice_get-append, slice_get-append_at}
-use Rattle.mach_buffer.proofs.Turns.{turn_cmp, later_in_order, earlier_in_order}
+use Rattle.mach_buffer.specs.declared.pending.Pending.{Pending}
+use Rattle.mach_buffer.specs.Reach.{AllOf, deadline, is_pending, deadlines, due_by, HasSlack, is_needed_from}
+use Rattle.mach_buffer.specs.Queues.{test_at, use_where, is_due_at, is_near, is_queued, deadline_at, due_in, shows_slack, AreKept}
+use Rattle.mach_buffer.proofs.QueueContents.{kept_deadlines, kept_few}
+use Rattle.mach_buffer.proofs.Lists.{length_map}
+use Rattle.mach_buffer.proofs.Numbers.{due_count, pass_count}
+use Rattle.mach_buffer.proofs.Slack.{due_mono, due_le_length, each_from_slack, slack_less, slack_not_needed}
 
--- so far a number of deadlines were met, none of which might be missed
-pub record Scanned {L : Type 0} (forward : L → ℕ) (test : Use L → Bool) (cur : ℕ) (turns left : List (Turn × Use L)) (due : ℕ) : Type 0 where
-  pub front : List (Turn × Use L)
-  pub whole : turns ≡ front ++ left
-  pub count : due ≡ length (deadlines test forward (users front))
-  pub slack : HasSlack cur 30 (deadlines test forward (users front))
+-- ---- the pending uses are those of both queues
 
-pub scan_start : {L : Type 0} (forward : L → ℕ) (test : Use L → Bool) (cur : ℕ) (turns : List (Turn × Use L)) → Scanned forward test cur turns turns 0
-scan_start forward test cur turns = record { front = []; whole = refl; count = refl; slack = slack_none cur 30 }
-
-pub due_le_length : (end : ℕ) (ds : List ℕ) → due_by end ds ≤ length ds
-due_le_length end [] = omega arith
-due_le_length end (d ∷ ds) = on (nat_le d end) (due_le_length end ds)
+pub due_parts : {L : Type 0} (kinds : Kinds L) (place : ℕ → Option ℕ) (uses : List (Use L)) (end : ℕ) → due_in kinds place uses end ≡ due_by end (deadlines (is_queued kinds place true) kinds uses) + due_by end (deadlines (is_queued kinds place false) kinds uses)
+due_parts kinds place [] end = refl
+due_parts {L} kinds place (u ∷ uses) end = on (is_pending kinds place u) (is_near kinds u) (nat_le (deadline kinds u) end) (due_parts kinds place uses end)
   where
-    on : (c : Bool) → due_by end ds ≤ length ds → cond c (suc (due_by end ds)) (due_by end ds) ≤ suc (length ds)
-    on true le = omega arith
-    on false le = omega arith
+    on : (a b c : Bool) → due_in kinds place uses end ≡ due_by end (deadlines (is_queued kinds place true) kinds uses) + due_by end (deadlines (is_queued kinds place false) kinds uses) →
+        due_by end (cond a (deadline kinds u ∷ deadlines (is_pending kinds place) kinds uses) (deadlines (is_pending kinds place) kinds uses)) ≡ due_by end (cond (a && b) (deadline kinds u ∷ deadlines (is_queued kinds place true) kinds uses) (deadlines (is_queued kinds place true) kinds uses)) + due_by end (cond (a && not b) (deadline kinds u ∷ deadlines (is_queued kinds place false) kinds uses) (deadlines (is_queued kinds place false) kinds uses))
+    on true true c rest = step (nat_le (deadline kinds u) end)
+      where
+        step : (x : Bool) → cond x (suc (due_in kinds place uses end)) (due_in kinds place uses end) ≡ cond x (suc (due_by end (deadlines (is_queued kinds place true) kinds uses))) (due_by end (deadlines (is_queued kinds place true) kinds uses)) + due_by end (deadlines (is_queued kinds place false) kinds uses)
+        step true = omega (arith, rest)
+        step false = rest
+    on true false c rest = step (nat_le (deadline kinds u) end)
+      where
+        step : (x : Bool) → cond x (suc (due_in kinds place uses end)) (due_in kinds place uses end) ≡ due_by end (deadlines (is_queued kinds place true) kinds uses) + cond x (suc (due_by end (deadlines (is_queued kinds place false) kinds uses))) (due_by end (deadlines (is_queued kinds place false) kinds uses))
+        step true = omega (arith, rest)
+        step false = rest
+    on false b c rest = rest
 
--- a deadline behind all that were met, with room for all
-slack_last : (cur d : ℕ) (ds : List ℕ) → cur + 30 + 8 * suc (length ds) ≤ d → HasSlack cur 30 ds → HasSlack cur 30 (ds ++ d ∷ [])
-slack_last cur d ds le h = record { each = λ end one. on end (nat_le d end) refl (due_append end ds (d ∷ [])) one }
+pub count_parts : {L : Type 0} (kinds : Kinds L) (place : ℕ → Option ℕ) (uses : List (Use L)) → length (deadlines (is_pending kinds place) kinds uses) ≡ length (deadlines (is_queued kinds place true) kinds uses) + length (deadlines (is_queued kinds place false) kinds uses)
+count_parts kinds place [] = refl
+count_parts {L} kinds place (u ∷ uses) = on (is_pending kinds place u) (is_near kinds u) (count_parts kinds place uses)
   where
-    on : (end : ℕ) (c : Bool) → nat_le d end ≡ c → due_by end (ds ++ d ∷ []) ≡ due_by end ds + cond c 1 0 → 1 ≤ due_by end (ds ++ d ∷ []) → cur + 30 + 8 * due_by end (ds ++ d ∷ []) ≤ end
-    on end true e n one = let p = leb-true _ _ e in let m = due_le_length end ds in omega arith
-    on end false e n one = let g = h.each end (omega arith) in omega arith
+    on : (a b : Bool) → length (deadlines (is_pending kinds place) kinds uses) ≡ length (deadlines (is_queued kinds place true) kinds uses) + length (deadlines (is_queued kinds place false) kinds uses) →
+        length (cond a (deadline kinds u ∷ deadlines (is_pending kinds place) kinds uses) (deadlines (is_pending kinds place) kinds uses)) ≡ length (cond (a && b) (deadline kinds u ∷ deadlines (is_queued kinds place true) kinds uses) (deadlines (is_queued kinds place true) kinds uses)) + length (cond (a && not b) (deadline kinds u ∷ deadlines (is_queued kinds place false) kinds uses) (deadlines (is_queued kinds place false) kinds uses))
+    on true true rest = omega (arith, rest)
+    on true false rest = omega (arith, rest)
+    on false b rest = rest
 
-grown : {L : Type 0} (forward : L → ℕ) (test : Use L → Bool) (front : List (Turn × Use L)) (e : Turn × Use L) → deadlines test forward (users (front ++ e ∷ [])) ≡ deadlines test forward (users front) ++ cond (test e.1) (deadline forward e.1 ∷ []) []
-grown forward test front e = ap (deadlines test forward) (map-append (λ (x : Turn × Use _). x.1) front (e ∷ [])) ∙ deadlines_append test forward (users front) (e.1 ∷ [])
-
-module _ {L : Type 0} {forward : L → ℕ} {test : Use L → Bool} {cur : ℕ} {turns : List (Turn × Use L)} {due : ℕ} where
-  pub scan_skip : {e : Turn × Use L} {all left : List (Turn × Use L)} → Scanned forward test cur turns all due → all ≡ e ∷ left → test e.1 ≡ false → Scanned forward test cur turns left due
-  scan_skip {e} {all} {left} s ea idle =
-      let same : deadlines test forward (users (s.front ++ e ∷ [])) ≡ deadlines test forward (users s.front) = grown forward test s.front e ∙ ap (λ b. deadlines test forward (users s.front) ++ cond b (deadline forward e.1 ∷ []) []) idle ∙ append_none (deadlines test forward (users s.front)) in
-      record {
-        front = s.front ++ e ∷ [];
-        whole = s.whole ∙ ap (λ l. s.front ++ l) ea ∙ sym (append_assoc s.front (e ∷ []) left);
-        count = s.count ∙ ap (length {A = ℕ}) (sym same);
-        slack = subst (HasSlack cur 30) (sym same) s.slack;
-      }
-
-  pub scan_next : {e : Turn × Use L} {all left : List (Turn × Use L)} → Scanned forward test cur turns all due → all ≡ e ∷ left → test e.1 ≡ true → cur + 14 + 8 * (due + 1 + 2) ≤ deadline forward e.1 → Scanned forward test cur turns left (due + 1)
-  scan_next {e} {all} {left} s ea waits le =
-      let more : deadlines test forward (users (s.front ++ e ∷ [])) ≡ deadlines test forward (users s.front) ++ deadline forward e.1 ∷ [] = grown forward test s.front e ∙ ap (λ b. deadlines test forward (users s.front) ++ cond b (deadline forward e.1 ∷ []) []) waits in
-      let n = s.count in
-      let long : length (deadlines test forward (users (s.front ++ e ∷ []))) ≡ length (deadlines test forward (users s.front)) + 1 = ap (length {A = ℕ}) more ∙ length-append (deadlines test forward (users s.front)) (deadline forward e.1 ∷ []) in
-      record {
-        front = s.front ++ e ∷ [];
-        whole = s.whole ∙ ap (λ l. s.front ++ l) ea ∙ sym (append_assoc s.front (e ∷ []) left);
-        count = omega arith;
-        slack = subst (HasSlack cur 30) (sym more) (slack_last cur (deadline forward e.1) (deadlines test forward (users s.front)) (omega arith) s.slack);
-      }
+-- ---- where slack is and isn't
 
 not_needed_from : (cur : ℕ) (all ds : List ℕ) → AllOf (λ d. cur + 30 + 8 * due_by d all ≤ d) ds → is_needed_from cur all ds ≡ false
 not_needed_from cur all [] h = refl
@@ -75,135 +52,81 @@ not_needed_from cur all (d ∷ ds) h = on (nat_lt d (cur + 14 + 8 * (due_by d al
     on true e rest = let p : d < cur + 14 + 8 * (due_by d all + 2) = ltb-true _ _ e in let q = h.0 in absurd (omega arith)
     on false e rest = rest
 
--- all were met
-pub scan_end : {L : Type 0} {forward : L → ℕ} {test : Use L → Bool} (cur distance : ℕ) {turns left : List (Turn × Use L)} {due : ℕ} {uses : List (Use L)} → HaveTurns forward test turns uses → Scanned forward test (cur + distance) turns left due → left ≡ [] → is_needed cur distance (deadlines test forward uses) ≡ false
-scan_end {L} {forward} {test} cur distance {turns} {left} {due} {uses} h s el =
-    let whole : turns ≡ s.front = s.whole ∙ ap (λ l. s.front ++ l) el ∙ append_none s.front in
-    let slack = slack_same (cur + distance) 30 (deadlines test forward (users s.front)) (deadlines test forward uses)
-    (λ end. let c = h.counts test (λ u t. t) end in let d : due_by end (deadlines test forward (users turns)) ≡ due_by end (deadlines test forward (users s.front)) = ap (λ ts. due_by end (deadlines test forward (users ts))) whole in omega arith) s.slack in
-    not_needed_from (cur + distance) (deadlines test forward uses) (deadlines test forward uses) (each_from_slack (cur + distance) 30 (deadlines test forward uses) slack)
+pub not_needed : (cur : ℕ) (ds : List ℕ) → HasSlack cur 30 ds → is_needed_from cur ds ds ≡ false
+not_needed cur ds h = not_needed_from cur ds ds (each_from_slack cur 30 ds h)
 
-all_due : {L : Type 0} (forward : L → ℕ) (test : Use L → Bool) (end : ℕ) (es : List (Turn × Use L)) → ((i : ℕ) (y : Turn × Use L) → slice_get es i ≡ Some y → test y.1 ≡ true → deadline forward y.1 ≤ end) → due_by end (deadlines test forward (users es)) ≡ length (deadlines test forward (users es))
-all_due forward test end [] h = refl
-all_due {L} forward test end (e ∷ es) h = on (test e.1) refl (all_due forward test end es (λ i y q. h (suc i) y q))
+module _ {L : Type 0} {kinds : Kinds L} {place : ℕ → Option ℕ} {uses : List (Use L)} {p : Pending} where
+  -- how many are due, by what is counted in the queues
+  pub due_counted : (k : AreKept kinds place uses p) (end : ℕ) → count_by (λ i. is_due_at kinds (is_queued kinds place true) uses end i) p.near.numbers.items + count_by (λ i. is_due_at kinds (is_queued kinds place false) uses end i) p.far.numbers.items ≡ due_in kinds place uses end
+  due_counted k end =
+      let near = due_count kinds (is_queued kinds place true) uses end p.near.numbers.items in
+      let far = due_count kinds (is_queued kinds place false) uses end p.far.numbers.items in
+      let a = ap (due_by end) (kept_deadlines k.near) in
+      let b = ap (due_by end) (kept_deadlines k.far) in
+      (λ i. sym near i + sym far i) ∙ (λ i. sym a i + sym b i) ∙ sym (due_parts kinds place uses end)
+
+  pub pending_counted : (k : AreKept kinds place uses p) → count_by (λ i. is_some (use_where (is_queued kinds place true) uses i)) p.near.numbers.items + count_by (λ i. is_some (use_where (is_queued kinds place false) uses i)) p.far.numbers.items ≡ length (deadlines (is_pending kinds place) kinds uses)
+  pending_counted k =
+      let near = pass_count (is_queued kinds place true) uses p.near.numbers.items in
+      let far = pass_count (is_queued kinds place false) uses p.far.numbers.items in
+      let a = ap (length {A = ℕ}) (kept_deadlines k.near) ∙ length_map (deadline_at kinds uses) _ in
+      let b = ap (length {A = ℕ}) (kept_deadlines k.far) ∙ length_map (deadline_at kinds uses) _ in
+      (λ i. sym near i + sym far i) ∙ (λ i. sym a i + sym b i) ∙ sym (count_parts kinds place uses)
+
+  -- no more are pending than the queues have
+  pub kept_many : AreKept kinds place uses p → length (deadlines (is_pending kinds place) kinds uses) ≤ length p.near.numbers.items + length p.far.numbers.items
+  kept_many k = let sum = count_parts kinds place uses in let a = kept_few k.near in let b = kept_few k.far in omega arith
+
+  -- the slack of both queues is slack of all
+  slack_both : AreKept kinds place uses p → (start : ℕ) → 1 ≤ start → shows_slack p start ≡ true → HasSlack start 0 (deadlines (is_pending kinds place) kinds uses)
+  slack_both k start some shows =
+      let parts : (nat_le start p.near.slack ≡ true) × (nat_le (start + 8 * length p.near.numbers.items) p.far.slack ≡ true) = and_parts _ _ shows in
+      let a = leb-true _ _ parts.0 in
+      let b = leb-true _ _ parts.1 in
+      record { each = λ end one. at end one a b (due_parts kinds place uses end) }
+    where
+      N : List ℕ
+      N = deadlines (is_queued kinds place true) kinds uses
+
+      F : List ℕ
+      F = deadlines (is_queued kinds place false) kinds uses
+
+      at : (end : ℕ) → 1 ≤ due_in kinds place uses end → start ≤ p.near.slack → start + 8 * length p.near.numbers.items ≤ p.far.slack → due_in kinds place uses end ≡ due_by end N + due_by end F → start + 0 + 8 * due_in kinds place uses end ≤ end
+      at end one a b sum = on (due_by end F) refl
+        where
+          on : (n : ℕ) → due_by end F ≡ n → start + 0 + 8 * due_in kinds place uses end ≤ end
+          on zero z = let g = (k.near.room (omega arith)).each end (omega arith) in omega (arith, z)
+          on (suc n) z = let g = (k.far.room (omega arith)).each end (omega (arith, z)) in let few = kept_few k.near in let m = due_le_length end N in omega (arith, z)
+
+  -- no island is needed then
+  pub slack_shown : AreKept kinds place uses p → (start : ℕ) → 30 ≤ start → shows_slack p start ≡ true → is_needed_from (start - 30) (deadlines (is_pending kinds place) kinds uses) (deadlines (is_pending kinds place) kinds uses) ≡ false
+  slack_shown k start some shows = not_needed (start - 30) (deadlines (is_pending kinds place) kinds uses) (slack_less start 0 (start - 30) 30 _ (omega arith) (slack_both k start (omega arith) shows))
+
+-- wherever too many are due, at most so many are
+pub record IsBound (start count : ℕ) (ds : List ℕ) : Type 0 where
+  pub each : (end : ℕ) → end < start + 8 * due_by end ds → due_by end ds ≤ count
+
+pub bound_start : (start count : ℕ) (ds : List ℕ) → length ds ≤ count → IsBound start count ds
+bound_start start count ds le = record { each = λ end lt. let m = due_le_length end ds in omega arith }
+
+-- then no more are than are due within that many veneers
+pub bound_next : (start count due end : ℕ) (ds : List ℕ) → IsBound start count ds → end + 1 ≡ start + 8 * count → due ≡ due_by end ds → IsBound start due ds
+bound_next start count due end ds b e d = record { each = λ at lt. let c = b.each at lt in let m = due_mono at end ds (omega arith) in omega arith }
+
+pub bound_none : (start : ℕ) (ds : List ℕ) → 30 ≤ start → IsBound start 0 ds → is_needed_from (start - 30) ds ds ≡ false
+bound_none start ds some b = not_needed (start - 30) ds (record { each = λ end one. at end one (nat_lt end (start + 8 * due_by end ds)) refl })
   where
-    on : (b : Bool) → test e.1 ≡ b → due_by end (deadlines test forward (users es)) ≡ length (deadlines test forward (users es)) → due_by end (cond b (deadline forward e.1 ∷ deadlines test forward (users es)) (deadlines test forward (users es))) ≡ length (cond b (deadline forward e.1 ∷ deadlines test forward (users es)) (deadlines test forward (users es)))
-    on true t rest = ap (λ c. cond c (suc (due_by end (deadlines test forward (users es)))) (due_by end (deadlines test forward (users es)))) (le-leb _ _ (h 0 e refl t)) ∙ ap suc rest
-    on false t rest = rest
+    at : (end : ℕ) → 1 ≤ due_by end ds → (c : Bool) → nat_lt end (start + 8 * due_by end ds) ≡ c → (start - 30) + 30 + 8 * due_by end ds ≤ end
+    at end one true e = let lt = ltb-true _ _ e in let z = b.each end lt in absurd (omega arith)
+    at end one false e = let le = ltb-false _ _ e in omega arith
 
--- one was found that might be missed
-pub scan_found : {L : Type 0} {forward : L → ℕ} {test : Use L → Bool} (cur distance : ℕ) {turns all left : List (Turn × Use L)} {e : Turn × Use L} {due : ℕ} {uses : List (Use L)} → HaveTurns forward test turns uses → IsStrictlySortedBy turn_cmp (map (λ (x : Turn × Use L). x.0) turns) →
-    Scanned forward test (cur + distance) turns all due → all ≡ e ∷ left → test e.1 ≡ true → e.0.deadline < cur + distance + 14 + 8 * (due + 1 + 2) → is_needed cur distance (deadlines test forward uses) ≡ true
-scan_found {L} {forward} {test} cur distance {turns} {all} {left} {e} {due} {uses} h sorted s ea waits lt = on (is_needed cur distance (deadlines test forward uses)) refl
+pub bound_many : (start count due end : ℕ) (ds : List ℕ) → 30 ≤ start → 1 ≤ count → end + 1 ≡ start + 8 * count → due ≡ due_by end ds → count ≤ due → is_needed_from (start - 30) ds ds ≡ true
+bound_many start count due end ds some one e d many = on (is_needed_from (start - 30) ds ds) refl
   where
-    whole : turns ≡ s.front ++ e ∷ left
-    whole = s.whole ∙ ap (λ l. s.front ++ l) ea
-
-    sooner : (i : ℕ) (y : Turn × Use L) → slice_get s.front i ≡ Some y → test y.1 ≡ true → deadline forward y.1 ≤ e.0.deadline
-    sooner i y q t =
-        let own = h.each i y (ap (λ ts. slice_get ts i) whole ∙ slice_get-append s.front (e ∷ left) i y q) t in
-        let d = own.deadline in
-        let le = not_after (later_in_order s.front e left (subst (λ ts. IsStrictlySortedBy turn_cmp (map (λ (x : Turn × Use L). x.0) ts)) whole sorted) i y q) in
-        omega arith
-      where
-        not_after : {a b : Turn} → Later a b → a.deadline ≤ b.deadline
-        not_after (by_deadline l) = omega arith
-        not_after (by_offset x l) = omega arith
-        not_after (by_index x y l) = omega arith
-
-    on : (b : Bool) → is_needed cur distance (deadlines test forward uses) ≡ b → is_needed cur distance (deadlines test forward uses) ≡ true
+    on : (c : Bool) → is_needed_from (start - 30) ds ds ≡ c → is_needed_from (start - 30) ds ds ≡ true
     on true q = q
     on false q =
-        let slack = slack_not_needed cur distance (deadlines test forward uses) q in
-        let own = h.each (length s.front) e (ap (λ ts. slice_get ts (length s.front)) whole ∙ slice_get-append_at s.front e left) waits in
-        let d = own.deadline in
-        let n = s.count in
-        let c = h.counts test (λ u t. t) e.0.deadline in
-        let w : due_by e.0.deadline (deadlines test forward (users turns)) ≡ due_by e.0.deadline (deadlines test forward (users s.front)) + due_by e.0.deadline (deadlines test forward (users (e ∷ left))) =
-        ap (λ ts. due_by e.0.deadline (deadlines test forward (users ts))) whole ∙ ap (λ us. due_by e.0.deadline (deadlines test forward us)) (map-append (λ (x : Turn × Use L). x.1) s.front (e ∷ left)) ∙ ap (due_by e.0.deadline) (deadlines_append test forward (users s.front) (users (e ∷ left))) ∙ due_append e.0.deadline (deadlines test forward (users s.front)) (deadlines test forward (users (e ∷ left))) in
-        let f = all_due forward test e.0.deadline s.front sooner in
-        let g : 1 ≤ due_by e.0.deadline (deadlines test forward (users (e ∷ left))) = first_due (le-leb _ _ (omega arith)) in
-        let k = slack.each e.0.deadline (omega arith) in
+        let same : (start - 30) + 0 ≡ start - 30 = omega arith in
+        let h : HasSlack ((start - 30) + 0) 30 ds = slack_not_needed (start - 30) 0 ds (ap (λ (n : ℕ). is_needed_from n ds ds) same ∙ q) in
+        let g = h.each end (omega arith) in
         absurd (omega arith)
-      where
-        first_due : nat_le (deadline forward e.1) e.0.deadline ≡ true → 1 ≤ due_by e.0.deadline (deadlines test forward (users (e ∷ left)))
-        first_due x =
-            subst (λ b. 1 ≤ due_by e.0.deadline (cond b (deadline forward e.1 ∷ deadlines test forward (users left)) (deadlines test forward (users left)))) (sym waits)
-            (subst (λ b. 1 ≤ cond b (suc (due_by e.0.deadline (deadlines test forward (users left)))) (due_by e.0.deadline (deadlines test forward (users left)))) (sym x) (omega arith))
-
-deadlines_few : {L : Type 0} (forward : L → ℕ) (test : Use L → Bool) (es : List (Turn × Use L)) → length (deadlines test forward (users es)) ≤ length es
-deadlines_few forward test [] = omega arith
-deadlines_few {L} forward test (e ∷ es) = on (test e.1) (deadlines_few forward test es)
-  where
-    on : (b : Bool) → length (deadlines test forward (users es)) ≤ length es → length (cond b (deadline forward e.1 ∷ deadlines test forward (users es)) (deadlines test forward (users es))) ≤ suc (length es)
-    on true le = omega arith
-    on false le = omega arith
-
--- no more were met than there are
-pub scan_few : {L : Type 0} {forward : L → ℕ} {test : Use L → Bool} {cur : ℕ} {turns all : List (Turn × Use L)} {due : ℕ} → Scanned forward test cur turns all due → due + length all ≤ length turns
-scan_few {L} {forward} {test} {cur} {turns} {all} {due} s =
-    let a = deadlines_few forward test s.front in
-    let b : length turns ≡ length s.front + length all = ap (length {A = Turn × Use L}) s.whole ∙ length-append s.front all in
-    let n = s.count in
-    omega arith
-
--- no fewer turns there are than uses that wait
-pub turns_many : {L : Type 0} {forward : L → ℕ} {test : Use L → Bool} {turns : List (Turn × Use L)} {uses : List (Use L)} → HaveTurns forward test turns uses → length (deadlines test forward uses) ≤ length turns
-turns_many {L} {forward} {test} {turns} {uses} h =
-    let a = deadlines_few forward test turns in
-    let b = same_length_from_due (deadlines test forward (users turns)) (deadlines test forward uses) (h.counts test (λ u t. t)) in
-    omega arith
-
--- none of these is due yet
-none_due : {L : Type 0} (forward : L → ℕ) (test : Use L → Bool) (end : ℕ) (es : List (Turn × Use L)) → ((i : ℕ) (y : Turn × Use L) → slice_get es i ≡ Some y → test y.1 ≡ true → end < deadline forward y.1) → due_by end (deadlines test forward (users es)) ≡ 0
-none_due forward test end [] h = refl
-none_due {L} forward test end (e ∷ es) h = on (test e.1) refl (none_due forward test end es (λ i y q t. h (suc i) y q t))
-  where
-    on : (b : Bool) → test e.1 ≡ b → due_by end (deadlines test forward (users es)) ≡ 0 → due_by end (cond b (deadline forward e.1 ∷ deadlines test forward (users es)) (deadlines test forward (users es))) ≡ 0
-    on true t rest = ap (λ c. cond c (suc (due_by end (deadlines test forward (users es)))) (due_by end (deadlines test forward (users es)))) (lt-leb _ _ (h 0 e refl t)) ∙ rest
-    on false t rest = rest
-
--- from here on all deadlines are so late that no count of uses matters
-pub scan_far : {L : Type 0} {forward : L → ℕ} {test : Use L → Bool} (cur distance : ℕ) {turns all left : List (Turn × Use L)} {e : Turn × Use L} {due : ℕ} {uses : List (Use L)} → HaveTurns forward test turns uses → IsStrictlySortedBy turn_cmp (map (λ (x : Turn × Use L). x.0) turns) →
-    Scanned forward test (cur + distance) turns all due → all ≡ e ∷ left → cur + distance + 14 + 8 * (length turns + 2) ≤ e.0.deadline → is_needed cur distance (deadlines test forward uses) ≡ false
-scan_far {L} {forward} {test} cur distance {turns} {all} {left} {e} {due} {uses} h sorted s ea far =
-    not_needed_from (cur + distance) (deadlines test forward uses) (deadlines test forward uses)
-    (each_from_slack (cur + distance) 30 (deadlines test forward uses)
-    (slack_same (cur + distance) 30 (deadlines test forward (users turns)) (deadlines test forward uses) (λ end. let c = h.counts test (λ u t. t) end in omega arith) (record { each = λ end one. on end (cases_lt end e.0.deadline) one })))
-  where
-    whole : turns ≡ s.front ++ e ∷ left
-    whole = s.whole ∙ ap (λ l. s.front ++ l) ea
-
-    not_after : {a b : Turn} → Later a b → a.deadline ≤ b.deadline
-    not_after (by_deadline l) = omega arith
-    not_after (by_offset x l) = omega arith
-    not_after (by_index x y l) = omega arith
-
-    behind : (end : ℕ) → end < e.0.deadline → (i : ℕ) (y : Turn × Use L) → slice_get (e ∷ left) i ≡ Some y → test y.1 ≡ true → end < deadline forward y.1
-    behind end lt i y q t =
-        let own = h.each (length s.front + i) y (ap (λ ts. slice_get ts (length s.front + i)) whole ∙ get_right s.front (e ∷ left) i y q) t in
-        let d = own.deadline in
-        let le = later i q in
-        omega arith
-      where
-        later : (n : ℕ) → slice_get (e ∷ left) n ≡ Some y → e.0.deadline ≤ y.0.deadline
-        later zero r = let same = ap (λ (x : Turn × Use L). x.0.deadline) (same_Some _ _ r) in omega arith
-        later (suc n) r = not_after (earlier_in_order s.front e left (subst (λ ts. IsStrictlySortedBy turn_cmp (map (λ (x : Turn × Use L). x.0) ts)) whole sorted) n y r)
-
-    on : (end : ℕ) → (end < e.0.deadline) ⊎ (e.0.deadline ≤ end) → 1 ≤ due_by end (deadlines test forward (users turns)) → cur + distance + 30 + 8 * due_by end (deadlines test forward (users turns)) ≤ end
-    on end (inr ge) one =
-        let l = due_le_length end (deadlines test forward (users turns)) in
-        let f = deadlines_few forward test turns in
-        omega arith
-    on end (inl lt) one =
-        let w : due_by end (deadlines test forward (users turns)) ≡ due_by end (deadlines test forward (users s.front)) + due_by end (deadlines test forward (users (e ∷ left))) =
-        ap (λ ts. due_by end (deadlines test forward (users ts))) whole ∙ ap (λ us. due_by end (deadlines test forward us)) (map-append (λ (x : Turn × Use L). x.1) s.front (e ∷ left)) ∙ ap (due_by end) (deadlines_append test forward (users s.front) (users (e ∷ left))) ∙ due_append end (deadlines test forward (users s.front)) (deadlines test forward (users (e ∷ left))) in
-        let n = none_due forward test end (e ∷ left) (behind end lt) in
-        let k = s.slack.each end (omega arith) in
-        omega arith
-
--- the next turn's deadline is its use's
-pub scan_turn : {L : Type 0} {forward : L → ℕ} {test : Use L → Bool} {cur : ℕ} {turns all left : List (Turn × Use L)} {e : Turn × Use L} {due : ℕ} {uses : List (Use L)} → HaveTurns forward test turns uses → Scanned forward test cur turns all due → all ≡ e ∷ left → test e.1 ≡ true → e.0.deadline ≡ deadline forward e.1
-scan_turn {L} {forward} {test} {cur} {turns} {all} {left} {e} h s ea waits =
-    let whole : turns ≡ s.front ++ e ∷ left = s.whole ∙ ap (λ l. s.front ++ l) ea in
-    (h.each (length s.front) e (ap (λ ts. slice_get ts (length s.front)) whole ∙ slice_get-append_at s.front e left) waits).deadline

@@ -5,7 +5,8 @@ use Rattle.std.proofs.Common.{set}
 use Rattle.std.proofs.lemmas.Option.{same_Some}
 use Rattle.std.specs.Prelude.{is_none, slice_get, nat_le, nat_lt}
 use Rattle.std.proofs.lemmas.Bool.{leb-true, leb-false, ltb-false, or_parts, true≢false, and_parts, and_from, cases_eq}
-use Rattle.mach_buffer.specs.Reach.{AllOf, CanReach, StillReaches, deadline, is_reached, is_pending, deadlines, due_by, HasSlack, is_needed_from, is_needed}
+use Rattle.rv_base.specs.LabelUse.{Kinds}
+use Rattle.mach_buffer.specs.Reach.{AllOf, CanReach, VeneersReach, StillReaches, deadline, is_reached, is_pending, deadlines, due_by, HasSlack, is_needed_from, is_needed}
 
 -- ---- how many are due
 
@@ -52,30 +53,14 @@ slack_more cur slack d ds le h = record { each = λ end one. on end (nat_le d en
 pub slack_same : (cur slack : ℕ) (ds es : List ℕ) → ((end : ℕ) → due_by end es ≤ due_by end ds) → HasSlack cur slack ds → HasSlack cur slack es
 slack_same cur slack ds es le h = record { each = λ end one. let l = le end in let g = h.each end (omega arith) in omega arith }
 
--- the soonest gets its veneer: eight bytes on, and one less is due
-pub slack_next : (cur slack d : ℕ) (ds es : List ℕ) → ((end : ℕ) → 1 ≤ due_by end ds → d ≤ end) → ((end : ℕ) → due_by end ds ≡ due_by end (d ∷ []) + due_by end es) → HasSlack cur slack ds → HasSlack (cur + 8) slack es
-slack_next cur slack d ds es least counts h = record { each = λ end one. on end (nat_le d end) refl one (counts end) }
-  where
-    on : (end : ℕ) (c : Bool) → nat_le d end ≡ c → 1 ≤ due_by end es → due_by end ds ≡ cond c 1 0 + due_by end es → cur + 8 + slack + 8 * due_by end es ≤ end
-    on end true e one counts = let g = h.each end (omega arith) in omega arith
-    on end false e one counts = let p = leb-false _ _ e in let q = least end (omega arith) in absurd (omega arith)
-
--- and it is in reach
-pub soonest_due : (cur slack d : ℕ) (ds es : List ℕ) → due_by d ds ≡ due_by d (d ∷ []) + due_by d es → HasSlack cur slack ds → cur + slack + 8 ≤ d
-soonest_due cur slack d ds es counts h = on (nat_le d d) refl counts
-  where
-    on : (c : Bool) → nat_le d d ≡ c → due_by d ds ≡ cond c 1 0 + due_by d es → cur + slack + 8 ≤ d
-    on true e counts = let g = h.each d (omega arith) in omega arith
-    on false e counts = let p = leb-false _ _ e in absurd (omega arith)
-
 -- ---- from the deadlines themselves to every offset
 
--- Each deadline among some keeps a bound; so does every offset by which one is due.
-from_each : (cur slack : ℕ) (all : List ℕ) → ((d : ℕ) → suc (due_by d all) ≤ due_by (suc d) all → cur + slack + 8 * due_by (suc d) all ≤ suc d) → (1 ≤ due_by 0 all → cur + slack + 8 * due_by 0 all ≤ 0) → (end : ℕ) → 1 ≤ due_by end all → cur + slack + 8 * due_by end all ≤ end
-from_each cur slack all step base zero one = base one
-from_each cur slack all step base (suc end) one = on (nat_le (suc (due_by end all)) (due_by (suc end) all)) refl (from_each cur slack all step base end)
+-- Each deadline among some keeps a bound, which may end somewhat past it; so does every offset by which one is due.
+from_each : (cur past : ℕ) (all : List ℕ) → ((d : ℕ) → suc (due_by d all) ≤ due_by (suc d) all → cur + 8 * due_by (suc d) all ≤ suc d + past) → (1 ≤ due_by 0 all → cur + 8 * due_by 0 all ≤ 0 + past) → (end : ℕ) → 1 ≤ due_by end all → cur + 8 * due_by end all ≤ end + past
+from_each cur past all step base zero one = base one
+from_each cur past all step base (suc end) one = on (nat_le (suc (due_by end all)) (due_by (suc end) all)) refl (from_each cur past all step base end)
   where
-    on : (c : Bool) → nat_le (suc (due_by end all)) (due_by (suc end) all) ≡ c → (1 ≤ due_by end all → cur + slack + 8 * due_by end all ≤ end) → cur + slack + 8 * due_by (suc end) all ≤ suc end
+    on : (c : Bool) → nat_le (suc (due_by end all)) (due_by (suc end) all) ≡ c → (1 ≤ due_by end all → cur + 8 * due_by end all ≤ end + past) → cur + 8 * due_by (suc end) all ≤ suc end + past
     on true e before = step end (leb-true _ _ e)
     on false e before = let more = due_earlier end all in let p = leb-false _ _ e in let g = before (omega arith) in omega arith
 
@@ -98,10 +83,19 @@ due_at_zero P (e ∷ ds) h one = on (nat_le e 0) refl one (due_at_zero P ds h.1)
     on true ha le rest = let p = leb-true _ _ ha in let same : e ≡ 0 = omega arith in subst P same h.0
     on false ha le rest = rest le
 
+all_of : (P Q : ℕ → Type 0) → ((d : ℕ) → P d → Q d) → (ds : List ℕ) → AllOf P ds → AllOf Q ds
+all_of P Q f [] h = tt
+all_of P Q f (d ∷ ds) h = (f d h.0, all_of P Q f ds h.1)
+
+each_end : (cur past : ℕ) (ds : List ℕ) → AllOf (λ d. cur + 8 * due_by d ds ≤ d + past) ds → (end : ℕ) → 1 ≤ due_by end ds → cur + 8 * due_by end ds ≤ end + past
+each_end cur past ds h = from_each cur past ds (λ e. due_is_deadline (λ d. cur + 8 * due_by d ds ≤ d + past) e ds h) (due_at_zero (λ d. cur + 8 * due_by d ds ≤ d + past) ds h)
+
 pub slack_from_each : (cur slack : ℕ) (ds : List ℕ) → AllOf (λ d. cur + slack + 8 * due_by d ds ≤ d) ds → HasSlack cur slack ds
-slack_from_each cur slack ds h = record {
-  each = from_each cur slack ds (λ e. due_is_deadline (λ d. cur + slack + 8 * due_by d ds ≤ d) e ds h) (due_at_zero (λ d. cur + slack + 8 * due_by d ds ≤ d) ds h);
-}
+slack_from_each cur slack ds h = record { each = λ end one. let e = each_end (cur + slack) 0 ds (all_of (λ d. cur + slack + 8 * due_by d ds ≤ d) (λ d. cur + slack + 8 * due_by d ds ≤ d + 0) (λ d q. omega arith) ds h) end one in omega arith }
+
+-- and where each pending use reaches its veneer
+pub reaches_from_each : (start : ℕ) (ds : List ℕ) → VeneersReach start ds → StillReaches start ds
+reaches_from_each start ds h = record { each = each_end start 8 ds h }
 
 -- and back
 due_own : (d : ℕ) (ds : List ℕ) → 1 ≤ due_by d (d ∷ ds)
@@ -146,56 +140,19 @@ slack_not_needed cur distance ds h = slack_from_each (cur + distance) 30 ds (not
 -- ---- the deadlines of uses
 
 -- a use more
-pub deadlines_append : {L : Type 0} (test : Use L → Bool) (forward : L → ℕ) (uses more : List (Use L)) → deadlines test forward (uses ++ more) ≡ deadlines test forward uses ++ deadlines test forward more
-deadlines_append test forward [] more = refl
-deadlines_append test forward (u ∷ uses) more = on (test u) (deadlines_append test forward uses more)
+pub deadlines_append : {L : Type 0} (test : Use L → Bool) (kinds : Kinds L) (uses more : List (Use L)) → deadlines test kinds (uses ++ more) ≡ deadlines test kinds uses ++ deadlines test kinds more
+deadlines_append test kinds [] more = refl
+deadlines_append test kinds (u ∷ uses) more = on (test u) (deadlines_append test kinds uses more)
   where
-    on : (c : Bool) → deadlines test forward (uses ++ more) ≡ deadlines test forward uses ++ deadlines test forward more →
-        cond c (deadline forward u ∷ deadlines test forward (uses ++ more)) (deadlines test forward (uses ++ more)) ≡ cond c (deadline forward u ∷ deadlines test forward uses) (deadlines test forward uses) ++ deadlines test forward more
-    on true rest = ap (λ ds. deadline forward u ∷ ds) rest
-    on false rest = rest
-
--- a use is changed so that it waits no longer: what its deadline counted is gone
-pub due_set : {L : Type 0} (test : Use L → Bool) (forward : L → ℕ) (end : ℕ) (uses : List (Use L)) (i : ℕ) (u v : Use L) → slice_get uses i ≡ Some u → test u ≡ true → test v ≡ false →
-    due_by end (deadlines test forward uses) ≡ due_by end (deadline forward u ∷ []) + due_by end (deadlines test forward (set uses i v))
-due_set test forward end [] i u v h tu tv = absurd (cc)
-due_set test forward end (w ∷ uses) zero u v h tu tv =
-    let same : w ≡ u = same_Some _ _ h in
-    let yes : test w ≡ true = ap test same ∙ tu in
-    rw (yes, tv, same) (on (nat_le (deadline forward u) end))
-  where
-    on : (c : Bool) → cond c (suc (due_by end (deadlines test forward uses))) (due_by end (deadlines test forward uses)) ≡ cond c 1 0 + due_by end (deadlines test forward uses)
-    on true = omega arith
-    on false = omega arith
-due_set test forward end (w ∷ uses) (suc i) u v h tu tv = on (test w) (due_set test forward end uses i u v h tu tv)
-  where
-    step : (c : Bool) (m n k : ℕ) → m ≡ k + n → cond c (suc m) m ≡ k + cond c (suc n) n
-    step true m n k e = omega arith
-    step false m n k e = e
-
-    on : (c : Bool) → due_by end (deadlines test forward uses) ≡ due_by end (deadline forward u ∷ []) + due_by end (deadlines test forward (set uses i v)) →
-        due_by end (cond c (deadline forward w ∷ deadlines test forward uses) (deadlines test forward uses)) ≡ due_by end (deadline forward u ∷ []) + due_by end (cond c (deadline forward w ∷ deadlines test forward (set uses i v)) (deadlines test forward (set uses i v)))
-    on true rest = step (nat_le (deadline forward w) end) _ _ _ rest
-    on false rest = rest
-
-pub length_set : {L : Type 0} (test : Use L → Bool) (forward : L → ℕ) (uses : List (Use L)) (i : ℕ) (u v : Use L) → slice_get uses i ≡ Some u → test u ≡ true → test v ≡ false →
-    length (deadlines test forward uses) ≡ suc (length (deadlines test forward (set uses i v)))
-length_set test forward [] i u v h tu tv = absurd (cc)
-length_set test forward (w ∷ uses) zero u v h tu tv =
-    let same : w ≡ u = same_Some _ _ h in
-    let yes : test w ≡ true = ap test same ∙ tu in
-    rw (yes, tv) refl
-length_set test forward (w ∷ uses) (suc i) u v h tu tv = on (test w) (length_set test forward uses i u v h tu tv)
-  where
-    on : (c : Bool) → length (deadlines test forward uses) ≡ suc (length (deadlines test forward (set uses i v))) →
-        length (cond c (deadline forward w ∷ deadlines test forward uses) (deadlines test forward uses)) ≡ suc (length (cond c (deadline forward w ∷ deadlines test forward (set uses i v)) (deadlines test forward (set uses i v))))
-    on true rest = ap suc rest
+    on : (c : Bool) → deadlines test kinds (uses ++ more) ≡ deadlines test kinds uses ++ deadlines test kinds more →
+        cond c (deadline kinds u ∷ deadlines test kinds (uses ++ more)) (deadlines test kinds (uses ++ more)) ≡ cond c (deadline kinds u ∷ deadlines test kinds uses) (deadlines test kinds uses) ++ deadlines test kinds more
+    on true rest = ap (λ ds. deadline kinds u ∷ ds) rest
     on false rest = rest
 
 -- a label is bound: fewer wait
-pub due_fewer : {L : Type 0} (test new_test : Use L → Bool) (forward : L → ℕ) (end : ℕ) (uses : List (Use L)) → ((u : Use L) → new_test u ≡ true → test u ≡ true) → due_by end (deadlines new_test forward uses) ≤ due_by end (deadlines test forward uses)
-due_fewer test new_test forward end [] h = omega arith
-due_fewer test new_test forward end (u ∷ uses) h = on (new_test u) (test u) (h u) (due_fewer test new_test forward end uses h)
+pub due_fewer : {L : Type 0} (test new_test : Use L → Bool) (kinds : Kinds L) (end : ℕ) (uses : List (Use L)) → ((u : Use L) → new_test u ≡ true → test u ≡ true) → due_by end (deadlines new_test kinds uses) ≤ due_by end (deadlines test kinds uses)
+due_fewer test new_test kinds end [] h = omega arith
+due_fewer test new_test kinds end (u ∷ uses) h = on (new_test u) (test u) (h u) (due_fewer test new_test kinds end uses h)
   where
     step : (c : Bool) (m n : ℕ) → m ≤ n → cond c (suc m) m ≤ cond c (suc n) n
     step true m n le = omega arith
@@ -205,40 +162,40 @@ due_fewer test new_test forward end (u ∷ uses) h = on (new_test u) (test u) (h
     more true m n le = omega arith
     more false m n le = le
 
-    on : (b a : Bool) → (b ≡ true → a ≡ true) → due_by end (deadlines new_test forward uses) ≤ due_by end (deadlines test forward uses) →
-        due_by end (cond b (deadline forward u ∷ deadlines new_test forward uses) (deadlines new_test forward uses)) ≤ due_by end (cond a (deadline forward u ∷ deadlines test forward uses) (deadlines test forward uses))
-    on true true i rest = step (nat_le (deadline forward u) end) _ _ rest
+    on : (b a : Bool) → (b ≡ true → a ≡ true) → due_by end (deadlines new_test kinds uses) ≤ due_by end (deadlines test kinds uses) →
+        due_by end (cond b (deadline kinds u ∷ deadlines new_test kinds uses) (deadlines new_test kinds uses)) ≤ due_by end (cond a (deadline kinds u ∷ deadlines test kinds uses) (deadlines test kinds uses))
+    on true true i rest = step (nat_le (deadline kinds u) end) _ _ rest
     on true false i rest = absurd (true≢false (sym (i refl)))
-    on false true i rest = more (nat_le (deadline forward u) end) _ _ rest
+    on false true i rest = more (nat_le (deadline kinds u) end) _ _ rest
     on false false i rest = rest
 
--- bound where none was: what waits now waited before
-pub bound_waits : {L : Type 0} (has_veneer : L → Bool) (forward backward : L → ℕ) (place new_place : ℕ → Option ℕ) (label : ℕ) → place label ≡ None → ((other : ℕ) → other ≢ label → new_place other ≡ place other) → (u : Use L) →
-    is_pending has_veneer forward backward new_place u ≡ true → is_pending has_veneer forward backward place u ≡ true
-bound_waits has_veneer forward backward place new_place label none kept u h =
-    let parts : (has_veneer u.kind ≡ true) × ((is_none u.veneer && not (is_reached forward backward (new_place u.label.number) u)) ≡ true) = and_parts _ _ h in
-    let inner : (is_none u.veneer ≡ true) × (not (is_reached forward backward (new_place u.label.number) u) ≡ true) = and_parts _ _ parts.1 in
+-- bound where none was: what is pending now waited before
+pub bound_waits : {L : Type 0} (kinds : Kinds L) (place new_place : ℕ → Option ℕ) (label : ℕ) → place label ≡ None → ((other : ℕ) → other ≢ label → new_place other ≡ place other) → (u : Use L) →
+    is_pending kinds new_place u ≡ true → is_pending kinds place u ≡ true
+bound_waits kinds place new_place label none kept u h =
+    let parts : (kinds.has_veneer u.kind ≡ true) × ((is_none u.veneer && not (is_reached kinds (new_place u.label.number) u)) ≡ true) = and_parts _ _ h in
+    let inner : (is_none u.veneer ≡ true) × (not (is_reached kinds (new_place u.label.number) u) ≡ true) = and_parts _ _ parts.1 in
     ⊎_elim
     (λ e.
     let open_ : place u.label.number ≡ None = ap place e ∙ none in
-    and_from _ _ parts.0 (and_from _ _ inner.0 (ap (λ o. not (is_reached forward backward o u)) open_)))
-    (λ other. and_from _ _ parts.0 (and_from _ _ inner.0 (ap (λ o. not (is_reached forward backward o u)) (sym (kept u.label.number other)) ∙ inner.1)))
+    and_from _ _ parts.0 (and_from _ _ inner.0 (ap (λ o. not (is_reached kinds o u)) open_)))
+    (λ other. and_from _ _ parts.0 (and_from _ _ inner.0 (ap (λ o. not (is_reached kinds o u)) (sym (kept u.label.number other)) ∙ inner.1)))
     (cases_eq u.label.number label)
 
 -- a use is recorded: eight bytes of slack for it
-pub slack_use : {L : Type 0} (test : Use L → Bool) (forward : L → ℕ) (cur slack : ℕ) (uses : List (Use L)) (u : Use L) → cur + slack + 8 ≤ deadline forward u → HasSlack cur (slack + 8) (deadlines test forward uses) → HasSlack cur slack (deadlines test forward (uses ++ u ∷ []))
-slack_use test forward cur slack uses u le h = on (test u) refl
+pub slack_use : {L : Type 0} (test : Use L → Bool) (kinds : Kinds L) (cur slack : ℕ) (uses : List (Use L)) (u : Use L) → cur + slack + 8 ≤ deadline kinds u → HasSlack cur (slack + 8) (deadlines test kinds uses) → HasSlack cur slack (deadlines test kinds (uses ++ u ∷ []))
+slack_use test kinds cur slack uses u le h = on (test u) refl
   where
-    on : (c : Bool) → test u ≡ c → HasSlack cur slack (deadlines test forward (uses ++ u ∷ []))
+    on : (c : Bool) → test u ≡ c → HasSlack cur slack (deadlines test kinds (uses ++ u ∷ []))
     on true e =
-        let whole : deadlines test forward (uses ++ u ∷ []) ≡ deadlines test forward uses ++ deadline forward u ∷ [] = deadlines_append test forward uses (u ∷ []) ∙ rw e refl in
+        let whole : deadlines test kinds (uses ++ u ∷ []) ≡ deadlines test kinds uses ++ deadline kinds u ∷ [] = deadlines_append test kinds uses (u ∷ []) ∙ rw e refl in
         subst (HasSlack cur slack) (sym whole)
-        (slack_same cur slack (deadline forward u ∷ deadlines test forward uses) _ (λ end. let a = due_append end (deadlines test forward uses) (deadline forward u ∷ []) in let b = due_append end (deadline forward u ∷ []) (deadlines test forward uses) in omega arith)
-        (slack_more cur slack (deadline forward u) (deadlines test forward uses) le h))
+        (slack_same cur slack (deadline kinds u ∷ deadlines test kinds uses) _ (λ end. let a = due_append end (deadlines test kinds uses) (deadline kinds u ∷ []) in let b = due_append end (deadline kinds u ∷ []) (deadlines test kinds uses) in omega arith)
+        (slack_more cur slack (deadline kinds u) (deadlines test kinds uses) le h))
     on false e =
-        let whole : deadlines test forward (uses ++ u ∷ []) ≡ deadlines test forward uses ++ [] = deadlines_append test forward uses (u ∷ []) ∙ rw e refl in
+        let whole : deadlines test kinds (uses ++ u ∷ []) ≡ deadlines test kinds uses ++ [] = deadlines_append test kinds uses (u ∷ []) ∙ rw e refl in
         subst (HasSlack cur slack) (sym whole)
-        (slack_same cur slack (deadlines test forward uses) _ (λ end. let a = due_append end (deadlines test forward uses) [] in omega arith) (slack_less cur (slack + 8) cur slack (deadlines test forward uses) (omega arith) h))
+        (slack_same cur slack (deadlines test kinds uses) _ (λ end. let a = due_append end (deadlines test kinds uses) [] in omega arith) (slack_less cur (slack + 8) cur slack (deadlines test kinds uses) (omega arith) h))
 
 -- ---- what is put from here on
 
@@ -261,6 +218,19 @@ reaches_due cur d ds es counts h = on (nat_le d d) refl counts
 pub reaches_from_slack : (cur slack new_cur : ℕ) (ds : List ℕ) → new_cur ≤ cur + slack + 8 → HasSlack cur slack ds → StillReaches new_cur ds
 reaches_from_slack cur slack new_cur ds le h = record { each = λ end one. let g = h.each end one in omega arith }
 
+-- and back: each pending use reaches its veneer
+each_reaches : (start : ℕ) (all ds : List ℕ) → ((end : ℕ) → due_by end ds ≤ due_by end all) → StillReaches start all → AllOf (λ d. start + 8 * due_by d all ≤ d + 8) ds
+each_reaches start all [] part h = tt
+each_reaches start all (d ∷ ds) part h =
+    let own = due_own d ds in
+    let whole = part d in (
+      h.each d (omega arith),
+      each_reaches start all ds (λ end. let a = due_later end d ds in let b = part end in omega arith) h,
+    )
+
+pub veneers_reach : (start : ℕ) (ds : List ℕ) → StillReaches start ds → VeneersReach start ds
+veneers_reach start ds h = each_reaches start ds ds (λ end. omega arith) h
+
 -- Reach is slack of 14 bytes
 pub slack_from_reach : (cur : ℕ) (ds : List ℕ) → CanReach cur ds → HasSlack cur 14 ds
 slack_from_reach cur ds h = slack_from_each cur 14 ds h
@@ -282,43 +252,36 @@ due_total (d ∷ ds) end le = on (nat_le d end) refl (due_total ds end (omega ar
     on true e rest = ap suc rest
     on false e rest = let p = leb-false _ _ e in absurd (omega arith)
 
--- as many are due at each end, so as many there are
-pub same_length_from_due : (ds es : List ℕ) → ((end : ℕ) → due_by end ds ≡ due_by end es) → length ds ≡ length es
-same_length_from_due ds es h =
-    let end = total ds + total es in
-    sym (due_total ds end (omega arith)) ∙ h end ∙ due_total es end (omega arith)
-
-pub none_from_due : (ds : List ℕ) → ((end : ℕ) → due_by end ds ≡ 0) → ds ≡ []
-none_from_due [] h = refl
-none_from_due (d ∷ ds) h = on (nat_le d d) refl (h d)
+pub none_waits : {L : Type 0} (test : Use L → Bool) (kinds : Kinds L) (uses : List (Use L)) → deadlines test kinds uses ≡ [] → (j : ℕ) (u : Use L) → slice_get uses j ≡ Some u → test u ≡ false
+none_waits test kinds [] e j u h = absurd (cc)
+none_waits {L} test kinds (w ∷ uses) e j u h = on (test w) refl e (none_waits test kinds uses) j h
   where
-    on : (c : Bool) → nat_le d d ≡ c → cond c (suc (due_by d ds)) (due_by d ds) ≡ 0 → d ∷ ds ≡ []
-    on true e z = absurd (omega arith)
-    on false e z = let p = leb-false _ _ e in absurd (omega arith)
-
--- a use that did not wait is changed, and waits not
-pub deadlines_set_idle : {L : Type 0} (test : Use L → Bool) (forward : L → ℕ) (uses : List (Use L)) (i : ℕ) (u v : Use L) → slice_get uses i ≡ Some u → test u ≡ false → test v ≡ false → deadlines test forward (set uses i v) ≡ deadlines test forward uses
-deadlines_set_idle test forward [] i u v h tu tv = refl
-deadlines_set_idle test forward (w ∷ uses) zero u v h tu tv =
-    let idle : test w ≡ false = ap test (same_Some _ _ h) ∙ tu in
-    rw (tv, idle) refl
-deadlines_set_idle test forward (w ∷ uses) (suc i) u v h tu tv = on (test w) (deadlines_set_idle test forward uses i u v h tu tv)
-  where
-    on : (c : Bool) → deadlines test forward (set uses i v) ≡ deadlines test forward uses → cond c (deadline forward w ∷ deadlines test forward (set uses i v)) (deadlines test forward (set uses i v)) ≡ cond c (deadline forward w ∷ deadlines test forward uses) (deadlines test forward uses)
-    on true rest = ap (λ ds. deadline forward w ∷ ds) rest
-    on false rest = rest
-
-pub none_waits : {L : Type 0} (test : Use L → Bool) (forward : L → ℕ) (uses : List (Use L)) → deadlines test forward uses ≡ [] → (j : ℕ) (u : Use L) → slice_get uses j ≡ Some u → test u ≡ false
-none_waits test forward [] e j u h = absurd (cc)
-none_waits {L} test forward (w ∷ uses) e j u h = on (test w) refl e (none_waits test forward uses) j h
-  where
-    on : (c : Bool) → test w ≡ c → cond c (deadline forward w ∷ deadlines test forward uses) (deadlines test forward uses) ≡ [] → (deadlines test forward uses ≡ [] → (k : ℕ) (x : Use L) → slice_get uses k ≡ Some x → test x ≡ false) → (k : ℕ) → slice_get (w ∷ uses) k ≡ Some u → test u ≡ false
+    on : (c : Bool) → test w ≡ c → cond c (deadline kinds w ∷ deadlines test kinds uses) (deadlines test kinds uses) ≡ [] → (deadlines test kinds uses ≡ [] → (k : ℕ) (x : Use L) → slice_get uses k ≡ Some x → test x ≡ false) → (k : ℕ) → slice_get (w ∷ uses) k ≡ Some u → test u ≡ false
     on true t e rest k h = absurd (cc)
     on false t e rest zero h = ap test (sym (same_Some _ _ h)) ∙ t
     on false t e rest (suc k) h = rest e k u h
 
-pub none_from : {L : Type 0} (test : Use L → Bool) (forward : L → ℕ) (uses : List (Use L)) → ((j : ℕ) (u : Use L) → slice_get uses j ≡ Some u → test u ≡ false) → deadlines test forward uses ≡ []
-none_from test forward [] h = refl
-none_from test forward (w ∷ uses) h =
+pub none_from : {L : Type 0} (test : Use L → Bool) (kinds : Kinds L) (uses : List (Use L)) → ((j : ℕ) (u : Use L) → slice_get uses j ≡ Some u → test u ≡ false) → deadlines test kinds uses ≡ []
+none_from test kinds [] h = refl
+none_from test kinds (w ∷ uses) h =
     let idle : test w ≡ false = h 0 w refl in
-    rw idle (none_from test forward uses (λ j u e. h (suc j) u e))
+    rw idle (none_from test kinds uses (λ j u e. h (suc j) u e))
+
+-- more are due by a later offset
+pub due_mono : (a b : ℕ) (ds : List ℕ) → a ≤ b → due_by a ds ≤ due_by b ds
+due_mono a b [] le = omega arith
+due_mono a b (d ∷ ds) le = on (nat_le d a) (nat_le d b) refl refl (due_mono a b ds le)
+  where
+    on : (x y : Bool) → nat_le d a ≡ x → nat_le d b ≡ y → due_by a ds ≤ due_by b ds → cond x (suc (due_by a ds)) (due_by a ds) ≤ cond y (suc (due_by b ds)) (due_by b ds)
+    on true true p q rest = omega arith
+    on true false p q rest = let l = leb-true _ _ p in let m = leb-false _ _ q in absurd (omega arith)
+    on false true p q rest = omega arith
+    on false false p q rest = rest
+
+pub due_le_length : (end : ℕ) (ds : List ℕ) → due_by end ds ≤ length ds
+due_le_length end [] = omega arith
+due_le_length end (d ∷ ds) = on (nat_le d end) (due_le_length end ds)
+  where
+    on : (c : Bool) → due_by end ds ≤ length ds → cond c (suc (due_by end ds)) (due_by end ds) ≤ suc (length ds)
+    on true le = omega arith
+    on false le = omega arith

@@ -1,121 +1,110 @@
--- What keeps a buffer sound.
-use Rattle.std.proofs.Common.{◌≡◌, ◌≢◌, ℕ, ◌+◌, ◌%◌, ◌^◌, ◌≤◌, Bool, List, [], ◌∷◌, ◌++◌, length, Option, Some, None, refl, ap, sym, ◌∙◌, subst, arith}
-use Rattle.std.specs.Prelude.{slice_get}
-use Rattle.std.proofs.lemmas.List.{length-append}
-use Rattle.rv_base.specs.LabelUse.{Veneer}
-use Rattle.mach_buffer.specs.declared.uses.Use.{Use}
-use Rattle.mach_buffer.specs.declared.uses.VeneerUse.{VeneerUse}
-use Rattle.mach_buffer.specs.declared.uses.Turn.{Turn}
-use Rattle.mach_buffer.specs.Reach.{is_pending}
-use Rattle.mach_buffer.specs.Buffer.{IsKnown, HaveTurns, AreSound}
-use Rattle.std.proofs.Common.{⊎_elim}
+-- A sound buffer, as calls are made.
+use Rattle.std.proofs.Common.{◌≡◌, ◌≢◌, ℕ, ◌+◌, ◌%◌, ◌^◌, ◌<◌, ◌≤◌, Bool, true, false, List, [], ◌∷◌, ◌++◌, length, Option, Some, None, refl, ap, sym, ◌∙◌, subst, arith, ⊎_elim}
+use Rattle.std.specs.Prelude.{slice_get, nat_eq, if◌then◌else◌, Result, Ok, Err, is_err, OnOk}
+use Rattle.std.proofs.lemmas.Bool.{cases_eq, eq-eqb, ne_eqb, true≢false}
 use Rattle.std.proofs.lemmas.Option.{same_Some}
-use Rattle.std.proofs.lemmas.Bool.{cases_eq}
-use Rattle.mach_buffer.proofs.Links.{linked_bytes, linked_use, append_each}
-use Rattle.mach_buffer.proofs.Slack.{bound_waits}
-use Rattle.mach_buffer.proofs.Turns.{turns_fewer}
+use Rattle.std.proofs.lemmas.List.{length-append}
+use Rattle.rv_base.specs.LabelUse.{Kinds}
+use Rattle.rv_base.specs.declared.label.MachLabel.{MachLabel}
+use Rattle.mach_buffer.specs.declared.uses.Use.{Use}
+use Rattle.mach_buffer.specs.declared.pending.Pending.{Pending}
+use Rattle.mach_buffer.specs.Shape.{Shape, with_bytes, with_use, with_label, with_allocated, placed, IsKnown}
+use Rattle.mach_buffer.specs.Reach.{is_pending, due_by, deadlines}
+use Rattle.mach_buffer.specs.Links.{IsLinked}
+use Rattle.mach_buffer.specs.Finish.{pending_in}
+use Rattle.mach_buffer.specs.Queues.{AreKept}
+use Rattle.mach_buffer.specs.Buffer.{AreSound}
+use Rattle.mach_buffer.proofs.QueueContents.{kept_none, kept_fewer}
+use Rattle.mach_buffer.proofs.Links.{linked_none, linked_bytes, linked_use}
+use Rattle.mach_buffer.proofs.Lists.{append_each, none_some}
+use Rattle.mach_buffer.proofs.Slack.{bound_waits, due_fewer}
 
-no_item : {X : Type 0} {xs : List X} → xs ≡ [] → (k : ℕ) (x : X) → slice_get xs k ≡ Some x → ⊥
-no_item {X} {xs} e k x h = on xs e h
-  where
-    on : (ys : List X) → ys ≡ [] → slice_get ys k ≡ Some x → ⊥
-    on [] e h = absurd (cc)
-    on (y ∷ ys) e h = absurd (cc)
+-- ---- the places of labels
 
--- nothing yet
-pub sound_none : {L : Type 0} (has_veneer : L → Bool) (forward backward : L → ℕ) (veneer : L → Veneer L) {bytes : List ℕ} {uses : List (Use L)} {veneers : List (VeneerUse L)} {turns : List (Turn × Use L)} {place : ℕ → Option ℕ} {drawn : ℕ} →
-    bytes ≡ [] → uses ≡ [] → veneers ≡ [] → turns ≡ [] → ((label : ℕ) → place label ≡ None) → AreSound has_veneer forward backward veneer bytes uses veneers turns place drawn
-sound_none {L} has_veneer forward backward veneer {bytes} {uses} {veneers} {turns} {place} {drawn} eb eu ev et none = record {
-  linked = record {
-    each = λ j u at h e. absurd (no_item eu j u h);
-    near = λ j u at h e. absurd (no_item eu j u h);
-    behind = λ j u at h e. absurd (no_item eu j u h);
-    supported = λ j u at h e. absurd (no_item eu j u h);
-    even = λ j u at h e. absurd (no_item eu j u h);
-    before = λ j u h. absurd (no_item eu j u h);
-    made = λ k w h. absurd (no_item ev k w h);
-  };
-  even = ap (λ (s : List ℕ). length s % 2) eb;
-  places = λ label at h. absurd (unbound (place label) at (none label) h);
-  known = λ j u h. absurd (no_item eu j u h);
-  waits = record { each = λ k e h t. absurd (no_item et k e h); low = λ k e h. absurd (no_item et k e h); counts = λ some i end. rw (et, eu) refl };
+pub placed_same : (place : ℕ → Option ℕ) (label at : ℕ) → placed place label at label ≡ Some at
+placed_same place label at = ap (λ b. if b then Some at else place label) (eq-eqb label label refl)
+
+pub placed_other : (place : ℕ → Option ℕ) (label at other : ℕ) → other ≢ label → placed place label at other ≡ place other
+placed_other place label at other ne = ap (λ b. if b then Some at else place other) (ne_eqb other label ne)
+
+pub sound_none : {L : Type 0} (kinds : Kinds L) (s : Shape L) (p : Pending) → s.bytes ≡ [] → s.uses ≡ [] → ((label : ℕ) → s.place label ≡ None) → p.near.numbers.items ≡ [] → p.far.numbers.items ≡ [] → AreSound kinds s p
+sound_none {L} kinds s p eb eu none near far = record {
+  linked = subst (λ us. IsLinked kinds s.bytes us) (sym eu) (linked_none kinds s.bytes);
+  even = ap (λ (bs : List ℕ). length bs % 2) eb;
+  places = λ label at h. absurd (none_some (s.place label) at (none label) h);
+  known = λ j u h. absurd (no_use j u (sym (ap (λ us. slice_get us j) eu) ∙ h));
+  kept = kept_none kinds s.place s.uses p near far (λ j u h. absurd (no_use j u (sym (ap (λ us. slice_get us j) eu) ∙ h)));
 }
   where
-    unbound : (o : Option ℕ) (at : ℕ) → o ≡ None → o ≡ Some at → ⊥
-    unbound None at e h = absurd (cc)
-    unbound (Some x) at e h = absurd (cc)
+    no_use : (j : ℕ) (u : Use L) → slice_get [] j ≡ Some u → ⊥
+    no_use j u h = absurd (cc)
 
--- bytes that are added
-pub sound_bytes : {L : Type 0} {has_veneer : L → Bool} {forward backward : L → ℕ} {veneer : L → Veneer L} {bytes : List ℕ} {uses : List (Use L)} {veneers : List (VeneerUse L)} {turns : List (Turn × Use L)} {place : ℕ → Option ℕ} {drawn : ℕ} →
-    AreSound has_veneer forward backward veneer bytes uses veneers turns place drawn → (more new_bytes : List ℕ) → new_bytes ≡ bytes ++ more → length more % 2 ≡ 0 →
-    AreSound has_veneer forward backward veneer new_bytes uses veneers turns place drawn
-sound_bytes {L} {has_veneer} {forward} {backward} {veneer} {bytes} s more new_bytes eb even =
-    let long : length new_bytes ≡ length bytes + length more = ap (length {A = ℕ}) eb ∙ length-append bytes more in
-    let was = s.even in
-    record {
-      linked = linked_bytes s.linked more new_bytes eb;
-      even = omega arith;
-      places = λ label at h. let p = s.places label at h in (omega (arith, p.0), p.1, p.2);
-      known = s.known;
-      waits = s.waits;
-    }
+module _ {L : Type 0} {kinds : Kinds L} {s : Shape L} {p : Pending} where
+  pub sound_bytes : AreSound kinds s p → (more : List ℕ) → length more % 2 ≡ 0 → AreSound kinds (with_bytes more s) p
+  sound_bytes h more even =
+      let long = length-append s.bytes more in
+      let was = h.even in
+      record {
+        linked = linked_bytes h.linked more;
+        even = omega arith;
+        places = λ label at e. let q = h.places label at e in (omega (arith, q.0), q.1, q.2);
+        known = h.known;
+        kept = h.kept;
+      }
 
--- a label is drawn
-pub sound_drawn : {L : Type 0} {has_veneer : L → Bool} {forward backward : L → ℕ} {veneer : L → Veneer L} {bytes : List ℕ} {uses : List (Use L)} {veneers : List (VeneerUse L)} {turns : List (Turn × Use L)} {place : ℕ → Option ℕ} {drawn : ℕ} →
-    AreSound has_veneer forward backward veneer bytes uses veneers turns place drawn → (new_drawn : ℕ) → drawn ≤ new_drawn → AreSound has_veneer forward backward veneer bytes uses veneers turns place new_drawn
-sound_drawn s new_drawn le = record {
-  linked = s.linked;
-  even = s.even;
-  places = λ label at h. let p = s.places label at h in let k = p.2 in (p.0, p.1, omega arith);
-  known = λ j u h. let k = s.known j u h in omega arith;
-  waits = s.waits;
-}
+  -- other queues
+  pub sound_kept : AreSound kinds s p → (new : Pending) → AreKept kinds s.place s.uses new → AreSound kinds s new
+  sound_kept h new kept = record { linked = h.linked; even = h.even; places = h.places; known = h.known; kept = kept }
 
--- what no bound label is
-pub unbound_new : {L : Type 0} {has_veneer : L → Bool} {forward backward : L → ℕ} {veneer : L → Veneer L} {bytes : List ℕ} {uses : List (Use L)} {veneers : List (VeneerUse L)} {turns : List (Turn × Use L)} {place : ℕ → Option ℕ} {drawn : ℕ} →
-    AreSound has_veneer forward backward veneer bytes uses veneers turns place drawn → (label : ℕ) → 2 ^ 30 + drawn ≤ label → place label ≡ None
-unbound_new {L} {has_veneer} {forward} {backward} {veneer} {bytes} {uses} {veneers} {turns} {place} {drawn} s label le = on (place label) refl
-  where
-    on : (o : Option ℕ) → place label ≡ o → place label ≡ None
-    on None e = e
-    on (Some at) e = let p = s.places label at e in let k = p.2 in absurd (omega arith)
+  pub sound_allocated : AreSound kinds s p → AreSound kinds (with_allocated s) p
+  sound_allocated h = record {
+    linked = h.linked;
+    even = h.even;
+    places = λ label at e. let q = h.places label at e in let k = q.2 in (q.0, q.1, omega arith);
+    known = λ j u e. let k = h.known j u e in omega arith;
+    kept = h.kept;
+  }
 
--- a label is bound at the end
-pub sound_bind : {L : Type 0} {has_veneer : L → Bool} {forward backward : L → ℕ} {veneer : L → Veneer L} {bytes : List ℕ} {uses : List (Use L)} {veneers : List (VeneerUse L)} {turns : List (Turn × Use L)} {place : ℕ → Option ℕ} {drawn : ℕ} →
-    AreSound has_veneer forward backward veneer bytes uses veneers turns place drawn → (label : ℕ) (new_place : ℕ → Option ℕ) → IsKnown label drawn → place label ≡ None → new_place label ≡ Some (length bytes) → ((other : ℕ) → other ≢ label → new_place other ≡ place other) →
-    AreSound has_veneer forward backward veneer bytes uses veneers turns new_place drawn
-sound_bind {L} {has_veneer} {forward} {backward} {veneer} {bytes} {uses} {veneers} {turns} {place} {drawn} s label new_place known none bound kept = record {
-  linked = s.linked;
-  even = s.even;
-  places = λ other at h. ⊎_elim
-      (λ same.
-      let here : length bytes ≡ at = same_Some _ _ (sym bound ∙ ap new_place (sym same) ∙ h) in
-      let even = s.even in
-      (omega arith, subst (λ n. n % 2 ≡ 0) here even, subst (λ l. IsKnown l drawn) (sym same) known))
-      (λ differs. s.places other at (sym (kept other differs) ∙ h))
-      (cases_eq other label);
-  known = s.known;
-  waits = turns_fewer (is_pending has_veneer forward backward new_place) (bound_waits has_veneer forward backward place new_place label none kept) s.waits;
-}
+  -- what is given out next is bound nowhere, and named by no use
+  pub unbound_next : AreSound kinds s p → (label : ℕ) → label ≡ 2 ^ 30 + s.allocated → s.place label ≡ None
+  unbound_next h label e = on (s.place label) refl
+    where
+      on : (o : Option ℕ) → s.place label ≡ o → s.place label ≡ None
+      on None q = q
+      on (Some at) q = let k = (h.places label at q).2 in absurd (omega arith)
 
--- a use is recorded
-pub sound_use : {L : Type 0} {has_veneer : L → Bool} {forward backward : L → ℕ} {veneer : L → Veneer L} {bytes : List ℕ} {uses : List (Use L)} {veneers : List (VeneerUse L)} {turns : List (Turn × Use L)} {place : ℕ → Option ℕ} {drawn : ℕ} →
-    AreSound has_veneer forward backward veneer bytes uses veneers turns place drawn → (u : Use L) → u.veneer ≡ None → u.offset ≤ length bytes → IsKnown u.label.number drawn → (new_uses : List (Use L)) → new_uses ≡ uses ++ u ∷ [] →
-    (new_turns : List (Turn × Use L)) → HaveTurns forward (is_pending has_veneer forward backward place) new_turns new_uses → AreSound has_veneer forward backward veneer bytes new_uses veneers new_turns place drawn
-sound_use {L} {has_veneer} {forward} {backward} {veneer} {bytes} {uses} {veneers} {turns} {place} {drawn} s u none there known new_uses eu new_turns waits = record {
-  linked = linked_use s.linked u none there new_uses eu;
-  even = s.even;
-  places = s.places;
-  known = λ j v h. append_each (λ (x : Use L). IsKnown x.label.number drawn) uses u known s.known j v (ap (λ us. slice_get us j) (sym eu) ∙ h);
-  waits = waits;
-}
+  pub unnamed_next : AreSound kinds s p → (label : ℕ) → label ≡ 2 ^ 30 + s.allocated → (j : ℕ) (u : Use L) → slice_get s.uses j ≡ Some u → u.label.number ≢ label
+  unnamed_next h label e j u g q = let k = h.known j u g in absurd (omega arith)
 
--- the same parts
-pub sound_as : {L : Type 0} {has_veneer : L → Bool} {forward backward : L → ℕ} {veneer : L → Veneer L} {bytes new_bytes : List ℕ} {uses new_uses : List (Use L)} {veneers new_veneers : List (VeneerUse L)} {turns new_turns : List (Turn × Use L)} {place new_place : ℕ → Option ℕ} {drawn new_drawn : ℕ} →
-    AreSound has_veneer forward backward veneer bytes uses veneers turns place drawn → new_bytes ≡ bytes → new_uses ≡ uses → new_veneers ≡ veneers → new_turns ≡ turns → new_place ≡ place → new_drawn ≡ drawn → AreSound has_veneer forward backward veneer new_bytes new_uses new_veneers new_turns new_place new_drawn
-sound_as s eb eu ev et ep ed = rw (eb, eu, ev, et, ep, ed) s
+  -- a label is bound
+  pub sound_label : AreSound kinds s p → (label : MachLabel) → IsKnown label.number s.allocated → s.place label.number ≡ None → AreSound kinds (with_label label s) p
+  sound_label h label known none = record {
+    linked = h.linked;
+    even = h.even;
+    places = λ other at e. ⊎_elim
+        (λ same. let here : length s.bytes ≡ at = same_Some _ _ (sym (placed_same s.place label.number (length s.bytes)) ∙ ap (placed s.place label.number (length s.bytes)) (sym same) ∙ e) in
+        let even = h.even in
+        (omega arith, subst (λ (n : ℕ). n % 2 ≡ 0) here even, subst (λ l. IsKnown l s.allocated) (sym same) known))
+        (λ ne. h.places other at (sym (placed_other s.place label.number (length s.bytes) other ne) ∙ e))
+        (cases_eq other label.number);
+    known = h.known;
+    kept = kept_fewer (placed s.place label.number (length s.bytes)) (bound_waits kinds s.place (placed s.place label.number (length s.bytes)) label.number none (placed_other s.place label.number (length s.bytes))) h.kept;
+  }
 
--- other turns
-pub sound_waits : {L : Type 0} {has_veneer : L → Bool} {forward backward : L → ℕ} {veneer : L → Veneer L} {bytes : List ℕ} {uses : List (Use L)} {veneers : List (VeneerUse L)} {turns : List (Turn × Use L)} {place : ℕ → Option ℕ} {drawn : ℕ} →
-    AreSound has_veneer forward backward veneer bytes uses veneers turns place drawn → (new_turns : List (Turn × Use L)) → HaveTurns forward (is_pending has_veneer forward backward place) new_turns uses → AreSound has_veneer forward backward veneer bytes uses veneers new_turns place drawn
-sound_waits s new_turns w = record { linked = s.linked; even = s.even; places = s.places; known = s.known; waits = w }
+  pub label_fewer : AreSound kinds s p → (label : MachLabel) → s.place label.number ≡ None → (end : ℕ) → due_by end (pending_in kinds (with_label label s)) ≤ due_by end (pending_in kinds s)
+  label_fewer h label none end = due_fewer (is_pending kinds s.place) (is_pending kinds (placed s.place label.number (length s.bytes))) kinds end s.uses (bound_waits kinds s.place (placed s.place label.number (length s.bytes)) label.number none (placed_other s.place label.number (length s.bytes)))
+
+  -- a use is recorded
+  pub sound_use : AreSound kinds s p → (u : Use L) → u.veneer ≡ None → u.offset ≤ length s.bytes → IsKnown u.label.number s.allocated → (new : Pending) → AreKept kinds s.place (s.uses ++ u ∷ []) new → AreSound kinds (with_use u s) new
+  sound_use h u bare there known new kept = record {
+    linked = linked_use h.linked u bare there;
+    even = h.even;
+    places = h.places;
+    known = append_each (λ x. IsKnown x.label.number s.allocated) s.uses u known h.known;
+    kept = kept;
+  }
+
+-- what stands where a call was not refused
+pub not_refused : {T E : Type 0} (r : Result T E) (P : Type 0) → false ≡ is_err r → OnOk r P → P
+not_refused (Ok x) P e h = h
+not_refused (Err x) P e h = absurd (true≢false (sym e))

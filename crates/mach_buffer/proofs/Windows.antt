@@ -19,7 +19,7 @@ same_in_prefix (x ∷ marks) i m s t h f = (
   same_in_prefix marks (i + 1) m s t (omega arith) f.1,
 )
 
--- the bytes behind a window, after a write to all bytes from its place on
+-- the bytes after a window, after a write to all bytes from its place on
 part_after : (old part : List ℕ) (o n : ℕ) → o + n ≤ length old → length part ≡ length old - o → drop n part ≡ drop n (take (length old - o) (drop o old)) →
     drop (o + n) (take o old ++ (part ++ drop (length old - o) (drop o old))) ≡ drop (o + n) old
 part_after old part o n h l e =

@@ -1,55 +1,67 @@
 -- The end: the last veneers, and the patches.
-use Rattle.std.specs.Prelude.{◌≡◌, ℕ, ◌+◌, ◌*◌, ◌%◌, ◌<◌, ◌≤◌, ◌⊎◌, Bool, true, false, cond, nat_eq, List, ◌++◌, length, take, drop, Option, Some, is_some, ◌-◌, slice_get, ℤ, pos, ◌-ℤ◌}
-use Rattle.rv_base.specs.LabelUse.{Veneer, SameOutside}
+use Rattle.std.specs.Prelude.{◌≡◌, ℕ, zero, suc, ◌+◌, ◌*◌, ◌%◌, ◌<◌, ◌≤◌, Bool, true, false, cond, nat_eq, List, ◌++◌, length, take, drop, Option, Some, None, is_some, ◌-◌, slice_get, ℤ, pos, ◌-ℤ◌}
+use Rattle.rv_base.specs.LabelUse.{Kinds, Veneer, SameOutside}
 use Rattle.mach_buffer.specs.declared.uses.Use.{Use}
-use Rattle.mach_buffer.specs.declared.uses.VeneerUse.{VeneerUse}
-use Rattle.mach_buffer.specs.declared.buffer.MachBuffer.{MachBuffer}
-use Rattle.mach_buffer.specs.Windows.{window, AllKept, KeepsOthers}
-use Rattle.mach_buffer.specs.Reach.{is_reached, is_pending, StillReaches}
-use Rattle.mach_buffer.specs.Buffer.{bytes_of, uses_of, veneers_of, place_of, pending_of, IsLinked, IsSound}
-use Rattle.mach_buffer.specs.Islands.{padding, AreWindows, VeneersPut, VeneersBehind}
-use Rattle.mach_buffer.specs.Targets.{patches_of}
+use Rattle.mach_buffer.specs.Shape.{Shape}
+use Rattle.mach_buffer.specs.Windows.{window, AreWindows, AllKept, KeepsOthers, patches_of}
+use Rattle.mach_buffer.specs.Reach.{is_reached, is_pending, deadlines, VeneersReach}
+use Rattle.mach_buffer.specs.Veneers.{put_all, IsOrder}
+use Rattle.mach_buffer.specs.Growth.{Grows}
+use Rattle.mach_buffer.specs.Islands.{padding, padded, put_constants, is_far}
 
 -- a use goes by a veneer that stands at `at`: its window aims there, the eight bytes there are the veneer's outside the
 -- fields of the veneer's own use, and the window of that use aims at the label's place
-pub record IsVia {L : Type 0} (aims : L → List ℕ → ℤ → Type 0) (fields : L → List ℕ) (v : Veneer L) (bytes : List ℕ) (u : Use L) (to : ℕ) : Type 0 where
+pub record IsVia {L : Type 0} (kinds : Kinds L) (v : Veneer L) (bytes : List ℕ) (u : Use L) (to : ℕ) : Type 0 where
   pub at : ℕ
-  pub there : aims u.kind (window bytes u.offset (length (fields u.kind))) (pos at -ℤ pos u.offset)
+  pub there : kinds.aims u.kind (window bytes u.offset (length (kinds.fields u.kind))) (pos at -ℤ pos u.offset)
   pub even : at % 2 ≡ 0
   pub inside : at + 8 ≤ length bytes
   pub front : window bytes at v.place ≡ take v.place v.bytes
-  pub own : SameOutside (fields v.kind) (take (length (fields v.kind)) (drop v.place v.bytes)) (window bytes (at + v.place) (length (fields v.kind)))
-  pub back : window bytes (at + (v.place + length (fields v.kind))) (8 - (v.place + length (fields v.kind))) ≡ drop (v.place + length (fields v.kind)) v.bytes
-  pub on : aims v.kind (window bytes (at + v.place) (length (fields v.kind))) (pos to -ℤ pos (at + v.place))
+  pub own : SameOutside (kinds.fields v.kind) (take (length (kinds.fields v.kind)) (drop v.place v.bytes)) (window bytes (at + v.place) (length (kinds.fields v.kind)))
+  pub back : window bytes (at + (v.place + length (kinds.fields v.kind))) (8 - (v.place + length (kinds.fields v.kind))) ≡ drop (v.place + length (kinds.fields v.kind)) v.bytes
+  pub on : kinds.aims v.kind (window bytes (at + v.place) (length (kinds.fields v.kind))) (pos to -ℤ pos (at + v.place))
 
--- each use's window aims at its label's place, or at a veneer that goes there
-abbrev pub AllGo : {L : Type 0} → (L → List ℕ → ℤ → Type 0) → (L → List ℕ) → (L → Veneer L) → List ℕ → (ℕ → Option ℕ) → List (Use L) → Type 0
-AllGo {L} aims fields veneer bytes place uses = (j : ℕ) (u : Use L) (to : ℕ) → slice_get uses j ≡ Some u → place u.label.number ≡ Some to →
-    (aims u.kind (window bytes u.offset (length (fields u.kind))) (pos to -ℤ pos u.offset)) ⊎ IsVia aims fields (veneer u.kind) bytes u to
+-- where a use goes: straight to its label's place where it has no veneer, and else by its own veneer
+abbrev pub Arrives : {L : Type 0} → Kinds L → List ℕ → Use L → ℕ → Option ℕ → Type 0
+Arrives kinds bytes u to None = kinds.aims u.kind (window bytes u.offset (length (kinds.fields u.kind))) (pos to -ℤ pos u.offset)
+Arrives kinds bytes u to (Some at) = (via : IsVia kinds (kinds.veneer u.kind) bytes u to) × (via.at ≡ at)
+
+-- each use does
+abbrev pub AllArrive : {L : Type 0} → Kinds L → List ℕ → (ℕ → Option ℕ) → List (Use L) → Type 0
+AllArrive {L} kinds bytes place uses = (j : ℕ) (u : Use L) (to : ℕ) → slice_get uses j ≡ Some u → place u.label.number ≡ Some to → Arrives kinds bytes u to u.veneer
 
 -- the bytes before the last veneers: with zero bytes to a multiple of four where some use is pending
 abbrev pub before_last : List ℕ → ℕ → List ℕ
 before_last bytes count = cond (nat_eq count 0) bytes (bytes ++ padding (length bytes))
 
--- what the end asks
-pub record CanFinish {L : Type 0} (fields : L → List ℕ) (has_veneer : L → Bool) (forward backward : L → ℕ) (veneer : L → Veneer L) (b : MachBuffer L) : Type 0 where
-  pub sound : IsSound has_veneer forward backward veneer b
-  pub windows : AreWindows fields (bytes_of b) (uses_of b) (veneers_of b)
-  pub bound : (j : ℕ) (u : Use L) → slice_get (uses_of b) j ≡ Some u → is_some (place_of b u.label.number) ≡ true
-  pub direct : (j : ℕ) (u : Use L) → slice_get (uses_of b) j ≡ Some u → has_veneer u.kind ≡ false → is_reached forward backward (place_of b u.label.number) u ≡ true
-  pub reach : StillReaches (length (before_last (bytes_of b) (length (pending_of has_veneer forward backward b)))) (pending_of has_veneer forward backward b)
-  pub short : length (before_last (bytes_of b) (length (pending_of has_veneer forward backward b))) + 8 * length (pending_of has_veneer forward backward b) < 2147479552
+-- a buffer before so many last veneers
+abbrev pub padded_for : {L : Type 0} → ℕ → Shape L → Shape L
+padded_for zero s = s
+padded_for (suc n) s = padded s
 
--- what it brings: the last veneers are put, and then each window is patched and all other bytes stay
-pub record Finishes {L : Type 0} (aims : L → List ℕ → ℤ → Type 0) (fields : L → List ℕ) (has_veneer : L → Bool) (forward backward : L → ℕ) (veneer : L → Veneer L) (b : MachBuffer L) (bytes : List ℕ) : Type 0 where
-  pub old : List ℕ
-  pub uses : List (Use L)
-  pub veneers : List (VeneerUse L)
-  pub put : VeneersPut forward (is_pending has_veneer forward backward (place_of b)) (before_last (bytes_of b) (length (pending_of has_veneer forward backward b))) (uses_of b) old uses
-  pub grown : VeneersBehind (length (bytes_of b)) (veneers_of b) veneers
-  pub linked : IsLinked has_veneer forward veneer old uses veneers
-  pub windows : AreWindows fields old uses veneers
-  pub long : length bytes ≡ length old
-  pub kept : AllKept fields old bytes (patches_of (place_of b) uses veneers)
-  pub others : KeepsOthers fields old bytes (patches_of (place_of b) uses veneers)
-  pub arrive : AllGo aims fields veneer bytes (place_of b) uses
+-- the deadlines of the pending uses
+abbrev pub pending_in : {L : Type 0} → Kinds L → Shape L → List ℕ
+pending_in kinds s = deadlines (is_pending kinds s.place) kinds s.uses
+
+-- what the end asks: each label that is used is bound; each pending use reaches its veneer; each use that supports none
+-- reaches its label, or all code; the windows stand; and there is room
+pub record CanFinish {L : Type 0} (kinds : Kinds L) (s : Shape L) : Type 0 where
+  pub windows : AreWindows kinds s.bytes s.uses
+  pub bound : (j : ℕ) (u : Use L) → slice_get s.uses j ≡ Some u → is_some (s.place u.label.number) ≡ true
+  pub direct : (j : ℕ) (u : Use L) → slice_get s.uses j ≡ Some u → kinds.has_veneer u.kind ≡ false → is_far kinds u ≡ false → is_reached kinds (s.place u.label.number) u ≡ true
+  pub reach : VeneersReach (length (before_last s.bytes (length (pending_in kinds s)))) (pending_in kinds s)
+  pub short : length (before_last s.bytes (length (pending_in kinds s))) + 8 * length (pending_in kinds s) < 2147479552
+
+-- what it brings: a veneer for each pending use, in order, after zero bytes to a multiple of four where there is one; and
+-- then each window is patched, and all other bytes stay
+pub record Finishes {L : Type 0} (kinds : Kinds L) (s : Shape L) (bytes : List ℕ) : Type 0 where
+  pub order : List ℕ
+  pub in_order : IsOrder kinds (is_pending kinds s.place) s.uses order
+  pub put : Shape L
+  pub whole : put ≡ put_constants (put_all kinds order (padded_for (length order) s))
+  pub long : length put.bytes ≡ length (before_last s.bytes (length (pending_in kinds s))) + 8 * length (pending_in kinds s)
+  pub grows : Grows s.bytes s.uses s.place put.bytes put.uses s.place
+  pub same_length : length bytes ≡ length put.bytes
+  pub arrive : AllArrive kinds bytes s.place put.uses
+  pub kept : AllKept kinds put.bytes bytes (patches_of s.place put.uses)
+  pub others : KeepsOthers kinds put.bytes bytes (patches_of s.place put.uses)

@@ -1,20 +1,21 @@
 -- Which uses are pending, by which offset each must have its veneer, and how far code may go before that.
 use Rattle.std.specs.Prelude.{ℕ, suc, ◌+◌, ◌*◌, ◌≤◌, Bool, false, not, ◌&&◌, ◌||◌, cond, nat_eq, nat_le, nat_lt, List, [], ◌∷◌, Option, Some, None, is_none}
 use Rattle.rv_base.specs.declared.label.MachLabel.{MachLabel}
+use Rattle.rv_base.specs.LabelUse.{Kinds}
 use Rattle.mach_buffer.specs.declared.uses.Use.{Use}
 
 -- the last offset that a use reaches
-abbrev pub deadline : {L : Type 0} → (L → ℕ) → Use L → ℕ
-deadline forward u = u.offset + forward u.kind
+abbrev pub deadline : {L : Type 0} → Kinds L → Use L → ℕ
+deadline kinds u = u.offset + kinds.forward u.kind
 
 -- whether a label that stands there is in reach
-abbrev pub is_reached : {L : Type 0} → (L → ℕ) → (L → ℕ) → Option ℕ → Use L → Bool
-is_reached forward backward None u = false
-is_reached forward backward (Some at) u = nat_le at (u.offset + forward u.kind) && nat_le u.offset (at + backward u.kind)
+abbrev pub is_reached : {L : Type 0} → Kinds L → Option ℕ → Use L → Bool
+is_reached kinds None u = false
+is_reached kinds (Some at) u = nat_le at (u.offset + kinds.forward u.kind) && nat_le u.offset (at + kinds.backward u.kind)
 
 -- a use that supports a veneer, has none, and whose label is not bound within its reach
-abbrev pub is_pending : {L : Type 0} → (L → Bool) → (L → ℕ) → (L → ℕ) → (ℕ → Option ℕ) → Use L → Bool
-is_pending has_veneer forward backward place u = has_veneer u.kind && (is_none u.veneer && not (is_reached forward backward (place u.label.number) u))
+abbrev pub is_pending : {L : Type 0} → Kinds L → (ℕ → Option ℕ) → Use L → Bool
+is_pending kinds place u = kinds.has_veneer u.kind && (is_none u.veneer && not (is_reached kinds (place u.label.number) u))
 
 -- whether a use names this label
 abbrev pub names : {L : Type 0} → Option MachLabel → Use L → Bool
@@ -22,17 +23,17 @@ names None u = false
 names (Some label) u = nat_eq u.label.number label.number
 
 -- a pending use that does not name this label
-abbrev pub is_other : {L : Type 0} → (L → Bool) → (L → ℕ) → (L → ℕ) → (ℕ → Option ℕ) → Option MachLabel → Use L → Bool
-is_other has_veneer forward backward place round u = is_pending has_veneer forward backward place u && not (names round u)
+abbrev pub is_other : {L : Type 0} → Kinds L → (ℕ → Option ℕ) → Option MachLabel → Use L → Bool
+is_other kinds place after_island u = is_pending kinds place u && not (names after_island u)
 
 -- whether the veneer of one use is put before that of another: by deadline, then by place
-abbrev pub is_sooner : {L : Type 0} → (L → ℕ) → Use L → Use L → Bool
-is_sooner forward u v = nat_lt (deadline forward u) (deadline forward v) || (nat_eq (deadline forward u) (deadline forward v) && nat_lt u.offset v.offset)
+abbrev pub is_sooner : {L : Type 0} → Kinds L → Use L → Use L → Bool
+is_sooner kinds u v = nat_lt (deadline kinds u) (deadline kinds v) || (nat_eq (deadline kinds u) (deadline kinds v) && nat_lt u.offset v.offset)
 
 -- the deadlines of those uses for which a test holds
-abbrev pub deadlines : {L : Type 0} → (Use L → Bool) → (L → ℕ) → List (Use L) → List ℕ
-deadlines test forward [] = []
-deadlines test forward (u ∷ uses) = cond (test u) (deadline forward u ∷ deadlines test forward uses) (deadlines test forward uses)
+abbrev pub deadlines : {L : Type 0} → (Use L → Bool) → Kinds L → List (Use L) → List ℕ
+deadlines test kinds [] = []
+deadlines test kinds (u ∷ uses) = cond (test u) (deadline kinds u ∷ deadlines test kinds uses) (deadlines test kinds uses)
 
 -- how many of these deadlines are not later than an offset
 abbrev pub due_by : ℕ → List ℕ → ℕ
@@ -49,6 +50,10 @@ AllOf P (d ∷ ds) = P d × AllOf P ds
 abbrev pub CanReach : ℕ → List ℕ → Type 0
 CanReach cur ds = AllOf (λ d. cur + 14 + 8 * due_by d ds ≤ d) ds
 
+-- each pending use reaches its veneer, where the veneers of all that are due are put from here on
+abbrev pub VeneersReach : ℕ → List ℕ → Type 0
+VeneersReach start ds = AllOf (λ d. start + 8 * due_by d ds ≤ d + 8) ds
+
 -- the veneers of all that is due by an offset, put from here on, begin by then
 pub record StillReaches (cur : ℕ) (ds : List ℕ) : Type 0 where
   pub each : (end : ℕ) → 1 ≤ due_by end ds → cur + 8 * due_by end ds ≤ end + 8
@@ -57,7 +62,7 @@ pub record StillReaches (cur : ℕ) (ds : List ℕ) : Type 0 where
 pub record HasSlack (cur slack : ℕ) (ds : List ℕ) : Type 0 where
   pub each : (end : ℕ) → 1 ≤ due_by end ds → cur + slack + 8 * due_by end ds ≤ end
 
--- whether some deadline might be missed behind so many bytes, two more uses and an island's jump
+-- whether some deadline might be missed after so many bytes, two more uses and an island's jump
 abbrev pub is_needed_from : ℕ → List ℕ → List ℕ → Bool
 is_needed_from cur all [] = false
 is_needed_from cur all (d ∷ ds) = nat_lt d (cur + 14 + 8 * (due_by d all + 2)) || is_needed_from cur all ds

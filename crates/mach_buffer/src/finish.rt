@@ -1,6 +1,8 @@
 //! The end of a buffer: the last veneers, and the patches.
 
 use crate::buffer::MachBuffer;
+use crate::code::Code;
+use crate::labels::Labels;
 use crate::patches::patch_all;
 use crate::uses::LabelPlace;
 use rv_base::{Constant, List, MachInstLabelUse, OutOfMemory};
@@ -13,71 +15,74 @@ pub struct Finished {
 }
 
 impl<L: MachInstLabelUse> MachBuffer<L> {
-    ghost use Rattle.std.specs.Prelude.{◌≡◌, ℕ, ◌+◌, ◌*◌, ◌<◌, [], length, OnOk, OnErr, IfOk, None, true, false};
-    ghost use Rattle.mach_buffer.specs.Buffer.{bytes_of, uses_of, veneers_of, place_of, labels_of, spoiled_of, pending_of, IsSound, IsLinked, SameLabels, TakesMemory};
-    ghost use Rattle.mach_buffer.specs.Reach.{is_pending, deadlines, StillReaches};
-    ghost use Rattle.mach_buffer.specs.Islands.{AreWindows, VeneersPut, VeneersBehind};
-    ghost use Rattle.mach_buffer.specs.Finish.{before_last, CanFinish, Finishes};
+    ghost use Rattle.std.specs.Prelude.{◌≡◌, ◌≢◌, ◌<◌, ◌%◌, length, OnOk, IfOk, false};
+    ghost use Rattle.mach_buffer.specs.Islands.{aligned};
+    ghost use Rattle.mach_buffer.specs.Finish.{padded_for, CanFinish, Finishes};
+    ghost use Rattle.mach_buffer.specs.LastVeneers.{LastPut};
+    ghost use Rattle.mach_buffer.specs.Buffer.{shape_of, bytes_of, labels_of, spoiled_of, Unless, IsSound};
 
-    /// Puts a veneer for each use that is pending, by deadline and then by place, and patches every window.
-    pub fn finish(mut self, constants: &[Constant]) -> Result<Finished, OutOfMemory>
+    /// Puts a veneer for each use that is pending, by deadline, then by place, then as recorded, and patches every window: a
+    /// use then goes by its veneer, and straight to its label where it has none.
+    pub fn finish(self, constants: &[Constant]) -> Result<Finished, OutOfMemory>
         requires none { length constants.now ≡ 0 }
-        requires ready { CanFinish L.fields L.has_veneer L.forward L.backward L.veneer self }
-        ensures code { IfOk result (λ f. Finishes L.aims L.fields L.has_veneer L.forward L.backward L.veneer self f.bytes) }
+        requires sound { Unless (spoiled_of self) (IsSound L.kinds self) }
+        requires ready { Unless (spoiled_of self) (CanFinish L.kinds (shape_of self)) }
+        ensures code { IfOk result (λ f. Finishes L.kinds (shape_of self) f.bytes) }
         ensures labels { IfOk result (λ f. f.labels ≡ labels_of self) }
         ensures unspoiled { OnOk result (spoiled_of self ≡ false) }
     {
+        self.check()?;
+        self.end()
+    }
+
+    fn end(mut self) -> Result<Finished, OutOfMemory>
+        requires sound { IsSound L.kinds self }
+        requires ready { CanFinish L.kinds (shape_of self) }
+        ensures code { IfOk result (λ f. Finishes L.kinds (shape_of self) f.bytes) }
+        ensures labels { IfOk result (λ f. f.labels ≡ labels_of self) }
+    {
         self.put_last()?;
         let MachBuffer {
-            mut bytes,
-            uses,
-            waiting,
-            latest,
-            earlier,
-            veneers,
-            places,
+            alloc,
+            code,
             labels,
-            drawn,
+            pending,
             spoiled,
         } = self;
-        patch_all(&mut bytes, &uses, &veneers, &places);
+        let Code { mut bytes, uses } = code;
+        patch_all(&mut bytes, &uses, &labels);
+        let Labels {
+            table,
+            bound,
+            allocated,
+        } = labels;
         Ok(Finished {
             bytes: List::from_vec(bytes),
-            labels: List::from_vec(labels),
+            labels: List::from_vec(bound),
         })
     }
 
-    /// Puts zero bytes to a multiple of four and the last veneers, where some use is pending.
+    /// Puts the last veneers, after zero bytes to a multiple of four, where some use is pending.
     fn put_last(&mut self) -> Result<(), OutOfMemory>
-        requires sound { IsSound L.has_veneer L.forward L.backward L.veneer self.old }
-        requires reach { StillReaches (length (before_last (bytes_of self.old) (length (pending_of L.has_veneer L.forward L.backward self.old)))) (pending_of L.has_veneer L.forward L.backward self.old) }
-        requires short { length (before_last (bytes_of self.old) (length (pending_of L.has_veneer L.forward L.backward self.old))) + 8 * length (pending_of L.has_veneer L.forward L.backward self.old) < 2147479552 }
-        ensures put { OnOk result (VeneersPut L.forward (is_pending L.has_veneer L.forward L.backward (place_of self.old)) (before_last (bytes_of self.old) (length (pending_of L.has_veneer L.forward L.backward self.old))) (uses_of self.old) (bytes_of self.new) (uses_of self.new)) }
-        ensures grown { OnOk result (VeneersBehind (length (bytes_of self.old)) (veneers_of self.old) (veneers_of self.new)) }
-        ensures linked { OnOk result (IsLinked L.has_veneer L.forward L.veneer (bytes_of self.new) (uses_of self.new) (veneers_of self.new)) }
-        ensures windows { OnOk result (AreWindows L.fields (bytes_of self.old) (uses_of self.old) (veneers_of self.old) → AreWindows L.fields (bytes_of self.new) (uses_of self.new) (veneers_of self.new)) }
-        ensures none { OnOk result (deadlines (is_pending L.has_veneer L.forward L.backward (place_of self.old)) L.forward (uses_of self.new) ≡ []) }
-        ensures labels { SameLabels self.old self.new }
-        ensures memory { TakesMemory result self.old self.new }
+        requires sound { IsSound L.kinds self.old }
+        requires ready { CanFinish L.kinds (shape_of self.old) }
+        ensures { OnOk result (LastPut L.kinds (shape_of self.old) (shape_of self.new)) }
     {
-        self.pad_last()?;
-        self.put_waiting(None)?;
+        let order = self
+            .pending
+            .order(&self.code.uses, &self.labels, None, self.alloc)?;
+        self.pad_last(order.len())?;
+        self.put_veneers(&order)?;
         Ok(())
     }
 
-    /// Puts zero bytes to a multiple of four, where some use is pending.
-    fn pad_last(&mut self) -> Result<(), OutOfMemory>
-        requires sound { IsSound L.has_veneer L.forward L.backward L.veneer self.old }
-        requires short { length (before_last (bytes_of self.old) (length (pending_of L.has_veneer L.forward L.backward self.old))) < 2147479552 }
-        ensures bytes { OnOk result (bytes_of self.new ≡ before_last (bytes_of self.old) (length (pending_of L.has_veneer L.forward L.backward self.old))) }
-        ensures uses { uses_of self.new ≡ uses_of self.old }
-        ensures veneers { veneers_of self.new ≡ veneers_of self.old }
-        ensures labels { SameLabels self.old self.new }
-        ensures memory { TakesMemory result self.old self.new }
-        ensures sound { OnOk result (IsSound L.has_veneer L.forward L.backward L.veneer self.new) }
+    /// Puts zero bytes to a multiple of four, where some veneers are to come.
+    fn pad_last(&mut self, count: usize) -> Result<(), OutOfMemory>
+        requires room { count ≢ 0 → aligned (length (bytes_of self.old)) < 2147479552 }
+        requires even { length (bytes_of self.old) % 2 ≡ 0 }
+        ensures shape { OnOk result (shape_of self.new ≡ padded_for count (shape_of self.old)) }
     {
-        self.check()?;
-        if self.count_others(None) != 0 {
+        if count != 0 {
             self.pad()?;
         }
         Ok(())

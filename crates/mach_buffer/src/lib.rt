@@ -1,8 +1,16 @@
 //! A buffer of code: bytes, labels, uses of labels, and the islands by which far labels are reached.
 #![tactic(auto)]
 
-pub mod buffer;
-pub mod finish;
-pub mod islands;
-pub mod patches;
-pub mod uses;
+mod buffer;
+mod code;
+mod finish;
+mod islands;
+mod labels;
+mod patches;
+mod pending;
+mod reach;
+mod uses;
+
+pub use buffer::MachBuffer;
+pub use finish::Finished;
+pub use uses::{LabelPlace, Use};

@@ -12,18 +12,9 @@ pub struct Use<L> {
     pub veneer: Option<u32>,
 }
 
-/// The use in a veneer, and where the veneer stands.
-#[derive(Clone, Copy)]
-pub struct VeneerUse<L> {
-    pub at: u32,
-    pub offset: u32,
-    pub label: MachLabel,
-    pub kind: L,
-}
-
 /// The order in which veneers are put: by deadline, then by place, then as recorded.
 #[derive(Clone, Copy, Debug, PartialEq, Eq, PartialOrd, Ord)]
-pub struct Turn {
+pub struct PendingKey {
     pub deadline: u64,
     pub offset: u32,
     pub index: usize,

@@ -1,4 +1,4 @@
--- What waits since the last island, as lines are put.
+-- What is pending since the last island, as lines are put.
 use Rattle.std.proofs.Common.{◌≡◌, ℕ, ◌+◌, ◌⊎◌, inl, inr, Bool, true, false, cond, List, [], ◌∷◌, ◌++◌, length, Option, Some, None, refl, ap, sym, ◌∙◌, subst, arith, ⊎_elim, append_assoc}
 use Rattle.std.specs.Prelude.{slice_get, nat_eq, nat_lt}
 use Rattle.std.proofs.lemmas.Bool.{true≢false, eq-eqb, ne_eqb, cases_eq, lt-ltb, ltb-true}
@@ -10,13 +10,12 @@ use Rattle.rv_inst.specs.declared.inst.Inst.TheVariants.{EmitIsland}
 use Rattle.rv_inst.specs.declared.inst.Line.{Line}
 use Rattle.rv_inst.specs.declared.inst.Line.TheVariants.{Inst as Put, Bind}
 use Rattle.rv_inst.specs.declared.label_use.LabelUse.{LabelUse}
-use Rattle.rv_inst.specs.LabelUse.{forward_of, backward_of, has_veneer_of}
+use Rattle.rv_inst.specs.LabelUse.{label_kinds}
 use Rattle.rv_inst.specs.Rules.{broken_rule}
 use Rattle.mach_buffer.specs.declared.uses.Use.{Use}
 use Rattle.mach_buffer.specs.Buffer.{bytes_of, uses_of, place_of}
-use Rattle.mach_buffer.specs.Targets.{or_place}
-use Rattle.mach_buffer.proofs.Links.{append_each}
-use Rattle.mach_buffer.proofs.Slack.{none_waits, bound_waits}
+use Rattle.mach_buffer.specs.Windows.{or_place}
+use Rattle.mach_buffer.proofs.Laws.{append_each, none_waits, bound_waits}
 use Rattle.rv_emit.specs.Emitted.{Buffer, AppendsInst, AppendsIsland, IslandIfNeeded, Emitted}
 use Rattle.rv_inst.specs.Uses.{uses_in}
 use Rattle.rv_emit.proofs.Laws.{waits}
@@ -37,12 +36,12 @@ not_less m n level = on (nat_lt m n) refl
 
 -- ---- what a step does to the uses that are open
 
--- behind an island nothing waits
+-- after an island nothing is pending
 ends_island : (old new : Buffer) → AppendsIsland old new → EndsIn [] new
 ends_island old new p = record {
   before = uses_of new;
   whole = sym (append-nil (uses_of new));
-  idle = none_waits (waits (place_of new)) forward_of (uses_of new) p.settled;
+  idle = none_waits (waits (place_of new)) label_kinds (uses_of new) p.settled;
 }
 
 ends_block : (inst : Inst) (old new : Buffer) (uses : List (Use LabelUse)) → AppendsInst inst old new → EndsIn uses old → EndsIn (uses ++ uses_in (length (bytes_of old)) inst) new
@@ -54,7 +53,7 @@ ends_block inst old new uses p e =
       idle = λ j u h. ap (λ (place : ℕ → Option ℕ). waits place u) p.adds.places ∙ e.idle j u h;
     }
 
--- what did not wait does not wait once a label more is bound
+-- what was not pending is not pending once a label more is bound
 ends_bind : (label : MachLabel) (old new : Buffer) (span : LineSpan) (uses : List (Use LabelUse)) → BindPut label old new span → EndsIn uses old → EndsIn uses new
 ends_bind label old new span uses p e = record {
   before = e.before;
@@ -64,7 +63,7 @@ ends_bind label old new span uses p e = record {
   where
     on : (u : Use LabelUse) (c : Bool) → waits (place_of new) u ≡ c → waits (place_of old) u ≡ false → c ≡ false
     on u false h before = refl
-    on u true h before = absurd (true≢false (sym (bound_waits has_veneer_of forward_of backward_of (place_of old) (place_of new) label.number p.unbound p.kept u h) ∙ before))
+    on u true h before = absurd (true≢false (sym (bound_waits label_kinds (place_of old) (place_of new) label.number p.unbound p.kept u h) ∙ before))
 
 -- an instruction: it is an island, or its uses are added
 emitted_ends : (inst : Inst) (mid new : Buffer) (start end : ℕ) (uses : List (Use LabelUse)) → start ≡ length (bytes_of mid) → end ≡ length (bytes_of new) → Emitted inst mid new → EndsIn uses mid →
@@ -124,7 +123,7 @@ since_none b uses none = record {
     no_line : (j : ℕ) (line : Line) → slice_get [] j ≡ Some line → ⊥
     no_line j line h = absurd (cc)
 
--- the uses that are open behind what stands before a line, to which the line adds its own
+-- the uses that are open after what stands before a line, to which the line adds its own
 record Roomed (lines : List Line) (spans : List LineSpan) (line : Line) (span : LineSpan) (mid : Buffer) : Type 0 where
   pub uses : List (Use LabelUse)
   pub ends : EndsIn uses mid

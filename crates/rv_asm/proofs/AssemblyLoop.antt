@@ -8,9 +8,9 @@ use Rattle.rv_inst.specs.declared.inst.Line.{Line}
 use Rattle.rv_inst.specs.declared.inst.Line.TheVariants.{Inst as Put, Bind}
 use Rattle.rv_inst.specs.declared.code.Code.{Code}
 use Rattle.rv_inst.specs.declared.code.LineSpan.{LineSpan}
-use Rattle.rv_inst.specs.LabelUse.{Aims, marks_of, has_veneer_of, forward_of, backward_of, veneer_of}
+use Rattle.rv_inst.specs.LabelUse.{label_kinds}
 use Rattle.mach_buffer.specs.Finish.{CanFinish, Finishes}
-use Rattle.mach_buffer.specs.Buffer.{bytes_of, uses_of, veneers_of, place_of, labels_of, drawn_of}
+use Rattle.mach_buffer.specs.Buffer.{shape_of, bytes_of, uses_of, place_of, labels_of, allocated_of}
 use Rattle.rv_emit.specs.Emitted.{Buffer, IsSoundBuffer}
 use Rattle.rv_asm.specs.Refusal.{binds, is_bound, size_sum, refusal}
 use Rattle.rv_inst.specs.Sizes.{line_sum}
@@ -36,11 +36,11 @@ pub record SoFar (lines : List Line) (count : ℕ) (spans : List LineSpan) (b : 
   pub reach : ReachesOn (take count lines) spans
 
 -- before the first
-pub so_far_none : (lines : List Line) (b : Buffer) → bytes_of b ≡ [] → uses_of b ≡ [] → veneers_of b ≡ [] → ((label : ℕ) → place_of b label ≡ None) → labels_of b ≡ [] → drawn_of b ≡ 0 → IsSoundBuffer b → SoFar lines 0 [] b
-so_far_none lines b bytes uses veneers places labels drawn sound = record {
-  built = built_none b bytes uses veneers sound;
+pub so_far_none : (lines : List Line) (b : Buffer) → bytes_of b ≡ [] → uses_of b ≡ [] → ((label : ℕ) → place_of b label ≡ None) → labels_of b ≡ [] → allocated_of b ≡ 0 → IsSoundBuffer b → SoFar lines 0 [] b
+so_far_none lines b bytes uses places labels allocated sound = record {
+  built = built_none b bytes uses sound;
   named = named_none b uses labels places;
-  sized = sized_none b bytes uses drawn;
+  sized = sized_none b bytes uses allocated;
   since = since_none b uses places;
   early = early_none;
   reach = reaches_none;
@@ -116,12 +116,12 @@ can_put lines n spans b line e s h =
     let small = sum_small lines e in
     let least = sum_take lines n line h in
     let size = s.sized.size in
-    let drawn = s.sized.drawn in
+    let allocated = s.sized.allocated in
     record {
       rule = no_rule_broken lines e n line h;
       sound = s.built.sound;
       reach = s.sized.reach;
-      few = omega (arith, small, least, drawn);
+      few = omega (arith, small, least, allocated);
       room = omega (arith, small, least, size);
       unbound = unbound_next lines n spans b line e s h;
     }
@@ -170,19 +170,19 @@ at_end lines n spans b le s =
     }
 
 -- after the last, the buffer can be finished
-pub ready : (lines : List Line) (n : ℕ) (spans : List LineSpan) (b : Buffer) → refusal lines ≡ None → length lines ≤ n → SoFar lines n spans b → CanFinish marks_of has_veneer_of forward_of backward_of veneer_of b
+pub ready : (lines : List Line) (n : ℕ) (spans : List LineSpan) (b : Buffer) → refusal lines ≡ None → length lines ≤ n → SoFar lines n spans b → CanFinish label_kinds (shape_of b)
 ready lines n spans b e le s =
     let all = at_end lines n spans b le s in
     can_finish lines spans b all.built all.named all.sized (sum_small lines e) (named_is_bound lines e)
 
 -- and then it is finished
-pub finished : (lines : List Line) (n : ℕ) (code : Code) (b : Buffer) → refusal lines ≡ None → length lines ≤ n → SoFar lines n code.lines b → Finishes Aims marks_of has_veneer_of forward_of backward_of veneer_of b code.bytes → code.labels ≡ labels_of b → code.end ≡ length (bytes_of b) → IsFinished lines code
+pub finished : (lines : List Line) (n : ℕ) (code : Code) (b : Buffer) → refusal lines ≡ None → length lines ≤ n → SoFar lines n code.lines b → Finishes label_kinds (shape_of b) code.bytes → code.labels ≡ labels_of b → code.end ≡ length (bytes_of b) → IsFinished lines code
 finished lines n code b e le s f labels end =
     let all = at_end lines n code.lines b le s in
     record { sink = b; built = all.built; named = all.named; sized = all.sized; early = all.early; reach = all.reach; ready = ready lines n code.lines b e le s; finished = f; labels = labels; end = end }
 
 -- the code is short
-pub code_short : (lines : List Line) (n : ℕ) (spans : List LineSpan) (b : Buffer) (bytes : List ℕ) → refusal lines ≡ None → length lines ≤ n → SoFar lines n spans b → Finishes Aims marks_of has_veneer_of forward_of backward_of veneer_of b bytes → length bytes < 2 ^ 32
+pub code_short : (lines : List Line) (n : ℕ) (spans : List LineSpan) (b : Buffer) (bytes : List ℕ) → refusal lines ≡ None → length lines ≤ n → SoFar lines n spans b → Finishes label_kinds (shape_of b) bytes → length bytes < 2 ^ 32
 code_short lines n spans b bytes e le s f =
     let short = finished_short lines b bytes (at_end lines n spans b le s).sized f in
     let small = sum_small lines e in

@@ -7,11 +7,10 @@ use Rattle.rv_inst.specs.declared.code.LineSpan.{LineSpan}
 use Rattle.rv_inst.specs.declared.inst.Line.{Line}
 use Rattle.rv_inst.specs.declared.inst.Line.TheVariants.{Bind}
 use Rattle.rv_inst.specs.Operands.{named_labels}
-use Rattle.rv_inst.specs.LabelUse.{Aims, marks_of, forward_of, backward_of, has_veneer_of, veneer_of}
-use Rattle.mach_buffer.specs.Buffer.{bytes_of, place_of}
+use Rattle.rv_inst.specs.LabelUse.{label_kinds}
+use Rattle.mach_buffer.specs.Buffer.{shape_of, bytes_of, place_of}
 use Rattle.mach_buffer.specs.Finish.{before_last, CanFinish, Finishes}
-use Rattle.mach_buffer.proofs.Ends.{last_near}
-use Rattle.mach_buffer.proofs.Slack.{slack_from_reach, reaches_from_slack}
+use Rattle.mach_buffer.proofs.Laws.{last_near, slack_from_reach, reaches_from_slack, veneers_reach}
 use Rattle.rv_emit.specs.Emitted.{Buffer, pending}
 use Rattle.rv_asm.specs.Refusal.{is_bound, size_sum}
 use Rattle.rv_asm.specs.LinesInBuffer.{IsNamed, LinesStand, Named, Sized}
@@ -32,24 +31,23 @@ named_place : (lines : List Line) (spans : List LineSpan) (b : Buffer) (number :
 named_place lines spans b number built all n =
     ap (λ m. is_some (place_of b m)) (sym n.is) ∙ bound_place lines spans b n.label.number built (all n.index n.line n.there n.place n.label n.names)
 
-pub can_finish : (lines : List Line) (spans : List LineSpan) (b : Buffer) → LinesStand lines spans b → Named lines spans b → Sized lines b → size_sum lines ≤ 2 ^ 30 → AllBound lines → CanFinish marks_of has_veneer_of forward_of backward_of veneer_of b
+pub can_finish : (lines : List Line) (spans : List LineSpan) (b : Buffer) → LinesStand lines spans b → Named lines spans b → Sized lines b → size_sum lines ≤ 2 ^ 30 → AllBound lines → CanFinish label_kinds (shape_of b)
 can_finish lines spans b built n s sum all =
     let near : length (before_last (bytes_of b) (length (pending b))) ≤ length (bytes_of b) + 3 = last_near (bytes_of b) (length (pending b)) in
     let size = s.size in
     record {
-      sound = built.sound;
       windows = built.windows;
       bound = λ j u h. ⊎_elim (λ known. known) (λ by_line. named_place lines spans b u.label.number built all by_line) (n.named j u h);
-      direct = λ j u h no_veneer. absurd (true≢false (sym (n.kinds j u h) ∙ no_veneer));
-      reach = reaches_from_slack (length (bytes_of b)) 14 (length (before_last (bytes_of b) (length (pending b)))) (pending b) (omega arith) (slack_from_reach (length (bytes_of b)) (pending b) s.reach);
+      direct = λ j u h no_veneer near. absurd (⊎_elim (λ yes. true≢false (sym yes ∙ no_veneer)) (λ far. true≢false (sym far ∙ near)) (n.kinds j u h));
+      reach = veneers_reach (length (before_last (bytes_of b) (length (pending b)))) (pending b) (reaches_from_slack (length (bytes_of b)) 14 (length (before_last (bytes_of b) (length (pending b)))) (pending b) (omega arith) (slack_from_reach (length (bytes_of b)) (pending b) s.reach));
       short = omega (arith, near, size, sum);
     }
 
 -- and the code is at most 16 bytes longer than its lines count for
-pub finished_short : (lines : List Line) (b : Buffer) (bytes : List ℕ) → Sized lines b → Finishes Aims marks_of has_veneer_of forward_of backward_of veneer_of b bytes → length bytes ≤ size_sum lines + 16
+pub finished_short : (lines : List Line) (b : Buffer) (bytes : List ℕ) → Sized lines b → Finishes label_kinds (shape_of b) bytes → length bytes ≤ size_sum lines + 16
 finished_short lines b bytes s f =
     let near : length (before_last (bytes_of b) (length (pending b))) ≤ length (bytes_of b) + 3 = last_near (bytes_of b) (length (pending b)) in
-    let put : length f.old ≡ length (before_last (bytes_of b) (length (pending b))) + 8 * length (pending b) = f.put.long in
-    let long = f.long in
+    let put : length f.put.bytes ≡ length (before_last (bytes_of b) (length (pending b))) + 8 * length (pending b) = f.long in
+    let long = f.same_length in
     let size = s.size in
     omega (arith, near, put, long, size)

@@ -8,13 +8,13 @@ use Rattle.rv_inst.specs.declared.inst.Inst.{Inst}
 use Rattle.rv_inst.specs.declared.inst.Inst.TheVariants.{EmitIsland}
 use Rattle.rv_inst.specs.declared.job.Job.{Job}
 use Rattle.rv_inst.specs.declared.code.Code.{Code}
-use Rattle.rv_inst.specs.LabelUse.{Aims, marks_of, forward_of, backward_of, has_veneer_of, veneer_of}
+use Rattle.rv_inst.specs.LabelUse.{label_kinds}
 use Rattle.rv_inst.specs.Meaning.{Break, exit_of, inst_exit, inst_effect}
 use Rattle.rv_inst.specs.Operands.{named_labels, inst_labels}
 use Rattle.rv_inst.specs.Rules.{inst_rule, broken_rule}
-use Rattle.mach_buffer.specs.Buffer.{bytes_of}
+use Rattle.mach_buffer.specs.Buffer.{shape_of, bytes_of}
 use Rattle.mach_buffer.specs.Finish.{CanFinish, Finishes}
-use Rattle.mach_buffer.proofs.Links.{below}
+use Rattle.mach_buffer.proofs.Laws.{below}
 use Rattle.rv_emit.specs.Operations.{decoded_ebreak}
 use Rattle.rv_emit.specs.Runs.{least_steps, exit_address, placement}
 use Rattle.rv_emit.specs.Emitted.{Buffer, bytes_of_words}
@@ -64,7 +64,7 @@ line_even job code b start after (Bind label) f there aligned = let e = there.0 
 
 -- ---- all together
 
-pub built_threaded : (job : Job) (code : Code) (b : Buffer) → LinesStand job.lines code.lines b → CanFinish marks_of has_veneer_of forward_of backward_of veneer_of b → Finishes Aims marks_of has_veneer_of forward_of backward_of veneer_of b code.bytes → code.end ≡ length (bytes_of b) → length code.bytes < 2 ^ 31 →
+pub built_threaded : (job : Job) (code : Code) (b : Buffer) → LinesStand job.lines code.lines b → CanFinish label_kinds (shape_of b) → Finishes label_kinds (shape_of b) code.bytes → code.end ≡ length (bytes_of b) → length code.bytes < 2 ^ 31 →
     ((i : ℕ) (line : Line) → slice_get job.lines i ≡ Some line → broken_rule line ≡ None) → ((i : ℕ) (line : Line) → slice_get job.lines i ≡ Some line → AllBound job.lines (named_labels line)) → IsThreaded job code
 built_threaded job code b built can finishes end small rules bound =
     let f : Finished job code b = record { built = built; can = can; finishes = finishes; small = small } in
@@ -78,6 +78,6 @@ built_threaded job code b built can finishes end small rules bound =
       last = λ i e. end ∙ built.ends ∙ ap (end_before code.lines) (sym e);
     }
 
-pub built_runs : (job : Job) (code : Code) (b : Buffer) → LinesStand job.lines code.lines b → CanFinish marks_of has_veneer_of forward_of backward_of veneer_of b → Finishes Aims marks_of has_veneer_of forward_of backward_of veneer_of b code.bytes → code.end ≡ length (bytes_of b) → length code.bytes < 2 ^ 31 →
+pub built_runs : (job : Job) (code : Code) (b : Buffer) → LinesStand job.lines code.lines b → CanFinish label_kinds (shape_of b) → Finishes label_kinds (shape_of b) code.bytes → code.end ≡ length (bytes_of b) → length code.bytes < 2 ^ 31 →
     ((i : ℕ) (line : Line) → slice_get job.lines i ≡ Some line → broken_rule line ≡ None) → ((i : ℕ) (line : Line) → slice_get job.lines i ≡ Some line → AllBound job.lines (named_labels line)) → RunsAsListed job code
 built_runs job code b built can finishes end small rules bound = threaded_runs job code (built_threaded job code b built can finishes end small rules bound)

@@ -2,7 +2,6 @@
 use Rattle.std.proofs.Common.{◌≡◌, None, ◌∙◌, arith}
 use Rattle.rv_inst.specs.declared.job.Job.{Job}
 use Rattle.rv_inst.specs.declared.code.Code.{Code}
-use Rattle.mach_buffer.proofs.Patched.{old_kept}
 use Rattle.rv_asm.specs.Refusal.{refusal}
 use Rattle.rv_asm.specs.Reported.{Reported}
 use Rattle.rv_asm.specs.Simulation.{RunsAsListed}
@@ -24,9 +23,9 @@ is_finished job code e f =
 
 pub finished_told : (job : Job) (code : Code) → refusal job.lines ≡ None → IsFinished job.lines code → CodeFits code → Reported job code
 finished_told job code e f fits =
-    let kept = old_kept f.finished in
-    let long = f.finished.long in
-    built_told job code f.sink (is_finished job code e f) (all_bytes code.bytes fits.bytes) (f.labels ∙ f.named.labels) f.end (omega (arith, kept.1, long))
+    let longer = f.finished.grows.longer in
+    let long = f.finished.same_length in
+    built_told job code f.sink (is_finished job code e f) (all_bytes code.bytes fits.bytes) (f.labels ∙ f.named.labels) f.end (omega (arith, longer, long))
 
 pub finished_runs : (job : Job) (code : Code) → refusal job.lines ≡ None → IsFinished job.lines code → RunsAsListed job code
 finished_runs job code e f =

@@ -7,11 +7,11 @@ use Rattle.rv_inst.specs.declared.code.LineSpan.{LineSpan}
 use Rattle.rv_inst.specs.declared.inst.Line.{Line}
 use Rattle.rv_inst.specs.declared.inst.Line.TheVariants.{Inst as Put, Bind}
 use Rattle.rv_inst.specs.declared.label_use.LabelUse.{LabelUse}
-use Rattle.rv_inst.specs.LabelUse.{forward_of, backward_of}
+use Rattle.rv_inst.specs.LabelUse.{label_kinds}
 use Rattle.mach_buffer.specs.declared.uses.Use.{Use}
 use Rattle.mach_buffer.specs.Reach.{is_reached, deadlines}
-use Rattle.mach_buffer.specs.Targets.{or_place}
-use Rattle.mach_buffer.proofs.Links.{slice_get-append}
+use Rattle.mach_buffer.specs.Windows.{or_place}
+use Rattle.mach_buffer.proofs.Laws.{slice_get-append}
 use Rattle.rv_inst.specs.Uses.{uses_in}
 use Rattle.rv_asm.specs.Reported.{start_of, end_of}
 use Rattle.rv_asm.specs.Reported.{end_before}
@@ -126,18 +126,18 @@ bound_by_append spans i (Bind l ∷ lines) more label =
     on true rest = refl
     on false rest = rest
 
--- ---- what waits
+-- ---- what is pending
 
--- what waits behind some lines, from the first that is open
+-- what is pending after some lines, from the first that is open
 abbrev waiting_at : List LineSpan → List Line → ℕ → List ℕ
-waiting_at spans front k = deadlines (λ (u : Use LabelUse). not (is_reached forward_of backward_of (bound_by spans 0 front u.label.number) u)) forward_of (uses_from spans k (drop k front))
+waiting_at spans front k = deadlines (λ (u : Use LabelUse). not (is_reached label_kinds (bound_by spans 0 front u.label.number) u)) label_kinds (uses_from spans k (drop k front))
 
 waiting_spans : (spans more : List LineSpan) (front : List Line) (k : ℕ) → length front ≤ length spans → k ≤ length front → waiting_at (spans ++ more) front k ≡ waiting_at spans front k
 waiting_spans spans more front k le low =
     let long : length (drop k front) ≡ length front - k = length-drop k front in
     let uses : uses_from (spans ++ more) k (drop k front) ≡ uses_from spans k (drop k front) = uses_more spans more k (drop k front) (omega arith) in
     let bound : (label : ℕ) → bound_by (spans ++ more) 0 front label ≡ bound_by spans 0 front label = λ label. bound_by_more spans more 0 front label (omega arith) in
-    λ j. deadlines (λ (u : Use LabelUse). not (is_reached forward_of backward_of (bound u.label.number j) u)) forward_of (uses j)
+    λ j. deadlines (λ (u : Use LabelUse). not (is_reached label_kinds (bound u.label.number j) u)) label_kinds (uses j)
 
 pub waiting_more : (lines more : List Line) (spans more_spans : List LineSpan) (n : ℕ) → length spans ≡ length lines → n ≤ length lines → pending_deadlines (lines ++ more) (spans ++ more_spans) n ≡ pending_deadlines lines spans n
 waiting_more lines more spans more_spans n count le =

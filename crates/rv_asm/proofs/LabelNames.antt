@@ -15,11 +15,12 @@ use Rattle.rv_inst.specs.declared.label_use.LabelUse.TheVariants.{Jal20}
 use Rattle.rv_inst.specs.declared.error.Rule.TheVariants as rule_of
 use Rattle.rv_inst.specs.Rules.{broken_rule}
 use Rattle.rv_inst.specs.Operands.{inst_labels}
-use Rattle.rv_inst.specs.LabelUse.{has_veneer_of}
+use Rattle.rv_inst.specs.LabelUse.{label_kinds, has_veneer_of}
 use Rattle.mach_buffer.specs.declared.uses.Use.{Use}
-use Rattle.mach_buffer.specs.Buffer.{bytes_of, uses_of, place_of, labels_of, recorded, core, listed}
-use Rattle.mach_buffer.proofs.Apart.{both_lists, comes_from}
-use Rattle.mach_buffer.proofs.Links.{slice_get-append, slice_get-append_last, append_each, recorded_get}
+use Rattle.mach_buffer.specs.Buffer.{bytes_of, uses_of, place_of, labels_of}
+use Rattle.mach_buffer.specs.Shape.{recorded, core, listed}
+use Rattle.mach_buffer.specs.Islands.{is_far}
+use Rattle.mach_buffer.proofs.Laws.{both_lists, comes_from, slice_get-append, slice_get-append_last, append_each, recorded_get}
 use Rattle.rv_emit.specs.Emitted.{Buffer, AppendsInst, AppendsIsland, IslandIfNeeded, Emitted}
 use Rattle.rv_inst.specs.Uses.{use_at, uses_in}
 use Rattle.rv_emit.proofs.Laws.{Each, each_none, each_more, uses_kinds}
@@ -99,9 +100,9 @@ bound_at (Bind l ∷ lines) number h = on (nat_eq l.number number) refl h (bound
 
 -- ---- the uses and what they name
 
--- a use may go by a veneer, and its label is named by a line or bound
+-- a use may go by a veneer or reaches all code, and its label is named by a line or bound
 abbrev pub IsGood : List Line → Buffer → Use LabelUse → Type 0
-IsGood lines b u = (has_veneer_of u.kind ≡ true) × ((is_some (place_of b u.label.number) ≡ true) ⊎ IsNamed lines u.label.number)
+IsGood lines b u = ((has_veneer_of u.kind ≡ true) ⊎ (is_far label_kinds u ≡ true)) × ((is_some (place_of b u.label.number) ≡ true) ⊎ IsNamed lines u.label.number)
 
 abbrev pub AreGood : List Line → Buffer → Type 0
 AreGood lines b = Each (IsGood lines b) (recorded (uses_of b))
@@ -135,21 +136,28 @@ good_as lines b uses e h j u at = h j u (sym (ap (λ us. slice_get us j) e) ∙ 
 no_more : (lines : List Line) (b : Buffer) → AreGood (lines ++ []) b → AreGood lines b
 no_more lines b h j u at = let g = h j u at in (g.0, subst (λ ls. (is_some (place_of b u.label.number) ≡ true) ⊎ IsNamed ls u.label.number) (append-nil lines) g.1)
 
--- ---- an island and a block
+-- ---- an island and a sequence
 
 island_keeps : (old new : Buffer) → AppendsIsland old new → Keeps old new
 island_keeps old new p label h = ⊎_elim
     (λ e. ap is_some (ap (place_of new) e ∙ p.bound))
     (λ other. ap is_some (p.places label other) ∙ h)
-    (cases_eq label p.round.number)
+    (cases_eq label p.after_island.number)
 
 good_island : (lines : List Line) (old new : Buffer) → AppendsIsland old new → AreGood lines old → AreGood lines new
 good_island lines old new p h =
-    let jump = use_at (length (bytes_of old)) p.round Jal20 in
-    let own : IsGood (lines ++ []) new jump = (refl, inl (ap is_some p.bound)) in
+    let jump = use_at (length (bytes_of old)) p.after_island Jal20 in
+    let uses = uses_of old ++ jump ∷ [] in
+    let own : IsGood (lines ++ []) new jump = (inl refl, inl (ap is_some p.bound)) in
+    let first : Each (IsGood (lines ++ []) new) (recorded uses) =
+    subst (Each (IsGood (lines ++ []) new)) (sym (map-append core (uses_of old) (jump ∷ [])))
+    (append_each (IsGood (lines ++ []) new) (recorded (uses_of old)) jump own (λ j u e. good_kept lines [] old new (island_keeps old new p) u (h j u e))) in
     no_more lines new
-    (good_as (lines ++ []) new (recorded (uses_of old) ++ jump ∷ []) p.uses
-    (append_each (IsGood (lines ++ []) new) (recorded (uses_of old)) jump own (λ j u e. good_kept lines [] old new (island_keeps old new p) u (h j u e))))
+    (good_as (lines ++ []) new (recorded uses ++ p.own.more) p.own.grown
+    (both_lists (IsGood (lines ++ []) new) (recorded uses) p.own.more first
+    (λ k u e.
+    let x = p.own.own k u e in
+    (inr x.far, subst (λ (l : MachLabel). (is_some (place_of new l.number) ≡ true) ⊎ IsNamed (lines ++ []) l.number) x.names (first x.user (core x.used) (recorded_get uses x.user x.used x.there)).1))))
 
 pub good_room : (lines : List Line) (distance : ℕ) (old new : Buffer) (made : Bool) → IslandIfNeeded distance old new made → AreGood lines old → AreGood lines new
 good_room lines distance old new made m h = ⊎_elim (λ same. subst (AreGood lines) (sym same.1) h) (λ put. good_island lines old new put.1 h) m.put
@@ -190,7 +198,7 @@ good_block lines inst old new p h =
     let keeps : Keeps old new = λ label e. ap (λ (place : ℕ → Option ℕ). is_some (place label)) p.adds.places ∙ e in
     let each : Each (IsGood all new) (recorded own) = λ j u e.
     let from = comes_from core own j u e in
-    subst (IsGood all new) from.is (uses_kinds start inst j from.from from.there, inr (own_named lines inst from.from.label.number (uses_labels start inst j from.from from.there))) in
+    subst (IsGood all new) from.is (inl (uses_kinds start inst j from.from from.there), inr (own_named lines inst from.from.label.number (uses_labels start inst j from.from from.there))) in
     good_as all new (recorded (uses_of old) ++ recorded own) whole
     (both_lists (IsGood all new) (recorded (uses_of old)) (recorded own) (λ j u e. good_kept lines (Put inst ∷ []) old new keeps u (h j u e)) each)
 
@@ -259,7 +267,7 @@ bind_keeps label old new span p other h = ⊎_elim
     (λ differ. ap is_some (p.kept other differ) ∙ h)
     (cases_eq other label.number)
 
--- a label of the listing is told
+-- a label of the listing is reported
 listed_low : (label : MachLabel) (at : ℕ) → label.number < 2 ^ 30 → listed label at ≡ (record { label = label; offset = at }) ∷ []
 listed_low label at low = ap (λ b. cond b ((record { label = label; offset = at }) ∷ []) []) (lt-ltb label.number (2 ^ 30) low)
 

@@ -8,14 +8,13 @@ use Rattle.rv_inst.specs.declared.inst.Inst.{Inst}
 use Rattle.rv_inst.specs.declared.inst.Inst.TheVariants.{EmitIsland}
 use Rattle.rv_inst.specs.declared.code.LineSpan.{LineSpan}
 use Rattle.rv_inst.specs.declared.label_use.LabelUse.{LabelUse}
-use Rattle.rv_inst.specs.LabelUse.{marks_of, forward_of, backward_of, has_veneer_of}
+use Rattle.rv_inst.specs.LabelUse.{label_kinds}
 use Rattle.mach_buffer.specs.declared.uses.Use.{Use}
-use Rattle.mach_buffer.specs.declared.uses.VeneerUse.{VeneerUse}
 use Rattle.mach_buffer.specs.Reach.{is_pending, is_needed, deadlines}
-use Rattle.mach_buffer.specs.Buffer.{bytes_of, uses_of, veneers_of, place_of, recorded}
-use Rattle.mach_buffer.specs.Islands.{AreWindows}
-use Rattle.mach_buffer.proofs.Added.{append_none}
-use Rattle.mach_buffer.proofs.Patched.{grows_none, grows_more, grows_put, block_stays}
+use Rattle.mach_buffer.specs.Buffer.{bytes_of, uses_of, place_of}
+use Rattle.mach_buffer.specs.Shape.{recorded}
+use Rattle.mach_buffer.specs.Windows.{AreWindows}
+use Rattle.mach_buffer.proofs.Laws.{append_none, grows_none, grows_more, grows_put, block_stays}
 use Rattle.rv_emit.specs.Emitted.{Buffer, IsSoundBuffer, HasWindows, pending, bytes_of_words, AppendsInst, AppendsIsland, IslandIfNeeded, Emitted}
 use Rattle.rv_emit.proofs.Laws.{GrowsTo, block_grows, block_has_windows, block_there, block_whole, island_grows, island_jump}
 use Rattle.rv_asm.specs.LinesInBuffer.{GapStands, SequenceStands, InstStands, LineStands, InstPut, BindPut, LinePut}
@@ -24,7 +23,7 @@ use Rattle.rv_asm.specs.LinesInBuffer.{GapStands, SequenceStands, InstStands, Li
 
 pub gap_stays : {old new : Buffer} → GrowsTo old new → (from to : ℕ) → GapStands old from to → GapStands new from to
 gap_stays g from to (inl e) = inl e
-gap_stays g from to (inr i) = inr (record { round = i.round; jump = block_stays g i.jump; bound = g.places i.round.number to i.bound; longer = i.longer })
+gap_stays g from to (inr i) = inr (record { after_island = i.after_island; jump = block_stays g i.jump; bound = g.places i.after_island.number to i.bound; longer = i.longer })
 
 pub there_stays : {inst : Inst} {old new : Buffer} → GrowsTo old new → (start end : ℕ) → SequenceStands inst old start end → SequenceStands inst new start end
 there_stays g start end t = record { words = t.words; decode = t.decode; used = t.used; block = block_stays g t.block; ends = t.ends }
@@ -39,7 +38,7 @@ line_stays (Bind label) old new g start end h = (h.0, g.places label.number star
 
 -- ---- room
 
--- behind what stood there is nothing more, or an island
+-- after what stood there is nothing more, or an island
 pub record RoomMade (old new : Buffer) : Type 0 where
   pub grows : GrowsTo old new
   pub gap : GapStands new (length (bytes_of old)) (length (bytes_of new))
@@ -50,14 +49,14 @@ pub record RoomMade (old new : Buffer) : Type 0 where
 
 -- where no use is, no island is needed
 none_needed : (b : Buffer) (distance : ℕ) → uses_of b ≡ [] → is_needed (length (bytes_of b)) distance (pending b) ≡ false
-none_needed b distance e = ap (λ us. is_needed (length (bytes_of b)) distance (deadlines (is_pending has_veneer_of forward_of backward_of (place_of b)) forward_of us)) e
+none_needed b distance e = ap (λ us. is_needed (length (bytes_of b)) distance (deadlines (is_pending label_kinds (place_of b)) label_kinds us)) e
 
 pub room_made : {distance : ℕ} {old new : Buffer} {made : Bool} → IsSoundBuffer old → HasWindows old → length (bytes_of old) % 4 ≡ 0 → IslandIfNeeded distance old new made → RoomMade old new
 room_made {distance} {old} {new} {made} s w a r = on r.put
   where
     on : ((made ≡ false) × (new ≡ old)) ⊎ ((made ≡ true) × AppendsIsland old new) → RoomMade old new
     on (inl (e, same)) = subst (RoomMade old) (sym same) (record {
-      grows = grows_none (bytes_of old) (uses_of old) (veneers_of old) (place_of old);
+      grows = grows_none (bytes_of old) (uses_of old) (place_of old);
       gap = inl refl;
       whole = a;
       windows = w;
@@ -66,7 +65,7 @@ room_made {distance} {old} {new} {made} s w a r = on r.put
     })
     on (inr (e, p)) = record {
       grows = island_grows s p;
-      gap = inr (record { round = p.round; jump = island_jump s w p; bound = p.bound; longer = p.longer });
+      gap = inr (record { after_island = p.after_island; jump = island_jump s w p; bound = p.bound; longer = p.longer });
       whole = p.aligned;
       windows = p.windows w;
       sound = p.sound;
@@ -98,7 +97,7 @@ emits inst s w a e = record { grows = block_grows inst s e; there = put_there in
 
 -- ---- a line
 
--- behind what stood there is nothing or an island, and then the line, at its span
+-- after what stood there is nothing or an island, and then the line, at its span
 pub record LineAdded (line : Line) (old new : Buffer) (span : LineSpan) : Type 0 where
   pub grows : GrowsTo old new
   pub gap : GapStands new (length (bytes_of old)) span.start
@@ -132,16 +131,15 @@ none_some (Some b) to p q = absurd (cc)
 
 bind_added : {label : MachLabel} {old new : Buffer} {span : LineSpan} → HasWindows old → length (bytes_of old) % 4 ≡ 0 → BindPut label old new span → LineAdded (Bind label) old new span
 bind_added {label} {old} {new} {span} w a p = record {
-  grows = grows_put [] [] (λ k u h. absurd (cc)) (bytes_of new) (uses_of new) (veneers_of new) (place_of new) (p.bytes ∙ sym (append_none (bytes_of old))) (ap recorded p.uses ∙ sym (append_none (recorded (uses_of old)))) p.veneers
+  grows = grows_put [] [] (λ k u h. absurd (cc)) (bytes_of new) (uses_of new) (place_of new) (p.bytes ∙ sym (append_none (bytes_of old))) (ap recorded p.uses ∙ sym (append_none (recorded (uses_of old))))
       (λ other to h. p.kept other (λ e. none_some (place_of old label.number) to p.unbound (ap (place_of old) (sym e) ∙ h)) ∙ h);
   gap = inl (sym p.start);
   there = (p.start ∙ sym p.end, subst (λ n. place_of new label.number ≡ Some n) (sym p.start) p.bound);
   end = p.end ∙ ap (length {A = ℕ}) (sym p.bytes);
   aligned = ap (λ n. n % 4) p.start ∙ a;
   whole = ap (λ (bs : List ℕ). length bs % 4) p.bytes ∙ a;
-  windows = subst (λ (bs : List ℕ). AreWindows marks_of bs (uses_of new) (veneers_of new)) (sym p.bytes)
-      (subst (λ (us : List (Use LabelUse)). AreWindows marks_of (bytes_of old) us (veneers_of new)) (sym p.uses)
-      (subst (λ (vs : List (VeneerUse LabelUse)). AreWindows marks_of (bytes_of old) (uses_of old) vs) (sym p.veneers) w));
+  windows = subst (λ (bs : List ℕ). AreWindows label_kinds bs (uses_of new)) (sym p.bytes)
+      (subst (λ (us : List (Use LabelUse)). AreWindows label_kinds (bytes_of old) us) (sym p.uses) w);
   sound = p.sound;
   first = λ h. p.start;
 }

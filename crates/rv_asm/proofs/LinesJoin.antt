@@ -1,5 +1,5 @@
--- The join of lines: where each line's block, placed with the whole code, leads as the line means, and what stands
--- between two lines leads on, the code runs as its job says. Nothing here knows how the blocks were laid out.
+-- The join of lines: where each line's sequence, placed with the whole code, leads as the line means, and what stands
+-- between two lines leads on, the code runs as its job says. Nothing here knows how the sequences were laid out.
 use Rattle.std.proofs.Common.{◌≡◌, ℕ, zero, suc, ◌+◌, ◌<◌, ◌≤◌, Bool, true, false, List, [], ◌∷◌, length, Some, arith, refl, sym, ap, subst, ◌∙◌}
 use Rattle.std.specs.Prelude.{slice_get, nat_lt, if◌then◌else◌}
 use Rattle.std.proofs.lemmas.Bool.{ltb-true, ltb-false}
@@ -36,7 +36,7 @@ abbrev pub LineLeads : Job → Code → ℕ → Line → Type 0
 LineLeads job code i line =
     Leads job.flags code (start_of code.lines i) (λ v. least_steps (exit_of line v)) (λ base v. exit_address (label_place job.lines code) base (start_of code.lines i) (end_of code.lines i) (exit_of line v)) (λ base. effect_of (placement_of code base i) line)
 
--- each line's block leads as the line means, what stands behind it leads to the next one, at a break stands ebreak, and
+-- each line's sequence leads as the line means, what stands after it leads to the next one, at a break stands ebreak, and
 -- the last line ends the code
 pub record IsThreaded (job : Job) (code : Code) : Type 0 where
   pub line : (i : ℕ) (line : Line) → slice_get job.lines i ≡ Some line → LineLeads job code i line
@@ -44,7 +44,7 @@ pub record IsThreaded (job : Job) (code : Code) : Type 0 where
   pub halt : (i : ℕ) (line : Line) (v : Values) → slice_get job.lines i ≡ Some line → exit_of line v ≡ Break → StandOps job.flags code.bytes (start_of code.lines i) (decoded_ebreak ∷ [])
   pub last : (i : ℕ) → suc i ≡ length job.lines → code.end ≡ end_of code.lines i
 
--- a block that wrote no byte left the code where it was placed
+-- a sequence that wrote no byte left the code where it was placed
 pub placed_still : {least : ℕ} (flags : IsaFlags) (code : Code) (base : ℕ) (symbols slots : Addresses) (s : State) (address : ℕ) (v : Values) (e : ComesTo flags least address v s) → IsPlaced code base symbols slots s.values.mem → IsPlaced code base symbols slots e.state.values.mem
 placed_still flags code base symbols slots s address v e placed = subst (λ m. IsPlaced code base symbols slots m) (sym e.kept) placed
 

@@ -11,7 +11,7 @@ use Rattle.rv_inst.specs.declared.inst.Line.{Line}
 use Rattle.rv_inst.specs.declared.inst.Line.TheVariants.{Inst as Put, Bind}
 use Rattle.mach_buffer.specs.Reach.{CanReach, is_needed}
 use Rattle.mach_buffer.specs.Buffer.{bytes_of}
-use Rattle.mach_buffer.proofs.Links.{slice_get-append_last}
+use Rattle.mach_buffer.proofs.Laws.{slice_get-append_last}
 use Rattle.rv_emit.specs.Emitted.{Buffer, pending, IslandIfNeeded}
 use Rattle.rv_asm.specs.Reported.{start_of, end_of}
 use Rattle.rv_asm.specs.Reported.{end_before}

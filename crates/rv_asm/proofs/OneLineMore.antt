@@ -7,13 +7,11 @@ use Rattle.std.proofs.lemmas.Option.{same_Some}
 use Rattle.rv_inst.specs.declared.inst.Line.{Line}
 use Rattle.rv_inst.specs.declared.code.LineSpan.{LineSpan}
 use Rattle.rv_inst.specs.declared.label_use.LabelUse.{LabelUse}
-use Rattle.rv_inst.specs.LabelUse.{marks_of}
+use Rattle.rv_inst.specs.LabelUse.{label_kinds}
 use Rattle.mach_buffer.specs.declared.uses.Use.{Use}
-use Rattle.mach_buffer.specs.declared.uses.VeneerUse.{VeneerUse}
-use Rattle.mach_buffer.specs.Buffer.{bytes_of, uses_of, veneers_of}
-use Rattle.mach_buffer.specs.Islands.{AreWindows}
-use Rattle.mach_buffer.proofs.Blocks.{locate, windows_none}
-use Rattle.mach_buffer.proofs.Links.{below}
+use Rattle.mach_buffer.specs.Buffer.{bytes_of, uses_of}
+use Rattle.mach_buffer.specs.Windows.{AreWindows}
+use Rattle.mach_buffer.proofs.Laws.{locate, windows_none, below}
 use Rattle.rv_emit.specs.Emitted.{Buffer, IsSoundBuffer}
 use Rattle.rv_asm.specs.Reported.{start_of, end_of}
 use Rattle.rv_asm.specs.Reported.{end_before}
@@ -21,8 +19,8 @@ use Rattle.rv_asm.specs.LinesInBuffer.{GapStands, LineStands, LinesStand, LinePu
 use Rattle.rv_asm.proofs.LinesInBuffer.{LineAdded, gap_stays, line_stays, line_added}
 
 -- no line stands in an empty buffer
-pub built_none : (b : Buffer) → bytes_of b ≡ [] → uses_of b ≡ [] → veneers_of b ≡ [] → IsSoundBuffer b → LinesStand [] [] b
-built_none b eb eu ev s =
+pub built_none : (b : Buffer) → bytes_of b ≡ [] → uses_of b ≡ [] → IsSoundBuffer b → LinesStand [] [] b
+built_none b eb eu s =
     let none : length (bytes_of b) ≡ 0 = ap (length {A = ℕ}) eb in
     record {
       count = refl;
@@ -34,13 +32,12 @@ built_none b eb eu ev s =
       nothing = λ e. eu;
       aligned = λ i lt. absurd (omega arith);
       whole = ap (λ n. n % 4) none;
-      windows = subst (λ (bs : List ℕ). AreWindows marks_of bs (uses_of b) (veneers_of b)) (sym eb)
-          (subst (λ (us : List (Use LabelUse)). AreWindows marks_of [] us (veneers_of b)) (sym eu)
-          (subst (λ (vs : List (VeneerUse LabelUse)). AreWindows marks_of [] [] vs) (sym ev) windows_none));
+      windows = subst (λ (bs : List ℕ). AreWindows label_kinds bs (uses_of b)) (sym eb)
+          (subst (λ (us : List (Use LabelUse)). AreWindows label_kinds [] us) (sym eu) windows_none);
       sound = s;
     }
 
--- ---- a span behind others
+-- ---- a span after others
 
 start_before : (spans : List LineSpan) (span : LineSpan) (i : ℕ) → i < length spans → start_of (spans ++ span ∷ []) i ≡ start_of spans i
 start_before [] span i lt = absurd (omega arith)

@@ -1,4 +1,4 @@
--- What was due and was told ends a call, and without a fault the words and the input settle how it ends.
+-- What was due and is known ends a call, and without a fault the words and the input settle how it ends.
 use Rattle.std.proofs.Common.{◌≡◌, ℕ, ◌<◌, ◌≤◌, inl, inr, List, length, Option, Some, None, Result, Ok, Err, refl, sym, ap, subst, arith}
 use Rattle.std.specs.Prelude.{IfSome}
 use Rattle.std.specs.Io.KnownBytes.{Appends}

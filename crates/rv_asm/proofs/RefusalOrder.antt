@@ -84,7 +84,7 @@ none_again bound [] e j b is h = absurd (cc)
 none_again bound (line ∷ lines) e zero b is h = bound_twice bound b is (subst (λ (l : Line). twice_in bound l ≡ None) (same_some h) (none_left _ _ e))
 none_again bound (line ∷ lines) e (suc j) b is h = none_again (λ label. binds line label || bound label) lines (none_right (twice_in bound line) _ e) j b (or_true (binds line b.number) (bound b.number) is) h
 
--- the first of these lines binds a label, and then none behind it
+-- the first of these lines binds a label, and then none after it
 first_binds : (bound : ℕ → Bool) (line : Line) (lines : List Line) (a b : MachLabel) → Some line ≡ Some (Bind a) → a.number ≡ b.number → (binds line b.number || bound b.number) ≡ true
 first_binds bound line lines a b h same =
     let is : binds (Bind a) b.number ≡ true = subst (λ (n : ℕ). nat_eq a.number n ≡ true) same (nat_eq_same a.number) in

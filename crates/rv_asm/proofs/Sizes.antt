@@ -6,11 +6,11 @@ use Rattle.rv_inst.specs.declared.inst.Inst.{Inst}
 use Rattle.rv_inst.specs.declared.inst.Inst.TheVariants.{EmitIsland}
 use Rattle.rv_inst.specs.declared.inst.Line.{Line}
 use Rattle.rv_inst.specs.declared.inst.Line.TheVariants.{Inst as Put, Bind}
-use Rattle.rv_inst.specs.LabelUse.{forward_of}
+use Rattle.rv_inst.specs.LabelUse.{label_kinds}
 use Rattle.rv_inst.specs.Rules.{inst_rule}
 use Rattle.mach_buffer.specs.Reach.{CanReach, HasSlack, deadlines, due_by}
-use Rattle.mach_buffer.specs.Buffer.{bytes_of, uses_of, place_of, drawn_of}
-use Rattle.mach_buffer.proofs.Slack.{slack_same, slack_from_reach, reach_from_slack, total, due_total}
+use Rattle.mach_buffer.specs.Buffer.{bytes_of, uses_of, place_of, allocated_of}
+use Rattle.mach_buffer.proofs.Laws.{slack_same, slack_from_reach, reach_from_slack, total, due_total}
 use Rattle.rv_emit.specs.Emitted.{Buffer, IsSoundBuffer, pending, AppendsInst, AppendsIsland, IslandIfNeeded, CanEmit, Emitted}
 use Rattle.rv_inst.specs.Sizes.{inst_sum}
 use Rattle.rv_emit.proofs.Laws.{waits, bytes_after, pending_after, calm_after}
@@ -54,35 +54,35 @@ fewer_from_due ds es h =
 
 -- ---- what is used up
 
--- bytes, with a veneer for each use that waits
+-- bytes, with a veneer for each use that is pending
 abbrev pub used : Buffer → ℕ
 used b = length (bytes_of b) + 8 * length (pending b)
 
 -- at most so many bytes and one inner label more
 pub record Uses (bytes : ℕ) (old new : Buffer) : Type 0 where
   pub size : used new ≤ used old + bytes
-  pub drawn : drawn_of new ≤ drawn_of old + 1
+  pub allocated : allocated_of new ≤ allocated_of old + 1
 
 pub island_uses : (old new : Buffer) → AppendsIsland old new → Uses 14 old new
 island_uses old new p = record {
   size = let none : length (pending new) ≡ 0 = ap length p.settled in let short = p.short in omega arith;
-  drawn = let one = p.drawn in omega arith;
+  allocated = let one = p.allocated in omega arith;
 }
 
 pub room_uses : (distance : ℕ) (old new : Buffer) (made : Bool) → IslandIfNeeded distance old new made → Uses 14 old new
 room_uses distance old new made m = ⊎_elim
-    (λ same. subst (λ (b : Buffer). Uses 14 old b) (sym same.1) (record { size = omega arith; drawn = omega arith }))
+    (λ same. subst (λ (b : Buffer). Uses 14 old b) (sym same.1) (record { size = omega arith; allocated = omega arith }))
     (λ put. island_uses old new put.1)
     m.put
 
 pub block_uses : (inst : Inst) (old new : Buffer) → AppendsInst inst old new → Uses 24 old new
 block_uses inst old new p = record {
   size = let a = bytes_after inst old new p in let b = pending_after inst old new p in omega arith;
-  drawn = let same : drawn_of new ≡ drawn_of old = p.adds.drawn in omega arith;
+  allocated = let same : allocated_of new ≡ allocated_of old = p.adds.allocated in omega arith;
 }
 
 uses_more : (m n : ℕ) (old new : Buffer) → m ≤ n → Uses m old new → Uses n old new
-uses_more m n old new le u = record { size = let s = u.size in omega arith; drawn = u.drawn }
+uses_more m n old new le u = record { size = let s = u.size in omega arith; allocated = u.allocated }
 
 pub emitted_uses : (inst : Inst) (old new : Buffer) → Emitted inst old new → Uses 24 old new
 emitted_uses (EmitIsland space) old new e = uses_more 14 24 old new (omega arith) (room_uses space old new e.0 e.1)
@@ -90,12 +90,12 @@ emitted_uses inst old new e = block_uses inst old new e
 
 -- ---- the loop's invariant
 
-pub sized_none : (b : Buffer) → bytes_of b ≡ [] → uses_of b ≡ [] → drawn_of b ≡ 0 → Sized [] b
-sized_none b bytes uses drawn =
-    let none : pending b ≡ [] = ap (deadlines (waits (place_of b)) forward_of) uses in
+pub sized_none : (b : Buffer) → bytes_of b ≡ [] → uses_of b ≡ [] → allocated_of b ≡ 0 → Sized [] b
+sized_none b bytes uses allocated =
+    let none : pending b ≡ [] = ap (deadlines (waits (place_of b)) label_kinds) uses in
     let waiting : length (pending b) ≡ 0 = ap length none in
     let long : length (bytes_of b) ≡ 0 = ap length bytes in
-    record { reach = subst (CanReach (length (bytes_of b))) (sym none) tt; size = omega arith; drawn = omega arith }
+    record { reach = subst (CanReach (length (bytes_of b))) (sym none) tt; size = omega arith; allocated = omega arith }
 
 inst_sized : (lines : List Line) (inst : Inst) (old new : Buffer) (span : LineSpan) → Sized lines old → InstPut inst old new span → Sized (lines ++ Put inst ∷ []) new
 inst_sized lines inst old new span s p =
@@ -105,11 +105,11 @@ inst_sized lines inst old new span s p =
     let least = sum_least (Put inst) in
     let a = room.size in
     let b = block.size in
-    let c = room.drawn in
-    let d = block.drawn in
+    let c = room.allocated in
+    let d = block.allocated in
     let size = s.size in
-    let drawn = s.drawn in
-    record { reach = p.reach; size = omega (arith, a, b, sum, least, size); drawn = omega (arith, c, d, sum, least, drawn) }
+    let allocated = s.allocated in
+    record { reach = p.reach; size = omega (arith, a, b, sum, least, size); allocated = omega (arith, c, d, sum, least, allocated) }
 
 bind_sized : (lines : List Line) (label : MachLabel) (old new : Buffer) (span : LineSpan) → Sized lines old → BindPut label old new span → Sized (lines ++ Bind label ∷ []) new
 bind_sized lines label old new span s p =
@@ -119,9 +119,9 @@ bind_sized lines label old new span s p =
     let slack : HasSlack (length (bytes_of old)) 14 (pending new) = slack_same (length (bytes_of old)) 14 (pending old) (pending new) p.fewer (slack_from_reach (length (bytes_of old)) (pending old) s.reach) in
     let reach : CanReach (length (bytes_of old)) (pending new) = reach_from_slack (length (bytes_of old)) (pending new) slack in
     let size = s.size in
-    let drawn = s.drawn in
-    let same = p.drawn in
-    record { reach = subst (λ n. CanReach n (pending new)) (sym long) reach; size = omega (arith, sum, long, few, size); drawn = omega (arith, sum, same, drawn) }
+    let allocated = s.allocated in
+    let same = p.allocated in
+    record { reach = subst (λ n. CanReach n (pending new)) (sym long) reach; size = omega (arith, sum, long, few, size); allocated = omega (arith, sum, same, allocated) }
 
 pub sized_next : (lines : List Line) (line : Line) (old new : Buffer) (span : LineSpan) → Sized lines old → LinePut line old new span → Sized (lines ++ line ∷ []) new
 sized_next lines (Put inst) old new span s p = inst_sized lines inst old new span s p
@@ -133,22 +133,22 @@ pub room_sound : (distance : ℕ) (old new : Buffer) (made : Bool) → IslandIfN
 room_sound distance old new made m sound = ⊎_elim (λ same. subst (λ (b : Buffer). IsSoundBuffer b) (sym same.1) sound) (λ put. put.1.sound) m.put
 
 -- an island can be put before it
-pub has_island_room : (lines : List Line) (b : Buffer) → Sized lines b → size_sum lines ≤ 2 ^ 30 → (drawn_of b < 2 ^ 29) × (length (bytes_of b) + 8 * length (pending b) + 32 < 2147479552)
-has_island_room lines b s sum = let size = s.size in let drawn = s.drawn in (omega (arith, sum, drawn), omega (arith, sum, size))
+pub has_island_room : (lines : List Line) (b : Buffer) → Sized lines b → size_sum lines ≤ 2 ^ 30 → (allocated_of b < 2 ^ 29) × (length (bytes_of b) + 8 * length (pending b) + 32 < 2147479552)
+has_island_room lines b s sum = let size = s.size in let allocated = s.allocated in (omega (arith, sum, allocated), omega (arith, sum, size))
 
--- an instruction can be put behind it
+-- an instruction can be put after it
 pub can_emit : (lines : List Line) (inst : Inst) (old mid : Buffer) (made : Bool) → Sized lines old → IsSoundBuffer old → inst_rule inst ≡ None → size_sum lines + line_sum (Put inst) ≤ 2 ^ 30 → IslandIfNeeded 88 old mid made → CanEmit inst mid
 can_emit lines inst old mid made s sound rule sum m =
     let room : Uses 14 old mid = room_uses 88 old mid made m in
     let same = same_sum inst in
     let a = room.size in
-    let b = room.drawn in
+    let b = room.allocated in
     let size = s.size in
-    let drawn = s.drawn in
+    let allocated = s.allocated in
     record {
       rule = rule;
       sound = room_sound 88 old mid made m sound;
       calm = calm_after 88 old mid made m;
-      few = omega (arith, sum, b, drawn);
+      few = omega (arith, sum, b, allocated);
       room = omega (arith, sum, same, a, size);
     }

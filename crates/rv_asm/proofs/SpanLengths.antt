@@ -1,4 +1,4 @@
--- What stands in the buffer is what the code tells of its lines: how long each span is, and what stands between two.
+-- What stands in the buffer is what the code reports of its lines: how long each span is, and what stands between two.
 use Rattle.std.proofs.Common.{◌≡◌, ℕ, zero, suc, ◌+◌, ◌*◌, ◌<◌, ◌≤◌, Bool, true, false, List, [], ◌∷◌, length, None, refl, ap, subst, sym, ◌∙◌, arith, pos}
 use Rattle.std.specs.Prelude.{nat_eq, if◌then◌else◌}
 use Rattle.std.specs.List.{AllByRecursion}
@@ -34,7 +34,7 @@ move_long c rd rs start n is e = subst (λ d. n ≡ 4 * length (if d then [] els
     on true h = omega arith
     on false h = omega arith
 
--- words of an instruction's rows are as long as it is
+-- words of an instruction's operations are as long as it is
 words_sized : (flags : IsaFlags) (bytes : List ℕ) (inst : Inst) (start n : ℕ) → island_space inst ≡ None → n ≡ 4 * length (ops_of no_distance inst) → IsSized flags bytes (extent_of inst) start (start + n)
 words_sized flags bytes (EmitIsland space) start n none e = absurd (cc)
 words_sized flags bytes (Mov rd rm type) start n none e = move_long (nat_eq (number_of rd.reg) (number_of rm)) (number_of rd.reg) (number_of rm) start n refl e

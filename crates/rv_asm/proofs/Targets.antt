@@ -1,4 +1,4 @@
--- A block once it is patched: where its uses aim, and that these lead on to where their labels stand.
+-- A sequence once it is patched: where its uses aim, and that these lead on to where their labels stand.
 use Rattle.std.proofs.Common.{◌≡◌, ℕ, zero, suc, ◌+◌, ◌-◌, ◌%◌, ◌≤◌, true, List, [], ◌∷◌, length, take, drop, Option, Some, None, arith, refl, sym, ap, subst, ◌∙◌, ⊎_elim, lit≤}
 use Rattle.std.specs.Prelude.{slice_get}
 use Rattle.std.proofs.lemmas.Option.{same_Some}
@@ -8,10 +8,10 @@ use Rattle.rv_base.specs.declared.flags.IsaFlags.{IsaFlags}
 use Rattle.rv_machine.specs.State.{wrap}
 use Rattle.rv_inst.specs.declared.code.Code.{Code}
 use Rattle.rv_inst.specs.declared.label_use.LabelUse.{LabelUse}
-use Rattle.rv_inst.specs.LabelUse.{Aims, marks_of, forward_of, backward_of, has_veneer_of, veneer_of}
+use Rattle.rv_inst.specs.LabelUse.{label_kinds, marks_of, has_veneer_of, veneer_of}
 use Rattle.mach_buffer.specs.declared.uses.Use.{Use}
 use Rattle.mach_buffer.specs.Windows.{window}
-use Rattle.mach_buffer.specs.Blocks.{AllInside, GoesBy, UsePatched, IsPatched}
+use Rattle.mach_buffer.specs.Sequences.{AllInside, GoesBy, UsePatched, IsPatched}
 use Rattle.rv_emit.specs.Emitted.{bytes_of_words, UsesStand}
 use Rattle.rv_emit.specs.Sequences.{IsAimed, IsPatchedTo}
 use Rattle.rv_emit.proofs.Laws.{iter_none}
@@ -36,15 +36,15 @@ leads_here flags code from to e = record {
   };
 }
 
--- a use of a patched block
+-- a use of a patched sequence
 abbrev pub IsUsed : (ℕ → Option ℕ) → List ℕ → List ℕ → Use LabelUse → Type 0
-IsUsed place old new u = UsePatched Aims marks_of veneer_of place old new u
+IsUsed place old new u = UsePatched label_kinds place old new u
 
 -- what it aims at leads to its label's place
 pub use_leads : (flags : IsaFlags) (code : Code) (place : ℕ → Option ℕ) (old : List ℕ) (u : Use LabelUse) (to : ℕ) (p : IsUsed place old code.bytes u) → place u.label.number ≡ Some to → to % 2 ≡ 0 → LeadsTo flags code p.target to
 use_leads flags code place old u to p e even = ⊎_elim (λ here. leads_here flags code p.target to (same_Some p.target to (sym here ∙ e))) (λ g. by g) p.goes
   where
-    by : GoesBy Aims marks_of veneer_of code.bytes place u p.target → LeadsTo flags code p.target to
+    by : GoesBy label_kinds code.bytes place u p.target → LeadsTo flags code p.target to
     by g =
         let same : g.to ≡ to = same_Some g.to to (sym g.bound ∙ e) in
         subst (λ n. LeadsTo flags code n to) g.here
@@ -62,9 +62,9 @@ target_leads : (flags : IsaFlags) (code : Code) (place : ℕ → Option ℕ) (ol
 target_leads flags code place old None f u to h e even = absurd (cc)
 target_leads flags code place old (Some x) f u to h e even = use_leads flags code place old x to (f x refl) (ap (λ (y : Use LabelUse). place y.label.number) (same_Some x u h) ∙ e) even
 
--- a block that is patched in the code
+-- a sequence that is patched in the code
 abbrev pub IsDone : (ℕ → Option ℕ) → List ℕ → List ℕ → ℕ → List ℕ → List (Use LabelUse) → Type 0
-IsDone place old new start block own = IsPatched Aims marks_of veneer_of place old new start (length block) own
+IsDone place old new start block own = IsPatched label_kinds place old new start (length block) own
 
 -- the targets of its uses
 abbrev pub targets_of : (place : ℕ → Option ℕ) (old new : List ℕ) (start : ℕ) (block : List ℕ) (own : List (Use LabelUse)) → IsDone place old new start block own → ℕ → ℕ
@@ -74,7 +74,7 @@ pub targets_lead : (flags : IsaFlags) (code : Code) (place : ℕ → Option ℕ)
     LeadsTo flags code (targets_of place old code.bytes start block own p k) to
 targets_lead flags code place old start block own p k u to h e even = target_leads flags code place old (slice_get own k) (p.each k) u to h e even
 
--- ---- the block
+-- ---- the sequence
 
 -- a window in a window
 window_in : (bytes : List ℕ) (start long p m : ℕ) → p + m ≤ long → window (window bytes start long) p m ≡ window bytes (start + p) m
@@ -82,7 +82,7 @@ window_in bytes start long p m le =
     let split : long ≡ p + (long - p) = omega arith in
     ap (λ n. take m (drop p (take n (drop start bytes)))) split ∙ ap (take m) (drop-take p (long - p) (drop start bytes)) ∙ take-take m (long - p) (drop p (drop start bytes)) (omega arith) ∙ ap (take m) (drop-drop p start bytes)
 
--- the windows of uses that each stand in a word stand in the block
+-- the windows of uses that each stand in a word stand in the sequence
 pub uses_inside : (start : ℕ) (words : List ℕ) (own : List (Use LabelUse)) → UsesStand start words own → (k : ℕ) (u : Use LabelUse) → slice_get own k ≡ Some u → (start ≤ u.offset) × (u.offset + length (marks_of u.kind) ≤ start + length (bytes_of_words words))
 uses_inside start words [] h k u e = absurd (cc)
 uses_inside start [] (x ∷ own) h k u e = absurd h
@@ -97,8 +97,8 @@ uses_inside start (w ∷ words) (x ∷ own) h (suc k) u e =
     let r1 = r.1 in
     (omega arith, omega arith)
 
--- each use of a patched block aims at its target, and all else of the block is as it was put
-pub patched_to : (place : ℕ → Option ℕ) (old new : List ℕ) (start : ℕ) (block : List ℕ) (own : List (Use LabelUse)) (p : IsDone place old new start block own) → start + length block ≤ length old → window old start (length block) ≡ block → AllInside marks_of start (length block) own →
+-- each use of a patched sequence aims at its target, and all else of the sequence is as it was put
+pub patched_to : (place : ℕ → Option ℕ) (old new : List ℕ) (start : ℕ) (block : List ℕ) (own : List (Use LabelUse)) (p : IsDone place old new start block own) → start + length block ≤ length old → window old start (length block) ≡ block → AllInside label_kinds start (length block) own →
     IsPatchedTo (targets_of place old new start block own p) start block own new
 patched_to place old new start block own p within stands inside = record {
   within = let l = p.longer in omega arith;
@@ -128,7 +128,7 @@ patched_to place old new start block own p within stands inside = record {
         (aimed x (f x refl) (subst (λ (y : Use LabelUse). (start ≤ y.offset) × (y.offset + length (marks_of y.kind) ≤ start + length block)) (sym same) i))
 
 -- each kind's veneer is one
-pub is_veneer : (kind : LabelUse) → has_veneer_of kind ≡ true → IsVeneer marks_of forward_of backward_of has_veneer_of (veneer_of kind)
+pub is_veneer : (kind : LabelUse) → has_veneer_of kind ≡ true → IsVeneer label_kinds (veneer_of kind)
 is_veneer kind h = record {
   eight = refl;
   place_even = refl;

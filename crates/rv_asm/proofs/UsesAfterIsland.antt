@@ -1,4 +1,4 @@
--- The uses behind which no island stands: whose they are, how far they reach, and how many.
+-- The uses after which no island stands: whose they are, how far they reach, and how many.
 use Rattle.std.proofs.Common.{◌≡◌, ℕ, zero, suc, ◌+◌, ◌*◌, ◌^◌, ◌<◌, ◌≤◌, Bool, true, false, cond, not, ◌&&◌, ◌||◌, List, [], ◌∷◌, ◌++◌, length, take, drop, Option, Some, None, refl, ap, sym, ◌∙◌, subst, arith}
 use Rattle.std.specs.Prelude.{slice_get, nat_lt, is_none}
 use Rattle.std.specs.List.{list_any}
@@ -15,15 +15,13 @@ use Rattle.rv_inst.specs.declared.inst.Line.TheVariants.{Inst as Put, Bind}
 use Rattle.rv_inst.specs.declared.label_use.LabelUse.{LabelUse}
 use Rattle.rv_inst.specs.declared.label_use.LabelUse.TheVariants.{Jal20}
 use Rattle.rv_inst.specs.Operands.{inst_labels, inst_registers}
-use Rattle.rv_inst.specs.LabelUse.{forward_of, backward_of, has_veneer_of}
+use Rattle.rv_inst.specs.LabelUse.{label_kinds, has_veneer_of}
 use Rattle.rv_inst.specs.declared.error.Rule.TheVariants as rule_of
 use Rattle.rv_inst.specs.Rules.{inst_rule, is_buffer_label, is_virtual, is_misplaced, is_reserved, has_bad_type, is_out_of_range, lacks_target}
 use Rattle.mach_buffer.specs.declared.uses.Use.{Use}
 use Rattle.mach_buffer.specs.Reach.{deadline, deadlines, due_by, is_needed, is_needed_from, is_reached}
 use Rattle.mach_buffer.specs.Buffer.{bytes_of, place_of}
-use Rattle.mach_buffer.proofs.Apart.{both_lists}
-use Rattle.mach_buffer.proofs.Slack.{deadlines_append, none_from}
-use Rattle.mach_buffer.proofs.Needed.{due_le_length}
+use Rattle.mach_buffer.proofs.Laws.{both_lists, deadlines_append, none_from, due_le_length}
 use Rattle.rv_emit.specs.Emitted.{Buffer, pending}
 use Rattle.rv_inst.specs.Uses.{use_at, uses_in}
 use Rattle.rv_emit.proofs.Laws.{deadlines_as, Each, each_none, each_more, uses_bare, uses_kinds, few_deadlines, waits}
@@ -37,12 +35,12 @@ use Rattle.rv_asm.proofs.FirstLines.{last_open}
 -- ---- the uses of one instruction
 
 -- each reaches as far as the shortest of its line
-uses_least : (start : ℕ) (inst : Inst) → Each (λ u. start + least_reach (Put inst) ≤ deadline forward_of u) (uses_in start inst)
-uses_least start (Jal label) = each_more (λ u. start + 1048574 ≤ deadline forward_of u) _ [] (omega arith) (each_none _)
+uses_least : (start : ℕ) (inst : Inst) → Each (λ u. start + least_reach (Put inst) ≤ deadline label_kinds u) (uses_in start inst)
+uses_least start (Jal label) = each_more (λ u. start + 1048574 ≤ deadline label_kinds u) _ [] (omega arith) (each_none _)
 uses_least start (CondBr Fallthrough not_taken kind) = each_none _
-uses_least start (CondBr (Label t) Fallthrough kind) = each_more (λ u. start + 4094 ≤ deadline forward_of u) _ [] (omega arith) (each_none _)
+uses_least start (CondBr (Label t) Fallthrough kind) = each_more (λ u. start + 4094 ≤ deadline label_kinds u) _ [] (omega arith) (each_none _)
 uses_least start (CondBr (Label t) (Label f) kind) =
-    each_more (λ u. start + 4094 ≤ deadline forward_of u) _ (use_at (start + 4) f Jal20 ∷ []) (omega arith) (each_more (λ u. start + 4094 ≤ deadline forward_of u) _ [] (omega arith) (each_none _))
+    each_more (λ u. start + 4094 ≤ deadline label_kinds u) _ (use_at (start + 4) f Jal20 ∷ []) (omega arith) (each_more (λ u. start + 4094 ≤ deadline label_kinds u) _ [] (omega arith) (each_none _))
 uses_least start inst = each_none _
 
 -- there are no more than it names labels
@@ -133,29 +131,29 @@ get_drop xs zero i x h = let same : 0 + i ≡ i = omega arith in ap (slice_get x
 get_drop [] (suc k) i x h = absurd (cc)
 get_drop (y ∷ xs) (suc k) i x h = let same : suc k + i ≡ suc (k + i) = omega arith in ap (slice_get (y ∷ xs)) same ∙ get_drop xs k i x h
 
--- ---- what waits
+-- ---- what is pending
 
 -- of the open uses alone
-open_waits : (lines : List Line) (spans : List LineSpan) (b : Buffer) → AfterLastIsland lines spans b → pending b ≡ deadlines (waits (place_of b)) forward_of (uses_after_island lines spans)
+open_waits : (lines : List Line) (spans : List LineSpan) (b : Buffer) → AfterLastIsland lines spans b → pending b ≡ deadlines (waits (place_of b)) label_kinds (uses_after_island lines spans)
 open_waits lines spans b s =
     let test = waits (place_of b) in
-    ap (deadlines test forward_of) s.ends.whole ∙ deadlines_append test forward_of s.ends.before (uses_after_island lines spans)
-    ∙ ap (λ ds. ds ++ deadlines test forward_of (uses_after_island lines spans)) (none_from test forward_of s.ends.before s.ends.idle)
+    ap (deadlines test label_kinds) s.ends.whole ∙ deadlines_append test label_kinds s.ends.before (uses_after_island lines spans)
+    ∙ ap (λ ds. ds ++ deadlines test label_kinds (uses_after_island lines spans)) (none_from test label_kinds s.ends.before s.ends.idle)
 
 pub open_from_line : (lines : List Line) (spans : List LineSpan) → Each (FromLine spans (first_after_island lines spans (length lines)) (drop (first_after_island lines spans (length lines)) lines)) (uses_after_island lines spans)
 open_from_line lines spans = from_line spans (first_after_island lines spans (length lines)) (drop (first_after_island lines spans (length lines)) lines)
 
--- what waits in the buffer is what waits by the spans
+-- what is pending in the buffer is what is pending by the spans
 pub pending_waiting : (lines : List Line) (spans : List LineSpan) (b : Buffer) → AfterLastIsland lines spans b → pending b ≡ pending_deadlines lines spans (length lines)
 pending_waiting lines spans b s =
     let n = length lines in
     let k = first_after_island lines spans n in
     let whole : take n lines ≡ lines = take_all n lines (omega arith) in
-    let test : Use LabelUse → Bool = λ u. not (is_reached forward_of backward_of (bound_by spans 0 lines u.label.number) u) in
-    let same : deadlines (waits (place_of b)) forward_of (uses_after_island lines spans) ≡ deadlines test forward_of (uses_after_island lines spans) = deadlines_as (waits (place_of b)) test forward_of (uses_after_island lines spans) each in
-    open_waits lines spans b s ∙ same ∙ sym (λ j. deadlines (λ (u : Use LabelUse). not (is_reached forward_of backward_of (bound_by spans 0 (whole j) u.label.number) u)) forward_of (uses_from spans k (drop k (whole j))))
+    let test : Use LabelUse → Bool = λ u. not (is_reached label_kinds (bound_by spans 0 lines u.label.number) u) in
+    let same : deadlines (waits (place_of b)) label_kinds (uses_after_island lines spans) ≡ deadlines test label_kinds (uses_after_island lines spans) = deadlines_as (waits (place_of b)) test label_kinds (uses_after_island lines spans) each in
+    open_waits lines spans b s ∙ same ∙ sym (λ j. deadlines (λ (u : Use LabelUse). not (is_reached label_kinds (bound_by spans 0 (whole j) u.label.number) u)) label_kinds (uses_from spans k (drop k (whole j))))
   where
-    each : (j : ℕ) (u : Use LabelUse) → slice_get (uses_after_island lines spans) j ≡ Some u → waits (place_of b) u ≡ not (is_reached forward_of backward_of (bound_by spans 0 lines u.label.number) u)
+    each : (j : ℕ) (u : Use LabelUse) → slice_get (uses_after_island lines spans) j ≡ Some u → waits (place_of b) u ≡ not (is_reached label_kinds (bound_by spans 0 lines u.label.number) u)
     each j u h =
         let f = open_from_line lines spans j u h in
         let start = start_of spans (first_after_island lines spans (length lines) + f.index) in
@@ -164,7 +162,7 @@ pending_waiting lines spans b s =
         let rule : inst_rule f.inst ≡ None = s.ruled (first_after_island lines spans (length lines) + f.index) (Put f.inst) (get_drop lines (first_after_island lines spans (length lines)) f.index (Put f.inst) f.there) in
         let low : u.label.number < 2 ^ 30 = uses_outer start f.inst rule f.place u f.own in
         let place : place_of b u.label.number ≡ bound_by spans 0 lines u.label.number = s.places u.label.number low in
-        λ i. kind i && (is_none (bare i) && not (is_reached forward_of backward_of (place i) u))
+        λ i. kind i && (is_none (bare i) && not (is_reached label_kinds (place i) u))
 
 -- ---- an island that is needed
 
@@ -188,40 +186,40 @@ record OfUse (uses : List (Use LabelUse)) (due : ℕ) : Type 0 where
   pub index : ℕ
   pub user : Use LabelUse
   pub there : slice_get uses index ≡ Some user
-  pub is : deadline forward_of user ≡ due
+  pub is : deadline label_kinds user ≡ due
 
-of_use : (test : Use LabelUse → Bool) (uses : List (Use LabelUse)) → Each (OfUse uses) (deadlines test forward_of uses)
+of_use : (test : Use LabelUse → Bool) (uses : List (Use LabelUse)) → Each (OfUse uses) (deadlines test label_kinds uses)
 of_use test [] = each_none _
 of_use test (u ∷ uses) = on (test u) (λ j d h. later d (of_use test uses j d h))
   where
     later : (d : ℕ) → OfUse uses d → OfUse (u ∷ uses) d
     later d o = record { index = suc o.index; user = o.user; there = o.there; is = o.is }
 
-    on : (c : Bool) → Each (OfUse (u ∷ uses)) (deadlines test forward_of uses) → Each (OfUse (u ∷ uses)) (cond c (deadline forward_of u ∷ deadlines test forward_of uses) (deadlines test forward_of uses))
-    on true rest = each_more (OfUse (u ∷ uses)) (deadline forward_of u) (deadlines test forward_of uses) (record { index = 0; user = u; there = refl; is = refl }) rest
+    on : (c : Bool) → Each (OfUse (u ∷ uses)) (deadlines test label_kinds uses) → Each (OfUse (u ∷ uses)) (cond c (deadline label_kinds u ∷ deadlines test label_kinds uses) (deadlines test label_kinds uses))
+    on true rest = each_more (OfUse (u ∷ uses)) (deadline label_kinds u) (deadlines test label_kinds uses) (record { index = 0; user = u; there = refl; is = refl }) rest
     on false rest = rest
 
--- an island that is needed behind some lines is due there
+-- an island that is needed after some lines is due there
 pub due_now : (lines : List Line) (spans : List LineSpan) (b : Buffer) (distance : ℕ) → AfterLastIsland lines spans b → is_needed (length (bytes_of b)) distance (pending b) ≡ true → IsDue lines spans (length lines) (length (bytes_of b)) distance
 due_now lines spans b distance s needed =
     let n = length lines in
     let k = first_after_island lines spans n in
     let cur = length (bytes_of b) in
     let us = uses_after_island lines spans in
-    let ds = deadlines (waits (place_of b)) forward_of us in
+    let ds = deadlines (waits (place_of b)) label_kinds us in
     let m : Missed (cur + distance) ds ds = missed (cur + distance) ds ds (sym (ap (is_needed cur distance) (open_waits lines spans b s)) ∙ needed) in
     let o : OfUse us m.due = of_use (waits (place_of b)) us m.index m.due m.there in
     let f : FromLine spans k (drop k lines) o.user = open_from_line lines spans o.index o.user o.there in
     let there : slice_get lines (k + f.index) ≡ Some (Put f.inst) = get_drop lines k f.index (Put f.inst) f.there in
     let named = uses_labels (start_of spans (k + f.index)) f.inst f.place o.user f.own in
     let some : named.place < length (inst_labels f.inst) = slice_get_within (inst_labels f.inst) named.place named.label named.names in
-    let least : start_of spans (k + f.index) + least_reach (Put f.inst) ≤ deadline forward_of o.user = uses_least (start_of spans (k + f.index)) f.inst f.place o.user f.own in
-    let is : deadline forward_of o.user ≡ m.due = o.is in
+    let least : start_of spans (k + f.index) + least_reach (Put f.inst) ≤ deadline label_kinds o.user = uses_least (start_of spans (k + f.index)) f.inst f.place o.user f.own in
+    let is : deadline label_kinds o.user ≡ m.due = o.is in
     let late = m.late in
     let last : last_island spans n ≤ k = last_open lines spans n in
     let whole : take n lines ≡ lines = take_all n lines (omega arith) in
     let a : due_by m.due ds ≤ length ds = due_le_length m.due ds in
-    let c : length ds ≤ length us = few_deadlines (waits (place_of b)) forward_of us in
+    let c : length ds ≤ length us = few_deadlines (waits (place_of b)) label_kinds us in
     let e : length us ≤ label_count (drop k lines) = few_in_lines spans k (drop k lines) in
     let g : label_count (drop k lines) ≤ label_count (drop (last_island spans n) lines) = count_drop lines (last_island spans n) k last in
     let h : label_count (drop (last_island spans n) (take n lines)) ≡ label_count (drop (last_island spans n) lines) = ap (λ ls. label_count (drop (last_island spans n) ls)) whole in

@@ -12,7 +12,7 @@ use Rattle.rv_base.specs.declared.flags.IsaFlags.{IsaFlags}
 use Rattle.rv_inst.specs.declared.code.Code.{Code}
 use Rattle.rv_inst.specs.declared.label_use.LabelUse.{LabelUse}
 use Rattle.rv_inst.specs.declared.label_use.LabelUse.TheVariants.{PCRel32}
-use Rattle.rv_inst.specs.LabelUse.{Aims, marks_of, veneer_of}
+use Rattle.rv_inst.specs.LabelUse.{label_kinds, Aims, marks_of, veneer_of}
 use Rattle.rv_inst.specs.LabelUseWords.{word_at, AreBytes}
 use Rattle.rv_inst.specs.LabelUseBridges.{with_immediate, PairDecodes}
 use Rattle.rv_inst.proofs.Bridges.{decode-patched_pair}
@@ -52,13 +52,13 @@ word_in_window bytes place size le =
     let e = e0 ∙ ap (slice_index bytes) same in
     omega arith
 
--- a byte behind the first word of a window
+-- a byte after the first word of a window
 second_byte : (bytes : List ℕ) (place size i : ℕ) → 4 + i < size → slice_index (drop 4 (window bytes place size)) i ≡ slice_index bytes (place + 4 + i)
 second_byte bytes place size i lt =
     let moved : place + (4 + i) ≡ place + 4 + i = omega arith in
     get_or-drop 4 (window bytes place size) i 0 ∙ window_byte bytes place size (4 + i) lt ∙ ap (slice_index bytes) moved
 
--- the word behind it
+-- the word after it
 second_in_window : (bytes : List ℕ) (place size : ℕ) → 8 ≤ size → word_in bytes (place + 4) ≡ word_at (drop 4 (window bytes place size))
 second_in_window bytes place size le =
     let e0 = second_byte bytes place size 0 (omega arith) in
@@ -87,7 +87,7 @@ second_bytes bytes place size le below = record { first = part 0 (lit< tt); seco
         let e = second_byte bytes place size i (omega arith) ∙ ap (slice_index bytes) (sym moved) in
         subst (λ (n : ℕ). n < 256) (sym e) (below (4 + i) (omega arith))
 
--- ---- the two rows of a veneer
+-- ---- the two operations of a veneer
 
 -- a signed number of few bits
 abbrev IsSmall : ℤ → Type 0
@@ -168,7 +168,7 @@ veneer_ends flags bytes base place to s v stand even to_even inside p pc is_stat
     ((λ i. wrap (held i + low64 p.lower) / 2 * 2) ∙ (λ i. wrap (wrap (pc i + low64 p.upper * 2 ^ 12) + low64 p.lower) / 2 * 2) ∙ ap (λ (n : ℕ). n / 2 * 2) lands ∙ omega arith) (omega arith) spare are_values fits refl (lit≤ tt))
 
 -- a patched veneer leads where its use aims
-pub veneer_leads : (flags : IsaFlags) (code : Code) (kind : LabelUse) (u : Use LabelUse) (to : ℕ) (g : IsVia Aims marks_of (veneer_of kind) code.bytes u to) → to % 2 ≡ 0 → LeadsTo flags code g.at to
+pub veneer_leads : (flags : IsaFlags) (code : Code) (kind : LabelUse) (u : Use LabelUse) (to : ℕ) (g : IsVia label_kinds (veneer_of kind) code.bytes u to) → to % 2 ≡ 0 → LeadsTo flags code g.at to
 veneer_leads flags code kind u to g even = record {
   run = λ base symbols slots s v placed pc is_state are_values same.
       let stand = bytes_stand code base symbols slots s.values.mem placed in
@@ -182,7 +182,7 @@ veneer_leads flags code kind u to g even = record {
 }
 
 -- its two words go on there
-pub veneer_goes_on : (flags : IsaFlags) (bytes : List ℕ) (kind : LabelUse) (u : Use LabelUse) (to : ℕ) (g : IsVia Aims marks_of (veneer_of kind) bytes u to) → AllBytes bytes → GoesOn flags bytes g.at to
+pub veneer_goes_on : (flags : IsaFlags) (bytes : List ℕ) (kind : LabelUse) (u : Use LabelUse) (to : ℕ) (g : IsVia label_kinds (veneer_of kind) bytes u to) → AllBytes bytes → GoesOn flags bytes g.at to
 veneer_goes_on flags bytes kind u to g fits =
     let inside = g.inside in
     let same_place : g.at + 0 ≡ g.at = omega arith in

@@ -1,4 +1,4 @@
--- Code that a buffer of lines was finished to: each line's block leads as the line means, so it runs as its job says.
+-- Code that a buffer of lines was finished to: each line's sequence leads as the line means, so it runs as its job says.
 use Rattle.std.proofs.Common.{◌≡◌, ℕ, ◌+◌, ◌%◌, true, List, [], ◌∷◌, Some, None, arith, sym, ap, subst, ◌∙◌}
 use Rattle.rv_machine.specs.State.{State, Values, wrap}
 use Rattle.rv_inst.specs.declared.inst.Line.{Line}
@@ -36,7 +36,7 @@ bound_place lines code b label built e =
     let stands = built.stand (binding_line lines label) (Bind at.0) at.1 in
     ap (bound_at b) (sym at.2) ∙ stands.1
 
--- ---- from where a block is left
+-- ---- from where a sequence is left
 
 -- the exit by uses leads to the exit by labels
 arrives : (job : Job) (code : Code) (b : Buffer) (start after : ℕ) (block : List ℕ) (own : List (Use LabelUse)) (p : IsDone (bound_at b) (bytes_of b) code.bytes start block own) (base : ℕ) (symbols slots : Addresses) (s : State) (w : Values) (x y : Exit) → Finished job code b → IsPlaced code base symbols slots s.values.mem → Matches job.lines own x y →
@@ -47,13 +47,13 @@ arrives job code b start after block own p base symbols slots s w Break y f plac
 arrives job code b start after block own p base symbols slots s w (To k) y f placed m e =
     let label = m.user.label.number in
     let bound = bound_place job.lines code b label f.built m.bound in
-    let there = f.can.sound.places label (label_place job.lines code label) bound in
+    let there = f.built.sound.places label (label_place job.lines code label) bound in
     let on = targets_lead job.flags code (bound_at b) (bytes_of b) start block own p k m.user (label_place job.lines code label) m.there bound there.1 in
     subst (λ z. ComesTo job.flags (least_steps z) (exit_address (label_place job.lines code) base start after z) w s) (sym m.leads)
     (ends_both job.flags (wrap (base + targets_of (bound_at b) (bytes_of b) code.bytes start block own p k)) (wrap (base + label_place job.lines code label)) w w s e
     (on.run base symbols slots e.state w (placed_still job.flags code base symbols slots s _ w e placed) e.pc e.is_state e.are_values e.same))
 
--- ---- the block of an instruction
+-- ---- the sequence of an instruction
 
 module _ (job : Job) (code : Code) (b : Buffer) (start after : ℕ) (inst : Inst) (f : Finished job code b) (there : SequenceStands inst b start after) (rule : inst_rule inst ≡ None) (aligned : start % 4 ≡ 0) (bound : AllBound job.lines (inst_labels inst)) where
   runs : SequenceRuns job.flags inst start (bytes_of_words there.words)

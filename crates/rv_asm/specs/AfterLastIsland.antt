@@ -1,9 +1,9 @@
--- What waits in the buffer since the last island, by the lines and their spans: a link of the proof.
+-- What is pending in the buffer since the last island, by the lines and their spans: a link of the proof.
 use Rattle.std.specs.Prelude.{◌≡◌, ℕ, ◌^◌, ◌<◌, false, List, ◌++◌, length, drop, Some, None, slice_get}
 use Rattle.rv_inst.specs.declared.code.LineSpan.{LineSpan}
 use Rattle.rv_inst.specs.declared.inst.Line.{Line}
 use Rattle.rv_inst.specs.declared.label_use.LabelUse.{LabelUse}
-use Rattle.rv_inst.specs.LabelUse.{forward_of, backward_of, has_veneer_of}
+use Rattle.rv_inst.specs.LabelUse.{label_kinds}
 use Rattle.rv_inst.specs.Rules.{broken_rule}
 use Rattle.mach_buffer.specs.declared.uses.Use.{Use}
 use Rattle.mach_buffer.specs.Reach.{is_pending}
@@ -11,17 +11,17 @@ use Rattle.mach_buffer.specs.Buffer.{uses_of, place_of}
 use Rattle.rv_emit.specs.Emitted.{Buffer}
 use Rattle.rv_asm.specs.Reach.{first_after_island, uses_from, bound_by}
 
--- the uses behind which no island stands
+-- the uses after which no island stands
 abbrev pub uses_after_island : List Line → List LineSpan → List (Use LabelUse)
 uses_after_island lines spans = uses_from spans (first_after_island lines spans (length lines)) (drop (first_after_island lines spans (length lines)) lines)
 
--- these uses were recorded last, and none of those before them waits
+-- these uses were recorded last, and none of those before them is pending
 pub record EndsIn (uses : List (Use LabelUse)) (b : Buffer) : Type 0 where
   pub before : List (Use LabelUse)
   pub whole : uses_of b ≡ before ++ uses
-  pub idle : (j : ℕ) (u : Use LabelUse) → slice_get before j ≡ Some u → is_pending has_veneer_of forward_of backward_of (place_of b) u ≡ false
+  pub idle : (j : ℕ) (u : Use LabelUse) → slice_get before j ≡ Some u → is_pending label_kinds (place_of b) u ≡ false
 
--- no use of a line before the last island waits, and each label stands where a line binds it
+-- no use of a line before the last island is pending, and each label stands where a line binds it
 pub record AfterLastIsland (lines : List Line) (spans : List LineSpan) (b : Buffer) : Type 0 where
   pub ends : EndsIn (uses_after_island lines spans) b
   pub places : (label : ℕ) → label < 2 ^ 30 → place_of b label ≡ bound_by spans 0 lines label

@@ -2,8 +2,8 @@
 use Rattle.std.specs.Prelude.{◌≡◌, length, List}
 use Rattle.rv_inst.specs.declared.inst.Line.{Line}
 use Rattle.rv_inst.specs.declared.code.Code.{Code}
-use Rattle.rv_inst.specs.LabelUse.{Aims, marks_of, has_veneer_of, forward_of, backward_of, veneer_of}
-use Rattle.mach_buffer.specs.Buffer.{bytes_of, labels_of}
+use Rattle.rv_inst.specs.LabelUse.{label_kinds}
+use Rattle.mach_buffer.specs.Buffer.{shape_of, bytes_of, labels_of}
 use Rattle.mach_buffer.specs.Finish.{CanFinish, Finishes}
 use Rattle.rv_emit.specs.Emitted.{Buffer}
 use Rattle.rv_asm.specs.LinesInBuffer.{LinesStand, Named, Sized}
@@ -16,7 +16,7 @@ pub record IsFinished (lines : List Line) (code : Code) : Type 0 where
   pub sized : Sized lines sink
   pub early : NotEarly lines code.lines
   pub reach : ReachesOn lines code.lines
-  pub ready : CanFinish marks_of has_veneer_of forward_of backward_of veneer_of sink
-  pub finished : Finishes Aims marks_of has_veneer_of forward_of backward_of veneer_of sink code.bytes
+  pub ready : CanFinish label_kinds (shape_of sink)
+  pub finished : Finishes label_kinds (shape_of sink) code.bytes
   pub labels : code.labels ≡ labels_of sink
   pub end : code.end ≡ length (bytes_of sink)

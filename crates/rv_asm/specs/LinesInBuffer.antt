@@ -11,12 +11,14 @@ use Rattle.rv_inst.specs.declared.label_use.LabelUse.{LabelUse}
 use Rattle.rv_inst.specs.declared.label_use.LabelUse.TheVariants.{Jal20}
 use Rattle.rv_inst.specs.Operands.{named_labels}
 use Rattle.rv_inst.specs.Rules.{broken_rule}
-use Rattle.rv_inst.specs.LabelUse.{marks_of, has_veneer_of}
+use Rattle.rv_inst.specs.LabelUse.{label_kinds, has_veneer_of}
 use Rattle.rv_inst.specs.LabelUseWords.{word_bytes}
 use Rattle.mach_buffer.specs.declared.uses.Use.{Use}
 use Rattle.mach_buffer.specs.Reach.{CanReach, due_by}
-use Rattle.mach_buffer.specs.Buffer.{bytes_of, uses_of, veneers_of, place_of, labels_of, drawn_of, listed}
-use Rattle.mach_buffer.specs.Blocks.{BlockStands}
+use Rattle.mach_buffer.specs.Buffer.{bytes_of, uses_of, place_of, labels_of, allocated_of}
+use Rattle.mach_buffer.specs.Shape.{listed}
+use Rattle.mach_buffer.specs.Sequences.{CodeStands}
+use Rattle.mach_buffer.specs.Islands.{is_far}
 use Rattle.rv_emit.specs.Operations.{no_distance, ops_of}
 use Rattle.rv_emit.specs.Emitted.{Buffer, IsSoundBuffer, HasWindows, pending, bytes_of_words, AreOps, UsesStand, IslandIfNeeded, Emitted}
 use Rattle.rv_inst.specs.Uses.{use_at, uses_in}
@@ -31,21 +33,21 @@ use Rattle.rv_inst.specs.Sizes.{line_sum}
 
 -- between two offsets an island stands: first a jump to a label that is bound at the second
 pub record IslandStands (b : Buffer) (from to : ℕ) : Type 0 where
-  pub round : MachLabel
-  pub jump : BlockStands marks_of (bytes_of b) (uses_of b) (veneers_of b) from (word_bytes 0x6f) (use_at from round Jal20 ∷ [])
-  pub bound : place_of b round.number ≡ Some to
+  pub after_island : MachLabel
+  pub jump : CodeStands label_kinds (bytes_of b) (uses_of b) from (word_bytes 0x6f) (use_at from after_island Jal20 ∷ [])
+  pub bound : place_of b after_island.number ≡ Some to
   pub longer : from + 4 ≤ to
 
 -- nothing, or an island
 abbrev pub GapStands : Buffer → ℕ → ℕ → Type 0
 GapStands b from to = (from ≡ to) ⊎ IslandStands b from to
 
--- the block of an instruction stands between two offsets, with its uses
+-- the sequence of an instruction stands between two offsets, with its uses
 pub record SequenceStands (inst : Inst) (b : Buffer) (start end : ℕ) : Type 0 where
   pub words : List ℕ
   pub decode : AreOps words (ops_of no_distance inst)
   pub used : UsesStand start words (uses_in start inst)
-  pub block : BlockStands marks_of (bytes_of b) (uses_of b) (veneers_of b) start (bytes_of_words words) (uses_in start inst)
+  pub block : CodeStands label_kinds (bytes_of b) (uses_of b) start (bytes_of_words words) (uses_in start inst)
   pub ends : end ≡ start + length (bytes_of_words words)
 
 abbrev pub InstStands : Inst → Buffer → ℕ → ℕ → Type 0
@@ -82,11 +84,11 @@ pub record IsNamed (lines : List Line) (number : ℕ) : Type 0 where
   pub names : slice_get (named_labels line) place ≡ Some label
   pub is : label.number ≡ number
 
--- the labels that are bound are those of binds; each use may go by a veneer, and its label is named by a line or bound
+-- the labels that are bound are those of binds; each use may go by a veneer or reaches all code, and its label is named by a line or bound
 pub record Named (lines : List Line) (spans : List LineSpan) (b : Buffer) : Type 0 where
   pub labels : labels_of b ≡ binds_from spans 0 lines
   pub unbound : (label : ℕ) → label < 2 ^ 30 → is_bound lines label ≡ false → place_of b label ≡ None
-  pub kinds : (j : ℕ) (u : Use LabelUse) → slice_get (uses_of b) j ≡ Some u → has_veneer_of u.kind ≡ true
+  pub kinds : (j : ℕ) (u : Use LabelUse) → slice_get (uses_of b) j ≡ Some u → (has_veneer_of u.kind ≡ true) ⊎ (is_far label_kinds u ≡ true)
   pub named : (j : ℕ) (u : Use LabelUse) → slice_get (uses_of b) j ≡ Some u → (is_some (place_of b u.label.number) ≡ true) ⊎ IsNamed lines u.label.number
 
 -- ---- reach and room
@@ -95,7 +97,7 @@ pub record Named (lines : List Line) (spans : List LineSpan) (b : Buffer) : Type
 pub record Sized (lines : List Line) (b : Buffer) : Type 0 where
   pub reach : CanReach (length (bytes_of b)) (pending b)
   pub size : length (bytes_of b) + 8 * length (pending b) ≤ size_sum lines
-  pub drawn : 64 * drawn_of b ≤ size_sum lines
+  pub allocated : 64 * allocated_of b ≤ size_sum lines
 
 -- ---- one line more
 
@@ -104,11 +106,11 @@ pub record CanPut (line : Line) (b : Buffer) : Type 0 where
   pub rule : broken_rule line ≡ None
   pub sound : IsSoundBuffer b
   pub reach : CanReach (length (bytes_of b)) (pending b)
-  pub few : drawn_of b + 1 < 2 ^ 29
+  pub few : allocated_of b + 1 < 2 ^ 29
   pub room : length (bytes_of b) + 8 * length (pending b) + line_sum line + 46 < 2147479552
   pub unbound : (label : ℕ) → binds line label ≡ true → place_of b label ≡ None
 
--- an instruction was put, behind an island where one was needed
+-- an instruction was put, after an island where one was needed
 pub record InstPut (inst : Inst) (old new : Buffer) (span : LineSpan) : Type 0 where
   pub mid : Buffer
   pub made : Bool
@@ -126,8 +128,7 @@ pub record BindPut (label : MachLabel) (old new : Buffer) (span : LineSpan) : Ty
   pub labels : labels_of new ≡ labels_of old ++ listed label (length (bytes_of old))
   pub bytes : bytes_of new ≡ bytes_of old
   pub uses : uses_of new ≡ uses_of old
-  pub veneers : veneers_of new ≡ veneers_of old
-  pub drawn : drawn_of new ≡ drawn_of old
+  pub allocated : allocated_of new ≡ allocated_of old
   pub fewer : (end : ℕ) → due_by end (pending new) ≤ due_by end (pending old)
   pub sound : IsSoundBuffer new
   pub start : span.start ≡ length (bytes_of old)

@@ -61,12 +61,12 @@ status_of ends.OutOfMemory = 8
 
 -- ---- what an input means
 
--- the code of the job that the input means, which tells its lines and runs as they say, with no island early, and its
+-- the code of the job that the input means, which reports its lines and runs as they say, with no island early, and its
 -- numbers in the ranges in which no other code has its report
 abbrev pub IsCodeOf : List ℕ → Code → Type 0
 IsCodeOf input code = (job : Job) × (reads input ≡ Ok job) × (refusal job.lines ≡ None) × Reported job code × RunsAsListed job code × InReach job code × CodeFits code
 
--- the input means a job that is refused so; never for want of memory
+-- the input means a job that is refused so; never when out of memory
 abbrev pub IsRefused : List ℕ → EmitError → Type 0
 IsRefused input errors.OutOfMemory = ⊥
 IsRefused input error = (job : Job) × (reads input ≡ Ok job) × (refusal job.lines ≡ Some error)
@@ -85,7 +85,7 @@ Means input ends.OutOfMemory = ⊥
 -- ---- a call
 
 -- What a call began with, and what it left: how many words the command has, the bytes left and taken, where they are
--- told, and the counts of faults.
+-- known, and the counts of faults.
 pub record Call : Type 0 where
   pub words : ℕ
   pub left : Option (List ℕ)
@@ -133,7 +133,7 @@ Ended call outcome = Wrote call outcome
 
 -- ---- where no fault rose
 
--- the answer is this outcome, or memory was wanting
+-- the answer is this outcome, or out of memory
 abbrev pub IsOrOutOfMemory : Outcome → Outcome → Type 0
 IsOrOutOfMemory answer outcome = (answer ≡ outcome) ⊎ (answer ≡ ends.OutOfMemory)
 
@@ -146,7 +146,7 @@ pub record NoFault (call : Call) : Type 0 where
   pub reads : ¬ Rose call.read_faults call.read_faults_after
   pub writes : ¬ Rose call.write_faults call.write_faults_after
 
--- Without a fault the words and the input settle how a call ends, want of memory aside.
+-- Without a fault the words and the input settle how a call ends, out of memory aside.
 pub record IsSettled (call : Call) (answer : Outcome) : Type 0 where
   pub usage : 0 < call.words → ¬ Rose call.write_faults call.write_faults_after → IsOrOutOfMemory answer ends.Usage
   pub too_long : Asked call → NoFault call → IfSome call.left (λ input. input_limit < length input → IsOrOutOfMemory answer ends.TooLong)
@@ -154,7 +154,7 @@ pub record IsSettled (call : Call) (answer : Outcome) : Type 0 where
   pub refused : Asked call → NoFault call → IfSome call.left (λ input. length input ≤ input_limit → (job : Job) (error : EmitError) → reads input ≡ Ok job → refusal job.lines ≡ Some error → IsOrOutOfMemory answer (ends.Refused error))
   pub complete : Asked call → NoFault call → IfSome call.left (λ input. length input ≤ input_limit → (job : Job) → reads input ≡ Ok job → refusal job.lines ≡ None → IsDone answer)
 
--- A text was written and the answer is the outcome meant, or a fault of the sink or want of memory came.
+-- A text was written and the answer is the outcome meant, or a fault of the sink or memory ran out.
 abbrev pub WritesOutcome : Outcome → Option (List ℕ) → Option (List ℕ) → ℕ → ℕ → Outcome → Type 0
 WritesOutcome outcome old new before after answer =
     ((answer ≡ outcome) × Appends old new (text_of outcome))

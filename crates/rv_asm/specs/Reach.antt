@@ -1,4 +1,4 @@
--- Islands by the spans that are told: that none stands earlier than it must, that Reach holds after every line, and how
+-- Islands by the reported spans: that none stands earlier than it must, that Reach holds after every line, and how
 -- long code may be.
 use Rattle.std.specs.Prelude.{◌≡◌, ℕ, zero, suc, ◌+◌, ◌*◌, ◌<◌, ◌≤◌, Bool, false, not, nat_eq, nat_lt, if◌then◌else◌, List, [], ◌∷◌, ◌++◌, length, take, drop, Option, Some, None, slice_get}
 use Rattle.rv_inst.specs.declared.inst.Line.{Line}
@@ -8,7 +8,7 @@ use Rattle.rv_inst.specs.declared.code.Code.{Code}
 use Rattle.rv_inst.specs.declared.code.LineSpan.{LineSpan}
 use Rattle.rv_inst.specs.declared.label_use.LabelUse.{LabelUse}
 use Rattle.rv_inst.specs.Operands.{named_labels}
-use Rattle.rv_inst.specs.LabelUse.{forward_of, backward_of}
+use Rattle.rv_inst.specs.LabelUse.{label_kinds}
 use Rattle.mach_buffer.specs.declared.uses.Use.{Use}
 use Rattle.mach_buffer.specs.Reach.{is_reached, deadlines, CanReach}
 use Rattle.rv_inst.specs.Sizes.{Extent, Words, Island, extent_of}
@@ -44,7 +44,7 @@ label_count [] = 0
 label_count (line ∷ lines) = length (named_labels line) + label_count lines
 
 -- an island at an offset is due: some line since the last island might not reach its label or a veneer, were the island put
--- only behind so many bytes more and two uses more
+-- only after so many bytes more and two uses more
 pub record IsDue (lines : List Line) (spans : List LineSpan) (i at distance : ℕ) : Type 0 where
   pub index : ℕ
   pub line : Line
@@ -80,7 +80,7 @@ abbrev pub is_island_at : List Line → List LineSpan → ℕ → Bool
 is_island_at [] spans i = false
 is_island_at (line ∷ lines) spans i = is_island line (start_of spans i) (end_of spans i)
 
--- the first of so many lines whose uses no island stands behind
+-- the first of so many lines whose uses no island stands after
 abbrev pub first_after_island : List Line → List LineSpan → ℕ → ℕ
 first_after_island lines spans zero = 0
 first_after_island lines spans (suc i) = if is_island_at (drop i lines) spans i then suc i else if is_after_island spans i then i else first_after_island lines spans i
@@ -91,14 +91,14 @@ bound_by spans i [] label = None
 bound_by spans i (Bind l ∷ lines) label = if nat_eq l.number label then Some (start_of spans i) else bound_by spans (suc i) lines label
 bound_by spans i (Put inst ∷ lines) label = bound_by spans (suc i) lines label
 
--- the deadlines of the uses that wait after so many lines: no island stands behind them, and their labels are not bound
+-- the deadlines of the pending uses after so many lines: no island stands after them, and their labels are not bound
 -- within their reach
 abbrev pub pending_deadlines : List Line → List LineSpan → ℕ → List ℕ
 pending_deadlines lines spans n =
-    deadlines (λ (u : Use LabelUse). not (is_reached forward_of backward_of (bound_by spans 0 (take n lines) u.label.number) u)) forward_of
+    deadlines (λ (u : Use LabelUse). not (is_reached label_kinds (bound_by spans 0 (take n lines) u.label.number) u)) label_kinds
     (uses_from spans (first_after_island lines spans n) (drop (first_after_island lines spans n) (take n lines)))
 
--- after every line, the veneers of all that waits can still be put in time
+-- after every line, the veneers of all that is pending can still be put in time
 abbrev pub ReachesOn : List Line → List LineSpan → Type 0
 ReachesOn lines spans = (n : ℕ) → n ≤ length lines → CanReach (end_before spans n) (pending_deadlines lines spans n)
 

@@ -65,7 +65,7 @@ too_large lines = if nat_lt (2 ^ 30) (size_sum lines) then Some TooLarge else No
 unfoldable pub refusal : List Line → Option EmitError
 refusal lines = first_of (broken_from 0 lines) (first_of (twice_from (λ label. false) lines) (first_of (unbound_in (is_bound lines) lines) (too_large lines)))
 
--- what a look for an error answers; want of memory may come at any time
+-- what a look for an error answers; out of memory may come at any time
 abbrev pub Finds : {X : Type 0} → Option EmitError → Result X EmitError → Type 0
 Finds found (Ok x) = found ≡ None
 Finds found (Err OutOfMemory) = Unit {0}

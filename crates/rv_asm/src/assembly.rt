@@ -15,7 +15,7 @@ ghost use Rattle.rv_asm.specs.FinishedCode.{IsFinished};
 use crate::lines::put_line;
 use crate::ranges::code_fits;
 use crate::refusal::refuse;
-use mach_buffer::buffer::MachBuffer;
+use mach_buffer::MachBuffer;
 use rv_base::{Constant, FrameLayout, IsaFlags, List, OutOfMemory};
 use rv_emit::{EmitInfo, EmitState, MachInstEmitState};
 use rv_inst::{Code, EmitError, LabelUse, Line};

@@ -2,15 +2,14 @@
 
 ghost use Rattle.std.specs.Prelude.{◌≡◌, ◌+◌, ◌*◌, ◌^◌, ◌<◌, length, IfOk, OnOk, None};
 ghost use Rattle.rv_inst.specs.declared.inst.Line.TheVariants.{Inst as Put, Bind};
-ghost use Rattle.mach_buffer.specs.Reach.{CanReach};
-ghost use Rattle.mach_buffer.specs.Buffer.{bytes_of, drawn_of};
+ghost use Rattle.mach_buffer.specs.Reach.{CanReach, is_needed};
+ghost use Rattle.mach_buffer.specs.Buffer.{bytes_of, allocated_of};
 ghost use Rattle.rv_emit.specs.Emitted.{IsSoundBuffer, pending, IslandIfNeeded, CanEmit, Emitted};
-ghost use Rattle.mach_buffer.specs.Reach.{is_needed};
 ghost use Rattle.rv_emit.specs.declared.state.EmitVState.TheVariants.{Unknown};
 ghost use Rattle.rv_emit.specs.State.{setting_after, setting_beyond};
 ghost use Rattle.rv_asm.specs.LinesInBuffer.{CanPut, InstPut, BindPut, LinePut, line_setting};
 
-use mach_buffer::buffer::MachBuffer;
+use mach_buffer::MachBuffer;
 use rv_base::{MachLabel, OutOfMemory};
 use rv_emit::{EmitInfo, EmitState, MachInstEmit, MachInstEmitState, emit_island_if_needed};
 use rv_inst::{Inst, LabelUse, Line, LineSpan};
@@ -19,7 +18,7 @@ use std::alloc::Global;
 /// How many bytes an island is asked for before, at each instruction.
 const LINE_SPACE: u32 = 88;
 
-/// Puts a line, behind an island where one is needed, and gives its span.
+/// Puts a line, after an island where one is needed, and gives its span.
 pub fn put_line(
     alloc: Global,
     sink: &mut MachBuffer<LabelUse>,
@@ -63,7 +62,7 @@ fn put_bind(
     })
 }
 
-/// Emits an instruction, behind an island where one is needed.
+/// Emits an instruction, after an island where one is needed.
 fn put_inst(
     alloc: Global,
     sink: &mut MachBuffer<LabelUse>,
@@ -85,14 +84,14 @@ fn put_inst(
     Ok(LineSpan { index, start, end })
 }
 
-/// Puts an island where one is needed before a line. Whether it did.
+/// Puts an island where one is needed before a line. Returns whether it did.
 fn emit_needed_island(
     sink: &mut MachBuffer<LabelUse>,
     state: &mut EmitState,
 ) -> Result<bool, OutOfMemory>
     requires sound { IsSoundBuffer sink.old }
     requires reach { CanReach (length (bytes_of sink.old)) (pending sink.old) }
-    requires few { drawn_of sink.old < 2 ^ 30 }
+    requires few { allocated_of sink.old < 2 ^ 30 }
     requires room { length (bytes_of sink.old) + 8 * length (pending sink.old) + 32 < 2147479552 }
     ensures room { IfOk result (λ made. IslandIfNeeded 88 sink.old sink.new made) }
     ensures frame { state.new.frame ≡ state.old.frame }

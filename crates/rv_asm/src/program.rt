@@ -81,7 +81,7 @@ fn outcome_of_call<S: Source, K: Sink>(
 }
 
 /// Reads a listing, assembles it, and writes its report, or one line that says why there is none. The words are those
-/// behind the program's name.
+/// after the program's name.
 pub fn run<S: Source, K: Sink>(
     alloc: Global,
     words: &[String],

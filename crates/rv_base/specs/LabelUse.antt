@@ -1,5 +1,5 @@
 -- What it means that a window of bytes is fresh, that it keeps its bits outside the fields of a use, and what a veneer is.
-use Rattle.std.specs.Prelude.{◌≡◌, ℕ, ◌+◌, ◌-◌, ◌%◌, ◌≤◌, List, [], ◌∷◌, length, drop, Bool, false, slice_index, bit_and}
+use Rattle.std.specs.Prelude.{◌≡◌, ℕ, ◌+◌, ◌-◌, ◌%◌, ◌≤◌, List, [], ◌∷◌, length, drop, ℤ, Bool, false, slice_index, bit_and}
 
 -- from the byte at i on, a window has no bit where the marks have one
 abbrev pub IsFreshFrom : ℕ → List ℕ → List ℕ → Type 0
@@ -25,12 +25,23 @@ pub record Veneer (K : Type 0) : Type 0 where
   pub place : ℕ
   pub kind : K
 
+-- what a buffer of code knows of the kinds of use: whether a window encodes a distance; one byte for each byte of the window,
+-- whose one bits mark the fields; how far a use reaches forward and backward, in bytes; whether it may go by a veneer, and by
+-- which
+pub record Kinds (K : Type 0) : Type 1 where
+  pub aims : K → List ℕ → ℤ → Type 0
+  pub fields : K → List ℕ
+  pub forward : K → ℕ
+  pub backward : K → ℕ
+  pub has_veneer : K → Bool
+  pub veneer : K → Veneer K
+
 -- eight bytes, with a fresh use at an even place that needs no veneer itself and reaches every distance below 2^31 - 4096
-pub record IsVeneer {K : Type 0} (fields : K → List ℕ) (forward backward : K → ℕ) (has_veneer : K → Bool) (v : Veneer K) : Type 0 where
+pub record IsVeneer {K : Type 0} (kinds : Kinds K) (v : Veneer K) : Type 0 where
   pub eight : length v.bytes ≡ 8
   pub place_even : v.place % 2 ≡ 0
-  pub inside : v.place + length (fields v.kind) ≤ 8
-  pub fresh : IsFresh (fields v.kind) (drop v.place v.bytes)
-  pub final : has_veneer v.kind ≡ false
-  pub far_forward : 2147479551 ≤ forward v.kind
-  pub far_backward : 2147479551 ≤ backward v.kind
+  pub inside : v.place + length (kinds.fields v.kind) ≤ 8
+  pub fresh : IsFresh (kinds.fields v.kind) (drop v.place v.bytes)
+  pub final : kinds.has_veneer v.kind ≡ false
+  pub far_forward : 2147479551 ≤ kinds.forward v.kind
+  pub far_backward : 2147479551 ≤ kinds.backward v.kind

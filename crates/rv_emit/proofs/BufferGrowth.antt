@@ -1,5 +1,5 @@
--- How a buffer grows by a block and by an island, and how their windows stand in it.
-use Rattle.std.proofs.Common.{◌≡◌, ◌≢◌, ℕ, zero, suc, ◌+◌, ◌-◌, ◌*◌, ◌%◌, ◌≤◌, inl, inr, ⊎_elim, true, List, [], ◌∷◌, ◌++◌, length, take, map, Option, Some, refl, ap, sym, ◌∙◌, subst, arith}
+-- How a buffer grows by a sequence and by an island, and how their windows stand in it.
+use Rattle.std.proofs.Common.{◌≡◌, ◌≢◌, ℕ, zero, suc, ◌+◌, ◌-◌, ◌*◌, ◌%◌, ◌≤◌, inl, inr, ⊎_elim, true, List, [], ◌∷◌, ◌++◌, length, take, map, Option, Some, refl, ap, sym, ◌∙◌, subst, arith, None, append_assoc}
 use Rattle.std.specs.Prelude.{slice_get}
 use Rattle.std.proofs.lemmas.Bool.{cases_lt}
 use Rattle.std.proofs.lemmas.List.{take-take, length-append, map-append}
@@ -8,32 +8,30 @@ use Rattle.rv_base.specs.LabelUse.{IsVeneer, IsFresh}
 use Rattle.rv_inst.specs.declared.inst.Inst.{Inst}
 use Rattle.rv_inst.specs.declared.label_use.LabelUse.{LabelUse}
 use Rattle.rv_inst.specs.declared.label_use.LabelUse.TheVariants.{Jal20}
-use Rattle.rv_inst.specs.LabelUse.{marks_of, forward_of, backward_of, has_veneer_of, veneer_of}
+use Rattle.rv_inst.specs.LabelUse.{label_kinds, marks_of, has_veneer_of, veneer_of}
 use Rattle.rv_inst.specs.LabelUseWords.{word_bytes}
 use Rattle.mach_buffer.specs.declared.uses.Use.{Use}
-use Rattle.mach_buffer.specs.declared.uses.VeneerUse.{VeneerUse}
-use Rattle.mach_buffer.specs.Windows.{window, IsApart}
-use Rattle.mach_buffer.specs.Buffer.{bytes_of, uses_of, veneers_of, place_of, core, recorded}
-use Rattle.mach_buffer.specs.Islands.{AreWindows, VeneersBehind}
-use Rattle.mach_buffer.specs.Blocks.{BlockStands, Grows}
-use Rattle.mach_buffer.proofs.Added.{append_none}
-use Rattle.mach_buffer.proofs.Apart.{comes_from, take_front}
-use Rattle.mach_buffer.proofs.Blocks.{OwnWindows, windows_block}
-use Rattle.mach_buffer.proofs.Patched.{grows_put, block_put, block_stays}
+use Rattle.mach_buffer.specs.Windows.{window, IsApart, AreWindows}
+use Rattle.mach_buffer.specs.Buffer.{bytes_of, uses_of, place_of}
+use Rattle.mach_buffer.specs.Shape.{core, recorded}
+use Rattle.mach_buffer.specs.Sequences.{CodeStands}
+use Rattle.mach_buffer.specs.Growth.{Grows}
+use Rattle.mach_buffer.proofs.Laws.{append_none, comes_from, take_front, OwnWindows, windows_block, grows_put, block_put, block_stays}
+use Rattle.rv_emit.proofs.ReachKept.{uses_bare}
 use Rattle.rv_emit.specs.Emitted.{Buffer, IsSoundBuffer, HasWindows, bytes_of_words, UsesStand, AppendsCode, AppendsInst, AppendsIsland}
 use Rattle.rv_inst.specs.Uses.{use_at, uses_in}
 
--- all that one buffer has is in another, and what is more there stands behind it
+-- all that one buffer has is in another, and what is more there stands after it
 abbrev pub GrowsTo : Buffer → Buffer → Type 0
-GrowsTo old new = Grows (bytes_of old) (uses_of old) (veneers_of old) (place_of old) (bytes_of new) (uses_of new) (veneers_of new) (place_of new)
+GrowsTo old new = Grows (bytes_of old) (uses_of old) (place_of old) (bytes_of new) (uses_of new) (place_of new)
 
 -- ---- veneers
 
 -- the veneer of each kind that has one
-pub veneer_law : (kind : LabelUse) → has_veneer_of kind ≡ true → IsVeneer marks_of forward_of backward_of has_veneer_of (veneer_of kind)
+pub veneer_law : (kind : LabelUse) → has_veneer_of kind ≡ true → IsVeneer label_kinds (veneer_of kind)
 veneer_law kind h = record { eight = refl; place_even = refl; inside = omega arith; fresh = (refl, (refl, (refl, (refl, (refl, (refl, (refl, (refl, tt)))))))); final = refl; far_forward = omega arith; far_backward = omega arith }
 
--- ---- the windows of a block
+-- ---- the windows of a sequence
 
 -- the use at an index stands in the word at that index
 record InWord (start : ℕ) (words : List ℕ) (k : ℕ) (u : Use LabelUse) : Type 0 where
@@ -68,8 +66,9 @@ in_word start (w ∷ words) (x ∷ uses) s (suc k) u h = on (in_word (start + 4)
     }
 
 -- uses that stand in words of their own have their windows in the words' bytes
-pub own_windows : (start : ℕ) (words : List ℕ) (uses : List (Use LabelUse)) → start % 2 ≡ 0 → UsesStand start words uses → OwnWindows marks_of start (bytes_of_words words) uses
-own_windows start words uses even s = record {
+pub own_windows : (start : ℕ) (words : List ℕ) (uses : List (Use LabelUse)) → start % 2 ≡ 0 → UsesStand start words uses → ((k : ℕ) (u : Use LabelUse) → slice_get uses k ≡ Some u → u.veneer ≡ None) → OwnWindows label_kinds start (bytes_of_words words) uses
+own_windows start words uses even s bare = record {
+  bare = bare;
   even = λ k u h. let i = at k u h in let o = i.offset in omega arith;
   begins = λ k u h. let i = at k u h in let o = i.offset in omega arith;
   ends = λ k u h. let i = at k u h in let o = i.offset in let l = i.long in let n = i.inside in omega arith;
@@ -78,55 +77,47 @@ own_windows start words uses even s = record {
       let same : u.offset - start ≡ 4 * k = omega arith in
       subst (λ n. IsFresh (marks_of u.kind) (window (bytes_of_words words) n (length (marks_of u.kind)))) (sym same)
       (subst (λ n. IsFresh (marks_of u.kind) (window (bytes_of_words words) (4 * k) n)) (sym i.long) i.fresh);
-  apart = λ j k p q ne hj hk. apart j k p q ne (place j p hj) (place k q hk);
+  apart = λ j k u v ne hj hk. let a = at j u hj in let b = at k v hk in apart j k u.offset (length (marks_of u.kind)) v.offset (length (marks_of v.kind)) ne a.offset a.long b.offset b.long;
 }
   where
     at : (k : ℕ) (u : Use LabelUse) → slice_get uses k ≡ Some u → InWord start words k u
     at k u h = in_word start words uses s k u h
 
-    place : (j : ℕ) (p : ℕ × ℕ) → slice_get (map (λ (u : Use LabelUse). (u.offset, length (marks_of u.kind))) (recorded uses)) j ≡ Some p → (p.0 ≡ start + 4 * j) × (p.1 ≡ 4)
-    place j p h =
-        let c = comes_from (λ (u : Use LabelUse). (u.offset, length (marks_of u.kind))) (recorded uses) j p h in
-        let d = comes_from core uses j c.from c.there in
-        let i = at j d.from d.there in
-        subst (λ (x : ℕ × ℕ). (x.0 ≡ start + 4 * j) × (x.1 ≡ 4)) c.is (subst (λ (x : Use LabelUse). (x.offset ≡ start + 4 * j) × (length (marks_of x.kind) ≡ 4)) d.is (i.offset, i.long))
-
-    apart : (j k : ℕ) (p q : ℕ × ℕ) → j ≢ k → (p.0 ≡ start + 4 * j) × (p.1 ≡ 4) → (q.0 ≡ start + 4 * k) × (q.1 ≡ 4) → IsApart p.0 p.1 q.0 q.1
-    apart j k p q ne a b = let a0 = a.0 in let a1 = a.1 in let b0 = b.0 in let b1 = b.1 in
+    apart : (j k p m q n : ℕ) → j ≢ k → p ≡ start + 4 * j → m ≡ 4 → q ≡ start + 4 * k → n ≡ 4 → IsApart p m q n
+    apart j k p m q n ne a0 a1 b0 b1 =
         ⊎_elim (λ lt. inl (omega arith)) (λ ge. ⊎_elim (λ lt. inr (omega arith)) (λ le. let same : j ≡ k = omega arith in absurd (ne same)) (cases_lt k j)) (cases_lt j k)
 
--- ---- a block
+-- ---- a sequence
 
 pub recorded_more : {L : Type 0} (uses own new : List (Use L)) → new ≡ uses ++ own → recorded new ≡ recorded uses ++ recorded own
 recorded_more uses own new e = ap recorded e ∙ map-append core uses own
 
--- by a block whose uses stand in it
+-- by a sequence whose uses stand in it
 pub adds_grow : {block : List ℕ} {own : List (Use LabelUse)} {old new : Buffer} → AppendsCode block own old new → ((k : ℕ) (u : Use LabelUse) → slice_get own k ≡ Some u → length (bytes_of old) ≤ u.offset) → GrowsTo old new
-adds_grow {block} {own} {old} {new} a behind = grows_put block own behind (bytes_of new) (uses_of new) (veneers_of new) (place_of new) a.bytes (recorded_more (uses_of old) own (uses_of new) a.uses) a.veneers (λ label to h. ap (λ (p : ℕ → Option ℕ). p label) a.places ∙ h)
+adds_grow {block} {own} {old} {new} a behind = grows_put block own behind (bytes_of new) (uses_of new) (place_of new) a.bytes (recorded_more (uses_of old) own (uses_of new) a.uses) (λ label to h. ap (λ (p : ℕ → Option ℕ). p label) a.places ∙ h)
 
 module _ (inst : Inst) {old new : Buffer} where
-  -- the windows of a block that was put
-  pub block_windows : IsSoundBuffer old → (p : AppendsInst inst old new) → OwnWindows marks_of (length (bytes_of old)) (bytes_of_words p.words) (uses_in (length (bytes_of old)) inst)
-  block_windows s p = own_windows (length (bytes_of old)) p.words (uses_in (length (bytes_of old)) inst) s.even p.used
+  -- the windows of a sequence that was put
+  pub block_windows : IsSoundBuffer old → (p : AppendsInst inst old new) → OwnWindows label_kinds (length (bytes_of old)) (bytes_of_words p.words) (uses_in (length (bytes_of old)) inst)
+  block_windows s p = own_windows (length (bytes_of old)) p.words (uses_in (length (bytes_of old)) inst) s.even p.used (uses_bare (length (bytes_of old)) inst)
 
   pub block_grows : IsSoundBuffer old → AppendsInst inst old new → GrowsTo old new
   block_grows s p = adds_grow p.adds (block_windows s p).begins
 
-  -- all windows stand when a block was put
+  -- all windows stand when a sequence was put
   pub block_has_windows : IsSoundBuffer old → AppendsInst inst old new → HasWindows old → HasWindows new
   block_has_windows s p w =
       let own = uses_in (length (bytes_of old)) inst in
-      subst (λ (vs : List (VeneerUse LabelUse)). AreWindows marks_of (bytes_of new) (uses_of new) vs) (sym p.adds.veneers)
-      (windows_block w s.linked veneer_law (bytes_of_words p.words) own (block_windows s p) (bytes_of new) (uses_of new) p.adds.bytes (recorded_more (uses_of old) own (uses_of new) p.adds.uses))
+      subst (λ (bs : List ℕ). AreWindows label_kinds bs (uses_of new)) (sym p.adds.bytes)
+      (subst (λ (us : List (Use LabelUse)). AreWindows label_kinds (bytes_of old ++ bytes_of_words p.words) us) (sym p.adds.uses) (windows_block w s.linked (bytes_of_words p.words) own (block_windows s p)))
 
-  -- the block stands where it was put
-  pub block_there : IsSoundBuffer old → (p : AppendsInst inst old new) → HasWindows old → BlockStands marks_of (bytes_of new) (uses_of new) (veneers_of new) (length (bytes_of old)) (bytes_of_words p.words) (uses_in (length (bytes_of old)) inst)
+  -- the sequence stands where it was put
+  pub block_there : IsSoundBuffer old → (p : AppendsInst inst old new) → HasWindows old → CodeStands label_kinds (bytes_of new) (uses_of new) (length (bytes_of old)) (bytes_of_words p.words) (uses_in (length (bytes_of old)) inst)
   block_there s p w =
       let own = uses_in (length (bytes_of old)) inst in
-      subst (λ (vs : List (VeneerUse LabelUse)). BlockStands marks_of (bytes_of new) (uses_of new) vs (length (bytes_of old)) (bytes_of_words p.words) own) (sym p.adds.veneers)
-      (block_put w s.linked veneer_law (bytes_of_words p.words) own (bytes_of new) (uses_of new) p.adds.bytes (recorded_more (uses_of old) own (uses_of new) p.adds.uses))
+      block_put w (bytes_of_words p.words) own (bytes_of new) (uses_of new) p.adds.bytes (recorded_more (uses_of old) own (uses_of new) p.adds.uses)
 
--- a block of words is a multiple of four long
+-- a sequence of words is a multiple of four long
 pub words_whole : (words : List ℕ) → length (bytes_of_words words) % 4 ≡ 0
 words_whole [] = refl
 words_whole (w ∷ words) = let h = words_whole words in omega arith
@@ -139,32 +130,27 @@ block_whole inst {old} {new} p h =
 
 -- ---- an island
 
--- nearer is behind as well
-added_before : {L : Type 0} {from to : ℕ} {old new : List (VeneerUse L)} → from ≤ to → VeneersBehind to old new → VeneersBehind from old new
-added_before le a = record { more = a.more; grown = a.grown; behind = λ k w h. let l = a.behind k w h in omega arith }
-
 -- its label was not bound before
 pub island_grows : {old new : Buffer} → IsSoundBuffer old → AppendsIsland old new → GrowsTo old new
 island_grows {old} {new} s p = record {
   before = sym (take-take (length (bytes_of old)) (length (bytes_of old) + 4) (bytes_of new) (omega arith)) ∙ ap (take (length (bytes_of old))) p.jump ∙ take_front (bytes_of old) (word_bytes 0x6f);
   longer = let l = p.longer in omega arith;
-  more = use_at (length (bytes_of old)) p.round Jal20 ∷ [];
-  grown = p.uses;
+  more = use_at (length (bytes_of old)) p.after_island Jal20 ∷ p.own.more;
+  grown = p.own.grown ∙ ap (λ us. us ++ p.own.more) (recorded_more (uses_of old) (use_at (length (bytes_of old)) p.after_island Jal20 ∷ []) _ refl) ∙ append_assoc (recorded (uses_of old)) (use_at (length (bytes_of old)) p.after_island Jal20 ∷ []) p.own.more;
   behind = behind;
-  added = added_before (omega arith) p.veneers;
-  places = λ label to h. p.places label (λ e. let known = (s.places label to h).2 in let drawn = p.drawn_label in absurd (omega arith)) ∙ h;
+  places = λ label to h. p.places label (λ e. let known = (s.places label to h).2 in let allocated = p.drawn_label in absurd (omega arith)) ∙ h;
 }
   where
-    behind : (k : ℕ) (u : Use LabelUse) → slice_get (use_at (length (bytes_of old)) p.round Jal20 ∷ []) k ≡ Some u → length (bytes_of old) ≤ u.offset
+    behind : (k : ℕ) (u : Use LabelUse) → slice_get (use_at (length (bytes_of old)) p.after_island Jal20 ∷ p.own.more) k ≡ Some u → length (bytes_of old) ≤ u.offset
     behind zero u h = subst (λ (x : Use LabelUse). length (bytes_of old) ≤ x.offset) (same_Some _ _ h) (omega arith)
-    behind (suc k) u h = absurd (cc)
+    behind (suc k) u h = let b = (p.own.own k u h).behind in omega arith
 
 -- its jump stands at its start
-pub island_jump : {old new : Buffer} → IsSoundBuffer old → HasWindows old → (p : AppendsIsland old new) → BlockStands marks_of (bytes_of new) (uses_of new) (veneers_of new) (length (bytes_of old)) (word_bytes 0x6f) (use_at (length (bytes_of old)) p.round Jal20 ∷ [])
-island_jump {old} {new} s w p = block_stays on (block_put w s.linked veneer_law (word_bytes 0x6f) own bytes uses refl (recorded_more (uses_of old) own uses refl))
+pub island_jump : {old new : Buffer} → IsSoundBuffer old → HasWindows old → (p : AppendsIsland old new) → CodeStands label_kinds (bytes_of new) (uses_of new) (length (bytes_of old)) (word_bytes 0x6f) (use_at (length (bytes_of old)) p.after_island Jal20 ∷ [])
+island_jump {old} {new} s w p = block_stays on (block_put w (word_bytes 0x6f) own bytes uses refl (recorded_more (uses_of old) own uses refl))
   where
     own : List (Use LabelUse)
-    own = use_at (length (bytes_of old)) p.round Jal20 ∷ []
+    own = use_at (length (bytes_of old)) p.after_island Jal20 ∷ []
 
     bytes : List ℕ
     bytes = bytes_of old ++ word_bytes 0x6f
@@ -175,13 +161,12 @@ island_jump {old} {new} s w p = block_stays on (block_put w s.linked veneer_law 
     long : length bytes ≡ length (bytes_of old) + 4
     long = length-append (bytes_of old) (word_bytes 0x6f)
 
-    on : Grows bytes uses (veneers_of old) (place_of new) (bytes_of new) (uses_of new) (veneers_of new) (place_of new)
+    on : Grows bytes uses (place_of new) (bytes_of new) (uses_of new) (place_of new)
     on = record {
       before = ap (λ n. take n (bytes_of new)) long ∙ p.jump;
       longer = let l = p.longer in omega (arith, long);
-      more = [];
-      grown = p.uses ∙ sym (recorded_more (uses_of old) own uses refl) ∙ sym (append_none (recorded uses));
-      behind = λ k u h. absurd (cc);
-      added = added_before (omega (arith, long)) p.veneers;
+      more = p.own.more;
+      grown = p.own.grown;
+      behind = λ k u h. let b = (p.own.own k u h).behind in omega (arith, long);
       places = λ label to h. h;
     }

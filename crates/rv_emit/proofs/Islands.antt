@@ -6,78 +6,69 @@ use Rattle.std.proofs.lemmas.List.{length-append, append-nil}
 use Rattle.rv_base.specs.declared.label.MachLabel.{MachLabel}
 use Rattle.rv_inst.specs.declared.label_use.LabelUse.{LabelUse}
 use Rattle.rv_inst.specs.declared.label_use.LabelUse.TheVariants.{Jal20}
-use Rattle.rv_inst.specs.LabelUse.{forward_of, backward_of, has_veneer_of, veneer_of}
+use Rattle.rv_inst.specs.LabelUse.{label_kinds}
 use Rattle.rv_inst.specs.LabelUseWords.{word_bytes}
+use Rattle.rv_base.specs.LabelUse.{Kinds}
 use Rattle.mach_buffer.specs.declared.uses.Use.{Use}
 use Rattle.mach_buffer.specs.Reach.{CanReach, deadline, deadlines, is_pending, is_other}
-use Rattle.mach_buffer.specs.Buffer.{bytes_of, uses_of, place_of, drawn_of}
-use Rattle.mach_buffer.specs.Islands.{CanIsland, IsRound, aligned, island_end, needs_own, others_of}
-use Rattle.mach_buffer.proofs.Slack.{deadlines_append}
-use Rattle.mach_buffer.proofs.Links.{slice_get-append_last}
-use Rattle.mach_buffer.proofs.Others.{own_idle}
-use Rattle.mach_buffer.proofs.Islanded.{aligned_near}
+use Rattle.mach_buffer.specs.Buffer.{shape_of, bytes_of, uses_of, place_of, allocated_of}
+use Rattle.mach_buffer.specs.Islands.{CanIsland, IsJumpOver, aligned, island_end, needs_own, others_of}
+use Rattle.mach_buffer.proofs.Laws.{deadlines_append, slice_get-append_last, own_idle, aligned_near}
 use Rattle.rv_emit.specs.Emitted.{Buffer, IsSoundBuffer, pending}
 use Rattle.rv_inst.specs.Uses.{use_at}
 
 -- tests that agree on each use have the same deadlines
-pub deadlines_as : {L : Type 0} (test other : Use L → Bool) (forward : L → ℕ) (uses : List (Use L)) → ((j : ℕ) (u : Use L) → slice_get uses j ≡ Some u → test u ≡ other u) → deadlines test forward uses ≡ deadlines other forward uses
-deadlines_as test other forward [] same = refl
-deadlines_as test other forward (u ∷ uses) same =
-    let rest = deadlines_as test other forward uses (λ j v e. same (suc j) v e) in
-    λ i. cond (same 0 u refl i) (deadline forward u ∷ rest i) (rest i)
+pub deadlines_as : {L : Type 0} (test other : Use L → Bool) (kinds : Kinds L) (uses : List (Use L)) → ((j : ℕ) (u : Use L) → slice_get uses j ≡ Some u → test u ≡ other u) → deadlines test kinds uses ≡ deadlines other kinds uses
+deadlines_as test other kinds [] same = refl
+deadlines_as test other kinds (u ∷ uses) same =
+    let rest = deadlines_as test other kinds uses (λ j v e. same (suc j) v e) in
+    λ i. cond (same 0 u refl i) (deadline kinds u ∷ rest i) (rest i)
 
 and_true : (b : Bool) → (b && true) ≡ b
 and_true true = refl
 and_true false = refl
 
 -- a use of another label
-other_label : (place : ℕ → Option ℕ) (round : MachLabel) (u : Use LabelUse) → u.label.number ≢ round.number → is_other has_veneer_of forward_of backward_of place (Some round) u ≡ is_pending has_veneer_of forward_of backward_of place u
-other_label place round u n = ap (λ b. is_pending has_veneer_of forward_of backward_of place u && not b) (ne_eqb u.label.number round.number n) ∙ and_true _
+other_label : (place : ℕ → Option ℕ) (after_island : MachLabel) (u : Use LabelUse) → u.label.number ≢ after_island.number → is_other label_kinds place (Some after_island) u ≡ is_pending label_kinds place u
+other_label place after_island u n = ap (λ b. is_pending label_kinds place u && not b) (ne_eqb u.label.number after_island.number n) ∙ and_true _
 
--- a jump to a fresh label was put, behind what a buffer has
-pub record JumpPut (old new : Buffer) (round : MachLabel) : Type 0 where
-  pub fresh : round.number ≡ 2 ^ 30 + drawn_of old
-  pub drawn : drawn_of new ≡ drawn_of old + 1
+-- a jump to a fresh label was put, after what a buffer has
+pub record JumpPut (old new : Buffer) (after_island : MachLabel) : Type 0 where
+  pub fresh : after_island.number ≡ 2 ^ 30 + allocated_of old
+  pub allocated : allocated_of new ≡ allocated_of old + 1
   pub bytes : bytes_of new ≡ bytes_of old ++ word_bytes 0x6f
-  pub uses : uses_of new ≡ uses_of old ++ use_at (length (bytes_of old)) round Jal20 ∷ []
+  pub uses : uses_of new ≡ uses_of old ++ use_at (length (bytes_of old)) after_island Jal20 ∷ []
   pub places : place_of new ≡ place_of old
   pub before : IsSoundBuffer old
   pub sound : IsSoundBuffer new
 
 -- no use named the label before
-not_named : (old new : Buffer) (round : MachLabel) → JumpPut old new round → (j : ℕ) (u : Use LabelUse) → slice_get (uses_of old) j ≡ Some u → u.label.number ≢ round.number
-not_named old new round p j u h e = let low = p.before.known j u h in let at = p.fresh in absurd (omega arith)
+not_named : (old new : Buffer) (after_island : MachLabel) → JumpPut old new after_island → (j : ℕ) (u : Use LabelUse) → slice_get (uses_of old) j ≡ Some u → u.label.number ≢ after_island.number
+not_named old new after_island p j u h e = let low = p.before.known j u h in let at = p.fresh in absurd (omega arith)
 
--- what waits beside the jump is what waited before it
-pub others_pending : (old new : Buffer) (round : MachLabel) → JumpPut old new round → others_of has_veneer_of forward_of backward_of new round ≡ pending old
-others_pending old new round p =
-    let test = is_other has_veneer_of forward_of backward_of (place_of old) (Some round) in
-    let jump = use_at (length (bytes_of old)) round Jal20 in
-    let first : others_of has_veneer_of forward_of backward_of new round ≡ deadlines test forward_of (uses_of old ++ jump ∷ []) =
-    λ i. deadlines (is_other has_veneer_of forward_of backward_of (p.places i) (Some round)) forward_of (p.uses i) in
-    let idle : test jump ≡ false = own_idle has_veneer_of forward_of backward_of (place_of old) round jump refl in
-    let last : deadlines test forward_of (jump ∷ []) ≡ [] = ap (λ b. cond b (deadline forward_of jump ∷ []) []) idle in
-    let same : deadlines test forward_of (uses_of old) ≡ pending old = deadlines_as test _ forward_of (uses_of old) (λ j u h. other_label (place_of old) round u (not_named old new round p j u h)) in
-    first ∙ deadlines_append test forward_of (uses_of old) (jump ∷ []) ∙ ap (λ ds. deadlines test forward_of (uses_of old) ++ ds) last ∙ append-nil _ ∙ same
+-- what is pending beside the jump is what was pending before it
+pub others_pending : (old new : Buffer) (after_island : MachLabel) → JumpPut old new after_island → others_of label_kinds (shape_of new) after_island ≡ pending old
+others_pending old new after_island p =
+    let test = is_other label_kinds (place_of old) (Some after_island) in
+    let jump = use_at (length (bytes_of old)) after_island Jal20 in
+    let first : others_of label_kinds (shape_of new) after_island ≡ deadlines test label_kinds (uses_of old ++ jump ∷ []) =
+    λ i. deadlines (is_other label_kinds (p.places i) (Some after_island)) label_kinds (p.uses i) in
+    let idle : test jump ≡ false = own_idle label_kinds (place_of old) after_island jump refl in
+    let last : deadlines test label_kinds (jump ∷ []) ≡ [] = ap (λ b. cond b (deadline label_kinds jump ∷ []) []) idle in
+    let same : deadlines test label_kinds (uses_of old) ≡ pending old = deadlines_as test _ label_kinds (uses_of old) (λ j u h. other_label (place_of old) after_island u (not_named old new after_island p j u h)) in
+    first ∙ deadlines_append test label_kinds (uses_of old) (jump ∷ []) ∙ ap (λ ds. deadlines test label_kinds (uses_of old) ++ ds) last ∙ append-nil _ ∙ same
 
--- the one use of the label is the last
-only_last : (uses : List (Use LabelUse)) (jump : Use LabelUse) (round : ℕ) → ((j : ℕ) (u : Use LabelUse) → slice_get uses j ≡ Some u → u.label.number ≢ round) → (j : ℕ) (u : Use LabelUse) → slice_get (uses ++ jump ∷ []) j ≡ Some u → u.label.number ≡ round → j ≡ length uses
-only_last [] jump round none zero u h e = refl
-only_last [] jump round none (suc j) u h e = absurd (cc)
-only_last (v ∷ uses) jump round none zero u h e = absurd (none 0 u h e)
-only_last (v ∷ uses) jump round none (suc j) u h e = ap suc (only_last uses jump round (λ k w g. none (suc k) w g) j u h e)
-
-pub jump_round : (old new : Buffer) (round : MachLabel) → JumpPut old new round → IsRound has_veneer_of forward_of 4 (bytes_of new) (uses_of new) round.number
-jump_round old new round p = record {
-  index = length (uses_of old);
-  jump = use_at (length (bytes_of old)) round Jal20;
-  stands = ap (λ us. slice_get us (length (uses_of old))) p.uses ∙ slice_get-append_last (uses_of old) (use_at (length (bytes_of old)) round Jal20);
+pub jump_round : (old new : Buffer) (after_island : MachLabel) → JumpPut old new after_island → IsJumpOver label_kinds (bytes_of new) (uses_of new) after_island.number
+jump_round old new after_island p = record {
+  before = uses_of old;
+  jump = use_at (length (bytes_of old)) after_island Jal20;
+  stands = p.uses;
   names = refl;
   bare = refl;
   last = let long : length (bytes_of new) ≡ length (bytes_of old) + 4 = ap length p.bytes ∙ length-append (bytes_of old) (word_bytes 0x6f) in omega arith;
   supported = refl;
   reach = omega arith;
-  only = λ j u h e. only_last (uses_of old) (use_at (length (bytes_of old)) round Jal20) round.number (not_named old new round p) j u (sym (ap (λ us. slice_get us j) p.uses) ∙ h) e;
+  only = not_named old new after_island p;
 }
 
 -- how far an island reaches
@@ -88,31 +79,30 @@ end_near start count last = on (needs_own start count last)
     on true = omega arith
     on false = omega arith
 
-unbound_fresh : (old new : Buffer) (round : MachLabel) → JumpPut old new round → place_of new round.number ≡ None
-unbound_fresh old new round p = ap (λ (place : ℕ → Option ℕ). place round.number) p.places ∙ on (place_of old round.number) refl
+unbound_fresh : (old new : Buffer) (after_island : MachLabel) → JumpPut old new after_island → place_of new after_island.number ≡ None
+unbound_fresh old new after_island p = ap (λ (place : ℕ → Option ℕ). place after_island.number) p.places ∙ on (place_of old after_island.number) refl
   where
-    on : (o : Option ℕ) → place_of old round.number ≡ o → o ≡ None
+    on : (o : Option ℕ) → place_of old after_island.number ≡ o → o ≡ None
     on None e = refl
-    on (Some at) e = let known = (p.before.places round.number at e).2 in let fresh = p.fresh in absurd (omega arith)
+    on (Some at) e = let known = (p.before.places after_island.number at e).2 in let fresh = p.fresh in absurd (omega arith)
 
-pub can_island : (old new : Buffer) (round : MachLabel) → JumpPut old new round → CanReach (length (bytes_of old)) (pending old) → length (bytes_of old) + 8 * length (pending old) + 32 < 2147479552 → CanIsland has_veneer_of forward_of backward_of veneer_of new round
+pub can_island : (old new : Buffer) (after_island : MachLabel) → JumpPut old new after_island → CanReach (length (bytes_of old)) (pending old) → length (bytes_of old) + 8 * length (pending old) + 32 < 2147479552 → CanIsland label_kinds (shape_of new) after_island
 unfolding jump_round
-can_island old new round p reach room =
-    let others = others_pending old new round p in
+can_island old new after_island p reach room =
+    let others = others_pending old new after_island p in
     let long : length (bytes_of new) ≡ length (bytes_of old) + 4 = ap length p.bytes ∙ length-append (bytes_of old) (word_bytes 0x6f) in
     let fresh = p.fresh in
-    let drawn = p.drawn in
+    let allocated = p.allocated in
     let less : length (bytes_of old) ≡ length (bytes_of new) - 4 = omega arith in
     let near : aligned (length (bytes_of new)) ≤ length (bytes_of new) + 2 = aligned_near (length (bytes_of new)) p.sound.even in
     let last = length (bytes_of old) + 1048574 in
     let end : island_end (aligned (length (bytes_of new))) (length (pending old)) last < 2147479552 = let e = end_near (aligned (length (bytes_of new))) (length (pending old)) last in omega (arith, e, near, long, room) in
     record {
-      sound = p.sound;
       inner = omega arith;
       known = omega arith;
-      unbound = unbound_fresh old new round p;
+      unbound = unbound_fresh old new after_island p;
       four = omega arith;
-      jump = jump_round old new round p;
+      jump = jump_round old new after_island p;
       reach = subst (λ (ds : List ℕ). CanReach (length (bytes_of new) - 4) ds) (sym others) (subst (λ n. CanReach n (pending old)) less reach);
       room = subst (λ (ds : List ℕ). island_end (aligned (length (bytes_of new))) (length ds) last < 2147479552) (sym others) end;
     }

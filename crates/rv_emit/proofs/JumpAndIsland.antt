@@ -1,50 +1,57 @@
--- A jump and an island behind it, as the buffer's calls put them.
-use Rattle.std.proofs.Common.{◌≡◌, ℕ, ◌+◌, ◌*◌, ◌%◌, ◌^◌, ◌≤◌, Bool, true, false, cond, List, [], ◌∷◌, ◌++◌, length, take, Option, refl, ap, sym, ◌∙◌, subst, arith}
+-- A jump and an island after it, as the buffer's calls put them.
+use Rattle.std.proofs.Common.{◌≡◌, ℕ, ◌+◌, ◌*◌, ◌%◌, ◌^◌, ◌≤◌, Bool, true, false, cond, List, [], ◌∷◌, ◌++◌, length, take, Option, Some, None, zero, suc, refl, ap, sym, ◌∙◌, subst, arith}
 use Rattle.std.proofs.lemmas.List.{length-append, map-append, take-take}
 use Rattle.rv_base.specs.declared.label.MachLabel.{MachLabel}
 use Rattle.rv_inst.specs.declared.label_use.LabelUse.{LabelUse}
 use Rattle.rv_inst.specs.declared.label_use.LabelUse.TheVariants.{Jal20}
-use Rattle.rv_inst.specs.LabelUse.{marks_of, forward_of, backward_of, has_veneer_of}
+use Rattle.rv_inst.specs.LabelUse.{label_kinds}
 use Rattle.rv_inst.specs.LabelUseWords.{word_bytes}
 use Rattle.mach_buffer.specs.declared.uses.Use.{Use}
-use Rattle.mach_buffer.specs.declared.uses.VeneerUse.{VeneerUse}
-use Rattle.mach_buffer.specs.Buffer.{bytes_of, uses_of, veneers_of, place_of, labels_of, drawn_of, core, recorded}
+use Rattle.mach_buffer.specs.Buffer.{shape_of, bytes_of, uses_of, place_of, labels_of, allocated_of}
+use Rattle.mach_buffer.specs.Shape.{core, recorded}
 use Rattle.mach_buffer.specs.Reach.{deadline}
-use Rattle.mach_buffer.specs.Islands.{Islanded, AreWindows, VeneersBehind, others_of, aligned, padding, island_end, needs_own}
-use Rattle.mach_buffer.proofs.Apart.{take_front}
-use Rattle.mach_buffer.proofs.Islanded.{aligned_near}
-use Rattle.mach_buffer.proofs.Blocks.{windows_block}
+use Rattle.mach_buffer.specs.Islands.{Islanded, others_of, aligned, padding, island_end, needs_own}
+use Rattle.mach_buffer.specs.Windows.{AreWindows}
+use Rattle.mach_buffer.specs.VeneerConditions.{AddsOwn}
+use Rattle.mach_buffer.specs.Growth.{Grows}
+use Rattle.std.specs.Prelude.{slice_get}
+use Rattle.std.proofs.lemmas.Option.{same_Some}
+use Rattle.mach_buffer.proofs.Laws.{island_rest, take_front, aligned_near, windows_block}
 use Rattle.rv_emit.specs.Emitted.{Buffer, IsSoundBuffer, HasWindows, pending, AppendsCode, AppendsIsland}
 use Rattle.rv_inst.specs.Uses.{use_at}
 use Rattle.rv_emit.proofs.Islands.{JumpPut, others_pending, end_near}
 use Rattle.rv_emit.proofs.BufferGrowth.{own_windows, veneer_law, recorded_more}
 
--- a label was drawn, and a jump to it put
-pub jump_put : (old mid new : Buffer) (round : MachLabel) → IsSoundBuffer old → round.number ≡ 2 ^ 30 + drawn_of old → drawn_of mid ≡ drawn_of old + 1 → bytes_of mid ≡ bytes_of old → uses_of mid ≡ uses_of old → place_of mid ≡ place_of old →
-    AppendsCode (word_bytes 0x6f) (use_at (length (bytes_of mid)) round Jal20 ∷ []) mid new → JumpPut old new round
-jump_put old mid new round sound fresh drawn bytes uses places a = record {
+-- a label was allocated, and a jump to it put
+pub jump_put : (old mid new : Buffer) (after_island : MachLabel) → IsSoundBuffer old → after_island.number ≡ 2 ^ 30 + allocated_of old → allocated_of mid ≡ allocated_of old + 1 → bytes_of mid ≡ bytes_of old → uses_of mid ≡ uses_of old → place_of mid ≡ place_of old →
+    AppendsCode (word_bytes 0x6f) (use_at (length (bytes_of mid)) after_island Jal20 ∷ []) mid new → JumpPut old new after_island
+jump_put old mid new after_island sound fresh allocated bytes uses places a = record {
   fresh = fresh;
-  drawn = a.drawn ∙ drawn;
+  allocated = a.allocated ∙ allocated;
   bytes = a.bytes ∙ ap (λ b. b ++ word_bytes 0x6f) bytes;
-  uses = a.uses ∙ (λ i. uses i ++ use_at (length (bytes i)) round Jal20 ∷ []);
+  uses = a.uses ∙ (λ i. uses i ++ use_at (length (bytes i)) after_island Jal20 ∷ []);
   places = a.places ∙ places;
   before = sound;
   sound = a.sound;
 }
 
--- where bytes, uses and veneers are the same, so are the windows
-pub same_windows : (old new : Buffer) → bytes_of new ≡ bytes_of old → uses_of new ≡ uses_of old → veneers_of new ≡ veneers_of old → HasWindows old → HasWindows new
-same_windows old new bytes uses veneers w =
-    subst (λ (bs : List ℕ). AreWindows marks_of bs (uses_of new) (veneers_of new)) (sym bytes)
-    (subst (λ (us : List (Use LabelUse)). AreWindows marks_of (bytes_of old) us (veneers_of new)) (sym uses)
-    (subst (λ (vs : List (VeneerUse LabelUse)). AreWindows marks_of (bytes_of old) (uses_of old) vs) (sym veneers) w))
+-- where bytes and uses are the same, so are the windows
+pub same_windows : (old new : Buffer) → bytes_of new ≡ bytes_of old → uses_of new ≡ uses_of old → HasWindows old → HasWindows new
+same_windows old new bytes uses w =
+    subst (λ (bs : List ℕ). AreWindows label_kinds bs (uses_of new)) (sym bytes)
+    (subst (λ (us : List (Use LabelUse)). AreWindows label_kinds (bytes_of old) us) (sym uses) w)
 
 -- the jump's window stands fresh
-jump_windows : (old new : Buffer) (round : MachLabel) → IsSoundBuffer old → AppendsCode (word_bytes 0x6f) (use_at (length (bytes_of old)) round Jal20 ∷ []) old new → HasWindows old → HasWindows new
-jump_windows old new round s a w =
-    let own = use_at (length (bytes_of old)) round Jal20 ∷ [] in
-    subst (λ (vs : List (VeneerUse LabelUse)). AreWindows marks_of (bytes_of new) (uses_of new) vs) (sym a.veneers)
-    (windows_block w s.linked veneer_law (word_bytes 0x6f) own (own_windows (length (bytes_of old)) (0x6f ∷ []) own s.even (refl, (refl, (refl, (refl, (refl, tt)))), refl, refl, tt)) (bytes_of new) (uses_of new) a.bytes (recorded_more (uses_of old) own (uses_of new) a.uses))
+jump_windows : (old new : Buffer) (after_island : MachLabel) → IsSoundBuffer old → AppendsCode (word_bytes 0x6f) (use_at (length (bytes_of old)) after_island Jal20 ∷ []) old new → HasWindows old → HasWindows new
+jump_windows old new after_island s a w =
+    let own = use_at (length (bytes_of old)) after_island Jal20 ∷ [] in
+    subst (λ (bs : List ℕ). AreWindows label_kinds bs (uses_of new)) (sym a.bytes)
+    (subst (λ (us : List (Use LabelUse)). AreWindows label_kinds (bytes_of old ++ word_bytes 0x6f) us) (sym a.uses)
+    (windows_block w s.linked (word_bytes 0x6f) own (own_windows (length (bytes_of old)) (0x6f ∷ []) own s.even (refl, (refl, (refl, (refl, (refl, tt)))), refl, refl, tt) (bare_one _ refl))))
+  where
+    bare_one : (u : Use LabelUse) → u.veneer ≡ None → (k : ℕ) (x : Use LabelUse) → slice_get (u ∷ []) k ≡ Some x → x.veneer ≡ None
+    bare_one u e zero x h = subst (λ (y : Use LabelUse). y.veneer ≡ None) (same_Some _ _ h) e
+    bare_one u e (suc k) x h = absurd (cc)
 
 -- an island's end is a multiple of four
 end_whole : (n count last : ℕ) → island_end (aligned n) count last % 4 ≡ 0
@@ -61,38 +68,35 @@ end_behind n count last = on (needs_own (aligned n) count last)
     on true = omega arith
     on false = omega arith
 
--- a jump was put, and the island behind it
-pub puts_island : (old drawn mid new : Buffer) (round : MachLabel) → JumpPut old mid round → veneers_of drawn ≡ veneers_of old → labels_of drawn ≡ labels_of old → IsSoundBuffer drawn → (HasWindows old → HasWindows drawn) →
-    AppendsCode (word_bytes 0x6f) (use_at (length (bytes_of drawn)) round Jal20 ∷ []) drawn mid →
-    Islanded has_veneer_of forward_of backward_of mid round new → VeneersBehind (length (bytes_of mid)) (veneers_of mid) (veneers_of new) → (HasWindows mid → HasWindows new) → labels_of new ≡ labels_of mid → drawn_of new ≡ drawn_of mid → IsSoundBuffer new → AppendsIsland old new
-puts_island old drawn mid new round p veneers labels sound windows a i behind kept same_labels same_drawn now =
+-- a jump was put, and the island after it
+pub puts_island : (old allocated mid new : Buffer) (after_island : MachLabel) → JumpPut old mid after_island → labels_of allocated ≡ labels_of old → IsSoundBuffer allocated → bytes_of allocated ≡ bytes_of old → (HasWindows old → HasWindows allocated) →
+    AppendsCode (word_bytes 0x6f) (use_at (length (bytes_of allocated)) after_island Jal20 ∷ []) allocated mid →
+    Islanded label_kinds after_island (shape_of mid) (shape_of new) → Grows (bytes_of mid) (uses_of mid) (place_of mid) (bytes_of new) (uses_of new) (place_of new) → AddsOwn label_kinds (length (bytes_of mid)) (uses_of mid) (uses_of new) → (HasWindows mid → HasWindows new) → IsSoundBuffer new → AppendsIsland old new
+puts_island old allocated mid new after_island p labels sound same_bytes windows a i grows own kept now =
+    let rest = island_rest i in
     let long : length (bytes_of mid) ≡ length (bytes_of old) + 4 = ap (length {A = ℕ}) p.bytes ∙ length-append (bytes_of old) (word_bytes 0x6f) in
-    let count = length (others_of has_veneer_of forward_of backward_of mid round) in
-    let counted : count ≡ length (pending old) = ap (length {A = ℕ}) (others_pending old mid round p) in
-    let last = deadline forward_of i.jump in
+    let count = length (others_of label_kinds (shape_of mid) after_island) in
+    let counted : count ≡ length (pending old) = ap (length {A = ℕ}) (others_pending old mid after_island p) in
+    let last = deadline label_kinds i.jump in
     let end : length (bytes_of new) ≡ island_end (aligned (length (bytes_of mid))) count last = i.end in
     let near = end_near (aligned (length (bytes_of mid))) count last in
     let ahead = end_behind (length (bytes_of mid)) count last in
     let close : aligned (length (bytes_of mid)) ≤ length (bytes_of mid) + 2 = aligned_near (length (bytes_of mid)) p.sound.even in
-    let less : length (bytes_of mid) ≤ aligned (length (bytes_of mid)) = omega arith in
-    let front : take (length (bytes_of mid)) (bytes_of new) ≡ bytes_of mid =
-    sym (take-take (length (bytes_of mid)) (aligned (length (bytes_of mid))) (bytes_of new) less) ∙ ap (take (length (bytes_of mid))) i.padded ∙ take_front (bytes_of mid) (padding (length (bytes_of mid))) in
     let drawn_fresh = p.fresh in
-    let drawn_more = p.drawn in
+    let drawn_more = p.allocated in
     record {
-      round = round;
+      after_island = after_island;
       drawn_label = p.fresh;
-      drawn = same_drawn ∙ p.drawn;
-      jump = ap (λ n. take n (bytes_of new)) (sym long) ∙ front ∙ p.bytes;
+      allocated = rest.allocated ∙ p.allocated;
+      jump = ap (λ n. take n (bytes_of new)) (sym long) ∙ grows.before ∙ p.bytes;
       longer = omega (arith, long, end, ahead);
-      uses = i.same ∙ ap recorded p.uses ∙ map-append core (uses_of old) (use_at (length (bytes_of old)) round Jal20 ∷ []);
-      veneers = subst (λ (n : ℕ). VeneersBehind n (veneers_of old) (veneers_of new)) long (subst (λ (vs : List (VeneerUse LabelUse)). VeneersBehind (length (bytes_of mid)) vs (veneers_of new)) (a.veneers ∙ veneers) behind);
-      bound = i.bound;
-      places = λ label ne. i.places label ne ∙ ap (λ (place : ℕ → Option ℕ). place label) p.places;
-      labels = same_labels ∙ a.labels ∙ labels;
+      own = subst (λ (n : ℕ). AddsOwn label_kinds n (uses_of old ++ use_at (length (bytes_of old)) after_island Jal20 ∷ []) (uses_of new)) long (subst (λ (us : List (Use LabelUse)). AddsOwn label_kinds (length (bytes_of mid)) us (uses_of new)) p.uses own);
+      bound = rest.bound;
+      places = λ label ne. rest.places label ne ∙ ap (λ (place : ℕ → Option ℕ). place label) p.places;
+      labels = rest.labels (omega (arith, drawn_fresh)) ∙ a.labels ∙ labels;
       settled = i.settled;
       aligned = ap (λ n. n % 4) end ∙ end_whole (length (bytes_of mid)) count last;
       short = omega (arith, long, end, near, close, counted);
-      windows = λ w. kept (jump_windows drawn mid round sound a (windows w));
+      windows = λ w. kept (jump_windows allocated mid after_island sound a (windows w));
       sound = now;
     }

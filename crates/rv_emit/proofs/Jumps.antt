@@ -90,7 +90,7 @@ jalr_runs flags targets start rd rs offset h h1 = record {
       refl (lit≤ tt);
 }
 
--- what the row of a comparison does
+-- what the operation of a comparison does
 branch_acts : (kind : IntegerCompare) (d : ℤ) (s : State) → act (decoded_branch kind d) s ≡ Some (at (if holds kind.kind (reg s.values (number_of kind.rs1)) (reg s.values (number_of kind.rs2)) then wrap (s.pc + low64 d) else wrap (s.pc + 4)) s.values)
 branch_acts kind d s = by_kind kind.kind kind.rs1 kind.rs2 d s
   where
@@ -152,7 +152,7 @@ branch_on_runs flags targets start kind t h1 h2 = record {
 unhurried : {flags : IsaFlags} {least address : ℕ} {v : Values} {s : State} → ComesTo flags least address v s → ComesTo flags 0 address v s
 unhurried e = record { steps = e.steps; state = e.state; moved = omega arith; ran = e.ran; pc = e.pc; same = e.same; is_state = e.is_state; are_values = e.are_values; kept = e.kept }
 
--- a branch with a jump behind it
+-- a branch with a jump after it
 branch_jump_ends : (flags : IsaFlags) (c : Bool) (targets : ℕ → ℕ) (base start after : ℕ) (d : Decoded) (s : State) (v : Values) → Begins flags base start after (d ∷ decoded_jump (between (start + 4) (targets 1)) ∷ []) s v → istep flags s ≡ Some (at (if c then wrap (base + targets 0) else wrap (base + (start + 4))) s.values) → ComesTo flags (least_steps (if c then To 0 else To 1)) (exit_address targets base start after (if c then To 0 else To 1)) v s
 branch_jump_ends flags true targets base start after d s v b e =
     ends_one flags s (wrap (base + targets 0)) (wrap (base + targets 0)) v s.values e refl (omega arith) b.same b.are_values b.is_state.values refl (lit≤ tt)

@@ -1,6 +1,6 @@
 -- What the crates above cite of this one's proofs: laws about its definitions, by subject.
 
--- a machine's steps, from one row to many
+-- a machine's steps, from one operation to many
 pub use Rattle.rv_emit.proofs.Steps.{istep_at, iter_none}
 pub use Rattle.rv_emit.proofs.Registers.{are_values_set}
 pub use Rattle.rv_emit.proofs.SequenceStart.{ends_one, ends_both}

@@ -1,4 +1,4 @@
--- What the words of a block decode to in finished code, once its windows aim at their targets.
+-- What the words of a sequence decode to in finished code, once its windows aim at their targets.
 use Rattle.std.proofs.Common.{◌≡◌, ℕ, ◌+◌, ◌-◌, ◌^◌, ◌<◌, ◌≤◌, List, [], ◌∷◌, length, take, drop, Some, ℤ, pos, arith, refl, sym, ap, subst, ◌∙◌, lit<}
 use Rattle.std.specs.Prelude.{slice_get, slice_index}
 use Rattle.std.specs.Option.{option_map}
@@ -84,7 +84,7 @@ unused_rows flags targets start words rows bytes h p = kept_rows flags bytes sta
 
 -- ---- words whose windows are patched
 
--- a word whose window is patched to a distance decodes to the same row with that number
+-- a word whose window is patched to a distance decodes to the same operation with that immediate
 abbrev Bridge : LabelUse → Type 0
 Bridge kind = (flags : IsaFlags) (old new : List ℕ) (d : ℤ) → AreBytes old → AreBytes new → SameOutside (marks_of kind) old new → word_opcode (word_at old) ≡ opcode_of kind → Aims kind new d → decode flags (word_at new) ≡ option_map (with_immediate d) (decode flags (word_at old))
 
@@ -98,14 +98,14 @@ use_stands kind bridge flags target start at w label d block bytes stood h row e
     ∙ ap (λ x. option_map (with_immediate (between at target)) (decode flags x)) (word_back w)
     ∙ ap (option_map (with_immediate (between at target))) row
 
--- the first word of a block, and the second
+-- the first word of a sequence, and the second
 first_window : (start w : ℕ) (words : List ℕ) → window (bytes_of_words (w ∷ words)) (start - start) 4 ≡ word_bytes w
 first_window start w words = let here : start - start ≡ 0 = omega arith in ap (λ k. window (bytes_of_words (w ∷ words)) k 4) here
 
 second_window : (start w x : ℕ) (words : List ℕ) → window (bytes_of_words (w ∷ x ∷ words)) (start + 4 - start) 4 ≡ word_bytes x
 second_window start w x words = let here : start + 4 - start ≡ 4 = omega arith in ap (λ k. window (bytes_of_words (w ∷ x ∷ words)) k 4) here
 
--- ---- blocks
+-- ---- sequences
 
 one_use_rows : (kind : LabelUse) → Bridge kind → (flags : IsaFlags) (targets : ℕ → ℕ) (start : ℕ) (label : MachLabel) (d : Decoded) (words bytes : List ℕ) → AreOps words (d ∷ []) → UsesStand start words (use_at start label kind ∷ []) → AllBytes bytes → IsPatchedTo targets start (bytes_of_words words) (use_at start label kind ∷ []) bytes →
     StandOps flags bytes start (with_immediate (between start (targets 0)) d ∷ [])
@@ -119,7 +119,7 @@ one_use_rows kind bridge flags targets start label d (w ∷ []) bytes h used fit
       tt,
     )
 
--- a branch, and a jump behind it
+-- a branch, and a jump after it
 two_use_rows : (flags : IsaFlags) (targets : ℕ → ℕ) (start : ℕ) (t f : MachLabel) (c d : Decoded) (words bytes : List ℕ) → AreOps words (c ∷ d ∷ []) → UsesStand start words (use_at start t B12 ∷ use_at (start + 4) f Jal20 ∷ []) → AllBytes bytes → IsPatchedTo targets start (bytes_of_words words) (use_at start t B12 ∷ use_at (start + 4) f Jal20 ∷ []) bytes →
     StandOps flags bytes start (with_immediate (between start (targets 0)) c ∷ with_immediate (between (start + 4) (targets 1)) d ∷ [])
 two_use_rows flags targets start t f c d [] bytes h used fits p = absurd h
@@ -137,7 +137,7 @@ two_use_rows flags targets start t f c d (w ∷ x ∷ []) bytes h used fits p =
       ),
     )
 
--- the rows of an instruction stand in finished code, by the distances from its uses to where they aim
+-- the operations of an instruction stand in finished code, by the distances from its uses to where they aim
 pub patched_rows : (flags : IsaFlags) (targets : ℕ → ℕ) (start : ℕ) (inst : Inst) (words bytes : List ℕ) → AreOps words (ops_of no_distance inst) → UsesStand start words (uses_in start inst) → AllBytes bytes → IsPatchedTo targets start (bytes_of_words words) (uses_in start inst) bytes → StandOps flags bytes start (ops_of (distances targets start) inst)
 patched_rows flags targets start (Jal label) words bytes h used fits p = one_use_rows Jal20 decode-patched_jump flags targets start label (decoded_jump (pos 0)) words bytes h used fits p
 patched_rows flags targets start (CondBr Fallthrough f kind) words bytes h used fits p = tt

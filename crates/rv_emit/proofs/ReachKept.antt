@@ -1,4 +1,4 @@
--- How a block and an island keep Reach, and how many uses wait behind them.
+-- How a sequence and an island keep Reach, and how many uses are pending after them.
 use Rattle.std.proofs.Common.{◌≡◌, ℕ, zero, suc, ◌+◌, ◌*◌, ◌≤◌, Bool, true, false, cond, List, [], ◌∷◌, ◌++◌, length, Option, Some, None, refl, ap, sym, ◌∙◌, subst, arith, ⊎_elim, append_assoc}
 use Rattle.std.specs.Prelude.{slice_get, nat_eq, pos}
 use Rattle.std.proofs.lemmas.Option.{same_Some}
@@ -9,20 +9,21 @@ use Rattle.rv_inst.specs.declared.inst.Inst.TheVariants.{Jal, CondBr, Mov, MovFr
 use Rattle.rv_inst.specs.declared.inst.CondBrTarget.TheVariants.{Label, Fallthrough}
 use Rattle.rv_inst.specs.declared.label_use.LabelUse.{LabelUse}
 use Rattle.rv_inst.specs.declared.label_use.LabelUse.TheVariants.{Jal20, B12}
-use Rattle.rv_inst.specs.LabelUse.{forward_of, backward_of, has_veneer_of}
+use Rattle.rv_inst.specs.LabelUse.{label_kinds, has_veneer_of}
 use Rattle.rv_inst.specs.Operands.{inst_labels}
+use Rattle.rv_base.specs.LabelUse.{Kinds}
 use Rattle.rv_machine.specs.declared.decoding.Decoded.{Decoded}
 use Rattle.mach_buffer.specs.declared.uses.Use.{Use}
 use Rattle.mach_buffer.specs.Reach.{CanReach, HasSlack, deadline, deadlines, is_pending, is_needed}
 use Rattle.mach_buffer.specs.Buffer.{bytes_of, uses_of, place_of}
-use Rattle.mach_buffer.proofs.Slack.{deadlines_append, slack_use, slack_less, slack_not_needed, reach_from_slack}
+use Rattle.mach_buffer.proofs.Laws.{deadlines_append, slack_use, slack_less, slack_not_needed, reach_from_slack}
 use Rattle.rv_emit.specs.Operations.{no_distance, ops_of, move_ops, decoded_addi}
 use Rattle.rv_emit.specs.Emitted.{Buffer, pending, AppendsCode, AreOps, AppendsInst, IslandIfNeeded, CanEmit, IsBounded, bytes_of_words}
 use Rattle.rv_inst.specs.Uses.{use_at, uses_in}
 
--- whether a use waits
+-- whether a use is pending
 abbrev pub waits : (ℕ → Option ℕ) → Use LabelUse → Bool
-waits place = is_pending has_veneer_of forward_of backward_of place
+waits place = is_pending label_kinds place
 
 -- ---- uses of an instruction
 
@@ -49,7 +50,7 @@ pub each_more : {X : Type 0} (P : X → Type 0) (x : X) (xs : List X) → P x �
 each_more P x xs p rest zero y h = subst P (same_Some _ _ h) p
 each_more P x xs p rest (suc k) y h = rest k y h
 
--- what holds of each use that may stand in a block holds of those of an instruction
+-- what holds of each use that may stand in a sequence holds of those of an instruction
 pub each_use : (P : Use LabelUse → Type 0) (start : ℕ) (inst : Inst) → ((label : MachLabel) → P (use_at start label Jal20)) → ((label : MachLabel) → P (use_at start label B12)) → ((label : MachLabel) → P (use_at (start + 4) label Jal20)) → Each P (uses_in start inst)
 each_use P start inst jump branch second =
     each_uses (Each P) start inst (each_none P)
@@ -58,8 +59,8 @@ each_use P start inst jump branch second =
     (λ t f. each_more P _ (use_at (start + 4) f Jal20 ∷ []) (branch t) (each_more P _ [] (second f) (each_none P)))
 
 -- each reaches over 4094 bytes
-pub uses_far : (start : ℕ) (inst : Inst) → Each (λ u. start + 4094 ≤ deadline forward_of u) (uses_in start inst)
-uses_far start inst = each_use (λ u. start + 4094 ≤ deadline forward_of u) start inst (λ label. omega arith) (λ label. omega arith) (λ label. omega arith)
+pub uses_far : (start : ℕ) (inst : Inst) → Each (λ u. start + 4094 ≤ deadline label_kinds u) (uses_in start inst)
+uses_far start inst = each_use (λ u. start + 4094 ≤ deadline label_kinds u) start inst (λ label. omega arith) (λ label. omega arith) (λ label. omega arith)
 
 -- each may go by a veneer
 pub uses_kinds : (start : ℕ) (inst : Inst) → Each (λ u. has_veneer_of u.kind ≡ true) (uses_in start inst)
@@ -69,7 +70,7 @@ uses_kinds start inst = each_use (λ u. has_veneer_of u.kind ≡ true) start ins
 pub uses_bare : (start : ℕ) (inst : Inst) → Each (λ u. u.veneer ≡ None) (uses_in start inst)
 uses_bare start inst = each_use (λ u. u.veneer ≡ None) start inst (λ label. refl) (λ label. refl) (λ label. refl)
 
--- ---- bytes of a block
+-- ---- bytes of a sequence
 
 few_moves : (rd rs : ℕ) → length (move_ops rd rs) ≤ 2
 few_moves rd rs = on (nat_eq rd rs)
@@ -106,17 +107,17 @@ bytes_after inst old new p =
     let b : length (bytes_of new) ≡ length (bytes_of old) + length (bytes_of_words p.words) = ap length p.adds.bytes ∙ length-append (bytes_of old) (bytes_of_words p.words) in
     omega arith
 
--- ---- what waits
+-- ---- what is pending
 
--- what waits once uses are added
-pub pending_adds : {block : List ℕ} {own : List (Use LabelUse)} {old new : Buffer} → AppendsCode block own old new → pending new ≡ deadlines (waits (place_of old)) forward_of (uses_of old ++ own)
-pending_adds a = λ i. deadlines (waits (a.places i)) forward_of (a.uses i)
+-- what is pending once uses are added
+pub pending_adds : {block : List ℕ} {own : List (Use LabelUse)} {old new : Buffer} → AppendsCode block own old new → pending new ≡ deadlines (waits (place_of old)) label_kinds (uses_of old ++ own)
+pending_adds a = λ i. deadlines (waits (a.places i)) label_kinds (a.uses i)
 
-pub few_deadlines : {L : Type 0} (test : Use L → Bool) (forward : L → ℕ) (uses : List (Use L)) → length (deadlines test forward uses) ≤ length uses
-few_deadlines test forward [] = omega arith
-few_deadlines test forward (u ∷ uses) = on (test u) (few_deadlines test forward uses)
+pub few_deadlines : {L : Type 0} (test : Use L → Bool) (kinds : Kinds L) (uses : List (Use L)) → length (deadlines test kinds uses) ≤ length uses
+few_deadlines test kinds [] = omega arith
+few_deadlines test kinds (u ∷ uses) = on (test u) (few_deadlines test kinds uses)
   where
-    on : (c : Bool) → length (deadlines test forward uses) ≤ length uses → length (cond c (deadline forward u ∷ deadlines test forward uses) (deadlines test forward uses)) ≤ suc (length uses)
+    on : (c : Bool) → length (deadlines test kinds uses) ≤ length uses → length (cond c (deadline kinds u ∷ deadlines test kinds uses) (deadlines test kinds uses)) ≤ suc (length uses)
     on true le = omega arith
     on false le = omega arith
 
@@ -125,9 +126,9 @@ pub pending_uses : (inst : Inst) (old new : Buffer) → AppendsInst inst old new
 pending_uses inst old new p =
     let own = uses_in (length (bytes_of old)) inst in
     let test = waits (place_of old) in
-    let whole : length (pending new) ≡ length (pending old) + length (deadlines test forward_of own) =
-    ap length (pending_adds p.adds ∙ deadlines_append test forward_of (uses_of old) own) ∙ length-append (pending old) (deadlines test forward_of own) in
-    let few = few_deadlines test forward_of own in
+    let whole : length (pending new) ≡ length (pending old) + length (deadlines test label_kinds own) =
+    ap length (pending_adds p.adds ∙ deadlines_append test label_kinds (uses_of old) own) ∙ length-append (pending old) (deadlines test label_kinds own) in
+    let few = few_deadlines test label_kinds own in
     omega arith
 
 pub pending_after : (inst : Inst) (old new : Buffer) → AppendsInst inst old new → length (pending new) ≤ length (pending old) + 2
@@ -141,7 +142,7 @@ no_uses start (CondBr (Label t) Fallthrough kind) e = absurd (cc)
 no_uses start (CondBr (Label t) (Label f) kind) e = absurd (cc)
 no_uses start _ e = refl
 
--- a block is within its bounds
+-- a sequence is within its bounds
 pub block_bounds : (inst : Inst) (old new : Buffer) → AppendsInst inst old new → IsBounded inst old new
 block_bounds inst old new p asks = record {
   long = let a = bytes_after inst old new p in omega arith;
@@ -152,14 +153,14 @@ block_bounds inst old new p asks = record {
 -- ---- Reach
 
 -- uses are recorded: eight bytes of slack for each
-pub slack_uses : (test : Use LabelUse → Bool) (cur slack : ℕ) (uses own : List (Use LabelUse)) → Each (λ u. cur + slack + 8 * length own ≤ deadline forward_of u) own → HasSlack cur (slack + 8 * length own) (deadlines test forward_of uses) → HasSlack cur slack (deadlines test forward_of (uses ++ own))
+pub slack_uses : (test : Use LabelUse → Bool) (cur slack : ℕ) (uses own : List (Use LabelUse)) → Each (λ u. cur + slack + 8 * length own ≤ deadline label_kinds u) own → HasSlack cur (slack + 8 * length own) (deadlines test label_kinds uses) → HasSlack cur slack (deadlines test label_kinds (uses ++ own))
 slack_uses test cur slack uses [] far h =
-    subst (λ us. HasSlack cur slack (deadlines test forward_of us)) (sym (append-nil uses)) (slack_less cur (slack + 8 * 0) cur slack _ (omega arith) h)
+    subst (λ us. HasSlack cur slack (deadlines test label_kinds us)) (sym (append-nil uses)) (slack_less cur (slack + 8 * 0) cur slack _ (omega arith) h)
 slack_uses test cur slack uses (u ∷ own) far h =
     let least = far 0 u refl in
-    let first : HasSlack cur (slack + 8 * length own) (deadlines test forward_of (uses ++ u ∷ [])) =
-    slack_use test forward_of cur (slack + 8 * length own) uses u (omega arith) (slack_less cur (slack + 8 * suc (length own)) cur (slack + 8 * length own + 8) _ (omega arith) h) in
-    subst (λ us. HasSlack cur slack (deadlines test forward_of us)) (append_assoc uses (u ∷ []) own)
+    let first : HasSlack cur (slack + 8 * length own) (deadlines test label_kinds (uses ++ u ∷ [])) =
+    slack_use test label_kinds cur (slack + 8 * length own) uses u (omega arith) (slack_less cur (slack + 8 * suc (length own)) cur (slack + 8 * length own + 8) _ (omega arith) h) in
+    subst (λ us. HasSlack cur slack (deadlines test label_kinds us)) (append_assoc uses (u ∷ []) own)
     (slack_uses test cur slack (uses ++ u ∷ []) own (λ k v e. let f = far (suc k) v e in omega arith) first)
 
 -- where no island is needed before 88 bytes, Reach holds
@@ -177,10 +178,10 @@ reach_after inst old new can p =
     let few : length own ≤ 2 = few_uses start inst in
     let spare : HasSlack cur (14 + 8 * length own) (pending old) =
     slack_less (start + 88) 30 cur (14 + 8 * length own) (pending old) (omega arith) (slack_not_needed start 88 (pending old) can.calm) in
-    let far : Each (λ u. cur + 14 + 8 * length own ≤ deadline forward_of u) own = λ k u e. let f = uses_far start inst k u e in omega arith in
+    let far : Each (λ u. cur + 14 + 8 * length own ≤ deadline label_kinds u) own = λ k u e. let f = uses_far start inst k u e in omega arith in
     reach_from_slack cur (pending new) (subst (HasSlack cur 14) (sym (pending_adds p.adds)) (slack_uses (waits (place_of old)) cur 14 (uses_of old) own far spare))
 
--- an island leaves nothing that waits
+-- an island leaves nothing that is pending
 pub reach_after_island : (distance : ℕ) (old new : Buffer) (made : Bool) → IslandIfNeeded distance old new made → CanReach (length (bytes_of old)) (pending old) → CanReach (length (bytes_of new)) (pending new)
 reach_after_island distance old new made m h = ⊎_elim
     (λ same. subst (λ (b : Buffer). CanReach (length (bytes_of b)) (pending b)) (sym same.1) h)

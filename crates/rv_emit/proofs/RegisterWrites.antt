@@ -35,7 +35,7 @@ use Rattle.rv_emit.proofs.SequenceStart.{writes, ends_here}
 
 -- ---- operations of two registers
 
--- what the row of an operation does
+-- what an operation does
 rrr_acts : (op : AluOPRRR) (rd rs1 rs2 : ℕ) (s : State) → act (decoded_rrr op rd rs1 rs2) s ≡ Some (at (wrap (s.pc + 4)) (set_reg s.values rd (alu_rrr op (reg s.values rs1) (reg s.values rs2))))
 rrr_acts rrr.Add rd rs1 rs2 s = refl
 rrr_acts _ rd rs1 rs2 s = refl
@@ -57,9 +57,9 @@ alu_rrr_runs flags targets start op rd rs1 rs2 h h1 h2 = record {
       (omega arith) (rrr_fits op (reg v m) (reg v n) (b.are_values.fits m) (b.are_values.fits n));
 }
 
--- ---- operations of a register and a number
+-- ---- operations of a register and an immediate
 
--- what the row of an operation does, by the bits that it keeps of its number
+-- what an operation does, by the bits that it keeps of its immediate
 rri_acts : (op : AluOPRRI) (rd rs : ℕ) (imm : ℤ) (s : State) → act (decoded_rri op rd rs imm) s ≡ Some (at (wrap (s.pc + 4)) (set_reg s.values rd (alu_result (rri_op op) (reg s.values rs) 0 (low64 (kept_bits (rri_numbers op).number imm)))))
 rri_acts rri.Addi rd rs imm s = refl
 rri_acts _ rd rs imm s = refl
@@ -67,7 +67,7 @@ rri_acts _ rd rs imm s = refl
 below_limit : (limit n : ℕ) → nat_le limit n ≡ false → n < limit
 below_limit limit n h = grind (arith, nat_tests)
 
--- an amount in its range is kept_bits whole
+-- a shift amount in its range is kept whole
 kept_amount : (limit : ℕ) (imm : ℤ) → 0 < limit → is_beyond (Some limit) imm ≡ false → pos (low_bits (2 ^ 12) imm % limit) ≡ imm
 kept_amount limit (pos n) some h = let lt = below_limit limit n h in ap pos (omega (arith, mod_small n limit lt))
   where
@@ -75,7 +75,7 @@ kept_amount limit (pos n) some h = let lt = below_limit limit n h in ap pos (ome
     mod_small n m lt = grind arith
 kept_amount limit (negsuc n) some h = absurd (cc)
 
--- the rows of one source don't look at the number
+-- the operations of one source don't look at the immediate
 rri_same : (op : AluOPRRI) (x : ℕ) (imm : ℤ) → is_beyond (shift_limit (rri_numbers op).number) imm ≡ false → alu_result (rri_op op) x 0 (low64 (kept_bits (rri_numbers op).number imm)) ≡ alu_rri op x imm
 rri_same rri.Slli x imm h = ap (λ z. alu_result (rri_op rri.Slli) x 0 (low64 z)) (kept_amount 64 imm (lit< tt) h)
 rri_same rri.Srli x imm h = ap (λ z. alu_result (rri_op rri.Srli) x 0 (low64 z)) (kept_amount 64 imm (lit< tt) h)

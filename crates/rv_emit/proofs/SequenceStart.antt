@@ -1,4 +1,4 @@
--- From the start of a block to its end.
+-- From the start of a sequence to its end.
 use Rattle.std.proofs.Common.{◌≡◌, ℕ, ◌+◌, ◌^◌, ◌<◌, ◌≤◌, false, List, [], ◌∷◌, Some, arith, refl, ap, ◌∙◌, lit≤}
 use Rattle.rv_base.specs.declared.flags.IsaFlags.{IsaFlags}
 use Rattle.rv_machine.specs.declared.decoding.Decoded.{Decoded}
@@ -11,11 +11,11 @@ use Rattle.rv_emit.specs.Runs.{Begins, ComesTo}
 use Rattle.rv_emit.proofs.Registers.{same_set, are_values_set}
 use Rattle.rv_emit.proofs.Steps.{istep_at, iter_none, iter_one, iter_after}
 
--- the machine stands at the first row
+-- the machine stands at the first operation
 begins_at : (flags : IsaFlags) (base start after : ℕ) (d : Decoded) (ds : List Decoded) (s : State) (v : Values) → Begins flags base start after (d ∷ ds) s v → s.pc ≡ base + start
 begins_at flags base start after d ds s v b = let room = b.room in let long = b.long in let pc = b.pc in omega arith
 
--- the row at the first word is done
+-- the operation at the first word is done
 pub first_step : {t : State} (flags : IsaFlags) (base start after : ℕ) (d : Decoded) (ds : List Decoded) (s : State) (v : Values) → Begins flags base start after (d ∷ ds) s v → act d s ≡ Some t → istep flags s ≡ Some t
 first_step flags base start after d ds s v b acts =
     let here = begins_at flags base start after d ds s v b in
@@ -64,7 +64,7 @@ ends_both flags first second v w s e f = record {
   kept = f.kept ∙ e.kept;
 }
 
--- a row that writes one register and goes on
+-- a operation that writes one register and goes on
 pub writes : (flags : IsaFlags) (base start after n x : ℕ) (d : Decoded) (s : State) (v : Values) → Begins flags base start after (d ∷ []) s v → act d s ≡ Some (at (wrap (s.pc + 4)) (set_reg s.values n x)) → n < 32 → x < 2 ^ 64 → ComesTo flags 0 (wrap (base + after)) (set_reg v n x) s
 writes flags base start after n x d s v b does lt fits =
     ends_one flags s (wrap (s.pc + 4)) (wrap (base + after)) (set_reg v n x) (set_reg s.values n x)

@@ -1,4 +1,4 @@
--- A block runs as its instruction means, once its uses are patched.
+-- A sequence runs as its instruction means, once its uses are patched.
 use Rattle.std.proofs.Common.{◌≡◌, ℕ, ◌+◌, ◌*◌, ◌%◌, Bool, true, false, List, [], ◌∷◌, length, drop, None, ℤ, arith, refl, sym, ap, subst, ◌∙◌}
 use Rattle.std.proofs.Math.Seq.{drop-append_seam}
 use Rattle.std.specs.Prelude.{if◌then◌else◌}
@@ -32,7 +32,7 @@ four_each [] (d ∷ rows) h = absurd h
 four_each (w ∷ words) [] h = absurd h
 four_each (w ∷ words) (d ∷ rows) h = let e = four_each words rows h.2 in omega arith
 
--- how many rows an instruction has does not depend on distances
+-- how many operations an instruction has does not depend on distances
 same_count : (distance other : ℕ → ℤ) (inst : Inst) → length (ops_of distance inst) ≡ length (ops_of other inst)
 same_count distance other (CondBr Fallthrough f kind) = refl
 same_count distance other (CondBr (Label t) Fallthrough kind) = refl
@@ -54,9 +54,9 @@ halts flags targets start EBreak words bytes v h p e = unused_rows flags targets
 halts flags targets start (CondBr t f kind) words bytes v h p e = absurd (never_either (holds kind.kind (reg v (number_of kind.rs1)) (reg v (number_of kind.rs2))) t f e)
 halts flags targets start _ words bytes v h p e = absurd (cc)
 
--- ---- the block
+-- ---- the sequence
 
--- the machine stands before the block's rows
+-- the machine stands before the sequence's operations
 block_begins : (flags : IsaFlags) (targets : ℕ → ℕ) (start : ℕ) (inst : Inst) (words bytes : List ℕ) (base : ℕ) (s : State) (v : Values) → start % 2 ≡ 0 → AreOps words (ops_of no_distance inst) → UsesStand start words (uses_in start inst) → IsPatchedTo targets start (bytes_of_words words) (uses_in start inst) bytes →
     BytesStand base bytes s.values.mem → s.pc ≡ wrap (base + start) → IsState s → AreValues v → Same v s.values → Begins flags base start (start + length (bytes_of_words words)) (ops_of (distances targets start) inst) s v
 block_begins flags targets start inst words bytes base s v even h used p placed here state values same =

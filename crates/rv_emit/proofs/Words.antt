@@ -129,10 +129,9 @@ pub adds_more : (b1 b2 : List ℕ) (u1 u2 : List (Use LabelUse)) (old mid new : 
 adds_more b1 b2 u1 u2 old mid new a b = record {
   bytes = b.bytes ∙ ap (λ bs. bs ++ b2) a.bytes ∙ append_assoc (bytes_of old) b1 b2;
   uses = b.uses ∙ ap (λ us. us ++ u2) a.uses ∙ append_assoc (uses_of old) u1 u2;
-  veneers = b.veneers ∙ a.veneers;
   places = b.places ∙ a.places;
   labels = b.labels ∙ a.labels;
-  drawn = b.drawn ∙ a.drawn;
+  allocated = b.allocated ∙ a.allocated;
   sound = b.sound;
 }
 
@@ -140,7 +139,7 @@ adds_more b1 b2 u1 u2 old mid new a b = record {
 pub four_longer : (old new : Buffer) (w : ℕ) (own : List (Use LabelUse)) → AppendsCode (word_bytes w) own old new → length (bytes_of new) ≡ length (bytes_of old) + 4
 four_longer old new w own a = ap (length {A = ℕ}) a.bytes ∙ length-append (bytes_of old) (word_bytes w)
 
--- a branch, and a jump behind it
+-- a branch, and a jump after it
 pub puts_both : (old mid new : Buffer) (kind : IntegerCompare) (w : ℕ) (t f : MachLabel) → IsBranch w kind → AppendsCode (word_bytes w) (use_at (length (bytes_of old)) t B12 ∷ []) old mid → AppendsCode (word_bytes 0x6f) (use_at (length (bytes_of mid)) f Jal20 ∷ []) mid new →
     AppendsWords (decoded_branch kind (pos 0) ∷ decoded_jump (pos 0) ∷ []) (use_at (length (bytes_of old)) t B12 ∷ use_at (length (bytes_of old) + 4) f Jal20 ∷ []) old new
 puts_both old mid new kind w t f b a c =

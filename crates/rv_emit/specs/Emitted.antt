@@ -10,7 +10,7 @@ use Rattle.rv_machine.specs.Layout.{word_opcode}
 use Rattle.rv_inst.specs.declared.inst.Inst.{Inst}
 use Rattle.rv_inst.specs.declared.label_use.LabelUse.{LabelUse}
 use Rattle.rv_inst.specs.declared.label_use.LabelUse.TheVariants.{Jal20, PCRel32, B12, PCRelHi20, PCRelLo12I}
-use Rattle.rv_inst.specs.LabelUse.{marks_of, forward_of, backward_of, has_veneer_of, veneer_of}
+use Rattle.rv_inst.specs.LabelUse.{label_kinds, marks_of}
 use Rattle.rv_inst.specs.LabelUseWords.{word_bytes}
 use Rattle.rv_inst.specs.Operands.{inst_labels}
 use Rattle.rv_inst.specs.Rules.{inst_rule}
@@ -19,8 +19,10 @@ use Rattle.rv_inst.specs.Uses.{use_at, uses_in}
 use Rattle.mach_buffer.specs.declared.buffer.MachBuffer.{MachBuffer}
 use Rattle.mach_buffer.specs.declared.uses.Use.{Use}
 use Rattle.mach_buffer.specs.Reach.{is_needed}
-use Rattle.mach_buffer.specs.Buffer.{bytes_of, uses_of, veneers_of, place_of, labels_of, drawn_of, pending_of, recorded, IsSound}
-use Rattle.mach_buffer.specs.Islands.{AreWindows, VeneersBehind}
+use Rattle.mach_buffer.specs.Buffer.{bytes_of, uses_of, place_of, labels_of, allocated_of, pending_of, IsSound}
+use Rattle.mach_buffer.specs.Shape.{recorded}
+use Rattle.mach_buffer.specs.Windows.{AreWindows}
+use Rattle.mach_buffer.specs.VeneerConditions.{AddsOwn}
 use Rattle.rv_emit.specs.Operations.{no_distance, ops_of}
 
 -- ---- buffers of code
@@ -29,26 +31,25 @@ abbrev pub Buffer : Type 0
 Buffer = MachBuffer LabelUse
 
 abbrev pub IsSoundBuffer : Buffer → Type 0
-IsSoundBuffer b = IsSound has_veneer_of forward_of backward_of veneer_of b
+IsSoundBuffer b = IsSound label_kinds b
 
 -- the windows of uses stand in the bytes, fresh and apart from one another and from veneers
 abbrev pub HasWindows : Buffer → Type 0
-HasWindows b = AreWindows marks_of (bytes_of b) (uses_of b) (veneers_of b)
+HasWindows b = AreWindows label_kinds (bytes_of b) (uses_of b)
 
 -- the deadlines of the pending uses
 abbrev pub pending : Buffer → List ℕ
-pending b = pending_of has_veneer_of forward_of backward_of b
+pending b = pending_of label_kinds b
 
--- ---- a block
+-- ---- a sequence
 
 -- bytes and uses were put at the end, and nothing else was changed
 pub record AppendsCode (block : List ℕ) (own : List (Use LabelUse)) (old new : Buffer) : Type 0 where
   pub bytes : bytes_of new ≡ bytes_of old ++ block
   pub uses : uses_of new ≡ uses_of old ++ own
-  pub veneers : veneers_of new ≡ veneers_of old
   pub places : place_of new ≡ place_of old
   pub labels : labels_of new ≡ labels_of old
-  pub drawn : drawn_of new ≡ drawn_of old
+  pub allocated : allocated_of new ≡ allocated_of old
   pub sound : IsSoundBuffer new
 
 -- the bytes of words
@@ -56,7 +57,7 @@ abbrev pub bytes_of_words : List ℕ → List ℕ
 bytes_of_words [] = []
 bytes_of_words (w ∷ words) = word_bytes w ++ bytes_of_words words
 
--- words decode to these rows, under all flags
+-- words decode to these operations, under all flags
 abbrev pub AreOps : List ℕ → List Decoded → Type 0
 AreOps [] [] = Unit {0}
 AreOps [] (d ∷ rows) = ⊥
@@ -77,14 +78,14 @@ UsesStand start words [] = Unit {0}
 UsesStand start [] (u ∷ uses) = ⊥
 UsesStand start (w ∷ words) (u ∷ uses) = (u.offset ≡ start) × IsFresh (marks_of u.kind) (word_bytes w) × (word_opcode w ≡ opcode_of u.kind) × (length (marks_of u.kind) ≡ 4) × UsesStand (start + 4) words uses
 
--- words that decode to these rows were put at the end, with these uses
+-- words that decode to these operations were put at the end, with these uses
 pub record AppendsWords (rows : List Decoded) (own : List (Use LabelUse)) (old new : Buffer) : Type 0 where
   pub words : List ℕ
   pub adds : AppendsCode (bytes_of_words words) own old new
   pub decode : AreOps words rows
   pub used : UsesStand (length (bytes_of old)) words own
 
--- the words of an instruction's rows with no distance in them yet, and its uses, were put at the end
+-- the words of an instruction's operations with no distance in them yet, and its uses, were put at the end
 abbrev pub AppendsInst : Inst → Buffer → Buffer → Type 0
 AppendsInst inst old new = AppendsWords (ops_of no_distance inst) (uses_in (length (bytes_of old)) inst) old new
 
@@ -92,15 +93,14 @@ AppendsInst inst old new = AppendsWords (ops_of no_distance inst) (uses_in (leng
 
 -- an island was put: a jump to a new label that is bound at the end, and the veneers of all that was pending
 pub record AppendsIsland (old new : Buffer) : Type 0 where
-  pub round : MachLabel
-  pub drawn_label : round.number ≡ 2 ^ 30 + drawn_of old
-  pub drawn : drawn_of new ≡ drawn_of old + 1
+  pub after_island : MachLabel
+  pub drawn_label : after_island.number ≡ 2 ^ 30 + allocated_of old
+  pub allocated : allocated_of new ≡ allocated_of old + 1
   pub jump : take (length (bytes_of old) + 4) (bytes_of new) ≡ bytes_of old ++ word_bytes 0x6f
   pub longer : length (bytes_of old) + 4 ≤ length (bytes_of new)
-  pub uses : recorded (uses_of new) ≡ recorded (uses_of old) ++ use_at (length (bytes_of old)) round Jal20 ∷ []
-  pub veneers : VeneersBehind (length (bytes_of old) + 4) (veneers_of old) (veneers_of new)
-  pub bound : place_of new round.number ≡ Some (length (bytes_of new))
-  pub places : (label : ℕ) → label ≢ round.number → place_of new label ≡ place_of old label
+  pub own : AddsOwn label_kinds (length (bytes_of old) + 4) (uses_of old ++ use_at (length (bytes_of old)) after_island Jal20 ∷ []) (uses_of new)
+  pub bound : place_of new after_island.number ≡ Some (length (bytes_of new))
+  pub places : (label : ℕ) → label ≢ after_island.number → place_of new label ≡ place_of old label
   pub labels : labels_of new ≡ labels_of old
   pub settled : pending new ≡ []
   pub aligned : length (bytes_of new) % 4 ≡ 0
@@ -120,10 +120,10 @@ pub record CanEmit (inst : Inst) (b : Buffer) : Type 0 where
   pub rule : inst_rule inst ≡ None
   pub sound : IsSoundBuffer b
   pub calm : is_needed (length (bytes_of b)) 88 (pending b) ≡ false
-  pub few : drawn_of b < 2 ^ 29
+  pub few : allocated_of b < 2 ^ 29
   pub room : length (bytes_of b) + inst_sum inst + 8 * length (pending b) + 32 < 2147479552
 
--- what it puts there: an island where one is asked for and needed, or else its block
+-- what it puts there: an island where one is asked for and needed, or else its sequence
 abbrev pub EmitsInst : Option ℕ → Inst → Buffer → Buffer → Type 0
 EmitsInst (Some space) inst old new = (made : Bool) × IslandIfNeeded space old new made
 EmitsInst None inst old new = AppendsInst inst old new

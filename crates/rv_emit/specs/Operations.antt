@@ -1,4 +1,4 @@
--- Which rows of the machine an instruction becomes, by the distances of its uses of labels: a link of the proof.
+-- Which operations of the machine an instruction becomes, by the distances of its uses of labels: a link of the proof.
 use Rattle.std.specs.Prelude.{ℕ, zero, suc, ◌+◌, ◌*◌, nat_eq, if◌then◌else◌, List, [], ◌∷◌, ℤ, pos, ◌-ℤ◌}
 use Rattle.rv_base.specs.Regs.{number_of}
 use Rattle.rv_ops.specs.declared.compare.IntegerCompare.{IntegerCompare}
@@ -20,7 +20,7 @@ use Rattle.rv_encode.specs.Operations.{row, decoded_rrr, decoded_rri, decoded_br
 abbrev pub between : ℕ → ℕ → ℤ
 between from to = pos to -ℤ pos from
 
--- from the uses of a block, of which each stands in a word of its own, to where they aim
+-- from the uses of a sequence, of which each stands in a word of its own, to where they aim
 abbrev pub distances : (ℕ → ℕ) → ℕ → ℕ → ℤ
 distances targets start zero = between start (targets 0)
 distances targets start (suc k) = between (start + 4 * suc k) (targets (suc k))
@@ -29,16 +29,16 @@ distances targets start (suc k) = between (start + 4 * suc k) (targets (suc k))
 abbrev pub no_distance : ℕ → ℤ
 no_distance k = pos 0
 
--- ---- rows
+-- ---- operations
 
--- rd is rs plus a number
+-- rd is rs plus an immediate
 abbrev pub decoded_addi : ℕ → ℕ → ℤ → Decoded
 decoded_addi rd rs imm = row (Alu (Int int.Addi)) rd rs 0 imm
 
 abbrev pub decoded_ebreak : Decoded
 decoded_ebreak = bare_form (Base base.Ebreak)
 
--- to a register's address plus a number
+-- to a register's address plus an immediate
 abbrev pub decoded_jalr : ℕ → ℕ → ℤ → Decoded
 decoded_jalr rd rs imm = row (Base base.Jalr) rd rs 0 imm
 
@@ -56,7 +56,7 @@ branch_ops distance kind Fallthrough not_taken = []
 branch_ops distance kind (Label t) Fallthrough = decoded_branch kind (distance 0) ∷ []
 branch_ops distance kind (Label t) (Label f) = decoded_branch kind (distance 0) ∷ decoded_jump (distance 1) ∷ []
 
--- the rows of an instruction; those that put an island where one is needed have none of their own
+-- the operations of an instruction; those that put an island where one is needed have none of their own
 abbrev pub ops_of : (ℕ → ℤ) → Inst → List Decoded
 ops_of distance Nop0 = []
 ops_of distance Nop4 = decoded_addi 0 0 (pos 0) ∷ []

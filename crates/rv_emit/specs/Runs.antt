@@ -1,4 +1,4 @@
--- What it is for the rows of an instruction to run as the instruction means: links of the proof.
+-- What it is for the operations of an instruction to run as the instruction means: links of the proof.
 use Rattle.std.specs.Prelude.{◌≡◌, ℕ, ◌+◌, ◌*◌, ◌%◌, ◌^◌, ◌<◌, ◌≤◌, if◌then◌else◌, List, [], ◌∷◌, length, Some}
 use Rattle.rv_base.specs.declared.flags.IsaFlags.{IsaFlags}
 use Rattle.rv_base.specs.declared.regs.Reg.{Reg}
@@ -17,12 +17,12 @@ use Rattle.rv_machine.specs.State.{State, IsState, Values, AreValues, Memory, re
 use Rattle.rv_machine.specs.Steps.{fetch, iter}
 use Rattle.rv_emit.specs.Operations.{distances, ops_of}
 
--- words that decode to these rows stand in the memory from an address on
+-- words that decode to these operations stand in the memory from an address on
 abbrev pub HasOps : IsaFlags → Memory → ℕ → List Decoded → Type 0
 HasOps flags mem a [] = Unit {0}
 HasOps flags mem a (d ∷ rows) = (decode flags (fetch mem a) ≡ Some d) × HasOps flags mem (a + 4) rows
 
--- a machine before the rows of a line, beside the listing's values
+-- a machine before the operations of a line, beside the listing's values
 pub record Begins (flags : IsaFlags) (base start after : ℕ) (rows : List Decoded) (s : State) (v : Values) : Type 0 where
   pub base_aligned : base % 4 ≡ 0
   pub start_even : start % 2 ≡ 0
@@ -77,6 +77,6 @@ exit_address place base start after Break = wrap (base + start)
 abbrev pub placement : ℕ → ℕ → ℕ → Placement
 placement base start after = record { start = wrap (base + start); after = wrap (base + after) }
 
--- the rows of an instruction run as it means, wherever they stand, with each use taken as reaching its target
+-- the operations of an instruction run as it means, wherever they stand, with each use taken as reaching its target
 pub record Runs (flags : IsaFlags) (targets : ℕ → ℕ) (start : ℕ) (inst : Inst) : Type 0 where
   pub run : (base after : ℕ) (s : State) (v : Values) → Begins flags base start after (ops_of (distances targets start) inst) s v → ComesTo flags (least_steps (used_exit inst v)) (exit_address targets base start after (used_exit inst v)) (inst_effect (placement base start after) inst v) s

@@ -10,7 +10,7 @@ ghost use Rattle.rv_emit.specs.Sequences.{AppendedRuns};
 use crate::island::emit_island_if_needed;
 use crate::sequence::put_sequence;
 use crate::state::{EmitInfo, EmitState};
-use mach_buffer::buffer::MachBuffer;
+use mach_buffer::MachBuffer;
 use rv_base::OutOfMemory;
 use rv_inst::{EmitError, Inst, LabelUse};
 use std::alloc::Global;
@@ -39,7 +39,7 @@ pub trait MachInstEmit {
     /// By the vector unit's setting known before it, that known after it.
     ghost setting_after: { Self → Setting → Setting };
 
-    /// Puts the block. Its only refusal is for want of memory; the buffer is then spoiled.
+    /// Puts the sequence. It fails only when out of memory; the buffer is then spoiled.
     fn emit(
         &self,
         alloc: Global,
@@ -87,7 +87,7 @@ impl MachInstEmit for Inst {
     }
 }
 
-/// Puts the block of an instruction, or an island where the instruction asks for one.
+/// Puts the sequence of an instruction, or an island where the instruction asks for one.
 fn put(sink: &mut MachBuffer<LabelUse>, inst: &Inst) -> Result<(), OutOfMemory>
     requires { CanEmit inst.now sink.old }
     ensures emitted { OnOk result (Emitted inst.now sink.old sink.new) }

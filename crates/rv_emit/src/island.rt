@@ -1,23 +1,23 @@
-//! Islands: where one is needed, a jump round it and the veneers of all that is pending.
+//! Islands: where one is needed, a jump over it and the veneers of all that is pending.
 
 ghost use Rattle.std.specs.Prelude.{◌≡◌, ◌+◌, ◌*◌, ◌<◌, ◌^◌, length, IfOk, OnOk, OnErr, true};
 ghost use Rattle.mach_buffer.specs.Reach.{CanReach};
-ghost use Rattle.mach_buffer.specs.Buffer.{bytes_of, drawn_of, spoiled_of};
+ghost use Rattle.mach_buffer.specs.Buffer.{bytes_of, allocated_of, spoiled_of};
 ghost use Rattle.rv_emit.specs.Emitted.{IsSoundBuffer, pending, AppendsIsland, IslandIfNeeded};
 
 use crate::sequence::put_jump;
-use mach_buffer::buffer::MachBuffer;
+use mach_buffer::MachBuffer;
 use rv_base::OutOfMemory;
 use rv_inst::LabelUse;
 
-/// Puts an island where one is needed before so many bytes. Whether it did.
+/// Puts an island where one is needed before so many bytes. Returns whether it did.
 pub fn emit_island_if_needed(
     sink: &mut MachBuffer<LabelUse>,
     distance: u32,
 ) -> Result<bool, OutOfMemory>
     requires sound { IsSoundBuffer sink.old }
     requires reach { CanReach (length (bytes_of sink.old)) (pending sink.old) }
-    requires few { drawn_of sink.old < 2 ^ 30 }
+    requires few { allocated_of sink.old < 2 ^ 30 }
     requires room { length (bytes_of sink.old) + 8 * length (pending sink.old) + 32 < 2147479552 }
     ensures made { IfOk result (λ made. IslandIfNeeded distance sink.old sink.new made) }
     ensures refused { OnErr result (spoiled_of sink.new ≡ true) }
@@ -33,13 +33,13 @@ pub fn emit_island_if_needed(
 fn put_island(sink: &mut MachBuffer<LabelUse>) -> Result<(), OutOfMemory>
     requires sound { IsSoundBuffer sink.old }
     requires reach { CanReach (length (bytes_of sink.old)) (pending sink.old) }
-    requires few { drawn_of sink.old < 2 ^ 30 }
+    requires few { allocated_of sink.old < 2 ^ 30 }
     requires room { length (bytes_of sink.old) + 8 * length (pending sink.old) + 32 < 2147479552 }
     ensures island { OnOk result (AppendsIsland sink.old sink.new) }
     ensures refused { OnErr result (spoiled_of sink.new ≡ true) }
 {
-    let round = sink.get_label()?;
-    put_jump(sink, round)?;
-    sink.emit_island(round)?;
+    let after_island = sink.get_label()?;
+    put_jump(sink, after_island)?;
+    sink.emit_island(after_island)?;
     Ok(())
 }

@@ -11,7 +11,8 @@ ghost use Rattle.rv_encode.specs.Operations.{decoded_branch};
 ghost use Rattle.rv_inst.specs.declared.label_use.LabelUse.TheVariants.{Jal20, B12};
 ghost use Rattle.rv_inst.specs.LabelUseWords.{word_bytes};
 ghost use Rattle.rv_inst.specs.Rules.{inst_rule};
-ghost use Rattle.mach_buffer.specs.Buffer.{bytes_of, drawn_of, spoiled_of, IsKnown};
+ghost use Rattle.mach_buffer.specs.Buffer.{bytes_of, allocated_of, spoiled_of};
+ghost use Rattle.mach_buffer.specs.Shape.{IsKnown};
 ghost use Rattle.rv_emit.specs.Usable.{IsFine, IsFineBranch};
 ghost use Rattle.rv_emit.specs.Emitted.{IsSoundBuffer, AppendsCode, AppendsWords, AppendsInst};
 ghost use Rattle.rv_inst.specs.Uses.{use_at, branch_uses};
@@ -19,7 +20,7 @@ ghost use Rattle.rv_inst.specs.Families.{family_of};
 ghost use Rattle.rv_inst.specs.declared.inst.Family.TheVariants.{Pseudo, Integer, Control};
 ghost use Rattle.rv_emit.specs.Operations.{move_ops, branch_ops, decoded_jump, no_distance};
 
-use mach_buffer::buffer::MachBuffer;
+use mach_buffer::MachBuffer;
 use rv_base::{MachLabel, OutOfMemory, Reg, WritableReg, link_reg, writable_zero_reg, zero_reg};
 use rv_encode::{
     enc_auipc, enc_jalr, encode_alu_rr_imm12, encode_alu_rrr, encode_branch, encode_ebreak,
@@ -29,7 +30,7 @@ use rv_imms::Imm12;
 use rv_inst::{CondBrTarget, Family, Inst, LabelUse};
 use rv_ops::{AluOPRRI, IntegerCompare};
 
-/// Puts the block of an instruction that breaks no rule.
+/// Puts the sequence of an instruction that breaks no rule.
 pub(crate) fn put_sequence(sink: &mut MachBuffer<LabelUse>, inst: &Inst) -> Result<(), OutOfMemory>
     requires rule { inst_rule inst.now ≡ None }
     requires room { length (bytes_of sink.old) + 8 < 2147479552 }
@@ -216,7 +217,7 @@ fn jump_word() -> u32
 
 /// A jump to a label.
 pub(crate) fn put_jump(sink: &mut MachBuffer<LabelUse>, label: MachLabel) -> Result<(), OutOfMemory>
-    requires known { IsKnown label.number (drawn_of sink.old) }
+    requires known { IsKnown label.number (allocated_of sink.old) }
     requires room { length (bytes_of sink.old) + 4 < 2147479552 }
     requires sound { IsSoundBuffer sink.old }
     ensures block { OnOk result (AppendsWords (decoded_jump (pos 0) ∷ []) (use_at (length (bytes_of sink.old)) label Jal20 ∷ []) sink.old sink.new) }
@@ -234,7 +235,7 @@ fn put_use(
     label: MachLabel,
     kind: LabelUse,
 ) -> Result<(), OutOfMemory>
-    requires known { IsKnown label.number (drawn_of sink.old) }
+    requires known { IsKnown label.number (allocated_of sink.old) }
     requires room { length (bytes_of sink.old) + 4 < 2147479552 }
     requires sound { IsSoundBuffer sink.old }
     ensures added { OnOk result (AppendsCode (word_bytes word) (use_at (length (bytes_of sink.old)) label kind ∷ []) sink.old sink.new) }

@@ -1,6 +1,6 @@
 -- The kinds of use: what a window of each encodes, which bits hold it, how far it reaches, and the veneer.
 use Rattle.std.specs.Prelude.{◌≡◌, Option, Some, None, ℕ, ◌-◌, ◌/◌, ◌%◌, List, [], ◌∷◌, drop, ℤ, pos, negsuc, ◌+ℤ◌, ◌*ℤ◌, ◌-ℤ◌, int_le, Bool, true, false, ◌&&◌}
-use Rattle.rv_base.specs.LabelUse.{Veneer}
+use Rattle.rv_base.specs.LabelUse.{Veneer, Kinds}
 use Rattle.rv_base.specs.declared.reloc.Reloc.{Reloc}
 use Rattle.rv_base.specs.declared.reloc.Reloc.TheVariants.{RiscvCallPlt}
 use Rattle.rv_machine.specs.Layout.{b_imm, j_imm, u_imm, i_imm, u_bits, i_bits}
@@ -65,6 +65,10 @@ has_veneer_of PCRelLo12I = false
 -- auipc x31, 0 and jalr x0, 0(x31)
 abbrev pub veneer_of : LabelUse → Veneer LabelUse
 veneer_of kind = record { bytes = 0x97 ∷ 0x0f ∷ 0x00 ∷ 0x00 ∷ 0x67 ∷ 0x80 ∷ 0x0f ∷ 0x00 ∷ []; place = 0; kind = PCRel32 }
+
+-- all of these
+abbrev pub label_kinds : Kinds LabelUse
+label_kinds = record { aims = Aims; fields = marks_of; forward = forward_of; backward = backward_of; has_veneer = has_veneer_of; veneer = veneer_of }
 
 -- the pair of a call is filled as a far use is, whatever its addend
 abbrev pub kind_of_reloc : Reloc → ℤ → Option LabelUse

@@ -72,7 +72,7 @@ is_int_type F64 = false
 is_int_type F128 = false
 is_int_type (VectorOf v) = false
 
--- one more than the largest number that an operation takes, where that is an amount or an index
+-- one more than the largest immediate that an operation takes, where that is a shift amount or a bit's index
 abbrev pub shift_limit : Upper → Option ℕ
 shift_limit (Shamt6 funct6) = Some 64
 shift_limit (Shamt5 funct7) = Some 32

@@ -67,7 +67,7 @@ impl Inst {
     }
 }
 
-/// Whether a label is one of those that a buffer makes for itself.
+/// Returns whether a label is one of those that a buffer makes for itself.
 fn is_buffer_label(label: MachLabel) -> bool
     ensures { result ≡ is_buffer_label label }
 {

@@ -1,8 +1,8 @@
-//! The code of a job, and what is told of it. Offsets and lengths are in bytes from the code's start.
+//! The code of a job, and what is reported of it. Offsets and lengths are in bytes from the code's start.
 
 ghost use Rattle.std.specs.Prelude.{length, ◌<◌, ◌^◌};
 
-pub use mach_buffer::uses::LabelPlace;
+pub use mach_buffer::LabelPlace;
 use rv_base::List;
 
 /// Where the bytes of a line begin and end.

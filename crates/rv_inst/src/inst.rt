@@ -28,7 +28,7 @@ impl CondBrTarget {
         }
     }
 
-    /// Whether control goes on with the next line.
+    /// Returns whether control goes on with the next line.
     pub fn is_fallthrouh(&self) -> bool
         ensures { result ≡ is_none (label_of self.now) }
     {

@@ -11,22 +11,22 @@ use rv_base::{MachInstLabelUse, Reloc};
 /// A kind of use.
 #[derive(Clone, Copy, Debug, PartialEq, Eq)]
 pub enum LabelUse {
-    /// The number of a `jal`.
+    /// The immediate of a `jal`.
     Jal20,
-    /// The two numbers of an `auipc` and the instruction behind it.
+    /// The two immediates of an `auipc` and the instruction after it.
     PCRel32,
-    /// The number of a branch.
+    /// The immediate of a branch.
     B12,
-    /// The number of an `auipc` alone.
+    /// The immediate of an `auipc` alone.
     PCRelHi20,
-    /// The number of the instruction right behind an `auipc`, alone.
+    /// The immediate of the instruction right after an `auipc`, alone.
     PCRelLo12I,
 }
 
 impl LabelUse {
     ghost use Rattle.rv_inst.specs.LabelUse.{in_range};
 
-    /// Whether a label is in reach that lies so many bytes from the use.
+    /// Returns whether a label is in reach that lies so many bytes from the use.
     pub fn offset_in_range(self, offset: i64) -> bool
         ensures { result ≡ in_range self offset }
     {
@@ -35,21 +35,11 @@ impl LabelUse {
 }
 
 impl MachInstLabelUse for LabelUse {
-    ghost use Rattle.rv_inst.specs.LabelUse.{Aims, marks_of, forward_of, backward_of, has_veneer_of, veneer_of, kind_of_reloc};
+    ghost use Rattle.rv_inst.specs.LabelUse.{label_kinds, kind_of_reloc};
     ghost use Rattle.std.specs.Prelude.{refl};
     ghost use Rattle.std.proofs.Common.{rules};
 
-    ghost aims = { Aims };
-
-    ghost fields = { marks_of };
-
-    ghost forward = { forward_of };
-
-    ghost backward = { backward_of };
-
-    ghost has_veneer = { has_veneer_of };
-
-    ghost veneer = { veneer_of };
+    ghost kinds = { label_kinds };
 
     ghost of_reloc = { kind_of_reloc };
 
@@ -241,7 +231,7 @@ fn patch_branch(buffer: &mut [u8], bits: u32)
     write_word(buffer, word | branch_field(bits));
 }
 
-/// Puts a distance into an `auipc` and the number of the word behind it.
+/// Puts a distance into an `auipc` and the immediate of the word after it.
 fn patch_pair(buffer: &mut [u8], distance: u32)
     requires long { 8 ≤ length buffer.old }
     requires fresh { IsFresh (0x00 ∷ 0xf0 ∷ 0xff ∷ 0xff ∷ 0x00 ∷ 0x00 ∷ 0xf0 ∷ 0xff ∷ []) buffer.old }
@@ -271,7 +261,7 @@ fn patch_upper(buffer: &mut [u8], distance: u32)
     write_word(buffer, word | upper_field(distance));
 }
 
-/// Puts the lower part of a distance into the number of a word.
+/// Puts the lower part of a distance into the immediate of a word.
 fn patch_lower(buffer: &mut [u8], distance: u32)
     requires long { 4 ≤ length buffer.old }
     requires fresh { IsFresh (0x00 ∷ 0x00 ∷ 0xf0 ∷ 0xff ∷ []) buffer.old }

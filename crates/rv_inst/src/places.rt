@@ -12,7 +12,7 @@ use crate::inst::{Family, Inst};
 use crate::registers::{RegisterTest, control_has, is_other_class, plain_has};
 use rv_base::{ArgPair as Arg, PReg, Reg, RegClass, RetPair as Ret};
 
-/// Whether two registers are of different classes.
+/// Returns whether two registers are of different classes.
 fn differ_in_class(first: Reg, second: Reg) -> bool
     ensures { result ≡ differ_in_class first second }
 {
@@ -65,7 +65,7 @@ fn plain_misplaced(inst: &Inst) -> bool
     }
 }
 
-/// Whether some register has another class than its place asks.
+/// Returns whether some register has another class than its place asks.
 pub fn is_misplaced(inst: &Inst) -> bool
     ensures { result ≡ is_misplaced inst.now }
 {

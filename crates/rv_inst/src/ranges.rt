@@ -29,7 +29,7 @@ fn is_bad_move(rm: Reg, ty: IrType) -> bool
     }
 }
 
-/// Whether the instruction has a type that it doesn't take.
+/// Returns whether the instruction has a type that it doesn't take.
 pub fn has_bad_type(inst: &Inst) -> bool
     ensures { result ≡ has_bad_type inst.now }
 {
@@ -39,7 +39,7 @@ pub fn has_bad_type(inst: &Inst) -> bool
     }
 }
 
-/// Whether the number is no amount of the operation's width, where it takes one.
+/// Returns whether the number is no amount of the operation's width, where it takes one.
 fn is_amount_beyond(op: AluOPRRI, imm12: Imm12) -> bool
     ensures { result ≡ is_beyond (shift_limit (rri_numbers op).number) imm12.value }
 {
@@ -52,7 +52,7 @@ fn is_amount_beyond(op: AluOPRRI, imm12: Imm12) -> bool
     }
 }
 
-/// Whether the instruction has a number outside its range.
+/// Returns whether the instruction has a number outside its range.
 pub fn is_out_of_range(inst: &Inst) -> bool
     ensures { result ≡ is_out_of_range inst.now }
 {

@@ -40,7 +40,7 @@ fn is_virtual(reg: Reg) -> bool
     }
 }
 
-/// Whether a register isn't an integer register.
+/// Returns whether a register isn't an integer register.
 pub fn is_other_class(reg: Reg) -> bool
     ensures { result ≡ test_of RegisterTest.OtherClass reg }
 {
@@ -101,7 +101,7 @@ fn marks_has(test: RegisterTest, inst: &Inst) -> bool
     }
 }
 
-/// Whether the test holds of a register of a plain instruction.
+/// Returns whether the test holds of a register of a plain instruction.
 pub fn plain_has(test: RegisterTest, inst: &Inst) -> bool
     ensures { family_of inst.now ≡ Integer → result ≡ list_any (test_of test) (inst_registers inst.now) }
 {
@@ -126,7 +126,7 @@ pub fn plain_has(test: RegisterTest, inst: &Inst) -> bool
     }
 }
 
-/// Whether the test holds of a register of an instruction that goes elsewhere.
+/// Returns whether the test holds of a register of an instruction that goes elsewhere.
 pub fn control_has(test: RegisterTest, inst: &Inst) -> bool
     ensures { family_of inst.now ≡ Control → result ≡ list_any (test_of test) (inst_registers inst.now) }
 {
@@ -145,7 +145,7 @@ pub fn control_has(test: RegisterTest, inst: &Inst) -> bool
     }
 }
 
-/// Whether the test holds of a register of the instruction.
+/// Returns whether the test holds of a register of the instruction.
 pub fn has_register(test: RegisterTest, inst: &Inst) -> bool
     ensures { result ≡ list_any (test_of test) (inst_registers inst.now) }
 {

@@ -26,7 +26,7 @@ pub struct Decoded {
     pub imm: i64,
     /// The rounding mode.
     pub rm: u8,
-    /// Whether a vector operation has no mask.
+    /// Returns whether a vector operation has no mask.
     pub vm: bool,
     /// The word's length in bytes.
     pub len: u8,

@@ -7,17 +7,14 @@ use Rattle.rv_inst.specs.declared.inst.Inst.TheVariants.{EmitIsland, Jal, CondBr
 use Rattle.rv_inst.specs.declared.inst.CondBrTarget.TheVariants.{Label, Fallthrough}
 use Rattle.rv_inst.specs.declared.label_use.LabelUse.{LabelUse}
 use Rattle.rv_inst.specs.declared.label_use.LabelUse.TheVariants.{Jal20, B12}
-use Rattle.rv_inst.specs.LabelUse.{marks_of, forward_of, backward_of, has_veneer_of, veneer_of}
+use Rattle.rv_inst.specs.LabelUse.{label_kinds}
 use Rattle.rv_inst.specs.Rules.{inst_rule}
 use Rattle.mach_buffer.specs.declared.uses.Use.{Use}
-use Rattle.mach_buffer.specs.declared.uses.VeneerUse.{VeneerUse}
 use Rattle.mach_buffer.specs.Reach.{CanReach, is_needed, deadlines}
-use Rattle.mach_buffer.specs.Buffer.{bytes_of, uses_of, veneers_of, place_of}
-use Rattle.mach_buffer.specs.Islands.{AreWindows}
+use Rattle.mach_buffer.specs.Buffer.{shape_of, bytes_of, uses_of, place_of}
+use Rattle.mach_buffer.specs.Windows.{AreWindows}
 use Rattle.mach_buffer.specs.Finish.{before_last, CanFinish}
-use Rattle.mach_buffer.proofs.Blocks.{windows_none}
-use Rattle.mach_buffer.proofs.Slack.{slack_from_reach, reaches_from_slack}
-use Rattle.mach_buffer.proofs.Ends.{last_near}
+use Rattle.mach_buffer.proofs.Laws.{windows_none, slack_from_reach, reaches_from_slack, veneers_reach, last_near}
 use Rattle.rv_emit.specs.Emitted.{Buffer, HasWindows, pending, AppendsInst, EmitsInst, Emitted, CanEmit, IsBounded}
 use Rattle.rv_inst.specs.Uses.{use_at, uses_in}
 use Rattle.rv_inst.specs.Sizes.{island_space, inst_sum}
@@ -31,13 +28,12 @@ none_there None h = refl
 none_there (Some x) h = absurd (cc)
 
 start_pending : (b : Buffer) → IsStart b → pending b ≡ []
-start_pending b s = ap (deadlines (waits (place_of b)) forward_of) s.uses
+start_pending b s = ap (deadlines (waits (place_of b)) label_kinds) s.uses
 
 start_windows : (b : Buffer) → IsStart b → HasWindows b
 start_windows b s =
-    subst (λ (bs : List ℕ). AreWindows marks_of bs (uses_of b) (veneers_of b)) (sym s.bytes)
-    (subst (λ (us : List (Use LabelUse)). AreWindows marks_of [] us (veneers_of b)) (sym s.uses)
-    (subst (λ (vs : List (VeneerUse LabelUse)). AreWindows marks_of [] [] vs) (sym s.veneers) windows_none))
+    subst (λ (bs : List ℕ). AreWindows label_kinds bs (uses_of b)) (sym s.bytes)
+    (subst (λ (us : List (Use LabelUse)). AreWindows label_kinds [] us) (sym s.uses) windows_none)
 
 plain_sum : (inst : Inst) → island_space inst ≡ None → inst_sum inst ≡ 128
 plain_sum (EmitIsland space) none = absurd (cc)
@@ -49,7 +45,7 @@ can_start inst b rule none s = record {
   rule = rule;
   sound = s.sound;
   calm = ap (is_needed (length (bytes_of b)) 88) (start_pending b s);
-  few = let d = s.drawn in omega arith;
+  few = let d = s.allocated in omega arith;
   room =
       let sum = plain_sum inst none in
       let bytes : length (bytes_of b) ≡ 0 = ap (length {A = ℕ}) s.bytes in
@@ -72,7 +68,7 @@ holds_one inst old new none s e reach bounded = record {
   sound = p.adds.sound;
   windows = block_has_windows inst s.sound p (start_windows old s);
   reach = reach;
-  drawn = p.adds.drawn ∙ s.drawn;
+  allocated = p.adds.allocated ∙ s.allocated;
   long = let l = (bounded none).long in let bytes : length (bytes_of old) ≡ 0 = ap (length {A = ℕ}) s.bytes in omega arith;
   waiting = let w = (bounded none).waiting in let waiting : length (pending old) ≡ 0 = ap (length {A = ℕ}) (start_pending old s) in omega arith;
   kinds = λ j u h. uses_kinds start inst j u (own j u h);
@@ -89,16 +85,15 @@ holds_one inst old new none s e reach bounded = record {
     own j u h = ap (λ (us : List (Use LabelUse)). slice_get us j) (sym (p.adds.uses ∙ ap (λ (us : List (Use LabelUse)). us ++ uses_in start inst) s.uses)) ∙ h
 
 -- the buffer can be finished where its labels are bound
-pub can_finish_one : (inst : Inst) (b : Buffer) → HoldsOne inst b → names_first inst ≡ true → CanFinish marks_of has_veneer_of forward_of backward_of veneer_of b
+pub can_finish_one : (inst : Inst) (b : Buffer) → HoldsOne inst b → names_first inst ≡ true → CanFinish label_kinds (shape_of b)
 can_finish_one inst b one first =
     let near : length (before_last (bytes_of b) (length (pending b))) ≤ length (bytes_of b) + 3 = last_near (bytes_of b) (length (pending b)) in
     let long = one.long in
     let waiting = one.waiting in
     record {
-      sound = one.sound;
       windows = one.windows;
       bound = one.bound first;
-      direct = λ j u h none. absurd (true≢false (sym (one.kinds j u h) ∙ none));
-      reach = reaches_from_slack (length (bytes_of b)) 14 (length (before_last (bytes_of b) (length (pending b)))) (pending b) (omega (arith, near)) (slack_from_reach (length (bytes_of b)) (pending b) one.reach);
+      direct = λ j u h none near. absurd (true≢false (sym (one.kinds j u h) ∙ none));
+      reach = veneers_reach (length (before_last (bytes_of b) (length (pending b)))) (pending b) (reaches_from_slack (length (bytes_of b)) 14 (length (before_last (bytes_of b) (length (pending b)))) (pending b) (omega (arith, near)) (slack_from_reach (length (bytes_of b)) (pending b) one.reach));
       short = omega (arith, near, long, waiting);
     }

@@ -1,23 +1,24 @@
 -- What a caller keeps of a buffer from one item of code to the next.
 use Rattle.std.specs.Prelude.{◌≡◌, ℕ, ◌<◌, ◌≤◌, ◌⊎◌, Bool, true, List, [], ◌∷◌, length, Some, is_some, slice_get}
-use Rattle.rv_base.specs.LabelUse.{Veneer}
+use Rattle.rv_base.specs.LabelUse.{Kinds, Veneer}
 use Rattle.mach_buffer.specs.declared.uses.Use.{Use}
 use Rattle.mach_buffer.specs.declared.buffer.MachBuffer.{MachBuffer}
 use Rattle.mach_buffer.specs.Reach.{HasSlack}
-use Rattle.mach_buffer.specs.Buffer.{bytes_of, uses_of, veneers_of, place_of, pending_of, IsSound}
-use Rattle.mach_buffer.specs.Islands.{AreWindows}
+use Rattle.mach_buffer.specs.Buffer.{bytes_of, uses_of, place_of, pending_of, IsSound}
+use Rattle.mach_buffer.specs.Windows.{AreWindows}
+use Rattle.mach_buffer.specs.Islands.{is_far}
 
--- it is sound, its windows are fresh and apart, Reach holds, each use may go by a veneer, and each label that is named is
+-- it is sound, its windows are fresh and apart, Reach holds, each use may go by a veneer or reaches all code, and each label that is named is
 -- one of the first `labels` or is bound
-pub record IsKept {L : Type 0} (fields : L → List ℕ) (has_veneer : L → Bool) (forward backward : L → ℕ) (veneer : L → Veneer L) (labels : ℕ) (b : MachBuffer L) : Type 0 where
-  pub sound : IsSound has_veneer forward backward veneer b
-  pub windows : AreWindows fields (bytes_of b) (uses_of b) (veneers_of b)
-  pub slack : HasSlack (length (bytes_of b)) 14 (pending_of has_veneer forward backward b)
-  pub supported : (j : ℕ) (u : Use L) → slice_get (uses_of b) j ≡ Some u → has_veneer u.kind ≡ true
+pub record IsKept {L : Type 0} (kinds : Kinds L) (labels : ℕ) (b : MachBuffer L) : Type 0 where
+  pub sound : IsSound kinds b
+  pub windows : AreWindows kinds (bytes_of b) (uses_of b)
+  pub slack : HasSlack (length (bytes_of b)) 14 (pending_of kinds b)
+  pub supported : (j : ℕ) (u : Use L) → slice_get (uses_of b) j ≡ Some u → (kinds.has_veneer u.kind ≡ true) ⊎ (is_far kinds u ≡ true)
   pub named : (j : ℕ) (u : Use L) → slice_get (uses_of b) j ≡ Some u → (u.label.number < labels) ⊎ (is_some (place_of b u.label.number) ≡ true)
 
 -- a kind of use of one byte that reaches a little way forward, and may go by a veneer
-pub record IsOneByte {L : Type 0} (fields : L → List ℕ) (has_veneer : L → Bool) (forward : L → ℕ) (kind : L) : Type 0 where
-  pub one : fields kind ≡ 255 ∷ []
-  pub supported : has_veneer kind ≡ true
-  pub far : 32 ≤ forward kind
+pub record IsOneByte {L : Type 0} (kinds : Kinds L) (kind : L) : Type 0 where
+  pub one : kinds.fields kind ≡ 255 ∷ []
+  pub supported : kinds.has_veneer kind ≡ true
+  pub far : 32 ≤ kinds.forward kind

@@ -8,7 +8,7 @@ use Rattle.rv_inst.specs.declared.label_use.LabelUse.{LabelUse}
 use Rattle.rv_inst.specs.LabelUse.{has_veneer_of}
 use Rattle.mach_buffer.specs.declared.uses.Use.{Use}
 use Rattle.mach_buffer.specs.Reach.{CanReach}
-use Rattle.mach_buffer.specs.Buffer.{bytes_of, uses_of, veneers_of, place_of, drawn_of}
+use Rattle.mach_buffer.specs.Buffer.{bytes_of, uses_of, place_of, allocated_of}
 use Rattle.rv_emit.specs.Emitted.{Buffer, IsSoundBuffer, HasWindows, pending}
 
 -- a target is the label 0, where it is a label
@@ -41,9 +41,8 @@ names_first (Jalr rd base offset) = true
 pub record IsStart (b : Buffer) : Type 0 where
   pub bytes : bytes_of b ≡ []
   pub uses : uses_of b ≡ []
-  pub veneers : veneers_of b ≡ []
   pub first : place_of b 0 ≡ Some 0
-  pub drawn : drawn_of b ≡ 0
+  pub allocated : allocated_of b ≡ 0
   pub sound : IsSoundBuffer b
 
 -- a buffer of one instruction
@@ -51,7 +50,7 @@ pub record HoldsOne (inst : Inst) (b : Buffer) : Type 0 where
   pub sound : IsSoundBuffer b
   pub windows : HasWindows b
   pub reach : CanReach (length (bytes_of b)) (pending b)
-  pub drawn : drawn_of b ≡ 0
+  pub allocated : allocated_of b ≡ 0
   pub long : length (bytes_of b) ≤ 84
   pub waiting : length (pending b) ≤ 2
   pub kinds : (j : ℕ) (u : Use LabelUse) → slice_get (uses_of b) j ≡ Some u → has_veneer_of u.kind ≡ true

@@ -2,8 +2,7 @@
 
 ghost use Rattle.std.specs.Prelude.{◌≡◌, ◌∷◌, []};
 
-use mach_buffer::buffer::MachBuffer;
-use mach_buffer::finish::Finished;
+use mach_buffer::{Finished, MachBuffer};
 use rv_base::{MachInstLabelUse, MachLabel, OutOfMemory, Reloc};
 use std::alloc::Global;
 use std::process::Abort;
@@ -25,17 +24,7 @@ impl MachInstLabelUse for Toy {
     ghost use Rattle.std.proofs.Common.{rules};
     ghost use mir.Syntax.{w32};
 
-    ghost aims = { elim [ Short ↦ λ window d. slice_index window 0 ≡ cast_unsigned w32 d / 2 % 256 | Far ↦ λ window d. slice_index window 0 + 256 * slice_index window 1 + 65536 * slice_index window 2 + 16777216 * slice_index window 3 ≡ cast_unsigned w32 d ] };
-
-    ghost fields = { elim [ Short ↦ 0xff ∷ [] | Far ↦ 0xff ∷ 0xff ∷ 0xff ∷ 0xff ∷ [] ] };
-
-    ghost forward = { elim [ Short ↦ 254 | Far ↦ 4294967295 ] };
-
-    ghost backward = { elim [ Short ↦ 256 | Far ↦ 4294967295 ] };
-
-    ghost has_veneer = { elim [ Short ↦ true | Far ↦ false ] };
-
-    ghost veneer = { λ kind. record { bytes = 0 ∷ 0 ∷ 0 ∷ 0 ∷ 0xee ∷ 0xee ∷ 0xee ∷ 0xee ∷ []; place = 0; kind = Far } };
+    ghost kinds = { record { aims = elim [ Short ↦ λ window d. slice_index window 0 ≡ cast_unsigned w32 d / 2 % 256 | Far ↦ λ window d. slice_index window 0 + 256 * slice_index window 1 + 65536 * slice_index window 2 + 16777216 * slice_index window 3 ≡ cast_unsigned w32 d ]; fields = elim [ Short ↦ 0xff ∷ [] | Far ↦ 0xff ∷ 0xff ∷ 0xff ∷ 0xff ∷ [] ]; forward = elim [ Short ↦ 254 | Far ↦ 4294967295 ]; backward = elim [ Short ↦ 256 | Far ↦ 4294967295 ]; has_veneer = elim [ Short ↦ true | Far ↦ false ]; veneer = λ kind. record { bytes = 0 ∷ 0 ∷ 0 ∷ 0 ∷ 0xee ∷ 0xee ∷ 0xee ∷ 0xee ∷ []; place = 0; kind = Far } } };
 
     ghost of_reloc = { λ reloc addend. None };
 
@@ -120,15 +109,15 @@ fn write_word(buffer: &mut [u8], word: u32)
 }
 
 ghost use Rattle.std.specs.Prelude.{◌<◌, ◌^◌, IfOk, None};
-ghost use Rattle.mach_buffer.specs.Buffer.{bytes_of, place_of, drawn_of, IsSound};
+ghost use Rattle.mach_buffer.specs.Buffer.{bytes_of, place_of, allocated_of, IsSound};
 
 /// A use of one byte, and no bytes.
 fn noted(alloc: Global, label: MachLabel) -> Result<MachBuffer<Toy>, OutOfMemory>
     requires { label.number < 2 ^ 30 }
     ensures empty { IfOk result (λ b. bytes_of b ≡ []) }
     ensures unbound { IfOk result (λ b. place_of b label.number ≡ None) }
-    ensures drawn { IfOk result (λ b. drawn_of b ≡ 0) }
-    ensures sound { IfOk result (λ b. IsSound ⟦<Toy as MachInstLabelUse>⟧.has_veneer ⟦<Toy as MachInstLabelUse>⟧.forward ⟦<Toy as MachInstLabelUse>⟧.backward ⟦<Toy as MachInstLabelUse>⟧.veneer b) }
+    ensures allocated { IfOk result (λ b. allocated_of b ≡ 0) }
+    ensures sound { IfOk result (λ b. IsSound ⟦<Toy as MachInstLabelUse>⟧.kinds b) }
 {
     let mut buffer = MachBuffer::<Toy>::new(alloc);
     buffer.register_constants(&[])?;
@@ -141,8 +130,8 @@ fn waiting(alloc: Global, label: MachLabel) -> Result<MachBuffer<Toy>, OutOfMemo
     requires { label.number < 2 ^ 30 }
     ensures long { IfOk result (λ b. length (bytes_of b) ≡ 200) }
     ensures unbound { IfOk result (λ b. place_of b label.number ≡ None) }
-    ensures drawn { IfOk result (λ b. drawn_of b ≡ 0) }
-    ensures sound { IfOk result (λ b. IsSound ⟦<Toy as MachInstLabelUse>⟧.has_veneer ⟦<Toy as MachInstLabelUse>⟧.forward ⟦<Toy as MachInstLabelUse>⟧.backward ⟦<Toy as MachInstLabelUse>⟧.veneer b) }
+    ensures allocated { IfOk result (λ b. allocated_of b ≡ 0) }
+    ensures sound { IfOk result (λ b. IsSound ⟦<Toy as MachInstLabelUse>⟧.kinds b) }
 {
     let mut buffer = noted(alloc, label)?;
     buffer.put2(0x1100)?;
@@ -152,7 +141,7 @@ fn waiting(alloc: Global, label: MachLabel) -> Result<MachBuffer<Toy>, OutOfMemo
     Ok(buffer)
 }
 
-/// Whether an island is needed before 16 bytes and before 17, and before 1000 once the label is bound.
+/// Returns whether an island is needed before 16 bytes and before 17, and before 1000 once the label is bound.
 fn needed(alloc: Global) -> Result<[bool; 3], OutOfMemory> {
     let label = MachLabel::from_u32(5);
     let mut buffer = waiting(alloc, label)?;
@@ -168,7 +157,7 @@ fn islands_are_needed_by_the_rule(rt: HostRuntime) -> Result<(), OutOfMemory> {
     Ok(())
 }
 
-/// Whether there is room for one byte too many and for as many as may be, and for eight more once the label is bound.
+/// Returns whether there is room for one byte too many and for as many as may be, and for eight more once the label is bound.
 fn room_left(alloc: Global) -> Result<[bool; 3], OutOfMemory> {
     let label = MachLabel::from_u32(5);
     let mut buffer = waiting(alloc, label)?;
@@ -260,19 +249,19 @@ ghost use Rattle.rv_vectors.specs.Kept.{IsKept, IsOneByte};
 
 /// Puts a jump of four bytes round an island, and the island.
 fn put_jump<L: MachInstLabelUse>(buffer: &mut MachBuffer<L>, kind: L) -> Result<(), OutOfMemory>
-    requires kind { IsOneByte L.fields L.has_veneer L.forward kind }
-    requires kept { IsKept L.fields L.has_veneer L.forward L.backward L.veneer 4 buffer.old }
-    requires few { drawn_of buffer.old < 2 ^ 30 }
-    requires room { length (bytes_of buffer.old) + 8 * length (pending_of L.has_veneer L.forward L.backward buffer.old) + 14 < 2147479552 }
-    ensures kept { OnOk result (IsKept L.fields L.has_veneer L.forward L.backward L.veneer 4 buffer.new) }
-    ensures none { OnOk result (pending_of L.has_veneer L.forward L.backward buffer.new ≡ []) }
-    ensures near { OnOk result (length (bytes_of buffer.new) ≤ length (bytes_of buffer.old) + 14 + 8 * length (pending_of L.has_veneer L.forward L.backward buffer.old)) }
+    requires kind { IsOneByte L.kinds kind }
+    requires kept { IsKept L.kinds 4 buffer.old }
+    requires few { allocated_of buffer.old < 2 ^ 30 }
+    requires room { length (bytes_of buffer.old) + 8 * length (pending_of L.kinds buffer.old) + 14 < 2147479552 }
+    ensures kept { OnOk result (IsKept L.kinds 4 buffer.new) }
+    ensures none { OnOk result (pending_of L.kinds buffer.new ≡ []) }
+    ensures near { OnOk result (length (bytes_of buffer.new) ≤ length (bytes_of buffer.old) + 14 + 8 * length (pending_of L.kinds buffer.old)) }
 {
-    let round = buffer.get_label()?;
+    let after_island = buffer.get_label()?;
     let at = buffer.cur_offset();
-    buffer.use_label_at_offset(at, round, kind)?;
+    buffer.use_label_at_offset(at, after_island, kind)?;
     buffer.put4(0xaaaaaa00)?;
-    buffer.emit_island(round)?;
+    buffer.emit_island(after_island)?;
     Ok(())
 }
 
@@ -283,10 +272,10 @@ fn make_way<L: MachInstLabelUse>(
     distance: u32,
     islands: &mut Vec<u32>,
 ) -> Result<(), Fail>
-    requires kind { IsOneByte L.fields L.has_veneer L.forward kind }
-    requires kept { IsKept L.fields L.has_veneer L.forward L.backward L.veneer 4 buffer.old }
-    ensures kept { OnOk result (IsKept L.fields L.has_veneer L.forward L.backward L.veneer 4 buffer.new) }
-    ensures slack { OnOk result (HasSlack (length (bytes_of buffer.new) + distance) 30 (pending_of L.has_veneer L.forward L.backward buffer.new)) }
+    requires kind { IsOneByte L.kinds kind }
+    requires kept { IsKept L.kinds 4 buffer.old }
+    ensures kept { OnOk result (IsKept L.kinds 4 buffer.new) }
+    ensures slack { OnOk result (HasSlack (length (bytes_of buffer.new) + distance) 30 (pending_of L.kinds buffer.new)) }
     ensures room { OnOk result (length (bytes_of buffer.new) + distance + 10 < 2147479552) }
 {
     if !buffer.has_room(distance as u64) {
@@ -307,9 +296,9 @@ fn fill<L: MachInstLabelUse>(
     count: u32,
     islands: &mut Vec<u32>,
 ) -> Result<(), Fail>
-    requires kind { IsOneByte L.fields L.has_veneer L.forward kind }
-    requires kept { IsKept L.fields L.has_veneer L.forward L.backward L.veneer 4 buffer.old }
-    ensures kept { OnOk result (IsKept L.fields L.has_veneer L.forward L.backward L.veneer 4 buffer.new) }
+    requires kind { IsOneByte L.kinds kind }
+    requires kept { IsKept L.kinds 4 buffer.old }
+    ensures kept { OnOk result (IsKept L.kinds 4 buffer.new) }
 {
     if count > 250 || count % 2 != 0 {
         return Err(Fail::new("an odd count of filler bytes, or more than 250"));
@@ -327,9 +316,9 @@ fn put_use<L: MachInstLabelUse>(
     label: u32,
     islands: &mut Vec<u32>,
 ) -> Result<(), Fail>
-    requires kind { IsOneByte L.fields L.has_veneer L.forward kind }
-    requires kept { IsKept L.fields L.has_veneer L.forward L.backward L.veneer 4 buffer.old }
-    ensures kept { OnOk result (IsKept L.fields L.has_veneer L.forward L.backward L.veneer 4 buffer.new) }
+    requires kind { IsOneByte L.kinds kind }
+    requires kept { IsKept L.kinds 4 buffer.old }
+    ensures kept { OnOk result (IsKept L.kinds 4 buffer.new) }
 {
     if label >= 4 {
         return Err(Fail::new("none of the four labels"));
@@ -344,8 +333,8 @@ fn put_use<L: MachInstLabelUse>(
 /// Binds a label, unless it is bound.
 fn bind<L: MachInstLabelUse>(buffer: &mut MachBuffer<L>, label: u32) -> Result<(), OutOfMemory>
     requires low { label < 4 }
-    requires kept { IsKept L.fields L.has_veneer L.forward L.backward L.veneer 4 buffer.old }
-    ensures kept { OnOk result (IsKept L.fields L.has_veneer L.forward L.backward L.veneer 4 buffer.new) }
+    requires kept { IsKept L.kinds 4 buffer.old }
+    ensures kept { OnOk result (IsKept L.kinds 4 buffer.new) }
     ensures bound { OnOk result (is_some (place_of buffer.new label) ≡ true) }
     ensures still { OnOk result ((other : ℕ) → is_some (place_of buffer.old other) ≡ true → is_some (place_of buffer.new other) ≡ true) }
 {
@@ -364,9 +353,9 @@ fn put_item<L: MachInstLabelUse>(
     item: Item,
     islands: &mut Vec<u32>,
 ) -> Result<(), Fail>
-    requires kind { IsOneByte L.fields L.has_veneer L.forward kind }
-    requires kept { IsKept L.fields L.has_veneer L.forward L.backward L.veneer 4 buffer.old }
-    ensures kept { OnOk result (IsKept L.fields L.has_veneer L.forward L.backward L.veneer 4 buffer.new) }
+    requires kind { IsOneByte L.kinds kind }
+    requires kept { IsKept L.kinds 4 buffer.old }
+    ensures kept { OnOk result (IsKept L.kinds 4 buffer.new) }
 {
     match item {
         Item::Fill(count) => fill(buffer, kind, count, islands),
@@ -384,8 +373,8 @@ fn put_item<L: MachInstLabelUse>(
 
 /// Binds each of the four labels that is not bound.
 fn bind_each<L: MachInstLabelUse>(buffer: &mut MachBuffer<L>) -> Result<(), OutOfMemory>
-    requires kept { IsKept L.fields L.has_veneer L.forward L.backward L.veneer 4 buffer.old }
-    ensures kept { OnOk result (IsKept L.fields L.has_veneer L.forward L.backward L.veneer 4 buffer.new) }
+    requires kept { IsKept L.kinds 4 buffer.old }
+    ensures kept { OnOk result (IsKept L.kinds 4 buffer.new) }
     ensures bound { OnOk result ((label : ℕ) → label < 4 → is_some (place_of buffer.new label) ≡ true) }
 {
     bind(buffer, 0)?;
@@ -397,7 +386,7 @@ fn bind_each<L: MachInstLabelUse>(buffer: &mut MachBuffer<L>) -> Result<(), OutO
 
 /// Binds each label that is not bound, and finishes.
 fn end<L: MachInstLabelUse>(mut buffer: MachBuffer<L>) -> Result<Finished, Fail>
-    requires kept { IsKept L.fields L.has_veneer L.forward L.backward L.veneer 4 buffer }
+    requires kept { IsKept L.kinds 4 buffer }
 {
     bind_each(&mut buffer)?;
     if !buffer.has_room(0) {
@@ -409,7 +398,7 @@ fn end<L: MachInstLabelUse>(mut buffer: MachBuffer<L>) -> Result<Finished, Fail>
 
 /// An empty buffer.
 fn empty<L: MachInstLabelUse>(alloc: Global) -> MachBuffer<L>
-    ensures kept { IsKept L.fields L.has_veneer L.forward L.backward L.veneer 4 result }
+    ensures kept { IsKept L.kinds 4 result }
 {
     MachBuffer::<L>::new(alloc)
 }
@@ -421,7 +410,7 @@ fn assemble<L: MachInstLabelUse>(
     items: &[Item],
     islands: &mut Vec<u32>,
 ) -> Result<Finished, Fail>
-    requires kind { IsOneByte L.fields L.has_veneer L.forward kind }
+    requires kind { IsOneByte L.kinds kind }
 {
     let mut buffer = empty::<L>(alloc);
     for item in items {
@@ -439,7 +428,7 @@ struct Stand {
     long: usize,
 }
 
-// One use that waits at 0 has the deadline 254, and 254 - 14 - 8 * 3 = 216. Of two the later has 256, and
+// One use that is pending at 0 has the deadline 254, and 254 - 14 - 8 * 3 = 216. Of two the later has 256, and
 // 256 - 14 - 8 * 4 = 210. Of 28 the last has 308, and 308 - 14 - 8 * 30 = 54.
 const STANDS: [Stand; 10] = [
     Stand {
@@ -569,7 +558,7 @@ fn windows_aim_at_labels_and_veneers(rt: HostRuntime) -> Result<(), Fail> {
 }
 
 /// The first labels that a buffer draws.
-fn drawn(alloc: Global) -> Result<[u32; 2], OutOfMemory> {
+fn allocated(alloc: Global) -> Result<[u32; 2], OutOfMemory> {
     let mut buffer = MachBuffer::<Toy>::new(alloc);
     let first = buffer.get_label()?;
     let second = buffer.get_label()?;
@@ -578,6 +567,6 @@ fn drawn(alloc: Global) -> Result<[u32; 2], OutOfMemory> {
 
 #[test]
 fn labels_are_drawn_in_order(rt: HostRuntime) -> Result<(), OutOfMemory> {
-    assert_eq!(rt; drawn(rt.alloc())?, [0x40000000, 0x40000001]);
+    assert_eq!(rt; allocated(rt.alloc())?, [0x40000000, 0x40000001]);
     Ok(())
 }

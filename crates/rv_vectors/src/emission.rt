@@ -5,7 +5,7 @@ ghost use Rattle.rv_inst.specs.Rules.{inst_rule};
 ghost use Rattle.rv_inst.specs.Sizes.{island_space};
 ghost use Rattle.rv_vectors.specs.Single.{is_first, names_first, IsStart, HoldsOne};
 
-use mach_buffer::buffer::MachBuffer;
+use mach_buffer::MachBuffer;
 use rv_base::{
     FrameLayout, IntCC, IrType, IsaFlags, List, MachLabel, OutOfMemory, a0, a1, a2, px_reg,
     writable_a0, writable_link_reg,
@@ -108,7 +108,7 @@ fn code_of(alloc: Global, inst: &Inst) -> Result<List<u8>, Fail> {
     Ok(code.bytes)
 }
 
-/// Whether an island is emitted after an instruction, before this many bytes, and the offset after it.
+/// Returns whether an island is emitted after an instruction, before this many bytes, and the offset after it.
 fn room_of(alloc: Global, inst: &Inst, distance: u32) -> Result<(bool, u32), Fail> {
     let mut buffer = buffer_of(alloc, inst)?;
     let made = emit_island_if_needed(&mut buffer, distance)?;
@@ -217,7 +217,7 @@ fn words_of_branches_are_the_manuals(rt: HostRuntime) -> Result<(), Fail> {
 
 #[test]
 fn islands_are_made_by_the_rule(rt: HostRuntime) -> Result<(), Fail> {
-    // A branch that waits at 0 reaches 4094, and 4094 - 14 - 8 * 3 = 4056. Of two uses the jump reaches farther.
+    // A branch that is pending at 0 reaches 4094, and 4094 - 14 - 8 * 3 = 4056. Of two uses the jump reaches farther.
     let far = CondBrTarget::Label(MachLabel::from_u32(5));
     let beq = branch(far, CondBrTarget::Fallthrough);
     let beq_j = branch(far, far);

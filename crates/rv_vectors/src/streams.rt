@@ -10,7 +10,7 @@ use std::alloc::{AllocError, Global};
 
 const TEN: &[u8] = b"0123456789";
 
-/// Whether ten bytes are read whole, at most `chunk` a call, where the call of this number fails.
+/// Returns whether ten bytes are read whole, at most `chunk` a call, where the call of this number fails.
 fn are_read(alloc: Global, chunk: usize, call: usize) -> Result<bool, ReadAllError>
     requires { 0 < chunk }
 {

@@ -11,7 +11,7 @@ use std::env;
 use std::io::{self, ErrorKind};
 use std::process::ExitCode;
 
-// The words behind the program's name. One that is not UTF-8 stands there as an empty word.
+// The words after the program's name. One that is not UTF-8 stands there as an empty word.
 fn words(rt: &HostRuntime) -> io::Result<Vec<String>> {
     let mut words = Vec::new(rt.alloc());
     match env::args(rt) {

@@ -20,7 +20,7 @@ loop-index-preserved c =
     c.in_ok-span.ensures.index c.in_ok-span.ensures.put c.in_ok-push.ensures.items
 
 pub finish-requires-clause-ready : goal.finish-requires-clause-ready
-finish-requires-clause-ready c = ready c.args.lines.now c.loop-index.index c.loop-index.spans.items c.loop-index.sink c.requires.accepted c.loop-index-test.false c.loop-index.invariant
+finish-requires-clause-ready c = λ h. ready c.args.lines.now c.loop-index.index c.loop-index.spans.items c.loop-index.sink c.requires.accepted c.loop-index-test.false c.loop-index.invariant
 
 pub invariant_of-result : goal.invariant_of-result
 invariant_of-result c = record {

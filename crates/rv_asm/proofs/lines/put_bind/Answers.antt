@@ -1,19 +1,23 @@
-use Rattle.std.proofs.Common.{rules}
+use Rattle.std.proofs.Common.{rules, ap, ◌∙◌, length}
+use Rattle.mach_buffer.specs.Buffer.{bytes_of, place_of}
+use Rattle.mach_buffer.proofs.Laws.{placed_same, placed_other}
 use Rattle.rv_asm.proofs.lines.put_bind.Goals as goal
 
 pub returns-clause-put : goal.returns-clause-put
 returns-clause-put c =
     let here = c.cur_offset-here.ensures in
     let b = c.in_ok-bind_label.ensures in
+    let s = b.bound.2 in
+    let old = c.args.sink.now in
+    let label = c.args.label.number in
     record {
-      bound = b.binds.bound;
-      kept = b.binds.kept;
-      unbound = c.requires.unbound c.args.label.number (search rules);
-      labels = b.binds.labels;
-      bytes = b.code.bytes;
-      uses = b.code.uses;
-      veneers = b.code.veneers;
-      drawn = b.drawn;
+      bound = ap (λ x. x.place label) s ∙ placed_same (place_of old) label (length (bytes_of old));
+      kept = λ other ne. ap (λ x. x.place other) s ∙ placed_other (place_of old) label (length (bytes_of old)) other ne;
+      unbound = c.requires.unbound label (search rules);
+      labels = ap (λ x. x.labels) s;
+      bytes = ap (λ x. x.bytes) s;
+      uses = ap (λ x. x.uses) s;
+      allocated = ap (λ x. x.allocated) s;
       fewer = b.fewer;
       sound = b.sound;
       start = here;

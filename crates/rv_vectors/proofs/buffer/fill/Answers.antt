@@ -5,4 +5,4 @@ pub returns : goal.returns
 returns g c =
     let m = c.in_ok-make_way.ensures in
     let p = c.in_ok-put_data.ensures in
-    record { kept = kept_front m.kept c.put_data.new.self c.args.count _ p.sound p.put.bytes p.put.uses p.put.veneers p.put.labels.places m.slack }
+    record { kept = kept_front m.kept c.put_data.new.self c.args.count _ p.sound p.put.2 m.slack }

@@ -1,8 +1,9 @@
-use Rattle.std.proofs.Common.{arith, ◌∙◌, ◌∷◌, [], ◌++◌, ◌+◌, ◌<◌, ◌≤◌, None, ap, length}
+use Rattle.std.proofs.Common.{arith, ◌∙◌, ◌∷◌, [], ◌++◌, ◌+◌, ◌<◌, ◌≤◌, None, refl, ap, length}
 use Rattle.mach_buffer.specs.declared.uses.Use.{Use}
 use Rattle.mach_buffer.specs.Buffer.{bytes_of, pending_of}
+use Rattle.mach_buffer.specs.Shape.{with_bytes}
 use Rattle.rv_vectors.proofs.Kept.{kept_use}
-use Rattle.mach_buffer.proofs.Slack.{slack_less}
+use Rattle.mach_buffer.proofs.Laws.{slack_less}
 use Rattle.rv_vectors.proofs.buffer.put_use.Goals as goal
 
 pub returns : goal.returns
@@ -16,9 +17,9 @@ returns g c =
     let number = c.from_u32.ensures in
     let low : c.from_u32.result.number < 4 = omega (arith, number, c.if-label-ge4.false) in
     let reach = c.requires.kind.far in
-    let far : 24 ≤ K.forward c.args.kind = omega (arith, reach) in
+    let far : 24 ≤ K.kinds.forward c.args.kind = omega (arith, reach) in
     record {
-      kept = kept_use m.kept c.put2.new.self p.sound g.met.L.MachInstLabelUse.veneer_ok u (17 ∷ []) c.cur_offset-at.ensures c.requires.kind.one c.requires.kind.supported low far
-          (p.put.bytes ∙ ap (λ s. s ++ 0 ∷ 17 ∷ []) e.bytes) (p.put.uses ∙ e.uses) (p.put.veneers ∙ e.veneers) (p.put.labels.places ∙ e.labels.places)
-          (slack_less (length (bytes_of b) + 2) 30 (length (bytes_of b) + 2) 22 (pending_of K.has_veneer K.forward K.backward b) (omega arith) m.slack);
+      kept = kept_use m.kept c.put2.new.self p.sound u (17 ∷ []) c.cur_offset-at.ensures refl c.requires.kind.one c.requires.kind.supported low far
+          (p.put.2 ∙ ap (with_bytes (0 ∷ 17 ∷ [])) e.recorded.2)
+          (slack_less (length (bytes_of b) + 2) 30 (length (bytes_of b) + 2) 22 (pending_of K.kinds b) (omega arith) m.slack);
     }

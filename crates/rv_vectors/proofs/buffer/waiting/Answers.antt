@@ -1,7 +1,9 @@
 use Rattle.std.proofs.Common.{ap, ◌∙◌}
+use Rattle.mach_buffer.specs.Shape.{Shape}
+use Rattle.rv_vectors.specs.declared.buffer.Toy.{Toy}
 use Rattle.rv_vectors.proofs.buffer.waiting.Goals as goal
 
 pub returns-clause-unbound : goal.returns-clause-unbound
 returns-clause-unbound c =
     let n = c.args.label.number in
-    ap (λ f. f n) (c.put_data.ensures.put.labels.places ∙ c.put8.ensures.put.labels.places ∙ c.put4.ensures.put.labels.places ∙ c.put2.ensures.put.labels.places) ∙ c.in_ok-buffer.ensures.unbound
+    ap (λ (x : Shape Toy). x.place n) (c.put_data.ensures.put.2) ∙ ap (λ (x : Shape Toy). x.place n) (c.put8.ensures.put.2) ∙ ap (λ (x : Shape Toy). x.place n) (c.put4.ensures.put.2) ∙ ap (λ (x : Shape Toy). x.place n) (c.put2.ensures.put.2) ∙ c.in_ok-buffer.ensures.unbound

@@ -1,92 +1,69 @@
-use Rattle.std.proofs.Common.{arith, ◌≡◌, ap, sym, subst, length, None, [], ℕ}
-use Rattle.mach_buffer.specs.Buffer.{bytes_of, uses_of, place_of, pending_of}
-use Rattle.mach_buffer.specs.Finish.{before_last}
-use Rattle.mach_buffer.specs.Islands.{VeneersPut}
-use Rattle.mach_buffer.specs.Reach.{is_other, deadlines, StillReaches}
-use Rattle.mach_buffer.proofs.Added.{added_none, added_more}
-use Rattle.mach_buffer.proofs.Apart.{windows_as}
-use Rattle.mach_buffer.proofs.Ends.{windows_before, before_longer}
-use Rattle.mach_buffer.proofs.LastVeneers.{same_test, same_deadlines}
-use Rattle.mach_buffer.proofs.Others.{other_pending}
-use Rattle.mach_buffer.proofs.Same.{labels_then}
-use Rattle.mach_buffer.proofs.Turns.{turns_fewer}
+use Rattle.std.proofs.Common.{rules, ◌≡◌, ◌+◌, ◌*◌, ◌<◌, ◌%◌, ◌∙◌, ap, sym, subst, map, length, arith, List, ℕ, None}
+use Rattle.mach_buffer.specs.declared.uses.PendingKey.{PendingKey}
+use Rattle.mach_buffer.specs.declared.uses.Use.{Use}
+use Rattle.mach_buffer.specs.Shape.{Shape}
+use Rattle.mach_buffer.specs.Reach.{is_other, is_pending}
+use Rattle.mach_buffer.specs.Veneers.{put_all, IsOrder}
+use Rattle.mach_buffer.specs.Finish.{padded_for}
+use Rattle.mach_buffer.specs.VeneerConditions.{CanPut}
+use Rattle.mach_buffer.specs.Queues.{key_number}
+use Rattle.mach_buffer.specs.Buffer.{shape_of, bytes_of, uses_of}
+use Rattle.mach_buffer.proofs.VeneerLoop.{Going}
+use Rattle.mach_buffer.proofs.Lists.{length_map}
+use Rattle.mach_buffer.proofs.LastVeneers.{other_none, last_going, last_room}
+use Rattle.mach_buffer.proofs.buffer.MachBuffer.put_last.Given as given
+use Rattle.mach_buffer.proofs.buffer.MachBuffer.put_last.Goals.{After-len, In_ok-pad_last}
 use Rattle.mach_buffer.proofs.buffer.MachBuffer.put_last.Goals as goal
 
-pub put_waiting-requires-clause-room : goal.put_waiting-requires-clause-room
-put_waiting-requires-clause-room g c =
+in_order : (g : given.Over) (c : After-len g) → let K = g.L.MachInstLabelUse in let s = shape_of c.args.self.now in IsOrder K.kinds (is_pending K.kinds s.place) s.uses (map key_number c.in_ok-order.order.items)
+in_order g c =
     let K = g.L.MachInstLabelUse in
-    let b = c.args.self.now in
-    let e = c.in_ok-pad_last.ensures in
-    let same = same_deadlines K.has_veneer K.forward K.backward b c.pad_last.new.self e.labels.places e.uses in
-    let long = ap (length {A = ℕ}) e.bytes in
-    let many = ap (length {A = ℕ}) same in
-    let short = c.requires.short in
-    omega (arith, long, many, short)
+    let s = shape_of c.args.self.now in
+    subst (λ test. IsOrder K.kinds test s.uses (map key_number c.in_ok-order.order.items)) (other_none K.kinds s.place)
+    (subst (λ (us : List (Use g.row.L.Denot)). IsOrder K.kinds (is_other K.kinds s.place None) us (map key_number c.in_ok-order.order.items)) c.deref.ensures.value c.in_ok-order.ensures)
 
-pub put_waiting-requires-clause-waits : goal.put_waiting-requires-clause-waits
-put_waiting-requires-clause-waits g c =
+count : (g : given.Over) (c : After-len g) → c.len.result ≡ length (map key_number c.in_ok-order.order.items)
+count g c = (let l : c.len.result ≡ length c.in_ok-order.order.items = search rules in l) ∙ sym (length_map key_number c.in_ok-order.order.items)
+
+pub pad_last-requires-clause-room : goal.pad_last-requires-clause-room
+pad_last-requires-clause-room g c =
+    let d = (goal.at.pad_last-requires-clause-room g c).After-len in
+    last_room g.L.MachInstLabelUse.kinds (shape_of c.args.self.now) (map key_number c.in_ok-order.order.items) c.requires.ready (in_order g d) c.len.result (count g d)
+
+rest : (g : given.Over) (c : In_ok-pad_last g) → let K = g.L.MachInstLabelUse in let s = shape_of c.args.self.now in let order = map key_number c.in_ok-order.order.items in
+    IsOrder K.kinds (is_pending K.kinds s.place) s.uses order → c.len.result ≡ length order → Going K.kinds order order (padded_for (length order) s) (shape_of c.pad_last.new.self)
+rest g c o e =
     let K = g.L.MachInstLabelUse in
-    turns_fewer _ (other_pending K.has_veneer K.forward K.backward (place_of c.pad_last.new.self) None) c.in_ok-pad_last.ensures.sound.waits
+    let s = shape_of c.args.self.now in
+    let order = map key_number c.in_ok-order.order.items in
+    subst (Going K.kinds order order (padded_for (length order) s)) (sym (c.in_ok-pad_last.ensures.shape ∙ ap (λ (n : ℕ). padded_for n s) e)) (last_going K.kinds s order c.requires.sound c.requires.ready o)
 
-pub put_waiting-requires-clause-reach : goal.put_waiting-requires-clause-reach
-put_waiting-requires-clause-reach g c =
+pub put_veneers-requires-clause-can : goal.put_veneers-requires-clause-can
+put_veneers-requires-clause-can g c =
     let K = g.L.MachInstLabelUse in
-    let b = c.args.self.now in
-    let e = c.in_ok-pad_last.ensures in
-    let same = same_deadlines K.has_veneer K.forward K.backward b c.pad_last.new.self e.labels.places e.uses in
-    subst (StillReaches (length (bytes_of c.pad_last.new.self))) (sym same) (subst (λ s. StillReaches (length s) (pending_of K.has_veneer K.forward K.backward b)) (sym e.bytes) c.requires.reach)
+    let d = goal.at.put_veneers-requires-clause-can g c in
+    subst (λ (ts : List PendingKey). CanPut K.kinds (uses_of c.pad_last.new.self) (length (bytes_of c.pad_last.new.self)) (map key_number ts)) (sym c.deref-2.ensures.value) (rest g d.In_ok-pad_last (in_order g d.After-len) (count g d.After-len)).can
 
-pub returns-clause-put : goal.returns-clause-put
-returns-clause-put g c =
+pub put_veneers-requires-clause-room : goal.put_veneers-requires-clause-room
+put_veneers-requires-clause-room g c =
+    let d = goal.at.put_veneers-requires-clause-room g c in
+    let r = (rest g d.In_ok-pad_last (in_order g d.After-len) (count g d.After-len)).room in
+    let l = length_map key_number c.in_ok-order.order.items in
+    let m = ap (length {A = PendingKey}) c.deref-2.ensures.value in
+    omega (arith, r, l, m)
+
+pub put_veneers-requires-clause-even : goal.put_veneers-requires-clause-even
+put_veneers-requires-clause-even g c = let d = goal.at.put_veneers-requires-clause-even g c in (rest g d.In_ok-pad_last (in_order g d.After-len) (count g d.After-len)).even
+
+pub returns : goal.returns
+returns g c =
     let K = g.L.MachInstLabelUse in
-    let b = c.args.self.now in
-    let e = c.in_ok-pad_last.ensures in
-    let test = same_test K.has_veneer K.forward K.backward b c.pad_last.new.self e.labels.places in
-    let w = c.in_ok-put_waiting.ensures in
-    subst (λ t. VeneersPut K.forward t (before_last (bytes_of b) (length (pending_of K.has_veneer K.forward K.backward b))) (uses_of b) (bytes_of c.put_waiting.new.self) (uses_of c.put_waiting.new.self)) test
-    (subst (λ us. VeneersPut K.forward (is_other K.has_veneer K.forward K.backward (place_of c.pad_last.new.self) None) (before_last (bytes_of b) (length (pending_of K.has_veneer K.forward K.backward b))) us (bytes_of c.put_waiting.new.self) (uses_of c.put_waiting.new.self)) e.uses
-    (subst (λ s. VeneersPut K.forward (is_other K.has_veneer K.forward K.backward (place_of c.pad_last.new.self) None) s (uses_of c.pad_last.new.self) (bytes_of c.put_waiting.new.self) (uses_of c.put_waiting.new.self)) e.bytes w.put))
-
-pub returns-clause-windows : goal.returns-clause-windows
-returns-clause-windows g c =
-    let K = g.L.MachInstLabelUse in
-    let b = c.args.self.now in
-    let e = c.in_ok-pad_last.ensures in
-    let w = c.in_ok-put_waiting.ensures in
-    λ h. w.windows (windows_as (windows_before (length (pending_of K.has_veneer K.forward K.backward b)) h) e.bytes e.uses e.veneers)
-
-pub returns-clause-none : goal.returns-clause-none
-returns-clause-none g c =
-    let K = g.L.MachInstLabelUse in
-    let b = c.args.self.now in
-    let e = c.in_ok-pad_last.ensures in
-    let test = same_test K.has_veneer K.forward K.backward b c.pad_last.new.self e.labels.places in
-    let w = c.in_ok-put_waiting.ensures in
-    subst (λ t. deadlines t K.forward (uses_of c.put_waiting.new.self) ≡ []) test w.none
-
-pub returns-clause-grown : goal.returns-clause-grown
-returns-clause-grown g c =
-    let K = g.L.MachInstLabelUse in
-    let b = c.args.self.now in
-    let e = c.in_ok-pad_last.ensures in
-    let longer = before_longer (bytes_of b) (length (pending_of K.has_veneer K.forward K.backward b)) in
-    let long = ap (length {A = ℕ}) e.bytes in
-    added_more (omega (arith, longer, long)) (added_none (length (bytes_of b)) e.veneers) c.in_ok-put_waiting.ensures.grown
-
-pub put_waiting-requires-clause-even : goal.put_waiting-requires-clause-even
-put_waiting-requires-clause-even g c = c.in_ok-pad_last.ensures.sound.even
-
-pub put_waiting-requires-clause-linked : goal.put_waiting-requires-clause-linked
-put_waiting-requires-clause-linked g c = c.in_ok-pad_last.ensures.sound.linked
-
-pub returns-in_err-put_waiting-clause-labels : goal.returns-in_err-put_waiting-clause-labels
-returns-in_err-put_waiting-clause-labels g c = labels_then c.pad_last.ensures.labels c.put_waiting.ensures.labels
-
-pub returns-clause-labels : goal.returns-clause-labels
-returns-clause-labels g c = labels_then c.pad_last.ensures.labels c.put_waiting.ensures.labels
-
-pub returns-clause-linked : goal.returns-clause-linked
-returns-clause-linked g c = c.in_ok-put_waiting.ensures.linked
-
-pub returns-clause-memory : goal.returns-clause-memory
-returns-clause-memory g c = (c.in_ok-pad_last.ensures.memory.0, c.in_ok-put_waiting.ensures.memory.1)
+    let d = goal.at.returns g c in
+    let s = shape_of c.args.self.now in
+    let order = map key_number c.in_ok-order.order.items in
+    let padded = c.in_ok-pad_last.ensures.shape ∙ ap (λ (n : ℕ). padded_for n s) (count g d.After-len) in
+    record {
+      order = order;
+      in_order = in_order g d.After-len;
+      whole = c.in_ok-put_veneers.ensures.put ∙ ap (λ (ts : List PendingKey). put_all K.kinds (map key_number ts) (shape_of c.pad_last.new.self)) c.deref-2.ensures.value ∙ ap (put_all K.kinds order) padded;
+    }

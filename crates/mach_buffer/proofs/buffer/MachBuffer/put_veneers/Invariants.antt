@@ -1,0 +1,11 @@
+use Rattle.std.proofs.Common.{◌≡◌, ◌+◌, ◌*◌, ◌-◌, ◌<◌, ◌%◌, drop, map, length}
+use Rattle.mach_buffer.specs.Queues.{key_number}
+use Rattle.mach_buffer.specs.Buffer.{shape_of, bytes_of, uses_of, spoiled_of}
+use Rattle.mach_buffer.proofs.VeneerLoop.{Going}
+use Rattle.mach_buffer.proofs.buffer.MachBuffer.put_veneers.Given as goal
+
+abbrev pub invariant-loop-key : goal.invariant-loop-key
+invariant-loop-key g l =
+    let K = g.L.MachInstLabelUse in
+    Going K.kinds (drop l.key-index (map key_number l.order)) (map key_number l.order) (shape_of l.initial.self) (shape_of l.self)
+    × (l.self.pending ≡ l.initial.self.pending) × (spoiled_of l.self ≡ spoiled_of l.initial.self)

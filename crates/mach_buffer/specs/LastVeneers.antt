@@ -1,0 +1,14 @@
+-- What stands before the last patches.
+use Rattle.std.specs.Prelude.{◌≡◌, ℕ, List, length}
+use Rattle.rv_base.specs.LabelUse.{Kinds}
+use Rattle.mach_buffer.specs.Shape.{Shape}
+use Rattle.mach_buffer.specs.Reach.{is_pending}
+use Rattle.mach_buffer.specs.Veneers.{put_all, IsOrder}
+use Rattle.mach_buffer.specs.Islands.{put_constants}
+use Rattle.mach_buffer.specs.Finish.{padded_for}
+
+-- a veneer was put for each pending use, in order
+pub record LastPut {L : Type 0} (kinds : Kinds L) (s put : Shape L) : Type 0 where
+  pub order : List ℕ
+  pub in_order : IsOrder kinds (is_pending kinds s.place) s.uses order
+  pub whole : put ≡ put_constants (put_all kinds order (padded_for (length order) s))

@@ -1,0 +1,99 @@
+-- The queues of pending uses: numbers of uses, among them all that are pending, and how much room there is before their
+-- deadlines.
+use Rattle.std.specs.Prelude.{◌≡◌, ℕ, ◌+◌, ◌-◌, ◌*◌, ◌<◌, ◌≤◌, Bool, true, false, not, ◌&&◌, nat_le, nat_lt, cond, min, max, List, filter, length, Option, Some, None, slice_get}
+use Rattle.std.specs.List.{filter_map}
+use Rattle.rv_base.specs.declared.label.MachLabel.{MachLabel}
+use Rattle.rv_base.specs.LabelUse.{Kinds}
+use Rattle.mach_buffer.specs.declared.uses.Use.{Use}
+use Rattle.mach_buffer.specs.declared.uses.PendingKey.{PendingKey}
+use Rattle.mach_buffer.specs.declared.pending.Pending.{Pending}
+use Rattle.mach_buffer.specs.Reach.{deadline, is_pending, names, deadlines, due_by, HasSlack}
+use Rattle.mach_buffer.specs.Veneers.{numbers_of}
+
+-- ---- uses by number
+
+abbrev pub passes : {L : Type 0} → (Use L → Bool) → Option (Use L) → Bool
+passes test None = false
+passes test (Some u) = test u
+
+-- whether a test holds of the use of a number
+abbrev pub test_at : {L : Type 0} → (Use L → Bool) → List (Use L) → ℕ → Bool
+test_at test uses number = passes test (slice_get uses number)
+
+abbrev pub where_it : {L : Type 0} → (Use L → Bool) → Option (Use L) → Option (Use L)
+where_it test None = None
+where_it test (Some u) = cond (test u) (Some u) None
+
+-- the use of a number, where a test holds of it
+abbrev pub use_where : {L : Type 0} → (Use L → Bool) → List (Use L) → ℕ → Option (Use L)
+use_where test uses number = where_it test (slice_get uses number)
+
+abbrev pub is_due_in : {L : Type 0} → Kinds L → ℕ → Option (Use L) → Bool
+is_due_in kinds end None = false
+is_due_in kinds end (Some u) = nat_le (deadline kinds u) end
+
+-- whether the use of a number passes a test and is due by an offset
+abbrev pub is_due_at : {L : Type 0} → Kinds L → (Use L → Bool) → List (Use L) → ℕ → ℕ → Bool
+is_due_at kinds test uses end number = is_due_in kinds end (use_where test uses number)
+
+abbrev pub key_if : {L : Type 0} → Kinds L → ℕ → Option (Use L) → Option PendingKey
+key_if kinds number None = None
+key_if kinds number (Some u) = Some (record { deadline = deadline kinds u; offset = u.offset; index = number })
+
+abbrev pub deadline_in : {L : Type 0} → Kinds L → Option (Use L) → ℕ
+deadline_in kinds None = 0
+deadline_in kinds (Some u) = deadline kinds u
+
+-- its deadline
+abbrev pub deadline_at : {L : Type 0} → Kinds L → List (Use L) → ℕ → ℕ
+deadline_at kinds uses number = deadline_in kinds (slice_get uses number)
+
+-- ---- two queues
+
+-- whether a use reaches fewer than 2^16 bytes forward
+abbrev pub is_near : {L : Type 0} → Kinds L → Use L → Bool
+is_near kinds u = nat_lt (kinds.forward u.kind) 65536
+
+abbrev pub on_side : Bool → Bool → Bool
+on_side true near = near
+on_side false near = not near
+
+-- a use is pending and belongs to the queue of those that reach so far
+abbrev pub is_queued : {L : Type 0} → Kinds L → (ℕ → Option ℕ) → Bool → Use L → Bool
+is_queued kinds place near u = is_pending kinds place u && on_side near (is_near kinds u)
+
+-- a use is in a queue, and names another label than this one
+abbrev pub is_other_queued : {L : Type 0} → Kinds L → (ℕ → Option ℕ) → Bool → Option MachLabel → Use L → Bool
+is_other_queued kinds place near after_island u = is_queued kinds place near u && not (names after_island u)
+
+-- the keys of those uses, by their numbers, for which a test holds
+abbrev pub keys_where : {L : Type 0} → Kinds L → (Use L → Bool) → List (Use L) → List ℕ → List PendingKey
+keys_where kinds test uses numbers = filter_map (λ number. key_if kinds number (use_where test uses number)) numbers
+
+-- the slack after a use with a deadline, the n-th of its queue
+abbrev pub slack_after : ℕ → ℕ → ℕ → ℕ
+slack_after slack deadline n = max (min (slack - 8) (deadline - 8)) (min slack (deadline - 8 * n))
+
+-- a queue keeps the numbers of exactly those uses for which a test holds, and maybe others; and its slack, where it isn't 0,
+-- is room before the deadlines of all of them
+pub record Keeps {L : Type 0} (kinds : Kinds L) (test : Use L → Bool) (uses : List (Use L)) (numbers : List ℕ) (slack : ℕ) : Type 0 where
+  pub low : (k i : ℕ) → slice_get numbers k ≡ Some i → i < length uses
+  pub same : filter (test_at test uses) numbers ≡ numbers_of test uses
+  pub room : 1 ≤ slack → HasSlack slack 0 (deadlines test kinds uses)
+
+-- both queues do
+pub record AreKept {L : Type 0} (kinds : Kinds L) (place : ℕ → Option ℕ) (uses : List (Use L)) (p : Pending) : Type 0 where
+  pub near : Keeps kinds (is_queued kinds place true) uses p.near.numbers.items p.near.slack
+  pub far : Keeps kinds (is_queued kinds place false) uses p.far.numbers.items p.far.slack
+
+-- how many pending uses are due by an offset
+abbrev pub due_in : {L : Type 0} → Kinds L → (ℕ → Option ℕ) → List (Use L) → ℕ → ℕ
+due_in kinds place uses end = due_by end (deadlines (is_pending kinds place) kinds uses)
+
+abbrev pub key_number : PendingKey → ℕ
+key_number t = t.index
+
+-- whether the slack of both queues shows that all veneers, put from an offset on, end by their deadlines: those of the near
+-- uses may all come before one of a far use
+abbrev pub shows_slack : Pending → ℕ → Bool
+shows_slack p start = nat_le start p.near.slack && nat_le (start + 8 * length p.near.numbers.items) p.far.slack

@@ -1,0 +1,30 @@
+-- What is asked of uses that get their veneers, and what they bring.
+use Rattle.std.specs.Prelude.{◌≡◌, ◌≢◌, ℕ, ◌+◌, ◌≤◌, true, List, [], ◌∷◌, ◌++◌, Some, slice_get}
+use Rattle.rv_base.specs.LabelUse.{Kinds}
+use Rattle.mach_buffer.specs.declared.uses.Use.{Use}
+use Rattle.mach_buffer.specs.Shape.{recorded}
+use Rattle.mach_buffer.specs.Reach.{deadline}
+use Rattle.mach_buffer.specs.Islands.{IsOwn}
+
+-- the use of a number supports a veneer, and reaches an offset
+pub record CanPutAt {L : Type 0} (kinds : Kinds L) (uses : List (Use L)) (cur number : ℕ) : Type 0 where
+  pub user : Use L
+  pub there : slice_get uses number ≡ Some user
+  pub supported : kinds.has_veneer user.kind ≡ true
+  pub near : cur ≤ deadline kinds user
+
+-- a number is none of these
+abbrev pub IsNone : ℕ → List ℕ → Type 0
+IsNone i [] = Unit {0}
+IsNone i (j ∷ order) = (j ≢ i) × IsNone i order
+
+-- each of these uses can get its veneer in turn, from an offset on
+abbrev pub CanPut : {L : Type 0} → Kinds L → List (Use L) → ℕ → List ℕ → Type 0
+CanPut kinds uses cur [] = Unit {0}
+CanPut kinds uses cur (i ∷ order) = CanPutAt kinds uses cur i × IsNone i order × CanPut kinds uses (cur + 8) order
+
+-- uses in veneers were added
+pub record AddsOwn {L : Type 0} (kinds : Kinds L) (from : ℕ) (uses new_uses : List (Use L)) : Type 0 where
+  pub more : List (Use L)
+  pub grown : recorded new_uses ≡ recorded uses ++ more
+  pub own : (k : ℕ) (u : Use L) → slice_get more k ≡ Some u → IsOwn kinds uses from u

@@ -1,0 +1,81 @@
+//! The places of labels, and the labels that the buffer gives out.
+
+ghost use Rattle.std.specs.Prelude.{◌≤◌, ◌^◌};
+
+use crate::uses::LabelPlace;
+use mach_labels::LabelTable;
+use rv_base::{MachLabel, OutOfMemory};
+use std::alloc::Global;
+
+/// The number of the first label that a buffer gives out. A listing's own labels are below.
+pub const FIRST_INNER: u32 = 0x40000000;
+
+/// Where each bound label stands, the listing's labels in order of binding, and how many labels were given out.
+#[derive(Drop)]
+pub struct Labels {
+    pub(crate) table: LabelTable<u32>,
+    pub(crate) bound: Vec<LabelPlace>,
+    pub(crate) allocated: u32,
+    ghost few: { allocated ≤ 2 ^ 30 },
+}
+
+impl Labels {
+    ghost use Rattle.std.specs.Prelude.{◌≡◌, ◌+◌, ◌<◌, ◌++◌, [], ℕ, OnOk, None};
+    ghost use Rattle.mach_buffer.specs.Shape.{placed, listed};
+    ghost use Rattle.mach_buffer.specs.Places.{place_in};
+
+    pub(crate) fn new(alloc: Global) -> Labels
+        ensures places { (label : ℕ) → place_in result label ≡ None }
+        ensures bound { result.bound.items ≡ [] }
+        ensures allocated { result.allocated ≡ 0 }
+    {
+        Labels {
+            table: LabelTable::new(alloc),
+            bound: Vec::new(alloc),
+            allocated: 0,
+        }
+    }
+
+    /// Where a label is bound.
+    pub(crate) fn place(&self, label: MachLabel) -> Option<u32>
+        ensures { result ≡ place_in self.now label.number }
+    {
+        self.table.get(label.number)
+    }
+
+    /// Gives out a label.
+    pub(crate) fn allocate(&mut self) -> MachLabel
+        requires { self.old.allocated < 2 ^ 30 }
+        ensures number { result.number ≡ 2 ^ 30 + self.old.allocated }
+        ensures allocated { self.new.allocated ≡ self.old.allocated + 1 }
+        ensures places { place_in self.new ≡ place_in self.old }
+        ensures bound { self.new.bound ≡ self.old.bound }
+    {
+        let label = MachLabel::from_u32(FIRST_INNER + self.allocated);
+        self.allocated += 1;
+        label
+    }
+
+    /// Binds a label at an offset.
+    pub(crate) fn bind(&mut self, label: MachLabel, at: u32) -> Result<(), OutOfMemory>
+        ensures places { OnOk result (place_in self.new ≡ placed (place_in self.old) label.number at) }
+        ensures bound { OnOk result (self.new.bound.items ≡ self.old.bound.items ++ listed label at) }
+        ensures allocated { self.new.allocated ≡ self.old.allocated }
+    {
+        self.list(label, at)?;
+        self.table.set(label.number, at)?;
+        Ok(())
+    }
+
+    /// Adds a listing's label to those in order of binding.
+    fn list(&mut self, label: MachLabel, at: u32) -> Result<(), OutOfMemory>
+        ensures bound { OnOk result (self.new.bound.items ≡ self.old.bound.items ++ listed label at) }
+        ensures table { self.new.table ≡ self.old.table }
+        ensures allocated { self.new.allocated ≡ self.old.allocated }
+    {
+        if label.number < FIRST_INNER {
+            self.bound.push(LabelPlace { label, offset: at })?;
+        }
+        Ok(())
+    }
+}

@@ -1,0 +1,337 @@
+//! The queues of pending uses.
+
+use crate::labels::Labels;
+use crate::reach::{deadline, is_near, is_pending, is_queued, names};
+use crate::uses::{PendingKey, Use};
+use rv_base::{MachInstLabelUse, MachLabel, OutOfMemory};
+use std::alloc::Global;
+
+/// The numbers of uses, in the order in which they were recorded, among them all that are pending; and a number from which
+/// on the veneers of all of them still end by their deadlines. It is 0 where that isn't known.
+#[derive(Drop)]
+pub struct Queue {
+    pub(crate) numbers: Vec<usize>,
+    pub(crate) slack: u64,
+}
+
+/// A queue of the uses that don't reach far, and one of those that do: each is in order of deadlines, where the uses in it
+/// are of one kind.
+#[derive(Drop)]
+pub struct Pending {
+    pub(crate) near: Queue,
+    pub(crate) far: Queue,
+}
+
+/// The use of a number, where it is pending and belongs to a queue.
+fn queued_use<L: MachInstLabelUse>(
+    uses: &[Use<L>],
+    labels: &Labels,
+    near: bool,
+    number: usize,
+) -> Option<Use<L>>
+    ensures { result ≡ use_where (queued L.kinds (place_in labels.now) near) uses.now number }
+{
+    match uses.get(number) {
+        Some(u) => {
+            if is_queued(u, labels, near) {
+                Some(*u)
+            } else {
+                None
+            }
+        }
+        None => None,
+    }
+}
+
+ghost use Rattle.std.specs.Prelude.{◌≡◌};
+ghost use Rattle.mach_buffer.specs.Queues.{is_queued as queued, is_other_queued, use_where, is_due_at, key_if};
+ghost use Rattle.mach_buffer.specs.Places.{place_in};
+
+/// Returns whether the use of a number is in a queue and due by an offset.
+fn is_due<L: MachInstLabelUse>(
+    uses: &[Use<L>],
+    labels: &Labels,
+    near: bool,
+    end: u128,
+    number: usize,
+) -> bool
+    ensures { result ≡ is_due_at L.kinds (queued L.kinds (place_in labels.now) near) uses.now end number }
+{
+    match queued_use(uses, labels, near, number) {
+        Some(u) => deadline(&u) as u128 <= end,
+        None => false,
+    }
+}
+
+/// The key of the use of a number, where it is in a queue and names another label than this one.
+fn key_of<L: MachInstLabelUse>(
+    uses: &[Use<L>],
+    labels: &Labels,
+    near: bool,
+    after_island: Option<MachLabel>,
+    number: usize,
+) -> Option<PendingKey>
+    ensures { result ≡ key_if L.kinds number (use_where (is_other_queued L.kinds (place_in labels.now) near after_island) uses.now number) }
+{
+    match uses.get(number) {
+        Some(u) => {
+            if is_queued(u, labels, near) && !names(after_island, u) {
+                Some(PendingKey {
+                    deadline: deadline(u),
+                    offset: u.offset,
+                    index: number,
+                })
+            } else {
+                None
+            }
+        }
+        None => None,
+    }
+}
+
+impl Queue {
+    ghost use Rattle.std.specs.Prelude.{◌≡◌, ◌+◌, ◌<◌, ◌≤◌, ◌++◌, ◌∷◌, ◌^◌, [], length, map, filter, count_by, is_some, OnOk, IfOk, ℕ};
+    ghost use Rattle.mach_buffer.specs.Queues.{is_queued as queued, is_other_queued, use_where, is_due_at, keys_where, slack_after, Keeps};
+    ghost use Rattle.mach_buffer.specs.Places.{place_in};
+
+    pub(crate) fn new(alloc: Global) -> Queue
+        ensures numbers { result.numbers.items ≡ [] }
+        ensures slack { result.slack < 2 ^ 64 }
+    {
+        Queue {
+            numbers: Vec::new(alloc),
+            slack: u64::MAX,
+        }
+    }
+
+    /// Adds the use of a number, with its deadline.
+    pub(crate) fn push(&mut self, number: usize, deadline: u64) -> Result<(), OutOfMemory>
+        ensures numbers { OnOk result (self.new.numbers.items ≡ self.old.numbers.items ++ number ∷ []) }
+        ensures slack { OnOk result (self.new.slack ≡ slack_after self.old.slack deadline (length self.old.numbers.items + 1)) }
+    {
+        let count = self.numbers.len() as u128 + 1;
+        let rest = (deadline as u128).saturating_sub(8 * count) as u64;
+        let less = self.slack.saturating_sub(8).min(deadline.saturating_sub(8));
+        self.numbers.push(number)?;
+        self.slack = less.max(self.slack.min(rest));
+        Ok(())
+    }
+
+    /// How many of the uses are pending and due by an offset.
+    pub(crate) fn count_due<L: MachInstLabelUse>(
+        &self,
+        uses: &[Use<L>],
+        labels: &Labels,
+        near: bool,
+        end: u128,
+    ) -> usize
+        ensures { result ≡ count_by (λ number. is_due_at L.kinds (queued L.kinds (place_in labels.now) near) uses.now end number) self.now.numbers.items }
+    {
+        self.numbers
+            .iter()
+            .filter(|number| is_due(uses, labels, near, end, **number))
+            .count()
+    }
+
+    /// How many of the uses are pending.
+    pub(crate) fn count<L: MachInstLabelUse>(
+        &self,
+        uses: &[Use<L>],
+        labels: &Labels,
+        near: bool,
+    ) -> usize
+        ensures { result ≡ count_by (λ number. is_some (use_where (queued L.kinds (place_in labels.now) near) uses.now number)) self.now.numbers.items }
+    {
+        self.numbers
+            .iter()
+            .filter(|number| queued_use(uses, labels, near, **number).is_some())
+            .count()
+    }
+
+    /// A queue of those of the uses that are still pending.
+    pub(crate) fn tidied<L: MachInstLabelUse>(
+        &self,
+        uses: &[Use<L>],
+        labels: &Labels,
+        near: bool,
+        alloc: Global,
+    ) -> Result<Queue, OutOfMemory>
+        requires { Keeps L.kinds (queued L.kinds (place_in labels.now) near) uses.now self.now.numbers.items self.now.slack }
+        ensures { IfOk result (λ queue. Keeps L.kinds (queued L.kinds (place_in labels.now) near) uses.now queue.numbers.items queue.slack) }
+    {
+        let mut queue = Queue::new(alloc);
+        for number in &self.numbers {
+            match queued_use(uses, labels, near, *number) {
+                Some(u) => queue.push(*number, deadline(&u))?,
+                None => {}
+            }
+        }
+        Ok(queue)
+    }
+
+    /// Adds the keys of those of the uses that are pending and name another label than this one.
+    pub(crate) fn collect<L: MachInstLabelUse>(
+        &self,
+        uses: &[Use<L>],
+        labels: &Labels,
+        near: bool,
+        after_island: Option<MachLabel>,
+        keys: &mut Vec<PendingKey>,
+    ) -> Result<(), OutOfMemory>
+        ensures { OnOk result (keys.new.items ≡ keys.old.items ++ keys_where L.kinds (is_other_queued L.kinds (place_in labels.now) near after_island) uses.now self.now.numbers.items) }
+    {
+        for number in &self.numbers {
+            match key_of(uses, labels, near, after_island, *number) {
+                Some(key) => keys.push(key)?,
+                None => {}
+            }
+        }
+        Ok(())
+    }
+}
+
+impl Pending {
+    ghost use Rattle.std.specs.Prelude.{◌≡◌, ◌+◌, ◌-◌, ◌<◌, ◌≤◌, ◌^◌, ◌++◌, ◌∷◌, [], length, map, OnOk, IfOk, Some};
+    ghost use Rattle.mach_buffer.specs.Reach.{is_pending as pending, is_other, deadlines, is_needed_from};
+    ghost use Rattle.mach_buffer.specs.Veneers.{IsOrder};
+    ghost use Rattle.mach_buffer.specs.Queues.{is_queued as queued, AreKept, due_in, key_number, shows_slack};
+    ghost use Rattle.mach_buffer.specs.Places.{place_in};
+
+    pub(crate) fn new(alloc: Global) -> Pending
+        ensures near { result.near.numbers.items ≡ [] }
+        ensures far { result.far.numbers.items ≡ [] }
+    {
+        Pending {
+            near: Queue::new(alloc),
+            far: Queue::new(alloc),
+        }
+    }
+
+    /// Adds the use that is recorded next, where it is pending.
+    pub(crate) fn push<L: MachInstLabelUse>(
+        &mut self,
+        uses: &[Use<L>],
+        labels: &Labels,
+        u: &Use<L>,
+    ) -> Result<(), OutOfMemory>
+        requires { AreKept L.kinds (place_in labels.now) uses.now self.old }
+        ensures { OnOk result (AreKept L.kinds (place_in labels.now) (uses.now ++ u.now ∷ []) self.new) }
+    {
+        if !is_pending(u, labels) {
+            return Ok(());
+        }
+        if is_near(u) {
+            self.near.push(uses.len(), deadline(u))?;
+            return Ok(());
+        }
+        self.far.push(uses.len(), deadline(u))?;
+        Ok(())
+    }
+
+    /// Takes out the uses that are no longer pending, from each queue whose slack ends before an offset.
+    pub(crate) fn tidy<L: MachInstLabelUse>(
+        &mut self,
+        uses: &[Use<L>],
+        labels: &Labels,
+        start: u64,
+        alloc: Global,
+    ) -> Result<(), OutOfMemory>
+        requires { AreKept L.kinds (place_in labels.now) uses.now self.old }
+        ensures { OnOk result (AreKept L.kinds (place_in labels.now) uses.now self.new) }
+    {
+        if self.near.slack < start {
+            self.near = self.near.tidied(uses, labels, true, alloc)?;
+        }
+        if self.far.slack < start {
+            self.far = self.far.tidied(uses, labels, false, alloc)?;
+        }
+        Ok(())
+    }
+
+    /// Takes out all uses.
+    pub(crate) fn clear(&mut self)
+        ensures near { self.new.near.numbers.items ≡ [] }
+        ensures far { self.new.far.numbers.items ≡ [] }
+    {
+        self.near.numbers.clear();
+        self.near.slack = u64::MAX;
+        self.far.numbers.clear();
+        self.far.slack = u64::MAX;
+    }
+
+    /// How many uses there are at most.
+    pub(crate) fn len(&self) -> usize
+        ensures { result ≡ length self.now.near.numbers.items + length self.now.far.numbers.items }
+    {
+        self.near.numbers.len() + self.far.numbers.len()
+    }
+
+    /// How many uses are pending.
+    pub(crate) fn count<L: MachInstLabelUse>(&self, uses: &[Use<L>], labels: &Labels) -> usize
+        requires { AreKept L.kinds (place_in labels.now) uses.now self.now }
+        ensures { result ≡ length (deadlines (pending L.kinds (place_in labels.now)) L.kinds uses.now) }
+    {
+        self.near.count(uses, labels, true) + self.far.count(uses, labels, false)
+    }
+
+    /// How many pending uses are due by an offset.
+    fn count_due<L: MachInstLabelUse>(&self, uses: &[Use<L>], labels: &Labels, end: u128) -> usize
+        requires { AreKept L.kinds (place_in labels.now) uses.now self.now }
+        ensures { result ≡ due_in L.kinds (place_in labels.now) uses.now end }
+    {
+        self.near.count_due(uses, labels, true, end) + self.far.count_due(uses, labels, false, end)
+    }
+
+    /// Returns whether the slack of both queues shows that all veneers, put from `start` on, end by their deadlines.
+    fn has_slack(&self, start: u64) -> bool
+        ensures { result ≡ shows_slack self.now start }
+    {
+        start <= self.near.slack
+            && start as u128 + 8 * self.near.numbers.len() as u128 <= self.far.slack as u128
+    }
+
+    /// Returns whether the veneers of all that is due by some deadline, put from `start` on, end past it.
+    pub(crate) fn is_tight<L: MachInstLabelUse>(
+        &self,
+        uses: &[Use<L>],
+        labels: &Labels,
+        start: u64,
+    ) -> bool
+        requires kept { AreKept L.kinds (place_in labels.now) uses.now self.now }
+        requires margin { 30 ≤ start }
+        ensures { result ≡ is_needed_from (start - 30) (deadlines (pending L.kinds (place_in labels.now)) L.kinds uses.now) (deadlines (pending L.kinds (place_in labels.now)) L.kinds uses.now) }
+    {
+        if self.has_slack(start) {
+            return false;
+        }
+        let mut count = self.len();
+        'fewer: while count > 0 {
+            let due = self.count_due(uses, labels, start as u128 + 8 * count as u128 - 1);
+            if due >= count {
+                return true;
+            }
+            count = due;
+        }
+        false
+    }
+
+    /// The keys of the pending uses that name another label than this one, in order.
+    pub(crate) fn order<L: MachInstLabelUse>(
+        &self,
+        uses: &[Use<L>],
+        labels: &Labels,
+        after_island: Option<MachLabel>,
+        alloc: Global,
+    ) -> Result<Vec<PendingKey>, OutOfMemory>
+        requires { AreKept L.kinds (place_in labels.now) uses.now self.now }
+        ensures { IfOk result (λ keys. IsOrder L.kinds (is_other L.kinds (place_in labels.now) after_island) uses.now (map key_number keys.items)) }
+    {
+        let mut keys = Vec::new(alloc);
+        self.near
+            .collect(uses, labels, true, after_island, &mut keys)?;
+        self.far
+            .collect(uses, labels, false, after_island, &mut keys)?;
+        keys.sort_unstable();
+        Ok(keys)
+    }
+}

@@ -1,0 +1,66 @@
+//! How far uses reach, and which of them are pending.
+
+ghost use Rattle.std.specs.Prelude.{◌≡◌, ◌<◌};
+ghost use Rattle.mach_buffer.specs.Reach.{deadline as last_of, is_reached as reached, is_pending as pending, names as names_label};
+ghost use Rattle.mach_buffer.specs.Queues.{is_near as near_to, is_queued as queued};
+ghost use Rattle.mach_buffer.specs.Places.{place_in};
+
+use crate::labels::Labels;
+use crate::uses::Use;
+use rv_base::{MachInstLabelUse, MachLabel};
+
+/// The reach, in bytes, from which on a use is kept apart from those that reach less far.
+const FAR: u32 = 65536;
+
+/// The last offset that a use reaches.
+pub(crate) fn deadline<L: MachInstLabelUse>(u: &Use<L>) -> u64
+    ensures value { result ≡ last_of L.kinds u.now }
+    ensures small { result < 8589934592 }
+{
+    u.offset as u64 + u.kind.max_pos_range() as u64
+}
+
+/// Returns whether the label of a use is bound within its reach.
+fn is_reached<L: MachInstLabelUse>(u: &Use<L>, labels: &Labels) -> bool
+    ensures { result ≡ reached L.kinds (place_in labels.now u.now.label.number) u.now }
+{
+    match labels.place(u.label) {
+        Some(at) => {
+            let forward = u.offset as u64 + u.kind.max_pos_range() as u64;
+            let backward = at as u64 + u.kind.max_neg_range() as u64;
+            at as u64 <= forward && u.offset as u64 <= backward
+        }
+        None => false,
+    }
+}
+
+/// Returns whether a use has neither its label in reach nor a veneer, and may go by one.
+pub(crate) fn is_pending<L: MachInstLabelUse>(u: &Use<L>, labels: &Labels) -> bool
+    ensures { result ≡ pending L.kinds (place_in labels.now) u.now }
+{
+    u.kind.supports_veneer() && u.veneer.is_none() && !is_reached(u, labels)
+}
+
+/// Returns whether a use belongs to those that don't reach far.
+pub(crate) fn is_near<L: MachInstLabelUse>(u: &Use<L>) -> bool
+    ensures { result ≡ near_to L.kinds u.now }
+{
+    u.kind.max_pos_range() < FAR
+}
+
+/// Returns whether a use is pending, and reaches as far as those of a queue.
+pub(crate) fn is_queued<L: MachInstLabelUse>(u: &Use<L>, labels: &Labels, near: bool) -> bool
+    ensures { result ≡ queued L.kinds (place_in labels.now) near u.now }
+{
+    is_pending(u, labels) && is_near(u) == near
+}
+
+/// Returns whether a use names this label.
+pub(crate) fn names<L: MachInstLabelUse>(label: Option<MachLabel>, u: &Use<L>) -> bool
+    ensures { result ≡ names_label label u.now }
+{
+    match label {
+        Some(named) => u.label.number == named.number,
+        None => false,
+    }
+}
