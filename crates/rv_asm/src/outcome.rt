@@ -12,17 +12,21 @@ use std::alloc::Global;
 /// How a call of the program ended.
 #[derive(Drop)]
 pub enum Outcome {
-    /// The listing has this code, and its report was written.
+    /// The listing has this code, and its report was written. Status 0.
     Done { code: Code },
-    /// The command has words.
+    /// The command has words, of which it takes none. Status 2.
     Usage,
-    /// The listing's first bad line, counted from 1.
+    /// The text's first line that is no form of a line, counted from 1, comments among them. Status 3.
     Syntax { line: usize },
+    /// The listing is refused, for its first cause. Status 4.
     Refused { error: EmitError },
+    /// Reading failed. Status 5; nothing is written.
     ReadFault,
+    /// Writing failed. Status 6; a front of the text may be written.
     WriteFault,
-    /// The input has more than 16777216 bytes.
+    /// The input has more than 16777216 bytes. Status 7.
     TooLong,
+    /// Status 8; a front of the text may be written.
     OutOfMemory,
 }
 

@@ -8,8 +8,11 @@ use rv_base::List;
 /// Where the bytes of a line begin and end.
 #[derive(Clone, Copy, Debug, PartialEq, Eq)]
 pub struct LineSpan {
+    /// The line's index in the listing, from 0.
     pub index: usize,
+    /// The offset of its first byte, in bytes from the code's start. An island before the line is not its own.
     pub start: u32,
+    /// The offset after its last byte; that of a line without bytes is its start.
     pub end: u32,
 }
 
@@ -17,8 +20,11 @@ pub struct LineSpan {
 #[derive(Drop)]
 pub struct Code {
     pub bytes: List<u8>,
+    /// One span a line, in order.
     pub lines: List<LineSpan>,
+    /// The offset of each label that the listing binds, in order of binding.
     pub labels: List<LabelPlace>,
+    /// The offset after the last line; veneers may stand after it.
     pub end: u32,
     ghost small: { length bytes < 2 ^ 32 },
 }

@@ -53,22 +53,23 @@ impl fmt::Display for CondBrTarget {
 /// An instruction. Each belongs to one `Family`, by which definitions and functions over instructions are parted.
 #[derive(Drop)]
 pub enum Inst {
-    /// No bytes.
+    /// Does nothing, in no bytes.
     Nop0,
-    /// Four bytes that do nothing.
+    /// Does nothing, in four bytes: the manual's canonical `nop`, `addi x0, x0, 0`.
     Nop4,
+    /// Stops the machine there (`ebreak`, "2.8 Environment Call and Breakpoints").
     EBreak,
     /// A place that a debugger may stop at; no bytes.
     SequencePoint,
-    /// The function's arguments; no bytes.
+    /// The function's arguments, each a virtual register and the machine's register that it arrives in; no bytes.
     Args {
         args: List<ArgPair>,
     },
-    /// The function's results; no bytes.
+    /// The function's results, each a virtual register and the machine's register that it leaves in; no bytes.
     Rets {
         rets: List<RetPair>,
     },
-    /// A register that counts as used; no bytes.
+    /// A register that counts as used here; no bytes.
     DummyUse {
         reg: Reg,
     },
@@ -76,45 +77,55 @@ pub enum Inst {
     EmitIsland {
         needed_space: u32,
     },
+    /// `rd` is the immediate times 2^12, which is `imm`'s twenty bits, signed (`lui`).
     Lui {
         rd: WritableReg,
         imm: Imm20,
     },
+    /// `rd` is the instruction's own address plus the immediate times 2^12 (`auipc`).
     Auipc {
         rd: WritableReg,
         imm: Imm20,
     },
+    /// `rd` is the operation of `rs1` and `rs2`.
     AluRRR {
         alu_op: AluOPRRR,
         rd: WritableReg,
         rs1: Reg,
         rs2: Reg,
     },
+    /// `rd` is the operation of `rs` and an immediate of twelve bits, signed; of shifts it is the shift amount in bits, and of
+    /// single-bit operations the bit's index.
     AluRRImm12 {
         alu_op: AluOPRRI,
         rd: WritableReg,
         rs: Reg,
         imm12: Imm12,
     },
+    /// `rd` is `rm`; a move to the same register has no bytes.
     Mov {
         rd: WritableReg,
         rm: Reg,
         ty: IrType,
     },
-    /// A copy of the stack or the frame pointer.
+    /// `rd` is the stack or the frame pointer.
     MovFromPReg {
         rd: WritableReg,
         rm: PReg,
     },
+    /// Leaves the code to the address in `ra`.
     Ret,
+    /// Goes to the label (`jal x0`), by a veneer where it is too far.
     Jal {
         label: MachLabel,
     },
+    /// Goes to one target where the comparison holds, and to the other where it doesn't.
     CondBr {
         taken: CondBrTarget,
         not_taken: CondBrTarget,
         kind: IntegerCompare,
     },
+    /// Leaves the code to `base` plus `offset` bytes, with bit 0 clear; `rd` is the address after it (`jalr`).
     Jalr {
         rd: WritableReg,
         base: Reg,
@@ -125,9 +136,9 @@ pub enum Inst {
 /// The kinds of instructions.
 #[derive(Clone, Copy, Debug, PartialEq, Eq)]
 pub enum Family {
-    /// Those that compute nothing.
+    /// Pseudo-instructions, `Nop4` and `EBreak`: they compute nothing.
     Pseudo,
-    /// Those that write registers, and go on.
+    /// Those that compute an integer register, and go on.
     Integer,
     /// Those that go elsewhere.
     Control,

@@ -4,6 +4,8 @@
 #[cfg(test)]
 mod buffer;
 #[cfg(test)]
+mod compiler;
+#[cfg(test)]
 mod emission;
 #[cfg(test)]
 mod immediates;
