@@ -82,3 +82,11 @@ by_letter letter w =
 unfoldable pub register : List ℕ → Option Reg
 register [] = None
 register (letter ∷ w) = by_letter letter w
+
+-- where a letter's row begins in the table of numbers by digit
+abbrev pub row : ℕ → Option ℕ
+row letter =
+    if letter == 120 then Some 0 else
+    if letter == 97 then Some 10 else
+    if letter == 116 then Some 20 else
+    if letter == 115 then Some 30 else None
