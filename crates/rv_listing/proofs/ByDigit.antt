@@ -28,32 +28,40 @@ s_row : (d : ℕ) → d < 10 → InRow 115 30 d
 unfolding by_letter after_s real
 s_row = below_more (InRow 115 30) 9 (below_more (InRow 115 30) 8 (below_more (InRow 115 30) 7 (below_more (InRow 115 30) 6 (below_more (InRow 115 30) 5 (below_more (InRow 115 30) 4 (below_more (InRow 115 30) 3 (below_more (InRow 115 30) 2 (below_more (InRow 115 30) 1 (below_more (InRow 115 30) 0 (below_none (InRow 115 30)) refl) refl) refl) refl) refl) refl) refl) refl) refl) refl
 
-in_row : (letter place d : ℕ) → row letter ≡ Some place → d < 10 → InRow letter place d
-in_row letter place d found low = by_x (eqb letter 120) refl found
+-- the last row has none
+abbrev NoneAt : ℕ → Type 0
+NoneAt d = real Int (slice_index BY_DIGIT (40 + d)) ≡ None
+
+no_row : (d : ℕ) → d < 10 → NoneAt d
+unfolding real
+no_row = below_more NoneAt 9 (below_more NoneAt 8 (below_more NoneAt 7 (below_more NoneAt 6 (below_more NoneAt 5 (below_more NoneAt 4 (below_more NoneAt 3 (below_more NoneAt 2 (below_more NoneAt 1 (below_more NoneAt 0 (below_none NoneAt) refl) refl) refl) refl) refl) refl) refl) refl) refl) refl
+
+in_row : (letter d : ℕ) (reg : Reg) → d < 10 → Some reg ≡ real Int (slice_index BY_DIGIT (row letter + d)) → by_letter letter ((48 + d) ∷ []) ≡ Some reg
+in_row letter d reg low found = by_x (eqb letter 120) refl found
   where
-    this : (l p : ℕ) → letter ≡ l → Some p ≡ Some place → InRow l p d → InRow letter place d
-    this l p same there it = let at : p ≡ place = cc in subst (λ q. InRow letter q d) at (subst (λ m. InRow m p d) (sym same) it)
+    this : (l p : ℕ) → letter ≡ l → Some reg ≡ real Int (slice_index BY_DIGIT (p + d)) → InRow l p d → by_letter letter ((48 + d) ∷ []) ≡ Some reg
+    this l p same e it = subst (λ m. by_letter m ((48 + d) ∷ []) ≡ Some reg) (sym same) (it ∙ sym e)
 
-    by_s : (t : Bool) → eqb letter 115 ≡ t → cond t (Some 30) None ≡ Some place → InRow letter place d
+    by_s : (t : Bool) → eqb letter 115 ≡ t → Some reg ≡ real Int (slice_index BY_DIGIT (cond t 30 40 + d)) → by_letter letter ((48 + d) ∷ []) ≡ Some reg
     by_s true is e = this 115 30 (eqb-true _ _ is) e (s_row d low)
-    by_s false is e = absurd (cc)
+    by_s false is e = let nothing : Some reg ≡ None = e ∙ no_row d low in absurd (cc)
 
-    by_t : (t : Bool) → eqb letter 116 ≡ t → cond t (Some 20) (cond (eqb letter 115) (Some 30) None) ≡ Some place → InRow letter place d
+    by_t : (t : Bool) → eqb letter 116 ≡ t → Some reg ≡ real Int (slice_index BY_DIGIT (cond t 20 (cond (eqb letter 115) 30 40) + d)) → by_letter letter ((48 + d) ∷ []) ≡ Some reg
     by_t true is e = this 116 20 (eqb-true _ _ is) e (t_row d low)
     by_t false is e = by_s (eqb letter 115) refl e
 
-    by_a : (t : Bool) → eqb letter 97 ≡ t → cond t (Some 10) (cond (eqb letter 116) (Some 20) (cond (eqb letter 115) (Some 30) None)) ≡ Some place → InRow letter place d
+    by_a : (t : Bool) → eqb letter 97 ≡ t → Some reg ≡ real Int (slice_index BY_DIGIT (cond t 10 (cond (eqb letter 116) 20 (cond (eqb letter 115) 30 40)) + d)) → by_letter letter ((48 + d) ∷ []) ≡ Some reg
     by_a true is e = this 97 10 (eqb-true _ _ is) e (a_row d low)
     by_a false is e = by_t (eqb letter 116) refl e
 
-    by_x : (t : Bool) → eqb letter 120 ≡ t → cond t (Some 0) (cond (eqb letter 97) (Some 10) (cond (eqb letter 116) (Some 20) (cond (eqb letter 115) (Some 30) None))) ≡ Some place → InRow letter place d
+    by_x : (t : Bool) → eqb letter 120 ≡ t → Some reg ≡ real Int (slice_index BY_DIGIT (cond t 0 (cond (eqb letter 97) 10 (cond (eqb letter 116) 20 (cond (eqb letter 115) 30 40))) + d)) → by_letter letter ((48 + d) ∷ []) ≡ Some reg
     by_x true is e = this 120 0 (eqb-true _ _ is) e (x_row d low)
     by_x false is e = by_a (eqb letter 97) refl e
 
 -- what is read by the table is what the name stands for
-pub read_by_digit : (letter digit place : ℕ) (r : Option Reg) → row letter ≡ Some place → 48 ≤ digit → digit ≤ 57
-    → r ≡ real Int (slice_index BY_DIGIT (place + (digit - 48))) → IfSome r (λ reg. by_letter letter (digit ∷ []) ≡ Some reg)
-read_by_digit letter digit place None found low high e = _
-read_by_digit letter digit place (Some reg) found low high e =
+pub read_by_digit : (letter digit : ℕ) (r : Option Reg) → 48 ≤ digit → digit ≤ 57
+    → r ≡ real Int (slice_index BY_DIGIT (row letter + (digit - 48))) → IfSome r (λ reg. by_letter letter (digit ∷ []) ≡ Some reg)
+read_by_digit letter digit None low high e = _
+read_by_digit letter digit (Some reg) low high e =
     let back : 48 + (digit - 48) ≡ digit = omega arith in
-    subst (λ n. by_letter letter (n ∷ []) ≡ Some reg) back (in_row letter place (digit - 48) found (omega arith) ∙ sym e)
+    subst (λ n. by_letter letter (n ∷ []) ≡ Some reg) back (in_row letter (digit - 48) reg (omega arith) e)

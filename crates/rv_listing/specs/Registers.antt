@@ -84,9 +84,5 @@ register [] = None
 register (letter ∷ w) = by_letter letter w
 
 -- where a letter's row begins in the table of numbers by digit
-abbrev pub row : ℕ → Option ℕ
-row letter =
-    if letter == 120 then Some 0 else
-    if letter == 97 then Some 10 else
-    if letter == 116 then Some 20 else
-    if letter == 115 then Some 30 else None
+abbrev pub row : ℕ → ℕ
+row letter = if letter == 120 then 0 else if letter == 97 then 10 else if letter == 116 then 20 else if letter == 115 then 30 else 40
