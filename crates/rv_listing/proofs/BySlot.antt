@@ -14,7 +14,7 @@ use Rattle.rv_ops.specs.Alu.{rrr_name, rri_name}
 use Rattle.rv_listing.specs.Comparisons.{every, cond_code}
 use Rattle.rv_listing.specs.declared.comparisons.TheConstants.{SLOTS, FACTOR}
 use Rattle.rv_listing.specs.declared.operations.TheConstants.{RRR_SLOTS, RRR_FACTOR, RRI_SLOTS, RRI_FACTOR}
-use Rattle.rv_listing.specs.Slots.{candidate, slot, hash}
+use Rattle.rv_listing.specs.Slots.{candidate, slot, key}
 use Rattle.rv_listing.specs.declared.form_names.TheConstants.{FORM_SLOTS, FORM_FACTOR}
 use Rattle.rv_listing.specs.declared.form_names.Form.{Form}
 use Rattle.rv_listing.specs.declared.form_names.Form.TheVariants as forms
@@ -94,17 +94,17 @@ cc_found _ = refl
 
 -- each name's slot holds what it names
 rrr_hit : (op : AluOPRRR) → candidate every_rrr RRR_SLOTS RRR_FACTOR (rrr_name op) ≡ Some op
-unfolding every_rrr candidate slot hash
+unfolding every_rrr candidate slot key
 rrr_hit rrr.Add = refl
 rrr_hit _ = refl
 
 rri_hit : (op : AluOPRRI) → candidate every_rri RRI_SLOTS RRI_FACTOR (rri_name op) ≡ Some op
-unfolding every_rri candidate slot hash
+unfolding every_rri candidate slot key
 rri_hit rri.Addi = refl
 rri_hit _ = refl
 
 cc_hit : (c : IntCC) → candidate every SLOTS FACTOR (name_of c) ≡ Some c
-unfolding every candidate slot hash
+unfolding every candidate slot key
 cc_hit comparison.Equal = refl
 cc_hit _ = refl
 
@@ -126,7 +126,7 @@ form_found forms.Nop0 = refl
 form_found _ = refl
 
 form_hit : (form : Form) → candidate every_form FORM_SLOTS FORM_FACTOR (form_name form) ≡ Some form
-unfolding every_form candidate slot hash
+unfolding every_form candidate slot key
 form_hit forms.Nop0 = refl
 form_hit _ = refl
 

@@ -6,5 +6,6 @@ pub mod Ranges
 pub mod OneReport
 pub mod HexLines
 pub mod Vectors
+pub mod ByDigit
 pub mod BySlot
 pub mod TypeNames

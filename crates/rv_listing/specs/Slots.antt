@@ -1,17 +1,13 @@
 -- Names by a table of slots.
-use Rattle.std.specs.Prelude.{ℕ, ◌+◌, ◌*◌, ◌/◌, ◌%◌, ◌^◌, List, [], ◌∷◌, Option, slice_get, slice_index}
+use Rattle.std.specs.Prelude.{ℕ, ◌+◌, ◌-◌, ◌*◌, ◌/◌, ◌%◌, ◌^◌, List, Option, length, slice_get, slice_index}
 
-abbrev pub hash_from : ℕ → ℕ → List ℕ → ℕ
-hash_from factor sum [] = sum
-hash_from factor sum (c ∷ cs) = hash_from factor ((sum + c) % 2 ^ 32 * factor % 2 ^ 32) cs
+-- the number of a word: its first three bytes, and its last two; a byte that it lacks is 0
+unfoldable pub key : List ℕ → ℕ
+key w = slice_index w 0 + slice_index w 1 * 2 ^ 8 + slice_index w 2 * 2 ^ 16 + slice_index w (length w - 2) * 2 ^ 24 + slice_index w (length w - 1) * 2 ^ 32
 
--- the number of a word: each byte added, and multiplied by the factor
-unfoldable pub hash : ℕ → List ℕ → ℕ
-hash factor w = hash_from factor 0 w
-
--- its upper eight bits
+-- the upper eight bits of the number times the factor, in 64 bits
 unfoldable pub slot : ℕ → List ℕ → ℕ
-slot factor w = hash factor w / 2 ^ 24
+slot factor w = key w * factor % 2 ^ 64 / 2 ^ 56
 
 -- what the word's slot names
 unfoldable pub candidate : {A : Type 0} → List A → List ℕ → ℕ → List ℕ → Option A

@@ -1,31 +1,47 @@
 //! Names by a table of slots: a word's slot holds the index of the one name that it may be. `bench/slots` makes tables.
 
-ghost use Rattle.std.specs.Prelude.{◌≡◌, ◌<◌, ◌/◌, ◌^◌, slice_get, slice_index};
-ghost use Rattle.rv_listing.specs.Slots.{hash, slot, candidate};
+ghost use Rattle.std.specs.Prelude.{◌≡◌, ℕ, ◌<◌, ◌-◌, ◌/◌, ◌^◌, length, slice_get, slice_index};
+ghost use Rattle.rv_listing.specs.Slots.{key, slot, candidate};
 
-/// The number of a word: each byte added, and multiplied by the factor.
-#[tactic(auto, unfolding(crate::specs::Slots::hash))]
-fn hash(factor: u32, w: &[u8]) -> u32
-    ensures { result ≡ hash factor w.now }
+// The byte at an index, or 0 where there is none.
+#[inline(always)]
+fn byte(w: &[u8], index: usize) -> u64
+    ensures value { result ≡ slice_index w.now index }
+    ensures small { result < 256 }
 {
-    let mut sum: u32 = 0;
-    for c in w {
-        sum = sum.wrapping_add(*c as u32).wrapping_mul(factor);
+    if index < w.len() {
+        u64::from(w[index])
+    } else {
+        0
     }
-    sum
 }
 
+/// The number of a word: five of its bytes, which tell any two names of a table apart.
+#[inline(always)]
+#[tactic(auto, unfolding(crate::specs::Slots::key))]
+fn key(w: &[u8]) -> u64
+    ensures { result ≡ key w.now }
+{
+    byte(w, 0)
+        + byte(w, 1) * 0x100
+        + byte(w, 2) * 0x1_0000
+        + byte(w, w.len().saturating_sub(2)) * 0x100_0000
+        + byte(w, w.len().saturating_sub(1)) * 0x1_0000_0000
+}
+
+#[inline(always)]
 #[tactic(auto, unfolding(crate::specs::Slots::slot))]
-fn slot(factor: u32, w: &[u8]) -> usize
+fn slot(factor: u64, w: &[u8]) -> usize
     ensures value { result ≡ slot factor w.now }
     ensures small { result < 256 }
 {
-    (hash(factor, w) >> 24) as usize
+    (key(w).wrapping_mul(factor) >> 56) as usize
 }
 
 /// The one of `every` that may have this name: of all the names, only its own can stand in the word's slot.
+#[inline(always)]
 #[tactic(auto, unfolding(crate::specs::Slots::candidate))]
-pub(crate) fn candidate<T: Copy>(every: &[T], slots: &[u8; 256], factor: u32, w: &[u8]) -> Option<T>
+pub(crate) fn candidate<T: Copy>(every: &[T], slots: &[u8; 256], factor: u64, w: &[u8]) -> Option<T>
     ensures { result ≡ candidate every.now slots.now factor w.now }
 {
     every.get(slots[slot(factor, w)] as usize).copied()

@@ -6,3 +6,9 @@ returns-in-empty-clause-names c = names_read
 
 pub returns-in-len1-up-clause-names : goal.returns-in-len1-up-clause-names
 returns-in-len1-up-clause-names c = names_read
+
+pub returns-in-Some-clause-names : goal.returns-in-Some-clause-names
+returns-in-Some-clause-names c = names_read
+
+pub returns-in-None-clause-names : goal.returns-in-None-clause-names
+returns-in-None-clause-names c = names_read
