@@ -16,5 +16,10 @@ mod tokens;
 mod types;
 
 pub use code_report::report;
+pub use fields::LineError;
 pub use reading::{ReadError, read_job};
 pub use registers::register;
+pub use tokens::{
+    decimal, first_part, first_word, natural, next_line, next_part, next_word, starts, tail,
+    two_parts,
+};

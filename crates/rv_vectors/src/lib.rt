@@ -24,6 +24,8 @@ mod operations;
 #[cfg(test)]
 mod program;
 #[cfg(test)]
+mod ran;
+#[cfg(test)]
 mod registers;
 #[cfg(test)]
 mod reported;

@@ -1,0 +1,4 @@
+pub mod Command
+pub mod Hex
+pub mod Report
+pub mod Words

@@ -1,0 +1,135 @@
+-- A report read back, line by line: the bytes of the code, and where the lines of its listing stand in it.
+use Rattle.std.specs.Prelude.{◌≡◌, ℕ, ◌+◌, ◌-◌, ◌^◌, Bool, ◌&&◌, List, [], ◌∷◌, ◌++◌, length, min, drop, Option, Some, None, Result, Ok, Err, nat_lt, nat_le, ◌==◌, if◌then◌else◌, codes}
+use Rattle.std.specs.Str.{bytes_eq}
+use Rattle.std.specs.Int.{w32, to_be_bytes}
+use Rattle.hex.specs.Hex.{encode_lower}
+use Rattle.rv_inst.specs.declared.code.LineSpan.{LineSpan}
+use Rattle.rv_listing.specs.Tokens.{◌>>=◌, below, lines_of, words_of, decimal, starts}
+use Rattle.rv_listing.specs.Fields.{field, no_more}
+use Rattle.rv_listing.specs.declared.fields.LineError.{LineError}
+use Rattle.rv_listing.specs.declared.fields.LineError.TheVariants as bad
+use Rattle.rv_load.specs.Hex.{bytes_of}
+use Rattle.rv_load.specs.declared.program.Program.{Program}
+use Rattle.rv_load.specs.declared.program.ProgramError.{ProgramError}
+use Rattle.rv_load.specs.declared.program.ProgramError.TheVariants as errors
+use Rattle.rv_load.specs.declared.report.Part.{Part}
+use Rattle.rv_load.specs.declared.report.Part.TheVariants.{Nothing, Bytes, Lines, Labels, End}
+use Rattle.rv_load.specs.declared.report.Draft.{Draft}
+
+abbrev pub blank : Draft
+blank = record { part = Nothing; count = 0; bytes = []; lines = [] }
+
+-- the place of a part in a report
+abbrev pub rank : Part → ℕ
+rank Nothing = 0
+rank Bytes = 1
+rank Lines = 2
+rank Labels = 3
+rank End = 4
+
+-- all bytes have come, and no later part
+abbrev pub may_have : Part → Draft → Bool
+may_have part d = nat_lt 0 (rank d.part) && nat_le (rank d.part) (rank part) && length d.bytes == d.count
+
+-- a number that is the last word
+abbrev pub one : List (List ℕ) → Option ℕ
+one ws = field decimal ws >>= no_more
+
+-- `code N`: the code has N bytes, fewer than 2^32
+abbrev pub head_line : Draft → List (List ℕ) → Option Draft
+head_line d ws = one ws >>= λ n. below (2 ^ 32) n >>= λ count. if rank d.part == 0 then Some (record d { part = Bytes; count = count }) else None
+
+-- how many bytes the next row has
+abbrev pub row_length : Draft → ℕ
+row_length d = min 16 (d.count - length d.bytes)
+
+abbrev pub with_bytes : Draft → List ℕ → Option Draft
+with_bytes d bytes = if nat_lt 0 (length bytes) && length bytes == row_length d then Some (record d { bytes = d.bytes ++ bytes }) else None
+
+-- the offset in eight hexadecimal digits
+abbrev pub is_offset : List ℕ → ℕ → Bool
+is_offset w offset = nat_lt offset (2 ^ 32) && bytes_eq w (encode_lower (to_be_bytes w32 offset))
+
+-- bytes that are the last word
+abbrev pub last_bytes : List (List ℕ) → Option (List ℕ)
+last_bytes ws = field bytes_of ws >>= no_more
+
+-- `OFFSET BYTES`: the next sixteen bytes, or the rest
+abbrev pub row_line : Draft → List ℕ → List (List ℕ) → Option Draft
+row_line d offset ws = last_bytes ws >>= λ bytes. if rank d.part == 1 && is_offset offset (length d.bytes) then with_bytes d bytes else None
+
+-- three numbers that are the last words
+abbrev pub three : List (List ℕ) → Option (ℕ × ℕ × ℕ)
+three ws = field decimal ws >>= λ a. field decimal a.1 >>= λ b. field decimal b.1 >>= λ c. no_more ((a.0, b.0, c.0), c.1)
+
+-- a line's number, and where its bytes begin and end
+abbrev pub span_of : Draft → ℕ × ℕ × ℕ → Option LineSpan
+span_of d n =
+    if may_have Lines d && nat_le n.1 n.2 && nat_le n.2 d.count && nat_lt n.2 (2 ^ 32)
+    then Some (record { index = n.0; start = n.1; «end» = n.2 }) else None
+
+-- `line I START END`
+abbrev pub span_line : Draft → List (List ℕ) → Option Draft
+span_line d ws = three ws >>= λ n. span_of d n >>= λ span. Some (record d { part = Lines; lines = d.lines ++ span ∷ [] })
+
+-- `L` and a number
+abbrev pub label : List ℕ → Option ℕ
+label w = if starts 76 w then decimal (drop 1 w) else None
+
+abbrev pub two : List (List ℕ) → Option (ℕ × ℕ)
+two ws = field label ws >>= λ a. field decimal a.1 >>= λ b. no_more ((a.0, b.0), b.1)
+
+-- `label LN OFFSET`
+abbrev pub label_line : Draft → List (List ℕ) → Option Draft
+label_line d ws = two ws >>= λ n. if may_have Labels d && nat_le n.1 d.count then Some (record d { part = Labels }) else None
+
+-- `end OFFSET`
+abbrev pub end_line : Draft → List (List ℕ) → Option Draft
+end_line d ws = one ws >>= λ n. if may_have Labels d && nat_le n d.count then Some (record d { part = End }) else None
+
+abbrev pub by_name : Draft → List ℕ → List (List ℕ) → Option Draft
+by_name d name ws =
+    if bytes_eq name (codes "line") then span_line d ws else
+    if bytes_eq name (codes "label") then label_line d ws else
+    if bytes_eq name (codes "code") then head_line d ws else
+    if bytes_eq name (codes "end") then end_line d ws else
+    row_line d name ws
+
+abbrev pub by_words : Draft → List (List ℕ) → Option Draft
+by_words d [] = None
+by_words d (name ∷ ws) = by_name d name ws
+
+-- what the lines so far gave, with one more
+unfoldable pub with_line : Draft → List ℕ → Option Draft
+with_line d line = by_words d (words_of line)
+
+-- the code of a report that is whole; the number of the line that is missing, where it isn't
+abbrev pub whole_at : ℕ → Draft → Result Program ℕ
+whole_at n d = if rank d.part == 4 then Ok (record { bytes = d.bytes; lines = d.lines }) else Err n
+
+-- what comes of a line that is number n
+abbrev pub or_line : ℕ → Option Draft → (Draft → Result Program ℕ) → Result Program ℕ
+or_line n None f = Err n
+or_line n (Some d) f = f d
+
+-- all lines from number n on; the number of the first that no report has there
+abbrev pub reading : ℕ → Draft → List (List ℕ) → Result Program ℕ
+reading n d [] = whole_at n d
+reading n d (l ∷ ls) = or_line n (with_line d l) (λ next. reading (n + 1) next ls)
+
+-- the code that a report gives, or the number of the first line that no report has there, from 1
+abbrev pub reads_report : List ℕ → Result Program ℕ
+reads_report text = reading 1 blank (lines_of text)
+
+-- what a reader of a line made of a draft; being out of memory says nothing
+abbrev pub Turns : Option Draft → Draft → Result Unit LineError → Type 0
+Turns made new (Ok x) = made ≡ Some new
+Turns made new (Err bad.NotAllowed) = made ≡ None
+Turns made new (Err bad.OutOfMemory) = Unit {0}
+
+-- what a reader of a report returned; being out of memory says nothing
+abbrev pub ReadsReport : List ℕ → Result Program ProgramError → Type 0
+ReadsReport text (Ok program) = reads_report text ≡ Ok program
+ReadsReport text (Err (errors.NotReport n)) = reads_report text ≡ Err n
+ReadsReport text (Err errors.NotHex) = ⊥
+ReadsReport text (Err errors.OutOfMemory) = Unit {0}

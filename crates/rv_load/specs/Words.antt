@@ -1,0 +1,152 @@
+-- What the words of a command say of a run.
+use Rattle.std.specs.Prelude.{◌≡◌, ℕ, ◌+◌, ◌-◌, ◌%◌, ◌^◌, Bool, true, List, [], ◌∷◌, ◌++◌, drop, Option, Some, None, Result, Ok, Err, nat_le, ◌==◌, if◌then◌else◌, codes}
+use Rattle.std.specs.List.{list_any}
+use Rattle.std.specs.Str.{bytes_eq}
+use Rattle.std.specs.Borrow.{Bor}
+use Rattle.rv_base.specs.Flags.{no_flags}
+use Rattle.rv_base.specs.declared.flags.IsaFlags.{IsaFlags}
+use Rattle.rv_base.specs.declared.regs.RegClass.{RegClass}
+use Rattle.rv_base.specs.declared.regs.RegClass.TheVariants.{Int, Float, Vector}
+use Rattle.rv_base.specs.declared.regs.PReg.{PReg}
+use Rattle.rv_base.specs.declared.regs.Reg.{Reg}
+use Rattle.rv_base.specs.declared.regs.Reg.TheVariants.{Real, Virtual}
+use Rattle.rv_listing.specs.Tokens.{◌>>=◌, as_pair, parts_of, natural, starts}
+use Rattle.rv_listing.specs.Registers.{register}
+use Rattle.rv_load.specs.Hex.{bytes_of}
+use Rattle.rv_load.specs.declared.given.Given.{Given}
+use Rattle.rv_load.specs.declared.settings.Settings.{Settings}
+use Rattle.rv_load.specs.declared.settings.SettingsError.{SettingsError}
+use Rattle.rv_load.specs.declared.settings.SettingsError.TheVariants as errors
+use Rattle.rv_load.specs.declared.settings.BadWord.{BadWord}
+use Rattle.rv_load.specs.declared.settings.BadWord.TheVariants as bad
+use Rattle.rv_load.specs.declared.settings.Start.{Start}
+use Rattle.rv_load.specs.declared.settings.Start.TheVariants as start
+use Rattle.rv_load.specs.declared.settings.RegisterValue.{RegisterValue}
+use Rattle.rv_load.specs.declared.settings.Data.{Data as Bytes}
+
+abbrev pub or_bad : {A : Type 0} → BadWord → Option A → Result A BadWord
+or_bad word (Some x) = Ok x
+or_bad word None = Err word
+
+infixl 10 ◌then◌
+abbrev pub ◌then◌ : {A B : Type 0} → Result A BadWord → (A → Result B BadWord) → Result B BadWord
+(Ok x) then f = f x
+(Err word) then f = Err word
+
+-- ---- numbers
+
+-- a value of 64 bits: a number, or a minus and one up to 2^63
+abbrev pub value : List ℕ → Option ℕ
+value w = if starts 45 w then (natural (drop 1 w) >>= λ n. if nat_le n (2 ^ 63) then Some ((2 ^ 64 - n) % 2 ^ 64) else None) else natural w
+
+-- the number that an option gives, or what holds without it
+abbrev pub number_or : ℕ → BadWord → Option (Bor (List ℕ)) → Result ℕ BadWord
+number_or default word None = Ok default
+number_or default word (Some w) = or_bad word (natural w.now)
+
+abbrev pub aligned : ℕ → Result ℕ BadWord
+aligned n = if n % 4 == 0 then Ok n else Err bad.Base
+
+-- a multiple of 4
+abbrev pub base_of : Given → Result ℕ BadWord
+base_of g = number_or 0x10000 bad.Base g.base then aligned
+
+abbrev pub steps_of : Given → Result ℕ BadWord
+steps_of g = number_or 10000000 bad.Steps g.steps
+
+-- the offset or the line to begin at, not both
+abbrev pub start_of : Option (Bor (List ℕ)) → Option (Bor (List ℕ)) → Result Start BadWord
+start_of None None = Ok start.Beginning
+start_of (Some line) None = or_bad bad.From (natural line.now >>= λ index. Some (start.Line index))
+start_of None (Some offset) = or_bad bad.At (natural offset.now >>= λ n. Some (start.Offset n))
+start_of (Some line) (Some offset) = Err bad.At
+
+-- ---- flags
+
+abbrev pub with_flag : IsaFlags → List ℕ → Option IsaFlags
+with_flag f w =
+    if bytes_eq w (codes "m") then new f.has_m (record f { has_m = true }) else
+    if bytes_eq w (codes "zba") then new f.has_zba (record f { has_zba = true }) else
+    if bytes_eq w (codes "zbb") then new f.has_zbb (record f { has_zbb = true }) else
+    if bytes_eq w (codes "zca") then new f.has_zca (record f { has_zca = true }) else
+    if bytes_eq w (codes "zcb") then new f.has_zcb (record f { has_zcb = true }) else
+    if bytes_eq w (codes "zcd") then new f.has_zcd (record f { has_zcd = true }) else
+    if bytes_eq w (codes "zfhmin") then new f.has_zfhmin (record f { has_zfhmin = true }) else
+    None
+  where
+    -- the flags with one more, where it was off
+    new : Bool → IsaFlags → Option IsaFlags
+    new was flags = if was then None else Some flags
+
+abbrev pub with_flags : IsaFlags → List (List ℕ) → Option IsaFlags
+with_flags f [] = Some f
+with_flags f (w ∷ ws) = with_flag f w >>= λ g. with_flags g ws
+
+-- distinct names, a comma apart
+abbrev pub flags_of : Option (Bor (List ℕ)) → Result IsaFlags BadWord
+flags_of None = Ok no_flags
+flags_of (Some w) = or_bad bad.Flags (with_flags no_flags (parts_of 44 w.now))
+
+-- ---- registers
+
+-- x1 to x31
+abbrev pub of_class : RegClass → PReg → Option PReg
+of_class Int p = if p.number == 0 then None else Some p
+of_class Float p = None
+of_class Vector p = None
+
+abbrev pub int_register : Reg → Option PReg
+int_register (Real p) = of_class p.class p
+int_register (Virtual v) = None
+
+-- the register of a name; s0 is another name of fp
+abbrev pub named_register : List ℕ → Option PReg
+named_register w = register (if bytes_eq w (codes "s0") then codes "fp" else w) >>= int_register
+
+-- `NAME=VALUE`
+abbrev pub register_value : List ℕ → Option RegisterValue
+register_value w = as_pair (parts_of 61 w) >>= λ p. named_register p.0 >>= λ r. value p.1 >>= λ v. Some (record { register = r; value = v })
+
+-- one more register, which was not named before
+abbrev pub with_register : ℕ → List RegisterValue → RegisterValue → Result (List RegisterValue) BadWord
+with_register i old r = if list_any (λ o. o.register.number == r.register.number) old then Err (bad.Twice i) else Ok (old ++ r ∷ [])
+
+-- the register that the word of number i sets, after those of the words before it
+abbrev pub put_register : ℕ → List RegisterValue → List ℕ → Result (List RegisterValue) BadWord
+put_register i old w = or_bad (bad.Register i) (register_value w) then with_register i old
+
+-- the words from number i on
+abbrev pub registers_from : ℕ → List RegisterValue → List (Bor (List ℕ)) → Result (List RegisterValue) BadWord
+registers_from i old [] = Ok old
+registers_from i old (w ∷ ws) = put_register i old w.now then λ new. registers_from (i + 1) new ws
+
+-- ---- memory
+
+-- `ADDRESS=HEX`
+abbrev pub data_bytes : List ℕ → Option Bytes
+data_bytes w = as_pair (parts_of 61 w) >>= λ p. natural p.0 >>= λ a. bytes_of p.1 >>= λ bs. Some (record { address = a; bytes = bs })
+
+abbrev pub data_from : ℕ → List Bytes → List (Bor (List ℕ)) → Result (List Bytes) BadWord
+data_from i old [] = Ok old
+data_from i old (w ∷ ws) = or_bad (bad.Data i) (data_bytes w.now) then λ new. data_from (i + 1) (old ++ new ∷ []) ws
+
+-- ---- all of them
+
+-- what the words say, or the first bad one in this order
+abbrev pub settings_of : Given → Result Settings BadWord
+settings_of g =
+    base_of g then λ base. flags_of g.flags then λ flags. start_of g.from g.at then λ start. steps_of g then λ steps.
+    data_from 0 [] g.memory then λ bytes. registers_from 0 [] g.registers then λ registers.
+    Ok (record { base = base; flags = flags; start = start; steps = steps; trace = g.trace; registers = registers; memory = bytes })
+
+-- what a reader of words returned; being out of memory says nothing
+abbrev pub Reads : {A : Type 0} → Result A BadWord → Result A SettingsError → Type 0
+Reads made (Ok x) = made ≡ Ok x
+Reads made (Err (errors.Bad word)) = made ≡ Err word
+Reads made (Err errors.OutOfMemory) = Unit {0}
+
+-- what a change of a value made of it; being out of memory says nothing
+abbrev pub Leaves : {A : Type 0} → Result A BadWord → A → Result Unit SettingsError → Type 0
+Leaves made new (Ok x) = made ≡ Ok new
+Leaves made new (Err (errors.Bad word)) = made ≡ Err word
+Leaves made new (Err errors.OutOfMemory) = Unit {0}

@@ -1,0 +1,44 @@
+//! Code to run, as a report or hexadecimal digits give it.
+
+ghost use Rattle.rv_load.specs.Hex.{ReadsHex};
+
+use crate::digits::{bytes_of, marks};
+pub use crate::report::read_report;
+use rv_base::List;
+use rv_inst::LineSpan;
+use rv_listing::LineError;
+use std::alloc::Global;
+
+/// Machine code, with where the lines of its listing stand in it, in bytes from its start.
+#[derive(Drop)]
+pub struct Program {
+    pub bytes: List<u8>,
+    pub lines: List<LineSpan>,
+}
+
+/// Why a text gives no code.
+#[derive(Clone, Copy, Debug, PartialEq, Eq)]
+pub enum ProgramError {
+    /// The first line, counted from 1, that no report has there.
+    NotReport { line: usize },
+    /// The text is not an even number of hexadecimal digits, with spaces and ends of lines anywhere.
+    NotHex,
+    OutOfMemory,
+}
+
+/// The code that hexadecimal digits give; it has no lines.
+pub fn read_hex(alloc: Global, text: &[u8]) -> Result<Program, ProgramError>
+    ensures { ReadsHex text.now result }
+{
+    let Ok(marks) = marks(alloc, text) else {
+        return Err(ProgramError::OutOfMemory);
+    };
+    match bytes_of(alloc, &marks) {
+        Ok(bytes) => Ok(Program {
+            bytes,
+            lines: List::new(alloc),
+        }),
+        Err(LineError::NotAllowed) => Err(ProgramError::NotHex),
+        Err(LineError::OutOfMemory) => Err(ProgramError::OutOfMemory),
+    }
+}

@@ -1,0 +1,309 @@
+//! A report read back, line by line.
+
+ghost use Rattle.std.specs.Prelude.{◌≡◌, ◌+◌, ◌<◌, ◌≤◌, ◌^◌, ◌++◌, length, OnOk};
+ghost use Rattle.std.specs.Str.{bytes_eq};
+ghost use Rattle.hex.specs.Hex.{encode_lower};
+ghost use Rattle.std.specs.Int.{w32, to_be_bytes};
+ghost use Rattle.rv_listing.specs.Tokens.{words_after, words_of, lines_of, decimal};
+ghost use Rattle.rv_listing.specs.Fields.{field, Takes, Makes};
+ghost use Rattle.rv_load.specs.Report.{rank, blank, may_have, is_offset, one, head_line, last_bytes, with_bytes, row_line, three, span_of, span_line, label, two, label_line, end_line, with_line, Turns, ReadsReport};
+
+use crate::digits::bytes_of;
+use crate::program::{Program, ProgramError};
+use rv_base::{List, OutOfMemory};
+use rv_inst::LineSpan;
+use rv_listing::{LineError, decimal, first_word, next_line, next_word, starts, tail};
+use std::alloc::Global;
+
+/// The parts of a report, in their order.
+#[derive(Clone, Copy, Debug, PartialEq, Eq)]
+pub enum Part {
+    Nothing,
+    Bytes,
+    Lines,
+    Labels,
+    End,
+}
+
+/// What the lines of a report gave so far: the part that they came to, how many bytes the code has, those that came, and
+/// the spans of lines.
+#[derive(Drop)]
+pub struct Draft {
+    pub part: Part,
+    pub count: u64,
+    pub bytes: List<u8>,
+    pub lines: List<LineSpan>,
+}
+
+fn blank(alloc: Global) -> Draft
+    ensures { result ≡ blank }
+{
+    Draft {
+        part: Part::Nothing,
+        count: 0,
+        bytes: List::new(alloc),
+        lines: List::new(alloc),
+    }
+}
+
+fn rank(part: Part) -> u8
+    ensures { result ≡ rank part }
+{
+    match part {
+        Part::Nothing => 0,
+        Part::Bytes => 1,
+        Part::Lines => 2,
+        Part::Labels => 3,
+        Part::End => 4,
+    }
+}
+
+fn is(word: &[u8], w: &[u8]) -> bool
+    ensures { result ≡ bytes_eq w.now word.now }
+{
+    w == word
+}
+
+// Returns whether a line of this part may come next, once all bytes have come.
+fn may_have(part: Part, draft: &Draft) -> bool
+    ensures { result ≡ may_have part draft.now }
+{
+    let so_far = rank(draft.part);
+    0 < so_far && so_far <= rank(part) && draft.bytes.len() as u64 == draft.count
+}
+
+// The next word, as a decimal number.
+fn number(rest: &[u8]) -> Option<(u64, &[u8])>
+    ensures { Takes result (field decimal (words_after rest.now)) }
+{
+    let (w, rest) = next_word(rest)?;
+    let n = decimal(w)?;
+    Some((n, rest))
+}
+
+// The next word as a decimal number, where it is the last.
+fn last_number(rest: &[u8]) -> Option<u64>
+    ensures { result ≡ one (words_after rest.now) }
+{
+    let (n, rest) = number(rest)?;
+    match next_word(rest) {
+        None => Some(n),
+        Some(_) => None,
+    }
+}
+
+fn head_line(draft: &mut Draft, rest: &[u8]) -> Result<(), LineError>
+    ensures { Turns (head_line draft.old (words_after rest.now)) draft.new result }
+{
+    match last_number(rest) {
+        Some(count) if count < 1 << 32 && rank(draft.part) == 0 => {
+            draft.part = Part::Bytes;
+            draft.count = count;
+            Ok(())
+        }
+        _ => Err(LineError::NotAllowed),
+    }
+}
+
+// Returns whether the word is this offset in eight hexadecimal digits.
+fn is_offset(w: &[u8], offset: usize) -> bool
+    ensures { result ≡ is_offset w.now offset }
+{
+    let Ok(offset) = u32::try_from(offset) else {
+        return false;
+    };
+    let mut digits = [0u8; 8];
+    let bytes = offset.to_be_bytes();
+    let _ = hex::encode_to_slice(bytes.as_slice(), &mut digits[..]);
+    is(&digits, w)
+}
+
+// The next word's bytes, where it is the last.
+fn last_bytes(alloc: Global, rest: &[u8]) -> Result<List<u8>, LineError>
+    ensures { Makes result (last_bytes (words_after rest.now)) }
+{
+    let Some((w, rest)) = next_word(rest) else {
+        return Err(LineError::NotAllowed);
+    };
+    let bytes = bytes_of(alloc, w)?;
+    match next_word(rest) {
+        None => Ok(bytes),
+        Some(_) => Err(LineError::NotAllowed),
+    }
+}
+
+fn extend(list: &mut List<u8>, bytes: &[u8]) -> Result<(), OutOfMemory>
+    ensures { OnOk result (list.new ≡ list.old ++ bytes.now) }
+{
+    for byte in bytes {
+        list.push(*byte)?;
+    }
+    Ok(())
+}
+
+fn put_bytes(draft: &mut Draft, bytes: &[u8]) -> Result<(), LineError>
+    ensures { Turns (with_bytes draft.old bytes.now) draft.new result }
+{
+    let missing = draft.count.saturating_sub(draft.bytes.len() as u64);
+    if bytes.is_empty() || bytes.len() as u64 != missing.min(16) {
+        return Err(LineError::NotAllowed);
+    }
+    match extend(&mut draft.bytes, bytes) {
+        Ok(()) => Ok(()),
+        Err(OutOfMemory) => Err(LineError::OutOfMemory),
+    }
+}
+
+fn row_line(alloc: Global, draft: &mut Draft, offset: &[u8], rest: &[u8]) -> Result<(), LineError>
+    ensures { Turns (row_line draft.old offset.now (words_after rest.now)) draft.new result }
+{
+    let bytes = last_bytes(alloc, rest)?;
+    if rank(draft.part) == 1 && is_offset(offset, draft.bytes.len()) {
+        put_bytes(draft, bytes.as_slice())
+    } else {
+        Err(LineError::NotAllowed)
+    }
+}
+
+// Three numbers, where they are the last words.
+fn three(rest: &[u8]) -> Option<(u64, u64, u64)>
+    ensures { result ≡ three (words_after rest.now) }
+{
+    let (a, rest) = number(rest)?;
+    let (b, rest) = number(rest)?;
+    let (c, rest) = number(rest)?;
+    match next_word(rest) {
+        None => Some((a, b, c)),
+        Some(_) => None,
+    }
+}
+
+fn span_of(draft: &Draft, numbers: (u64, u64, u64)) -> Option<LineSpan>
+    ensures { result ≡ span_of draft.now numbers }
+{
+    let (index, start, end) = numbers;
+    if may_have(Part::Lines, draft) && start <= end && end <= draft.count && end < 1 << 32 {
+        Some(LineSpan {
+            index: index as usize,
+            start: start as u32,
+            end: end as u32,
+        })
+    } else {
+        None
+    }
+}
+
+fn span_line(draft: &mut Draft, rest: &[u8]) -> Result<(), LineError>
+    ensures { Turns (span_line draft.old (words_after rest.now)) draft.new result }
+{
+    let Some(numbers) = three(rest) else {
+        return Err(LineError::NotAllowed);
+    };
+    let Some(span) = span_of(draft, numbers) else {
+        return Err(LineError::NotAllowed);
+    };
+    match draft.lines.push(span) {
+        Ok(()) => {
+            draft.part = Part::Lines;
+            Ok(())
+        }
+        Err(OutOfMemory) => Err(LineError::OutOfMemory),
+    }
+}
+
+fn label(w: &[u8]) -> Option<u64>
+    ensures { result ≡ label w.now }
+{
+    if starts(b'L', w) {
+        decimal(tail(w))
+    } else {
+        None
+    }
+}
+
+// A label and a number, where they are the last words.
+fn two(rest: &[u8]) -> Option<(u64, u64)>
+    ensures { result ≡ two (words_after rest.now) }
+{
+    let (w, rest) = next_word(rest)?;
+    let a = label(w)?;
+    let (b, rest) = number(rest)?;
+    match next_word(rest) {
+        None => Some((a, b)),
+        Some(_) => None,
+    }
+}
+
+fn label_line(draft: &mut Draft, rest: &[u8]) -> Result<(), LineError>
+    ensures { Turns (label_line draft.old (words_after rest.now)) draft.new result }
+{
+    match two(rest) {
+        Some((_, offset)) if may_have(Part::Labels, draft) && offset <= draft.count => {
+            draft.part = Part::Labels;
+            Ok(())
+        }
+        _ => Err(LineError::NotAllowed),
+    }
+}
+
+fn end_line(draft: &mut Draft, rest: &[u8]) -> Result<(), LineError>
+    ensures { Turns (end_line draft.old (words_after rest.now)) draft.new result }
+{
+    match last_number(rest) {
+        Some(offset) if may_have(Part::Labels, draft) && offset <= draft.count => {
+            draft.part = Part::End;
+            Ok(())
+        }
+        _ => Err(LineError::NotAllowed),
+    }
+}
+
+#[tactic(auto, unfolding(crate::specs::Report::with_line))]
+fn take_line(alloc: Global, draft: &mut Draft, line: &[u8]) -> Result<(), LineError>
+    ensures { Turns (with_line draft.old line.now) draft.new result }
+{
+    let (name, rest) = first_word(line);
+    if is(b"line", name) {
+        span_line(draft, rest)
+    } else if is(b"label", name) {
+        label_line(draft, rest)
+    } else if is(b"code", name) {
+        head_line(draft, rest)
+    } else if is(b"end", name) {
+        end_line(draft, rest)
+    } else {
+        row_line(alloc, draft, name, rest)
+    }
+}
+
+fn read_lines(alloc: Global, text: &[u8]) -> Result<Program, ProgramError>
+    ensures { ReadsReport text.now result }
+{
+    let mut draft = blank(alloc);
+    let mut rest = text;
+    let mut number = 1;
+    while let Some((line, after)) = next_line(rest) {
+        match take_line(alloc, &mut draft, line) {
+            Ok(()) => {}
+            Err(LineError::NotAllowed) => return Err(ProgramError::NotReport { line: number }),
+            Err(LineError::OutOfMemory) => return Err(ProgramError::OutOfMemory),
+        }
+        number += 1;
+        rest = after;
+    }
+    if rank(draft.part) == 4 {
+        Ok(Program {
+            bytes: draft.bytes,
+            lines: draft.lines,
+        })
+    } else {
+        Err(ProgramError::NotReport { line: number })
+    }
+}
+
+/// The code that a report gives, in lines that LF ends; the last LF may be missing.
+pub fn read_report(alloc: Global, text: &[u8]) -> Result<Program, ProgramError>
+    ensures { ReadsReport text.now result }
+{
+    read_lines(alloc, text)
+}

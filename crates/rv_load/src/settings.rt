@@ -1,0 +1,342 @@
+//! What the words of a command say of a run.
+
+ghost use Rattle.std.specs.Prelude.{◌≡◌, ℕ, ◌==◌, []};
+ghost use Rattle.std.specs.List.{list_any};
+ghost use Rattle.std.specs.Str.{bytes_eq};
+ghost use Rattle.rv_base.specs.Flags.{no_flags};
+ghost use Rattle.rv_listing.specs.Tokens.{parts_of};
+ghost use Rattle.rv_load.specs.Words.{value, number_or, base_of, steps_of, start_of, with_flag, with_flags, flags_of, int_register, named_register, register_value, with_register, put_register, registers_from, or_bad, data_bytes, data_from, settings_of, Reads, Leaves};
+
+use crate::digits::bytes_of;
+use crate::given::Given;
+use rv_base::{IsaFlags, List, OutOfMemory, PReg, Reg, RegClass};
+use rv_listing::{LineError, first_part, natural, next_part, register, starts, tail, two_parts};
+use std::alloc::Global;
+
+/// Where a run begins.
+#[derive(Clone, Copy, Debug, PartialEq, Eq)]
+pub enum Start {
+    /// At the code's first byte.
+    Beginning,
+    /// At an offset in bytes from the code's start.
+    Offset { offset: u64 },
+    /// Where the line of this number begins.
+    Line { index: u64 },
+}
+
+/// A register, x1 to x31, and its value.
+#[derive(Clone, Copy, Debug, PartialEq, Eq)]
+pub struct RegisterValue {
+    pub register: PReg,
+    pub value: u64,
+}
+
+/// Bytes in memory from an address on.
+#[derive(Drop)]
+pub struct Data {
+    pub address: u64,
+    pub bytes: List<u8>,
+}
+
+/// What a run begins with, the code aside.
+#[derive(Drop)]
+pub struct Settings {
+    /// The code's address, a multiple of 4.
+    pub base: u64,
+    pub flags: IsaFlags,
+    pub start: Start,
+    /// How many steps there may be.
+    pub steps: u64,
+    pub trace: bool,
+    pub registers: List<RegisterValue>,
+    pub memory: List<Data>,
+}
+
+/// A word that says nothing of a run. Data and registers are counted from 0.
+#[derive(Clone, Copy, Debug, PartialEq, Eq)]
+pub enum BadWord {
+    Base,
+    Flags,
+    From,
+    At,
+    Steps,
+    Data { index: usize },
+    Register { index: usize },
+    /// A register that an earlier word sets.
+    Twice { index: usize },
+}
+
+/// Why words give no settings.
+#[derive(Clone, Copy, Debug, PartialEq, Eq)]
+pub enum SettingsError {
+    Bad { word: BadWord },
+    OutOfMemory,
+}
+
+/// A value of 64 bits: decimal, or `0x` and lower-case hex digits, or a minus and such a number up to 2^63.
+pub fn value(w: &[u8]) -> Option<u64>
+    ensures { result ≡ value w.now }
+{
+    if starts(b'-', w) {
+        let n = natural(tail(w))?;
+        if n <= 1 << 63 {
+            Some(0u64.wrapping_sub(n))
+        } else {
+            None
+        }
+    } else {
+        natural(w)
+    }
+}
+
+fn number_or(default: u64, word: BadWord, given: Option<&str>) -> Result<u64, BadWord>
+    ensures { result ≡ number_or default word given.entry }
+{
+    match given {
+        None => Ok(default),
+        Some(w) => match natural(w.as_bytes()) {
+            Some(n) => Ok(n),
+            None => Err(word),
+        },
+    }
+}
+
+fn base_of(given: &Given) -> Result<u64, BadWord>
+    ensures { result ≡ base_of given.now }
+{
+    match number_or(0x10000, BadWord::Base, given.base) {
+        Ok(base) if base % 4 == 0 => Ok(base),
+        _ => Err(BadWord::Base),
+    }
+}
+
+fn steps_of(given: &Given) -> Result<u64, BadWord>
+    ensures { result ≡ steps_of given.now }
+{
+    number_or(10000000, BadWord::Steps, given.steps)
+}
+
+fn start_of(from: Option<&str>, at: Option<&str>) -> Result<Start, BadWord>
+    ensures { result ≡ start_of from.entry at.entry }
+{
+    match (from, at) {
+        (None, None) => Ok(Start::Beginning),
+        (Some(line), None) => match natural(line.as_bytes()) {
+            Some(index) => Ok(Start::Line { index }),
+            None => Err(BadWord::From),
+        },
+        (None, Some(offset)) => match natural(offset.as_bytes()) {
+            Some(offset) => Ok(Start::Offset { offset }),
+            None => Err(BadWord::At),
+        },
+        (Some(_), Some(_)) => Err(BadWord::At),
+    }
+}
+
+fn is(word: &[u8], w: &[u8]) -> bool
+    ensures { result ≡ bytes_eq w.now word.now }
+{
+    w == word
+}
+
+// Where the name's flag was off, the flags with it on.
+fn with_flag(flags: IsaFlags, name: &[u8]) -> Option<IsaFlags>
+    ensures { result ≡ with_flag flags name.now }
+{
+    let mut new = flags;
+    let was_on = if is(b"m", name) {
+        new.has_m = true;
+        flags.has_m
+    } else if is(b"zba", name) {
+        new.has_zba = true;
+        flags.has_zba
+    } else if is(b"zbb", name) {
+        new.has_zbb = true;
+        flags.has_zbb
+    } else if is(b"zca", name) {
+        new.has_zca = true;
+        flags.has_zca
+    } else if is(b"zcb", name) {
+        new.has_zcb = true;
+        flags.has_zcb
+    } else if is(b"zcd", name) {
+        new.has_zcd = true;
+        flags.has_zcd
+    } else if is(b"zfhmin", name) {
+        new.has_zfhmin = true;
+        flags.has_zfhmin
+    } else {
+        true
+    };
+    if was_on { None } else { Some(new) }
+}
+
+fn with_flags(names: &[u8]) -> Option<IsaFlags>
+    ensures { result ≡ with_flags no_flags (parts_of 44 names.now) }
+{
+    let (first, mut rest) = first_part(b',', names);
+    let mut flags = with_flag(IsaFlags::none(), first)?;
+    'names: while let Some((name, after)) = next_part(b',', rest) {
+        flags = with_flag(flags, name)?;
+        rest = after;
+    }
+    Some(flags)
+}
+
+fn flags_of(given: Option<&str>) -> Result<IsaFlags, BadWord>
+    ensures { result ≡ flags_of given.entry }
+{
+    match given {
+        None => Ok(IsaFlags::none()),
+        Some(names) => match with_flags(names.as_bytes()) {
+            Some(flags) => Ok(flags),
+            None => Err(BadWord::Flags),
+        },
+    }
+}
+
+fn int_register(reg: Reg) -> Option<PReg>
+    ensures { result ≡ int_register reg }
+{
+    match reg {
+        Reg::Real(reg) => match reg.class {
+            RegClass::Int if reg.number > 0 => Some(reg),
+            RegClass::Int => None,
+            RegClass::Float => None,
+            RegClass::Vector => None,
+        },
+        Reg::Virtual(_) => None,
+    }
+}
+
+fn named_register(w: &[u8]) -> Option<PReg>
+    ensures { result ≡ named_register w.now }
+{
+    let reg = if is(b"s0", w) {
+        register(b"fp")?
+    } else {
+        register(w)?
+    };
+    int_register(reg)
+}
+
+fn register_value(w: &[u8]) -> Option<RegisterValue>
+    ensures { result ≡ register_value w.now }
+{
+    let (name, text) = two_parts(b'=', w)?;
+    let register = named_register(name)?;
+    let value = value(text)?;
+    Some(RegisterValue { register, value })
+}
+
+fn is_among(registers: &[RegisterValue], number: u8) -> bool
+    ensures { result ≡ list_any (λ r. r.register.number == number) registers.now }
+{
+    registers.iter().any(|r| r.register.number == number)
+}
+
+// One more register, by the word of this number, where no earlier one names it.
+fn add_register(
+    registers: &mut List<RegisterValue>,
+    index: usize,
+    register: RegisterValue,
+) -> Result<(), SettingsError>
+    ensures { Leaves (with_register index registers.old register) registers.new result }
+{
+    if is_among(registers.as_slice(), register.register.number) {
+        return Err(SettingsError::Bad {
+            word: BadWord::Twice { index },
+        });
+    }
+    match registers.push(register) {
+        Ok(()) => Ok(()),
+        Err(OutOfMemory) => Err(SettingsError::OutOfMemory),
+    }
+}
+
+// The register that the word of this number sets.
+fn put_register(
+    registers: &mut List<RegisterValue>,
+    index: usize,
+    w: &[u8],
+) -> Result<(), SettingsError>
+    ensures { Leaves (put_register index registers.old w.now) registers.new result }
+{
+    match register_value(w) {
+        Some(register) => add_register(registers, index, register),
+        None => Err(SettingsError::Bad {
+            word: BadWord::Register { index },
+        }),
+    }
+}
+
+fn registers_of(alloc: Global, words: &[&str]) -> Result<List<RegisterValue>, SettingsError>
+    ensures { Reads (registers_from 0 [] words.now) result }
+{
+    let mut registers = List::new(alloc);
+    for (index, w) in words.iter().enumerate() {
+        put_register(&mut registers, index, w.as_bytes())?;
+    }
+    Ok(registers)
+}
+
+fn data_bytes(alloc: Global, w: &[u8], word: BadWord) -> Result<Data, SettingsError>
+    ensures { Reads (or_bad word (data_bytes w.now)) result }
+{
+    let Some((address, digits)) = two_parts(b'=', w) else {
+        return Err(SettingsError::Bad { word });
+    };
+    let Some(address) = natural(address) else {
+        return Err(SettingsError::Bad { word });
+    };
+    match bytes_of(alloc, digits) {
+        Ok(bytes) => Ok(Data { address, bytes }),
+        Err(LineError::NotAllowed) => Err(SettingsError::Bad { word }),
+        Err(LineError::OutOfMemory) => Err(SettingsError::OutOfMemory),
+    }
+}
+
+fn memory_of(alloc: Global, words: &[&str]) -> Result<List<Data>, SettingsError>
+    ensures { Reads (data_from 0 [] words.now) result }
+{
+    let mut memory = List::new(alloc);
+    for (index, w) in words.iter().enumerate() {
+        let data = data_bytes(alloc, w.as_bytes(), BadWord::Data { index })?;
+        match memory.push(data) {
+            Ok(()) => {}
+            Err(OutOfMemory) => return Err(SettingsError::OutOfMemory),
+        }
+    }
+    Ok(memory)
+}
+
+impl From<BadWord> for SettingsError {
+    ghost use Rattle.rv_load.specs.declared.settings.SettingsError.TheVariants as errors;
+
+    ghost from_gives = { λ word e. e ≡ errors.Bad word };
+
+    fn from(word: BadWord) -> SettingsError {
+        SettingsError::Bad { word }
+    }
+}
+
+/// What the words say; or the first bad one, in the order of base, flags, start, steps, data and registers.
+pub fn settings_of(alloc: Global, given: &Given) -> Result<Settings, SettingsError>
+    ensures { Reads (settings_of given.now) result }
+{
+    let base = base_of(given)?;
+    let flags = flags_of(given.flags)?;
+    let start = start_of(given.from, given.at)?;
+    let steps = steps_of(given)?;
+    let memory = memory_of(alloc, given.memory.as_slice())?;
+    let registers = registers_of(alloc, given.registers.as_slice())?;
+    Ok(Settings {
+        base,
+        flags,
+        start,
+        steps,
+        trace: given.trace,
+        registers,
+        memory,
+    })
+}

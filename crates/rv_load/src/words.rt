@@ -1,0 +1,238 @@
+//! The words of a command, read by option.
+
+ghost use Rattle.std.specs.Prelude.{◌≡◌, IfOk, false, true, [], option_map, unwrap_or, map, string_bytes};
+ghost use Rattle.clap.specs.Words.{app_of, rule_of, with_rule, first_of, all_of, rows_of, found_of, kind_of};
+ghost use Rattle.rv_load.specs.Command.{flag_rule, option_rule, list_rule, word_rule, rvrun_app, opening, is_set, IsGiven, IsOfKind, Parses};
+
+use crate::given::Given;
+use clap::error::ErrorKind;
+use clap::{Arg, ArgAction, ArgMatches, Command, Error};
+use rv_base::{List, OutOfMemory};
+use std::alloc::Global;
+
+/// Why the words give nothing, with the text that says so.
+#[derive(Drop)]
+pub enum WordsError {
+    /// They ask for help.
+    Help { text: List<u8> },
+    /// They ask for the version.
+    Version { text: List<u8> },
+    /// They are none of this command.
+    Wrong { text: List<u8> },
+    OutOfMemory,
+}
+
+fn flag<'a>(alloc: Global, name: &'a str, help: &'a str) -> Arg<'a>
+    ensures rule { rule_of result ≡ flag_rule name.entry.now }
+    ensures local { result.global ≡ false }
+{
+    Arg::new(alloc, name)
+        .long(name)
+        .action(ArgAction::SetTrue)
+        .help(help)
+}
+
+fn option<'a>(alloc: Global, name: &'a str, value: &'a str, help: &'a str) -> Arg<'a>
+    ensures rule { rule_of result ≡ option_rule name.entry.now }
+    ensures local { result.global ≡ false }
+{
+    Arg::new(alloc, name)
+        .long(name)
+        .action(ArgAction::Set)
+        .value_name(value)
+        .help(help)
+}
+
+fn list<'a>(alloc: Global, name: &'a str, value: &'a str, help: &'a str) -> Arg<'a>
+    ensures rule { rule_of result ≡ list_rule name.entry.now }
+    ensures local { result.global ≡ false }
+{
+    Arg::new(alloc, name)
+        .long(name)
+        .action(ArgAction::Append)
+        .value_name(value)
+        .help(help)
+}
+
+fn word<'a>(alloc: Global, name: &'a str, help: &'a str) -> Arg<'a>
+    ensures rule { rule_of result ≡ word_rule name.entry.now }
+    ensures local { result.global ≡ false }
+{
+    Arg::new(alloc, name).action(ArgAction::Append).help(help)
+}
+
+fn with_arg<'a>(command: Command<'a>, arg: Arg<'a>) -> Result<Command<'a>, OutOfMemory>
+    requires { arg.global ≡ false }
+    ensures { IfOk result (λ c. app_of c ≡ with_rule (app_of command.entry) (rule_of arg.entry)) }
+{
+    let command = command.arg(arg)?;
+    Ok(command)
+}
+
+fn opening<'a>(alloc: Global) -> Command<'a>
+    ensures { app_of result ≡ opening }
+{
+    Command::new(alloc, "rvrun")
+        .version("0.1.0")
+        .about(
+            "Runs the code of a report on the proved machine, and shows how the run ended and what it changed.",
+        )
+        .no_binary_name(true)
+}
+
+fn command<'a>(alloc: Global) -> Result<Command<'a>, OutOfMemory>
+    ensures { IfOk result (λ c. app_of c ≡ rvrun_app) }
+{
+    let c = opening(alloc);
+    let c = with_arg(
+        c,
+        flag(
+            alloc,
+            "hex",
+            "The input is hexadecimal digits, and no report",
+        ),
+    )?;
+    let c = with_arg(
+        c,
+        option(
+            alloc,
+            "base",
+            "ADDRESS",
+            "Where the code stands, a multiple of 4 [default: 0x10000]",
+        ),
+    )?;
+    let c = with_arg(
+        c,
+        option(
+            alloc,
+            "flags",
+            "NAMES",
+            "Extensions of the machine, as zca,zcb",
+        ),
+    )?;
+    let c = with_arg(
+        c,
+        option(
+            alloc,
+            "from",
+            "LINE",
+            "Begin where this line of the listing begins",
+        ),
+    )?;
+    let c = with_arg(
+        c,
+        option(
+            alloc,
+            "at",
+            "OFFSET",
+            "Begin at this offset from the code's start",
+        ),
+    )?;
+    let c = with_arg(
+        c,
+        option(
+            alloc,
+            "steps",
+            "N",
+            "Make at most so many steps [default: 10000000]",
+        ),
+    )?;
+    let c = with_arg(c, list(alloc, "data", "ADDRESS=HEX", "Bytes of memory"))?;
+    let c = with_arg(c, flag(alloc, "trace", "Print each step"))?;
+    with_arg(
+        c,
+        word(alloc, "REGISTER=VALUE", "Registers, as a0=-1 or x10=0xff"),
+    )
+}
+
+fn given<'a>(matches: &ArgMatches<'a>, name: &str) -> Option<&'a str>
+    ensures { option_map (λ s. s.now) result ≡ first_of name.now (rows_of (found_of matches.now)) }
+{
+    matches.get_str(name)
+}
+
+fn is_true(given: Option<&str>) -> bool
+    ensures { result ≡ is_set (option_map (λ s. s.now) given.entry) }
+{
+    match given {
+        Some(text) => text == "true",
+        None => false,
+    }
+}
+
+fn is_set(matches: &ArgMatches, name: &str) -> bool
+    ensures { result ≡ is_set (first_of name.now (rows_of (found_of matches.now))) }
+{
+    is_true(given(matches, name))
+}
+
+fn list_of<'a>(alloc: Global, words: Option<&[&'a str]>) -> Result<List<&'a str>, OutOfMemory>
+    ensures { IfOk result (λ list. map (λ s. s.now) list ≡ unwrap_or (option_map (λ all. map (λ s. s.now) all.now) words.entry) []) }
+{
+    match words {
+        Some(words) => Ok(List::from_vec(Vec::from_slice(alloc, words)?)),
+        None => Ok(List::new(alloc)),
+    }
+}
+
+fn all_given<'a>(
+    alloc: Global,
+    matches: &ArgMatches<'a>,
+    name: &str,
+) -> Result<List<&'a str>, OutOfMemory>
+    ensures { IfOk result (λ words. map (λ s. s.now) words ≡ unwrap_or (all_of name.now (rows_of (found_of matches.now))) []) }
+{
+    list_of(alloc, matches.get_strs(name))
+}
+
+fn given_by<'a>(alloc: Global, matches: &ArgMatches<'a>) -> Result<Given<'a>, OutOfMemory>
+    ensures { IfOk result (IsGiven (rows_of (found_of matches.now))) }
+{
+    Ok(Given {
+        hex: is_set(matches, "hex"),
+        trace: is_set(matches, "trace"),
+        base: given(matches, "base"),
+        flags: given(matches, "flags"),
+        from: given(matches, "from"),
+        at: given(matches, "at"),
+        steps: given(matches, "steps"),
+        memory: all_given(alloc, matches, "data")?,
+        registers: all_given(alloc, matches, "REGISTER=VALUE")?,
+    })
+}
+
+fn error_text(alloc: Global, error: &Error) -> Result<List<u8>, OutOfMemory> {
+    Ok(List::from_vec(error.to_string(alloc)?.into_bytes()))
+}
+
+// An error of a parse, by its kind.
+fn words_error(alloc: Global, error: &Error) -> WordsError
+    ensures { IsOfKind (kind_of error.now) result }
+{
+    let Ok(text) = error_text(alloc, error) else {
+        return WordsError::OutOfMemory;
+    };
+    match error.kind() {
+        ErrorKind::DisplayHelp => WordsError::Help { text },
+        ErrorKind::DisplayVersion => WordsError::Version { text },
+        ErrorKind::OutOfMemory => WordsError::OutOfMemory,
+        _ => WordsError::Wrong { text },
+    }
+}
+
+/// What the words after the program's name give.
+pub fn read_words<'a>(alloc: Global, words: &'a [String]) -> Result<Given<'a>, WordsError>
+    ensures { Parses (map string_bytes words.entry.now) result }
+{
+    let Ok(command) = command(alloc) else {
+        return Err(WordsError::OutOfMemory);
+    };
+    let matches = match command.try_get_matches_from(words) {
+        Ok(matches) => matches,
+        Err(error) => return Err(words_error(alloc, &error)),
+    };
+    match given_by(alloc, &matches) {
+        Ok(given) => Ok(given),
+        Err(OutOfMemory) => Err(WordsError::OutOfMemory),
+    }
+}

@@ -1,0 +1,47 @@
+-- What was due and was written ends a call.
+use Rattle.std.proofs.Common.{ℕ, inl, inr, List, sym, subst}
+use Rattle.std.specs.Io.KnownBytes.{Appends}
+use Rattle.rv_load.specs.declared.given.Given.{Given}
+use Rattle.rv_load.specs.declared.settings.Settings.{Settings}
+use Rattle.rv_run.specs.declared.outcome.Outcome.{Outcome}
+use Rattle.rv_run.specs.declared.outcome.Outcome.TheVariants as ends
+use Rattle.rv_run.specs.Outcomes.{Call, Read, Due, Means, WritesText, text_of, Ended}
+
+-- nothing is due of an outcome that no input means
+abbrev IsMeant : Outcome → Type 0
+IsMeant outcome = (g : Given) × (s : Settings) × (input : List ℕ) × Means g s input outcome
+
+meant : (c : Call) (outcome : Outcome) → Read c outcome → IsMeant outcome
+meant c outcome read = (read.0, read.1, read.3, read.6)
+
+written : (c : Call) (outcome : Outcome) → Due c outcome → Appends c.taken c.taken_after (text_of outcome) → Ended c outcome
+written c (ends.Ran run) due appended = (due, appended)
+written c (ends.Help text) due appended = (due, appended)
+written c (ends.Version text) due appended = (due, appended)
+written c (ends.Usage text) due appended = (due, appended)
+written c (ends.BadWord cause word) due appended = (due, appended)
+written c (ends.NotReport line) due appended = (due, appended)
+written c ends.NotHex due appended = (due, appended)
+written c ends.TooLong due appended = (due, appended)
+written c ends.ReadFault due appended = absurd (meant c ends.ReadFault due).3
+written c ends.WriteFault due appended = absurd (meant c ends.WriteFault due).3
+written c ends.OutOfMemory due appended = absurd (meant c ends.OutOfMemory due).3
+
+pub ended_written : (c : Call) (outcome answer : Outcome) → Due c outcome → WritesText outcome c.taken c.taken_after c.write_faults c.write_faults_after answer → Ended c answer
+ended_written c outcome answer due (inl (is, appended)) = subst (λ (o : Outcome). Ended c o) (sym is) (written c outcome due appended)
+ended_written c outcome answer due (inr (inl (is, rose, front))) = subst (λ (o : Outcome). Ended c o) (sym is) (rose, (outcome, due, front))
+ended_written c outcome answer due (inr (inr (is, front))) = subst (λ (o : Outcome). Ended c o) (sym is) (inr (outcome, due, front))
+
+-- an outcome that an input means is due where the input was read
+pub due_read : (c : Call) (outcome : Outcome) → Read c outcome → Due c outcome
+due_read c (ends.Ran run) read = read
+due_read c (ends.BadWord cause word) read = inr read
+due_read c (ends.NotReport line) read = read
+due_read c ends.NotHex read = read
+due_read c (ends.Help text) read = absurd (meant c (ends.Help text) read).3
+due_read c (ends.Version text) read = absurd (meant c (ends.Version text) read).3
+due_read c (ends.Usage text) read = absurd (meant c (ends.Usage text) read).3
+due_read c ends.TooLong read = absurd (meant c ends.TooLong read).3
+due_read c ends.ReadFault read = read
+due_read c ends.WriteFault read = read
+due_read c ends.OutOfMemory read = read

@@ -1,0 +1,5 @@
+pub mod Outcomes
+pub mod Output
+pub mod Running
+pub mod Starting
+pub mod Tracing

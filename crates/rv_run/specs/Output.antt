@@ -1,0 +1,41 @@
+-- The text of a run.
+use Rattle.std.specs.Prelude.{ℕ, zero, suc, ◌+◌, List, [], ◌∷◌, ◌++◌, ◌==◌, if◌then◌else◌, codes, false}
+use Rattle.std.specs.Fmt.{decimal, signed_decimal, digits}
+use Rattle.std.specs.Int.{w64, cast_signed}
+use Rattle.rv_base.specs.RegNames.{int_names, name_at}
+use Rattle.rv_machine.specs.State.{Values, reg}
+use Rattle.rv_run.specs.declared.ending.Ending.{Ending}
+use Rattle.rv_run.specs.declared.ending.Ending.TheVariants.{Left, Limit, Break, NoOperation}
+use Rattle.rv_run.specs.declared.result.Run.{Run}
+
+-- hexadecimal digits, without leading zeros
+abbrev pub hex : ℕ → List ℕ
+hex n = digits 16 false n
+
+abbrev pub ending_line : Ending → List ℕ
+ending_line (Left address) = codes "left the code to 0x" ++ hex address ++ codes "\n"
+ending_line Limit = codes "step limit\n"
+ending_line (Break offset) = codes "ebreak at " ++ decimal offset ++ codes "\n"
+ending_line (NoOperation offset word) = codes "no operation at " ++ decimal offset ++ codes ": 0x" ++ hex word ++ codes "\n"
+
+abbrev pub steps_line : ℕ → List ℕ
+steps_line k = codes "steps " ++ decimal k ++ codes "\n"
+
+-- the register x1 and on, n of them
+abbrev pub file : ℕ → Values → List ℕ
+file zero v = []
+file (suc n) v = file n v ++ reg v (suc n) ∷ []
+
+-- a register's name, and its value as a signed number and in hexadecimal digits
+abbrev pub register_line : ℕ → ℕ → List ℕ
+register_line n x = name_at int_names n ++ codes " " ++ signed_decimal (cast_signed w64 x) ++ codes " 0x" ++ hex x ++ codes "\n"
+
+-- a line for each register from number n on that has another value after the run
+abbrev pub changes : ℕ → List ℕ → List ℕ → List ℕ
+changes n [] after = []
+changes n (x ∷ xs) [] = []
+changes n (x ∷ xs) (y ∷ ys) = (if x == y then [] else register_line n y) ++ changes (n + 1) xs ys
+
+-- the steps, how the run ended, how many steps it had, and the registers that changed
+abbrev pub run_text : Run → List ℕ
+run_text r = r.trace ++ ending_line r.ending ++ steps_line r.steps ++ changes 1 r.before r.after

@@ -1,0 +1,88 @@
+//! The text of a run.
+
+ghost use Rattle.std.specs.Prelude.{◌≡◌, ◌++◌, ◌<◌, ◌≤◌, length, IfOk, OnOk, codes, string_bytes};
+ghost use Rattle.std.specs.Fmt.{decimal};
+ghost use Rattle.rv_run.specs.Output.{hex, ending_line, steps_line, register_line, changes, run_text};
+
+use crate::ending::Ending;
+use crate::result::Run;
+use rv_base::{OutOfMemory, PReg, Reg, RegClass};
+use std::alloc::Global;
+
+fn hex_line(alloc: Global, n: u64) -> Result<String, OutOfMemory>
+    ensures { IfOk result (λ text. string_bytes text ≡ hex n ++ codes "\n") }
+{
+    Ok(format!(in alloc; "{n:x}\n")?)
+}
+
+fn no_operation_line(alloc: Global, offset: u64, word: u32) -> Result<String, OutOfMemory>
+    ensures { IfOk result (λ text. string_bytes text ≡ codes "no operation at " ++ decimal offset ++ codes ": 0x" ++ hex word ++ codes "\n") }
+{
+    let mut text = format!(in alloc; "no operation at {offset}: 0x")?;
+    text.push_str(hex_line(alloc, u64::from(word))?.as_str())?;
+    Ok(text)
+}
+
+fn ending_line(alloc: Global, ending: Ending) -> Result<String, OutOfMemory>
+    ensures { IfOk result (λ text. string_bytes text ≡ ending_line ending) }
+{
+    match ending {
+        Ending::Left { address } => Ok(format!(in alloc; "left the code to 0x{address:x}\n")?),
+        Ending::Limit => Ok(format!(in alloc; "step limit\n")?),
+        Ending::Break { offset } => Ok(format!(in alloc; "ebreak at {offset}\n")?),
+        Ending::NoOperation { offset, word } => no_operation_line(alloc, offset, word),
+    }
+}
+
+fn steps_line(alloc: Global, steps: u64) -> Result<String, OutOfMemory>
+    ensures { IfOk result (λ text. string_bytes text ≡ steps_line steps) }
+{
+    Ok(format!(in alloc; "steps {steps}\n")?)
+}
+
+fn register_line(alloc: Global, number: u8, value: u64) -> Result<String, OutOfMemory>
+    requires { number < 32 }
+    ensures { IfOk result (λ text. string_bytes text ≡ register_line number value) }
+{
+    let register = Reg::Real(PReg::new(number, RegClass::Int));
+    let signed = value.cast_signed();
+    Ok(format!(in alloc; "{register} {signed} 0x{value:x}\n")?)
+}
+
+fn put(out: &mut Vec<u8>, text: &str) -> Result<(), OutOfMemory>
+    ensures { OnOk result (out.new.items ≡ out.old.items ++ text.now) }
+{
+    out.extend_from_slice(text.as_bytes())?;
+    Ok(())
+}
+
+// The lines of the registers that changed, from x1 on.
+fn put_changes(
+    alloc: Global,
+    out: &mut Vec<u8>,
+    before: &[u64],
+    after: &[u64],
+) -> Result<(), OutOfMemory>
+    requires few { length before.now ≤ 31 }
+    requires same { length after.now ≡ length before.now }
+    ensures { OnOk result (out.new.items ≡ out.old.items ++ changes 1 before.now after.now) }
+{
+    for n in 0..before.len() {
+        let value = after[n];
+        if before[n] != value {
+            put(out, register_line(alloc, n as u8 + 1, value)?.as_str())?;
+        }
+    }
+    Ok(())
+}
+
+/// The text of a run: its steps where they were asked for, how it ended, how many steps it had, and the registers that
+/// changed.
+pub fn put_run(alloc: Global, out: &mut Vec<u8>, run: &Run) -> Result<(), OutOfMemory>
+    ensures { OnOk result (out.new.items ≡ out.old.items ++ run_text run.now) }
+{
+    out.extend_from_slice(run.trace.as_slice())?;
+    put(out, ending_line(alloc, run.ending)?.as_str())?;
+    put(out, steps_line(alloc, run.steps)?.as_str())?;
+    put_changes(alloc, out, run.before.as_slice(), run.after.as_slice())
+}

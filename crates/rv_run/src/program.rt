@@ -1,0 +1,244 @@
+//! The program's call: reads the words and the input, runs the code, and writes the text of the run.
+
+ghost use Rattle.std.specs.Prelude.{◌≡◌, ◌<◌, length, map, string_bytes, IfOk, Ok, []};
+ghost use Rattle.rv_machine.specs.Steps.{Machine};
+ghost use Rattle.rv_run.specs.Output.{file};
+ghost use Rattle.rv_run.specs.Running.{RunsTo};
+ghost use Rattle.rv_run.specs.Starting.{begin};
+ghost use Rattle.rv_run.specs.Tracing.{trace_where};
+ghost use Rattle.rv_run.specs.Outcomes.{Loads, IsRun, given_text, listed_text, word_text, Means, Words, call, Asked, Ended, WritesText};
+
+use crate::ending::{Ending, Place};
+use crate::outcome::{Outcome, text_of};
+use crate::progress::Progress;
+use crate::result::Run;
+use crate::running::run_code;
+use crate::starting::begin;
+use crate::tracing::run_traced;
+use rv_base::{List, OutOfMemory};
+use rv_load::{
+    BadWord, Given, Program, ProgramError, Settings, SettingsError, WordsError, read_hex,
+    read_report, read_words, settings_of,
+};
+use rv_machine::IntMachine;
+use rv_stream::{ReadAllError, Sink, Source, WriteError, read_all, write_all};
+use std::alloc::Global;
+
+fn load(alloc: Global, hex: bool, input: &[u8]) -> Result<Program, ProgramError>
+    ensures { Loads hex input.now result }
+{
+    if hex {
+        read_hex(alloc, input)
+    } else {
+        read_report(alloc, input)
+    }
+}
+
+// The registers x1 to x31.
+fn registers_of(alloc: Global, machine: &IntMachine) -> Result<List<u64>, OutOfMemory>
+    ensures values { IfOk result (λ registers. registers ≡ file 31 machine.now.state.values) }
+    ensures count { IfOk result (λ registers. length registers ≡ 31) }
+{
+    let mut registers = List::new(alloc);
+    for n in 0u8..31 {
+        registers.push(machine.reg(n + 1))?;
+    }
+    Ok(registers)
+}
+
+// Runs the code, and writes its steps where that is asked for.
+fn run_asked<P: Progress>(
+    alloc: Global,
+    settings: &Settings,
+    machine: &mut IntMachine,
+    place: Place,
+    lines: &mut Vec<u8>,
+    progress: &mut P,
+) -> Result<(u64, Ending), OutOfMemory>
+    requires flags { machine.old.flags ≡ settings.now.flags }
+    requires empty { lines.old.items ≡ [] }
+    ensures ran { IfOk result (λ r. RunsTo place.base place.len settings.now.steps machine.old r.0 machine.new r.1) }
+    ensures lines { IfOk result (λ r. lines.new.items ≡ trace_where settings.now.trace settings.now.flags place.base r.0 machine.old.state) }
+{
+    if settings.trace {
+        run_traced(
+            alloc,
+            settings.flags,
+            machine,
+            place,
+            settings.steps,
+            lines,
+            progress,
+        )
+    } else {
+        run_code(settings.flags, machine, place, settings.steps, progress)
+    }
+}
+
+fn run_from<P: Progress>(
+    alloc: Global,
+    settings: &Settings,
+    program: &Program,
+    mut machine: IntMachine,
+    progress: &mut P,
+) -> Result<Run, OutOfMemory>
+    requires begins { begin settings.now program.now ≡ Ok machine }
+    requires flags { machine.flags ≡ settings.now.flags }
+    ensures { IfOk result (IsRun settings.now program.now) }
+{
+    let place = Place {
+        base: settings.base,
+        len: program.bytes.len() as u64,
+    };
+    let mut lines = Vec::new(alloc);
+    let before = registers_of(alloc, &machine)?;
+    let (steps, ending) = run_asked(alloc, settings, &mut machine, place, &mut lines, progress)?;
+    let after = registers_of(alloc, &machine)?;
+    Ok(Run {
+        ending,
+        steps,
+        before,
+        after,
+        trace: List::from_vec(lines),
+    })
+}
+
+fn copy_of(alloc: Global, text: &str) -> Result<List<u8>, OutOfMemory>
+    ensures { IfOk result (λ copy. copy ≡ text.now) }
+{
+    Ok(List::from_vec(Vec::from_slice(alloc, text.as_bytes())?))
+}
+
+fn given_text(alloc: Global, given: Option<&str>) -> Result<List<u8>, OutOfMemory>
+    ensures { IfOk result (λ text. text ≡ given_text given.entry) }
+{
+    match given {
+        Some(text) => copy_of(alloc, text),
+        None => Ok(List::new(alloc)),
+    }
+}
+
+fn listed_text(alloc: Global, words: &[&str], index: usize) -> Result<List<u8>, OutOfMemory>
+    ensures { IfOk result (λ text. text ≡ listed_text words.now index) }
+{
+    match words.get(index) {
+        Some(text) => copy_of(alloc, text),
+        None => Ok(List::new(alloc)),
+    }
+}
+
+fn word_text(alloc: Global, given: &Given, cause: BadWord) -> Result<List<u8>, OutOfMemory>
+    ensures { IfOk result (λ text. text ≡ word_text given.now cause) }
+{
+    match cause {
+        BadWord::Base => given_text(alloc, given.base),
+        BadWord::Flags => given_text(alloc, given.flags),
+        BadWord::From => given_text(alloc, given.from),
+        BadWord::At => given_text(alloc, given.at),
+        BadWord::Steps => given_text(alloc, given.steps),
+        BadWord::Data { index } => listed_text(alloc, given.memory.as_slice(), index),
+        BadWord::Register { index } => listed_text(alloc, given.registers.as_slice(), index),
+        BadWord::Twice { index } => listed_text(alloc, given.registers.as_slice(), index),
+    }
+}
+
+/// The outcome of an input.
+fn answer<P: Progress>(
+    alloc: Global,
+    given: &Given,
+    settings: &Settings,
+    input: &[u8],
+    progress: &mut P,
+) -> Result<Outcome, OutOfMemory>
+    ensures { IfOk result (Means given.now settings.now input.now) }
+{
+    let program = match load(alloc, given.hex, input) {
+        Ok(program) => program,
+        Err(ProgramError::NotReport { line }) => return Ok(Outcome::NotReport { line }),
+        Err(ProgramError::NotHex) => return Ok(Outcome::NotHex),
+        Err(ProgramError::OutOfMemory) => return Err(OutOfMemory),
+    };
+    match begin(alloc, settings, &program) {
+        Ok(machine) => {
+            let run = run_from(alloc, settings, &program, machine, progress)?;
+            Ok(Outcome::Ran { run })
+        }
+        Err(SettingsError::Bad { word: cause }) => {
+            let word = word_text(alloc, given, cause)?;
+            Ok(Outcome::BadWord { cause, word })
+        }
+        Err(SettingsError::OutOfMemory) => Err(OutOfMemory),
+    }
+}
+
+/// Writes the text of an outcome, and returns how the call ends.
+fn write_text<K: Sink>(alloc: Global, sink: &mut K, outcome: Outcome) -> Outcome
+    ensures { WritesText outcome (K.taken sink.old) (K.taken sink.new) (K.faults sink.old) (K.faults sink.new) result }
+{
+    let text = match text_of(alloc, &outcome) {
+        Ok(text) => text,
+        Err(_) => return Outcome::OutOfMemory,
+    };
+    match write_all(sink, &text) {
+        Ok(()) => outcome,
+        Err(WriteError::Failed) => Outcome::WriteFault,
+        Err(WriteError::OutOfMemory) => Outcome::OutOfMemory,
+    }
+}
+
+// Runs what the words and the input give, and writes the text of the outcome.
+fn run_given<S: Source, K: Sink, P: Progress>(
+    alloc: Global,
+    given: &Given,
+    settings: &Settings,
+    source: &mut S,
+    sink: &mut K,
+    progress: &mut P,
+) -> Outcome
+    ensures { (words : Words) → Asked words given.now settings.now → Ended (call words (S.left source.old) (S.faults source.old) (S.faults source.new) (K.taken sink.old) (K.taken sink.new) (K.faults sink.old) (K.faults sink.new)) result }
+{
+    let input = match read_all(alloc, source) {
+        Ok(input) => input,
+        Err(ReadAllError::Failed) => return Outcome::ReadFault,
+        Err(ReadAllError::TooLong) => return write_text(alloc, sink, Outcome::TooLong),
+        Err(ReadAllError::OutOfMemory) => return Outcome::OutOfMemory,
+    };
+    match answer(alloc, given, settings, &input, progress) {
+        Ok(outcome) => write_text(alloc, sink, outcome),
+        Err(OutOfMemory) => Outcome::OutOfMemory,
+    }
+}
+
+/// Runs the code that the input gives, as the words ask for, and writes how the run ended, how many steps it had, and the
+/// registers that it changed; or what else the words ask for, or one line that says why there is no run. The words are
+/// those after the program's name. Of a long run it ticks the progress now and then.
+pub fn run<S: Source, K: Sink, P: Progress>(
+    alloc: Global,
+    words: &[String],
+    source: &mut S,
+    sink: &mut K,
+    progress: &mut P,
+) -> Outcome
+    ensures { Ended (call (map string_bytes words.now) (S.left source.old) (S.faults source.old) (S.faults source.new) (K.taken sink.old) (K.taken sink.new) (K.faults sink.old) (K.faults sink.new)) result }
+{
+    let given = match read_words(alloc, words) {
+        Ok(given) => given,
+        Err(WordsError::Help { text }) => return write_text(alloc, sink, Outcome::Help { text }),
+        Err(WordsError::Version { text }) => return write_text(
+            alloc,
+            sink,
+            Outcome::Version { text },
+        ),
+        Err(WordsError::Wrong { text }) => return write_text(alloc, sink, Outcome::Usage { text }),
+        Err(WordsError::OutOfMemory) => return Outcome::OutOfMemory,
+    };
+    let cause = match settings_of(alloc, &given) {
+        Ok(settings) => return run_given(alloc, &given, &settings, source, sink, progress),
+        Err(SettingsError::Bad { word }) => word,
+        Err(SettingsError::OutOfMemory) => return Outcome::OutOfMemory,
+    };
+    match word_text(alloc, &given, cause) {
+        Ok(word) => write_text(alloc, sink, Outcome::BadWord { cause, word }),
+        Err(OutOfMemory) => Outcome::OutOfMemory,
+    }
+}

@@ -1,0 +1,19 @@
+//! What is shown of a run.
+
+ghost use Rattle.std.specs.Prelude.{◌≡◌, length};
+
+use crate::ending::Ending;
+use rv_base::List;
+
+/// A run: how it ended, after how many steps, the registers x1 to x31 before and after it, and the text of its steps.
+#[derive(Drop)]
+pub struct Run {
+    pub ending: Ending,
+    pub steps: u64,
+    pub before: List<u64>,
+    pub after: List<u64>,
+    /// A line for each step, where that was asked for.
+    pub trace: List<u8>,
+    ghost before_count: { length before ≡ 31 },
+    ghost after_count: { length after ≡ 31 },
+}

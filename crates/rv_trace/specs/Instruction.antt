@@ -1,0 +1,77 @@
+-- The text of an instruction, and of a step.
+use Rattle.std.specs.Prelude.{ℕ, ◌/◌, ◌%◌, ◌^◌, List, [], ◌++◌, ◌==◌, if◌then◌else◌, codes, ℤ}
+use Rattle.std.specs.Fmt.{decimal, signed_decimal}
+use Rattle.std.specs.Int.{w32, w64, cast_signed, cast_unsigned, to_be_bytes}
+use Rattle.hex.specs.Hex.{encode_lower}
+use Rattle.rv_base.specs.RegNames.{int_names, name_at}
+use Rattle.rv_machine.specs.declared.decoding.Decoded.{Decoded}
+use Rattle.rv_trace.specs.Mnemonics.{mnemonic, operands_of}
+use Rattle.rv_trace.specs.declared.operands.Operands.{Operands}
+use Rattle.rv_trace.specs.declared.operands.Operands.TheVariants.{Registers, Immediate, Source, Upper, Jump, Based, Branch, Sets, Nothing}
+
+abbrev pub register : ℕ → List ℕ
+register n = name_at int_names n
+
+abbrev pub comma : List ℕ
+comma = codes ","
+
+-- an access of a fence's set, where its bit is set
+abbrev pub access : ℕ → List ℕ → List ℕ
+access bit name = if bit == 1 then name else []
+
+abbrev pub accesses : ℕ → List ℕ
+accesses n = access (n / 8 % 2) (codes "i") ++ access (n / 4 % 2) (codes "o") ++ access (n / 2 % 2) (codes "r") ++ access (n % 2) (codes "w")
+
+-- a set of a fence: input and output of devices, reads and writes of memory
+abbrev pub set : ℕ → List ℕ
+set n = if n == 0 then codes "0" else accesses n
+
+-- the number of an immediate of so many bits
+abbrev pub low_bits : ℕ → Decoded → ℕ
+low_bits bits d = cast_unsigned w64 d.imm % 2 ^ bits
+
+-- the first operand, and those after it
+abbrev pub first : ℕ → List ℕ
+first n = codes " " ++ register n
+
+abbrev pub next : ℕ → List ℕ
+next n = comma ++ register n
+
+abbrev pub next_number : ℤ → List ℕ
+next_number n = comma ++ signed_decimal n
+
+abbrev pub two : ℕ → ℕ → List ℕ
+two a b = first a ++ next b
+
+abbrev pub three : ℕ → ℕ → ℕ → List ℕ
+three a b c = first a ++ next b ++ next c
+
+abbrev pub two_sets : ℕ → ℕ → List ℕ
+two_sets a b = codes " " ++ set a ++ comma ++ set b
+
+abbrev pub operands_text : Operands → Decoded → List ℕ
+operands_text Registers d = three d.rd d.rs1 d.rs2
+operands_text Immediate d = two d.rd d.rs1 ++ next_number d.imm
+operands_text Source d = two d.rd d.rs1
+operands_text Upper d = first d.rd ++ comma ++ decimal (low_bits 20 d)
+operands_text Jump d = first d.rd ++ next_number d.imm
+operands_text Based d = first d.rd ++ next_number d.imm ++ codes "(" ++ register d.rs1 ++ codes ")"
+operands_text Branch d = two d.rs1 d.rs2 ++ next_number d.imm
+operands_text Sets d = two_sets (low_bits 8 d / 16) (low_bits 8 d % 16)
+operands_text Nothing d = []
+
+-- the mnemonic with its operands
+abbrev pub instruction_text : Decoded → List ℕ
+instruction_text d = mnemonic d.op ++ operands_text (operands_of d.op) d
+
+-- what an instruction wrote to its register, if it has one
+abbrev pub written_text : ℕ → ℕ → List ℕ
+written_text rd value = if rd == 0 then [] else codes "  " ++ register rd ++ codes "=" ++ signed_decimal (cast_signed w64 value)
+
+-- the offset, and the word in eight hexadecimal digits
+abbrev pub place_text : ℕ → ℕ → List ℕ
+place_text offset word = decimal offset ++ codes ": " ++ encode_lower (to_be_bytes w32 word) ++ codes " "
+
+-- the offset, the word, the instruction, and the value that its register has after it
+abbrev pub step_line : ℕ → ℕ → Decoded → ℕ → List ℕ
+step_line offset word d value = place_text offset word ++ instruction_text d ++ written_text d.rd value ++ codes "\n"
