@@ -8,4 +8,4 @@ use Rattle.rv_vectors.proofs.buffer.noted.Goals as goal
 pub returns-clause-unbound : goal.returns-clause-unbound
 returns-clause-unbound c =
     let n = c.args.label.number in
-    ap (λ (x : Shape Toy). x.place n) c.use_label_at_offset.ensures.recorded.2 ∙ ap (λ (b : MachBuffer Toy). place_of b n) c.register_constants.ensures.same ∙ c.new-buffer.ensures.places n
+    ap (λ (x : Shape Toy). x.place n) c.in_ok-use_label_at_offset.ensures.recorded.2 ∙ ap (λ (b : MachBuffer Toy). place_of b n) c.register_constants.ensures.same ∙ c.new-buffer.ensures.places n

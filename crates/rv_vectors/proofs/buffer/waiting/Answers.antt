@@ -6,4 +6,4 @@ use Rattle.rv_vectors.proofs.buffer.waiting.Goals as goal
 pub returns-clause-unbound : goal.returns-clause-unbound
 returns-clause-unbound c =
     let n = c.args.label.number in
-    ap (λ (x : Shape Toy). x.place n) (c.put_data.ensures.put.2) ∙ ap (λ (x : Shape Toy). x.place n) (c.put8.ensures.put.2) ∙ ap (λ (x : Shape Toy). x.place n) (c.put4.ensures.put.2) ∙ ap (λ (x : Shape Toy). x.place n) (c.put2.ensures.put.2) ∙ c.in_ok-buffer.ensures.unbound
+    ap (λ (x : Shape Toy). x.place n) (c.in_ok-put_data.ensures.put.2) ∙ ap (λ (x : Shape Toy). x.place n) (c.in_ok-put8.ensures.put.2) ∙ ap (λ (x : Shape Toy). x.place n) (c.in_ok-put4.ensures.put.2) ∙ ap (λ (x : Shape Toy). x.place n) (c.in_ok-put2.ensures.put.2) ∙ c.in_ok-buffer.ensures.unbound
