@@ -1,67 +1,61 @@
 -- The names of a letter and a digit, by the table of their numbers.
-use Rattle.std.proofs.Common.{◌≡◌, ℕ, ◌+◌, ◌-◌, ◌<◌, ◌≤◌, Bool, true, false, cond, eqb, List, [], ◌∷◌, Option, Some, None, refl, sym, subst, ◌∙◌, arith}
+use Rattle.std.proofs.Common.{◌≡◌, ℕ, ◌+◌, ◌-◌, ◌<◌, ◌≤◌, List, [], ◌∷◌, Option, Some, None, refl, sym, subst, ◌∙◌, arith}
 use Rattle.std.specs.Prelude.{slice_index, IfSome}
-use Rattle.std.proofs.lemmas.Bool.{eqb-true}
+use lib.ListN.{get_or}
 use borrow.Author.Count.{below_none, below_more}
 use Rattle.rv_base.specs.declared.regs.RegClass.TheVariants.{Int}
 use Rattle.rv_base.specs.declared.regs.Reg.{Reg}
-use Rattle.rv_listing.specs.Registers.{by_letter, after_t, after_s, real, row}
-use Rattle.rv_listing.specs.declared.registers.TheConstants.{BY_DIGIT}
+use Rattle.rv_listing.specs.Registers.{by_letter, after_t, after_s, real}
+use Rattle.rv_listing.specs.declared.registers.TheConstants.{X, A, T, S, NONE, BY_LETTER}
 
--- the table's number at a digit, in the row that begins here, is the one that the letter and the digit stand for
-abbrev InRow : ℕ → ℕ → ℕ → Type 0
-InRow letter place d = by_letter letter ((48 + d) ∷ []) ≡ real Int (slice_index BY_DIGIT (place + d))
+-- a row's number at a digit is the one that the letter and the digit stand for
+abbrev InRow : ℕ → List ℕ → ℕ → Type 0
+InRow letter row d = by_letter letter ((48 + d) ∷ []) ≡ real Int (slice_index row d)
 
-x_row : (d : ℕ) → d < 10 → InRow 120 0 d
+x_row : (d : ℕ) → d < 10 → InRow 120 X d
 unfolding by_letter real
-x_row = below_more (InRow 120 0) 9 (below_more (InRow 120 0) 8 (below_more (InRow 120 0) 7 (below_more (InRow 120 0) 6 (below_more (InRow 120 0) 5 (below_more (InRow 120 0) 4 (below_more (InRow 120 0) 3 (below_more (InRow 120 0) 2 (below_more (InRow 120 0) 1 (below_more (InRow 120 0) 0 (below_none (InRow 120 0)) refl) refl) refl) refl) refl) refl) refl) refl) refl) refl
+x_row = below_more (InRow 120 X) 9 (below_more (InRow 120 X) 8 (below_more (InRow 120 X) 7 (below_more (InRow 120 X) 6 (below_more (InRow 120 X) 5 (below_more (InRow 120 X) 4 (below_more (InRow 120 X) 3 (below_more (InRow 120 X) 2 (below_more (InRow 120 X) 1 (below_more (InRow 120 X) 0 (below_none (InRow 120 X)) refl) refl) refl) refl) refl) refl) refl) refl) refl) refl
 
-a_row : (d : ℕ) → d < 10 → InRow 97 10 d
+a_row : (d : ℕ) → d < 10 → InRow 97 A d
 unfolding by_letter real
-a_row = below_more (InRow 97 10) 9 (below_more (InRow 97 10) 8 (below_more (InRow 97 10) 7 (below_more (InRow 97 10) 6 (below_more (InRow 97 10) 5 (below_more (InRow 97 10) 4 (below_more (InRow 97 10) 3 (below_more (InRow 97 10) 2 (below_more (InRow 97 10) 1 (below_more (InRow 97 10) 0 (below_none (InRow 97 10)) refl) refl) refl) refl) refl) refl) refl) refl) refl) refl
+a_row = below_more (InRow 97 A) 9 (below_more (InRow 97 A) 8 (below_more (InRow 97 A) 7 (below_more (InRow 97 A) 6 (below_more (InRow 97 A) 5 (below_more (InRow 97 A) 4 (below_more (InRow 97 A) 3 (below_more (InRow 97 A) 2 (below_more (InRow 97 A) 1 (below_more (InRow 97 A) 0 (below_none (InRow 97 A)) refl) refl) refl) refl) refl) refl) refl) refl) refl) refl
 
-t_row : (d : ℕ) → d < 10 → InRow 116 20 d
+t_row : (d : ℕ) → d < 10 → InRow 116 T d
 unfolding by_letter after_t real
-t_row = below_more (InRow 116 20) 9 (below_more (InRow 116 20) 8 (below_more (InRow 116 20) 7 (below_more (InRow 116 20) 6 (below_more (InRow 116 20) 5 (below_more (InRow 116 20) 4 (below_more (InRow 116 20) 3 (below_more (InRow 116 20) 2 (below_more (InRow 116 20) 1 (below_more (InRow 116 20) 0 (below_none (InRow 116 20)) refl) refl) refl) refl) refl) refl) refl) refl) refl) refl
+t_row = below_more (InRow 116 T) 9 (below_more (InRow 116 T) 8 (below_more (InRow 116 T) 7 (below_more (InRow 116 T) 6 (below_more (InRow 116 T) 5 (below_more (InRow 116 T) 4 (below_more (InRow 116 T) 3 (below_more (InRow 116 T) 2 (below_more (InRow 116 T) 1 (below_more (InRow 116 T) 0 (below_none (InRow 116 T)) refl) refl) refl) refl) refl) refl) refl) refl) refl) refl
 
-s_row : (d : ℕ) → d < 10 → InRow 115 30 d
+s_row : (d : ℕ) → d < 10 → InRow 115 S d
 unfolding by_letter after_s real
-s_row = below_more (InRow 115 30) 9 (below_more (InRow 115 30) 8 (below_more (InRow 115 30) 7 (below_more (InRow 115 30) 6 (below_more (InRow 115 30) 5 (below_more (InRow 115 30) 4 (below_more (InRow 115 30) 3 (below_more (InRow 115 30) 2 (below_more (InRow 115 30) 1 (below_more (InRow 115 30) 0 (below_none (InRow 115 30)) refl) refl) refl) refl) refl) refl) refl) refl) refl) refl
+s_row = below_more (InRow 115 S) 9 (below_more (InRow 115 S) 8 (below_more (InRow 115 S) 7 (below_more (InRow 115 S) 6 (below_more (InRow 115 S) 5 (below_more (InRow 115 S) 4 (below_more (InRow 115 S) 3 (below_more (InRow 115 S) 2 (below_more (InRow 115 S) 1 (below_more (InRow 115 S) 0 (below_none (InRow 115 S)) refl) refl) refl) refl) refl) refl) refl) refl) refl) refl
 
--- the last row has none
 abbrev NoneAt : ℕ → Type 0
-NoneAt d = real Int (slice_index BY_DIGIT (40 + d)) ≡ None
+NoneAt d = real Int (slice_index NONE d) ≡ None
 
 no_row : (d : ℕ) → d < 10 → NoneAt d
 unfolding real
 no_row = below_more NoneAt 9 (below_more NoneAt 8 (below_more NoneAt 7 (below_more NoneAt 6 (below_more NoneAt 5 (below_more NoneAt 4 (below_more NoneAt 3 (below_more NoneAt 2 (below_more NoneAt 1 (below_more NoneAt 0 (below_none NoneAt) refl) refl) refl) refl) refl) refl) refl) refl) refl) refl
 
-in_row : (letter d : ℕ) (reg : Reg) → d < 10 → Some reg ≡ real Int (slice_index BY_DIGIT (row letter + d)) → by_letter letter ((48 + d) ∷ []) ≡ Some reg
-in_row letter d reg low found = by_x (eqb letter 120) refl found
-  where
-    this : (l p : ℕ) → letter ≡ l → Some reg ≡ real Int (slice_index BY_DIGIT (p + d)) → InRow l p d → by_letter letter ((48 + d) ∷ []) ≡ Some reg
-    this l p same e it = subst (λ m. by_letter m ((48 + d) ∷ []) ≡ Some reg) (sym same) (it ∙ sym e)
+-- what a row reads is what the letter and the digit stand for
+abbrev Reads : ℕ → List ℕ → Type 0
+Reads letter row = (d : ℕ) → d < 10 → (reg : Reg) → Some reg ≡ real Int (slice_index row d) → by_letter letter ((48 + d) ∷ []) ≡ Some reg
 
-    by_s : (t : Bool) → eqb letter 115 ≡ t → Some reg ≡ real Int (slice_index BY_DIGIT (cond t 30 40 + d)) → by_letter letter ((48 + d) ∷ []) ≡ Some reg
-    by_s true is e = this 115 30 (eqb-true _ _ is) e (s_row d low)
-    by_s false is e = let nothing : Some reg ≡ None = e ∙ no_row d low in absurd (cc)
+reads : (letter : ℕ) (row : List ℕ) → ((d : ℕ) → d < 10 → InRow letter row d) → Reads letter row
+reads letter row it d low reg e = it d low ∙ sym e
 
-    by_t : (t : Bool) → eqb letter 116 ≡ t → Some reg ≡ real Int (slice_index BY_DIGIT (cond t 20 (cond (eqb letter 115) 30 40) + d)) → by_letter letter ((48 + d) ∷ []) ≡ Some reg
-    by_t true is e = this 116 20 (eqb-true _ _ is) e (t_row d low)
-    by_t false is e = by_s (eqb letter 115) refl e
+nothing : (letter : ℕ) → Reads letter NONE
+nothing letter d low reg e = let none : Some reg ≡ None = e ∙ no_row d low in absurd (cc)
 
-    by_a : (t : Bool) → eqb letter 97 ≡ t → Some reg ≡ real Int (slice_index BY_DIGIT (cond t 10 (cond (eqb letter 116) 20 (cond (eqb letter 115) 30 40)) + d)) → by_letter letter ((48 + d) ∷ []) ≡ Some reg
-    by_a true is e = this 97 10 (eqb-true _ _ is) e (a_row d low)
-    by_a false is e = by_t (eqb letter 116) refl e
+abbrev LetterReads : ℕ → Type 0
+LetterReads k = (none : List ℕ) → Reads (96 + k) (get_or BY_LETTER k none)
 
-    by_x : (t : Bool) → eqb letter 120 ≡ t → Some reg ≡ real Int (slice_index BY_DIGIT (cond t 0 (cond (eqb letter 97) 10 (cond (eqb letter 116) 20 (cond (eqb letter 115) 30 40))) + d)) → by_letter letter ((48 + d) ∷ []) ≡ Some reg
-    by_x true is e = this 120 0 (eqb-true _ _ is) e (x_row d low)
-    by_x false is e = by_a (eqb letter 97) refl e
+each_letter : (k : ℕ) → k < 32 → LetterReads k
+each_letter = below_more LetterReads 31 (below_more LetterReads 30 (below_more LetterReads 29 (below_more LetterReads 28 (below_more LetterReads 27 (below_more LetterReads 26 (below_more LetterReads 25 (below_more LetterReads 24 (below_more LetterReads 23 (below_more LetterReads 22 (below_more LetterReads 21 (below_more LetterReads 20 (below_more LetterReads 19 (below_more LetterReads 18 (below_more LetterReads 17 (below_more LetterReads 16 (below_more LetterReads 15 (below_more LetterReads 14 (below_more LetterReads 13 (below_more LetterReads 12 (below_more LetterReads 11 (below_more LetterReads 10 (below_more LetterReads 9 (below_more LetterReads 8 (below_more LetterReads 7 (below_more LetterReads 6 (below_more LetterReads 5 (below_more LetterReads 4 (below_more LetterReads 3 (below_more LetterReads 2 (below_more LetterReads 1 (below_more LetterReads 0 (below_none LetterReads) (λ _. nothing 96)) (λ _. reads 97 A a_row)) (λ _. nothing 98)) (λ _. nothing 99)) (λ _. nothing 100)) (λ _. nothing 101)) (λ _. nothing 102)) (λ _. nothing 103)) (λ _. nothing 104)) (λ _. nothing 105)) (λ _. nothing 106)) (λ _. nothing 107)) (λ _. nothing 108)) (λ _. nothing 109)) (λ _. nothing 110)) (λ _. nothing 111)) (λ _. nothing 112)) (λ _. nothing 113)) (λ _. nothing 114)) (λ _. reads 115 S s_row)) (λ _. reads 116 T t_row)) (λ _. nothing 117)) (λ _. nothing 118)) (λ _. nothing 119)) (λ _. reads 120 X x_row)) (λ _. nothing 121)) (λ _. nothing 122)) (λ _. nothing 123)) (λ _. nothing 124)) (λ _. nothing 125)) (λ _. nothing 126)) (λ _. nothing 127)
 
 -- what is read by the table is what the name stands for
-pub read_by_digit : (letter digit : ℕ) (r : Option Reg) → 48 ≤ digit → digit ≤ 57
-    → r ≡ real Int (slice_index BY_DIGIT (row letter + (digit - 48))) → IfSome r (λ reg. by_letter letter (digit ∷ []) ≡ Some reg)
-read_by_digit letter digit None low high e = _
-read_by_digit letter digit (Some reg) low high e =
+pub read_by_digit : (letter digit : ℕ) (none : List ℕ) (r : Option Reg) → 96 ≤ letter → letter < 128 → 48 ≤ digit → digit < 58
+    → r ≡ real Int (slice_index (get_or BY_LETTER (letter - 96) none) (digit - 48)) → IfSome r (λ reg. by_letter letter (digit ∷ []) ≡ Some reg)
+read_by_digit letter digit none None from to low high e = _
+read_by_digit letter digit none (Some reg) from to low high e =
+    let same : 96 + (letter - 96) ≡ letter = omega arith in
     let back : 48 + (digit - 48) ≡ digit = omega arith in
-    subst (λ n. by_letter letter (n ∷ []) ≡ Some reg) back (in_row letter (digit - 48) reg (omega arith) e)
+    subst (λ l. by_letter l (digit ∷ []) ≡ Some reg) same (subst (λ n. by_letter (96 + (letter - 96)) (n ∷ []) ≡ Some reg) back (each_letter (letter - 96) (omega arith) none (digit - 48) (omega arith) reg e))

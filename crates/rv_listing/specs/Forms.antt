@@ -1,5 +1,5 @@
 -- The forms of lines: a token for each field.
-use Rattle.std.specs.Prelude.{ℕ, List, Option, Some, None}
+use Rattle.std.specs.Prelude.{ℕ, List, Option, Some}
 use Rattle.rv_base.specs.declared.regs.Reg.{Reg}
 use Rattle.rv_base.specs.declared.condcodes.IntCC.{IntCC}
 use Rattle.rv_inst.specs.declared.inst.CondBrTarget.{CondBrTarget}

@@ -82,7 +82,3 @@ by_letter letter w =
 unfoldable pub register : List ℕ → Option Reg
 register [] = None
 register (letter ∷ w) = by_letter letter w
-
--- where a letter's row begins in the table of numbers by digit
-abbrev pub row : ℕ → ℕ
-row letter = if letter == 120 then 0 else if letter == 97 then 10 else if letter == 116 then 20 else if letter == 115 then 30 else 40

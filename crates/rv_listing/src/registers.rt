@@ -1,10 +1,10 @@
 //! Registers by name: `x`, `f` or `v` and a number, the names of the calling convention, and virtual ones.
 
-ghost use Rattle.std.specs.Prelude.{◌≡◌, ℕ, ◌<◌, ◌≤◌, [], ◌∷◌, Some, IfSome};
+ghost use Rattle.std.specs.Prelude.{◌≡◌, ℕ, ◌<◌, [], ◌∷◌, Some, IfSome};
 ghost use Rattle.rv_base.specs.declared.regs.RegClass.{RegClass};
 ghost use Rattle.rv_base.specs.RegNames.{real_name};
 ghost use Rattle.rv_listing.specs.Tokens.{◌>>=◌ as and_then, decimal};
-ghost use Rattle.rv_listing.specs.Registers.{after_f, after_s, after_t, argument, by_letter, fixed, float, float_saved, float_temporary, other, real, register, row, saved, single, temporary, virtual_register};
+ghost use Rattle.rv_listing.specs.Registers.{after_f, after_s, after_t, argument, by_letter, fixed, float, float_saved, float_temporary, other, real, register, saved, single, temporary, virtual_register};
 
 use crate::tokens::{decimal, is, starts, tail};
 use rv_base::{PReg, Reg, RegClass, VirtualReg};
@@ -208,37 +208,33 @@ fn by_letter(letter: u8, w: &[u8]) -> Option<Reg>
     }
 }
 
-/// The numbers of the registers whose names are a letter and a digit: rows of ten digits for x, a, t, s and every other
-/// letter. There is no register where 32 stands.
-const BY_DIGIT: [u8; 50] = [
-    0, 1, 2, 3, 4, 5, 6, 7, 8, 9, 10, 11, 12, 13, 14, 15, 16, 17, 32, 32, 5, 6, 7, 28, 29, 30, 31,
-    32, 32, 32, 32, 9, 18, 19, 20, 21, 22, 23, 24, 25, 32, 32, 32, 32, 32, 32, 32, 32, 32, 32,
+// The numbers of the registers whose names are x, a, t or s and a digit. There is no register where 32 stands.
+const X: [u8; 10] = [0, 1, 2, 3, 4, 5, 6, 7, 8, 9];
+
+const A: [u8; 10] = [10, 11, 12, 13, 14, 15, 16, 17, 32, 32];
+
+const T: [u8; 10] = [5, 6, 7, 28, 29, 30, 31, 32, 32, 32];
+
+const S: [u8; 10] = [32, 9, 18, 19, 20, 21, 22, 23, 24, 25];
+
+const NONE: [u8; 10] = [32, 32, 32, 32, 32, 32, 32, 32, 32, 32];
+
+/// The rows of the letters, from the one before `a`.
+const BY_LETTER: [[u8; 10]; 32] = [
+    NONE, A, NONE, NONE, NONE, NONE, NONE, NONE, NONE, NONE, NONE, NONE, NONE, NONE, NONE, NONE,
+    NONE, NONE, NONE, S, T, NONE, NONE, NONE, X, NONE, NONE, NONE, NONE, NONE, NONE, NONE,
 ];
 
-// Where a letter's row begins in `BY_DIGIT`.
-fn row(letter: u8) -> usize
-    ensures value { result ≡ row letter }
-    ensures within { result ≤ 40 }
-{
-    match letter {
-        b'x' => 0,
-        b'a' => 10,
-        b't' => 20,
-        b's' => 30,
-        _ => 40,
-    }
-}
-
-// The integer register of a letter and a digit. Nearly all names in a listing are such, and tables read them without a
+// The integer register of a letter and a digit. Nearly all names in a listing are such, and a table reads them without a
 // branch on the letter, which no processor predicts well.
 #[inline(always)]
 fn by_digit(letter: u8, digit: u8) -> Option<Reg>
     ensures { IfSome result (λ reg. by_letter letter (digit ∷ []) ≡ Some reg) }
 {
-    if digit < b'0' || digit > b'9' {
+    if letter < 96 || letter >= 128 || digit < 48 || digit >= 58 {
         return None;
     }
-    let number = BY_DIGIT[row(letter) + (digit - b'0') as usize];
+    let number = BY_LETTER[(letter - 96) as usize][(digit - 48) as usize];
     real(RegClass::Int, u64::from(number))
 }
 

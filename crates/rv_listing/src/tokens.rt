@@ -135,6 +135,7 @@ fn with_digit(n: u64, base: u64, d: u64) -> Option<u64>
     }
 }
 
+#[inline(always)]
 fn digits(base: u64, w: &[u8]) -> Option<u64>
     requires { base ≤ 16 }
     ensures { result ≡ digits base w.now }
@@ -158,6 +159,7 @@ pub(crate) fn is(word: &[u8], w: &[u8]) -> bool
 }
 
 /// Decimal digits without leading zeros.
+#[inline(always)]
 pub fn decimal(w: &[u8]) -> Option<u64>
     ensures { result ≡ decimal w.now }
 {
@@ -176,6 +178,7 @@ pub(crate) fn number(w: &[u8]) -> Option<u64>
 }
 
 /// A number without a sign: decimal, or `0x` and lower-case hex digits.
+#[inline(always)]
 pub fn natural(w: &[u8]) -> Option<u64>
     ensures { result ≡ natural w.now }
 {
@@ -187,6 +190,7 @@ pub fn natural(w: &[u8]) -> Option<u64>
 }
 
 /// A number of either sign; a minus may stand before zero.
+#[inline(always)]
 #[tactic(auto, unfolding(crate::specs::Tokens::signed))]
 pub fn signed(w: &[u8]) -> Option<i128>
     ensures { result ≡ signed w.now }

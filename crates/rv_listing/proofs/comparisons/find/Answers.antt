@@ -1,4 +1,4 @@
-use Rattle.std.proofs.Common.{◌≡◌, ap, ◌∙◌, sym, true, false, None, Some}
+use Rattle.std.proofs.Common.{◌≡◌, ◌∙◌, sym, true, false}
 use Rattle.std.specs.Str.{bytes_eq}
 use Rattle.rv_base.specs.CondCodes.{name_of}
 use Rattle.rv_listing.specs.Comparisons.{every}

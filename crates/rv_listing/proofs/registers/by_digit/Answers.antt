@@ -1,10 +1,8 @@
 use Rattle.std.proofs.Common.{arith, ap, ◌∙◌}
-use Rattle.std.specs.Prelude.{◌+◌, ◌-◌, slice_index}
 use Rattle.rv_base.specs.declared.regs.RegClass.TheVariants.{Int}
 use Rattle.rv_listing.specs.Registers.{real}
-use Rattle.rv_listing.specs.declared.registers.TheConstants.{BY_DIGIT}
 use Rattle.rv_listing.proofs.ByDigit.{read_by_digit}
 use Rattle.rv_listing.proofs.registers.by_digit.Goals as goal
 
 pub returns : goal.returns
-returns c = read_by_digit c.args.letter c.args.digit c.real.result (omega arith) (omega arith) (c.real.ensures ∙ ap (real Int) (c.from.ensures ∙ ap (λ place. slice_index BY_DIGIT (place + (c.args.digit - 48))) c.row.ensures.value))
+returns c = read_by_digit c.args.letter c.args.digit _ c.real.result (omega arith) (omega arith) (omega arith) (omega arith) (c.real.ensures ∙ ap (real Int) c.from.ensures)
