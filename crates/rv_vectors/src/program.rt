@@ -273,3 +273,22 @@ fn many_lines_are_reported(rt: HostRuntime) -> Result<(), AllocError> {
     assert_report(&rt, alloc, &listing, "code 2004\n", &[last]);
     Ok(())
 }
+
+/// Pieces of the report of jumps that stay pending over a million lines without bytes: each line begins where the one before
+/// it ends, so no island stands among them.
+const PENDING_PIECES: [&str; 5] = [
+    "\nline 99998 399992 399996\n",
+    "\nline 99999 399996 399996\n",
+    "\nline 1099999 399996 400000\n",
+    "\nlabel L0 400000\n",
+    "\nend 400000\n",
+];
+
+#[test]
+fn pending_jumps_ask_for_no_island(rt: HostRuntime) -> Result<(), AllocError> {
+    let alloc = rt.alloc();
+    let jumps = long_listing(alloc, "", 99_999, "Jal L0\n", "")?;
+    let listing = long_listing(alloc, jumps.as_str(), 1_000_000, "Nop0\n", "Ret\nBind L0\n")?;
+    assert_report(&rt, alloc, &listing, "code 400000\n", &PENDING_PIECES);
+    Ok(())
+}
