@@ -2,7 +2,7 @@
 use Rattle.std.specs.Prelude.{◌≡◌, Option, Some, None, ℕ, ◌-◌, ◌/◌, ◌%◌, List, [], ◌∷◌, drop, ℤ, pos, negsuc, ◌+ℤ◌, ◌*ℤ◌, ◌-ℤ◌, int_le, Bool, true, false, ◌&&◌}
 use Rattle.rv_base.specs.LabelUse.{Veneer, Kinds}
 use Rattle.rv_base.specs.declared.reloc.Reloc.{Reloc}
-use Rattle.rv_base.specs.declared.reloc.Reloc.TheVariants.{RiscvCallPlt}
+use Rattle.rv_base.specs.declared.reloc.Reloc.TheVariants.{RiscvCallPlt, RiscvGotHi20, RiscvPCRelHi20, RiscvPCRelLo12I, Abs8}
 use Rattle.rv_machine.specs.Layout.{b_imm, j_imm, u_imm, i_imm, u_bits, i_bits}
 use Rattle.rv_inst.specs.declared.label_use.LabelUse.{LabelUse}
 use Rattle.rv_inst.specs.declared.label_use.LabelUse.TheVariants.{Jal20, PCRel32, B12, PCRelHi20, PCRelLo12I}
@@ -73,4 +73,7 @@ label_kinds = record { aims = Aims; fields = marks_of; forward = forward_of; bac
 -- the pair of a call is filled as a far use is, whatever its addend
 abbrev pub kind_of_reloc : Reloc → ℤ → Option LabelUse
 kind_of_reloc RiscvCallPlt addend = Some PCRel32
-kind_of_reloc _ addend = None
+kind_of_reloc RiscvGotHi20 addend = None
+kind_of_reloc RiscvPCRelHi20 addend = None
+kind_of_reloc RiscvPCRelLo12I addend = None
+kind_of_reloc Abs8 addend = None
