@@ -11,7 +11,7 @@ use Rattle.rv_inst.specs.Meaning.{Exit, Next, To, Leave, Break, inst_exit, inst_
 use Rattle.rv_inst.specs.Operands.{inst_labels}
 use Rattle.rv_inst.specs.Rules.{inst_rule}
 use Rattle.mach_buffer.specs.declared.uses.Use.{Use}
-use Rattle.mach_buffer.specs.Buffer.{bytes_of, binding_line as bound_at}
+use Rattle.mach_buffer.specs.Buffer.{bytes_of, place_of as bound_at}
 use Rattle.rv_emit.specs.Operations.{decoded_ebreak}
 use Rattle.rv_emit.specs.Runs.{ComesTo, least_steps, exit_address, placement, used_exit}
 use Rattle.rv_emit.specs.Emitted.{Buffer, bytes_of_words}

@@ -31,4 +31,4 @@ pub returns : goal.returns
 returns c =
     finished c.args.lines.now c.loop-index.index _ c.loop-index.sink c.requires.accepted c.loop-index-test.false
     (subst (λ (spans : List LineSpan). SoFar c.args.lines.now c.loop-index.index spans c.loop-index.sink) (sym c.from_vec.ensures) c.loop-index.invariant)
-    c.in_ok-finished.ensures.code c.in_ok-finished.ensures.labels c.cur_offset-outcome_of_call.ensures
+    c.in_ok-finished.ensures.code c.in_ok-finished.ensures.labels c.cur_offset-end.ensures

@@ -8,5 +8,5 @@ returns-clause-put c = record {
   emitted = c.in_ok-emit.ensures.emitted;
   reach = c.in_ok-emit.ensures.reach;
   start = c.cur_offset-start.ensures;
-  end = c.cur_offset-outcome_of_call.ensures;
+  end = c.cur_offset-end.ensures;
 }
