@@ -10,19 +10,22 @@ use Rattle.rv_imms.specs.Bits.{low_bits}
 use Rattle.rv_ops.specs.declared.alu.AluOPRRR.{AluOPRRR}
 use Rattle.rv_ops.specs.declared.alu.AluOPRRI.{AluOPRRI}
 use Rattle.rv_ops.specs.declared.compare.IntegerCompare.{IntegerCompare}
+use Rattle.rv_ops.specs.declared.memory.LoadOP.{LoadOP}
+use Rattle.rv_ops.specs.declared.memory.StoreOP.{StoreOP}
 use Rattle.rv_ops.specs.Alu.{rrr_numbers, rri_numbers, is_reversed, imm12_of}
 use Rattle.rv_ops.specs.Compare.{funct3_of, branch_of, rs1_of, rs2_of}
-use Rattle.rv_machine.specs.declared.ops.MOp.TheVariants.{Base}
+use Rattle.rv_ops.specs.Memory.{load_funct3, store_funct3}
+use Rattle.rv_machine.specs.declared.ops.MOp.TheVariants.{Base, Load, Store}
 use Rattle.rv_machine.specs.declared.ops.BaseOp.TheVariants as base
 use Rattle.rv_machine.specs.State.{signed}
-use Rattle.rv_machine.specs.Opcodes.{LUI, AUIPC, JAL, JALR, BRANCH, SYSTEM}
-use Rattle.rv_machine.specs.Layout.{word_opcode, i_imm, b_imm, u_bits, u_imm, j_imm, bare_form}
-use Rattle.rv_machine.specs.Tables.{branch_entry}
+use Rattle.rv_machine.specs.Opcodes.{LUI, AUIPC, JAL, JALR, BRANCH, LOAD, STORE, SYSTEM}
+use Rattle.rv_machine.specs.Layout.{word_opcode, i_bits, i_imm, s_imm, b_imm, u_bits, u_imm, j_imm, bare_form}
+use Rattle.rv_machine.specs.Tables.{branch_entry, load_entry, store_entry}
 use Rattle.rv_machine.specs.Decode.{decode, by_opcode}
-use Rattle.rv_encode.specs.Layouts.{IsRType, IsIType, IsBType, IsUType, IsJType}
-use Rattle.rv_encode.specs.Operations.{row, decoded_rrr, decoded_rri, branch_op, decoded_branch}
+use Rattle.rv_encode.specs.Layouts.{IsRType, IsIType, IsSType, IsBType, IsUType, IsJType}
+use Rattle.rv_encode.specs.Operations.{row, decoded_rrr, decoded_rri, branch_op, decoded_branch, decoded_load, decoded_store}
 use Rattle.rv_encode.proofs.Numbers.{signed-low_bits}
-use Rattle.rv_encode.proofs.Tables.{rrr_fields, rri_fields, branch_table}
+use Rattle.rv_encode.proofs.Tables.{rrr_fields, rri_fields, branch_table, load_table, store_table}
 
 -- a word is decoded by its opcode
 pub opcode_decodes : (flags : IsaFlags) (w opcode : ℕ) → word_opcode w ≡ opcode → decode flags w ≡ by_opcode opcode w
@@ -48,10 +51,25 @@ lui_decodes flags w rd imm h = opcode_decodes flags w LUI h.opcode_is ∙ (λ i.
 pub auipc_decodes : (flags : IsaFlags) (w rd : ℕ) (imm : Imm20) → IsUType w AUIPC rd (low_bits (2 ^ 20) imm.value) → decode flags w ≡ Some (row (Base base.Auipc) rd 0 0 imm.value)
 auipc_decodes flags w rd imm h = opcode_decodes flags w AUIPC h.opcode_is ∙ (λ i. Some (row (Base base.Auipc) (h.rd_is i) 0 0 (upper_imm w imm h.imm_is i)))
 
+i_imm_is : (w : ℕ) (imm : Imm12) → i_bits w ≡ low_bits (2 ^ 12) imm.value → i_imm w ≡ imm.value
+i_imm_is w imm h = ap (signed (2 ^ 11)) h ∙ signed-low_bits (2 ^ 11) imm.value (omega (arith, ints)) (omega (arith, ints))
+
 pub jalr_decodes : (flags : IsaFlags) (w rd rs : ℕ) (imm : Imm12) → IsIType w JALR rd 0 rs (low_bits (2 ^ 12) imm.value) → decode flags w ≡ Some (row (Base base.Jalr) rd rs 0 imm.value)
 jalr_decodes flags w rd rs imm h =
-    let value : i_imm w ≡ imm.value = ap (signed (2 ^ 11)) h.imm_is ∙ signed-low_bits (2 ^ 11) imm.value (omega (arith, ints)) (omega (arith, ints)) in
-    opcode_decodes flags w JALR h.opcode_is ∙ (λ i. if h.funct3_is i == 0 then Some (row (Base base.Jalr) (h.rd_is i) (h.rs1_is i) 0 (value i)) else None)
+    opcode_decodes flags w JALR h.opcode_is ∙ (λ i. if h.funct3_is i == 0 then Some (row (Base base.Jalr) (h.rd_is i) (h.rs1_is i) 0 (i_imm_is w imm h.imm_is i)) else None)
+
+pub load_decodes : (flags : IsaFlags) (op : LoadOP) (w rd rs : ℕ) (imm : Imm12) → IsIType w LOAD rd (load_funct3 op) rs (low_bits (2 ^ 12) imm.value) → decode flags w ≡ Some (decoded_load op rd rs imm.value)
+load_decodes flags op w rd rs imm h =
+    opcode_decodes flags w LOAD h.opcode_is
+    ∙ (λ i. option_map (λ op. row (Load op) (h.rd_is i) (h.rs1_is i) 0 (i_imm_is w imm h.imm_is i)) (load_entry (h.funct3_is i)))
+    ∙ ap (option_map (λ op. row (Load op) rd rs 0 imm.value)) (load_table op)
+
+pub store_decodes : (flags : IsaFlags) (op : StoreOP) (w rs1 rs2 : ℕ) (imm : Imm12) → IsSType w STORE (store_funct3 op) rs1 rs2 (low_bits (2 ^ 12) imm.value) → decode flags w ≡ Some (decoded_store op rs1 rs2 imm.value)
+store_decodes flags op w rs1 rs2 imm h =
+    let value : s_imm w ≡ imm.value = ap (signed (2 ^ 11)) h.imm_is ∙ signed-low_bits (2 ^ 11) imm.value (omega (arith, ints)) (omega (arith, ints)) in
+    opcode_decodes flags w STORE h.opcode_is
+    ∙ (λ i. option_map (λ op. row (Store op) 0 (h.rs1_is i) (h.rs2_is i) (value i)) (store_entry (h.funct3_is i)))
+    ∙ ap (option_map (λ op. row (Store op) 0 rs1 rs2 imm.value)) (store_table op)
 
 pub jal_decodes : (flags : IsaFlags) (w rd : ℕ) (d : ℤ) → d <ℤ pos (2 ^ 20) → neg_ℤ (pos (2 ^ 20)) ≤ℤ d → IsJType w JAL rd (low_bits (2 ^ 21) d) → decode flags w ≡ Some (row (Base base.Jal) rd 0 0 d)
 jal_decodes flags w rd d up low h =

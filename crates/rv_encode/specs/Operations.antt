@@ -9,12 +9,20 @@ use Rattle.rv_ops.specs.declared.alu.AluOPRRI.TheVariants as rri
 use Rattle.rv_ops.specs.declared.compare.BranchFunct3.{BranchFunct3}
 use Rattle.rv_ops.specs.declared.compare.BranchFunct3.TheVariants as branch
 use Rattle.rv_ops.specs.declared.compare.IntegerCompare.{IntegerCompare}
+use Rattle.rv_ops.specs.declared.memory.LoadOP.{LoadOP}
+use Rattle.rv_ops.specs.declared.memory.LoadOP.TheVariants as loads
+use Rattle.rv_ops.specs.declared.memory.StoreOP.{StoreOP}
+use Rattle.rv_ops.specs.declared.memory.StoreOP.TheVariants as stores
 use Rattle.rv_ops.specs.Alu.{Upper, Number, Shamt6, Shamt5, Fixed, is_reversed, rri_numbers}
 use Rattle.rv_ops.specs.Compare.{branch_of, rs1_of, rs2_of}
 use Rattle.rv_machine.specs.declared.decoding.Decoded.{Decoded}
-use Rattle.rv_machine.specs.declared.ops.MOp.TheVariants.{Base, Alu}
+use Rattle.rv_machine.specs.declared.ops.MOp.TheVariants.{Base, Load, Store, Alu}
 use Rattle.rv_machine.specs.declared.ops.BaseOp.{BaseOp}
 use Rattle.rv_machine.specs.declared.ops.BaseOp.TheVariants as base
+use Rattle.rv_machine.specs.declared.ops.LoadOp.{LoadOp}
+use Rattle.rv_machine.specs.declared.ops.LoadOp.TheVariants as load
+use Rattle.rv_machine.specs.declared.ops.StoreOp.{StoreOp}
+use Rattle.rv_machine.specs.declared.ops.StoreOp.TheVariants as store
 use Rattle.rv_machine.specs.declared.ops.AluOp.{AluOp}
 use Rattle.rv_machine.specs.declared.ops.AluOp.TheVariants.{Int, Mul, Bit}
 use Rattle.rv_machine.specs.declared.ops.IntOp.TheVariants as int
@@ -125,6 +133,29 @@ kept_bits (Fixed f) imm = pos 0
 
 abbrev pub decoded_rri : AluOPRRI → ℕ → ℕ → ℤ → Decoded
 decoded_rri op rd rs imm = row (Alu (rri_op op)) rd rs 0 (kept_bits (rri_numbers op).number imm)
+
+abbrev pub load_op : LoadOP → LoadOp
+load_op loads.Lb = load.Lb
+load_op loads.Lh = load.Lh
+load_op loads.Lw = load.Lw
+load_op loads.Lbu = load.Lbu
+load_op loads.Lhu = load.Lhu
+load_op loads.Lwu = load.Lwu
+load_op loads.Ld = load.Ld
+
+-- a load into rd, from an offset past a base
+abbrev pub decoded_load : LoadOP → ℕ → ℕ → ℤ → Decoded
+decoded_load op rd base offset = row (Load (load_op op)) rd base 0 offset
+
+abbrev pub store_op : StoreOP → StoreOp
+store_op stores.Sb = store.Sb
+store_op stores.Sh = store.Sh
+store_op stores.Sw = store.Sw
+store_op stores.Sd = store.Sd
+
+-- a store of a register, to an offset past a base
+abbrev pub decoded_store : StoreOP → ℕ → ℕ → ℤ → Decoded
+decoded_store op base src offset = row (Store (store_op op)) 0 base src offset
 
 abbrev pub branch_op : BranchFunct3 → BaseOp
 branch_op branch.Eq = base.Beq

@@ -1,10 +1,13 @@
 -- A memory that is kept as a map's entries.
-use Rattle.std.proofs.Common.{◌≡◌, ℕ, List, [], ◌∷◌, Some, cond, refl, ap, sym, ◌∙◌}
-use Rattle.std.specs.FinMap.{get, insert, from_entries, get-from_entries, get-insert, find, same_map, nat_cmp-IsAntisymmetric}
+use Rattle.std.proofs.Common.{◌≡◌, ℕ, Bool, true, false, ◌==◌, List, [], ◌∷◌, Option, Some, None, cond, refl, ap, sym, ◌∙◌, arith, OnOk, OnErr, eq-eqb, Result, Ok, Err}
+use Rattle.std.proofs.lemmas.Bool.Decides.{nat_tests}
+use Rattle.std.specs.FinMap.{get, insert, remove, from_entries, get-from_entries, get-insert, get-remove, find, same_map, nat_cmp-IsAntisymmetric}
 use Rattle.std.specs.Ordering.{nat_cmp, eq_by_cmp}
-use Rattle.std.specs.Cmp.{nat_cmp_total, eq_by_cmp_equiv}
+use Rattle.std.specs.Cmp.{nat_cmp_total, eq_by_cmp_equiv, unsigned_tied}
 use Rattle.std.specs.Map.{lookup}
 use Rattle.std.specs.BTreeMap.{is_at}
+use Rattle.rv_machine.specs.State.{Memory}
+use Rattle.rv_machine.specs.Steps.{Machine, with_memory}
 
 find_at : (es : List (ℕ × ℕ)) (q : ℕ) → find nat_cmp q es ≡ lookup (is_at (nat_cmp q)) es
 find_at [] q = refl
@@ -22,3 +25,63 @@ inserted es fs k v h =
     ∙ h q
     ∙ ap (λ b. cond b (Some v) (lookup (is_at (nat_cmp q)) es)) ((eq_by_cmp_equiv nat_cmp_total).symm k q)
     ∙ sym (get-insert nat_cmp_total (from_entries es) k v q ∙ ap (cond (eq_by_cmp nat_cmp q k) (Some v)) (get_at es q)))
+
+-- entries that answer as others after a removal make the map after it
+pub removed : (es fs : List (ℕ × ℕ)) (k : ℕ) → ((q : ℕ) → lookup (is_at (nat_cmp q)) fs ≡ cond (is_at (nat_cmp k) q) None (lookup (is_at (nat_cmp q)) es)) → from_entries {R = nat_cmp} fs ≡ remove (from_entries es) k
+removed es fs k h =
+    same_map nat_cmp_total nat_cmp-IsAntisymmetric _ _ (λ q.
+    get_at fs q
+    ∙ h q
+    ∙ ap (λ b. cond b None (lookup (is_at (nat_cmp q)) es)) ((eq_by_cmp_equiv nat_cmp_total).symm k q)
+    ∙ sym (get-remove nat_cmp_total (from_entries es) k q ∙ ap (cond (eq_by_cmp nat_cmp q k) None) (get_at es q)))
+
+-- ---- a byte written, and what was there before put back
+
+back : (mem : Memory) (k c q : ℕ) (o : Option ℕ) → get mem k ≡ o → cond (eq_by_cmp nat_cmp q k) o (cond (eq_by_cmp nat_cmp q k) (Some c) (get mem q)) ≡ get mem q
+back mem k c q o was = on (eq_by_cmp nat_cmp q k) (sym (unsigned_tied q k))
+  where
+    on : (t : Bool) → (q == k) ≡ t → cond t o (cond t (Some c) (get mem q)) ≡ get mem q
+    on true e = let here : k ≡ q = grind (arith, nat_tests) in sym was ∙ ap (get mem) here
+    on false e = refl
+
+pub put_back : (mem : Memory) (k b c : ℕ) → get mem k ≡ Some b → insert (insert mem k c) k b ≡ mem
+put_back mem k b c was =
+    same_map nat_cmp_total nat_cmp-IsAntisymmetric _ _ (λ q.
+    get-insert nat_cmp_total (insert mem k c) k b q
+    ∙ ap (cond (eq_by_cmp nat_cmp q k) (Some b)) (get-insert nat_cmp_total mem k c q)
+    ∙ back mem k c q (Some b) was)
+
+pub taken_back : (mem : Memory) (k c : ℕ) → get mem k ≡ None → remove (insert mem k c) k ≡ mem
+taken_back mem k c was =
+    same_map nat_cmp_total nat_cmp-IsAntisymmetric _ _ (λ q.
+    get-remove nat_cmp_total (insert mem k c) k q
+    ∙ ap (cond (eq_by_cmp nat_cmp q k) None) (get-insert nat_cmp_total mem k c q)
+    ∙ back mem k c q None was)
+
+-- ---- the machine that it is put back in
+
+pub on_err : {A E P : Type 0} (r : Result A E) → P → OnErr r P
+on_err (Ok v) p = tt
+on_err (Err e) p = p
+
+on_ok : {A E P Q : Type 0} (r : Result A E) → OnOk r P → OnErr r Q → (Q → ⊥) → P
+on_ok (Ok v) p q refuted = p
+on_ok (Err e) p q refuted = absurd (refuted q)
+
+-- what is written somewhere is there
+written : (mem : Memory) (k c : ℕ) → get (insert mem k c) k ≡ Some c
+written mem k c = get-insert nat_cmp_total mem k c k ∙ ap (λ t. cond t (Some c) (get mem k)) (unsigned_tied k k ∙ eq-eqb k k refl)
+
+pub restored : {A E : Type 0} (r : Result A E) (m old new : Machine) (k b c : ℕ) → get m.state.values.mem k ≡ Some b → old ≡ with_memory m (insert m.state.values.mem k c) →
+    OnOk r (new ≡ with_memory old (insert old.state.values.mem k b)) → OnErr r (get old.state.values.mem k ≡ None) → new ≡ m
+restored r m old new k b c was wrote ok err =
+    let there : get old.state.values.mem k ≡ Some c = ap (λ (o : Machine). get o.state.values.mem k) wrote ∙ written m.state.values.mem k c in
+    on_ok r ok err (λ none. absurd (cc))
+    ∙ ap (λ (o : Machine). with_memory o (insert o.state.values.mem k b)) wrote
+    ∙ ap (with_memory m) (put_back m.state.values.mem k b c was)
+
+pub cleared : (m old new : Machine) (k c : ℕ) → get m.state.values.mem k ≡ None → old ≡ with_memory m (insert m.state.values.mem k c) → new ≡ with_memory old (remove old.state.values.mem k) → new ≡ m
+cleared m old new k c was wrote gone =
+    gone
+    ∙ ap (λ (o : Machine). with_memory o (remove o.state.values.mem k)) wrote
+    ∙ ap (with_memory m) (taken_back m.state.values.mem k c was)

@@ -1,8 +1,8 @@
 -- What keeps a state one: registers of 64 bits and memory of bytes.
-use Rattle.std.proofs.Common.{◌≡◌, ℕ, zero, suc, ◌^◌, ◌<◌, ◌≢◌, Bool, true, false, cond, Some, List, length, arith, refl, sym, subst, ◌∙◌, ⊎_elim, lit<}
+use Rattle.std.proofs.Common.{◌≡◌, ℕ, zero, suc, ◌^◌, ◌<◌, ◌≢◌, Bool, true, false, cond, Some, None, List, length, arith, refl, sym, subst, ◌∙◌, ⊎_elim, lit<}
 use Rattle.std.specs.Prelude.{slice_index, slice_set, replicate, unwrap_or}
 use Rattle.std.specs.FinMap as map
-use Rattle.std.specs.FinMap.{get-insert, get-empty}
+use Rattle.std.specs.FinMap.{get-insert, get-remove, get-empty}
 use Rattle.std.specs.Ordering.{nat_cmp, eq_by_cmp}
 use Rattle.std.specs.Cmp.{nat_cmp_total}
 use Rattle.std.proofs.Math.Seq.{get_or-set_other}
@@ -50,6 +50,19 @@ pub set_byte_state : (s : State) (k b : ℕ) → IsState s → b < 256 → IsSta
 set_byte_state s k b h fits = record {
   pc = h.pc;
   values = record { count = h.values.count; fits = h.values.fits; bytes = λ a. byte_set_fits s.values.mem k b a fits (h.values.bytes a) };
+}
+
+byte_clear_fits : (mem : Memory) (k a : ℕ) → byte mem a < 256 → byte (map.remove mem k) a < 256
+byte_clear_fits mem k a h = subst (λ o. unwrap_or o 0 < 256) (sym (get-remove nat_cmp_total mem k a)) (on (eq_by_cmp nat_cmp a k))
+  where
+    on : (c : Bool) → unwrap_or (cond c None (map.get mem a)) 0 < 256
+    on true = lit< tt
+    on false = h
+
+pub clear_byte_state : (s : State) (k : ℕ) → IsState s → IsState (at s.pc (record { regs = s.values.regs; mem = map.remove s.values.mem k }))
+clear_byte_state s k h = record {
+  pc = h.pc;
+  values = record { count = h.values.count; fits = h.values.fits; bytes = λ a. byte_clear_fits s.values.mem k a (h.values.bytes a) };
 }
 
 -- ---- the first state

@@ -3,11 +3,11 @@ use Rattle.std.specs.Prelude.{ℕ, ◌==◌, if◌then◌else◌, ◌&&◌, Opti
 use Rattle.std.specs.Option.{option_map}
 use Rattle.rv_base.specs.declared.flags.IsaFlags.{IsaFlags}
 use Rattle.rv_machine.specs.declared.decoding.Decoded.{Decoded}
-use Rattle.rv_machine.specs.declared.ops.MOp.TheVariants.{Base, Alu}
+use Rattle.rv_machine.specs.declared.ops.MOp.TheVariants.{Base, Load, Store, Alu}
 use Rattle.rv_machine.specs.declared.ops.BaseOp.TheVariants.{Lui, Auipc, Jal, Jalr, Fence, Ebreak}
-use Rattle.rv_machine.specs.Opcodes.{LUI, AUIPC, JAL, JALR, BRANCH, OP_IMM, OP_IMM_32, OP, OP_32, MISC_MEM, SYSTEM}
-use Rattle.rv_machine.specs.Layout.{bits, word_opcode, word_rd, word_funct3, word_rs1, word_funct6, word_funct7, word_funct12, bare_form, r_layout, i_layout, shift_layout, shift_32_layout, unary_layout, b_layout, u_layout, j_layout, fence_layout}
-use Rattle.rv_machine.specs.Tables.{branch_entry, imm_entry, imm_32_entry, shift_entry, unary_entry, long_shift_32_entry, shift_32_entry, unary_32_entry, op_entry, op_32_entry, unary_op_32_entry}
+use Rattle.rv_machine.specs.Opcodes.{LUI, AUIPC, JAL, JALR, BRANCH, LOAD, STORE, OP_IMM, OP_IMM_32, OP, OP_32, MISC_MEM, SYSTEM}
+use Rattle.rv_machine.specs.Layout.{bits, word_opcode, word_rd, word_funct3, word_rs1, word_funct6, word_funct7, word_funct12, bare_form, r_layout, i_layout, shift_layout, shift_32_layout, unary_layout, s_layout, b_layout, u_layout, j_layout, fence_layout}
+use Rattle.rv_machine.specs.Tables.{branch_entry, load_entry, store_entry, imm_entry, imm_32_entry, shift_entry, unary_entry, long_shift_32_entry, shift_32_entry, unary_32_entry, op_entry, op_32_entry, unary_op_32_entry}
 
 -- the first that is there
 abbrev pub or_else : Option Decoded → Option Decoded → Option Decoded
@@ -21,6 +21,12 @@ decode_jalr word = if word_funct3 word == 0 then Some (i_layout word (Base Jalr)
 
 abbrev pub decode_branch : ℕ → Option Decoded
 decode_branch word = option_map (λ op. b_layout word (Base op)) (branch_entry (word_funct3 word))
+
+abbrev pub decode_load : ℕ → Option Decoded
+decode_load word = option_map (λ op. i_layout word (Load op)) (load_entry (word_funct3 word))
+
+abbrev pub decode_store : ℕ → Option Decoded
+decode_store word = option_map (λ op. s_layout word (Store op)) (store_entry (word_funct3 word))
 
 abbrev pub decode_op_imm : ℕ → Option Decoded
 decode_op_imm word =
@@ -62,6 +68,8 @@ by_opcode opcode word =
     if opcode == JAL then Some (j_layout word (Base Jal)) else
     if opcode == JALR then decode_jalr word else
     if opcode == BRANCH then decode_branch word else
+    if opcode == LOAD then decode_load word else
+    if opcode == STORE then decode_store word else
     if opcode == OP_IMM then decode_op_imm word else
     if opcode == OP_IMM_32 then decode_op_imm_32 word else
     if opcode == OP then decode_op word else

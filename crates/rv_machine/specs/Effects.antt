@@ -1,17 +1,18 @@
 -- What each operation does, in the manual's terms: registers hold 64 bits, and sums wrap.
-use Rattle.std.specs.Prelude.{ℕ, ◌+◌, ◌*◌, ◌/◌, ◌^◌, nat_eq, nat_lt, if◌then◌else◌, Bool, not, Option, Some, None}
+use Rattle.std.specs.Prelude.{ℕ, ◌+◌, ◌*◌, ◌/◌, ◌^◌, nat_eq, nat_lt, if◌then◌else◌, Bool, not, List, Option, Some, None}
 use Rattle.rv_machine.specs.declared.decoding.Decoded.{Decoded}
 use Rattle.rv_machine.specs.declared.ops.MOp.{MOp}
-use Rattle.rv_machine.specs.declared.ops.MOp.TheVariants.{Base, Alu}
+use Rattle.rv_machine.specs.declared.ops.MOp.TheVariants.{Base, Load, Store, Alu}
 use Rattle.rv_machine.specs.declared.ops.BaseOp.{BaseOp}
 use Rattle.rv_machine.specs.declared.ops.BaseOp.TheVariants.{Lui, Auipc, Jal, Jalr, Beq, Bne, Blt, Bge, Bltu, Bgeu, Fence, Ebreak}
 use Rattle.rv_machine.specs.declared.ops.AluOp.{AluOp}
 use Rattle.rv_machine.specs.declared.ops.AluOp.TheVariants.{Int, Mul, Bit}
-use Rattle.rv_machine.specs.State.{State, reg, set_reg, at, wrap, low64}
+use Rattle.rv_machine.specs.State.{State, reg, set_reg, at, store, wrap, low64}
 use Rattle.rv_machine.specs.Arithmetic.{signed_below}
 use Rattle.rv_machine.specs.Int.{int_result}
 use Rattle.rv_machine.specs.MulDiv.{mul_result}
 use Rattle.rv_machine.specs.Bits.{bit_result}
+use Rattle.rv_machine.specs.Memory.{load_result, store_bytes}
 
 -- ---- what operations read and write
 
@@ -34,6 +35,14 @@ next_of d s = wrap (s.pc + d.len)
 -- a value goes to rd
 abbrev pub puts : Decoded → State → ℕ → State
 puts d s n = at (next_of d s) (set_reg s.values d.rd n)
+
+-- the address of a load or a store
+abbrev pub address_of : Decoded → State → ℕ
+address_of d s = wrap (x_of d s + imm_of d)
+
+-- bytes go to the address
+abbrev pub writes : Decoded → State → List ℕ → State
+writes d s bytes = at (next_of d s) (record { regs = s.values.regs; mem = store s.values.mem (address_of d s) bytes })
 
 -- the address after the word goes to rd, and the machine to an address
 abbrev pub links : Decoded → State → ℕ → State
@@ -68,6 +77,8 @@ base_act Ebreak d s = None
 
 abbrev pub act_on : MOp → Decoded → State → Option State
 act_on (Base op) d s = base_act op d s
+act_on (Load op) d s = Some (puts d s (load_result op s.values.mem (address_of d s)))
+act_on (Store op) d s = Some (writes d s (store_bytes op (y_of d s)))
 act_on (Alu op) d s = Some (puts d s (alu_result op (x_of d s) (y_of d s) (imm_of d)))
 
 -- the state after an operation, where it has a step

@@ -52,6 +52,9 @@ i_imm word = signed (2 ^ 11) (i_bits word)
 abbrev pub s_bits : ℕ → ℕ
 s_bits word = bits word 31 25 * 2 ^ 5 + bits word 11 7
 
+abbrev pub s_imm : ℕ → ℤ
+s_imm word = signed (2 ^ 11) (s_bits word)
+
 --  31      31 30        25 24  20 19  15 14    12 11       8 7       7 6      0
 --  | imm[12] | imm[10:5]  |  rs2 |  rs1 | funct3 | imm[4:1] | imm[11] | opcode |   B
 abbrev pub b_bits : ℕ → ℕ
@@ -109,6 +112,11 @@ shift_32_layout word op = decoded op (word_rd word) (word_rs1 word) 0 (pos (bits
 --  |   funct12    |  rs1 | funct3 |  rd | opcode |   I, of one source
 abbrev pub unary_layout : ℕ → MOp → Decoded
 unary_layout word op = decoded op (word_rd word) (word_rs1 word) 0 (pos 0)
+
+--  31        25 24  20 19  15 14    12 11       7 6      0
+--  | imm[11:5] |  rs2 |  rs1 | funct3 | imm[4:0] | opcode |   S
+abbrev pub s_layout : ℕ → MOp → Decoded
+s_layout word op = decoded op 0 (word_rs1 word) (word_rs2 word) (s_imm word)
 
 abbrev pub b_layout : ℕ → MOp → Decoded
 b_layout word op = decoded op 0 (word_rs1 word) (word_rs2 word) (b_imm word)

@@ -7,6 +7,7 @@ pub mod Arithmetic
 pub mod Int
 pub mod MulDiv
 pub mod Bits
+pub mod Memory
 pub mod Effects
 pub mod Steps
 pub mod View

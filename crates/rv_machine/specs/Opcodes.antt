@@ -16,6 +16,12 @@ JALR = 0x67
 abbrev pub BRANCH : ℕ
 BRANCH = 0x63
 
+abbrev pub LOAD : ℕ
+LOAD = 0x03
+
+abbrev pub STORE : ℕ
+STORE = 0x23
+
 abbrev pub OP_IMM : ℕ
 OP_IMM = 0x13
 

@@ -5,6 +5,10 @@ use Rattle.rv_machine.specs.declared.ops.AluOp.{AluOp}
 use Rattle.rv_machine.specs.declared.ops.AluOp.TheVariants.{Int, Mul, Bit}
 use Rattle.rv_machine.specs.declared.ops.BaseOp.{BaseOp}
 use Rattle.rv_machine.specs.declared.ops.BaseOp.TheVariants.{Beq, Bne, Blt, Bge, Bltu, Bgeu}
+use Rattle.rv_machine.specs.declared.ops.LoadOp.{LoadOp}
+use Rattle.rv_machine.specs.declared.ops.LoadOp.TheVariants.{Lb, Lh, Lw, Lbu, Lhu, Lwu, Ld}
+use Rattle.rv_machine.specs.declared.ops.StoreOp.{StoreOp}
+use Rattle.rv_machine.specs.declared.ops.StoreOp.TheVariants.{Sb, Sh, Sw, Sd}
 use Rattle.rv_machine.specs.declared.ops.IntOp.TheVariants.{Addi, Slti, Sltiu, Xori, Ori, Andi, Slli, Srli, Srai, Add, Sub, Sll, Slt, Sltu, Xor, Srl, Sra, Or, And, Addiw, Slliw, Srliw, Sraiw, Addw, Subw, Sllw, Srlw, Sraw, CzeroEqz, CzeroNez}
 use Rattle.rv_machine.specs.declared.ops.MulOp.TheVariants.{Mul, Mulh, Mulhsu, Mulhu, Div, Divu, Rem, Remu, Mulw, Divw, Divuw, Remw, Remuw}
 use Rattle.rv_machine.specs.declared.ops.BitOp.TheVariants.{AddUw, Sh1add, Sh2add, Sh3add, Sh1addUw, Sh2addUw, Sh3addUw, SlliUw, Andn, Orn, Xnor, Clz, Clzw, Ctz, Ctzw, Cpop, Cpopw, Max, Maxu, Min, Minu, SextB, SextH, ZextH, Rol, Rolw, Ror, Rori, Roriw, Rorw, OrcB, Rev8, Bclr, Bclri, Bext, Bexti, Binv, Binvi, Bset, Bseti}
@@ -18,6 +22,31 @@ branch_entry funct3 =
     if funct3 == 5 then Some Bge else
     if funct3 == 6 then Some Bltu else
     if funct3 == 7 then Some Bgeu else
+    None
+
+-- LOAD
+abbrev pub load_entry : ℕ → Option LoadOp
+load_entry funct3 =
+    -- RV32I
+    if funct3 == 0 then Some Lb else
+    if funct3 == 1 then Some Lh else
+    if funct3 == 2 then Some Lw else
+    if funct3 == 4 then Some Lbu else
+    if funct3 == 5 then Some Lhu else
+    -- RV64I
+    if funct3 == 6 then Some Lwu else
+    if funct3 == 3 then Some Ld else
+    None
+
+-- STORE
+abbrev pub store_entry : ℕ → Option StoreOp
+store_entry funct3 =
+    -- RV32I
+    if funct3 == 0 then Some Sb else
+    if funct3 == 1 then Some Sh else
+    if funct3 == 2 then Some Sw else
+    -- RV64I
+    if funct3 == 3 then Some Sd else
     None
 
 -- OP-IMM, with an immediate of twelve bits

@@ -2,11 +2,11 @@
 
 ghost use Rattle.std.specs.Prelude.{◌≡◌, IfSome};
 ghost use Rattle.rv_machine.specs.Layout.{HasFileRegisters};
-ghost use Rattle.rv_machine.specs.Decode.{decode_jalr, decode_branch, decode_op_imm, decode_op_imm_32, decode_op, decode_op_32, decode_misc_mem, decode_system, by_opcode, decode};
+ghost use Rattle.rv_machine.specs.Decode.{decode_jalr, decode_branch, decode_load, decode_store, decode_op_imm, decode_op_imm_32, decode_op, decode_op_32, decode_misc_mem, decode_system, by_opcode, decode};
 
 use crate::fields::{funct3, funct6, funct7, funct12, opcode, rd, rs1};
 use crate::opcodes::{
-    AUIPC, BRANCH, JAL, JALR, LUI, MISC_MEM, OP, OP_32, OP_IMM, OP_IMM_32, SYSTEM,
+    AUIPC, BRANCH, JAL, JALR, LOAD, LUI, MISC_MEM, OP, OP_32, OP_IMM, OP_IMM_32, STORE, SYSTEM,
 };
 use crate::ops::{BaseOp, MOp};
 use crate::{layouts, tables};
@@ -52,6 +52,8 @@ fn by_opcode(opcode: u32, word: u32) -> Option<Decoded>
         JAL => Some(layouts::jump(word, MOp::Base(BaseOp::Jal))),
         JALR => jalr(word),
         BRANCH => branch(word),
+        LOAD => load(word),
+        STORE => store(word),
         OP_IMM => op_imm(word),
         OP_IMM_32 => op_imm_32(word),
         OP => op(word),
@@ -78,6 +80,26 @@ fn branch(word: u32) -> Option<Decoded>
 {
     match tables::branch(funct3(word)) {
         Some(op) => Some(layouts::branch(word, MOp::Base(op))),
+        None => None,
+    }
+}
+
+fn load(word: u32) -> Option<Decoded>
+    ensures value { result ≡ decode_load word }
+    ensures registers { IfSome result HasFileRegisters }
+{
+    match tables::load(funct3(word)) {
+        Some(op) => Some(layouts::immediate(word, MOp::Load(op))),
+        None => None,
+    }
+}
+
+fn store(word: u32) -> Option<Decoded>
+    ensures value { result ≡ decode_store word }
+    ensures registers { IfSome result HasFileRegisters }
+{
+    match tables::store(funct3(word)) {
+        Some(op) => Some(layouts::store(word, MOp::Store(op))),
         None => None,
     }
 }

@@ -2,7 +2,7 @@
 //! layouts are drawn beside their definitions, in specs/Layout.antt.
 
 ghost use Rattle.std.specs.Prelude.{◌≡◌};
-ghost use Rattle.rv_machine.specs.Layout.{HasFileRegisters, i_imm, b_bits, b_imm, u_imm, j_bits, j_imm, bare_form, r_layout, i_layout, shift_layout, shift_32_layout, unary_layout, b_layout, u_layout, j_layout, fence_layout};
+ghost use Rattle.rv_machine.specs.Layout.{HasFileRegisters, i_imm, s_bits, s_imm, b_bits, b_imm, u_imm, j_bits, j_imm, bare_form, r_layout, i_layout, shift_layout, shift_32_layout, unary_layout, s_layout, b_layout, u_layout, j_layout, fence_layout};
 
 use crate::decoding::Decoded;
 use crate::fields::{rd, rs1, rs2, sign_extend};
@@ -13,6 +13,19 @@ fn i_imm(word: u32) -> i64
     ensures { result ≡ i_imm word }
 {
     sign_extend(1 << 11, word >> 20)
+}
+
+/// The bits of imm[11:0] of layout S.
+fn s_bits(word: u32) -> u32
+    ensures { result ≡ s_bits word }
+{
+    (word >> 25) * 32 + (word >> 7 & 0x1f)
+}
+
+fn s_imm(word: u32) -> i64
+    ensures { result ≡ s_imm word }
+{
+    sign_extend(1 << 11, s_bits(word))
 }
 
 /// The bits of imm[12:1] of layout B.
@@ -129,6 +142,19 @@ pub fn unary(word: u32, op: MOp) -> Decoded
     Decoded {
         rd: rd(word),
         rs1: rs1(word),
+        ..bare(op)
+    }
+}
+
+/// Layout S: two sources and an immediate of twelve bits.
+pub fn store(word: u32, op: MOp) -> Decoded
+    ensures value { result ≡ s_layout word op }
+    ensures registers { HasFileRegisters result }
+{
+    Decoded {
+        rs1: rs1(word),
+        rs2: rs2(word),
+        imm: s_imm(word),
         ..bare(op)
     }
 }

@@ -15,5 +15,7 @@ mod tables;
 
 pub use decoding::{Decoded, decode};
 pub use machine::{IntMachine, Step};
-pub use opcodes::{AUIPC, BRANCH, JAL, JALR, LUI, MISC_MEM, OP, OP_32, OP_IMM, OP_IMM_32, SYSTEM};
-pub use ops::{AluOp, BaseOp, BitOp, IntOp, MOp, MulOp};
+pub use opcodes::{
+    AUIPC, BRANCH, JAL, JALR, LOAD, LUI, MISC_MEM, OP, OP_32, OP_IMM, OP_IMM_32, STORE, SYSTEM,
+};
+pub use ops::{AluOp, BaseOp, BitOp, IntOp, LoadOp, MOp, MulOp, StoreOp};

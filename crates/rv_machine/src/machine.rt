@@ -1,11 +1,12 @@
 //! A machine that does one operation at a time: one hart of "2.1 Programmers' Model", with the integer registers.
 
-ghost use Rattle.std.specs.Prelude.{◌≡◌, ℕ, ◌+◌, ◌^◌, ◌<◌, ◌≤◌, length, take, OnOk, OnErr, IfOk};
+ghost use Rattle.std.specs.Prelude.{◌≡◌, ℕ, ◌+◌, ◌^◌, ◌<◌, ◌≤◌, length, take, OnOk, OnErr, IfOk, None};
 ghost use Rattle.std.specs.FinMap as map;
 ghost use Rattle.rv_machine.specs.Layout.{HasFileRegisters};
 ghost use Rattle.rv_machine.specs.State.{IsState, byte, reg};
 ghost use Rattle.rv_machine.specs.declared.machine.Step.TheVariants.{Stepped};
-ghost use Rattle.rv_machine.specs.Effects.{x_of, y_of, imm_of, next_of, puts, links, branches, alu_result, base_act, act};
+ghost use Rattle.rv_machine.specs.Effects.{x_of, y_of, imm_of, next_of, address_of, puts, writes, links, branches, alu_result, base_act, act};
+ghost use Rattle.rv_machine.specs.Memory.{load_bytes, load_result, store_bytes};
 ghost use Rattle.rv_machine.specs.Steps.{fetch, istep, Machine, zero_at, with_state, with_pc, with_reg, with_memory, with_bytes, HasBytes, Goes, Steps, Ran};
 
 use crate::arithmetic::is_signed_below;
@@ -13,7 +14,7 @@ use crate::bits::bit_result;
 use crate::decoding::{Decoded, decode};
 use crate::int::int_result;
 use crate::muldiv::mul_result;
-use crate::ops::{AluOp, BaseOp, MOp};
+use crate::ops::{AluOp, BaseOp, LoadOp, MOp, StoreOp};
 use rv_base::{IsaFlags, OutOfMemory};
 use std::alloc::Global;
 use std::collections::BTreeMap;
@@ -128,12 +129,51 @@ impl IntMachine {
         }
     }
 
-    fn set_byte(&mut self, at: u64, byte: u8) -> Result<(), OutOfMemory>
+    /// Writes a byte, and returns the one that was written there before, if any was.
+    fn set_byte(&mut self, at: u64, byte: u8) -> Result<Option<u8>, OutOfMemory>
         ensures ok { OnOk result (self.new ≡ with_memory self.old (map.insert self.old.state.values.mem at byte)) }
+        ensures before { IfOk result (λ before. before ≡ map.get self.old.state.values.mem at) }
+        ensures absent { OnErr result (map.get self.old.state.values.mem at ≡ None) }
         ensures err { OnErr result (self.new ≡ self.old) }
     {
-        self.bytes.insert(at, byte)?;
-        Ok(())
+        let before = self.bytes.insert(at, byte)?;
+        Ok(before)
+    }
+
+    /// As if nothing were written at an address.
+    fn clear_byte(&mut self, at: u64)
+        ensures { self.new ≡ with_memory self.old (map.remove self.old.state.values.mem at) }
+    {
+        let _ = self.bytes.remove(&at);
+    }
+
+    /// Undoes a write of a byte.
+    fn restore_byte(&mut self, at: u64, before: Option<u8>)
+        ensures { (m : Machine) (byte : ℕ) → map.get m.state.values.mem at ≡ before → self.old ≡ with_memory m (map.insert m.state.values.mem at byte) → self.new ≡ m }
+    {
+        match before {
+            Some(byte) => {
+                // Takes no memory: only the first byte that is written at an address does.
+                let _ = self.set_byte(at, byte);
+            }
+            None => self.clear_byte(at),
+        }
+    }
+
+    /// Writes bytes at an address and on, all of them or none; after the last address comes 0.
+    fn store(&mut self, at: u64, bytes: &[u8]) -> Result<(), OutOfMemory>
+        ensures ok { OnOk result (self.new ≡ with_bytes self.old at bytes.now) }
+        ensures err { OnErr result (self.new ≡ self.old) }
+    {
+        let Some((byte, rest)) = bytes.split_first() else {
+            return Ok(());
+        };
+        let before = self.set_byte(at, *byte)?;
+        let stored = self.store(at.wrapping_add(1), rest);
+        if stored.is_err() {
+            self.restore_byte(at, before);
+        }
+        stored
     }
 
     /// Writes bytes at an address and on; after the last address comes 0.
@@ -150,15 +190,36 @@ impl IntMachine {
         Ok(())
     }
 
-    fn fetch(&self) -> u32
-        ensures { result ≡ fetch self.now.state.values.mem self.now.state.pc }
+    fn halfword(&self, at: u64) -> u16
+        ensures { result ≡ load_bytes self.now.state.values.mem at 2 }
     {
-        let pc = self.pc();
+        u16::from_le_bytes([self.byte(at), self.byte(at.wrapping_add(1))])
+    }
+
+    fn word(&self, at: u64) -> u32
+        ensures value { result ≡ load_bytes self.now.state.values.mem at 4 }
+        ensures fetched { result ≡ fetch self.now.state.values.mem at }
+    {
         u32::from_le_bytes([
-            self.byte(pc),
-            self.byte(pc.wrapping_add(1)),
-            self.byte(pc.wrapping_add(2)),
-            self.byte(pc.wrapping_add(3)),
+            self.byte(at),
+            self.byte(at.wrapping_add(1)),
+            self.byte(at.wrapping_add(2)),
+            self.byte(at.wrapping_add(3)),
+        ])
+    }
+
+    fn doubleword(&self, at: u64) -> u64
+        ensures { result ≡ load_bytes self.now.state.values.mem at 8 }
+    {
+        u64::from_le_bytes([
+            self.byte(at),
+            self.byte(at.wrapping_add(1)),
+            self.byte(at.wrapping_add(2)),
+            self.byte(at.wrapping_add(3)),
+            self.byte(at.wrapping_add(4)),
+            self.byte(at.wrapping_add(5)),
+            self.byte(at.wrapping_add(6)),
+            self.byte(at.wrapping_add(7)),
         ])
     }
 
@@ -227,6 +288,49 @@ impl IntMachine {
         }
     }
 
+    /// The address of a load or a store.
+    fn address(&self, d: Decoded) -> u64
+        requires { HasFileRegisters d }
+        ensures { result ≡ address_of d self.now.state }
+    {
+        self.reg(d.rs1).wrapping_add(d.imm.cast_unsigned())
+    }
+
+    /// What a load from an address puts in rd.
+    fn load_result(&self, op: LoadOp, at: u64) -> u64
+        ensures { result ≡ load_result op self.now.state.values.mem at }
+    {
+        match op {
+            LoadOp::Lb => i64::from(self.byte(at).cast_signed()).cast_unsigned(),
+            LoadOp::Lh => i64::from(self.halfword(at).cast_signed()).cast_unsigned(),
+            LoadOp::Lw => i64::from(self.word(at).cast_signed()).cast_unsigned(),
+            LoadOp::Lbu => u64::from(self.byte(at)),
+            LoadOp::Lhu => u64::from(self.halfword(at)),
+            LoadOp::Lwu => u64::from(self.word(at)),
+            LoadOp::Ld => self.doubleword(at),
+        }
+    }
+
+    fn act_load(&mut self, op: LoadOp, d: Decoded) -> Step
+        requires { HasFileRegisters d }
+        ensures stepped { result ≡ Stepped }
+        ensures state { self.new ≡ with_state self.old (puts d self.old.state (load_result op self.old.state.values.mem (address_of d self.old.state))) }
+    {
+        let value = self.load_result(op, self.address(d));
+        self.put(d, value)
+    }
+
+    fn act_store(&mut self, op: StoreOp, d: Decoded) -> Result<Step, OutOfMemory>
+        requires { HasFileRegisters d }
+        ensures stepped { IfOk result (λ step. step ≡ Stepped) }
+        ensures state { OnOk result (self.new ≡ with_state self.old (writes d self.old.state (store_bytes op (y_of d self.old.state)))) }
+        ensures err { OnErr result (self.new ≡ self.old) }
+    {
+        let bytes = self.reg(d.rs2).to_le_bytes();
+        self.store(self.address(d), &bytes[..op.width()])?;
+        Ok(self.go_on(d))
+    }
+
     fn act_alu(&mut self, op: AluOp, d: Decoded) -> Step
         requires { HasFileRegisters d }
         ensures stepped { result ≡ Stepped }
@@ -237,13 +341,16 @@ impl IntMachine {
         self.put(d, alu_result(op, x, y, d.imm.cast_unsigned()))
     }
 
-    fn act(&mut self, d: Decoded) -> Step
+    fn act(&mut self, d: Decoded) -> Result<Step, OutOfMemory>
         requires { HasFileRegisters d }
-        ensures { Goes result (act d self.old.state) self.old self.new }
+        ensures ok { IfOk result (λ step. Goes step (act d self.old.state) self.old self.new) }
+        ensures err { OnErr result (self.new ≡ self.old) }
     {
         match d.op {
-            MOp::Base(op) => self.act_base(op, d),
-            MOp::Alu(op) => self.act_alu(op, d),
+            MOp::Base(op) => Ok(self.act_base(op, d)),
+            MOp::Load(op) => Ok(self.act_load(op, d)),
+            MOp::Store(op) => self.act_store(op, d),
+            MOp::Alu(op) => Ok(self.act_alu(op, d)),
         }
     }
 
@@ -256,8 +363,8 @@ impl IntMachine {
         if self.pc() % 2 != 0 {
             return Ok(Step::Stopped);
         }
-        match decode(self.flags(), self.fetch()) {
-            Some(decoded) => Ok(self.act(decoded)),
+        match decode(self.flags(), self.word(self.pc())) {
+            Some(decoded) => self.act(decoded),
             None => Ok(Step::Stopped),
         }
     }

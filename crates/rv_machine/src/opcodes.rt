@@ -10,6 +10,10 @@ pub const JALR: u32 = 0x67;
 
 pub const BRANCH: u32 = 0x63;
 
+pub const LOAD: u32 = 0x03;
+
+pub const STORE: u32 = 0x23;
+
 pub const OP_IMM: u32 = 0x13;
 
 pub const OP_IMM_32: u32 = 0x1b;

@@ -1,9 +1,11 @@
 //! The operations of the manual, by mnemonic, each chapter's in its order.
 
-/// An operation: one that computes a register's value of registers and an immediate, or any other.
+/// An operation: a load, a store, one that computes a register's value of registers and an immediate, or any other.
 #[derive(Clone, Copy, Debug, PartialEq, Eq)]
 pub enum MOp {
     Base(BaseOp),
+    Load(LoadOp),
+    Store(StoreOp),
     Alu(AluOp),
 }
 
@@ -24,6 +26,45 @@ pub enum BaseOp {
     Bgeu,
     Fence,
     Ebreak,
+}
+
+/// The loads of "2.6 Load and Store Instructions" of RV32I and "4.3 Load and Store Instructions" of RV64I.
+#[derive(Clone, Copy, Debug, PartialEq, Eq)]
+pub enum LoadOp {
+    Lb,
+    Lh,
+    Lw,
+    Lbu,
+    Lhu,
+    Lwu,
+    Ld,
+}
+
+/// The stores of "2.6 Load and Store Instructions" of RV32I and "4.3 Load and Store Instructions" of RV64I.
+#[derive(Clone, Copy, Debug, PartialEq, Eq)]
+pub enum StoreOp {
+    Sb,
+    Sh,
+    Sw,
+    Sd,
+}
+
+impl StoreOp {
+    ghost use Rattle.std.specs.Prelude.{◌≡◌, ◌≤◌};
+    ghost use Rattle.rv_machine.specs.Memory.{store_width};
+
+    /// How many bytes it writes.
+    pub fn width(self) -> usize
+        ensures value { result ≡ store_width self }
+        ensures register { result ≤ 8 }
+    {
+        match self {
+            StoreOp::Sb => 1,
+            StoreOp::Sh => 2,
+            StoreOp::Sw => 4,
+            StoreOp::Sd => 8,
+        }
+    }
 }
 
 /// An operation that writes to rd what it computes of rs1 and of rs2 or an immediate, by its chapter.

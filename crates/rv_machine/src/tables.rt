@@ -1,9 +1,9 @@
 //! The operation that the funct fields of a word name, by the opcode.
 
 ghost use Rattle.std.specs.Prelude.{◌≡◌};
-ghost use Rattle.rv_machine.specs.Tables.{branch_entry, imm_entry, imm_32_entry, shift_entry, unary_entry, long_shift_32_entry, shift_32_entry, unary_32_entry, op_entry, op_32_entry, unary_op_32_entry};
+ghost use Rattle.rv_machine.specs.Tables.{branch_entry, load_entry, store_entry, imm_entry, imm_32_entry, shift_entry, unary_entry, long_shift_32_entry, shift_32_entry, unary_32_entry, op_entry, op_32_entry, unary_op_32_entry};
 
-use crate::ops::{AluOp, BaseOp, BitOp, IntOp, MulOp};
+use crate::ops::{AluOp, BaseOp, BitOp, IntOp, LoadOp, MulOp, StoreOp};
 
 /// BRANCH.
 pub fn branch(funct3: u8) -> Option<BaseOp>
@@ -16,6 +16,35 @@ pub fn branch(funct3: u8) -> Option<BaseOp>
         5 => Some(BaseOp::Bge),
         6 => Some(BaseOp::Bltu),
         7 => Some(BaseOp::Bgeu),
+        _ => None,
+    }
+}
+
+/// LOAD.
+pub fn load(funct3: u8) -> Option<LoadOp>
+    ensures { result ≡ load_entry funct3 }
+{
+    match funct3 {
+        0 => Some(LoadOp::Lb),
+        1 => Some(LoadOp::Lh),
+        2 => Some(LoadOp::Lw),
+        3 => Some(LoadOp::Ld),
+        4 => Some(LoadOp::Lbu),
+        5 => Some(LoadOp::Lhu),
+        6 => Some(LoadOp::Lwu),
+        _ => None,
+    }
+}
+
+/// STORE.
+pub fn store(funct3: u8) -> Option<StoreOp>
+    ensures { result ≡ store_entry funct3 }
+{
+    match funct3 {
+        0 => Some(StoreOp::Sb),
+        1 => Some(StoreOp::Sh),
+        2 => Some(StoreOp::Sw),
+        3 => Some(StoreOp::Sd),
         _ => None,
     }
 }

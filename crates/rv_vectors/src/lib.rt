@@ -20,6 +20,8 @@ mod loaded;
 #[cfg(test)]
 mod machine;
 #[cfg(test)]
+mod memory;
+#[cfg(test)]
 mod operations;
 #[cfg(test)]
 mod program;

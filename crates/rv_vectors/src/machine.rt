@@ -1,7 +1,9 @@
 //! Operations at their edges: the answers were computed from the manual's sentences, by whole numbers, outside this project.
 
 use rv_base::{IsaFlags, OutOfMemory};
-use rv_machine::{AluOp, BaseOp, BitOp, Decoded, IntMachine, IntOp, MOp, MulOp, Step, decode};
+use rv_machine::{
+    AluOp, BaseOp, BitOp, Decoded, IntMachine, IntOp, LoadOp, MOp, MulOp, Step, StoreOp, decode,
+};
 use std::alloc::Global;
 use std::process::Abort;
 
@@ -161,7 +163,7 @@ fn answer(machine: &mut IntMachine, word: u64, x: u64, y: u64) -> Result<(Step, 
 }
 
 /// A number in hex; a table has no other.
-fn number(text: &str) -> u64 {
+pub fn number(text: &str) -> u64 {
     u64::from_str_radix(text, 16).unwrap_or(0)
 }
 
@@ -324,10 +326,34 @@ fn words_are_decoded(rt: HostRuntime) {
     assert_decoded(&rt, 0x02b55533, mul(MulOp::Divu), [10, 10, 11], 0);
 }
 
+fn load(op: LoadOp) -> MOp {
+    MOp::Load(op)
+}
+
+fn store(op: StoreOp) -> MOp {
+    MOp::Store(op)
+}
+
+/// Of words that GNU `as` makes for rv64i.
+#[test]
+fn loads_and_stores_are_decoded(rt: HostRuntime) {
+    assert_decoded(&rt, 0x06458503, load(LoadOp::Lb), [10, 11, 0], 100);
+    assert_decoded(&rt, 0x06459503, load(LoadOp::Lh), [10, 11, 0], 100);
+    assert_decoded(&rt, 0x7ff52603, load(LoadOp::Lw), [12, 10, 0], 2047);
+    assert_decoded(&rt, 0x0645b503, load(LoadOp::Ld), [10, 11, 0], 100);
+    assert_decoded(&rt, 0xfffdcf83, load(LoadOp::Lbu), [31, 27, 0], -1);
+    assert_decoded(&rt, 0x7ff15003, load(LoadOp::Lhu), [0, 2, 0], 2047);
+    assert_decoded(&rt, 0x800fe083, load(LoadOp::Lwu), [1, 31, 0], -2048);
+    assert_decoded(&rt, 0x54008aa3, store(StoreOp::Sb), [0, 1, 0], 1365);
+    assert_decoded(&rt, 0x06a11223, store(StoreOp::Sh), [0, 2, 10], 100);
+    assert_decoded(&rt, 0xaa1fa523, store(StoreOp::Sw), [0, 31, 1], -1366);
+    assert_decoded(&rt, 0xfffdbfa3, store(StoreOp::Sd), [0, 27, 31], -1);
+}
+
 /// Words that are no operation.
-const NO_ROWS: [u32; 10] = [
+const NO_ROWS: [u32; 12] = [
     0, 0x4501, 0xffffffff, 0x00000073, 0x00200073, 0x0200552b, 0x08b545bb, 0x0240559b, 0x80000033,
-    0x00052063,
+    0x00052063, 0x0645f503, 0x06a14223,
 ];
 
 #[test]

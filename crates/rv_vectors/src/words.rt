@@ -1,14 +1,15 @@
-//! Words from outside: jumps, branches and stores, each with the word that an assembler makes of it.
+//! Words from outside: jumps, branches, loads and stores, each with the word that an assembler makes of it.
 
 ghost use Rattle.std.specs.Prelude.{◌<◌};
 ghost use Rattle.rv_encode.specs.Registers.{IsIntRegister};
 
 use rv_base::{IntCC, PReg, Reg, RegClass, Writable, WritableReg};
 use rv_encode::{
-    enc_auipc, enc_jalr, encode_branch, encode_ebreak, encode_jal, encode_lui, encode_s_type,
+    enc_auipc, enc_jalr, encode_branch, encode_ebreak, encode_jal, encode_load, encode_lui,
+    encode_s_type, encode_store,
 };
 use rv_imms::{Imm12, Imm20};
-use rv_ops::IntegerCompare;
+use rv_ops::{IntegerCompare, LoadOP, StoreOP};
 
 fn x(number: u8) -> Reg
     requires { number < 32 }
@@ -74,4 +75,45 @@ fn stores_and_breaks(rt: HostRuntime) {
     let store = encode_s_type(0x23, 3, x(2), x(10), Imm12::from_i16(100));
     assert_eq!(rt; store, 0x06a13223);
     assert_eq!(rt; encode_ebreak(), 0x00100073);
+}
+
+/// Loads with their words, of a0 from 100 bytes past a1, as GNU `as` makes them for rv64i.
+const LOADS: [(LoadOP, u32); 7] = [
+    (LoadOP::Lb, 0x06458503),
+    (LoadOP::Lh, 0x06459503),
+    (LoadOP::Lw, 0x0645a503),
+    (LoadOP::Lbu, 0x0645c503),
+    (LoadOP::Lhu, 0x0645d503),
+    (LoadOP::Lwu, 0x0645e503),
+    (LoadOP::Ld, 0x0645b503),
+];
+
+#[test]
+fn loads(rt: HostRuntime) {
+    for (op, word) in &LOADS {
+        let got = encode_load(*op, writable_x(10), x(11), Imm12::from_i16(100));
+        assert_eq!(rt; got, *word, "{word:x}");
+    }
+    let back = encode_load(LoadOP::Lwu, writable_x(1), x(31), Imm12::from_i16(-2048));
+    assert_eq!(rt; back, 0x800fe083);
+}
+
+/// Stores with their words, of a0 to 100 bytes past sp, as GNU `as` makes them for rv64i.
+const STORES: [(StoreOP, u32); 4] = [
+    (StoreOP::Sb, 0x06a10223),
+    (StoreOP::Sh, 0x06a11223),
+    (StoreOP::Sw, 0x06a12223),
+    (StoreOP::Sd, 0x06a13223),
+];
+
+#[test]
+fn stores(rt: HostRuntime) {
+    for (op, word) in &STORES {
+        let got = encode_store(*op, x(2), x(10), Imm12::from_i16(100));
+        assert_eq!(rt; got, *word, "{word:x}");
+    }
+    let odd = encode_store(StoreOP::Sb, x(1), x(0), Imm12::from_i16(1365));
+    assert_eq!(rt; odd, 0x54008aa3);
+    let back = encode_store(StoreOP::Sw, x(31), x(1), Imm12::from_i16(-1366));
+    assert_eq!(rt; back, 0xaa1fa523);
 }
