@@ -7,7 +7,7 @@ use Rattle.rv_base.specs.RegNames.{int_names, name_at}
 use Rattle.rv_machine.specs.declared.decoding.Decoded.{Decoded}
 use Rattle.rv_trace.specs.Mnemonics.{mnemonic, operands_of}
 use Rattle.rv_trace.specs.declared.operands.Operands.{Operands}
-use Rattle.rv_trace.specs.declared.operands.Operands.TheVariants.{Registers, Immediate, Source, Upper, Jump, Based, Branch, Sets, Nothing}
+use Rattle.rv_trace.specs.declared.operands.Operands.TheVariants.{Registers, Immediate, Source, Upper, Jump, Based, StoreBased, Branch, Sets, Nothing}
 
 abbrev pub register : ℕ → List ℕ
 register n = name_at int_names n
@@ -40,6 +40,10 @@ next n = comma ++ register n
 abbrev pub next_number : ℤ → List ℕ
 next_number n = comma ++ signed_decimal n
 
+-- an immediate with a register in parentheses, after a register
+abbrev pub based : ℕ → ℤ → ℕ → List ℕ
+based a n b = first a ++ next_number n ++ codes "(" ++ register b ++ codes ")"
+
 abbrev pub two : ℕ → ℕ → List ℕ
 two a b = first a ++ next b
 
@@ -55,7 +59,8 @@ operands_text Immediate d = two d.rd d.rs1 ++ next_number d.imm
 operands_text Source d = two d.rd d.rs1
 operands_text Upper d = first d.rd ++ comma ++ decimal (low_bits 20 d)
 operands_text Jump d = first d.rd ++ next_number d.imm
-operands_text Based d = first d.rd ++ next_number d.imm ++ codes "(" ++ register d.rs1 ++ codes ")"
+operands_text Based d = based d.rd d.imm d.rs1
+operands_text StoreBased d = based d.rs2 d.imm d.rs1
 operands_text Branch d = two d.rs1 d.rs2 ++ next_number d.imm
 operands_text Sets d = two_sets (low_bits 8 d / 16) (low_bits 8 d % 16)
 operands_text Nothing d = []

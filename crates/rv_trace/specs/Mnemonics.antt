@@ -1,11 +1,15 @@
 -- The mnemonics of the manual's instructions, and which operands each is written with.
 use Rattle.std.specs.Prelude.{ℕ, List, codes}
 use Rattle.rv_machine.specs.declared.ops.MOp.{MOp}
-use Rattle.rv_machine.specs.declared.ops.MOp.TheVariants.{Base, Alu}
+use Rattle.rv_machine.specs.declared.ops.MOp.TheVariants.{Base, Load, Store, Alu}
 use Rattle.rv_machine.specs.declared.ops.AluOp.{AluOp}
 use Rattle.rv_machine.specs.declared.ops.AluOp.TheVariants.{Int, Mul, Bit}
 use Rattle.rv_machine.specs.declared.ops.BaseOp.{BaseOp}
 use Rattle.rv_machine.specs.declared.ops.BaseOp.TheVariants as base
+use Rattle.rv_machine.specs.declared.ops.LoadOp.{LoadOp}
+use Rattle.rv_machine.specs.declared.ops.LoadOp.TheVariants as load
+use Rattle.rv_machine.specs.declared.ops.StoreOp.{StoreOp}
+use Rattle.rv_machine.specs.declared.ops.StoreOp.TheVariants as store
 use Rattle.rv_machine.specs.declared.ops.IntOp.{IntOp}
 use Rattle.rv_machine.specs.declared.ops.IntOp.TheVariants as int
 use Rattle.rv_machine.specs.declared.ops.MulOp.{MulOp}
@@ -13,9 +17,9 @@ use Rattle.rv_machine.specs.declared.ops.MulOp.TheVariants as mul
 use Rattle.rv_machine.specs.declared.ops.BitOp.{BitOp}
 use Rattle.rv_machine.specs.declared.ops.BitOp.TheVariants as bit
 use Rattle.rv_trace.specs.declared.operands.Operands.{Operands}
-use Rattle.rv_trace.specs.declared.operands.Operands.TheVariants.{Registers, Immediate, Source, Upper, Jump, Based, Branch, Sets, Nothing}
+use Rattle.rv_trace.specs.declared.operands.Operands.TheVariants.{Registers, Immediate, Source, Upper, Jump, Based, StoreBased, Branch, Sets, Nothing}
 
--- RV64I, but for what only computes
+-- RV64I, but for what only computes, and its loads and stores
 abbrev pub base_name : BaseOp → List ℕ
 base_name base.Lui = codes "lui"
 base_name base.Auipc = codes "auipc"
@@ -29,6 +33,22 @@ base_name base.Bltu = codes "bltu"
 base_name base.Bgeu = codes "bgeu"
 base_name base.Fence = codes "fence"
 base_name base.Ebreak = codes "ebreak"
+
+-- RV64I, loads and stores
+abbrev pub load_name : LoadOp → List ℕ
+load_name load.Lb = codes "lb"
+load_name load.Lh = codes "lh"
+load_name load.Lw = codes "lw"
+load_name load.Lbu = codes "lbu"
+load_name load.Lhu = codes "lhu"
+load_name load.Lwu = codes "lwu"
+load_name load.Ld = codes "ld"
+
+abbrev pub store_name : StoreOp → List ℕ
+store_name store.Sb = codes "sb"
+store_name store.Sh = codes "sh"
+store_name store.Sw = codes "sw"
+store_name store.Sd = codes "sd"
 
 -- RV64I and Zicond, what only computes
 abbrev pub int_name : IntOp → List ℕ
@@ -129,9 +149,11 @@ alu_name (Bit op) = bit_name op
 
 abbrev pub mnemonic : MOp → List ℕ
 mnemonic (Base op) = base_name op
+mnemonic (Load op) = load_name op
+mnemonic (Store op) = store_name op
 mnemonic (Alu op) = alu_name op
 
--- RV64I, but for what only computes
+-- RV64I, but for what only computes, and its loads and stores
 abbrev pub base_operands : BaseOp → Operands
 base_operands base.Lui = Upper
 base_operands base.Auipc = Upper
@@ -228,6 +250,9 @@ alu_operands (Int op) = int_operands op
 alu_operands (Mul op) = Registers
 alu_operands (Bit op) = bit_operands op
 
+-- a load is written as jalr, and a store with rs2 in the place of rd
 abbrev pub operands_of : MOp → Operands
 operands_of (Base op) = base_operands op
+operands_of (Load op) = Based
+operands_of (Store op) = StoreBased
 operands_of (Alu op) = alu_operands op

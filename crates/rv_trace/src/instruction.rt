@@ -5,7 +5,7 @@ ghost use Rattle.std.specs.Fmt.{decimal, signed_decimal};
 ghost use Rattle.std.specs.Int.{w32, w64, to_be_bytes, cast_signed};
 ghost use Rattle.hex.specs.Hex.{encode_lower};
 ghost use Rattle.rv_machine.specs.Layout.{HasFileRegisters};
-ghost use Rattle.rv_trace.specs.Instruction.{register, access, accesses, set, low_bits, first, next, next_number, two, three, two_sets, operands_text, instruction_text, written_text, place_text, step_line};
+ghost use Rattle.rv_trace.specs.Instruction.{register, access, accesses, set, low_bits, first, next, next_number, based, two, three, two_sets, operands_text, instruction_text, written_text, place_text, step_line};
 
 use crate::operands::{Operands, mnemonic, operands_of};
 use itoa::Buffer;
@@ -102,14 +102,16 @@ fn put_next_number(out: &mut Vec<u8>, n: i64) -> Result<(), OutOfMemory>
     put_signed(out, n)
 }
 
-fn put_based(alloc: Global, out: &mut Vec<u8>, d: Decoded) -> Result<(), OutOfMemory>
-    requires { HasFileRegisters d }
-    ensures { OnOk result (out.new.items ≡ out.old.items ++ operands_text Operands.Based d) }
+// A register, and an immediate with another register in parentheses.
+fn put_based(alloc: Global, out: &mut Vec<u8>, a: u8, n: i64, b: u8) -> Result<(), OutOfMemory>
+    requires a { a < 32 }
+    requires b { b < 32 }
+    ensures { OnOk result (out.new.items ≡ out.old.items ++ based a n b) }
 {
-    put_first(alloc, out, d.rd)?;
-    put_next_number(out, d.imm)?;
+    put_first(alloc, out, a)?;
+    put_next_number(out, n)?;
     put(out, b"(")?;
-    put_register(alloc, out, d.rs1)?;
+    put_register(alloc, out, b)?;
     put(out, b")")
 }
 
@@ -190,7 +192,8 @@ fn put_operands(
         Operands::Source => put_two(alloc, out, d.rd, d.rs1),
         Operands::Upper => put_upper(alloc, out, d),
         Operands::Jump => put_jump(alloc, out, d),
-        Operands::Based => put_based(alloc, out, d),
+        Operands::Based => put_based(alloc, out, d.rd, d.imm, d.rs1),
+        Operands::StoreBased => put_based(alloc, out, d.rs2, d.imm, d.rs1),
         Operands::Branch => put_two_number(alloc, out, d.rs1, d.rs2, d.imm),
         Operands::Sets => put_sets(out, d),
         Operands::Nothing => Ok(()),

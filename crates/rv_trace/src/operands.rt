@@ -1,9 +1,9 @@
 //! The mnemonics of the manual's instructions, and which operands each is written with.
 
 ghost use Rattle.std.specs.Prelude.{◌≡◌};
-ghost use Rattle.rv_trace.specs.Mnemonics.{base_name, int_name, mul_name, bit_name, alu_name, mnemonic, base_operands, int_operands, bit_operands, alu_operands, operands_of};
+ghost use Rattle.rv_trace.specs.Mnemonics.{base_name, load_name, store_name, int_name, mul_name, bit_name, alu_name, mnemonic, base_operands, int_operands, bit_operands, alu_operands, operands_of};
 
-use rv_machine::{AluOp, BaseOp, BitOp, IntOp, MOp, MulOp};
+use rv_machine::{AluOp, BaseOp, BitOp, IntOp, LoadOp, MOp, MulOp, StoreOp};
 
 /// The operands of an instruction, in the order in which they are written.
 #[derive(Clone, Copy, Debug, PartialEq, Eq)]
@@ -20,6 +20,8 @@ pub enum Operands {
     Jump,
     /// rd, and an immediate with rs1 in parentheses.
     Based,
+    /// rs2, and an immediate with rs1 in parentheses.
+    StoreBased,
     /// rs1, rs2 and a distance.
     Branch,
     /// The predecessor and the successor set of a fence.
@@ -43,6 +45,31 @@ fn base_name(op: BaseOp) -> &'static str
         BaseOp::Bgeu => "bgeu",
         BaseOp::Fence => "fence",
         BaseOp::Ebreak => "ebreak",
+    }
+}
+
+fn load_name(op: LoadOp) -> &'static str
+    ensures { result.now ≡ load_name op }
+{
+    match op {
+        LoadOp::Lb => "lb",
+        LoadOp::Lh => "lh",
+        LoadOp::Lw => "lw",
+        LoadOp::Lbu => "lbu",
+        LoadOp::Lhu => "lhu",
+        LoadOp::Lwu => "lwu",
+        LoadOp::Ld => "ld",
+    }
+}
+
+fn store_name(op: StoreOp) -> &'static str
+    ensures { result.now ≡ store_name op }
+{
+    match op {
+        StoreOp::Sb => "sb",
+        StoreOp::Sh => "sh",
+        StoreOp::Sw => "sw",
+        StoreOp::Sd => "sd",
     }
 }
 
@@ -166,6 +193,8 @@ pub fn mnemonic(op: MOp) -> &'static str
 {
     match op {
         MOp::Base(op) => base_name(op),
+        MOp::Load(op) => load_name(op),
+        MOp::Store(op) => store_name(op),
         MOp::Alu(op) => alu_name(op),
     }
 }
@@ -284,6 +313,8 @@ pub fn operands_of(op: MOp) -> Operands
 {
     match op {
         MOp::Base(op) => base_operands(op),
+        MOp::Load(_) => Operands::Based,
+        MOp::Store(_) => Operands::StoreBased,
         MOp::Alu(op) => alu_operands(op),
     }
 }
