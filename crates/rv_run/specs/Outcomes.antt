@@ -81,8 +81,6 @@ pub record IsRun (s : Settings) (p : Program) (run : Run) : Type 0 where
   pub last : Machine
   pub begins : begin s p ≡ Ok first
   pub ran : Runs s.flags s.base (length p.bytes) s.steps first.state run.steps last.state run.ending
-  -- no bytes of memory changed, so none are shown
-  pub memory : last.state.values.mem ≡ first.state.values.mem
   pub before : run.before ≡ file 31 first.state.values
   pub after : run.after ≡ file 31 last.state.values
   pub trace : run.trace ≡ trace_where s.trace s.flags s.base run.steps first.state

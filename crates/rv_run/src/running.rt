@@ -56,7 +56,7 @@ fn is_break_op(op: MOp) -> bool
 {
     match op {
         MOp::Base(op) => is_break_base(op),
-        MOp::Alu(_) => false,
+        MOp::Load(_) | MOp::Store(_) | MOp::Alu(_) => false,
     }
 }
 

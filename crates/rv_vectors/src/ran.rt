@@ -24,7 +24,7 @@ struct Call {
     text: &'static str,
 }
 
-const RUNS: [Call; 12] = [
+const RUNS: [Call; 13] = [
     Call {
         words: &["a0=1071", "a1=462"],
         input: GCD,
@@ -96,6 +96,12 @@ const RUNS: [Call; 12] = [
         input: COUNTDOWN,
         status: 0,
         text: "0: fff50513 addi a0,a0,-1  a0=1\n4: fe051ee3 bne a0,zero,-4\n0: fff50513 addi a0,a0,-1  a0=0\n4: fe051ee3 bne a0,zero,-4\n8: 00008067 jalr zero,0(ra)\nleft the code to 0x8000000000010000\nsteps 5\na0 0 0x0\n",
+    },
+    Call {
+        words: &["--hex", "a0=0x12345678", "a1=0x2001e", "--trace"],
+        input: "23a0a50003d6050067800000",
+        status: 0,
+        text: "0: 00a5a023 sw a0,0(a1)\n4: 0005d603 lhu a2,0(a1)  a2=22136\n8: 00008067 jalr zero,0(ra)\nleft the code to 0x8000000000010000\nsteps 3\na2 22136 0x5678\n",
     },
 ];
 

@@ -1,7 +1,6 @@
 use Rattle.std.proofs.Common.{◌∙◌, ℕ, length, subst}
 use Rattle.rv_base.specs.declared.flags.IsaFlags.{IsaFlags}
 use Rattle.rv_run.specs.Running.{Runs}
-use Rattle.rv_run.proofs.Kept.{run_kept}
 use Rattle.rv_run.proofs.program.run_from.Goals as goal
 
 pub returns : goal.returns
@@ -18,7 +17,6 @@ returns g c =
       last = last;
       begins = c.requires.begins;
       ran = ran;
-      memory = run_kept settings.flags c.in_ok-steps.steps c.args.machine.state last.state ran.steps;
       before = c.in_ok-before.ensures.values;
       after = c.in_ok-after.ensures.values;
       trace = c.from_vec.ensures ∙ c.in_ok-steps.ensures.lines;
