@@ -1,8 +1,13 @@
 -- A memory that is kept as a map's entries.
-use Rattle.std.proofs.Common.{◌≡◌, ℕ, Bool, true, false, ◌==◌, List, [], ◌∷◌, Option, Some, None, cond, refl, ap, sym, ◌∙◌, arith, OnOk, OnErr, eq-eqb, Result, Ok, Err}
+use Rattle.std.proofs.Common.{◌≡◌, ℕ, subst, Bool, true, false, ◌==◌, List, [], ◌∷◌, Option, Some, None, cond, refl, ap, sym, ◌∙◌, arith, OnOk, OnErr, eq-eqb, Result, Ok, Err}
 use Rattle.std.proofs.lemmas.Bool.Decides.{nat_tests}
-use Rattle.std.specs.FinMap.{get, insert, remove, from_entries, get-from_entries, get-insert, get-remove, find, same_map, nat_cmp-IsAntisymmetric}
-use Rattle.std.specs.Ordering.{nat_cmp, eq_by_cmp}
+use Rattle.std.specs.FinMap.{get, insert, remove, from_entries, from_sorted, entries, keys, entries-from_sorted, get-from_entries, get-from_sorted, get-insert, get-remove, find, same_map, nat_cmp-IsAntisymmetric}
+use Rattle.std.specs.FinMap.Entries.{below_all, is_sorted}
+use Rattle.std.specs.List.Sorted.{IsStrictlySortedBy}
+use Rattle.std.specs.Ordering.{nat_cmp, eq_by_cmp, is_lt}
+use Rattle.std.specs.List.{AllByRecursion}
+use Rattle.std.specs.Prelude.{T, ◌&&◌, map}
+use Rattle.std.specs.declared.cmp.Ordering.TheVariants.{Less}
 use Rattle.std.specs.Cmp.{nat_cmp_total, eq_by_cmp_equiv, unsigned_tied}
 use Rattle.std.specs.Map.{lookup}
 use Rattle.std.specs.BTreeMap.{is_at}
@@ -85,3 +90,31 @@ cleared m old new k c was wrote gone =
     gone
     ∙ ap (λ (o : Machine). with_memory o (remove o.state.values.mem k)) wrote
     ∙ ap (with_memory m) (taken_back m.state.values.mem k c was)
+
+-- ---- the addresses
+
+both : (a b : Bool) → T a → T b → T (a && b)
+both true b p q = q
+both false b p q = p
+
+abbrev firsts : List (ℕ × ℕ) → List ℕ
+firsts es = map (λ e. e.0) es
+
+below : (k : ℕ) (es : List (ℕ × ℕ)) → AllByRecursion (λ y. nat_cmp k y ≡ Less) (firsts es) → T (below_all nat_cmp k es)
+below k [] h = tt
+below k (e ∷ es) h = both _ _ (subst (λ r. T (is_lt r)) (sym h.0) tt) (below k es h.1)
+
+rises : (es : List (ℕ × ℕ)) → IsStrictlySortedBy nat_cmp (firsts es) → T (is_sorted nat_cmp es)
+unfolding IsStrictlySortedBy
+rises [] h = tt
+rises (e ∷ es) h = both _ _ (below e.0 es h.0) (rises es h.1)
+
+-- the map of entries in order has them
+has_entries : (es : List (ℕ × ℕ)) → IsStrictlySortedBy nat_cmp (firsts es) → entries (from_entries {R = nat_cmp} es) ≡ es
+has_entries es h =
+    ap entries (same_map nat_cmp_total nat_cmp-IsAntisymmetric (from_entries es) (from_sorted es) (λ q.
+    get-from_entries nat_cmp_total es q ∙ sym (get-from_sorted nat_cmp es q (rises es h))))
+    ∙ entries-from_sorted nat_cmp es (rises es h)
+
+pub has_keys : (es : List (ℕ × ℕ)) → IsStrictlySortedBy nat_cmp (firsts es) → keys (from_entries {R = nat_cmp} es) ≡ firsts es
+has_keys es h = ap firsts (has_entries es h)

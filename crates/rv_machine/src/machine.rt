@@ -384,4 +384,27 @@ impl IntMachine {
         }
         Ok(n)
     }
+
+    /// The addresses at which bytes were written, in order.
+    pub fn addresses(&self, alloc: Global) -> Result<Vec<u64>, OutOfMemory>
+        ensures { IfOk result (λ addresses. addresses.items ≡ map.keys self.now.state.values.mem) }
+    {
+        let mut addresses = Vec::new(alloc);
+        for address in self.bytes.keys() {
+            addresses.push(*address)?;
+        }
+        Ok(addresses)
+    }
+
+    /// A machine in the same state.
+    pub fn copy(&self) -> Result<IntMachine, OutOfMemory>
+        ensures { IfOk result (λ copy. copy ≡ self.now) }
+    {
+        Ok(IntMachine {
+            flags: self.flags,
+            pc: self.pc,
+            regs: self.regs,
+            bytes: self.bytes.clone()?,
+        })
+    }
 }

@@ -1,3 +1,4 @@
+pub mod Memory
 pub mod Outcomes
 pub mod Output
 pub mod Running

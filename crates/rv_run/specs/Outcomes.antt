@@ -17,6 +17,7 @@ use Rattle.rv_load.specs.Command.{Parses}
 use Rattle.rv_load.specs.Hex.{ReadsHex}
 use Rattle.rv_load.specs.Report.{ReadsReport}
 use Rattle.rv_load.specs.Words.{settings_of}
+use Rattle.rv_run.specs.Memory.{memory_lines}
 use Rattle.rv_run.specs.Output.{file, run_text}
 use Rattle.rv_run.specs.Running.{Runs}
 use Rattle.rv_run.specs.Starting.{begin}
@@ -83,6 +84,7 @@ pub record IsRun (s : Settings) (p : Program) (run : Run) : Type 0 where
   pub ran : Runs s.flags s.base (length p.bytes) s.steps first.state run.steps last.state run.ending
   pub before : run.before ≡ file 31 first.state.values
   pub after : run.after ≡ file 31 last.state.values
+  pub memory : run.memory ≡ memory_lines first.state.values.mem last.state.values.mem
   pub trace : run.trace ≡ trace_where s.trace s.flags s.base run.steps first.state
 
 -- the text of a word, where it was given

@@ -36,6 +36,6 @@ changes n [] after = []
 changes n (x ∷ xs) [] = []
 changes n (x ∷ xs) (y ∷ ys) = (if x == y then [] else register_line n y) ++ changes (n + 1) xs ys
 
--- the steps, how the run ended, how many steps it had, and the registers that changed
+-- the steps, how the run ended, how many steps it had, and the registers and the memory that changed
 abbrev pub run_text : Run → List ℕ
-run_text r = r.trace ++ ending_line r.ending ++ steps_line r.steps ++ changes 1 r.before r.after
+run_text r = r.trace ++ ending_line r.ending ++ steps_line r.steps ++ changes 1 r.before r.after ++ r.memory

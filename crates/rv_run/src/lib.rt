@@ -2,6 +2,7 @@
 #![tactic(auto)]
 
 mod ending;
+mod memory;
 mod outcome;
 mod output;
 mod program;

@@ -76,13 +76,15 @@ fn put_changes(
     Ok(())
 }
 
-/// The text of a run: its steps where they were asked for, how it ended, how many steps it had, and the registers that
-/// changed.
+/// The text of a run: its steps where they were asked for, how it ended, how many steps it had, and the registers and
+/// the memory that changed.
 pub fn put_run(alloc: Global, out: &mut Vec<u8>, run: &Run) -> Result<(), OutOfMemory>
     ensures { OnOk result (out.new.items ≡ out.old.items ++ run_text run.now) }
 {
     out.extend_from_slice(run.trace.as_slice())?;
     put(out, ending_line(alloc, run.ending)?.as_str())?;
     put(out, steps_line(alloc, run.steps)?.as_str())?;
-    put_changes(alloc, out, run.before.as_slice(), run.after.as_slice())
+    put_changes(alloc, out, run.before.as_slice(), run.after.as_slice())?;
+    out.extend_from_slice(run.memory.as_slice())?;
+    Ok(())
 }

@@ -2,6 +2,7 @@
 
 ghost use Rattle.std.specs.Prelude.{◌≡◌, ◌<◌, length, map, string_bytes, IfOk, Ok, []};
 ghost use Rattle.rv_machine.specs.Steps.{Machine};
+ghost use Rattle.rv_run.specs.Memory.{memory_lines};
 ghost use Rattle.rv_run.specs.Output.{file};
 ghost use Rattle.rv_run.specs.Running.{RunsTo};
 ghost use Rattle.rv_run.specs.Starting.{begin};
@@ -9,6 +10,7 @@ ghost use Rattle.rv_run.specs.Tracing.{trace_where};
 ghost use Rattle.rv_run.specs.Outcomes.{Loads, IsRun, given_text, listed_text, word_text, Means, Words, call, Asked, Ended, WritesText};
 
 use crate::ending::{Ending, Place};
+use crate::memory::memory_lines;
 use crate::outcome::{Outcome, text_of};
 use crate::progress::Progress;
 use crate::result::Run;
@@ -91,14 +93,17 @@ fn run_from<P: Progress>(
         len: program.bytes.len() as u64,
     };
     let mut lines = Vec::new(alloc);
+    let first = machine.copy()?;
     let before = registers_of(alloc, &machine)?;
     let (steps, ending) = run_asked(alloc, settings, &mut machine, place, &mut lines, progress)?;
     let after = registers_of(alloc, &machine)?;
+    let memory = memory_lines(alloc, &first, &machine)?;
     Ok(Run {
         ending,
         steps,
         before,
         after,
+        memory: List::from_vec(memory),
         trace: List::from_vec(lines),
     })
 }
@@ -210,7 +215,7 @@ fn run_given<S: Source, K: Sink, P: Progress>(
 }
 
 /// Runs the code that the input gives, as the words ask for, and writes how the run ended, how many steps it had, and the
-/// registers that it changed; or what else the words ask for, or one line that says why there is no run. The words are
+/// registers and the memory that it changed; or what else the words ask for, or one line that says why there is no run. The words are
 /// those after the program's name. Of a long run it ticks the progress now and then.
 pub fn run<S: Source, K: Sink, P: Progress>(
     alloc: Global,

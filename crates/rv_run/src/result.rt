@@ -12,6 +12,8 @@ pub struct Run {
     pub steps: u64,
     pub before: List<u64>,
     pub after: List<u64>,
+    /// A line for each row of 16 bytes of memory that changed.
+    pub memory: List<u8>,
     /// A line for each step, where that was asked for.
     pub trace: List<u8>,
     ghost before_count: { length before ≡ 31 },

@@ -101,7 +101,7 @@ const RUNS: [Call; 13] = [
         words: &["--hex", "a0=0x12345678", "a1=0x2001e", "--trace"],
         input: "23a0a50003d6050067800000",
         status: 0,
-        text: "0: 00a5a023 sw a0,0(a1)\n4: 0005d603 lhu a2,0(a1)  a2=22136\n8: 00008067 jalr zero,0(ra)\nleft the code to 0x8000000000010000\nsteps 3\na2 22136 0x5678\n",
+        text: "0: 00a5a023 sw a0,0(a1)\n4: 0005d603 lhu a2,0(a1)  a2=22136\n8: 00008067 jalr zero,0(ra)\nleft the code to 0x8000000000010000\nsteps 3\na2 22136 0x5678\nmemory 0x20010: 00000000000000000000000000007856\nmemory 0x20020: 34120000000000000000000000000000\n",
     },
 ];
 

@@ -1,5 +1,7 @@
-use Rattle.std.proofs.Common.{◌∙◌, ℕ, length, subst}
+use Rattle.std.proofs.Common.{ap, ◌∙◌, ℕ, length, subst}
 use Rattle.rv_base.specs.declared.flags.IsaFlags.{IsaFlags}
+use Rattle.rv_machine.specs.Steps.{Machine}
+use Rattle.rv_run.specs.Memory.{memory_lines}
 use Rattle.rv_run.specs.Running.{Runs}
 use Rattle.rv_run.proofs.program.run_from.Goals as goal
 
@@ -19,5 +21,6 @@ returns g c =
       ran = ran;
       before = c.in_ok-before.ensures.values;
       after = c.in_ok-after.ensures.values;
-      trace = c.from_vec.ensures ∙ c.in_ok-steps.ensures.lines;
+      memory = c.from_vec.ensures ∙ c.in_ok-memory.ensures ∙ ap (λ (m : Machine). memory_lines m.state.values.mem last.state.values.mem) c.in_ok-first.ensures;
+      trace = c.from_vec-2.ensures ∙ c.in_ok-steps.ensures.lines;
     }
