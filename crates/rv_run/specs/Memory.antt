@@ -31,6 +31,6 @@ row_of at = at / 16 * 16
 abbrev pub rows_of : Memory → Memory → List ℕ → List ℕ
 rows_of before after ats = map row_of (filter (is_changed before after) ats)
 
--- A line for each row in which a byte changed, in order. Only what was written has an entry, and no step takes one away.
+-- a line for each row in which a byte changed, of those that have one written after the run, in order
 abbrev pub memory_lines : Memory → Memory → List ℕ
 memory_lines before after = row_lines after (dedup nat_eq (rows_of before after (map.keys after)))

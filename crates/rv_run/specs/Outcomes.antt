@@ -1,8 +1,10 @@
 -- How a call of the program ends, and why.
-use Rattle.std.specs.Prelude.{◌≡◌, ℕ, ◌<◌, ◌≤◌, ◌⊎◌, Bool, true, false, List, [], ◌++◌, length, slice_get, Option, Result, Ok, Err, IfSome, unwrap_or, option_map, codes}
+use Rattle.std.specs.Prelude.{◌≡◌, ℕ, ◌<◌, ◌≤◌, ◌⊎◌, Bool, true, false, List, [], ◌++◌, length, slice_get, Option, None, Result, Ok, Err, IfSome, unwrap_or, option_map, codes}
 use Rattle.std.specs.Borrow.{Bor}
 use Rattle.std.specs.Io.KnownBytes.{Appends, Keeps}
 use Rattle.std.specs.Fmt.{decimal}
+use Rattle.std.specs.FinMap as map
+use Rattle.rv_machine.specs.State.{byte}
 use Rattle.rv_machine.specs.Steps.{Machine}
 use Rattle.rv_stream.specs.Ends.{Rose, TookFront}
 use Rattle.rv_load.specs.declared.given.Given.{Given}
@@ -82,6 +84,8 @@ pub record IsRun (s : Settings) (p : Program) (run : Run) : Type 0 where
   pub last : Machine
   pub begins : begin s p ≡ Ok first
   pub ran : Runs s.flags s.base (length p.bytes) s.steps first.state run.steps last.state run.ending
+  -- what has no byte written at the end is as it was
+  pub unwritten : (a : ℕ) → map.get last.state.values.mem a ≡ None → byte last.state.values.mem a ≡ byte first.state.values.mem a
   pub before : run.before ≡ file 31 first.state.values
   pub after : run.after ≡ file 31 last.state.values
   pub memory : run.memory ≡ memory_lines first.state.values.mem last.state.values.mem

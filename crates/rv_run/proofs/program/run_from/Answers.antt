@@ -3,6 +3,7 @@ use Rattle.rv_base.specs.declared.flags.IsaFlags.{IsaFlags}
 use Rattle.rv_machine.specs.Steps.{Machine}
 use Rattle.rv_run.specs.Memory.{memory_lines}
 use Rattle.rv_run.specs.Running.{Runs}
+use Rattle.rv_run.proofs.Grows.{unwritten}
 use Rattle.rv_run.proofs.program.run_from.Goals as goal
 
 pub returns : goal.returns
@@ -19,6 +20,7 @@ returns g c =
       last = last;
       begins = c.requires.begins;
       ran = ran;
+      unwritten = unwritten settings.flags c.in_ok-steps.steps c.args.machine.state last.state ran.steps;
       before = c.in_ok-before.ensures.values;
       after = c.in_ok-after.ensures.values;
       memory = c.from_vec.ensures ∙ c.in_ok-memory.ensures ∙ ap (λ (m : Machine). memory_lines m.state.values.mem last.state.values.mem) c.in_ok-first.ensures;
