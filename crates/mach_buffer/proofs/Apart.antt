@@ -1,5 +1,5 @@
 -- The windows of uses, as a buffer grows.
-use Rattle.std.proofs.Common.{◌≡◌, ◌≢◌, ℕ, zero, suc, ◌+◌, ◌-◌, ◌%◌, ◌≤◌, ◌⊎◌, inl, inr, ⊎_elim, Bool, true, List, [], ◌∷◌, ◌++◌, length, take, drop, set, Option, Some, None, refl, ap, sym, ◌∙◌, subst, arith}
+use Rattle.std.proofs.Common.{◌≡◌, ◌≢◌, ℕ, ◌+◌, ◌-◌, ◌%◌, ◌≤◌, ◌⊎◌, inl, inr, ⊎_elim, true, List, [], ◌∷◌, ◌++◌, length, take, drop, set, Some, None, refl, ap, sym, ◌∙◌, subst, arith}
 use Rattle.std.specs.Prelude.{slice_get}
 use Rattle.std.proofs.lemmas.Bool.{cases_eq, true≢false}
 use Rattle.std.proofs.lemmas.Option.{same_Some}
@@ -8,9 +8,9 @@ use Rattle.rv_base.specs.LabelUse.{Kinds, IsVeneer, IsFresh}
 use Rattle.mach_buffer.specs.declared.uses.Use.{Use}
 use Rattle.mach_buffer.specs.Shape.{veneer_use}
 use Rattle.mach_buffer.specs.Windows.{window, IsApart, AreWindows}
-use Rattle.mach_buffer.specs.Links.{HasVeneer, IsLinked}
+use Rattle.mach_buffer.specs.Links.{IsLinked}
 use Rattle.mach_buffer.proofs.Links.{HasLaw, window_stays, set_each}
-use Rattle.mach_buffer.proofs.Lists.{After, locate, append_each, below, none_some, slice_get-append_last, slice_get-set_other, slice_get-set_same, take_front, length_set}
+use Rattle.mach_buffer.proofs.Lists.{After, append_each, locate, none_some, one_there, slice_get-set_other, slice_get-set_same, take_front}
 use Rattle.mach_buffer.proofs.Windows.{fresh_in_prefix}
 
 pub windows_bytes : {L : Type 0} {kinds : Kinds L} {bytes : List ℕ} {uses : List (Use L)} → AreWindows kinds bytes uses → (more : List ℕ) → AreWindows kinds (bytes ++ more) uses
@@ -132,11 +132,7 @@ windows_veneer {L} {kinds} {bytes} {uses} law l i u there supported is_even w = 
     old_at k x h = ⊎_elim (λ a. (x, a.1, refl, refl)) (λ a. (u, ap (slice_get uses) a.0 ∙ there, ap (λ (y : Use L). y.offset) a.1, ap size a.1)) (changed uses i u v there k x h)
 
     last : (k : ℕ) (x : Use L) → After (set uses i v) (own ∷ []) k x → (k ≡ length (set uses i v)) × (own ≡ x)
-    last k x a = on a.index a.is a.there
-      where
-        on : (n : ℕ) → k ≡ length (set uses i v) + n → slice_get (own ∷ []) n ≡ Some x → (k ≡ length (set uses i v)) × (own ≡ x)
-        on zero e h = (omega arith, same_Some _ _ h)
-        on (suc n) e h = absurd (cc)
+    last k x a = let o = one_there own a.index x a.there in let z = o.0 in let i = a.is in (omega arith, o.1)
 
     apart_as : (p m q n p1 m1 q1 n1 : ℕ) → p ≡ p1 → m ≡ m1 → q ≡ q1 → n ≡ n1 → IsApart p m q n → IsApart p1 m1 q1 n1
     apart_as p m q n p1 m1 q1 n1 a b c d (inl h) = inl (omega arith)

@@ -1,20 +1,21 @@
 -- From what stands before the patches to where each use goes.
-use Rattle.std.proofs.Common.{◌≡◌, ◌≢◌, ℕ, zero, suc, ◌+◌, ◌-◌, ◌%◌, ◌<◌, ◌≤◌, ◌⊎◌, Bool, true, false, not, ◌&&◌, cond, List, [], ◌∷◌, ◌++◌, length, take, drop, map, Option, Some, None, unwrap_or, refl, ap, sym, ◌∙◌, subst, arith, inl, inr, ⊎_elim, ℤ, pos, ◌-ℤ◌}
-use Rattle.std.specs.Prelude.{slice_get, nat_le, is_none}
+use Rattle.std.proofs.lemmas.Bool.Decides.{nat_tests}
+use Rattle.std.proofs.Common.{◌≡◌, ℕ, ◌+◌, ◌-◌, ◌%◌, ◌≤◌, true, List, length, take, drop, Option, Some, None, unwrap_or, refl, ap, sym, ◌∙◌, subst, arith, inl, inr, ⊎_elim, pos, ◌-ℤ◌}
+use Rattle.std.specs.Prelude.{slice_get, nat_le}
 use Rattle.std.specs.Option.{option_map}
-use Rattle.std.proofs.lemmas.Bool.{and_parts, and_cases, leb-true, not-false, true≢false, cases_eq}
-use Rattle.std.proofs.lemmas.Option.{same_Some, slice_get-map}
-use Rattle.std.proofs.lemmas.List.{take-take, drop-drop, drop-take, length-drop, length-append, take_all}
+use Rattle.std.proofs.lemmas.Bool.{and_parts, leb-true, true≢false}
+use Rattle.std.proofs.lemmas.Option.{slice_get-map}
+use Rattle.std.proofs.lemmas.List.{take-take, drop-drop, drop-take, length-drop, take_all}
 use Rattle.rv_base.specs.LabelUse.{Kinds, SameOutside, IsVeneer}
 use Rattle.mach_buffer.specs.declared.patches.Patch.{Patch}
 use Rattle.mach_buffer.specs.declared.uses.Use.{Use}
 use Rattle.mach_buffer.specs.Shape.{veneer_use}
 use Rattle.mach_buffer.specs.Windows.{window, CanPatch, CanPatchAll, IsApart, AllAim, AllKept, KeepsOthers, or_place, patch_of, patches_of}
-use Rattle.mach_buffer.specs.Reach.{is_reached, is_pending}
+use Rattle.mach_buffer.specs.Reach.{is_reached}
 use Rattle.mach_buffer.specs.Finish.{Arrives, AllArrive}
 use Rattle.mach_buffer.proofs.Links.{HasLaw}
-use Rattle.mach_buffer.proofs.LastVeneers.{CanEnd, some_place}
-use Rattle.mach_buffer.proofs.Lists.{Comes, comes_from}
+use Rattle.mach_buffer.proofs.LastVeneers.{CanEnd}
+use Rattle.mach_buffer.proofs.Lists.{comes_from}
 
 pub patch_at : {L : Type 0} (place : ℕ → Option ℕ) (uses : List (Use L)) (j : ℕ) (u : Use L) → slice_get uses j ≡ Some u → slice_get (patches_of place uses) j ≡ Some (patch_of place u)
 patch_at place uses j u h = slice_get-map (patch_of place) uses j ∙ ap (option_map (patch_of place)) h
@@ -30,41 +31,21 @@ veneer_window bytes v_bytes at from size le code =
 module _ {L : Type 0} {kinds : Kinds L} {place : ℕ → Option ℕ} {bytes : List ℕ} {uses : List (Use L)} where
   -- a use that has no veneer reaches its label
   settled_reach : CanEnd kinds place bytes uses → (j : ℕ) (u : Use L) → slice_get uses j ≡ Some u → u.veneer ≡ None → is_reached kinds (place u.label.number) u ≡ true
-  settled_reach f j u h e = on (kinds.has_veneer u.kind) refl
-    where
-      on : (b : Bool) → kinds.has_veneer u.kind ≡ b → is_reached kinds (place u.label.number) u ≡ true
-      on false s = f.direct j u h s
-      on true s =
-          let bare : is_none u.veneer ≡ true = ap is_none e in
-          not-false (is_reached kinds (place u.label.number) u)
-          (⊎_elim (λ a. absurd (true≢false (sym s ∙ a))) (λ b. ⊎_elim (λ x. absurd (true≢false (sym bare ∙ x))) (λ y. y) (and_cases (is_none u.veneer) (not (is_reached kinds (place u.label.number) u)) b)) (and_cases (kinds.has_veneer u.kind) _ (f.idle j u h)))
+  settled_reach f j u h e = grind (arith, nat_tests, f.idle j u h, f.direct j u h)
+
+  -- and its target is in reach, and even
+  bounds : CanEnd kinds place bytes uses → (j : ℕ) (u : Use L) → slice_get uses j ≡ Some u → (v o : Option ℕ) → u.veneer ≡ v → place u.label.number ≡ o →
+      (unwrap_or (or_place v o) 0 ≤ u.offset + kinds.forward u.kind) × (u.offset ≤ unwrap_or (or_place v o) 0 + kinds.backward u.kind) × (unwrap_or (or_place v o) 0 % 2 ≡ 0)
+  bounds f j u h (Some at) o hv ho = let x = f.linked.each j u at h hv in let n = x.near in let a = x.after in (n, omega arith, x.even)
+  bounds f j u h None None hv ho = absurd (true≢false (sym (settled_reach f j u h hv) ∙ ap (λ q. is_reached kinds q u) ho))
+  bounds f j u h None (Some at) hv ho =
+      let parts : (nat_le at (u.offset + kinds.forward u.kind) ≡ true) × (nat_le u.offset (at + kinds.backward u.kind) ≡ true) = and_parts _ _ (sym (ap (λ q. is_reached kinds q u) ho) ∙ settled_reach f j u h hv) in
+      (leb-true _ _ parts.0, leb-true _ _ parts.1, (f.places u.label.number at ho).1)
 
   use_can : CanEnd kinds place bytes uses → (j : ℕ) (u : Use L) → slice_get uses j ≡ Some u → CanPatch kinds bytes (patch_of place u)
-  use_can f j u h = on u.veneer refl
-    where
-      can : (target : ℕ) → (patch_of place u).target ≡ target → target ≤ u.offset + kinds.forward u.kind → u.offset ≤ target + kinds.backward u.kind → target % 2 ≡ 0 → CanPatch kinds bytes (patch_of place u)
-      can target e fw bw ev = record {
-        forward_in = subst (λ n. n ≤ u.offset + kinds.forward u.kind) (sym e) fw;
-        backward_in = subst (λ n. u.offset ≤ n + kinds.backward u.kind) (sym e) bw;
-        place_even = f.windows.even j u h;
-        target_even = subst (λ n. n % 2 ≡ 0) (sym e) ev;
-        inside = f.windows.inside j u h;
-        fresh = f.windows.fresh j u h;
-      }
-
-      reached : (o : Option ℕ) → place u.label.number ≡ o → is_reached kinds o u ≡ true → u.veneer ≡ None → CanPatch kinds bytes (patch_of place u)
-      reached None e r v = absurd (true≢false (sym r))
-      reached (Some at) e r v =
-          let parts : (nat_le at (u.offset + kinds.forward u.kind) ≡ true) × (nat_le u.offset (at + kinds.backward u.kind) ≡ true) = and_parts _ _ r in
-          can at (ap (λ o. unwrap_or (or_place o (place u.label.number)) 0) v ∙ ap (λ o. unwrap_or o 0) e) (leb-true _ _ parts.0) (leb-true _ _ parts.1) (f.places u.label.number at e).1
-
-      on : (o : Option ℕ) → u.veneer ≡ o → CanPatch kinds bytes (patch_of place u)
-      on (Some at) e =
-          let v = f.linked.each j u at h e in
-          let near = v.near in
-          let behind = v.behind in
-          can at (ap (λ o. unwrap_or (or_place o (place u.label.number)) 0) e) near (omega arith) v.even
-      on None e = reached (place u.label.number) refl (settled_reach f j u h e) e
+  use_can f j u h =
+      let b = bounds f j u h u.veneer (place u.label.number) refl refl in
+      record { forward_in = b.0; backward_in = b.1; target_even = b.2; place_even = f.windows.even j u h; inside = f.windows.inside j u h; fresh = f.windows.fresh j u h }
 
   pub can_patch_all : CanEnd kinds place bytes uses → CanPatchAll kinds bytes (patches_of place uses)
   can_patch_all f = record {

@@ -1,30 +1,32 @@
 -- An island: that its veneers can be put, and what it brings.
-use Rattle.std.proofs.Common.{◌≡◌, ◌≢◌, ℕ, zero, suc, ◌+◌, ◌-◌, ◌*◌, ◌/◌, ◌%◌, ◌^◌, ◌<◌, ◌≤◌, ◌⊎◌, inl, inr, ⊎_elim, Bool, true, false, not, ◌&&◌, cond, List, [], ◌∷◌, ◌++◌, length, take, map, Option, Some, None, refl, ap, sym, ◌∙◌, subst, arith}
-use Rattle.std.specs.Prelude.{slice_get, nat_le, nat_lt, nat_eq, is_none, if◌then◌else◌}
+use Rattle.std.proofs.lemmas.Bool.Decides.{nat_tests}
+use Rattle.std.proofs.Common.{◌≡◌, ◌≢◌, ℕ, zero, suc, ◌+◌, ◌-◌, ◌*◌, ◌%◌, ◌<◌, ◌≤◌, ⊎_elim, Bool, true, false, not, ◌&&◌, List, [], ◌∷◌, ◌++◌, length, Option, Some, None, refl, ap, sym, ◌∙◌, subst, arith}
+use Rattle.std.specs.Prelude.{slice_get, nat_eq, is_none}
 use Rattle.std.specs.Option.{IsSomeAnd}
-use Rattle.std.proofs.lemmas.Bool.{true≢false, cases_eq, and_parts, and_from, and_left, and_right, eq-eqb, ne_eqb, le-leb, ltb-false, ltb-true}
+use Rattle.std.proofs.lemmas.Bool.{true≢false, cases_eq, and_parts, and_from, and_left, and_right, eq-eqb, ne_eqb}
 use Rattle.std.proofs.lemmas.Option.{same_Some}
-use Rattle.std.proofs.lemmas.List.{length-append, take-take}
+use Rattle.std.proofs.lemmas.List.{length-append}
 use Rattle.rv_base.specs.declared.label.MachLabel.{MachLabel}
-use Rattle.rv_base.specs.LabelUse.{Kinds}
+use Rattle.rv_base.specs.LabelUse.{code_limit, Kinds}
 use Rattle.mach_buffer.specs.declared.uses.Use.{Use}
 use Rattle.mach_buffer.specs.declared.pending.Pending.{Pending}
-use Rattle.mach_buffer.specs.Shape.{Shape, with_label, placed, listed, recorded, core, IsKnown}
-use Rattle.mach_buffer.specs.Reach.{deadline, is_reached, is_pending, is_other, deadlines, StillReaches}
-use Rattle.mach_buffer.specs.Links.{IsLinked}
+use Rattle.mach_buffer.specs.Shape.{Shape, with_label, placed, IsKnown}
+use Rattle.mach_buffer.specs.Reach.{deadline, is_reached, is_pending, is_other, StillReaches}
 use Rattle.mach_buffer.specs.Windows.{AreWindows}
 use Rattle.mach_buffer.specs.Veneers.{put_all, IsOrder}
-use Rattle.mach_buffer.specs.Islands.{aligned, zeros, padding, padded, needs_own, first_of, island_end, with_own, IsJumpOver, CanIsland, Islanded, others_of}
-use Rattle.mach_buffer.specs.Growth.{Grows}
-use Rattle.mach_buffer.specs.VeneerConditions.{CanPutAt, IsNone, CanPut, AddsOwn}
+use Rattle.mach_buffer.specs.Islands.{aligned, zeros, padding, padded, needs_own, island_end, with_own, IsJumpOver, CanIsland, Islanded, others_of}
+use Rattle.mach_buffer.specs.Growth.{Grows, Lasts}
+use Rattle.mach_buffer.specs.VeneerConditions.{IsNone, CanPut, AddsOwn}
 use Rattle.mach_buffer.specs.Buffer.{AreSound}
 use Rattle.mach_buffer.proofs.Apart.{windows_bytes}
+use Rattle.mach_buffer.proofs.Effects.{Rest, all_rest}
 use Rattle.mach_buffer.proofs.QueueContents.{kept_none}
 use Rattle.mach_buffer.proofs.Links.{HasLaw, linked_bytes}
-use Rattle.mach_buffer.proofs.Lists.{none_some, slice_get-append_last, some_is, take_front}
-use Rattle.mach_buffer.proofs.Numbers.{IsNumber}
+use Rattle.mach_buffer.proofs.Lasting.{lasts_bytes, lasts_label, lasts_more, VeneersLast, veneers_last, not_pending, none_of}
+use Rattle.mach_buffer.proofs.Growth.{grows_more}
+use Rattle.mach_buffer.proofs.Lists.{locate, one_there, slice_get-append_last, some_is}
 use Rattle.mach_buffer.proofs.OrderOfVeneers.{order_number, order_has, order_long, can_order}
-use Rattle.mach_buffer.proofs.VeneersPut.{AllPut, all_put, IsOneOf, at, Was, recorded_at}
+use Rattle.mach_buffer.proofs.VeneersPut.{AllPut, all_put, IsOneOf, at, own_labels}
 use Rattle.mach_buffer.proofs.VeneerLoop.{Going, going_room, going_next}
 use Rattle.mach_buffer.proofs.Slack.{slack_from_reach, reaches_from_slack, none_from}
 use Rattle.mach_buffer.proofs.Sound.{placed_same, placed_other}
@@ -56,10 +58,6 @@ pub put_own_first : {L : Type 0} (kinds : Kinds L) (needed : Bool) (jump : ℕ) 
 put_own_first kinds true jump order s = refl
 put_own_first kinds false jump order s = refl
 
-pub own_long : (needed : Bool) (jump : ℕ) (order : List ℕ) → length (with_own needed jump order) ≡ length order + cond needed 1 0
-own_long true jump order = omega arith
-own_long false jump order = omega arith
-
 in_own : (needed : Bool) (jump j : ℕ) (order : List ℕ) → IsOneOf j order → IsOneOf j (with_own needed jump order)
 in_own true jump j order (at k h) = at (suc k) h
 in_own false jump j order o = o
@@ -74,17 +72,10 @@ jump_there {L} {kinds} {bytes} {uses} r = ap (slice_get uses) (jump_at r) ∙ ap
 
 -- it is the only use of its label
 jump_only : {L : Type 0} {kinds : Kinds L} {bytes : List ℕ} {uses : List (Use L)} {after_island : ℕ} (r : IsJumpOver kinds bytes uses after_island) → (j : ℕ) (u : Use L) → slice_get uses j ≡ Some u → u.label.number ≡ after_island → (j ≡ length uses - 1) × (r.jump ≡ u)
-jump_only {L} {kinds} {bytes} {uses} {after_island} r j u h e = on (last_or r.before r.jump j u (ap (λ us. slice_get us j) (sym r.stands) ∙ h))
-  where
-    last_or : (us : List (Use L)) (y : Use L) (k : ℕ) (x : Use L) → slice_get (us ++ y ∷ []) k ≡ Some x → (slice_get us k ≡ Some x) ⊎ ((k ≡ length us) × (y ≡ x))
-    last_or [] y zero x q = inr (refl, same_Some _ _ q)
-    last_or [] y (suc k) x q = absurd (cc)
-    last_or (z ∷ us) y zero x q = inl q
-    last_or (z ∷ us) y (suc k) x q = ⊎_elim (λ a. inl a) (λ b. inr (ap suc b.0, b.1)) (last_or us y k x q)
-
-    on : (slice_get r.before j ≡ Some u) ⊎ ((j ≡ length r.before) × (r.jump ≡ u)) → (j ≡ length uses - 1) × (r.jump ≡ u)
-    on (inl a) = absurd (r.only j u a e)
-    on (inr b) = (b.0 ∙ sym (jump_at r), b.1)
+jump_only {L} {kinds} {bytes} {uses} {after_island} r j u h e = ⊎_elim
+    (λ a. absurd (r.only j u a e))
+    (λ a. let o = one_there r.jump a.index u a.there in let z = o.0 in let i = a.is in let n = jump_at r in (omega arith, o.1))
+    (locate r.before (r.jump ∷ []) j u (ap (λ us. slice_get us j) (sym r.stands) ∙ h))
 
 module _ {L : Type 0} {kinds : Kinds L} {s : Shape L} {after_island : MachLabel} {order : List ℕ} where
   -- the veneers can be put in their order
@@ -103,31 +94,59 @@ module _ {L : Type 0} {kinds : Kinds L} {s : Shape L} {after_island : MachLabel}
       may : (u : Use L) → is_other kinds s.place (Some after_island) u ≡ true → kinds.has_veneer u.kind ≡ true
       may = other_supported kinds s.place (Some after_island)
 
-      differs : (ns : List ℕ) → ((k i : ℕ) → slice_get ns k ≡ Some i → IsNumber (is_other kinds s.place (Some after_island)) s.uses i) → IsNone (length s.uses - 1) ns
-      differs [] f = tt
-      differs (n ∷ ns) f =
-          let x = f 0 n refl in
-          let one : n ≢ length s.uses - 1 = λ e. true≢false (sym x.holds ∙ ap (is_other kinds s.place (Some after_island)) (same_Some _ _ (sym x.there ∙ ap (slice_get s.uses) e ∙ jump_there can.jump)) ∙ own_idle kinds s.place after_island can.jump.jump can.jump.names) in
-          (one, differs ns (λ k i h. f (suc k) i h))
+      differs : IsNone (length s.uses - 1) order
+      differs = none_of (is_other kinds s.place (Some after_island)) s.uses (length s.uses - 1) can.jump.jump (jump_there can.jump) (λ h. true≢false (sym h ∙ own_idle kinds s.place after_island can.jump.jump can.jump.names)) order (order_number o)
 
       on : (c : Bool) → CanPut kinds s.uses (aligned (length s.bytes)) (with_own c (length s.uses - 1) order)
       on true = (
         record { user = can.jump.jump; there = jump_there can.jump; supported = can.jump.supported; near = let a = can.jump.last in let b = can.jump.reach in let n = near in omega arith },
-        differs order (order_number o),
+        differs,
         can_order (aligned (length s.bytes) + 8) o may (reach (aligned (length s.bytes) + 8) (let n = near in omega arith)),
       )
       on false = can_order (aligned (length s.bytes)) o may (reach (aligned (length s.bytes)) (let n = near in omega arith))
 
   pub own_end : (can : CanIsland kinds s after_island) → IsOrder kinds (is_other kinds s.place (Some after_island)) s.uses order → (needed : Bool) → needed ≡ needs_own (aligned (length s.bytes)) (length order) (deadline kinds can.jump.jump) →
       aligned (length s.bytes) + 8 * length (with_own needed (length s.uses - 1) order) ≡ island_end (aligned (length s.bytes)) (length (others_of kinds s after_island)) (deadline kinds can.jump.jump)
-  own_end can o needed e = on needed e
-    where
-      count : length order ≡ length (others_of kinds s after_island)
-      count = order_long o
+  own_end can o true e = let n = order_long o in grind (arith, nat_tests, n, e)
+  own_end can o false e = let n = order_long o in grind (arith, nat_tests, n, e)
 
-      on : (c : Bool) → c ≡ needs_own (aligned (length s.bytes)) (length order) (deadline kinds can.jump.jump) → aligned (length s.bytes) + 8 * length (with_own c (length s.uses - 1) order) ≡ island_end (aligned (length s.bytes)) (length (others_of kinds s after_island)) (deadline kinds can.jump.jump)
-      on true q = let n = count in (let a : aligned (length s.bytes) + 8 * suc (length order) ≡ aligned (length s.bytes) + 8 + 8 * length (others_of kinds s after_island) = omega arith in a) ∙ ap (λ c. cond c (aligned (length s.bytes) + 8) (aligned (length s.bytes)) + 8 * length (others_of kinds s after_island)) (q ∙ ap (λ m. needs_own (aligned (length s.bytes)) m (deadline kinds can.jump.jump)) count)
-      on false q = let n = count in (let a : aligned (length s.bytes) + 8 * length order ≡ aligned (length s.bytes) + 8 * length (others_of kinds s after_island) = omega arith in a) ∙ ap (λ c. cond c (aligned (length s.bytes) + 8) (aligned (length s.bytes)) + 8 * length (others_of kinds s after_island)) (q ∙ ap (λ m. needs_own (aligned (length s.bytes)) m (deadline kinds can.jump.jump)) count)
+-- what lasts in one
+pub lasts_island : {L : Type 0} {kinds : Kinds L} {label : MachLabel} {s t : Shape L} → CanIsland kinds s label → Islanded kinds label s t → Lasts kinds s t
+lasts_island {L} {kinds} {label} {s} {t} can i = subst (Lasts kinds s) (sym i.whole) (lasts_more island (lasts_label kinds label m (ap (λ (p : ℕ → Option ℕ). p label.number) rest.place ∙ can.unbound)))
+  where
+    needed : Bool
+    needed = needs_own (aligned (length s.bytes)) (length i.order) (deadline kinds i.jump)
+
+    O : List ℕ
+    O = with_own needed (length s.uses - 1) i.order
+
+    m : Shape L
+    m = put_all kinds O (padded s)
+
+    v : VeneersLast kinds O (padded s) m
+    v = veneers_last kinds O (padded s)
+
+    rest : Rest (padded s) m
+    rest = all_rest kinds O (padded s)
+
+    with_jump : (c : Bool) (j : ℕ) → length s.uses - 1 ≢ j → IsNone j i.order → IsNone j (with_own c (length s.uses - 1) i.order)
+    with_jump true j ne none = (ne, none)
+    with_jump false j ne none = none
+
+    -- the jump's label is not bound
+    other : (j : ℕ) (u : Use L) → slice_get s.uses j ≡ Some u → is_reached kinds (s.place u.label.number) u ≡ true → length s.uses - 1 ≢ j
+    other j u h reached e =
+        let is : can.jump.jump ≡ u = same_Some _ _ (sym (jump_there can.jump) ∙ ap (slice_get s.uses) e ∙ h) in
+        let unbound : s.place u.label.number ≡ None = ap (λ (x : Use L). s.place x.label.number) (sym is) ∙ ap s.place can.jump.names ∙ can.unbound in
+        true≢false (sym reached ∙ ap (λ o. is_reached kinds o u) unbound)
+
+    island : Lasts kinds s m
+    island = record {
+      grows = grows_more (lasts_bytes kinds (padding (length s.bytes)) s).grows v.grows;
+      straight = λ j u h bare reached. v.keeps j u (with_jump needed j (other j u h reached) (none_of (is_other kinds s.place (Some label)) s.uses j u h (λ pending. not_pending kinds s.place u reached (and_parts (is_pending kinds s.place u) _ pending).0) i.order (order_number i.in_order))) h;
+      allocated = let a = rest.allocated in omega arith;
+      traps = λ k r h. ap (λ ts. slice_get ts k) rest.traps ∙ h;
+    }
 
 -- what an island brings
 pub record IslandDone {L : Type 0} (kinds : Kinds L) (after_island : MachLabel) (old new : Shape L) (pending : Pending) : Type 0 where
@@ -140,17 +159,9 @@ pub record IslandDone {L : Type 0} (kinds : Kinds L) (after_island : MachLabel) 
 pub island_done : {L : Type 0} {kinds : Kinds L} → HasLaw kinds → (s : Shape L) (p new_p : Pending) (after_island : MachLabel) (order : List ℕ) (needed : Bool) → AreSound kinds s p → (can : CanIsland kinds s after_island) → IsOrder kinds (is_other kinds s.place (Some after_island)) s.uses order →
     needed ≡ needs_own (aligned (length s.bytes)) (length order) (deadline kinds can.jump.jump) → new_p.near.numbers.items ≡ [] → new_p.far.numbers.items ≡ [] → IslandDone kinds after_island s (with_label after_island (put_all kinds (with_own needed (length s.uses - 1) order) (padded s))) new_p
 island_done {L} {kinds} law s p new_p after_island order needed sound can o e near far = record {
-  island = record {
-    jump = jump;
-    last = jump_there can.jump;
-    order = order;
-    in_order = o;
-    whole = ap (λ c. with_label after_island (put_all kinds (with_own c (length s.uses - 1) order) (padded s))) e;
-    end = end;
-    settled = none_from (is_pending kinds place) kinds t.uses idle;
-  };
-  grows = record { before = before; longer = longer; more = all.grown.more; grown = all.grown.grown; behind = λ k u h. let b = (all.grown.own k u h).behind in omega (arith, start); places = λ label to h. placed_other t.place after_island.number (length t.bytes) label (λ q. none_some (s.place label) to (ap s.place q ∙ can.unbound) h) ∙ ap (λ (f : ℕ → Option ℕ). f label) all.place ∙ h };
-  own = record { more = all.grown.more; grown = all.grown.grown; own = λ k u h. let x = all.grown.own k u h in record { behind = (let b = x.behind in omega (arith, start)); bare = x.bare; final = x.final; far = x.far; user = x.user; used = x.used; there = x.there; names = x.names } };
+  island = island;
+  grows = (lasts_island can island).grows;
+  own = record { more = all.grown.more; grown = all.grown.grown; own = λ k u h. let x = all.grown.own k u h in record { after = (let b = x.after in omega (arith, start)); bare = x.bare; final = x.final; far = x.far; user = x.user; used = x.used; there = x.there; names = x.names } };
   windows = λ w. all.windows (windows_bytes w (padding (length s.bytes)));
   sound = record {
     linked = all.linked;
@@ -185,6 +196,9 @@ island_done {L} {kinds} law s p new_p after_island order needed sound can o e ne
     all : AllPut kinds O P t
     all = all_put law O P (linked_bytes sound.linked (padding (length s.bytes))) even_start (subst (λ (n : ℕ). CanPut kinds s.uses n O) (sym start) (can_own sound can o needed))
 
+    rest : Rest P t
+    rest = all_rest kinds O P
+
     long : length t.bytes ≡ length P.bytes + 8 * length O
     long = all.long
 
@@ -194,45 +208,34 @@ island_done {L} {kinds} law s p new_p after_island order needed sound can o e ne
     longer : length s.bytes ≤ length t.bytes
     longer = omega (arith, long, start)
 
-    before : take (length s.bytes) t.bytes ≡ s.bytes
-    before = sym (take-take (length s.bytes) (length P.bytes) t.bytes (let a = start in omega arith)) ∙ ap (take (length s.bytes)) all.before ∙ take_front s.bytes (padding (length s.bytes))
-
     -- each use was there, or is a veneer's own
     known : (j : ℕ) (u : Use L) → slice_get t.uses j ≡ Some u → IsKnown u.label.number t.allocated
-    known j u h = subst (IsKnown u.label.number) (sym all.allocated) (⊎_elim
-        (λ w. subst (λ (n : ℕ). IsKnown n s.allocated) (ap (λ (x : Use L). x.label.number) w.alike) (sound.known j w.was w.there))
-        (λ r. let x = all.grown.own r.0 (core u) r.2 in subst (λ (l : MachLabel). IsKnown l.number s.allocated) x.names (sound.known x.user x.used x.there))
-        (recorded_at t.uses s.uses all.grown.more all.grown.grown j u h))
+    known = own_labels all.grown (λ l. IsKnown l.number t.allocated) (subst (λ (n : ℕ). (j : ℕ) (u : Use L) → slice_get s.uses j ≡ Some u → IsKnown u.label.number n) (sym rest.allocated) sound.known)
 
     places : (label to : ℕ) → place label ≡ Some to → (to ≤ length t.bytes) × (to % 2 ≡ 0) × IsKnown label t.allocated
     places label to h = ⊎_elim
         (λ same.
         let here : length t.bytes ≡ to = same_Some _ _ (sym (placed_same t.place after_island.number (length t.bytes)) ∙ ap place (sym same) ∙ h) in
-        (omega (arith, here), subst (λ (n : ℕ). n % 2 ≡ 0) here all.even, subst (IsKnown label) (sym all.allocated) (subst (λ (n : ℕ). IsKnown n s.allocated) (sym same) can.known)))
+        (omega (arith, here), subst (λ (n : ℕ). n % 2 ≡ 0) here all.even, subst (IsKnown label) (sym rest.allocated) (subst (λ (n : ℕ). IsKnown n s.allocated) (sym same) can.known)))
         (λ ne.
-        let q = sound.places label to (sym (placed_other t.place after_island.number (length t.bytes) label ne ∙ ap (λ (f : ℕ → Option ℕ). f label) all.place) ∙ h) in
+        let q = sound.places label to (sym (placed_other t.place after_island.number (length t.bytes) label ne ∙ ap (λ (f : ℕ → Option ℕ). f label) rest.place) ∙ h) in
         let le : to ≤ length s.bytes = q.0 in
-        (omega (arith, le, long, start), q.1, subst (IsKnown label) (sym all.allocated) q.2))
+        (omega (arith, le, long, start), q.1, subst (IsKnown label) (sym rest.allocated) q.2))
         (cases_eq label after_island.number)
 
     -- the jump is in reach of the end, where it has no veneer
     jump_idle : (c : Bool) → needed ≡ c → (j : ℕ) (u : Use L) → (IsOneOf j O → ⊥) → (j ≡ length s.uses - 1) × (jump ≡ u) → u.label.number ≡ after_island.number → u.offset ≤ length t.bytes → is_pending kinds place u ≡ false
     jump_idle true n j u none q same before_end = absurd (none (subst (λ c. IsOneOf j (with_own c (length s.uses - 1) order)) (sym n) (at 0 (ap Some (sym q.0)))))
     jump_idle false n j u none q same before_end =
-        let not_needed : needs_own (aligned (length s.bytes)) (length order) (deadline kinds jump) ≡ false = sym e ∙ n in
-        let le : aligned (length s.bytes) + 8 * length order ≤ deadline kinds jump = ltb-false _ _ not_needed in
         let few : length O ≡ length order = ap (λ c. length (with_own c (length s.uses - 1) order)) n in
-        let last : length t.bytes ≤ deadline kinds jump = omega (arith, le, few, long, start) in
         let at_end : place u.label.number ≡ Some (length t.bytes) = ap place same ∙ placed_same t.place after_island.number (length t.bytes) in
-        let near : nat_le (length t.bytes) (u.offset + kinds.forward u.kind) ≡ true = le-leb _ _ (subst (λ (x : Use L). length t.bytes ≤ deadline kinds x) q.1 last) in
-        let far : nat_le u.offset (length t.bytes + kinds.backward u.kind) ≡ true = le-leb _ _ (omega arith) in
-        let is : is_reached kinds (place u.label.number) u ≡ true = ap (λ r. is_reached kinds r u) at_end ∙ and_from _ _ near far in
-        and_right (kinds.has_veneer u.kind) _ (and_right (is_none u.veneer) (not (is_reached kinds (place u.label.number) u)) (ap not is))
+        let same_deadline : deadline kinds jump ≡ deadline kinds u = ap (deadline kinds) q.1 in
+        grind (arith, nat_tests, at_end, e, n, few, long, start, same_deadline, before_end)
 
     -- any other use was not pending, or has its veneer
     other_idle : (b : Bool) (j : ℕ) (u : Use L) → is_pending kinds s.place u ≡ b → slice_get s.uses j ≡ Some u → (IsOneOf j O → ⊥) → u.label.number ≢ after_island.number → is_pending kinds place u ≡ false
     other_idle true j u w there none ne = absurd (order_has o j u there (and_from _ _ w (ap not (ne_eqb u.label.number after_island.number ne))) (λ k i g same. none (in_own needed (length s.uses - 1) j order (at k (g ∙ ap Some same)))))
-    other_idle false j u w there none ne = ap (λ q. kinds.has_veneer u.kind && (is_none u.veneer && not (is_reached kinds q u))) (placed_other t.place after_island.number (length t.bytes) u.label.number ne ∙ ap (λ (f : ℕ → Option ℕ). f u.label.number) all.place) ∙ w
+    other_idle false j u w there none ne = ap (λ q. kinds.has_veneer u.kind && (is_none u.veneer && not (is_reached kinds q u))) (placed_other t.place after_island.number (length t.bytes) u.label.number ne ∙ ap (λ (f : ℕ → Option ℕ). f u.label.number) rest.place) ∙ w
 
     idle : (j : ℕ) (u : Use L) → slice_get t.uses j ≡ Some u → is_pending kinds place u ≡ false
     idle j u h = on (kinds.has_veneer u.kind) u.veneer refl refl
@@ -246,6 +249,17 @@ island_done {L} {kinds} law s p new_p after_island order needed sound can o e ne
             (λ same. jump_idle needed refl j u k.1 (jump_only can.jump j u k.0 same) same (all.linked.before j u h))
             (λ ne. other_idle (is_pending kinds s.place u) j u refl k.0 k.1 ne)
             (cases_eq u.label.number after_island.number)
+
+    island : Islanded kinds after_island s (with_label after_island t)
+    island = record {
+      jump = jump;
+      last = jump_there can.jump;
+      order = order;
+      in_order = o;
+      whole = ap (λ c. with_label after_island (put_all kinds (with_own c (length s.uses - 1) order) (padded s))) e;
+      end = end;
+      settled = none_from (is_pending kinds place) kinds t.uses idle;
+    }
 
 -- ---- the calls of an island
 
@@ -274,6 +288,6 @@ pub own_going : {L : Type 0} {kinds : Kinds L} {all : List ℕ} {first now : Sha
 own_going law true jump order w = going_next law w refl _ refl
 own_going law false jump order w = w
 
-pub own_room : {L : Type 0} {kinds : Kinds L} {all : List ℕ} {first now : Shape L} (needed : Bool) (jump : ℕ) (order : List ℕ) → Going kinds (with_own needed jump order) all first now → needed ≡ true → length now.bytes + 8 < 2147479552
+pub own_room : {L : Type 0} {kinds : Kinds L} {all : List ℕ} {first now : Shape L} (needed : Bool) (jump : ℕ) (order : List ℕ) → Going kinds (with_own needed jump order) all first now → needed ≡ true → length now.bytes + 8 < code_limit
 own_room true jump order w e = going_room w refl
 own_room false jump order w e = absurd (true≢false (sym e))

@@ -16,5 +16,8 @@ pub mod IslandVeneers
 pub mod LastVeneers
 pub mod Arrivals
 pub mod Growth
+pub mod Lasting
+pub mod Sequences
+pub mod Pieces
 pub mod Laws
 pub mod Effects

@@ -1,16 +1,17 @@
 -- Veneers that stand, as code and uses are added.
-use Rattle.std.proofs.Common.{◌≡◌, ◌≢◌, ℕ, zero, suc, ◌+◌, ◌%◌, ◌<◌, ◌≤◌, ◌⊎◌, inl, inr, ⊎_elim, Bool, true, false, List, [], ◌∷◌, ◌++◌, length, take, drop, set, Option, Some, None, refl, ap, sym, ◌∙◌, subst, arith}
+use Rattle.std.proofs.Common.{◌≡◌, ◌≢◌, ℕ, zero, suc, ◌+◌, ◌%◌, ◌≤◌, true, List, [], ◌∷◌, ◌++◌, length, take, drop, set, Some, None, refl, ap, sym, ◌∙◌, subst, arith}
 use Rattle.std.specs.Prelude.{slice_get}
-use Rattle.std.proofs.lemmas.Bool.{true≢false, cases_eq}
-use Rattle.std.proofs.lemmas.Option.{same_Some}
-use Rattle.std.proofs.lemmas.List.{take-append-le, drop-append-le, drop_at, drop-take, take-take, length-append, length-drop, take_all}
+use Rattle.std.proofs.lemmas.Bool.{true≢false}
+use Rattle.std.specs.Option.{option_map}
+use Rattle.std.proofs.lemmas.Option.{same_Some, slice_get-map}
+use Rattle.std.proofs.lemmas.List.{drop_at, drop-take, take-take, length-append, take_all}
 use Rattle.rv_base.specs.LabelUse.{Kinds, IsVeneer}
 use Rattle.mach_buffer.specs.declared.uses.Use.{Use}
 use Rattle.mach_buffer.specs.Shape.{veneer_use, core, recorded}
 use Rattle.mach_buffer.specs.Windows.{window}
 use Rattle.mach_buffer.specs.Reach.{deadline}
 use Rattle.mach_buffer.specs.Links.{HasVeneer, IsLinked}
-use Rattle.mach_buffer.proofs.Lists.{append_each, below, none_some, slice_get-append, slice_get-append_last, slice_get-set_other, slice_get-set_same, take_front, length_set}
+use Rattle.mach_buffer.proofs.Lists.{append_each, none_some, slice_get-append, slice_get-append_last, slice_get-set_other, take_front}
 
 -- the veneer of each kind that has one
 abbrev pub HasLaw : {L : Type 0} → Kinds L → Type 0
@@ -42,7 +43,7 @@ module _ {L : Type 0} {kinds : Kinds L} {bytes : List ℕ} {uses : List (Use L)}
     index = h.index;
     own = own;
     near = h.near;
-    behind = h.behind;
+    after = h.after;
     supported = h.supported;
     even = h.even;
   }
@@ -98,7 +99,7 @@ module _ {L : Type 0} {kinds : Kinds L} {bytes : List ℕ} {uses : List (Use L)}
         index = length (set uses i v);
         own = slice_get-append_last (set uses i v) own;
         near = near;
-        behind = l.before i u there;
+        after = l.before i u there;
         supported = supported;
         even = even;
       }
@@ -121,6 +122,4 @@ recorded_set (w ∷ uses) zero u v h e = ap (λ x. x ∷ recorded uses) (e ∙ a
 recorded_set (w ∷ uses) (suc i) u v h e = ap (λ xs. core w ∷ xs) (recorded_set uses i u v h e)
 
 pub recorded_get : {L : Type 0} (uses : List (Use L)) (i : ℕ) (u : Use L) → slice_get uses i ≡ Some u → slice_get (recorded uses) i ≡ Some (core u)
-recorded_get [] i u h = absurd (cc)
-recorded_get (w ∷ uses) zero u h = ap (λ x. Some (core x)) (same_Some _ _ h)
-recorded_get (w ∷ uses) (suc i) u h = recorded_get uses i u h
+recorded_get uses i u h = slice_get-map core uses i ∙ ap (option_map core) h

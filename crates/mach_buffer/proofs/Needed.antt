@@ -1,12 +1,12 @@
 -- The search for a deadline that might be missed.
-use Rattle.std.proofs.Common.{◌≡◌, ℕ, suc, ◌+◌, ◌-◌, ◌*◌, ◌<◌, ◌≤◌, zero, Bool, true, false, not, ◌&&◌, cond, ◌||◌, List, [], ◌∷◌, ◌++◌, length, map, Option, Some, refl, ap, sym, ◌∙◌, subst, arith}
-use Rattle.std.specs.Prelude.{slice_get, nat_le, nat_lt, filter, count_by, is_some}
-use Rattle.std.proofs.lemmas.Bool.{and_parts, leb-true, leb-false, ltb-true, ltb-false, true≢false}
+use Rattle.std.proofs.lemmas.Bool.Decides.{nat_tests}
+use Rattle.std.proofs.Common.{◌≡◌, ℕ, ◌+◌, ◌-◌, ◌*◌, ◌<◌, ◌≤◌, Bool, true, false, List, [], ◌∷◌, length, Option, refl, ap, sym, ◌∙◌, arith}
+use Rattle.std.specs.Prelude.{count_by, is_some}
 use Rattle.rv_base.specs.LabelUse.{Kinds}
 use Rattle.mach_buffer.specs.declared.uses.Use.{Use}
 use Rattle.mach_buffer.specs.declared.pending.Pending.{Pending}
-use Rattle.mach_buffer.specs.Reach.{AllOf, deadline, is_pending, deadlines, due_by, HasSlack, is_needed_from}
-use Rattle.mach_buffer.specs.Queues.{test_at, use_where, is_due_at, is_near, is_queued, deadline_at, due_in, shows_slack, AreKept}
+use Rattle.mach_buffer.specs.Reach.{AllOf, is_pending, deadlines, due_by, HasSlack, is_needed_from}
+use Rattle.mach_buffer.specs.Queues.{use_where, is_due_at, is_queued, deadline_at, due_in, shows_slack, AreKept}
 use Rattle.mach_buffer.proofs.QueueContents.{kept_deadlines, kept_few}
 use Rattle.mach_buffer.proofs.Lists.{length_map}
 use Rattle.mach_buffer.proofs.Numbers.{due_count, pass_count}
@@ -16,41 +16,17 @@ use Rattle.mach_buffer.proofs.Slack.{due_mono, due_le_length, each_from_slack, s
 
 pub due_parts : {L : Type 0} (kinds : Kinds L) (place : ℕ → Option ℕ) (uses : List (Use L)) (end : ℕ) → due_in kinds place uses end ≡ due_by end (deadlines (is_queued kinds place true) kinds uses) + due_by end (deadlines (is_queued kinds place false) kinds uses)
 due_parts kinds place [] end = refl
-due_parts {L} kinds place (u ∷ uses) end = on (is_pending kinds place u) (is_near kinds u) (nat_le (deadline kinds u) end) (due_parts kinds place uses end)
-  where
-    on : (a b c : Bool) → due_in kinds place uses end ≡ due_by end (deadlines (is_queued kinds place true) kinds uses) + due_by end (deadlines (is_queued kinds place false) kinds uses) →
-        due_by end (cond a (deadline kinds u ∷ deadlines (is_pending kinds place) kinds uses) (deadlines (is_pending kinds place) kinds uses)) ≡ due_by end (cond (a && b) (deadline kinds u ∷ deadlines (is_queued kinds place true) kinds uses) (deadlines (is_queued kinds place true) kinds uses)) + due_by end (cond (a && not b) (deadline kinds u ∷ deadlines (is_queued kinds place false) kinds uses) (deadlines (is_queued kinds place false) kinds uses))
-    on true true c rest = step (nat_le (deadline kinds u) end)
-      where
-        step : (x : Bool) → cond x (suc (due_in kinds place uses end)) (due_in kinds place uses end) ≡ cond x (suc (due_by end (deadlines (is_queued kinds place true) kinds uses))) (due_by end (deadlines (is_queued kinds place true) kinds uses)) + due_by end (deadlines (is_queued kinds place false) kinds uses)
-        step true = omega (arith, rest)
-        step false = rest
-    on true false c rest = step (nat_le (deadline kinds u) end)
-      where
-        step : (x : Bool) → cond x (suc (due_in kinds place uses end)) (due_in kinds place uses end) ≡ due_by end (deadlines (is_queued kinds place true) kinds uses) + cond x (suc (due_by end (deadlines (is_queued kinds place false) kinds uses))) (due_by end (deadlines (is_queued kinds place false) kinds uses))
-        step true = omega (arith, rest)
-        step false = rest
-    on false b c rest = rest
+due_parts kinds place (u ∷ uses) end = grind (arith, nat_tests, due_parts kinds place uses end)
 
 pub count_parts : {L : Type 0} (kinds : Kinds L) (place : ℕ → Option ℕ) (uses : List (Use L)) → length (deadlines (is_pending kinds place) kinds uses) ≡ length (deadlines (is_queued kinds place true) kinds uses) + length (deadlines (is_queued kinds place false) kinds uses)
 count_parts kinds place [] = refl
-count_parts {L} kinds place (u ∷ uses) = on (is_pending kinds place u) (is_near kinds u) (count_parts kinds place uses)
-  where
-    on : (a b : Bool) → length (deadlines (is_pending kinds place) kinds uses) ≡ length (deadlines (is_queued kinds place true) kinds uses) + length (deadlines (is_queued kinds place false) kinds uses) →
-        length (cond a (deadline kinds u ∷ deadlines (is_pending kinds place) kinds uses) (deadlines (is_pending kinds place) kinds uses)) ≡ length (cond (a && b) (deadline kinds u ∷ deadlines (is_queued kinds place true) kinds uses) (deadlines (is_queued kinds place true) kinds uses)) + length (cond (a && not b) (deadline kinds u ∷ deadlines (is_queued kinds place false) kinds uses) (deadlines (is_queued kinds place false) kinds uses))
-    on true true rest = omega (arith, rest)
-    on true false rest = omega (arith, rest)
-    on false b rest = rest
+count_parts kinds place (u ∷ uses) = grind (arith, nat_tests, count_parts kinds place uses)
 
 -- ---- where slack is and isn't
 
 not_needed_from : (cur : ℕ) (all ds : List ℕ) → AllOf (λ d. cur + 30 + 8 * due_by d all ≤ d) ds → is_needed_from cur all ds ≡ false
 not_needed_from cur all [] h = refl
-not_needed_from cur all (d ∷ ds) h = on (nat_lt d (cur + 14 + 8 * (due_by d all + 2))) refl (not_needed_from cur all ds h.1)
-  where
-    on : (c : Bool) → nat_lt d (cur + 14 + 8 * (due_by d all + 2)) ≡ c → is_needed_from cur all ds ≡ false → (c || is_needed_from cur all ds) ≡ false
-    on true e rest = let p : d < cur + 14 + 8 * (due_by d all + 2) = ltb-true _ _ e in let q = h.0 in absurd (omega arith)
-    on false e rest = rest
+not_needed_from cur all (d ∷ ds) h = grind (arith, nat_tests, h.0, not_needed_from cur all ds h.1)
 
 pub not_needed : (cur : ℕ) (ds : List ℕ) → HasSlack cur 30 ds → is_needed_from cur ds ds ≡ false
 not_needed cur ds h = not_needed_from cur ds ds (each_from_slack cur 30 ds h)
@@ -79,24 +55,15 @@ module _ {L : Type 0} {kinds : Kinds L} {place : ℕ → Option ℕ} {uses : Lis
 
   -- the slack of both queues is slack of all
   slack_both : AreKept kinds place uses p → (start : ℕ) → 1 ≤ start → shows_slack p start ≡ true → HasSlack start 0 (deadlines (is_pending kinds place) kinds uses)
-  slack_both k start some shows =
-      let parts : (nat_le start p.near.slack ≡ true) × (nat_le (start + 8 * length p.near.numbers.items) p.far.slack ≡ true) = and_parts _ _ shows in
-      let a = leb-true _ _ parts.0 in
-      let b = leb-true _ _ parts.1 in
-      record { each = λ end one. at end one a b (due_parts kinds place uses end) }
-    where
-      N : List ℕ
-      N = deadlines (is_queued kinds place true) kinds uses
-
-      F : List ℕ
-      F = deadlines (is_queued kinds place false) kinds uses
-
-      at : (end : ℕ) → 1 ≤ due_in kinds place uses end → start ≤ p.near.slack → start + 8 * length p.near.numbers.items ≤ p.far.slack → due_in kinds place uses end ≡ due_by end N + due_by end F → start + 0 + 8 * due_in kinds place uses end ≤ end
-      at end one a b sum = on (due_by end F) refl
-        where
-          on : (n : ℕ) → due_by end F ≡ n → start + 0 + 8 * due_in kinds place uses end ≤ end
-          on zero z = let g = (k.near.room (omega arith)).each end (omega arith) in omega (arith, z)
-          on (suc n) z = let g = (k.far.room (omega arith)).each end (omega (arith, z)) in let few = kept_few k.near in let m = due_le_length end N in omega (arith, z)
+  slack_both k start some shows = record {
+    each = λ end one.
+        let sum = due_parts kinds place uses end in
+        let few = kept_few k.near in
+        let most = due_le_length end (deadlines (is_queued kinds place true) kinds uses) in
+        let near : 1 ≤ p.near.slack → 1 ≤ due_by end (deadlines (is_queued kinds place true) kinds uses) → p.near.slack + 0 + 8 * due_by end (deadlines (is_queued kinds place true) kinds uses) ≤ end = λ le. (k.near.room le).each end in
+        let far : 1 ≤ p.far.slack → 1 ≤ due_by end (deadlines (is_queued kinds place false) kinds uses) → p.far.slack + 0 + 8 * due_by end (deadlines (is_queued kinds place false) kinds uses) ≤ end = λ le. (k.far.room le).each end in
+        grind (arith, nat_tests, near, far);
+  }
 
   -- no island is needed then
   pub slack_shown : AreKept kinds place uses p → (start : ℕ) → 30 ≤ start → shows_slack p start ≡ true → is_needed_from (start - 30) (deadlines (is_pending kinds place) kinds uses) (deadlines (is_pending kinds place) kinds uses) ≡ false
@@ -114,11 +81,7 @@ pub bound_next : (start count due end : ℕ) (ds : List ℕ) → IsBound start c
 bound_next start count due end ds b e d = record { each = λ at lt. let c = b.each at lt in let m = due_mono at end ds (omega arith) in omega arith }
 
 pub bound_none : (start : ℕ) (ds : List ℕ) → 30 ≤ start → IsBound start 0 ds → is_needed_from (start - 30) ds ds ≡ false
-bound_none start ds some b = not_needed (start - 30) ds (record { each = λ end one. at end one (nat_lt end (start + 8 * due_by end ds)) refl })
-  where
-    at : (end : ℕ) → 1 ≤ due_by end ds → (c : Bool) → nat_lt end (start + 8 * due_by end ds) ≡ c → (start - 30) + 30 + 8 * due_by end ds ≤ end
-    at end one true e = let lt = ltb-true _ _ e in let z = b.each end lt in absurd (omega arith)
-    at end one false e = let le = ltb-false _ _ e in omega arith
+bound_none start ds some b = not_needed (start - 30) ds (record { each = λ end one. grind (arith, nat_tests, b.each end) })
 
 pub bound_many : (start count due end : ℕ) (ds : List ℕ) → 30 ≤ start → 1 ≤ count → end + 1 ≡ start + 8 * count → due ≡ due_by end ds → count ≤ due → is_needed_from (start - 30) ds ds ≡ true
 bound_many start count due end ds some one e d many = on (is_needed_from (start - 30) ds ds) refl

@@ -1,7 +1,7 @@
 -- What the order of veneers tells of uses, and that each reaches its veneer.
-use Rattle.std.proofs.Common.{◌≡◌, ◌≢◌, ℕ, zero, suc, ◌+◌, ◌*◌, ◌<◌, ◌≤◌, Bool, true, false, cond, List, [], ◌∷◌, length, map, Option, Some, None, refl, ap, sym, ◌∙◌, subst, arith}
-use Rattle.std.specs.Prelude.{slice_get, slice_index_or, nat_le, count_by, IsPermutation}
-use Rattle.std.proofs.lemmas.Bool.{leb-true, leb-false}
+use Rattle.std.proofs.lemmas.Bool.Decides.{nat_tests}
+use Rattle.std.proofs.Common.{◌≡◌, ◌≢◌, ℕ, zero, suc, ◌+◌, ◌<◌, ◌≤◌, Bool, true, false, cond, List, [], ◌∷◌, length, map, Some, refl, ap, sym, ◌∙◌, subst, arith}
+use Rattle.std.specs.Prelude.{slice_get, nat_le, count_by, IsPermutation}
 use Rattle.std.proofs.lemmas.Option.{same_Some, get_or_from_slice_get, slice_get-get_or}
 use Rattle.std.proofs.lemmas.List.Recursion.{is_count_by}
 use Rattle.std.proofs.lemmas.List.Sorted.{IsPermutation-map, IsPermutation-sym, All-permutation, length_permutation, sum_by-IsPermutation}
@@ -10,28 +10,20 @@ use Rattle.mach_buffer.specs.declared.uses.Use.{Use}
 use Rattle.mach_buffer.specs.Reach.{deadline, deadlines, due_by, StillReaches}
 use Rattle.mach_buffer.specs.Veneers.{numbers_of, IsSooner, by_deadline, by_place, by_number, IsOrder}
 use Rattle.mach_buffer.specs.Queues.{deadline_in, deadline_at}
-use Rattle.mach_buffer.specs.VeneerConditions.{CanPutAt, IsNone, CanPut}
+use Rattle.mach_buffer.specs.VeneerConditions.{IsNone, CanPut}
 use Rattle.mach_buffer.proofs.Lists.{below, length_map}
 use Rattle.mach_buffer.proofs.Numbers.{IsNumber, number_is, numbers_have, deadlines_at}
 use Rattle.mach_buffer.proofs.Slack.{reaches_next, reaches_due}
 
 due_is_count : (end : ℕ) (ds : List ℕ) → due_by end ds ≡ count_by (λ d. nat_le d end) ds
-due_is_count end ds = is_count_by (due_by end) (λ d. nat_le d end) refl (λ d es. on (nat_le d end) (due_by end es)) ds
-  where
-    on : (c : Bool) (n : ℕ) → cond c (suc n) n ≡ cond c (1 + n) n
-    on true n = omega arith
-    on false n = refl
+due_is_count end ds = is_count_by (due_by end) (λ d. nat_le d end) refl (λ d es. grind (arith, nat_tests)) ds
 
 due_permuted : (end : ℕ) (ds es : List ℕ) → IsPermutation ds es → due_by end es ≡ due_by end ds
 due_permuted end ds es perm = due_is_count end es ∙ sum_by-IsPermutation (λ d. cond (nat_le d end) 1 0) ds es perm ∙ sym (due_is_count end ds)
 
 none_sooner : (d end : ℕ) (ds : List ℕ) → ((k e : ℕ) → slice_get ds k ≡ Some e → d ≤ e) → 1 ≤ due_by end ds → d ≤ end
 none_sooner d end [] all one = absurd (omega arith)
-none_sooner d end (e ∷ ds) all one = on (nat_le e end) refl one (none_sooner d end ds (λ k x h. all (suc k) x h))
-  where
-    on : (c : Bool) → nat_le e end ≡ c → 1 ≤ cond c (suc (due_by end ds)) (due_by end ds) → (1 ≤ due_by end ds → d ≤ end) → d ≤ end
-    on true q some rest = let l = leb-true _ _ q in let m = all 0 e refl in omega arith
-    on false q some rest = rest some
+none_sooner d end (e ∷ ds) all one = grind (arith, nat_tests, all 0 e, none_sooner d end ds (λ k x h. all (suc k) x h))
 
 can_list : {L : Type 0} (kinds : Kinds L) (test : Use L → Bool) (uses : List (Use L)) (cur : ℕ) (order : List ℕ) → StillReaches cur (map (deadline_at kinds uses) order) → ((u : Use L) → test u ≡ true → kinds.has_veneer u.kind ≡ true) → ((k i : ℕ) → slice_get order k ≡ Some i → IsNumber test uses i) →
     ((a b i j : ℕ) → a < b → slice_get order a ≡ Some i → slice_get order b ≡ Some j → (i ≢ j) × (deadline_at kinds uses i ≤ deadline_at kinds uses j)) → CanPut kinds uses cur order

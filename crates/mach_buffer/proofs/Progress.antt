@@ -1,5 +1,5 @@
 -- Patches one after the other.
-use Rattle.std.proofs.Common.{◌≡◌, ◌≢◌, ℕ, ◌+◌, ◌<◌, ◌≤◌, List, length, Some, refl, sym, ◌∙◌, subst, arith, ⊎_elim, ℤ, pos, ◌-ℤ◌}
+use Rattle.std.proofs.Common.{◌≡◌, ◌≢◌, ℕ, ◌+◌, ◌<◌, ◌≤◌, List, length, Some, ◌∙◌, subst, arith, ⊎_elim, pos, ◌-ℤ◌}
 use Rattle.std.specs.List.{slice_get}
 use Rattle.std.proofs.lemmas.Option.{slice_get_within}
 use Rattle.std.proofs.lemmas.Bool.{cases_lt}
@@ -19,10 +19,6 @@ pub record Progress {L : Type 0} (kinds : Kinds L) (first now : List ℕ) (uses 
 -- the element at one place
 same_item : {X : Type 0} (xs : List X) (i j : ℕ) {x y : X} → j ≡ i → slice_get xs i ≡ Some x → slice_get xs j ≡ Some y → x ≡ y
 same_item xs i j e h k = cc
-
--- the start
-pub progress_none : {L : Type 0} (kinds : Kinds L) (first : List ℕ) (uses : List (Patch L)) → Progress kinds first first uses 0
-progress_none kinds first uses = record { done = λ j u h k. absurd (omega arith); kept = λ j u h k. absurd (omega arith); left = λ j u h k. refl; others = λ p m h. refl }
 
 module _ {L : Type 0} {kinds : Kinds L} {first now : List ℕ} {uses : List (Patch L)} {i : ℕ} where
   -- the next window can still be patched
@@ -72,7 +68,3 @@ module _ {L : Type 0} {kinds : Kinds L} {first now : List ℕ} {uses : List (Pat
 
   pub progress_kept : (p : Progress kinds first now uses i) → length uses ≤ i → AllKept kinds first now uses
   progress_kept p h j u k = p.kept j u (let within = slice_get_within uses j u k in omega arith) k
-
--- the number of patches, written otherwise
-pub progress_at : {L : Type 0} {kinds : Kinds L} {first now : List ℕ} {uses : List (Patch L)} {i : ℕ} (j : ℕ) → j ≡ i → Progress kinds first now uses i → Progress kinds first now uses j
-progress_at {L} {kinds} {first} {now} {uses} j e p = subst (Progress kinds first now uses) (sym e) p

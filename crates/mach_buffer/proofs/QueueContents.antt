@@ -1,8 +1,8 @@
 -- The queues of pending uses, as uses and labels come.
-use Rattle.std.proofs.Common.{◌≡◌, ℕ, suc, ◌+◌, ◌-◌, ◌*◌, ◌<◌, ◌≤◌, Bool, true, false, not, ◌&&◌, cond, List, [], ◌∷◌, ◌++◌, length, map, Option, Some, None, refl, ap, sym, ◌∙◌, subst, arith, ◌⊎◌, inl, inr}
-use Rattle.std.specs.Prelude.{slice_get, nat_le, filter, min, max}
-use Rattle.std.proofs.lemmas.Bool.{true≢false, and_parts, and_from, and_left, and_right, leb-true, leb-false, cases_lt}
-use Rattle.std.proofs.lemmas.Option.{same_Some}
+use Rattle.std.proofs.lemmas.Bool.Decides.{nat_tests}
+use Rattle.std.proofs.Common.{◌≡◌, ℕ, ◌+◌, ◌*◌, ◌<◌, ◌≤◌, Bool, true, false, not, ◌&&◌, cond, List, [], ◌∷◌, ◌++◌, length, map, Option, Some, None, ap, sym, ◌∙◌, subst, arith}
+use Rattle.std.specs.Prelude.{slice_get, filter}
+use Rattle.std.proofs.lemmas.Bool.{true≢false, and_parts, and_from, and_left, and_right}
 use Rattle.std.proofs.Common.{append_assoc}
 use Rattle.std.proofs.lemmas.List.{length-append, map-append}
 use Rattle.std.proofs.lemmas.List.Elements.{filter-append}
@@ -12,44 +12,22 @@ use Rattle.mach_buffer.specs.declared.pending.Pending.{Pending}
 use Rattle.mach_buffer.specs.declared.pending.Queue.{Queue}
 use Rattle.mach_buffer.specs.Reach.{deadline, is_pending, deadlines, due_by, HasSlack}
 use Rattle.mach_buffer.specs.Veneers.{numbers_of}
-use Rattle.mach_buffer.specs.Queues.{passes, test_at, where_it, use_where, deadline_in, deadline_at, is_near, on_side, is_queued, slack_after, Keeps, AreKept}
+use Rattle.mach_buffer.specs.Queues.{passes, test_at, use_where, deadline_in, deadline_at, is_near, on_side, is_queued, slack_after, Keeps, AreKept}
 use Rattle.mach_buffer.proofs.Lists.{below, append_each, append_none, length_map, slice_get-append_last}
 use Rattle.mach_buffer.proofs.Numbers.{deadlines_at, number_is, filter_numbers, filter_filter, passes_fewer, numbers_more, filter_more, no_numbers, where_some, where_none}
-use Rattle.mach_buffer.proofs.Slack.{due_append, due_fewer, due_le_length, deadlines_append, slack_same, slack_more, slack_less, none_from}
+use Rattle.mach_buffer.proofs.Slack.{due_append, due_fewer, due_le_length, deadlines_append, slack_same, none_from}
 
 -- ---- slack
 
 -- a deadline more
 pub room_after : (slack d n : ℕ) (ds : List ℕ) → length ds < n → (1 ≤ slack → HasSlack slack 0 ds) → 1 ≤ slack_after slack d n → HasSlack (slack_after slack d n) 0 (ds ++ d ∷ [])
-room_after slack d n ds few room one = on (cases_lt (min (slack - 8) (d - 8)) (min slack (d - 8 * n)))
-  where
-    counts : (end : ℕ) → due_by end (ds ++ d ∷ []) ≡ due_by end ds + cond (nat_le d end) 1 0
-    counts end = due_append end ds (d ∷ [])
-
-    less : 1 ≤ min (slack - 8) (d - 8) → HasSlack (min (slack - 8) (d - 8)) 0 (ds ++ d ∷ [])
-    less le = slack_same (min (slack - 8) (d - 8)) 0 (d ∷ ds) (ds ++ d ∷ []) (λ end. let a = counts end in let b = due_append end (d ∷ []) ds in omega arith)
-        (slack_more (min (slack - 8) (d - 8)) 0 d ds (omega arith) (slack_less slack 0 (min (slack - 8) (d - 8)) 8 ds (omega arith) (room (omega arith))))
-
-    last : 1 ≤ min slack (d - 8 * n) → HasSlack (min slack (d - 8 * n)) 0 (ds ++ d ∷ [])
-    last le = record { each = λ end due. at end (nat_le d end) refl (counts end) due }
-      where
-        at : (end : ℕ) (c : Bool) → nat_le d end ≡ c → due_by end (ds ++ d ∷ []) ≡ due_by end ds + cond c 1 0 → 1 ≤ due_by end (ds ++ d ∷ []) → min slack (d - 8 * n) + 0 + 8 * due_by end (ds ++ d ∷ []) ≤ end
-        at end true e k due = let p = leb-true _ _ e in let m = due_le_length end ds in omega arith
-        at end false e k due = let g = (room (omega arith)).each end (omega arith) in omega arith
-
-    on : (min (slack - 8) (d - 8) < min slack (d - 8 * n)) ⊎ (min slack (d - 8 * n) ≤ min (slack - 8) (d - 8)) → HasSlack (slack_after slack d n) 0 (ds ++ d ∷ [])
-    on (inr le) = let same : slack_after slack d n ≡ min (slack - 8) (d - 8) = omega arith in subst (λ (s : ℕ). HasSlack s 0 (ds ++ d ∷ [])) (sym same) (less (omega arith))
-    on (inl lt) = let same : slack_after slack d n ≡ min slack (d - 8 * n) = omega arith in subst (λ (s : ℕ). HasSlack s 0 (ds ++ d ∷ [])) (sym same) (last (omega arith))
+room_after slack d n ds few room one = record { each = λ end due. let a = due_append end ds (d ∷ []) in let b = due_le_length end ds in let r : 1 ≤ slack → 1 ≤ due_by end ds → slack + 0 + 8 * due_by end ds ≤ end = λ le. (room le).each end in grind (arith, nat_tests, r) }
 
 -- ---- one queue
 
 length_filter : (p : ℕ → Bool) (ns : List ℕ) → length (filter p ns) ≤ length ns
 length_filter p [] = omega arith
-length_filter p (n ∷ ns) = on (p n) (length_filter p ns)
-  where
-    on : (c : Bool) → length (filter p ns) ≤ length ns → length (cond c (n ∷ filter p ns) (filter p ns)) ≤ suc (length ns)
-    on true le = omega arith
-    on false le = omega arith
+length_filter p (n ∷ ns) = grind (arith, nat_tests, length_filter p ns)
 
 module _ {L : Type 0} {kinds : Kinds L} {test : Use L → Bool} {uses : List (Use L)} {numbers : List ℕ} {slack : ℕ} where
   -- its numbers are those of the deadlines
@@ -107,12 +85,6 @@ pub record Tidying {L : Type 0} (kinds : Kinds L) (test : Use L → Bool) (uses 
   pub passed : numbers ++ filter (test_at test uses) left ≡ filter (test_at test uses) all
   pub room : 1 ≤ slack → HasSlack slack 0 (map (deadline_at kinds uses) numbers)
 
-pub tidy_start : {L : Type 0} (kinds : Kinds L) (test : Use L → Bool) (uses : List (Use L)) (numbers : List ℕ) (slack : ℕ) (all : List ℕ) → numbers ≡ [] → Tidying kinds test uses numbers slack all all
-tidy_start kinds test uses numbers slack all e = record {
-  passed = ap (λ ns. ns ++ filter (test_at test uses) all) e;
-  room = λ one. subst (λ ns. HasSlack slack 0 (map (deadline_at kinds uses) ns)) (sym e) (record { each = λ end due. absurd (omega arith) });
-}
-
 module _ {L : Type 0} {kinds : Kinds L} {test : Use L → Bool} {uses : List (Use L)} {numbers : List ℕ} {slack : ℕ} {all : List ℕ} where
   pub tidy_skip : (i : ℕ) (left whole : List ℕ) → whole ≡ i ∷ left → use_where test uses i ≡ None → Tidying kinds test uses numbers slack all whole → Tidying kinds test uses numbers slack all left
   tidy_skip i left whole e none t = record {
@@ -145,9 +117,6 @@ module _ {L : Type 0} {kinds : Kinds L} {test : Use L → Bool} {uses : List (Us
       }
 
 -- ---- both queues
-
-pub queued_pending : {L : Type 0} (kinds : Kinds L) (place : ℕ → Option ℕ) (near : Bool) (u : Use L) → is_queued kinds place near u ≡ true → is_pending kinds place u ≡ true
-queued_pending kinds place near u h = (and_parts (is_pending kinds place u) (on_side near (is_near kinds u)) h).0
 
 -- nothing is pending
 pub kept_none : {L : Type 0} (kinds : Kinds L) (place : ℕ → Option ℕ) (uses : List (Use L)) (p : Pending) → p.near.numbers.items ≡ [] → p.far.numbers.items ≡ [] → ((j : ℕ) (u : Use L) → slice_get uses j ≡ Some u → is_pending kinds place u ≡ false) → AreKept kinds place uses p

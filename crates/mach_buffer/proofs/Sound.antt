@@ -1,15 +1,16 @@
 -- A sound buffer, as calls are made.
-use Rattle.std.proofs.Common.{◌≡◌, ◌≢◌, ℕ, ◌+◌, ◌%◌, ◌^◌, ◌<◌, ◌≤◌, Bool, true, false, List, [], ◌∷◌, ◌++◌, length, Option, Some, None, refl, ap, sym, ◌∙◌, subst, arith, ⊎_elim}
-use Rattle.std.specs.Prelude.{slice_get, nat_eq, if◌then◌else◌, Result, Ok, Err, is_err, OnOk}
+use Rattle.std.proofs.Common.{◌≡◌, ◌≢◌, ℕ, ◌+◌, ◌%◌, ◌≤◌, false, List, [], ◌∷◌, ◌++◌, length, Option, Some, None, refl, ap, sym, ◌∙◌, subst, arith, ⊎_elim}
+use Rattle.std.specs.Prelude.{slice_get, if◌then◌else◌, Result, Ok, Err, is_err, OnOk}
 use Rattle.std.proofs.lemmas.Bool.{cases_eq, eq-eqb, ne_eqb, true≢false}
 use Rattle.std.proofs.lemmas.Option.{same_Some}
 use Rattle.std.proofs.lemmas.List.{length-append}
 use Rattle.rv_base.specs.LabelUse.{Kinds}
 use Rattle.rv_base.specs.declared.label.MachLabel.{MachLabel}
+use Rattle.mach_labels.specs.Table.{first_inner}
 use Rattle.mach_buffer.specs.declared.uses.Use.{Use}
 use Rattle.mach_buffer.specs.declared.pending.Pending.{Pending}
 use Rattle.mach_buffer.specs.Shape.{Shape, with_bytes, with_use, with_label, with_allocated, placed, IsKnown}
-use Rattle.mach_buffer.specs.Reach.{is_pending, due_by, deadlines}
+use Rattle.mach_buffer.specs.Reach.{is_pending, due_by}
 use Rattle.mach_buffer.specs.Links.{IsLinked}
 use Rattle.mach_buffer.specs.Finish.{pending_in}
 use Rattle.mach_buffer.specs.Queues.{AreKept}
@@ -66,14 +67,14 @@ module _ {L : Type 0} {kinds : Kinds L} {s : Shape L} {p : Pending} where
   }
 
   -- what is given out next is bound nowhere, and named by no use
-  pub unbound_next : AreSound kinds s p → (label : ℕ) → label ≡ 2 ^ 30 + s.allocated → s.place label ≡ None
+  pub unbound_next : AreSound kinds s p → (label : ℕ) → label ≡ first_inner + s.allocated → s.place label ≡ None
   unbound_next h label e = on (s.place label) refl
     where
       on : (o : Option ℕ) → s.place label ≡ o → s.place label ≡ None
       on None q = q
       on (Some at) q = let k = (h.places label at q).2 in absurd (omega arith)
 
-  pub unnamed_next : AreSound kinds s p → (label : ℕ) → label ≡ 2 ^ 30 + s.allocated → (j : ℕ) (u : Use L) → slice_get s.uses j ≡ Some u → u.label.number ≢ label
+  pub unnamed_next : AreSound kinds s p → (label : ℕ) → label ≡ first_inner + s.allocated → (j : ℕ) (u : Use L) → slice_get s.uses j ≡ Some u → u.label.number ≢ label
   unnamed_next h label e j u g q = let k = h.known j u g in absurd (omega arith)
 
   -- a label is bound

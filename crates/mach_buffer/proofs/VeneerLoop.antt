@@ -1,10 +1,9 @@
 -- Veneers put one after the other: between two of them.
-use Rattle.std.proofs.Common.{◌≡◌, ℕ, ◌+◌, ◌*◌, ◌%◌, ◌<◌, true, List, [], ◌∷◌, length, Some, refl, ap, sym, ◌∙◌, subst, arith}
+use Rattle.std.proofs.Common.{◌≡◌, ℕ, ◌+◌, ◌*◌, ◌%◌, ◌<◌, true, List, ◌∷◌, length, Some, ap, sym, ◌∙◌, subst, arith}
 use Rattle.std.specs.Prelude.{slice_get}
 use Rattle.std.specs.Option.{IsSomeAnd}
 use Rattle.std.proofs.lemmas.List.{length-append}
-use Rattle.rv_base.specs.LabelUse.{Kinds}
-use Rattle.mach_buffer.specs.declared.uses.Use.{Use}
+use Rattle.rv_base.specs.LabelUse.{code_limit, Kinds}
 use Rattle.mach_buffer.specs.Shape.{Shape, veneer_use}
 use Rattle.mach_buffer.specs.Veneers.{put_at, put_veneer, put_all}
 use Rattle.mach_buffer.specs.VeneerConditions.{CanPutAt, CanPut}
@@ -17,14 +16,14 @@ pub record Going {L : Type 0} (kinds : Kinds L) (rest order : List ℕ) (first n
   pub whole : put_all kinds rest now ≡ put_all kinds order first
   pub even : length now.bytes % 2 ≡ 0
   pub can : CanPut kinds now.uses (length now.bytes) rest
-  pub room : length now.bytes + 8 * length rest < 2147479552
+  pub room : length now.bytes + 8 * length rest < code_limit
 
 module _ {L : Type 0} {kinds : Kinds L} {i : ℕ} {all rest order : List ℕ} {first now : Shape L} where
   -- what the next veneer asks
   pub going_may : Going kinds all order first now → all ≡ i ∷ rest → IsSomeAnd (slice_get now.uses i) (λ u. kinds.has_veneer u.kind ≡ true)
   going_may w e = let c = (subst (CanPut kinds now.uses (length now.bytes)) e w.can).0 in some_and (slice_get now.uses i) (λ u. kinds.has_veneer u.kind ≡ true) c.user c.there c.supported
 
-  pub going_room : Going kinds all order first now → all ≡ i ∷ rest → length now.bytes + 8 < 2147479552
+  pub going_room : Going kinds all order first now → all ≡ i ∷ rest → length now.bytes + 8 < code_limit
   going_room w e = let r = w.room in let l : length all ≡ length (i ∷ rest) = ap (length {A = ℕ}) e in omega arith
 
   -- it is put

@@ -1,22 +1,22 @@
 -- Veneers put one after the other: what stands after them.
-use Rattle.std.proofs.Common.{◌≡◌, ◌≢◌, ℕ, zero, suc, ◌+◌, ◌*◌, ◌%◌, ◌<◌, ◌≤◌, ◌⊎◌, inl, inr, ⊎_elim, Bool, true, false, List, [], ◌∷◌, ◌++◌, length, take, drop, map, set, Option, Some, None, refl, ap, sym, ◌∙◌, subst, arith, append_assoc}
-use Rattle.std.specs.Prelude.{slice_get, nat_le}
-use Rattle.std.proofs.lemmas.Bool.{true≢false, cases_eq, le-leb, and_from}
+use Rattle.std.proofs.Common.{◌≡◌, ◌≢◌, ℕ, zero, suc, ◌+◌, ◌*◌, ◌%◌, ◌≤◌, ◌⊎◌, inl, inr, ⊎_elim, true, List, [], ◌∷◌, ◌++◌, length, set, Some, None, refl, ap, sym, ◌∙◌, subst, arith, append_assoc}
+use Rattle.std.specs.Prelude.{slice_get}
+use Rattle.std.proofs.lemmas.Bool.{true≢false, le-leb, and_from}
 use Rattle.std.proofs.lemmas.Option.{same_Some}
-use Rattle.std.proofs.lemmas.List.{length-append, take-take, take_all, map-append}
+use Rattle.std.proofs.lemmas.List.{length-append, map-append}
+use Rattle.rv_base.specs.declared.label.MachLabel.{MachLabel}
 use Rattle.rv_base.specs.LabelUse.{Kinds, IsVeneer}
 use Rattle.mach_buffer.specs.declared.uses.Use.{Use}
 use Rattle.mach_buffer.specs.Shape.{Shape, veneer_use, core, recorded}
 use Rattle.mach_buffer.specs.Windows.{AreWindows}
-use Rattle.mach_buffer.specs.Reach.{deadline}
 use Rattle.mach_buffer.specs.Links.{IsLinked}
 use Rattle.mach_buffer.specs.Veneers.{put_at, put_veneer, put_all}
-use Rattle.mach_buffer.specs.Islands.{IsOwn, is_far}
-use Rattle.mach_buffer.specs.VeneerConditions.{CanPutAt, IsNone, CanPut, AddsOwn}
+use Rattle.mach_buffer.specs.Islands.{IsOwn}
+use Rattle.mach_buffer.specs.VeneerConditions.{IsNone, CanPut, AddsOwn}
 use Rattle.mach_buffer.proofs.Apart.{windows_veneer, changed}
 use Rattle.mach_buffer.proofs.Links.{HasLaw, linked_veneer}
-use Rattle.mach_buffer.proofs.Lists.{append_none, locate, none_some, slice_get-append, slice_get-set_other, take_front}
-use Rattle.mach_buffer.proofs.Links.{recorded_set}
+use Rattle.mach_buffer.proofs.Lists.{append_none, comes_from, length_map, locate, none_some, one_there, slice_get-append, slice_get-set_other}
+use Rattle.mach_buffer.proofs.Links.{recorded_get, recorded_set}
 
 -- ---- uses alike
 
@@ -27,26 +27,10 @@ pub record Was {L : Type 0} (uses : List (Use L)) (j : ℕ) (u : Use L) : Type 0
   pub alike : core was ≡ core u
 
 pub recorded_at : {L : Type 0} (new_uses uses : List (Use L)) (more : List (Use L)) → recorded new_uses ≡ recorded uses ++ more → (j : ℕ) (u : Use L) → slice_get new_uses j ≡ Some u → Was uses j u ⊎ ((k : ℕ) × (j ≡ length uses + k) × (slice_get more k ≡ Some (core u)))
-recorded_at [] uses more e j u h = absurd (cc)
-recorded_at {L} (w ∷ new_uses) [] more e j u h = inr (j, omega arith, sym (ap (λ us. slice_get us j) e) ∙ get (w ∷ new_uses) j u h)
-  where
-    get : (us : List (Use L)) (k : ℕ) (x : Use L) → slice_get us k ≡ Some x → slice_get (recorded us) k ≡ Some (core x)
-    get [] k x q = absurd (cc)
-    get (y ∷ us) zero x q = ap (λ z. Some (core z)) (same_Some _ _ q)
-    get (y ∷ us) (suc k) x q = get us k x q
-recorded_at {L} (w ∷ new_uses) (x ∷ uses) more e zero u h = inl (record { was = x; there = refl; alike = sym (ap (head_or (core w)) e) ∙ ap core (same_Some _ _ h) })
-  where
-    head_or : Use L → List (Use L) → Use L
-    head_or d [] = d
-    head_or d (y ∷ ys) = y
-recorded_at {L} (w ∷ new_uses) (x ∷ uses) more e (suc j) u h = ⊎_elim (λ q. inl (on q)) (λ q. inr (q.0, (let a = q.1 in omega arith), q.2)) (recorded_at new_uses uses more (ap tail_of e) j u h)
-  where
-    tail_of : List (Use L) → List (Use L)
-    tail_of [] = []
-    tail_of (y ∷ ys) = ys
-
-    on : Was uses j u → Was (x ∷ uses) (suc j) u
-    on q = record { was = q.was; there = q.there; alike = q.alike }
+recorded_at new_uses uses more e j u h = ⊎_elim
+    (λ a. let c = comes_from core uses j (core u) a in inl (record { was = c.from; there = c.there; alike = c.is }))
+    (λ a. inr (a.index, a.is ∙ ap (λ (n : ℕ). n + a.index) (length_map core uses), a.there))
+    (locate (recorded uses) more j (core u) (ap (λ us. slice_get us j) (sym e) ∙ recorded_get new_uses j u h))
 
 -- ---- one veneer
 
@@ -74,29 +58,21 @@ pub record AllPut {L : Type 0} (kinds : Kinds L) (order : List ℕ) (s t : Shape
   pub linked : IsLinked kinds t.bytes t.uses
   pub even : length t.bytes % 2 ≡ 0
   pub long : length t.bytes ≡ length s.bytes + 8 * length order
-  pub before : take (length s.bytes) t.bytes ≡ s.bytes
   pub grown : AddsOwn kinds (length s.bytes) s.uses t.uses
   pub kept : (j : ℕ) (u : Use L) → slice_get t.uses j ≡ Some u → u.veneer ≡ None → kinds.has_veneer u.kind ≡ true → (slice_get s.uses j ≡ Some u) × (IsOneOf j order → ⊥)
   pub windows : AreWindows kinds s.bytes s.uses → AreWindows kinds t.bytes t.uses
-  pub place : t.place ≡ s.place
-  pub labels : t.labels ≡ s.labels
-  pub allocated : t.allocated ≡ s.allocated
 
 own_of : {L : Type 0} {kinds : Kinds L} {uses new_uses : List (Use L)} {from next : ℕ} → from ≤ next → ((j : ℕ) (u : Use L) → slice_get new_uses j ≡ Some u → ((w : Use L) × (k : ℕ) × (slice_get uses k ≡ Some w) × (w.label ≡ u.label))) → (own : Use L) → IsOwn kinds new_uses next own → IsOwn kinds uses from own
-own_of le users own o = let w = users o.user o.used o.there in record { behind = (let b = o.behind in omega arith); bare = o.bare; final = o.final; far = o.far; user = w.1; used = w.0; there = w.2; names = w.3 ∙ o.names }
+own_of le users own o = let w = users o.user o.used o.there in record { after = (let b = o.after in omega arith); bare = o.bare; final = o.final; far = o.far; user = w.1; used = w.0; there = w.2; names = w.3 ∙ o.names }
 
 all_put_none : {L : Type 0} {kinds : Kinds L} (s : Shape L) → IsLinked kinds s.bytes s.uses → length s.bytes % 2 ≡ 0 → AllPut kinds [] s s
 all_put_none s linked even = record {
   linked = linked;
   even = even;
   long = omega arith;
-  before = take_all (length s.bytes) s.bytes (omega arith);
   grown = record { more = []; grown = sym (append_none (recorded s.uses)); own = λ k u h. absurd (cc) };
   kept = λ j u h bare has. (h, λ o. nothing o);
   windows = λ w. w;
-  place = refl;
-  labels = refl;
-  allocated = refl;
 }
   where
     nothing : {j : ℕ} → IsOneOf j [] → ⊥
@@ -107,7 +83,6 @@ all_put_next {L} {kinds} law i order s t u there supported linked even rest = re
   linked = rest.linked;
   even = rest.even;
   long = let l = rest.long in omega (arith, long);
-  before = sym (take-take (length s.bytes) (length m.bytes) t.bytes (omega (arith, long))) ∙ ap (take (length s.bytes)) rest.before ∙ take_front s.bytes (kinds.veneer u.kind).bytes;
   grown = record {
     more = own ∷ rest.grown.more;
     grown = rest.grown.grown ∙ ap (λ us. us ++ rest.grown.more) recorded_mid ∙ append_assoc (recorded s.uses) (own ∷ []) rest.grown.more;
@@ -115,9 +90,6 @@ all_put_next {L} {kinds} law i order s t u there supported linked even rest = re
   };
   kept = λ j x h bare has. kept j x has bare (rest.kept j x h bare has);
   windows = λ w. rest.windows (windows_veneer law linked i u there supported even w);
-  place = rest.place;
-  labels = rest.labels;
-  allocated = rest.allocated;
 }
   where
     ok : IsVeneer kinds (kinds.veneer u.kind)
@@ -139,18 +111,14 @@ all_put_next {L} {kinds} law i order s t u there supported linked even rest = re
     recorded_mid = map-append core (set s.uses i v) (own ∷ []) ∙ ap (λ us. us ++ own ∷ []) (recorded_set s.uses i u v there refl)
 
     own_first : IsOwn kinds s.uses (length s.bytes) own
-    own_first = record { behind = omega arith; bare = refl; final = ok.final; far = and_from _ _ (le-leb _ _ ok.far_forward) (le-leb _ _ ok.far_backward); user = i; used = u; there = there; names = refl }
+    own_first = record { after = omega arith; bare = refl; final = ok.final; far = and_from _ _ (le-leb _ _ ok.far_forward) (le-leb _ _ ok.far_backward); user = i; used = u; there = there; names = refl }
 
     -- each use names the label of one that was there
     users : (j : ℕ) (x : Use L) → slice_get m.uses j ≡ Some x → ((w : Use L) × (k : ℕ) × (slice_get s.uses k ≡ Some w) × (w.label ≡ x.label))
     users j x h = ⊎_elim
         (λ a. ⊎_elim (λ c. (x, j, c.1, refl)) (λ c. (u, i, there, ap (λ (y : Use L). y.label) c.1)) (changed s.uses i u v there j x a))
-        (λ a. (u, i, there, last a.index a.there))
+        (λ a. (u, i, there, ap (λ (y : Use L). y.label) (one_there own a.index x a.there).1))
         (locate (set s.uses i v) (own ∷ []) j x h)
-      where
-        last : (n : ℕ) → slice_get (own ∷ []) n ≡ Some x → u.label ≡ x.label
-        last zero e = ap (λ (y : Use L). y.label) (same_Some _ _ e)
-        last (suc n) e = absurd (cc)
 
     owns : (k : ℕ) (x : Use L) → slice_get (own ∷ rest.grown.more) k ≡ Some x → IsOwn kinds s.uses (length s.bytes) x
     owns zero x h = subst (IsOwn kinds s.uses (length s.bytes)) (same_Some _ _ h) own_first
@@ -163,12 +131,8 @@ all_put_next {L} {kinds} law i order s t u there supported linked even rest = re
     kept : (j : ℕ) (x : Use L) → kinds.has_veneer x.kind ≡ true → x.veneer ≡ None → (slice_get m.uses j ≡ Some x) × (IsOneOf j order → ⊥) → (slice_get s.uses j ≡ Some x) × (IsOneOf j (i ∷ order) → ⊥)
     kept j x has bare k = ⊎_elim
         (λ a. ⊎_elim (λ c. (c.1, neither j c.0 k.1)) (λ c. absurd (none_some x.veneer (length s.bytes) bare (ap (λ (y : Use L). y.veneer) (sym c.1)))) (changed s.uses i u v there j x a))
-        (λ a. absurd (last a.index a.there))
+        (λ a. absurd (true≢false (sym has ∙ ap (λ (y : Use L). kinds.has_veneer y.kind) (sym (one_there own a.index x a.there).1) ∙ ok.final)))
         (locate (set s.uses i v) (own ∷ []) j x k.0)
-      where
-        last : (n : ℕ) → slice_get (own ∷ []) n ≡ Some x → ⊥
-        last zero e = true≢false (sym has ∙ ap (λ (y : Use L). kinds.has_veneer y.kind) (sym (same_Some _ _ e)) ∙ ok.final)
-        last (suc n) e = absurd (cc)
 
 pub all_put : {L : Type 0} {kinds : Kinds L} → HasLaw kinds → (order : List ℕ) (s : Shape L) → IsLinked kinds s.bytes s.uses → length s.bytes % 2 ≡ 0 → CanPut kinds s.uses (length s.bytes) order → AllPut kinds order s (put_all kinds order s)
 all_put law [] s linked even can = all_put_none s linked even
@@ -179,3 +143,10 @@ all_put {L} {kinds} law (i ∷ order) s linked even can =
     let still = can_still kinds s.uses i (record c.user { veneer = Some (length s.bytes) }) (veneer_use (kinds.veneer c.user.kind) (length s.bytes) c.user.label) (length s.bytes + 8) order can.1 can.2 in
     let rest = all_put law order m (linked_veneer law linked i c.user c.there c.near c.supported even) (omega (arith, long, even)) (subst (λ (n : ℕ). CanPut kinds m.uses n order) (sym long) still) in
     subst (λ (x : Shape L). AllPut kinds (i ∷ order) s (put_all kinds order x)) (sym (put_is kinds i s c.user c.there)) (all_put_next law i order s (put_all kinds order m) c.user c.there c.supported linked even rest)
+
+-- what is said of each label that was used is said of each that is
+pub own_labels : {L : Type 0} {kinds : Kinds L} {from : ℕ} {uses new_uses : List (Use L)} → AddsOwn kinds from uses new_uses → (P : MachLabel → Type 0) → ((j : ℕ) (u : Use L) → slice_get uses j ≡ Some u → P u.label) → (j : ℕ) (u : Use L) → slice_get new_uses j ≡ Some u → P u.label
+own_labels {L} {kinds} {from} {uses} {new_uses} a P each j u h = ⊎_elim
+    (λ w. subst (λ (x : Use L). P x.label) w.alike (each j w.was w.there))
+    (λ r. let x = a.own r.0 (core u) r.2 in subst P x.names (each x.user x.used x.there))
+    (recorded_at new_uses uses a.more a.grown j u h)

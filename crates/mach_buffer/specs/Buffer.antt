@@ -3,6 +3,7 @@ use Rattle.std.specs.Prelude.{◌≡◌, ℕ, ◌%◌, ◌≤◌, List, length, 
 use Rattle.rv_base.specs.LabelUse.{Kinds}
 use Rattle.mach_buffer.specs.declared.uses.Use.{Use}
 use Rattle.mach_buffer.specs.declared.uses.LabelPlace.{LabelPlace}
+use Rattle.mach_buffer.specs.declared.records.MachTrap.{MachTrap}
 use Rattle.mach_buffer.specs.declared.pending.Pending.{Pending}
 use Rattle.mach_buffer.specs.declared.buffer.MachBuffer.{MachBuffer}
 use Rattle.mach_buffer.specs.Shape.{Shape, IsKnown}
@@ -12,7 +13,7 @@ use Rattle.mach_buffer.specs.Queues.{AreKept}
 use Rattle.mach_buffer.specs.Places.{place_in}
 
 abbrev pub shape_of : {L : Type 0} → MachBuffer L → Shape L
-shape_of b = record { bytes = b.code.bytes.items; uses = b.code.uses.items; place = place_in b.labels; labels = b.labels.bound.items; allocated = b.labels.allocated }
+shape_of b = record { bytes = b.code.bytes.items; uses = b.code.uses.items; place = place_in b.labels; labels = b.labels.bound.items; allocated = b.labels.allocated; traps = b.traps.items }
 
 -- the bytes so far
 abbrev pub bytes_of : {L : Type 0} → MachBuffer L → List ℕ
@@ -33,6 +34,10 @@ labels_of b = (shape_of b).labels
 -- how many inner labels were allocated
 abbrev pub allocated_of : {L : Type 0} → MachBuffer L → ℕ
 allocated_of b = (shape_of b).allocated
+
+-- the traps, in the order in which they were recorded
+abbrev pub traps_of : {L : Type 0} → MachBuffer L → List MachTrap
+traps_of b = (shape_of b).traps
 
 -- the deadlines of the pending uses
 abbrev pub pending_of : {L : Type 0} → Kinds L → MachBuffer L → List ℕ

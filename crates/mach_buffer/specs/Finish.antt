@@ -1,6 +1,6 @@
 -- The end: the last veneers, and the patches.
-use Rattle.std.specs.Prelude.{◌≡◌, ℕ, zero, suc, ◌+◌, ◌*◌, ◌%◌, ◌<◌, ◌≤◌, Bool, true, false, cond, nat_eq, List, ◌++◌, length, take, drop, Option, Some, None, is_some, ◌-◌, slice_get, ℤ, pos, ◌-ℤ◌}
-use Rattle.rv_base.specs.LabelUse.{Kinds, Veneer, SameOutside}
+use Rattle.std.specs.Prelude.{◌≡◌, ℕ, zero, suc, ◌+◌, ◌*◌, ◌%◌, ◌<◌, ◌≤◌, true, false, cond, nat_eq, List, ◌++◌, length, take, drop, Option, Some, None, is_some, ◌-◌, slice_get, pos, ◌-ℤ◌}
+use Rattle.rv_base.specs.LabelUse.{code_limit, Kinds, Veneer, SameOutside}
 use Rattle.mach_buffer.specs.declared.uses.Use.{Use}
 use Rattle.mach_buffer.specs.Shape.{Shape}
 use Rattle.mach_buffer.specs.Windows.{window, AreWindows, AllKept, KeepsOthers, patches_of}
@@ -50,7 +50,7 @@ pub record CanFinish {L : Type 0} (kinds : Kinds L) (s : Shape L) : Type 0 where
   pub bound : (j : ℕ) (u : Use L) → slice_get s.uses j ≡ Some u → is_some (s.place u.label.number) ≡ true
   pub direct : (j : ℕ) (u : Use L) → slice_get s.uses j ≡ Some u → kinds.has_veneer u.kind ≡ false → is_far kinds u ≡ false → is_reached kinds (s.place u.label.number) u ≡ true
   pub reach : VeneersReach (length (before_last s.bytes (length (pending_in kinds s)))) (pending_in kinds s)
-  pub short : length (before_last s.bytes (length (pending_in kinds s))) + 8 * length (pending_in kinds s) < 2147479552
+  pub short : length (before_last s.bytes (length (pending_in kinds s))) + 8 * length (pending_in kinds s) < code_limit
 
 -- what it brings: a veneer for each pending use, in order, after zero bytes to a multiple of four where there is one; and
 -- then each window is patched, and all other bytes stay

@@ -1,7 +1,10 @@
--- How a buffer grows.
-use Rattle.std.specs.Prelude.{◌≡◌, ℕ, ◌≤◌, List, ◌++◌, length, take, Option, Some, slice_get}
+-- How a buffer grows, and what lasts in it.
+use Rattle.std.specs.Prelude.{◌≡◌, ℕ, ◌≤◌, true, List, ◌++◌, length, take, Option, Some, None, slice_get}
+use Rattle.rv_base.specs.LabelUse.{Kinds}
 use Rattle.mach_buffer.specs.declared.uses.Use.{Use}
-use Rattle.mach_buffer.specs.Shape.{recorded}
+use Rattle.mach_buffer.specs.declared.records.MachTrap.{MachTrap}
+use Rattle.mach_buffer.specs.Shape.{Shape, recorded}
+use Rattle.mach_buffer.specs.Reach.{is_reached}
 
 -- what a buffer has stays as it grows, and what is added stands after it
 pub record Grows {L : Type 0} (bytes : List ℕ) (uses : List (Use L)) (place : ℕ → Option ℕ) (new_bytes : List ℕ) (new_uses : List (Use L)) (new_place : ℕ → Option ℕ) : Type 0 where
@@ -9,5 +12,13 @@ pub record Grows {L : Type 0} (bytes : List ℕ) (uses : List (Use L)) (place : 
   pub longer : length bytes ≤ length new_bytes
   pub more : List (Use L)
   pub grown : recorded new_uses ≡ recorded uses ++ more
-  pub behind : (k : ℕ) (u : Use L) → slice_get more k ≡ Some u → length bytes ≤ u.offset
+  pub after : (k : ℕ) (u : Use L) → slice_get more k ≡ Some u → length bytes ≤ u.offset
   pub places : (label to : ℕ) → place label ≡ Some to → new_place label ≡ Some to
+
+-- what a buffer has lasts: it only grows; a use without a veneer whose label is bound within its reach stays without one; and
+-- an inner label that was allocated, and a trap that was recorded, stay so
+pub record Lasts {L : Type 0} (kinds : Kinds L) (s t : Shape L) : Type 0 where
+  pub grows : Grows s.bytes s.uses s.place t.bytes t.uses t.place
+  pub straight : (j : ℕ) (u : Use L) → slice_get s.uses j ≡ Some u → u.veneer ≡ None → is_reached kinds (s.place u.label.number) u ≡ true → slice_get t.uses j ≡ Some u
+  pub allocated : s.allocated ≤ t.allocated
+  pub traps : (k : ℕ) (r : MachTrap) → slice_get s.traps k ≡ Some r → slice_get t.traps k ≡ Some r

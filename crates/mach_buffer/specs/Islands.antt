@@ -1,7 +1,8 @@
 -- Islands: what one asks, and what it brings.
-use Rattle.std.specs.Prelude.{◌≡◌, ◌≢◌, ℕ, zero, suc, ◌+◌, ◌-◌, ◌*◌, ◌/◌, ◌^◌, ◌<◌, ◌≤◌, Bool, true, false, cond, nat_le, nat_lt, ◌&&◌, List, [], ◌∷◌, ◌++◌, length, Some, None, slice_get}
+use Rattle.std.specs.Prelude.{◌≡◌, ◌≢◌, ℕ, zero, suc, ◌+◌, ◌-◌, ◌*◌, ◌/◌, ◌<◌, ◌≤◌, Bool, true, false, cond, nat_le, nat_lt, ◌&&◌, List, [], ◌∷◌, ◌++◌, length, Some, None, slice_get}
 use Rattle.rv_base.specs.declared.label.MachLabel.{MachLabel}
-use Rattle.rv_base.specs.LabelUse.{Kinds}
+use Rattle.rv_base.specs.LabelUse.{code_limit, Kinds}
+use Rattle.mach_labels.specs.Table.{first_inner}
 use Rattle.mach_buffer.specs.declared.uses.Use.{Use}
 use Rattle.mach_buffer.specs.Shape.{Shape, with_bytes, with_label, IsKnown}
 use Rattle.mach_buffer.specs.Reach.{deadline, is_pending, is_other, deadlines, CanReach}
@@ -63,22 +64,22 @@ others_of kinds s after_island = deadlines (is_other kinds s.place (Some after_i
 
 -- what an island asks: its jump's four bytes stand last, Reach held before them, and there is room
 pub record CanIsland {L : Type 0} (kinds : Kinds L) (s : Shape L) (after_island : MachLabel) : Type 0 where
-  pub inner : 2 ^ 30 ≤ after_island.number
+  pub inner : first_inner ≤ after_island.number
   pub known : IsKnown after_island.number s.allocated
   pub unbound : s.place after_island.number ≡ None
   pub four : 4 ≤ length s.bytes
   pub jump : IsJumpOver kinds s.bytes s.uses after_island.number
   pub reach : CanReach (length s.bytes - 4) (others_of kinds s after_island)
-  pub room : island_end (aligned (length s.bytes)) (length (others_of kinds s after_island)) (deadline kinds jump.jump) < 2147479552
+  pub room : island_end (aligned (length s.bytes)) (length (others_of kinds s after_island)) (deadline kinds jump.jump) < code_limit
 
 -- a kind of use that reaches all code
 abbrev pub is_far : {L : Type 0} → Kinds L → Use L → Bool
-is_far kinds u = nat_le 2147479551 (kinds.forward u.kind) && nat_le 2147479551 (kinds.backward u.kind)
+is_far kinds u = nat_le (code_limit - 1) (kinds.forward u.kind) && nat_le (code_limit - 1) (kinds.backward u.kind)
 
 -- the own use of a veneer that was put at or after an offset: it needs none itself, reaches all code, and names the label of
 -- a use that was there
 pub record IsOwn {L : Type 0} (kinds : Kinds L) (uses : List (Use L)) (from : ℕ) (own : Use L) : Type 0 where
-  pub behind : from ≤ own.offset
+  pub after : from ≤ own.offset
   pub bare : own.veneer ≡ None
   pub final : kinds.has_veneer own.kind ≡ false
   pub far : is_far kinds own ≡ true

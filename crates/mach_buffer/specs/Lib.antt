@@ -6,6 +6,7 @@ pub mod Veneers
 pub mod Islands
 pub mod Growth
 pub mod Finish
+pub mod Pieces
 pub mod Sequences
 pub mod Queues
 pub mod Places

@@ -13,7 +13,7 @@ pub record HasVeneer {L : Type 0} (kinds : Kinds L) (bytes : List ℕ) (uses : L
   pub index : ℕ
   pub own : slice_get uses index ≡ Some (veneer_use (kinds.veneer u.kind) at u.label)
   pub near : at ≤ deadline kinds u
-  pub behind : u.offset ≤ at
+  pub after : u.offset ≤ at
   pub supported : kinds.has_veneer u.kind ≡ true
   pub even : at % 2 ≡ 0
 

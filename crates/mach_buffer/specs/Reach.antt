@@ -26,10 +26,6 @@ names (Some label) u = nat_eq u.label.number label.number
 abbrev pub is_other : {L : Type 0} → Kinds L → (ℕ → Option ℕ) → Option MachLabel → Use L → Bool
 is_other kinds place after_island u = is_pending kinds place u && not (names after_island u)
 
--- whether the veneer of one use is put before that of another: by deadline, then by place
-abbrev pub is_sooner : {L : Type 0} → Kinds L → Use L → Use L → Bool
-is_sooner kinds u v = nat_lt (deadline kinds u) (deadline kinds v) || (nat_eq (deadline kinds u) (deadline kinds v) && nat_lt u.offset v.offset)
-
 -- the deadlines of those uses for which a test holds
 abbrev pub deadlines : {L : Type 0} → (Use L → Bool) → Kinds L → List (Use L) → List ℕ
 deadlines test kinds [] = []
@@ -45,10 +41,18 @@ abbrev pub AllOf : (ℕ → Type 0) → List ℕ → Type 0
 AllOf P [] = Unit {0}
 AllOf P (d ∷ ds) = P d × AllOf P ds
 
--- Reach. For each pending use, 14 bytes and the veneers of all that are due with it end by its deadline. The 14 bytes are
--- an island's jump, two bytes of padding and the jump's own veneer.
+-- what stands in an island before the veneers of pending uses: its jump, at most two bytes of padding, and the jump's own
+-- veneer
+abbrev pub island_front : ℕ
+island_front = 14
+
+-- what is kept free for an island: its front, and the veneers of two uses more
+abbrev pub island_margin : ℕ
+island_margin = island_front + 8 * 2
+
+-- Reach. For each pending use, an island's front and the veneers of all that are due with it end by its deadline.
 abbrev pub CanReach : ℕ → List ℕ → Type 0
-CanReach cur ds = AllOf (λ d. cur + 14 + 8 * due_by d ds ≤ d) ds
+CanReach cur ds = AllOf (λ d. cur + island_front + 8 * due_by d ds ≤ d) ds
 
 -- each pending use reaches its veneer, where the veneers of all that are due are put from here on
 abbrev pub VeneersReach : ℕ → List ℕ → Type 0
@@ -65,7 +69,7 @@ pub record HasSlack (cur slack : ℕ) (ds : List ℕ) : Type 0 where
 -- whether some deadline might be missed after so many bytes, two more uses and an island's jump
 abbrev pub is_needed_from : ℕ → List ℕ → List ℕ → Bool
 is_needed_from cur all [] = false
-is_needed_from cur all (d ∷ ds) = nat_lt d (cur + 14 + 8 * (due_by d all + 2)) || is_needed_from cur all ds
+is_needed_from cur all (d ∷ ds) = nat_lt d (cur + island_front + 8 * (due_by d all + 2)) || is_needed_from cur all ds
 
 abbrev pub is_needed : ℕ → ℕ → List ℕ → Bool
 is_needed cur distance ds = is_needed_from (cur + distance) ds ds

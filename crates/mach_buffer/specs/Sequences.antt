@@ -15,7 +15,7 @@ pub record CodeStands {L : Type 0} (kinds : Kinds L) (bytes : List ℕ) (uses : 
   pub low : first ≤ length (recorded uses)
   pub own_uses : (k : ℕ) (u : Use L) → slice_get own k ≡ Some u → slice_get (recorded uses) (first + k) ≡ Some (core u)
   pub before : (j : ℕ) (u : Use L) → slice_get (recorded uses) j ≡ Some u → j < first → u.offset + length (kinds.fields u.kind) ≤ start
-  pub behind : (j : ℕ) (u : Use L) → slice_get (recorded uses) j ≡ Some u → first + length own ≤ j → start + length block ≤ u.offset
+  pub after : (j : ℕ) (u : Use L) → slice_get (recorded uses) j ≡ Some u → first + length own ≤ j → start + length block ≤ u.offset
 
 -- the windows of these uses stand in a sequence
 abbrev pub AllInside : {L : Type 0} → Kinds L → ℕ → ℕ → List (Use L) → Type 0

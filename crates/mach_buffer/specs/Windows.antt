@@ -1,5 +1,5 @@
 -- Windows of code, where those of uses stand, and what it means to patch them.
-use Rattle.std.specs.Prelude.{map, Option, None, unwrap_or, ◌≡◌, ◌≢◌, ℕ, ◌+◌, ◌%◌, ◌≤◌, List, length, take, drop, ℤ, pos, ◌-ℤ◌, ◌⊎◌, Some, slice_get}
+use Rattle.std.specs.Prelude.{map, Option, None, unwrap_or, ◌≡◌, ◌≢◌, ℕ, ◌+◌, ◌%◌, ◌≤◌, List, length, take, drop, pos, ◌-ℤ◌, ◌⊎◌, Some, slice_get}
 use Rattle.rv_base.specs.LabelUse.{IsFresh, SameOutside}
 use Rattle.rv_base.specs.LabelUse.{Kinds}
 use Rattle.mach_buffer.specs.declared.patches.Patch.{Patch}

@@ -1,16 +1,19 @@
 //! The buffer: bytes, uses of labels, and the places of labels.
 
 use crate::code::Code;
-pub use crate::labels::FIRST_INNER;
-use crate::labels::Labels;
+use crate::labels::{INNER_COUNT, Labels};
 use crate::pending::Pending;
+use crate::reach::ISLAND_MARGIN;
+use crate::records::MachTrap;
 use crate::uses::Use;
-use rv_base::{Constant, MachInstLabelUse, MachLabel, OutOfMemory};
+use rv_base::{Constant, MachInstLabelUse, MachLabel, OutOfMemory, TrapCode};
 use std::alloc::Global;
 
-/// How many bytes past the end, and a use more, are counted for when queues are tidied: an instruction's island is asked for
-/// 88 bytes ahead, and 30 bytes are for its jump, padding, the jump's own veneer and two uses.
-const AHEAD: u64 = 118;
+/// Code is shorter than this many bytes.
+const CODE_LIMIT: u128 = 2147479552;
+
+/// How many bytes past the end are counted for when queues are tidied: an instruction's island is asked for 88 bytes ahead.
+const AHEAD: u64 = 88 + ISLAND_MARGIN;
 
 /// A buffer of code whose uses of labels are of the kinds `L`. Offsets are in bytes from the code's start.
 ///
@@ -22,16 +25,19 @@ pub struct MachBuffer<L> {
     pub(crate) code: Code<L>,
     pub(crate) labels: Labels,
     pub(crate) pending: Pending,
+    pub(crate) traps: Vec<MachTrap>,
     pub(crate) spoiled: bool,
 }
 
 impl<L: MachInstLabelUse> MachBuffer<L> {
-    ghost use Rattle.std.specs.Prelude.{◌≡◌, ◌≢◌, ℕ, ◌+◌, ◌*◌, ◌%◌, ◌^◌, ◌<◌, ◌≤◌, ◌++◌, ◌∷◌, [], length, slice_get, OnOk, OnErr, IfOk, None, Some, true, false, ◌&&◌, nat_lt};
+    ghost use Rattle.std.specs.Prelude.{◌≡◌, ◌≢◌, ℕ, ◌+◌, ◌*◌, ◌/◌, ◌%◌, ◌<◌, ◌≤◌, ◌++◌, ◌∷◌, [], length, slice_get, OnOk, OnErr, IfOk, None, Some, true, false, ◌&&◌, nat_lt};
     ghost use Rattle.std.specs.Int.{to_le_bytes};
     ghost use mir.Syntax.{w16, w32, w64};
-    ghost use Rattle.mach_buffer.specs.Shape.{with_bytes, with_use, with_label, with_allocated, IsKnown};
-    ghost use Rattle.mach_buffer.specs.Reach.{is_needed, due_by};
-    ghost use Rattle.mach_buffer.specs.Buffer.{shape_of, bytes_of, uses_of, place_of, allocated_of, spoiled_of, pending_of, Unless, Takes, IsSound};
+    ghost use Rattle.rv_base.specs.LabelUse.{code_limit};
+    ghost use Rattle.mach_labels.specs.Table.{first_inner};
+    ghost use Rattle.mach_buffer.specs.Shape.{with_bytes, with_use, with_label, with_allocated, with_trap, inner_count, IsKnown};
+    ghost use Rattle.mach_buffer.specs.Reach.{island_margin, is_needed, due_by};
+    ghost use Rattle.mach_buffer.specs.Buffer.{shape_of, bytes_of, uses_of, place_of, allocated_of, traps_of, spoiled_of, pending_of, Unless, Takes, IsSound};
 
     /// An empty buffer. Takes no memory.
     pub fn new(alloc: Global) -> MachBuffer<L>
@@ -40,6 +46,7 @@ impl<L: MachInstLabelUse> MachBuffer<L> {
         ensures places { (label : ℕ) → place_of result label ≡ None }
         ensures labels { (shape_of result).labels ≡ [] }
         ensures allocated { allocated_of result ≡ 0 }
+        ensures traps { traps_of result ≡ [] }
         ensures spoiled { spoiled_of result ≡ false }
         ensures sound { IsSound L.kinds result }
     {
@@ -48,6 +55,7 @@ impl<L: MachInstLabelUse> MachBuffer<L> {
             code: Code::new(alloc),
             labels: Labels::new(alloc),
             pending: Pending::new(alloc),
+            traps: Vec::new(alloc),
             spoiled: false,
         }
     }
@@ -97,7 +105,7 @@ impl<L: MachInstLabelUse> MachBuffer<L> {
 
     /// Appends two bytes, the low one first.
     pub fn put2(&mut self, value: u16) -> Result<(), OutOfMemory>
-        requires room { Unless (spoiled_of self.old) (length (bytes_of self.old) + 2 < 2147479552) }
+        requires room { Unless (spoiled_of self.old) (length (bytes_of self.old) + 2 < code_limit) }
         requires sound { Unless (spoiled_of self.old) (IsSound L.kinds self.old) }
         ensures put { Takes result (with_bytes (to_le_bytes w16 value)) self.old self.new }
         ensures sound { OnOk result (IsSound L.kinds self.new) }
@@ -107,7 +115,7 @@ impl<L: MachInstLabelUse> MachBuffer<L> {
 
     /// Appends four bytes, the low one first.
     pub fn put4(&mut self, value: u32) -> Result<(), OutOfMemory>
-        requires room { Unless (spoiled_of self.old) (length (bytes_of self.old) + 4 < 2147479552) }
+        requires room { Unless (spoiled_of self.old) (length (bytes_of self.old) + 4 < code_limit) }
         requires sound { Unless (spoiled_of self.old) (IsSound L.kinds self.old) }
         ensures put { Takes result (with_bytes (to_le_bytes w32 value)) self.old self.new }
         ensures sound { OnOk result (IsSound L.kinds self.new) }
@@ -117,7 +125,7 @@ impl<L: MachInstLabelUse> MachBuffer<L> {
 
     /// Appends eight bytes, the low one first.
     pub fn put8(&mut self, value: u64) -> Result<(), OutOfMemory>
-        requires room { Unless (spoiled_of self.old) (length (bytes_of self.old) + 8 < 2147479552) }
+        requires room { Unless (spoiled_of self.old) (length (bytes_of self.old) + 8 < code_limit) }
         requires sound { Unless (spoiled_of self.old) (IsSound L.kinds self.old) }
         ensures put { Takes result (with_bytes (to_le_bytes w64 value)) self.old self.new }
         ensures sound { OnOk result (IsSound L.kinds self.new) }
@@ -127,7 +135,7 @@ impl<L: MachInstLabelUse> MachBuffer<L> {
 
     /// Appends an even number of bytes.
     pub fn put_data(&mut self, bytes: &[u8]) -> Result<(), OutOfMemory>
-        requires room { Unless (spoiled_of self.old) (length (bytes_of self.old) + length bytes.now < 2147479552) }
+        requires room { Unless (spoiled_of self.old) (length (bytes_of self.old) + length bytes.now < code_limit) }
         requires even { Unless (spoiled_of self.old) (length bytes.now % 2 ≡ 0) }
         requires sound { Unless (spoiled_of self.old) (IsSound L.kinds self.old) }
         ensures put { Takes result (with_bytes bytes.now) self.old self.new }
@@ -137,7 +145,7 @@ impl<L: MachInstLabelUse> MachBuffer<L> {
     }
 
     fn append(&mut self, bytes: &[u8]) -> Result<(), OutOfMemory>
-        requires room { Unless (spoiled_of self.old) (length (bytes_of self.old) + length bytes.now < 2147479552) }
+        requires room { Unless (spoiled_of self.old) (length (bytes_of self.old) + length bytes.now < code_limit) }
         requires even { Unless (spoiled_of self.old) (length bytes.now % 2 ≡ 0) }
         requires sound { Unless (spoiled_of self.old) (IsSound L.kinds self.old) }
         ensures put { Takes result (with_bytes bytes.now) self.old self.new }
@@ -152,7 +160,7 @@ impl<L: MachInstLabelUse> MachBuffer<L> {
     }
 
     fn add_bytes(&mut self, bytes: &[u8]) -> Result<(), OutOfMemory>
-        requires room { length (bytes_of self.old) + length bytes.now < 2147479552 }
+        requires room { length (bytes_of self.old) + length bytes.now < code_limit }
         requires even { length bytes.now % 2 ≡ 0 }
         requires sound { IsSound L.kinds self.old }
         ensures shape { OnOk result (shape_of self.new ≡ with_bytes bytes.now (shape_of self.old)) }
@@ -168,9 +176,9 @@ impl<L: MachInstLabelUse> MachBuffer<L> {
 
     /// A label that nothing names yet.
     pub fn get_label(&mut self) -> Result<MachLabel, OutOfMemory>
-        requires few { Unless (spoiled_of self.old) (allocated_of self.old < 2 ^ 30) }
+        requires few { Unless (spoiled_of self.old) (allocated_of self.old < inner_count) }
         requires sound { Unless (spoiled_of self.old) (IsSound L.kinds self.old) }
-        ensures number { IfOk result (λ label. label.number ≡ 2 ^ 30 + allocated_of self.old) }
+        ensures number { IfOk result (λ label. label.number ≡ first_inner + allocated_of self.old) }
         ensures unbound { IfOk result (λ label. place_of self.new label.number ≡ None) }
         ensures unnamed { IfOk result (λ label. (j : ℕ) (u : Use L) → slice_get (uses_of self.new) j ≡ Some u → u.label.number ≢ label.number) }
         ensures allocated { Takes result with_allocated self.old self.new }
@@ -249,6 +257,31 @@ impl<L: MachInstLabelUse> MachBuffer<L> {
         Ok(())
     }
 
+    /// Records a trap at the current offset.
+    pub fn add_trap(&mut self, code: TrapCode) -> Result<(), OutOfMemory>
+        requires sound { Unless (spoiled_of self.old) (IsSound L.kinds self.old) }
+        ensures recorded { Takes result (with_trap code) self.old self.new }
+        ensures sound { OnOk result (IsSound L.kinds self.new) }
+    {
+        self.check()?;
+        if self.record_trap(code).is_err() {
+            self.spoiled = true;
+            return Err(OutOfMemory);
+        }
+        Ok(())
+    }
+
+    fn record_trap(&mut self, code: TrapCode) -> Result<(), OutOfMemory>
+        requires sound { IsSound L.kinds self.old }
+        ensures shape { OnOk result (shape_of self.new ≡ with_trap code (shape_of self.old)) }
+        ensures sound { OnOk result (IsSound L.kinds self.new) }
+        ensures spoiled { spoiled_of self.new ≡ spoiled_of self.old }
+    {
+        let offset = self.cur_offset();
+        self.traps.push(MachTrap { offset, code })?;
+        Ok(())
+    }
+
     /// Tells of an unconditional branch that ends at the current offset, for later folding.
     pub fn add_uncond_branch(
         &mut self,
@@ -283,19 +316,19 @@ impl<L: MachInstLabelUse> MachBuffer<L> {
         requires sound { IsSound L.kinds self.now }
         ensures { result ≡ is_needed (length (bytes_of self.now)) distance (pending_of L.kinds self.now) }
     {
-        let start = self.code.bytes.len() as u64 + distance as u64 + 30;
+        let start = self.code.bytes.len() as u64 + distance as u64 + ISLAND_MARGIN;
         self.pending.is_tight(&self.code.uses, &self.labels, start)
     }
 
-    /// Returns whether so many bytes, and what is still to be put, end below 2^31 - 4096, and labels are left.
+    /// Returns whether so many bytes, and what is still to be put, end below the limit, and half of the inner labels are left.
     pub fn has_room(&self, part: u64) -> bool
         requires sound { IsSound L.kinds self.now }
-        ensures { result ≡ (nat_lt (allocated_of self.now) (2 ^ 29) && nat_lt (length (bytes_of self.now) + part + 8 * length (pending_of L.kinds self.now) + 32) 2147479552) }
+        ensures { result ≡ (nat_lt (allocated_of self.now) (inner_count / 2) && nat_lt (length (bytes_of self.now) + part + 8 * length (pending_of L.kinds self.now) + island_margin + 2) code_limit) }
     {
-        let end = self.code.bytes.len() as u128 + part as u128 + 32;
-        if self.labels.allocated >= 0x20000000 {
+        let end = self.code.bytes.len() as u128 + part as u128 + ISLAND_MARGIN as u128 + 2;
+        if self.labels.allocated >= INNER_COUNT / 2 {
             return false;
         }
-        end + 8 * (self.pending.count(&self.code.uses, &self.labels) as u128) < 2147479552
+        end + 8 * (self.pending.count(&self.code.uses, &self.labels) as u128) < CODE_LIMIT
     }
 }

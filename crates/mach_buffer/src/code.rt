@@ -1,6 +1,7 @@
 //! The bytes of code, and the uses of labels among them.
 
 ghost use Rattle.std.specs.Prelude.{◌<◌, vec_len};
+ghost use Rattle.rv_base.specs.LabelUse.{code_limit};
 
 use crate::uses::Use;
 use rv_base::{MachInstLabelUse, OutOfMemory};
@@ -11,7 +12,7 @@ use std::alloc::Global;
 pub struct Code<L> {
     pub(crate) bytes: Vec<u8>,
     pub(crate) uses: Vec<Use<L>>,
-    ghost in_range: { vec_len bytes < 2147479552 },
+    ghost in_range: { vec_len bytes < code_limit },
 }
 
 impl<L: MachInstLabelUse> Code<L> {
@@ -30,7 +31,7 @@ impl<L: MachInstLabelUse> Code<L> {
 
     /// Appends bytes.
     pub(crate) fn append(&mut self, bytes: &[u8]) -> Result<(), OutOfMemory>
-        requires { length self.old.bytes.items + length bytes.now < 2147479552 }
+        requires { length self.old.bytes.items + length bytes.now < code_limit }
         ensures bytes { OnOk result (self.new.bytes.items ≡ self.old.bytes.items ++ bytes.now) }
         ensures uses { self.new.uses ≡ self.old.uses }
     {
@@ -50,7 +51,7 @@ impl<L: MachInstLabelUse> Code<L> {
     /// Puts the veneer of the use at `index`, and records the veneer's own use.
     pub(crate) fn put_veneer(&mut self, index: usize) -> Result<(), OutOfMemory>
         requires may { IsSomeAnd (slice_get self.old.uses.items index) (λ u. L.kinds.has_veneer u.kind ≡ true) }
-        requires room { length self.old.bytes.items + 8 < 2147479552 }
+        requires room { length self.old.bytes.items + 8 < code_limit }
         requires even { length self.old.bytes.items % 2 ≡ 0 }
         ensures bytes { OnOk result (IsSomeAnd (slice_get self.old.uses.items index) (λ u. self.new.bytes.items ≡ self.old.bytes.items ++ (L.kinds.veneer u.kind).bytes)) }
         ensures uses { OnOk result (IsSomeAnd (slice_get self.old.uses.items index) (λ u. self.new.uses.items ≡ slice_set self.old.uses.items index (record u { veneer = Some (length self.old.bytes.items) }) ++ veneer_use (L.kinds.veneer u.kind) (length self.old.bytes.items) u.label ∷ [])) }

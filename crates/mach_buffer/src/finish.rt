@@ -4,22 +4,26 @@ use crate::buffer::MachBuffer;
 use crate::code::Code;
 use crate::labels::Labels;
 use crate::patches::patch_all;
+use crate::records::MachTrap;
 use crate::uses::LabelPlace;
 use rv_base::{Constant, List, MachInstLabelUse, OutOfMemory};
 
-/// Patched code, and where the labels below 2^30 stand, in order of binding.
+/// Patched code; where the labels below 2^30 stand, in order of binding; and the traps, in the order in which they were
+/// recorded.
 #[derive(Drop)]
 pub struct Finished {
     pub bytes: List<u8>,
     pub labels: List<LabelPlace>,
+    pub traps: List<MachTrap>,
 }
 
 impl<L: MachInstLabelUse> MachBuffer<L> {
     ghost use Rattle.std.specs.Prelude.{◌≡◌, ◌≢◌, ◌<◌, ◌%◌, length, OnOk, IfOk, false};
+    ghost use Rattle.rv_base.specs.LabelUse.{code_limit};
     ghost use Rattle.mach_buffer.specs.Islands.{aligned};
     ghost use Rattle.mach_buffer.specs.Finish.{padded_for, CanFinish, Finishes};
     ghost use Rattle.mach_buffer.specs.LastVeneers.{LastPut};
-    ghost use Rattle.mach_buffer.specs.Buffer.{shape_of, bytes_of, labels_of, spoiled_of, Unless, IsSound};
+    ghost use Rattle.mach_buffer.specs.Buffer.{shape_of, bytes_of, labels_of, traps_of, spoiled_of, Unless, IsSound};
 
     /// Puts a veneer for each use that is pending, by deadline, then by place, then as recorded, and patches every window: a
     /// use then goes by its veneer, and straight to its label where it has none.
@@ -29,6 +33,7 @@ impl<L: MachInstLabelUse> MachBuffer<L> {
         requires ready { Unless (spoiled_of self) (CanFinish L.kinds (shape_of self)) }
         ensures code { IfOk result (λ f. Finishes L.kinds (shape_of self) f.bytes) }
         ensures labels { IfOk result (λ f. f.labels ≡ labels_of self) }
+        ensures traps { IfOk result (λ f. f.traps ≡ traps_of self) }
         ensures unspoiled { OnOk result (spoiled_of self ≡ false) }
     {
         self.check()?;
@@ -40,6 +45,7 @@ impl<L: MachInstLabelUse> MachBuffer<L> {
         requires ready { CanFinish L.kinds (shape_of self) }
         ensures code { IfOk result (λ f. Finishes L.kinds (shape_of self) f.bytes) }
         ensures labels { IfOk result (λ f. f.labels ≡ labels_of self) }
+        ensures traps { IfOk result (λ f. f.traps ≡ traps_of self) }
     {
         self.put_last()?;
         let MachBuffer {
@@ -47,6 +53,7 @@ impl<L: MachInstLabelUse> MachBuffer<L> {
             code,
             labels,
             pending,
+            traps,
             spoiled,
         } = self;
         let Code { mut bytes, uses } = code;
@@ -59,6 +66,7 @@ impl<L: MachInstLabelUse> MachBuffer<L> {
         Ok(Finished {
             bytes: List::from_vec(bytes),
             labels: List::from_vec(bound),
+            traps: List::from_vec(traps),
         })
     }
 
@@ -78,7 +86,7 @@ impl<L: MachInstLabelUse> MachBuffer<L> {
 
     /// Puts zero bytes to a multiple of four, where some veneers are to come.
     fn pad_last(&mut self, count: usize) -> Result<(), OutOfMemory>
-        requires room { count ≢ 0 → aligned (length (bytes_of self.old)) < 2147479552 }
+        requires room { count ≢ 0 → aligned (length (bytes_of self.old)) < code_limit }
         requires even { length (bytes_of self.old) % 2 ≡ 0 }
         ensures shape { OnOk result (shape_of self.new ≡ padded_for count (shape_of self.old)) }
     {

@@ -7,6 +7,7 @@ use rv_base::{MachInstLabelUse, MachLabel, OutOfMemory};
 
 impl<L: MachInstLabelUse> MachBuffer<L> {
     ghost use Rattle.std.specs.Prelude.{◌≡◌, ℕ, ◌+◌, ◌-◌, ◌*◌, ◌%◌, ◌<◌, ◌≤◌, [], length, map, OnOk, IsSomeAnd, Some, slice_get, true};
+    ghost use Rattle.rv_base.specs.LabelUse.{code_limit};
     ghost use Rattle.mach_buffer.specs.Shape.{Shape, with_label};
     ghost use Rattle.mach_buffer.specs.Windows.{AreWindows};
     ghost use Rattle.mach_buffer.specs.Reach.{deadline as last_of};
@@ -64,7 +65,7 @@ impl<L: MachInstLabelUse> MachBuffer<L> {
 
     /// Puts zero bytes to a multiple of four.
     pub(crate) fn pad(&mut self) -> Result<(), OutOfMemory>
-        requires room { aligned (length (bytes_of self.old)) < 2147479552 }
+        requires room { aligned (length (bytes_of self.old)) < code_limit }
         requires even { length (bytes_of self.old) % 2 ≡ 0 }
         ensures shape { OnOk result (shape_of self.new ≡ padded (shape_of self.old)) }
         ensures pending { self.new.pending ≡ self.old.pending }
@@ -79,7 +80,7 @@ impl<L: MachInstLabelUse> MachBuffer<L> {
     /// Puts the veneer of the use at `index`.
     fn put_veneer(&mut self, index: usize) -> Result<(), OutOfMemory>
         requires may { IsSomeAnd (slice_get (uses_of self.old) index) (λ u. L.kinds.has_veneer u.kind ≡ true) }
-        requires room { length (bytes_of self.old) + 8 < 2147479552 }
+        requires room { length (bytes_of self.old) + 8 < code_limit }
         requires even { length (bytes_of self.old) % 2 ≡ 0 }
         ensures shape { OnOk result (shape_of self.new ≡ veneered L.kinds index (shape_of self.old)) }
         ensures pending { self.new.pending ≡ self.old.pending }
@@ -102,7 +103,7 @@ impl<L: MachInstLabelUse> MachBuffer<L> {
     fn put_own(&mut self, needed: bool) -> Result<(), OutOfMemory>
         requires some { 1 ≤ length (uses_of self.old) }
         requires may { needed ≡ true → IsSomeAnd (slice_get (uses_of self.old) (length (uses_of self.old) - 1)) (λ u. L.kinds.has_veneer u.kind ≡ true) }
-        requires room { needed ≡ true → length (bytes_of self.old) + 8 < 2147479552 }
+        requires room { needed ≡ true → length (bytes_of self.old) + 8 < code_limit }
         requires even { length (bytes_of self.old) % 2 ≡ 0 }
         ensures shape { OnOk result (shape_of self.new ≡ put_all L.kinds (with_own needed (length (uses_of self.old) - 1) []) (shape_of self.old)) }
         ensures pending { self.new.pending ≡ self.old.pending }
@@ -118,7 +119,7 @@ impl<L: MachInstLabelUse> MachBuffer<L> {
     /// Puts the veneers of uses in their order.
     pub(crate) fn put_veneers(&mut self, order: &[PendingKey]) -> Result<(), OutOfMemory>
         requires can { CanPut L.kinds (uses_of self.old) (length (bytes_of self.old)) (map key_number order.now) }
-        requires room { length (bytes_of self.old) + 8 * length order.now < 2147479552 }
+        requires room { length (bytes_of self.old) + 8 * length order.now < code_limit }
         requires even { length (bytes_of self.old) % 2 ≡ 0 }
         ensures put { OnOk result (shape_of self.new ≡ put_all L.kinds (map key_number order.now) (shape_of self.old)) }
         ensures pending { self.new.pending ≡ self.old.pending }

@@ -1,14 +1,15 @@
 //! The places of labels, and the labels that the buffer gives out.
 
-ghost use Rattle.std.specs.Prelude.{◌≤◌, ◌^◌};
+ghost use Rattle.std.specs.Prelude.{◌≤◌};
+ghost use Rattle.mach_buffer.specs.Shape.{inner_count};
 
 use crate::uses::LabelPlace;
-use mach_labels::LabelTable;
+use mach_labels::{FIRST_INNER, LabelTable};
 use rv_base::{MachLabel, OutOfMemory};
 use std::alloc::Global;
 
-/// The number of the first label that a buffer gives out. A listing's own labels are below.
-pub const FIRST_INNER: u32 = 0x40000000;
+/// How many labels a buffer can give out.
+pub(crate) const INNER_COUNT: u32 = 0x40000000;
 
 /// Where each bound label stands, the listing's labels in order of binding, and how many labels were given out.
 #[derive(Drop)]
@@ -16,11 +17,12 @@ pub struct Labels {
     pub(crate) table: LabelTable<u32>,
     pub(crate) bound: Vec<LabelPlace>,
     pub(crate) allocated: u32,
-    ghost few: { allocated ≤ 2 ^ 30 },
+    ghost few: { allocated ≤ inner_count },
 }
 
 impl Labels {
     ghost use Rattle.std.specs.Prelude.{◌≡◌, ◌+◌, ◌<◌, ◌++◌, [], ℕ, OnOk, None};
+    ghost use Rattle.mach_labels.specs.Table.{first_inner};
     ghost use Rattle.mach_buffer.specs.Shape.{placed, listed};
     ghost use Rattle.mach_buffer.specs.Places.{place_in};
 
@@ -45,8 +47,8 @@ impl Labels {
 
     /// Gives out a label.
     pub(crate) fn allocate(&mut self) -> MachLabel
-        requires { self.old.allocated < 2 ^ 30 }
-        ensures number { result.number ≡ 2 ^ 30 + self.old.allocated }
+        requires { self.old.allocated < inner_count }
+        ensures number { result.number ≡ first_inner + self.old.allocated }
         ensures allocated { self.new.allocated ≡ self.old.allocated + 1 }
         ensures places { place_in self.new ≡ place_in self.old }
         ensures bound { self.new.bound ≡ self.old.bound }

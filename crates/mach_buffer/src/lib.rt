@@ -9,8 +9,10 @@ mod labels;
 mod patches;
 mod pending;
 mod reach;
+mod records;
 mod uses;
 
 pub use buffer::MachBuffer;
 pub use finish::Finished;
+pub use records::MachTrap;
 pub use uses::{LabelPlace, Use};

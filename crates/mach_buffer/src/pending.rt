@@ -192,7 +192,7 @@ impl Queue {
 
 impl Pending {
     ghost use Rattle.std.specs.Prelude.{◌≡◌, ◌+◌, ◌-◌, ◌<◌, ◌≤◌, ◌^◌, ◌++◌, ◌∷◌, [], length, map, OnOk, IfOk, Some};
-    ghost use Rattle.mach_buffer.specs.Reach.{is_pending as pending, is_other, deadlines, is_needed_from};
+    ghost use Rattle.mach_buffer.specs.Reach.{is_pending as pending, is_other, deadlines, island_margin, is_needed_from};
     ghost use Rattle.mach_buffer.specs.Veneers.{IsOrder};
     ghost use Rattle.mach_buffer.specs.Queues.{is_queued as queued, AreKept, due_in, key_number, shows_slack};
     ghost use Rattle.mach_buffer.specs.Places.{place_in};
@@ -298,8 +298,8 @@ impl Pending {
         start: u64,
     ) -> bool
         requires kept { AreKept L.kinds (place_in labels.now) uses.now self.now }
-        requires margin { 30 ≤ start }
-        ensures { result ≡ is_needed_from (start - 30) (deadlines (pending L.kinds (place_in labels.now)) L.kinds uses.now) (deadlines (pending L.kinds (place_in labels.now)) L.kinds uses.now) }
+        requires margin { island_margin ≤ start }
+        ensures { result ≡ is_needed_from (start - island_margin) (deadlines (pending L.kinds (place_in labels.now)) L.kinds uses.now) (deadlines (pending L.kinds (place_in labels.now)) L.kinds uses.now) }
     {
         if self.has_slack(start) {
             return false;

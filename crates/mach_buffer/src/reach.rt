@@ -12,6 +12,10 @@ use rv_base::{MachInstLabelUse, MachLabel};
 /// The reach, in bytes, from which on a use is kept apart from those that reach less far.
 const FAR: u32 = 65536;
 
+/// What is kept free for an island: its jump, at most two bytes of padding, the jump's own veneer, and the veneers of two uses
+/// more.
+pub(crate) const ISLAND_MARGIN: u64 = 30;
+
 /// The last offset that a use reaches.
 pub(crate) fn deadline<L: MachInstLabelUse>(u: &Use<L>) -> u64
     ensures value { result ≡ last_of L.kinds u.now }

@@ -6,9 +6,14 @@ use Rattle.std.specs.Ordering.{nat_cmp}
 use Rattle.mach_labels.specs.declared.table.LabelTable.{LabelTable}
 use Rattle.mach_labels.specs.Slots.{slot_of}
 
--- what the vectors have: a listing's labels are below 2^30, those that a buffer gives out are from there on
+-- the number of the first label that a buffer gives out: a listing names only labels below, so the two never meet, and each
+-- has half of the numbers below 2^31
+abbrev pub first_inner : ℕ
+first_inner = 2 ^ 30
+
+-- what the vectors have: one a listing's labels, the other those that a buffer gives out
 abbrev pub dense_of : {T : Type 0} → LabelTable T → ℕ → Option T
-dense_of table label = if nat_lt label (2 ^ 30) then slot_of table.own.items label else slot_of table.inner.items (label - 2 ^ 30)
+dense_of table label = if nat_lt label first_inner then slot_of table.own.items label else slot_of table.inner.items (label - first_inner)
 
 -- what the table has for a label
 unfoldable pub entry_of : {T : Type 0} → LabelTable T → ℕ → Option T

@@ -4,4 +4,4 @@
 mod slots;
 mod table;
 
-pub use table::LabelTable;
+pub use table::{FIRST_INNER, LabelTable};

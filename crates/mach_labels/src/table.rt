@@ -5,8 +5,8 @@ use rv_base::OutOfMemory;
 use std::alloc::Global;
 use std::collections::BTreeMap;
 
-/// The number of the first label that a buffer gives out. A listing's own labels are below.
-const FIRST_INNER: u32 = 0x40000000;
+/// The number of the first label that a buffer gives out. A listing names only labels below, so the two never meet.
+pub const FIRST_INNER: u32 = 0x40000000;
 
 /// What is known of each label, where something is.
 ///
@@ -20,8 +20,8 @@ pub struct LabelTable<T> {
 }
 
 impl<T: Copy> LabelTable<T> {
-    ghost use Rattle.std.specs.Prelude.{◌≡◌, ◌<◌, ◌≤◌, ◌^◌, ℕ, None, Some, OnOk, OnErr, nat_eq, if◌then◌else◌};
-    ghost use Rattle.mach_labels.specs.Table.{dense_of, entry_of, Puts, Same};
+    ghost use Rattle.std.specs.Prelude.{◌≡◌, ◌<◌, ◌≤◌, ℕ, None, Some, OnOk, OnErr, nat_eq, if◌then◌else◌};
+    ghost use Rattle.mach_labels.specs.Table.{first_inner, dense_of, entry_of, Puts, Same};
 
     /// A table with no entries. Takes no memory.
     #[tactic(auto, unfolding(crate::specs::Table::entry_of))]
@@ -80,7 +80,7 @@ impl<T: Copy> LabelTable<T> {
     }
 
     fn set_own(&mut self, label: u32, value: T) -> Result<(), OutOfMemory>
-        requires { label < 2 ^ 30 }
+        requires { label < first_inner }
         ensures ok { OnOk result (Puts label value self.old self.new) }
         ensures err { OnErr result (Same self.old self.new) }
     {
@@ -93,7 +93,7 @@ impl<T: Copy> LabelTable<T> {
     }
 
     fn set_inner(&mut self, label: u32, value: T) -> Result<(), OutOfMemory>
-        requires { 2 ^ 30 ≤ label }
+        requires { first_inner ≤ label }
         ensures ok { OnOk result (Puts label value self.old self.new) }
         ensures err { OnErr result (Same self.old self.new) }
     {

@@ -4,6 +4,7 @@ use Rattle.std.specs.Prelude.{slice_get, nat_eq, nat_lt}
 use Rattle.std.proofs.lemmas.Bool.{true≢false, eq-eqb, ne_eqb, cases_eq, lt-ltb, ltb-true}
 use Rattle.std.proofs.lemmas.List.{append-nil}
 use Rattle.rv_base.specs.declared.label.MachLabel.{MachLabel}
+use Rattle.rv_inst.specs.Context.{Context}
 use Rattle.rv_inst.specs.declared.code.LineSpan.{LineSpan}
 use Rattle.rv_inst.specs.declared.inst.Inst.{Inst}
 use Rattle.rv_inst.specs.declared.inst.Inst.TheVariants.{EmitIsland}
@@ -12,18 +13,20 @@ use Rattle.rv_inst.specs.declared.inst.Line.TheVariants.{Inst as Put, Bind}
 use Rattle.rv_inst.specs.declared.label_use.LabelUse.{LabelUse}
 use Rattle.rv_inst.specs.LabelUse.{label_kinds}
 use Rattle.rv_inst.specs.Rules.{broken_rule}
+use Rattle.rv_inst.specs.Sizes.{line_space}
 use Rattle.mach_buffer.specs.declared.uses.Use.{Use}
 use Rattle.mach_buffer.specs.Buffer.{bytes_of, uses_of, place_of}
 use Rattle.mach_buffer.specs.Windows.{or_place}
 use Rattle.mach_buffer.proofs.Laws.{append_each, none_waits, bound_waits}
-use Rattle.rv_emit.specs.Emitted.{Buffer, AppendsInst, AppendsIsland, IslandIfNeeded, Emitted}
+use Rattle.rv_emit.specs.Emitted.{Buffer, AppendsInst, AppendsIsland, IslandIfNeeded}
 use Rattle.rv_inst.specs.Uses.{uses_in}
 use Rattle.rv_emit.proofs.Laws.{waits}
 use Rattle.rv_asm.specs.Reported.{start_of}
 use Rattle.rv_asm.specs.Reported.{end_before}
-use Rattle.rv_asm.specs.LinesInBuffer.{LinesStand, InstPut, BindPut, LinePut}
+use Rattle.rv_asm.specs.LinesInBuffer.{LinesStand, BindPut}
 use Rattle.rv_asm.specs.Reach.{is_island, bound_by}
 use Rattle.rv_asm.specs.AfterLastIsland.{uses_after_island, EndsIn, AfterLastIsland}
+use Rattle.rv_asm.proofs.LinesAppended.{Appends, InstAppends, LineAppends}
 use Rattle.rv_asm.proofs.LabelNames.{start_last, room_keeps, emitted_keeps}
 use Rattle.rv_asm.proofs.FirstLines.{own_uses, open_in_island, open_behind, open_on, bound_by_more, bound_by_append}
 
@@ -66,7 +69,7 @@ ends_bind label old new span uses p e = record {
     on u true h before = absurd (true≢false (sym (bound_waits label_kinds (place_of old) (place_of new) label.number p.unbound p.kept u h) ∙ before))
 
 -- an instruction: it is an island, or its uses are added
-emitted_ends : (inst : Inst) (mid new : Buffer) (start end : ℕ) (uses : List (Use LabelUse)) → start ≡ length (bytes_of mid) → end ≡ length (bytes_of new) → Emitted inst mid new → EndsIn uses mid →
+emitted_ends : (inst : Inst) (mid new : Buffer) (start end : ℕ) (uses : List (Use LabelUse)) → start ≡ length (bytes_of mid) → end ≡ length (bytes_of new) → Appends inst mid new → EndsIn uses mid →
     ((is_island (Put inst) start end ≡ true) × EndsIn [] new) ⊎ ((is_island (Put inst) start end ≡ false) × EndsIn (uses ++ uses_in start inst) new)
 emitted_ends (EmitIsland space) mid new start end uses starts ends e h = ⊎_elim
     (λ same.
@@ -129,7 +132,7 @@ record Roomed (lines : List Line) (spans : List LineSpan) (line : Line) (span : 
   pub ends : EndsIn uses mid
   pub adds : is_island line span.start span.end ≡ false → uses_after_island (lines ++ line ∷ []) (spans ++ span ∷ []) ≡ uses ++ own_uses line span.start
 
-room_ends : (lines : List Line) (spans : List LineSpan) (line : Line) (span : LineSpan) (old mid : Buffer) (made : Bool) → length spans ≡ length lines → length (bytes_of old) ≡ end_before spans (length lines) → IslandIfNeeded 88 old mid made → span.start ≡ length (bytes_of mid) → EndsIn (uses_after_island lines spans) old → Roomed lines spans line span mid
+room_ends : (lines : List Line) (spans : List LineSpan) (line : Line) (span : LineSpan) (old mid : Buffer) (made : Bool) → length spans ≡ length lines → length (bytes_of old) ≡ end_before spans (length lines) → IslandIfNeeded line_space old mid made → span.start ≡ length (bytes_of mid) → EndsIn (uses_after_island lines spans) old → Roomed lines spans line span mid
 room_ends lines spans line span old mid made count ends m start h = ⊎_elim
     (λ same.
     let level : end_before spans (length lines) ≡ span.start = sym ends ∙ ap (λ (b : Buffer). length (bytes_of b)) (sym same.1) ∙ sym start in
@@ -139,7 +142,7 @@ room_ends lines spans line span old mid made count ends m start h = ⊎_elim
     record { uses = []; ends = ends_island old mid put.1; adds = λ e. open_behind lines spans line span count e (lt-ltb (end_before spans (length lines)) span.start (omega arith)) })
     m.put
 
-inst_ends : (lines : List Line) (spans : List LineSpan) (inst : Inst) (span : LineSpan) (old new : Buffer) → length spans ≡ length lines → length (bytes_of old) ≡ end_before spans (length lines) → InstPut inst old new span → EndsIn (uses_after_island lines spans) old → EndsIn (uses_after_island (lines ++ Put inst ∷ []) (spans ++ span ∷ [])) new
+inst_ends : (lines : List Line) (spans : List LineSpan) (inst : Inst) (span : LineSpan) (old new : Buffer) → length spans ≡ length lines → length (bytes_of old) ≡ end_before spans (length lines) → InstAppends inst old new span → EndsIn (uses_after_island lines spans) old → EndsIn (uses_after_island (lines ++ Put inst ∷ []) (spans ++ span ∷ [])) new
 inst_ends lines spans inst span old new count ends p h =
     let r = room_ends lines spans (Put inst) span old p.mid p.made count ends p.room p.start h in
     ⊎_elim
@@ -153,9 +156,9 @@ bind_ends lines spans label span old new count ends p h =
     let same = open_on lines spans (Bind label) span count refl (not_less (end_before spans (length lines)) span.start level) ∙ append-nil (uses_after_island lines spans) in
     subst (λ us. EndsIn us new) (sym same) (ends_bind label old new span (uses_after_island lines spans) p h)
 
-pub since_next : (lines : List Line) (spans : List LineSpan) (line : Line) (span : LineSpan) (old new : Buffer) → LinesStand lines spans old → AfterLastIsland lines spans old → broken_rule line ≡ None → LinePut line old new span → AfterLastIsland (lines ++ line ∷ []) (spans ++ span ∷ []) new
+pub since_next : {context : Context} (lines : List Line) (spans : List LineSpan) (line : Line) (span : LineSpan) (old new : Buffer) → LinesStand context lines spans old → AfterLastIsland lines spans old → broken_rule line ≡ None → LineAppends line old new span → AfterLastIsland (lines ++ line ∷ []) (spans ++ span ∷ []) new
 since_next lines spans (Put inst) span old new b s rule p =
-    let first = room_keeps 88 old p.mid p.made p.room in
+    let first = room_keeps line_space old p.mid p.made p.room in
     let next = emitted_keeps inst p.mid new p.emitted in
     record {
       ends = inst_ends lines spans inst span old new b.count b.ends p s.ends;
@@ -169,6 +172,6 @@ since_next lines spans (Bind label) span old new b s rule p = record {
 }
 
 -- it ends where the line ends
-pub line_end : (line : Line) (old new : Buffer) (span : LineSpan) → LinePut line old new span → length (bytes_of new) ≡ span.end
+pub line_end : (line : Line) (old new : Buffer) (span : LineSpan) → LineAppends line old new span → length (bytes_of new) ≡ span.end
 line_end (Put inst) old new span p = sym p.end
 line_end (Bind label) old new span p = ap length p.bytes ∙ sym p.end

@@ -4,13 +4,15 @@ use Rattle.std.specs.Prelude.{slice_get, slice_index_or, nat_eq}
 use Rattle.std.proofs.lemmas.Bool.Decides.{nat_tests}
 use Rattle.std.proofs.lemmas.Option.{same_Some}
 use Rattle.rv_base.specs.declared.label.MachLabel.{MachLabel}
+use Rattle.rv_inst.specs.Context.{Context}
 use Rattle.rv_inst.specs.declared.inst.Line.{Line}
 use Rattle.rv_inst.specs.declared.inst.Line.TheVariants.{Inst as Put, Bind}
 use Rattle.rv_inst.specs.declared.code.Code.{Code}
 use Rattle.rv_inst.specs.declared.code.LineSpan.{LineSpan}
 use Rattle.rv_inst.specs.LabelUse.{label_kinds}
 use Rattle.mach_buffer.specs.Finish.{CanFinish, Finishes}
-use Rattle.mach_buffer.specs.Buffer.{shape_of, bytes_of, uses_of, place_of, labels_of, allocated_of}
+use Rattle.mach_buffer.specs.Buffer.{shape_of, bytes_of, uses_of, place_of, labels_of, traps_of, allocated_of}
+use Rattle.rv_emit.specs.declared.state.EmitVState.{EmitVState}
 use Rattle.rv_emit.specs.Emitted.{Buffer, IsSoundBuffer}
 use Rattle.rv_asm.specs.Refusal.{binds, is_bound, size_sum, refusal}
 use Rattle.rv_inst.specs.Sizes.{line_sum}
@@ -20,6 +22,7 @@ use Rattle.rv_asm.specs.Reach.{NotEarly, ReachesOn}
 use Rattle.rv_asm.specs.FinishedCode.{IsFinished}
 use Rattle.rv_asm.proofs.RefusalOrder.{no_rule_broken, bound_once, bound_by, named_is_bound, sum_small}
 use Rattle.rv_asm.proofs.Finish.{can_finish, finished_short}
+use Rattle.rv_asm.proofs.LinesAppended.{line_appends}
 use Rattle.rv_asm.proofs.OneLineMore.{built_none, built_next}
 use Rattle.rv_asm.proofs.LabelNames.{named_none, named_next, low_label}
 use Rattle.rv_asm.proofs.Sizes.{sized_none, sized_next}
@@ -27,8 +30,8 @@ use Rattle.rv_asm.proofs.AfterLastIsland.{since_none, since_next}
 use Rattle.rv_asm.proofs.NoEarlyIsland.{early_none, early_next, reaches_none, reaches_next}
 
 -- after so many lines
-pub record SoFar (lines : List Line) (count : ℕ) (spans : List LineSpan) (b : Buffer) : Type 0 where
-  pub built : LinesStand (take count lines) spans b
+pub record SoFar (context : Context) (lines : List Line) (count : ℕ) (spans : List LineSpan) (b : Buffer) : Type 0 where
+  pub built : LinesStand context (take count lines) spans b
   pub named : Named (take count lines) spans b
   pub sized : Sized (take count lines) b
   pub since : AfterLastIsland (take count lines) spans b
@@ -36,9 +39,9 @@ pub record SoFar (lines : List Line) (count : ℕ) (spans : List LineSpan) (b : 
   pub reach : ReachesOn (take count lines) spans
 
 -- before the first
-pub so_far_none : (lines : List Line) (b : Buffer) → bytes_of b ≡ [] → uses_of b ≡ [] → ((label : ℕ) → place_of b label ≡ None) → labels_of b ≡ [] → allocated_of b ≡ 0 → IsSoundBuffer b → SoFar lines 0 [] b
-so_far_none lines b bytes uses places labels allocated sound = record {
-  built = built_none b bytes uses sound;
+pub so_far_none : (context : Context) (lines : List Line) (b : Buffer) → bytes_of b ≡ [] → uses_of b ≡ [] → ((label : ℕ) → place_of b label ≡ None) → labels_of b ≡ [] → allocated_of b ≡ 0 → traps_of b ≡ [] → IsSoundBuffer b → SoFar context lines 0 [] b
+so_far_none context lines b bytes uses places labels allocated traps sound = record {
+  built = built_none context b bytes uses traps sound;
   named = named_none b uses labels places;
   sized = sized_none b bytes uses allocated;
   since = since_none b uses places;
@@ -105,14 +108,14 @@ not_bound lines n l e h = on (is_bound (take n lines) l.number) refl
         let lt = a.before in
         absurd (omega arith)
 
-unbound_next : (lines : List Line) (n : ℕ) (spans : List LineSpan) (b : Buffer) (line : Line) → refusal lines ≡ None → SoFar lines n spans b → slice_get lines n ≡ Some line → (label : ℕ) → binds line label ≡ true → place_of b label ≡ None
-unbound_next lines n spans b (Put inst) e s h label is = absurd (cc)
-unbound_next lines n spans b (Bind l) e s h label is =
+unbound_next : (context : Context) (lines : List Line) (n : ℕ) (spans : List LineSpan) (b : Buffer) (line : Line) → refusal lines ≡ None → SoFar context lines n spans b → slice_get lines n ≡ Some line → (label : ℕ) → binds line label ≡ true → place_of b label ≡ None
+unbound_next context lines n spans b (Put inst) e s h label is = absurd (cc)
+unbound_next context lines n spans b (Bind l) e s h label is =
     subst (λ k. place_of b k ≡ None) (label_is l label is) (s.named.unbound l.number (low_label l (no_rule_broken lines e n (Bind l) h)) (not_bound lines n l e h))
 
 -- the next line can be put
-pub can_put : (lines : List Line) (n : ℕ) (spans : List LineSpan) (b : Buffer) (line : Line) → refusal lines ≡ None → SoFar lines n spans b → slice_get lines n ≡ Some line → CanPut line b
-can_put lines n spans b line e s h =
+pub can_put : (context : Context) (lines : List Line) (n : ℕ) (spans : List LineSpan) (b : Buffer) (line : Line) → refusal lines ≡ None → SoFar context lines n spans b → slice_get lines n ≡ Some line → CanPut line b
+can_put context lines n spans b line e s h =
     let small = sum_small lines e in
     let least = sum_take lines n line h in
     let size = s.sized.size in
@@ -123,26 +126,27 @@ can_put lines n spans b line e s h =
       reach = s.sized.reach;
       few = omega (arith, small, least, allocated);
       room = omega (arith, small, least, size);
-      unbound = unbound_next lines n spans b line e s h;
+      unbound = unbound_next context lines n spans b line e s h;
     }
 
 -- and once it was put the loop goes on
-pub so_far_next : (lines : List Line) (n : ℕ) (spans new_spans : List LineSpan) (old new : Buffer) (line : Line) (span : LineSpan) → refusal lines ≡ None → SoFar lines n spans old → slice_get lines n ≡ Some line → span.index ≡ n → LinePut line old new span → new_spans ≡ spans ++ span ∷ [] → SoFar lines (n + 1) new_spans new
-so_far_next lines n spans new_spans old new line span e s h index put pushed =
+pub so_far_next : (context : Context) (setting : EmitVState) (lines : List Line) (n : ℕ) (spans new_spans : List LineSpan) (old new : Buffer) (line : Line) (span : LineSpan) → refusal lines ≡ None → SoFar context lines n spans old → slice_get lines n ≡ Some line → span.index ≡ n → LinePut context setting line old new span → new_spans ≡ spans ++ span ∷ [] → SoFar context lines (n + 1) new_spans new
+so_far_next context setting lines n spans new_spans old new line span e s h index put pushed =
     let rule = no_rule_broken lines e n line h in
     let count = take_count lines n line h in
     let at : span.index ≡ length (take n lines) = index ∙ sym count in
-    let built = built_next (take n lines) line spans span old new s.built put at in
-    let named = named_next (take n lines) spans line span old new rule s.named s.built.count put in
-    let sized = sized_next (take n lines) line old new span s.sized put in
-    let since = since_next (take n lines) spans line span old new s.built s.since rule put in
-    let early = early_next (take n lines) spans line span old new s.built s.since put s.early in
-    let reach = reaches_next (take n lines) spans line span old new s.built put since sized s.reach in
-    subst (λ ss. SoFar lines (n + 1) ss new) (sym pushed) (moved (sym (take_next lines n line h)) built named sized since early reach)
+    let p = line_appends context setting line old new span rule s.built.sound put in
+    let built = built_next context setting (take n lines) line spans span old new rule s.built put at in
+    let named = named_next (take n lines) spans line span old new rule s.named s.built.count p in
+    let sized = sized_next (take n lines) line old new span s.sized p in
+    let since = since_next (take n lines) spans line span old new s.built s.since rule p in
+    let early = early_next (take n lines) spans line span old new s.built s.since p s.early in
+    let reach = reaches_next (take n lines) spans line span old new s.built p since sized s.reach in
+    subst (λ ss. SoFar context lines (n + 1) ss new) (sym pushed) (moved (sym (take_next lines n line h)) built named sized since early reach)
   where
-    moved : take n lines ++ line ∷ [] ≡ take (n + 1) lines → LinesStand (take n lines ++ line ∷ []) (spans ++ span ∷ []) new → Named (take n lines ++ line ∷ []) (spans ++ span ∷ []) new → Sized (take n lines ++ line ∷ []) new → AfterLastIsland (take n lines ++ line ∷ []) (spans ++ span ∷ []) new → NotEarly (take n lines ++ line ∷ []) (spans ++ span ∷ []) → ReachesOn (take n lines ++ line ∷ []) (spans ++ span ∷ []) → SoFar lines (n + 1) (spans ++ span ∷ []) new
+    moved : take n lines ++ line ∷ [] ≡ take (n + 1) lines → LinesStand context (take n lines ++ line ∷ []) (spans ++ span ∷ []) new → Named (take n lines ++ line ∷ []) (spans ++ span ∷ []) new → Sized (take n lines ++ line ∷ []) new → AfterLastIsland (take n lines ++ line ∷ []) (spans ++ span ∷ []) new → NotEarly (take n lines ++ line ∷ []) (spans ++ span ∷ []) → ReachesOn (take n lines ++ line ∷ []) (spans ++ span ∷ []) → SoFar context lines (n + 1) (spans ++ span ∷ []) new
     moved more built named sized since early reach = record {
-      built = subst (λ ls. LinesStand ls (spans ++ span ∷ []) new) more built;
+      built = subst (λ ls. LinesStand context ls (spans ++ span ∷ []) new) more built;
       named = subst (λ ls. Named ls (spans ++ span ∷ []) new) more named;
       sized = subst (λ ls. Sized ls new) more sized;
       since = subst (λ ls. AfterLastIsland ls (spans ++ span ∷ []) new) more since;
@@ -151,18 +155,18 @@ so_far_next lines n spans new_spans old new line span e s h index put pushed =
     }
 
 -- after the last
-record AtEnd (lines : List Line) (spans : List LineSpan) (b : Buffer) : Type 0 where
-  built : LinesStand lines spans b
+record AtEnd (context : Context) (lines : List Line) (spans : List LineSpan) (b : Buffer) : Type 0 where
+  built : LinesStand context lines spans b
   named : Named lines spans b
   sized : Sized lines b
   early : NotEarly lines spans
   reach : ReachesOn lines spans
 
-at_end : (lines : List Line) (n : ℕ) (spans : List LineSpan) (b : Buffer) → length lines ≤ n → SoFar lines n spans b → AtEnd lines spans b
-at_end lines n spans b le s =
+at_end : (context : Context) (lines : List Line) (n : ℕ) (spans : List LineSpan) (b : Buffer) → length lines ≤ n → SoFar context lines n spans b → AtEnd context lines spans b
+at_end context lines n spans b le s =
     let whole = take_whole lines n le in
     record {
-      built = subst (λ ls. LinesStand ls spans b) whole s.built;
+      built = subst (λ ls. LinesStand context ls spans b) whole s.built;
       named = subst (λ ls. Named ls spans b) whole s.named;
       sized = subst (λ ls. Sized ls b) whole s.sized;
       early = subst (λ ls. NotEarly ls spans) whole s.early;
@@ -170,20 +174,20 @@ at_end lines n spans b le s =
     }
 
 -- after the last, the buffer can be finished
-pub ready : (lines : List Line) (n : ℕ) (spans : List LineSpan) (b : Buffer) → refusal lines ≡ None → length lines ≤ n → SoFar lines n spans b → CanFinish label_kinds (shape_of b)
-ready lines n spans b e le s =
-    let all = at_end lines n spans b le s in
+pub ready : (context : Context) (lines : List Line) (n : ℕ) (spans : List LineSpan) (b : Buffer) → refusal lines ≡ None → length lines ≤ n → SoFar context lines n spans b → CanFinish label_kinds (shape_of b)
+ready context lines n spans b e le s =
+    let all = at_end context lines n spans b le s in
     can_finish lines spans b all.built all.named all.sized (sum_small lines e) (named_is_bound lines e)
 
 -- and then it is finished
-pub finished : (lines : List Line) (n : ℕ) (code : Code) (b : Buffer) → refusal lines ≡ None → length lines ≤ n → SoFar lines n code.lines b → Finishes label_kinds (shape_of b) code.bytes → code.labels ≡ labels_of b → code.end ≡ length (bytes_of b) → IsFinished lines code
-finished lines n code b e le s f labels end =
-    let all = at_end lines n code.lines b le s in
-    record { sink = b; built = all.built; named = all.named; sized = all.sized; early = all.early; reach = all.reach; ready = ready lines n code.lines b e le s; finished = f; labels = labels; end = end }
+pub finished : (context : Context) (lines : List Line) (n : ℕ) (code : Code) (b : Buffer) → refusal lines ≡ None → length lines ≤ n → SoFar context lines n code.lines b → Finishes label_kinds (shape_of b) code.bytes → code.labels ≡ labels_of b → code.traps ≡ traps_of b → code.end ≡ length (bytes_of b) → IsFinished context lines code
+finished context lines n code b e le s f labels traps end =
+    let all = at_end context lines n code.lines b le s in
+    record { sink = b; built = all.built; named = all.named; sized = all.sized; early = all.early; reach = all.reach; ready = ready context lines n code.lines b e le s; finished = f; labels = labels; traps = traps; end = end }
 
 -- the code is short
-pub code_short : (lines : List Line) (n : ℕ) (spans : List LineSpan) (b : Buffer) (bytes : List ℕ) → refusal lines ≡ None → length lines ≤ n → SoFar lines n spans b → Finishes label_kinds (shape_of b) bytes → length bytes < 2 ^ 32
-code_short lines n spans b bytes e le s f =
-    let short = finished_short lines b bytes (at_end lines n spans b le s).sized f in
+pub code_short : (context : Context) (lines : List Line) (n : ℕ) (spans : List LineSpan) (b : Buffer) (bytes : List ℕ) → refusal lines ≡ None → length lines ≤ n → SoFar context lines n spans b → Finishes label_kinds (shape_of b) bytes → length bytes < 2 ^ 32
+code_short context lines n spans b bytes e le s f =
+    let short = finished_short lines b bytes (at_end context lines n spans b le s).sized f in
     let small = sum_small lines e in
     omega arith

@@ -1,8 +1,9 @@
 -- A buffer of lines can be finished, and how long its code is.
-use Rattle.std.proofs.Common.{◌≡◌, ℕ, ◌+◌, ◌*◌, ◌^◌, ◌≤◌, true, List, length, Some, ap, sym, ◌∙◌, arith, ⊎_elim}
+use Rattle.std.proofs.Common.{◌≡◌, ℕ, ◌+◌, ◌*◌, ◌≤◌, true, List, length, Some, ap, sym, ◌∙◌, arith, ⊎_elim}
 use Rattle.std.specs.Prelude.{slice_get, is_some}
 use Rattle.std.proofs.lemmas.Bool.{true≢false}
 use Rattle.rv_base.specs.declared.label.MachLabel.{MachLabel}
+use Rattle.rv_inst.specs.Context.{Context}
 use Rattle.rv_inst.specs.declared.code.LineSpan.{LineSpan}
 use Rattle.rv_inst.specs.declared.inst.Line.{Line}
 use Rattle.rv_inst.specs.declared.inst.Line.TheVariants.{Bind}
@@ -12,26 +13,27 @@ use Rattle.mach_buffer.specs.Buffer.{shape_of, bytes_of, place_of}
 use Rattle.mach_buffer.specs.Finish.{before_last, CanFinish, Finishes}
 use Rattle.mach_buffer.proofs.Laws.{last_near, slack_from_reach, reaches_from_slack, veneers_reach}
 use Rattle.rv_emit.specs.Emitted.{Buffer, pending}
-use Rattle.rv_asm.specs.Refusal.{is_bound, size_sum}
+use Rattle.rv_asm.specs.Refusal.{size_limit, is_bound, size_sum}
 use Rattle.rv_asm.specs.LinesInBuffer.{IsNamed, LinesStand, Named, Sized}
-use Rattle.rv_asm.proofs.LabelNames.{BoundAt, bound_at}
+use Rattle.rv_asm.specs.Reported.{start_of}
+use Rattle.rv_asm.specs.Simulation.{binding_line}
+use Rattle.rv_asm.proofs.ExitPoints.{bind_at}
 
 -- each label that a line names is bound by a line
 abbrev pub AllBound : List Line → Type 0
 AllBound lines = (i : ℕ) (line : Line) → slice_get lines i ≡ Some line → (k : ℕ) (label : MachLabel) → slice_get (named_labels line) k ≡ Some label → is_bound lines label.number ≡ true
 
--- so it has a place
-bound_place : (lines : List Line) (spans : List LineSpan) (b : Buffer) (number : ℕ) → LinesStand lines spans b → is_bound lines number ≡ true → is_some (place_of b number) ≡ true
+-- a bound label stands where the line that binds it does
+pub bound_place : {context : Context} (lines : List Line) (spans : List LineSpan) (b : Buffer) (number : ℕ) → LinesStand context lines spans b → is_bound lines number ≡ true → place_of b number ≡ Some (start_of spans (binding_line lines number))
 bound_place lines spans b number built h =
-    let at : BoundAt lines number = bound_at lines number h in
-    let there = built.stand at.index (Bind at.label) at.there in
-    ap (λ n. is_some (place_of b n)) (sym at.is) ∙ ap is_some there.1
+    let at = bind_at lines number h in
+    ap (place_of b) (sym at.2) ∙ (built.each (binding_line lines number) (Bind at.0) at.1).there.1
 
-named_place : (lines : List Line) (spans : List LineSpan) (b : Buffer) (number : ℕ) → LinesStand lines spans b → AllBound lines → IsNamed lines number → is_some (place_of b number) ≡ true
+named_place : {context : Context} (lines : List Line) (spans : List LineSpan) (b : Buffer) (number : ℕ) → LinesStand context lines spans b → AllBound lines → IsNamed lines number → is_some (place_of b number) ≡ true
 named_place lines spans b number built all n =
-    ap (λ m. is_some (place_of b m)) (sym n.is) ∙ bound_place lines spans b n.label.number built (all n.index n.line n.there n.place n.label n.names)
+    ap (λ m. is_some (place_of b m)) (sym n.is) ∙ ap is_some (bound_place lines spans b n.label.number built (all n.index n.line n.there n.place n.label n.names))
 
-pub can_finish : (lines : List Line) (spans : List LineSpan) (b : Buffer) → LinesStand lines spans b → Named lines spans b → Sized lines b → size_sum lines ≤ 2 ^ 30 → AllBound lines → CanFinish label_kinds (shape_of b)
+pub can_finish : {context : Context} (lines : List Line) (spans : List LineSpan) (b : Buffer) → LinesStand context lines spans b → Named lines spans b → Sized lines b → size_sum lines ≤ size_limit → AllBound lines → CanFinish label_kinds (shape_of b)
 can_finish lines spans b built n s sum all =
     let near : length (before_last (bytes_of b) (length (pending b))) ≤ length (bytes_of b) + 3 = last_near (bytes_of b) (length (pending b)) in
     let size = s.size in

@@ -1,83 +1,57 @@
--- Code that a buffer of lines was finished to is threaded: lines, gaps and breaks.
-use Rattle.std.proofs.Common.{◌≡◌, ℕ, suc, ◌%◌, ◌^◌, ◌<◌, List, [], ◌∷◌, length, Some, None, arith, refl, sym, ap, ◌∙◌}
+-- Code that a buffer of lines was finished to runs as its job says.
+use Rattle.std.proofs.Common.{◌≡◌, ℕ, suc, ◌%◌, ◌<◌, length, Some, None, arith, refl, sym, ap, ◌∙◌}
 use Rattle.std.specs.Prelude.{slice_get}
-use Rattle.rv_machine.specs.State.{Values}
+use Rattle.rv_inst.specs.Context.{context_of}
 use Rattle.rv_inst.specs.declared.inst.Line.{Line}
 use Rattle.rv_inst.specs.declared.inst.Line.TheVariants.{Inst as Put, Bind}
-use Rattle.rv_inst.specs.declared.inst.Inst.{Inst}
-use Rattle.rv_inst.specs.declared.inst.Inst.TheVariants.{EmitIsland}
 use Rattle.rv_inst.specs.declared.job.Job.{Job}
 use Rattle.rv_inst.specs.declared.code.Code.{Code}
-use Rattle.rv_inst.specs.LabelUse.{label_kinds}
-use Rattle.rv_inst.specs.Meaning.{Break, exit_of, inst_exit, inst_effect}
-use Rattle.rv_inst.specs.Operands.{named_labels, inst_labels}
-use Rattle.rv_inst.specs.Rules.{inst_rule, broken_rule}
-use Rattle.mach_buffer.specs.Buffer.{shape_of, bytes_of}
-use Rattle.mach_buffer.specs.Finish.{CanFinish, Finishes}
-use Rattle.mach_buffer.proofs.Laws.{below}
-use Rattle.rv_emit.specs.Operations.{decoded_ebreak}
-use Rattle.rv_emit.specs.Runs.{least_steps, exit_address, placement}
-use Rattle.rv_emit.specs.Emitted.{Buffer, bytes_of_words}
-use Rattle.rv_emit.specs.Sequences.{StandOps}
-use Rattle.rv_asm.specs.Reported.{start_of, end_of}
+use Rattle.rv_inst.specs.Operands.{named_labels}
+use Rattle.rv_inst.specs.Rules.{broken_rule}
+use Rattle.mach_buffer.specs.Buffer.{shape_of, bytes_of, place_of, traps_of}
+use Rattle.rv_emit.specs.Emitted.{Buffer}
+use Rattle.rv_emit.specs.InstParts.{parts_of}
+use Rattle.rv_emit.specs.Sites.{Site, GapIn}
+use Rattle.rv_emit.specs.Standing.{IsFinishedTo}
+use Rattle.rv_emit.proofs.Laws.{are_blocks, gap_stands, parts_stand}
+use Rattle.rv_asm.specs.Reported.{start_of, end_of, end_before}
 use Rattle.rv_asm.specs.Simulation.{RunsAsListed}
-use Rattle.rv_asm.specs.Reported.{end_before}
-use Rattle.rv_asm.specs.LinesInBuffer.{InstStands, LineStands, LinesStand}
-use Rattle.rv_asm.proofs.LinesJoin.{Leads, LineLeads, label_place, IsThreaded, line_at, threaded_runs}
-use Rattle.rv_asm.proofs.Targets.{leads_here}
+use Rattle.rv_asm.specs.LinesInBuffer.{StandsAfter, LinesStand}
 use Rattle.rv_asm.proofs.ExitPoints.{AllBound}
-use Rattle.rv_asm.proofs.BetweenLines.{Finished, gap_leads, gap_even}
-use Rattle.rv_asm.proofs.WholeCode.{block_leads, block_halts}
+use Rattle.rv_asm.proofs.Finish.{bound_place}
+use Rattle.rv_asm.proofs.LinesJoin.{site_of, LineIn, line_at, threaded_runs}
 
--- ---- instructions
+module _ (job : Job) (code : Code) (b : Buffer) (built : LinesStand (context_of job) job.lines code.lines b) (f : IsFinishedTo (shape_of b) code.bytes) (traps : code.traps ≡ traps_of b) (ruled : (i : ℕ) (line : Line) → slice_get job.lines i ≡ Some line → broken_rule line ≡ None) where
+  abbrev site : ℕ → Site
+  site base = site_of job code (place_of b) base
 
-inst_leads : (job : Job) (code : Code) (b : Buffer) (start after : ℕ) (inst : Inst) → Finished job code b → InstStands inst b start after → inst_rule inst ≡ None → start % 4 ≡ 0 → AllBound job.lines (inst_labels inst) →
-    Leads job.flags code start (λ v. least_steps (inst_exit inst v)) (λ base v. exit_address (label_place job.lines code) base start after (inst_exit inst v)) (λ base. inst_effect (placement base start after) inst)
-inst_leads job code b start after (EmitIsland space) f there rule aligned bound = gap_leads job code b start after f there (omega arith)
-inst_leads job code b start after inst f there rule aligned bound = block_leads job code b start after inst f there rule aligned bound
+  -- a line stands in the code, and ends at an even offset
+  line_in : (base : ℕ) (line : Line) (before start end : ℕ) → broken_rule line ≡ None → StandsAfter (context_of job) line b before start end → LineIn (site base) line start end × (end % 2 ≡ 0)
+  line_in base (Put inst) before start end rule h =
+      let setting = h.there.0 in
+      let le = h.within in
+      let longer = f.finishes.grows.longer in
+      let long = f.finishes.same_length in
+      let p = parts_stand (site base) (shape_of b) f refl traps (parts_of (context_of job) setting inst) start end (are_blocks (context_of job) setting inst rule) h.even (omega arith) h.there.1 in
+      (record { setting = setting; even = h.even; within = p.3; stands = p.0 }, p.1)
+  line_in base (Bind label) before start end rule h = let same = h.there.0 in let even = h.even in (same, omega arith)
 
-inst_halts : (job : Job) (code : Code) (b : Buffer) (start after : ℕ) (inst : Inst) (v : Values) → Finished job code b → InstStands inst b start after → inst_rule inst ≡ None → start % 4 ≡ 0 → AllBound job.lines (inst_labels inst) → inst_exit inst v ≡ Break → StandOps job.flags code.bytes start (decoded_ebreak ∷ [])
-inst_halts job code b start after (EmitIsland space) v f there rule aligned bound e = absurd (cc)
-inst_halts job code b start after inst v f there rule aligned bound e = block_halts job code b start after inst f there rule aligned bound v e
+  -- the line of an index does
+  each_in : (base i : ℕ) (line : Line) → slice_get job.lines i ≡ Some line → LineIn (site base) line (start_of code.lines i) (end_of code.lines i) × (end_of code.lines i % 2 ≡ 0)
+  each_in base i line e = line_in base line (end_before code.lines i) (start_of code.lines i) (end_of code.lines i) (ruled i line e) (built.each i line e)
 
-words_even : (words : List ℕ) → length (bytes_of_words words) % 2 ≡ 0
-words_even [] = refl
-words_even (w ∷ words) = let h = words_even words in omega arith
+  gap_in : (base i : ℕ) → suc i < length job.lines → GapIn (site base) (end_of code.lines i) (start_of code.lines (suc i))
+  gap_in base i lt =
+      let here = line_at job.lines i (omega arith) in
+      let next = line_at job.lines (suc i) lt in
+      gap_stands (site base) (shape_of b) f refl traps (end_of code.lines i) (start_of code.lines (suc i)) (each_in base i here.0 here.1).1 (built.each (suc i) next.0 next.1).gap
 
-inst_even : (job : Job) (code : Code) (b : Buffer) (start after : ℕ) (inst : Inst) → Finished job code b → InstStands inst b start after → start % 4 ≡ 0 → after % 2 ≡ 0
-inst_even job code b start after (EmitIsland space) f there aligned = gap_even job code b start after f there (omega arith)
-inst_even job code b start after inst f there aligned = let e = there.ends in let h = words_even there.words in omega arith
-
--- ---- lines
-
-line_leads : (job : Job) (code : Code) (b : Buffer) (i : ℕ) (line : Line) → Finished job code b → LineStands line b (start_of code.lines i) (end_of code.lines i) → broken_rule line ≡ None → start_of code.lines i % 4 ≡ 0 → AllBound job.lines (named_labels line) → LineLeads job code i line
-line_leads job code b i (Put inst) f there rule aligned bound = inst_leads job code b (start_of code.lines i) (end_of code.lines i) inst f there rule aligned bound
-line_leads job code b i (Bind label) f there rule aligned bound = leads_here job.flags code (start_of code.lines i) (end_of code.lines i) there.0
-
-line_halts : (job : Job) (code : Code) (b : Buffer) (i : ℕ) (line : Line) (v : Values) → Finished job code b → LineStands line b (start_of code.lines i) (end_of code.lines i) → broken_rule line ≡ None → start_of code.lines i % 4 ≡ 0 → AllBound job.lines (named_labels line) → exit_of line v ≡ Break → StandOps job.flags code.bytes (start_of code.lines i) (decoded_ebreak ∷ [])
-line_halts job code b i (Put inst) v f there rule aligned bound e = inst_halts job code b (start_of code.lines i) (end_of code.lines i) inst v f there rule aligned bound e
-line_halts job code b i (Bind label) v f there rule aligned bound e = absurd (cc)
-
-line_even : (job : Job) (code : Code) (b : Buffer) (start after : ℕ) (line : Line) → Finished job code b → LineStands line b start after → start % 4 ≡ 0 → after % 2 ≡ 0
-line_even job code b start after (Put inst) f there aligned = inst_even job code b start after inst f there aligned
-line_even job code b start after (Bind label) f there aligned = let e = there.0 in omega arith
-
--- ---- all together
-
-pub built_threaded : (job : Job) (code : Code) (b : Buffer) → LinesStand job.lines code.lines b → CanFinish label_kinds (shape_of b) → Finishes label_kinds (shape_of b) code.bytes → code.end ≡ length (bytes_of b) → length code.bytes < 2 ^ 31 →
-    ((i : ℕ) (line : Line) → slice_get job.lines i ≡ Some line → broken_rule line ≡ None) → ((i : ℕ) (line : Line) → slice_get job.lines i ≡ Some line → AllBound job.lines (named_labels line)) → IsThreaded job code
-built_threaded job code b built can finishes end small rules bound =
-    let f : Finished job code b = record { built = built; can = can; finishes = finishes; small = small } in
-    record {
-      line = λ i line e. line_leads job code b i line f (built.stand i line e) (rules i line e) (built.aligned i (below job.lines i line e)) (bound i line e);
-      gap = λ i lt.
-          let here = line_at job.lines i (omega arith) in
-          gap_leads job code b (end_of code.lines i) (start_of code.lines (suc i)) f (built.gap (suc i) lt)
-          (line_even job code b (start_of code.lines i) (end_of code.lines i) here.0 f (built.stand i here.0 here.1) (built.aligned i (omega arith)));
-      halt = λ i line v e stops. line_halts job code b i line v f (built.stand i line e) (rules i line e) (built.aligned i (below job.lines i line e)) (bound i line e) stops;
-      last = λ i e. end ∙ built.ends ∙ ap (end_before code.lines) (sym e);
-    }
-
-pub built_runs : (job : Job) (code : Code) (b : Buffer) → LinesStand job.lines code.lines b → CanFinish label_kinds (shape_of b) → Finishes label_kinds (shape_of b) code.bytes → code.end ≡ length (bytes_of b) → length code.bytes < 2 ^ 31 →
-    ((i : ℕ) (line : Line) → slice_get job.lines i ≡ Some line → broken_rule line ≡ None) → ((i : ℕ) (line : Line) → slice_get job.lines i ≡ Some line → AllBound job.lines (named_labels line)) → RunsAsListed job code
-built_runs job code b built can finishes end small rules bound = threaded_runs job code (built_threaded job code b built can finishes end small rules bound)
+  pub built_runs : code.end ≡ length (bytes_of b) → ((i : ℕ) (line : Line) → slice_get job.lines i ≡ Some line → AllBound job.lines (named_labels line)) → RunsAsListed job code
+  built_runs end named = threaded_runs job code (place_of b) (record {
+    line = λ base i line e. (each_in base i line e).0;
+    ruled = ruled;
+    named = named;
+    gap = λ base i lt. (gap_in base i lt).leads;
+    last = λ i e. end ∙ built.ends ∙ ap (end_before code.lines) (sym e);
+    bound = λ label e. bound_place job.lines code.lines b label built e;
+  })

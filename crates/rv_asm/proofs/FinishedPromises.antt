@@ -1,40 +1,45 @@
 -- Code that was built and finished keeps what is promised of it.
-use Rattle.std.proofs.Common.{◌≡◌, None, ◌∙◌, arith}
+use Rattle.std.proofs.Common.{◌≡◌, None, sym, ◌∙◌, subst, arith}
+use Rattle.rv_base.specs.Frame.{no_frame}
+use Rattle.rv_inst.specs.Context.{context_of}
 use Rattle.rv_inst.specs.declared.job.Job.{Job}
 use Rattle.rv_inst.specs.declared.code.Code.{Code}
+use Rattle.mach_buffer.specs.Buffer.{shape_of}
+use Rattle.rv_emit.specs.Standing.{IsFinishedTo}
+use Rattle.rv_listing.specs.CodeRanges.{CodeFits}
 use Rattle.rv_asm.specs.Refusal.{refusal}
 use Rattle.rv_asm.specs.Reported.{Reported}
 use Rattle.rv_asm.specs.Simulation.{RunsAsListed}
 use Rattle.rv_asm.specs.FinishedCode.{IsFinished}
+use Rattle.rv_asm.specs.LinesInBuffer.{context_by}
 use Rattle.rv_asm.specs.Reach.{InReach}
 use Rattle.rv_asm.proofs.Finish.{finished_short}
-use Rattle.rv_asm.proofs.RulesKept.{names_bound}
-use Rattle.rv_asm.proofs.RefusalOrder.{parts, no_rule_broken, sum_small}
-use Rattle.rv_asm.proofs.SpanLengths.{all_bytes, built_told}
-use Rattle.rv_asm.proofs.BetweenLines.{Finished}
-use Rattle.rv_listing.specs.CodeRanges.{CodeFits}
 use Rattle.rv_asm.proofs.FinishedLines.{built_runs}
+use Rattle.rv_asm.proofs.RefusalOrder.{parts, no_rule_broken, sum_small}
+use Rattle.rv_asm.proofs.RulesKept.{names_bound}
+use Rattle.rv_asm.proofs.SpanLengths.{all_bytes, built_reported}
 
-is_finished : (job : Job) (code : Code) → refusal job.lines ≡ None → (f : IsFinished job.lines code) → Finished job code f.sink
-is_finished job code e f =
-    let short = finished_short job.lines f.sink code.bytes f.sized f.finished in
-    let small = sum_small job.lines e in
-    record { built = f.built; can = f.ready; finishes = f.finished; small = omega arith }
+module _ (job : Job) (code : Code) (e : refusal job.lines ≡ None) (none : job.frame ≡ no_frame) (built : IsFinished (context_by job.flags no_frame job.constants) job.lines code) (fits : CodeFits code) where
+  abbrev f : IsFinished (context_of job) job.lines code
+  f = subst (λ frame. IsFinished (context_by job.flags frame job.constants) job.lines code) (sym none) built
 
-pub finished_told : (job : Job) (code : Code) → refusal job.lines ≡ None → IsFinished job.lines code → CodeFits code → Reported job code
-finished_told job code e f fits =
-    let longer = f.finished.grows.longer in
-    let long = f.finished.same_length in
-    built_told job code f.sink (is_finished job code e f) (all_bytes code.bytes fits.bytes) (f.labels ∙ f.named.labels) f.end (omega (arith, longer, long))
+  finished : IsFinishedTo (shape_of f.sink) code.bytes
+  finished = record { pending = f.sink.pending; sound = f.built.sound; can = f.ready; finishes = f.finished; all_bytes = all_bytes code.bytes fits.bytes }
 
-pub finished_runs : (job : Job) (code : Code) → refusal job.lines ≡ None → IsFinished job.lines code → RunsAsListed job code
-finished_runs job code e f =
-    let is = is_finished job code e f in
-    built_runs job code f.sink f.built f.ready f.finished f.end is.small (no_rule_broken job.lines e) (names_bound job.lines job.lines (parts job.lines e).unbound)
+  pub finished_reported : Reported job code
+  finished_reported =
+      let longer = f.finished.grows.longer in
+      let long = f.finished.same_length in
+      let short = finished_short job.lines f.sink code.bytes f.sized f.finished in
+      let small = sum_small job.lines e in
+      built_reported job code f.sink f.built finished (omega (arith, short, small)) (f.labels ∙ f.named.labels) f.traps f.end (omega (arith, longer, long))
 
-pub finished_in_reach : (job : Job) (code : Code) → IsFinished job.lines code → InReach job code
-finished_in_reach job code f = record {
-  early = f.early;
-  reach = f.reach;
-  short = finished_short job.lines f.sink code.bytes f.sized f.finished;
-}
+  pub finished_runs : RunsAsListed job code
+  finished_runs = built_runs job code f.sink f.built finished f.traps (no_rule_broken job.lines e) f.end (names_bound job.lines job.lines (parts job.lines e).unbound)
+
+  pub finished_in_reach : InReach job code
+  finished_in_reach = record {
+    early = f.early;
+    reach = f.reach;
+    short = finished_short job.lines f.sink code.bytes f.sized f.finished;
+  }

@@ -1,9 +1,10 @@
 -- Which labels are bound and named, and that a buffer can be finished.
-use Rattle.std.proofs.Common.{◌≡◌, ℕ, zero, suc, ◌+◌, ◌^◌, ◌<◌, ◌≤◌, ◌⊎◌, inl, inr, Bool, true, false, cond, ◌||◌, List, [], ◌∷◌, ◌++◌, length, Option, Some, None, refl, ap, sym, ◌∙◌, subst, arith, ⊎_elim}
+use Rattle.std.proofs.Common.{◌≡◌, ℕ, zero, suc, ◌+◌, ◌<◌, ◌≤◌, ◌⊎◌, inl, inr, Bool, true, false, cond, ◌||◌, List, [], ◌∷◌, ◌++◌, length, Option, Some, None, refl, ap, sym, ◌∙◌, subst, arith, ⊎_elim}
 use Rattle.std.specs.Prelude.{slice_get, nat_eq, nat_le, is_some, option_map, unwrap_or}
-use Rattle.std.proofs.lemmas.Bool.{true≢false, eq-eqb, eqb-true, leb-false, or_parts, cases_eq, lt-ltb}
+use Rattle.std.proofs.lemmas.Bool.{true≢false, eq-eqb, leb-false, or_parts, cases_eq, lt-ltb}
 use Rattle.std.proofs.lemmas.List.{append-nil, map-append}
 use Rattle.rv_base.specs.declared.label.MachLabel.{MachLabel}
+use Rattle.mach_labels.specs.Table.{first_inner}
 use Rattle.rv_inst.specs.declared.code.LineSpan.{LineSpan}
 use Rattle.rv_inst.specs.declared.inst.Inst.{Inst}
 use Rattle.rv_inst.specs.declared.inst.Inst.TheVariants.{EmitIsland, Jal, CondBr}
@@ -16,17 +17,19 @@ use Rattle.rv_inst.specs.declared.error.Rule.TheVariants as rule_of
 use Rattle.rv_inst.specs.Rules.{broken_rule}
 use Rattle.rv_inst.specs.Operands.{inst_labels}
 use Rattle.rv_inst.specs.LabelUse.{label_kinds, has_veneer_of}
+use Rattle.rv_inst.specs.Sizes.{line_space}
 use Rattle.mach_buffer.specs.declared.uses.Use.{Use}
 use Rattle.mach_buffer.specs.Buffer.{bytes_of, uses_of, place_of, labels_of}
 use Rattle.mach_buffer.specs.Shape.{recorded, core, listed}
 use Rattle.mach_buffer.specs.Islands.{is_far}
 use Rattle.mach_buffer.proofs.Laws.{both_lists, comes_from, slice_get-append, slice_get-append_last, append_each, recorded_get}
-use Rattle.rv_emit.specs.Emitted.{Buffer, AppendsInst, AppendsIsland, IslandIfNeeded, Emitted}
+use Rattle.rv_emit.specs.Emitted.{Buffer, AppendsInst, AppendsIsland, IslandIfNeeded}
 use Rattle.rv_inst.specs.Uses.{use_at, uses_in}
 use Rattle.rv_emit.proofs.Laws.{Each, each_none, each_more, uses_kinds}
 use Rattle.rv_asm.specs.Reported.{start_of, end_of, binds_from}
 use Rattle.rv_asm.specs.Refusal.{binds, is_bound}
-use Rattle.rv_asm.specs.LinesInBuffer.{IsNamed, Named, InstPut, BindPut, LinePut}
+use Rattle.rv_asm.specs.LinesInBuffer.{IsNamed, Named, BindPut}
+use Rattle.rv_asm.proofs.LinesAppended.{Appends, InstAppends, LineAppends}
 
 -- ---- the binds of lines
 
@@ -78,25 +81,6 @@ or_assoc false b c = refl
 pub bound_append : (lines more : List Line) (label : ℕ) → is_bound (lines ++ more) label ≡ (is_bound lines label || is_bound more label)
 bound_append [] more label = refl
 bound_append (line ∷ lines) more label = ap (λ b. binds line label || b) (bound_append lines more label) ∙ or_assoc (binds line label) (is_bound lines label) (is_bound more label)
-
--- the line that binds a label
-pub record BoundAt (lines : List Line) (number : ℕ) : Type 0 where
-  pub index : ℕ
-  pub label : MachLabel
-  pub there : slice_get lines index ≡ Some (Bind label)
-  pub is : label.number ≡ number
-
-later_bound : {lines : List Line} {number : ℕ} (line : Line) → BoundAt lines number → BoundAt (line ∷ lines) number
-later_bound line b = record { index = suc b.index; label = b.label; there = b.there; is = b.is }
-
-pub bound_at : (lines : List Line) (number : ℕ) → is_bound lines number ≡ true → BoundAt lines number
-bound_at [] number h = absurd (true≢false (sym h))
-bound_at (Put inst ∷ lines) number h = later_bound (Put inst) (bound_at lines number h)
-bound_at (Bind l ∷ lines) number h = on (nat_eq l.number number) refl h (bound_at lines number)
-  where
-    on : (c : Bool) → nat_eq l.number number ≡ c → (c || is_bound lines number) ≡ true → (is_bound lines number ≡ true → BoundAt lines number) → BoundAt (Bind l ∷ lines) number
-    on true e h rest = record { index = 0; label = l; there = refl; is = eqb-true _ _ e }
-    on false e h rest = later_bound (Bind l) (rest h)
 
 -- ---- the uses and what they name
 
@@ -205,7 +189,7 @@ good_block lines inst old new p h =
 good_line : (lines more : List Line) (b : Buffer) → AreGood lines b → AreGood (lines ++ more) b
 good_line lines more b h j u e = good_kept lines more b b (λ label g. g) u (h j u e)
 
-pub good_emitted : (lines : List Line) (inst : Inst) (old new : Buffer) → Emitted inst old new → AreGood lines old → AreGood (lines ++ Put inst ∷ []) new
+pub good_emitted : (lines : List Line) (inst : Inst) (old new : Buffer) → Appends inst old new → AreGood lines old → AreGood (lines ++ Put inst ∷ []) new
 good_emitted lines (EmitIsland space) old new e h = good_line lines (Put (EmitIsland space) ∷ []) new (good_room lines space old new e.0 e.1 h)
 good_emitted lines inst old new e h = good_block lines inst old new e h
 
@@ -213,7 +197,7 @@ good_emitted lines inst old new e h = good_block lines inst old new e h
 
 -- labels of lines stay as they are, but where a line binds one
 abbrev KeepsLow : Buffer → Buffer → Type 0
-KeepsLow old new = (label : ℕ) → label < 2 ^ 30 → place_of new label ≡ place_of old label
+KeepsLow old new = (label : ℕ) → label < first_inner → place_of new label ≡ place_of old label
 
 pub room_keeps : (distance : ℕ) (old new : Buffer) (made : Bool) → IslandIfNeeded distance old new made → (labels_of new ≡ labels_of old) × KeepsLow old new
 room_keeps distance old new made m = ⊎_elim
@@ -221,7 +205,7 @@ room_keeps distance old new made m = ⊎_elim
     (λ put. (put.1.labels, λ label low. put.1.places label (λ e. let at = put.1.drawn_label in absurd (omega arith))))
     m.put
 
-pub emitted_keeps : (inst : Inst) (old new : Buffer) → Emitted inst old new → (labels_of new ≡ labels_of old) × KeepsLow old new
+pub emitted_keeps : (inst : Inst) (old new : Buffer) → Appends inst old new → (labels_of new ≡ labels_of old) × KeepsLow old new
 emitted_keeps (EmitIsland space) old new e = room_keeps space old new e.0 e.1
 emitted_keeps inst old new e = block_keeps inst old new e
   where
@@ -242,7 +226,7 @@ named_none b uses labels none = record {
         none_at : (j : ℕ) (u : Use LabelUse) → slice_get [] j ≡ Some u → ⊥
         none_at j u e = absurd (cc)
 
-named_from : (lines : List Line) (spans : List LineSpan) (b : Buffer) → labels_of b ≡ binds_from spans 0 lines → ((label : ℕ) → label < 2 ^ 30 → is_bound lines label ≡ false → place_of b label ≡ None) → AreGood lines b → Named lines spans b
+named_from : (lines : List Line) (spans : List LineSpan) (b : Buffer) → labels_of b ≡ binds_from spans 0 lines → ((label : ℕ) → label < first_inner → is_bound lines label ≡ false → place_of b label ≡ None) → AreGood lines b → Named lines spans b
 named_from lines spans b labels unbound good = record {
   labels = labels;
   unbound = unbound;
@@ -250,16 +234,16 @@ named_from lines spans b labels unbound good = record {
   named = λ j u h. (good j (core u) (recorded_get (uses_of b) j u h)).1;
 }
 
-inst_named : (lines : List Line) (spans : List LineSpan) (inst : Inst) (span : LineSpan) (old new : Buffer) → Named lines spans old → length spans ≡ length lines → InstPut inst old new span → Named (lines ++ Put inst ∷ []) (spans ++ span ∷ []) new
+inst_named : (lines : List Line) (spans : List LineSpan) (inst : Inst) (span : LineSpan) (old new : Buffer) → Named lines spans old → length spans ≡ length lines → InstAppends inst old new span → Named (lines ++ Put inst ∷ []) (spans ++ span ∷ []) new
 inst_named lines spans inst span old new n count p =
-    let first = room_keeps 88 old p.mid p.made p.room in
+    let first = room_keeps line_space old p.mid p.made p.room in
     let then_ = emitted_keeps inst p.mid new p.emitted in
     named_from (lines ++ Put inst ∷ []) (spans ++ span ∷ []) new
     (then_.0 ∙ first.0 ∙ n.labels ∙ sym (append-nil _) ∙ sym (binds_next lines spans (Put inst) span count))
     (λ label low free.
     let before : is_bound lines label ≡ false = (or_parts (is_bound lines label) false (sym (bound_append lines (Put inst ∷ []) label) ∙ free)).0 in
     then_.1 label low ∙ first.1 label low ∙ n.unbound label low before)
-    (good_emitted lines inst p.mid new p.emitted (good_room lines 88 old p.mid p.made p.room (good_from_named lines spans old n)))
+    (good_emitted lines inst p.mid new p.emitted (good_room lines line_space old p.mid p.made p.room (good_from_named lines spans old n)))
 
 bind_keeps : (label : MachLabel) (old new : Buffer) (span : LineSpan) → BindPut label old new span → Keeps old new
 bind_keeps label old new span p other h = ⊎_elim
@@ -268,10 +252,10 @@ bind_keeps label old new span p other h = ⊎_elim
     (cases_eq other label.number)
 
 -- a label of the listing is reported
-listed_low : (label : MachLabel) (at : ℕ) → label.number < 2 ^ 30 → listed label at ≡ (record { label = label; offset = at }) ∷ []
-listed_low label at low = ap (λ b. cond b ((record { label = label; offset = at }) ∷ []) []) (lt-ltb label.number (2 ^ 30) low)
+listed_low : (label : MachLabel) (at : ℕ) → label.number < first_inner → listed label at ≡ (record { label = label; offset = at }) ∷ []
+listed_low label at low = ap (λ b. cond b ((record { label = label; offset = at }) ∷ []) []) (lt-ltb label.number first_inner low)
 
-bind_named : (lines : List Line) (spans : List LineSpan) (label : MachLabel) (span : LineSpan) (old new : Buffer) → label.number < 2 ^ 30 → Named lines spans old → length spans ≡ length lines → BindPut label old new span → Named (lines ++ Bind label ∷ []) (spans ++ span ∷ []) new
+bind_named : (lines : List Line) (spans : List LineSpan) (label : MachLabel) (span : LineSpan) (old new : Buffer) → label.number < first_inner → Named lines spans old → length spans ≡ length lines → BindPut label old new span → Named (lines ++ Bind label ∷ []) (spans ++ span ∷ []) new
 bind_named lines spans label span old new low n count p =
     let start : start_of (spans ++ span ∷ []) (length spans) ≡ length (bytes_of old) = start_last spans span ∙ p.start in
     let own : labels_of new ≡ binds_from spans 0 lines ++ binds_from (spans ++ span ∷ []) (length spans) (Bind label ∷ []) =
@@ -286,13 +270,13 @@ bind_named lines spans label span old new low n count p =
     (λ j u e. good_kept lines (Bind label ∷ []) old new (bind_keeps label old new span p) u (good_from_named lines spans old n j u e)))
 
 -- a label that a line binds is one of the listing's
-pub low_label : (label : MachLabel) → broken_rule (Bind label) ≡ None → label.number < 2 ^ 30
-low_label label rule = on (nat_le (2 ^ 30) label.number) refl rule
+pub low_label : (label : MachLabel) → broken_rule (Bind label) ≡ None → label.number < first_inner
+low_label label rule = on (nat_le first_inner label.number) refl rule
   where
-    on : (c : Bool) → nat_le (2 ^ 30) label.number ≡ c → cond c (Some rule_of.Label) None ≡ None → label.number < 2 ^ 30
+    on : (c : Bool) → nat_le first_inner label.number ≡ c → cond c (Some rule_of.Label) None ≡ None → label.number < first_inner
     on true e h = absurd (cc)
     on false e h = leb-false _ _ e
 
-pub named_next : (lines : List Line) (spans : List LineSpan) (line : Line) (span : LineSpan) (old new : Buffer) → broken_rule line ≡ None → Named lines spans old → length spans ≡ length lines → LinePut line old new span → Named (lines ++ line ∷ []) (spans ++ span ∷ []) new
+pub named_next : (lines : List Line) (spans : List LineSpan) (line : Line) (span : LineSpan) (old new : Buffer) → broken_rule line ≡ None → Named lines spans old → length spans ≡ length lines → LineAppends line old new span → Named (lines ++ line ∷ []) (spans ++ span ∷ []) new
 named_next lines spans (Put inst) span old new rule n count p = inst_named lines spans inst span old new n count p
 named_next lines spans (Bind label) span old new rule n count p = bind_named lines spans label span old new (low_label label rule) n count p

@@ -1,149 +1,123 @@
--- What stands in a buffer stays as the buffer grows, and what a line adds.
-use Rattle.std.proofs.Common.{◌≡◌, ℕ, ◌%◌, ◌⊎◌, inl, inr, Bool, true, false, List, [], length, Option, Some, None, refl, ap, sym, ◌∙◌, subst}
-use Rattle.std.proofs.lemmas.List.{length-append}
+-- What stands in a buffer lasts, and what a line adds.
+use Rattle.std.proofs.Common.{◌≡◌, ℕ, ◌%◌, inl, ⊎_elim, Bool, true, false, List, [], ◌++◌, length, append-nil, Option, Some, None, ap, sym, ◌∙◌, subst, arith}
+use Rattle.std.specs.Prelude.{slice_get}
 use Rattle.rv_base.specs.declared.label.MachLabel.{MachLabel}
+use Rattle.rv_inst.specs.Context.{Context}
 use Rattle.rv_inst.specs.declared.inst.Line.{Line}
 use Rattle.rv_inst.specs.declared.inst.Line.TheVariants.{Inst as Put, Bind}
 use Rattle.rv_inst.specs.declared.inst.Inst.{Inst}
-use Rattle.rv_inst.specs.declared.inst.Inst.TheVariants.{EmitIsland}
 use Rattle.rv_inst.specs.declared.code.LineSpan.{LineSpan}
 use Rattle.rv_inst.specs.declared.label_use.LabelUse.{LabelUse}
 use Rattle.rv_inst.specs.LabelUse.{label_kinds}
+use Rattle.rv_inst.specs.Rules.{inst_rule, broken_rule}
+use Rattle.rv_inst.specs.Traps.{inst_traps}
+use Rattle.rv_inst.specs.Sizes.{line_space}
 use Rattle.mach_buffer.specs.declared.uses.Use.{Use}
 use Rattle.mach_buffer.specs.Reach.{is_pending, is_needed, deadlines}
-use Rattle.mach_buffer.specs.Buffer.{bytes_of, uses_of, place_of}
+use Rattle.mach_buffer.specs.Buffer.{shape_of, bytes_of, uses_of, place_of, traps_of}
+use Rattle.mach_buffer.specs.Growth.{Lasts}
 use Rattle.mach_buffer.specs.Shape.{recorded}
 use Rattle.mach_buffer.specs.Windows.{AreWindows}
-use Rattle.mach_buffer.proofs.Laws.{append_none, grows_none, grows_more, grows_put, block_stays}
-use Rattle.rv_emit.specs.Emitted.{Buffer, IsSoundBuffer, HasWindows, pending, bytes_of_words, AppendsInst, AppendsIsland, IslandIfNeeded, Emitted}
-use Rattle.rv_emit.proofs.Laws.{GrowsTo, block_grows, block_has_windows, block_there, block_whole, island_grows, island_jump}
-use Rattle.rv_asm.specs.LinesInBuffer.{GapStands, SequenceStands, InstStands, LineStands, InstPut, BindPut, LinePut}
+use Rattle.mach_buffer.proofs.Laws.{append_none, grows_put, lasts_more}
+use Rattle.rv_emit.specs.declared.state.EmitVState.{EmitVState}
+use Rattle.rv_emit.specs.Emitted.{Buffer, IsSoundBuffer, HasWindows, IslandIfNeeded}
+use Rattle.rv_emit.specs.InstParts.{parts_of}
+use Rattle.rv_emit.specs.State.{setting_beyond}
+use Rattle.rv_emit.proofs.Laws.{gap_last, parts_last, gap_put, parts_put, are_blocks}
+use Rattle.rv_asm.specs.LinesInBuffer.{LineStands, StandsAfter, InstPut, BindPut, LinePut}
+use Rattle.rv_asm.specs.Reported.{line_traps}
+use Rattle.rv_asm.proofs.LinesAppended.{appends, appended_long}
+use Rattle.rv_asm.proofs.LineTraps.{room_traps, appended_traps}
 
--- ---- what stands stays
+-- what lasts from one buffer to another
+abbrev pub LastsTo : Buffer → Buffer → Type 0
+LastsTo old new = Lasts label_kinds (shape_of old) (shape_of new)
 
-pub gap_stays : {old new : Buffer} → GrowsTo old new → (from to : ℕ) → GapStands old from to → GapStands new from to
-gap_stays g from to (inl e) = inl e
-gap_stays g from to (inr i) = inr (record { after_island = i.after_island; jump = block_stays g i.jump; bound = g.places i.after_island.number to i.bound; longer = i.longer })
+line_lasts : (context : Context) (line : Line) (old new : Buffer) → LastsTo old new → (start end : ℕ) → LineStands context line old start end → LineStands context line new start end
+line_lasts context (Put inst) old new l start end (setting, parts, long) = (setting, parts_last context.flags (parts_of context setting inst) start end parts l, long)
+line_lasts context (Bind label) old new l start end (same, bound) = (same, l.grows.places label.number start bound)
 
-pub there_stays : {inst : Inst} {old new : Buffer} → GrowsTo old new → (start end : ℕ) → SequenceStands inst old start end → SequenceStands inst new start end
-there_stays g start end t = record { words = t.words; decode = t.decode; used = t.used; block = block_stays g t.block; ends = t.ends }
-
-inst_stays : (inst : Inst) (old new : Buffer) → GrowsTo old new → (start end : ℕ) → InstStands inst old start end → InstStands inst new start end
-inst_stays (EmitIsland space) old new g start end h = gap_stays g start end h
-inst_stays inst old new g start end h = there_stays g start end h
-
-pub line_stays : (line : Line) (old new : Buffer) → GrowsTo old new → (start end : ℕ) → LineStands line old start end → LineStands line new start end
-line_stays (Put inst) old new g start end h = inst_stays inst old new g start end h
-line_stays (Bind label) old new g start end h = (h.0, g.places label.number start h.1)
-
--- ---- room
-
--- after what stood there is nothing more, or an island
-pub record RoomMade (old new : Buffer) : Type 0 where
-  pub grows : GrowsTo old new
-  pub gap : GapStands new (length (bytes_of old)) (length (bytes_of new))
-  pub whole : length (bytes_of new) % 4 ≡ 0
-  pub windows : HasWindows new
-  pub sound : IsSoundBuffer new
-  pub first : uses_of old ≡ [] → length (bytes_of new) ≡ length (bytes_of old)
-
--- where no use is, no island is needed
-none_needed : (b : Buffer) (distance : ℕ) → uses_of b ≡ [] → is_needed (length (bytes_of b)) distance (pending b) ≡ false
-none_needed b distance e = ap (λ us. is_needed (length (bytes_of b)) distance (deadlines (is_pending label_kinds (place_of b)) label_kinds us)) e
-
-pub room_made : {distance : ℕ} {old new : Buffer} {made : Bool} → IsSoundBuffer old → HasWindows old → length (bytes_of old) % 4 ≡ 0 → IslandIfNeeded distance old new made → RoomMade old new
-room_made {distance} {old} {new} {made} s w a r = on r.put
-  where
-    on : ((made ≡ false) × (new ≡ old)) ⊎ ((made ≡ true) × AppendsIsland old new) → RoomMade old new
-    on (inl (e, same)) = subst (RoomMade old) (sym same) (record {
-      grows = grows_none (bytes_of old) (uses_of old) (place_of old);
-      gap = inl refl;
-      whole = a;
-      windows = w;
-      sound = s;
-      first = λ h. refl;
-    })
-    on (inr (e, p)) = record {
-      grows = island_grows s p;
-      gap = inr (record { after_island = p.after_island; jump = island_jump s w p; bound = p.bound; longer = p.longer });
-      whole = p.aligned;
-      windows = p.windows w;
-      sound = p.sound;
-      first = λ h. let needed : true ≡ false = sym e ∙ r.asked ∙ none_needed old distance h in absurd (cc);
-    }
-
--- ---- an instruction
-
--- what an instruction puts stands from the old end to the new one
-record Emits (inst : Inst) (old new : Buffer) : Type 0 where
-  pub grows : GrowsTo old new
-  pub there : InstStands inst new (length (bytes_of old)) (length (bytes_of new))
-  pub whole : length (bytes_of new) % 4 ≡ 0
-  pub windows : HasWindows new
-  pub sound : IsSoundBuffer new
-
-put_there : (inst : Inst) {old new : Buffer} → IsSoundBuffer old → HasWindows old → AppendsInst inst old new → SequenceStands inst new (length (bytes_of old)) (length (bytes_of new))
-put_there inst {old} s w p = record {
-  words = p.words;
-  decode = p.decode;
-  used = p.used;
-  block = block_there inst s p w;
-  ends = ap (length {A = ℕ}) p.adds.bytes ∙ length-append (bytes_of old) (bytes_of_words p.words);
+pub stands_last : (context : Context) (line : Line) (old new : Buffer) → LastsTo old new → (before start end : ℕ) → StandsAfter context line old before start end → StandsAfter context line new before start end
+stands_last context line old new l before start end h = record {
+  gap = gap_last before start h.gap l;
+  there = line_lasts context line old new l start end h.there;
+  even = h.even;
+  within = let a = h.within in let b = l.grows.longer in omega arith;
 }
-
-emits : (inst : Inst) {old new : Buffer} → IsSoundBuffer old → HasWindows old → length (bytes_of old) % 4 ≡ 0 → Emitted inst old new → Emits inst old new
-emits (EmitIsland space) s w a e = let r = room_made s w a e.1 in record { grows = r.grows; there = r.gap; whole = r.whole; windows = r.windows; sound = r.sound }
-emits inst s w a e = record { grows = block_grows inst s e; there = put_there inst s w e; whole = block_whole inst e a; windows = block_has_windows inst s e w; sound = e.adds.sound }
 
 -- ---- a line
 
--- after what stood there is nothing or an island, and then the line, at its span
-pub record LineAdded (line : Line) (old new : Buffer) (span : LineSpan) : Type 0 where
-  pub grows : GrowsTo old new
-  pub gap : GapStands new (length (bytes_of old)) span.start
-  pub there : LineStands line new span.start span.end
+-- after what stood there the line was put, at its span
+pub record LineAdded (context : Context) (line : Line) (old new : Buffer) (span : LineSpan) : Type 0 where
+  pub lasts : LastsTo old new
+  pub stands : StandsAfter context line new (length (bytes_of old)) span.start span.end
   pub end : span.end ≡ length (bytes_of new)
-  pub aligned : span.start % 4 ≡ 0
-  pub whole : length (bytes_of new) % 4 ≡ 0
   pub windows : HasWindows new
   pub sound : IsSoundBuffer new
   pub first : uses_of old ≡ [] → span.start ≡ length (bytes_of old)
+  pub traps : traps_of new ≡ traps_of old ++ line_traps span.start span.end line
 
-inst_added : {inst : Inst} {old new : Buffer} {span : LineSpan} → IsSoundBuffer old → HasWindows old → length (bytes_of old) % 4 ≡ 0 → InstPut inst old new span → LineAdded (Put inst) old new span
-inst_added {inst} {old} {new} {span} s w a p =
-    let r = room_made s w a p.room in
-    let e = emits inst r.sound r.windows r.whole p.emitted in
+-- where no use is, no island is put
+none_put : (distance : ℕ) (old new : Buffer) (made : Bool) → IslandIfNeeded distance old new made → uses_of old ≡ [] → length (bytes_of new) ≡ length (bytes_of old)
+none_put distance old new made m none = ⊎_elim
+    (λ same. ap (λ (b : Buffer). length (bytes_of b)) same.1)
+    (λ put. let needed : true ≡ false = sym put.0 ∙ m.asked ∙ ap (λ us. is_needed (length (bytes_of old)) distance (deadlines (is_pending label_kinds (place_of old)) label_kinds us)) none in absurd (cc))
+    m.put
+
+inst_added : (context : Context) (setting : EmitVState) (inst : Inst) (old new : Buffer) (span : LineSpan) → inst_rule inst ≡ None → IsSoundBuffer old → HasWindows old → InstPut context setting inst old new span → LineAdded context (Put inst) old new span
+inst_added context setting inst old new span rule s w p =
+    let now = setting_beyond p.made setting in
+    let room = gap_put context.flags line_space old p.mid p.made s w p.room in
+    let appended = appends context now inst p.mid new rule room.sound p.emitted in
+    let long = appended_long inst p.mid new appended in
+    let put = parts_put context.flags (parts_of context now inst) p.mid new (are_blocks context now inst rule) room.sound room.windows p.emitted in
     record {
-      grows = grows_more r.grows e.grows;
-      gap = subst (GapStands new (length (bytes_of old))) (sym p.start) (gap_stays e.grows (length (bytes_of old)) (length (bytes_of p.mid)) r.gap);
-      there = subst (λ n. InstStands inst new n span.end) (sym p.start) (subst (InstStands inst new (length (bytes_of p.mid))) (sym p.end) e.there);
+      lasts = lasts_more room.lasts put.lasts;
+      stands = subst (λ n. StandsAfter context (Put inst) new (length (bytes_of old)) n span.end) (sym p.start) (record {
+        gap = gap_last (length (bytes_of old)) (length (bytes_of p.mid)) room.gap put.lasts;
+        there = subst (LineStands context (Put inst) new (length (bytes_of p.mid))) (sym p.end) (now, put.stand, long);
+        even = room.sound.even;
+        within = put.lasts.grows.longer;
+      });
       end = p.end;
-      aligned = ap (λ n. n % 4) p.start ∙ r.whole;
-      whole = e.whole;
-      windows = e.windows;
-      sound = e.sound;
-      first = λ h. p.start ∙ r.first h;
+      windows = put.windows;
+      sound = put.sound;
+      first = λ h. p.start ∙ none_put line_space old p.mid p.made p.room h;
+      traps = appended_traps inst p.mid new appended ∙ (λ i. room_traps line_space old p.mid p.made p.room i ++ inst_traps (sym p.start i) (sym p.end i) inst);
     }
+
+-- ---- a bind
 
 none_some : (o : Option ℕ) (to : ℕ) → o ≡ None → o ≡ Some to → ⊥
 none_some None to p q = absurd (cc)
 none_some (Some b) to p q = absurd (cc)
 
-bind_added : {label : MachLabel} {old new : Buffer} {span : LineSpan} → HasWindows old → length (bytes_of old) % 4 ≡ 0 → BindPut label old new span → LineAdded (Bind label) old new span
-bind_added {label} {old} {new} {span} w a p = record {
+bind_lasts : (label : MachLabel) (old new : Buffer) (span : LineSpan) → BindPut label old new span → LastsTo old new
+bind_lasts label old new span p = record {
   grows = grows_put [] [] (λ k u h. absurd (cc)) (bytes_of new) (uses_of new) (place_of new) (p.bytes ∙ sym (append_none (bytes_of old))) (ap recorded p.uses ∙ sym (append_none (recorded (uses_of old))))
       (λ other to h. p.kept other (λ e. none_some (place_of old label.number) to p.unbound (ap (place_of old) (sym e) ∙ h)) ∙ h);
-  gap = inl (sym p.start);
-  there = (p.start ∙ sym p.end, subst (λ n. place_of new label.number ≡ Some n) (sym p.start) p.bound);
+  straight = λ j u h bare reached. ap (λ us. slice_get us j) p.uses ∙ h;
+  allocated = let e = p.allocated in omega arith;
+  traps = λ k r h. ap (λ ts. slice_get ts k) p.traps ∙ h;
+}
+
+bind_added : (context : Context) (label : MachLabel) (old new : Buffer) (span : LineSpan) → IsSoundBuffer old → HasWindows old → BindPut label old new span → LineAdded context (Bind label) old new span
+bind_added context label old new span s w p = record {
+  lasts = bind_lasts label old new span p;
+  stands = record {
+    gap = inl (sym p.start);
+    there = (p.start ∙ sym p.end, subst (λ n. place_of new label.number ≡ Some n) (sym p.start) p.bound);
+    even = ap (λ n. n % 2) p.start ∙ s.even;
+    within = let e = p.start in let same : length (bytes_of new) ≡ length (bytes_of old) = ap (length {A = ℕ}) p.bytes in omega arith;
+  };
   end = p.end ∙ ap (length {A = ℕ}) (sym p.bytes);
-  aligned = ap (λ n. n % 4) p.start ∙ a;
-  whole = ap (λ (bs : List ℕ). length bs % 4) p.bytes ∙ a;
   windows = subst (λ (bs : List ℕ). AreWindows label_kinds bs (uses_of new)) (sym p.bytes)
       (subst (λ (us : List (Use LabelUse)). AreWindows label_kinds (bytes_of old) us) (sym p.uses) w);
   sound = p.sound;
   first = λ h. p.start;
+  traps = p.traps ∙ sym (append-nil (traps_of old));
 }
 
-pub line_added : (line : Line) {old new : Buffer} {span : LineSpan} → IsSoundBuffer old → HasWindows old → length (bytes_of old) % 4 ≡ 0 → LinePut line old new span → LineAdded line old new span
-line_added (Put inst) s w a p = inst_added s w a p
-line_added (Bind label) s w a p = bind_added w a p
+pub line_added : (context : Context) (setting : EmitVState) (line : Line) (old new : Buffer) (span : LineSpan) → broken_rule line ≡ None → IsSoundBuffer old → HasWindows old → LinePut context setting line old new span → LineAdded context line old new span
+line_added context setting (Put inst) old new span rule s w p = inst_added context setting inst old new span rule s w p
+line_added context setting (Bind label) old new span rule s w p = bind_added context label old new span s w p

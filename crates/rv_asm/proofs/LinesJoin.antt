@@ -1,114 +1,165 @@
--- The join of lines: where each line's sequence, placed with the whole code, leads as the line means, and what stands
--- between two lines leads on, the code runs as its job says. Nothing here knows how the sequences were laid out.
-use Rattle.std.proofs.Common.{◌≡◌, ℕ, zero, suc, ◌+◌, ◌<◌, ◌≤◌, Bool, true, false, List, [], ◌∷◌, length, Some, arith, refl, sym, ap, subst, ◌∙◌}
+-- The join of lines: where the parts of each line stand in the code, and what stands between two lines leads on, the code
+-- runs as its job says. Nothing here knows a buffer.
+use Rattle.std.proofs.Common.{◌≡◌, ℕ, zero, suc, ◌+◌, ◌%◌, ◌<◌, ◌≤◌, Bool, true, false, List, [], ◌∷◌, length, Option, Some, None, arith, refl, sym, ap, ◌∙◌, lit≤}
 use Rattle.std.specs.Prelude.{slice_get, nat_lt, if◌then◌else◌}
 use Rattle.std.proofs.lemmas.Bool.{ltb-true, ltb-false}
-use Rattle.rv_base.specs.declared.flags.IsaFlags.{IsaFlags}
+use Rattle.std.proofs.lemmas.Option.{same_Some}
+use Rattle.rv_machine.specs.State.{State, IsState, Values, AreValues, wrap}
+use Rattle.rv_machine.specs.Steps.{iter}
+use Rattle.rv_inst.specs.Context.{context_of}
 use Rattle.rv_inst.specs.declared.inst.Line.{Line}
+use Rattle.rv_inst.specs.declared.inst.Line.TheVariants.{Inst as Put, Bind}
+use Rattle.rv_inst.specs.declared.inst.Inst.{Inst}
 use Rattle.rv_inst.specs.declared.job.Job.{Job}
 use Rattle.rv_inst.specs.declared.code.Code.{Code}
-use Rattle.rv_inst.specs.Meaning.{Exit, Next, To, Leave, Break, exit_of, effect_of}
-use Rattle.rv_machine.specs.State.{State, IsState, Values, AreValues, wrap}
+use Rattle.rv_inst.specs.Meaning.{Exit, Next, To, Leave, Break, Trap, Data, exit_of, effect_of, temporaries_of}
+use Rattle.rv_inst.specs.Operands.{named_labels}
+use Rattle.rv_inst.specs.Rules.{broken_rule}
+use Rattle.rv_inst.specs.SameValues.{Same, SameBut}
+use Rattle.rv_emit.specs.declared.state.EmitVState.{EmitVState}
+use Rattle.rv_emit.specs.InstParts.{parts_of}
+use Rattle.rv_emit.specs.InstRuns.{ComesOut, placement}
+use Rattle.rv_emit.specs.Sites.{Site, IsPlacedAt, LeadsOn, PartsStand}
+use Rattle.rv_emit.proofs.Laws.{iter_none, iter_after, same_but, but_then_same, inst_runs}
+use Rattle.rv_asm.specs.Refusal.{is_bound}
 use Rattle.rv_asm.specs.Reported.{start_of, end_of}
-use Rattle.rv_asm.specs.Simulation.{At, End, Addresses, IsBack, binding_line, point_of, address_of, placement_of, IsPlaced, IsStopped, Comes, RunsAsListed}
-use Rattle.rv_machine.specs.Decode.{decode}
-use Rattle.rv_machine.specs.Steps.{fetch}
-use Rattle.rv_emit.specs.Operations.{decoded_ebreak}
-use Rattle.rv_inst.specs.SameValues.{Same}
-use Rattle.rv_emit.specs.Runs.{ComesTo, least_steps, exit_address}
-use Rattle.rv_emit.specs.Sequences.{StandOps}
-use Rattle.rv_emit.proofs.Laws.{ends_both, word_there}
-use Rattle.rv_asm.proofs.PlacedCode.{bytes_stand}
+use Rattle.rv_asm.specs.Simulation.{Point, At, Out, End, Stop, Trapped, InData, Addresses, IsBack, Leads, next_point, binding_line, address_of, IsPlaced, IsStopped, Comes, RunsAsListed}
+use Rattle.rv_asm.proofs.ExitPoints.{AllBound, ExitBound, exit_bound}
+use Rattle.rv_asm.proofs.ValuesKept.{same_itself}
 
--- under the whole code, placed, the machine comes from an offset to an address in at least so many steps, with an effect
-pub record Leads (flags : IsaFlags) (code : Code) (start : ℕ) (least : Values → ℕ) (address : ℕ → Values → ℕ) (effect : ℕ → Values → Values) : Type 0 where
-  pub run : (base : ℕ) (symbols slots : Addresses) (s : State) (v : Values) → IsPlaced code base symbols slots s.values.mem → s.pc ≡ wrap (base + start) → IsState s → AreValues v → Same v s.values → ComesTo flags (least v) (address base v) (effect base v) s
-
--- it comes from one offset to another, and nothing else happens
-abbrev pub LeadsTo : IsaFlags → Code → ℕ → ℕ → Type 0
-LeadsTo flags code from to = Leads flags code from (λ v. 0) (λ base v. wrap (base + to)) (λ base v. v)
+-- the code of a job at a base
+abbrev pub site_of : Job → Code → (ℕ → Option ℕ) → ℕ → Site
+site_of job code place base = record { context = context_of job; base = base; bytes = code.bytes; place = place; traps = code.traps }
 
 -- where a label of the listing stands
 abbrev pub label_place : List Line → Code → ℕ → ℕ
 label_place lines code label = start_of code.lines (binding_line lines label)
 
-abbrev pub LineLeads : Job → Code → ℕ → Line → Type 0
-LineLeads job code i line =
-    Leads job.flags code (start_of code.lines i) (λ v. least_steps (exit_of line v)) (λ base v. exit_address (label_place job.lines code) base (start_of code.lines i) (end_of code.lines i) (exit_of line v)) (λ base. effect_of (placement_of code base i) line)
+-- the parts of an instruction stand in the code between two offsets
+pub record InstIn (site : Site) (inst : Inst) (start after : ℕ) : Type 0 where
+  pub setting : EmitVState
+  pub even : start % 2 ≡ 0
+  pub within : after ≤ length site.bytes
+  pub stands : PartsStand site start after (parts_of site.context setting inst)
 
--- each line's sequence leads as the line means, what stands after it leads to the next one, at a break stands ebreak, and
--- the last line ends the code
-pub record IsThreaded (job : Job) (code : Code) : Type 0 where
-  pub line : (i : ℕ) (line : Line) → slice_get job.lines i ≡ Some line → LineLeads job code i line
-  pub gap : (i : ℕ) → suc i < length job.lines → LeadsTo job.flags code (end_of code.lines i) (start_of code.lines (suc i))
-  pub halt : (i : ℕ) (line : Line) (v : Values) → slice_get job.lines i ≡ Some line → exit_of line v ≡ Break → StandOps job.flags code.bytes (start_of code.lines i) (decoded_ebreak ∷ [])
+abbrev pub LineIn : Site → Line → ℕ → ℕ → Type 0
+LineIn site (Put inst) start after = InstIn site inst start after
+LineIn site (Bind label) start after = start ≡ after
+
+-- each line stands in the code, keeps the rules and names labels that are bound; what stands after it leads to the next one;
+-- the last line ends the code; and labels stand where they are bound
+pub record IsThreaded (job : Job) (code : Code) (place : ℕ → Option ℕ) : Type 0 where
+  pub line : (base i : ℕ) (line : Line) → slice_get job.lines i ≡ Some line → LineIn (site_of job code place base) line (start_of code.lines i) (end_of code.lines i)
+  pub ruled : (i : ℕ) (line : Line) → slice_get job.lines i ≡ Some line → broken_rule line ≡ None
+  pub named : (i : ℕ) (line : Line) → slice_get job.lines i ≡ Some line → AllBound job.lines (named_labels line)
+  pub gap : (base i : ℕ) → suc i < length job.lines → LeadsOn (site_of job code place base) (end_of code.lines i) (start_of code.lines (suc i))
   pub last : (i : ℕ) → suc i ≡ length job.lines → code.end ≡ end_of code.lines i
+  pub bound : (label : ℕ) → is_bound job.lines label ≡ true → place label ≡ Some (label_place job.lines code label)
 
--- a sequence that wrote no byte left the code where it was placed
-pub placed_still : {least : ℕ} (flags : IsaFlags) (code : Code) (base : ℕ) (symbols slots : Addresses) (s : State) (address : ℕ) (v : Values) (e : ComesTo flags least address v s) → IsPlaced code base symbols slots s.values.mem → IsPlaced code base symbols slots e.state.values.mem
-placed_still flags code base symbols slots s address v e placed = subst (λ m. IsPlaced code base symbols slots m) (sym e.kept) placed
+-- ---- one line
 
--- from where a line is left the machine comes to its point
-reaches : (job : Job) (code : Code) (base : ℕ) (symbols slots : Addresses) (i : ℕ) (x : Exit) (v : Values) (s : State) → IsThreaded job code → i < length job.lines → IsPlaced code base symbols slots s.values.mem → ComesTo job.flags (least_steps x) (exit_address (label_place job.lines code) base (start_of code.lines i) (end_of code.lines i) x) v s → ComesTo job.flags (least_steps x) (address_of code base (point_of job.lines i x)) v s
-reaches job code base symbols slots i (To label) v s t lt placed e = e
-reaches job code base symbols slots i (Leave a) v s t lt placed e = e
-reaches job code base symbols slots i Break v s t lt placed e = e
-reaches job code base symbols slots i Next v s t lt placed e = on (nat_lt (suc i) (length job.lines)) refl
-  where
-    on : (c : Bool) → nat_lt (suc i) (length job.lines) ≡ c → ComesTo job.flags 0 (address_of code base (if c then At (suc i) else End)) v s
-    on true h =
-        ends_both job.flags _ _ v v s e
-        ((t.gap i (ltb-true _ _ h)).run base symbols slots e.state v (placed_still job.flags code base symbols slots s _ v e placed) e.pc e.is_state e.are_values e.same)
-    on false h =
-        let most = ltb-false _ _ h in
-        subst (λ a. ComesTo job.flags 0 a v s) (ap (λ n. wrap (base + n)) (sym (t.last i (omega arith)))) e
+-- a line of the code runs as it means
+line_comes : (site : Site) (line : Line) (start after : ℕ) (s : State) (v : Values) → LineIn site line start after → broken_rule line ≡ None → IsPlacedAt site s.values.mem → s.pc ≡ wrap (site.base + start) → IsState s → AreValues v → Same v s.values → ComesOut site start after (exit_of line v) (temporaries_of line) (effect_of (placement site start after) line v) s
+line_comes site (Put inst) start after s v h rule placed pc is_state are_values same = (inst_runs h.setting inst rule).run site start after s v (record {
+  even = h.even;
+  within = h.within;
+  stands = h.stands;
+  placed = placed;
+  pc = pc;
+  is_state = is_state;
+  are_values = are_values;
+  same = same;
+})
+line_comes site (Bind label) start after s v h rule placed pc is_state are_values same = record {
+  steps = 0;
+  state = s;
+  moved = lit≤ tt;
+  ran = iter_none site.context.flags s;
+  arrives = pc ∙ ap (λ n. wrap (site.base + n)) h;
+  same = same_but [] same;
+  is_state = is_state;
+  are_values = are_values;
+  placed = placed;
+}
 
--- what stands where the line stops
-stops : (job : Job) (code : Code) (base : ℕ) (symbols slots : Addresses) (i : ℕ) (line : Line) (v : Values) (x : Exit) (t : State) → IsThreaded job code → slice_get job.lines i ≡ Some line → exit_of line v ≡ x → IsPlaced code base symbols slots t.values.mem → t.pc ≡ address_of code base (point_of job.lines i x) → IsStopped job.flags (point_of job.lines i x) t
-stops job code base symbols slots i line v Next t threaded e is placed pc = on (nat_lt (suc i) (length job.lines))
-  where
-    on : (c : Bool) → IsStopped job.flags (if c then At (suc i) else End) t
-    on true = tt
-    on false = tt
-stops job code base symbols slots i line v (To label) t threaded e is placed pc = tt
-stops job code base symbols slots i line v (Leave a) t threaded e is placed pc = tt
-stops job code base symbols slots i line v Break t threaded e is placed pc =
-    let start = start_of code.lines i in
-    let stand = threaded.halt i line v e is in
-    let room = placed.room in
-    let long = stand.0 in
-    let here : t.pc ≡ base + start = pc ∙ omega arith in
-    ap (λ a. decode job.flags (fetch t.values.mem a)) here ∙ ap (decode job.flags) (word_there base code.bytes t.values.mem start (bytes_stand code base symbols slots t.values.mem placed) stand.0) ∙ stand.1
+-- ---- where it leads
 
--- a way back takes a step
-back_moves : (lines : List Line) (i : ℕ) (x : Exit) (steps : ℕ) → least_steps x ≤ steps → IsBack i (point_of lines i x) → 1 ≤ steps
-back_moves lines i (To label) steps moved back = moved
-back_moves lines i (Leave a) steps moved back = absurd back
-back_moves lines i Break steps moved back = absurd back
-back_moves lines i Next steps moved back = on (nat_lt (suc i) (length lines)) back
-  where
-    on : (c : Bool) → IsBack i (if c then At (suc i) else End) → 1 ≤ steps
-    on true h = absurd (omega arith)
-    on false h = absurd h
+-- from line i the machine has come to a point, with values that are these but for some registers
+record Reached (job : Job) (code : Code) (base i : ℕ) (p : Point) (free : List ℕ) (v : Values) (s : State) : Type 0 where
+  steps : ℕ
+  state : State
+  ran : iter job.flags steps s ≡ Some state
+  moved : IsBack i p → 1 ≤ steps
+  stands : state.pc ≡ address_of code base p
+  stopped : IsStopped job.flags p state
+  same : SameBut free v state.values
+  is_state : IsState state
 
-comes : (job : Job) (code : Code) (base : ℕ) (symbols slots : Addresses) (i : ℕ) (line : Line) (s : State) (v : Values) → IsThreaded job code → i < length job.lines → slice_get job.lines i ≡ Some line → IsPlaced code base symbols slots s.values.mem → IsState s → AreValues v → s.pc ≡ address_of code base (At i) → Same v s.values → Comes job code base (At i) v s
-comes job code base symbols slots i line s v t lt e placed is_state are_values pc same =
-    let first = (t.line i line e).run base symbols slots s v placed pc is_state are_values same in
-    let values = effect_of (placement_of code base i) line v in
-    let ends = reaches job code base symbols slots i (exit_of line v) values s t lt placed first in
+module _ (job : Job) (code : Code) (place : ℕ → Option ℕ) (t : IsThreaded job code place) (base i : ℕ) (lt : i < length job.lines) (free : List ℕ) (v : Values) (s : State) where
+  -- the line came out at an exit
+  abbrev CameOut : Exit → Type 0
+  CameOut x = ComesOut (site_of job code place base) (start_of code.lines i) (end_of code.lines i) x free v s
+
+  -- and that is where a point is
+  there : (x : Exit) (e : CameOut x) (p : Point) → (IsBack i p → 1 ≤ e.steps) → e.state.pc ≡ address_of code base p → IsStopped job.flags p e.state → Reached job code base i p free v s
+  there x e p moved stands stopped = record { steps = e.steps; state = e.state; ran = e.ran; moved = moved; stands = stands; stopped = stopped; same = e.same; is_state = e.is_state }
+
+  -- to the next line, or to the end
+  goes_on : CameOut Next → (c : Bool) → nat_lt (suc i) (length job.lines) ≡ c → Reached job code base i (if c then At (suc i) else End) free v s
+  goes_on e true h =
+      let g = (t.gap base i (ltb-true _ _ h)).run e.state e.state.values e.placed e.arrives e.is_state e.is_state.values (same_itself e.state.values) in
+      record {
+        steps = g.steps + e.steps;
+        state = g.state;
+        ran = iter_after job.flags g.steps e.steps s e.state g.state e.ran g.ran;
+        moved = λ back. absurd (omega arith);
+        stands = g.pc;
+        stopped = tt;
+        same = but_then_same e.same g.same;
+        is_state = g.is_state;
+      }
+  goes_on e false h =
+      let most = ltb-false _ _ h in
+      there Next e End (λ back. absurd back) (e.arrives ∙ ap (λ n. wrap (base + n)) (sym (t.last i (omega arith)))) tt
+
+  -- where the exit leads, and that the machine has come there
+  record Ends (x : Exit) : Type 0 where
+    point : Point
+    leads : Leads job.lines code i x point
+    reached : Reached job code base i point free v s
+
+  reaches : (x : Exit) → ExitBound job.lines x → CameOut x → Ends x
+  reaches Next bound e = record { point = next_point job.lines i; leads = refl; reached = goes_on e (nat_lt (suc i) (length job.lines)) refl }
+  reaches (To label) bound e = record {
+    point = At (binding_line job.lines label);
+    leads = refl;
+    reached = there (To label) e (At (binding_line job.lines label)) (λ back. e.moved) (e.arrives.2 ∙ ap (λ n. wrap (base + n)) (same_Some e.arrives.0 (label_place job.lines code label) (sym e.arrives.1 ∙ t.bound label bound))) tt;
+  }
+  reaches (Leave a) bound e = record { point = Out a; leads = refl; reached = there (Leave a) e (Out a) (λ back. absurd back) e.arrives tt }
+  reaches Break bound e = record { point = Stop i; leads = refl; reached = there Break e (Stop i) (λ back. absurd back) e.arrives.0 e.arrives.1 }
+  reaches (Trap cause) bound e =
+      let a = e.arrives in
+      record { point = Trapped i a.0; leads = (a.0, refl, record { recorded = a.1; first = a.2; last = a.3 }); reached = there (Trap cause) e (Trapped i a.0) (λ back. absurd back) a.4 a.5 }
+  reaches Data bound e = record { point = InData i; leads = refl; reached = there Data e (InData i) (λ back. absurd back) e.arrives tt }
+
+comes : (job : Job) (code : Code) (place : ℕ → Option ℕ) → IsThreaded job code place → (base : ℕ) (symbols slots : Addresses) (i : ℕ) (line : Line) (s : State) (v : Values) → i < length job.lines → slice_get job.lines i ≡ Some line → IsPlaced code base symbols slots s.values.mem → IsState s → AreValues v → s.pc ≡ address_of code base (At i) → Same v s.values → Comes job code base (At i) v s
+comes job code place t base symbols slots i line s v lt e placed is_state are_values pc same =
+    let out = line_comes (site_of job code place base) line (start_of code.lines i) (end_of code.lines i) s v (t.line base i line e) (t.ruled i line e) (record { aligned = placed.aligned; bytes = record { room = placed.room; there = placed.there } }) pc is_state are_values same in
+    let ends = reaches job code place t base i lt (temporaries_of line) (effect_of (placement (site_of job code place base) (start_of code.lines i) (end_of code.lines i)) line v) s (exit_of line v) (exit_bound job.lines line v (t.named i line e)) out in
+    let r = ends.reached in
     record {
-      steps = ends.steps;
-      point = point_of job.lines i (exit_of line v);
-      values = values;
-      state = ends.state;
-      line = record { index = i; line = line; at = refl; listed = e; leads = refl; effect = record { regs = λ n h. refl; mem = λ a. refl } };
-      ran = ends.ran;
-      moved = back_moves job.lines i (exit_of line v) ends.steps ends.moved;
-      stands = ends.pc;
-      stopped = stops job code base symbols slots i line v (exit_of line v) ends.state t e refl (placed_still job.flags code base symbols slots s _ values ends placed) ends.pc;
-      same = ends.same;
-      is_state = ends.is_state;
-      are_values = ends.are_values;
+      steps = r.steps;
+      point = ends.point;
+      values = r.state.values;
+      state = r.state;
+      line = record { index = i; line = line; at = refl; listed = e; leads = ends.leads; effect = r.same };
+      ran = r.ran;
+      moved = r.moved;
+      stands = r.stands;
+      stopped = r.stopped;
+      same = same_itself r.state.values;
+      is_state = r.is_state;
+      are_values = r.is_state.values;
     }
 
 -- an index below the length has its line
@@ -117,9 +168,9 @@ line_at [] i lt = absurd (omega arith)
 line_at (l ∷ lines) zero lt = (l, refl)
 line_at (l ∷ lines) (suc i) lt = line_at lines i (omega arith)
 
-pub threaded_runs : (job : Job) (code : Code) → IsThreaded job code → RunsAsListed job code
-threaded_runs job code t = record {
+pub threaded_runs : (job : Job) (code : Code) (place : ℕ → Option ℕ) → IsThreaded job code place → RunsAsListed job code
+threaded_runs job code place t = record {
   from = λ base symbols slots i s v lt placed is_state are_values pc same.
       let here = line_at job.lines i lt in
-      comes job code base symbols slots i here.0 s v t lt here.1 placed is_state are_values pc same;
+      comes job code place t base symbols slots i here.0 s v lt here.1 placed is_state are_values pc same;
 }

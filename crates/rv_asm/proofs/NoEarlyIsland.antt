@@ -4,20 +4,23 @@ use Rattle.std.specs.Prelude.{slice_get, nat_lt}
 use Rattle.std.proofs.lemmas.Bool.{true≢false, ltb-true, ltb-false}
 use Rattle.std.proofs.lemmas.Option.{same_Some, slice_get_within}
 use Rattle.std.proofs.lemmas.List.{length-append}
+use Rattle.rv_inst.specs.Context.{Context}
 use Rattle.rv_inst.specs.declared.code.LineSpan.{LineSpan}
 use Rattle.rv_inst.specs.declared.inst.Inst.{Inst}
 use Rattle.rv_inst.specs.declared.inst.Inst.TheVariants.{EmitIsland}
 use Rattle.rv_inst.specs.declared.inst.Line.{Line}
 use Rattle.rv_inst.specs.declared.inst.Line.TheVariants.{Inst as Put, Bind}
+use Rattle.rv_inst.specs.Sizes.{line_space}
 use Rattle.mach_buffer.specs.Reach.{CanReach, is_needed}
 use Rattle.mach_buffer.specs.Buffer.{bytes_of}
 use Rattle.mach_buffer.proofs.Laws.{slice_get-append_last}
 use Rattle.rv_emit.specs.Emitted.{Buffer, pending, IslandIfNeeded}
 use Rattle.rv_asm.specs.Reported.{start_of, end_of}
 use Rattle.rv_asm.specs.Reported.{end_before}
-use Rattle.rv_asm.specs.LinesInBuffer.{LinesStand, Sized, InstPut, LinePut}
+use Rattle.rv_asm.specs.LinesInBuffer.{LinesStand, Sized}
 use Rattle.rv_asm.specs.Reach.{pending_deadlines, IsDue, IslandDue, NotEarly, ReachesOn}
 use Rattle.rv_asm.specs.AfterLastIsland.{AfterLastIsland}
+use Rattle.rv_asm.proofs.LinesAppended.{InstAppends, LineAppends}
 use Rattle.rv_asm.proofs.LabelNames.{start_more, end_more, start_last, end_last}
 use Rattle.rv_asm.proofs.UsesAfterIsland.{pending_waiting, due_now}
 use Rattle.rv_asm.proofs.FirstLines.{ends_more, waiting_more, due_more}
@@ -41,7 +44,7 @@ get_front (x ∷ xs) ys (suc i) lt = get_front xs ys i (omega arith)
 pub reaches_none : ReachesOn [] []
 reaches_none n le = let none : 0 ≡ n = omega arith in subst (λ m. CanReach (end_before [] m) (pending_deadlines [] [] m)) none tt
 
-pub reaches_next : (lines : List Line) (spans : List LineSpan) (line : Line) (span : LineSpan) (old new : Buffer) → LinesStand lines spans old → LinePut line old new span → AfterLastIsland (lines ++ line ∷ []) (spans ++ span ∷ []) new → Sized (lines ++ line ∷ []) new → ReachesOn lines spans → ReachesOn (lines ++ line ∷ []) (spans ++ span ∷ [])
+pub reaches_next : {context : Context} (lines : List Line) (spans : List LineSpan) (line : Line) (span : LineSpan) (old new : Buffer) → LinesStand context lines spans old → LineAppends line old new span → AfterLastIsland (lines ++ line ∷ []) (spans ++ span ∷ []) new → Sized (lines ++ line ∷ []) new → ReachesOn lines spans → ReachesOn (lines ++ line ∷ []) (spans ++ span ∷ [])
 reaches_next lines spans line span old new b p s sized h i le = by_place (λ m. CanReach (end_before (spans ++ span ∷ []) m) (pending_deadlines (lines ++ line ∷ []) (spans ++ span ∷ []) m)) (suc (length lines)) i (omega (arith, le, long)) before last
   where
     long : length (lines ++ line ∷ []) ≡ suc (length lines)
@@ -71,15 +74,15 @@ room_due lines spans distance old new made s m longer = ⊎_elim
     m.put
 
 -- before the line
-before_line : (lines : List Line) (spans : List LineSpan) (line : Line) (span : LineSpan) (old new : Buffer) → LinesStand lines spans old → AfterLastIsland lines spans old → LinePut line old new span → end_before spans (length lines) < span.start → IsDue lines spans (length lines) (end_before spans (length lines)) 88
+before_line : {context : Context} (lines : List Line) (spans : List LineSpan) (line : Line) (span : LineSpan) (old new : Buffer) → LinesStand context lines spans old → AfterLastIsland lines spans old → LineAppends line old new span → end_before spans (length lines) < span.start → IsDue lines spans (length lines) (end_before spans (length lines)) line_space
 before_line lines spans (Put inst) span old new b s p gap =
     let ends = b.ends in
     let start = p.start in
-    subst (λ at. IsDue lines spans (length lines) at 88) ends (room_due lines spans 88 old p.mid p.made s p.room (omega (arith, ends, start, gap)))
+    subst (λ at. IsDue lines spans (length lines) at line_space) ends (room_due lines spans line_space old p.mid p.made s p.room (omega (arith, ends, start, gap)))
 before_line lines spans (Bind label) span old new b s p gap = let ends = b.ends in let start = p.start in absurd (omega (arith, ends, start, gap))
 
 -- in the line
-in_line : (lines : List Line) (spans : List LineSpan) (space : ℕ) (span : LineSpan) (old new : Buffer) → AfterLastIsland lines spans old → InstPut (EmitIsland space) old new span → span.start < span.end → IsDue lines spans (length lines) span.start space
+in_line : (lines : List Line) (spans : List LineSpan) (space : ℕ) (span : LineSpan) (old new : Buffer) → AfterLastIsland lines spans old → InstAppends (EmitIsland space) old new span → span.start < span.end → IsDue lines spans (length lines) span.start space
 in_line lines spans space span old new s p gap = ⊎_elim
     (λ same.
     let room : IslandIfNeeded space old new p.emitted.0 = subst (λ (b : Buffer). IslandIfNeeded space b new p.emitted.0) same.1 p.emitted.1 in
@@ -100,10 +103,10 @@ in_line lines spans space span old new s p gap = ⊎_elim
         (λ put. true≢false (sym put.0 ∙ p.emitted.1.asked ∙ ap (is_needed (length (bytes_of p.mid)) space) settled))
         p.emitted.1.put
 
-within_line : (lines : List Line) (spans : List LineSpan) (line : Line) (span : LineSpan) (old new : Buffer) → LinesStand lines spans old → AfterLastIsland lines spans old → LinePut line old new span → IslandDue (lines ++ line ∷ []) (spans ++ span ∷ []) (length lines) line
+within_line : {context : Context} (lines : List Line) (spans : List LineSpan) (line : Line) (span : LineSpan) (old new : Buffer) → LinesStand context lines spans old → AfterLastIsland lines spans old → LineAppends line old new span → IslandDue (lines ++ line ∷ []) (spans ++ span ∷ []) (length lines) line
 within_line lines spans (Put inst) span old new b s p = on inst p
   where
-    on : (inst : Inst) → InstPut inst old new span → IslandDue (lines ++ Put inst ∷ []) (spans ++ span ∷ []) (length lines) (Put inst)
+    on : (inst : Inst) → InstAppends inst old new span → IslandDue (lines ++ Put inst ∷ []) (spans ++ span ∷ []) (length lines) (Put inst)
     on (EmitIsland space) p =
         let all = lines ++ Put (EmitIsland space) ∷ [] in
         let all_spans = spans ++ span ∷ [] in
@@ -129,9 +132,9 @@ island_due_more lines more spans more_spans i (Bind label) count lt h = tt
 pub early_none : NotEarly [] []
 early_none = record { before = λ i lt. absurd (omega arith); within = λ i line h. absurd (cc) }
 
-pub early_next : (lines : List Line) (spans : List LineSpan) (line : Line) (span : LineSpan) (old new : Buffer) → LinesStand lines spans old → AfterLastIsland lines spans old → LinePut line old new span → NotEarly lines spans → NotEarly (lines ++ line ∷ []) (spans ++ span ∷ [])
+pub early_next : {context : Context} (lines : List Line) (spans : List LineSpan) (line : Line) (span : LineSpan) (old new : Buffer) → LinesStand context lines spans old → AfterLastIsland lines spans old → LineAppends line old new span → NotEarly lines spans → NotEarly (lines ++ line ∷ []) (spans ++ span ∷ [])
 early_next lines spans line span old new b s p h = record {
-  before = λ i lt. by_place (λ m. end_before (spans ++ span ∷ []) m < start_of (spans ++ span ∷ []) m → IsDue (lines ++ line ∷ []) (spans ++ span ∷ []) m (end_before (spans ++ span ∷ []) m) 88) (length lines) i (omega (arith, lt, long)) (before i) before_last;
+  before = λ i lt. by_place (λ m. end_before (spans ++ span ∷ []) m < start_of (spans ++ span ∷ []) m → IsDue (lines ++ line ∷ []) (spans ++ span ∷ []) m (end_before (spans ++ span ∷ []) m) line_space) (length lines) i (omega (arith, lt, long)) (before i) before_last;
   within = λ i other at. by_place (λ m. (l : Line) → slice_get (lines ++ line ∷ []) m ≡ Some l → IslandDue (lines ++ line ∷ []) (spans ++ span ∷ []) m l) (length lines) i (let lt = slice_get_within (lines ++ line ∷ []) i other at in omega (arith, lt, long)) (within i) within_last other at;
 }
   where
@@ -141,21 +144,21 @@ early_next lines spans line span old new b s p h = record {
     count : length spans ≡ length lines
     count = b.count
 
-    before : (i : ℕ) → i < length lines → end_before (spans ++ span ∷ []) i < start_of (spans ++ span ∷ []) i → IsDue (lines ++ line ∷ []) (spans ++ span ∷ []) i (end_before (spans ++ span ∷ []) i) 88
+    before : (i : ℕ) → i < length lines → end_before (spans ++ span ∷ []) i < start_of (spans ++ span ∷ []) i → IsDue (lines ++ line ∷ []) (spans ++ span ∷ []) i (end_before (spans ++ span ∷ []) i) line_space
     before i lt gap =
         let same = count in
         let start : start_of (spans ++ span ∷ []) i ≡ start_of spans i = start_more spans (span ∷ []) i (omega arith) in
         let end : end_before (spans ++ span ∷ []) i ≡ end_before spans i = ends_more spans (span ∷ []) i (omega arith) in
-        subst (λ at. IsDue (lines ++ line ∷ []) (spans ++ span ∷ []) i at 88) (sym end)
-        (due_more lines (line ∷ []) spans (span ∷ []) i (end_before spans i) 88 count (omega arith) (h.before i lt (omega (arith, start, end, gap))))
+        subst (λ at. IsDue (lines ++ line ∷ []) (spans ++ span ∷ []) i at line_space) (sym end)
+        (due_more lines (line ∷ []) spans (span ∷ []) i (end_before spans i) line_space count (omega arith) (h.before i lt (omega (arith, start, end, gap))))
 
-    before_last : end_before (spans ++ span ∷ []) (length lines) < start_of (spans ++ span ∷ []) (length lines) → IsDue (lines ++ line ∷ []) (spans ++ span ∷ []) (length lines) (end_before (spans ++ span ∷ []) (length lines)) 88
+    before_last : end_before (spans ++ span ∷ []) (length lines) < start_of (spans ++ span ∷ []) (length lines) → IsDue (lines ++ line ∷ []) (spans ++ span ∷ []) (length lines) (end_before (spans ++ span ∷ []) (length lines)) line_space
     before_last gap =
         let same = count in
         let start : start_of (spans ++ span ∷ []) (length lines) ≡ span.start = ap (start_of (spans ++ span ∷ [])) (sym count) ∙ start_last spans span in
         let end : end_before (spans ++ span ∷ []) (length lines) ≡ end_before spans (length lines) = ends_more spans (span ∷ []) (length lines) (omega arith) in
-        subst (λ at. IsDue (lines ++ line ∷ []) (spans ++ span ∷ []) (length lines) at 88) (sym end)
-        (due_more lines (line ∷ []) spans (span ∷ []) (length lines) (end_before spans (length lines)) 88 count (omega arith) (before_line lines spans line span old new b s p (omega (arith, start, end, gap))))
+        subst (λ at. IsDue (lines ++ line ∷ []) (spans ++ span ∷ []) (length lines) at line_space) (sym end)
+        (due_more lines (line ∷ []) spans (span ∷ []) (length lines) (end_before spans (length lines)) line_space count (omega arith) (before_line lines spans line span old new b s p (omega (arith, start, end, gap))))
 
     within : (i : ℕ) → i < length lines → (l : Line) → slice_get (lines ++ line ∷ []) i ≡ Some l → IslandDue (lines ++ line ∷ []) (spans ++ span ∷ []) i l
     within i lt l at = island_due_more lines (line ∷ []) spans (span ∷ []) i l count lt (h.within i l (sym (get_front lines (line ∷ []) i lt) ∙ at))

@@ -1,5 +1,5 @@
 -- What holds of lines that are not refused, by index.
-use Rattle.std.proofs.Common.{◌≡◌, ℕ, zero, suc, ◌^◌, ◌≤◌, Bool, true, false, List, [], ◌∷◌, Option, Some, None, Result, refl, sym, ap, subst, arith}
+use Rattle.std.proofs.Common.{◌≡◌, ℕ, zero, suc, ◌≤◌, Bool, true, false, List, [], ◌∷◌, Option, Some, None, Result, refl, sym, ap, subst, arith}
 use Rattle.std.specs.Prelude.{◌||◌, nat_eq, nat_lt, if◌then◌else◌, slice_get}
 use mathlib.Core.Path.{fun_ext}
 use Rattle.std.proofs.lemmas.Bool.{ltb-false}
@@ -11,7 +11,7 @@ use Rattle.rv_inst.specs.declared.error.Rule.{Rule}
 use Rattle.rv_inst.specs.declared.error.EmitError.{EmitError}
 use Rattle.rv_inst.specs.Operands.{named_labels}
 use Rattle.rv_inst.specs.Rules.{first_of, broken_rule}
-use Rattle.rv_asm.specs.Refusal.{malformed, broken_from, binds, is_bound, twice_of, twice_in, twice_from, unbound_among, unbound_in, size_sum, too_large, refusal, Finds}
+use Rattle.rv_asm.specs.Refusal.{size_limit, malformed, broken_from, binds, is_bound, twice_of, twice_in, twice_from, unbound_among, unbound_in, size_sum, too_large, refusal, Finds}
 
 -- What is looked for among the labels of a set is looked for among those that the lines bind.
 pub finds_by_test : {X : Type 0} (bound test : ℕ → Bool) (lines : List Line) (r : Result X EmitError) → ((label : ℕ) → bound label ≡ test label) → Finds (unbound_in bound lines) r → Finds (unbound_in test lines) r
@@ -147,10 +147,10 @@ named_bound_by lines e i line h k l g = bound_by lines l (named_is_bound lines e
 
 -- ---- sizes
 
--- the lines count for at most 2 ^ 30 bytes
-pub sum_small : (lines : List Line) → refusal lines ≡ None → size_sum lines ≤ 2 ^ 30
-sum_small lines e = from _ (nat_lt (2 ^ 30) (size_sum lines)) refl (parts lines e).large
+-- the lines count for no more bytes than they may
+pub sum_small : (lines : List Line) → refusal lines ≡ None → size_sum lines ≤ size_limit
+sum_small lines e = from _ (nat_lt size_limit (size_sum lines)) refl (parts lines e).large
   where
-    from : (x : EmitError) (c : Bool) → nat_lt (2 ^ 30) (size_sum lines) ≡ c → (if c then Some x else None) ≡ None → size_sum lines ≤ 2 ^ 30
+    from : (x : EmitError) (c : Bool) → nat_lt size_limit (size_sum lines) ≡ c → (if c then Some x else None) ≡ None → size_sum lines ≤ size_limit
     from x true h g = absurd (cc)
-    from x false h g = ltb-false (2 ^ 30) (size_sum lines) h
+    from x false h g = ltb-false size_limit (size_sum lines) h

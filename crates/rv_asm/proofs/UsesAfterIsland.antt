@@ -1,10 +1,11 @@
 -- The uses after which no island stands: whose they are, how far they reach, and how many.
-use Rattle.std.proofs.Common.{◌≡◌, ℕ, zero, suc, ◌+◌, ◌*◌, ◌^◌, ◌<◌, ◌≤◌, Bool, true, false, cond, not, ◌&&◌, ◌||◌, List, [], ◌∷◌, ◌++◌, length, take, drop, Option, Some, None, refl, ap, sym, ◌∙◌, subst, arith}
+use Rattle.std.proofs.Common.{◌≡◌, ℕ, zero, suc, ◌+◌, ◌*◌, ◌<◌, ◌≤◌, Bool, true, false, cond, not, ◌&&◌, ◌||◌, List, [], ◌∷◌, ◌++◌, length, take, drop, Option, Some, None, refl, ap, sym, ◌∙◌, subst, arith}
 use Rattle.std.specs.Prelude.{slice_get, nat_lt, is_none}
 use Rattle.std.specs.List.{list_any}
 use Rattle.std.proofs.lemmas.Bool.{true≢false, ltb-true, leb-false, or_parts}
 use Rattle.std.proofs.lemmas.Option.{slice_get_within}
 use Rattle.std.proofs.lemmas.List.{length-append, take_all}
+use Rattle.mach_labels.specs.Table.{first_inner}
 use Rattle.rv_inst.specs.declared.code.LineSpan.{LineSpan}
 use Rattle.rv_inst.specs.declared.error.Rule.{Rule}
 use Rattle.rv_inst.specs.declared.inst.Inst.{Inst}
@@ -17,6 +18,7 @@ use Rattle.rv_inst.specs.declared.label_use.LabelUse.TheVariants.{Jal20}
 use Rattle.rv_inst.specs.Operands.{inst_labels, inst_registers}
 use Rattle.rv_inst.specs.LabelUse.{label_kinds, has_veneer_of}
 use Rattle.rv_inst.specs.declared.error.Rule.TheVariants as rule_of
+use Rattle.rv_inst.proofs.Rules.{breaks_none}
 use Rattle.rv_inst.specs.Rules.{inst_rule, is_buffer_label, is_virtual, is_misplaced, is_reserved, has_bad_type, is_out_of_range, lacks_target}
 use Rattle.mach_buffer.specs.declared.uses.Use.{Use}
 use Rattle.mach_buffer.specs.Reach.{deadline, deadlines, due_by, is_needed, is_needed_from, is_reached}
@@ -65,22 +67,15 @@ any_none f [] h = each_none _
 any_none f (x ∷ xs) h = let parts = or_parts (f x) (list_any f xs) h in each_more (λ y. f y ≡ false) x xs parts.0 (any_none f xs parts.1)
 
 labels_outer : (inst : Inst) → inst_rule inst ≡ None → list_any is_buffer_label (inst_labels inst) ≡ false
-labels_outer inst rule =
-    let a = skip (list_any is_virtual (inst_registers inst)) rule_of.Virtual _ rule in
-    let b = skip (is_misplaced inst) rule_of.Class _ a in
-    let c = skip (list_any is_reserved (inst_registers inst)) rule_of.Reserved _ b in
-    let d = skip (has_bad_type inst) rule_of.BadType _ c in
-    let e = skip (is_out_of_range inst) rule_of.Range _ d in
-    let f = skip (lacks_target inst) rule_of.NoTarget _ e in
-    last_test (list_any is_buffer_label (inst_labels inst)) rule_of.Label f
+labels_outer inst rule = breaks_none inst rule rule_of.Label
 
 -- each names a label of the listing's
-uses_outer : (start : ℕ) (inst : Inst) → inst_rule inst ≡ None → Each (λ u. u.label.number < 2 ^ 30) (uses_in start inst)
+uses_outer : (start : ℕ) (inst : Inst) → inst_rule inst ≡ None → Each (λ u. u.label.number < first_inner) (uses_in start inst)
 uses_outer start inst rule j u h =
     let named = uses_labels start inst j u h in
     let outer : is_buffer_label named.label ≡ false = any_none is_buffer_label (inst_labels inst) (labels_outer inst rule) named.place named.label named.names in
-    let low : named.label.number < 2 ^ 30 = leb-false _ _ outer in
-    subst (λ n. n < 2 ^ 30) named.is low
+    let low : named.label.number < first_inner = leb-false _ _ outer in
+    subst (λ n. n < first_inner) named.is low
 
 -- ---- the uses of lines
 
@@ -160,7 +155,7 @@ pending_waiting lines spans b s =
         let kind : has_veneer_of u.kind ≡ true = uses_kinds start f.inst f.place u f.own in
         let bare : u.veneer ≡ None = uses_bare start f.inst f.place u f.own in
         let rule : inst_rule f.inst ≡ None = s.ruled (first_after_island lines spans (length lines) + f.index) (Put f.inst) (get_drop lines (first_after_island lines spans (length lines)) f.index (Put f.inst) f.there) in
-        let low : u.label.number < 2 ^ 30 = uses_outer start f.inst rule f.place u f.own in
+        let low : u.label.number < first_inner = uses_outer start f.inst rule f.place u f.own in
         let place : place_of b u.label.number ≡ bound_by spans 0 lines u.label.number = s.places u.label.number low in
         λ i. kind i && (is_none (bare i) && not (is_reached label_kinds (place i) u))
 

@@ -1,5 +1,6 @@
 -- What is pending in the buffer since the last island, by the lines and their spans: a link of the proof.
-use Rattle.std.specs.Prelude.{◌≡◌, ℕ, ◌^◌, ◌<◌, false, List, ◌++◌, length, drop, Some, None, slice_get}
+use Rattle.std.specs.Prelude.{◌≡◌, ℕ, ◌<◌, false, List, ◌++◌, length, drop, Some, None, slice_get}
+use Rattle.mach_labels.specs.Table.{first_inner}
 use Rattle.rv_inst.specs.declared.code.LineSpan.{LineSpan}
 use Rattle.rv_inst.specs.declared.inst.Line.{Line}
 use Rattle.rv_inst.specs.declared.label_use.LabelUse.{LabelUse}
@@ -24,5 +25,5 @@ pub record EndsIn (uses : List (Use LabelUse)) (b : Buffer) : Type 0 where
 -- no use of a line before the last island is pending, and each label stands where a line binds it
 pub record AfterLastIsland (lines : List Line) (spans : List LineSpan) (b : Buffer) : Type 0 where
   pub ends : EndsIn (uses_after_island lines spans) b
-  pub places : (label : ℕ) → label < 2 ^ 30 → place_of b label ≡ bound_by spans 0 lines label
+  pub places : (label : ℕ) → label < first_inner → place_of b label ≡ bound_by spans 0 lines label
   pub ruled : (i : ℕ) (line : Line) → slice_get lines i ≡ Some line → broken_rule line ≡ None

@@ -1,17 +1,18 @@
 -- Code that was built line by line, and finished: a link of the proof.
 use Rattle.std.specs.Prelude.{◌≡◌, length, List}
+use Rattle.rv_inst.specs.Context.{Context}
 use Rattle.rv_inst.specs.declared.inst.Line.{Line}
 use Rattle.rv_inst.specs.declared.code.Code.{Code}
 use Rattle.rv_inst.specs.LabelUse.{label_kinds}
-use Rattle.mach_buffer.specs.Buffer.{shape_of, bytes_of, labels_of}
+use Rattle.mach_buffer.specs.Buffer.{shape_of, bytes_of, labels_of, traps_of}
 use Rattle.mach_buffer.specs.Finish.{CanFinish, Finishes}
 use Rattle.rv_emit.specs.Emitted.{Buffer}
 use Rattle.rv_asm.specs.LinesInBuffer.{LinesStand, Named, Sized}
 use Rattle.rv_asm.specs.Reach.{NotEarly, ReachesOn}
 
-pub record IsFinished (lines : List Line) (code : Code) : Type 0 where
+pub record IsFinished (context : Context) (lines : List Line) (code : Code) : Type 0 where
   pub sink : Buffer
-  pub built : LinesStand lines code.lines sink
+  pub built : LinesStand context lines code.lines sink
   pub named : Named lines code.lines sink
   pub sized : Sized lines sink
   pub early : NotEarly lines code.lines
@@ -19,4 +20,5 @@ pub record IsFinished (lines : List Line) (code : Code) : Type 0 where
   pub ready : CanFinish label_kinds (shape_of sink)
   pub finished : Finishes label_kinds (shape_of sink) code.bytes
   pub labels : code.labels ≡ labels_of sink
+  pub traps : code.traps ≡ traps_of sink
   pub end : code.end ≡ length (bytes_of sink)

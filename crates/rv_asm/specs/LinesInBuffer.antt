@@ -1,74 +1,65 @@
 -- What stands in the buffer after some lines: what the loop of `assemble` keeps, and what one line adds. Links of the
 -- proof.
-use Rattle.std.specs.Prelude.{◌≡◌, ◌≢◌, ℕ, ◌+◌, ◌*◌, ◌%◌, ◌^◌, ◌<◌, ◌≤◌, ◌⊎◌, Bool, true, false, List, [], ◌∷◌, ◌++◌, length, Some, None, is_some, slice_get}
+use Rattle.std.specs.Prelude.{◌≡◌, ◌≢◌, ℕ, ◌+◌, ◌*◌, ◌%◌, ◌^◌, ◌<◌, ◌≤◌, ◌⊎◌, Bool, true, false, List, [], ◌++◌, length, Some, None, is_some, slice_get}
+use Rattle.rv_base.specs.declared.constant.Constant.{Constant}
+use Rattle.rv_base.specs.declared.flags.IsaFlags.{IsaFlags}
+use Rattle.rv_base.specs.declared.frame.FrameLayout.{FrameLayout}
 use Rattle.rv_base.specs.declared.label.MachLabel.{MachLabel}
+use Rattle.rv_base.specs.LabelUse.{code_limit}
+use Rattle.mach_labels.specs.Table.{first_inner}
+use Rattle.rv_inst.specs.Context.{Context}
 use Rattle.rv_inst.specs.declared.inst.Line.{Line}
 use Rattle.rv_inst.specs.declared.inst.Line.TheVariants.{Inst as Put, Bind}
 use Rattle.rv_inst.specs.declared.inst.Inst.{Inst}
-use Rattle.rv_inst.specs.declared.inst.Inst.TheVariants.{EmitIsland}
 use Rattle.rv_inst.specs.declared.code.LineSpan.{LineSpan}
 use Rattle.rv_inst.specs.declared.label_use.LabelUse.{LabelUse}
-use Rattle.rv_inst.specs.declared.label_use.LabelUse.TheVariants.{Jal20}
 use Rattle.rv_inst.specs.Operands.{named_labels}
 use Rattle.rv_inst.specs.Rules.{broken_rule}
 use Rattle.rv_inst.specs.LabelUse.{label_kinds, has_veneer_of}
-use Rattle.rv_inst.specs.LabelUseWords.{word_bytes}
 use Rattle.mach_buffer.specs.declared.uses.Use.{Use}
 use Rattle.mach_buffer.specs.Reach.{CanReach, due_by}
-use Rattle.mach_buffer.specs.Buffer.{bytes_of, uses_of, place_of, labels_of, allocated_of}
+use Rattle.mach_buffer.specs.Buffer.{shape_of, bytes_of, uses_of, place_of, labels_of, allocated_of, traps_of}
 use Rattle.mach_buffer.specs.Shape.{listed}
-use Rattle.mach_buffer.specs.Sequences.{CodeStands}
 use Rattle.mach_buffer.specs.Islands.{is_far}
-use Rattle.rv_emit.specs.Operations.{no_distance, ops_of}
-use Rattle.rv_emit.specs.Emitted.{Buffer, IsSoundBuffer, HasWindows, pending, bytes_of_words, AreOps, UsesStand, IslandIfNeeded, Emitted}
-use Rattle.rv_inst.specs.Uses.{use_at, uses_in}
+use Rattle.rv_emit.specs.Emitted.{Buffer, IsSoundBuffer, HasWindows, pending, IslandIfNeeded, IsBounded}
+use Rattle.rv_emit.specs.Emission.{EmitsIn}
+use Rattle.rv_emit.specs.InstParts.{parts_of}
+use Rattle.rv_emit.specs.Standing.{GapStandsIn, PartsIn}
 use Rattle.rv_emit.specs.declared.state.EmitVState.{EmitVState}
 use Rattle.rv_emit.specs.declared.state.EmitVState.TheVariants.{Unknown}
 use Rattle.rv_emit.specs.State.{setting_after, setting_beyond}
-use Rattle.rv_asm.specs.Reported.{start_of, end_of, end_before, binds_from}
+use Rattle.rv_asm.specs.Reported.{start_of, end_of, end_before, binds_from, traps_from}
 use Rattle.rv_asm.specs.Refusal.{binds, is_bound, size_sum}
-use Rattle.rv_inst.specs.Sizes.{line_sum}
+use Rattle.rv_inst.specs.Sizes.{Extent, Words, Island, extent_of, line_space, line_sum}
 
 -- ---- where lines stand
 
--- between two offsets an island stands: first a jump to a label that is bound at the second
-pub record IslandStands (b : Buffer) (from to : ℕ) : Type 0 where
-  pub after_island : MachLabel
-  pub jump : CodeStands label_kinds (bytes_of b) (uses_of b) from (word_bytes 0x6f) (use_at from after_island Jal20 ∷ [])
-  pub bound : place_of b after_island.number ≡ Some to
-  pub longer : from + 4 ≤ to
+-- words are as long as they must be
+abbrev pub IsLong : Extent → ℕ → ℕ → Type 0
+IsLong (Words size) start end = end ≡ start + size
+IsLong (Island space) start end = Unit {0}
 
--- nothing, or an island
-abbrev pub GapStands : Buffer → ℕ → ℕ → Type 0
-GapStands b from to = (from ≡ to) ⊎ IslandStands b from to
+-- the parts of an instruction stand between two offsets, by some setting of the vector unit; a bind has no bytes
+abbrev pub LineStands : Context → Line → Buffer → ℕ → ℕ → Type 0
+LineStands context (Put inst) b start end = (setting : EmitVState) × PartsIn context.flags (parts_of context setting inst) (shape_of b) start end × IsLong (extent_of inst) start end
+LineStands context (Bind label) b start end = (start ≡ end) × (place_of b label.number ≡ Some start)
 
--- the sequence of an instruction stands between two offsets, with its uses
-pub record SequenceStands (inst : Inst) (b : Buffer) (start end : ℕ) : Type 0 where
-  pub words : List ℕ
-  pub decode : AreOps words (ops_of no_distance inst)
-  pub used : UsesStand start words (uses_in start inst)
-  pub block : CodeStands label_kinds (bytes_of b) (uses_of b) start (bytes_of_words words) (uses_in start inst)
-  pub ends : end ≡ start + length (bytes_of_words words)
-
-abbrev pub InstStands : Inst → Buffer → ℕ → ℕ → Type 0
-InstStands (EmitIsland space) b start end = GapStands b start end
-InstStands inst b start end = SequenceStands inst b start end
-
-abbrev pub LineStands : Line → Buffer → ℕ → ℕ → Type 0
-LineStands (Put inst) b start end = InstStands inst b start end
-LineStands (Bind label) b start end = (start ≡ end) × (place_of b label.number ≡ Some start)
+-- after the offset where the line before ends stands nothing, or an island, and then the line
+pub record StandsAfter (context : Context) (line : Line) (b : Buffer) (before start end : ℕ) : Type 0 where
+  pub gap : GapStandsIn context.flags (shape_of b) before start
+  pub there : LineStands context line b start end
+  pub even : start % 2 ≡ 0
+  pub within : start ≤ length (bytes_of b)
 
 -- each line stands at its span, and before it nothing or an island
-pub record LinesStand (lines : List Line) (spans : List LineSpan) (b : Buffer) : Type 0 where
+pub record LinesStand (context : Context) (lines : List Line) (spans : List LineSpan) (b : Buffer) : Type 0 where
   pub count : length spans ≡ length lines
   pub indices : (i : ℕ) (s : LineSpan) → slice_get spans i ≡ Some s → s.index ≡ i
-  pub stand : (i : ℕ) (line : Line) → slice_get lines i ≡ Some line → LineStands line b (start_of spans i) (end_of spans i)
-  pub gap : (i : ℕ) → i < length lines → GapStands b (end_before spans i) (start_of spans i)
+  pub each : (i : ℕ) (line : Line) → slice_get lines i ≡ Some line → StandsAfter context line b (end_before spans i) (start_of spans i) (end_of spans i)
   pub ends : length (bytes_of b) ≡ end_before spans (length lines)
   pub first : start_of spans 0 ≡ 0
   pub nothing : length lines ≡ 0 → uses_of b ≡ []
-  pub aligned : (i : ℕ) → i < length lines → start_of spans i % 4 ≡ 0
-  pub whole : length (bytes_of b) % 4 ≡ 0
+  pub traps : traps_of b ≡ traps_from spans 0 lines
   pub windows : HasWindows b
   pub sound : IsSoundBuffer b
 
@@ -87,7 +78,7 @@ pub record IsNamed (lines : List Line) (number : ℕ) : Type 0 where
 -- the labels that are bound are those of binds; each use may go by a veneer or reaches all code, and its label is named by a line or bound
 pub record Named (lines : List Line) (spans : List LineSpan) (b : Buffer) : Type 0 where
   pub labels : labels_of b ≡ binds_from spans 0 lines
-  pub unbound : (label : ℕ) → label < 2 ^ 30 → is_bound lines label ≡ false → place_of b label ≡ None
+  pub unbound : (label : ℕ) → label < first_inner → is_bound lines label ≡ false → place_of b label ≡ None
   pub kinds : (j : ℕ) (u : Use LabelUse) → slice_get (uses_of b) j ≡ Some u → (has_veneer_of u.kind ≡ true) ⊎ (is_far label_kinds u ≡ true)
   pub named : (j : ℕ) (u : Use LabelUse) → slice_get (uses_of b) j ≡ Some u → (is_some (place_of b u.label.number) ≡ true) ⊎ IsNamed lines u.label.number
 
@@ -107,15 +98,16 @@ pub record CanPut (line : Line) (b : Buffer) : Type 0 where
   pub sound : IsSoundBuffer b
   pub reach : CanReach (length (bytes_of b)) (pending b)
   pub few : allocated_of b + 1 < 2 ^ 29
-  pub room : length (bytes_of b) + 8 * length (pending b) + line_sum line + 46 < 2147479552
+  pub room : length (bytes_of b) + 8 * length (pending b) + line_sum line + 46 < code_limit
   pub unbound : (label : ℕ) → binds line label ≡ true → place_of b label ≡ None
 
 -- an instruction was put, after an island where one was needed
-pub record InstPut (inst : Inst) (old new : Buffer) (span : LineSpan) : Type 0 where
+pub record InstPut (context : Context) (setting : EmitVState) (inst : Inst) (old new : Buffer) (span : LineSpan) : Type 0 where
   pub mid : Buffer
   pub made : Bool
-  pub room : IslandIfNeeded 88 old mid made
-  pub emitted : Emitted inst mid new
+  pub room : IslandIfNeeded line_space old mid made
+  pub emitted : EmitsIn context (setting_beyond made setting) inst mid new
+  pub bounds : IsBounded inst mid new
   pub reach : CanReach (length (bytes_of new)) (pending new)
   pub start : span.start ≡ length (bytes_of mid)
   pub end : span.end ≡ length (bytes_of new)
@@ -129,16 +121,22 @@ pub record BindPut (label : MachLabel) (old new : Buffer) (span : LineSpan) : Ty
   pub bytes : bytes_of new ≡ bytes_of old
   pub uses : uses_of new ≡ uses_of old
   pub allocated : allocated_of new ≡ allocated_of old
+  pub traps : traps_of new ≡ traps_of old
   pub fewer : (end : ℕ) → due_by end (pending new) ≤ due_by end (pending old)
   pub sound : IsSoundBuffer new
   pub start : span.start ≡ length (bytes_of old)
   pub end : span.end ≡ length (bytes_of old)
+
+-- what lines are read in, by the flags, the frame and the constants
+abbrev pub context_by : IsaFlags → FrameLayout → List Constant → Context
+context_by flags frame constants = record { flags = flags; frame = frame; constants = constants }
 
 -- the vector unit's setting known after a line, by whether an island was put before it and the setting known then
 abbrev pub line_setting : Bool → Line → EmitVState → EmitVState
 line_setting made (Put inst) setting = setting_after inst (setting_beyond made setting)
 line_setting made (Bind label) setting = Unknown
 
-abbrev pub LinePut : Line → Buffer → Buffer → LineSpan → Type 0
-LinePut (Put inst) old new span = InstPut inst old new span
-LinePut (Bind label) old new span = BindPut label old new span
+-- by the vector unit's setting known before the line
+abbrev pub LinePut : Context → EmitVState → Line → Buffer → Buffer → LineSpan → Type 0
+LinePut context setting (Put inst) old new span = InstPut context setting inst old new span
+LinePut context setting (Bind label) old new span = BindPut label old new span

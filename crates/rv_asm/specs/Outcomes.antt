@@ -26,10 +26,13 @@ abbrev pub rule_name : Rule → List ℕ
 rule_name rules.Virtual = codes "Virtual"
 rule_name rules.Class = codes "Class"
 rule_name rules.Reserved = codes "Reserved"
+rule_name rules.Zero = codes "Zero"
+rule_name rules.Clash = codes "Clash"
 rule_name rules.BadType = codes "BadType"
 rule_name rules.Range = codes "Range"
 rule_name rules.NoTarget = codes "NoTarget"
 rule_name rules.Label = codes "Label"
+rule_name rules.DataSize = codes "DataSize"
 
 abbrev pub error_line : EmitError → List ℕ
 error_line errors.OutOfMemory = codes "rvemit: OutOfMemory\n"

@@ -11,7 +11,7 @@ use Rattle.rv_inst.specs.Operands.{named_labels}
 use Rattle.rv_inst.specs.LabelUse.{label_kinds}
 use Rattle.mach_buffer.specs.declared.uses.Use.{Use}
 use Rattle.mach_buffer.specs.Reach.{is_reached, deadlines, CanReach}
-use Rattle.rv_inst.specs.Sizes.{Extent, Words, Island, extent_of}
+use Rattle.rv_inst.specs.Sizes.{line_space, Extent, Words, Island, extent_of}
 use Rattle.rv_inst.specs.Uses.{uses_in, least_reach}
 use Rattle.rv_asm.specs.Reported.{start_of, end_of, end_before}
 use Rattle.rv_asm.specs.Refusal.{size_sum}
@@ -64,7 +64,7 @@ IslandDue lines spans i (Bind label) = Unit {0}
 
 -- no island stands before or in a line unless it is due there
 pub record NotEarly (lines : List Line) (spans : List LineSpan) : Type 0 where
-  pub before : (i : ℕ) → i < length lines → end_before spans i < start_of spans i → IsDue lines spans i (end_before spans i) 88
+  pub before : (i : ℕ) → i < length lines → end_before spans i < start_of spans i → IsDue lines spans i (end_before spans i) line_space
   pub within : (i : ℕ) (line : Line) → slice_get lines i ≡ Some line → IslandDue lines spans i line
 
 -- ---- Reach after every line

@@ -57,9 +57,13 @@ abbrev pub size_sum : List Line → ℕ
 size_sum [] = 0
 size_sum (line ∷ lines) = line_sum line + size_sum lines
 
+-- lines count for at most this many bytes, which is well below the limit of code
+abbrev pub size_limit : ℕ
+size_limit = 2 ^ 30
+
 -- lines that count for more than branches and spans are sure to take
 abbrev pub too_large : List Line → Option EmitError
-too_large lines = if nat_lt (2 ^ 30) (size_sum lines) then Some TooLarge else None
+too_large lines = if nat_lt size_limit (size_sum lines) then Some TooLarge else None
 
 -- why these lines are refused, if they are
 unfoldable pub refusal : List Line → Option EmitError

@@ -1,5 +1,5 @@
 -- What the code reports of its lines.
-use Rattle.std.specs.Prelude.{◌≡◌, ℕ, zero, suc, ◌+◌, ◌<◌, ◌≤◌, ◌⊎◌, List, [], ◌∷◌, length, slice_get, Some, option_map, unwrap_or}
+use Rattle.std.specs.Prelude.{◌≡◌, ℕ, zero, suc, ◌+◌, ◌<◌, ◌≤◌, ◌⊎◌, List, [], ◌∷◌, ◌++◌, length, slice_get, Some, option_map, unwrap_or}
 use Rattle.rv_inst.specs.declared.inst.Line.{Line}
 use Rattle.rv_inst.specs.declared.inst.Line.TheVariants.{Inst as Put, Bind}
 use Rattle.rv_inst.specs.declared.job.Job.{Job}
@@ -9,6 +9,8 @@ use Rattle.rv_base.specs.declared.flags.IsaFlags.{IsaFlags}
 use Rattle.rv_inst.specs.declared.code.Code.{Code}
 use Rattle.rv_inst.specs.declared.code.LineSpan.{LineSpan}
 use Rattle.mach_buffer.specs.declared.uses.LabelPlace.{LabelPlace}
+use Rattle.mach_buffer.specs.declared.records.MachTrap.{MachTrap}
+use Rattle.rv_inst.specs.Traps.{inst_traps}
 
 abbrev pub start_of : List LineSpan → ℕ → ℕ
 start_of spans i = unwrap_or (option_map (λ (s : LineSpan). s.start) (slice_get spans i)) 0
@@ -27,6 +29,16 @@ binds_from spans i [] = []
 binds_from spans i (Bind l ∷ lines) = (record { label = l; offset = start_of spans i }) ∷ binds_from spans (suc i) lines
 binds_from spans i (Put inst ∷ lines) = binds_from spans (suc i) lines
 
+-- the traps of a line that starts and ends at offsets
+abbrev pub line_traps : ℕ → ℕ → Line → List MachTrap
+line_traps start end (Put inst) = inst_traps start end inst
+line_traps start end (Bind label) = []
+
+-- the traps of lines, the first of which has index i
+abbrev pub traps_from : List LineSpan → ℕ → List Line → List MachTrap
+traps_from spans i [] = []
+traps_from spans i (line ∷ lines) = line_traps (start_of spans i) (end_of spans i) line ++ traps_from spans (suc i) lines
+
 -- nothing stands between two offsets, or an island
 abbrev pub IsGap : IsaFlags → List ℕ → ℕ → ℕ → Type 0
 IsGap flags bytes from to = (from ≡ to) ⊎ IsIsland flags bytes from to
@@ -42,7 +54,7 @@ IsSpan flags bytes (Put inst) start end = IsSized flags bytes (extent_of inst) s
 IsSpan flags bytes (Bind label) start end = end ≡ start
 
 -- Every line has one span, in order, as long as the line. The first starts at 0; between two stands nothing, or an island.
--- The code's end is that of the last line, and its labels are the binds.
+-- The code's end is that of the last line, its labels are the binds, and its traps are those of the lines.
 pub record Reported (job : Job) (code : Code) : Type 0 where
   pub count : length code.lines ≡ length job.lines
   pub indices : (i : ℕ) (span : LineSpan) → slice_get code.lines i ≡ Some span → span.index ≡ i
@@ -53,3 +65,4 @@ pub record Reported (job : Job) (code : Code) : Type 0 where
   pub none : length job.lines ≡ 0 → code.end ≡ 0
   pub within : code.end ≤ length code.bytes
   pub labels : code.labels ≡ binds_from code.lines 0 job.lines
+  pub traps : code.traps ≡ traps_from code.lines 0 job.lines

@@ -1,12 +1,14 @@
 -- What it is for code to run as its job says.
-use Rattle.std.specs.Prelude.{◌≡◌, ℕ, suc, ◌+◌, ◌%◌, ◌^◌, ◌<◌, ◌≤◌, nat_eq, nat_lt, if◌then◌else◌, List, [], ◌∷◌, length, slice_get, slice_index, Some}
+use Rattle.std.specs.Prelude.{◌≡◌, ℕ, suc, ◌+◌, ◌%◌, ◌^◌, ◌<◌, ◌≤◌, nat_eq, nat_lt, if◌then◌else◌, List, [], ◌∷◌, length, slice_get, slice_index, Some, None}
 use Rattle.std.specs.FinMap.{FinMap}
 use Rattle.std.specs.Ordering.{nat_cmp}
+use Rattle.rv_base.specs.declared.trap.TrapCode.{TrapCode}
+use Rattle.rv_inst.specs.Traps.{IsRecorded}
 use Rattle.rv_inst.specs.declared.inst.Line.{Line}
 use Rattle.rv_inst.specs.declared.inst.Line.TheVariants.{Inst as Put, Bind}
 use Rattle.rv_inst.specs.declared.job.Job.{Job}
 use Rattle.rv_inst.specs.declared.code.Code.{Code}
-use Rattle.rv_inst.specs.Meaning.{Placement, Exit, Next, To, Leave, Break, exit_of, effect_of}
+use Rattle.rv_inst.specs.Meaning.{Placement, Exit, Next, To, Leave, Break, Trap, Data, exit_of, effect_of, temporaries_of}
 use Rattle.rv_machine.specs.State.{State, IsState, Values, AreValues, Memory, byte, wrap}
 use Rattle.rv_base.specs.declared.flags.IsaFlags.{IsaFlags}
 use Rattle.rv_machine.specs.declared.ops.MOp.TheVariants.{Base}
@@ -14,15 +16,18 @@ use Rattle.rv_machine.specs.declared.ops.BaseOp.TheVariants.{Ebreak}
 use Rattle.rv_machine.specs.Layout.{bare_form}
 use Rattle.rv_machine.specs.Decode.{decode}
 use Rattle.rv_machine.specs.Steps.{fetch, iter}
-use Rattle.rv_inst.specs.SameValues.{Same}
+use Rattle.rv_inst.specs.SameValues.{Same, SameBut}
 use Rattle.rv_asm.specs.Reported.{start_of, end_of}
 
--- the start of a line, by its number; an address outside the code; the end of the last line; or the break of a line
+-- the start of a line, by its number; an address outside the code; the end of the last line; the break of a line; the trap of
+-- a line, which is recorded at an offset; or the data of a line
 pub data Point : Type 0 where
   At : ℕ → Point
   Out : ℕ → Point
   End : Point
   Stop : ℕ → Point
+  Trapped : ℕ → ℕ → Point
+  InData : ℕ → Point
 
 -- the number of the first line that binds a label
 abbrev pub binding_line : List Line → ℕ → ℕ
@@ -33,25 +38,33 @@ binding_line (Put inst ∷ lines) label = suc (binding_line lines label)
 abbrev pub next_point : List Line → ℕ → Point
 next_point lines i = if nat_lt (suc i) (length lines) then At (suc i) else End
 
+-- a trap of line i for a cause is recorded at an offset
+pub record IsTrapOf (code : Code) (i at : ℕ) (cause : TrapCode) : Type 0 where
+  pub recorded : IsRecorded code.traps at cause
+  pub first : start_of code.lines i ≤ at
+  pub last : at < end_of code.lines i
+
 -- where an exit from line i leads
-abbrev pub point_of : List Line → ℕ → Exit → Point
-point_of lines i Next = next_point lines i
-point_of lines i (To label) = At (binding_line lines label)
-point_of lines i (Leave a) = Out a
-point_of lines i Break = Stop i
+abbrev pub Leads : List Line → Code → ℕ → Exit → Point → Type 0
+Leads lines code i Next q = q ≡ next_point lines i
+Leads lines code i (To label) q = q ≡ At (binding_line lines label)
+Leads lines code i (Leave a) q = q ≡ Out a
+Leads lines code i Break q = q ≡ Stop i
+Leads lines code i (Trap cause) q = (at : ℕ) × (q ≡ Trapped i at) × IsTrapOf code i at cause
+Leads lines code i Data q = q ≡ InData i
 
 -- where a line's own bytes begin and end, for code that stands at a base
 abbrev pub placement_of : Code → ℕ → ℕ → Placement
 placement_of code base i = record { start = wrap (base + start_of code.lines i); after = wrap (base + end_of code.lines i) }
 
--- one line at once, from a point and values to a point and values
+-- one line at once, from a point and values to a point and values; the line's temporaries may hold anything after it
 pub record OneLine (job : Job) (code : Code) (base : ℕ) (p : Point) (v : Values) (q : Point) (w : Values) : Type 0 where
   pub index : ℕ
   pub line : Line
   pub at : p ≡ At index
   pub listed : slice_get job.lines index ≡ Some line
-  pub leads : q ≡ point_of job.lines index (exit_of line v)
-  pub effect : Same (effect_of (placement_of code base index) line v) w
+  pub leads : Leads job.lines code index (exit_of line v) q
+  pub effect : SameBut (temporaries_of line) (effect_of (placement_of code base index) line v) w
 
 -- the address of a point, for code that stands at a base
 abbrev pub address_of : Code → ℕ → Point → ℕ
@@ -59,13 +72,17 @@ address_of code base (At i) = wrap (base + start_of code.lines i)
 address_of code base End = wrap (base + code.end)
 address_of code base (Out a) = a
 address_of code base (Stop i) = wrap (base + start_of code.lines i)
+address_of code base (Trapped i at) = wrap (base + at)
+address_of code base (InData i) = wrap (base + start_of code.lines i)
 
--- at a break the word is that of ebreak, so the machine has no step
+-- at a break the word is that of ebreak, and at a trap it is no operation, so the machine has no step
 abbrev pub IsStopped : IsaFlags → Point → State → Type 0
 IsStopped flags (Stop i) s = decode flags (fetch s.values.mem s.pc) ≡ Some (bare_form (Base Ebreak))
 IsStopped flags (At i) s = Unit {0}
 IsStopped flags (Out a) s = Unit {0}
 IsStopped flags End s = Unit {0}
+IsStopped flags (Trapped i at) s = decode flags (fetch s.values.mem s.pc) ≡ None
+IsStopped flags (InData i) s = Unit {0}
 
 -- addresses of symbols, or of the slots that hold them, by the number of a name
 abbrev pub Addresses : Type 0
@@ -83,6 +100,8 @@ IsBack index (At j) = j ≤ index
 IsBack index (Out a) = ⊥
 IsBack index End = ⊥
 IsBack index (Stop i) = ⊥
+IsBack index (Trapped i at) = ⊥
+IsBack index (InData i) = ⊥
 
 -- From this point the machine comes, in some steps, where one line leads, with values that are the same. To a line that
 -- doesn't stand after this one it takes a step: so where the listing runs without end, the machine does.

@@ -11,6 +11,7 @@ ghost use Rattle.rv_asm.specs.Reported.{Reported};
 ghost use Rattle.rv_asm.specs.Simulation.{RunsAsListed};
 ghost use Rattle.rv_asm.specs.Reach.{InReach};
 ghost use Rattle.rv_asm.specs.FinishedCode.{IsFinished};
+ghost use Rattle.rv_asm.specs.LinesInBuffer.{context_by};
 
 use crate::lines::put_line;
 use crate::ranges::code_fits;
@@ -58,7 +59,7 @@ fn build(
 ) -> Result<Code, OutOfMemory>
     requires accepted { refusal lines.now ≡ None }
     requires constants { constants.now ≡ [] }
-    ensures { IfOk result (IsFinished lines.now) }
+    ensures { IfOk result (IsFinished (context_by flags no_frame constants.now) lines.now) }
 {
     let info = EmitInfo::new(flags);
     let mut state = EmitState::new(FrameLayout::none(alloc));
@@ -75,6 +76,7 @@ fn build(
         bytes: finished.bytes,
         lines: List::from_vec(spans),
         labels: finished.labels,
+        traps: finished.traps,
         end,
     })
 }

@@ -1,13 +1,17 @@
 //! One line after another into the buffer.
 
-ghost use Rattle.std.specs.Prelude.{◌≡◌, ◌+◌, ◌*◌, ◌^◌, ◌<◌, length, IfOk, OnOk, None};
+ghost use Rattle.std.specs.Prelude.{◌≡◌, ◌+◌, ◌*◌, ◌^◌, ◌<◌, length, List, IfOk, OnOk, None};
+ghost use Rattle.rv_base.specs.declared.constant.Constant.{Constant};
+ghost use Rattle.rv_base.specs.LabelUse.{code_limit};
 ghost use Rattle.rv_inst.specs.declared.inst.Line.TheVariants.{Inst as Put, Bind};
+ghost use Rattle.rv_inst.specs.Sizes.{line_space};
 ghost use Rattle.mach_buffer.specs.Reach.{CanReach, is_needed};
 ghost use Rattle.mach_buffer.specs.Buffer.{bytes_of, allocated_of};
-ghost use Rattle.rv_emit.specs.Emitted.{IsSoundBuffer, pending, IslandIfNeeded, CanEmit, Emitted};
+ghost use Rattle.rv_emit.specs.Emitted.{IsSoundBuffer, pending, IslandIfNeeded, CanEmit, IsBounded};
+ghost use Rattle.rv_emit.specs.Emission.{EmitsIn};
 ghost use Rattle.rv_emit.specs.declared.state.EmitVState.TheVariants.{Unknown};
 ghost use Rattle.rv_emit.specs.State.{setting_after, setting_beyond};
-ghost use Rattle.rv_asm.specs.LinesInBuffer.{CanPut, InstPut, BindPut, LinePut, line_setting};
+ghost use Rattle.rv_asm.specs.LinesInBuffer.{CanPut, InstPut, BindPut, LinePut, context_by, line_setting};
 
 use mach_buffer::MachBuffer;
 use rv_base::{MachLabel, OutOfMemory};
@@ -15,7 +19,7 @@ use rv_emit::{EmitInfo, EmitState, MachInstEmit, MachInstEmitState, emit_island_
 use rv_inst::{Inst, LabelUse, Line, LineSpan};
 use std::alloc::Global;
 
-/// How many bytes an island is asked for before, at each instruction.
+/// Before each instruction an island is put where one is needed before so many bytes.
 const LINE_SPACE: u32 = 88;
 
 /// Puts a line, after an island where one is needed, and gives its span.
@@ -29,9 +33,9 @@ pub fn put_line(
 ) -> Result<LineSpan, OutOfMemory>
     requires { CanPut line.now sink.old }
     ensures index { IfOk result (λ span. span.index ≡ index) }
-    ensures put { IfOk result (λ span. LinePut line.now sink.old sink.new span) }
+    ensures put { IfOk result (λ span. (constants : List Constant) → LinePut (context_by info.now.isa_flags state.old.frame constants) state.old.vstate line.now sink.old sink.new span) }
     ensures frame { state.new.frame ≡ state.old.frame }
-    ensures setting { OnOk result (state.new.vstate ≡ line_setting (is_needed (length (bytes_of sink.old)) 88 (pending sink.old)) line.now state.old.vstate) }
+    ensures setting { OnOk result (state.new.vstate ≡ line_setting (is_needed (length (bytes_of sink.old)) line_space (pending sink.old)) line.now state.old.vstate) }
 {
     match line {
         Line::Inst(inst) => put_inst(alloc, sink, info, state, index, inst),
@@ -73,9 +77,9 @@ fn put_inst(
 ) -> Result<LineSpan, OutOfMemory>
     requires { CanPut (Put inst.now) sink.old }
     ensures index { IfOk result (λ span. span.index ≡ index) }
-    ensures put { IfOk result (λ span. InstPut inst.now sink.old sink.new span) }
+    ensures put { IfOk result (λ span. (constants : List Constant) → InstPut (context_by info.now.isa_flags state.old.frame constants) state.old.vstate inst.now sink.old sink.new span) }
     ensures frame { state.new.frame ≡ state.old.frame }
-    ensures setting { OnOk result (state.new.vstate ≡ setting_after inst.now (setting_beyond (is_needed (length (bytes_of sink.old)) 88 (pending sink.old)) state.old.vstate)) }
+    ensures setting { OnOk result (state.new.vstate ≡ setting_after inst.now (setting_beyond (is_needed (length (bytes_of sink.old)) line_space (pending sink.old)) state.old.vstate)) }
 {
     emit_needed_island(sink, state)?;
     let start = sink.cur_offset();
@@ -92,10 +96,10 @@ fn emit_needed_island(
     requires sound { IsSoundBuffer sink.old }
     requires reach { CanReach (length (bytes_of sink.old)) (pending sink.old) }
     requires few { allocated_of sink.old < 2 ^ 30 }
-    requires room { length (bytes_of sink.old) + 8 * length (pending sink.old) + 32 < 2147479552 }
-    ensures room { IfOk result (λ made. IslandIfNeeded 88 sink.old sink.new made) }
+    requires room { length (bytes_of sink.old) + 8 * length (pending sink.old) + 32 < code_limit }
+    ensures room { IfOk result (λ made. IslandIfNeeded line_space sink.old sink.new made) }
     ensures frame { state.new.frame ≡ state.old.frame }
-    ensures setting { OnOk result (state.new.vstate ≡ setting_beyond (is_needed (length (bytes_of sink.old)) 88 (pending sink.old)) state.old.vstate) }
+    ensures setting { OnOk result (state.new.vstate ≡ setting_beyond (is_needed (length (bytes_of sink.old)) line_space (pending sink.old)) state.old.vstate) }
 {
     let made = emit_island_if_needed(sink, LINE_SPACE)?;
     if made {
@@ -113,7 +117,8 @@ fn emit(
     inst: &Inst,
 ) -> Result<(), OutOfMemory>
     requires { CanEmit inst.now sink.old }
-    ensures emitted { OnOk result (Emitted inst.now sink.old sink.new) }
+    ensures emitted { OnOk result ((constants : List Constant) → EmitsIn (context_by info.now.isa_flags state.old.frame constants) state.old.vstate inst.now sink.old sink.new) }
+    ensures bounds { OnOk result (IsBounded inst.now sink.old sink.new) }
     ensures reach { OnOk result (CanReach (length (bytes_of sink.new)) (pending sink.new)) }
     ensures frame { state.new.frame ≡ state.old.frame }
     ensures setting { OnOk result (state.new.vstate ≡ setting_after inst.now state.old.vstate) }

@@ -57,10 +57,13 @@ fn rule_name(rule: Rule) -> &'static str
         Rule::Virtual => "Virtual",
         Rule::Class => "Class",
         Rule::Reserved => "Reserved",
+        Rule::Zero => "Zero",
+        Rule::Clash => "Clash",
         Rule::BadType => "BadType",
         Rule::Range => "Range",
         Rule::NoTarget => "NoTarget",
         Rule::Label => "Label",
+        Rule::DataSize => "DataSize",
     }
 }
 

@@ -2,9 +2,9 @@
 
 ghost use Rattle.std.specs.List.{AllByRecursion};
 ghost use Rattle.std.specs.Prelude.{◌<◌, ◌^◌};
-ghost use Rattle.rv_listing.specs.CodeRanges.{SpanFits, LabelFits, CodeFits};
+ghost use Rattle.rv_listing.specs.CodeRanges.{SpanFits, LabelFits, TrapFits, CodeFits};
 
-use rv_inst::{Code, LabelPlace, LineSpan};
+use rv_inst::{Code, LabelPlace, LineSpan, MachTrap};
 
 /// The numbers of a code are in the ranges of their types.
 pub(crate) fn code_fits(code: &Code)
@@ -13,6 +13,7 @@ pub(crate) fn code_fits(code: &Code)
     bytes_fit(code.bytes.as_slice());
     spans_fit(code.lines.as_slice());
     labels_fit(code.labels.as_slice());
+    traps_fit(code.traps.as_slice());
     offset_fits(code.end);
 }
 
@@ -46,4 +47,16 @@ fn labels_fit(labels: &[LabelPlace])
 
 fn label_fits(label: LabelPlace)
     ensures { LabelFits label }
+{}
+
+fn traps_fit(traps: &[MachTrap])
+    ensures { AllByRecursion TrapFits traps.now }
+{
+    for trap in traps {
+        trap_fits(*trap);
+    }
+}
+
+fn trap_fits(trap: MachTrap)
+    ensures { TrapFits trap }
 {}

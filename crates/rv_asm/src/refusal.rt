@@ -1,10 +1,10 @@
 //! Why a job is refused.
 
-ghost use Rattle.std.specs.Prelude.{◌≡◌, ℕ, ◌^◌, [], ◌∷◌, ◌++◌, ◌||◌, false, nat_eq, nat_lt, IfOk, OnOk};
+ghost use Rattle.std.specs.Prelude.{◌≡◌, ℕ, [], ◌∷◌, ◌++◌, ◌||◌, false, nat_eq, nat_lt, IfOk, OnOk};
 ghost use Rattle.rv_inst.specs.Operands.{named_labels, inst_labels, target_labels};
 ghost use Rattle.rv_inst.specs.Families.{family_of};
 ghost use Rattle.rv_inst.specs.declared.inst.Family.TheVariants.{Control};
-ghost use Rattle.rv_asm.specs.Refusal.{is_bound, broken_from, binds, twice_of, twice_in, twice_from, unbound_among, unbound_in, size_sum, refusal, Finds};
+ghost use Rattle.rv_asm.specs.Refusal.{size_limit, is_bound, broken_from, binds, twice_of, twice_in, twice_from, unbound_among, unbound_in, size_sum, refusal, Finds};
 ghost use Rattle.rv_inst.specs.Sizes.{line_sum, inst_sum};
 ghost use Rattle.rv_asm.specs.BoundLabels.{is_in};
 
@@ -118,7 +118,7 @@ fn find_labels_in(bound: &LabelTable<()>, inst: &Inst) -> Result<(), EmitError>
     ensures { Finds (unbound_among (is_in bound.now) (inst_labels inst.now)) result }
 {
     match inst.family() {
-        Family::Pseudo | Family::Integer => Ok(()),
+        Family::Pseudo | Family::Integer | Family::Loop => Ok(()),
         Family::Control => find_labels_in_control(bound, inst),
     }
 }
@@ -166,11 +166,14 @@ fn find_label(bound: &LabelTable<()>, label: MachLabel) -> Result<(), EmitError>
     }
 }
 
-/// Returns whether the lines count for more than 2^30 bytes.
+/// Lines count for at most this many bytes, which is well below the limit of code.
+const SIZE_LIMIT: u64 = 1 << 30;
+
+/// Returns whether the lines count for more bytes than they may.
 fn is_too_large(lines: &[Line]) -> bool
-    ensures { result ≡ nat_lt (2 ^ 30) (size_sum lines.now) }
+    ensures { result ≡ nat_lt size_limit (size_sum lines.now) }
 {
-    let mut left: u64 = 1 << 30;
+    let mut left = SIZE_LIMIT;
     for line in lines {
         let sum = line_sum(line);
         if sum > left {

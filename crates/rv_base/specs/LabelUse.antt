@@ -1,5 +1,5 @@
 -- What it means that a window of bytes is fresh, that it keeps its bits outside the fields of a use, and what a veneer is.
-use Rattle.std.specs.Prelude.{◌≡◌, ℕ, ◌+◌, ◌-◌, ◌%◌, ◌≤◌, List, [], ◌∷◌, length, drop, ℤ, Bool, false, slice_index, bit_and}
+use Rattle.std.specs.Prelude.{◌≡◌, ℕ, ◌+◌, ◌-◌, ◌%◌, ◌^◌, ◌≤◌, List, [], ◌∷◌, length, drop, ℤ, Bool, false, slice_index, bit_and}
 
 -- from the byte at i on, a window has no bit where the marks have one
 abbrev pub IsFreshFrom : ℕ → List ℕ → List ℕ → Type 0
@@ -36,12 +36,17 @@ pub record Kinds (K : Type 0) : Type 1 where
   pub has_veneer : K → Bool
   pub veneer : K → Veneer K
 
--- eight bytes, with a fresh use at an even place that needs no veneer itself and reaches every distance below 2^31 - 4096
+-- code is shorter than this many bytes: the upper twenty bits of an auipc and the signed lower twelve of the instruction
+-- after it reach every distance below it
+abbrev pub code_limit : ℕ
+code_limit = 2 ^ 31 - 4096
+
+-- eight bytes, with a fresh use at an even place that needs no veneer itself and reaches every distance below the limit
 pub record IsVeneer {K : Type 0} (kinds : Kinds K) (v : Veneer K) : Type 0 where
   pub eight : length v.bytes ≡ 8
   pub place_even : v.place % 2 ≡ 0
   pub inside : v.place + length (kinds.fields v.kind) ≤ 8
   pub fresh : IsFresh (kinds.fields v.kind) (drop v.place v.bytes)
   pub final : kinds.has_veneer v.kind ≡ false
-  pub far_forward : 2147479551 ≤ kinds.forward v.kind
-  pub far_backward : 2147479551 ≤ kinds.backward v.kind
+  pub far_forward : code_limit - 1 ≤ kinds.forward v.kind
+  pub far_backward : code_limit - 1 ≤ kinds.backward v.kind

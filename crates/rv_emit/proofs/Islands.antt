@@ -1,19 +1,20 @@
 -- What an island asks, once its jump is put.
-use Rattle.std.proofs.Common.{◌≡◌, ◌≢◌, ℕ, zero, suc, ◌+◌, ◌-◌, ◌*◌, ◌^◌, ◌<◌, ◌≤◌, Bool, true, false, cond, not, ◌&&◌, List, [], ◌∷◌, ◌++◌, length, Option, Some, None, refl, ap, sym, ◌∙◌, subst, arith}
+use Rattle.std.proofs.Common.{◌≡◌, ◌≢◌, ℕ, suc, ◌+◌, ◌-◌, ◌*◌, ◌<◌, ◌≤◌, Bool, true, false, cond, not, ◌&&◌, List, [], ◌∷◌, ◌++◌, length, Option, Some, None, refl, ap, sym, ◌∙◌, subst, arith}
 use Rattle.std.specs.Prelude.{slice_get}
 use Rattle.std.proofs.lemmas.Bool.{ne_eqb}
 use Rattle.std.proofs.lemmas.List.{length-append, append-nil}
 use Rattle.rv_base.specs.declared.label.MachLabel.{MachLabel}
+use Rattle.mach_labels.specs.Table.{first_inner}
 use Rattle.rv_inst.specs.declared.label_use.LabelUse.{LabelUse}
 use Rattle.rv_inst.specs.declared.label_use.LabelUse.TheVariants.{Jal20}
 use Rattle.rv_inst.specs.LabelUse.{label_kinds}
 use Rattle.rv_inst.specs.LabelUseWords.{word_bytes}
-use Rattle.rv_base.specs.LabelUse.{Kinds}
+use Rattle.rv_base.specs.LabelUse.{code_limit, Kinds}
 use Rattle.mach_buffer.specs.declared.uses.Use.{Use}
 use Rattle.mach_buffer.specs.Reach.{CanReach, deadline, deadlines, is_pending, is_other}
 use Rattle.mach_buffer.specs.Buffer.{shape_of, bytes_of, uses_of, place_of, allocated_of}
 use Rattle.mach_buffer.specs.Islands.{CanIsland, IsJumpOver, aligned, island_end, needs_own, others_of}
-use Rattle.mach_buffer.proofs.Laws.{deadlines_append, slice_get-append_last, own_idle, aligned_near}
+use Rattle.mach_buffer.proofs.Laws.{deadlines_append, own_idle, aligned_near}
 use Rattle.rv_emit.specs.Emitted.{Buffer, IsSoundBuffer, pending}
 use Rattle.rv_inst.specs.Uses.{use_at}
 
@@ -34,7 +35,7 @@ other_label place after_island u n = ap (λ b. is_pending label_kinds place u &&
 
 -- a jump to a fresh label was put, after what a buffer has
 pub record JumpPut (old new : Buffer) (after_island : MachLabel) : Type 0 where
-  pub fresh : after_island.number ≡ 2 ^ 30 + allocated_of old
+  pub fresh : after_island.number ≡ first_inner + allocated_of old
   pub allocated : allocated_of new ≡ allocated_of old + 1
   pub bytes : bytes_of new ≡ bytes_of old ++ word_bytes 0x6f
   pub uses : uses_of new ≡ uses_of old ++ use_at (length (bytes_of old)) after_island Jal20 ∷ []
@@ -86,7 +87,7 @@ unbound_fresh old new after_island p = ap (λ (place : ℕ → Option ℕ). plac
     on None e = refl
     on (Some at) e = let known = (p.before.places after_island.number at e).2 in let fresh = p.fresh in absurd (omega arith)
 
-pub can_island : (old new : Buffer) (after_island : MachLabel) → JumpPut old new after_island → CanReach (length (bytes_of old)) (pending old) → length (bytes_of old) + 8 * length (pending old) + 32 < 2147479552 → CanIsland label_kinds (shape_of new) after_island
+pub can_island : (old new : Buffer) (after_island : MachLabel) → JumpPut old new after_island → CanReach (length (bytes_of old)) (pending old) → length (bytes_of old) + 8 * length (pending old) + 32 < code_limit → CanIsland label_kinds (shape_of new) after_island
 unfolding jump_round
 can_island old new after_island p reach room =
     let others = others_pending old new after_island p in
@@ -96,7 +97,7 @@ can_island old new after_island p reach room =
     let less : length (bytes_of old) ≡ length (bytes_of new) - 4 = omega arith in
     let near : aligned (length (bytes_of new)) ≤ length (bytes_of new) + 2 = aligned_near (length (bytes_of new)) p.sound.even in
     let last = length (bytes_of old) + 1048574 in
-    let end : island_end (aligned (length (bytes_of new))) (length (pending old)) last < 2147479552 = let e = end_near (aligned (length (bytes_of new))) (length (pending old)) last in omega (arith, e, near, long, room) in
+    let end : island_end (aligned (length (bytes_of new))) (length (pending old)) last < code_limit = let e = end_near (aligned (length (bytes_of new))) (length (pending old)) last in omega (arith, e, near, long, room) in
     record {
       inner = omega arith;
       known = omega arith;
@@ -104,5 +105,5 @@ can_island old new after_island p reach room =
       four = omega arith;
       jump = jump_round old new after_island p;
       reach = subst (λ (ds : List ℕ). CanReach (length (bytes_of new) - 4) ds) (sym others) (subst (λ n. CanReach n (pending old)) less reach);
-      room = subst (λ (ds : List ℕ). island_end (aligned (length (bytes_of new))) (length ds) last < 2147479552) (sym others) end;
+      room = subst (λ (ds : List ℕ). island_end (aligned (length (bytes_of new))) (length ds) last < code_limit) (sym others) end;
     }

@@ -1,29 +1,31 @@
 -- A jump and an island after it, as the buffer's calls put them.
-use Rattle.std.proofs.Common.{◌≡◌, ℕ, ◌+◌, ◌*◌, ◌%◌, ◌^◌, ◌≤◌, Bool, true, false, cond, List, [], ◌∷◌, ◌++◌, length, take, Option, Some, None, zero, suc, refl, ap, sym, ◌∙◌, subst, arith}
-use Rattle.std.proofs.lemmas.List.{length-append, map-append, take-take}
+use Rattle.std.proofs.Common.{◌≡◌, ℕ, ◌+◌, ◌*◌, ◌%◌, ◌≤◌, Bool, true, false, cond, List, [], ◌∷◌, ◌++◌, length, take, Option, refl, ap, sym, ◌∙◌, subst, arith}
+use Rattle.std.proofs.lemmas.List.{length-append}
 use Rattle.rv_base.specs.declared.label.MachLabel.{MachLabel}
+use Rattle.mach_labels.specs.Table.{first_inner}
 use Rattle.rv_inst.specs.declared.label_use.LabelUse.{LabelUse}
 use Rattle.rv_inst.specs.declared.label_use.LabelUse.TheVariants.{Jal20}
 use Rattle.rv_inst.specs.LabelUse.{label_kinds}
 use Rattle.rv_inst.specs.LabelUseWords.{word_bytes}
 use Rattle.mach_buffer.specs.declared.uses.Use.{Use}
-use Rattle.mach_buffer.specs.Buffer.{shape_of, bytes_of, uses_of, place_of, labels_of, allocated_of}
-use Rattle.mach_buffer.specs.Shape.{core, recorded}
+use Rattle.mach_buffer.specs.Buffer.{shape_of, bytes_of, uses_of, place_of, labels_of, allocated_of, traps_of}
+use Rattle.mach_buffer.specs.Shape.{with_allocated, with_bytes, with_use}
 use Rattle.mach_buffer.specs.Reach.{deadline}
-use Rattle.mach_buffer.specs.Islands.{Islanded, others_of, aligned, padding, island_end, needs_own}
+use Rattle.mach_buffer.specs.Islands.{Islanded, others_of, aligned, island_end, needs_own}
 use Rattle.mach_buffer.specs.Windows.{AreWindows}
 use Rattle.mach_buffer.specs.VeneerConditions.{AddsOwn}
-use Rattle.mach_buffer.specs.Growth.{Grows}
-use Rattle.std.specs.Prelude.{slice_get}
-use Rattle.std.proofs.lemmas.Option.{same_Some}
-use Rattle.mach_buffer.proofs.Laws.{island_rest, take_front, aligned_near, windows_block}
+use Rattle.mach_buffer.specs.Growth.{Grows, Lasts}
+use Rattle.rv_base.specs.declared.flags.IsaFlags.{IsaFlags}
+use Rattle.rv_emit.specs.Slots.{Label}
+use Rattle.rv_emit.specs.Puts.{Puts}
+use Rattle.rv_emit.specs.InstParts.{jump_to}
+use Rattle.mach_buffer.proofs.Laws.{island_rest, aligned_near, windows_with_use}
 use Rattle.rv_emit.specs.Emitted.{Buffer, IsSoundBuffer, HasWindows, pending, AppendsCode, AppendsIsland}
 use Rattle.rv_inst.specs.Uses.{use_at}
 use Rattle.rv_emit.proofs.Islands.{JumpPut, others_pending, end_near}
-use Rattle.rv_emit.proofs.BufferGrowth.{own_windows, veneer_law, recorded_more}
 
 -- a label was allocated, and a jump to it put
-pub jump_put : (old mid new : Buffer) (after_island : MachLabel) → IsSoundBuffer old → after_island.number ≡ 2 ^ 30 + allocated_of old → allocated_of mid ≡ allocated_of old + 1 → bytes_of mid ≡ bytes_of old → uses_of mid ≡ uses_of old → place_of mid ≡ place_of old →
+pub jump_put : (old mid new : Buffer) (after_island : MachLabel) → IsSoundBuffer old → after_island.number ≡ first_inner + allocated_of old → allocated_of mid ≡ allocated_of old + 1 → bytes_of mid ≡ bytes_of old → uses_of mid ≡ uses_of old → place_of mid ≡ place_of old →
     AppendsCode (word_bytes 0x6f) (use_at (length (bytes_of mid)) after_island Jal20 ∷ []) mid new → JumpPut old new after_island
 jump_put old mid new after_island sound fresh allocated bytes uses places a = record {
   fresh = fresh;
@@ -44,14 +46,10 @@ same_windows old new bytes uses w =
 -- the jump's window stands fresh
 jump_windows : (old new : Buffer) (after_island : MachLabel) → IsSoundBuffer old → AppendsCode (word_bytes 0x6f) (use_at (length (bytes_of old)) after_island Jal20 ∷ []) old new → HasWindows old → HasWindows new
 jump_windows old new after_island s a w =
-    let own = use_at (length (bytes_of old)) after_island Jal20 ∷ [] in
+    let u = use_at (length (bytes_of old)) after_island Jal20 in
     subst (λ (bs : List ℕ). AreWindows label_kinds bs (uses_of new)) (sym a.bytes)
     (subst (λ (us : List (Use LabelUse)). AreWindows label_kinds (bytes_of old ++ word_bytes 0x6f) us) (sym a.uses)
-    (windows_block w s.linked (word_bytes 0x6f) own (own_windows (length (bytes_of old)) (0x6f ∷ []) own s.even (refl, (refl, (refl, (refl, (refl, tt)))), refl, refl, tt) (bare_one _ refl))))
-  where
-    bare_one : (u : Use LabelUse) → u.veneer ≡ None → (k : ℕ) (x : Use LabelUse) → slice_get (u ∷ []) k ≡ Some x → x.veneer ≡ None
-    bare_one u e zero x h = subst (λ (y : Use LabelUse). y.veneer ≡ None) (same_Some _ _ h) e
-    bare_one u e (suc k) x h = absurd (cc)
+    (windows_with_use (shape_of old) w s.linked s.even (word_bytes 0x6f) u (record { at = refl; bare = refl; long = refl }) (refl, (refl, (refl, (refl, tt))))))
 
 -- an island's end is a multiple of four
 end_whole : (n count last : ℕ) → island_end (aligned n) count last % 4 ≡ 0
@@ -71,8 +69,8 @@ end_behind n count last = on (needs_own (aligned n) count last)
 -- a jump was put, and the island after it
 pub puts_island : (old allocated mid new : Buffer) (after_island : MachLabel) → JumpPut old mid after_island → labels_of allocated ≡ labels_of old → IsSoundBuffer allocated → bytes_of allocated ≡ bytes_of old → (HasWindows old → HasWindows allocated) →
     AppendsCode (word_bytes 0x6f) (use_at (length (bytes_of allocated)) after_island Jal20 ∷ []) allocated mid →
-    Islanded label_kinds after_island (shape_of mid) (shape_of new) → Grows (bytes_of mid) (uses_of mid) (place_of mid) (bytes_of new) (uses_of new) (place_of new) → AddsOwn label_kinds (length (bytes_of mid)) (uses_of mid) (uses_of new) → (HasWindows mid → HasWindows new) → IsSoundBuffer new → AppendsIsland old new
-puts_island old allocated mid new after_island p labels sound same_bytes windows a i grows own kept now =
+    Islanded label_kinds after_island (shape_of mid) (shape_of new) → Grows (bytes_of mid) (uses_of mid) (place_of mid) (bytes_of new) (uses_of new) (place_of new) → AddsOwn label_kinds (length (bytes_of mid)) (uses_of mid) (uses_of new) → (HasWindows mid → HasWindows new) → IsSoundBuffer new → ((flags : IsaFlags) → Puts flags (allocated_of old + 1) (jump_to (Label after_island) ∷ []) (with_allocated (shape_of old)) (shape_of mid)) → Lasts label_kinds (shape_of mid) (shape_of new) → traps_of mid ≡ traps_of old → AppendsIsland old new
+puts_island old allocated mid new after_island p labels sound same_bytes windows a i grows own kept now puts lasts traps =
     let rest = island_rest i in
     let long : length (bytes_of mid) ≡ length (bytes_of old) + 4 = ap (length {A = ℕ}) p.bytes ∙ length-append (bytes_of old) (word_bytes 0x6f) in
     let count = length (others_of label_kinds (shape_of mid) after_island) in
@@ -87,6 +85,9 @@ puts_island old allocated mid new after_island p labels sound same_bytes windows
     record {
       after_island = after_island;
       drawn_label = p.fresh;
+      jumped = shape_of mid;
+      puts = puts;
+      lasts = lasts;
       allocated = rest.allocated ∙ p.allocated;
       jump = ap (λ n. take n (bytes_of new)) (sym long) ∙ grows.before ∙ p.bytes;
       longer = omega (arith, long, end, ahead);
@@ -94,9 +95,21 @@ puts_island old allocated mid new after_island p labels sound same_bytes windows
       bound = rest.bound;
       places = λ label ne. rest.places label ne ∙ ap (λ (place : ℕ → Option ℕ). place label) p.places;
       labels = rest.labels (omega (arith, drawn_fresh)) ∙ a.labels ∙ labels;
+      traps = rest.traps ∙ traps;
       settled = i.settled;
       aligned = ap (λ n. n % 4) end ∙ end_whole (length (bytes_of mid)) count last;
       short = omega (arith, long, end, near, close, counted);
       windows = λ w. kept (jump_windows allocated mid after_island sound a (windows w));
       sound = now;
     }
+
+-- what one use and its word add
+pub appends : (old new : Buffer) (block : List ℕ) (u : Use LabelUse) → shape_of new ≡ with_bytes block (with_use u (shape_of old)) → IsSoundBuffer new → AppendsCode block (u ∷ []) old new
+appends old new block u e sound = record {
+  bytes = ap (λ s. s.bytes) e;
+  uses = ap (λ s. s.uses) e;
+  places = ap (λ s. s.place) e;
+  labels = ap (λ s. s.labels) e;
+  allocated = ap (λ s. s.allocated) e;
+  sound = sound;
+}

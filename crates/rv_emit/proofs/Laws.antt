@@ -1,19 +1,24 @@
 -- What the crates above cite of this one's proofs: laws about its definitions, by subject.
 
--- a machine's steps, from one operation to many
-pub use Rattle.rv_emit.proofs.Steps.{istep_at, iter_none}
+-- a machine's steps
+pub use Rattle.rv_emit.proofs.Steps.{istep_at, iter_none, iter_after}
+-- values that are the same, and the same but for temporaries
+pub use Rattle.rv_emit.proofs.Exits.{same_but, but_then_same}
 pub use Rattle.rv_emit.proofs.Registers.{are_values_set}
-pub use Rattle.rv_emit.proofs.SequenceStart.{ends_one, ends_both}
-pub use Rattle.rv_emit.proofs.Jumps.{lands}
--- words of bytes that are placed
-pub use Rattle.rv_emit.proofs.PlacedWords.{AllBytes, word_there, bytes_fit}
 -- what keeping the rules gives
 pub use Rattle.rv_emit.proofs.Operands.{keeps}
--- an instruction's sequence: its length, its words once they are patched, and that it runs
-pub use Rattle.rv_emit.proofs.SequencesRun.{four_each, block_runs}
-pub use Rattle.rv_emit.proofs.PatchedWords.{patched_rows}
--- a buffer that grows by a sequence or an island
-pub use Rattle.rv_emit.proofs.BufferGrowth.{GrowsTo, block_grows, block_has_windows, block_there, block_whole, island_grows, island_jump}
+-- an instruction's parts, wherever they stand: they run as it means
+pub use Rattle.rv_emit.proofs.InstRuns.{inst_runs}
+-- a buffer into which slots were put, and parts
+pub use Rattle.rv_emit.proofs.PutsLast.{puts_last, puts_bytes, puts_uses, puts_ends}
+pub use Rattle.rv_emit.proofs.PartsPut.{gap_last, parts_last, GapPut, gap_put, PartsPut, parts_put}
+-- an instruction's parts are blocks; and what one without labels of its own adds
+pub use Rattle.rv_emit.proofs.PlainSlots.{are_blocks, appends_inst}
+-- what was put into a buffer, in the finished code
+pub use Rattle.rv_emit.proofs.Standing.{place_within, slots_stand, gap_stands, parts_stand}
+pub use Rattle.rv_emit.proofs.IslandsStand.{island_is, gap_is}
+-- ways on in the finished code
+pub use Rattle.rv_emit.proofs.Ways.{comes_both, leads_here, leads_both}
 -- pending uses and their deadlines
 pub use Rattle.rv_emit.proofs.ReachKept.{Each, waits, each_none, each_more, uses_bare, uses_kinds, few_deadlines, bytes_after, pending_after, calm_after}
 pub use Rattle.rv_emit.proofs.Islands.{deadlines_as}

@@ -1,6 +1,6 @@
 -- What an instruction that breaks no rule gives: integer registers below x30, numbers in range, and branches with a target.
-use Rattle.std.proofs.Common.{◌≡◌, ℕ, ◌<◌, Bool, true, false, List, [], ◌∷◌, Some, None, arith, refl}
-use Rattle.std.specs.Prelude.{nat_le, ◌||◌, ◌&&◌, ◌==◌, not, if◌then◌else◌}
+use Rattle.std.proofs.Common.{◌≡◌, ◌⊎◌, inl, inr, ℕ, ◌<◌, Bool, true, false, List, [], ◌∷◌, ◌++◌, length, None, arith, refl, ap, eqb-true}
+use Rattle.std.specs.Prelude.{nat_le, ◌||◌, ◌&&◌, ◌==◌, not}
 use Rattle.std.specs.List.{list_any}
 use Rattle.std.proofs.lemmas.Bool.Decides.{nat_tests}
 use Rattle.rv_base.specs.declared.regs.Reg.{Reg}
@@ -10,13 +10,20 @@ use Rattle.rv_base.specs.declared.regs.RegClass.{RegClass}
 use Rattle.rv_base.specs.declared.regs.RegClass.TheVariants.{Int, Float, Vector}
 use Rattle.rv_base.specs.declared.regs.Writable.{Writable}
 use Rattle.rv_base.specs.declared.ir_type.IrType.{IrType}
-use Rattle.rv_base.specs.Regs.{class_of}
+use Rattle.rv_base.specs.Regs.{class_of, number_of}
+use Rattle.rv_base.specs.declared.label.MachLabel.{MachLabel}
+use Rattle.rv_base.specs.declared.trap.TrapCode.{TrapCode}
+use Rattle.mach_labels.specs.Table.{first_inner}
+use Rattle.rv_ops.specs.declared.compare.IntegerCompare.{IntegerCompare}
 use Rattle.rv_inst.specs.declared.inst.Inst.{Inst}
-use Rattle.rv_inst.specs.declared.inst.Inst.TheVariants.{Mov, MovFromPReg}
+use Rattle.rv_inst.specs.declared.inst.Inst.TheVariants.{Nop0, Nop4, EBreak, SequencePoint, Args, Rets, DummyUse, EmitIsland, RawData, Lui, Auipc, LoadInlineConst, AluRRR, AluRRImm12, Mov, MovFromPReg, Ret, TrapIf, Jal, CondBr, Udf, Jalr, Popcnt}
+use Rattle.rv_inst.specs.declared.inst.CondBrTarget.{CondBrTarget}
+use Rattle.rv_inst.specs.declared.inst.CondBrTarget.TheVariants.{Label as ToLabel, Fallthrough}
+use Rattle.rv_inst.proofs.Rules.{breaks_none}
 use Rattle.rv_inst.specs.declared.error.Rule.TheVariants as rule
-use Rattle.rv_inst.specs.Operands.{inst_registers, inst_labels}
-use Rattle.rv_inst.specs.Rules.{is_int_class, is_virtual, is_other_class, is_reserved, same_class, is_stack_or_frame, is_misplaced, is_int_type, has_bad_type, is_out_of_range, lacks_target, is_buffer_label, inst_rule}
-use Rattle.rv_emit.specs.Runs.{IsUsable}
+use Rattle.rv_inst.specs.Operands.{inst_registers, inst_labels, target_labels}
+use Rattle.rv_inst.specs.Rules.{is_int_class, is_virtual, is_other_class, is_reserved, same_class, is_stack_or_frame, is_zero, is_misplaced, has_zero, has_clash, is_int_type, is_word_type, has_bad_type, is_out_of_range, lacks_target, has_bad_size, is_buffer_label, inst_rule}
+use Rattle.rv_emit.specs.Usable.{IsUsable, IsListed, IsFineTarget, IsFine}
 
 abbrev pub AreUsable : List Reg → Type 0
 AreUsable [] = Unit {0}
@@ -55,21 +62,29 @@ pub record Keeps (inst : Inst) : Type 0 where
   pub real : list_any is_virtual (inst_registers inst) ≡ false
   pub placed : is_misplaced inst ≡ false
   pub free : list_any is_reserved (inst_registers inst) ≡ false
+  pub counted : has_zero inst ≡ false
+  pub apart : has_clash inst ≡ false
   pub typed : has_bad_type inst ≡ false
   pub ranged : is_out_of_range inst ≡ false
   pub aimed : lacks_target inst ≡ false
+  pub listed : list_any is_buffer_label (inst_labels inst) ≡ false
+  pub sized : has_bad_size inst ≡ false
 
 pub keeps : (inst : Inst) → inst_rule inst ≡ None → Keeps inst
-keeps inst e = from (list_any is_virtual (inst_registers inst)) (is_misplaced inst) (list_any is_reserved (inst_registers inst)) (has_bad_type inst) (is_out_of_range inst) (lacks_target inst) (list_any is_buffer_label (inst_labels inst)) refl refl refl refl refl refl e
-  where
-    from : (a b c d f g h : Bool) → list_any is_virtual (inst_registers inst) ≡ a → is_misplaced inst ≡ b → list_any is_reserved (inst_registers inst) ≡ c → has_bad_type inst ≡ d → is_out_of_range inst ≡ f → lacks_target inst ≡ g → (if a then Some rule.Virtual else if b then Some rule.Class else if c then Some rule.Reserved else if d then Some rule.BadType else if f then Some rule.Range else if g then Some rule.NoTarget else if h then Some rule.Label else None) ≡ None → Keeps inst
-    from true b c d f g h ea eb ec ed ef eg e = absurd (cc)
-    from false true c d f g h ea eb ec ed ef eg e = absurd (cc)
-    from false false true d f g h ea eb ec ed ef eg e = absurd (cc)
-    from false false false true f g h ea eb ec ed ef eg e = absurd (cc)
-    from false false false false true g h ea eb ec ed ef eg e = absurd (cc)
-    from false false false false false true h ea eb ec ed ef eg e = absurd (cc)
-    from false false false false false false h ea eb ec ed ef eg e = record { real = ea; placed = eb; free = ec; typed = ed; ranged = ef; aimed = eg }
+keeps inst e = record {
+  real = breaks_none inst e rule.Virtual;
+  placed = breaks_none inst e rule.Class;
+  free = breaks_none inst e rule.Reserved;
+  counted = breaks_none inst e rule.Zero;
+  apart = breaks_none inst e rule.Clash;
+  typed = breaks_none inst e rule.BadType;
+  ranged = breaks_none inst e rule.Range;
+  aimed = breaks_none inst e rule.NoTarget;
+  listed = breaks_none inst e rule.Label;
+  sized = breaks_none inst e rule.DataSize;
+}
+
+-- ---- moves
 
 -- the registers of a move are usable: both have one class, and that of the source is Int
 class_usable : (r s : RegClass) → not (same_class r s) ≡ false → is_int_class s ≡ true → not (is_int_class r) ≡ false
@@ -111,3 +126,86 @@ preg_usable rd rm k =
     let second = sp_or_fp_other rm (or_right (is_other_class rd.reg) (not (is_stack_or_frame rm)) k.placed) in
     let all = are_usable (rd.reg ∷ Real rm ∷ []) k.real (λ i. first i || (second i || false)) k.free in
     (all.0, all.1.0)
+
+-- ---- data, constants, and traps where a comparison holds
+
+size_kept : (n : ℕ) (a b : Bool) → (n == 4) ≡ a → (n == 8) ≡ b → not (a || b) ≡ false → (n ≡ 4) ⊎ (n ≡ 8)
+size_kept n true b four eight e = inl (eqb-true n 4 four)
+size_kept n false true four eight e = inr (eqb-true n 8 eight)
+size_kept n false false four eight e = absurd (cc)
+
+-- data has four or eight bytes
+pub data_kept : (bytes : List ℕ) → Keeps (RawData bytes) → (length bytes ≡ 4) ⊎ (length bytes ≡ 8)
+data_kept bytes k = size_kept (length bytes) (length bytes == 4) (length bytes == 8) refl refl k.sized
+
+not_false : (a : Bool) → not a ≡ false → a ≡ true
+not_false true e = refl
+not_false false e = absurd (cc)
+
+-- an integer register that isn't x0
+pub not_zero : (r : Reg) → IsUsable r → is_zero r ≡ false → 0 < number_of r
+not_zero (Real p) u h = from (is_int_class p.class) (ap is_int_class u.0) h
+  where
+    from : (c : Bool) → c ≡ true → (c && (p.number == 0)) ≡ false → 0 < p.number
+    from true e zero = grind (arith, nat_tests)
+    from false e zero = absurd (cc)
+not_zero (AVirtual x) u h = absurd u.0
+
+-- the register of a constant, and its type
+pub record ConstantKept (rd : Writable Reg) (type : IrType) : Type 0 where
+  pub usable : IsUsable rd.reg
+  pub counted : 0 < number_of rd.reg
+  pub typed : is_word_type type ≡ true
+
+pub constant_kept : (rd : Writable Reg) (type : IrType) (imm : ℕ) → Keeps (LoadInlineConst rd type imm) → ConstantKept rd type
+constant_kept rd type imm k =
+    let usable = (are_usable (rd.reg ∷ []) k.real k.placed k.free).0 in
+    record { usable = usable; counted = not_zero rd.reg usable (or_left (is_zero rd.reg) false k.counted); typed = not_false (is_word_type type) k.typed }
+
+-- the registers of a trap's comparison
+pub trap_if_usable : (cmp : IntegerCompare) (code : TrapCode) → Keeps (TrapIf cmp code) → IsUsable cmp.rs1 × IsUsable cmp.rs2
+trap_if_usable cmp code k = let all = are_usable (cmp.rs1 ∷ cmp.rs2 ∷ []) k.real k.placed k.free in (all.0, all.1.0)
+
+-- ---- what the words of an instruction ask
+
+listed : (label : MachLabel) (more : Bool) → (is_buffer_label label || more) ≡ false → IsListed label
+listed label more e = below (or_left (is_buffer_label label) more e)
+  where
+    below : is_buffer_label label ≡ false → label.number < first_inner
+    below h = grind (arith, nat_tests)
+
+listed_targets : (taken not_taken : CondBrTarget) → list_any is_buffer_label (target_labels taken ++ target_labels not_taken) ≡ false → IsFineTarget taken × IsFineTarget not_taken
+listed_targets (ToLabel t) (ToLabel f) e = (listed t _ e, listed f false (or_right (is_buffer_label t) _ e))
+listed_targets (ToLabel t) Fallthrough e = (listed t _ e, tt)
+listed_targets Fallthrough (ToLabel f) e = (tt, listed f _ e)
+listed_targets Fallthrough Fallthrough e = (tt, tt)
+
+pub fine : (inst : Inst) → inst_rule inst ≡ None → IsFine inst
+fine inst e = kept inst (keeps inst e)
+  where
+    kept : (inst : Inst) → Keeps inst → IsFine inst
+    kept Nop0 k = tt
+    kept Nop4 k = tt
+    kept EBreak k = tt
+    kept SequencePoint k = tt
+    kept (Args args) k = tt
+    kept (Rets rets) k = tt
+    kept (DummyUse reg) k = tt
+    kept (EmitIsland needed_space) k = tt
+    kept (RawData bytes) k = data_kept bytes k
+    kept (Lui rd imm) k = (are_usable (rd.reg ∷ []) k.real k.placed k.free).0.0
+    kept (Auipc rd imm) k = (are_usable (rd.reg ∷ []) k.real k.placed k.free).0.0
+    kept (LoadInlineConst rd type imm) k = (constant_kept rd type imm k).usable.0
+    kept (AluRRR op rd rs1 rs2) k = let all = are_usable (rd.reg ∷ rs1 ∷ rs2 ∷ []) k.real k.placed k.free in (all.0.0, all.1.0.0, all.1.1.0.0)
+    kept (AluRRImm12 op rd rs imm) k = let all = are_usable (rd.reg ∷ rs ∷ []) k.real k.placed k.free in (all.0.0, all.1.0.0)
+    kept (Mov rd rm type) k = let both = move_usable rd rm type k in (both.0.0, both.1.0)
+    kept (MovFromPReg rd rm) k = let both = preg_usable rd rm k in (both.0.0, both.1.0)
+    kept Ret k = tt
+    kept (TrapIf cmp code) k = let both = trap_if_usable cmp code k in (both.0.0, both.1.0)
+    kept (Jal label) k = listed label _ k.listed
+    kept (CondBr taken not_taken kind) k =
+        let all = are_usable (kind.rs1 ∷ kind.rs2 ∷ []) k.real k.placed k.free in
+        let both = listed_targets taken not_taken k.listed in (all.0.0, all.1.0.0, both.0, both.1)
+    kept (Udf code) k = tt
+    kept (Jalr rd base offset) k = let all = are_usable (rd.reg ∷ base ∷ []) k.real k.placed k.free in (all.0.0, all.1.0.0)
+    kept (Popcnt sum tmp step rs type) k = let all = are_usable (sum.reg ∷ tmp.reg ∷ step.reg ∷ rs ∷ []) k.real k.placed k.free in (all.0.0, all.1.0.0, all.1.1.0.0, all.1.1.1.0.0, not_false (is_int_type type) k.typed)

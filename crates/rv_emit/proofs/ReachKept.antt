@@ -1,24 +1,28 @@
 -- How a sequence and an island keep Reach, and how many uses are pending after them.
-use Rattle.std.proofs.Common.{◌≡◌, ℕ, zero, suc, ◌+◌, ◌*◌, ◌≤◌, Bool, true, false, cond, List, [], ◌∷◌, ◌++◌, length, Option, Some, None, refl, ap, sym, ◌∙◌, subst, arith, ⊎_elim, append_assoc}
-use Rattle.std.specs.Prelude.{slice_get, nat_eq, pos}
+use Rattle.std.proofs.Common.{◌≡◌, ◌⊎◌, inl, inr, ℕ, zero, suc, ◌+◌, ◌*◌, ◌/◌, ◌≤◌, Bool, true, false, cond, List, [], ◌∷◌, ◌++◌, length, Option, Some, None, refl, ap, sym, ◌∙◌, subst, arith, ⊎_elim, append_assoc}
+use Rattle.std.specs.Prelude.{slice_get, nat_eq, if◌then◌else◌}
 use Rattle.std.proofs.lemmas.Option.{same_Some}
 use Rattle.std.proofs.lemmas.List.{length-append, append-nil}
 use Rattle.rv_base.specs.declared.label.MachLabel.{MachLabel}
 use Rattle.rv_inst.specs.declared.inst.Inst.{Inst}
-use Rattle.rv_inst.specs.declared.inst.Inst.TheVariants.{Jal, CondBr, Mov, MovFromPReg}
+use Rattle.rv_inst.specs.declared.inst.Inst.TheVariants.{Jal, CondBr, Mov, MovFromPReg, RawData, LoadInlineConst}
+use Rattle.rv_inst.specs.Rules.{is_word_type, inst_rule}
+use Rattle.rv_base.specs.declared.ir_type.IrType.{IrType}
+use Rattle.rv_base.specs.declared.ir_type.IrType.TheVariants.{I32, I64}
+use Rattle.rv_base.specs.IrType.{bits_of}
+use Rattle.rv_emit.proofs.Operands.{keeps, data_kept, constant_kept}
 use Rattle.rv_inst.specs.declared.inst.CondBrTarget.TheVariants.{Label, Fallthrough}
 use Rattle.rv_inst.specs.declared.label_use.LabelUse.{LabelUse}
 use Rattle.rv_inst.specs.declared.label_use.LabelUse.TheVariants.{Jal20, B12}
 use Rattle.rv_inst.specs.LabelUse.{label_kinds, has_veneer_of}
 use Rattle.rv_inst.specs.Operands.{inst_labels}
 use Rattle.rv_base.specs.LabelUse.{Kinds}
-use Rattle.rv_machine.specs.declared.decoding.Decoded.{Decoded}
 use Rattle.mach_buffer.specs.declared.uses.Use.{Use}
 use Rattle.mach_buffer.specs.Reach.{CanReach, HasSlack, deadline, deadlines, is_pending, is_needed}
 use Rattle.mach_buffer.specs.Buffer.{bytes_of, uses_of, place_of}
 use Rattle.mach_buffer.proofs.Laws.{deadlines_append, slack_use, slack_less, slack_not_needed, reach_from_slack}
-use Rattle.rv_emit.specs.Operations.{no_distance, ops_of, move_ops, decoded_addi}
-use Rattle.rv_emit.specs.Emitted.{Buffer, pending, AppendsCode, AreOps, AppendsInst, IslandIfNeeded, CanEmit, IsBounded, bytes_of_words}
+use Rattle.rv_emit.specs.Emitted.{Buffer, pending, AppendsCode, AppendsInst, IslandIfNeeded, CanEmit, IsBounded}
+use Rattle.rv_inst.specs.Sizes.{Extent, Words, Island, line_space, extent_of, move_size}
 use Rattle.rv_inst.specs.Uses.{use_at, uses_in}
 
 -- whether a use is pending
@@ -72,39 +76,43 @@ uses_bare start inst = each_use (λ u. u.veneer ≡ None) start inst (λ label. 
 
 -- ---- bytes of a sequence
 
-few_moves : (rd rs : ℕ) → length (move_ops rd rs) ≤ 2
-few_moves rd rs = on (nat_eq rd rs)
+-- the length of words, or none
+abbrev size_in : Extent → ℕ
+size_in (Words size) = size
+size_in (Island space) = 0
+
+move_short : (rd rs : ℕ) → move_size rd rs ≤ 44
+move_short rd rs = on (nat_eq rd rs)
   where
-    on : (c : Bool) → length (cond c [] (decoded_addi rd rs (pos 0) ∷ [])) ≤ 2
+    on : (c : Bool) → (if c then 0 else 4) ≤ 44
     on true = omega arith
     on false = omega arith
 
-few_rows : (inst : Inst) → length (ops_of no_distance inst) ≤ 2
-few_rows (Mov rd rm type) = few_moves _ _
-few_rows (MovFromPReg rd rm) = few_moves _ _
-few_rows (CondBr Fallthrough not_taken kind) = omega arith
-few_rows (CondBr (Label t) Fallthrough kind) = omega arith
-few_rows (CondBr (Label t) (Label f) kind) = omega arith
-few_rows _ = omega arith
+data_short : (bytes : List ℕ) → (length bytes ≡ 4) ⊎ (length bytes ≡ 8) → length bytes ≤ 44
+data_short bytes (inl e) = omega arith
+data_short bytes (inr e) = omega arith
 
-pub length_words : (words : List ℕ) → length (bytes_of_words words) ≡ 4 * length words
-length_words [] = refl
-length_words (w ∷ words) = let rest = length_words words in omega arith
+constant_short : (type : IrType) → is_word_type type ≡ true → 12 + bits_of type / 8 ≤ 44
+constant_short I32 word = omega arith
+constant_short I64 word = omega arith
+constant_short _ word = absurd (cc)
 
-same_length : (words : List ℕ) (rows : List Decoded) → AreOps words rows → length words ≡ length rows
-same_length [] [] h = refl
-same_length [] (d ∷ rows) h = absurd h
-same_length (w ∷ words) [] h = absurd h
-same_length (w ∷ words) (d ∷ rows) h = ap suc (same_length words rows h.2)
+-- at most 44 bytes
+short : (inst : Inst) → inst_rule inst ≡ None → size_in (extent_of inst) ≤ 44
+short (Mov rd rm type) rule = move_short _ _
+short (MovFromPReg rd rm) rule = move_short _ _
+short (CondBr Fallthrough not_taken kind) rule = omega arith
+short (CondBr (Label t) Fallthrough kind) rule = omega arith
+short (CondBr (Label t) (Label f) kind) rule = omega arith
+short (RawData bytes) rule = data_short bytes (data_kept bytes (keeps _ rule))
+short (LoadInlineConst rd type imm) rule = constant_short type (constant_kept rd type imm (keeps _ rule)).typed
+short _ rule = omega arith
 
--- at most eight bytes
-pub block_short : (inst : Inst) (words : List ℕ) → AreOps words (ops_of no_distance inst) → length (bytes_of_words words) ≤ 8
-block_short inst words rows = let a = length_words words in let b = same_length words (ops_of no_distance inst) rows in let c = few_rows inst in omega arith
-
-pub bytes_after : (inst : Inst) (old new : Buffer) → AppendsInst inst old new → length (bytes_of new) ≤ length (bytes_of old) + 8
-bytes_after inst old new p =
-    let a = block_short inst p.words p.decode in
-    let b : length (bytes_of new) ≡ length (bytes_of old) + length (bytes_of_words p.words) = ap length p.adds.bytes ∙ length-append (bytes_of old) (bytes_of_words p.words) in
+pub bytes_after : (inst : Inst) (old new : Buffer) → inst_rule inst ≡ None → AppendsInst inst old new → length (bytes_of new) ≤ length (bytes_of old) + 44
+bytes_after inst old new rule p =
+    let a = short inst rule in
+    let size : size_in (extent_of inst) ≡ length p.block = ap size_in p.long in
+    let b : length (bytes_of new) ≡ length (bytes_of old) + length p.block = ap length p.adds.bytes ∙ length-append (bytes_of old) p.block in
     omega arith
 
 -- ---- what is pending
@@ -143,9 +151,9 @@ no_uses start (CondBr (Label t) (Label f) kind) e = absurd (cc)
 no_uses start _ e = refl
 
 -- a sequence is within its bounds
-pub block_bounds : (inst : Inst) (old new : Buffer) → AppendsInst inst old new → IsBounded inst old new
-block_bounds inst old new p asks = record {
-  long = let a = bytes_after inst old new p in omega arith;
+pub block_bounds : (inst : Inst) (old new : Buffer) → inst_rule inst ≡ None → AppendsInst inst old new → IsBounded inst old new
+block_bounds inst old new rule p asks = record {
+  long = let a = bytes_after inst old new rule p in omega arith;
   waiting = pending_after inst old new p;
   without = λ e. let a = pending_uses inst old new p in let b = no_uses (length (bytes_of old)) inst e in omega arith;
 }
@@ -163,10 +171,10 @@ slack_uses test cur slack uses (u ∷ own) far h =
     subst (λ us. HasSlack cur slack (deadlines test label_kinds us)) (append_assoc uses (u ∷ []) own)
     (slack_uses test cur slack (uses ++ u ∷ []) own (λ k v e. let f = far (suc k) v e in omega arith) first)
 
--- where no island is needed before 88 bytes, Reach holds
-pub reach_calm : (b : Buffer) → is_needed (length (bytes_of b)) 88 (pending b) ≡ false → CanReach (length (bytes_of b)) (pending b)
+-- where no island is needed before a line, Reach holds
+pub reach_calm : (b : Buffer) → is_needed (length (bytes_of b)) line_space (pending b) ≡ false → CanReach (length (bytes_of b)) (pending b)
 reach_calm b calm =
-    reach_from_slack (length (bytes_of b)) (pending b) (slack_less (length (bytes_of b) + 88) 30 (length (bytes_of b)) 14 (pending b) (omega arith) (slack_not_needed (length (bytes_of b)) 88 (pending b) calm))
+    reach_from_slack (length (bytes_of b)) (pending b) (slack_less (length (bytes_of b) + line_space) 30 (length (bytes_of b)) 14 (pending b) (omega arith) (slack_not_needed (length (bytes_of b)) line_space (pending b) calm))
 
 -- and it holds after an instruction
 pub reach_after : (inst : Inst) (old new : Buffer) → CanEmit inst old → AppendsInst inst old new → CanReach (length (bytes_of new)) (pending new)
@@ -174,10 +182,10 @@ reach_after inst old new can p =
     let start = length (bytes_of old) in
     let own = uses_in start inst in
     let cur = length (bytes_of new) in
-    let near : cur ≤ start + 8 = bytes_after inst old new p in
+    let near : cur ≤ start + 44 = bytes_after inst old new can.rule p in
     let few : length own ≤ 2 = few_uses start inst in
     let spare : HasSlack cur (14 + 8 * length own) (pending old) =
-    slack_less (start + 88) 30 cur (14 + 8 * length own) (pending old) (omega arith) (slack_not_needed start 88 (pending old) can.calm) in
+    slack_less (start + line_space) 30 cur (14 + 8 * length own) (pending old) (omega arith) (slack_not_needed start line_space (pending old) can.calm) in
     let far : Each (λ u. cur + 14 + 8 * length own ≤ deadline label_kinds u) own = λ k u e. let f = uses_far start inst k u e in omega arith in
     reach_from_slack cur (pending new) (subst (HasSlack cur 14) (sym (pending_adds p.adds)) (slack_uses (waits (place_of old)) cur 14 (uses_of old) own far spare))
 

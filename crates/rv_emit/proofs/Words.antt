@@ -1,17 +1,14 @@
 -- The words that an instruction puts, with no distance in them yet.
-use Rattle.std.proofs.Common.{◌≡◌, ℕ, ◌+◌, ◌*◌, ◌/◌, ◌%◌, ◌^◌, ◌<◌, List, [], ◌∷◌, ◌++◌, length, pos, Some, refl, ap, ◌∙◌, subst, arith, bit_and, append_assoc, lit<}
+use Rattle.std.proofs.Common.{◌≡◌, ℕ, ◌+◌, ◌*◌, ◌/◌, ◌%◌, ◌^◌, ◌<◌, [], ◌∷◌, pos, Some, refl, ap, ◌∙◌, arith, bit_and, lit<}
 use Rattle.std.specs.Int.{to_le_bytes, w32}
-use Rattle.std.proofs.lemmas.List.{length-append}
 use Rattle.std.proofs.lemmas.Int.{ints}
 use Rattle.std.proofs.lemmas.Nat.{and_mask, and_comm}
 use Rattle.std.proofs.lemmas.Nat.Bits.{and_high}
 use Rattle.rv_base.specs.declared.flags.IsaFlags.{IsaFlags}
-use Rattle.rv_base.specs.declared.label.MachLabel.{MachLabel}
 use Rattle.rv_base.specs.declared.regs.Reg.{Reg}
 use Rattle.rv_base.specs.declared.regs.Reg.TheVariants.{Real, Virtual}
 use Rattle.rv_base.specs.LabelUse.{IsFresh}
 use Rattle.rv_base.specs.Regs.{number_of}
-use Rattle.rv_machine.specs.declared.decoding.Decoded.{Decoded}
 use Rattle.rv_machine.specs.Decode.{decode}
 use Rattle.rv_machine.specs.Layout.{word_opcode}
 use Rattle.rv_ops.specs.declared.compare.IntegerCompare.{IntegerCompare}
@@ -22,37 +19,19 @@ use Rattle.rv_machine.specs.Opcodes.{BRANCH}
 use Rattle.rv_encode.specs.Layouts.{IsBType}
 use Rattle.rv_encode.specs.Operations.{decoded_branch}
 use Rattle.rv_encode.proofs.Decoding.{branch_decodes}
-use Rattle.rv_inst.specs.declared.label_use.LabelUse.{LabelUse}
-use Rattle.rv_inst.specs.declared.label_use.LabelUse.TheVariants.{Jal20, B12}
+use Rattle.rv_inst.specs.declared.label_use.LabelUse.TheVariants.{B12}
 use Rattle.rv_inst.specs.LabelUse.{marks_of}
 use Rattle.rv_inst.specs.LabelUseWords.{word_bytes}
-use Rattle.mach_buffer.specs.declared.uses.Use.{Use}
-use Rattle.mach_buffer.specs.Buffer.{bytes_of, uses_of}
 use Rattle.rv_emit.specs.Operations.{decoded_jump}
-use Rattle.rv_emit.specs.Emitted.{Buffer, AppendsCode, AppendsWords}
-use Rattle.rv_inst.specs.Uses.{use_at}
 
 -- a word's bytes, the least first
 pub bytes_of_word : (w : ℕ) → w < 2 ^ 32 → to_le_bytes w32 w ≡ word_bytes w
 bytes_of_word w h = let e : w / 16777216 % 256 ≡ w / 16777216 = omega arith in ap (λ (b : ℕ). w % 256 ∷ w / 256 % 256 ∷ w / 65536 % 256 ∷ b ∷ []) e
 
--- ---- one word
-
-pub puts_word : (old new : Buffer) (w : ℕ) (d : Decoded) → w < 2 ^ 32 → ((flags : IsaFlags) → decode flags w ≡ Some d) → AppendsCode (word_bytes w) [] old new → AppendsWords (d ∷ []) [] old new
-puts_word old new w d fits decodes a = record { words = w ∷ []; adds = a; decode = (fits, decodes, tt); used = tt }
-
 -- the jump with no distance
 pub jump_decodes : (flags : IsaFlags) → decode flags 0x6f ≡ Some (decoded_jump (pos 0))
 unfolding decode
 jump_decodes flags = refl
-
-pub puts_jump : (old new : Buffer) (label : MachLabel) → AppendsCode (word_bytes 0x6f) (use_at (length (bytes_of old)) label Jal20 ∷ []) old new → AppendsWords (decoded_jump (pos 0) ∷ []) (use_at (length (bytes_of old)) label Jal20 ∷ []) old new
-puts_jump old new label a = record {
-  words = 0x6f ∷ [];
-  adds = a;
-  decode = (lit< tt, jump_decodes, tt);
-  used = (refl, (refl, (refl, (refl, (refl, tt)))), refl, refl, tt);
-}
 
 -- ---- branches
 
@@ -113,41 +92,3 @@ is_branch kind w f r1 r2 hf h1 h2 e ef e1 e2 = record {
 pub branch_word_is : (kind : IntegerCompare) (w : ℕ) → w ≡ branch_word kind → IsBranch w kind
 branch_word_is kind w e =
     is_branch kind w (funct3_of (branch_of kind.kind)) (number_of (rs1_of kind)) (number_of (rs2_of kind)) (funct3_small (branch_of kind.kind)) (number_small (rs1_of kind)) (number_small (rs2_of kind)) e refl refl refl
-
-pub puts_compare : (old new : Buffer) (kind : IntegerCompare) (w : ℕ) (label : MachLabel) → IsBranch w kind → AppendsCode (word_bytes w) (use_at (length (bytes_of old)) label B12 ∷ []) old new → AppendsWords (decoded_branch kind (pos 0) ∷ []) (use_at (length (bytes_of old)) label B12 ∷ []) old new
-puts_compare old new kind w label b a = record {
-  words = w ∷ [];
-  adds = a;
-  decode = (b.fits, b.decodes, tt);
-  used = (refl, b.fresh, b.opcode, refl, tt);
-}
-
--- ---- two words
-
--- one addition after another
-pub adds_more : (b1 b2 : List ℕ) (u1 u2 : List (Use LabelUse)) (old mid new : Buffer) → AppendsCode b1 u1 old mid → AppendsCode b2 u2 mid new → AppendsCode (b1 ++ b2) (u1 ++ u2) old new
-adds_more b1 b2 u1 u2 old mid new a b = record {
-  bytes = b.bytes ∙ ap (λ bs. bs ++ b2) a.bytes ∙ append_assoc (bytes_of old) b1 b2;
-  uses = b.uses ∙ ap (λ us. us ++ u2) a.uses ∙ append_assoc (uses_of old) u1 u2;
-  places = b.places ∙ a.places;
-  labels = b.labels ∙ a.labels;
-  allocated = b.allocated ∙ a.allocated;
-  sound = b.sound;
-}
-
--- four bytes longer
-pub four_longer : (old new : Buffer) (w : ℕ) (own : List (Use LabelUse)) → AppendsCode (word_bytes w) own old new → length (bytes_of new) ≡ length (bytes_of old) + 4
-four_longer old new w own a = ap (length {A = ℕ}) a.bytes ∙ length-append (bytes_of old) (word_bytes w)
-
--- a branch, and a jump after it
-pub puts_both : (old mid new : Buffer) (kind : IntegerCompare) (w : ℕ) (t f : MachLabel) → IsBranch w kind → AppendsCode (word_bytes w) (use_at (length (bytes_of old)) t B12 ∷ []) old mid → AppendsCode (word_bytes 0x6f) (use_at (length (bytes_of mid)) f Jal20 ∷ []) mid new →
-    AppendsWords (decoded_branch kind (pos 0) ∷ decoded_jump (pos 0) ∷ []) (use_at (length (bytes_of old)) t B12 ∷ use_at (length (bytes_of old) + 4) f Jal20 ∷ []) old new
-puts_both old mid new kind w t f b a c =
-    let there = four_longer old mid w (use_at (length (bytes_of old)) t B12 ∷ []) a in
-    let moved : AppendsCode (word_bytes 0x6f) (use_at (length (bytes_of old) + 4) f Jal20 ∷ []) mid new = subst (λ (n : ℕ). AppendsCode (word_bytes 0x6f) (use_at n f Jal20 ∷ []) mid new) there c in
-    record {
-      words = w ∷ 0x6f ∷ [];
-      adds = adds_more (word_bytes w) (word_bytes 0x6f) (use_at (length (bytes_of old)) t B12 ∷ []) (use_at (length (bytes_of old) + 4) f Jal20 ∷ []) old mid new a moved;
-      decode = (b.fits, b.decodes, (lit< tt, jump_decodes, tt));
-      used = (refl, b.fresh, b.opcode, refl, (refl, (refl, (refl, (refl, (refl, tt)))), refl, refl, tt));
-    }

@@ -1,6 +1,14 @@
-pub mod Sequences
 pub mod Emitted
 pub mod Operations
-pub mod Runs
 pub mod State
 pub mod Usable
+pub mod Popcnt
+pub mod Slots
+pub mod Sites
+pub mod Puts
+pub mod Emission
+pub mod InstParts
+pub mod InstRuns
+pub mod Standing
+pub mod Chains
+pub mod LargerMachine

@@ -1,7 +1,7 @@
 -- What emission knows of the vector unit's setting after an instruction.
 use Rattle.std.specs.Prelude.{Bool, true, false}
 use Rattle.rv_inst.specs.declared.inst.Inst.{Inst}
-use Rattle.rv_inst.specs.declared.inst.Inst.TheVariants.{Nop0, Nop4, EBreak, SequencePoint, Args, Rets, DummyUse, EmitIsland, Lui, Auipc, AluRRR, AluRRImm12, Mov, MovFromPReg, Ret, Jal, CondBr, Jalr}
+use Rattle.rv_inst.specs.declared.inst.Inst.TheVariants.{Nop0, Nop4, EBreak, SequencePoint, Args, Rets, DummyUse, EmitIsland, RawData, Lui, Auipc, LoadInlineConst, AluRRR, AluRRImm12, Mov, MovFromPReg, Ret, TrapIf, Jal, CondBr, Udf, Jalr, Popcnt}
 use Rattle.rv_emit.specs.declared.state.EmitVState.{EmitVState}
 use Rattle.rv_emit.specs.declared.state.EmitVState.TheVariants.{Unknown}
 
@@ -15,16 +15,21 @@ setting_after (Args args) setting = setting
 setting_after (Rets rets) setting = setting
 setting_after (DummyUse reg) setting = setting
 setting_after (EmitIsland needed_space) setting = setting
+setting_after (RawData bytes) setting = setting
 setting_after (Lui rd imm) setting = setting
 setting_after (Auipc rd imm) setting = setting
+setting_after (LoadInlineConst rd type imm) setting = setting
 setting_after (AluRRR op rd rs1 rs2) setting = setting
 setting_after (AluRRImm12 op rd rs imm) setting = setting
 setting_after (Mov rd rm type) setting = setting
 setting_after (MovFromPReg rd rm) setting = setting
 setting_after Ret setting = setting
+setting_after (TrapIf cmp code) setting = setting
 setting_after (Jal label) setting = setting
 setting_after (CondBr taken not_taken kind) setting = setting
+setting_after (Udf code) setting = setting
 setting_after (Jalr rd base offset) setting = setting
+setting_after (Popcnt sum tmp step rs type) setting = setting
 
 -- the setting known where an island may have been put: nothing is known where a new basic block begins
 abbrev pub setting_beyond : Bool → EmitVState → EmitVState

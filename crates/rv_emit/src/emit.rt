@@ -3,9 +3,9 @@
 ghost use Rattle.std.specs.Prelude.{◌≡◌, length, OnOk, OnErr, true};
 ghost use Rattle.mach_buffer.specs.Reach.{CanReach};
 ghost use Rattle.mach_buffer.specs.Buffer.{bytes_of, spoiled_of};
-ghost use Rattle.rv_emit.specs.Emitted.{pending, CanEmit, Emitted, IsBounded};
+ghost use Rattle.rv_emit.specs.Emitted.{pending, CanEmit, IsBounded};
+ghost use Rattle.rv_emit.specs.Emission.{Emits};
 ghost use Rattle.rv_inst.specs.Sizes.{island_space as space_of};
-ghost use Rattle.rv_emit.specs.Sequences.{AppendedRuns};
 
 use crate::island::emit_island_if_needed;
 use crate::sequence::put_sequence;
@@ -17,21 +17,20 @@ use std::alloc::Global;
 
 /// What can be emitted into a buffer.
 pub trait MachInstEmit {
-    ghost use Rattle.std.specs.Prelude.{◌≡◌, length, OnOk, OnErr, IfErr, true};
+    ghost use Rattle.std.specs.Prelude.{◌≡◌, List, length, OnOk, OnErr, IfErr, true};
     ghost use Rattle.rv_inst.specs.declared.error.EmitError.TheVariants as error;
     ghost use Rattle.mach_buffer.specs.Reach.{CanReach};
     ghost use Rattle.mach_buffer.specs.Buffer.{bytes_of, spoiled_of};
+    ghost use Rattle.rv_base.specs.declared.constant.Constant.{Constant};
+    ghost use Rattle.rv_inst.specs.Context.{Context};
     ghost use Rattle.rv_emit.specs.Emitted.{Buffer, pending};
     ghost use Rattle.rv_emit.specs.declared.state.EmitVState.{EmitVState as Setting};
 
     /// What emission asks of the buffer.
     ghost asks: { Self → Buffer → Type 0 };
 
-    /// What it puts there.
-    ghost puts: { Self → Buffer → Buffer → Type 0 };
-
-    /// That what it put runs as it means.
-    ghost runs: { Self → Buffer → Buffer → Type 0 };
+    /// What it puts there, in a context, by the vector unit's setting known before it.
+    ghost puts: { Context → Setting → Self → Buffer → Buffer → Type 0 };
 
     /// How much it puts there at most.
     ghost bounds: { Self → Buffer → Buffer → Type 0 };
@@ -48,8 +47,7 @@ pub trait MachInstEmit {
         state: &mut EmitState,
     ) -> Result<(), EmitError>
         requires { asks self.now sink.old }
-        ensures emitted { OnOk result (puts self.now sink.old sink.new) }
-        ensures runs { OnOk result (runs self.now sink.old sink.new) }
+        ensures emitted { OnOk result ((constants : List Constant) → puts (record { flags = info.now.isa_flags; frame = state.old.frame; constants = constants }) state.old.vstate self.now sink.old sink.new) }
         ensures bounds { OnOk result (bounds self.now sink.old sink.new) }
         ensures reach { OnOk result (CanReach (length (bytes_of sink.new)) (pending sink.new)) }
         ensures frame { state.new.frame ≡ state.old.frame }
@@ -59,15 +57,13 @@ pub trait MachInstEmit {
 }
 
 impl MachInstEmit for Inst {
-    ghost use Rattle.rv_emit.specs.Emitted.{CanEmit, Emitted, IsBounded};
-    ghost use Rattle.rv_emit.specs.Sequences.{AppendedRuns};
+    ghost use Rattle.rv_emit.specs.Emitted.{CanEmit, IsBounded};
+    ghost use Rattle.rv_emit.specs.Emission.{EmitsIn};
     ghost use Rattle.rv_emit.specs.State.{setting_after as after};
 
     ghost asks = { CanEmit };
 
-    ghost puts = { Emitted };
-
-    ghost runs = { AppendedRuns };
+    ghost puts = { EmitsIn };
 
     ghost bounds = { IsBounded };
 
@@ -90,8 +86,7 @@ impl MachInstEmit for Inst {
 /// Puts the sequence of an instruction, or an island where the instruction asks for one.
 fn put(sink: &mut MachBuffer<LabelUse>, inst: &Inst) -> Result<(), OutOfMemory>
     requires { CanEmit inst.now sink.old }
-    ensures emitted { OnOk result (Emitted inst.now sink.old sink.new) }
-    ensures runs { OnOk result (AppendedRuns inst.now sink.old sink.new) }
+    ensures emitted { OnOk result (Emits inst.now sink.old sink.new) }
     ensures bounds { OnOk result (IsBounded inst.now sink.old sink.new) }
     ensures reach { OnOk result (CanReach (length (bytes_of sink.new)) (pending sink.new)) }
     ensures spoiled { OnErr result (spoiled_of sink.new ≡ true) }

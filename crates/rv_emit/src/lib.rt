@@ -2,7 +2,9 @@
 #![tactic(auto)]
 
 mod emit;
+mod expansions;
 mod island;
+mod popcnt;
 mod sequence;
 mod state;
 

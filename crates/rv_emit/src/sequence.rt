@@ -1,25 +1,32 @@
 //! The words of an instruction, and its uses of labels.
 
-ghost use Rattle.std.specs.Prelude.{◌≡◌, [], ◌∷◌, ◌+◌, ◌<◌, ◌^◌, length, OnOk, OnErr, None, Some, true, pos};
+ghost use Rattle.std.specs.Prelude.{◌≡◌, [], ◌∷◌, ◌+◌, ◌<◌, length, OnOk, OnErr, None, Some, true};
 ghost use Rattle.rv_base.specs.declared.flags.IsaFlags.{IsaFlags};
 ghost use Rattle.rv_base.specs.Regs.{number_of};
+ghost use Rattle.rv_base.specs.LabelUse.{code_limit};
+ghost use Rattle.mach_labels.specs.Table.{first_inner};
 ghost use Rattle.rv_machine.specs.declared.decoding.Decoded.{Decoded};
 ghost use Rattle.rv_machine.specs.Decode.{decode};
 ghost use Rattle.rv_ops.specs.Compare.{branch_word};
 ghost use Rattle.rv_encode.specs.Registers.{IsIntRegister};
-ghost use Rattle.rv_encode.specs.Operations.{decoded_branch};
 ghost use Rattle.rv_inst.specs.declared.label_use.LabelUse.TheVariants.{Jal20, B12};
 ghost use Rattle.rv_inst.specs.LabelUseWords.{word_bytes};
 ghost use Rattle.rv_inst.specs.Rules.{inst_rule};
 ghost use Rattle.mach_buffer.specs.Buffer.{bytes_of, allocated_of, spoiled_of};
-ghost use Rattle.mach_buffer.specs.Shape.{IsKnown};
+ghost use Rattle.mach_buffer.specs.Buffer.{shape_of};
+ghost use Rattle.mach_buffer.specs.Shape.{IsKnown, with_bytes, with_use};
 ghost use Rattle.rv_emit.specs.Usable.{IsFine, IsFineBranch};
-ghost use Rattle.rv_emit.specs.Emitted.{IsSoundBuffer, AppendsCode, AppendsWords, AppendsInst};
-ghost use Rattle.rv_inst.specs.Uses.{use_at, branch_uses};
+ghost use Rattle.rv_emit.specs.Emitted.{IsSoundBuffer};
+ghost use Rattle.rv_emit.specs.Emission.{PutsAll, PutsAlone, Emits};
+ghost use Rattle.rv_emit.specs.Slots.{Label, Op};
+ghost use Rattle.rv_emit.specs.InstParts.{jump_to, branch_to, move_slots, branch_slots};
+ghost use Rattle.rv_inst.specs.Sizes.{island_space};
+ghost use Rattle.rv_inst.specs.Uses.{use_at};
 ghost use Rattle.rv_inst.specs.Families.{family_of};
-ghost use Rattle.rv_inst.specs.declared.inst.Family.TheVariants.{Pseudo, Integer, Control};
-ghost use Rattle.rv_emit.specs.Operations.{move_ops, branch_ops, decoded_jump, no_distance};
+ghost use Rattle.rv_inst.specs.declared.inst.Family.TheVariants.{Pseudo, Integer, Control, Loop};
 
+use crate::expansions::{put_bytes, put_constant, put_trap, put_trap_if};
+use crate::popcnt::put_popcnt;
 use mach_buffer::MachBuffer;
 use rv_base::{MachLabel, OutOfMemory, Reg, WritableReg, link_reg, writable_zero_reg, zero_reg};
 use rv_encode::{
@@ -33,22 +40,24 @@ use rv_ops::{AluOPRRI, IntegerCompare};
 /// Puts the sequence of an instruction that breaks no rule.
 pub(crate) fn put_sequence(sink: &mut MachBuffer<LabelUse>, inst: &Inst) -> Result<(), OutOfMemory>
     requires rule { inst_rule inst.now ≡ None }
-    requires room { length (bytes_of sink.old) + 8 < 2147479552 }
+    requires room { length (bytes_of sink.old) + 44 < code_limit }
     requires sound { IsSoundBuffer sink.old }
-    ensures block { OnOk result (AppendsInst inst.now sink.old sink.new) }
+    ensures parts { island_space inst.now ≡ None → OnOk result (Emits inst.now sink.old sink.new) }
     ensures refused { OnErr result (spoiled_of sink.new ≡ true) }
 {
     match inst.family() {
         Family::Pseudo => put_pseudo(sink, inst),
         Family::Integer => put_integer(sink, inst),
         Family::Control => put_control(sink, inst),
+        Family::Loop => put_loop(sink, inst),
     }
 }
 
 fn put_pseudo(sink: &mut MachBuffer<LabelUse>, inst: &Inst) -> Result<(), OutOfMemory>
-    requires room { length (bytes_of sink.old) + 8 < 2147479552 }
+    requires fine { IsFine inst.now }
+    requires room { length (bytes_of sink.old) + 44 < code_limit }
     requires sound { IsSoundBuffer sink.old }
-    ensures block { family_of inst.now ≡ Pseudo → OnOk result (AppendsInst inst.now sink.old sink.new) }
+    ensures parts { family_of inst.now ≡ Pseudo → island_space inst.now ≡ None → OnOk result (Emits inst.now sink.old sink.new) }
     ensures refused { OnErr result (spoiled_of sink.new ≡ true) }
 {
     match inst {
@@ -57,20 +66,22 @@ fn put_pseudo(sink: &mut MachBuffer<LabelUse>, inst: &Inst) -> Result<(), OutOfM
             encode_alu_rr_imm12(AluOPRRI::Addi, writable_zero_reg(), zero_reg(), Imm12::ZERO),
         ),
         Inst::EBreak => put_word(sink, encode_ebreak()),
+        Inst::RawData { bytes } => put_bytes(sink, bytes.as_slice()),
         _ => Ok(()),
     }
 }
 
 fn put_integer(sink: &mut MachBuffer<LabelUse>, inst: &Inst) -> Result<(), OutOfMemory>
     requires fine { IsFine inst.now }
-    requires room { length (bytes_of sink.old) + 8 < 2147479552 }
+    requires room { length (bytes_of sink.old) + 44 < code_limit }
     requires sound { IsSoundBuffer sink.old }
-    ensures block { family_of inst.now ≡ Integer → OnOk result (AppendsInst inst.now sink.old sink.new) }
+    ensures parts { family_of inst.now ≡ Integer → OnOk result (Emits inst.now sink.old sink.new) }
     ensures refused { OnErr result (spoiled_of sink.new ≡ true) }
 {
     match inst {
         Inst::Lui { rd, imm } => put_word(sink, encode_lui(*rd, *imm)),
         Inst::Auipc { rd, imm } => put_word(sink, enc_auipc(*rd, *imm)),
+        Inst::LoadInlineConst { rd, ty, imm } => put_constant(sink, *rd, *ty, *imm),
         Inst::AluRRR {
             alu_op,
             rd,
@@ -93,9 +104,9 @@ fn put_integer(sink: &mut MachBuffer<LabelUse>, inst: &Inst) -> Result<(), OutOf
 fn put_move(sink: &mut MachBuffer<LabelUse>, rd: WritableReg, rm: Reg) -> Result<(), OutOfMemory>
     requires rd { IsIntRegister rd.reg }
     requires rm { IsIntRegister rm }
-    requires room { length (bytes_of sink.old) + 8 < 2147479552 }
+    requires room { length (bytes_of sink.old) + 8 < code_limit }
     requires sound { IsSoundBuffer sink.old }
-    ensures block { OnOk result (AppendsWords (move_ops (number_of rd.reg) (number_of rm)) [] sink.old sink.new) }
+    ensures slots { OnOk result (PutsAlone (move_slots (number_of rd.reg) (number_of rm)) sink.old sink.new) }
     ensures refused { OnErr result (spoiled_of sink.new ≡ true) }
 {
     if number(rd.reg) == number(rm) {
@@ -119,20 +130,41 @@ fn number(reg: Reg) -> u8
 
 fn put_control(sink: &mut MachBuffer<LabelUse>, inst: &Inst) -> Result<(), OutOfMemory>
     requires fine { IsFine inst.now }
-    requires room { length (bytes_of sink.old) + 8 < 2147479552 }
+    requires room { length (bytes_of sink.old) + 44 < code_limit }
     requires sound { IsSoundBuffer sink.old }
-    ensures block { family_of inst.now ≡ Control → OnOk result (AppendsInst inst.now sink.old sink.new) }
+    ensures parts { family_of inst.now ≡ Control → OnOk result (Emits inst.now sink.old sink.new) }
     ensures refused { OnErr result (spoiled_of sink.new ≡ true) }
 {
     match inst {
         Inst::Ret => put_word(sink, enc_jalr(writable_zero_reg(), link_reg(), Imm12::ZERO)),
+        Inst::TrapIf { cmp, trap_code } => put_trap_if(sink, *cmp, *trap_code),
         Inst::Jal { label } => put_jump(sink, *label),
         Inst::CondBr {
             taken,
             not_taken,
             kind,
         } => put_branch(sink, *kind, *taken, *not_taken),
+        Inst::Udf { trap_code } => put_trap(sink, *trap_code),
         Inst::Jalr { rd, base, offset } => put_word(sink, enc_jalr(*rd, *base, *offset)),
+        _ => Ok(()),
+    }
+}
+
+fn put_loop(sink: &mut MachBuffer<LabelUse>, inst: &Inst) -> Result<(), OutOfMemory>
+    requires fine { IsFine inst.now }
+    requires room { length (bytes_of sink.old) + 44 < code_limit }
+    requires sound { IsSoundBuffer sink.old }
+    ensures parts { family_of inst.now ≡ Loop → OnOk result (Emits inst.now sink.old sink.new) }
+    ensures refused { OnErr result (spoiled_of sink.new ≡ true) }
+{
+    match inst {
+        Inst::Popcnt {
+            sum,
+            tmp,
+            step,
+            rs,
+            ty,
+        } => put_popcnt(sink, *sum, *tmp, *step, *rs, *ty),
         _ => Ok(()),
     }
 }
@@ -145,9 +177,9 @@ fn put_branch(
     not_taken: CondBrTarget,
 ) -> Result<(), OutOfMemory>
     requires fine { IsFineBranch kind taken not_taken }
-    requires room { length (bytes_of sink.old) + 8 < 2147479552 }
+    requires room { length (bytes_of sink.old) + 8 < code_limit }
     requires sound { IsSoundBuffer sink.old }
-    ensures block { OnOk result (AppendsWords (branch_ops no_distance kind taken not_taken) (branch_uses (length (bytes_of sink.old)) taken not_taken) sink.old sink.new) }
+    ensures slots { OnOk result (PutsAlone (branch_slots kind taken not_taken) sink.old sink.new) }
     ensures refused { OnErr result (spoiled_of sink.new ≡ true) }
 {
     match (taken, not_taken) {
@@ -168,11 +200,11 @@ fn put_compare_and_jump(
 ) -> Result<(), OutOfMemory>
     requires rs1 { IsIntRegister kind.rs1 }
     requires rs2 { IsIntRegister kind.rs2 }
-    requires taken { taken.number < 2 ^ 30 }
-    requires not_taken { not_taken.number < 2 ^ 30 }
-    requires room { length (bytes_of sink.old) + 8 < 2147479552 }
+    requires taken { taken.number < first_inner }
+    requires not_taken { not_taken.number < first_inner }
+    requires room { length (bytes_of sink.old) + 8 < code_limit }
     requires sound { IsSoundBuffer sink.old }
-    ensures block { OnOk result (AppendsWords (decoded_branch kind (pos 0) ∷ decoded_jump (pos 0) ∷ []) (use_at (length (bytes_of sink.old)) taken B12 ∷ use_at (length (bytes_of sink.old) + 4) not_taken Jal20 ∷ []) sink.old sink.new) }
+    ensures slots { OnOk result (PutsAll (branch_to kind (Label taken) ∷ jump_to (Label not_taken) ∷ []) sink.old sink.new) }
     ensures refused { OnErr result (spoiled_of sink.new ≡ true) }
 {
     put_compare(sink, kind, taken)?;
@@ -188,11 +220,12 @@ fn put_compare(
 ) -> Result<(), OutOfMemory>
     requires rs1 { IsIntRegister kind.rs1 }
     requires rs2 { IsIntRegister kind.rs2 }
-    requires label { label.number < 2 ^ 30 }
-    requires room { length (bytes_of sink.old) + 4 < 2147479552 }
+    requires label { label.number < first_inner }
+    requires room { length (bytes_of sink.old) + 4 < code_limit }
     requires sound { IsSoundBuffer sink.old }
-    ensures block { OnOk result (AppendsWords (decoded_branch kind (pos 0) ∷ []) (use_at (length (bytes_of sink.old)) label B12 ∷ []) sink.old sink.new) }
-    ensures word { OnOk result (AppendsCode (word_bytes (branch_word kind)) (use_at (length (bytes_of sink.old)) label B12 ∷ []) sink.old sink.new) }
+    ensures slot { OnOk result (PutsAll (branch_to kind (Label label) ∷ []) sink.old sink.new) }
+    ensures word { OnOk result (shape_of sink.new ≡ with_bytes (word_bytes (branch_word kind)) (with_use (use_at (length (bytes_of sink.old)) label B12) (shape_of sink.old))) }
+    ensures sound { OnOk result (IsSoundBuffer sink.new) }
     ensures refused { OnErr result (spoiled_of sink.new ≡ true) }
 {
     put_use(sink, compare_word(kind), label, LabelUse::B12)?;
@@ -218,10 +251,11 @@ fn jump_word() -> u32
 /// A jump to a label.
 pub(crate) fn put_jump(sink: &mut MachBuffer<LabelUse>, label: MachLabel) -> Result<(), OutOfMemory>
     requires known { IsKnown label.number (allocated_of sink.old) }
-    requires room { length (bytes_of sink.old) + 4 < 2147479552 }
+    requires room { length (bytes_of sink.old) + 4 < code_limit }
     requires sound { IsSoundBuffer sink.old }
-    ensures block { OnOk result (AppendsWords (decoded_jump (pos 0) ∷ []) (use_at (length (bytes_of sink.old)) label Jal20 ∷ []) sink.old sink.new) }
-    ensures word { OnOk result (AppendsCode (word_bytes 0x6f) (use_at (length (bytes_of sink.old)) label Jal20 ∷ []) sink.old sink.new) }
+    ensures slot { OnOk result (PutsAll (jump_to (Label label) ∷ []) sink.old sink.new) }
+    ensures word { OnOk result (shape_of sink.new ≡ with_bytes (word_bytes 0x6f) (with_use (use_at (length (bytes_of sink.old)) label Jal20) (shape_of sink.old))) }
+    ensures sound { OnOk result (IsSoundBuffer sink.new) }
     ensures refused { OnErr result (spoiled_of sink.new ≡ true) }
 {
     put_use(sink, jump_word(), label, LabelUse::Jal20)?;
@@ -236,9 +270,10 @@ fn put_use(
     kind: LabelUse,
 ) -> Result<(), OutOfMemory>
     requires known { IsKnown label.number (allocated_of sink.old) }
-    requires room { length (bytes_of sink.old) + 4 < 2147479552 }
+    requires room { length (bytes_of sink.old) + 4 < code_limit }
     requires sound { IsSoundBuffer sink.old }
-    ensures added { OnOk result (AppendsCode (word_bytes word) (use_at (length (bytes_of sink.old)) label kind ∷ []) sink.old sink.new) }
+    ensures added { OnOk result (shape_of sink.new ≡ with_bytes (word_bytes word) (with_use (use_at (length (bytes_of sink.old)) label kind) (shape_of sink.old))) }
+    ensures sound { OnOk result (IsSoundBuffer sink.new) }
     ensures refused { OnErr result (spoiled_of sink.new ≡ true) }
 {
     let here = sink.cur_offset();
@@ -247,10 +282,10 @@ fn put_use(
 }
 
 /// Puts a word that names no label.
-fn put_word(sink: &mut MachBuffer<LabelUse>, word: u32) -> Result<(), OutOfMemory>
-    requires room { length (bytes_of sink.old) + 4 < 2147479552 }
+pub(crate) fn put_word(sink: &mut MachBuffer<LabelUse>, word: u32) -> Result<(), OutOfMemory>
+    requires room { length (bytes_of sink.old) + 4 < code_limit }
     requires sound { IsSoundBuffer sink.old }
-    ensures block { OnOk result ((d : Decoded) → ((flags : IsaFlags) → decode flags word ≡ Some d) → AppendsWords (d ∷ []) [] sink.old sink.new) }
+    ensures slot { OnOk result ((d : Decoded) → d.len ≡ 4 → ((flags : IsaFlags) → decode flags word ≡ Some d) → PutsAlone (Op d ∷ []) sink.old sink.new) }
     ensures refused { OnErr result (spoiled_of sink.new ≡ true) }
 {
     sink.put4(word)?;

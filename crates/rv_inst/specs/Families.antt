@@ -1,8 +1,8 @@
 -- The families of instructions.
 use Rattle.rv_inst.specs.declared.inst.Inst.{Inst}
-use Rattle.rv_inst.specs.declared.inst.Inst.TheVariants.{Nop0, Nop4, EBreak, SequencePoint, Args, Rets, DummyUse, EmitIsland, Lui, Auipc, AluRRR, AluRRImm12, Mov, MovFromPReg, Ret, Jal, CondBr, Jalr}
+use Rattle.rv_inst.specs.declared.inst.Inst.TheVariants.{Nop0, Nop4, EBreak, SequencePoint, Args, Rets, DummyUse, EmitIsland, RawData, Lui, Auipc, LoadInlineConst, AluRRR, AluRRImm12, Mov, MovFromPReg, Ret, TrapIf, Jal, CondBr, Udf, Jalr, Popcnt}
 use Rattle.rv_inst.specs.declared.inst.Family.{Family}
-use Rattle.rv_inst.specs.declared.inst.Family.TheVariants.{Pseudo, Integer, Control}
+use Rattle.rv_inst.specs.declared.inst.Family.TheVariants.{Pseudo, Integer, Control, Loop}
 
 abbrev pub family_of : Inst → Family
 family_of Nop0 = Pseudo
@@ -13,19 +13,18 @@ family_of (Args args) = Pseudo
 family_of (Rets rets) = Pseudo
 family_of (DummyUse reg) = Pseudo
 family_of (EmitIsland needed_space) = Pseudo
+family_of (RawData bytes) = Pseudo
 family_of (Lui rd imm) = Integer
 family_of (Auipc rd imm) = Integer
+family_of (LoadInlineConst rd type imm) = Integer
 family_of (AluRRR op rd rs1 rs2) = Integer
 family_of (AluRRImm12 op rd rs imm) = Integer
 family_of (Mov rd rm type) = Integer
 family_of (MovFromPReg rd rm) = Integer
 family_of Ret = Control
+family_of (TrapIf cmp code) = Control
 family_of (Jal label) = Control
 family_of (CondBr taken not_taken kind) = Control
+family_of (Udf code) = Control
 family_of (Jalr rd base offset) = Control
-
--- one of these, by the family
-abbrev pub by_family : {A : Type 0} → A → A → A → Family → A
-by_family marks plain control Pseudo = marks
-by_family marks plain control Integer = plain
-by_family marks plain control Control = control
+family_of (Popcnt sum tmp step rs type) = Loop

@@ -11,3 +11,5 @@ pub mod Sizes
 pub mod CondBrTargets
 pub mod RegisterTests
 pub mod Uses
+pub mod Context
+pub mod Traps

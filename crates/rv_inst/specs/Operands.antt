@@ -8,7 +8,7 @@ use Rattle.rv_base.specs.declared.regs.Reg.TheVariants.{Real}
 use Rattle.rv_inst.specs.declared.inst.Line.{Line}
 use Rattle.rv_inst.specs.declared.inst.Line.TheVariants.{Inst as Put, Bind}
 use Rattle.rv_inst.specs.declared.inst.Inst.{Inst}
-use Rattle.rv_inst.specs.declared.inst.Inst.TheVariants.{Nop0, Nop4, EBreak, SequencePoint, Args, Rets, DummyUse, EmitIsland, Lui, Auipc, AluRRR, AluRRImm12, Mov, MovFromPReg, Ret, Jal, CondBr, Jalr}
+use Rattle.rv_inst.specs.declared.inst.Inst.TheVariants.{Nop0, Nop4, EBreak, SequencePoint, Args, Rets, DummyUse, EmitIsland, RawData, Lui, Auipc, LoadInlineConst, AluRRR, AluRRImm12, Mov, MovFromPReg, Ret, TrapIf, Jal, CondBr, Udf, Jalr, Popcnt}
 use Rattle.rv_inst.specs.declared.inst.CondBrTarget.{CondBrTarget}
 use Rattle.rv_inst.specs.declared.inst.CondBrTarget.TheVariants.{Label, Fallthrough}
 
@@ -30,16 +30,21 @@ inst_registers (Args args) = arg_registers args
 inst_registers (Rets rets) = ret_registers rets
 inst_registers (DummyUse reg) = reg ∷ []
 inst_registers (EmitIsland needed_space) = []
+inst_registers (RawData bytes) = []
 inst_registers (Lui rd imm) = rd.reg ∷ []
 inst_registers (Auipc rd imm) = rd.reg ∷ []
+inst_registers (LoadInlineConst rd type imm) = rd.reg ∷ []
 inst_registers (AluRRR op rd rs1 rs2) = rd.reg ∷ rs1 ∷ rs2 ∷ []
 inst_registers (AluRRImm12 op rd rs imm) = rd.reg ∷ rs ∷ []
 inst_registers (Mov rd rm type) = rd.reg ∷ rm ∷ []
 inst_registers (MovFromPReg rd rm) = rd.reg ∷ Real rm ∷ []
 inst_registers Ret = []
+inst_registers (TrapIf cmp code) = cmp.rs1 ∷ cmp.rs2 ∷ []
 inst_registers (Jal label) = []
 inst_registers (CondBr taken not_taken kind) = kind.rs1 ∷ kind.rs2 ∷ []
+inst_registers (Udf code) = []
 inst_registers (Jalr rd base offset) = rd.reg ∷ base ∷ []
+inst_registers (Popcnt sum tmp step rs type) = sum.reg ∷ tmp.reg ∷ step.reg ∷ rs ∷ []
 
 abbrev pub target_labels : CondBrTarget → List MachLabel
 target_labels (Label label) = label ∷ []
@@ -60,16 +65,21 @@ targets_of (Args args) = NoTarget
 targets_of (Rets rets) = NoTarget
 targets_of (DummyUse reg) = NoTarget
 targets_of (EmitIsland needed_space) = NoTarget
+targets_of (RawData bytes) = NoTarget
 targets_of (Lui rd imm) = NoTarget
 targets_of (Auipc rd imm) = NoTarget
+targets_of (LoadInlineConst rd type imm) = NoTarget
 targets_of (AluRRR op rd rs1 rs2) = NoTarget
 targets_of (AluRRImm12 op rd rs imm) = NoTarget
 targets_of (Mov rd rm type) = NoTarget
 targets_of (MovFromPReg rd rm) = NoTarget
 targets_of Ret = NoTarget
+targets_of (TrapIf cmp code) = NoTarget
 targets_of (Jal label) = Jumps label
 targets_of (CondBr taken not_taken kind) = Branches taken not_taken
+targets_of (Udf code) = NoTarget
 targets_of (Jalr rd base offset) = NoTarget
+targets_of (Popcnt sum tmp step rs type) = NoTarget
 
 abbrev pub labels_of : Targets → List MachLabel
 labels_of NoTarget = []

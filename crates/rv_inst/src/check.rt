@@ -1,18 +1,34 @@
 //! Which rule a line breaks.
 
 ghost use Rattle.std.specs.Prelude.{◌≡◌, ◌++◌};
-ghost use Rattle.rv_inst.specs.Rules.{is_buffer_label, is_misplaced, has_bad_type, is_out_of_range, lacks_target, is_fallthrough, inst_rule, broken_rule};
-ghost use Rattle.std.specs.List.{list_any};
+ghost use Rattle.rv_inst.specs.Rules.{is_buffer_label, is_misplaced, has_bad_type, is_out_of_range, lacks_target, is_fallthrough, every_rule, breaks, inst_rule, broken_rule};
+ghost use Rattle.std.specs.List.{list_any, find};
 ghost use Rattle.rv_inst.specs.Operands.{inst_labels, target_labels};
 ghost use Rattle.rv_inst.specs.declared.inst.Family.TheVariants.{Control};
 ghost use Rattle.rv_inst.specs.Families.{family_of};
 
+use crate::clashes::{has_clash, has_zero};
 use crate::error::Rule;
 use crate::inst::{CondBrTarget, Family, Inst, Line};
 use crate::places::is_misplaced;
-use crate::ranges::{has_bad_type, is_out_of_range};
+use crate::ranges::{has_bad_size, has_bad_type, is_out_of_range};
 use crate::registers::{RegisterTest, has_register};
+use mach_labels::FIRST_INNER;
 use rv_base::{Constant, FrameLayout, IsaFlags, MachLabel};
+
+/// The rules, in the order in which a line is checked.
+const EVERY_RULE: [Rule; 10] = [
+    Rule::Virtual,
+    Rule::Class,
+    Rule::Reserved,
+    Rule::Zero,
+    Rule::Clash,
+    Rule::BadType,
+    Rule::Range,
+    Rule::NoTarget,
+    Rule::Label,
+    Rule::DataSize,
+];
 
 impl Line {
     /// The first rule that the line breaks.
@@ -39,6 +55,7 @@ impl Line {
 
 impl Inst {
     /// The first rule that the instruction breaks.
+    #[tactic(auto, unfolding(crate::specs::Rules::every_rule))]
     pub fn check(
         &self,
         _flags: IsaFlags,
@@ -47,22 +64,34 @@ impl Inst {
     ) -> Option<Rule>
         ensures { result ≡ inst_rule self.now }
     {
-        if has_register(RegisterTest::Virtual, self) {
-            Some(Rule::Virtual)
-        } else if is_misplaced(self) {
-            Some(Rule::Class)
-        } else if has_register(RegisterTest::Reserved, self) {
-            Some(Rule::Reserved)
-        } else if has_bad_type(self) {
-            Some(Rule::BadType)
-        } else if is_out_of_range(self) {
-            Some(Rule::Range)
-        } else if lacks_target(self) {
-            Some(Rule::NoTarget)
-        } else if has_inner_label(self) {
-            Some(Rule::Label)
-        } else {
-            None
+        self.first_broken(&EVERY_RULE)
+    }
+
+    fn first_broken(&self, rules: &[Rule]) -> Option<Rule>
+        ensures { result ≡ find (breaks self.now) rules.now }
+    {
+        for rule in rules {
+            if self.breaks(*rule) {
+                return Some(*rule);
+            }
+        }
+        None
+    }
+
+    fn breaks(&self, rule: Rule) -> bool
+        ensures { result ≡ breaks self.now rule }
+    {
+        match rule {
+            Rule::Virtual => has_register(RegisterTest::Virtual, self),
+            Rule::Class => is_misplaced(self),
+            Rule::Reserved => has_register(RegisterTest::Reserved, self),
+            Rule::Zero => has_zero(self),
+            Rule::Clash => has_clash(self),
+            Rule::BadType => has_bad_type(self),
+            Rule::Range => is_out_of_range(self),
+            Rule::NoTarget => lacks_target(self),
+            Rule::Label => has_inner_label(self),
+            Rule::DataSize => has_bad_size(self),
         }
     }
 }
@@ -71,7 +100,7 @@ impl Inst {
 fn is_buffer_label(label: MachLabel) -> bool
     ensures { result ≡ is_buffer_label label }
 {
-    label.number >= 1 << 30
+    label.number >= FIRST_INNER
 }
 
 fn is_fallthrough(target: CondBrTarget) -> bool
@@ -129,7 +158,7 @@ fn has_inner_label(inst: &Inst) -> bool
     ensures { result ≡ list_any is_buffer_label (inst_labels inst.now) }
 {
     match inst.family() {
-        Family::Pseudo | Family::Integer => false,
+        Family::Pseudo | Family::Integer | Family::Loop => false,
         Family::Control => control_has_inner_label(inst),
     }
 }

@@ -2,7 +2,7 @@
 
 use thiserror::Error;
 
-/// A rule that each line of a job keeps.
+/// A rule that each line of a job keeps. The rules are in the order in which a line is checked.
 #[derive(Clone, Copy, Debug, PartialEq, Eq)]
 pub enum Rule {
     /// No register is virtual.
@@ -11,6 +11,10 @@ pub enum Rule {
     Class,
     /// No register is x30 or x31.
     Reserved,
+    /// No result that is computed in several steps, nor a temporary of such steps, is x0.
+    Zero,
+    /// A register that is written before all inputs are read is no input, and no two such registers are the same.
+    Clash,
     /// The type is one that the instruction takes.
     BadType,
     /// Numbers are in their range.
@@ -19,6 +23,8 @@ pub enum Rule {
     NoTarget,
     /// A label's number is below 2^30.
     Label,
+    /// Data among code has four or eight bytes.
+    DataSize,
 }
 
 /// Why a job has no code.

@@ -2,7 +2,7 @@
 
 ghost use Rattle.std.specs.Prelude.{◌≡◌};
 
-use rv_base::{ArgPair, IrType, List, MachLabel, PReg, Reg, RetPair, WritableReg};
+use rv_base::{ArgPair, IrType, List, MachLabel, PReg, Reg, RetPair, TrapCode, WritableReg};
 use rv_imms::{Imm12, Imm20};
 use rv_ops::{AluOPRRI, AluOPRRR, IntegerCompare};
 use std::fmt;
@@ -77,6 +77,10 @@ pub enum Inst {
     EmitIsland {
         needed_space: u32,
     },
+    /// Bytes among the code, four or eight, which control never enters.
+    RawData {
+        bytes: List<u8>,
+    },
     /// `rd` is the immediate times 2^12, which is `imm`'s twenty bits, signed (`lui`).
     Lui {
         rd: WritableReg,
@@ -86,6 +90,13 @@ pub enum Inst {
     Auipc {
         rd: WritableReg,
         imm: Imm20,
+    },
+    /// `rd` is the immediate, which stands among the code: of `i64` its 64 bits, of `i32` its low 32, sign-extended. 20 or 16
+    /// bytes.
+    LoadInlineConst {
+        rd: WritableReg,
+        ty: IrType,
+        imm: u64,
     },
     /// `rd` is the operation of `rs1` and `rs2`.
     AluRRR {
@@ -115,6 +126,11 @@ pub enum Inst {
     },
     /// Leaves the code to the address in `ra`.
     Ret,
+    /// Traps for the cause where the comparison holds. 8 bytes: a branch over an undefined instruction.
+    TrapIf {
+        cmp: IntegerCompare,
+        trap_code: TrapCode,
+    },
     /// Goes to the label (`jal x0`), by a veneer where it is too far.
     Jal {
         label: MachLabel,
@@ -125,23 +141,38 @@ pub enum Inst {
         not_taken: CondBrTarget,
         kind: IntegerCompare,
     },
+    /// Traps for the cause: four bytes of zeros, which the manual keeps undefined.
+    Udf {
+        trap_code: TrapCode,
+    },
     /// Leaves the code to `base` plus `offset` bytes, with bit 0 clear; `rd` is the address after it (`jalr`).
     Jalr {
         rd: WritableReg,
         base: Reg,
         offset: Imm12,
     },
+    /// `sum` is how many of the low bits of `rs` are ones, of as many bits as the type has, which is an integer of at most 64
+    /// bits. `tmp` and `step` are temporaries. 44 bytes, with a loop of one turn a bit.
+    Popcnt {
+        sum: WritableReg,
+        tmp: WritableReg,
+        step: WritableReg,
+        rs: Reg,
+        ty: IrType,
+    },
 }
 
 /// The kinds of instructions.
 #[derive(Clone, Copy, Debug, PartialEq, Eq)]
 pub enum Family {
-    /// Pseudo-instructions, `Nop4` and `EBreak`: they compute nothing.
+    /// Pseudo-instructions, data, `Nop4` and `EBreak`: they compute nothing.
     Pseudo,
     /// Those that compute an integer register, and go on.
     Integer,
     /// Those that go elsewhere.
     Control,
+    /// Those that compute by a loop of their own, and go on.
+    Loop,
 }
 
 impl Inst {
@@ -158,16 +189,22 @@ impl Inst {
             | Inst::Args { args: _ }
             | Inst::Rets { rets: _ }
             | Inst::DummyUse { reg: _ }
-            | Inst::EmitIsland { needed_space: _ } => Family::Pseudo,
+            | Inst::EmitIsland { needed_space: _ }
+            | Inst::RawData { bytes: _ } => Family::Pseudo,
             Inst::Lui { .. }
             | Inst::Auipc { .. }
+            | Inst::LoadInlineConst { .. }
             | Inst::AluRRR { .. }
             | Inst::AluRRImm12 { .. }
             | Inst::Mov { .. }
             | Inst::MovFromPReg { .. } => Family::Integer,
-            Inst::Ret | Inst::Jal { label: _ } | Inst::CondBr { .. } | Inst::Jalr { .. } => {
-                Family::Control
-            }
+            Inst::Ret
+            | Inst::TrapIf { .. }
+            | Inst::Jal { label: _ }
+            | Inst::CondBr { .. }
+            | Inst::Udf { trap_code: _ }
+            | Inst::Jalr { .. } => Family::Control,
+            Inst::Popcnt { .. } => Family::Loop,
         }
     }
 }

@@ -2,6 +2,7 @@
 #![tactic(auto)]
 
 mod check;
+mod clashes;
 mod code;
 mod error;
 mod inst;
@@ -11,7 +12,7 @@ mod places;
 mod ranges;
 mod registers;
 
-pub use code::{Code, LabelPlace, LineSpan};
+pub use code::{Code, LabelPlace, LineSpan, MachTrap};
 pub use error::{EmitError, Rule};
 pub use inst::{CondBrTarget, Family, Inst, Line};
 pub use job::Job;

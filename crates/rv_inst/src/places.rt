@@ -9,11 +9,11 @@ ghost use Rattle.rv_inst.specs.declared.inst.Family.TheVariants.{Pseudo, Integer
 ghost use Rattle.rv_inst.specs.Families.{family_of};
 
 use crate::inst::{Family, Inst};
-use crate::registers::{RegisterTest, control_has, is_other_class, plain_has};
+use crate::registers::{RegisterTest, control_has, is_other_class, loop_has, plain_has};
 use rv_base::{ArgPair as Arg, PReg, Reg, RegClass, RetPair as Ret};
 
 /// Returns whether two registers are of different classes.
-fn differ_in_class(first: Reg, second: Reg) -> bool
+pub fn differ_in_class(first: Reg, second: Reg) -> bool
     ensures { result ≡ differ_in_class first second }
 {
     match (first.class(), second.class()) {
@@ -73,5 +73,6 @@ pub fn is_misplaced(inst: &Inst) -> bool
         Family::Pseudo => marks_misplaced(inst),
         Family::Integer => plain_misplaced(inst),
         Family::Control => control_has(RegisterTest::OtherClass, inst),
+        Family::Loop => loop_has(RegisterTest::OtherClass, inst),
     }
 }

@@ -3,7 +3,7 @@
 ghost use Rattle.std.specs.Prelude.{◌≡◌, not, ◌&&◌};
 ghost use Rattle.rv_base.specs.Regs.{class_of};
 ghost use Rattle.rv_ops.specs.Alu.{rri_numbers};
-ghost use Rattle.rv_inst.specs.Rules.{is_int_class, is_int_type, has_bad_type, shift_limit, is_beyond, is_out_of_range};
+ghost use Rattle.rv_inst.specs.Rules.{is_int_class, is_int_type, is_word_type, has_bad_type, shift_limit, is_beyond, is_out_of_range, has_bad_size};
 
 use crate::inst::Inst;
 use rv_base::{IrType, Reg, RegClass};
@@ -16,6 +16,17 @@ fn is_int_type(ty: IrType) -> bool
     match ty {
         IrType::I8 | IrType::I16 | IrType::I32 | IrType::I64 => true,
         IrType::I128 | IrType::F16 | IrType::F32 | IrType::F64 | IrType::F128 => false,
+        IrType::Vector(_) => false,
+    }
+}
+
+fn is_word_type(ty: IrType) -> bool
+    ensures { result ≡ is_word_type ty }
+{
+    match ty {
+        IrType::I32 | IrType::I64 => true,
+        IrType::I8 | IrType::I16 | IrType::I128 => false,
+        IrType::F16 | IrType::F32 | IrType::F64 | IrType::F128 => false,
         IrType::Vector(_) => false,
     }
 }
@@ -34,7 +45,15 @@ pub fn has_bad_type(inst: &Inst) -> bool
     ensures { result ≡ has_bad_type inst.now }
 {
     match inst {
+        Inst::LoadInlineConst { rd: _, ty, imm: _ } => !is_word_type(*ty),
         Inst::Mov { rd: _, rm, ty } => is_bad_move(*rm, *ty),
+        Inst::Popcnt {
+            sum: _,
+            tmp: _,
+            step: _,
+            rs: _,
+            ty,
+        } => !is_int_type(*ty),
         _ => false,
     }
 }
@@ -63,6 +82,16 @@ pub fn is_out_of_range(inst: &Inst) -> bool
             rs: _,
             imm12,
         } => is_amount_beyond(*alu_op, *imm12),
+        _ => false,
+    }
+}
+
+/// Returns whether the instruction is data of a length that isn't taken.
+pub fn has_bad_size(inst: &Inst) -> bool
+    ensures { result ≡ has_bad_size inst.now }
+{
+    match inst {
+        Inst::RawData { bytes } => !(bytes.len() == 4 || bytes.len() == 8),
         _ => false,
     }
 }

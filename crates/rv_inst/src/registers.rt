@@ -3,7 +3,7 @@
 ghost use Rattle.std.specs.Prelude.{◌≡◌};
 ghost use Rattle.std.specs.List.{list_any};
 ghost use Rattle.rv_inst.specs.Operands.{arg_registers, ret_registers, inst_registers};
-ghost use Rattle.rv_inst.specs.declared.inst.Family.TheVariants.{Pseudo, Integer, Control};
+ghost use Rattle.rv_inst.specs.declared.inst.Family.TheVariants.{Pseudo, Integer, Control, Loop};
 ghost use Rattle.rv_inst.specs.Families.{family_of};
 ghost use Rattle.rv_inst.specs.RegisterTests.{test_of};
 
@@ -108,6 +108,7 @@ pub fn plain_has(test: RegisterTest, inst: &Inst) -> bool
     match inst {
         Inst::Lui { rd, imm: _ } => any_of(test, &[rd.reg]),
         Inst::Auipc { rd, imm: _ } => any_of(test, &[rd.reg]),
+        Inst::LoadInlineConst { rd, ty: _, imm: _ } => any_of(test, &[rd.reg]),
         Inst::AluRRR {
             alu_op: _,
             rd,
@@ -131,6 +132,7 @@ pub fn control_has(test: RegisterTest, inst: &Inst) -> bool
     ensures { family_of inst.now ≡ Control → result ≡ list_any (test_of test) (inst_registers inst.now) }
 {
     match inst {
+        Inst::TrapIf { cmp, trap_code: _ } => any_of(test, &[cmp.rs1, cmp.rs2]),
         Inst::CondBr {
             taken: _,
             not_taken: _,
@@ -145,6 +147,22 @@ pub fn control_has(test: RegisterTest, inst: &Inst) -> bool
     }
 }
 
+/// Returns whether the test holds of a register of an instruction that computes by a loop.
+pub fn loop_has(test: RegisterTest, inst: &Inst) -> bool
+    ensures { family_of inst.now ≡ Loop → result ≡ list_any (test_of test) (inst_registers inst.now) }
+{
+    match inst {
+        Inst::Popcnt {
+            sum,
+            tmp,
+            step,
+            rs,
+            ty: _,
+        } => any_of(test, &[sum.reg, tmp.reg, step.reg, *rs]),
+        _ => false,
+    }
+}
+
 /// Returns whether the test holds of a register of the instruction.
 pub fn has_register(test: RegisterTest, inst: &Inst) -> bool
     ensures { result ≡ list_any (test_of test) (inst_registers inst.now) }
@@ -153,5 +171,6 @@ pub fn has_register(test: RegisterTest, inst: &Inst) -> bool
         Family::Pseudo => marks_has(test, inst),
         Family::Integer => plain_has(test, inst),
         Family::Control => control_has(test, inst),
+        Family::Loop => loop_has(test, inst),
     }
 }

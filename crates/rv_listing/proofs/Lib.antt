@@ -1,5 +1,7 @@
 pub mod FirstBadLine
 pub mod Cuts
+pub mod DecimalNumbers
+pub mod TrapNames
 pub mod RegisterNames
 pub mod PlainJobs
 pub mod Ranges

@@ -1,5 +1,5 @@
 -- A report is of one code alone: it is made of pieces that open a text in one way alone.
-use Rattle.std.proofs.Common.{◌≡◌, ℕ, zero, suc, ◌+◌, ◌/◌, ◌%◌, ◌*◌, ◌^◌, ◌<◌, ◌≤◌, List, [], ◌∷◌, ◌++◌, length, get_or, take, drop, refl, sym, ap, ◌∙◌, subst, append_assoc, arith}
+use Rattle.std.proofs.Common.{◌≡◌, ℕ, zero, suc, ◌+◌, ◌/◌, ◌%◌, ◌*◌, ◌^◌, ◌<◌, ◌≤◌, List, [], ◌∷◌, ◌++◌, length, get_or, take, drop, refl, sym, ap, ◌∙◌, subst, append_assoc, lit≤, arith}
 use Rattle.std.specs.Prelude.{codes}
 use Rattle.std.specs.List.{flat_map, AllByRecursion}
 use Rattle.std.specs.Coded.{le_prop}
@@ -7,13 +7,18 @@ use Rattle.std.specs.Fmt.{decimal}
 use Rattle.std.proofs.lemmas.Fmt.{decimal_by_steps, decimal_injective}
 use Rattle.rv_inst.specs.declared.code.LineSpan.{LineSpan}
 use Rattle.mach_buffer.specs.declared.uses.LabelPlace.{LabelPlace}
+use Rattle.mach_buffer.specs.declared.records.MachTrap.{MachTrap}
+use Rattle.rv_base.specs.declared.trap.TrapCode.{TrapCode}
+use Rattle.rv_base.specs.declared.trap.TrapCode.TheVariants.{StackOverflow, HeapOutOfBounds, IntegerOverflow, IntegerDivisionByZero, BadConversionToInteger, User}
+use Rattle.rv_base.specs.Trap.{name_of}
+use Rattle.rv_listing.proofs.TrapNames.{same_trap}
 use Rattle.std.specs.Int.{w32, to_be_bytes}
 use Rattle.std.proofs.lemmas.List.{length-take, length-drop, take-append-drop}
 use Rattle.hex.specs.Hex.{IsBytes, encode_lower, lower_digits, decode_of}
 use Rattle.hex.proofs.HexLemmas.{decode_of-encode_lower, length-encode_with}
 use Rattle.rv_inst.specs.declared.code.Code.{Code}
-use Rattle.rv_listing.specs.Report.{span_line, label_line, hex_lines, all_hex_lines, report}
-use Rattle.rv_listing.specs.CodeRanges.{SpanFits, LabelFits, CodeFits}
+use Rattle.rv_listing.specs.Report.{span_line, label_line, trap_line, hex_lines, all_hex_lines, report}
+use Rattle.rv_listing.specs.CodeRanges.{SpanFits, LabelFits, TrapFits, CodeFits}
 
 abbrev Digits : List ℕ → Type 0
 Digits [] = Unit {0}
@@ -74,6 +79,28 @@ label_opens x y a b fx fy e =
   where
     made : (x y : LabelPlace) → x.label.number ≡ y.label.number → x.offset ≡ y.offset → x ≡ y
     made x y p q = λ i. record { label = record { number = p i }; offset = q i }
+
+-- the bytes of a cause's name are those of letters, digits and _
+Digits-name : (code : TrapCode) → Digits (name_of code)
+Digits-name StackOverflow = (lit≤ tt, (lit≤ tt, (lit≤ tt, (lit≤ tt, (lit≤ tt, (lit≤ tt, (lit≤ tt, tt)))))))
+Digits-name HeapOutOfBounds = (lit≤ tt, (lit≤ tt, (lit≤ tt, (lit≤ tt, (lit≤ tt, (lit≤ tt, (lit≤ tt, (lit≤ tt, tt))))))))
+Digits-name IntegerOverflow = (lit≤ tt, (lit≤ tt, (lit≤ tt, (lit≤ tt, (lit≤ tt, (lit≤ tt, (lit≤ tt, tt)))))))
+Digits-name IntegerDivisionByZero = (lit≤ tt, (lit≤ tt, (lit≤ tt, (lit≤ tt, (lit≤ tt, (lit≤ tt, (lit≤ tt, (lit≤ tt, tt))))))))
+Digits-name BadConversionToInteger = (lit≤ tt, (lit≤ tt, (lit≤ tt, (lit≤ tt, (lit≤ tt, (lit≤ tt, (lit≤ tt, (lit≤ tt, (lit≤ tt, tt)))))))))
+Digits-name (User trap) = let high = trap.high in (lit≤ tt, (lit≤ tt, (lit≤ tt, (lit≤ tt, Digits-decimal trap.number (omega arith)))))
+
+trap_opens : (x y : MachTrap) (a b : List ℕ) → TrapFits x → TrapFits y → trap_line x ++ a ≡ trap_line y ++ b → (x ≡ y) × (a ≡ b)
+trap_opens x y a b fx fy e =
+    let ex = regroup_label (codes "trap ") (decimal x.offset) (name_of x.code) a in
+    let ey = regroup_label (codes "trap ") (decimal y.offset) (name_of y.code) b in
+    let all = sym ex ∙ e ∙ ey in
+    let numbers : decimal x.offset ++ 32 ∷ (name_of x.code ++ 10 ∷ a) ≡ decimal y.offset ++ 32 ∷ (name_of y.code ++ 10 ∷ b) = ap (drop 5) all in
+    let one = number_opens x.offset y.offset _ _ 32 (omega arith) (omega (arith, fx.offset)) (omega (arith, fy.offset)) numbers in
+    let names = digits_cut (name_of x.code) (name_of y.code) a b 10 (omega arith) (Digits-name x.code) (Digits-name y.code) one.1 in
+    (made x y one.0 (same_trap x.code y.code names.0), names.1)
+  where
+    made : (x y : MachTrap) → x.offset ≡ y.offset → x.code ≡ y.code → x ≡ y
+    made x y p q = λ i. record { offset = p i; code = q i }
 
 -- A piece that opens a text in one way: what it stands for, and what is after it, is known.
 pub record Opens {A : Type 0} (P : A → Type 0) (f : A → List ℕ) : Type 0 where
@@ -150,27 +177,39 @@ hex_lines_open (suc n) at xs ys a b len fits fx fy e =
 abbrev ending : ℕ → List ℕ
 ending n = codes "end " ++ (decimal n ++ 10 ∷ [])
 
-regroup_report : (p n r s l e m : List ℕ) → p ++ n ++ 10 ∷ [] ++ r ++ s ++ l ++ e ++ m ++ 10 ∷ [] ≡ p ++ (n ++ 10 ∷ (r ++ (s ++ (l ++ (e ++ (m ++ 10 ∷ []))))))
-regroup_report p n r s l e m = simp append_assoc
+regroup_report : (p n r s l t e m : List ℕ) → p ++ n ++ 10 ∷ [] ++ r ++ s ++ l ++ t ++ e ++ m ++ 10 ∷ [] ≡ p ++ (n ++ 10 ∷ (r ++ (s ++ (l ++ (t ++ (e ++ (m ++ 10 ∷ [])))))))
+regroup_report p n r s l t e m = simp append_assoc
 
 far : (m n : ℕ) → m ≡ n → n < m → ⊥
 far m n e lt = absurd (omega arith)
 
-no_span : (ls : List LabelPlace) (n : ℕ) → No SpanFits span_line (flat_map label_line ls ++ ending n)
-no_span [] n x t fits e = far 108 101 (ap (λ (w : List ℕ). get_or w 0 0) e) (omega arith)
-no_span (l ∷ ls) n x t fits e = far 105 97 (ap (λ (w : List ℕ). get_or w 1 0) e) (omega arith)
+abbrev traps_and_end : Code → List ℕ
+traps_and_end c = flat_map trap_line c.traps ++ ending c.end
 
-no_label : (n : ℕ) → No LabelFits label_line (ending n)
-no_label n x t fits e = far 108 101 (ap (λ (w : List ℕ). get_or w 0 0) e) (omega arith)
-
-abbrev labels_and_end : Code → List ℕ
-labels_and_end c = flat_map label_line c.labels ++ ending c.end
+abbrev labels_and_traps : Code → List ℕ
+labels_and_traps c = flat_map label_line c.labels ++ traps_and_end c
 
 abbrev after_hex_lines : Code → List ℕ
-after_hex_lines c = flat_map span_line c.lines ++ labels_and_end c
+after_hex_lines c = flat_map span_line c.lines ++ labels_and_traps c
+
+near : (m n : ℕ) → m ≡ n → m < n → ⊥
+near m n e lt = absurd (omega arith)
+
+-- a line of a span begins like none of a label or a trap, and so for the others
+no_span : (ls : List LabelPlace) (ts : List MachTrap) (n : ℕ) → No SpanFits span_line (flat_map label_line ls ++ (flat_map trap_line ts ++ ending n))
+no_span [] [] n x t fits e = far 108 101 (ap (λ (w : List ℕ). get_or w 0 0) e) (omega arith)
+no_span [] (tr ∷ ts) n x t fits e = near 108 116 (ap (λ (w : List ℕ). get_or w 0 0) e) (omega arith)
+no_span (l ∷ ls) ts n x t fits e = far 105 97 (ap (λ (w : List ℕ). get_or w 1 0) e) (omega arith)
+
+no_label : (ts : List MachTrap) (n : ℕ) → No LabelFits label_line (flat_map trap_line ts ++ ending n)
+no_label [] n x t fits e = far 108 101 (ap (λ (w : List ℕ). get_or w 0 0) e) (omega arith)
+no_label (tr ∷ ts) n x t fits e = near 108 116 (ap (λ (w : List ℕ). get_or w 0 0) e) (omega arith)
+
+no_trap : (n : ℕ) → No TrapFits trap_line (ending n)
+no_trap n x t fits e = far 116 101 (ap (λ (w : List ℕ). get_or w 0 0) e) (omega arith)
 
 grouped : (c : Code) → report c ≡ codes "code " ++ (decimal (length c.bytes) ++ 10 ∷ (all_hex_lines c.bytes ++ after_hex_lines c))
-grouped c = regroup_report (codes "code ") (decimal (length c.bytes)) (all_hex_lines c.bytes) (flat_map span_line c.lines) (flat_map label_line c.labels) (codes "end ") (decimal c.end)
+grouped c = regroup_report (codes "code ") (decimal (length c.bytes)) (all_hex_lines c.bytes) (flat_map span_line c.lines) (flat_map label_line c.labels) (flat_map trap_line c.traps) (codes "end ") (decimal c.end)
 
 all_hex_lines_open : (xs ys a b : List ℕ) → length xs ≡ length ys → AllByRecursion (λ b. b < 256) xs → AllByRecursion (λ b. b < 256) ys → all_hex_lines xs ++ a ≡ all_hex_lines ys ++ b → (xs ≡ ys) × (a ≡ b)
 all_hex_lines_open xs ys a b len fx fy e =
@@ -181,12 +220,13 @@ same_code c d fc fd e =
     let whole = ap (drop 5) (sym (grouped c) ∙ e ∙ grouped d) in
     let count = number_opens (length c.bytes) (length d.bytes) (all_hex_lines c.bytes ++ after_hex_lines c) (all_hex_lines d.bytes ++ after_hex_lines d) 10 (omega arith) (omega (arith, c.small)) (omega (arith, d.small)) whole in
     let bytes = all_hex_lines_open c.bytes d.bytes (after_hex_lines c) (after_hex_lines d) count.0 fc.bytes fd.bytes count.1 in
-    let lines = all_open SpanFits span_line (record { one = span_opens }) c.lines d.lines (labels_and_end c) (labels_and_end d) fc.lines fd.lines (no_span c.labels c.end) (no_span d.labels d.end) bytes.1 in
-    let labels = all_open LabelFits label_line (record { one = label_opens }) c.labels d.labels (ending c.end) (ending d.end) fc.labels fd.labels (no_label c.end) (no_label d.end) lines.1 in
-    let last = number_opens c.end d.end [] [] 10 (omega arith) (omega (arith, fc.end)) (omega (arith, fd.end)) (ap (drop 4) labels.1) in
-    made c d bytes.0 lines.0 labels.0 last.0
+    let lines = all_open SpanFits span_line (record { one = span_opens }) c.lines d.lines (labels_and_traps c) (labels_and_traps d) fc.lines fd.lines (no_span c.labels c.traps c.end) (no_span d.labels d.traps d.end) bytes.1 in
+    let labels = all_open LabelFits label_line (record { one = label_opens }) c.labels d.labels (traps_and_end c) (traps_and_end d) fc.labels fd.labels (no_label c.traps c.end) (no_label d.traps d.end) lines.1 in
+    let traps = all_open TrapFits trap_line (record { one = trap_opens }) c.traps d.traps (ending c.end) (ending d.end) fc.traps fd.traps (no_trap c.end) (no_trap d.end) labels.1 in
+    let last = number_opens c.end d.end [] [] 10 (omega arith) (omega (arith, fc.end)) (omega (arith, fd.end)) (ap (drop 4) traps.1) in
+    made c d bytes.0 lines.0 labels.0 traps.0 last.0
   where
-    made : (c d : Code) → c.bytes ≡ d.bytes → c.lines ≡ d.lines → c.labels ≡ d.labels → c.end ≡ d.end → c ≡ d
-    made c d p q r s =
-        let Rest : List ℕ → Type 0 = λ (bs : List ℕ). (small : length bs < 2 ^ 32) → c ≡ record { bytes = bs; lines = d.lines; labels = d.labels; «end» = d.end; small = small } in
-        subst Rest p (λ small. λ i. record { bytes = c.bytes; lines = q i; labels = r i; «end» = s i; small = le_prop c.small small i }) d.small
+    made : (c d : Code) → c.bytes ≡ d.bytes → c.lines ≡ d.lines → c.labels ≡ d.labels → c.traps ≡ d.traps → c.end ≡ d.end → c ≡ d
+    made c d p q r t s =
+        let Rest : List ℕ → Type 0 = λ (bs : List ℕ). (small : length bs < 2 ^ 32) → c ≡ record { bytes = bs; lines = d.lines; labels = d.labels; traps = d.traps; «end» = d.end; small = small } in
+        subst Rest p (λ small. λ i. record { bytes = c.bytes; lines = q i; labels = r i; traps = t i; «end» = s i; small = le_prop c.small small i }) d.small

@@ -1,13 +1,19 @@
 -- A number within its range makes one value, whatever the proof of its range; a number out of it makes none.
-use Rattle.std.proofs.Common.{◌≡◌, ℕ, ◌<◌, ◌≤◌, Bool, true, false, T, ltb, leb, ℤ, pos, negsuc, ◌≤ℤ◌, ◌<ℤ◌, Option, Some, None, refl, sym, subst}
+use Rattle.std.proofs.Common.{◌≡◌, ℕ, ◌<◌, ◌≤◌, ◌⊎◌, inl, inr, ◌∙◌, ap, arith, Bool, true, false, T, ltb, leb, ℤ, pos, negsuc, ◌≤ℤ◌, ◌<ℤ◌, Option, Some, None, refl, sym, subst}
 use Rattle.std.specs.Coded.{le_prop}
+use Rattle.std.specs.Prelude.{MatchOption}
 use lib.Dec.{T_prop, ltb→lt, lt→ltb, leb→le, le→leb}
 use lib.Signed.{le_z, le_z_yes, clash_ℤ}
-use borrow.Author.Tests.{le-ltb}
+use borrow.Author.Tests.{le-ltb, lt-leb}
 use Rattle.rv_base.specs.declared.regs.RegClass.{RegClass}
 use Rattle.rv_base.specs.declared.regs.RegClass.TheVariants.{Int}
 use Rattle.rv_base.specs.declared.regs.Reg.TheVariants.{Real, Virtual}
+use Rattle.rv_base.specs.declared.trap.TrapCode.{TrapCode}
+use Rattle.rv_base.specs.declared.trap.TrapCode.TheVariants.{StackOverflow, HeapOutOfBounds, IntegerOverflow, IntegerDivisionByZero, BadConversionToInteger, User}
+use Rattle.rv_base.specs.declared.trap.UserTrap.{UserTrap}
+use Rattle.rv_base.specs.Trap.{IsUserOf}
 use Rattle.rv_listing.specs.Tokens.{where_true}
+use Rattle.rv_listing.specs.Traps.{user_of}
 use Rattle.rv_listing.specs.Registers.{real, virtual_register}
 use Rattle.rv_listing.specs.Operands.{imm12_of, imm20_of}
 
@@ -60,3 +66,26 @@ imm20_is n low high = where_holds (le_z (negsuc 524287) n) _ _ low.le (λ l. whe
 pub imm20_high : (n : ℤ) → pos 524287 <ℤ n → None ≡ imm20_of n
 unfolding imm20_of
 imm20_high n high = where_none (le_z (negsuc 524287) n) _ (λ l. where_fails (le_z n (pos 524287)) _ (above n (pos 524287) high))
+
+pub user_itself : (trap : UserTrap) → Some (User trap) ≡ user_of trap.number
+unfolding user_of
+user_itself trap = where_holds (leb 1 trap.number) _ _ (le→leb 1 trap.number trap.low) (λ l. where_holds (leb trap.number 250) _ _ (le→leb trap.number 250 trap.high) (λ h. λ i. Some (User (record { number = trap.number; low = le_prop trap.low (leb→le 1 trap.number l) i; high = le_prop trap.high (leb→le trap.number 250 h) i }))))
+
+user_zero : None ≡ user_of 0
+unfolding user_of
+user_zero = refl
+
+pub user_high : (n : ℕ) → 250 < n → None ≡ user_of n
+unfolding user_of
+user_high n high = where_none (leb 1 n) _ (λ l. where_fails (leb n 250) _ (lt-leb n 250 high))
+
+-- what the constructor of a user's cause makes of a number
+pub user_is : (n : ℕ) (r : Option TrapCode) → n ≤ 250 → MatchOption r ((n ≡ 0) ⊎ (250 < n)) (IsUserOf n) → r ≡ user_of n
+user_is n None low (inl none) = user_zero ∙ ap user_of (sym none)
+user_is n None low (inr above) = absurd (omega arith)
+user_is n (Some (User trap)) low same = user_itself trap ∙ ap user_of same
+user_is n (Some StackOverflow) low same = absurd same
+user_is n (Some HeapOutOfBounds) low same = absurd same
+user_is n (Some IntegerOverflow) low same = absurd same
+user_is n (Some IntegerDivisionByZero) low same = absurd same
+user_is n (Some BadConversionToInteger) low same = absurd same

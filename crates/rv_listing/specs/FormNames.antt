@@ -15,23 +15,28 @@ form_name forms.DummyUse = codes "DummyUse"
 form_name forms.EmitIsland = codes "EmitIsland"
 form_name forms.Args = codes "Args"
 form_name forms.Rets = codes "Rets"
+form_name forms.RawData = codes "RawData"
 form_name forms.Lui = codes "Lui"
 form_name forms.Auipc = codes "Auipc"
+form_name forms.LoadInlineConst = codes "LoadInlineConst"
 form_name forms.AluRRR = codes "AluRRR"
 form_name forms.AluRRImm12 = codes "AluRRImm12"
 form_name forms.Mov = codes "Mov"
 form_name forms.MovFromPReg = codes "MovFromPReg"
 form_name forms.Ret = codes "Ret"
+form_name forms.TrapIf = codes "TrapIf"
 form_name forms.Jal = codes "Jal"
 form_name forms.CondBr = codes "CondBr"
+form_name forms.Udf = codes "Udf"
 form_name forms.Jalr = codes "Jalr"
+form_name forms.Popcnt = codes "Popcnt"
 form_name forms.Bind = codes "Bind"
 
 unfoldable pub every_form : List Form
 every_form =
     forms.Nop0 ∷ forms.Nop4 ∷ forms.EBreak ∷ forms.SequencePoint ∷ forms.DummyUse ∷ forms.EmitIsland ∷ forms.Args ∷ forms.Rets ∷
-    forms.Lui ∷ forms.Auipc ∷ forms.AluRRR ∷ forms.AluRRImm12 ∷ forms.Mov ∷ forms.MovFromPReg ∷ forms.Ret ∷
-    forms.Jal ∷ forms.CondBr ∷ forms.Jalr ∷ forms.Bind ∷ []
+    forms.RawData ∷ forms.Lui ∷ forms.Auipc ∷ forms.LoadInlineConst ∷ forms.AluRRR ∷ forms.AluRRImm12 ∷ forms.Mov ∷
+    forms.MovFromPReg ∷ forms.Ret ∷ forms.TrapIf ∷ forms.Jal ∷ forms.CondBr ∷ forms.Udf ∷ forms.Jalr ∷ forms.Popcnt ∷ forms.Bind ∷ []
 
 -- the form of the lines that begin with this word
 unfoldable pub form_named : List ℕ → Option Form

@@ -2,6 +2,7 @@
 use Rattle.std.specs.Prelude.{ℕ, List, Option, Some}
 use Rattle.rv_base.specs.declared.regs.Reg.{Reg}
 use Rattle.rv_base.specs.declared.condcodes.IntCC.{IntCC}
+use Rattle.rv_base.specs.declared.trap.TrapCode.{TrapCode}
 use Rattle.rv_inst.specs.declared.inst.CondBrTarget.{CondBrTarget}
 use Rattle.rv_inst.specs.declared.inst.Inst.{Inst}
 use Rattle.rv_inst.specs.declared.inst.Inst.TheVariants as form
@@ -9,7 +10,7 @@ use Rattle.rv_inst.specs.declared.inst.Line.{Line}
 use Rattle.rv_inst.specs.declared.inst.Line.TheVariants as kinds
 use Rattle.rv_listing.specs.declared.form_names.Form.{Form}
 use Rattle.rv_listing.specs.declared.form_names.Form.TheVariants as forms
-use Rattle.rv_listing.specs.Tokens.{◌>>=◌}
+use Rattle.rv_listing.specs.Tokens.{◌>>=◌, natural}
 use Rattle.rv_listing.specs.FormNames.{form_named}
 use Rattle.rv_listing.specs.Fields.{done, ◌⊛◌, whole}
 use Rattle.rv_listing.specs.Registers.{register}
@@ -17,6 +18,8 @@ use Rattle.rv_listing.specs.Operands.{writable, real_register, imm12, imm20, byt
 use Rattle.rv_listing.specs.Comparisons.{cond_code}
 use Rattle.rv_listing.specs.Operations.{alu_rri, alu_rrr}
 use Rattle.rv_listing.specs.Types.{type_named}
+use Rattle.rv_listing.specs.HexDigits.{some_bytes}
+use Rattle.rv_listing.specs.Traps.{trap_named}
 use Rattle.rv_listing.specs.Pairs.{arg_pair, ret_pair, listed}
 
 -- ---- those that compute nothing
@@ -45,6 +48,9 @@ args_form = whole (done form.Args ⊛ listed arg_pair)
 unfoldable pub rets_form : List (List ℕ) → Option Inst
 rets_form = whole (done form.Rets ⊛ listed ret_pair)
 
+unfoldable pub raw_data_form : List (List ℕ) → Option Inst
+raw_data_form = whole (done form.RawData ⊛ some_bytes)
+
 -- ---- those that write registers, and go on
 
 unfoldable pub lui_form : List (List ℕ) → Option Inst
@@ -52,6 +58,9 @@ lui_form = whole (done form.Lui ⊛ writable ⊛ imm20)
 
 unfoldable pub auipc_form : List (List ℕ) → Option Inst
 auipc_form = whole (done form.Auipc ⊛ writable ⊛ imm20)
+
+unfoldable pub load_inline_const_form : List (List ℕ) → Option Inst
+load_inline_const_form = whole (done form.LoadInlineConst ⊛ writable ⊛ type_named ⊛ natural)
 
 unfoldable pub alu_rrr_form : List (List ℕ) → Option Inst
 alu_rrr_form = whole (done form.AluRRR ⊛ alu_rrr ⊛ writable ⊛ register ⊛ register)
@@ -70,6 +79,16 @@ mov_from_preg_form = whole (done form.MovFromPReg ⊛ writable ⊛ real_register
 unfoldable pub ret_form : List (List ℕ) → Option Inst
 ret_form = whole (done form.Ret)
 
+-- a comparison is three tokens
+abbrev pub trap_if : IntCC → Reg → Reg → TrapCode → Inst
+trap_if cc rs1 rs2 code = form.TrapIf (record { kind = cc; rs1 = rs1; rs2 = rs2 }) code
+
+unfoldable pub trap_if_form : List (List ℕ) → Option Inst
+trap_if_form = whole (done trap_if ⊛ cond_code ⊛ register ⊛ register ⊛ trap_named)
+
+unfoldable pub udf_form : List (List ℕ) → Option Inst
+udf_form = whole (done form.Udf ⊛ trap_named)
+
 unfoldable pub jal_form : List (List ℕ) → Option Inst
 jal_form = whole (done form.Jal ⊛ label)
 
@@ -82,6 +101,11 @@ cond_br_form = whole (done cond_br ⊛ cond_code ⊛ register ⊛ register ⊛ t
 
 unfoldable pub jalr_form : List (List ℕ) → Option Inst
 jalr_form = whole (done form.Jalr ⊛ writable ⊛ register ⊛ imm12)
+
+-- ---- those that compute by a loop
+
+unfoldable pub popcnt_form : List (List ℕ) → Option Inst
+popcnt_form = whole (done form.Popcnt ⊛ writable ⊛ writable ⊛ writable ⊛ register ⊛ type_named)
 
 -- ---- lines
 
@@ -102,16 +126,21 @@ by_form forms.DummyUse ws = put (dummy_use_form ws)
 by_form forms.EmitIsland ws = put (emit_island_form ws)
 by_form forms.Args ws = put (args_form ws)
 by_form forms.Rets ws = put (rets_form ws)
+by_form forms.RawData ws = put (raw_data_form ws)
 by_form forms.Lui ws = put (lui_form ws)
 by_form forms.Auipc ws = put (auipc_form ws)
+by_form forms.LoadInlineConst ws = put (load_inline_const_form ws)
 by_form forms.AluRRR ws = put (alu_rrr_form ws)
 by_form forms.AluRRImm12 ws = put (alu_rr_imm12_form ws)
 by_form forms.Mov ws = put (mov_form ws)
 by_form forms.MovFromPReg ws = put (mov_from_preg_form ws)
 by_form forms.Ret ws = put (ret_form ws)
+by_form forms.TrapIf ws = put (trap_if_form ws)
 by_form forms.Jal ws = put (jal_form ws)
 by_form forms.CondBr ws = put (cond_br_form ws)
+by_form forms.Udf ws = put (udf_form ws)
 by_form forms.Jalr ws = put (jalr_form ws)
+by_form forms.Popcnt ws = put (popcnt_form ws)
 by_form forms.Bind ws = bind_form ws
 
 unfoldable pub line_form : List ℕ → List (List ℕ) → Option Line

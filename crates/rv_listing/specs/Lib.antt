@@ -6,6 +6,8 @@ pub mod Operands
 pub mod Comparisons
 pub mod Operations
 pub mod Types
+pub mod Traps
+pub mod HexDigits
 pub mod Pairs
 pub mod FormNames
 pub mod Forms

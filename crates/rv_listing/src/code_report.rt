@@ -6,11 +6,11 @@ ghost use Rattle.std.specs.Fmt.{decimal};
 ghost use Rattle.hex.specs.Hex.{encode_lower};
 ghost use Rattle.rv_inst.specs.declared.code.Code.{Code as ACode};
 ghost use Rattle.rv_listing.specs.CodeRanges.{CodeFits};
-ghost use Rattle.rv_listing.specs.Report.{lf, hex_line, all_hex_lines, span_line, label_line, report};
+ghost use Rattle.rv_listing.specs.Report.{lf, hex_line, all_hex_lines, span_line, label_line, trap_line, report};
 
 use itoa::Buffer;
 use rv_base::OutOfMemory;
-use rv_inst::{Code, LabelPlace, LineSpan};
+use rv_inst::{Code, LabelPlace, LineSpan, MachTrap};
 use std::alloc::Global;
 
 fn put(out: &mut Vec<u8>, text: &[u8]) -> Result<(), OutOfMemory>
@@ -106,6 +106,17 @@ fn put_label(out: &mut Vec<u8>, l: &LabelPlace) -> Result<(), OutOfMemory>
     end_line(out, b" ", l.offset as u64)
 }
 
+fn put_trap(alloc: Global, out: &mut Vec<u8>, t: &MachTrap) -> Result<(), OutOfMemory>
+    ensures { OnOk result (out.new.items ≡ out.old.items ++ trap_line t.now) }
+{
+    let code = t.code;
+    let name = format!(in alloc; "{code}")?;
+    put_numbered(out, b"trap ", t.offset as u64)?;
+    put(out, b" ")?;
+    put(out, name.as_bytes())?;
+    put(out, b"\n")
+}
+
 fn put_spans(out: &mut Vec<u8>, lines: &[LineSpan]) -> Result<(), OutOfMemory>
     ensures { OnOk result (out.new.items ≡ out.old.items ++ flat_map span_line lines.now) }
 {
@@ -124,6 +135,15 @@ fn put_labels(out: &mut Vec<u8>, labels: &[LabelPlace]) -> Result<(), OutOfMemor
     Ok(())
 }
 
+fn put_traps(alloc: Global, out: &mut Vec<u8>, traps: &[MachTrap]) -> Result<(), OutOfMemory>
+    ensures { OnOk result (out.new.items ≡ out.old.items ++ flat_map trap_line traps.now) }
+{
+    for t in traps {
+        put_trap(alloc, out, t)?;
+    }
+    Ok(())
+}
+
 fn text_of(alloc: Global, code: &Code) -> Result<Vec<u8>, OutOfMemory>
     ensures { IfOk result (λ text. text.items ≡ report code.now) }
 {
@@ -132,12 +152,14 @@ fn text_of(alloc: Global, code: &Code) -> Result<Vec<u8>, OutOfMemory>
     put_hex_lines(&mut out, code.bytes.as_slice())?;
     put_spans(&mut out, code.lines.as_slice())?;
     put_labels(&mut out, code.labels.as_slice())?;
+    put_traps(alloc, &mut out, code.traps.as_slice())?;
     end_line(&mut out, b"end ", code.end as u64)?;
     Ok(out)
 }
 
 /// The text of the code, in lines that LF ends: its length, its bytes in lines of sixteen, where each line and each
-/// label stands, and where the last line ends. Numbers are decimal but in the lines of bytes. No other code has this text.
+/// label stands, each trap and its cause, and where the last line ends. Numbers are decimal but in the lines of bytes. No other
+/// code has this text.
 pub fn report(alloc: Global, code: &Code) -> Result<Vec<u8>, OutOfMemory>
     ensures text { IfOk result (λ text. text.items ≡ report code.now) }
     ensures one_code { IfOk result (λ text. (other : ACode) → CodeFits code.now → CodeFits other → report other ≡ text.items → other ≡ code.now) }

@@ -16,16 +16,21 @@ pub enum Form {
     EmitIsland,
     Args,
     Rets,
+    RawData,
     Lui,
     Auipc,
+    LoadInlineConst,
     AluRRR,
     AluRRImm12,
     Mov,
     MovFromPReg,
     Ret,
+    TrapIf,
     Jal,
     CondBr,
+    Udf,
     Jalr,
+    Popcnt,
     Bind,
 }
 
@@ -43,22 +48,27 @@ impl Form {
             Self::EmitIsland => "EmitIsland",
             Self::Args => "Args",
             Self::Rets => "Rets",
+            Self::RawData => "RawData",
             Self::Lui => "Lui",
             Self::Auipc => "Auipc",
+            Self::LoadInlineConst => "LoadInlineConst",
             Self::AluRRR => "AluRRR",
             Self::AluRRImm12 => "AluRRImm12",
             Self::Mov => "Mov",
             Self::MovFromPReg => "MovFromPReg",
             Self::Ret => "Ret",
+            Self::TrapIf => "TrapIf",
             Self::Jal => "Jal",
             Self::CondBr => "CondBr",
+            Self::Udf => "Udf",
             Self::Jalr => "Jalr",
+            Self::Popcnt => "Popcnt",
             Self::Bind => "Bind",
         }
     }
 }
 
-const EVERY_FORM: [Form; 19] = [
+const EVERY_FORM: [Form; 24] = [
     Form::Nop0,
     Form::Nop4,
     Form::EBreak,
@@ -67,33 +77,38 @@ const EVERY_FORM: [Form; 19] = [
     Form::EmitIsland,
     Form::Args,
     Form::Rets,
+    Form::RawData,
     Form::Lui,
     Form::Auipc,
+    Form::LoadInlineConst,
     Form::AluRRR,
     Form::AluRRImm12,
     Form::Mov,
     Form::MovFromPReg,
     Form::Ret,
+    Form::TrapIf,
     Form::Jal,
     Form::CondBr,
+    Form::Udf,
     Form::Jalr,
+    Form::Popcnt,
     Form::Bind,
 ];
 
 /// The indices in `EVERY_FORM` by the names' slots.
 const FORM_SLOTS: [u8; 256] = [
-    0, 0, 6, 0, 0, 0, 0, 0, 0, 0, 0, 0, 0, 9, 0, 0, 0, 0, 0, 0, 0, 0, 0, 0, 0, 0, 0, 0, 0, 0, 0, 0,
-    0, 0, 0, 0, 0, 0, 0, 0, 0, 5, 0, 0, 0, 0, 14, 0, 0, 0, 0, 0, 0, 0, 0, 0, 0, 0, 0, 0, 0, 0, 0,
-    0, 0, 0, 0, 0, 0, 0, 0, 0, 4, 0, 0, 0, 0, 0, 0, 18, 0, 0, 3, 0, 0, 0, 0, 0, 0, 0, 0, 0, 0, 0,
-    0, 0, 0, 0, 0, 7, 0, 0, 0, 0, 0, 0, 0, 0, 0, 0, 0, 0, 0, 0, 0, 0, 0, 0, 0, 0, 0, 0, 0, 0, 0, 0,
-    0, 0, 0, 0, 0, 0, 0, 0, 10, 0, 0, 0, 0, 0, 0, 0, 0, 0, 0, 0, 0, 0, 8, 0, 0, 0, 0, 0, 0, 0, 0,
-    0, 0, 0, 0, 0, 0, 0, 0, 0, 0, 0, 0, 0, 0, 11, 0, 0, 0, 0, 0, 0, 0, 0, 0, 0, 0, 0, 0, 0, 0, 0,
-    0, 0, 0, 0, 0, 17, 0, 15, 1, 0, 0, 0, 0, 0, 0, 0, 0, 0, 0, 0, 0, 16, 0, 0, 0, 0, 0, 0, 12, 0,
-    0, 0, 0, 0, 0, 0, 0, 0, 0, 0, 2, 0, 0, 0, 0, 0, 0, 0, 0, 0, 0, 13, 0, 0, 0, 0, 0, 0, 0, 0, 0,
+    0, 0, 19, 0, 0, 0, 2, 0, 0, 0, 0, 0, 0, 0, 0, 18, 0, 0, 0, 15, 0, 0, 9, 0, 0, 0, 0, 0, 0, 0, 0,
+    0, 0, 0, 0, 0, 0, 0, 0, 0, 0, 0, 0, 0, 0, 0, 0, 0, 0, 0, 8, 0, 0, 0, 0, 0, 0, 0, 0, 13, 0, 0,
+    20, 0, 0, 0, 0, 7, 11, 0, 0, 0, 0, 0, 0, 0, 0, 0, 0, 0, 0, 0, 0, 0, 0, 0, 0, 0, 0, 0, 0, 0, 0,
+    0, 0, 0, 0, 0, 0, 0, 0, 0, 0, 0, 0, 0, 0, 0, 0, 0, 0, 0, 0, 0, 0, 0, 0, 0, 0, 0, 0, 0, 0, 0, 0,
+    0, 0, 0, 0, 0, 0, 0, 0, 0, 0, 0, 0, 0, 0, 0, 0, 0, 0, 0, 0, 0, 0, 0, 0, 0, 1, 0, 0, 0, 0, 0, 0,
+    0, 0, 0, 0, 0, 0, 0, 0, 0, 0, 0, 21, 0, 0, 0, 0, 0, 0, 0, 0, 0, 0, 10, 0, 0, 0, 12, 0, 0, 14,
+    0, 16, 0, 0, 0, 0, 0, 0, 0, 0, 0, 0, 0, 0, 0, 0, 6, 0, 0, 0, 0, 0, 0, 0, 0, 0, 0, 0, 5, 0, 0,
+    0, 0, 0, 3, 0, 23, 0, 0, 0, 17, 0, 0, 0, 0, 0, 0, 0, 0, 0, 0, 0, 0, 0, 0, 0, 0, 4, 22, 0, 0, 0,
     0, 0, 0, 0, 0, 0, 0,
 ];
 
-const FORM_FACTOR: u64 = 10517972530174996981;
+const FORM_FACTOR: u64 = 1182129832415640517;
 
 /// The form of the lines that begin with this word.
 pub fn form_named(w: &[u8]) -> Option<Form>

@@ -4,10 +4,11 @@ ghost use Rattle.std.specs.Prelude.{◌≡◌};
 ghost use Rattle.rv_listing.specs.Tokens.{words_after};
 ghost use Rattle.rv_listing.specs.Fields.{Makes, TakesFirst, field};
 ghost use Rattle.rv_listing.specs.Pairs.{listed};
-ghost use Rattle.rv_listing.specs.Forms.{args_form, rets_form, dummy_use_form, emit_island_form, lui_form, auipc_form, alu_rrr_form, alu_rr_imm12_form, mov_form, mov_from_preg_form, jal_form, cond_br_form, jalr_form, bind_form, put, by_form, line_form};
+ghost use Rattle.rv_listing.specs.Forms.{args_form, rets_form, dummy_use_form, emit_island_form, raw_data_form, lui_form, auipc_form, load_inline_const_form, alu_rrr_form, alu_rr_imm12_form, mov_form, mov_from_preg_form, trap_if_form, jal_form, cond_br_form, udf_form, jalr_form, popcnt_form, bind_form, put, by_form, line_form};
 
 use crate::fields::{LineError, Token, allowed, field, whole};
 use crate::form_names::{Form, form_named};
+use crate::hex_digits::some_bytes;
 use crate::pairs::listed;
 use crate::tokens::next_word;
 use rv_base::List;
@@ -60,6 +61,17 @@ fn rets(alloc: Global, rest: &[u8]) -> Result<Inst, LineError>
     allowed(whole(Inst::Rets { rets }, rest))
 }
 
+#[tactic(auto, unfolding(crate::specs::Forms::raw_data_form))]
+fn raw_data(alloc: Global, rest: &[u8]) -> Result<Inst, LineError>
+    ensures { Makes result (raw_data_form (words_after rest.now)) }
+{
+    let Some((w, rest)) = next_word(rest) else {
+        return Err(LineError::NotAllowed);
+    };
+    let bytes = some_bytes(alloc, w)?;
+    allowed(whole(Inst::RawData { bytes }, rest))
+}
+
 // ---- those that write registers, and go on
 
 #[tactic(auto, unfolding(crate::specs::Forms::lui_form))]
@@ -78,6 +90,16 @@ fn auipc(rest: &[u8]) -> Option<Inst>
     let (rd, rest) = field(rest)?;
     let (imm, rest) = field(rest)?;
     whole(Inst::Auipc { rd, imm }, rest)
+}
+
+#[tactic(auto, unfolding(crate::specs::Forms::load_inline_const_form))]
+fn load_inline_const(rest: &[u8]) -> Option<Inst>
+    ensures { result ≡ load_inline_const_form (words_after rest.now) }
+{
+    let (rd, rest) = field(rest)?;
+    let (ty, rest) = field(rest)?;
+    let (imm, rest) = field(rest)?;
+    whole(Inst::LoadInlineConst { rd, ty, imm }, rest)
 }
 
 #[tactic(auto, unfolding(crate::specs::Forms::alu_rrr_form))]
@@ -139,6 +161,31 @@ fn mov_from_preg(rest: &[u8]) -> Option<Inst>
 
 // ---- those that go elsewhere
 
+#[tactic(auto, unfolding(crate::specs::Forms::trap_if_form))]
+fn trap_if(rest: &[u8]) -> Option<Inst>
+    ensures { result ≡ trap_if_form (words_after rest.now) }
+{
+    let (kind, rest) = field(rest)?;
+    let (rs1, rest) = field(rest)?;
+    let (rs2, rest) = field(rest)?;
+    let (trap_code, rest) = field(rest)?;
+    whole(
+        Inst::TrapIf {
+            cmp: IntegerCompare { kind, rs1, rs2 },
+            trap_code,
+        },
+        rest,
+    )
+}
+
+#[tactic(auto, unfolding(crate::specs::Forms::udf_form))]
+fn udf(rest: &[u8]) -> Option<Inst>
+    ensures { result ≡ udf_form (words_after rest.now) }
+{
+    let (trap_code, rest) = field(rest)?;
+    whole(Inst::Udf { trap_code }, rest)
+}
+
 #[tactic(auto, unfolding(crate::specs::Forms::cond_br_form))]
 fn cond_br(rest: &[u8]) -> Option<Inst>
     ensures { result ≡ cond_br_form (words_after rest.now) }
@@ -176,6 +223,29 @@ fn jalr(rest: &[u8]) -> Option<Inst>
     whole(Inst::Jalr { rd, base, offset }, rest)
 }
 
+// ---- those that compute by a loop
+
+#[tactic(auto, unfolding(crate::specs::Forms::popcnt_form))]
+fn popcnt(rest: &[u8]) -> Option<Inst>
+    ensures { result ≡ popcnt_form (words_after rest.now) }
+{
+    let (sum, rest) = field(rest)?;
+    let (tmp, rest) = field(rest)?;
+    let (step, rest) = field(rest)?;
+    let (rs, rest) = field(rest)?;
+    let (ty, rest) = field(rest)?;
+    whole(
+        Inst::Popcnt {
+            sum,
+            tmp,
+            step,
+            rs,
+            ty,
+        },
+        rest,
+    )
+}
+
 // ---- lines
 
 #[tactic(auto, unfolding(crate::specs::Forms::bind_form))]
@@ -209,16 +279,21 @@ fn line_of(alloc: Global, form: Form, rest: &[u8]) -> Result<Line, LineError>
         Form::EmitIsland => put(emit_island(rest)),
         Form::Args => Ok(Line::Inst(args(alloc, rest)?)),
         Form::Rets => Ok(Line::Inst(rets(alloc, rest)?)),
+        Form::RawData => Ok(Line::Inst(raw_data(alloc, rest)?)),
         Form::Lui => put(lui(rest)),
         Form::Auipc => put(auipc(rest)),
+        Form::LoadInlineConst => put(load_inline_const(rest)),
         Form::AluRRR => put(alu_rrr(rest)),
         Form::AluRRImm12 => put(alu_rr_imm12(rest)),
         Form::Mov => put(mov(rest)),
         Form::MovFromPReg => put(mov_from_preg(rest)),
         Form::Ret => put(whole(Inst::Ret, rest)),
+        Form::TrapIf => put(trap_if(rest)),
         Form::Jal => put(jal(rest)),
         Form::CondBr => put(cond_br(rest)),
+        Form::Udf => put(udf(rest)),
         Form::Jalr => put(jalr(rest)),
+        Form::Popcnt => put(popcnt(rest)),
         Form::Bind => allowed(bind(rest)),
     }
 }

@@ -6,6 +6,7 @@ mod comparisons;
 mod fields;
 mod form_names;
 mod forms;
+mod hex_digits;
 mod operands;
 mod operations;
 mod pairs;
@@ -13,13 +14,16 @@ mod reading;
 mod registers;
 mod slots;
 mod tokens;
+mod traps;
 mod types;
 
 pub use code_report::report;
 pub use fields::LineError;
+pub use hex_digits::hex_bytes;
 pub use reading::{ReadError, read_job};
 pub use registers::register;
 pub use tokens::{
     decimal, first_part, first_word, natural, next_line, next_part, next_word, starts, tail,
     two_parts,
 };
+pub use traps::trap_named;

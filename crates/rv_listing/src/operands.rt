@@ -2,6 +2,7 @@
 
 ghost use Rattle.std.specs.Prelude.{◌≡◌};
 ghost use Rattle.rv_base.specs.Regs.{real_of};
+ghost use Rattle.rv_listing.specs.Tokens.{natural};
 ghost use Rattle.rv_listing.specs.Registers.{register};
 ghost use Rattle.rv_listing.specs.Operands.{writable, real_register, imm12_of, imm12, imm20_of, imm20, byte_count, label, target};
 
@@ -93,6 +94,14 @@ impl Token for u32 {
         } else {
             None
         }
+    }
+}
+
+impl Token for u64 {
+    ghost reads = { natural };
+
+    fn read(w: &[u8]) -> Option<u64> {
+        natural(w)
     }
 }
 

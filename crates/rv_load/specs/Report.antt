@@ -6,14 +6,16 @@ use Rattle.hex.specs.Hex.{encode_lower}
 use Rattle.rv_inst.specs.declared.code.LineSpan.{LineSpan}
 use Rattle.rv_listing.specs.Tokens.{◌>>=◌, below, lines_of, words_of, decimal, starts}
 use Rattle.rv_listing.specs.Fields.{field, no_more}
+use Rattle.rv_listing.specs.Traps.{trap_named}
+use Rattle.rv_base.specs.declared.trap.TrapCode.{TrapCode}
 use Rattle.rv_listing.specs.declared.fields.LineError.{LineError}
 use Rattle.rv_listing.specs.declared.fields.LineError.TheVariants as bad
-use Rattle.rv_load.specs.Hex.{bytes_of}
+use Rattle.rv_listing.specs.HexDigits.{hex_bytes}
 use Rattle.rv_load.specs.declared.program.Program.{Program}
 use Rattle.rv_load.specs.declared.program.ProgramError.{ProgramError}
 use Rattle.rv_load.specs.declared.program.ProgramError.TheVariants as errors
 use Rattle.rv_load.specs.declared.report.Part.{Part}
-use Rattle.rv_load.specs.declared.report.Part.TheVariants.{Nothing, Bytes, Lines, Labels, End}
+use Rattle.rv_load.specs.declared.report.Part.TheVariants.{Nothing, Bytes, Lines, Labels, Traps, End}
 use Rattle.rv_load.specs.declared.report.Draft.{Draft}
 
 abbrev pub blank : Draft
@@ -25,7 +27,8 @@ rank Nothing = 0
 rank Bytes = 1
 rank Lines = 2
 rank Labels = 3
-rank End = 4
+rank Traps = 4
+rank End = 5
 
 -- all bytes have come, and no later part
 abbrev pub may_have : Part → Draft → Bool
@@ -52,7 +55,7 @@ is_offset w offset = nat_lt offset (2 ^ 32) && bytes_eq w (encode_lower (to_be_b
 
 -- bytes that are the last word
 abbrev pub last_bytes : List (List ℕ) → Option (List ℕ)
-last_bytes ws = field bytes_of ws >>= no_more
+last_bytes ws = field hex_bytes ws >>= no_more
 
 -- `OFFSET BYTES`: the next sixteen bytes, or the rest
 abbrev pub row_line : Draft → List ℕ → List (List ℕ) → Option Draft
@@ -83,14 +86,23 @@ two ws = field label ws >>= λ a. field decimal a.1 >>= λ b. no_more ((a.0, b.0
 abbrev pub label_line : Draft → List (List ℕ) → Option Draft
 label_line d ws = two ws >>= λ n. if may_have Labels d && nat_le n.1 d.count then Some (record d { part = Labels }) else None
 
+-- an offset and a cause, where they are the last words
+abbrev pub trap_words : List (List ℕ) → Option (ℕ × TrapCode)
+trap_words ws = field decimal ws >>= λ a. field trap_named a.1 >>= λ b. no_more ((a.0, b.0), b.1)
+
+-- `trap OFFSET CAUSE`
+abbrev pub trap_line : Draft → List (List ℕ) → Option Draft
+trap_line d ws = trap_words ws >>= λ t. if may_have Traps d && nat_le t.0 d.count then Some (record d { part = Traps }) else None
+
 -- `end OFFSET`
 abbrev pub end_line : Draft → List (List ℕ) → Option Draft
-end_line d ws = one ws >>= λ n. if may_have Labels d && nat_le n d.count then Some (record d { part = End }) else None
+end_line d ws = one ws >>= λ n. if may_have Traps d && nat_le n d.count then Some (record d { part = End }) else None
 
 abbrev pub by_name : Draft → List ℕ → List (List ℕ) → Option Draft
 by_name d name ws =
     if bytes_eq name (codes "line") then span_line d ws else
     if bytes_eq name (codes "label") then label_line d ws else
+    if bytes_eq name (codes "trap") then trap_line d ws else
     if bytes_eq name (codes "code") then head_line d ws else
     if bytes_eq name (codes "end") then end_line d ws else
     row_line d name ws
@@ -105,7 +117,7 @@ with_line d line = by_words d (words_of line)
 
 -- the code of a report that is whole; the number of the line that is missing, where it isn't
 abbrev pub whole_at : ℕ → Draft → Result Program ℕ
-whole_at n d = if rank d.part == 4 then Ok (record { bytes = d.bytes; lines = d.lines }) else Err n
+whole_at n d = if rank d.part == 5 then Ok (record { bytes = d.bytes; lines = d.lines }) else Err n
 
 -- what comes of a line that is number n
 abbrev pub or_line : ℕ → Option Draft → (Draft → Result Program ℕ) → Result Program ℕ

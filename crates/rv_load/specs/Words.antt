@@ -12,7 +12,7 @@ use Rattle.rv_base.specs.declared.regs.Reg.{Reg}
 use Rattle.rv_base.specs.declared.regs.Reg.TheVariants.{Real, Virtual}
 use Rattle.rv_listing.specs.Tokens.{◌>>=◌, as_pair, parts_of, natural, starts}
 use Rattle.rv_listing.specs.Registers.{register}
-use Rattle.rv_load.specs.Hex.{bytes_of}
+use Rattle.rv_listing.specs.HexDigits.{hex_bytes}
 use Rattle.rv_load.specs.declared.given.Given.{Given}
 use Rattle.rv_load.specs.declared.settings.Settings.{Settings}
 use Rattle.rv_load.specs.declared.settings.SettingsError.{SettingsError}
@@ -124,7 +124,7 @@ registers_from i old (w ∷ ws) = put_register i old w.now then λ new. register
 
 -- `ADDRESS=HEX`
 abbrev pub data_bytes : List ℕ → Option Bytes
-data_bytes w = as_pair (parts_of 61 w) >>= λ p. natural p.0 >>= λ a. bytes_of p.1 >>= λ bs. Some (record { address = a; bytes = bs })
+data_bytes w = as_pair (parts_of 61 w) >>= λ p. natural p.0 >>= λ a. hex_bytes p.1 >>= λ bs. Some (record { address = a; bytes = bs })
 
 abbrev pub data_from : ℕ → List Bytes → List (Bor (List ℕ)) → Result (List Bytes) BadWord
 data_from i old [] = Ok old

@@ -1,23 +1,10 @@
-//! Hexadecimal digits as bytes.
+//! Hexadecimal digits among blanks.
 
 ghost use Rattle.std.specs.Prelude.{◌≡◌, IfOk, filter};
-ghost use Rattle.rv_load.specs.Hex.{is_mark, Decodes};
+ghost use Rattle.rv_load.specs.Hex.{is_mark};
 
-use hex::FromHexError;
-use rv_base::{List, OutOfMemory};
-use rv_listing::LineError;
+use rv_base::OutOfMemory;
 use std::alloc::Global;
-
-/// The bytes of digits in pairs.
-pub fn bytes_of(alloc: Global, w: &[u8]) -> Result<List<u8>, LineError>
-    ensures { Decodes w.now result }
-{
-    match hex::decode(alloc, w) {
-        Ok(bytes) => Ok(List::from_vec(bytes)),
-        Err(FromHexError::OutOfMemory) => Err(LineError::OutOfMemory),
-        Err(_) => Err(LineError::NotAllowed),
-    }
-}
 
 /// The text without its blanks.
 pub fn marks(alloc: Global, text: &[u8]) -> Result<Vec<u8>, OutOfMemory>

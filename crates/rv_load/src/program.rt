@@ -2,11 +2,11 @@
 
 ghost use Rattle.rv_load.specs.Hex.{ReadsHex};
 
-use crate::digits::{bytes_of, marks};
+use crate::digits::marks;
 pub use crate::report::read_report;
 use rv_base::List;
 use rv_inst::LineSpan;
-use rv_listing::LineError;
+use rv_listing::{LineError, hex_bytes};
 use std::alloc::Global;
 
 /// Machine code, with where the lines of its listing stand in it, in bytes from its start.
@@ -33,7 +33,7 @@ pub fn read_hex(alloc: Global, text: &[u8]) -> Result<Program, ProgramError>
     let Ok(marks) = marks(alloc, text) else {
         return Err(ProgramError::OutOfMemory);
     };
-    match bytes_of(alloc, &marks) {
+    match hex_bytes(alloc, &marks) {
         Ok(bytes) => Ok(Program {
             bytes,
             lines: List::new(alloc),

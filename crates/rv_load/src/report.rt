@@ -6,13 +6,14 @@ ghost use Rattle.hex.specs.Hex.{encode_lower};
 ghost use Rattle.std.specs.Int.{w32, to_be_bytes};
 ghost use Rattle.rv_listing.specs.Tokens.{words_after, words_of, lines_of, decimal};
 ghost use Rattle.rv_listing.specs.Fields.{field, Takes, Makes};
-ghost use Rattle.rv_load.specs.Report.{rank, blank, may_have, is_offset, one, head_line, last_bytes, with_bytes, row_line, three, span_of, span_line, label, two, label_line, end_line, with_line, Turns, ReadsReport};
+ghost use Rattle.rv_load.specs.Report.{rank, blank, may_have, is_offset, one, head_line, last_bytes, with_bytes, row_line, three, span_of, span_line, label, two, label_line, trap_words, trap_line, end_line, with_line, Turns, ReadsReport};
 
-use crate::digits::bytes_of;
 use crate::program::{Program, ProgramError};
-use rv_base::{List, OutOfMemory};
+use rv_base::{List, OutOfMemory, TrapCode};
 use rv_inst::LineSpan;
-use rv_listing::{LineError, decimal, first_word, next_line, next_word, starts, tail};
+use rv_listing::{
+    LineError, decimal, first_word, hex_bytes, next_line, next_word, starts, tail, trap_named,
+};
 use std::alloc::Global;
 
 /// The parts of a report, in their order.
@@ -22,6 +23,7 @@ pub enum Part {
     Bytes,
     Lines,
     Labels,
+    Traps,
     End,
 }
 
@@ -54,7 +56,8 @@ fn rank(part: Part) -> u8
         Part::Bytes => 1,
         Part::Lines => 2,
         Part::Labels => 3,
-        Part::End => 4,
+        Part::Traps => 4,
+        Part::End => 5,
     }
 }
 
@@ -125,7 +128,7 @@ fn last_bytes(alloc: Global, rest: &[u8]) -> Result<List<u8>, LineError>
     let Some((w, rest)) = next_word(rest) else {
         return Err(LineError::NotAllowed);
     };
-    let bytes = bytes_of(alloc, w)?;
+    let bytes = hex_bytes(alloc, w)?;
     match next_word(rest) {
         None => Ok(bytes),
         Some(_) => Err(LineError::NotAllowed),
@@ -246,11 +249,36 @@ fn label_line(draft: &mut Draft, rest: &[u8]) -> Result<(), LineError>
     }
 }
 
+// An offset and a cause, where they are the last words.
+fn trap_words(rest: &[u8]) -> Option<(u64, TrapCode)>
+    ensures { result ≡ trap_words (words_after rest.now) }
+{
+    let (offset, rest) = number(rest)?;
+    let (w, rest) = next_word(rest)?;
+    let code = trap_named(w)?;
+    match next_word(rest) {
+        None => Some((offset, code)),
+        Some(_) => None,
+    }
+}
+
+fn trap_line(draft: &mut Draft, rest: &[u8]) -> Result<(), LineError>
+    ensures { Turns (trap_line draft.old (words_after rest.now)) draft.new result }
+{
+    match trap_words(rest) {
+        Some((offset, _)) if may_have(Part::Traps, draft) && offset <= draft.count => {
+            draft.part = Part::Traps;
+            Ok(())
+        }
+        _ => Err(LineError::NotAllowed),
+    }
+}
+
 fn end_line(draft: &mut Draft, rest: &[u8]) -> Result<(), LineError>
     ensures { Turns (end_line draft.old (words_after rest.now)) draft.new result }
 {
     match last_number(rest) {
-        Some(offset) if may_have(Part::Labels, draft) && offset <= draft.count => {
+        Some(offset) if may_have(Part::Traps, draft) && offset <= draft.count => {
             draft.part = Part::End;
             Ok(())
         }
@@ -267,6 +295,8 @@ fn take_line(alloc: Global, draft: &mut Draft, line: &[u8]) -> Result<(), LineEr
         span_line(draft, rest)
     } else if is(b"label", name) {
         label_line(draft, rest)
+    } else if is(b"trap", name) {
+        trap_line(draft, rest)
     } else if is(b"code", name) {
         head_line(draft, rest)
     } else if is(b"end", name) {
@@ -291,7 +321,7 @@ fn read_lines(alloc: Global, text: &[u8]) -> Result<Program, ProgramError>
         number += 1;
         rest = after;
     }
-    if rank(draft.part) == 4 {
+    if rank(draft.part) == 5 {
         Ok(Program {
             bytes: draft.bytes,
             lines: draft.lines,

@@ -7,10 +7,11 @@ ghost use Rattle.rv_base.specs.Flags.{no_flags};
 ghost use Rattle.rv_listing.specs.Tokens.{parts_of};
 ghost use Rattle.rv_load.specs.Words.{value, number_or, base_of, steps_of, start_of, with_flag, with_flags, flags_of, int_register, named_register, register_value, with_register, put_register, registers_from, or_bad, data_bytes, data_from, settings_of, Reads, Leaves};
 
-use crate::digits::bytes_of;
 use crate::given::Given;
 use rv_base::{IsaFlags, List, OutOfMemory, PReg, Reg, RegClass};
-use rv_listing::{LineError, first_part, natural, next_part, register, starts, tail, two_parts};
+use rv_listing::{
+    LineError, first_part, hex_bytes, natural, next_part, register, starts, tail, two_parts,
+};
 use std::alloc::Global;
 
 /// Where a run begins.
@@ -289,7 +290,7 @@ fn data_bytes(alloc: Global, w: &[u8], word: BadWord) -> Result<Data, SettingsEr
     let Some(address) = natural(address) else {
         return Err(SettingsError::Bad { word });
     };
-    match bytes_of(alloc, digits) {
+    match hex_bytes(alloc, digits) {
         Ok(bytes) => Ok(Data { address, bytes }),
         Err(LineError::NotAllowed) => Err(SettingsError::Bad { word }),
         Err(LineError::OutOfMemory) => Err(SettingsError::OutOfMemory),

@@ -16,7 +16,7 @@ use crate::int::int_result;
 use crate::muldiv::mul_result;
 use crate::ops::{AluOp, BaseOp, LoadOp, MOp, StoreOp};
 use rv_base::{IsaFlags, OutOfMemory};
-use std::alloc::Global;
+use std::alloc::{AllocError, Global};
 use std::collections::BTreeMap;
 use std::marker::Model;
 
@@ -395,11 +395,13 @@ impl IntMachine {
         }
         Ok(addresses)
     }
+}
+
+impl Clone for IntMachine {
+    ghost is_clone = { λ machine clone. clone ≡ machine };
 
     /// A machine in the same state.
-    pub fn copy(&self) -> Result<IntMachine, OutOfMemory>
-        ensures { IfOk result (λ copy. copy ≡ self.now) }
-    {
+    fn clone(&self) -> Result<IntMachine, AllocError> {
         Ok(IntMachine {
             flags: self.flags,
             pc: self.pc,

@@ -1,6 +1,7 @@
 -- Integer operations: their mnemonics, and the fields of their words, as in the manual's chapter "RV32/64G Instruction
 -- Set Listings" and those of Zba, Zbb, Zbs and Zicond.
 use Rattle.std.specs.Prelude.{ℕ, ◌+◌, ◌*◌, ◌%◌, ◌^◌, Bool, true, false, Option, Some, None, List, codes}
+use Rattle.rv_machine.specs.Opcodes.{OP, OP_32, OP_IMM, OP_IMM_32}
 use Rattle.rv_ops.specs.declared.alu.AluOPRRR.{AluOPRRR}
 use Rattle.rv_ops.specs.declared.alu.AluOPRRR.TheVariants as rrr
 use Rattle.rv_ops.specs.declared.alu.AluOPRRI.{AluOPRRI}
@@ -17,14 +18,14 @@ pub record RegisterNumbers : Type 0 where
 
 -- OP and OP-32
 abbrev pub op : ℕ → ℕ → RegisterNumbers
-op funct7 funct3 = record { opcode = 0x33; funct3 = funct3; funct7 = funct7; exchanged = false }
+op funct7 funct3 = record { opcode = OP; funct3 = funct3; funct7 = funct7; exchanged = false }
 
 abbrev pub op32 : ℕ → ℕ → RegisterNumbers
-op32 funct7 funct3 = record { opcode = 0x3b; funct3 = funct3; funct7 = funct7; exchanged = false }
+op32 funct7 funct3 = record { opcode = OP_32; funct3 = funct3; funct7 = funct7; exchanged = false }
 
 -- OP, with the sources exchanged: a pseudo-instruction
 abbrev pub op_exchanged : ℕ → ℕ → RegisterNumbers
-op_exchanged funct7 funct3 = record { opcode = 0x33; funct3 = funct3; funct7 = funct7; exchanged = true }
+op_exchanged funct7 funct3 = record { opcode = OP; funct3 = funct3; funct7 = funct7; exchanged = true }
 
 abbrev pub rrr_numbers : AluOPRRR → RegisterNumbers
 rrr_numbers rrr.Add = op 0x00 0
@@ -162,10 +163,10 @@ pub record ImmediateNumbers : Type 0 where
 
 -- OP-IMM and OP-IMM-32
 abbrev pub op_imm : ℕ → Upper → ImmediateNumbers
-op_imm funct3 number = record { opcode = 0x13; funct3 = funct3; number = number }
+op_imm funct3 number = record { opcode = OP_IMM; funct3 = funct3; number = number }
 
 abbrev pub op_imm32 : ℕ → Upper → ImmediateNumbers
-op_imm32 funct3 number = record { opcode = 0x1b; funct3 = funct3; number = number }
+op_imm32 funct3 number = record { opcode = OP_IMM_32; funct3 = funct3; number = number }
 
 abbrev pub rri_numbers : AluOPRRI → ImmediateNumbers
 rri_numbers rri.Addi = op_imm 0 Number
@@ -197,7 +198,7 @@ rri_numbers rri.Ctzw = op_imm32 1 (Fixed 0x601)
 rri_numbers rri.Rev8 = op_imm 5 (Fixed 0x6b8)
 rri_numbers rri.Sextb = op_imm 1 (Fixed 0x604)
 rri_numbers rri.Sexth = op_imm 1 (Fixed 0x605)
-rri_numbers rri.Zexth = record { opcode = 0x3b; funct3 = 4; number = Fixed 0x080 }
+rri_numbers rri.Zexth = record { opcode = OP_32; funct3 = 4; number = Fixed 0x080 }
 rri_numbers rri.Orcb = op_imm 5 (Fixed 0x287)
 
 abbrev pub funct6_of : Upper → Option ℕ

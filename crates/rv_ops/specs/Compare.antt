@@ -4,6 +4,7 @@ use Rattle.rv_base.specs.declared.condcodes.IntCC.{IntCC}
 use Rattle.rv_base.specs.declared.condcodes.IntCC.TheVariants.{Equal, NotEqual, SignedLessThan, SignedGreaterThanOrEqual, SignedGreaterThan, SignedLessThanOrEqual, UnsignedLessThan, UnsignedGreaterThanOrEqual, UnsignedGreaterThan, UnsignedLessThanOrEqual}
 use Rattle.rv_base.specs.declared.regs.Reg.{Reg}
 use Rattle.rv_base.specs.Regs.{number_of}
+use Rattle.rv_machine.specs.Opcodes.{BRANCH}
 use Rattle.rv_ops.specs.declared.compare.BranchFunct3.{BranchFunct3}
 use Rattle.rv_ops.specs.declared.compare.BranchFunct3.TheVariants as branch
 use Rattle.rv_ops.specs.declared.compare.IntegerCompare.{IntegerCompare}
@@ -50,7 +51,7 @@ rs2_of c = if is_reversed c.kind then c.rs1 else c.rs2
 
 -- the word of the branch with offset 0: a B-type word, of the opcode BRANCH
 abbrev pub branch_word : IntegerCompare → ℕ
-branch_word c = 0x63 + funct3_of (branch_of c.kind) * 2 ^ 12 + number_of (rs1_of c) * 2 ^ 15 + number_of (rs2_of c) * 2 ^ 20
+branch_word c = BRANCH + funct3_of (branch_of c.kind) * 2 ^ 12 + number_of (rs1_of c) * 2 ^ 15 + number_of (rs2_of c) * 2 ^ 20
 
 abbrev pub branch_name : IntCC → List ℕ
 branch_name Equal = codes "beq"

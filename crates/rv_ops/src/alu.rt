@@ -3,6 +3,7 @@
 //! own chapters.
 
 use rv_imms::Imm12;
+use rv_machine::{OP, OP_32, OP_IMM, OP_IMM_32};
 
 /// An operation of two source registers, by its mnemonic. `Sgt` and `Sgtu` are pseudo-instructions.
 #[derive(Clone, Copy, Debug, PartialEq, Eq)]
@@ -225,7 +226,7 @@ impl AluOPRRR {
             | Self::Sh3add
             | Self::Xnor
             | Self::CzeroEqz
-            | Self::CzeroNez => 0b0110011,
+            | Self::CzeroNez => OP,
             Self::Addw
             | Self::Subw
             | Self::Sllw
@@ -241,7 +242,7 @@ impl AluOPRRR {
             | Self::Rorw
             | Self::Sh1adduw
             | Self::Sh2adduw
-            | Self::Sh3adduw => 0b0111011,
+            | Self::Sh3adduw => OP_32,
         }
     }
 
@@ -447,7 +448,7 @@ impl AluOPRRI {
             | Self::Rev8
             | Self::Sextb
             | Self::Sexth
-            | Self::Orcb => 0b0010011,
+            | Self::Orcb => OP_IMM,
             Self::Addiw
             | Self::Slliw
             | Self::SrliW
@@ -456,8 +457,8 @@ impl AluOPRRI {
             | Self::SlliUw
             | Self::Clzw
             | Self::Cpopw
-            | Self::Ctzw => 0b0011011,
-            Self::Zexth => 0b0111011,
+            | Self::Ctzw => OP_IMM_32,
+            Self::Zexth => OP_32,
         }
     }
 

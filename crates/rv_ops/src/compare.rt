@@ -5,6 +5,7 @@ ghost use Rattle.std.specs.Prelude.{◌≡◌, ◌<◌, ◌^◌};
 ghost use Rattle.rv_base.specs.Regs.{number_of};
 
 use rv_base::{IntCC, Reg};
+use rv_machine::BRANCH;
 
 /// The manual's branches: `beq`, `bne`, `blt`, `bge`, `bltu` and `bgeu`.
 #[derive(Clone, Copy, Debug, PartialEq, Eq)]
@@ -60,13 +61,14 @@ impl IntegerCompare {
     ghost use Rattle.std.specs.Prelude.{◌≡◌, [], ◌∷◌, IsSome};
     ghost use Rattle.rv_base.specs.CondCodes.{complement_of};
     ghost use Rattle.rv_base.specs.Regs.{real_of};
+    ghost use Rattle.rv_machine.specs.Opcodes.{BRANCH};
     ghost use Rattle.rv_ops.specs.Compare.{branch_of, is_reversed, branch_name, branch_word};
 
     /// Bits 6 to 0 of the word: BRANCH.
     pub fn op_code(self) -> u32
-        ensures { result ≡ 0x63 }
+        ensures { result ≡ BRANCH }
     {
-        0b1100011
+        BRANCH
     }
 
     /// The manual's branch, and whether its word has the registers exchanged.

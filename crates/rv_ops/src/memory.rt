@@ -2,6 +2,7 @@
 //! Store Instructions").
 
 use rv_base::IrType;
+use rv_machine::{LOAD, STORE};
 
 /// A load, by its mnemonic.
 #[derive(Clone, Copy, Debug, PartialEq, Eq)]
@@ -17,6 +18,7 @@ pub enum LoadOP {
 
 impl LoadOP {
     ghost use Rattle.std.specs.Prelude.{◌≡◌, ◌<◌, ◌^◌, pos, Some, IsSome};
+    ghost use Rattle.rv_machine.specs.Opcodes.{LOAD};
     ghost use Rattle.rv_ops.specs.Memory.{load_of, load_name, load_size, load_funct3};
 
     /// The mnemonic.
@@ -61,9 +63,9 @@ impl LoadOP {
 
     /// Bits 6 to 0 of the word: LOAD.
     pub fn op_code(self) -> u32
-        ensures { result ≡ 0x03 }
+        ensures { result ≡ LOAD }
     {
-        0b0000011
+        LOAD
     }
 
     /// Bits 14 to 12 of the word.
@@ -94,6 +96,7 @@ pub enum StoreOP {
 
 impl StoreOP {
     ghost use Rattle.std.specs.Prelude.{◌≡◌, ◌<◌, ◌^◌, pos, Some, IsSome};
+    ghost use Rattle.rv_machine.specs.Opcodes.{STORE};
     ghost use Rattle.rv_ops.specs.Memory.{store_of, store_name, store_size, store_funct3};
 
     /// The mnemonic.
@@ -135,9 +138,9 @@ impl StoreOP {
 
     /// Bits 6 to 0 of the word: STORE.
     pub fn op_code(self) -> u32
-        ensures { result ≡ 0x23 }
+        ensures { result ≡ STORE }
     {
-        0b0100011
+        STORE
     }
 
     /// Bits 14 to 12 of the word.

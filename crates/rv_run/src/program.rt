@@ -93,7 +93,7 @@ fn run_from<P: Progress>(
         len: program.bytes.len() as u64,
     };
     let mut lines = Vec::new(alloc);
-    let first = machine.copy()?;
+    let first = machine.clone()?;
     let before = registers_of(alloc, &machine)?;
     let (steps, ending) = run_asked(alloc, settings, &mut machine, place, &mut lines, progress)?;
     let after = registers_of(alloc, &machine)?;

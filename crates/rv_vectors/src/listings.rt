@@ -1,5 +1,5 @@
-use rv_base::{List, MachLabel, OutOfMemory, Reg, RegClass};
-use rv_inst::{Code, LabelPlace, LineSpan};
+use rv_base::{List, MachLabel, OutOfMemory, Reg, RegClass, TrapCode};
+use rv_inst::{Code, LabelPlace, LineSpan, MachTrap};
 use rv_listing::{ReadError, read_job, register, report};
 use std::alloc::Global;
 use std::process::Abort;
@@ -221,14 +221,28 @@ fn reports(rt: HostRuntime) -> Result<(), OutOfMemory> {
             offset: 4,
         }],
     )?;
+    let traps = Vec::from_slice(
+        alloc,
+        &[
+            MachTrap {
+                offset: 8,
+                code: TrapCode::HEAP_OUT_OF_BOUNDS,
+            },
+            MachTrap {
+                offset: 12,
+                code: TrapCode::user(250).unwrap_or(TrapCode::STACK_OVERFLOW),
+            },
+        ],
+    )?;
     let code = Code {
         bytes: List::from_vec(bytes),
         lines: List::from_vec(lines),
         labels: List::from_vec(labels),
+        traps: List::from_vec(traps),
         end: 16,
     };
     let wanted =
-        "code 18\n00000000 1305f5ffe31e05fe6780000001020304\n00000010 05ab\nline 0 0 0\nline 1 0 12\nlabel L7 4\nend 16\n";
+        "code 18\n00000000 1305f5ffe31e05fe6780000001020304\n00000010 05ab\nline 0 0 0\nline 1 0 12\nlabel L7 4\ntrap 8 heap_oob\ntrap 12 user250\nend 16\n";
     let text = report(alloc, &code)?;
     assert_eq!(rt; text.as_slice(), wanted.as_bytes());
     Ok(())

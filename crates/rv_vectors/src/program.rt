@@ -18,7 +18,7 @@ struct Call {
     text: &'static str,
 }
 
-const CALLS: [Call; 19] = [
+const CALLS: [Call; 26] = [
     Call {
         listing: "",
         status: 0,
@@ -114,6 +114,42 @@ const CALLS: [Call; 19] = [
         listing: "EmitIsland 1073741697\n",
         status: 4,
         text: "rvemit: TooLarge\n",
+    },
+    Call {
+        listing: "LoadInlineConst a0 i64 0x123456789abcdef0",
+        status: 0,
+        text: "code 20\n00000000 170500000335c5006f00c000f0debc9a\n00000010 78563412\nline 0 0 20\nend 20\n",
+    },
+    Call {
+        listing: "Udf heap_oob",
+        status: 0,
+        text: "code 4\n00000000 00000000\nline 0 0 4\ntrap 0 heap_oob\nend 4\n",
+    },
+    // The answer of a harness with the Rust's own emission code.
+    Call {
+        listing: "Popcnt a0 a1 a2 a3 i64\nPopcnt a0 a1 a2 a3 i8\nTrapIf eq a0 a1 heap_oob\nUdf heap_oob\nRawData 01020304\nLoadInlineConst a0 i64 0x123456789abcdef0\nLoadInlineConst a0 i32 5\nRet\n",
+        status: 0,
+        text: "code 144\n00000000 1305000013060004930510009395f503\n00000010 635ec00033ffd5006304e00113051500\n00000020 1306f6ff93d515006ff09ffe13050000\n00000030 130680009305100093957500635ec000\n00000040 33ffd5006304e001130515001306f6ff\n00000050 93d515006ff09ffe6314b50000000000\n00000060 0000000001020304170500000335c500\n00000070 6f00c000f0debc9a7856341217050000\n00000080 0325c5006f0080000500000067800000\nline 0 0 44\nline 1 44 88\nline 2 88 96\nline 3 96 100\nline 4 100 104\nline 5 104 124\nline 6 124 140\nline 7 140 144\ntrap 92 heap_oob\ntrap 96 heap_oob\nend 144\n",
+    },
+    Call {
+        listing: "Popcnt a0 a1 a2 a2 i64\nBind L0\nBind L0\n",
+        status: 4,
+        text: "rvemit: Malformed 0 Clash\n",
+    },
+    Call {
+        listing: "Popcnt a0 a1 a2 a3 f32",
+        status: 4,
+        text: "rvemit: Malformed 0 BadType\n",
+    },
+    Call {
+        listing: "LoadInlineConst zero i64 1",
+        status: 4,
+        text: "rvemit: Malformed 0 Zero\n",
+    },
+    Call {
+        listing: "RawData 00",
+        status: 4,
+        text: "rvemit: Malformed 0 DataSize\n",
     },
 ];
 

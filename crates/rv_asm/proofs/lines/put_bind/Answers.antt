@@ -18,6 +18,7 @@ returns-clause-put c =
       bytes = ap (λ x. x.bytes) s;
       uses = ap (λ x. x.uses) s;
       allocated = ap (λ x. x.allocated) s;
+      traps = ap (λ x. x.traps) s;
       fewer = b.fewer;
       sound = b.sound;
       start = here;

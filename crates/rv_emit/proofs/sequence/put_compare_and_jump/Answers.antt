@@ -1,9 +1,11 @@
-use Rattle.std.proofs.Common.{arith, refl}
-use Rattle.rv_emit.proofs.Words.{puts_both, branch_word_is, four_longer}
+use Rattle.std.proofs.Common.{◌≡◌, ◌+◌, length, arith}
+use Rattle.mach_buffer.specs.Buffer.{bytes_of}
+use Rattle.rv_inst.specs.declared.label_use.LabelUse.TheVariants.{B12}
+use Rattle.rv_emit.proofs.SlotsPut.{branch_and_jump, word_longer}
 use Rattle.rv_emit.proofs.sequence.put_compare_and_jump.Goals as goal
 
 pub put_jump-requires-clause-room : goal.put_jump-requires-clause-room
-put_jump-requires-clause-room c = let l = four_longer _ _ _ _ c.in_ok-put_compare.ensures.word in let r = c.requires.room in omega arith
+put_jump-requires-clause-room c = let l : length (bytes_of c.put_compare.new.sink) ≡ length (bytes_of c.args.sink.now) + 4 = word_longer c.args.sink.now c.put_compare.new.sink _ c.args.taken B12 c.in_ok-put_compare.ensures.word in let r = c.requires.room in omega arith
 
-pub returns-clause-block : goal.returns-clause-block
-returns-clause-block c = puts_both _ _ _ c.args.kind _ c.args.taken c.args.not_taken (branch_word_is c.args.kind _ refl) c.in_ok-put_compare.ensures.word c.in_ok-put_jump.ensures.word
+pub returns-clause-slots : goal.returns-clause-slots
+returns-clause-slots c = branch_and_jump c.args.kind c.args.taken c.args.not_taken _ _ _ c.in_ok-put_compare.ensures.slot c.in_ok-put_jump.ensures.slot

@@ -1,5 +1,5 @@
-use Rattle.rv_emit.proofs.Words.{puts_jump}
+use Rattle.rv_emit.proofs.SlotsPut.{jump_put_at}
 use Rattle.rv_emit.proofs.sequence.put_jump.Goals as goal
 
-pub returns-clause-block : goal.returns-clause-block
-returns-clause-block c = puts_jump _ _ c.args.label (rw c.jump_word.ensures at c.in_ok-put_use.ensures.added)
+pub returns-clause-slot : goal.returns-clause-slot
+returns-clause-slot c = jump_put_at _ _ _ c.args.label c.jump_word.ensures c.in_ok-put_use.ensures.added c.in_ok-put_use.ensures.sound

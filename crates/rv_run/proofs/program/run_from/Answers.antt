@@ -23,6 +23,6 @@ returns g c =
       unwritten = unwritten settings.flags c.in_ok-steps.steps c.args.machine.state last.state ran.steps;
       before = c.in_ok-before.ensures.values;
       after = c.in_ok-after.ensures.values;
-      memory = c.from_vec.ensures ∙ c.in_ok-memory.ensures ∙ ap (λ (m : Machine). memory_lines m.state.values.mem last.state.values.mem) c.in_ok-first.ensures;
+      memory = c.from_vec.ensures ∙ c.in_ok-memory.ensures ∙ ap (λ (m : Machine). memory_lines m.state.values.mem last.state.values.mem) c.in_ok-first.ensures.cases;
       trace = c.from_vec-2.ensures ∙ c.in_ok-steps.ensures.lines;
     }

@@ -1,9 +1,9 @@
-use Rattle.std.proofs.Common.{◌≡◌, ◌∙◌, ap, subst, sym, List}
+use Rattle.std.proofs.Common.{◌∙◌, ap, subst, sym, List}
 use Rattle.mach_buffer.specs.declared.uses.Use.{Use}
 use Rattle.mach_buffer.specs.Places.{place_in}
 use Rattle.mach_buffer.specs.Queues.{AreKept}
 use Rattle.mach_buffer.specs.Shape.{Shape}
-use Rattle.mach_buffer.specs.Buffer.{AreSound, shape_of}
+use Rattle.mach_buffer.specs.Buffer.{AreSound}
 use Rattle.mach_buffer.proofs.Sound.{sound_bytes, sound_kept}
 use Rattle.mach_buffer.proofs.buffer.MachBuffer.add_bytes.Goals as goal
 
@@ -24,4 +24,4 @@ returns-clause-sound g c =
     let same = c.deref.ensures.value ∙ ap (λ v. v.items) e.uses in
     let kept = subst (λ (us : List (Use g.row.L.Denot)). AreKept K.kinds (place_in old.labels) us c.tidy.new.self) same c.in_ok-tidy.ensures in
     let Sound : Shape g.row.L.Denot → Type 0 = λ s. AreSound K.kinds s c.tidy.new.self in
-    subst Sound (λ i. record { bytes = sym e.bytes i; uses = (sym e.uses i).items; place = place_in old.labels; labels = old.labels.bound.items; allocated = old.labels.allocated }) (sound_bytes (sound_kept c.requires.sound c.tidy.new.self kept) c.args.bytes.now c.requires.even)
+    subst Sound (λ i. record { bytes = sym e.bytes i; uses = (sym e.uses i).items; place = place_in old.labels; labels = old.labels.bound.items; allocated = old.labels.allocated; traps = old.traps.items }) (sound_bytes (sound_kept c.requires.sound c.tidy.new.self kept) c.args.bytes.now c.requires.even)

@@ -1,9 +1,9 @@
-use Rattle.std.proofs.Common.{◌≡◌, ◌∙◌, ◌++◌, ◌∷◌, [], ap, subst, sym, List}
+use Rattle.std.proofs.Common.{◌++◌, ◌∷◌, [], subst, sym, List}
 use Rattle.mach_buffer.specs.declared.uses.Use.{Use}
 use Rattle.mach_buffer.specs.Places.{place_in}
 use Rattle.mach_buffer.specs.Queues.{AreKept}
 use Rattle.mach_buffer.specs.Shape.{Shape}
-use Rattle.mach_buffer.specs.Buffer.{AreSound, shape_of}
+use Rattle.mach_buffer.specs.Buffer.{AreSound}
 use Rattle.mach_buffer.proofs.Sound.{sound_use}
 use Rattle.mach_buffer.proofs.buffer.MachBuffer.add_use.Goals as goal
 
@@ -14,4 +14,4 @@ returns-clause-sound g c =
     let e = c.in_ok-record_use.ensures in
     let kept = subst (λ (us : List (Use g.row.L.Denot)). AreKept K.kinds (place_in old.labels) (us ++ c.args.u ∷ []) c.push.new.self) c.deref.ensures.value c.in_ok-push.ensures in
     let Sound : Shape g.row.L.Denot → Type 0 = λ s. AreSound K.kinds s c.push.new.self in
-    subst Sound (λ i. record { bytes = (sym e.bytes i).items; uses = sym e.uses i; place = place_in old.labels; labels = old.labels.bound.items; allocated = old.labels.allocated }) (sound_use c.requires.sound c.args.u c.requires.bare c.requires.there c.requires.known c.push.new.self kept)
+    subst Sound (λ i. record { bytes = (sym e.bytes i).items; uses = sym e.uses i; place = place_in old.labels; labels = old.labels.bound.items; allocated = old.labels.allocated; traps = old.traps.items }) (sound_use c.requires.sound c.args.u c.requires.bare c.requires.there c.requires.known c.push.new.self kept)

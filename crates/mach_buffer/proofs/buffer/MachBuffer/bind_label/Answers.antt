@@ -1,4 +1,4 @@
-use Rattle.std.proofs.Common.{◌≡◌, ◌≤◌, subst, sym}
+use Rattle.std.proofs.Common.{◌≡◌, ◌≤◌, ◌∙◌, subst, sym}
 use Rattle.mach_buffer.specs.Shape.{Shape, with_label}
 use Rattle.mach_buffer.specs.Reach.{due_by}
 use Rattle.mach_buffer.specs.Finish.{pending_in}
@@ -6,19 +6,15 @@ use Rattle.mach_buffer.specs.Buffer.{AreSound, shape_of}
 use Rattle.mach_buffer.proofs.Sound.{sound_label, label_fewer, not_refused}
 use Rattle.mach_buffer.proofs.buffer.MachBuffer.bind_label.Goals as goal
 
-pub returns-clause-fewer : goal.returns-clause-fewer
-returns-clause-fewer g c =
+pub returns : goal.returns
+returns g c =
     let K = g.L.MachInstLabelUse in
     let old = shape_of c.args.self.now in
     let ok = c.in_ok-check.ensures.ok in
     let shape : shape_of c.place_label.new.self ≡ with_label c.args.label old = not_refused c.place_label.result _ c.if-is_err.ensures.value c.place_label.ensures.shape in
-    λ end. subst (λ (s : Shape g.row.L.Denot). due_by end (pending_in K.kinds s) ≤ due_by end (pending_in K.kinds old)) (sym shape) (label_fewer (c.requires.sound ok) c.args.label (c.requires.unbound ok) end)
-
-pub returns-clause-sound : goal.returns-clause-sound
-returns-clause-sound g c =
-    let K = g.L.MachInstLabelUse in
-    let old = shape_of c.args.self.now in
-    let ok = c.in_ok-check.ensures.ok in
-    let shape : shape_of c.place_label.new.self ≡ with_label c.args.label old = not_refused c.place_label.result _ c.if-is_err.ensures.value c.place_label.ensures.shape in
-    subst (λ p. AreSound K.kinds (shape_of c.place_label.new.self) p) (sym c.place_label.ensures.pending)
-    (subst (λ (s : Shape g.row.L.Denot). AreSound K.kinds s c.args.self.now.pending) (sym shape) (sound_label (c.requires.sound ok) c.args.label (c.requires.known ok) (c.requires.unbound ok)))
+    record {
+      bound = (ok, c.place_label.ensures.spoiled ∙ ok, shape);
+      fewer = λ end. subst (λ (s : Shape g.row.L.Denot). due_by end (pending_in K.kinds s) ≤ due_by end (pending_in K.kinds old)) (sym shape) (label_fewer (c.requires.sound ok) c.args.label (c.requires.unbound ok) end);
+      sound = subst (λ p. AreSound K.kinds (shape_of c.place_label.new.self) p) (sym c.place_label.ensures.pending)
+          (subst (λ (s : Shape g.row.L.Denot). AreSound K.kinds s c.args.self.now.pending) (sym shape) (sound_label (c.requires.sound ok) c.args.label (c.requires.known ok) (c.requires.unbound ok)));
+    }

@@ -1,8 +1,8 @@
-use Rattle.std.proofs.Common.{◌≡◌, ◌∙◌, ap, sym, subst, length, ℕ, List, Option}
+use Rattle.std.proofs.Common.{◌≡◌, ◌∙◌, ap, sym, subst, length, ℕ, Option}
 use Rattle.std.proofs.lemmas.List.{take_at}
-use Rattle.mach_buffer.specs.declared.uses.Use.{Use}
 use Rattle.mach_buffer.specs.Shape.{Shape}
 use Rattle.mach_buffer.specs.Windows.{CanPatchAll, AllAim, AllKept, KeepsOthers, patches_of}
+use Rattle.mach_buffer.specs.Growth.{Grows}
 use Rattle.mach_buffer.specs.Finish.{Finishes}
 use Rattle.mach_buffer.specs.Buffer.{shape_of, bytes_of, uses_of, place_of}
 use Rattle.mach_buffer.proofs.Arrivals.{can_patch_all, all_arrive}
@@ -23,11 +23,14 @@ patch_all-requires g c =
     let K = g.L.MachInstLabelUse in
     let d = done g (goal.at.patch_all-requires g c).In_ok-put_last in
     let now = c.put_last.new.self in
-    let uses = ap (patches_of (place_of now)) c.deref.ensures.value ∙ ap (λ (p : ℕ → Option ℕ). patches_of p (uses_of now)) d.place in
+    let uses = ap (patches_of (place_of now)) c.deref.ensures.value ∙ ap (λ (p : ℕ → Option ℕ). patches_of p (uses_of now)) d.rest.place in
     subst (λ s. CanPatchAll K.kinds s (patches_of (place_of now) c.deref.result.now)) (sym c.deref_mut.ensures.value) (subst (CanPatchAll K.kinds (bytes_of now)) (sym uses) (can_patch_all d.end))
 
 pub returns-clause-labels : goal.returns-clause-labels
-returns-clause-labels g c = c.from_vec-2.ensures ∙ (done g (goal.at.returns-clause-labels g c).In_ok-put_last).labels
+returns-clause-labels g c = c.from_vec-2.ensures ∙ (done g (goal.at.returns-clause-labels g c).In_ok-put_last).rest.labels
+
+pub returns-clause-traps : goal.returns-clause-traps
+returns-clause-traps g c = c.from_vec-3.ensures ∙ (done g (goal.at.returns-clause-traps g c).In_ok-put_last).rest.traps
 
 pub returns-clause-code : goal.returns-clause-code
 returns-clause-code g c =
@@ -38,7 +41,7 @@ returns-clause-code g c =
     let now = c.put_last.new.self in
     let q = c.patch_all.ensures in
     let final = c.patch_all.new.bytes in
-    let uses = ap (patches_of (place_of now)) c.deref.ensures.value ∙ ap (λ (p : ℕ → Option ℕ). patches_of p (uses_of now)) d.place in
+    let uses = ap (patches_of (place_of now)) c.deref.ensures.value ∙ ap (λ (p : ℕ → Option ℕ). patches_of p (uses_of now)) d.rest.place in
     let same_length : length final ≡ length (bytes_of now) = q.same_length ∙ ap (length {A = ℕ}) c.deref_mut.ensures.value in
     let aim = subst (AllAim K.kinds final) uses q.aims in
     let kept = subst (λ b. AllKept K.kinds b final (patches_of s.place (uses_of now))) c.deref_mut.ensures.value (subst (AllKept K.kinds c.deref_mut.result.now final) uses q.kept) in
@@ -50,7 +53,7 @@ returns-clause-code g c =
       put = shape_of now;
       whole = e.whole;
       long = d.long;
-      grows = last_grows d;
+      grows = subst (λ (x : Shape g.row.L.Denot). Grows s.bytes s.uses s.place x.bytes x.uses s.place) (sym e.whole) (last_grows K.kinds e.order s);
       same_length = same_length;
       arrive = all_arrive g.met.L.MachInstLabelUse.veneer_ok d.end final same_length aim kept others;
       kept = kept;

@@ -1,6 +1,6 @@
-use Rattle.std.proofs.Common.{◌≡◌, ◌∙◌, ap, subst, sym}
-use Rattle.mach_buffer.specs.Shape.{Shape, with_allocated}
-use Rattle.mach_buffer.specs.Buffer.{AreSound, shape_of}
+use Rattle.std.proofs.Common.{◌∙◌, ap, subst, sym}
+use Rattle.mach_buffer.specs.Shape.{Shape}
+use Rattle.mach_buffer.specs.Buffer.{AreSound}
 use Rattle.mach_buffer.proofs.Sound.{sound_allocated, unbound_next, unnamed_next}
 use Rattle.mach_buffer.proofs.buffer.MachBuffer.get_label.Goals as goal
 
@@ -16,4 +16,4 @@ returns-clause-sound g c =
     let e = c.allocate-label.ensures in
     let old = c.args.self.now in
     let Sound : Shape g.row.L.Denot → Type 0 = λ s. AreSound K.kinds s old.pending in
-    subst Sound (λ i. record { bytes = old.code.bytes.items; uses = old.code.uses.items; place = sym e.places i; labels = (sym e.bound i).items; allocated = sym e.allocated i }) (sound_allocated (c.requires.sound c.in_ok-check.ensures.ok))
+    subst Sound (λ i. record { bytes = old.code.bytes.items; uses = old.code.uses.items; place = sym e.places i; labels = (sym e.bound i).items; allocated = sym e.allocated i; traps = old.traps.items }) (sound_allocated (c.requires.sound c.in_ok-check.ensures.ok))

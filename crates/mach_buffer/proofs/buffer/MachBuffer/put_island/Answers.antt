@@ -1,4 +1,5 @@
-use Rattle.std.proofs.Common.{rules, ◌≡◌, ◌+◌, ◌-◌, ◌<◌, ◌%◌, ◌∙◌, ap, sym, refl, subst, map, length, arith, List, [], ℕ, Some}
+use Rattle.std.proofs.Common.{rules, ◌≡◌, ◌+◌, ◌-◌, ◌<◌, ◌%◌, ◌∙◌, ap, sym, subst, map, length, arith, List, [], Some}
+use Rattle.rv_base.specs.LabelUse.{code_limit}
 use Rattle.mach_buffer.specs.declared.uses.PendingKey.{PendingKey}
 use Rattle.mach_buffer.specs.Shape.{Shape, with_label}
 use Rattle.mach_buffer.specs.Reach.{is_other, deadline}
@@ -30,7 +31,7 @@ going g c = island_going c.needs_own-needed.result c.requires.sound c.requires.r
 pub put_own-requires-clause-room : goal.put_own-requires-clause-room
 put_own-requires-clause-room g c =
     let d = (goal.at.put_own-requires-clause-room g c).After-needs_own-needed in
-    λ e. subst (λ (x : Shape g.row.L.Denot). length x.bytes + 8 < 2147479552) (sym c.in_ok-pad.ensures.shape) (own_room c.needs_own-needed.result _ (map key_number c.in_ok-order.order.items) (going g d) e)
+    λ e. subst (λ (x : Shape g.row.L.Denot). length x.bytes + 8 < code_limit) (sym c.in_ok-pad.ensures.shape) (own_room c.needs_own-needed.result _ (map key_number c.in_ok-order.order.items) (going g d) e)
 
 pub put_own-requires-clause-even : goal.put_own-requires-clause-even
 put_own-requires-clause-even g c =
@@ -85,17 +86,8 @@ done g c o e own =
     (subst (λ (x : Shape g.row.L.Denot). IslandDone K.kinds c.args.after_island s x c.clear.new.self) (sym whole)
     (island_done g.met.L.MachInstLabelUse.veneer_ok s c.args.self.now.pending c.clear.new.self c.args.after_island order c.needs_own-needed.result c.requires.sound c.requires.ready o e c.clear.ensures.near c.clear.ensures.far))
 
-pub returns-clause-island : goal.returns-clause-island
-returns-clause-island g c = let d = goal.at.returns-clause-island g c in (done g d.In_ok-place_label (in_order g d.After-needs_own-needed) (needed g d.After-needs_own-needed) (after_own g d.In_ok-put_own)).island
-
-pub returns-clause-grows : goal.returns-clause-grows
-returns-clause-grows g c = let d = goal.at.returns-clause-grows g c in (done g d.In_ok-place_label (in_order g d.After-needs_own-needed) (needed g d.After-needs_own-needed) (after_own g d.In_ok-put_own)).grows
-
-pub returns-clause-own : goal.returns-clause-own
-returns-clause-own g c = let d = goal.at.returns-clause-own g c in (done g d.In_ok-place_label (in_order g d.After-needs_own-needed) (needed g d.After-needs_own-needed) (after_own g d.In_ok-put_own)).own
-
-pub returns-clause-windows : goal.returns-clause-windows
-returns-clause-windows g c = let d = goal.at.returns-clause-windows g c in (done g d.In_ok-place_label (in_order g d.After-needs_own-needed) (needed g d.After-needs_own-needed) (after_own g d.In_ok-put_own)).windows
-
-pub returns-clause-sound : goal.returns-clause-sound
-returns-clause-sound g c = let d = goal.at.returns-clause-sound g c in (done g d.In_ok-place_label (in_order g d.After-needs_own-needed) (needed g d.After-needs_own-needed) (after_own g d.In_ok-put_own)).sound
+pub returns : goal.returns
+returns g c =
+    let d = goal.at.returns g c in
+    let x = done g d.In_ok-place_label (in_order g d.After-needs_own-needed) (needed g d.After-needs_own-needed) (after_own g d.In_ok-put_own) in
+    record { island = x.island; grows = x.grows; own = x.own; windows = x.windows; sound = x.sound; spoiled = search rules }

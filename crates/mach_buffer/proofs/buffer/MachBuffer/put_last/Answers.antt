@@ -1,7 +1,6 @@
-use Rattle.std.proofs.Common.{rules, ◌≡◌, ◌+◌, ◌*◌, ◌<◌, ◌%◌, ◌∙◌, ap, sym, subst, map, length, arith, List, ℕ, None}
+use Rattle.std.proofs.Common.{rules, ◌≡◌, ◌∙◌, ap, sym, subst, map, length, arith, List, ℕ, None}
 use Rattle.mach_buffer.specs.declared.uses.PendingKey.{PendingKey}
 use Rattle.mach_buffer.specs.declared.uses.Use.{Use}
-use Rattle.mach_buffer.specs.Shape.{Shape}
 use Rattle.mach_buffer.specs.Reach.{is_other, is_pending}
 use Rattle.mach_buffer.specs.Veneers.{put_all, IsOrder}
 use Rattle.mach_buffer.specs.Finish.{padded_for}

@@ -1,4 +1,4 @@
-use Rattle.std.proofs.Common.{◌≡◌, ◌+◌, ◌∷◌, ◌∙◌, ap, sym, refl, drop, map, arith, List, ℕ}
+use Rattle.std.proofs.Common.{◌∙◌, refl, arith}
 use Rattle.mach_buffer.specs.Queues.{key_number}
 use Rattle.mach_buffer.specs.Buffer.{shape_of}
 use Rattle.mach_buffer.proofs.Lists.{drop_mapped, length_map}

@@ -1,6 +1,6 @@
-use Rattle.std.proofs.Common.{◌≡◌, ◌+◌, ◌*◌, ◌-◌, ◌<◌, ◌%◌, drop, map, length}
+use Rattle.std.proofs.Common.{◌≡◌, drop, map}
 use Rattle.mach_buffer.specs.Queues.{key_number}
-use Rattle.mach_buffer.specs.Buffer.{shape_of, bytes_of, uses_of, spoiled_of}
+use Rattle.mach_buffer.specs.Buffer.{shape_of, spoiled_of}
 use Rattle.mach_buffer.proofs.VeneerLoop.{Going}
 use Rattle.mach_buffer.proofs.buffer.MachBuffer.put_veneers.Given as goal
 

@@ -1,4 +1,4 @@
-use Rattle.std.proofs.Common.{ap, ◌∙◌, ◌≡◌, ◌+◌}
+use Rattle.std.proofs.Common.{◌∙◌, ◌+◌}
 use Rattle.mach_buffer.proofs.Needed.{pending_counted}
 use Rattle.mach_buffer.proofs.pending.Pending.count.Goals as goal
 

@@ -1,4 +1,3 @@
-use Rattle.std.proofs.Common.{ℕ}
 use Rattle.mach_buffer.specs.Places.{place_in}
 use Rattle.mach_buffer.specs.Reach.{is_pending, deadlines}
 use Rattle.mach_buffer.proofs.Needed.{IsBound}

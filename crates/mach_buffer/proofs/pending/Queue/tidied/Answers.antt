@@ -1,8 +1,9 @@
-use Rattle.std.proofs.Common.{◌≡◌, ◌+◌, ◌∷◌, ◌∙◌, ap, sym, subst, drop, length, arith, get_or, List, ℕ}
+use Rattle.std.proofs.Common.{◌+◌, ◌∙◌, ap, sym, subst, drop, length, arith, get_or, ℕ}
+use Rattle.std.proofs.Math.ListN.{drop_of_length-le}
 use Rattle.mach_buffer.specs.Places.{place_in}
 use Rattle.mach_buffer.specs.Queues.{is_queued, slack_after}
 use Rattle.mach_buffer.proofs.QueueContents.{Tidying, tidy_skip, tidy_take, tidy_end}
-use Rattle.mach_buffer.proofs.Lists.{drop_here, drop_none}
+use Rattle.mach_buffer.proofs.Lists.{drop_split}
 use Rattle.mach_buffer.specs.declared.pending.Queue.{Queue}
 use Rattle.mach_buffer.proofs.pending.Queue.tidied.Goals.{in-Some+in_ok-push-in-Some, in-None}
 use Rattle.mach_buffer.proofs.pending.Queue.tidied.Goals as goal
@@ -14,8 +15,7 @@ loop-number-preserved g c =
     let items = c.deref-number-items.result.now in
     let i = c.loop-number.number-index in
     let left = drop (i + 1) all in
-    let same : items ≡ all = c.deref-number-items.ensures.value in
-    let split : drop i all ≡ get_or items i 0 ∷ left = ap (drop i) (sym same) ∙ drop_here items i c.loop-number-test.true ∙ ap (λ (ns : List ℕ). get_or items i 0 ∷ drop (i + 1) ns) same in
+    let split = drop_split items all i c.deref-number-items.ensures.value c.loop-number-test.true in
     let Kept : Queue → Type 0 = λ q. Tidying K.kinds (is_queued K.kinds (place_in c.args.labels.now) c.args.near) c.args.uses.now q.numbers.items q.slack all left in
     elim c.match-queued_use.branch [
       | in-Some+in_ok-push-in-Some w ↦ subst Kept (sym w.queue-is) (tidy_take (get_or items i 0) left (drop i all) w.in-Some.u _ _ split (sym w.in-Some.ensures) w.in_ok-push-in-Some.ensures.numbers (w.in_ok-push-in-Some.ensures.slack ∙ ap (λ (d : ℕ). slack_after c.loop-number.queue.slack d (length c.loop-number.queue.numbers.items + 1)) w.deadline.ensures.value) c.loop-number.invariant)
@@ -25,4 +25,4 @@ loop-number-preserved g c =
 pub returns : goal.returns
 returns g c =
     let all = c.args.self.now.numbers.items in
-    tidy_end c.args.self.now.slack (drop c.loop-number.number-index all) (drop_none all c.loop-number.number-index (omega (arith, c.loop-number-test.false, c.deref-number-items.ensures.len, ap (length {A = ℕ}) c.deref-number-items.ensures.value))) c.requires c.loop-number.invariant
+    tidy_end c.args.self.now.slack (drop c.loop-number.number-index all) (drop_of_length-le all {i = c.loop-number.number-index} (omega (arith, c.loop-number-test.false, c.deref-number-items.ensures.len, ap (length {A = ℕ}) c.deref-number-items.ensures.value))) c.requires c.loop-number.invariant

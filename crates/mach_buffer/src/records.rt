@@ -1,0 +1,10 @@
+//! What is recorded at offsets, beside uses of labels.
+
+use rv_base::TrapCode;
+
+/// An instruction that may trap, by its offset in bytes from the code's start, and the cause.
+#[derive(Clone, Copy, Debug, PartialEq, Eq)]
+pub struct MachTrap {
+    pub offset: u32,
+    pub code: TrapCode,
+}

@@ -1,0 +1,67 @@
+-- What a line appends to the buffer, whatever the context it is read in.
+use Rattle.std.proofs.Common.{◌≡◌, ℕ, Bool, length, Option, Some, None, refl, ap, sym, ◌∙◌, subst, ⊎_elim}
+use Rattle.std.proofs.lemmas.List.{length-append}
+use Rattle.rv_inst.specs.Context.{Context}
+use Rattle.rv_inst.specs.declared.code.LineSpan.{LineSpan}
+use Rattle.rv_inst.specs.declared.inst.Inst.{Inst}
+use Rattle.rv_inst.specs.declared.inst.Inst.TheVariants.{EmitIsland}
+use Rattle.rv_inst.specs.declared.inst.Line.{Line}
+use Rattle.rv_inst.specs.declared.inst.Line.TheVariants.{Inst as Put, Bind}
+use Rattle.rv_inst.specs.Rules.{inst_rule, broken_rule}
+use Rattle.rv_inst.specs.Sizes.{extent_of, island_space, line_space}
+use Rattle.mach_buffer.specs.Buffer.{bytes_of}
+use Rattle.mach_buffer.specs.Reach.{CanReach}
+use Rattle.rv_emit.specs.declared.state.EmitVState.{EmitVState}
+use Rattle.rv_emit.specs.Emission.{EmitsIn}
+use Rattle.rv_emit.specs.Emitted.{Buffer, IsSoundBuffer, pending, AppendsInst, IslandIfNeeded, IsBounded}
+use Rattle.rv_emit.specs.State.{setting_beyond}
+use Rattle.rv_emit.proofs.Laws.{appends_inst}
+use Rattle.rv_asm.specs.LinesInBuffer.{IsLong, BindPut, LinePut}
+
+-- an instruction's bytes and uses were put at the end; or an island, where the instruction asks for one and one is needed
+abbrev AppendsBy : Option ℕ → Inst → Buffer → Buffer → Type 0
+AppendsBy (Some space) inst old new = (made : Bool) × IslandIfNeeded space old new made
+AppendsBy None inst old new = AppendsInst inst old new
+
+abbrev pub Appends : Inst → Buffer → Buffer → Type 0
+Appends inst old new = AppendsBy (island_space inst) inst old new
+
+room_sound : (distance : ℕ) (old new : Buffer) (made : Bool) → IslandIfNeeded distance old new made → IsSoundBuffer old → IsSoundBuffer new
+room_sound distance old new made m sound = ⊎_elim (λ same. subst (λ (b : Buffer). IsSoundBuffer b) (sym same.1) sound) (λ put. put.1.sound) m.put
+
+pub appends : (context : Context) (setting : EmitVState) (inst : Inst) (old new : Buffer) → inst_rule inst ≡ None → IsSoundBuffer old → EmitsIn context setting inst old new → Appends inst old new
+appends context setting (EmitIsland space) old new rule sound (mid, made, room, same) = (made, subst (λ b. IslandIfNeeded space old b made) (sym same) room)
+appends context setting inst old new rule sound e = appends_inst context setting inst old new rule sound refl e
+
+-- words of an instruction are as long as they must be
+pub appended_long : (inst : Inst) (old new : Buffer) → Appends inst old new → IsLong (extent_of inst) (length (bytes_of old)) (length (bytes_of new))
+appended_long (EmitIsland space) old new e = tt
+appended_long inst old new e = subst (λ x. IsLong x (length (bytes_of old)) (length (bytes_of new))) (sym e.long) (ap (length {A = ℕ}) e.adds.bytes ∙ length-append (bytes_of old) e.block)
+
+-- an instruction, after an island where one was needed
+pub record InstAppends (inst : Inst) (old new : Buffer) (span : LineSpan) : Type 0 where
+  pub mid : Buffer
+  pub made : Bool
+  pub room : IslandIfNeeded line_space old mid made
+  pub emitted : Appends inst mid new
+  pub bounds : IsBounded inst mid new
+  pub reach : CanReach (length (bytes_of new)) (pending new)
+  pub start : span.start ≡ length (bytes_of mid)
+  pub end : span.end ≡ length (bytes_of new)
+
+abbrev pub LineAppends : Line → Buffer → Buffer → LineSpan → Type 0
+LineAppends (Put inst) old new span = InstAppends inst old new span
+LineAppends (Bind label) old new span = BindPut label old new span
+
+pub line_appends : (context : Context) (setting : EmitVState) (line : Line) (old new : Buffer) (span : LineSpan) → broken_rule line ≡ None → IsSoundBuffer old → LinePut context setting line old new span → LineAppends line old new span
+line_appends context setting (Put inst) old new span rule sound p = record {
+  mid = p.mid;
+  made = p.made;
+  room = p.room;
+  emitted = appends context (setting_beyond p.made setting) inst p.mid new rule (room_sound line_space old p.mid p.made p.room sound) p.emitted;
+  bounds = p.bounds;
+  reach = p.reach;
+  start = p.start;
+  end = p.end;
+}
+line_appends context setting (Bind label) old new span rule sound p = p

@@ -1,0 +1,7 @@
+use Rattle.std.proofs.Common.{drop}
+use Rattle.std.specs.List.{AllByRecursion}
+use Rattle.rv_listing.specs.CodeRanges.{TrapFits}
+use Rattle.rv_asm.proofs.ranges.traps_fit.Given as goal
+
+abbrev pub invariant-loop-trap : goal.invariant-loop-trap
+invariant-loop-trap l = AllByRecursion TrapFits (drop l.trap-index l.traps) → AllByRecursion TrapFits l.traps

@@ -1,0 +1,40 @@
+-- Chains of machine steps: none, one, one after the other, and turns of a loop.
+use Rattle.std.proofs.Common.{◌≡◌, ℕ, zero, suc, ◌+◌, ◌<◌, ◌≤◌, Some, arith, lit≤}
+use Rattle.rv_base.specs.declared.flags.IsaFlags.{IsaFlags}
+use Rattle.rv_machine.specs.State.{State}
+use Rattle.rv_machine.specs.Steps.{istep}
+use Rattle.rv_emit.specs.Chains.{Goes}
+use Rattle.rv_emit.proofs.Steps.{iter_none, iter_one, iter_after}
+
+pub goes_none : (flags : IsaFlags) (s : State) → Goes flags 0 s s
+goes_none flags s = record { steps = 0; moved = lit≤ tt; ran = iter_none flags s }
+
+pub goes_one : (flags : IsaFlags) (s t : State) → istep flags s ≡ Some t → Goes flags 1 s t
+goes_one flags s t e = record { steps = 1; moved = lit≤ tt; ran = iter_one flags s t e }
+
+-- one chain after the other
+pub goes_both : {flags : IsaFlags} {m n : ℕ} {s t u : State} → Goes flags m s t → Goes flags n t u → Goes flags (m + n) s u
+goes_both {flags} {m} {n} {s} {t} {u} g h = record {
+  steps = h.steps + g.steps;
+  moved = let a = g.moved in let b = h.moved in omega arith;
+  ran = iter_after flags h.steps g.steps s t u g.ran h.ran;
+}
+
+pub goes_at_least : {flags : IsaFlags} {m n : ℕ} {s t : State} → n ≤ m → Goes flags m s t → Goes flags n s t
+goes_at_least le g = record { steps = g.steps; moved = let a = g.moved in omega arith; ran = g.ran }
+
+-- the steps of the first, and any of the second
+pub goes_first : {flags : IsaFlags} {m n : ℕ} {s t u : State} → Goes flags m s t → Goes flags n t u → Goes flags m s u
+goes_first g h = goes_at_least (omega arith) (goes_both g h)
+
+-- any of the first, and the steps of the second
+pub goes_second : {flags : IsaFlags} {m n : ℕ} {s t u : State} → Goes flags m s t → Goes flags n t u → Goes flags n s u
+goes_second g h = goes_at_least (omega arith) (goes_both g h)
+
+-- the turns of a loop, by what holds before each of them, and after the last
+pub goes_turns : (flags : IsaFlags) (Holds : ℕ → State → Type 0) (turns : ℕ) (s : State) → Holds 0 s → ((k : ℕ) (t : State) → k < turns → Holds k t → (u : State) × Goes flags 0 t u × Holds (suc k) u) → (t : State) × Goes flags 0 s t × Holds turns t
+goes_turns flags Holds zero s first turn = (s, goes_none flags s, first)
+goes_turns flags Holds (suc n) s first turn =
+    let before = goes_turns flags Holds n s first (λ k t lt. turn k t (omega arith)) in
+    let last = turn n before.0 (omega arith) before.2 in
+    (last.0, goes_first before.1 last.1, last.2)

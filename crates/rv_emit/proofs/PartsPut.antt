@@ -1,0 +1,170 @@
+-- What was put part by part stands in the buffer, its windows with it, and lasts.
+use Rattle.std.proofs.Common.{◌≡◌, ◌⊎◌, inl, inr, ℕ, ◌+◌, ◌%◌, ◌≤◌, Bool, true, false, List, [], ◌∷◌, ◌++◌, length, Some, None, refl, sym, ◌∙◌, subst, arith}
+use Rattle.std.proofs.lemmas.List.{length-append}
+use Rattle.rv_base.specs.declared.flags.IsaFlags.{IsaFlags}
+use Rattle.rv_inst.specs.declared.label_use.LabelUse.{LabelUse}
+use Rattle.rv_inst.specs.declared.label_use.LabelUse.TheVariants.{Jal20, PCRel32, B12, PCRelHi20, PCRelLo12I}
+use Rattle.rv_inst.specs.LabelUse.{label_kinds, marks_of}
+use Rattle.rv_inst.specs.Uses.{use_at}
+use Rattle.mach_buffer.specs.declared.uses.Use.{Use}
+use Rattle.mach_buffer.specs.Shape.{Shape, with_allocated}
+use Rattle.mach_buffer.specs.Windows.{AreWindows}
+use Rattle.mach_buffer.specs.Links.{HasVeneer, IsLinked}
+use Rattle.mach_buffer.specs.Growth.{Lasts}
+use Rattle.mach_buffer.specs.Buffer.{shape_of, bytes_of, allocated_of}
+use Rattle.mach_buffer.proofs.Laws.{append_each, slice_get-append, take_front, window_stays, lasts_same, lasts_more, lasts_allocated, windows_with_bytes, windows_with_use}
+use Rattle.std.specs.Prelude.{Option}
+use Rattle.rv_emit.specs.Slots.{Slot, slot_size, Op, Aim, Data, Traps, Allocate, Here, Part, Ask, Slots, Label, label_of, AreClosed, AreBlocks}
+use Rattle.rv_emit.specs.Puts.{PutsSlot, Puts}
+use Rattle.rv_emit.specs.InstParts.{jump_to}
+use Rattle.rv_emit.specs.Emitted.{Buffer, IsSoundBuffer, HasWindows, AppendsIsland, IslandIfNeeded}
+use Rattle.rv_emit.specs.Emission.{PutsParts}
+use Rattle.rv_emit.specs.Standing.{SlotsIn, IslandIn, GapStandsIn, PartsIn}
+use Rattle.rv_emit.proofs.PutsLast.{slot_bytes, puts_last, puts_bytes}
+
+-- ---- what stands stays
+
+slots_in_last : {flags : IsaFlags} {slots : List Slot} {f g : Shape LabelUse} (start end : ℕ) → SlotsIn flags slots f start end → Lasts label_kinds f g → SlotsIn flags slots g start end
+slots_in_last start end q l = record { old = q.old; new = q.new; puts = q.puts; windows = q.windows; starts = q.starts; ends = q.ends; lasts = lasts_more q.lasts l }
+
+pub gap_last : {flags : IsaFlags} {f g : Shape LabelUse} (from to : ℕ) → GapStandsIn flags f from to → Lasts label_kinds f g → GapStandsIn flags g from to
+gap_last from to (inl e) l = inl e
+gap_last from to (inr i) l = inr (record { after_island = i.after_island; jump = slots_in_last from (from + 4) i.jump l; bound = l.grows.places i.after_island.number to i.bound; longer = i.longer })
+
+pub parts_last : (flags : IsaFlags) (parts : List Part) {f g : Shape LabelUse} (start end : ℕ) → PartsIn flags parts f start end → Lasts label_kinds f g → PartsIn flags parts g start end
+parts_last flags [] start end e l = e
+parts_last flags (Ask space ∷ parts) start end (mid, gap, rest) l = (mid, gap_last start mid gap l, parts_last flags parts mid end rest l)
+parts_last flags (Slots slots ∷ parts) start end (mid, q, rest) l = (mid, slots_in_last start mid q l, parts_last flags parts mid end rest l)
+
+-- ---- windows
+
+-- the windows of uses stand, and veneers do
+record StandWell (s : Shape LabelUse) : Type 0 where
+  pub windows : AreWindows label_kinds s.bytes s.uses
+  pub linked : IsLinked label_kinds s.bytes s.uses
+
+linked_bytes : (bytes more : List ℕ) (uses : List (Use LabelUse)) → IsLinked label_kinds bytes uses → IsLinked label_kinds (bytes ++ more) uses
+linked_bytes bytes more uses l = record {
+  each = λ j u at h v. let x = l.each j u at h v in record {
+    inside = let i = x.inside in omega (arith, length-append bytes more);
+    code = window_stays bytes (bytes ++ more) at 8 x.inside (take_front bytes more) ∙ x.code;
+    index = x.index;
+    own = x.own;
+    near = x.near;
+    after = x.after;
+    supported = x.supported;
+    even = x.even;
+  };
+  before = λ j u h. let b = l.before j u h in omega (arith, length-append bytes more);
+}
+
+linked_use : (bytes : List ℕ) (uses : List (Use LabelUse)) (u : Use LabelUse) → u.veneer ≡ None → u.offset ≤ length bytes → IsLinked label_kinds bytes uses → IsLinked label_kinds bytes (uses ++ u ∷ [])
+linked_use bytes uses u bare le l = record {
+  each = λ j x at h v. append_each (λ (y : Use LabelUse). (a : ℕ) → y.veneer ≡ Some a → HasVeneer label_kinds bytes (uses ++ u ∷ []) y a) uses u
+      (λ a e. absurd (none_some bare e))
+      (λ i y g a e. let x = l.each i y a g e in record { inside = x.inside; code = x.code; index = x.index; own = slice_get-append uses (u ∷ []) x.index _ x.own; near = x.near; after = x.after; supported = x.supported; even = x.even })
+      j x h at v;
+  before = append_each (λ (y : Use LabelUse). y.offset ≤ length bytes) uses u le l.before;
+}
+  where
+    none_some : {a : ℕ} → u.veneer ≡ None → u.veneer ≡ Some a → ⊥
+    none_some p q = absurd (cc)
+
+even_marks : (kind : LabelUse) → length (marks_of kind) % 2 ≡ 0
+even_marks Jal20 = refl
+even_marks PCRel32 = refl
+even_marks B12 = refl
+even_marks PCRelHi20 = refl
+even_marks PCRelLo12I = refl
+
+slot_well : (flags : IsaFlags) (allocated : ℕ) (slot : Slot) (s t : Shape LabelUse) → length s.bytes % 2 ≡ 0 → PutsSlot flags allocated slot s t → StandWell s → StandWell t
+slot_well flags allocated (Op d) s t even (bytes, long, encodes, e) w = subst StandWell (sym e) (record { windows = windows_with_bytes s w.windows bytes; linked = linked_bytes s.bytes bytes s.uses w.linked })
+slot_well flags allocated (Aim kind target ops) s t even (window, is, e) w =
+    let u = use_at (length s.bytes) (label_of allocated target) kind in
+    subst StandWell (sym e) (record {
+      windows = windows_with_use s w.windows w.linked even window u (record { at = refl; bare = refl; long = is.long }) is.fresh;
+      linked = linked_bytes s.bytes window (s.uses ++ u ∷ []) (linked_use s.bytes s.uses u refl (omega arith) w.linked);
+    })
+slot_well flags allocated (Data bytes) s t even e w = subst StandWell (sym e) (record { windows = windows_with_bytes s w.windows bytes; linked = linked_bytes s.bytes bytes s.uses w.linked })
+slot_well flags allocated (Traps code) s t even e w = subst StandWell (sym e) (record { windows = w.windows; linked = w.linked })
+slot_well flags allocated Allocate s t even e w = subst StandWell (sym e) (record { windows = w.windows; linked = w.linked })
+slot_well flags allocated (Here k) s t even (unbound, e) w = subst StandWell (sym e) (record { windows = w.windows; linked = w.linked })
+
+-- a piece of a block has an even length
+even_after : (here : ℕ → Option ℕ) (at : ℕ) (slot : Slot) (slots : List Slot) → AreClosed here at (slot ∷ slots) → (slot_size slot % 2 ≡ 0) × ((n : ℕ) × AreClosed here n slots)
+even_after here at (Op d) slots c = (c.0, (at + d.len, c.1))
+even_after here at (Aim kind target ops) slots c = (even_marks kind, (at + length (marks_of kind), c.1))
+even_after here at (Data bytes) slots c = (c.0, (at + length bytes, c.1))
+even_after here at (Traps code) slots c = (refl, (at, c))
+even_after here at Allocate slots c = (refl, (at, c))
+even_after here at (Here k) slots c = (refl, (at, c))
+
+puts_well : (flags : IsaFlags) (allocated : ℕ) (slots : List Slot) (here : ℕ → Option ℕ) (at : ℕ) (s t : Shape LabelUse) → AreClosed here at slots → length s.bytes % 2 ≡ 0 → Puts flags allocated slots s t → StandWell s → StandWell t
+puts_well flags allocated [] here at s t c even p w = subst StandWell (sym p) w
+puts_well flags allocated (slot ∷ slots) here at s t c even (m, first, rest) w =
+    let e = even_after here at slot slots c in
+    let e0 = e.0 in
+    let long = slot_bytes flags allocated slot s m first in
+    puts_well flags allocated slots here e.1.0 m t e.1.1 (omega arith) rest (slot_well flags allocated slot s m even first w)
+
+-- ---- an island where one is needed
+
+-- what stands after what stood there, its windows, and that all of it lasts
+pub record GapPut (flags : IsaFlags) (old new : Buffer) : Type 0 where
+  pub gap : GapStandsIn flags (shape_of new) (length (bytes_of old)) (length (bytes_of new))
+  pub windows : HasWindows new
+  pub lasts : Lasts label_kinds (shape_of old) (shape_of new)
+  pub sound : IsSoundBuffer new
+
+island_in : (flags : IsaFlags) (old new : Buffer) → HasWindows old → (p : AppendsIsland old new) → IslandIn flags (shape_of new) (length (bytes_of old)) (length (bytes_of new))
+island_in flags old new w p = record {
+  after_island = p.after_island;
+  jump = record {
+    old = with_allocated (shape_of old);
+    new = p.jumped;
+    puts = p.puts flags;
+    windows = w;
+    starts = refl;
+    ends = sym (puts_bytes flags (allocated_of old + 1) (jump_to (Label p.after_island) ∷ []) (with_allocated (shape_of old)) p.jumped (p.puts flags));
+    lasts = p.lasts;
+  };
+  bound = p.bound;
+  longer = p.longer;
+}
+
+pub gap_put : (flags : IsaFlags) (distance : ℕ) (old new : Buffer) (made : Bool) → IsSoundBuffer old → HasWindows old → IslandIfNeeded distance old new made → GapPut flags old new
+gap_put flags distance old new made s w r = on r.put
+  where
+    on : ((made ≡ false) × (new ≡ old)) ⊎ ((made ≡ true) × AppendsIsland old new) → GapPut flags old new
+    on (inl (e, same)) = subst (GapPut flags old) (sym same) (record { gap = inl refl; windows = w; lasts = lasts_same label_kinds (shape_of old); sound = s })
+    on (inr (e, p)) = record {
+      gap = inr (island_in flags old new w p);
+      windows = p.windows w;
+      lasts = lasts_more (lasts_allocated label_kinds (shape_of old)) (lasts_more (puts_last flags (allocated_of old + 1) (jump_to (Label p.after_island) ∷ []) (with_allocated (shape_of old)) p.jumped (p.puts flags)) p.lasts);
+      sound = p.sound;
+    }
+
+-- ---- parts
+
+-- parts stand where they were put, their windows with them, and all that stood there lasts
+pub record PartsPut (flags : IsaFlags) (parts : List Part) (old new : Buffer) : Type 0 where
+  pub stand : PartsIn flags parts (shape_of new) (length (bytes_of old)) (length (bytes_of new))
+  pub windows : HasWindows new
+  pub lasts : Lasts label_kinds (shape_of old) (shape_of new)
+  pub sound : IsSoundBuffer new
+
+pub parts_put : (flags : IsaFlags) (parts : List Part) (old new : Buffer) → AreBlocks parts → IsSoundBuffer old → HasWindows old → PutsParts flags parts old new → PartsPut flags parts old new
+parts_put flags [] old new blocks s w p = subst (PartsPut flags [] old) (sym p) (record { stand = refl; windows = w; lasts = lasts_same label_kinds (shape_of old); sound = s })
+parts_put flags (Ask space ∷ parts) old new blocks s w (mid, made, r, rest) =
+    let g = gap_put flags space old mid made s w r in
+    let q = parts_put flags parts mid new blocks g.sound g.windows rest in
+    record { stand = (length (bytes_of mid), gap_last _ _ g.gap q.lasts, q.stand); windows = q.windows; lasts = lasts_more g.lasts q.lasts; sound = q.sound }
+parts_put flags (Slots slots ∷ parts) old new blocks s w (mid, p, rest) =
+    let well = puts_well flags (allocated_of old) slots _ 0 (shape_of old) (shape_of mid) blocks.0 s.even p.puts (record { windows = w; linked = s.linked }) in
+    let q = parts_put flags parts mid new blocks.1 p.sound well.windows rest in
+    record {
+      stand = (length (bytes_of mid), record { old = shape_of old; new = shape_of mid; puts = p.puts; windows = w; starts = refl; ends = refl; lasts = q.lasts }, q.stand);
+      windows = q.windows;
+      lasts = lasts_more (puts_last flags (allocated_of old) slots (shape_of old) (shape_of mid) p.puts) q.lasts;
+      sound = q.sound;
+    }

@@ -1,0 +1,85 @@
+-- A buffer into which slots were put: what it had lasts, its bytes and uses are more by those of the slots, and each window
+-- still ends in the bytes.
+use Rattle.std.proofs.Common.{◌≡◌, ℕ, ◌+◌, ◌≤◌, List, [], ◌∷◌, ◌++◌, length, refl, ap, sym, ◌∙◌, subst, arith, append_assoc}
+use Rattle.std.proofs.lemmas.List.{length-append}
+use Rattle.rv_base.specs.declared.flags.IsaFlags.{IsaFlags}
+use Rattle.rv_inst.specs.declared.label_use.LabelUse.{LabelUse}
+use Rattle.rv_inst.specs.LabelUse.{label_kinds, marks_of}
+use Rattle.rv_inst.specs.Uses.{use_at}
+use Rattle.mach_buffer.specs.declared.uses.Use.{Use}
+use Rattle.mach_buffer.specs.Shape.{Shape, with_use}
+use Rattle.mach_buffer.specs.Growth.{Lasts}
+use Rattle.mach_buffer.specs.Pieces.{AllEnd}
+use Rattle.mach_buffer.proofs.Laws.{append_none, append_each, lasts_same, lasts_more, lasts_bytes, lasts_use, lasts_allocated, lasts_trap, lasts_label}
+use Rattle.rv_emit.specs.Slots.{Slot, Op, Aim, Data, Traps, Allocate, Here, slot_size, size_of, own_label, label_of, uses_of}
+use Rattle.rv_emit.specs.Puts.{PutsSlot, Puts}
+
+-- ---- one slot
+
+slot_lasts : (flags : IsaFlags) (allocated : ℕ) (slot : Slot) (s t : Shape LabelUse) → PutsSlot flags allocated slot s t → Lasts label_kinds s t
+slot_lasts flags allocated (Op d) s t p = subst (Lasts label_kinds s) (sym p.3) (lasts_bytes label_kinds p.0 s)
+slot_lasts flags allocated (Aim kind target ops) s t p =
+    let u = use_at (length s.bytes) (label_of allocated target) kind in
+    subst (Lasts label_kinds s) (sym p.2) (lasts_more (lasts_use label_kinds u s (omega arith)) (lasts_bytes label_kinds p.0 (with_use u s)))
+slot_lasts flags allocated (Data bytes) s t p = subst (Lasts label_kinds s) (sym p) (lasts_bytes label_kinds bytes s)
+slot_lasts flags allocated (Traps code) s t p = subst (Lasts label_kinds s) (sym p) (lasts_trap label_kinds code s)
+slot_lasts flags allocated Allocate s t p = subst (Lasts label_kinds s) (sym p) (lasts_allocated label_kinds s)
+slot_lasts flags allocated (Here k) s t p = subst (Lasts label_kinds s) (sym p.1) (lasts_label label_kinds (own_label allocated k) s p.0)
+
+pub slot_bytes : (flags : IsaFlags) (allocated : ℕ) (slot : Slot) (s t : Shape LabelUse) → PutsSlot flags allocated slot s t → length t.bytes ≡ length s.bytes + slot_size slot
+slot_bytes flags allocated (Op d) s t p = (λ i. length (p.3 i).bytes) ∙ length-append s.bytes p.0 ∙ ap (λ n. length s.bytes + n) p.1
+slot_bytes flags allocated (Aim kind target ops) s t p = (λ i. length (p.2 i).bytes) ∙ length-append s.bytes p.0 ∙ ap (λ n. length s.bytes + n) p.1.long
+slot_bytes flags allocated (Data bytes) s t p = (λ i. length (p i).bytes) ∙ length-append s.bytes bytes
+slot_bytes flags allocated (Traps code) s t p = (λ i. length (p i).bytes) ∙ omega arith
+slot_bytes flags allocated Allocate s t p = (λ i. length (p i).bytes) ∙ omega arith
+slot_bytes flags allocated (Here k) s t p = (λ i. length (p.1 i).bytes) ∙ omega arith
+
+slot_uses : (flags : IsaFlags) (allocated : ℕ) (slot : Slot) (s t : Shape LabelUse) → PutsSlot flags allocated slot s t → t.uses ≡ s.uses ++ uses_of allocated (length s.bytes) (slot ∷ [])
+slot_uses flags allocated (Op d) s t p = (λ i. (p.3 i).uses) ∙ sym (append_none s.uses)
+slot_uses flags allocated (Aim kind target ops) s t p = λ i. (p.2 i).uses
+slot_uses flags allocated (Data bytes) s t p = (λ i. (p i).uses) ∙ sym (append_none s.uses)
+slot_uses flags allocated (Traps code) s t p = (λ i. (p i).uses) ∙ sym (append_none s.uses)
+slot_uses flags allocated Allocate s t p = (λ i. (p i).uses) ∙ sym (append_none s.uses)
+slot_uses flags allocated (Here k) s t p = (λ i. (p.1 i).uses) ∙ sym (append_none s.uses)
+
+-- the uses of a slot, and then those of others
+uses_both : (allocated at : ℕ) (slot : Slot) (slots : List Slot) → uses_of allocated at (slot ∷ []) ++ uses_of allocated (at + slot_size slot) slots ≡ uses_of allocated at (slot ∷ slots)
+uses_both allocated at (Op d) slots = refl
+uses_both allocated at (Aim kind target ops) slots = refl
+uses_both allocated at (Data bytes) slots = refl
+uses_both allocated at (Traps code) slots = let same : at + 0 ≡ at = omega arith in ap (λ n. uses_of allocated n slots) same
+uses_both allocated at Allocate slots = let same : at + 0 ≡ at = omega arith in ap (λ n. uses_of allocated n slots) same
+uses_both allocated at (Here k) slots = let same : at + 0 ≡ at = omega arith in ap (λ n. uses_of allocated n slots) same
+
+pub slot_ends : (flags : IsaFlags) (allocated : ℕ) (slot : Slot) (s t : Shape LabelUse) → PutsSlot flags allocated slot s t → AllEnd label_kinds s → AllEnd label_kinds t
+slot_ends flags allocated (Op d) s t p ends = subst (AllEnd label_kinds) (sym p.3) (λ j u h. let e = ends j u h in omega (arith, length-append s.bytes p.0))
+slot_ends flags allocated (Aim kind target ops) s t p ends = subst (AllEnd label_kinds) (sym p.2)
+    (append_each (λ (u : Use LabelUse). u.offset + length (marks_of u.kind) ≤ length (s.bytes ++ p.0)) s.uses (use_at (length s.bytes) (label_of allocated target) kind)
+    (let long = p.1.long in omega (arith, length-append s.bytes p.0))
+    (λ j u h. let e = ends j u h in omega (arith, length-append s.bytes p.0)))
+slot_ends flags allocated (Data bytes) s t p ends = subst (AllEnd label_kinds) (sym p) (λ j u h. let e = ends j u h in omega (arith, length-append s.bytes bytes))
+slot_ends flags allocated (Traps code) s t p ends = subst (AllEnd label_kinds) (sym p) ends
+slot_ends flags allocated Allocate s t p ends = subst (AllEnd label_kinds) (sym p) ends
+slot_ends flags allocated (Here k) s t p ends = subst (AllEnd label_kinds) (sym p.1) ends
+
+-- ---- slots
+
+pub puts_last : (flags : IsaFlags) (allocated : ℕ) (slots : List Slot) (s t : Shape LabelUse) → Puts flags allocated slots s t → Lasts label_kinds s t
+puts_last flags allocated [] s t p = subst (Lasts label_kinds s) (sym p) (lasts_same label_kinds s)
+puts_last flags allocated (slot ∷ slots) s t p = lasts_more (slot_lasts flags allocated slot s p.0 p.1) (puts_last flags allocated slots p.0 t p.2)
+
+pub puts_bytes : (flags : IsaFlags) (allocated : ℕ) (slots : List Slot) (s t : Shape LabelUse) → Puts flags allocated slots s t → length t.bytes ≡ length s.bytes + size_of slots
+puts_bytes flags allocated [] s t p = (λ i. length (p i).bytes) ∙ omega arith
+puts_bytes flags allocated (slot ∷ slots) s t p = let first = slot_bytes flags allocated slot s p.0 p.1 in let rest = puts_bytes flags allocated slots p.0 t p.2 in omega arith
+
+pub puts_uses : (flags : IsaFlags) (allocated : ℕ) (slots : List Slot) (s t : Shape LabelUse) → Puts flags allocated slots s t → t.uses ≡ s.uses ++ uses_of allocated (length s.bytes) slots
+puts_uses flags allocated [] s t p = (λ i. (p i).uses) ∙ sym (append_none s.uses)
+puts_uses flags allocated (slot ∷ slots) s t p =
+    puts_uses flags allocated slots p.0 t p.2
+    ∙ (λ i. slot_uses flags allocated slot s p.0 p.1 i ++ uses_of allocated (slot_bytes flags allocated slot s p.0 p.1 i) slots)
+    ∙ append_assoc s.uses (uses_of allocated (length s.bytes) (slot ∷ [])) (uses_of allocated (length s.bytes + slot_size slot) slots)
+    ∙ ap (λ us. s.uses ++ us) (uses_both allocated (length s.bytes) slot slots)
+
+pub puts_ends : (flags : IsaFlags) (allocated : ℕ) (slots : List Slot) (s t : Shape LabelUse) → Puts flags allocated slots s t → AllEnd label_kinds s → AllEnd label_kinds t
+puts_ends flags allocated [] s t p ends = subst (AllEnd label_kinds) (sym p) ends
+puts_ends flags allocated (slot ∷ slots) s t p ends = puts_ends flags allocated slots p.0 t p.2 (slot_ends flags allocated slot s p.0 p.1 ends)

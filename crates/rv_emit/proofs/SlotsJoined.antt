@@ -1,0 +1,74 @@
+-- Slots that several calls put, one call after the other, and what one call puts of data and traps.
+use Rattle.std.proofs.Common.{◌≡◌, ◌≢◌, ℕ, ◌+◌, true, false, nat_eq, pos, List, [], ◌∷◌, ◌++◌, length, Some, refl, ap, sym, ◌∙◌, subst, arith}
+use Rattle.std.specs.Prelude.{if◌then◌else◌, ◌%◌, ◌^◌}
+use Rattle.std.specs.Int.{to_le_bytes, w32, w64}
+use Rattle.std.proofs.lemmas.Bool.Decides.{nat_tests}
+use Rattle.rv_base.specs.Flags.{no_flags}
+use Rattle.rv_base.specs.IrType.{bits_of}
+use Rattle.rv_base.specs.declared.flags.IsaFlags.{IsaFlags}
+use Rattle.rv_base.specs.declared.ir_type.IrType.{IrType}
+use Rattle.rv_base.specs.declared.trap.TrapCode.{TrapCode}
+use Rattle.rv_ops.specs.declared.compare.IntegerCompare.{IntegerCompare}
+use Rattle.rv_ops.specs.declared.memory.LoadOP.TheVariants as loads
+use Rattle.rv_machine.specs.declared.decoding.Decoded.{Decoded}
+use Rattle.rv_machine.specs.Decode.{decode}
+use Rattle.rv_encode.specs.Operations.{decoded_branch}
+use Rattle.rv_inst.specs.declared.label_use.LabelUse.{LabelUse}
+use Rattle.mach_buffer.specs.Buffer.{shape_of, bytes_of, allocated_of}
+use Rattle.mach_buffer.specs.Shape.{Shape, with_bytes, with_trap}
+use Rattle.rv_emit.specs.Emitted.{Buffer, IsSoundBuffer}
+use Rattle.rv_emit.specs.Emission.{PutsAlone}
+use Rattle.rv_emit.specs.Slots.{Slot, Op, Data, size_of}
+use Rattle.rv_emit.specs.Puts.{Puts}
+use Rattle.rv_emit.specs.InstParts.{trap_slots, complement, inline_slots, constant_slots}
+use Rattle.rv_emit.proofs.PlainSlots.{IsPlain, plain_adds}
+use Rattle.rv_emit.proofs.PutsLast.{puts_bytes}
+use Rattle.rv_emit.proofs.SlotsPut.{alone}
+
+-- ---- one after the other
+
+puts_after : (flags : IsaFlags) (allocated : ℕ) (slots more : List Slot) (s t u : Shape LabelUse) → Puts flags allocated slots s t → Puts flags allocated more t u → Puts flags allocated (slots ++ more) s u
+puts_after flags allocated [] more s t u p q = subst (λ (x : Shape LabelUse). Puts flags allocated more x u) p q
+puts_after flags allocated (slot ∷ slots) more s t u p q = (p.0, p.1, puts_after flags allocated slots more p.0 t u p.2 q)
+
+-- slots that allocate no label, and others after them
+pub both_alone : (slots more : List Slot) (old mid new : Buffer) → IsPlain slots → PutsAlone slots old mid → PutsAlone more mid new → PutsAlone (slots ++ more) old new
+both_alone slots more old mid new plain p q flags =
+    let a = p flags in
+    let b = q flags in
+    let first : Puts flags (allocated_of old) slots (shape_of old) (shape_of mid) = subst (λ (x : Buffer). Puts flags (allocated_of old) slots (shape_of old) (shape_of x)) (sym a.2) a.1.puts in
+    let same : allocated_of mid ≡ allocated_of old = (plain_adds flags (allocated_of old) slots (shape_of old) (shape_of mid) plain first).allocated in
+    let second : Puts flags (allocated_of old) more (shape_of mid) (shape_of b.0) = subst (λ n. Puts flags n more (shape_of mid) (shape_of b.0)) same b.1.puts in
+    (b.0, record { puts = puts_after flags (allocated_of old) slots more (shape_of old) (shape_of mid) (shape_of b.0) first second; sound = b.1.sound }, b.2)
+
+pub alone_long : (slots : List Slot) (old new : Buffer) → PutsAlone slots old new → length (bytes_of new) ≡ length (bytes_of old) + size_of slots
+alone_long slots old new p =
+    let q = p no_flags in
+    ap (λ (b : Buffer). length (bytes_of b)) q.2 ∙ puts_bytes no_flags (allocated_of old) slots (shape_of old) (shape_of q.0) q.1.puts
+
+pub alone_sound : (slots : List Slot) (old new : Buffer) → PutsAlone slots old new → IsSoundBuffer new
+alone_sound slots old new p = let q = p no_flags in subst IsSoundBuffer (sym q.2) q.1.sound
+
+-- ---- data and traps
+
+pub bytes_put : (old new : Buffer) (bytes : List ℕ) → shape_of new ≡ with_bytes bytes (shape_of old) → IsSoundBuffer new → PutsAlone (Data bytes ∷ []) old new
+bytes_put old new bytes put sound = alone (λ flags. record { puts = (shape_of new, put, refl); sound = sound })
+
+pub trap_put : (old mid new : Buffer) (code : TrapCode) → shape_of mid ≡ with_trap code (shape_of old) → shape_of new ≡ with_bytes (0 ∷ 0 ∷ 0 ∷ 0 ∷ []) (shape_of mid) → IsSoundBuffer new → PutsAlone (trap_slots code) old new
+trap_put old mid new code recorded put sound = alone (λ flags. record { puts = (shape_of mid, recorded, (shape_of new, put, refl)); sound = sound })
+
+-- the branch over a trap
+pub branch_over_put : (cmp inverse : IntegerCompare) (w : ℕ) (old new : Buffer) → inverse ≡ complement cmp → ((flags : IsaFlags) → decode flags w ≡ Some (decoded_branch inverse (pos 8))) → ((d : Decoded) → d.len ≡ 4 → ((flags : IsaFlags) → decode flags w ≡ Some d) → PutsAlone (Op d ∷ []) old new) → PutsAlone (Op (decoded_branch (complement cmp) (pos 8)) ∷ []) old new
+branch_over_put cmp inverse w old new same is put = put _ refl (λ flags. is flags ∙ ap (λ k. Some (decoded_branch k (pos 8))) same)
+
+-- ---- a constant by its type
+
+pub constant_word : (rd : ℕ) (type : IrType) (imm : ℕ) (old new : Buffer) → bits_of type ≡ 32 → PutsAlone (inline_slots rd loads.Lw 4 (to_le_bytes w32 (imm % 2 ^ 32))) old new → PutsAlone (constant_slots rd type imm) old new
+constant_word rd type imm old new is p =
+    let e : nat_eq (bits_of type) 32 ≡ true = grind (arith, nat_tests) in
+    subst (λ c. PutsAlone (if c then inline_slots rd loads.Lw 4 (to_le_bytes w32 (imm % 2 ^ 32)) else inline_slots rd loads.Ld 8 (to_le_bytes w64 imm)) old new) (sym e) p
+
+pub constant_double : (rd : ℕ) (type : IrType) (imm : ℕ) (old new : Buffer) → bits_of type ≢ 32 → PutsAlone (inline_slots rd loads.Ld 8 (to_le_bytes w64 imm)) old new → PutsAlone (constant_slots rd type imm) old new
+constant_double rd type imm old new other p =
+    let e : nat_eq (bits_of type) 32 ≡ false = grind (arith, nat_tests) in
+    subst (λ c. PutsAlone (if c then inline_slots rd loads.Lw 4 (to_le_bytes w32 (imm % 2 ^ 32)) else inline_slots rd loads.Ld 8 (to_le_bytes w64 imm)) old new) (sym e) p

@@ -1,0 +1,140 @@
+-- A veneer in finished code leads on to where its own use aims.
+use Rattle.std.proofs.Common.{◌≡◌, ℕ, zero, suc, ◌+◌, ◌-◌, ◌*◌, ◌/◌, ◌%◌, ◌^◌, ◌<◌, ◌≤◌, inl, Bool, true, false, List, [], ◌∷◌, length, drop, Some, arith, refl, sym, ap, subst, ◌∙◌, ℤ, pos, negsuc, ◌+ℤ◌, ◌*ℤ◌, ◌-ℤ◌, lit<}
+use Rattle.std.specs.Prelude.{slice_index, slice_set, nat_lt, if◌then◌else◌}
+use Rattle.std.specs.Option.{option_map}
+use Rattle.std.proofs.lemmas.Int.{ints}
+use Rattle.std.proofs.lemmas.Bool.{ltb-true}
+use Rattle.std.proofs.lemmas.Grind.{get_or-set_at}
+use Rattle.std.proofs.Math.Seq.{get_or-set_other}
+use Rattle.std.proofs.lemmas.List.{length-drop}
+use Rattle.rv_base.specs.LabelUse.{SameOutside}
+use Rattle.rv_base.specs.declared.flags.IsaFlags.{IsaFlags}
+use Rattle.rv_inst.specs.declared.label_use.LabelUse.{LabelUse}
+use Rattle.rv_inst.specs.declared.label_use.LabelUse.TheVariants.{PCRel32}
+use Rattle.rv_inst.specs.LabelUse.{label_kinds, Aims, marks_of, veneer_of}
+use Rattle.rv_inst.specs.LabelUseWords.{word_at, AreBytes}
+use Rattle.rv_inst.specs.LabelUseBridges.{with_immediate, PairDecodes}
+use Rattle.rv_inst.specs.SameValues.{Same}
+use Rattle.rv_inst.proofs.Bridges.{decode-patched_pair}
+use Rattle.rv_machine.specs.declared.decoding.Decoded.{Decoded}
+use Rattle.rv_machine.specs.declared.ops.MOp.TheVariants.{Base}
+use Rattle.rv_machine.specs.declared.ops.BaseOp.TheVariants.{Auipc}
+use Rattle.rv_machine.specs.State.{Memory, Values, reg, set_reg, wrap, low64, signed, at}
+use Rattle.rv_machine.specs.Decode.{decode}
+use Rattle.rv_machine.specs.Steps.{fetch}
+use Rattle.rv_encode.specs.Operations.{row}
+use Rattle.mach_buffer.specs.declared.uses.Use.{Use}
+use Rattle.mach_buffer.specs.Windows.{window}
+use Rattle.mach_buffer.specs.Finish.{IsVia}
+use Rattle.rv_emit.specs.Operations.{decoded_jalr}
+use Rattle.rv_emit.specs.Puts.{AllBytes}
+use Rattle.rv_emit.specs.Sites.{Site, BytesAt, HasOps, LeadsOn}
+use Rattle.rv_emit.proofs.Registers.{are_values_set}
+use Rattle.rv_emit.proofs.Steps.{istep_at}
+use Rattle.rv_emit.proofs.PlacedBytes.{window_length, window_fits, window_there, word_there, rest_there, rest_fits}
+use Rattle.rv_emit.proofs.Ways.{comes_one, comes_both}
+
+-- ---- the two operations of a veneer
+
+abbrev pub auipc_row : ℤ → Decoded
+auipc_row imm = row (Base Auipc) 31 0 0 imm
+
+-- the words of a veneer before its use is patched
+old_first : (flags : IsaFlags) → decode flags (word_at (veneer_of PCRel32).bytes) ≡ Some (auipc_row (pos 0))
+unfolding decode
+old_first flags = refl
+
+old_second : (flags : IsaFlags) → decode flags (word_at (drop 4 (veneer_of PCRel32).bytes)) ≡ Some (decoded_jalr 0 31 (pos 0))
+unfolding decode
+old_second flags = refl
+
+first_bytes : (bytes : List ℕ) → 4 ≤ length bytes → AllBytes bytes → AreBytes bytes
+first_bytes bytes le fits = record { first = fits 0 (omega arith); second = fits 1 (omega arith); third = fits 2 (omega arith); fourth = fits 3 (omega arith) }
+
+-- eight bytes whose window aims at a distance hold both operations, by its upper and its lower part
+pair_decodes : (flags : IsaFlags) (new : List ℕ) (d : ℤ) → length new ≡ 8 → AllBytes new → SameOutside (marks_of PCRel32) (veneer_of PCRel32).bytes new → Aims PCRel32 new d → PairDecodes flags (veneer_of PCRel32).bytes new d
+pair_decodes flags new d long fits kept aims =
+    decode-patched_pair flags (veneer_of PCRel32).bytes new d
+    (record { first = lit< tt; second = lit< tt; third = lit< tt; fourth = lit< tt }) (first_bytes new (omega arith) fits)
+    (record { first = lit< tt; second = lit< tt; third = lit< tt; fourth = lit< tt }) (first_bytes (drop 4 new) (omega (arith, length-drop 4 new)) (rest_fits new 4 (omega arith) fits))
+    kept refl (inl refl) aims
+
+-- the same operations, wherever the bytes stand
+pub pair_there : (flags : IsaFlags) (mem : Memory) (a : ℕ) (new : List ℕ) (d : ℤ) → length new ≡ 8 → BytesAt mem a new → (p : PairDecodes flags (veneer_of PCRel32).bytes new d) → HasOps flags mem a (auipc_row p.upper ∷ decoded_jalr 0 31 p.lower ∷ [])
+pair_there flags mem a new d long placed p = (
+  ap (decode flags) (word_there mem a new (omega arith) placed) ∙ p.first ∙ ap (option_map (with_immediate p.upper)) (old_first flags),
+  (
+    ap (decode flags) (word_there mem (a + 4) (drop 4 new) (omega (arith, length-drop 4 new)) (rest_there mem a new 4 (omega arith) placed)) ∙ p.second ∙ ap (option_map (with_immediate p.lower)) (old_second flags),
+    tt,
+  ),
+)
+
+-- ---- where they lead
+
+-- a signed number of few bits
+abbrev IsSmall : ℤ → Type 0
+IsSmall (pos n) = n < 2 ^ 32
+IsSmall (negsuc n) = n < 2 ^ 32
+
+signed_small : (half n : ℕ) → 2 * half < 2 ^ 32 → IsSmall (signed half n)
+signed_small half n le = on (nat_lt n half) refl
+  where
+    on : (c : Bool) → nat_lt n half ≡ c → IsSmall (if c then pos n else negsuc (2 * half - suc n))
+    on true h = let lt = ltb-true n half h in omega arith
+    on false h = omega arith
+
+-- an upper and a lower part that sum to a distance lead to its end
+pair_lands : (base from to : ℕ) (upper lower : ℤ) → IsSmall upper → IsSmall lower → (upper *ℤ pos 4096) +ℤ lower ≡ pos to -ℤ pos from → wrap (wrap (wrap (base + from) + low64 upper * 2 ^ 12) + low64 lower) ≡ wrap (base + to)
+pair_lands base from to (pos n) (pos m) hu hl e = omega (arith, ints)
+pair_lands base from to (pos n) (negsuc m) hu hl e = let l : low64 (negsuc m) ≡ 2 ^ 64 - suc m = refl in omega (arith, ints)
+pair_lands base from to (negsuc n) (pos m) hu hl e = let u : low64 (negsuc n) ≡ 2 ^ 64 - suc n = refl in omega (arith, ints)
+pair_lands base from to (negsuc n) (negsuc m) hu hl e =
+    let l : low64 (negsuc m) ≡ 2 ^ 64 - suc m = refl in
+    let u : low64 (negsuc n) ≡ 2 ^ 64 - suc n = refl in
+    omega (arith, ints)
+
+-- ---- steps
+
+-- x31 may hold anything
+same_spare : (v w : Values) (x : ℕ) → Same v w → Same v (set_reg w 31 x)
+same_spare v w x same = record { regs = λ n lt. same.regs n lt ∙ sym (kept n lt); mem = same.mem }
+  where
+    kept : (n : ℕ) → n < 30 → reg (set_reg w 31 x) n ≡ reg w n
+    kept zero lt = refl
+    kept (suc n) lt = get_or-set_other w.regs 30 n x 0 (λ e. omega arith)
+
+-- the two steps
+pair_leads : (site : Site) (place to : ℕ) → place % 2 ≡ 0 → to % 2 ≡ 0 → place + 8 ≤ length site.bytes → (p : PairDecodes site.context.flags (veneer_of PCRel32).bytes (window site.bytes place 8) (pos to -ℤ pos place)) → LeadsOn site place to
+pair_leads site place to even to_even within p = record {
+  run = λ s v placed pc is_state are_values same.
+      let flags = site.context.flags in
+      let base = site.base in
+      let room = placed.bytes.room in
+      let aligned = placed.aligned in
+      let here : s.pc ≡ base + place = pc ∙ omega arith in
+      let next : wrap (s.pc + 4) ≡ base + place + 4 = omega arith in
+      let x = wrap (s.pc + low64 p.upper * 2 ^ 12) in
+      let held : slice_index (slice_set s.values.regs 30 x) 30 ≡ x = get_or-set_at s.values.regs 30 30 x 0 refl (let n = is_state.values.count in omega arith) in
+      let has = pair_there flags s.values.mem (base + place) (window site.bytes place 8) (pos to -ℤ pos place) (window_length site.bytes place 8 within) (window_there s.values.mem base site.bytes place 8 within placed.bytes) p in
+      let first : decode flags (fetch s.values.mem s.pc) ≡ Some (auipc_row p.upper) = ap (λ a. decode flags (fetch s.values.mem a)) here ∙ has.0 in
+      let second : decode flags (fetch s.values.mem (wrap (s.pc + 4))) ≡ Some (decoded_jalr 0 31 p.lower) = ap (λ a. decode flags (fetch s.values.mem a)) next ∙ has.1.0 in
+      let spare = same_spare v s.values x same in
+      let fits = are_values_set s.values 31 x is_state.values (lit< tt) (omega arith) in
+      let lands = pair_lands base place to p.upper p.lower (subst IsSmall (sym p.upper_is) (signed_small (2 ^ 19) _ (lit< tt))) (subst IsSmall (sym p.lower_is) (signed_small (2 ^ 11) _ (lit< tt))) p.sum in
+      comes_both flags (wrap (s.pc + 4)) (wrap (base + to)) v s
+      (comes_one flags s (wrap (s.pc + 4)) (wrap (s.pc + 4)) v (set_reg s.values 31 x) (istep_at flags s (auipc_row p.upper) (omega arith) first refl) refl (omega arith) spare are_values fits refl)
+      (comes_one flags (at (wrap (s.pc + 4)) (set_reg s.values 31 x)) (wrap (slice_index (slice_set s.values.regs 30 x) 30 + low64 p.lower) / 2 * 2) (wrap (base + to)) v (set_reg s.values 31 x)
+      (istep_at flags (at (wrap (s.pc + 4)) (set_reg s.values 31 x)) (decoded_jalr 0 31 p.lower) (omega arith) second refl)
+      ((λ i. wrap (held i + low64 p.lower) / 2 * 2) ∙ (λ i. wrap (wrap (pc i + low64 p.upper * 2 ^ 12) + low64 p.lower) / 2 * 2) ∙ ap (λ (n : ℕ). n / 2 * 2) lands ∙ omega arith) (omega arith) spare are_values fits refl);
+}
+
+-- what stands at a veneer of a buffer
+pub via_decodes : (flags : IsaFlags) (bytes : List ℕ) (kind : LabelUse) (u : Use LabelUse) (to : ℕ) (g : IsVia label_kinds (veneer_of kind) bytes u to) → AllBytes bytes → PairDecodes flags (veneer_of PCRel32).bytes (window bytes g.at 8) (pos to -ℤ pos g.at)
+via_decodes flags bytes kind u to g fits =
+    let same_place : g.at + 0 ≡ g.at = omega arith in
+    pair_decodes flags (window bytes g.at 8) (pos to -ℤ pos g.at) (window_length bytes g.at 8 g.inside) (window_fits bytes g.at 8 g.inside fits)
+    (subst (λ n. SameOutside (marks_of PCRel32) (veneer_of PCRel32).bytes (window bytes n 8)) same_place g.own)
+    (subst (λ n. Aims PCRel32 (window bytes n 8) (pos to -ℤ pos n)) same_place g.on)
+
+pub veneer_leads : (site : Site) (kind : LabelUse) (u : Use LabelUse) (to : ℕ) (g : IsVia label_kinds (veneer_of kind) site.bytes u to) → AllBytes site.bytes → to % 2 ≡ 0 → LeadsOn site g.at to
+veneer_leads site kind u to g fits even = pair_leads site g.at to g.even even g.inside (via_decodes site.context.flags site.bytes kind u to g fits)

@@ -1,0 +1,37 @@
+-- What an instruction puts into a buffer: links of the proof.
+use Rattle.std.specs.Prelude.{◌≡◌, Bool, List, [], ◌∷◌}
+use Rattle.rv_base.specs.declared.flags.IsaFlags.{IsaFlags}
+use Rattle.mach_buffer.specs.Buffer.{shape_of, allocated_of}
+use Rattle.rv_emit.specs.Emitted.{Buffer, IsSoundBuffer, IslandIfNeeded}
+use Rattle.rv_emit.specs.Slots.{Slot, Part, Ask, Slots}
+use Rattle.rv_emit.specs.Puts.{Puts}
+use Rattle.rv_emit.specs.InstParts.{slots_alone, parts_of}
+use Rattle.rv_emit.specs.declared.state.EmitVState.{EmitVState}
+use Rattle.rv_inst.specs.Context.{Context}
+use Rattle.rv_inst.specs.declared.inst.Inst.{Inst}
+
+-- slots were put into a buffer
+pub record PutsSlots (flags : IsaFlags) (slots : List Slot) (old new : Buffer) : Type 0 where
+  pub puts : Puts flags (allocated_of old) slots (shape_of old) (shape_of new)
+  pub sound : IsSoundBuffer new
+
+-- parts were put one after the other
+abbrev pub PutsParts : IsaFlags → List Part → Buffer → Buffer → Type 0
+PutsParts flags [] old new = new ≡ old
+PutsParts flags (Ask space ∷ parts) old new = (mid : Buffer) × (made : Bool) × IslandIfNeeded space old mid made × PutsParts flags parts mid new
+PutsParts flags (Slots slots ∷ parts) old new = (mid : Buffer) × PutsSlots flags slots old mid × PutsParts flags parts mid new
+
+-- whatever the flags are, slots were put, alone
+abbrev pub PutsAll : List Slot → Buffer → Buffer → Type 0
+PutsAll slots old new = (flags : IsaFlags) → PutsSlots flags slots old new
+
+abbrev pub PutsAlone : List Slot → Buffer → Buffer → Type 0
+PutsAlone slots old new = (flags : IsaFlags) → PutsParts flags (slots_alone slots) old new
+
+-- the parts of an instruction were
+abbrev pub EmitsIn : Context → EmitVState → Inst → Buffer → Buffer → Type 0
+EmitsIn context setting inst old new = PutsParts context.flags (parts_of context setting inst) old new
+
+-- whatever the context is
+abbrev pub Emits : Inst → Buffer → Buffer → Type 0
+Emits inst old new = (context : Context) (setting : EmitVState) → EmitsIn context setting inst old new

@@ -1,0 +1,97 @@
+-- The parts of each instruction's code: links of the proof.
+use Rattle.std.specs.Prelude.{ℕ, ◌+◌, ◌-◌, ◌%◌, ◌^◌, ◌==◌, nat_eq, if◌then◌else◌, List, [], ◌∷◌, ◌++◌, pos, negsuc}
+use Rattle.std.specs.Int.{to_le_bytes, w32, w64}
+use Rattle.rv_base.specs.declared.ir_type.IrType.{IrType}
+use Rattle.rv_base.specs.declared.trap.TrapCode.{TrapCode}
+use Rattle.rv_base.specs.CondCodes.{complement_of}
+use Rattle.rv_base.specs.IrType.{bits_of}
+use Rattle.rv_base.specs.Regs.{number_of}
+use Rattle.rv_ops.specs.declared.memory.LoadOP.{LoadOP}
+use Rattle.rv_ops.specs.declared.memory.LoadOP.TheVariants as loads
+use Rattle.rv_ops.specs.declared.compare.IntegerCompare.{IntegerCompare}
+use Rattle.rv_inst.specs.Context.{Context}
+use Rattle.rv_inst.specs.declared.inst.Inst.{Inst}
+use Rattle.rv_inst.specs.declared.inst.Inst.TheVariants.{Nop0, Nop4, EBreak, SequencePoint, Args, Rets, DummyUse, EmitIsland, RawData, Lui, Auipc, LoadInlineConst, AluRRR, AluRRImm12, Mov, MovFromPReg, Ret, TrapIf, Jal, CondBr, Udf, Jalr, Popcnt}
+use Rattle.rv_inst.specs.declared.inst.CondBrTarget.{CondBrTarget}
+use Rattle.rv_inst.specs.declared.inst.CondBrTarget.TheVariants.{Label as ToLabel, Fallthrough}
+use Rattle.rv_inst.specs.declared.label_use.LabelUse.TheVariants.{Jal20, B12}
+use Rattle.rv_machine.specs.declared.ops.MOp.TheVariants.{Base}
+use Rattle.rv_machine.specs.declared.ops.BaseOp.TheVariants as base
+use Rattle.rv_encode.specs.Operations.{row, decoded_rrr, decoded_rri, decoded_branch, decoded_load}
+use Rattle.rv_emit.specs.declared.state.EmitVState.{EmitVState}
+use Rattle.rv_emit.specs.Operations.{decoded_addi, decoded_slli, decoded_srli, decoded_and, decoded_beq, decoded_bge, decoded_ebreak, decoded_jalr, decoded_jump}
+use Rattle.rv_emit.specs.Slots.{Target, Label, Slot, Op, Aim, Data, Traps, Part, Ask, Slots}
+
+-- a jump to a target
+abbrev pub jump_to : Target → Slot
+jump_to target = Aim Jal20 target (λ d. decoded_jump d ∷ [])
+
+-- a branch to a target where a comparison holds
+abbrev pub branch_to : IntegerCompare → Target → Slot
+branch_to kind target = Aim B12 target (λ d. decoded_branch kind d ∷ [])
+
+-- a move of one integer register to another; none is a move to itself
+abbrev pub move_slots : ℕ → ℕ → List Slot
+move_slots rd rs = if nat_eq rd rs then [] else Op (decoded_addi rd rs (pos 0)) ∷ []
+
+-- a branch, and a jump where the comparison doesn't hold
+abbrev pub branch_slots : IntegerCompare → CondBrTarget → CondBrTarget → List Slot
+branch_slots kind Fallthrough not_taken = []
+branch_slots kind (ToLabel t) Fallthrough = branch_to kind (Label t) ∷ []
+branch_slots kind (ToLabel t) (ToLabel f) = branch_to kind (Label t) ∷ jump_to (Label f) ∷ []
+
+-- a word that is no operation, and the record of its trap
+abbrev pub trap_slots : TrapCode → List Slot
+trap_slots code = Traps code ∷ Data (0 ∷ 0 ∷ 0 ∷ 0 ∷ []) ∷ []
+
+-- the comparison that holds where another one doesn't
+abbrev pub complement : IntegerCompare → IntegerCompare
+complement cmp = record { kind = complement_of cmp.kind; rs1 = cmp.rs1; rs2 = cmp.rs2 }
+
+-- a load of so many bytes that stand after it and a jump over them
+abbrev pub load_over : ℕ → LoadOP → ℕ → List Slot
+load_over rd op size = Op (row (Base base.Auipc) rd 0 0 (pos 0)) ∷ Op (decoded_load op rd rd (pos 12)) ∷ Op (decoded_jump (pos (4 + size))) ∷ []
+
+-- a constant of so many bytes after the code that loads it, which jumps over it
+abbrev pub inline_slots : ℕ → LoadOP → ℕ → List ℕ → List Slot
+inline_slots rd op size bytes = load_over rd op size ++ Data bytes ∷ []
+
+abbrev pub constant_slots : ℕ → IrType → ℕ → List Slot
+constant_slots rd type imm = if bits_of type == 32 then inline_slots rd loads.Lw 4 (to_le_bytes w32 (imm % 2 ^ 32)) else inline_slots rd loads.Ld 8 (to_le_bytes w64 imm)
+
+-- the ones of so many low bits are counted, from the highest on: the step counts down, and a bit moves down with it
+abbrev pub count_slots : ℕ → ℕ → ℕ → ℕ → ℕ → List Slot
+count_slots sum tmp step rs bits =
+    Op (decoded_addi sum 0 (pos 0)) ∷ Op (decoded_addi step 0 (pos bits)) ∷ Op (decoded_addi tmp 0 (pos 1)) ∷ Op (decoded_slli tmp tmp (bits - 1))
+    ∷ Op (decoded_bge 0 step (pos 28)) ∷ Op (decoded_and 30 tmp rs) ∷ Op (decoded_beq 0 30 (pos 8)) ∷ Op (decoded_addi sum sum (pos 1))
+    ∷ Op (decoded_addi step step (negsuc 0)) ∷ Op (decoded_srli tmp tmp 1) ∷ Op (decoded_jump (negsuc 23)) ∷ []
+
+-- slots alone
+abbrev pub slots_alone : List Slot → List Part
+slots_alone slots = Slots slots ∷ []
+
+-- by the context, and the vector unit's setting known before the instruction
+abbrev pub parts_of : Context → EmitVState → Inst → List Part
+parts_of context setting Nop0 = []
+parts_of context setting Nop4 = slots_alone (Op (decoded_addi 0 0 (pos 0)) ∷ [])
+parts_of context setting EBreak = slots_alone (Op decoded_ebreak ∷ [])
+parts_of context setting SequencePoint = []
+parts_of context setting (Args args) = []
+parts_of context setting (Rets rets) = []
+parts_of context setting (DummyUse reg) = []
+parts_of context setting (EmitIsland needed_space) = Ask needed_space ∷ []
+parts_of context setting (RawData bytes) = slots_alone (Data bytes ∷ [])
+parts_of context setting (Lui rd imm) = slots_alone (Op (row (Base base.Lui) (number_of rd.reg) 0 0 imm.value) ∷ [])
+parts_of context setting (Auipc rd imm) = slots_alone (Op (row (Base base.Auipc) (number_of rd.reg) 0 0 imm.value) ∷ [])
+parts_of context setting (LoadInlineConst rd type imm) = slots_alone (constant_slots (number_of rd.reg) type imm)
+parts_of context setting (AluRRR op rd rs1 rs2) = slots_alone (Op (decoded_rrr op (number_of rd.reg) (number_of rs1) (number_of rs2)) ∷ [])
+parts_of context setting (AluRRImm12 op rd rs imm) = slots_alone (Op (decoded_rri op (number_of rd.reg) (number_of rs) imm.value) ∷ [])
+parts_of context setting (Mov rd rm type) = slots_alone (move_slots (number_of rd.reg) (number_of rm))
+parts_of context setting (MovFromPReg rd rm) = slots_alone (move_slots (number_of rd.reg) rm.number)
+parts_of context setting Ret = slots_alone (Op (decoded_jalr 0 1 (pos 0)) ∷ [])
+parts_of context setting (TrapIf cmp code) = slots_alone (Op (decoded_branch (complement cmp) (pos 8)) ∷ trap_slots code)
+parts_of context setting (Jal label) = slots_alone (jump_to (Label label) ∷ [])
+parts_of context setting (CondBr taken not_taken kind) = slots_alone (branch_slots kind taken not_taken)
+parts_of context setting (Udf code) = slots_alone (trap_slots code)
+parts_of context setting (Jalr rd base offset) = slots_alone (Op (decoded_jalr (number_of rd.reg) (number_of base) offset.value) ∷ [])
+parts_of context setting (Popcnt sum tmp step rs type) = slots_alone (count_slots (number_of sum.reg) (number_of tmp.reg) (number_of step.reg) (number_of rs) (bits_of type))

@@ -1,0 +1,63 @@
+-- What it is for the parts of an instruction to run as the instruction means: links of the proof.
+use Rattle.std.specs.Prelude.{◌≡◌, ℕ, ◌+◌, ◌%◌, ◌<◌, ◌≤◌, List, length, Some, None}
+use Rattle.rv_machine.specs.Decode.{decode}
+use Rattle.rv_machine.specs.State.{State, IsState, Values, AreValues, wrap}
+use Rattle.rv_machine.specs.Steps.{fetch, iter}
+use Rattle.rv_inst.specs.declared.inst.Inst.{Inst}
+use Rattle.rv_inst.specs.Meaning.{Placement, Exit, Next, To, Leave, Break, Trap, Data, inst_exit, inst_effect, inst_temporaries}
+use Rattle.rv_inst.specs.SameValues.{Same, SameBut}
+use Rattle.rv_emit.specs.declared.state.EmitVState.{EmitVState}
+use Rattle.rv_emit.specs.Operations.{decoded_ebreak}
+use Rattle.rv_emit.specs.Slots.{Part}
+use Rattle.rv_emit.specs.Sites.{Site, IsPlacedAt, PartsStand}
+use Rattle.rv_inst.specs.Traps.{IsRecorded}
+use Rattle.rv_emit.specs.InstParts.{parts_of}
+
+-- a machine at the start of parts that stand between two offsets, beside the listing's values
+pub record Enters (site : Site) (start after : ℕ) (parts : List Part) (s : State) (v : Values) : Type 0 where
+  pub even : start % 2 ≡ 0
+  pub within : after ≤ length site.bytes
+  pub stands : PartsStand site start after parts
+  pub placed : IsPlacedAt site s.values.mem
+  pub pc : s.pc ≡ wrap (site.base + start)
+  pub is_state : IsState s
+  pub are_values : AreValues v
+  pub same : Same v s.values
+
+-- a jump takes a step; the next line may be reached in none, and a break, a trap and data may have none
+abbrev pub least_steps : Exit → ℕ
+least_steps Next = 0
+least_steps (To label) = 1
+least_steps (Leave a) = 1
+least_steps Break = 0
+least_steps (Trap code) = 0
+least_steps Data = 0
+
+-- a machine where an exit leads, from parts that stand between two offsets; at a break stands ebreak, and at a trap, which is recorded,
+-- no operation
+abbrev pub Arrives : Site → ℕ → ℕ → Exit → State → Type 0
+Arrives site start after Next t = t.pc ≡ wrap (site.base + after)
+Arrives site start after (To label) t = (at : ℕ) × (site.place label ≡ Some at) × (t.pc ≡ wrap (site.base + at))
+Arrives site start after (Leave a) t = t.pc ≡ a
+Arrives site start after (Trap code) t = (at : ℕ) × IsRecorded site.traps at code × (start ≤ at) × (at < after) × (t.pc ≡ wrap (site.base + at)) × (decode site.context.flags (fetch t.values.mem t.pc) ≡ None)
+Arrives site start after Data t = t.pc ≡ wrap (site.base + start)
+Arrives site start after Break t = (t.pc ≡ wrap (site.base + start)) × (decode site.context.flags (fetch t.values.mem t.pc) ≡ Some decoded_ebreak)
+
+-- in some steps the machine comes where an exit leads, with values that are these, declared temporaries apart
+pub record ComesOut (site : Site) (start after : ℕ) (exit : Exit) (free : List ℕ) (v : Values) (s : State) : Type 0 where
+  pub steps : ℕ
+  pub state : State
+  pub moved : least_steps exit ≤ steps
+  pub ran : iter site.context.flags steps s ≡ Some state
+  pub arrives : Arrives site start after exit state
+  pub same : SameBut free v state.values
+  pub is_state : IsState state
+  pub are_values : AreValues v
+  pub placed : IsPlacedAt site state.values.mem
+
+abbrev pub placement : Site → ℕ → ℕ → Placement
+placement site start after = record { start = wrap (site.base + start); after = wrap (site.base + after) }
+
+-- the parts of an instruction run as it means, wherever they stand
+pub record RunsIn (setting : EmitVState) (inst : Inst) : Type 0 where
+  pub run : (site : Site) (start after : ℕ) (s : State) (v : Values) → Enters site start after (parts_of site.context setting inst) s v → ComesOut site start after (inst_exit inst v) (inst_temporaries inst) (inst_effect (placement site start after) inst v) s

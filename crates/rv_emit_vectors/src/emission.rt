@@ -1,0 +1,239 @@
+//! The words of instructions, as the manual has them, and the islands before them.
+
+ghost use Rattle.std.specs.Prelude.{◌≡◌, IfOk, None, is_some, true};
+ghost use Rattle.rv_inst.specs.Rules.{inst_rule};
+ghost use Rattle.rv_inst.specs.Sizes.{island_space};
+ghost use Rattle.rv_emit_vectors.specs.Single.{is_first, names_first, IsStart, HoldsOne};
+
+use mach_buffer::MachBuffer;
+use rv_base::{
+    FrameLayout, IntCC, IrType, IsaFlags, List, MachLabel, OutOfMemory, a0, a1, a2, px_reg,
+    writable_a0, writable_link_reg,
+};
+use rv_emit::{
+    EmitInfo, EmitState, EmitVState, MachInstEmit, MachInstEmitState, emit_island_if_needed,
+};
+use rv_imms::{Imm12, Imm20};
+use rv_inst::{CondBrTarget, Inst, LabelUse};
+use rv_ops::{AluOPRRI, AluOPRRR, IntegerCompare};
+use std::alloc::Global;
+use std::process::Abort;
+use std::test::Fail;
+
+/// A buffer in which the label 0 is bound.
+fn start(alloc: Global) -> Result<MachBuffer<LabelUse>, OutOfMemory>
+    ensures { IfOk result (λ b. IsStart b) }
+{
+    let mut buffer = MachBuffer::<LabelUse>::new(alloc);
+    buffer.bind_label(MachLabel::from_u32(0))?;
+    Ok(buffer)
+}
+
+/// Returns whether a target is the label 0, where it is a label.
+fn is_first(target: CondBrTarget) -> bool
+    ensures { result ≡ is_first target }
+{
+    match target {
+        CondBrTarget::Label(label) => label.as_u32() == 0,
+        CondBrTarget::Fallthrough => true,
+    }
+}
+
+/// Returns whether an instruction names no label but 0.
+fn names_first(inst: &Inst) -> bool
+    ensures { result ≡ names_first inst.now }
+{
+    match inst {
+        Inst::Jal { label } => label.as_u32() == 0,
+        Inst::CondBr {
+            taken,
+            not_taken,
+            kind: _,
+        } => is_first(*taken) && is_first(*not_taken),
+        Inst::Nop0
+        | Inst::Nop4
+        | Inst::EBreak
+        | Inst::SequencePoint
+        | Inst::Args { .. }
+        | Inst::Rets { .. }
+        | Inst::DummyUse { .. }
+        | Inst::EmitIsland { .. }
+        | Inst::Lui { .. }
+        | Inst::Auipc { .. }
+        | Inst::AluRRR { .. }
+        | Inst::AluRRImm12 { .. }
+        | Inst::Mov { .. }
+        | Inst::MovFromPReg { .. }
+        | Inst::Ret
+        | Inst::Jalr { .. }
+        | Inst::RawData { .. }
+        | Inst::LoadInlineConst { .. }
+        | Inst::TrapIf { .. }
+        | Inst::Udf { .. }
+        | Inst::Popcnt { .. } => true,
+    }
+}
+
+/// Returns whether an instruction asks for an island.
+fn asks_island(inst: &Inst) -> bool
+    ensures { result ≡ is_some (island_space inst.now) }
+{
+    matches!(inst, Inst::EmitIsland { needed_space: _ })
+}
+
+/// A buffer of one instruction, which keeps the rules and asks for no island.
+fn buffer_of(alloc: Global, inst: &Inst) -> Result<MachBuffer<LabelUse>, Fail>
+    ensures { IfOk result (λ b. HoldsOne inst.now b) }
+{
+    let info = EmitInfo::new(IsaFlags::none());
+    let mut state = EmitState::new(FrameLayout::none(alloc));
+    if asks_island(inst) {
+        return Err(Fail::new("the instruction asks for an island"));
+    }
+    if inst
+        .check(info.isa_flags, state.frame_layout(), &[])
+        .is_some()
+    {
+        return Err(Fail::new("the instruction breaks a rule"));
+    }
+    let mut buffer = start(alloc)?;
+    match inst.emit(alloc, &mut buffer, &info, &mut state) {
+        Ok(()) => Ok(buffer),
+        Err(error) => Err(Fail::new(error)),
+    }
+}
+
+/// The code of an instruction whose labels are where it starts.
+fn code_of(alloc: Global, inst: &Inst) -> Result<List<u8>, Fail> {
+    if !names_first(inst) {
+        return Err(Fail::new("the instruction names a label but 0"));
+    }
+    let buffer = buffer_of(alloc, inst)?;
+    let code = buffer.finish(&[])?;
+    Ok(code.bytes)
+}
+
+/// Returns whether an island is emitted after an instruction, before this many bytes, and the offset after it.
+fn room_of(alloc: Global, inst: &Inst, distance: u32) -> Result<(bool, u32), Fail> {
+    let mut buffer = buffer_of(alloc, inst)?;
+    let made = emit_island_if_needed(&mut buffer, distance)?;
+    Ok((made, buffer.cur_offset()))
+}
+
+/// A branch where a0 and a1 are equal.
+fn branch(taken: CondBrTarget, not_taken: CondBrTarget) -> Inst {
+    Inst::CondBr {
+        taken,
+        not_taken,
+        kind: IntegerCompare {
+            kind: IntCC::Equal,
+            rs1: a0(),
+            rs2: a1(),
+        },
+    }
+}
+
+/// Stops unless these are the bytes of an instruction.
+fn assert_code(rt: &impl Abort, alloc: Global, inst: &Inst, bytes: &[u8]) -> Result<(), Fail> {
+    let code = code_of(alloc, inst)?;
+    assert_eq!(rt; code.as_slice(), bytes);
+    Ok(())
+}
+
+#[test]
+fn words_without_fields_are_the_manuals(rt: HostRuntime) -> Result<(), Fail> {
+    let alloc = rt.alloc();
+    assert_code(&rt, alloc, &Inst::Nop0, &[])?;
+    assert_code(&rt, alloc, &Inst::Nop4, &[0x13, 0, 0, 0])?;
+    assert_code(&rt, alloc, &Inst::EBreak, &[0x73, 0, 0x10, 0])?;
+    assert_code(&rt, alloc, &Inst::Ret, &[0x67, 0x80, 0, 0])?;
+    Ok(())
+}
+
+#[test]
+fn words_of_upper_immediates_are_the_manuals(rt: HostRuntime) -> Result<(), Fail> {
+    let rd = writable_a0();
+    let lui = Inst::Lui {
+        rd,
+        imm: Imm20::from_i32(0x12345),
+    };
+    assert_code(&rt, rt.alloc(), &lui, &[0x37, 0x55, 0x34, 0x12])?;
+    let auipc = Inst::Auipc {
+        rd,
+        imm: Imm20::from_i32(1),
+    };
+    assert_code(&rt, rt.alloc(), &auipc, &[0x17, 0x15, 0, 0])
+}
+
+#[test]
+fn words_of_sums_are_the_manuals(rt: HostRuntime) -> Result<(), Fail> {
+    let rd = writable_a0();
+    let sub = Inst::AluRRR {
+        alu_op: AluOPRRR::Sub,
+        rd,
+        rs1: a1(),
+        rs2: a2(),
+    };
+    assert_code(&rt, rt.alloc(), &sub, &[0x33, 0x85, 0xc5, 0x40])?;
+    let addi = Inst::AluRRImm12 {
+        alu_op: AluOPRRI::Addi,
+        rd,
+        rs: a1(),
+        imm12: Imm12::from_i16(-1),
+    };
+    assert_code(&rt, rt.alloc(), &addi, &[0x13, 0x85, 0xf5, 0xff])
+}
+
+#[test]
+fn words_of_moves_are_the_manuals(rt: HostRuntime) -> Result<(), Fail> {
+    let rd = writable_a0();
+    let ty = IrType::I64;
+    let from_a1 = Inst::Mov { rd, rm: a1(), ty };
+    assert_code(&rt, rt.alloc(), &from_a1, &[0x13, 0x85, 5, 0])?;
+    let from_itself = Inst::Mov { rd, rm: a0(), ty };
+    assert_code(&rt, rt.alloc(), &from_itself, &[])?;
+    let from_sp = Inst::MovFromPReg { rd, rm: px_reg(2) };
+    assert_code(&rt, rt.alloc(), &from_sp, &[0x13, 5, 1, 0])
+}
+
+#[test]
+fn words_of_jumps_are_the_manuals(rt: HostRuntime) -> Result<(), Fail> {
+    let jalr = Inst::Jalr {
+        rd: writable_link_reg(),
+        base: a0(),
+        offset: Imm12::from_i16(16),
+    };
+    assert_code(&rt, rt.alloc(), &jalr, &[0xe7, 0, 5, 1])?;
+    let jal = Inst::Jal {
+        label: MachLabel::from_u32(0),
+    };
+    assert_code(&rt, rt.alloc(), &jal, &[0x6f, 0, 0, 0])
+}
+
+#[test]
+fn words_of_branches_are_the_manuals(rt: HostRuntime) -> Result<(), Fail> {
+    let here = CondBrTarget::Label(MachLabel::from_u32(0));
+    let beq = branch(here, CondBrTarget::Fallthrough);
+    assert_code(&rt, rt.alloc(), &beq, &[0x63, 0, 0xb5, 0])?;
+    let beq_j = branch(here, here);
+    let bytes = [0x63, 0, 0xb5, 0, 0x6f, 0xf0, 0xdf, 0xff];
+    assert_code(&rt, rt.alloc(), &beq_j, &bytes)
+}
+
+#[test]
+fn islands_are_made_by_the_rule(rt: HostRuntime) -> Result<(), Fail> {
+    // A branch that is pending at 0 reaches 4094, and 4094 - 14 - 8 * 3 = 4056. Of two uses the jump reaches farther.
+    let far = CondBrTarget::Label(MachLabel::from_u32(5));
+    let beq = branch(far, CondBrTarget::Fallthrough);
+    let beq_j = branch(far, far);
+    for (inst, distance, made, end) in [
+        (&beq, 4052, false, 4),
+        (&beq, 4053, true, 16),
+        (&beq_j, 4048, false, 8),
+        (&beq_j, 4049, true, 28),
+        (&Inst::Ret, 4294967295, false, 4),
+    ] {
+        assert_eq!(rt; room_of(rt.alloc(), inst, distance)?, (made, end));
+    }
+    Ok(())
+}

@@ -1,0 +1,19 @@
+//! Worked rows of what emission stands on, and of single instructions: by tables of values from outside.
+#![tactic(auto)]
+
+#[cfg(test)]
+mod buffer;
+#[cfg(test)]
+mod emission;
+#[cfg(test)]
+mod immediates;
+#[cfg(test)]
+mod label_table;
+#[cfg(test)]
+mod label_uses;
+#[cfg(test)]
+mod registers;
+#[cfg(test)]
+mod vec_amode;
+#[cfg(test)]
+mod words;

@@ -1,0 +1,15 @@
+-- What a line of a job is read in: the machine's flags, the frame and the constants.
+use Rattle.std.specs.Prelude.{List}
+use Rattle.rv_base.specs.declared.constant.Constant.{Constant}
+use Rattle.rv_base.specs.declared.flags.IsaFlags.{IsaFlags}
+use Rattle.rv_base.specs.declared.frame.FrameLayout.{FrameLayout}
+use Rattle.rv_inst.specs.declared.job.Job.{Job}
+
+pub record Context : Type 0 where
+  pub flags : IsaFlags
+  pub frame : FrameLayout
+  pub constants : List Constant
+
+-- the context of a job's lines
+abbrev pub context_of : Job → Context
+context_of job = record { flags = job.flags; frame = job.frame; constants = job.constants }

@@ -1,0 +1,7 @@
+//! Worked rows of lines: how each is read, and which rule it breaks. It stands on no emission.
+#![tactic(auto)]
+
+#[cfg(test)]
+mod readings;
+#[cfg(test)]
+mod refusals;

@@ -1,0 +1,213 @@
+//! Which rule each line breaks.
+
+use rv_inst::Rule;
+use rv_listing::{ReadError, read_job};
+use std::alloc::Global;
+
+/// The first rule that the first line of a text breaks.
+fn broken(alloc: Global, text: &str) -> Result<Option<Rule>, ReadError> {
+    let job = read_job(alloc, text.as_bytes())?;
+    match job.lines.as_slice() {
+        [line, ..] => Ok(line.check(job.flags, &job.frame, job.constants.as_slice())),
+        [] => Ok(None),
+    }
+}
+
+/// A line, and the first rule that it breaks.
+struct Refusal {
+    text: &'static str,
+    rule: Option<Rule>,
+}
+
+const REFUSALS: [Refusal; 45] = [
+    Refusal {
+        text: "Udf heap_oob",
+        rule: None,
+    },
+    Refusal {
+        text: "RawData 01020304",
+        rule: None,
+    },
+    Refusal {
+        text: "RawData 0102030405060708",
+        rule: None,
+    },
+    Refusal {
+        text: "LoadInlineConst a0 i64 1",
+        rule: None,
+    },
+    Refusal {
+        text: "LoadInlineConst a0 i32 1",
+        rule: None,
+    },
+    Refusal {
+        text: "TrapIf eq a0 a1 stk_ovf",
+        rule: None,
+    },
+    Refusal {
+        text: "TrapIf ugt zero sp user7",
+        rule: None,
+    },
+    Refusal {
+        text: "Popcnt a0 a1 a2 a3 i8",
+        rule: None,
+    },
+    Refusal {
+        text: "Popcnt a0 a1 a2 a3 i16",
+        rule: None,
+    },
+    Refusal {
+        text: "Popcnt a0 a1 a2 a3 i32",
+        rule: None,
+    },
+    Refusal {
+        text: "Popcnt a0 a1 a2 a3 i64",
+        rule: None,
+    },
+    Refusal {
+        text: "Popcnt a0 a1 a2 zero i64",
+        rule: None,
+    },
+    Refusal {
+        text: "AluRRR add x31 %192 a1",
+        rule: Some(Rule::Virtual),
+    },
+    Refusal {
+        text: "LoadInlineConst %192 f32 1",
+        rule: Some(Rule::Virtual),
+    },
+    Refusal {
+        text: "TrapIf eq a0 %192 stk_ovf",
+        rule: Some(Rule::Virtual),
+    },
+    Refusal {
+        text: "Popcnt a0 a0 a0 %192 f32",
+        rule: Some(Rule::Virtual),
+    },
+    Refusal {
+        text: "AluRRR add a0 fa0 a1",
+        rule: Some(Rule::Class),
+    },
+    Refusal {
+        text: "LoadInlineConst fa0 i64 1",
+        rule: Some(Rule::Class),
+    },
+    Refusal {
+        text: "TrapIf eq v0 a1 stk_ovf",
+        rule: Some(Rule::Class),
+    },
+    Refusal {
+        text: "Popcnt a0 a1 fa2 x31 i64",
+        rule: Some(Rule::Class),
+    },
+    Refusal {
+        text: "Lui x30 1",
+        rule: Some(Rule::Reserved),
+    },
+    Refusal {
+        text: "LoadInlineConst x31 i8 1",
+        rule: Some(Rule::Reserved),
+    },
+    Refusal {
+        text: "TrapIf eq a0 x30 stk_ovf",
+        rule: Some(Rule::Reserved),
+    },
+    Refusal {
+        text: "Popcnt zero zero a2 x31 i64",
+        rule: Some(Rule::Reserved),
+    },
+    Refusal {
+        text: "LoadInlineConst zero i64 1",
+        rule: Some(Rule::Zero),
+    },
+    Refusal {
+        text: "LoadInlineConst zero i8 1",
+        rule: Some(Rule::Zero),
+    },
+    Refusal {
+        text: "Popcnt zero a1 a2 a3 i64",
+        rule: Some(Rule::Zero),
+    },
+    Refusal {
+        text: "Popcnt a0 zero a2 a3 i64",
+        rule: Some(Rule::Zero),
+    },
+    Refusal {
+        text: "Popcnt a0 a1 zero a3 i64",
+        rule: Some(Rule::Zero),
+    },
+    Refusal {
+        text: "Popcnt zero zero a2 a3 f32",
+        rule: Some(Rule::Zero),
+    },
+    Refusal {
+        text: "Popcnt a0 a0 a2 a3 i64",
+        rule: Some(Rule::Clash),
+    },
+    Refusal {
+        text: "Popcnt a0 a1 a0 a3 i64",
+        rule: Some(Rule::Clash),
+    },
+    Refusal {
+        text: "Popcnt a0 a1 a1 a3 i64",
+        rule: Some(Rule::Clash),
+    },
+    Refusal {
+        text: "Popcnt a0 a1 a2 a0 i64",
+        rule: Some(Rule::Clash),
+    },
+    Refusal {
+        text: "Popcnt a0 a1 a2 a1 i64",
+        rule: Some(Rule::Clash),
+    },
+    Refusal {
+        text: "Popcnt a0 a1 a2 a2 f32",
+        rule: Some(Rule::Clash),
+    },
+    Refusal {
+        text: "Popcnt a0 a1 a2 a3 f32",
+        rule: Some(Rule::BadType),
+    },
+    Refusal {
+        text: "Popcnt a0 a1 a2 a3 i128",
+        rule: Some(Rule::BadType),
+    },
+    Refusal {
+        text: "LoadInlineConst a0 i16 1",
+        rule: Some(Rule::BadType),
+    },
+    Refusal {
+        text: "LoadInlineConst a0 f64 1",
+        rule: Some(Rule::BadType),
+    },
+    Refusal {
+        text: "LoadInlineConst a0 i8x8 1",
+        rule: Some(Rule::BadType),
+    },
+    Refusal {
+        text: "RawData 00",
+        rule: Some(Rule::DataSize),
+    },
+    Refusal {
+        text: "RawData 0102030405",
+        rule: Some(Rule::DataSize),
+    },
+    Refusal {
+        text: "RawData 01020304050607080910111213141516",
+        rule: Some(Rule::DataSize),
+    },
+    Refusal {
+        text: "AluRRImm12 slli a0 a0 64",
+        rule: Some(Rule::Range),
+    },
+];
+
+#[test]
+fn lines_break_their_rules(rt: HostRuntime) -> Result<(), ReadError> {
+    for refusal in &REFUSALS {
+        let text = refusal.text;
+        let rule = broken(rt.alloc(), text)?;
+        assert!(rt; rule == refusal.rule, "at {text}");
+    }
+    Ok(())
+}

@@ -1,0 +1,13 @@
+//! Worked rows of the machine, and code that runs on it: by tables of values from outside.
+#![tactic(auto)]
+
+#[cfg(test)]
+mod loaded;
+#[cfg(test)]
+mod machine;
+#[cfg(test)]
+mod memory;
+#[cfg(test)]
+mod ran;
+#[cfg(test)]
+mod runs;

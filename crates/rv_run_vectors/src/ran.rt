@@ -1,0 +1,326 @@
+//! Whole calls of rvrun, with their status and their text. Steps and registers are worked out by hand from the listings;
+//! the instructions of the traces are as llvm-mc disassembles the words, without aliases.
+
+use rv_run::{Silent, run};
+use rv_stream::{MemSink, MemSource, SureSink, SureSource};
+use std::alloc::{AllocError, Global};
+use std::process::Abort;
+
+const GCD: &str =
+    "code 24\n00000000 638a05003376b5021385050093050600\n00000010 6ff01fff67800000\nline 0 0 0\nline 1 0 4\nline 2 4 8\nline 3 8 12\nline 4 12 16\nline 5 16 20\nline 6 20 20\nline 7 20 24\nlabel L0 0\nlabel L1 20\nend 24\n";
+
+const COUNTDOWN: &str =
+    "code 12\n00000000 1305f5ffe31e05fe67800000\nline 0 0 0\nline 1 0 4\nline 2 4 8\nline 3 8 12\nlabel L0 0\nend 12\n";
+
+/// A branch to 20 by a veneer at 8, with a jump round the island at 4.
+const ISLAND: &str =
+    "code 24\n00000000 6304b5006f00c000970f00006780cf00\n00000010 1300000067800000\nline 0 0 4\nline 1 4 16\nline 2 16 20\nline 3 20 20\nline 4 20 24\nlabel L0 20\nend 24\n";
+
+/// A `nop`, and a word that traps.
+const TRAP: &str =
+    "code 8\n00000000 1300000000000000\nline 0 0 4\nline 1 4 8\nlabel L0 4\ntrap 4 heap_oob\ntrap 4 user250\nend 8\n";
+
+/// `Popcnt a0 a1 a2 a3 i64` and `Ret`.
+const POPCNT: &str =
+    "code 48\n00000000 1305000013060004930510009395f503\n00000010 635ec00033ffd5006304e00113051500\n00000020 1306f6ff93d515006ff09ffe67800000\nline 0 0 44\nline 1 44 48\nend 48\n";
+
+/// `LoadInlineConst a0 i64 0x123456789abcdef0` and `Ret`.
+const CONSTANT: &str =
+    "code 24\n00000000 170500000335c5006f00c000f0debc9a\n00000010 7856341267800000\nline 0 0 20\nline 1 20 24\nend 24\n";
+
+/// `TrapIf eq a0 a1 heap_oob` and `Ret`.
+const TRAP_IF: &str =
+    "code 12\n00000000 6314b5000000000067800000\nline 0 0 8\nline 1 8 12\ntrap 4 heap_oob\nend 12\n";
+
+/// A call's words and input, with its status and its text.
+struct Call {
+    words: &'static [&'static str],
+    input: &'static str,
+    status: u8,
+    text: &'static str,
+}
+
+const RUNS: [Call; 18] = [
+    Call {
+        words: &["a0=1071", "a1=462"],
+        input: GCD,
+        status: 0,
+        text: "left the code to 0x8000000000010000\nsteps 17\na0 21 0x15\na1 0 0x0\n",
+    },
+    Call {
+        words: &["a0=5"],
+        input: COUNTDOWN,
+        status: 0,
+        text: "left the code to 0x8000000000010000\nsteps 11\na0 0 0x0\n",
+    },
+    Call {
+        words: &["a0=-1", "--steps", "10"],
+        input: COUNTDOWN,
+        status: 0,
+        text: "step limit\nsteps 10\na0 -6 0xfffffffffffffffa\n",
+    },
+    Call {
+        words: &["a0=7", "a1=7"],
+        input: ISLAND,
+        status: 0,
+        text: "left the code to 0x8000000000010000\nsteps 4\nt6 65544 0x10008\n",
+    },
+    Call {
+        words: &["a0=7", "a1=8", "ra=0x123456"],
+        input: ISLAND,
+        status: 0,
+        text: "left the code to 0x123456\nsteps 4\n",
+    },
+    Call {
+        words: &["--base", "0x20000", "a0=7", "a1=7"],
+        input: ISLAND,
+        status: 0,
+        text: "left the code to 0x8000000000020000\nsteps 4\nt6 131080 0x20008\n",
+    },
+    Call {
+        words: &["--from", "3"],
+        input: COUNTDOWN,
+        status: 0,
+        text: "left the code to 0x8000000000010000\nsteps 1\n",
+    },
+    Call {
+        words: &["--at", "4", "a0=1"],
+        input: COUNTDOWN,
+        status: 0,
+        text: "left the code to 0x8000000000010000\nsteps 4\na0 0 0x0\n",
+    },
+    Call {
+        words: &[],
+        input: TRAP,
+        status: 0,
+        text: "no operation at 4: 0x0\nsteps 1\n",
+    },
+    Call {
+        words: &["--hex"],
+        input: "7300 1000\n",
+        status: 0,
+        text: "ebreak at 0\nsteps 0\n",
+    },
+    Call {
+        words: &["--hex"],
+        input: "13000000ffffffff",
+        status: 0,
+        text: "no operation at 4: 0xffffffff\nsteps 1\n",
+    },
+    Call {
+        words: &["--hex", "--data", "0x10000=73001000"],
+        input: "13000000",
+        status: 0,
+        text: "ebreak at 0\nsteps 0\n",
+    },
+    Call {
+        words: &["a0=2", "--trace"],
+        input: COUNTDOWN,
+        status: 0,
+        text: "0: fff50513 addi a0,a0,-1  a0=1\n4: fe051ee3 bne a0,zero,-4\n0: fff50513 addi a0,a0,-1  a0=0\n4: fe051ee3 bne a0,zero,-4\n8: 00008067 jalr zero,0(ra)\nleft the code to 0x8000000000010000\nsteps 5\na0 0 0x0\n",
+    },
+    Call {
+        words: &["--hex", "a0=0x12345678", "a1=0x2001e", "--trace"],
+        input: "23a0a50003d6050067800000",
+        status: 0,
+        text: "0: 00a5a023 sw a0,0(a1)\n4: 0005d603 lhu a2,0(a1)  a2=22136\n8: 00008067 jalr zero,0(ra)\nleft the code to 0x8000000000010000\nsteps 3\na2 22136 0x5678\nmemory 0x20010: 00000000000000000000000000007856\nmemory 0x20020: 34120000000000000000000000000000\n",
+    },
+    // Four words to begin, six and a count where the bit is one for each of 64 bits, the last test, and the return.
+    Call {
+        words: &["a3=255"],
+        input: POPCNT,
+        status: 0,
+        text: "left the code to 0x8000000000010000\nsteps 398\na0 8 0x8\nt5 1 0x1\n",
+    },
+    Call {
+        words: &[],
+        input: CONSTANT,
+        status: 0,
+        text: "left the code to 0x8000000000010000\nsteps 4\na0 1311768467463790320 0x123456789abcdef0\n",
+    },
+    Call {
+        words: &["a0=1", "a1=1"],
+        input: TRAP_IF,
+        status: 0,
+        text: "no operation at 4: 0x0\nsteps 1\n",
+    },
+    Call {
+        words: &["a0=1", "a1=2"],
+        input: TRAP_IF,
+        status: 0,
+        text: "left the code to 0x8000000000010000\nsteps 2\n",
+    },
+];
+
+const REFUSALS: [Call; 14] = [
+    Call {
+        words: &["a0=1", "x10=2"],
+        input: GCD,
+        status: 2,
+        text: "rvrun: x10=2: sets a register that an earlier word sets\n",
+    },
+    Call {
+        words: &["s0=1", "fp=2"],
+        input: GCD,
+        status: 2,
+        text: "rvrun: fp=2: sets a register that an earlier word sets\n",
+    },
+    Call {
+        words: &["a0=18446744073709551616"],
+        input: GCD,
+        status: 2,
+        text: "rvrun: a0=18446744073709551616: no REGISTER=VALUE with a register x1 to x31 and a value of 64 bits\n",
+    },
+    Call {
+        words: &["a0=-9223372036854775809"],
+        input: GCD,
+        status: 2,
+        text: "rvrun: a0=-9223372036854775809: no REGISTER=VALUE with a register x1 to x31 and a value of 64 bits\n",
+    },
+    Call {
+        words: &["zero=1"],
+        input: GCD,
+        status: 2,
+        text: "rvrun: zero=1: no REGISTER=VALUE with a register x1 to x31 and a value of 64 bits\n",
+    },
+    Call {
+        words: &["--base", "2"],
+        input: GCD,
+        status: 2,
+        text: "rvrun: 2: no multiple of 4 with room for the code below 2^64\n",
+    },
+    Call {
+        words: &["--from", "8"],
+        input: GCD,
+        status: 2,
+        text: "rvrun: 8: no number of a line of the listing\n",
+    },
+    Call {
+        words: &["--at", "24"],
+        input: GCD,
+        status: 2,
+        text: "rvrun: 24: no offset within the code, or one beside --from\n",
+    },
+    Call {
+        words: &["--data", "0x20=123"],
+        input: GCD,
+        status: 2,
+        text: "rvrun: 0x20=123: no ADDRESS=HEX with an address below 2^64 and pairs of digits\n",
+    },
+    Call {
+        words: &[],
+        input: "code 24\n00000000 638a05003376b5021385050093050600\n",
+        status: 3,
+        text: "rvrun: no report at line 3\n",
+    },
+    Call {
+        words: &[],
+        input: "code 4\n00000000 00000000\ntrap 0 stk_ovf\nlabel L0 0\nend 4\n",
+        status: 3,
+        text: "rvrun: no report at line 4\n",
+    },
+    Call {
+        words: &[],
+        input: "code 4\n00000000 00000000\ntrap 0 user251\nend 4\n",
+        status: 3,
+        text: "rvrun: no report at line 3\n",
+    },
+    Call {
+        words: &[],
+        input: "",
+        status: 3,
+        text: "rvrun: no report at line 1\n",
+    },
+    Call {
+        words: &["--hex"],
+        input: "123",
+        status: 3,
+        text: "rvrun: no hexadecimal digits in pairs\n",
+    },
+];
+
+fn owned(alloc: Global, words: &[&str]) -> Result<Vec<String>, AllocError> {
+    let mut all = Vec::new(alloc);
+    for word in words {
+        all.push(String::from_str(alloc, word)?)?;
+    }
+    Ok(all)
+}
+
+/// Stops unless a call ends with its status and writes its text.
+fn assert_call(rt: &impl Abort, alloc: Global, call: &Call) -> Result<(), AllocError> {
+    let words = owned(alloc, call.words)?;
+    let mut sink = SureSink::new(alloc);
+    let mut source = SureSource::new(call.input.as_bytes());
+    let outcome = run(alloc, &words, &mut source, &mut sink, &mut Silent);
+    let text = call.text;
+    assert!(rt; outcome.status() == call.status, "status at {text}");
+    assert_eq!(rt; sink.bytes(), text.as_bytes());
+    Ok(())
+}
+
+#[test]
+fn code_runs(rt: HostRuntime) -> Result<(), AllocError> {
+    for call in &RUNS {
+        assert_call(&rt, rt.alloc(), call)?;
+    }
+    Ok(())
+}
+
+#[test]
+fn bad_words_and_inputs_are_refused(rt: HostRuntime) -> Result<(), AllocError> {
+    for call in &REFUSALS {
+        assert_call(&rt, rt.alloc(), call)?;
+    }
+    Ok(())
+}
+
+/// The status of a call with this word over bytes that a generator draws.
+fn status_of_noise(alloc: Global, word: &[&str], count: usize) -> Result<u8, AllocError> {
+    let words = owned(alloc, word)?;
+    let mut noise = Vec::new(alloc);
+    let mut state = 1u64;
+    for _ in 0..count {
+        state = state
+            .wrapping_mul(6364136223846793005)
+            .wrapping_add(1442695040888963407);
+        noise.push((state >> 56) as u8)?;
+    }
+    let mut sink = SureSink::new(alloc);
+    Ok(run(
+        alloc,
+        &words,
+        &mut SureSource::new(&noise),
+        &mut sink,
+        &mut Silent,
+    )
+    .status())
+}
+
+#[test]
+fn noise_is_no_input(rt: HostRuntime) -> Result<(), AllocError> {
+    let report = status_of_noise(rt.alloc(), &[], 1000000)?;
+    let hex = status_of_noise(rt.alloc(), &["--hex"], 1000000)?;
+    assert_eq!(rt; (report, hex), (3, 3));
+    Ok(())
+}
+
+/// The statuses of a call whose second read fails, and of one whose second write fails.
+fn statuses_with_faults(alloc: Global) -> Result<(u8, u8), AllocError> {
+    let failing = [1];
+    let words = owned(alloc, &["a0=5"])?;
+    let mut source = MemSource::new(COUNTDOWN.as_bytes(), 8, &failing);
+    let mut sink = SureSink::new(alloc);
+    let read = run(alloc, &words, &mut source, &mut sink, &mut Silent).status();
+    let mut taker = MemSink::new(alloc, 4, &failing);
+    let mut sure = SureSource::new(COUNTDOWN.as_bytes());
+    let write = run(alloc, &words, &mut sure, &mut taker, &mut Silent).status();
+    Ok((read, write))
+}
+
+#[test]
+fn streams_may_fail(rt: HostRuntime) -> Result<(), AllocError> {
+    let statuses = statuses_with_faults(rt.alloc())?;
+    assert_eq!(rt; statuses, (5, 6));
+    Ok(())
+}

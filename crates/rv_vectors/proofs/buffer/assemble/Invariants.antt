@@ -1,5 +1,0 @@
-use Rattle.rv_vectors.specs.Kept.{IsKept}
-use Rattle.rv_vectors.proofs.buffer.assemble.Given as goal
-
-abbrev pub invariant-loop-item : goal.invariant-loop-item
-invariant-loop-item g l = let K = g.L.MachInstLabelUse in IsKept K.kinds 4 l.buffer
