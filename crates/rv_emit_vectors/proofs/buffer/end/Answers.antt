@@ -2,6 +2,7 @@ use Rattle.std.proofs.Common.{arith, sym, ◌∙◌, ◌≡◌, ◌<◌, ◌+◌
 use Rattle.std.specs.Prelude.{nat_lt}
 use Rattle.std.proofs.lemmas.Bool.{and_parts, ltb-true}
 use Rattle.rv_base.specs.LabelUse.{code_limit}
+use Rattle.mach_buffer.specs.Reach.{island_margin}
 use Rattle.mach_buffer.specs.Buffer.{bytes_of, allocated_of, pending_of}
 use Rattle.rv_emit_vectors.proofs.Kept.{can_finish}
 use Rattle.rv_emit_vectors.proofs.buffer.end.Goals as goal
@@ -11,7 +12,7 @@ finish-requires-clause-ready g c =
     let K = g.L.MachInstLabelUse in
     let b = c.bind_each.new.buffer in
     let e = c.in_ok-bind_each.ensures in
-    let parts : (nat_lt (allocated_of b) (2 ^ 29) ≡ true) × (nat_lt (length (bytes_of b) + 0 + 8 * length (pending_of K.kinds b) + 32) code_limit ≡ true) = and_parts _ _ (sym c.has_room.ensures ∙ c.if-not-has_room.false) in
-    let fits : length (bytes_of b) + 0 + 8 * length (pending_of K.kinds b) + 32 < code_limit = ltb-true _ _ parts.1 in
+    let parts : (nat_lt (allocated_of b) (2 ^ 29) ≡ true) × (nat_lt (length (bytes_of b) + 0 + 8 * length (pending_of K.kinds b) + island_margin + 2) code_limit ≡ true) = and_parts _ _ (sym c.has_room.ensures ∙ c.if-not-has_room.false) in
+    let fits : length (bytes_of b) + 0 + 8 * length (pending_of K.kinds b) + island_margin + 2 < code_limit = ltb-true _ _ parts.1 in
     let room : length (bytes_of b) + 8 * length (pending_of K.kinds b) + 2 < code_limit = omega (arith, fits) in
     λ unspoiled. can_finish e.kept e.bound room
