@@ -1,123 +1,88 @@
--- The last veneers: that they can be put, and what stands after them.
+-- The last veneers: that they can be put, what stands after them, and where each use goes once it is patched.
 use Rattle.std.proofs.lemmas.Bool.Decides.{nat_tests}
-use Rattle.std.proofs.Common.{◌≡◌, ◌≢◌, ℕ, zero, suc, ◌+◌, ◌*◌, ◌%◌, ◌<◌, ◌≤◌, ⊎_elim, Bool, true, false, not, ◌&&◌, List, ◌++◌, length, Option, Some, None, refl, ap, sym, ◌∙◌, subst, arith}
-use Rattle.std.specs.Prelude.{slice_get, is_none, is_some}
-use Rattle.std.proofs.lemmas.Bool.{true≢false, and_parts, and_left, and_right}
-use Rattle.rv_base.specs.LabelUse.{code_limit, Kinds}
+use Rattle.std.proofs.Common.{◌≡◌, ◌≢◌, ℕ, zero, suc, ◌+◌, ◌-◌, ◌*◌, ◌%◌, ◌<◌, ◌≤◌, inl, inr, ⊎_elim, true, false, List, [], ◌++◌, length, take, drop, Option, Some, None, unwrap_or, refl, ap, sym, ◌∙◌, subst, arith, pos, ◌-ℤ◌}
+use Rattle.std.specs.Prelude.{slice_get, is_some}
+use Rattle.std.proofs.Math.Bool.{and-true}
+use Rattle.std.specs.Option.{option_map}
+use Rattle.std.proofs.lemmas.Option.{slice_get-map}
+use Rattle.std.proofs.lemmas.List.{take-take, drop-drop, drop-take, length-drop, take_all}
+use Rattle.std.proofs.lemmas.Bool.{true≢false, and_parts, cases_Bool, false_from_ne_true}
+use Rattle.rv_base.specs.LabelUse.{code_limit, Kinds, SameOutside, IsVeneer}
+use Rattle.mach_buffer.specs.declared.patches.Patch.{Patch}
 use Rattle.mach_buffer.specs.declared.uses.Use.{Use}
 use Rattle.mach_buffer.specs.declared.pending.Pending.{Pending}
-use Rattle.mach_buffer.specs.Shape.{Shape, core, recorded}
-use Rattle.mach_buffer.specs.Reach.{is_reached, is_pending, is_other, StillReaches}
-use Rattle.mach_buffer.specs.Growth.{Grows, Lasts}
-use Rattle.mach_buffer.specs.Links.{IsLinked}
-use Rattle.mach_buffer.specs.Windows.{AreWindows}
+use Rattle.mach_buffer.specs.Shape.{Shape, with_bytes, veneer_use, core}
+use Rattle.mach_buffer.specs.Reach.{is_reached, is_pending, is_other}
+use Rattle.mach_buffer.specs.Growth.{Grows}
+use Rattle.mach_buffer.specs.Windows.{window, AreWindows, CanPatch, CanPatchAll, IsApart, AllAim, AllKept, KeepsOthers, or_place, patch_of, patches_of}
 use Rattle.mach_buffer.specs.Veneers.{put_all, IsOrder}
 use Rattle.mach_buffer.specs.Islands.{aligned, padding, is_far}
-use Rattle.mach_buffer.specs.Finish.{before_last, padded_for, pending_in, CanFinish, Finishes}
-use Rattle.mach_buffer.specs.VeneerConditions.{CanPut}
+use Rattle.mach_buffer.specs.Finish.{before_last, padded_for, pending_in, CanFinish, Finishes, Arrives, AllArrive}
+use Rattle.mach_buffer.specs.VeneerConditions.{AddsOwn}
 use Rattle.mach_buffer.specs.Buffer.{AreSound}
-use Rattle.mach_buffer.proofs.Apart.{windows_bytes}
-use Rattle.mach_buffer.proofs.Effects.{Rest, rest_more, all_rest}
-use Rattle.mach_buffer.proofs.Links.{HasLaw, linked_bytes}
-use Rattle.mach_buffer.proofs.Lasting.{lasts_same, lasts_bytes, VeneersLast, veneers_last, not_pending, none_of}
-use Rattle.mach_buffer.proofs.Growth.{grows_more}
-use Rattle.mach_buffer.proofs.OrderOfVeneers.{order_number, order_has, order_long, can_order}
-use Rattle.mach_buffer.proofs.VeneersPut.{AllPut, all_put, at, recorded_at, own_labels}
-use Rattle.mach_buffer.proofs.VeneerLoop.{Going}
-use Rattle.mach_buffer.proofs.IslandVeneers.{length_padded}
+use Rattle.mach_buffer.proofs.Links.{HasLaw, windows_bytes}
+use Rattle.mach_buffer.proofs.Lists.{append_none, comes_from, map_each}
+use Rattle.mach_buffer.proofs.Lasting.{grows_more, lasts_bytes, veneers_last}
+use Rattle.mach_buffer.proofs.OrderOfVeneers.{order_none, order_has, order_long, can_order}
+use Rattle.mach_buffer.proofs.VeneersPut.{veneered, all_idle, recorded_at, own_labels, Going}
+use Rattle.mach_buffer.proofs.IslandVeneers.{length_padded, padding_even}
+use Rattle.mach_buffer.proofs.Sound.{IsWhole, whole_bytes}
 use Rattle.mach_buffer.proofs.Slack.{reaches_from_each}
 
 -- ---- all that is pending
 
 pub other_none : {L : Type 0} (kinds : Kinds L) (place : ℕ → Option ℕ) → is_other kinds place None ≡ is_pending kinds place
-other_none kinds place = λ i. λ u. and_true (is_pending kinds place u) i
-  where
-    and_true : (b : Bool) → (b && true) ≡ b
-    and_true b = grind (arith, nat_tests)
+other_none kinds place = λ i. λ u. and-true (is_pending kinds place u) i
 
 -- ---- the padding before
 
-pub last_bytes : {L : Type 0} (n : ℕ) (s : Shape L) → (padded_for n s).bytes ≡ before_last s.bytes n
-last_bytes zero s = refl
-last_bytes (suc n) s = grind (arith, nat_tests)
+abbrev last_padding : ℕ → List ℕ → List ℕ
+last_padding zero bytes = []
+last_padding (suc n) bytes = padding (length bytes)
 
-last_uses : {L : Type 0} (n : ℕ) (s : Shape L) → (padded_for n s).uses ≡ s.uses
-last_uses zero s = refl
-last_uses (suc n) s = refl
+padded_as : {L : Type 0} (n : ℕ) (s : Shape L) → padded_for n s ≡ with_bytes (last_padding n s.bytes) s
+padded_as zero s = λ i. record s { bytes = sym (append_none s.bytes) i }
+padded_as (suc n) s = refl
 
-pub last_rest : {L : Type 0} (n : ℕ) (s : Shape L) → Rest s (padded_for n s)
-last_rest zero s = record { place = refl; labels = refl; allocated = refl; traps = refl }
-last_rest (suc n) s = record { place = refl; labels = refl; allocated = refl; traps = refl }
+last_bytes : (n : ℕ) (bytes : List ℕ) → bytes ++ last_padding n bytes ≡ before_last bytes n
+last_bytes zero bytes = append_none bytes
+last_bytes (suc n) bytes = grind (arith, nat_tests)
 
-last_even : {L : Type 0} (n : ℕ) (s : Shape L) → length s.bytes % 2 ≡ 0 → length (padded_for n s).bytes % 2 ≡ 0
-last_even zero s e = e
-last_even (suc n) s e = let l = length_padded s.bytes in omega arith
-
-last_linked : {L : Type 0} {kinds : Kinds L} (n : ℕ) (s : Shape L) → IsLinked kinds s.bytes s.uses → IsLinked kinds (padded_for n s).bytes (padded_for n s).uses
-last_linked zero s l = l
-last_linked (suc n) s l = linked_bytes l (padding (length s.bytes))
-
-last_windows : {L : Type 0} {kinds : Kinds L} (n : ℕ) (s : Shape L) → AreWindows kinds s.bytes s.uses → AreWindows kinds (padded_for n s).bytes (padded_for n s).uses
-last_windows zero s w = w
-last_windows (suc n) s w = windows_bytes w (padding (length s.bytes))
-
--- what stands before the patches: a shape lasts in it, with all but its bytes and uses, and each use that isn't pending stays
--- as it is
-pub record LastsToEnd {L : Type 0} (kinds : Kinds L) (s put : Shape L) : Type 0 where
-  pub lasts : Lasts kinds s put
-  pub keeps : (j : ℕ) (u : Use L) → slice_get s.uses j ≡ Some u → is_pending kinds s.place u ≡ false → slice_get put.uses j ≡ Some u
-  pub rest : Rest s put
-
-lasts_padded : {L : Type 0} (kinds : Kinds L) (n : ℕ) (s : Shape L) → LastsToEnd kinds s (padded_for n s)
-lasts_padded kinds zero s = record { lasts = lasts_same kinds s; keeps = λ j u h idle. h; rest = last_rest 0 s }
-lasts_padded kinds (suc n) s = record { lasts = lasts_bytes kinds (padding (length s.bytes)) s; keeps = λ j u h idle. h; rest = last_rest (suc n) s }
-
--- the buffer grows by them
-pub last_grows : {L : Type 0} (kinds : Kinds L) (order : List ℕ) (s : Shape L) → Grows s.bytes s.uses s.place (put_all kinds order (padded_for (length order) s)).bytes (put_all kinds order (padded_for (length order) s)).uses s.place
-last_grows kinds order s =
-    let r = rest_more (last_rest (length order) s) (all_rest kinds order (padded_for (length order) s)) in
-    let P = padded_for (length order) s in
-    subst (λ (p : ℕ → Option ℕ). Grows s.bytes s.uses s.place (put_all kinds order P).bytes (put_all kinds order P).uses p) r.place (grows_more (lasts_padded kinds (length order) s).lasts.grows (veneers_last kinds order P).grows)
+last_even : (n : ℕ) (bytes : List ℕ) → length bytes % 2 ≡ 0 → length (last_padding n bytes) % 2 ≡ 0
+last_even zero bytes e = refl
+last_even (suc n) bytes e = padding_even (length bytes) e
 
 -- at most three bytes of padding stand before the last veneers
 pub last_near : (bytes : List ℕ) (count : ℕ) → length (before_last bytes count) ≤ length bytes + 3
 last_near bytes count = grind (arith, nat_tests, length_padded bytes)
 
-module _ {L : Type 0} (kinds : Kinds L) (s : Shape L) (order : List ℕ) where
-  last_start : IsOrder kinds (is_pending kinds s.place) s.uses order → length (padded_for (length order) s).bytes ≡ length (before_last s.bytes (length (pending_in kinds s)))
-  last_start o = ap (length {A = ℕ}) (last_bytes (length order) s) ∙ ap (λ n. length (before_last s.bytes n)) (order_long o)
+-- ---- the veneers can be put in their order
 
-  -- they can be put in their order
-  pub last_going : {p : Pending} → AreSound kinds s p → CanFinish kinds s → IsOrder kinds (is_pending kinds s.place) s.uses order → Going kinds order order (padded_for (length order) s) (padded_for (length order) s)
-  last_going sound can o = record {
+module _ {L : Type 0} (kinds : Kinds L) (s : Shape L) (order : List ℕ) where
+  last_start : IsOrder kinds (is_pending kinds s.place) s.uses order → length (s.bytes ++ last_padding (length order) s.bytes) ≡ length (before_last s.bytes (length (pending_in kinds s)))
+  last_start o = ap (length {A = ℕ}) (last_bytes (length order) s.bytes) ∙ ap (λ n. length (before_last s.bytes n)) (order_long o)
+
+  padded_going : {p : Pending} → AreSound kinds s p → CanFinish kinds s → IsOrder kinds (is_pending kinds s.place) s.uses order → Going kinds order order (with_bytes (last_padding (length order) s.bytes) s) (with_bytes (last_padding (length order) s.bytes) s)
+  padded_going sound can o = record {
     whole = refl;
-    even = last_even (length order) s sound.even;
-    can = subst (λ us. CanPut kinds us (length (padded_for (length order) s).bytes) order) (sym (last_uses (length order) s))
-        (can_order (length (padded_for (length order) s).bytes) o (λ u h. (and_parts (kinds.has_veneer u.kind) (is_none u.veneer && not (is_reached kinds (s.place u.label.number) u)) h).0)
-        (subst (λ (n : ℕ). StillReaches n (pending_in kinds s)) (sym (last_start o)) (reaches_from_each _ _ can.reach)));
-    room = let r = can.short in let a = last_start o in let b = order_long o in omega arith;
+    even = (whole_bytes sound (last_padding (length order) s.bytes) (last_even (length order) s.bytes sound.even)).even;
+    can = can_order (length (s.bytes ++ last_padding (length order) s.bytes)) o (λ u h. (and_parts (kinds.has_veneer u.kind) _ h).0) (rw (last_start o) (reaches_from_each _ _ can.reach));
+    room = omega (arith, can.short, last_start o, order_long o);
   }
 
+  pub last_going : {p : Pending} → AreSound kinds s p → CanFinish kinds s → IsOrder kinds (is_pending kinds s.place) s.uses order → Going kinds order order (padded_for (length order) s) (padded_for (length order) s)
+  last_going sound can o = rw (padded_as (length order) s) (padded_going sound can o)
+
   pub last_room : CanFinish kinds s → IsOrder kinds (is_pending kinds s.place) s.uses order → (count : ℕ) → count ≡ length order → count ≢ 0 → aligned (length s.bytes) < code_limit
-  last_room can o count e ne = on (length order) refl
-    where
-      on : (n : ℕ) → length order ≡ n → aligned (length s.bytes) < code_limit
-      on zero q = absurd (ne (e ∙ q))
-      on (suc n) q =
-          let r = can.short in
-          let a = last_start o in
-          let l : length (padded_for (length order) s).bytes ≡ aligned (length s.bytes) = ap (λ m. length (padded_for m s).bytes) q ∙ length_padded s.bytes in
-          omega (arith, l, a, r)
+  last_room can o count e ne = grind (arith, nat_tests, can.short, order_long o, length_padded s.bytes)
 
 -- ---- what stands once no use is pending
 
-pub record CanEnd {L : Type 0} (kinds : Kinds L) (place : ℕ → Option ℕ) (bytes : List ℕ) (uses : List (Use L)) : Type 0 where
-  pub linked : IsLinked kinds bytes uses
-  pub windows : AreWindows kinds bytes uses
-  pub idle : (j : ℕ) (u : Use L) → slice_get uses j ≡ Some u → is_pending kinds place u ≡ false
-  pub places : (label to : ℕ) → place label ≡ Some to → (to ≤ length bytes) × (to % 2 ≡ 0)
-  pub bound : (j : ℕ) (u : Use L) → slice_get uses j ≡ Some u → is_some (place u.label.number) ≡ true
-  pub direct : (j : ℕ) (u : Use L) → slice_get uses j ≡ Some u → kinds.has_veneer u.kind ≡ false → is_reached kinds (place u.label.number) u ≡ true
+pub record CanEnd {L : Type 0} (kinds : Kinds L) (s : Shape L) : Type 0 where
+  pub whole : IsWhole kinds s
+  pub windows : AreWindows kinds s.bytes s.uses
+  pub idle : (j : ℕ) (u : Use L) → slice_get s.uses j ≡ Some u → is_pending kinds s.place u ≡ false
+  pub direct : (j : ℕ) (u : Use L) → slice_get s.uses j ≡ Some u → kinds.has_veneer u.kind ≡ false → is_reached kinds (s.place u.label.number) u ≡ true
 
 pub some_place : (o : Option ℕ) → is_some o ≡ true → (to : ℕ) × (o ≡ Some to)
 some_place None e = absurd (true≢false (sym e))
@@ -127,101 +92,123 @@ some_place (Some to) e = (to, refl)
 far_reaches : {L : Type 0} (kinds : Kinds L) (o : Option ℕ) (u : Use L) (to end : ℕ) → o ≡ Some to → to ≤ end → u.offset ≤ end → end < code_limit → is_far kinds u ≡ true → is_reached kinds o u ≡ true
 far_reaches kinds o u to end e a b c far = ap (λ q. is_reached kinds q u) e ∙ grind (arith, nat_tests)
 
-reached_core : {L : Type 0} (kinds : Kinds L) (o : Option ℕ) (u : Use L) → is_reached kinds o (core u) ≡ is_reached kinds o u
-reached_core kinds None u = refl
-reached_core kinds (Some to) u = refl
+reached_alike : {L : Type 0} (kinds : Kinds L) (place : ℕ → Option ℕ) (w u : Use L) → core w ≡ core u → is_reached kinds (place w.label.number) w ≡ true → is_reached kinds (place u.label.number) u ≡ true
+reached_alike {L} kinds place w u e h = grind (arith, nat_tests, ap (λ (x : Use L). x.offset) e, ap (λ (x : Use L). x.kind) e, ap (λ (x : Use L). x.label) e)
 
-pub record LastDone {L : Type 0} (kinds : Kinds L) (s put : Shape L) (order : List ℕ) : Type 0 where
-  pub end : CanEnd kinds s.place put.bytes put.uses
-  pub all : AllPut kinds order (padded_for (length order) s) put
+-- any other use with no veneer of its own is one that was there
+near_reaches : {L : Type 0} {kinds : Kinds L} {from : ℕ} {uses new_uses : List (Use L)} (place : ℕ → Option ℕ) → AddsOwn kinds from uses new_uses →
+    ((j : ℕ) (u : Use L) → slice_get uses j ≡ Some u → kinds.has_veneer u.kind ≡ false → is_far kinds u ≡ false → is_reached kinds (place u.label.number) u ≡ true) → (j : ℕ) (u : Use L) → slice_get new_uses j ≡ Some u → kinds.has_veneer u.kind ≡ false → is_far kinds u ≡ false → is_reached kinds (place u.label.number) u ≡ true
+near_reaches {L} {kinds} {from} {uses} {new_uses} place a direct j u h none f = ⊎_elim
+    (λ w. reached_alike kinds place w.was u w.alike (direct j w.was w.there (ap (λ (x : Use L). kinds.has_veneer x.kind) w.alike ∙ none) (ap (λ (x : Use L). is_far kinds x) w.alike ∙ f)))
+    (λ r. let x = a.own r.0 (core u) r.2 in absurd (true≢false (sym x.far ∙ f)))
+    (recorded_at new_uses uses a.more a.grown j u h)
+
+pub record LastDone {L : Type 0} (kinds : Kinds L) (s put : Shape L) : Type 0 where
+  pub same : put ≡ record s { bytes = put.bytes; uses = put.uses }
+  pub end : CanEnd kinds (record s { bytes = put.bytes; uses = put.uses })
+  pub grows : Grows s.bytes s.uses s.place put.bytes put.uses s.place
   pub long : length put.bytes ≡ length (before_last s.bytes (length (pending_in kinds s))) + 8 * length (pending_in kinds s)
-  pub rest : Rest s put
 
-pub last_done : {L : Type 0} {kinds : Kinds L} → HasLaw kinds → (s : Shape L) (p : Pending) (order : List ℕ) → AreSound kinds s p → CanFinish kinds s → IsOrder kinds (is_pending kinds s.place) s.uses order → LastDone kinds s (put_all kinds order (padded_for (length order) s)) order
-last_done {L} {kinds} law s p order sound can o = record {
-  end = record { linked = all.linked; windows = all.windows (last_windows (length order) s can.windows); idle = idle; places = λ label to h. let q = sound.places label to h in let a : to ≤ length s.bytes = q.0 in (omega (arith, a, grown), q.1); bound = bound; direct = direct };
-  all = all;
-  long = long;
-  rest = rest_more (last_rest (length order) s) (all_rest kinds order P);
-}
-  where
-    P : Shape L
-    P = padded_for (length order) s
+pub last_done : {L : Type 0} {kinds : Kinds L} → HasLaw kinds → (s : Shape L) (p : Pending) (order : List ℕ) → AreSound kinds s p → CanFinish kinds s → IsOrder kinds (is_pending kinds s.place) s.uses order → LastDone kinds s (put_all kinds order (padded_for (length order) s))
+last_done {L} {kinds} law s p order sound can o =
+    let pad = last_padding (length order) s.bytes in
+    let t = put_all kinds order (with_bytes pad s) in
+    let v = veneered law order (whole_bytes sound pad (last_even (length order) s.bytes sound.even)) (padded_going kinds s order sound can o) in
+    let long : length t.bytes ≡ length (before_last s.bytes (length (pending_in kinds s))) + 8 * length (pending_in kinds s) = omega (arith, v.all.long, last_start kinds s order o, order_long o) in
+    let far : (j : ℕ) (u : Use L) → slice_get t.uses j ≡ Some u → is_far kinds u ≡ true → is_reached kinds (s.place u.label.number) u ≡ true = λ j u h f.
+    let to = some_place (s.place u.label.number) (own_labels v.all.grown (λ l. is_some (s.place l.number) ≡ true) can.bound j u h) in
+    far_reaches kinds (s.place u.label.number) u to.0 (length t.bytes) to.1 (v.whole.places u.label.number to.0 to.1).0 (v.whole.linked.before j u h) (omega (arith, long, can.short)) f in
+    rw (padded_as (length order) s) (record {
+      same = v.last.same;
+      end = record {
+        whole = v.whole;
+        windows = v.all.windows (windows_bytes can.windows pad);
+        idle = all_idle v.all s.place (λ j u there before none. false_from_ne_true (is_pending kinds s.place u) (λ w. order_has o j u there w none));
+        direct = λ j u h none. ⊎_elim (far j u h) (near_reaches s.place v.all.grown can.direct j u h none) (cases_Bool (is_far kinds u));
+      };
+      grows = grows_more (lasts_bytes kinds pad s).grows v.last.grows;
+      long = long;
+    })
 
-    t : Shape L
-    t = put_all kinds order P
+-- a use that isn't pending stays as it is before the patches
+pub finish_keeps : {L : Type 0} {kinds : Kinds L} {s : Shape L} {bytes : List ℕ} (f : Finishes kinds s bytes) (j : ℕ) (u : Use L) → slice_get s.uses j ≡ Some u → is_pending kinds s.place u ≡ false → slice_get f.put.uses j ≡ Some u
+finish_keeps {L} {kinds} {s} f j u h idle =
+    let pad = last_padding (length f.order) s.bytes in
+    let whole = f.whole ∙ ap (put_all kinds f.order) (padded_as (length f.order) s) in
+    ap (λ (x : Shape L). slice_get x.uses j) whole ∙ (veneers_last kinds f.order (with_bytes pad s)).keeps j u (order_none f.in_order j u h (λ w. true≢false (sym w ∙ idle))) h
 
-    all : AllPut kinds order P t
-    all = all_put law order P (last_linked (length order) s sound.linked) (last_even (length order) s sound.even) (last_going kinds s order sound can o).can
+-- ---- from there to where each use goes
 
-    long : length t.bytes ≡ length (before_last s.bytes (length (pending_in kinds s))) + 8 * length (pending_in kinds s)
-    long = all.long ∙ (λ i. last_start kinds s order o i + 8 * order_long o i)
+pub patch_at : {L : Type 0} (place : ℕ → Option ℕ) (uses : List (Use L)) (j : ℕ) (u : Use L) → slice_get uses j ≡ Some u → slice_get (patches_of place uses) j ≡ Some (patch_of place u)
+patch_at place uses j u h = slice_get-map (patch_of place) uses j ∙ ap (option_map (patch_of place)) h
 
-    short : length t.bytes < code_limit
-    short = let r = can.short in omega (arith, long, r)
+-- a window in a window
+window_within : (bytes : List ℕ) (at n from size : ℕ) → from + size ≤ n → window bytes (at + from) size ≡ window (window bytes at n) from size
+window_within bytes at n from size le =
+    let split : from + (n - from) ≡ n = omega arith in
+    sym (take-take size (n - from) (drop (at + from) bytes) (omega arith))
+    ∙ ap (take size) (ap (take (n - from)) (sym (drop-drop from at bytes)) ∙ sym (drop-take from (n - from) (drop at bytes)) ∙ ap (λ k. drop from (take k (drop at bytes))) split)
 
-    grown : length s.bytes ≤ length t.bytes
-    grown = (last_grows kinds order s).longer
+module _ {L : Type 0} {kinds : Kinds L} {s : Shape L} where
+  -- where a use is to go is in reach, and even: its veneer, or else its label's place
+  bounds : CanEnd kinds s → (j : ℕ) (u : Use L) → slice_get s.uses j ≡ Some u → (v o : Option ℕ) → u.veneer ≡ v → s.place u.label.number ≡ o →
+      (unwrap_or (or_place v o) 0 ≤ u.offset + kinds.forward u.kind) × (u.offset ≤ unwrap_or (or_place v o) 0 + kinds.backward u.kind) × (unwrap_or (or_place v o) 0 % 2 ≡ 0)
+  bounds f j u h (Some at) o hv ho = let x = f.whole.linked.each j u at h hv in let n = x.near in let a = x.after in (n, omega arith, x.even)
+  bounds f j u h None o hv ho = grind (arith, nat_tests, f.idle j u h, f.direct j u h, f.whole.places u.label.number)
 
-    more : recorded t.uses ≡ recorded s.uses ++ all.grown.more
-    more = all.grown.grown ∙ ap (λ us. recorded us ++ all.grown.more) (last_uses (length order) s)
+  use_can : CanEnd kinds s → (j : ℕ) (u : Use L) → slice_get s.uses j ≡ Some u → CanPatch kinds s.bytes (patch_of s.place u)
+  use_can f j u h =
+      let b = bounds f j u h u.veneer (s.place u.label.number) refl refl in
+      record { forward_in = b.0; backward_in = b.1; target_even = b.2; place_even = f.windows.even j u h; inside = f.windows.inside j u h; fresh = f.windows.fresh j u h }
 
-    idle : (j : ℕ) (u : Use L) → slice_get t.uses j ≡ Some u → is_pending kinds s.place u ≡ false
-    idle j u h = on (kinds.has_veneer u.kind) u.veneer (is_pending kinds s.place u) refl refl refl
-      where
-        on : (b : Bool) (v : Option ℕ) (c : Bool) → kinds.has_veneer u.kind ≡ b → u.veneer ≡ v → is_pending kinds s.place u ≡ c → is_pending kinds s.place u ≡ false
-        on b v false hb hv hc = hc
-        on false v true hb hv hc = and_left (kinds.has_veneer u.kind) _ hb
-        on true (Some x) true hb hv hc = and_right (kinds.has_veneer u.kind) _ (and_left (is_none u.veneer) _ (ap is_none hv))
-        on true None true hb hv hc = let k = all.kept j u h hv hb in absurd (order_has o j u (ap (λ us. slice_get us j) (sym (last_uses (length order) s)) ∙ k.0) hc (λ n i g same. k.1 (at n (g ∙ ap Some same))))
+  pub can_patch_all : CanEnd kinds s → CanPatchAll kinds s.bytes (patches_of s.place s.uses)
+  can_patch_all f = record {
+    each = map_each (CanPatch kinds s.bytes) (patch_of s.place) s.uses (use_can f);
+    apart = λ j k p q ne hj hk.
+        let a = comes_from (patch_of s.place) s.uses j p hj in
+        let b = comes_from (patch_of s.place) s.uses k q hk in
+        subst (λ (y : Patch L). IsApart p.offset (length (kinds.fields p.kind)) y.offset (length (kinds.fields y.kind))) b.is
+        (subst (λ (x : Patch L). IsApart x.offset (length (kinds.fields x.kind)) b.from.offset (length (kinds.fields b.from.kind))) a.is (f.windows.apart j k a.from b.from ne a.there b.there));
+  }
 
-    bound : (j : ℕ) (u : Use L) → slice_get t.uses j ≡ Some u → is_some (s.place u.label.number) ≡ true
-    bound = own_labels all.grown (λ l. is_some (s.place l.number) ≡ true) (subst (λ us. (j : ℕ) (u : Use L) → slice_get us j ≡ Some u → is_some (s.place u.label.number) ≡ true) (sym (last_uses (length order) s)) can.bound)
+  -- a piece of a veneer beside its own use's window shares no byte with any window
+  piece_apart : (f : CanEnd kinds s) (j : ℕ) (u : Use L) (at : ℕ) → slice_get s.uses j ≡ Some u → u.veneer ≡ Some at → (p m : ℕ) → at ≤ p → p + m ≤ at + 8 → IsApart p m (at + (kinds.veneer u.kind).place) (length (kinds.fields (kinds.veneer u.kind).kind)) →
+      (i : ℕ) (q : Patch L) → slice_get (patches_of s.place s.uses) i ≡ Some q → IsApart p m q.offset (length (kinds.fields q.kind))
+  piece_apart f j u at h e p m lo hi apart = map_each (λ x. IsApart p m x.offset (length (kinds.fields x.kind))) (patch_of s.place) s.uses (λ i w hw. ⊎_elim
+      (λ same. subst (λ (x : Use L). IsApart p m x.offset (length (kinds.fields x.kind))) (sym same) apart)
+      (λ other. ⊎_elim (λ x. inr (omega arith)) (λ x. inl (omega arith)) other)
+      (f.windows.clear j i u w at h e hw))
 
-    far : (j : ℕ) (u : Use L) → slice_get t.uses j ≡ Some u → is_far kinds u ≡ true → is_reached kinds (s.place u.label.number) u ≡ true
-    far j u h f =
-        let to = some_place (s.place u.label.number) (bound j u h) in
-        let q : to.0 ≤ length s.bytes = (sound.places u.label.number to.0 to.1).0 in
-        far_reaches kinds (s.place u.label.number) u to.0 (length t.bytes) to.1 (omega (arith, q, grown)) (all.linked.before j u h) short f
+  -- ---- where each use goes
 
-    direct : (j : ℕ) (u : Use L) → slice_get t.uses j ≡ Some u → kinds.has_veneer u.kind ≡ false → is_reached kinds (s.place u.label.number) u ≡ true
-    direct j u h none = on (is_far kinds u) refl
-      where
-        on : (b : Bool) → is_far kinds u ≡ b → is_reached kinds (s.place u.label.number) u ≡ true
-        on true f = far j u h f
-        on false f = ⊎_elim
-            (λ w. sym (reached_core kinds (s.place u.label.number) u) ∙ sym (ap (λ (x : Use L). is_reached kinds (s.place x.label.number) x) w.alike) ∙ reached_core kinds (s.place w.was.label.number) w.was
-            ∙ can.direct j w.was w.there (ap (λ (x : Use L). kinds.has_veneer x.kind) w.alike ∙ none) (ap (λ (x : Use L). is_far kinds x) w.alike ∙ f))
-            (λ r. let x = all.grown.own r.0 (core u) r.2 in absurd (true≢false (sym x.far ∙ f)))
-            (recorded_at t.uses s.uses all.grown.more more j u h)
+  pub all_arrive : HasLaw kinds → CanEnd kinds s → (new_bytes : List ℕ) → length new_bytes ≡ length s.bytes →
+      AllAim kinds new_bytes (patches_of s.place s.uses) → AllKept kinds s.bytes new_bytes (patches_of s.place s.uses) → KeepsOthers kinds s.bytes new_bytes (patches_of s.place s.uses) → AllArrive kinds new_bytes s.place s.uses
+  all_arrive law f new_bytes long aim kept others j u to h e = on u.veneer refl
+    where
+      -- a window aims where its use is to go
+      aimed : (i : ℕ) (w : Use L) (t : ℕ) → slice_get s.uses i ≡ Some w → (patch_of s.place w).target ≡ t → kinds.aims w.kind (window new_bytes w.offset (length (kinds.fields w.kind))) (pos t -ℤ pos w.offset)
+      aimed i w t g q = subst (λ n. kinds.aims w.kind (window new_bytes w.offset (length (kinds.fields w.kind))) (pos n -ℤ pos w.offset)) q (aim i (patch_of s.place w) (patch_at s.place s.uses i w g))
 
-pub lasts_finish : {L : Type 0} {kinds : Kinds L} {s : Shape L} {bytes : List ℕ} (f : Finishes kinds s bytes) → LastsToEnd kinds s f.put
-lasts_finish {L} {kinds} {s} f = subst (LastsToEnd kinds s) (sym f.whole) (record {
-  lasts = record {
-    grows = grows_more p.lasts.grows v.grows;
-    straight = λ j u h bare reached. keeps j u h (not_pending kinds s.place u reached);
-    allocated = let a = rest.allocated in omega arith;
-    traps = λ k r h. ap (λ ts. slice_get ts k) rest.traps ∙ h;
-  };
-  keeps = λ j u h idle. keeps j u h (λ pending. true≢false (sym pending ∙ idle));
-  rest = rest;
-})
-  where
-    P : Shape L
-    P = padded_for (length f.order) s
-
-    p : LastsToEnd kinds s P
-    p = lasts_padded kinds (length f.order) s
-
-    v : VeneersLast kinds f.order P (put_all kinds f.order P)
-    v = veneers_last kinds f.order P
-
-    rest : Rest s (put_all kinds f.order P)
-    rest = rest_more (last_rest (length f.order) s) (all_rest kinds f.order P)
-
-    padded_get : (n : ℕ) (j : ℕ) (u : Use L) → slice_get s.uses j ≡ Some u → slice_get (padded_for n s).uses j ≡ Some u
-    padded_get zero j u h = h
-    padded_get (suc n) j u h = h
-
-    keeps : (j : ℕ) (u : Use L) → slice_get s.uses j ≡ Some u → (is_pending kinds s.place u ≡ true → ⊥) → slice_get (put_all kinds f.order P).uses j ≡ Some u
-    keeps j u h idle = v.keeps j u (none_of (is_pending kinds s.place) s.uses j u h idle f.order (order_number f.in_order)) (padded_get (length f.order) j u h)
+      on : (o : Option ℕ) → u.veneer ≡ o → Arrives kinds new_bytes u to o
+      on None v = aimed j u to h (ap (λ o. unwrap_or (or_place o (s.place u.label.number)) 0) v ∙ ap (λ o. unwrap_or o 0) e)
+      on (Some at) v =
+          let has = f.whole.linked.each j u at h v in
+          let V = kinds.veneer u.kind in
+          let ok : IsVeneer kinds V = law u.kind has.supported in
+          let size = length (kinds.fields V.kind) in
+          let end = V.place + size in
+          let w : Use L = veneer_use V at u.label in
+          let same = window_within s.bytes at 8 V.place size ok.inside ∙ ap (λ v. window v V.place size) has.code in
+          let after = window_within s.bytes at 8 end (8 - end) (omega (arith, ok.inside)) ∙ ap (λ v. window v end (8 - end)) has.code ∙ take_all (8 - end) (drop end V.bytes) (omega (arith, ok.eight, length-drop end V.bytes)) in (
+            record {
+              at = at;
+              there = aimed j u at h (ap (λ o. unwrap_or (or_place o (s.place u.label.number)) 0) v);
+              even = has.even;
+              inside = omega (arith, has.inside, long);
+              front = others at V.place (piece_apart f j u at h v at V.place (omega arith) (omega (arith, ok.inside)) (inl (omega arith))) ∙ sym (take-take V.place 8 (drop at s.bytes) (omega (arith, ok.inside))) ∙ ap (take V.place) has.code;
+              own = subst (λ old. SameOutside (kinds.fields V.kind) old (window new_bytes (at + V.place) size)) same (kept has.index (patch_of s.place w) (patch_at s.place s.uses has.index w has.own));
+              back = others (at + end) (8 - end) (piece_apart f j u at h v (at + end) (8 - end) (omega arith) (omega (arith, ok.inside)) (inr (omega arith))) ∙ after;
+              on = aimed has.index w to has.own (ap (λ o. unwrap_or o 0) e);
+            },
+            refl,
+          )

@@ -1,32 +1,62 @@
--- What lasts in a buffer.
-use Rattle.std.proofs.Common.{◌≡◌, ◌≢◌, ℕ, suc, ◌≤◌, Bool, true, not, List, [], ◌∷◌, ◌++◌, length, set, Option, Some, None, refl, ap, sym, ◌∙◌, subst, arith}
-use Rattle.std.specs.Prelude.{slice_get, is_none, ◌&&◌}
-use Rattle.std.proofs.lemmas.Bool.{true≢false, and_parts}
-use Rattle.std.proofs.lemmas.Option.{same_Some}
-use Rattle.std.proofs.lemmas.List.{map-append}
+-- How a buffer grows, and what lasts in it.
+use Rattle.std.proofs.Common.{◌≡◌, ◌≢◌, ℕ, ◌+◌, ◌-◌, ◌≤◌, Bool, true, List, [], ◌∷◌, ◌++◌, length, take, set, Option, Some, None, refl, ap, sym, ◌∙◌, subst, arith, append_assoc}
+use Rattle.std.specs.Prelude.{slice_get, if◌then◌else◌}
+use Rattle.std.proofs.lemmas.Bool.{le-ltb}
+use Rattle.std.proofs.lemmas.Bool.Decides.{nat_tests}
+use Rattle.std.proofs.lemmas.List.{take-take, length-append, map-append}
 use Rattle.rv_base.specs.declared.label.MachLabel.{MachLabel}
 use Rattle.rv_base.specs.LabelUse.{Kinds}
 use Rattle.rv_base.specs.declared.trap.TrapCode.{TrapCode}
+use Rattle.mach_labels.specs.Table.{first_inner}
 use Rattle.mach_buffer.specs.declared.uses.Use.{Use}
-use Rattle.mach_buffer.specs.Shape.{Shape, with_bytes, with_use, with_label, with_allocated, with_trap, veneer_use, recorded}
-use Rattle.mach_buffer.specs.Reach.{is_reached, is_pending}
+use Rattle.mach_buffer.specs.Shape.{Shape, with_bytes, with_use, with_label, with_allocated, with_trap, veneer_use, core, recorded}
+use Rattle.mach_buffer.specs.Reach.{deadline, is_reached}
 use Rattle.mach_buffer.specs.Veneers.{put_at, put_veneer, put_all}
 use Rattle.mach_buffer.specs.VeneerConditions.{IsNone}
+use Rattle.mach_buffer.specs.Islands.{Islanded, aligned, needs_own, with_own, padded}
 use Rattle.mach_buffer.specs.Growth.{Grows, Lasts}
-use Rattle.mach_buffer.proofs.Effects.{one_rest}
-use Rattle.mach_buffer.proofs.Growth.{grows_none, grows_more, grows_put, grows_same, places_bound}
 use Rattle.mach_buffer.proofs.Links.{recorded_set}
-use Rattle.mach_buffer.proofs.Lists.{append_none, one_there, slice_get-append, slice_get-set_other}
-use Rattle.mach_buffer.proofs.Numbers.{IsNumber}
-use Rattle.mach_buffer.proofs.Sound.{placed_other}
+use Rattle.mach_buffer.proofs.Lists.{append_none, both_lists, map_each, none_some, only_one, slice_get-append, slice_get-set_other, take_front}
+use Rattle.mach_buffer.proofs.Sound.{placed_same, placed_other}
+
+-- ---- growing
+
+-- and then some more
+pub grows_more : {L : Type 0} {b0 b1 b2 : List ℕ} {u0 u1 u2 : List (Use L)} {p0 p1 p2 : ℕ → Option ℕ} → Grows b0 u0 p0 b1 u1 p1 → Grows b1 u1 p1 b2 u2 p2 → Grows b0 u0 p0 b2 u2 p2
+grows_more {L} {b0} {b1} {b2} {u0} {u1} {u2} {p0} {p1} {p2} x y = record {
+  before = sym (take-take (length b0) (length b1) b2 x.longer) ∙ ap (take (length b0)) y.before ∙ x.before;
+  longer = omega (arith, x.longer, y.longer);
+  more = x.more ++ y.more;
+  grown = y.grown ∙ ap (λ us. us ++ y.more) x.grown ∙ append_assoc (recorded u0) x.more y.more;
+  after = both_lists (λ (u : Use L). length b0 ≤ u.offset) x.more y.more x.after (λ k u h. let l = y.after k u h in let a = x.longer in omega arith);
+  places = λ label to h. y.places label to (x.places label to h);
+}
+
+-- by bytes, and uses whose windows stand among them
+pub grows_put : {L : Type 0} {bytes : List ℕ} {uses : List (Use L)} {place : ℕ → Option ℕ} (block : List ℕ) (own : List (Use L)) → ((k : ℕ) (u : Use L) → slice_get own k ≡ Some u → length bytes ≤ u.offset) →
+    (new_bytes : List ℕ) (new_uses : List (Use L)) (new_place : ℕ → Option ℕ) → new_bytes ≡ bytes ++ block → recorded new_uses ≡ recorded uses ++ recorded own → ((label to : ℕ) → place label ≡ Some to → new_place label ≡ Some to) →
+    Grows bytes uses place new_bytes new_uses new_place
+grows_put {L} {bytes} {uses} {place} block own after new_bytes new_uses new_place eb eu kept = record {
+  before = ap (take (length bytes)) eb ∙ take_front bytes block;
+  longer = let l : length new_bytes ≡ length bytes + length block = ap (length {A = ℕ}) eb ∙ length-append bytes block in omega arith;
+  more = recorded own;
+  grown = eu;
+  after = map_each (λ (x : Use L). length bytes ≤ x.offset) core own after;
+  places = kept;
+}
+
+-- by places of labels alone
+grows_places : {L : Type 0} {bytes : List ℕ} {uses : List (Use L)} {place new_place : ℕ → Option ℕ} → ((label to : ℕ) → place label ≡ Some to → new_place label ≡ Some to) → Grows bytes uses place bytes uses new_place
+grows_places {L} {bytes} {uses} kept = grows_put [] [] (λ k u h. absurd (cc)) bytes uses _ (sym (append_none bytes)) (sym (append_none (recorded uses))) kept
+
+-- ---- lasting
 
 pub lasts_same : {L : Type 0} (kinds : Kinds L) (s : Shape L) → Lasts kinds s s
-lasts_same kinds s = record { grows = grows_none s.bytes s.uses s.place; straight = λ j u h bare reached. h; allocated = omega arith; traps = λ k r h. h }
+lasts_same kinds s = record { grows = grows_places (λ label to h. h); straight = λ j u h bare reached. h; allocated = omega arith; traps = λ k r h. h }
 
 -- a label in reach stays so
 stays_reached : {L : Type 0} (kinds : Kinds L) (u : Use L) (old new : Option ℕ) → ((to : ℕ) → old ≡ Some to → new ≡ Some to) → is_reached kinds old u ≡ true → is_reached kinds new u ≡ true
-stays_reached kinds u None new stays h = absurd (true≢false (sym h))
-stays_reached kinds u (Some to) new stays h = ap (λ o. is_reached kinds o u) (stays to refl) ∙ h
+stays_reached kinds u old new stays h = grind (arith, nat_tests, stays)
 
 pub lasts_more : {L : Type 0} {kinds : Kinds L} {s t v : Shape L} → Lasts kinds s t → Lasts kinds t v → Lasts kinds s v
 lasts_more {L} {kinds} {s} {t} {v} x y = record {
@@ -46,21 +76,21 @@ lasts_bytes kinds piece s = record {
 
 pub lasts_use : {L : Type 0} (kinds : Kinds L) (u : Use L) (s : Shape L) → length s.bytes ≤ u.offset → Lasts kinds s (with_use u s)
 lasts_use {L} kinds u s le = record {
-  grows = grows_put [] (u ∷ []) (λ k x h. subst (λ (y : Use L). length s.bytes ≤ y.offset) (one_there u k x h).1 le) s.bytes (s.uses ++ u ∷ []) s.place (sym (append_none s.bytes)) (map-append _ s.uses (u ∷ [])) (λ label to h. h);
+  grows = grows_put [] (u ∷ []) (only_one (λ (y : Use L). length s.bytes ≤ y.offset) u le) s.bytes (s.uses ++ u ∷ []) s.place (sym (append_none s.bytes)) (map-append _ s.uses (u ∷ [])) (λ label to h. h);
   straight = λ j x h bare reached. slice_get-append s.uses (u ∷ []) j x h;
   allocated = omega arith;
   traps = λ k r h. h;
 }
 
 pub lasts_allocated : {L : Type 0} (kinds : Kinds L) (s : Shape L) → Lasts kinds s (with_allocated s)
-lasts_allocated kinds s = record { grows = grows_none s.bytes s.uses s.place; straight = λ j u h bare reached. h; allocated = omega arith; traps = λ k r h. h }
+lasts_allocated kinds s = record { grows = grows_places (λ label to h. h); straight = λ j u h bare reached. h; allocated = omega arith; traps = λ k r h. h }
 
 pub lasts_trap : {L : Type 0} (kinds : Kinds L) (code : TrapCode) (s : Shape L) → Lasts kinds s (with_trap code s)
-lasts_trap kinds code s = record { grows = grows_none s.bytes s.uses s.place; straight = λ j u h bare reached. h; allocated = omega arith; traps = λ k r h. slice_get-append s.traps (record { offset = length s.bytes; code = code } ∷ []) k r h }
+lasts_trap kinds code s = record { grows = grows_places (λ label to h. h); straight = λ j u h bare reached. h; allocated = omega arith; traps = λ k r h. slice_get-append s.traps (record { offset = length s.bytes; code = code } ∷ []) k r h }
 
 pub lasts_label : {L : Type 0} (kinds : Kinds L) (label : MachLabel) (s : Shape L) → s.place label.number ≡ None → Lasts kinds s (with_label label s)
 lasts_label kinds label s unbound = record {
-  grows = grows_same refl refl (places_bound s.place _ label.number unbound (placed_other s.place label.number (length s.bytes)));
+  grows = grows_places (λ other to h. placed_other s.place label.number (length s.bytes) other (λ e. none_some (s.place other) to (ap s.place e ∙ unbound) h) ∙ h);
   straight = λ j u h bare reached. h;
   allocated = omega arith;
   traps = λ k r h. h;
@@ -68,49 +98,57 @@ lasts_label kinds label s unbound = record {
 
 -- ---- veneers
 
--- a shape grows by veneers
-one_grows : {L : Type 0} (kinds : Kinds L) (i : ℕ) (o : Option (Use L)) (s : Shape L) → slice_get s.uses i ≡ o → Grows s.bytes s.uses s.place (put_at kinds i o s).bytes (put_at kinds i o s).uses s.place
-one_grows kinds i None s e = grows_none s.bytes s.uses s.place
-one_grows {L} kinds i (Some u) s e = grows_put (kinds.veneer u.kind).bytes (own ∷ []) (λ k x h. subst (λ (y : Use L). length s.bytes ≤ y.offset) (one_there own k x h).1 (omega arith)) (s.bytes ++ (kinds.veneer u.kind).bytes) (set s.uses i v ++ own ∷ []) s.place refl (map-append _ (set s.uses i v) (own ∷ []) ∙ ap (λ us. us ++ own ∷ []) (recorded_set s.uses i u v e refl)) (λ label to h. h)
-  where
-    v : Use L
-    v = record u { veneer = Some (length s.bytes) }
-
-    own : Use L
-    own = veneer_use (kinds.veneer u.kind) (length s.bytes) u.label
-
--- and each use but those that get them stays as it is
-one_keeps : {L : Type 0} (kinds : Kinds L) (i : ℕ) (o : Option (Use L)) (s : Shape L) (j : ℕ) (x : Use L) → i ≢ j → slice_get s.uses j ≡ Some x → slice_get (put_at kinds i o s).uses j ≡ Some x
-one_keeps kinds i None s j x ne h = h
-one_keeps kinds i (Some u) s j x ne h =
-    let v = record u { veneer = Some (length s.bytes) } in
-    slice_get-append (set s.uses i v) (veneer_use (kinds.veneer u.kind) (length s.bytes) u.label ∷ []) j x (slice_get-set_other s.uses i j v (λ e. ne (sym e)) ∙ h)
-
--- what veneers leave
+-- what these veneers leave: all but bytes and uses, which grow, and each use that isn't one of theirs
 pub record VeneersLast {L : Type 0} (kinds : Kinds L) (order : List ℕ) (s t : Shape L) : Type 0 where
-  pub grows : Grows s.bytes s.uses s.place t.bytes t.uses t.place
+  pub same : t ≡ record s { bytes = t.bytes; uses = t.uses }
+  pub grows : Grows s.bytes s.uses s.place t.bytes t.uses s.place
   pub keeps : (j : ℕ) (u : Use L) → IsNone j order → slice_get s.uses j ≡ Some u → slice_get t.uses j ≡ Some u
 
-pub veneers_last : {L : Type 0} (kinds : Kinds L) (order : List ℕ) (s : Shape L) → VeneersLast kinds order s (put_all kinds order s)
-veneers_last kinds [] s = record { grows = grows_none s.bytes s.uses s.place; keeps = λ j u none h. h }
-veneers_last kinds (i ∷ order) s =
-    let o = slice_get s.uses i in
-    let m = put_veneer kinds i s in
-    let rest = veneers_last kinds order m in
+one_last : {L : Type 0} (kinds : Kinds L) (i : ℕ) (o : Option (Use L)) (s : Shape L) → slice_get s.uses i ≡ o → VeneersLast kinds (i ∷ []) s (put_at kinds i o s)
+one_last kinds i None s e = record { same = refl; grows = grows_places (λ label to h. h); keeps = λ j u none h. h }
+one_last {L} kinds i (Some u) s e =
+    let v : Use L = record u { veneer = Some (length s.bytes) } in
+    let own : Use L = veneer_use (kinds.veneer u.kind) (length s.bytes) u.label in
     record {
-      grows = grows_more (subst (λ (p : ℕ → Option ℕ). Grows s.bytes s.uses s.place m.bytes m.uses p) (sym (one_rest kinds i o s).place) (one_grows kinds i o s refl)) rest.grows;
-      keeps = λ j u none h. rest.keeps j u none.1 (one_keeps kinds i o s j u none.0 h);
+      same = refl;
+      grows = grows_put (kinds.veneer u.kind).bytes (own ∷ []) (only_one (λ x. length s.bytes ≤ x.offset) own (omega arith)) _ _ s.place refl (map-append core (set s.uses i v) (own ∷ []) ∙ ap (λ us. us ++ own ∷ []) (recorded_set s.uses i u v e refl)) (λ label to h. h);
+      keeps = λ j x none h. slice_get-append (set s.uses i v) (own ∷ []) j x (slice_get-set_other s.uses i j v (λ q. none.0 (sym q)) ∙ h);
     }
 
--- a use in reach of its label is none of those that get veneers
-pub not_pending : {L : Type 0} (kinds : Kinds L) (place : ℕ → Option ℕ) (u : Use L) → is_reached kinds (place u.label.number) u ≡ true → is_pending kinds place u ≡ true → ⊥
-not_pending kinds place u reached pending =
-    let parts = and_parts (kinds.has_veneer u.kind) (is_none u.veneer && not (is_reached kinds (place u.label.number) u)) pending in
-    true≢false (sym (and_parts (is_none u.veneer) _ parts.1).1 ∙ ap not reached)
+pub veneers_last : {L : Type 0} (kinds : Kinds L) (order : List ℕ) (s : Shape L) → VeneersLast kinds order s (put_all kinds order s)
+veneers_last kinds [] s = record { same = refl; grows = grows_places (λ label to h. h); keeps = λ j u none h. h }
+veneers_last {L} kinds (i ∷ order) s =
+    let a = one_last kinds i (slice_get s.uses i) s refl in
+    let b = veneers_last kinds order (put_veneer kinds i s) in
+    let place = ap (λ (x : Shape L). x.place) a.same in
+    record {
+      same = b.same ∙ ap (λ (x : Shape L). record x { bytes = (put_all kinds (i ∷ order) s).bytes; uses = (put_all kinds (i ∷ order) s).uses }) a.same;
+      grows = grows_more a.grows (subst (λ (p : ℕ → Option ℕ). Grows (put_veneer kinds i s).bytes (put_veneer kinds i s).uses p (put_all kinds (i ∷ order) s).bytes (put_all kinds (i ∷ order) s).uses p) place b.grows);
+      keeps = λ j u none h. b.keeps j u none.1 (a.keeps j u (none.0, tt) h);
+    }
 
-pub none_of : {L : Type 0} (test : Use L → Bool) (uses : List (Use L)) (j : ℕ) (u : Use L) → slice_get uses j ≡ Some u → (test u ≡ true → ⊥) → (order : List ℕ) → ((k i : ℕ) → slice_get order k ≡ Some i → IsNumber test uses i) → IsNone j order
-none_of test uses j u there fails [] each = tt
-none_of test uses j u there fails (i ∷ order) each =
-    let n = each 0 i refl in
-    let ne : i ≢ j = λ e. fails (ap test (same_Some _ _ (sym there ∙ ap (slice_get uses) (sym e) ∙ n.there)) ∙ n.holds) in
-    (ne, none_of test uses j u there fails order (λ k x h. each (suc k) x h))
+-- a shape lasts, where no use in reach of its label is one of theirs
+pub lasts_veneers : {L : Type 0} (kinds : Kinds L) (order : List ℕ) (s : Shape L) → ((j : ℕ) (u : Use L) → slice_get s.uses j ≡ Some u → is_reached kinds (s.place u.label.number) u ≡ true → IsNone j order) → Lasts kinds s (put_all kinds order s)
+lasts_veneers {L} kinds order s none =
+    let v = veneers_last kinds order s in
+    rw v.same (record { grows = v.grows; straight = λ j u h bare reached. v.keeps j u (none j u h reached) h; allocated = omega arith; traps = λ k r h. h })
+
+-- an island's label is bound at its end, and all other labels, and all else but bytes and uses, stay
+pub record IslandRest {L : Type 0} (after_island : MachLabel) (old new : Shape L) : Type 0 where
+  pub bound : new.place after_island.number ≡ Some (length new.bytes)
+  pub places : (label : ℕ) → label ≢ after_island.number → new.place label ≡ old.place label
+  pub labels : first_inner ≤ after_island.number → new.labels ≡ old.labels
+  pub allocated : new.allocated ≡ old.allocated
+  pub traps : new.traps ≡ old.traps
+
+pub island_rest : {L : Type 0} {kinds : Kinds L} {after_island : MachLabel} {old new : Shape L} → Islanded kinds after_island old new → IslandRest after_island old new
+island_rest {L} {kinds} {after_island} {old} i =
+    let order = with_own (needs_own (aligned (length old.bytes)) (length i.order) (deadline kinds i.jump)) (length old.uses - 1) i.order in
+    let t = put_all kinds order (padded old) in
+    subst (IslandRest after_island old) (sym (i.whole ∙ ap (with_label after_island) (veneers_last kinds order (padded old)).same)) (record {
+      bound = placed_same old.place after_island.number (length t.bytes);
+      places = placed_other old.place after_island.number (length t.bytes);
+      labels = λ le. ap (λ (b : Bool). old.labels ++ (if b then record { label = after_island; offset = length t.bytes } ∷ [] else [])) (le-ltb after_island.number first_inner le) ∙ append_none old.labels;
+      allocated = refl;
+      traps = refl;
+    })

@@ -1,17 +1,18 @@
--- Veneers that stand, as code and uses are added.
-use Rattle.std.proofs.Common.{◌≡◌, ◌≢◌, ℕ, zero, suc, ◌+◌, ◌%◌, ◌≤◌, true, List, [], ◌∷◌, ◌++◌, length, take, drop, set, Some, None, refl, ap, sym, ◌∙◌, subst, arith}
+-- Veneers that stand, and the windows of uses, as code and uses are added.
+use Rattle.std.proofs.Common.{◌≡◌, ◌≢◌, ℕ, ◌+◌, ◌-◌, ◌%◌, ◌≤◌, ◌⊎◌, inl, inr, ⊎_elim, true, false, List, [], ◌∷◌, ◌++◌, length, take, drop, set, Option, Some, None, refl, ap, sym, ◌∙◌, subst, arith}
 use Rattle.std.specs.Prelude.{slice_get}
-use Rattle.std.proofs.lemmas.Bool.{true≢false}
 use Rattle.std.specs.Option.{option_map}
-use Rattle.std.proofs.lemmas.Option.{same_Some, slice_get-map}
-use Rattle.std.proofs.lemmas.List.{drop_at, drop-take, take-take, length-append, take_all}
-use Rattle.rv_base.specs.LabelUse.{Kinds, IsVeneer}
+use Rattle.std.proofs.lemmas.Bool.{true≢false}
+use Rattle.std.proofs.lemmas.Option.{same_Some, get_or_from_slice_get, slice_get-map}
+use Rattle.std.proofs.lemmas.List.{drop_at, drop-drop, drop-take, take-take, length-append, length-drop, take_all, set-append_left, map-set, set-get_or}
+use Rattle.rv_base.specs.LabelUse.{Kinds, IsVeneer, IsFresh}
 use Rattle.mach_buffer.specs.declared.uses.Use.{Use}
 use Rattle.mach_buffer.specs.Shape.{veneer_use, core, recorded}
-use Rattle.mach_buffer.specs.Windows.{window}
+use Rattle.mach_buffer.specs.Windows.{window, IsApart, AreWindows}
 use Rattle.mach_buffer.specs.Reach.{deadline}
 use Rattle.mach_buffer.specs.Links.{HasVeneer, IsLinked}
-use Rattle.mach_buffer.proofs.Lists.{append_each, none_some, slice_get-append, slice_get-append_last, slice_get-set_other, take_front}
+use Rattle.mach_buffer.proofs.Lists.{After, append_each, below, both_lists, changed, locate, none_some, one_there, only_one, set_each, slice_get-append, slice_get-append_last, slice_get-set_other, take_front}
+use Rattle.mach_buffer.proofs.Windows.{fresh_in_prefix}
 
 -- the veneer of each kind that has one
 abbrev pub HasLaw : {L : Type 0} → Kinds L → Type 0
@@ -26,18 +27,11 @@ window_stays bytes new p n le e =
 pub window_last : (bytes code : List ℕ) → window (bytes ++ code) (length bytes) (length code) ≡ code
 window_last bytes code = ap (take (length code)) (drop_at bytes code (length bytes) refl) ∙ take_all (length code) code (omega arith)
 
--- what is said of each use holds still, of one that is changed and of those that are not
-pub set_each : {L : Type 0} (P : Use L → Type 0) (uses : List (Use L)) (i : ℕ) (v : Use L) → P v → ((j : ℕ) (u : Use L) → slice_get uses j ≡ Some u → P u) → (j : ℕ) (u : Use L) → slice_get (set uses i v) j ≡ Some u → P u
-set_each P [] i v pv h j u k = h j u k
-set_each P (w ∷ uses) zero v pv h zero u k = subst P (same_Some _ _ k) pv
-set_each P (w ∷ uses) zero v pv h (suc j) u k = h (suc j) u k
-set_each P (w ∷ uses) (suc i) v pv h zero u k = h zero u k
-set_each P (w ∷ uses) (suc i) v pv h (suc j) u k = set_each P uses i v pv (λ n x e. h (suc n) x e) j u k
-
 module _ {L : Type 0} {kinds : Kinds L} {bytes : List ℕ} {uses : List (Use L)} where
-  -- a veneer stays where its own use does
-  has_stays : {u : Use L} {at : ℕ} (new_bytes : List ℕ) (new_uses : List (Use L)) → take (length bytes) new_bytes ≡ bytes → length bytes ≤ length new_bytes → (h : HasVeneer kinds bytes uses u at) → slice_get new_uses h.index ≡ Some (veneer_use (kinds.veneer u.kind) at u.label) → HasVeneer kinds new_bytes new_uses u at
-  has_stays new_bytes new_uses before longer h own = record {
+  -- a veneer stays where its own use does, whatever is known of the veneer's place
+  has_stays : {u : Use L} {at : ℕ} (o : Option ℕ) (new_bytes : List ℕ) (new_uses : List (Use L)) → take (length bytes) new_bytes ≡ bytes → length bytes ≤ length new_bytes → (h : HasVeneer kinds bytes uses u at) → slice_get new_uses h.index ≡ Some (veneer_use (kinds.veneer u.kind) at u.label) →
+      HasVeneer kinds new_bytes new_uses (record u { veneer = o }) at
+  has_stays o new_bytes new_uses before longer h own = record {
     inside = let i = h.inside in omega arith;
     code = window_stays bytes new_bytes _ 8 h.inside before ∙ h.code;
     index = h.index;
@@ -53,7 +47,7 @@ module _ {L : Type 0} {kinds : Kinds L} {bytes : List ℕ} {uses : List (Use L)}
   linked_bytes l more =
       let long = length-append bytes more in
       record {
-        each = λ j u at h e. let v = l.each j u at h e in has_stays (bytes ++ more) uses (take_front bytes more) (omega arith) v v.own;
+        each = λ j u at h e. let v = l.each j u at h e in has_stays u.veneer (bytes ++ more) uses (take_front bytes more) (omega arith) v v.own;
         before = λ j u h. let b = l.before j u h in omega arith;
       }
 
@@ -61,65 +55,160 @@ module _ {L : Type 0} {kinds : Kinds L} {bytes : List ℕ} {uses : List (Use L)}
   pub linked_use : IsLinked kinds bytes uses → (u : Use L) → u.veneer ≡ None → u.offset ≤ length bytes → IsLinked kinds bytes (uses ++ u ∷ [])
   linked_use l u bare le = record {
     each = λ j x at h e. append_each (λ x. (at : ℕ) → x.veneer ≡ Some at → HasVeneer kinds bytes (uses ++ u ∷ []) x at) uses u (λ at e. absurd (none_some u.veneer at bare e))
-        (λ j x h at e. let v = l.each j x at h e in has_stays bytes (uses ++ u ∷ []) (take_all (length bytes) bytes (omega arith)) (omega arith) v (slice_get-append uses (u ∷ []) v.index _ v.own)) j x h at e;
+        (λ j x h at e. let v = l.each j x at h e in has_stays x.veneer bytes (uses ++ u ∷ []) (take_all (length bytes) bytes (omega arith)) (omega arith) v (slice_get-append uses (u ∷ []) v.index _ v.own)) j x h at e;
     before = append_each (λ x. x.offset ≤ length bytes) uses u le l.before;
   }
 
-  -- a use gets its veneer
-  pub linked_veneer : HasLaw kinds → IsLinked kinds bytes uses → (i : ℕ) (u : Use L) → slice_get uses i ≡ Some u → length bytes ≤ deadline kinds u → kinds.has_veneer u.kind ≡ true → length bytes % 2 ≡ 0 →
-      IsLinked kinds (bytes ++ (kinds.veneer u.kind).bytes) (set uses i (record u { veneer = Some (length bytes) }) ++ veneer_use (kinds.veneer u.kind) (length bytes) u.label ∷ [])
-  linked_veneer law l i u there near supported even = record {
-    each = λ j x at h e. append_each (λ x. (at : ℕ) → x.veneer ≡ Some at → HasVeneer kinds new_bytes new_uses x at) (set uses i v) own (λ at e. absurd (none_some None at refl e))
-        (set_each (λ x. (at : ℕ) → x.veneer ≡ Some at → HasVeneer kinds new_bytes new_uses x at) uses i v (λ at e. subst (HasVeneer kinds new_bytes new_uses v) (same_Some _ _ e) first) (λ j x h at e. old j x at h e)) j x h at e;
-    before = append_each (λ x. x.offset ≤ length new_bytes) (set uses i v) own (omega (arith, long, ok.inside)) (set_each (λ x. x.offset ≤ length new_bytes) uses i v (let b = l.before i u there in omega (arith, long)) (λ j x h. let b = l.before j x h in omega (arith, long)));
-  }
-    where
-      ok : IsVeneer kinds (kinds.veneer u.kind)
-      ok = law u.kind supported
-
-      v : Use L
-      v = record u { veneer = Some (length bytes) }
-
-      own : Use L
-      own = veneer_use (kinds.veneer u.kind) (length bytes) u.label
-
-      new_bytes : List ℕ
-      new_bytes = bytes ++ (kinds.veneer u.kind).bytes
-
-      new_uses : List (Use L)
-      new_uses = set uses i v ++ own ∷ []
-
-      long : length new_bytes ≡ length bytes + 8
-      long = length-append bytes (kinds.veneer u.kind).bytes ∙ ap (λ n. length bytes + n) ok.eight
-
-      first : HasVeneer kinds new_bytes new_uses v (length bytes)
-      first = record {
-        inside = omega (arith, long);
-        code = ap (window new_bytes (length bytes)) (sym ok.eight) ∙ window_last bytes (kinds.veneer u.kind).bytes;
-        index = length (set uses i v);
-        own = slice_get-append_last (set uses i v) own;
-        near = near;
-        after = l.before i u there;
-        supported = supported;
-        even = even;
+  -- a use gets a veneer that stands
+  linked_set : HasLaw kinds → IsLinked kinds bytes uses → (i : ℕ) (u : Use L) → slice_get uses i ≡ Some u → (at : ℕ) → HasVeneer kinds bytes uses u at → IsLinked kinds bytes (set uses i (record u { veneer = Some at }))
+  linked_set law l i u there at has =
+      let v : Use L = record u { veneer = Some at } in
+      let new = set uses i v in
+      -- a veneer's own use supports none, so it isn't the one that is changed
+      let stays : (x : Use L) (to : ℕ) (o : Option ℕ) → HasVeneer kinds bytes uses x to → HasVeneer kinds bytes new (record x { veneer = o }) to = λ x to o h.
+      let differs : h.index ≢ i = λ same. true≢false (sym has.supported ∙ ap (λ (y : Use L). kinds.has_veneer y.kind) (same_Some _ _ (sym there ∙ ap (slice_get uses) (sym same) ∙ h.own)) ∙ (law x.kind h.supported).final) in
+      has_stays o bytes new (take_all (length bytes) bytes (omega arith)) (omega arith) h (slice_get-set_other uses i h.index v differs ∙ h.own) in
+      record {
+        each = λ j x to h e. set_each (λ x. (to : ℕ) → x.veneer ≡ Some to → HasVeneer kinds bytes new x to) uses i v (λ to e. subst (HasVeneer kinds bytes new v) (same_Some _ _ e) (stays u at (Some at) has)) (λ j x h to e. stays x to x.veneer (l.each j x to h e)) j x h to e;
+        before = set_each (λ x. x.offset ≤ length bytes) uses i v (l.before i u there) l.before;
       }
 
-      -- a veneer's own use has no veneer, so it isn't the one that is changed
-      old : (j : ℕ) (x : Use L) (at : ℕ) → slice_get uses j ≡ Some x → x.veneer ≡ Some at → HasVeneer kinds new_bytes new_uses x at
-      old j x at h e =
-          let w = l.each j x at h e in
-          let differs : w.index ≢ i = λ same. true≢false (sym supported ∙ ap (λ (y : Use L). kinds.has_veneer y.kind) (same_Some _ _ (sym there ∙ ap (slice_get uses) (sym same) ∙ w.own)) ∙ (law x.kind w.supported).final) in
-          has_stays new_bytes new_uses (take_front bytes (kinds.veneer u.kind).bytes) (omega (arith, long)) w (slice_get-append (set uses i v) (own ∷ []) w.index _ (slice_get-set_other uses i w.index v differs ∙ w.own))
-
-pub linked_none : {L : Type 0} (kinds : Kinds L) (bytes : List ℕ) → IsLinked kinds bytes []
-linked_none kinds bytes = record { each = λ j u at h e. absurd (cc); before = λ j u h. absurd (cc) }
+-- a use gets its veneer
+pub linked_veneer : {L : Type 0} {kinds : Kinds L} {bytes : List ℕ} {uses : List (Use L)} → HasLaw kinds → IsLinked kinds bytes uses → (i : ℕ) (u : Use L) → slice_get uses i ≡ Some u → length bytes ≤ deadline kinds u → kinds.has_veneer u.kind ≡ true → length bytes % 2 ≡ 0 →
+    IsLinked kinds (bytes ++ (kinds.veneer u.kind).bytes) (set uses i (record u { veneer = Some (length bytes) }) ++ veneer_use (kinds.veneer u.kind) (length bytes) u.label ∷ [])
+linked_veneer {L} {kinds} {bytes} {uses} law l i u there near supported even =
+    let V = kinds.veneer u.kind in
+    let ok : IsVeneer kinds V = law u.kind supported in
+    let own : Use L = veneer_use V (length bytes) u.label in
+    let long : length (bytes ++ V.bytes) ≡ length bytes + 8 = length-append bytes V.bytes ∙ ap (λ n. length bytes + n) ok.eight in
+    let has : HasVeneer kinds (bytes ++ V.bytes) (uses ++ own ∷ []) u (length bytes) = record {
+      inside = omega (arith, long);
+      code = ap (window (bytes ++ V.bytes) (length bytes)) (sym ok.eight) ∙ window_last bytes V.bytes;
+      index = length uses;
+      own = slice_get-append_last uses own;
+      near = near;
+      after = l.before i u there;
+      supported = supported;
+      even = even;
+    } in
+    rw (← set-append_left uses (own ∷ []) i (record u { veneer = Some (length bytes) }) (below uses i u there))
+    (linked_set law (linked_use (linked_bytes l V.bytes) own refl (omega (arith, long, ok.inside))) i u (slice_get-append uses (own ∷ []) i u there) (length bytes) has)
 
 -- ---- uses as they were recorded
 
 pub recorded_set : {L : Type 0} (uses : List (Use L)) (i : ℕ) (u v : Use L) → slice_get uses i ≡ Some u → core v ≡ core u → recorded (set uses i v) ≡ recorded uses
-recorded_set [] i u v h e = refl
-recorded_set (w ∷ uses) zero u v h e = ap (λ x. x ∷ recorded uses) (e ∙ ap core (sym (same_Some _ _ h)))
-recorded_set (w ∷ uses) (suc i) u v h e = ap (λ xs. core w ∷ xs) (recorded_set uses i u v h e)
+recorded_set uses i u v h e = map-set core uses i v ∙ ap (set (recorded uses) i) (e ∙ sym (get_or_from_slice_get (recorded uses) i (core u) (core u) (slice_get-map core uses i ∙ ap (option_map core) h))) ∙ set-get_or (recorded uses) i (core u)
 
 pub recorded_get : {L : Type 0} (uses : List (Use L)) (i : ℕ) (u : Use L) → slice_get uses i ≡ Some u → slice_get (recorded uses) i ≡ Some (core u)
 recorded_get uses i u h = slice_get-map core uses i ∙ ap (option_map core) h
+
+-- ---- the windows of uses, as a buffer grows
+
+pub windows_bytes : {L : Type 0} {kinds : Kinds L} {bytes : List ℕ} {uses : List (Use L)} → AreWindows kinds bytes uses → (more : List ℕ) → AreWindows kinds (bytes ++ more) uses
+windows_bytes {L} {kinds} {bytes} w more =
+    let long = length-append bytes more in
+    record {
+      even = w.even;
+      inside = λ j u h. let i = w.inside j u h in omega arith;
+      fresh = λ j u h. subst (IsFresh (kinds.fields u.kind)) (sym (window_stays bytes (bytes ++ more) u.offset (length (kinds.fields u.kind)) (w.inside j u h) (take_front bytes more))) (w.fresh j u h);
+      apart = w.apart;
+      clear = w.clear;
+    }
+
+pub windows_none : {L : Type 0} {kinds : Kinds L} → AreWindows kinds [] []
+windows_none {L} {kinds} = record { even = λ j u h. absurd (cc); inside = λ j u h. absurd (cc); fresh = λ j u h. absurd (cc); apart = λ j k u v ne hj hk. absurd (cc); clear = λ j k u v at hj e hk. absurd (cc) }
+
+fresh_short : (marks s : List ℕ) → length marks ≤ length s → IsFresh marks s → IsFresh marks (take (length marks) s)
+fresh_short marks s le h = fresh_in_prefix marks 0 (length s) (length marks) s (omega arith) (omega arith) (subst (IsFresh marks) (sym (take_all (length s) s (omega arith))) h)
+
+window_block : (bytes block : List ℕ) (place size : ℕ) → length bytes ≤ place → window (bytes ++ block) place size ≡ window block (place - length bytes) size
+window_block bytes block place size le =
+    let split : length bytes + (place - length bytes) ≡ place = omega arith in
+    ap (take size) (ap (λ n. drop n (bytes ++ block)) (sym split) ∙ sym (drop-drop (place - length bytes) (length bytes) (bytes ++ block)) ∙ ap (drop (place - length bytes)) (drop_at bytes block (length bytes) refl))
+
+-- ---- a sequence with its own uses
+
+-- the windows of a sequence's own uses stand in it, at even places, fresh and apart, and have no veneers yet
+pub record OwnWindows {L : Type 0} (kinds : Kinds L) (start : ℕ) (block : List ℕ) (own : List (Use L)) : Type 0 where
+  pub bare : (k : ℕ) (u : Use L) → slice_get own k ≡ Some u → u.veneer ≡ None
+  pub even : (k : ℕ) (u : Use L) → slice_get own k ≡ Some u → u.offset % 2 ≡ 0
+  pub begins : (k : ℕ) (u : Use L) → slice_get own k ≡ Some u → start ≤ u.offset
+  pub ends : (k : ℕ) (u : Use L) → slice_get own k ≡ Some u → u.offset + length (kinds.fields u.kind) ≤ start + length block
+  pub fresh : (k : ℕ) (u : Use L) → slice_get own k ≡ Some u → IsFresh (kinds.fields u.kind) (window block (u.offset - start) (length (kinds.fields u.kind)))
+  pub apart : (j k : ℕ) (u v : Use L) → j ≢ k → slice_get own j ≡ Some u → slice_get own k ≡ Some v → IsApart u.offset (length (kinds.fields u.kind)) v.offset (length (kinds.fields v.kind))
+
+pub windows_block : {L : Type 0} {kinds : Kinds L} {bytes : List ℕ} {uses : List (Use L)} → AreWindows kinds bytes uses → IsLinked kinds bytes uses → (block : List ℕ) (own : List (Use L)) → OwnWindows kinds (length bytes) block own → AreWindows kinds (bytes ++ block) (uses ++ own)
+windows_block {L} {kinds} {bytes} {uses} w l block own o = record {
+  even = both_lists (λ x. x.offset % 2 ≡ 0) uses own w.even o.even;
+  inside = both_lists (λ x. x.offset + length (kinds.fields x.kind) ≤ length (bytes ++ block)) uses own (λ k x q. let i = w.inside k x q in omega (arith, length-append bytes block)) (λ k x q. let i = o.ends k x q in omega (arith, length-append bytes block));
+  fresh = both_lists (λ x. IsFresh (kinds.fields x.kind) (window (bytes ++ block) x.offset (length (kinds.fields x.kind)))) uses own (windows_bytes w block).fresh
+      (λ k x q. subst (IsFresh (kinds.fields x.kind)) (sym (window_block bytes block x.offset (length (kinds.fields x.kind)) (o.begins k x q))) (o.fresh k x q));
+  apart = λ j k u v ne hj hk. apart j k u v ne (locate uses own j u hj) (locate uses own k v hk);
+  clear = λ j k u v at hj e hk. clear j u v at (locate uses own j u hj) e (locate uses own k v hk);
+}
+  where
+    apart : (j k : ℕ) (u v : Use L) → j ≢ k → (slice_get uses j ≡ Some u) ⊎ After uses own j u → (slice_get uses k ≡ Some v) ⊎ After uses own k v → IsApart u.offset (length (kinds.fields u.kind)) v.offset (length (kinds.fields v.kind))
+    apart j k u v ne (inl a) (inl b) = w.apart j k u v ne a b
+    apart j k u v ne (inl a) (inr b) = let x = w.inside j u a in let y = o.begins b.index v b.there in inl (omega arith)
+    apart j k u v ne (inr a) (inl b) = let x = o.begins a.index u a.there in let y = w.inside k v b in inr (omega arith)
+    apart j k u v ne (inr a) (inr b) = o.apart a.index b.index u v (λ e. let x = a.is in let y = b.is in ne (omega arith)) a.there b.there
+
+    clear : (j : ℕ) (u v : Use L) (at : ℕ) {k : ℕ} → (slice_get uses j ≡ Some u) ⊎ After uses own j u → u.veneer ≡ Some at → (slice_get uses k ≡ Some v) ⊎ After uses own k v → (v ≡ veneer_use (kinds.veneer u.kind) at u.label) ⊎ IsApart v.offset (length (kinds.fields v.kind)) at 8
+    clear j u v at {k} (inl a) e (inl b) = w.clear j k u v at a e b
+    clear j u v at {k} (inl a) e (inr b) = let x = (l.each j u at a e).inside in let y = o.begins b.index v b.there in inr (inr (omega arith))
+    clear j u v at {k} (inr a) e b = absurd (none_some u.veneer at (o.bare a.index u a.there) e)
+
+-- with one use
+pub windows_use : {L : Type 0} {kinds : Kinds L} {bytes : List ℕ} {uses : List (Use L)} → AreWindows kinds bytes uses → IsLinked kinds bytes uses → (block : List ℕ) (u : Use L) (from : ℕ) → u.veneer ≡ None → u.offset % 2 ≡ 0 → u.offset ≡ length bytes + from → from + length (kinds.fields u.kind) ≤ length block →
+    IsFresh (kinds.fields u.kind) (window block from (length (kinds.fields u.kind))) → AreWindows kinds (bytes ++ block) (uses ++ u ∷ [])
+windows_use {L} {kinds} {bytes} w l block u from bare even at ends fresh =
+    let start : u.offset - length bytes ≡ from = omega arith in
+    windows_block w l block (u ∷ []) (record {
+      bare = only_one (λ x. x.veneer ≡ None) u bare;
+      even = only_one (λ x. x.offset % 2 ≡ 0) u even;
+      begins = only_one (λ x. length bytes ≤ x.offset) u (omega arith);
+      ends = only_one (λ x. x.offset + length (kinds.fields x.kind) ≤ length bytes + length block) u (omega arith);
+      fresh = only_one (λ x. IsFresh (kinds.fields x.kind) (window block (x.offset - length bytes) (length (kinds.fields x.kind)))) u (rw start fresh);
+      apart = λ j k x y ne hj hk. absurd (ne ((one_there u j x hj).0 ∙ sym (one_there u k y hk).0));
+    })
+
+-- ---- a veneer
+
+-- a use gets a veneer that stands
+windows_set : {L : Type 0} {kinds : Kinds L} {bytes : List ℕ} {uses : List (Use L)} → HasLaw kinds → IsLinked kinds bytes uses → (i : ℕ) (u : Use L) → slice_get uses i ≡ Some u → kinds.has_veneer u.kind ≡ true → (at : ℕ) → AreWindows kinds bytes uses →
+    ((k : ℕ) (y : Use L) → slice_get uses k ≡ Some y → (y ≡ veneer_use (kinds.veneer u.kind) at u.label) ⊎ IsApart y.offset (length (kinds.fields y.kind)) at 8) → AreWindows kinds bytes (set uses i (record u { veneer = Some at }))
+windows_set {L} {kinds} {bytes} {uses} law l i u there supported at w fits =
+    let v : Use L = record u { veneer = Some at } in
+    let size : Use L → ℕ = λ x. length (kinds.fields x.kind) in
+    let was : (k : ℕ) (x : Use L) → slice_get (set uses i v) k ≡ Some x → (z : Use L) × (slice_get uses k ≡ Some z) × (core z ≡ core x) = λ k x h. ⊎_elim (λ a. (x, a.1, refl)) (λ a. (u, ap (slice_get uses) a.0 ∙ there, ap core a.1)) (changed uses i v k x h) in
+    -- the use is none in a veneer, and its window is where it was
+    let Clear : Use L → ℕ → Use L → Type 0 = λ x to y. (y ≡ veneer_use (kinds.veneer x.kind) to x.label) ⊎ IsApart y.offset (size y) to 8 in
+    let clear : (x : Use L) (to : ℕ) → kinds.has_veneer (kinds.veneer x.kind).kind ≡ false → ((k : ℕ) (y : Use L) → slice_get uses k ≡ Some y → Clear x to y) → (k : ℕ) (y : Use L) → slice_get (set uses i v) k ≡ Some y → Clear x to y = λ x to final was. set_each (Clear x to) uses i v
+    (⊎_elim (λ c. absurd (true≢false (sym supported ∙ ap (λ (z : Use L). kinds.has_veneer z.kind) c ∙ final))) (λ c. inr c) (was i u there)) was in
+    record {
+      even = set_each (λ x. x.offset % 2 ≡ 0) uses i v (w.even i u there) w.even;
+      inside = set_each (λ x. x.offset + size x ≤ length bytes) uses i v (w.inside i u there) w.inside;
+      fresh = set_each (λ x. IsFresh (kinds.fields x.kind) (window bytes x.offset (size x))) uses i v (w.fresh i u there) w.fresh;
+      apart = λ j k x y ne hj hk.
+          let a = was j x hj in
+          let b = was k y hk in
+          subst (λ (z : Use L). IsApart z.offset (size z) y.offset (size y)) a.2 (subst (λ (z : Use L). IsApart a.0.offset (size a.0) z.offset (size z)) b.2 (w.apart j k a.0 b.0 ne a.1 b.1));
+      clear = λ j k x y to hj e hk. ⊎_elim
+          (λ a. let h = l.each j x to a.1 e in clear x to (law x.kind h.supported).final (λ m z. w.clear j m x z to a.1 e) k y hk)
+          (λ a. subst (λ (z : Use L). Clear z to y) a.1 (subst (λ (m : ℕ). Clear u m y) (same_Some _ _ (ap (λ (z : Use L). z.veneer) a.1 ∙ e)) (clear u at (law u.kind supported).final fits k y hk)))
+          (changed uses i v j x hj);
+    }
+
+pub windows_veneer : {L : Type 0} {kinds : Kinds L} {bytes : List ℕ} {uses : List (Use L)} → HasLaw kinds → IsLinked kinds bytes uses → (i : ℕ) (u : Use L) → slice_get uses i ≡ Some u → kinds.has_veneer u.kind ≡ true → length bytes % 2 ≡ 0 → AreWindows kinds bytes uses →
+    AreWindows kinds (bytes ++ (kinds.veneer u.kind).bytes) (set uses i (record u { veneer = Some (length bytes) }) ++ veneer_use (kinds.veneer u.kind) (length bytes) u.label ∷ [])
+windows_veneer {L} {kinds} {bytes} {uses} law l i u there supported even w =
+    let V = kinds.veneer u.kind in
+    let ok : IsVeneer kinds V = law u.kind supported in
+    let own : Use L = veneer_use V (length bytes) u.label in
+    let new = bytes ++ V.bytes in
+    let long : length new ≡ length bytes + 8 = length-append bytes V.bytes ∙ ap (λ n. length bytes + n) ok.eight in
+    let fresh = fresh_short (kinds.fields V.kind) (drop V.place V.bytes) (omega (arith, length-drop V.place V.bytes, ok.eight, ok.inside)) ok.fresh in
+    let uses_apart = windows_use w l V.bytes own V.place refl (omega (arith, even, ok.place_even)) refl (omega (arith, ok.eight, ok.inside)) fresh in
+    rw (← set-append_left uses (own ∷ []) i (record u { veneer = Some (length bytes) }) (below uses i u there))
+    (windows_set law (linked_use (linked_bytes l V.bytes) own refl (omega (arith, long, ok.inside))) i u (slice_get-append uses (own ∷ []) i u there) supported (length bytes) uses_apart
+    (append_each (λ y. (y ≡ own) ⊎ IsApart y.offset (length (kinds.fields y.kind)) (length bytes) 8) uses own (inl refl) (λ k y h. inr (inl (w.inside k y h)))))

@@ -1,19 +1,35 @@
--- What the order of veneers tells of uses, and that each reaches its veneer.
+-- What the order of veneers tells of uses, that each reaches its veneer, and how sorted keys give the order.
 use Rattle.std.proofs.lemmas.Bool.Decides.{nat_tests}
-use Rattle.std.proofs.Common.{◌≡◌, ◌≢◌, ℕ, zero, suc, ◌+◌, ◌<◌, ◌≤◌, Bool, true, false, cond, List, [], ◌∷◌, length, map, Some, refl, ap, sym, ◌∙◌, subst, arith}
-use Rattle.std.specs.Prelude.{slice_get, nat_le, count_by, IsPermutation}
-use Rattle.std.proofs.lemmas.Option.{same_Some, get_or_from_slice_get, slice_get-get_or}
+use Rattle.std.proofs.Common.{◌≡◌, ◌≢◌, ℕ, suc, ◌+◌, ◌<◌, ◌≤◌, Bool, true, cond, List, [], ◌∷◌, length, map, Option, Some, refl, ap, sym, ◌∙◌, arith, false, not, ◌&&◌, ◌++◌, None, subst, Ordering}
+use Rattle.std.specs.Prelude.{slice_get, nat_le, count_by, IsPermutation, slice_index_or, filter, IsSorted}
+use Rattle.std.proofs.lemmas.Option.{same_Some, get_or_from_slice_get}
+use Rattle.std.proofs.lemmas.List.{length-map, map-append}
 use Rattle.std.proofs.lemmas.List.Recursion.{is_count_by}
-use Rattle.std.proofs.lemmas.List.Sorted.{IsPermutation-map, IsPermutation-sym, All-permutation, length_permutation, sum_by-IsPermutation}
+use Rattle.std.proofs.lemmas.List.Sorted.{IsPermutation-map, length_permutation, sum_by-IsPermutation, ranks_by, sorted_far, IsPermutation-trans, All-permutation}
 use Rattle.rv_base.specs.LabelUse.{Kinds}
 use Rattle.mach_buffer.specs.declared.uses.Use.{Use}
-use Rattle.mach_buffer.specs.Reach.{deadline, deadlines, due_by, StillReaches}
+use Rattle.mach_buffer.specs.Reach.{deadline, is_reached, is_pending, deadlines, due_by, StillReaches, is_other, names}
 use Rattle.mach_buffer.specs.Veneers.{numbers_of, IsSooner, by_deadline, by_place, by_number, IsOrder}
-use Rattle.mach_buffer.specs.Queues.{deadline_in, deadline_at}
+use Rattle.mach_buffer.specs.Queues.{deadline_in, deadline_at, test_at, keys_where, is_near, is_queued, is_other_queued, key_number, Keeps, AreKept}
 use Rattle.mach_buffer.specs.VeneerConditions.{IsNone, CanPut}
-use Rattle.mach_buffer.proofs.Lists.{below, length_map}
-use Rattle.mach_buffer.proofs.Numbers.{IsNumber, number_is, numbers_have, deadlines_at}
+use Rattle.mach_buffer.proofs.Numbers.{IsNumber, number_is, numbers_differ, number_there, none_by, deadlines_from, numbers_parts}
 use Rattle.mach_buffer.proofs.Slack.{reaches_next, reaches_due}
+use Rattle.std.specs.Cmp.{IsStrictWeakOrder}
+use Rattle.std.specs.Ordering.{nat_cmp, ordering_then, is_lt}
+use Rattle.std.proofs.lemmas.Bool.{and_parts}
+use Rattle.std.proofs.lemmas.Cmp.{nat_cmp_total, on_total, then_total}
+use Rattle.std.proofs.lemmas.List.Elements.{All-map}
+use Rattle.rv_base.specs.declared.label.MachLabel.{MachLabel}
+use Rattle.mach_buffer.specs.declared.uses.PendingKey.{PendingKey}
+use Rattle.mach_buffer.specs.declared.pending.Pending.{Pending}
+use Rattle.mach_buffer.proofs.QueueContents.{keeps_fewer}
+use Rattle.mach_buffer.proofs.Lists.{below, comes_from}
+
+-- a use in reach of its label is none of those that get veneers
+pub not_pending : {L : Type 0} (kinds : Kinds L) (place : ℕ → Option ℕ) (u : Use L) → is_reached kinds (place u.label.number) u ≡ true → is_pending kinds place u ≡ true → ⊥
+not_pending kinds place u reached pending = absurd (grind (arith, nat_tests))
+
+-- ---- deadlines in another order
 
 due_is_count : (end : ℕ) (ds : List ℕ) → due_by end ds ≡ count_by (λ d. nat_le d end) ds
 due_is_count end ds = is_count_by (due_by end) (λ d. nat_le d end) refl (λ d es. grind (arith, nat_tests)) ds
@@ -21,93 +37,122 @@ due_is_count end ds = is_count_by (due_by end) (λ d. nat_le d end) refl (λ d e
 due_permuted : (end : ℕ) (ds es : List ℕ) → IsPermutation ds es → due_by end es ≡ due_by end ds
 due_permuted end ds es perm = due_is_count end es ∙ sum_by-IsPermutation (λ d. cond (nat_le d end) 1 0) ds es perm ∙ sym (due_is_count end ds)
 
-none_sooner : (d end : ℕ) (ds : List ℕ) → ((k e : ℕ) → slice_get ds k ≡ Some e → d ≤ e) → 1 ≤ due_by end ds → d ≤ end
-none_sooner d end [] all one = absurd (omega arith)
-none_sooner d end (e ∷ ds) all one = grind (arith, nat_tests, all 0 e, none_sooner d end ds (λ k x h. all (suc k) x h))
+none_sooner : (due : ℕ → ℕ) (d end : ℕ) (ns : List ℕ) → ((k j : ℕ) → slice_get ns k ≡ Some j → d ≤ due j) → 1 ≤ due_by end (map due ns) → d ≤ end
+none_sooner due d end [] all one = absurd (omega arith)
+none_sooner due d end (j ∷ ns) all one = grind (arith, nat_tests, all 0 j, none_sooner due d end ns (λ k x h. all (suc k) x h))
 
-can_list : {L : Type 0} (kinds : Kinds L) (test : Use L → Bool) (uses : List (Use L)) (cur : ℕ) (order : List ℕ) → StillReaches cur (map (deadline_at kinds uses) order) → ((u : Use L) → test u ≡ true → kinds.has_veneer u.kind ≡ true) → ((k i : ℕ) → slice_get order k ≡ Some i → IsNumber test uses i) →
-    ((a b i j : ℕ) → a < b → slice_get order a ≡ Some i → slice_get order b ≡ Some j → (i ≢ j) × (deadline_at kinds uses i ≤ deadline_at kinds uses j)) → CanPut kinds uses cur order
-can_list kinds test uses cur [] reach may each pairs = tt
-can_list kinds test uses cur (i ∷ order) reach may each pairs =
-    let n = each 0 i refl in
-    let D = deadline_at kinds uses in
-    let due : D i ≡ deadline kinds n.user = ap (deadline_in kinds) n.there in
-    let counts : (end : ℕ) → due_by end (D i ∷ map D order) ≡ due_by end (D i ∷ []) + due_by end (map D order) = λ end. step (nat_le (D i) end) (due_by end (map D order)) in
-    let near : cur ≤ D i = reaches_due cur (D i) (D i ∷ map D order) (map D order) (counts (D i)) reach in (
-      record { user = n.user; there = n.there; supported = may n.user n.holds; near = omega arith },
-      others order (λ k j h. sym_ne (pairs 0 (suc k) i j (omega arith) refl h).0),
-      can_list kinds test uses (cur + 8) order (reaches_next cur (D i) (D i ∷ map D order) (map D order) (λ end one. none_sooner (D i) end (D i ∷ map D order) (sooner i order (λ k j h. (pairs 0 (suc k) i j (omega arith) refl h).1)) one) counts reach) may (λ k j h. each (suc k) j h) (λ a b x y lt ha hb. pairs (suc a) (suc b) x y (omega arith) ha hb),
-    )
-  where
-    step : (c : Bool) (m : ℕ) → cond c (suc m) m ≡ cond c 1 0 + m
-    step true m = omega arith
-    step false m = omega arith
+sooner_first : {L : Type 0} {kinds : Kinds L} {i j : ℕ} {u v : Use L} → IsSooner kinds i u j v → deadline kinds u ≤ deadline kinds v
+sooner_first (by_deadline l) = omega arith
+sooner_first (by_place d l) = omega arith
+sooner_first (by_number d p l) = omega arith
 
-    sym_ne : {x y : ℕ} → x ≢ y → y ≢ x
-    sym_ne ne e = ne (sym e)
+module _ {L : Type 0} (kinds : Kinds L) (test : Use L → Bool) (uses : List (Use L)) where
+  can_list : (cur : ℕ) (order : List ℕ) → StillReaches cur (map (deadline_at kinds uses) order) → ((u : Use L) → test u ≡ true → kinds.has_veneer u.kind ≡ true) → ((k i : ℕ) → slice_get order k ≡ Some i → IsNumber test uses i) →
+      ((a b i j : ℕ) → a < b → slice_get order a ≡ Some i → slice_get order b ≡ Some j → (i ≢ j) × (deadline_at kinds uses i ≤ deadline_at kinds uses j)) → CanPut kinds uses cur order
+  can_list cur [] reach may each pairs = tt
+  can_list cur (i ∷ order) reach may each pairs =
+      let n = each 0 i refl in
+      let D : ℕ → ℕ = deadline_at kinds uses in
+      let due : D i ≡ deadline kinds n.user = ap (deadline_in kinds) n.there in
+      let near = reaches_due cur (D i) (map D order) reach in
+      let sooner : (end : ℕ) → 1 ≤ due_by end (map D order) → D i ≤ end = λ end. none_sooner D (D i) end order (λ k j h. (pairs 0 (suc k) i j (omega arith) refl h).1) in (
+        record { user = n.user; there = n.there; supported = may n.user n.holds; near = omega arith },
+        none_by i order (λ k j h e. (pairs 0 (suc k) i j (omega arith) refl h).0 (sym e)),
+        can_list (cur + 8) order (reaches_next cur (D i) (map D order) sooner reach) may (λ k j h. each (suc k) j h) (λ a b x y lt ha hb. pairs (suc a) (suc b) x y (omega arith) ha hb),
+      )
 
-    others : (ns : List ℕ) → ((k j : ℕ) → slice_get ns k ≡ Some j → j ≢ i) → IsNone i ns
-    others [] f = tt
-    others (j ∷ ns) f = (f 0 j refl, others ns (λ k x h. f (suc k) x h))
-
-    sooner : (x : ℕ) (ns : List ℕ) → ((k j : ℕ) → slice_get ns k ≡ Some j → deadline_at kinds uses x ≤ deadline_at kinds uses j) → (k e : ℕ) → slice_get (deadline_at kinds uses x ∷ map (deadline_at kinds uses) ns) k ≡ Some e → deadline_at kinds uses x ≤ e
-    sooner x ns f zero e h = let same : deadline_at kinds uses x ≡ e = same_Some _ _ h in omega arith
-    sooner x ns f (suc k) e h = at ns f k h
-      where
-        at : (ms : List ℕ) → ((k j : ℕ) → slice_get ms k ≡ Some j → deadline_at kinds uses x ≤ deadline_at kinds uses j) → (k : ℕ) → slice_get (map (deadline_at kinds uses) ms) k ≡ Some e → deadline_at kinds uses x ≤ e
-        at [] g k h = absurd (cc)
-        at (m ∷ ms) g zero h = let same : deadline_at kinds uses m ≡ e = same_Some _ _ h in let le = g 0 m refl in omega arith
-        at (m ∷ ms) g (suc k) h = at ms (λ n j q. g (suc n) j q) k h
+-- ---- the uses of an order
 
 module _ {L : Type 0} {kinds : Kinds L} {test : Use L → Bool} {uses : List (Use L)} where
-  -- each number of the order is that of a use for which the test holds
-  pub order_number : {order : List ℕ} → IsOrder kinds test uses order → (k i : ℕ) → slice_get order k ≡ Some i → IsNumber test uses i
-  order_number {order} o k i h =
-      let all = All-permutation (IsNumber test uses) (numbers_of test uses) order o.exactly (λ j d lt. number_is test uses j _ (slice_get-get_or (numbers_of test uses) j d lt)) in
-      subst (IsNumber test uses) (get_or_from_slice_get order k i i h) (all k i (below order k i h))
+  -- a use for which the test fails is none of them, and one for which it holds is
+  pub order_none : {order : List ℕ} → IsOrder kinds test uses order → (j : ℕ) (u : Use L) → slice_get uses j ≡ Some u → (test u ≡ true → ⊥) → IsNone j order
+  order_none {order} o j u there fails = none_by j order (λ k i h e. let n = number_is test uses order o.exactly k i h in fails (ap test (same_Some _ _ (sym there ∙ ap (slice_get uses) (sym e) ∙ n.there)) ∙ n.holds))
 
-  -- and each such use has its number there
-  pub order_has : {order : List ℕ} → IsOrder kinds test uses order → (j : ℕ) (u : Use L) → slice_get uses j ≡ Some u → test u ≡ true → ((k i : ℕ) → slice_get order k ≡ Some i → i ≢ j) → ⊥
-  order_has {order} o j u h t differ =
-      let all = All-permutation (λ i. i ≢ j) order (numbers_of test uses) (IsPermutation-sym (numbers_of test uses) order o.exactly) (λ k d lt. differ k _ (slice_get-get_or order k d lt)) in
-      let at = numbers_have 0 test uses j u h t in
-      let same : 0 + j ≡ j = omega arith in
-      all at.0 0 (below (numbers_of test uses) at.0 (0 + j) at.1) (get_or_from_slice_get (numbers_of test uses) at.0 (0 + j) 0 at.1 ∙ same)
+  pub order_has : {order : List ℕ} → IsOrder kinds test uses order → (j : ℕ) (u : Use L) → slice_get uses j ≡ Some u → test u ≡ true → IsNone j order → ⊥
+  order_has {order} o = number_there test uses order o.exactly
 
   pub order_long : {order : List ℕ} → IsOrder kinds test uses order → length order ≡ length (deadlines test kinds uses)
-  order_long {order} o = length_permutation (numbers_of test uses) order o.exactly ∙ sym (ap (length {A = ℕ}) (deadlines_at kinds test uses) ∙ length_map (deadline_at kinds uses) (numbers_of test uses))
+  order_long {order} o = length_permutation (numbers_of test uses) order o.exactly ∙ sym (ap (length {A = ℕ}) (deadlines_from kinds test [] uses) ∙ length-map (numbers_of test uses) (deadline_at kinds uses))
 
-  -- where each use reaches its veneer in the order of deadlines, they can be put in that order
+  -- the veneers of these uses can be put in their order, where each still reaches its own
   pub can_order : {order : List ℕ} (cur : ℕ) → IsOrder kinds test uses order → ((u : Use L) → test u ≡ true → kinds.has_veneer u.kind ≡ true) → StillReaches cur (deadlines test kinds uses) → CanPut kinds uses cur order
-  can_order {order} cur o may reach = can_list kinds test uses cur order reach_order may (order_number o) pairs
-    where
-      reach_order : StillReaches cur (map (deadline_at kinds uses) order)
-      reach_order = record {
-        each = λ end one.
-            let same : due_by end (map (deadline_at kinds uses) order) ≡ due_by end (deadlines test kinds uses) = due_permuted end (map (deadline_at kinds uses) (numbers_of test uses)) (map (deadline_at kinds uses) order) (IsPermutation-map (deadline_at kinds uses) (numbers_of test uses) order o.exactly) ∙ sym (ap (due_by end) (deadlines_at kinds test uses)) in
-            let e = reach.each end (omega arith) in
-            omega arith;
+  can_order {order} cur o may reach =
+      let D : ℕ → ℕ = deadline_at kinds uses in
+      let same : (end : ℕ) → due_by end (map D order) ≡ due_by end (deadlines test kinds uses) = λ end. due_permuted end (map D (numbers_of test uses)) (map D order) (IsPermutation-map D (numbers_of test uses) order o.exactly) ∙ sym (ap (due_by end) (deadlines_from kinds test [] uses)) in
+      let rising : (a b i j : ℕ) → a < b → slice_get order a ≡ Some i → slice_get order b ≡ Some j → D i ≤ D j = λ a b i j lt ha hb.
+      let x = number_is test uses order o.exactly a i ha in
+      let y = number_is test uses order o.exactly b j hb in
+      let first = sooner_first (o.sorted a b i j x.user y.user lt ha hb x.there y.there) in
+      omega (arith, first, ap (deadline_in kinds) x.there, ap (deadline_in kinds) y.there) in
+      can_list kinds test uses cur order (record { each = λ end one. let e = reach.each end (let s = same end in omega arith) in let s = same end in omega arith }) may (number_is test uses order o.exactly)
+      (λ a b i j lt ha hb. (numbers_differ test uses order o.exactly a b i j lt ha hb, rising a b i j lt ha hb))
+
+-- ---- keys of uses
+
+abbrev offset_in : {L : Type 0} → Option (Use L) → ℕ
+offset_in None = 0
+offset_in (Some u) = u.offset
+
+-- the key of the use of a number
+abbrev key_at : {L : Type 0} → Kinds L → List (Use L) → ℕ → PendingKey
+key_at kinds uses i = record { deadline = deadline_at kinds uses i; offset = offset_in (slice_get uses i); index = i }
+
+keys_are : {L : Type 0} (kinds : Kinds L) (test : Use L → Bool) (uses : List (Use L)) (numbers : List ℕ) → keys_where kinds test uses numbers ≡ map (key_at kinds uses) (filter (test_at test uses) numbers)
+keys_are kinds test uses [] = refl
+keys_are kinds test uses (n ∷ ns) = grind (arith, nat_tests, keys_are kinds test uses ns)
+
+numbers_back : {L : Type 0} (kinds : Kinds L) (uses : List (Use L)) (ns : List ℕ) → map key_number (map (key_at kinds uses) ns) ≡ ns
+numbers_back kinds uses [] = refl
+numbers_back kinds uses (n ∷ ns) = ap (λ is. n ∷ is) (numbers_back kinds uses ns)
+
+-- ---- sorted keys
+
+abbrev key_cmp : PendingKey → PendingKey → Ordering
+key_cmp a b = ordering_then (nat_cmp a.deadline b.deadline) (ordering_then (nat_cmp a.offset b.offset) (nat_cmp a.index b.index))
+
+key_order : IsStrictWeakOrder (λ a b. is_lt (key_cmp a b))
+key_order = ranks_by (then_total (on_total (λ (t : PendingKey). t.deadline) nat_cmp_total) (then_total (on_total (λ (t : PendingKey). t.offset) nat_cmp_total) (on_total (λ (t : PendingKey). t.index) nat_cmp_total))) (λ t. t)
+
+in_order : (ts : List PendingKey) → IsSorted key_cmp ts → (a b : ℕ) (s t : PendingKey) → a < b → slice_get ts a ≡ Some s → slice_get ts b ≡ Some t → is_lt (key_cmp t s) ≡ false
+in_order ts up a b s t lt ha hb =
+    let there : is_lt (key_cmp (slice_index_or ts b s) (slice_index_or ts a s)) ≡ is_lt (key_cmp t s) = λ i. is_lt (key_cmp (get_or_from_slice_get ts b t s hb i) (get_or_from_slice_get ts a s s ha i)) in
+    sym there ∙ sorted_far (λ c d. is_lt (key_cmp c d)) key_order ts up a b s (omega arith) (below ts b t hb)
+
+-- of two keys in order the use of the first has its veneer sooner
+sooner : {L : Type 0} {kinds : Kinds L} {i j : ℕ} {u v : Use L} (s t : PendingKey) → s.deadline ≡ deadline kinds u → s.offset ≡ u.offset → s.index ≡ i → t.deadline ≡ deadline kinds v → t.offset ≡ v.offset → t.index ≡ j → i ≢ j → is_lt (key_cmp t s) ≡ false → IsSooner kinds i u j v
+sooner s t sd so si td to ti ne e = grind (arith, nat_tests, by_deadline, by_place, by_number)
+
+-- ---- the order of both queues
+
+and_swap : (a b c : Bool) → ((a && b) && c) ≡ ((a && c) && b)
+and_swap a b c = grind (arith, nat_tests)
+
+module _ {L : Type 0} {kinds : Kinds L} {place : ℕ → Option ℕ} {uses : List (Use L)} {p : Pending} where
+  pub order_is : (after_island : Option MachLabel) (near_keys keys sorted : List PendingKey) → AreKept kinds place uses p → near_keys ≡ [] ++ keys_where kinds (is_other_queued kinds place true after_island) uses p.near.numbers.items →
+      keys ≡ near_keys ++ keys_where kinds (is_other_queued kinds place false after_island) uses p.far.numbers.items → IsPermutation keys sorted → IsSorted key_cmp sorted → IsOrder kinds (is_other kinds place after_island) uses (map key_number sorted)
+  order_is after_island near_keys keys sorted k en et perm up =
+      let Q : Bool → Use L → Bool = λ near. is_other_queued kinds place near after_island in
+      let K : ℕ → PendingKey = key_at kinds uses in
+      let N = numbers_of (Q true) uses ++ numbers_of (Q false) uses in
+      let queue : (near : Bool) (ns : List ℕ) (slack : ℕ) → Keeps kinds (is_queued kinds place near) uses ns slack → keys_where kinds (Q near) uses ns ≡ map K (numbers_of (Q near) uses) = λ near ns slack q.
+      keys_are kinds (Q near) uses ns ∙ ap (map K) (keeps_fewer (Q near) (λ u h. (and_parts (is_queued kinds place near u) (not (names after_island u)) h).0) q).same in
+      let whole : keys ≡ map K N = et ∙ (λ i. (en ∙ queue true _ _ k.near) i ++ queue false _ _ k.far i) ∙ sym (map-append K (numbers_of (Q true) uses) (numbers_of (Q false) uses)) in
+      let exactly : IsPermutation (numbers_of (is_other kinds place after_island) uses) (map key_number sorted) = IsPermutation-trans _ N (map key_number sorted)
+      (numbers_parts (is_other kinds place after_island) (Q true) (Q false) (is_near kinds) (λ u. and_swap (is_pending kinds place u) (is_near kinds u) (not (names after_island u))) (λ u. and_swap (is_pending kinds place u) (not (is_near kinds u)) (not (names after_island u))) 0 uses)
+      (subst (λ ns. IsPermutation ns (map key_number sorted)) (ap (map key_number) whole ∙ numbers_back kinds uses N) (IsPermutation-map key_number keys sorted perm)) in
+      -- each key is that of the use of its number
+      let IsKey : PendingKey → Type 0 = λ t. K t.index ≡ t in
+      let each : (j : ℕ) (t : PendingKey) → slice_get sorted j ≡ Some t → K t.index ≡ t = λ j t h.
+      subst IsKey (get_or_from_slice_get sorted j t t h) (All-permutation IsKey (map K N) sorted (subst (λ ts. IsPermutation ts sorted) whole perm) (All-map IsKey K N (λ i d lt. refl)) j t (below sorted j t h)) in
+      let at : (a i : ℕ) (u : Use L) (t : PendingKey) → slice_get sorted a ≡ Some t → t.index ≡ i → slice_get uses i ≡ Some u → (t.deadline ≡ deadline kinds u) × (t.offset ≡ u.offset) = λ a i u t h e q.
+      let there = ap (slice_get uses) e ∙ q in
+      (sym (ap (λ (s : PendingKey). s.deadline) (each a t h)) ∙ ap (deadline_in kinds) there, sym (ap (λ (s : PendingKey). s.offset) (each a t h)) ∙ ap offset_in there) in
+      record {
+        exactly = exactly;
+        sorted = λ a b i j u v lt ha hb hu hv.
+            let s = comes_from key_number sorted a i ha in
+            let t = comes_from key_number sorted b j hb in
+            let x = at a i u s.from s.there s.is hu in
+            let y = at b j v t.from t.there t.is hv in
+            sooner s.from t.from x.0 x.1 s.is y.0 y.1 t.is (numbers_differ (is_other kinds place after_island) uses (map key_number sorted) exactly a b i j lt ha hb) (in_order sorted up a b s.from t.from lt s.there t.there);
       }
-
-      pairs : (a b i j : ℕ) → a < b → slice_get order a ≡ Some i → slice_get order b ≡ Some j → (i ≢ j) × (deadline_at kinds uses i ≤ deadline_at kinds uses j)
-      pairs a b i j lt ha hb = on (o.sorted a b i j x.user y.user lt ha hb x.there y.there)
-        where
-          x : IsNumber test uses i
-          x = order_number o a i ha
-
-          y : IsNumber test uses j
-          y = order_number o b j hb
-
-          di : deadline_at kinds uses i ≡ deadline kinds x.user
-          di = ap (deadline_in kinds) x.there
-
-          dj : deadline_at kinds uses j ≡ deadline kinds y.user
-          dj = ap (deadline_in kinds) y.there
-
-          same : i ≡ j → x.user ≡ y.user
-          same e = same_Some _ _ (sym x.there ∙ ap (slice_get uses) e ∙ y.there)
-
-          on : IsSooner kinds i x.user j y.user → (i ≢ j) × (deadline_at kinds uses i ≤ deadline_at kinds uses j)
-          on (by_deadline l) = let a = di in let b = dj in (λ e. let s = ap (deadline kinds) (same e) in absurd (omega arith), omega arith)
-          on (by_place d l) = let a = di in let b = dj in (λ e. let s = ap (λ (z : Use L). z.offset) (same e) in absurd (omega arith), omega arith)
-          on (by_number d p l) = let a = di in let b = dj in (λ e. absurd (omega arith), omega arith)

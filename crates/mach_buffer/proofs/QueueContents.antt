@@ -1,21 +1,22 @@
--- The queues of pending uses, as uses and labels come.
+-- The queues of pending uses, as uses and labels come, and the search in them for a deadline that might be missed.
 use Rattle.std.proofs.lemmas.Bool.Decides.{nat_tests}
-use Rattle.std.proofs.Common.{◌≡◌, ℕ, ◌+◌, ◌*◌, ◌<◌, ◌≤◌, Bool, true, false, not, ◌&&◌, cond, List, [], ◌∷◌, ◌++◌, length, map, Option, Some, None, ap, sym, ◌∙◌, subst, arith}
-use Rattle.std.specs.Prelude.{slice_get, filter}
-use Rattle.std.proofs.lemmas.Bool.{true≢false, and_parts, and_from, and_left, and_right}
-use Rattle.std.proofs.Common.{append_assoc}
-use Rattle.std.proofs.lemmas.List.{length-append, map-append}
+use Rattle.std.proofs.Common.{◌≡◌, ℕ, ◌+◌, ◌*◌, ◌<◌, ◌≤◌, Bool, true, false, not, List, [], ◌∷◌, ◌++◌, length, map, Option, Some, None, ap, sym, ◌∙◌, subst, arith, append_assoc, ◌-◌, refl}
+use Rattle.std.specs.Prelude.{slice_get, filter, count_by, is_some}
+use Rattle.std.proofs.lemmas.Bool.{and_parts, and_from, and_left, and_right, true_from_ne_false}
+use Rattle.std.proofs.lemmas.List.{nil_from_length, length-append, map-append, length-map}
 use Rattle.std.proofs.lemmas.List.Elements.{filter-append}
+use Rattle.std.proofs.lemmas.List.Recursion.{is_count_by}
+use Rattle.std.proofs.lemmas.List.Sums.{count_by-le-length}
+use Rattle.std.proofs.lemmas.List.Sorted.{IsPermutation-refl}
 use Rattle.rv_base.specs.LabelUse.{Kinds}
 use Rattle.mach_buffer.specs.declared.uses.Use.{Use}
 use Rattle.mach_buffer.specs.declared.pending.Pending.{Pending}
-use Rattle.mach_buffer.specs.declared.pending.Queue.{Queue}
-use Rattle.mach_buffer.specs.Reach.{deadline, is_pending, deadlines, due_by, HasSlack}
+use Rattle.mach_buffer.specs.Reach.{deadline, is_pending, deadlines, due_by, HasSlack, AllOf, is_needed_from}
 use Rattle.mach_buffer.specs.Veneers.{numbers_of}
-use Rattle.mach_buffer.specs.Queues.{passes, test_at, use_where, deadline_in, deadline_at, is_near, on_side, is_queued, slack_after, Keeps, AreKept}
-use Rattle.mach_buffer.proofs.Lists.{below, append_each, append_none, length_map, slice_get-append_last}
-use Rattle.mach_buffer.proofs.Numbers.{deadlines_at, number_is, filter_numbers, filter_filter, passes_fewer, numbers_more, filter_more, no_numbers, where_some, where_none}
-use Rattle.mach_buffer.proofs.Slack.{due_append, due_fewer, due_le_length, deadlines_append, slack_same, none_from}
+use Rattle.mach_buffer.specs.Queues.{passes, test_at, use_where, is_due_at, deadline_in, deadline_at, is_near, on_side, is_queued, slack_after, Keeps, AreKept, due_in, shows_slack}
+use Rattle.mach_buffer.proofs.Lists.{below, append_each, append_none, slice_get-append_last}
+use Rattle.mach_buffer.proofs.Numbers.{deadlines_from, number_is, numbers_fewer, filter_fewer, numbers_more, filter_more, where_some, where_none}
+use Rattle.mach_buffer.proofs.Slack.{due_append, due_fewer, due_le_length, deadlines_append, slack_same, none_from, due_mono, each_from_slack, slack_less, slack_not_needed}
 
 -- ---- slack
 
@@ -25,35 +26,35 @@ room_after slack d n ds few room one = record { each = λ end due. let a = due_a
 
 -- ---- one queue
 
-length_filter : (p : ℕ → Bool) (ns : List ℕ) → length (filter p ns) ≤ length ns
-length_filter p [] = omega arith
-length_filter p (n ∷ ns) = grind (arith, nat_tests, length_filter p ns)
-
 module _ {L : Type 0} {kinds : Kinds L} {test : Use L → Bool} {uses : List (Use L)} {numbers : List ℕ} {slack : ℕ} where
   -- its numbers are those of the deadlines
   pub kept_deadlines : Keeps kinds test uses numbers slack → deadlines test kinds uses ≡ map (deadline_at kinds uses) (filter (test_at test uses) numbers)
-  kept_deadlines k = deadlines_at kinds test uses ∙ ap (map (deadline_at kinds uses)) (sym k.same)
+  kept_deadlines k = deadlines_from kinds test [] uses ∙ ap (map (deadline_at kinds uses)) (sym k.same)
+
+  -- how many are due, and how many there are, by what is counted
+  pub kept_due : Keeps kinds test uses numbers slack → (end : ℕ) → count_by (λ i. is_due_at kinds test uses end i) numbers ≡ due_by end (deadlines test kinds uses)
+  kept_due k end = sym (ap (due_by end) (kept_deadlines k) ∙ is_count_by (λ is. due_by end (map (deadline_at kinds uses) (filter (test_at test uses) is))) (λ i. is_due_at kinds test uses end i) refl (λ i is. grind (arith, nat_tests)) numbers)
+
+  pub kept_count : Keeps kinds test uses numbers slack → count_by (λ i. is_some (use_where test uses i)) numbers ≡ length (deadlines test kinds uses)
+  kept_count k = sym (ap (length {A = ℕ}) (kept_deadlines k) ∙ is_count_by (λ is. length (map (deadline_at kinds uses) (filter (test_at test uses) is))) (λ i. is_some (use_where test uses i)) refl (λ i is. grind (arith, nat_tests)) numbers)
 
   pub kept_few : Keeps kinds test uses numbers slack → length (deadlines test kinds uses) ≤ length numbers
-  kept_few k =
-      let few = length_filter (test_at test uses) numbers in
-      let same : length (deadlines test kinds uses) ≡ length (filter (test_at test uses) numbers) = ap (length {A = ℕ}) (kept_deadlines k) ∙ length_map (deadline_at kinds uses) (filter (test_at test uses) numbers) in
-      omega arith
+  kept_few k = omega (arith, kept_count k, count_by-le-length (λ i. is_some (use_where test uses i)) numbers)
 
   -- a test that asks more
   pub keeps_fewer : (new_test : Use L → Bool) → ((u : Use L) → new_test u ≡ true → test u ≡ true) → Keeps kinds test uses numbers slack → Keeps kinds new_test uses numbers slack
   keeps_fewer new_test sub k = record {
     low = k.low;
-    same = sym (filter_filter (test_at test uses) (test_at new_test uses) (λ i. passes_fewer test new_test sub (slice_get uses i)) numbers) ∙ ap (filter (test_at new_test uses)) k.same ∙ filter_numbers test new_test sub uses;
+    same = sym (filter_fewer test new_test sub uses numbers) ∙ ap (filter (test_at new_test uses)) k.same ∙ numbers_fewer test new_test sub [] uses;
     room = λ one. slack_same slack 0 (deadlines test kinds uses) (deadlines new_test kinds uses) (λ end. due_fewer test new_test kinds end uses sub) (k.room one);
   }
 
   -- a use that isn't of this queue
   pub keeps_skip : (u : Use L) → test u ≡ false → Keeps kinds test uses numbers slack → Keeps kinds test (uses ++ u ∷ []) numbers slack
   keeps_skip u idle k = record {
-    low = λ j i h. let l = k.low j i h in let n = length-append uses (u ∷ []) in omega arith;
-    same = filter_more test uses u numbers k.low ∙ k.same ∙ sym (numbers_more 0 test uses u ∙ ap (λ c. numbers_of test uses ++ cond c ((0 + length uses) ∷ []) []) idle ∙ append_none (numbers_of test uses));
-    room = λ one. subst (HasSlack slack 0) (sym (deadlines_append test kinds uses (u ∷ []) ∙ ap (λ c. deadlines test kinds uses ++ cond c (deadline kinds u ∷ []) []) idle ∙ append_none (deadlines test kinds uses))) (k.room one);
+    low = λ j i h. omega (arith, k.low j i h, length-append uses (u ∷ []));
+    same = filter_more test uses u numbers k.low ∙ k.same ∙ sym (rw (numbers_more 0 test uses u, idle) (append_none (numbers_of test uses)));
+    room = λ one. rw (deadlines_append, idle, append_none) (k.room one);
   }
 
   -- and one that is
@@ -61,21 +62,19 @@ module _ {L : Type 0} {kinds : Kinds L} {test : Use L → Bool} {uses : List (Us
   keeps_push u waits k =
       let long = length-append uses (u ∷ []) in
       let few = kept_few k in
-      let more : deadlines test kinds (uses ++ u ∷ []) ≡ deadlines test kinds uses ++ deadline kinds u ∷ [] = deadlines_append test kinds uses (u ∷ []) ∙ ap (λ c. deadlines test kinds uses ++ cond c (deadline kinds u ∷ []) []) waits in
       let last : test_at test (uses ++ u ∷ []) (length uses) ≡ true = ap (passes test) (slice_get-append_last uses u) ∙ waits in
       let zero_more : 0 + length uses ≡ length uses = omega arith in
       record {
         low = append_each (λ i. i < length (uses ++ u ∷ [])) numbers (length uses) (omega arith) (λ j i h. let l = k.low j i h in omega arith);
-        same = filter-append (test_at test (uses ++ u ∷ [])) numbers (length uses ∷ []) ∙ (λ i. filter_more test uses u numbers k.low i ++ cond (last i) (length uses ∷ []) []) ∙ ap (λ ns. ns ++ length uses ∷ []) k.same
-            ∙ sym (numbers_more 0 test uses u ∙ ap (λ c. numbers_of test uses ++ cond c ((0 + length uses) ∷ []) []) waits ∙ ap (λ (n : ℕ). numbers_of test uses ++ n ∷ []) zero_more);
-        room = λ one. subst (HasSlack (slack_after slack (deadline kinds u) (length numbers + 1)) 0) (sym more) (room_after slack (deadline kinds u) (length numbers + 1) (deadlines test kinds uses) (omega arith) k.room one);
+        same = rw (filter-append, filter_more test uses u numbers k.low, k.same, last, numbers_more 0 test uses u, waits, zero_more);
+        room = λ one. rw (deadlines_append, waits) (room_after slack (deadline kinds u) (length numbers + 1) (deadlines test kinds uses) (omega arith) k.room one);
       }
 
 -- a queue with nothing in it, where nothing passes the test
 pub keeps_none : {L : Type 0} (kinds : Kinds L) (test : Use L → Bool) (uses : List (Use L)) (numbers : List ℕ) (slack : ℕ) → numbers ≡ [] → ((j : ℕ) (u : Use L) → slice_get uses j ≡ Some u → test u ≡ false) → Keeps kinds test uses numbers slack
 keeps_none kinds test uses numbers slack e idle = subst (λ ns. Keeps kinds test uses ns slack) (sym e) (record {
   low = λ k i h. absurd (cc);
-  same = sym (no_numbers 0 test uses idle);
+  same = sym (nil_from_length (numbers_of test uses) (sym (length-map (numbers_of test uses) (deadline_at kinds uses)) ∙ ap (length {A = ℕ}) (sym (deadlines_from kinds test [] uses) ∙ none_from test kinds uses idle)));
   room = λ one. subst (HasSlack slack 0) (sym (none_from test kinds uses idle)) (record { each = λ end due. absurd (omega arith) });
 })
 
@@ -86,55 +85,43 @@ pub record Tidying {L : Type 0} (kinds : Kinds L) (test : Use L → Bool) (uses 
   pub room : 1 ≤ slack → HasSlack slack 0 (map (deadline_at kinds uses) numbers)
 
 module _ {L : Type 0} {kinds : Kinds L} {test : Use L → Bool} {uses : List (Use L)} {numbers : List ℕ} {slack : ℕ} {all : List ℕ} where
-  pub tidy_skip : (i : ℕ) (left whole : List ℕ) → whole ≡ i ∷ left → use_where test uses i ≡ None → Tidying kinds test uses numbers slack all whole → Tidying kinds test uses numbers slack all left
-  tidy_skip i left whole e none t = record {
-    passed = sym (ap (λ ns. numbers ++ filter (test_at test uses) ns) e ∙ ap (λ c. numbers ++ cond c (i ∷ filter (test_at test uses) left) (filter (test_at test uses) left)) (where_none test (slice_get uses i) none)) ∙ t.passed;
-    room = t.room;
-  }
+  pub tidy_skip : (i : ℕ) (left whole : List ℕ) → whole ≡ i ∷ left → None ≡ use_where test uses i → Tidying kinds test uses numbers slack all whole → Tidying kinds test uses numbers slack all left
+  tidy_skip i left whole e none t = record { passed = rw (e, where_none test (slice_get uses i) (sym none)) at t.passed; room = t.room }
 
-  pub tidy_take : (i : ℕ) (left whole : List ℕ) (u : Use L) (new_numbers : List ℕ) (new_slack : ℕ) → whole ≡ i ∷ left → use_where test uses i ≡ Some u → new_numbers ≡ numbers ++ i ∷ [] → new_slack ≡ slack_after slack (deadline kinds u) (length numbers + 1) →
+  pub tidy_take : (i : ℕ) (left whole : List ℕ) (u : Use L) (new_numbers : List ℕ) (new_slack : ℕ) → whole ≡ i ∷ left → Some u ≡ use_where test uses i → new_numbers ≡ numbers ++ i ∷ [] → new_slack ≡ slack_after slack (deadline kinds u) (length numbers + 1) →
       Tidying kinds test uses numbers slack all whole → Tidying kinds test uses new_numbers new_slack all left
   tidy_take i left whole u new_numbers new_slack e some en es t =
-      let is = where_some test (slice_get uses i) u some in
+      let is = where_some test (slice_get uses i) u (sym some) in
       let passes_it : test_at test uses i ≡ true = ap (passes test) is.0 ∙ is.1 in
       let last : deadline_at kinds uses i ≡ deadline kinds u = ap (deadline_in kinds) is.0 in
-      let more : map (deadline_at kinds uses) new_numbers ≡ map (deadline_at kinds uses) numbers ++ deadline kinds u ∷ [] = ap (map (deadline_at kinds uses)) en ∙ map-append (deadline_at kinds uses) numbers (i ∷ []) ∙ ap (λ (d : ℕ). map (deadline_at kinds uses) numbers ++ d ∷ []) last in
-      let long = length_map (deadline_at kinds uses) numbers in
+      let long = length-map numbers (deadline_at kinds uses) in
       record {
-        passed = ap (λ ns. ns ++ filter (test_at test uses) left) en ∙ append_assoc numbers (i ∷ []) (filter (test_at test uses) left)
-            ∙ sym (ap (λ ns. numbers ++ filter (test_at test uses) ns) e ∙ ap (λ c. numbers ++ cond c (i ∷ filter (test_at test uses) left) (filter (test_at test uses) left)) passes_it) ∙ t.passed;
-        room = λ one. subst (λ (s : ℕ). HasSlack s 0 (map (deadline_at kinds uses) new_numbers)) (sym es) (subst (HasSlack (slack_after slack (deadline kinds u) (length numbers + 1)) 0) (sym more)
-            (room_after slack (deadline kinds u) (length numbers + 1) (map (deadline_at kinds uses) numbers) (omega arith) t.room (subst (λ (s : ℕ). 1 ≤ s) es one)));
+        passed = rw (en, append_assoc) (rw (e, passes_it) at t.passed);
+        room = λ one. rw (es, en, map-append, last) (room_after slack (deadline kinds u) (length numbers + 1) (map (deadline_at kinds uses) numbers) (omega arith) t.room (rw es at one));
       }
 
   pub tidy_end : (old_slack : ℕ) (left : List ℕ) → left ≡ [] → Keeps kinds test uses all old_slack → Tidying kinds test uses numbers slack all left → Keeps kinds test uses numbers slack
   tidy_end old_slack left none k t =
-      let whole : numbers ≡ numbers_of test uses = sym (append_none numbers) ∙ sym (ap (λ ns. numbers ++ filter (test_at test uses) ns) none) ∙ t.passed ∙ k.same in
+      let whole : numbers ≡ numbers_of test uses = sym (append_none numbers) ∙ (rw none at t.passed) ∙ k.same in
       record {
-        low = λ j i h. let n = number_is test uses j i (ap (λ ns. slice_get ns j) (sym whole) ∙ h) in below uses i n.user n.there;
-        same = ap (filter (test_at test uses)) whole ∙ filter_numbers test test (λ u h. h) uses;
-        room = λ one. subst (HasSlack slack 0) (ap (map (deadline_at kinds uses)) whole ∙ sym (deadlines_at kinds test uses)) (t.room one);
+        low = λ j i h. let n = number_is test uses (numbers_of test uses) (IsPermutation-refl (numbers_of test uses)) j i (rw whole at h) in below uses i n.user n.there;
+        same = rw whole (numbers_fewer test test (λ u h. h) [] uses);
+        room = λ one. rw (deadlines_from kinds test [] uses, ← whole) (t.room one);
       }
 
 -- ---- both queues
 
 -- nothing is pending
 pub kept_none : {L : Type 0} (kinds : Kinds L) (place : ℕ → Option ℕ) (uses : List (Use L)) (p : Pending) → p.near.numbers.items ≡ [] → p.far.numbers.items ≡ [] → ((j : ℕ) (u : Use L) → slice_get uses j ≡ Some u → is_pending kinds place u ≡ false) → AreKept kinds place uses p
-kept_none {L} kinds place uses p near far idle = record { near = keeps_none kinds _ uses _ _ near (not_queued true); far = keeps_none kinds _ uses _ _ far (not_queued false) }
-  where
-    not_queued : (near : Bool) (j : ℕ) (u : Use L) → slice_get uses j ≡ Some u → is_queued kinds place near u ≡ false
-    not_queued near j u h = and_left (is_pending kinds place u) (on_side near (is_near kinds u)) (idle j u h)
+kept_none {L} kinds place uses p near far idle =
+    let not_queued : (near : Bool) (j : ℕ) (u : Use L) → slice_get uses j ≡ Some u → is_queued kinds place near u ≡ false = λ near j u h. and_left (is_pending kinds place u) (on_side near (is_near kinds u)) (idle j u h) in
+    record { near = keeps_none kinds _ uses _ _ near (not_queued true); far = keeps_none kinds _ uses _ _ far (not_queued false) }
 
 -- fewer are pending
 pub kept_fewer : {L : Type 0} {kinds : Kinds L} {place : ℕ → Option ℕ} {uses : List (Use L)} {p : Pending} (new_place : ℕ → Option ℕ) → ((u : Use L) → is_pending kinds new_place u ≡ true → is_pending kinds place u ≡ true) → AreKept kinds place uses p → AreKept kinds new_place uses p
-kept_fewer {L} {kinds} {place} {uses} {p} new_place sub k = record { near = keeps_fewer (is_queued kinds new_place true) (side true) k.near; far = keeps_fewer (is_queued kinds new_place false) (side false) k.far }
-  where
-    and_more : (a b c : Bool) → (b ≡ true → a ≡ true) → (b && c) ≡ true → (a && c) ≡ true
-    and_more true b c f h = (and_parts b c h).1
-    and_more false b c f h = absurd (true≢false (sym (f (and_parts b c h).0)))
-
-    side : (near : Bool) (u : Use L) → is_queued kinds new_place near u ≡ true → is_queued kinds place near u ≡ true
-    side near u h = and_more (is_pending kinds place u) (is_pending kinds new_place u) (on_side near (is_near kinds u)) (sub u) h
+kept_fewer {L} {kinds} {place} {uses} {p} new_place sub k =
+    let side : (near : Bool) (u : Use L) → is_queued kinds new_place near u ≡ true → is_queued kinds place near u ≡ true = λ near u h. let q = and_parts (is_pending kinds new_place u) (on_side near (is_near kinds u)) h in and_from _ _ (sub u q.0) q.1 in
+    record { near = keeps_fewer (is_queued kinds new_place true) (side true) k.near; far = keeps_fewer (is_queued kinds new_place false) (side false) k.far }
 
 -- a use is recorded, and put into its queue where it is pending
 module _ {L : Type 0} {kinds : Kinds L} {place : ℕ → Option ℕ} {uses : List (Use L)} {p : Pending} where
@@ -147,13 +134,80 @@ module _ {L : Type 0} {kinds : Kinds L} {place : ℕ → Option ℕ} {uses : Lis
   pub kept_near : (u : Use L) (new : Pending) → is_pending kinds place u ≡ true → is_near kinds u ≡ true → new.near.numbers.items ≡ p.near.numbers.items ++ length uses ∷ [] → new.near.slack ≡ slack_after p.near.slack (deadline kinds u) (length p.near.numbers.items + 1) → new.far ≡ p.far →
       AreKept kinds place uses p → AreKept kinds place (uses ++ u ∷ []) new
   kept_near u new waits near en es ef k = record {
-    near = subst (λ ns. Keeps kinds (is_queued kinds place true) (uses ++ u ∷ []) ns new.near.slack) (sym en) (subst (λ s. Keeps kinds (is_queued kinds place true) (uses ++ u ∷ []) (p.near.numbers.items ++ length uses ∷ []) s) (sym es) (keeps_push u (and_from _ _ waits near) k.near));
-    far = subst (λ (q : Queue). Keeps kinds (is_queued kinds place false) (uses ++ u ∷ []) q.numbers.items q.slack) (sym ef) (keeps_skip u (and_right (is_pending kinds place u) (not (is_near kinds u)) (ap not near)) k.far);
+    near = rw (en, es) (keeps_push u (and_from _ _ waits near) k.near);
+    far = rw ef (keeps_skip u (and_right (is_pending kinds place u) (not (is_near kinds u)) (ap not near)) k.far);
   }
 
   pub kept_far : (u : Use L) (new : Pending) → is_pending kinds place u ≡ true → is_near kinds u ≡ false → new.far.numbers.items ≡ p.far.numbers.items ++ length uses ∷ [] → new.far.slack ≡ slack_after p.far.slack (deadline kinds u) (length p.far.numbers.items + 1) → new.near ≡ p.near →
       AreKept kinds place uses p → AreKept kinds place (uses ++ u ∷ []) new
   kept_far u new waits far en es ef k = record {
-    near = subst (λ (q : Queue). Keeps kinds (is_queued kinds place true) (uses ++ u ∷ []) q.numbers.items q.slack) (sym ef) (keeps_skip u (and_right (is_pending kinds place u) (is_near kinds u) far) k.near);
-    far = subst (λ ns. Keeps kinds (is_queued kinds place false) (uses ++ u ∷ []) ns new.far.slack) (sym en) (subst (λ s. Keeps kinds (is_queued kinds place false) (uses ++ u ∷ []) (p.far.numbers.items ++ length uses ∷ []) s) (sym es) (keeps_push u (and_from _ _ waits (ap not far)) k.far));
+    near = rw ef (keeps_skip u (and_right (is_pending kinds place u) (is_near kinds u) far) k.near);
+    far = rw (en, es) (keeps_push u (and_from _ _ waits (ap not far)) k.far);
   }
+
+-- ---- the pending uses are those of both queues
+
+pub due_parts : {L : Type 0} (kinds : Kinds L) (place : ℕ → Option ℕ) (uses : List (Use L)) (end : ℕ) → due_in kinds place uses end ≡ due_by end (deadlines (is_queued kinds place true) kinds uses) + due_by end (deadlines (is_queued kinds place false) kinds uses)
+due_parts kinds place [] end = refl
+due_parts kinds place (u ∷ uses) end = grind (arith, nat_tests, due_parts kinds place uses end)
+
+pub count_parts : {L : Type 0} (kinds : Kinds L) (place : ℕ → Option ℕ) (uses : List (Use L)) → length (deadlines (is_pending kinds place) kinds uses) ≡ length (deadlines (is_queued kinds place true) kinds uses) + length (deadlines (is_queued kinds place false) kinds uses)
+count_parts kinds place [] = refl
+count_parts kinds place (u ∷ uses) = grind (arith, nat_tests, count_parts kinds place uses)
+
+-- ---- where slack is and isn't
+
+not_needed_from : (cur : ℕ) (all ds : List ℕ) → AllOf (λ d. cur + 30 + 8 * due_by d all ≤ d) ds → is_needed_from cur all ds ≡ false
+not_needed_from cur all [] h = refl
+not_needed_from cur all (d ∷ ds) h = grind (arith, nat_tests, h.0, not_needed_from cur all ds h.1)
+
+pub not_needed : (cur : ℕ) (ds : List ℕ) → HasSlack cur 30 ds → is_needed_from cur ds ds ≡ false
+not_needed cur ds h = not_needed_from cur ds ds (each_from_slack cur 30 ds h)
+
+module _ {L : Type 0} {kinds : Kinds L} {place : ℕ → Option ℕ} {uses : List (Use L)} {p : Pending} where
+  -- how many are due, by what is counted in the queues
+  pub due_counted : (k : AreKept kinds place uses p) (end : ℕ) → count_by (λ i. is_due_at kinds (is_queued kinds place true) uses end i) p.near.numbers.items + count_by (λ i. is_due_at kinds (is_queued kinds place false) uses end i) p.far.numbers.items ≡ due_in kinds place uses end
+  due_counted k end = (λ i. kept_due k.near end i + kept_due k.far end i) ∙ sym (due_parts kinds place uses end)
+
+  pub pending_counted : (k : AreKept kinds place uses p) → count_by (λ i. is_some (use_where (is_queued kinds place true) uses i)) p.near.numbers.items + count_by (λ i. is_some (use_where (is_queued kinds place false) uses i)) p.far.numbers.items ≡ length (deadlines (is_pending kinds place) kinds uses)
+  pending_counted k = (λ i. kept_count k.near i + kept_count k.far i) ∙ sym (count_parts kinds place uses)
+
+  -- no more are pending than the queues have
+  pub kept_many : AreKept kinds place uses p → length (deadlines (is_pending kinds place) kinds uses) ≤ length p.near.numbers.items + length p.far.numbers.items
+  kept_many k = let sum = count_parts kinds place uses in let a = kept_few k.near in let b = kept_few k.far in omega arith
+
+  -- the slack of both queues is slack of all
+  slack_both : AreKept kinds place uses p → (start : ℕ) → 1 ≤ start → shows_slack p start ≡ true → HasSlack start 0 (deadlines (is_pending kinds place) kinds uses)
+  slack_both k start some shows = record {
+    each = λ end one.
+        let sum = due_parts kinds place uses end in
+        let few = kept_few k.near in
+        let most = due_le_length end (deadlines (is_queued kinds place true) kinds uses) in
+        let near : 1 ≤ p.near.slack → 1 ≤ due_by end (deadlines (is_queued kinds place true) kinds uses) → p.near.slack + 0 + 8 * due_by end (deadlines (is_queued kinds place true) kinds uses) ≤ end = λ le. (k.near.room le).each end in
+        let far : 1 ≤ p.far.slack → 1 ≤ due_by end (deadlines (is_queued kinds place false) kinds uses) → p.far.slack + 0 + 8 * due_by end (deadlines (is_queued kinds place false) kinds uses) ≤ end = λ le. (k.far.room le).each end in
+        grind (arith, nat_tests, near, far);
+  }
+
+  -- no island is needed then
+  pub slack_shown : AreKept kinds place uses p → (start : ℕ) → 30 ≤ start → shows_slack p start ≡ true → is_needed_from (start - 30) (deadlines (is_pending kinds place) kinds uses) (deadlines (is_pending kinds place) kinds uses) ≡ false
+  slack_shown k start some shows = not_needed (start - 30) (deadlines (is_pending kinds place) kinds uses) (slack_less start 0 (start - 30) 30 _ (omega arith) (slack_both k start (omega arith) shows))
+
+-- wherever too many are due, at most so many are
+pub record IsBound (start count : ℕ) (ds : List ℕ) : Type 0 where
+  pub each : (end : ℕ) → end < start + 8 * due_by end ds → due_by end ds ≤ count
+
+pub bound_start : (start count : ℕ) (ds : List ℕ) → length ds ≤ count → IsBound start count ds
+bound_start start count ds le = record { each = λ end lt. let m = due_le_length end ds in omega arith }
+
+-- then no more are than are due within that many veneers
+pub bound_next : (start count due end : ℕ) (ds : List ℕ) → IsBound start count ds → end + 1 ≡ start + 8 * count → due ≡ due_by end ds → IsBound start due ds
+bound_next start count due end ds b e d = record { each = λ at lt. let c = b.each at lt in let m = due_mono at end ds (omega arith) in omega arith }
+
+pub bound_none : (start : ℕ) (ds : List ℕ) → 30 ≤ start → IsBound start 0 ds → is_needed_from (start - 30) ds ds ≡ false
+bound_none start ds some b = not_needed (start - 30) ds (record { each = λ end one. grind (arith, nat_tests, b.each end) })
+
+pub bound_many : (start count due end : ℕ) (ds : List ℕ) → 30 ≤ start → 1 ≤ count → end + 1 ≡ start + 8 * count → due ≡ due_by end ds → count ≤ due → is_needed_from (start - 30) ds ds ≡ true
+bound_many start count due end ds some one e d many = true_from_ne_false (is_needed_from (start - 30) ds ds) (λ q.
+    let same : (start - 30) + 0 ≡ start - 30 = omega arith in
+    let h = slack_not_needed (start - 30) 0 ds (ap (λ (n : ℕ). is_needed_from n ds ds) same ∙ q) in
+    absurd (omega (arith, h.each end)))

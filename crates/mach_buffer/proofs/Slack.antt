@@ -1,9 +1,9 @@
 -- Deadlines and the room before them.
 use Rattle.std.proofs.lemmas.Bool.Decides.{nat_tests}
-use Rattle.std.proofs.Common.{◌≡◌, ◌≢◌, ℕ, zero, suc, ◌+◌, ◌*◌, ◌≤◌, Bool, true, false, List, [], ◌∷◌, ◌++◌, length, Option, Some, None, refl, arith}
+use Rattle.std.proofs.Common.{◌≡◌, ◌≢◌, ℕ, zero, suc, ◌+◌, ◌*◌, ◌≤◌, Bool, true, false, List, [], ◌∷◌, ◌++◌, length, Option, Some, None, refl, subst, ⊎_elim, arith}
 use Rattle.mach_buffer.specs.declared.uses.Use.{Use}
-use Rattle.std.specs.Prelude.{slice_get, nat_lt}
-use Rattle.std.proofs.lemmas.Bool.{ltb-false, or_parts}
+use Rattle.std.specs.Prelude.{slice_get}
+use Rattle.std.proofs.lemmas.Bool.{cases_lt, or_parts}
 use Rattle.rv_base.specs.LabelUse.{Kinds}
 use Rattle.mach_buffer.specs.Reach.{AllOf, CanReach, VeneersReach, StillReaches, deadline, is_pending, deadlines, due_by, HasSlack, is_needed_from, is_needed}
 
@@ -26,20 +26,11 @@ slack_less cur slack new_cur new_slack ds le h = record { each = λ end one. let
 pub slack_none : (cur slack : ℕ) → HasSlack cur slack []
 slack_none cur slack = record { each = λ end one. absurd (omega arith) }
 
--- a use more takes eight bytes of it
-pub slack_more : (cur slack d : ℕ) (ds : List ℕ) → cur + slack + 8 ≤ d → HasSlack cur (slack + 8) ds → HasSlack cur slack (d ∷ ds)
-slack_more cur slack d ds le h = record { each = λ end one. grind (arith, nat_tests, h.each end) }
-
 -- what counts as much at each end has as much slack
 pub slack_same : (cur slack : ℕ) (ds es : List ℕ) → ((end : ℕ) → due_by end es ≤ due_by end ds) → HasSlack cur slack ds → HasSlack cur slack es
 slack_same cur slack ds es le h = record { each = λ end one. let l = le end in let g = h.each end (omega arith) in omega arith }
 
--- ---- from the deadlines themselves to every offset
-
--- Each deadline among some keeps a bound, which may end somewhat past it; so does every offset by which one is due.
-from_each : (cur past : ℕ) (all : List ℕ) → ((d : ℕ) → suc (due_by d all) ≤ due_by (suc d) all → cur + 8 * due_by (suc d) all ≤ suc d + past) → (1 ≤ due_by 0 all → cur + 8 * due_by 0 all ≤ 0 + past) → (end : ℕ) → 1 ≤ due_by end all → cur + 8 * due_by end all ≤ end + past
-from_each cur past all step base zero one = base one
-from_each cur past all step base (suc end) one = grind (arith, step end, from_each cur past all step base end, due_mono end (suc end) all)
+-- ---- from the deadlines themselves to every offset, and back
 
 -- an offset at which one more is due is a deadline
 due_is_deadline : (P : ℕ → Type 0) (d : ℕ) (ds : List ℕ) → AllOf P ds → suc (due_by d ds) ≤ due_by (suc d) ds → P (suc d)
@@ -50,36 +41,24 @@ due_at_zero : (P : ℕ → Type 0) (ds : List ℕ) → AllOf P ds → 1 ≤ due_
 due_at_zero P [] h one = absurd (omega arith)
 due_at_zero P (e ∷ ds) h one = grind (arith, nat_tests, h.0, due_at_zero P ds h.1)
 
-all_of : (P Q : ℕ → Type 0) → ((d : ℕ) → P d → Q d) → (ds : List ℕ) → AllOf P ds → AllOf Q ds
-all_of P Q f [] h = tt
-all_of P Q f (d ∷ ds) h = (f d h.0, all_of P Q f ds h.1)
+-- what each deadline keeps, and a later offset does with as many due, every offset keeps by which one is due
+each_end : (P : ℕ → ℕ → Type 0) → ((d n : ℕ) → P d n → P (suc d) n) → (ds : List ℕ) → AllOf (λ d. P d (due_by d ds)) ds → (end : ℕ) → 1 ≤ due_by end ds → P end (due_by end ds)
+each_end P later ds h zero one = due_at_zero (λ d. P d (due_by d ds)) ds h one
+each_end P later ds h (suc end) one = ⊎_elim
+    (λ more. due_is_deadline (λ d. P d (due_by d ds)) end ds h more)
+    (λ le. let same : due_by end ds ≡ due_by (suc end) ds = omega (arith, le, due_mono end (suc end) ds (omega arith)) in subst (P (suc end)) same (later end (due_by end ds) (each_end P later ds h end (omega arith))))
+    (cases_lt (due_by end ds) (due_by (suc end) ds))
 
-each_end : (cur past : ℕ) (ds : List ℕ) → AllOf (λ d. cur + 8 * due_by d ds ≤ d + past) ds → (end : ℕ) → 1 ≤ due_by end ds → cur + 8 * due_by end ds ≤ end + past
-each_end cur past ds h = from_each cur past ds (λ e. due_is_deadline (λ d. cur + 8 * due_by d ds ≤ d + past) e ds h) (due_at_zero (λ d. cur + 8 * due_by d ds ≤ d + past) ds h)
+slack_from_each : (cur slack : ℕ) (ds : List ℕ) → AllOf (λ d. cur + slack + 8 * due_by d ds ≤ d) ds → HasSlack cur slack ds
+slack_from_each cur slack ds h = record { each = each_end (λ d n. cur + slack + 8 * n ≤ d) (λ d n le. omega arith) ds h }
 
-pub slack_from_each : (cur slack : ℕ) (ds : List ℕ) → AllOf (λ d. cur + slack + 8 * due_by d ds ≤ d) ds → HasSlack cur slack ds
-slack_from_each cur slack ds h = record { each = λ end one. let e = each_end (cur + slack) 0 ds (all_of (λ d. cur + slack + 8 * due_by d ds ≤ d) (λ d. cur + slack + 8 * due_by d ds ≤ d + 0) (λ d q. omega arith) ds h) end one in omega arith }
-
--- and where each pending use reaches its veneer
 pub reaches_from_each : (start : ℕ) (ds : List ℕ) → VeneersReach start ds → StillReaches start ds
-reaches_from_each start ds h = record { each = each_end start 8 ds h }
-
--- and back
-due_own : (d : ℕ) (ds : List ℕ) → 1 ≤ due_by d (d ∷ ds)
-due_own d ds = grind (arith, nat_tests)
-
-due_later : (end e : ℕ) (ds : List ℕ) → due_by end ds ≤ due_by end (e ∷ ds)
-due_later end e ds = grind (arith, nat_tests)
+reaches_from_each start ds h = record { each = each_end (λ d n. start + 8 * n ≤ d + 8) (λ d n le. omega arith) ds h }
 
 -- what is said of every offset by which one is due is said of each deadline
 each_due : (P : ℕ → Type 0) (all ds : List ℕ) → ((end : ℕ) → due_by end ds ≤ due_by end all) → ((end : ℕ) → 1 ≤ due_by end all → P end) → AllOf P ds
 each_due P all [] part h = tt
-each_due P all (d ∷ ds) part h =
-    let own = due_own d ds in
-    let whole = part d in (
-      h d (omega arith),
-      each_due P all ds (λ end. let a = due_later end d ds in let b = part end in omega arith) h,
-    )
+each_due P all (d ∷ ds) part h = (h d (grind (arith, nat_tests, part d)), each_due P all ds (λ end. grind (arith, nat_tests, part end)) h)
 
 pub each_from_slack : (cur slack : ℕ) (ds : List ℕ) → HasSlack cur slack ds → AllOf (λ d. cur + slack + 8 * due_by d ds ≤ d) ds
 each_from_slack cur slack ds h = each_due (λ d. cur + slack + 8 * due_by d ds ≤ d) ds ds (λ end. omega arith) h.each
@@ -87,12 +66,7 @@ each_from_slack cur slack ds h = each_due (λ d. cur + slack + 8 * due_by d ds �
 -- where no island is needed before so many bytes, there is slack for them
 not_needed_each : (cur : ℕ) (all ds : List ℕ) → is_needed_from cur all ds ≡ false → AllOf (λ d. cur + 30 + 8 * due_by d all ≤ d) ds
 not_needed_each cur all [] h = tt
-not_needed_each cur all (d ∷ ds) h =
-    let parts : (nat_lt d (cur + 14 + 8 * (due_by d all + 2)) ≡ false) × (is_needed_from cur all ds ≡ false) = or_parts _ _ h in
-    let le : cur + 14 + 8 * (due_by d all + 2) ≤ d = ltb-false _ _ parts.0 in (
-      omega arith,
-      not_needed_each cur all ds parts.1,
-    )
+not_needed_each cur all (d ∷ ds) h = (grind (arith, nat_tests), not_needed_each cur all ds (or_parts _ _ h).1)
 
 pub slack_not_needed : (cur distance : ℕ) (ds : List ℕ) → is_needed cur distance ds ≡ false → HasSlack (cur + distance) 30 ds
 slack_not_needed cur distance ds h = slack_from_each (cur + distance) 30 ds (not_needed_each (cur + distance) ds ds h)
@@ -121,12 +95,12 @@ slack_use test kinds cur slack uses u le h = record { each = λ end one. grind (
 -- ---- what is put from here on
 
 -- the soonest gets its veneer: eight bytes on, and one less is due
-pub reaches_next : (cur d : ℕ) (ds es : List ℕ) → ((end : ℕ) → 1 ≤ due_by end ds → d ≤ end) → ((end : ℕ) → due_by end ds ≡ due_by end (d ∷ []) + due_by end es) → StillReaches cur ds → StillReaches (cur + 8) es
-reaches_next cur d ds es least counts h = record { each = λ end one. grind (arith, nat_tests, counts end, least end, h.each end) }
+pub reaches_next : (cur d : ℕ) (ds : List ℕ) → ((end : ℕ) → 1 ≤ due_by end ds → d ≤ end) → StillReaches cur (d ∷ ds) → StillReaches (cur + 8) ds
+reaches_next cur d ds least h = record { each = λ end one. grind (arith, nat_tests, least end, h.each end) }
 
 -- and it begins in reach
-pub reaches_due : (cur d : ℕ) (ds es : List ℕ) → due_by d ds ≡ due_by d (d ∷ []) + due_by d es → StillReaches cur ds → cur ≤ d
-reaches_due cur d ds es counts h = grind (arith, nat_tests, counts, h.each d)
+pub reaches_due : (cur d : ℕ) (ds : List ℕ) → StillReaches cur (d ∷ ds) → cur ≤ d
+reaches_due cur d ds h = grind (arith, nat_tests, h.each d)
 
 pub reaches_from_slack : (cur slack new_cur : ℕ) (ds : List ℕ) → new_cur ≤ cur + slack + 8 → HasSlack cur slack ds → StillReaches new_cur ds
 reaches_from_slack cur slack new_cur ds le h = record { each = λ end one. let g = h.each end one in omega arith }
@@ -159,9 +133,7 @@ none_waits test kinds (w ∷ uses) e (suc j) u h = grind (arith, nat_tests, none
 
 pub none_from : {L : Type 0} (test : Use L → Bool) (kinds : Kinds L) (uses : List (Use L)) → ((j : ℕ) (u : Use L) → slice_get uses j ≡ Some u → test u ≡ false) → deadlines test kinds uses ≡ []
 none_from test kinds [] h = refl
-none_from test kinds (w ∷ uses) h =
-    let idle : test w ≡ false = h 0 w refl in
-    rw idle (none_from test kinds uses (λ j u e. h (suc j) u e))
+none_from test kinds (w ∷ uses) h = rw (h 0 w refl) (none_from test kinds uses (λ j u e. h (suc j) u e))
 
 pub due_le_length : (end : ℕ) (ds : List ℕ) → due_by end ds ≤ length ds
 due_le_length end [] = omega arith

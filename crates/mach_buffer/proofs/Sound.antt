@@ -1,5 +1,5 @@
 -- A sound buffer, as calls are made.
-use Rattle.std.proofs.Common.{◌≡◌, ◌≢◌, ℕ, ◌+◌, ◌%◌, ◌≤◌, false, List, [], ◌∷◌, ◌++◌, length, Option, Some, None, refl, ap, sym, ◌∙◌, subst, arith, ⊎_elim}
+use Rattle.std.proofs.Common.{◌≡◌, ◌≢◌, ℕ, ◌+◌, ◌%◌, ◌≤◌, true, false, List, [], ◌∷◌, ◌++◌, length, Option, Some, None, refl, ap, sym, ◌∙◌, subst, arith, ⊎_elim}
 use Rattle.std.specs.Prelude.{slice_get, if◌then◌else◌, Result, Ok, Err, is_err, OnOk}
 use Rattle.std.proofs.lemmas.Bool.{cases_eq, eq-eqb, ne_eqb, true≢false}
 use Rattle.std.proofs.lemmas.Option.{same_Some}
@@ -16,7 +16,7 @@ use Rattle.mach_buffer.specs.Finish.{pending_in}
 use Rattle.mach_buffer.specs.Queues.{AreKept}
 use Rattle.mach_buffer.specs.Buffer.{AreSound}
 use Rattle.mach_buffer.proofs.QueueContents.{kept_none, kept_fewer}
-use Rattle.mach_buffer.proofs.Links.{linked_none, linked_bytes, linked_use}
+use Rattle.mach_buffer.proofs.Links.{linked_bytes, linked_use}
 use Rattle.mach_buffer.proofs.Lists.{append_each, none_some}
 use Rattle.mach_buffer.proofs.Slack.{bound_waits, due_fewer}
 
@@ -29,33 +29,54 @@ pub placed_other : (place : ℕ → Option ℕ) (label at other : ℕ) → other
 placed_other place label at other ne = ap (λ b. if b then Some at else place other) (ne_eqb other label ne)
 
 pub sound_none : {L : Type 0} (kinds : Kinds L) (s : Shape L) (p : Pending) → s.bytes ≡ [] → s.uses ≡ [] → ((label : ℕ) → s.place label ≡ None) → p.near.numbers.items ≡ [] → p.far.numbers.items ≡ [] → AreSound kinds s p
-sound_none {L} kinds s p eb eu none near far = record {
-  linked = subst (λ us. IsLinked kinds s.bytes us) (sym eu) (linked_none kinds s.bytes);
-  even = ap (λ (bs : List ℕ). length bs % 2) eb;
-  places = λ label at h. absurd (none_some (s.place label) at (none label) h);
-  known = λ j u h. absurd (no_use j u (sym (ap (λ us. slice_get us j) eu) ∙ h));
-  kept = kept_none kinds s.place s.uses p near far (λ j u h. absurd (no_use j u (sym (ap (λ us. slice_get us j) eu) ∙ h)));
+sound_none {L} kinds s p eb eu none near far =
+    let no_use : (j : ℕ) (u : Use L) → slice_get s.uses j ≡ Some u → ⊥ = λ j u h. let e : slice_get [] j ≡ Some u = sym (ap (λ us. slice_get us j) eu) ∙ h in absurd (cc) in
+    record {
+      linked = record { each = λ j u at h e. absurd (no_use j u h); before = λ j u h. absurd (no_use j u h) };
+      even = ap (λ (bs : List ℕ). length bs % 2) eb;
+      places = λ label at h. absurd (none_some (s.place label) at (none label) h);
+      known = λ j u h. absurd (no_use j u h);
+      kept = kept_none kinds s.place s.uses p near far (λ j u h. absurd (no_use j u h));
+    }
+
+-- all that holds of a sound buffer but for its queues
+pub record IsWhole {L : Type 0} (kinds : Kinds L) (s : Shape L) : Type 0 where
+  pub linked : IsLinked kinds s.bytes s.uses
+  pub even : length s.bytes % 2 ≡ 0
+  pub places : (label at : ℕ) → s.place label ≡ Some at → (at ≤ length s.bytes) × (at % 2 ≡ 0) × IsKnown label s.allocated
+  pub known : (j : ℕ) (u : Use L) → slice_get s.uses j ≡ Some u → IsKnown u.label.number s.allocated
+
+pub whole_of : {L : Type 0} {kinds : Kinds L} {s : Shape L} {p : Pending} → AreSound kinds s p → IsWhole kinds s
+whole_of h = record { linked = h.linked; even = h.even; places = h.places; known = h.known }
+
+pub sound_of : {L : Type 0} {kinds : Kinds L} {s : Shape L} {p : Pending} → IsWhole kinds s → AreKept kinds s.place s.uses p → AreSound kinds s p
+sound_of w kept = record { linked = w.linked; even = w.even; places = w.places; known = w.known; kept = kept }
+
+-- a label is bound
+pub whole_label : {L : Type 0} {kinds : Kinds L} {s : Shape L} → IsWhole kinds s → (label : MachLabel) → IsKnown label.number s.allocated → IsWhole kinds (with_label label s)
+whole_label {L} {kinds} {s} h label known = record {
+  linked = h.linked;
+  even = h.even;
+  places = λ other at e. ⊎_elim
+      (λ same. let here : length s.bytes ≡ at = same_Some _ _ (sym (placed_same s.place label.number (length s.bytes)) ∙ ap (placed s.place label.number (length s.bytes)) (sym same) ∙ e) in
+      (omega arith, subst (λ (n : ℕ). n % 2 ≡ 0) here h.even, subst (λ l. IsKnown l s.allocated) (sym same) known))
+      (λ ne. h.places other at (sym (placed_other s.place label.number (length s.bytes) other ne) ∙ e))
+      (cases_eq other label.number);
+  known = h.known;
 }
-  where
-    no_use : (j : ℕ) (u : Use L) → slice_get [] j ≡ Some u → ⊥
-    no_use j u h = absurd (cc)
+
+-- what is pending then was so before
+label_waits : {L : Type 0} (kinds : Kinds L) (s : Shape L) (label : MachLabel) → s.place label.number ≡ None → (u : Use L) → is_pending kinds (placed s.place label.number (length s.bytes)) u ≡ true → is_pending kinds s.place u ≡ true
+label_waits kinds s label none = bound_waits kinds s.place (placed s.place label.number (length s.bytes)) label.number none (placed_other s.place label.number (length s.bytes))
 
 module _ {L : Type 0} {kinds : Kinds L} {s : Shape L} {p : Pending} where
-  pub sound_bytes : AreSound kinds s p → (more : List ℕ) → length more % 2 ≡ 0 → AreSound kinds (with_bytes more s) p
-  sound_bytes h more even =
-      let long = length-append s.bytes more in
-      let was = h.even in
-      record {
-        linked = linked_bytes h.linked more;
-        even = omega arith;
-        places = λ label at e. let q = h.places label at e in (omega (arith, q.0), q.1, q.2);
-        known = h.known;
-        kept = h.kept;
-      }
-
-  -- other queues
-  pub sound_kept : AreSound kinds s p → (new : Pending) → AreKept kinds s.place s.uses new → AreSound kinds s new
-  sound_kept h new kept = record { linked = h.linked; even = h.even; places = h.places; known = h.known; kept = kept }
+  pub whole_bytes : AreSound kinds s p → (more : List ℕ) → length more % 2 ≡ 0 → IsWhole kinds (with_bytes more s)
+  whole_bytes h more even = record {
+    linked = linked_bytes h.linked more;
+    even = omega (arith, h.even, length-append s.bytes more);
+    places = λ label at e. let q = h.places label at e in (omega (arith, q.0, length-append s.bytes more), q.1, q.2);
+    known = h.known;
+  }
 
   pub sound_allocated : AreSound kinds s p → AreSound kinds (with_allocated s) p
   sound_allocated h = record {
@@ -77,23 +98,11 @@ module _ {L : Type 0} {kinds : Kinds L} {s : Shape L} {p : Pending} where
   pub unnamed_next : AreSound kinds s p → (label : ℕ) → label ≡ first_inner + s.allocated → (j : ℕ) (u : Use L) → slice_get s.uses j ≡ Some u → u.label.number ≢ label
   unnamed_next h label e j u g q = let k = h.known j u g in absurd (omega arith)
 
-  -- a label is bound
   pub sound_label : AreSound kinds s p → (label : MachLabel) → IsKnown label.number s.allocated → s.place label.number ≡ None → AreSound kinds (with_label label s) p
-  sound_label h label known none = record {
-    linked = h.linked;
-    even = h.even;
-    places = λ other at e. ⊎_elim
-        (λ same. let here : length s.bytes ≡ at = same_Some _ _ (sym (placed_same s.place label.number (length s.bytes)) ∙ ap (placed s.place label.number (length s.bytes)) (sym same) ∙ e) in
-        let even = h.even in
-        (omega arith, subst (λ (n : ℕ). n % 2 ≡ 0) here even, subst (λ l. IsKnown l s.allocated) (sym same) known))
-        (λ ne. h.places other at (sym (placed_other s.place label.number (length s.bytes) other ne) ∙ e))
-        (cases_eq other label.number);
-    known = h.known;
-    kept = kept_fewer (placed s.place label.number (length s.bytes)) (bound_waits kinds s.place (placed s.place label.number (length s.bytes)) label.number none (placed_other s.place label.number (length s.bytes))) h.kept;
-  }
+  sound_label h label known none = sound_of (whole_label (whole_of h) label known) (kept_fewer (placed s.place label.number (length s.bytes)) (label_waits kinds s label none) h.kept)
 
   pub label_fewer : AreSound kinds s p → (label : MachLabel) → s.place label.number ≡ None → (end : ℕ) → due_by end (pending_in kinds (with_label label s)) ≤ due_by end (pending_in kinds s)
-  label_fewer h label none end = due_fewer (is_pending kinds s.place) (is_pending kinds (placed s.place label.number (length s.bytes))) kinds end s.uses (bound_waits kinds s.place (placed s.place label.number (length s.bytes)) label.number none (placed_other s.place label.number (length s.bytes)))
+  label_fewer h label none end = due_fewer (is_pending kinds s.place) (is_pending kinds (placed s.place label.number (length s.bytes))) kinds end s.uses (label_waits kinds s label none)
 
   -- a use is recorded
   pub sound_use : AreSound kinds s p → (u : Use L) → u.veneer ≡ None → u.offset ≤ length s.bytes → IsKnown u.label.number s.allocated → (new : Pending) → AreKept kinds s.place (s.uses ++ u ∷ []) new → AreSound kinds (with_use u s) new

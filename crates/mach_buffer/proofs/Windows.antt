@@ -1,9 +1,13 @@
-use Rattle.std.proofs.Common.{◌≡◌, ℕ, ◌+◌, ◌-◌, ◌≤◌, List, [], ◌∷◌, ◌++◌, ◌⊎◌, length, take, drop, ap, sym, subst, ◌∙◌, arith, inl, inr, bit_and}
-use Rattle.std.proofs.lemmas.List.{get_or-take, take-append-drop, drop-take, take-take, drop-drop, drop_at, drop-append-le, take-append-le, length-drop, length-append, length-take-le}
-use Rattle.std.proofs.lemmas.Slice.{take-put_mid_below}
+-- Windows of bytes, and patches one after the other.
+use Rattle.std.proofs.Common.{◌≡◌, ℕ, ◌+◌, ◌-◌, ◌≤◌, List, [], ◌∷◌, ◌++◌, ◌⊎◌, length, take, drop, ap, sym, subst, ◌∙◌, arith, inl, inr, bit_and, ◌≢◌, ◌<◌, Some, ⊎_elim, pos, ◌-ℤ◌}
+use Rattle.std.proofs.lemmas.List.{append-nil, get_or-take, drop-take, take-take, take_at, take_rest, drop-drop, drop_at, drop_all, length-drop, length-append, length-take-le}
 use borrow.Rule.Slice.PartMut.{put_mid}
-use Rattle.rv_base.specs.LabelUse.{IsFreshFrom, SameOutside, SameOutsideFrom}
-use Rattle.mach_buffer.specs.Windows.{window, ChangesOnly}
+use Rattle.rv_base.specs.LabelUse.{IsFreshFrom, SameOutside, SameOutsideFrom, Kinds}
+use Rattle.mach_buffer.specs.Windows.{window, ChangesOnly, CanPatch, CanPatchAll, AllAim, AllKept, KeepsOthers}
+use Rattle.std.specs.List.{slice_get}
+use Rattle.std.proofs.lemmas.Option.{slice_get_within, same_Some}
+use Rattle.std.proofs.lemmas.Bool.{cases_lt}
+use Rattle.mach_buffer.specs.declared.patches.Patch.{Patch}
 
 -- to be fresh asks for the bytes of the marks alone
 pub fresh_in_prefix : (marks : List ℕ) (i m n : ℕ) (s : List ℕ) → i + length marks ≤ m → i + length marks ≤ n → IsFreshFrom i marks (take m s) → IsFreshFrom i marks (take n s)
@@ -19,39 +23,25 @@ same_in_prefix (x ∷ marks) i m s t h f = (
   same_in_prefix marks (i + 1) m s t (omega arith) f.1,
 )
 
--- the bytes after a window, after a write to all bytes from its place on
-part_after : (old part : List ℕ) (o n : ℕ) → o + n ≤ length old → length part ≡ length old - o → drop n part ≡ drop n (take (length old - o) (drop o old)) →
-    drop (o + n) (take o old ++ (part ++ drop (length old - o) (drop o old))) ≡ drop (o + n) old
-part_after old part o n h l e =
-    let at : drop o (take o old ++ (part ++ drop (length old - o) (drop o old))) ≡ part ++ drop (length old - o) (drop o old) = drop_at (take o old) _ o (length-take-le o old (omega arith)) in
-    let whole : take (length old - o) (drop o old) ++ drop (length old - o) (drop o old) ≡ drop o old = take-append-drop (length old - o) (drop o old) in
-    let size : length (take (length old - o) (drop o old)) ≡ length old - o = length-take-le (length old - o) (drop o old) (omega (arith, length-drop o old)) in
-    sym (drop-drop n o (take o old ++ (part ++ drop (length old - o) (drop o old)))) ∙ ap (drop n) at
-    ∙ drop-append-le n part (drop (length old - o) (drop o old)) (omega arith)
-    ∙ ap (λ s. s ++ drop (length old - o) (drop o old)) e
-    ∙ sym (drop-append-le n (take (length old - o) (drop o old)) (drop (length old - o) (drop o old)) (omega arith))
-    ∙ ap (drop n) whole ∙ drop-drop n o old
+-- a write to all bytes from a place on
+written : (old part : List ℕ) (o : ℕ) → o ≤ length old → put_mid o (length old - o) old part ≡ take o old ++ part
+written old part o le = ap (λ r. take o old ++ (part ++ r)) (drop_all (length old - o) (drop o old) (omega (arith, length-drop o old))) ∙ ap (λ p. take o old ++ p) (append-nil part)
 
 pub changes_part : (old part : List ℕ) (o n : ℕ) → o + n ≤ length old → length part ≡ length old - o → drop n part ≡ drop n (take (length old - o) (drop o old)) →
     ChangesOnly old (put_mid o (length old - o) old part) o n
-changes_part old part o n h l e = record {
-  before = take-put_mid_below o (length old - o) old part o (omega arith) (omega arith);
-  after = part_after old part o n h l e;
-  same_length = omega (arith, length-append (take o old) (part ++ drop (length old - o) (drop o old)), length-append part (drop (length old - o) (drop o old)), length-take-le o old (omega arith), length-drop (length old - o) (drop o old), length-drop o old);
-}
+changes_part old part o n h l e =
+    let size = length-take-le o old (omega arith) in
+    rw (written old part o (omega arith)) (record {
+      before = take_at (take o old) part o size;
+      after = sym (drop-drop n o (take o old ++ part)) ∙ ap (drop n) (drop_at (take o old) part o size) ∙ (rw take_rest at e) ∙ drop-drop n o old;
+      same_length = omega (arith, length-append (take o old) part, size);
+    })
 
--- the window itself, after such a write, and what it keeps
-window_of_part : (old part : List ℕ) (o n : ℕ) → o + n ≤ length old → length part ≡ length old - o → window (put_mid o (length old - o) old part) o n ≡ take n part
-window_of_part old part o n h l =
-    ap (take n) (drop_at (take o old) (part ++ drop (length old - o) (drop o old)) o (length-take-le o old (omega arith))) ∙ take-append-le n part (drop (length old - o) (drop o old)) (omega arith)
-
+-- what a window keeps in such a write
 pub kept_in_part : (marks old part : List ℕ) (o n : ℕ) → length marks ≤ n → o + n ≤ length old → length part ≡ length old - o → SameOutside marks (take (length old - o) (drop o old)) part →
     SameOutside marks (window old o n) (window (put_mid o (length old - o) old part) o n)
 kept_in_part marks old part o n m h l s =
-    let prefix = same_in_prefix marks 0 n (take (length old - o) (drop o old)) part (omega arith) s in
-    let P : List ℕ → List ℕ → Type 0 = λ a b. SameOutside marks a b in
-    subst (λ b. P (window old o n) b) (sym (window_of_part old part o n h l))
-    (subst (λ a. P a (take n part)) (take-take n (length old - o) (drop o old) (omega arith)) prefix)
+    rw (written old part o (omega arith), drop_at (take o old) part o (length-take-le o old (omega arith))) (rw take_rest at (same_in_prefix marks 0 n (take (length old - o) (drop o old)) part (omega arith) s))
 
 -- a window apart from the one that changes stays
 pub window_apart : (old new : List ℕ) (place size p m : ℕ) → ChangesOnly old new place size → (p + m ≤ place) ⊎ (place + size ≤ p) → window new p m ≡ window old p m
@@ -60,3 +50,55 @@ window_apart old new place size p m c (inl h) =
 window_apart old new place size p m c (inr h) =
     let split : place + size + (p - (place + size)) ≡ p = omega arith in
     ap (take m) (ap (λ k. drop k new) (sym split) ∙ sym (drop-drop (p - (place + size)) (place + size) new) ∙ ap (drop (p - (place + size))) c.after ∙ drop-drop (p - (place + size)) (place + size) old ∙ ap (λ k. drop k old) split)
+
+-- ---- patches
+
+-- a window aims at its target, and keeps its bits outside the fields
+abbrev pub IsDone : {L : Type 0} → Kinds L → List ℕ → List ℕ → Patch L → Type 0
+IsDone kinds first now u = kinds.aims u.kind (window now u.offset (length (kinds.fields u.kind))) (pos u.target -ℤ pos u.offset)
+    × SameOutside (kinds.fields u.kind) (window first u.offset (length (kinds.fields u.kind))) (window now u.offset (length (kinds.fields u.kind)))
+
+-- after the first i uses: they are done, the windows of the others are as they were, and so are all other bytes
+pub record Progress {L : Type 0} (kinds : Kinds L) (first now : List ℕ) (uses : List (Patch L)) (i : ℕ) : Type 0 where
+  pub done : (j : ℕ) (u : Patch L) → j < i → slice_get uses j ≡ Some u → IsDone kinds first now u
+  pub left : (j : ℕ) (u : Patch L) → i ≤ j → slice_get uses j ≡ Some u → window now u.offset (length (kinds.fields u.kind)) ≡ window first u.offset (length (kinds.fields u.kind))
+  pub others : KeepsOthers kinds first now uses
+
+module _ {L : Type 0} {kinds : Kinds L} {first now : List ℕ} {uses : List (Patch L)} {i : ℕ} where
+  -- the next window can still be patched
+  pub progress_can : (p : Progress kinds first now uses i) (can : CanPatchAll kinds first uses) (u : Patch L) →
+      slice_get uses i ≡ Some u → length now ≡ length first → CanPatch kinds now u
+  progress_can p can u h same =
+      let c = can.each i u h in
+      record {
+        forward_in = c.forward_in;
+        backward_in = c.backward_in;
+        place_even = c.place_even;
+        target_even = c.target_even;
+        inside = omega (arith, c.inside);
+        fresh = rw (p.left i u (omega arith) h) c.fresh;
+      }
+
+  -- one more window is patched
+  pub progress_patched : (p : Progress kinds first now uses i) (can : CanPatchAll kinds first uses) (u : Patch L) (new : List ℕ) →
+      slice_get uses i ≡ Some u → ChangesOnly now new u.offset (length (kinds.fields u.kind)) →
+      SameOutside (kinds.fields u.kind) (window now u.offset (length (kinds.fields u.kind))) (window new u.offset (length (kinds.fields u.kind))) →
+      kinds.aims u.kind (window new u.offset (length (kinds.fields u.kind))) (pos u.target -ℤ pos u.offset) → Progress kinds first new uses (i + 1)
+  progress_patched p can u new h c kept a =
+      let stays : (j : ℕ) (v : Patch L) → j ≢ i → slice_get uses j ≡ Some v → window new v.offset (length (kinds.fields v.kind)) ≡ window now v.offset (length (kinds.fields v.kind)) =
+      λ j v ne k. window_apart now new u.offset (length (kinds.fields u.kind)) v.offset (length (kinds.fields v.kind)) c (can.apart j i v u ne k h) in
+      record {
+        done = λ j v lt k. ⊎_elim
+            (λ below. rw (stays j v (omega arith) k) (p.done j v below k))
+            (λ above. subst (IsDone kinds first new) (let at : j ≡ i = omega arith in same_Some _ _ (sym h ∙ ap (slice_get uses) (sym at) ∙ k)) (a, rw (← p.left i u (omega arith) h) kept))
+            (cases_lt j i);
+        left = λ j v le k. stays j v (omega arith) k ∙ p.left j v (omega arith) k;
+        others = λ q m apart. window_apart now new u.offset (length (kinds.fields u.kind)) q m c (apart i u h) ∙ p.others q m apart;
+      }
+
+  -- at the end all aim
+  pub progress_all : (p : Progress kinds first now uses i) → length uses ≤ i → AllAim kinds now uses
+  progress_all p h j u k = (p.done j u (let within = slice_get_within uses j u k in omega arith) k).0
+
+  pub progress_kept : (p : Progress kinds first now uses i) → length uses ≤ i → AllKept kinds first now uses
+  progress_kept p h j u k = (p.done j u (let within = slice_get_within uses j u k in omega arith) k).1

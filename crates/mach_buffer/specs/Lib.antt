@@ -7,7 +7,6 @@ pub mod Islands
 pub mod Growth
 pub mod Finish
 pub mod Pieces
-pub mod Sequences
 pub mod Queues
 pub mod Places
 pub mod Buffer

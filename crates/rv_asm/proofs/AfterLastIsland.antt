@@ -28,7 +28,7 @@ use Rattle.rv_asm.specs.Reach.{is_island, bound_by}
 use Rattle.rv_asm.specs.AfterLastIsland.{uses_after_island, EndsIn, AfterLastIsland}
 use Rattle.rv_asm.proofs.LinesAppended.{Appends, InstAppends, LineAppends}
 use Rattle.rv_asm.proofs.LabelNames.{start_last, room_keeps, emitted_keeps}
-use Rattle.rv_asm.proofs.FirstLines.{own_uses, open_in_island, open_behind, open_on, bound_by_more, bound_by_append}
+use Rattle.rv_asm.proofs.FirstLines.{own_uses, open_in_island, open_after, open_on, bound_by_more, bound_by_append}
 
 not_less : (m n : ℕ) → m ≡ n → nat_lt m n ≡ false
 not_less m n level = on (nat_lt m n) refl
@@ -47,9 +47,9 @@ ends_island old new p = record {
   idle = none_waits (waits (place_of new)) label_kinds (uses_of new) p.settled;
 }
 
-ends_block : (inst : Inst) (old new : Buffer) (uses : List (Use LabelUse)) → AppendsInst inst old new → EndsIn uses old → EndsIn (uses ++ uses_in (length (bytes_of old)) inst) new
-ends_block inst old new uses p e =
-    let own = uses_in (length (bytes_of old)) inst in
+ends_block : (context : Context) (inst : Inst) (old new : Buffer) (uses : List (Use LabelUse)) → AppendsInst context inst old new → EndsIn uses old → EndsIn (uses ++ uses_in context (length (bytes_of old)) inst) new
+ends_block context inst old new uses p e =
+    let own = uses_in context (length (bytes_of old)) inst in
     record {
       before = e.before;
       whole = p.adds.uses ∙ ap (λ us. us ++ own) e.whole ∙ append_assoc e.before uses own;
@@ -69,9 +69,9 @@ ends_bind label old new span uses p e = record {
     on u true h before = absurd (true≢false (sym (bound_waits label_kinds (place_of old) (place_of new) label.number p.unbound p.kept u h) ∙ before))
 
 -- an instruction: it is an island, or its uses are added
-emitted_ends : (inst : Inst) (mid new : Buffer) (start end : ℕ) (uses : List (Use LabelUse)) → start ≡ length (bytes_of mid) → end ≡ length (bytes_of new) → Appends inst mid new → EndsIn uses mid →
-    ((is_island (Put inst) start end ≡ true) × EndsIn [] new) ⊎ ((is_island (Put inst) start end ≡ false) × EndsIn (uses ++ uses_in start inst) new)
-emitted_ends (EmitIsland space) mid new start end uses starts ends e h = ⊎_elim
+emitted_ends : (context : Context) (inst : Inst) (mid new : Buffer) (start end : ℕ) (uses : List (Use LabelUse)) → start ≡ length (bytes_of mid) → end ≡ length (bytes_of new) → Appends context inst mid new → EndsIn uses mid →
+    ((is_island context (Put inst) start end ≡ true) × EndsIn [] new) ⊎ ((is_island context (Put inst) start end ≡ false) × EndsIn (uses ++ uses_in context start inst) new)
+emitted_ends context (EmitIsland space) mid new start end uses starts ends e h = ⊎_elim
     (λ same.
     let level : start ≡ end = starts ∙ sym (ap (λ (b : Buffer). length (bytes_of b)) same.1) ∙ sym ends in
     inr (not_less start end level, subst (λ us. EndsIn us new) (sym (append-nil uses)) (subst (EndsIn uses) (sym same.1) h)))
@@ -79,7 +79,7 @@ emitted_ends (EmitIsland space) mid new start end uses starts ends e h = ⊎_eli
     let longer = put.1.longer in
     inl (lt-ltb start end (omega arith), ends_island mid new put.1))
     e.1.put
-emitted_ends inst mid new start end uses starts ends e h = inr (refl, subst (λ n. EndsIn (uses ++ uses_in n inst) new) (sym starts) (ends_block inst mid new uses e h))
+emitted_ends context inst mid new start end uses starts ends e h = inr (refl, subst (λ n. EndsIn (uses ++ uses_in context n inst) new) (sym starts) (ends_block context inst mid new uses e h))
 
 -- ---- labels
 
@@ -113,8 +113,8 @@ bound_bind lines spans l span old new label count p places = ⊎_elim
 
 -- ---- the loop's invariant
 
-pub since_none : (b : Buffer) → uses_of b ≡ [] → ((label : ℕ) → place_of b label ≡ None) → AfterLastIsland [] [] b
-since_none b uses none = record {
+pub since_none : (context : Context) (b : Buffer) → uses_of b ≡ [] → ((label : ℕ) → place_of b label ≡ None) → AfterLastIsland context [] [] b
+since_none context b uses none = record {
   ends = record { before = []; whole = uses; idle = λ j u h. absurd (none_at j u h) };
   places = λ label low. none label;
   ruled = λ i line h. absurd (no_line i line h);
@@ -127,51 +127,51 @@ since_none b uses none = record {
     no_line j line h = absurd (cc)
 
 -- the uses that are open after what stands before a line, to which the line adds its own
-record Roomed (lines : List Line) (spans : List LineSpan) (line : Line) (span : LineSpan) (mid : Buffer) : Type 0 where
+record Roomed (context : Context) (lines : List Line) (spans : List LineSpan) (line : Line) (span : LineSpan) (mid : Buffer) : Type 0 where
   pub uses : List (Use LabelUse)
   pub ends : EndsIn uses mid
-  pub adds : is_island line span.start span.end ≡ false → uses_after_island (lines ++ line ∷ []) (spans ++ span ∷ []) ≡ uses ++ own_uses line span.start
+  pub adds : is_island context line span.start span.end ≡ false → uses_after_island context (lines ++ line ∷ []) (spans ++ span ∷ []) ≡ uses ++ own_uses context line span.start
 
-room_ends : (lines : List Line) (spans : List LineSpan) (line : Line) (span : LineSpan) (old mid : Buffer) (made : Bool) → length spans ≡ length lines → length (bytes_of old) ≡ end_before spans (length lines) → IslandIfNeeded line_space old mid made → span.start ≡ length (bytes_of mid) → EndsIn (uses_after_island lines spans) old → Roomed lines spans line span mid
-room_ends lines spans line span old mid made count ends m start h = ⊎_elim
+room_ends : (context : Context) (lines : List Line) (spans : List LineSpan) (line : Line) (span : LineSpan) (old mid : Buffer) (made : Bool) → length spans ≡ length lines → length (bytes_of old) ≡ end_before spans (length lines) → IslandIfNeeded line_space old mid made → span.start ≡ length (bytes_of mid) → EndsIn (uses_after_island context lines spans) old → Roomed context lines spans line span mid
+room_ends context lines spans line span old mid made count ends m start h = ⊎_elim
     (λ same.
     let level : end_before spans (length lines) ≡ span.start = sym ends ∙ ap (λ (b : Buffer). length (bytes_of b)) (sym same.1) ∙ sym start in
-    record { uses = uses_after_island lines spans; ends = subst (EndsIn (uses_after_island lines spans)) (sym same.1) h; adds = λ e. open_on lines spans line span count e (not_less (end_before spans (length lines)) span.start level) })
+    record { uses = uses_after_island context lines spans; ends = subst (EndsIn (uses_after_island context lines spans)) (sym same.1) h; adds = λ e. open_on context lines spans line span count e (not_less (end_before spans (length lines)) span.start level) })
     (λ put.
     let longer = put.1.longer in
-    record { uses = []; ends = ends_island old mid put.1; adds = λ e. open_behind lines spans line span count e (lt-ltb (end_before spans (length lines)) span.start (omega arith)) })
+    record { uses = []; ends = ends_island old mid put.1; adds = λ e. open_after context lines spans line span count e (lt-ltb (end_before spans (length lines)) span.start (omega arith)) })
     m.put
 
-inst_ends : (lines : List Line) (spans : List LineSpan) (inst : Inst) (span : LineSpan) (old new : Buffer) → length spans ≡ length lines → length (bytes_of old) ≡ end_before spans (length lines) → InstAppends inst old new span → EndsIn (uses_after_island lines spans) old → EndsIn (uses_after_island (lines ++ Put inst ∷ []) (spans ++ span ∷ [])) new
-inst_ends lines spans inst span old new count ends p h =
-    let r = room_ends lines spans (Put inst) span old p.mid p.made count ends p.room p.start h in
+inst_ends : (context : Context) (lines : List Line) (spans : List LineSpan) (inst : Inst) (span : LineSpan) (old new : Buffer) → length spans ≡ length lines → length (bytes_of old) ≡ end_before spans (length lines) → InstAppends context inst old new span → EndsIn (uses_after_island context lines spans) old → EndsIn (uses_after_island context (lines ++ Put inst ∷ []) (spans ++ span ∷ [])) new
+inst_ends context lines spans inst span old new count ends p h =
+    let r = room_ends context lines spans (Put inst) span old p.mid p.made count ends p.room p.start h in
     ⊎_elim
-    (λ island. subst (λ us. EndsIn us new) (sym (open_in_island lines spans (Put inst) span count island.0)) island.1)
+    (λ island. subst (λ us. EndsIn us new) (sym (open_in_island context lines spans (Put inst) span count island.0)) island.1)
     (λ block. subst (λ us. EndsIn us new) (sym (r.adds block.0)) block.1)
-    (emitted_ends inst p.mid new span.start span.end r.uses p.start p.end p.emitted r.ends)
+    (emitted_ends context inst p.mid new span.start span.end r.uses p.start p.end p.emitted r.ends)
 
-bind_ends : (lines : List Line) (spans : List LineSpan) (label : MachLabel) (span : LineSpan) (old new : Buffer) → length spans ≡ length lines → length (bytes_of old) ≡ end_before spans (length lines) → BindPut label old new span → EndsIn (uses_after_island lines spans) old → EndsIn (uses_after_island (lines ++ Bind label ∷ []) (spans ++ span ∷ [])) new
-bind_ends lines spans label span old new count ends p h =
+bind_ends : (context : Context) (lines : List Line) (spans : List LineSpan) (label : MachLabel) (span : LineSpan) (old new : Buffer) → length spans ≡ length lines → length (bytes_of old) ≡ end_before spans (length lines) → BindPut label old new span → EndsIn (uses_after_island context lines spans) old → EndsIn (uses_after_island context (lines ++ Bind label ∷ []) (spans ++ span ∷ [])) new
+bind_ends context lines spans label span old new count ends p h =
     let level : end_before spans (length lines) ≡ span.start = sym ends ∙ sym p.start in
-    let same = open_on lines spans (Bind label) span count refl (not_less (end_before spans (length lines)) span.start level) ∙ append-nil (uses_after_island lines spans) in
-    subst (λ us. EndsIn us new) (sym same) (ends_bind label old new span (uses_after_island lines spans) p h)
+    let same = open_on context lines spans (Bind label) span count refl (not_less (end_before spans (length lines)) span.start level) ∙ append-nil (uses_after_island context lines spans) in
+    subst (λ us. EndsIn us new) (sym same) (ends_bind label old new span (uses_after_island context lines spans) p h)
 
-pub since_next : {context : Context} (lines : List Line) (spans : List LineSpan) (line : Line) (span : LineSpan) (old new : Buffer) → LinesStand context lines spans old → AfterLastIsland lines spans old → broken_rule line ≡ None → LineAppends line old new span → AfterLastIsland (lines ++ line ∷ []) (spans ++ span ∷ []) new
-since_next lines spans (Put inst) span old new b s rule p =
+pub since_next : (context : Context) (lines : List Line) (spans : List LineSpan) (line : Line) (span : LineSpan) (old new : Buffer) → LinesStand context lines spans old → AfterLastIsland context lines spans old → broken_rule context line ≡ None → LineAppends context line old new span → AfterLastIsland context (lines ++ line ∷ []) (spans ++ span ∷ []) new
+since_next context lines spans (Put inst) span old new b s rule p =
     let first = room_keeps line_space old p.mid p.made p.room in
-    let next = emitted_keeps inst p.mid new p.emitted in
+    let next = emitted_keeps context inst p.mid new p.emitted in
     record {
-      ends = inst_ends lines spans inst span old new b.count b.ends p s.ends;
+      ends = inst_ends context lines spans inst span old new b.count b.ends p s.ends;
       places = λ label low. next.1 label low ∙ first.1 label low ∙ s.places label low ∙ sym (bound_put lines spans inst span label b.count);
-      ruled = append_each (λ line. broken_rule line ≡ None) lines (Put inst) rule s.ruled;
+      ruled = append_each (λ line. broken_rule context line ≡ None) lines (Put inst) rule s.ruled;
     }
-since_next lines spans (Bind label) span old new b s rule p = record {
-  ends = bind_ends lines spans label span old new b.count b.ends p s.ends;
+since_next context lines spans (Bind label) span old new b s rule p = record {
+  ends = bind_ends context lines spans label span old new b.count b.ends p s.ends;
   places = λ other low. bound_bind lines spans label span old new other b.count p (s.places other low);
-  ruled = append_each (λ line. broken_rule line ≡ None) lines (Bind label) rule s.ruled;
+  ruled = append_each (λ line. broken_rule context line ≡ None) lines (Bind label) rule s.ruled;
 }
 
 -- it ends where the line ends
-pub line_end : (line : Line) (old new : Buffer) (span : LineSpan) → LineAppends line old new span → length (bytes_of new) ≡ span.end
-line_end (Put inst) old new span p = sym p.end
-line_end (Bind label) old new span p = ap length p.bytes ∙ sym p.end
+pub line_end : (context : Context) (line : Line) (old new : Buffer) (span : LineSpan) → LineAppends context line old new span → length (bytes_of new) ≡ span.end
+line_end context (Put inst) old new span p = sym p.end
+line_end context (Bind label) old new span p = ap length p.bytes ∙ sym p.end

@@ -4,6 +4,7 @@ use Rattle.std.specs.Prelude.{slice_get, slice_index_or, nat_eq}
 use Rattle.std.proofs.lemmas.Bool.Decides.{nat_tests}
 use Rattle.std.proofs.lemmas.Option.{same_Some}
 use Rattle.rv_base.specs.declared.label.MachLabel.{MachLabel}
+use Rattle.rv_base.specs.Frame.{sp_to_args_end}
 use Rattle.rv_inst.specs.Context.{Context}
 use Rattle.rv_inst.specs.declared.inst.Line.{Line}
 use Rattle.rv_inst.specs.declared.inst.Line.TheVariants.{Inst as Put, Bind}
@@ -14,7 +15,7 @@ use Rattle.mach_buffer.specs.Finish.{CanFinish, Finishes}
 use Rattle.mach_buffer.specs.Buffer.{shape_of, bytes_of, uses_of, place_of, labels_of, traps_of, allocated_of}
 use Rattle.rv_emit.specs.declared.state.EmitVState.{EmitVState}
 use Rattle.rv_emit.specs.Emitted.{Buffer, IsSoundBuffer}
-use Rattle.rv_asm.specs.Refusal.{binds, is_bound, size_sum, refusal}
+use Rattle.rv_asm.specs.Refusal.{binds, is_bound, size_sum, lines_refusal}
 use Rattle.rv_inst.specs.Sizes.{line_sum}
 use Rattle.rv_asm.specs.LinesInBuffer.{LinesStand, Named, Sized, CanPut, LinePut}
 use Rattle.rv_asm.specs.AfterLastIsland.{AfterLastIsland}
@@ -33,20 +34,20 @@ use Rattle.rv_asm.proofs.NoEarlyIsland.{early_none, early_next, reaches_none, re
 pub record SoFar (context : Context) (lines : List Line) (count : ℕ) (spans : List LineSpan) (b : Buffer) : Type 0 where
   pub built : LinesStand context (take count lines) spans b
   pub named : Named (take count lines) spans b
-  pub sized : Sized (take count lines) b
-  pub since : AfterLastIsland (take count lines) spans b
-  pub early : NotEarly (take count lines) spans
-  pub reach : ReachesOn (take count lines) spans
+  pub sized : Sized context (take count lines) b
+  pub since : AfterLastIsland context (take count lines) spans b
+  pub early : NotEarly context (take count lines) spans
+  pub reach : ReachesOn context (take count lines) spans
 
 -- before the first
 pub so_far_none : (context : Context) (lines : List Line) (b : Buffer) → bytes_of b ≡ [] → uses_of b ≡ [] → ((label : ℕ) → place_of b label ≡ None) → labels_of b ≡ [] → allocated_of b ≡ 0 → traps_of b ≡ [] → IsSoundBuffer b → SoFar context lines 0 [] b
 so_far_none context lines b bytes uses places labels allocated traps sound = record {
   built = built_none context b bytes uses traps sound;
   named = named_none b uses labels places;
-  sized = sized_none b bytes uses allocated;
-  since = since_none b uses places;
-  early = early_none;
-  reach = reaches_none;
+  sized = sized_none context b bytes uses allocated;
+  since = since_none context b uses places;
+  early = early_none context;
+  reach = reaches_none context;
 }
 
 -- ---- lists by an index
@@ -79,10 +80,10 @@ among (l ∷ lines) (suc n) zero line h = record { there = h; before = omega ari
 among (l ∷ lines) (suc n) (suc j) line h = let a = among lines n j line h in record { there = a.there; before = let b = a.before in omega arith }
 
 -- the first lines and the next one count for no more than all
-sum_take : (lines : List Line) (n : ℕ) (line : Line) → slice_get lines n ≡ Some line → size_sum (take n lines) + line_sum line ≤ size_sum lines
-sum_take [] n line h = absurd (cc)
-sum_take (l ∷ lines) zero line h = let same : line_sum l ≡ line_sum line = ap line_sum (same_Some _ _ h) in omega arith
-sum_take (l ∷ lines) (suc n) line h = let rest = sum_take lines n line h in omega arith
+sum_take : (context : Context) (lines : List Line) (n : ℕ) (line : Line) → slice_get lines n ≡ Some line → size_sum context (take n lines) + line_sum context line ≤ size_sum context lines
+sum_take context [] n line h = absurd (cc)
+sum_take context (l ∷ lines) zero line h = let same : line_sum context l ≡ line_sum context line = ap (line_sum context) (same_Some _ _ h) in omega arith
+sum_take context (l ∷ lines) (suc n) line h = let rest = sum_take context lines n line h in omega arith
 
 -- the line that a turn reads
 pub line_read : (lines : List Line) (n : ℕ) (line : Line) → n < length lines → line ≡ slice_index_or lines n line → slice_get lines n ≡ Some line
@@ -96,32 +97,33 @@ label_is : (l : MachLabel) (label : ℕ) → nat_eq l.number label ≡ true → 
 label_is l label e = grind (arith, nat_tests)
 
 -- what the next line binds is not bound yet
-not_bound : (lines : List Line) (n : ℕ) (l : MachLabel) → refusal lines ≡ None → slice_get lines n ≡ Some (Bind l) → is_bound (take n lines) l.number ≡ false
-not_bound lines n l e h = on (is_bound (take n lines) l.number) refl
+not_bound : (context : Context) (lines : List Line) (n : ℕ) (l : MachLabel) → lines_refusal context lines ≡ None → slice_get lines n ≡ Some (Bind l) → is_bound (take n lines) l.number ≡ false
+not_bound context lines n l e h = on (is_bound (take n lines) l.number) refl
   where
     on : (c : Bool) → is_bound (take n lines) l.number ≡ c → is_bound (take n lines) l.number ≡ false
     on false g = g
     on true g =
         let by = bound_by (take n lines) l g in
         let a = among lines n by.0 (Bind l) by.1 in
-        let same = bound_once lines e by.0 n l l a.there h refl in
+        let same = bound_once context lines e by.0 n l l a.there h refl in
         let lt = a.before in
         absurd (omega arith)
 
-unbound_next : (context : Context) (lines : List Line) (n : ℕ) (spans : List LineSpan) (b : Buffer) (line : Line) → refusal lines ≡ None → SoFar context lines n spans b → slice_get lines n ≡ Some line → (label : ℕ) → binds line label ≡ true → place_of b label ≡ None
+unbound_next : (context : Context) (lines : List Line) (n : ℕ) (spans : List LineSpan) (b : Buffer) (line : Line) → lines_refusal context lines ≡ None → SoFar context lines n spans b → slice_get lines n ≡ Some line → (label : ℕ) → binds line label ≡ true → place_of b label ≡ None
 unbound_next context lines n spans b (Put inst) e s h label is = absurd (cc)
 unbound_next context lines n spans b (Bind l) e s h label is =
-    subst (λ k. place_of b k ≡ None) (label_is l label is) (s.named.unbound l.number (low_label l (no_rule_broken lines e n (Bind l) h)) (not_bound lines n l e h))
+    subst (λ k. place_of b k ≡ None) (label_is l label is) (s.named.unbound l.number (low_label context l (no_rule_broken context lines e n (Bind l) h)) (not_bound context lines n l e h))
 
 -- the next line can be put
-pub can_put : (context : Context) (lines : List Line) (n : ℕ) (spans : List LineSpan) (b : Buffer) (line : Line) → refusal lines ≡ None → SoFar context lines n spans b → slice_get lines n ≡ Some line → CanPut line b
-can_put context lines n spans b line e s h =
-    let small = sum_small lines e in
-    let least = sum_take lines n line h in
+pub can_put : (context : Context) (lines : List Line) (n : ℕ) (spans : List LineSpan) (b : Buffer) (line : Line) → sp_to_args_end context.frame < 2 ^ 31 → lines_refusal context lines ≡ None → SoFar context lines n spans b → slice_get lines n ≡ Some line → CanPut context line b
+can_put context lines n spans b line frame e s h =
+    let small = sum_small context lines e in
+    let least = sum_take context lines n line h in
     let size = s.sized.size in
     let allocated = s.sized.allocated in
     record {
-      rule = no_rule_broken lines e n line h;
+      rule = no_rule_broken context lines e n line h;
+      frame = frame;
       sound = s.built.sound;
       reach = s.sized.reach;
       few = omega (arith, small, least, allocated);
@@ -130,37 +132,37 @@ can_put context lines n spans b line e s h =
     }
 
 -- and once it was put the loop goes on
-pub so_far_next : (context : Context) (setting : EmitVState) (lines : List Line) (n : ℕ) (spans new_spans : List LineSpan) (old new : Buffer) (line : Line) (span : LineSpan) → refusal lines ≡ None → SoFar context lines n spans old → slice_get lines n ≡ Some line → span.index ≡ n → LinePut context setting line old new span → new_spans ≡ spans ++ span ∷ [] → SoFar context lines (n + 1) new_spans new
+pub so_far_next : (context : Context) (setting : EmitVState) (lines : List Line) (n : ℕ) (spans new_spans : List LineSpan) (old new : Buffer) (line : Line) (span : LineSpan) → lines_refusal context lines ≡ None → SoFar context lines n spans old → slice_get lines n ≡ Some line → span.index ≡ n → LinePut context setting line old new span → new_spans ≡ spans ++ span ∷ [] → SoFar context lines (n + 1) new_spans new
 so_far_next context setting lines n spans new_spans old new line span e s h index put pushed =
-    let rule = no_rule_broken lines e n line h in
+    let rule = no_rule_broken context lines e n line h in
     let count = take_count lines n line h in
     let at : span.index ≡ length (take n lines) = index ∙ sym count in
     let p = line_appends context setting line old new span rule s.built.sound put in
     let built = built_next context setting (take n lines) line spans span old new rule s.built put at in
-    let named = named_next (take n lines) spans line span old new rule s.named s.built.count p in
-    let sized = sized_next (take n lines) line old new span s.sized p in
-    let since = since_next (take n lines) spans line span old new s.built s.since rule p in
-    let early = early_next (take n lines) spans line span old new s.built s.since p s.early in
-    let reach = reaches_next (take n lines) spans line span old new s.built p since sized s.reach in
+    let named = named_next context (take n lines) spans line span old new rule s.named s.built.count p in
+    let sized = sized_next context (take n lines) line old new span s.sized p in
+    let since = since_next context (take n lines) spans line span old new s.built s.since rule p in
+    let early = early_next context (take n lines) spans line span old new s.built s.since p s.early in
+    let reach = reaches_next context (take n lines) spans line span old new s.built p since sized s.reach in
     subst (λ ss. SoFar context lines (n + 1) ss new) (sym pushed) (moved (sym (take_next lines n line h)) built named sized since early reach)
   where
-    moved : take n lines ++ line ∷ [] ≡ take (n + 1) lines → LinesStand context (take n lines ++ line ∷ []) (spans ++ span ∷ []) new → Named (take n lines ++ line ∷ []) (spans ++ span ∷ []) new → Sized (take n lines ++ line ∷ []) new → AfterLastIsland (take n lines ++ line ∷ []) (spans ++ span ∷ []) new → NotEarly (take n lines ++ line ∷ []) (spans ++ span ∷ []) → ReachesOn (take n lines ++ line ∷ []) (spans ++ span ∷ []) → SoFar context lines (n + 1) (spans ++ span ∷ []) new
+    moved : take n lines ++ line ∷ [] ≡ take (n + 1) lines → LinesStand context (take n lines ++ line ∷ []) (spans ++ span ∷ []) new → Named (take n lines ++ line ∷ []) (spans ++ span ∷ []) new → Sized context (take n lines ++ line ∷ []) new → AfterLastIsland context (take n lines ++ line ∷ []) (spans ++ span ∷ []) new → NotEarly context (take n lines ++ line ∷ []) (spans ++ span ∷ []) → ReachesOn context (take n lines ++ line ∷ []) (spans ++ span ∷ []) → SoFar context lines (n + 1) (spans ++ span ∷ []) new
     moved more built named sized since early reach = record {
       built = subst (λ ls. LinesStand context ls (spans ++ span ∷ []) new) more built;
       named = subst (λ ls. Named ls (spans ++ span ∷ []) new) more named;
-      sized = subst (λ ls. Sized ls new) more sized;
-      since = subst (λ ls. AfterLastIsland ls (spans ++ span ∷ []) new) more since;
-      early = subst (λ ls. NotEarly ls (spans ++ span ∷ [])) more early;
-      reach = subst (λ ls. ReachesOn ls (spans ++ span ∷ [])) more reach;
+      sized = subst (λ ls. Sized context ls new) more sized;
+      since = subst (λ ls. AfterLastIsland context ls (spans ++ span ∷ []) new) more since;
+      early = subst (λ ls. NotEarly context ls (spans ++ span ∷ [])) more early;
+      reach = subst (λ ls. ReachesOn context ls (spans ++ span ∷ [])) more reach;
     }
 
 -- after the last
 record AtEnd (context : Context) (lines : List Line) (spans : List LineSpan) (b : Buffer) : Type 0 where
   built : LinesStand context lines spans b
   named : Named lines spans b
-  sized : Sized lines b
-  early : NotEarly lines spans
-  reach : ReachesOn lines spans
+  sized : Sized context lines b
+  early : NotEarly context lines spans
+  reach : ReachesOn context lines spans
 
 at_end : (context : Context) (lines : List Line) (n : ℕ) (spans : List LineSpan) (b : Buffer) → length lines ≤ n → SoFar context lines n spans b → AtEnd context lines spans b
 at_end context lines n spans b le s =
@@ -168,26 +170,26 @@ at_end context lines n spans b le s =
     record {
       built = subst (λ ls. LinesStand context ls spans b) whole s.built;
       named = subst (λ ls. Named ls spans b) whole s.named;
-      sized = subst (λ ls. Sized ls b) whole s.sized;
-      early = subst (λ ls. NotEarly ls spans) whole s.early;
-      reach = subst (λ ls. ReachesOn ls spans) whole s.reach;
+      sized = subst (λ ls. Sized context ls b) whole s.sized;
+      early = subst (λ ls. NotEarly context ls spans) whole s.early;
+      reach = subst (λ ls. ReachesOn context ls spans) whole s.reach;
     }
 
 -- after the last, the buffer can be finished
-pub ready : (context : Context) (lines : List Line) (n : ℕ) (spans : List LineSpan) (b : Buffer) → refusal lines ≡ None → length lines ≤ n → SoFar context lines n spans b → CanFinish label_kinds (shape_of b)
+pub ready : (context : Context) (lines : List Line) (n : ℕ) (spans : List LineSpan) (b : Buffer) → lines_refusal context lines ≡ None → length lines ≤ n → SoFar context lines n spans b → CanFinish label_kinds (shape_of b)
 ready context lines n spans b e le s =
     let all = at_end context lines n spans b le s in
-    can_finish lines spans b all.built all.named all.sized (sum_small lines e) (named_is_bound lines e)
+    can_finish context lines spans b all.built all.named all.sized (sum_small context lines e) (named_is_bound context lines e)
 
 -- and then it is finished
-pub finished : (context : Context) (lines : List Line) (n : ℕ) (code : Code) (b : Buffer) → refusal lines ≡ None → length lines ≤ n → SoFar context lines n code.lines b → Finishes label_kinds (shape_of b) code.bytes → code.labels ≡ labels_of b → code.traps ≡ traps_of b → code.end ≡ length (bytes_of b) → IsFinished context lines code
+pub finished : (context : Context) (lines : List Line) (n : ℕ) (code : Code) (b : Buffer) → lines_refusal context lines ≡ None → length lines ≤ n → SoFar context lines n code.lines b → Finishes label_kinds (shape_of b) code.bytes → code.labels ≡ labels_of b → code.traps ≡ traps_of b → code.end ≡ length (bytes_of b) → IsFinished context lines code
 finished context lines n code b e le s f labels traps end =
     let all = at_end context lines n code.lines b le s in
     record { sink = b; built = all.built; named = all.named; sized = all.sized; early = all.early; reach = all.reach; ready = ready context lines n code.lines b e le s; finished = f; labels = labels; traps = traps; end = end }
 
 -- the code is short
-pub code_short : (context : Context) (lines : List Line) (n : ℕ) (spans : List LineSpan) (b : Buffer) (bytes : List ℕ) → refusal lines ≡ None → length lines ≤ n → SoFar context lines n spans b → Finishes label_kinds (shape_of b) bytes → length bytes < 2 ^ 32
+pub code_short : (context : Context) (lines : List Line) (n : ℕ) (spans : List LineSpan) (b : Buffer) (bytes : List ℕ) → lines_refusal context lines ≡ None → length lines ≤ n → SoFar context lines n spans b → Finishes label_kinds (shape_of b) bytes → length bytes < 2 ^ 32
 code_short context lines n spans b bytes e le s f =
-    let short = finished_short lines b bytes (at_end context lines n spans b le s).sized f in
-    let small = sum_small lines e in
+    let short = finished_short context lines b bytes (at_end context lines n spans b le s).sized f in
+    let small = sum_small context lines e in
     omega arith

@@ -10,7 +10,7 @@ use Rattle.rv_inst.specs.declared.inst.Inst.{Inst}
 use Rattle.rv_inst.specs.declared.inst.Inst.TheVariants.{TrapIf, Jal, CondBr}
 use Rattle.rv_inst.specs.declared.inst.CondBrTarget.{CondBrTarget}
 use Rattle.rv_inst.specs.declared.inst.CondBrTarget.TheVariants.{Label, Fallthrough}
-use Rattle.rv_inst.specs.Meaning.{Exit, Next, To, Leave, Break, Trap, Data, compares, exit_of, inst_exit, target_exit}
+use Rattle.rv_inst.specs.Meaning.{Environment, Exit, Next, To, Leave, Break, Trap, Data, compares, exit_of, inst_exit, target_exit}
 use Rattle.rv_inst.specs.Operands.{named_labels, inst_labels, target_labels}
 use Rattle.rv_asm.specs.Refusal.{is_bound}
 use Rattle.rv_asm.specs.Simulation.{binding_line}
@@ -39,15 +39,15 @@ branch_bound lines c Fallthrough (Label f) b = either_bound lines c Next (To f.n
 branch_bound lines c (Label t) Fallthrough b = either_bound lines c (To t.number) Next b.0 tt
 branch_bound lines c (Label t) (Label f) b = either_bound lines c (To t.number) (To f.number) b.0 b.1.0
 
-inst_bound : (lines : List Line) (inst : Inst) (v : Values) → AllBound lines (inst_labels inst) → ExitBound lines (inst_exit inst v)
-inst_bound lines (Jal label) v b = b.0
-inst_bound lines (CondBr t f kind) v b = branch_bound lines (compares kind v) t f b
-inst_bound lines (TrapIf cmp code) v b = either_bound lines (compares cmp v) (Trap code) Next tt tt
-inst_bound lines _ v b = tt
+inst_bound : (lines : List Line) (env : Environment) (inst : Inst) (v : Values) → AllBound lines (inst_labels inst) → ExitBound lines (inst_exit env inst v)
+inst_bound lines env (Jal label) v b = b.0
+inst_bound lines env (CondBr t f kind) v b = branch_bound lines (compares kind v) t f b
+inst_bound lines env (TrapIf cmp code) v b = either_bound lines (compares cmp v) (Trap code) Next tt tt
+inst_bound lines env _ v b = tt
 
-pub exit_bound : (lines : List Line) (line : Line) (v : Values) → AllBound lines (named_labels line) → ExitBound lines (exit_of line v)
-exit_bound lines (Put inst) v b = inst_bound lines inst v b
-exit_bound lines (Bind label) v b = tt
+pub exit_bound : (lines : List Line) (env : Environment) (line : Line) (v : Values) → AllBound lines (named_labels line) → ExitBound lines (exit_of env line v)
+exit_bound lines env (Put inst) v b = inst_bound lines env inst v b
+exit_bound lines env (Bind label) v b = tt
 
 -- the first line that binds a label
 pub bind_at : (lines : List Line) (label : ℕ) → is_bound lines label ≡ true → (l : MachLabel) × (slice_get lines (binding_line lines label) ≡ Some (Bind l)) × (l.number ≡ label)

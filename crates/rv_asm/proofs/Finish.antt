@@ -33,8 +33,8 @@ named_place : {context : Context} (lines : List Line) (spans : List LineSpan) (b
 named_place lines spans b number built all n =
     ap (λ m. is_some (place_of b m)) (sym n.is) ∙ ap is_some (bound_place lines spans b n.label.number built (all n.index n.line n.there n.place n.label n.names))
 
-pub can_finish : {context : Context} (lines : List Line) (spans : List LineSpan) (b : Buffer) → LinesStand context lines spans b → Named lines spans b → Sized lines b → size_sum lines ≤ size_limit → AllBound lines → CanFinish label_kinds (shape_of b)
-can_finish lines spans b built n s sum all =
+pub can_finish : (context : Context) (lines : List Line) (spans : List LineSpan) (b : Buffer) → LinesStand context lines spans b → Named lines spans b → Sized context lines b → size_sum context lines ≤ size_limit → AllBound lines → CanFinish label_kinds (shape_of b)
+can_finish context lines spans b built n s sum all =
     let near : length (before_last (bytes_of b) (length (pending b))) ≤ length (bytes_of b) + 3 = last_near (bytes_of b) (length (pending b)) in
     let size = s.size in
     record {
@@ -46,8 +46,8 @@ can_finish lines spans b built n s sum all =
     }
 
 -- and the code is at most 16 bytes longer than its lines count for
-pub finished_short : (lines : List Line) (b : Buffer) (bytes : List ℕ) → Sized lines b → Finishes label_kinds (shape_of b) bytes → length bytes ≤ size_sum lines + 16
-finished_short lines b bytes s f =
+pub finished_short : (context : Context) (lines : List Line) (b : Buffer) (bytes : List ℕ) → Sized context lines b → Finishes label_kinds (shape_of b) bytes → length bytes ≤ size_sum context lines + 16
+finished_short context lines b bytes s f =
     let near : length (before_last (bytes_of b) (length (pending b))) ≤ length (bytes_of b) + 3 = last_near (bytes_of b) (length (pending b)) in
     let put : length f.put.bytes ≡ length (before_last (bytes_of b) (length (pending b))) + 8 * length (pending b) = f.long in
     let long = f.same_length in

@@ -1,6 +1,7 @@
 -- Code that a buffer of lines was finished to runs as its job says.
 use Rattle.std.proofs.Common.{◌≡◌, ℕ, suc, ◌%◌, ◌<◌, length, Some, None, arith, refl, sym, ap, ◌∙◌}
 use Rattle.std.specs.Prelude.{slice_get}
+use Rattle.rv_base.specs.LabelUse.{code_limit}
 use Rattle.rv_inst.specs.Context.{context_of}
 use Rattle.rv_inst.specs.declared.inst.Line.{Line}
 use Rattle.rv_inst.specs.declared.inst.Line.TheVariants.{Inst as Put, Bind}
@@ -21,12 +22,12 @@ use Rattle.rv_asm.proofs.ExitPoints.{AllBound}
 use Rattle.rv_asm.proofs.Finish.{bound_place}
 use Rattle.rv_asm.proofs.LinesJoin.{site_of, LineIn, line_at, threaded_runs}
 
-module _ (job : Job) (code : Code) (b : Buffer) (built : LinesStand (context_of job) job.lines code.lines b) (f : IsFinishedTo (shape_of b) code.bytes) (traps : code.traps ≡ traps_of b) (ruled : (i : ℕ) (line : Line) → slice_get job.lines i ≡ Some line → broken_rule line ≡ None) where
+module _ (job : Job) (code : Code) (b : Buffer) (built : LinesStand (context_of job) job.lines code.lines b) (f : IsFinishedTo (shape_of b) code.bytes) (traps : code.traps ≡ traps_of b) (ruled : (i : ℕ) (line : Line) → slice_get job.lines i ≡ Some line → broken_rule (context_of job) line ≡ None) where
   abbrev site : ℕ → Site
   site base = site_of job code (place_of b) base
 
   -- a line stands in the code, and ends at an even offset
-  line_in : (base : ℕ) (line : Line) (before start end : ℕ) → broken_rule line ≡ None → StandsAfter (context_of job) line b before start end → LineIn (site base) line start end × (end % 2 ≡ 0)
+  line_in : (base : ℕ) (line : Line) (before start end : ℕ) → broken_rule (context_of job) line ≡ None → StandsAfter (context_of job) line b before start end → LineIn (site base) line start end × (end % 2 ≡ 0)
   line_in base (Put inst) before start end rule h =
       let setting = h.there.0 in
       let le = h.within in
@@ -46,12 +47,18 @@ module _ (job : Job) (code : Code) (b : Buffer) (built : LinesStand (context_of 
       let next = line_at job.lines (suc i) lt in
       gap_stands (site base) (shape_of b) f refl traps (end_of code.lines i) (start_of code.lines (suc i)) (each_in base i here.0 here.1).1 (built.each (suc i) next.0 next.1).gap
 
-  pub built_runs : code.end ≡ length (bytes_of b) → ((i : ℕ) (line : Line) → slice_get job.lines i ≡ Some line → AllBound job.lines (named_labels line)) → RunsAsListed job code
-  built_runs end named = threaded_runs job code (place_of b) (record {
+  pub built_runs : length code.bytes < code_limit → code.end ≡ length (bytes_of b) → ((i : ℕ) (line : Line) → slice_get job.lines i ≡ Some line → AllBound job.lines (named_labels line)) → RunsAsListed job code
+  built_runs short end named = threaded_runs job code (place_of b) (record {
     line = λ base i line e. (each_in base i line e).0;
     ruled = ruled;
     named = named;
     gap = λ base i lt. (gap_in base i lt).leads;
     last = λ i e. end ∙ built.ends ∙ ap (end_before code.lines) (sym e);
     bound = λ label e. bound_place job.lines code.lines b label built e;
+    short = short;
+    placed = λ label at e.
+        let inside = (f.sound.places label at e).0 in
+        let longer = f.finishes.grows.longer in
+        let long = f.finishes.same_length in
+        omega arith;
   })

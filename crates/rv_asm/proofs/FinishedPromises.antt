@@ -1,27 +1,25 @@
 -- Code that was built and finished keeps what is promised of it.
 use Rattle.std.proofs.Common.{◌≡◌, None, sym, ◌∙◌, subst, arith}
-use Rattle.rv_base.specs.Frame.{no_frame}
 use Rattle.rv_inst.specs.Context.{context_of}
 use Rattle.rv_inst.specs.declared.job.Job.{Job}
 use Rattle.rv_inst.specs.declared.code.Code.{Code}
 use Rattle.mach_buffer.specs.Buffer.{shape_of}
 use Rattle.rv_emit.specs.Standing.{IsFinishedTo}
 use Rattle.rv_listing.specs.CodeRanges.{CodeFits}
-use Rattle.rv_asm.specs.Refusal.{refusal}
+use Rattle.rv_asm.specs.Refusal.{refusal, lines_refusal}
 use Rattle.rv_asm.specs.Reported.{Reported}
 use Rattle.rv_asm.specs.Simulation.{RunsAsListed}
 use Rattle.rv_asm.specs.FinishedCode.{IsFinished}
-use Rattle.rv_asm.specs.LinesInBuffer.{context_by}
 use Rattle.rv_asm.specs.Reach.{InReach}
 use Rattle.rv_asm.proofs.Finish.{finished_short}
 use Rattle.rv_asm.proofs.FinishedLines.{built_runs}
-use Rattle.rv_asm.proofs.RefusalOrder.{parts, no_rule_broken, sum_small}
+use Rattle.rv_asm.proofs.RefusalOrder.{accepted_lines, parts, no_rule_broken, sum_small}
 use Rattle.rv_asm.proofs.RulesKept.{names_bound}
 use Rattle.rv_asm.proofs.SpanLengths.{all_bytes, built_reported}
 
-module _ (job : Job) (code : Code) (e : refusal job.lines ≡ None) (none : job.frame ≡ no_frame) (built : IsFinished (context_by job.flags no_frame job.constants) job.lines code) (fits : CodeFits code) where
-  abbrev f : IsFinished (context_of job) job.lines code
-  f = subst (λ frame. IsFinished (context_by job.flags frame job.constants) job.lines code) (sym none) built
+module _ (job : Job) (code : Code) (accepted : refusal job ≡ None) (f : IsFinished (context_of job) job.lines code) (fits : CodeFits code) where
+  abbrev e : lines_refusal (context_of job) job.lines ≡ None
+  e = accepted_lines job accepted
 
   finished : IsFinishedTo (shape_of f.sink) code.bytes
   finished = record { pending = f.sink.pending; sound = f.built.sound; can = f.ready; finishes = f.finished; all_bytes = all_bytes code.bytes fits.bytes }
@@ -30,16 +28,19 @@ module _ (job : Job) (code : Code) (e : refusal job.lines ≡ None) (none : job.
   finished_reported =
       let longer = f.finished.grows.longer in
       let long = f.finished.same_length in
-      let short = finished_short job.lines f.sink code.bytes f.sized f.finished in
-      let small = sum_small job.lines e in
+      let short = finished_short (context_of job) job.lines f.sink code.bytes f.sized f.finished in
+      let small = sum_small (context_of job) job.lines e in
       built_reported job code f.sink f.built finished (omega (arith, short, small)) (f.labels ∙ f.named.labels) f.traps f.end (omega (arith, longer, long))
 
   pub finished_runs : RunsAsListed job code
-  finished_runs = built_runs job code f.sink f.built finished f.traps (no_rule_broken job.lines e) f.end (names_bound job.lines job.lines (parts job.lines e).unbound)
+  finished_runs =
+      let short = finished_short (context_of job) job.lines f.sink code.bytes f.sized f.finished in
+      let small = sum_small (context_of job) job.lines e in
+      built_runs job code f.sink f.built finished f.traps (no_rule_broken (context_of job) job.lines e) (omega (arith, short, small)) f.end (names_bound job.lines job.lines (parts (context_of job) job.lines e).unbound)
 
   pub finished_in_reach : InReach job code
   finished_in_reach = record {
     early = f.early;
     reach = f.reach;
-    short = finished_short job.lines f.sink code.bytes f.sized f.finished;
+    short = finished_short (context_of job) job.lines f.sink code.bytes f.sized f.finished;
   }

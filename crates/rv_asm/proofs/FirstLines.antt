@@ -1,13 +1,14 @@
 -- What is said of lines by their spans stays as lines are added.
-use Rattle.std.proofs.Common.{◌≡◌, ℕ, zero, suc, ◌+◌, ◌-◌, ◌<◌, ◌≤◌, Bool, true, false, cond, not, List, [], ◌∷◌, ◌++◌, length, take, drop, Some, refl, ap, sym, ◌∙◌, arith, append_assoc}
+use Rattle.std.proofs.Common.{◌≡◌, ℕ, zero, suc, ◌+◌, ◌-◌, ◌<◌, ◌≤◌, Bool, true, false, cond, not, ◌&&◌, List, [], ◌∷◌, ◌++◌, length, take, drop, Some, refl, ap, sym, ◌∙◌, arith, append_assoc}
 use Rattle.std.specs.Prelude.{nat_eq, nat_lt}
 use Rattle.std.proofs.lemmas.List.{length-append, length-drop, length-take-le, take-append-le, drop-append-le, drop_all, append-nil}
 use Rattle.std.proofs.Math.Seq.{drop-append_seam}
+use Rattle.rv_inst.specs.Context.{Context}
 use Rattle.rv_inst.specs.declared.code.LineSpan.{LineSpan}
 use Rattle.rv_inst.specs.declared.inst.Line.{Line}
 use Rattle.rv_inst.specs.declared.inst.Line.TheVariants.{Inst as Put, Bind}
 use Rattle.rv_inst.specs.declared.label_use.LabelUse.{LabelUse}
-use Rattle.rv_inst.specs.LabelUse.{label_kinds}
+use Rattle.rv_inst.specs.LabelUse.{label_kinds, has_veneer_of}
 use Rattle.mach_buffer.specs.declared.uses.Use.{Use}
 use Rattle.mach_buffer.specs.Reach.{is_reached, deadlines}
 use Rattle.mach_buffer.specs.Windows.{or_place}
@@ -15,7 +16,7 @@ use Rattle.mach_buffer.proofs.Laws.{slice_get-append}
 use Rattle.rv_inst.specs.Uses.{uses_in}
 use Rattle.rv_asm.specs.Reported.{start_of, end_of}
 use Rattle.rv_asm.specs.Reported.{end_before}
-use Rattle.rv_asm.specs.Reach.{is_after_island, is_island, last_island, is_island_at, first_after_island, uses_from, bound_by, pending_deadlines, IsDue, label_count}
+use Rattle.rv_asm.specs.Reach.{is_after_island, is_island, last_island, is_island_at, first_after_island, uses_from, bound_by, pending_deadlines, IsDue, way_count}
 use Rattle.rv_asm.specs.AfterLastIsland.{uses_after_island}
 use Rattle.rv_asm.proofs.LabelNames.{start_more, end_more, start_last, end_last}
 
@@ -38,29 +39,29 @@ last_more spans more (suc i) le =
     let b = last_more spans more i (omega arith) in
     λ j. cond (a j) i (b j)
 
-island_more : (lines more : List Line) (spans more_spans : List LineSpan) (i : ℕ) → 1 ≤ length lines → i < length spans → is_island_at (lines ++ more) (spans ++ more_spans) i ≡ is_island_at lines spans i
-island_more [] more spans more_spans i some lt = absurd (omega arith)
-island_more (line ∷ lines) more spans more_spans i some lt =
+island_more : (context : Context) (lines more : List Line) (spans more_spans : List LineSpan) (i : ℕ) → 1 ≤ length lines → i < length spans → is_island_at context (lines ++ more) (spans ++ more_spans) i ≡ is_island_at context lines spans i
+island_more context [] more spans more_spans i some lt = absurd (omega arith)
+island_more context (line ∷ lines) more spans more_spans i some lt =
     let a = start_more spans more_spans i lt in
     let b = end_more spans more_spans i lt in
-    λ j. is_island line (a j) (b j)
+    λ j. is_island context line (a j) (b j)
 
-pub open_more : (lines more : List Line) (spans more_spans : List LineSpan) (i : ℕ) → length spans ≡ length lines → i ≤ length lines → first_after_island (lines ++ more) (spans ++ more_spans) i ≡ first_after_island lines spans i
-open_more lines more spans more_spans zero count le = refl
-open_more lines more spans more_spans (suc i) count le =
+pub open_more : (context : Context) (lines more : List Line) (spans more_spans : List LineSpan) (i : ℕ) → length spans ≡ length lines → i ≤ length lines → first_after_island context (lines ++ more) (spans ++ more_spans) i ≡ first_after_island context lines spans i
+open_more context lines more spans more_spans zero count le = refl
+open_more context lines more spans more_spans (suc i) count le =
     let cut : drop i (lines ++ more) ≡ drop i lines ++ more = drop-append-le i lines more (omega arith) in
     let long : length (drop i lines) ≡ length lines - i = length-drop i lines in
-    let a : is_island_at (drop i (lines ++ more)) (spans ++ more_spans) i ≡ is_island_at (drop i lines) spans i =
-    ap (λ ls. is_island_at ls (spans ++ more_spans) i) cut ∙ island_more (drop i lines) more spans more_spans i (omega arith) (omega arith) in
+    let a : is_island_at context (drop i (lines ++ more)) (spans ++ more_spans) i ≡ is_island_at context (drop i lines) spans i =
+    ap (λ ls. is_island_at context ls (spans ++ more_spans) i) cut ∙ island_more context (drop i lines) more spans more_spans i (omega arith) (omega arith) in
     let b = behind_more spans more_spans i (omega arith) in
-    let c = open_more lines more spans more_spans i count (omega arith) in
+    let c = open_more context lines more spans more_spans i count (omega arith) in
     λ j. cond (a j) (suc i) (cond (b j) i (c j))
 
-pub open_low : (lines : List Line) (spans : List LineSpan) (i : ℕ) → first_after_island lines spans i ≤ i
-open_low lines spans zero = omega arith
-open_low lines spans (suc i) = on (is_island_at (drop i lines) spans i) (is_after_island spans i) (open_low lines spans i)
+pub open_low : (context : Context) (lines : List Line) (spans : List LineSpan) (i : ℕ) → first_after_island context lines spans i ≤ i
+open_low context lines spans zero = omega arith
+open_low context lines spans (suc i) = on (is_island_at context (drop i lines) spans i) (is_after_island spans i) (open_low context lines spans i)
   where
-    on : (a b : Bool) → first_after_island lines spans i ≤ i → cond a (suc i) (cond b i (first_after_island lines spans i)) ≤ suc i
+    on : (a b : Bool) → first_after_island context lines spans i ≤ i → cond a (suc i) (cond b i (first_after_island context lines spans i)) ≤ suc i
     on true b le = omega arith
     on false true le = omega arith
     on false false le = omega arith
@@ -74,11 +75,11 @@ last_low spans (suc i) = on (is_after_island spans i) (last_low spans i)
     on false le = omega arith
 
 -- islands in lines only come later
-pub last_open : (lines : List Line) (spans : List LineSpan) (i : ℕ) → last_island spans i ≤ first_after_island lines spans i
-last_open lines spans zero = omega arith
-last_open lines spans (suc i) = on (is_island_at (drop i lines) spans i) (is_after_island spans i) (last_open lines spans i) (last_low spans i)
+pub last_open : (context : Context) (lines : List Line) (spans : List LineSpan) (i : ℕ) → last_island spans i ≤ first_after_island context lines spans i
+last_open context lines spans zero = omega arith
+last_open context lines spans (suc i) = on (is_island_at context (drop i lines) spans i) (is_after_island spans i) (last_open context lines spans i) (last_low spans i)
   where
-    on : (a b : Bool) → last_island spans i ≤ first_after_island lines spans i → last_island spans i ≤ i → cond b i (last_island spans i) ≤ cond a (suc i) (cond b i (first_after_island lines spans i))
+    on : (a b : Bool) → last_island spans i ≤ first_after_island context lines spans i → last_island spans i ≤ i → cond b i (last_island spans i) ≤ cond a (suc i) (cond b i (first_after_island context lines spans i))
     on true true le low = omega arith
     on true false le low = omega arith
     on false true le low = omega arith
@@ -86,23 +87,23 @@ last_open lines spans (suc i) = on (is_island_at (drop i lines) spans i) (is_aft
 
 -- ---- uses and binds
 
-pub uses_more : (spans more : List LineSpan) (i : ℕ) (lines : List Line) → i + length lines ≤ length spans → uses_from (spans ++ more) i lines ≡ uses_from spans i lines
-uses_more spans more i [] le = refl
-uses_more spans more i (Put inst ∷ lines) le =
+pub uses_more : (context : Context) (spans more : List LineSpan) (i : ℕ) (lines : List Line) → i + length lines ≤ length spans → uses_from context (spans ++ more) i lines ≡ uses_from context spans i lines
+uses_more context spans more i [] le = refl
+uses_more context spans more i (Put inst ∷ lines) le =
     let a = start_more spans more i (omega arith) in
-    let b = uses_more spans more (suc i) lines (omega arith) in
-    λ j. uses_in (a j) inst ++ b j
-uses_more spans more i (Bind label ∷ lines) le = uses_more spans more (suc i) lines (omega arith)
+    let b = uses_more context spans more (suc i) lines (omega arith) in
+    λ j. uses_in context (a j) inst ++ b j
+uses_more context spans more i (Bind label ∷ lines) le = uses_more context spans more (suc i) lines (omega arith)
 
-pub uses_append : (spans : List LineSpan) (i : ℕ) (lines more : List Line) → uses_from spans i (lines ++ more) ≡ uses_from spans i lines ++ uses_from spans (i + length lines) more
-uses_append spans i [] more = let same : i ≡ i + 0 = omega arith in ap (λ n. uses_from spans n more) same
-uses_append spans i (Put inst ∷ lines) more =
+pub uses_append : (context : Context) (spans : List LineSpan) (i : ℕ) (lines more : List Line) → uses_from context spans i (lines ++ more) ≡ uses_from context spans i lines ++ uses_from context spans (i + length lines) more
+uses_append context spans i [] more = let same : i ≡ i + 0 = omega arith in ap (λ n. uses_from context spans n more) same
+uses_append context spans i (Put inst ∷ lines) more =
     let same : suc i + length lines ≡ i + suc (length lines) = omega arith in
-    ap (λ us. uses_in (start_of spans i) inst ++ us) (uses_append spans (suc i) lines more ∙ ap (λ n. uses_from spans (suc i) lines ++ uses_from spans n more) same)
-    ∙ sym (append_assoc (uses_in (start_of spans i) inst) (uses_from spans (suc i) lines) (uses_from spans (i + suc (length lines)) more))
-uses_append spans i (Bind label ∷ lines) more =
+    ap (λ us. uses_in context (start_of spans i) inst ++ us) (uses_append context spans (suc i) lines more ∙ ap (λ n. uses_from context spans (suc i) lines ++ uses_from context spans n more) same)
+    ∙ sym (append_assoc (uses_in context (start_of spans i) inst) (uses_from context spans (suc i) lines) (uses_from context spans (i + suc (length lines)) more))
+uses_append context spans i (Bind label ∷ lines) more =
     let same : suc i + length lines ≡ i + suc (length lines) = omega arith in
-    uses_append spans (suc i) lines more ∙ ap (λ n. uses_from spans (suc i) lines ++ uses_from spans n more) same
+    uses_append context spans (suc i) lines more ∙ ap (λ n. uses_from context spans (suc i) lines ++ uses_from context spans n more) same
 
 pub bound_by_more : (spans more : List LineSpan) (i : ℕ) (lines : List Line) (label : ℕ) → i + length lines ≤ length spans → bound_by (spans ++ more) i lines label ≡ bound_by spans i lines label
 bound_by_more spans more i [] label le = refl
@@ -129,41 +130,41 @@ bound_by_append spans i (Bind l ∷ lines) more label =
 -- ---- what is pending
 
 -- what is pending after some lines, from the first that is open
-abbrev waiting_at : List LineSpan → List Line → ℕ → List ℕ
-waiting_at spans front k = deadlines (λ (u : Use LabelUse). not (is_reached label_kinds (bound_by spans 0 front u.label.number) u)) label_kinds (uses_from spans k (drop k front))
+abbrev waiting_at : (context : Context) → List LineSpan → List Line → ℕ → List ℕ
+waiting_at context spans front k = deadlines (λ (u : Use LabelUse). has_veneer_of u.kind && not (is_reached label_kinds (bound_by spans 0 front u.label.number) u)) label_kinds (uses_from context spans k (drop k front))
 
-waiting_spans : (spans more : List LineSpan) (front : List Line) (k : ℕ) → length front ≤ length spans → k ≤ length front → waiting_at (spans ++ more) front k ≡ waiting_at spans front k
-waiting_spans spans more front k le low =
+waiting_spans : (context : Context) (spans more : List LineSpan) (front : List Line) (k : ℕ) → length front ≤ length spans → k ≤ length front → waiting_at context (spans ++ more) front k ≡ waiting_at context spans front k
+waiting_spans context spans more front k le low =
     let long : length (drop k front) ≡ length front - k = length-drop k front in
-    let uses : uses_from (spans ++ more) k (drop k front) ≡ uses_from spans k (drop k front) = uses_more spans more k (drop k front) (omega arith) in
+    let uses : uses_from context (spans ++ more) k (drop k front) ≡ uses_from context spans k (drop k front) = uses_more context spans more k (drop k front) (omega arith) in
     let bound : (label : ℕ) → bound_by (spans ++ more) 0 front label ≡ bound_by spans 0 front label = λ label. bound_by_more spans more 0 front label (omega arith) in
-    λ j. deadlines (λ (u : Use LabelUse). not (is_reached label_kinds (bound u.label.number j) u)) label_kinds (uses j)
+    λ j. deadlines (λ (u : Use LabelUse). has_veneer_of u.kind && not (is_reached label_kinds (bound u.label.number j) u)) label_kinds (uses j)
 
-pub waiting_more : (lines more : List Line) (spans more_spans : List LineSpan) (n : ℕ) → length spans ≡ length lines → n ≤ length lines → pending_deadlines (lines ++ more) (spans ++ more_spans) n ≡ pending_deadlines lines spans n
-waiting_more lines more spans more_spans n count le =
-    let k = first_after_island lines spans n in
+pub waiting_more : (context : Context) (lines more : List Line) (spans more_spans : List LineSpan) (n : ℕ) → length spans ≡ length lines → n ≤ length lines → pending_deadlines context (lines ++ more) (spans ++ more_spans) n ≡ pending_deadlines context lines spans n
+waiting_more context lines more spans more_spans n count le =
+    let k = first_after_island context lines spans n in
     let front : take n (lines ++ more) ≡ take n lines = take-append-le n lines more le in
-    let from : first_after_island (lines ++ more) (spans ++ more_spans) n ≡ k = open_more lines more spans more_spans n count le in
-    let low = open_low lines spans n in
+    let from : first_after_island context (lines ++ more) (spans ++ more_spans) n ≡ k = open_more context lines more spans more_spans n count le in
+    let low = open_low context lines spans n in
     let long : length (take n lines) ≡ n = length-take-le n lines le in
-    (λ j. waiting_at (spans ++ more_spans) (front j) (from j)) ∙ waiting_spans spans more_spans (take n lines) k (omega arith) (omega arith)
+    (λ j. waiting_at context (spans ++ more_spans) (front j) (from j)) ∙ waiting_spans context spans more_spans (take n lines) k (omega arith) (omega arith)
 
 -- an island that is due stays so
-pub due_more : (lines more : List Line) (spans more_spans : List LineSpan) (i at distance : ℕ) → length spans ≡ length lines → i ≤ length lines → IsDue lines spans i at distance → IsDue (lines ++ more) (spans ++ more_spans) i at distance
-due_more lines more spans more_spans i at distance count le d =
+pub due_more : (context : Context) (lines more : List Line) (spans more_spans : List LineSpan) (i at distance : ℕ) → length spans ≡ length lines → i ≤ length lines → IsDue context lines spans i at distance → IsDue context (lines ++ more) (spans ++ more_spans) i at distance
+due_more context lines more spans more_spans i at distance count le d =
     let last : last_island (spans ++ more_spans) i ≡ last_island spans i = last_more spans more_spans i (omega arith) in
     let front : take i (lines ++ more) ≡ take i lines = take-append-le i lines more le in
     let before = d.before in
     let start : start_of (spans ++ more_spans) d.index ≡ start_of spans d.index = start_more spans more_spans d.index (omega arith) in
-    let counts : label_count (drop (last_island (spans ++ more_spans) i) (take i (lines ++ more))) ≡ label_count (drop (last_island spans i) (take i lines)) = λ j. label_count (drop (last j) (front j)) in
-    let behind = d.behind in
+    let counts : way_count (drop (last_island (spans ++ more_spans) i) (take i (lines ++ more))) ≡ way_count (drop (last_island spans i) (take i lines)) = λ j. way_count (drop (last j) (front j)) in
+    let since = d.since in
     let due = d.due in
     record {
       index = d.index;
       line = d.line;
       there = slice_get-append lines more d.index d.line d.there;
       jumps = d.jumps;
-      behind = omega (arith, last, behind);
+      since = omega (arith, last, since);
       before = d.before;
       due = omega (arith, start, counts, due);
     }
@@ -171,20 +172,20 @@ due_more lines more spans more_spans i at distance count le d =
 -- ---- the uses that are open, as one line is added
 
 -- those of a line that starts at an offset
-abbrev pub own_uses : Line → ℕ → List (Use LabelUse)
-own_uses (Put inst) start = uses_in start inst
-own_uses (Bind label) start = []
+abbrev pub own_uses : (context : Context) → Line → ℕ → List (Use LabelUse)
+own_uses context (Put inst) start = uses_in context start inst
+own_uses context (Bind label) start = []
 
-open_at : (lines : List Line) (spans : List LineSpan) (k : ℕ) → first_after_island lines spans (length lines) ≡ k → uses_after_island lines spans ≡ uses_from spans k (drop k lines)
-open_at lines spans k e = ap (λ n. uses_from spans n (drop n lines)) e
+open_at : (context : Context) (lines : List Line) (spans : List LineSpan) (k : ℕ) → first_after_island context lines spans (length lines) ≡ k → uses_after_island context lines spans ≡ uses_from context spans k (drop k lines)
+open_at context lines spans k e = ap (λ n. uses_from context spans n (drop n lines)) e
 
-own_last : (spans : List LineSpan) (line : Line) (span : LineSpan) → uses_from (spans ++ span ∷ []) (length spans) (line ∷ []) ≡ own_uses line span.start
-own_last spans (Put inst) span = append-nil _ ∙ ap (λ n. uses_in n inst) (start_last spans span)
-own_last spans (Bind label) span = refl
+own_last : (context : Context) (spans : List LineSpan) (line : Line) (span : LineSpan) → uses_from context (spans ++ span ∷ []) (length spans) (line ∷ []) ≡ own_uses context line span.start
+own_last context spans (Put inst) span = append-nil _ ∙ ap (λ n. uses_in context n inst) (start_last spans span)
+own_last context spans (Bind label) span = refl
 
-open_next : (lines : List Line) (spans : List LineSpan) (line : Line) (span : LineSpan) → length spans ≡ length lines →
-    first_after_island (lines ++ line ∷ []) (spans ++ span ∷ []) (length (lines ++ line ∷ [])) ≡ cond (is_island line span.start span.end) (suc (length lines)) (cond (nat_lt (end_before spans (length lines)) span.start) (length lines) (first_after_island lines spans (length lines)))
-open_next lines spans line span count =
+open_next : (context : Context) (lines : List Line) (spans : List LineSpan) (line : Line) (span : LineSpan) → length spans ≡ length lines →
+    first_after_island context (lines ++ line ∷ []) (spans ++ span ∷ []) (length (lines ++ line ∷ [])) ≡ cond (is_island context line span.start span.end) (suc (length lines)) (cond (nat_lt (end_before spans (length lines)) span.start) (length lines) (first_after_island context lines spans (length lines)))
+open_next context lines spans line span count =
     let all = lines ++ line ∷ [] in
     let all_spans = spans ++ span ∷ [] in
     let n = length lines in
@@ -193,39 +194,39 @@ open_next lines spans line span count =
     let end : end_of all_spans n ≡ span.end = ap (end_of all_spans) (sym count) ∙ end_last spans span in
     let cut : drop n all ≡ line ∷ [] = drop-append_seam lines (line ∷ []) in
     let first : end_before all_spans n ≡ end_before spans n = ends_more spans (span ∷ []) n (omega arith) in
-    let rest : first_after_island all all_spans n ≡ first_after_island lines spans n = open_more lines (line ∷ []) spans (span ∷ []) n count (omega arith) in
-    let island : is_island_at (drop n all) all_spans n ≡ is_island line span.start span.end = ap (λ ls. is_island_at ls all_spans n) cut ∙ (λ j. is_island line (start j) (end j)) in
-    ap (first_after_island all all_spans) long ∙ (λ j. cond (island j) (suc n) (cond (nat_lt (first j) (start j)) n (rest j)))
+    let rest : first_after_island context all all_spans n ≡ first_after_island context lines spans n = open_more context lines (line ∷ []) spans (span ∷ []) n count (omega arith) in
+    let island : is_island_at context (drop n all) all_spans n ≡ is_island context line span.start span.end = ap (λ ls. is_island_at context ls all_spans n) cut ∙ (λ j. is_island context line (start j) (end j)) in
+    ap (first_after_island context all all_spans) long ∙ (λ j. cond (island j) (suc n) (cond (nat_lt (first j) (start j)) n (rest j)))
 
-module _ (lines : List Line) (spans : List LineSpan) (line : Line) (span : LineSpan) (count : length spans ≡ length lines) where
+module _ (context : Context) (lines : List Line) (spans : List LineSpan) (line : Line) (span : LineSpan) (count : length spans ≡ length lines) where
   -- an island in the line: none
-  pub open_in_island : is_island line span.start span.end ≡ true → uses_after_island (lines ++ line ∷ []) (spans ++ span ∷ []) ≡ []
+  pub open_in_island : is_island context line span.start span.end ≡ true → uses_after_island context (lines ++ line ∷ []) (spans ++ span ∷ []) ≡ []
   open_in_island e =
       let all = lines ++ line ∷ [] in
-      let from : first_after_island all (spans ++ span ∷ []) (length all) ≡ suc (length lines) = open_next lines spans line span count ∙ ap (λ b. cond b (suc (length lines)) (cond (nat_lt (end_before spans (length lines)) span.start) (length lines) (first_after_island lines spans (length lines)))) e in
+      let from : first_after_island context all (spans ++ span ∷ []) (length all) ≡ suc (length lines) = open_next context lines spans line span count ∙ ap (λ b. cond b (suc (length lines)) (cond (nat_lt (end_before spans (length lines)) span.start) (length lines) (first_after_island context lines spans (length lines)))) e in
       let long : length all ≡ suc (length lines) = length-append lines (line ∷ []) ∙ omega arith in
-      open_at all (spans ++ span ∷ []) (suc (length lines)) from ∙ ap (uses_from (spans ++ span ∷ []) (suc (length lines))) (drop_all (suc (length lines)) all (omega arith))
+      open_at context all (spans ++ span ∷ []) (suc (length lines)) from ∙ ap (uses_from context (spans ++ span ∷ []) (suc (length lines))) (drop_all (suc (length lines)) all (omega arith))
 
   -- an island before the line: its own
-  pub open_behind : is_island line span.start span.end ≡ false → nat_lt (end_before spans (length lines)) span.start ≡ true → uses_after_island (lines ++ line ∷ []) (spans ++ span ∷ []) ≡ own_uses line span.start
-  open_behind e f =
+  pub open_after : is_island context line span.start span.end ≡ false → nat_lt (end_before spans (length lines)) span.start ≡ true → uses_after_island context (lines ++ line ∷ []) (spans ++ span ∷ []) ≡ own_uses context line span.start
+  open_after e f =
       let all = lines ++ line ∷ [] in
       let all_spans = spans ++ span ∷ [] in
       let n = length lines in
-      let from : first_after_island all all_spans (length all) ≡ n = open_next lines spans line span count ∙ (λ j. cond (e j) (suc n) (cond (f j) n (first_after_island lines spans n))) in
-      open_at all all_spans n from ∙ (λ j. uses_from all_spans (sym count j) (drop-append_seam lines (line ∷ []) j)) ∙ own_last spans line span
+      let from : first_after_island context all all_spans (length all) ≡ n = open_next context lines spans line span count ∙ (λ j. cond (e j) (suc n) (cond (f j) n (first_after_island context lines spans n))) in
+      open_at context all all_spans n from ∙ (λ j. uses_from context all_spans (sym count j) (drop-append_seam lines (line ∷ []) j)) ∙ own_last context spans line span
 
   -- no island: its own are added
-  pub open_on : is_island line span.start span.end ≡ false → nat_lt (end_before spans (length lines)) span.start ≡ false → uses_after_island (lines ++ line ∷ []) (spans ++ span ∷ []) ≡ uses_after_island lines spans ++ own_uses line span.start
+  pub open_on : is_island context line span.start span.end ≡ false → nat_lt (end_before spans (length lines)) span.start ≡ false → uses_after_island context (lines ++ line ∷ []) (spans ++ span ∷ []) ≡ uses_after_island context lines spans ++ own_uses context line span.start
   open_on e f =
       let all = lines ++ line ∷ [] in
       let all_spans = spans ++ span ∷ [] in
       let n = length lines in
-      let k = first_after_island lines spans n in
-      let low : k ≤ n = open_low lines spans n in
-      let from : first_after_island all all_spans (length all) ≡ k = open_next lines spans line span count ∙ (λ j. cond (e j) (suc n) (cond (f j) n k)) in
+      let k = first_after_island context lines spans n in
+      let low : k ≤ n = open_low context lines spans n in
+      let from : first_after_island context all all_spans (length all) ≡ k = open_next context lines spans line span count ∙ (λ j. cond (e j) (suc n) (cond (f j) n k)) in
       let cut : drop k all ≡ drop k lines ++ line ∷ [] = drop-append-le k lines (line ∷ []) low in
       let long : length (drop k lines) ≡ n - k = length-drop k lines in
       let at : k + length (drop k lines) ≡ length spans = omega arith in
-      open_at all all_spans k from ∙ ap (uses_from all_spans k) cut ∙ uses_append all_spans k (drop k lines) (line ∷ [])
-      ∙ (λ j. uses_more spans (span ∷ []) k (drop k lines) (omega arith) j ++ uses_from all_spans (at j) (line ∷ [])) ∙ ap (λ us. uses_from spans k (drop k lines) ++ us) (own_last spans line span)
+      open_at context all all_spans k from ∙ ap (uses_from context all_spans k) cut ∙ uses_append context all_spans k (drop k lines) (line ∷ [])
+      ∙ (λ j. uses_more context spans (span ∷ []) k (drop k lines) (omega arith) j ++ uses_from context all_spans (at j) (line ∷ [])) ∙ ap (λ us. uses_from context spans k (drop k lines) ++ us) (own_last context spans line span)

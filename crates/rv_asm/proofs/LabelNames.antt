@@ -5,17 +5,20 @@ use Rattle.std.proofs.lemmas.Bool.{true≢false, eq-eqb, leb-false, or_parts, ca
 use Rattle.std.proofs.lemmas.List.{append-nil, map-append}
 use Rattle.rv_base.specs.declared.label.MachLabel.{MachLabel}
 use Rattle.mach_labels.specs.Table.{first_inner}
+use Rattle.rv_inst.specs.Context.{Context}
 use Rattle.rv_inst.specs.declared.code.LineSpan.{LineSpan}
 use Rattle.rv_inst.specs.declared.inst.Inst.{Inst}
-use Rattle.rv_inst.specs.declared.inst.Inst.TheVariants.{EmitIsland, Jal, CondBr}
+use Rattle.rv_inst.specs.declared.inst.Inst.TheVariants.{EmitIsland}
 use Rattle.rv_inst.specs.declared.inst.CondBrTarget.TheVariants.{Label, Fallthrough}
 use Rattle.rv_inst.specs.declared.inst.Line.{Line}
 use Rattle.rv_inst.specs.declared.inst.Line.TheVariants.{Inst as Put, Bind}
 use Rattle.rv_inst.specs.declared.label_use.LabelUse.{LabelUse}
-use Rattle.rv_inst.specs.declared.label_use.LabelUse.TheVariants.{Jal20}
+use Rattle.rv_inst.specs.declared.label_use.LabelUse.TheVariants.{Jal20, PCRelLo12I}
 use Rattle.rv_inst.specs.declared.error.Rule.TheVariants as rule_of
 use Rattle.rv_inst.specs.Rules.{broken_rule}
-use Rattle.rv_inst.specs.Operands.{inst_labels}
+use Rattle.rv_inst.specs.declared.targets.Targets.{Targets}
+use Rattle.rv_inst.specs.declared.targets.Targets.TheVariants.{Nowhere, Jumps, Branches, Refers}
+use Rattle.rv_inst.specs.Operands.{targets_of, labels_of as target_names, inst_labels}
 use Rattle.rv_inst.specs.LabelUse.{label_kinds, has_veneer_of}
 use Rattle.rv_inst.specs.Sizes.{line_space}
 use Rattle.mach_buffer.specs.declared.uses.Use.{Use}
@@ -24,7 +27,7 @@ use Rattle.mach_buffer.specs.Shape.{recorded, core, listed}
 use Rattle.mach_buffer.specs.Islands.{is_far}
 use Rattle.mach_buffer.proofs.Laws.{both_lists, comes_from, slice_get-append, slice_get-append_last, append_each, recorded_get}
 use Rattle.rv_emit.specs.Emitted.{Buffer, AppendsInst, AppendsIsland, IslandIfNeeded}
-use Rattle.rv_inst.specs.Uses.{use_at, uses_in}
+use Rattle.rv_inst.specs.Uses.{use_at, target_uses, uses_in}
 use Rattle.rv_emit.proofs.Laws.{Each, each_none, each_more, uses_kinds}
 use Rattle.rv_asm.specs.Reported.{start_of, end_of, binds_from}
 use Rattle.rv_asm.specs.Refusal.{binds, is_bound}
@@ -153,14 +156,26 @@ pub record IsOf (labels : List MachLabel) (number : ℕ) : Type 0 where
   pub names : slice_get labels place ≡ Some label
   pub is : label.number ≡ number
 
-pub uses_labels : (start : ℕ) (inst : Inst) → Each (λ u. IsOf (inst_labels inst) u.label.number) (uses_in start inst)
-uses_labels start (Jal label) = each_more (λ u. IsOf (label ∷ []) u.label.number) _ [] (record { place = 0; label = label; names = refl; is = refl }) (each_none _)
-uses_labels start (CondBr Fallthrough not_taken kind) = each_none _
-uses_labels start (CondBr (Label t) Fallthrough kind) = each_more (λ u. IsOf (t ∷ []) u.label.number) _ [] (record { place = 0; label = t; names = refl; is = refl }) (each_none _)
-uses_labels start (CondBr (Label t) (Label f) kind) =
-    each_more (λ u. IsOf (t ∷ f ∷ []) u.label.number) _ (use_at (start + 4) f Jal20 ∷ []) (record { place = 0; label = t; names = refl; is = refl })
-    (each_more (λ u. IsOf (t ∷ f ∷ []) u.label.number) _ [] (record { place = 1; label = f; names = refl; is = refl }) (each_none _))
-uses_labels start inst = each_none _
+pub uses_labels : (context : Context) (start : ℕ) (inst : Inst) → Each (λ u. IsOf (inst_labels inst) u.label.number) (uses_in context start inst)
+uses_labels context start inst = on (targets_of inst)
+  where
+    first : (label : MachLabel) (labels : List MachLabel) → IsOf (label ∷ labels) label.number
+    first label labels = record { place = 0; label = label; names = refl; is = refl }
+
+    second : (other label : MachLabel) → IsOf (other ∷ label ∷ []) label.number
+    second other label = record { place = 1; label = label; names = refl; is = refl }
+
+    on : (targets : Targets) → Each (λ u. IsOf (target_names targets) u.label.number) (target_uses start targets)
+    on Nowhere = each_none _
+    on (Jumps label) = each_more (λ u. IsOf (label ∷ []) u.label.number) _ [] (first label []) (each_none _)
+    on (Branches Fallthrough not_taken) = each_none _
+    on (Branches (Label t) Fallthrough) = each_more (λ u. IsOf (t ∷ []) u.label.number) _ [] (first t []) (each_none _)
+    on (Branches (Label t) (Label f)) =
+        each_more (λ u. IsOf (t ∷ f ∷ []) u.label.number) _ (use_at (start + 4) f Jal20 ∷ []) (first t (f ∷ []))
+        (each_more (λ u. IsOf (t ∷ f ∷ []) u.label.number) _ [] (second t f) (each_none _))
+    on (Refers label) =
+        each_more (λ u. IsOf (label ∷ []) u.label.number) _ (use_at (start + 4) label PCRelLo12I ∷ []) (first label [])
+        (each_more (λ u. IsOf (label ∷ []) u.label.number) _ [] (first label []) (each_none _))
 
 own_named : (lines : List Line) (inst : Inst) (number : ℕ) → IsOf (inst_labels inst) number → IsNamed (lines ++ Put inst ∷ []) number
 own_named lines inst number o = record {
@@ -173,25 +188,25 @@ own_named lines inst number o = record {
   is = o.is;
 }
 
-good_block : (lines : List Line) (inst : Inst) (old new : Buffer) → AppendsInst inst old new → AreGood lines old → AreGood (lines ++ Put inst ∷ []) new
-good_block lines inst old new p h =
+good_block : (context : Context) (lines : List Line) (inst : Inst) (old new : Buffer) → AppendsInst context inst old new → AreGood lines old → AreGood (lines ++ Put inst ∷ []) new
+good_block context lines inst old new p h =
     let start = length (bytes_of old) in
-    let own = uses_in start inst in
+    let own = uses_in context start inst in
     let all = lines ++ Put inst ∷ [] in
     let whole : recorded (uses_of new) ≡ recorded (uses_of old) ++ recorded own = ap recorded p.adds.uses ∙ map-append core (uses_of old) own in
     let keeps : Keeps old new = λ label e. ap (λ (place : ℕ → Option ℕ). is_some (place label)) p.adds.places ∙ e in
     let each : Each (IsGood all new) (recorded own) = λ j u e.
     let from = comes_from core own j u e in
-    subst (IsGood all new) from.is (inl (uses_kinds start inst j from.from from.there), inr (own_named lines inst from.from.label.number (uses_labels start inst j from.from from.there))) in
+    subst (IsGood all new) from.is (uses_kinds context start inst j from.from from.there, inr (own_named lines inst from.from.label.number (uses_labels context start inst j from.from from.there))) in
     good_as all new (recorded (uses_of old) ++ recorded own) whole
     (both_lists (IsGood all new) (recorded (uses_of old)) (recorded own) (λ j u e. good_kept lines (Put inst ∷ []) old new keeps u (h j u e)) each)
 
 good_line : (lines more : List Line) (b : Buffer) → AreGood lines b → AreGood (lines ++ more) b
 good_line lines more b h j u e = good_kept lines more b b (λ label g. g) u (h j u e)
 
-pub good_emitted : (lines : List Line) (inst : Inst) (old new : Buffer) → Appends inst old new → AreGood lines old → AreGood (lines ++ Put inst ∷ []) new
-good_emitted lines (EmitIsland space) old new e h = good_line lines (Put (EmitIsland space) ∷ []) new (good_room lines space old new e.0 e.1 h)
-good_emitted lines inst old new e h = good_block lines inst old new e h
+pub good_emitted : (context : Context) (lines : List Line) (inst : Inst) (old new : Buffer) → Appends context inst old new → AreGood lines old → AreGood (lines ++ Put inst ∷ []) new
+good_emitted context lines (EmitIsland space) old new e h = good_line lines (Put (EmitIsland space) ∷ []) new (good_room lines space old new e.0 e.1 h)
+good_emitted context lines inst old new e h = good_block context lines inst old new e h
 
 -- ---- the loop's invariant
 
@@ -205,11 +220,11 @@ room_keeps distance old new made m = ⊎_elim
     (λ put. (put.1.labels, λ label low. put.1.places label (λ e. let at = put.1.drawn_label in absurd (omega arith))))
     m.put
 
-pub emitted_keeps : (inst : Inst) (old new : Buffer) → Appends inst old new → (labels_of new ≡ labels_of old) × KeepsLow old new
-emitted_keeps (EmitIsland space) old new e = room_keeps space old new e.0 e.1
-emitted_keeps inst old new e = block_keeps inst old new e
+pub emitted_keeps : (context : Context) (inst : Inst) (old new : Buffer) → Appends context inst old new → (labels_of new ≡ labels_of old) × KeepsLow old new
+emitted_keeps context (EmitIsland space) old new e = room_keeps space old new e.0 e.1
+emitted_keeps context inst old new e = block_keeps inst old new e
   where
-    block_keeps : (inst : Inst) (old new : Buffer) → AppendsInst inst old new → (labels_of new ≡ labels_of old) × KeepsLow old new
+    block_keeps : (inst : Inst) (old new : Buffer) → AppendsInst context inst old new → (labels_of new ≡ labels_of old) × KeepsLow old new
     block_keeps inst old new p = (p.adds.labels, λ label low. ap (λ (place : ℕ → Option ℕ). place label) p.adds.places)
 
 pub named_none : (b : Buffer) → uses_of b ≡ [] → labels_of b ≡ [] → ((label : ℕ) → place_of b label ≡ None) → Named [] [] b
@@ -234,16 +249,16 @@ named_from lines spans b labels unbound good = record {
   named = λ j u h. (good j (core u) (recorded_get (uses_of b) j u h)).1;
 }
 
-inst_named : (lines : List Line) (spans : List LineSpan) (inst : Inst) (span : LineSpan) (old new : Buffer) → Named lines spans old → length spans ≡ length lines → InstAppends inst old new span → Named (lines ++ Put inst ∷ []) (spans ++ span ∷ []) new
-inst_named lines spans inst span old new n count p =
+inst_named : (context : Context) (lines : List Line) (spans : List LineSpan) (inst : Inst) (span : LineSpan) (old new : Buffer) → Named lines spans old → length spans ≡ length lines → InstAppends context inst old new span → Named (lines ++ Put inst ∷ []) (spans ++ span ∷ []) new
+inst_named context lines spans inst span old new n count p =
     let first = room_keeps line_space old p.mid p.made p.room in
-    let then_ = emitted_keeps inst p.mid new p.emitted in
+    let then_ = emitted_keeps context inst p.mid new p.emitted in
     named_from (lines ++ Put inst ∷ []) (spans ++ span ∷ []) new
     (then_.0 ∙ first.0 ∙ n.labels ∙ sym (append-nil _) ∙ sym (binds_next lines spans (Put inst) span count))
     (λ label low free.
     let before : is_bound lines label ≡ false = (or_parts (is_bound lines label) false (sym (bound_append lines (Put inst ∷ []) label) ∙ free)).0 in
     then_.1 label low ∙ first.1 label low ∙ n.unbound label low before)
-    (good_emitted lines inst p.mid new p.emitted (good_room lines line_space old p.mid p.made p.room (good_from_named lines spans old n)))
+    (good_emitted context lines inst p.mid new p.emitted (good_room lines line_space old p.mid p.made p.room (good_from_named lines spans old n)))
 
 bind_keeps : (label : MachLabel) (old new : Buffer) (span : LineSpan) → BindPut label old new span → Keeps old new
 bind_keeps label old new span p other h = ⊎_elim
@@ -255,8 +270,8 @@ bind_keeps label old new span p other h = ⊎_elim
 listed_low : (label : MachLabel) (at : ℕ) → label.number < first_inner → listed label at ≡ (record { label = label; offset = at }) ∷ []
 listed_low label at low = ap (λ b. cond b ((record { label = label; offset = at }) ∷ []) []) (lt-ltb label.number first_inner low)
 
-bind_named : (lines : List Line) (spans : List LineSpan) (label : MachLabel) (span : LineSpan) (old new : Buffer) → label.number < first_inner → Named lines spans old → length spans ≡ length lines → BindPut label old new span → Named (lines ++ Bind label ∷ []) (spans ++ span ∷ []) new
-bind_named lines spans label span old new low n count p =
+bind_named : (context : Context) (lines : List Line) (spans : List LineSpan) (label : MachLabel) (span : LineSpan) (old new : Buffer) → label.number < first_inner → Named lines spans old → length spans ≡ length lines → BindPut label old new span → Named (lines ++ Bind label ∷ []) (spans ++ span ∷ []) new
+bind_named context lines spans label span old new low n count p =
     let start : start_of (spans ++ span ∷ []) (length spans) ≡ length (bytes_of old) = start_last spans span ∙ p.start in
     let own : labels_of new ≡ binds_from spans 0 lines ++ binds_from (spans ++ span ∷ []) (length spans) (Bind label ∷ []) =
     p.labels ∙ (λ i. n.labels i ++ listed_low label (length (bytes_of old)) low i) ∙ ap (λ at. binds_from spans 0 lines ++ (record { label = label; offset = at }) ∷ []) (sym start) in
@@ -270,13 +285,13 @@ bind_named lines spans label span old new low n count p =
     (λ j u e. good_kept lines (Bind label ∷ []) old new (bind_keeps label old new span p) u (good_from_named lines spans old n j u e)))
 
 -- a label that a line binds is one of the listing's
-pub low_label : (label : MachLabel) → broken_rule (Bind label) ≡ None → label.number < first_inner
-low_label label rule = on (nat_le first_inner label.number) refl rule
+pub low_label : (context : Context) (label : MachLabel) → broken_rule context (Bind label) ≡ None → label.number < first_inner
+low_label context label rule = on (nat_le first_inner label.number) refl rule
   where
     on : (c : Bool) → nat_le first_inner label.number ≡ c → cond c (Some rule_of.Label) None ≡ None → label.number < first_inner
     on true e h = absurd (cc)
     on false e h = leb-false _ _ e
 
-pub named_next : (lines : List Line) (spans : List LineSpan) (line : Line) (span : LineSpan) (old new : Buffer) → broken_rule line ≡ None → Named lines spans old → length spans ≡ length lines → LineAppends line old new span → Named (lines ++ line ∷ []) (spans ++ span ∷ []) new
-named_next lines spans (Put inst) span old new rule n count p = inst_named lines spans inst span old new n count p
-named_next lines spans (Bind label) span old new rule n count p = bind_named lines spans label span old new (low_label label rule) n count p
+pub named_next : (context : Context) (lines : List Line) (spans : List LineSpan) (line : Line) (span : LineSpan) (old new : Buffer) → broken_rule context line ≡ None → Named lines spans old → length spans ≡ length lines → LineAppends context line old new span → Named (lines ++ line ∷ []) (spans ++ span ∷ []) new
+named_next context lines spans (Put inst) span old new rule n count p = inst_named context lines spans inst span old new n count p
+named_next context lines spans (Bind label) span old new rule n count p = bind_named context lines spans label span old new (low_label context label rule) n count p

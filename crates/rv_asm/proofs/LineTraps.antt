@@ -1,5 +1,6 @@
 -- The traps of lines, as they are recorded one line after another.
 use Rattle.std.proofs.Common.{◌≡◌, ℕ, zero, suc, ◌+◌, ◌≤◌, Bool, List, [], ◌∷◌, ◌++◌, length, refl, ap, sym, ◌∙◌, arith, ⊎_elim, append_assoc, append-nil}
+use Rattle.rv_inst.specs.Context.{Context}
 use Rattle.rv_inst.specs.declared.code.LineSpan.{LineSpan}
 use Rattle.rv_inst.specs.declared.inst.Inst.{Inst}
 use Rattle.rv_inst.specs.declared.inst.Inst.TheVariants.{EmitIsland}
@@ -16,9 +17,9 @@ pub room_traps : (distance : ℕ) (old new : Buffer) (made : Bool) → IslandIfN
 room_traps distance old new made m = ⊎_elim (λ same. ap (λ (b : Buffer). traps_of b) same.1) (λ put. put.1.traps) m.put
 
 -- an instruction records its own
-pub appended_traps : (inst : Inst) (old new : Buffer) → Appends inst old new → traps_of new ≡ traps_of old ++ inst_traps (length (bytes_of old)) (length (bytes_of new)) inst
-appended_traps (EmitIsland space) old new (made, room) = room_traps space old new made room ∙ sym (append-nil (traps_of old))
-appended_traps inst old new e = e.traps
+pub appended_traps : (context : Context) (inst : Inst) (old new : Buffer) → Appends context inst old new → traps_of new ≡ traps_of old ++ inst_traps (length (bytes_of old)) (length (bytes_of new)) inst
+appended_traps context (EmitIsland space) old new (made, room) = room_traps space old new made room ∙ sym (append-nil (traps_of old))
+appended_traps context inst old new e = e.traps
 
 -- a span more changes nothing for the lines before it
 traps_spans : (spans more : List LineSpan) (i : ℕ) (lines : List Line) → i + length lines ≤ length spans → traps_from (spans ++ more) i lines ≡ traps_from spans i lines

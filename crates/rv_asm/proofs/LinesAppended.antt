@@ -19,41 +19,41 @@ use Rattle.rv_emit.proofs.Laws.{appends_inst}
 use Rattle.rv_asm.specs.LinesInBuffer.{IsLong, BindPut, LinePut}
 
 -- an instruction's bytes and uses were put at the end; or an island, where the instruction asks for one and one is needed
-abbrev AppendsBy : Option ℕ → Inst → Buffer → Buffer → Type 0
-AppendsBy (Some space) inst old new = (made : Bool) × IslandIfNeeded space old new made
-AppendsBy None inst old new = AppendsInst inst old new
+abbrev AppendsBy : (context : Context) → Option ℕ → Inst → Buffer → Buffer → Type 0
+AppendsBy context (Some space) inst old new = (made : Bool) × IslandIfNeeded space old new made
+AppendsBy context None inst old new = AppendsInst context inst old new
 
-abbrev pub Appends : Inst → Buffer → Buffer → Type 0
-Appends inst old new = AppendsBy (island_space inst) inst old new
+abbrev pub Appends : (context : Context) → Inst → Buffer → Buffer → Type 0
+Appends context inst old new = AppendsBy context (island_space context inst) inst old new
 
 room_sound : (distance : ℕ) (old new : Buffer) (made : Bool) → IslandIfNeeded distance old new made → IsSoundBuffer old → IsSoundBuffer new
 room_sound distance old new made m sound = ⊎_elim (λ same. subst (λ (b : Buffer). IsSoundBuffer b) (sym same.1) sound) (λ put. put.1.sound) m.put
 
-pub appends : (context : Context) (setting : EmitVState) (inst : Inst) (old new : Buffer) → inst_rule inst ≡ None → IsSoundBuffer old → EmitsIn context setting inst old new → Appends inst old new
+pub appends : (context : Context) (setting : EmitVState) (inst : Inst) (old new : Buffer) → inst_rule context inst ≡ None → IsSoundBuffer old → EmitsIn context setting inst old new → Appends context inst old new
 appends context setting (EmitIsland space) old new rule sound (mid, made, room, same) = (made, subst (λ b. IslandIfNeeded space old b made) (sym same) room)
 appends context setting inst old new rule sound e = appends_inst context setting inst old new rule sound refl e
 
 -- words of an instruction are as long as they must be
-pub appended_long : (inst : Inst) (old new : Buffer) → Appends inst old new → IsLong (extent_of inst) (length (bytes_of old)) (length (bytes_of new))
-appended_long (EmitIsland space) old new e = tt
-appended_long inst old new e = subst (λ x. IsLong x (length (bytes_of old)) (length (bytes_of new))) (sym e.long) (ap (length {A = ℕ}) e.adds.bytes ∙ length-append (bytes_of old) e.block)
+pub appended_long : (context : Context) (inst : Inst) (old new : Buffer) → Appends context inst old new → IsLong (extent_of context inst) (length (bytes_of old)) (length (bytes_of new))
+appended_long context (EmitIsland space) old new e = tt
+appended_long context inst old new e = subst (λ x. IsLong x (length (bytes_of old)) (length (bytes_of new))) (sym e.long) (ap (length {A = ℕ}) e.adds.bytes ∙ length-append (bytes_of old) e.code)
 
 -- an instruction, after an island where one was needed
-pub record InstAppends (inst : Inst) (old new : Buffer) (span : LineSpan) : Type 0 where
+pub record InstAppends (context : Context) (inst : Inst) (old new : Buffer) (span : LineSpan) : Type 0 where
   pub mid : Buffer
   pub made : Bool
   pub room : IslandIfNeeded line_space old mid made
-  pub emitted : Appends inst mid new
-  pub bounds : IsBounded inst mid new
+  pub emitted : Appends context inst mid new
+  pub bounds : IsBounded context inst mid new
   pub reach : CanReach (length (bytes_of new)) (pending new)
   pub start : span.start ≡ length (bytes_of mid)
   pub end : span.end ≡ length (bytes_of new)
 
-abbrev pub LineAppends : Line → Buffer → Buffer → LineSpan → Type 0
-LineAppends (Put inst) old new span = InstAppends inst old new span
-LineAppends (Bind label) old new span = BindPut label old new span
+abbrev pub LineAppends : (context : Context) → Line → Buffer → Buffer → LineSpan → Type 0
+LineAppends context (Put inst) old new span = InstAppends context inst old new span
+LineAppends context (Bind label) old new span = BindPut label old new span
 
-pub line_appends : (context : Context) (setting : EmitVState) (line : Line) (old new : Buffer) (span : LineSpan) → broken_rule line ≡ None → IsSoundBuffer old → LinePut context setting line old new span → LineAppends line old new span
+pub line_appends : (context : Context) (setting : EmitVState) (line : Line) (old new : Buffer) (span : LineSpan) → broken_rule context line ≡ None → IsSoundBuffer old → LinePut context setting line old new span → LineAppends context line old new span
 line_appends context setting (Put inst) old new span rule sound p = record {
   mid = p.mid;
   made = p.made;

@@ -64,12 +64,12 @@ none_put distance old new made m none = ⊎_elim
     (λ put. let needed : true ≡ false = sym put.0 ∙ m.asked ∙ ap (λ us. is_needed (length (bytes_of old)) distance (deadlines (is_pending label_kinds (place_of old)) label_kinds us)) none in absurd (cc))
     m.put
 
-inst_added : (context : Context) (setting : EmitVState) (inst : Inst) (old new : Buffer) (span : LineSpan) → inst_rule inst ≡ None → IsSoundBuffer old → HasWindows old → InstPut context setting inst old new span → LineAdded context (Put inst) old new span
+inst_added : (context : Context) (setting : EmitVState) (inst : Inst) (old new : Buffer) (span : LineSpan) → inst_rule context inst ≡ None → IsSoundBuffer old → HasWindows old → InstPut context setting inst old new span → LineAdded context (Put inst) old new span
 inst_added context setting inst old new span rule s w p =
     let now = setting_beyond p.made setting in
     let room = gap_put context.flags line_space old p.mid p.made s w p.room in
     let appended = appends context now inst p.mid new rule room.sound p.emitted in
-    let long = appended_long inst p.mid new appended in
+    let long = appended_long context inst p.mid new appended in
     let put = parts_put context.flags (parts_of context now inst) p.mid new (are_blocks context now inst rule) room.sound room.windows p.emitted in
     record {
       lasts = lasts_more room.lasts put.lasts;
@@ -83,7 +83,7 @@ inst_added context setting inst old new span rule s w p =
       windows = put.windows;
       sound = put.sound;
       first = λ h. p.start ∙ none_put line_space old p.mid p.made p.room h;
-      traps = appended_traps inst p.mid new appended ∙ (λ i. room_traps line_space old p.mid p.made p.room i ++ inst_traps (sym p.start i) (sym p.end i) inst);
+      traps = appended_traps context inst p.mid new appended ∙ (λ i. room_traps line_space old p.mid p.made p.room i ++ inst_traps (sym p.start i) (sym p.end i) inst);
     }
 
 -- ---- a bind
@@ -118,6 +118,6 @@ bind_added context label old new span s w p = record {
   traps = p.traps ∙ sym (append-nil (traps_of old));
 }
 
-pub line_added : (context : Context) (setting : EmitVState) (line : Line) (old new : Buffer) (span : LineSpan) → broken_rule line ≡ None → IsSoundBuffer old → HasWindows old → LinePut context setting line old new span → LineAdded context line old new span
+pub line_added : (context : Context) (setting : EmitVState) (line : Line) (old new : Buffer) (span : LineSpan) → broken_rule context line ≡ None → IsSoundBuffer old → HasWindows old → LinePut context setting line old new span → LineAdded context line old new span
 line_added context setting (Put inst) old new span rule s w p = inst_added context setting inst old new span rule s w p
 line_added context setting (Bind label) old new span rule s w p = bind_added context label old new span s w p

@@ -1,9 +1,9 @@
 -- The join of lines: where the parts of each line stand in the code, and what stands between two lines leads on, the code
 -- runs as its job says. Nothing here knows a buffer.
-use Rattle.std.proofs.Common.{◌≡◌, ℕ, zero, suc, ◌+◌, ◌%◌, ◌<◌, ◌≤◌, Bool, true, false, List, [], ◌∷◌, length, Option, Some, None, arith, refl, sym, ap, ◌∙◌, lit≤}
-use Rattle.std.specs.Prelude.{slice_get, nat_lt, if◌then◌else◌}
+use Rattle.std.proofs.Common.{◌≡◌, ℕ, zero, suc, ◌+◌, ◌%◌, ◌<◌, ◌≤◌, Bool, true, false, List, [], ◌∷◌, length, Option, Some, None, arith, refl, sym, ap, subst, ◌∙◌, lit≤}
+use Rattle.std.specs.Prelude.{slice_get, nat_lt, unwrap_or, if◌then◌else◌}
 use Rattle.std.proofs.lemmas.Bool.{ltb-true, ltb-false}
-use Rattle.std.proofs.lemmas.Option.{same_Some}
+use Rattle.std.proofs.lemmas.Option.{same_Some, slice_get_within}
 use Rattle.rv_machine.specs.State.{State, IsState, Values, AreValues, wrap}
 use Rattle.rv_machine.specs.Steps.{iter}
 use Rattle.rv_inst.specs.Context.{context_of}
@@ -12,18 +12,22 @@ use Rattle.rv_inst.specs.declared.inst.Line.TheVariants.{Inst as Put, Bind}
 use Rattle.rv_inst.specs.declared.inst.Inst.{Inst}
 use Rattle.rv_inst.specs.declared.job.Job.{Job}
 use Rattle.rv_inst.specs.declared.code.Code.{Code}
-use Rattle.rv_inst.specs.Meaning.{Exit, Next, To, Leave, Break, Trap, Data, exit_of, effect_of, temporaries_of}
+use Rattle.rv_inst.specs.Meaning.{Exit, Next, To, Leave, Break, Trap, Data, exit_of, effect_of, writes_of, temporaries_of, AreOutside}
+use Rattle.rv_inst.specs.Environments.{SameLabels, AgreeOn}
+use Rattle.rv_inst.proofs.Meaning.{effect_agrees, writes_agree, exit_agrees}
+use Rattle.rv_base.specs.LabelUse.{code_limit}
+use Rattle.rv_base.specs.declared.label.MachLabel.{MachLabel}
 use Rattle.rv_inst.specs.Operands.{named_labels}
 use Rattle.rv_inst.specs.Rules.{broken_rule}
 use Rattle.rv_inst.specs.SameValues.{Same, SameBut}
 use Rattle.rv_emit.specs.declared.state.EmitVState.{EmitVState}
 use Rattle.rv_emit.specs.InstParts.{parts_of}
-use Rattle.rv_emit.specs.InstRuns.{ComesOut, placement}
+use Rattle.rv_emit.specs.InstRuns.{ComesOut, environment}
 use Rattle.rv_emit.specs.Sites.{Site, IsPlacedAt, LeadsOn, PartsStand}
 use Rattle.rv_emit.proofs.Laws.{iter_none, iter_after, same_but, but_then_same, inst_runs}
 use Rattle.rv_asm.specs.Refusal.{is_bound}
 use Rattle.rv_asm.specs.Reported.{start_of, end_of}
-use Rattle.rv_asm.specs.Simulation.{Point, At, Out, End, Stop, Trapped, InData, Addresses, IsBack, Leads, next_point, binding_line, address_of, IsPlaced, IsStopped, Comes, RunsAsListed}
+use Rattle.rv_asm.specs.Simulation.{Point, At, Out, End, Stop, Trapped, InData, Addresses, IsBack, Leads, next_point, binding_line, environment_of, WritesOutside, address_of, IsPlaced, IsStopped, Comes, RunsAsListed}
 use Rattle.rv_asm.proofs.ExitPoints.{AllBound, ExitBound, exit_bound}
 use Rattle.rv_asm.proofs.ValuesKept.{same_itself}
 
@@ -50,27 +54,31 @@ LineIn site (Bind label) start after = start ≡ after
 -- the last line ends the code; and labels stand where they are bound
 pub record IsThreaded (job : Job) (code : Code) (place : ℕ → Option ℕ) : Type 0 where
   pub line : (base i : ℕ) (line : Line) → slice_get job.lines i ≡ Some line → LineIn (site_of job code place base) line (start_of code.lines i) (end_of code.lines i)
-  pub ruled : (i : ℕ) (line : Line) → slice_get job.lines i ≡ Some line → broken_rule line ≡ None
+  pub ruled : (i : ℕ) (line : Line) → slice_get job.lines i ≡ Some line → broken_rule (context_of job) line ≡ None
   pub named : (i : ℕ) (line : Line) → slice_get job.lines i ≡ Some line → AllBound job.lines (named_labels line)
   pub gap : (base i : ℕ) → suc i < length job.lines → LeadsOn (site_of job code place base) (end_of code.lines i) (start_of code.lines (suc i))
   pub last : (i : ℕ) → suc i ≡ length job.lines → code.end ≡ end_of code.lines i
   pub bound : (label : ℕ) → is_bound job.lines label ≡ true → place label ≡ Some (label_place job.lines code label)
+  pub short : length code.bytes < code_limit
+  pub placed : (label at : ℕ) → place label ≡ Some at → at ≤ length code.bytes
 
 -- ---- one line
 
 -- a line of the code runs as it means
-line_comes : (site : Site) (line : Line) (start after : ℕ) (s : State) (v : Values) → LineIn site line start after → broken_rule line ≡ None → IsPlacedAt site s.values.mem → s.pc ≡ wrap (site.base + start) → IsState s → AreValues v → Same v s.values → ComesOut site start after (exit_of line v) (temporaries_of line) (effect_of (placement site start after) line v) s
-line_comes site (Put inst) start after s v h rule placed pc is_state are_values same = (inst_runs h.setting inst rule).run site start after s v (record {
+line_comes : (site : Site) (line : Line) (start after : ℕ) (s : State) (v : Values) → length site.bytes < code_limit → ((label at : ℕ) → site.place label ≡ Some at → at ≤ length site.bytes) → LineIn site line start after → broken_rule site.context line ≡ None → AreOutside site.base (length site.bytes) (writes_of (environment site start after) line v) → IsPlacedAt site s.values.mem → s.pc ≡ wrap (site.base + start) → IsState s → AreValues v → Same v s.values → ComesOut site start after (exit_of (environment site start after) line v) (temporaries_of line) (effect_of (environment site start after) line v) s
+line_comes site (Put inst) start after s v short labels h rule outside placed pc is_state are_values same = (inst_runs site h.setting inst rule).run start after s v (record {
   even = h.even;
   within = h.within;
+  short = short;
+  labels = labels;
   stands = h.stands;
   placed = placed;
   pc = pc;
   is_state = is_state;
   are_values = are_values;
   same = same;
-})
-line_comes site (Bind label) start after s v h rule placed pc is_state are_values same = record {
+}) outside
+line_comes site (Bind label) start after s v short labels h rule outside placed pc is_state are_values same = record {
   steps = 0;
   state = s;
   moved = lit≤ tt;
@@ -142,10 +150,25 @@ module _ (job : Job) (code : Code) (place : ℕ → Option ℕ) (t : IsThreaded 
       record { point = Trapped i a.0; leads = (a.0, refl, record { recorded = a.1; first = a.2; last = a.3 }); reached = there (Trap cause) e (Trapped i a.0) (λ back. absurd back) a.4 a.5 }
   reaches Data bound e = record { point = InData i; leads = refl; reached = there Data e (InData i) (λ back. absurd back) e.arrives tt }
 
-comes : (job : Job) (code : Code) (place : ℕ → Option ℕ) → IsThreaded job code place → (base : ℕ) (symbols slots : Addresses) (i : ℕ) (line : Line) (s : State) (v : Values) → i < length job.lines → slice_get job.lines i ≡ Some line → IsPlaced code base symbols slots s.values.mem → IsState s → AreValues v → s.pc ≡ address_of code base (At i) → Same v s.values → Comes job code base (At i) v s
-comes job code place t base symbols slots i line s v lt e placed is_state are_values pc same =
-    let out = line_comes (site_of job code place base) line (start_of code.lines i) (end_of code.lines i) s v (t.line base i line e) (t.ruled i line e) (record { aligned = placed.aligned; bytes = record { room = placed.room; there = placed.there } }) pc is_state are_values same in
-    let ends = reaches job code place t base i lt (temporaries_of line) (effect_of (placement (site_of job code place base) (start_of code.lines i) (end_of code.lines i)) line v) s (exit_of line v) (exit_bound job.lines line v (t.named i line e)) out in
+-- the labels that a line names have the same addresses in the code as in the listing
+same_labels : (job : Job) (code : Code) (place : ℕ → Option ℕ) → IsThreaded job code place → (base i : ℕ) (labels : List MachLabel) → AllBound job.lines labels → SameLabels labels (environment (site_of job code place base) (start_of code.lines i) (end_of code.lines i)) (environment_of job code base i)
+same_labels job code place t base i [] bound = tt
+same_labels job code place t base i (l ∷ labels) bound = (ap (λ at. wrap (base + unwrap_or at 0)) (t.bound l.number bound.0), same_labels job code place t base i labels bound.1)
+
+agrees : (job : Job) (code : Code) (place : ℕ → Option ℕ) → IsThreaded job code place → (base i : ℕ) (line : Line) → slice_get job.lines i ≡ Some line → AgreeOn (named_labels line) (environment (site_of job code place base) (start_of code.lines i) (end_of code.lines i)) (environment_of job code base i)
+agrees job code place t base i line e = record { start = refl; after = refl; frame = refl; labels_same = same_labels job code place t base i (named_labels line) (t.named i line e) }
+
+comes : (job : Job) (code : Code) (place : ℕ → Option ℕ) → IsThreaded job code place → (base : ℕ) (symbols slots : Addresses) (i : ℕ) (line : Line) (s : State) (v : Values) → i < length job.lines → slice_get job.lines i ≡ Some line → WritesOutside job code base i line v → IsPlaced code base symbols slots s.values.mem → IsState s → AreValues v → s.pc ≡ address_of code base (At i) → Same v s.values → Comes job code base (At i) v s
+comes job code place t base symbols slots i line s v lt e outside placed is_state are_values pc same =
+    let site = site_of job code place base in
+    let start = start_of code.lines i in
+    let end = end_of code.lines i in
+    let a = agrees job code place t base i line e in
+    let clear = subst (AreOutside base (length code.bytes)) (sym (writes_agree line v a)) outside in
+    let out = line_comes site line start end s v t.short t.placed (t.line base i line e) (t.ruled i line e) clear (record { aligned = placed.aligned; bytes = record { room = placed.room; there = placed.there } }) pc is_state are_values same in
+    let led = subst (λ x. ComesOut site start end x (temporaries_of line) (effect_of (environment site start end) line v) s) (exit_agrees line v a) out in
+    let came = subst (λ w. ComesOut site start end (exit_of (environment_of job code base i) line v) (temporaries_of line) w s) (effect_agrees line v a) led in
+    let ends = reaches job code place t base i lt (temporaries_of line) (effect_of (environment_of job code base i) line v) s (exit_of (environment_of job code base i) line v) (exit_bound job.lines (environment_of job code base i) line v (t.named i line e)) came in
     let r = ends.reached in
     record {
       steps = r.steps;
@@ -170,7 +193,6 @@ line_at (l ∷ lines) (suc i) lt = line_at lines i (omega arith)
 
 pub threaded_runs : (job : Job) (code : Code) (place : ℕ → Option ℕ) → IsThreaded job code place → RunsAsListed job code
 threaded_runs job code place t = record {
-  from = λ base symbols slots i s v lt placed is_state are_values pc same.
-      let here = line_at job.lines i lt in
-      comes job code place t base symbols slots i here.0 s v lt here.1 placed is_state are_values pc same;
+  from = λ base symbols slots i line s v e outside placed is_state are_values pc same.
+      comes job code place t base symbols slots i line s v (slice_get_within job.lines i line e) e outside placed is_state are_values pc same;
 }

@@ -41,55 +41,55 @@ get_front (x ∷ xs) ys (suc i) lt = get_front xs ys i (omega arith)
 
 -- ---- Reach
 
-pub reaches_none : ReachesOn [] []
-reaches_none n le = let none : 0 ≡ n = omega arith in subst (λ m. CanReach (end_before [] m) (pending_deadlines [] [] m)) none tt
+pub reaches_none : (context : Context) → ReachesOn context [] []
+reaches_none context n le = let none : 0 ≡ n = omega arith in subst (λ m. CanReach (end_before [] m) (pending_deadlines context [] [] m)) none tt
 
-pub reaches_next : {context : Context} (lines : List Line) (spans : List LineSpan) (line : Line) (span : LineSpan) (old new : Buffer) → LinesStand context lines spans old → LineAppends line old new span → AfterLastIsland (lines ++ line ∷ []) (spans ++ span ∷ []) new → Sized (lines ++ line ∷ []) new → ReachesOn lines spans → ReachesOn (lines ++ line ∷ []) (spans ++ span ∷ [])
-reaches_next lines spans line span old new b p s sized h i le = by_place (λ m. CanReach (end_before (spans ++ span ∷ []) m) (pending_deadlines (lines ++ line ∷ []) (spans ++ span ∷ []) m)) (suc (length lines)) i (omega (arith, le, long)) before last
+pub reaches_next : (context : Context) (lines : List Line) (spans : List LineSpan) (line : Line) (span : LineSpan) (old new : Buffer) → LinesStand context lines spans old → LineAppends context line old new span → AfterLastIsland context (lines ++ line ∷ []) (spans ++ span ∷ []) new → Sized context (lines ++ line ∷ []) new → ReachesOn context lines spans → ReachesOn context (lines ++ line ∷ []) (spans ++ span ∷ [])
+reaches_next context lines spans line span old new b p s sized h i le = by_place (λ m. CanReach (end_before (spans ++ span ∷ []) m) (pending_deadlines context (lines ++ line ∷ []) (spans ++ span ∷ []) m)) (suc (length lines)) i (omega (arith, le, long)) before last
   where
     long : length (lines ++ line ∷ []) ≡ suc (length lines)
     long = length-append lines (line ∷ []) ∙ omega arith
 
-    before : i < suc (length lines) → CanReach (end_before (spans ++ span ∷ []) i) (pending_deadlines (lines ++ line ∷ []) (spans ++ span ∷ []) i)
+    before : i < suc (length lines) → CanReach (end_before (spans ++ span ∷ []) i) (pending_deadlines context (lines ++ line ∷ []) (spans ++ span ∷ []) i)
     before lt =
         let count = b.count in
         let ends : end_before (spans ++ span ∷ []) i ≡ end_before spans i = ends_more spans (span ∷ []) i (omega arith) in
-        let waits : pending_deadlines (lines ++ line ∷ []) (spans ++ span ∷ []) i ≡ pending_deadlines lines spans i = waiting_more lines (line ∷ []) spans (span ∷ []) i count (omega arith) in
-        subst (λ (ds : List ℕ). CanReach (end_before (spans ++ span ∷ []) i) ds) (sym waits) (subst (λ m. CanReach m (pending_deadlines lines spans i)) (sym ends) (h i (omega arith)))
+        let waits : pending_deadlines context (lines ++ line ∷ []) (spans ++ span ∷ []) i ≡ pending_deadlines context lines spans i = waiting_more context lines (line ∷ []) spans (span ∷ []) i count (omega arith) in
+        subst (λ (ds : List ℕ). CanReach (end_before (spans ++ span ∷ []) i) ds) (sym waits) (subst (λ m. CanReach m (pending_deadlines context lines spans i)) (sym ends) (h i (omega arith)))
 
-    last : CanReach (end_before (spans ++ span ∷ []) (suc (length lines))) (pending_deadlines (lines ++ line ∷ []) (spans ++ span ∷ []) (suc (length lines)))
+    last : CanReach (end_before (spans ++ span ∷ []) (suc (length lines))) (pending_deadlines context (lines ++ line ∷ []) (spans ++ span ∷ []) (suc (length lines)))
     last =
         let end : end_of (spans ++ span ∷ []) (length lines) ≡ span.end = ap (end_of (spans ++ span ∷ [])) (sym b.count) ∙ end_last spans span in
-        let cur : length (bytes_of new) ≡ end_of (spans ++ span ∷ []) (length lines) = line_end line old new span p ∙ sym end in
-        let waits : pending new ≡ pending_deadlines (lines ++ line ∷ []) (spans ++ span ∷ []) (suc (length lines)) = pending_waiting (lines ++ line ∷ []) (spans ++ span ∷ []) new s ∙ ap (pending_deadlines (lines ++ line ∷ []) (spans ++ span ∷ [])) long in
+        let cur : length (bytes_of new) ≡ end_of (spans ++ span ∷ []) (length lines) = line_end context line old new span p ∙ sym end in
+        let waits : pending new ≡ pending_deadlines context (lines ++ line ∷ []) (spans ++ span ∷ []) (suc (length lines)) = pending_waiting context (lines ++ line ∷ []) (spans ++ span ∷ []) new s ∙ ap (pending_deadlines context (lines ++ line ∷ []) (spans ++ span ∷ [])) long in
         subst (CanReach (end_of (spans ++ span ∷ []) (length lines))) waits (subst (λ m. CanReach m (pending new)) cur sized.reach)
 
 -- ---- no island is early
 
 -- where one was put before so many bytes, it is due
-room_due : (lines : List Line) (spans : List LineSpan) (distance : ℕ) (old new : Buffer) (made : Bool) → AfterLastIsland lines spans old → IslandIfNeeded distance old new made → length (bytes_of old) < length (bytes_of new) → IsDue lines spans (length lines) (length (bytes_of old)) distance
-room_due lines spans distance old new made s m longer = ⊎_elim
+room_due : (context : Context) (lines : List Line) (spans : List LineSpan) (distance : ℕ) (old new : Buffer) (made : Bool) → AfterLastIsland context lines spans old → IslandIfNeeded distance old new made → length (bytes_of old) < length (bytes_of new) → IsDue context lines spans (length lines) (length (bytes_of old)) distance
+room_due context lines spans distance old new made s m longer = ⊎_elim
     (λ same. let level : length (bytes_of new) ≡ length (bytes_of old) = ap (λ (b : Buffer). length (bytes_of b)) same.1 in absurd (omega (arith, level, longer)))
-    (λ put. due_now lines spans old distance s (sym m.asked ∙ put.0))
+    (λ put. due_now context lines spans old distance s (sym m.asked ∙ put.0))
     m.put
 
 -- before the line
-before_line : {context : Context} (lines : List Line) (spans : List LineSpan) (line : Line) (span : LineSpan) (old new : Buffer) → LinesStand context lines spans old → AfterLastIsland lines spans old → LineAppends line old new span → end_before spans (length lines) < span.start → IsDue lines spans (length lines) (end_before spans (length lines)) line_space
-before_line lines spans (Put inst) span old new b s p gap =
+before_line : (context : Context) (lines : List Line) (spans : List LineSpan) (line : Line) (span : LineSpan) (old new : Buffer) → LinesStand context lines spans old → AfterLastIsland context lines spans old → LineAppends context line old new span → end_before spans (length lines) < span.start → IsDue context lines spans (length lines) (end_before spans (length lines)) line_space
+before_line context lines spans (Put inst) span old new b s p gap =
     let ends = b.ends in
     let start = p.start in
-    subst (λ at. IsDue lines spans (length lines) at line_space) ends (room_due lines spans line_space old p.mid p.made s p.room (omega (arith, ends, start, gap)))
-before_line lines spans (Bind label) span old new b s p gap = let ends = b.ends in let start = p.start in absurd (omega (arith, ends, start, gap))
+    subst (λ at. IsDue context lines spans (length lines) at line_space) ends (room_due context lines spans line_space old p.mid p.made s p.room (omega (arith, ends, start, gap)))
+before_line context lines spans (Bind label) span old new b s p gap = let ends = b.ends in let start = p.start in absurd (omega (arith, ends, start, gap))
 
 -- in the line
-in_line : (lines : List Line) (spans : List LineSpan) (space : ℕ) (span : LineSpan) (old new : Buffer) → AfterLastIsland lines spans old → InstAppends (EmitIsland space) old new span → span.start < span.end → IsDue lines spans (length lines) span.start space
-in_line lines spans space span old new s p gap = ⊎_elim
+in_line : (context : Context) (lines : List Line) (spans : List LineSpan) (space : ℕ) (span : LineSpan) (old new : Buffer) → AfterLastIsland context lines spans old → InstAppends context (EmitIsland space) old new span → span.start < span.end → IsDue context lines spans (length lines) span.start space
+in_line context lines spans space span old new s p gap = ⊎_elim
     (λ same.
     let room : IslandIfNeeded space old new p.emitted.0 = subst (λ (b : Buffer). IslandIfNeeded space b new p.emitted.0) same.1 p.emitted.1 in
     let level : length (bytes_of p.mid) ≡ length (bytes_of old) = ap (λ (b : Buffer). length (bytes_of b)) same.1 in
     let start = p.start in
     let end = p.end in
-    subst (λ at. IsDue lines spans (length lines) at space) (sym level ∙ sym start) (room_due lines spans space old new p.emitted.0 s room (omega (arith, level, start, end, gap))))
+    subst (λ at. IsDue context lines spans (length lines) at space) (sym level ∙ sym start) (room_due context lines spans space old new p.emitted.0 s room (omega (arith, level, start, end, gap))))
     (λ put. absurd (no_second put.1.settled))
     p.room.put
   where
@@ -103,39 +103,39 @@ in_line lines spans space span old new s p gap = ⊎_elim
         (λ put. true≢false (sym put.0 ∙ p.emitted.1.asked ∙ ap (is_needed (length (bytes_of p.mid)) space) settled))
         p.emitted.1.put
 
-within_line : {context : Context} (lines : List Line) (spans : List LineSpan) (line : Line) (span : LineSpan) (old new : Buffer) → LinesStand context lines spans old → AfterLastIsland lines spans old → LineAppends line old new span → IslandDue (lines ++ line ∷ []) (spans ++ span ∷ []) (length lines) line
-within_line lines spans (Put inst) span old new b s p = on inst p
+within_line : (context : Context) (lines : List Line) (spans : List LineSpan) (line : Line) (span : LineSpan) (old new : Buffer) → LinesStand context lines spans old → AfterLastIsland context lines spans old → LineAppends context line old new span → IslandDue context (lines ++ line ∷ []) (spans ++ span ∷ []) (length lines) line
+within_line context lines spans (Put inst) span old new b s p = on inst p
   where
-    on : (inst : Inst) → InstAppends inst old new span → IslandDue (lines ++ Put inst ∷ []) (spans ++ span ∷ []) (length lines) (Put inst)
+    on : (inst : Inst) → InstAppends context inst old new span → IslandDue context (lines ++ Put inst ∷ []) (spans ++ span ∷ []) (length lines) (Put inst)
     on (EmitIsland space) p =
         let all = lines ++ Put (EmitIsland space) ∷ [] in
         let all_spans = spans ++ span ∷ [] in
         let start : start_of all_spans (length lines) ≡ span.start = ap (start_of all_spans) (sym b.count) ∙ start_last spans span in
         let end : end_of all_spans (length lines) ≡ span.end = ap (end_of all_spans) (sym b.count) ∙ end_last spans span in
-        λ gap. subst (λ at. IsDue all all_spans (length lines) at space) (sym start)
-        (due_more lines (Put (EmitIsland space) ∷ []) spans (span ∷ []) (length lines) span.start space b.count (omega arith) (in_line lines spans space span old new s p (omega (arith, start, end, gap))))
+        λ gap. subst (λ at. IsDue context all all_spans (length lines) at space) (sym start)
+        (due_more context lines (Put (EmitIsland space) ∷ []) spans (span ∷ []) (length lines) span.start space b.count (omega arith) (in_line context lines spans space span old new s p (omega (arith, start, end, gap))))
     on inst p = tt
-within_line lines spans (Bind label) span old new b s p = tt
+within_line context lines spans (Bind label) span old new b s p = tt
 
-island_due_more : (lines more : List Line) (spans more_spans : List LineSpan) (i : ℕ) (line : Line) → length spans ≡ length lines → i < length lines → IslandDue lines spans i line → IslandDue (lines ++ more) (spans ++ more_spans) i line
-island_due_more lines more spans more_spans i (Put inst) count lt h = on inst h
+island_due_more : (context : Context) (lines more : List Line) (spans more_spans : List LineSpan) (i : ℕ) (line : Line) → length spans ≡ length lines → i < length lines → IslandDue context lines spans i line → IslandDue context (lines ++ more) (spans ++ more_spans) i line
+island_due_more context lines more spans more_spans i (Put inst) count lt h = on inst h
   where
-    on : (inst : Inst) → IslandDue lines spans i (Put inst) → IslandDue (lines ++ more) (spans ++ more_spans) i (Put inst)
+    on : (inst : Inst) → IslandDue context lines spans i (Put inst) → IslandDue context (lines ++ more) (spans ++ more_spans) i (Put inst)
     on (EmitIsland space) h =
         let start : start_of (spans ++ more_spans) i ≡ start_of spans i = start_more spans more_spans i (omega arith) in
         let end : end_of (spans ++ more_spans) i ≡ end_of spans i = end_more spans more_spans i (omega arith) in
-        λ gap. subst (λ at. IsDue (lines ++ more) (spans ++ more_spans) i at space) (sym start)
-        (due_more lines more spans more_spans i (start_of spans i) space count (omega arith) (h (omega (arith, start, end, gap))))
+        λ gap. subst (λ at. IsDue context (lines ++ more) (spans ++ more_spans) i at space) (sym start)
+        (due_more context lines more spans more_spans i (start_of spans i) space count (omega arith) (h (omega (arith, start, end, gap))))
     on inst h = tt
-island_due_more lines more spans more_spans i (Bind label) count lt h = tt
+island_due_more context lines more spans more_spans i (Bind label) count lt h = tt
 
-pub early_none : NotEarly [] []
-early_none = record { before = λ i lt. absurd (omega arith); within = λ i line h. absurd (cc) }
+pub early_none : (context : Context) → NotEarly context [] []
+early_none context = record { before = λ i lt. absurd (omega arith); within = λ i line h. absurd (cc) }
 
-pub early_next : {context : Context} (lines : List Line) (spans : List LineSpan) (line : Line) (span : LineSpan) (old new : Buffer) → LinesStand context lines spans old → AfterLastIsland lines spans old → LineAppends line old new span → NotEarly lines spans → NotEarly (lines ++ line ∷ []) (spans ++ span ∷ [])
-early_next lines spans line span old new b s p h = record {
-  before = λ i lt. by_place (λ m. end_before (spans ++ span ∷ []) m < start_of (spans ++ span ∷ []) m → IsDue (lines ++ line ∷ []) (spans ++ span ∷ []) m (end_before (spans ++ span ∷ []) m) line_space) (length lines) i (omega (arith, lt, long)) (before i) before_last;
-  within = λ i other at. by_place (λ m. (l : Line) → slice_get (lines ++ line ∷ []) m ≡ Some l → IslandDue (lines ++ line ∷ []) (spans ++ span ∷ []) m l) (length lines) i (let lt = slice_get_within (lines ++ line ∷ []) i other at in omega (arith, lt, long)) (within i) within_last other at;
+pub early_next : (context : Context) (lines : List Line) (spans : List LineSpan) (line : Line) (span : LineSpan) (old new : Buffer) → LinesStand context lines spans old → AfterLastIsland context lines spans old → LineAppends context line old new span → NotEarly context lines spans → NotEarly context (lines ++ line ∷ []) (spans ++ span ∷ [])
+early_next context lines spans line span old new b s p h = record {
+  before = λ i lt. by_place (λ m. end_before (spans ++ span ∷ []) m < start_of (spans ++ span ∷ []) m → IsDue context (lines ++ line ∷ []) (spans ++ span ∷ []) m (end_before (spans ++ span ∷ []) m) line_space) (length lines) i (omega (arith, lt, long)) (before i) before_last;
+  within = λ i other at. by_place (λ m. (l : Line) → slice_get (lines ++ line ∷ []) m ≡ Some l → IslandDue context (lines ++ line ∷ []) (spans ++ span ∷ []) m l) (length lines) i (let lt = slice_get_within (lines ++ line ∷ []) i other at in omega (arith, lt, long)) (within i) within_last other at;
 }
   where
     long : length (lines ++ line ∷ []) ≡ suc (length lines)
@@ -144,24 +144,24 @@ early_next lines spans line span old new b s p h = record {
     count : length spans ≡ length lines
     count = b.count
 
-    before : (i : ℕ) → i < length lines → end_before (spans ++ span ∷ []) i < start_of (spans ++ span ∷ []) i → IsDue (lines ++ line ∷ []) (spans ++ span ∷ []) i (end_before (spans ++ span ∷ []) i) line_space
+    before : (i : ℕ) → i < length lines → end_before (spans ++ span ∷ []) i < start_of (spans ++ span ∷ []) i → IsDue context (lines ++ line ∷ []) (spans ++ span ∷ []) i (end_before (spans ++ span ∷ []) i) line_space
     before i lt gap =
         let same = count in
         let start : start_of (spans ++ span ∷ []) i ≡ start_of spans i = start_more spans (span ∷ []) i (omega arith) in
         let end : end_before (spans ++ span ∷ []) i ≡ end_before spans i = ends_more spans (span ∷ []) i (omega arith) in
-        subst (λ at. IsDue (lines ++ line ∷ []) (spans ++ span ∷ []) i at line_space) (sym end)
-        (due_more lines (line ∷ []) spans (span ∷ []) i (end_before spans i) line_space count (omega arith) (h.before i lt (omega (arith, start, end, gap))))
+        subst (λ at. IsDue context (lines ++ line ∷ []) (spans ++ span ∷ []) i at line_space) (sym end)
+        (due_more context lines (line ∷ []) spans (span ∷ []) i (end_before spans i) line_space count (omega arith) (h.before i lt (omega (arith, start, end, gap))))
 
-    before_last : end_before (spans ++ span ∷ []) (length lines) < start_of (spans ++ span ∷ []) (length lines) → IsDue (lines ++ line ∷ []) (spans ++ span ∷ []) (length lines) (end_before (spans ++ span ∷ []) (length lines)) line_space
+    before_last : end_before (spans ++ span ∷ []) (length lines) < start_of (spans ++ span ∷ []) (length lines) → IsDue context (lines ++ line ∷ []) (spans ++ span ∷ []) (length lines) (end_before (spans ++ span ∷ []) (length lines)) line_space
     before_last gap =
         let same = count in
         let start : start_of (spans ++ span ∷ []) (length lines) ≡ span.start = ap (start_of (spans ++ span ∷ [])) (sym count) ∙ start_last spans span in
         let end : end_before (spans ++ span ∷ []) (length lines) ≡ end_before spans (length lines) = ends_more spans (span ∷ []) (length lines) (omega arith) in
-        subst (λ at. IsDue (lines ++ line ∷ []) (spans ++ span ∷ []) (length lines) at line_space) (sym end)
-        (due_more lines (line ∷ []) spans (span ∷ []) (length lines) (end_before spans (length lines)) line_space count (omega arith) (before_line lines spans line span old new b s p (omega (arith, start, end, gap))))
+        subst (λ at. IsDue context (lines ++ line ∷ []) (spans ++ span ∷ []) (length lines) at line_space) (sym end)
+        (due_more context lines (line ∷ []) spans (span ∷ []) (length lines) (end_before spans (length lines)) line_space count (omega arith) (before_line context lines spans line span old new b s p (omega (arith, start, end, gap))))
 
-    within : (i : ℕ) → i < length lines → (l : Line) → slice_get (lines ++ line ∷ []) i ≡ Some l → IslandDue (lines ++ line ∷ []) (spans ++ span ∷ []) i l
-    within i lt l at = island_due_more lines (line ∷ []) spans (span ∷ []) i l count lt (h.within i l (sym (get_front lines (line ∷ []) i lt) ∙ at))
+    within : (i : ℕ) → i < length lines → (l : Line) → slice_get (lines ++ line ∷ []) i ≡ Some l → IslandDue context (lines ++ line ∷ []) (spans ++ span ∷ []) i l
+    within i lt l at = island_due_more context lines (line ∷ []) spans (span ∷ []) i l count lt (h.within i l (sym (get_front lines (line ∷ []) i lt) ∙ at))
 
-    within_last : (l : Line) → slice_get (lines ++ line ∷ []) (length lines) ≡ Some l → IslandDue (lines ++ line ∷ []) (spans ++ span ∷ []) (length lines) l
-    within_last l at = subst (IslandDue (lines ++ line ∷ []) (spans ++ span ∷ []) (length lines)) (same_Some _ _ (sym (slice_get-append_last lines line) ∙ at)) (within_line lines spans line span old new b s p)
+    within_last : (l : Line) → slice_get (lines ++ line ∷ []) (length lines) ≡ Some l → IslandDue context (lines ++ line ∷ []) (spans ++ span ∷ []) (length lines) l
+    within_last l at = subst (IslandDue context (lines ++ line ∷ []) (spans ++ span ∷ []) (length lines)) (same_Some _ _ (sym (slice_get-append_last lines line) ∙ at)) (within_line context lines spans line span old new b s p)

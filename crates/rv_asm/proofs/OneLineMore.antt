@@ -93,5 +93,5 @@ module _ (context : Context) (lines : List Line) (line : Line) (spans : List Lin
   }
 
 -- a turn of the loop
-pub built_next : (context : Context) (setting : EmitVState) (lines : List Line) (line : Line) (spans : List LineSpan) (span : LineSpan) (old new : Buffer) → broken_rule line ≡ None → LinesStand context lines spans old → LinePut context setting line old new span → span.index ≡ length lines → LinesStand context (lines ++ line ∷ []) (spans ++ span ∷ []) new
+pub built_next : (context : Context) (setting : EmitVState) (lines : List Line) (line : Line) (spans : List LineSpan) (span : LineSpan) (old new : Buffer) → broken_rule context line ≡ None → LinesStand context lines spans old → LinePut context setting line old new span → span.index ≡ length lines → LinesStand context (lines ++ line ∷ []) (spans ++ span ∷ []) new
 built_next context setting lines line spans span old new rule b p index = built_more context lines line spans span old new b (line_added context setting line old new span rule b.sound b.windows p) index

@@ -42,16 +42,18 @@ due_read c ends.OutOfMemory asked read = (asked, read)
 
 -- ---- refusals
 
-refused_job : (input : List ℕ) (error : EmitError) → IsRefused input error → (job : Job) × (reads input ≡ Ok job) × (refusal job.lines ≡ Some error)
+refused_job : (input : List ℕ) (error : EmitError) → IsRefused input error → (job : Job) × (reads input ≡ Ok job) × (refusal job ≡ Some error)
 refused_job input errors.OutOfMemory is = absurd is
+refused_job input errors.BadFrame is = is
 refused_job input (errors.Malformed index rule) is = is
 refused_job input (errors.LabelTwice label) is = is
 refused_job input (errors.UnboundLabel label) is = is
 refused_job input errors.TooLarge is = is
 
-pub means_refused : (input : List ℕ) (job : Job) (error : EmitError) (r : Result Outcome OutOfMemory) → reads input ≡ Ok job → Finds {X = Code} (refusal job.lines) (Err error) → r ≡ outcome_of error
+pub means_refused : (input : List ℕ) (job : Job) (error : EmitError) (r : Result Outcome OutOfMemory) → reads input ≡ Ok job → Finds {X = Code} (refusal job) (Err error) → r ≡ outcome_of error
     → (outcome : Outcome) → r ≡ Ok outcome → Means input outcome
 means_refused input job errors.OutOfMemory r read found is outcome ok = absurd (cc)
+means_refused input job errors.BadFrame r read found is outcome ok = let same : ends.Refused errors.BadFrame ≡ outcome = cc in subst (Means input) same (job, read, found)
 means_refused input job (errors.Malformed index rule) r read found is outcome ok = let same : ends.Refused (errors.Malformed index rule) ≡ outcome = cc in subst (Means input) same (job, read, found)
 means_refused input job (errors.LabelTwice label) r read found is outcome ok = let same : ends.Refused (errors.LabelTwice label) ≡ outcome = cc in subst (Means input) same (job, read, found)
 means_refused input job (errors.UnboundLabel label) r read found is outcome ok = let same : ends.Refused (errors.UnboundLabel label) ≡ outcome = cc in subst (Means input) same (job, read, found)
@@ -116,7 +118,7 @@ settles_syntax c (ends.Done code) input line is ended asked fine short bad =
     let (job, read, found, told, runs, reach, ranges) = means_input c (ends.Done code) input is ended.0.1 in
     absurd (cc)
 
-settles_refused : (c : Call) (answer : Outcome) (input : List ℕ) (job : Job) (error : EmitError) → c.left ≡ Some input → Ended c answer → Asked c → NoFault c → length input ≤ input_limit → reads input ≡ Ok job → refusal job.lines ≡ Some error → IsOrOutOfMemory answer (ends.Refused error)
+settles_refused : (c : Call) (answer : Outcome) (input : List ℕ) (job : Job) (error : EmitError) → c.left ≡ Some input → Ended c answer → Asked c → NoFault c → length input ≤ input_limit → reads input ≡ Ok job → refusal job ≡ Some error → IsOrOutOfMemory answer (ends.Refused error)
 settles_refused c ends.Usage input job error is ended asked fine short good due = absurd (omega (arith, ended.0))
 settles_refused c ends.OutOfMemory input job error is ended asked fine short good due = inr refl
 settles_refused c ends.WriteFault input job error is ended asked fine short good due = absurd (fine.writes ended.0)
@@ -128,14 +130,14 @@ settles_refused c (ends.Syntax line) input job error is ended asked fine short g
 settles_refused c (ends.Refused other) input job error is ended asked fine short good due =
     let (own, read, found) = refused_job input other (means_input c (ends.Refused other) input is ended.0.1) in
     let jobs : own ≡ job = cc in
-    let same : other ≡ error = cc (ap (λ (j : Job). refusal j.lines) jobs) in
+    let same : other ≡ error = cc (ap (λ (j : Job). refusal j) jobs) in
     inl (ap (λ (e : EmitError). ends.Refused e) same)
 settles_refused c (ends.Done code) input job error is ended asked fine short good due =
     let (own, read, found, told, runs, reach, ranges) = means_input c (ends.Done code) input is ended.0.1 in
     let jobs : own ≡ job = cc in
-    absurd (cc (ap (λ (j : Job). refusal j.lines) jobs))
+    absurd (cc (ap (λ (j : Job). refusal j) jobs))
 
-completes : (c : Call) (answer : Outcome) (input : List ℕ) (job : Job) → c.left ≡ Some input → Ended c answer → Asked c → NoFault c → length input ≤ input_limit → reads input ≡ Ok job → refusal job.lines ≡ None → IsDone answer
+completes : (c : Call) (answer : Outcome) (input : List ℕ) (job : Job) → c.left ≡ Some input → Ended c answer → Asked c → NoFault c → length input ≤ input_limit → reads input ≡ Ok job → refusal job ≡ None → IsDone answer
 completes c ends.Usage input job is ended asked fine short good valid = absurd (omega (arith, ended.0))
 completes c ends.OutOfMemory input job is ended asked fine short good valid = tt
 completes c ends.WriteFault input job is ended asked fine short good valid = absurd (fine.writes ended.0)
@@ -147,7 +149,7 @@ completes c (ends.Syntax line) input job is ended asked fine short good valid =
 completes c (ends.Refused other) input job is ended asked fine short good valid =
     let (own, read, found) = refused_job input other (means_input c (ends.Refused other) input is ended.0.1) in
     let jobs : own ≡ job = cc in
-    absurd (cc (ap (λ (j : Job). refusal j.lines) jobs))
+    absurd (cc (ap (λ (j : Job). refusal j) jobs))
 completes c (ends.Done code) input job is ended asked fine short good valid = tt
 
 pub settled : (c : Call) (answer : Outcome) → Ended c answer → IsSettled c answer

@@ -1,17 +1,21 @@
 -- What holds of lines that are not refused, by index.
-use Rattle.std.proofs.Common.{◌≡◌, ℕ, zero, suc, ◌≤◌, Bool, true, false, List, [], ◌∷◌, Option, Some, None, Result, refl, sym, ap, subst, arith}
-use Rattle.std.specs.Prelude.{◌||◌, nat_eq, nat_lt, if◌then◌else◌, slice_get}
+use Rattle.std.proofs.Common.{◌≡◌, ℕ, zero, suc, ◌≤◌, ◌<◌, ◌^◌, Bool, true, false, List, [], ◌∷◌, Option, Some, None, Result, refl, sym, ap, subst, arith}
+use Rattle.std.specs.Prelude.{◌||◌, nat_eq, nat_lt, nat_le, if◌then◌else◌, slice_get}
 use mathlib.Core.Path.{fun_ext}
-use Rattle.std.proofs.lemmas.Bool.{ltb-false}
+use Rattle.std.proofs.lemmas.Bool.{ltb-false, leb-false}
 use Rattle.std.proofs.lemmas.Bool.Decides.{nat_tests}
 use Rattle.rv_base.specs.declared.label.MachLabel.{MachLabel}
+use Rattle.rv_base.specs.Frame.{sp_to_args_end}
+use Rattle.rv_inst.specs.Context.{Context, context_of}
+use Rattle.rv_inst.specs.declared.job.Job.{Job}
+use Rattle.rv_inst.specs.declared.error.EmitError.TheVariants.{BadFrame}
 use Rattle.rv_inst.specs.declared.inst.Line.{Line}
 use Rattle.rv_inst.specs.declared.inst.Line.TheVariants.{Inst as Put, Bind}
 use Rattle.rv_inst.specs.declared.error.Rule.{Rule}
 use Rattle.rv_inst.specs.declared.error.EmitError.{EmitError}
 use Rattle.rv_inst.specs.Operands.{named_labels}
 use Rattle.rv_inst.specs.Rules.{first_of, broken_rule}
-use Rattle.rv_asm.specs.Refusal.{size_limit, malformed, broken_from, binds, is_bound, twice_of, twice_in, twice_from, unbound_among, unbound_in, size_sum, too_large, refusal, Finds}
+use Rattle.rv_asm.specs.Refusal.{size_limit, malformed, broken_from, binds, is_bound, twice_of, twice_in, twice_from, unbound_among, unbound_in, size_sum, too_large, is_bad_frame, bad_frame, lines_refusal, refusal, Finds}
 
 -- What is looked for among the labels of a set is looked for among those that the lines bind.
 pub finds_by_test : {X : Type 0} (bound test : ℕ → Bool) (lines : List Line) (r : Result X EmitError) → ((label : ℕ) → bound label ≡ test label) → Finds (unbound_in bound lines) r → Finds (unbound_in test lines) r
@@ -27,18 +31,37 @@ pub none_right : {X : Type 0} (a b : Option X) → first_of a b ≡ None → b �
 none_right None b e = e
 none_right (Some x) b e = absurd (cc)
 
-pub record Parts (lines : List Line) : Type 0 where
-  pub broken : broken_from 0 lines ≡ None
+pub record Parts (context : Context) (lines : List Line) : Type 0 where
+  pub broken : broken_from context 0 lines ≡ None
   pub twice : twice_from (λ label. false) lines ≡ None
   pub unbound : unbound_in (is_bound lines) lines ≡ None
-  pub large : too_large lines ≡ None
+  pub large : too_large context lines ≡ None
 
-pub parts : (lines : List Line) → refusal lines ≡ None → Parts lines
-unfolding refusal
-parts lines e =
-    let e1 = none_right (broken_from 0 lines) _ e in
+pub parts : (context : Context) (lines : List Line) → lines_refusal context lines ≡ None → Parts context lines
+unfolding lines_refusal
+parts context lines e =
+    let e1 = none_right (broken_from context 0 lines) _ e in
     let e2 = none_right (twice_from (λ label. false) lines) _ e1 in
     record { broken = none_left _ _ e; twice = none_left _ _ e1; unbound = none_left _ _ e2; large = none_right (unbound_in (is_bound lines) lines) _ e2 }
+
+-- a job that isn't refused: its lines aren't, and its frame's sizes sum to less than 2^31
+pub accepted_lines : (job : Job) → refusal job ≡ None → lines_refusal (context_of job) job.lines ≡ None
+unfolding refusal
+accepted_lines job e = none_right (bad_frame job.frame) _ e
+
+test_none : {X : Type 0} (c : Bool) (x : X) → (if c then Some x else None) ≡ None → c ≡ false
+test_none true x e = absurd (cc)
+test_none false x e = refl
+
+or_left : (a b : Bool) → (a || b) ≡ false → a ≡ false
+or_left true b e = absurd (cc)
+or_left false b e = refl
+
+pub accepted_frame : (job : Job) → refusal job ≡ None → sp_to_args_end job.frame < 2 ^ 31
+unfolding refusal
+accepted_frame job e =
+    let small = or_left (nat_le (2 ^ 31) (sp_to_args_end job.frame)) _ (test_none (is_bad_frame job.frame) BadFrame (none_left (bad_frame job.frame) _ e)) in
+    leb-false (2 ^ 31) (sp_to_args_end job.frame) small
 
 same_some : {X : Type 0} {x y : X} → Some x ≡ Some y → x ≡ y
 same_some e = cc
@@ -49,14 +72,14 @@ pub rule_none : (index : ℕ) (rule : Option Rule) → malformed index rule ≡ 
 rule_none index None e = refl
 rule_none index (Some r) e = absurd (cc)
 
-unbroken : (index : ℕ) (lines : List Line) → broken_from index lines ≡ None → (i : ℕ) (line : Line) → slice_get lines i ≡ Some line → broken_rule line ≡ None
-unbroken index [] e i line h = absurd (cc)
-unbroken index (first ∷ lines) e zero line h = subst (λ (l : Line). broken_rule l ≡ None) (same_some h) (rule_none index (broken_rule first) (none_left _ _ e))
-unbroken index (first ∷ lines) e (suc i) line h = unbroken (suc index) lines (none_right (malformed index (broken_rule first)) _ e) i line h
+unbroken : (context : Context) (index : ℕ) (lines : List Line) → broken_from context index lines ≡ None → (i : ℕ) (line : Line) → slice_get lines i ≡ Some line → broken_rule context line ≡ None
+unbroken context index [] e i line h = absurd (cc)
+unbroken context index (first ∷ lines) e zero line h = subst (λ (l : Line). broken_rule context l ≡ None) (same_some h) (rule_none index (broken_rule context first) (none_left _ _ e))
+unbroken context index (first ∷ lines) e (suc i) line h = unbroken context (suc index) lines (none_right (malformed index (broken_rule context first)) _ e) i line h
 
 -- no line breaks a rule
-pub no_rule_broken : (lines : List Line) → refusal lines ≡ None → (i : ℕ) (line : Line) → slice_get lines i ≡ Some line → broken_rule line ≡ None
-no_rule_broken lines e = unbroken 0 lines (parts lines e).broken
+pub no_rule_broken : (context : Context) (lines : List Line) → lines_refusal context lines ≡ None → (i : ℕ) (line : Line) → slice_get lines i ≡ Some line → broken_rule context line ≡ None
+no_rule_broken context lines e = unbroken context 0 lines (parts context lines e).broken
 
 -- ---- labels that are bound
 
@@ -98,8 +121,8 @@ once_from bound (line ∷ lines) e (suc i) zero a b h g same = absurd (none_agai
 once_from bound (line ∷ lines) e (suc i) (suc j) a b h g same = ap suc (once_from (λ label. binds line label || bound label) lines (none_right (twice_in bound line) _ e) i j a b h g same)
 
 -- two lines that bind the same label are one
-pub bound_once : (lines : List Line) → refusal lines ≡ None → (i j : ℕ) (a b : MachLabel) → slice_get lines i ≡ Some (Bind a) → slice_get lines j ≡ Some (Bind b) → a.number ≡ b.number → i ≡ j
-bound_once lines e = once_from (λ label. false) lines (parts lines e).twice
+pub bound_once : (context : Context) (lines : List Line) → lines_refusal context lines ≡ None → (i j : ℕ) (a b : MachLabel) → slice_get lines i ≡ Some (Bind a) → slice_get lines j ≡ Some (Bind b) → a.number ≡ b.number → i ≡ j
+bound_once context lines e = once_from (λ label. false) lines (parts context lines e).twice
 
 -- ---- labels that are named
 
@@ -118,8 +141,8 @@ names_bound bound (first ∷ lines) e zero line h k l g = all_bound bound (named
 names_bound bound (first ∷ lines) e (suc i) line h k l g = names_bound bound lines (none_right (unbound_among bound (named_labels first)) _ e) i line h k l g
 
 -- each label that a line names is bound
-pub named_is_bound : (lines : List Line) → refusal lines ≡ None → (i : ℕ) (line : Line) → slice_get lines i ≡ Some line → (k : ℕ) (l : MachLabel) → slice_get (named_labels line) k ≡ Some l → is_bound lines l.number ≡ true
-named_is_bound lines e = names_bound (is_bound lines) lines (parts lines e).unbound
+pub named_is_bound : (context : Context) (lines : List Line) → lines_refusal context lines ≡ None → (i : ℕ) (line : Line) → slice_get lines i ≡ Some line → (k : ℕ) (l : MachLabel) → slice_get (named_labels line) k ≡ Some l → is_bound lines l.number ≡ true
+named_is_bound context lines e = names_bound (is_bound lines) lines (parts context lines e).unbound
 
 -- a line that binds a label
 abbrev pub BoundBy : List Line → MachLabel → Type 0
@@ -142,15 +165,15 @@ bound_by (Bind a ∷ lines) l e = from (nat_eq a.number l.number) refl e (λ h. 
     from false h g more = let rest = more g in (suc rest.0, rest.1)
 
 -- each label that a line names is bound by some line
-pub named_bound_by : (lines : List Line) → refusal lines ≡ None → (i : ℕ) (line : Line) → slice_get lines i ≡ Some line → (k : ℕ) (l : MachLabel) → slice_get (named_labels line) k ≡ Some l → BoundBy lines l
-named_bound_by lines e i line h k l g = bound_by lines l (named_is_bound lines e i line h k l g)
+pub named_bound_by : (context : Context) (lines : List Line) → lines_refusal context lines ≡ None → (i : ℕ) (line : Line) → slice_get lines i ≡ Some line → (k : ℕ) (l : MachLabel) → slice_get (named_labels line) k ≡ Some l → BoundBy lines l
+named_bound_by context lines e i line h k l g = bound_by lines l (named_is_bound context lines e i line h k l g)
 
 -- ---- sizes
 
 -- the lines count for no more bytes than they may
-pub sum_small : (lines : List Line) → refusal lines ≡ None → size_sum lines ≤ size_limit
-sum_small lines e = from _ (nat_lt size_limit (size_sum lines)) refl (parts lines e).large
+pub sum_small : (context : Context) (lines : List Line) → lines_refusal context lines ≡ None → size_sum context lines ≤ size_limit
+sum_small context lines e = from _ (nat_lt size_limit (size_sum context lines)) refl (parts context lines e).large
   where
-    from : (x : EmitError) (c : Bool) → nat_lt size_limit (size_sum lines) ≡ c → (if c then Some x else None) ≡ None → size_sum lines ≤ size_limit
+    from : (x : EmitError) (c : Bool) → nat_lt size_limit (size_sum context lines) ≡ c → (if c then Some x else None) ≡ None → size_sum context lines ≤ size_limit
     from x true h g = absurd (cc)
-    from x false h g = ltb-false size_limit (size_sum lines) h
+    from x false h g = ltb-false size_limit (size_sum context lines) h

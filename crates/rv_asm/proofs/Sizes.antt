@@ -1,6 +1,7 @@
 -- How long code may be, and that an instruction finds its room.
 use Rattle.std.proofs.Common.{◌≡◌, ℕ, ◌+◌, ◌*◌, ◌≤◌, Bool, List, [], ◌∷◌, ◌++◌, length, refl, ap, sym, subst, arith, ⊎_elim}
 use Rattle.rv_base.specs.declared.label.MachLabel.{MachLabel}
+use Rattle.rv_inst.specs.Context.{Context}
 use Rattle.rv_inst.specs.declared.code.LineSpan.{LineSpan}
 use Rattle.rv_inst.specs.declared.inst.Inst.{Inst}
 use Rattle.rv_inst.specs.declared.inst.Inst.TheVariants.{EmitIsland}
@@ -19,19 +20,19 @@ use Rattle.rv_asm.proofs.LinesAppended.{Appends, InstAppends, LineAppends}
 
 -- ---- sums
 
-pub sum_append : (lines more : List Line) → size_sum (lines ++ more) ≡ size_sum lines + size_sum more
-sum_append [] more = omega arith
-sum_append (line ∷ lines) more = let rest = sum_append lines more in omega arith
+pub sum_append : (context : Context) (lines more : List Line) → size_sum context (lines ++ more) ≡ size_sum context lines + size_sum context more
+sum_append context [] more = omega arith
+sum_append context (line ∷ lines) more = let rest = sum_append context lines more in omega arith
 
-pub sum_next : (lines : List Line) (line : Line) → size_sum (lines ++ line ∷ []) ≡ size_sum lines + line_sum line
-sum_next lines line = let whole = sum_append lines (line ∷ []) in omega arith
+pub sum_next : (context : Context) (lines : List Line) (line : Line) → size_sum context (lines ++ line ∷ []) ≡ size_sum context lines + line_sum context line
+sum_next context lines line = let whole = sum_append context lines (line ∷ []) in omega arith
 
 -- each line counts for 128 bytes and more
-pub sum_least : (line : Line) → 128 ≤ line_sum line
-sum_least (Bind label) = omega arith
-sum_least (Put inst) = on inst
+pub sum_least : (context : Context) (line : Line) → 128 ≤ line_sum context line
+sum_least context (Bind label) = omega arith
+sum_least context (Put inst) = on inst
   where
-    on : (inst : Inst) → 128 ≤ line_sum (Put inst)
+    on : (inst : Inst) → 128 ≤ line_sum context (Put inst)
     on (EmitIsland space) = omega arith
     on _ = omega arith
 
@@ -69,9 +70,9 @@ room_uses distance old new made m = ⊎_elim
     (λ put. island_uses old new put.1)
     m.put
 
-pub emitted_uses : (inst : Inst) (old new : Buffer) → Appends inst old new → IsBounded inst old new → Uses 100 old new
-emitted_uses (EmitIsland space) old new e bounds = let u = room_uses space old new e.0 e.1 in record { size = let s = u.size in omega arith; allocated = u.allocated }
-emitted_uses inst old new e bounds =
+pub emitted_uses : (context : Context) (inst : Inst) (old new : Buffer) → Appends context inst old new → IsBounded context inst old new → Uses 100 old new
+emitted_uses context (EmitIsland space) old new e bounds = let u = room_uses space old new e.0 e.1 in record { size = let s = u.size in omega arith; allocated = u.allocated }
+emitted_uses context inst old new e bounds =
     let within = bounds refl in
     let long = within.long in
     let few = within.waiting in
@@ -80,19 +81,19 @@ emitted_uses inst old new e bounds =
 
 -- ---- the loop's invariant
 
-pub sized_none : (b : Buffer) → bytes_of b ≡ [] → uses_of b ≡ [] → allocated_of b ≡ 0 → Sized [] b
-sized_none b bytes uses allocated =
+pub sized_none : (context : Context) (b : Buffer) → bytes_of b ≡ [] → uses_of b ≡ [] → allocated_of b ≡ 0 → Sized context [] b
+sized_none context b bytes uses allocated =
     let none : pending b ≡ [] = ap (deadlines (waits (place_of b)) label_kinds) uses in
     let waiting : length (pending b) ≡ 0 = ap length none in
     let long : length (bytes_of b) ≡ 0 = ap length bytes in
     record { reach = subst (CanReach (length (bytes_of b))) (sym none) tt; size = omega arith; allocated = omega arith }
 
-inst_sized : (lines : List Line) (inst : Inst) (old new : Buffer) (span : LineSpan) → Sized lines old → InstAppends inst old new span → Sized (lines ++ Put inst ∷ []) new
-inst_sized lines inst old new span s p =
+inst_sized : (context : Context) (lines : List Line) (inst : Inst) (old new : Buffer) (span : LineSpan) → Sized context lines old → InstAppends context inst old new span → Sized context (lines ++ Put inst ∷ []) new
+inst_sized context lines inst old new span s p =
     let room : Uses 14 old p.mid = room_uses line_space old p.mid p.made p.room in
-    let block : Uses 100 p.mid new = emitted_uses inst p.mid new p.emitted p.bounds in
-    let sum = sum_next lines (Put inst) in
-    let least = sum_least (Put inst) in
+    let block : Uses 100 p.mid new = emitted_uses context inst p.mid new p.emitted p.bounds in
+    let sum = sum_next context lines (Put inst) in
+    let least = sum_least context (Put inst) in
     let a = room.size in
     let b = block.size in
     let c = room.allocated in
@@ -101,9 +102,9 @@ inst_sized lines inst old new span s p =
     let allocated = s.allocated in
     record { reach = p.reach; size = omega (arith, a, b, sum, least, size); allocated = omega (arith, c, d, sum, least, allocated) }
 
-bind_sized : (lines : List Line) (label : MachLabel) (old new : Buffer) (span : LineSpan) → Sized lines old → BindPut label old new span → Sized (lines ++ Bind label ∷ []) new
-bind_sized lines label old new span s p =
-    let sum = sum_next lines (Bind label) in
+bind_sized : (context : Context) (lines : List Line) (label : MachLabel) (old new : Buffer) (span : LineSpan) → Sized context lines old → BindPut label old new span → Sized context (lines ++ Bind label ∷ []) new
+bind_sized context lines label old new span s p =
+    let sum = sum_next context lines (Bind label) in
     let long : length (bytes_of new) ≡ length (bytes_of old) = ap length p.bytes in
     let few : length (pending new) ≤ length (pending old) = fewer_from_due (pending new) (pending old) p.fewer in
     let slack : HasSlack (length (bytes_of old)) 14 (pending new) = slack_same (length (bytes_of old)) 14 (pending old) (pending new) p.fewer (slack_from_reach (length (bytes_of old)) (pending old) s.reach) in
@@ -113,6 +114,6 @@ bind_sized lines label old new span s p =
     let same = p.allocated in
     record { reach = subst (λ n. CanReach n (pending new)) (sym long) reach; size = omega (arith, sum, long, few, size); allocated = omega (arith, sum, same, allocated) }
 
-pub sized_next : (lines : List Line) (line : Line) (old new : Buffer) (span : LineSpan) → Sized lines old → LineAppends line old new span → Sized (lines ++ line ∷ []) new
-sized_next lines (Put inst) old new span s p = inst_sized lines inst old new span s p
-sized_next lines (Bind label) old new span s p = bind_sized lines label old new span s p
+pub sized_next : (context : Context) (lines : List Line) (line : Line) (old new : Buffer) (span : LineSpan) → Sized context lines old → LineAppends context line old new span → Sized context (lines ++ line ∷ []) new
+sized_next context lines (Put inst) old new span s p = inst_sized context lines inst old new span s p
+sized_next context lines (Bind label) old new span s p = bind_sized context lines label old new span s p

@@ -24,11 +24,11 @@ all_bytes (b ∷ bytes) h zero lt = h.0
 all_bytes (b ∷ bytes) h (suc k) lt = all_bytes bytes h.1 k (omega arith)
 
 module _ (job : Job) (code : Code) (b : Buffer) (built : LinesStand (context_of job) job.lines code.lines b) (f : IsFinishedTo (shape_of b) code.bytes) (small : length code.bytes ≤ 2 ^ 64) where
-  inst_sized : (inst : Inst) (start end : ℕ) → LineStands (context_of job) (Put inst) b start end → IsSized job.flags code.bytes (extent_of inst) start end
+  inst_sized : (inst : Inst) (start end : ℕ) → LineStands (context_of job) (Put inst) b start end → IsSized job.flags code.bytes (extent_of (context_of job) inst) start end
   inst_sized (EmitIsland space) start end (setting, (mid, gap, same), long) = subst (IsSized job.flags code.bytes (Island space) start) same (gap_is (context_of job) (shape_of b) code.bytes f small start mid gap)
   inst_sized inst start end (setting, parts, long) = long
 
-  line_long : (line : Line) (start end : ℕ) → LineStands (context_of job) line b start end → IsSpan job.flags code.bytes line start end
+  line_long : (line : Line) (start end : ℕ) → LineStands (context_of job) line b start end → IsSpan (context_of job) code.bytes line start end
   line_long (Put inst) start end h = inst_sized inst start end h
   line_long (Bind label) start end (same, bound) = sym same
 

@@ -6,16 +6,18 @@ use Rattle.std.proofs.lemmas.Bool.{true≢false, ltb-true, leb-false, or_parts}
 use Rattle.std.proofs.lemmas.Option.{slice_get_within}
 use Rattle.std.proofs.lemmas.List.{length-append, take_all}
 use Rattle.mach_labels.specs.Table.{first_inner}
+use Rattle.rv_inst.specs.Context.{Context}
 use Rattle.rv_inst.specs.declared.code.LineSpan.{LineSpan}
 use Rattle.rv_inst.specs.declared.error.Rule.{Rule}
 use Rattle.rv_inst.specs.declared.inst.Inst.{Inst}
-use Rattle.rv_inst.specs.declared.inst.Inst.TheVariants.{Jal, CondBr}
 use Rattle.rv_inst.specs.declared.inst.CondBrTarget.TheVariants.{Label, Fallthrough}
 use Rattle.rv_inst.specs.declared.inst.Line.{Line}
 use Rattle.rv_inst.specs.declared.inst.Line.TheVariants.{Inst as Put, Bind}
 use Rattle.rv_inst.specs.declared.label_use.LabelUse.{LabelUse}
-use Rattle.rv_inst.specs.declared.label_use.LabelUse.TheVariants.{Jal20}
-use Rattle.rv_inst.specs.Operands.{inst_labels, inst_registers}
+use Rattle.rv_inst.specs.declared.label_use.LabelUse.TheVariants.{Jal20, B12, PCRelLo12I}
+use Rattle.rv_inst.specs.Operands.{targets_of, ways_of, inst_ways, inst_labels}
+use Rattle.rv_inst.specs.declared.targets.Targets.{Targets}
+use Rattle.rv_inst.specs.declared.targets.Targets.TheVariants.{Nowhere, Jumps, Branches, Refers}
 use Rattle.rv_inst.specs.LabelUse.{label_kinds, has_veneer_of}
 use Rattle.rv_inst.specs.declared.error.Rule.TheVariants as rule_of
 use Rattle.rv_inst.proofs.Rules.{breaks_none}
@@ -25,11 +27,11 @@ use Rattle.mach_buffer.specs.Reach.{deadline, deadlines, due_by, is_needed, is_n
 use Rattle.mach_buffer.specs.Buffer.{bytes_of, place_of}
 use Rattle.mach_buffer.proofs.Laws.{both_lists, deadlines_append, none_from, due_le_length}
 use Rattle.rv_emit.specs.Emitted.{Buffer, pending}
-use Rattle.rv_inst.specs.Uses.{use_at, uses_in}
-use Rattle.rv_emit.proofs.Laws.{deadlines_as, Each, each_none, each_more, uses_bare, uses_kinds, few_deadlines, waits}
+use Rattle.rv_inst.specs.Uses.{use_at, target_uses, target_reach, uses_in}
+use Rattle.rv_emit.proofs.Laws.{deadlines_as, Each, each_none, each_more, uses_bare, few_deadlines, waits}
 use Rattle.rv_asm.specs.Reported.{start_of}
 use Rattle.rv_inst.specs.Uses.{least_reach}
-use Rattle.rv_asm.specs.Reach.{label_count, last_island, first_after_island, uses_from, bound_by, pending_deadlines, IsDue}
+use Rattle.rv_asm.specs.Reach.{way_count, last_island, first_after_island, uses_from, bound_by, pending_deadlines, IsDue}
 use Rattle.rv_asm.specs.AfterLastIsland.{uses_after_island, AfterLastIsland}
 use Rattle.rv_asm.proofs.LabelNames.{uses_labels}
 use Rattle.rv_asm.proofs.FirstLines.{last_open}
@@ -37,22 +39,47 @@ use Rattle.rv_asm.proofs.FirstLines.{last_open}
 -- ---- the uses of one instruction
 
 -- each reaches as far as the shortest of its line
-uses_least : (start : ℕ) (inst : Inst) → Each (λ u. start + least_reach (Put inst) ≤ deadline label_kinds u) (uses_in start inst)
-uses_least start (Jal label) = each_more (λ u. start + 1048574 ≤ deadline label_kinds u) _ [] (omega arith) (each_none _)
-uses_least start (CondBr Fallthrough not_taken kind) = each_none _
-uses_least start (CondBr (Label t) Fallthrough kind) = each_more (λ u. start + 4094 ≤ deadline label_kinds u) _ [] (omega arith) (each_none _)
-uses_least start (CondBr (Label t) (Label f) kind) =
-    each_more (λ u. start + 4094 ≤ deadline label_kinds u) _ (use_at (start + 4) f Jal20 ∷ []) (omega arith) (each_more (λ u. start + 4094 ≤ deadline label_kinds u) _ [] (omega arith) (each_none _))
-uses_least start inst = each_none _
+uses_least : (context : Context) (start : ℕ) (inst : Inst) → Each (λ u. start + least_reach context (Put inst) ≤ deadline label_kinds u) (uses_in context start inst)
+uses_least context start inst = on (targets_of inst)
+  where
+    on : (targets : Targets) → Each (λ u. start + target_reach targets ≤ deadline label_kinds u) (target_uses start targets)
+    on Nowhere = each_none _
+    on (Jumps label) = each_more (λ u. start + 1048574 ≤ deadline label_kinds u) _ [] (omega arith) (each_none _)
+    on (Branches Fallthrough not_taken) = each_none _
+    on (Branches (Label t) Fallthrough) = each_more (λ u. start + 4094 ≤ deadline label_kinds u) _ [] (omega arith) (each_none _)
+    on (Branches (Label t) (Label f)) =
+        each_more (λ u. start + 4094 ≤ deadline label_kinds u) _ (use_at (start + 4) f Jal20 ∷ []) (omega arith) (each_more (λ u. start + 4094 ≤ deadline label_kinds u) _ [] (omega arith) (each_none _))
+    on (Refers label) =
+        each_more (λ u. start + 1048574 ≤ deadline label_kinds u) _ (use_at (start + 4) label PCRelLo12I ∷ []) (omega arith) (each_more (λ u. start + 1048574 ≤ deadline label_kinds u) _ [] (omega arith) (each_none _))
 
--- there are no more than it names labels
-few_labels : (start : ℕ) (inst : Inst) → length (uses_in start inst) ≤ length (inst_labels inst)
-few_labels start (Jal label) = omega arith
-few_labels start (CondBr Fallthrough Fallthrough kind) = omega arith
-few_labels start (CondBr Fallthrough (Label f) kind) = omega arith
-few_labels start (CondBr (Label t) Fallthrough kind) = omega arith
-few_labels start (CondBr (Label t) (Label f) kind) = omega arith
-few_labels start inst = omega arith
+-- one that may go by a veneer goes to a label
+uses_ways : (context : Context) (start : ℕ) (inst : Inst) → Each (λ u. has_veneer_of u.kind ≡ true → 1 ≤ length (inst_ways inst)) (uses_in context start inst)
+uses_ways context start inst = on (targets_of inst)
+  where
+    on : (targets : Targets) → Each (λ u. has_veneer_of u.kind ≡ true → 1 ≤ length (ways_of targets)) (target_uses start targets)
+    on Nowhere = each_none _
+    on (Jumps label) = each_more (λ u. has_veneer_of u.kind ≡ true → 1 ≤ 1) _ [] (λ e. omega arith) (each_none _)
+    on (Branches Fallthrough not_taken) = each_none _
+    on (Branches (Label t) Fallthrough) = each_more (λ u. has_veneer_of u.kind ≡ true → 1 ≤ 1) _ [] (λ e. omega arith) (each_none _)
+    on (Branches (Label t) (Label f)) =
+        each_more (λ u. has_veneer_of u.kind ≡ true → 1 ≤ 2) _ (use_at (start + 4) f Jal20 ∷ []) (λ e. omega arith) (each_more (λ u. has_veneer_of u.kind ≡ true → 1 ≤ 2) _ [] (λ e. omega arith) (each_none _))
+    on (Refers label) =
+        each_more (λ u. has_veneer_of u.kind ≡ true → 1 ≤ 0) _ (use_at (start + 4) label PCRelLo12I ∷ []) (λ e. absurd (cc)) (each_more (λ u. has_veneer_of u.kind ≡ true → 1 ≤ 0) _ [] (λ e. absurd (cc)) (each_none _))
+
+-- no more are pending than it goes to labels
+few_ways : (context : Context) (place : ℕ → Option ℕ) (start : ℕ) (inst : Inst) → length (deadlines (waits place) label_kinds (uses_in context start inst)) ≤ length (inst_ways inst)
+few_ways context place start inst = on (targets_of inst)
+  where
+    of_uses : (uses : List (Use LabelUse)) (most : ℕ) → length uses ≤ most → length (deadlines (waits place) label_kinds uses) ≤ most
+    of_uses uses most le = let few = few_deadlines (waits place) label_kinds uses in omega arith
+
+    on : (targets : Targets) → length (deadlines (waits place) label_kinds (target_uses start targets)) ≤ length (ways_of targets)
+    on Nowhere = omega arith
+    on (Jumps label) = of_uses (use_at start label Jal20 ∷ []) 1 (omega arith)
+    on (Branches Fallthrough not_taken) = omega arith
+    on (Branches (Label t) Fallthrough) = of_uses (use_at start t B12 ∷ []) 1 (omega arith)
+    on (Branches (Label t) (Label f)) = of_uses (use_at start t B12 ∷ use_at (start + 4) f Jal20 ∷ []) 2 (omega arith)
+    on (Refers label) = omega arith
 
 skip : (c : Bool) (rule : Rule) (rest : Option Rule) → cond c (Some rule) rest ≡ None → rest ≡ None
 skip true rule rest h = absurd (cc)
@@ -66,52 +93,54 @@ any_none : {X : Type 0} (f : X → Bool) (xs : List X) → list_any f xs ≡ fal
 any_none f [] h = each_none _
 any_none f (x ∷ xs) h = let parts = or_parts (f x) (list_any f xs) h in each_more (λ y. f y ≡ false) x xs parts.0 (any_none f xs parts.1)
 
-labels_outer : (inst : Inst) → inst_rule inst ≡ None → list_any is_buffer_label (inst_labels inst) ≡ false
-labels_outer inst rule = breaks_none inst rule rule_of.Label
+labels_outer : (context : Context) (inst : Inst) → inst_rule context inst ≡ None → list_any is_buffer_label (inst_labels inst) ≡ false
+labels_outer context inst rule = breaks_none context inst rule rule_of.Label
 
 -- each names a label of the listing's
-uses_outer : (start : ℕ) (inst : Inst) → inst_rule inst ≡ None → Each (λ u. u.label.number < first_inner) (uses_in start inst)
-uses_outer start inst rule j u h =
-    let named = uses_labels start inst j u h in
-    let outer : is_buffer_label named.label ≡ false = any_none is_buffer_label (inst_labels inst) (labels_outer inst rule) named.place named.label named.names in
+uses_outer : (context : Context) (start : ℕ) (inst : Inst) → inst_rule context inst ≡ None → Each (λ u. u.label.number < first_inner) (uses_in context start inst)
+uses_outer context start inst rule j u h =
+    let named = uses_labels context start inst j u h in
+    let outer : is_buffer_label named.label ≡ false = any_none is_buffer_label (inst_labels inst) (labels_outer context inst rule) named.place named.label named.names in
     let low : named.label.number < first_inner = leb-false _ _ outer in
     subst (λ n. n < first_inner) named.is low
 
 -- ---- the uses of lines
 
 -- a use is one of an instruction among lines, the first of which has an index
-pub record FromLine (spans : List LineSpan) (first : ℕ) (lines : List Line) (u : Use LabelUse) : Type 0 where
+pub record FromLine (context : Context) (spans : List LineSpan) (first : ℕ) (lines : List Line) (u : Use LabelUse) : Type 0 where
   pub index : ℕ
   pub inst : Inst
   pub there : slice_get lines index ≡ Some (Put inst)
   pub place : ℕ
-  pub own : slice_get (uses_in (start_of spans (first + index)) inst) place ≡ Some u
+  pub own : slice_get (uses_in context (start_of spans (first + index)) inst) place ≡ Some u
 
-later_line : (spans : List LineSpan) (first : ℕ) (line : Line) (lines : List Line) (u : Use LabelUse) → FromLine spans (suc first) lines u → FromLine spans first (line ∷ lines) u
-later_line spans first line lines u f =
+later_line : (context : Context) (spans : List LineSpan) (first : ℕ) (line : Line) (lines : List Line) (u : Use LabelUse) → FromLine context spans (suc first) lines u → FromLine context spans first (line ∷ lines) u
+later_line context spans first line lines u f =
     let same : suc first + f.index ≡ first + suc f.index = omega arith in
-    record { index = suc f.index; inst = f.inst; there = f.there; place = f.place; own = subst (λ n. slice_get (uses_in (start_of spans n) f.inst) f.place ≡ Some u) same f.own }
+    record { index = suc f.index; inst = f.inst; there = f.there; place = f.place; own = subst (λ n. slice_get (uses_in context (start_of spans n) f.inst) f.place ≡ Some u) same f.own }
 
-pub from_line : (spans : List LineSpan) (first : ℕ) (lines : List Line) → Each (FromLine spans first lines) (uses_from spans first lines)
-from_line spans first [] = each_none _
-from_line spans first (Put inst ∷ lines) =
+pub from_line : (context : Context) (spans : List LineSpan) (first : ℕ) (lines : List Line) → Each (FromLine context spans first lines) (uses_from context spans first lines)
+from_line context spans first [] = each_none _
+from_line context spans first (Put inst ∷ lines) =
     let here : first ≡ first + 0 = omega arith in
-    both_lists (FromLine spans first (Put inst ∷ lines)) (uses_in (start_of spans first) inst) (uses_from spans (suc first) lines)
-    (λ j u h. record { index = 0; inst = inst; there = refl; place = j; own = subst (λ n. slice_get (uses_in (start_of spans n) inst) j ≡ Some u) here h })
-    (λ j u h. later_line spans first (Put inst) lines u (from_line spans (suc first) lines j u h))
-from_line spans first (Bind label ∷ lines) = λ j u h. later_line spans first (Bind label) lines u (from_line spans (suc first) lines j u h)
+    both_lists (FromLine context spans first (Put inst ∷ lines)) (uses_in context (start_of spans first) inst) (uses_from context spans (suc first) lines)
+    (λ j u h. record { index = 0; inst = inst; there = refl; place = j; own = subst (λ n. slice_get (uses_in context (start_of spans n) inst) j ≡ Some u) here h })
+    (λ j u h. later_line context spans first (Put inst) lines u (from_line context spans (suc first) lines j u h))
+from_line context spans first (Bind label ∷ lines) = λ j u h. later_line context spans first (Bind label) lines u (from_line context spans (suc first) lines j u h)
 
-few_in_lines : (spans : List LineSpan) (first : ℕ) (lines : List Line) → length (uses_from spans first lines) ≤ label_count lines
-few_in_lines spans first [] = omega arith
-few_in_lines spans first (Put inst ∷ lines) =
-    let rest = few_in_lines spans (suc first) lines in
-    let own = few_labels (start_of spans first) inst in
-    let whole = length-append (uses_in (start_of spans first) inst) (uses_from spans (suc first) lines) in
+few_in_lines : (context : Context) (place : ℕ → Option ℕ) (spans : List LineSpan) (first : ℕ) (lines : List Line) → length (deadlines (waits place) label_kinds (uses_from context spans first lines)) ≤ way_count lines
+few_in_lines context place spans first [] = omega arith
+few_in_lines context place spans first (Put inst ∷ lines) =
+    let rest = few_in_lines context place spans (suc first) lines in
+    let own = few_ways context place (start_of spans first) inst in
+    let front = deadlines (waits place) label_kinds (uses_in context (start_of spans first) inst) in
+    let back = deadlines (waits place) label_kinds (uses_from context spans (suc first) lines) in
+    let whole : length (deadlines (waits place) label_kinds (uses_from context spans first (Put inst ∷ lines))) ≡ length front + length back = ap length (deadlines_append (waits place) label_kinds (uses_in context (start_of spans first) inst) (uses_from context spans (suc first) lines)) ∙ length-append front back in
     omega (arith, rest, own, whole)
-few_in_lines spans first (Bind label ∷ lines) = let rest = few_in_lines spans (suc first) lines in omega (arith, rest)
+few_in_lines context place spans first (Bind label ∷ lines) = let rest = few_in_lines context place spans (suc first) lines in omega (arith, rest)
 
 -- fewer labels from a later line on
-count_drop : (lines : List Line) (j k : ℕ) → j ≤ k → label_count (drop k lines) ≤ label_count (drop j lines)
+count_drop : (lines : List Line) (j k : ℕ) → j ≤ k → way_count (drop k lines) ≤ way_count (drop j lines)
 count_drop [] zero zero le = omega arith
 count_drop [] zero (suc k) le = omega arith
 count_drop [] (suc j) zero le = omega arith
@@ -129,35 +158,34 @@ get_drop (y ∷ xs) (suc k) i x h = let same : suc k + i ≡ suc (k + i) = omega
 -- ---- what is pending
 
 -- of the open uses alone
-open_waits : (lines : List Line) (spans : List LineSpan) (b : Buffer) → AfterLastIsland lines spans b → pending b ≡ deadlines (waits (place_of b)) label_kinds (uses_after_island lines spans)
-open_waits lines spans b s =
+open_waits : (context : Context) (lines : List Line) (spans : List LineSpan) (b : Buffer) → AfterLastIsland context lines spans b → pending b ≡ deadlines (waits (place_of b)) label_kinds (uses_after_island context lines spans)
+open_waits context lines spans b s =
     let test = waits (place_of b) in
-    ap (deadlines test label_kinds) s.ends.whole ∙ deadlines_append test label_kinds s.ends.before (uses_after_island lines spans)
-    ∙ ap (λ ds. ds ++ deadlines test label_kinds (uses_after_island lines spans)) (none_from test label_kinds s.ends.before s.ends.idle)
+    ap (deadlines test label_kinds) s.ends.whole ∙ deadlines_append test label_kinds s.ends.before (uses_after_island context lines spans)
+    ∙ ap (λ ds. ds ++ deadlines test label_kinds (uses_after_island context lines spans)) (none_from test label_kinds s.ends.before s.ends.idle)
 
-pub open_from_line : (lines : List Line) (spans : List LineSpan) → Each (FromLine spans (first_after_island lines spans (length lines)) (drop (first_after_island lines spans (length lines)) lines)) (uses_after_island lines spans)
-open_from_line lines spans = from_line spans (first_after_island lines spans (length lines)) (drop (first_after_island lines spans (length lines)) lines)
+pub open_from_line : (context : Context) (lines : List Line) (spans : List LineSpan) → Each (FromLine context spans (first_after_island context lines spans (length lines)) (drop (first_after_island context lines spans (length lines)) lines)) (uses_after_island context lines spans)
+open_from_line context lines spans = from_line context spans (first_after_island context lines spans (length lines)) (drop (first_after_island context lines spans (length lines)) lines)
 
 -- what is pending in the buffer is what is pending by the spans
-pub pending_waiting : (lines : List Line) (spans : List LineSpan) (b : Buffer) → AfterLastIsland lines spans b → pending b ≡ pending_deadlines lines spans (length lines)
-pending_waiting lines spans b s =
+pub pending_waiting : (context : Context) (lines : List Line) (spans : List LineSpan) (b : Buffer) → AfterLastIsland context lines spans b → pending b ≡ pending_deadlines context lines spans (length lines)
+pending_waiting context lines spans b s =
     let n = length lines in
-    let k = first_after_island lines spans n in
+    let k = first_after_island context lines spans n in
     let whole : take n lines ≡ lines = take_all n lines (omega arith) in
-    let test : Use LabelUse → Bool = λ u. not (is_reached label_kinds (bound_by spans 0 lines u.label.number) u) in
-    let same : deadlines (waits (place_of b)) label_kinds (uses_after_island lines spans) ≡ deadlines test label_kinds (uses_after_island lines spans) = deadlines_as (waits (place_of b)) test label_kinds (uses_after_island lines spans) each in
-    open_waits lines spans b s ∙ same ∙ sym (λ j. deadlines (λ (u : Use LabelUse). not (is_reached label_kinds (bound_by spans 0 (whole j) u.label.number) u)) label_kinds (uses_from spans k (drop k (whole j))))
+    let test : Use LabelUse → Bool = λ u. has_veneer_of u.kind && not (is_reached label_kinds (bound_by spans 0 lines u.label.number) u) in
+    let same : deadlines (waits (place_of b)) label_kinds (uses_after_island context lines spans) ≡ deadlines test label_kinds (uses_after_island context lines spans) = deadlines_as (waits (place_of b)) test label_kinds (uses_after_island context lines spans) each in
+    open_waits context lines spans b s ∙ same ∙ sym (λ j. deadlines (λ (u : Use LabelUse). has_veneer_of u.kind && not (is_reached label_kinds (bound_by spans 0 (whole j) u.label.number) u)) label_kinds (uses_from context spans k (drop k (whole j))))
   where
-    each : (j : ℕ) (u : Use LabelUse) → slice_get (uses_after_island lines spans) j ≡ Some u → waits (place_of b) u ≡ not (is_reached label_kinds (bound_by spans 0 lines u.label.number) u)
+    each : (j : ℕ) (u : Use LabelUse) → slice_get (uses_after_island context lines spans) j ≡ Some u → waits (place_of b) u ≡ (has_veneer_of u.kind && not (is_reached label_kinds (bound_by spans 0 lines u.label.number) u))
     each j u h =
-        let f = open_from_line lines spans j u h in
-        let start = start_of spans (first_after_island lines spans (length lines) + f.index) in
-        let kind : has_veneer_of u.kind ≡ true = uses_kinds start f.inst f.place u f.own in
-        let bare : u.veneer ≡ None = uses_bare start f.inst f.place u f.own in
-        let rule : inst_rule f.inst ≡ None = s.ruled (first_after_island lines spans (length lines) + f.index) (Put f.inst) (get_drop lines (first_after_island lines spans (length lines)) f.index (Put f.inst) f.there) in
-        let low : u.label.number < first_inner = uses_outer start f.inst rule f.place u f.own in
+        let f = open_from_line context lines spans j u h in
+        let start = start_of spans (first_after_island context lines spans (length lines) + f.index) in
+        let bare : u.veneer ≡ None = uses_bare context start f.inst f.place u f.own in
+        let rule : inst_rule context f.inst ≡ None = s.ruled (first_after_island context lines spans (length lines) + f.index) (Put f.inst) (get_drop lines (first_after_island context lines spans (length lines)) f.index (Put f.inst) f.there) in
+        let low : u.label.number < first_inner = uses_outer context start f.inst rule f.place u f.own in
         let place : place_of b u.label.number ≡ bound_by spans 0 lines u.label.number = s.places u.label.number low in
-        λ i. kind i && (is_none (bare i) && not (is_reached label_kinds (place i) u))
+        λ i. has_veneer_of u.kind && (is_none (bare i) && not (is_reached label_kinds (place i) u))
 
 -- ---- an island that is needed
 
@@ -176,54 +204,57 @@ missed cur all (d ∷ ds) h = on (nat_lt d (cur + 14 + 8 * (due_by d all + 2))) 
     on true e h rest = record { due = d; index = 0; there = refl; late = ltb-true _ _ e }
     on false e h rest = let m = rest h in record { due = m.due; index = suc m.index; there = m.there; late = m.late }
 
--- a deadline is that of a use
-record OfUse (uses : List (Use LabelUse)) (due : ℕ) : Type 0 where
+-- a deadline is that of a use for which the test holds
+record OfUse (test : Use LabelUse → Bool) (uses : List (Use LabelUse)) (due : ℕ) : Type 0 where
   pub index : ℕ
   pub user : Use LabelUse
   pub there : slice_get uses index ≡ Some user
+  pub passes : test user ≡ true
   pub is : deadline label_kinds user ≡ due
 
-of_use : (test : Use LabelUse → Bool) (uses : List (Use LabelUse)) → Each (OfUse uses) (deadlines test label_kinds uses)
+of_use : (test : Use LabelUse → Bool) (uses : List (Use LabelUse)) → Each (OfUse test uses) (deadlines test label_kinds uses)
 of_use test [] = each_none _
-of_use test (u ∷ uses) = on (test u) (λ j d h. later d (of_use test uses j d h))
+of_use test (u ∷ uses) = on (test u) refl (λ j d h. later d (of_use test uses j d h))
   where
-    later : (d : ℕ) → OfUse uses d → OfUse (u ∷ uses) d
-    later d o = record { index = suc o.index; user = o.user; there = o.there; is = o.is }
+    later : (d : ℕ) → OfUse test uses d → OfUse test (u ∷ uses) d
+    later d o = record { index = suc o.index; user = o.user; there = o.there; passes = o.passes; is = o.is }
 
-    on : (c : Bool) → Each (OfUse (u ∷ uses)) (deadlines test label_kinds uses) → Each (OfUse (u ∷ uses)) (cond c (deadline label_kinds u ∷ deadlines test label_kinds uses) (deadlines test label_kinds uses))
-    on true rest = each_more (OfUse (u ∷ uses)) (deadline label_kinds u) (deadlines test label_kinds uses) (record { index = 0; user = u; there = refl; is = refl }) rest
-    on false rest = rest
+    on : (c : Bool) → test u ≡ c → Each (OfUse test (u ∷ uses)) (deadlines test label_kinds uses) → Each (OfUse test (u ∷ uses)) (cond c (deadline label_kinds u ∷ deadlines test label_kinds uses) (deadlines test label_kinds uses))
+    on true e rest = each_more (OfUse test (u ∷ uses)) (deadline label_kinds u) (deadlines test label_kinds uses) (record { index = 0; user = u; there = refl; passes = e; is = refl }) rest
+    on false e rest = rest
+
+and_first : (a b : Bool) → (a && b) ≡ true → a ≡ true
+and_first true b e = refl
+and_first false b e = absurd (cc)
 
 -- an island that is needed after some lines is due there
-pub due_now : (lines : List Line) (spans : List LineSpan) (b : Buffer) (distance : ℕ) → AfterLastIsland lines spans b → is_needed (length (bytes_of b)) distance (pending b) ≡ true → IsDue lines spans (length lines) (length (bytes_of b)) distance
-due_now lines spans b distance s needed =
+pub due_now : (context : Context) (lines : List Line) (spans : List LineSpan) (b : Buffer) (distance : ℕ) → AfterLastIsland context lines spans b → is_needed (length (bytes_of b)) distance (pending b) ≡ true → IsDue context lines spans (length lines) (length (bytes_of b)) distance
+due_now context lines spans b distance s needed =
     let n = length lines in
-    let k = first_after_island lines spans n in
+    let k = first_after_island context lines spans n in
     let cur = length (bytes_of b) in
-    let us = uses_after_island lines spans in
+    let us = uses_after_island context lines spans in
     let ds = deadlines (waits (place_of b)) label_kinds us in
-    let m : Missed (cur + distance) ds ds = missed (cur + distance) ds ds (sym (ap (is_needed cur distance) (open_waits lines spans b s)) ∙ needed) in
-    let o : OfUse us m.due = of_use (waits (place_of b)) us m.index m.due m.there in
-    let f : FromLine spans k (drop k lines) o.user = open_from_line lines spans o.index o.user o.there in
+    let m : Missed (cur + distance) ds ds = missed (cur + distance) ds ds (sym (ap (is_needed cur distance) (open_waits context lines spans b s)) ∙ needed) in
+    let o : OfUse (waits (place_of b)) us m.due = of_use (waits (place_of b)) us m.index m.due m.there in
+    let f : FromLine context spans k (drop k lines) o.user = open_from_line context lines spans o.index o.user o.there in
     let there : slice_get lines (k + f.index) ≡ Some (Put f.inst) = get_drop lines k f.index (Put f.inst) f.there in
-    let named = uses_labels (start_of spans (k + f.index)) f.inst f.place o.user f.own in
-    let some : named.place < length (inst_labels f.inst) = slice_get_within (inst_labels f.inst) named.place named.label named.names in
-    let least : start_of spans (k + f.index) + least_reach (Put f.inst) ≤ deadline label_kinds o.user = uses_least (start_of spans (k + f.index)) f.inst f.place o.user f.own in
+    let some : 1 ≤ length (inst_ways f.inst) = uses_ways context (start_of spans (k + f.index)) f.inst f.place o.user f.own (and_first (has_veneer_of o.user.kind) _ o.passes) in
+    let least : start_of spans (k + f.index) + least_reach context (Put f.inst) ≤ deadline label_kinds o.user = uses_least context (start_of spans (k + f.index)) f.inst f.place o.user f.own in
     let is : deadline label_kinds o.user ≡ m.due = o.is in
     let late = m.late in
-    let last : last_island spans n ≤ k = last_open lines spans n in
+    let last : last_island spans n ≤ k = last_open context lines spans n in
     let whole : take n lines ≡ lines = take_all n lines (omega arith) in
     let a : due_by m.due ds ≤ length ds = due_le_length m.due ds in
-    let c : length ds ≤ length us = few_deadlines (waits (place_of b)) label_kinds us in
-    let e : length us ≤ label_count (drop k lines) = few_in_lines spans k (drop k lines) in
-    let g : label_count (drop k lines) ≤ label_count (drop (last_island spans n) lines) = count_drop lines (last_island spans n) k last in
-    let h : label_count (drop (last_island spans n) (take n lines)) ≡ label_count (drop (last_island spans n) lines) = ap (λ ls. label_count (drop (last_island spans n) ls)) whole in
+    let c : length ds ≤ way_count (drop k lines) = few_in_lines context (place_of b) spans k (drop k lines) in
+    let g : way_count (drop k lines) ≤ way_count (drop (last_island spans n) lines) = count_drop lines (last_island spans n) k last in
+    let h : way_count (drop (last_island spans n) (take n lines)) ≡ way_count (drop (last_island spans n) lines) = ap (λ ls. way_count (drop (last_island spans n) ls)) whole in
     record {
       index = k + f.index;
       line = Put f.inst;
       there = there;
-      jumps = omega (arith, some);
-      behind = omega (arith, last);
+      jumps = some;
+      since = omega (arith, last);
       before = slice_get_within lines (k + f.index) (Put f.inst) there;
-      due = omega (arith, least, is, late, a, c, e, g, h);
+      due = omega (arith, least, is, late, a, c, g, h);
     }

@@ -1,6 +1,7 @@
 -- What is pending in the buffer since the last island, by the lines and their spans: a link of the proof.
 use Rattle.std.specs.Prelude.{◌≡◌, ℕ, ◌<◌, false, List, ◌++◌, length, drop, Some, None, slice_get}
 use Rattle.mach_labels.specs.Table.{first_inner}
+use Rattle.rv_inst.specs.Context.{Context}
 use Rattle.rv_inst.specs.declared.code.LineSpan.{LineSpan}
 use Rattle.rv_inst.specs.declared.inst.Line.{Line}
 use Rattle.rv_inst.specs.declared.label_use.LabelUse.{LabelUse}
@@ -13,8 +14,8 @@ use Rattle.rv_emit.specs.Emitted.{Buffer}
 use Rattle.rv_asm.specs.Reach.{first_after_island, uses_from, bound_by}
 
 -- the uses after which no island stands
-abbrev pub uses_after_island : List Line → List LineSpan → List (Use LabelUse)
-uses_after_island lines spans = uses_from spans (first_after_island lines spans (length lines)) (drop (first_after_island lines spans (length lines)) lines)
+abbrev pub uses_after_island : Context → List Line → List LineSpan → List (Use LabelUse)
+uses_after_island context lines spans = uses_from context spans (first_after_island context lines spans (length lines)) (drop (first_after_island context lines spans (length lines)) lines)
 
 -- these uses were recorded last, and none of those before them is pending
 pub record EndsIn (uses : List (Use LabelUse)) (b : Buffer) : Type 0 where
@@ -23,7 +24,7 @@ pub record EndsIn (uses : List (Use LabelUse)) (b : Buffer) : Type 0 where
   pub idle : (j : ℕ) (u : Use LabelUse) → slice_get before j ≡ Some u → is_pending label_kinds (place_of b) u ≡ false
 
 -- no use of a line before the last island is pending, and each label stands where a line binds it
-pub record AfterLastIsland (lines : List Line) (spans : List LineSpan) (b : Buffer) : Type 0 where
-  pub ends : EndsIn (uses_after_island lines spans) b
+pub record AfterLastIsland (context : Context) (lines : List Line) (spans : List LineSpan) (b : Buffer) : Type 0 where
+  pub ends : EndsIn (uses_after_island context lines spans) b
   pub places : (label : ℕ) → label < first_inner → place_of b label ≡ bound_by spans 0 lines label
-  pub ruled : (i : ℕ) (line : Line) → slice_get lines i ≡ Some line → broken_rule line ≡ None
+  pub ruled : (i : ℕ) (line : Line) → slice_get lines i ≡ Some line → broken_rule context line ≡ None

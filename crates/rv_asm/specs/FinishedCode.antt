@@ -14,9 +14,9 @@ pub record IsFinished (context : Context) (lines : List Line) (code : Code) : Ty
   pub sink : Buffer
   pub built : LinesStand context lines code.lines sink
   pub named : Named lines code.lines sink
-  pub sized : Sized lines sink
-  pub early : NotEarly lines code.lines
-  pub reach : ReachesOn lines code.lines
+  pub sized : Sized context lines sink
+  pub early : NotEarly context lines code.lines
+  pub reach : ReachesOn context lines code.lines
   pub ready : CanFinish label_kinds (shape_of sink)
   pub finished : Finishes label_kinds (shape_of sink) code.bytes
   pub labels : code.labels ≡ labels_of sink

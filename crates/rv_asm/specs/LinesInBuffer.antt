@@ -1,10 +1,8 @@
 -- What stands in the buffer after some lines: what the loop of `assemble` keeps, and what one line adds. Links of the
 -- proof.
 use Rattle.std.specs.Prelude.{◌≡◌, ◌≢◌, ℕ, ◌+◌, ◌*◌, ◌%◌, ◌^◌, ◌<◌, ◌≤◌, ◌⊎◌, Bool, true, false, List, [], ◌++◌, length, Some, None, is_some, slice_get}
-use Rattle.rv_base.specs.declared.constant.Constant.{Constant}
-use Rattle.rv_base.specs.declared.flags.IsaFlags.{IsaFlags}
-use Rattle.rv_base.specs.declared.frame.FrameLayout.{FrameLayout}
 use Rattle.rv_base.specs.declared.label.MachLabel.{MachLabel}
+use Rattle.rv_base.specs.Frame.{sp_to_args_end}
 use Rattle.rv_base.specs.LabelUse.{code_limit}
 use Rattle.mach_labels.specs.Table.{first_inner}
 use Rattle.rv_inst.specs.Context.{Context}
@@ -41,7 +39,7 @@ IsLong (Island space) start end = Unit {0}
 
 -- the parts of an instruction stand between two offsets, by some setting of the vector unit; a bind has no bytes
 abbrev pub LineStands : Context → Line → Buffer → ℕ → ℕ → Type 0
-LineStands context (Put inst) b start end = (setting : EmitVState) × PartsIn context.flags (parts_of context setting inst) (shape_of b) start end × IsLong (extent_of inst) start end
+LineStands context (Put inst) b start end = (setting : EmitVState) × PartsIn context.flags (parts_of context setting inst) (shape_of b) start end × IsLong (extent_of context inst) start end
 LineStands context (Bind label) b start end = (start ≡ end) × (place_of b label.number ≡ Some start)
 
 -- after the offset where the line before ends stands nothing, or an island, and then the line
@@ -85,20 +83,21 @@ pub record Named (lines : List Line) (spans : List LineSpan) (b : Buffer) : Type
 -- ---- reach and room
 
 -- Reach holds, and the bytes with a veneer for each pending use are within the size of the lines
-pub record Sized (lines : List Line) (b : Buffer) : Type 0 where
+pub record Sized (context : Context) (lines : List Line) (b : Buffer) : Type 0 where
   pub reach : CanReach (length (bytes_of b)) (pending b)
-  pub size : length (bytes_of b) + 8 * length (pending b) ≤ size_sum lines
-  pub allocated : 64 * allocated_of b ≤ size_sum lines
+  pub size : length (bytes_of b) + 8 * length (pending b) ≤ size_sum context lines
+  pub allocated : 64 * allocated_of b ≤ size_sum context lines
 
 -- ---- one line more
 
--- what a line asks of the buffer
-pub record CanPut (line : Line) (b : Buffer) : Type 0 where
-  pub rule : broken_rule line ≡ None
+-- what a line asks, in its context, of the buffer
+pub record CanPut (context : Context) (line : Line) (b : Buffer) : Type 0 where
+  pub rule : broken_rule context line ≡ None
+  pub frame : sp_to_args_end context.frame < 2 ^ 31
   pub sound : IsSoundBuffer b
   pub reach : CanReach (length (bytes_of b)) (pending b)
   pub few : allocated_of b + 1 < 2 ^ 29
-  pub room : length (bytes_of b) + 8 * length (pending b) + line_sum line + 46 < code_limit
+  pub room : length (bytes_of b) + 8 * length (pending b) + line_sum context line + 46 < code_limit
   pub unbound : (label : ℕ) → binds line label ≡ true → place_of b label ≡ None
 
 -- an instruction was put, after an island where one was needed
@@ -107,7 +106,7 @@ pub record InstPut (context : Context) (setting : EmitVState) (inst : Inst) (old
   pub made : Bool
   pub room : IslandIfNeeded line_space old mid made
   pub emitted : EmitsIn context (setting_beyond made setting) inst mid new
-  pub bounds : IsBounded inst mid new
+  pub bounds : IsBounded context inst mid new
   pub reach : CanReach (length (bytes_of new)) (pending new)
   pub start : span.start ≡ length (bytes_of mid)
   pub end : span.end ≡ length (bytes_of new)
@@ -126,10 +125,6 @@ pub record BindPut (label : MachLabel) (old new : Buffer) (span : LineSpan) : Ty
   pub sound : IsSoundBuffer new
   pub start : span.start ≡ length (bytes_of old)
   pub end : span.end ≡ length (bytes_of old)
-
--- what lines are read in, by the flags, the frame and the constants
-abbrev pub context_by : IsaFlags → FrameLayout → List Constant → Context
-context_by flags frame constants = record { flags = flags; frame = frame; constants = constants }
 
 -- the vector unit's setting known after a line, by whether an island was put before it and the setting known then
 abbrev pub line_setting : Bool → Line → EmitVState → EmitVState

@@ -30,12 +30,14 @@ rule_name rules.Zero = codes "Zero"
 rule_name rules.Clash = codes "Clash"
 rule_name rules.BadType = codes "BadType"
 rule_name rules.Range = codes "Range"
+rule_name rules.Constant = codes "Constant"
 rule_name rules.NoTarget = codes "NoTarget"
 rule_name rules.Label = codes "Label"
 rule_name rules.DataSize = codes "DataSize"
 
 abbrev pub error_line : EmitError → List ℕ
 error_line errors.OutOfMemory = codes "rvemit: OutOfMemory\n"
+error_line errors.BadFrame = codes "rvemit: BadFrame\n"
 error_line (errors.Malformed index rule) = codes "rvemit: Malformed " ++ decimal index ++ codes " " ++ rule_name rule ++ codes "\n"
 error_line (errors.LabelTwice label) = codes "rvemit: LabelTwice " ++ decimal label ++ codes "\n"
 error_line (errors.UnboundLabel label) = codes "rvemit: UnboundLabel " ++ decimal label ++ codes "\n"
@@ -67,12 +69,12 @@ status_of ends.OutOfMemory = 8
 -- the code of the job that the input means, which reports its lines and runs as they say, with no island early, and its
 -- numbers in the ranges in which no other code has its report
 abbrev pub IsCodeOf : List ℕ → Code → Type 0
-IsCodeOf input code = (job : Job) × (reads input ≡ Ok job) × (refusal job.lines ≡ None) × Reported job code × RunsAsListed job code × InReach job code × CodeFits code
+IsCodeOf input code = (job : Job) × (reads input ≡ Ok job) × (refusal job ≡ None) × Reported job code × RunsAsListed job code × InReach job code × CodeFits code
 
 -- the input means a job that is refused so; never when out of memory
 abbrev pub IsRefused : List ℕ → EmitError → Type 0
 IsRefused input errors.OutOfMemory = ⊥
-IsRefused input error = (job : Job) × (reads input ≡ Ok job) × (refusal job.lines ≡ Some error)
+IsRefused input error = (job : Job) × (reads input ≡ Ok job) × (refusal job ≡ Some error)
 
 -- the outcome of an input that was read
 abbrev pub Means : List ℕ → Outcome → Type 0
@@ -154,8 +156,8 @@ pub record IsSettled (call : Call) (answer : Outcome) : Type 0 where
   pub usage : 0 < call.words → ¬ Rose call.write_faults call.write_faults_after → IsOrOutOfMemory answer ends.Usage
   pub too_long : Asked call → NoFault call → IfSome call.left (λ input. input_limit < length input → IsOrOutOfMemory answer ends.TooLong)
   pub syntax_line : Asked call → NoFault call → IfSome call.left (λ input. length input ≤ input_limit → (line : ℕ) → reads input ≡ Err line → IsOrOutOfMemory answer (ends.Syntax line))
-  pub refused : Asked call → NoFault call → IfSome call.left (λ input. length input ≤ input_limit → (job : Job) (error : EmitError) → reads input ≡ Ok job → refusal job.lines ≡ Some error → IsOrOutOfMemory answer (ends.Refused error))
-  pub complete : Asked call → NoFault call → IfSome call.left (λ input. length input ≤ input_limit → (job : Job) → reads input ≡ Ok job → refusal job.lines ≡ None → IsDone answer)
+  pub refused : Asked call → NoFault call → IfSome call.left (λ input. length input ≤ input_limit → (job : Job) (error : EmitError) → reads input ≡ Ok job → refusal job ≡ Some error → IsOrOutOfMemory answer (ends.Refused error))
+  pub complete : Asked call → NoFault call → IfSome call.left (λ input. length input ≤ input_limit → (job : Job) → reads input ≡ Ok job → refusal job ≡ None → IsDone answer)
 
 -- A text was written and the answer is the outcome meant, or a fault of the sink or memory ran out.
 abbrev pub WritesOutcome : Outcome → Option (List ℕ) → Option (List ℕ) → ℕ → ℕ → Outcome → Type 0

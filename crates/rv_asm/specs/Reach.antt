@@ -1,14 +1,15 @@
 -- Islands by the reported spans: that none stands earlier than it must, that Reach holds after every line, and how
 -- long code may be.
-use Rattle.std.specs.Prelude.{◌≡◌, ℕ, zero, suc, ◌+◌, ◌*◌, ◌<◌, ◌≤◌, Bool, false, not, nat_eq, nat_lt, if◌then◌else◌, List, [], ◌∷◌, ◌++◌, length, take, drop, Option, Some, None, slice_get}
+use Rattle.std.specs.Prelude.{◌≡◌, ℕ, zero, suc, ◌+◌, ◌*◌, ◌<◌, ◌≤◌, Bool, false, not, ◌&&◌, nat_eq, nat_lt, if◌then◌else◌, List, [], ◌∷◌, ◌++◌, length, take, drop, Option, Some, None, slice_get}
+use Rattle.rv_inst.specs.Context.{Context, context_of}
 use Rattle.rv_inst.specs.declared.inst.Line.{Line}
 use Rattle.rv_inst.specs.declared.inst.Line.TheVariants.{Inst as Put, Bind}
 use Rattle.rv_inst.specs.declared.job.Job.{Job}
 use Rattle.rv_inst.specs.declared.code.Code.{Code}
 use Rattle.rv_inst.specs.declared.code.LineSpan.{LineSpan}
 use Rattle.rv_inst.specs.declared.label_use.LabelUse.{LabelUse}
-use Rattle.rv_inst.specs.Operands.{named_labels}
-use Rattle.rv_inst.specs.LabelUse.{label_kinds}
+use Rattle.rv_inst.specs.Operands.{line_ways}
+use Rattle.rv_inst.specs.LabelUse.{label_kinds, has_veneer_of}
 use Rattle.mach_buffer.specs.declared.uses.Use.{Use}
 use Rattle.mach_buffer.specs.Reach.{is_reached, deadlines, CanReach}
 use Rattle.rv_inst.specs.Sizes.{line_space, Extent, Words, Island, extent_of}
@@ -27,9 +28,9 @@ abbrev pub is_island_of : Extent → ℕ → ℕ → Bool
 is_island_of (Words size) start end = false
 is_island_of (Island space) start end = nat_lt start end
 
-abbrev pub is_island : Line → ℕ → ℕ → Bool
-is_island (Put inst) start end = is_island_of (extent_of inst) start end
-is_island (Bind label) start end = false
+abbrev pub is_island : Context → Line → ℕ → ℕ → Bool
+is_island context (Put inst) start end = is_island_of (extent_of context inst) start end
+is_island context (Bind label) start end = false
 
 -- ---- no island stands early
 
@@ -38,52 +39,52 @@ abbrev pub last_island : List LineSpan → ℕ → ℕ
 last_island spans zero = 0
 last_island spans (suc i) = if is_after_island spans i then i else last_island spans i
 
--- how many labels lines name
-abbrev pub label_count : List Line → ℕ
-label_count [] = 0
-label_count (line ∷ lines) = length (named_labels line) + label_count lines
+-- to how many labels lines go, maybe by a veneer
+abbrev pub way_count : List Line → ℕ
+way_count [] = 0
+way_count (line ∷ lines) = length (line_ways line) + way_count lines
 
 -- an island at an offset is due: some line since the last island might not reach its label or a veneer, were the island put
 -- only after so many bytes more and two uses more
-pub record IsDue (lines : List Line) (spans : List LineSpan) (i at distance : ℕ) : Type 0 where
+pub record IsDue (context : Context) (lines : List Line) (spans : List LineSpan) (i at distance : ℕ) : Type 0 where
   pub index : ℕ
   pub line : Line
   pub there : slice_get lines index ≡ Some line
-  pub jumps : 1 ≤ length (named_labels line)
-  pub behind : last_island spans i ≤ index
+  pub jumps : 1 ≤ length (line_ways line)
+  pub since : last_island spans i ≤ index
   pub before : index < i
-  pub due : start_of spans index + least_reach line < at + distance + 14 + 8 * (label_count (drop (last_island spans i) (take i lines)) + 2)
+  pub due : start_of spans index + least_reach context line < at + distance + 14 + 8 * (way_count (drop (last_island spans i) (take i lines)) + 2)
 
-abbrev pub IsDueOf : List Line → List LineSpan → ℕ → Extent → Type 0
-IsDueOf lines spans i (Words size) = Unit {0}
-IsDueOf lines spans i (Island space) = start_of spans i < end_of spans i → IsDue lines spans i (start_of spans i) space
+abbrev pub IsDueOf : Context → List Line → List LineSpan → ℕ → Extent → Type 0
+IsDueOf context lines spans i (Words size) = Unit {0}
+IsDueOf context lines spans i (Island space) = start_of spans i < end_of spans i → IsDue context lines spans i (start_of spans i) space
 
-abbrev pub IslandDue : List Line → List LineSpan → ℕ → Line → Type 0
-IslandDue lines spans i (Put inst) = IsDueOf lines spans i (extent_of inst)
-IslandDue lines spans i (Bind label) = Unit {0}
+abbrev pub IslandDue : Context → List Line → List LineSpan → ℕ → Line → Type 0
+IslandDue context lines spans i (Put inst) = IsDueOf context lines spans i (extent_of context inst)
+IslandDue context lines spans i (Bind label) = Unit {0}
 
 -- no island stands before or in a line unless it is due there
-pub record NotEarly (lines : List Line) (spans : List LineSpan) : Type 0 where
-  pub before : (i : ℕ) → i < length lines → end_before spans i < start_of spans i → IsDue lines spans i (end_before spans i) line_space
-  pub within : (i : ℕ) (line : Line) → slice_get lines i ≡ Some line → IslandDue lines spans i line
+pub record NotEarly (context : Context) (lines : List Line) (spans : List LineSpan) : Type 0 where
+  pub before : (i : ℕ) → i < length lines → end_before spans i < start_of spans i → IsDue context lines spans i (end_before spans i) line_space
+  pub within : (i : ℕ) (line : Line) → slice_get lines i ≡ Some line → IslandDue context lines spans i line
 
 -- ---- Reach after every line
 
 -- the uses of lines, the first of which has an index
-abbrev pub uses_from : List LineSpan → ℕ → List Line → List (Use LabelUse)
-uses_from spans i [] = []
-uses_from spans i (Put inst ∷ lines) = uses_in (start_of spans i) inst ++ uses_from spans (suc i) lines
-uses_from spans i (Bind label ∷ lines) = uses_from spans (suc i) lines
+abbrev pub uses_from : Context → List LineSpan → ℕ → List Line → List (Use LabelUse)
+uses_from context spans i [] = []
+uses_from context spans i (Put inst ∷ lines) = uses_in context (start_of spans i) inst ++ uses_from context spans (suc i) lines
+uses_from context spans i (Bind label ∷ lines) = uses_from context spans (suc i) lines
 
 -- whether an island stands in the line of an index
-abbrev pub is_island_at : List Line → List LineSpan → ℕ → Bool
-is_island_at [] spans i = false
-is_island_at (line ∷ lines) spans i = is_island line (start_of spans i) (end_of spans i)
+abbrev pub is_island_at : Context → List Line → List LineSpan → ℕ → Bool
+is_island_at context [] spans i = false
+is_island_at context (line ∷ lines) spans i = is_island context line (start_of spans i) (end_of spans i)
 
 -- the first of so many lines whose uses no island stands after
-abbrev pub first_after_island : List Line → List LineSpan → ℕ → ℕ
-first_after_island lines spans zero = 0
-first_after_island lines spans (suc i) = if is_island_at (drop i lines) spans i then suc i else if is_after_island spans i then i else first_after_island lines spans i
+abbrev pub first_after_island : Context → List Line → List LineSpan → ℕ → ℕ
+first_after_island context lines spans zero = 0
+first_after_island context lines spans (suc i) = if is_island_at context (drop i lines) spans i then suc i else if is_after_island spans i then i else first_after_island context lines spans i
 
 -- where lines, the first of which has an index, bind a label
 abbrev pub bound_by : List LineSpan → ℕ → List Line → ℕ → Option ℕ
@@ -93,19 +94,19 @@ bound_by spans i (Put inst ∷ lines) label = bound_by spans (suc i) lines label
 
 -- the deadlines of the pending uses after so many lines: no island stands after them, and their labels are not bound
 -- within their reach
-abbrev pub pending_deadlines : List Line → List LineSpan → ℕ → List ℕ
-pending_deadlines lines spans n =
-    deadlines (λ (u : Use LabelUse). not (is_reached label_kinds (bound_by spans 0 (take n lines) u.label.number) u)) label_kinds
-    (uses_from spans (first_after_island lines spans n) (drop (first_after_island lines spans n) (take n lines)))
+abbrev pub pending_deadlines : Context → List Line → List LineSpan → ℕ → List ℕ
+pending_deadlines context lines spans n =
+    deadlines (λ (u : Use LabelUse). has_veneer_of u.kind && not (is_reached label_kinds (bound_by spans 0 (take n lines) u.label.number) u)) label_kinds
+    (uses_from context spans (first_after_island context lines spans n) (drop (first_after_island context lines spans n) (take n lines)))
 
 -- after every line, the veneers of all that is pending can still be put in time
-abbrev pub ReachesOn : List Line → List LineSpan → Type 0
-ReachesOn lines spans = (n : ℕ) → n ≤ length lines → CanReach (end_before spans n) (pending_deadlines lines spans n)
+abbrev pub ReachesOn : Context → List Line → List LineSpan → Type 0
+ReachesOn context lines spans = (n : ℕ) → n ≤ length lines → CanReach (end_before spans n) (pending_deadlines context lines spans n)
 
 -- ---- all of it
 
 -- no island is early, Reach holds after every line, and the code is no longer than its lines allow
 pub record InReach (job : Job) (code : Code) : Type 0 where
-  pub early : NotEarly job.lines code.lines
-  pub reach : ReachesOn job.lines code.lines
-  pub short : length code.bytes ≤ size_sum job.lines + 16
+  pub early : NotEarly (context_of job) job.lines code.lines
+  pub reach : ReachesOn (context_of job) job.lines code.lines
+  pub short : length code.bytes ≤ size_sum (context_of job) job.lines + 16

@@ -1,23 +1,41 @@
 -- Why a job is refused: the first cause, in the order in which the causes are looked for.
-use Rattle.std.specs.Prelude.{◌≡◌, ℕ, suc, ◌+◌, ◌^◌, Bool, false, ◌||◌, nat_eq, nat_lt, if◌then◌else◌, List, [], ◌∷◌, Option, Some, None, Result, Ok, Err}
+use Rattle.std.specs.Prelude.{◌≡◌, ℕ, suc, ◌+◌, ◌^◌, Bool, false, ◌||◌, ◌&&◌, ◌==◌, nat_eq, nat_lt, nat_le, if◌then◌else◌, List, [], ◌∷◌, Option, Some, None, Result, Ok, Err}
+use Rattle.std.specs.List.{list_any}
+use Rattle.rv_base.specs.declared.frame.FrameLayout.{FrameLayout}
 use Rattle.rv_base.specs.declared.label.MachLabel.{MachLabel}
+use Rattle.rv_base.specs.declared.regs.PReg.{PReg}
+use Rattle.rv_base.specs.declared.regs.Writable.{Writable}
+use Rattle.rv_base.specs.Frame.{sp_to_args_end}
+use Rattle.rv_inst.specs.Context.{Context, context_of}
+use Rattle.rv_inst.specs.declared.job.Job.{Job}
 use Rattle.rv_inst.specs.declared.inst.Line.{Line}
 use Rattle.rv_inst.specs.declared.inst.Line.TheVariants.{Inst as Put, Bind}
 use Rattle.rv_inst.specs.declared.error.Rule.{Rule}
 use Rattle.rv_inst.specs.declared.error.EmitError.{EmitError}
-use Rattle.rv_inst.specs.declared.error.EmitError.TheVariants.{Malformed, LabelTwice, UnboundLabel, TooLarge, OutOfMemory}
+use Rattle.rv_inst.specs.declared.error.EmitError.TheVariants.{BadFrame, Malformed, LabelTwice, UnboundLabel, TooLarge, OutOfMemory}
 use Rattle.rv_inst.specs.Operands.{named_labels}
-use Rattle.rv_inst.specs.Rules.{first_of, broken_rule}
+use Rattle.rv_inst.specs.Rules.{is_int_class, is_vector_class, first_of, broken_rule}
 use Rattle.rv_inst.specs.Sizes.{line_sum}
 
 abbrev pub malformed : ℕ → Option Rule → Option EmitError
 malformed index None = None
 malformed index (Some rule) = Some (Malformed index rule)
 
--- the first line that breaks a rule, the first of them all having an index
-abbrev pub broken_from : ℕ → List Line → Option EmitError
-broken_from index [] = None
-broken_from index (line ∷ lines) = first_of (malformed index (broken_rule line)) (broken_from (suc index) lines)
+-- a register that a frame can't save: a vector register, or x0, ra, sp, fp, x30 or x31
+abbrev pub is_unsaved : PReg → Bool
+is_unsaved p = is_vector_class p.class || (is_int_class p.class && (nat_lt p.number 3 || p.number == 8 || nat_le 30 p.number))
+
+-- the frame's sizes sum to 2^31 bytes or more, or it saves a register that it can't
+abbrev pub is_bad_frame : FrameLayout → Bool
+is_bad_frame frame = nat_le (2 ^ 31) (sp_to_args_end frame) || list_any (λ (r : Writable PReg). is_unsaved r.reg) frame.clobbered_callee_saves
+
+abbrev pub bad_frame : FrameLayout → Option EmitError
+bad_frame frame = if is_bad_frame frame then Some BadFrame else None
+
+-- the first line that breaks a rule in the context, the first of them all having an index
+abbrev pub broken_from : Context → ℕ → List Line → Option EmitError
+broken_from context index [] = None
+broken_from context index (line ∷ lines) = first_of (malformed index (broken_rule context line)) (broken_from context (suc index) lines)
 
 -- whether a line binds a label
 abbrev pub binds : Line → ℕ → Bool
@@ -53,26 +71,31 @@ unbound_in bound [] = None
 unbound_in bound (line ∷ lines) = first_of (unbound_among bound (named_labels line)) (unbound_in bound lines)
 
 -- the bytes that lines count for, which their code doesn't pass
-abbrev pub size_sum : List Line → ℕ
-size_sum [] = 0
-size_sum (line ∷ lines) = line_sum line + size_sum lines
+abbrev pub size_sum : Context → List Line → ℕ
+size_sum context [] = 0
+size_sum context (line ∷ lines) = line_sum context line + size_sum context lines
 
 -- lines count for at most this many bytes, which is well below the limit of code
 abbrev pub size_limit : ℕ
 size_limit = 2 ^ 30
 
 -- lines that count for more than branches and spans are sure to take
-abbrev pub too_large : List Line → Option EmitError
-too_large lines = if nat_lt size_limit (size_sum lines) then Some TooLarge else None
+abbrev pub too_large : Context → List Line → Option EmitError
+too_large context lines = if nat_lt size_limit (size_sum context lines) then Some TooLarge else None
 
--- why these lines are refused, if they are
-unfoldable pub refusal : List Line → Option EmitError
-refusal lines = first_of (broken_from 0 lines) (first_of (twice_from (λ label. false) lines) (first_of (unbound_in (is_bound lines) lines) (too_large lines)))
+-- why lines are refused in a context, if they are
+unfoldable pub lines_refusal : Context → List Line → Option EmitError
+lines_refusal context lines = first_of (broken_from context 0 lines) (first_of (twice_from (λ label. false) lines) (first_of (unbound_in (is_bound lines) lines) (too_large context lines)))
+
+-- why a job is refused, if it is
+unfoldable pub refusal : Job → Option EmitError
+refusal job = first_of (bad_frame job.frame) (lines_refusal (context_of job) job.lines)
 
 -- what a look for an error answers; out of memory may come at any time
 abbrev pub Finds : {X : Type 0} → Option EmitError → Result X EmitError → Type 0
 Finds found (Ok x) = found ≡ None
 Finds found (Err OutOfMemory) = Unit {0}
+Finds found (Err BadFrame) = found ≡ Some BadFrame
 Finds found (Err (Malformed index rule)) = found ≡ Some (Malformed index rule)
 Finds found (Err (LabelTwice label)) = found ≡ Some (LabelTwice label)
 Finds found (Err (UnboundLabel label)) = found ≡ Some (UnboundLabel label)

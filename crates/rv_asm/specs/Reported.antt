@@ -1,5 +1,6 @@
 -- What the code reports of its lines.
 use Rattle.std.specs.Prelude.{◌≡◌, ℕ, zero, suc, ◌+◌, ◌<◌, ◌≤◌, ◌⊎◌, List, [], ◌∷◌, ◌++◌, length, slice_get, Some, option_map, unwrap_or}
+use Rattle.rv_inst.specs.Context.{Context, context_of}
 use Rattle.rv_inst.specs.declared.inst.Line.{Line}
 use Rattle.rv_inst.specs.declared.inst.Line.TheVariants.{Inst as Put, Bind}
 use Rattle.rv_inst.specs.declared.job.Job.{Job}
@@ -49,9 +50,9 @@ IsSized flags bytes (Words size) start end = end ≡ start + size
 IsSized flags bytes (Island space) start end = IsGap flags bytes start end
 
 -- a line's span is as long as the line; that of a bind is empty
-abbrev pub IsSpan : IsaFlags → List ℕ → Line → ℕ → ℕ → Type 0
-IsSpan flags bytes (Put inst) start end = IsSized flags bytes (extent_of inst) start end
-IsSpan flags bytes (Bind label) start end = end ≡ start
+abbrev pub IsSpan : Context → List ℕ → Line → ℕ → ℕ → Type 0
+IsSpan context bytes (Put inst) start end = IsSized context.flags bytes (extent_of context inst) start end
+IsSpan context bytes (Bind label) start end = end ≡ start
 
 -- Every line has one span, in order, as long as the line. The first starts at 0; between two stands nothing, or an island.
 -- The code's end is that of the last line, its labels are the binds, and its traps are those of the lines.
@@ -59,7 +60,7 @@ pub record Reported (job : Job) (code : Code) : Type 0 where
   pub count : length code.lines ≡ length job.lines
   pub indices : (i : ℕ) (span : LineSpan) → slice_get code.lines i ≡ Some span → span.index ≡ i
   pub first : start_of code.lines 0 ≡ 0
-  pub long : (i : ℕ) (line : Line) → slice_get job.lines i ≡ Some line → IsSpan job.flags code.bytes line (start_of code.lines i) (end_of code.lines i)
+  pub long : (i : ℕ) (line : Line) → slice_get job.lines i ≡ Some line → IsSpan (context_of job) code.bytes line (start_of code.lines i) (end_of code.lines i)
   pub joined : (i : ℕ) → suc i < length job.lines → IsGap job.flags code.bytes (end_of code.lines i) (start_of code.lines (suc i))
   pub last : (i : ℕ) → suc i ≡ length job.lines → code.end ≡ end_of code.lines i
   pub none : length job.lines ≡ 0 → code.end ≡ 0

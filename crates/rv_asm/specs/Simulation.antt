@@ -8,7 +8,7 @@ use Rattle.rv_inst.specs.declared.inst.Line.{Line}
 use Rattle.rv_inst.specs.declared.inst.Line.TheVariants.{Inst as Put, Bind}
 use Rattle.rv_inst.specs.declared.job.Job.{Job}
 use Rattle.rv_inst.specs.declared.code.Code.{Code}
-use Rattle.rv_inst.specs.Meaning.{Placement, Exit, Next, To, Leave, Break, Trap, Data, exit_of, effect_of, temporaries_of}
+use Rattle.rv_inst.specs.Meaning.{Environment, Exit, Next, To, Leave, Break, Trap, Data, exit_of, effect_of, writes_of, temporaries_of, AreOutside}
 use Rattle.rv_machine.specs.State.{State, IsState, Values, AreValues, Memory, byte, wrap}
 use Rattle.rv_base.specs.declared.flags.IsaFlags.{IsaFlags}
 use Rattle.rv_machine.specs.declared.ops.MOp.TheVariants.{Base}
@@ -53,9 +53,13 @@ Leads lines code i Break q = q ≡ Stop i
 Leads lines code i (Trap cause) q = (at : ℕ) × (q ≡ Trapped i at) × IsTrapOf code i at cause
 Leads lines code i Data q = q ≡ InData i
 
--- where a line's own bytes begin and end, for code that stands at a base
-abbrev pub placement_of : Code → ℕ → ℕ → Placement
-placement_of code base i = record { start = wrap (base + start_of code.lines i); after = wrap (base + end_of code.lines i) }
+-- what a line is read among, for code that stands at a base: a label has the address of the first line that binds it
+abbrev pub environment_of : Job → Code → ℕ → ℕ → Environment
+environment_of job code base i = record { start = wrap (base + start_of code.lines i); after = wrap (base + end_of code.lines i); label = λ label. wrap (base + start_of code.lines (binding_line job.lines label)); frame = job.frame }
+
+-- a line writes no byte of the code, which stands at a base
+abbrev pub WritesOutside : Job → Code → ℕ → ℕ → Line → Values → Type 0
+WritesOutside job code base i line v = AreOutside base (length code.bytes) (writes_of (environment_of job code base i) line v)
 
 -- one line at once, from a point and values to a point and values; the line's temporaries may hold anything after it
 pub record OneLine (job : Job) (code : Code) (base : ℕ) (p : Point) (v : Values) (q : Point) (w : Values) : Type 0 where
@@ -63,8 +67,8 @@ pub record OneLine (job : Job) (code : Code) (base : ℕ) (p : Point) (v : Value
   pub line : Line
   pub at : p ≡ At index
   pub listed : slice_get job.lines index ≡ Some line
-  pub leads : Leads job.lines code index (exit_of line v) q
-  pub effect : SameBut (temporaries_of line) (effect_of (placement_of code base index) line v) w
+  pub leads : Leads job.lines code index (exit_of (environment_of job code base index) line v) q
+  pub effect : SameBut (temporaries_of line) (effect_of (environment_of job code base index) line v) w
 
 -- the address of a point, for code that stands at a base
 abbrev pub address_of : Code → ℕ → Point → ℕ
@@ -119,6 +123,7 @@ pub record Comes (job : Job) (code : Code) (base : ℕ) (p : Point) (v : Values)
   pub is_state : IsState state
   pub are_values : AreValues values
 
--- The code runs as its job says: from the start of every line, wherever the code is placed, and from all values.
+-- The code runs as its job says: from the start of every line, wherever the code is placed, and from all values from which the
+-- line doesn't write on the code.
 pub record RunsAsListed (job : Job) (code : Code) : Type 0 where
-  pub from : (base : ℕ) (symbols slots : Addresses) (i : ℕ) (s : State) (v : Values) → i < length job.lines → IsPlaced code base symbols slots s.values.mem → IsState s → AreValues v → s.pc ≡ address_of code base (At i) → Same v s.values → Comes job code base (At i) v s
+  pub from : (base : ℕ) (symbols slots : Addresses) (i : ℕ) (line : Line) (s : State) (v : Values) → slice_get job.lines i ≡ Some line → WritesOutside job code base i line v → IsPlaced code base symbols slots s.values.mem → IsState s → AreValues v → s.pc ≡ address_of code base (At i) → Same v s.values → Comes job code base (At i) v s

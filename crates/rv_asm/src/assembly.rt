@@ -1,18 +1,19 @@
 //! From lines to the code that runs as they say.
 
-ghost use Rattle.std.specs.Prelude.{◌≡◌, ℕ, [], None, IfOk, OnOk};
+ghost use Rattle.std.specs.Prelude.{◌≡◌, ℕ, ◌^◌, ◌<◌, [], None, IfOk, OnOk};
 ghost use Rattle.rv_base.specs.declared.flags.IsaFlags.{IsaFlags};
+ghost use Rattle.rv_base.specs.Frame.{sp_to_args_end};
 ghost use Rattle.rv_base.specs.Flags.{no_flags};
-ghost use Rattle.rv_base.specs.Frame.{no_frame};
 ghost use Rattle.rv_listing.specs.CodeRanges.{CodeFits};
 ghost use Rattle.rv_asm.specs.Job.{job_of};
-ghost use Rattle.rv_asm.specs.Refusal.{refusal, Finds};
+ghost use Rattle.rv_asm.specs.Refusal.{lines_refusal, refusal, Finds};
 ghost use Rattle.rv_asm.specs.Reported.{Reported};
 ghost use Rattle.rv_asm.specs.Simulation.{RunsAsListed};
 ghost use Rattle.rv_asm.specs.Reach.{InReach};
 ghost use Rattle.rv_asm.specs.FinishedCode.{IsFinished};
-ghost use Rattle.rv_asm.specs.LinesInBuffer.{context_by};
+ghost use Rattle.rv_inst.specs.Context.{context_by};
 
+use crate::frame::copy_of;
 use crate::lines::put_line;
 use crate::ranges::code_fits;
 use crate::refusal::refuse;
@@ -22,8 +23,7 @@ use rv_emit::{EmitInfo, EmitState, MachInstEmitState};
 use rv_inst::{Code, EmitError, LabelUse, Line};
 use std::alloc::Global;
 
-/// The code of a listing, which runs as its lines say. Every flag is off, the frame has no bytes, and there are no
-/// constants.
+/// The code of a listing, which runs as its lines say. Every flag is off, and there are no constants.
 pub fn assemble(
     alloc: Global,
     lines: &[Line],
@@ -32,16 +32,15 @@ pub fn assemble(
     constants: &[Constant],
 ) -> Result<Code, EmitError>
     requires flags { flags ≡ no_flags }
-    requires frame { frame.now ≡ no_frame }
     requires constants { constants.now ≡ [] }
     ensures reported { IfOk result (λ code. Reported (job_of lines.now flags frame.now constants.now) code) }
     ensures runs { IfOk result (λ code. RunsAsListed (job_of lines.now flags frame.now constants.now) code) }
     ensures reach { IfOk result (λ code. InReach (job_of lines.now flags frame.now constants.now) code) }
     ensures ranges { IfOk result CodeFits }
-    ensures refused { Finds (refusal lines.now) result }
+    ensures refused { Finds (refusal (job_of lines.now flags frame.now constants.now)) result }
 {
     refuse(alloc, lines, flags, frame, constants)?;
-    match build(alloc, lines, flags, constants) {
+    match build(alloc, lines, flags, frame, constants) {
         Ok(code) => {
             code_fits(&code);
             Ok(code)
@@ -55,14 +54,16 @@ fn build(
     alloc: Global,
     lines: &[Line],
     flags: IsaFlags,
+    frame: &FrameLayout,
     constants: &[Constant],
 ) -> Result<Code, OutOfMemory>
-    requires accepted { refusal lines.now ≡ None }
+    requires frame { sp_to_args_end frame.now < 2 ^ 31 }
+    requires accepted { lines_refusal (context_by flags frame.now []) lines.now ≡ None }
     requires constants { constants.now ≡ [] }
-    ensures { IfOk result (IsFinished (context_by flags no_frame constants.now) lines.now) }
+    ensures { IfOk result (IsFinished (context_by flags frame.now []) lines.now) }
 {
     let info = EmitInfo::new(flags);
-    let mut state = EmitState::new(FrameLayout::none(alloc));
+    let mut state = EmitState::new(copy_of(alloc, frame)?);
     let mut sink = MachBuffer::<LabelUse>::new(alloc);
     sink.register_constants(constants)?;
     let mut spans = Vec::new(alloc);

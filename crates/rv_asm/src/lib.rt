@@ -2,6 +2,7 @@
 #![tactic(auto)]
 
 mod assembly;
+mod frame;
 mod lines;
 mod outcome;
 mod program;

@@ -61,6 +61,7 @@ fn rule_name(rule: Rule) -> &'static str
         Rule::Clash => "Clash",
         Rule::BadType => "BadType",
         Rule::Range => "Range",
+        Rule::Constant => "Constant",
         Rule::NoTarget => "NoTarget",
         Rule::Label => "Label",
         Rule::DataSize => "DataSize",
@@ -109,6 +110,7 @@ fn error_line(alloc: Global, error: &EmitError) -> Result<Vec<u8>, OutOfMemory>
 {
     match error {
         EmitError::OutOfMemory => bytes_of(alloc, b"rvemit: OutOfMemory\n"),
+        EmitError::BadFrame => bytes_of(alloc, b"rvemit: BadFrame\n"),
         EmitError::Malformed { index, rule } => Ok(malformed_line(
             alloc, *index, *rule,
         )?.into_bytes()),

@@ -2,15 +2,15 @@
 
 ghost use Rattle.std.specs.Prelude.{◌≡◌, ℕ, [], ◌∷◌, ◌++◌, ◌||◌, false, nat_eq, nat_lt, IfOk, OnOk};
 ghost use Rattle.rv_inst.specs.Operands.{named_labels, inst_labels, target_labels};
-ghost use Rattle.rv_inst.specs.Families.{family_of};
-ghost use Rattle.rv_inst.specs.declared.inst.Family.TheVariants.{Control};
-ghost use Rattle.rv_asm.specs.Refusal.{size_limit, is_bound, broken_from, binds, twice_of, twice_in, twice_from, unbound_among, unbound_in, size_sum, refusal, Finds};
-ghost use Rattle.rv_inst.specs.Sizes.{line_sum, inst_sum};
+ghost use Rattle.rv_inst.specs.Context.{Context, context_by};
+ghost use Rattle.rv_asm.specs.Refusal.{size_limit, is_bound, broken_from, binds, twice_of, twice_in, twice_from, unbound_among, unbound_in, size_sum, lines_refusal, refusal, Finds};
+ghost use Rattle.rv_asm.specs.Job.{job_of};
 ghost use Rattle.rv_asm.specs.BoundLabels.{is_in};
 
+use crate::frame::is_bad_frame;
 use mach_labels::LabelTable;
 use rv_base::{Constant, FrameLayout, IsaFlags, MachLabel};
-use rv_inst::{CondBrTarget, EmitError, Family, Inst, Line};
+use rv_inst::{CondBrTarget, EmitError, Inst, Line, Targets};
 use std::alloc::Global;
 
 /// Refuses a job for its first cause, where it has one.
@@ -22,7 +22,24 @@ pub fn refuse(
     frame: &FrameLayout,
     constants: &[Constant],
 ) -> Result<(), EmitError>
-    ensures { Finds (refusal lines.now) result }
+    ensures { Finds (refusal (job_of lines.now flags frame.now constants.now)) result }
+{
+    if is_bad_frame(frame) {
+        return Err(EmitError::BadFrame);
+    }
+    refuse_lines(alloc, lines, flags, frame, constants)
+}
+
+/// Refuses lines for their first cause, where they have one.
+#[tactic(auto, unfolding(crate::specs::Refusal::lines_refusal))]
+fn refuse_lines(
+    alloc: Global,
+    lines: &[Line],
+    flags: IsaFlags,
+    frame: &FrameLayout,
+    constants: &[Constant],
+) -> Result<(), EmitError>
+    ensures { Finds (lines_refusal (context_by flags frame.now constants.now) lines.now) result }
 {
     check_rules(lines, flags, frame, constants)?;
     let bound = bind_labels(alloc, lines)?;
@@ -40,7 +57,7 @@ fn check_rules(
     frame: &FrameLayout,
     constants: &[Constant],
 ) -> Result<(), EmitError>
-    ensures { Finds (broken_from 0 lines.now) result }
+    ensures { Finds (broken_from (context_by flags frame.now constants.now) 0 lines.now) result }
 {
     for (index, line) in lines.iter().enumerate() {
         if let Some(rule) = line.check(flags, frame, constants) {
@@ -117,23 +134,10 @@ fn find_labels_of(bound: &LabelTable<()>, line: &Line) -> Result<(), EmitError>
 fn find_labels_in(bound: &LabelTable<()>, inst: &Inst) -> Result<(), EmitError>
     ensures { Finds (unbound_among (is_in bound.now) (inst_labels inst.now)) result }
 {
-    match inst.family() {
-        Family::Pseudo | Family::Integer | Family::Loop => Ok(()),
-        Family::Control => find_labels_in_control(bound, inst),
-    }
-}
-
-fn find_labels_in_control(bound: &LabelTable<()>, inst: &Inst) -> Result<(), EmitError>
-    ensures { family_of inst.now ≡ Control → Finds (unbound_among (is_in bound.now) (inst_labels inst.now)) result }
-{
-    match inst {
-        Inst::Jal { label } => find_label(bound, *label),
-        Inst::CondBr {
-            taken,
-            not_taken,
-            kind: _,
-        } => find_targets(bound, *taken, *not_taken),
-        _ => Ok(()),
+    match inst.targets() {
+        Targets::Nowhere => Ok(()),
+        Targets::Jumps(label) | Targets::Refers(label) => find_label(bound, label),
+        Targets::Branches(taken, not_taken) => find_targets(bound, taken, not_taken),
     }
 }
 
@@ -171,34 +175,15 @@ const SIZE_LIMIT: u64 = 1 << 30;
 
 /// Returns whether the lines count for more bytes than they may.
 fn is_too_large(lines: &[Line]) -> bool
-    ensures { result ≡ nat_lt size_limit (size_sum lines.now) }
+    ensures { (context : Context) → result ≡ nat_lt size_limit (size_sum context lines.now) }
 {
     let mut left = SIZE_LIMIT;
     for line in lines {
-        let sum = line_sum(line);
+        let sum = line.size_sum();
         if sum > left {
             return true;
         }
         left -= sum;
     }
     false
-}
-
-/// The bytes that a line counts for.
-fn line_sum(line: &Line) -> u64
-    ensures { result ≡ line_sum line.now }
-{
-    match line {
-        Line::Inst(inst) => inst_sum(inst),
-        Line::Bind(_) => 128,
-    }
-}
-
-fn inst_sum(inst: &Inst) -> u64
-    ensures { result ≡ inst_sum inst.now }
-{
-    match inst {
-        Inst::EmitIsland { needed_space } => 128 + *needed_space as u64,
-        _ => 128,
-    }
 }

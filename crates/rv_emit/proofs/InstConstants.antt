@@ -130,12 +130,12 @@ word_fits n =
     let same : extend_word (n % 2 ^ 32 + 0) ≡ extend_word n = ap (λ m. low64 (cast_signed w32 m)) low in
     subst (λ m. m < 2 ^ 64) same (int_fits int.Addiw (n % 2 ^ 32) 0 0 (omega arith) (lit< tt) (lit< tt))
 
-pub constant_runs : (setting : EmitVState) (rd : Writable Reg) (type : IrType) (imm : ℕ) → IsUsable rd.reg → 0 < number_of rd.reg → is_word_type type ≡ true → RunsIn setting (LoadInlineConst rd type imm)
-constant_runs setting rd I32 imm h some word = record {
-  run = λ site start after s v e. inline_out (number_of rd.reg) 4 (extend_word imm) loads.Lw (to_le_bytes w32 (imm % 2 ^ 32)) some h.1 (word_fits imm) (lit< tt) refl refl
+pub constant_runs : (site : Site) (setting : EmitVState) (rd : Writable Reg) (type : IrType) (imm : ℕ) → IsUsable rd.reg → 0 < number_of rd.reg → is_word_type type ≡ true → RunsIn site setting (LoadInlineConst rd type imm)
+constant_runs site setting rd I32 imm h some word = record {
+  run = λ start after s v e clear. inline_out (number_of rd.reg) 4 (extend_word imm) loads.Lw (to_le_bytes w32 (imm % 2 ^ 32)) some h.1 (word_fits imm) (lit< tt) refl refl
       (λ mem a there. ap (λ m. low64 (cast_signed w32 m)) (four_there mem a (imm % 2 ^ 32) (omega arith) there)) e;
 }
-constant_runs setting rd I64 imm h some word = record {
-  run = λ site start after s v e. inline_out (number_of rd.reg) 8 (wrap imm) loads.Ld (to_le_bytes w64 imm) some h.1 (omega arith) (lit< tt) refl refl (λ mem a there. eight_there mem a imm there) e;
+constant_runs site setting rd I64 imm h some word = record {
+  run = λ start after s v e clear. inline_out (number_of rd.reg) 8 (wrap imm) loads.Ld (to_le_bytes w64 imm) some h.1 (omega arith) (lit< tt) refl refl (λ mem a there. eight_there mem a imm there) e;
 }
-constant_runs setting rd _ imm h some word = absurd (cc)
+constant_runs site setting rd _ imm h some word = absurd (cc)

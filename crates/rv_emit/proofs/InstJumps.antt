@@ -40,9 +40,9 @@ jump_out {offset = offset} {s = s} label h some a b =
     let t = at pc s.values in
     label_out true label a.to t a.reaches (step_at (decoded_jump (between offset a.to)) [] t h some a.has refl) (aims_at a.to h some) (moved_beside pc (omega arith) b)
 
-pub jal_runs : (setting : EmitVState) (label : MachLabel) → RunsIn setting (Jal label)
-jal_runs setting label = record {
-  run = λ site start after s v e. jump_out label (starts_at (jump_to (Label label) ∷ []) e) (lit< tt) e.stands.1.0 (starts_beside [] e);
+pub jal_runs : (site : Site) (setting : EmitVState) (label : MachLabel) → RunsIn site setting (Jal label)
+jal_runs site setting label = record {
+  run = λ start after s v e clear. jump_out label (starts_at (jump_to (Label label) ∷ []) e) (lit< tt) e.stands.1.0 (starts_beside [] e);
 }
 
 -- ---- branches
@@ -85,7 +85,7 @@ branch_out {site} {start} {after} {s} {v} kind t f false test h1 h2 e =
     (otherwise_out e.stands.0 f (at_next 4 (at pc s.values) h refl refl e.placed) e.stands.1.1 (let ends = e.stands.2 in omega arith) (moved_beside pc (omega arith) (starts_beside [] e)))
 
 -- a branch whose taken side is a label
-pub cond_br_runs : (setting : EmitVState) (kind : IntegerCompare) (t f : CondBrTarget) → IsUsable kind.rs1 → IsUsable kind.rs2 → is_fallthrough t ≡ false → RunsIn setting (CondBr t f kind)
-cond_br_runs setting kind Fallthrough f h1 h2 aimed = absurd (cc)
-cond_br_runs setting kind (ToLabel t) Fallthrough h1 h2 aimed = record { run = λ site start after s v e. branch_out kind t Fallthrough (compares kind v) refl h1 h2 e }
-cond_br_runs setting kind (ToLabel t) (ToLabel f) h1 h2 aimed = record { run = λ site start after s v e. branch_out kind t (ToLabel f) (compares kind v) refl h1 h2 e }
+pub cond_br_runs : (site : Site) (setting : EmitVState) (kind : IntegerCompare) (t f : CondBrTarget) → IsUsable kind.rs1 → IsUsable kind.rs2 → is_fallthrough t ≡ false → RunsIn site setting (CondBr t f kind)
+cond_br_runs site setting kind Fallthrough f h1 h2 aimed = absurd (cc)
+cond_br_runs site setting kind (ToLabel t) Fallthrough h1 h2 aimed = record { run = λ start after s v e clear. branch_out kind t Fallthrough (compares kind v) refl h1 h2 e }
+cond_br_runs site setting kind (ToLabel t) (ToLabel f) h1 h2 aimed = record { run = λ start after s v e clear. branch_out kind t (ToLabel f) (compares kind v) refl h1 h2 e }

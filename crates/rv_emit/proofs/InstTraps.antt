@@ -45,14 +45,14 @@ no_operation {site} {offset} {size} {s} h some bytes =
 trap_out : {site : Site} {start after offset size : ℕ} {free : List ℕ} {v : Values} {s : State} (code : TrapCode) → IsAt site offset size s → 0 < size → IsRecorded site.traps offset code → BytesAt s.values.mem (site.base + offset) (0 ∷ 0 ∷ 0 ∷ 0 ∷ []) → start ≤ offset → offset < after → IsBeside site free v s → ComesOut site start after (Trap code) free v s
 trap_out {site} {start} {after} {offset} {size} {free} {v} {s} code h some recorded bytes le lt b = comes_out s (goes_none site.context.flags s) (offset, recorded, le, lt, h.pc, no_operation h some bytes) b
 
-pub udf_runs : (setting : EmitVState) (code : TrapCode) → RunsIn setting (Udf code)
-udf_runs setting code = record {
-  run = λ site start after s v e. let ends = e.stands.2 in trap_out code (starts_at (trap_slots code) e) (omega arith) e.stands.1.0 (e.stands.1.1.0 s.values.mem e.placed) (omega arith) (omega arith) (starts_beside [] e);
+pub udf_runs : (site : Site) (setting : EmitVState) (code : TrapCode) → RunsIn site setting (Udf code)
+udf_runs site setting code = record {
+  run = λ start after s v e clear. let ends = e.stands.2 in trap_out code (starts_at (trap_slots code) e) (omega arith) e.stands.1.0 (e.stands.1.1.0 s.values.mem e.placed) (omega arith) (omega arith) (starts_beside [] e);
 }
 
-pub raw_data_runs : (setting : EmitVState) (bytes : List ℕ) → RunsIn setting (RawData bytes)
-raw_data_runs setting bytes = record {
-  run = λ site start after s v e. comes_out s (goes_none site.context.flags s) e.pc (starts_beside [] e);
+pub raw_data_runs : (site : Site) (setting : EmitVState) (bytes : List ℕ) → RunsIn site setting (RawData bytes)
+raw_data_runs site setting bytes = record {
+  run = λ start after s v e clear. comes_out s (goes_none site.context.flags s) e.pc (starts_beside [] e);
 }
 
 -- ---- a trap where a comparison holds
@@ -99,5 +99,5 @@ trap_if_out {site} {start} {after} {s} {v} cmp code false test h1 h2 e =
     goes_out (over_goes cmp code false test h1 h2 e)
     (comes_out (at pc s.values) (goes_none site.context.flags (at pc s.values)) (omega arith) (moved_beside pc (omega arith) (starts_beside [] e)))
 
-pub trap_if_runs : (setting : EmitVState) (cmp : IntegerCompare) (code : TrapCode) → IsUsable cmp.rs1 → IsUsable cmp.rs2 → RunsIn setting (TrapIf cmp code)
-trap_if_runs setting cmp code h1 h2 = record { run = λ site start after s v e. trap_if_out cmp code (compares cmp v) refl h1 h2 e }
+pub trap_if_runs : (site : Site) (setting : EmitVState) (cmp : IntegerCompare) (code : TrapCode) → IsUsable cmp.rs1 → IsUsable cmp.rs2 → RunsIn site setting (TrapIf cmp code)
+trap_if_runs site setting cmp code h1 h2 = record { run = λ start after s v e clear. trap_if_out cmp code (compares cmp v) refl h1 h2 e }

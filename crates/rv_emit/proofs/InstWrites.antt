@@ -58,18 +58,18 @@ next_out {site} {start} {after} {s} d n x e long acts usable fits =
 
 -- ---- operations of registers and immediates
 
-pub alu_rrr_runs : (setting : EmitVState) (op : AluOPRRR) (rd : Writable Reg) (rs1 rs2 : Reg) → IsUsable rd.reg → IsUsable rs1 → IsUsable rs2 → RunsIn setting (AluRRR op rd rs1 rs2)
-alu_rrr_runs setting op rd rs1 rs2 h h1 h2 = record {
-  run = λ site start after s v e.
+pub alu_rrr_runs : (site : Site) (setting : EmitVState) (op : AluOPRRR) (rd : Writable Reg) (rs1 rs2 : Reg) → IsUsable rd.reg → IsUsable rs1 → IsUsable rs2 → RunsIn site setting (AluRRR op rd rs1 rs2)
+alu_rrr_runs site setting op rd rs1 rs2 h h1 h2 = record {
+  run = λ start after s v e clear.
       let n = number_of rd.reg in let x = number_of rs1 in let y = number_of rs2 in
       next_out (decoded_rrr op n x y) n (alu_rrr op (reg v x) (reg v y)) e (rrr_len op n x y)
       (rrr_acts op n x y s ∙ (λ i. Some (at (wrap (s.pc + 4)) (set_reg s.values n (alu_rrr op (sym (e.same.regs x h1.1) i) (sym (e.same.regs y h2.1) i))))))
       h.1 (rrr_fits op (reg v x) (reg v y) (e.are_values.fits x) (e.are_values.fits y));
 }
 
-pub alu_rri_runs : (setting : EmitVState) (op : AluOPRRI) (rd : Writable Reg) (rs : Reg) (imm : Imm12) → IsUsable rd.reg → IsUsable rs → is_out_of_range (AluRRImm12 op rd rs imm) ≡ false → RunsIn setting (AluRRImm12 op rd rs imm)
-alu_rri_runs setting op rd rs imm h h1 range = record {
-  run = λ site start after s v e.
+pub alu_rri_runs : (site : Site) (setting : EmitVState) (op : AluOPRRI) (rd : Writable Reg) (rs : Reg) (imm : Imm12) → IsUsable rd.reg → IsUsable rs → is_out_of_range (AluRRImm12 op rd rs imm) ≡ false → RunsIn site setting (AluRRImm12 op rd rs imm)
+alu_rri_runs site setting op rd rs imm h h1 range = record {
+  run = λ start after s v e clear.
       let n = number_of rd.reg in let x = number_of rs in
       next_out (decoded_rri op n x imm.value) n (alu_rri op (reg v x) imm.value) e refl
       (rri_acts op n x imm.value s
@@ -80,14 +80,14 @@ alu_rri_runs setting op rd rs imm h h1 range = record {
 
 -- ---- upper immediates, moves, and what is dropped
 
-pub lui_runs : (setting : EmitVState) (rd : Writable Reg) (imm : Imm20) → IsUsable rd.reg → RunsIn setting (Lui rd imm)
-lui_runs setting rd imm h = record {
-  run = λ site start after s v e. next_out (row (Base base_op.Lui) (number_of rd.reg) 0 0 imm.value) (number_of rd.reg) (wrap (low64 imm.value * 2 ^ 12)) e refl refl h.1 (omega arith);
+pub lui_runs : (site : Site) (setting : EmitVState) (rd : Writable Reg) (imm : Imm20) → IsUsable rd.reg → RunsIn site setting (Lui rd imm)
+lui_runs site setting rd imm h = record {
+  run = λ start after s v e clear. next_out (row (Base base_op.Lui) (number_of rd.reg) 0 0 imm.value) (number_of rd.reg) (wrap (low64 imm.value * 2 ^ 12)) e refl refl h.1 (omega arith);
 }
 
-pub auipc_runs : (setting : EmitVState) (rd : Writable Reg) (imm : Imm20) → IsUsable rd.reg → RunsIn setting (Auipc rd imm)
-auipc_runs setting rd imm h = record {
-  run = λ site start after s v e.
+pub auipc_runs : (site : Site) (setting : EmitVState) (rd : Writable Reg) (imm : Imm20) → IsUsable rd.reg → RunsIn site setting (Auipc rd imm)
+auipc_runs site setting rd imm h = record {
+  run = λ start after s v e clear.
       let n = number_of rd.reg in
       next_out (row (Base base_op.Auipc) n 0 0 imm.value) n (wrap (wrap (site.base + start) + low64 imm.value * 2 ^ 12)) e refl
       (λ i. Some (at (wrap (s.pc + 4)) (set_reg s.values n (wrap (e.pc i + low64 imm.value * 2 ^ 12)))))
@@ -105,28 +105,28 @@ move_out {site} {start} {after} {s} {v} false rd rs test h h1 e =
     (λ i. Some (at (wrap (s.pc + 4)) (set_reg s.values rd ((plus_none (reg s.values rs) (e.is_state.values.fits rs) ∙ sym (e.same.regs rs h1)) i))))
     h (e.are_values.fits rs)
 
-pub mov_runs : (setting : EmitVState) (rd : Writable Reg) (rm : Reg) (type : IrType) → IsUsable rd.reg → IsUsable rm → RunsIn setting (Mov rd rm type)
-mov_runs setting rd rm type h h1 = record { run = λ site start after s v e. move_out (nat_eq (number_of rd.reg) (number_of rm)) (number_of rd.reg) (number_of rm) refl h.1 h1.1 e }
+pub mov_runs : (site : Site) (setting : EmitVState) (rd : Writable Reg) (rm : Reg) (type : IrType) → IsUsable rd.reg → IsUsable rm → RunsIn site setting (Mov rd rm type)
+mov_runs site setting rd rm type h h1 = record { run = λ start after s v e clear. move_out (nat_eq (number_of rd.reg) (number_of rm)) (number_of rd.reg) (number_of rm) refl h.1 h1.1 e }
 
-pub mov_from_preg_runs : (setting : EmitVState) (rd : Writable Reg) (rm : PReg) → IsUsable rd.reg → IsUsable (Real rm) → RunsIn setting (MovFromPReg rd rm)
-mov_from_preg_runs setting rd rm h h1 = record { run = λ site start after s v e. move_out (nat_eq (number_of rd.reg) rm.number) (number_of rd.reg) rm.number refl h.1 h1.1 e }
+pub mov_from_preg_runs : (site : Site) (setting : EmitVState) (rd : Writable Reg) (rm : PReg) → IsUsable rd.reg → IsUsable (Real rm) → RunsIn site setting (MovFromPReg rd rm)
+mov_from_preg_runs site setting rd rm h h1 = record { run = λ start after s v e clear. move_out (nat_eq (number_of rd.reg) rm.number) (number_of rd.reg) rm.number refl h.1 h1.1 e }
 
-pub nop4_runs : (setting : EmitVState) → RunsIn setting Nop4
-nop4_runs setting = record { run = λ site start after s v e. next_out (decoded_addi 0 0 (pos 0)) 0 0 e refl refl (lit< tt) (lit< tt) }
+pub nop4_runs : (site : Site) (setting : EmitVState) → RunsIn site setting Nop4
+nop4_runs site setting = record { run = λ start after s v e clear. next_out (decoded_addi 0 0 (pos 0)) 0 0 e refl refl (lit< tt) (lit< tt) }
 
 -- ---- jumps to a register
 
-pub ret_runs : (setting : EmitVState) → RunsIn setting Ret
-ret_runs setting = record {
-  run = λ site start after s v e.
+pub ret_runs : (site : Site) (setting : EmitVState) → RunsIn site setting Ret
+ret_runs site setting = record {
+  run = λ start after s v e clear.
       let fits = e.are_values.fits 1 in let fits' = e.is_state.values.fits 1 in let same = e.same.regs 1 (lit< tt) in
       writes_out (Leave (reg v 1 / 2 * 2)) (decoded_jalr 0 1 (pos 0)) (wrap (reg s.values 1 + 0) / 2 * 2) 0 0 e refl (lit≤ tt) refl (omega arith) (omega arith) (lit< tt) (lit< tt);
 }
 
 -- it links, and reads the register before
-pub jalr_runs : (setting : EmitVState) (rd : Writable Reg) (base : Reg) (offset : Imm12) → IsUsable rd.reg → IsUsable base → RunsIn setting (Jalr rd base offset)
-jalr_runs setting rd base offset h h1 = record {
-  run = λ site start after s v e.
+pub jalr_runs : (site : Site) (setting : EmitVState) (rd : Writable Reg) (base : Reg) (offset : Imm12) → IsUsable rd.reg → IsUsable base → RunsIn site setting (Jalr rd base offset)
+jalr_runs site setting rd base offset h h1 = record {
+  run = λ start after s v e clear.
       let n = number_of rd.reg in let x = number_of base in
       let next : wrap (s.pc + 4) ≡ wrap (site.base + after) = (let pc = e.pc in let ends = e.stands.2 in omega arith) in
       let target = wrap (reg s.values x + low64 offset.value) / 2 * 2 in

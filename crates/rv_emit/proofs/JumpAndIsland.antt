@@ -104,8 +104,8 @@ puts_island old allocated mid new after_island p labels sound same_bytes windows
     }
 
 -- what one use and its word add
-pub appends : (old new : Buffer) (block : List ℕ) (u : Use LabelUse) → shape_of new ≡ with_bytes block (with_use u (shape_of old)) → IsSoundBuffer new → AppendsCode block (u ∷ []) old new
-appends old new block u e sound = record {
+pub appends : (old new : Buffer) (code : List ℕ) (u : Use LabelUse) → shape_of new ≡ with_bytes code (with_use u (shape_of old)) → IsSoundBuffer new → AppendsCode code (u ∷ []) old new
+appends old new code u e sound = record {
   bytes = ap (λ s. s.bytes) e;
   uses = ap (λ s. s.uses) e;
   places = ap (λ s. s.place) e;

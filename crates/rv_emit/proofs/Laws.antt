@@ -13,7 +13,7 @@ pub use Rattle.rv_emit.proofs.InstRuns.{inst_runs}
 pub use Rattle.rv_emit.proofs.PutsLast.{puts_last, puts_bytes, puts_uses, puts_ends}
 pub use Rattle.rv_emit.proofs.PartsPut.{gap_last, parts_last, GapPut, gap_put, PartsPut, parts_put}
 -- an instruction's parts are blocks; and what one without labels of its own adds
-pub use Rattle.rv_emit.proofs.PlainSlots.{are_blocks, appends_inst}
+pub use Rattle.rv_emit.proofs.InstSlots.{are_blocks, appends_inst}
 -- what was put into a buffer, in the finished code
 pub use Rattle.rv_emit.proofs.Standing.{place_within, slots_stand, gap_stands, parts_stand}
 pub use Rattle.rv_emit.proofs.IslandsStand.{island_is, gap_is}

@@ -33,3 +33,16 @@ mod Steps
 mod VeneerRuns
 mod Ways
 mod Words
+mod AddressRules
+mod ImmediateValues
+mod MemoryKept
+mod AddressRuns
+mod InstMemory
+mod AddressOperands
+mod FineOperands
+mod InstSlots
+mod MemorySlots
+mod PartsPatched
+mod UpperWords
+mod OffsetParts
+mod AddressesPut

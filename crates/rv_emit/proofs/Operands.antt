@@ -16,14 +16,15 @@ use Rattle.rv_base.specs.declared.trap.TrapCode.{TrapCode}
 use Rattle.mach_labels.specs.Table.{first_inner}
 use Rattle.rv_ops.specs.declared.compare.IntegerCompare.{IntegerCompare}
 use Rattle.rv_inst.specs.declared.inst.Inst.{Inst}
-use Rattle.rv_inst.specs.declared.inst.Inst.TheVariants.{Nop0, Nop4, EBreak, SequencePoint, Args, Rets, DummyUse, EmitIsland, RawData, Lui, Auipc, LoadInlineConst, AluRRR, AluRRImm12, Mov, MovFromPReg, Ret, TrapIf, Jal, CondBr, Udf, Jalr, Popcnt}
+use Rattle.rv_inst.specs.declared.inst.Inst.TheVariants.{Nop0, Nop4, EBreak, SequencePoint, Args, Rets, DummyUse, EmitIsland, RawData, Lui, Auipc, LoadInlineConst, AluRRR, AluRRImm12, Mov, MovFromPReg, Load, Store, LoadAddr, LabelAddress, Ret, TrapIf, Jal, CondBr, Udf, Jalr, Popcnt}
 use Rattle.rv_inst.specs.declared.inst.CondBrTarget.{CondBrTarget}
 use Rattle.rv_inst.specs.declared.inst.CondBrTarget.TheVariants.{Label as ToLabel, Fallthrough}
+use Rattle.rv_inst.specs.Context.{Context}
 use Rattle.rv_inst.proofs.Rules.{breaks_none}
 use Rattle.rv_inst.specs.declared.error.Rule.TheVariants as rule
 use Rattle.rv_inst.specs.Operands.{inst_registers, inst_labels, target_labels}
 use Rattle.rv_inst.specs.Rules.{is_int_class, is_virtual, is_other_class, is_reserved, same_class, is_stack_or_frame, is_zero, is_misplaced, has_zero, has_clash, is_int_type, is_word_type, has_bad_type, is_out_of_range, lacks_target, has_bad_size, is_buffer_label, inst_rule}
-use Rattle.rv_emit.specs.Usable.{IsUsable, IsListed, IsFineTarget, IsFine}
+use Rattle.rv_emit.specs.Usable.{IsUsable, IsListed, IsFineTarget}
 
 abbrev pub AreUsable : List Reg → Type 0
 AreUsable [] = Unit {0}
@@ -70,18 +71,18 @@ pub record Keeps (inst : Inst) : Type 0 where
   pub listed : list_any is_buffer_label (inst_labels inst) ≡ false
   pub sized : has_bad_size inst ≡ false
 
-pub keeps : (inst : Inst) → inst_rule inst ≡ None → Keeps inst
-keeps inst e = record {
-  real = breaks_none inst e rule.Virtual;
-  placed = breaks_none inst e rule.Class;
-  free = breaks_none inst e rule.Reserved;
-  counted = breaks_none inst e rule.Zero;
-  apart = breaks_none inst e rule.Clash;
-  typed = breaks_none inst e rule.BadType;
-  ranged = breaks_none inst e rule.Range;
-  aimed = breaks_none inst e rule.NoTarget;
-  listed = breaks_none inst e rule.Label;
-  sized = breaks_none inst e rule.DataSize;
+pub keeps : (context : Context) (inst : Inst) → inst_rule context inst ≡ None → Keeps inst
+keeps context inst e = record {
+  real = breaks_none context inst e rule.Virtual;
+  placed = breaks_none context inst e rule.Class;
+  free = breaks_none context inst e rule.Reserved;
+  counted = breaks_none context inst e rule.Zero;
+  apart = breaks_none context inst e rule.Clash;
+  typed = breaks_none context inst e rule.BadType;
+  ranged = breaks_none context inst e rule.Range;
+  aimed = breaks_none context inst e rule.NoTarget;
+  listed = breaks_none context inst e rule.Label;
+  sized = breaks_none context inst e rule.DataSize;
 }
 
 -- ---- moves
@@ -138,7 +139,7 @@ size_kept n false false four eight e = absurd (cc)
 pub data_kept : (bytes : List ℕ) → Keeps (RawData bytes) → (length bytes ≡ 4) ⊎ (length bytes ≡ 8)
 data_kept bytes k = size_kept (length bytes) (length bytes == 4) (length bytes == 8) refl refl k.sized
 
-not_false : (a : Bool) → not a ≡ false → a ≡ true
+pub not_false : (a : Bool) → not a ≡ false → a ≡ true
 not_false true e = refl
 not_false false e = absurd (cc)
 
@@ -168,44 +169,14 @@ trap_if_usable cmp code k = let all = are_usable (cmp.rs1 ∷ cmp.rs2 ∷ []) k.
 
 -- ---- what the words of an instruction ask
 
-listed : (label : MachLabel) (more : Bool) → (is_buffer_label label || more) ≡ false → IsListed label
+pub listed : (label : MachLabel) (more : Bool) → (is_buffer_label label || more) ≡ false → IsListed label
 listed label more e = below (or_left (is_buffer_label label) more e)
   where
     below : is_buffer_label label ≡ false → label.number < first_inner
     below h = grind (arith, nat_tests)
 
-listed_targets : (taken not_taken : CondBrTarget) → list_any is_buffer_label (target_labels taken ++ target_labels not_taken) ≡ false → IsFineTarget taken × IsFineTarget not_taken
+pub listed_targets : (taken not_taken : CondBrTarget) → list_any is_buffer_label (target_labels taken ++ target_labels not_taken) ≡ false → IsFineTarget taken × IsFineTarget not_taken
 listed_targets (ToLabel t) (ToLabel f) e = (listed t _ e, listed f false (or_right (is_buffer_label t) _ e))
 listed_targets (ToLabel t) Fallthrough e = (listed t _ e, tt)
 listed_targets Fallthrough (ToLabel f) e = (tt, listed f _ e)
 listed_targets Fallthrough Fallthrough e = (tt, tt)
-
-pub fine : (inst : Inst) → inst_rule inst ≡ None → IsFine inst
-fine inst e = kept inst (keeps inst e)
-  where
-    kept : (inst : Inst) → Keeps inst → IsFine inst
-    kept Nop0 k = tt
-    kept Nop4 k = tt
-    kept EBreak k = tt
-    kept SequencePoint k = tt
-    kept (Args args) k = tt
-    kept (Rets rets) k = tt
-    kept (DummyUse reg) k = tt
-    kept (EmitIsland needed_space) k = tt
-    kept (RawData bytes) k = data_kept bytes k
-    kept (Lui rd imm) k = (are_usable (rd.reg ∷ []) k.real k.placed k.free).0.0
-    kept (Auipc rd imm) k = (are_usable (rd.reg ∷ []) k.real k.placed k.free).0.0
-    kept (LoadInlineConst rd type imm) k = (constant_kept rd type imm k).usable.0
-    kept (AluRRR op rd rs1 rs2) k = let all = are_usable (rd.reg ∷ rs1 ∷ rs2 ∷ []) k.real k.placed k.free in (all.0.0, all.1.0.0, all.1.1.0.0)
-    kept (AluRRImm12 op rd rs imm) k = let all = are_usable (rd.reg ∷ rs ∷ []) k.real k.placed k.free in (all.0.0, all.1.0.0)
-    kept (Mov rd rm type) k = let both = move_usable rd rm type k in (both.0.0, both.1.0)
-    kept (MovFromPReg rd rm) k = let both = preg_usable rd rm k in (both.0.0, both.1.0)
-    kept Ret k = tt
-    kept (TrapIf cmp code) k = let both = trap_if_usable cmp code k in (both.0.0, both.1.0)
-    kept (Jal label) k = listed label _ k.listed
-    kept (CondBr taken not_taken kind) k =
-        let all = are_usable (kind.rs1 ∷ kind.rs2 ∷ []) k.real k.placed k.free in
-        let both = listed_targets taken not_taken k.listed in (all.0.0, all.1.0.0, both.0, both.1)
-    kept (Udf code) k = tt
-    kept (Jalr rd base offset) k = let all = are_usable (rd.reg ∷ base ∷ []) k.real k.placed k.free in (all.0.0, all.1.0.0)
-    kept (Popcnt sum tmp step rs type) k = let all = are_usable (sum.reg ∷ tmp.reg ∷ step.reg ∷ rs ∷ []) k.real k.placed k.free in (all.0.0, all.1.0.0, all.1.1.0.0, all.1.1.1.0.0, not_false (is_int_type type) k.typed)

@@ -374,5 +374,5 @@ count_out {site} {start} {after} {s} {v} c h e =
 abbrev pub count_of : Writable Reg → Writable Reg → Writable Reg → Reg → IrType → Count
 count_of sum tmp step rs type = record { sum = number_of sum.reg; tmp = number_of tmp.reg; step = number_of step.reg; rs = number_of rs; bits = bits_of type }
 
-pub popcnt_runs : (setting : EmitVState) (sum tmp step : Writable Reg) (rs : Reg) (type : IrType) → IsCount (count_of sum tmp step rs type) → RunsIn setting (Popcnt sum tmp step rs type)
-popcnt_runs setting sum tmp step rs type h = record { run = λ site start after s v e. count_out (count_of sum tmp step rs type) h e }
+pub popcnt_runs : (site : Site) (setting : EmitVState) (sum tmp step : Writable Reg) (rs : Reg) (type : IrType) → IsCount (count_of sum tmp step rs type) → RunsIn site setting (Popcnt sum tmp step rs type)
+popcnt_runs site setting sum tmp step rs type h = record { run = λ start after s v e clear. count_out (count_of sum tmp step rs type) h e }

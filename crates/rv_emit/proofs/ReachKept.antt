@@ -1,11 +1,14 @@
 -- How a sequence and an island keep Reach, and how many uses are pending after them.
 use Rattle.std.proofs.Common.{◌≡◌, ◌⊎◌, inl, inr, ℕ, zero, suc, ◌+◌, ◌*◌, ◌/◌, ◌≤◌, Bool, true, false, cond, List, [], ◌∷◌, ◌++◌, length, Option, Some, None, refl, ap, sym, ◌∙◌, subst, arith, ⊎_elim, append_assoc}
-use Rattle.std.specs.Prelude.{slice_get, nat_eq, if◌then◌else◌}
+use Rattle.std.specs.Prelude.{slice_get, nat_eq, ◌==◌, ◌%◌, ℤ, if◌then◌else◌}
+use Rattle.rv_machine.specs.State.{low64}
+use Rattle.rv_inst.specs.Addresses.{Location, Based, AtLabel, location_of, is_near, is_splittable, far_size, address_size, load_size_at, store_size_at}
 use Rattle.std.proofs.lemmas.Option.{same_Some}
 use Rattle.std.proofs.lemmas.List.{length-append, append-nil}
 use Rattle.rv_base.specs.declared.label.MachLabel.{MachLabel}
+use Rattle.rv_inst.specs.Context.{Context}
 use Rattle.rv_inst.specs.declared.inst.Inst.{Inst}
-use Rattle.rv_inst.specs.declared.inst.Inst.TheVariants.{Jal, CondBr, Mov, MovFromPReg, RawData, LoadInlineConst}
+use Rattle.rv_inst.specs.declared.inst.Inst.TheVariants.{CondBr, Mov, MovFromPReg, Load, Store, LoadAddr, RawData, LoadInlineConst}
 use Rattle.rv_inst.specs.Rules.{is_word_type, inst_rule}
 use Rattle.rv_base.specs.declared.ir_type.IrType.{IrType}
 use Rattle.rv_base.specs.declared.ir_type.IrType.TheVariants.{I32, I64}
@@ -13,9 +16,12 @@ use Rattle.rv_base.specs.IrType.{bits_of}
 use Rattle.rv_emit.proofs.Operands.{keeps, data_kept, constant_kept}
 use Rattle.rv_inst.specs.declared.inst.CondBrTarget.TheVariants.{Label, Fallthrough}
 use Rattle.rv_inst.specs.declared.label_use.LabelUse.{LabelUse}
-use Rattle.rv_inst.specs.declared.label_use.LabelUse.TheVariants.{Jal20, B12}
+use Rattle.rv_inst.specs.declared.label_use.LabelUse.TheVariants.{Jal20, B12, PCRelHi20, PCRelLo12I}
 use Rattle.rv_inst.specs.LabelUse.{label_kinds, has_veneer_of}
-use Rattle.rv_inst.specs.Operands.{inst_labels}
+use Rattle.rv_inst.specs.Operands.{targets_of, ways_of, inst_ways}
+use Rattle.rv_inst.specs.declared.targets.Targets.{Targets}
+use Rattle.rv_inst.specs.declared.targets.Targets.TheVariants.{Nowhere, Jumps, Branches, Refers}
+use Rattle.mach_buffer.specs.Islands.{is_far}
 use Rattle.rv_base.specs.LabelUse.{Kinds}
 use Rattle.mach_buffer.specs.declared.uses.Use.{Use}
 use Rattle.mach_buffer.specs.Reach.{CanReach, HasSlack, deadline, deadlines, is_pending, is_needed}
@@ -23,7 +29,7 @@ use Rattle.mach_buffer.specs.Buffer.{bytes_of, uses_of, place_of}
 use Rattle.mach_buffer.proofs.Laws.{deadlines_append, slack_use, slack_less, slack_not_needed, reach_from_slack}
 use Rattle.rv_emit.specs.Emitted.{Buffer, pending, AppendsCode, AppendsInst, IslandIfNeeded, CanEmit, IsBounded}
 use Rattle.rv_inst.specs.Sizes.{Extent, Words, Island, line_space, extent_of, move_size}
-use Rattle.rv_inst.specs.Uses.{use_at, uses_in}
+use Rattle.rv_inst.specs.Uses.{use_at, target_uses, uses_in}
 
 -- whether a use is pending
 abbrev pub waits : (ℕ → Option ℕ) → Use LabelUse → Bool
@@ -32,16 +38,20 @@ waits place = is_pending label_kinds place
 -- ---- uses of an instruction
 
 -- what holds of each list of uses that an instruction may have, holds of its own
-pub each_uses : (P : List (Use LabelUse) → Type 0) (start : ℕ) (inst : Inst) → P [] → ((label : MachLabel) → P (use_at start label Jal20 ∷ [])) → ((t : MachLabel) → P (use_at start t B12 ∷ [])) → ((t f : MachLabel) → P (use_at start t B12 ∷ use_at (start + 4) f Jal20 ∷ [])) → P (uses_in start inst)
-each_uses P start (Jal label) none jump one two = jump label
-each_uses P start (CondBr Fallthrough not_taken kind) none jump one two = none
-each_uses P start (CondBr (Label t) Fallthrough kind) none jump one two = one t
-each_uses P start (CondBr (Label t) (Label f) kind) none jump one two = two t f
-each_uses P start _ none jump one two = none
+pub each_uses : (P : List (Use LabelUse) → Type 0) (context : Context) (start : ℕ) (inst : Inst) → P [] → ((label : MachLabel) → P (use_at start label Jal20 ∷ [])) → ((t : MachLabel) → P (use_at start t B12 ∷ [])) → ((t f : MachLabel) → P (use_at start t B12 ∷ use_at (start + 4) f Jal20 ∷ [])) → ((label : MachLabel) → P (use_at start label PCRelHi20 ∷ use_at (start + 4) label PCRelLo12I ∷ [])) → P (uses_in context start inst)
+each_uses P context start inst none jump one two address = on (targets_of inst)
+  where
+    on : (targets : Targets) → P (target_uses start targets)
+    on Nowhere = none
+    on (Jumps label) = jump label
+    on (Branches Fallthrough not_taken) = none
+    on (Branches (Label t) Fallthrough) = one t
+    on (Branches (Label t) (Label f)) = two t f
+    on (Refers label) = address label
 
 -- at most two
-pub few_uses : (start : ℕ) (inst : Inst) → length (uses_in start inst) ≤ 2
-few_uses start inst = each_uses (λ us. length us ≤ 2) start inst (omega arith) (λ label. omega arith) (λ t. omega arith) (λ t f. omega arith)
+pub few_uses : (context : Context) (start : ℕ) (inst : Inst) → length (uses_in context start inst) ≤ 2
+few_uses context start inst = each_uses (λ us. length us ≤ 2) context start inst (omega arith) (λ label. omega arith) (λ t. omega arith) (λ t f. omega arith) (λ label. omega arith)
 
 -- what holds of each element
 abbrev pub Each : {X : Type 0} → (X → Type 0) → List X → Type 0
@@ -55,24 +65,28 @@ each_more P x xs p rest zero y h = subst P (same_Some _ _ h) p
 each_more P x xs p rest (suc k) y h = rest k y h
 
 -- what holds of each use that may stand in a sequence holds of those of an instruction
-pub each_use : (P : Use LabelUse → Type 0) (start : ℕ) (inst : Inst) → ((label : MachLabel) → P (use_at start label Jal20)) → ((label : MachLabel) → P (use_at start label B12)) → ((label : MachLabel) → P (use_at (start + 4) label Jal20)) → Each P (uses_in start inst)
-each_use P start inst jump branch second =
-    each_uses (Each P) start inst (each_none P)
+pub each_use : (P : Use LabelUse → Type 0) (context : Context) (start : ℕ) (inst : Inst) → ((label : MachLabel) → P (use_at start label Jal20)) → ((label : MachLabel) → P (use_at start label B12)) → ((label : MachLabel) → P (use_at (start + 4) label Jal20)) → ((label : MachLabel) → P (use_at start label PCRelHi20)) → ((label : MachLabel) → P (use_at (start + 4) label PCRelLo12I)) → Each P (uses_in context start inst)
+each_use P context start inst jump branch second upper lower =
+    each_uses (Each P) context start inst (each_none P)
     (λ label. each_more P _ [] (jump label) (each_none P))
     (λ t. each_more P _ [] (branch t) (each_none P))
     (λ t f. each_more P _ (use_at (start + 4) f Jal20 ∷ []) (branch t) (each_more P _ [] (second f) (each_none P)))
+    (λ label. each_more P _ (use_at (start + 4) label PCRelLo12I ∷ []) (upper label) (each_more P _ [] (lower label) (each_none P)))
 
 -- each reaches over 4094 bytes
-pub uses_far : (start : ℕ) (inst : Inst) → Each (λ u. start + 4094 ≤ deadline label_kinds u) (uses_in start inst)
-uses_far start inst = each_use (λ u. start + 4094 ≤ deadline label_kinds u) start inst (λ label. omega arith) (λ label. omega arith) (λ label. omega arith)
+pub uses_far : (context : Context) (start : ℕ) (inst : Inst) → Each (λ u. start + 4094 ≤ deadline label_kinds u) (uses_in context start inst)
+uses_far context start inst = each_use (λ u. start + 4094 ≤ deadline label_kinds u) context start inst (λ label. omega arith) (λ label. omega arith) (λ label. omega arith) (λ label. omega arith) (λ label. omega arith)
 
--- each may go by a veneer
-pub uses_kinds : (start : ℕ) (inst : Inst) → Each (λ u. has_veneer_of u.kind ≡ true) (uses_in start inst)
-uses_kinds start inst = each_use (λ u. has_veneer_of u.kind ≡ true) start inst (λ label. refl) (λ label. refl) (λ label. refl)
+-- a use may go by a veneer, or reaches all code
+abbrev pub IsServed : Use LabelUse → Type 0
+IsServed u = (has_veneer_of u.kind ≡ true) ⊎ (is_far label_kinds u ≡ true)
+
+pub uses_kinds : (context : Context) (start : ℕ) (inst : Inst) → Each IsServed (uses_in context start inst)
+uses_kinds context start inst = each_use IsServed context start inst (λ label. inl refl) (λ label. inl refl) (λ label. inl refl) (λ label. inr refl) (λ label. inr refl)
 
 -- none has a veneer yet
-pub uses_bare : (start : ℕ) (inst : Inst) → Each (λ u. u.veneer ≡ None) (uses_in start inst)
-uses_bare start inst = each_use (λ u. u.veneer ≡ None) start inst (λ label. refl) (λ label. refl) (λ label. refl)
+pub uses_bare : (context : Context) (start : ℕ) (inst : Inst) → Each (λ u. u.veneer ≡ None) (uses_in context start inst)
+uses_bare context start inst = each_use (λ u. u.veneer ≡ None) context start inst (λ label. refl) (λ label. refl) (λ label. refl) (λ label. refl) (λ label. refl)
 
 -- ---- bytes of a sequence
 
@@ -97,28 +111,59 @@ constant_short I32 word = omega arith
 constant_short I64 word = omega arith
 constant_short _ word = absurd (cc)
 
--- at most 44 bytes
-short : (inst : Inst) → inst_rule inst ≡ None → size_in (extent_of inst) ≤ 44
-short (Mov rd rm type) rule = move_short _ _
-short (MovFromPReg rd rm) rule = move_short _ _
-short (CondBr Fallthrough not_taken kind) rule = omega arith
-short (CondBr (Label t) Fallthrough kind) rule = omega arith
-short (CondBr (Label t) (Label f) kind) rule = omega arith
-short (RawData bytes) rule = data_short bytes (data_kept bytes (keeps _ rule))
-short (LoadInlineConst rd type imm) rule = constant_short type (constant_kept rd type imm (keeps _ rule)).typed
-short _ rule = omega arith
+far_short : (o : ℤ) → far_size o ≤ 20
+far_short o = on (is_splittable o) (low64 o % 4096 == 0)
+  where
+    on : (c d : Bool) → (if c then (if d then 4 else 8) else 20) ≤ 20
+    on true true = omega arith
+    on true false = omega arith
+    on false d = omega arith
 
-pub bytes_after : (inst : Inst) (old new : Buffer) → inst_rule inst ≡ None → AppendsInst inst old new → length (bytes_of new) ≤ length (bytes_of old) + 44
-bytes_after inst old new rule p =
-    let a = short inst rule in
-    let size : size_in (extent_of inst) ≡ length p.block = ap size_in p.long in
-    let b : length (bytes_of new) ≡ length (bytes_of old) + length p.block = ap length p.adds.bytes ∙ length-append (bytes_of old) p.block in
+address_short : (at : Location) → address_size at ≤ 44
+address_short (Based r o) = on (is_near o)
+  where
+    on : (c : Bool) → (if c then 4 else far_size o + 4) ≤ 44
+    on true = omega arith
+    on false = let far = far_short o in omega arith
+address_short (AtLabel l) = omega arith
+
+access_short : (o : ℤ) (c : Bool) → (if c then 4 else far_size o + 8) ≤ 44
+access_short o true = omega arith
+access_short o false = let far = far_short o in omega arith
+
+load_short : (at : Location) → load_size_at at ≤ 44
+load_short (Based r o) = access_short o (is_near o)
+load_short (AtLabel l) = omega arith
+
+store_short : (at : Location) → store_size_at at ≤ 44
+store_short (Based r o) = access_short o (is_near o)
+store_short (AtLabel l) = omega arith
+
+-- at most 44 bytes
+short : (context : Context) (inst : Inst) → inst_rule context inst ≡ None → size_in (extent_of context inst) ≤ 44
+short context (Mov rd rm type) rule = move_short _ _
+short context (MovFromPReg rd rm) rule = move_short _ _
+short context (CondBr Fallthrough not_taken kind) rule = omega arith
+short context (CondBr (Label t) Fallthrough kind) rule = omega arith
+short context (CondBr (Label t) (Label f) kind) rule = omega arith
+short context (Load rd op flags from) rule = load_short (location_of context.frame from)
+short context (Store to op flags src) rule = store_short (location_of context.frame to)
+short context (LoadAddr rd mem) rule = address_short (location_of context.frame mem)
+short context (RawData bytes) rule = data_short bytes (data_kept bytes (keeps context _ rule))
+short context (LoadInlineConst rd type imm) rule = constant_short type (constant_kept rd type imm (keeps context _ rule)).typed
+short context _ rule = omega arith
+
+pub bytes_after : (context : Context) (inst : Inst) (old new : Buffer) → inst_rule context inst ≡ None → AppendsInst context inst old new → length (bytes_of new) ≤ length (bytes_of old) + 44
+bytes_after context inst old new rule p =
+    let a = short context inst rule in
+    let size : size_in (extent_of context inst) ≡ length p.code = ap size_in p.long in
+    let b : length (bytes_of new) ≡ length (bytes_of old) + length p.code = ap length p.adds.bytes ∙ length-append (bytes_of old) p.code in
     omega arith
 
 -- ---- what is pending
 
 -- what is pending once uses are added
-pub pending_adds : {block : List ℕ} {own : List (Use LabelUse)} {old new : Buffer} → AppendsCode block own old new → pending new ≡ deadlines (waits (place_of old)) label_kinds (uses_of old ++ own)
+pub pending_adds : {code : List ℕ} {own : List (Use LabelUse)} {old new : Buffer} → AppendsCode code own old new → pending new ≡ deadlines (waits (place_of old)) label_kinds (uses_of old ++ own)
 pending_adds a = λ i. deadlines (waits (a.places i)) label_kinds (a.uses i)
 
 pub few_deadlines : {L : Type 0} (test : Use L → Bool) (kinds : Kinds L) (uses : List (Use L)) → length (deadlines test kinds uses) ≤ length uses
@@ -129,33 +174,38 @@ few_deadlines test kinds (u ∷ uses) = on (test u) (few_deadlines test kinds us
     on true le = omega arith
     on false le = omega arith
 
--- as many more as the instruction has uses, at most
-pub pending_uses : (inst : Inst) (old new : Buffer) → AppendsInst inst old new → length (pending new) ≤ length (pending old) + length (uses_in (length (bytes_of old)) inst)
-pending_uses inst old new p =
-    let own = uses_in (length (bytes_of old)) inst in
+-- what is pending after an instruction: what was before, and its own uses that are
+pending_whole : (context : Context) (inst : Inst) (old new : Buffer) → AppendsInst context inst old new → length (pending new) ≡ length (pending old) + length (deadlines (waits (place_of old)) label_kinds (uses_in context (length (bytes_of old)) inst))
+pending_whole context inst old new p =
+    let own = uses_in context (length (bytes_of old)) inst in
     let test = waits (place_of old) in
-    let whole : length (pending new) ≡ length (pending old) + length (deadlines test label_kinds own) =
-    ap length (pending_adds p.adds ∙ deadlines_append test label_kinds (uses_of old) own) ∙ length-append (pending old) (deadlines test label_kinds own) in
-    let few = few_deadlines test label_kinds own in
+    ap length (pending_adds p.adds ∙ deadlines_append test label_kinds (uses_of old) own) ∙ length-append (pending old) (deadlines test label_kinds own)
+
+pub pending_after : (context : Context) (inst : Inst) (old new : Buffer) → AppendsInst context inst old new → length (pending new) ≤ length (pending old) + 2
+pending_after context inst old new p =
+    let whole = pending_whole context inst old new p in
+    let few = few_deadlines (waits (place_of old)) label_kinds (uses_in context (length (bytes_of old)) inst) in
+    let two = few_uses context (length (bytes_of old)) inst in
     omega arith
 
-pub pending_after : (inst : Inst) (old new : Buffer) → AppendsInst inst old new → length (pending new) ≤ length (pending old) + 2
-pending_after inst old new p = let a = pending_uses inst old new p in let b = few_uses (length (bytes_of old)) inst in omega arith
-
--- none more where it names no label
-no_uses : (start : ℕ) (inst : Inst) → inst_labels inst ≡ [] → length (uses_in start inst) ≡ 0
-no_uses start (Jal label) e = absurd (cc)
-no_uses start (CondBr Fallthrough not_taken kind) e = refl
-no_uses start (CondBr (Label t) Fallthrough kind) e = absurd (cc)
-no_uses start (CondBr (Label t) (Label f) kind) e = absurd (cc)
-no_uses start _ e = refl
+-- none more where it goes to no label
+none_pending : (context : Context) (place : ℕ → Option ℕ) (start : ℕ) (inst : Inst) → inst_ways inst ≡ [] → length (deadlines (waits place) label_kinds (uses_in context start inst)) ≡ 0
+none_pending context place start inst e = on (targets_of inst) e
+  where
+    on : (targets : Targets) → ways_of targets ≡ [] → length (deadlines (waits place) label_kinds (target_uses start targets)) ≡ 0
+    on Nowhere e = refl
+    on (Jumps label) e = absurd (cc)
+    on (Branches Fallthrough not_taken) e = refl
+    on (Branches (Label t) Fallthrough) e = absurd (cc)
+    on (Branches (Label t) (Label f)) e = absurd (cc)
+    on (Refers label) e = refl
 
 -- a sequence is within its bounds
-pub block_bounds : (inst : Inst) (old new : Buffer) → inst_rule inst ≡ None → AppendsInst inst old new → IsBounded inst old new
-block_bounds inst old new rule p asks = record {
-  long = let a = bytes_after inst old new rule p in omega arith;
-  waiting = pending_after inst old new p;
-  without = λ e. let a = pending_uses inst old new p in let b = no_uses (length (bytes_of old)) inst e in omega arith;
+pub block_bounds : (context : Context) (inst : Inst) (old new : Buffer) → inst_rule context inst ≡ None → AppendsInst context inst old new → IsBounded context inst old new
+block_bounds context inst old new rule p asks = record {
+  long = let a = bytes_after context inst old new rule p in omega arith;
+  waiting = pending_after context inst old new p;
+  without = λ e. let a = pending_whole context inst old new p in let b = none_pending context (place_of old) (length (bytes_of old)) inst e in omega arith;
 }
 
 -- ---- Reach
@@ -177,16 +227,16 @@ reach_calm b calm =
     reach_from_slack (length (bytes_of b)) (pending b) (slack_less (length (bytes_of b) + line_space) 30 (length (bytes_of b)) 14 (pending b) (omega arith) (slack_not_needed (length (bytes_of b)) line_space (pending b) calm))
 
 -- and it holds after an instruction
-pub reach_after : (inst : Inst) (old new : Buffer) → CanEmit inst old → AppendsInst inst old new → CanReach (length (bytes_of new)) (pending new)
-reach_after inst old new can p =
+pub reach_after : (context : Context) (inst : Inst) (old new : Buffer) → CanEmit context inst old → AppendsInst context inst old new → CanReach (length (bytes_of new)) (pending new)
+reach_after context inst old new can p =
     let start = length (bytes_of old) in
-    let own = uses_in start inst in
+    let own = uses_in context start inst in
     let cur = length (bytes_of new) in
-    let near : cur ≤ start + 44 = bytes_after inst old new can.rule p in
-    let few : length own ≤ 2 = few_uses start inst in
+    let near : cur ≤ start + 44 = bytes_after context inst old new can.rule p in
+    let few : length own ≤ 2 = few_uses context start inst in
     let spare : HasSlack cur (14 + 8 * length own) (pending old) =
     slack_less (start + line_space) 30 cur (14 + 8 * length own) (pending old) (omega arith) (slack_not_needed start line_space (pending old) can.calm) in
-    let far : Each (λ u. cur + 14 + 8 * length own ≤ deadline label_kinds u) own = λ k u e. let f = uses_far start inst k u e in omega arith in
+    let far : Each (λ u. cur + 14 + 8 * length own ≤ deadline label_kinds u) own = λ k u e. let f = uses_far context start inst k u e in omega arith in
     reach_from_slack cur (pending new) (subst (HasSlack cur 14) (sym (pending_adds p.adds)) (slack_uses (waits (place_of old)) cur 14 (uses_of old) own far spare))
 
 -- an island leaves nothing that is pending

@@ -32,6 +32,10 @@ PutsAlone slots old new = (flags : IsaFlags) → PutsParts flags (slots_alone sl
 abbrev pub EmitsIn : Context → EmitVState → Inst → Buffer → Buffer → Type 0
 EmitsIn context setting inst old new = PutsParts context.flags (parts_of context setting inst) old new
 
--- whatever the context is
-abbrev pub Emits : Inst → Buffer → Buffer → Type 0
-Emits inst old new = (context : Context) (setting : EmitVState) → EmitsIn context setting inst old new
+-- whatever the vector unit's setting is
+abbrev pub Emits : Context → Inst → Buffer → Buffer → Type 0
+Emits context inst old new = (setting : EmitVState) → EmitsIn context setting inst old new
+
+-- and whatever the context is
+abbrev pub EmitsAnyhow : Inst → Buffer → Buffer → Type 0
+EmitsAnyhow inst old new = (context : Context) → Emits context inst old new

@@ -2,6 +2,7 @@
 use Rattle.std.specs.Prelude.{◌≡◌, ℕ, ◌+◌, ◌*◌, ◌%◌, ◌^◌, ◌<◌, ◌≤◌, ◌⊎◌, ◌≢◌, Bool, true, false, List, [], ◌∷◌, ◌++◌, length, take, Some, None}
 use Rattle.rv_base.specs.declared.flags.IsaFlags.{IsaFlags}
 use Rattle.rv_base.specs.declared.label.MachLabel.{MachLabel}
+use Rattle.rv_base.specs.Frame.{sp_to_args_end}
 use Rattle.rv_base.specs.LabelUse.{code_limit}
 use Rattle.mach_labels.specs.Table.{first_inner}
 use Rattle.rv_inst.specs.declared.inst.Inst.{Inst}
@@ -9,7 +10,8 @@ use Rattle.rv_inst.specs.declared.label_use.LabelUse.{LabelUse}
 use Rattle.rv_inst.specs.declared.label_use.LabelUse.TheVariants.{Jal20}
 use Rattle.rv_inst.specs.LabelUse.{label_kinds}
 use Rattle.rv_inst.specs.LabelUseWords.{word_bytes}
-use Rattle.rv_inst.specs.Operands.{inst_labels}
+use Rattle.rv_inst.specs.Context.{Context}
+use Rattle.rv_inst.specs.Operands.{inst_ways}
 use Rattle.rv_inst.specs.Rules.{inst_rule}
 use Rattle.rv_inst.specs.Sizes.{Words, extent_of, line_space, island_space, inst_sum}
 use Rattle.rv_inst.specs.Traps.{inst_traps}
@@ -45,8 +47,8 @@ pending b = pending_of label_kinds b
 -- ---- bytes and uses
 
 -- bytes and uses were put at the end, and no label was allocated or bound
-pub record AppendsCode (block : List ℕ) (own : List (Use LabelUse)) (old new : Buffer) : Type 0 where
-  pub bytes : bytes_of new ≡ bytes_of old ++ block
+pub record AppendsCode (code : List ℕ) (own : List (Use LabelUse)) (old new : Buffer) : Type 0 where
+  pub bytes : bytes_of new ≡ bytes_of old ++ code
   pub uses : uses_of new ≡ uses_of old ++ own
   pub places : place_of new ≡ place_of old
   pub labels : labels_of new ≡ labels_of old
@@ -54,11 +56,11 @@ pub record AppendsCode (block : List ℕ) (own : List (Use LabelUse)) (old new :
   pub sound : IsSoundBuffer new
 
 -- an instruction's bytes, as many as it is long, its uses and its traps were put at the end
-pub record AppendsInst (inst : Inst) (old new : Buffer) : Type 0 where
-  pub block : List ℕ
-  pub adds : AppendsCode block (uses_in (length (bytes_of old)) inst) old new
+pub record AppendsInst (context : Context) (inst : Inst) (old new : Buffer) : Type 0 where
+  pub code : List ℕ
+  pub adds : AppendsCode code (uses_in context (length (bytes_of old)) inst) old new
   pub traps : traps_of new ≡ traps_of old ++ inst_traps (length (bytes_of old)) (length (bytes_of new)) inst
-  pub long : extent_of inst ≡ Words (length block)
+  pub long : extent_of context inst ≡ Words (length code)
 
 -- ---- an island
 
@@ -90,13 +92,14 @@ pub record IslandIfNeeded (distance : ℕ) (old new : Buffer) (made : Bool) : Ty
 
 -- ---- an instruction
 
--- what an instruction asks of the buffer
-pub record CanEmit (inst : Inst) (b : Buffer) : Type 0 where
-  pub rule : inst_rule inst ≡ None
+-- what an instruction asks, in its context, of the buffer
+pub record CanEmit (context : Context) (inst : Inst) (b : Buffer) : Type 0 where
+  pub rule : inst_rule context inst ≡ None
+  pub frame : sp_to_args_end context.frame < 2 ^ 31
   pub sound : IsSoundBuffer b
   pub calm : is_needed (length (bytes_of b)) line_space (pending b) ≡ false
   pub few : allocated_of b < 2 ^ 29
-  pub room : length (bytes_of b) + inst_sum inst + 8 * length (pending b) + 32 < code_limit
+  pub room : length (bytes_of b) + inst_sum context inst + 8 * length (pending b) + 32 < code_limit
 
 -- ---- bounds
 
@@ -104,8 +107,8 @@ pub record CanEmit (inst : Inst) (b : Buffer) : Type 0 where
 pub record EmitBounds (inst : Inst) (old new : Buffer) : Type 0 where
   pub long : length (bytes_of new) ≤ length (bytes_of old) + 84
   pub waiting : length (pending new) ≤ length (pending old) + 2
-  pub without : inst_labels inst ≡ [] → length (pending new) ≤ length (pending old)
+  pub without : inst_ways inst ≡ [] → length (pending new) ≤ length (pending old)
 
 -- the bounds of an instruction that asks for no island
-abbrev pub IsBounded : Inst → Buffer → Buffer → Type 0
-IsBounded inst old new = island_space inst ≡ None → EmitBounds inst old new
+abbrev pub IsBounded : Context → Inst → Buffer → Buffer → Type 0
+IsBounded context inst old new = island_space context inst ≡ None → EmitBounds inst old new

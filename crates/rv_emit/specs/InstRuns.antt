@@ -1,10 +1,11 @@
 -- What it is for the parts of an instruction to run as the instruction means: links of the proof.
-use Rattle.std.specs.Prelude.{◌≡◌, ℕ, ◌+◌, ◌%◌, ◌<◌, ◌≤◌, List, length, Some, None}
+use Rattle.std.specs.Prelude.{◌≡◌, ℕ, ◌+◌, ◌%◌, ◌<◌, ◌≤◌, List, length, Some, None, unwrap_or}
+use Rattle.rv_base.specs.LabelUse.{code_limit}
 use Rattle.rv_machine.specs.Decode.{decode}
 use Rattle.rv_machine.specs.State.{State, IsState, Values, AreValues, wrap}
 use Rattle.rv_machine.specs.Steps.{fetch, iter}
 use Rattle.rv_inst.specs.declared.inst.Inst.{Inst}
-use Rattle.rv_inst.specs.Meaning.{Placement, Exit, Next, To, Leave, Break, Trap, Data, inst_exit, inst_effect, inst_temporaries}
+use Rattle.rv_inst.specs.Meaning.{Environment, Exit, Next, To, Leave, Break, Trap, Data, inst_exit, inst_effect, inst_writes, inst_temporaries, AreOutside}
 use Rattle.rv_inst.specs.SameValues.{Same, SameBut}
 use Rattle.rv_emit.specs.declared.state.EmitVState.{EmitVState}
 use Rattle.rv_emit.specs.Operations.{decoded_ebreak}
@@ -13,10 +14,13 @@ use Rattle.rv_emit.specs.Sites.{Site, IsPlacedAt, PartsStand}
 use Rattle.rv_inst.specs.Traps.{IsRecorded}
 use Rattle.rv_emit.specs.InstParts.{parts_of}
 
--- a machine at the start of parts that stand between two offsets, beside the listing's values
+-- a machine at the start of parts that stand between two offsets, beside the listing's values; the code is short enough for every
+-- distance in it, and labels are bound in it
 pub record Enters (site : Site) (start after : ℕ) (parts : List Part) (s : State) (v : Values) : Type 0 where
   pub even : start % 2 ≡ 0
   pub within : after ≤ length site.bytes
+  pub short : length site.bytes < code_limit
+  pub labels : (label at : ℕ) → site.place label ≡ Some at → at ≤ length site.bytes
   pub stands : PartsStand site start after parts
   pub placed : IsPlacedAt site s.values.mem
   pub pc : s.pc ≡ wrap (site.base + start)
@@ -55,9 +59,10 @@ pub record ComesOut (site : Site) (start after : ℕ) (exit : Exit) (free : List
   pub are_values : AreValues v
   pub placed : IsPlacedAt site state.values.mem
 
-abbrev pub placement : Site → ℕ → ℕ → Placement
-placement site start after = record { start = wrap (site.base + start); after = wrap (site.base + after) }
+-- what the parts of an instruction are read among that stand between two offsets; a label that isn't bound is at the base
+abbrev pub environment : Site → ℕ → ℕ → Environment
+environment site start after = record { start = wrap (site.base + start); after = wrap (site.base + after); label = λ label. wrap (site.base + unwrap_or (site.place label) 0); frame = site.context.frame }
 
--- the parts of an instruction run as it means, wherever they stand
-pub record RunsIn (setting : EmitVState) (inst : Inst) : Type 0 where
-  pub run : (site : Site) (start after : ℕ) (s : State) (v : Values) → Enters site start after (parts_of site.context setting inst) s v → ComesOut site start after (inst_exit inst v) (inst_temporaries inst) (inst_effect (placement site start after) inst v) s
+-- the parts of an instruction run as it means, wherever they stand in the code, where it writes no byte of the code
+pub record RunsIn (site : Site) (setting : EmitVState) (inst : Inst) : Type 0 where
+  pub run : (start after : ℕ) (s : State) (v : Values) → Enters site start after (parts_of site.context setting inst) s v → AreOutside site.base (length site.bytes) (inst_writes (environment site start after) inst v) → ComesOut site start after (inst_exit (environment site start after) inst v) (inst_temporaries inst) (inst_effect (environment site start after) inst v) s

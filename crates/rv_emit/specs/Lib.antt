@@ -12,3 +12,5 @@ pub mod InstRuns
 pub mod Standing
 pub mod Chains
 pub mod LargerMachine
+pub mod Immediates
+pub mod Places

@@ -31,6 +31,10 @@ decoded_slli rd rs shift = decoded_rri rri.Slli rd rs (pos shift)
 abbrev pub decoded_srli : ℕ → ℕ → ℕ → Decoded
 decoded_srli rd rs shift = decoded_rri rri.Srli rd rs (pos shift)
 
+-- rd is the sum of two registers
+abbrev pub decoded_add : ℕ → ℕ → ℕ → Decoded
+decoded_add rd rs1 rs2 = row (Alu (Int int.Add)) rd rs1 rs2 (pos 0)
+
 abbrev pub decoded_and : ℕ → ℕ → ℕ → Decoded
 decoded_and rd rs1 rs2 = row (Alu (Int int.And)) rd rs1 rs2 (pos 0)
 

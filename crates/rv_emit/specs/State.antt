@@ -1,7 +1,7 @@
 -- What emission knows of the vector unit's setting after an instruction.
 use Rattle.std.specs.Prelude.{Bool, true, false}
 use Rattle.rv_inst.specs.declared.inst.Inst.{Inst}
-use Rattle.rv_inst.specs.declared.inst.Inst.TheVariants.{Nop0, Nop4, EBreak, SequencePoint, Args, Rets, DummyUse, EmitIsland, RawData, Lui, Auipc, LoadInlineConst, AluRRR, AluRRImm12, Mov, MovFromPReg, Ret, TrapIf, Jal, CondBr, Udf, Jalr, Popcnt}
+use Rattle.rv_inst.specs.declared.inst.Inst.TheVariants.{Nop0, Nop4, EBreak, SequencePoint, Args, Rets, DummyUse, EmitIsland, RawData, Lui, Auipc, LoadInlineConst, AluRRR, AluRRImm12, Mov, MovFromPReg, Load, Store, LoadAddr, LabelAddress, Ret, TrapIf, Jal, CondBr, Udf, Jalr, Popcnt}
 use Rattle.rv_emit.specs.declared.state.EmitVState.{EmitVState}
 use Rattle.rv_emit.specs.declared.state.EmitVState.TheVariants.{Unknown}
 
@@ -23,6 +23,10 @@ setting_after (AluRRR op rd rs1 rs2) setting = setting
 setting_after (AluRRImm12 op rd rs imm) setting = setting
 setting_after (Mov rd rm type) setting = setting
 setting_after (MovFromPReg rd rm) setting = setting
+setting_after (Load rd op flags from) setting = setting
+setting_after (Store to op flags src) setting = setting
+setting_after (LoadAddr rd mem) setting = setting
+setting_after (LabelAddress dst label) setting = setting
 setting_after Ret setting = setting
 setting_after (TrapIf cmp code) setting = setting
 setting_after (Jal label) setting = setting

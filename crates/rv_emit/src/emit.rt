@@ -1,39 +1,38 @@
 //! Emission of an instruction.
 
-ghost use Rattle.std.specs.Prelude.{◌≡◌, length, OnOk, OnErr, true};
+ghost use Rattle.std.specs.Prelude.{◌≡◌, [], length, OnOk, OnErr, true};
 ghost use Rattle.mach_buffer.specs.Reach.{CanReach};
 ghost use Rattle.mach_buffer.specs.Buffer.{bytes_of, spoiled_of};
 ghost use Rattle.rv_emit.specs.Emitted.{pending, CanEmit, IsBounded};
 ghost use Rattle.rv_emit.specs.Emission.{Emits};
-ghost use Rattle.rv_inst.specs.Sizes.{island_space as space_of};
+ghost use Rattle.rv_inst.specs.Context.{context_by};
 
 use crate::island::emit_island_if_needed;
 use crate::sequence::put_sequence;
 use crate::state::{EmitInfo, EmitState};
 use mach_buffer::MachBuffer;
-use rv_base::OutOfMemory;
+use rv_base::{FrameLayout, IsaFlags, OutOfMemory};
 use rv_inst::{EmitError, Inst, LabelUse};
 use std::alloc::Global;
 
 /// What can be emitted into a buffer.
 pub trait MachInstEmit {
-    ghost use Rattle.std.specs.Prelude.{◌≡◌, List, length, OnOk, OnErr, IfErr, true};
+    ghost use Rattle.std.specs.Prelude.{◌≡◌, [], length, OnOk, OnErr, IfErr, true};
     ghost use Rattle.rv_inst.specs.declared.error.EmitError.TheVariants as error;
     ghost use Rattle.mach_buffer.specs.Reach.{CanReach};
     ghost use Rattle.mach_buffer.specs.Buffer.{bytes_of, spoiled_of};
-    ghost use Rattle.rv_base.specs.declared.constant.Constant.{Constant};
-    ghost use Rattle.rv_inst.specs.Context.{Context};
+    ghost use Rattle.rv_inst.specs.Context.{Context, context_by};
     ghost use Rattle.rv_emit.specs.Emitted.{Buffer, pending};
     ghost use Rattle.rv_emit.specs.declared.state.EmitVState.{EmitVState as Setting};
 
-    /// What emission asks of the buffer.
-    ghost asks: { Self → Buffer → Type 0 };
+    /// What emission asks of the buffer, in a context.
+    ghost asks: { Context → Self → Buffer → Type 0 };
 
     /// What it puts there, in a context, by the vector unit's setting known before it.
     ghost puts: { Context → Setting → Self → Buffer → Buffer → Type 0 };
 
     /// How much it puts there at most.
-    ghost bounds: { Self → Buffer → Buffer → Type 0 };
+    ghost bounds: { Context → Self → Buffer → Buffer → Type 0 };
 
     /// By the vector unit's setting known before it, that known after it.
     ghost setting_after: { Self → Setting → Setting };
@@ -46,9 +45,9 @@ pub trait MachInstEmit {
         info: &EmitInfo,
         state: &mut EmitState,
     ) -> Result<(), EmitError>
-        requires { asks self.now sink.old }
-        ensures emitted { OnOk result ((constants : List Constant) → puts (record { flags = info.now.isa_flags; frame = state.old.frame; constants = constants }) state.old.vstate self.now sink.old sink.new) }
-        ensures bounds { OnOk result (bounds self.now sink.old sink.new) }
+        requires { asks (context_by info.now.isa_flags state.old.frame []) self.now sink.old }
+        ensures emitted { OnOk result (puts (context_by info.now.isa_flags state.old.frame []) state.old.vstate self.now sink.old sink.new) }
+        ensures bounds { OnOk result (bounds (context_by info.now.isa_flags state.old.frame []) self.now sink.old sink.new) }
         ensures reach { OnOk result (CanReach (length (bytes_of sink.new)) (pending sink.new)) }
         ensures frame { state.new.frame ≡ state.old.frame }
         ensures setting { OnOk result (state.new.vstate ≡ setting_after self.now state.old.vstate) }
@@ -73,42 +72,37 @@ impl MachInstEmit for Inst {
         &self,
         _alloc: Global,
         sink: &mut MachBuffer<LabelUse>,
-        _info: &EmitInfo,
-        _state: &mut EmitState,
+        info: &EmitInfo,
+        state: &mut EmitState,
     ) -> Result<(), EmitError> {
-        match put(sink, self) {
+        match put(sink, info.isa_flags, &state.frame, self) {
             Ok(()) => Ok(()),
             Err(OutOfMemory) => Err(EmitError::OutOfMemory),
         }
     }
 }
 
-/// Puts the sequence of an instruction, or an island where the instruction asks for one.
-fn put(sink: &mut MachBuffer<LabelUse>, inst: &Inst) -> Result<(), OutOfMemory>
-    requires { CanEmit inst.now sink.old }
-    ensures emitted { OnOk result (Emits inst.now sink.old sink.new) }
-    ensures bounds { OnOk result (IsBounded inst.now sink.old sink.new) }
+/// Puts the sequence of an instruction, or an island where the instruction asks for one. No constant is registered.
+fn put(
+    sink: &mut MachBuffer<LabelUse>,
+    flags: IsaFlags,
+    frame: &FrameLayout,
+    inst: &Inst,
+) -> Result<(), OutOfMemory>
+    requires { CanEmit (context_by flags frame.now []) inst.now sink.old }
+    ensures emitted { OnOk result (Emits (context_by flags frame.now []) inst.now sink.old sink.new) }
+    ensures bounds { OnOk result (IsBounded (context_by flags frame.now []) inst.now sink.old sink.new) }
     ensures reach { OnOk result (CanReach (length (bytes_of sink.new)) (pending sink.new)) }
     ensures spoiled { OnErr result (spoiled_of sink.new ≡ true) }
 {
-    match island_space(inst) {
+    match inst.island_space() {
         Some(space) => {
             emit_island_if_needed(sink, space)?;
             Ok(())
         }
         None => {
-            put_sequence(sink, inst)?;
+            put_sequence(sink, flags, frame, inst)?;
             Ok(())
         }
-    }
-}
-
-/// How many bytes an instruction asks for an island before, where it does.
-fn island_space(inst: &Inst) -> Option<u32>
-    ensures { result ≡ space_of inst.now }
-{
-    match inst {
-        Inst::EmitIsland { needed_space } => Some(*needed_space),
-        _ => None,
     }
 }

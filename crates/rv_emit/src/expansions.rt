@@ -105,7 +105,7 @@ fn put_word_constant(
 }
 
 /// A constant of eight bytes.
-fn put_double_constant(
+pub(crate) fn put_double_constant(
     sink: &mut MachBuffer<LabelUse>,
     rd: WritableReg,
     imm: u64,

@@ -4,6 +4,7 @@ ghost use Rattle.std.specs.Prelude.{◌≡◌, ◌+◌, ◌*◌, ◌<◌, ◌^�
 ghost use Rattle.rv_base.specs.LabelUse.{code_limit};
 ghost use Rattle.mach_buffer.specs.Reach.{CanReach};
 ghost use Rattle.mach_buffer.specs.Buffer.{bytes_of, allocated_of, spoiled_of};
+ghost use Rattle.mach_buffer.specs.Shape.{inner_count};
 ghost use Rattle.rv_emit.specs.Emitted.{IsSoundBuffer, pending, AppendsIsland, IslandIfNeeded};
 
 use crate::sequence::put_jump;
@@ -18,7 +19,7 @@ pub fn emit_island_if_needed(
 ) -> Result<bool, OutOfMemory>
     requires sound { IsSoundBuffer sink.old }
     requires reach { CanReach (length (bytes_of sink.old)) (pending sink.old) }
-    requires few { allocated_of sink.old < 2 ^ 30 }
+    requires few { allocated_of sink.old < inner_count }
     requires room { length (bytes_of sink.old) + 8 * length (pending sink.old) + 32 < code_limit }
     ensures made { IfOk result (λ made. IslandIfNeeded distance sink.old sink.new made) }
     ensures refused { OnErr result (spoiled_of sink.new ≡ true) }
@@ -34,7 +35,7 @@ pub fn emit_island_if_needed(
 fn put_island(sink: &mut MachBuffer<LabelUse>) -> Result<(), OutOfMemory>
     requires sound { IsSoundBuffer sink.old }
     requires reach { CanReach (length (bytes_of sink.old)) (pending sink.old) }
-    requires few { allocated_of sink.old < 2 ^ 30 }
+    requires few { allocated_of sink.old < inner_count }
     requires room { length (bytes_of sink.old) + 8 * length (pending sink.old) + 32 < code_limit }
     ensures island { OnOk result (AppendsIsland sink.old sink.new) }
     ensures refused { OnErr result (spoiled_of sink.new ≡ true) }

@@ -4,6 +4,7 @@
 mod emit;
 mod expansions;
 mod island;
+mod memory;
 mod popcnt;
 mod sequence;
 mod state;

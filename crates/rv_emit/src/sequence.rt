@@ -1,8 +1,9 @@
 //! The words of an instruction, and its uses of labels.
 
-ghost use Rattle.std.specs.Prelude.{◌≡◌, [], ◌∷◌, ◌+◌, ◌<◌, length, OnOk, OnErr, None, Some, true};
+ghost use Rattle.std.specs.Prelude.{◌≡◌, [], ◌∷◌, ◌+◌, ◌^◌, ◌<◌, length, OnOk, OnErr, None, Some, true};
 ghost use Rattle.rv_base.specs.declared.flags.IsaFlags.{IsaFlags};
 ghost use Rattle.rv_base.specs.Regs.{number_of};
+ghost use Rattle.rv_base.specs.Frame.{sp_to_args_end};
 ghost use Rattle.rv_base.specs.LabelUse.{code_limit};
 ghost use Rattle.mach_labels.specs.Table.{first_inner};
 ghost use Rattle.rv_machine.specs.declared.decoding.Decoded.{Decoded};
@@ -11,24 +12,29 @@ ghost use Rattle.rv_ops.specs.Compare.{branch_word};
 ghost use Rattle.rv_encode.specs.Registers.{IsIntRegister};
 ghost use Rattle.rv_inst.specs.declared.label_use.LabelUse.TheVariants.{Jal20, B12};
 ghost use Rattle.rv_inst.specs.LabelUseWords.{word_bytes};
+ghost use Rattle.rv_inst.specs.Context.{Context, context_by};
 ghost use Rattle.rv_inst.specs.Rules.{inst_rule};
 ghost use Rattle.mach_buffer.specs.Buffer.{bytes_of, allocated_of, spoiled_of};
 ghost use Rattle.mach_buffer.specs.Buffer.{shape_of};
 ghost use Rattle.mach_buffer.specs.Shape.{IsKnown, with_bytes, with_use};
 ghost use Rattle.rv_emit.specs.Usable.{IsFine, IsFineBranch};
 ghost use Rattle.rv_emit.specs.Emitted.{IsSoundBuffer};
-ghost use Rattle.rv_emit.specs.Emission.{PutsAll, PutsAlone, Emits};
+ghost use Rattle.rv_emit.specs.Emission.{PutsAll, PutsAlone, Emits, EmitsAnyhow};
 ghost use Rattle.rv_emit.specs.Slots.{Label, Op};
 ghost use Rattle.rv_emit.specs.InstParts.{jump_to, branch_to, move_slots, branch_slots};
 ghost use Rattle.rv_inst.specs.Sizes.{island_space};
 ghost use Rattle.rv_inst.specs.Uses.{use_at};
 ghost use Rattle.rv_inst.specs.Families.{family_of};
-ghost use Rattle.rv_inst.specs.declared.inst.Family.TheVariants.{Pseudo, Integer, Control, Loop};
+ghost use Rattle.rv_inst.specs.declared.inst.Family.TheVariants.{Pseudo, Integer, Memory, Control, Loop};
 
 use crate::expansions::{put_bytes, put_constant, put_trap, put_trap_if};
+use crate::memory::{place_of, put_address, put_label_address, put_load, put_store};
 use crate::popcnt::put_popcnt;
 use mach_buffer::MachBuffer;
-use rv_base::{MachLabel, OutOfMemory, Reg, WritableReg, link_reg, writable_zero_reg, zero_reg};
+use rv_base::{
+    FrameLayout, IsaFlags, MachLabel, OutOfMemory, Reg, WritableReg, link_reg, writable_zero_reg,
+    zero_reg,
+};
 use rv_encode::{
     enc_auipc, enc_jalr, encode_alu_rr_imm12, encode_alu_rrr, encode_branch, encode_ebreak,
     encode_jal, encode_lui,
@@ -37,17 +43,24 @@ use rv_imms::Imm12;
 use rv_inst::{CondBrTarget, Family, Inst, LabelUse};
 use rv_ops::{AluOPRRI, IntegerCompare};
 
-/// Puts the sequence of an instruction that breaks no rule.
-pub(crate) fn put_sequence(sink: &mut MachBuffer<LabelUse>, inst: &Inst) -> Result<(), OutOfMemory>
-    requires rule { inst_rule inst.now ≡ None }
+/// Puts the sequence of an instruction that breaks no rule in its context.
+pub(crate) fn put_sequence(
+    sink: &mut MachBuffer<LabelUse>,
+    _flags: IsaFlags,
+    frame: &FrameLayout,
+    inst: &Inst,
+) -> Result<(), OutOfMemory>
+    requires rule { inst_rule (context_by _flags frame.now []) inst.now ≡ None }
+    requires frame { sp_to_args_end frame.now < 2 ^ 31 }
     requires room { length (bytes_of sink.old) + 44 < code_limit }
     requires sound { IsSoundBuffer sink.old }
-    ensures parts { island_space inst.now ≡ None → OnOk result (Emits inst.now sink.old sink.new) }
+    ensures parts { island_space (context_by _flags frame.now []) inst.now ≡ None → OnOk result (Emits (context_by _flags frame.now []) inst.now sink.old sink.new) }
     ensures refused { OnErr result (spoiled_of sink.new ≡ true) }
 {
     match inst.family() {
         Family::Pseudo => put_pseudo(sink, inst),
         Family::Integer => put_integer(sink, inst),
+        Family::Memory => put_memory(sink, frame, inst),
         Family::Control => put_control(sink, inst),
         Family::Loop => put_loop(sink, inst),
     }
@@ -57,7 +70,7 @@ fn put_pseudo(sink: &mut MachBuffer<LabelUse>, inst: &Inst) -> Result<(), OutOfM
     requires fine { IsFine inst.now }
     requires room { length (bytes_of sink.old) + 44 < code_limit }
     requires sound { IsSoundBuffer sink.old }
-    ensures parts { family_of inst.now ≡ Pseudo → island_space inst.now ≡ None → OnOk result (Emits inst.now sink.old sink.new) }
+    ensures parts { family_of inst.now ≡ Pseudo → (context : Context) → island_space context inst.now ≡ None → OnOk result (Emits context inst.now sink.old sink.new) }
     ensures refused { OnErr result (spoiled_of sink.new ≡ true) }
 {
     match inst {
@@ -75,7 +88,7 @@ fn put_integer(sink: &mut MachBuffer<LabelUse>, inst: &Inst) -> Result<(), OutOf
     requires fine { IsFine inst.now }
     requires room { length (bytes_of sink.old) + 44 < code_limit }
     requires sound { IsSoundBuffer sink.old }
-    ensures parts { family_of inst.now ≡ Integer → OnOk result (Emits inst.now sink.old sink.new) }
+    ensures parts { family_of inst.now ≡ Integer → OnOk result (EmitsAnyhow inst.now sink.old sink.new) }
     ensures refused { OnErr result (spoiled_of sink.new ≡ true) }
 {
     match inst {
@@ -132,7 +145,7 @@ fn put_control(sink: &mut MachBuffer<LabelUse>, inst: &Inst) -> Result<(), OutOf
     requires fine { IsFine inst.now }
     requires room { length (bytes_of sink.old) + 44 < code_limit }
     requires sound { IsSoundBuffer sink.old }
-    ensures parts { family_of inst.now ≡ Control → OnOk result (Emits inst.now sink.old sink.new) }
+    ensures parts { family_of inst.now ≡ Control → OnOk result (EmitsAnyhow inst.now sink.old sink.new) }
     ensures refused { OnErr result (spoiled_of sink.new ≡ true) }
 {
     match inst {
@@ -150,11 +163,43 @@ fn put_control(sink: &mut MachBuffer<LabelUse>, inst: &Inst) -> Result<(), OutOf
     }
 }
 
+fn put_memory(
+    sink: &mut MachBuffer<LabelUse>,
+    frame: &FrameLayout,
+    inst: &Inst,
+) -> Result<(), OutOfMemory>
+    requires fine { IsFine inst.now }
+    requires frame { sp_to_args_end frame.now < 2 ^ 31 }
+    requires room { length (bytes_of sink.old) + 44 < code_limit }
+    requires sound { IsSoundBuffer sink.old }
+    ensures parts { family_of inst.now ≡ Memory → (flags : IsaFlags) → OnOk result (Emits (context_by flags frame.now []) inst.now sink.old sink.new) }
+    ensures refused { OnErr result (spoiled_of sink.new ≡ true) }
+{
+    match inst {
+        Inst::Load {
+            rd,
+            op,
+            flags,
+            from,
+        } => put_load(sink, *rd, *op, flags.trap_code(), place_of(frame, *from)),
+        Inst::Store { to, op, flags, src } => put_store(
+            sink,
+            *op,
+            *src,
+            flags.trap_code(),
+            place_of(frame, *to),
+        ),
+        Inst::LoadAddr { rd, mem } => put_address(sink, *rd, place_of(frame, *mem)),
+        Inst::LabelAddress { dst, label } => put_label_address(sink, *dst, *label),
+        _ => Ok(()),
+    }
+}
+
 fn put_loop(sink: &mut MachBuffer<LabelUse>, inst: &Inst) -> Result<(), OutOfMemory>
     requires fine { IsFine inst.now }
     requires room { length (bytes_of sink.old) + 44 < code_limit }
     requires sound { IsSoundBuffer sink.old }
-    ensures parts { family_of inst.now ≡ Loop → OnOk result (Emits inst.now sink.old sink.new) }
+    ensures parts { family_of inst.now ≡ Loop → OnOk result (EmitsAnyhow inst.now sink.old sink.new) }
     ensures refused { OnErr result (spoiled_of sink.new ≡ true) }
 {
     match inst {
@@ -263,7 +308,7 @@ pub(crate) fn put_jump(sink: &mut MachBuffer<LabelUse>, label: MachLabel) -> Res
 }
 
 /// Puts a word whose distance to a label is still to come, and the use of that label.
-fn put_use(
+pub(crate) fn put_use(
     sink: &mut MachBuffer<LabelUse>,
     word: u32,
     label: MachLabel,

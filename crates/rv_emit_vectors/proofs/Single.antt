@@ -1,13 +1,16 @@
 -- A buffer of a single instruction can be emitted into and finished.
-use Rattle.std.proofs.Common.{◌≡◌, ℕ, ◌+◌, ◌≤◌, true, false, List, [], ◌∷◌, ◌++◌, length, Option, Some, None, refl, ap, sym, ◌∙◌, subst, arith}
-use Rattle.std.specs.Prelude.{slice_get, is_some}
+use Rattle.std.proofs.Common.{◌≡◌, ℕ, ◌+◌, ◌^◌, ◌<◌, ◌≤◌, true, false, List, [], ◌∷◌, ◌++◌, length, Option, Some, None, refl, ap, sym, ◌∙◌, subst, arith, ⊎_elim}
+use Rattle.std.specs.Prelude.{slice_get, is_some, unwrap_or}
 use Rattle.std.proofs.lemmas.Bool.{and_parts, eqb-true, true≢false}
 use Rattle.rv_inst.specs.Context.{Context}
 use Rattle.rv_inst.specs.declared.inst.Inst.{Inst}
-use Rattle.rv_inst.specs.declared.inst.Inst.TheVariants.{EmitIsland, Jal, CondBr}
+use Rattle.rv_base.specs.Frame.{sp_to_args_end}
+use Rattle.rv_inst.specs.declared.targets.Targets.{Targets}
+use Rattle.rv_inst.specs.declared.targets.Targets.TheVariants.{Nowhere, Jumps, Branches, Refers}
+use Rattle.rv_inst.specs.Operands.{targets_of}
 use Rattle.rv_inst.specs.declared.inst.CondBrTarget.TheVariants.{Label, Fallthrough}
 use Rattle.rv_inst.specs.declared.label_use.LabelUse.{LabelUse}
-use Rattle.rv_inst.specs.declared.label_use.LabelUse.TheVariants.{Jal20, B12}
+use Rattle.rv_inst.specs.declared.label_use.LabelUse.TheVariants.{Jal20, B12, PCRelHi20, PCRelLo12I}
 use Rattle.rv_inst.specs.LabelUse.{label_kinds}
 use Rattle.rv_inst.specs.Rules.{inst_rule}
 use Rattle.mach_buffer.specs.declared.uses.Use.{Use}
@@ -20,9 +23,9 @@ use Rattle.rv_emit.specs.Emitted.{Buffer, HasWindows, pending, AppendsInst, CanE
 use Rattle.rv_emit.specs.declared.state.EmitVState.{EmitVState}
 use Rattle.rv_emit.specs.Emission.{EmitsIn}
 use Rattle.rv_emit.specs.InstParts.{parts_of}
-use Rattle.rv_inst.specs.Uses.{use_at, uses_in}
+use Rattle.rv_inst.specs.Uses.{use_at, target_uses, uses_in}
 use Rattle.rv_inst.specs.Sizes.{line_space, island_space, inst_sum}
-use Rattle.rv_emit_vectors.specs.Single.{names_first, IsStart, HoldsOne}
+use Rattle.rv_emit_vectors.specs.Single.{are_first, names_first, IsStart, HoldsOne}
 use Rattle.rv_emit.proofs.Laws.{parts_put, are_blocks, appends_inst, Each, waits, each_none, each_more, uses_kinds}
 
 -- ---- at the start
@@ -39,19 +42,19 @@ start_windows b s =
     subst (λ (bs : List ℕ). AreWindows label_kinds bs (uses_of b)) (sym s.bytes)
     (subst (λ (us : List (Use LabelUse)). AreWindows label_kinds [] us) (sym s.uses) windows_none)
 
-plain_sum : (inst : Inst) → island_space inst ≡ None → inst_sum inst ≡ 128
-plain_sum (EmitIsland space) none = absurd (cc)
-plain_sum _ none = refl
+plain_sum : (context : Context) (inst : Inst) → island_space context inst ≡ None → inst_sum context inst ≡ 128
+plain_sum context inst none = ap (λ space. 128 + unwrap_or space 0) none
 
 -- any instruction may be put that asks for no island
-pub can_start : (inst : Inst) (b : Buffer) → inst_rule inst ≡ None → island_space inst ≡ None → IsStart b → CanEmit inst b
-can_start inst b rule none s = record {
+pub can_start : (context : Context) (inst : Inst) (b : Buffer) → sp_to_args_end context.frame < 2 ^ 31 → inst_rule context inst ≡ None → island_space context inst ≡ None → IsStart b → CanEmit context inst b
+can_start context inst b frame rule none s = record {
   rule = rule;
+  frame = frame;
   sound = s.sound;
   calm = ap (is_needed (length (bytes_of b)) line_space) (start_pending b s);
   few = let d = s.allocated in omega arith;
   room =
-      let sum = plain_sum inst none in
+      let sum = plain_sum context inst none in
       let bytes : length (bytes_of b) ≡ 0 = ap (length {A = ℕ}) s.bytes in
       let waiting : length (pending b) ≡ 0 = ap (length {A = ℕ}) (start_pending b s) in
       omega arith;
@@ -60,14 +63,18 @@ can_start inst b rule none s = record {
 -- ---- one instruction
 
 -- its uses name the label 0
-uses_first : (start : ℕ) (inst : Inst) → names_first inst ≡ true → Each (λ (u : Use LabelUse). u.label.number ≡ 0) (uses_in start inst)
-uses_first start (Jal label) h = each_more _ (use_at start label Jal20) [] (eqb-true _ _ h) (each_none _)
-uses_first start (CondBr Fallthrough not_taken kind) h = each_none _
-uses_first start (CondBr (Label t) Fallthrough kind) h = each_more _ (use_at start t B12) [] (eqb-true _ _ (and_parts _ _ h).0) (each_none _)
-uses_first start (CondBr (Label t) (Label f) kind) h = let p = and_parts _ _ h in each_more _ (use_at start t B12) (use_at (start + 4) f Jal20 ∷ []) (eqb-true _ _ p.0) (each_more _ (use_at (start + 4) f Jal20) [] (eqb-true _ _ p.1) (each_none _))
-uses_first start _ h = each_none _
+uses_first : (context : Context) (start : ℕ) (inst : Inst) → names_first inst ≡ true → Each (λ (u : Use LabelUse). u.label.number ≡ 0) (uses_in context start inst)
+uses_first context start inst h = on (targets_of inst) h
+  where
+    on : (targets : Targets) → are_first targets ≡ true → Each (λ (u : Use LabelUse). u.label.number ≡ 0) (target_uses start targets)
+    on Nowhere h = each_none _
+    on (Jumps label) h = each_more _ (use_at start label Jal20) [] (eqb-true _ _ h) (each_none _)
+    on (Branches Fallthrough not_taken) h = each_none _
+    on (Branches (Label t) Fallthrough) h = each_more _ (use_at start t B12) [] (eqb-true _ _ (and_parts _ _ h).0) (each_none _)
+    on (Branches (Label t) (Label f)) h = let p = and_parts _ _ h in each_more _ (use_at start t B12) (use_at (start + 4) f Jal20 ∷ []) (eqb-true _ _ p.0) (each_more _ (use_at (start + 4) f Jal20) [] (eqb-true _ _ p.1) (each_none _))
+    on (Refers label) h = each_more _ (use_at start label PCRelHi20) (use_at (start + 4) label PCRelLo12I ∷ []) (eqb-true _ _ h) (each_more _ (use_at (start + 4) label PCRelLo12I) [] (eqb-true _ _ h) (each_none _))
 
-pub holds_one : (context : Context) (setting : EmitVState) (inst : Inst) (old new : Buffer) → inst_rule inst ≡ None → island_space inst ≡ None → IsStart old → EmitsIn context setting inst old new → CanReach (length (bytes_of new)) (pending new) → IsBounded inst old new → HoldsOne inst new
+pub holds_one : (context : Context) (setting : EmitVState) (inst : Inst) (old new : Buffer) → inst_rule context inst ≡ None → island_space context inst ≡ None → IsStart old → EmitsIn context setting inst old new → CanReach (length (bytes_of new)) (pending new) → IsBounded context inst old new → HoldsOne inst new
 holds_one context setting inst old new rule none s e reach bounded = record {
   sound = p.adds.sound;
   windows = (parts_put context.flags (parts_of context setting inst) old new (are_blocks context setting inst rule) s.sound (start_windows old s) e).windows;
@@ -75,18 +82,18 @@ holds_one context setting inst old new rule none s e reach bounded = record {
   allocated = p.adds.allocated ∙ s.allocated;
   long = let l = (bounded none).long in let bytes : length (bytes_of old) ≡ 0 = ap (length {A = ℕ}) s.bytes in omega arith;
   waiting = let w = (bounded none).waiting in let waiting : length (pending old) ≡ 0 = ap (length {A = ℕ}) (start_pending old s) in omega arith;
-  kinds = λ j u h. uses_kinds start inst j u (own j u h);
-  bound = λ first j u h. ap (λ n. is_some (place_of new n)) (uses_first start inst first j u (own j u h)) ∙ ap is_some (ap (λ (place : ℕ → Option ℕ). place 0) p.adds.places ∙ s.first);
+  kinds = λ j u h. uses_kinds context start inst j u (own j u h);
+  bound = λ first j u h. ap (λ n. is_some (place_of new n)) (uses_first context start inst first j u (own j u h)) ∙ ap is_some (ap (λ (place : ℕ → Option ℕ). place 0) p.adds.places ∙ s.first);
 }
   where
     start : ℕ
     start = length (bytes_of old)
 
-    p : AppendsInst inst old new
+    p : AppendsInst context inst old new
     p = appends_inst context setting inst old new rule s.sound none e
 
-    own : (j : ℕ) (u : Use LabelUse) → slice_get (uses_of new) j ≡ Some u → slice_get (uses_in start inst) j ≡ Some u
-    own j u h = ap (λ (us : List (Use LabelUse)). slice_get us j) (sym (p.adds.uses ∙ ap (λ (us : List (Use LabelUse)). us ++ uses_in start inst) s.uses)) ∙ h
+    own : (j : ℕ) (u : Use LabelUse) → slice_get (uses_of new) j ≡ Some u → slice_get (uses_in context start inst) j ≡ Some u
+    own j u h = ap (λ (us : List (Use LabelUse)). slice_get us j) (sym (p.adds.uses ∙ ap (λ (us : List (Use LabelUse)). us ++ uses_in context start inst) s.uses)) ∙ h
 
 -- the buffer can be finished where its labels are bound
 pub can_finish_one : (inst : Inst) (b : Buffer) → HoldsOne inst b → names_first inst ≡ true → CanFinish label_kinds (shape_of b)
@@ -97,7 +104,7 @@ can_finish_one inst b one first =
     record {
       windows = one.windows;
       bound = one.bound first;
-      direct = λ j u h none near. absurd (true≢false (sym (one.kinds j u h) ∙ none));
+      direct = λ j u h none near. absurd (⊎_elim (λ yes. true≢false (sym yes ∙ none)) (λ far. true≢false (sym far ∙ near)) (one.kinds j u h));
       reach = veneers_reach (length (before_last (bytes_of b) (length (pending b)))) (pending b) (reaches_from_slack (length (bytes_of b)) 14 (length (before_last (bytes_of b) (length (pending b)))) (pending b) (omega (arith, near)) (slack_from_reach (length (bytes_of b)) (pending b) one.reach));
       short = omega (arith, near, long, waiting);
     }

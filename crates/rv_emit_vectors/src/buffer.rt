@@ -250,13 +250,14 @@ enum Item {
 ghost use Rattle.std.specs.Prelude.{OnOk, ℕ, ◌+◌, ◌*◌, true, is_some};
 ghost use Rattle.mach_buffer.specs.Buffer.{pending_of};
 ghost use Rattle.mach_buffer.specs.Reach.{HasSlack};
+ghost use Rattle.mach_buffer.specs.Shape.{inner_count};
 ghost use Rattle.rv_emit_vectors.specs.Kept.{IsKept, IsOneByte};
 
 /// Puts a jump of four bytes round an island, and the island.
 fn put_jump<L: MachInstLabelUse>(buffer: &mut MachBuffer<L>, kind: L) -> Result<(), OutOfMemory>
     requires kind { IsOneByte L.kinds kind }
     requires kept { IsKept L.kinds 4 buffer.old }
-    requires few { allocated_of buffer.old < 2 ^ 30 }
+    requires few { allocated_of buffer.old < inner_count }
     requires room { length (bytes_of buffer.old) + 8 * length (pending_of L.kinds buffer.old) + 14 < code_limit }
     ensures kept { OnOk result (IsKept L.kinds 4 buffer.new) }
     ensures none { OnOk result (pending_of L.kinds buffer.new ≡ []) }

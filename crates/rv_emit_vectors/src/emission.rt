@@ -1,8 +1,6 @@
 //! The words of instructions, as the manual has them, and the islands before them.
 
 ghost use Rattle.std.specs.Prelude.{◌≡◌, IfOk, None, is_some, true};
-ghost use Rattle.rv_inst.specs.Rules.{inst_rule};
-ghost use Rattle.rv_inst.specs.Sizes.{island_space};
 ghost use Rattle.rv_emit_vectors.specs.Single.{is_first, names_first, IsStart, HoldsOne};
 
 use mach_buffer::MachBuffer;
@@ -14,7 +12,7 @@ use rv_emit::{
     EmitInfo, EmitState, EmitVState, MachInstEmit, MachInstEmitState, emit_island_if_needed,
 };
 use rv_imms::{Imm12, Imm20};
-use rv_inst::{CondBrTarget, Inst, LabelUse};
+use rv_inst::{CondBrTarget, Inst, LabelUse, Targets};
 use rv_ops::{AluOPRRI, AluOPRRR, IntegerCompare};
 use std::alloc::Global;
 use std::process::Abort;
@@ -43,42 +41,12 @@ fn is_first(target: CondBrTarget) -> bool
 fn names_first(inst: &Inst) -> bool
     ensures { result ≡ names_first inst.now }
 {
-    match inst {
-        Inst::Jal { label } => label.as_u32() == 0,
-        Inst::CondBr {
-            taken,
-            not_taken,
-            kind: _,
-        } => is_first(*taken) && is_first(*not_taken),
-        Inst::Nop0
-        | Inst::Nop4
-        | Inst::EBreak
-        | Inst::SequencePoint
-        | Inst::Args { .. }
-        | Inst::Rets { .. }
-        | Inst::DummyUse { .. }
-        | Inst::EmitIsland { .. }
-        | Inst::Lui { .. }
-        | Inst::Auipc { .. }
-        | Inst::AluRRR { .. }
-        | Inst::AluRRImm12 { .. }
-        | Inst::Mov { .. }
-        | Inst::MovFromPReg { .. }
-        | Inst::Ret
-        | Inst::Jalr { .. }
-        | Inst::RawData { .. }
-        | Inst::LoadInlineConst { .. }
-        | Inst::TrapIf { .. }
-        | Inst::Udf { .. }
-        | Inst::Popcnt { .. } => true,
+    match inst.targets() {
+        Targets::Nowhere => true,
+        Targets::Jumps(label) => label.as_u32() == 0,
+        Targets::Branches(taken, not_taken) => is_first(taken) && is_first(not_taken),
+        Targets::Refers(label) => label.as_u32() == 0,
     }
-}
-
-/// Returns whether an instruction asks for an island.
-fn asks_island(inst: &Inst) -> bool
-    ensures { result ≡ is_some (island_space inst.now) }
-{
-    matches!(inst, Inst::EmitIsland { needed_space: _ })
 }
 
 /// A buffer of one instruction, which keeps the rules and asks for no island.
@@ -87,7 +55,7 @@ fn buffer_of(alloc: Global, inst: &Inst) -> Result<MachBuffer<LabelUse>, Fail>
 {
     let info = EmitInfo::new(IsaFlags::none());
     let mut state = EmitState::new(FrameLayout::none(alloc));
-    if asks_island(inst) {
+    if inst.island_space().is_some() {
         return Err(Fail::new("the instruction asks for an island"));
     }
     if inst
@@ -104,7 +72,7 @@ fn buffer_of(alloc: Global, inst: &Inst) -> Result<MachBuffer<LabelUse>, Fail>
 }
 
 /// The code of an instruction whose labels are where it starts.
-fn code_of(alloc: Global, inst: &Inst) -> Result<List<u8>, Fail> {
+pub fn code_of(alloc: Global, inst: &Inst) -> Result<List<u8>, Fail> {
     if !names_first(inst) {
         return Err(Fail::new("the instruction names a label but 0"));
     }
@@ -134,7 +102,7 @@ fn branch(taken: CondBrTarget, not_taken: CondBrTarget) -> Inst {
 }
 
 /// Stops unless these are the bytes of an instruction.
-fn assert_code(rt: &impl Abort, alloc: Global, inst: &Inst, bytes: &[u8]) -> Result<(), Fail> {
+pub fn assert_code(rt: &impl Abort, alloc: Global, inst: &Inst, bytes: &[u8]) -> Result<(), Fail> {
     let code = code_of(alloc, inst)?;
     assert_eq!(rt; code.as_slice(), bytes);
     Ok(())

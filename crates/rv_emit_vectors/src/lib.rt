@@ -6,6 +6,8 @@ mod buffer;
 #[cfg(test)]
 mod emission;
 #[cfg(test)]
+mod generators;
+#[cfg(test)]
 mod immediates;
 #[cfg(test)]
 mod label_table;

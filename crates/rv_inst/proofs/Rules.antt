@@ -4,7 +4,8 @@ use Rattle.std.specs.Prelude.{slice_get}
 use Rattle.std.specs.List.{find}
 use Rattle.rv_inst.specs.declared.inst.Inst.{Inst}
 use Rattle.rv_inst.specs.declared.error.Rule.{Rule}
-use Rattle.rv_inst.specs.declared.error.Rule.TheVariants.{Virtual, Class, Reserved, Zero, Clash, BadType, Range, NoTarget, Label, DataSize}
+use Rattle.rv_inst.specs.declared.error.Rule.TheVariants.{Virtual, Class, Reserved, Zero, Clash, BadType, Range, Constant, NoTarget, Label, DataSize}
+use Rattle.rv_inst.specs.Context.{Context}
 use Rattle.rv_inst.specs.Rules.{every_rule, breaks, inst_rule}
 
 none_passes : {A : Type 0} (p : A → Bool) (xs : List A) → find p xs ≡ None → (k : ℕ) (x : A) → slice_get xs k ≡ Some x → p x ≡ false
@@ -17,15 +18,16 @@ none_passes {A} p (y ∷ ys) e k x h = on (p y) refl e k h (none_passes p ys)
     on false fails found (suc k) h later = later found k x h
 
 -- it breaks none of them
-pub breaks_none : (inst : Inst) → inst_rule inst ≡ None → (rule : Rule) → breaks inst rule ≡ false
+pub breaks_none : (context : Context) (inst : Inst) → inst_rule context inst ≡ None → (rule : Rule) → breaks context inst rule ≡ false
 unfolding every_rule
-breaks_none inst e Virtual = none_passes (breaks inst) every_rule e 0 Virtual refl
-breaks_none inst e Class = none_passes (breaks inst) every_rule e 1 Class refl
-breaks_none inst e Reserved = none_passes (breaks inst) every_rule e 2 Reserved refl
-breaks_none inst e Zero = none_passes (breaks inst) every_rule e 3 Zero refl
-breaks_none inst e Clash = none_passes (breaks inst) every_rule e 4 Clash refl
-breaks_none inst e BadType = none_passes (breaks inst) every_rule e 5 BadType refl
-breaks_none inst e Range = none_passes (breaks inst) every_rule e 6 Range refl
-breaks_none inst e NoTarget = none_passes (breaks inst) every_rule e 7 NoTarget refl
-breaks_none inst e Label = none_passes (breaks inst) every_rule e 8 Label refl
-breaks_none inst e DataSize = none_passes (breaks inst) every_rule e 9 DataSize refl
+breaks_none context inst e Virtual = none_passes (breaks context inst) every_rule e 0 Virtual refl
+breaks_none context inst e Class = none_passes (breaks context inst) every_rule e 1 Class refl
+breaks_none context inst e Reserved = none_passes (breaks context inst) every_rule e 2 Reserved refl
+breaks_none context inst e Zero = none_passes (breaks context inst) every_rule e 3 Zero refl
+breaks_none context inst e Clash = none_passes (breaks context inst) every_rule e 4 Clash refl
+breaks_none context inst e BadType = none_passes (breaks context inst) every_rule e 5 BadType refl
+breaks_none context inst e Range = none_passes (breaks context inst) every_rule e 6 Range refl
+breaks_none context inst e Constant = none_passes (breaks context inst) every_rule e 7 Constant refl
+breaks_none context inst e NoTarget = none_passes (breaks context inst) every_rule e 8 NoTarget refl
+breaks_none context inst e Label = none_passes (breaks context inst) every_rule e 9 Label refl
+breaks_none context inst e DataSize = none_passes (breaks context inst) every_rule e 10 DataSize refl

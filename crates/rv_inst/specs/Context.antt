@@ -10,6 +10,10 @@ pub record Context : Type 0 where
   pub frame : FrameLayout
   pub constants : List Constant
 
+-- by the flags, the frame and the constants
+abbrev pub context_by : IsaFlags → FrameLayout → List Constant → Context
+context_by flags frame constants = record { flags = flags; frame = frame; constants = constants }
+
 -- the context of a job's lines
 abbrev pub context_of : Job → Context
-context_of job = record { flags = job.flags; frame = job.frame; constants = job.constants }
+context_of job = context_by job.flags job.frame job.constants

@@ -1,8 +1,8 @@
 -- The families of instructions.
 use Rattle.rv_inst.specs.declared.inst.Inst.{Inst}
-use Rattle.rv_inst.specs.declared.inst.Inst.TheVariants.{Nop0, Nop4, EBreak, SequencePoint, Args, Rets, DummyUse, EmitIsland, RawData, Lui, Auipc, LoadInlineConst, AluRRR, AluRRImm12, Mov, MovFromPReg, Ret, TrapIf, Jal, CondBr, Udf, Jalr, Popcnt}
+use Rattle.rv_inst.specs.declared.inst.Inst.TheVariants.{Nop0, Nop4, EBreak, SequencePoint, Args, Rets, DummyUse, EmitIsland, RawData, Lui, Auipc, LoadInlineConst, AluRRR, AluRRImm12, Mov, MovFromPReg, Load, Store, LoadAddr, LabelAddress, Ret, TrapIf, Jal, CondBr, Udf, Jalr, Popcnt}
 use Rattle.rv_inst.specs.declared.inst.Family.{Family}
-use Rattle.rv_inst.specs.declared.inst.Family.TheVariants.{Pseudo, Integer, Control, Loop}
+use Rattle.rv_inst.specs.declared.inst.Family.TheVariants.{Pseudo, Integer, Memory, Control, Loop}
 
 abbrev pub family_of : Inst → Family
 family_of Nop0 = Pseudo
@@ -21,6 +21,10 @@ family_of (AluRRR op rd rs1 rs2) = Integer
 family_of (AluRRImm12 op rd rs imm) = Integer
 family_of (Mov rd rm type) = Integer
 family_of (MovFromPReg rd rm) = Integer
+family_of (Load rd op flags from) = Memory
+family_of (Store to op flags src) = Memory
+family_of (LoadAddr rd mem) = Memory
+family_of (LabelAddress dst label) = Memory
 family_of Ret = Control
 family_of (TrapIf cmp code) = Control
 family_of (Jal label) = Control

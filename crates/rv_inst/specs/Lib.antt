@@ -1,5 +1,7 @@
 pub mod Families
 pub mod Operands
+pub mod Immediates
+pub mod Generators
 pub mod Islands
 pub mod LabelUse
 pub mod LabelUseBridges
@@ -13,3 +15,5 @@ pub mod RegisterTests
 pub mod Uses
 pub mod Context
 pub mod Traps
+pub mod Environments
+pub mod Addresses

@@ -1,5 +1,7 @@
 -- What a line means: what it makes of the values, and how it is left.
-use Rattle.std.specs.Prelude.{ℕ, zero, suc, ◌+◌, ◌*◌, ◌/◌, ◌%◌, ◌^◌, ◌==◌, Bool, if◌then◌else◌, List, [], ◌∷◌, ℤ}
+use Rattle.std.specs.Prelude.{◌⊎◌, ℕ, zero, suc, ◌+◌, ◌*◌, ◌/◌, ◌%◌, ◌^◌, ◌<◌, ◌≤◌, ◌==◌, Bool, if◌then◌else◌, List, [], ◌∷◌, length, slice_index, ℤ}
+use Rattle.rv_base.specs.declared.amode.AMode.{AMode}
+use Rattle.rv_base.specs.declared.frame.FrameLayout.{FrameLayout}
 use Rattle.rv_base.specs.declared.ir_type.IrType.{IrType}
 use Rattle.rv_base.specs.declared.trap.TrapCode.{TrapCode}
 use Rattle.rv_base.specs.IrType.{bits_of}
@@ -9,14 +11,17 @@ use Rattle.rv_ops.specs.declared.alu.AluOPRRR.{AluOPRRR}
 use Rattle.rv_ops.specs.declared.alu.AluOPRRI.{AluOPRRI}
 use Rattle.rv_ops.specs.declared.compare.IntegerCompare.{IntegerCompare}
 use Rattle.rv_ops.specs.Alu.{is_reversed}
-use Rattle.rv_encode.specs.Operations.{rrr_op, rri_op}
+use Rattle.rv_encode.specs.Operations.{rrr_op, rri_op, load_op, store_op}
+use Rattle.rv_inst.specs.Addresses.{Location, Based, AtLabel, location_of}
+use Rattle.rv_ops.specs.Memory.{store_size}
 use Rattle.rv_inst.specs.declared.inst.Line.{Line}
 use Rattle.rv_inst.specs.declared.inst.Line.TheVariants.{Inst as Put, Bind}
 use Rattle.rv_inst.specs.declared.inst.Inst.{Inst}
-use Rattle.rv_inst.specs.declared.inst.Inst.TheVariants.{Nop0, Nop4, EBreak, SequencePoint, Args, Rets, DummyUse, EmitIsland, RawData, Lui, Auipc, LoadInlineConst, AluRRR, AluRRImm12, Mov, MovFromPReg, Ret, TrapIf, Jal, CondBr, Udf, Jalr, Popcnt}
+use Rattle.rv_inst.specs.declared.inst.Inst.TheVariants.{Nop0, Nop4, EBreak, SequencePoint, Args, Rets, DummyUse, EmitIsland, RawData, Lui, Auipc, LoadInlineConst, AluRRR, AluRRImm12, Mov, MovFromPReg, Load, Store, LoadAddr, LabelAddress, Ret, TrapIf, Jal, CondBr, Udf, Jalr, Popcnt}
 use Rattle.rv_inst.specs.declared.inst.CondBrTarget.{CondBrTarget}
 use Rattle.rv_inst.specs.declared.inst.CondBrTarget.TheVariants.{Label, Fallthrough}
-use Rattle.rv_machine.specs.State.{Values, reg, set_reg, wrap, low64}
+use Rattle.rv_machine.specs.State.{Values, reg, set_reg, store, wrap, low64}
+use Rattle.rv_machine.specs.Memory.{load_result, store_bytes}
 use Rattle.rv_machine.specs.Arithmetic.{extend_word}
 use Rattle.rv_machine.specs.Effects.{alu_result}
 
@@ -39,41 +44,104 @@ abbrev pub ones : ℕ → ℕ → ℕ
 ones zero n = 0
 ones (suc bits) n = n % 2 + ones bits (n / 2)
 
--- where a line's own bytes begin and end in the memory
-pub record Placement : Type 0 where
+-- What a line is read among: the addresses of its first byte, of the byte after its last, and of labels by their numbers; and
+-- the frame.
+pub record Environment : Type 0 where
   pub start : ℕ
   pub after : ℕ
+  pub label : ℕ → ℕ
+  pub frame : FrameLayout
+
+-- the address of a location
+abbrev pub address_at : Environment → Values → Location → ℕ
+address_at env v (Based r o) = wrap (reg v r + low64 o)
+address_at env v (AtLabel l) = env.label l.number
+
+-- the address of a load or a store
+abbrev pub address_of : Environment → AMode → Values → ℕ
+address_of env mode v = address_at env v (location_of env.frame mode)
+
+-- so many addresses, one after the other, from one on
+abbrev pub addresses_from : ℕ → ℕ → List ℕ
+addresses_from a zero = []
+addresses_from a (suc n) = a ∷ addresses_from (wrap (a + 1)) n
+
+-- bytes go to an address
+abbrev pub put_bytes : Values → ℕ → List ℕ → Values
+put_bytes v a bytes = record { regs = v.regs; mem = store v.mem a bytes }
 
 -- what an instruction makes of the values; a jump to a register links
-abbrev pub inst_effect : Placement → Inst → Values → Values
-inst_effect at Nop0 v = v
-inst_effect at Nop4 v = v
-inst_effect at EBreak v = v
-inst_effect at SequencePoint v = v
-inst_effect at (Args args) v = v
-inst_effect at (Rets rets) v = v
-inst_effect at (DummyUse reg) v = v
-inst_effect at (EmitIsland needed_space) v = v
-inst_effect at (RawData bytes) v = v
-inst_effect at (Lui rd imm) v = set_reg v (number_of rd.reg) (wrap (low64 imm.value * 2 ^ 12))
-inst_effect at (Auipc rd imm) v = set_reg v (number_of rd.reg) (wrap (at.start + low64 imm.value * 2 ^ 12))
-inst_effect at (LoadInlineConst rd type imm) v = set_reg v (number_of rd.reg) (constant_of type imm)
-inst_effect at (AluRRR op rd rs1 rs2) v = set_reg v (number_of rd.reg) (alu_rrr op (reg v (number_of rs1)) (reg v (number_of rs2)))
-inst_effect at (AluRRImm12 op rd rs imm) v = set_reg v (number_of rd.reg) (alu_rri op (reg v (number_of rs)) imm.value)
-inst_effect at (Mov rd rm type) v = set_reg v (number_of rd.reg) (reg v (number_of rm))
-inst_effect at (MovFromPReg rd rm) v = set_reg v (number_of rd.reg) (reg v rm.number)
-inst_effect at Ret v = v
-inst_effect at (TrapIf cmp code) v = v
-inst_effect at (Jal label) v = v
-inst_effect at (CondBr taken not_taken kind) v = v
-inst_effect at (Udf code) v = v
-inst_effect at (Jalr rd base offset) v = set_reg v (number_of rd.reg) at.after
-inst_effect at (Popcnt sum tmp step rs type) v = set_reg v (number_of sum.reg) (ones (bits_of type) (reg v (number_of rs)))
+abbrev pub inst_effect : Environment → Inst → Values → Values
+inst_effect env Nop0 v = v
+inst_effect env Nop4 v = v
+inst_effect env EBreak v = v
+inst_effect env SequencePoint v = v
+inst_effect env (Args args) v = v
+inst_effect env (Rets rets) v = v
+inst_effect env (DummyUse reg) v = v
+inst_effect env (EmitIsland needed_space) v = v
+inst_effect env (RawData bytes) v = v
+inst_effect env (Lui rd imm) v = set_reg v (number_of rd.reg) (wrap (low64 imm.value * 2 ^ 12))
+inst_effect env (Auipc rd imm) v = set_reg v (number_of rd.reg) (wrap (env.start + low64 imm.value * 2 ^ 12))
+inst_effect env (LoadInlineConst rd type imm) v = set_reg v (number_of rd.reg) (constant_of type imm)
+inst_effect env (AluRRR op rd rs1 rs2) v = set_reg v (number_of rd.reg) (alu_rrr op (reg v (number_of rs1)) (reg v (number_of rs2)))
+inst_effect env (AluRRImm12 op rd rs imm) v = set_reg v (number_of rd.reg) (alu_rri op (reg v (number_of rs)) imm.value)
+inst_effect env (Mov rd rm type) v = set_reg v (number_of rd.reg) (reg v (number_of rm))
+inst_effect env (MovFromPReg rd rm) v = set_reg v (number_of rd.reg) (reg v rm.number)
+inst_effect env (Load rd op flags from) v = set_reg v (number_of rd.reg) (load_result (load_op op) v.mem (address_of env from v))
+inst_effect env (Store to op flags src) v = put_bytes v (address_of env to v) (store_bytes (store_op op) (reg v (number_of src)))
+inst_effect env (LoadAddr rd mem) v = set_reg v (number_of rd.reg) (address_of env mem v)
+inst_effect env (LabelAddress dst label) v = set_reg v (number_of dst.reg) (env.label label.number)
+inst_effect env Ret v = v
+inst_effect env (TrapIf cmp code) v = v
+inst_effect env (Jal label) v = v
+inst_effect env (CondBr taken not_taken kind) v = v
+inst_effect env (Udf code) v = v
+inst_effect env (Jalr rd base offset) v = set_reg v (number_of rd.reg) env.after
+inst_effect env (Popcnt sum tmp step rs type) v = set_reg v (number_of sum.reg) (ones (bits_of type) (reg v (number_of rs)))
 
 -- what a line makes of the values
-abbrev pub effect_of : Placement → Line → Values → Values
-effect_of at (Put inst) v = inst_effect at inst v
-effect_of at (Bind label) v = v
+abbrev pub effect_of : Environment → Line → Values → Values
+effect_of env (Put inst) v = inst_effect env inst v
+effect_of env (Bind label) v = v
+
+-- the addresses of the bytes that an instruction writes
+abbrev pub inst_writes : Environment → Inst → Values → List ℕ
+inst_writes env Nop0 v = []
+inst_writes env Nop4 v = []
+inst_writes env EBreak v = []
+inst_writes env SequencePoint v = []
+inst_writes env (Args args) v = []
+inst_writes env (Rets rets) v = []
+inst_writes env (DummyUse reg) v = []
+inst_writes env (EmitIsland needed_space) v = []
+inst_writes env (RawData bytes) v = []
+inst_writes env (Lui rd imm) v = []
+inst_writes env (Auipc rd imm) v = []
+inst_writes env (LoadInlineConst rd type imm) v = []
+inst_writes env (AluRRR op rd rs1 rs2) v = []
+inst_writes env (AluRRImm12 op rd rs imm) v = []
+inst_writes env (Mov rd rm type) v = []
+inst_writes env (MovFromPReg rd rm) v = []
+inst_writes env (Load rd op flags from) v = []
+inst_writes env (Store to op flags src) v = addresses_from (address_of env to v) (store_size op)
+inst_writes env (LoadAddr rd mem) v = []
+inst_writes env (LabelAddress dst label) v = []
+inst_writes env Ret v = []
+inst_writes env (TrapIf cmp code) v = []
+inst_writes env (Jal label) v = []
+inst_writes env (CondBr taken not_taken kind) v = []
+inst_writes env (Udf code) v = []
+inst_writes env (Jalr rd base offset) v = []
+inst_writes env (Popcnt sum tmp step rs type) v = []
+
+abbrev pub writes_of : Environment → Line → Values → List ℕ
+writes_of env (Put inst) v = inst_writes env inst v
+writes_of env (Bind label) v = []
+
+-- none of these addresses is one of so many from another on
+abbrev pub AreOutside : ℕ → ℕ → List ℕ → Type 0
+AreOutside from size addresses = (k : ℕ) → k < length addresses → (slice_index addresses k < from) ⊎ (from + size ≤ slice_index addresses k)
 
 -- the numbers of the registers that an instruction uses as temporaries, beside x30 and x31: they may hold anything after it
 abbrev pub inst_temporaries : Inst → List ℕ
@@ -93,6 +161,10 @@ inst_temporaries (AluRRR op rd rs1 rs2) = []
 inst_temporaries (AluRRImm12 op rd rs imm) = []
 inst_temporaries (Mov rd rm type) = []
 inst_temporaries (MovFromPReg rd rm) = []
+inst_temporaries (Load rd op flags from) = []
+inst_temporaries (Store to op flags src) = []
+inst_temporaries (LoadAddr rd mem) = []
+inst_temporaries (LabelAddress dst label) = []
 inst_temporaries Ret = []
 inst_temporaries (TrapIf cmp code) = []
 inst_temporaries (Jal label) = []
@@ -126,32 +198,36 @@ target_exit (Label label) = To label.number
 target_exit Fallthrough = Next
 
 -- how an instruction is left from these values; an address is even, and ra is x1
-abbrev pub inst_exit : Inst → Values → Exit
-inst_exit Nop0 v = Next
-inst_exit Nop4 v = Next
-inst_exit EBreak v = Break
-inst_exit SequencePoint v = Next
-inst_exit (Args args) v = Next
-inst_exit (Rets rets) v = Next
-inst_exit (DummyUse reg) v = Next
-inst_exit (EmitIsland needed_space) v = Next
-inst_exit (RawData bytes) v = Data
-inst_exit (Lui rd imm) v = Next
-inst_exit (Auipc rd imm) v = Next
-inst_exit (LoadInlineConst rd type imm) v = Next
-inst_exit (AluRRR op rd rs1 rs2) v = Next
-inst_exit (AluRRImm12 op rd rs imm) v = Next
-inst_exit (Mov rd rm type) v = Next
-inst_exit (MovFromPReg rd rm) v = Next
-inst_exit Ret v = Leave (reg v 1 / 2 * 2)
-inst_exit (TrapIf cmp code) v = if compares cmp v then Trap code else Next
-inst_exit (Jal label) v = To label.number
-inst_exit (CondBr taken not_taken kind) v = if compares kind v then target_exit taken else target_exit not_taken
-inst_exit (Udf code) v = Trap code
-inst_exit (Jalr rd base offset) v = Leave (wrap (reg v (number_of base) + low64 offset.value) / 2 * 2)
-inst_exit (Popcnt sum tmp step rs type) v = Next
+abbrev pub inst_exit : Environment → Inst → Values → Exit
+inst_exit env Nop0 v = Next
+inst_exit env Nop4 v = Next
+inst_exit env EBreak v = Break
+inst_exit env SequencePoint v = Next
+inst_exit env (Args args) v = Next
+inst_exit env (Rets rets) v = Next
+inst_exit env (DummyUse reg) v = Next
+inst_exit env (EmitIsland needed_space) v = Next
+inst_exit env (RawData bytes) v = Data
+inst_exit env (Lui rd imm) v = Next
+inst_exit env (Auipc rd imm) v = Next
+inst_exit env (LoadInlineConst rd type imm) v = Next
+inst_exit env (AluRRR op rd rs1 rs2) v = Next
+inst_exit env (AluRRImm12 op rd rs imm) v = Next
+inst_exit env (Mov rd rm type) v = Next
+inst_exit env (MovFromPReg rd rm) v = Next
+inst_exit env (Load rd op flags from) v = Next
+inst_exit env (Store to op flags src) v = Next
+inst_exit env (LoadAddr rd mem) v = Next
+inst_exit env (LabelAddress dst label) v = Next
+inst_exit env Ret v = Leave (reg v 1 / 2 * 2)
+inst_exit env (TrapIf cmp code) v = if compares cmp v then Trap code else Next
+inst_exit env (Jal label) v = To label.number
+inst_exit env (CondBr taken not_taken kind) v = if compares kind v then target_exit taken else target_exit not_taken
+inst_exit env (Udf code) v = Trap code
+inst_exit env (Jalr rd base offset) v = Leave (wrap (reg v (number_of base) + low64 offset.value) / 2 * 2)
+inst_exit env (Popcnt sum tmp step rs type) v = Next
 
 -- how a line is left from these values
-abbrev pub exit_of : Line → Values → Exit
-exit_of (Put inst) v = inst_exit inst v
-exit_of (Bind label) v = Next
+abbrev pub exit_of : Environment → Line → Values → Exit
+exit_of env (Put inst) v = inst_exit env inst v
+exit_of env (Bind label) v = Next

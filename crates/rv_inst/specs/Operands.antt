@@ -1,5 +1,8 @@
 -- The registers and labels that a line names, in the order of its fields.
-use Rattle.std.specs.Prelude.{List, [], ◌∷◌, ◌++◌}
+use Rattle.std.specs.Prelude.{List, [], ◌∷◌, ◌++◌, Option, Some, None}
+use Rattle.rv_base.specs.declared.amode.AMode.{AMode}
+use Rattle.rv_base.specs.AMode.{registers_of}
+use Rattle.rv_inst.specs.Addresses.{label_in}
 use Rattle.rv_base.specs.declared.call.ArgPair.{ArgPair}
 use Rattle.rv_base.specs.declared.call.RetPair.{RetPair}
 use Rattle.rv_base.specs.declared.label.MachLabel.{MachLabel}
@@ -8,7 +11,9 @@ use Rattle.rv_base.specs.declared.regs.Reg.TheVariants.{Real}
 use Rattle.rv_inst.specs.declared.inst.Line.{Line}
 use Rattle.rv_inst.specs.declared.inst.Line.TheVariants.{Inst as Put, Bind}
 use Rattle.rv_inst.specs.declared.inst.Inst.{Inst}
-use Rattle.rv_inst.specs.declared.inst.Inst.TheVariants.{Nop0, Nop4, EBreak, SequencePoint, Args, Rets, DummyUse, EmitIsland, RawData, Lui, Auipc, LoadInlineConst, AluRRR, AluRRImm12, Mov, MovFromPReg, Ret, TrapIf, Jal, CondBr, Udf, Jalr, Popcnt}
+use Rattle.rv_inst.specs.declared.inst.Inst.TheVariants.{Nop0, Nop4, EBreak, SequencePoint, Args, Rets, DummyUse, EmitIsland, RawData, Lui, Auipc, LoadInlineConst, AluRRR, AluRRImm12, Mov, MovFromPReg, Load, Store, LoadAddr, LabelAddress, Ret, TrapIf, Jal, CondBr, Udf, Jalr, Popcnt}
+use Rattle.rv_inst.specs.declared.targets.Targets.{Targets}
+use Rattle.rv_inst.specs.declared.targets.Targets.TheVariants.{Nowhere, Jumps, Branches, Refers}
 use Rattle.rv_inst.specs.declared.inst.CondBrTarget.{CondBrTarget}
 use Rattle.rv_inst.specs.declared.inst.CondBrTarget.TheVariants.{Label, Fallthrough}
 
@@ -38,6 +43,10 @@ inst_registers (AluRRR op rd rs1 rs2) = rd.reg ∷ rs1 ∷ rs2 ∷ []
 inst_registers (AluRRImm12 op rd rs imm) = rd.reg ∷ rs ∷ []
 inst_registers (Mov rd rm type) = rd.reg ∷ rm ∷ []
 inst_registers (MovFromPReg rd rm) = rd.reg ∷ Real rm ∷ []
+inst_registers (Load rd op flags from) = rd.reg ∷ registers_of from
+inst_registers (Store to op flags src) = src ∷ registers_of to
+inst_registers (LoadAddr rd mem) = rd.reg ∷ registers_of mem
+inst_registers (LabelAddress dst label) = dst.reg ∷ []
 inst_registers Ret = []
 inst_registers (TrapIf cmp code) = cmp.rs1 ∷ cmp.rs2 ∷ []
 inst_registers (Jal label) = []
@@ -50,45 +59,69 @@ abbrev pub target_labels : CondBrTarget → List MachLabel
 target_labels (Label label) = label ∷ []
 target_labels Fallthrough = []
 
--- how an instruction goes to labels: to none, to one, or to one or the other of two targets
-pub data Targets : Type 0 where
-  NoTarget : Targets
-  Jumps : MachLabel → Targets
-  Branches : CondBrTarget → CondBrTarget → Targets
+-- the label of an address, where it has one
+abbrev pub label_targets : Option MachLabel → Targets
+label_targets None = Nowhere
+label_targets (Some label) = Refers label
 
+abbrev pub address_targets : AMode → Targets
+address_targets mode = label_targets (label_in mode)
+
+-- the labels that an instruction names, by what it does with them
 abbrev pub targets_of : Inst → Targets
-targets_of Nop0 = NoTarget
-targets_of Nop4 = NoTarget
-targets_of EBreak = NoTarget
-targets_of SequencePoint = NoTarget
-targets_of (Args args) = NoTarget
-targets_of (Rets rets) = NoTarget
-targets_of (DummyUse reg) = NoTarget
-targets_of (EmitIsland needed_space) = NoTarget
-targets_of (RawData bytes) = NoTarget
-targets_of (Lui rd imm) = NoTarget
-targets_of (Auipc rd imm) = NoTarget
-targets_of (LoadInlineConst rd type imm) = NoTarget
-targets_of (AluRRR op rd rs1 rs2) = NoTarget
-targets_of (AluRRImm12 op rd rs imm) = NoTarget
-targets_of (Mov rd rm type) = NoTarget
-targets_of (MovFromPReg rd rm) = NoTarget
-targets_of Ret = NoTarget
-targets_of (TrapIf cmp code) = NoTarget
+targets_of Nop0 = Nowhere
+targets_of Nop4 = Nowhere
+targets_of EBreak = Nowhere
+targets_of SequencePoint = Nowhere
+targets_of (Args args) = Nowhere
+targets_of (Rets rets) = Nowhere
+targets_of (DummyUse reg) = Nowhere
+targets_of (EmitIsland needed_space) = Nowhere
+targets_of (RawData bytes) = Nowhere
+targets_of (Lui rd imm) = Nowhere
+targets_of (Auipc rd imm) = Nowhere
+targets_of (LoadInlineConst rd type imm) = Nowhere
+targets_of (AluRRR op rd rs1 rs2) = Nowhere
+targets_of (AluRRImm12 op rd rs imm) = Nowhere
+targets_of (Mov rd rm type) = Nowhere
+targets_of (MovFromPReg rd rm) = Nowhere
+targets_of (Load rd op flags from) = address_targets from
+targets_of (Store to op flags src) = address_targets to
+targets_of (LoadAddr rd mem) = address_targets mem
+targets_of (LabelAddress dst label) = Refers label
+targets_of Ret = Nowhere
+targets_of (TrapIf cmp code) = Nowhere
 targets_of (Jal label) = Jumps label
 targets_of (CondBr taken not_taken kind) = Branches taken not_taken
-targets_of (Udf code) = NoTarget
-targets_of (Jalr rd base offset) = NoTarget
-targets_of (Popcnt sum tmp step rs type) = NoTarget
+targets_of (Udf code) = Nowhere
+targets_of (Jalr rd base offset) = Nowhere
+targets_of (Popcnt sum tmp step rs type) = Nowhere
 
 abbrev pub labels_of : Targets → List MachLabel
-labels_of NoTarget = []
+labels_of Nowhere = []
 labels_of (Jumps label) = label ∷ []
 labels_of (Branches taken not_taken) = target_labels taken ++ target_labels not_taken
+labels_of (Refers label) = label ∷ []
+
+-- those to which it goes, maybe by a veneer
+abbrev pub ways_of : Targets → List MachLabel
+ways_of Nowhere = []
+ways_of (Jumps label) = label ∷ []
+ways_of (Branches taken not_taken) = target_labels taken ++ target_labels not_taken
+ways_of (Refers label) = []
 
 -- the labels that an instruction names
 abbrev pub inst_labels : Inst → List MachLabel
 inst_labels inst = labels_of (targets_of inst)
+
+-- the labels to which an instruction goes, maybe by a veneer
+abbrev pub inst_ways : Inst → List MachLabel
+inst_ways inst = ways_of (targets_of inst)
+
+-- the labels to which a line goes, maybe by a veneer
+abbrev pub line_ways : Line → List MachLabel
+line_ways (Put inst) = inst_ways inst
+line_ways (Bind label) = []
 
 -- the labels that a line names; a bind names none
 abbrev pub named_labels : Line → List MachLabel

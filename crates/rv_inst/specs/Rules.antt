@@ -1,5 +1,5 @@
 -- The rules of a line, in their order. Each is a test of what a line breaks.
-use Rattle.std.specs.Prelude.{ℕ, Bool, true, false, not, ◌&&◌, ◌||◌, ◌==◌, nat_le, if◌then◌else◌, List, [], ◌∷◌, ◌++◌, length, Option, Some, None, ℤ, pos, negsuc}
+use Rattle.std.specs.Prelude.{ℕ, Bool, true, false, not, ◌&&◌, ◌||◌, ◌==◌, nat_le, nat_lt, is_none, slice_get, if◌then◌else◌, List, [], ◌∷◌, ◌++◌, length, Option, Some, None, ℤ, pos, negsuc}
 use Rattle.std.specs.List.{list_any, find}
 use Rattle.rv_base.specs.declared.call.ArgPair.{ArgPair}
 use Rattle.rv_base.specs.declared.call.RetPair.{RetPair}
@@ -11,17 +11,23 @@ use Rattle.rv_base.specs.declared.regs.Reg.{Reg}
 use Rattle.rv_base.specs.declared.regs.Reg.TheVariants.{Real, Virtual as AVirtual}
 use Rattle.rv_base.specs.declared.regs.RegClass.{RegClass}
 use Rattle.rv_base.specs.declared.regs.RegClass.TheVariants.{Int, Float, Vector}
+use Rattle.rv_base.specs.declared.constant.Constant.{Constant}
+use Rattle.rv_base.specs.declared.constant.VCodeConstant.{VCodeConstant}
+use Rattle.rv_base.specs.AMode.{registers_of, own_offset, base_of}
 use Rattle.rv_base.specs.Regs.{class_of}
 use Rattle.mach_labels.specs.Table.{first_inner}
+use Rattle.rv_ops.specs.Memory.{load_size}
 use Rattle.rv_ops.specs.Alu.{Upper, Number, Shamt6, Shamt5, Fixed, rri_numbers}
 use Rattle.rv_inst.specs.declared.inst.Line.{Line}
 use Rattle.rv_inst.specs.declared.inst.Line.TheVariants.{Inst as Put, Bind}
 use Rattle.rv_inst.specs.declared.inst.Inst.{Inst}
-use Rattle.rv_inst.specs.declared.inst.Inst.TheVariants.{Nop0, Nop4, EBreak, SequencePoint, Args, Rets, DummyUse, EmitIsland, RawData, Lui, Auipc, LoadInlineConst, AluRRR, AluRRImm12, Mov, MovFromPReg, Ret, TrapIf, Jal, CondBr, Udf, Jalr, Popcnt}
+use Rattle.rv_inst.specs.declared.inst.Inst.TheVariants.{Nop0, Nop4, EBreak, SequencePoint, Args, Rets, DummyUse, EmitIsland, RawData, Lui, Auipc, LoadInlineConst, AluRRR, AluRRImm12, Mov, MovFromPReg, Load, Store, LoadAddr, LabelAddress, Ret, TrapIf, Jal, CondBr, Udf, Jalr, Popcnt}
 use Rattle.rv_inst.specs.declared.inst.CondBrTarget.{CondBrTarget}
 use Rattle.rv_inst.specs.declared.inst.CondBrTarget.TheVariants.{Label as ToLabel, Fallthrough}
 use Rattle.rv_inst.specs.declared.error.Rule.{Rule}
-use Rattle.rv_inst.specs.declared.error.Rule.TheVariants.{Virtual, Class, Reserved, Zero, Clash, BadType, Range, NoTarget, Label, DataSize}
+use Rattle.rv_inst.specs.declared.error.Rule.TheVariants.{Virtual, Class, Reserved, Zero, Clash, BadType, Range, Constant as ConstantRule, NoTarget, Label, DataSize}
+use Rattle.rv_inst.specs.Addresses.{constant_in, is_distant}
+use Rattle.rv_inst.specs.Context.{Context}
 use Rattle.rv_inst.specs.Operands.{inst_registers, inst_labels}
 
 -- ---- registers
@@ -42,6 +48,11 @@ is_other_class r = not (is_int_class (class_of r))
 abbrev pub is_reserved : Reg → Bool
 is_reserved (Real p) = is_int_class p.class && nat_le 30 p.number
 is_reserved (AVirtual v) = false
+
+abbrev pub is_vector_class : RegClass → Bool
+is_vector_class Int = false
+is_vector_class Float = false
+is_vector_class Vector = true
 
 abbrev pub same_class : RegClass → RegClass → Bool
 same_class Int s = is_int_class s
@@ -73,6 +84,11 @@ is_one_of r rs = list_any (same_register r) rs
 abbrev pub clash : List Reg → List Reg → Bool
 clash [] inputs = false
 clash (r ∷ outputs) inputs = is_one_of r (outputs ++ inputs) || clash outputs inputs
+
+-- whether a register is the one that an address counts from
+abbrev pub is_base : Reg → Option Reg → Bool
+is_base r None = false
+is_base r (Some base) = same_register r base
 
 -- sp or fp
 abbrev pub is_stack_or_frame : PReg → Bool
@@ -163,6 +179,10 @@ faults_of (AluRRR op rd rs1 rs2) = has_other_class (list_any is_other_class (rd.
 faults_of (AluRRImm12 op rd rs imm) = record (has_other_class (list_any is_other_class (rd.reg ∷ rs ∷ []))) { range = is_beyond (shift_limit (rri_numbers op).number) imm.value }
 faults_of (Mov rd rm type) = record (has_other_class (differ_in_class rd.reg rm)) { type = not (is_int_class (class_of rm) && is_int_type type) }
 faults_of (MovFromPReg rd rm) = has_other_class (is_other_class rd.reg || not (is_stack_or_frame rm))
+faults_of (Load rd op flags from) = record (has_other_class (list_any is_other_class (rd.reg ∷ registers_of from))) { zeroed = is_none (base_of from) && is_zero rd.reg; range = is_distant (own_offset from) }
+faults_of (Store to op flags src) = record (has_other_class (list_any is_other_class (src ∷ registers_of to))) { range = is_distant (own_offset to) }
+faults_of (LoadAddr rd mem) = record (has_other_class (list_any is_other_class (rd.reg ∷ registers_of mem))) { zeroed = is_zero rd.reg; clashing = is_base rd.reg (base_of mem); range = is_distant (own_offset mem) }
+faults_of (LabelAddress dst label) = record (has_other_class (list_any is_other_class (dst.reg ∷ []))) { zeroed = list_any is_zero (dst.reg ∷ []) }
 faults_of Ret = has_other_class false
 faults_of (TrapIf cmp code) = has_other_class (list_any is_other_class (cmp.rs1 ∷ cmp.rs2 ∷ []))
 faults_of (Jal label) = has_other_class false
@@ -196,23 +216,65 @@ lacks_target inst = (faults_of inst).target
 abbrev pub has_bad_size : Inst → Bool
 has_bad_size inst = (faults_of inst).size
 
+-- ---- constants
+
+-- whether a constant isn't among these, or has fewer bytes than so many
+abbrev pub is_shorter : Option Constant → ℕ → Bool
+is_shorter None size = true
+is_shorter (Some constant) size = nat_lt (length constant.bytes) size
+
+abbrev pub lacks_bytes : List Constant → ℕ → Option VCodeConstant → Bool
+lacks_bytes constants size None = false
+lacks_bytes constants size (Some k) = is_shorter (slice_get constants k.number) size
+
+-- whether an instruction names a constant that isn't there, or reads more bytes than it has
+abbrev pub lacks_constant : List Constant → Inst → Bool
+lacks_constant constants Nop0 = false
+lacks_constant constants Nop4 = false
+lacks_constant constants EBreak = false
+lacks_constant constants SequencePoint = false
+lacks_constant constants (Args args) = false
+lacks_constant constants (Rets rets) = false
+lacks_constant constants (DummyUse reg) = false
+lacks_constant constants (EmitIsland needed_space) = false
+lacks_constant constants (RawData bytes) = false
+lacks_constant constants (Lui rd imm) = false
+lacks_constant constants (Auipc rd imm) = false
+lacks_constant constants (LoadInlineConst rd type imm) = false
+lacks_constant constants (AluRRR op rd rs1 rs2) = false
+lacks_constant constants (AluRRImm12 op rd rs imm) = false
+lacks_constant constants (Mov rd rm type) = false
+lacks_constant constants (MovFromPReg rd rm) = false
+lacks_constant constants (Load rd op flags from) = lacks_bytes constants (load_size op) (constant_in from)
+lacks_constant constants (Store to op flags src) = lacks_bytes constants 0 (constant_in to)
+lacks_constant constants (LoadAddr rd mem) = lacks_bytes constants 0 (constant_in mem)
+lacks_constant constants (LabelAddress dst label) = false
+lacks_constant constants Ret = false
+lacks_constant constants (TrapIf cmp code) = false
+lacks_constant constants (Jal label) = false
+lacks_constant constants (CondBr taken not_taken kind) = false
+lacks_constant constants (Udf code) = false
+lacks_constant constants (Jalr rd base offset) = false
+lacks_constant constants (Popcnt sum tmp step rs type) = false
+
 -- ---- the rules in their order
 
 unfoldable pub every_rule : List Rule
-every_rule = Virtual ∷ Class ∷ Reserved ∷ Zero ∷ Clash ∷ BadType ∷ Range ∷ NoTarget ∷ Label ∷ DataSize ∷ []
+every_rule = Virtual ∷ Class ∷ Reserved ∷ Zero ∷ Clash ∷ BadType ∷ Range ∷ ConstantRule ∷ NoTarget ∷ Label ∷ DataSize ∷ []
 
--- whether an instruction breaks a rule
-abbrev pub breaks : Inst → Rule → Bool
-breaks inst Virtual = list_any is_virtual (inst_registers inst)
-breaks inst Class = is_misplaced inst
-breaks inst Reserved = list_any is_reserved (inst_registers inst)
-breaks inst Zero = has_zero inst
-breaks inst Clash = has_clash inst
-breaks inst BadType = has_bad_type inst
-breaks inst Range = is_out_of_range inst
-breaks inst NoTarget = lacks_target inst
-breaks inst Label = list_any is_buffer_label (inst_labels inst)
-breaks inst DataSize = has_bad_size inst
+-- whether an instruction breaks a rule, in its context
+abbrev pub breaks : Context → Inst → Rule → Bool
+breaks context inst Virtual = list_any is_virtual (inst_registers inst)
+breaks context inst Class = is_misplaced inst
+breaks context inst Reserved = list_any is_reserved (inst_registers inst)
+breaks context inst Zero = has_zero inst
+breaks context inst Clash = has_clash inst
+breaks context inst BadType = has_bad_type inst
+breaks context inst Range = is_out_of_range inst
+breaks context inst ConstantRule = lacks_constant context.constants inst
+breaks context inst NoTarget = lacks_target inst
+breaks context inst Label = list_any is_buffer_label (inst_labels inst)
+breaks context inst DataSize = has_bad_size inst
 
 -- ---- the first rule that is broken
 
@@ -222,10 +284,10 @@ first_of None b = b
 first_of (Some x) b = Some x
 
 -- the first rule that an instruction breaks
-abbrev pub inst_rule : Inst → Option Rule
-inst_rule inst = find (breaks inst) every_rule
+abbrev pub inst_rule : Context → Inst → Option Rule
+inst_rule context inst = find (breaks context inst) every_rule
 
 -- the first rule that a line breaks
-abbrev pub broken_rule : Line → Option Rule
-broken_rule (Put inst) = inst_rule inst
-broken_rule (Bind label) = if is_buffer_label label then Some Label else None
+abbrev pub broken_rule : Context → Line → Option Rule
+broken_rule context (Put inst) = inst_rule context inst
+broken_rule context (Bind label) = if is_buffer_label label then Some Label else None

@@ -7,8 +7,11 @@ use Rattle.rv_inst.specs.declared.inst.Inst.{Inst}
 use Rattle.rv_inst.specs.declared.inst.CondBrTarget.{CondBrTarget}
 use Rattle.rv_inst.specs.declared.inst.CondBrTarget.TheVariants.{Label, Fallthrough}
 use Rattle.rv_inst.specs.declared.label_use.LabelUse.{LabelUse}
-use Rattle.rv_inst.specs.declared.label_use.LabelUse.TheVariants.{Jal20, B12}
-use Rattle.rv_inst.specs.Operands.{Targets, NoTarget, Jumps, Branches, targets_of}
+use Rattle.rv_inst.specs.declared.label_use.LabelUse.TheVariants.{Jal20, B12, PCRelHi20, PCRelLo12I}
+use Rattle.rv_inst.specs.declared.targets.Targets.{Targets}
+use Rattle.rv_inst.specs.declared.targets.Targets.TheVariants.{Nowhere, Jumps, Branches, Refers}
+use Rattle.rv_inst.specs.Context.{Context}
+use Rattle.rv_inst.specs.Operands.{targets_of}
 use Rattle.mach_buffer.specs.declared.uses.Use.{Use}
 
 abbrev pub use_at : ℕ → MachLabel → LabelUse → Use LabelUse
@@ -19,21 +22,24 @@ branch_uses start Fallthrough not_taken = []
 branch_uses start (Label t) Fallthrough = use_at start t B12 ∷ []
 branch_uses start (Label t) (Label f) = use_at start t B12 ∷ use_at (start + 4) f Jal20 ∷ []
 
+-- an address is taken by its upper and its lower part, in two words
 abbrev pub target_uses : ℕ → Targets → List (Use LabelUse)
-target_uses start NoTarget = []
+target_uses start Nowhere = []
 target_uses start (Jumps label) = use_at start label Jal20 ∷ []
 target_uses start (Branches taken not_taken) = branch_uses start taken not_taken
+target_uses start (Refers label) = use_at start label PCRelHi20 ∷ use_at (start + 4) label PCRelLo12I ∷ []
 
 -- the uses of an instruction that starts at an offset, in the order in which it names their labels
-abbrev pub uses_in : ℕ → Inst → List (Use LabelUse)
-uses_in start inst = target_uses start (targets_of inst)
+abbrev pub uses_in : Context → ℕ → Inst → List (Use LabelUse)
+uses_in context start inst = target_uses start (targets_of inst)
 
--- how far the shortest use of a line reaches, counted from the line's start: a branch's, or a jump's
+-- how far the shortest use that may go by a veneer reaches, counted from the line's start: a branch's, or else a jump's
 abbrev pub target_reach : Targets → ℕ
-target_reach NoTarget = 1048574
+target_reach Nowhere = 1048574
 target_reach (Jumps label) = 1048574
 target_reach (Branches taken not_taken) = 4094
+target_reach (Refers label) = 1048574
 
-abbrev pub least_reach : Line → ℕ
-least_reach (Put inst) = target_reach (targets_of inst)
-least_reach (Bind label) = 1048574
+abbrev pub least_reach : Context → Line → ℕ
+least_reach context (Put inst) = target_reach (targets_of inst)
+least_reach context (Bind label) = 1048574

@@ -4,20 +4,21 @@ ghost use Rattle.std.specs.Prelude.{◌≡◌, ◌++◌};
 ghost use Rattle.rv_inst.specs.Rules.{is_buffer_label, is_misplaced, has_bad_type, is_out_of_range, lacks_target, is_fallthrough, every_rule, breaks, inst_rule, broken_rule};
 ghost use Rattle.std.specs.List.{list_any, find};
 ghost use Rattle.rv_inst.specs.Operands.{inst_labels, target_labels};
-ghost use Rattle.rv_inst.specs.declared.inst.Family.TheVariants.{Control};
-ghost use Rattle.rv_inst.specs.Families.{family_of};
+ghost use Rattle.rv_inst.specs.Context.{context_by};
 
+use crate::addresses::lacks_constant;
 use crate::clashes::{has_clash, has_zero};
 use crate::error::Rule;
-use crate::inst::{CondBrTarget, Family, Inst, Line};
+use crate::inst::{CondBrTarget, Inst, Line};
 use crate::places::is_misplaced;
 use crate::ranges::{has_bad_size, has_bad_type, is_out_of_range};
 use crate::registers::{RegisterTest, has_register};
+use crate::targets::Targets;
 use mach_labels::FIRST_INNER;
 use rv_base::{Constant, FrameLayout, IsaFlags, MachLabel};
 
 /// The rules, in the order in which a line is checked.
-const EVERY_RULE: [Rule; 10] = [
+const EVERY_RULE: [Rule; 11] = [
     Rule::Virtual,
     Rule::Class,
     Rule::Reserved,
@@ -25,6 +26,7 @@ const EVERY_RULE: [Rule; 10] = [
     Rule::Clash,
     Rule::BadType,
     Rule::Range,
+    Rule::Constant,
     Rule::NoTarget,
     Rule::Label,
     Rule::DataSize,
@@ -38,7 +40,7 @@ impl Line {
         frame: &FrameLayout,
         constants: &[Constant],
     ) -> Option<Rule>
-        ensures { result ≡ broken_rule self.now }
+        ensures { result ≡ broken_rule (context_by flags frame.now constants.now) self.now }
     {
         match self {
             Line::Inst(inst) => inst.check(flags, frame, constants),
@@ -58,28 +60,40 @@ impl Inst {
     #[tactic(auto, unfolding(crate::specs::Rules::every_rule))]
     pub fn check(
         &self,
-        _flags: IsaFlags,
-        _frame: &FrameLayout,
-        _constants: &[Constant],
+        flags: IsaFlags,
+        frame: &FrameLayout,
+        constants: &[Constant],
     ) -> Option<Rule>
-        ensures { result ≡ inst_rule self.now }
+        ensures { result ≡ inst_rule (context_by flags frame.now constants.now) self.now }
     {
-        self.first_broken(&EVERY_RULE)
+        self.first_broken(&EVERY_RULE, flags, frame, constants)
     }
 
-    fn first_broken(&self, rules: &[Rule]) -> Option<Rule>
-        ensures { result ≡ find (breaks self.now) rules.now }
+    fn first_broken(
+        &self,
+        rules: &[Rule],
+        flags: IsaFlags,
+        frame: &FrameLayout,
+        constants: &[Constant],
+    ) -> Option<Rule>
+        ensures { result ≡ find (breaks (context_by flags frame.now constants.now) self.now) rules.now }
     {
         for rule in rules {
-            if self.breaks(*rule) {
+            if self.breaks(*rule, flags, frame, constants) {
                 return Some(*rule);
             }
         }
         None
     }
 
-    fn breaks(&self, rule: Rule) -> bool
-        ensures { result ≡ breaks self.now rule }
+    fn breaks(
+        &self,
+        rule: Rule,
+        _flags: IsaFlags,
+        _frame: &FrameLayout,
+        constants: &[Constant],
+    ) -> bool
+        ensures { result ≡ breaks (context_by _flags _frame.now constants.now) self.now rule }
     {
         match rule {
             Rule::Virtual => has_register(RegisterTest::Virtual, self),
@@ -89,6 +103,7 @@ impl Inst {
             Rule::Clash => has_clash(self),
             Rule::BadType => has_bad_type(self),
             Rule::Range => is_out_of_range(self),
+            Rule::Constant => lacks_constant(self, constants),
             Rule::NoTarget => lacks_target(self),
             Rule::Label => has_inner_label(self),
             Rule::DataSize => has_bad_size(self),
@@ -140,25 +155,12 @@ fn has_inner_target(taken: CondBrTarget, not_taken: CondBrTarget) -> bool
     is_inner_target(taken) || is_inner_target(not_taken)
 }
 
-fn control_has_inner_label(inst: &Inst) -> bool
-    ensures { family_of inst.now ≡ Control → result ≡ list_any is_buffer_label (inst_labels inst.now) }
-{
-    match inst {
-        Inst::Jal { label } => is_buffer_label(*label),
-        Inst::CondBr {
-            taken,
-            not_taken,
-            kind: _,
-        } => has_inner_target(*taken, *not_taken),
-        _ => false,
-    }
-}
-
 fn has_inner_label(inst: &Inst) -> bool
     ensures { result ≡ list_any is_buffer_label (inst_labels inst.now) }
 {
-    match inst.family() {
-        Family::Pseudo | Family::Integer | Family::Loop => false,
-        Family::Control => control_has_inner_label(inst),
+    match inst.targets() {
+        Targets::Nowhere => false,
+        Targets::Jumps(label) | Targets::Refers(label) => is_buffer_label(label),
+        Targets::Branches(taken, not_taken) => has_inner_target(taken, not_taken),
     }
 }

@@ -2,7 +2,7 @@
 
 ghost use Rattle.std.specs.Prelude.{◌≡◌, [], ◌∷◌};
 ghost use Rattle.std.specs.List.{list_any};
-ghost use Rattle.rv_inst.specs.Rules.{is_zero, same_class, same_register, is_one_of, clash, has_zero, has_clash};
+ghost use Rattle.rv_inst.specs.Rules.{is_zero, same_class, same_register, is_base, is_one_of, clash, has_zero, has_clash};
 
 use crate::inst::Inst;
 use rv_base::{Reg, RegClass};
@@ -40,6 +40,15 @@ fn same_register(first: Reg, second: Reg) -> bool
     }
 }
 
+fn is_base(reg: Reg, base: Option<Reg>) -> bool
+    ensures { result ≡ is_base reg base }
+{
+    match base {
+        Some(base) => same_register(reg, base),
+        None => false,
+    }
+}
+
 fn is_one_of(reg: Reg, others: &[Reg]) -> bool
     ensures { result ≡ is_one_of reg others.now }
 {
@@ -52,7 +61,7 @@ fn any_is_zero(registers: &[Reg]) -> bool
     registers.iter().any(|r| is_zero(*r))
 }
 
-// Three registers that are written while one is still read.
+/// Three registers that are written while one is still read.
 fn three_clash(first: Reg, second: Reg, third: Reg, input: Reg) -> bool
     ensures { result ≡ clash (first ∷ second ∷ third ∷ []) (input ∷ []) }
 {
@@ -67,6 +76,14 @@ pub fn has_zero(inst: &Inst) -> bool
 {
     match inst {
         Inst::LoadInlineConst { rd, ty: _, imm: _ } => any_is_zero(&[rd.reg]),
+        Inst::Load {
+            rd,
+            op: _,
+            flags: _,
+            from,
+        } => from.get_base_register().is_none() && is_zero(rd.reg),
+        Inst::LoadAddr { rd, mem: _ } => is_zero(rd.reg),
+        Inst::LabelAddress { dst, label: _ } => any_is_zero(&[dst.reg]),
         Inst::Popcnt {
             sum,
             tmp,
@@ -83,6 +100,7 @@ pub fn has_clash(inst: &Inst) -> bool
     ensures { result ≡ has_clash inst.now }
 {
     match inst {
+        Inst::LoadAddr { rd, mem } => is_base(rd.reg, mem.get_base_register()),
         Inst::Popcnt {
             sum,
             tmp,

@@ -19,6 +19,8 @@ pub enum Rule {
     BadType,
     /// Numbers are in their range.
     Range,
+    /// A constant that is named is one of the job's, and has as many bytes as are read.
+    Constant,
     /// A branch has a label to go to.
     NoTarget,
     /// A label's number is below 2^30.
@@ -32,6 +34,9 @@ pub enum Rule {
 pub enum EmitError {
     #[error("out of memory")]
     OutOfMemory,
+    /// The frame's sizes sum to 2^31 bytes or more, or it saves a vector register or one of x0, ra, sp, fp, x30 and x31.
+    #[error("the frame is too large, or saves a register that it can't")]
+    BadFrame,
     /// The first line, counted from 0, that breaks a rule, and the first rule that it breaks.
     #[error("line {index}, counted from 0, breaks the rule {rule:?}")]
     Malformed { index: usize, rule: Rule },

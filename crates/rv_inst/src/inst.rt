@@ -2,9 +2,12 @@
 
 ghost use Rattle.std.specs.Prelude.{◌≡◌};
 
-use rv_base::{ArgPair, IrType, List, MachLabel, PReg, Reg, RetPair, TrapCode, WritableReg};
+use rv_base::{
+    AMode, ArgPair, IrType, List, MachLabel, MemFlagsData, PReg, Reg, RetPair, TrapCode,
+    WritableReg,
+};
 use rv_imms::{Imm12, Imm20};
-use rv_ops::{AluOPRRI, AluOPRRR, IntegerCompare};
+use rv_ops::{AluOPRRI, AluOPRRR, IntegerCompare, LoadOP, StoreOP};
 use std::fmt;
 
 /// Where a branch goes on one of its two sides.
@@ -124,6 +127,32 @@ pub enum Inst {
         rd: WritableReg,
         rm: PReg,
     },
+    /// `rd` is what the load reads at the address, extended to 64 bits as the operation says. 4 bytes; where the offset isn't of
+    /// twelve bits, signed, up to 28; from a label 8.
+    Load {
+        rd: WritableReg,
+        op: LoadOP,
+        flags: MemFlagsData,
+        from: AMode,
+    },
+    /// The low bytes of `src` go to the address, as many as the operation says. 4 bytes; where the offset isn't of twelve bits,
+    /// signed, up to 28; to a label 12.
+    Store {
+        to: AMode,
+        op: StoreOP,
+        flags: MemFlagsData,
+        src: Reg,
+    },
+    /// `rd` is the address. 4 bytes; where the offset isn't of twelve bits, signed, up to 24; of a label 8.
+    LoadAddr {
+        rd: WritableReg,
+        mem: AMode,
+    },
+    /// `dst` is the label's address. 8 bytes.
+    LabelAddress {
+        dst: WritableReg,
+        label: MachLabel,
+    },
     /// Leaves the code to the address in `ra`.
     Ret,
     /// Traps for the cause where the comparison holds. 8 bytes: a branch over an undefined instruction.
@@ -162,6 +191,13 @@ pub enum Inst {
     },
 }
 
+/// `Nop0`, which does nothing.
+impl Default for Inst {
+    fn default() -> Inst {
+        Inst::Nop0
+    }
+}
+
 /// The kinds of instructions.
 #[derive(Clone, Copy, Debug, PartialEq, Eq)]
 pub enum Family {
@@ -169,6 +205,8 @@ pub enum Family {
     Pseudo,
     /// Those that compute an integer register, and go on.
     Integer,
+    /// Those that read or write memory, or compute an address.
+    Memory,
     /// Those that go elsewhere.
     Control,
     /// Those that compute by a loop of their own, and go on.
@@ -198,6 +236,10 @@ impl Inst {
             | Inst::AluRRImm12 { .. }
             | Inst::Mov { .. }
             | Inst::MovFromPReg { .. } => Family::Integer,
+            Inst::Load { .. }
+            | Inst::Store { .. }
+            | Inst::LoadAddr { .. }
+            | Inst::LabelAddress { .. } => Family::Memory,
             Inst::Ret
             | Inst::TrapIf { .. }
             | Inst::Jal { label: _ }

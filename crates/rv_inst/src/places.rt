@@ -9,7 +9,9 @@ ghost use Rattle.rv_inst.specs.declared.inst.Family.TheVariants.{Pseudo, Integer
 ghost use Rattle.rv_inst.specs.Families.{family_of};
 
 use crate::inst::{Family, Inst};
-use crate::registers::{RegisterTest, control_has, is_other_class, loop_has, plain_has};
+use crate::registers::{
+    RegisterTest, control_has, is_other_class, loop_has, memory_has, plain_has,
+};
 use rv_base::{ArgPair as Arg, PReg, Reg, RegClass, RetPair as Ret};
 
 /// Returns whether two registers are of different classes.
@@ -72,6 +74,7 @@ pub fn is_misplaced(inst: &Inst) -> bool
     match inst.family() {
         Family::Pseudo => marks_misplaced(inst),
         Family::Integer => plain_misplaced(inst),
+        Family::Memory => memory_has(RegisterTest::OtherClass, inst),
         Family::Control => control_has(RegisterTest::OtherClass, inst),
         Family::Loop => loop_has(RegisterTest::OtherClass, inst),
     }

@@ -5,6 +5,7 @@ ghost use Rattle.rv_base.specs.Regs.{class_of};
 ghost use Rattle.rv_ops.specs.Alu.{rri_numbers};
 ghost use Rattle.rv_inst.specs.Rules.{is_int_class, is_int_type, is_word_type, has_bad_type, shift_limit, is_beyond, is_out_of_range, has_bad_size};
 
+use crate::addresses::is_distant;
 use crate::inst::Inst;
 use rv_base::{IrType, Reg, RegClass};
 use rv_imms::Imm12;
@@ -82,6 +83,19 @@ pub fn is_out_of_range(inst: &Inst) -> bool
             rs: _,
             imm12,
         } => is_amount_beyond(*alu_op, *imm12),
+        Inst::Load {
+            rd: _,
+            op: _,
+            flags: _,
+            from,
+        } => is_distant(*from),
+        Inst::Store {
+            to,
+            op: _,
+            flags: _,
+            src: _,
+        } => is_distant(*to),
+        Inst::LoadAddr { rd: _, mem } => is_distant(*mem),
         _ => false,
     }
 }

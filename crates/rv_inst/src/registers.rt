@@ -3,10 +3,11 @@
 ghost use Rattle.std.specs.Prelude.{◌≡◌};
 ghost use Rattle.std.specs.List.{list_any};
 ghost use Rattle.rv_inst.specs.Operands.{arg_registers, ret_registers, inst_registers};
-ghost use Rattle.rv_inst.specs.declared.inst.Family.TheVariants.{Pseudo, Integer, Control, Loop};
+ghost use Rattle.rv_inst.specs.declared.inst.Family.TheVariants.{Pseudo, Integer, Memory, Control, Loop};
 ghost use Rattle.rv_inst.specs.Families.{family_of};
 ghost use Rattle.rv_inst.specs.RegisterTests.{test_of};
 
+use crate::addresses::address_has;
 use crate::inst::{Family, Inst};
 use rv_base::{ArgPair, Reg, RegClass, RetPair};
 
@@ -21,7 +22,8 @@ pub enum RegisterTest {
     Reserved,
 }
 
-fn holds(test: RegisterTest, reg: Reg) -> bool
+/// Returns whether the test holds of a register.
+pub fn holds(test: RegisterTest, reg: Reg) -> bool
     ensures { result ≡ test_of test reg }
 {
     match test {
@@ -127,6 +129,29 @@ pub fn plain_has(test: RegisterTest, inst: &Inst) -> bool
     }
 }
 
+/// Returns whether the test holds of a register of an instruction that reads or writes memory.
+pub fn memory_has(test: RegisterTest, inst: &Inst) -> bool
+    ensures { family_of inst.now ≡ Memory → result ≡ list_any (test_of test) (inst_registers inst.now) }
+{
+    match inst {
+        Inst::Load {
+            rd,
+            op: _,
+            flags: _,
+            from,
+        } => holds(test, rd.reg) || address_has(test, *from),
+        Inst::Store {
+            to,
+            op: _,
+            flags: _,
+            src,
+        } => holds(test, *src) || address_has(test, *to),
+        Inst::LoadAddr { rd, mem } => holds(test, rd.reg) || address_has(test, *mem),
+        Inst::LabelAddress { dst, label: _ } => any_of(test, &[dst.reg]),
+        _ => false,
+    }
+}
+
 /// Returns whether the test holds of a register of an instruction that goes elsewhere.
 pub fn control_has(test: RegisterTest, inst: &Inst) -> bool
     ensures { family_of inst.now ≡ Control → result ≡ list_any (test_of test) (inst_registers inst.now) }
@@ -170,6 +195,7 @@ pub fn has_register(test: RegisterTest, inst: &Inst) -> bool
     match inst.family() {
         Family::Pseudo => marks_has(test, inst),
         Family::Integer => plain_has(test, inst),
+        Family::Memory => memory_has(test, inst),
         Family::Control => control_has(test, inst),
         Family::Loop => loop_has(test, inst),
     }

@@ -2,6 +2,10 @@
 #![tactic(auto)]
 
 #[cfg(test)]
+mod accesses;
+#[cfg(test)]
+mod frames;
+#[cfg(test)]
 mod readings;
 #[cfg(test)]
 mod refusals;

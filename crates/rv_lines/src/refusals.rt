@@ -19,7 +19,7 @@ struct Refusal {
     rule: Option<Rule>,
 }
 
-const REFUSALS: [Refusal; 45] = [
+const REFUSALS: [Refusal; 96] = [
     Refusal {
         text: "Udf heap_oob",
         rule: None,
@@ -199,6 +199,210 @@ const REFUSALS: [Refusal; 45] = [
     Refusal {
         text: "AluRRImm12 slli a0 a0 64",
         rule: Some(Rule::Range),
+    },
+    Refusal {
+        text: "LoadAddr sp sp:8",
+        rule: Some(Rule::Clash),
+    },
+    Refusal {
+        text: "LoadAddr fp fp:-8",
+        rule: Some(Rule::Clash),
+    },
+    Refusal {
+        text: "LoadAddr a1 r:a1:8",
+        rule: Some(Rule::Clash),
+    },
+    Refusal {
+        text: "LoadAddr sp slot:0",
+        rule: Some(Rule::Clash),
+    },
+    Refusal {
+        text: "LoadAddr sp in:0",
+        rule: Some(Rule::Clash),
+    },
+    Refusal {
+        text: "LoadAddr a0 sp:8",
+        rule: None,
+    },
+    Refusal {
+        text: "LoadAddr fp sp:8",
+        rule: None,
+    },
+    Refusal {
+        text: "LoadAddr a0 r:a1:8",
+        rule: None,
+    },
+    Refusal {
+        text: "LoadAddr zero sp:8",
+        rule: Some(Rule::Zero),
+    },
+    Refusal {
+        text: "LoadAddr zero r:zero:8",
+        rule: Some(Rule::Zero),
+    },
+    Refusal {
+        text: "LoadAddr a0 r:%192:0",
+        rule: Some(Rule::Virtual),
+    },
+    Refusal {
+        text: "LoadAddr a0 r:fa0:0",
+        rule: Some(Rule::Class),
+    },
+    Refusal {
+        text: "LoadAddr a0 r:x31:0",
+        rule: Some(Rule::Reserved),
+    },
+    Refusal {
+        text: "Load zero lw - const:0",
+        rule: Some(Rule::Zero),
+    },
+    Refusal {
+        text: "LoadAddr a0 const:0",
+        rule: Some(Rule::Constant),
+    },
+    Refusal {
+        text: "LoadAddr a0 label:L1073741824",
+        rule: Some(Rule::Label),
+    },
+    Refusal {
+        text: "LoadAddr a0 sp:4611686018427387904",
+        rule: None,
+    },
+    Refusal {
+        text: "LoadAddr a0 sp:-4611686018427387905",
+        rule: Some(Rule::Range),
+    },
+    Refusal {
+        text: "Load a0 lb - sp:0",
+        rule: None,
+    },
+    Refusal {
+        text: "Load a0 lw heap_oob r:a0:0",
+        rule: None,
+    },
+    Refusal {
+        text: "Load zero lw - label:L0",
+        rule: Some(Rule::Zero),
+    },
+    Refusal {
+        text: "Load zero lw - sp:0",
+        rule: None,
+    },
+    Refusal {
+        text: "Load a0 ld - label:L1073741823",
+        rule: None,
+    },
+    Refusal {
+        text: "Load a0 ld - label:L1073741824",
+        rule: Some(Rule::Label),
+    },
+    Refusal {
+        text: "Load a0 ld - r:a1:4611686018427387905",
+        rule: Some(Rule::Range),
+    },
+    Refusal {
+        text: "Load a0 ld - r:a1:4611686018427387904",
+        rule: None,
+    },
+    Refusal {
+        text: "Load a0 ld - r:a1:-4611686018427387904",
+        rule: None,
+    },
+    Refusal {
+        text: "Load a0 ld - r:a1:-4611686018427387905",
+        rule: Some(Rule::Range),
+    },
+    Refusal {
+        text: "Load a0 ld - const:0",
+        rule: Some(Rule::Constant),
+    },
+    Refusal {
+        text: "Load fa0 ld - sp:0",
+        rule: Some(Rule::Class),
+    },
+    Refusal {
+        text: "Load x30 ld - sp:0",
+        rule: Some(Rule::Reserved),
+    },
+    Refusal {
+        text: "Load %192 ld - sp:0",
+        rule: Some(Rule::Virtual),
+    },
+    Refusal {
+        text: "Store r:fa0:0 sd - a0",
+        rule: Some(Rule::Class),
+    },
+    Refusal {
+        text: "Store sp:0 sd - fa0",
+        rule: Some(Rule::Class),
+    },
+    Refusal {
+        text: "Store sp:0 sd - x31",
+        rule: Some(Rule::Reserved),
+    },
+    Refusal {
+        text: "Store r:x30:0 sd - a0",
+        rule: Some(Rule::Reserved),
+    },
+    Refusal {
+        text: "Store r:%192:0 sd - a0",
+        rule: Some(Rule::Virtual),
+    },
+    Refusal {
+        text: "Store sp:0 sd - %192",
+        rule: Some(Rule::Virtual),
+    },
+    Refusal {
+        text: "Store sp:0 sb - zero",
+        rule: None,
+    },
+    Refusal {
+        text: "Store sp:0 sd stk_ovf sp",
+        rule: None,
+    },
+    Refusal {
+        text: "Store label:L0 sd - a0",
+        rule: None,
+    },
+    Refusal {
+        text: "Store label:L1073741824 sd - a0",
+        rule: Some(Rule::Label),
+    },
+    Refusal {
+        text: "Store const:0 sd - a0",
+        rule: Some(Rule::Constant),
+    },
+    Refusal {
+        text: "Store in:-4611686018427387905 sd - a0",
+        rule: Some(Rule::Range),
+    },
+    Refusal {
+        text: "LabelAddress a0 L0",
+        rule: None,
+    },
+    Refusal {
+        text: "LabelAddress zero L0",
+        rule: Some(Rule::Zero),
+    },
+    Refusal {
+        text: "LabelAddress fa0 L0",
+        rule: Some(Rule::Class),
+    },
+    Refusal {
+        text: "LabelAddress x31 L0",
+        rule: Some(Rule::Reserved),
+    },
+    Refusal {
+        text: "LabelAddress %192 L0",
+        rule: Some(Rule::Virtual),
+    },
+    Refusal {
+        text: "LabelAddress a0 L1073741823",
+        rule: None,
+    },
+    Refusal {
+        text: "LabelAddress a0 L1073741824",
+        rule: Some(Rule::Label),
     },
 ];
 

@@ -10,16 +10,21 @@ use Rattle.rv_ops.specs.declared.alu.AluOPRRR.{AluOPRRR}
 use Rattle.rv_ops.specs.declared.alu.AluOPRRR.TheVariants as rrr
 use Rattle.rv_ops.specs.declared.alu.AluOPRRI.{AluOPRRI}
 use Rattle.rv_ops.specs.declared.alu.AluOPRRI.TheVariants as rri
+use Rattle.rv_ops.specs.declared.memory.LoadOP.{LoadOP}
+use Rattle.rv_ops.specs.declared.memory.LoadOP.TheVariants as load
+use Rattle.rv_ops.specs.declared.memory.StoreOP.{StoreOP}
+use Rattle.rv_ops.specs.declared.memory.StoreOP.TheVariants as store
 use Rattle.rv_ops.specs.Alu.{rrr_name, rri_name}
+use Rattle.rv_ops.specs.Memory.{load_name, store_name}
 use Rattle.rv_listing.specs.Comparisons.{every, cond_code}
 use Rattle.rv_listing.specs.declared.comparisons.TheConstants.{SLOTS, FACTOR}
-use Rattle.rv_listing.specs.declared.operations.TheConstants.{RRR_SLOTS, RRR_FACTOR, RRI_SLOTS, RRI_FACTOR}
+use Rattle.rv_listing.specs.declared.operations.TheConstants.{RRR_SLOTS, RRR_FACTOR, RRI_SLOTS, RRI_FACTOR, LOAD_SLOTS, LOAD_FACTOR, STORE_SLOTS, STORE_FACTOR}
 use Rattle.rv_listing.specs.Slots.{candidate, slot, key}
 use Rattle.rv_listing.specs.declared.form_names.TheConstants.{FORM_SLOTS, FORM_FACTOR}
 use Rattle.rv_listing.specs.declared.form_names.Form.{Form}
 use Rattle.rv_listing.specs.declared.form_names.Form.TheVariants as forms
 use Rattle.rv_listing.specs.FormNames.{form_name, every_form, form_named}
-use Rattle.rv_listing.specs.Operations.{every_rrr, alu_rrr, every_rri, alu_rri}
+use Rattle.rv_listing.specs.Operations.{every_rrr, alu_rrr, every_rri, alu_rri, every_load, load_op, every_store, store_op}
 
 -- where a name is found, a word that is this name gives what it names
 pub found_by_name : {A : Type 0} (named : List ℕ → Option A) (name : A → List ℕ) → ((a : A) → named (name a) ≡ Some a) → (w : List ℕ) (r : Option A) → r ≡ named w → (a : A) → w ≡ name a → r ≡ Some a
@@ -87,6 +92,16 @@ unfolding alu_rri every_rri
 rri_found rri.Addi = refl
 rri_found _ = refl
 
+pub load_found : (op : LoadOP) → load_op (load_name op) ≡ Some op
+unfolding load_op every_load
+load_found load.Lb = refl
+load_found _ = refl
+
+pub store_found : (op : StoreOP) → store_op (store_name op) ≡ Some op
+unfolding store_op every_store
+store_found store.Sb = refl
+store_found _ = refl
+
 pub cc_found : (c : IntCC) → cond_code (name_of c) ≡ Some c
 unfolding cond_code every
 cc_found comparison.Equal = refl
@@ -103,6 +118,16 @@ unfolding every_rri candidate slot key
 rri_hit rri.Addi = refl
 rri_hit _ = refl
 
+load_hit : (op : LoadOP) → candidate every_load LOAD_SLOTS LOAD_FACTOR (load_name op) ≡ Some op
+unfolding every_load candidate slot key
+load_hit load.Lb = refl
+load_hit _ = refl
+
+store_hit : (op : StoreOP) → candidate every_store STORE_SLOTS STORE_FACTOR (store_name op) ≡ Some op
+unfolding every_store candidate slot key
+store_hit store.Sb = refl
+store_hit _ = refl
+
 cc_hit : (c : IntCC) → candidate every SLOTS FACTOR (name_of c) ≡ Some c
 unfolding every candidate slot key
 cc_hit comparison.Equal = refl
@@ -115,6 +140,14 @@ rrr_by_slot = by_slot rrr_name every_rrr (candidate every_rrr RRR_SLOTS RRR_FACT
 pub rri_by_slot : (w : List ℕ) → checked rri_name w (candidate every_rri RRI_SLOTS RRI_FACTOR w) ≡ alu_rri w
 unfolding alu_rri
 rri_by_slot = by_slot rri_name every_rri (candidate every_rri RRI_SLOTS RRI_FACTOR) rri_found rri_hit
+
+pub load_by_slot : (w : List ℕ) → checked load_name w (candidate every_load LOAD_SLOTS LOAD_FACTOR w) ≡ load_op w
+unfolding load_op
+load_by_slot = by_slot load_name every_load (candidate every_load LOAD_SLOTS LOAD_FACTOR) load_found load_hit
+
+pub store_by_slot : (w : List ℕ) → checked store_name w (candidate every_store STORE_SLOTS STORE_FACTOR w) ≡ store_op w
+unfolding store_op
+store_by_slot = by_slot store_name every_store (candidate every_store STORE_SLOTS STORE_FACTOR) store_found store_hit
 
 pub cc_by_slot : (w : List ℕ) → checked name_of w (candidate every SLOTS FACTOR w) ≡ cond_code w
 unfolding cond_code

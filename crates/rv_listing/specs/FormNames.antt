@@ -23,6 +23,10 @@ form_name forms.AluRRR = codes "AluRRR"
 form_name forms.AluRRImm12 = codes "AluRRImm12"
 form_name forms.Mov = codes "Mov"
 form_name forms.MovFromPReg = codes "MovFromPReg"
+form_name forms.Load = codes "Load"
+form_name forms.Store = codes "Store"
+form_name forms.LoadAddr = codes "LoadAddr"
+form_name forms.LabelAddress = codes "LabelAddress"
 form_name forms.Ret = codes "Ret"
 form_name forms.TrapIf = codes "TrapIf"
 form_name forms.Jal = codes "Jal"
@@ -36,7 +40,8 @@ unfoldable pub every_form : List Form
 every_form =
     forms.Nop0 ∷ forms.Nop4 ∷ forms.EBreak ∷ forms.SequencePoint ∷ forms.DummyUse ∷ forms.EmitIsland ∷ forms.Args ∷ forms.Rets ∷
     forms.RawData ∷ forms.Lui ∷ forms.Auipc ∷ forms.LoadInlineConst ∷ forms.AluRRR ∷ forms.AluRRImm12 ∷ forms.Mov ∷
-    forms.MovFromPReg ∷ forms.Ret ∷ forms.TrapIf ∷ forms.Jal ∷ forms.CondBr ∷ forms.Udf ∷ forms.Jalr ∷ forms.Popcnt ∷ forms.Bind ∷ []
+    forms.MovFromPReg ∷ forms.Load ∷ forms.Store ∷ forms.LoadAddr ∷ forms.LabelAddress ∷ forms.Ret ∷ forms.TrapIf ∷ forms.Jal ∷
+    forms.CondBr ∷ forms.Udf ∷ forms.Jalr ∷ forms.Popcnt ∷ forms.Bind ∷ []
 
 -- the form of the lines that begin with this word
 unfoldable pub form_named : List ℕ → Option Form

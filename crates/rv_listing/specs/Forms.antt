@@ -14,12 +14,13 @@ use Rattle.rv_listing.specs.Tokens.{◌>>=◌, natural}
 use Rattle.rv_listing.specs.FormNames.{form_named}
 use Rattle.rv_listing.specs.Fields.{done, ◌⊛◌, whole}
 use Rattle.rv_listing.specs.Registers.{register}
-use Rattle.rv_listing.specs.Operands.{writable, real_register, imm12, imm20, byte_count, label, target}
+use Rattle.rv_listing.specs.Operands.{writable, real_register, imm12, imm20, natural_32, label, target}
 use Rattle.rv_listing.specs.Comparisons.{cond_code}
-use Rattle.rv_listing.specs.Operations.{alu_rri, alu_rrr}
+use Rattle.rv_listing.specs.Addresses.{amode}
+use Rattle.rv_listing.specs.Operations.{alu_rri, alu_rrr, load_op, store_op}
 use Rattle.rv_listing.specs.Types.{type_named}
 use Rattle.rv_listing.specs.HexDigits.{some_bytes}
-use Rattle.rv_listing.specs.Traps.{trap_named}
+use Rattle.rv_listing.specs.Traps.{trap_named, access_flags}
 use Rattle.rv_listing.specs.Pairs.{arg_pair, ret_pair, listed}
 
 -- ---- those that compute nothing
@@ -40,7 +41,7 @@ unfoldable pub dummy_use_form : List (List ℕ) → Option Inst
 dummy_use_form = whole (done form.DummyUse ⊛ register)
 
 unfoldable pub emit_island_form : List (List ℕ) → Option Inst
-emit_island_form = whole (done form.EmitIsland ⊛ byte_count)
+emit_island_form = whole (done form.EmitIsland ⊛ natural_32)
 
 unfoldable pub args_form : List (List ℕ) → Option Inst
 args_form = whole (done form.Args ⊛ listed arg_pair)
@@ -73,6 +74,20 @@ mov_form = whole (done form.Mov ⊛ writable ⊛ register ⊛ type_named)
 
 unfoldable pub mov_from_preg_form : List (List ℕ) → Option Inst
 mov_from_preg_form = whole (done form.MovFromPReg ⊛ writable ⊛ real_register)
+
+-- ---- those that read or write memory, or compute an address
+
+unfoldable pub load_form : List (List ℕ) → Option Inst
+load_form = whole (done form.Load ⊛ writable ⊛ load_op ⊛ access_flags ⊛ amode)
+
+unfoldable pub store_form : List (List ℕ) → Option Inst
+store_form = whole (done form.Store ⊛ amode ⊛ store_op ⊛ access_flags ⊛ register)
+
+unfoldable pub load_addr_form : List (List ℕ) → Option Inst
+load_addr_form = whole (done form.LoadAddr ⊛ writable ⊛ amode)
+
+unfoldable pub label_address_form : List (List ℕ) → Option Inst
+label_address_form = whole (done form.LabelAddress ⊛ writable ⊛ label)
 
 -- ---- those that go elsewhere
 
@@ -134,6 +149,10 @@ by_form forms.AluRRR ws = put (alu_rrr_form ws)
 by_form forms.AluRRImm12 ws = put (alu_rr_imm12_form ws)
 by_form forms.Mov ws = put (mov_form ws)
 by_form forms.MovFromPReg ws = put (mov_from_preg_form ws)
+by_form forms.Load ws = put (load_form ws)
+by_form forms.Store ws = put (store_form ws)
+by_form forms.LoadAddr ws = put (load_addr_form ws)
+by_form forms.LabelAddress ws = put (label_address_form ws)
 by_form forms.Ret ws = put (ret_form ws)
 by_form forms.TrapIf ws = put (trap_if_form ws)
 by_form forms.Jal ws = put (jal_form ws)

@@ -3,12 +3,14 @@ pub mod Tokens
 pub mod Registers
 pub mod Fields
 pub mod Operands
+pub mod Addresses
 pub mod Comparisons
 pub mod Operations
 pub mod Types
 pub mod Traps
 pub mod HexDigits
 pub mod Pairs
+pub mod FrameHeader
 pub mod FormNames
 pub mod Forms
 pub mod Reading

@@ -1,5 +1,5 @@
 -- The tokens for registers, numbers and labels.
-use Rattle.std.specs.Prelude.{ℕ, ◌^◌, List, Option, Some, None, drop, if◌then◌else◌, codes, ℤ, pos, negsuc, int_le}
+use Rattle.std.specs.Prelude.{ℕ, Bool, ◌^◌, ◌-◌, ◌&&◌, List, Option, Some, None, drop, if◌then◌else◌, codes, ℤ, pos, negsuc, int_le}
 use Rattle.std.specs.Str.{bytes_eq}
 use lib.Signed.{le_z_yes}
 use Rattle.rv_base.specs.declared.label.MachLabel.{MachLabel}
@@ -33,9 +33,9 @@ imm20_of n = where_true (int_le (negsuc 524287) n) (λ low. where_true (int_le n
 unfoldable pub imm20 : List ℕ → Option Imm20
 imm20 w = signed w >>= imm20_of
 
--- a count of bytes, without a sign
-unfoldable pub byte_count : List ℕ → Option ℕ
-byte_count w = natural w >>= below (2 ^ 32)
+-- a number of 32 bits, without a sign
+unfoldable pub natural_32 : List ℕ → Option ℕ
+natural_32 w = natural w >>= below (2 ^ 32)
 
 -- L and the label's number
 unfoldable pub label : List ℕ → Option MachLabel
@@ -44,3 +44,14 @@ label w = if starts 76 w then (decimal (drop 1 w) >>= below (2 ^ 32) >>= λ n. S
 -- a label, or - for the next line
 unfoldable pub target : List ℕ → Option CondBrTarget
 target w = if bytes_eq w (codes "-") then Some targets.Fallthrough else label w >>= λ l. Some (targets.Label l)
+
+-- a number of 64 bits, signed
+abbrev pub fits_i64 : ℤ → Bool
+fits_i64 n = int_le (negsuc (2 ^ 63 - 1)) n && int_le n (pos (2 ^ 63 - 1))
+
+unfoldable pub offset_of : ℤ → Option ℤ
+offset_of n = if fits_i64 n then Some n else None
+
+-- an offset in bytes, of either sign
+unfoldable pub offset : List ℕ → Option ℤ
+offset w = signed w >>= offset_of

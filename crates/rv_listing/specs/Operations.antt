@@ -1,4 +1,4 @@
--- Integer operations by their names.
+-- Operations by their names.
 use Rattle.std.specs.Prelude.{ℕ, List, [], ◌∷◌, Option}
 use Rattle.std.specs.List.{find}
 use Rattle.std.specs.Str.{bytes_eq}
@@ -6,7 +6,12 @@ use Rattle.rv_ops.specs.declared.alu.AluOPRRR.{AluOPRRR}
 use Rattle.rv_ops.specs.declared.alu.AluOPRRR.TheVariants as rrr
 use Rattle.rv_ops.specs.declared.alu.AluOPRRI.{AluOPRRI}
 use Rattle.rv_ops.specs.declared.alu.AluOPRRI.TheVariants as rri
+use Rattle.rv_ops.specs.declared.memory.LoadOP.{LoadOP}
+use Rattle.rv_ops.specs.declared.memory.LoadOP.TheVariants.{Lb, Lh, Lw, Lbu, Lhu, Lwu, Ld}
+use Rattle.rv_ops.specs.declared.memory.StoreOP.{StoreOP}
+use Rattle.rv_ops.specs.declared.memory.StoreOP.TheVariants.{Sb, Sh, Sw, Sd}
 use Rattle.rv_ops.specs.Alu.{rrr_name, rri_name}
+use Rattle.rv_ops.specs.Memory.{load_name, store_name}
 
 unfoldable pub every_rrr : List AluOPRRR
 every_rrr =
@@ -31,3 +36,17 @@ every_rri =
 -- the operation of a register and an immediate that has this name
 unfoldable pub alu_rri : List ℕ → Option AluOPRRI
 alu_rri w = find (λ op. bytes_eq w (rri_name op)) every_rri
+
+unfoldable pub every_load : List LoadOP
+every_load = Lb ∷ Lh ∷ Lw ∷ Lbu ∷ Lhu ∷ Lwu ∷ Ld ∷ []
+
+-- the load of this mnemonic
+unfoldable pub load_op : List ℕ → Option LoadOP
+load_op w = find (λ op. bytes_eq w (load_name op)) every_load
+
+unfoldable pub every_store : List StoreOP
+every_store = Sb ∷ Sh ∷ Sw ∷ Sd ∷ []
+
+-- the store of this mnemonic
+unfoldable pub store_op : List ℕ → Option StoreOP
+store_op w = find (λ op. bytes_eq w (store_name op)) every_store

@@ -1,14 +1,20 @@
 -- A whole listing: the job that it means, or its first bad line.
-use Rattle.std.specs.Prelude.{◌≡◌, ℕ, ◌+◌, Bool, not, ◌&&◌, List, [], ◌∷◌, ◌++◌, length, Option, Some, None, Result, Ok, Err, nat_lt, ◌==◌, if◌then◌else◌}
+use Rattle.std.specs.Prelude.{◌≡◌, ℕ, ◌+◌, Bool, not, ◌&&◌, List, [], ◌∷◌, ◌++◌, length, Option, Some, None, Result, Ok, Err, nat_lt, ◌==◌, if◌then◌else◌, codes}
 use Rattle.std.specs.List.{list_all}
+use Rattle.std.specs.Str.{bytes_eq}
+use Rattle.rv_base.specs.declared.frame.FrameLayout.{FrameLayout}
 use Rattle.rv_base.specs.Flags.{no_flags}
 use Rattle.rv_base.specs.Frame.{no_frame}
 use Rattle.rv_inst.specs.declared.inst.Line.{Line}
 use Rattle.rv_inst.specs.declared.job.Job.{Job}
 use Rattle.rv_listing.specs.Tokens.{◌>>=◌, starts, lines_of, words_of}
 use Rattle.rv_listing.specs.Forms.{line_form}
+use Rattle.rv_listing.specs.FrameHeader.{frame_form}
 use Rattle.rv_listing.specs.declared.fields.LineError.{LineError}
 use Rattle.rv_listing.specs.declared.fields.LineError.TheVariants as bad
+use Rattle.rv_listing.specs.declared.reading.Draft.{Draft}
+use Rattle.rv_listing.specs.declared.reading.Place.{Place}
+use Rattle.rv_listing.specs.declared.reading.Place.TheVariants.{AtFrame, AtLines}
 use Rattle.rv_listing.specs.declared.reading.ReadError.{ReadError}
 use Rattle.rv_listing.specs.declared.reading.ReadError.TheVariants as errors
 
@@ -16,42 +22,67 @@ use Rattle.rv_listing.specs.declared.reading.ReadError.TheVariants as errors
 abbrev pub no_job : Job
 no_job = record { lines = []; flags = no_flags; frame = no_frame; constants = [] }
 
-abbrev pub and_line : Job → Line → Job
-and_line job line = record job { lines = job.lines ++ line ∷ [] }
+-- before the first line
+abbrev pub no_draft : Draft
+no_draft = record { job = no_job; place = AtFrame }
+
+abbrev pub and_frame : Draft → FrameLayout → Draft
+and_frame draft frame = record { job = record draft.job { frame = frame }; place = AtLines }
+
+abbrev pub and_line : Draft → Line → Draft
+and_line draft line = record { job = record draft.job { lines = draft.job.lines ++ line ∷ [] }; place = AtLines }
 
 -- what a comment may have: ASCII, and no CR
 abbrev pub is_plain : ℕ → Bool
 is_plain c = nat_lt c 128 && not (c == 13)
 
-abbrev pub by_words : List (List ℕ) → Option Line
-by_words [] = None
-by_words (name ∷ ws) = line_form name ws
+-- the frame of these words, where a header line may stand
+abbrev pub frame_at : Place → List (List ℕ) → Option FrameLayout
+frame_at AtFrame ws = frame_form ws
+frame_at AtLines ws = None
+
+abbrev pub with_frame : Draft → List (List ℕ) → Option Draft
+with_frame draft ws = frame_at draft.place ws >>= λ frame. Some (and_frame draft frame)
+
+abbrev pub with_form : Draft → List ℕ → List (List ℕ) → Option Draft
+with_form draft name ws = line_form name ws >>= λ line. Some (and_line draft line)
+
+-- the header line, or a line of the job
+unfoldable pub with_named : Draft → List ℕ → List (List ℕ) → Option Draft
+with_named draft name ws = if bytes_eq name (codes "frame") then with_frame draft ws else with_form draft name ws
+
+abbrev pub with_words : Draft → List (List ℕ) → Option Draft
+with_words draft [] = None
+with_words draft (name ∷ ws) = with_named draft name ws
 
 -- A line after what was read so far. One that is empty or begins with # says nothing.
-unfoldable pub with_line : Job → List ℕ → Option Job
-with_line job line =
-    if length line == 0 then Some job else
-    if starts 35 line then (if list_all is_plain line then Some job else None) else
-    (by_words (words_of line) >>= λ l. Some (and_line job l))
+unfoldable pub with_line : Draft → List ℕ → Option Draft
+with_line draft line =
+    if length line == 0 then Some draft else
+    if starts 35 line then (if list_all is_plain line then Some draft else None) else with_words draft (words_of line)
 
 abbrev pub or_line : {A : Type 0} → ℕ → Option A → (A → Result A ℕ) → Result A ℕ
 or_line n None f = Err n
 or_line n (Some x) f = f x
 
 -- all lines from number n on, or the number of the first that isn't allowed
-abbrev pub reading : ℕ → Job → List (List ℕ) → Result Job ℕ
-reading n job [] = Ok job
-reading n job (l ∷ ls) = or_line n (with_line job l) (λ next. reading (n + 1) next ls)
+abbrev pub reading : ℕ → Draft → List (List ℕ) → Result Draft ℕ
+reading n draft [] = Ok draft
+reading n draft (l ∷ ls) = or_line n (with_line draft l) (λ next. reading (n + 1) next ls)
+
+abbrev pub job_of : Result Draft ℕ → Result Job ℕ
+job_of (Ok draft) = Ok draft.job
+job_of (Err n) = Err n
 
 -- the job that a text means, or its first bad line, from 1
 abbrev pub reads : List ℕ → Result Job ℕ
-reads text = reading 1 no_job (lines_of text)
+reads text = job_of (reading 1 no_draft (lines_of text))
 
--- a line that was taken, or isn't allowed; out of memory says nothing
-abbrev pub TakesLine : Job → Job → List ℕ → Result Unit LineError → Type 0
-TakesLine old new line (Ok x) = with_line old line ≡ Some new
-TakesLine old new line (Err bad.NotAllowed) = with_line old line ≡ None
-TakesLine old new line (Err bad.OutOfMemory) = Unit {0}
+-- a draft that a line was taken into, or a line that isn't allowed; out of memory says nothing
+abbrev pub Becomes : Option Draft → Draft → Result Unit LineError → Type 0
+Becomes taken new (Ok x) = taken ≡ Some new
+Becomes taken new (Err bad.NotAllowed) = taken ≡ None
+Becomes taken new (Err bad.OutOfMemory) = Unit {0}
 
 -- what a reader of the text returned; out of memory says nothing
 abbrev pub Reads : List ℕ → Result Job ReadError → Type 0
@@ -64,14 +95,13 @@ pub record IsBadLine (text : List ℕ) (n : ℕ) : Type 0 where
   pub before : List (List ℕ)
   pub line : List ℕ
   pub after : List (List ℕ)
-  pub sofar : Job
+  pub sofar : Draft
   pub cut : lines_of text ≡ before ++ line ∷ after
   pub count : n ≡ length before + 1
-  pub fine : reading 1 no_job before ≡ Ok sofar
+  pub fine : reading 1 no_draft before ≡ Ok sofar
   pub refused : with_line sofar line ≡ None
 
--- every flag is off, the frame has no bytes, and there are no constants
+-- every flag is off, and there are no constants
 pub record IsPlain (job : Job) : Type 0 where
   pub flags : job.flags ≡ no_flags
-  pub frame : job.frame ≡ no_frame
   pub constants : job.constants ≡ []

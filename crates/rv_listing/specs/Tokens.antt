@@ -45,8 +45,10 @@ words_after = parts_after 32
 
 -- both parts, where there are two
 abbrev pub as_pair : List (List ℕ) → Option (List ℕ × List ℕ)
+as_pair [] = None
+as_pair (a ∷ []) = None
 as_pair (a ∷ b ∷ []) = Some (a, b)
-as_pair _ = None
+as_pair (a ∷ b ∷ c ∷ rest) = None
 
 -- what is after an LF, or nothing at the end of the text
 abbrev pub after_lf : List ℕ → List ℕ

@@ -3,6 +3,7 @@ use Rattle.std.specs.Prelude.{ℕ, List, [], ◌∷◌, Option, Some, None, nat_
 use Rattle.std.specs.List.{find}
 use Rattle.std.specs.Str.{bytes_eq}
 use lib.Dec.{leb→le}
+use Rattle.rv_base.specs.declared.mem_flags.MemFlagsData.{MemFlagsData}
 use Rattle.rv_base.specs.declared.trap.TrapCode.{TrapCode}
 use Rattle.rv_base.specs.declared.trap.TrapCode.TheVariants.{StackOverflow, HeapOutOfBounds, IntegerOverflow, IntegerDivisionByZero, BadConversionToInteger, User}
 use Rattle.rv_base.specs.Trap.{name_of}
@@ -23,3 +24,7 @@ constant w = find (λ code. bytes_eq w (name_of code)) (StackOverflow ∷ HeapOu
 -- the cause that has this name
 unfoldable pub trap_named : List ℕ → Option TrapCode
 trap_named w = or_else (constant w) (user w)
+
+-- the cause of an access's trap, or - for none
+unfoldable pub access_flags : List ℕ → Option MemFlagsData
+access_flags w = if bytes_eq w (codes "-") then Some (record { trap = None }) else trap_named w >>= λ code. Some (record { trap = Some code })

@@ -2,16 +2,14 @@
 
 ghost use Rattle.std.specs.Prelude.{◌≡◌};
 ghost use Rattle.rv_listing.specs.Tokens.{words_after};
-ghost use Rattle.rv_listing.specs.Fields.{Makes, TakesFirst, field};
-ghost use Rattle.rv_listing.specs.Pairs.{listed};
-ghost use Rattle.rv_listing.specs.Forms.{args_form, rets_form, dummy_use_form, emit_island_form, raw_data_form, lui_form, auipc_form, load_inline_const_form, alu_rrr_form, alu_rr_imm12_form, mov_form, mov_from_preg_form, trap_if_form, jal_form, cond_br_form, udf_form, jalr_form, popcnt_form, bind_form, put, by_form, line_form};
+ghost use Rattle.rv_listing.specs.Fields.{Makes};
+ghost use Rattle.rv_listing.specs.Forms.{args_form, rets_form, dummy_use_form, emit_island_form, raw_data_form, lui_form, auipc_form, load_inline_const_form, alu_rrr_form, alu_rr_imm12_form, mov_form, mov_from_preg_form, load_form, store_form, load_addr_form, label_address_form, trap_if_form, jal_form, cond_br_form, udf_form, jalr_form, popcnt_form, bind_form, put, by_form, line_form};
 
-use crate::fields::{LineError, Token, allowed, field, whole};
+use crate::fields::{LineError, allowed, field, whole};
 use crate::form_names::{Form, form_named};
 use crate::hex_digits::some_bytes;
-use crate::pairs::listed;
+use crate::pairs::listed_field;
 use crate::tokens::next_word;
-use rv_base::List;
 use rv_inst::{Inst, Line};
 use rv_ops::IntegerCompare;
 use std::alloc::Global;
@@ -32,17 +30,6 @@ fn emit_island(rest: &[u8]) -> Option<Inst>
 {
     let (needed_space, rest) = field(rest)?;
     whole(Inst::EmitIsland { needed_space }, rest)
-}
-
-// The next word, as a list of tokens.
-fn listed_field<T: Token + Drop>(alloc: Global, rest: &[u8]) -> Result<(List<T>, &[u8]), LineError>
-    ensures { TakesFirst result (field (listed T.reads) (words_after rest.now)) }
-{
-    let Some((w, rest)) = next_word(rest) else {
-        return Err(LineError::NotAllowed);
-    };
-    let made = listed(alloc, w)?;
-    Ok((made, rest))
 }
 
 #[tactic(auto, unfolding(crate::specs::Forms::args_form))]
@@ -157,6 +144,56 @@ fn mov_from_preg(rest: &[u8]) -> Option<Inst>
     let (rd, rest) = field(rest)?;
     let (rm, rest) = field(rest)?;
     whole(Inst::MovFromPReg { rd, rm }, rest)
+}
+
+// ---- those that read or write memory, or compute an address
+
+#[tactic(auto, unfolding(crate::specs::Forms::load_form))]
+fn load(rest: &[u8]) -> Option<Inst>
+    ensures { result ≡ load_form (words_after rest.now) }
+{
+    let (rd, rest) = field(rest)?;
+    let (op, rest) = field(rest)?;
+    let (flags, rest) = field(rest)?;
+    let (from, rest) = field(rest)?;
+    whole(
+        Inst::Load {
+            rd,
+            op,
+            flags,
+            from,
+        },
+        rest,
+    )
+}
+
+#[tactic(auto, unfolding(crate::specs::Forms::store_form))]
+fn store(rest: &[u8]) -> Option<Inst>
+    ensures { result ≡ store_form (words_after rest.now) }
+{
+    let (to, rest) = field(rest)?;
+    let (op, rest) = field(rest)?;
+    let (flags, rest) = field(rest)?;
+    let (src, rest) = field(rest)?;
+    whole(Inst::Store { to, op, flags, src }, rest)
+}
+
+#[tactic(auto, unfolding(crate::specs::Forms::load_addr_form))]
+fn load_addr(rest: &[u8]) -> Option<Inst>
+    ensures { result ≡ load_addr_form (words_after rest.now) }
+{
+    let (rd, rest) = field(rest)?;
+    let (mem, rest) = field(rest)?;
+    whole(Inst::LoadAddr { rd, mem }, rest)
+}
+
+#[tactic(auto, unfolding(crate::specs::Forms::label_address_form))]
+fn label_address(rest: &[u8]) -> Option<Inst>
+    ensures { result ≡ label_address_form (words_after rest.now) }
+{
+    let (dst, rest) = field(rest)?;
+    let (label, rest) = field(rest)?;
+    whole(Inst::LabelAddress { dst, label }, rest)
 }
 
 // ---- those that go elsewhere
@@ -287,6 +324,10 @@ fn line_of(alloc: Global, form: Form, rest: &[u8]) -> Result<Line, LineError>
         Form::AluRRImm12 => put(alu_rr_imm12(rest)),
         Form::Mov => put(mov(rest)),
         Form::MovFromPReg => put(mov_from_preg(rest)),
+        Form::Load => put(load(rest)),
+        Form::Store => put(store(rest)),
+        Form::LoadAddr => put(load_addr(rest)),
+        Form::LabelAddress => put(label_address(rest)),
         Form::Ret => put(whole(Inst::Ret, rest)),
         Form::TrapIf => put(trap_if(rest)),
         Form::Jal => put(jal(rest)),

@@ -1,11 +1,13 @@
 //! Listings read to jobs, and codes reported.
 #![tactic(auto)]
 
+mod addresses;
 mod code_report;
 mod comparisons;
 mod fields;
 mod form_names;
 mod forms;
+mod frame_header;
 mod hex_digits;
 mod operands;
 mod operations;

@@ -4,7 +4,7 @@ ghost use Rattle.std.specs.Prelude.{◌≡◌};
 ghost use Rattle.rv_base.specs.Regs.{real_of};
 ghost use Rattle.rv_listing.specs.Tokens.{natural};
 ghost use Rattle.rv_listing.specs.Registers.{register};
-ghost use Rattle.rv_listing.specs.Operands.{writable, real_register, imm12_of, imm12, imm20_of, imm20, byte_count, label, target};
+ghost use Rattle.rv_listing.specs.Operands.{writable, real_register, imm12_of, imm12, imm20_of, imm20, natural_32, offset_of, offset, label, target};
 
 use crate::fields::Token;
 use crate::registers::register;
@@ -84,9 +84,9 @@ impl Token for Imm20 {
 }
 
 impl Token for u32 {
-    ghost reads = { byte_count };
+    ghost reads = { natural_32 };
 
-    #[tactic(auto, unfolding(crate::specs::Operands::byte_count))]
+    #[tactic(auto, unfolding(crate::specs::Operands::natural_32))]
     fn read(w: &[u8]) -> Option<u32> {
         let n = natural(w)?;
         if n < 0x1_0000_0000 {
@@ -102,6 +102,28 @@ impl Token for u64 {
 
     fn read(w: &[u8]) -> Option<u64> {
         natural(w)
+    }
+}
+
+#[tactic(auto, unfolding(crate::specs::Operands::offset_of))]
+fn offset_of(n: i128) -> Option<i64>
+    ensures { result ≡ offset_of n }
+{
+    if n < -0x8000_0000_0000_0000 {
+        None
+    } else if n <= 0x7fff_ffff_ffff_ffff {
+        Some(n as i64)
+    } else {
+        None
+    }
+}
+
+impl Token for i64 {
+    ghost reads = { offset };
+
+    #[tactic(auto, unfolding(crate::specs::Operands::offset))]
+    fn read(w: &[u8]) -> Option<i64> {
+        offset_of(signed(w)?)
     }
 }
 

@@ -1,12 +1,13 @@
-//! Integer operations by their names.
+//! Operations by their names.
 
 ghost use Rattle.std.specs.Prelude.{◌≡◌, Some};
 ghost use Rattle.rv_ops.specs.Alu.{rri_name, rrr_name};
-ghost use Rattle.rv_listing.specs.Operations.{alu_rri, alu_rrr, every_rri, every_rrr};
+ghost use Rattle.rv_ops.specs.Memory.{load_name, store_name};
+ghost use Rattle.rv_listing.specs.Operations.{alu_rri, alu_rrr, load_op, store_op};
 
 use crate::fields::Token;
 use crate::slots::candidate;
-use rv_ops::{AluOPRRI, AluOPRRR};
+use rv_ops::{AluOPRRI, AluOPRRR, LoadOP, StoreOP};
 
 const EVERY_RRR: [AluOPRRR; 54] = [
     AluOPRRR::Add,
@@ -180,5 +181,99 @@ impl Token for AluOPRRI {
 
     fn read(w: &[u8]) -> Option<AluOPRRI> {
         rri_named(w)
+    }
+}
+
+const EVERY_LOAD: [LoadOP; 7] = [
+    LoadOP::Lb,
+    LoadOP::Lh,
+    LoadOP::Lw,
+    LoadOP::Lbu,
+    LoadOP::Lhu,
+    LoadOP::Lwu,
+    LoadOP::Ld,
+];
+
+/// The indices in `EVERY_LOAD` by the names' slots.
+const LOAD_SLOTS: [u8; 256] = [
+    0, 0, 0, 0, 0, 0, 0, 0, 0, 0, 0, 0, 0, 0, 0, 0, 0, 0, 0, 0, 0, 0, 5, 0, 0, 0, 0, 0, 0, 0, 0, 0,
+    0, 0, 0, 0, 0, 0, 0, 0, 0, 0, 0, 0, 0, 0, 0, 0, 0, 0, 0, 0, 0, 0, 0, 0, 0, 0, 0, 0, 0, 0, 0, 0,
+    4, 0, 0, 0, 0, 0, 0, 0, 0, 0, 0, 0, 0, 0, 0, 0, 1, 0, 0, 0, 0, 0, 0, 0, 0, 0, 0, 0, 0, 0, 0, 0,
+    0, 0, 0, 0, 0, 0, 0, 0, 0, 0, 0, 0, 0, 0, 0, 0, 0, 0, 0, 0, 0, 0, 0, 0, 0, 0, 0, 0, 0, 0, 0, 0,
+    0, 0, 0, 0, 0, 0, 0, 0, 0, 0, 0, 0, 0, 0, 0, 0, 0, 0, 0, 0, 0, 0, 0, 0, 0, 0, 0, 0, 0, 0, 0, 0,
+    0, 0, 0, 0, 0, 0, 0, 0, 0, 0, 0, 0, 0, 0, 0, 0, 0, 0, 0, 0, 0, 0, 0, 3, 0, 0, 0, 0, 0, 0, 0, 0,
+    0, 0, 0, 0, 0, 0, 0, 0, 0, 0, 0, 0, 0, 0, 0, 0, 0, 0, 2, 0, 0, 0, 0, 0, 0, 0, 0, 0, 0, 0, 0, 0,
+    0, 0, 0, 0, 0, 0, 0, 0, 0, 6, 0, 0, 0, 0, 0, 0, 0, 0, 0, 0, 0, 0, 0, 0, 0, 0, 0, 0, 0, 0, 0, 0,
+];
+
+const LOAD_FACTOR: u64 = 10517972530174996981;
+
+fn find_load(w: &[u8]) -> Option<LoadOP>
+    ensures { result ≡ load_op w.now }
+{
+    let op = candidate(&EVERY_LOAD, &LOAD_SLOTS, LOAD_FACTOR, w)?;
+    if w == op.op_name().as_bytes() {
+        Some(op)
+    } else {
+        None
+    }
+}
+
+/// The load of this mnemonic.
+pub fn load_named(w: &[u8]) -> Option<LoadOP>
+    ensures reads { result ≡ load_op w.now }
+    ensures named { (op : LoadOP) → w.now ≡ load_name op → result ≡ Some op }
+{
+    find_load(w)
+}
+
+impl Token for LoadOP {
+    ghost reads = { load_op };
+
+    fn read(w: &[u8]) -> Option<LoadOP> {
+        load_named(w)
+    }
+}
+
+const EVERY_STORE: [StoreOP; 4] = [StoreOP::Sb, StoreOP::Sh, StoreOP::Sw, StoreOP::Sd];
+
+/// The indices in `EVERY_STORE` by the names' slots.
+const STORE_SLOTS: [u8; 256] = [
+    0, 0, 0, 0, 0, 0, 0, 0, 0, 0, 0, 0, 0, 0, 0, 0, 0, 0, 0, 0, 0, 0, 0, 0, 0, 0, 0, 0, 0, 0, 0, 0,
+    0, 0, 0, 0, 0, 0, 0, 0, 0, 0, 0, 0, 0, 0, 0, 0, 0, 0, 0, 0, 0, 0, 0, 0, 0, 0, 0, 0, 0, 0, 0, 0,
+    0, 0, 0, 0, 0, 0, 0, 0, 0, 0, 0, 0, 0, 0, 0, 0, 0, 0, 0, 0, 1, 0, 0, 0, 0, 0, 0, 0, 0, 0, 0, 0,
+    0, 0, 0, 0, 0, 0, 0, 0, 0, 0, 0, 0, 0, 0, 0, 0, 0, 0, 0, 0, 0, 0, 0, 0, 0, 0, 0, 0, 0, 0, 0, 0,
+    0, 0, 0, 0, 0, 0, 0, 0, 0, 0, 0, 0, 0, 0, 0, 0, 0, 0, 0, 0, 0, 0, 0, 0, 0, 0, 0, 0, 0, 0, 0, 0,
+    0, 0, 0, 0, 0, 0, 0, 0, 0, 0, 0, 0, 0, 0, 0, 0, 0, 0, 0, 0, 0, 0, 0, 0, 0, 0, 0, 0, 0, 0, 0, 0,
+    0, 0, 0, 0, 0, 0, 0, 0, 0, 0, 0, 0, 0, 0, 0, 0, 0, 0, 0, 0, 0, 0, 2, 0, 0, 0, 0, 0, 0, 0, 0, 0,
+    0, 0, 0, 0, 0, 0, 0, 0, 0, 0, 0, 0, 0, 3, 0, 0, 0, 0, 0, 0, 0, 0, 0, 0, 0, 0, 0, 0, 0, 0, 0, 0,
+];
+
+const STORE_FACTOR: u64 = 10517972530174996981;
+
+fn find_store(w: &[u8]) -> Option<StoreOP>
+    ensures { result ≡ store_op w.now }
+{
+    let op = candidate(&EVERY_STORE, &STORE_SLOTS, STORE_FACTOR, w)?;
+    if w == op.op_name().as_bytes() {
+        Some(op)
+    } else {
+        None
+    }
+}
+
+/// The store of this mnemonic.
+pub fn store_named(w: &[u8]) -> Option<StoreOP>
+    ensures reads { result ≡ store_op w.now }
+    ensures named { (op : StoreOP) → w.now ≡ store_name op → result ≡ Some op }
+{
+    find_store(w)
+}
+
+impl Token for StoreOP {
+    ghost reads = { store_op };
+
+    fn read(w: &[u8]) -> Option<StoreOP> {
+        store_named(w)
     }
 }

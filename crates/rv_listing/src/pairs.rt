@@ -1,12 +1,13 @@
 //! Pairs of registers, and lists of them.
 
 ghost use Rattle.std.specs.Prelude.{◌≡◌};
-ghost use Rattle.rv_listing.specs.Fields.{Makes, Puts};
+ghost use Rattle.rv_listing.specs.Fields.{Makes, Puts, TakesFirst, field};
+ghost use Rattle.rv_listing.specs.Tokens.{words_after};
 ghost use Rattle.rv_listing.specs.Pairs.{arg_pair, listed, ret_pair};
 
 use crate::fields::{LineError, Token};
 use crate::registers::register;
-use crate::tokens::{first_part, is, next_part, two_parts};
+use crate::tokens::{first_part, is, next_part, next_word, two_parts};
 use rv_base::{ArgPair, List, RetPair, Writable};
 use std::alloc::Global;
 
@@ -66,4 +67,18 @@ pub fn listed<T: Token + Drop>(alloc: Global, w: &[u8]) -> Result<List<T>, LineE
         rest = after;
     }
     Ok(made)
+}
+
+/// The next word, as a list of tokens.
+pub fn listed_field<T: Token + Drop>(
+    alloc: Global,
+    rest: &[u8],
+) -> Result<(List<T>, &[u8]), LineError>
+    ensures { TakesFirst result (field (listed T.reads) (words_after rest.now)) }
+{
+    let Some((w, rest)) = next_word(rest) else {
+        return Err(LineError::NotAllowed);
+    };
+    let made = listed(alloc, w)?;
+    Ok((made, rest))
 }

@@ -2,13 +2,12 @@
 
 ghost use Rattle.std.specs.Prelude.{◌≡◌, ℕ, IfOk, IfErr};
 ghost use Rattle.rv_listing.specs.Tokens.{words_after, words_of, lines_of};
-ghost use Rattle.rv_listing.specs.Forms.{line_form};
 ghost use Rattle.std.specs.List.{list_all};
-ghost use Rattle.rv_listing.specs.Reading.{no_job, is_plain, by_words, with_line, reading, TakesLine, reads, Reads, IsBadLine, IsPlain};
+ghost use Rattle.rv_listing.specs.Reading.{no_draft, is_plain, with_frame, with_form, with_named, with_line, reading, Becomes, reads, Reads, IsBadLine, IsPlain};
 
 use crate::fields::LineError;
-use crate::forms;
-use crate::tokens::{first_word, next_line};
+use crate::tokens::{first_word, is, next_line};
+use crate::{forms, frame_header};
 use rv_base::{FrameLayout, IsaFlags, List};
 use rv_inst::Job;
 use std::alloc::Global;
@@ -24,14 +23,34 @@ pub enum ReadError {
     OutOfMemory,
 }
 
-fn no_job(alloc: Global) -> Job
-    ensures { result ≡ no_job }
+/// Where in a listing one is, by the lines that may come next. Header lines come before all others.
+#[derive(Clone, Copy, Debug, PartialEq, Eq)]
+pub enum Place {
+    /// The frame's header line or any line after it.
+    AtFrame,
+    /// Instructions and labels alone.
+    AtLines,
+}
+
+/// What was read so far.
+#[derive(Drop)]
+pub struct Draft {
+    job: Job,
+    place: Place,
+}
+
+fn no_draft(alloc: Global) -> Draft
+    ensures { result ≡ no_draft }
 {
-    Job {
+    let job = Job {
         lines: List::new(alloc),
         flags: IsaFlags::none(),
         frame: FrameLayout::none(alloc),
         constants: List::new(alloc),
+    };
+    Draft {
+        job,
+        place: Place::AtFrame,
     }
 }
 
@@ -41,9 +60,46 @@ fn is_comment(line: &[u8]) -> bool
     line.iter().all(|c| *c < 128 && *c != 13)
 }
 
+fn take_frame(alloc: Global, draft: &mut Draft, rest: &[u8]) -> Result<(), LineError>
+    ensures { Becomes (with_frame draft.old (words_after rest.now)) draft.new result }
+{
+    match draft.place {
+        Place::AtFrame => {
+            draft.job.frame = frame_header::frame(alloc, rest)?;
+            draft.place = Place::AtLines;
+            Ok(())
+        }
+        Place::AtLines => Err(LineError::NotAllowed),
+    }
+}
+
+fn take_form(alloc: Global, draft: &mut Draft, name: &[u8], rest: &[u8]) -> Result<(), LineError>
+    ensures { Becomes (with_form draft.old name.now (words_after rest.now)) draft.new result }
+{
+    let line = forms::line(alloc, name, rest)?;
+    match draft.job.lines.push(line) {
+        Ok(()) => {
+            draft.place = Place::AtLines;
+            Ok(())
+        }
+        Err(_) => Err(LineError::OutOfMemory),
+    }
+}
+
+#[tactic(auto, unfolding(crate::specs::Reading::with_named))]
+fn take_named(alloc: Global, draft: &mut Draft, name: &[u8], rest: &[u8]) -> Result<(), LineError>
+    ensures { Becomes (with_named draft.old name.now (words_after rest.now)) draft.new result }
+{
+    if is(b"frame", name) {
+        take_frame(alloc, draft, rest)
+    } else {
+        take_form(alloc, draft, name, rest)
+    }
+}
+
 #[tactic(auto, unfolding(crate::specs::Reading::with_line))]
-fn take_line(alloc: Global, job: &mut Job, line: &[u8]) -> Result<(), LineError>
-    ensures { TakesLine job.old job.new line.now result }
+fn take_line(alloc: Global, draft: &mut Draft, line: &[u8]) -> Result<(), LineError>
+    ensures { Becomes (with_line draft.old line.now) draft.new result }
 {
     if line.is_empty() {
         return Ok(());
@@ -56,21 +112,17 @@ fn take_line(alloc: Global, job: &mut Job, line: &[u8]) -> Result<(), LineError>
         };
     }
     let (name, rest) = first_word(line);
-    let line = forms::line(alloc, name, rest)?;
-    match job.lines.push(line) {
-        Ok(()) => Ok(()),
-        Err(_) => Err(LineError::OutOfMemory),
-    }
+    take_named(alloc, draft, name, rest)
 }
 
 fn read_lines(alloc: Global, text: &[u8]) -> Result<Job, ReadError>
     ensures { Reads text.now result }
 {
-    let mut job = no_job(alloc);
+    let mut draft = no_draft(alloc);
     let mut rest = text;
     let mut number = 1;
     while let Some((line, after)) = next_line(rest) {
-        match take_line(alloc, &mut job, line) {
+        match take_line(alloc, &mut draft, line) {
             Ok(()) => {}
             Err(LineError::NotAllowed) => return Err(ReadError::Syntax { line: number }),
             Err(LineError::OutOfMemory) => return Err(ReadError::OutOfMemory),
@@ -78,10 +130,11 @@ fn read_lines(alloc: Global, text: &[u8]) -> Result<Job, ReadError>
         number += 1;
         rest = after;
     }
-    Ok(job)
+    Ok(draft.job)
 }
 
-/// The job that a listing means. The text is ASCII in lines that LF ends; the last LF may be missing.
+/// The job that a listing means. The text is ASCII in lines that LF ends; the last LF may be missing. The frame's header
+/// line stands before all instructions and labels; without it the frame has no bytes.
 pub fn read_job(alloc: Global, text: &[u8]) -> Result<Job, ReadError>
     ensures reads { Reads text.now result }
     ensures bad_line { IfErr result (λ e. (n : ℕ) → e ≡ ReadError.Syntax n → IsBadLine text.now n) }

@@ -2,11 +2,11 @@
 
 ghost use Rattle.std.specs.Prelude.{◌≡◌, Some};
 ghost use Rattle.rv_base.specs.Trap.{name_of};
-ghost use Rattle.rv_listing.specs.Traps.{user_of, user, constant, trap_named};
+ghost use Rattle.rv_listing.specs.Traps.{user_of, user, constant, trap_named, access_flags};
 
 use crate::fields::Token;
 use crate::tokens::{decimal, is};
-use rv_base::TrapCode;
+use rv_base::{MemFlagsData, TrapCode};
 
 fn user_of(number: u64) -> Option<TrapCode>
     ensures { result ≡ user_of number }
@@ -68,5 +68,17 @@ impl Token for TrapCode {
 
     fn read(w: &[u8]) -> Option<TrapCode> {
         trap_named(w)
+    }
+}
+
+impl Token for MemFlagsData {
+    ghost reads = { access_flags };
+
+    #[tactic(auto, unfolding(crate::specs::Traps::access_flags))]
+    fn read(w: &[u8]) -> Option<MemFlagsData> {
+        if is(b"-", w) {
+            return Some(MemFlagsData::new());
+        }
+        Some(MemFlagsData::with_trap(trap_named(w)?))
     }
 }

@@ -32,6 +32,11 @@ const CONSTANT: &str =
 const TRAP_IF: &str =
     "code 12\n00000000 6314b5000000000067800000\nline 0 0 8\nline 1 8 12\ntrap 4 heap_oob\nend 12\n";
 
+/// The listing of `examples/squares.lst`: eight squares are stored to the stack slots, and loaded again. The report is that of a harness
+/// with the Rust's own emission code.
+const SQUARES: &str =
+    "code 68\n00000000 130101fc9302800013030100b3835202\n00000010 23307300130383009382f2ffe39802fe\n00000020 13050000130301009302010483330300\n00000030 3305750013038300e36a53fe13010104\n00000040 67800000\nline 0 0 4\nline 1 4 8\nline 2 8 12\nline 3 12 12\nline 4 12 16\nline 5 16 20\nline 6 20 24\nline 7 24 28\nline 8 28 32\nline 9 32 36\nline 10 36 40\nline 11 40 44\nline 12 44 44\nline 13 44 48\nline 14 48 52\nline 15 52 56\nline 16 56 60\nline 17 60 64\nline 18 64 68\nlabel L0 12\nlabel L1 44\ntrap 44 heap_oob\nend 68\n";
+
 /// A call's words and input, with its status and its text.
 struct Call {
     words: &'static [&'static str],
@@ -40,12 +45,19 @@ struct Call {
     text: &'static str,
 }
 
-const RUNS: [Call; 18] = [
+const RUNS: [Call; 19] = [
     Call {
         words: &["a0=1071", "a1=462"],
         input: GCD,
         status: 0,
         text: "left the code to 0x8000000000010000\nsteps 17\na0 21 0x15\na1 0 0x0\n",
+    },
+    // 3, 8 times 5, 3, 8 times 4 and 2 steps; the slots are the 64 bytes below 4096.
+    Call {
+        words: &["sp=4096"],
+        input: SQUARES,
+        status: 0,
+        text: "left the code to 0x8000000000010000\nsteps 80\nt0 4096 0x1000\nt1 4096 0x1000\nt2 1 0x1\na0 204 0xcc\nmemory 0xfc0: 40000000000000003100000000000000\nmemory 0xfd0: 24000000000000001900000000000000\nmemory 0xfe0: 10000000000000000900000000000000\nmemory 0xff0: 04000000000000000100000000000000\n",
     },
     Call {
         words: &["a0=5"],

@@ -171,7 +171,7 @@ Ret\r
 # comment\r
 # caf\u{e9}
 flags m
-frame 0 0 0 0 0 0 -
+frame 0 0 0 0 0 0
 ";
 
 #[test]

@@ -18,7 +18,7 @@ struct Call {
     text: &'static str,
 }
 
-const CALLS: [Call; 26] = [
+const CALLS: [Call; 35] = [
     Call {
         listing: "",
         status: 0,
@@ -130,6 +130,54 @@ const CALLS: [Call; 26] = [
         listing: "Popcnt a0 a1 a2 a3 i64\nPopcnt a0 a1 a2 a3 i8\nTrapIf eq a0 a1 heap_oob\nUdf heap_oob\nRawData 01020304\nLoadInlineConst a0 i64 0x123456789abcdef0\nLoadInlineConst a0 i32 5\nRet\n",
         status: 0,
         text: "code 144\n00000000 1305000013060004930510009395f503\n00000010 635ec00033ffd5006304e00113051500\n00000020 1306f6ff93d515006ff09ffe13050000\n00000030 130680009305100093957500635ec000\n00000040 33ffd5006304e001130515001306f6ff\n00000050 93d515006ff09ffe6314b50000000000\n00000060 0000000001020304170500000335c500\n00000070 6f00c000f0debc9a7856341217050000\n00000080 0325c5006f0080000500000067800000\nline 0 0 44\nline 1 44 88\nline 2 88 96\nline 3 96 100\nline 4 100 104\nline 5 104 124\nline 6 124 140\nline 7 140 144\ntrap 92 heap_oob\ntrap 96 heap_oob\nend 144\n",
+    },
+    // The words of loads and stores.
+    Call {
+        listing: "Load a0 lb - r:a1:100\nLoad a0 lh - r:a1:100\nLoad a0 lw - r:a1:100\nLoad a0 ld - r:a1:100\nStore sp:100 sb - a0\nStore sp:100 sh - a0\nStore sp:100 sw - a0\nStore sp:100 sd - a0\n",
+        status: 0,
+        text: "code 32\n00000000 038545060395450603a5450603b54506\n00000010 2302a1062312a1062322a1062332a106\nline 0 0 4\nline 1 4 8\nline 2 8 12\nline 3 12 16\nline 4 16 20\nline 5 20 24\nline 6 24 28\nline 7 28 32\nend 32\n",
+    },
+    // A trap is recorded at the word of the access, after the words that compute its address.
+    Call {
+        listing: "Load a0 ld heap_oob r:a1:4096\nStore sp:0 sd int_ovf a0\n",
+        status: 0,
+        text: "code 16\n00000000 b71f0000b38fbf0003b50f002330a100\nline 0 0 12\nline 1 12 16\ntrap 8 heap_oob\ntrap 12 int_ovf\nend 16\n",
+    },
+    Call {
+        listing: "LoadAddr sp sp:8\n",
+        status: 4,
+        text: "rvemit: Malformed 0 Clash\n",
+    },
+    Call {
+        listing: "Load a0 ld - const:0\n",
+        status: 4,
+        text: "rvemit: Malformed 0 Constant\n",
+    },
+    Call {
+        listing: "LabelAddress a0 L7\n",
+        status: 4,
+        text: "rvemit: UnboundLabel 7\n",
+    },
+    Call {
+        listing: "frame 0 16 2147483632 0 0 0 -\n",
+        status: 4,
+        text: "rvemit: BadFrame\n",
+    },
+    Call {
+        listing: "frame 0 16 2147483631 0 0 0 -\n",
+        status: 0,
+        text: "code 0\nend 0\n",
+    },
+    Call {
+        listing: "frame 0 0 8 0 0 0 ra\nRet\n",
+        status: 4,
+        text: "rvemit: BadFrame\n",
+    },
+    // The frame is looked at before the lines.
+    Call {
+        listing: "frame 0 0 8 0 0 0 v1\nAluRRR add a0 x31 a1\n",
+        status: 4,
+        text: "rvemit: BadFrame\n",
     },
     Call {
         listing: "Popcnt a0 a1 a2 a2 i64\nBind L0\nBind L0\n",

@@ -1,9 +1,13 @@
 //! Listings with the reports of a harness with the Rust's own emission code: each report is compared byte for byte.
 
+mod accesses;
 mod islands;
 mod random;
 
 use crate::reported::assert_reported;
+use accesses::{
+    EDGES_LISTING, EDGES_REPORT, FRAME_LISTING, FRAME_REPORT, SIXTH_LISTING, SIXTH_REPORT,
+};
 use islands::{
     ASKED_LISTING, ASKED_REPORT, LONG_LISTING, LONG_REPORT, NARROW_LISTING, NARROW_REPORT,
 };
@@ -21,7 +25,7 @@ struct Sample {
     report: &'static str,
 }
 
-const SAMPLES: [Sample; 8] = [
+const SAMPLES: [Sample; 11] = [
     Sample {
         name: "first",
         listing: FIRST_LISTING,
@@ -61,6 +65,21 @@ const SAMPLES: [Sample; 8] = [
         name: "long",
         listing: LONG_LISTING,
         report: LONG_REPORT,
+    },
+    Sample {
+        name: "edges",
+        listing: EDGES_LISTING,
+        report: EDGES_REPORT,
+    },
+    Sample {
+        name: "frame",
+        listing: FRAME_LISTING,
+        report: FRAME_REPORT,
+    },
+    Sample {
+        name: "sixth",
+        listing: SIXTH_LISTING,
+        report: SIXTH_REPORT,
     },
 ];
 

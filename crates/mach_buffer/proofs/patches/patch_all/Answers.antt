@@ -1,11 +1,11 @@
 use Rattle.std.proofs.Common.{arith, ◌≡◌, ◌∙◌, Some, refl, ap, sym}
+use Rattle.std.proofs.lemmas.List.{length-map}
 use Rattle.std.specs.List.{slice_get}
 use Rattle.std.specs.Option.{option_map}
 use Rattle.std.proofs.lemmas.Option.{slice_get_read, slice_get-map}
 use Rattle.mach_buffer.specs.Places.{place_in}
 use Rattle.mach_buffer.specs.Windows.{patch_of, patches_of}
-use Rattle.mach_buffer.proofs.Lists.{length_map}
-use Rattle.mach_buffer.proofs.Progress.{progress_can, progress_patched, progress_all, progress_kept}
+use Rattle.mach_buffer.proofs.Windows.{progress_can, progress_patched, progress_all, progress_kept}
 use Rattle.mach_buffer.proofs.patches.patch_all.Goals as goal
 
 pub patch_one-requires : goal.patch_one-requires
@@ -26,7 +26,7 @@ loop-u-preserved g c =
     (progress_patched c.loop-u.invariant.0 c.requires c.resolve-patch.result c.patch_one.new.bytes there p.others p.kept p.aims, m ∙ n)
 
 pub returns-clause-aims : goal.returns-clause-aims
-returns-clause-aims g c = let l = length_map (patch_of (place_in c.args.labels.now)) c.args.uses.now in progress_all c.loop-u.invariant.0 (omega (arith, l))
+returns-clause-aims g c = let l = length-map c.args.uses.now (patch_of (place_in c.args.labels.now)) in progress_all c.loop-u.invariant.0 (omega (arith, l))
 
 pub returns-clause-kept : goal.returns-clause-kept
-returns-clause-kept g c = let l = length_map (patch_of (place_in c.args.labels.now)) c.args.uses.now in progress_kept c.loop-u.invariant.0 (omega (arith, l))
+returns-clause-kept g c = let l = length-map c.args.uses.now (patch_of (place_in c.args.labels.now)) in progress_kept c.loop-u.invariant.0 (omega (arith, l))

@@ -1,11 +1,10 @@
-use Rattle.std.proofs.Common.{◌≡◌}
-use Rattle.rv_base.specs.Frame.{no_frame}
-use Rattle.rv_asm.specs.LinesInBuffer.{context_by}
+use Rattle.std.proofs.Common.{◌≡◌, []}
+use Rattle.rv_inst.specs.Context.{context_by}
 use Rattle.rv_asm.proofs.AssemblyLoop.{SoFar}
 use Rattle.rv_asm.proofs.assembly.build.Given as goal
 
 abbrev pub invariant-loop-index : goal.invariant-loop-index
 invariant-loop-index l = record {
-  frame : l.state.frame ≡ no_frame;
-  so_far : SoFar (context_by l.info.isa_flags no_frame l.constants) l.lines l.index l.spans.items l.sink;
+  frame : l.state.frame ≡ l.frame;
+  so_far : SoFar (context_by l.info.isa_flags l.frame []) l.lines l.index l.spans.items l.sink;
 }

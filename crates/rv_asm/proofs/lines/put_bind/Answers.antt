@@ -13,7 +13,7 @@ returns-clause-put c =
     record {
       bound = ap (λ x. x.place label) s ∙ placed_same (place_of old) label (length (bytes_of old));
       kept = λ other ne. ap (λ x. x.place other) s ∙ placed_other (place_of old) label (length (bytes_of old)) other ne;
-      unbound = c.requires.unbound label (search rules);
+      unbound = c.requires.unbound;
       labels = ap (λ x. x.labels) s;
       bytes = ap (λ x. x.bytes) s;
       uses = ap (λ x. x.uses) s;

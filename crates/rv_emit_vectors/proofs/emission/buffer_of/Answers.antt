@@ -1,9 +1,23 @@
-use Rattle.std.proofs.Common.{[], sym, ◌∙◌}
+use Rattle.std.proofs.Common.{◌≡◌, [], None, sym, ◌∙◌, arith, subst, ◌<◌, ◌^◌}
+use Rattle.rv_base.specs.Frame.{sp_to_args_end}
+use Rattle.rv_inst.specs.Context.{context_by}
+use Rattle.rv_inst.specs.Rules.{inst_rule}
 use Rattle.rv_emit_vectors.proofs.Single.{can_start, holds_one, none_there}
 use Rattle.rv_emit_vectors.proofs.emission.buffer_of.Goals as goal
 
 pub emit-requires : goal.emit-requires
-emit-requires c = can_start c.args.inst.now c.in_ok-buffer.buffer (sym c.check.ensures ∙ none_there c.check.result (sym c.is_some.ensures ∙ c.if-is_some.false)) (none_there _ (sym c.asks_island.ensures ∙ c.if-asks_island.false)) c.in_ok-buffer.ensures
+emit-requires c =
+    let flags = c.new-info.result.isa_flags in
+    let context = context_by flags c.new-state.result.frame [] in
+    let rule = subst (λ frame. inst_rule (context_by flags frame []) c.args.inst.now ≡ None) c.frame_layout.ensures (sym c.check.ensures ∙ none_there c.check.result (sym c.is_some-2.ensures ∙ c.if-is_some-2.false)) in
+    let none = sym (c.island_space.ensures context) ∙ none_there c.island_space.result (sym c.is_some.ensures ∙ c.if-is_some.false) in
+    let small = subst (λ frame. sp_to_args_end frame < 2 ^ 31) (sym (c.new-state.ensures.frame ∙ c.none-2.ensures)) (omega arith) in
+    can_start context c.args.inst.now c.in_ok-buffer.buffer small rule none c.in_ok-buffer.ensures
 
 pub returns-in-Ok : goal.returns-in-Ok
-returns-in-Ok c = holds_one (record { flags = c.new-info.result.isa_flags; frame = c.new-state.result.frame; constants = [] }) c.new-state.result.vstate c.args.inst.now c.in_ok-buffer.buffer c.emit.new.sink (sym c.check.ensures ∙ none_there c.check.result (sym c.is_some.ensures ∙ c.if-is_some.false)) (none_there _ (sym c.asks_island.ensures ∙ c.if-asks_island.false)) c.in_ok-buffer.ensures (c.in-Ok.ensures.emitted []) c.in-Ok.ensures.reach c.in-Ok.ensures.bounds
+returns-in-Ok c =
+    let flags = c.new-info.result.isa_flags in
+    let context = context_by flags c.new-state.result.frame [] in
+    let rule = subst (λ frame. inst_rule (context_by flags frame []) c.args.inst.now ≡ None) c.frame_layout.ensures (sym c.check.ensures ∙ none_there c.check.result (sym c.is_some-2.ensures ∙ c.if-is_some-2.false)) in
+    let none = sym (c.island_space.ensures context) ∙ none_there c.island_space.result (sym c.is_some.ensures ∙ c.if-is_some.false) in
+    holds_one context c.new-state.result.vstate c.args.inst.now c.in_ok-buffer.buffer c.emit.new.sink rule none c.in_ok-buffer.ensures c.in-Ok.ensures.emitted c.in-Ok.ensures.reach c.in-Ok.ensures.bounds

@@ -1,8 +1,9 @@
 use Rattle.std.proofs.Common.{◌∙◌, refl, arith}
+use Rattle.std.proofs.lemmas.List.{length-map}
 use Rattle.mach_buffer.specs.Queues.{key_number}
 use Rattle.mach_buffer.specs.Buffer.{shape_of}
-use Rattle.mach_buffer.proofs.Lists.{drop_mapped, length_map}
-use Rattle.mach_buffer.proofs.VeneerLoop.{going_may, going_room, going_next}
+use Rattle.mach_buffer.proofs.Lists.{drop_mapped}
+use Rattle.mach_buffer.proofs.VeneersPut.{going_may, going_room, going_next}
 use Rattle.mach_buffer.proofs.buffer.MachBuffer.put_veneers.Goals as goal
 
 pub put_veneer-requires-clause-may : goal.put_veneer-requires-clause-may
@@ -16,7 +17,7 @@ put_veneer-requires-clause-even g c = c.loop-key.invariant.0.even
 
 pub loop-key-init : goal.loop-key-init
 loop-key-init g c =
-    let long = length_map key_number c.args.order.now in
+    let long = length-map c.args.order.now key_number in
     let room = c.requires.room in
     (record { whole = refl; even = c.requires.even; can = c.requires.can; room = omega arith }, refl, refl)
 

@@ -1,7 +1,7 @@
 use Rattle.std.proofs.Common.{◌≡◌, drop, map}
 use Rattle.mach_buffer.specs.Queues.{key_number}
 use Rattle.mach_buffer.specs.Buffer.{shape_of, spoiled_of}
-use Rattle.mach_buffer.proofs.VeneerLoop.{Going}
+use Rattle.mach_buffer.proofs.VeneersPut.{Going}
 use Rattle.mach_buffer.proofs.buffer.MachBuffer.put_veneers.Given as goal
 
 abbrev pub invariant-loop-key : goal.invariant-loop-key

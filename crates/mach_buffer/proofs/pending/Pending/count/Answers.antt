@@ -1,5 +1,5 @@
 use Rattle.std.proofs.Common.{◌∙◌, ◌+◌}
-use Rattle.mach_buffer.proofs.Needed.{pending_counted}
+use Rattle.mach_buffer.proofs.QueueContents.{pending_counted}
 use Rattle.mach_buffer.proofs.pending.Pending.count.Goals as goal
 
 pub returns : goal.returns

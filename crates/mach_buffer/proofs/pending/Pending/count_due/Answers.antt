@@ -1,5 +1,5 @@
 use Rattle.std.proofs.Common.{◌∙◌, ◌+◌}
-use Rattle.mach_buffer.proofs.Needed.{due_counted}
+use Rattle.mach_buffer.proofs.QueueContents.{due_counted}
 use Rattle.mach_buffer.proofs.pending.Pending.count_due.Goals as goal
 
 pub returns : goal.returns

@@ -1,5 +1,4 @@
-use Rattle.std.proofs.Common.{◌∙◌, ◌+◌, sym, ap, refl, length}
-use Rattle.mach_buffer.specs.Queues.{slack_after}
+use Rattle.std.proofs.Common.{◌∙◌, sym, refl}
 use Rattle.mach_buffer.proofs.QueueContents.{kept_idle, kept_near, kept_far}
 use Rattle.mach_buffer.proofs.pending.Pending.push.Goals as goal
 
@@ -8,8 +7,8 @@ returns-then-not-is_pending g c = kept_idle c.args.u.now (sym c.is_pending.ensur
 
 pub returns-then-is_near : goal.returns-then-is_near
 returns-then-is_near g c =
-    kept_near c.args.u.now _ (sym c.is_pending.ensures ∙ c.if-not-is_pending.false) (sym c.is_near.ensures ∙ c.if-is_near.true) c.in_ok-push.ensures.numbers (c.in_ok-push.ensures.slack ∙ ap (λ d. slack_after c.args.self.now.near.slack d (length c.args.self.now.near.numbers.items + 1)) c.deadline.ensures.value) refl c.requires
+    kept_near c.args.u.now _ (sym c.is_pending.ensures ∙ c.if-not-is_pending.false) (sym c.is_near.ensures ∙ c.if-is_near.true) c.in_ok-push.ensures.numbers (rw c.deadline.ensures.value at c.in_ok-push.ensures.slack) refl c.requires
 
 pub returns : goal.returns
 returns g c =
-    kept_far c.args.u.now _ (sym c.is_pending.ensures ∙ c.if-not-is_pending.false) (sym c.is_near.ensures ∙ c.if-is_near.false) c.in_ok-push-2.ensures.numbers (c.in_ok-push-2.ensures.slack ∙ ap (λ d. slack_after c.args.self.now.far.slack d (length c.args.self.now.far.numbers.items + 1)) c.deadline-2.ensures.value) refl c.requires
+    kept_far c.args.u.now _ (sym c.is_pending.ensures ∙ c.if-not-is_pending.false) (sym c.is_near.ensures ∙ c.if-is_near.false) c.in_ok-push-2.ensures.numbers (rw c.deadline-2.ensures.value at c.in_ok-push-2.ensures.slack) refl c.requires

@@ -1,8 +1,7 @@
-use Rattle.std.proofs.Common.{◌+◌, ◌++◌, ◌∷◌, [], ◌∙◌, ap, sym, drop, length, arith, List, ℕ}
+use Rattle.std.proofs.Common.{◌+◌, ◌++◌, ◌∙◌, ap, sym, drop, length, arith, ℕ}
 use Rattle.std.specs.List.{cons_option}
 use Rattle.std.proofs.Common.{append_assoc}
 use Rattle.std.proofs.Math.ListN.{drop_of_length-le}
-use Rattle.mach_buffer.specs.declared.uses.PendingKey.{PendingKey}
 use Rattle.mach_buffer.specs.Places.{place_in}
 use Rattle.mach_buffer.specs.Queues.{is_other_queued, keys_where}
 use Rattle.mach_buffer.proofs.Lists.{append_none, drop_split}
@@ -20,12 +19,8 @@ loop-number-preserved g c =
     let found = keys_where K.kinds (is_other_queued K.kinds (place_in c.args.labels.now) c.args.near c.args.after_island) c.args.uses.now in
     let before = ap (λ ns. c.loop-number.keys.items ++ found ns) (sym split) ∙ c.loop-number.invariant in
     elim c.match-key_of.branch [
-      | in-Some+in_ok-push-in-Some w ↦
-          let here = ap (λ o. c.loop-number.keys.items ++ cons_option o (found left)) w.in-Some.ensures in
-          ap (λ (ts : List PendingKey). ts ++ found left) (ap (λ v. v.items) w.keys-is ∙ w.in_ok-push-in-Some.ensures.items) ∙ append_assoc c.loop-number.keys.items (w.in-Some.key ∷ []) (found left) ∙ here ∙ before
-      | in-None w ↦
-          let here = ap (λ o. c.loop-number.keys.items ++ cons_option o (found left)) w.in-None.ensures in
-          ap (λ v. v.items ++ found left) w.keys-is ∙ here ∙ before
+      | in-Some+in_ok-push-in-Some w ↦ rw (w.keys-is, w.in_ok-push-in-Some.ensures.items, append_assoc) (ap (λ o. c.loop-number.keys.items ++ cons_option o (found left)) w.in-Some.ensures ∙ before)
+      | in-None w ↦ rw w.keys-is (ap (λ o. c.loop-number.keys.items ++ cons_option o (found left)) w.in-None.ensures ∙ before)
     ]
 
 pub returns : goal.returns

@@ -1,25 +1,20 @@
-use Rattle.std.proofs.Common.{◌+◌, ◌∙◌, ap, sym, subst, drop, length, arith, get_or, ℕ}
+use Rattle.std.proofs.Common.{◌+◌, ap, drop, length, arith, get_or, ℕ}
 use Rattle.std.proofs.Math.ListN.{drop_of_length-le}
-use Rattle.mach_buffer.specs.Places.{place_in}
-use Rattle.mach_buffer.specs.Queues.{is_queued, slack_after}
-use Rattle.mach_buffer.proofs.QueueContents.{Tidying, tidy_skip, tidy_take, tidy_end}
+use Rattle.mach_buffer.proofs.QueueContents.{tidy_skip, tidy_take, tidy_end}
 use Rattle.mach_buffer.proofs.Lists.{drop_split}
-use Rattle.mach_buffer.specs.declared.pending.Queue.{Queue}
 use Rattle.mach_buffer.proofs.pending.Queue.tidied.Goals.{in-Some+in_ok-push-in-Some, in-None}
 use Rattle.mach_buffer.proofs.pending.Queue.tidied.Goals as goal
 
 pub loop-number-preserved : goal.loop-number-preserved
 loop-number-preserved g c =
-    let K = g.L.MachInstLabelUse in
     let all = c.args.self.now.numbers.items in
     let items = c.deref-number-items.result.now in
     let i = c.loop-number.number-index in
     let left = drop (i + 1) all in
     let split = drop_split items all i c.deref-number-items.ensures.value c.loop-number-test.true in
-    let Kept : Queue → Type 0 = λ q. Tidying K.kinds (is_queued K.kinds (place_in c.args.labels.now) c.args.near) c.args.uses.now q.numbers.items q.slack all left in
     elim c.match-queued_use.branch [
-      | in-Some+in_ok-push-in-Some w ↦ subst Kept (sym w.queue-is) (tidy_take (get_or items i 0) left (drop i all) w.in-Some.u _ _ split (sym w.in-Some.ensures) w.in_ok-push-in-Some.ensures.numbers (w.in_ok-push-in-Some.ensures.slack ∙ ap (λ (d : ℕ). slack_after c.loop-number.queue.slack d (length c.loop-number.queue.numbers.items + 1)) w.deadline.ensures.value) c.loop-number.invariant)
-      | in-None w ↦ subst Kept (sym w.queue-is) (tidy_skip (get_or items i 0) left (drop i all) split (sym w.in-None.ensures) c.loop-number.invariant)
+      | in-Some+in_ok-push-in-Some w ↦ rw w.queue-is (tidy_take (get_or items i 0) left (drop i all) w.in-Some.u _ _ split w.in-Some.ensures w.in_ok-push-in-Some.ensures.numbers (rw w.deadline.ensures.value at w.in_ok-push-in-Some.ensures.slack) c.loop-number.invariant)
+      | in-None w ↦ rw w.queue-is (tidy_skip (get_or items i 0) left (drop i all) split w.in-None.ensures c.loop-number.invariant)
     ]
 
 pub returns : goal.returns

@@ -1,0 +1,26 @@
+use Rattle.std.proofs.Common.{[], ◌∷◌, arith}
+use Rattle.rv_base.specs.Regs.{number_of}
+use Rattle.rv_inst.specs.declared.label_use.LabelUse.TheVariants.{PCRelLo12I}
+use Rattle.rv_emit.specs.Immediates.{lower_of_distance}
+use Rattle.rv_emit.specs.Operations.{decoded_addi}
+use Rattle.rv_emit.specs.Slots.{Aim, Label}
+use Rattle.rv_emit.specs.InstParts.{upper_at}
+use Rattle.rv_emit.proofs.AddressesPut.{aim_put}
+use Rattle.rv_emit.proofs.PartsPatched.{addi_patchable}
+use Rattle.rv_emit.proofs.SlotsJoined.{both_alone, alone_long, alone_sound}
+use Rattle.rv_emit.proofs.memory.put_label_address.Goals as goal
+
+pub put_use-requires-clause-room : goal.put_use-requires-clause-room
+put_use-requires-clause-room c =
+    let l = alone_long (upper_at (number_of c.args.rd.reg) c.args.label ∷ []) c.args.sink.now c.put_upper.new.sink c.in_ok-put_upper.ensures.slots in
+    let r = c.requires.room in omega arith
+
+pub put_use-requires-clause-sound : goal.put_use-requires-clause-sound
+put_use-requires-clause-sound c = alone_sound (upper_at (number_of c.args.rd.reg) c.args.label ∷ []) c.args.sink.now c.put_upper.new.sink c.in_ok-put_upper.ensures.slots
+
+pub returns-clause-slots : goal.returns-clause-slots
+returns-clause-slots c =
+    let rd = number_of c.args.rd.reg in
+    let w = c.addition_word.result in
+    both_alone (upper_at (number_of c.args.rd.reg) c.args.label ∷ []) (Aim PCRelLo12I (Label c.args.label) (λ d. decoded_addi rd rd (lower_of_distance d) ∷ []) ∷ []) c.args.sink.now c.put_upper.new.sink c.put_use.new.sink tt c.in_ok-put_upper.ensures.slots
+    (aim_put PCRelLo12I _ c.put_upper.new.sink c.put_use.new.sink w c.args.label (λ flags. addi_patchable flags w rd rd (omega arith) c.addition_word.ensures) c.in_ok-put_use.ensures.added c.in_ok-put_use.ensures.sound)

@@ -1,0 +1,433 @@
+//! Loads, stores and addresses.
+
+ghost use Rattle.std.specs.Prelude.{◌≡◌, [], ◌∷◌, ◌++◌, ◌+◌, ◌^◌, ◌<◌, length, pos, OnOk, OnErr, true};
+ghost use Rattle.rv_base.specs.Frame.{sp_to_args_end};
+ghost use Rattle.rv_base.specs.LabelUse.{code_limit};
+ghost use Rattle.rv_base.specs.Regs.{number_of};
+ghost use Rattle.mach_buffer.specs.Buffer.{bytes_of, spoiled_of};
+ghost use Rattle.rv_machine.specs.Opcodes.{LOAD, OP_IMM};
+ghost use Rattle.rv_ops.specs.Memory.{load_funct3};
+ghost use Rattle.rv_encode.specs.Layouts.{IsIType};
+ghost use Rattle.rv_encode.specs.Operations.{decoded_load, decoded_store};
+ghost use Rattle.rv_encode.specs.Registers.{IsIntRegister};
+ghost use Rattle.rv_inst.specs.Addresses.{Based, AtLabel, location_of};
+ghost use Rattle.rv_emit.specs.Emission.{PutsAlone};
+ghost use Rattle.rv_emit.specs.Emitted.{IsSoundBuffer};
+ghost use Rattle.rv_emit.specs.InstParts.{access_slots, address_slots, far_store_slots, immediate_slots, load_slots, lower_slots, offset_slots, store_slots, upper_at};
+ghost use Rattle.rv_emit.specs.Operations.{decoded_add};
+ghost use Rattle.rv_emit.specs.Places.{location_at, IsFinePlace};
+ghost use Rattle.rv_emit.specs.Slots.{Op};
+ghost use Rattle.rv_emit.specs.Usable.{IsFineAddress, IsListed};
+
+use crate::expansions::put_double_constant;
+use crate::sequence::{put_use, put_word};
+use mach_buffer::MachBuffer;
+use rv_base::{
+    AMode, FrameLayout, MachLabel, OutOfMemory, Reg, TrapCode, WritableReg, fp_reg, spilltmp_reg,
+    stack_reg, writable_spilltmp_reg, zero_reg,
+};
+use rv_encode::{
+    enc_auipc, encode_alu_rr_imm12, encode_alu_rrr, encode_i_type, encode_load, encode_lui,
+    encode_store,
+};
+use rv_imms::{Imm12, Imm20, generate_imm};
+use rv_inst::LabelUse;
+use rv_ops::{AluOPRRI, AluOPRRR, LoadOP, StoreOP};
+
+/// Where an address is.
+#[derive(Clone, Copy, Debug)]
+pub(crate) enum Place {
+    /// A register plus an offset in bytes.
+    Based(Reg, i64),
+    /// A label.
+    AtLabel(MachLabel),
+}
+
+/// Where an address is in a frame. No constant has a place.
+pub(crate) fn place_of(frame: &FrameLayout, mode: AMode) -> Place
+    requires frame { sp_to_args_end frame.now < 2 ^ 31 }
+    requires fine { IsFineAddress mode }
+    ensures place { location_at result ≡ location_of frame.now mode }
+    ensures fine { IsFinePlace result }
+{
+    match mode {
+        AMode::RegOffset(reg, offset) => Place::Based(reg, offset),
+        AMode::SPOffset(offset) => Place::Based(stack_reg(), offset),
+        AMode::FPOffset(offset) => Place::Based(fp_reg(), offset),
+        AMode::SlotOffset(_) => Place::Based(stack_reg(), mode.get_offset(frame)),
+        AMode::IncomingArg(_) => Place::Based(stack_reg(), mode.get_offset(frame)),
+        AMode::Const(_) => Place::Based(zero_reg(), 0),
+        AMode::Label(label) => Place::AtLabel(label),
+    }
+}
+
+/// A load: of a place far from its register by x31, of a label by `rd`.
+pub(crate) fn put_load(
+    sink: &mut MachBuffer<LabelUse>,
+    rd: WritableReg,
+    op: LoadOP,
+    trap: Option<TrapCode>,
+    place: Place,
+) -> Result<(), OutOfMemory>
+    requires rd { IsIntRegister rd.reg }
+    requires fine { IsFinePlace place }
+    requires room { length (bytes_of sink.old) + 28 < code_limit }
+    requires sound { IsSoundBuffer sink.old }
+    ensures slots { OnOk result (PutsAlone (load_slots (number_of rd.reg) op trap (location_at place)) sink.old sink.new) }
+    ensures refused { OnErr result (spoiled_of sink.new ≡ true) }
+{
+    match place {
+        Place::Based(base, offset) => put_based_load(sink, rd, op, trap, base, offset),
+        Place::AtLabel(label) => put_label_load(sink, rd, op, trap, label),
+    }
+}
+
+fn put_based_load(
+    sink: &mut MachBuffer<LabelUse>,
+    rd: WritableReg,
+    op: LoadOP,
+    trap: Option<TrapCode>,
+    base: Reg,
+    offset: i64,
+) -> Result<(), OutOfMemory>
+    requires rd { IsIntRegister rd.reg }
+    requires base { IsIntRegister base }
+    requires room { length (bytes_of sink.old) + 28 < code_limit }
+    requires sound { IsSoundBuffer sink.old }
+    ensures slots { OnOk result (PutsAlone (load_slots (number_of rd.reg) op trap (Based (number_of base) offset)) sink.old sink.new) }
+    ensures refused { OnErr result (spoiled_of sink.new ≡ true) }
+{
+    match Imm12::maybe_from_i64(offset) {
+        Some(offset) => put_near_load(sink, rd, op, trap, base, offset),
+        None => put_far_load(sink, rd, op, trap, base, offset),
+    }
+}
+
+/// A load whose offset is in its word.
+fn put_near_load(
+    sink: &mut MachBuffer<LabelUse>,
+    rd: WritableReg,
+    op: LoadOP,
+    trap: Option<TrapCode>,
+    base: Reg,
+    offset: Imm12,
+) -> Result<(), OutOfMemory>
+    requires rd { IsIntRegister rd.reg }
+    requires base { IsIntRegister base }
+    requires room { length (bytes_of sink.old) + 4 < code_limit }
+    requires sound { IsSoundBuffer sink.old }
+    ensures slots { OnOk result (PutsAlone (access_slots trap ++ Op (decoded_load op (number_of rd.reg) (number_of base) offset.value) ∷ []) sink.old sink.new) }
+    ensures refused { OnErr result (spoiled_of sink.new ≡ true) }
+{
+    put_access(sink, trap)?;
+    put_word(sink, encode_load(op, rd, base, offset))?;
+    Ok(())
+}
+
+/// A load by an address in x31.
+fn put_far_load(
+    sink: &mut MachBuffer<LabelUse>,
+    rd: WritableReg,
+    op: LoadOP,
+    trap: Option<TrapCode>,
+    base: Reg,
+    offset: i64,
+) -> Result<(), OutOfMemory>
+    requires rd { IsIntRegister rd.reg }
+    requires base { IsIntRegister base }
+    requires room { length (bytes_of sink.old) + 28 < code_limit }
+    requires sound { IsSoundBuffer sink.old }
+    ensures slots { OnOk result (PutsAlone (address_slots 31 (Based (number_of base) offset) ++ access_slots trap ++ Op (decoded_load op (number_of rd.reg) 31 (pos 0)) ∷ []) sink.old sink.new) }
+    ensures refused { OnErr result (spoiled_of sink.new ≡ true) }
+{
+    put_based_address(sink, writable_spilltmp_reg(), base, offset)?;
+    put_near_load(sink, rd, op, trap, spilltmp_reg(), Imm12::ZERO)?;
+    Ok(())
+}
+
+/// A load from a label: the lower part of its distance is in the load's word.
+fn put_label_load(
+    sink: &mut MachBuffer<LabelUse>,
+    rd: WritableReg,
+    op: LoadOP,
+    trap: Option<TrapCode>,
+    label: MachLabel,
+) -> Result<(), OutOfMemory>
+    requires rd { IsIntRegister rd.reg }
+    requires label { IsListed label }
+    requires room { length (bytes_of sink.old) + 8 < code_limit }
+    requires sound { IsSoundBuffer sink.old }
+    ensures slots { OnOk result (PutsAlone (load_slots (number_of rd.reg) op trap (AtLabel label)) sink.old sink.new) }
+    ensures refused { OnErr result (spoiled_of sink.new ≡ true) }
+{
+    put_upper(sink, rd, label)?;
+    put_access(sink, trap)?;
+    put_use(sink, load_word(op, rd), label, LabelUse::PCRelLo12I)?;
+    Ok(())
+}
+
+/// The word of a load into its own base, whose offset is still to come.
+fn load_word(op: LoadOP, rd: WritableReg) -> u32
+    requires { IsIntRegister rd.reg }
+    ensures { IsIType result LOAD (number_of rd.reg) (load_funct3 op) (number_of rd.reg) 0 }
+{
+    encode_i_type(op.op_code(), rd, op.funct3(), rd.reg, Imm12::ZERO)
+}
+
+/// A store: to a place far from its register, or to a label, by x31.
+pub(crate) fn put_store(
+    sink: &mut MachBuffer<LabelUse>,
+    op: StoreOP,
+    src: Reg,
+    trap: Option<TrapCode>,
+    place: Place,
+) -> Result<(), OutOfMemory>
+    requires src { IsIntRegister src }
+    requires fine { IsFinePlace place }
+    requires room { length (bytes_of sink.old) + 28 < code_limit }
+    requires sound { IsSoundBuffer sink.old }
+    ensures slots { OnOk result (PutsAlone (store_slots op (number_of src) trap (location_at place)) sink.old sink.new) }
+    ensures refused { OnErr result (spoiled_of sink.new ≡ true) }
+{
+    match place {
+        Place::Based(base, offset) => put_based_store(sink, op, src, trap, base, offset),
+        Place::AtLabel(_) => put_far_store(sink, op, src, trap, place),
+    }
+}
+
+fn put_based_store(
+    sink: &mut MachBuffer<LabelUse>,
+    op: StoreOP,
+    src: Reg,
+    trap: Option<TrapCode>,
+    base: Reg,
+    offset: i64,
+) -> Result<(), OutOfMemory>
+    requires src { IsIntRegister src }
+    requires base { IsIntRegister base }
+    requires room { length (bytes_of sink.old) + 28 < code_limit }
+    requires sound { IsSoundBuffer sink.old }
+    ensures slots { OnOk result (PutsAlone (store_slots op (number_of src) trap (Based (number_of base) offset)) sink.old sink.new) }
+    ensures refused { OnErr result (spoiled_of sink.new ≡ true) }
+{
+    match Imm12::maybe_from_i64(offset) {
+        Some(offset) => put_near_store(sink, op, src, trap, base, offset),
+        None => put_far_store(sink, op, src, trap, Place::Based(base, offset)),
+    }
+}
+
+/// A store whose offset is in its word.
+fn put_near_store(
+    sink: &mut MachBuffer<LabelUse>,
+    op: StoreOP,
+    src: Reg,
+    trap: Option<TrapCode>,
+    base: Reg,
+    offset: Imm12,
+) -> Result<(), OutOfMemory>
+    requires src { IsIntRegister src }
+    requires base { IsIntRegister base }
+    requires room { length (bytes_of sink.old) + 4 < code_limit }
+    requires sound { IsSoundBuffer sink.old }
+    ensures slots { OnOk result (PutsAlone (access_slots trap ++ Op (decoded_store op (number_of base) (number_of src) offset.value) ∷ []) sink.old sink.new) }
+    ensures refused { OnErr result (spoiled_of sink.new ≡ true) }
+{
+    put_access(sink, trap)?;
+    put_word(sink, encode_store(op, base, src, offset))?;
+    Ok(())
+}
+
+/// A store by an address in x31.
+fn put_far_store(
+    sink: &mut MachBuffer<LabelUse>,
+    op: StoreOP,
+    src: Reg,
+    trap: Option<TrapCode>,
+    place: Place,
+) -> Result<(), OutOfMemory>
+    requires src { IsIntRegister src }
+    requires fine { IsFinePlace place }
+    requires room { length (bytes_of sink.old) + 28 < code_limit }
+    requires sound { IsSoundBuffer sink.old }
+    ensures slots { OnOk result (PutsAlone (far_store_slots op (number_of src) trap (location_at place)) sink.old sink.new) }
+    ensures refused { OnErr result (spoiled_of sink.new ≡ true) }
+{
+    put_address(sink, writable_spilltmp_reg(), place)?;
+    put_near_store(sink, op, src, trap, spilltmp_reg(), Imm12::ZERO)?;
+    Ok(())
+}
+
+/// The address of a place in a register.
+pub(crate) fn put_address(
+    sink: &mut MachBuffer<LabelUse>,
+    rd: WritableReg,
+    place: Place,
+) -> Result<(), OutOfMemory>
+    requires rd { IsIntRegister rd.reg }
+    requires fine { IsFinePlace place }
+    requires room { length (bytes_of sink.old) + 24 < code_limit }
+    requires sound { IsSoundBuffer sink.old }
+    ensures slots { OnOk result (PutsAlone (address_slots (number_of rd.reg) (location_at place)) sink.old sink.new) }
+    ensures refused { OnErr result (spoiled_of sink.new ≡ true) }
+{
+    match place {
+        Place::Based(base, offset) => put_based_address(sink, rd, base, offset),
+        Place::AtLabel(label) => put_label_address(sink, rd, label),
+    }
+}
+
+fn put_based_address(
+    sink: &mut MachBuffer<LabelUse>,
+    rd: WritableReg,
+    base: Reg,
+    offset: i64,
+) -> Result<(), OutOfMemory>
+    requires rd { IsIntRegister rd.reg }
+    requires base { IsIntRegister base }
+    requires room { length (bytes_of sink.old) + 24 < code_limit }
+    requires sound { IsSoundBuffer sink.old }
+    ensures slots { OnOk result (PutsAlone (address_slots (number_of rd.reg) (Based (number_of base) offset)) sink.old sink.new) }
+    ensures refused { OnErr result (spoiled_of sink.new ≡ true) }
+{
+    match Imm12::maybe_from_i64(offset) {
+        Some(offset) => put_word(sink, encode_alu_rr_imm12(AluOPRRI::Addi, rd, base, offset)),
+        None => put_far_address(sink, rd, base, offset),
+    }
+}
+
+/// The sum of a register and an offset that no word of an addition holds.
+fn put_far_address(
+    sink: &mut MachBuffer<LabelUse>,
+    rd: WritableReg,
+    base: Reg,
+    offset: i64,
+) -> Result<(), OutOfMemory>
+    requires rd { IsIntRegister rd.reg }
+    requires base { IsIntRegister base }
+    requires room { length (bytes_of sink.old) + 24 < code_limit }
+    requires sound { IsSoundBuffer sink.old }
+    ensures slots { OnOk result (PutsAlone (offset_slots (number_of rd.reg) offset ++ Op (decoded_add (number_of rd.reg) (number_of rd.reg) (number_of base)) ∷ []) sink.old sink.new) }
+    ensures refused { OnErr result (spoiled_of sink.new ≡ true) }
+{
+    put_offset(sink, rd, offset)?;
+    put_word(sink, encode_alu_rrr(AluOPRRR::Add, rd, rd.reg, base))?;
+    Ok(())
+}
+
+/// The address of a label in a register.
+pub(crate) fn put_label_address(
+    sink: &mut MachBuffer<LabelUse>,
+    rd: WritableReg,
+    label: MachLabel,
+) -> Result<(), OutOfMemory>
+    requires rd { IsIntRegister rd.reg }
+    requires label { IsListed label }
+    requires room { length (bytes_of sink.old) + 8 < code_limit }
+    requires sound { IsSoundBuffer sink.old }
+    ensures slots { OnOk result (PutsAlone (address_slots (number_of rd.reg) (AtLabel label)) sink.old sink.new) }
+    ensures refused { OnErr result (spoiled_of sink.new ≡ true) }
+{
+    put_upper(sink, rd, label)?;
+    put_use(sink, addition_word(rd), label, LabelUse::PCRelLo12I)?;
+    Ok(())
+}
+
+/// The word of an addition to a register whose immediate is still to come.
+fn addition_word(rd: WritableReg) -> u32
+    requires { IsIntRegister rd.reg }
+    ensures { IsIType result OP_IMM (number_of rd.reg) 0 (number_of rd.reg) 0 }
+{
+    encode_i_type(
+        AluOPRRI::Addi.op_code(),
+        rd,
+        AluOPRRI::Addi.funct3(),
+        rd.reg,
+        Imm12::ZERO,
+    )
+}
+
+/// The upper part of a label's distance in a register, added to the address of this word.
+fn put_upper(
+    sink: &mut MachBuffer<LabelUse>,
+    rd: WritableReg,
+    label: MachLabel,
+) -> Result<(), OutOfMemory>
+    requires rd { IsIntRegister rd.reg }
+    requires label { IsListed label }
+    requires room { length (bytes_of sink.old) + 4 < code_limit }
+    requires sound { IsSoundBuffer sink.old }
+    ensures slots { OnOk result (PutsAlone (upper_at (number_of rd.reg) label ∷ []) sink.old sink.new) }
+    ensures refused { OnErr result (spoiled_of sink.new ≡ true) }
+{
+    put_use(sink, enc_auipc(rd, Imm20::ZERO), label, LabelUse::PCRelHi20)?;
+    Ok(())
+}
+
+/// The record of an access's trap, where it may trap.
+fn put_access(sink: &mut MachBuffer<LabelUse>, trap: Option<TrapCode>) -> Result<(), OutOfMemory>
+    requires sound { IsSoundBuffer sink.old }
+    ensures slots { OnOk result (PutsAlone (access_slots trap) sink.old sink.new) }
+    ensures refused { OnErr result (spoiled_of sink.new ≡ true) }
+{
+    match trap {
+        Some(code) => {
+            sink.add_trap(code)?;
+            Ok(())
+        }
+        None => Ok(()),
+    }
+}
+
+/// An offset that isn't of twelve bits, signed, in a register.
+fn put_offset(
+    sink: &mut MachBuffer<LabelUse>,
+    rd: WritableReg,
+    offset: i64,
+) -> Result<(), OutOfMemory>
+    requires rd { IsIntRegister rd.reg }
+    requires room { length (bytes_of sink.old) + 20 < code_limit }
+    requires sound { IsSoundBuffer sink.old }
+    ensures slots { OnOk result (PutsAlone (offset_slots (number_of rd.reg) offset) sink.old sink.new) }
+    ensures refused { OnErr result (spoiled_of sink.new ≡ true) }
+{
+    match generate_imm(offset.cast_unsigned()) {
+        Some((upper, lower)) => put_immediates(sink, rd, upper, lower),
+        None => put_double_constant(sink, rd, offset.cast_unsigned()),
+    }
+}
+
+/// The number that an upper and a lower immediate make in a register.
+fn put_immediates(
+    sink: &mut MachBuffer<LabelUse>,
+    rd: WritableReg,
+    upper: Imm20,
+    lower: Imm12,
+) -> Result<(), OutOfMemory>
+    requires rd { IsIntRegister rd.reg }
+    requires room { length (bytes_of sink.old) + 8 < code_limit }
+    requires sound { IsSoundBuffer sink.old }
+    ensures slots { OnOk result (PutsAlone (immediate_slots (number_of rd.reg) upper.value lower.value) sink.old sink.new) }
+    ensures refused { OnErr result (spoiled_of sink.new ≡ true) }
+{
+    put_word(sink, encode_lui(rd, upper))?;
+    put_lower_immediate(sink, rd, lower)?;
+    Ok(())
+}
+
+/// The addition of a lower immediate; none of 0.
+fn put_lower_immediate(
+    sink: &mut MachBuffer<LabelUse>,
+    rd: WritableReg,
+    lower: Imm12,
+) -> Result<(), OutOfMemory>
+    requires rd { IsIntRegister rd.reg }
+    requires room { length (bytes_of sink.old) + 4 < code_limit }
+    requires sound { IsSoundBuffer sink.old }
+    ensures slots { OnOk result (PutsAlone (lower_slots (number_of rd.reg) lower.value) sink.old sink.new) }
+    ensures refused { OnErr result (spoiled_of sink.new ≡ true) }
+{
+    if lower.value == 0 {
+        return Ok(());
+    }
+    put_word(sink, encode_alu_rr_imm12(AluOPRRI::Addi, rd, rd.reg, lower))
+}

@@ -1,0 +1,15 @@
+-- Environments in which a line means the same, since labels that it names stand at the same addresses: a link of the proof.
+use Rattle.std.specs.Prelude.{◌≡◌, List, [], ◌∷◌}
+use Rattle.rv_base.specs.declared.label.MachLabel.{MachLabel}
+use Rattle.rv_inst.specs.Meaning.{Environment}
+
+-- these labels have the same addresses
+abbrev pub SameLabels : List MachLabel → Environment → Environment → Type 0
+SameLabels [] e f = Unit {0}
+SameLabels (l ∷ labels) e f = (e.label l.number ≡ f.label l.number) × SameLabels labels e f
+
+pub record AgreeOn (labels : List MachLabel) (e f : Environment) : Type 0 where
+  pub start : e.start ≡ f.start
+  pub after : e.after ≡ f.after
+  pub frame : e.frame ≡ f.frame
+  pub labels_same : SameLabels labels e f

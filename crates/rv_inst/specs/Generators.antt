@@ -1,0 +1,45 @@
+-- The instructions that put a constant into a register.
+use Rattle.std.specs.Prelude.{◌≡◌, ℕ, ◌==◌, Bool, false, if◌then◌else◌, List, [], ◌∷◌, ℤ, pos, negsuc}
+use Rattle.std.proofs.Common.{lit<}
+use Rattle.std.specs.Int.{cast_signed, w64}
+use Rattle.rv_base.specs.declared.ir_type.IrType.{IrType}
+use Rattle.rv_base.specs.declared.regs.Reg.{Reg}
+use Rattle.rv_base.specs.declared.regs.Writable.{Writable}
+use Rattle.rv_base.specs.Regs.{int_reg}
+use Rattle.rv_imms.specs.declared.imm12.Imm12.{Imm12}
+use Rattle.rv_imms.specs.declared.imm20.Imm20.{Imm20}
+use Rattle.rv_imms.specs.Splitting.{IsSplittable}
+use Rattle.rv_ops.specs.declared.alu.AluOPRRI.TheVariants.{Addi}
+use Rattle.rv_inst.specs.Immediates.{upper_of, lower_of}
+use Rattle.rv_inst.specs.declared.inst.Inst.{Inst}
+use Rattle.rv_inst.specs.declared.inst.Inst.TheVariants.{Lui, AluRRImm12, LoadInlineConst}
+
+-- x0, which reads 0
+abbrev pub zero_register : Reg
+zero_register = int_reg 0 (lit< tt)
+
+abbrev pub addi_of : Writable Reg → Reg → Imm12 → Inst
+addi_of rd rs imm = AluRRImm12 Addi rd rs imm
+
+abbrev pub is_zero : ℤ → Bool
+is_zero (pos n) = n == 0
+is_zero (negsuc n) = false
+
+-- addi of the lower immediate to what lui made of the upper one; no lui where the upper one is 0, and after lui no addi where
+-- the lower one is 0
+abbrev pub split_insts : Writable Reg → Imm20 → Imm12 → List Inst
+split_insts rd upper lower = if is_zero upper.value then addi_of rd zero_register lower ∷ [] else Lui rd upper ∷ (if is_zero lower.value then [] else addi_of rd rd.reg lower ∷ [])
+
+-- the instructions of a number's own two immediates
+pub record AreSplit (rd : Writable Reg) (z : ℤ) (insts : List Inst) : Type 0 where
+  pub upper : Imm20
+  pub lower : Imm12
+  pub upper_part : upper.value ≡ upper_of z
+  pub lower_part : lower.value ≡ lower_of z
+  pub in_parts : insts ≡ split_insts rd upper lower
+
+-- The instructions of a constant, given as 64 bits: those of its two immediates, where two make it; any other stands among the
+-- code, as an integer of this type.
+pub record AreConstant (ty : IrType) (rd : Writable Reg) (value : ℕ) (insts : List Inst) : Type 0 where
+  pub split : IsSplittable (cast_signed w64 value) → AreSplit rd (cast_signed w64 value) insts
+  pub inline : ¬ (IsSplittable (cast_signed w64 value)) → insts ≡ LoadInlineConst rd ty value ∷ []

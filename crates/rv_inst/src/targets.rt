@@ -1,0 +1,72 @@
+//! The labels that instructions name.
+
+ghost use Rattle.std.specs.Prelude.{◌≡◌};
+ghost use Rattle.rv_inst.specs.Families.{family_of};
+ghost use Rattle.rv_inst.specs.Operands.{targets_of};
+ghost use Rattle.rv_inst.specs.declared.inst.Family.TheVariants.{Memory, Control};
+
+use crate::addresses::address_targets;
+use crate::inst::{CondBrTarget, Family, Inst};
+use rv_base::MachLabel;
+
+/// The labels that an instruction names, by what it does with them.
+#[derive(Clone, Copy, Debug, PartialEq, Eq)]
+pub enum Targets {
+    /// It names none.
+    Nowhere,
+    /// It goes to the label.
+    Jumps(MachLabel),
+    /// It goes to one or the other target.
+    Branches(CondBrTarget, CondBrTarget),
+    /// It takes the label's address.
+    Refers(MachLabel),
+}
+
+impl Inst {
+    /// The labels that the instruction names.
+    pub fn targets(&self) -> Targets
+        ensures { result ≡ targets_of self.now }
+    {
+        match self.family() {
+            Family::Pseudo | Family::Integer | Family::Loop => Targets::Nowhere,
+            Family::Memory => memory_targets(self),
+            Family::Control => control_targets(self),
+        }
+    }
+}
+
+fn memory_targets(inst: &Inst) -> Targets
+    ensures { family_of inst.now ≡ Memory → result ≡ targets_of inst.now }
+{
+    match inst {
+        Inst::Load {
+            rd: _,
+            op: _,
+            flags: _,
+            from,
+        } => address_targets(*from),
+        Inst::Store {
+            to,
+            op: _,
+            flags: _,
+            src: _,
+        } => address_targets(*to),
+        Inst::LoadAddr { rd: _, mem } => address_targets(*mem),
+        Inst::LabelAddress { dst: _, label } => Targets::Refers(*label),
+        _ => Targets::Nowhere,
+    }
+}
+
+fn control_targets(inst: &Inst) -> Targets
+    ensures { family_of inst.now ≡ Control → result ≡ targets_of inst.now }
+{
+    match inst {
+        Inst::Jal { label } => Targets::Jumps(*label),
+        Inst::CondBr {
+            taken,
+            not_taken,
+            kind: _,
+        } => Targets::Branches(*taken, *not_taken),
+        _ => Targets::Nowhere,
+    }
+}

@@ -1,0 +1,22 @@
+use Rattle.std.proofs.Common.{◌≡◌, ◌∙◌, sym, true, false}
+use Rattle.std.specs.Str.{bytes_eq}
+use Rattle.rv_ops.specs.Memory.{store_name}
+use Rattle.rv_listing.specs.Operations.{every_store}
+use Rattle.rv_listing.proofs.BySlot.{store_by_slot, slot_none, slot_same, slot_other}
+use Rattle.rv_listing.proofs.operations.find_store.Goals as goal
+
+pub returns-in_err-op : goal.returns-in_err-op
+unfolding every_store
+returns-in_err-op c = c.from_residual.ensures ∙ slot_none store_name c.args.w.now _ _ (store_by_slot c.args.w.now) (sym c.candidate.ensures ∙ c.in_err-op.was)
+
+pub returns-then-eq : goal.returns-then-eq
+unfolding every_store
+returns-then-eq c =
+    let same : bytes_eq c.args.w.now (store_name c.in_ok-op.op) ≡ true = rw (sym c.op_name.ensures, sym c.as_bytes.ensures.value) (sym c.eq.ensures ∙ c.if-eq.true) in
+    slot_same store_name c.args.w.now _ _ c.in_ok-op.op (store_by_slot c.args.w.now) (sym c.candidate.ensures ∙ c.in_ok-op.was) same
+
+pub returns-else-eq : goal.returns-else-eq
+unfolding every_store
+returns-else-eq c =
+    let other : bytes_eq c.args.w.now (store_name c.in_ok-op.op) ≡ false = rw (sym c.op_name.ensures, sym c.as_bytes.ensures.value) (sym c.eq.ensures ∙ c.if-eq.false) in
+    slot_other store_name c.args.w.now _ _ c.in_ok-op.op (store_by_slot c.args.w.now) (sym c.candidate.ensures ∙ c.in_ok-op.was) other
