@@ -1,13 +1,13 @@
 //! Listings with the reports of a harness with the Rust's own emission code: each report is compared byte for byte.
 
 mod accesses;
+mod framed;
 mod islands;
 mod random;
 
 use crate::reported::assert_reported;
-use accesses::{
-    EDGES_LISTING, EDGES_REPORT, FRAME_LISTING, FRAME_REPORT, SIXTH_LISTING, SIXTH_REPORT,
-};
+use accesses::{EDGES_LISTING, EDGES_REPORT, FRAME_LISTING, FRAME_REPORT};
+use framed::{SIXTH_LISTING, SIXTH_REPORT};
 use islands::{
     ASKED_LISTING, ASKED_REPORT, LONG_LISTING, LONG_REPORT, NARROW_LISTING, NARROW_REPORT,
 };
