@@ -20,15 +20,16 @@ fn outcome_of_refusal(error: EmitError) -> Result<Outcome, OutOfMemory>
     }
 }
 
-/// The outcome of an input.
-fn outcome_of_input(alloc: Global, input: &[u8]) -> Result<Outcome, OutOfMemory>
-    ensures { IfOk result (Means input.now) }
+/// The outcome of an input, whose memory is given back once its job is read.
+fn outcome_of_input(alloc: Global, input: Vec<u8>) -> Result<Outcome, OutOfMemory>
+    ensures { IfOk result (Means input.items) }
 {
-    let job = match read_job(alloc, input) {
+    let job = match read_job(alloc, &input) {
         Ok(job) => job,
         Err(ReadError::Syntax { line }) => return Ok(Outcome::Syntax { line }),
         Err(ReadError::OutOfMemory) => return Err(OutOfMemory),
     };
+    drop(input);
     match assemble(
         alloc,
         job.lines.as_slice(),
@@ -74,7 +75,7 @@ fn outcome_of_call<S: Source, K: Sink>(
         Err(ReadAllError::TooLong) => return write_outcome(alloc, sink, Outcome::TooLong),
         Err(ReadAllError::OutOfMemory) => return Outcome::OutOfMemory,
     };
-    match outcome_of_input(alloc, &input) {
+    match outcome_of_input(alloc, input) {
         Ok(outcome) => write_outcome(alloc, sink, outcome),
         Err(OutOfMemory) => Outcome::OutOfMemory,
     }
