@@ -1,23 +1,21 @@
 -- How a buffer grows, and what lasts in it.
-use Rattle.std.proofs.Common.{◌≡◌, ◌≢◌, ℕ, ◌+◌, ◌-◌, ◌≤◌, Bool, true, List, [], ◌∷◌, ◌++◌, length, take, set, Option, Some, None, refl, ap, sym, ◌∙◌, subst, arith, append_assoc}
-use Rattle.std.specs.Prelude.{slice_get, if◌then◌else◌}
-use Rattle.std.proofs.lemmas.Bool.{le-ltb}
+use Rattle.std.proofs.Common.{◌≡◌, ℕ, ◌+◌, ◌≤◌, true, List, [], ◌∷◌, ◌++◌, length, take, set, Option, Some, None, refl, ap, sym, ◌∙◌, subst, arith, append_assoc}
+use Rattle.std.specs.Prelude.{slice_get}
 use Rattle.std.proofs.lemmas.Bool.Decides.{nat_tests}
 use Rattle.std.proofs.lemmas.List.{take-take, length-append, map-append}
 use Rattle.rv_base.specs.declared.label.MachLabel.{MachLabel}
 use Rattle.rv_base.specs.LabelUse.{Kinds}
+use Rattle.rv_base.specs.declared.constant.VCodeConstant.{VCodeConstant}
 use Rattle.rv_base.specs.declared.trap.TrapCode.{TrapCode}
-use Rattle.mach_labels.specs.Table.{first_inner}
 use Rattle.mach_buffer.specs.declared.uses.Use.{Use}
-use Rattle.mach_buffer.specs.Shape.{Shape, with_bytes, with_use, with_label, with_allocated, with_trap, veneer_use, core, recorded}
-use Rattle.mach_buffer.specs.Reach.{deadline, is_reached}
+use Rattle.mach_buffer.specs.Shape.{Shape, with_bytes, with_use, with_label, with_allocated, with_trap, with_named, veneer_use, core, recorded}
+use Rattle.mach_buffer.specs.Reach.{is_reached}
 use Rattle.mach_buffer.specs.Veneers.{put_at, put_veneer, put_all}
 use Rattle.mach_buffer.specs.VeneerConditions.{IsNone}
-use Rattle.mach_buffer.specs.Islands.{Islanded, aligned, needs_own, with_own, padded}
 use Rattle.mach_buffer.specs.Growth.{Grows, Lasts}
 use Rattle.mach_buffer.proofs.Links.{recorded_set}
 use Rattle.mach_buffer.proofs.Lists.{append_none, both_lists, map_each, none_some, only_one, slice_get-append, slice_get-set_other, take_front}
-use Rattle.mach_buffer.proofs.Sound.{placed_same, placed_other}
+use Rattle.mach_buffer.proofs.ConstantOrder.{placed_other}
 
 -- ---- growing
 
@@ -52,10 +50,10 @@ grows_places {L} {bytes} {uses} kept = grows_put [] [] (λ k u h. absurd (cc)) b
 -- ---- lasting
 
 pub lasts_same : {L : Type 0} (kinds : Kinds L) (s : Shape L) → Lasts kinds s s
-lasts_same kinds s = record { grows = grows_places (λ label to h. h); straight = λ j u h bare reached. h; allocated = omega arith; traps = λ k r h. h }
+lasts_same kinds s = record { grows = grows_places (λ label to h. h); straight = λ j u h bare reached. h; allocated = omega arith; traps = λ k r h. h; registered = refl; named = λ i k h. h; constants = λ j c h. h }
 
 -- a label in reach stays so
-stays_reached : {L : Type 0} (kinds : Kinds L) (u : Use L) (old new : Option ℕ) → ((to : ℕ) → old ≡ Some to → new ≡ Some to) → is_reached kinds old u ≡ true → is_reached kinds new u ≡ true
+pub stays_reached : {L : Type 0} (kinds : Kinds L) (u : Use L) (old new : Option ℕ) → ((to : ℕ) → old ≡ Some to → new ≡ Some to) → is_reached kinds old u ≡ true → is_reached kinds new u ≡ true
 stays_reached kinds u old new stays h = grind (arith, nat_tests, stays)
 
 pub lasts_more : {L : Type 0} {kinds : Kinds L} {s t v : Shape L} → Lasts kinds s t → Lasts kinds t v → Lasts kinds s v
@@ -64,6 +62,9 @@ lasts_more {L} {kinds} {s} {t} {v} x y = record {
   straight = λ j u h bare reached. y.straight j u (x.straight j u h bare reached) bare (stays_reached kinds u (s.place u.label.number) (t.place u.label.number) (x.grows.places u.label.number) reached);
   allocated = let a = x.allocated in let b = y.allocated in omega arith;
   traps = λ k r h. y.traps k r (x.traps k r h);
+  registered = y.registered ∙ x.registered;
+  named = λ i k h. y.named i k (x.named i k h);
+  constants = λ j c h. y.constants j c (x.constants j c h);
 }
 
 pub lasts_bytes : {L : Type 0} (kinds : Kinds L) (piece : List ℕ) (s : Shape L) → Lasts kinds s (with_bytes piece s)
@@ -72,6 +73,9 @@ lasts_bytes kinds piece s = record {
   straight = λ j u h bare reached. h;
   allocated = omega arith;
   traps = λ k r h. h;
+  registered = refl;
+  named = λ i k h. h;
+  constants = λ j c h. h;
 }
 
 pub lasts_use : {L : Type 0} (kinds : Kinds L) (u : Use L) (s : Shape L) → length s.bytes ≤ u.offset → Lasts kinds s (with_use u s)
@@ -80,13 +84,19 @@ lasts_use {L} kinds u s le = record {
   straight = λ j x h bare reached. slice_get-append s.uses (u ∷ []) j x h;
   allocated = omega arith;
   traps = λ k r h. h;
+  registered = refl;
+  named = λ i k h. h;
+  constants = λ j c h. h;
 }
 
 pub lasts_allocated : {L : Type 0} (kinds : Kinds L) (s : Shape L) → Lasts kinds s (with_allocated s)
-lasts_allocated kinds s = record { grows = grows_places (λ label to h. h); straight = λ j u h bare reached. h; allocated = omega arith; traps = λ k r h. h }
+lasts_allocated kinds s = record { grows = grows_places (λ label to h. h); straight = λ j u h bare reached. h; allocated = omega arith; traps = λ k r h. h; registered = refl; named = λ i k h. h; constants = λ j c h. h }
 
 pub lasts_trap : {L : Type 0} (kinds : Kinds L) (code : TrapCode) (s : Shape L) → Lasts kinds s (with_trap code s)
-lasts_trap kinds code s = record { grows = grows_places (λ label to h. h); straight = λ j u h bare reached. h; allocated = omega arith; traps = λ k r h. slice_get-append s.traps (record { offset = length s.bytes; code = code } ∷ []) k r h }
+lasts_trap kinds code s = record { grows = grows_places (λ label to h. h); straight = λ j u h bare reached. h; allocated = omega arith; traps = λ k r h. slice_get-append s.traps (record { offset = length s.bytes; code = code } ∷ []) k r h; registered = refl; named = λ i k h. h; constants = λ j c h. h }
+
+pub lasts_named : {L : Type 0} (kinds : Kinds L) (k : VCodeConstant) (s : Shape L) → Lasts kinds s (with_named k s)
+lasts_named kinds k s = record { grows = grows_places (λ label to h. h); straight = λ j u h bare reached. h; allocated = omega arith; traps = λ i r h. h; registered = refl; named = λ i l h. slice_get-append s.named _ i l h; constants = λ j c h. h }
 
 pub lasts_label : {L : Type 0} (kinds : Kinds L) (label : MachLabel) (s : Shape L) → s.place label.number ≡ None → Lasts kinds s (with_label label s)
 lasts_label kinds label s unbound = record {
@@ -94,6 +104,9 @@ lasts_label kinds label s unbound = record {
   straight = λ j u h bare reached. h;
   allocated = omega arith;
   traps = λ k r h. h;
+  registered = refl;
+  named = λ i k h. h;
+  constants = λ j c h. h;
 }
 
 -- ---- veneers
@@ -131,24 +144,4 @@ veneers_last {L} kinds (i ∷ order) s =
 pub lasts_veneers : {L : Type 0} (kinds : Kinds L) (order : List ℕ) (s : Shape L) → ((j : ℕ) (u : Use L) → slice_get s.uses j ≡ Some u → is_reached kinds (s.place u.label.number) u ≡ true → IsNone j order) → Lasts kinds s (put_all kinds order s)
 lasts_veneers {L} kinds order s none =
     let v = veneers_last kinds order s in
-    rw v.same (record { grows = v.grows; straight = λ j u h bare reached. v.keeps j u (none j u h reached) h; allocated = omega arith; traps = λ k r h. h })
-
--- an island's label is bound at its end, and all other labels, and all else but bytes and uses, stay
-pub record IslandRest {L : Type 0} (after_island : MachLabel) (old new : Shape L) : Type 0 where
-  pub bound : new.place after_island.number ≡ Some (length new.bytes)
-  pub places : (label : ℕ) → label ≢ after_island.number → new.place label ≡ old.place label
-  pub labels : first_inner ≤ after_island.number → new.labels ≡ old.labels
-  pub allocated : new.allocated ≡ old.allocated
-  pub traps : new.traps ≡ old.traps
-
-pub island_rest : {L : Type 0} {kinds : Kinds L} {after_island : MachLabel} {old new : Shape L} → Islanded kinds after_island old new → IslandRest after_island old new
-island_rest {L} {kinds} {after_island} {old} i =
-    let order = with_own (needs_own (aligned (length old.bytes)) (length i.order) (deadline kinds i.jump)) (length old.uses - 1) i.order in
-    let t = put_all kinds order (padded old) in
-    subst (IslandRest after_island old) (sym (i.whole ∙ ap (with_label after_island) (veneers_last kinds order (padded old)).same)) (record {
-      bound = placed_same old.place after_island.number (length t.bytes);
-      places = placed_other old.place after_island.number (length t.bytes);
-      labels = λ le. ap (λ (b : Bool). old.labels ++ (if b then record { label = after_island; offset = length t.bytes } ∷ [] else [])) (le-ltb after_island.number first_inner le) ∙ append_none old.labels;
-      allocated = refl;
-      traps = refl;
-    })
+    rw v.same (record { grows = v.grows; straight = λ j u h bare reached. v.keeps j u (none j u h reached) h; allocated = omega arith; traps = λ k r h. h; registered = refl; named = λ i k h. h; constants = λ j c h. h })

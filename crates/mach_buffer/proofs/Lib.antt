@@ -5,10 +5,13 @@ pub mod QueueContents
 pub mod Windows
 pub mod Links
 pub mod VeneersPut
+pub mod ConstantOrder
 pub mod Sound
 pub mod OrderOfVeneers
 pub mod IslandVeneers
 pub mod LastVeneers
 pub mod Lasting
+pub mod ConstantsPut
+pub mod ConstantCalls
 pub mod Pieces
 pub mod Laws

@@ -1,21 +1,21 @@
 -- A piece of code, with one use or none, as it is put and in finished code.
 use Rattle.std.proofs.Common.{◌≡◌, ℕ, ◌+◌, ◌%◌, ◌≤◌, inl, inr, ⊎_elim, true, false, List, [], ◌∷◌, ◌++◌, length, Option, Some, None, refl, ap, sym, ◌∙◌, subst, arith}
-use Rattle.std.specs.Prelude.{slice_get, is_some}
+use Rattle.std.specs.Prelude.{slice_get}
 use Rattle.std.proofs.lemmas.Bool.{true≢false, and_left, false_from_ne_true, true_from_ne_false}
 use Rattle.std.proofs.lemmas.Option.{same_Some}
 use Rattle.std.proofs.lemmas.List.{length-append, take_all}
 use Rattle.rv_base.specs.LabelUse.{Kinds, Veneer, IsFresh, SameOutside}
 use Rattle.mach_buffer.specs.declared.patches.Patch.{Patch}
 use Rattle.mach_buffer.specs.declared.uses.Use.{Use}
-use Rattle.mach_buffer.specs.declared.pending.Pending.{Pending}
 use Rattle.mach_buffer.specs.Shape.{Shape, with_bytes, with_use, core, recorded}
 use Rattle.mach_buffer.specs.Links.{IsLinked}
-use Rattle.mach_buffer.specs.Windows.{window, IsApart, AreWindows, patch_of}
+use Rattle.mach_buffer.specs.Windows.{window, IsApart, AreWindows, AllEnd, KeepsOthers, patch_of, patches_of}
 use Rattle.mach_buffer.specs.Reach.{is_reached, is_pending}
-use Rattle.mach_buffer.specs.Finish.{IsVia, Arrives, CanFinish, Finishes}
-use Rattle.mach_buffer.specs.Growth.{Lasts}
-use Rattle.mach_buffer.specs.Pieces.{IsPiece, AllEnd, UseFinished}
-use Rattle.mach_buffer.specs.Buffer.{AreSound}
+use Rattle.mach_buffer.specs.Finish.{IsVia, Arrives, Finishes}
+use Rattle.mach_buffer.specs.Growth.{Grows, Lasts}
+use Rattle.mach_buffer.specs.Pieces.{IsPiece, UseFinished}
+use Rattle.mach_buffer.specs.Constants.{AllStand, HasConstants}
+use Rattle.mach_buffer.specs.Buffer.{Inside, AreSound}
 use Rattle.mach_buffer.proofs.Lasting.{grows_more}
 use Rattle.mach_buffer.proofs.LastVeneers.{some_place, finish_keeps, patch_at}
 use Rattle.mach_buffer.proofs.Links.{window_stays, window_last, recorded_get, windows_bytes, windows_use}
@@ -36,18 +36,34 @@ windows_with_use {L} {kinds} s w l even piece u is fresh =
 
 -- ---- a piece with no use
 
-pub piece_finished : {L : Type 0} {kinds : Kinds L} (s : Shape L) {f : Shape L} {piece bytes : List ℕ} → AllEnd kinds s → Lasts kinds (with_bytes piece s) f → Finishes kinds f bytes → window bytes (length s.bytes) (length piece) ≡ piece
-piece_finished {L} {kinds} s {f} {piece} {bytes} ends lasts fin =
-    let x = grows_more lasts.grows fin.grows in
+-- bytes that were put where all windows before them end, and that later windows begin after, are kept by the patches
+piece_kept : {L : Type 0} (kinds : Kinds L) (place : ℕ → Option ℕ) (s : Shape L) {piece bytes put_bytes : List ℕ} {put_uses : List (Use L)} {put_place : ℕ → Option ℕ} → AllEnd kinds s → Grows (s.bytes ++ piece) s.uses s.place put_bytes put_uses put_place → KeepsOthers kinds put_bytes bytes (patches_of place put_uses) →
+    window bytes (length s.bytes) (length piece) ≡ piece
+piece_kept {L} kinds place s {piece} {bytes} {put_bytes} {put_uses} ends x others =
     let long = length-append s.bytes piece in
     let Apart : Patch L → Type 0 = λ q. IsApart (length s.bytes) (length piece) q.offset (length (kinds.fields q.kind)) in
-    -- the other windows end before it, or begin after it
-    let apart : (j : ℕ) (u : Use L) → slice_get fin.put.uses j ≡ Some u → IsApart (length s.bytes) (length piece) u.offset (length (kinds.fields u.kind)) = λ j u h. ⊎_elim
+    let apart : (j : ℕ) (u : Use L) → slice_get put_uses j ≡ Some u → IsApart (length s.bytes) (length piece) u.offset (length (kinds.fields u.kind)) = λ j u h. ⊎_elim
     (λ w. inr (subst (λ (y : Use L). y.offset + length (kinds.fields y.kind) ≤ length s.bytes) w.alike (ends j w.was w.there)))
     (λ r. inl (omega (arith, long, x.after r.0 (core u) r.2)))
-    (recorded_at fin.put.uses s.uses x.more x.grown j u h) in
-    fin.others (length s.bytes) (length piece) (map_each Apart (patch_of f.place) fin.put.uses apart)
-    ∙ window_stays (s.bytes ++ piece) fin.put.bytes (length s.bytes) (length piece) (omega (arith, long)) x.before ∙ window_last s.bytes piece
+    (recorded_at put_uses s.uses x.more x.grown j u h) in
+    others (length s.bytes) (length piece) (map_each Apart (patch_of place) put_uses apart)
+    ∙ window_stays (s.bytes ++ piece) put_bytes (length s.bytes) (length piece) (omega (arith, long)) x.before ∙ window_last s.bytes piece
+
+pub piece_finished : {L : Type 0} {kinds : Kinds L} (s : Shape L) {f : Shape L} {piece bytes : List ℕ} → AllEnd kinds s → Lasts kinds (with_bytes piece s) f → Finishes kinds f bytes → window bytes (length s.bytes) (length piece) ≡ piece
+piece_finished {kinds = kinds} s ends lasts fin = piece_kept kinds fin.put.place s ends (grows_more lasts.grows fin.grows) fin.others
+
+-- so constants that stand have their bytes
+pub constants_kept : {L : Type 0} (kinds : Kinds L) (place : ℕ → Option ℕ) (put : Shape L) (bytes : List ℕ) → length bytes ≡ length put.bytes → AllStand kinds put → KeepsOthers kinds put.bytes bytes (patches_of place put.uses) → HasConstants put.registered bytes put.constants
+constants_kept kinds place put bytes same stand others j c h =
+    let w = stand j c h in
+    let kept : window bytes (length w.before.bytes) (length w.constant.bytes) ≡ w.constant.bytes = piece_kept kinds place w.before w.ends w.lasts.grows others in
+    record {
+      constant = w.constant;
+      there = w.there;
+      aligned = w.aligned;
+      stands = ap (λ n. window bytes n (length w.constant.bytes)) w.at ∙ kept;
+      inside = omega (arith, w.at, length-append w.before.bytes w.constant.bytes, w.lasts.grows.longer, same);
+    }
 
 -- ---- a piece with one use
 
@@ -56,8 +72,8 @@ via_core v = record { at = v.at; there = v.there; even = v.even; inside = v.insi
 
 module _ {L : Type 0} {kinds : Kinds L} {s f : Shape L} {piece bytes : List ℕ} where
   -- as a use arrives, once it is known whether it has a veneer
-  finished_as : (w : Use L) (to : ℕ) → f.place w.label.number ≡ Some to → to ≤ length bytes → to % 2 ≡ 0 → SameOutside (kinds.fields w.kind) piece (window bytes w.offset (length (kinds.fields w.kind))) → ((at : ℕ) → w.veneer ≡ Some at → kinds.has_veneer w.kind ≡ true) →
-      ((at : ℕ) → w.veneer ≡ Some at → slice_get f.uses (length s.uses) ≡ Some (core w) → is_reached kinds (f.place w.label.number) (core w) ≡ true → ⊥) → (o : Option ℕ) → w.veneer ≡ o → Arrives kinds bytes w to o → UseFinished kinds s f bytes piece (core w)
+  finished_as : {place : ℕ → Option ℕ} (w : Use L) (to : ℕ) → place w.label.number ≡ Some to → to ≤ length bytes → to % 2 ≡ 0 → SameOutside (kinds.fields w.kind) piece (window bytes w.offset (length (kinds.fields w.kind))) → ((at : ℕ) → w.veneer ≡ Some at → kinds.has_veneer w.kind ≡ true) →
+      ((at : ℕ) → w.veneer ≡ Some at → slice_get f.uses (length s.uses) ≡ Some (core w) → is_reached kinds (f.place w.label.number) (core w) ≡ true → ⊥) → (o : Option ℕ) → w.veneer ≡ o → Arrives kinds bytes w to o → UseFinished kinds s f place bytes piece (core w)
   finished_as w to bound inside even kept supported unveneered None e a = record { target = to; aimed = a; kept = kept; even = even; inside = inside; goes = inl bound; straight = λ h reached. bound }
   finished_as w to bound inside even kept supported unveneered (Some at) e (via, here) = record {
     target = via.at;
@@ -69,8 +85,8 @@ module _ {L : Type 0} {kinds : Kinds L} {s f : Shape L} {piece bytes : List ℕ}
     straight = λ h reached. absurd (unveneered at e h reached);
   }
 
-  pub use_finished : {u : Use L} {p : Pending} → IsPiece kinds s piece u → Lasts kinds (with_bytes piece (with_use u s)) f → AreSound kinds f p → CanFinish kinds f → Finishes kinds f bytes → UseFinished kinds s f bytes piece u
-  use_finished {u} is lasts sound can fin =
+  pub use_finished : {u : Use L} {p : Inside} → IsPiece kinds s piece u → Lasts kinds (with_bytes piece (with_use u s)) f → AreSound kinds f p → (fin : Finishes kinds f bytes) → UseFinished kinds s f fin.put.place bytes piece u
+  use_finished {u} is lasts sound fin =
       let x = grows_more lasts.grows fin.grows in
       let J = length s.uses in
       let here = recorded_get (s.uses ++ u ∷ []) J u (slice_get-append_last s.uses u) in
@@ -79,13 +95,13 @@ module _ {L : Type 0} {kinds : Kinds L} {s f : Shape L} {piece bytes : List ℕ}
       let w = comes_from core fin.put.uses J (core u) (ap (λ us. slice_get us J) x.grown ∙ slice_get-append (recorded (s.uses ++ u ∷ [])) x.more J (core u) here) in
       let same : core w.from ≡ u = w.is ∙ (λ i. record u { veneer = sym is.bare i }) in
       let alike : core v.from ≡ core w.from = v.is ∙ sym w.is in
-      let to = some_place (f.place w.from.label.number) (ap (λ (y : Use L). is_some (f.place y.label.number)) (sym alike) ∙ can.bound J v.from v.there) in
-      let there = sound.places w.from.label.number to.0 to.1 in
+      let to = some_place (fin.put.place w.from.label.number) (fin.bound J w.from w.there) in
+      let there = fin.places w.from.label.number to.0 to.1 in
       -- a use that isn't pending stays as it is
       let stays : is_pending kinds f.place v.from ≡ false → v.from ≡ w.from = λ idle. same_Some _ _ (sym (finish_keeps fin J v.from v.there idle) ∙ w.there) in
       let as_put = (λ i. window fin.put.bytes (is.at i) (sym is.long i)) ∙ window_stays (s.bytes ++ piece) fin.put.bytes (length s.bytes) (length piece) (omega (arith, length-append s.bytes piece)) x.before ∙ window_last s.bytes piece in
       let kept = subst (λ a. SameOutside (kinds.fields w.from.kind) a (window bytes w.from.offset (length (kinds.fields w.from.kind)))) (subst (λ (y : Use L). window fin.put.bytes y.offset (length (kinds.fields y.kind)) ≡ piece) (sym same) as_put)
-      (fin.kept J (patch_of f.place w.from) (patch_at f.place fin.put.uses J w.from w.there)) in
+      (fin.kept J (patch_of fin.put.place w.from) (patch_at fin.put.place fin.put.uses J w.from w.there)) in
       -- one that has a veneer supports one, and one in reach of its label has none
       let supported : (at : ℕ) → w.from.veneer ≡ Some at → kinds.has_veneer w.from.kind ≡ true = λ at e. true_from_ne_false (kinds.has_veneer w.from.kind) (λ h.
       let none : kinds.has_veneer v.from.kind ≡ false = ap (λ (y : Use L). kinds.has_veneer y.kind) alike ∙ h in
@@ -93,4 +109,4 @@ module _ {L : Type 0} {kinds : Kinds L} {s f : Shape L} {piece bytes : List ℕ}
       let unveneered : (at : ℕ) → w.from.veneer ≡ Some at → slice_get f.uses J ≡ Some (core w.from) → is_reached kinds (f.place w.from.label.number) (core w.from) ≡ true → ⊥ = λ at e h reached.
       let put = finish_keeps fin J (core w.from) h (false_from_ne_true (is_pending kinds f.place (core w.from)) (not_pending kinds f.place (core w.from) reached)) in
       none_some w.from.veneer at (ap (λ (y : Use L). y.veneer) (sym (same_Some (core w.from) w.from (sym put ∙ w.there)))) e in
-      subst (UseFinished kinds s f bytes piece) same (finished_as w.from to.0 to.1 (omega (arith, fin.same_length, fin.grows.longer, there.0)) there.1 kept supported unveneered w.from.veneer refl (fin.arrive J w.from to.0 w.there to.1))
+      subst (UseFinished kinds s f fin.put.place bytes piece) same (finished_as w.from to.0 to.1 (omega (arith, fin.same_length, there.0)) there.1 kept supported unveneered w.from.veneer refl (fin.arrive J w.from to.0 w.there to.1))

@@ -8,7 +8,7 @@ use Rattle.std.proofs.lemmas.List.{length-append, length-map, map-append}
 use Rattle.rv_base.specs.declared.label.MachLabel.{MachLabel}
 use Rattle.rv_base.specs.LabelUse.{code_limit, Kinds}
 use Rattle.mach_buffer.specs.declared.uses.Use.{Use}
-use Rattle.mach_buffer.specs.Shape.{Shape, veneer_use, core, recorded, IsKnown}
+use Rattle.mach_buffer.specs.Shape.{Shape, veneer_use, core, recorded, IsUsable}
 use Rattle.mach_buffer.specs.Reach.{is_pending}
 use Rattle.mach_buffer.specs.Windows.{AreWindows}
 use Rattle.mach_buffer.specs.Links.{IsLinked}
@@ -157,7 +157,7 @@ veneered {L} {kinds} law {s} order w going =
     record {
       all = all;
       last = veneers_last kinds order s;
-      whole = record { linked = all.linked; even = all.even; places = λ label to h. let q = w.places label to h in (omega (arith, q.0, all.long), q.1, q.2); known = own_labels all.grown (λ l. IsKnown l.number s.allocated) w.known };
+      whole = record { linked = all.linked; even = all.even; places = λ label to h. let q = w.places label to h in (omega (arith, q.0, all.long), q.1, q.2); known = own_labels all.grown (λ l. IsUsable s l.number) w.known; ordered = w.ordered };
     }
 
 -- no use is pending any more, where none is that was there and got no veneer

@@ -3,17 +3,21 @@ use Rattle.std.specs.Prelude.{◌≡◌, ℕ, ◌%◌, ◌≤◌, List, length, 
 use Rattle.rv_base.specs.LabelUse.{Kinds}
 use Rattle.mach_buffer.specs.declared.uses.Use.{Use}
 use Rattle.mach_buffer.specs.declared.uses.LabelPlace.{LabelPlace}
+use Rattle.rv_base.specs.declared.constant.Constant.{Constant}
+use Rattle.rv_base.specs.declared.constant.VCodeConstant.{VCodeConstant}
+use Rattle.mach_buffer.specs.declared.records.ConstPlace.{ConstPlace}
 use Rattle.mach_buffer.specs.declared.records.MachTrap.{MachTrap}
 use Rattle.mach_buffer.specs.declared.pending.Pending.{Pending}
 use Rattle.mach_buffer.specs.declared.buffer.MachBuffer.{MachBuffer}
-use Rattle.mach_buffer.specs.Shape.{Shape, IsKnown}
+use Rattle.mach_buffer.specs.Shape.{Shape, IsUsable}
+use Rattle.mach_buffer.specs.Constants.{IsOrdered, AreNoted}
 use Rattle.mach_buffer.specs.Links.{IsLinked}
 use Rattle.mach_buffer.specs.Finish.{pending_in}
 use Rattle.mach_buffer.specs.Queues.{AreKept}
 use Rattle.mach_buffer.specs.Places.{place_in}
 
 abbrev pub shape_of : {L : Type 0} → MachBuffer L → Shape L
-shape_of b = record { bytes = b.code.bytes.items; uses = b.code.uses.items; place = place_in b.labels; labels = b.labels.bound.items; allocated = b.labels.allocated; traps = b.traps.items }
+shape_of b = record { bytes = b.code.bytes.items; uses = b.code.uses.items; place = place_in b.labels; labels = b.labels.bound.items; allocated = b.labels.allocated; traps = b.traps.items; registered = b.constants.registered.items; named = b.constants.named.items; constants = b.constants.placed.items }
 
 -- the bytes so far
 abbrev pub bytes_of : {L : Type 0} → MachBuffer L → List ℕ
@@ -38,6 +42,18 @@ allocated_of b = (shape_of b).allocated
 -- the traps, in the order in which they were recorded
 abbrev pub traps_of : {L : Type 0} → MachBuffer L → List MachTrap
 traps_of b = (shape_of b).traps
+
+-- the constants that code may name
+abbrev pub registered_of : {L : Type 0} → MachBuffer L → List Constant
+registered_of b = (shape_of b).registered
+
+-- those that were named, in order of their first use
+abbrev pub named_of : {L : Type 0} → MachBuffer L → List VCodeConstant
+named_of b = (shape_of b).named
+
+-- those that stand, with their offsets
+abbrev pub constants_of : {L : Type 0} → MachBuffer L → List ConstPlace
+constants_of b = (shape_of b).constants
 
 -- the deadlines of the pending uses
 abbrev pub pending_of : {L : Type 0} → Kinds L → MachBuffer L → List ℕ
@@ -64,14 +80,24 @@ Takes {L} result change old new = TakesAs result (λ (s t : Shape L). t ≡ chan
 
 -- ---- a sound buffer
 
--- what holds of what a buffer shows, and of its queues
-pub record AreSound {L : Type 0} (kinds : Kinds L) (s : Shape L) (pending : Pending) : Type 0 where
+-- what a buffer doesn't show: its queues, and which constants were named
+pub record Inside : Type 0 where
+  pub pending : Pending
+  pub seen : List Bool
+
+abbrev pub inside_of : {L : Type 0} → MachBuffer L → Inside
+inside_of b = record { pending = b.pending; seen = b.constants.seen.items }
+
+-- what holds of what a buffer shows, and of what it doesn't
+pub record AreSound {L : Type 0} (kinds : Kinds L) (s : Shape L) (inside : Inside) : Type 0 where
   pub linked : IsLinked kinds s.bytes s.uses
   pub even : length s.bytes % 2 ≡ 0
-  pub places : (label at : ℕ) → s.place label ≡ Some at → (at ≤ length s.bytes) × (at % 2 ≡ 0) × IsKnown label s.allocated
-  pub known : (j : ℕ) (u : Use L) → slice_get s.uses j ≡ Some u → IsKnown u.label.number s.allocated
-  pub kept : AreKept kinds s.place s.uses pending
+  pub places : (label at : ℕ) → s.place label ≡ Some at → (at ≤ length s.bytes) × (at % 2 ≡ 0) × IsUsable s label
+  pub known : (j : ℕ) (u : Use L) → slice_get s.uses j ≡ Some u → IsUsable s u.label.number
+  pub ordered : IsOrdered s
+  pub kept : AreKept kinds s.place s.uses inside.pending
+  pub noted : AreNoted s.registered s.named inside.seen
 
 -- what holds of every buffer that was made by its calls and isn't spoiled
 abbrev pub IsSound : {L : Type 0} → Kinds L → MachBuffer L → Type 0
-IsSound kinds b = AreSound kinds (shape_of b) b.pending
+IsSound kinds b = AreSound kinds (shape_of b) (inside_of b)

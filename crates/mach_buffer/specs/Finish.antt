@@ -1,13 +1,16 @@
 -- The end: the last veneers, and the patches.
-use Rattle.std.specs.Prelude.{◌≡◌, ℕ, zero, suc, ◌+◌, ◌*◌, ◌%◌, ◌<◌, ◌≤◌, true, false, cond, nat_eq, List, ◌++◌, length, take, drop, Option, Some, None, is_some, ◌-◌, slice_get, pos, ◌-ℤ◌}
+use Rattle.std.specs.Prelude.{◌≡◌, ℕ, zero, suc, ◌+◌, ◌*◌, ◌%◌, ◌<◌, ◌≤◌, ◌⊎◌, true, false, cond, nat_eq, List, ◌++◌, length, map, take, drop, Option, Some, None, is_some, ◌-◌, slice_get, pos, ◌-ℤ◌}
 use Rattle.rv_base.specs.LabelUse.{code_limit, Kinds, Veneer, SameOutside}
+use Rattle.mach_labels.specs.Table.{first_constant}
+use Rattle.mach_buffer.specs.declared.records.ConstPlace.{ConstPlace}
 use Rattle.mach_buffer.specs.declared.uses.Use.{Use}
-use Rattle.mach_buffer.specs.Shape.{Shape}
+use Rattle.mach_buffer.specs.Shape.{Shape, IsConstantLabel}
 use Rattle.mach_buffer.specs.Windows.{window, AreWindows, AllKept, KeepsOthers, patches_of}
 use Rattle.mach_buffer.specs.Reach.{is_reached, is_pending, deadlines, VeneersReach}
 use Rattle.mach_buffer.specs.Veneers.{put_all, IsOrder}
 use Rattle.mach_buffer.specs.Growth.{Grows}
-use Rattle.mach_buffer.specs.Islands.{padding, padded, put_constants, is_far}
+use Rattle.mach_buffer.specs.Islands.{padding, padded, is_far}
+use Rattle.mach_buffer.specs.Constants.{end_after, put_constants, offset_in, AllStand, HasConstants}
 
 -- a use goes by a veneer that stands at `at`: its window aims there, the eight bytes there are the veneer's outside the
 -- fields of the veneer's own use, and the window of that use aims at the label's place
@@ -43,25 +46,35 @@ padded_for (suc n) s = padded s
 abbrev pub pending_in : {L : Type 0} → Kinds L → Shape L → List ℕ
 pending_in kinds s = deadlines (is_pending kinds s.place) kinds s.uses
 
--- what the end asks: each label that is used is bound; each pending use reaches its veneer; each use that supports none
--- reaches its label, or all code; the windows stand; and there is room
+-- where the last veneers end
+abbrev pub last_end : {L : Type 0} → Kinds L → Shape L → ℕ
+last_end kinds s = length (before_last s.bytes (length (pending_in kinds s))) + 8 * length (pending_in kinds s)
+
+-- what the end asks: each label that is used is bound, or a constant's; each pending use reaches its veneer; each use that
+-- supports none reaches its label, or all code; the windows and the constants stand; and there is room
 pub record CanFinish {L : Type 0} (kinds : Kinds L) (s : Shape L) : Type 0 where
   pub windows : AreWindows kinds s.bytes s.uses
-  pub bound : (j : ℕ) (u : Use L) → slice_get s.uses j ≡ Some u → is_some (s.place u.label.number) ≡ true
+  pub bound : (j : ℕ) (u : Use L) → slice_get s.uses j ≡ Some u → (is_some (s.place u.label.number) ≡ true) ⊎ IsConstantLabel s.named u.label.number
   pub direct : (j : ℕ) (u : Use L) → slice_get s.uses j ≡ Some u → kinds.has_veneer u.kind ≡ false → is_far kinds u ≡ false → is_reached kinds (s.place u.label.number) u ≡ true
   pub reach : VeneersReach (length (before_last s.bytes (length (pending_in kinds s)))) (pending_in kinds s)
-  pub short : length (before_last s.bytes (length (pending_in kinds s))) + 8 * length (pending_in kinds s) < code_limit
+  pub short : end_after s (last_end kinds s) < code_limit
+  pub constants : AllStand kinds s
 
--- what it brings: a veneer for each pending use, in order, after zero bytes to a multiple of four where there is one; and
--- then each window is patched, and all other bytes stay
+-- what it brings: a veneer for each pending use, in order, after zero bytes to a multiple of four where there is one; then the
+-- constants that wait; and then each window is patched, and all other bytes stay, so each constant has its bytes
 pub record Finishes {L : Type 0} (kinds : Kinds L) (s : Shape L) (bytes : List ℕ) : Type 0 where
   pub order : List ℕ
   pub in_order : IsOrder kinds (is_pending kinds s.place) s.uses order
   pub put : Shape L
   pub whole : put ≡ put_constants (put_all kinds order (padded_for (length order) s))
-  pub long : length put.bytes ≡ length (before_last s.bytes (length (pending_in kinds s))) + 8 * length (pending_in kinds s)
-  pub grows : Grows s.bytes s.uses s.place put.bytes put.uses s.place
+  pub long : length put.bytes ≡ end_after s (last_end kinds s)
+  pub grows : Grows s.bytes s.uses s.place put.bytes put.uses put.place
+  pub places : (label at : ℕ) → put.place label ≡ Some at → (at ≤ length put.bytes) × (at % 2 ≡ 0)
+  pub bound : (j : ℕ) (u : Use L) → slice_get put.uses j ≡ Some u → is_some (put.place u.label.number) ≡ true
   pub same_length : length bytes ≡ length put.bytes
-  pub arrive : AllArrive kinds bytes s.place put.uses
-  pub kept : AllKept kinds put.bytes bytes (patches_of s.place put.uses)
-  pub others : KeepsOthers kinds put.bytes bytes (patches_of s.place put.uses)
+  pub arrive : AllArrive kinds bytes put.place put.uses
+  pub kept : AllKept kinds put.bytes bytes (patches_of put.place put.uses)
+  pub others : KeepsOthers kinds put.bytes bytes (patches_of put.place put.uses)
+  pub constants : HasConstants s.registered bytes put.constants
+  pub listed : map (λ (c : ConstPlace). c.constant) put.constants ≡ s.named
+  pub offsets : (number : ℕ) → put.place (first_constant + number) ≡ offset_in put.constants number

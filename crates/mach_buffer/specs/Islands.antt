@@ -1,5 +1,5 @@
 -- Islands: what one asks, and what it brings.
-use Rattle.std.specs.Prelude.{◌≡◌, ◌≢◌, ℕ, zero, suc, ◌+◌, ◌-◌, ◌*◌, ◌/◌, ◌<◌, ◌≤◌, Bool, true, false, cond, nat_le, nat_lt, ◌&&◌, List, [], ◌∷◌, ◌++◌, length, Some, None, slice_get}
+use Rattle.std.specs.Prelude.{◌≡◌, ◌≢◌, ℕ, ◌+◌, ◌-◌, ◌*◌, ◌/◌, ◌<◌, ◌≤◌, Bool, true, false, cond, nat_le, nat_lt, ◌&&◌, List, [], ◌∷◌, ◌++◌, length, Some, None, slice_get}
 use Rattle.rv_base.specs.declared.label.MachLabel.{MachLabel}
 use Rattle.rv_base.specs.LabelUse.{code_limit, Kinds}
 use Rattle.mach_labels.specs.Table.{first_inner}
@@ -7,15 +7,11 @@ use Rattle.mach_buffer.specs.declared.uses.Use.{Use}
 use Rattle.mach_buffer.specs.Shape.{Shape, with_bytes, with_label, IsKnown}
 use Rattle.mach_buffer.specs.Reach.{deadline, is_pending, is_other, deadlines, CanReach}
 use Rattle.mach_buffer.specs.Veneers.{put_all, IsOrder}
+use Rattle.mach_buffer.specs.Constants.{zeros, end_after, put_constants}
 
 -- the next multiple of four
 abbrev pub aligned : ℕ → ℕ
 aligned n = (n + 3) / 4 * 4
-
--- zero bytes
-abbrev pub zeros : ℕ → List ℕ
-zeros zero = []
-zeros (suc n) = 0 ∷ zeros n
 
 -- zero bytes to a multiple of four
 abbrev pub padding : ℕ → List ℕ
@@ -24,21 +20,18 @@ padding n = zeros (aligned n - n)
 abbrev pub padded : {L : Type 0} → Shape L → Shape L
 padded s = with_bytes (padding (length s.bytes)) s
 
--- the pending constants, of which there are none
-abbrev pub put_constants : {L : Type 0} → Shape L → Shape L
-put_constants s = s
-
--- whether the jump over an island needs a veneer of its own: the veneers' end is out of its reach
-abbrev pub needs_own : ℕ → ℕ → ℕ → Bool
-needs_own start count last = nat_lt last (start + 8 * count)
+-- whether the jump over an island needs a veneer of its own: the island's end, without that veneer, is out of its reach. What
+-- comes after the veneers ends where `ends` says.
+abbrev pub needs_own : (ℕ → ℕ) → ℕ → ℕ → ℕ → Bool
+needs_own ends start count last = nat_lt last (aligned (ends (start + 8 * count)))
 
 -- where the other veneers begin
-abbrev pub first_of : ℕ → ℕ → ℕ → ℕ
-first_of start count last = cond (needs_own start count last) (start + 8) start
+abbrev pub first_of : (ℕ → ℕ) → ℕ → ℕ → ℕ → ℕ
+first_of ends start count last = cond (needs_own ends start count last) (start + 8) start
 
 -- where an island ends
-abbrev pub island_end : ℕ → ℕ → ℕ → ℕ
-island_end start count last = first_of start count last + 8 * count
+abbrev pub island_end : (ℕ → ℕ) → ℕ → ℕ → ℕ → ℕ
+island_end ends start count last = aligned (ends (first_of ends start count last + 8 * count))
 
 -- the jump's use before the others, where the jump needs a veneer
 abbrev pub with_own : Bool → ℕ → List ℕ → List ℕ
@@ -70,7 +63,7 @@ pub record CanIsland {L : Type 0} (kinds : Kinds L) (s : Shape L) (after_island 
   pub four : 4 ≤ length s.bytes
   pub jump : IsJumpOver kinds s.bytes s.uses after_island.number
   pub reach : CanReach (length s.bytes - 4) (others_of kinds s after_island)
-  pub room : island_end (aligned (length s.bytes)) (length (others_of kinds s after_island)) (deadline kinds jump.jump) < code_limit
+  pub room : island_end (end_after s) (aligned (length s.bytes)) (length (others_of kinds s after_island)) (deadline kinds jump.jump) < code_limit
 
 -- a kind of use that reaches all code
 abbrev pub is_far : {L : Type 0} → Kinds L → Use L → Bool
@@ -88,13 +81,17 @@ pub record IsOwn {L : Type 0} (kinds : Kinds L) (uses : List (Use L)) (from : �
   pub there : slice_get uses user ≡ Some used
   pub names : used.label ≡ own.label
 
--- what an island brings: zero bytes to a multiple of four; the jump's own veneer, where it needs one; a veneer for each other
--- pending use, in order; and its label bound at the end. So it ends where is said, and no use is pending
+-- the veneers of an island: the jump's own one, where it needs one, and one for each other pending use, in order
+abbrev pub island_veneers : {L : Type 0} → Kinds L → Shape L → Use L → List ℕ → List ℕ
+island_veneers kinds s jump order = with_own (needs_own (end_after s) (aligned (length s.bytes)) (length order) (deadline kinds jump)) (length s.uses - 1) order
+
+-- what an island brings: zero bytes to a multiple of four; its veneers; the constants that wait; zero bytes to a multiple of four;
+-- and its label bound at the end. So it ends where is said, and no use is pending
 pub record Islanded {L : Type 0} (kinds : Kinds L) (after_island : MachLabel) (old new : Shape L) : Type 0 where
   pub jump : Use L
   pub last : slice_get old.uses (length old.uses - 1) ≡ Some jump
   pub order : List ℕ
   pub in_order : IsOrder kinds (is_other kinds old.place (Some after_island)) old.uses order
-  pub whole : new ≡ with_label after_island (put_constants (put_all kinds (with_own (needs_own (aligned (length old.bytes)) (length order) (deadline kinds jump)) (length old.uses - 1) order) (padded old)))
-  pub end : length new.bytes ≡ island_end (aligned (length old.bytes)) (length (others_of kinds old after_island)) (deadline kinds jump)
+  pub whole : new ≡ with_label after_island (padded (put_constants (put_all kinds (island_veneers kinds old jump order) (padded old))))
+  pub end : length new.bytes ≡ island_end (end_after old) (aligned (length old.bytes)) (length (others_of kinds old after_island)) (deadline kinds jump)
   pub settled : deadlines (is_pending kinds new.place) kinds new.uses ≡ []

@@ -4,10 +4,10 @@ use Rattle.rv_base.specs.LabelUse.{Kinds}
 use Rattle.mach_buffer.specs.Shape.{Shape}
 use Rattle.mach_buffer.specs.Reach.{is_pending}
 use Rattle.mach_buffer.specs.Veneers.{put_all, IsOrder}
-use Rattle.mach_buffer.specs.Islands.{put_constants}
+use Rattle.mach_buffer.specs.Constants.{put_constants}
 use Rattle.mach_buffer.specs.Finish.{padded_for}
 
--- a veneer was put for each pending use, in order
+-- a veneer was put for each pending use, in order, and then each constant that waits
 pub record LastPut {L : Type 0} (kinds : Kinds L) (s put : Shape L) : Type 0 where
   pub order : List ℕ
   pub in_order : IsOrder kinds (is_pending kinds s.place) s.uses order

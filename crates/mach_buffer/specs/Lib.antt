@@ -3,6 +3,7 @@ pub mod Reach
 pub mod Windows
 pub mod Links
 pub mod Veneers
+pub mod Constants
 pub mod Islands
 pub mod Growth
 pub mod Finish

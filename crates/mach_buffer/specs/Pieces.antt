@@ -1,5 +1,5 @@
 -- One piece of code with one use, in finished code.
-use Rattle.std.specs.Prelude.{◌≡◌, ℕ, ◌+◌, ◌%◌, ◌≤◌, ◌⊎◌, true, List, length, Some, None, slice_get, pos, ◌-ℤ◌}
+use Rattle.std.specs.Prelude.{◌≡◌, ℕ, ◌%◌, ◌≤◌, ◌⊎◌, true, List, length, Option, Some, None, slice_get, pos, ◌-ℤ◌}
 use Rattle.rv_base.specs.LabelUse.{Kinds, SameOutside}
 use Rattle.mach_buffer.specs.declared.uses.Use.{Use}
 use Rattle.mach_buffer.specs.Shape.{Shape}
@@ -13,26 +13,22 @@ pub record IsPiece {L : Type 0} (kinds : Kinds L) (s : Shape L) (piece : List �
   pub bare : u.veneer ≡ None
   pub long : length piece ≡ length (kinds.fields u.kind)
 
--- each use's window ends in the bytes
-abbrev pub AllEnd : {L : Type 0} → Kinds L → Shape L → Type 0
-AllEnd {L} kinds s = (j : ℕ) (u : Use L) → slice_get s.uses j ≡ Some u → u.offset + length (kinds.fields u.kind) ≤ length s.bytes
-
 -- a use goes by its veneer, which stands at `at` and goes to the place of the use's label
-pub record ByVeneer {L : Type 0} (kinds : Kinds L) (f : Shape L) (bytes : List ℕ) (u : Use L) (at : ℕ) : Type 0 where
+pub record ByVeneer {L : Type 0} (kinds : Kinds L) (place : ℕ → Option ℕ) (bytes : List ℕ) (u : Use L) (at : ℕ) : Type 0 where
   pub supported : kinds.has_veneer u.kind ≡ true
   pub to : ℕ
-  pub bound : f.place u.label.number ≡ Some to
+  pub bound : place u.label.number ≡ Some to
   pub via : IsVia kinds (kinds.veneer u.kind) bytes u to
   pub here : via.at ≡ at
 
--- a use whose window was `piece`, the one after those of a shape s, in the bytes that finish a shape f: its window aims at a
--- target, which is its label's place or its veneer, and keeps its bits outside the fields. The target is its label's place
--- where the use still has no veneer, and its label in reach
-pub record UseFinished {L : Type 0} (kinds : Kinds L) (s f : Shape L) (bytes piece : List ℕ) (u : Use L) : Type 0 where
+-- a use whose window was `piece`, the one after those of a shape s, in the bytes that finish a shape f, where labels have places
+-- in the end: its window aims at a target, which is its label's place or its veneer, and keeps its bits outside the fields. The
+-- target is its label's place where the use still has no veneer in f, and its label in reach
+pub record UseFinished {L : Type 0} (kinds : Kinds L) (s f : Shape L) (place : ℕ → Option ℕ) (bytes piece : List ℕ) (u : Use L) : Type 0 where
   pub target : ℕ
   pub aimed : kinds.aims u.kind (window bytes u.offset (length (kinds.fields u.kind))) (pos target -ℤ pos u.offset)
   pub kept : SameOutside (kinds.fields u.kind) piece (window bytes u.offset (length (kinds.fields u.kind)))
   pub even : target % 2 ≡ 0
   pub inside : target ≤ length bytes
-  pub goes : (f.place u.label.number ≡ Some target) ⊎ ByVeneer kinds f bytes u target
-  pub straight : slice_get f.uses (length s.uses) ≡ Some u → is_reached kinds (f.place u.label.number) u ≡ true → f.place u.label.number ≡ Some target
+  pub goes : (place u.label.number ≡ Some target) ⊎ ByVeneer kinds place bytes u target
+  pub straight : slice_get f.uses (length s.uses) ≡ Some u → is_reached kinds (f.place u.label.number) u ≡ true → place u.label.number ≡ Some target

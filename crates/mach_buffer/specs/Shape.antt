@@ -1,16 +1,20 @@
 -- What a buffer of code shows, and what its calls make of it.
-use Rattle.std.specs.Prelude.{ℕ, ◌+◌, ◌^◌, ◌<◌, List, [], ◌∷◌, ◌++◌, length, map, Option, Some, None, nat_eq, nat_lt, if◌then◌else◌}
+use Rattle.std.specs.Prelude.{◌≡◌, ◌⊎◌, ℕ, ◌+◌, ◌^◌, ◌<◌, Bool, false, ◌||◌, List, [], ◌∷◌, ◌++◌, length, map, drop, Option, Some, None, nat_eq, nat_lt, if◌then◌else◌, slice_get}
 use Rattle.rv_base.specs.declared.label.MachLabel.{MachLabel}
 use Rattle.rv_base.specs.LabelUse.{Veneer}
 use Rattle.rv_base.specs.declared.trap.TrapCode.{TrapCode}
-use Rattle.mach_labels.specs.Table.{first_inner}
+use Rattle.rv_base.specs.declared.constant.Constant.{Constant}
+use Rattle.rv_base.specs.declared.constant.VCodeConstant.{VCodeConstant}
+use Rattle.mach_labels.specs.Table.{first_inner, first_constant}
 use Rattle.mach_buffer.specs.declared.uses.Use.{Use}
 use Rattle.mach_buffer.specs.declared.uses.LabelPlace.{LabelPlace}
+use Rattle.mach_buffer.specs.declared.records.ConstPlace.{ConstPlace}
 use Rattle.mach_buffer.specs.declared.records.MachTrap.{MachTrap}
 
 -- its bytes; its uses in the order in which they were recorded, each with its veneer's place where it has one; the places of
--- labels; the labels below 2^30 that are bound, in order of binding; how many inner labels were allocated; and the traps, in the
--- order in which they were recorded
+-- labels; the labels below 2^30 that are bound, in order of binding; how many inner labels were allocated; the traps, in the
+-- order in which they were recorded; the constants that code may name; those that were named, in order of their first use; and
+-- those that stand, which are the first of these, with their offsets
 pub record Shape (L : Type 0) : Type 0 where
   pub bytes : List ℕ
   pub uses : List (Use L)
@@ -18,6 +22,9 @@ pub record Shape (L : Type 0) : Type 0 where
   pub labels : List LabelPlace
   pub allocated : ℕ
   pub traps : List MachTrap
+  pub registered : List Constant
+  pub named : List VCodeConstant
+  pub constants : List ConstPlace
 
 -- bytes more
 abbrev pub with_bytes : {L : Type 0} → List ℕ → Shape L → Shape L
@@ -47,13 +54,48 @@ with_allocated s = record s { allocated = s.allocated + 1 }
 abbrev pub with_trap : {L : Type 0} → TrapCode → Shape L → Shape L
 with_trap code s = record s { traps = s.traps ++ record { offset = length s.bytes; code = code } ∷ [] }
 
+-- constants become known
+abbrev pub with_registered : {L : Type 0} → List Constant → Shape L → Shape L
+with_registered constants s = record s { registered = constants }
+
+-- whether a constant of this number is one of these
+abbrev pub is_named : List VCodeConstant → ℕ → Bool
+is_named [] number = false
+is_named (k ∷ named) number = nat_eq k.number number || is_named named number
+
+-- a constant is named: it comes after the others, unless it was named before
+abbrev pub name_more : VCodeConstant → List VCodeConstant → List VCodeConstant
+name_more k named = named ++ (if is_named named k.number then [] else k ∷ [])
+
+abbrev pub with_named : {L : Type 0} → VCodeConstant → Shape L → Shape L
+with_named k s = record s { named = name_more k s.named }
+
+-- the constants that were named and don't stand yet
+abbrev pub waiting_of : {L : Type 0} → Shape L → List VCodeConstant
+waiting_of s = drop (length s.constants) s.named
+
 -- how many inner labels a buffer can give out: their numbers are below 2^31
 abbrev pub inner_count : ℕ
 inner_count = 2 ^ 30
 
+-- the label of a constant, by its number
+abbrev pub constant_label : VCodeConstant → MachLabel
+constant_label constant = record { number = first_constant + constant.number }
+
 -- a label that a listing may name, or that the buffer gave out
 abbrev pub IsKnown : ℕ → ℕ → Type 0
 IsKnown label allocated = label < first_inner + allocated
+
+-- the label of a constant that was named
+pub record IsConstantLabel (named : List VCodeConstant) (label : ℕ) : Type 0 where
+  pub index : ℕ
+  pub constant : VCodeConstant
+  pub there : slice_get named index ≡ Some constant
+  pub is : label ≡ (constant_label constant).number
+
+-- a label that a use may name
+abbrev pub IsUsable : {L : Type 0} → Shape L → ℕ → Type 0
+IsUsable s label = IsKnown label s.allocated ⊎ IsConstantLabel s.named label
 
 -- a use without its veneer
 abbrev pub core : {L : Type 0} → Use L → Use L

@@ -4,7 +4,7 @@ use Rattle.rv_base.specs.LabelUse.{IsFresh, SameOutside}
 use Rattle.rv_base.specs.LabelUse.{Kinds}
 use Rattle.mach_buffer.specs.declared.patches.Patch.{Patch}
 use Rattle.mach_buffer.specs.declared.uses.Use.{Use}
-use Rattle.mach_buffer.specs.Shape.{veneer_use}
+use Rattle.mach_buffer.specs.Shape.{Shape, veneer_use}
 
 -- the bytes of a window
 abbrev pub window : List ℕ → ℕ → ℕ → List ℕ
@@ -22,6 +22,10 @@ pub record AreWindows {L : Type 0} (kinds : Kinds L) (bytes : List ℕ) (uses : 
   pub fresh : (j : ℕ) (u : Use L) → slice_get uses j ≡ Some u → IsFresh (kinds.fields u.kind) (window bytes u.offset (length (kinds.fields u.kind)))
   pub apart : (j k : ℕ) (u v : Use L) → j ≢ k → slice_get uses j ≡ Some u → slice_get uses k ≡ Some v → IsApart u.offset (length (kinds.fields u.kind)) v.offset (length (kinds.fields v.kind))
   pub clear : (j k : ℕ) (u v : Use L) (at : ℕ) → slice_get uses j ≡ Some u → u.veneer ≡ Some at → slice_get uses k ≡ Some v → (v ≡ veneer_use (kinds.veneer u.kind) at u.label) ⊎ IsApart v.offset (length (kinds.fields v.kind)) at 8
+
+-- each use's window ends in the bytes
+abbrev pub AllEnd : {L : Type 0} → Kinds L → Shape L → Type 0
+AllEnd {L} kinds s = (j : ℕ) (u : Use L) → slice_get s.uses j ≡ Some u → u.offset + length (kinds.fields u.kind) ≤ length s.bytes
 
 -- a window can be patched
 pub record CanPatch {L : Type 0} (kinds : Kinds L) (bytes : List ℕ) (u : Patch L) : Type 0 where

@@ -1,12 +1,13 @@
 //! The buffer: bytes, uses of labels, and the places of labels.
 
 use crate::code::Code;
-use crate::labels::{INNER_COUNT, Labels};
+use crate::constants::Constants;
+use crate::labels::{INNER_COUNT, Labels, constant_label};
 use crate::pending::Pending;
 use crate::reach::ISLAND_MARGIN;
 use crate::records::MachTrap;
 use crate::uses::Use;
-use rv_base::{Constant, MachInstLabelUse, MachLabel, OutOfMemory, TrapCode};
+use rv_base::{Constant, MachInstLabelUse, MachLabel, OutOfMemory, TrapCode, VCodeConstant};
 use std::alloc::Global;
 
 /// Code is shorter than this many bytes.
@@ -24,20 +25,22 @@ pub struct MachBuffer<L> {
     pub(crate) alloc: Global,
     pub(crate) code: Code<L>,
     pub(crate) labels: Labels,
+    pub(crate) constants: Constants,
     pub(crate) pending: Pending,
     pub(crate) traps: Vec<MachTrap>,
     pub(crate) spoiled: bool,
 }
 
 impl<L: MachInstLabelUse> MachBuffer<L> {
-    ghost use Rattle.std.specs.Prelude.{◌≡◌, ◌≢◌, ℕ, ◌+◌, ◌*◌, ◌/◌, ◌%◌, ◌<◌, ◌≤◌, ◌++◌, ◌∷◌, [], length, slice_get, OnOk, OnErr, IfOk, None, Some, true, false, ◌&&◌, nat_lt};
+    ghost use Rattle.std.specs.Prelude.{◌≡◌, ◌≢◌, ℕ, ◌+◌, ◌*◌, ◌/◌, ◌%◌, ◌^◌, ◌<◌, ◌≤◌, ◌++◌, ◌∷◌, [], length, slice_get, OnOk, OnErr, IfOk, None, Some, true, false, ◌&&◌, nat_lt};
     ghost use Rattle.std.specs.Int.{to_le_bytes};
     ghost use mir.Syntax.{w16, w32, w64};
     ghost use Rattle.rv_base.specs.LabelUse.{code_limit};
     ghost use Rattle.mach_labels.specs.Table.{first_inner};
-    ghost use Rattle.mach_buffer.specs.Shape.{with_bytes, with_use, with_label, with_allocated, with_trap, inner_count, IsKnown};
+    ghost use Rattle.mach_buffer.specs.Shape.{with_bytes, with_use, with_label, with_allocated, with_trap, with_registered, with_named, constant_label, inner_count, IsKnown, IsUsable};
+    ghost use Rattle.mach_buffer.specs.Constants.{reserve_of};
     ghost use Rattle.mach_buffer.specs.Reach.{island_margin, is_needed, due_by};
-    ghost use Rattle.mach_buffer.specs.Buffer.{shape_of, bytes_of, uses_of, place_of, allocated_of, traps_of, spoiled_of, pending_of, Unless, Takes, IsSound};
+    ghost use Rattle.mach_buffer.specs.Buffer.{shape_of, inside_of, bytes_of, uses_of, place_of, allocated_of, traps_of, registered_of, named_of, constants_of, spoiled_of, pending_of, Unless, Takes, IsSound};
 
     /// An empty buffer. Takes no memory.
     pub fn new(alloc: Global) -> MachBuffer<L>
@@ -47,6 +50,9 @@ impl<L: MachInstLabelUse> MachBuffer<L> {
         ensures labels { (shape_of result).labels ≡ [] }
         ensures allocated { allocated_of result ≡ 0 }
         ensures traps { traps_of result ≡ [] }
+        ensures registered { registered_of result ≡ [] }
+        ensures named { named_of result ≡ [] }
+        ensures constants { constants_of result ≡ [] }
         ensures spoiled { spoiled_of result ≡ false }
         ensures sound { IsSound L.kinds result }
     {
@@ -54,20 +60,47 @@ impl<L: MachInstLabelUse> MachBuffer<L> {
             alloc,
             code: Code::new(alloc),
             labels: Labels::new(alloc),
+            constants: Constants::new(alloc),
             pending: Pending::new(alloc),
             traps: Vec::new(alloc),
             spoiled: false,
         }
     }
 
-    /// Makes the constants known that code may name.
+    /// Makes the constants known that code may name: none are known so far. Keeps copies of them.
     pub fn register_constants(&mut self, constants: &[Constant]) -> Result<(), OutOfMemory>
-        requires { length constants.now ≡ 0 }
-        ensures same { self.new ≡ self.old }
-        ensures ok { OnOk result (spoiled_of self.old ≡ false) }
-        ensures err { OnErr result (spoiled_of self.old ≡ true) }
+        requires none { Unless (spoiled_of self.old) (registered_of self.old ≡ []) }
+        requires few { Unless (spoiled_of self.old) (length constants.now ≤ inner_count) }
+        requires sound { Unless (spoiled_of self.old) (IsSound L.kinds self.old) }
+        ensures registered { Takes result (with_registered constants.now) self.old self.new }
+        ensures sound { OnOk result (IsSound L.kinds self.new) }
     {
-        self.check()
+        self.check()?;
+        if self.constants.register(constants, self.alloc).is_err() {
+            self.spoiled = true;
+            return Err(OutOfMemory);
+        }
+        Ok(())
+    }
+
+    /// The label of a constant, which is put with the next island or at the end, unless it stands already.
+    pub fn get_label_for_constant(
+        &mut self,
+        constant: VCodeConstant,
+    ) -> Result<MachLabel, OutOfMemory>
+        requires known { Unless (spoiled_of self.old) (constant.number < length (registered_of self.old)) }
+        requires sound { Unless (spoiled_of self.old) (IsSound L.kinds self.old) }
+        ensures label { IfOk result (λ label. label ≡ constant_label constant) }
+        ensures named { Takes result (with_named constant) self.old self.new }
+        ensures usable { IfOk result (λ label. IsUsable (shape_of self.new) label.number) }
+        ensures sound { OnOk result (IsSound L.kinds self.new) }
+    {
+        self.check()?;
+        if self.constants.name(constant).is_err() {
+            self.spoiled = true;
+            return Err(OutOfMemory);
+        }
+        Ok(constant_label(constant))
     }
 
     /// Refuses where the buffer is spoiled.
@@ -209,7 +242,7 @@ impl<L: MachInstLabelUse> MachBuffer<L> {
     /// Notes that a label stands here.
     pub(crate) fn place_label(&mut self, label: MachLabel) -> Result<(), OutOfMemory>
         ensures shape { OnOk result (shape_of self.new ≡ with_label label (shape_of self.old)) }
-        ensures pending { self.new.pending ≡ self.old.pending }
+        ensures inside { inside_of self.new ≡ inside_of self.old }
         ensures spoiled { spoiled_of self.new ≡ spoiled_of self.old }
     {
         let here = self.code.bytes.len() as u32;
@@ -224,7 +257,7 @@ impl<L: MachInstLabelUse> MachBuffer<L> {
         kind: L,
     ) -> Result<(), OutOfMemory>
         requires there { Unless (spoiled_of self.old) (offset ≤ length (bytes_of self.old)) }
-        requires known { Unless (spoiled_of self.old) (IsKnown label.number (allocated_of self.old)) }
+        requires known { Unless (spoiled_of self.old) (IsUsable (shape_of self.old) label.number) }
         requires sound { Unless (spoiled_of self.old) (IsSound L.kinds self.old) }
         ensures recorded { Takes result (with_use (record { offset = offset; label = label; kind = kind; veneer = None })) self.old self.new }
         ensures sound { OnOk result (IsSound L.kinds self.new) }
@@ -246,7 +279,7 @@ impl<L: MachInstLabelUse> MachBuffer<L> {
     fn add_use(&mut self, u: Use<L>) -> Result<(), OutOfMemory>
         requires there { u.offset ≤ length (bytes_of self.old) }
         requires bare { u.veneer ≡ None }
-        requires known { IsKnown u.label.number (allocated_of self.old) }
+        requires known { IsUsable (shape_of self.old) u.label.number }
         requires sound { IsSound L.kinds self.old }
         ensures shape { OnOk result (shape_of self.new ≡ with_use u (shape_of self.old)) }
         ensures sound { OnOk result (IsSound L.kinds self.new) }
@@ -323,12 +356,31 @@ impl<L: MachInstLabelUse> MachBuffer<L> {
     /// Returns whether so many bytes, and what is still to be put, end below the limit, and half of the inner labels are left.
     pub fn has_room(&self, part: u64) -> bool
         requires sound { IsSound L.kinds self.now }
-        ensures { result ≡ (nat_lt (allocated_of self.now) (inner_count / 2) && nat_lt (length (bytes_of self.now) + part + 8 * length (pending_of L.kinds self.now) + island_margin + 2) code_limit) }
+        ensures { result ≡ (nat_lt (allocated_of self.now) (inner_count / 2) && nat_lt (length (bytes_of self.now) + part + reserve_of (shape_of self.now) + 8 * length (pending_of L.kinds self.now) + island_margin + 2) code_limit) }
     {
-        let end = self.code.bytes.len() as u128 + part as u128 + ISLAND_MARGIN as u128 + 2;
         if self.labels.allocated >= INNER_COUNT / 2 {
             return false;
         }
-        end + 8 * (self.pending.count(&self.code.uses, &self.labels) as u128) < CODE_LIMIT
+        let end = self.code.bytes.len() as u128 + part as u128 + self.reserve();
+        let veneers = 8 * (self.pending.count(&self.code.uses, &self.labels) as u128);
+        end + veneers + ISLAND_MARGIN as u128 + 2 < CODE_LIMIT
+    }
+
+    /// The bytes of the constants that don't stand yet, and 16 for the alignment of each.
+    fn reserve(&self) -> u128
+        requires { length (registered_of self.now) ≤ inner_count }
+        ensures value { result ≡ reserve_of (shape_of self.now) }
+        ensures small { result < 2 ^ 96 }
+    {
+        let mut sum = 0;
+        let mut number = 0;
+        for constant in &self.constants.registered {
+            let label = constant_label(VCodeConstant::from_u32(number));
+            if self.labels.place(label).is_none() {
+                sum += constant.bytes.len() as u128 + 16;
+            }
+            number += 1;
+        }
+        sum
     }
 }

@@ -16,8 +16,9 @@ pub struct Code<L> {
 }
 
 impl<L: MachInstLabelUse> Code<L> {
-    ghost use Rattle.std.specs.Prelude.{◌≡◌, ◌+◌, ◌%◌, ◌++◌, ◌∷◌, [], length, OnOk, IsSomeAnd, Some, true, slice_get, slice_set};
+    ghost use Rattle.std.specs.Prelude.{◌≡◌, ◌+◌, ◌-◌, ◌≤◌, ◌%◌, ◌++◌, ◌∷◌, [], length, OnOk, IsSomeAnd, Some, true, slice_get, slice_set};
     ghost use Rattle.mach_buffer.specs.Shape.{veneer_use};
+    ghost use Rattle.mach_buffer.specs.Constants.{zeros};
 
     pub(crate) fn new(alloc: Global) -> Code<L>
         ensures bytes { result.bytes.items ≡ [] }
@@ -37,6 +38,18 @@ impl<L: MachInstLabelUse> Code<L> {
     {
         self.bytes.extend_from_slice(bytes)?;
         Ok(())
+    }
+
+    /// Appends zero bytes up to an offset, which is at most 15 bytes ahead.
+    pub(crate) fn pad_to(&mut self, offset: usize) -> Result<(), OutOfMemory>
+        requires ahead { length self.old.bytes.items ≤ offset }
+        requires near { offset ≤ length self.old.bytes.items + 15 }
+        requires room { offset < code_limit }
+        ensures bytes { OnOk result (self.new.bytes.items ≡ self.old.bytes.items ++ zeros (offset - length self.old.bytes.items)) }
+        ensures uses { self.new.uses ≡ self.old.uses }
+    {
+        let count = offset - self.bytes.len();
+        self.append(&[0; 15][..count])
     }
 
     /// Records a use.

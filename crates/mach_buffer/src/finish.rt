@@ -2,36 +2,39 @@
 
 use crate::buffer::MachBuffer;
 use crate::code::Code;
+use crate::constants::Constants;
 use crate::labels::Labels;
 use crate::patches::patch_all;
-use crate::records::MachTrap;
+use crate::records::{ConstPlace, MachTrap};
 use crate::uses::LabelPlace;
 use rv_base::{Constant, List, MachInstLabelUse, OutOfMemory};
 
-/// Patched code; where the labels below 2^30 stand, in order of binding; and the traps, in the order in which they were
-/// recorded.
+/// Patched code; where the labels below 2^30 stand, in order of binding; where the constants stand that it names, in order of
+/// place; and the traps, in the order in which they were recorded.
 #[derive(Drop)]
 pub struct Finished {
     pub bytes: List<u8>,
     pub labels: List<LabelPlace>,
+    pub constants: List<ConstPlace>,
     pub traps: List<MachTrap>,
 }
 
 impl<L: MachInstLabelUse> MachBuffer<L> {
-    ghost use Rattle.std.specs.Prelude.{◌≡◌, ◌≢◌, ◌<◌, ◌%◌, length, OnOk, IfOk, false};
+    ghost use Rattle.std.specs.Prelude.{◌≡◌, ◌≢◌, ◌<◌, length, OnOk, IfOk, false};
     ghost use Rattle.rv_base.specs.LabelUse.{code_limit};
     ghost use Rattle.mach_buffer.specs.Islands.{aligned};
     ghost use Rattle.mach_buffer.specs.Finish.{padded_for, CanFinish, Finishes};
     ghost use Rattle.mach_buffer.specs.LastVeneers.{LastPut};
-    ghost use Rattle.mach_buffer.specs.Buffer.{shape_of, bytes_of, labels_of, traps_of, spoiled_of, Unless, IsSound};
+    ghost use Rattle.mach_buffer.specs.Buffer.{shape_of, bytes_of, labels_of, registered_of, traps_of, spoiled_of, Unless, IsSound};
 
-    /// Puts a veneer for each use that is pending, by deadline, then by place, then as recorded, and patches every window: a
-    /// use then goes by its veneer, and straight to its label where it has none.
+    /// Puts a veneer for each use that is pending, by deadline, then by place, then as recorded; then the constants that wait;
+    /// and patches every window: a use then goes by its veneer, and straight to its label where it has none. The constants are
+    /// those that were registered.
     pub fn finish(self, constants: &[Constant]) -> Result<Finished, OutOfMemory>
-        requires none { length constants.now ≡ 0 }
+        requires registered { Unless (spoiled_of self) (registered_of self ≡ constants.now) }
         requires sound { Unless (spoiled_of self) (IsSound L.kinds self) }
         requires ready { Unless (spoiled_of self) (CanFinish L.kinds (shape_of self)) }
-        ensures code { IfOk result (λ f. Finishes L.kinds (shape_of self) f.bytes) }
+        ensures code { IfOk result (λ f. (finishes : Finishes L.kinds (shape_of self) f.bytes) × (f.constants ≡ finishes.put.constants)) }
         ensures labels { IfOk result (λ f. f.labels ≡ labels_of self) }
         ensures traps { IfOk result (λ f. f.traps ≡ traps_of self) }
         ensures unspoiled { OnOk result (spoiled_of self ≡ false) }
@@ -43,7 +46,7 @@ impl<L: MachInstLabelUse> MachBuffer<L> {
     fn end(mut self) -> Result<Finished, OutOfMemory>
         requires sound { IsSound L.kinds self }
         requires ready { CanFinish L.kinds (shape_of self) }
-        ensures code { IfOk result (λ f. Finishes L.kinds (shape_of self) f.bytes) }
+        ensures code { IfOk result (λ f. (finishes : Finishes L.kinds (shape_of self) f.bytes) × (f.constants ≡ finishes.put.constants)) }
         ensures labels { IfOk result (λ f. f.labels ≡ labels_of self) }
         ensures traps { IfOk result (λ f. f.traps ≡ traps_of self) }
     {
@@ -52,6 +55,7 @@ impl<L: MachInstLabelUse> MachBuffer<L> {
             alloc,
             code,
             labels,
+            constants,
             pending,
             traps,
             spoiled,
@@ -63,14 +67,21 @@ impl<L: MachInstLabelUse> MachBuffer<L> {
             bound,
             allocated,
         } = labels;
+        let Constants {
+            registered,
+            seen,
+            named,
+            placed,
+        } = constants;
         Ok(Finished {
             bytes: List::from_vec(bytes),
             labels: List::from_vec(bound),
+            constants: List::from_vec(placed),
             traps: List::from_vec(traps),
         })
     }
 
-    /// Puts the last veneers, after zero bytes to a multiple of four, where some use is pending.
+    /// Puts the last veneers, after zero bytes to a multiple of four, where some use is pending; and the constants that wait.
     fn put_last(&mut self) -> Result<(), OutOfMemory>
         requires sound { IsSound L.kinds self.old }
         requires ready { CanFinish L.kinds (shape_of self.old) }
@@ -81,13 +92,13 @@ impl<L: MachInstLabelUse> MachBuffer<L> {
             .order(&self.code.uses, &self.labels, None, self.alloc)?;
         self.pad_last(order.len())?;
         self.put_veneers(&order)?;
+        self.put_constants()?;
         Ok(())
     }
 
     /// Puts zero bytes to a multiple of four, where some veneers are to come.
     fn pad_last(&mut self, count: usize) -> Result<(), OutOfMemory>
         requires room { count ≢ 0 → aligned (length (bytes_of self.old)) < code_limit }
-        requires even { length (bytes_of self.old) % 2 ≡ 0 }
         ensures shape { OnOk result (shape_of self.new ≡ padded_for count (shape_of self.old)) }
     {
         if count != 0 {

@@ -1,14 +1,17 @@
 //! Islands: veneers that stand among the code, and the end of an island's jump.
 
 use crate::buffer::MachBuffer;
+use crate::constants::aligned_to;
 use crate::reach::deadline;
+use crate::records::ConstPlace;
 use crate::uses::PendingKey;
-use rv_base::{MachInstLabelUse, MachLabel, OutOfMemory};
+use rv_base::{ConstAlign, MachInstLabelUse, MachLabel, OutOfMemory, VCodeConstant};
 
 impl<L: MachInstLabelUse> MachBuffer<L> {
     ghost use Rattle.std.specs.Prelude.{◌≡◌, ℕ, ◌+◌, ◌-◌, ◌*◌, ◌%◌, ◌<◌, ◌≤◌, [], length, map, OnOk, IsSomeAnd, Some, slice_get, true};
     ghost use Rattle.rv_base.specs.LabelUse.{code_limit};
-    ghost use Rattle.mach_buffer.specs.Shape.{Shape, with_label};
+    ghost use Rattle.mach_buffer.specs.Shape.{Shape, with_label, inner_count};
+    ghost use Rattle.mach_buffer.specs.Constants.{constant_end, end_after, put_constant, put_constants, IsOrdered, AllStand};
     ghost use Rattle.mach_buffer.specs.Windows.{AreWindows};
     ghost use Rattle.mach_buffer.specs.Reach.{deadline as last_of};
     ghost use Rattle.mach_buffer.specs.Veneers.{put_veneer as veneered, put_all};
@@ -16,11 +19,12 @@ impl<L: MachInstLabelUse> MachBuffer<L> {
     ghost use Rattle.mach_buffer.specs.Growth.{Grows};
     ghost use Rattle.mach_buffer.specs.Queues.{key_number};
     ghost use Rattle.mach_buffer.specs.VeneerConditions.{CanPut, AddsOwn};
-    ghost use Rattle.mach_buffer.specs.Buffer.{shape_of, bytes_of, uses_of, place_of, spoiled_of, Unless, TakesAs, IsSound};
+    ghost use Rattle.mach_buffer.specs.Buffer.{shape_of, inside_of, bytes_of, uses_of, place_of, registered_of, spoiled_of, Unless, TakesAs, IsSound};
 
     /// Makes an island after its jump, whose four bytes stand last: zero bytes to a multiple of four, the jump's own veneer
-    /// where it needs one, and a veneer for each other pending use, by deadline, then by place, then as recorded. Binds
-    /// `round` at the end.
+    /// where it needs one; a veneer for each other pending use, by deadline, then by place, then as recorded; the constants that
+    /// wait, each after zero bytes to its alignment, in the order of their first use; and zero bytes to a multiple of four. Binds
+    /// `after_island` at the end.
     pub fn emit_island(&mut self, after_island: MachLabel) -> Result<(), OutOfMemory>
         requires sound { Unless (spoiled_of self.old) (IsSound L.kinds self.old) }
         requires ready { Unless (spoiled_of self.old) (CanIsland L.kinds (shape_of self.old) after_island) }
@@ -28,6 +32,7 @@ impl<L: MachInstLabelUse> MachBuffer<L> {
         ensures grows { OnOk result (Grows (bytes_of self.old) (uses_of self.old) (place_of self.old) (bytes_of self.new) (uses_of self.new) (place_of self.new)) }
         ensures own { OnOk result (AddsOwn L.kinds (length (bytes_of self.old)) (uses_of self.old) (uses_of self.new)) }
         ensures windows { OnOk result (AreWindows L.kinds (bytes_of self.old) (uses_of self.old) → AreWindows L.kinds (bytes_of self.new) (uses_of self.new)) }
+        ensures constants { OnOk result (AreWindows L.kinds (bytes_of self.old) (uses_of self.old) → AllStand L.kinds (shape_of self.old) → AllStand L.kinds (shape_of self.new)) }
         ensures sound { OnOk result (IsSound L.kinds self.new) }
     {
         self.check()?;
@@ -45,6 +50,7 @@ impl<L: MachInstLabelUse> MachBuffer<L> {
         ensures grows { OnOk result (Grows (bytes_of self.old) (uses_of self.old) (place_of self.old) (bytes_of self.new) (uses_of self.new) (place_of self.new)) }
         ensures own { OnOk result (AddsOwn L.kinds (length (bytes_of self.old)) (uses_of self.old) (uses_of self.new)) }
         ensures windows { OnOk result (AreWindows L.kinds (bytes_of self.old) (uses_of self.old) → AreWindows L.kinds (bytes_of self.new) (uses_of self.new)) }
+        ensures constants { OnOk result (AreWindows L.kinds (bytes_of self.old) (uses_of self.old) → AllStand L.kinds (shape_of self.old) → AllStand L.kinds (shape_of self.new)) }
         ensures sound { OnOk result (IsSound L.kinds self.new) }
         ensures spoiled { spoiled_of self.new ≡ spoiled_of self.old }
     {
@@ -58,6 +64,8 @@ impl<L: MachInstLabelUse> MachBuffer<L> {
         let needed = self.needs_own(order.len());
         self.put_own(needed)?;
         self.put_veneers(&order)?;
+        self.put_constants()?;
+        self.pad()?;
         self.pending.clear();
         self.place_label(after_island)?;
         Ok(())
@@ -66,15 +74,12 @@ impl<L: MachInstLabelUse> MachBuffer<L> {
     /// Puts zero bytes to a multiple of four.
     pub(crate) fn pad(&mut self) -> Result<(), OutOfMemory>
         requires room { aligned (length (bytes_of self.old)) < code_limit }
-        requires even { length (bytes_of self.old) % 2 ≡ 0 }
         ensures shape { OnOk result (shape_of self.new ≡ padded (shape_of self.old)) }
-        ensures pending { self.new.pending ≡ self.old.pending }
+        ensures inside { inside_of self.new ≡ inside_of self.old }
         ensures spoiled { spoiled_of self.new ≡ spoiled_of self.old }
     {
-        if self.code.bytes.len() % 4 != 0 {
-            self.code.append(&[0, 0])?;
-        }
-        Ok(())
+        let end = aligned_to(ConstAlign::A4, self.code.bytes.len() as u64);
+        self.code.pad_to(end as usize)
     }
 
     /// Puts the veneer of the use at `index`.
@@ -83,20 +88,23 @@ impl<L: MachInstLabelUse> MachBuffer<L> {
         requires room { length (bytes_of self.old) + 8 < code_limit }
         requires even { length (bytes_of self.old) % 2 ≡ 0 }
         ensures shape { OnOk result (shape_of self.new ≡ veneered L.kinds index (shape_of self.old)) }
-        ensures pending { self.new.pending ≡ self.old.pending }
+        ensures inside { inside_of self.new ≡ inside_of self.old }
         ensures spoiled { spoiled_of self.new ≡ spoiled_of self.old }
     {
         self.code.put_veneer(index)
     }
 
-    /// Returns whether `count` veneers from here on end out of reach of the use that was recorded last.
+    /// Returns whether an island with `count` veneers from here on, and the constants that wait, ends out of reach of the use that
+    /// was recorded last.
     fn needs_own(&self, count: usize) -> bool
-        requires { 1 ≤ length (uses_of self.now) }
-        ensures { IsSomeAnd (slice_get (uses_of self.now) (length (uses_of self.now) - 1)) (λ u. result ≡ own_needed (length (bytes_of self.now)) count (last_of L.kinds u)) }
+        requires some { 1 ≤ length (uses_of self.now) }
+        requires room { end_after (shape_of self.now) (length (bytes_of self.now) + 8 * count) < code_limit }
+        ensures { IsSomeAnd (slice_get (uses_of self.now) (length (uses_of self.now) - 1)) (λ u. result ≡ own_needed (end_after (shape_of self.now)) (length (bytes_of self.now)) count (last_of L.kinds u)) }
     {
-        let end = self.code.bytes.len() as u128 + 8 * count as u128;
+        let veneers_end = self.code.bytes.len() as u64 + 8 * count as u64;
+        let end = aligned_to(ConstAlign::A4, self.constants.end_after(veneers_end));
         let last = &self.code.uses[self.code.uses.len() - 1];
-        (deadline(last) as u128) < end
+        deadline(last) < end
     }
 
     /// Puts the veneer of the use that was recorded last, where it needs one.
@@ -106,7 +114,7 @@ impl<L: MachInstLabelUse> MachBuffer<L> {
         requires room { needed ≡ true → length (bytes_of self.old) + 8 < code_limit }
         requires even { length (bytes_of self.old) % 2 ≡ 0 }
         ensures shape { OnOk result (shape_of self.new ≡ put_all L.kinds (with_own needed (length (uses_of self.old) - 1) []) (shape_of self.old)) }
-        ensures pending { self.new.pending ≡ self.old.pending }
+        ensures inside { inside_of self.new ≡ inside_of self.old }
         ensures spoiled { spoiled_of self.new ≡ spoiled_of self.old }
     {
         if needed {
@@ -122,12 +130,49 @@ impl<L: MachInstLabelUse> MachBuffer<L> {
         requires room { length (bytes_of self.old) + 8 * length order.now < code_limit }
         requires even { length (bytes_of self.old) % 2 ≡ 0 }
         ensures put { OnOk result (shape_of self.new ≡ put_all L.kinds (map key_number order.now) (shape_of self.old)) }
-        ensures pending { self.new.pending ≡ self.old.pending }
+        ensures inside { inside_of self.new ≡ inside_of self.old }
         ensures spoiled { spoiled_of self.new ≡ spoiled_of self.old }
     {
         for key in order {
             self.put_veneer(key.index)?;
         }
+        Ok(())
+    }
+
+    /// Puts the constants that wait, in the order of their first use.
+    pub(crate) fn put_constants(&mut self) -> Result<(), OutOfMemory>
+        requires ordered { IsOrdered (shape_of self.old) }
+        requires room { end_after (shape_of self.old) (length (bytes_of self.old)) < code_limit }
+        ensures put { OnOk result (shape_of self.new ≡ put_constants (shape_of self.old)) }
+        ensures inside { inside_of self.new ≡ inside_of self.old }
+        ensures spoiled { spoiled_of self.new ≡ spoiled_of self.old }
+    {
+        for index in self.constants.placed.len()..self.constants.named.len() {
+            let constant = self.constants.named[index];
+            self.put_constant(constant)?;
+        }
+        Ok(())
+    }
+
+    /// Puts a constant after zero bytes to its alignment, and binds its label where it begins.
+    fn put_constant(&mut self, constant: VCodeConstant) -> Result<(), OutOfMemory>
+        requires known { constant.number < length (registered_of self.old) }
+        requires few { constant.number < inner_count }
+        requires room { constant_end (slice_get (registered_of self.old) constant.number) (length (bytes_of self.old)) < code_limit }
+        ensures shape { OnOk result (shape_of self.new ≡ put_constant constant (shape_of self.old)) }
+        ensures named { self.new.constants.named ≡ self.old.constants.named }
+        ensures inside { inside_of self.new ≡ inside_of self.old }
+        ensures spoiled { spoiled_of self.new ≡ spoiled_of self.old }
+    {
+        let data = &self.constants.registered[constant.number as usize];
+        let offset = aligned_to(data.align, self.code.bytes.len() as u64);
+        self.code.pad_to(offset as usize)?;
+        self.code.append(data.bytes.as_slice())?;
+        self.labels.bind_constant(constant, offset as u32)?;
+        self.constants.placed.push(ConstPlace {
+            constant,
+            offset: offset as u32,
+        })?;
         Ok(())
     }
 }

@@ -1,15 +1,23 @@
 //! The places of labels, and the labels that the buffer gives out.
 
-ghost use Rattle.std.specs.Prelude.{◌≤◌};
-ghost use Rattle.mach_buffer.specs.Shape.{inner_count};
+ghost use Rattle.std.specs.Prelude.{◌≡◌, ◌<◌, ◌≤◌};
+ghost use Rattle.mach_buffer.specs.Shape.{constant_label, inner_count};
 
 use crate::uses::LabelPlace;
-use mach_labels::{FIRST_INNER, LabelTable};
-use rv_base::{MachLabel, OutOfMemory};
+use mach_labels::{FIRST_CONSTANT, FIRST_INNER, LabelTable};
+use rv_base::{MachLabel, OutOfMemory, VCodeConstant};
 use std::alloc::Global;
 
 /// How many labels a buffer can give out.
 pub(crate) const INNER_COUNT: u32 = 0x40000000;
+
+/// The label of a constant.
+pub(crate) fn constant_label(constant: VCodeConstant) -> MachLabel
+    requires { constant.number < inner_count }
+    ensures { result ≡ constant_label constant }
+{
+    MachLabel::from_u32(FIRST_CONSTANT + constant.number)
+}
 
 /// Where each bound label stands, the listing's labels in order of binding, and how many labels were given out.
 #[derive(Drop)]
@@ -23,7 +31,7 @@ pub struct Labels {
 impl Labels {
     ghost use Rattle.std.specs.Prelude.{◌≡◌, ◌+◌, ◌<◌, ◌++◌, [], ℕ, OnOk, None};
     ghost use Rattle.mach_labels.specs.Table.{first_inner};
-    ghost use Rattle.mach_buffer.specs.Shape.{placed, listed};
+    ghost use Rattle.mach_buffer.specs.Shape.{placed, listed, constant_label};
     ghost use Rattle.mach_buffer.specs.Places.{place_in};
 
     pub(crate) fn new(alloc: Global) -> Labels
@@ -66,6 +74,21 @@ impl Labels {
     {
         self.list(label, at)?;
         self.table.set(label.number, at)?;
+        Ok(())
+    }
+
+    /// Binds the label of a constant at an offset.
+    pub(crate) fn bind_constant(
+        &mut self,
+        constant: VCodeConstant,
+        at: u32,
+    ) -> Result<(), OutOfMemory>
+        requires { constant.number < inner_count }
+        ensures places { OnOk result (place_in self.new ≡ placed (place_in self.old) (constant_label constant).number at) }
+        ensures bound { self.new.bound ≡ self.old.bound }
+        ensures allocated { self.new.allocated ≡ self.old.allocated }
+    {
+        self.table.set(constant_label(constant).number, at)?;
         Ok(())
     }
 

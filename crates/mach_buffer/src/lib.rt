@@ -3,6 +3,7 @@
 
 mod buffer;
 mod code;
+mod constants;
 mod finish;
 mod islands;
 mod labels;
@@ -14,5 +15,5 @@ mod uses;
 
 pub use buffer::MachBuffer;
 pub use finish::Finished;
-pub use records::MachTrap;
+pub use records::{ConstPlace, MachTrap};
 pub use uses::{LabelPlace, Use};

@@ -11,6 +11,10 @@ use Rattle.mach_labels.specs.Slots.{slot_of}
 abbrev pub first_inner : ℕ
 first_inner = 2 ^ 30
 
+-- the number of the first constant's label: each constant has one of its own, by its number
+abbrev pub first_constant : ℕ
+first_constant = 2 ^ 31
+
 -- what the vectors have: one a listing's labels, the other those that a buffer gives out
 abbrev pub dense_of : {T : Type 0} → LabelTable T → ℕ → Option T
 dense_of table label = if nat_lt label first_inner then slot_of table.own.items label else slot_of table.inner.items (label - first_inner)

@@ -4,4 +4,4 @@
 mod slots;
 mod table;
 
-pub use table::{FIRST_INNER, LabelTable};
+pub use table::{FIRST_CONSTANT, FIRST_INNER, LabelTable};

@@ -8,6 +8,9 @@ use std::collections::BTreeMap;
 /// The number of the first label that a buffer gives out. A listing names only labels below, so the two never meet.
 pub const FIRST_INNER: u32 = 0x40000000;
 
+/// The number of the first constant's label. Listings and buffers give out only numbers below.
+pub const FIRST_CONSTANT: u32 = 0x80000000;
+
 /// What is known of each label, where something is.
 ///
 /// Its memory is in proportion to the number of its entries, whatever their labels.

@@ -12,10 +12,10 @@ use Rattle.rv_inst.specs.declared.code.Code.{Code}
 use Rattle.rv_inst.specs.declared.code.LineSpan.{LineSpan}
 use Rattle.rv_inst.specs.LabelUse.{label_kinds}
 use Rattle.mach_buffer.specs.Finish.{CanFinish, Finishes}
-use Rattle.mach_buffer.specs.Buffer.{shape_of, bytes_of, uses_of, place_of, labels_of, traps_of, allocated_of}
+use Rattle.mach_buffer.specs.Buffer.{shape_of, bytes_of, uses_of, place_of, labels_of, traps_of, allocated_of, registered_of, named_of, constants_of}
 use Rattle.rv_emit.specs.declared.state.EmitVState.{EmitVState}
 use Rattle.rv_emit.specs.Emitted.{Buffer, IsSoundBuffer}
-use Rattle.rv_asm.specs.Refusal.{binds, is_bound, size_sum, lines_refusal}
+use Rattle.rv_asm.specs.Refusal.{binds, is_bound, lines_sum, size_sum, lines_refusal}
 use Rattle.rv_inst.specs.Sizes.{line_sum}
 use Rattle.rv_asm.specs.LinesInBuffer.{LinesStand, Named, Sized, CanPut, LinePut}
 use Rattle.rv_asm.specs.AfterLastIsland.{AfterLastIsland}
@@ -40,11 +40,11 @@ pub record SoFar (context : Context) (lines : List Line) (count : ℕ) (spans : 
   pub reach : ReachesOn context (take count lines) spans
 
 -- before the first
-pub so_far_none : (context : Context) (lines : List Line) (b : Buffer) → bytes_of b ≡ [] → uses_of b ≡ [] → ((label : ℕ) → place_of b label ≡ None) → labels_of b ≡ [] → allocated_of b ≡ 0 → traps_of b ≡ [] → IsSoundBuffer b → SoFar context lines 0 [] b
-so_far_none context lines b bytes uses places labels allocated traps sound = record {
-  built = built_none context b bytes uses traps sound;
+pub so_far_none : (context : Context) (lines : List Line) (b : Buffer) → bytes_of b ≡ [] → uses_of b ≡ [] → ((label : ℕ) → place_of b label ≡ None) → labels_of b ≡ [] → allocated_of b ≡ 0 → traps_of b ≡ [] → registered_of b ≡ context.constants → named_of b ≡ [] → constants_of b ≡ [] → IsSoundBuffer b → SoFar context lines 0 [] b
+so_far_none context lines b bytes uses places labels allocated traps registered named constants sound = record {
+  built = built_none context b bytes uses traps registered named constants sound;
   named = named_none b uses labels places;
-  sized = sized_none context b bytes uses allocated;
+  sized = sized_none context b bytes uses places registered allocated;
   since = since_none context b uses places;
   early = early_none context;
   reach = reaches_none context;
@@ -80,10 +80,13 @@ among (l ∷ lines) (suc n) zero line h = record { there = h; before = omega ari
 among (l ∷ lines) (suc n) (suc j) line h = let a = among lines n j line h in record { there = a.there; before = let b = a.before in omega arith }
 
 -- the first lines and the next one count for no more than all
+lines_take : (context : Context) (lines : List Line) (n : ℕ) (line : Line) → slice_get lines n ≡ Some line → lines_sum context (take n lines) + line_sum context line ≤ lines_sum context lines
+lines_take context [] n line h = absurd (cc)
+lines_take context (l ∷ lines) zero line h = let same : line_sum context l ≡ line_sum context line = ap (line_sum context) (same_Some _ _ h) in omega arith
+lines_take context (l ∷ lines) (suc n) line h = let rest = lines_take context lines n line h in omega arith
+
 sum_take : (context : Context) (lines : List Line) (n : ℕ) (line : Line) → slice_get lines n ≡ Some line → size_sum context (take n lines) + line_sum context line ≤ size_sum context lines
-sum_take context [] n line h = absurd (cc)
-sum_take context (l ∷ lines) zero line h = let same : line_sum context l ≡ line_sum context line = ap (line_sum context) (same_Some _ _ h) in omega arith
-sum_take context (l ∷ lines) (suc n) line h = let rest = sum_take context lines n line h in omega arith
+sum_take context lines n line h = let least = lines_take context lines n line h in omega (arith, least)
 
 -- the line that a turn reads
 pub line_read : (lines : List Line) (n : ℕ) (line : Line) → n < length lines → line ≡ slice_index_or lines n line → slice_get lines n ≡ Some line
@@ -182,14 +185,15 @@ ready context lines n spans b e le s =
     can_finish context lines spans b all.built all.named all.sized (sum_small context lines e) (named_is_bound context lines e)
 
 -- and then it is finished
-pub finished : (context : Context) (lines : List Line) (n : ℕ) (code : Code) (b : Buffer) → lines_refusal context lines ≡ None → length lines ≤ n → SoFar context lines n code.lines b → Finishes label_kinds (shape_of b) code.bytes → code.labels ≡ labels_of b → code.traps ≡ traps_of b → code.end ≡ length (bytes_of b) → IsFinished context lines code
-finished context lines n code b e le s f labels traps end =
+pub finished : (context : Context) (lines : List Line) (n : ℕ) (code : Code) (b : Buffer) → lines_refusal context lines ≡ None → length lines ≤ n → SoFar context lines n code.lines b → (f : Finishes label_kinds (shape_of b) code.bytes) → code.constants ≡ f.put.constants → code.labels ≡ labels_of b → code.traps ≡ traps_of b → code.end ≡ length (bytes_of b) → IsFinished context lines code
+finished context lines n code b e le s f constants labels traps end =
     let all = at_end context lines n code.lines b le s in
-    record { sink = b; built = all.built; named = all.named; sized = all.sized; early = all.early; reach = all.reach; ready = ready context lines n code.lines b e le s; finished = f; labels = labels; traps = traps; end = end }
+    record { sink = b; built = all.built; named = all.named; sized = all.sized; early = all.early; reach = all.reach; ready = ready context lines n code.lines b e le s; finished = f; constants = constants; labels = labels; traps = traps; end = end }
 
 -- the code is short
 pub code_short : (context : Context) (lines : List Line) (n : ℕ) (spans : List LineSpan) (b : Buffer) (bytes : List ℕ) → lines_refusal context lines ≡ None → length lines ≤ n → SoFar context lines n spans b → Finishes label_kinds (shape_of b) bytes → length bytes < 2 ^ 32
 code_short context lines n spans b bytes e le s f =
-    let short = finished_short context lines b bytes (at_end context lines n spans b le s).sized f in
+    let all = at_end context lines n spans b le s in
+    let short = finished_short context lines b bytes all.built.sound all.sized f in
     let small = sum_small context lines e in
     omega arith

@@ -9,7 +9,8 @@ use Rattle.rv_inst.specs.declared.job.Job.{Job}
 use Rattle.rv_inst.specs.declared.code.Code.{Code}
 use Rattle.rv_inst.specs.Operands.{named_labels}
 use Rattle.rv_inst.specs.Rules.{broken_rule}
-use Rattle.mach_buffer.specs.Buffer.{shape_of, bytes_of, place_of, traps_of}
+use Rattle.mach_buffer.specs.Buffer.{shape_of, bytes_of, traps_of}
+use Rattle.mach_buffer.specs.Constants.{offset_in}
 use Rattle.rv_emit.specs.Emitted.{Buffer}
 use Rattle.rv_emit.specs.InstParts.{parts_of}
 use Rattle.rv_emit.specs.Sites.{Site, GapIn}
@@ -22,9 +23,9 @@ use Rattle.rv_asm.proofs.ExitPoints.{AllBound}
 use Rattle.rv_asm.proofs.Finish.{bound_place}
 use Rattle.rv_asm.proofs.LinesJoin.{site_of, LineIn, line_at, threaded_runs}
 
-module _ (job : Job) (code : Code) (b : Buffer) (built : LinesStand (context_of job) job.lines code.lines b) (f : IsFinishedTo (shape_of b) code.bytes) (traps : code.traps ≡ traps_of b) (ruled : (i : ℕ) (line : Line) → slice_get job.lines i ≡ Some line → broken_rule (context_of job) line ≡ None) where
+module _ (job : Job) (code : Code) (b : Buffer) (built : LinesStand (context_of job) job.lines code.lines b) (f : IsFinishedTo (shape_of b) code.bytes) (constants : code.constants ≡ f.finishes.put.constants) (traps : code.traps ≡ traps_of b) (ruled : (i : ℕ) (line : Line) → slice_get job.lines i ≡ Some line → broken_rule (context_of job) line ≡ None) where
   abbrev site : ℕ → Site
-  site base = site_of job code (place_of b) base
+  site base = site_of job code f.finishes.put.place base
 
   -- a line stands in the code, and ends at an even offset
   line_in : (base : ℕ) (line : Line) (before start end : ℕ) → broken_rule (context_of job) line ≡ None → StandsAfter (context_of job) line b before start end → LineIn (site base) line start end × (end % 2 ≡ 0)
@@ -48,17 +49,17 @@ module _ (job : Job) (code : Code) (b : Buffer) (built : LinesStand (context_of 
       gap_stands (site base) (shape_of b) f refl traps (end_of code.lines i) (start_of code.lines (suc i)) (each_in base i here.0 here.1).1 (built.each (suc i) next.0 next.1).gap
 
   pub built_runs : length code.bytes < code_limit → code.end ≡ length (bytes_of b) → ((i : ℕ) (line : Line) → slice_get job.lines i ≡ Some line → AllBound job.lines (named_labels line)) → RunsAsListed job code
-  built_runs short end named = threaded_runs job code (place_of b) (record {
+  built_runs short end named = threaded_runs job code f.finishes.put.place (record {
     line = λ base i line e. (each_in base i line e).0;
     ruled = ruled;
     named = named;
     gap = λ base i lt. (gap_in base i lt).leads;
     last = λ i e. end ∙ built.ends ∙ ap (end_before code.lines) (sym e);
-    bound = λ label e. bound_place job.lines code.lines b label built e;
+    bound = λ label e. f.finishes.grows.places label _ (bound_place job.lines code.lines b label built e);
+    constants = λ number. f.finishes.offsets number ∙ ap (λ places. offset_in places number) (sym constants);
     short = short;
     placed = λ label at e.
-        let inside = (f.sound.places label at e).0 in
-        let longer = f.finishes.grows.longer in
+        let inside = (f.finishes.places label at e).0 in
         let long = f.finishes.same_length in
-        omega arith;
+        omega (arith, inside, long);
   })

@@ -1,9 +1,9 @@
 -- Code that was built and finished keeps what is promised of it.
-use Rattle.std.proofs.Common.{◌≡◌, None, sym, ◌∙◌, subst, arith}
+use Rattle.std.proofs.Common.{◌≡◌, None, ◌∙◌, arith}
 use Rattle.rv_inst.specs.Context.{context_of}
 use Rattle.rv_inst.specs.declared.job.Job.{Job}
 use Rattle.rv_inst.specs.declared.code.Code.{Code}
-use Rattle.mach_buffer.specs.Buffer.{shape_of}
+use Rattle.mach_buffer.specs.Buffer.{shape_of, inside_of}
 use Rattle.rv_emit.specs.Standing.{IsFinishedTo}
 use Rattle.rv_listing.specs.CodeRanges.{CodeFits}
 use Rattle.rv_asm.specs.Refusal.{refusal, lines_refusal}
@@ -21,26 +21,26 @@ module _ (job : Job) (code : Code) (accepted : refusal job ≡ None) (f : IsFini
   abbrev e : lines_refusal (context_of job) job.lines ≡ None
   e = accepted_lines job accepted
 
-  finished : IsFinishedTo (shape_of f.sink) code.bytes
-  finished = record { pending = f.sink.pending; sound = f.built.sound; can = f.ready; finishes = f.finished; all_bytes = all_bytes code.bytes fits.bytes }
+  abbrev finished : IsFinishedTo (shape_of f.sink) code.bytes
+  finished = record { pending = inside_of f.sink; sound = f.built.sound; can = f.ready; finishes = f.finished; all_bytes = all_bytes code.bytes fits.bytes }
 
   pub finished_reported : Reported job code
   finished_reported =
       let longer = f.finished.grows.longer in
       let long = f.finished.same_length in
-      let short = finished_short (context_of job) job.lines f.sink code.bytes f.sized f.finished in
+      let short = finished_short (context_of job) job.lines f.sink code.bytes f.built.sound f.sized f.finished in
       let small = sum_small (context_of job) job.lines e in
-      built_reported job code f.sink f.built finished (omega (arith, short, small)) (f.labels ∙ f.named.labels) f.traps f.end (omega (arith, longer, long))
+      built_reported job code f.sink f.built finished f.constants (omega (arith, short, small)) (f.labels ∙ f.named.labels) f.traps f.end (omega (arith, longer, long))
 
   pub finished_runs : RunsAsListed job code
   finished_runs =
-      let short = finished_short (context_of job) job.lines f.sink code.bytes f.sized f.finished in
+      let short = finished_short (context_of job) job.lines f.sink code.bytes f.built.sound f.sized f.finished in
       let small = sum_small (context_of job) job.lines e in
-      built_runs job code f.sink f.built finished f.traps (no_rule_broken (context_of job) job.lines e) (omega (arith, short, small)) f.end (names_bound job.lines job.lines (parts (context_of job) job.lines e).unbound)
+      built_runs job code f.sink f.built finished f.constants f.traps (no_rule_broken (context_of job) job.lines e) (omega (arith, short, small)) f.end (names_bound job.lines job.lines (parts (context_of job) job.lines e).unbound)
 
   pub finished_in_reach : InReach job code
   finished_in_reach = record {
     early = f.early;
     reach = f.reach;
-    short = finished_short (context_of job) job.lines f.sink code.bytes f.sized f.finished;
+    short = finished_short (context_of job) job.lines f.sink code.bytes f.built.sound f.sized f.finished;
   }

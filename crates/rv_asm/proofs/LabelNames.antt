@@ -1,10 +1,10 @@
 -- Which labels are bound and named, and that a buffer can be finished.
 use Rattle.std.proofs.Common.{◌≡◌, ℕ, zero, suc, ◌+◌, ◌<◌, ◌≤◌, ◌⊎◌, inl, inr, Bool, true, false, cond, ◌||◌, List, [], ◌∷◌, ◌++◌, length, Option, Some, None, refl, ap, sym, ◌∙◌, subst, arith, ⊎_elim}
-use Rattle.std.specs.Prelude.{slice_get, nat_eq, nat_le, is_some, option_map, unwrap_or}
-use Rattle.std.proofs.lemmas.Bool.{true≢false, eq-eqb, leb-false, or_parts, cases_eq, lt-ltb}
+use Rattle.std.specs.Prelude.{slice_get, nat_eq, nat_le, nat_lt, is_some, option_map, unwrap_or}
+use Rattle.std.proofs.lemmas.Bool.{true≢false, eq-eqb, leb-false, ltb-true, ltb-false, or_parts, cases_eq, lt-ltb}
 use Rattle.std.proofs.lemmas.List.{append-nil, map-append}
 use Rattle.rv_base.specs.declared.label.MachLabel.{MachLabel}
-use Rattle.mach_labels.specs.Table.{first_inner}
+use Rattle.mach_labels.specs.Table.{first_inner, first_constant}
 use Rattle.rv_inst.specs.Context.{Context}
 use Rattle.rv_inst.specs.declared.code.LineSpan.{LineSpan}
 use Rattle.rv_inst.specs.declared.inst.Inst.{Inst}
@@ -17,13 +17,13 @@ use Rattle.rv_inst.specs.declared.label_use.LabelUse.TheVariants.{Jal20, PCRelLo
 use Rattle.rv_inst.specs.declared.error.Rule.TheVariants as rule_of
 use Rattle.rv_inst.specs.Rules.{broken_rule}
 use Rattle.rv_inst.specs.declared.targets.Targets.{Targets}
-use Rattle.rv_inst.specs.declared.targets.Targets.TheVariants.{Nowhere, Jumps, Branches, Refers}
+use Rattle.rv_inst.specs.declared.targets.Targets.TheVariants.{Nowhere, Jumps, Branches, Refers, RefersConstant}
 use Rattle.rv_inst.specs.Operands.{targets_of, labels_of as target_names, inst_labels}
 use Rattle.rv_inst.specs.LabelUse.{label_kinds, has_veneer_of}
 use Rattle.rv_inst.specs.Sizes.{line_space}
 use Rattle.mach_buffer.specs.declared.uses.Use.{Use}
 use Rattle.mach_buffer.specs.Buffer.{bytes_of, uses_of, place_of, labels_of}
-use Rattle.mach_buffer.specs.Shape.{recorded, core, listed}
+use Rattle.mach_buffer.specs.Shape.{recorded, core, listed, constant_label}
 use Rattle.mach_buffer.specs.Islands.{is_far}
 use Rattle.mach_buffer.proofs.Laws.{both_lists, comes_from, slice_get-append, slice_get-append_last, append_each, recorded_get}
 use Rattle.rv_emit.specs.Emitted.{Buffer, AppendsInst, AppendsIsland, IslandIfNeeded}
@@ -87,9 +87,13 @@ bound_append (line ∷ lines) more label = ap (λ b. binds line label || b) (bou
 
 -- ---- the uses and what they name
 
--- a use may go by a veneer or reaches all code, and its label is named by a line or bound
+-- a label is bound, named by a line, or among those of constants
+abbrev pub IsKnownLabel : List Line → Buffer → ℕ → Type 0
+IsKnownLabel lines b label = (is_some (place_of b label) ≡ true) ⊎ IsNamed lines label ⊎ (first_constant ≤ label)
+
+-- a use may go by a veneer or reaches all code, and its label is one of these
 abbrev pub IsGood : List Line → Buffer → Use LabelUse → Type 0
-IsGood lines b u = ((has_veneer_of u.kind ≡ true) ⊎ (is_far label_kinds u ≡ true)) × ((is_some (place_of b u.label.number) ≡ true) ⊎ IsNamed lines u.label.number)
+IsGood lines b u = ((has_veneer_of u.kind ≡ true) ⊎ (is_far label_kinds u ≡ true)) × IsKnownLabel lines b u.label.number
 
 abbrev pub AreGood : List Line → Buffer → Type 0
 AreGood lines b = Each (IsGood lines b) (recorded (uses_of b))
@@ -110,25 +114,34 @@ more_named lines more number n = record {
   is = n.is;
 }
 
--- places are only added
+-- places are only added, to those below the labels of constants
 abbrev Keeps : Buffer → Buffer → Type 0
-Keeps old new = (label : ℕ) → is_some (place_of old label) ≡ true → is_some (place_of new label) ≡ true
+Keeps old new = (label : ℕ) → label < first_constant → is_some (place_of old label) ≡ true → is_some (place_of new label) ≡ true
+
+known_kept : (lines more : List Line) (old new : Buffer) → Keeps old new → (label : ℕ) → IsKnownLabel lines old label → IsKnownLabel (lines ++ more) new label
+known_kept lines more old new keeps label (inl bound) = on (nat_lt label first_constant) refl
+  where
+    on : (c : Bool) → nat_lt label first_constant ≡ c → IsKnownLabel (lines ++ more) new label
+    on true e = inl (keeps label (ltb-true _ _ e) bound)
+    on false e = inr (inr (ltb-false _ _ e))
+known_kept lines more old new keeps label (inr (inl n)) = inr (inl (more_named lines more label n))
+known_kept lines more old new keeps label (inr (inr high)) = inr (inr high)
 
 good_kept : (lines more : List Line) (old new : Buffer) → Keeps old new → (u : Use LabelUse) → IsGood lines old u → IsGood (lines ++ more) new u
-good_kept lines more old new keeps u g = (g.0, ⊎_elim (λ bound. inl (keeps u.label.number bound)) (λ n. inr (more_named lines more u.label.number n)) g.1)
+good_kept lines more old new keeps u g = (g.0, known_kept lines more old new keeps u.label.number g.1)
 
 good_as : (lines : List Line) (b : Buffer) (uses : List (Use LabelUse)) → recorded (uses_of b) ≡ uses → Each (IsGood lines b) uses → AreGood lines b
 good_as lines b uses e h j u at = h j u (sym (ap (λ us. slice_get us j) e) ∙ at)
 
 no_more : (lines : List Line) (b : Buffer) → AreGood (lines ++ []) b → AreGood lines b
-no_more lines b h j u at = let g = h j u at in (g.0, subst (λ ls. (is_some (place_of b u.label.number) ≡ true) ⊎ IsNamed ls u.label.number) (append-nil lines) g.1)
+no_more lines b h j u at = let g = h j u at in (g.0, subst (λ ls. IsKnownLabel ls b u.label.number) (append-nil lines) g.1)
 
 -- ---- an island and a sequence
 
 island_keeps : (old new : Buffer) → AppendsIsland old new → Keeps old new
-island_keeps old new p label h = ⊎_elim
+island_keeps old new p label low h = ⊎_elim
     (λ e. ap is_some (ap (place_of new) e ∙ p.bound))
-    (λ other. ap is_some (p.places label other) ∙ h)
+    (λ other. ap is_some (p.places label low other) ∙ h)
     (cases_eq label p.after_island.number)
 
 good_island : (lines : List Line) (old new : Buffer) → AppendsIsland old new → AreGood lines old → AreGood lines new
@@ -144,7 +157,7 @@ good_island lines old new p h =
     (both_lists (IsGood (lines ++ []) new) (recorded uses) p.own.more first
     (λ k u e.
     let x = p.own.own k u e in
-    (inr x.far, subst (λ (l : MachLabel). (is_some (place_of new l.number) ≡ true) ⊎ IsNamed (lines ++ []) l.number) x.names (first x.user (core x.used) (recorded_get uses x.user x.used x.there)).1))))
+    (inr x.far, subst (λ (l : MachLabel). IsKnownLabel (lines ++ []) new l.number) x.names (first x.user (core x.used) (recorded_get uses x.user x.used x.there)).1))))
 
 pub good_room : (lines : List Line) (distance : ℕ) (old new : Buffer) (made : Bool) → IslandIfNeeded distance old new made → AreGood lines old → AreGood lines new
 good_room lines distance old new made m h = ⊎_elim (λ same. subst (AreGood lines) (sym same.1) h) (λ put. good_island lines old new put.1 h) m.put
@@ -156,7 +169,11 @@ pub record IsOf (labels : List MachLabel) (number : ℕ) : Type 0 where
   pub names : slice_get labels place ≡ Some label
   pub is : label.number ≡ number
 
-pub uses_labels : (context : Context) (start : ℕ) (inst : Inst) → Each (λ u. IsOf (inst_labels inst) u.label.number) (uses_in context start inst)
+-- a use is of one of these labels; or its label is among those of constants, and it goes by no veneer
+abbrev pub UsesOneOf : List MachLabel → Use LabelUse → Type 0
+UsesOneOf labels u = IsOf labels u.label.number ⊎ ((first_constant ≤ u.label.number) × (has_veneer_of u.kind ≡ false))
+
+pub uses_labels : (context : Context) (start : ℕ) (inst : Inst) → Each (UsesOneOf (inst_labels inst)) (uses_in context start inst)
 uses_labels context start inst = on (targets_of inst)
   where
     first : (label : MachLabel) (labels : List MachLabel) → IsOf (label ∷ labels) label.number
@@ -165,17 +182,20 @@ uses_labels context start inst = on (targets_of inst)
     second : (other label : MachLabel) → IsOf (other ∷ label ∷ []) label.number
     second other label = record { place = 1; label = label; names = refl; is = refl }
 
-    on : (targets : Targets) → Each (λ u. IsOf (target_names targets) u.label.number) (target_uses start targets)
+    on : (targets : Targets) → Each (UsesOneOf (target_names targets)) (target_uses start targets)
     on Nowhere = each_none _
-    on (Jumps label) = each_more (λ u. IsOf (label ∷ []) u.label.number) _ [] (first label []) (each_none _)
+    on (Jumps label) = each_more (UsesOneOf (label ∷ [])) _ [] (inl (first label [])) (each_none _)
     on (Branches Fallthrough not_taken) = each_none _
-    on (Branches (Label t) Fallthrough) = each_more (λ u. IsOf (t ∷ []) u.label.number) _ [] (first t []) (each_none _)
+    on (Branches (Label t) Fallthrough) = each_more (UsesOneOf (t ∷ [])) _ [] (inl (first t [])) (each_none _)
     on (Branches (Label t) (Label f)) =
-        each_more (λ u. IsOf (t ∷ f ∷ []) u.label.number) _ (use_at (start + 4) f Jal20 ∷ []) (first t (f ∷ []))
-        (each_more (λ u. IsOf (t ∷ f ∷ []) u.label.number) _ [] (second t f) (each_none _))
+        each_more (UsesOneOf (t ∷ f ∷ [])) _ (use_at (start + 4) f Jal20 ∷ []) (inl (first t (f ∷ [])))
+        (each_more (UsesOneOf (t ∷ f ∷ [])) _ [] (inl (second t f)) (each_none _))
     on (Refers label) =
-        each_more (λ u. IsOf (label ∷ []) u.label.number) _ (use_at (start + 4) label PCRelLo12I ∷ []) (first label [])
-        (each_more (λ u. IsOf (label ∷ []) u.label.number) _ [] (first label []) (each_none _))
+        each_more (UsesOneOf (label ∷ [])) _ (use_at (start + 4) label PCRelLo12I ∷ []) (inl (first label []))
+        (each_more (UsesOneOf (label ∷ [])) _ [] (inl (first label [])) (each_none _))
+    on (RefersConstant k) =
+        each_more (UsesOneOf []) _ (use_at (start + 4) (constant_label k) PCRelLo12I ∷ []) (inr (omega arith, refl))
+        (each_more (UsesOneOf []) _ [] (inr (omega arith, refl)) (each_none _))
 
 own_named : (lines : List Line) (inst : Inst) (number : ℕ) → IsOf (inst_labels inst) number → IsNamed (lines ++ Put inst ∷ []) number
 own_named lines inst number o = record {
@@ -194,15 +214,16 @@ good_block context lines inst old new p h =
     let own = uses_in context start inst in
     let all = lines ++ Put inst ∷ [] in
     let whole : recorded (uses_of new) ≡ recorded (uses_of old) ++ recorded own = ap recorded p.adds.uses ∙ map-append core (uses_of old) own in
-    let keeps : Keeps old new = λ label e. ap (λ (place : ℕ → Option ℕ). is_some (place label)) p.adds.places ∙ e in
+    let keeps : Keeps old new = λ label low e. ap (λ (place : ℕ → Option ℕ). is_some (place label)) p.adds.places ∙ e in
     let each : Each (IsGood all new) (recorded own) = λ j u e.
     let from = comes_from core own j u e in
-    subst (IsGood all new) from.is (uses_kinds context start inst j from.from from.there, inr (own_named lines inst from.from.label.number (uses_labels context start inst j from.from from.there))) in
+    let known = ⊎_elim (λ o. inl (own_named lines inst from.from.label.number o)) (λ high. inr high.0) (uses_labels context start inst j from.from from.there) in
+    subst (IsGood all new) from.is (uses_kinds context start inst j from.from from.there, inr known) in
     good_as all new (recorded (uses_of old) ++ recorded own) whole
     (both_lists (IsGood all new) (recorded (uses_of old)) (recorded own) (λ j u e. good_kept lines (Put inst ∷ []) old new keeps u (h j u e)) each)
 
 good_line : (lines more : List Line) (b : Buffer) → AreGood lines b → AreGood (lines ++ more) b
-good_line lines more b h j u e = good_kept lines more b b (λ label g. g) u (h j u e)
+good_line lines more b h j u e = good_kept lines more b b (λ label low g. g) u (h j u e)
 
 pub good_emitted : (context : Context) (lines : List Line) (inst : Inst) (old new : Buffer) → Appends context inst old new → AreGood lines old → AreGood (lines ++ Put inst ∷ []) new
 good_emitted context lines (EmitIsland space) old new e h = good_line lines (Put (EmitIsland space) ∷ []) new (good_room lines space old new e.0 e.1 h)
@@ -217,7 +238,7 @@ KeepsLow old new = (label : ℕ) → label < first_inner → place_of new label 
 pub room_keeps : (distance : ℕ) (old new : Buffer) (made : Bool) → IslandIfNeeded distance old new made → (labels_of new ≡ labels_of old) × KeepsLow old new
 room_keeps distance old new made m = ⊎_elim
     (λ same. (ap labels_of same.1, λ label low. ap (λ (b : Buffer). place_of b label) same.1))
-    (λ put. (put.1.labels, λ label low. put.1.places label (λ e. let at = put.1.drawn_label in absurd (omega arith))))
+    (λ put. (put.1.labels, λ label low. put.1.places label (omega arith) (λ e. let at = put.1.drawn_label in absurd (omega arith))))
     m.put
 
 pub emitted_keeps : (context : Context) (inst : Inst) (old new : Buffer) → Appends context inst old new → (labels_of new ≡ labels_of old) × KeepsLow old new
@@ -261,7 +282,7 @@ inst_named context lines spans inst span old new n count p =
     (good_emitted context lines inst p.mid new p.emitted (good_room lines line_space old p.mid p.made p.room (good_from_named lines spans old n)))
 
 bind_keeps : (label : MachLabel) (old new : Buffer) (span : LineSpan) → BindPut label old new span → Keeps old new
-bind_keeps label old new span p other h = ⊎_elim
+bind_keeps label old new span p other low h = ⊎_elim
     (λ e. ap is_some (ap (place_of new) e ∙ p.bound))
     (λ differ. ap is_some (p.kept other differ) ∙ h)
     (cases_eq other label.number)

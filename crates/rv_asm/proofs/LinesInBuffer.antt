@@ -1,6 +1,7 @@
 -- What stands in a buffer lasts, and what a line adds.
-use Rattle.std.proofs.Common.{◌≡◌, ℕ, ◌%◌, inl, ⊎_elim, Bool, true, false, List, [], ◌++◌, length, append-nil, Option, Some, None, ap, sym, ◌∙◌, subst, arith}
+use Rattle.std.proofs.Common.{◌≡◌, ℕ, ◌%◌, inl, ⊎_elim, Bool, true, false, List, [], ◌++◌, length, append-nil, Option, Some, None, refl, ap, sym, ◌∙◌, subst, arith}
 use Rattle.std.specs.Prelude.{slice_get}
+use Rattle.rv_base.specs.declared.constant.VCodeConstant.{VCodeConstant}
 use Rattle.rv_base.specs.declared.label.MachLabel.{MachLabel}
 use Rattle.rv_inst.specs.Context.{Context}
 use Rattle.rv_inst.specs.declared.inst.Line.{Line}
@@ -11,22 +12,25 @@ use Rattle.rv_inst.specs.declared.label_use.LabelUse.{LabelUse}
 use Rattle.rv_inst.specs.LabelUse.{label_kinds}
 use Rattle.rv_inst.specs.Rules.{inst_rule, broken_rule}
 use Rattle.rv_inst.specs.Traps.{inst_traps}
+use Rattle.rv_inst.specs.Operands.{inst_constant}
+use Rattle.rv_inst.specs.declared.inst.Inst.TheVariants.{EmitIsland}
 use Rattle.rv_inst.specs.Sizes.{line_space}
 use Rattle.mach_buffer.specs.declared.uses.Use.{Use}
 use Rattle.mach_buffer.specs.Reach.{is_pending, is_needed, deadlines}
-use Rattle.mach_buffer.specs.Buffer.{shape_of, bytes_of, uses_of, place_of, traps_of}
+use Rattle.mach_buffer.specs.Buffer.{shape_of, bytes_of, uses_of, place_of, traps_of, named_of}
+use Rattle.mach_buffer.specs.Constants.{AllStand}
 use Rattle.mach_buffer.specs.Growth.{Lasts}
 use Rattle.mach_buffer.specs.Shape.{recorded}
 use Rattle.mach_buffer.specs.Windows.{AreWindows}
-use Rattle.mach_buffer.proofs.Laws.{append_none, grows_put, lasts_more}
+use Rattle.mach_buffer.proofs.Laws.{append_none, grows_put, lasts_more, stands_last as constants_last}
 use Rattle.rv_emit.specs.declared.state.EmitVState.{EmitVState}
-use Rattle.rv_emit.specs.Emitted.{Buffer, IsSoundBuffer, HasWindows, IslandIfNeeded}
+use Rattle.rv_emit.specs.Emitted.{Buffer, IsSoundBuffer, HasWindows, IslandIfNeeded, named_by}
 use Rattle.rv_emit.specs.InstParts.{parts_of}
 use Rattle.rv_emit.specs.State.{setting_beyond}
 use Rattle.rv_emit.proofs.Laws.{gap_last, parts_last, gap_put, parts_put, are_blocks}
 use Rattle.rv_asm.specs.LinesInBuffer.{LineStands, StandsAfter, InstPut, BindPut, LinePut}
-use Rattle.rv_asm.specs.Reported.{line_traps}
-use Rattle.rv_asm.proofs.LinesAppended.{appends, appended_long}
+use Rattle.rv_asm.specs.Reported.{line_traps, line_constant, with_constant}
+use Rattle.rv_asm.proofs.LinesAppended.{Appends, appends, appended_long}
 use Rattle.rv_asm.proofs.LineTraps.{room_traps, appended_traps}
 
 -- what lasts from one buffer to another
@@ -45,6 +49,21 @@ stands_last context line old new l before start end h = record {
   within = let a = h.within in let b = l.grows.longer in omega arith;
 }
 
+-- ---- the constants that are named
+
+-- an island names none
+room_named : (distance : ℕ) (old new : Buffer) (made : Bool) → IslandIfNeeded distance old new made → named_of new ≡ named_of old
+room_named distance old new made m = ⊎_elim (λ same. ap (λ (b : Buffer). named_of b) same.1) (λ put. put.1.named) m.put
+
+named_with : (constant : Option VCodeConstant) (named : List VCodeConstant) → named_by constant named ≡ with_constant constant named
+named_with None named = refl
+named_with (Some k) named = refl
+
+-- an instruction names its own
+appended_named : (context : Context) (inst : Inst) (old new : Buffer) → Appends context inst old new → named_of new ≡ with_constant (inst_constant inst) (named_of old)
+appended_named context (EmitIsland space) old new (made, room) = room_named space old new made room
+appended_named context inst old new e = e.named ∙ named_with (inst_constant inst) (named_of old)
+
 -- ---- a line
 
 -- after what stood there the line was put, at its span
@@ -56,6 +75,8 @@ pub record LineAdded (context : Context) (line : Line) (old new : Buffer) (span 
   pub sound : IsSoundBuffer new
   pub first : uses_of old ≡ [] → span.start ≡ length (bytes_of old)
   pub traps : traps_of new ≡ traps_of old ++ line_traps span.start span.end line
+  pub named : named_of new ≡ with_constant (line_constant line) (named_of old)
+  pub constants : AllStand label_kinds (shape_of old) → AllStand label_kinds (shape_of new)
 
 -- where no use is, no island is put
 none_put : (distance : ℕ) (old new : Buffer) (made : Bool) → IslandIfNeeded distance old new made → uses_of old ≡ [] → length (bytes_of new) ≡ length (bytes_of old)
@@ -84,6 +105,8 @@ inst_added context setting inst old new span rule s w p =
       sound = put.sound;
       first = λ h. p.start ∙ none_put line_space old p.mid p.made p.room h;
       traps = appended_traps context inst p.mid new appended ∙ (λ i. room_traps line_space old p.mid p.made p.room i ++ inst_traps (sym p.start i) (sym p.end i) inst);
+      named = appended_named context inst p.mid new appended ∙ ap (with_constant (inst_constant inst)) (room_named line_space old p.mid p.made p.room);
+      constants = λ h. put.constants (room.constants h);
     }
 
 -- ---- a bind
@@ -99,6 +122,9 @@ bind_lasts label old new span p = record {
   straight = λ j u h bare reached. ap (λ us. slice_get us j) p.uses ∙ h;
   allocated = let e = p.allocated in omega arith;
   traps = λ k r h. ap (λ ts. slice_get ts k) p.traps ∙ h;
+  registered = p.registered;
+  named = λ i k h. ap (λ ks. slice_get ks i) p.named ∙ h;
+  constants = λ j c h. ap (λ cs. slice_get cs j) p.constants ∙ h;
 }
 
 bind_added : (context : Context) (label : MachLabel) (old new : Buffer) (span : LineSpan) → IsSoundBuffer old → HasWindows old → BindPut label old new span → LineAdded context (Bind label) old new span
@@ -116,6 +142,8 @@ bind_added context label old new span s w p = record {
   sound = p.sound;
   first = λ h. p.start;
   traps = p.traps ∙ sym (append-nil (traps_of old));
+  named = p.named;
+  constants = λ h. constants_last (bind_lasts label old new span p) p.constants h;
 }
 
 pub line_added : (context : Context) (setting : EmitVState) (line : Line) (old new : Buffer) (span : LineSpan) → broken_rule context line ≡ None → IsSoundBuffer old → HasWindows old → LinePut context setting line old new span → LineAdded context line old new span

@@ -16,6 +16,8 @@ use Rattle.rv_inst.specs.Meaning.{Exit, Next, To, Leave, Break, Trap, Data, exit
 use Rattle.rv_inst.specs.Environments.{SameLabels, AgreeOn}
 use Rattle.rv_inst.proofs.Meaning.{effect_agrees, writes_agree, exit_agrees}
 use Rattle.rv_base.specs.LabelUse.{code_limit}
+use Rattle.mach_labels.specs.Table.{first_constant}
+use Rattle.mach_buffer.specs.Constants.{offset_in}
 use Rattle.rv_base.specs.declared.label.MachLabel.{MachLabel}
 use Rattle.rv_inst.specs.Operands.{named_labels}
 use Rattle.rv_inst.specs.Rules.{broken_rule}
@@ -51,7 +53,7 @@ LineIn site (Put inst) start after = InstIn site inst start after
 LineIn site (Bind label) start after = start ≡ after
 
 -- each line stands in the code, keeps the rules and names labels that are bound; what stands after it leads to the next one;
--- the last line ends the code; and labels stand where they are bound
+-- the last line ends the code; and labels stand where they are bound, and constants at their offsets
 pub record IsThreaded (job : Job) (code : Code) (place : ℕ → Option ℕ) : Type 0 where
   pub line : (base i : ℕ) (line : Line) → slice_get job.lines i ≡ Some line → LineIn (site_of job code place base) line (start_of code.lines i) (end_of code.lines i)
   pub ruled : (i : ℕ) (line : Line) → slice_get job.lines i ≡ Some line → broken_rule (context_of job) line ≡ None
@@ -59,6 +61,7 @@ pub record IsThreaded (job : Job) (code : Code) (place : ℕ → Option ℕ) : T
   pub gap : (base i : ℕ) → suc i < length job.lines → LeadsOn (site_of job code place base) (end_of code.lines i) (start_of code.lines (suc i))
   pub last : (i : ℕ) → suc i ≡ length job.lines → code.end ≡ end_of code.lines i
   pub bound : (label : ℕ) → is_bound job.lines label ≡ true → place label ≡ Some (label_place job.lines code label)
+  pub constants : (number : ℕ) → place (first_constant + number) ≡ offset_in code.constants number
   pub short : length code.bytes < code_limit
   pub placed : (label at : ℕ) → place label ≡ Some at → at ≤ length code.bytes
 
@@ -156,7 +159,7 @@ same_labels job code place t base i [] bound = tt
 same_labels job code place t base i (l ∷ labels) bound = (ap (λ at. wrap (base + unwrap_or at 0)) (t.bound l.number bound.0), same_labels job code place t base i labels bound.1)
 
 agrees : (job : Job) (code : Code) (place : ℕ → Option ℕ) → IsThreaded job code place → (base i : ℕ) (line : Line) → slice_get job.lines i ≡ Some line → AgreeOn (named_labels line) (environment (site_of job code place base) (start_of code.lines i) (end_of code.lines i)) (environment_of job code base i)
-agrees job code place t base i line e = record { start = refl; after = refl; frame = refl; labels_same = same_labels job code place t base i (named_labels line) (t.named i line e) }
+agrees job code place t base i line e = record { start = refl; after = refl; frame = refl; labels_same = same_labels job code place t base i (named_labels line) (t.named i line e); constants_same = λ number. ap (λ at. wrap (base + unwrap_or at 0)) (t.constants number) }
 
 comes : (job : Job) (code : Code) (place : ℕ → Option ℕ) → IsThreaded job code place → (base : ℕ) (symbols slots : Addresses) (i : ℕ) (line : Line) (s : State) (v : Values) → i < length job.lines → slice_get job.lines i ≡ Some line → WritesOutside job code base i line v → IsPlaced code base symbols slots s.values.mem → IsState s → AreValues v → s.pc ≡ address_of code base (At i) → Same v s.values → Comes job code base (At i) v s
 comes job code place t base symbols slots i line s v lt e outside placed is_state are_values pc same =

@@ -9,12 +9,14 @@ use Rattle.rv_inst.specs.declared.code.LineSpan.{LineSpan}
 use Rattle.rv_inst.specs.declared.label_use.LabelUse.{LabelUse}
 use Rattle.rv_inst.specs.LabelUse.{label_kinds}
 use Rattle.mach_buffer.specs.declared.uses.Use.{Use}
-use Rattle.mach_buffer.specs.Buffer.{bytes_of, uses_of, traps_of}
+use Rattle.mach_buffer.specs.declared.records.ConstPlace.{ConstPlace}
+use Rattle.mach_buffer.specs.Buffer.{bytes_of, uses_of, traps_of, registered_of, named_of, constants_of}
 use Rattle.mach_buffer.specs.Windows.{AreWindows}
 use Rattle.mach_buffer.proofs.Laws.{locate, windows_none, below}
 use Rattle.rv_emit.specs.declared.state.EmitVState.{EmitVState}
 use Rattle.rv_emit.specs.Emitted.{Buffer, IsSoundBuffer}
-use Rattle.rv_asm.specs.Reported.{start_of, end_of, end_before, line_traps}
+use Rattle.rv_base.specs.declared.constant.VCodeConstant.{VCodeConstant}
+use Rattle.rv_asm.specs.Reported.{start_of, end_of, end_before, line_traps, line_constant, with_constant, constants_after}
 use Rattle.rv_asm.specs.LinesInBuffer.{StandsAfter, LinesStand, LinePut}
 use Rattle.rv_asm.proofs.FirstLines.{ends_more}
 use Rattle.rv_asm.proofs.LabelNames.{start_more, end_more, start_last, end_last}
@@ -23,8 +25,8 @@ use Rattle.rv_asm.proofs.LineTraps.{traps_next}
 use Rattle.rv_asm.proofs.LinesInBuffer.{LineAdded, stands_last, line_added}
 
 -- no line stands in an empty buffer
-pub built_none : (context : Context) (b : Buffer) → bytes_of b ≡ [] → uses_of b ≡ [] → traps_of b ≡ [] → IsSoundBuffer b → LinesStand context [] [] b
-built_none context b eb eu et s = record {
+pub built_none : (context : Context) (b : Buffer) → bytes_of b ≡ [] → uses_of b ≡ [] → traps_of b ≡ [] → registered_of b ≡ context.constants → named_of b ≡ [] → constants_of b ≡ [] → IsSoundBuffer b → LinesStand context [] [] b
+built_none context b eb eu et er en ec s = record {
   count = refl;
   indices = λ i x h. absurd (cc);
   each = λ i line h. absurd (cc);
@@ -32,10 +34,21 @@ built_none context b eb eu et s = record {
   first = refl;
   nothing = λ e. eu;
   traps = et;
+  registered = er;
+  named = en;
+  stand = λ j c h. absurd (none_at j c (sym (ap (λ cs. slice_get cs j) ec) ∙ h));
   windows = subst (λ (bs : List ℕ). AreWindows label_kinds bs (uses_of b)) (sym eb)
       (subst (λ (us : List (Use LabelUse)). AreWindows label_kinds [] us) (sym eu) windows_none);
   sound = s;
 }
+  where
+    none_at : (j : ℕ) (c : ConstPlace) → slice_get [] j ≡ Some c → ⊥
+    none_at j c h = absurd (cc)
+
+-- the constants that a line more names
+constants_more : (named : List VCodeConstant) (lines : List Line) (line : Line) → constants_after named (lines ++ line ∷ []) ≡ with_constant (line_constant line) (constants_after named lines)
+constants_more named [] line = refl
+constants_more named (first ∷ lines) line = constants_more (with_constant (line_constant first) named) lines line
 
 -- ---- one item more
 
@@ -88,6 +101,9 @@ module _ (context : Context) (lines : List Line) (line : Line) (spans : List Lin
     first = first lines refl;
     nothing = λ e. absurd (omega (arith, more_lines, e));
     traps = a.traps ∙ ap (λ ts. ts ++ line_traps span.start span.end line) b.traps ∙ sym (traps_next lines spans line span same);
+    registered = a.lasts.registered ∙ b.registered;
+    named = a.named ∙ ap (with_constant (line_constant line)) b.named ∙ sym (constants_more [] lines line);
+    stand = a.constants b.stand;
     windows = a.windows;
     sound = a.sound;
   }

@@ -1,5 +1,5 @@
 -- What holds of lines that are not refused, by index.
-use Rattle.std.proofs.Common.{◌≡◌, ℕ, zero, suc, ◌≤◌, ◌<◌, ◌^◌, Bool, true, false, List, [], ◌∷◌, Option, Some, None, Result, refl, sym, ap, subst, arith}
+use Rattle.std.proofs.Common.{◌≡◌, ℕ, zero, suc, ◌*◌, ◌≤◌, ◌<◌, ◌^◌, Bool, true, false, List, [], ◌∷◌, length, Option, Some, None, Result, refl, sym, ap, subst, arith}
 use Rattle.std.specs.Prelude.{◌||◌, nat_eq, nat_lt, nat_le, if◌then◌else◌, slice_get}
 use mathlib.Core.Path.{fun_ext}
 use Rattle.std.proofs.lemmas.Bool.{ltb-false, leb-false}
@@ -15,7 +15,9 @@ use Rattle.rv_inst.specs.declared.error.Rule.{Rule}
 use Rattle.rv_inst.specs.declared.error.EmitError.{EmitError}
 use Rattle.rv_inst.specs.Operands.{named_labels}
 use Rattle.rv_inst.specs.Rules.{first_of, broken_rule}
-use Rattle.rv_asm.specs.Refusal.{size_limit, malformed, broken_from, binds, is_bound, twice_of, twice_in, twice_from, unbound_among, unbound_in, size_sum, too_large, is_bad_frame, bad_frame, lines_refusal, refusal, Finds}
+use Rattle.rv_base.specs.declared.constant.Constant.{Constant}
+use Rattle.mach_buffer.specs.Shape.{inner_count}
+use Rattle.rv_asm.specs.Refusal.{size_limit, constants_sum, malformed, broken_from, binds, is_bound, twice_of, twice_in, twice_from, unbound_among, unbound_in, size_sum, too_large, is_bad_frame, bad_frame, lines_refusal, refusal, Finds}
 
 -- What is looked for among the labels of a set is looked for among those that the lines bind.
 pub finds_by_test : {X : Type 0} (bound test : ℕ → Bool) (lines : List Line) (r : Result X EmitError) → ((label : ℕ) → bound label ≡ test label) → Finds (unbound_in bound lines) r → Finds (unbound_in test lines) r
@@ -170,10 +172,21 @@ named_bound_by context lines e i line h k l g = bound_by lines l (named_is_bound
 
 -- ---- sizes
 
--- the lines count for no more bytes than they may
+-- the lines and the constants count for no more bytes than they may
 pub sum_small : (context : Context) (lines : List Line) → lines_refusal context lines ≡ None → size_sum context lines ≤ size_limit
 sum_small context lines e = from _ (nat_lt size_limit (size_sum context lines)) refl (parts context lines e).large
   where
     from : (x : EmitError) (c : Bool) → nat_lt size_limit (size_sum context lines) ≡ c → (if c then Some x else None) ≡ None → size_sum context lines ≤ size_limit
     from x true h g = absurd (cc)
     from x false h g = ltb-false size_limit (size_sum context lines) h
+
+count_least : (constants : List Constant) → 16 * length constants ≤ constants_sum constants
+count_least [] = omega arith
+count_least (c ∷ constants) = let rest = count_least constants in omega (arith, rest)
+
+-- and the constants are no more than a buffer takes
+pub constants_few : (context : Context) (lines : List Line) → lines_refusal context lines ≡ None → length context.constants ≤ inner_count
+constants_few context lines e =
+    let small = sum_small context lines e in
+    let least = count_least context.constants in
+    omega (arith, small, least)

@@ -1,6 +1,9 @@
 -- How long code may be, and that an instruction finds its room.
-use Rattle.std.proofs.Common.{◌≡◌, ℕ, ◌+◌, ◌*◌, ◌≤◌, Bool, List, [], ◌∷◌, ◌++◌, length, refl, ap, sym, subst, arith, ⊎_elim}
+use Rattle.std.proofs.Common.{◌≡◌, ℕ, suc, ◌+◌, ◌*◌, ◌≤◌, Bool, cond, List, [], ◌∷◌, ◌++◌, length, Option, None, refl, ap, sym, ◌∙◌, subst, arith, ⊎_elim}
+use Rattle.std.specs.Prelude.{is_some}
+use Rattle.rv_base.specs.declared.constant.Constant.{Constant}
 use Rattle.rv_base.specs.declared.label.MachLabel.{MachLabel}
+use Rattle.mach_labels.specs.Table.{first_constant}
 use Rattle.rv_inst.specs.Context.{Context}
 use Rattle.rv_inst.specs.declared.code.LineSpan.{LineSpan}
 use Rattle.rv_inst.specs.declared.inst.Inst.{Inst}
@@ -9,23 +12,24 @@ use Rattle.rv_inst.specs.declared.inst.Line.{Line}
 use Rattle.rv_inst.specs.declared.inst.Line.TheVariants.{Inst as Put, Bind}
 use Rattle.rv_inst.specs.LabelUse.{label_kinds}
 use Rattle.mach_buffer.specs.Reach.{CanReach, HasSlack, deadlines, due_by}
-use Rattle.mach_buffer.specs.Buffer.{bytes_of, uses_of, place_of, allocated_of}
-use Rattle.mach_buffer.proofs.Laws.{slack_same, slack_from_reach, reach_from_slack, total, due_total}
-use Rattle.rv_emit.specs.Emitted.{Buffer, pending, AppendsIsland, IslandIfNeeded, IsBounded}
+use Rattle.mach_buffer.specs.Buffer.{shape_of, bytes_of, uses_of, place_of, allocated_of, registered_of}
+use Rattle.mach_buffer.specs.Constants.{reserve_from, reserve_of}
+use Rattle.mach_buffer.proofs.Laws.{slack_same, slack_from_reach, reach_from_slack, total, due_total, reserve_other}
+use Rattle.rv_emit.specs.Emitted.{Buffer, pending, AppendsInst, AppendsIsland, IslandIfNeeded, IsBounded}
 use Rattle.rv_emit.proofs.Laws.{waits}
 use Rattle.rv_inst.specs.Sizes.{line_space, line_sum}
-use Rattle.rv_asm.specs.Refusal.{size_sum}
+use Rattle.rv_asm.specs.Refusal.{constants_sum, lines_sum, size_sum}
 use Rattle.rv_asm.specs.LinesInBuffer.{Sized, BindPut}
 use Rattle.rv_asm.proofs.LinesAppended.{Appends, InstAppends, LineAppends}
 
 -- ---- sums
 
-pub sum_append : (context : Context) (lines more : List Line) → size_sum context (lines ++ more) ≡ size_sum context lines + size_sum context more
-sum_append context [] more = omega arith
-sum_append context (line ∷ lines) more = let rest = sum_append context lines more in omega arith
+lines_append : (context : Context) (lines more : List Line) → lines_sum context (lines ++ more) ≡ lines_sum context lines + lines_sum context more
+lines_append context [] more = omega arith
+lines_append context (line ∷ lines) more = let rest = lines_append context lines more in omega arith
 
 pub sum_next : (context : Context) (lines : List Line) (line : Line) → size_sum context (lines ++ line ∷ []) ≡ size_sum context lines + line_sum context line
-sum_next context lines line = let whole = sum_append context lines (line ∷ []) in omega arith
+sum_next context lines line = let whole = lines_append context lines (line ∷ []) in omega arith
 
 -- each line counts for 128 bytes and more
 pub sum_least : (context : Context) (line : Line) → 128 ≤ line_sum context line
@@ -35,6 +39,19 @@ sum_least context (Put inst) = on inst
     on : (inst : Inst) → 128 ≤ line_sum context (Put inst)
     on (EmitIsland space) = omega arith
     on _ = omega arith
+
+-- ---- room for constants that don't stand yet
+
+-- it depends on the places of their labels alone
+reserve_kept : (old new : Buffer) → registered_of new ≡ registered_of old → ((k : ℕ) → place_of new (first_constant + k) ≡ place_of old (first_constant + k)) → reserve_of (shape_of new) ≡ reserve_of (shape_of old)
+reserve_kept old new registered places = ap (reserve_from (place_of new) 0) registered ∙ reserve_other (place_of old) (place_of new) 0 (registered_of old) (λ k least. places k)
+
+-- where none stands, it is what they count for
+reserve_all : (place : ℕ → Option ℕ) (i : ℕ) (constants : List Constant) → ((label : ℕ) → place label ≡ None) → reserve_from place i constants ≡ constants_sum constants
+reserve_all place i [] none = refl
+reserve_all place i (c ∷ constants) none =
+    let rest = reserve_all place (suc i) constants none in
+    λ j. cond (is_some (none (first_constant + i) j)) 0 (length c.bytes + 16) + rest j
 
 -- ---- fewer that are due
 
@@ -49,26 +66,30 @@ fewer_from_due ds es h =
 
 -- ---- what is used up
 
--- bytes, with a veneer for each use that is pending
+-- bytes, with a veneer for each use that is pending and the constants that don't stand yet
 abbrev pub used : Buffer → ℕ
-used b = length (bytes_of b) + 8 * length (pending b)
+used b = length (bytes_of b) + 8 * length (pending b) + reserve_of (shape_of b)
 
 -- at most so many bytes and one inner label more
 pub record Uses (bytes : ℕ) (old new : Buffer) : Type 0 where
   pub size : used new ≤ used old + bytes
   pub allocated : allocated_of new ≤ allocated_of old + 1
 
-pub island_uses : (old new : Buffer) → AppendsIsland old new → Uses 14 old new
+pub island_uses : (old new : Buffer) → AppendsIsland old new → Uses 17 old new
 island_uses old new p = record {
   size = let none : length (pending new) ≡ 0 = ap length p.settled in let short = p.short in omega arith;
   allocated = let one = p.allocated in omega arith;
 }
 
-pub room_uses : (distance : ℕ) (old new : Buffer) (made : Bool) → IslandIfNeeded distance old new made → Uses 14 old new
+pub room_uses : (distance : ℕ) (old new : Buffer) (made : Bool) → IslandIfNeeded distance old new made → Uses 17 old new
 room_uses distance old new made m = ⊎_elim
-    (λ same. subst (λ (b : Buffer). Uses 14 old b) (sym same.1) (record { size = omega arith; allocated = omega arith }))
+    (λ same. subst (λ (b : Buffer). Uses 17 old b) (sym same.1) (record { size = omega arith; allocated = omega arith }))
     (λ put. island_uses old new put.1)
     m.put
+
+-- code puts no constant
+block_reserve : (context : Context) (inst : Inst) (old new : Buffer) → AppendsInst context inst old new → reserve_of (shape_of new) ≡ reserve_of (shape_of old)
+block_reserve context inst old new p = λ j. reserve_from (p.adds.places j) 0 (p.adds.registered j)
 
 pub emitted_uses : (context : Context) (inst : Inst) (old new : Buffer) → Appends context inst old new → IsBounded context inst old new → Uses 100 old new
 emitted_uses context (EmitIsland space) old new e bounds = let u = room_uses space old new e.0 e.1 in record { size = let s = u.size in omega arith; allocated = u.allocated }
@@ -77,20 +98,22 @@ emitted_uses context inst old new e bounds =
     let long = within.long in
     let few = within.waiting in
     let allocated = e.adds.allocated in
-    record { size = omega (arith, long, few); allocated = omega (arith, allocated) }
+    let reserve = block_reserve context inst old new e in
+    record { size = omega (arith, long, few, reserve); allocated = omega (arith, allocated) }
 
 -- ---- the loop's invariant
 
-pub sized_none : (context : Context) (b : Buffer) → bytes_of b ≡ [] → uses_of b ≡ [] → allocated_of b ≡ 0 → Sized context [] b
-sized_none context b bytes uses allocated =
+pub sized_none : (context : Context) (b : Buffer) → bytes_of b ≡ [] → uses_of b ≡ [] → ((label : ℕ) → place_of b label ≡ None) → registered_of b ≡ context.constants → allocated_of b ≡ 0 → Sized context [] b
+sized_none context b bytes uses places registered allocated =
     let none : pending b ≡ [] = ap (deadlines (waits (place_of b)) label_kinds) uses in
     let waiting : length (pending b) ≡ 0 = ap length none in
     let long : length (bytes_of b) ≡ 0 = ap length bytes in
-    record { reach = subst (CanReach (length (bytes_of b))) (sym none) tt; size = omega arith; allocated = omega arith }
+    let reserve : reserve_of (shape_of b) ≡ constants_sum context.constants = reserve_all (place_of b) 0 (registered_of b) places ∙ ap constants_sum registered in
+    record { reach = subst (CanReach (length (bytes_of b))) (sym none) tt; size = omega (arith, waiting, long, reserve); allocated = omega arith }
 
 inst_sized : (context : Context) (lines : List Line) (inst : Inst) (old new : Buffer) (span : LineSpan) → Sized context lines old → InstAppends context inst old new span → Sized context (lines ++ Put inst ∷ []) new
 inst_sized context lines inst old new span s p =
-    let room : Uses 14 old p.mid = room_uses line_space old p.mid p.made p.room in
+    let room : Uses 17 old p.mid = room_uses line_space old p.mid p.made p.room in
     let block : Uses 100 p.mid new = emitted_uses context inst p.mid new p.emitted p.bounds in
     let sum = sum_next context lines (Put inst) in
     let least = sum_least context (Put inst) in
@@ -109,10 +132,12 @@ bind_sized context lines label old new span s p =
     let few : length (pending new) ≤ length (pending old) = fewer_from_due (pending new) (pending old) p.fewer in
     let slack : HasSlack (length (bytes_of old)) 14 (pending new) = slack_same (length (bytes_of old)) 14 (pending old) (pending new) p.fewer (slack_from_reach (length (bytes_of old)) (pending old) s.reach) in
     let reach : CanReach (length (bytes_of old)) (pending new) = reach_from_slack (length (bytes_of old)) (pending new) slack in
+    let low = p.low in
+    let reserve = reserve_kept old new p.registered (λ k. p.kept (first_constant + k) (λ e. absurd (omega (arith, e, low)))) in
     let size = s.size in
     let allocated = s.allocated in
     let same = p.allocated in
-    record { reach = subst (λ n. CanReach n (pending new)) (sym long) reach; size = omega (arith, sum, long, few, size); allocated = omega (arith, sum, same, allocated) }
+    record { reach = subst (λ n. CanReach n (pending new)) (sym long) reach; size = omega (arith, sum, long, few, reserve, size); allocated = omega (arith, sum, same, allocated) }
 
 pub sized_next : (context : Context) (lines : List Line) (line : Line) (old new : Buffer) (span : LineSpan) → Sized context lines old → LineAppends context line old new span → Sized context (lines ++ line ∷ []) new
 sized_next context lines (Put inst) old new span s p = inst_sized context lines inst old new span s p

@@ -1,5 +1,6 @@
 -- What stands in the buffer is what the code reports of its lines: how long each span is, and what stands between two.
-use Rattle.std.proofs.Common.{◌≡◌, ℕ, zero, suc, ◌^◌, ◌<◌, ◌≤◌, List, [], ◌∷◌, length, sym, ap, subst, ◌∙◌, arith}
+use Rattle.std.proofs.Common.{◌≡◌, ℕ, zero, suc, ◌^◌, ◌<◌, ◌≤◌, List, [], ◌∷◌, length, map, sym, ap, subst, ◌∙◌, arith}
+use Rattle.rv_base.specs.declared.constant.Constant.{Constant}
 use Rattle.std.specs.List.{AllByRecursion}
 use Rattle.rv_inst.specs.Context.{context_of}
 use Rattle.rv_inst.specs.declared.inst.Line.{Line}
@@ -9,7 +10,9 @@ use Rattle.rv_inst.specs.declared.inst.Inst.TheVariants.{EmitIsland}
 use Rattle.rv_inst.specs.declared.job.Job.{Job}
 use Rattle.rv_inst.specs.declared.code.Code.{Code}
 use Rattle.rv_inst.specs.Sizes.{Island, extent_of}
+use Rattle.mach_buffer.specs.declared.records.ConstPlace.{ConstPlace}
 use Rattle.mach_buffer.specs.Buffer.{shape_of, bytes_of, traps_of}
+use Rattle.mach_buffer.specs.Constants.{HasConstants}
 use Rattle.rv_emit.specs.Emitted.{Buffer}
 use Rattle.rv_emit.specs.Puts.{AllBytes}
 use Rattle.rv_emit.specs.Standing.{IsFinishedTo}
@@ -23,7 +26,7 @@ all_bytes [] h k lt = absurd (omega arith)
 all_bytes (b ∷ bytes) h zero lt = h.0
 all_bytes (b ∷ bytes) h (suc k) lt = all_bytes bytes h.1 k (omega arith)
 
-module _ (job : Job) (code : Code) (b : Buffer) (built : LinesStand (context_of job) job.lines code.lines b) (f : IsFinishedTo (shape_of b) code.bytes) (small : length code.bytes ≤ 2 ^ 64) where
+module _ (job : Job) (code : Code) (b : Buffer) (built : LinesStand (context_of job) job.lines code.lines b) (f : IsFinishedTo (shape_of b) code.bytes) (constants : code.constants ≡ f.finishes.put.constants) (small : length code.bytes ≤ 2 ^ 64) where
   inst_sized : (inst : Inst) (start end : ℕ) → LineStands (context_of job) (Put inst) b start end → IsSized job.flags code.bytes (extent_of (context_of job) inst) start end
   inst_sized (EmitIsland space) start end (setting, (mid, gap, same), long) = subst (IsSized job.flags code.bytes (Island space) start) same (gap_is (context_of job) (shape_of b) code.bytes f small start mid gap)
   inst_sized inst start end (setting, parts, long) = long
@@ -43,5 +46,7 @@ module _ (job : Job) (code : Code) (b : Buffer) (built : LinesStand (context_of 
     none = λ e. end ∙ built.ends ∙ ap (end_before code.lines) e;
     within = omega arith;
     labels = labels;
+    constants = ap (map (λ (c : ConstPlace). c.constant)) constants ∙ f.finishes.listed ∙ built.named;
+    placed = subst (HasConstants job.constants code.bytes) (sym constants) (subst (λ (cs : List Constant). HasConstants cs code.bytes f.finishes.put.constants) built.registered f.finishes.constants);
     traps = traps ∙ built.traps;
   }

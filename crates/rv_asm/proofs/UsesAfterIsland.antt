@@ -1,5 +1,5 @@
 -- The uses after which no island stands: whose they are, how far they reach, and how many.
-use Rattle.std.proofs.Common.{◌≡◌, ℕ, zero, suc, ◌+◌, ◌*◌, ◌<◌, ◌≤◌, Bool, true, false, cond, not, ◌&&◌, ◌||◌, List, [], ◌∷◌, ◌++◌, length, take, drop, Option, Some, None, refl, ap, sym, ◌∙◌, subst, arith}
+use Rattle.std.proofs.Common.{◌≡◌, ℕ, zero, suc, ◌+◌, ◌*◌, ◌<◌, ◌≤◌, ◌⊎◌, inl, inr, ⊎_elim, Bool, true, false, cond, not, ◌&&◌, ◌||◌, List, [], ◌∷◌, ◌++◌, length, take, drop, Option, Some, None, refl, ap, sym, ◌∙◌, subst, arith}
 use Rattle.std.specs.Prelude.{slice_get, nat_lt, is_none}
 use Rattle.std.specs.List.{list_any}
 use Rattle.std.proofs.lemmas.Bool.{true≢false, ltb-true, leb-false, or_parts}
@@ -17,11 +17,12 @@ use Rattle.rv_inst.specs.declared.label_use.LabelUse.{LabelUse}
 use Rattle.rv_inst.specs.declared.label_use.LabelUse.TheVariants.{Jal20, B12, PCRelLo12I}
 use Rattle.rv_inst.specs.Operands.{targets_of, ways_of, inst_ways, inst_labels}
 use Rattle.rv_inst.specs.declared.targets.Targets.{Targets}
-use Rattle.rv_inst.specs.declared.targets.Targets.TheVariants.{Nowhere, Jumps, Branches, Refers}
+use Rattle.rv_inst.specs.declared.targets.Targets.TheVariants.{Nowhere, Jumps, Branches, Refers, RefersConstant}
+use Rattle.mach_buffer.specs.Shape.{constant_label}
 use Rattle.rv_inst.specs.LabelUse.{label_kinds, has_veneer_of}
 use Rattle.rv_inst.specs.declared.error.Rule.TheVariants as rule_of
 use Rattle.rv_inst.proofs.Rules.{breaks_none}
-use Rattle.rv_inst.specs.Rules.{inst_rule, is_buffer_label, is_virtual, is_misplaced, is_reserved, has_bad_type, is_out_of_range, lacks_target}
+use Rattle.rv_inst.specs.Rules.{inst_rule, is_buffer_label}
 use Rattle.mach_buffer.specs.declared.uses.Use.{Use}
 use Rattle.mach_buffer.specs.Reach.{deadline, deadlines, due_by, is_needed, is_needed_from, is_reached}
 use Rattle.mach_buffer.specs.Buffer.{bytes_of, place_of}
@@ -33,7 +34,7 @@ use Rattle.rv_asm.specs.Reported.{start_of}
 use Rattle.rv_inst.specs.Uses.{least_reach}
 use Rattle.rv_asm.specs.Reach.{way_count, last_island, first_after_island, uses_from, bound_by, pending_deadlines, IsDue}
 use Rattle.rv_asm.specs.AfterLastIsland.{uses_after_island, AfterLastIsland}
-use Rattle.rv_asm.proofs.LabelNames.{uses_labels}
+use Rattle.rv_asm.proofs.LabelNames.{IsOf, uses_labels}
 use Rattle.rv_asm.proofs.FirstLines.{last_open}
 
 -- ---- the uses of one instruction
@@ -51,6 +52,8 @@ uses_least context start inst = on (targets_of inst)
         each_more (λ u. start + 4094 ≤ deadline label_kinds u) _ (use_at (start + 4) f Jal20 ∷ []) (omega arith) (each_more (λ u. start + 4094 ≤ deadline label_kinds u) _ [] (omega arith) (each_none _))
     on (Refers label) =
         each_more (λ u. start + 1048574 ≤ deadline label_kinds u) _ (use_at (start + 4) label PCRelLo12I ∷ []) (omega arith) (each_more (λ u. start + 1048574 ≤ deadline label_kinds u) _ [] (omega arith) (each_none _))
+    on (RefersConstant k) =
+        each_more (λ u. start + 1048574 ≤ deadline label_kinds u) _ (use_at (start + 4) (constant_label k) PCRelLo12I ∷ []) (omega arith) (each_more (λ u. start + 1048574 ≤ deadline label_kinds u) _ [] (omega arith) (each_none _))
 
 -- one that may go by a veneer goes to a label
 uses_ways : (context : Context) (start : ℕ) (inst : Inst) → Each (λ u. has_veneer_of u.kind ≡ true → 1 ≤ length (inst_ways inst)) (uses_in context start inst)
@@ -65,6 +68,8 @@ uses_ways context start inst = on (targets_of inst)
         each_more (λ u. has_veneer_of u.kind ≡ true → 1 ≤ 2) _ (use_at (start + 4) f Jal20 ∷ []) (λ e. omega arith) (each_more (λ u. has_veneer_of u.kind ≡ true → 1 ≤ 2) _ [] (λ e. omega arith) (each_none _))
     on (Refers label) =
         each_more (λ u. has_veneer_of u.kind ≡ true → 1 ≤ 0) _ (use_at (start + 4) label PCRelLo12I ∷ []) (λ e. absurd (cc)) (each_more (λ u. has_veneer_of u.kind ≡ true → 1 ≤ 0) _ [] (λ e. absurd (cc)) (each_none _))
+    on (RefersConstant k) =
+        each_more (λ u. has_veneer_of u.kind ≡ true → 1 ≤ 0) _ (use_at (start + 4) (constant_label k) PCRelLo12I ∷ []) (λ e. absurd (cc)) (each_more (λ u. has_veneer_of u.kind ≡ true → 1 ≤ 0) _ [] (λ e. absurd (cc)) (each_none _))
 
 -- no more are pending than it goes to labels
 few_ways : (context : Context) (place : ℕ → Option ℕ) (start : ℕ) (inst : Inst) → length (deadlines (waits place) label_kinds (uses_in context start inst)) ≤ length (inst_ways inst)
@@ -80,6 +85,7 @@ few_ways context place start inst = on (targets_of inst)
     on (Branches (Label t) Fallthrough) = of_uses (use_at start t B12 ∷ []) 1 (omega arith)
     on (Branches (Label t) (Label f)) = of_uses (use_at start t B12 ∷ use_at (start + 4) f Jal20 ∷ []) 2 (omega arith)
     on (Refers label) = omega arith
+    on (RefersConstant k) = omega arith
 
 skip : (c : Bool) (rule : Rule) (rest : Option Rule) → cond c (Some rule) rest ≡ None → rest ≡ None
 skip true rule rest h = absurd (cc)
@@ -96,13 +102,16 @@ any_none f (x ∷ xs) h = let parts = or_parts (f x) (list_any f xs) h in each_m
 labels_outer : (context : Context) (inst : Inst) → inst_rule context inst ≡ None → list_any is_buffer_label (inst_labels inst) ≡ false
 labels_outer context inst rule = breaks_none context inst rule rule_of.Label
 
--- each names a label of the listing's
-uses_outer : (context : Context) (start : ℕ) (inst : Inst) → inst_rule context inst ≡ None → Each (λ u. u.label.number < first_inner) (uses_in context start inst)
-uses_outer context start inst rule j u h =
-    let named = uses_labels context start inst j u h in
+-- a label that a line names is one of the listing's
+label_outer : (context : Context) (inst : Inst) (label : ℕ) → inst_rule context inst ≡ None → IsOf (inst_labels inst) label → label < first_inner
+label_outer context inst label rule named =
     let outer : is_buffer_label named.label ≡ false = any_none is_buffer_label (inst_labels inst) (labels_outer context inst rule) named.place named.label named.names in
     let low : named.label.number < first_inner = leb-false _ _ outer in
     subst (λ n. n < first_inner) named.is low
+
+-- each names a label of the listing's, or goes by no veneer
+uses_outer : (context : Context) (start : ℕ) (inst : Inst) → inst_rule context inst ≡ None → Each (λ u. (u.label.number < first_inner) ⊎ (has_veneer_of u.kind ≡ false)) (uses_in context start inst)
+uses_outer context start inst rule j u h = ⊎_elim (λ named. inl (label_outer context inst u.label.number rule named)) (λ high. inr high.1) (uses_labels context start inst j u h)
 
 -- ---- the uses of lines
 
@@ -183,9 +192,14 @@ pending_waiting context lines spans b s =
         let start = start_of spans (first_after_island context lines spans (length lines) + f.index) in
         let bare : u.veneer ≡ None = uses_bare context start f.inst f.place u f.own in
         let rule : inst_rule context f.inst ≡ None = s.ruled (first_after_island context lines spans (length lines) + f.index) (Put f.inst) (get_drop lines (first_after_island context lines spans (length lines)) f.index (Put f.inst) f.there) in
-        let low : u.label.number < first_inner = uses_outer context start f.inst rule f.place u f.own in
+        ⊎_elim
+        (λ low.
         let place : place_of b u.label.number ≡ bound_by spans 0 lines u.label.number = s.places u.label.number low in
-        λ i. has_veneer_of u.kind && (is_none (bare i) && not (is_reached label_kinds (place i) u))
+        λ i. has_veneer_of u.kind && (is_none (bare i) && not (is_reached label_kinds (place i) u)))
+        (λ none.
+        (λ i. none i && (is_none u.veneer && not (is_reached label_kinds (place_of b u.label.number) u)))
+        ∙ sym (λ i. none i && not (is_reached label_kinds (bound_by spans 0 lines u.label.number) u)))
+        (uses_outer context start f.inst rule f.place u f.own)
 
 -- ---- an island that is needed
 

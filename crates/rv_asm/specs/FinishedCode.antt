@@ -19,6 +19,7 @@ pub record IsFinished (context : Context) (lines : List Line) (code : Code) : Ty
   pub reach : ReachesOn context lines code.lines
   pub ready : CanFinish label_kinds (shape_of sink)
   pub finished : Finishes label_kinds (shape_of sink) code.bytes
+  pub constants : code.constants ≡ finished.put.constants
   pub labels : code.labels ≡ labels_of sink
   pub traps : code.traps ≡ traps_of sink
   pub end : code.end ≡ length (bytes_of sink)

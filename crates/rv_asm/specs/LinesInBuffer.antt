@@ -4,7 +4,7 @@ use Rattle.std.specs.Prelude.{◌≡◌, ◌≢◌, ℕ, ◌+◌, ◌*◌, ◌%�
 use Rattle.rv_base.specs.declared.label.MachLabel.{MachLabel}
 use Rattle.rv_base.specs.Frame.{sp_to_args_end}
 use Rattle.rv_base.specs.LabelUse.{code_limit}
-use Rattle.mach_labels.specs.Table.{first_inner}
+use Rattle.mach_labels.specs.Table.{first_inner, first_constant}
 use Rattle.rv_inst.specs.Context.{Context}
 use Rattle.rv_inst.specs.declared.inst.Line.{Line}
 use Rattle.rv_inst.specs.declared.inst.Line.TheVariants.{Inst as Put, Bind}
@@ -16,8 +16,9 @@ use Rattle.rv_inst.specs.Rules.{broken_rule}
 use Rattle.rv_inst.specs.LabelUse.{label_kinds, has_veneer_of}
 use Rattle.mach_buffer.specs.declared.uses.Use.{Use}
 use Rattle.mach_buffer.specs.Reach.{CanReach, due_by}
-use Rattle.mach_buffer.specs.Buffer.{shape_of, bytes_of, uses_of, place_of, labels_of, allocated_of, traps_of}
+use Rattle.mach_buffer.specs.Buffer.{shape_of, bytes_of, uses_of, place_of, labels_of, allocated_of, traps_of, registered_of, named_of, constants_of}
 use Rattle.mach_buffer.specs.Shape.{listed}
+use Rattle.mach_buffer.specs.Constants.{reserve_of, AllStand}
 use Rattle.mach_buffer.specs.Islands.{is_far}
 use Rattle.rv_emit.specs.Emitted.{Buffer, IsSoundBuffer, HasWindows, pending, IslandIfNeeded, IsBounded}
 use Rattle.rv_emit.specs.Emission.{EmitsIn}
@@ -26,7 +27,7 @@ use Rattle.rv_emit.specs.Standing.{GapStandsIn, PartsIn}
 use Rattle.rv_emit.specs.declared.state.EmitVState.{EmitVState}
 use Rattle.rv_emit.specs.declared.state.EmitVState.TheVariants.{Unknown}
 use Rattle.rv_emit.specs.State.{setting_after, setting_beyond}
-use Rattle.rv_asm.specs.Reported.{start_of, end_of, end_before, binds_from, traps_from}
+use Rattle.rv_asm.specs.Reported.{start_of, end_of, end_before, binds_from, traps_from, constants_named}
 use Rattle.rv_asm.specs.Refusal.{binds, is_bound, size_sum}
 use Rattle.rv_inst.specs.Sizes.{Extent, Words, Island, extent_of, line_space, line_sum}
 
@@ -49,7 +50,7 @@ pub record StandsAfter (context : Context) (line : Line) (b : Buffer) (before st
   pub even : start % 2 ≡ 0
   pub within : start ≤ length (bytes_of b)
 
--- each line stands at its span, and before it nothing or an island
+-- each line stands at its span, and before it nothing or an island; and the constants that islands took with them stand
 pub record LinesStand (context : Context) (lines : List Line) (spans : List LineSpan) (b : Buffer) : Type 0 where
   pub count : length spans ≡ length lines
   pub indices : (i : ℕ) (s : LineSpan) → slice_get spans i ≡ Some s → s.index ≡ i
@@ -58,6 +59,9 @@ pub record LinesStand (context : Context) (lines : List Line) (spans : List Line
   pub first : start_of spans 0 ≡ 0
   pub nothing : length lines ≡ 0 → uses_of b ≡ []
   pub traps : traps_of b ≡ traps_from spans 0 lines
+  pub registered : registered_of b ≡ context.constants
+  pub named : named_of b ≡ constants_named lines
+  pub stand : AllStand label_kinds (shape_of b)
   pub windows : HasWindows b
   pub sound : IsSoundBuffer b
 
@@ -73,19 +77,21 @@ pub record IsNamed (lines : List Line) (number : ℕ) : Type 0 where
   pub names : slice_get (named_labels line) place ≡ Some label
   pub is : label.number ≡ number
 
--- the labels that are bound are those of binds; each use may go by a veneer or reaches all code, and its label is named by a line or bound
+-- the labels that are bound are those of binds; each use may go by a veneer or reaches all code, and its label is bound, named by
+-- a line, or among those of constants
 pub record Named (lines : List Line) (spans : List LineSpan) (b : Buffer) : Type 0 where
   pub labels : labels_of b ≡ binds_from spans 0 lines
   pub unbound : (label : ℕ) → label < first_inner → is_bound lines label ≡ false → place_of b label ≡ None
   pub kinds : (j : ℕ) (u : Use LabelUse) → slice_get (uses_of b) j ≡ Some u → (has_veneer_of u.kind ≡ true) ⊎ (is_far label_kinds u ≡ true)
-  pub named : (j : ℕ) (u : Use LabelUse) → slice_get (uses_of b) j ≡ Some u → (is_some (place_of b u.label.number) ≡ true) ⊎ IsNamed lines u.label.number
+  pub named : (j : ℕ) (u : Use LabelUse) → slice_get (uses_of b) j ≡ Some u → (is_some (place_of b u.label.number) ≡ true) ⊎ IsNamed lines u.label.number ⊎ (first_constant ≤ u.label.number)
 
 -- ---- reach and room
 
--- Reach holds, and the bytes with a veneer for each pending use are within the size of the lines
+-- Reach holds, and the bytes with a veneer for each pending use and the constants that don't stand yet are within the size of
+-- lines and constants
 pub record Sized (context : Context) (lines : List Line) (b : Buffer) : Type 0 where
   pub reach : CanReach (length (bytes_of b)) (pending b)
-  pub size : length (bytes_of b) + 8 * length (pending b) ≤ size_sum context lines
+  pub size : length (bytes_of b) + 8 * length (pending b) + reserve_of (shape_of b) ≤ size_sum context lines
   pub allocated : 64 * allocated_of b ≤ size_sum context lines
 
 -- ---- one line more
@@ -97,7 +103,7 @@ pub record CanPut (context : Context) (line : Line) (b : Buffer) : Type 0 where
   pub sound : IsSoundBuffer b
   pub reach : CanReach (length (bytes_of b)) (pending b)
   pub few : allocated_of b + 1 < 2 ^ 29
-  pub room : length (bytes_of b) + 8 * length (pending b) + line_sum context line + 46 < code_limit
+  pub room : length (bytes_of b) + 8 * length (pending b) + reserve_of (shape_of b) + line_sum context line + 49 < code_limit
   pub unbound : (label : ℕ) → binds line label ≡ true → place_of b label ≡ None
 
 -- an instruction was put, after an island where one was needed
@@ -113,6 +119,7 @@ pub record InstPut (context : Context) (setting : EmitVState) (inst : Inst) (old
 
 -- a label was bound
 pub record BindPut (label : MachLabel) (old new : Buffer) (span : LineSpan) : Type 0 where
+  pub low : label.number < first_inner
   pub bound : place_of new label.number ≡ Some (length (bytes_of old))
   pub kept : (other : ℕ) → other ≢ label.number → place_of new other ≡ place_of old other
   pub unbound : place_of old label.number ≡ None
@@ -121,6 +128,9 @@ pub record BindPut (label : MachLabel) (old new : Buffer) (span : LineSpan) : Ty
   pub uses : uses_of new ≡ uses_of old
   pub allocated : allocated_of new ≡ allocated_of old
   pub traps : traps_of new ≡ traps_of old
+  pub registered : registered_of new ≡ registered_of old
+  pub named : named_of new ≡ named_of old
+  pub constants : constants_of new ≡ constants_of old
   pub fewer : (end : ℕ) → due_by end (pending new) ≤ due_by end (pending old)
   pub sound : IsSoundBuffer new
   pub start : span.start ≡ length (bytes_of old)

@@ -105,7 +105,7 @@ ReachesOn context lines spans = (n : ℕ) → n ≤ length lines → CanReach (e
 
 -- ---- all of it
 
--- no island is early, Reach holds after every line, and the code is no longer than its lines allow
+-- no island is early, Reach holds after every line, and the code is no longer than its lines and constants allow
 pub record InReach (job : Job) (code : Code) : Type 0 where
   pub early : NotEarly (context_of job) job.lines code.lines
   pub reach : ReachesOn (context_of job) job.lines code.lines

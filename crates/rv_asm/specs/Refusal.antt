@@ -1,6 +1,7 @@
 -- Why a job is refused: the first cause, in the order in which the causes are looked for.
-use Rattle.std.specs.Prelude.{◌≡◌, ℕ, suc, ◌+◌, ◌^◌, Bool, false, ◌||◌, ◌&&◌, ◌==◌, nat_eq, nat_lt, nat_le, if◌then◌else◌, List, [], ◌∷◌, Option, Some, None, Result, Ok, Err}
+use Rattle.std.specs.Prelude.{◌≡◌, ℕ, suc, ◌+◌, ◌^◌, Bool, false, ◌||◌, ◌&&◌, ◌==◌, nat_eq, nat_lt, nat_le, if◌then◌else◌, List, [], ◌∷◌, length, Option, Some, None, Result, Ok, Err}
 use Rattle.std.specs.List.{list_any}
+use Rattle.rv_base.specs.declared.constant.Constant.{Constant}
 use Rattle.rv_base.specs.declared.frame.FrameLayout.{FrameLayout}
 use Rattle.rv_base.specs.declared.label.MachLabel.{MachLabel}
 use Rattle.rv_base.specs.declared.regs.PReg.{PReg}
@@ -70,16 +71,25 @@ abbrev pub unbound_in : (ℕ → Bool) → List Line → Option EmitError
 unbound_in bound [] = None
 unbound_in bound (line ∷ lines) = first_of (unbound_among bound (named_labels line)) (unbound_in bound lines)
 
--- the bytes that lines count for, which their code doesn't pass
-abbrev pub size_sum : Context → List Line → ℕ
-size_sum context [] = 0
-size_sum context (line ∷ lines) = line_sum context line + size_sum context lines
+-- the bytes that constants count for: of each its own, and 16 that its alignment may take
+abbrev pub constants_sum : List Constant → ℕ
+constants_sum [] = 0
+constants_sum (c ∷ constants) = length c.bytes + 16 + constants_sum constants
 
--- lines count for at most this many bytes, which is well below the limit of code
+-- and those that lines do
+abbrev pub lines_sum : Context → List Line → ℕ
+lines_sum context [] = 0
+lines_sum context (line ∷ lines) = line_sum context line + lines_sum context lines
+
+-- the bytes that lines and all constants count for, which their code doesn't pass
+abbrev pub size_sum : Context → List Line → ℕ
+size_sum context lines = constants_sum context.constants + lines_sum context lines
+
+-- they count for at most this many bytes, which is well below the limit of code
 abbrev pub size_limit : ℕ
 size_limit = 2 ^ 30
 
--- lines that count for more than branches and spans are sure to take
+-- lines and constants that count for more than branches and spans are sure to take
 abbrev pub too_large : Context → List Line → Option EmitError
 too_large context lines = if nat_lt size_limit (size_sum context lines) then Some TooLarge else None
 

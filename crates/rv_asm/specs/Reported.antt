@@ -1,16 +1,21 @@
 -- What the code reports of its lines.
-use Rattle.std.specs.Prelude.{◌≡◌, ℕ, zero, suc, ◌+◌, ◌<◌, ◌≤◌, ◌⊎◌, List, [], ◌∷◌, ◌++◌, length, slice_get, Some, option_map, unwrap_or}
+use Rattle.std.specs.Prelude.{◌≡◌, ℕ, zero, suc, ◌+◌, ◌<◌, ◌≤◌, ◌⊎◌, List, [], ◌∷◌, ◌++◌, length, map, slice_get, Option, Some, None, option_map, unwrap_or}
+use Rattle.rv_base.specs.declared.constant.VCodeConstant.{VCodeConstant}
 use Rattle.rv_inst.specs.Context.{Context, context_of}
 use Rattle.rv_inst.specs.declared.inst.Line.{Line}
 use Rattle.rv_inst.specs.declared.inst.Line.TheVariants.{Inst as Put, Bind}
 use Rattle.rv_inst.specs.declared.job.Job.{Job}
 use Rattle.rv_inst.specs.Islands.{IsIsland}
+use Rattle.rv_inst.specs.Operands.{inst_constant}
 use Rattle.rv_inst.specs.Sizes.{Extent, Words, Island, extent_of}
 use Rattle.rv_base.specs.declared.flags.IsaFlags.{IsaFlags}
 use Rattle.rv_inst.specs.declared.code.Code.{Code}
 use Rattle.rv_inst.specs.declared.code.LineSpan.{LineSpan}
 use Rattle.mach_buffer.specs.declared.uses.LabelPlace.{LabelPlace}
 use Rattle.mach_buffer.specs.declared.records.MachTrap.{MachTrap}
+use Rattle.mach_buffer.specs.declared.records.ConstPlace.{ConstPlace}
+use Rattle.mach_buffer.specs.Shape.{name_more}
+use Rattle.mach_buffer.specs.Constants.{HasConstants}
 use Rattle.rv_inst.specs.Traps.{inst_traps}
 
 abbrev pub start_of : List LineSpan → ℕ → ℕ
@@ -40,6 +45,25 @@ abbrev pub traps_from : List LineSpan → ℕ → List Line → List MachTrap
 traps_from spans i [] = []
 traps_from spans i (line ∷ lines) = line_traps (start_of spans i) (end_of spans i) line ++ traps_from spans (suc i) lines
 
+-- the constant that a line names
+abbrev pub line_constant : Line → Option VCodeConstant
+line_constant (Put inst) = inst_constant inst
+line_constant (Bind label) = None
+
+-- a constant that is named comes after those that were, unless it is one of them
+abbrev pub with_constant : Option VCodeConstant → List VCodeConstant → List VCodeConstant
+with_constant None named = named
+with_constant (Some k) named = name_more k named
+
+-- constants that were named, and those that these lines name
+abbrev pub constants_after : List VCodeConstant → List Line → List VCodeConstant
+constants_after named [] = named
+constants_after named (line ∷ lines) = constants_after (with_constant (line_constant line) named) lines
+
+-- the constants that lines name, each once, in the order of their first use
+abbrev pub constants_named : List Line → List VCodeConstant
+constants_named lines = constants_after [] lines
+
 -- nothing stands between two offsets, or an island
 abbrev pub IsGap : IsaFlags → List ℕ → ℕ → ℕ → Type 0
 IsGap flags bytes from to = (from ≡ to) ⊎ IsIsland flags bytes from to
@@ -55,7 +79,9 @@ IsSpan context bytes (Put inst) start end = IsSized context.flags bytes (extent_
 IsSpan context bytes (Bind label) start end = end ≡ start
 
 -- Every line has one span, in order, as long as the line. The first starts at 0; between two stands nothing, or an island.
--- The code's end is that of the last line, its labels are the binds, and its traps are those of the lines.
+-- The code's end is that of the last line, its labels are the binds, and its traps are those of the lines. Each constant that a
+-- line names has one offset, a multiple of its alignment, at which its bytes stand, and no other constant has one; they are in
+-- the order of their first use.
 pub record Reported (job : Job) (code : Code) : Type 0 where
   pub count : length code.lines ≡ length job.lines
   pub indices : (i : ℕ) (span : LineSpan) → slice_get code.lines i ≡ Some span → span.index ≡ i
@@ -66,4 +92,6 @@ pub record Reported (job : Job) (code : Code) : Type 0 where
   pub none : length job.lines ≡ 0 → code.end ≡ 0
   pub within : code.end ≤ length code.bytes
   pub labels : code.labels ≡ binds_from code.lines 0 job.lines
+  pub constants : map (λ (c : ConstPlace). c.constant) code.constants ≡ constants_named job.lines
+  pub placed : HasConstants job.constants code.bytes code.constants
   pub traps : code.traps ≡ traps_from code.lines 0 job.lines

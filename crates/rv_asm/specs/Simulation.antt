@@ -1,8 +1,9 @@
 -- What it is for code to run as its job says.
-use Rattle.std.specs.Prelude.{◌≡◌, ℕ, suc, ◌+◌, ◌%◌, ◌^◌, ◌<◌, ◌≤◌, nat_eq, nat_lt, if◌then◌else◌, List, [], ◌∷◌, length, slice_get, slice_index, Some, None}
+use Rattle.std.specs.Prelude.{◌≡◌, ℕ, suc, ◌+◌, ◌%◌, ◌^◌, ◌<◌, ◌≤◌, nat_eq, nat_lt, if◌then◌else◌, List, [], ◌∷◌, length, slice_get, slice_index, Some, None, unwrap_or}
 use Rattle.std.specs.FinMap.{FinMap}
 use Rattle.std.specs.Ordering.{nat_cmp}
 use Rattle.rv_base.specs.declared.trap.TrapCode.{TrapCode}
+use Rattle.mach_buffer.specs.Constants.{offset_in}
 use Rattle.rv_inst.specs.Traps.{IsRecorded}
 use Rattle.rv_inst.specs.declared.inst.Line.{Line}
 use Rattle.rv_inst.specs.declared.inst.Line.TheVariants.{Inst as Put, Bind}
@@ -53,9 +54,10 @@ Leads lines code i Break q = q ≡ Stop i
 Leads lines code i (Trap cause) q = (at : ℕ) × (q ≡ Trapped i at) × IsTrapOf code i at cause
 Leads lines code i Data q = q ≡ InData i
 
--- what a line is read among, for code that stands at a base: a label has the address of the first line that binds it
+-- what a line is read among, for code that stands at a base: a label has the address of the first line that binds it, and a
+-- constant that of its offset
 abbrev pub environment_of : Job → Code → ℕ → ℕ → Environment
-environment_of job code base i = record { start = wrap (base + start_of code.lines i); after = wrap (base + end_of code.lines i); label = λ label. wrap (base + start_of code.lines (binding_line job.lines label)); frame = job.frame }
+environment_of job code base i = record { start = wrap (base + start_of code.lines i); after = wrap (base + end_of code.lines i); label = λ label. wrap (base + start_of code.lines (binding_line job.lines label)); constant = λ number. wrap (base + unwrap_or (offset_in code.constants number) 0); frame = job.frame }
 
 -- a line writes no byte of the code, which stands at a base
 abbrev pub WritesOutside : Job → Code → ℕ → ℕ → Line → Values → Type 0

@@ -1,6 +1,6 @@
 //! From lines to the code that runs as they say.
 
-ghost use Rattle.std.specs.Prelude.{◌≡◌, ℕ, ◌^◌, ◌<◌, [], None, IfOk, OnOk};
+ghost use Rattle.std.specs.Prelude.{◌≡◌, ℕ, ◌^◌, ◌<◌, None, IfOk, OnOk};
 ghost use Rattle.rv_base.specs.declared.flags.IsaFlags.{IsaFlags};
 ghost use Rattle.rv_base.specs.Frame.{sp_to_args_end};
 ghost use Rattle.rv_base.specs.Flags.{no_flags};
@@ -23,7 +23,7 @@ use rv_emit::{EmitInfo, EmitState, MachInstEmitState};
 use rv_inst::{Code, EmitError, LabelUse, Line};
 use std::alloc::Global;
 
-/// The code of a listing, which runs as its lines say. Every flag is off, and there are no constants.
+/// The code of a listing, which runs as its lines say. Every flag is off.
 pub fn assemble(
     alloc: Global,
     lines: &[Line],
@@ -32,7 +32,6 @@ pub fn assemble(
     constants: &[Constant],
 ) -> Result<Code, EmitError>
     requires flags { flags ≡ no_flags }
-    requires constants { constants.now ≡ [] }
     ensures reported { IfOk result (λ code. Reported (job_of lines.now flags frame.now constants.now) code) }
     ensures runs { IfOk result (λ code. RunsAsListed (job_of lines.now flags frame.now constants.now) code) }
     ensures reach { IfOk result (λ code. InReach (job_of lines.now flags frame.now constants.now) code) }
@@ -58,9 +57,8 @@ fn build(
     constants: &[Constant],
 ) -> Result<Code, OutOfMemory>
     requires frame { sp_to_args_end frame.now < 2 ^ 31 }
-    requires accepted { lines_refusal (context_by flags frame.now []) lines.now ≡ None }
-    requires constants { constants.now ≡ [] }
-    ensures { IfOk result (IsFinished (context_by flags frame.now []) lines.now) }
+    requires accepted { lines_refusal (context_by flags frame.now constants.now) lines.now ≡ None }
+    ensures { IfOk result (IsFinished (context_by flags frame.now constants.now) lines.now) }
 {
     let info = EmitInfo::new(flags);
     let mut state = EmitState::new(copy_of(alloc, frame)?);
@@ -77,6 +75,7 @@ fn build(
         bytes: finished.bytes,
         lines: List::from_vec(spans),
         labels: finished.labels,
+        constants: finished.constants,
         traps: finished.traps,
         end,
     })

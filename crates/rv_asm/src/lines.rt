@@ -1,12 +1,13 @@
 //! One line after another into the buffer.
 
-ghost use Rattle.std.specs.Prelude.{◌≡◌, [], ◌+◌, ◌*◌, ◌<◌, length, IfOk, OnOk, None};
+ghost use Rattle.std.specs.Prelude.{◌≡◌, ◌+◌, ◌*◌, ◌<◌, length, IfOk, OnOk, None};
 ghost use Rattle.rv_base.specs.LabelUse.{code_limit};
 ghost use Rattle.rv_inst.specs.declared.inst.Line.TheVariants.{Inst as Put, Bind};
 ghost use Rattle.rv_inst.specs.Context.{context_by};
 ghost use Rattle.rv_inst.specs.Sizes.{line_space};
 ghost use Rattle.mach_buffer.specs.Reach.{CanReach, is_needed};
-ghost use Rattle.mach_buffer.specs.Buffer.{bytes_of, allocated_of, place_of};
+ghost use Rattle.mach_buffer.specs.Buffer.{shape_of, bytes_of, allocated_of, place_of, registered_of};
+ghost use Rattle.mach_buffer.specs.Constants.{reserve_of};
 ghost use Rattle.mach_buffer.specs.Shape.{inner_count};
 ghost use Rattle.mach_labels.specs.Table.{first_inner};
 ghost use Rattle.rv_emit.specs.Emitted.{IsSoundBuffer, pending, IslandIfNeeded, CanEmit, IsBounded};
@@ -33,9 +34,9 @@ pub fn put_line(
     index: usize,
     line: &Line,
 ) -> Result<LineSpan, OutOfMemory>
-    requires { CanPut (context_by info.now.isa_flags state.old.frame []) line.now sink.old }
+    requires { CanPut (context_by info.now.isa_flags state.old.frame (registered_of sink.old)) line.now sink.old }
     ensures index { IfOk result (λ span. span.index ≡ index) }
-    ensures put { IfOk result (λ span. LinePut (context_by info.now.isa_flags state.old.frame []) state.old.vstate line.now sink.old sink.new span) }
+    ensures put { IfOk result (λ span. LinePut (context_by info.now.isa_flags state.old.frame (registered_of sink.old)) state.old.vstate line.now sink.old sink.new span) }
     ensures frame { state.new.frame ≡ state.old.frame }
     ensures setting { OnOk result (state.new.vstate ≡ line_setting (is_needed (length (bytes_of sink.old)) line_space (pending sink.old)) line.now state.old.vstate) }
 {
@@ -79,9 +80,9 @@ fn put_inst(
     index: usize,
     inst: &Inst,
 ) -> Result<LineSpan, OutOfMemory>
-    requires { CanPut (context_by info.now.isa_flags state.old.frame []) (Put inst.now) sink.old }
+    requires { CanPut (context_by info.now.isa_flags state.old.frame (registered_of sink.old)) (Put inst.now) sink.old }
     ensures index { IfOk result (λ span. span.index ≡ index) }
-    ensures put { IfOk result (λ span. InstPut (context_by info.now.isa_flags state.old.frame []) state.old.vstate inst.now sink.old sink.new span) }
+    ensures put { IfOk result (λ span. InstPut (context_by info.now.isa_flags state.old.frame (registered_of sink.old)) state.old.vstate inst.now sink.old sink.new span) }
     ensures frame { state.new.frame ≡ state.old.frame }
     ensures setting { OnOk result (state.new.vstate ≡ setting_after inst.now (setting_beyond (is_needed (length (bytes_of sink.old)) line_space (pending sink.old)) state.old.vstate)) }
 {
@@ -100,7 +101,7 @@ fn emit_needed_island(
     requires sound { IsSoundBuffer sink.old }
     requires reach { CanReach (length (bytes_of sink.old)) (pending sink.old) }
     requires few { allocated_of sink.old < inner_count }
-    requires room { length (bytes_of sink.old) + 8 * length (pending sink.old) + 32 < code_limit }
+    requires room { length (bytes_of sink.old) + reserve_of (shape_of sink.old) + 8 * length (pending sink.old) + 32 < code_limit }
     ensures room { IfOk result (λ made. IslandIfNeeded line_space sink.old sink.new made) }
     ensures frame { state.new.frame ≡ state.old.frame }
     ensures setting { OnOk result (state.new.vstate ≡ setting_beyond (is_needed (length (bytes_of sink.old)) line_space (pending sink.old)) state.old.vstate) }
@@ -120,9 +121,9 @@ fn emit(
     state: &mut EmitState,
     inst: &Inst,
 ) -> Result<(), OutOfMemory>
-    requires { CanEmit (context_by info.now.isa_flags state.old.frame []) inst.now sink.old }
-    ensures emitted { OnOk result (EmitsIn (context_by info.now.isa_flags state.old.frame []) state.old.vstate inst.now sink.old sink.new) }
-    ensures bounds { OnOk result (IsBounded (context_by info.now.isa_flags state.old.frame []) inst.now sink.old sink.new) }
+    requires { CanEmit (context_by info.now.isa_flags state.old.frame (registered_of sink.old)) inst.now sink.old }
+    ensures emitted { OnOk result (EmitsIn (context_by info.now.isa_flags state.old.frame (registered_of sink.old)) state.old.vstate inst.now sink.old sink.new) }
+    ensures bounds { OnOk result (IsBounded (context_by info.now.isa_flags state.old.frame (registered_of sink.old)) inst.now sink.old sink.new) }
     ensures reach { OnOk result (CanReach (length (bytes_of sink.new)) (pending sink.new)) }
     ensures frame { state.new.frame ≡ state.old.frame }
     ensures setting { OnOk result (state.new.vstate ≡ setting_after inst.now state.old.vstate) }

@@ -2,9 +2,9 @@
 
 ghost use Rattle.std.specs.List.{AllByRecursion};
 ghost use Rattle.std.specs.Prelude.{◌<◌, ◌^◌};
-ghost use Rattle.rv_listing.specs.CodeRanges.{SpanFits, LabelFits, TrapFits, CodeFits};
+ghost use Rattle.rv_listing.specs.CodeRanges.{SpanFits, LabelFits, ConstFits, TrapFits, CodeFits};
 
-use rv_inst::{Code, LabelPlace, LineSpan, MachTrap};
+use rv_inst::{Code, ConstPlace, LabelPlace, LineSpan, MachTrap};
 
 /// The numbers of a code are in the ranges of their types.
 pub(crate) fn code_fits(code: &Code)
@@ -13,6 +13,7 @@ pub(crate) fn code_fits(code: &Code)
     bytes_fit(code.bytes.as_slice());
     spans_fit(code.lines.as_slice());
     labels_fit(code.labels.as_slice());
+    constants_fit(code.constants.as_slice());
     traps_fit(code.traps.as_slice());
     offset_fits(code.end);
 }
@@ -47,6 +48,18 @@ fn labels_fit(labels: &[LabelPlace])
 
 fn label_fits(label: LabelPlace)
     ensures { LabelFits label }
+{}
+
+fn constants_fit(constants: &[ConstPlace])
+    ensures { AllByRecursion ConstFits constants.now }
+{
+    for constant in constants {
+        constant_fits(*constant);
+    }
+}
+
+fn constant_fits(constant: ConstPlace)
+    ensures { ConstFits constant }
 {}
 
 fn traps_fit(traps: &[MachTrap])

@@ -1,9 +1,11 @@
 //! Why a job is refused.
 
-ghost use Rattle.std.specs.Prelude.{◌≡◌, ℕ, [], ◌∷◌, ◌++◌, ◌||◌, false, nat_eq, nat_lt, IfOk, OnOk};
+ghost use Rattle.std.specs.Prelude.{◌≡◌, ℕ, [], ◌∷◌, ◌++◌, ◌+◌, ◌||◌, ◌<◌, false, length, nat_eq, nat_lt, IfOk, OnOk, IfSome, IfNone};
+ghost use Rattle.rv_base.specs.declared.flags.IsaFlags.{IsaFlags as Flags};
+ghost use Rattle.rv_base.specs.declared.frame.FrameLayout.{FrameLayout as Frame};
 ghost use Rattle.rv_inst.specs.Operands.{named_labels, inst_labels, target_labels};
 ghost use Rattle.rv_inst.specs.Context.{Context, context_by};
-ghost use Rattle.rv_asm.specs.Refusal.{size_limit, is_bound, broken_from, binds, twice_of, twice_in, twice_from, unbound_among, unbound_in, size_sum, lines_refusal, refusal, Finds};
+ghost use Rattle.rv_asm.specs.Refusal.{size_limit, is_bound, broken_from, binds, twice_of, twice_in, twice_from, unbound_among, unbound_in, constants_sum, lines_sum, size_sum, lines_refusal, refusal, Finds};
 ghost use Rattle.rv_asm.specs.Job.{job_of};
 ghost use Rattle.rv_asm.specs.BoundLabels.{is_in};
 
@@ -44,7 +46,7 @@ fn refuse_lines(
     check_rules(lines, flags, frame, constants)?;
     let bound = bind_labels(alloc, lines)?;
     find_all(&bound, lines)?;
-    if is_too_large(lines) {
+    if is_too_large(lines, constants) {
         return Err(EmitError::TooLarge);
     }
     Ok(())
@@ -135,7 +137,7 @@ fn find_labels_in(bound: &LabelTable<()>, inst: &Inst) -> Result<(), EmitError>
     ensures { Finds (unbound_among (is_in bound.now) (inst_labels inst.now)) result }
 {
     match inst.targets() {
-        Targets::Nowhere => Ok(()),
+        Targets::Nowhere | Targets::RefersConstant(_) => Ok(()),
         Targets::Jumps(label) | Targets::Refers(label) => find_label(bound, label),
         Targets::Branches(taken, not_taken) => find_targets(bound, taken, not_taken),
     }
@@ -170,14 +172,47 @@ fn find_label(bound: &LabelTable<()>, label: MachLabel) -> Result<(), EmitError>
     }
 }
 
-/// Lines count for at most this many bytes, which is well below the limit of code.
+/// Lines and constants count for at most this many bytes, which is well below the limit of code.
 const SIZE_LIMIT: u64 = 1 << 30;
 
-/// Returns whether the lines count for more bytes than they may.
-fn is_too_large(lines: &[Line]) -> bool
-    ensures { (context : Context) → result ≡ nat_lt size_limit (size_sum context lines.now) }
+/// Returns whether the lines and the constants count for more bytes than they may.
+fn is_too_large(lines: &[Line], constants: &[Constant]) -> bool
+    ensures { (flags : Flags) (frame : Frame) → result ≡ nat_lt size_limit (size_sum (context_by flags frame constants.now) lines.now) }
+{
+    match left_by_constants(constants) {
+        Some(left) => count_for_more(lines, left),
+        None => true,
+    }
+}
+
+/// How many bytes the constants leave for lines, unless they count for more than they may.
+fn left_by_constants(constants: &[Constant]) -> Option<u64>
+    ensures left { IfSome result (λ left. left + constants_sum constants.now ≡ size_limit) }
+    ensures none { IfNone result (size_limit < constants_sum constants.now) }
 {
     let mut left = SIZE_LIMIT;
+    for constant in constants {
+        let sum = constant_sum(constant);
+        if sum > u128::from(left) {
+            return None;
+        }
+        left -= sum as u64;
+    }
+    Some(left)
+}
+
+/// The bytes that a constant counts for: its own, and 16 that its alignment may take.
+fn constant_sum(constant: &Constant) -> u128
+    ensures { result ≡ length constant.now.bytes + 16 }
+{
+    constant.bytes.len() as u128 + 16
+}
+
+/// Returns whether the lines count for more bytes than are left.
+fn count_for_more(lines: &[Line], left: u64) -> bool
+    ensures { (context : Context) → result ≡ nat_lt left (lines_sum context lines.now) }
+{
+    let mut left = left;
     for line in lines {
         let sum = line.size_sum();
         if sum > left {

@@ -16,8 +16,9 @@ use Rattle.rv_machine.specs.Effects.{act}
 use Rattle.rv_machine.specs.Memory.{load_bytes, load_result}
 use Rattle.rv_machine.specs.State.{Memory, State, IsState, Values, byte, reg, set_reg, wrap, low64, at}
 use Rattle.rv_encode.specs.Operations.{row, load_op, decoded_load}
-use Rattle.rv_inst.specs.Addresses.{Location, Based, AtLabel, is_near, is_splittable}
+use Rattle.rv_inst.specs.Addresses.{Location, Based, AtLabel, AtConstant, is_near, is_splittable}
 use Rattle.rv_inst.specs.declared.label_use.LabelUse.TheVariants.{PCRelHi20}
+use Rattle.mach_buffer.specs.Shape.{constant_label}
 use Rattle.rv_inst.specs.LabelUse.{marks_of}
 use Rattle.rv_inst.specs.Meaning.{Environment, address_at}
 use Rattle.rv_emit.specs.Chains.{Goes, IsAt}
@@ -26,7 +27,7 @@ use Rattle.rv_emit.specs.InstParts.{inline_slots, lower_slots, immediate_slots, 
 use Rattle.rv_emit.specs.InstRuns.{environment}
 use Rattle.rv_emit.specs.Operations.{decoded_addi, decoded_add, decoded_jump}
 use Rattle.rv_emit.specs.Sites.{Site, BytesAt, AimsFrom, CodeHas, StandsIn}
-use Rattle.rv_emit.specs.Slots.{Label, Slot, Op, Aim, Data, Traps, Allocate, Here, size_of, between}
+use Rattle.rv_emit.specs.Slots.{Label, Slot, Op, Aim, Data, Traps, Names, Allocate, Here, size_of, between}
 use Rattle.rv_inst.specs.SameValues.{Same}
 use Rattle.rv_emit.proofs.AddressRules.{IsUsableAt, IsApartAt}
 use Rattle.rv_emit.proofs.Chains.{goes_both, goes_at_least}
@@ -47,6 +48,7 @@ stands_split site allocated from (Op d ∷ slots) more s = let r = stands_split 
 stands_split site allocated from (Aim kind target ops ∷ slots) more s = let r = stands_split site allocated (from + length (marks_of kind)) slots more s.1 in ((s.0, r.0), subst (λ n. StandsIn site allocated n more) (omega arith) r.1)
 stands_split site allocated from (Data bytes ∷ slots) more s = let r = stands_split site allocated (from + length bytes) slots more s.1 in ((s.0, r.0), subst (λ n. StandsIn site allocated n more) (omega arith) r.1)
 stands_split site allocated from (Traps code ∷ slots) more s = let r = stands_split site allocated from slots more s.1 in ((s.0, r.0), subst (λ n. StandsIn site allocated n more) (omega arith) r.1)
+stands_split site allocated from (Names k ∷ slots) more s = let r = stands_split site allocated from slots more s in (r.0, subst (λ n. StandsIn site allocated n more) (omega arith) r.1)
 stands_split site allocated from (Allocate ∷ slots) more s = let r = stands_split site allocated from slots more s in (r.0, subst (λ n. StandsIn site allocated n more) (omega arith) r.1)
 stands_split site allocated from (Here k ∷ slots) more s = let r = stands_split site allocated from slots more s.1 in ((s.0, r.0), subst (λ n. StandsIn site allocated n more) (omega arith) r.1)
 
@@ -234,6 +236,7 @@ label_goes {site} {offset} {s} allocated rd l some lt bounds is_state h stands =
 pub address_goes : {site : Site} {offset : ℕ} {s : State} (start after allocated rd : ℕ) (loc : Location) → 0 < rd → rd < 32 → IsApartAt rd loc → AreShort site → IsState s → IsAt site offset (size_of (address_slots rd loc)) s → StandsIn site allocated offset (address_slots rd loc) → Sets site.context.flags (size_of (address_slots rd loc)) s rd (address_at (environment site start after) s.values loc)
 address_goes start after allocated rd (Based r o) some lt apart bounds is_state h stands = based_goes allocated rd r o some lt (λ e. apart (sym e)) is_state h stands
 address_goes start after allocated rd (AtLabel l) some lt apart bounds is_state h stands = label_goes allocated rd l some lt bounds is_state h stands
+address_goes start after allocated rd (AtConstant k) some lt apart bounds is_state h stands = label_goes allocated rd (constant_label k) some lt bounds is_state h stands
 
 pub address_even : (rd : ℕ) (loc : Location) → size_of (address_slots rd loc) % 2 ≡ 0
 address_even rd (Based r o) = on (is_near o)
@@ -242,12 +245,15 @@ address_even rd (Based r o) = on (is_near o)
     on true = refl
     on false = let long = size_append (offset_slots rd o) (Op (decoded_add rd rd r) ∷ []) in let e = offset_even rd o in omega arith
 address_even rd (AtLabel l) = refl
+address_even rd (AtConstant k) = refl
 
 -- it is the same in values that are the same
 pub address_same : (env : Environment) (v w : Values) (loc : Location) → IsUsableAt loc → Same v w → address_at env v loc ≡ address_at env w loc
 address_same env v w (Based r o) usable same = λ i. wrap (same.regs r usable i + low64 o)
 address_same env v w (AtLabel l) usable same = refl
+address_same env v w (AtConstant k) usable same = refl
 
 pub address_fits : (site : Site) (start after : ℕ) (v : Values) (loc : Location) → address_at (environment site start after) v loc < 2 ^ 64
 address_fits site start after v (Based r o) = omega arith
 address_fits site start after v (AtLabel l) = omega arith
+address_fits site start after v (AtConstant k) = omega arith

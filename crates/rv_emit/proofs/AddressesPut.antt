@@ -3,6 +3,7 @@ use Rattle.std.proofs.Common.{◌≡◌, ◌≢◌, ℕ, ◌+◌, ◌≤◌, ◌
 use Rattle.std.specs.Prelude.{if◌then◌else◌}
 use Rattle.std.specs.Int.{to_le_bytes, w64}
 use Rattle.rv_base.specs.declared.flags.IsaFlags.{IsaFlags}
+use Rattle.rv_base.specs.declared.constant.VCodeConstant.{VCodeConstant}
 use Rattle.rv_base.specs.declared.label.MachLabel.{MachLabel}
 use Rattle.rv_base.specs.declared.regs.Reg.{Reg}
 use Rattle.rv_base.specs.declared.regs.Reg.TheVariants.{Real, Virtual}
@@ -14,19 +15,19 @@ use Rattle.rv_imms.specs.Splitting.{value_of, IsSplittable}
 use Rattle.rv_machine.specs.declared.decoding.Decoded.{Decoded}
 use Rattle.rv_machine.specs.State.{low64}
 use Rattle.rv_ops.specs.declared.memory.LoadOP.TheVariants as loads
-use Rattle.rv_inst.specs.Addresses.{Location, Based, AtLabel, is_near, is_splittable}
+use Rattle.rv_inst.specs.Addresses.{Location, Based, AtLabel, AtConstant, is_near, is_splittable}
 use Rattle.rv_inst.specs.declared.label_use.LabelUse.{LabelUse}
 use Rattle.rv_inst.specs.LabelUseWords.{word_bytes}
 use Rattle.rv_inst.specs.Uses.{use_at}
 use Rattle.mach_buffer.specs.Buffer.{shape_of, bytes_of}
-use Rattle.mach_buffer.specs.Shape.{with_bytes, with_use, with_trap}
+use Rattle.mach_buffer.specs.Shape.{with_bytes, with_use, with_trap, with_named, constant_label}
 use Rattle.rv_emit.specs.Emitted.{Buffer, IsSoundBuffer}
 use Rattle.rv_emit.specs.Emission.{PutsAlone}
 use Rattle.rv_emit.specs.Immediates.{upper_of, lower_of}
 use Rattle.rv_emit.specs.Operations.{decoded_addi, decoded_add}
-use Rattle.rv_emit.specs.Slots.{Slot, Op, Aim, Data, Traps, Allocate, Here, Label, size_of}
+use Rattle.rv_emit.specs.Slots.{Slot, Op, Aim, Data, Traps, Names, Allocate, Here, Label, size_of}
 use Rattle.rv_emit.specs.Puts.{IsPatchable}
-use Rattle.rv_emit.specs.InstParts.{access_slots, address_slots, immediate_slots, inline_slots, lower_slots, offset_slots}
+use Rattle.rv_emit.specs.InstParts.{access_slots, address_slots, immediate_slots, inline_slots, labelled, lower_slots, naming_slots, offset_slots}
 use Rattle.rv_emit.proofs.OffsetParts.{near, far, splits, splits_not, upper_is, lower_is, low64_zero, low64_other}
 use Rattle.rv_emit.proofs.PlainSlots.{IsPlain}
 use Rattle.rv_emit.proofs.SlotsPut.{alone, none_put}
@@ -67,6 +68,7 @@ then_op {bound} slots d four s = record { plain = plain slots s.plain; short = l
     plain (Aim kind target ops ∷ front) p = plain front p
     plain (Data bytes ∷ front) p = plain front p
     plain (Traps code ∷ front) p = plain front p
+    plain (Names k ∷ front) p = plain front p
     plain (Allocate ∷ front) p = absurd p
     plain (Here k ∷ front) p = absurd p
 
@@ -90,6 +92,7 @@ offset_short rd o = on (is_splittable o)
 
 pub address_short : (rd : ℕ) (location : Location) → IsShort 24 (address_slots rd location)
 address_short rd (AtLabel l) = record { plain = tt; short = lit≤ tt }
+address_short rd (AtConstant k) = record { plain = tt; short = lit≤ tt }
 address_short rd (Based r o) = on (is_near o)
   where
     on : (c : Bool) → IsShort 24 (if c then Op (decoded_addi rd r o) ∷ [] else offset_slots rd o ++ Op (decoded_add rd rd r) ∷ [])
@@ -99,6 +102,22 @@ address_short rd (Based r o) = on (is_near o)
 -- slots that allocate no label, and two more pieces after them
 pub before_both : (slots more last : List Slot) (old mid new : Buffer) → IsPlain slots → PutsAlone slots old mid → PutsAlone (more ++ last) mid new → PutsAlone (slots ++ more ++ last) old new
 before_both slots more last old mid new plain p q = subst (λ s. PutsAlone s old new) (sym (append_assoc slots more last)) (both_alone slots (more ++ last) old mid new plain p q)
+
+-- ---- by a constant
+
+-- the code of an address is put once its constant is named
+pub named_put : (slots : Location → List Slot) → ((k : VCodeConstant) → Names k ∷ slots (AtLabel (constant_label k)) ≡ slots (AtConstant k)) → (location : Location) (old mid new : Buffer) → PutsAlone (naming_slots location) old mid → PutsAlone (slots (labelled location)) mid new → PutsAlone (slots location) old new
+named_put slots same (Based r o) old mid new p q = both_alone [] (slots (Based r o)) old mid new tt p q
+named_put slots same (AtLabel l) old mid new p q = both_alone [] (slots (AtLabel l)) old mid new tt p q
+named_put slots same (AtConstant k) old mid new p q = subst (λ s. PutsAlone s old new) (same k) (both_alone (Names k ∷ []) (slots (AtLabel (constant_label k))) old mid new tt p q)
+
+-- where there is none, nothing is put
+pub unnamed_put : (location : Location) (b : Buffer) → naming_slots location ≡ [] → IsSoundBuffer b → PutsAlone (naming_slots location) b b
+unnamed_put location b none sound = subst (λ s. PutsAlone s b b) (sym none) (none_put b sound)
+
+-- the constant is named
+pub name_put : (k : VCodeConstant) (old new : Buffer) → shape_of new ≡ with_named k (shape_of old) → IsSoundBuffer new → PutsAlone (Names k ∷ []) old new
+name_put k old new put sound = alone (λ flags. record { puts = (shape_of new, put, refl); sound = sound })
 
 -- ---- by an offset
 

@@ -2,6 +2,7 @@
 use Rattle.std.proofs.Common.{◌≡◌, ℕ, ◌+◌, ◌^◌, ◌<◌, Bool, true, false, ℤ, pos, List, [], ◌∷◌, ◌++◌, length, Option, Some, None, arith, refl, sym, ap, subst, ◌∙◌}
 use Rattle.std.specs.Prelude.{if◌then◌else◌}
 use Rattle.rv_base.specs.declared.amode.AMode.{AMode}
+use Rattle.rv_base.specs.declared.constant.VCodeConstant.{VCodeConstant}
 use Rattle.rv_base.specs.declared.label.MachLabel.{MachLabel}
 use Rattle.rv_base.specs.declared.mem_flags.MemFlagsData.{MemFlagsData}
 use Rattle.rv_base.specs.declared.regs.Reg.{Reg}
@@ -16,7 +17,8 @@ use Rattle.rv_machine.specs.declared.decoding.Decoded.{Decoded}
 use Rattle.rv_inst.specs.declared.label_use.LabelUse.TheVariants.{PCRelLo12I}
 use Rattle.rv_machine.specs.Memory.{load_result, store_bytes}
 use Rattle.rv_encode.specs.Operations.{load_op, store_op, decoded_load, decoded_store}
-use Rattle.rv_inst.specs.Addresses.{Location, Based, AtLabel, location_of, is_near}
+use Rattle.rv_inst.specs.Addresses.{Location, Based, AtLabel, AtConstant, location_of, is_near}
+use Rattle.mach_buffer.specs.Shape.{constant_label}
 use Rattle.rv_inst.specs.Meaning.{Next, AreOutside, address_at, addresses_from, put_bytes}
 use Rattle.rv_inst.specs.SameValues.{SameBut}
 use Rattle.rv_inst.specs.declared.inst.Inst.TheVariants.{Load, Store, LoadAddr, LabelAddress}
@@ -24,8 +26,8 @@ use Rattle.rv_emit.specs.declared.state.EmitVState.{EmitVState}
 use Rattle.rv_emit.specs.Usable.{IsUsable}
 use Rattle.rv_emit.specs.Sites.{Site, IsPlacedAt, CodeHas, StandsIn}
 use Rattle.rv_emit.specs.Immediates.{lower_of_distance}
-use Rattle.rv_emit.specs.Slots.{Label, Slot, Op, Aim, Part, size_of, between}
-use Rattle.rv_emit.specs.InstParts.{slots_alone, access_slots, address_slots, load_slots, store_slots}
+use Rattle.rv_emit.specs.Slots.{Label, Slot, Op, Aim, Names, Part, size_of, between}
+use Rattle.rv_emit.specs.InstParts.{slots_alone, access_slots, address_slots, label_load_slots, load_slots, store_slots}
 use Rattle.rv_emit.specs.InstRuns.{Enters, ComesOut, RunsIn, environment}
 use Rattle.rv_emit.specs.Chains.{Goes, IsAt}
 use Rattle.rv_emit.proofs.AddressRules.{IsUsableAt, IsRealAt, IsApartAt}
@@ -55,7 +57,21 @@ sets_out : {site : Site} {start after : ℕ} {s : State} {v : Values} (slots : L
 sets_out {s = s} {v = v} slots size n x usable fits e long goes =
     chain_out slots size (set_reg v n x) (set_reg s.values n x) e long goes (same_but [] (same_set v s.values n x e.are_values e.is_state.values (omega arith) e.same)) (are_values_set v n x e.are_values (omega arith) fits) (are_values_set s.values n x e.is_state.values (omega arith) fits) e.placed
 
--- ---- the record of a trap has no bytes
+-- ---- the name of a constant has no bytes, nor has the record of a trap
+
+once_named : {site : Site} {start after : ℕ} {s : State} {v : Values} (k : VCodeConstant) (slots : List Slot) → Enters site start after (slots_alone (Names k ∷ slots)) s v → Enters site start after (slots_alone slots) s v
+once_named k slots e = record {
+  even = e.even;
+  within = e.within;
+  short = e.short;
+  labels = e.labels;
+  stands = (e.stands.0, e.stands.1, let ends = e.stands.2 in omega arith);
+  placed = e.placed;
+  pc = e.pc;
+  is_state = e.is_state;
+  are_values = e.are_values;
+  same = e.same;
+}
 
 after_access : (site : Site) (allocated offset : ℕ) (trap : Option TrapCode) (slots : List Slot) → StandsIn site allocated offset (access_slots trap ++ slots) → StandsIn site allocated offset slots
 after_access site allocated offset None slots stands = stands
@@ -104,6 +120,7 @@ ready {site} {start} {after} {s} loc trap d four based e =
     apart_from : (l : Location) → IsUsableAt l → IsApartAt 31 l
     apart_from (Based r o) usable = λ same. absurd (omega arith)
     apart_from (AtLabel l) usable = tt
+    apart_from (AtConstant k) usable = tt
 
 -- ---- loads
 
@@ -163,6 +180,7 @@ load_out {site} {start} {after} {s} {v} rd op (Based r o) trap usable based real
     on true e = load_near_out rd r op o trap usable e
     on false e = load_far_out rd op (Based r o) trap usable based e
 load_out rd op (AtLabel l) trap usable based real = λ e. load_label_out rd op l trap usable real e
+load_out rd op (AtConstant k) trap usable based real = λ e. load_label_out rd op (constant_label k) trap usable real (once_named k (label_load_slots rd op trap (constant_label k)) e)
 
 pub load_runs : (site : Site) (setting : EmitVState) (rd : Writable Reg) (op : LoadOP) (flags : MemFlagsData) (from : AMode) → IsUsable rd.reg → IsUsableAt (location_of site.context.frame from) → IsRealAt (number_of rd.reg) (location_of site.context.frame from) → RunsIn site setting (Load rd op flags from)
 load_runs site setting rd op flags from h based real = record {
@@ -217,6 +235,7 @@ store_out {site} {start} {after} {s} {v} op src (Based r o) trap usable based = 
     on true e clear = store_near_out op r src o trap e clear
     on false e clear = store_far_out op src (Based r o) trap usable based e clear
 store_out op src (AtLabel l) trap usable based = λ e clear. store_far_out op src (AtLabel l) trap usable tt e clear
+store_out op src (AtConstant k) trap usable based = λ e clear. store_far_out op src (AtConstant k) trap usable tt e clear
 
 pub store_runs : (site : Site) (setting : EmitVState) (to : AMode) (op : StoreOP) (flags : MemFlagsData) (src : Reg) → IsUsable src → IsUsableAt (location_of site.context.frame to) → RunsIn site setting (Store to op flags src)
 store_runs site setting to op flags src h based = record {

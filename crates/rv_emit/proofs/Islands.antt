@@ -1,5 +1,5 @@
 -- What an island asks, once its jump is put.
-use Rattle.std.proofs.Common.{◌≡◌, ◌≢◌, ℕ, suc, ◌+◌, ◌-◌, ◌*◌, ◌<◌, ◌≤◌, Bool, true, false, cond, not, ◌&&◌, List, [], ◌∷◌, ◌++◌, length, Option, Some, None, refl, ap, sym, ◌∙◌, subst, arith}
+use Rattle.std.proofs.Common.{◌≡◌, ◌≢◌, inl, inr, ℕ, suc, ◌+◌, ◌-◌, ◌*◌, ◌<◌, ◌≤◌, Bool, true, false, cond, not, ◌&&◌, List, [], ◌∷◌, ◌++◌, length, Option, Some, None, refl, ap, sym, ◌∙◌, subst, arith}
 use Rattle.std.specs.Prelude.{slice_get}
 use Rattle.std.proofs.lemmas.Bool.{ne_eqb}
 use Rattle.std.proofs.lemmas.List.{length-append, append-nil}
@@ -12,9 +12,11 @@ use Rattle.rv_inst.specs.LabelUseWords.{word_bytes}
 use Rattle.rv_base.specs.LabelUse.{code_limit, Kinds}
 use Rattle.mach_buffer.specs.declared.uses.Use.{Use}
 use Rattle.mach_buffer.specs.Reach.{CanReach, deadline, deadlines, is_pending, is_other}
-use Rattle.mach_buffer.specs.Buffer.{shape_of, bytes_of, uses_of, place_of, allocated_of}
-use Rattle.mach_buffer.specs.Islands.{CanIsland, IsJumpOver, aligned, island_end, needs_own, others_of}
-use Rattle.mach_buffer.proofs.Laws.{deadlines_append, own_idle, aligned_near}
+use Rattle.mach_buffer.specs.Buffer.{shape_of, bytes_of, uses_of, place_of, allocated_of, registered_of}
+use Rattle.mach_buffer.specs.Shape.{Shape, IsUsable}
+use Rattle.mach_buffer.specs.Constants.{end_after, reserve_from, reserve_of, IsOrdered}
+use Rattle.mach_buffer.specs.Islands.{CanIsland, IsJumpOver, aligned, island_end, first_of, needs_own, others_of}
+use Rattle.mach_buffer.proofs.Laws.{deadlines_append, own_idle, aligned_near, ends_within}
 use Rattle.rv_emit.specs.Emitted.{Buffer, IsSoundBuffer, pending}
 use Rattle.rv_inst.specs.Uses.{use_at}
 
@@ -40,12 +42,22 @@ pub record JumpPut (old new : Buffer) (after_island : MachLabel) : Type 0 where
   pub bytes : bytes_of new ≡ bytes_of old ++ word_bytes 0x6f
   pub uses : uses_of new ≡ uses_of old ++ use_at (length (bytes_of old)) after_island Jal20 ∷ []
   pub places : place_of new ≡ place_of old
+  pub registered : registered_of new ≡ registered_of old
   pub before : IsSoundBuffer old
   pub sound : IsSoundBuffer new
 
--- no use named the label before
+-- no use could name the label before
+not_usable : (old new : Buffer) (after_island : MachLabel) → JumpPut old new after_island → (label : ℕ) → IsUsable (shape_of old) label → label ≢ after_island.number
+not_usable old new after_island p label (inl known) e = let at = p.fresh in absurd (omega arith)
+not_usable old new after_island p label (inr c) e =
+    let is = c.is in
+    let at = p.fresh in
+    let one_more = p.allocated in
+    let few = p.sound.ordered.few in
+    absurd (omega arith)
+
 not_named : (old new : Buffer) (after_island : MachLabel) → JumpPut old new after_island → (j : ℕ) (u : Use LabelUse) → slice_get (uses_of old) j ≡ Some u → u.label.number ≢ after_island.number
-not_named old new after_island p j u h e = let low = p.before.known j u h in let at = p.fresh in absurd (omega arith)
+not_named old new after_island p j u h = not_usable old new after_island p u.label.number (p.before.known j u h)
 
 -- what is pending beside the jump is what was pending before it
 pub others_pending : (old new : Buffer) (after_island : MachLabel) → JumpPut old new after_island → others_of label_kinds (shape_of new) after_island ≡ pending old
@@ -72,11 +84,18 @@ jump_round old new after_island p = record {
   only = not_named old new after_island p;
 }
 
--- how far an island reaches
-pub end_near : (start count last : ℕ) → island_end start count last ≤ start + 8 + 8 * count
-end_near start count last = on (needs_own start count last)
+-- the jump takes no room from constants
+pub same_reserve : {old new : Buffer} {after_island : MachLabel} → JumpPut old new after_island → reserve_of (shape_of new) ≡ reserve_of (shape_of old)
+same_reserve p = λ i. reserve_from (p.places i) 0 (p.registered i)
+
+-- how far an island reaches: its own veneer, the others, the constants, and zero bytes to a multiple of four
+pub end_near : (s : Shape LabelUse) (start count last : ℕ) → IsOrdered s → island_end (end_after s) start count last ≤ start + 8 + 8 * count + reserve_of s + 3
+end_near s start count last o =
+    let first = on (needs_own (end_after s) start count last) in
+    let rest = ends_within s o (first_of (end_after s) start count last + 8 * count) in
+    omega (arith, first, rest)
   where
-    on : (c : Bool) → cond c (start + 8) start + 8 * count ≤ start + 8 + 8 * count
+    on : (c : Bool) → cond c (start + 8) start ≤ start + 8
     on true = omega arith
     on false = omega arith
 
@@ -85,9 +104,9 @@ unbound_fresh old new after_island p = ap (λ (place : ℕ → Option ℕ). plac
   where
     on : (o : Option ℕ) → place_of old after_island.number ≡ o → o ≡ None
     on None e = refl
-    on (Some at) e = let known = (p.before.places after_island.number at e).2 in let fresh = p.fresh in absurd (omega arith)
+    on (Some at) e = absurd (not_usable old new after_island p after_island.number (p.before.places after_island.number at e).2 refl)
 
-pub can_island : (old new : Buffer) (after_island : MachLabel) → JumpPut old new after_island → CanReach (length (bytes_of old)) (pending old) → length (bytes_of old) + 8 * length (pending old) + 32 < code_limit → CanIsland label_kinds (shape_of new) after_island
+pub can_island : (old new : Buffer) (after_island : MachLabel) → JumpPut old new after_island → CanReach (length (bytes_of old)) (pending old) → length (bytes_of old) + reserve_of (shape_of old) + 8 * length (pending old) + 32 < code_limit → CanIsland label_kinds (shape_of new) after_island
 unfolding jump_round
 can_island old new after_island p reach room =
     let others = others_pending old new after_island p in
@@ -97,7 +116,8 @@ can_island old new after_island p reach room =
     let less : length (bytes_of old) ≡ length (bytes_of new) - 4 = omega arith in
     let near : aligned (length (bytes_of new)) ≤ length (bytes_of new) + 2 = aligned_near (length (bytes_of new)) p.sound.even in
     let last = length (bytes_of old) + 1048574 in
-    let end : island_end (aligned (length (bytes_of new))) (length (pending old)) last < code_limit = let e = end_near (aligned (length (bytes_of new))) (length (pending old)) last in omega (arith, e, near, long, room) in
+    let reserve : reserve_of (shape_of new) ≡ reserve_of (shape_of old) = same_reserve p in
+    let end : island_end (end_after (shape_of new)) (aligned (length (bytes_of new))) (length (pending old)) last < code_limit = let e = end_near (shape_of new) (aligned (length (bytes_of new))) (length (pending old)) last p.sound.ordered in omega (arith, e, near, long, room, reserve) in
     record {
       inner = omega arith;
       known = omega arith;
@@ -105,5 +125,5 @@ can_island old new after_island p reach room =
       four = omega arith;
       jump = jump_round old new after_island p;
       reach = subst (λ (ds : List ℕ). CanReach (length (bytes_of new) - 4) ds) (sym others) (subst (λ n. CanReach n (pending old)) less reach);
-      room = subst (λ (ds : List ℕ). island_end (aligned (length (bytes_of new))) (length ds) last < code_limit) (sym others) end;
+      room = subst (λ (ds : List ℕ). island_end (end_after (shape_of new)) (aligned (length (bytes_of new))) (length ds) last < code_limit) (sym others) end;
     }

@@ -77,7 +77,7 @@ via_goes_on flags bytes kind u to g fits small =
 
 module _ (context : Context) (f : Shape LabelUse) (bytes : List ℕ) (fin : IsFinishedTo f bytes) (small : length bytes ≤ 2 ^ 64) where
   -- what a use that goes by a veneer of the buffer finds there
-  veneer_goes_on : (u : Use LabelUse) (at to : ℕ) → f.place u.label.number ≡ Some to → ByVeneer label_kinds f bytes u at → GoesOn context.flags bytes at to
+  veneer_goes_on : (u : Use LabelUse) (at to : ℕ) → fin.finishes.put.place u.label.number ≡ Some to → ByVeneer label_kinds fin.finishes.put.place bytes u at → GoesOn context.flags bytes at to
   veneer_goes_on u at to bound g =
       subst (λ n. GoesOn context.flags bytes n to) g.here
       (subst (GoesOn context.flags bytes g.via.at) (same_Some g.to to (sym g.bound ∙ bound)) (via_goes_on context.flags bytes u.kind u g.to g.via fin.all_bytes small))
@@ -87,11 +87,14 @@ module _ (context : Context) (f : Shape LabelUse) (bytes : List ℕ) (fin : IsFi
     longer = let l = i.longer in let e = i.jump.starts in omega arith;
     target = x.target;
     jump = op_in context.flags (memory_of bytes) bytes (length old.bytes) (0 + length old.bytes) (decoded_jump (between (length old.bytes) x.target)) room placed refl (has (memory_of bytes) (record { aligned = refl; bytes = placed })).0;
-    leads = ⊎_elim (λ here. inl (same_Some x.target to (sym here ∙ i.bound))) (λ g. inr (veneer_goes_on u x.target to i.bound g)) x.goes;
+    leads = ⊎_elim (λ here. inl (same_Some x.target to (sym here ∙ bound))) (λ g. inr (veneer_goes_on u x.target to bound g)) x.goes;
   })
     where
       site : Site
-      site = record { context = context; base = 0; bytes = bytes; place = f.place; traps = f.traps }
+      site = record { context = context; base = 0; bytes = bytes; place = fin.finishes.put.place; traps = f.traps }
+
+      bound : fin.finishes.put.place i.after_island.number ≡ Some to
+      bound = fin.finishes.grows.places i.after_island.number to i.bound
 
       placed : BytesAt (memory_of bytes) 0 bytes
       placed = stored bytes small
@@ -111,7 +114,7 @@ module _ (context : Context) (f : Shape LabelUse) (bytes : List ℕ) (fin : IsFi
       room : length old.bytes + 4 ≤ length bytes
       room = let l = slot_bytes context.flags old.allocated (jump_to (Label i.after_island)) old mid i.jump.puts.1 in let w = within site f fin refl refl mid lasts in omega arith
 
-      x : UseFinished label_kinds old f bytes i.jump.puts.1.0 u
+      x : UseFinished label_kinds old f fin.finishes.put.place bytes i.jump.puts.1.0 u
       x = aim_finished site f fin refl refl old.allocated Jal20 (Label i.after_island) (λ d. decoded_jump d ∷ []) old mid i.jump.puts.1 lasts
 
       has : CodeHas site (length old.bytes) (decoded_jump (between (length old.bytes) x.target) ∷ [])

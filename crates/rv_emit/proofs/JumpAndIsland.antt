@@ -1,5 +1,5 @@
 -- A jump and an island after it, as the buffer's calls put them.
-use Rattle.std.proofs.Common.{◌≡◌, ℕ, ◌+◌, ◌*◌, ◌%◌, ◌≤◌, Bool, true, false, cond, List, [], ◌∷◌, ◌++◌, length, take, Option, refl, ap, sym, ◌∙◌, subst, arith}
+use Rattle.std.proofs.Common.{◌≡◌, ℕ, ◌+◌, ◌*◌, ◌%◌, List, [], ◌∷◌, ◌++◌, length, take, Option, refl, ap, sym, ◌∙◌, subst, arith}
 use Rattle.std.proofs.lemmas.List.{length-append}
 use Rattle.rv_base.specs.declared.label.MachLabel.{MachLabel}
 use Rattle.mach_labels.specs.Table.{first_inner}
@@ -8,31 +8,35 @@ use Rattle.rv_inst.specs.declared.label_use.LabelUse.TheVariants.{Jal20}
 use Rattle.rv_inst.specs.LabelUse.{label_kinds}
 use Rattle.rv_inst.specs.LabelUseWords.{word_bytes}
 use Rattle.mach_buffer.specs.declared.uses.Use.{Use}
-use Rattle.mach_buffer.specs.Buffer.{shape_of, bytes_of, uses_of, place_of, labels_of, allocated_of, traps_of}
+use Rattle.mach_buffer.specs.Buffer.{shape_of, bytes_of, uses_of, place_of, labels_of, allocated_of, traps_of, registered_of}
+use Rattle.mach_buffer.specs.Constants.{end_after, AllStand}
 use Rattle.mach_buffer.specs.Shape.{with_allocated, with_bytes, with_use}
 use Rattle.mach_buffer.specs.Reach.{deadline}
-use Rattle.mach_buffer.specs.Islands.{Islanded, others_of, aligned, island_end, needs_own}
+use Rattle.mach_buffer.specs.Islands.{CanIsland, Islanded, others_of, aligned, island_end, first_of}
 use Rattle.mach_buffer.specs.Windows.{AreWindows}
 use Rattle.mach_buffer.specs.VeneerConditions.{AddsOwn}
-use Rattle.mach_buffer.specs.Growth.{Grows, Lasts}
+use Rattle.mach_buffer.specs.Growth.{Grows}
 use Rattle.rv_base.specs.declared.flags.IsaFlags.{IsaFlags}
 use Rattle.rv_emit.specs.Slots.{Label}
 use Rattle.rv_emit.specs.Puts.{Puts}
 use Rattle.rv_emit.specs.InstParts.{jump_to}
-use Rattle.mach_buffer.proofs.Laws.{island_rest, aligned_near, windows_with_use}
+use Rattle.mach_buffer.proofs.Laws.{island_rest, island_reserve, lasts_more, lasts_allocated, lasts_island, stands_last, windows_with_use}
 use Rattle.rv_emit.specs.Emitted.{Buffer, IsSoundBuffer, HasWindows, pending, AppendsCode, AppendsIsland}
 use Rattle.rv_inst.specs.Uses.{use_at}
-use Rattle.rv_emit.proofs.Islands.{JumpPut, others_pending, end_near}
+use Rattle.rv_emit.proofs.Islands.{JumpPut, others_pending, same_reserve}
+use Rattle.rv_emit.proofs.PutsLast.{puts_last, puts_named, puts_constants}
+use Rattle.rv_base.specs.Flags.{no_flags}
 
 -- a label was allocated, and a jump to it put
-pub jump_put : (old mid new : Buffer) (after_island : MachLabel) → IsSoundBuffer old → after_island.number ≡ first_inner + allocated_of old → allocated_of mid ≡ allocated_of old + 1 → bytes_of mid ≡ bytes_of old → uses_of mid ≡ uses_of old → place_of mid ≡ place_of old →
+pub jump_put : (old mid new : Buffer) (after_island : MachLabel) → IsSoundBuffer old → after_island.number ≡ first_inner + allocated_of old → allocated_of mid ≡ allocated_of old + 1 → bytes_of mid ≡ bytes_of old → uses_of mid ≡ uses_of old → place_of mid ≡ place_of old → registered_of mid ≡ registered_of old →
     AppendsCode (word_bytes 0x6f) (use_at (length (bytes_of mid)) after_island Jal20 ∷ []) mid new → JumpPut old new after_island
-jump_put old mid new after_island sound fresh allocated bytes uses places a = record {
+jump_put old mid new after_island sound fresh allocated bytes uses places registered a = record {
   fresh = fresh;
   allocated = a.allocated ∙ allocated;
   bytes = a.bytes ∙ ap (λ b. b ++ word_bytes 0x6f) bytes;
   uses = a.uses ∙ (λ i. uses i ++ use_at (length (bytes i)) after_island Jal20 ∷ []);
   places = a.places ∙ places;
+  registered = a.registered ∙ registered;
   before = sound;
   sound = a.sound;
 }
@@ -52,54 +56,55 @@ jump_windows old new after_island s a w =
     (windows_with_use (shape_of old) w s.linked s.even (word_bytes 0x6f) u (record { at = refl; bare = refl; long = refl }) (refl, (refl, (refl, (refl, tt))))))
 
 -- an island's end is a multiple of four
-end_whole : (n count last : ℕ) → island_end (aligned n) count last % 4 ≡ 0
-end_whole n count last = on (needs_own (aligned n) count last)
+end_whole : (ends : ℕ → ℕ) (start count last : ℕ) → island_end ends start count last % 4 ≡ 0
+end_whole ends start count last = whole (ends (first_of ends start count last + 8 * count))
   where
-    on : (c : Bool) → (cond c (aligned n + 8) (aligned n) + 8 * count) % 4 ≡ 0
-    on true = omega arith
-    on false = omega arith
-
-end_behind : (n count last : ℕ) → n ≤ island_end (aligned n) count last
-end_behind n count last = on (needs_own (aligned n) count last)
-  where
-    on : (c : Bool) → n ≤ cond c (aligned n + 8) (aligned n) + 8 * count
-    on true = omega arith
-    on false = omega arith
+    whole : (n : ℕ) → aligned n % 4 ≡ 0
+    whole n = omega arith
 
 -- a jump was put, and the island after it
 pub puts_island : (old allocated mid new : Buffer) (after_island : MachLabel) → JumpPut old mid after_island → labels_of allocated ≡ labels_of old → IsSoundBuffer allocated → bytes_of allocated ≡ bytes_of old → (HasWindows old → HasWindows allocated) →
     AppendsCode (word_bytes 0x6f) (use_at (length (bytes_of allocated)) after_island Jal20 ∷ []) allocated mid →
-    Islanded label_kinds after_island (shape_of mid) (shape_of new) → Grows (bytes_of mid) (uses_of mid) (place_of mid) (bytes_of new) (uses_of new) (place_of new) → AddsOwn label_kinds (length (bytes_of mid)) (uses_of mid) (uses_of new) → (HasWindows mid → HasWindows new) → IsSoundBuffer new → ((flags : IsaFlags) → Puts flags (allocated_of old + 1) (jump_to (Label after_island) ∷ []) (with_allocated (shape_of old)) (shape_of mid)) → Lasts label_kinds (shape_of mid) (shape_of new) → traps_of mid ≡ traps_of old → AppendsIsland old new
-puts_island old allocated mid new after_island p labels sound same_bytes windows a i grows own kept now puts lasts traps =
-    let rest = island_rest i in
+    Islanded label_kinds after_island (shape_of mid) (shape_of new) → Grows (bytes_of mid) (uses_of mid) (place_of mid) (bytes_of new) (uses_of new) (place_of new) → AddsOwn label_kinds (length (bytes_of mid)) (uses_of mid) (uses_of new) → (HasWindows mid → HasWindows new) → (HasWindows mid → AllStand label_kinds (shape_of mid) → AllStand label_kinds (shape_of new)) → IsSoundBuffer new → ((flags : IsaFlags) → Puts flags (allocated_of old + 1) (jump_to (Label after_island) ∷ []) (with_allocated (shape_of old)) (shape_of mid)) → CanIsland label_kinds (shape_of mid) after_island → traps_of mid ≡ traps_of old → AppendsIsland old new
+puts_island old allocated mid new after_island p labels sound same_bytes windows a i grows own kept stand now puts can traps =
+    let rest = island_rest p.sound.ordered i in
     let long : length (bytes_of mid) ≡ length (bytes_of old) + 4 = ap (length {A = ℕ}) p.bytes ∙ length-append (bytes_of old) (word_bytes 0x6f) in
     let count = length (others_of label_kinds (shape_of mid) after_island) in
     let counted : count ≡ length (pending old) = ap (length {A = ℕ}) (others_pending old mid after_island p) in
     let last = deadline label_kinds i.jump in
-    let end : length (bytes_of new) ≡ island_end (aligned (length (bytes_of mid))) count last = i.end in
-    let near = end_near (aligned (length (bytes_of mid))) count last in
-    let ahead = end_behind (length (bytes_of mid)) count last in
-    let close : aligned (length (bytes_of mid)) ≤ length (bytes_of mid) + 2 = aligned_near (length (bytes_of mid)) p.sound.even in
+    let end : length (bytes_of new) ≡ island_end (end_after (shape_of mid)) (aligned (length (bytes_of mid))) count last = i.end in
     let drawn_fresh = p.fresh in
-    let drawn_more = p.allocated in
+    let one_more = p.allocated in
+    let few = p.sound.ordered.few in
+    let near = island_reserve p.sound.ordered p.sound.even (omega arith) i in
+    let reserve = same_reserve p in
+    let ahead = grows.longer in
+    -- what the jump leaves as it was
+    let jump = jump_to (Label after_island) ∷ [] in
+    let before = lasts_more (lasts_allocated label_kinds (shape_of old)) (puts_last no_flags (allocated_of old + 1) jump (with_allocated (shape_of old)) (shape_of mid) (puts no_flags)) in
+    let named = puts_named no_flags (allocated_of old + 1) jump (with_allocated (shape_of old)) (shape_of mid) (puts no_flags) in
+    let constants = puts_constants no_flags (allocated_of old + 1) jump (with_allocated (shape_of old)) (shape_of mid) (puts no_flags) in
     record {
       after_island = after_island;
       drawn_label = p.fresh;
       jumped = shape_of mid;
       puts = puts;
-      lasts = lasts;
+      lasts = lasts_island p.sound.ordered can i;
       allocated = rest.allocated ∙ p.allocated;
       jump = ap (λ n. take n (bytes_of new)) (sym long) ∙ grows.before ∙ p.bytes;
-      longer = omega (arith, long, end, ahead);
+      longer = omega (arith, long, ahead);
       own = subst (λ (n : ℕ). AddsOwn label_kinds n (uses_of old ++ use_at (length (bytes_of old)) after_island Jal20 ∷ []) (uses_of new)) long (subst (λ (us : List (Use LabelUse)). AddsOwn label_kinds (length (bytes_of mid)) us (uses_of new)) p.uses own);
       bound = rest.bound;
-      places = λ label ne. rest.places label ne ∙ ap (λ (place : ℕ → Option ℕ). place label) p.places;
+      places = λ label low ne. rest.places label low ne ∙ ap (λ (place : ℕ → Option ℕ). place label) p.places;
       labels = rest.labels (omega (arith, drawn_fresh)) ∙ a.labels ∙ labels;
       traps = rest.traps ∙ traps;
+      registered = rest.registered ∙ p.registered;
+      named = rest.named ∙ named;
       settled = i.settled;
-      aligned = ap (λ n. n % 4) end ∙ end_whole (length (bytes_of mid)) count last;
-      short = omega (arith, long, end, near, close, counted);
+      aligned = ap (λ n. n % 4) end ∙ end_whole (end_after (shape_of mid)) (aligned (length (bytes_of mid))) count last;
+      short = omega (arith, long, near, counted, reserve);
       windows = λ w. kept (jump_windows allocated mid after_island sound a (windows w));
+      constants = λ w all. stand (jump_windows allocated mid after_island sound a (windows w)) (stands_last before constants all);
       sound = now;
     }
 
@@ -111,5 +116,7 @@ appends old new code u e sound = record {
   places = ap (λ s. s.place) e;
   labels = ap (λ s. s.labels) e;
   allocated = ap (λ s. s.allocated) e;
+  registered = ap (λ s. s.registered) e;
+  constants = ap (λ s. s.constants) e;
   sound = sound;
 }

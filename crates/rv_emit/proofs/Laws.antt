@@ -10,7 +10,7 @@ pub use Rattle.rv_emit.proofs.Operands.{keeps}
 -- an instruction's parts, wherever they stand: they run as it means
 pub use Rattle.rv_emit.proofs.InstRuns.{inst_runs}
 -- a buffer into which slots were put, and parts
-pub use Rattle.rv_emit.proofs.PutsLast.{puts_last, puts_bytes, puts_uses, puts_ends}
+pub use Rattle.rv_emit.proofs.PutsLast.{puts_last, puts_bytes, puts_uses, puts_named, puts_constants, puts_ends}
 pub use Rattle.rv_emit.proofs.PartsPut.{gap_last, parts_last, GapPut, gap_put, PartsPut, parts_put}
 -- an instruction's parts are blocks; and what one without labels of its own adds
 pub use Rattle.rv_emit.proofs.InstSlots.{are_blocks, appends_inst}

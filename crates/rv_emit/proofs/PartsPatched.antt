@@ -13,7 +13,7 @@ use Rattle.rv_machine.specs.State.{signed}
 use Rattle.rv_machine.specs.Layout.{word_funct3, u_bits, i_bits, i_layout}
 use Rattle.rv_machine.specs.Opcodes.{AUIPC, LOAD, OP_IMM}
 use Rattle.rv_machine.specs.Tables.{load_entry}
-use Rattle.rv_machine.specs.Decode.{decode, by_opcode}
+use Rattle.rv_machine.specs.Decode.{by_opcode}
 use Rattle.rv_ops.specs.declared.memory.LoadOP.{LoadOP}
 use Rattle.rv_ops.specs.Memory.{load_funct3}
 use Rattle.rv_encode.specs.Layouts.{IsUType, IsIType}

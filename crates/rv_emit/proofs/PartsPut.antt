@@ -11,16 +11,17 @@ use Rattle.mach_buffer.specs.Shape.{Shape, with_allocated}
 use Rattle.mach_buffer.specs.Windows.{AreWindows}
 use Rattle.mach_buffer.specs.Links.{HasVeneer, IsLinked}
 use Rattle.mach_buffer.specs.Growth.{Lasts}
+use Rattle.mach_buffer.specs.Constants.{AllStand}
 use Rattle.mach_buffer.specs.Buffer.{shape_of, bytes_of, allocated_of}
-use Rattle.mach_buffer.proofs.Laws.{append_each, slice_get-append, take_front, window_stays, lasts_same, lasts_more, lasts_allocated, windows_with_bytes, windows_with_use}
+use Rattle.mach_buffer.proofs.Laws.{append_each, slice_get-append, take_front, window_stays, lasts_same, lasts_more, lasts_allocated, windows_with_bytes, windows_with_use, stands_last}
 use Rattle.std.specs.Prelude.{Option}
-use Rattle.rv_emit.specs.Slots.{Slot, slot_size, Op, Aim, Data, Traps, Allocate, Here, Part, Ask, Slots, Label, label_of, AreClosed, AreBlocks}
+use Rattle.rv_emit.specs.Slots.{Slot, slot_size, Op, Aim, Data, Traps, Names, Allocate, Here, Part, Ask, Slots, Label, label_of, AreClosed, AreBlocks}
 use Rattle.rv_emit.specs.Puts.{PutsSlot, Puts}
 use Rattle.rv_emit.specs.InstParts.{jump_to}
 use Rattle.rv_emit.specs.Emitted.{Buffer, IsSoundBuffer, HasWindows, AppendsIsland, IslandIfNeeded}
 use Rattle.rv_emit.specs.Emission.{PutsParts}
 use Rattle.rv_emit.specs.Standing.{SlotsIn, IslandIn, GapStandsIn, PartsIn}
-use Rattle.rv_emit.proofs.PutsLast.{slot_bytes, puts_last, puts_bytes}
+use Rattle.rv_emit.proofs.PutsLast.{slot_bytes, puts_last, puts_bytes, puts_constants}
 
 -- ---- what stands stays
 
@@ -87,6 +88,7 @@ slot_well flags allocated (Aim kind target ops) s t even (window, is, e) w =
     })
 slot_well flags allocated (Data bytes) s t even e w = subst StandWell (sym e) (record { windows = windows_with_bytes s w.windows bytes; linked = linked_bytes s.bytes bytes s.uses w.linked })
 slot_well flags allocated (Traps code) s t even e w = subst StandWell (sym e) (record { windows = w.windows; linked = w.linked })
+slot_well flags allocated (Names k) s t even e w = subst StandWell (sym e) (record { windows = w.windows; linked = w.linked })
 slot_well flags allocated Allocate s t even e w = subst StandWell (sym e) (record { windows = w.windows; linked = w.linked })
 slot_well flags allocated (Here k) s t even (unbound, e) w = subst StandWell (sym e) (record { windows = w.windows; linked = w.linked })
 
@@ -96,6 +98,7 @@ even_after here at (Op d) slots c = (c.0, (at + d.len, c.1))
 even_after here at (Aim kind target ops) slots c = (even_marks kind, (at + length (marks_of kind), c.1))
 even_after here at (Data bytes) slots c = (c.0, (at + length bytes, c.1))
 even_after here at (Traps code) slots c = (refl, (at, c))
+even_after here at (Names k) slots c = (refl, (at, c))
 even_after here at Allocate slots c = (refl, (at, c))
 even_after here at (Here k) slots c = (refl, (at, c))
 
@@ -109,10 +112,11 @@ puts_well flags allocated (slot ∷ slots) here at s t c even (m, first, rest) w
 
 -- ---- an island where one is needed
 
--- what stands after what stood there, its windows, and that all of it lasts
+-- what stands after what stood there, its windows and constants, and that all of it lasts
 pub record GapPut (flags : IsaFlags) (old new : Buffer) : Type 0 where
   pub gap : GapStandsIn flags (shape_of new) (length (bytes_of old)) (length (bytes_of new))
   pub windows : HasWindows new
+  pub constants : AllStand label_kinds (shape_of old) → AllStand label_kinds (shape_of new)
   pub lasts : Lasts label_kinds (shape_of old) (shape_of new)
   pub sound : IsSoundBuffer new
 
@@ -136,35 +140,39 @@ pub gap_put : (flags : IsaFlags) (distance : ℕ) (old new : Buffer) (made : Boo
 gap_put flags distance old new made s w r = on r.put
   where
     on : ((made ≡ false) × (new ≡ old)) ⊎ ((made ≡ true) × AppendsIsland old new) → GapPut flags old new
-    on (inl (e, same)) = subst (GapPut flags old) (sym same) (record { gap = inl refl; windows = w; lasts = lasts_same label_kinds (shape_of old); sound = s })
+    on (inl (e, same)) = subst (GapPut flags old) (sym same) (record { gap = inl refl; windows = w; constants = λ all. all; lasts = lasts_same label_kinds (shape_of old); sound = s })
     on (inr (e, p)) = record {
       gap = inr (island_in flags old new w p);
       windows = p.windows w;
+      constants = λ all. p.constants w all;
       lasts = lasts_more (lasts_allocated label_kinds (shape_of old)) (lasts_more (puts_last flags (allocated_of old + 1) (jump_to (Label p.after_island) ∷ []) (with_allocated (shape_of old)) p.jumped (p.puts flags)) p.lasts);
       sound = p.sound;
     }
 
 -- ---- parts
 
--- parts stand where they were put, their windows with them, and all that stood there lasts
+-- parts stand where they were put, their windows with them, and all that stood there lasts, constants among it
 pub record PartsPut (flags : IsaFlags) (parts : List Part) (old new : Buffer) : Type 0 where
   pub stand : PartsIn flags parts (shape_of new) (length (bytes_of old)) (length (bytes_of new))
   pub windows : HasWindows new
+  pub constants : AllStand label_kinds (shape_of old) → AllStand label_kinds (shape_of new)
   pub lasts : Lasts label_kinds (shape_of old) (shape_of new)
   pub sound : IsSoundBuffer new
 
 pub parts_put : (flags : IsaFlags) (parts : List Part) (old new : Buffer) → AreBlocks parts → IsSoundBuffer old → HasWindows old → PutsParts flags parts old new → PartsPut flags parts old new
-parts_put flags [] old new blocks s w p = subst (PartsPut flags [] old) (sym p) (record { stand = refl; windows = w; lasts = lasts_same label_kinds (shape_of old); sound = s })
+parts_put flags [] old new blocks s w p = subst (PartsPut flags [] old) (sym p) (record { stand = refl; windows = w; constants = λ all. all; lasts = lasts_same label_kinds (shape_of old); sound = s })
 parts_put flags (Ask space ∷ parts) old new blocks s w (mid, made, r, rest) =
     let g = gap_put flags space old mid made s w r in
     let q = parts_put flags parts mid new blocks g.sound g.windows rest in
-    record { stand = (length (bytes_of mid), gap_last _ _ g.gap q.lasts, q.stand); windows = q.windows; lasts = lasts_more g.lasts q.lasts; sound = q.sound }
+    record { stand = (length (bytes_of mid), gap_last _ _ g.gap q.lasts, q.stand); windows = q.windows; constants = λ all. q.constants (g.constants all); lasts = lasts_more g.lasts q.lasts; sound = q.sound }
 parts_put flags (Slots slots ∷ parts) old new blocks s w (mid, p, rest) =
     let well = puts_well flags (allocated_of old) slots _ 0 (shape_of old) (shape_of mid) blocks.0 s.even p.puts (record { windows = w; linked = s.linked }) in
     let q = parts_put flags parts mid new blocks.1 p.sound well.windows rest in
+    let lasts = puts_last flags (allocated_of old) slots (shape_of old) (shape_of mid) p.puts in
     record {
       stand = (length (bytes_of mid), record { old = shape_of old; new = shape_of mid; puts = p.puts; windows = w; starts = refl; ends = refl; lasts = q.lasts }, q.stand);
       windows = q.windows;
-      lasts = lasts_more (puts_last flags (allocated_of old) slots (shape_of old) (shape_of mid) p.puts) q.lasts;
+      constants = λ all. q.constants (stands_last lasts (puts_constants flags (allocated_of old) slots (shape_of old) (shape_of mid) p.puts) all);
+      lasts = lasts_more lasts q.lasts;
       sound = q.sound;
     }

@@ -1,43 +1,26 @@
 -- What an instruction without labels of its own adds to a buffer, and that its parts are blocks.
-use Rattle.std.proofs.Common.{◌≡◌, ◌⊎◌, inl, inr, ℕ, ◌+◌, ◌-◌, ◌%◌, Bool, true, false, nat_eq, List, [], ◌∷◌, ◌++◌, length, Some, None, pos, refl, ap, sym, ◌∙◌, subst, append_assoc, append-nil, arith}
-use Rattle.std.specs.Prelude.{if◌then◌else◌}
+use Rattle.std.proofs.Common.{◌≡◌, ℕ, ◌+◌, List, [], ◌∷◌, ◌++◌, length, refl, ap, sym, ◌∙◌, subst, append_assoc, append-nil}
 use Rattle.std.proofs.lemmas.List.{length-append}
-use Rattle.std.proofs.lemmas.Option.{same_Some}
-use Rattle.rv_base.specs.Regs.{number_of}
 use Rattle.rv_base.specs.declared.flags.IsaFlags.{IsaFlags}
-use Rattle.rv_base.specs.declared.ir_type.IrType.{IrType}
-use Rattle.rv_base.specs.declared.ir_type.IrType.TheVariants.{I32, I64}
-use Rattle.rv_base.specs.declared.regs.Reg.{Reg}
-use Rattle.rv_base.specs.declared.regs.Writable.{Writable}
-use Rattle.rv_base.specs.declared.trap.TrapCode.{TrapCode}
-use Rattle.rv_encode.specs.Operations.{decoded_branch}
-use Rattle.rv_ops.specs.declared.compare.IntegerCompare.{IntegerCompare}
 use Rattle.rv_inst.specs.Context.{Context}
-use Rattle.rv_inst.specs.Rules.{is_word_type, inst_rule}
 use Rattle.rv_inst.specs.declared.inst.Inst.{Inst}
-use Rattle.rv_inst.specs.declared.inst.Inst.TheVariants.{Nop0, Nop4, EBreak, SequencePoint, Args, Rets, DummyUse, EmitIsland, RawData, Lui, Auipc, LoadInlineConst, AluRRR, AluRRImm12, Mov, MovFromPReg, Load, Store, LoadAddr, LabelAddress, Ret, TrapIf, Jal, CondBr, Udf, Jalr, Popcnt}
-use Rattle.rv_inst.specs.declared.inst.CondBrTarget.{CondBrTarget}
-use Rattle.rv_inst.specs.declared.inst.CondBrTarget.TheVariants.{Label as ToLabel, Fallthrough}
 use Rattle.rv_inst.specs.declared.label_use.LabelUse.{LabelUse}
 use Rattle.rv_inst.specs.LabelUse.{marks_of}
-use Rattle.rv_inst.specs.Sizes.{Words, extent_of, island_space, move_size}
+use Rattle.rv_inst.specs.Sizes.{Words, extent_of}
 use Rattle.rv_inst.specs.Uses.{uses_in}
 use Rattle.rv_inst.specs.Traps.{inst_traps}
 use Rattle.mach_buffer.specs.declared.records.MachTrap.{MachTrap}
 use Rattle.mach_buffer.specs.declared.uses.Use.{Use}
 use Rattle.mach_buffer.specs.Shape.{Shape}
-use Rattle.mach_buffer.specs.Buffer.{shape_of, bytes_of, allocated_of}
-use Rattle.rv_emit.specs.declared.state.EmitVState.{EmitVState}
-use Rattle.rv_machine.specs.declared.decoding.Decoded.{Decoded}
-use Rattle.rv_emit.specs.Operations.{decoded_addi}
-use Rattle.rv_emit.specs.Emitted.{Buffer, IsSoundBuffer, AppendsInst, IslandIfNeeded}
-use Rattle.rv_emit.specs.Slots.{Slot, Op, Aim, Data, Traps, Allocate, Here, size_of, uses_of, traps_of, IsBlock, AreBlocks}
+use Rattle.mach_buffer.specs.Buffer.{shape_of, bytes_of, allocated_of, named_of}
+use Rattle.rv_emit.specs.Emitted.{Buffer, IsSoundBuffer, AppendsInst, named_by}
+use Rattle.rv_emit.specs.Slots.{Slot, Op, Aim, Data, Traps, Names, Allocate, Here, size_of, uses_of, traps_of, names_of}
 use Rattle.rv_emit.specs.Puts.{Puts}
-use Rattle.rv_emit.specs.InstParts.{move_slots, branch_slots, trap_slots, complement, constant_slots, slots_alone, parts_of}
-use Rattle.rv_emit.specs.declared.state.EmitVState.TheVariants.{Unknown}
-use Rattle.rv_emit.specs.Emission.{PutsParts, EmitsIn, Emits}
-use Rattle.rv_emit.proofs.SlotsPut.{rrr_long}
-use Rattle.rv_emit.proofs.Operands.{keeps, data_kept, constant_kept}
+use Rattle.rv_emit.specs.InstParts.{slots_alone}
+use Rattle.rv_emit.specs.Emission.{PutsParts}
+use Rattle.rv_base.specs.declared.constant.VCodeConstant.{VCodeConstant}
+use Rattle.rv_inst.specs.Operands.{inst_constant}
+use Rattle.rv_emit.proofs.PutsLast.{puts_last, puts_named, puts_constants}
 
 -- slots that allocate and bind no label
 abbrev pub IsPlain : List Slot → Type 0
@@ -46,6 +29,7 @@ IsPlain (Op d ∷ slots) = IsPlain slots
 IsPlain (Aim kind target ops ∷ slots) = IsPlain slots
 IsPlain (Data bytes ∷ slots) = IsPlain slots
 IsPlain (Traps code ∷ slots) = IsPlain slots
+IsPlain (Names k ∷ slots) = IsPlain slots
 IsPlain (Allocate ∷ slots) = ⊥
 IsPlain (Here k ∷ slots) = ⊥
 
@@ -109,17 +93,23 @@ plain_adds flags allocated (Traps code ∷ slots) s t plain (m, e, p) =
     adds_after s m t [] [] (uses_of allocated (length s.bytes) slots) (size_of slots) (record { offset = length s.bytes; code = code } ∷ []) (traps_of (length s.bytes) slots)
     (ap (λ (x : Shape LabelUse). x.bytes) e ∙ sym (append-nil s.bytes)) (ap (λ (x : Shape LabelUse). x.uses) e ∙ sym (append-nil s.uses)) (ap (λ (x : Shape LabelUse). x.place) e) (ap (λ (x : Shape LabelUse). x.labels) e) (ap (λ (x : Shape LabelUse). x.allocated) e) (ap (λ (x : Shape LabelUse). x.traps) e)
     (subst (λ n. Adds (size_of slots) (uses_of allocated n slots) (traps_of n slots) m t) long (plain_adds flags allocated slots m t plain p))
+plain_adds flags allocated (Names k ∷ slots) s t plain (m, e, p) =
+    let long : length m.bytes ≡ length s.bytes = ap (λ (x : Shape LabelUse). length x.bytes) e in
+    adds_after s m t [] [] (uses_of allocated (length s.bytes) slots) (size_of slots) [] (traps_of (length s.bytes) slots)
+    (ap (λ (x : Shape LabelUse). x.bytes) e ∙ sym (append-nil s.bytes)) (ap (λ (x : Shape LabelUse). x.uses) e ∙ sym (append-nil s.uses)) (ap (λ (x : Shape LabelUse). x.place) e) (ap (λ (x : Shape LabelUse). x.labels) e) (ap (λ (x : Shape LabelUse). x.allocated) e) (ap (λ (x : Shape LabelUse). x.traps) e ∙ sym (append-nil s.traps))
+    (subst (λ n. Adds (size_of slots) (uses_of allocated n slots) (traps_of n slots) m t) long (plain_adds flags allocated slots m t plain p))
 plain_adds flags allocated (Allocate ∷ slots) s t plain p = absurd plain
 plain_adds flags allocated (Here k ∷ slots) s t plain p = absurd plain
 
 -- ---- an instruction
 
--- an instruction's slots add its uses and traps, and as many bytes as it is long
+-- an instruction's slots add its uses and traps, and as many bytes as it is long, and name its constant
 pub record IsSummed (context : Context) (inst : Inst) (slots : List Slot) : Type 0 where
   pub plain : IsPlain slots
   pub long : extent_of context inst ≡ Words (size_of slots)
   pub uses : (allocated start : ℕ) → uses_of allocated start slots ≡ uses_in context start inst
   pub traps : (start : ℕ) → traps_of start slots ≡ inst_traps start (start + size_of slots) inst
+  pub names : (named : List VCodeConstant) → names_of slots named ≡ named_by (inst_constant inst) named
 
 pub summed : (context : Context) (inst : Inst) (slots : List Slot) (old new : Buffer) → IsSummed context inst slots → (flags : IsaFlags) → PutsParts flags (slots_alone slots) old new → AppendsInst context inst old new
 summed context inst slots old new is flags (mid, p, same) = subst (AppendsInst context inst old) (sym same) (record {
@@ -130,9 +120,12 @@ summed context inst slots old new is flags (mid, p, same) = subst (AppendsInst c
     places = a.place;
     labels = a.labels;
     allocated = a.allocated;
+    registered = (puts_last flags (allocated_of old) slots (shape_of old) (shape_of mid) p.puts).registered;
+    constants = puts_constants flags (allocated_of old) slots (shape_of old) (shape_of mid) p.puts;
     sound = p.sound;
   };
   traps = a.traps ∙ ap (λ more. (shape_of old).traps ++ more) (is.traps (length (bytes_of old)) ∙ ap (λ n. inst_traps (length (bytes_of old)) n inst) (sym end));
+  named = puts_named flags (allocated_of old) slots (shape_of old) (shape_of mid) p.puts ∙ is.names (named_of old);
   long = is.long ∙ ap Words (sym a.long);
 })
   where
@@ -143,8 +136,8 @@ summed context inst slots old new is flags (mid, p, same) = subst (AppendsInst c
     end = ap length a.bytes ∙ length-append (bytes_of old) a.code ∙ ap (λ n. length (bytes_of old) + n) a.long
 
 -- nothing was put
-pub nothing : (context : Context) (inst : Inst) (old new : Buffer) → IsSoundBuffer old → extent_of context inst ≡ Words 0 → uses_in context (length (bytes_of old)) inst ≡ [] → inst_traps (length (bytes_of old)) (length (bytes_of old)) inst ≡ [] → new ≡ old → AppendsInst context inst old new
-nothing context inst old new sound long uses traps same = subst (AppendsInst context inst old) (sym same) (record {
+pub nothing : (context : Context) (inst : Inst) (old new : Buffer) → IsSoundBuffer old → extent_of context inst ≡ Words 0 → uses_in context (length (bytes_of old)) inst ≡ [] → inst_traps (length (bytes_of old)) (length (bytes_of old)) inst ≡ [] → named_of old ≡ named_by (inst_constant inst) (named_of old) → new ≡ old → AppendsInst context inst old new
+nothing context inst old new sound long uses traps named same = subst (AppendsInst context inst old) (sym same) (record {
   code = [];
   adds = record {
     bytes = sym (append-nil (bytes_of old));
@@ -152,8 +145,11 @@ nothing context inst old new sound long uses traps same = subst (AppendsInst con
     places = refl;
     labels = refl;
     allocated = refl;
+    registered = refl;
+    constants = refl;
     sound = sound;
   };
   traps = sym (append-nil (shape_of old).traps) ∙ ap (λ more. (shape_of old).traps ++ more) (sym traps);
+  named = named;
   long = long;
 })

@@ -1,17 +1,18 @@
--- A buffer into which slots were put: what it had lasts, its bytes and uses are more by those of the slots, and each window
--- still ends in the bytes.
+-- A buffer into which slots were put: what it had lasts, its bytes, uses and named constants are more by those of the slots, no
+-- constant was put, and each window still ends in the bytes.
 use Rattle.std.proofs.Common.{◌≡◌, ℕ, ◌+◌, ◌≤◌, List, [], ◌∷◌, ◌++◌, length, refl, ap, sym, ◌∙◌, subst, arith, append_assoc}
 use Rattle.std.proofs.lemmas.List.{length-append}
 use Rattle.rv_base.specs.declared.flags.IsaFlags.{IsaFlags}
+use Rattle.rv_base.specs.declared.constant.VCodeConstant.{VCodeConstant}
 use Rattle.rv_inst.specs.declared.label_use.LabelUse.{LabelUse}
 use Rattle.rv_inst.specs.LabelUse.{label_kinds, marks_of}
 use Rattle.rv_inst.specs.Uses.{use_at}
 use Rattle.mach_buffer.specs.declared.uses.Use.{Use}
 use Rattle.mach_buffer.specs.Shape.{Shape, with_use}
 use Rattle.mach_buffer.specs.Growth.{Lasts}
-use Rattle.mach_buffer.specs.Pieces.{AllEnd}
-use Rattle.mach_buffer.proofs.Laws.{append_none, append_each, lasts_same, lasts_more, lasts_bytes, lasts_use, lasts_allocated, lasts_trap, lasts_label}
-use Rattle.rv_emit.specs.Slots.{Slot, Op, Aim, Data, Traps, Allocate, Here, slot_size, size_of, own_label, label_of, uses_of}
+use Rattle.mach_buffer.specs.Windows.{AllEnd}
+use Rattle.mach_buffer.proofs.Laws.{append_none, append_each, lasts_same, lasts_more, lasts_bytes, lasts_use, lasts_allocated, lasts_trap, lasts_named, lasts_label}
+use Rattle.rv_emit.specs.Slots.{Slot, Op, Aim, Data, Traps, Names, Allocate, Here, slot_size, size_of, own_label, label_of, uses_of, names_of}
 use Rattle.rv_emit.specs.Puts.{PutsSlot, Puts}
 
 -- ---- one slot
@@ -23,6 +24,7 @@ slot_lasts flags allocated (Aim kind target ops) s t p =
     subst (Lasts label_kinds s) (sym p.2) (lasts_more (lasts_use label_kinds u s (omega arith)) (lasts_bytes label_kinds p.0 (with_use u s)))
 slot_lasts flags allocated (Data bytes) s t p = subst (Lasts label_kinds s) (sym p) (lasts_bytes label_kinds bytes s)
 slot_lasts flags allocated (Traps code) s t p = subst (Lasts label_kinds s) (sym p) (lasts_trap label_kinds code s)
+slot_lasts flags allocated (Names k) s t p = subst (Lasts label_kinds s) (sym p) (lasts_named label_kinds k s)
 slot_lasts flags allocated Allocate s t p = subst (Lasts label_kinds s) (sym p) (lasts_allocated label_kinds s)
 slot_lasts flags allocated (Here k) s t p = subst (Lasts label_kinds s) (sym p.1) (lasts_label label_kinds (own_label allocated k) s p.0)
 
@@ -31,6 +33,7 @@ slot_bytes flags allocated (Op d) s t p = (λ i. length (p.3 i).bytes) ∙ lengt
 slot_bytes flags allocated (Aim kind target ops) s t p = (λ i. length (p.2 i).bytes) ∙ length-append s.bytes p.0 ∙ ap (λ n. length s.bytes + n) p.1.long
 slot_bytes flags allocated (Data bytes) s t p = (λ i. length (p i).bytes) ∙ length-append s.bytes bytes
 slot_bytes flags allocated (Traps code) s t p = (λ i. length (p i).bytes) ∙ omega arith
+slot_bytes flags allocated (Names k) s t p = (λ i. length (p i).bytes) ∙ omega arith
 slot_bytes flags allocated Allocate s t p = (λ i. length (p i).bytes) ∙ omega arith
 slot_bytes flags allocated (Here k) s t p = (λ i. length (p.1 i).bytes) ∙ omega arith
 
@@ -39,6 +42,7 @@ slot_uses flags allocated (Op d) s t p = (λ i. (p.3 i).uses) ∙ sym (append_no
 slot_uses flags allocated (Aim kind target ops) s t p = λ i. (p.2 i).uses
 slot_uses flags allocated (Data bytes) s t p = (λ i. (p i).uses) ∙ sym (append_none s.uses)
 slot_uses flags allocated (Traps code) s t p = (λ i. (p i).uses) ∙ sym (append_none s.uses)
+slot_uses flags allocated (Names k) s t p = (λ i. (p i).uses) ∙ sym (append_none s.uses)
 slot_uses flags allocated Allocate s t p = (λ i. (p i).uses) ∙ sym (append_none s.uses)
 slot_uses flags allocated (Here k) s t p = (λ i. (p.1 i).uses) ∙ sym (append_none s.uses)
 
@@ -48,6 +52,7 @@ uses_both allocated at (Op d) slots = refl
 uses_both allocated at (Aim kind target ops) slots = refl
 uses_both allocated at (Data bytes) slots = refl
 uses_both allocated at (Traps code) slots = let same : at + 0 ≡ at = omega arith in ap (λ n. uses_of allocated n slots) same
+uses_both allocated at (Names k) slots = let same : at + 0 ≡ at = omega arith in ap (λ n. uses_of allocated n slots) same
 uses_both allocated at Allocate slots = let same : at + 0 ≡ at = omega arith in ap (λ n. uses_of allocated n slots) same
 uses_both allocated at (Here k) slots = let same : at + 0 ≡ at = omega arith in ap (λ n. uses_of allocated n slots) same
 
@@ -59,8 +64,38 @@ slot_ends flags allocated (Aim kind target ops) s t p ends = subst (AllEnd label
     (λ j u h. let e = ends j u h in omega (arith, length-append s.bytes p.0)))
 slot_ends flags allocated (Data bytes) s t p ends = subst (AllEnd label_kinds) (sym p) (λ j u h. let e = ends j u h in omega (arith, length-append s.bytes bytes))
 slot_ends flags allocated (Traps code) s t p ends = subst (AllEnd label_kinds) (sym p) ends
+slot_ends flags allocated (Names k) s t p ends = subst (AllEnd label_kinds) (sym p) ends
 slot_ends flags allocated Allocate s t p ends = subst (AllEnd label_kinds) (sym p) ends
 slot_ends flags allocated (Here k) s t p ends = subst (AllEnd label_kinds) (sym p.1) ends
+
+slot_named : (flags : IsaFlags) (allocated : ℕ) (slot : Slot) (s t : Shape LabelUse) → PutsSlot flags allocated slot s t → t.named ≡ names_of (slot ∷ []) s.named
+slot_named flags allocated (Op d) s t p = λ i. (p.3 i).named
+slot_named flags allocated (Aim kind target ops) s t p = λ i. (p.2 i).named
+slot_named flags allocated (Data bytes) s t p = λ i. (p i).named
+slot_named flags allocated (Traps code) s t p = λ i. (p i).named
+slot_named flags allocated (Names k) s t p = λ i. (p i).named
+slot_named flags allocated Allocate s t p = λ i. (p i).named
+slot_named flags allocated (Here k) s t p = λ i. (p.1 i).named
+
+-- the names of a slot, and then those of others
+names_both : (slot : Slot) (slots : List Slot) (named : List VCodeConstant) → names_of slots (names_of (slot ∷ []) named) ≡ names_of (slot ∷ slots) named
+names_both (Op d) slots named = refl
+names_both (Aim kind target ops) slots named = refl
+names_both (Data bytes) slots named = refl
+names_both (Traps code) slots named = refl
+names_both (Names k) slots named = refl
+names_both Allocate slots named = refl
+names_both (Here k) slots named = refl
+
+-- no slot puts a constant
+slot_constants : (flags : IsaFlags) (allocated : ℕ) (slot : Slot) (s t : Shape LabelUse) → PutsSlot flags allocated slot s t → t.constants ≡ s.constants
+slot_constants flags allocated (Op d) s t p = λ i. (p.3 i).constants
+slot_constants flags allocated (Aim kind target ops) s t p = λ i. (p.2 i).constants
+slot_constants flags allocated (Data bytes) s t p = λ i. (p i).constants
+slot_constants flags allocated (Traps code) s t p = λ i. (p i).constants
+slot_constants flags allocated (Names k) s t p = λ i. (p i).constants
+slot_constants flags allocated Allocate s t p = λ i. (p i).constants
+slot_constants flags allocated (Here k) s t p = λ i. (p.1 i).constants
 
 -- ---- slots
 
@@ -79,6 +114,14 @@ puts_uses flags allocated (slot ∷ slots) s t p =
     ∙ (λ i. slot_uses flags allocated slot s p.0 p.1 i ++ uses_of allocated (slot_bytes flags allocated slot s p.0 p.1 i) slots)
     ∙ append_assoc s.uses (uses_of allocated (length s.bytes) (slot ∷ [])) (uses_of allocated (length s.bytes + slot_size slot) slots)
     ∙ ap (λ us. s.uses ++ us) (uses_both allocated (length s.bytes) slot slots)
+
+pub puts_named : (flags : IsaFlags) (allocated : ℕ) (slots : List Slot) (s t : Shape LabelUse) → Puts flags allocated slots s t → t.named ≡ names_of slots s.named
+puts_named flags allocated [] s t p = λ i. (p i).named
+puts_named flags allocated (slot ∷ slots) s t p = puts_named flags allocated slots p.0 t p.2 ∙ ap (names_of slots) (slot_named flags allocated slot s p.0 p.1) ∙ names_both slot slots s.named
+
+pub puts_constants : (flags : IsaFlags) (allocated : ℕ) (slots : List Slot) (s t : Shape LabelUse) → Puts flags allocated slots s t → t.constants ≡ s.constants
+puts_constants flags allocated [] s t p = λ i. (p i).constants
+puts_constants flags allocated (slot ∷ slots) s t p = puts_constants flags allocated slots p.0 t p.2 ∙ slot_constants flags allocated slot s p.0 p.1
 
 pub puts_ends : (flags : IsaFlags) (allocated : ℕ) (slots : List Slot) (s t : Shape LabelUse) → Puts flags allocated slots s t → AllEnd label_kinds s → AllEnd label_kinds t
 puts_ends flags allocated [] s t p ends = subst (AllEnd label_kinds) (sym p) ends

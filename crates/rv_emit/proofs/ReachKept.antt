@@ -2,7 +2,7 @@
 use Rattle.std.proofs.Common.{◌≡◌, ◌⊎◌, inl, inr, ℕ, zero, suc, ◌+◌, ◌*◌, ◌/◌, ◌≤◌, Bool, true, false, cond, List, [], ◌∷◌, ◌++◌, length, Option, Some, None, refl, ap, sym, ◌∙◌, subst, arith, ⊎_elim, append_assoc}
 use Rattle.std.specs.Prelude.{slice_get, nat_eq, ◌==◌, ◌%◌, ℤ, if◌then◌else◌}
 use Rattle.rv_machine.specs.State.{low64}
-use Rattle.rv_inst.specs.Addresses.{Location, Based, AtLabel, location_of, is_near, is_splittable, far_size, address_size, load_size_at, store_size_at}
+use Rattle.rv_inst.specs.Addresses.{Location, Based, AtLabel, AtConstant, location_of, is_near, is_splittable, far_size, address_size, load_size_at, store_size_at}
 use Rattle.std.proofs.lemmas.Option.{same_Some}
 use Rattle.std.proofs.lemmas.List.{length-append, append-nil}
 use Rattle.rv_base.specs.declared.label.MachLabel.{MachLabel}
@@ -20,7 +20,8 @@ use Rattle.rv_inst.specs.declared.label_use.LabelUse.TheVariants.{Jal20, B12, PC
 use Rattle.rv_inst.specs.LabelUse.{label_kinds, has_veneer_of}
 use Rattle.rv_inst.specs.Operands.{targets_of, ways_of, inst_ways}
 use Rattle.rv_inst.specs.declared.targets.Targets.{Targets}
-use Rattle.rv_inst.specs.declared.targets.Targets.TheVariants.{Nowhere, Jumps, Branches, Refers}
+use Rattle.rv_inst.specs.declared.targets.Targets.TheVariants.{Nowhere, Jumps, Branches, Refers, RefersConstant}
+use Rattle.mach_buffer.specs.Shape.{constant_label}
 use Rattle.mach_buffer.specs.Islands.{is_far}
 use Rattle.rv_base.specs.LabelUse.{Kinds}
 use Rattle.mach_buffer.specs.declared.uses.Use.{Use}
@@ -48,6 +49,7 @@ each_uses P context start inst none jump one two address = on (targets_of inst)
     on (Branches (Label t) Fallthrough) = one t
     on (Branches (Label t) (Label f)) = two t f
     on (Refers label) = address label
+    on (RefersConstant constant) = address (constant_label constant)
 
 -- at most two
 pub few_uses : (context : Context) (start : ℕ) (inst : Inst) → length (uses_in context start inst) ≤ 2
@@ -126,6 +128,7 @@ address_short (Based r o) = on (is_near o)
     on true = omega arith
     on false = let far = far_short o in omega arith
 address_short (AtLabel l) = omega arith
+address_short (AtConstant k) = omega arith
 
 access_short : (o : ℤ) (c : Bool) → (if c then 4 else far_size o + 8) ≤ 44
 access_short o true = omega arith
@@ -134,10 +137,12 @@ access_short o false = let far = far_short o in omega arith
 load_short : (at : Location) → load_size_at at ≤ 44
 load_short (Based r o) = access_short o (is_near o)
 load_short (AtLabel l) = omega arith
+load_short (AtConstant k) = omega arith
 
 store_short : (at : Location) → store_size_at at ≤ 44
 store_short (Based r o) = access_short o (is_near o)
 store_short (AtLabel l) = omega arith
+store_short (AtConstant k) = omega arith
 
 -- at most 44 bytes
 short : (context : Context) (inst : Inst) → inst_rule context inst ≡ None → size_in (extent_of context inst) ≤ 44
@@ -199,6 +204,7 @@ none_pending context place start inst e = on (targets_of inst) e
     on (Branches (Label t) Fallthrough) e = absurd (cc)
     on (Branches (Label t) (Label f)) e = absurd (cc)
     on (Refers label) e = refl
+    on (RefersConstant constant) e = refl
 
 -- a sequence is within its bounds
 pub block_bounds : (context : Context) (inst : Inst) (old new : Buffer) → inst_rule context inst ≡ None → AppendsInst context inst old new → IsBounded context inst old new

@@ -1,5 +1,5 @@
 -- Slots that several calls put, one call after the other, and what one call puts of data and traps.
-use Rattle.std.proofs.Common.{◌≡◌, ◌≢◌, ℕ, ◌+◌, true, false, nat_eq, pos, List, [], ◌∷◌, ◌++◌, length, Some, refl, ap, sym, ◌∙◌, subst, arith}
+use Rattle.std.proofs.Common.{◌≡◌, ◌≢◌, inl, inr, ℕ, ◌+◌, true, false, nat_eq, pos, List, [], ◌∷◌, ◌++◌, length, Some, refl, ap, sym, ◌∙◌, subst, arith}
 use Rattle.std.specs.Prelude.{if◌then◌else◌, ◌%◌, ◌^◌}
 use Rattle.std.specs.Int.{to_le_bytes, w32, w64}
 use Rattle.std.proofs.lemmas.Bool.Decides.{nat_tests}
@@ -14,15 +14,17 @@ use Rattle.rv_machine.specs.declared.decoding.Decoded.{Decoded}
 use Rattle.rv_machine.specs.Decode.{decode}
 use Rattle.rv_encode.specs.Operations.{decoded_branch}
 use Rattle.rv_inst.specs.declared.label_use.LabelUse.{LabelUse}
+use Rattle.rv_inst.specs.LabelUse.{label_kinds}
 use Rattle.mach_buffer.specs.Buffer.{shape_of, bytes_of, allocated_of}
-use Rattle.mach_buffer.specs.Shape.{Shape, with_bytes, with_trap}
+use Rattle.mach_buffer.specs.Shape.{Shape, IsUsable, with_bytes, with_trap}
+use Rattle.mach_buffer.specs.Growth.{Lasts}
 use Rattle.rv_emit.specs.Emitted.{Buffer, IsSoundBuffer}
 use Rattle.rv_emit.specs.Emission.{PutsAlone}
 use Rattle.rv_emit.specs.Slots.{Slot, Op, Data, size_of}
 use Rattle.rv_emit.specs.Puts.{Puts}
 use Rattle.rv_emit.specs.InstParts.{trap_slots, complement, inline_slots, constant_slots}
 use Rattle.rv_emit.proofs.PlainSlots.{IsPlain, plain_adds}
-use Rattle.rv_emit.proofs.PutsLast.{puts_bytes}
+use Rattle.rv_emit.proofs.PutsLast.{puts_last, puts_bytes}
 use Rattle.rv_emit.proofs.SlotsPut.{alone}
 
 -- ---- one after the other
@@ -48,6 +50,16 @@ alone_long slots old new p =
 
 pub alone_sound : (slots : List Slot) (old new : Buffer) → PutsAlone slots old new → IsSoundBuffer new
 alone_sound slots old new p = let q = p no_flags in subst IsSoundBuffer (sym q.2) q.1.sound
+
+-- a label that a use may name stays one
+usable_last : {s t : Shape LabelUse} (label : ℕ) → Lasts label_kinds s t → IsUsable s label → IsUsable t label
+usable_last label l (inl known) = inl (let more = l.allocated in omega arith)
+usable_last label l (inr c) = inr (record { index = c.index; constant = c.constant; there = l.named c.index c.constant c.there; is = c.is })
+
+pub alone_usable : (slots : List Slot) (old new : Buffer) (label : ℕ) → PutsAlone slots old new → IsUsable (shape_of old) label → IsUsable (shape_of new) label
+alone_usable slots old new label p usable =
+    let q = p no_flags in
+    subst (λ (b : Buffer). IsUsable (shape_of b) label) (sym q.2) (usable_last label (puts_last no_flags (allocated_of old) slots (shape_of old) (shape_of q.0) q.1.puts) usable)
 
 -- ---- data and traps
 

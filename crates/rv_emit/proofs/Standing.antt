@@ -13,13 +13,13 @@ use Rattle.rv_inst.specs.Uses.{use_at}
 use Rattle.mach_buffer.specs.declared.uses.Use.{Use}
 use Rattle.mach_buffer.specs.Shape.{Shape, with_bytes, with_trap}
 use Rattle.mach_buffer.specs.declared.records.MachTrap.{MachTrap}
-use Rattle.mach_buffer.specs.Windows.{window}
+use Rattle.mach_buffer.specs.Windows.{window, AllEnd}
 use Rattle.mach_buffer.specs.Reach.{is_reached}
 use Rattle.mach_buffer.specs.Growth.{Lasts}
-use Rattle.mach_buffer.specs.Pieces.{AllEnd, ByVeneer, UseFinished}
+use Rattle.mach_buffer.specs.Pieces.{ByVeneer, UseFinished}
 use Rattle.mach_buffer.proofs.Laws.{lasts_more, piece_finished, use_finished, slice_get-append, slice_get-append_last}
 use Rattle.rv_emit.specs.InstParts.{jump_to}
-use Rattle.rv_emit.specs.Slots.{Target, Label, Own, Slot, Op, Aim, Data, Traps, Allocate, Here, Part, Ask, Slots, slot_size, size_of, own_label, label_of, uses_of, between, here_at, IsClosed, AreClosed, IsBlock, AreBlocks}
+use Rattle.rv_emit.specs.Slots.{Target, Label, Own, Slot, Op, Aim, Data, Traps, Names, Allocate, Here, Part, Ask, Slots, slot_size, size_of, own_label, label_of, uses_of, between, here_at, IsClosed, AreClosed, IsBlock, AreBlocks}
 use Rattle.rv_emit.specs.Sites.{Site, BytesAt, CodeHas, LeadsOn, Leads, Reaches, AimsFrom, StandsIn, GapIn, PartsStand}
 use Rattle.rv_inst.specs.Traps.{IsRecorded}
 use Rattle.rv_emit.specs.Puts.{Encodes, PutsSlot, Puts}
@@ -45,6 +45,7 @@ closed_even here at (Op d ∷ slots) h = let e = h.0 in let r = closed_even here
 closed_even here at (Aim kind target ops ∷ slots) h = let e = marks_even kind in let r = closed_even here (at + length (marks_of kind)) slots h.1 in omega arith
 closed_even here at (Data bytes ∷ slots) h = let e = h.0 in let r = closed_even here (at + length bytes) slots h.1 in omega arith
 closed_even here at (Traps code ∷ slots) h = let r = closed_even here at slots h in omega arith
+closed_even here at (Names k ∷ slots) h = let r = closed_even here at slots h in omega arith
 closed_even here at (Allocate ∷ slots) h = let r = closed_even here at slots h in omega arith
 closed_even here at (Here k ∷ slots) h = let r = closed_even here at slots h in omega arith
 
@@ -63,21 +64,24 @@ record ArePut (f : Shape LabelUse) (allocated from : ℕ) (here : ℕ → Option
   pub own : (k to : ℕ) → here k ≡ Some to → new.place (own_label allocated k).number ≡ Some (from + to)
   pub lasts : Lasts label_kinds new f
 
-module _ (site : Site) (f : Shape LabelUse) (fin : IsFinishedTo f site.bytes) (same : site.place ≡ f.place) (same_traps : site.traps ≡ f.traps) where
+module _ (site : Site) (f : Shape LabelUse) (fin : IsFinishedTo f site.bytes) (same : site.place ≡ fin.finishes.put.place) (same_traps : site.traps ≡ f.traps) where
   -- the bytes of a shape that lasts are among those of the code
   pub within : (s : Shape LabelUse) → Lasts label_kinds s f → length s.bytes ≤ length site.bytes
   within s lasts = let a = lasts.grows.longer in let b = fin.finishes.grows.longer in let c = fin.finishes.same_length in omega arith
 
   -- a label that is bound stands in the code where it was bound
   placed_at : (s : Shape LabelUse) (label to : ℕ) → Lasts label_kinds s f → s.place label ≡ Some to → site.place label ≡ Some to
-  placed_at s label to lasts h = ap (λ (p : ℕ → Option ℕ). p label) same ∙ lasts.grows.places label to h
+  placed_at s label to lasts h = ap (λ (p : ℕ → Option ℕ). p label) same ∙ fin.finishes.grows.places label to (lasts.grows.places label to h)
+
+  -- and so does one that is bound in the buffer
+  bound_in : (label to : ℕ) → f.place label ≡ Some to → fin.finishes.put.place label ≡ Some to
+  bound_in label to h = fin.finishes.grows.places label to h
 
   -- a label stands at an even offset of the code
-  pub place_within : (label at : ℕ) → f.place label ≡ Some at → (at ≤ length site.bytes) × (at % 2 ≡ 0)
+  pub place_within : (label at : ℕ) → fin.finishes.put.place label ≡ Some at → (at ≤ length site.bytes) × (at % 2 ≡ 0)
   place_within label at h =
-      let there = fin.sound.places label at h in
+      let there = fin.finishes.places label at h in
       let le = there.0 in
-      let b = fin.finishes.grows.longer in
       let c = fin.finishes.same_length in (omega arith, there.1)
 
   -- a trap that was recorded is recorded in the code
@@ -100,10 +104,10 @@ module _ (site : Site) (f : Shape LabelUse) (fin : IsFinishedTo f site.bytes) (s
   -- ---- targets
 
   -- a veneer of the buffer leads to the place of its label
-  by_veneer : (u : Use LabelUse) (at : ℕ) (g : ByVeneer label_kinds f site.bytes u at) → LeadsOn site at g.to
+  by_veneer : (u : Use LabelUse) (at : ℕ) (g : ByVeneer label_kinds fin.finishes.put.place site.bytes u at) → LeadsOn site at g.to
   by_veneer u at g = subst (λ n. LeadsOn site n g.to) g.here (veneer_leads site u.kind u g.to g.via fin.all_bytes (place_within u.label.number g.to g.bound).1)
 
-  leads : (kind : LabelUse) (label : MachLabel) (at to : ℕ) (c : Bool) → has_veneer_of kind ≡ c → (f.place label.number ≡ Some to) ⊎ ByVeneer label_kinds f site.bytes (use_at at label kind) to → Leads site c label to
+  leads : (kind : LabelUse) (label : MachLabel) (at to : ℕ) (c : Bool) → has_veneer_of kind ≡ c → (fin.finishes.put.place label.number ≡ Some to) ⊎ ByVeneer label_kinds fin.finishes.put.place site.bytes (use_at at label kind) to → Leads site c label to
   leads kind label at to true h goes = ⊎_elim
       (λ e. (to, ap (λ (p : ℕ → Option ℕ). p label.number) same ∙ e, leads_here site to to refl))
       (λ g. (g.to, ap (λ (p : ℕ → Option ℕ). p label.number) same ∙ g.bound, by_veneer (use_at at label kind) to g))
@@ -114,7 +118,7 @@ module _ (site : Site) (f : Shape LabelUse) (fin : IsFinishedTo f site.bytes) (s
       goes
 
   reaches : (allocated from : ℕ) (here : ℕ → Option ℕ) (new : Shape LabelUse) → ArePut f allocated from here new → (at : ℕ) (kind : LabelUse) (target : Target) (s : Shape LabelUse) (piece : List ℕ) → length s.bytes ≡ from + at → slice_get new.uses (length s.uses) ≡ Some (use_at (length s.bytes) (label_of allocated target) kind) → IsClosed here kind target at →
-      (x : UseFinished label_kinds s f site.bytes piece (use_at (length s.bytes) (label_of allocated target) kind)) → Reaches site allocated kind target x.target
+      (x : UseFinished label_kinds s f fin.finishes.put.place site.bytes piece (use_at (length s.bytes) (label_of allocated target) kind)) → Reaches site allocated kind target x.target
   reaches allocated from here new put at kind (Label label) s piece e there closed x = leads kind label (length s.bytes) x.target (has_veneer_of kind) refl x.goes
   reaches allocated from here new put at kind (Own k) s piece e there closed x = ap (λ (p : ℕ → Option ℕ). p number) same ∙ x.straight (put.lasts.straight (length s.uses) u there refl (reached (new.place number) bound)) (reached (f.place number) (put.lasts.grows.places number (from + closed.to) bound))
     where
@@ -146,12 +150,12 @@ module _ (site : Site) (f : Shape LabelUse) (fin : IsFinishedTo f site.bytes) (s
       record { lasts = here; long = long; ends = slot_ends site.context.flags allocated slot s mid p; room = let w = within mid here in omega arith }
 
   -- what becomes of the window of a use
-  pub aim_finished : (allocated : ℕ) (kind : LabelUse) (target : Target) (ops : ℤ → List Decoded) (s mid : Shape LabelUse) (p : PutsSlot site.context.flags allocated (Aim kind target ops) s mid) → Lasts label_kinds mid f → UseFinished label_kinds s f site.bytes p.0 (use_at (length s.bytes) (label_of allocated target) kind)
+  pub aim_finished : (allocated : ℕ) (kind : LabelUse) (target : Target) (ops : ℤ → List Decoded) (s mid : Shape LabelUse) (p : PutsSlot site.context.flags allocated (Aim kind target ops) s mid) → Lasts label_kinds mid f → UseFinished label_kinds s f fin.finishes.put.place site.bytes p.0 (use_at (length s.bytes) (label_of allocated target) kind)
   aim_finished allocated kind target ops s mid p lasts =
-      use_finished {s = s} {piece = p.0} {u = use_at (length s.bytes) (label_of allocated target) kind} (record { at = refl; bare = refl; long = p.1.long }) (subst (λ (y : Shape LabelUse). Lasts label_kinds y f) p.2 lasts) fin.sound fin.can fin.finishes
+      use_finished {s = s} {piece = p.0} {u = use_at (length s.bytes) (label_of allocated target) kind} (record { at = refl; bare = refl; long = p.1.long }) (subst (λ (y : Shape LabelUse). Lasts label_kinds y f) p.2 lasts) fin.sound fin.finishes
 
   -- its operations stand in the code, by the distance to where it aims
-  pub aim_has : (allocated : ℕ) (kind : LabelUse) (target : Target) (ops : ℤ → List Decoded) (s mid : Shape LabelUse) (p : PutsSlot site.context.flags allocated (Aim kind target ops) s mid) → length s.bytes + length (marks_of kind) ≤ length site.bytes → (x : UseFinished label_kinds s f site.bytes p.0 (use_at (length s.bytes) (label_of allocated target) kind)) → CodeHas site (length s.bytes) (ops (between (length s.bytes) x.target))
+  pub aim_has : (allocated : ℕ) (kind : LabelUse) (target : Target) (ops : ℤ → List Decoded) (s mid : Shape LabelUse) (p : PutsSlot site.context.flags allocated (Aim kind target ops) s mid) → length s.bytes + length (marks_of kind) ≤ length site.bytes → (x : UseFinished label_kinds s f fin.finishes.put.place site.bytes p.0 (use_at (length s.bytes) (label_of allocated target) kind)) → CodeHas site (length s.bytes) (ops (between (length s.bytes) x.target))
   aim_has allocated kind target ops s mid p room x =
       code_has (length s.bytes) (length (marks_of kind)) (ops (between (length s.bytes) x.target)) room
       (p.1.patched (window site.bytes (length s.bytes) (length (marks_of kind))) (between (length s.bytes) x.target) (window_length site.bytes (length s.bytes) (length (marks_of kind)) room) (window_fits site.bytes (length s.bytes) (length (marks_of kind)) room fin.all_bytes) x.kept x.aimed)
@@ -197,6 +201,10 @@ module _ (site : Site) (f : Shape LabelUse) (fin : IsFinishedTo f site.bytes) (s
         recorded_at s p.0 code p.1 a.lasts,
         subst (λ n. StandsIn site allocated n slots) (long ∙ omega arith) (stands allocated from here new put at slots p.0 p.2 closed (omega arith) (a.ends ends)),
       )
+  stands allocated from here new put at (Names k ∷ slots) s p closed e ends =
+      let a = after_slot allocated (Names k) slots s p.0 new put.lasts p.1 p.2 in
+      let long = a.long in
+      subst (λ n. StandsIn site allocated n slots) (long ∙ omega arith) (stands allocated from here new put at slots p.0 p.2 closed (omega arith) (a.ends ends))
   stands allocated from here new put at (Allocate ∷ slots) s p closed e ends =
       let a = after_slot allocated Allocate slots s p.0 new put.lasts p.1 p.2 in
       let long = a.long in
@@ -228,7 +236,7 @@ module _ (site : Site) (f : Shape LabelUse) (fin : IsFinishedTo f site.bytes) (s
   island_leads : (from to : ℕ) → from % 2 ≡ 0 → IslandIn site.context.flags f from to → LeadsOn site from to
   island_leads from to even i =
       let jump = (slots_stand (jump_to (Label i.after_island) ∷ []) from (from + 4) (tt, tt) i.jump).0.0 in
-      let there : jump.reaches.0 ≡ to = same_Some jump.reaches.0 to (sym jump.reaches.1 ∙ ap (λ (p : ℕ → Option ℕ). p i.after_island.number) same ∙ i.bound) in
+      let there : jump.reaches.0 ≡ to = same_Some jump.reaches.0 to (sym jump.reaches.1 ∙ ap (λ (p : ℕ → Option ℕ). p i.after_island.number) same ∙ bound_in i.after_island.number to i.bound) in
       leads_both site from jump.to to
       (jump_leads site from jump.to even (slots_within (jump_to (Label i.after_island) ∷ []) from (from + 4) i.jump) jump.has)
       (subst (LeadsOn site jump.to) there jump.reaches.2)
@@ -237,11 +245,11 @@ module _ (site : Site) (f : Shape LabelUse) (fin : IsFinishedTo f site.bytes) (s
   pub gap_stands : (from to : ℕ) → from % 2 ≡ 0 → GapStandsIn site.context.flags f from to → GapIn site from to
   gap_stands from to even gap = ⊎_elim
       (λ (here : from ≡ to). record { leads = leads_here site from to here; even = λ e. omega arith; within = omega arith })
-      (λ i. record { leads = island_leads from to even i; even = λ e. (place_within i.after_island.number to i.bound).1; within = let l = i.longer in omega arith })
+      (λ i. record { leads = island_leads from to even i; even = λ e. (place_within i.after_island.number to (bound_in i.after_island.number to i.bound)).1; within = let l = i.longer in omega arith })
       gap
 
   gap_within : (from to : ℕ) → from ≤ length site.bytes → GapStandsIn site.context.flags f from to → to ≤ length site.bytes
-  gap_within from to le gap = ⊎_elim (λ (here : from ≡ to). omega arith) (λ i. (place_within i.after_island.number to i.bound).0) gap
+  gap_within from to le gap = ⊎_elim (λ (here : from ≡ to). omega arith) (λ i. (place_within i.after_island.number to (bound_in i.after_island.number to i.bound)).0) gap
 
   -- ---- parts
 

@@ -1,17 +1,18 @@
 -- What an instruction puts into a buffer: links of the proof.
-use Rattle.std.specs.Prelude.{◌≡◌, ℕ, ◌+◌, ◌*◌, ◌%◌, ◌^◌, ◌<◌, ◌≤◌, ◌⊎◌, ◌≢◌, Bool, true, false, List, [], ◌∷◌, ◌++◌, length, take, Some, None}
+use Rattle.std.specs.Prelude.{◌≡◌, ℕ, ◌+◌, ◌*◌, ◌%◌, ◌^◌, ◌<◌, ◌≤◌, ◌⊎◌, ◌≢◌, Bool, true, false, List, [], ◌∷◌, ◌++◌, length, take, Option, Some, None}
 use Rattle.rv_base.specs.declared.flags.IsaFlags.{IsaFlags}
 use Rattle.rv_base.specs.declared.label.MachLabel.{MachLabel}
+use Rattle.rv_base.specs.declared.constant.VCodeConstant.{VCodeConstant}
 use Rattle.rv_base.specs.Frame.{sp_to_args_end}
 use Rattle.rv_base.specs.LabelUse.{code_limit}
-use Rattle.mach_labels.specs.Table.{first_inner}
+use Rattle.mach_labels.specs.Table.{first_inner, first_constant}
 use Rattle.rv_inst.specs.declared.inst.Inst.{Inst}
 use Rattle.rv_inst.specs.declared.label_use.LabelUse.{LabelUse}
 use Rattle.rv_inst.specs.declared.label_use.LabelUse.TheVariants.{Jal20}
 use Rattle.rv_inst.specs.LabelUse.{label_kinds}
 use Rattle.rv_inst.specs.LabelUseWords.{word_bytes}
 use Rattle.rv_inst.specs.Context.{Context}
-use Rattle.rv_inst.specs.Operands.{inst_ways}
+use Rattle.rv_inst.specs.Operands.{inst_ways, inst_constant}
 use Rattle.rv_inst.specs.Rules.{inst_rule}
 use Rattle.rv_inst.specs.Sizes.{Words, extent_of, line_space, island_space, inst_sum}
 use Rattle.rv_inst.specs.Traps.{inst_traps}
@@ -19,8 +20,9 @@ use Rattle.rv_inst.specs.Uses.{use_at, uses_in}
 use Rattle.mach_buffer.specs.declared.buffer.MachBuffer.{MachBuffer}
 use Rattle.mach_buffer.specs.declared.uses.Use.{Use}
 use Rattle.mach_buffer.specs.Reach.{is_needed}
-use Rattle.mach_buffer.specs.Buffer.{shape_of, bytes_of, uses_of, place_of, labels_of, allocated_of, traps_of, pending_of, IsSound}
-use Rattle.mach_buffer.specs.Shape.{Shape, with_allocated}
+use Rattle.mach_buffer.specs.Buffer.{shape_of, bytes_of, uses_of, place_of, labels_of, allocated_of, traps_of, registered_of, named_of, constants_of, pending_of, IsSound}
+use Rattle.mach_buffer.specs.Shape.{Shape, with_allocated, name_more}
+use Rattle.mach_buffer.specs.Constants.{reserve_of, AllStand}
 use Rattle.mach_buffer.specs.Growth.{Lasts}
 use Rattle.mach_buffer.specs.Windows.{AreWindows}
 use Rattle.mach_buffer.specs.VeneerConditions.{AddsOwn}
@@ -46,25 +48,34 @@ pending b = pending_of label_kinds b
 
 -- ---- bytes and uses
 
--- bytes and uses were put at the end, and no label was allocated or bound
+-- bytes and uses were put at the end; no label was allocated or bound, and no constant registered or put
 pub record AppendsCode (code : List ℕ) (own : List (Use LabelUse)) (old new : Buffer) : Type 0 where
   pub bytes : bytes_of new ≡ bytes_of old ++ code
   pub uses : uses_of new ≡ uses_of old ++ own
   pub places : place_of new ≡ place_of old
   pub labels : labels_of new ≡ labels_of old
   pub allocated : allocated_of new ≡ allocated_of old
+  pub registered : registered_of new ≡ registered_of old
+  pub constants : constants_of new ≡ constants_of old
   pub sound : IsSoundBuffer new
 
--- an instruction's bytes, as many as it is long, its uses and its traps were put at the end
+-- the constant of an instruction is named, where it has one
+abbrev pub named_by : Option VCodeConstant → List VCodeConstant → List VCodeConstant
+named_by None named = named
+named_by (Some k) named = name_more k named
+
+-- an instruction's bytes, as many as it is long, its uses and its traps were put at the end, and its constant was named
 pub record AppendsInst (context : Context) (inst : Inst) (old new : Buffer) : Type 0 where
   pub code : List ℕ
   pub adds : AppendsCode code (uses_in context (length (bytes_of old)) inst) old new
   pub traps : traps_of new ≡ traps_of old ++ inst_traps (length (bytes_of old)) (length (bytes_of new)) inst
+  pub named : named_of new ≡ named_by (inst_constant inst) (named_of old)
   pub long : extent_of context inst ≡ Words (length code)
 
 -- ---- an island
 
--- an island was put: a jump to a new label that is bound at the end, and the veneers of all that was pending
+-- an island was put: a jump to a new label that is bound at the end, the veneers of all that was pending, and the constants that
+-- waited
 pub record AppendsIsland (old new : Buffer) : Type 0 where
   pub after_island : MachLabel
   pub drawn_label : after_island.number ≡ first_inner + allocated_of old
@@ -76,13 +87,16 @@ pub record AppendsIsland (old new : Buffer) : Type 0 where
   pub longer : length (bytes_of old) + 4 ≤ length (bytes_of new)
   pub own : AddsOwn label_kinds (length (bytes_of old) + 4) (uses_of old ++ use_at (length (bytes_of old)) after_island Jal20 ∷ []) (uses_of new)
   pub bound : place_of new after_island.number ≡ Some (length (bytes_of new))
-  pub places : (label : ℕ) → label ≢ after_island.number → place_of new label ≡ place_of old label
+  pub places : (label : ℕ) → label < first_constant → label ≢ after_island.number → place_of new label ≡ place_of old label
   pub labels : labels_of new ≡ labels_of old
   pub traps : traps_of new ≡ traps_of old
+  pub registered : registered_of new ≡ registered_of old
+  pub named : named_of new ≡ named_of old
   pub settled : pending new ≡ []
   pub aligned : length (bytes_of new) % 4 ≡ 0
-  pub short : length (bytes_of new) ≤ length (bytes_of old) + 14 + 8 * length (pending old)
+  pub short : length (bytes_of new) + reserve_of (shape_of new) ≤ length (bytes_of old) + 17 + 8 * length (pending old) + reserve_of (shape_of old)
   pub windows : HasWindows old → HasWindows new
+  pub constants : HasWindows old → AllStand label_kinds (shape_of old) → AllStand label_kinds (shape_of new)
   pub sound : IsSoundBuffer new
 
 -- an island was put exactly where one is needed before so many bytes
@@ -99,7 +113,7 @@ pub record CanEmit (context : Context) (inst : Inst) (b : Buffer) : Type 0 where
   pub sound : IsSoundBuffer b
   pub calm : is_needed (length (bytes_of b)) line_space (pending b) ≡ false
   pub few : allocated_of b < 2 ^ 29
-  pub room : length (bytes_of b) + inst_sum context inst + 8 * length (pending b) + 32 < code_limit
+  pub room : length (bytes_of b) + inst_sum context inst + reserve_of (shape_of b) + 8 * length (pending b) + 32 < code_limit
 
 -- ---- bounds
 

@@ -21,11 +21,12 @@ use Rattle.rv_machine.specs.declared.ops.MOp.TheVariants.{Base}
 use Rattle.rv_machine.specs.declared.ops.BaseOp.TheVariants as base
 use Rattle.rv_encode.specs.Operations.{row, decoded_rrr, decoded_rri, decoded_branch, decoded_load, decoded_store}
 use Rattle.rv_machine.specs.State.{low64}
-use Rattle.rv_inst.specs.Addresses.{Location, Based, AtLabel, location_of, is_near, is_splittable}
+use Rattle.mach_buffer.specs.Shape.{constant_label}
+use Rattle.rv_inst.specs.Addresses.{Location, Based, AtLabel, AtConstant, location_of, is_near, is_splittable}
 use Rattle.rv_emit.specs.Immediates.{upper_of, lower_of, upper_of_distance, lower_of_distance}
 use Rattle.rv_emit.specs.declared.state.EmitVState.{EmitVState}
 use Rattle.rv_emit.specs.Operations.{decoded_addi, decoded_slli, decoded_srli, decoded_and, decoded_beq, decoded_bge, decoded_ebreak, decoded_jalr, decoded_jump, decoded_add}
-use Rattle.rv_emit.specs.Slots.{Target, Label, Slot, Op, Aim, Data, Traps, Part, Ask, Slots}
+use Rattle.rv_emit.specs.Slots.{Target, Label, Slot, Op, Aim, Data, Traps, Names, Part, Ask, Slots}
 
 -- a jump to a target
 abbrev pub jump_to : Target → Slot
@@ -78,28 +79,53 @@ immediate_slots rd upper lower = Op (row (Base base.Lui) rd 0 0 upper) ∷ lower
 abbrev pub offset_slots : ℕ → ℤ → List Slot
 offset_slots rd o = if is_splittable o then immediate_slots rd (upper_of o) (lower_of o) else inline_slots rd loads.Ld 8 (to_le_bytes w64 (low64 o))
 
--- an address in a register
+-- the address of a label in a register
+abbrev pub label_slots : ℕ → MachLabel → List Slot
+label_slots rd l = upper_at rd l ∷ Aim PCRelLo12I (Label l) (λ d. decoded_addi rd rd (lower_of_distance d) ∷ []) ∷ []
+
+-- any address; a constant's is that of its label, once the constant is named
 abbrev pub address_slots : ℕ → Location → List Slot
 address_slots rd (Based r o) = if is_near o then Op (decoded_addi rd r o) ∷ [] else offset_slots rd o ++ Op (decoded_add rd rd r) ∷ []
-address_slots rd (AtLabel l) = upper_at rd l ∷ Aim PCRelLo12I (Label l) (λ d. decoded_addi rd rd (lower_of_distance d) ∷ []) ∷ []
+address_slots rd (AtLabel l) = label_slots rd l
+address_slots rd (AtConstant k) = Names k ∷ label_slots rd (constant_label k)
 
 -- the trap of an access, where it may trap
 abbrev pub access_slots : Option TrapCode → List Slot
 access_slots None = []
 access_slots (Some code) = Traps code ∷ []
 
--- a load: an address that is far from its register is computed in x31, and that of a label in rd
+-- a load from a label: the lower part of its distance is in the load's word
+abbrev pub label_load_slots : ℕ → LoadOP → Option TrapCode → MachLabel → List Slot
+label_load_slots rd op trap l = upper_at rd l ∷ access_slots trap ++ Aim PCRelLo12I (Label l) (λ d. decoded_load op rd rd (lower_of_distance d) ∷ []) ∷ []
+
+-- any load: an address that is far from its register is computed in x31, and that of a label or a constant in rd
 abbrev pub load_slots : ℕ → LoadOP → Option TrapCode → Location → List Slot
 load_slots rd op trap (Based r o) = if is_near o then access_slots trap ++ Op (decoded_load op rd r o) ∷ [] else address_slots 31 (Based r o) ++ access_slots trap ++ Op (decoded_load op rd 31 (pos 0)) ∷ []
-load_slots rd op trap (AtLabel l) = upper_at rd l ∷ access_slots trap ++ Aim PCRelLo12I (Label l) (λ d. decoded_load op rd rd (lower_of_distance d) ∷ []) ∷ []
+load_slots rd op trap (AtLabel l) = label_load_slots rd op trap l
+load_slots rd op trap (AtConstant k) = Names k ∷ label_load_slots rd op trap (constant_label k)
 
--- a store: an address that is far from its register, or a label's, is computed in x31
+-- a store: an address that is far from its register, or that of a label or a constant, is computed in x31
 abbrev pub far_store_slots : StoreOP → ℕ → Option TrapCode → Location → List Slot
 far_store_slots op src trap location = address_slots 31 location ++ access_slots trap ++ Op (decoded_store op 31 src (pos 0)) ∷ []
 
 abbrev pub store_slots : StoreOP → ℕ → Option TrapCode → Location → List Slot
 store_slots op src trap (Based r o) = if is_near o then access_slots trap ++ Op (decoded_store op r src o) ∷ [] else far_store_slots op src trap (Based r o)
 store_slots op src trap (AtLabel l) = far_store_slots op src trap (AtLabel l)
+store_slots op src trap (AtConstant k) = far_store_slots op src trap (AtConstant k)
+
+-- ---- constants
+
+-- the constant of an address is named before the code that takes the address
+abbrev pub naming_slots : Location → List Slot
+naming_slots (Based r o) = []
+naming_slots (AtLabel l) = []
+naming_slots (AtConstant k) = Names k ∷ []
+
+-- that code takes the address of its label
+abbrev pub labelled : Location → Location
+labelled (Based r o) = Based r o
+labelled (AtLabel l) = AtLabel l
+labelled (AtConstant k) = AtLabel (constant_label k)
 
 -- the ones of so many low bits are counted, from the highest on: the step counts down, and a bit moves down with it
 abbrev pub count_slots : ℕ → ℕ → ℕ → ℕ → ℕ → List Slot

@@ -1,6 +1,7 @@
 -- What it is for the parts of an instruction to run as the instruction means: links of the proof.
 use Rattle.std.specs.Prelude.{◌≡◌, ℕ, ◌+◌, ◌%◌, ◌<◌, ◌≤◌, List, length, Some, None, unwrap_or}
 use Rattle.rv_base.specs.LabelUse.{code_limit}
+use Rattle.mach_labels.specs.Table.{first_constant}
 use Rattle.rv_machine.specs.Decode.{decode}
 use Rattle.rv_machine.specs.State.{State, IsState, Values, AreValues, wrap}
 use Rattle.rv_machine.specs.Steps.{fetch, iter}
@@ -59,9 +60,10 @@ pub record ComesOut (site : Site) (start after : ℕ) (exit : Exit) (free : List
   pub are_values : AreValues v
   pub placed : IsPlacedAt site state.values.mem
 
--- what the parts of an instruction are read among that stand between two offsets; a label that isn't bound is at the base
+-- what the parts of an instruction are read among that stand between two offsets; a label that isn't bound, and a constant whose
+-- label isn't, is at the base
 abbrev pub environment : Site → ℕ → ℕ → Environment
-environment site start after = record { start = wrap (site.base + start); after = wrap (site.base + after); label = λ label. wrap (site.base + unwrap_or (site.place label) 0); frame = site.context.frame }
+environment site start after = record { start = wrap (site.base + start); after = wrap (site.base + after); label = λ label. wrap (site.base + unwrap_or (site.place label) 0); constant = λ number. wrap (site.base + unwrap_or (site.place (first_constant + number)) 0); frame = site.context.frame }
 
 -- the parts of an instruction run as it means, wherever they stand in the code, where it writes no byte of the code
 pub record RunsIn (site : Site) (setting : EmitVState) (inst : Inst) : Type 0 where

@@ -7,8 +7,8 @@ use Rattle.rv_machine.specs.State.{Memory}
 use Rattle.rv_inst.specs.declared.label_use.LabelUse.{LabelUse}
 use Rattle.rv_inst.specs.LabelUse.{Aims, marks_of}
 use Rattle.rv_inst.specs.Uses.{use_at}
-use Rattle.mach_buffer.specs.Shape.{Shape, with_bytes, with_use, with_label, with_allocated, with_trap}
-use Rattle.rv_emit.specs.Slots.{Slot, Op, Aim, Data, Traps, Allocate, Here, own_label, label_of}
+use Rattle.mach_buffer.specs.Shape.{Shape, with_bytes, with_use, with_label, with_allocated, with_trap, with_named}
+use Rattle.rv_emit.specs.Slots.{Slot, Op, Aim, Data, Traps, Names, Allocate, Here, own_label, label_of}
 use Rattle.rv_emit.specs.Sites.{BytesAt, HasOps}
 
 -- all are bytes
@@ -31,6 +31,7 @@ PutsSlot flags allocated (Op d) s t = (bytes : List ℕ) × (length bytes ≡ d.
 PutsSlot flags allocated (Aim kind target ops) s t = (window : List ℕ) × IsPatchable flags kind window ops × (t ≡ with_bytes window (with_use (use_at (length s.bytes) (label_of allocated target) kind) s))
 PutsSlot flags allocated (Data bytes) s t = t ≡ with_bytes bytes s
 PutsSlot flags allocated (Traps code) s t = t ≡ with_trap code s
+PutsSlot flags allocated (Names k) s t = t ≡ with_named k s
 PutsSlot flags allocated Allocate s t = t ≡ with_allocated s
 PutsSlot flags allocated (Here k) s t = (s.place (own_label allocated k).number ≡ None) × (t ≡ with_label (own_label allocated k) s)
 

@@ -1,8 +1,7 @@
 -- Finished code that stands in the memory, and an instruction's parts in it.
-use Rattle.std.specs.Prelude.{◌≡◌, ℕ, ◌+◌, ◌%◌, ◌^◌, ◌<◌, ◌≤◌, Bool, true, false, List, [], ◌∷◌, length, Option, Some, ℤ, slice_index, slice_get}
+use Rattle.std.specs.Prelude.{◌≡◌, ℕ, ◌+◌, ◌%◌, ◌^◌, ◌<◌, ◌≤◌, Bool, true, false, List, [], ◌∷◌, length, Option, Some, ℤ, slice_index}
 use Rattle.rv_base.specs.declared.flags.IsaFlags.{IsaFlags}
 use Rattle.rv_base.specs.declared.label.MachLabel.{MachLabel}
-use Rattle.rv_base.specs.declared.trap.TrapCode.{TrapCode}
 use Rattle.mach_buffer.specs.declared.records.MachTrap.{MachTrap}
 use Rattle.rv_machine.specs.declared.decoding.Decoded.{Decoded}
 use Rattle.rv_machine.specs.Decode.{decode}
@@ -13,7 +12,7 @@ use Rattle.rv_inst.specs.Traps.{IsRecorded}
 use Rattle.rv_inst.specs.declared.label_use.LabelUse.{LabelUse}
 use Rattle.rv_inst.specs.LabelUse.{marks_of, has_veneer_of}
 use Rattle.rv_inst.specs.SameValues.{Same}
-use Rattle.rv_emit.specs.Slots.{Target, Label, Own, Slot, Op, Aim, Data, Traps, Allocate, Here, Part, Ask, Slots, size_of, own_label, between}
+use Rattle.rv_emit.specs.Slots.{Target, Label, Own, Slot, Op, Aim, Data, Traps, Names, Allocate, Here, Part, Ask, Slots, size_of, own_label, between}
 
 -- ---- code in the memory
 
@@ -27,7 +26,8 @@ abbrev pub HasOps : IsaFlags → Memory → ℕ → List Decoded → Type 0
 HasOps flags mem a [] = Unit {0}
 HasOps flags mem a (d ∷ ops) = (decode flags (fetch mem a) ≡ Some d) × HasOps flags mem (a + d.len) ops
 
--- finished code: its job's context, its bytes, the address from which they stand, the offsets of its labels, and its traps
+-- finished code: its job's context, its bytes, the address from which they stand, the offsets of its labels in the end, those of
+-- constants among them, and its traps
 pub record Site : Type 0 where
   pub context : Context
   pub base : ℕ
@@ -88,6 +88,7 @@ StandsIn site allocated at (Op d ∷ slots) = CodeHas site at (d ∷ []) × Stan
 StandsIn site allocated at (Aim kind target ops ∷ slots) = AimsFrom site allocated at kind target ops × StandsIn site allocated (at + length (marks_of kind)) slots
 StandsIn site allocated at (Data bytes ∷ slots) = ((mem : Memory) → IsPlacedAt site mem → BytesAt mem (site.base + at) bytes) × StandsIn site allocated (at + length bytes) slots
 StandsIn site allocated at (Traps code ∷ slots) = IsRecorded site.traps at code × StandsIn site allocated at slots
+StandsIn site allocated at (Names k ∷ slots) = StandsIn site allocated at slots
 StandsIn site allocated at (Allocate ∷ slots) = StandsIn site allocated at slots
 StandsIn site allocated at (Here k ∷ slots) = (site.place (own_label allocated k).number ≡ Some at) × StandsIn site allocated at slots
 

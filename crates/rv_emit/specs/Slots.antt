@@ -2,6 +2,7 @@
 use Rattle.std.specs.Prelude.{◌≡◌, ℕ, ◌+◌, ◌%◌, ◌≤◌, nat_eq, if◌then◌else◌, List, [], ◌∷◌, length, Option, Some, None, ℤ, pos, ◌-ℤ◌}
 use Rattle.rv_base.specs.declared.label.MachLabel.{MachLabel}
 use Rattle.rv_base.specs.declared.trap.TrapCode.{TrapCode}
+use Rattle.rv_base.specs.declared.constant.VCodeConstant.{VCodeConstant}
 use Rattle.mach_labels.specs.Table.{first_inner}
 use Rattle.rv_machine.specs.declared.decoding.Decoded.{Decoded}
 use Rattle.rv_inst.specs.declared.label_use.LabelUse.{LabelUse}
@@ -9,6 +10,7 @@ use Rattle.rv_inst.specs.LabelUse.{marks_of, forward_of, backward_of}
 use Rattle.rv_inst.specs.Uses.{use_at}
 use Rattle.mach_buffer.specs.declared.uses.Use.{Use}
 use Rattle.mach_buffer.specs.declared.records.MachTrap.{MachTrap}
+use Rattle.mach_buffer.specs.Shape.{name_more}
 
 -- a label that may stand far away, or one of the instruction's own, by its number among those
 pub data Target : Type 0 where
@@ -16,12 +18,13 @@ pub data Target : Type 0 where
   Own : ℕ → Target
 
 -- an operation of the machine; the window of a use of a label, with its operations by the distance that it holds; bytes that
--- are no code; the record of a trap here; an own label that is allocated; or an own label that is bound here
+-- are no code; the record of a trap here; a constant that is named; an own label that is allocated; or one that is bound here
 pub data Slot : Type 0 where
   Op : Decoded → Slot
   Aim : LabelUse → Target → (ℤ → List Decoded) → Slot
   Data : List ℕ → Slot
   Traps : TrapCode → Slot
+  Names : VCodeConstant → Slot
   Allocate : Slot
   Here : ℕ → Slot
 
@@ -37,6 +40,7 @@ slot_size (Op d) = d.len
 slot_size (Aim kind target ops) = length (marks_of kind)
 slot_size (Data bytes) = length bytes
 slot_size (Traps code) = 0
+slot_size (Names k) = 0
 slot_size Allocate = 0
 slot_size (Here k) = 0
 
@@ -61,6 +65,7 @@ allocations (Op d ∷ slots) = allocations slots
 allocations (Aim kind target ops ∷ slots) = allocations slots
 allocations (Data bytes ∷ slots) = allocations slots
 allocations (Traps code ∷ slots) = allocations slots
+allocations (Names k ∷ slots) = allocations slots
 allocations (Allocate ∷ slots) = 1 + allocations slots
 allocations (Here k ∷ slots) = allocations slots
 
@@ -71,6 +76,7 @@ uses_of allocated at (Op d ∷ slots) = uses_of allocated (at + d.len) slots
 uses_of allocated at (Aim kind target ops ∷ slots) = use_at at (label_of allocated target) kind ∷ uses_of allocated (at + length (marks_of kind)) slots
 uses_of allocated at (Data bytes ∷ slots) = uses_of allocated (at + length bytes) slots
 uses_of allocated at (Traps code ∷ slots) = uses_of allocated at slots
+uses_of allocated at (Names k ∷ slots) = uses_of allocated at slots
 uses_of allocated at (Allocate ∷ slots) = uses_of allocated at slots
 uses_of allocated at (Here k ∷ slots) = uses_of allocated at slots
 
@@ -81,8 +87,20 @@ traps_of at (Op d ∷ slots) = traps_of (at + d.len) slots
 traps_of at (Aim kind target ops ∷ slots) = traps_of (at + length (marks_of kind)) slots
 traps_of at (Data bytes ∷ slots) = traps_of (at + length bytes) slots
 traps_of at (Traps code ∷ slots) = record { offset = at; code = code } ∷ traps_of at slots
+traps_of at (Names k ∷ slots) = traps_of at slots
 traps_of at (Allocate ∷ slots) = traps_of at slots
 traps_of at (Here k ∷ slots) = traps_of at slots
+
+-- the constants that are named, once slots name theirs
+abbrev pub names_of : List Slot → List VCodeConstant → List VCodeConstant
+names_of [] named = named
+names_of (Op d ∷ slots) named = names_of slots named
+names_of (Aim kind target ops ∷ slots) named = names_of slots named
+names_of (Data bytes ∷ slots) named = names_of slots named
+names_of (Traps code ∷ slots) named = names_of slots named
+names_of (Names k ∷ slots) named = names_of slots (name_more k named)
+names_of (Allocate ∷ slots) named = names_of slots named
+names_of (Here k ∷ slots) named = names_of slots named
 
 -- ---- distances
 
@@ -99,6 +117,7 @@ here_at k at (Op d ∷ slots) = here_at k (at + d.len) slots
 here_at k at (Aim kind target ops ∷ slots) = here_at k (at + length (marks_of kind)) slots
 here_at k at (Data bytes ∷ slots) = here_at k (at + length bytes) slots
 here_at k at (Traps code ∷ slots) = here_at k at slots
+here_at k at (Names constant ∷ slots) = here_at k at slots
 here_at k at (Allocate ∷ slots) = here_at k at slots
 here_at k at (Here j ∷ slots) = if nat_eq j k then Some at else here_at k at slots
 
@@ -120,6 +139,7 @@ AreClosed here at (Op d ∷ slots) = (d.len % 2 ≡ 0) × AreClosed here (at + d
 AreClosed here at (Aim kind target ops ∷ slots) = IsClosed here kind target at × AreClosed here (at + length (marks_of kind)) slots
 AreClosed here at (Data bytes ∷ slots) = (length bytes % 2 ≡ 0) × AreClosed here (at + length bytes) slots
 AreClosed here at (Traps code ∷ slots) = AreClosed here at slots
+AreClosed here at (Names k ∷ slots) = AreClosed here at slots
 AreClosed here at (Allocate ∷ slots) = AreClosed here at slots
 AreClosed here at (Here k ∷ slots) = AreClosed here at slots
 

@@ -4,10 +4,9 @@ use Rattle.rv_base.specs.declared.flags.IsaFlags.{IsaFlags}
 use Rattle.rv_base.specs.declared.label.MachLabel.{MachLabel}
 use Rattle.rv_inst.specs.declared.label_use.LabelUse.{LabelUse}
 use Rattle.rv_inst.specs.LabelUse.{label_kinds}
-use Rattle.mach_buffer.specs.declared.pending.Pending.{Pending}
 use Rattle.mach_buffer.specs.Shape.{Shape}
 use Rattle.mach_buffer.specs.Windows.{AreWindows}
-use Rattle.mach_buffer.specs.Buffer.{AreSound}
+use Rattle.mach_buffer.specs.Buffer.{Inside, AreSound}
 use Rattle.mach_buffer.specs.Finish.{CanFinish, Finishes}
 use Rattle.mach_buffer.specs.Growth.{Lasts}
 use Rattle.rv_emit.specs.Slots.{Label, Slot, Part, Ask, Slots}
@@ -43,7 +42,7 @@ PartsIn flags (Slots slots ∷ parts) f start end = (mid : ℕ) × SlotsIn flags
 
 -- what a sound buffer shows was finished to these bytes
 pub record IsFinishedTo (f : Shape LabelUse) (bytes : List ℕ) : Type 0 where
-  pub pending : Pending
+  pub pending : Inside
   pub sound : AreSound label_kinds f pending
   pub can : CanFinish label_kinds f
   pub finishes : Finishes label_kinds f bytes

@@ -1,6 +1,7 @@
 -- What the words of an instruction ask of its registers, labels and numbers.
-use Rattle.std.specs.Prelude.{◌≡◌, ◌≢◌, ◌⊎◌, ◌<◌, true, length, Option, Some, None}
+use Rattle.std.specs.Prelude.{◌≡◌, ◌≢◌, ◌⊎◌, ◌<◌, true, List, length, Option, Some, None}
 use Rattle.rv_base.specs.declared.amode.AMode.{AMode}
+use Rattle.rv_base.specs.declared.constant.Constant.{Constant}
 use Rattle.rv_base.specs.declared.amode.AMode.TheVariants.{RegOffset, SPOffset, FPOffset, SlotOffset, IncomingArg, Const, Label as ToLabel}
 use Rattle.rv_base.specs.AMode.{IsNear, base_of}
 use Rattle.rv_base.specs.declared.regs.Reg.{Reg}
@@ -31,46 +32,48 @@ IsFineTarget Fallthrough = Unit {0}
 abbrev pub IsFineBranch : IntegerCompare → CondBrTarget → CondBrTarget → Type 0
 IsFineBranch kind taken not_taken = IsIntRegister kind.rs1 × IsIntRegister kind.rs2 × IsFineTarget taken × IsFineTarget not_taken
 
--- an integer register below x30, an offset whose sums with a frame's sizes stay within 64 bits, a label of a listing
-abbrev pub IsFineAddress : AMode → Type 0
-IsFineAddress (RegOffset r o) = IsUsable r × IsNear o
-IsFineAddress (SPOffset o) = IsNear o
-IsFineAddress (FPOffset o) = IsNear o
-IsFineAddress (SlotOffset o) = IsNear o
-IsFineAddress (IncomingArg o) = IsNear o
-IsFineAddress (Const k) = Unit {0}
-IsFineAddress (ToLabel l) = IsListed l
+-- an integer register below x30, an offset whose sums with a frame's sizes stay within 64 bits, one of these constants, a label
+-- of a listing
+abbrev pub IsFineAddress : List Constant → AMode → Type 0
+IsFineAddress constants (RegOffset r o) = IsUsable r × IsNear o
+IsFineAddress constants (SPOffset o) = IsNear o
+IsFineAddress constants (FPOffset o) = IsNear o
+IsFineAddress constants (SlotOffset o) = IsNear o
+IsFineAddress constants (IncomingArg o) = IsNear o
+IsFineAddress constants (Const k) = k.number < length constants
+IsFineAddress constants (ToLabel l) = IsListed l
 
 -- a register isn't the one that an address counts from
 abbrev pub IsApart : Reg → Option Reg → Type 0
 IsApart r None = Unit {0}
 IsApart r (Some base) = number_of r ≢ number_of base
 
-abbrev pub IsFine : Inst → Type 0
-IsFine Nop0 = Unit {0}
-IsFine Nop4 = Unit {0}
-IsFine EBreak = Unit {0}
-IsFine SequencePoint = Unit {0}
-IsFine (Args args) = Unit {0}
-IsFine (Rets rets) = Unit {0}
-IsFine (DummyUse reg) = Unit {0}
-IsFine (EmitIsland needed_space) = Unit {0}
-IsFine (RawData bytes) = (length bytes ≡ 4) ⊎ (length bytes ≡ 8)
-IsFine (Lui rd imm) = IsIntRegister rd.reg
-IsFine (Auipc rd imm) = IsIntRegister rd.reg
-IsFine (LoadInlineConst rd type imm) = IsIntRegister rd.reg
-IsFine (AluRRR op rd rs1 rs2) = IsIntRegister rd.reg × IsIntRegister rs1 × IsIntRegister rs2
-IsFine (AluRRImm12 op rd rs imm) = IsIntRegister rd.reg × IsIntRegister rs
-IsFine (Mov rd rm type) = IsIntRegister rd.reg × IsIntRegister rm
-IsFine (MovFromPReg rd rm) = IsIntRegister rd.reg × IsIntRegister (Real rm)
-IsFine (Load rd op flags from) = IsIntRegister rd.reg × IsFineAddress from
-IsFine (Store to op flags src) = IsIntRegister src × IsFineAddress to
-IsFine (LoadAddr rd mem) = IsIntRegister rd.reg × IsFineAddress mem × IsApart rd.reg (base_of mem)
-IsFine (LabelAddress dst label) = IsIntRegister dst.reg × IsListed label
-IsFine Ret = Unit {0}
-IsFine (TrapIf cmp code) = IsIntRegister cmp.rs1 × IsIntRegister cmp.rs2
-IsFine (Jal label) = IsListed label
-IsFine (CondBr taken not_taken kind) = IsFineBranch kind taken not_taken
-IsFine (Udf code) = Unit {0}
-IsFine (Jalr rd base offset) = IsIntRegister rd.reg × IsIntRegister base
-IsFine (Popcnt sum tmp step rs type) = IsIntRegister sum.reg × IsIntRegister tmp.reg × IsIntRegister step.reg × IsIntRegister rs × (is_int_type type ≡ true)
+-- among these constants
+abbrev pub IsFine : List Constant → Inst → Type 0
+IsFine constants Nop0 = Unit {0}
+IsFine constants Nop4 = Unit {0}
+IsFine constants EBreak = Unit {0}
+IsFine constants SequencePoint = Unit {0}
+IsFine constants (Args args) = Unit {0}
+IsFine constants (Rets rets) = Unit {0}
+IsFine constants (DummyUse reg) = Unit {0}
+IsFine constants (EmitIsland needed_space) = Unit {0}
+IsFine constants (RawData bytes) = (length bytes ≡ 4) ⊎ (length bytes ≡ 8)
+IsFine constants (Lui rd imm) = IsIntRegister rd.reg
+IsFine constants (Auipc rd imm) = IsIntRegister rd.reg
+IsFine constants (LoadInlineConst rd type imm) = IsIntRegister rd.reg
+IsFine constants (AluRRR op rd rs1 rs2) = IsIntRegister rd.reg × IsIntRegister rs1 × IsIntRegister rs2
+IsFine constants (AluRRImm12 op rd rs imm) = IsIntRegister rd.reg × IsIntRegister rs
+IsFine constants (Mov rd rm type) = IsIntRegister rd.reg × IsIntRegister rm
+IsFine constants (MovFromPReg rd rm) = IsIntRegister rd.reg × IsIntRegister (Real rm)
+IsFine constants (Load rd op flags from) = IsIntRegister rd.reg × IsFineAddress constants from
+IsFine constants (Store to op flags src) = IsIntRegister src × IsFineAddress constants to
+IsFine constants (LoadAddr rd mem) = IsIntRegister rd.reg × IsFineAddress constants mem × IsApart rd.reg (base_of mem)
+IsFine constants (LabelAddress dst label) = IsIntRegister dst.reg × IsListed label
+IsFine constants Ret = Unit {0}
+IsFine constants (TrapIf cmp code) = IsIntRegister cmp.rs1 × IsIntRegister cmp.rs2
+IsFine constants (Jal label) = IsListed label
+IsFine constants (CondBr taken not_taken kind) = IsFineBranch kind taken not_taken
+IsFine constants (Udf code) = Unit {0}
+IsFine constants (Jalr rd base offset) = IsIntRegister rd.reg × IsIntRegister base
+IsFine constants (Popcnt sum tmp step rs type) = IsIntRegister sum.reg × IsIntRegister tmp.reg × IsIntRegister step.reg × IsIntRegister rs × (is_int_type type ≡ true)

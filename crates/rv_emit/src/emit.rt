@@ -1,8 +1,8 @@
 //! Emission of an instruction.
 
-ghost use Rattle.std.specs.Prelude.{◌≡◌, [], length, OnOk, OnErr, true};
+ghost use Rattle.std.specs.Prelude.{◌≡◌, length, OnOk, OnErr, true};
 ghost use Rattle.mach_buffer.specs.Reach.{CanReach};
-ghost use Rattle.mach_buffer.specs.Buffer.{bytes_of, spoiled_of};
+ghost use Rattle.mach_buffer.specs.Buffer.{bytes_of, registered_of, spoiled_of};
 ghost use Rattle.rv_emit.specs.Emitted.{pending, CanEmit, IsBounded};
 ghost use Rattle.rv_emit.specs.Emission.{Emits};
 ghost use Rattle.rv_inst.specs.Context.{context_by};
@@ -17,10 +17,10 @@ use std::alloc::Global;
 
 /// What can be emitted into a buffer.
 pub trait MachInstEmit {
-    ghost use Rattle.std.specs.Prelude.{◌≡◌, [], length, OnOk, OnErr, IfErr, true};
+    ghost use Rattle.std.specs.Prelude.{◌≡◌, length, OnOk, OnErr, IfErr, true};
     ghost use Rattle.rv_inst.specs.declared.error.EmitError.TheVariants as error;
     ghost use Rattle.mach_buffer.specs.Reach.{CanReach};
-    ghost use Rattle.mach_buffer.specs.Buffer.{bytes_of, spoiled_of};
+    ghost use Rattle.mach_buffer.specs.Buffer.{bytes_of, registered_of, spoiled_of};
     ghost use Rattle.rv_inst.specs.Context.{Context, context_by};
     ghost use Rattle.rv_emit.specs.Emitted.{Buffer, pending};
     ghost use Rattle.rv_emit.specs.declared.state.EmitVState.{EmitVState as Setting};
@@ -45,9 +45,9 @@ pub trait MachInstEmit {
         info: &EmitInfo,
         state: &mut EmitState,
     ) -> Result<(), EmitError>
-        requires { asks (context_by info.now.isa_flags state.old.frame []) self.now sink.old }
-        ensures emitted { OnOk result (puts (context_by info.now.isa_flags state.old.frame []) state.old.vstate self.now sink.old sink.new) }
-        ensures bounds { OnOk result (bounds (context_by info.now.isa_flags state.old.frame []) self.now sink.old sink.new) }
+        requires { asks (context_by info.now.isa_flags state.old.frame (registered_of sink.old)) self.now sink.old }
+        ensures emitted { OnOk result (puts (context_by info.now.isa_flags state.old.frame (registered_of sink.old)) state.old.vstate self.now sink.old sink.new) }
+        ensures bounds { OnOk result (bounds (context_by info.now.isa_flags state.old.frame (registered_of sink.old)) self.now sink.old sink.new) }
         ensures reach { OnOk result (CanReach (length (bytes_of sink.new)) (pending sink.new)) }
         ensures frame { state.new.frame ≡ state.old.frame }
         ensures setting { OnOk result (state.new.vstate ≡ setting_after self.now state.old.vstate) }
@@ -82,16 +82,16 @@ impl MachInstEmit for Inst {
     }
 }
 
-/// Puts the sequence of an instruction, or an island where the instruction asks for one. No constant is registered.
+/// Puts the sequence of an instruction, or an island where the instruction asks for one.
 fn put(
     sink: &mut MachBuffer<LabelUse>,
     flags: IsaFlags,
     frame: &FrameLayout,
     inst: &Inst,
 ) -> Result<(), OutOfMemory>
-    requires { CanEmit (context_by flags frame.now []) inst.now sink.old }
-    ensures emitted { OnOk result (Emits (context_by flags frame.now []) inst.now sink.old sink.new) }
-    ensures bounds { OnOk result (IsBounded (context_by flags frame.now []) inst.now sink.old sink.new) }
+    requires { CanEmit (context_by flags frame.now (registered_of sink.old)) inst.now sink.old }
+    ensures emitted { OnOk result (Emits (context_by flags frame.now (registered_of sink.old)) inst.now sink.old sink.new) }
+    ensures bounds { OnOk result (IsBounded (context_by flags frame.now (registered_of sink.old)) inst.now sink.old sink.new) }
     ensures reach { OnOk result (CanReach (length (bytes_of sink.new)) (pending sink.new)) }
     ensures spoiled { OnErr result (spoiled_of sink.new ≡ true) }
 {

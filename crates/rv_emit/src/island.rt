@@ -1,10 +1,11 @@
-//! Islands: where one is needed, a jump over it and the veneers of all that is pending.
+//! Islands: where one is needed, a jump over it, the veneers of all that is pending, and the constants that wait.
 
 ghost use Rattle.std.specs.Prelude.{◌≡◌, ◌+◌, ◌*◌, ◌<◌, ◌^◌, length, IfOk, OnOk, OnErr, true};
 ghost use Rattle.rv_base.specs.LabelUse.{code_limit};
 ghost use Rattle.mach_buffer.specs.Reach.{CanReach};
-ghost use Rattle.mach_buffer.specs.Buffer.{bytes_of, allocated_of, spoiled_of};
+ghost use Rattle.mach_buffer.specs.Buffer.{shape_of, bytes_of, allocated_of, spoiled_of};
 ghost use Rattle.mach_buffer.specs.Shape.{inner_count};
+ghost use Rattle.mach_buffer.specs.Constants.{reserve_of};
 ghost use Rattle.rv_emit.specs.Emitted.{IsSoundBuffer, pending, AppendsIsland, IslandIfNeeded};
 
 use crate::sequence::put_jump;
@@ -20,7 +21,7 @@ pub fn emit_island_if_needed(
     requires sound { IsSoundBuffer sink.old }
     requires reach { CanReach (length (bytes_of sink.old)) (pending sink.old) }
     requires few { allocated_of sink.old < inner_count }
-    requires room { length (bytes_of sink.old) + 8 * length (pending sink.old) + 32 < code_limit }
+    requires room { length (bytes_of sink.old) + reserve_of (shape_of sink.old) + 8 * length (pending sink.old) + 32 < code_limit }
     ensures made { IfOk result (λ made. IslandIfNeeded distance sink.old sink.new made) }
     ensures refused { OnErr result (spoiled_of sink.new ≡ true) }
 {
@@ -36,7 +37,7 @@ fn put_island(sink: &mut MachBuffer<LabelUse>) -> Result<(), OutOfMemory>
     requires sound { IsSoundBuffer sink.old }
     requires reach { CanReach (length (bytes_of sink.old)) (pending sink.old) }
     requires few { allocated_of sink.old < inner_count }
-    requires room { length (bytes_of sink.old) + 8 * length (pending sink.old) + 32 < code_limit }
+    requires room { length (bytes_of sink.old) + reserve_of (shape_of sink.old) + 8 * length (pending sink.old) + 32 < code_limit }
     ensures island { OnOk result (AppendsIsland sink.old sink.new) }
     ensures refused { OnErr result (spoiled_of sink.new ≡ true) }
 {

@@ -1,10 +1,11 @@
 //! Loads, stores and addresses.
 
-ghost use Rattle.std.specs.Prelude.{◌≡◌, [], ◌∷◌, ◌++◌, ◌+◌, ◌^◌, ◌<◌, length, pos, OnOk, OnErr, true};
+ghost use Rattle.std.specs.Prelude.{◌≡◌, [], ◌∷◌, ◌++◌, ◌+◌, ◌^◌, ◌<◌, length, pos, OnOk, OnErr, IfOk, true};
 ghost use Rattle.rv_base.specs.Frame.{sp_to_args_end};
 ghost use Rattle.rv_base.specs.LabelUse.{code_limit};
 ghost use Rattle.rv_base.specs.Regs.{number_of};
-ghost use Rattle.mach_buffer.specs.Buffer.{bytes_of, spoiled_of};
+ghost use Rattle.mach_buffer.specs.Buffer.{shape_of, bytes_of, registered_of, spoiled_of};
+ghost use Rattle.mach_buffer.specs.Shape.{IsUsable};
 ghost use Rattle.rv_machine.specs.Opcodes.{LOAD, OP_IMM};
 ghost use Rattle.rv_ops.specs.Memory.{load_funct3};
 ghost use Rattle.rv_encode.specs.Layouts.{IsIType};
@@ -13,18 +14,18 @@ ghost use Rattle.rv_encode.specs.Registers.{IsIntRegister};
 ghost use Rattle.rv_inst.specs.Addresses.{Based, AtLabel, location_of};
 ghost use Rattle.rv_emit.specs.Emission.{PutsAlone};
 ghost use Rattle.rv_emit.specs.Emitted.{IsSoundBuffer};
-ghost use Rattle.rv_emit.specs.InstParts.{access_slots, address_slots, far_store_slots, immediate_slots, load_slots, lower_slots, offset_slots, store_slots, upper_at};
+ghost use Rattle.rv_emit.specs.InstParts.{access_slots, address_slots, far_store_slots, immediate_slots, labelled, load_slots, lower_slots, naming_slots, offset_slots, store_slots, upper_at};
 ghost use Rattle.rv_emit.specs.Operations.{decoded_add};
 ghost use Rattle.rv_emit.specs.Places.{location_at, IsFinePlace};
 ghost use Rattle.rv_emit.specs.Slots.{Op};
-ghost use Rattle.rv_emit.specs.Usable.{IsFineAddress, IsListed};
+ghost use Rattle.rv_emit.specs.Usable.{IsFineAddress};
 
 use crate::expansions::put_double_constant;
 use crate::sequence::{put_use, put_word};
 use mach_buffer::MachBuffer;
 use rv_base::{
     AMode, FrameLayout, MachLabel, OutOfMemory, Reg, TrapCode, WritableReg, fp_reg, spilltmp_reg,
-    stack_reg, writable_spilltmp_reg, zero_reg,
+    stack_reg, writable_spilltmp_reg,
 };
 use rv_encode::{
     enc_auipc, encode_alu_rr_imm12, encode_alu_rrr, encode_i_type, encode_load, encode_lui,
@@ -39,25 +40,37 @@ use rv_ops::{AluOPRRI, AluOPRRR, LoadOP, StoreOP};
 pub(crate) enum Place {
     /// A register plus an offset in bytes.
     Based(Reg, i64),
-    /// A label.
+    /// A label, which may be that of a constant.
     AtLabel(MachLabel),
 }
 
-/// Where an address is in a frame. No constant has a place.
-pub(crate) fn place_of(frame: &FrameLayout, mode: AMode) -> Place
+/// Where an address is in a frame. A constant is where its label is, which is got here, before any code that names it.
+pub(crate) fn place_of(
+    sink: &mut MachBuffer<LabelUse>,
+    frame: &FrameLayout,
+    mode: AMode,
+) -> Result<Place, OutOfMemory>
     requires frame { sp_to_args_end frame.now < 2 ^ 31 }
-    requires fine { IsFineAddress mode }
-    ensures place { location_at result ≡ location_of frame.now mode }
-    ensures fine { IsFinePlace result }
+    requires fine { IsFineAddress (registered_of sink.old) mode }
+    requires sound { IsSoundBuffer sink.old }
+    ensures place { IfOk result (λ place. location_at place ≡ labelled (location_of frame.now mode)) }
+    ensures fine { IfOk result (λ place. IsFinePlace (shape_of sink.new) place) }
+    ensures slots { OnOk result (PutsAlone (naming_slots (location_of frame.now mode)) sink.old sink.new) }
+    ensures bytes { OnOk result (bytes_of sink.new ≡ bytes_of sink.old) }
+    ensures sound { OnOk result (IsSoundBuffer sink.new) }
+    ensures refused { OnErr result (spoiled_of sink.new ≡ true) }
 {
     match mode {
-        AMode::RegOffset(reg, offset) => Place::Based(reg, offset),
-        AMode::SPOffset(offset) => Place::Based(stack_reg(), offset),
-        AMode::FPOffset(offset) => Place::Based(fp_reg(), offset),
-        AMode::SlotOffset(_) => Place::Based(stack_reg(), mode.get_offset(frame)),
-        AMode::IncomingArg(_) => Place::Based(stack_reg(), mode.get_offset(frame)),
-        AMode::Const(_) => Place::Based(zero_reg(), 0),
-        AMode::Label(label) => Place::AtLabel(label),
+        AMode::RegOffset(reg, offset) => Ok(Place::Based(reg, offset)),
+        AMode::SPOffset(offset) => Ok(Place::Based(stack_reg(), offset)),
+        AMode::FPOffset(offset) => Ok(Place::Based(fp_reg(), offset)),
+        AMode::SlotOffset(_) => Ok(Place::Based(stack_reg(), mode.get_offset(frame))),
+        AMode::IncomingArg(_) => Ok(Place::Based(stack_reg(), mode.get_offset(frame))),
+        AMode::Const(constant) => {
+            let label = sink.get_label_for_constant(constant)?;
+            Ok(Place::AtLabel(label))
+        }
+        AMode::Label(label) => Ok(Place::AtLabel(label)),
     }
 }
 
@@ -70,7 +83,7 @@ pub(crate) fn put_load(
     place: Place,
 ) -> Result<(), OutOfMemory>
     requires rd { IsIntRegister rd.reg }
-    requires fine { IsFinePlace place }
+    requires fine { IsFinePlace (shape_of sink.old) place }
     requires room { length (bytes_of sink.old) + 28 < code_limit }
     requires sound { IsSoundBuffer sink.old }
     ensures slots { OnOk result (PutsAlone (load_slots (number_of rd.reg) op trap (location_at place)) sink.old sink.new) }
@@ -154,7 +167,7 @@ fn put_label_load(
     label: MachLabel,
 ) -> Result<(), OutOfMemory>
     requires rd { IsIntRegister rd.reg }
-    requires label { IsListed label }
+    requires label { IsUsable (shape_of sink.old) label.number }
     requires room { length (bytes_of sink.old) + 8 < code_limit }
     requires sound { IsSoundBuffer sink.old }
     ensures slots { OnOk result (PutsAlone (load_slots (number_of rd.reg) op trap (AtLabel label)) sink.old sink.new) }
@@ -183,7 +196,7 @@ pub(crate) fn put_store(
     place: Place,
 ) -> Result<(), OutOfMemory>
     requires src { IsIntRegister src }
-    requires fine { IsFinePlace place }
+    requires fine { IsFinePlace (shape_of sink.old) place }
     requires room { length (bytes_of sink.old) + 28 < code_limit }
     requires sound { IsSoundBuffer sink.old }
     ensures slots { OnOk result (PutsAlone (store_slots op (number_of src) trap (location_at place)) sink.old sink.new) }
@@ -246,7 +259,7 @@ fn put_far_store(
     place: Place,
 ) -> Result<(), OutOfMemory>
     requires src { IsIntRegister src }
-    requires fine { IsFinePlace place }
+    requires fine { IsFinePlace (shape_of sink.old) place }
     requires room { length (bytes_of sink.old) + 28 < code_limit }
     requires sound { IsSoundBuffer sink.old }
     ensures slots { OnOk result (PutsAlone (far_store_slots op (number_of src) trap (location_at place)) sink.old sink.new) }
@@ -264,7 +277,7 @@ pub(crate) fn put_address(
     place: Place,
 ) -> Result<(), OutOfMemory>
     requires rd { IsIntRegister rd.reg }
-    requires fine { IsFinePlace place }
+    requires fine { IsFinePlace (shape_of sink.old) place }
     requires room { length (bytes_of sink.old) + 24 < code_limit }
     requires sound { IsSoundBuffer sink.old }
     ensures slots { OnOk result (PutsAlone (address_slots (number_of rd.reg) (location_at place)) sink.old sink.new) }
@@ -321,7 +334,7 @@ pub(crate) fn put_label_address(
     label: MachLabel,
 ) -> Result<(), OutOfMemory>
     requires rd { IsIntRegister rd.reg }
-    requires label { IsListed label }
+    requires label { IsUsable (shape_of sink.old) label.number }
     requires room { length (bytes_of sink.old) + 8 < code_limit }
     requires sound { IsSoundBuffer sink.old }
     ensures slots { OnOk result (PutsAlone (address_slots (number_of rd.reg) (AtLabel label)) sink.old sink.new) }
@@ -353,7 +366,7 @@ fn put_upper(
     label: MachLabel,
 ) -> Result<(), OutOfMemory>
     requires rd { IsIntRegister rd.reg }
-    requires label { IsListed label }
+    requires label { IsUsable (shape_of sink.old) label.number }
     requires room { length (bytes_of sink.old) + 4 < code_limit }
     requires sound { IsSoundBuffer sink.old }
     ensures slots { OnOk result (PutsAlone (upper_at (number_of rd.reg) label ∷ []) sink.old sink.new) }

@@ -14,9 +14,8 @@ ghost use Rattle.rv_inst.specs.declared.label_use.LabelUse.TheVariants.{Jal20, B
 ghost use Rattle.rv_inst.specs.LabelUseWords.{word_bytes};
 ghost use Rattle.rv_inst.specs.Context.{Context, context_by};
 ghost use Rattle.rv_inst.specs.Rules.{inst_rule};
-ghost use Rattle.mach_buffer.specs.Buffer.{bytes_of, allocated_of, spoiled_of};
-ghost use Rattle.mach_buffer.specs.Buffer.{shape_of};
-ghost use Rattle.mach_buffer.specs.Shape.{IsKnown, with_bytes, with_use};
+ghost use Rattle.mach_buffer.specs.Buffer.{shape_of, bytes_of, allocated_of, registered_of, spoiled_of};
+ghost use Rattle.mach_buffer.specs.Shape.{IsKnown, IsUsable, with_bytes, with_use};
 ghost use Rattle.rv_emit.specs.Usable.{IsFine, IsFineBranch};
 ghost use Rattle.rv_emit.specs.Emitted.{IsSoundBuffer};
 ghost use Rattle.rv_emit.specs.Emission.{PutsAll, PutsAlone, Emits, EmitsAnyhow};
@@ -50,11 +49,11 @@ pub(crate) fn put_sequence(
     frame: &FrameLayout,
     inst: &Inst,
 ) -> Result<(), OutOfMemory>
-    requires rule { inst_rule (context_by _flags frame.now []) inst.now ≡ None }
+    requires rule { inst_rule (context_by _flags frame.now (registered_of sink.old)) inst.now ≡ None }
     requires frame { sp_to_args_end frame.now < 2 ^ 31 }
     requires room { length (bytes_of sink.old) + 44 < code_limit }
     requires sound { IsSoundBuffer sink.old }
-    ensures parts { island_space (context_by _flags frame.now []) inst.now ≡ None → OnOk result (Emits (context_by _flags frame.now []) inst.now sink.old sink.new) }
+    ensures parts { island_space (context_by _flags frame.now (registered_of sink.old)) inst.now ≡ None → OnOk result (Emits (context_by _flags frame.now (registered_of sink.old)) inst.now sink.old sink.new) }
     ensures refused { OnErr result (spoiled_of sink.new ≡ true) }
 {
     match inst.family() {
@@ -67,7 +66,7 @@ pub(crate) fn put_sequence(
 }
 
 fn put_pseudo(sink: &mut MachBuffer<LabelUse>, inst: &Inst) -> Result<(), OutOfMemory>
-    requires fine { IsFine inst.now }
+    requires fine { IsFine (registered_of sink.old) inst.now }
     requires room { length (bytes_of sink.old) + 44 < code_limit }
     requires sound { IsSoundBuffer sink.old }
     ensures parts { family_of inst.now ≡ Pseudo → (context : Context) → island_space context inst.now ≡ None → OnOk result (Emits context inst.now sink.old sink.new) }
@@ -85,7 +84,7 @@ fn put_pseudo(sink: &mut MachBuffer<LabelUse>, inst: &Inst) -> Result<(), OutOfM
 }
 
 fn put_integer(sink: &mut MachBuffer<LabelUse>, inst: &Inst) -> Result<(), OutOfMemory>
-    requires fine { IsFine inst.now }
+    requires fine { IsFine (registered_of sink.old) inst.now }
     requires room { length (bytes_of sink.old) + 44 < code_limit }
     requires sound { IsSoundBuffer sink.old }
     ensures parts { family_of inst.now ≡ Integer → OnOk result (EmitsAnyhow inst.now sink.old sink.new) }
@@ -142,7 +141,7 @@ fn number(reg: Reg) -> u8
 }
 
 fn put_control(sink: &mut MachBuffer<LabelUse>, inst: &Inst) -> Result<(), OutOfMemory>
-    requires fine { IsFine inst.now }
+    requires fine { IsFine (registered_of sink.old) inst.now }
     requires room { length (bytes_of sink.old) + 44 < code_limit }
     requires sound { IsSoundBuffer sink.old }
     ensures parts { family_of inst.now ≡ Control → OnOk result (EmitsAnyhow inst.now sink.old sink.new) }
@@ -168,11 +167,11 @@ fn put_memory(
     frame: &FrameLayout,
     inst: &Inst,
 ) -> Result<(), OutOfMemory>
-    requires fine { IsFine inst.now }
+    requires fine { IsFine (registered_of sink.old) inst.now }
     requires frame { sp_to_args_end frame.now < 2 ^ 31 }
     requires room { length (bytes_of sink.old) + 44 < code_limit }
     requires sound { IsSoundBuffer sink.old }
-    ensures parts { family_of inst.now ≡ Memory → (flags : IsaFlags) → OnOk result (Emits (context_by flags frame.now []) inst.now sink.old sink.new) }
+    ensures parts { family_of inst.now ≡ Memory → (flags : IsaFlags) → OnOk result (Emits (context_by flags frame.now (registered_of sink.old)) inst.now sink.old sink.new) }
     ensures refused { OnErr result (spoiled_of sink.new ≡ true) }
 {
     match inst {
@@ -181,22 +180,25 @@ fn put_memory(
             op,
             flags,
             from,
-        } => put_load(sink, *rd, *op, flags.trap_code(), place_of(frame, *from)),
-        Inst::Store { to, op, flags, src } => put_store(
-            sink,
-            *op,
-            *src,
-            flags.trap_code(),
-            place_of(frame, *to),
-        ),
-        Inst::LoadAddr { rd, mem } => put_address(sink, *rd, place_of(frame, *mem)),
+        } => {
+            let place = place_of(sink, frame, *from)?;
+            put_load(sink, *rd, *op, flags.trap_code(), place)
+        }
+        Inst::Store { to, op, flags, src } => {
+            let place = place_of(sink, frame, *to)?;
+            put_store(sink, *op, *src, flags.trap_code(), place)
+        }
+        Inst::LoadAddr { rd, mem } => {
+            let place = place_of(sink, frame, *mem)?;
+            put_address(sink, *rd, place)
+        }
         Inst::LabelAddress { dst, label } => put_label_address(sink, *dst, *label),
         _ => Ok(()),
     }
 }
 
 fn put_loop(sink: &mut MachBuffer<LabelUse>, inst: &Inst) -> Result<(), OutOfMemory>
-    requires fine { IsFine inst.now }
+    requires fine { IsFine (registered_of sink.old) inst.now }
     requires room { length (bytes_of sink.old) + 44 < code_limit }
     requires sound { IsSoundBuffer sink.old }
     ensures parts { family_of inst.now ≡ Loop → OnOk result (EmitsAnyhow inst.now sink.old sink.new) }
@@ -314,7 +316,7 @@ pub(crate) fn put_use(
     label: MachLabel,
     kind: LabelUse,
 ) -> Result<(), OutOfMemory>
-    requires known { IsKnown label.number (allocated_of sink.old) }
+    requires usable { IsUsable (shape_of sink.old) label.number }
     requires room { length (bytes_of sink.old) + 4 < code_limit }
     requires sound { IsSoundBuffer sink.old }
     ensures added { OnOk result (shape_of sink.new ≡ with_bytes (word_bytes word) (with_use (use_at (length (bytes_of sink.old)) label kind) (shape_of sink.old))) }

@@ -5,18 +5,22 @@ use Rattle.std.proofs.lemmas.Bool.{true≢false, and_parts}
 use Rattle.std.proofs.lemmas.List.{length-append}
 use Rattle.rv_base.specs.declared.label.MachLabel.{MachLabel}
 use Rattle.rv_base.specs.LabelUse.{code_limit, Kinds, IsFresh}
-use Rattle.mach_labels.specs.Table.{first_inner}
+use Rattle.mach_labels.specs.Table.{first_inner, first_constant}
 use Rattle.mach_buffer.specs.declared.uses.Use.{Use}
 use Rattle.mach_buffer.specs.declared.buffer.MachBuffer.{MachBuffer}
+use Rattle.rv_base.specs.declared.constant.VCodeConstant.{VCodeConstant}
+use Rattle.mach_buffer.specs.declared.records.ConstPlace.{ConstPlace}
+use Rattle.mach_buffer.specs.Constants.{end_after, reserve_of, AllStand}
+use Rattle.mach_buffer.specs.Growth.{Lasts}
 use Rattle.mach_buffer.specs.Windows.{window, AreWindows, IsApart}
 use Rattle.mach_buffer.specs.Reach.{deadline, deadlines, due_by, is_pending, is_other, HasSlack}
-use Rattle.mach_buffer.specs.Buffer.{shape_of, bytes_of, uses_of, place_of, allocated_of, pending_of, IsSound}
-use Rattle.mach_buffer.specs.Shape.{Shape, with_bytes, with_use, with_label, with_allocated, placed, core, recorded, IsKnown}
-use Rattle.mach_buffer.specs.Islands.{aligned, padding, needs_own, others_of, is_far, IsJumpOver, CanIsland, Islanded}
-use Rattle.mach_buffer.specs.Finish.{before_last, CanFinish}
+use Rattle.mach_buffer.specs.Buffer.{shape_of, bytes_of, uses_of, place_of, allocated_of, constants_of, pending_of, IsSound}
+use Rattle.mach_buffer.specs.Shape.{Shape, with_bytes, with_use, with_label, with_allocated, with_named, constant_label, placed, core, recorded, IsKnown, IsUsable}
+use Rattle.mach_buffer.specs.Islands.{aligned, padding, needs_own, first_of, others_of, is_far, IsJumpOver, CanIsland, Islanded}
+use Rattle.mach_buffer.specs.Finish.{before_last, last_end, CanFinish}
 use Rattle.mach_buffer.specs.VeneerConditions.{AddsOwn}
-use Rattle.rv_emit_vectors.specs.Kept.{IsKept}
-use Rattle.mach_buffer.proofs.Laws.{append_none, windows_bytes, OwnWindows, windows_block, windows_none, aligned_near, length_padded, Was, recorded_at, append_each, own_idle, due_fewer, deadlines_append, reaches_from_slack, veneers_reach, reach_from_slack, slack_less, slack_none, slack_same, slack_use, placed_same, placed_other, IslandRest, island_rest}
+use Rattle.rv_emit_vectors.specs.Kept.{IsMet, IsKept}
+use Rattle.mach_buffer.proofs.Laws.{append_none, windows_bytes, OwnWindows, windows_block, windows_none, aligned_near, length_padded, Was, recorded_at, append_each, own_idle, due_fewer, deadlines_append, reaches_from_slack, veneers_reach, reach_from_slack, slack_less, slack_none, slack_same, slack_use, placed_same, IslandRest, island_rest, island_reserve, lasts_island, lasts_more, lasts_bytes, lasts_use, lasts_allocated, lasts_named, lasts_label, stands_last, ends_within}
 
 map_append_core : {L : Type 0} (uses : List (Use L)) (u : Use L) → recorded (uses ++ u ∷ []) ≡ recorded uses ++ recorded (u ∷ [])
 map_append_core [] u = refl
@@ -35,8 +39,22 @@ pub same_pending : {L : Type 0} (kinds : Kinds L) (b new : MachBuffer L) → use
 same_pending kinds b new eu ep = ap (λ us. deadlines (is_pending kinds (place_of new)) kinds us) eu ∙ ap (λ p. deadlines (is_pending kinds p) kinds (uses_of b)) ep
 
 -- what is bound stays so
-pub still_bound : {L : Type 0} (b new : MachBuffer L) (label : ℕ) → place_of b label ≡ None → ((other : ℕ) → other ≢ label → place_of new other ≡ place_of b other) → (other : ℕ) → is_some (place_of b other) ≡ true → is_some (place_of new other) ≡ true
-still_bound b new label none kept other s = ap is_some (kept other (λ e. none_bound (place_of b other) (ap (place_of b) e ∙ none) s)) ∙ s
+pub still_bound : {L : Type 0} {kinds : Kinds L} {s t : Shape L} → Lasts kinds s t → (label : ℕ) → is_some (s.place label) ≡ true → is_some (t.place label) ≡ true
+still_bound {s = s} {t = t} l label h = on (s.place label) (λ to e. l.grows.places label to e) h
+  where
+    on : (o : Option ℕ) → ((to : ℕ) → o ≡ Some to → t.place label ≡ Some to) → is_some o ≡ true → is_some (t.place label) ≡ true
+    on None f h = absurd (true≢false (sym h))
+    on (Some to) f h = ap is_some (f to refl)
+
+-- and a label that may be named still may
+pub still_met : {L : Type 0} {kinds : Kinds L} {s t : Shape L} {labels : ℕ} → Lasts kinds s t → (label : ℕ) → IsMet labels s label → IsMet labels t label
+still_met l label (inl low) = inl low
+still_met l label (inr (inl bound)) = inr (inl (still_bound l label bound))
+still_met l label (inr (inr c)) = inr (inr (record { index = c.index; constant = c.constant; there = l.named c.index c.constant c.there; is = c.is }))
+
+-- what stands does too
+pub still_stand : {L : Type 0} {kinds : Kinds L} {s t v : Shape L} → Lasts kinds s t → t.constants ≡ s.constants → v ≡ t → AllStand kinds s → AllStand kinds v
+still_stand {kinds = kinds} l e same stand = subst (AllStand kinds) (sym same) (stands_last l e stand)
 
 length_fewer : {L : Type 0} (kinds : Kinds L) (test new_test : Use L → Bool) (uses : List (Use L)) → ((u : Use L) → new_test u ≡ true → test u ≡ true) → length (deadlines new_test kinds uses) ≤ length (deadlines test kinds uses)
 length_fewer kinds test new_test [] h = omega arith
@@ -58,9 +76,12 @@ pub record BoundToo {L : Type 0} (kinds : Kinds L) (labels label : ℕ) (b new :
   pub bound : is_some (place_of new label) ≡ true
   pub still : (other : ℕ) → is_some (place_of b other) ≡ true → is_some (place_of new other) ≡ true
 
-end_near : (c : Bool) (n count : ℕ) → cond c (n + 8) n + 8 * count ≤ n + 8 + 8 * count
-end_near true n count = omega arith
-end_near false n count = omega arith
+first_near : (c : Bool) (n : ℕ) → cond c (n + 8) n ≤ n + 8
+first_near true n = omega arith
+first_near false n = omega arith
+
+aligned_up : (n : ℕ) → aligned n ≤ n + 3
+aligned_up n = omega arith
 
 -- the pending uses of other labels, once the jump is recorded
 others_after : {L : Type 0} (kinds : Kinds L) (b mid : MachBuffer L) (u : Use L) (after_island : MachLabel) → u.label ≡ after_island → uses_of mid ≡ uses_of b ++ u ∷ [] → place_of mid ≡ place_of b → others_of kinds (shape_of mid) after_island ≡ deadlines (is_other kinds (place_of b) (Some after_island)) kinds (uses_of b)
@@ -72,16 +93,19 @@ others_after {L} kinds b mid u after_island el eu ep =
     ∙ ap (λ c. deadlines test kinds (uses_of b) ++ cond c (deadline kinds u ∷ []) []) (own_idle kinds (place_of b) after_island u (ap (λ (l : MachLabel). l.number) el))
     ∙ append_none (deadlines test kinds (uses_of b))
 
--- an island ends near its jump and its veneers
-pub island_near : {L : Type 0} (kinds : Kinds L) (b mid new : MachBuffer L) {after_island : MachLabel} (u : Use L) → u.label ≡ after_island → uses_of mid ≡ uses_of b ++ u ∷ [] → place_of mid ≡ place_of b → length (bytes_of mid) ≡ length (bytes_of b) + 4 → length (bytes_of mid) % 2 ≡ 0 → Islanded kinds after_island (shape_of mid) (shape_of new) →
-    length (bytes_of new) ≤ length (bytes_of b) + 14 + 8 * length (pending_of kinds b)
-island_near {L} kinds b mid new {after_island} u el eu ep long even i =
-    let near = aligned_near (length (bytes_of mid)) even in
+-- an island, with room for the constants that still wait, ends near its jump and its veneers
+pub island_near : {L : Type 0} (kinds : Kinds L) (b mid new : MachBuffer L) {after_island : MachLabel} (u : Use L) (code : List ℕ) → length code ≡ 4 → u.label ≡ after_island → shape_of mid ≡ with_bytes code (with_use u (shape_of b)) → IsSound kinds mid → after_island.number < first_constant → Islanded kinds after_island (shape_of mid) (shape_of new) →
+    length (bytes_of new) + reserve_of (shape_of new) ≤ length (bytes_of b) + 17 + 8 * length (pending_of kinds b) + reserve_of (shape_of b)
+island_near {L} kinds b mid new {after_island} u code four el same_shape sound low i =
+    let eb : bytes_of mid ≡ bytes_of b ++ code = ap (λ (x : Shape L). x.bytes) same_shape in
+    let eu : uses_of mid ≡ uses_of b ++ u ∷ [] = ap (λ (x : Shape L). x.uses) same_shape in
+    let ep : place_of mid ≡ place_of b = ap (λ (x : Shape L). x.place) same_shape in
+    let long : length (bytes_of mid) ≡ length (bytes_of b) + 4 = ap (length {A = ℕ}) eb ∙ length-append (bytes_of b) code ∙ ap (λ n. length (bytes_of b) + n) four in
+    let kept : reserve_of (shape_of mid) ≡ reserve_of (shape_of b) = ap reserve_of same_shape in
+    let room = island_reserve sound.ordered sound.even low i in
     let few = length_fewer kinds (is_pending kinds (place_of b)) (is_other kinds (place_of b) (Some after_island)) (uses_of b) (other_pending kinds (place_of b) (Some after_island)) in
     let same : length (others_of kinds (shape_of mid) after_island) ≡ length (deadlines (is_other kinds (place_of b) (Some after_island)) kinds (uses_of b)) = ap (length {A = ℕ}) (others_after kinds b mid u after_island el eu ep) in
-    let ends = end_near (needs_own (aligned (length (bytes_of mid))) (length (others_of kinds (shape_of mid) after_island)) (deadline kinds i.jump)) (aligned (length (bytes_of mid))) (length (others_of kinds (shape_of mid) after_island)) in
-    let e = i.end in
-    omega (arith, near, few, same, ends, long, e)
+    omega (arith, long, kept, room, few, same)
 
 before_near : (bytes : List ℕ) (n : ℕ) → length bytes % 2 ≡ 0 → length (before_last bytes n) ≤ length bytes + 2
 before_near bytes n even = on (nat_eq n 0)
@@ -94,20 +118,29 @@ before_near bytes n even = on (nat_eq n 0)
 pub windows_as : {L : Type 0} {kinds : Kinds L} {bytes new_bytes : List ℕ} {uses new_uses : List (Use L)} → AreWindows kinds bytes uses → new_bytes ≡ bytes → new_uses ≡ uses → AreWindows kinds new_bytes new_uses
 windows_as {L} {kinds} {bytes} {new_bytes} {uses} {new_uses} w eb eu = subst (λ bs. AreWindows kinds bs new_uses) (sym eb) (subst (λ us. AreWindows kinds bytes us) (sym eu) w)
 
+-- what slack there is stays when a constant is named
+pub slack_named : {L : Type 0} (kinds : Kinds L) (b new : MachBuffer L) (constant : VCodeConstant) (more slack : ℕ) → shape_of new ≡ with_named constant (shape_of b) → HasSlack (length (bytes_of b) + more) slack (pending_of kinds b) → HasSlack (length (bytes_of new) + more) slack (pending_of kinds new)
+slack_named {L} kinds b new constant more slack same h = subst (λ (x : Shape L). HasSlack (length x.bytes + more) slack (deadlines (is_pending kinds x.place) kinds x.uses)) (sym same) h
+
 module _ {L : Type 0} {kinds : Kinds L} where
   -- nothing yet
-  pub kept_none : (labels : ℕ) (b : MachBuffer L) → IsSound kinds b → bytes_of b ≡ [] → uses_of b ≡ [] → IsKept kinds labels b
-  kept_none labels b sound eb eu = record {
+  pub kept_none : (labels : ℕ) (b : MachBuffer L) → IsSound kinds b → bytes_of b ≡ [] → uses_of b ≡ [] → constants_of b ≡ [] → IsKept kinds labels b
+  kept_none labels b sound eb eu ec = record {
     sound = sound;
     windows = windows_as windows_none eb eu;
     slack = subst (HasSlack (length (bytes_of b)) 14) (sym (ap (deadlines (is_pending kinds (place_of b)) kinds) eu)) (slack_none (length (bytes_of b)) 14);
     supported = λ j u h. absurd (no_use (uses_of b) eu j u h);
     named = λ j u h. absurd (no_use (uses_of b) eu j u h);
+    stand = λ j c h. absurd (no_constant (constants_of b) ec j c h);
   }
     where
       no_use : (us : List (Use L)) → us ≡ [] → (j : ℕ) (u : Use L) → slice_get us j ≡ Some u → ⊥
       no_use [] e j u h = absurd (cc)
       no_use (x ∷ us) e j u h = absurd (cc)
+
+      no_constant : (cs : List ConstPlace) → cs ≡ [] → (j : ℕ) (c : ConstPlace) → slice_get cs j ≡ Some c → ⊥
+      no_constant [] e j c h = absurd (cc)
+      no_constant (x ∷ cs) e j c h = absurd (cc)
 
   -- bytes
   pub kept_bytes : {labels : ℕ} {b : MachBuffer L} → IsKept kinds labels b → (new : MachBuffer L) (more : List ℕ) → IsSound kinds new → shape_of new ≡ with_bytes more (shape_of b) → HasSlack (length (bytes_of b) + length more) 14 (pending_of kinds b) → IsKept kinds labels new
@@ -121,7 +154,8 @@ module _ {L : Type 0} {kinds : Kinds L} where
         slack = let long : length (bytes_of new) ≡ length (bytes_of b) + length more = ap (length {A = ℕ}) eb ∙ length-append (bytes_of b) more in
             subst (λ n. HasSlack n 14 (pending_of kinds new)) (sym long) (subst (HasSlack (length (bytes_of b) + length more) 14) (sym (same_pending kinds b new eu ep)) slack);
         supported = λ j u h. k.supported j u (ap (λ us. slice_get us j) (sym eu) ∙ h);
-        named = λ j u h. ⊎_elim (λ a. inl a) (λ s. inr (ap (λ p. is_some (p u.label.number)) ep ∙ s)) (k.named j u (ap (λ us. slice_get us j) (sym eu) ∙ h));
+        named = λ j u h. subst (λ (x : Shape L). IsMet labels x u.label.number) (sym same) (still_met (lasts_bytes kinds more (shape_of b)) u.label.number (k.named j u (ap (λ us. slice_get us j) (sym eu) ∙ h)));
+        stand = still_stand (lasts_bytes kinds more (shape_of b)) refl same k.stand;
       }
 
   -- so many bytes at most
@@ -141,8 +175,29 @@ module _ {L : Type 0} {kinds : Kinds L} where
         windows = windows_as k.windows eb eu;
         slack = subst (λ s. HasSlack (length s) 14 (pending_of kinds new)) (sym eb) (subst (HasSlack (length (bytes_of b)) 14) (sym (same_pending kinds b new eu ep)) k.slack);
         supported = λ j u h. k.supported j u (ap (λ us. slice_get us j) (sym eu) ∙ h);
-        named = λ j u h. ⊎_elim (λ a. inl a) (λ s. inr (ap (λ p. is_some (p u.label.number)) ep ∙ s)) (k.named j u (ap (λ us. slice_get us j) (sym eu) ∙ h));
+        named = λ j u h. subst (λ (x : Shape L). IsMet labels x u.label.number) (sym same) (still_met (lasts_allocated kinds (shape_of b)) u.label.number (k.named j u (ap (λ us. slice_get us j) (sym eu) ∙ h)));
+        stand = still_stand (lasts_allocated kinds (shape_of b)) refl same k.stand;
       }
+
+  -- a constant is named
+  pub kept_named : {labels : ℕ} {b : MachBuffer L} → IsKept kinds labels b → (new : MachBuffer L) (constant : VCodeConstant) → IsSound kinds new → shape_of new ≡ with_named constant (shape_of b) → IsKept kinds labels new
+  kept_named {labels} {b} k new constant sound same =
+      let eb : bytes_of new ≡ bytes_of b = ap (λ (x : Shape L). x.bytes) same in
+      let eu : uses_of new ≡ uses_of b = ap (λ (x : Shape L). x.uses) same in
+      let ep : place_of new ≡ place_of b = ap (λ (x : Shape L). x.place) same in
+      record {
+        sound = sound;
+        windows = windows_as k.windows eb eu;
+        slack = subst (λ s. HasSlack (length s) 14 (pending_of kinds new)) (sym eb) (subst (HasSlack (length (bytes_of b)) 14) (sym (same_pending kinds b new eu ep)) k.slack);
+        supported = λ j u h. k.supported j u (ap (λ us. slice_get us j) (sym eu) ∙ h);
+        named = λ j u h. subst (λ (x : Shape L). IsMet labels x u.label.number) (sym same) (still_met (lasts_named kinds constant (shape_of b)) u.label.number (k.named j u (ap (λ us. slice_get us j) (sym eu) ∙ h)));
+        stand = still_stand (lasts_named kinds constant (shape_of b)) refl same k.stand;
+      }
+
+  -- so its label is that of a constant that was named
+  pub named_met : {labels : ℕ} (new : MachBuffer L) (label : MachLabel) (constant : VCodeConstant) → IsSound kinds new → label ≡ constant_label constant → IsUsable (shape_of new) label.number → IsMet labels (shape_of new) label.number
+  named_met new label constant sound is (inl known) = let few = sound.ordered.few in let e : label.number ≡ first_constant + constant.number = ap (λ (l : MachLabel). l.number) is in absurd (omega arith)
+  named_met new label constant sound is (inr c) = inr (inr c)
 
   -- the windows with those of a use of one byte, whose bytes are put after it
   pub windows_one : (b : MachBuffer L) → AreWindows kinds (bytes_of b) (uses_of b) → IsSound kinds b → (u : Use L) (rest : List ℕ) → u.offset ≡ length (bytes_of b) → u.veneer ≡ None → kinds.fields u.kind ≡ 255 ∷ [] → AreWindows kinds (bytes_of b ++ 0 ∷ rest) (uses_of b ++ u ∷ [])
@@ -177,7 +232,7 @@ module _ {L : Type 0} {kinds : Kinds L} where
 
   -- a use of one of the labels, and its bytes
   pub kept_use : {labels : ℕ} {b : MachBuffer L} → IsKept kinds labels b → (new : MachBuffer L) → IsSound kinds new →
-      (u : Use L) (rest : List ℕ) → u.offset ≡ length (bytes_of b) → u.veneer ≡ None → kinds.fields u.kind ≡ 255 ∷ [] → kinds.has_veneer u.kind ≡ true → u.label.number < labels → length rest + 23 ≤ kinds.forward u.kind → shape_of new ≡ with_bytes (0 ∷ rest) (with_use u (shape_of b)) →
+      (u : Use L) (rest : List ℕ) → u.offset ≡ length (bytes_of b) → u.veneer ≡ None → kinds.fields u.kind ≡ 255 ∷ [] → kinds.has_veneer u.kind ≡ true → IsMet labels (shape_of b) u.label.number → length rest + 23 ≤ kinds.forward u.kind → shape_of new ≡ with_bytes (0 ∷ rest) (with_use u (shape_of b)) →
       HasSlack (length (bytes_of b) + length (0 ∷ rest)) 22 (pending_of kinds b) → IsKept kinds labels new
   kept_use {labels} {b} k new sound u rest at bare one supported low far same slack =
       let eb : bytes_of new ≡ bytes_of b ++ 0 ∷ rest = ap (λ (x : Shape L). x.bytes) same in
@@ -193,9 +248,16 @@ module _ {L : Type 0} {kinds : Kinds L} where
             subst (λ n. HasSlack n 14 (pending_of kinds new)) (sym long) (subst (HasSlack (length (bytes_of b) + length (0 ∷ rest)) 14) (sym pending)
             (slack_use test kinds (length (bytes_of b) + length (0 ∷ rest)) 14 (uses_of b) u (omega (arith, at, far)) slack));
         supported = λ j v h. append_each (λ x. (kinds.has_veneer x.kind ≡ true) ⊎ (is_far kinds x ≡ true)) (uses_of b) u (inl supported) k.supported j v (ap (λ us. slice_get us j) (sym eu) ∙ h);
-        named = λ j v h. append_each (λ x. (x.label.number < labels) ⊎ (is_some (place_of new x.label.number) ≡ true)) (uses_of b) u (inl low)
-            (λ i x q. ⊎_elim (λ a. inl a) (λ s. inr (ap (λ p. is_some (p x.label.number)) ep ∙ s)) (k.named i x q)) j v (ap (λ us. slice_get us j) (sym eu) ∙ h);
+        named = λ j v h. append_each (λ x. IsMet labels (shape_of new) x.label.number) (uses_of b) u (met u.label.number low)
+            (λ i x q. met x.label.number (k.named i x q)) j v (ap (λ us. slice_get us j) (sym eu) ∙ h);
+        stand = still_stand last refl same k.stand;
       }
+    where
+      last : Lasts kinds (shape_of b) (with_bytes (0 ∷ rest) (with_use u (shape_of b)))
+      last = lasts_more (lasts_use kinds u (shape_of b) (omega (arith, at))) (lasts_bytes kinds (0 ∷ rest) (with_use u (shape_of b)))
+
+      met : (label : ℕ) → IsMet labels (shape_of b) label → IsMet labels (shape_of new) label
+      met label h = subst (λ (x : Shape L). IsMet labels x label) (sym same) (still_met last label h)
 
   -- a label is bound
   pub kept_bound : {labels : ℕ} {b : MachBuffer L} → IsKept kinds labels b → (new : MachBuffer L) → IsSound kinds new → (label : MachLabel) → place_of b label.number ≡ None → shape_of new ≡ with_label label (shape_of b) → ((end : ℕ) → due_by end (pending_of kinds new) ≤ due_by end (pending_of kinds b)) → BoundToo kinds labels label.number b new
@@ -203,17 +265,18 @@ module _ {L : Type 0} {kinds : Kinds L} where
       let eb : bytes_of new ≡ bytes_of b = ap (λ (x : Shape L). x.bytes) same in
       let eu : uses_of new ≡ uses_of b = ap (λ (x : Shape L). x.uses) same in
       let ep : place_of new ≡ placed (place_of b) label.number (length (bytes_of b)) = ap (λ (x : Shape L). x.place) same in
-      let still = still_bound b new label.number none (λ other ne. ap (λ (p : ℕ → Option ℕ). p other) ep ∙ placed_other (place_of b) label.number (length (bytes_of b)) other ne) in
+      let last = lasts_label kinds label (shape_of b) none in
       record {
         kept = record {
           sound = sound;
           windows = windows_as k.windows eb eu;
           slack = subst (λ s. HasSlack (length s) 14 (pending_of kinds new)) (sym eb) (slack_same (length (bytes_of b)) 14 (pending_of kinds b) (pending_of kinds new) fewer k.slack);
           supported = λ j u h. k.supported j u (ap (λ us. slice_get us j) (sym eu) ∙ h);
-          named = λ j u h. ⊎_elim (λ a. inl a) (λ s. inr (still u.label.number s)) (k.named j u (ap (λ us. slice_get us j) (sym eu) ∙ h));
+          named = λ j u h. subst (λ (x : Shape L). IsMet labels x u.label.number) (sym same) (still_met last u.label.number (k.named j u (ap (λ us. slice_get us j) (sym eu) ∙ h)));
+          stand = still_stand last refl same k.stand;
         };
         bound = ap (λ (p : ℕ → Option ℕ). is_some (p label.number)) ep ∙ ap is_some (placed_same (place_of b) label.number (length (bytes_of b)));
-        still = still;
+        still = λ other h. ap (λ (p : ℕ → Option ℕ). is_some (p other)) ep ∙ still_bound last other h;
       }
 
   -- ---- the jump over an island
@@ -221,7 +284,7 @@ module _ {L : Type 0} {kinds : Kinds L} where
   -- the jump's four bytes stand last: an island may be made
   pub can_island : {labels : ℕ} {b : MachBuffer L} → IsKept kinds labels b → (mid : MachBuffer L) → IsSound kinds mid → (u : Use L) (code : List ℕ) → length code ≡ 4 → u.offset ≡ length (bytes_of b) → kinds.has_veneer u.kind ≡ true → u.veneer ≡ None → 6 ≤ kinds.forward u.kind →
       (after_island : MachLabel) → u.label ≡ after_island → first_inner ≤ after_island.number → IsKnown after_island.number (allocated_of mid) → place_of b after_island.number ≡ None → ((j : ℕ) (w : Use L) → slice_get (uses_of b) j ≡ Some w → w.label.number ≢ after_island.number) →
-      shape_of mid ≡ with_bytes code (with_use u (shape_of b)) → length (bytes_of b) + 8 * length (pending_of kinds b) + 14 < code_limit → CanIsland kinds (shape_of mid) after_island
+      shape_of mid ≡ with_bytes code (with_use u (shape_of b)) → length (bytes_of b) + 8 * length (pending_of kinds b) + reserve_of (shape_of b) + 17 < code_limit → CanIsland kinds (shape_of mid) after_island
   can_island {labels} {b} k mid sound u code four at supported bare far after_island el inner known none unnamed same_shape room = record {
     inner = inner;
     known = known;
@@ -235,8 +298,13 @@ module _ {L : Type 0} {kinds : Kinds L} where
         let near = aligned_near (length (bytes_of mid)) sound.even in
         let few = length_fewer kinds (is_pending kinds (place_of b)) (is_other kinds (place_of b) (Some after_island)) (uses_of b) (other_pending kinds (place_of b) (Some after_island)) in
         let same : length (others_of kinds (shape_of mid) after_island) ≡ length (deadlines (is_other kinds (place_of b) (Some after_island)) kinds (uses_of b)) = ap (length {A = ℕ}) others in
-        let ends = end_near (needs_own (aligned (length (bytes_of mid))) (length (others_of kinds (shape_of mid) after_island)) (deadline kinds u)) (aligned (length (bytes_of mid))) (length (others_of kinds (shape_of mid) after_island)) in
-        omega (arith, near, few, same, ends, long, room);
+        let count = length (others_of kinds (shape_of mid) after_island) in
+        let first = first_near (needs_own (end_after (shape_of mid)) (aligned (length (bytes_of mid))) count (deadline kinds u)) (aligned (length (bytes_of mid))) in
+        let n = first_of (end_after (shape_of mid)) (aligned (length (bytes_of mid))) count (deadline kinds u) + 8 * count in
+        let ends = ends_within (shape_of mid) sound.ordered n in
+        let kept : reserve_of (shape_of mid) ≡ reserve_of (shape_of b) = ap reserve_of same_shape in
+        let up = aligned_up (end_after (shape_of mid) n) in
+        omega (arith, near, few, same, first, ends, kept, up, long, room);
   }
     where
       eb : bytes_of mid ≡ bytes_of b ++ code
@@ -271,9 +339,9 @@ module _ {L : Type 0} {kinds : Kinds L} where
       }
 
   -- and after the island
-  pub kept_island : {labels : ℕ} {b : MachBuffer L} (mid new : MachBuffer L) {after_island : MachLabel} → IsKept kinds labels b → (u : Use L) → kinds.has_veneer u.kind ≡ true → u.label ≡ after_island → uses_of mid ≡ uses_of b ++ u ∷ [] → place_of mid ≡ place_of b → place_of b after_island.number ≡ None →
-      IsSound kinds new → AreWindows kinds (bytes_of new) (uses_of new) → AddsOwn kinds (length (bytes_of mid)) (uses_of mid) (uses_of new) → Islanded kinds after_island (shape_of mid) (shape_of new) → IsKept kinds labels new
-  kept_island {labels} {b} mid new {after_island} k u supported el eu ep none sound windows own i = record {
+  pub kept_island : {labels : ℕ} {b : MachBuffer L} (mid new : MachBuffer L) {after_island : MachLabel} → IsKept kinds labels b → (u : Use L) (code : List ℕ) → kinds.has_veneer u.kind ≡ true → u.label ≡ after_island → u.offset ≡ length (bytes_of b) → shape_of mid ≡ with_bytes code (with_use u (shape_of b)) → IsSound kinds mid → CanIsland kinds (shape_of mid) after_island →
+      IsSound kinds new → AreWindows kinds (bytes_of new) (uses_of new) → AddsOwn kinds (length (bytes_of mid)) (uses_of mid) (uses_of new) → (AllStand kinds (shape_of mid) → AllStand kinds (shape_of new)) → Islanded kinds after_island (shape_of mid) (shape_of new) → IsKept kinds labels new
+  kept_island {labels} {b} mid new {after_island} k u code supported el at same was can sound windows own stand i = record {
     sound = sound;
     windows = windows;
     slack = subst (HasSlack (length (bytes_of new)) 14) (sym i.settled) (slack_none (length (bytes_of new)) 14);
@@ -285,40 +353,48 @@ module _ {L : Type 0} {kinds : Kinds L} where
         (λ (w : Was (uses_of mid) j v). subst (λ (x : Use L). IsNamed x.label) w.alike (first_named j w.was w.there))
         (λ w. let x = own.own w.0 (core v) w.2 in subst IsNamed x.names (first_named x.user x.used x.there))
         (recorded_at (uses_of new) (uses_of mid) own.more own.grown j v h);
+    stand = stand (still_stand put refl same k.stand);
   }
     where
       rest : IslandRest after_island (shape_of mid) (shape_of new)
-      rest = island_rest i
+      rest = island_rest was.ordered i
+
+      put : Lasts kinds (shape_of b) (with_bytes code (with_use u (shape_of b)))
+      put = lasts_more (lasts_use kinds u (shape_of b) (omega (arith, at))) (lasts_bytes kinds code (with_use u (shape_of b)))
+
+      last : Lasts kinds (shape_of b) (shape_of new)
+      last = lasts_more (subst (Lasts kinds (shape_of b)) (sym same) put) (lasts_island was.ordered can i)
+
+      eu : uses_of mid ≡ uses_of b ++ u ∷ []
+      eu = ap (λ (x : Shape L). x.uses) same
 
       Goes : Use L → Type 0
       Goes x = (kinds.has_veneer x.kind ≡ true) ⊎ (is_far kinds x ≡ true)
 
       IsNamed : MachLabel → Type 0
-      IsNamed l = (l.number < labels) ⊎ (is_some (place_of new l.number) ≡ true)
-
-      still : (other : ℕ) → is_some (place_of b other) ≡ true → is_some (place_of new other) ≡ true
-      still other s = ap is_some (rest.places other (λ e. none_bound (place_of b other) (ap (place_of b) e ∙ none) s) ∙ ap (λ p. p other) ep) ∙ s
+      IsNamed l = IsMet labels (shape_of new) l.number
 
       first_goes : (j : ℕ) (x : Use L) → slice_get (uses_of mid) j ≡ Some x → Goes x
       first_goes j x h = append_each Goes (uses_of b) u (inl supported) k.supported j x (ap (λ us. slice_get us j) (sym eu) ∙ h)
 
       first_named : (j : ℕ) (x : Use L) → slice_get (uses_of mid) j ≡ Some x → IsNamed x.label
-      first_named j x h = append_each (λ (y : Use L). IsNamed y.label) (uses_of b) u (inr (ap (λ (l : MachLabel). is_some (place_of new l.number)) el ∙ ap is_some rest.bound))
-          (λ n y q. ⊎_elim (λ a. inl a) (λ s. inr (still y.label.number s)) (k.named n y q)) j x (ap (λ us. slice_get us j) (sym eu) ∙ h)
+      first_named j x h = append_each (λ (y : Use L). IsNamed y.label) (uses_of b) u (inr (inl (ap (λ (l : MachLabel). is_some (place_of new l.number)) el ∙ ap is_some rest.bound)))
+          (λ n y q. still_met last y.label.number (k.named n y q)) j x (ap (λ us. slice_get us j) (sym eu) ∙ h)
 
   -- ---- the end
 
   -- once all labels are bound the buffer can be finished
-  pub can_finish : {labels : ℕ} {b : MachBuffer L} → IsKept kinds labels b → ((label : ℕ) → label < labels → is_some (place_of b label) ≡ true) → length (bytes_of b) + 8 * length (pending_of kinds b) + 2 < code_limit → CanFinish kinds (shape_of b)
+  pub can_finish : {labels : ℕ} {b : MachBuffer L} → IsKept kinds labels b → ((label : ℕ) → label < labels → is_some (place_of b label) ≡ true) → length (bytes_of b) + 8 * length (pending_of kinds b) + reserve_of (shape_of b) + 2 < code_limit → CanFinish kinds (shape_of b)
   can_finish {labels} {b} k all room =
       let pending = pending_of kinds b in
       let near = before_near (bytes_of b) (length pending) k.sound.even in
       record {
         windows = k.windows;
-        bound = λ j u h. ⊎_elim (λ lt. all u.label.number lt) (λ s. s) (k.named j u h);
+        bound = λ j u h. ⊎_elim (λ lt. inl (all u.label.number lt)) (λ s. s) (k.named j u h);
         direct = λ j u h no_veneer short. absurd (⊎_elim (λ yes. true≢false (sym yes ∙ no_veneer)) (λ far. true≢false (sym far ∙ short)) (k.supported j u h));
         reach = veneers_reach (length (before_last (bytes_of b) (length pending))) pending (reaches_from_slack (length (bytes_of b)) 14 (length (before_last (bytes_of b) (length pending))) pending (omega (arith, near)) k.slack);
-        short = omega (arith, near, room);
+        short = let ends = ends_within (shape_of b) k.sound.ordered (last_end kinds (shape_of b)) in omega (arith, near, ends, room);
+        constants = k.stand;
       }
 
 -- each of four

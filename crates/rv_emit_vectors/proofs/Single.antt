@@ -1,12 +1,12 @@
 -- A buffer of a single instruction can be emitted into and finished.
-use Rattle.std.proofs.Common.{◌≡◌, ℕ, ◌+◌, ◌^◌, ◌<◌, ◌≤◌, true, false, List, [], ◌∷◌, ◌++◌, length, Option, Some, None, refl, ap, sym, ◌∙◌, subst, arith, ⊎_elim}
+use Rattle.std.proofs.Common.{◌≡◌, ℕ, ◌+◌, ◌^◌, ◌<◌, ◌≤◌, true, false, List, [], ◌∷◌, ◌++◌, length, Option, Some, None, refl, ap, sym, ◌∙◌, subst, arith, inl, ⊎_elim}
 use Rattle.std.specs.Prelude.{slice_get, is_some, unwrap_or}
 use Rattle.std.proofs.lemmas.Bool.{and_parts, eqb-true, true≢false}
 use Rattle.rv_inst.specs.Context.{Context}
 use Rattle.rv_inst.specs.declared.inst.Inst.{Inst}
 use Rattle.rv_base.specs.Frame.{sp_to_args_end}
 use Rattle.rv_inst.specs.declared.targets.Targets.{Targets}
-use Rattle.rv_inst.specs.declared.targets.Targets.TheVariants.{Nowhere, Jumps, Branches, Refers}
+use Rattle.rv_inst.specs.declared.targets.Targets.TheVariants.{Nowhere, Jumps, Branches, Refers, RefersConstant}
 use Rattle.rv_inst.specs.Operands.{targets_of}
 use Rattle.rv_inst.specs.declared.inst.CondBrTarget.TheVariants.{Label, Fallthrough}
 use Rattle.rv_inst.specs.declared.label_use.LabelUse.{LabelUse}
@@ -15,10 +15,13 @@ use Rattle.rv_inst.specs.LabelUse.{label_kinds}
 use Rattle.rv_inst.specs.Rules.{inst_rule}
 use Rattle.mach_buffer.specs.declared.uses.Use.{Use}
 use Rattle.mach_buffer.specs.Reach.{CanReach, is_needed, deadlines}
-use Rattle.mach_buffer.specs.Buffer.{shape_of, bytes_of, uses_of, place_of}
+use Rattle.mach_buffer.specs.Buffer.{shape_of, bytes_of, uses_of, place_of, constants_of}
 use Rattle.mach_buffer.specs.Windows.{AreWindows}
-use Rattle.mach_buffer.specs.Finish.{before_last, CanFinish}
-use Rattle.mach_buffer.proofs.Laws.{windows_none, slack_from_reach, reaches_from_slack, veneers_reach, last_near}
+use Rattle.mach_buffer.specs.Shape.{Shape}
+use Rattle.mach_buffer.specs.declared.records.ConstPlace.{ConstPlace}
+use Rattle.mach_buffer.specs.Constants.{end_after, reserve_from, reserve_of, IsOrdered, AllStand}
+use Rattle.mach_buffer.specs.Finish.{before_last, last_end, CanFinish}
+use Rattle.mach_buffer.proofs.Laws.{windows_none, slack_from_reach, reaches_from_slack, veneers_reach, last_near, ends_within}
 use Rattle.rv_emit.specs.Emitted.{Buffer, HasWindows, pending, AppendsInst, CanEmit, IsBounded}
 use Rattle.rv_emit.specs.declared.state.EmitVState.{EmitVState}
 use Rattle.rv_emit.specs.Emission.{EmitsIn}
@@ -33,6 +36,25 @@ use Rattle.rv_emit.proofs.Laws.{parts_put, are_blocks, appends_inst, Each, waits
 pub none_there : {X : Type 0} (o : Option X) → is_some o ≡ false → o ≡ None
 none_there None h = refl
 none_there (Some x) h = absurd (cc)
+
+-- ---- no constants
+
+-- none takes room
+none_kept : {L : Type 0} (s : Shape L) → s.registered ≡ [] → reserve_of s ≡ 0
+none_kept s none = ap (reserve_from s.place 0) none
+
+-- and none comes after the veneers
+none_ends : {L : Type 0} (s : Shape L) → IsOrdered s → s.registered ≡ [] → (n : ℕ) → end_after s n ≤ n
+none_ends s ordered none n = let within = ends_within s ordered n in let zero = none_kept s none in omega (arith, within, zero)
+
+none_stand : (b : Buffer) → constants_of b ≡ [] → AllStand label_kinds (shape_of b)
+none_stand b none j c h = absurd (on (constants_of b) none h)
+  where
+    on : (cs : List ConstPlace) → cs ≡ [] → slice_get cs j ≡ Some c → ⊥
+    on [] e h = absurd (cc)
+    on (x ∷ cs) e h = absurd (cc)
+
+-- ----
 
 start_pending : (b : Buffer) → IsStart b → pending b ≡ []
 start_pending b s = ap (deadlines (waits (place_of b)) label_kinds) s.uses
@@ -57,6 +79,7 @@ can_start context inst b frame rule none s = record {
       let sum = plain_sum context inst none in
       let bytes : length (bytes_of b) ≡ 0 = ap (length {A = ℕ}) s.bytes in
       let waiting : length (pending b) ≡ 0 = ap (length {A = ℕ}) (start_pending b s) in
+      let kept = none_kept (shape_of b) s.registered in
       omega arith;
 }
 
@@ -72,6 +95,7 @@ uses_first context start inst h = on (targets_of inst) h
     on (Branches Fallthrough not_taken) h = each_none _
     on (Branches (Label t) Fallthrough) h = each_more _ (use_at start t B12) [] (eqb-true _ _ (and_parts _ _ h).0) (each_none _)
     on (Branches (Label t) (Label f)) h = let p = and_parts _ _ h in each_more _ (use_at start t B12) (use_at (start + 4) f Jal20 ∷ []) (eqb-true _ _ p.0) (each_more _ (use_at (start + 4) f Jal20) [] (eqb-true _ _ p.1) (each_none _))
+    on (RefersConstant constant) h = absurd (true≢false (sym h))
     on (Refers label) h = each_more _ (use_at start label PCRelHi20) (use_at (start + 4) label PCRelLo12I ∷ []) (eqb-true _ _ h) (each_more _ (use_at (start + 4) label PCRelLo12I) [] (eqb-true _ _ h) (each_none _))
 
 pub holds_one : (context : Context) (setting : EmitVState) (inst : Inst) (old new : Buffer) → inst_rule context inst ≡ None → island_space context inst ≡ None → IsStart old → EmitsIn context setting inst old new → CanReach (length (bytes_of new)) (pending new) → IsBounded context inst old new → HoldsOne inst new
@@ -80,6 +104,8 @@ holds_one context setting inst old new rule none s e reach bounded = record {
   windows = (parts_put context.flags (parts_of context setting inst) old new (are_blocks context setting inst rule) s.sound (start_windows old s) e).windows;
   reach = reach;
   allocated = p.adds.allocated ∙ s.allocated;
+  registered = p.adds.registered ∙ s.registered;
+  constants = p.adds.constants ∙ s.constants;
   long = let l = (bounded none).long in let bytes : length (bytes_of old) ≡ 0 = ap (length {A = ℕ}) s.bytes in omega arith;
   waiting = let w = (bounded none).waiting in let waiting : length (pending old) ≡ 0 = ap (length {A = ℕ}) (start_pending old s) in omega arith;
   kinds = λ j u h. uses_kinds context start inst j u (own j u h);
@@ -103,8 +129,9 @@ can_finish_one inst b one first =
     let waiting = one.waiting in
     record {
       windows = one.windows;
-      bound = one.bound first;
+      bound = λ j u h. inl (one.bound first j u h);
       direct = λ j u h none near. absurd (⊎_elim (λ yes. true≢false (sym yes ∙ none)) (λ far. true≢false (sym far ∙ near)) (one.kinds j u h));
       reach = veneers_reach (length (before_last (bytes_of b) (length (pending b)))) (pending b) (reaches_from_slack (length (bytes_of b)) 14 (length (before_last (bytes_of b) (length (pending b)))) (pending b) (omega (arith, near)) (slack_from_reach (length (bytes_of b)) (pending b) one.reach));
-      short = omega (arith, near, long, waiting);
+      short = let ends = none_ends (shape_of b) one.sound.ordered one.registered (last_end label_kinds (shape_of b)) in omega (arith, near, long, waiting, ends);
+      constants = none_stand b one.constants;
     }

@@ -1,8 +1,8 @@
 -- A buffer of a single instruction, as the tests have it.
-use Rattle.std.specs.Prelude.{◌≡◌, ◌⊎◌, ℕ, ◌≤◌, Bool, true, ◌&&◌, ◌==◌, [], length, Some, slice_get, is_some}
+use Rattle.std.specs.Prelude.{◌≡◌, ◌⊎◌, ℕ, ◌≤◌, Bool, true, false, ◌&&◌, ◌==◌, [], length, Some, slice_get, is_some}
 use Rattle.rv_inst.specs.declared.inst.Inst.{Inst}
 use Rattle.rv_inst.specs.declared.targets.Targets.{Targets}
-use Rattle.rv_inst.specs.declared.targets.Targets.TheVariants.{Nowhere, Jumps, Branches, Refers}
+use Rattle.rv_inst.specs.declared.targets.Targets.TheVariants.{Nowhere, Jumps, Branches, Refers, RefersConstant}
 use Rattle.rv_inst.specs.Operands.{targets_of}
 use Rattle.rv_inst.specs.declared.inst.CondBrTarget.{CondBrTarget}
 use Rattle.rv_inst.specs.declared.inst.CondBrTarget.TheVariants.{Label, Fallthrough}
@@ -11,7 +11,7 @@ use Rattle.rv_inst.specs.LabelUse.{label_kinds, has_veneer_of}
 use Rattle.mach_buffer.specs.Islands.{is_far}
 use Rattle.mach_buffer.specs.declared.uses.Use.{Use}
 use Rattle.mach_buffer.specs.Reach.{CanReach}
-use Rattle.mach_buffer.specs.Buffer.{bytes_of, uses_of, place_of, allocated_of}
+use Rattle.mach_buffer.specs.Buffer.{bytes_of, uses_of, place_of, allocated_of, registered_of, constants_of}
 use Rattle.rv_emit.specs.Emitted.{Buffer, IsSoundBuffer, HasWindows, pending}
 
 -- a target is the label 0, where it is a label
@@ -19,12 +19,13 @@ abbrev pub is_first : CondBrTarget → Bool
 is_first (Label label) = label.number == 0
 is_first Fallthrough = true
 
--- the labels that an instruction names are 0
+-- the labels that an instruction names are 0, which no constant's label is
 abbrev pub are_first : Targets → Bool
 are_first Nowhere = true
 are_first (Jumps label) = label.number == 0
 are_first (Branches taken not_taken) = is_first taken && is_first not_taken
 are_first (Refers label) = label.number == 0
+are_first (RefersConstant constant) = false
 
 abbrev pub names_first : Inst → Bool
 names_first inst = are_first (targets_of inst)
@@ -35,6 +36,8 @@ pub record IsStart (b : Buffer) : Type 0 where
   pub uses : uses_of b ≡ []
   pub first : place_of b 0 ≡ Some 0
   pub allocated : allocated_of b ≡ 0
+  pub registered : registered_of b ≡ []
+  pub constants : constants_of b ≡ []
   pub sound : IsSoundBuffer b
 
 -- a use may go by a veneer, or reaches all code
@@ -47,6 +50,8 @@ pub record HoldsOne (inst : Inst) (b : Buffer) : Type 0 where
   pub windows : HasWindows b
   pub reach : CanReach (length (bytes_of b)) (pending b)
   pub allocated : allocated_of b ≡ 0
+  pub registered : registered_of b ≡ []
+  pub constants : constants_of b ≡ []
   pub long : length (bytes_of b) ≤ 84
   pub waiting : length (pending b) ≤ 2
   pub kinds : (j : ℕ) (u : Use LabelUse) → slice_get (uses_of b) j ≡ Some u → IsServed u

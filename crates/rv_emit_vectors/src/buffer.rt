@@ -5,7 +5,9 @@ ghost use Rattle.rv_base.specs.LabelUse.{code_limit};
 ghost use Rattle.mach_labels.specs.Table.{first_inner};
 
 use mach_buffer::{Finished, MachBuffer};
-use rv_base::{MachInstLabelUse, MachLabel, OutOfMemory, Reloc};
+use rv_base::{
+    ConstAlign, Constant, List, MachInstLabelUse, MachLabel, OutOfMemory, Reloc, VCodeConstant,
+};
 use std::alloc::Global;
 use std::process::Abort;
 use std::test::Fail;
@@ -245,23 +247,27 @@ enum Item {
     Use(u32),
     /// One of four labels stands here, unless it stands elsewhere.
     Bind(u32),
+    /// A use of a constant: a byte with its window, and a byte 0x11.
+    Name(u32),
 }
 
 ghost use Rattle.std.specs.Prelude.{OnOk, ℕ, ◌+◌, ◌*◌, true, is_some};
-ghost use Rattle.mach_buffer.specs.Buffer.{pending_of};
+ghost use Rattle.mach_buffer.specs.Buffer.{shape_of, registered_of, pending_of};
 ghost use Rattle.mach_buffer.specs.Reach.{HasSlack};
-ghost use Rattle.mach_buffer.specs.Shape.{inner_count};
-ghost use Rattle.rv_emit_vectors.specs.Kept.{IsKept, IsOneByte};
+ghost use Rattle.mach_buffer.specs.Shape.{inner_count, IsUsable};
+ghost use Rattle.mach_buffer.specs.Constants.{reserve_of};
+ghost use Rattle.rv_emit_vectors.specs.Kept.{IsMet, IsKept, IsOneByte};
 
 /// Puts a jump of four bytes round an island, and the island.
 fn put_jump<L: MachInstLabelUse>(buffer: &mut MachBuffer<L>, kind: L) -> Result<(), OutOfMemory>
     requires kind { IsOneByte L.kinds kind }
     requires kept { IsKept L.kinds 4 buffer.old }
     requires few { allocated_of buffer.old < inner_count }
-    requires room { length (bytes_of buffer.old) + 8 * length (pending_of L.kinds buffer.old) + 14 < code_limit }
+    requires room { length (bytes_of buffer.old) + 8 * length (pending_of L.kinds buffer.old) + reserve_of (shape_of buffer.old) + 17 < code_limit }
     ensures kept { OnOk result (IsKept L.kinds 4 buffer.new) }
     ensures none { OnOk result (pending_of L.kinds buffer.new ≡ []) }
-    ensures near { OnOk result (length (bytes_of buffer.new) ≤ length (bytes_of buffer.old) + 14 + 8 * length (pending_of L.kinds buffer.old)) }
+    ensures near { OnOk result (length (bytes_of buffer.new) + reserve_of (shape_of buffer.new) ≤ length (bytes_of buffer.old) + 17 + 8 * length (pending_of L.kinds buffer.old) + reserve_of (shape_of buffer.old)) }
+    ensures registered { OnOk result (registered_of buffer.new ≡ registered_of buffer.old) }
 {
     let after_island = buffer.get_label()?;
     let at = buffer.cur_offset();
@@ -283,6 +289,7 @@ fn make_way<L: MachInstLabelUse>(
     ensures kept { OnOk result (IsKept L.kinds 4 buffer.new) }
     ensures slack { OnOk result (HasSlack (length (bytes_of buffer.new) + distance) 30 (pending_of L.kinds buffer.new)) }
     ensures room { OnOk result (length (bytes_of buffer.new) + distance + 10 < code_limit) }
+    ensures registered { OnOk result (registered_of buffer.new ≡ registered_of buffer.old) }
 {
     if !buffer.has_room(distance as u64) {
         return Err(Fail::new("no room"));
@@ -305,6 +312,7 @@ fn fill<L: MachInstLabelUse>(
     requires kind { IsOneByte L.kinds kind }
     requires kept { IsKept L.kinds 4 buffer.old }
     ensures kept { OnOk result (IsKept L.kinds 4 buffer.new) }
+    ensures registered { OnOk result (registered_of buffer.new ≡ registered_of buffer.old) }
 {
     if count > 250 || count % 2 != 0 {
         return Err(Fail::new("an odd count of filler bytes, or more than 250"));
@@ -312,6 +320,27 @@ fn fill<L: MachInstLabelUse>(
     make_way(buffer, kind, count, islands)?;
     let bytes = [0x44; 250];
     buffer.put_data(&bytes[..count as usize])?;
+    Ok(())
+}
+
+/// Puts a byte with the window of a use, and a byte 0x11.
+fn put_window<L: MachInstLabelUse>(
+    buffer: &mut MachBuffer<L>,
+    kind: L,
+    label: MachLabel,
+) -> Result<(), OutOfMemory>
+    requires kind { IsOneByte L.kinds kind }
+    requires kept { IsKept L.kinds 4 buffer.old }
+    requires met { IsMet 4 (shape_of buffer.old) label.number }
+    requires usable { IsUsable (shape_of buffer.old) label.number }
+    requires slack { HasSlack (length (bytes_of buffer.old) + 2) 30 (pending_of L.kinds buffer.old) }
+    requires room { length (bytes_of buffer.old) + 2 < code_limit }
+    ensures kept { OnOk result (IsKept L.kinds 4 buffer.new) }
+    ensures registered { OnOk result (registered_of buffer.new ≡ registered_of buffer.old) }
+{
+    let at = buffer.cur_offset();
+    buffer.use_label_at_offset(at, label, kind)?;
+    buffer.put2(0x1100)?;
     Ok(())
 }
 
@@ -325,14 +354,32 @@ fn put_use<L: MachInstLabelUse>(
     requires kind { IsOneByte L.kinds kind }
     requires kept { IsKept L.kinds 4 buffer.old }
     ensures kept { OnOk result (IsKept L.kinds 4 buffer.new) }
+    ensures registered { OnOk result (registered_of buffer.new ≡ registered_of buffer.old) }
 {
     if label >= 4 {
         return Err(Fail::new("none of the four labels"));
     }
     make_way(buffer, kind, 2, islands)?;
-    let at = buffer.cur_offset();
-    buffer.use_label_at_offset(at, MachLabel::from_u32(label), kind)?;
-    buffer.put2(0x1100)?;
+    put_window(buffer, kind, MachLabel::from_u32(label))?;
+    Ok(())
+}
+
+/// Puts a use of a constant.
+fn put_name<L: MachInstLabelUse>(
+    buffer: &mut MachBuffer<L>,
+    kind: L,
+    constant: VCodeConstant,
+    islands: &mut Vec<u32>,
+) -> Result<(), Fail>
+    requires kind { IsOneByte L.kinds kind }
+    requires kept { IsKept L.kinds 4 buffer.old }
+    requires known { constant.number < length (registered_of buffer.old) }
+    ensures kept { OnOk result (IsKept L.kinds 4 buffer.new) }
+    ensures registered { OnOk result (registered_of buffer.new ≡ registered_of buffer.old) }
+{
+    make_way(buffer, kind, 2, islands)?;
+    let label = buffer.get_label_for_constant(constant)?;
+    put_window(buffer, kind, label)?;
     Ok(())
 }
 
@@ -343,6 +390,7 @@ fn bind<L: MachInstLabelUse>(buffer: &mut MachBuffer<L>, label: u32) -> Result<(
     ensures kept { OnOk result (IsKept L.kinds 4 buffer.new) }
     ensures bound { OnOk result (is_some (place_of buffer.new label) ≡ true) }
     ensures still { OnOk result ((other : ℕ) → is_some (place_of buffer.old other) ≡ true → is_some (place_of buffer.new other) ≡ true) }
+    ensures registered { OnOk result (registered_of buffer.new ≡ registered_of buffer.old) }
 {
     let named = MachLabel::from_u32(label);
     if buffer.label_offset(named).is_some() {
@@ -356,12 +404,15 @@ fn bind<L: MachInstLabelUse>(buffer: &mut MachBuffer<L>, label: u32) -> Result<(
 fn put_item<L: MachInstLabelUse>(
     buffer: &mut MachBuffer<L>,
     kind: L,
+    constants: &[Constant],
     item: Item,
     islands: &mut Vec<u32>,
 ) -> Result<(), Fail>
     requires kind { IsOneByte L.kinds kind }
     requires kept { IsKept L.kinds 4 buffer.old }
+    requires registered { registered_of buffer.old ≡ constants.now }
     ensures kept { OnOk result (IsKept L.kinds 4 buffer.new) }
+    ensures registered { OnOk result (registered_of buffer.new ≡ constants.now) }
 {
     match item {
         Item::Fill(count) => fill(buffer, kind, count, islands),
@@ -374,6 +425,12 @@ fn put_item<L: MachInstLabelUse>(
             bind(buffer, label)?;
             Ok(())
         }
+        Item::Name(number) => {
+            if number as usize >= constants.len() {
+                return Err(Fail::new("none of the constants"));
+            }
+            put_name(buffer, kind, VCodeConstant::from_u32(number), islands)
+        }
     }
 }
 
@@ -382,6 +439,7 @@ fn bind_each<L: MachInstLabelUse>(buffer: &mut MachBuffer<L>) -> Result<(), OutO
     requires kept { IsKept L.kinds 4 buffer.old }
     ensures kept { OnOk result (IsKept L.kinds 4 buffer.new) }
     ensures bound { OnOk result ((label : ℕ) → label < 4 → is_some (place_of buffer.new label) ≡ true) }
+    ensures registered { OnOk result (registered_of buffer.new ≡ registered_of buffer.old) }
 {
     bind(buffer, 0)?;
     bind(buffer, 1)?;
@@ -391,41 +449,56 @@ fn bind_each<L: MachInstLabelUse>(buffer: &mut MachBuffer<L>) -> Result<(), OutO
 }
 
 /// Binds each label that is not bound, and finishes.
-fn end<L: MachInstLabelUse>(mut buffer: MachBuffer<L>) -> Result<Finished, Fail>
+fn end<L: MachInstLabelUse>(
+    mut buffer: MachBuffer<L>,
+    constants: &[Constant],
+) -> Result<Finished, Fail>
     requires kept { IsKept L.kinds 4 buffer }
+    requires registered { registered_of buffer ≡ constants.now }
 {
     bind_each(&mut buffer)?;
     if !buffer.has_room(0) {
         return Err(Fail::new("no room"));
     }
-    let finished = buffer.finish(&[])?;
+    let finished = buffer.finish(constants)?;
     Ok(finished)
 }
 
-/// An empty buffer.
-fn empty<L: MachInstLabelUse>(alloc: Global) -> MachBuffer<L>
-    ensures kept { IsKept L.kinds 4 result }
+/// An empty buffer with these constants.
+fn empty<L: MachInstLabelUse>(
+    alloc: Global,
+    constants: &[Constant],
+) -> Result<MachBuffer<L>, OutOfMemory>
+    requires { length constants.now ≤ inner_count }
+    ensures kept { IfOk result (λ b. IsKept L.kinds 4 b) }
+    ensures registered { IfOk result (λ b. registered_of b ≡ constants.now) }
 {
-    MachBuffer::<L>::new(alloc)
+    let mut buffer = MachBuffer::<L>::new(alloc);
+    buffer.register_constants(constants)?;
+    Ok(buffer)
 }
 
 /// Assembles items, and notes where islands stand.
 fn assemble<L: MachInstLabelUse>(
     alloc: Global,
     kind: L,
+    constants: &[Constant],
     items: &[Item],
     islands: &mut Vec<u32>,
 ) -> Result<Finished, Fail>
     requires kind { IsOneByte L.kinds kind }
 {
-    let mut buffer = empty::<L>(alloc);
-    for item in items {
-        put_item(&mut buffer, kind, *item, islands)?;
+    if constants.len() > 100 {
+        return Err(Fail::new("more than 100 constants"));
     }
-    end(buffer)
+    let mut buffer = empty::<L>(alloc, constants)?;
+    for item in items {
+        put_item(&mut buffer, kind, constants, *item, islands)?;
+    }
+    end(buffer, constants)
 }
 
-use self::Item::{Bind, Fill, Use};
+use self::Item::{Bind, Fill, Name, Use};
 
 /// Items with the places of their islands, and how long their code is.
 struct Stand {
@@ -492,7 +565,7 @@ const STANDS: [Stand; 10] = [
 /// Stops unless the islands of a row stand at its offsets, and its code is as long.
 fn assert_stand(rt: &impl Abort, alloc: Global, row: &Stand) -> Result<(), Fail> {
     let mut islands = Vec::new(alloc);
-    let code = assemble(alloc, Toy::Short, row.items, &mut islands)?;
+    let code = assemble(alloc, Toy::Short, &[], row.items, &mut islands)?;
     assert_eq!(rt; islands.as_slice(), row.at);
     assert_eq!(rt; code.bytes.len(), row.long);
     Ok(())
@@ -548,7 +621,7 @@ const AIMS: [Aim; 4] = [
 /// Stops unless the code of a row has its bytes.
 fn assert_aim(rt: &impl Abort, alloc: Global, row: &Aim) -> Result<(), Fail> {
     let mut islands = Vec::new(alloc);
-    let code = assemble(alloc, Toy::Short, row.items, &mut islands)?;
+    let code = assemble(alloc, Toy::Short, &[], row.items, &mut islands)?;
     let rest = code.bytes.as_slice().get(row.at..).unwrap_or(&[]);
     let found = rest.get(..row.bytes.len()).unwrap_or(&[]);
     assert_eq!(rt; found, row.bytes);
@@ -574,5 +647,210 @@ fn allocated(alloc: Global) -> Result<[u32; 2], OutOfMemory> {
 #[test]
 fn labels_are_drawn_in_order(rt: HostRuntime) -> Result<(), OutOfMemory> {
     assert_eq!(rt; allocated(rt.alloc())?, [0x40000000, 0x40000001]);
+    Ok(())
+}
+
+/// A constant's alignment and bytes.
+struct Datum {
+    align: ConstAlign,
+    bytes: &'static [u8],
+}
+
+const DATA: [Datum; 7] = [
+    Datum {
+        align: ConstAlign::A1,
+        bytes: &[0xc0],
+    },
+    Datum {
+        align: ConstAlign::A16,
+        bytes: &[0xc1; 5],
+    },
+    Datum {
+        align: ConstAlign::A2,
+        bytes: &[0xc2; 3],
+    },
+    Datum {
+        align: ConstAlign::A8,
+        bytes: &[0xc3; 7],
+    },
+    Datum {
+        align: ConstAlign::A4,
+        bytes: &[0xc4; 4],
+    },
+    Datum {
+        align: ConstAlign::A1,
+        bytes: &[0xc5; 251],
+    },
+    Datum {
+        align: ConstAlign::A2,
+        bytes: &[0xc6; 9],
+    },
+];
+
+fn constants_of(alloc: Global, data: &[Datum]) -> Result<Vec<Constant>, OutOfMemory> {
+    let mut constants = Vec::new(alloc);
+    for datum in data {
+        let mut bytes = Vec::new(alloc);
+        bytes.extend_from_slice(datum.bytes)?;
+        constants.push(Constant {
+            bytes: List::from_vec(bytes),
+            align: datum.align,
+        })?;
+    }
+    Ok(constants)
+}
+
+/// Items with how long their code is, the numbers and offsets of their constants, and some bytes, from `at` on.
+struct Pool {
+    items: &'static [Item],
+    long: usize,
+    constants: &'static [(u32, u32)],
+    at: usize,
+    bytes: &'static [u8],
+}
+
+const POOLS: [Pool; 8] = [
+    // Nothing is named.
+    Pool {
+        items: &[Fill(2)],
+        long: 2,
+        constants: &[],
+        at: 0,
+        bytes: &[0x44, 0x44],
+    },
+    // A use at 0 goes by a veneer at 4 to a constant at 12.
+    Pool {
+        items: &[Name(4)],
+        long: 16,
+        constants: &[(4, 12)],
+        at: 0,
+        bytes: &[
+            2, 0x11, 0, 0, 8, 0, 0, 0, 0xee, 0xee, 0xee, 0xee, 0xc4, 0xc4, 0xc4, 0xc4,
+        ],
+    },
+    // Six uses go by veneers from 12 on; the first and the fourth to one constant.
+    Pool {
+        items: &[Name(3), Name(0), Name(4), Name(3), Name(1), Name(2)],
+        long: 89,
+        constants: &[(3, 64), (0, 72), (4, 76), (1, 80), (2, 86)],
+        at: 0,
+        bytes: &[
+            6, 0x11, 9, 0x11, 12, 0x11, 15, 0x11, 18, 0x11, 21, 0x11, 52, 0, 0, 0, 0xee, 0xee,
+            0xee, 0xee, 52, 0, 0, 0, 0xee, 0xee, 0xee, 0xee, 48, 0, 0, 0, 0xee, 0xee, 0xee, 0xee,
+            28, 0, 0, 0, 0xee, 0xee, 0xee, 0xee, 36, 0, 0, 0, 0xee, 0xee, 0xee, 0xee, 34, 0, 0, 0,
+            0xee, 0xee, 0xee, 0xee, 0, 0, 0, 0, 0xc3, 0xc3, 0xc3, 0xc3, 0xc3, 0xc3, 0xc3, 0, 0xc0,
+            0, 0, 0, 0xc4, 0xc4, 0xc4, 0xc4, 0xc1, 0xc1, 0xc1, 0xc1, 0xc1, 0, 0xc2, 0xc2, 0xc2,
+        ],
+    },
+    // A jump at 2 round an island, which has a veneer at 8 and a constant at 16, and ends at 24.
+    Pool {
+        items: &[Name(1), Fill(216), Name(2), Name(1)],
+        long: 255,
+        constants: &[(1, 16), (2, 252)],
+        at: 0,
+        bytes: &[
+            4, 0x11, 11, 0xaa, 0xaa, 0xaa, 0, 0, 8, 0, 0, 0, 0xee, 0xee, 0xee, 0xee, 0xc1, 0xc1,
+            0xc1, 0xc1, 0xc1, 0, 0, 0, 0x44,
+        ],
+    },
+    // After it a use at 240 goes by a veneer at 244 to a constant at 252, and one at 242 goes 226 bytes back.
+    Pool {
+        items: &[Name(1), Fill(216), Name(2), Name(1)],
+        long: 255,
+        constants: &[(1, 16), (2, 252)],
+        at: 239,
+        bytes: &[
+            0x44, 2, 0x11, 0x8f, 0x11, 8, 0, 0, 0, 0xee, 0xee, 0xee, 0xee, 0xc2, 0xc2, 0xc2,
+        ],
+    },
+    // With a constant of 251 bytes at 16 the island would end at 268, and a jump at 2 reaches 256: so it goes by a veneer of its
+    // own at 8 to the end at 276.
+    Pool {
+        items: &[Name(5), Fill(216)],
+        long: 492,
+        constants: &[(5, 24)],
+        at: 0,
+        bytes: &[
+            8, 0x11, 3, 0xaa, 0xaa, 0xaa, 0, 0, 12, 1, 0, 0, 0xee, 0xee, 0xee, 0xee, 8, 0, 0, 0,
+            0xee, 0xee, 0xee, 0xee, 0xc5,
+        ],
+    },
+    Pool {
+        items: &[Name(5), Fill(216)],
+        long: 492,
+        constants: &[(5, 24)],
+        at: 272,
+        bytes: &[0xc5, 0xc5, 0xc5, 0, 0x44],
+    },
+    // A label's veneer at 8, and then a constant's at 16 to 24, and an island's end at 28.
+    Pool {
+        items: &[Use(0), Name(2), Fill(208), Name(2)],
+        long: 238,
+        constants: &[(2, 24)],
+        at: 0,
+        bytes: &[
+            4, 0x11, 7, 0x11, 12, 0xaa, 0xaa, 0xaa, 0xe6, 0, 0, 0, 0xee, 0xee, 0xee, 0xee, 8, 0, 0,
+            0, 0xee, 0xee, 0xee, 0xee, 0xc2, 0xc2, 0xc2, 0, 0x44,
+        ],
+    },
+];
+
+/// Stops unless the code of a row has its constants and its bytes.
+fn assert_pool(rt: &impl Abort, alloc: Global, row: &Pool) -> Result<(), Fail> {
+    let constants = constants_of(alloc, &DATA)?;
+    let mut islands = Vec::new(alloc);
+    let code = assemble(alloc, Toy::Short, &constants, row.items, &mut islands)?;
+    assert_eq!(rt; code.bytes.len(), row.long);
+    let mut places = Vec::new(alloc);
+    for place in code.constants.as_slice() {
+        places.push((place.constant.number, place.offset))?;
+    }
+    assert_eq!(rt; places.as_slice(), row.constants);
+    let rest = code.bytes.as_slice().get(row.at..).unwrap_or(&[]);
+    let found = rest.get(..row.bytes.len()).unwrap_or(&[]);
+    assert_eq!(rt; found, row.bytes);
+    Ok(())
+}
+
+#[test]
+fn constants_stand_after_veneers(rt: HostRuntime) -> Result<(), Fail> {
+    for row in &POOLS {
+        assert_pool(&rt, rt.alloc(), row)?;
+    }
+    Ok(())
+}
+
+const TWO: [Datum; 2] = [
+    Datum {
+        align: ConstAlign::A1,
+        bytes: &[0xc0; 3],
+    },
+    Datum {
+        align: ConstAlign::A1,
+        bytes: &[0xc1; 5],
+    },
+];
+
+/// Returns whether there is room for one byte too many and for as many as may be, with constants of 3 and 5 bytes; and the same
+/// once the second stands.
+fn room_for_constants(alloc: Global) -> Result<[bool; 4], Fail> {
+    let constants = constants_of(alloc, &TWO)?;
+    if constants.len() > 2 {
+        return Err(Fail::new("more than two constants"));
+    }
+    let mut islands = Vec::new(alloc);
+    let mut buffer = empty::<Toy>(alloc, &constants)?;
+    let too_many = buffer.has_room(CODE_LIMIT - 72);
+    let most = buffer.has_room(CODE_LIMIT - 73);
+    put_item(&mut buffer, Toy::Short, &constants, Name(1), &mut islands)?;
+    // The constant stands from 16 to 21, and the island ends at 24.
+    make_way(&mut buffer, Toy::Short, 250, &mut islands)?;
+    let more = buffer.has_room(CODE_LIMIT - 75);
+    Ok([too_many, most, more, buffer.has_room(CODE_LIMIT - 76)])
+}
+
+#[test]
+fn room_is_left_for_constants(rt: HostRuntime) -> Result<(), Fail> {
+    assert_eq!(rt; room_for_constants(rt.alloc())?, [false, true, false, true]);
     Ok(())
 }

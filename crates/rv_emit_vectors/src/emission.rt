@@ -46,6 +46,7 @@ fn names_first(inst: &Inst) -> bool
         Targets::Jumps(label) => label.as_u32() == 0,
         Targets::Branches(taken, not_taken) => is_first(taken) && is_first(not_taken),
         Targets::Refers(label) => label.as_u32() == 0,
+        Targets::RefersConstant(_) => false,
     }
 }
 

@@ -1,4 +1,4 @@
--- What a line means depends on no labels but those that it names.
+-- What a line means depends on no labels but those that it names, and on where constants stand.
 use Rattle.std.proofs.Common.{◌≡◌, ℕ, ◌+◌, ◌*◌, ◌^◌, List, refl, ap}
 use Rattle.rv_base.specs.Regs.{number_of}
 use Rattle.rv_base.specs.declared.amode.AMode.{AMode}
@@ -9,109 +9,39 @@ use Rattle.rv_machine.specs.Memory.{load_result, store_bytes}
 use Rattle.rv_machine.specs.State.{Values, reg, set_reg, wrap, low64}
 use Rattle.rv_ops.specs.Memory.{store_size}
 use Rattle.rv_inst.specs.declared.inst.Inst.{Inst}
-use Rattle.rv_inst.specs.declared.inst.Inst.TheVariants.{Nop0, Nop4, EBreak, SequencePoint, Args, Rets, DummyUse, EmitIsland, RawData, Lui, Auipc, LoadInlineConst, AluRRR, AluRRImm12, Mov, MovFromPReg, Load, Store, LoadAddr, LabelAddress, Ret, TrapIf, Jal, CondBr, Udf, Jalr, Popcnt}
+use Rattle.rv_inst.specs.declared.inst.Inst.TheVariants.{Nop0, Auipc, Load, Store, LoadAddr, LabelAddress, Jalr}
 use Rattle.rv_inst.specs.declared.inst.Line.{Line}
 use Rattle.rv_inst.specs.declared.inst.Line.TheVariants.{Inst as Put, Bind}
 use Rattle.rv_inst.specs.Environments.{AgreeOn}
 use Rattle.rv_inst.specs.Meaning.{Environment, Exit, inst_effect, effect_of, inst_writes, writes_of, inst_exit, exit_of, address_of, addresses_from, put_bytes}
 use Rattle.rv_inst.specs.Operands.{labels_of, address_targets, inst_labels, named_labels}
 
--- an address depends on no label but its own
+-- an address depends on no label but its own, and on no constant but its own
 address_agrees : {e f : Environment} (at : AMode) (v : Values) → AgreeOn (labels_of (address_targets at)) e f → address_of e at v ≡ address_of f at v
 address_agrees (mode.RegOffset r o) v a = refl
 address_agrees (mode.SPOffset o) v a = refl
 address_agrees (mode.FPOffset o) v a = refl
 address_agrees (mode.SlotOffset o) v a = ap (λ frame. wrap (reg v 2 + low64 (offset_of frame (mode.SlotOffset o)))) a.frame
 address_agrees (mode.IncomingArg o) v a = ap (λ frame. wrap (reg v 2 + low64 (offset_of frame (mode.IncomingArg o)))) a.frame
-address_agrees (mode.Const k) v a = refl
+address_agrees (mode.Const k) v a = a.constants_same k.number
 address_agrees (mode.Label l) v a = a.labels_same.0
 
 inst_effect_agrees : {e f : Environment} (inst : Inst) (v : Values) → AgreeOn (inst_labels inst) e f → inst_effect e inst v ≡ inst_effect f inst v
-inst_effect_agrees Nop0 v a = refl
-inst_effect_agrees Nop4 v a = refl
-inst_effect_agrees EBreak v a = refl
-inst_effect_agrees SequencePoint v a = refl
-inst_effect_agrees (Args args) v a = refl
-inst_effect_agrees (Rets rets) v a = refl
-inst_effect_agrees (DummyUse reg) v a = refl
-inst_effect_agrees (EmitIsland needed_space) v a = refl
-inst_effect_agrees (RawData bytes) v a = refl
-inst_effect_agrees (Lui rd imm) v a = refl
 inst_effect_agrees (Auipc rd imm) v a = ap (λ n. set_reg v (number_of rd.reg) (wrap (n + low64 imm.value * 2 ^ 12))) a.start
-inst_effect_agrees (LoadInlineConst rd type imm) v a = refl
-inst_effect_agrees (AluRRR op rd rs1 rs2) v a = refl
-inst_effect_agrees (AluRRImm12 op rd rs imm) v a = refl
-inst_effect_agrees (Mov rd rm type) v a = refl
-inst_effect_agrees (MovFromPReg rd rm) v a = refl
 inst_effect_agrees (Load rd op flags from) v a = ap (λ n. set_reg v (number_of rd.reg) (load_result (load_op op) v.mem n)) (address_agrees from v a)
 inst_effect_agrees (Store to op flags src) v a = ap (λ n. put_bytes v n (store_bytes (store_op op) (reg v (number_of src)))) (address_agrees to v a)
 inst_effect_agrees (LoadAddr rd mem) v a = ap (set_reg v (number_of rd.reg)) (address_agrees mem v a)
 inst_effect_agrees (LabelAddress dst label) v a = ap (set_reg v (number_of dst.reg)) a.labels_same.0
-inst_effect_agrees Ret v a = refl
-inst_effect_agrees (TrapIf cmp code) v a = refl
-inst_effect_agrees (Jal label) v a = refl
-inst_effect_agrees (CondBr taken not_taken kind) v a = refl
-inst_effect_agrees (Udf code) v a = refl
 inst_effect_agrees (Jalr rd base offset) v a = ap (set_reg v (number_of rd.reg)) a.after
-inst_effect_agrees (Popcnt sum tmp step rs type) v a = refl
+inst_effect_agrees _ v a = refl
 
 inst_writes_agree : {e f : Environment} (inst : Inst) (v : Values) → AgreeOn (inst_labels inst) e f → inst_writes e inst v ≡ inst_writes f inst v
-inst_writes_agree Nop0 v a = refl
-inst_writes_agree Nop4 v a = refl
-inst_writes_agree EBreak v a = refl
-inst_writes_agree SequencePoint v a = refl
-inst_writes_agree (Args args) v a = refl
-inst_writes_agree (Rets rets) v a = refl
-inst_writes_agree (DummyUse reg) v a = refl
-inst_writes_agree (EmitIsland needed_space) v a = refl
-inst_writes_agree (RawData bytes) v a = refl
-inst_writes_agree (Lui rd imm) v a = refl
-inst_writes_agree (Auipc rd imm) v a = refl
-inst_writes_agree (LoadInlineConst rd type imm) v a = refl
-inst_writes_agree (AluRRR op rd rs1 rs2) v a = refl
-inst_writes_agree (AluRRImm12 op rd rs imm) v a = refl
-inst_writes_agree (Mov rd rm type) v a = refl
-inst_writes_agree (MovFromPReg rd rm) v a = refl
-inst_writes_agree (Load rd op flags from) v a = refl
 inst_writes_agree (Store to op flags src) v a = ap (λ n. addresses_from n (store_size op)) (address_agrees to v a)
-inst_writes_agree (LoadAddr rd mem) v a = refl
-inst_writes_agree (LabelAddress dst label) v a = refl
-inst_writes_agree Ret v a = refl
-inst_writes_agree (TrapIf cmp code) v a = refl
-inst_writes_agree (Jal label) v a = refl
-inst_writes_agree (CondBr taken not_taken kind) v a = refl
-inst_writes_agree (Udf code) v a = refl
-inst_writes_agree (Jalr rd base offset) v a = refl
-inst_writes_agree (Popcnt sum tmp step rs type) v a = refl
+inst_writes_agree _ v a = refl
 
 inst_exit_agrees : {e f : Environment} (inst : Inst) (v : Values) → AgreeOn (inst_labels inst) e f → inst_exit e inst v ≡ inst_exit f inst v
 inst_exit_agrees Nop0 v a = refl
-inst_exit_agrees Nop4 v a = refl
-inst_exit_agrees EBreak v a = refl
-inst_exit_agrees SequencePoint v a = refl
-inst_exit_agrees (Args args) v a = refl
-inst_exit_agrees (Rets rets) v a = refl
-inst_exit_agrees (DummyUse reg) v a = refl
-inst_exit_agrees (EmitIsland needed_space) v a = refl
-inst_exit_agrees (RawData bytes) v a = refl
-inst_exit_agrees (Lui rd imm) v a = refl
-inst_exit_agrees (Auipc rd imm) v a = refl
-inst_exit_agrees (LoadInlineConst rd type imm) v a = refl
-inst_exit_agrees (AluRRR op rd rs1 rs2) v a = refl
-inst_exit_agrees (AluRRImm12 op rd rs imm) v a = refl
-inst_exit_agrees (Mov rd rm type) v a = refl
-inst_exit_agrees (MovFromPReg rd rm) v a = refl
-inst_exit_agrees (Load rd op flags from) v a = refl
-inst_exit_agrees (Store to op flags src) v a = refl
-inst_exit_agrees (LoadAddr rd mem) v a = refl
-inst_exit_agrees (LabelAddress dst label) v a = refl
-inst_exit_agrees Ret v a = refl
-inst_exit_agrees (TrapIf cmp code) v a = refl
-inst_exit_agrees (Jal label) v a = refl
-inst_exit_agrees (CondBr taken not_taken kind) v a = refl
-inst_exit_agrees (Udf code) v a = refl
-inst_exit_agrees (Jalr rd base offset) v a = refl
-inst_exit_agrees (Popcnt sum tmp step rs type) v a = refl
+inst_exit_agrees _ v a = refl
 
 pub effect_agrees : {e f : Environment} (line : Line) (v : Values) → AgreeOn (named_labels line) e f → effect_of e line v ≡ effect_of f line v
 effect_agrees (Put inst) v a = inst_effect_agrees inst v a

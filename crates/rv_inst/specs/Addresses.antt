@@ -10,31 +10,23 @@ use Rattle.rv_base.specs.Regs.{number_of}
 use Rattle.rv_imms.specs.Splitting.{least, greatest}
 use Rattle.rv_machine.specs.State.{low64}
 
--- a register, by its number, plus an offset; or a label
+-- a register, by its number, plus an offset; a label; or a constant
 pub data Location : Type 0 where
   Based : ℕ → ℤ → Location
   AtLabel : MachLabel → Location
+  AtConstant : VCodeConstant → Location
 
--- sp is x2, and fp is x8. No constant has a place: a line that names one breaks a rule.
+-- sp is x2, and fp is x8
 abbrev pub location_of : FrameLayout → AMode → Location
 location_of frame (RegOffset r o) = Based (number_of r) o
 location_of frame (SPOffset o) = Based 2 o
 location_of frame (FPOffset o) = Based 8 o
 location_of frame (SlotOffset o) = Based 2 (offset_of frame (SlotOffset o))
 location_of frame (IncomingArg o) = Based 2 (offset_of frame (IncomingArg o))
-location_of frame (Const k) = Based 0 (pos 0)
+location_of frame (Const k) = AtConstant k
 location_of frame (Label l) = AtLabel l
 
--- the label of an address, and its constant
-abbrev pub label_in : AMode → Option MachLabel
-label_in (RegOffset r o) = None
-label_in (SPOffset o) = None
-label_in (FPOffset o) = None
-label_in (SlotOffset o) = None
-label_in (IncomingArg o) = None
-label_in (Const k) = None
-label_in (Label l) = Some l
-
+-- the constant of an address
 abbrev pub constant_in : AMode → Option VCodeConstant
 constant_in (RegOffset r o) = None
 constant_in (SPOffset o) = None
@@ -69,13 +61,16 @@ far_size o = if is_splittable o then (if low64 o % 4096 == 0 then 4 else 8) else
 abbrev pub address_size : Location → ℕ
 address_size (Based r o) = if is_near o then 4 else far_size o + 4
 address_size (AtLabel l) = 8
+address_size (AtConstant k) = 8
 
--- a load from an address: the label's lower part is in the load
+-- a load from an address: the lower part of a label or a constant is in the load
 abbrev pub load_size_at : Location → ℕ
 load_size_at (Based r o) = if is_near o then 4 else far_size o + 8
 load_size_at (AtLabel l) = 8
+load_size_at (AtConstant k) = 8
 
 -- a store to an address
 abbrev pub store_size_at : Location → ℕ
 store_size_at (Based r o) = if is_near o then 4 else far_size o + 8
 store_size_at (AtLabel l) = 12
+store_size_at (AtConstant k) = 12

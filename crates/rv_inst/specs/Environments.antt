@@ -1,5 +1,6 @@
--- Environments in which a line means the same, since labels that it names stand at the same addresses: a link of the proof.
-use Rattle.std.specs.Prelude.{◌≡◌, List, [], ◌∷◌}
+-- Environments in which a line means the same, since labels that it names, and all constants, stand at the same addresses: a link
+-- of the proof.
+use Rattle.std.specs.Prelude.{◌≡◌, ℕ, List, [], ◌∷◌}
 use Rattle.rv_base.specs.declared.label.MachLabel.{MachLabel}
 use Rattle.rv_inst.specs.Meaning.{Environment}
 
@@ -13,3 +14,4 @@ pub record AgreeOn (labels : List MachLabel) (e f : Environment) : Type 0 where
   pub after : e.after ≡ f.after
   pub frame : e.frame ≡ f.frame
   pub labels_same : SameLabels labels e f
+  pub constants_same : (k : ℕ) → e.constant k ≡ f.constant k

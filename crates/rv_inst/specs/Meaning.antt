@@ -12,7 +12,7 @@ use Rattle.rv_ops.specs.declared.alu.AluOPRRI.{AluOPRRI}
 use Rattle.rv_ops.specs.declared.compare.IntegerCompare.{IntegerCompare}
 use Rattle.rv_ops.specs.Alu.{is_reversed}
 use Rattle.rv_encode.specs.Operations.{rrr_op, rri_op, load_op, store_op}
-use Rattle.rv_inst.specs.Addresses.{Location, Based, AtLabel, location_of}
+use Rattle.rv_inst.specs.Addresses.{Location, Based, AtLabel, AtConstant, location_of}
 use Rattle.rv_ops.specs.Memory.{store_size}
 use Rattle.rv_inst.specs.declared.inst.Line.{Line}
 use Rattle.rv_inst.specs.declared.inst.Line.TheVariants.{Inst as Put, Bind}
@@ -44,18 +44,20 @@ abbrev pub ones : ℕ → ℕ → ℕ
 ones zero n = 0
 ones (suc bits) n = n % 2 + ones bits (n / 2)
 
--- What a line is read among: the addresses of its first byte, of the byte after its last, and of labels by their numbers; and
--- the frame.
+-- What a line is read among: the addresses of its first byte, of the byte after its last, and of labels and constants by their
+-- numbers; and the frame.
 pub record Environment : Type 0 where
   pub start : ℕ
   pub after : ℕ
   pub label : ℕ → ℕ
+  pub constant : ℕ → ℕ
   pub frame : FrameLayout
 
 -- the address of a location
 abbrev pub address_at : Environment → Values → Location → ℕ
 address_at env v (Based r o) = wrap (reg v r + low64 o)
 address_at env v (AtLabel l) = env.label l.number
+address_at env v (AtConstant k) = env.constant k.number
 
 -- the address of a load or a store
 abbrev pub address_of : Environment → AMode → Values → ℕ

@@ -1,8 +1,9 @@
--- The registers and labels that a line names, in the order of its fields.
+-- The registers, labels and constants that a line names, in the order of its fields.
 use Rattle.std.specs.Prelude.{List, [], ◌∷◌, ◌++◌, Option, Some, None}
 use Rattle.rv_base.specs.declared.amode.AMode.{AMode}
 use Rattle.rv_base.specs.AMode.{registers_of}
-use Rattle.rv_inst.specs.Addresses.{label_in}
+use Rattle.rv_base.specs.declared.amode.AMode.TheVariants.{RegOffset, SPOffset, FPOffset, SlotOffset, IncomingArg, Const, Label as LabelAt}
+use Rattle.rv_base.specs.declared.constant.VCodeConstant.{VCodeConstant}
 use Rattle.rv_base.specs.declared.call.ArgPair.{ArgPair}
 use Rattle.rv_base.specs.declared.call.RetPair.{RetPair}
 use Rattle.rv_base.specs.declared.label.MachLabel.{MachLabel}
@@ -13,7 +14,7 @@ use Rattle.rv_inst.specs.declared.inst.Line.TheVariants.{Inst as Put, Bind}
 use Rattle.rv_inst.specs.declared.inst.Inst.{Inst}
 use Rattle.rv_inst.specs.declared.inst.Inst.TheVariants.{Nop0, Nop4, EBreak, SequencePoint, Args, Rets, DummyUse, EmitIsland, RawData, Lui, Auipc, LoadInlineConst, AluRRR, AluRRImm12, Mov, MovFromPReg, Load, Store, LoadAddr, LabelAddress, Ret, TrapIf, Jal, CondBr, Udf, Jalr, Popcnt}
 use Rattle.rv_inst.specs.declared.targets.Targets.{Targets}
-use Rattle.rv_inst.specs.declared.targets.Targets.TheVariants.{Nowhere, Jumps, Branches, Refers}
+use Rattle.rv_inst.specs.declared.targets.Targets.TheVariants.{Nowhere, Jumps, Branches, Refers, RefersConstant}
 use Rattle.rv_inst.specs.declared.inst.CondBrTarget.{CondBrTarget}
 use Rattle.rv_inst.specs.declared.inst.CondBrTarget.TheVariants.{Label, Fallthrough}
 
@@ -59,15 +60,17 @@ abbrev pub target_labels : CondBrTarget → List MachLabel
 target_labels (Label label) = label ∷ []
 target_labels Fallthrough = []
 
--- the label of an address, where it has one
-abbrev pub label_targets : Option MachLabel → Targets
-label_targets None = Nowhere
-label_targets (Some label) = Refers label
-
+-- the label or the constant of an address, where it has one
 abbrev pub address_targets : AMode → Targets
-address_targets mode = label_targets (label_in mode)
+address_targets (RegOffset r o) = Nowhere
+address_targets (SPOffset o) = Nowhere
+address_targets (FPOffset o) = Nowhere
+address_targets (SlotOffset o) = Nowhere
+address_targets (IncomingArg o) = Nowhere
+address_targets (Const k) = RefersConstant k
+address_targets (LabelAt l) = Refers l
 
--- the labels that an instruction names, by what it does with them
+-- the labels, or the constant, that an instruction names, by what it does with them
 abbrev pub targets_of : Inst → Targets
 targets_of Nop0 = Nowhere
 targets_of Nop4 = Nowhere
@@ -102,6 +105,7 @@ labels_of Nowhere = []
 labels_of (Jumps label) = label ∷ []
 labels_of (Branches taken not_taken) = target_labels taken ++ target_labels not_taken
 labels_of (Refers label) = label ∷ []
+labels_of (RefersConstant constant) = []
 
 -- those to which it goes, maybe by a veneer
 abbrev pub ways_of : Targets → List MachLabel
@@ -109,6 +113,19 @@ ways_of Nowhere = []
 ways_of (Jumps label) = label ∷ []
 ways_of (Branches taken not_taken) = target_labels taken ++ target_labels not_taken
 ways_of (Refers label) = []
+ways_of (RefersConstant constant) = []
+
+-- the constant whose address is taken
+abbrev pub constant_named : Targets → Option VCodeConstant
+constant_named Nowhere = None
+constant_named (Jumps label) = None
+constant_named (Branches taken not_taken) = None
+constant_named (Refers label) = None
+constant_named (RefersConstant constant) = Some constant
+
+-- the constant that an instruction names
+abbrev pub inst_constant : Inst → Option VCodeConstant
+inst_constant inst = constant_named (targets_of inst)
 
 -- the labels that an instruction names
 abbrev pub inst_labels : Inst → List MachLabel

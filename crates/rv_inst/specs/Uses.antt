@@ -1,4 +1,4 @@
--- The uses of labels that an instruction makes, and how far they reach.
+-- The uses of labels that an instruction makes, those of constants among them, and how far they reach.
 use Rattle.std.specs.Prelude.{ℕ, ◌+◌, List, [], ◌∷◌, None}
 use Rattle.rv_base.specs.declared.label.MachLabel.{MachLabel}
 use Rattle.rv_inst.specs.declared.inst.Line.{Line}
@@ -9,9 +9,10 @@ use Rattle.rv_inst.specs.declared.inst.CondBrTarget.TheVariants.{Label, Fallthro
 use Rattle.rv_inst.specs.declared.label_use.LabelUse.{LabelUse}
 use Rattle.rv_inst.specs.declared.label_use.LabelUse.TheVariants.{Jal20, B12, PCRelHi20, PCRelLo12I}
 use Rattle.rv_inst.specs.declared.targets.Targets.{Targets}
-use Rattle.rv_inst.specs.declared.targets.Targets.TheVariants.{Nowhere, Jumps, Branches, Refers}
+use Rattle.rv_inst.specs.declared.targets.Targets.TheVariants.{Nowhere, Jumps, Branches, Refers, RefersConstant}
 use Rattle.rv_inst.specs.Context.{Context}
 use Rattle.rv_inst.specs.Operands.{targets_of}
+use Rattle.mach_buffer.specs.Shape.{constant_label}
 use Rattle.mach_buffer.specs.declared.uses.Use.{Use}
 
 abbrev pub use_at : ℕ → MachLabel → LabelUse → Use LabelUse
@@ -28,8 +29,9 @@ target_uses start Nowhere = []
 target_uses start (Jumps label) = use_at start label Jal20 ∷ []
 target_uses start (Branches taken not_taken) = branch_uses start taken not_taken
 target_uses start (Refers label) = use_at start label PCRelHi20 ∷ use_at (start + 4) label PCRelLo12I ∷ []
+target_uses start (RefersConstant constant) = use_at start (constant_label constant) PCRelHi20 ∷ use_at (start + 4) (constant_label constant) PCRelLo12I ∷ []
 
--- the uses of an instruction that starts at an offset, in the order in which it names their labels
+-- the uses of an instruction that starts at an offset, in the order in which it names their labels, or for its constant
 abbrev pub uses_in : Context → ℕ → Inst → List (Use LabelUse)
 uses_in context start inst = target_uses start (targets_of inst)
 
@@ -39,6 +41,7 @@ target_reach Nowhere = 1048574
 target_reach (Jumps label) = 1048574
 target_reach (Branches taken not_taken) = 4094
 target_reach (Refers label) = 1048574
+target_reach (RefersConstant constant) = 1048574
 
 abbrev pub least_reach : Context → Line → ℕ
 least_reach context (Put inst) = target_reach (targets_of inst)

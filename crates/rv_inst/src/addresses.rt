@@ -13,18 +13,18 @@ use crate::registers::{RegisterTest, holds};
 use crate::targets::Targets;
 use rv_base::{AMode, Constant, VCodeConstant};
 
-/// The label of an address, where it has one.
+/// The label or the constant of an address, where it has one.
 pub fn address_targets(mode: AMode) -> Targets
     ensures { result ≡ address_targets mode }
 {
     match mode {
         AMode::Label(label) => Targets::Refers(label),
+        AMode::Const(constant) => Targets::RefersConstant(constant),
         AMode::RegOffset(_, _)
         | AMode::SPOffset(_)
         | AMode::FPOffset(_)
         | AMode::SlotOffset(_)
-        | AMode::IncomingArg(_)
-        | AMode::Const(_) => Targets::Nowhere,
+        | AMode::IncomingArg(_) => Targets::Nowhere,
     }
 }
 

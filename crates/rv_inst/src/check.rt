@@ -159,7 +159,7 @@ fn has_inner_label(inst: &Inst) -> bool
     ensures { result ≡ list_any is_buffer_label (inst_labels inst.now) }
 {
     match inst.targets() {
-        Targets::Nowhere => false,
+        Targets::Nowhere | Targets::RefersConstant(_) => false,
         Targets::Jumps(label) | Targets::Refers(label) => is_buffer_label(label),
         Targets::Branches(taken, not_taken) => has_inner_target(taken, not_taken),
     }

@@ -2,7 +2,7 @@
 
 ghost use Rattle.std.specs.Prelude.{length, ◌<◌, ◌^◌};
 
-pub use mach_buffer::{LabelPlace, MachTrap};
+pub use mach_buffer::{ConstPlace, LabelPlace, MachTrap};
 use rv_base::List;
 
 /// Where the bytes of a line begin and end.
@@ -16,8 +16,8 @@ pub struct LineSpan {
     pub end: u32,
 }
 
-/// Machine code, with a span for each line, a place for each label, a record for each instruction that may trap, and where the
-/// last line ends.
+/// Machine code, with a span for each line, a place for each label and each constant, a record for each instruction that may
+/// trap, and where the last line ends.
 #[derive(Drop)]
 pub struct Code {
     pub bytes: List<u8>,
@@ -25,6 +25,8 @@ pub struct Code {
     pub lines: List<LineSpan>,
     /// The offset of each label that the listing binds, in order of binding.
     pub labels: List<LabelPlace>,
+    /// The offset of each constant that is named, in order of place.
+    pub constants: List<ConstPlace>,
     /// The offset and the cause of each instruction that may trap, in the order in which they were recorded.
     pub traps: List<MachTrap>,
     /// The offset after the last line; veneers may stand after it.

@@ -16,7 +16,7 @@ mod registers;
 mod sizes;
 mod targets;
 
-pub use code::{Code, LabelPlace, LineSpan, MachTrap};
+pub use code::{Code, ConstPlace, LabelPlace, LineSpan, MachTrap};
 pub use error::{EmitError, Rule};
 pub use generators::SmallInstVec;
 pub use inst::{CondBrTarget, Family, Inst, Line};

@@ -1,4 +1,4 @@
-//! The labels that instructions name.
+//! The labels and constants that instructions name.
 
 ghost use Rattle.std.specs.Prelude.{◌≡◌};
 ghost use Rattle.rv_inst.specs.Families.{family_of};
@@ -7,9 +7,9 @@ ghost use Rattle.rv_inst.specs.declared.inst.Family.TheVariants.{Memory, Control
 
 use crate::addresses::address_targets;
 use crate::inst::{CondBrTarget, Family, Inst};
-use rv_base::MachLabel;
+use rv_base::{MachLabel, VCodeConstant};
 
-/// The labels that an instruction names, by what it does with them.
+/// The labels, or the constant, that an instruction names, by what it does with them.
 #[derive(Clone, Copy, Debug, PartialEq, Eq)]
 pub enum Targets {
     /// It names none.
@@ -20,10 +20,12 @@ pub enum Targets {
     Branches(CondBrTarget, CondBrTarget),
     /// It takes the label's address.
     Refers(MachLabel),
+    /// It takes the constant's address.
+    RefersConstant(VCodeConstant),
 }
 
 impl Inst {
-    /// The labels that the instruction names.
+    /// The labels, or the constant, that the instruction names.
     pub fn targets(&self) -> Targets
         ensures { result ≡ targets_of self.now }
     {

@@ -4,8 +4,12 @@
 #[cfg(test)]
 mod accesses;
 #[cfg(test)]
+mod constants;
+#[cfg(test)]
 mod frames;
 #[cfg(test)]
 mod readings;
 #[cfg(test)]
 mod refusals;
+#[cfg(test)]
+mod texts;

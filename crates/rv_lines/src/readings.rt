@@ -1,17 +1,10 @@
 //! What each line reads as.
 
-use rv_base::{IntCC, IrType, Reg, TrapCode};
+use crate::texts::{job_of, number};
+use rv_base::{IntCC, IrType, TrapCode};
 use rv_inst::{Inst, Line};
-use rv_listing::{ReadError, read_job};
+use rv_listing::ReadError;
 use std::alloc::Global;
-
-/// The number of a register; 255 for a virtual one.
-fn number(reg: Reg) -> u8 {
-    match reg {
-        Reg::Real(real) => real.number,
-        Reg::Virtual(_) => 255,
-    }
-}
 
 /// What a line of one of these forms says.
 #[derive(Clone, Copy, Debug, PartialEq, Eq)]
@@ -58,10 +51,8 @@ fn fields_of(inst: &Inst) -> Fields {
 
 /// What the only line of a text says.
 fn read(alloc: Global, text: &str) -> Result<Fields, ReadError> {
-    let job = match read_job(alloc, text.as_bytes()) {
-        Ok(job) => job,
-        Err(ReadError::Syntax { line: _ }) => return Ok(Fields::Syntax),
-        Err(ReadError::OutOfMemory) => return Err(ReadError::OutOfMemory),
+    let Some(job) = job_of(alloc, text)? else {
+        return Ok(Fields::Syntax);
     };
     match job.lines.as_slice() {
         [Line::Inst(inst)] => Ok(fields_of(inst)),

@@ -19,7 +19,7 @@ struct Refusal {
     rule: Option<Rule>,
 }
 
-const REFUSALS: [Refusal; 96] = [
+const REFUSALS: [Refusal; 111] = [
     Refusal {
         text: "Udf heap_oob",
         rule: None,
@@ -403,6 +403,66 @@ const REFUSALS: [Refusal; 96] = [
     Refusal {
         text: "LabelAddress a0 L1073741824",
         rule: Some(Rule::Label),
+    },
+    Refusal {
+        text: "const 8 0102\nLoad a0 ld - const:0",
+        rule: Some(Rule::Constant),
+    },
+    Refusal {
+        text: "const 8 01020304050607\nLoad a0 ld - const:0",
+        rule: Some(Rule::Constant),
+    },
+    Refusal {
+        text: "const 8 0102030405060708\nLoad a0 ld - const:0",
+        rule: None,
+    },
+    Refusal {
+        text: "const 1 0102030405060708\nLoad a0 lwu - const:0",
+        rule: None,
+    },
+    Refusal {
+        text: "const 8 0102030405060708\nLoad a0 ld - const:1",
+        rule: Some(Rule::Constant),
+    },
+    Refusal {
+        text: "const 1 01\nconst 4 01020304\nLoad a0 lw - const:1",
+        rule: None,
+    },
+    Refusal {
+        text: "const 1 01\nconst 4 01020304\nLoad a0 lw - const:0",
+        rule: Some(Rule::Constant),
+    },
+    Refusal {
+        text: "const 1 01\nLoad a0 lb - const:4294967295",
+        rule: Some(Rule::Constant),
+    },
+    Refusal {
+        text: "const 8 0102030405060708\nLoad zero ld - const:0",
+        rule: Some(Rule::Zero),
+    },
+    Refusal {
+        text: "const 8 0102030405060708\nLoad zero ld - const:1",
+        rule: Some(Rule::Zero),
+    },
+    Refusal {
+        text: "const 1 01\nStore const:0 sd - a0",
+        rule: None,
+    },
+    Refusal {
+        text: "const 1 01\nStore const:1 sd - a0",
+        rule: Some(Rule::Constant),
+    },
+    Refusal {
+        text: "const 1 01\nLoadAddr a0 const:0",
+        rule: None,
+    },
+    Refusal {
+        text: "const 1 01\nLoadAddr a0 const:1",
+        rule: Some(Rule::Constant),
+    },
+    Refusal {
+        text: "const 1 01\nLoadAddr zero const:0",
+        rule: Some(Rule::Zero),
     },
 ];
 

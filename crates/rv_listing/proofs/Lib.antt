@@ -3,7 +3,7 @@ pub mod Cuts
 pub mod DecimalNumbers
 pub mod TrapNames
 pub mod RegisterNames
-pub mod PlainJobs
+pub mod NoFlags
 pub mod Ranges
 pub mod OneReport
 pub mod HexLines

@@ -7,6 +7,7 @@ use Rattle.std.specs.Fmt.{decimal}
 use Rattle.std.proofs.lemmas.Fmt.{decimal_by_steps, decimal_injective}
 use Rattle.rv_inst.specs.declared.code.LineSpan.{LineSpan}
 use Rattle.mach_buffer.specs.declared.uses.LabelPlace.{LabelPlace}
+use Rattle.mach_buffer.specs.declared.records.ConstPlace.{ConstPlace}
 use Rattle.mach_buffer.specs.declared.records.MachTrap.{MachTrap}
 use Rattle.rv_base.specs.declared.trap.TrapCode.{TrapCode}
 use Rattle.rv_base.specs.declared.trap.TrapCode.TheVariants.{StackOverflow, HeapOutOfBounds, IntegerOverflow, IntegerDivisionByZero, BadConversionToInteger, User}
@@ -17,8 +18,8 @@ use Rattle.std.proofs.lemmas.List.{length-take, length-drop, take-append-drop}
 use Rattle.hex.specs.Hex.{IsBytes, encode_lower, lower_digits, decode_of}
 use Rattle.hex.proofs.HexLemmas.{decode_of-encode_lower, length-encode_with}
 use Rattle.rv_inst.specs.declared.code.Code.{Code}
-use Rattle.rv_listing.specs.Report.{span_line, label_line, trap_line, hex_lines, all_hex_lines, report}
-use Rattle.rv_listing.specs.CodeRanges.{SpanFits, LabelFits, TrapFits, CodeFits}
+use Rattle.rv_listing.specs.Report.{span_line, label_line, const_line, trap_line, hex_lines, all_hex_lines, report}
+use Rattle.rv_listing.specs.CodeRanges.{SpanFits, LabelFits, ConstFits, TrapFits, CodeFits}
 
 abbrev Digits : List ℕ → Type 0
 Digits [] = Unit {0}
@@ -64,21 +65,28 @@ span_opens x y a b fx fy e =
     made : (x y : LineSpan) → x.index ≡ y.index → x.start ≡ y.start → x.end ≡ y.end → x ≡ y
     made x y p q r = λ i. record { index = p i; start = q i; end = r i }
 
-regroup_label : (p i s a : List ℕ) → (p ++ i ++ 32 ∷ [] ++ s ++ 10 ∷ []) ++ a ≡ p ++ (i ++ 32 ∷ (s ++ 10 ∷ a))
-regroup_label p i s a = simp append_assoc
+-- two parts between a text and the end of a line
+regroup_two : (p i s a : List ℕ) → (p ++ i ++ 32 ∷ [] ++ s ++ 10 ∷ []) ++ a ≡ p ++ (i ++ 32 ∷ (s ++ 10 ∷ a))
+regroup_two p i s a = simp append_assoc
+
+two_open : (m n j k : ℕ) (a b : List ℕ) → m < 2 ^ 32 → n < 2 ^ 32 → j < 2 ^ 32 → k < 2 ^ 32 → decimal m ++ 32 ∷ (decimal j ++ 10 ∷ a) ≡ decimal n ++ 32 ∷ (decimal k ++ 10 ∷ b) → (m ≡ n) × ((j ≡ k) × (a ≡ b))
+two_open m n j k a b hm hn hj hk e =
+    let one = number_opens m n _ _ 32 (omega arith) (omega arith) (omega arith) e in
+    (one.0, number_opens j k _ _ 10 (omega arith) (omega arith) (omega arith) one.1)
 
 label_opens : (x y : LabelPlace) (a b : List ℕ) → LabelFits x → LabelFits y → label_line x ++ a ≡ label_line y ++ b → (x ≡ y) × (a ≡ b)
 label_opens x y a b fx fy e =
-    let ex = regroup_label (codes "label L") (decimal x.label.number) (decimal x.offset) a in
-    let ey = regroup_label (codes "label L") (decimal y.label.number) (decimal y.offset) b in
-    let all = sym ex ∙ e ∙ ey in
-    let after_lf : decimal x.label.number ++ 32 ∷ (decimal x.offset ++ 10 ∷ a) ≡ decimal y.label.number ++ 32 ∷ (decimal y.offset ++ 10 ∷ b) = ap (drop 7) all in
-    let one = number_opens x.label.number y.label.number _ _ 32 (omega arith) (omega (arith, fx.label)) (omega (arith, fy.label)) after_lf in
-    let as_pair = number_opens x.offset y.offset _ _ 10 (omega arith) (omega (arith, fx.offset)) (omega (arith, fy.offset)) one.1 in
-    (made x y one.0 as_pair.0, as_pair.1)
-  where
-    made : (x y : LabelPlace) → x.label.number ≡ y.label.number → x.offset ≡ y.offset → x ≡ y
-    made x y p q = λ i. record { label = record { number = p i }; offset = q i }
+    let ex = regroup_two (codes "label L") (decimal x.label.number) (decimal x.offset) a in
+    let ey = regroup_two (codes "label L") (decimal y.label.number) (decimal y.offset) b in
+    let numbers = two_open x.label.number y.label.number x.offset y.offset a b fx.label fy.label fx.offset fy.offset (ap (drop 7) (sym ex ∙ e ∙ ey)) in
+    ((λ i. record { label = record { number = numbers.0 i }; offset = numbers.1.0 i }), numbers.1.1)
+
+const_opens : (x y : ConstPlace) (a b : List ℕ) → ConstFits x → ConstFits y → const_line x ++ a ≡ const_line y ++ b → (x ≡ y) × (a ≡ b)
+const_opens x y a b fx fy e =
+    let ex = regroup_two (codes "const ") (decimal x.constant.number) (decimal x.offset) a in
+    let ey = regroup_two (codes "const ") (decimal y.constant.number) (decimal y.offset) b in
+    let numbers = two_open x.constant.number y.constant.number x.offset y.offset a b fx.constant fy.constant fx.offset fy.offset (ap (drop 6) (sym ex ∙ e ∙ ey)) in
+    ((λ i. record { constant = record { number = numbers.0 i }; offset = numbers.1.0 i }), numbers.1.1)
 
 -- the bytes of a cause's name are those of letters, digits and _
 Digits-name : (code : TrapCode) → Digits (name_of code)
@@ -91,8 +99,8 @@ Digits-name (User trap) = let high = trap.high in (lit≤ tt, (lit≤ tt, (lit�
 
 trap_opens : (x y : MachTrap) (a b : List ℕ) → TrapFits x → TrapFits y → trap_line x ++ a ≡ trap_line y ++ b → (x ≡ y) × (a ≡ b)
 trap_opens x y a b fx fy e =
-    let ex = regroup_label (codes "trap ") (decimal x.offset) (name_of x.code) a in
-    let ey = regroup_label (codes "trap ") (decimal y.offset) (name_of y.code) b in
+    let ex = regroup_two (codes "trap ") (decimal x.offset) (name_of x.code) a in
+    let ey = regroup_two (codes "trap ") (decimal y.offset) (name_of y.code) b in
     let all = sym ex ∙ e ∙ ey in
     let numbers : decimal x.offset ++ 32 ∷ (name_of x.code ++ 10 ∷ a) ≡ decimal y.offset ++ 32 ∷ (name_of y.code ++ 10 ∷ b) = ap (drop 5) all in
     let one = number_opens x.offset y.offset _ _ 32 (omega arith) (omega (arith, fx.offset)) (omega (arith, fy.offset)) numbers in
@@ -177,8 +185,8 @@ hex_lines_open (suc n) at xs ys a b len fits fx fy e =
 abbrev ending : ℕ → List ℕ
 ending n = codes "end " ++ (decimal n ++ 10 ∷ [])
 
-regroup_report : (p n r s l t e m : List ℕ) → p ++ n ++ 10 ∷ [] ++ r ++ s ++ l ++ t ++ e ++ m ++ 10 ∷ [] ≡ p ++ (n ++ 10 ∷ (r ++ (s ++ (l ++ (t ++ (e ++ (m ++ 10 ∷ [])))))))
-regroup_report p n r s l t e m = simp append_assoc
+regroup_report : (p n r s l k t e m : List ℕ) → p ++ n ++ 10 ∷ [] ++ r ++ s ++ l ++ k ++ t ++ e ++ m ++ 10 ∷ [] ≡ p ++ (n ++ 10 ∷ (r ++ (s ++ (l ++ (k ++ (t ++ (e ++ (m ++ 10 ∷ []))))))))
+regroup_report p n r s l k t e m = simp append_assoc
 
 far : (m n : ℕ) → m ≡ n → n < m → ⊥
 far m n e lt = absurd (omega arith)
@@ -186,30 +194,39 @@ far m n e lt = absurd (omega arith)
 abbrev traps_and_end : Code → List ℕ
 traps_and_end c = flat_map trap_line c.traps ++ ending c.end
 
-abbrev labels_and_traps : Code → List ℕ
-labels_and_traps c = flat_map label_line c.labels ++ traps_and_end c
+abbrev constants_and_traps : Code → List ℕ
+constants_and_traps c = flat_map const_line c.constants ++ traps_and_end c
+
+abbrev labels_and_constants : Code → List ℕ
+labels_and_constants c = flat_map label_line c.labels ++ constants_and_traps c
 
 abbrev after_hex_lines : Code → List ℕ
-after_hex_lines c = flat_map span_line c.lines ++ labels_and_traps c
+after_hex_lines c = flat_map span_line c.lines ++ labels_and_constants c
 
 near : (m n : ℕ) → m ≡ n → m < n → ⊥
 near m n e lt = absurd (omega arith)
 
--- a line of a span begins like none of a label or a trap, and so for the others
-no_span : (ls : List LabelPlace) (ts : List MachTrap) (n : ℕ) → No SpanFits span_line (flat_map label_line ls ++ (flat_map trap_line ts ++ ending n))
-no_span [] [] n x t fits e = far 108 101 (ap (λ (w : List ℕ). get_or w 0 0) e) (omega arith)
-no_span [] (tr ∷ ts) n x t fits e = near 108 116 (ap (λ (w : List ℕ). get_or w 0 0) e) (omega arith)
-no_span (l ∷ ls) ts n x t fits e = far 105 97 (ap (λ (w : List ℕ). get_or w 1 0) e) (omega arith)
+-- a line of a span begins like none of a label, a constant or a trap, and so for the others
+no_span : (ls : List LabelPlace) (cs : List ConstPlace) (ts : List MachTrap) (n : ℕ) → No SpanFits span_line (flat_map label_line ls ++ (flat_map const_line cs ++ (flat_map trap_line ts ++ ending n)))
+no_span [] [] [] n x t fits e = far 108 101 (ap (λ (w : List ℕ). get_or w 0 0) e) (omega arith)
+no_span [] [] (tr ∷ ts) n x t fits e = near 108 116 (ap (λ (w : List ℕ). get_or w 0 0) e) (omega arith)
+no_span [] (c ∷ cs) ts n x t fits e = far 108 99 (ap (λ (w : List ℕ). get_or w 0 0) e) (omega arith)
+no_span (l ∷ ls) cs ts n x t fits e = far 105 97 (ap (λ (w : List ℕ). get_or w 1 0) e) (omega arith)
 
-no_label : (ts : List MachTrap) (n : ℕ) → No LabelFits label_line (flat_map trap_line ts ++ ending n)
-no_label [] n x t fits e = far 108 101 (ap (λ (w : List ℕ). get_or w 0 0) e) (omega arith)
-no_label (tr ∷ ts) n x t fits e = near 108 116 (ap (λ (w : List ℕ). get_or w 0 0) e) (omega arith)
+no_label : (cs : List ConstPlace) (ts : List MachTrap) (n : ℕ) → No LabelFits label_line (flat_map const_line cs ++ (flat_map trap_line ts ++ ending n))
+no_label [] [] n x t fits e = far 108 101 (ap (λ (w : List ℕ). get_or w 0 0) e) (omega arith)
+no_label [] (tr ∷ ts) n x t fits e = near 108 116 (ap (λ (w : List ℕ). get_or w 0 0) e) (omega arith)
+no_label (c ∷ cs) ts n x t fits e = far 108 99 (ap (λ (w : List ℕ). get_or w 0 0) e) (omega arith)
+
+no_const : (ts : List MachTrap) (n : ℕ) → No ConstFits const_line (flat_map trap_line ts ++ ending n)
+no_const [] n x t fits e = near 99 101 (ap (λ (w : List ℕ). get_or w 0 0) e) (omega arith)
+no_const (tr ∷ ts) n x t fits e = near 99 116 (ap (λ (w : List ℕ). get_or w 0 0) e) (omega arith)
 
 no_trap : (n : ℕ) → No TrapFits trap_line (ending n)
 no_trap n x t fits e = far 116 101 (ap (λ (w : List ℕ). get_or w 0 0) e) (omega arith)
 
 grouped : (c : Code) → report c ≡ codes "code " ++ (decimal (length c.bytes) ++ 10 ∷ (all_hex_lines c.bytes ++ after_hex_lines c))
-grouped c = regroup_report (codes "code ") (decimal (length c.bytes)) (all_hex_lines c.bytes) (flat_map span_line c.lines) (flat_map label_line c.labels) (flat_map trap_line c.traps) (codes "end ") (decimal c.end)
+grouped c = regroup_report (codes "code ") (decimal (length c.bytes)) (all_hex_lines c.bytes) (flat_map span_line c.lines) (flat_map label_line c.labels) (flat_map const_line c.constants) (flat_map trap_line c.traps) (codes "end ") (decimal c.end)
 
 all_hex_lines_open : (xs ys a b : List ℕ) → length xs ≡ length ys → AllByRecursion (λ b. b < 256) xs → AllByRecursion (λ b. b < 256) ys → all_hex_lines xs ++ a ≡ all_hex_lines ys ++ b → (xs ≡ ys) × (a ≡ b)
 all_hex_lines_open xs ys a b len fx fy e =
@@ -220,13 +237,14 @@ same_code c d fc fd e =
     let whole = ap (drop 5) (sym (grouped c) ∙ e ∙ grouped d) in
     let count = number_opens (length c.bytes) (length d.bytes) (all_hex_lines c.bytes ++ after_hex_lines c) (all_hex_lines d.bytes ++ after_hex_lines d) 10 (omega arith) (omega (arith, c.small)) (omega (arith, d.small)) whole in
     let bytes = all_hex_lines_open c.bytes d.bytes (after_hex_lines c) (after_hex_lines d) count.0 fc.bytes fd.bytes count.1 in
-    let lines = all_open SpanFits span_line (record { one = span_opens }) c.lines d.lines (labels_and_traps c) (labels_and_traps d) fc.lines fd.lines (no_span c.labels c.traps c.end) (no_span d.labels d.traps d.end) bytes.1 in
-    let labels = all_open LabelFits label_line (record { one = label_opens }) c.labels d.labels (traps_and_end c) (traps_and_end d) fc.labels fd.labels (no_label c.traps c.end) (no_label d.traps d.end) lines.1 in
-    let traps = all_open TrapFits trap_line (record { one = trap_opens }) c.traps d.traps (ending c.end) (ending d.end) fc.traps fd.traps (no_trap c.end) (no_trap d.end) labels.1 in
+    let lines = all_open SpanFits span_line (record { one = span_opens }) c.lines d.lines (labels_and_constants c) (labels_and_constants d) fc.lines fd.lines (no_span c.labels c.constants c.traps c.end) (no_span d.labels d.constants d.traps d.end) bytes.1 in
+    let labels = all_open LabelFits label_line (record { one = label_opens }) c.labels d.labels (constants_and_traps c) (constants_and_traps d) fc.labels fd.labels (no_label c.constants c.traps c.end) (no_label d.constants d.traps d.end) lines.1 in
+    let constants = all_open ConstFits const_line (record { one = const_opens }) c.constants d.constants (traps_and_end c) (traps_and_end d) fc.constants fd.constants (no_const c.traps c.end) (no_const d.traps d.end) labels.1 in
+    let traps = all_open TrapFits trap_line (record { one = trap_opens }) c.traps d.traps (ending c.end) (ending d.end) fc.traps fd.traps (no_trap c.end) (no_trap d.end) constants.1 in
     let last = number_opens c.end d.end [] [] 10 (omega arith) (omega (arith, fc.end)) (omega (arith, fd.end)) (ap (drop 4) traps.1) in
-    made c d bytes.0 lines.0 labels.0 traps.0 last.0
+    made c d bytes.0 lines.0 labels.0 constants.0 traps.0 last.0
   where
-    made : (c d : Code) → c.bytes ≡ d.bytes → c.lines ≡ d.lines → c.labels ≡ d.labels → c.traps ≡ d.traps → c.end ≡ d.end → c ≡ d
-    made c d p q r t s =
-        let Rest : List ℕ → Type 0 = λ (bs : List ℕ). (small : length bs < 2 ^ 32) → c ≡ record { bytes = bs; lines = d.lines; labels = d.labels; traps = d.traps; «end» = d.end; small = small } in
-        subst Rest p (λ small. λ i. record { bytes = c.bytes; lines = q i; labels = r i; traps = t i; «end» = s i; small = le_prop c.small small i }) d.small
+    made : (c d : Code) → c.bytes ≡ d.bytes → c.lines ≡ d.lines → c.labels ≡ d.labels → c.constants ≡ d.constants → c.traps ≡ d.traps → c.end ≡ d.end → c ≡ d
+    made c d p q r k t s =
+        let Rest : List ℕ → Type 0 = λ (bs : List ℕ). (small : length bs < 2 ^ 32) → c ≡ record { bytes = bs; lines = d.lines; labels = d.labels; constants = d.constants; traps = d.traps; «end» = d.end; small = small } in
+        subst Rest p (λ small. λ i. record { bytes = c.bytes; lines = q i; labels = r i; constants = k i; traps = t i; «end» = s i; small = le_prop c.small small i }) d.small

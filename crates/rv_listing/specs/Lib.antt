@@ -11,6 +11,7 @@ pub mod Traps
 pub mod HexDigits
 pub mod Pairs
 pub mod FrameHeader
+pub mod ConstantHeader
 pub mod FormNames
 pub mod Forms
 pub mod Reading

@@ -2,6 +2,7 @@
 use Rattle.std.specs.Prelude.{◌≡◌, ℕ, ◌+◌, Bool, not, ◌&&◌, List, [], ◌∷◌, ◌++◌, length, Option, Some, None, Result, Ok, Err, nat_lt, ◌==◌, if◌then◌else◌, codes}
 use Rattle.std.specs.List.{list_all}
 use Rattle.std.specs.Str.{bytes_eq}
+use Rattle.rv_base.specs.declared.constant.Constant.{Constant}
 use Rattle.rv_base.specs.declared.frame.FrameLayout.{FrameLayout}
 use Rattle.rv_base.specs.Flags.{no_flags}
 use Rattle.rv_base.specs.Frame.{no_frame}
@@ -10,11 +11,12 @@ use Rattle.rv_inst.specs.declared.job.Job.{Job}
 use Rattle.rv_listing.specs.Tokens.{◌>>=◌, starts, lines_of, words_of}
 use Rattle.rv_listing.specs.Forms.{line_form}
 use Rattle.rv_listing.specs.FrameHeader.{frame_form}
+use Rattle.rv_listing.specs.ConstantHeader.{constant_form}
 use Rattle.rv_listing.specs.declared.fields.LineError.{LineError}
 use Rattle.rv_listing.specs.declared.fields.LineError.TheVariants as bad
 use Rattle.rv_listing.specs.declared.reading.Draft.{Draft}
 use Rattle.rv_listing.specs.declared.reading.Place.{Place}
-use Rattle.rv_listing.specs.declared.reading.Place.TheVariants.{AtFrame, AtLines}
+use Rattle.rv_listing.specs.declared.reading.Place.TheVariants.{AtFrame, AtConstants, AtLines}
 use Rattle.rv_listing.specs.declared.reading.ReadError.{ReadError}
 use Rattle.rv_listing.specs.declared.reading.ReadError.TheVariants as errors
 
@@ -27,7 +29,10 @@ abbrev pub no_draft : Draft
 no_draft = record { job = no_job; place = AtFrame }
 
 abbrev pub and_frame : Draft → FrameLayout → Draft
-and_frame draft frame = record { job = record draft.job { frame = frame }; place = AtLines }
+and_frame draft frame = record { job = record draft.job { frame = frame }; place = AtConstants }
+
+abbrev pub and_constant : Draft → Constant → Draft
+and_constant draft constant = record { job = record draft.job { constants = draft.job.constants ++ constant ∷ [] }; place = AtConstants }
 
 abbrev pub and_line : Draft → Line → Draft
 and_line draft line = record { job = record draft.job { lines = draft.job.lines ++ line ∷ [] }; place = AtLines }
@@ -36,20 +41,32 @@ and_line draft line = record { job = record draft.job { lines = draft.job.lines 
 abbrev pub is_plain : ℕ → Bool
 is_plain c = nat_lt c 128 && not (c == 13)
 
--- the frame of these words, where a header line may stand
+-- the frame of these words, where its header line may stand
 abbrev pub frame_at : Place → List (List ℕ) → Option FrameLayout
 frame_at AtFrame ws = frame_form ws
+frame_at AtConstants ws = None
 frame_at AtLines ws = None
+
+-- the constant of these words, where the header line of one may stand
+abbrev pub constant_at : Place → List (List ℕ) → Option Constant
+constant_at AtFrame ws = constant_form ws
+constant_at AtConstants ws = constant_form ws
+constant_at AtLines ws = None
 
 abbrev pub with_frame : Draft → List (List ℕ) → Option Draft
 with_frame draft ws = frame_at draft.place ws >>= λ frame. Some (and_frame draft frame)
 
+abbrev pub with_constant : Draft → List (List ℕ) → Option Draft
+with_constant draft ws = constant_at draft.place ws >>= λ constant. Some (and_constant draft constant)
+
 abbrev pub with_form : Draft → List ℕ → List (List ℕ) → Option Draft
 with_form draft name ws = line_form name ws >>= λ line. Some (and_line draft line)
 
--- the header line, or a line of the job
+-- a header line, or a line of the job
 unfoldable pub with_named : Draft → List ℕ → List (List ℕ) → Option Draft
-with_named draft name ws = if bytes_eq name (codes "frame") then with_frame draft ws else with_form draft name ws
+with_named draft name ws =
+    if bytes_eq name (codes "frame") then with_frame draft ws else
+    if bytes_eq name (codes "const") then with_constant draft ws else with_form draft name ws
 
 abbrev pub with_words : Draft → List (List ℕ) → Option Draft
 with_words draft [] = None
@@ -101,7 +118,6 @@ pub record IsBadLine (text : List ℕ) (n : ℕ) : Type 0 where
   pub fine : reading 1 no_draft before ≡ Ok sofar
   pub refused : with_line sofar line ≡ None
 
--- every flag is off, and there are no constants
-pub record IsPlain (job : Job) : Type 0 where
-  pub flags : job.flags ≡ no_flags
-  pub constants : job.constants ≡ []
+-- every flag is off
+abbrev pub HasNoFlags : Job → Type 0
+HasNoFlags job = job.flags ≡ no_flags

@@ -6,6 +6,7 @@ use Rattle.std.specs.Int.{w32, to_be_bytes}
 use Rattle.hex.specs.Hex.{encode_lower}
 use Rattle.rv_inst.specs.declared.code.LineSpan.{LineSpan}
 use Rattle.mach_buffer.specs.declared.uses.LabelPlace.{LabelPlace}
+use Rattle.mach_buffer.specs.declared.records.ConstPlace.{ConstPlace}
 use Rattle.mach_buffer.specs.declared.records.MachTrap.{MachTrap}
 use Rattle.rv_base.specs.Trap.{name_of}
 use Rattle.rv_inst.specs.declared.code.Code.{Code}
@@ -34,6 +35,9 @@ span_line l = codes "line " ++ decimal l.index ++ sp ++ decimal l.start ++ sp ++
 abbrev pub label_line : LabelPlace → List ℕ
 label_line l = codes "label L" ++ decimal l.label.number ++ sp ++ decimal l.offset ++ lf
 
+abbrev pub const_line : ConstPlace → List ℕ
+const_line c = codes "const " ++ decimal c.constant.number ++ sp ++ decimal c.offset ++ lf
+
 abbrev pub trap_line : MachTrap → List ℕ
 trap_line t = codes "trap " ++ decimal t.offset ++ sp ++ name_of t.code ++ lf
 
@@ -43,5 +47,6 @@ report c =
     ++ all_hex_lines c.bytes
     ++ flat_map span_line c.lines
     ++ flat_map label_line c.labels
+    ++ flat_map const_line c.constants
     ++ flat_map trap_line c.traps
     ++ codes "end " ++ decimal c.end ++ lf

@@ -6,11 +6,11 @@ ghost use Rattle.std.specs.Fmt.{decimal};
 ghost use Rattle.hex.specs.Hex.{encode_lower};
 ghost use Rattle.rv_inst.specs.declared.code.Code.{Code as ACode};
 ghost use Rattle.rv_listing.specs.CodeRanges.{CodeFits};
-ghost use Rattle.rv_listing.specs.Report.{lf, hex_line, all_hex_lines, span_line, label_line, trap_line, report};
+ghost use Rattle.rv_listing.specs.Report.{lf, hex_line, all_hex_lines, span_line, label_line, const_line, trap_line, report};
 
 use itoa::Buffer;
 use rv_base::OutOfMemory;
-use rv_inst::{Code, LabelPlace, LineSpan, MachTrap};
+use rv_inst::{Code, ConstPlace, LabelPlace, LineSpan, MachTrap};
 use std::alloc::Global;
 
 fn put(out: &mut Vec<u8>, text: &[u8]) -> Result<(), OutOfMemory>
@@ -106,6 +106,13 @@ fn put_label(out: &mut Vec<u8>, l: &LabelPlace) -> Result<(), OutOfMemory>
     end_line(out, b" ", l.offset as u64)
 }
 
+fn put_constant(out: &mut Vec<u8>, c: &ConstPlace) -> Result<(), OutOfMemory>
+    ensures { OnOk result (out.new.items ≡ out.old.items ++ const_line c.now) }
+{
+    put_numbered(out, b"const ", c.constant.number as u64)?;
+    end_line(out, b" ", c.offset as u64)
+}
+
 fn put_trap(alloc: Global, out: &mut Vec<u8>, t: &MachTrap) -> Result<(), OutOfMemory>
     ensures { OnOk result (out.new.items ≡ out.old.items ++ trap_line t.now) }
 {
@@ -135,6 +142,15 @@ fn put_labels(out: &mut Vec<u8>, labels: &[LabelPlace]) -> Result<(), OutOfMemor
     Ok(())
 }
 
+fn put_constants(out: &mut Vec<u8>, constants: &[ConstPlace]) -> Result<(), OutOfMemory>
+    ensures { OnOk result (out.new.items ≡ out.old.items ++ flat_map const_line constants.now) }
+{
+    for c in constants {
+        put_constant(out, c)?;
+    }
+    Ok(())
+}
+
 fn put_traps(alloc: Global, out: &mut Vec<u8>, traps: &[MachTrap]) -> Result<(), OutOfMemory>
     ensures { OnOk result (out.new.items ≡ out.old.items ++ flat_map trap_line traps.now) }
 {
@@ -152,13 +168,14 @@ fn text_of(alloc: Global, code: &Code) -> Result<Vec<u8>, OutOfMemory>
     put_hex_lines(&mut out, code.bytes.as_slice())?;
     put_spans(&mut out, code.lines.as_slice())?;
     put_labels(&mut out, code.labels.as_slice())?;
+    put_constants(&mut out, code.constants.as_slice())?;
     put_traps(alloc, &mut out, code.traps.as_slice())?;
     end_line(&mut out, b"end ", code.end as u64)?;
     Ok(out)
 }
 
-/// The text of the code, in lines that LF ends: its length, its bytes in lines of sixteen, where each line and each
-/// label stands, each trap and its cause, and where the last line ends. Numbers are decimal but in the lines of bytes. No other
+/// The text of the code, in lines that LF ends: its length, its bytes in lines of sixteen, where each line, each
+/// label and each constant stands, each trap and its cause, and where the last line ends. Numbers are decimal but in the lines of bytes. No other
 /// code has this text.
 pub fn report(alloc: Global, code: &Code) -> Result<Vec<u8>, OutOfMemory>
     ensures text { IfOk result (λ text. text.items ≡ report code.now) }

@@ -4,6 +4,7 @@
 mod addresses;
 mod code_report;
 mod comparisons;
+mod constant_header;
 mod fields;
 mod form_names;
 mod forms;

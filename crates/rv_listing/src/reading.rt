@@ -3,12 +3,13 @@
 ghost use Rattle.std.specs.Prelude.{◌≡◌, ℕ, IfOk, IfErr};
 ghost use Rattle.rv_listing.specs.Tokens.{words_after, words_of, lines_of};
 ghost use Rattle.std.specs.List.{list_all};
-ghost use Rattle.rv_listing.specs.Reading.{no_draft, is_plain, with_frame, with_form, with_named, with_line, reading, Becomes, reads, Reads, IsBadLine, IsPlain};
+ghost use Rattle.rv_listing.specs.Fields.{Makes};
+ghost use Rattle.rv_listing.specs.Reading.{no_draft, is_plain, with_frame, constant_at, with_constant, with_form, with_named, with_line, reading, Becomes, reads, Reads, IsBadLine, HasNoFlags};
 
 use crate::fields::LineError;
 use crate::tokens::{first_word, is, next_line};
-use crate::{forms, frame_header};
-use rv_base::{FrameLayout, IsaFlags, List};
+use crate::{constant_header, forms, frame_header};
+use rv_base::{Constant, FrameLayout, IsaFlags, List};
 use rv_inst::Job;
 use std::alloc::Global;
 use thiserror::Error;
@@ -23,11 +24,13 @@ pub enum ReadError {
     OutOfMemory,
 }
 
-/// Where in a listing one is, by the lines that may come next. Header lines come before all others.
+/// Where in a listing one is, by the lines that may come next. Header lines come before all others, the frame's first.
 #[derive(Clone, Copy, Debug, PartialEq, Eq)]
 pub enum Place {
     /// The frame's header line or any line after it.
     AtFrame,
+    /// A constant's header line or any line after it.
+    AtConstants,
     /// Instructions and labels alone.
     AtLines,
 }
@@ -66,10 +69,32 @@ fn take_frame(alloc: Global, draft: &mut Draft, rest: &[u8]) -> Result<(), LineE
     match draft.place {
         Place::AtFrame => {
             draft.job.frame = frame_header::frame(alloc, rest)?;
-            draft.place = Place::AtLines;
+            draft.place = Place::AtConstants;
             Ok(())
         }
+        Place::AtConstants | Place::AtLines => Err(LineError::NotAllowed),
+    }
+}
+
+fn constant_at(alloc: Global, place: Place, rest: &[u8]) -> Result<Constant, LineError>
+    ensures { Makes result (constant_at place (words_after rest.now)) }
+{
+    match place {
+        Place::AtFrame | Place::AtConstants => constant_header::constant(alloc, rest),
         Place::AtLines => Err(LineError::NotAllowed),
+    }
+}
+
+fn take_constant(alloc: Global, draft: &mut Draft, rest: &[u8]) -> Result<(), LineError>
+    ensures { Becomes (with_constant draft.old (words_after rest.now)) draft.new result }
+{
+    let constant = constant_at(alloc, draft.place, rest)?;
+    match draft.job.constants.push(constant) {
+        Ok(()) => {
+            draft.place = Place::AtConstants;
+            Ok(())
+        }
+        Err(_) => Err(LineError::OutOfMemory),
     }
 }
 
@@ -92,6 +117,8 @@ fn take_named(alloc: Global, draft: &mut Draft, name: &[u8], rest: &[u8]) -> Res
 {
     if is(b"frame", name) {
         take_frame(alloc, draft, rest)
+    } else if is(b"const", name) {
+        take_constant(alloc, draft, rest)
     } else {
         take_form(alloc, draft, name, rest)
     }
@@ -134,11 +161,11 @@ fn read_lines(alloc: Global, text: &[u8]) -> Result<Job, ReadError>
 }
 
 /// The job that a listing means. The text is ASCII in lines that LF ends; the last LF may be missing. The frame's header
-/// line stands before all instructions and labels; without it the frame has no bytes.
+/// line stands first, and those of constants before all instructions and labels; without its line the frame has no bytes.
 pub fn read_job(alloc: Global, text: &[u8]) -> Result<Job, ReadError>
     ensures reads { Reads text.now result }
     ensures bad_line { IfErr result (λ e. (n : ℕ) → e ≡ ReadError.Syntax n → IsBadLine text.now n) }
-    ensures plain { IfOk result IsPlain }
+    ensures flags { IfOk result HasNoFlags }
 {
     read_lines(alloc, text)
 }

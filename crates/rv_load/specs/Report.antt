@@ -15,7 +15,7 @@ use Rattle.rv_load.specs.declared.program.Program.{Program}
 use Rattle.rv_load.specs.declared.program.ProgramError.{ProgramError}
 use Rattle.rv_load.specs.declared.program.ProgramError.TheVariants as errors
 use Rattle.rv_load.specs.declared.report.Part.{Part}
-use Rattle.rv_load.specs.declared.report.Part.TheVariants.{Nothing, Bytes, Lines, Labels, Traps, End}
+use Rattle.rv_load.specs.declared.report.Part.TheVariants.{Nothing, Bytes, Lines, Labels, Constants, Traps, End}
 use Rattle.rv_load.specs.declared.report.Draft.{Draft}
 
 abbrev pub blank : Draft
@@ -27,8 +27,9 @@ rank Nothing = 0
 rank Bytes = 1
 rank Lines = 2
 rank Labels = 3
-rank Traps = 4
-rank End = 5
+rank Constants = 4
+rank Traps = 5
+rank End = 6
 
 -- all bytes have come, and no later part
 abbrev pub may_have : Part → Draft → Bool
@@ -75,16 +76,33 @@ span_of d n =
 abbrev pub span_line : Draft → List (List ℕ) → Option Draft
 span_line d ws = three ws >>= λ n. span_of d n >>= λ span. Some (record d { part = Lines; lines = d.lines ++ span ∷ [] })
 
+-- a line of this part for an offset, which is at most the code's length
+abbrev pub at_offset : Part → Draft → ℕ → Option Draft
+at_offset part d offset = if may_have part d && nat_le offset d.count then Some (record d { part = part }) else None
+
 -- `L` and a number
 abbrev pub label : List ℕ → Option ℕ
 label w = if starts 76 w then decimal (drop 1 w) else None
 
-abbrev pub two : List (List ℕ) → Option (ℕ × ℕ)
-two ws = field label ws >>= λ a. field decimal a.1 >>= λ b. no_more ((a.0, b.0), b.1)
+-- the offset after a label
+abbrev pub label_offset : List (List ℕ) → Option ℕ
+label_offset ws = field label ws >>= λ l. one l.1
 
 -- `label LN OFFSET`
 abbrev pub label_line : Draft → List (List ℕ) → Option Draft
-label_line d ws = two ws >>= λ n. if may_have Labels d && nat_le n.1 d.count then Some (record d { part = Labels }) else None
+label_line d ws = label_offset ws >>= at_offset Labels d
+
+-- a constant's number, of 32 bits
+abbrev pub constant : List ℕ → Option ℕ
+constant w = decimal w >>= below (2 ^ 32)
+
+-- the offset after a constant's number
+abbrev pub const_offset : List (List ℕ) → Option ℕ
+const_offset ws = field constant ws >>= λ k. one k.1
+
+-- `const K OFFSET`
+abbrev pub const_line : Draft → List (List ℕ) → Option Draft
+const_line d ws = const_offset ws >>= at_offset Constants d
 
 -- an offset and a cause, where they are the last words
 abbrev pub trap_words : List (List ℕ) → Option (ℕ × TrapCode)
@@ -92,7 +110,7 @@ trap_words ws = field decimal ws >>= λ a. field trap_named a.1 >>= λ b. no_mor
 
 -- `trap OFFSET CAUSE`
 abbrev pub trap_line : Draft → List (List ℕ) → Option Draft
-trap_line d ws = trap_words ws >>= λ t. if may_have Traps d && nat_le t.0 d.count then Some (record d { part = Traps }) else None
+trap_line d ws = trap_words ws >>= λ t. at_offset Traps d t.0
 
 -- `end OFFSET`
 abbrev pub end_line : Draft → List (List ℕ) → Option Draft
@@ -102,6 +120,7 @@ abbrev pub by_name : Draft → List ℕ → List (List ℕ) → Option Draft
 by_name d name ws =
     if bytes_eq name (codes "line") then span_line d ws else
     if bytes_eq name (codes "label") then label_line d ws else
+    if bytes_eq name (codes "const") then const_line d ws else
     if bytes_eq name (codes "trap") then trap_line d ws else
     if bytes_eq name (codes "code") then head_line d ws else
     if bytes_eq name (codes "end") then end_line d ws else
@@ -117,7 +136,7 @@ with_line d line = by_words d (words_of line)
 
 -- the code of a report that is whole; the number of the line that is missing, where it isn't
 abbrev pub whole_at : ℕ → Draft → Result Program ℕ
-whole_at n d = if rank d.part == 5 then Ok (record { bytes = d.bytes; lines = d.lines }) else Err n
+whole_at n d = if rank d.part == 6 then Ok (record { bytes = d.bytes; lines = d.lines }) else Err n
 
 -- what comes of a line that is number n
 abbrev pub or_line : ℕ → Option Draft → (Draft → Result Program ℕ) → Result Program ℕ

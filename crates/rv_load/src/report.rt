@@ -6,7 +6,7 @@ ghost use Rattle.hex.specs.Hex.{encode_lower};
 ghost use Rattle.std.specs.Int.{w32, to_be_bytes};
 ghost use Rattle.rv_listing.specs.Tokens.{words_after, words_of, lines_of, decimal};
 ghost use Rattle.rv_listing.specs.Fields.{field, Takes, Makes};
-ghost use Rattle.rv_load.specs.Report.{rank, blank, may_have, is_offset, one, head_line, last_bytes, with_bytes, row_line, three, span_of, span_line, label, two, label_line, trap_words, trap_line, end_line, with_line, Turns, ReadsReport};
+ghost use Rattle.rv_load.specs.Report.{rank, blank, may_have, is_offset, one, head_line, last_bytes, with_bytes, row_line, three, span_of, span_line, at_offset, label, label_offset, label_line, constant, const_offset, const_line, trap_words, trap_line, end_line, with_line, Turns, ReadsReport};
 
 use crate::program::{Program, ProgramError};
 use rv_base::{List, OutOfMemory, TrapCode};
@@ -23,6 +23,7 @@ pub enum Part {
     Bytes,
     Lines,
     Labels,
+    Constants,
     Traps,
     End,
 }
@@ -56,8 +57,9 @@ fn rank(part: Part) -> u8
         Part::Bytes => 1,
         Part::Lines => 2,
         Part::Labels => 3,
-        Part::Traps => 4,
-        Part::End => 5,
+        Part::Constants => 4,
+        Part::Traps => 5,
+        Part::End => 6,
     }
 }
 
@@ -214,6 +216,18 @@ fn span_line(draft: &mut Draft, rest: &[u8]) -> Result<(), LineError>
     }
 }
 
+// A line of this part for an offset.
+fn at_offset(part: Part, draft: &mut Draft, offset: u64) -> Result<(), LineError>
+    ensures { Turns (at_offset part draft.old offset) draft.new result }
+{
+    if may_have(part, draft) && offset <= draft.count {
+        draft.part = part;
+        Ok(())
+    } else {
+        Err(LineError::NotAllowed)
+    }
+}
+
 fn label(w: &[u8]) -> Option<u64>
     ensures { result ≡ label w.now }
 {
@@ -224,28 +238,46 @@ fn label(w: &[u8]) -> Option<u64>
     }
 }
 
-// A label and a number, where they are the last words.
-fn two(rest: &[u8]) -> Option<(u64, u64)>
-    ensures { result ≡ two (words_after rest.now) }
+// The offset after a label.
+fn label_offset(rest: &[u8]) -> Option<u64>
+    ensures { result ≡ label_offset (words_after rest.now) }
 {
     let (w, rest) = next_word(rest)?;
-    let a = label(w)?;
-    let (b, rest) = number(rest)?;
-    match next_word(rest) {
-        None => Some((a, b)),
-        Some(_) => None,
-    }
+    label(w)?;
+    last_number(rest)
 }
 
 fn label_line(draft: &mut Draft, rest: &[u8]) -> Result<(), LineError>
     ensures { Turns (label_line draft.old (words_after rest.now)) draft.new result }
 {
-    match two(rest) {
-        Some((_, offset)) if may_have(Part::Labels, draft) && offset <= draft.count => {
-            draft.part = Part::Labels;
-            Ok(())
-        }
-        _ => Err(LineError::NotAllowed),
+    match label_offset(rest) {
+        Some(offset) => at_offset(Part::Labels, draft, offset),
+        None => Err(LineError::NotAllowed),
+    }
+}
+
+fn constant(w: &[u8]) -> Option<u64>
+    ensures { result ≡ constant w.now }
+{
+    let n = decimal(w)?;
+    if n < 1 << 32 { Some(n) } else { None }
+}
+
+// The offset after a constant's number.
+fn const_offset(rest: &[u8]) -> Option<u64>
+    ensures { result ≡ const_offset (words_after rest.now) }
+{
+    let (w, rest) = next_word(rest)?;
+    constant(w)?;
+    last_number(rest)
+}
+
+fn const_line(draft: &mut Draft, rest: &[u8]) -> Result<(), LineError>
+    ensures { Turns (const_line draft.old (words_after rest.now)) draft.new result }
+{
+    match const_offset(rest) {
+        Some(offset) => at_offset(Part::Constants, draft, offset),
+        None => Err(LineError::NotAllowed),
     }
 }
 
@@ -266,11 +298,8 @@ fn trap_line(draft: &mut Draft, rest: &[u8]) -> Result<(), LineError>
     ensures { Turns (trap_line draft.old (words_after rest.now)) draft.new result }
 {
     match trap_words(rest) {
-        Some((offset, _)) if may_have(Part::Traps, draft) && offset <= draft.count => {
-            draft.part = Part::Traps;
-            Ok(())
-        }
-        _ => Err(LineError::NotAllowed),
+        Some((offset, _)) => at_offset(Part::Traps, draft, offset),
+        None => Err(LineError::NotAllowed),
     }
 }
 
@@ -295,6 +324,8 @@ fn take_line(alloc: Global, draft: &mut Draft, line: &[u8]) -> Result<(), LineEr
         span_line(draft, rest)
     } else if is(b"label", name) {
         label_line(draft, rest)
+    } else if is(b"const", name) {
+        const_line(draft, rest)
     } else if is(b"trap", name) {
         trap_line(draft, rest)
     } else if is(b"code", name) {
@@ -321,7 +352,7 @@ fn read_lines(alloc: Global, text: &[u8]) -> Result<Program, ProgramError>
         number += 1;
         rest = after;
     }
-    if rank(draft.part) == 5 {
+    if rank(draft.part) == 6 {
         Ok(Program {
             bytes: draft.bytes,
             lines: draft.lines,

@@ -28,6 +28,14 @@ const POPCNT: &str =
 const CONSTANT: &str =
     "code 24\n00000000 170500000335c5006f00c000f0debc9a\n00000010 7856341267800000\nline 0 0 20\nline 1 20 24\nend 24\n";
 
+/// `Load a0 ld - const:0` and `Ret`, with eight bytes as the constant: it stands after the lines, at a multiple of 8.
+const NAMED_CONSTANT: &str =
+    "code 24\n00000000 17050000033505016780000000000000\n00000010 0102030405060708\nline 0 0 8\nline 1 8 12\nconst 0 16\nend 12\n";
+
+/// Constants between a label and a trap: the greatest number, and an offset that is the code's length.
+const CONSTANT_PLACES: &str =
+    "code 8\n00000000 1300000000000000\nline 0 0 4\nline 1 4 8\nlabel L0 4\nconst 4294967295 0\nconst 0 8\ntrap 4 heap_oob\nend 8\n";
+
 /// `TrapIf eq a0 a1 heap_oob` and `Ret`.
 const TRAP_IF: &str =
     "code 12\n00000000 6314b5000000000067800000\nline 0 0 8\nline 1 8 12\ntrap 4 heap_oob\nend 12\n";
@@ -45,7 +53,7 @@ struct Call {
     text: &'static str,
 }
 
-const RUNS: [Call; 19] = [
+const RUNS: [Call; 21] = [
     Call {
         words: &["a0=1071", "a1=462"],
         input: GCD,
@@ -151,6 +159,18 @@ const RUNS: [Call; 19] = [
         text: "left the code to 0x8000000000010000\nsteps 4\na0 1311768467463790320 0x123456789abcdef0\n",
     },
     Call {
+        words: &[],
+        input: NAMED_CONSTANT,
+        status: 0,
+        text: "left the code to 0x8000000000010000\nsteps 3\na0 578437695752307201 0x807060504030201\n",
+    },
+    Call {
+        words: &[],
+        input: CONSTANT_PLACES,
+        status: 0,
+        text: "no operation at 4: 0x0\nsteps 1\n",
+    },
+    Call {
         words: &["a0=1", "a1=1"],
         input: TRAP_IF,
         status: 0,
@@ -164,7 +184,7 @@ const RUNS: [Call; 19] = [
     },
 ];
 
-const REFUSALS: [Call; 14] = [
+const REFUSALS: [Call; 19] = [
     Call {
         words: &["a0=1", "x10=2"],
         input: GCD,
@@ -230,6 +250,36 @@ const REFUSALS: [Call; 14] = [
         input: "code 4\n00000000 00000000\ntrap 0 stk_ovf\nlabel L0 0\nend 4\n",
         status: 3,
         text: "rvrun: no report at line 4\n",
+    },
+    Call {
+        words: &[],
+        input: "code 4\n00000000 00000000\ntrap 0 stk_ovf\nconst 0 0\nend 4\n",
+        status: 3,
+        text: "rvrun: no report at line 4\n",
+    },
+    Call {
+        words: &[],
+        input: "code 4\n00000000 00000000\nconst 0 0\nlabel L0 0\nend 4\n",
+        status: 3,
+        text: "rvrun: no report at line 4\n",
+    },
+    Call {
+        words: &[],
+        input: "code 4\n00000000 00000000\nconst 0 5\nend 4\n",
+        status: 3,
+        text: "rvrun: no report at line 3\n",
+    },
+    Call {
+        words: &[],
+        input: "code 4\n00000000 00000000\nconst 4294967296 0\nend 4\n",
+        status: 3,
+        text: "rvrun: no report at line 3\n",
+    },
+    Call {
+        words: &[],
+        input: "code 4\n00000000 00000000\nconst 00 0\nend 4\n",
+        status: 3,
+        text: "rvrun: no report at line 3\n",
     },
     Call {
         words: &[],

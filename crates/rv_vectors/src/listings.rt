@@ -1,5 +1,5 @@
-use rv_base::{List, MachLabel, OutOfMemory, Reg, RegClass, TrapCode};
-use rv_inst::{Code, LabelPlace, LineSpan, MachTrap};
+use rv_base::{List, MachLabel, OutOfMemory, Reg, RegClass, TrapCode, VCodeConstant};
+use rv_inst::{Code, ConstPlace, LabelPlace, LineSpan, MachTrap};
 use rv_listing::{ReadError, read_job, register, report};
 use std::alloc::Global;
 use std::process::Abort;
@@ -221,6 +221,13 @@ fn reports(rt: HostRuntime) -> Result<(), OutOfMemory> {
             offset: 4,
         }],
     )?;
+    let constants = Vec::from_slice(
+        alloc,
+        &[ConstPlace {
+            constant: VCodeConstant::from_u32(3),
+            offset: 16,
+        }],
+    )?;
     let traps = Vec::from_slice(
         alloc,
         &[
@@ -238,11 +245,12 @@ fn reports(rt: HostRuntime) -> Result<(), OutOfMemory> {
         bytes: List::from_vec(bytes),
         lines: List::from_vec(lines),
         labels: List::from_vec(labels),
+        constants: List::from_vec(constants),
         traps: List::from_vec(traps),
         end: 16,
     };
     let wanted =
-        "code 18\n00000000 1305f5ffe31e05fe6780000001020304\n00000010 05ab\nline 0 0 0\nline 1 0 12\nlabel L7 4\ntrap 8 heap_oob\ntrap 12 user250\nend 16\n";
+        "code 18\n00000000 1305f5ffe31e05fe6780000001020304\n00000010 05ab\nline 0 0 0\nline 1 0 12\nlabel L7 4\nconst 3 16\ntrap 8 heap_oob\ntrap 12 user250\nend 16\n";
     let text = report(alloc, &code)?;
     assert_eq!(rt; text.as_slice(), wanted.as_bytes());
     Ok(())

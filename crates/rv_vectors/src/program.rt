@@ -18,7 +18,7 @@ struct Call {
     text: &'static str,
 }
 
-const CALLS: [Call; 35] = [
+const CALLS: [Call; 39] = [
     Call {
         listing: "",
         status: 0,
@@ -39,6 +39,27 @@ const CALLS: [Call; 35] = [
         listing: "Bind L0\nJal L0\n",
         status: 0,
         text: "code 4\n00000000 6f000000\nline 0 0 0\nline 1 0 4\nlabel L0 0\nend 4\n",
+    },
+    // The constant's offset is a multiple of 8, and its bytes stand there.
+    Call {
+        listing: "const 8 0102030405060708\nLoad a0 ld - const:0\nRet\n",
+        status: 0,
+        text: "code 24\n00000000 17050000033505016780000000000000\n00000010 0102030405060708\nline 0 0 8\nline 1 8 12\nconst 0 16\nend 12\n",
+    },
+    Call {
+        listing: "const 8 0102\nLoad a0 ld - const:0\n",
+        status: 4,
+        text: "rvemit: Malformed 0 Constant\n",
+    },
+    Call {
+        listing: "const 8 0102\nRet\nLoadAddr a0 const:1\n",
+        status: 4,
+        text: "rvemit: Malformed 1 Constant\n",
+    },
+    Call {
+        listing: "const 3 00\n",
+        status: 3,
+        text: "rvemit: syntax at line 1\n",
     },
     Call {
         listing: "AluRRImm12 addi a0 a0",
@@ -355,6 +376,49 @@ fn many_lines_are_reported(rt: HostRuntime) -> Result<(), AllocError> {
     let listing = long_listing(alloc, "", 501, "Ret\n", "")?;
     let last = "\nline 500 2000 2004\nend 2004\n";
     assert_report(&rt, alloc, &listing, "code 2004\n", &[last]);
+    Ok(())
+}
+
+/// How the report begins of a branch that misses its label by a constant of two MiB, which stands in the island.
+const LARGE_FIRST: &str = "code 2101588\n00000000 17150000130505fae308b57813000000\n";
+
+/// Pieces of that report: the island's jump at 3980, its own veneer, and the branch's; the constant comes after them.
+const LARGE_PIECES: [&str; 4] = [
+    "\n00000f80 1300000013000000130000006f004000\n00000f90 970f200067800f01970f200067808f1b\n00000fa0 0000",
+    "\nlabel L0 2101584\n",
+    "\nconst 0 4000\n",
+    "\nend 2101588\n",
+];
+
+#[test]
+fn large_constants_stand_in_islands(rt: HostRuntime) -> Result<(), AllocError> {
+    let alloc = rt.alloc();
+    let mut first = String::from_str(alloc, "const 16 ")?;
+    for _ in 0..65536 {
+        first.push_str("0000000000000000000000000000000000000000000000000000000000000000")?;
+    }
+    first.push_str("\nLoadAddr a0 const:0\nCondBr eq a0 a1 L0 -\n")?;
+    let listing = long_listing(alloc, &first, 1100, "Nop4\n", "Bind L0\nRet\n")?;
+    assert_report(&rt, alloc, &listing, LARGE_FIRST, &LARGE_PIECES);
+    Ok(())
+}
+
+/// Pieces of the report of 10,000 loads, each of eight bytes of code and of a constant of its own.
+const MANY_PIECES: [&str; 4] = [
+    "\nline 9999 79992 80000\nconst 0 80000\nconst 1 80008\n",
+    "\nconst 4999 119992\nconst 5000 120000\n",
+    "\nconst 9999 159992\n",
+    "\nend 80000\n",
+];
+
+#[test]
+fn many_constants_stand_in_order(rt: HostRuntime) -> Result<(), AllocError> {
+    let alloc = rt.alloc();
+    let mut listing = long_listing(alloc, "", 10000, "const 8 0102030405060708\n", "")?;
+    for number in 0..10000 {
+        write!(&mut listing, "Load a0 ld - const:{number}\n")?;
+    }
+    assert_report(&rt, alloc, &listing, "code 160000\n", &MANY_PIECES);
     Ok(())
 }
 

@@ -1,12 +1,14 @@
 //! Listings with the reports of a harness with the Rust's own emission code: each report is compared byte for byte.
 
 mod accesses;
+mod constants;
 mod framed;
 mod islands;
 mod random;
 
 use crate::reported::assert_reported;
 use accesses::{EDGES_LISTING, EDGES_REPORT, FRAME_LISTING, FRAME_REPORT};
+use constants::{LATER_LISTING, LATER_REPORT, MIXED_LISTING, MIXED_REPORT};
 use framed::{SIXTH_LISTING, SIXTH_REPORT};
 use islands::{
     ASKED_LISTING, ASKED_REPORT, LONG_LISTING, LONG_REPORT, NARROW_LISTING, NARROW_REPORT,
@@ -25,7 +27,7 @@ struct Sample {
     report: &'static str,
 }
 
-const SAMPLES: [Sample; 11] = [
+const SAMPLES: [Sample; 13] = [
     Sample {
         name: "first",
         listing: FIRST_LISTING,
@@ -80,6 +82,16 @@ const SAMPLES: [Sample; 11] = [
         name: "sixth",
         listing: SIXTH_LISTING,
         report: SIXTH_REPORT,
+    },
+    Sample {
+        name: "mixed constants",
+        listing: MIXED_LISTING,
+        report: MIXED_REPORT,
+    },
+    Sample {
+        name: "constant after the island",
+        listing: LATER_LISTING,
+        report: LATER_REPORT,
     },
 ];
 

@@ -1,8 +1,4 @@
-use Rattle.std.proofs.Common.{◌≡◌, [], None, sym, subst}
-use Rattle.rv_inst.specs.Context.{context_by}
-use Rattle.rv_asm.specs.FinishedCode.{IsFinished}
 use Rattle.rv_asm.specs.Job.{job_of}
-use Rattle.rv_asm.specs.Refusal.{lines_refusal}
 use Rattle.rv_asm.proofs.FinishedPromises.{finished_reported, finished_runs, finished_in_reach}
 use Rattle.rv_asm.proofs.RefusalOrder.{accepted_frame, accepted_lines}
 use Rattle.rv_asm.proofs.assembly.assemble.Goals as goal
@@ -11,21 +7,13 @@ pub build-requires-clause-frame : goal.build-requires-clause-frame
 build-requires-clause-frame c = accepted_frame (job_of c.args.lines.now c.args.flags c.args.frame.now c.args.constants.now) c.in_ok-refuse.ensures
 
 pub build-requires-clause-accepted : goal.build-requires-clause-accepted
-build-requires-clause-accepted c =
-    subst (λ constants. lines_refusal (context_by c.args.flags c.args.frame.now constants) c.args.lines.now ≡ None) c.requires.constants
-    (accepted_lines (job_of c.args.lines.now c.args.flags c.args.frame.now c.args.constants.now) c.in_ok-refuse.ensures)
+build-requires-clause-accepted c = accepted_lines (job_of c.args.lines.now c.args.flags c.args.frame.now c.args.constants.now) c.in_ok-refuse.ensures
 
 pub returns-in-Ok-clause-reported : goal.returns-in-Ok-clause-reported
-returns-in-Ok-clause-reported c =
-    finished_reported (job_of c.args.lines.now c.args.flags c.args.frame.now c.args.constants.now) c.in-Ok.code c.in_ok-refuse.ensures
-    (subst (λ constants. IsFinished (context_by c.args.flags c.args.frame.now constants) c.args.lines.now c.in-Ok.code) (sym c.requires.constants) c.in-Ok.ensures) c.code_fits.ensures
+returns-in-Ok-clause-reported c = finished_reported (job_of c.args.lines.now c.args.flags c.args.frame.now c.args.constants.now) c.in-Ok.code c.in_ok-refuse.ensures c.in-Ok.ensures c.code_fits.ensures
 
 pub returns-in-Ok-clause-runs : goal.returns-in-Ok-clause-runs
-returns-in-Ok-clause-runs c =
-    finished_runs (job_of c.args.lines.now c.args.flags c.args.frame.now c.args.constants.now) c.in-Ok.code c.in_ok-refuse.ensures
-    (subst (λ constants. IsFinished (context_by c.args.flags c.args.frame.now constants) c.args.lines.now c.in-Ok.code) (sym c.requires.constants) c.in-Ok.ensures) c.code_fits.ensures
+returns-in-Ok-clause-runs c = finished_runs (job_of c.args.lines.now c.args.flags c.args.frame.now c.args.constants.now) c.in-Ok.code c.in_ok-refuse.ensures c.in-Ok.ensures c.code_fits.ensures
 
 pub returns-in-Ok-clause-reach : goal.returns-in-Ok-clause-reach
-returns-in-Ok-clause-reach c =
-    finished_in_reach (job_of c.args.lines.now c.args.flags c.args.frame.now c.args.constants.now) c.in-Ok.code c.in_ok-refuse.ensures
-    (subst (λ constants. IsFinished (context_by c.args.flags c.args.frame.now constants) c.args.lines.now c.in-Ok.code) (sym c.requires.constants) c.in-Ok.ensures) c.code_fits.ensures
+returns-in-Ok-clause-reach c = finished_in_reach (job_of c.args.lines.now c.args.flags c.args.frame.now c.args.constants.now) c.in-Ok.code c.in_ok-refuse.ensures c.in-Ok.ensures c.code_fits.ensures

@@ -1,4 +1,5 @@
-use Rattle.std.proofs.Common.{◌≡◌, List, [], None, ◌∙◌, sym, subst}
+use Rattle.std.proofs.Common.{◌≡◌, List, None, ap, ◌∙◌, sym, subst}
+use Rattle.rv_base.specs.declared.constant.Constant.{Constant}
 use Rattle.rv_base.specs.declared.flags.IsaFlags.{IsaFlags}
 use Rattle.rv_base.specs.declared.frame.FrameLayout.{FrameLayout}
 use Rattle.rv_inst.specs.Context.{context_by}
@@ -6,49 +7,73 @@ use Rattle.rv_inst.specs.declared.code.LineSpan.{LineSpan}
 use Rattle.rv_inst.specs.declared.inst.Line.{Line}
 use Rattle.rv_asm.specs.LinesInBuffer.{CanPut, LinePut}
 use Rattle.rv_asm.specs.Refusal.{lines_refusal}
-use Rattle.rv_asm.proofs.AssemblyLoop.{SoFar, line_read, can_put, so_far_next, ready, finished, code_short}
+use Rattle.rv_asm.proofs.AssemblyLoop.{SoFar, so_far_none, line_read, can_put, so_far_next, ready, finished, code_short}
+use Rattle.rv_asm.proofs.RefusalOrder.{constants_few}
 use Rattle.rv_asm.proofs.assembly.build.Goals as goal
 
 -- lines that aren't refused under some flags aren't under the same flags
-accepted_by : {flags known : IsaFlags} (frame : FrameLayout) (lines : List Line) → known ≡ flags → lines_refusal (context_by flags frame []) lines ≡ None → lines_refusal (context_by known frame []) lines ≡ None
-accepted_by frame lines same e = subst (λ flags. lines_refusal (context_by flags frame []) lines ≡ None) (sym same) e
+accepted_by : {flags known : IsaFlags} (frame : FrameLayout) (constants : List Constant) (lines : List Line) → known ≡ flags → lines_refusal (context_by flags frame constants) lines ≡ None → lines_refusal (context_by known frame constants) lines ≡ None
+accepted_by frame constants lines same e = subst (λ flags. lines_refusal (context_by flags frame constants) lines ≡ None) (sym same) e
+
+pub register_constants-requires-clause-few : goal.register_constants-requires-clause-few
+register_constants-requires-clause-few c = λ h. constants_few (context_by c.args.flags c.args.frame.now c.args.constants.now) c.args.lines.now c.requires.accepted
+
+-- no line was put into a new buffer, in which the constants were registered
+pub loop-index-init : goal.loop-index-init
+loop-index-init c =
+    let new = c.new-sink.ensures in
+    let s = c.in_ok-register_constants.ensures.registered.2 in
+    record {
+      frame = c.new-state.ensures.frame ∙ c.in_ok-copy_of.ensures;
+      so_far = subst (λ (spans : List LineSpan). SoFar (context_by c.new-info.result.isa_flags c.args.frame.now c.args.constants.now) c.args.lines.now 0 spans c.register_constants.new.self) (sym c.new-spans.ensures.items)
+          (so_far_none (context_by c.new-info.result.isa_flags c.args.frame.now c.args.constants.now) c.args.lines.now c.register_constants.new.self
+          (ap (λ x. x.bytes) s ∙ new.bytes) (ap (λ x. x.uses) s ∙ new.uses) (λ label. ap (λ x. x.place label) s ∙ new.places label) (ap (λ x. x.labels) s ∙ new.labels)
+          (ap (λ x. x.allocated) s ∙ new.allocated) (ap (λ x. x.traps) s ∙ new.traps) (ap (λ x. x.registered) s) (ap (λ x. x.named) s ∙ new.named) (ap (λ x. x.constants) s ∙ new.constants)
+          c.in_ok-register_constants.ensures.sound);
+    }
 
 pub put_line-requires : goal.put_line-requires
 put_line-requires c =
     let lines = c.args.lines.now in
+    let constants = c.args.constants.now in
     let n = c.loop-index.index in
     let line = c.index-lines-index.result in
     let flags = c.new-info.result.isa_flags in
-    subst (λ frame. CanPut (context_by flags frame []) line c.loop-index.sink) (sym c.loop-index.invariant.frame)
-    (can_put (context_by flags c.args.frame.now []) lines n c.loop-index.spans.items c.loop-index.sink line c.requires.frame (accepted_by c.args.frame.now lines c.new-info.ensures c.requires.accepted) c.loop-index.invariant.so_far (line_read lines n line c.loop-index-test.true c.index-lines-index.is))
+    let so_far = c.loop-index.invariant.so_far in
+    subst (λ known. CanPut (context_by flags c.loop-index.state.frame known) line c.loop-index.sink) (sym so_far.built.registered)
+    (subst (λ frame. CanPut (context_by flags frame constants) line c.loop-index.sink) (sym c.loop-index.invariant.frame)
+    (can_put (context_by flags c.args.frame.now constants) lines n c.loop-index.spans.items c.loop-index.sink line c.requires.frame (accepted_by c.args.frame.now constants lines c.new-info.ensures c.requires.accepted) so_far (line_read lines n line c.loop-index-test.true c.index-lines-index.is)))
 
 pub loop-index-preserved : goal.loop-index-preserved
 loop-index-preserved c =
     let lines = c.args.lines.now in
+    let constants = c.args.constants.now in
     let n = c.loop-index.index in
     let line = c.index-lines-index.result in
     let flags = c.new-info.result.isa_flags in
     let frame = c.loop-index.invariant.frame in
+    let so_far = c.loop-index.invariant.so_far in
     record {
       frame = c.put_line.ensures.frame ∙ frame;
-      so_far = so_far_next (context_by flags c.args.frame.now []) c.loop-index.state.vstate lines n c.loop-index.spans.items c.push.new.self.items c.loop-index.sink c.put_line.new.sink line c.in_ok-span.span
-          (accepted_by c.args.frame.now lines c.new-info.ensures c.requires.accepted) c.loop-index.invariant.so_far
+      so_far = so_far_next (context_by flags c.args.frame.now constants) c.loop-index.state.vstate lines n c.loop-index.spans.items c.push.new.self.items c.loop-index.sink c.put_line.new.sink line c.in_ok-span.span
+          (accepted_by c.args.frame.now constants lines c.new-info.ensures c.requires.accepted) so_far
           (line_read lines n line c.loop-index-test.true c.index-lines-index.is) c.in_ok-span.ensures.index
-          (subst (λ f. LinePut (context_by flags f []) c.loop-index.state.vstate line c.loop-index.sink c.put_line.new.sink c.in_ok-span.span) frame c.in_ok-span.ensures.put)
+          (subst (λ f. LinePut (context_by flags f constants) c.loop-index.state.vstate line c.loop-index.sink c.put_line.new.sink c.in_ok-span.span) frame
+          (subst (λ known. LinePut (context_by flags c.loop-index.state.frame known) c.loop-index.state.vstate line c.loop-index.sink c.put_line.new.sink c.in_ok-span.span) so_far.built.registered c.in_ok-span.ensures.put))
           c.in_ok-push.ensures.items;
     }
 
 pub finish-requires-clause-ready : goal.finish-requires-clause-ready
-finish-requires-clause-ready c = λ h. ready (context_by c.new-info.result.isa_flags c.args.frame.now []) c.args.lines.now c.loop-index.index c.loop-index.spans.items c.loop-index.sink (accepted_by c.args.frame.now c.args.lines.now c.new-info.ensures c.requires.accepted) c.loop-index-test.false c.loop-index.invariant.so_far
+finish-requires-clause-ready c = λ h. ready (context_by c.new-info.result.isa_flags c.args.frame.now c.args.constants.now) c.args.lines.now c.loop-index.index c.loop-index.spans.items c.loop-index.sink (accepted_by c.args.frame.now c.args.constants.now c.args.lines.now c.new-info.ensures c.requires.accepted) c.loop-index-test.false c.loop-index.invariant.so_far
 
 pub invariant_of-result : goal.invariant_of-result
 invariant_of-result c = record {
-  small = code_short (context_by c.new-info.result.isa_flags c.args.frame.now []) c.args.lines.now c.loop-index.index c.loop-index.spans.items c.loop-index.sink c.in_ok-finished.finished.bytes (accepted_by c.args.frame.now c.args.lines.now c.new-info.ensures c.requires.accepted) c.loop-index-test.false c.loop-index.invariant.so_far c.in_ok-finished.ensures.code;
+  small = code_short (context_by c.new-info.result.isa_flags c.args.frame.now c.args.constants.now) c.args.lines.now c.loop-index.index c.loop-index.spans.items c.loop-index.sink c.in_ok-finished.finished.bytes (accepted_by c.args.frame.now c.args.constants.now c.args.lines.now c.new-info.ensures c.requires.accepted) c.loop-index-test.false c.loop-index.invariant.so_far c.in_ok-finished.ensures.code.0;
 }
 
 pub returns : goal.returns
 returns c =
-    finished (context_by c.args.flags c.args.frame.now []) c.args.lines.now c.loop-index.index _ c.loop-index.sink c.requires.accepted c.loop-index-test.false
-    (subst (λ flags. SoFar (context_by flags c.args.frame.now []) c.args.lines.now c.loop-index.index c.from_vec.result c.loop-index.sink) c.new-info.ensures
-    (subst (λ (spans : List LineSpan). SoFar (context_by c.new-info.result.isa_flags c.args.frame.now []) c.args.lines.now c.loop-index.index spans c.loop-index.sink) (sym c.from_vec.ensures) c.loop-index.invariant.so_far))
-    c.in_ok-finished.ensures.code c.in_ok-finished.ensures.labels c.in_ok-finished.ensures.traps c.cur_offset-end.ensures
+    finished (context_by c.args.flags c.args.frame.now c.args.constants.now) c.args.lines.now c.loop-index.index _ c.loop-index.sink c.requires.accepted c.loop-index-test.false
+    (subst (λ flags. SoFar (context_by flags c.args.frame.now c.args.constants.now) c.args.lines.now c.loop-index.index c.from_vec.result c.loop-index.sink) c.new-info.ensures
+    (subst (λ (spans : List LineSpan). SoFar (context_by c.new-info.result.isa_flags c.args.frame.now c.args.constants.now) c.args.lines.now c.loop-index.index spans c.loop-index.sink) (sym c.from_vec.ensures) c.loop-index.invariant.so_far))
+    c.in_ok-finished.ensures.code.0 c.in_ok-finished.ensures.code.1 c.in_ok-finished.ensures.labels c.in_ok-finished.ensures.traps c.cur_offset-end.ensures

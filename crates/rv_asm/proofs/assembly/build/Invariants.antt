@@ -1,4 +1,4 @@
-use Rattle.std.proofs.Common.{◌≡◌, []}
+use Rattle.std.proofs.Common.{◌≡◌}
 use Rattle.rv_inst.specs.Context.{context_by}
 use Rattle.rv_asm.proofs.AssemblyLoop.{SoFar}
 use Rattle.rv_asm.proofs.assembly.build.Given as goal
@@ -6,5 +6,5 @@ use Rattle.rv_asm.proofs.assembly.build.Given as goal
 abbrev pub invariant-loop-index : goal.invariant-loop-index
 invariant-loop-index l = record {
   frame : l.state.frame ≡ l.frame;
-  so_far : SoFar (context_by l.info.isa_flags l.frame []) l.lines l.index l.spans.items l.sink;
+  so_far : SoFar (context_by l.info.isa_flags l.frame l.constants) l.lines l.index l.spans.items l.sink;
 }

@@ -1,4 +1,4 @@
-use Rattle.std.proofs.Common.{rules, ap, ◌∙◌, length}
+use Rattle.std.proofs.Common.{ap, ◌∙◌, length}
 use Rattle.mach_buffer.specs.Buffer.{bytes_of, place_of}
 use Rattle.mach_buffer.proofs.Laws.{placed_same, placed_other}
 use Rattle.rv_asm.proofs.lines.put_bind.Goals as goal
@@ -11,6 +11,7 @@ returns-clause-put c =
     let old = c.args.sink.now in
     let label = c.args.label.number in
     record {
+      low = c.requires.listed;
       bound = ap (λ x. x.place label) s ∙ placed_same (place_of old) label (length (bytes_of old));
       kept = λ other ne. ap (λ x. x.place other) s ∙ placed_other (place_of old) label (length (bytes_of old)) other ne;
       unbound = c.requires.unbound;
@@ -19,6 +20,9 @@ returns-clause-put c =
       uses = ap (λ x. x.uses) s;
       allocated = ap (λ x. x.allocated) s;
       traps = ap (λ x. x.traps) s;
+      registered = ap (λ x. x.registered) s;
+      named = ap (λ x. x.named) s;
+      constants = ap (λ x. x.constants) s;
       fewer = b.fewer;
       sound = b.sound;
       start = here;

@@ -1,7 +1,6 @@
 use Rattle.std.proofs.Common.{[], ◌∷◌, ap, subst, ◌∙◌}
 use Rattle.mach_buffer.specs.Buffer.{shape_of}
 use Rattle.mach_buffer.specs.Shape.{Shape}
-use Rattle.mach_buffer.proofs.Laws.{lasts_island}
 use Rattle.rv_inst.specs.declared.label_use.LabelUse.{LabelUse}
 use Rattle.rv_emit.specs.Slots.{Label}
 use Rattle.rv_emit.specs.Puts.{Puts}
@@ -16,7 +15,7 @@ emit_island-requires-clause-ready c =
     let s = e.allocated.2 in
     let j = c.in_ok-put_jump.ensures in
     λ h. can_island c.args.sink.now c.put_jump.new.sink c.in_ok-after_island.after_island
-    (jump_put c.args.sink.now c.get_label.new.self c.put_jump.new.sink c.in_ok-after_island.after_island c.requires.sound e.number (ap (λ x. x.allocated) s) (ap (λ x. x.bytes) s) (ap (λ x. x.uses) s) (ap (λ x. x.place) s) (appends c.get_label.new.self c.put_jump.new.sink _ _ j.word j.sound))
+    (jump_put c.args.sink.now c.get_label.new.self c.put_jump.new.sink c.in_ok-after_island.after_island c.requires.sound e.number (ap (λ x. x.allocated) s) (ap (λ x. x.bytes) s) (ap (λ x. x.uses) s) (ap (λ x. x.place) s) (ap (λ x. x.registered) s) (appends c.get_label.new.self c.put_jump.new.sink _ _ j.word j.sound))
     c.requires.reach c.requires.room
 
 pub returns-clause-island : goal.returns-clause-island
@@ -26,11 +25,11 @@ returns-clause-island c =
     let j = c.in_ok-put_jump.ensures in
     let i = c.in_ok-emit_island.ensures in
     let a = appends c.get_label.new.self c.put_jump.new.sink _ _ j.word j.sound in
-    let p = jump_put c.args.sink.now c.get_label.new.self c.put_jump.new.sink c.in_ok-after_island.after_island c.requires.sound e.number (ap (λ x. x.allocated) s) (ap (λ x. x.bytes) s) (ap (λ x. x.uses) s) (ap (λ x. x.place) s) a in
+    let p = jump_put c.args.sink.now c.get_label.new.self c.put_jump.new.sink c.in_ok-after_island.after_island c.requires.sound e.number (ap (λ x. x.allocated) s) (ap (λ x. x.bytes) s) (ap (λ x. x.uses) s) (ap (λ x. x.place) s) (ap (λ x. x.registered) s) a in
     puts_island c.args.sink.now c.get_label.new.self c.put_jump.new.sink c.emit_island.new.self c.in_ok-after_island.after_island p
     (ap (λ x. x.labels) s) e.sound (ap (λ x. x.bytes) s)
     (same_windows c.args.sink.now c.get_label.new.self (ap (λ x. x.bytes) s) (ap (λ x. x.uses) s))
-    a i.island.2 i.grows i.own i.windows i.sound
+    a i.island.2 i.grows i.own i.windows i.constants i.sound
     (λ flags. subst (λ (x : Shape LabelUse). Puts flags x.allocated (jump_to (Label c.in_ok-after_island.after_island) ∷ []) x (shape_of c.put_jump.new.sink)) s (j.slot flags).puts)
-    (lasts_island (can_island c.args.sink.now c.put_jump.new.sink c.in_ok-after_island.after_island p c.requires.reach c.requires.room) i.island.2)
+    (can_island c.args.sink.now c.put_jump.new.sink c.in_ok-after_island.after_island p c.requires.reach c.requires.room)
     (ap (λ x. x.traps) j.word ∙ ap (λ x. x.traps) s)

@@ -7,7 +7,7 @@ use Rattle.rv_emit.specs.Slots.{Aim, Label}
 use Rattle.rv_emit.specs.InstParts.{upper_at}
 use Rattle.rv_emit.proofs.AddressesPut.{aim_put}
 use Rattle.rv_emit.proofs.PartsPatched.{addi_patchable}
-use Rattle.rv_emit.proofs.SlotsJoined.{both_alone, alone_long, alone_sound}
+use Rattle.rv_emit.proofs.SlotsJoined.{both_alone, alone_long, alone_sound, alone_usable}
 use Rattle.rv_emit.proofs.memory.put_label_address.Goals as goal
 
 pub put_use-requires-clause-room : goal.put_use-requires-clause-room
@@ -17,6 +17,9 @@ put_use-requires-clause-room c =
 
 pub put_use-requires-clause-sound : goal.put_use-requires-clause-sound
 put_use-requires-clause-sound c = alone_sound (upper_at (number_of c.args.rd.reg) c.args.label ∷ []) c.args.sink.now c.put_upper.new.sink c.in_ok-put_upper.ensures.slots
+
+pub put_use-requires-clause-usable : goal.put_use-requires-clause-usable
+put_use-requires-clause-usable c = alone_usable (upper_at (number_of c.args.rd.reg) c.args.label ∷ []) c.args.sink.now c.put_upper.new.sink c.args.label.number c.in_ok-put_upper.ensures.slots c.requires.label
 
 pub returns-clause-slots : goal.returns-clause-slots
 returns-clause-slots c =

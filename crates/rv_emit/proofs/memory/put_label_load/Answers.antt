@@ -7,7 +7,7 @@ use Rattle.rv_emit.specs.Slots.{Aim, Label}
 use Rattle.rv_emit.specs.InstParts.{access_slots, upper_at}
 use Rattle.rv_emit.proofs.AddressesPut.{aim_put, longer, access_short}
 use Rattle.rv_emit.proofs.PartsPatched.{load_patchable}
-use Rattle.rv_emit.proofs.SlotsJoined.{both_alone, alone_long, alone_sound}
+use Rattle.rv_emit.proofs.SlotsJoined.{both_alone, alone_long, alone_sound, alone_usable}
 use Rattle.rv_emit.proofs.memory.put_label_load.Goals as goal
 
 pub put_access-requires : goal.put_access-requires
@@ -21,6 +21,11 @@ put_use-requires-clause-room c =
 
 pub put_use-requires-clause-sound : goal.put_use-requires-clause-sound
 put_use-requires-clause-sound c = alone_sound (access_slots c.args.trap) c.put_upper.new.sink c.put_access.new.sink c.in_ok-put_access.ensures.slots
+
+pub put_use-requires-clause-usable : goal.put_use-requires-clause-usable
+put_use-requires-clause-usable c =
+    alone_usable (access_slots c.args.trap) c.put_upper.new.sink c.put_access.new.sink c.args.label.number c.in_ok-put_access.ensures.slots
+    (alone_usable (upper_at (number_of c.args.rd.reg) c.args.label ∷ []) c.args.sink.now c.put_upper.new.sink c.args.label.number c.in_ok-put_upper.ensures.slots c.requires.label)
 
 pub returns-clause-slots : goal.returns-clause-slots
 returns-clause-slots c =

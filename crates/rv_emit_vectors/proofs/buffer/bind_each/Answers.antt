@@ -1,4 +1,4 @@
-use Rattle.std.proofs.Common.{◌≡◌, true}
+use Rattle.std.proofs.Common.{◌≡◌, ◌∙◌, true}
 use Rattle.std.specs.Prelude.{is_some}
 use Rattle.mach_buffer.specs.Buffer.{place_of}
 use Rattle.rv_emit_vectors.proofs.Kept.{each_of_four}
@@ -14,4 +14,5 @@ returns g c =
     record {
       kept = e4.kept;
       bound = each_of_four (λ n. is_some (place_of b n) ≡ true) (e4.still 0 (e3.still 0 (e2.still 0 e1.bound))) (e4.still 1 (e3.still 1 e2.bound)) (e4.still 2 e3.bound) e4.bound;
+      registered = e4.registered ∙ e3.registered ∙ e2.registered ∙ e1.registered;
     }

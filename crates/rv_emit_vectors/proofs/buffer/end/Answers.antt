@@ -3,7 +3,8 @@ use Rattle.std.specs.Prelude.{nat_lt}
 use Rattle.std.proofs.lemmas.Bool.{and_parts, ltb-true}
 use Rattle.rv_base.specs.LabelUse.{code_limit}
 use Rattle.mach_buffer.specs.Reach.{island_margin}
-use Rattle.mach_buffer.specs.Buffer.{bytes_of, allocated_of, pending_of}
+use Rattle.mach_buffer.specs.Buffer.{shape_of, bytes_of, allocated_of, pending_of}
+use Rattle.mach_buffer.specs.Constants.{reserve_of}
 use Rattle.rv_emit_vectors.proofs.Kept.{can_finish}
 use Rattle.rv_emit_vectors.proofs.buffer.end.Goals as goal
 
@@ -12,7 +13,7 @@ finish-requires-clause-ready g c =
     let K = g.L.MachInstLabelUse in
     let b = c.bind_each.new.buffer in
     let e = c.in_ok-bind_each.ensures in
-    let parts : (nat_lt (allocated_of b) (2 ^ 29) ≡ true) × (nat_lt (length (bytes_of b) + 0 + 8 * length (pending_of K.kinds b) + island_margin + 2) code_limit ≡ true) = and_parts _ _ (sym c.has_room.ensures ∙ c.if-not-has_room.false) in
-    let fits : length (bytes_of b) + 0 + 8 * length (pending_of K.kinds b) + island_margin + 2 < code_limit = ltb-true _ _ parts.1 in
-    let room : length (bytes_of b) + 8 * length (pending_of K.kinds b) + 2 < code_limit = omega (arith, fits) in
+    let parts : (nat_lt (allocated_of b) (2 ^ 29) ≡ true) × (nat_lt (length (bytes_of b) + 0 + reserve_of (shape_of b) + 8 * length (pending_of K.kinds b) + island_margin + 2) code_limit ≡ true) = and_parts _ _ (sym c.has_room.ensures ∙ c.if-not-has_room.false) in
+    let fits : length (bytes_of b) + 0 + reserve_of (shape_of b) + 8 * length (pending_of K.kinds b) + island_margin + 2 < code_limit = ltb-true _ _ parts.1 in
+    let room : length (bytes_of b) + 8 * length (pending_of K.kinds b) + reserve_of (shape_of b) + 2 < code_limit = omega (arith, fits) in
     λ unspoiled. can_finish e.kept e.bound room

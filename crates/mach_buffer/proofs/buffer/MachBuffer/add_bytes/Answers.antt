@@ -9,4 +9,4 @@ tidy-requires g c = rw (c.deref.ensures.value, c.in_ok-append.ensures.uses) c.re
 pub returns-clause-sound : goal.returns-clause-sound
 returns-clause-sound g c =
     let e = c.in_ok-append.ensures in
-    rw (e.bytes, e.uses) (sound_of (whole_bytes c.requires.sound c.args.bytes.now c.requires.even) (rw (← ap (λ v. v.items) e.uses, ← c.deref.ensures.value) c.in_ok-tidy.ensures))
+    rw (e.bytes, e.uses) (sound_of (whole_bytes c.requires.sound c.args.bytes.now c.requires.even) (rw (← ap (λ v. v.items) e.uses, ← c.deref.ensures.value) c.in_ok-tidy.ensures) c.requires.sound.noted)

@@ -1,0 +1,6 @@
+use Rattle.std.proofs.Common.{◌≡◌, ◌+◌, drop}
+use Rattle.rv_asm.specs.Refusal.{size_limit, constants_sum}
+use Rattle.rv_asm.proofs.refusal.left_by_constants.Given as goal
+
+abbrev pub invariant-loop-constant : goal.invariant-loop-constant
+invariant-loop-constant l = l.left + constants_sum l.constants ≡ size_limit + constants_sum (drop l.constant-index l.constants)
