@@ -17,10 +17,11 @@ use Rattle.rv_emit.specs.Sites.{Site, GapIn}
 use Rattle.rv_emit.specs.Standing.{IsFinishedTo}
 use Rattle.rv_emit.proofs.Laws.{are_blocks, gap_stands, parts_stand}
 use Rattle.rv_asm.specs.Reported.{start_of, end_of, end_before}
-use Rattle.rv_asm.specs.Simulation.{RunsAsListed}
+use Rattle.rv_asm.specs.Simulation.{RunsAsListed, HasOperations}
 use Rattle.rv_asm.specs.LinesInBuffer.{StandsAfter, LinesStand}
 use Rattle.rv_asm.proofs.ExitPoints.{AllBound}
 use Rattle.rv_asm.proofs.Finish.{bound_place}
+use Rattle.rv_asm.proofs.OneOperations.{has_operation}
 use Rattle.rv_asm.proofs.LinesJoin.{site_of, LineIn, line_at, threaded_runs}
 
 module _ (job : Job) (code : Code) (b : Buffer) (built : LinesStand (context_of job) job.lines code.lines b) (f : IsFinishedTo (shape_of b) code.bytes) (constants : code.constants ≡ f.finishes.put.constants) (traps : code.traps ≡ traps_of b) (ruled : (i : ℕ) (line : Line) → slice_get job.lines i ≡ Some line → broken_rule (context_of job) line ≡ None) where
@@ -41,6 +42,14 @@ module _ (job : Job) (code : Code) (b : Buffer) (built : LinesStand (context_of 
   -- the line of an index does
   each_in : (base i : ℕ) (line : Line) → slice_get job.lines i ≡ Some line → LineIn (site base) line (start_of code.lines i) (end_of code.lines i) × (end_of code.lines i % 2 ≡ 0)
   each_in base i line e = line_in base line (end_before code.lines i) (start_of code.lines i) (end_of code.lines i) (ruled i line e) (built.each i line e)
+
+  -- the operation of a line of one machine word is read at its start
+  pub built_operations : HasOperations job code
+  built_operations = record {
+    each = λ i inst d base symbols slots mem listed one placed.
+        let line = (each_in base i (Put inst) listed).0 in
+        (has_operation (site base) (start_of code.lines i) d line.setting inst (end_of code.lines i) one line.stands mem (record { aligned = placed.aligned; bytes = record { room = placed.room; there = placed.there } })).0;
+  }
 
   gap_in : (base i : ℕ) → suc i < length job.lines → GapIn (site base) (end_of code.lines i) (start_of code.lines (suc i))
   gap_in base i lt =

@@ -8,11 +8,11 @@ use Rattle.rv_emit.specs.Standing.{IsFinishedTo}
 use Rattle.rv_listing.specs.CodeRanges.{CodeFits}
 use Rattle.rv_asm.specs.Refusal.{refusal, lines_refusal}
 use Rattle.rv_asm.specs.Reported.{Reported}
-use Rattle.rv_asm.specs.Simulation.{RunsAsListed}
+use Rattle.rv_asm.specs.Simulation.{RunsAsListed, HasOperations}
 use Rattle.rv_asm.specs.FinishedCode.{IsFinished}
 use Rattle.rv_asm.specs.Reach.{InReach}
 use Rattle.rv_asm.proofs.Finish.{finished_short}
-use Rattle.rv_asm.proofs.FinishedLines.{built_runs}
+use Rattle.rv_asm.proofs.FinishedLines.{built_runs, built_operations}
 use Rattle.rv_asm.proofs.RefusalOrder.{accepted_lines, parts, no_rule_broken, sum_small}
 use Rattle.rv_asm.proofs.RulesKept.{names_bound}
 use Rattle.rv_asm.proofs.SpanLengths.{all_bytes, built_reported}
@@ -37,6 +37,9 @@ module _ (job : Job) (code : Code) (accepted : refusal job ≡ None) (f : IsFini
       let short = finished_short (context_of job) job.lines f.sink code.bytes f.built.sound f.sized f.finished in
       let small = sum_small (context_of job) job.lines e in
       built_runs job code f.sink f.built finished f.constants f.traps (no_rule_broken (context_of job) job.lines e) (omega (arith, short, small)) f.end (names_bound job.lines job.lines (parts (context_of job) job.lines e).unbound)
+
+  pub finished_operations : HasOperations job code
+  finished_operations = built_operations job code f.sink f.built finished f.constants f.traps (no_rule_broken (context_of job) job.lines e)
 
   pub finished_in_reach : InReach job code
   finished_in_reach = record {

@@ -27,6 +27,7 @@ use Rattle.mach_buffer.specs.Shape.{recorded, core, listed, constant_label}
 use Rattle.mach_buffer.specs.Islands.{is_far}
 use Rattle.mach_buffer.proofs.Laws.{both_lists, comes_from, slice_get-append, slice_get-append_last, append_each, recorded_get}
 use Rattle.rv_emit.specs.Emitted.{Buffer, AppendsInst, AppendsIsland, IslandIfNeeded}
+use Rattle.rv_inst.specs.Forms.{jump_kind}
 use Rattle.rv_inst.specs.Uses.{use_at, target_uses, uses_in}
 use Rattle.rv_emit.proofs.Laws.{Each, each_none, each_more, uses_kinds}
 use Rattle.rv_asm.specs.Reported.{start_of, end_of, binds_from}
@@ -182,13 +183,13 @@ uses_labels context start inst = on (targets_of inst)
     second : (other label : MachLabel) → IsOf (other ∷ label ∷ []) label.number
     second other label = record { place = 1; label = label; names = refl; is = refl }
 
-    on : (targets : Targets) → Each (UsesOneOf (target_names targets)) (target_uses start targets)
+    on : (targets : Targets) → Each (UsesOneOf (target_names targets)) (target_uses context.flags start targets)
     on Nowhere = each_none _
     on (Jumps label) = each_more (UsesOneOf (label ∷ [])) _ [] (inl (first label [])) (each_none _)
     on (Branches Fallthrough not_taken) = each_none _
     on (Branches (Label t) Fallthrough) = each_more (UsesOneOf (t ∷ [])) _ [] (inl (first t [])) (each_none _)
     on (Branches (Label t) (Label f)) =
-        each_more (UsesOneOf (t ∷ f ∷ [])) _ (use_at (start + 4) f Jal20 ∷ []) (inl (first t (f ∷ [])))
+        each_more (UsesOneOf (t ∷ f ∷ [])) _ (use_at (start + 4) f (jump_kind context.flags) ∷ []) (inl (first t (f ∷ [])))
         (each_more (UsesOneOf (t ∷ f ∷ [])) _ [] (inl (second t f)) (each_none _))
     on (Refers label) =
         each_more (UsesOneOf (label ∷ [])) _ (use_at (start + 4) label PCRelLo12I ∷ []) (inl (first label []))

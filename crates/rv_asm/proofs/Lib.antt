@@ -13,6 +13,7 @@ pub mod AfterLastIsland
 pub mod Sizes
 pub mod LinesInBuffer
 pub mod SpanLengths
+pub mod OneOperations
 pub mod FinishedLines
 pub mod LinesJoin
 pub mod AssemblyLoop

@@ -1,6 +1,7 @@
 -- What stands in a buffer lasts, and what a line adds.
-use Rattle.std.proofs.Common.{◌≡◌, ℕ, ◌%◌, inl, ⊎_elim, Bool, true, false, List, [], ◌++◌, length, append-nil, Option, Some, None, refl, ap, sym, ◌∙◌, subst, arith}
+use Rattle.std.proofs.Common.{◌≡◌, ℕ, ◌%◌, inl, inr, ⊎_elim, Bool, true, false, List, [], ◌++◌, length, append-nil, Option, Some, None, refl, ap, sym, ◌∙◌, subst, arith}
 use Rattle.std.specs.Prelude.{slice_get}
+use Rattle.rv_base.specs.declared.constant.Constant.{Constant}
 use Rattle.rv_base.specs.declared.constant.VCodeConstant.{VCodeConstant}
 use Rattle.rv_base.specs.declared.label.MachLabel.{MachLabel}
 use Rattle.rv_inst.specs.Context.{Context}
@@ -14,22 +15,24 @@ use Rattle.rv_inst.specs.Rules.{inst_rule, broken_rule}
 use Rattle.rv_inst.specs.Traps.{inst_traps}
 use Rattle.rv_inst.specs.Operands.{inst_constant}
 use Rattle.rv_inst.specs.declared.inst.Inst.TheVariants.{EmitIsland}
-use Rattle.rv_inst.specs.Sizes.{line_space}
+use Rattle.rv_inst.specs.Sizes.{Words, extent_of, line_space}
+use Rattle.mach_buffer.specs.declared.records.ConstPlace.{ConstPlace}
 use Rattle.mach_buffer.specs.declared.uses.Use.{Use}
 use Rattle.mach_buffer.specs.Reach.{is_pending, is_needed, deadlines}
-use Rattle.mach_buffer.specs.Buffer.{shape_of, bytes_of, uses_of, place_of, traps_of, named_of}
+use Rattle.mach_buffer.specs.Buffer.{shape_of, bytes_of, uses_of, place_of, traps_of, registered_of, named_of, constants_of}
 use Rattle.mach_buffer.specs.Constants.{AllStand}
 use Rattle.mach_buffer.specs.Growth.{Lasts}
 use Rattle.mach_buffer.specs.Shape.{recorded}
 use Rattle.mach_buffer.specs.Windows.{AreWindows}
 use Rattle.mach_buffer.proofs.Laws.{append_none, grows_put, lasts_more, stands_last as constants_last}
+use Rattle.rv_emit.specs.ConstantsAdded.{StandInTurn, AddsConstants}
 use Rattle.rv_emit.specs.declared.state.EmitVState.{EmitVState}
 use Rattle.rv_emit.specs.Emitted.{Buffer, IsSoundBuffer, HasWindows, IslandIfNeeded, named_by}
 use Rattle.rv_emit.specs.InstParts.{parts_of}
 use Rattle.rv_emit.specs.State.{setting_beyond}
-use Rattle.rv_emit.proofs.Laws.{gap_last, parts_last, gap_put, parts_put, are_blocks}
+use Rattle.rv_emit.proofs.Laws.{adds_both, adds_none, gap_last, parts_last, gap_put, parts_put, are_blocks}
 use Rattle.rv_asm.specs.LinesInBuffer.{LineStands, StandsAfter, InstPut, BindPut, LinePut}
-use Rattle.rv_asm.specs.Reported.{line_traps, line_constant, with_constant}
+use Rattle.rv_asm.specs.Reported.{line_traps, line_constant, with_constant, StandOutside}
 use Rattle.rv_asm.proofs.LinesAppended.{Appends, appends, appended_long}
 use Rattle.rv_asm.proofs.LineTraps.{room_traps, appended_traps}
 
@@ -47,6 +50,7 @@ stands_last context line old new l before start end h = record {
   there = line_lasts context line old new l start end h.there;
   even = h.even;
   within = let a = h.within in let b = l.grows.longer in omega arith;
+  ends = let a = h.ends in let b = l.grows.longer in omega arith;
 }
 
 -- ---- the constants that are named
@@ -64,6 +68,24 @@ appended_named : (context : Context) (inst : Inst) (old new : Buffer) → Append
 appended_named context (EmitIsland space) old new (made, room) = room_named space old new made room
 appended_named context inst old new e = e.named ∙ named_with (inst_constant inst) (named_of old)
 
+-- ---- the constants that come to stand
+
+-- where an instruction has words, no constant has a byte among them
+abbrev pub HoldsNone : Context → Line → Buffer → ℕ → ℕ → Type 0
+HoldsNone context (Put inst) b start end = (size : ℕ) → extent_of context inst ≡ Words size → StandOutside (registered_of b) (constants_of b) start end
+HoldsNone context (Bind label) b start end = Unit {0}
+
+-- words bring none
+appended_constants : (context : Context) (inst : Inst) (old new : Buffer) → Appends context inst old new → (size : ℕ) → extent_of context inst ≡ Words size → constants_of new ≡ constants_of old
+appended_constants context (EmitIsland space) old new e size words = absurd (cc)
+appended_constants context inst old new e size words = e.adds.constants
+
+-- those that stand end before words that are put
+words_apart : (old new : Buffer) (start end : ℕ) → StandInTurn (shape_of old) → constants_of new ≡ constants_of old → registered_of new ≡ registered_of old → start ≡ length (bytes_of old) → StandOutside (registered_of new) (constants_of new) start end
+words_apart old new start end turn same known at j c k hc hk =
+    let le = turn.within j c k (ap (λ (cs : List ConstPlace). slice_get cs j) (sym same) ∙ hc) (ap (λ (ks : List Constant). slice_get ks c.constant.number) (sym known) ∙ hk) in
+    inr (omega (arith, le, at))
+
 -- ---- a line
 
 -- after what stood there the line was put, at its span
@@ -74,9 +96,11 @@ pub record LineAdded (context : Context) (line : Line) (old new : Buffer) (span 
   pub windows : HasWindows new
   pub sound : IsSoundBuffer new
   pub first : uses_of old ≡ [] → span.start ≡ length (bytes_of old)
-  pub traps : traps_of new ≡ traps_of old ++ line_traps span.start span.end line
+  pub traps : traps_of new ≡ traps_of old ++ line_traps context span.start span.end line
   pub named : named_of new ≡ with_constant (line_constant line) (named_of old)
   pub constants : AllStand label_kinds (shape_of old) → AllStand label_kinds (shape_of new)
+  pub adds : AddsConstants (shape_of old) (shape_of new)
+  pub apart : StandInTurn (shape_of old) → HoldsNone context line new span.start span.end
 
 -- where no use is, no island is put
 none_put : (distance : ℕ) (old new : Buffer) (made : Bool) → IslandIfNeeded distance old new made → uses_of old ≡ [] → length (bytes_of new) ≡ length (bytes_of old)
@@ -99,14 +123,17 @@ inst_added context setting inst old new span rule s w p =
         there = subst (LineStands context (Put inst) new (length (bytes_of p.mid))) (sym p.end) (now, put.stand, long);
         even = room.sound.even;
         within = put.lasts.grows.longer;
+        ends = let e = p.end in omega (arith, e);
       });
       end = p.end;
       windows = put.windows;
       sound = put.sound;
       first = λ h. p.start ∙ none_put line_space old p.mid p.made p.room h;
-      traps = appended_traps context inst p.mid new appended ∙ (λ i. room_traps line_space old p.mid p.made p.room i ++ inst_traps (sym p.start i) (sym p.end i) inst);
+      traps = appended_traps context inst p.mid new appended ∙ (λ i. room_traps line_space old p.mid p.made p.room i ++ inst_traps context (sym p.start i) (sym p.end i) inst);
       named = appended_named context inst p.mid new appended ∙ ap (with_constant (inst_constant inst)) (room_named line_space old p.mid p.made p.room);
       constants = λ h. put.constants (room.constants h);
+      adds = adds_both room.adds put.adds;
+      apart = λ turn size words. words_apart p.mid new span.start span.end (room.adds.in_turn turn) (appended_constants context inst p.mid new appended size words) put.lasts.registered p.start;
     }
 
 -- ---- a bind
@@ -135,6 +162,7 @@ bind_added context label old new span s w p = record {
     there = (p.start ∙ sym p.end, subst (λ n. place_of new label.number ≡ Some n) (sym p.start) p.bound);
     even = ap (λ n. n % 2) p.start ∙ s.even;
     within = let e = p.start in let same : length (bytes_of new) ≡ length (bytes_of old) = ap (length {A = ℕ}) p.bytes in omega arith;
+    ends = let e = p.end in let same : length (bytes_of new) ≡ length (bytes_of old) = ap (length {A = ℕ}) p.bytes in omega arith;
   };
   end = p.end ∙ ap (length {A = ℕ}) (sym p.bytes);
   windows = subst (λ (bs : List ℕ). AreWindows label_kinds bs (uses_of new)) (sym p.bytes)
@@ -144,6 +172,8 @@ bind_added context label old new span s w p = record {
   traps = p.traps ∙ sym (append-nil (traps_of old));
   named = p.named;
   constants = λ h. constants_last (bind_lasts label old new span p) p.constants h;
+  adds = adds_none (bind_lasts label old new span p).grows.longer p.constants p.registered;
+  apart = λ turn. tt;
 }
 
 pub line_added : (context : Context) (setting : EmitVState) (line : Line) (old new : Buffer) (span : LineSpan) → broken_rule context line ≡ None → IsSoundBuffer old → HasWindows old → LinePut context setting line old new span → LineAdded context line old new span

@@ -1,28 +1,31 @@
 -- What the loop of `assemble` keeps: of no lines, and of one line more.
-use Rattle.std.proofs.Common.{◌≡◌, ℕ, zero, suc, ◌+◌, ◌⊎◌, inl, inr, ⊎_elim, List, [], ◌∷◌, ◌++◌, length, Some, None, refl, ap, sym, ◌∙◌, subst, arith}
+use Rattle.std.proofs.Common.{◌≡◌, ℕ, suc, ◌+◌, ◌⊎◌, inl, inr, ⊎_elim, List, [], ◌∷◌, ◌++◌, length, Some, None, refl, ap, sym, ◌∙◌, subst, arith}
 use Rattle.std.specs.Prelude.{slice_get}
 use Rattle.std.proofs.lemmas.List.{length-append}
-use Rattle.std.proofs.lemmas.Option.{same_Some}
 use Rattle.rv_inst.specs.Context.{Context}
+use Rattle.rv_inst.specs.declared.inst.Inst.{Inst}
 use Rattle.rv_inst.specs.declared.inst.Line.{Line}
+use Rattle.rv_inst.specs.declared.inst.Line.TheVariants.{Inst as Put}
 use Rattle.rv_inst.specs.declared.code.LineSpan.{LineSpan}
 use Rattle.rv_inst.specs.declared.label_use.LabelUse.{LabelUse}
 use Rattle.rv_inst.specs.LabelUse.{label_kinds}
+use Rattle.rv_inst.specs.Sizes.{Words, extent_of}
 use Rattle.mach_buffer.specs.declared.uses.Use.{Use}
 use Rattle.mach_buffer.specs.declared.records.ConstPlace.{ConstPlace}
 use Rattle.mach_buffer.specs.Buffer.{bytes_of, uses_of, traps_of, registered_of, named_of, constants_of}
 use Rattle.mach_buffer.specs.Windows.{AreWindows}
-use Rattle.mach_buffer.proofs.Laws.{locate, windows_none, below}
+use Rattle.mach_buffer.proofs.Laws.{windows_none, below}
 use Rattle.rv_emit.specs.declared.state.EmitVState.{EmitVState}
 use Rattle.rv_emit.specs.Emitted.{Buffer, IsSoundBuffer}
+use Rattle.rv_emit.proofs.Laws.{before_or_last}
 use Rattle.rv_base.specs.declared.constant.VCodeConstant.{VCodeConstant}
-use Rattle.rv_asm.specs.Reported.{start_of, end_of, end_before, line_traps, line_constant, with_constant, constants_after}
+use Rattle.rv_asm.specs.Reported.{start_of, end_of, end_before, line_traps, line_constant, with_constant, constants_after, StandOutside}
 use Rattle.rv_asm.specs.LinesInBuffer.{StandsAfter, LinesStand, LinePut}
 use Rattle.rv_asm.proofs.FirstLines.{ends_more}
 use Rattle.rv_asm.proofs.LabelNames.{start_more, end_more, start_last, end_last}
 use Rattle.rv_inst.specs.Rules.{broken_rule}
 use Rattle.rv_asm.proofs.LineTraps.{traps_next}
-use Rattle.rv_asm.proofs.LinesInBuffer.{LineAdded, stands_last, line_added}
+use Rattle.rv_asm.proofs.LinesInBuffer.{HoldsNone, LineAdded, stands_last, line_added}
 
 -- no line stands in an empty buffer
 pub built_none : (context : Context) (b : Buffer) → bytes_of b ≡ [] → uses_of b ≡ [] → traps_of b ≡ [] → registered_of b ≡ context.constants → named_of b ≡ [] → constants_of b ≡ [] → IsSoundBuffer b → LinesStand context [] [] b
@@ -36,7 +39,9 @@ built_none context b eb eu et er en ec s = record {
   traps = et;
   registered = er;
   named = en;
-  stand = λ j c h. absurd (none_at j c (sym (ap (λ cs. slice_get cs j) ec) ∙ h));
+  stand = λ j c h. absurd (none_there j c h);
+  in_turn = record { ascend = λ i j c d k lt h hd hk. absurd (none_there i c h); within = λ j c k h hk. absurd (none_there j c h) };
+  apart = λ i inst size h. absurd (cc);
   windows = subst (λ (bs : List ℕ). AreWindows label_kinds bs (uses_of b)) (sym eb)
       (subst (λ (us : List (Use LabelUse)). AreWindows label_kinds [] us) (sym eu) windows_none);
   sound = s;
@@ -45,20 +50,13 @@ built_none context b eb eu et er en ec s = record {
     none_at : (j : ℕ) (c : ConstPlace) → slice_get [] j ≡ Some c → ⊥
     none_at j c h = absurd (cc)
 
+    none_there : (j : ℕ) (c : ConstPlace) → slice_get (constants_of b) j ≡ Some c → ⊥
+    none_there j c h = none_at j c (sym (ap (λ cs. slice_get cs j) ec) ∙ h)
+
 -- the constants that a line more names
 constants_more : (named : List VCodeConstant) (lines : List Line) (line : Line) → constants_after named (lines ++ line ∷ []) ≡ with_constant (line_constant line) (constants_after named lines)
 constants_more named [] line = refl
 constants_more named (first ∷ lines) line = constants_more (with_constant (line_constant first) named) lines line
-
--- ---- one item more
-
-one_item : {X : Type 0} (y : X) (i : ℕ) (x : X) → slice_get (y ∷ []) i ≡ Some x → (i ≡ 0) × (y ≡ x)
-one_item y zero x h = (refl, same_Some _ _ h)
-one_item y (suc i) x h = absurd (cc)
-
--- an element of the others, or the last
-before_or_last : {X : Type 0} (xs : List X) (y : X) (j : ℕ) (x : X) → slice_get (xs ++ y ∷ []) j ≡ Some x → (slice_get xs j ≡ Some x) ⊎ ((j ≡ length xs) × (y ≡ x))
-before_or_last xs y j x h = ⊎_elim (λ a. inl a) (λ d. let o = one_item y d.index x d.there in let e = d.is in let z = o.0 in inr (omega arith, o.1)) (locate xs (y ∷ []) j x h)
 
 -- ---- one line more
 
@@ -92,6 +90,22 @@ module _ (context : Context) (lines : List Line) (line : Line) (spans : List Lin
   first [] e = start_here 0 (ap length (sym e)) ∙ a.first (b.nothing (ap length e)) ∙ b.ends ∙ ap (λ ls. end_before spans (length ls)) e
   first (l ∷ ls) e = let some : length lines ≡ suc (length ls) = ap length e in start_more spans (span ∷ []) 0 (omega (arith, same, some)) ∙ b.first
 
+  -- constants stand apart from words where they do from the same offsets
+  moved_apart : (i start end : ℕ) → start_of all i ≡ start → end_of all i ≡ end → StandOutside context.constants (constants_of new) start end → StandOutside context.constants (constants_of new) (start_of all i) (end_of all i)
+  moved_apart i start end p q h = subst (λ n. StandOutside context.constants (constants_of new) n (end_of all i)) (sym p) (subst (StandOutside context.constants (constants_of new) start) (sym q) h)
+
+  -- from a line that stood, since it ends before constants that are new begin; from the last, since those that stand end before it
+  apart : (i : ℕ) (inst : Inst) (size : ℕ) → extent_of context inst ≡ Words size → (slice_get lines i ≡ Some (Put inst)) ⊎ ((i ≡ length lines) × (line ≡ Put inst)) → StandOutside context.constants (constants_of new) (start_of all i) (end_of all i)
+  apart i inst size words (inl h) =
+      let lt = below lines i (Put inst) h in
+      let ends = (b.each i (Put inst) h).ends in
+      moved_apart i _ _ (start_more spans (span ∷ []) i (omega (arith, same, lt))) (end_more spans (span ∷ []) i (omega (arith, same, lt)))
+      (λ j c k hc hk. ⊎_elim (λ stood. b.apart i inst size h words j c k stood hk) (λ after. inl (omega (arith, ends, after))) (a.adds.fresh j c hc))
+  apart i inst size words (inr (e, is)) =
+      moved_apart i _ _ (start_here i e) (ap (end_of all) (e ∙ sym same) ∙ end_last spans span)
+      (subst (λ known. StandOutside known (constants_of new) span.start span.end) (a.lasts.registered ∙ b.registered)
+      (subst (λ l. HoldsNone context l new span.start span.end) is (a.apart b.in_turn) size words))
+
   pub built_more : span.index ≡ length lines → LinesStand context (lines ++ line ∷ []) all new
   built_more index = record {
     count = length-append spans (span ∷ []) ∙ ap (λ n. n + 1) same ∙ sym more_lines;
@@ -100,10 +114,12 @@ module _ (context : Context) (lines : List Line) (line : Line) (spans : List Lin
     ends = sym a.end ∙ sym (end_last spans span) ∙ ap (end_before all) (ap suc same ∙ omega (arith, more_lines));
     first = first lines refl;
     nothing = λ e. absurd (omega (arith, more_lines, e));
-    traps = a.traps ∙ ap (λ ts. ts ++ line_traps span.start span.end line) b.traps ∙ sym (traps_next lines spans line span same);
+    traps = a.traps ∙ ap (λ ts. ts ++ line_traps context span.start span.end line) b.traps ∙ sym (traps_next context lines spans line span same);
     registered = a.lasts.registered ∙ b.registered;
     named = a.named ∙ ap (with_constant (line_constant line)) b.named ∙ sym (constants_more [] lines line);
     stand = a.constants b.stand;
+    in_turn = a.adds.in_turn b.in_turn;
+    apart = λ i inst size h words. apart i inst size words (before_or_last lines line i (Put inst) h);
     windows = a.windows;
     sound = a.sound;
   }

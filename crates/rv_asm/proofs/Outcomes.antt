@@ -115,7 +115,7 @@ settles_syntax c (ends.Refused error) input line is ended asked fine short bad =
     let (job, read, found) = refused_job input error (means_input c (ends.Refused error) input is ended.0.1) in
     absurd (cc)
 settles_syntax c (ends.Done code) input line is ended asked fine short bad =
-    let (job, read, found, told, runs, reach, ranges) = means_input c (ends.Done code) input is ended.0.1 in
+    let (job, read, found, told, runs, operations, reach, ranges) = means_input c (ends.Done code) input is ended.0.1 in
     absurd (cc)
 
 settles_refused : (c : Call) (answer : Outcome) (input : List ℕ) (job : Job) (error : EmitError) → c.left ≡ Some input → Ended c answer → Asked c → NoFault c → length input ≤ input_limit → reads input ≡ Ok job → refusal job ≡ Some error → IsOrOutOfMemory answer (ends.Refused error)
@@ -133,7 +133,7 @@ settles_refused c (ends.Refused other) input job error is ended asked fine short
     let same : other ≡ error = cc (ap (λ (j : Job). refusal j) jobs) in
     inl (ap (λ (e : EmitError). ends.Refused e) same)
 settles_refused c (ends.Done code) input job error is ended asked fine short good due =
-    let (own, read, found, told, runs, reach, ranges) = means_input c (ends.Done code) input is ended.0.1 in
+    let (own, read, found, told, runs, operations, reach, ranges) = means_input c (ends.Done code) input is ended.0.1 in
     let jobs : own ≡ job = cc in
     absurd (cc (ap (λ (j : Job). refusal j) jobs))
 

@@ -1,5 +1,6 @@
 -- What stands in the buffer is what the code reports of its lines: how long each span is, and what stands between two.
-use Rattle.std.proofs.Common.{◌≡◌, ℕ, zero, suc, ◌^◌, ◌<◌, ◌≤◌, List, [], ◌∷◌, length, map, sym, ap, subst, ◌∙◌, arith}
+use Rattle.std.proofs.Common.{◌≡◌, ℕ, zero, suc, ◌^◌, ◌<◌, ◌≤◌, inl, ⊎_elim, List, [], ◌∷◌, length, map, Some, sym, ap, subst, ◌∙◌, arith}
+use Rattle.std.specs.Prelude.{slice_get}
 use Rattle.rv_base.specs.declared.constant.Constant.{Constant}
 use Rattle.std.specs.List.{AllByRecursion}
 use Rattle.rv_inst.specs.Context.{context_of}
@@ -9,14 +10,16 @@ use Rattle.rv_inst.specs.declared.inst.Inst.{Inst}
 use Rattle.rv_inst.specs.declared.inst.Inst.TheVariants.{EmitIsland}
 use Rattle.rv_inst.specs.declared.job.Job.{Job}
 use Rattle.rv_inst.specs.declared.code.Code.{Code}
+use Rattle.rv_inst.specs.LabelUse.{label_kinds}
 use Rattle.rv_inst.specs.Sizes.{Island, extent_of}
 use Rattle.mach_buffer.specs.declared.records.ConstPlace.{ConstPlace}
 use Rattle.mach_buffer.specs.Buffer.{shape_of, bytes_of, traps_of}
 use Rattle.mach_buffer.specs.Constants.{HasConstants}
+use Rattle.rv_emit.specs.ConstantsAdded.{AddsConstants}
 use Rattle.rv_emit.specs.Emitted.{Buffer}
 use Rattle.rv_emit.specs.Puts.{AllBytes}
 use Rattle.rv_emit.specs.Standing.{IsFinishedTo}
-use Rattle.rv_emit.proofs.Laws.{gap_is}
+use Rattle.rv_emit.proofs.Laws.{adds_end, gap_is}
 use Rattle.rv_asm.specs.Reported.{start_of, end_of, end_before, binds_from, IsSized, IsSpan, Reported}
 use Rattle.rv_asm.specs.LinesInBuffer.{LineStands, LinesStand}
 use Rattle.rv_asm.proofs.LinesJoin.{line_at}
@@ -35,6 +38,13 @@ module _ (job : Job) (code : Code) (b : Buffer) (built : LinesStand (context_of 
   line_long (Put inst) start end h = inst_sized inst start end h
   line_long (Bind label) start end (same, bound) = sym same
 
+  -- the constants that the end puts come after all lines
+  put_after : AddsConstants (shape_of b) f.finishes.put
+  put_after = adds_end label_kinds (shape_of b) code.bytes f.finishes
+
+  constant_put : (j : ℕ) (c : ConstPlace) → slice_get code.constants j ≡ Some c → slice_get f.finishes.put.constants j ≡ Some c
+  constant_put j c h = ap (λ (cs : List ConstPlace). slice_get cs j) (sym constants) ∙ h
+
   pub built_reported : code.labels ≡ binds_from code.lines 0 job.lines → code.traps ≡ traps_of b → code.end ≡ length (bytes_of b) → length (bytes_of b) ≤ length code.bytes → Reported job code
   built_reported labels traps end within = record {
     count = built.count;
@@ -48,5 +58,7 @@ module _ (job : Job) (code : Code) (b : Buffer) (built : LinesStand (context_of 
     labels = labels;
     constants = ap (map (λ (c : ConstPlace). c.constant)) constants ∙ f.finishes.listed ∙ built.named;
     placed = subst (HasConstants job.constants code.bytes) (sym constants) (subst (λ (cs : List Constant). HasConstants cs code.bytes f.finishes.put.constants) built.registered f.finishes.constants);
+    ascend = λ i j c d k lt hc hd hk. (put_after.in_turn built.in_turn).ascend i j c d k lt (constant_put i c hc) (constant_put j d hd) (ap (λ (ks : List Constant). slice_get ks c.constant.number) (put_after.registered ∙ built.registered) ∙ hk);
+    apart = λ i inst size h words j c k hc hk. let ends = (built.each i (Put inst) h).ends in ⊎_elim (λ stood. built.apart i inst size h words j c k stood hk) (λ after. inl (omega (arith, ends, after))) (put_after.fresh j c (constant_put j c hc));
     traps = traps ∙ built.traps;
   }

@@ -1,6 +1,6 @@
 -- The uses after which no island stands: whose they are, how far they reach, and how many.
 use Rattle.std.proofs.Common.{◌≡◌, ℕ, zero, suc, ◌+◌, ◌*◌, ◌<◌, ◌≤◌, ◌⊎◌, inl, inr, ⊎_elim, Bool, true, false, cond, not, ◌&&◌, ◌||◌, List, [], ◌∷◌, ◌++◌, length, take, drop, Option, Some, None, refl, ap, sym, ◌∙◌, subst, arith}
-use Rattle.std.specs.Prelude.{slice_get, nat_lt, is_none}
+use Rattle.std.specs.Prelude.{slice_get, nat_lt, is_none, if◌then◌else◌}
 use Rattle.std.specs.List.{list_any}
 use Rattle.std.proofs.lemmas.Bool.{true≢false, ltb-true, leb-false, or_parts}
 use Rattle.std.proofs.lemmas.Option.{slice_get_within}
@@ -14,12 +14,12 @@ use Rattle.rv_inst.specs.declared.inst.CondBrTarget.TheVariants.{Label, Fallthro
 use Rattle.rv_inst.specs.declared.inst.Line.{Line}
 use Rattle.rv_inst.specs.declared.inst.Line.TheVariants.{Inst as Put, Bind}
 use Rattle.rv_inst.specs.declared.label_use.LabelUse.{LabelUse}
-use Rattle.rv_inst.specs.declared.label_use.LabelUse.TheVariants.{Jal20, B12, PCRelLo12I}
+use Rattle.rv_inst.specs.declared.label_use.LabelUse.TheVariants.{Jal20, B12, PCRelLo12I, RVCJump}
 use Rattle.rv_inst.specs.Operands.{targets_of, ways_of, inst_ways, inst_labels}
 use Rattle.rv_inst.specs.declared.targets.Targets.{Targets}
 use Rattle.rv_inst.specs.declared.targets.Targets.TheVariants.{Nowhere, Jumps, Branches, Refers, RefersConstant}
 use Rattle.mach_buffer.specs.Shape.{constant_label}
-use Rattle.rv_inst.specs.LabelUse.{label_kinds, has_veneer_of}
+use Rattle.rv_inst.specs.LabelUse.{label_kinds, has_veneer_of, forward_of}
 use Rattle.rv_inst.specs.declared.error.Rule.TheVariants as rule_of
 use Rattle.rv_inst.proofs.Rules.{breaks_none}
 use Rattle.rv_inst.specs.Rules.{inst_rule, is_buffer_label}
@@ -28,6 +28,7 @@ use Rattle.mach_buffer.specs.Reach.{deadline, deadlines, due_by, is_needed, is_n
 use Rattle.mach_buffer.specs.Buffer.{bytes_of, place_of}
 use Rattle.mach_buffer.proofs.Laws.{both_lists, deadlines_append, none_from, due_le_length}
 use Rattle.rv_emit.specs.Emitted.{Buffer, pending}
+use Rattle.rv_inst.specs.Forms.{jump_kind}
 use Rattle.rv_inst.specs.Uses.{use_at, target_uses, target_reach, uses_in}
 use Rattle.rv_emit.proofs.Laws.{deadlines_as, Each, each_none, each_more, uses_bare, few_deadlines, waits}
 use Rattle.rv_asm.specs.Reported.{start_of}
@@ -39,17 +40,31 @@ use Rattle.rv_asm.proofs.FirstLines.{last_open}
 
 -- ---- the uses of one instruction
 
+-- a jump, or a branch, reaches as far as the shortest of its line, and so does a jump after a branch
+jump_least : (short : Bool) (start : ℕ) → start + (if short then 2046 else 1048574) ≤ start + forward_of (if short then RVCJump else Jal20)
+jump_least true start = omega arith
+jump_least false start = omega arith
+
+branch_least : (short : Bool) (start : ℕ) → start + (if short then 2046 else 4094) ≤ start + 4094
+branch_least true start = omega arith
+branch_least false start = omega arith
+
+after_least : (short : Bool) (start : ℕ) → start + (if short then 2046 else 4094) ≤ start + 4 + forward_of (if short then RVCJump else Jal20)
+after_least true start = omega arith
+after_least false start = omega arith
+
 -- each reaches as far as the shortest of its line
 uses_least : (context : Context) (start : ℕ) (inst : Inst) → Each (λ u. start + least_reach context (Put inst) ≤ deadline label_kinds u) (uses_in context start inst)
 uses_least context start inst = on (targets_of inst)
   where
-    on : (targets : Targets) → Each (λ u. start + target_reach targets ≤ deadline label_kinds u) (target_uses start targets)
+    on : (targets : Targets) → Each (λ u. start + target_reach context.flags targets ≤ deadline label_kinds u) (target_uses context.flags start targets)
     on Nowhere = each_none _
-    on (Jumps label) = each_more (λ u. start + 1048574 ≤ deadline label_kinds u) _ [] (omega arith) (each_none _)
+    on (Jumps label) = each_more (λ u. start + target_reach context.flags (Jumps label) ≤ deadline label_kinds u) _ [] (jump_least context.flags.has_zca start) (each_none _)
     on (Branches Fallthrough not_taken) = each_none _
-    on (Branches (Label t) Fallthrough) = each_more (λ u. start + 4094 ≤ deadline label_kinds u) _ [] (omega arith) (each_none _)
+    on (Branches (Label t) Fallthrough) = each_more (λ u. start + target_reach context.flags (Branches (Label t) Fallthrough) ≤ deadline label_kinds u) _ [] (branch_least context.flags.has_zca start) (each_none _)
     on (Branches (Label t) (Label f)) =
-        each_more (λ u. start + 4094 ≤ deadline label_kinds u) _ (use_at (start + 4) f Jal20 ∷ []) (omega arith) (each_more (λ u. start + 4094 ≤ deadline label_kinds u) _ [] (omega arith) (each_none _))
+        each_more (λ u. start + target_reach context.flags (Branches (Label t) (Label f)) ≤ deadline label_kinds u) _ (use_at (start + 4) f (jump_kind context.flags) ∷ []) (branch_least context.flags.has_zca start)
+        (each_more (λ u. start + target_reach context.flags (Branches (Label t) (Label f)) ≤ deadline label_kinds u) _ [] (after_least context.flags.has_zca start) (each_none _))
     on (Refers label) =
         each_more (λ u. start + 1048574 ≤ deadline label_kinds u) _ (use_at (start + 4) label PCRelLo12I ∷ []) (omega arith) (each_more (λ u. start + 1048574 ≤ deadline label_kinds u) _ [] (omega arith) (each_none _))
     on (RefersConstant k) =
@@ -59,13 +74,13 @@ uses_least context start inst = on (targets_of inst)
 uses_ways : (context : Context) (start : ℕ) (inst : Inst) → Each (λ u. has_veneer_of u.kind ≡ true → 1 ≤ length (inst_ways inst)) (uses_in context start inst)
 uses_ways context start inst = on (targets_of inst)
   where
-    on : (targets : Targets) → Each (λ u. has_veneer_of u.kind ≡ true → 1 ≤ length (ways_of targets)) (target_uses start targets)
+    on : (targets : Targets) → Each (λ u. has_veneer_of u.kind ≡ true → 1 ≤ length (ways_of targets)) (target_uses context.flags start targets)
     on Nowhere = each_none _
     on (Jumps label) = each_more (λ u. has_veneer_of u.kind ≡ true → 1 ≤ 1) _ [] (λ e. omega arith) (each_none _)
     on (Branches Fallthrough not_taken) = each_none _
     on (Branches (Label t) Fallthrough) = each_more (λ u. has_veneer_of u.kind ≡ true → 1 ≤ 1) _ [] (λ e. omega arith) (each_none _)
     on (Branches (Label t) (Label f)) =
-        each_more (λ u. has_veneer_of u.kind ≡ true → 1 ≤ 2) _ (use_at (start + 4) f Jal20 ∷ []) (λ e. omega arith) (each_more (λ u. has_veneer_of u.kind ≡ true → 1 ≤ 2) _ [] (λ e. omega arith) (each_none _))
+        each_more (λ u. has_veneer_of u.kind ≡ true → 1 ≤ 2) _ (use_at (start + 4) f (jump_kind context.flags) ∷ []) (λ e. omega arith) (each_more (λ u. has_veneer_of u.kind ≡ true → 1 ≤ 2) _ [] (λ e. omega arith) (each_none _))
     on (Refers label) =
         each_more (λ u. has_veneer_of u.kind ≡ true → 1 ≤ 0) _ (use_at (start + 4) label PCRelLo12I ∷ []) (λ e. absurd (cc)) (each_more (λ u. has_veneer_of u.kind ≡ true → 1 ≤ 0) _ [] (λ e. absurd (cc)) (each_none _))
     on (RefersConstant k) =
@@ -78,12 +93,12 @@ few_ways context place start inst = on (targets_of inst)
     of_uses : (uses : List (Use LabelUse)) (most : ℕ) → length uses ≤ most → length (deadlines (waits place) label_kinds uses) ≤ most
     of_uses uses most le = let few = few_deadlines (waits place) label_kinds uses in omega arith
 
-    on : (targets : Targets) → length (deadlines (waits place) label_kinds (target_uses start targets)) ≤ length (ways_of targets)
+    on : (targets : Targets) → length (deadlines (waits place) label_kinds (target_uses context.flags start targets)) ≤ length (ways_of targets)
     on Nowhere = omega arith
-    on (Jumps label) = of_uses (use_at start label Jal20 ∷ []) 1 (omega arith)
+    on (Jumps label) = of_uses (use_at start label (jump_kind context.flags) ∷ []) 1 (omega arith)
     on (Branches Fallthrough not_taken) = omega arith
     on (Branches (Label t) Fallthrough) = of_uses (use_at start t B12 ∷ []) 1 (omega arith)
-    on (Branches (Label t) (Label f)) = of_uses (use_at start t B12 ∷ use_at (start + 4) f Jal20 ∷ []) 2 (omega arith)
+    on (Branches (Label t) (Label f)) = of_uses (use_at start t B12 ∷ use_at (start + 4) f (jump_kind context.flags) ∷ []) 2 (omega arith)
     on (Refers label) = omega arith
     on (RefersConstant k) = omega arith
 

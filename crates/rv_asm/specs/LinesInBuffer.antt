@@ -21,13 +21,14 @@ use Rattle.mach_buffer.specs.Shape.{listed}
 use Rattle.mach_buffer.specs.Constants.{reserve_of, AllStand}
 use Rattle.mach_buffer.specs.Islands.{is_far}
 use Rattle.rv_emit.specs.Emitted.{Buffer, IsSoundBuffer, HasWindows, pending, IslandIfNeeded, IsBounded}
+use Rattle.rv_emit.specs.ConstantsAdded.{StandInTurn}
 use Rattle.rv_emit.specs.Emission.{EmitsIn}
 use Rattle.rv_emit.specs.InstParts.{parts_of}
 use Rattle.rv_emit.specs.Standing.{GapStandsIn, PartsIn}
 use Rattle.rv_emit.specs.declared.state.EmitVState.{EmitVState}
 use Rattle.rv_emit.specs.declared.state.EmitVState.TheVariants.{Unknown}
 use Rattle.rv_emit.specs.State.{setting_after, setting_beyond}
-use Rattle.rv_asm.specs.Reported.{start_of, end_of, end_before, binds_from, traps_from, constants_named}
+use Rattle.rv_asm.specs.Reported.{start_of, end_of, end_before, binds_from, traps_from, constants_named, StandApart}
 use Rattle.rv_asm.specs.Refusal.{binds, is_bound, size_sum}
 use Rattle.rv_inst.specs.Sizes.{Extent, Words, Island, extent_of, line_space, line_sum}
 
@@ -49,8 +50,10 @@ pub record StandsAfter (context : Context) (line : Line) (b : Buffer) (before st
   pub there : LineStands context line b start end
   pub even : start % 2 ≡ 0
   pub within : start ≤ length (bytes_of b)
+  pub ends : end ≤ length (bytes_of b)
 
--- each line stands at its span, and before it nothing or an island; and the constants that islands took with them stand
+-- each line stands at its span, and before it nothing or an island; and the constants that islands took with them stand, one
+-- after the other, and apart from the words of instructions
 pub record LinesStand (context : Context) (lines : List Line) (spans : List LineSpan) (b : Buffer) : Type 0 where
   pub count : length spans ≡ length lines
   pub indices : (i : ℕ) (s : LineSpan) → slice_get spans i ≡ Some s → s.index ≡ i
@@ -58,10 +61,12 @@ pub record LinesStand (context : Context) (lines : List Line) (spans : List Line
   pub ends : length (bytes_of b) ≡ end_before spans (length lines)
   pub first : start_of spans 0 ≡ 0
   pub nothing : length lines ≡ 0 → uses_of b ≡ []
-  pub traps : traps_of b ≡ traps_from spans 0 lines
+  pub traps : traps_of b ≡ traps_from context spans 0 lines
   pub registered : registered_of b ≡ context.constants
   pub named : named_of b ≡ constants_named lines
   pub stand : AllStand label_kinds (shape_of b)
+  pub in_turn : StandInTurn (shape_of b)
+  pub apart : StandApart context lines spans (constants_of b)
   pub windows : HasWindows b
   pub sound : IsSoundBuffer b
 

@@ -15,7 +15,7 @@ use Rattle.rv_listing.specs.Report.{report}
 use Rattle.rv_stream.specs.Ends.{Rose, TookFront}
 use Rattle.rv_asm.specs.Refusal.{refusal}
 use Rattle.rv_asm.specs.Reported.{Reported}
-use Rattle.rv_asm.specs.Simulation.{RunsAsListed}
+use Rattle.rv_asm.specs.Simulation.{RunsAsListed, HasOperations}
 use Rattle.rv_asm.specs.Reach.{InReach}
 use Rattle.rv_asm.specs.declared.outcome.Outcome.{Outcome}
 use Rattle.rv_asm.specs.declared.outcome.Outcome.TheVariants as ends
@@ -66,10 +66,10 @@ status_of ends.OutOfMemory = 8
 
 -- ---- what an input means
 
--- the code of the job that the input means, which reports its lines and runs as they say, with no island early, and its
--- numbers in the ranges in which no other code has its report
+-- the code of the job that the input means, which reports its lines and runs as they say, in operations as short as they have, with
+-- no island early, and its numbers in the ranges in which no other code has its report
 abbrev pub IsCodeOf : List ℕ → Code → Type 0
-IsCodeOf input code = (job : Job) × (reads input ≡ Ok job) × (refusal job ≡ None) × Reported job code × RunsAsListed job code × InReach job code × CodeFits code
+IsCodeOf input code = (job : Job) × (reads input ≡ Ok job) × (refusal job ≡ None) × Reported job code × RunsAsListed job code × HasOperations job code × InReach job code × CodeFits code
 
 -- the input means a job that is refused so; never when out of memory
 abbrev pub IsRefused : List ℕ → EmitError → Type 0

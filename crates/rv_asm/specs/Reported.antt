@@ -1,7 +1,9 @@
 -- What the code reports of its lines.
 use Rattle.std.specs.Prelude.{◌≡◌, ℕ, zero, suc, ◌+◌, ◌<◌, ◌≤◌, ◌⊎◌, List, [], ◌∷◌, ◌++◌, length, map, slice_get, Option, Some, None, option_map, unwrap_or}
+use Rattle.rv_base.specs.declared.constant.Constant.{Constant}
 use Rattle.rv_base.specs.declared.constant.VCodeConstant.{VCodeConstant}
 use Rattle.rv_inst.specs.Context.{Context, context_of}
+use Rattle.rv_inst.specs.declared.inst.Inst.{Inst}
 use Rattle.rv_inst.specs.declared.inst.Line.{Line}
 use Rattle.rv_inst.specs.declared.inst.Line.TheVariants.{Inst as Put, Bind}
 use Rattle.rv_inst.specs.declared.job.Job.{Job}
@@ -36,14 +38,14 @@ binds_from spans i (Bind l ∷ lines) = (record { label = l; offset = start_of s
 binds_from spans i (Put inst ∷ lines) = binds_from spans (suc i) lines
 
 -- the traps of a line that starts and ends at offsets
-abbrev pub line_traps : ℕ → ℕ → Line → List MachTrap
-line_traps start end (Put inst) = inst_traps start end inst
-line_traps start end (Bind label) = []
+abbrev pub line_traps : Context → ℕ → ℕ → Line → List MachTrap
+line_traps context start end (Put inst) = inst_traps context start end inst
+line_traps context start end (Bind label) = []
 
 -- the traps of lines, the first of which has index i
-abbrev pub traps_from : List LineSpan → ℕ → List Line → List MachTrap
-traps_from spans i [] = []
-traps_from spans i (line ∷ lines) = line_traps (start_of spans i) (end_of spans i) line ++ traps_from spans (suc i) lines
+abbrev pub traps_from : Context → List LineSpan → ℕ → List Line → List MachTrap
+traps_from context spans i [] = []
+traps_from context spans i (line ∷ lines) = line_traps context (start_of spans i) (end_of spans i) line ++ traps_from context spans (suc i) lines
 
 -- the constant that a line names
 abbrev pub line_constant : Line → Option VCodeConstant
@@ -78,10 +80,23 @@ abbrev pub IsSpan : Context → List ℕ → Line → ℕ → ℕ → Type 0
 IsSpan context bytes (Put inst) start end = IsSized context.flags bytes (extent_of context inst) start end
 IsSpan context bytes (Bind label) start end = end ≡ start
 
+-- two stretches of code share no byte
+abbrev pub AreApart : ℕ → ℕ → ℕ → ℕ → Type 0
+AreApart start end from to = (end ≤ from) ⊎ (to ≤ start)
+
+-- constants that stand there have no byte between two offsets
+abbrev pub StandOutside : List Constant → List ConstPlace → ℕ → ℕ → Type 0
+StandOutside registered constants start end = (j : ℕ) (c : ConstPlace) (k : Constant) → slice_get constants j ≡ Some c → slice_get registered c.constant.number ≡ Some k → AreApart start end c.offset (c.offset + length k.bytes)
+
+-- nor has one a byte among the words of an instruction
+abbrev pub StandApart : Context → List Line → List LineSpan → List ConstPlace → Type 0
+StandApart context lines spans constants = (i : ℕ) (inst : Inst) (size : ℕ) → slice_get lines i ≡ Some (Put inst) → extent_of context inst ≡ Words size → StandOutside context.constants constants (start_of spans i) (end_of spans i)
+
 -- Every line has one span, in order, as long as the line. The first starts at 0; between two stands nothing, or an island.
 -- The code's end is that of the last line, its labels are the binds, and its traps are those of the lines. Each constant that a
 -- line names has one offset, a multiple of its alignment, at which its bytes stand, and no other constant has one; they are in
--- the order of their first use.
+-- the order of their first use. In this order each ends before the next one begins, and none has a byte among an instruction's
+-- words, so their bytes are those of islands, or come after all lines.
 pub record Reported (job : Job) (code : Code) : Type 0 where
   pub count : length code.lines ≡ length job.lines
   pub indices : (i : ℕ) (span : LineSpan) → slice_get code.lines i ≡ Some span → span.index ≡ i
@@ -94,4 +109,6 @@ pub record Reported (job : Job) (code : Code) : Type 0 where
   pub labels : code.labels ≡ binds_from code.lines 0 job.lines
   pub constants : map (λ (c : ConstPlace). c.constant) code.constants ≡ constants_named job.lines
   pub placed : HasConstants job.constants code.bytes code.constants
-  pub traps : code.traps ≡ traps_from code.lines 0 job.lines
+  pub ascend : (i j : ℕ) (c d : ConstPlace) (k : Constant) → i < j → slice_get code.constants i ≡ Some c → slice_get code.constants j ≡ Some d → slice_get job.constants c.constant.number ≡ Some k → c.offset + length k.bytes ≤ d.offset
+  pub apart : StandApart (context_of job) job.lines code.lines code.constants
+  pub traps : code.traps ≡ traps_from (context_of job) code.lines 0 job.lines

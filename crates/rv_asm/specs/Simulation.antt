@@ -5,18 +5,19 @@ use Rattle.std.specs.Ordering.{nat_cmp}
 use Rattle.rv_base.specs.declared.trap.TrapCode.{TrapCode}
 use Rattle.mach_buffer.specs.Constants.{offset_in}
 use Rattle.rv_inst.specs.Traps.{IsRecorded}
+use Rattle.rv_inst.specs.declared.inst.Inst.{Inst}
 use Rattle.rv_inst.specs.declared.inst.Line.{Line}
 use Rattle.rv_inst.specs.declared.inst.Line.TheVariants.{Inst as Put, Bind}
 use Rattle.rv_inst.specs.declared.job.Job.{Job}
+use Rattle.rv_inst.specs.Context.{context_of}
+use Rattle.rv_inst.specs.OneOperation.{operation_of}
 use Rattle.rv_inst.specs.declared.code.Code.{Code}
 use Rattle.rv_inst.specs.Meaning.{Environment, Exit, Next, To, Leave, Break, Trap, Data, exit_of, effect_of, writes_of, temporaries_of, AreOutside}
 use Rattle.rv_machine.specs.State.{State, IsState, Values, AreValues, Memory, byte, wrap}
 use Rattle.rv_base.specs.declared.flags.IsaFlags.{IsaFlags}
-use Rattle.rv_machine.specs.declared.ops.MOp.TheVariants.{Base}
-use Rattle.rv_machine.specs.declared.ops.BaseOp.TheVariants.{Ebreak}
-use Rattle.rv_machine.specs.Layout.{bare_form}
+use Rattle.rv_machine.specs.declared.decoding.Decoded.{Decoded}
 use Rattle.rv_machine.specs.Decode.{decode}
-use Rattle.rv_machine.specs.Steps.{fetch, iter}
+use Rattle.rv_machine.specs.Steps.{IsBreak, fetch, iter}
 use Rattle.rv_inst.specs.SameValues.{Same, SameBut}
 use Rattle.rv_asm.specs.Reported.{start_of, end_of}
 
@@ -81,9 +82,9 @@ address_of code base (Stop i) = wrap (base + start_of code.lines i)
 address_of code base (Trapped i at) = wrap (base + at)
 address_of code base (InData i) = wrap (base + start_of code.lines i)
 
--- at a break the word is that of ebreak, and at a trap it is no operation, so the machine has no step
+-- at a break stands ebreak, and at a trap it is no operation, so the machine has no step
 abbrev pub IsStopped : IsaFlags → Point → State → Type 0
-IsStopped flags (Stop i) s = decode flags (fetch s.values.mem s.pc) ≡ Some (bare_form (Base Ebreak))
+IsStopped flags (Stop i) s = IsBreak flags s.values.mem s.pc
 IsStopped flags (At i) s = Unit {0}
 IsStopped flags (Out a) s = Unit {0}
 IsStopped flags End s = Unit {0}
@@ -129,3 +130,8 @@ pub record Comes (job : Job) (code : Code) (base : ℕ) (p : Point) (v : Values)
 -- line doesn't write on the code.
 pub record RunsAsListed (job : Job) (code : Code) : Type 0 where
   pub from : (base : ℕ) (symbols slots : Addresses) (i : ℕ) (line : Line) (s : State) (v : Values) → slice_get job.lines i ≡ Some line → WritesOutside job code base i line v → IsPlaced code base symbols slots s.values.mem → IsState s → AreValues v → s.pc ≡ address_of code base (At i) → Same v s.values → Comes job code base (At i) v s
+
+-- Wherever the code is placed, the machine reads at the start of a line of one machine word the operation that stands for it: in two
+-- bytes where the instruction has a form of sixteen bits, and then that form's, else in four.
+pub record HasOperations (job : Job) (code : Code) : Type 0 where
+  pub each : (i : ℕ) (inst : Inst) (d : Decoded) (base : ℕ) (symbols slots : Addresses) (mem : Memory) → slice_get job.lines i ≡ Some (Put inst) → operation_of (context_of job) inst ≡ Some d → IsPlaced code base symbols slots mem → decode job.flags (fetch mem (base + start_of code.lines i)) ≡ Some d

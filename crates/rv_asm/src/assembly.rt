@@ -3,12 +3,11 @@
 ghost use Rattle.std.specs.Prelude.{◌≡◌, ℕ, ◌^◌, ◌<◌, None, IfOk, OnOk};
 ghost use Rattle.rv_base.specs.declared.flags.IsaFlags.{IsaFlags};
 ghost use Rattle.rv_base.specs.Frame.{sp_to_args_end};
-ghost use Rattle.rv_base.specs.Flags.{no_flags};
 ghost use Rattle.rv_listing.specs.CodeRanges.{CodeFits};
 ghost use Rattle.rv_asm.specs.Job.{job_of};
 ghost use Rattle.rv_asm.specs.Refusal.{lines_refusal, refusal, Finds};
 ghost use Rattle.rv_asm.specs.Reported.{Reported};
-ghost use Rattle.rv_asm.specs.Simulation.{RunsAsListed};
+ghost use Rattle.rv_asm.specs.Simulation.{RunsAsListed, HasOperations};
 ghost use Rattle.rv_asm.specs.Reach.{InReach};
 ghost use Rattle.rv_asm.specs.FinishedCode.{IsFinished};
 ghost use Rattle.rv_inst.specs.Context.{context_by};
@@ -23,7 +22,8 @@ use rv_emit::{EmitInfo, EmitState, MachInstEmitState};
 use rv_inst::{Code, EmitError, LabelUse, Line};
 use std::alloc::Global;
 
-/// The code of a listing, which runs as its lines say. Every flag is off.
+/// The code of a listing, which runs as its lines say on a machine with these flags. With `has_zca` an instruction that has a
+/// form of sixteen bits is put in it.
 pub fn assemble(
     alloc: Global,
     lines: &[Line],
@@ -31,9 +31,9 @@ pub fn assemble(
     frame: &FrameLayout,
     constants: &[Constant],
 ) -> Result<Code, EmitError>
-    requires flags { flags ≡ no_flags }
     ensures reported { IfOk result (λ code. Reported (job_of lines.now flags frame.now constants.now) code) }
     ensures runs { IfOk result (λ code. RunsAsListed (job_of lines.now flags frame.now constants.now) code) }
+    ensures operations { IfOk result (λ code. HasOperations (job_of lines.now flags frame.now constants.now) code) }
     ensures reach { IfOk result (λ code. InReach (job_of lines.now flags frame.now constants.now) code) }
     ensures ranges { IfOk result CodeFits }
     ensures refused { Finds (refusal (job_of lines.now flags frame.now constants.now)) result }

@@ -1,21 +1,25 @@
 -- Words and windows that encode operations, wherever their bytes stand.
-use Rattle.std.proofs.Common.{◌≡◌, ℕ, ◌+◌, ◌^◌, ◌<◌, List, [], ◌∷◌, length, slice_index, Some, ℤ, pos, arith, refl, ap, ◌∙◌, lit<}
+use Rattle.std.proofs.Common.{◌≡◌, ℕ, ◌+◌, ◌*◌, ◌%◌, ◌^◌, ◌<◌, true, false, nat_eq, List, [], ◌∷◌, length, slice_index, Some, ℤ, pos, arith, refl, ap, ◌∙◌, lit<}
 use Rattle.std.specs.Option.{option_map}
 use Rattle.rv_base.specs.declared.flags.IsaFlags.{IsaFlags}
 use Rattle.rv_base.specs.LabelUse.{SameOutside}
 use Rattle.rv_machine.specs.declared.decoding.Decoded.{Decoded}
+use Rattle.rv_machine.specs.declared.ops.MOp.TheVariants.{Base}
+use Rattle.rv_machine.specs.declared.ops.BaseOp.TheVariants.{Jal}
+use Rattle.rv_machine.specs.Compressed.{decode_half}
 use Rattle.rv_machine.specs.Decode.{decode}
-use Rattle.rv_machine.specs.Layout.{word_opcode}
+use Rattle.rv_machine.proofs.DecodeLaws.{decode_low}
+use Rattle.rv_machine.specs.Layout.{word_opcode, compressed}
 use Rattle.rv_machine.specs.State.{Memory, byte, wrap}
 use Rattle.rv_machine.specs.Steps.{fetch}
 use Rattle.rv_ops.specs.declared.compare.IntegerCompare.{IntegerCompare}
 use Rattle.rv_encode.specs.Operations.{decoded_branch}
 use Rattle.rv_inst.specs.declared.label_use.LabelUse.{LabelUse}
-use Rattle.rv_inst.specs.declared.label_use.LabelUse.TheVariants.{Jal20, B12}
+use Rattle.rv_inst.specs.declared.label_use.LabelUse.TheVariants.{Jal20, B12, RVCJump}
 use Rattle.rv_inst.specs.LabelUse.{Aims, marks_of}
-use Rattle.rv_inst.specs.LabelUseWords.{word_at, word_bytes, AreBytes}
+use Rattle.rv_inst.specs.LabelUseWords.{word_at, half_at, word_bytes, AreBytes}
 use Rattle.rv_inst.specs.LabelUseBridges.{with_immediate}
-use Rattle.rv_inst.proofs.Bridges.{decode-patched_branch, decode-patched_jump}
+use Rattle.rv_inst.proofs.Bridges.{decode-patched_branch, decode-patched_jump, decode-patched_compressed_jump}
 use Rattle.rv_emit.specs.Operations.{decoded_jump}
 use Rattle.rv_machine.specs.Opcodes.{JAL, BRANCH}
 use Rattle.rv_emit.specs.Sites.{BytesAt}
@@ -79,4 +83,34 @@ branch_patchable flags kind w b = record {
   long = refl;
   fresh = b.fresh;
   patched = one_word B12 BRANCH decode-patched_branch flags w (decoded_branch kind (pos 0)) refl b.fits b.opcode (b.decodes flags);
+}
+
+-- ---- halfwords
+
+-- the two bytes after a halfword
+abbrev pub high_at : Memory → ℕ → ℕ
+high_at mem a = byte mem (wrap (a + 2)) + byte mem (wrap (a + 3)) * 2 ^ 8
+
+-- the word that the machine reads where two bytes stand: they are its low half
+pub fetch_half : (mem : Memory) (a : ℕ) (bytes : List ℕ) → BytesAt mem a bytes → length bytes ≡ 2 → fetch mem a ≡ half_at bytes + high_at mem a * 2 ^ 16
+fetch_half mem a bytes at two =
+    let room = at.room in
+    let a0 : a ≡ a + 0 = omega arith in
+    let a1 : wrap (a + 1) ≡ a + 1 = omega arith in
+    let b0 : byte mem a ≡ slice_index bytes 0 = ap (byte mem) a0 ∙ at.there 0 (omega arith) in
+    let b1 : byte mem (wrap (a + 1)) ≡ slice_index bytes 1 = ap (byte mem) a1 ∙ at.there 1 (omega arith) in
+    omega arith
+
+-- two bytes encode the operation that their halfword decodes to
+pub half_encodes : (flags : IsaFlags) (bytes : List ℕ) (d : Decoded) → length bytes ≡ 2 → half_at bytes < 2 ^ 16 → nat_eq (half_at bytes % 4) 3 ≡ false → decode_half flags (half_at bytes) ≡ Some d → Encodes flags bytes (d ∷ [])
+half_encodes flags bytes d two fits narrow e = λ mem a at. (ap (decode flags) (fetch_half mem a bytes at two) ∙ decode_low flags (half_at bytes) (high_at mem a) fits narrow ∙ e, tt)
+
+-- the window of a c.j
+pub half_jump_patchable : (flags : IsaFlags) → flags.has_zca ≡ true → IsPatchable flags RVCJump (0x01 ∷ 0xa0 ∷ []) (λ d. compressed (Base Jal) 0 0 0 d ∷ [])
+half_jump_patchable flags on = record {
+  long = refl;
+  fresh = (refl, (refl, tt));
+  patched = λ new d long all kept aims.
+      let jumps = decode-patched_compressed_jump flags new d on (record { first = all 0 (omega arith); second = all 1 (omega arith) }) kept aims in
+      half_encodes flags new (compressed (Base Jal) 0 0 0 d) long jumps.fits jumps.narrow jumps.decodes;
 }

@@ -4,7 +4,9 @@ use Rattle.rv_base.specs.declared.label.MachLabel.{MachLabel}
 use Rattle.rv_machine.specs.State.{State, IsState, Values, wrap}
 use Rattle.rv_inst.specs.Meaning.{Exit, Next, To, Break}
 use Rattle.rv_inst.specs.SameValues.{Same, SameBut}
-use Rattle.rv_emit.specs.Operations.{decoded_ebreak}
+use Rattle.rv_machine.specs.declared.decoding.Decoded.{Decoded}
+use Rattle.rv_machine.specs.declared.ops.MOp.TheVariants.{Base}
+use Rattle.rv_machine.specs.declared.ops.BaseOp.TheVariants.{Ebreak}
 use Rattle.rv_emit.specs.Slots.{Slot, Part, size_of}
 use Rattle.rv_emit.specs.Sites.{Site, IsPlacedAt, CodeHas, GapIn, Leads}
 use Rattle.rv_emit.specs.InstParts.{slots_alone}
@@ -78,6 +80,6 @@ gap_out from gap pc b =
     let c = led_on gap.leads b.placed pc b.is_state in
     comes_out c.state (comes_goes c) c.pc (led_beside b c.same c.is_state c.kept)
 
--- the machine stays where ebreak stands
-pub break_out : {site : Site} {start after size : ℕ} {free : List ℕ} {v : Values} {s : State} → IsAt site start size s → 0 < size → CodeHas site start (decoded_ebreak ∷ []) → IsBeside site free v s → ComesOut site start after Break free v s
-break_out {site} {start} {after} {size} {free} {v} {s} h some has b = comes_out s (goes_none site.context.flags s) (h.pc, decodes_at decoded_ebreak [] h some has) b
+-- the machine stays where an ebreak stands
+pub break_out : {site : Site} {start after size : ℕ} {free : List ℕ} {v : Values} {s : State} (d : Decoded) → d.op ≡ Base Ebreak → IsAt site start size s → 0 < size → CodeHas site start (d ∷ []) → IsBeside site free v s → ComesOut site start after Break free v s
+break_out {site} {start} {after} {size} {free} {v} {s} d is h some has b = comes_out s (goes_none site.context.flags s) (h.pc, record { d = d; there = decodes_at d [] h some has; is = is }) b

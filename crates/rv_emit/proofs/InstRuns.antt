@@ -1,5 +1,5 @@
 -- Every instruction that breaks no rule runs as it means.
-use Rattle.std.proofs.Common.{◌≡◌, ℕ, [], ◌∷◌, None, subst, lit<}
+use Rattle.std.proofs.Common.{◌≡◌, ℕ, [], ◌∷◌, None, subst, arith}
 use Rattle.rv_inst.specs.declared.inst.Inst.{Inst}
 use Rattle.rv_inst.specs.declared.inst.Inst.TheVariants.{Nop0, Nop4, EBreak, SequencePoint, Args, Rets, DummyUse, EmitIsland, RawData, Lui, Auipc, LoadInlineConst, AluRRR, AluRRImm12, Mov, MovFromPReg, Load, Store, LoadAddr, LabelAddress, Ret, TrapIf, Jal, CondBr, Udf, Jalr, Popcnt}
 use Rattle.rv_base.specs.declared.ir_type.IrType.{IrType}
@@ -7,7 +7,8 @@ use Rattle.rv_base.specs.declared.regs.Reg.{Reg}
 use Rattle.rv_base.specs.declared.regs.Writable.{Writable}
 use Rattle.rv_inst.specs.Rules.{inst_rule}
 use Rattle.rv_emit.specs.declared.state.EmitVState.{EmitVState}
-use Rattle.rv_emit.specs.Operations.{decoded_ebreak}
+use Rattle.rv_inst.specs.Forms.{short_ebreak}
+use Rattle.rv_emit.proofs.ShortOps.{ebreak_sized, ebreak_breaks}
 use Rattle.rv_emit.specs.Slots.{Op}
 use Rattle.rv_emit.specs.Sites.{Site, GapIn}
 use Rattle.rv_emit.specs.InstRuns.{RunsIn}
@@ -24,7 +25,7 @@ use Rattle.rv_emit.proofs.PopcntRules.{is_count}
 
 ebreak_runs : (site : Site) (setting : EmitVState) → RunsIn site setting EBreak
 ebreak_runs site setting = record {
-  run = λ start after s v e clear. break_out (starts_at (Op decoded_ebreak ∷ []) e) (lit< tt) e.stands.1.0 (starts_beside [] e);
+  run = λ start after s v e clear. break_out (short_ebreak site.context.flags) (ebreak_breaks site.context.flags) (starts_at (Op (short_ebreak site.context.flags) ∷ []) e) (let some = (ebreak_sized site.context.flags).some in omega arith) e.stands.1.0 (starts_beside [] e);
 }
 
 island_runs : (site : Site) (setting : EmitVState) (needed_space : ℕ) → RunsIn site setting (EmitIsland needed_space)

@@ -1,5 +1,5 @@
 -- The instructions that trap, and data, which is never entered.
-use Rattle.std.proofs.Common.{◌≡◌, ℕ, ◌+◌, ◌<◌, ◌≤◌, Bool, true, false, not, pos, List, [], ◌∷◌, None, Some, arith, refl, ap, sym, ◌∙◌}
+use Rattle.std.proofs.Common.{◌≡◌, ℕ, ◌+◌, ◌%◌, ◌^◌, ◌<◌, ◌≤◌, ℤ, Bool, true, false, not, pos, List, [], ◌∷◌, length, None, Some, arith, refl, ap, sym, ◌∙◌, lit<}
 use Rattle.std.specs.Prelude.{if◌then◌else◌, nat_eq, nat_lt}
 use Rattle.rv_base.specs.declared.condcodes.IntCC.{IntCC}
 use Rattle.rv_base.specs.declared.condcodes.IntCC.TheVariants.{Equal, NotEqual, SignedLessThan, SignedGreaterThanOrEqual, SignedGreaterThan, SignedLessThanOrEqual, UnsignedLessThan, UnsignedGreaterThanOrEqual, UnsignedGreaterThan, UnsignedLessThanOrEqual}
@@ -11,43 +11,62 @@ use Rattle.rv_ops.specs.declared.compare.IntegerCompare.{IntegerCompare}
 use Rattle.rv_inst.specs.declared.inst.Inst.TheVariants.{RawData, TrapIf, Udf}
 use Rattle.rv_inst.specs.Meaning.{Next, Trap}
 use Rattle.rv_machine.specs.Decode.{decode}
-use Rattle.rv_machine.specs.State.{State, Values, reg, wrap, low64, at}
+use Rattle.rv_machine.proofs.DecodeLaws.{decode_zero}
+use Rattle.rv_machine.specs.State.{Memory, State, Values, byte, reg, wrap, low64, at}
 use Rattle.rv_machine.specs.Steps.{fetch}
 use Rattle.rv_encode.specs.Operations.{decoded_branch}
 use Rattle.rv_emit.specs.declared.state.EmitVState.{EmitVState}
 use Rattle.rv_emit.specs.Usable.{IsUsable}
-use Rattle.rv_emit.specs.Slots.{Op, Slot}
+use Rattle.rv_emit.specs.Slots.{Slot, size_of}
 use Rattle.rv_emit.specs.Sites.{Site, BytesAt}
 use Rattle.rv_inst.specs.Traps.{IsRecorded}
-use Rattle.rv_emit.specs.InstParts.{slots_alone, trap_slots, complement}
+use Rattle.rv_emit.specs.InstParts.{slots_alone, trap_bytes, trap_slots, complement, branch_over}
+use Rattle.rv_inst.specs.Sizes.{trap_size}
 use Rattle.rv_emit.specs.InstRuns.{Enters, ComesOut, RunsIn}
 use Rattle.rv_emit.specs.Chains.{Goes, IsAt, IsBeside}
 use Rattle.rv_emit.proofs.Chains.{goes_none}
 use Rattle.rv_emit.proofs.CodeSteps.{pc_in_code, step_at, at_next}
-use Rattle.rv_emit.proofs.Encoded.{fetch_at}
 use Rattle.rv_emit.proofs.Exits.{starts_beside, starts_at, comes_out, goes_out}
 use Rattle.rv_emit.proofs.InstJumps.{compares, compares_same, moved_beside}
 use Rattle.rv_emit.proofs.OperationActs.{branch_acts}
 
--- ---- a word that is no operation
+-- ---- zero bytes, which are no operation
 
-zero_decodes : (flags : IsaFlags) → decode flags 0 ≡ None
-unfolding decode
-zero_decodes flags = refl
+-- the low half of the word that the machine reads at them
+zero_half : (flags : IsaFlags) (mem : Memory) (a : ℕ) → BytesAt mem a (trap_bytes flags) → fetch mem a % 2 ^ 16 ≡ 0
+zero_half flags mem a = by flags.has_zca
+  where
+    both : byte mem (a + 0) ≡ 0 → byte mem (a + 1) ≡ 0 → a + 2 ≤ 2 ^ 64 → fetch mem a % 2 ^ 16 ≡ 0
+    both first second room =
+        let a0 : a ≡ a + 0 = omega arith in
+        let a1 : wrap (a + 1) ≡ a + 1 = omega arith in
+        let b0 : byte mem a ≡ 0 = ap (byte mem) a0 ∙ first in
+        let b1 : byte mem (wrap (a + 1)) ≡ 0 = ap (byte mem) a1 ∙ second in
+        omega arith
 
-no_operation : {site : Site} {offset size : ℕ} {s : State} → IsAt site offset size s → 0 < size → BytesAt s.values.mem (site.base + offset) (0 ∷ 0 ∷ 0 ∷ 0 ∷ []) → decode site.context.flags (fetch s.values.mem s.pc) ≡ None
+    by : (c : Bool) → BytesAt mem a (if c then 0 ∷ 0 ∷ [] else 0 ∷ 0 ∷ 0 ∷ 0 ∷ []) → fetch mem a % 2 ^ 16 ≡ 0
+    by true bytes = both (bytes.there 0 (lit< tt)) (bytes.there 1 (lit< tt)) bytes.room
+    by false bytes = both (bytes.there 0 (lit< tt)) (bytes.there 1 (lit< tt)) (let room = bytes.room in omega arith)
+
+no_operation : {site : Site} {offset size : ℕ} {s : State} → IsAt site offset size s → 0 < size → BytesAt s.values.mem (site.base + offset) (trap_bytes site.context.flags) → decode site.context.flags (fetch s.values.mem s.pc) ≡ None
 no_operation {site} {offset} {size} {s} h some bytes =
     ap (λ a. decode site.context.flags (fetch s.values.mem a)) (pc_in_code h some)
-    ∙ ap (decode site.context.flags) (fetch_at s.values.mem (site.base + offset) (0 ∷ 0 ∷ 0 ∷ 0 ∷ []) bytes refl)
-    ∙ zero_decodes site.context.flags
+    ∙ decode_zero site.context.flags (fetch s.values.mem (site.base + offset)) (zero_half site.context.flags s.values.mem (site.base + offset) bytes)
+
+trap_some : (flags : IsaFlags) → 0 < length (trap_bytes flags)
+trap_some flags = by flags.has_zca
+  where
+    by : (c : Bool) → 0 < length {A = ℕ} (if c then 0 ∷ 0 ∷ [] else 0 ∷ 0 ∷ 0 ∷ 0 ∷ [])
+    by true = lit< tt
+    by false = lit< tt
 
 -- the machine stays where the word of a recorded trap stands
-trap_out : {site : Site} {start after offset size : ℕ} {free : List ℕ} {v : Values} {s : State} (code : TrapCode) → IsAt site offset size s → 0 < size → IsRecorded site.traps offset code → BytesAt s.values.mem (site.base + offset) (0 ∷ 0 ∷ 0 ∷ 0 ∷ []) → start ≤ offset → offset < after → IsBeside site free v s → ComesOut site start after (Trap code) free v s
+trap_out : {site : Site} {start after offset size : ℕ} {free : List ℕ} {v : Values} {s : State} (code : TrapCode) → IsAt site offset size s → 0 < size → IsRecorded site.traps offset code → BytesAt s.values.mem (site.base + offset) (trap_bytes site.context.flags) → start ≤ offset → offset < after → IsBeside site free v s → ComesOut site start after (Trap code) free v s
 trap_out {site} {start} {after} {offset} {size} {free} {v} {s} code h some recorded bytes le lt b = comes_out s (goes_none site.context.flags s) (offset, recorded, le, lt, h.pc, no_operation h some bytes) b
 
 pub udf_runs : (site : Site) (setting : EmitVState) (code : TrapCode) → RunsIn site setting (Udf code)
 udf_runs site setting code = record {
-  run = λ start after s v e clear. let ends = e.stands.2 in trap_out code (starts_at (trap_slots code) e) (omega arith) e.stands.1.0 (e.stands.1.1.0 s.values.mem e.placed) (omega arith) (omega arith) (starts_beside [] e);
+  run = λ start after s v e clear. let ends = e.stands.2 in let some = trap_some site.context.flags in trap_out code (starts_at (trap_slots site.context.flags code) e) (omega arith) e.stands.1.0 (e.stands.1.1.0 s.values.mem e.placed) (omega arith) (omega arith) (starts_beside [] e);
 }
 
 pub raw_data_runs : (site : Site) (setting : EmitVState) (bytes : List ℕ) → RunsIn site setting (RawData bytes)
@@ -73,27 +92,40 @@ complement_holds UnsignedGreaterThanOrEqual x y = sym (not_not (nat_lt x y))
 complement_holds UnsignedGreaterThan x y = refl
 complement_holds UnsignedLessThanOrEqual x y = sym (not_not (nat_lt y x))
 
-abbrev trap_if_slots : IntegerCompare → TrapCode → List Slot
-trap_if_slots cmp code = Op (decoded_branch (complement cmp) (pos 8)) ∷ trap_slots code
+abbrev trap_if_slots : IsaFlags → IntegerCompare → TrapCode → List Slot
+trap_if_slots flags cmp code = branch_over flags cmp ∷ trap_slots flags code
+
+-- how far the branch goes
+abbrev over : IsaFlags → ℤ
+over flags = pos (4 + trap_size flags)
+
+over_trap : (flags : IsaFlags) → low64 (over flags) ≡ 4 + length (trap_bytes flags)
+over_trap flags = by flags.has_zca
+  where
+    by : (c : Bool) → low64 (pos (4 + (if c then 2 else 4))) ≡ 4 + length {A = ℕ} (if c then 0 ∷ 0 ∷ [] else 0 ∷ 0 ∷ 0 ∷ 0 ∷ [])
+    by true = refl
+    by false = refl
 
 -- the branch over the trap, by whether the comparison holds
-over_goes : {site : Site} {start after : ℕ} {s : State} {v : Values} (cmp : IntegerCompare) (code : TrapCode) (c : Bool) → compares cmp v ≡ c → IsUsable cmp.rs1 → IsUsable cmp.rs2 → Enters site start after (slots_alone (trap_if_slots cmp code)) s v → Goes site.context.flags 1 s (at (if not c then wrap (s.pc + low64 (pos 8)) else wrap (s.pc + 4)) s.values)
+over_goes : {site : Site} {start after : ℕ} {s : State} {v : Values} (cmp : IntegerCompare) (code : TrapCode) (c : Bool) → compares cmp v ≡ c → IsUsable cmp.rs1 → IsUsable cmp.rs2 → Enters site start after (slots_alone (trap_if_slots site.context.flags cmp code)) s v → Goes site.context.flags 1 s (at (if not c then wrap (s.pc + low64 (over site.context.flags)) else wrap (s.pc + 4)) s.values)
 over_goes {site} {start} {after} {s} {v} cmp code c test h1 h2 e =
+    let d = over site.context.flags in
     let x = reg s.values (number_of cmp.rs1) in
     let y = reg s.values (number_of cmp.rs2) in
     let held : holds (complement_of cmp.kind) x y ≡ not c = complement_holds cmp.kind x y ∙ ap not (sym (compares_same cmp v s.values h1 h2 e.same) ∙ test) in
-    step_at (decoded_branch (complement cmp) (pos 8)) [] (at (if not c then wrap (s.pc + low64 (pos 8)) else wrap (s.pc + 4)) s.values) (starts_at (trap_if_slots cmp code) e) (omega arith) e.stands.1.0
-    (branch_acts (complement cmp) (pos 8) s ∙ (λ i. Some (at (if held i then wrap (s.pc + low64 (pos 8)) else wrap (s.pc + 4)) s.values)))
+    step_at (decoded_branch (complement cmp) d) [] (at (if not c then wrap (s.pc + low64 d) else wrap (s.pc + 4)) s.values) (starts_at (trap_if_slots site.context.flags cmp code) e) (omega arith) e.stands.1.0
+    (branch_acts (complement cmp) d s ∙ (λ i. Some (at (if held i then wrap (s.pc + low64 d) else wrap (s.pc + 4)) s.values)))
 
-trap_if_out : {site : Site} {start after : ℕ} {s : State} {v : Values} (cmp : IntegerCompare) (code : TrapCode) (c : Bool) → compares cmp v ≡ c → IsUsable cmp.rs1 → IsUsable cmp.rs2 → Enters site start after (slots_alone (trap_if_slots cmp code)) s v → ComesOut site start after (if c then Trap code else Next) [] v s
+trap_if_out : {site : Site} {start after : ℕ} {s : State} {v : Values} (cmp : IntegerCompare) (code : TrapCode) (c : Bool) → compares cmp v ≡ c → IsUsable cmp.rs1 → IsUsable cmp.rs2 → Enters site start after (slots_alone (trap_if_slots site.context.flags cmp code)) s v → ComesOut site start after (if c then Trap code else Next) [] v s
 trap_if_out {site} {start} {after} {s} {v} cmp code true test h1 h2 e =
     let pc = wrap (s.pc + 4) in
     let ends = e.stands.2 in
+    let some = trap_some site.context.flags in
     goes_out (over_goes cmp code true test h1 h2 e)
-    (trap_out {offset = start + 4} {size = 4} code (at_next 4 (at pc s.values) (starts_at (trap_if_slots cmp code) e) refl refl e.placed) (omega arith) e.stands.1.1.0 (e.stands.1.1.1.0 s.values.mem e.placed) (omega arith) (omega arith) (moved_beside pc (omega arith) (starts_beside [] e)))
+    (trap_out {offset = start + 4} {size = size_of (trap_slots site.context.flags code)} code (at_next 4 (at pc s.values) (starts_at (trap_if_slots site.context.flags cmp code) e) refl refl e.placed) (omega arith) e.stands.1.1.0 (e.stands.1.1.1.0 s.values.mem e.placed) (omega arith) (omega arith) (moved_beside pc (omega arith) (starts_beside [] e)))
 trap_if_out {site} {start} {after} {s} {v} cmp code false test h1 h2 e =
-    let pc = wrap (s.pc + low64 (pos 8)) in
-    let eight : low64 (pos 8) ≡ 8 = refl in
+    let pc = wrap (s.pc + low64 (over site.context.flags)) in
+    let far = over_trap site.context.flags in
     let here = e.pc in
     let ends = e.stands.2 in
     goes_out (over_goes cmp code false test h1 h2 e)

@@ -21,7 +21,7 @@ use Rattle.mach_buffer.specs.Growth.{Lasts}
 use Rattle.mach_buffer.specs.Windows.{window}
 use Rattle.mach_buffer.specs.Pieces.{ByVeneer, UseFinished}
 use Rattle.mach_buffer.proofs.Laws.{lasts_more}
-use Rattle.rv_emit.specs.InstParts.{jump_to}
+use Rattle.rv_emit.specs.InstParts.{wide_jump_to}
 use Rattle.rv_emit.specs.Operations.{decoded_jump}
 use Rattle.rv_emit.specs.Slots.{Label, between}
 use Rattle.rv_emit.specs.Sites.{Site, BytesAt, CodeHas}
@@ -112,7 +112,7 @@ module _ (context : Context) (f : Shape LabelUse) (bytes : List ℕ) (fin : IsFi
       lasts = lasts_more (puts_last context.flags old.allocated [] mid i.jump.new i.jump.puts.2) i.jump.lasts
 
       room : length old.bytes + 4 ≤ length bytes
-      room = let l = slot_bytes context.flags old.allocated (jump_to (Label i.after_island)) old mid i.jump.puts.1 in let w = within site f fin refl refl mid lasts in omega arith
+      room = let l = slot_bytes context.flags old.allocated (wide_jump_to (Label i.after_island)) old mid i.jump.puts.1 in let w = within site f fin refl refl mid lasts in omega arith
 
       x : UseFinished label_kinds old f fin.finishes.put.place bytes i.jump.puts.1.0 u
       x = aim_finished site f fin refl refl old.allocated Jal20 (Label i.after_island) (λ d. decoded_jump d ∷ []) old mid i.jump.puts.1 lasts

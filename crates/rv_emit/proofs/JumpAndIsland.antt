@@ -19,10 +19,11 @@ use Rattle.mach_buffer.specs.Growth.{Grows}
 use Rattle.rv_base.specs.declared.flags.IsaFlags.{IsaFlags}
 use Rattle.rv_emit.specs.Slots.{Label}
 use Rattle.rv_emit.specs.Puts.{Puts}
-use Rattle.rv_emit.specs.InstParts.{jump_to}
+use Rattle.rv_emit.specs.InstParts.{wide_jump_to}
 use Rattle.mach_buffer.proofs.Laws.{island_rest, island_reserve, lasts_more, lasts_allocated, lasts_island, stands_last, windows_with_use}
 use Rattle.rv_emit.specs.Emitted.{Buffer, IsSoundBuffer, HasWindows, pending, AppendsCode, AppendsIsland}
 use Rattle.rv_inst.specs.Uses.{use_at}
+use Rattle.rv_emit.proofs.ConstantsAdded.{adds_both, adds_none, adds_island}
 use Rattle.rv_emit.proofs.Islands.{JumpPut, others_pending, same_reserve}
 use Rattle.rv_emit.proofs.PutsLast.{puts_last, puts_named, puts_constants}
 use Rattle.rv_base.specs.Flags.{no_flags}
@@ -65,7 +66,7 @@ end_whole ends start count last = whole (ends (first_of ends start count last + 
 -- a jump was put, and the island after it
 pub puts_island : (old allocated mid new : Buffer) (after_island : MachLabel) → JumpPut old mid after_island → labels_of allocated ≡ labels_of old → IsSoundBuffer allocated → bytes_of allocated ≡ bytes_of old → (HasWindows old → HasWindows allocated) →
     AppendsCode (word_bytes 0x6f) (use_at (length (bytes_of allocated)) after_island Jal20 ∷ []) allocated mid →
-    Islanded label_kinds after_island (shape_of mid) (shape_of new) → Grows (bytes_of mid) (uses_of mid) (place_of mid) (bytes_of new) (uses_of new) (place_of new) → AddsOwn label_kinds (length (bytes_of mid)) (uses_of mid) (uses_of new) → (HasWindows mid → HasWindows new) → (HasWindows mid → AllStand label_kinds (shape_of mid) → AllStand label_kinds (shape_of new)) → IsSoundBuffer new → ((flags : IsaFlags) → Puts flags (allocated_of old + 1) (jump_to (Label after_island) ∷ []) (with_allocated (shape_of old)) (shape_of mid)) → CanIsland label_kinds (shape_of mid) after_island → traps_of mid ≡ traps_of old → AppendsIsland old new
+    Islanded label_kinds after_island (shape_of mid) (shape_of new) → Grows (bytes_of mid) (uses_of mid) (place_of mid) (bytes_of new) (uses_of new) (place_of new) → AddsOwn label_kinds (length (bytes_of mid)) (uses_of mid) (uses_of new) → (HasWindows mid → HasWindows new) → (HasWindows mid → AllStand label_kinds (shape_of mid) → AllStand label_kinds (shape_of new)) → IsSoundBuffer new → ((flags : IsaFlags) → Puts flags (allocated_of old + 1) (wide_jump_to (Label after_island) ∷ []) (with_allocated (shape_of old)) (shape_of mid)) → CanIsland label_kinds (shape_of mid) after_island → traps_of mid ≡ traps_of old → AppendsIsland old new
 puts_island old allocated mid new after_island p labels sound same_bytes windows a i grows own kept stand now puts can traps =
     let rest = island_rest p.sound.ordered i in
     let long : length (bytes_of mid) ≡ length (bytes_of old) + 4 = ap (length {A = ℕ}) p.bytes ∙ length-append (bytes_of old) (word_bytes 0x6f) in
@@ -80,7 +81,7 @@ puts_island old allocated mid new after_island p labels sound same_bytes windows
     let reserve = same_reserve p in
     let ahead = grows.longer in
     -- what the jump leaves as it was
-    let jump = jump_to (Label after_island) ∷ [] in
+    let jump = wide_jump_to (Label after_island) ∷ [] in
     let before = lasts_more (lasts_allocated label_kinds (shape_of old)) (puts_last no_flags (allocated_of old + 1) jump (with_allocated (shape_of old)) (shape_of mid) (puts no_flags)) in
     let named = puts_named no_flags (allocated_of old + 1) jump (with_allocated (shape_of old)) (shape_of mid) (puts no_flags) in
     let constants = puts_constants no_flags (allocated_of old + 1) jump (with_allocated (shape_of old)) (shape_of mid) (puts no_flags) in
@@ -103,6 +104,7 @@ puts_island old allocated mid new after_island p labels sound same_bytes windows
       settled = i.settled;
       aligned = ap (λ n. n % 4) end ∙ end_whole (end_after (shape_of mid)) (aligned (length (bytes_of mid))) count last;
       short = omega (arith, long, near, counted, reserve);
+      adds = adds_both (adds_none (omega (arith, long)) constants p.registered) (adds_island label_kinds after_island (shape_of mid) (shape_of new) i);
       windows = λ w. kept (jump_windows allocated mid after_island sound a (windows w));
       constants = λ w all. stand (jump_windows allocated mid after_island sound a (windows w)) (stands_last before constants all);
       sound = now;

@@ -12,6 +12,8 @@ pub use Rattle.rv_emit.proofs.InstRuns.{inst_runs}
 -- a buffer into which slots were put, and parts
 pub use Rattle.rv_emit.proofs.PutsLast.{puts_last, puts_bytes, puts_uses, puts_named, puts_constants, puts_ends}
 pub use Rattle.rv_emit.proofs.PartsPut.{gap_last, parts_last, GapPut, gap_put, PartsPut, parts_put}
+-- constants that come to stand; and an element of a list with one more
+pub use Rattle.rv_emit.proofs.ConstantsAdded.{adds_both, adds_none, adds_end, before_or_last}
 -- an instruction's parts are blocks; and what one without labels of its own adds
 pub use Rattle.rv_emit.proofs.InstSlots.{are_blocks, appends_inst}
 -- what was put into a buffer, in the finished code

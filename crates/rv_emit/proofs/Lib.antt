@@ -1,5 +1,7 @@
+mod Chosen
 mod Chains
 mod CodeSteps
+mod ConstantsAdded
 mod Distances
 mod Encoded
 mod Exits
@@ -20,7 +22,8 @@ mod OwnLabels
 mod PartsPut
 mod PlacedBytes
 mod PlainSlots
-mod PopcntPut
+mod ShortOps
+mod HalvesPut
 mod PopcntRules
 mod PopcntRuns
 mod PutsLast
@@ -40,6 +43,7 @@ mod AddressRuns
 mod InstMemory
 mod AddressOperands
 mod FineOperands
+mod FormActs
 mod InstSlots
 mod MemorySlots
 mod PartsPatched

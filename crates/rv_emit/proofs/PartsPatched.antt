@@ -65,7 +65,7 @@ upper_patchable flags w rd fits h = record {
   long = refl;
   fresh = let e = h.imm_is in upper_fresh w (omega arith);
   patched = λ new d long all same aims. let k = upper_in w rd new h long all same in
-      encodes flags new _ long (opcode_decodes flags (word_at new) AUIPC k.opcode_is ∙ (λ i. Some (row (Base base.Auipc) (k.rd_is i) 0 0 (signed (2 ^ 19) (aims i)))));
+      encodes flags new _ long (opcode_decodes flags (word_at new) AUIPC k.opcode_is refl ∙ (λ i. Some (row (Base base.Auipc) (k.rd_is i) 0 0 (signed (2 ^ 19) (aims i)))));
 }
 
 -- ---- the lower part
@@ -96,7 +96,7 @@ addi_patchable flags w rd rs fits h = record {
   long = refl;
   fresh = let e = h.imm_is in lower_fresh w (omega arith);
   patched = λ new d long all same aims. let k = lower_in w OP_IMM rd 0 rs new h long all same in
-      encodes flags new _ long (opcode_decodes flags (word_at new) OP_IMM k.opcode_is ∙ addi_decodes (word_at new) k.funct3_is ∙ (λ i. Some (decoded_addi (k.rd_is i) (k.rs1_is i) (signed (2 ^ 11) (aims i)))));
+      encodes flags new _ long (opcode_decodes flags (word_at new) OP_IMM k.opcode_is refl ∙ addi_decodes (word_at new) k.funct3_is ∙ (λ i. Some (decoded_addi (k.rd_is i) (k.rs1_is i) (signed (2 ^ 11) (aims i)))));
 }
 
 pub load_patchable : (flags : IsaFlags) (op : LoadOP) (w rd rs : ℕ) → w < 2 ^ 32 → IsIType w LOAD rd (load_funct3 op) rs 0 → IsPatchable flags PCRelLo12I (word_bytes w) (λ d. decoded_load op rd rs (lower_of_distance d) ∷ [])
@@ -104,7 +104,7 @@ load_patchable flags op w rd rs fits h = record {
   long = refl;
   fresh = let e = h.imm_is in lower_fresh w (omega arith);
   patched = λ new d long all same aims. let k = lower_in w LOAD rd (load_funct3 op) rs new h long all same in
-      encodes flags new _ long (opcode_decodes flags (word_at new) LOAD k.opcode_is
+      encodes flags new _ long (opcode_decodes flags (word_at new) LOAD k.opcode_is refl
       ∙ (λ i. option_map (λ x. row (Load x) (k.rd_is i) (k.rs1_is i) 0 (signed (2 ^ 11) (aims i))) (load_entry (k.funct3_is i)))
       ∙ ap (option_map (λ x. row (Load x) rd rs 0 (lower_of_distance d))) (load_table op));
 }

@@ -3,7 +3,7 @@ use Rattle.std.proofs.Common.{◌≡◌, ◌⊎◌, inl, inr, ℕ, ◌+◌, ◌%
 use Rattle.std.proofs.lemmas.List.{length-append}
 use Rattle.rv_base.specs.declared.flags.IsaFlags.{IsaFlags}
 use Rattle.rv_inst.specs.declared.label_use.LabelUse.{LabelUse}
-use Rattle.rv_inst.specs.declared.label_use.LabelUse.TheVariants.{Jal20, PCRel32, B12, PCRelHi20, PCRelLo12I}
+use Rattle.rv_inst.specs.declared.label_use.LabelUse.TheVariants.{Jal20, PCRel32, B12, PCRelHi20, PCRelLo12I, RVCJump}
 use Rattle.rv_inst.specs.LabelUse.{label_kinds, marks_of}
 use Rattle.rv_inst.specs.Uses.{use_at}
 use Rattle.mach_buffer.specs.declared.uses.Use.{Use}
@@ -17,10 +17,12 @@ use Rattle.mach_buffer.proofs.Laws.{append_each, slice_get-append, take_front, w
 use Rattle.std.specs.Prelude.{Option}
 use Rattle.rv_emit.specs.Slots.{Slot, slot_size, Op, Aim, Data, Traps, Names, Allocate, Here, Part, Ask, Slots, Label, label_of, AreClosed, AreBlocks}
 use Rattle.rv_emit.specs.Puts.{PutsSlot, Puts}
-use Rattle.rv_emit.specs.InstParts.{jump_to}
+use Rattle.rv_emit.specs.InstParts.{wide_jump_to}
 use Rattle.rv_emit.specs.Emitted.{Buffer, IsSoundBuffer, HasWindows, AppendsIsland, IslandIfNeeded}
 use Rattle.rv_emit.specs.Emission.{PutsParts}
 use Rattle.rv_emit.specs.Standing.{SlotsIn, IslandIn, GapStandsIn, PartsIn}
+use Rattle.rv_emit.specs.ConstantsAdded.{AddsConstants}
+use Rattle.rv_emit.proofs.ConstantsAdded.{adds_both, adds_none, adds_same}
 use Rattle.rv_emit.proofs.PutsLast.{slot_bytes, puts_last, puts_bytes, puts_constants}
 
 -- ---- what stands stays
@@ -77,6 +79,7 @@ even_marks PCRel32 = refl
 even_marks B12 = refl
 even_marks PCRelHi20 = refl
 even_marks PCRelLo12I = refl
+even_marks RVCJump = refl
 
 slot_well : (flags : IsaFlags) (allocated : ℕ) (slot : Slot) (s t : Shape LabelUse) → length s.bytes % 2 ≡ 0 → PutsSlot flags allocated slot s t → StandWell s → StandWell t
 slot_well flags allocated (Op d) s t even (bytes, long, encodes, e) w = subst StandWell (sym e) (record { windows = windows_with_bytes s w.windows bytes; linked = linked_bytes s.bytes bytes s.uses w.linked })
@@ -117,6 +120,7 @@ pub record GapPut (flags : IsaFlags) (old new : Buffer) : Type 0 where
   pub gap : GapStandsIn flags (shape_of new) (length (bytes_of old)) (length (bytes_of new))
   pub windows : HasWindows new
   pub constants : AllStand label_kinds (shape_of old) → AllStand label_kinds (shape_of new)
+  pub adds : AddsConstants (shape_of old) (shape_of new)
   pub lasts : Lasts label_kinds (shape_of old) (shape_of new)
   pub sound : IsSoundBuffer new
 
@@ -129,7 +133,7 @@ island_in flags old new w p = record {
     puts = p.puts flags;
     windows = w;
     starts = refl;
-    ends = sym (puts_bytes flags (allocated_of old + 1) (jump_to (Label p.after_island) ∷ []) (with_allocated (shape_of old)) p.jumped (p.puts flags));
+    ends = sym (puts_bytes flags (allocated_of old + 1) (wide_jump_to (Label p.after_island) ∷ []) (with_allocated (shape_of old)) p.jumped (p.puts flags));
     lasts = p.lasts;
   };
   bound = p.bound;
@@ -140,12 +144,13 @@ pub gap_put : (flags : IsaFlags) (distance : ℕ) (old new : Buffer) (made : Boo
 gap_put flags distance old new made s w r = on r.put
   where
     on : ((made ≡ false) × (new ≡ old)) ⊎ ((made ≡ true) × AppendsIsland old new) → GapPut flags old new
-    on (inl (e, same)) = subst (GapPut flags old) (sym same) (record { gap = inl refl; windows = w; constants = λ all. all; lasts = lasts_same label_kinds (shape_of old); sound = s })
+    on (inl (e, same)) = subst (GapPut flags old) (sym same) (record { gap = inl refl; windows = w; constants = λ all. all; adds = adds_same (shape_of old); lasts = lasts_same label_kinds (shape_of old); sound = s })
     on (inr (e, p)) = record {
       gap = inr (island_in flags old new w p);
       windows = p.windows w;
       constants = λ all. p.constants w all;
-      lasts = lasts_more (lasts_allocated label_kinds (shape_of old)) (lasts_more (puts_last flags (allocated_of old + 1) (jump_to (Label p.after_island) ∷ []) (with_allocated (shape_of old)) p.jumped (p.puts flags)) p.lasts);
+      adds = p.adds;
+      lasts = lasts_more (lasts_allocated label_kinds (shape_of old)) (lasts_more (puts_last flags (allocated_of old + 1) (wide_jump_to (Label p.after_island) ∷ []) (with_allocated (shape_of old)) p.jumped (p.puts flags)) p.lasts);
       sound = p.sound;
     }
 
@@ -156,15 +161,16 @@ pub record PartsPut (flags : IsaFlags) (parts : List Part) (old new : Buffer) : 
   pub stand : PartsIn flags parts (shape_of new) (length (bytes_of old)) (length (bytes_of new))
   pub windows : HasWindows new
   pub constants : AllStand label_kinds (shape_of old) → AllStand label_kinds (shape_of new)
+  pub adds : AddsConstants (shape_of old) (shape_of new)
   pub lasts : Lasts label_kinds (shape_of old) (shape_of new)
   pub sound : IsSoundBuffer new
 
 pub parts_put : (flags : IsaFlags) (parts : List Part) (old new : Buffer) → AreBlocks parts → IsSoundBuffer old → HasWindows old → PutsParts flags parts old new → PartsPut flags parts old new
-parts_put flags [] old new blocks s w p = subst (PartsPut flags [] old) (sym p) (record { stand = refl; windows = w; constants = λ all. all; lasts = lasts_same label_kinds (shape_of old); sound = s })
+parts_put flags [] old new blocks s w p = subst (PartsPut flags [] old) (sym p) (record { stand = refl; windows = w; constants = λ all. all; adds = adds_same (shape_of old); lasts = lasts_same label_kinds (shape_of old); sound = s })
 parts_put flags (Ask space ∷ parts) old new blocks s w (mid, made, r, rest) =
     let g = gap_put flags space old mid made s w r in
     let q = parts_put flags parts mid new blocks g.sound g.windows rest in
-    record { stand = (length (bytes_of mid), gap_last _ _ g.gap q.lasts, q.stand); windows = q.windows; constants = λ all. q.constants (g.constants all); lasts = lasts_more g.lasts q.lasts; sound = q.sound }
+    record { stand = (length (bytes_of mid), gap_last _ _ g.gap q.lasts, q.stand); windows = q.windows; constants = λ all. q.constants (g.constants all); adds = adds_both g.adds q.adds; lasts = lasts_more g.lasts q.lasts; sound = q.sound }
 parts_put flags (Slots slots ∷ parts) old new blocks s w (mid, p, rest) =
     let well = puts_well flags (allocated_of old) slots _ 0 (shape_of old) (shape_of mid) blocks.0 s.even p.puts (record { windows = w; linked = s.linked }) in
     let q = parts_put flags parts mid new blocks.1 p.sound well.windows rest in
@@ -173,6 +179,7 @@ parts_put flags (Slots slots ∷ parts) old new blocks s w (mid, p, rest) =
       stand = (length (bytes_of mid), record { old = shape_of old; new = shape_of mid; puts = p.puts; windows = w; starts = refl; ends = refl; lasts = q.lasts }, q.stand);
       windows = q.windows;
       constants = λ all. q.constants (stands_last lasts (puts_constants flags (allocated_of old) slots (shape_of old) (shape_of mid) p.puts) all);
+      adds = adds_both (adds_none lasts.grows.longer (puts_constants flags (allocated_of old) slots (shape_of old) (shape_of mid) p.puts) lasts.registered) q.adds;
       lasts = lasts_more lasts q.lasts;
       sound = q.sound;
     }

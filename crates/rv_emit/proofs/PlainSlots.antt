@@ -108,7 +108,7 @@ pub record IsSummed (context : Context) (inst : Inst) (slots : List Slot) : Type
   pub plain : IsPlain slots
   pub long : extent_of context inst ≡ Words (size_of slots)
   pub uses : (allocated start : ℕ) → uses_of allocated start slots ≡ uses_in context start inst
-  pub traps : (start : ℕ) → traps_of start slots ≡ inst_traps start (start + size_of slots) inst
+  pub traps : (start : ℕ) → traps_of start slots ≡ inst_traps context start (start + size_of slots) inst
   pub names : (named : List VCodeConstant) → names_of slots named ≡ named_by (inst_constant inst) named
 
 pub summed : (context : Context) (inst : Inst) (slots : List Slot) (old new : Buffer) → IsSummed context inst slots → (flags : IsaFlags) → PutsParts flags (slots_alone slots) old new → AppendsInst context inst old new
@@ -124,7 +124,7 @@ summed context inst slots old new is flags (mid, p, same) = subst (AppendsInst c
     constants = puts_constants flags (allocated_of old) slots (shape_of old) (shape_of mid) p.puts;
     sound = p.sound;
   };
-  traps = a.traps ∙ ap (λ more. (shape_of old).traps ++ more) (is.traps (length (bytes_of old)) ∙ ap (λ n. inst_traps (length (bytes_of old)) n inst) (sym end));
+  traps = a.traps ∙ ap (λ more. (shape_of old).traps ++ more) (is.traps (length (bytes_of old)) ∙ ap (λ n. inst_traps context (length (bytes_of old)) n inst) (sym end));
   named = puts_named flags (allocated_of old) slots (shape_of old) (shape_of mid) p.puts ∙ is.names (named_of old);
   long = is.long ∙ ap Words (sym a.long);
 })
@@ -136,7 +136,7 @@ summed context inst slots old new is flags (mid, p, same) = subst (AppendsInst c
     end = ap length a.bytes ∙ length-append (bytes_of old) a.code ∙ ap (λ n. length (bytes_of old) + n) a.long
 
 -- nothing was put
-pub nothing : (context : Context) (inst : Inst) (old new : Buffer) → IsSoundBuffer old → extent_of context inst ≡ Words 0 → uses_in context (length (bytes_of old)) inst ≡ [] → inst_traps (length (bytes_of old)) (length (bytes_of old)) inst ≡ [] → named_of old ≡ named_by (inst_constant inst) (named_of old) → new ≡ old → AppendsInst context inst old new
+pub nothing : (context : Context) (inst : Inst) (old new : Buffer) → IsSoundBuffer old → extent_of context inst ≡ Words 0 → uses_in context (length (bytes_of old)) inst ≡ [] → inst_traps context (length (bytes_of old)) (length (bytes_of old)) inst ≡ [] → named_of old ≡ named_by (inst_constant inst) (named_of old) → new ≡ old → AppendsInst context inst old new
 nothing context inst old new sound long uses traps named same = subst (AppendsInst context inst old) (sym same) (record {
   code = [];
   adds = record {

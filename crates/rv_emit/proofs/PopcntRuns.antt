@@ -1,6 +1,6 @@
 -- The ones of a register are counted, from the highest of its low bits on.
 use Rattle.std.proofs.Common.{◌≡◌, ◌≢◌, ℕ, zero, suc, ◌+◌, ◌-◌, ◌*◌, ◌/◌, ◌%◌, ◌^◌, ◌<◌, ◌≤◌, pos, negsuc, Bool, true, false, [], ◌∷◌, List, ◌++◌, map, length, Some, arith, refl, sym, ap, subst, ◌∙◌, lit<, lit≤, eqb-true}
-use Rattle.std.specs.Prelude.{nat_eq, nat_le, int_lt, if◌then◌else◌, not, ◌||◌, bit_and}
+use Rattle.std.specs.Prelude.{nat_eq, nat_le, int_lt, if◌then◌else◌, not, ◌||◌, bit_and, ◌-ℤ◌}
 use Rattle.std.specs.Int.{bit_at}
 use Rattle.std.proofs.lemmas.Bool.{lt-ltb}
 use Rattle.std.proofs.lemmas.Bool.Decides.{nat_tests}
@@ -8,6 +8,7 @@ use Rattle.std.proofs.lemmas.Int.{ints}
 use Rattle.std.proofs.lemmas.Nat.{pow_pos, pow_below, and_comm}
 use Rattle.std.proofs.lemmas.Nat.Bits.{and_pow, bit_at-lt, bit_at-suc, bit_at_lowest}
 use Rattle.std.proofs.Math.Nat.{pow-suc}
+use Rattle.rv_base.specs.declared.flags.IsaFlags.{IsaFlags}
 use Rattle.rv_base.specs.declared.ir_type.IrType.{IrType}
 use Rattle.rv_base.specs.declared.regs.Reg.{Reg}
 use Rattle.rv_base.specs.declared.regs.Writable.{Writable}
@@ -16,18 +17,20 @@ use Rattle.rv_base.specs.IrType.{bits_of}
 use Rattle.rv_base.specs.Regs.{number_of}
 use Rattle.rv_machine.specs.declared.decoding.Decoded.{Decoded}
 use Rattle.rv_machine.specs.declared.ops.AluOp.TheVariants.{Int}
-use Rattle.rv_machine.specs.declared.ops.IntOp.TheVariants.{And}
+use Rattle.rv_machine.specs.declared.ops.IntOp.TheVariants as int
 use Rattle.rv_machine.specs.State.{State, IsState, Values, AreValues, reg, set_reg, wrap, low64, at}
 use Rattle.rv_machine.specs.Effects.{act}
 use Rattle.rv_machine.proofs.Ranges.{alu_result_fits}
-use Rattle.rv_ops.specs.declared.alu.AluOPRRI.TheVariants.{Slli}
+use Rattle.rv_ops.specs.declared.alu.AluOPRRR.TheVariants.{And}
+use Rattle.rv_ops.specs.declared.alu.AluOPRRI.TheVariants.{Addi, Slli, Srli}
+use Rattle.rv_inst.specs.Forms.{short_rri}
 use Rattle.rv_inst.specs.declared.inst.Inst.TheVariants.{Popcnt}
 use Rattle.rv_inst.specs.SameValues.{SameBut, is_among}
 use Rattle.rv_inst.specs.Meaning.{Next, ones, alu_rri}
 use Rattle.rv_emit.specs.declared.state.EmitVState.{EmitVState}
-use Rattle.rv_emit.specs.Operations.{decoded_addi, decoded_slli, decoded_srli, decoded_and, decoded_beq, decoded_bge, decoded_jump}
-use Rattle.rv_emit.specs.Popcnt.{test_ops, down_ops}
-use Rattle.rv_emit.specs.Slots.{Slot, Op}
+use Rattle.rv_emit.specs.Operations.{decoded_beq, decoded_bge, short_jump, jump_size}
+use Rattle.rv_emit.specs.Popcnt.{test_ops, down_ops, bit_op, more_op, less_op, half_op, turn_size}
+use Rattle.rv_emit.specs.Slots.{Slot, Op, size_of}
 use Rattle.rv_emit.specs.Sites.{Site, CodeHas, StandsIn}
 use Rattle.rv_emit.specs.InstParts.{slots_alone, count_slots}
 use Rattle.rv_emit.specs.InstRuns.{Enters, ComesOut, RunsIn}
@@ -35,8 +38,8 @@ use Rattle.rv_emit.specs.Chains.{Goes, IsAt}
 use Rattle.rv_emit.proofs.Chains.{goes_at_least, goes_second}
 use Rattle.rv_emit.proofs.CodeSteps.{step_at, at_next}
 use Rattle.rv_emit.proofs.Exits.{same_but, starts_at, comes_out}
-use Rattle.rv_emit.proofs.OperationActs.{rri_acts, rri_same}
 use Rattle.rv_emit.proofs.Registers.{are_values_set, reads_back, reads_other, temporary_set, spare_set}
+use Rattle.rv_emit.proofs.ShortOps.{HasSize, rrr_acts, rri_acts, jump_acts, rrr_sized, rri_sized, jump_len, least_even, least_some, least_few, small_number, back_number}
 
 -- ---- numbers
 
@@ -176,18 +179,19 @@ then_goes : {site : Site} {offset size offset' size' : ℕ} {c : Count} {left ne
 then_goes r on = let q = on r.state r.counts in record { state = q.state; goes = goes_second r.goes q.goes; counts = q.counts }
 
 -- after a write to a register
-after_write : {site : Site} {offset size : ℕ} {c : Count} {left next count left' next' count' : ℕ} {v : Values} {s : State} (n x : ℕ) → n < 32 → x < 2 ^ 64 → InCount site offset (4 + size) c left next count v s → CountHolds c left' next' count' v (set_reg s.values n x) → InCount site (offset + 4) size c left' next' count' v (at (wrap (s.pc + 4)) (set_reg s.values n x))
-after_write {s = s} n x lt fits k holds = record {
-  here = at_next 4 (at (wrap (s.pc + 4)) (set_reg s.values n x)) k.here refl refl k.here.placed;
-  is_state = record { pc = omega arith; values = are_values_set s.values n x k.is_state.values lt fits };
+after_write : {site : Site} {offset size : ℕ} {c : Count} {left next count left' next' count' : ℕ} {v : Values} {s : State} (k n x : ℕ) → k % 2 ≡ 0 → n < 32 → x < 2 ^ 64 → InCount site offset (k + size) c left next count v s → CountHolds c left' next' count' v (set_reg s.values n x) → InCount site (offset + k) size c left' next' count' v (at (wrap (s.pc + k)) (set_reg s.values n x))
+after_write {s = s} k n x even lt fits i holds = record {
+  here = at_next k (at (wrap (s.pc + k)) (set_reg s.values n x)) i.here even refl i.here.placed;
+  is_state = record { pc = omega arith; values = are_values_set s.values n x i.is_state.values lt fits };
   holds = holds;
 }
 
 -- an operation writes a register
-writes : {site : Site} {offset size : ℕ} {c : Count} {left next count left' next' count' : ℕ} {v : Values} {s : State} (d : Decoded) (n x : ℕ) → CodeHas site offset (d ∷ []) → act d s ≡ Some (at (wrap (s.pc + 4)) (set_reg s.values n x)) → n < 32 → x < 2 ^ 64 → InCount site offset (4 + size) c left next count v s → CountHolds c left' next' count' v (set_reg s.values n x) → CountGoes site (offset + 4) size c left' next' count' v s
-writes {s = s} d n x has acts lt fits k holds =
-    let t = at (wrap (s.pc + 4)) (set_reg s.values n x) in
-    record { state = t; goes = goes_at_least (lit≤ tt) (step_at d [] t k.here (omega arith) has acts); counts = after_write n x lt fits k holds }
+writes : {site : Site} {offset size : ℕ} {c : Count} {left next count left' next' count' : ℕ} {v : Values} {s : State} (d : Decoded) (n x : ℕ) → HasSize d → CodeHas site offset (d ∷ []) → act d s ≡ Some (at (wrap (s.pc + d.len)) (set_reg s.values n x)) → n < 32 → x < 2 ^ 64 → InCount site offset (d.len + size) c left next count v s → CountHolds c left' next' count' v (set_reg s.values n x) → CountGoes site (offset + d.len) size c left' next' count' v s
+writes {s = s} d n x sized has acts lt fits k holds =
+    let t = at (wrap (s.pc + d.len)) (set_reg s.values n x) in
+    let some = sized.some in
+    record { state = t; goes = goes_at_least (lit≤ tt) (step_at d [] t k.here (omega arith) has acts); counts = after_write d.len n x sized.even lt fits k holds }
 
 -- an operation leads to an offset
 leads : {site : Site} {offset size : ℕ} {c : Count} {left next count : ℕ} {v : Values} {s : State} (d : Decoded) (to more : ℕ) → CodeHas site offset (d ∷ []) → act d s ≡ Some (at (wrap (site.base + to)) s.values) → to % 2 ≡ 0 → to + more ≤ length site.bytes → 0 < size → InCount site offset size c left next count v s → CountGoes site to more c left next count v s
@@ -203,43 +207,120 @@ leads {site} {s = s} d to more has acts even room some k =
       };
     }
 
+-- ---- the operations of a count
+
+-- the registers' operations, in a site's flags
+abbrev zero_of : IsaFlags → Count → Decoded
+zero_of flags c = short_rri flags Addi c.sum 0 (pos 0)
+
+abbrev full_of : IsaFlags → Count → Decoded
+full_of flags c = short_rri flags Addi c.step 0 (pos c.bits)
+
+abbrev one_of : IsaFlags → Count → Decoded
+one_of flags c = short_rri flags Addi c.tmp 0 (pos 1)
+
+abbrev shift_of : IsaFlags → Count → Decoded
+shift_of flags c = short_rri flags Slli c.tmp c.tmp (pos (c.bits - 1))
+
+abbrev bit_of : IsaFlags → Count → Decoded
+bit_of flags c = bit_op flags c.tmp c.rs
+
+abbrev more_of : IsaFlags → Count → Decoded
+more_of flags c = more_op flags c.sum
+
+abbrev less_of : IsaFlags → Count → Decoded
+less_of flags c = less_op flags c.step
+
+abbrev half_of : IsaFlags → Count → Decoded
+half_of flags c = half_op flags c.tmp
+
+-- how long a turn is, up to its jump back, and with it
+abbrev turn_of : IsaFlags → Count → ℕ
+turn_of flags c = turn_size flags c.sum c.tmp c.step c.rs
+
+abbrev jump_of : IsaFlags → Count → Decoded
+jump_of flags c = short_jump flags (pos 0 -ℤ pos (turn_of flags c))
+
+-- at most so long
+record IsShortCount (flags : IsaFlags) (c : Count) : Type 0 where
+  bit : HasSize (bit_of flags c)
+  more : HasSize (more_of flags c)
+  less : HasSize (less_of flags c)
+  half : HasSize (half_of flags c)
+  even : turn_of flags c % 2 ≡ 0
+  few : turn_of flags c ≤ 24
+
+short_count : (flags : IsaFlags) (c : Count) → IsShortCount flags c
+short_count flags c =
+    let b = rrr_sized flags And 30 c.tmp c.rs in
+    let m = rri_sized flags Addi c.sum c.sum (pos 1) in
+    let l = rri_sized flags Addi c.step c.step (negsuc 0) in
+    let h = rri_sized flags Srli c.tmp c.tmp (pos 1) in
+    record {
+      bit = b;
+      more = m;
+      less = l;
+      half = h;
+      even = let be = b.even in let me = m.even in let le = l.even in let he = h.even in omega arith;
+      few = let bf = b.few in let mf = m.few in let lf = l.few in let hf = h.few in omega arith;
+    }
+
 -- ---- before the first turn
 
+-- what stands from the first turn on
+abbrev turn_slots : IsaFlags → Count → List Slot
+turn_slots flags c = map Op (test_ops flags c.sum c.tmp c.step c.rs ++ down_ops flags c.sum c.tmp c.step c.rs)
+
+-- where turns begin
+abbrev loop_at : IsaFlags → Count → ℕ → ℕ
+loop_at flags c start = start + (zero_of flags c).len + (full_of flags c).len + (one_of flags c).len + (shift_of flags c).len
+
 -- no ones are counted, all bits are left, and the highest is the next
-starts : {site : Site} {start : ℕ} {c : Count} {left next count : ℕ} {v : Values} {s : State} (allocated : ℕ) → IsCount c → StandsIn site allocated start (count_slots c.sum c.tmp c.step c.rs c.bits) → InCount site start 44 c left next count v s → CountGoes site (start + 4 + 4 + 4 + 4) 28 c c.bits (2 ^ (c.bits - 1)) 0 v s
-starts {site} {start} {c} {v = v} {s = s} allocated h stands k =
+starts : {site : Site} {start size : ℕ} {c : Count} {left next count : ℕ} {v : Values} {s : State} (allocated : ℕ) → IsCount c → StandsIn site allocated start (count_slots site.context.flags c.sum c.tmp c.step c.rs c.bits) → InCount site start ((zero_of site.context.flags c).len + ((full_of site.context.flags c).len + ((one_of site.context.flags c).len + ((shift_of site.context.flags c).len + size)))) c left next count v s → CountGoes site (loop_at site.context.flags c start) size c c.bits (2 ^ (c.bits - 1)) 0 v s
+starts {site} {start} {size} {c} {v = v} {s = s} allocated h stands k =
     then_goes (zeroed s k) (λ t1 k1.
     then_goes (full t1 k1) (λ t2 k2.
     then_goes (one t2 k2) (λ t3 k3. shifted t3 k3)))
   where
-    zeroed : {left next count : ℕ} (s : State) → InCount site start 44 c left next count v s → CountGoes site (start + 4) 40 c left next 0 v s
-    zeroed s k = writes (decoded_addi c.sum 0 (pos 0)) c.sum 0 stands.0 refl (let a = h.sum_usable in omega arith) (lit< tt) k (sum_set 0 h k.is_state.values k.holds)
+    flags : IsaFlags
+    flags = site.context.flags
 
-    full : {left next : ℕ} (s : State) → InCount site (start + 4) 40 c left next 0 v s → CountGoes site (start + 4 + 4) 36 c c.bits next 0 v s
+    a0 : ℕ
+    a0 = (zero_of flags c).len
+
+    a1 : ℕ
+    a1 = (full_of flags c).len
+
+    a2 : ℕ
+    a2 = (one_of flags c).len
+
+    a3 : ℕ
+    a3 = (shift_of flags c).len
+
+    zeroed : {left next count : ℕ} (s : State) → InCount site start (a0 + (a1 + (a2 + (a3 + size)))) c left next count v s → CountGoes site (start + a0) (a1 + (a2 + (a3 + size))) c left next 0 v s
+    zeroed s k = writes (zero_of flags c) c.sum 0 (rri_sized flags Addi c.sum 0 (pos 0)) stands.0 (rri_acts flags Addi c.sum 0 (pos 0) s refl k.is_state) (let a = h.sum_usable in omega arith) (lit< tt) k (sum_set 0 h k.is_state.values k.holds)
+
+    full : {left next : ℕ} (s : State) → InCount site (start + a0) (a1 + (a2 + (a3 + size))) c left next 0 v s → CountGoes site (start + a0 + a1) (a2 + (a3 + size)) c c.bits next 0 v s
     full s k =
         let few = h.few in
         let e : wrap (0 + low64 (pos c.bits)) ≡ c.bits = omega (arith, ints) in
-        writes (decoded_addi c.step 0 (pos c.bits)) c.step c.bits stands.1.0 (ap (λ x. Some (at (wrap (s.pc + 4)) (set_reg s.values c.step x))) e) (let a = h.step_usable in omega arith) (omega arith) k (step_set c.bits h k.is_state.values k.holds)
+        writes (full_of flags c) c.step c.bits (rri_sized flags Addi c.step 0 (pos c.bits)) stands.1.0 (rri_acts flags Addi c.step 0 (pos c.bits) s refl k.is_state ∙ ap (λ x. Some (at (wrap (s.pc + a1)) (set_reg s.values c.step x))) e) (let a = h.step_usable in omega arith) (omega arith) k (step_set c.bits h k.is_state.values k.holds)
 
-    one : {left next : ℕ} (s : State) → InCount site (start + 4 + 4) 36 c left next 0 v s → CountGoes site (start + 4 + 4 + 4) 32 c left 1 0 v s
-    one s k = writes (decoded_addi c.tmp 0 (pos 1)) c.tmp 1 stands.1.1.0 refl (let a = h.tmp_usable in omega arith) (lit< tt) k (tmp_set 1 h k.is_state.values k.holds)
+    one : {left next : ℕ} (s : State) → InCount site (start + a0 + a1) (a2 + (a3 + size)) c left next 0 v s → CountGoes site (start + a0 + a1 + a2) (a3 + size) c left 1 0 v s
+    one s k = writes (one_of flags c) c.tmp 1 (rri_sized flags Addi c.tmp 0 (pos 1)) stands.1.1.0 (rri_acts flags Addi c.tmp 0 (pos 1) s refl k.is_state) (let a = h.tmp_usable in omega arith) (lit< tt) k (tmp_set 1 h k.is_state.values k.holds)
 
-    shifted : {left : ℕ} (s : State) → InCount site (start + 4 + 4 + 4) 32 c left 1 0 v s → CountGoes site (start + 4 + 4 + 4 + 4) 28 c left (2 ^ (c.bits - 1)) 0 v s
+    shifted : {left : ℕ} (s : State) → InCount site (start + a0 + a1 + a2) (a3 + size) c left 1 0 v s → CountGoes site (start + a0 + a1 + a2 + a3) size c left (2 ^ (c.bits - 1)) 0 v s
     shifted s k =
         let few = h.few in
         let x = 2 ^ (c.bits - 1) in
         let fits = power_fits (c.bits - 1) (omega arith) in
         let amount : low64 (pos (c.bits - 1)) % 64 ≡ c.bits - 1 = omega (arith, ints) in
         let e : alu_rri Slli (reg s.values c.tmp) (pos (c.bits - 1)) ≡ x = (λ i. wrap (k.holds.tmp i * 2 ^ amount i)) ∙ omega arith in
-        writes (decoded_slli c.tmp c.tmp (c.bits - 1)) c.tmp x stands.1.1.1.0
-        (rri_acts Slli c.tmp c.tmp (pos (c.bits - 1)) s ∙ ap (λ y. Some (at (wrap (s.pc + 4)) (set_reg s.values c.tmp y))) (rri_same Slli (reg s.values c.tmp) (pos (c.bits - 1)) (small_shift (c.bits - 1) (omega arith)) ∙ e))
+        writes (shift_of flags c) c.tmp x (rri_sized flags Slli c.tmp c.tmp (pos (c.bits - 1))) stands.1.1.1.0
+        (rri_acts flags Slli c.tmp c.tmp (pos (c.bits - 1)) s (small_shift (c.bits - 1) (omega arith)) k.is_state ∙ ap (λ y. Some (at (wrap (s.pc + a3)) (set_reg s.values c.tmp y))) e)
         (let a = h.tmp_usable in omega arith) fits k (tmp_set x h k.is_state.values k.holds)
 
 -- ---- a turn
-
--- the operations of a turn
-abbrev turn_slots : Count → List Slot
-turn_slots c = map Op (test_ops c.sum c.tmp c.step c.rs ++ down_ops c.tmp c.step)
 
 -- a branch that isn't taken goes on
 goes_on : {site : Site} {offset size : ℕ} {c : Count} {left next count : ℕ} {v : Values} {s : State} (d : Decoded) → CodeHas site offset (d ∷ []) → act d s ≡ Some (at (wrap (s.pc + 4)) s.values) → InCount site offset (4 + size) c left next count v s → CountGoes site (offset + 4) size c left next count v s
@@ -247,96 +328,156 @@ goes_on {site} {offset} {size} {s = s} d has acts k =
     let e : wrap (s.pc + 4) ≡ wrap (site.base + (offset + 4)) = (let pc = k.here.pc in omega arith) in
     leads d (offset + 4) size has (acts ∙ ap (λ p. Some (at p s.values)) e) (let even = k.here.even in omega arith) (let room = k.here.room in omega arith) (omega arith) k
 
+-- the branch to the end
+abbrev end_of : IsaFlags → Count → Decoded
+end_of flags c = decoded_bge 0 c.step (pos (turn_of flags c + jump_size flags))
+
+-- past the operation that counts
+abbrev skip_of : IsaFlags → Count → Decoded
+skip_of flags c = decoded_beq 0 30 (pos (4 + (more_of flags c).len))
+
+-- how many bytes stand from the operation of the bit on, and from that which counts down on
+abbrev rest_of : IsaFlags → Count → ℕ
+rest_of flags c = (bit_of flags c).len + (4 + ((more_of flags c).len + ((less_of flags c).len + ((half_of flags c).len + jump_size flags))))
+
+abbrev down_of : IsaFlags → Count → ℕ
+down_of flags c = (less_of flags c).len + ((half_of flags c).len + jump_size flags)
+
 -- some bits are left
-more_left : {site : Site} {loop : ℕ} {c : Count} {next count : ℕ} {v : Values} {s : State} (allocated left : ℕ) → left < 64 → StandsIn site allocated loop (turn_slots c) → InCount site loop 28 c (suc left) next count v s → CountGoes site (loop + 4) 24 c (suc left) next count v s
-more_left {c = c} {s = s} allocated left lt stands k =
+more_left : {site : Site} {loop : ℕ} {c : Count} {next count : ℕ} {v : Values} {s : State} (allocated left : ℕ) → left < 64 → StandsIn site allocated loop (turn_slots site.context.flags c) → InCount site loop (4 + rest_of site.context.flags c) c (suc left) next count v s → CountGoes site (loop + 4) (rest_of site.context.flags c) c (suc left) next count v s
+more_left {site} {c = c} {s = s} allocated left lt stands k =
+    let d = pos (turn_of site.context.flags c + jump_size site.context.flags) in
     let e : signed_below 0 (reg s.values c.step) ≡ true = ap (signed_below 0) k.holds.step ∙ none_below left lt in
-    goes_on (decoded_bge 0 c.step (pos 28)) stands.0 (ap (λ b. Some (at (if not b then wrap (s.pc + low64 (pos 28)) else wrap (s.pc + 4)) s.values)) e) k
+    goes_on (end_of site.context.flags c) stands.0 (ap (λ b. Some (at (if not b then wrap (s.pc + low64 d) else wrap (s.pc + 4)) s.values)) e) k
 
 -- no bit is left
-none_left : {site : Site} {loop : ℕ} {c : Count} {next count : ℕ} {v : Values} {s : State} (allocated : ℕ) → StandsIn site allocated loop (turn_slots c) → InCount site loop 28 c 0 next count v s → CountGoes site (loop + 28) 0 c 0 next count v s
+none_left : {site : Site} {loop : ℕ} {c : Count} {next count : ℕ} {v : Values} {s : State} (allocated : ℕ) → StandsIn site allocated loop (turn_slots site.context.flags c) → InCount site loop (4 + rest_of site.context.flags c) c 0 next count v s → CountGoes site (loop + (4 + rest_of site.context.flags c)) 0 c 0 next count v s
 none_left {site} {loop} {c} {s = s} allocated stands k =
+    let flags = site.context.flags in
+    let size = 4 + rest_of flags c in
+    let n = turn_of flags c + jump_size flags in
+    let short = short_count flags c in
+    let few = short.few in
+    let even = short.even in
+    let least = least_few flags in
+    let least_even = least_even flags in
+    let same : n ≡ size = omega arith in
+    let far : low64 (pos n) ≡ n = small_number n (omega arith) in
     let e : signed_below 0 (reg s.values c.step) ≡ false = ap (signed_below 0) k.holds.step in
-    let there : wrap (s.pc + low64 (pos 28)) ≡ wrap (site.base + (loop + 28)) = (let pc = k.here.pc in omega (arith, ints)) in
-    leads (decoded_bge 0 c.step (pos 28)) (loop + 28) 0 stands.0
-    (ap (λ b. Some (at (if not b then wrap (s.pc + low64 (pos 28)) else wrap (s.pc + 4)) s.values)) e ∙ ap (λ p. Some (at p s.values)) there)
-    (let even = k.here.even in omega arith) (let room = k.here.room in omega arith) (lit< tt) k
+    let there : wrap (s.pc + low64 (pos n)) ≡ wrap (site.base + (loop + size)) = (let pc = k.here.pc in omega arith) in
+    leads (end_of flags c) (loop + size) 0 stands.0
+    (ap (λ b. Some (at (if not b then wrap (s.pc + low64 (pos n)) else wrap (s.pc + 4)) s.values)) e ∙ ap (λ p. Some (at p s.values)) there)
+    (let start = k.here.even in omega arith) (let room = k.here.room in omega arith) (omega arith) k
 
 -- x30 holds the next bit's power or 0: the bit is counted or not
-by_bit : {site : Site} {c : Count} {left next count : ℕ} {v : Values} {s : State} (loop allocated power b : ℕ) → b < 2 → 0 < power → count < 2 ^ 32 → IsCount c → StandsIn site allocated loop (turn_slots c) → reg s.values 30 ≡ b * power → InCount site (loop + 4 + 4) 20 c left next count v s → CountGoes site (loop + 4 + 4 + 4 + 4) 12 c left next (b + count) v s
-by_bit {site} {c} {left} {next} {count} {v} {s} loop allocated power zero lt some few h stands value k =
+by_bit : {site : Site} {c : Count} {at_bit left next count : ℕ} {v : Values} {s : State} (allocated power b : ℕ) → b < 2 → 0 < power → count < 2 ^ 32 → IsCount c → CodeHas site at_bit (skip_of site.context.flags c ∷ []) → CodeHas site (at_bit + 4) (more_of site.context.flags c ∷ []) → reg s.values 30 ≡ b * power → InCount site at_bit (4 + ((more_of site.context.flags c).len + down_of site.context.flags c)) c left next count v s → CountGoes site (at_bit + 4 + (more_of site.context.flags c).len) (down_of site.context.flags c) c left next (b + count) v s
+by_bit {site} {c} {at_bit} {left} {next} {count} {v} {s} allocated power zero lt some few h skip more value k =
+    let flags = site.context.flags in
+    let m = (more_of flags c).len in
+    let short = short_count flags c in
+    let sized = short.more in
+    let m_few = sized.few in
+    let m_even = sized.even in
     let none : 0 * power ≡ 0 = omega arith in
     let e : nat_eq 0 (reg s.values 30) ≡ true = ap (nat_eq 0) (value ∙ none) in
-    let there : wrap (s.pc + low64 (pos 8)) ≡ wrap (site.base + (loop + 4 + 4 + 4 + 4)) = (let pc = k.here.pc in omega (arith, ints)) in
+    let far : low64 (pos (4 + m)) ≡ 4 + m = small_number (4 + m) (omega arith) in
+    let there : wrap (s.pc + low64 (pos (4 + m))) ≡ wrap (site.base + (at_bit + 4 + m)) = (let pc = k.here.pc in omega arith) in
     let same : count ≡ 0 + count = omega arith in
-    subst (λ n. CountGoes site (loop + 4 + 4 + 4 + 4) 12 c left next n v s) same
-    (leads (decoded_beq 0 30 (pos 8)) (loop + 4 + 4 + 4 + 4) 12 stands.1.1.0
-    (ap (λ b. Some (at (if b then wrap (s.pc + low64 (pos 8)) else wrap (s.pc + 4)) s.values)) e ∙ ap (λ p. Some (at p s.values)) there)
-    (let even = k.here.even in omega arith) (let room = k.here.room in omega arith) (lit< tt) k)
-by_bit {site} {c} {left} {next} {count} {v} {s} loop allocated power (suc zero) lt some few h stands value k =
+    subst (λ n. CountGoes site (at_bit + 4 + m) (down_of flags c) c left next n v s) same
+    (leads (skip_of flags c) (at_bit + 4 + m) (down_of flags c) skip
+    (ap (λ b. Some (at (if b then wrap (s.pc + low64 (pos (4 + m))) else wrap (s.pc + 4)) s.values)) e ∙ ap (λ p. Some (at p s.values)) there)
+    (let even = k.here.even in omega arith) (let room = k.here.room in omega arith) (omega arith) k)
+by_bit {site} {c} {at_bit} {left} {next} {count} {v} {s} allocated power (suc zero) lt some few h skip more value k =
+    let m = (more_of site.context.flags c).len in
     let e : nat_eq 0 (reg s.values 30) ≡ false = not_zero (reg s.values 30) (omega arith) in
-    then_goes (goes_on (decoded_beq 0 30 (pos 8)) stands.1.1.0 (ap (λ b. Some (at (if b then wrap (s.pc + low64 (pos 8)) else wrap (s.pc + 4)) s.values)) e) k) counted
+    then_goes (goes_on (skip_of site.context.flags c) skip (ap (λ b. Some (at (if b then wrap (s.pc + low64 (pos (4 + m))) else wrap (s.pc + 4)) s.values)) e) k) counted
   where
-    counted : (t : State) → InCount site (loop + 4 + 4 + 4) 16 c left next count v t → CountGoes site (loop + 4 + 4 + 4 + 4) 12 c left next (1 + count) v t
+    flags : IsaFlags
+    flags = site.context.flags
+
+    counted : (t : State) → InCount site (at_bit + 4) ((more_of flags c).len + down_of flags c) c left next count v t → CountGoes site (at_bit + 4 + (more_of flags c).len) (down_of flags c) c left next (1 + count) v t
     counted t k =
         let sum = k.holds.sum in
         let e : wrap (reg t.values c.sum + low64 (pos 1)) ≡ 1 + count = omega (arith, ints) in
-        writes (decoded_addi c.sum c.sum (pos 1)) c.sum (1 + count) stands.1.1.1.0 (ap (λ x. Some (at (wrap (t.pc + 4)) (set_reg t.values c.sum x))) e) (let a = h.sum_usable in omega arith) (omega arith) k (sum_set (1 + count) h k.is_state.values k.holds)
-by_bit loop allocated power (suc (suc b)) lt some few h stands value k = absurd (omega arith)
+        writes (more_of flags c) c.sum (1 + count) (rri_sized flags Addi c.sum c.sum (pos 1)) more (rri_acts flags Addi c.sum c.sum (pos 1) t refl k.is_state ∙ ap (λ x. Some (at (wrap (t.pc + (more_of flags c).len)) (set_reg t.values c.sum x))) e) (let a = h.sum_usable in omega arith) (omega arith) k (sum_set (1 + count) h k.is_state.values k.holds)
+by_bit allocated power (suc (suc b)) lt some few h skip more value k = absurd (omega arith)
 
 -- the next bit is counted where it is one
-counted : {site : Site} {c : Count} {count : ℕ} {v : Values} {s : State} (loop allocated left : ℕ) → count < 2 ^ 32 → IsCount c → StandsIn site allocated loop (turn_slots c) → InCount site (loop + 4) 24 c (suc left) (2 ^ left) count v s → CountGoes site (loop + 4 + 4 + 4 + 4) 12 c (suc left) (2 ^ left) (bit_at (reg v c.rs) left + count) v s
+counted : {site : Site} {c : Count} {count : ℕ} {v : Values} {s : State} (loop allocated left : ℕ) → count < 2 ^ 32 → IsCount c → StandsIn site allocated loop (turn_slots site.context.flags c) → InCount site (loop + 4) (rest_of site.context.flags c) c (suc left) (2 ^ left) count v s → CountGoes site (loop + 4 + (bit_of site.context.flags c).len + 4 + (more_of site.context.flags c).len) (down_of site.context.flags c) c (suc left) (2 ^ left) (bit_at (reg v c.rs) left + count) v s
 counted {site} {c} {count} {v} {s} loop allocated left few h stands k =
+    let flags = site.context.flags in
+    let d = bit_of flags c in
+    let sized = rrr_sized flags And 30 c.tmp c.rs in
+    let d_some = sized.some in
     let x = bit_and (reg s.values c.tmp) (reg s.values c.rs) in
-    let fits = alu_result_fits (Int And) (reg s.values c.tmp) (reg s.values c.rs) 0 (k.is_state.values.fits c.tmp) (k.is_state.values.fits c.rs) (lit< tt) in
-    let t = at (wrap (s.pc + 4)) (set_reg s.values 30 x) in
+    let fits = alu_result_fits (Int int.And) (reg s.values c.tmp) (reg s.values c.rs) 0 (k.is_state.values.fits c.tmp) (k.is_state.values.fits c.rs) (lit< tt) in
+    let t = at (wrap (s.pc + d.len)) (set_reg s.values 30 x) in
     let value : reg t.values 30 ≡ bit_at (reg v c.rs) left * 2 ^ left = reads_back s.values 30 x k.is_state.values (lit< tt) (lit< tt) ∙ (λ i. bit_and (k.holds.tmp i) (source_kept h k.holds i)) ∙ and_comm (2 ^ left) (reg v c.rs) ∙ and_pow (reg v c.rs) left in
-    let rest = by_bit {s = t} loop allocated (2 ^ left) (bit_at (reg v c.rs) left) (bit_at-lt (reg v c.rs) left) (pow_pos left) few h stands value (after_write 30 x (lit< tt) fits k (spare_kept x h k.holds)) in
-    record { state = rest.state; goes = goes_second (step_at (decoded_and 30 c.tmp c.rs) [] t k.here (lit< tt) stands.1.0 refl) rest.goes; counts = rest.counts }
+    let rest = by_bit {s = t} allocated (2 ^ left) (bit_at (reg v c.rs) left) (bit_at-lt (reg v c.rs) left) (pow_pos left) few h stands.1.1.0 stands.1.1.1.0 value (after_write d.len 30 x sized.even (lit< tt) fits k (spare_kept x h k.holds)) in
+    record { state = rest.state; goes = goes_second (step_at d [] t k.here (omega arith) stands.1.0 (rrr_acts flags And 30 c.tmp c.rs s k.is_state)) rest.goes; counts = rest.counts }
+
+-- where the operations stand that count down
+abbrev down_at : IsaFlags → Count → ℕ → ℕ
+down_at flags c loop = loop + 4 + (bit_of flags c).len + 4 + (more_of flags c).len
 
 -- one bit less is left, and the one below is the next
-counts_down : {site : Site} {loop : ℕ} {c : Count} {next count : ℕ} {v : Values} {s : State} (allocated left : ℕ) → left < 64 → loop + 28 ≤ length site.bytes → IsCount c → StandsIn site allocated loop (turn_slots c) → InCount site (loop + 4 + 4 + 4 + 4) 12 c (suc left) next count v s → CountGoes site loop 28 c left (next / 2) count v s
-counts_down {site} {loop} {c} {next} {count} {v} {s} allocated left lt room h stands k = then_goes (less s k) (λ t1 k1. then_goes (halved t1 k1) (λ t2 k2. back t2 k2))
+counts_down : {site : Site} {loop : ℕ} {c : Count} {next count : ℕ} {v : Values} {s : State} (allocated left : ℕ) → left < 64 → loop + (4 + rest_of site.context.flags c) ≤ length site.bytes → loop % 2 ≡ 0 → IsCount c → StandsIn site allocated loop (turn_slots site.context.flags c) → InCount site (down_at site.context.flags c loop) (down_of site.context.flags c) c (suc left) next count v s → CountGoes site loop (4 + rest_of site.context.flags c) c left (next / 2) count v s
+counts_down {site} {loop} {c} {next} {count} {v} {s} allocated left lt room even h stands k = then_goes (less s k) (λ t1 k1. then_goes (halved t1 k1) (λ t2 k2. back t2 k2))
   where
-    less : (s : State) → InCount site (loop + 4 + 4 + 4 + 4) 12 c (suc left) next count v s → CountGoes site (loop + 4 + 4 + 4 + 4 + 4) 8 c left next count v s
+    flags : IsaFlags
+    flags = site.context.flags
+
+    down : ℕ
+    down = down_at flags c loop
+
+    a : ℕ
+    a = (less_of flags c).len
+
+    b : ℕ
+    b = (half_of flags c).len
+
+    less : (s : State) → InCount site down (a + (b + jump_size flags)) c (suc left) next count v s → CountGoes site (down + a) (b + jump_size flags) c left next count v s
     less s k =
         let step = k.holds.step in
         let m : low64 (negsuc 0) ≡ 2 ^ 64 - 1 = refl in
         let e : wrap (reg s.values c.step + low64 (negsuc 0)) ≡ left = omega arith in
-        writes (decoded_addi c.step c.step (negsuc 0)) c.step left stands.1.1.1.1.0 (ap (λ x. Some (at (wrap (s.pc + 4)) (set_reg s.values c.step x))) e) (let a = h.step_usable in omega arith) (omega arith) k (step_set left h k.is_state.values k.holds)
+        writes (less_of flags c) c.step left (rri_sized flags Addi c.step c.step (negsuc 0)) stands.1.1.1.1.0 (rri_acts flags Addi c.step c.step (negsuc 0) s refl k.is_state ∙ ap (λ x. Some (at (wrap (s.pc + a)) (set_reg s.values c.step x))) e) (let u = h.step_usable in omega arith) (omega arith) k (step_set left h k.is_state.values k.holds)
 
-    halved : (s : State) → InCount site (loop + 4 + 4 + 4 + 4 + 4) 8 c left next count v s → CountGoes site (loop + 4 + 4 + 4 + 4 + 4 + 4) 4 c left (next / 2) count v s
+    halved : (s : State) → InCount site (down + a) (b + jump_size flags) c left next count v s → CountGoes site (down + a + b) (jump_size flags) c left (next / 2) count v s
     halved s k =
         let fits = k.is_state.values.fits c.tmp in
         let tmp = k.holds.tmp in
-        writes (decoded_srli c.tmp c.tmp 1) c.tmp (next / 2) stands.1.1.1.1.1.0 (ap (λ x. Some (at (wrap (s.pc + 4)) (set_reg s.values c.tmp (x / 2)))) tmp) (let a = h.tmp_usable in omega arith) (omega arith) k (tmp_set (next / 2) h k.is_state.values k.holds)
+        writes (half_of flags c) c.tmp (next / 2) (rri_sized flags Srli c.tmp c.tmp (pos 1)) stands.1.1.1.1.1.0 (rri_acts flags Srli c.tmp c.tmp (pos 1) s refl k.is_state ∙ ap (λ x. Some (at (wrap (s.pc + b)) (set_reg s.values c.tmp (x / 2)))) tmp) (let u = h.tmp_usable in omega arith) (omega arith) k (tmp_set (next / 2) h k.is_state.values k.holds)
 
-    back : (s : State) → InCount site (loop + 4 + 4 + 4 + 4 + 4 + 4) 4 c left (next / 2) count v s → CountGoes site loop 28 c left (next / 2) count v s
+    back : (s : State) → InCount site (down + a + b) (jump_size flags) c left (next / 2) count v s → CountGoes site loop (4 + rest_of flags c) c left (next / 2) count v s
     back s k =
-        let m : low64 (negsuc 23) ≡ 2 ^ 64 - 24 = refl in
-        let there : wrap (s.pc + low64 (negsuc 23)) ≡ wrap (site.base + loop) = (let pc = k.here.pc in omega arith) in
-        leads (decoded_jump (negsuc 23)) loop 28 stands.1.1.1.1.1.1.0 (ap (λ p. Some (at p s.values)) there) (let even = k.here.even in omega arith) room (lit< tt) k
+        let n = turn_of flags c in
+        let few = (short_count flags c).few in
+        let m : low64 (pos 0 -ℤ pos n) ≡ 2 ^ 64 - n = back_number n (omega arith) (omega arith) in
+        let there : wrap (s.pc + low64 (pos 0 -ℤ pos n)) ≡ wrap (site.base + loop) = (let pc = k.here.pc in omega arith) in
+        leads (jump_of flags c) loop (4 + rest_of flags c) stands.1.1.1.1.1.1.0 (jump_acts flags (pos 0 -ℤ pos n) s ∙ ap (λ p. Some (at p s.values)) there) even room (least_some flags) k
 
 -- ---- all turns
 
 -- one turn
-turn : {site : Site} {loop : ℕ} {c : Count} {count : ℕ} {v : Values} {s : State} (allocated left : ℕ) → left < 64 → count < 2 ^ 32 → IsCount c → StandsIn site allocated loop (turn_slots c) → InCount site loop 28 c (suc left) (2 ^ left) count v s → CountGoes site loop 28 c left (2 ^ left / 2) (bit_at (reg v c.rs) left + count) v s
+turn : {site : Site} {loop : ℕ} {c : Count} {count : ℕ} {v : Values} {s : State} (allocated left : ℕ) → left < 64 → count < 2 ^ 32 → IsCount c → StandsIn site allocated loop (turn_slots site.context.flags c) → InCount site loop (4 + rest_of site.context.flags c) c (suc left) (2 ^ left) count v s → CountGoes site loop (4 + rest_of site.context.flags c) c left (2 ^ left / 2) (bit_at (reg v c.rs) left + count) v s
 turn {loop = loop} allocated left lt few h stands k =
     let room = k.here.room in
+    let even = k.here.even in
     then_goes (more_left allocated left lt stands k) (λ t1 k1.
-    then_goes (counted loop allocated left few h stands k1) (λ t2 k2. counts_down allocated left lt room h stands k2))
+    then_goes (counted loop allocated left few h stands k1) (λ t2 k2. counts_down allocated left lt room even h stands k2))
 
 -- turns until no bit is left, by the ones that are still to be counted
-turns : {site : Site} {loop : ℕ} {c : Count} {v : Values} (allocated left count : ℕ) (s : State) → left ≤ 64 → IsCount c → StandsIn site allocated loop (turn_slots c) → count + ones left (reg v c.rs) ≡ ones c.bits (reg v c.rs) → InCount site loop 28 c left (2 ^ left / 2) count v s → CountGoes site (loop + 28) 0 c 0 (2 ^ 0 / 2) (ones c.bits (reg v c.rs)) v s
+turns : {site : Site} {loop : ℕ} {c : Count} {v : Values} (allocated left count : ℕ) (s : State) → left ≤ 64 → IsCount c → StandsIn site allocated loop (turn_slots site.context.flags c) → count + ones left (reg v c.rs) ≡ ones c.bits (reg v c.rs) → InCount site loop (4 + rest_of site.context.flags c) c left (2 ^ left / 2) count v s → CountGoes site (loop + (4 + rest_of site.context.flags c)) 0 c 0 (2 ^ 0 / 2) (ones c.bits (reg v c.rs)) v s
 turns {site} {loop} {c} {v} allocated zero count s le h stands all k =
     let e : count ≡ ones c.bits (reg v c.rs) = omega arith in
-    subst (λ n. CountGoes site (loop + 28) 0 c 0 (2 ^ 0 / 2) n v s) e (none_left allocated stands k)
+    subst (λ n. CountGoes site (loop + (4 + rest_of site.context.flags c)) 0 c 0 (2 ^ 0 / 2) n v s) e (none_left allocated stands k)
 turns {site} {loop} {c} {v} allocated (suc left) count s le h stands all k =
     let n = reg v c.rs in
     let few = ones_few c.bits n in
     let bits = h.few in
     let more = ones_more left n in
-    let k1 = subst (λ m. InCount site loop 28 c (suc left) m count v s) (half_power left) k in
+    let k1 = subst (λ m. InCount site loop (4 + rest_of site.context.flags c) c (suc left) m count v s) (half_power left) k in
     then_goes (turn allocated left (omega arith) (omega arith) h stands k1) (λ t k2. turns allocated left (bit_at n left + count) t (omega arith) h stands (omega arith) k2)
 
 -- ---- the whole sequence
@@ -352,18 +493,25 @@ same_beside {c} {count = count} {v = v} {w = w} h hv k = record { regs = λ m lt
     kept m lt other true test = (let e = eqb-true c.sum m test in subst (λ n. reg (set_reg v c.sum count) n ≡ reg w n) e (reads_back v c.sum count hv h.sum_written (let a = h.sum_usable in omega arith) ∙ sym k.sum))
     kept m lt other false test = reads_other v c.sum m count (λ e. differ m test e) ∙ k.others.regs m lt (λ i. test i || other i)
 
-count_out : {site : Site} {start after : ℕ} {s : State} {v : Values} (c : Count) → IsCount c → Enters site start after (slots_alone (count_slots c.sum c.tmp c.step c.rs c.bits)) s v → ComesOut site start after Next (c.tmp ∷ c.step ∷ []) (set_reg v c.sum (ones c.bits (reg v c.rs))) s
+-- how long the code is
+count_size : (flags : IsaFlags) (c : Count) → size_of (count_slots flags c.sum c.tmp c.step c.rs c.bits) ≡ (zero_of flags c).len + ((full_of flags c).len + ((one_of flags c).len + ((shift_of flags c).len + (4 + rest_of flags c))))
+count_size flags c = let jump = jump_len flags (pos 0 -ℤ pos (turn_of flags c)) in omega arith
+
+count_out : {site : Site} {start after : ℕ} {s : State} {v : Values} (c : Count) → IsCount c → Enters site start after (slots_alone (count_slots site.context.flags c.sum c.tmp c.step c.rs c.bits)) s v → ComesOut site start after Next (c.tmp ∷ c.step ∷ []) (set_reg v c.sum (ones c.bits (reg v c.rs))) s
 count_out {site} {start} {after} {s} {v} c h e =
+    let flags = site.context.flags in
     let n = reg v c.rs in
-    let first : InCount site start 44 c (reg s.values c.step) (reg s.values c.tmp) (reg s.values c.sum) v s = record {
-      here = starts_at (count_slots c.sum c.tmp c.step c.rs c.bits) e;
+    let long = count_size flags c in
+    let whole = starts_at (count_slots flags c.sum c.tmp c.step c.rs c.bits) e in
+    let first : InCount site start ((zero_of flags c).len + ((full_of flags c).len + ((one_of flags c).len + ((shift_of flags c).len + (4 + rest_of flags c))))) c (reg s.values c.step) (reg s.values c.tmp) (reg s.values c.sum) v s = record {
+      here = subst (λ size. IsAt site start size s) long whole;
       is_state = e.is_state;
       holds = record { step = refl; tmp = refl; sum = refl; others = same_but (written c) e.same };
     } in
     let some = h.some in
-    let whole : suc (c.bits - 1) ≡ c.bits = omega arith in
-    let highest : 2 ^ (c.bits - 1) ≡ 2 ^ c.bits / 2 = sym (half_power (c.bits - 1)) ∙ ap (λ k. 2 ^ k / 2) whole in
-    let r = then_goes (starts e.stands.0 h e.stands.1 first) (λ t k. turns e.stands.0 c.bits 0 t h.few h e.stands.1.1.1.1.1 (omega arith) (subst (λ m. InCount site (start + 4 + 4 + 4 + 4) 28 c c.bits m 0 v t) highest k)) in
+    let bits : suc (c.bits - 1) ≡ c.bits = omega arith in
+    let highest : 2 ^ (c.bits - 1) ≡ 2 ^ c.bits / 2 = sym (half_power (c.bits - 1)) ∙ ap (λ k. 2 ^ k / 2) bits in
+    let r = then_goes (starts e.stands.0 h e.stands.1 first) (λ t k. turns e.stands.0 c.bits 0 t h.few h e.stands.1.1.1.1.1 (omega arith) (subst (λ m. InCount site (loop_at flags c start) (4 + rest_of flags c) c c.bits m 0 v t) highest k)) in
     comes_out r.state r.goes (let pc = r.counts.here.pc in let ends = e.stands.2 in omega arith) (record {
       same = same_beside h e.are_values r.counts.holds;
       is_state = r.counts.is_state;

@@ -1,14 +1,24 @@
 -- How a sequence and an island keep Reach, and how many uses are pending after them.
 use Rattle.std.proofs.Common.{◌≡◌, ◌⊎◌, inl, inr, ℕ, zero, suc, ◌+◌, ◌*◌, ◌/◌, ◌≤◌, Bool, true, false, cond, List, [], ◌∷◌, ◌++◌, length, Option, Some, None, refl, ap, sym, ◌∙◌, subst, arith, ⊎_elim, append_assoc}
-use Rattle.std.specs.Prelude.{slice_get, nat_eq, ◌==◌, ◌%◌, ℤ, if◌then◌else◌}
+use Rattle.std.specs.Prelude.{slice_get, nat_eq, ◌==◌, ℤ, pos, negsuc, ◌-◌, if◌then◌else◌}
 use Rattle.rv_machine.specs.State.{low64}
-use Rattle.rv_inst.specs.Addresses.{Location, Based, AtLabel, AtConstant, location_of, is_near, is_splittable, far_size, address_size, load_size_at, store_size_at}
+use Rattle.rv_inst.specs.Addresses.{Location, Based, AtLabel, AtConstant, location_of, is_near, is_splittable, inline_size, far_size, far_address_size, address_size, load_size_at, store_size_at}
 use Rattle.std.proofs.lemmas.Option.{same_Some}
 use Rattle.std.proofs.lemmas.List.{length-append, append-nil}
 use Rattle.rv_base.specs.declared.label.MachLabel.{MachLabel}
+use Rattle.rv_base.specs.declared.flags.IsaFlags.{IsaFlags}
+use Rattle.rv_base.specs.Regs.{number_of}
+use Rattle.rv_machine.specs.declared.decoding.Decoded.{Decoded}
+use Rattle.rv_ops.specs.declared.alu.AluOPRRR.TheVariants.{Add, And}
+use Rattle.rv_ops.specs.declared.alu.AluOPRRI.TheVariants.{Addi, Slli, Srli}
+use Rattle.rv_ops.specs.declared.memory.LoadOP.{LoadOP}
+use Rattle.rv_ops.specs.declared.memory.StoreOP.{StoreOP}
+use Rattle.rv_inst.specs.Forms.{jump_kind, short_rrr, short_rri, short_lui, short_jalr, short_ebreak, short_load, short_store}
+use Rattle.rv_inst.specs.Immediates.{upper_of, lower_of}
 use Rattle.rv_inst.specs.Context.{Context}
+use Rattle.rv_inst.specs.declared.inst.CondBrTarget.{CondBrTarget}
 use Rattle.rv_inst.specs.declared.inst.Inst.{Inst}
-use Rattle.rv_inst.specs.declared.inst.Inst.TheVariants.{CondBr, Mov, MovFromPReg, Load, Store, LoadAddr, RawData, LoadInlineConst}
+use Rattle.rv_inst.specs.declared.inst.Inst.TheVariants.{Nop0, Nop4, EBreak, SequencePoint, Args, Rets, DummyUse, EmitIsland, RawData, Lui, Auipc, LoadInlineConst, AluRRR, AluRRImm12, Mov, MovFromPReg, Load, Store, LoadAddr, LabelAddress, Ret, TrapIf, Jal, CondBr, Udf, Jalr, Popcnt}
 use Rattle.rv_inst.specs.Rules.{is_word_type, inst_rule}
 use Rattle.rv_base.specs.declared.ir_type.IrType.{IrType}
 use Rattle.rv_base.specs.declared.ir_type.IrType.TheVariants.{I32, I64}
@@ -16,8 +26,8 @@ use Rattle.rv_base.specs.IrType.{bits_of}
 use Rattle.rv_emit.proofs.Operands.{keeps, data_kept, constant_kept}
 use Rattle.rv_inst.specs.declared.inst.CondBrTarget.TheVariants.{Label, Fallthrough}
 use Rattle.rv_inst.specs.declared.label_use.LabelUse.{LabelUse}
-use Rattle.rv_inst.specs.declared.label_use.LabelUse.TheVariants.{Jal20, B12, PCRelHi20, PCRelLo12I}
-use Rattle.rv_inst.specs.LabelUse.{label_kinds, has_veneer_of}
+use Rattle.rv_inst.specs.declared.label_use.LabelUse.TheVariants.{Jal20, B12, PCRelHi20, PCRelLo12I, RVCJump}
+use Rattle.rv_inst.specs.LabelUse.{label_kinds, forward_of, has_veneer_of}
 use Rattle.rv_inst.specs.Operands.{targets_of, ways_of, inst_ways}
 use Rattle.rv_inst.specs.declared.targets.Targets.{Targets}
 use Rattle.rv_inst.specs.declared.targets.Targets.TheVariants.{Nowhere, Jumps, Branches, Refers, RefersConstant}
@@ -28,8 +38,9 @@ use Rattle.mach_buffer.specs.declared.uses.Use.{Use}
 use Rattle.mach_buffer.specs.Reach.{CanReach, HasSlack, deadline, deadlines, is_pending, is_needed}
 use Rattle.mach_buffer.specs.Buffer.{bytes_of, uses_of, place_of}
 use Rattle.mach_buffer.proofs.Laws.{deadlines_append, slack_use, slack_less, slack_not_needed, reach_from_slack}
+use Rattle.rv_emit.proofs.ShortOps.{HasSize, rrr_sized, rri_sized, lui_sized, jalr_sized, ebreak_sized, load_sized, store_sized, least_few}
 use Rattle.rv_emit.specs.Emitted.{Buffer, pending, AppendsCode, AppendsInst, IslandIfNeeded, CanEmit, IsBounded}
-use Rattle.rv_inst.specs.Sizes.{Extent, Words, Island, line_space, extent_of, move_size}
+use Rattle.rv_inst.specs.Sizes.{Extent, Words, Island, line_space, extent_of, move_size, branch_size, count_size, trap_size}
 use Rattle.rv_inst.specs.Uses.{use_at, target_uses, uses_in}
 
 -- whether a use is pending
@@ -39,10 +50,10 @@ waits place = is_pending label_kinds place
 -- ---- uses of an instruction
 
 -- what holds of each list of uses that an instruction may have, holds of its own
-pub each_uses : (P : List (Use LabelUse) → Type 0) (context : Context) (start : ℕ) (inst : Inst) → P [] → ((label : MachLabel) → P (use_at start label Jal20 ∷ [])) → ((t : MachLabel) → P (use_at start t B12 ∷ [])) → ((t f : MachLabel) → P (use_at start t B12 ∷ use_at (start + 4) f Jal20 ∷ [])) → ((label : MachLabel) → P (use_at start label PCRelHi20 ∷ use_at (start + 4) label PCRelLo12I ∷ [])) → P (uses_in context start inst)
+pub each_uses : (P : List (Use LabelUse) → Type 0) (context : Context) (start : ℕ) (inst : Inst) → P [] → ((label : MachLabel) → P (use_at start label (jump_kind context.flags) ∷ [])) → ((t : MachLabel) → P (use_at start t B12 ∷ [])) → ((t f : MachLabel) → P (use_at start t B12 ∷ use_at (start + 4) f (jump_kind context.flags) ∷ [])) → ((label : MachLabel) → P (use_at start label PCRelHi20 ∷ use_at (start + 4) label PCRelLo12I ∷ [])) → P (uses_in context start inst)
 each_uses P context start inst none jump one two address = on (targets_of inst)
   where
-    on : (targets : Targets) → P (target_uses start targets)
+    on : (targets : Targets) → P (target_uses context.flags start targets)
     on Nowhere = none
     on (Jumps label) = jump label
     on (Branches Fallthrough not_taken) = none
@@ -67,24 +78,39 @@ each_more P x xs p rest zero y h = subst P (same_Some _ _ h) p
 each_more P x xs p rest (suc k) y h = rest k y h
 
 -- what holds of each use that may stand in a sequence holds of those of an instruction
-pub each_use : (P : Use LabelUse → Type 0) (context : Context) (start : ℕ) (inst : Inst) → ((label : MachLabel) → P (use_at start label Jal20)) → ((label : MachLabel) → P (use_at start label B12)) → ((label : MachLabel) → P (use_at (start + 4) label Jal20)) → ((label : MachLabel) → P (use_at start label PCRelHi20)) → ((label : MachLabel) → P (use_at (start + 4) label PCRelLo12I)) → Each P (uses_in context start inst)
+pub each_use : (P : Use LabelUse → Type 0) (context : Context) (start : ℕ) (inst : Inst) → ((label : MachLabel) → P (use_at start label (jump_kind context.flags))) → ((label : MachLabel) → P (use_at start label B12)) → ((label : MachLabel) → P (use_at (start + 4) label (jump_kind context.flags))) → ((label : MachLabel) → P (use_at start label PCRelHi20)) → ((label : MachLabel) → P (use_at (start + 4) label PCRelLo12I)) → Each P (uses_in context start inst)
 each_use P context start inst jump branch second upper lower =
     each_uses (Each P) context start inst (each_none P)
     (λ label. each_more P _ [] (jump label) (each_none P))
     (λ t. each_more P _ [] (branch t) (each_none P))
-    (λ t f. each_more P _ (use_at (start + 4) f Jal20 ∷ []) (branch t) (each_more P _ [] (second f) (each_none P)))
+    (λ t f. each_more P _ (use_at (start + 4) f (jump_kind context.flags) ∷ []) (branch t) (each_more P _ [] (second f) (each_none P)))
     (λ label. each_more P _ (use_at (start + 4) label PCRelLo12I ∷ []) (upper label) (each_more P _ [] (lower label) (each_none P)))
 
--- each reaches over 4094 bytes
-pub uses_far : (context : Context) (start : ℕ) (inst : Inst) → Each (λ u. start + 4094 ≤ deadline label_kinds u) (uses_in context start inst)
-uses_far context start inst = each_use (λ u. start + 4094 ≤ deadline label_kinds u) context start inst (λ label. omega arith) (λ label. omega arith) (λ label. omega arith) (λ label. omega arith) (λ label. omega arith)
+-- how far a jump reaches at least, and that it may go by a veneer
+jump_far : (flags : IsaFlags) → 2046 ≤ forward_of (jump_kind flags)
+jump_far flags = by flags.has_zca
+  where
+    by : (c : Bool) → 2046 ≤ forward_of (if c then RVCJump else Jal20)
+    by true = omega arith
+    by false = omega arith
+
+jump_served : (flags : IsaFlags) → has_veneer_of (jump_kind flags) ≡ true
+jump_served flags = by flags.has_zca
+  where
+    by : (c : Bool) → has_veneer_of (if c then RVCJump else Jal20) ≡ true
+    by true = refl
+    by false = refl
+
+-- each reaches over 2046 bytes
+pub uses_far : (context : Context) (start : ℕ) (inst : Inst) → Each (λ u. start + 2046 ≤ deadline label_kinds u) (uses_in context start inst)
+uses_far context start inst = let far = jump_far context.flags in each_use (λ u. start + 2046 ≤ deadline label_kinds u) context start inst (λ label. omega arith) (λ label. omega arith) (λ label. omega arith) (λ label. omega arith) (λ label. omega arith)
 
 -- a use may go by a veneer, or reaches all code
 abbrev pub IsServed : Use LabelUse → Type 0
 IsServed u = (has_veneer_of u.kind ≡ true) ⊎ (is_far label_kinds u ≡ true)
 
 pub uses_kinds : (context : Context) (start : ℕ) (inst : Inst) → Each IsServed (uses_in context start inst)
-uses_kinds context start inst = each_use IsServed context start inst (λ label. inl refl) (λ label. inl refl) (λ label. inl refl) (λ label. inr refl) (λ label. inr refl)
+uses_kinds context start inst = each_use IsServed context start inst (λ label. inl (jump_served context.flags)) (λ label. inl refl) (λ label. inl (jump_served context.flags)) (λ label. inr refl) (λ label. inr refl)
 
 -- none has a veneer yet
 pub uses_bare : (context : Context) (start : ℕ) (inst : Inst) → Each (λ u. u.veneer ≡ None) (uses_in context start inst)
@@ -97,66 +123,110 @@ abbrev size_in : Extent → ℕ
 size_in (Words size) = size
 size_in (Island space) = 0
 
-move_short : (rd rs : ℕ) → move_size rd rs ≤ 44
-move_short rd rs = on (nat_eq rd rs)
+-- an operation
+op_short : (d : Decoded) → HasSize d → d.len ≤ 44
+op_short d size = let few = size.few in omega arith
+
+move_short : (flags : IsaFlags) (rd rs : ℕ) → move_size flags rd rs ≤ 44
+move_short flags rd rs = on (nat_eq rd rs)
   where
-    on : (c : Bool) → (if c then 0 else 4) ≤ 44
+    on : (c : Bool) → (if c then 0 else (short_rri flags Addi rd rs (pos 0)).len) ≤ 44
     on true = omega arith
-    on false = omega arith
+    on false = op_short (short_rri flags Addi rd rs (pos 0)) (rri_sized flags Addi rd rs (pos 0))
 
 data_short : (bytes : List ℕ) → (length bytes ≡ 4) ⊎ (length bytes ≡ 8) → length bytes ≤ 44
 data_short bytes (inl e) = omega arith
 data_short bytes (inr e) = omega arith
 
-constant_short : (type : IrType) → is_word_type type ≡ true → 12 + bits_of type / 8 ≤ 44
-constant_short I32 word = omega arith
-constant_short I64 word = omega arith
-constant_short _ word = absurd (cc)
+constant_short : (flags : IsaFlags) (type : IrType) → is_word_type type ≡ true → inline_size flags (bits_of type / 8) ≤ 44
+constant_short flags I32 word = let few = least_few flags in omega arith
+constant_short flags I64 word = let few = least_few flags in omega arith
+constant_short flags _ word = absurd (cc)
 
-far_short : (o : ℤ) → far_size o ≤ 20
-far_short o = on (is_splittable o) (low64 o % 4096 == 0)
+far_short : (flags : IsaFlags) (rd : ℕ) (o : ℤ) → far_size flags rd o ≤ 20
+far_short flags rd o = on (is_splittable o) (low64 (lower_of o) == 0)
   where
-    on : (c d : Bool) → (if c then (if d then 4 else 8) else 20) ≤ 20
-    on true true = omega arith
-    on true false = omega arith
-    on false d = omega arith
+    up : Decoded
+    up = short_lui flags rd (upper_of o)
 
-address_short : (at : Location) → address_size at ≤ 44
-address_short (Based r o) = on (is_near o)
+    down : Decoded
+    down = short_rri flags Addi rd rd (lower_of o)
+
+    on : (c d : Bool) → (if c then up.len + (if d then 0 else down.len) else inline_size flags 8) ≤ 20
+    on true true = let u = (lui_sized flags rd (upper_of o)).few in omega arith
+    on true false = let u = (lui_sized flags rd (upper_of o)).few in let d = (rri_sized flags Addi rd rd (lower_of o)).few in omega arith
+    on false d = let few = least_few flags in omega arith
+
+address_short : (flags : IsaFlags) (rd : ℕ) (at : Location) → address_size flags rd at ≤ 44
+address_short flags rd (Based r o) = on (is_near o)
   where
-    on : (c : Bool) → (if c then 4 else far_size o + 4) ≤ 44
-    on true = omega arith
-    on false = let far = far_short o in omega arith
-address_short (AtLabel l) = omega arith
-address_short (AtConstant k) = omega arith
+    on : (c : Bool) → (if c then (short_rri flags Addi rd r o).len else far_address_size flags rd r o) ≤ 44
+    on true = op_short (short_rri flags Addi rd r o) (rri_sized flags Addi rd r o)
+    on false = let far = far_short flags rd o in let few = (rrr_sized flags Add rd rd r).few in omega arith
+address_short flags rd (AtLabel l) = omega arith
+address_short flags rd (AtConstant k) = omega arith
 
-access_short : (o : ℤ) (c : Bool) → (if c then 4 else far_size o + 8) ≤ 44
-access_short o true = omega arith
-access_short o false = let far = far_short o in omega arith
+access_short : (flags : IsaFlags) (near : Decoded) (r : ℕ) (o : ℤ) (c : Bool) → HasSize near → (if c then near.len else far_address_size flags 31 r o + 4) ≤ 44
+access_short flags near r o true size = op_short near size
+access_short flags near r o false size = let far = far_short flags 31 o in let few = (rrr_sized flags Add 31 31 r).few in omega arith
 
-load_short : (at : Location) → load_size_at at ≤ 44
-load_short (Based r o) = access_short o (is_near o)
-load_short (AtLabel l) = omega arith
-load_short (AtConstant k) = omega arith
+load_short : (flags : IsaFlags) (op : LoadOP) (rd : ℕ) (at : Location) → load_size_at flags op rd at ≤ 44
+load_short flags op rd (Based r o) = access_short flags (short_load flags op rd r o) r o (is_near o) (load_sized flags op rd r o)
+load_short flags op rd (AtLabel l) = omega arith
+load_short flags op rd (AtConstant k) = omega arith
 
-store_short : (at : Location) → store_size_at at ≤ 44
-store_short (Based r o) = access_short o (is_near o)
-store_short (AtLabel l) = omega arith
-store_short (AtConstant k) = omega arith
+store_short : (flags : IsaFlags) (op : StoreOP) (src : ℕ) (at : Location) → store_size_at flags op src at ≤ 44
+store_short flags op src (Based r o) = access_short flags (short_store flags op r src o) r o (is_near o) (store_sized flags op r src o)
+store_short flags op src (AtLabel l) = omega arith
+store_short flags op src (AtConstant k) = omega arith
+
+branch_short : (flags : IsaFlags) (t f : CondBrTarget) → branch_size flags t f ≤ 44
+branch_short flags Fallthrough f = omega arith
+branch_short flags (Label t) Fallthrough = omega arith
+branch_short flags (Label t) (Label f) = let few = least_few flags in omega arith
+
+count_short : (flags : IsaFlags) (sum tmp step rs bits : ℕ) → count_size flags sum tmp step rs bits ≤ 44
+count_short flags sum tmp step rs bits =
+    let a = (rri_sized flags Addi sum 0 (pos 0)).few in
+    let b = (rri_sized flags Addi step 0 (pos bits)).few in
+    let c = (rri_sized flags Addi tmp 0 (pos 1)).few in
+    let d = (rri_sized flags Slli tmp tmp (pos (bits - 1))).few in
+    let e = (rrr_sized flags And 30 tmp rs).few in
+    let f = (rri_sized flags Addi sum sum (pos 1)).few in
+    let g = (rri_sized flags Addi step step (negsuc 0)).few in
+    let h = (rri_sized flags Srli tmp tmp (pos 1)).few in
+    let few = least_few flags in
+    omega arith
 
 -- at most 44 bytes
 short : (context : Context) (inst : Inst) → inst_rule context inst ≡ None → size_in (extent_of context inst) ≤ 44
-short context (Mov rd rm type) rule = move_short _ _
-short context (MovFromPReg rd rm) rule = move_short _ _
-short context (CondBr Fallthrough not_taken kind) rule = omega arith
-short context (CondBr (Label t) Fallthrough kind) rule = omega arith
-short context (CondBr (Label t) (Label f) kind) rule = omega arith
-short context (Load rd op flags from) rule = load_short (location_of context.frame from)
-short context (Store to op flags src) rule = store_short (location_of context.frame to)
-short context (LoadAddr rd mem) rule = address_short (location_of context.frame mem)
+short context Nop0 rule = omega arith
+short context Nop4 rule = omega arith
+short context EBreak rule = op_short (short_ebreak context.flags) (ebreak_sized context.flags)
+short context SequencePoint rule = omega arith
+short context (Args args) rule = omega arith
+short context (Rets rets) rule = omega arith
+short context (DummyUse reg) rule = omega arith
+short context (EmitIsland needed_space) rule = omega arith
 short context (RawData bytes) rule = data_short bytes (data_kept bytes (keeps context _ rule))
-short context (LoadInlineConst rd type imm) rule = constant_short type (constant_kept rd type imm (keeps context _ rule)).typed
-short context _ rule = omega arith
+short context (Lui rd imm) rule = op_short (short_lui context.flags (number_of rd.reg) imm.value) (lui_sized context.flags (number_of rd.reg) imm.value)
+short context (Auipc rd imm) rule = omega arith
+short context (LoadInlineConst rd type imm) rule = constant_short context.flags type (constant_kept rd type imm (keeps context _ rule)).typed
+short context (AluRRR op rd rs1 rs2) rule = op_short (short_rrr context.flags op (number_of rd.reg) (number_of rs1) (number_of rs2)) (rrr_sized context.flags op (number_of rd.reg) (number_of rs1) (number_of rs2))
+short context (AluRRImm12 op rd rs imm) rule = op_short (short_rri context.flags op (number_of rd.reg) (number_of rs) imm.value) (rri_sized context.flags op (number_of rd.reg) (number_of rs) imm.value)
+short context (Mov rd rm type) rule = move_short context.flags _ _
+short context (MovFromPReg rd rm) rule = move_short context.flags _ _
+short context (Load rd op flags from) rule = load_short context.flags op (number_of rd.reg) (location_of context.frame from)
+short context (Store to op flags src) rule = store_short context.flags op (number_of src) (location_of context.frame to)
+short context (LoadAddr rd mem) rule = address_short context.flags (number_of rd.reg) (location_of context.frame mem)
+short context (LabelAddress dst label) rule = omega arith
+short context Ret rule = op_short (short_jalr context.flags 0 1 (pos 0)) (jalr_sized context.flags 0 1 (pos 0))
+short context (TrapIf cmp code) rule = let few : trap_size context.flags ≤ 4 = least_few context.flags in omega arith
+short context (Jal label) rule = let few = least_few context.flags in omega arith
+short context (CondBr t f kind) rule = branch_short context.flags t f
+short context (Udf code) rule = let few : trap_size context.flags ≤ 4 = least_few context.flags in omega arith
+short context (Jalr rd base offset) rule = op_short (short_jalr context.flags (number_of rd.reg) (number_of base) offset.value) (jalr_sized context.flags (number_of rd.reg) (number_of base) offset.value)
+short context (Popcnt sum tmp step rs type) rule = count_short context.flags (number_of sum.reg) (number_of tmp.reg) (number_of step.reg) (number_of rs) (bits_of type)
 
 pub bytes_after : (context : Context) (inst : Inst) (old new : Buffer) → inst_rule context inst ≡ None → AppendsInst context inst old new → length (bytes_of new) ≤ length (bytes_of old) + 44
 bytes_after context inst old new rule p =
@@ -197,7 +267,7 @@ pending_after context inst old new p =
 none_pending : (context : Context) (place : ℕ → Option ℕ) (start : ℕ) (inst : Inst) → inst_ways inst ≡ [] → length (deadlines (waits place) label_kinds (uses_in context start inst)) ≡ 0
 none_pending context place start inst e = on (targets_of inst) e
   where
-    on : (targets : Targets) → ways_of targets ≡ [] → length (deadlines (waits place) label_kinds (target_uses start targets)) ≡ 0
+    on : (targets : Targets) → ways_of targets ≡ [] → length (deadlines (waits place) label_kinds (target_uses context.flags start targets)) ≡ 0
     on Nowhere e = refl
     on (Jumps label) e = absurd (cc)
     on (Branches Fallthrough not_taken) e = refl

@@ -7,7 +7,7 @@ use Rattle.rv_base.specs.declared.label.MachLabel.{MachLabel}
 use Rattle.rv_base.specs.declared.trap.TrapCode.{TrapCode}
 use Rattle.rv_machine.specs.declared.decoding.Decoded.{Decoded}
 use Rattle.rv_inst.specs.declared.label_use.LabelUse.{LabelUse}
-use Rattle.rv_inst.specs.declared.label_use.LabelUse.TheVariants.{Jal20, PCRel32, B12, PCRelHi20, PCRelLo12I}
+use Rattle.rv_inst.specs.declared.label_use.LabelUse.TheVariants.{Jal20, PCRel32, B12, PCRelHi20, PCRelLo12I, RVCJump}
 use Rattle.rv_inst.specs.LabelUse.{label_kinds, marks_of, has_veneer_of, forward_of, backward_of}
 use Rattle.rv_inst.specs.Uses.{use_at}
 use Rattle.mach_buffer.specs.declared.uses.Use.{Use}
@@ -18,7 +18,7 @@ use Rattle.mach_buffer.specs.Reach.{is_reached}
 use Rattle.mach_buffer.specs.Growth.{Lasts}
 use Rattle.mach_buffer.specs.Pieces.{ByVeneer, UseFinished}
 use Rattle.mach_buffer.proofs.Laws.{lasts_more, piece_finished, use_finished, slice_get-append, slice_get-append_last}
-use Rattle.rv_emit.specs.InstParts.{jump_to}
+use Rattle.rv_emit.specs.InstParts.{wide_jump_to}
 use Rattle.rv_emit.specs.Slots.{Target, Label, Own, Slot, Op, Aim, Data, Traps, Names, Allocate, Here, Part, Ask, Slots, slot_size, size_of, own_label, label_of, uses_of, between, here_at, IsClosed, AreClosed, IsBlock, AreBlocks}
 use Rattle.rv_emit.specs.Sites.{Site, BytesAt, CodeHas, LeadsOn, Leads, Reaches, AimsFrom, StandsIn, GapIn, PartsStand}
 use Rattle.rv_inst.specs.Traps.{IsRecorded}
@@ -38,6 +38,7 @@ marks_even PCRel32 = refl
 marks_even B12 = refl
 marks_even PCRelHi20 = refl
 marks_even PCRelLo12I = refl
+marks_even RVCJump = refl
 
 closed_even : (here : ℕ → Option ℕ) (at : ℕ) (slots : List Slot) → AreClosed here at slots → size_of slots % 2 ≡ 0
 closed_even here at [] h = refl
@@ -235,10 +236,10 @@ module _ (site : Site) (f : Shape LabelUse) (fin : IsFinishedTo f site.bytes) (s
 
   island_leads : (from to : ℕ) → from % 2 ≡ 0 → IslandIn site.context.flags f from to → LeadsOn site from to
   island_leads from to even i =
-      let jump = (slots_stand (jump_to (Label i.after_island) ∷ []) from (from + 4) (tt, tt) i.jump).0.0 in
+      let jump = (slots_stand (wide_jump_to (Label i.after_island) ∷ []) from (from + 4) (tt, tt) i.jump).0.0 in
       let there : jump.reaches.0 ≡ to = same_Some jump.reaches.0 to (sym jump.reaches.1 ∙ ap (λ (p : ℕ → Option ℕ). p i.after_island.number) same ∙ bound_in i.after_island.number to i.bound) in
       leads_both site from jump.to to
-      (jump_leads site from jump.to even (slots_within (jump_to (Label i.after_island) ∷ []) from (from + 4) i.jump) jump.has)
+      (jump_leads site from jump.to even (slots_within (wide_jump_to (Label i.after_island) ∷ []) from (from + 4) i.jump) jump.has)
       (subst (LeadsOn site jump.to) there jump.reaches.2)
 
   -- nothing, or an island

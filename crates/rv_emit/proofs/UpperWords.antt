@@ -1,10 +1,10 @@
 -- A word that decodes to auipc has its opcode: no other opcode's operations are auipc.
-use Rattle.std.proofs.Common.{◌≡◌, ℕ, ◌^◌, ◌<◌, ◌==◌, if◌then◌else◌, Bool, true, false, Option, Some, None, pos, refl, ap, sym, ◌∙◌, arith}
+use Rattle.std.proofs.Common.{◌≡◌, ℕ, ◌+◌, ◌*◌, ◌/◌, ◌%◌, ◌^◌, ◌<◌, ◌==◌, nat_eq, if◌then◌else◌, Bool, true, false, Option, Some, None, pos, refl, ap, sym, ◌∙◌, arith}
 use Rattle.std.specs.Option.{option_map}
 use Rattle.std.proofs.lemmas.Bool.Decides.{nat_tests}
 use Rattle.std.proofs.lemmas.Int.{ints}
 use Rattle.std.proofs.lemmas.Option.{same_Some}
-use Rattle.rv_base.specs.declared.flags.IsaFlags.{IsaFlags}
+use Rattle.rv_base.specs.Flags.{no_flags}
 use Rattle.rv_machine.specs.declared.decoding.Decoded.{Decoded}
 use Rattle.rv_machine.specs.declared.ops.AluOp.{AluOp}
 use Rattle.rv_machine.specs.declared.ops.BaseOp.{BaseOp}
@@ -16,6 +16,8 @@ use Rattle.rv_machine.specs.State.{signed}
 use Rattle.rv_machine.specs.Opcodes.{LUI, AUIPC, JAL, JALR, BRANCH, LOAD, STORE, OP_IMM, OP_IMM_32, OP, OP_32, MISC_MEM, SYSTEM}
 use Rattle.rv_machine.specs.Tables.{load_entry, store_entry, imm_entry, imm_32_entry, shift_entry, unary_entry, long_shift_32_entry, shift_32_entry, unary_32_entry, op_entry, op_32_entry, unary_op_32_entry}
 use Rattle.rv_machine.specs.Decode.{decode, by_opcode, or_else, decode_jalr, decode_branch, decode_load, decode_store, decode_op_imm, decode_op_imm_32, decode_op, decode_op_32, decode_misc_mem, decode_system}
+use Rattle.rv_machine.specs.Compressed.{decode_half}
+use Rattle.rv_machine.proofs.DecodeLaws.{decode_low}
 use Rattle.rv_encode.specs.Layouts.{IsUType}
 use Rattle.rv_encode.specs.Operations.{row}
 use Rattle.rv_encode.proofs.Decoding.{opcode_decodes}
@@ -109,16 +111,34 @@ auipc_opcode k w e =
 none_signed : (n : ℕ) → signed (2 ^ 19) n ≡ pos 0 → n < 2 ^ 20 → n ≡ 0
 none_signed n e h = grind (arith, ints)
 
--- a word that decodes to auipc with immediate 0 has its layout
-pub auipc_layout : (flags : IsaFlags) (w rd : ℕ) → decode flags w ≡ Some (row (Base base.Auipc) rd 0 0 (pos 0)) → IsUType w AUIPC rd 0
-auipc_layout flags w rd e = record {
-  opcode_is = is;
-  rd_is = ap (λ (d : Decoded). d.rd) same;
-  imm_is = none_signed (u_bits w) (ap (λ (d : Decoded). d.imm) same) (omega arith);
-}
-  where
-    is : word_opcode w ≡ AUIPC
-    is = auipc_opcode (word_opcode w) w (ap has_auipc (sym (opcode_decodes flags w (word_opcode w) refl) ∙ e))
+none_half : (half : ℕ) → decode_half no_flags half ≡ None
+unfolding decode_half
+none_half half = refl
 
-    same : u_layout w (Base base.Auipc) ≡ row (Base base.Auipc) rd 0 0 (pos 0)
-    same = same_Some _ _ (sym (opcode_decodes flags w AUIPC is) ∙ e)
+-- without flags, a word has an operation only where its two lowest bits are 11
+none_narrow : (w : ℕ) → nat_eq (word_opcode w % 4) 3 ≡ false → decode no_flags w ≡ None
+none_narrow w narrow =
+    let split : w ≡ w % 2 ^ 16 + w / 2 ^ 16 * 2 ^ 16 = omega arith in
+    let same : word_opcode w % 4 ≡ w % 2 ^ 16 % 4 = omega arith in
+    ap (decode no_flags) split ∙ decode_low no_flags (w % 2 ^ 16) (w / 2 ^ 16) (omega arith) (ap (λ n. nat_eq n 3) (sym same) ∙ narrow) ∙ none_half (w % 2 ^ 16)
+
+-- a word that decodes to auipc with immediate 0 has its layout
+pub auipc_layout : (w rd : ℕ) → decode no_flags w ≡ Some (row (Base base.Auipc) rd 0 0 (pos 0)) → IsUType w AUIPC rd 0
+auipc_layout w rd e = by (nat_eq (word_opcode w % 4) 3) refl
+  where
+    wide_layout : nat_eq (word_opcode w % 4) 3 ≡ true → IsUType w AUIPC rd 0
+    wide_layout wide =
+        let is : word_opcode w ≡ AUIPC = auipc_opcode (word_opcode w) w (ap has_auipc (sym (opcode_decodes no_flags w (word_opcode w) refl wide) ∙ e)) in
+        let same : u_layout w (Base base.Auipc) ≡ row (Base base.Auipc) rd 0 0 (pos 0) = same_Some _ _ (sym (opcode_decodes no_flags w AUIPC is refl) ∙ e) in
+        record {
+          opcode_is = is;
+          rd_is = ap (λ (d : Decoded). d.rd) same;
+          imm_is = none_signed (u_bits w) (ap (λ (d : Decoded). d.imm) same) (omega arith);
+        }
+
+    none_some : {d : Decoded} → decode no_flags w ≡ None → decode no_flags w ≡ Some d → ⊥
+    none_some a b = absurd (cc)
+
+    by : (c : Bool) → nat_eq (word_opcode w % 4) 3 ≡ c → IsUType w AUIPC rd 0
+    by true wide = wide_layout wide
+    by false narrow = absurd (none_some (none_narrow w narrow) e)

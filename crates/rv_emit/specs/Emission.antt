@@ -1,13 +1,15 @@
 -- What an instruction puts into a buffer: links of the proof.
 use Rattle.std.specs.Prelude.{◌≡◌, Bool, List, [], ◌∷◌}
+use Rattle.rv_base.specs.declared.constant.Constant.{Constant}
 use Rattle.rv_base.specs.declared.flags.IsaFlags.{IsaFlags}
+use Rattle.rv_base.specs.declared.frame.FrameLayout.{FrameLayout}
 use Rattle.mach_buffer.specs.Buffer.{shape_of, allocated_of}
 use Rattle.rv_emit.specs.Emitted.{Buffer, IsSoundBuffer, IslandIfNeeded}
 use Rattle.rv_emit.specs.Slots.{Slot, Part, Ask, Slots}
 use Rattle.rv_emit.specs.Puts.{Puts}
 use Rattle.rv_emit.specs.InstParts.{slots_alone, parts_of}
 use Rattle.rv_emit.specs.declared.state.EmitVState.{EmitVState}
-use Rattle.rv_inst.specs.Context.{Context}
+use Rattle.rv_inst.specs.Context.{Context, context_by}
 use Rattle.rv_inst.specs.declared.inst.Inst.{Inst}
 
 -- slots were put into a buffer
@@ -21,12 +23,9 @@ PutsParts flags [] old new = new ≡ old
 PutsParts flags (Ask space ∷ parts) old new = (mid : Buffer) × (made : Bool) × IslandIfNeeded space old mid made × PutsParts flags parts mid new
 PutsParts flags (Slots slots ∷ parts) old new = (mid : Buffer) × PutsSlots flags slots old mid × PutsParts flags parts mid new
 
--- whatever the flags are, slots were put, alone
-abbrev pub PutsAll : List Slot → Buffer → Buffer → Type 0
-PutsAll slots old new = (flags : IsaFlags) → PutsSlots flags slots old new
-
-abbrev pub PutsAlone : List Slot → Buffer → Buffer → Type 0
-PutsAlone slots old new = (flags : IsaFlags) → PutsParts flags (slots_alone slots) old new
+-- slots were put, alone
+abbrev pub PutsAlone : IsaFlags → List Slot → Buffer → Buffer → Type 0
+PutsAlone flags slots old new = PutsParts flags (slots_alone slots) old new
 
 -- the parts of an instruction were
 abbrev pub EmitsIn : Context → EmitVState → Inst → Buffer → Buffer → Type 0
@@ -36,6 +35,6 @@ EmitsIn context setting inst old new = PutsParts context.flags (parts_of context
 abbrev pub Emits : Context → Inst → Buffer → Buffer → Type 0
 Emits context inst old new = (setting : EmitVState) → EmitsIn context setting inst old new
 
--- and whatever the context is
-abbrev pub EmitsAnyhow : Inst → Buffer → Buffer → Type 0
-EmitsAnyhow inst old new = (context : Context) → Emits context inst old new
+-- and whatever the frame and the constants are
+abbrev pub EmitsAnyhow : IsaFlags → Inst → Buffer → Buffer → Type 0
+EmitsAnyhow flags inst old new = (frame : FrameLayout) (constants : List Constant) → Emits (context_by flags frame constants) inst old new

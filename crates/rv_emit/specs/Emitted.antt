@@ -26,9 +26,10 @@ use Rattle.mach_buffer.specs.Constants.{reserve_of, AllStand}
 use Rattle.mach_buffer.specs.Growth.{Lasts}
 use Rattle.mach_buffer.specs.Windows.{AreWindows}
 use Rattle.mach_buffer.specs.VeneerConditions.{AddsOwn}
+use Rattle.rv_emit.specs.ConstantsAdded.{AddsConstants}
 use Rattle.rv_emit.specs.Slots.{Label}
 use Rattle.rv_emit.specs.Puts.{Puts}
-use Rattle.rv_emit.specs.InstParts.{jump_to}
+use Rattle.rv_emit.specs.InstParts.{wide_jump_to}
 
 -- ---- buffers of code
 
@@ -68,7 +69,7 @@ named_by (Some k) named = name_more k named
 pub record AppendsInst (context : Context) (inst : Inst) (old new : Buffer) : Type 0 where
   pub code : List ℕ
   pub adds : AppendsCode code (uses_in context (length (bytes_of old)) inst) old new
-  pub traps : traps_of new ≡ traps_of old ++ inst_traps (length (bytes_of old)) (length (bytes_of new)) inst
+  pub traps : traps_of new ≡ traps_of old ++ inst_traps context (length (bytes_of old)) (length (bytes_of new)) inst
   pub named : named_of new ≡ named_by (inst_constant inst) (named_of old)
   pub long : extent_of context inst ≡ Words (length code)
 
@@ -80,7 +81,7 @@ pub record AppendsIsland (old new : Buffer) : Type 0 where
   pub after_island : MachLabel
   pub drawn_label : after_island.number ≡ first_inner + allocated_of old
   pub jumped : Shape LabelUse
-  pub puts : (flags : IsaFlags) → Puts flags (allocated_of old + 1) (jump_to (Label after_island) ∷ []) (with_allocated (shape_of old)) jumped
+  pub puts : (flags : IsaFlags) → Puts flags (allocated_of old + 1) (wide_jump_to (Label after_island) ∷ []) (with_allocated (shape_of old)) jumped
   pub lasts : Lasts label_kinds jumped (shape_of new)
   pub allocated : allocated_of new ≡ allocated_of old + 1
   pub jump : take (length (bytes_of old) + 4) (bytes_of new) ≡ bytes_of old ++ word_bytes 0x6f
@@ -96,6 +97,7 @@ pub record AppendsIsland (old new : Buffer) : Type 0 where
   pub aligned : length (bytes_of new) % 4 ≡ 0
   pub short : length (bytes_of new) + reserve_of (shape_of new) ≤ length (bytes_of old) + 17 + 8 * length (pending old) + reserve_of (shape_of old)
   pub windows : HasWindows old → HasWindows new
+  pub adds : AddsConstants (shape_of old) (shape_of new)
   pub constants : HasWindows old → AllStand label_kinds (shape_of old) → AllStand label_kinds (shape_of new)
   pub sound : IsSoundBuffer new
 

@@ -4,12 +4,11 @@ use Rattle.rv_base.specs.LabelUse.{code_limit}
 use Rattle.mach_labels.specs.Table.{first_constant}
 use Rattle.rv_machine.specs.Decode.{decode}
 use Rattle.rv_machine.specs.State.{State, IsState, Values, AreValues, wrap}
-use Rattle.rv_machine.specs.Steps.{fetch, iter}
+use Rattle.rv_machine.specs.Steps.{fetch, iter, IsBreak}
 use Rattle.rv_inst.specs.declared.inst.Inst.{Inst}
 use Rattle.rv_inst.specs.Meaning.{Environment, Exit, Next, To, Leave, Break, Trap, Data, inst_exit, inst_effect, inst_writes, inst_temporaries, AreOutside}
 use Rattle.rv_inst.specs.SameValues.{Same, SameBut}
 use Rattle.rv_emit.specs.declared.state.EmitVState.{EmitVState}
-use Rattle.rv_emit.specs.Operations.{decoded_ebreak}
 use Rattle.rv_emit.specs.Slots.{Part}
 use Rattle.rv_emit.specs.Sites.{Site, IsPlacedAt, PartsStand}
 use Rattle.rv_inst.specs.Traps.{IsRecorded}
@@ -38,7 +37,7 @@ least_steps Break = 0
 least_steps (Trap code) = 0
 least_steps Data = 0
 
--- a machine where an exit leads, from parts that stand between two offsets; at a break stands ebreak, and at a trap, which is recorded,
+-- a machine where an exit leads, from parts that stand between two offsets; at a break stands an ebreak, and at a trap, which is recorded,
 -- no operation
 abbrev pub Arrives : Site → ℕ → ℕ → Exit → State → Type 0
 Arrives site start after Next t = t.pc ≡ wrap (site.base + after)
@@ -46,7 +45,7 @@ Arrives site start after (To label) t = (at : ℕ) × (site.place label ≡ Some
 Arrives site start after (Leave a) t = t.pc ≡ a
 Arrives site start after (Trap code) t = (at : ℕ) × IsRecorded site.traps at code × (start ≤ at) × (at < after) × (t.pc ≡ wrap (site.base + at)) × (decode site.context.flags (fetch t.values.mem t.pc) ≡ None)
 Arrives site start after Data t = t.pc ≡ wrap (site.base + start)
-Arrives site start after Break t = (t.pc ≡ wrap (site.base + start)) × (decode site.context.flags (fetch t.values.mem t.pc) ≡ Some decoded_ebreak)
+Arrives site start after Break t = (t.pc ≡ wrap (site.base + start)) × IsBreak site.context.flags t.values.mem t.pc
 
 -- in some steps the machine comes where an exit leads, with values that are these, declared temporaries apart
 pub record ComesOut (site : Site) (start after : ℕ) (exit : Exit) (free : List ℕ) (v : Values) (s : State) : Type 0 where

@@ -1,4 +1,5 @@
 pub mod Emitted
+pub mod Encoded
 pub mod Operations
 pub mod State
 pub mod Usable
@@ -11,6 +12,7 @@ pub mod InstParts
 pub mod InstRuns
 pub mod Standing
 pub mod Chains
+pub mod ConstantsAdded
 pub mod LargerMachine
 pub mod Immediates
 pub mod Places

@@ -1,20 +1,18 @@
 -- Operations of the machine that instructions become.
-use Rattle.std.specs.Prelude.{ℕ, ℤ, pos}
+use Rattle.std.specs.Prelude.{ℕ, ℤ, if◌then◌else◌}
+use Rattle.rv_base.specs.declared.flags.IsaFlags.{IsaFlags}
 use Rattle.rv_machine.specs.declared.decoding.Decoded.{Decoded}
 use Rattle.rv_machine.specs.declared.ops.MOp.TheVariants.{Base, Alu}
 use Rattle.rv_machine.specs.declared.ops.BaseOp.TheVariants as base
 use Rattle.rv_machine.specs.declared.ops.AluOp.TheVariants.{Int}
 use Rattle.rv_machine.specs.declared.ops.IntOp.TheVariants as int
-use Rattle.rv_machine.specs.Layout.{bare_form}
-use Rattle.rv_ops.specs.declared.alu.AluOPRRI.TheVariants as rri
-use Rattle.rv_encode.specs.Operations.{row, decoded_rri}
+use Rattle.rv_machine.specs.Layout.{compressed}
+use Rattle.rv_encode.specs.Operations.{row}
+pub use Rattle.rv_inst.specs.Forms.{jump_size}
 
 -- rd is rs plus an immediate
 abbrev pub decoded_addi : ℕ → ℕ → ℤ → Decoded
 decoded_addi rd rs imm = row (Alu (Int int.Addi)) rd rs 0 imm
-
-abbrev pub decoded_ebreak : Decoded
-decoded_ebreak = bare_form (Base base.Ebreak)
 
 -- to a register's address plus an immediate
 abbrev pub decoded_jalr : ℕ → ℕ → ℤ → Decoded
@@ -24,19 +22,9 @@ decoded_jalr rd rs imm = row (Base base.Jalr) rd rs 0 imm
 abbrev pub decoded_jump : ℤ → Decoded
 decoded_jump d = row (Base base.Jal) 0 0 0 d
 
--- shifts by so many bits
-abbrev pub decoded_slli : ℕ → ℕ → ℕ → Decoded
-decoded_slli rd rs shift = decoded_rri rri.Slli rd rs (pos shift)
-
-abbrev pub decoded_srli : ℕ → ℕ → ℕ → Decoded
-decoded_srli rd rs shift = decoded_rri rri.Srli rd rs (pos shift)
-
--- rd is the sum of two registers
-abbrev pub decoded_add : ℕ → ℕ → ℕ → Decoded
-decoded_add rd rs1 rs2 = row (Alu (Int int.Add)) rd rs1 rs2 (pos 0)
-
-abbrev pub decoded_and : ℕ → ℕ → ℕ → Decoded
-decoded_and rd rs1 rs2 = row (Alu (Int int.And)) rd rs1 rs2 (pos 0)
+-- the same in the shortest form, which is c.j where there is one
+abbrev pub short_jump : IsaFlags → ℤ → Decoded
+short_jump flags d = if flags.has_zca then compressed (Base base.Jal) 0 0 0 d else decoded_jump d
 
 -- branches where two registers are equal, and where the first isn't less than the second, signed
 abbrev pub decoded_beq : ℕ → ℕ → ℤ → Decoded

@@ -11,7 +11,7 @@ use Rattle.mach_buffer.specs.Finish.{CanFinish, Finishes}
 use Rattle.mach_buffer.specs.Growth.{Lasts}
 use Rattle.rv_emit.specs.Slots.{Label, Slot, Part, Ask, Slots}
 use Rattle.rv_emit.specs.Puts.{AllBytes, Puts}
-use Rattle.rv_emit.specs.InstParts.{jump_to}
+use Rattle.rv_emit.specs.InstParts.{wide_jump_to}
 
 -- slots were put between two offsets
 pub record SlotsIn (flags : IsaFlags) (slots : List Slot) (f : Shape LabelUse) (start end : ℕ) : Type 0 where
@@ -26,7 +26,7 @@ pub record SlotsIn (flags : IsaFlags) (slots : List Slot) (f : Shape LabelUse) (
 -- an island was put between two offsets: first a jump to a label that is bound at the second
 pub record IslandIn (flags : IsaFlags) (f : Shape LabelUse) (from to : ℕ) : Type 0 where
   pub after_island : MachLabel
-  pub jump : SlotsIn flags (jump_to (Label after_island) ∷ []) f from (from + 4)
+  pub jump : SlotsIn flags (wide_jump_to (Label after_island) ∷ []) f from (from + 4)
   pub bound : f.place after_island.number ≡ Some to
   pub longer : from + 4 ≤ to
 

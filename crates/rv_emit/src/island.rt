@@ -8,7 +8,7 @@ ghost use Rattle.mach_buffer.specs.Shape.{inner_count};
 ghost use Rattle.mach_buffer.specs.Constants.{reserve_of};
 ghost use Rattle.rv_emit.specs.Emitted.{IsSoundBuffer, pending, AppendsIsland, IslandIfNeeded};
 
-use crate::sequence::put_jump;
+use crate::sequence::put_wide_jump;
 use mach_buffer::MachBuffer;
 use rv_base::OutOfMemory;
 use rv_inst::LabelUse;
@@ -42,7 +42,7 @@ fn put_island(sink: &mut MachBuffer<LabelUse>) -> Result<(), OutOfMemory>
     ensures refused { OnErr result (spoiled_of sink.new ≡ true) }
 {
     let after_island = sink.get_label()?;
-    put_jump(sink, after_island)?;
+    put_wide_jump(sink, after_island)?;
     sink.emit_island(after_island)?;
     Ok(())
 }

@@ -1,12 +1,17 @@
 //! An instruction becomes a sequence of bytes, with its uses of labels.
 #![tactic(auto)]
 
+mod compressed;
+mod compressed_immediates;
+mod compressed_memory;
+mod compressed_registers;
 mod emit;
 mod expansions;
 mod island;
 mod memory;
 mod popcnt;
 mod sequence;
+mod shortest;
 mod state;
 
 pub use emit::MachInstEmit;

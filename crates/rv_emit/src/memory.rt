@@ -1,6 +1,7 @@
 //! Loads, stores and addresses.
 
 ghost use Rattle.std.specs.Prelude.{◌≡◌, [], ◌∷◌, ◌++◌, ◌+◌, ◌^◌, ◌<◌, length, pos, OnOk, OnErr, IfOk, true};
+ghost use Rattle.rv_base.specs.declared.flags.IsaFlags.{IsaFlags};
 ghost use Rattle.rv_base.specs.Frame.{sp_to_args_end};
 ghost use Rattle.rv_base.specs.LabelUse.{code_limit};
 ghost use Rattle.rv_base.specs.Regs.{number_of};
@@ -11,26 +12,25 @@ ghost use Rattle.rv_ops.specs.Memory.{load_funct3};
 ghost use Rattle.rv_encode.specs.Layouts.{IsIType};
 ghost use Rattle.rv_encode.specs.Operations.{decoded_load, decoded_store};
 ghost use Rattle.rv_encode.specs.Registers.{IsIntRegister};
+ghost use Rattle.rv_ops.specs.declared.alu.AluOPRRR.TheVariants.{Add};
+ghost use Rattle.rv_inst.specs.Forms.{short_load, short_rrr, short_store};
 ghost use Rattle.rv_inst.specs.Addresses.{Based, AtLabel, location_of};
 ghost use Rattle.rv_emit.specs.Emission.{PutsAlone};
 ghost use Rattle.rv_emit.specs.Emitted.{IsSoundBuffer};
 ghost use Rattle.rv_emit.specs.InstParts.{access_slots, address_slots, far_store_slots, immediate_slots, labelled, load_slots, lower_slots, naming_slots, offset_slots, store_slots, upper_at};
-ghost use Rattle.rv_emit.specs.Operations.{decoded_add};
 ghost use Rattle.rv_emit.specs.Places.{location_at, IsFinePlace};
 ghost use Rattle.rv_emit.specs.Slots.{Op};
 ghost use Rattle.rv_emit.specs.Usable.{IsFineAddress};
 
 use crate::expansions::put_double_constant;
 use crate::sequence::{put_use, put_word};
+use crate::shortest::{put_load_word, put_lui, put_rri, put_rrr, put_store_word};
 use mach_buffer::MachBuffer;
 use rv_base::{
-    AMode, FrameLayout, MachLabel, OutOfMemory, Reg, TrapCode, WritableReg, fp_reg, spilltmp_reg,
-    stack_reg, writable_spilltmp_reg,
+    AMode, FrameLayout, IsaFlags, MachLabel, OutOfMemory, Reg, TrapCode, WritableReg, fp_reg,
+    spilltmp_reg, stack_reg, writable_spilltmp_reg,
 };
-use rv_encode::{
-    enc_auipc, encode_alu_rr_imm12, encode_alu_rrr, encode_i_type, encode_load, encode_lui,
-    encode_store,
-};
+use rv_encode::{enc_auipc, encode_i_type, encode_load, encode_store};
 use rv_imms::{Imm12, Imm20, generate_imm};
 use rv_inst::LabelUse;
 use rv_ops::{AluOPRRI, AluOPRRR, LoadOP, StoreOP};
@@ -55,7 +55,7 @@ pub(crate) fn place_of(
     requires sound { IsSoundBuffer sink.old }
     ensures place { IfOk result (λ place. location_at place ≡ labelled (location_of frame.now mode)) }
     ensures fine { IfOk result (λ place. IsFinePlace (shape_of sink.new) place) }
-    ensures slots { OnOk result (PutsAlone (naming_slots (location_of frame.now mode)) sink.old sink.new) }
+    ensures slots { OnOk result ((flags : IsaFlags) → PutsAlone flags (naming_slots (location_of frame.now mode)) sink.old sink.new) }
     ensures bytes { OnOk result (bytes_of sink.new ≡ bytes_of sink.old) }
     ensures sound { OnOk result (IsSoundBuffer sink.new) }
     ensures refused { OnErr result (spoiled_of sink.new ≡ true) }
@@ -77,6 +77,7 @@ pub(crate) fn place_of(
 /// A load: of a place far from its register by x31, of a label by `rd`.
 pub(crate) fn put_load(
     sink: &mut MachBuffer<LabelUse>,
+    flags: IsaFlags,
     rd: WritableReg,
     op: LoadOP,
     trap: Option<TrapCode>,
@@ -86,17 +87,18 @@ pub(crate) fn put_load(
     requires fine { IsFinePlace (shape_of sink.old) place }
     requires room { length (bytes_of sink.old) + 28 < code_limit }
     requires sound { IsSoundBuffer sink.old }
-    ensures slots { OnOk result (PutsAlone (load_slots (number_of rd.reg) op trap (location_at place)) sink.old sink.new) }
+    ensures slots { OnOk result (PutsAlone flags (load_slots flags (number_of rd.reg) op trap (location_at place)) sink.old sink.new) }
     ensures refused { OnErr result (spoiled_of sink.new ≡ true) }
 {
     match place {
-        Place::Based(base, offset) => put_based_load(sink, rd, op, trap, base, offset),
+        Place::Based(base, offset) => put_based_load(sink, flags, rd, op, trap, base, offset),
         Place::AtLabel(label) => put_label_load(sink, rd, op, trap, label),
     }
 }
 
 fn put_based_load(
     sink: &mut MachBuffer<LabelUse>,
+    flags: IsaFlags,
     rd: WritableReg,
     op: LoadOP,
     trap: Option<TrapCode>,
@@ -107,18 +109,19 @@ fn put_based_load(
     requires base { IsIntRegister base }
     requires room { length (bytes_of sink.old) + 28 < code_limit }
     requires sound { IsSoundBuffer sink.old }
-    ensures slots { OnOk result (PutsAlone (load_slots (number_of rd.reg) op trap (Based (number_of base) offset)) sink.old sink.new) }
+    ensures slots { OnOk result (PutsAlone flags (load_slots flags (number_of rd.reg) op trap (Based (number_of base) offset)) sink.old sink.new) }
     ensures refused { OnErr result (spoiled_of sink.new ≡ true) }
 {
     match Imm12::maybe_from_i64(offset) {
-        Some(offset) => put_near_load(sink, rd, op, trap, base, offset),
-        None => put_far_load(sink, rd, op, trap, base, offset),
+        Some(offset) => put_near_load(sink, flags, rd, op, trap, base, offset),
+        None => put_far_load(sink, flags, rd, op, trap, base, offset),
     }
 }
 
-/// A load whose offset is in its word.
+/// A load whose offset is in it.
 fn put_near_load(
     sink: &mut MachBuffer<LabelUse>,
+    flags: IsaFlags,
     rd: WritableReg,
     op: LoadOP,
     trap: Option<TrapCode>,
@@ -129,17 +132,18 @@ fn put_near_load(
     requires base { IsIntRegister base }
     requires room { length (bytes_of sink.old) + 4 < code_limit }
     requires sound { IsSoundBuffer sink.old }
-    ensures slots { OnOk result (PutsAlone (access_slots trap ++ Op (decoded_load op (number_of rd.reg) (number_of base) offset.value) ∷ []) sink.old sink.new) }
+    ensures slots { OnOk result (PutsAlone flags (access_slots trap ++ Op (short_load flags op (number_of rd.reg) (number_of base) offset.value) ∷ []) sink.old sink.new) }
     ensures refused { OnErr result (spoiled_of sink.new ≡ true) }
 {
     put_access(sink, trap)?;
-    put_word(sink, encode_load(op, rd, base, offset))?;
+    put_load_word(sink, flags, op, rd, base, offset)?;
     Ok(())
 }
 
 /// A load by an address in x31.
 fn put_far_load(
     sink: &mut MachBuffer<LabelUse>,
+    flags: IsaFlags,
     rd: WritableReg,
     op: LoadOP,
     trap: Option<TrapCode>,
@@ -150,11 +154,29 @@ fn put_far_load(
     requires base { IsIntRegister base }
     requires room { length (bytes_of sink.old) + 28 < code_limit }
     requires sound { IsSoundBuffer sink.old }
-    ensures slots { OnOk result (PutsAlone (address_slots 31 (Based (number_of base) offset) ++ access_slots trap ++ Op (decoded_load op (number_of rd.reg) 31 (pos 0)) ∷ []) sink.old sink.new) }
+    ensures slots { OnOk result (PutsAlone flags (address_slots flags 31 (Based (number_of base) offset) ++ access_slots trap ++ Op (decoded_load op (number_of rd.reg) 31 (pos 0)) ∷ []) sink.old sink.new) }
     ensures refused { OnErr result (spoiled_of sink.new ≡ true) }
 {
-    put_based_address(sink, writable_spilltmp_reg(), base, offset)?;
-    put_near_load(sink, rd, op, trap, spilltmp_reg(), Imm12::ZERO)?;
+    put_based_address(sink, flags, writable_spilltmp_reg(), base, offset)?;
+    put_spilled_load(sink, rd, op, trap)?;
+    Ok(())
+}
+
+/// The word of a load by x31.
+fn put_spilled_load(
+    sink: &mut MachBuffer<LabelUse>,
+    rd: WritableReg,
+    op: LoadOP,
+    trap: Option<TrapCode>,
+) -> Result<(), OutOfMemory>
+    requires rd { IsIntRegister rd.reg }
+    requires room { length (bytes_of sink.old) + 4 < code_limit }
+    requires sound { IsSoundBuffer sink.old }
+    ensures slots { OnOk result ((flags : IsaFlags) → PutsAlone flags (access_slots trap ++ Op (decoded_load op (number_of rd.reg) 31 (pos 0)) ∷ []) sink.old sink.new) }
+    ensures refused { OnErr result (spoiled_of sink.new ≡ true) }
+{
+    put_access(sink, trap)?;
+    put_word(sink, encode_load(op, rd, spilltmp_reg(), Imm12::ZERO))?;
     Ok(())
 }
 
@@ -170,7 +192,7 @@ fn put_label_load(
     requires label { IsUsable (shape_of sink.old) label.number }
     requires room { length (bytes_of sink.old) + 8 < code_limit }
     requires sound { IsSoundBuffer sink.old }
-    ensures slots { OnOk result (PutsAlone (load_slots (number_of rd.reg) op trap (AtLabel label)) sink.old sink.new) }
+    ensures slots { OnOk result ((flags : IsaFlags) → PutsAlone flags (load_slots flags (number_of rd.reg) op trap (AtLabel label)) sink.old sink.new) }
     ensures refused { OnErr result (spoiled_of sink.new ≡ true) }
 {
     put_upper(sink, rd, label)?;
@@ -190,6 +212,7 @@ fn load_word(op: LoadOP, rd: WritableReg) -> u32
 /// A store: to a place far from its register, or to a label, by x31.
 pub(crate) fn put_store(
     sink: &mut MachBuffer<LabelUse>,
+    flags: IsaFlags,
     op: StoreOP,
     src: Reg,
     trap: Option<TrapCode>,
@@ -199,17 +222,18 @@ pub(crate) fn put_store(
     requires fine { IsFinePlace (shape_of sink.old) place }
     requires room { length (bytes_of sink.old) + 28 < code_limit }
     requires sound { IsSoundBuffer sink.old }
-    ensures slots { OnOk result (PutsAlone (store_slots op (number_of src) trap (location_at place)) sink.old sink.new) }
+    ensures slots { OnOk result (PutsAlone flags (store_slots flags op (number_of src) trap (location_at place)) sink.old sink.new) }
     ensures refused { OnErr result (spoiled_of sink.new ≡ true) }
 {
     match place {
-        Place::Based(base, offset) => put_based_store(sink, op, src, trap, base, offset),
-        Place::AtLabel(_) => put_far_store(sink, op, src, trap, place),
+        Place::Based(base, offset) => put_based_store(sink, flags, op, src, trap, base, offset),
+        Place::AtLabel(_) => put_far_store(sink, flags, op, src, trap, place),
     }
 }
 
 fn put_based_store(
     sink: &mut MachBuffer<LabelUse>,
+    flags: IsaFlags,
     op: StoreOP,
     src: Reg,
     trap: Option<TrapCode>,
@@ -220,18 +244,19 @@ fn put_based_store(
     requires base { IsIntRegister base }
     requires room { length (bytes_of sink.old) + 28 < code_limit }
     requires sound { IsSoundBuffer sink.old }
-    ensures slots { OnOk result (PutsAlone (store_slots op (number_of src) trap (Based (number_of base) offset)) sink.old sink.new) }
+    ensures slots { OnOk result (PutsAlone flags (store_slots flags op (number_of src) trap (Based (number_of base) offset)) sink.old sink.new) }
     ensures refused { OnErr result (spoiled_of sink.new ≡ true) }
 {
     match Imm12::maybe_from_i64(offset) {
-        Some(offset) => put_near_store(sink, op, src, trap, base, offset),
-        None => put_far_store(sink, op, src, trap, Place::Based(base, offset)),
+        Some(offset) => put_near_store(sink, flags, op, src, trap, base, offset),
+        None => put_far_store(sink, flags, op, src, trap, Place::Based(base, offset)),
     }
 }
 
-/// A store whose offset is in its word.
+/// A store whose offset is in it.
 fn put_near_store(
     sink: &mut MachBuffer<LabelUse>,
+    flags: IsaFlags,
     op: StoreOP,
     src: Reg,
     trap: Option<TrapCode>,
@@ -242,17 +267,18 @@ fn put_near_store(
     requires base { IsIntRegister base }
     requires room { length (bytes_of sink.old) + 4 < code_limit }
     requires sound { IsSoundBuffer sink.old }
-    ensures slots { OnOk result (PutsAlone (access_slots trap ++ Op (decoded_store op (number_of base) (number_of src) offset.value) ∷ []) sink.old sink.new) }
+    ensures slots { OnOk result (PutsAlone flags (access_slots trap ++ Op (short_store flags op (number_of base) (number_of src) offset.value) ∷ []) sink.old sink.new) }
     ensures refused { OnErr result (spoiled_of sink.new ≡ true) }
 {
     put_access(sink, trap)?;
-    put_word(sink, encode_store(op, base, src, offset))?;
+    put_store_word(sink, flags, op, base, src, offset)?;
     Ok(())
 }
 
 /// A store by an address in x31.
 fn put_far_store(
     sink: &mut MachBuffer<LabelUse>,
+    flags: IsaFlags,
     op: StoreOP,
     src: Reg,
     trap: Option<TrapCode>,
@@ -262,17 +288,36 @@ fn put_far_store(
     requires fine { IsFinePlace (shape_of sink.old) place }
     requires room { length (bytes_of sink.old) + 28 < code_limit }
     requires sound { IsSoundBuffer sink.old }
-    ensures slots { OnOk result (PutsAlone (far_store_slots op (number_of src) trap (location_at place)) sink.old sink.new) }
+    ensures slots { OnOk result (PutsAlone flags (far_store_slots flags op (number_of src) trap (location_at place)) sink.old sink.new) }
     ensures refused { OnErr result (spoiled_of sink.new ≡ true) }
 {
-    put_address(sink, writable_spilltmp_reg(), place)?;
-    put_near_store(sink, op, src, trap, spilltmp_reg(), Imm12::ZERO)?;
+    put_address(sink, flags, writable_spilltmp_reg(), place)?;
+    put_spilled_store(sink, op, src, trap)?;
+    Ok(())
+}
+
+/// The word of a store by x31.
+fn put_spilled_store(
+    sink: &mut MachBuffer<LabelUse>,
+    op: StoreOP,
+    src: Reg,
+    trap: Option<TrapCode>,
+) -> Result<(), OutOfMemory>
+    requires src { IsIntRegister src }
+    requires room { length (bytes_of sink.old) + 4 < code_limit }
+    requires sound { IsSoundBuffer sink.old }
+    ensures slots { OnOk result ((flags : IsaFlags) → PutsAlone flags (access_slots trap ++ Op (decoded_store op 31 (number_of src) (pos 0)) ∷ []) sink.old sink.new) }
+    ensures refused { OnErr result (spoiled_of sink.new ≡ true) }
+{
+    put_access(sink, trap)?;
+    put_word(sink, encode_store(op, spilltmp_reg(), src, Imm12::ZERO))?;
     Ok(())
 }
 
 /// The address of a place in a register.
 pub(crate) fn put_address(
     sink: &mut MachBuffer<LabelUse>,
+    flags: IsaFlags,
     rd: WritableReg,
     place: Place,
 ) -> Result<(), OutOfMemory>
@@ -280,17 +325,18 @@ pub(crate) fn put_address(
     requires fine { IsFinePlace (shape_of sink.old) place }
     requires room { length (bytes_of sink.old) + 24 < code_limit }
     requires sound { IsSoundBuffer sink.old }
-    ensures slots { OnOk result (PutsAlone (address_slots (number_of rd.reg) (location_at place)) sink.old sink.new) }
+    ensures slots { OnOk result (PutsAlone flags (address_slots flags (number_of rd.reg) (location_at place)) sink.old sink.new) }
     ensures refused { OnErr result (spoiled_of sink.new ≡ true) }
 {
     match place {
-        Place::Based(base, offset) => put_based_address(sink, rd, base, offset),
+        Place::Based(base, offset) => put_based_address(sink, flags, rd, base, offset),
         Place::AtLabel(label) => put_label_address(sink, rd, label),
     }
 }
 
 fn put_based_address(
     sink: &mut MachBuffer<LabelUse>,
+    flags: IsaFlags,
     rd: WritableReg,
     base: Reg,
     offset: i64,
@@ -299,18 +345,19 @@ fn put_based_address(
     requires base { IsIntRegister base }
     requires room { length (bytes_of sink.old) + 24 < code_limit }
     requires sound { IsSoundBuffer sink.old }
-    ensures slots { OnOk result (PutsAlone (address_slots (number_of rd.reg) (Based (number_of base) offset)) sink.old sink.new) }
+    ensures slots { OnOk result (PutsAlone flags (address_slots flags (number_of rd.reg) (Based (number_of base) offset)) sink.old sink.new) }
     ensures refused { OnErr result (spoiled_of sink.new ≡ true) }
 {
     match Imm12::maybe_from_i64(offset) {
-        Some(offset) => put_word(sink, encode_alu_rr_imm12(AluOPRRI::Addi, rd, base, offset)),
-        None => put_far_address(sink, rd, base, offset),
+        Some(offset) => put_rri(sink, flags, AluOPRRI::Addi, rd, base, offset),
+        None => put_far_address(sink, flags, rd, base, offset),
     }
 }
 
 /// The sum of a register and an offset that no word of an addition holds.
 fn put_far_address(
     sink: &mut MachBuffer<LabelUse>,
+    flags: IsaFlags,
     rd: WritableReg,
     base: Reg,
     offset: i64,
@@ -319,11 +366,11 @@ fn put_far_address(
     requires base { IsIntRegister base }
     requires room { length (bytes_of sink.old) + 24 < code_limit }
     requires sound { IsSoundBuffer sink.old }
-    ensures slots { OnOk result (PutsAlone (offset_slots (number_of rd.reg) offset ++ Op (decoded_add (number_of rd.reg) (number_of rd.reg) (number_of base)) ∷ []) sink.old sink.new) }
+    ensures slots { OnOk result (PutsAlone flags (offset_slots flags (number_of rd.reg) offset ++ Op (short_rrr flags Add (number_of rd.reg) (number_of rd.reg) (number_of base)) ∷ []) sink.old sink.new) }
     ensures refused { OnErr result (spoiled_of sink.new ≡ true) }
 {
-    put_offset(sink, rd, offset)?;
-    put_word(sink, encode_alu_rrr(AluOPRRR::Add, rd, rd.reg, base))?;
+    put_offset(sink, flags, rd, offset)?;
+    put_rrr(sink, flags, AluOPRRR::Add, rd, rd.reg, base)?;
     Ok(())
 }
 
@@ -337,7 +384,7 @@ pub(crate) fn put_label_address(
     requires label { IsUsable (shape_of sink.old) label.number }
     requires room { length (bytes_of sink.old) + 8 < code_limit }
     requires sound { IsSoundBuffer sink.old }
-    ensures slots { OnOk result (PutsAlone (address_slots (number_of rd.reg) (AtLabel label)) sink.old sink.new) }
+    ensures slots { OnOk result ((flags : IsaFlags) → PutsAlone flags (address_slots flags (number_of rd.reg) (AtLabel label)) sink.old sink.new) }
     ensures refused { OnErr result (spoiled_of sink.new ≡ true) }
 {
     put_upper(sink, rd, label)?;
@@ -369,7 +416,7 @@ fn put_upper(
     requires label { IsUsable (shape_of sink.old) label.number }
     requires room { length (bytes_of sink.old) + 4 < code_limit }
     requires sound { IsSoundBuffer sink.old }
-    ensures slots { OnOk result (PutsAlone (upper_at (number_of rd.reg) label ∷ []) sink.old sink.new) }
+    ensures slots { OnOk result ((flags : IsaFlags) → PutsAlone flags (upper_at (number_of rd.reg) label ∷ []) sink.old sink.new) }
     ensures refused { OnErr result (spoiled_of sink.new ≡ true) }
 {
     put_use(sink, enc_auipc(rd, Imm20::ZERO), label, LabelUse::PCRelHi20)?;
@@ -379,7 +426,7 @@ fn put_upper(
 /// The record of an access's trap, where it may trap.
 fn put_access(sink: &mut MachBuffer<LabelUse>, trap: Option<TrapCode>) -> Result<(), OutOfMemory>
     requires sound { IsSoundBuffer sink.old }
-    ensures slots { OnOk result (PutsAlone (access_slots trap) sink.old sink.new) }
+    ensures slots { OnOk result ((flags : IsaFlags) → PutsAlone flags (access_slots trap) sink.old sink.new) }
     ensures refused { OnErr result (spoiled_of sink.new ≡ true) }
 {
     match trap {
@@ -394,24 +441,26 @@ fn put_access(sink: &mut MachBuffer<LabelUse>, trap: Option<TrapCode>) -> Result
 /// An offset that isn't of twelve bits, signed, in a register.
 fn put_offset(
     sink: &mut MachBuffer<LabelUse>,
+    flags: IsaFlags,
     rd: WritableReg,
     offset: i64,
 ) -> Result<(), OutOfMemory>
     requires rd { IsIntRegister rd.reg }
     requires room { length (bytes_of sink.old) + 20 < code_limit }
     requires sound { IsSoundBuffer sink.old }
-    ensures slots { OnOk result (PutsAlone (offset_slots (number_of rd.reg) offset) sink.old sink.new) }
+    ensures slots { OnOk result (PutsAlone flags (offset_slots flags (number_of rd.reg) offset) sink.old sink.new) }
     ensures refused { OnErr result (spoiled_of sink.new ≡ true) }
 {
     match generate_imm(offset.cast_unsigned()) {
-        Some((upper, lower)) => put_immediates(sink, rd, upper, lower),
-        None => put_double_constant(sink, rd, offset.cast_unsigned()),
+        Some((upper, lower)) => put_immediates(sink, flags, rd, upper, lower),
+        None => put_double_constant(sink, flags, rd, offset.cast_unsigned()),
     }
 }
 
 /// The number that an upper and a lower immediate make in a register.
 fn put_immediates(
     sink: &mut MachBuffer<LabelUse>,
+    flags: IsaFlags,
     rd: WritableReg,
     upper: Imm20,
     lower: Imm12,
@@ -419,28 +468,29 @@ fn put_immediates(
     requires rd { IsIntRegister rd.reg }
     requires room { length (bytes_of sink.old) + 8 < code_limit }
     requires sound { IsSoundBuffer sink.old }
-    ensures slots { OnOk result (PutsAlone (immediate_slots (number_of rd.reg) upper.value lower.value) sink.old sink.new) }
+    ensures slots { OnOk result (PutsAlone flags (immediate_slots flags (number_of rd.reg) upper.value lower.value) sink.old sink.new) }
     ensures refused { OnErr result (spoiled_of sink.new ≡ true) }
 {
-    put_word(sink, encode_lui(rd, upper))?;
-    put_lower_immediate(sink, rd, lower)?;
+    put_lui(sink, flags, rd, upper)?;
+    put_lower_immediate(sink, flags, rd, lower)?;
     Ok(())
 }
 
 /// The addition of a lower immediate; none of 0.
 fn put_lower_immediate(
     sink: &mut MachBuffer<LabelUse>,
+    flags: IsaFlags,
     rd: WritableReg,
     lower: Imm12,
 ) -> Result<(), OutOfMemory>
     requires rd { IsIntRegister rd.reg }
     requires room { length (bytes_of sink.old) + 4 < code_limit }
     requires sound { IsSoundBuffer sink.old }
-    ensures slots { OnOk result (PutsAlone (lower_slots (number_of rd.reg) lower.value) sink.old sink.new) }
+    ensures slots { OnOk result (PutsAlone flags (lower_slots flags (number_of rd.reg) lower.value) sink.old sink.new) }
     ensures refused { OnErr result (spoiled_of sink.new ≡ true) }
 {
     if lower.value == 0 {
         return Ok(());
     }
-    put_word(sink, encode_alu_rr_imm12(AluOPRRI::Addi, rd, rd.reg, lower))
+    put_rri(sink, flags, AluOPRRI::Addi, rd, rd.reg, lower)
 }

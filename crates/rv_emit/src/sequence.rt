@@ -1,7 +1,9 @@
 //! The words of an instruction, and its uses of labels.
 
-ghost use Rattle.std.specs.Prelude.{◌≡◌, [], ◌∷◌, ◌+◌, ◌^◌, ◌<◌, length, OnOk, OnErr, None, Some, true};
+ghost use Rattle.std.specs.Prelude.{◌≡◌, [], ◌∷◌, ◌+◌, ◌^◌, ◌<◌, length, List, OnOk, OnErr, None, Some, true};
+ghost use Rattle.rv_base.specs.declared.constant.Constant.{Constant};
 ghost use Rattle.rv_base.specs.declared.flags.IsaFlags.{IsaFlags};
+ghost use Rattle.rv_base.specs.declared.frame.FrameLayout.{FrameLayout};
 ghost use Rattle.rv_base.specs.Regs.{number_of};
 ghost use Rattle.rv_base.specs.Frame.{sp_to_args_end};
 ghost use Rattle.rv_base.specs.LabelUse.{code_limit};
@@ -12,64 +14,67 @@ ghost use Rattle.rv_ops.specs.Compare.{branch_word};
 ghost use Rattle.rv_encode.specs.Registers.{IsIntRegister};
 ghost use Rattle.rv_inst.specs.declared.label_use.LabelUse.TheVariants.{Jal20, B12};
 ghost use Rattle.rv_inst.specs.LabelUseWords.{word_bytes};
-ghost use Rattle.rv_inst.specs.Context.{Context, context_by};
+ghost use Rattle.rv_inst.specs.Context.{context_by};
 ghost use Rattle.rv_inst.specs.Rules.{inst_rule};
 ghost use Rattle.mach_buffer.specs.Buffer.{shape_of, bytes_of, allocated_of, registered_of, spoiled_of};
 ghost use Rattle.mach_buffer.specs.Shape.{IsKnown, IsUsable, with_bytes, with_use};
 ghost use Rattle.rv_emit.specs.Usable.{IsFine, IsFineBranch};
 ghost use Rattle.rv_emit.specs.Emitted.{IsSoundBuffer};
-ghost use Rattle.rv_emit.specs.Emission.{PutsAll, PutsAlone, Emits, EmitsAnyhow};
+ghost use Rattle.rv_emit.specs.Emission.{PutsAlone, PutsSlots, Emits, EmitsAnyhow};
 ghost use Rattle.rv_emit.specs.Slots.{Label, Op};
-ghost use Rattle.rv_emit.specs.InstParts.{jump_to, branch_to, move_slots, branch_slots};
+ghost use Rattle.rv_emit.specs.InstParts.{jump_to, wide_jump_to, branch_to, move_slots, branch_slots};
 ghost use Rattle.rv_inst.specs.Sizes.{island_space};
 ghost use Rattle.rv_inst.specs.Uses.{use_at};
 ghost use Rattle.rv_inst.specs.Families.{family_of};
 ghost use Rattle.rv_inst.specs.declared.inst.Family.TheVariants.{Pseudo, Integer, Memory, Control, Loop};
 
+use crate::compressed::number;
 use crate::expansions::{put_bytes, put_constant, put_trap, put_trap_if};
 use crate::memory::{place_of, put_address, put_label_address, put_load, put_store};
 use crate::popcnt::put_popcnt;
+use crate::shortest::{put_ebreak, put_jalr, put_lui, put_rri, put_rrr};
 use mach_buffer::MachBuffer;
 use rv_base::{
     FrameLayout, IsaFlags, MachLabel, OutOfMemory, Reg, WritableReg, link_reg, writable_zero_reg,
     zero_reg,
 };
-use rv_encode::{
-    enc_auipc, enc_jalr, encode_alu_rr_imm12, encode_alu_rrr, encode_branch, encode_ebreak,
-    encode_jal, encode_lui,
-};
+use rv_encode::{enc_auipc, encode_alu_rr_imm12, encode_branch, encode_cj_type, encode_jal};
 use rv_imms::Imm12;
 use rv_inst::{CondBrTarget, Family, Inst, LabelUse};
-use rv_ops::{AluOPRRI, IntegerCompare};
+use rv_ops::{AluOPRRI, CjOp, IntegerCompare};
 
 /// Puts the sequence of an instruction that breaks no rule in its context.
 pub(crate) fn put_sequence(
     sink: &mut MachBuffer<LabelUse>,
-    _flags: IsaFlags,
+    flags: IsaFlags,
     frame: &FrameLayout,
     inst: &Inst,
 ) -> Result<(), OutOfMemory>
-    requires rule { inst_rule (context_by _flags frame.now (registered_of sink.old)) inst.now ≡ None }
+    requires rule { inst_rule (context_by flags frame.now (registered_of sink.old)) inst.now ≡ None }
     requires frame { sp_to_args_end frame.now < 2 ^ 31 }
     requires room { length (bytes_of sink.old) + 44 < code_limit }
     requires sound { IsSoundBuffer sink.old }
-    ensures parts { island_space (context_by _flags frame.now (registered_of sink.old)) inst.now ≡ None → OnOk result (Emits (context_by _flags frame.now (registered_of sink.old)) inst.now sink.old sink.new) }
+    ensures parts { island_space (context_by flags frame.now (registered_of sink.old)) inst.now ≡ None → OnOk result (Emits (context_by flags frame.now (registered_of sink.old)) inst.now sink.old sink.new) }
     ensures refused { OnErr result (spoiled_of sink.new ≡ true) }
 {
     match inst.family() {
-        Family::Pseudo => put_pseudo(sink, inst),
-        Family::Integer => put_integer(sink, inst),
-        Family::Memory => put_memory(sink, frame, inst),
-        Family::Control => put_control(sink, inst),
-        Family::Loop => put_loop(sink, inst),
+        Family::Pseudo => put_pseudo(sink, flags, inst),
+        Family::Integer => put_integer(sink, flags, inst),
+        Family::Memory => put_memory(sink, flags, frame, inst),
+        Family::Control => put_control(sink, flags, inst),
+        Family::Loop => put_loop(sink, flags, inst),
     }
 }
 
-fn put_pseudo(sink: &mut MachBuffer<LabelUse>, inst: &Inst) -> Result<(), OutOfMemory>
+fn put_pseudo(
+    sink: &mut MachBuffer<LabelUse>,
+    flags: IsaFlags,
+    inst: &Inst,
+) -> Result<(), OutOfMemory>
     requires fine { IsFine (registered_of sink.old) inst.now }
     requires room { length (bytes_of sink.old) + 44 < code_limit }
     requires sound { IsSoundBuffer sink.old }
-    ensures parts { family_of inst.now ≡ Pseudo → (context : Context) → island_space context inst.now ≡ None → OnOk result (Emits context inst.now sink.old sink.new) }
+    ensures parts { family_of inst.now ≡ Pseudo → (frame : FrameLayout) (constants : List Constant) → island_space (context_by flags frame constants) inst.now ≡ None → OnOk result (Emits (context_by flags frame constants) inst.now sink.old sink.new) }
     ensures refused { OnErr result (spoiled_of sink.new ≡ true) }
 {
     match inst {
@@ -77,93 +82,94 @@ fn put_pseudo(sink: &mut MachBuffer<LabelUse>, inst: &Inst) -> Result<(), OutOfM
             sink,
             encode_alu_rr_imm12(AluOPRRI::Addi, writable_zero_reg(), zero_reg(), Imm12::ZERO),
         ),
-        Inst::EBreak => put_word(sink, encode_ebreak()),
+        Inst::EBreak => put_ebreak(sink, flags),
         Inst::RawData { bytes } => put_bytes(sink, bytes.as_slice()),
         _ => Ok(()),
     }
 }
 
-fn put_integer(sink: &mut MachBuffer<LabelUse>, inst: &Inst) -> Result<(), OutOfMemory>
+fn put_integer(
+    sink: &mut MachBuffer<LabelUse>,
+    flags: IsaFlags,
+    inst: &Inst,
+) -> Result<(), OutOfMemory>
     requires fine { IsFine (registered_of sink.old) inst.now }
     requires room { length (bytes_of sink.old) + 44 < code_limit }
     requires sound { IsSoundBuffer sink.old }
-    ensures parts { family_of inst.now ≡ Integer → OnOk result (EmitsAnyhow inst.now sink.old sink.new) }
+    ensures parts { family_of inst.now ≡ Integer → OnOk result (EmitsAnyhow flags inst.now sink.old sink.new) }
     ensures refused { OnErr result (spoiled_of sink.new ≡ true) }
 {
     match inst {
-        Inst::Lui { rd, imm } => put_word(sink, encode_lui(*rd, *imm)),
+        Inst::Lui { rd, imm } => put_lui(sink, flags, *rd, *imm),
         Inst::Auipc { rd, imm } => put_word(sink, enc_auipc(*rd, *imm)),
-        Inst::LoadInlineConst { rd, ty, imm } => put_constant(sink, *rd, *ty, *imm),
+        Inst::LoadInlineConst { rd, ty, imm } => put_constant(sink, flags, *rd, *ty, *imm),
         Inst::AluRRR {
             alu_op,
             rd,
             rs1,
             rs2,
-        } => put_word(sink, encode_alu_rrr(*alu_op, *rd, *rs1, *rs2)),
+        } => put_rrr(sink, flags, *alu_op, *rd, *rs1, *rs2),
         Inst::AluRRImm12 {
             alu_op,
             rd,
             rs,
             imm12,
-        } => put_word(sink, encode_alu_rr_imm12(*alu_op, *rd, *rs, *imm12)),
-        Inst::Mov { rd, rm, ty: _ } => put_move(sink, *rd, *rm),
-        Inst::MovFromPReg { rd, rm } => put_move(sink, *rd, Reg::Real(*rm)),
+        } => put_rri(sink, flags, *alu_op, *rd, *rs, *imm12),
+        Inst::Mov { rd, rm, ty: _ } => put_move(sink, flags, *rd, *rm),
+        Inst::MovFromPReg { rd, rm } => put_move(sink, flags, *rd, Reg::Real(*rm)),
         _ => Ok(()),
     }
 }
 
 /// A move of one integer register to another; none to itself.
-fn put_move(sink: &mut MachBuffer<LabelUse>, rd: WritableReg, rm: Reg) -> Result<(), OutOfMemory>
+fn put_move(
+    sink: &mut MachBuffer<LabelUse>,
+    flags: IsaFlags,
+    rd: WritableReg,
+    rm: Reg,
+) -> Result<(), OutOfMemory>
     requires rd { IsIntRegister rd.reg }
     requires rm { IsIntRegister rm }
     requires room { length (bytes_of sink.old) + 8 < code_limit }
     requires sound { IsSoundBuffer sink.old }
-    ensures slots { OnOk result (PutsAlone (move_slots (number_of rd.reg) (number_of rm)) sink.old sink.new) }
+    ensures slots { OnOk result (PutsAlone flags (move_slots flags (number_of rd.reg) (number_of rm)) sink.old sink.new) }
     ensures refused { OnErr result (spoiled_of sink.new ≡ true) }
 {
     if number(rd.reg) == number(rm) {
         return Ok(());
     }
-    put_word(
-        sink,
-        encode_alu_rr_imm12(AluOPRRI::Addi, rd, rm, Imm12::ZERO),
-    )
+    put_rri(sink, flags, AluOPRRI::Addi, rd, rm, Imm12::ZERO)
 }
 
-/// The number of a register of the machine.
-fn number(reg: Reg) -> u8
-    ensures { result ≡ number_of reg }
-{
-    match reg {
-        Reg::Real(reg) => reg.number,
-        Reg::Virtual(_) => 0,
-    }
-}
-
-fn put_control(sink: &mut MachBuffer<LabelUse>, inst: &Inst) -> Result<(), OutOfMemory>
+fn put_control(
+    sink: &mut MachBuffer<LabelUse>,
+    flags: IsaFlags,
+    inst: &Inst,
+) -> Result<(), OutOfMemory>
     requires fine { IsFine (registered_of sink.old) inst.now }
     requires room { length (bytes_of sink.old) + 44 < code_limit }
     requires sound { IsSoundBuffer sink.old }
-    ensures parts { family_of inst.now ≡ Control → OnOk result (EmitsAnyhow inst.now sink.old sink.new) }
+    ensures parts { family_of inst.now ≡ Control → OnOk result (EmitsAnyhow flags inst.now sink.old sink.new) }
     ensures refused { OnErr result (spoiled_of sink.new ≡ true) }
 {
     match inst {
-        Inst::Ret => put_word(sink, enc_jalr(writable_zero_reg(), link_reg(), Imm12::ZERO)),
-        Inst::TrapIf { cmp, trap_code } => put_trap_if(sink, *cmp, *trap_code),
-        Inst::Jal { label } => put_jump(sink, *label),
+        Inst::Ret => put_jalr(sink, flags, writable_zero_reg(), link_reg(), Imm12::ZERO),
+        Inst::TrapIf { cmp, trap_code } => put_trap_if(sink, flags, *cmp, *trap_code),
+        Inst::Jal { label } => put_jump(sink, flags, *label),
         Inst::CondBr {
             taken,
             not_taken,
             kind,
-        } => put_branch(sink, *kind, *taken, *not_taken),
-        Inst::Udf { trap_code } => put_trap(sink, *trap_code),
-        Inst::Jalr { rd, base, offset } => put_word(sink, enc_jalr(*rd, *base, *offset)),
+        } => put_branch(sink, flags, *kind, *taken, *not_taken),
+        Inst::Udf { trap_code } => put_trap(sink, flags, *trap_code),
+        Inst::Jalr { rd, base, offset } => put_jalr(sink, flags, *rd, *base, *offset),
         _ => Ok(()),
     }
 }
 
 fn put_memory(
     sink: &mut MachBuffer<LabelUse>,
+    flags: IsaFlags,
     frame: &FrameLayout,
     inst: &Inst,
 ) -> Result<(), OutOfMemory>
@@ -171,37 +177,46 @@ fn put_memory(
     requires frame { sp_to_args_end frame.now < 2 ^ 31 }
     requires room { length (bytes_of sink.old) + 44 < code_limit }
     requires sound { IsSoundBuffer sink.old }
-    ensures parts { family_of inst.now ≡ Memory → (flags : IsaFlags) → OnOk result (Emits (context_by flags frame.now (registered_of sink.old)) inst.now sink.old sink.new) }
+    ensures parts { family_of inst.now ≡ Memory → OnOk result (Emits (context_by flags frame.now (registered_of sink.old)) inst.now sink.old sink.new) }
     ensures refused { OnErr result (spoiled_of sink.new ≡ true) }
 {
     match inst {
         Inst::Load {
             rd,
             op,
-            flags,
+            flags: access,
             from,
         } => {
             let place = place_of(sink, frame, *from)?;
-            put_load(sink, *rd, *op, flags.trap_code(), place)
+            put_load(sink, flags, *rd, *op, access.trap_code(), place)
         }
-        Inst::Store { to, op, flags, src } => {
+        Inst::Store {
+            to,
+            op,
+            flags: access,
+            src,
+        } => {
             let place = place_of(sink, frame, *to)?;
-            put_store(sink, *op, *src, flags.trap_code(), place)
+            put_store(sink, flags, *op, *src, access.trap_code(), place)
         }
         Inst::LoadAddr { rd, mem } => {
             let place = place_of(sink, frame, *mem)?;
-            put_address(sink, *rd, place)
+            put_address(sink, flags, *rd, place)
         }
         Inst::LabelAddress { dst, label } => put_label_address(sink, *dst, *label),
         _ => Ok(()),
     }
 }
 
-fn put_loop(sink: &mut MachBuffer<LabelUse>, inst: &Inst) -> Result<(), OutOfMemory>
+fn put_loop(
+    sink: &mut MachBuffer<LabelUse>,
+    flags: IsaFlags,
+    inst: &Inst,
+) -> Result<(), OutOfMemory>
     requires fine { IsFine (registered_of sink.old) inst.now }
     requires room { length (bytes_of sink.old) + 44 < code_limit }
     requires sound { IsSoundBuffer sink.old }
-    ensures parts { family_of inst.now ≡ Loop → OnOk result (EmitsAnyhow inst.now sink.old sink.new) }
+    ensures parts { family_of inst.now ≡ Loop → OnOk result (EmitsAnyhow flags inst.now sink.old sink.new) }
     ensures refused { OnErr result (spoiled_of sink.new ≡ true) }
 {
     match inst {
@@ -211,7 +226,7 @@ fn put_loop(sink: &mut MachBuffer<LabelUse>, inst: &Inst) -> Result<(), OutOfMem
             step,
             rs,
             ty,
-        } => put_popcnt(sink, *sum, *tmp, *step, *rs, *ty),
+        } => put_popcnt(sink, flags, *sum, *tmp, *step, *rs, *ty),
         _ => Ok(()),
     }
 }
@@ -219,6 +234,7 @@ fn put_loop(sink: &mut MachBuffer<LabelUse>, inst: &Inst) -> Result<(), OutOfMem
 /// A branch to a label where a comparison holds, and a jump to another one, where there is one, where it doesn't.
 fn put_branch(
     sink: &mut MachBuffer<LabelUse>,
+    flags: IsaFlags,
     kind: IntegerCompare,
     taken: CondBrTarget,
     not_taken: CondBrTarget,
@@ -226,14 +242,14 @@ fn put_branch(
     requires fine { IsFineBranch kind taken not_taken }
     requires room { length (bytes_of sink.old) + 8 < code_limit }
     requires sound { IsSoundBuffer sink.old }
-    ensures slots { OnOk result (PutsAlone (branch_slots kind taken not_taken) sink.old sink.new) }
+    ensures slots { OnOk result (PutsAlone flags (branch_slots flags kind taken not_taken) sink.old sink.new) }
     ensures refused { OnErr result (spoiled_of sink.new ≡ true) }
 {
     match (taken, not_taken) {
         (CondBrTarget::Fallthrough, _) => Ok(()),
         (CondBrTarget::Label(label), CondBrTarget::Fallthrough) => put_compare(sink, kind, label),
         (CondBrTarget::Label(first), CondBrTarget::Label(second)) => {
-            put_compare_and_jump(sink, kind, first, second)
+            put_compare_and_jump(sink, flags, kind, first, second)
         }
     }
 }
@@ -241,6 +257,7 @@ fn put_branch(
 /// A branch to a label where a comparison holds, and a jump to another one where it doesn't.
 fn put_compare_and_jump(
     sink: &mut MachBuffer<LabelUse>,
+    flags: IsaFlags,
     kind: IntegerCompare,
     taken: MachLabel,
     not_taken: MachLabel,
@@ -251,11 +268,11 @@ fn put_compare_and_jump(
     requires not_taken { not_taken.number < first_inner }
     requires room { length (bytes_of sink.old) + 8 < code_limit }
     requires sound { IsSoundBuffer sink.old }
-    ensures slots { OnOk result (PutsAll (branch_to kind (Label taken) ∷ jump_to (Label not_taken) ∷ []) sink.old sink.new) }
+    ensures slots { OnOk result (PutsSlots flags (branch_to kind (Label taken) ∷ jump_to flags (Label not_taken) ∷ []) sink.old sink.new) }
     ensures refused { OnErr result (spoiled_of sink.new ≡ true) }
 {
     put_compare(sink, kind, taken)?;
-    put_jump(sink, not_taken)?;
+    put_jump(sink, flags, not_taken)?;
     Ok(())
 }
 
@@ -270,7 +287,7 @@ fn put_compare(
     requires label { label.number < first_inner }
     requires room { length (bytes_of sink.old) + 4 < code_limit }
     requires sound { IsSoundBuffer sink.old }
-    ensures slot { OnOk result (PutsAll (branch_to kind (Label label) ∷ []) sink.old sink.new) }
+    ensures slot { OnOk result ((flags : IsaFlags) → PutsSlots flags (branch_to kind (Label label) ∷ []) sink.old sink.new) }
     ensures word { OnOk result (shape_of sink.new ≡ with_bytes (word_bytes (branch_word kind)) (with_use (use_at (length (bytes_of sink.old)) label B12) (shape_of sink.old))) }
     ensures sound { OnOk result (IsSoundBuffer sink.new) }
     ensures refused { OnErr result (spoiled_of sink.new ≡ true) }
@@ -296,11 +313,55 @@ fn jump_word() -> u32
 }
 
 /// A jump to a label.
-pub(crate) fn put_jump(sink: &mut MachBuffer<LabelUse>, label: MachLabel) -> Result<(), OutOfMemory>
+fn put_jump(
+    sink: &mut MachBuffer<LabelUse>,
+    flags: IsaFlags,
+    label: MachLabel,
+) -> Result<(), OutOfMemory>
+    requires label { label.number < first_inner }
+    requires room { length (bytes_of sink.old) + 4 < code_limit }
+    requires sound { IsSoundBuffer sink.old }
+    ensures slot { OnOk result (PutsSlots flags (jump_to flags (Label label) ∷ []) sink.old sink.new) }
+    ensures refused { OnErr result (spoiled_of sink.new ≡ true) }
+{
+    if flags.has_zca {
+        put_half_jump(sink, label)?;
+        return Ok(());
+    }
+    put_wide_jump(sink, label)?;
+    Ok(())
+}
+
+/// A jump to a label, in a halfword.
+fn put_half_jump(sink: &mut MachBuffer<LabelUse>, label: MachLabel) -> Result<(), OutOfMemory>
+    requires label { label.number < first_inner }
+    requires room { length (bytes_of sink.old) + 4 < code_limit }
+    requires sound { IsSoundBuffer sink.old }
+    ensures slot { OnOk result ((flags : IsaFlags) → flags.has_zca ≡ true → PutsSlots flags (jump_to flags (Label label) ∷ []) sink.old sink.new) }
+    ensures refused { OnErr result (spoiled_of sink.new ≡ true) }
+{
+    let here = sink.cur_offset();
+    sink.use_label_at_offset(here, label, LabelUse::RVCJump)?;
+    sink.put2(jump_half())?;
+    Ok(())
+}
+
+/// The halfword of a `c.j` whose distance is still to come.
+fn jump_half() -> u16
+    ensures { result ≡ 0xa001 }
+{
+    encode_cj_type(CjOp::CJ, Imm12::ZERO)
+}
+
+/// A jump to a label, in a word of four bytes whatever the flags are.
+pub(crate) fn put_wide_jump(
+    sink: &mut MachBuffer<LabelUse>,
+    label: MachLabel,
+) -> Result<(), OutOfMemory>
     requires known { IsKnown label.number (allocated_of sink.old) }
     requires room { length (bytes_of sink.old) + 4 < code_limit }
     requires sound { IsSoundBuffer sink.old }
-    ensures slot { OnOk result (PutsAll (jump_to (Label label) ∷ []) sink.old sink.new) }
+    ensures slot { OnOk result ((flags : IsaFlags) → PutsSlots flags (wide_jump_to (Label label) ∷ []) sink.old sink.new) }
     ensures word { OnOk result (shape_of sink.new ≡ with_bytes (word_bytes 0x6f) (with_use (use_at (length (bytes_of sink.old)) label Jal20) (shape_of sink.old))) }
     ensures sound { OnOk result (IsSoundBuffer sink.new) }
     ensures refused { OnErr result (spoiled_of sink.new ≡ true) }
@@ -332,7 +393,9 @@ pub(crate) fn put_use(
 pub(crate) fn put_word(sink: &mut MachBuffer<LabelUse>, word: u32) -> Result<(), OutOfMemory>
     requires room { length (bytes_of sink.old) + 4 < code_limit }
     requires sound { IsSoundBuffer sink.old }
-    ensures slot { OnOk result ((d : Decoded) → d.len ≡ 4 → ((flags : IsaFlags) → decode flags word ≡ Some d) → PutsAlone (Op d ∷ []) sink.old sink.new) }
+    ensures slot { OnOk result ((flags : IsaFlags) (d : Decoded) → d.len ≡ 4 → decode flags word ≡ Some d → PutsAlone flags (Op d ∷ []) sink.old sink.new) }
+    ensures long { OnOk result (length (bytes_of sink.new) ≡ length (bytes_of sink.old) + 4) }
+    ensures sound { OnOk result (IsSoundBuffer sink.new) }
     ensures refused { OnErr result (spoiled_of sink.new ≡ true) }
 {
     sink.put4(word)?;

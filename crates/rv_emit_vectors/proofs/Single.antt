@@ -10,8 +10,9 @@ use Rattle.rv_inst.specs.declared.targets.Targets.TheVariants.{Nowhere, Jumps, B
 use Rattle.rv_inst.specs.Operands.{targets_of}
 use Rattle.rv_inst.specs.declared.inst.CondBrTarget.TheVariants.{Label, Fallthrough}
 use Rattle.rv_inst.specs.declared.label_use.LabelUse.{LabelUse}
-use Rattle.rv_inst.specs.declared.label_use.LabelUse.TheVariants.{Jal20, B12, PCRelHi20, PCRelLo12I}
+use Rattle.rv_inst.specs.declared.label_use.LabelUse.TheVariants.{B12, PCRelHi20, PCRelLo12I}
 use Rattle.rv_inst.specs.LabelUse.{label_kinds}
+use Rattle.rv_inst.specs.Forms.{jump_kind}
 use Rattle.rv_inst.specs.Rules.{inst_rule}
 use Rattle.mach_buffer.specs.declared.uses.Use.{Use}
 use Rattle.mach_buffer.specs.Reach.{CanReach, is_needed, deadlines}
@@ -89,12 +90,15 @@ can_start context inst b frame rule none s = record {
 uses_first : (context : Context) (start : ℕ) (inst : Inst) → names_first inst ≡ true → Each (λ (u : Use LabelUse). u.label.number ≡ 0) (uses_in context start inst)
 uses_first context start inst h = on (targets_of inst) h
   where
-    on : (targets : Targets) → are_first targets ≡ true → Each (λ (u : Use LabelUse). u.label.number ≡ 0) (target_uses start targets)
+    jump : LabelUse
+    jump = jump_kind context.flags
+
+    on : (targets : Targets) → are_first targets ≡ true → Each (λ (u : Use LabelUse). u.label.number ≡ 0) (target_uses context.flags start targets)
     on Nowhere h = each_none _
-    on (Jumps label) h = each_more _ (use_at start label Jal20) [] (eqb-true _ _ h) (each_none _)
+    on (Jumps label) h = each_more _ (use_at start label jump) [] (eqb-true _ _ h) (each_none _)
     on (Branches Fallthrough not_taken) h = each_none _
     on (Branches (Label t) Fallthrough) h = each_more _ (use_at start t B12) [] (eqb-true _ _ (and_parts _ _ h).0) (each_none _)
-    on (Branches (Label t) (Label f)) h = let p = and_parts _ _ h in each_more _ (use_at start t B12) (use_at (start + 4) f Jal20 ∷ []) (eqb-true _ _ p.0) (each_more _ (use_at (start + 4) f Jal20) [] (eqb-true _ _ p.1) (each_none _))
+    on (Branches (Label t) (Label f)) h = let p = and_parts _ _ h in each_more _ (use_at start t B12) (use_at (start + 4) f jump ∷ []) (eqb-true _ _ p.0) (each_more _ (use_at (start + 4) f jump) [] (eqb-true _ _ p.1) (each_none _))
     on (RefersConstant constant) h = absurd (true≢false (sym h))
     on (Refers label) h = each_more _ (use_at start label PCRelHi20) (use_at (start + 4) label PCRelLo12I ∷ []) (eqb-true _ _ h) (each_more _ (use_at (start + 4) label PCRelLo12I) [] (eqb-true _ _ h) (each_none _))
 

@@ -5,8 +5,8 @@ ghost use Rattle.rv_emit_vectors.specs.Single.{is_first, names_first, IsStart, H
 
 use mach_buffer::MachBuffer;
 use rv_base::{
-    FrameLayout, IntCC, IrType, IsaFlags, List, MachLabel, OutOfMemory, a0, a1, a2, px_reg,
-    writable_a0, writable_link_reg,
+    FrameLayout, IntCC, IrType, IsaFlags, List, MachLabel, OutOfMemory, Reg, TrapCode, a0, a1, a2,
+    px_reg, writable_a0, writable_link_reg, zero_reg,
 };
 use rv_emit::{
     EmitInfo, EmitState, EmitVState, MachInstEmit, MachInstEmitState, emit_island_if_needed,
@@ -51,10 +51,10 @@ fn names_first(inst: &Inst) -> bool
 }
 
 /// A buffer of one instruction, which keeps the rules and asks for no island.
-fn buffer_of(alloc: Global, inst: &Inst) -> Result<MachBuffer<LabelUse>, Fail>
+fn buffer_of(alloc: Global, flags: IsaFlags, inst: &Inst) -> Result<MachBuffer<LabelUse>, Fail>
     ensures { IfOk result (λ b. HoldsOne inst.now b) }
 {
-    let info = EmitInfo::new(IsaFlags::none());
+    let info = EmitInfo::new(flags);
     let mut state = EmitState::new(FrameLayout::none(alloc));
     if inst.island_space().is_some() {
         return Err(Fail::new("the instruction asks for an island"));
@@ -73,18 +73,23 @@ fn buffer_of(alloc: Global, inst: &Inst) -> Result<MachBuffer<LabelUse>, Fail>
 }
 
 /// The code of an instruction whose labels are where it starts.
-pub fn code_of(alloc: Global, inst: &Inst) -> Result<List<u8>, Fail> {
+pub fn code_of(alloc: Global, flags: IsaFlags, inst: &Inst) -> Result<List<u8>, Fail> {
     if !names_first(inst) {
         return Err(Fail::new("the instruction names a label but 0"));
     }
-    let buffer = buffer_of(alloc, inst)?;
+    let buffer = buffer_of(alloc, flags, inst)?;
     let code = buffer.finish(&[])?;
     Ok(code.bytes)
 }
 
 /// Returns whether an island is emitted after an instruction, before this many bytes, and the offset after it.
-fn room_of(alloc: Global, inst: &Inst, distance: u32) -> Result<(bool, u32), Fail> {
-    let mut buffer = buffer_of(alloc, inst)?;
+fn room_of(
+    alloc: Global,
+    flags: IsaFlags,
+    inst: &Inst,
+    distance: u32,
+) -> Result<(bool, u32), Fail> {
+    let mut buffer = buffer_of(alloc, flags, inst)?;
     let made = emit_island_if_needed(&mut buffer, distance)?;
     Ok((made, buffer.cur_offset()))
 }
@@ -104,7 +109,22 @@ fn branch(taken: CondBrTarget, not_taken: CondBrTarget) -> Inst {
 
 /// Stops unless these are the bytes of an instruction.
 pub fn assert_code(rt: &impl Abort, alloc: Global, inst: &Inst, bytes: &[u8]) -> Result<(), Fail> {
-    let code = code_of(alloc, inst)?;
+    let code = code_of(alloc, IsaFlags::none(), inst)?;
+    assert_eq!(rt; code.as_slice(), bytes);
+    Ok(())
+}
+
+/// The flags of a machine with compressed instructions.
+fn compressed() -> IsaFlags {
+    IsaFlags {
+        has_zca: true,
+        ..IsaFlags::none()
+    }
+}
+
+/// Stops unless these are the bytes of an instruction where there are compressed ones.
+fn assert_short(rt: &impl Abort, alloc: Global, inst: &Inst, bytes: &[u8]) -> Result<(), Fail> {
+    let code = code_of(alloc, compressed(), inst)?;
     assert_eq!(rt; code.as_slice(), bytes);
     Ok(())
 }
@@ -202,7 +222,92 @@ fn islands_are_made_by_the_rule(rt: HostRuntime) -> Result<(), Fail> {
         (&beq_j, 4049, true, 28),
         (&Inst::Ret, 4294967295, false, 4),
     ] {
-        assert_eq!(rt; room_of(rt.alloc(), inst, distance)?, (made, end));
+        let room = room_of(rt.alloc(), IsaFlags::none(), inst, distance)?;
+        assert_eq!(rt; room, (made, end));
+    }
+    Ok(())
+}
+
+#[test]
+fn halfwords_without_fields_are_the_manuals(rt: HostRuntime) -> Result<(), Fail> {
+    let alloc = rt.alloc();
+    assert_short(&rt, alloc, &Inst::Nop0, &[])?;
+    assert_short(&rt, alloc, &Inst::Nop4, &[0x13, 0, 0, 0])?;
+    assert_short(&rt, alloc, &Inst::EBreak, &[0x02, 0x90])?;
+    assert_short(&rt, alloc, &Inst::Ret, &[0x82, 0x80])?;
+    let udf = Inst::Udf {
+        trap_code: TrapCode::HeapOutOfBounds,
+    };
+    assert_short(&rt, alloc, &udf, &[0, 0])
+}
+
+#[test]
+fn halfwords_of_sums_are_the_manuals(rt: HostRuntime) -> Result<(), Fail> {
+    let rd = writable_a0();
+    for (rs1, rs2, bytes) in [
+        (a0(), a1(), [0x2e, 0x95].as_slice()),
+        (a1(), a0(), [0x2e, 0x95].as_slice()),
+        (a1(), a2(), [0x33, 0x85, 0xc5, 0].as_slice()),
+    ] {
+        let alu_op = AluOPRRR::Add;
+        let add = Inst::AluRRR {
+            alu_op,
+            rd,
+            rs1,
+            rs2,
+        };
+        assert_short(&rt, rt.alloc(), &add, bytes)?;
+    }
+    Ok(())
+}
+
+/// An addition of an immediate, to a0.
+fn addi(rs: Reg, imm12: Imm12) -> Inst {
+    Inst::AluRRImm12 {
+        alu_op: AluOPRRI::Addi,
+        rd: writable_a0(),
+        rs,
+        imm12,
+    }
+}
+
+#[test]
+fn halfwords_of_moves_are_the_manuals(rt: HostRuntime) -> Result<(), Fail> {
+    let alloc = rt.alloc();
+    let mv = addi(a1(), Imm12::from_i16(0));
+    assert_short(&rt, alloc, &mv, &[0x2e, 0x85])?;
+    let li = addi(zero_reg(), Imm12::from_i16(-32));
+    assert_short(&rt, alloc, &li, &[0x01, 0x55])?;
+    let long = addi(zero_reg(), Imm12::from_i16(32));
+    assert_short(&rt, alloc, &long, &[0x13, 0x05, 0, 0x02])
+}
+
+#[test]
+fn halfwords_of_jumps_are_the_manuals(rt: HostRuntime) -> Result<(), Fail> {
+    let first = MachLabel::from_u32(0);
+    assert_short(&rt, rt.alloc(), &Inst::Jal { label: first }, &[0x01, 0xa0])?;
+    let here = CondBrTarget::Label(first);
+    let beq_j = branch(here, here);
+    let bytes = [0x63, 0, 0xb5, 0, 0xf5, 0xbf];
+    assert_short(&rt, rt.alloc(), &beq_j, &bytes)
+}
+
+#[test]
+fn islands_of_compressed_jumps_are_made_by_the_rule(rt: HostRuntime) -> Result<(), Fail> {
+    // A compressed jump that is pending at 0 reaches 2046, and 2046 - 14 - 8 * 3 = 2008. Veneers start at multiples of 4.
+    let label = MachLabel::from_u32(5);
+    let far = CondBrTarget::Label(label);
+    let j = Inst::Jal { label };
+    let beq_j = branch(far, far);
+    for (inst, distance, made, end) in [
+        (&j, 2006, false, 2),
+        (&j, 2007, true, 16),
+        (&beq_j, 2006, false, 6),
+        (&beq_j, 2007, true, 28),
+        (&Inst::Ret, 4294967295, false, 2),
+    ] {
+        let room = room_of(rt.alloc(), compressed(), inst, distance)?;
+        assert_eq!(rt; room, (made, end));
     }
     Ok(())
 }

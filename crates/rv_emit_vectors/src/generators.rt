@@ -1,7 +1,7 @@
 //! The words of generated constants, loads and stores. Those of constants are as the manual's layouts of `lui` and `addi` have them.
 
 use crate::emission::{assert_code, code_of};
-use rv_base::{AMode, IrType, MemFlagsData, a0, a1, writable_a0};
+use rv_base::{AMode, IrType, IsaFlags, MemFlagsData, a0, a1, writable_a0};
 use rv_imms::Imm12;
 use rv_inst::{Inst, SmallInstVec};
 use std::alloc::Global;
@@ -78,7 +78,7 @@ fn assert_codes(
 ) -> Result<(), Fail> {
     let mut code = Vec::new(alloc);
     for inst in insts.as_slice() {
-        code.extend_from_slice(code_of(alloc, inst)?.as_slice())?;
+        code.extend_from_slice(code_of(alloc, IsaFlags::none(), inst)?.as_slice())?;
     }
     assert_eq!(rt; code.as_slice(), bytes);
     Ok(())

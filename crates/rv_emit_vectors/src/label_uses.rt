@@ -1,5 +1,7 @@
 //! The reach and the patches of each kind of label use, and the targets of branches.
 
+ghost use Rattle.std.specs.Prelude.{◌≡◌, ◌≤◌, ◌+◌, ◌%◌};
+
 use rv_base::{MachInstLabelUse, MachLabel};
 use rv_inst::{CondBrTarget, LabelUse};
 use std::alloc::{AllocError, Global};
@@ -12,7 +14,7 @@ struct Reach {
     beyond: i64,
 }
 
-const REACHES: [Reach; 10] = [
+const REACHES: [Reach; 12] = [
     Reach {
         kind: LabelUse::Jal20,
         farthest: 1048574,
@@ -63,6 +65,16 @@ const REACHES: [Reach; 10] = [
         farthest: -2147481601,
         beyond: -2147481602,
     },
+    Reach {
+        kind: LabelUse::RVCJump,
+        farthest: 2046,
+        beyond: 2047,
+    },
+    Reach {
+        kind: LabelUse::RVCJump,
+        farthest: -2048,
+        beyond: -2049,
+    },
 ];
 
 #[test]
@@ -96,6 +108,30 @@ fn jumps_are_patched(rt: HostRuntime) {
     assert_eq!(rt; jump, [0x6f, 0, 0xc0, 0]);
 }
 
+/// The bytes of a `c.j` after its patch.
+fn compressed_jump(use_offset: u32, label_offset: u32) -> [u8; 2]
+    requires forward { label_offset ≤ use_offset + 2046 }
+    requires backward { use_offset ≤ label_offset + 2048 }
+    requires use_even { use_offset % 2 ≡ 0 }
+    requires label_even { label_offset % 2 ≡ 0 }
+{
+    let mut jump = [0x01, 0xa0];
+    LabelUse::RVCJump.patch(&mut jump, use_offset, label_offset);
+    jump
+}
+
+#[test]
+fn compressed_jumps_are_patched(rt: HostRuntime) {
+    // Each pair of bytes is what GNU `as` makes of `c.j` over the distance. The rows tell every two of its bits apart.
+    assert_eq!(rt; compressed_jump(100, 100), [0x01, 0xa0]);
+    assert_eq!(rt; compressed_jump(0, 2046), [0xfd, 0xaf]);
+    assert_eq!(rt; compressed_jump(2048, 0), [0x01, 0xb0]);
+    assert_eq!(rt; compressed_jump(3976, 4216), [0xc5, 0xa8]);
+    assert_eq!(rt; compressed_jump(4216, 3960), [0x01, 0xb7]);
+    assert_eq!(rt; compressed_jump(4216, 3396), [0xf1, 0xb1]);
+    assert_eq!(rt; compressed_jump(1366, 0), [0x6d, 0xb4]);
+}
+
 #[test]
 fn branches_are_patched(rt: HostRuntime) {
     let mut branch = [0x63, 0, 0xb5, 0];
@@ -126,10 +162,12 @@ fn lower_parts_are_patched(rt: HostRuntime) {
 
 #[test]
 fn veneers_are_made(rt: HostRuntime) {
-    let mut veneer = [0; 8];
-    let (place, kind) = LabelUse::B12.generate_veneer(&mut veneer, 3976);
-    assert_eq!(rt; veneer, [0x97, 0xf, 0, 0, 0x67, 0x80, 0xf, 0]);
-    assert_eq!(rt; (place, kind), (3976, LabelUse::PCRel32));
+    for kind in [LabelUse::B12, LabelUse::RVCJump] {
+        let mut veneer = [0; 8];
+        let made = kind.generate_veneer(&mut veneer, 3976);
+        assert_eq!(rt; veneer, [0x97, 0xf, 0, 0, 0x67, 0x80, 0xf, 0], "{kind:?}");
+        assert_eq!(rt; made, (3976, LabelUse::PCRel32), "{kind:?}");
+    }
 }
 
 /// Stops unless a target has this label, where one is given.

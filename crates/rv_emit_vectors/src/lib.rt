@@ -8,6 +8,10 @@ mod emission;
 #[cfg(test)]
 mod generators;
 #[cfg(test)]
+mod half_fields;
+#[cfg(test)]
+mod halves;
+#[cfg(test)]
 mod immediates;
 #[cfg(test)]
 mod label_table;

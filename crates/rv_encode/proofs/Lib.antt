@@ -1,3 +1,6 @@
 pub mod Decoding
 pub mod Numbers
 pub mod Tables
+pub mod Halfwords
+pub mod HalfwordsOfMemory
+pub mod Lengths

@@ -1,6 +1,7 @@
 -- What the low bits of a signed integer make, read as a signed integer again, and where a shift amount stands among them.
-use Rattle.std.proofs.Common.{◌≡◌, ℕ, suc, ◌+◌, ◌-◌, ◌*◌, ◌/◌, ◌%◌, ◌^◌, ◌<◌, ◌≤ℤ◌, ◌<ℤ◌, ℤ, pos, negsuc, neg_ℤ, ap, ◌∙◌, arith, lit<}
+use Rattle.std.proofs.Common.{◌≡◌, ◌≢◌, ℕ, zero, suc, ◌+◌, ◌-◌, ◌*◌, ◌/◌, ◌%◌, ◌^◌, ◌<◌, ◌≤ℤ◌, ◌<ℤ◌, ℤ, pos, negsuc, neg_ℤ, ◌*ℤ◌, refl, arith}
 use Rattle.std.proofs.lemmas.Int.{ints}
+use Rattle.rv_imms.specs.declared.imm6.Imm6.{Imm6}
 use Rattle.rv_imms.specs.Bits.{low_bits}
 use Rattle.rv_machine.specs.State.{signed}
 use Rattle.rv_encode.specs.Layouts.{IsEven}
@@ -40,3 +41,21 @@ amount5_below f n = omega arith
 
 pub funct6_over : (f n : ℕ) → (f * 2 ^ 5 + n % 2 ^ 5) / 2 ^ 6 ≡ f / 2
 funct6_over f n = omega arith
+
+-- ---- six bits
+
+pub low_bits_nonzero : (imm : Imm6) → imm.value ≢ pos 0 → 0 < low_bits (2 ^ 6) imm.value
+low_bits_nonzero imm some = six_bits_nonzero imm.value some (omega (arith, ints))
+  where
+    six_bits_nonzero : (z : ℤ) → z ≢ pos 0 → neg_ℤ (pos (2 ^ 5)) ≤ℤ z → 0 < low_bits (2 ^ 6) z
+    six_bits_nonzero (pos zero) other low = absurd (other refl)
+    six_bits_nonzero (pos (suc n)) other low = omega arith
+    six_bits_nonzero (negsuc n) other low = let h : n < 2 ^ 5 = omega (arith, ints) in omega arith
+
+-- sixteen times the six bits are the ten bits of sixteen times the number
+pub signed_sixteens : (imm : Imm6) → signed (2 ^ 9) (16 * low_bits (2 ^ 6) imm.value) ≡ pos 16 *ℤ imm.value
+signed_sixteens imm = sixteens imm.value (omega (arith, ints)) (omega (arith, ints))
+  where
+    sixteens : (z : ℤ) → z <ℤ pos (2 ^ 5) → neg_ℤ (pos (2 ^ 5)) ≤ℤ z → signed (2 ^ 9) (16 * low_bits (2 ^ 6) z) ≡ pos 16 *ℤ z
+    sixteens (pos n) up low = let h : n < 2 ^ 5 = omega (arith, ints) in grind (arith, ints)
+    sixteens (negsuc n) up low = let h : n < 2 ^ 5 = omega (arith, ints) in grind (arith, ints)

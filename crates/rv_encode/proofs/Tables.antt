@@ -1,5 +1,5 @@
 -- The fields of an operation's word are decoded as it: the tables of operations are the decoder's.
-use Rattle.std.proofs.Common.{◌≡◌, ℕ, ◌/◌, ◌%◌, ◌^◌, ◌≤ℤ◌, ◌<ℤ◌, ◌==◌, if◌then◌else◌, ℤ, pos, neg_ℤ, Option, Some, None, refl, ◌∙◌, arith}
+use Rattle.std.proofs.Common.{◌≡◌, ℕ, ◌/◌, ◌%◌, ◌^◌, ◌≤ℤ◌, ◌<ℤ◌, ◌==◌, if◌then◌else◌, ℤ, pos, neg_ℤ, Option, Some, refl, ◌∙◌, arith}
 use Rattle.std.specs.Option.{option_map}
 use Rattle.rv_imms.specs.Bits.{low_bits}
 use Rattle.rv_ops.specs.declared.alu.AluOPRRR.{AluOPRRR}

@@ -1,3 +1,4 @@
 pub mod Layouts
+pub mod Compressed
 pub mod Registers
 pub mod Operations

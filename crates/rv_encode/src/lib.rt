@@ -1,11 +1,21 @@
-//! The words of 32 bits of operations with their operands.
+//! The words and halfwords of operations with their operands.
 #![tactic(auto)]
 
+mod compressed;
+mod compressed_memory;
 mod jumps;
 mod layouts;
 mod memory;
 mod operations;
 
+pub use compressed::{
+    encode_c_addi16sp, encode_ca_type, encode_cb_type, encode_ci_type, encode_ciw_type,
+    encode_cj_type, encode_cr_type, encode_cr2_type, encode_cszn_type, reg_to_compressed_gpr_num,
+};
+pub use compressed_memory::{
+    encode_ci_sp_load, encode_cl_type, encode_cs_type, encode_css_type, encode_zcbmem_load,
+    encode_zcbmem_store,
+};
 pub use jumps::{enc_auipc, enc_jalr, encode_branch, encode_ebreak, encode_jal, encode_lui};
 pub use layouts::{encode_i_type, encode_r_type, encode_s_type, reg_to_gpr_num};
 pub use memory::{encode_load, encode_store};

@@ -1,29 +1,26 @@
 -- From a patched window to what it decodes to.
-use Rattle.std.proofs.Common.{◌≡◌, ℕ, ◌+◌, ◌-◌, ◌*◌, ◌/◌, ◌%◌, ◌^◌, ◌<◌, ◌≤◌, inl, inr, List, drop, slice_index, refl, ap, sym, ◌∙◌, ℤ, pos, ◌+ℤ◌, ◌*ℤ◌, ◌-ℤ◌, Option, Some, None, Bool, true, false, cond, arith, bit_and, get_or-drop}
-use Rattle.std.specs.Prelude.{◌==◌, if◌then◌else◌}
+use Rattle.std.proofs.Common.{◌≡◌, ℕ, ◌+◌, ◌*◌, ◌/◌, ◌%◌, ◌<◌, inl, inr, List, [], ◌∷◌, drop, slice_index, refl, ap, sym, ◌∙◌, ℤ, Option, Some, None, Bool, true, false, arith, bit_and, get_or-drop}
+use Rattle.std.specs.Prelude.{nat_eq, ◌==◌, if◌then◌else◌}
 use Rattle.std.specs.Option.{option_map}
-use Rattle.std.proofs.lemmas.Int.{ints}
 use Rattle.std.proofs.lemmas.Nat.{and_mask}
 use Rattle.std.proofs.lemmas.Nat.Bits.{and_high}
 use Rattle.rv_base.specs.LabelUse.{SameOutside}
 use Rattle.rv_base.specs.declared.flags.IsaFlags.{IsaFlags}
-use Rattle.rv_machine.specs.declared.decoding.Decoded.{Decoded}
 use Rattle.rv_machine.specs.declared.ops.MOp.{MOp}
 use Rattle.rv_machine.specs.declared.ops.MOp.TheVariants.{Base, Alu}
 use Rattle.rv_machine.specs.declared.ops.BaseOp.TheVariants.{Auipc, Jal, Jalr}
 use Rattle.rv_machine.specs.declared.ops.AluOp.TheVariants.{Int}
 use Rattle.rv_machine.specs.declared.ops.IntOp.TheVariants.{Addi}
-use Rattle.rv_machine.specs.State.{signed}
-use Rattle.rv_machine.specs.Layout.{word_opcode, word_rd, word_funct3, word_rs1, word_rs2, b_imm, j_imm, u_imm, i_imm, decoded, b_layout, j_layout, u_layout, i_layout}
+use Rattle.rv_machine.specs.Layout.{word_opcode, word_rd, word_funct3, word_rs1, word_rs2, b_imm, j_imm, u_imm, i_imm, decoded, b_layout, j_layout, u_layout, i_layout, compressed}
 use Rattle.rv_machine.specs.Opcodes.{AUIPC, JAL, JALR, BRANCH, OP_IMM}
 use Rattle.rv_machine.specs.Tables.{branch_entry}
 use Rattle.rv_machine.specs.Decode.{decode, by_opcode, decode_branch, decode_jalr}
-use Rattle.rv_inst.specs.declared.label_use.LabelUse.TheVariants.{Jal20, PCRel32, B12, PCRelHi20, PCRelLo12I}
-use Rattle.rv_inst.specs.LabelUse.{Aims, marks_of, low32, upper_part, lower_part}
-use Rattle.rv_inst.specs.LabelUseWords.{word_at, AreBytes}
-use Rattle.rv_inst.specs.LabelUseBridges.{with_immediate, TakesLowerPart, PairDecodes}
-use Rattle.rv_inst.proofs.PatchPart.{upper_of_difference, low32_difference}
-use Rattle.rv_inst.proofs.PatchPair.{pair_distance}
+use Rattle.rv_machine.proofs.DecodeLaws.{decode_wide}
+use Rattle.rv_machine.specs.Compressed.{half_op, half_funct3, cj_imm, decode_half}
+use Rattle.rv_inst.specs.declared.label_use.LabelUse.TheVariants.{Jal20, PCRel32, B12, PCRelLo12I, RVCJump}
+use Rattle.rv_inst.specs.LabelUse.{Aims, marks_of}
+use Rattle.rv_inst.specs.LabelUseWords.{word_at, AreBytes, half_at, AreTwoBytes}
+use Rattle.rv_inst.specs.LabelUseBridges.{with_immediate, TakesLowerPart, PairDecodes, HalfJumps}
 
 -- ---- bytes and bits that stay
 
@@ -94,24 +91,24 @@ same_lower old new b c s =
 
 -- ---- operations by their opcode
 
--- what a word decodes to
-abbrev read : ℕ → Option Decoded
-read w = by_opcode (word_opcode w) w
+-- an opcode whose two lowest bits are 11 is that of a word
+by_its_opcode : (flags : IsaFlags) (w opcode : ℕ) → word_opcode w ≡ opcode → nat_eq (opcode % 4) 3 ≡ true → decode flags w ≡ by_opcode opcode w
+by_its_opcode flags w opcode e wide = decode_wide flags w (ap (λ k. nat_eq (k % 4) 3) e ∙ wide) ∙ ap (λ k. by_opcode k w) e
 
-word_branch : (w : ℕ) → word_opcode w ≡ BRANCH → read w ≡ decode_branch w
-word_branch w e = ap (λ k. by_opcode k w) e
+word_branch : (flags : IsaFlags) (w : ℕ) → word_opcode w ≡ BRANCH → decode flags w ≡ decode_branch w
+word_branch flags w e = by_its_opcode flags w BRANCH e refl
 
-word_jal : (w : ℕ) → word_opcode w ≡ JAL → read w ≡ Some (j_layout w (Base Jal))
-word_jal w e = ap (λ k. by_opcode k w) e
+word_jal : (flags : IsaFlags) (w : ℕ) → word_opcode w ≡ JAL → decode flags w ≡ Some (j_layout w (Base Jal))
+word_jal flags w e = by_its_opcode flags w JAL e refl
 
-word_auipc : (w : ℕ) → word_opcode w ≡ AUIPC → read w ≡ Some (u_layout w (Base Auipc))
-word_auipc w e = ap (λ k. by_opcode k w) e
+word_auipc : (flags : IsaFlags) (w : ℕ) → word_opcode w ≡ AUIPC → decode flags w ≡ Some (u_layout w (Base Auipc))
+word_auipc flags w e = by_its_opcode flags w AUIPC e refl
 
-word_jalr : (w : ℕ) → word_opcode w ≡ JALR → read w ≡ decode_jalr w
-word_jalr w e = ap (λ k. by_opcode k w) e
+word_jalr : (flags : IsaFlags) (w : ℕ) → word_opcode w ≡ JALR → decode flags w ≡ decode_jalr w
+word_jalr flags w e = by_its_opcode flags w JALR e refl
 
-word_addi : (w : ℕ) → word_opcode w ≡ OP_IMM → word_funct3 w ≡ 0 → read w ≡ Some (i_layout w (Alu (Int Addi)))
-word_addi w e z = ap (λ k. by_opcode k w) e ∙ rw z
+word_addi : (flags : IsaFlags) (w : ℕ) → word_opcode w ≡ OP_IMM → word_funct3 w ≡ 0 → decode flags w ≡ Some (i_layout w (Alu (Int Addi)))
+word_addi flags w e z = by_its_opcode flags w OP_IMM e refl ∙ rw z
 
 map_map : {A B C : Type 0} (g : B → C) (f : A → B) (h : A → C) → ((x : A) → h x ≡ g (f x)) → (o : Option A) → option_map h o ≡ option_map g (option_map f o)
 map_map g f h e None = refl
@@ -129,17 +126,17 @@ upper_layout op f g d s n = λ i. decoded op (s.rd i) 0 0 (n i)
 lower_layout : (op : MOp) (f g : ℕ) (d : ℤ) → SameLower f g → i_imm g ≡ d → i_layout g op ≡ with_immediate d (i_layout f op)
 lower_layout op f g d s n = λ i. decoded op (s.rd i) (s.rs1 i) 0 (n i)
 
-branch_word : (f g : ℕ) (d : ℤ) → SameBranch f g → word_opcode f ≡ BRANCH → b_imm g ≡ d → read g ≡ option_map (with_immediate d) (read f)
-branch_word f g d s e n =
-    word_branch g (s.opcode ∙ e) ∙ ap (option_map (λ op. b_layout g (Base op))) (ap branch_entry s.funct3)
+branch_word : (flags : IsaFlags) (f g : ℕ) (d : ℤ) → SameBranch f g → word_opcode f ≡ BRANCH → b_imm g ≡ d → decode flags g ≡ option_map (with_immediate d) (decode flags f)
+branch_word flags f g d s e n =
+    word_branch flags g (s.opcode ∙ e) ∙ ap (option_map (λ op. b_layout g (Base op))) (ap branch_entry s.funct3)
     ∙ map_map (with_immediate d) (λ op. b_layout f (Base op)) (λ op. b_layout g (Base op)) (λ op. branch_layout (Base op) f g d s n) (branch_entry (word_funct3 f))
-    ∙ ap (option_map (with_immediate d)) (sym (word_branch f e))
+    ∙ ap (option_map (with_immediate d)) (sym (word_branch flags f e))
 
-jump_word : (f g : ℕ) (d : ℤ) → SameUpper f g → word_opcode f ≡ JAL → j_imm g ≡ d → read g ≡ option_map (with_immediate d) (read f)
-jump_word f g d s e n = word_jal g (s.opcode ∙ e) ∙ ap Some (jump_layout (Base Jal) f g d s n) ∙ ap (option_map (with_immediate d)) (sym (word_jal f e))
+jump_word : (flags : IsaFlags) (f g : ℕ) (d : ℤ) → SameUpper f g → word_opcode f ≡ JAL → j_imm g ≡ d → decode flags g ≡ option_map (with_immediate d) (decode flags f)
+jump_word flags f g d s e n = word_jal flags g (s.opcode ∙ e) ∙ ap Some (jump_layout (Base Jal) f g d s n) ∙ ap (option_map (with_immediate d)) (sym (word_jal flags f e))
 
-upper_word : (f g : ℕ) (d : ℤ) → SameUpper f g → word_opcode f ≡ AUIPC → u_imm g ≡ d → read g ≡ option_map (with_immediate d) (read f)
-upper_word f g d s e n = word_auipc g (s.opcode ∙ e) ∙ ap Some (upper_layout (Base Auipc) f g d s n) ∙ ap (option_map (with_immediate d)) (sym (word_auipc f e))
+upper_word : (flags : IsaFlags) (f g : ℕ) (d : ℤ) → SameUpper f g → word_opcode f ≡ AUIPC → u_imm g ≡ d → decode flags g ≡ option_map (with_immediate d) (decode flags f)
+upper_word flags f g d s e n = word_auipc flags g (s.opcode ∙ e) ∙ ap Some (upper_layout (Base Auipc) f g d s n) ∙ ap (option_map (with_immediate d)) (sym (word_auipc flags f e))
 
 jalr_word : (f g : ℕ) (d : ℤ) → SameLower f g → i_imm g ≡ d → decode_jalr g ≡ option_map (with_immediate d) (decode_jalr f)
 jalr_word f g d s n = ap (λ k. if k == 0 then Some (i_layout g (Base Jalr)) else None) s.funct3 ∙ on (word_funct3 f == 0)
@@ -148,22 +145,20 @@ jalr_word f g d s n = ap (λ k. if k == 0 then Some (i_layout g (Base Jalr)) els
     on true = ap Some (lower_layout (Base Jalr) f g d s n)
     on false = refl
 
-lower_word : (f g : ℕ) (d : ℤ) → SameLower f g → TakesLowerPart f → i_imm g ≡ d → read g ≡ option_map (with_immediate d) (read f)
-lower_word f g d s (inl e) n = word_jalr g (s.opcode ∙ e) ∙ jalr_word f g d s n ∙ ap (option_map (with_immediate d)) (sym (word_jalr f e))
-lower_word f g d s (inr e) n =
-    word_addi g (s.opcode ∙ e.0) (s.funct3 ∙ e.1) ∙ ap Some (lower_layout (Alu (Int Addi)) f g d s n) ∙ ap (option_map (with_immediate d)) (sym (word_addi f e.0 e.1))
+lower_word : (flags : IsaFlags) (f g : ℕ) (d : ℤ) → SameLower f g → TakesLowerPart f → i_imm g ≡ d → decode flags g ≡ option_map (with_immediate d) (decode flags f)
+lower_word flags f g d s (inl e) n = word_jalr flags g (s.opcode ∙ e) ∙ jalr_word f g d s n ∙ ap (option_map (with_immediate d)) (sym (word_jalr flags f e))
+lower_word flags f g d s (inr e) n =
+    word_addi flags g (s.opcode ∙ e.0) (s.funct3 ∙ e.1) ∙ ap Some (lower_layout (Alu (Int Addi)) f g d s n) ∙ ap (option_map (with_immediate d)) (sym (word_addi flags f e.0 e.1))
 
 -- ---- the bridges
 
 pub decode-patched_branch : (flags : IsaFlags) (old new : List ℕ) (d : ℤ) → AreBytes old → AreBytes new → SameOutside (marks_of B12) old new → word_opcode (word_at old) ≡ BRANCH → Aims B12 new d →
     decode flags (word_at new) ≡ option_map (with_immediate d) (decode flags (word_at old))
-unfolding decode
-decode-patched_branch flags old new d b c s e n = branch_word (word_at old) (word_at new) d (same_branch old new b c s) e n
+decode-patched_branch flags old new d b c s e n = branch_word flags (word_at old) (word_at new) d (same_branch old new b c s) e n
 
 pub decode-patched_jump : (flags : IsaFlags) (old new : List ℕ) (d : ℤ) → AreBytes old → AreBytes new → SameOutside (marks_of Jal20) old new → word_opcode (word_at old) ≡ JAL → Aims Jal20 new d →
     decode flags (word_at new) ≡ option_map (with_immediate d) (decode flags (word_at old))
-unfolding decode
-decode-patched_jump flags old new d b c s e n = jump_word (word_at old) (word_at new) d (same_upper old new b c s) e n
+decode-patched_jump flags old new d b c s e n = jump_word flags (word_at old) (word_at new) d (same_upper old new b c s) e n
 
 -- the halves of a pair's window
 at_four : (s : List ℕ) (i : ℕ) → slice_index (drop 4 s) i ≡ slice_index s (4 + i)
@@ -180,13 +175,39 @@ second_half old new s = (at 255 0 s.1.1.1.1.0, (at 255 1 s.1.1.1.1.1.0, (at 15 2
 
 pub decode-patched_pair : (flags : IsaFlags) (old new : List ℕ) (d : ℤ) → AreBytes old → AreBytes new → AreBytes (drop 4 old) → AreBytes (drop 4 new) → SameOutside (marks_of PCRel32) old new → word_opcode (word_at old) ≡ AUIPC → TakesLowerPart (word_at (drop 4 old)) → Aims PCRel32 new d →
     PairDecodes flags old new d
-unfolding decode
 decode-patched_pair flags old new d b c b' c' s e a n = record {
   upper = u_imm (word_at new);
   lower = i_imm (word_at (drop 4 new));
   upper_is = refl;
   lower_is = refl;
-  first = upper_word (word_at old) (word_at new) _ (same_upper old new b c (first_half old new s)) e refl;
-  second = lower_word (word_at (drop 4 old)) (word_at (drop 4 new)) _ (same_lower (drop 4 old) (drop 4 new) b' c' (second_half old new s)) a refl;
+  first = upper_word flags (word_at old) (word_at new) _ (same_upper old new b c (first_half old new s)) e refl;
+  second = lower_word flags (word_at (drop 4 old)) (word_at (drop 4 new)) _ (same_lower (drop 4 old) (drop 4 new) b' c' (second_half old new s)) a refl;
   sum = n;
 }
+
+-- ---- a jump of sixteen bits
+
+same_two : (x y : ℕ) → bit_and x 3 ≡ bit_and y 3 → x % 4 ≡ y % 4
+same_two x y e = sym (and_mask x 2) ∙ e ∙ and_mask y 2
+
+same_three : (x y : ℕ) → bit_and x 224 ≡ bit_and y 224 → x / 32 % 8 ≡ y / 32 % 8
+same_three x y e = let f : (x / 32 % 8) * 32 ≡ (y / 32 % 8) * 32 = sym (and_high x 3 5) ∙ e ∙ and_high y 3 5 in omega (arith, f)
+
+half_jump : (flags : IsaFlags) (half : ℕ) → flags.has_zca ≡ true → half_op half ≡ 1 → half_funct3 half ≡ 5 → decode_half flags half ≡ Some (compressed (Base Jal) 0 0 0 (cj_imm half))
+unfolding decode_half
+half_jump flags half zca op funct3 = rw (zca, op, funct3) refl
+
+-- the bytes of c.j by 0, with a distance patched in
+pub decode-patched_compressed_jump : (flags : IsaFlags) (new : List ℕ) (d : ℤ) → flags.has_zca ≡ true → AreTwoBytes new → SameOutside (marks_of RVCJump) (0x01 ∷ 0xa0 ∷ []) new → Aims RVCJump new d →
+    HalfJumps flags (half_at new) d
+decode-patched_compressed_jump flags new d zca b s n =
+    let low : slice_index new 0 % 4 ≡ 1 = same_two (slice_index new 0) 1 s.0 in
+    let high : slice_index new 1 / 32 % 8 ≡ 5 = same_three (slice_index new 1) 160 s.1.0 in
+    let op : half_op (half_at new) ≡ 1 = omega (arith, low, b.first) in
+    let funct3 : half_funct3 (half_at new) ≡ 5 = omega (arith, high, b.first, b.second) in
+    let narrow : half_at new % 4 ≡ 1 = omega (arith, low) in
+    record {
+      decodes = half_jump flags (half_at new) zca op funct3 ∙ ap (λ z. Some (compressed (Base Jal) 0 0 0 z)) n;
+      narrow = ap (λ k. nat_eq k 3) narrow;
+      fits = omega (arith, b.first, b.second);
+    }

@@ -4,5 +4,6 @@ pub mod Bridges
 pub mod Patch
 pub mod PatchPair
 pub mod PatchPart
+pub mod PatchCompressed
 pub mod Rules
 pub mod Meaning

@@ -1,5 +1,5 @@
 -- What a line means depends on no labels but those that it names, and on where constants stand.
-use Rattle.std.proofs.Common.{◌≡◌, ℕ, ◌+◌, ◌*◌, ◌^◌, List, refl, ap}
+use Rattle.std.proofs.Common.{◌≡◌, ◌+◌, ◌*◌, ◌^◌, refl, ap}
 use Rattle.rv_base.specs.Regs.{number_of}
 use Rattle.rv_base.specs.declared.amode.AMode.{AMode}
 use Rattle.rv_base.specs.declared.amode.AMode.TheVariants as mode
@@ -13,7 +13,7 @@ use Rattle.rv_inst.specs.declared.inst.Inst.TheVariants.{Nop0, Auipc, Load, Stor
 use Rattle.rv_inst.specs.declared.inst.Line.{Line}
 use Rattle.rv_inst.specs.declared.inst.Line.TheVariants.{Inst as Put, Bind}
 use Rattle.rv_inst.specs.Environments.{AgreeOn}
-use Rattle.rv_inst.specs.Meaning.{Environment, Exit, inst_effect, effect_of, inst_writes, writes_of, inst_exit, exit_of, address_of, addresses_from, put_bytes}
+use Rattle.rv_inst.specs.Meaning.{Environment, inst_effect, effect_of, inst_writes, writes_of, inst_exit, exit_of, address_of, addresses_from, put_bytes}
 use Rattle.rv_inst.specs.Operands.{labels_of, address_targets, inst_labels, named_labels}
 
 -- an address depends on no label but its own, and on no constant but its own

@@ -4,9 +4,10 @@ use Rattle.rv_base.specs.LabelUse.{Veneer, Kinds}
 use Rattle.rv_base.specs.declared.reloc.Reloc.{Reloc}
 use Rattle.rv_base.specs.declared.reloc.Reloc.TheVariants.{RiscvCallPlt, RiscvGotHi20, RiscvPCRelHi20, RiscvPCRelLo12I, Abs8}
 use Rattle.rv_machine.specs.Layout.{b_imm, j_imm, u_imm, i_imm, u_bits, i_bits}
+use Rattle.rv_machine.specs.Compressed.{cj_imm}
 use Rattle.rv_inst.specs.declared.label_use.LabelUse.{LabelUse}
-use Rattle.rv_inst.specs.declared.label_use.LabelUse.TheVariants.{Jal20, PCRel32, B12, PCRelHi20, PCRelLo12I}
-use Rattle.rv_inst.specs.LabelUseWords.{word_at}
+use Rattle.rv_inst.specs.declared.label_use.LabelUse.TheVariants.{Jal20, PCRel32, B12, PCRelHi20, PCRelLo12I, RVCJump}
+use Rattle.rv_inst.specs.LabelUseWords.{word_at, half_at}
 
 -- the low 32 bits of a signed number
 abbrev pub low32 : ℤ → ℕ
@@ -28,14 +29,16 @@ Aims B12 window d = b_imm (word_at window) ≡ d
 Aims PCRel32 window d = (u_imm (word_at window) *ℤ pos 4096) +ℤ i_imm (word_at (drop 4 window)) ≡ d
 Aims PCRelHi20 window d = u_bits (word_at window) ≡ upper_part d
 Aims PCRelLo12I window d = i_bits (word_at window) ≡ lower_part d
+Aims RVCJump window d = cj_imm (half_at window) ≡ d
 
--- the bits of the distance: 31:12 of layouts J and U, 31:25 with 11:7 of B, 31:20 of I
+-- the bits of the distance: 31:12 of layouts J and U, 31:25 with 11:7 of B, 31:20 of I, 12:2 of CJ
 abbrev pub marks_of : LabelUse → List ℕ
 marks_of Jal20 = 0x00 ∷ 0xf0 ∷ 0xff ∷ 0xff ∷ []
 marks_of B12 = 0x80 ∷ 0x0f ∷ 0x00 ∷ 0xfe ∷ []
 marks_of PCRel32 = 0x00 ∷ 0xf0 ∷ 0xff ∷ 0xff ∷ 0x00 ∷ 0x00 ∷ 0xf0 ∷ 0xff ∷ []
 marks_of PCRelHi20 = 0x00 ∷ 0xf0 ∷ 0xff ∷ 0xff ∷ []
 marks_of PCRelLo12I = 0x00 ∷ 0x00 ∷ 0xf0 ∷ 0xff ∷ []
+marks_of RVCJump = 0xfc ∷ 0x1f ∷ []
 
 abbrev pub forward_of : LabelUse → ℕ
 forward_of Jal20 = 1048574
@@ -43,6 +46,7 @@ forward_of B12 = 4094
 forward_of PCRel32 = 2147481599
 forward_of PCRelHi20 = 2147481599
 forward_of PCRelLo12I = 2147481599
+forward_of RVCJump = 2046
 
 abbrev pub backward_of : LabelUse → ℕ
 backward_of Jal20 = 1048576
@@ -50,6 +54,7 @@ backward_of B12 = 4096
 backward_of PCRel32 = 2147485696
 backward_of PCRelHi20 = 2147481601
 backward_of PCRelLo12I = 2147481601
+backward_of RVCJump = 2048
 
 -- whether a distance is in reach
 abbrev pub in_range : LabelUse → ℤ → Bool
@@ -61,6 +66,7 @@ has_veneer_of B12 = true
 has_veneer_of PCRel32 = false
 has_veneer_of PCRelHi20 = false
 has_veneer_of PCRelLo12I = false
+has_veneer_of RVCJump = true
 
 -- auipc x31, 0 and jalr x0, 0(x31)
 abbrev pub veneer_of : LabelUse → Veneer LabelUse

@@ -1,4 +1,5 @@
 pub mod Families
+pub mod Forms
 pub mod Operands
 pub mod Immediates
 pub mod Generators
@@ -10,6 +11,7 @@ pub mod Meaning
 pub mod Rules
 pub mod SameValues
 pub mod Sizes
+pub mod OneOperation
 pub mod CondBrTargets
 pub mod RegisterTests
 pub mod Uses

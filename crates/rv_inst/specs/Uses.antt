@@ -1,5 +1,6 @@
 -- The uses of labels that an instruction makes, those of constants among them, and how far they reach.
-use Rattle.std.specs.Prelude.{ℕ, ◌+◌, List, [], ◌∷◌, None}
+use Rattle.std.specs.Prelude.{ℕ, ◌+◌, if◌then◌else◌, List, [], ◌∷◌, None}
+use Rattle.rv_base.specs.declared.flags.IsaFlags.{IsaFlags}
 use Rattle.rv_base.specs.declared.label.MachLabel.{MachLabel}
 use Rattle.rv_inst.specs.declared.inst.Line.{Line}
 use Rattle.rv_inst.specs.declared.inst.Line.TheVariants.{Inst as Put, Bind}
@@ -7,10 +8,11 @@ use Rattle.rv_inst.specs.declared.inst.Inst.{Inst}
 use Rattle.rv_inst.specs.declared.inst.CondBrTarget.{CondBrTarget}
 use Rattle.rv_inst.specs.declared.inst.CondBrTarget.TheVariants.{Label, Fallthrough}
 use Rattle.rv_inst.specs.declared.label_use.LabelUse.{LabelUse}
-use Rattle.rv_inst.specs.declared.label_use.LabelUse.TheVariants.{Jal20, B12, PCRelHi20, PCRelLo12I}
+use Rattle.rv_inst.specs.declared.label_use.LabelUse.TheVariants.{B12, PCRelHi20, PCRelLo12I}
 use Rattle.rv_inst.specs.declared.targets.Targets.{Targets}
 use Rattle.rv_inst.specs.declared.targets.Targets.TheVariants.{Nowhere, Jumps, Branches, Refers, RefersConstant}
 use Rattle.rv_inst.specs.Context.{Context}
+use Rattle.rv_inst.specs.Forms.{jump_kind}
 use Rattle.rv_inst.specs.Operands.{targets_of}
 use Rattle.mach_buffer.specs.Shape.{constant_label}
 use Rattle.mach_buffer.specs.declared.uses.Use.{Use}
@@ -18,31 +20,32 @@ use Rattle.mach_buffer.specs.declared.uses.Use.{Use}
 abbrev pub use_at : ℕ → MachLabel → LabelUse → Use LabelUse
 use_at offset label kind = record { offset = offset; label = label; kind = kind; veneer = None }
 
-abbrev pub branch_uses : ℕ → CondBrTarget → CondBrTarget → List (Use LabelUse)
-branch_uses start Fallthrough not_taken = []
-branch_uses start (Label t) Fallthrough = use_at start t B12 ∷ []
-branch_uses start (Label t) (Label f) = use_at start t B12 ∷ use_at (start + 4) f Jal20 ∷ []
+abbrev pub branch_uses : IsaFlags → ℕ → CondBrTarget → CondBrTarget → List (Use LabelUse)
+branch_uses flags start Fallthrough not_taken = []
+branch_uses flags start (Label t) Fallthrough = use_at start t B12 ∷ []
+branch_uses flags start (Label t) (Label f) = use_at start t B12 ∷ use_at (start + 4) f (jump_kind flags) ∷ []
 
 -- an address is taken by its upper and its lower part, in two words
-abbrev pub target_uses : ℕ → Targets → List (Use LabelUse)
-target_uses start Nowhere = []
-target_uses start (Jumps label) = use_at start label Jal20 ∷ []
-target_uses start (Branches taken not_taken) = branch_uses start taken not_taken
-target_uses start (Refers label) = use_at start label PCRelHi20 ∷ use_at (start + 4) label PCRelLo12I ∷ []
-target_uses start (RefersConstant constant) = use_at start (constant_label constant) PCRelHi20 ∷ use_at (start + 4) (constant_label constant) PCRelLo12I ∷ []
+abbrev pub target_uses : IsaFlags → ℕ → Targets → List (Use LabelUse)
+target_uses flags start Nowhere = []
+target_uses flags start (Jumps label) = use_at start label (jump_kind flags) ∷ []
+target_uses flags start (Branches taken not_taken) = branch_uses flags start taken not_taken
+target_uses flags start (Refers label) = use_at start label PCRelHi20 ∷ use_at (start + 4) label PCRelLo12I ∷ []
+target_uses flags start (RefersConstant constant) = use_at start (constant_label constant) PCRelHi20 ∷ use_at (start + 4) (constant_label constant) PCRelLo12I ∷ []
 
 -- the uses of an instruction that starts at an offset, in the order in which it names their labels, or for its constant
 abbrev pub uses_in : Context → ℕ → Inst → List (Use LabelUse)
-uses_in context start inst = target_uses start (targets_of inst)
+uses_in context start inst = target_uses context.flags start (targets_of inst)
 
--- how far the shortest use that may go by a veneer reaches, counted from the line's start: a branch's, or else a jump's
-abbrev pub target_reach : Targets → ℕ
-target_reach Nowhere = 1048574
-target_reach (Jumps label) = 1048574
-target_reach (Branches taken not_taken) = 4094
-target_reach (Refers label) = 1048574
-target_reach (RefersConstant constant) = 1048574
+-- how far the shortest use that may go by a veneer reaches, counted from the line's start: that of a jump of sixteen bits, or
+-- else a branch's, or else a jump's
+abbrev pub target_reach : IsaFlags → Targets → ℕ
+target_reach flags Nowhere = 1048574
+target_reach flags (Jumps label) = if flags.has_zca then 2046 else 1048574
+target_reach flags (Branches taken not_taken) = if flags.has_zca then 2046 else 4094
+target_reach flags (Refers label) = 1048574
+target_reach flags (RefersConstant constant) = 1048574
 
 abbrev pub least_reach : Context → Line → ℕ
-least_reach context (Put inst) = target_reach (targets_of inst)
+least_reach context (Put inst) = target_reach context.flags (targets_of inst)
 least_reach context (Bind label) = 1048574

@@ -4,7 +4,8 @@ ghost use Rattle.std.specs.Prelude.{◌≡◌, ◌+◌, ◌*◌, ◌<◌, ◌≤
 ghost use Rattle.rv_base.specs.LabelUse.{IsFresh, SameOutside};
 ghost use Rattle.rv_machine.specs.State.{signed};
 ghost use Rattle.rv_machine.specs.Layout.{j_imm, b_imm, u_imm, i_imm, u_bits, i_bits};
-ghost use Rattle.rv_inst.specs.LabelUseWords.{word_at, word_bytes, AreBytes, jal_bits, branch_bits, distance_bits, upper_bits};
+ghost use Rattle.rv_machine.specs.Compressed.{cj_imm};
+ghost use Rattle.rv_inst.specs.LabelUseWords.{word_at, word_bytes, AreBytes, half_at, half_bytes, AreTwoBytes, jal_bits, branch_bits, compressed_jump_bits, distance_bits, upper_bits};
 
 use rv_base::{MachInstLabelUse, Reloc};
 
@@ -21,6 +22,8 @@ pub enum LabelUse {
     PCRelHi20,
     /// The immediate of the instruction right after an `auipc`, alone.
     PCRelLo12I,
+    /// The immediate of a `c.j`.
+    RVCJump,
 }
 
 impl LabelUse {
@@ -58,6 +61,7 @@ impl MachInstLabelUse for LabelUse {
             LabelUse::PCRel32 => 2147481599,
             LabelUse::PCRelHi20 => 2147481599,
             LabelUse::PCRelLo12I => 2147481599,
+            LabelUse::RVCJump => 2046,
         }
     }
 
@@ -68,13 +72,15 @@ impl MachInstLabelUse for LabelUse {
             LabelUse::PCRel32 => 2147485696,
             LabelUse::PCRelHi20 => 2147481601,
             LabelUse::PCRelLo12I => 2147481601,
+            LabelUse::RVCJump => 2048,
         }
     }
 
     fn patch_size(self) -> u32 {
         match self {
+            LabelUse::RVCJump => 2,
+            LabelUse::Jal20 | LabelUse::B12 | LabelUse::PCRelHi20 | LabelUse::PCRelLo12I => 4,
             LabelUse::PCRel32 => 8,
-            _ => 4,
         }
     }
 
@@ -91,11 +97,15 @@ impl MachInstLabelUse for LabelUse {
                 buffer,
                 label_offset.wrapping_sub(use_offset).wrapping_add(4),
             ),
+            LabelUse::RVCJump => patch_compressed_jump(
+                buffer,
+                bits_of_distance(use_offset, label_offset, 4096),
+            ),
         }
     }
 
     fn supports_veneer(self) -> bool {
-        matches!(self, LabelUse::Jal20 | LabelUse::B12)
+        matches!(self, LabelUse::Jal20 | LabelUse::B12 | LabelUse::RVCJump)
     }
 
     fn veneer_size(self) -> u32 {
@@ -140,6 +150,24 @@ fn write_word(buffer: &mut [u8], word: u32)
     buffer[1] = (word >> 8 & 0xff) as u8;
     buffer[2] = (word >> 16 & 0xff) as u8;
     buffer[3] = (word >> 24) as u8;
+}
+
+/// The halfword that two bytes begin with.
+fn read_half(buffer: &[u8]) -> u32
+    requires { 2 ≤ length buffer.now }
+    ensures value { result ≡ half_at buffer.now }
+    ensures in_range { AreTwoBytes buffer.now }
+{
+    buffer[0] as u32 + 256 * buffer[1] as u32
+}
+
+/// Puts a halfword into the first two bytes.
+fn write_half(buffer: &mut [u8], half: u32)
+    requires { 2 ≤ length buffer.old }
+    ensures { buffer.new ≡ half_bytes half ++ drop 2 buffer.old }
+{
+    buffer[0] = (half & 0xff) as u8;
+    buffer[1] = (half >> 8 & 0xff) as u8;
 }
 
 /// Puts two words into the first eight bytes.
@@ -187,6 +215,21 @@ fn branch_field(bits: u32) -> u32
     ensures { result ≡ branch_bits bits }
 {
     (bits >> 11 & 1) << 7 | (bits >> 1 & 0xf) << 8 | (bits >> 5 & 0x3f) << 25 | (bits >> 12) << 31
+}
+
+/// A distance's bits at their places in a jump of sixteen bits.
+fn compressed_jump_field(bits: u32) -> u32
+    requires { bits < 4096 }
+    ensures { result ≡ compressed_jump_bits bits }
+{
+    (bits >> 5 & 1) << 2
+        | (bits >> 1 & 7) << 3
+        | (bits >> 7 & 1) << 6
+        | (bits >> 6 & 1) << 7
+        | (bits >> 10 & 1) << 8
+        | (bits >> 8 & 3) << 9
+        | (bits >> 4 & 1) << 11
+        | (bits >> 11) << 12
 }
 
 /// The upper twenty bits of a distance, at 31:12, for a lower part that is read signed.
@@ -271,4 +314,18 @@ fn patch_lower(buffer: &mut [u8], distance: u32)
 {
     let word = read_word(buffer);
     write_word(buffer, word | lower_field(distance));
+}
+
+/// Puts twelve bits of a distance into the halfword of a jump.
+fn patch_compressed_jump(buffer: &mut [u8], bits: u32)
+    requires bits_in { bits < 4096 }
+    requires even { bits % 2 ≡ 0 }
+    requires long { 2 ≤ length buffer.old }
+    requires fresh { IsFresh (0xfc ∷ 0x1f ∷ []) buffer.old }
+    ensures distance { cj_imm (half_at (take 2 buffer.new)) ≡ signed 2048 bits }
+    ensures others { SameOutside (0xfc ∷ 0x1f ∷ []) buffer.old buffer.new }
+    ensures rest { drop 2 buffer.new ≡ drop 2 buffer.old }
+{
+    let half = read_half(buffer);
+    write_half(buffer, half | compressed_jump_field(bits));
 }

@@ -3,7 +3,6 @@ pub mod Cuts
 pub mod DecimalNumbers
 pub mod TrapNames
 pub mod RegisterNames
-pub mod NoFlags
 pub mod Ranges
 pub mod OneReport
 pub mod HexLines

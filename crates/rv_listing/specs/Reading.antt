@@ -4,19 +4,21 @@ use Rattle.std.specs.List.{list_all}
 use Rattle.std.specs.Str.{bytes_eq}
 use Rattle.rv_base.specs.declared.constant.Constant.{Constant}
 use Rattle.rv_base.specs.declared.frame.FrameLayout.{FrameLayout}
+use Rattle.rv_base.specs.declared.flags.IsaFlags.{IsaFlags}
 use Rattle.rv_base.specs.Flags.{no_flags}
 use Rattle.rv_base.specs.Frame.{no_frame}
 use Rattle.rv_inst.specs.declared.inst.Line.{Line}
 use Rattle.rv_inst.specs.declared.job.Job.{Job}
 use Rattle.rv_listing.specs.Tokens.{◌>>=◌, starts, lines_of, words_of}
 use Rattle.rv_listing.specs.Forms.{line_form}
+use Rattle.rv_listing.specs.FlagsHeader.{flags_form}
 use Rattle.rv_listing.specs.FrameHeader.{frame_form}
 use Rattle.rv_listing.specs.ConstantHeader.{constant_form}
 use Rattle.rv_listing.specs.declared.fields.LineError.{LineError}
 use Rattle.rv_listing.specs.declared.fields.LineError.TheVariants as bad
 use Rattle.rv_listing.specs.declared.reading.Draft.{Draft}
 use Rattle.rv_listing.specs.declared.reading.Place.{Place}
-use Rattle.rv_listing.specs.declared.reading.Place.TheVariants.{AtFrame, AtConstants, AtLines}
+use Rattle.rv_listing.specs.declared.reading.Place.TheVariants.{AtFlags, AtFrame, AtConstants, AtLines}
 use Rattle.rv_listing.specs.declared.reading.ReadError.{ReadError}
 use Rattle.rv_listing.specs.declared.reading.ReadError.TheVariants as errors
 
@@ -26,7 +28,10 @@ no_job = record { lines = []; flags = no_flags; frame = no_frame; constants = []
 
 -- before the first line
 abbrev pub no_draft : Draft
-no_draft = record { job = no_job; place = AtFrame }
+no_draft = record { job = no_job; place = AtFlags }
+
+abbrev pub and_flags : Draft → IsaFlags → Draft
+and_flags draft flags = record { job = record draft.job { flags = flags }; place = AtFrame }
 
 abbrev pub and_frame : Draft → FrameLayout → Draft
 and_frame draft frame = record { job = record draft.job { frame = frame }; place = AtConstants }
@@ -41,17 +46,29 @@ and_line draft line = record { job = record draft.job { lines = draft.job.lines 
 abbrev pub is_plain : ℕ → Bool
 is_plain c = nat_lt c 128 && not (c == 13)
 
+-- the flags of these words, where their header line may stand
+abbrev pub flags_at : Place → List (List ℕ) → Option IsaFlags
+flags_at AtFlags ws = flags_form ws
+flags_at AtFrame ws = None
+flags_at AtConstants ws = None
+flags_at AtLines ws = None
+
 -- the frame of these words, where its header line may stand
 abbrev pub frame_at : Place → List (List ℕ) → Option FrameLayout
+frame_at AtFlags ws = frame_form ws
 frame_at AtFrame ws = frame_form ws
 frame_at AtConstants ws = None
 frame_at AtLines ws = None
 
 -- the constant of these words, where the header line of one may stand
 abbrev pub constant_at : Place → List (List ℕ) → Option Constant
+constant_at AtFlags ws = constant_form ws
 constant_at AtFrame ws = constant_form ws
 constant_at AtConstants ws = constant_form ws
 constant_at AtLines ws = None
+
+abbrev pub with_flags : Draft → List (List ℕ) → Option Draft
+with_flags draft ws = flags_at draft.place ws >>= λ flags. Some (and_flags draft flags)
 
 abbrev pub with_frame : Draft → List (List ℕ) → Option Draft
 with_frame draft ws = frame_at draft.place ws >>= λ frame. Some (and_frame draft frame)
@@ -65,6 +82,7 @@ with_form draft name ws = line_form name ws >>= λ line. Some (and_line draft li
 -- a header line, or a line of the job
 unfoldable pub with_named : Draft → List ℕ → List (List ℕ) → Option Draft
 with_named draft name ws =
+    if bytes_eq name (codes "flags") then with_flags draft ws else
     if bytes_eq name (codes "frame") then with_frame draft ws else
     if bytes_eq name (codes "const") then with_constant draft ws else with_form draft name ws
 
@@ -117,7 +135,3 @@ pub record IsBadLine (text : List ℕ) (n : ℕ) : Type 0 where
   pub count : n ≡ length before + 1
   pub fine : reading 1 no_draft before ≡ Ok sofar
   pub refused : with_line sofar line ≡ None
-
--- every flag is off
-abbrev pub HasNoFlags : Job → Type 0
-HasNoFlags job = job.flags ≡ no_flags

@@ -6,6 +6,7 @@ mod code_report;
 mod comparisons;
 mod constant_header;
 mod fields;
+mod flags_header;
 mod form_names;
 mod forms;
 mod frame_header;
@@ -22,6 +23,7 @@ mod types;
 
 pub use code_report::report;
 pub use fields::LineError;
+pub use flags_header::with_flag;
 pub use hex_digits::hex_bytes;
 pub use reading::{ReadError, read_job};
 pub use registers::register;

@@ -1,14 +1,14 @@
 //! A whole listing: the job that it means, or its first bad line.
 
-ghost use Rattle.std.specs.Prelude.{◌≡◌, ℕ, IfOk, IfErr};
+ghost use Rattle.std.specs.Prelude.{◌≡◌, ℕ, IfErr};
 ghost use Rattle.rv_listing.specs.Tokens.{words_after, words_of, lines_of};
 ghost use Rattle.std.specs.List.{list_all};
 ghost use Rattle.rv_listing.specs.Fields.{Makes};
-ghost use Rattle.rv_listing.specs.Reading.{no_draft, is_plain, with_frame, constant_at, with_constant, with_form, with_named, with_line, reading, Becomes, reads, Reads, IsBadLine, HasNoFlags};
+ghost use Rattle.rv_listing.specs.Reading.{no_draft, is_plain, with_flags, with_frame, constant_at, with_constant, with_form, with_named, with_line, reading, Becomes, reads, Reads, IsBadLine};
 
-use crate::fields::LineError;
+use crate::fields::{LineError, allowed};
 use crate::tokens::{first_word, is, next_line};
-use crate::{constant_header, forms, frame_header};
+use crate::{constant_header, flags_header, forms, frame_header};
 use rv_base::{Constant, FrameLayout, IsaFlags, List};
 use rv_inst::Job;
 use std::alloc::Global;
@@ -24,9 +24,12 @@ pub enum ReadError {
     OutOfMemory,
 }
 
-/// Where in a listing one is, by the lines that may come next. Header lines come before all others, the frame's first.
+/// Where in a listing one is, by the lines that may come next. Header lines come before all others: that of the flags, that of the
+/// frame, and those of constants.
 #[derive(Clone, Copy, Debug, PartialEq, Eq)]
 pub enum Place {
+    /// The flags' header line or any line after it.
+    AtFlags,
     /// The frame's header line or any line after it.
     AtFrame,
     /// A constant's header line or any line after it.
@@ -53,7 +56,7 @@ fn no_draft(alloc: Global) -> Draft
     };
     Draft {
         job,
-        place: Place::AtFrame,
+        place: Place::AtFlags,
     }
 }
 
@@ -63,11 +66,24 @@ fn is_comment(line: &[u8]) -> bool
     line.iter().all(|c| *c < 128 && *c != 13)
 }
 
+fn take_flags(draft: &mut Draft, rest: &[u8]) -> Result<(), LineError>
+    ensures { Becomes (with_flags draft.old (words_after rest.now)) draft.new result }
+{
+    match draft.place {
+        Place::AtFlags => {
+            draft.job.flags = allowed(flags_header::flags(rest))?;
+            draft.place = Place::AtFrame;
+            Ok(())
+        }
+        Place::AtFrame | Place::AtConstants | Place::AtLines => Err(LineError::NotAllowed),
+    }
+}
+
 fn take_frame(alloc: Global, draft: &mut Draft, rest: &[u8]) -> Result<(), LineError>
     ensures { Becomes (with_frame draft.old (words_after rest.now)) draft.new result }
 {
     match draft.place {
-        Place::AtFrame => {
+        Place::AtFlags | Place::AtFrame => {
             draft.job.frame = frame_header::frame(alloc, rest)?;
             draft.place = Place::AtConstants;
             Ok(())
@@ -80,7 +96,9 @@ fn constant_at(alloc: Global, place: Place, rest: &[u8]) -> Result<Constant, Lin
     ensures { Makes result (constant_at place (words_after rest.now)) }
 {
     match place {
-        Place::AtFrame | Place::AtConstants => constant_header::constant(alloc, rest),
+        Place::AtFlags | Place::AtFrame | Place::AtConstants => {
+            constant_header::constant(alloc, rest)
+        }
         Place::AtLines => Err(LineError::NotAllowed),
     }
 }
@@ -115,7 +133,9 @@ fn take_form(alloc: Global, draft: &mut Draft, name: &[u8], rest: &[u8]) -> Resu
 fn take_named(alloc: Global, draft: &mut Draft, name: &[u8], rest: &[u8]) -> Result<(), LineError>
     ensures { Becomes (with_named draft.old name.now (words_after rest.now)) draft.new result }
 {
-    if is(b"frame", name) {
+    if is(b"flags", name) {
+        take_flags(draft, rest)
+    } else if is(b"frame", name) {
         take_frame(alloc, draft, rest)
     } else if is(b"const", name) {
         take_constant(alloc, draft, rest)
@@ -160,12 +180,12 @@ fn read_lines(alloc: Global, text: &[u8]) -> Result<Job, ReadError>
     Ok(draft.job)
 }
 
-/// The job that a listing means. The text is ASCII in lines that LF ends; the last LF may be missing. The frame's header
-/// line stands first, and those of constants before all instructions and labels; without its line the frame has no bytes.
+/// The job that a listing means. The text is ASCII in lines that LF ends; the last LF may be missing. The flags' header line
+/// stands first, then the frame's, and those of constants before all instructions and labels; without their lines all flags are
+/// off, and the frame has no bytes.
 pub fn read_job(alloc: Global, text: &[u8]) -> Result<Job, ReadError>
     ensures reads { Reads text.now result }
     ensures bad_line { IfErr result (λ e. (n : ℕ) → e ≡ ReadError.Syntax n → IsBadLine text.now n) }
-    ensures flags { IfOk result HasNoFlags }
 {
     read_lines(alloc, text)
 }

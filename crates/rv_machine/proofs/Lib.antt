@@ -1,3 +1,4 @@
+pub mod DecodeLaws
 pub mod Images
 pub mod Memory
 pub mod Runs

@@ -1,5 +1,5 @@
--- "RV32/64G Instruction Set Listings": decoding, from a word to its operation, its registers and its immediate.
-use Rattle.std.specs.Prelude.{ℕ, ◌==◌, if◌then◌else◌, ◌&&◌, Option, Some, None}
+-- "RV32/64G Instruction Set Listings" and "RVC Instruction Set Listings": decoding, from a word to its operation, its registers and its immediate.
+use Rattle.std.specs.Prelude.{ℕ, ◌%◌, ◌==◌, if◌then◌else◌, ◌&&◌, Option, Some, None}
 use Rattle.std.specs.Option.{option_map}
 use Rattle.rv_base.specs.declared.flags.IsaFlags.{IsaFlags}
 use Rattle.rv_machine.specs.declared.decoding.Decoded.{Decoded}
@@ -7,6 +7,7 @@ use Rattle.rv_machine.specs.declared.ops.MOp.TheVariants.{Base, Load, Store, Alu
 use Rattle.rv_machine.specs.declared.ops.BaseOp.TheVariants.{Lui, Auipc, Jal, Jalr, Fence, Ebreak}
 use Rattle.rv_machine.specs.Opcodes.{LUI, AUIPC, JAL, JALR, BRANCH, LOAD, STORE, OP_IMM, OP_IMM_32, OP, OP_32, MISC_MEM, SYSTEM}
 use Rattle.rv_machine.specs.Layout.{bits, word_opcode, word_rd, word_funct3, word_rs1, word_funct6, word_funct7, word_funct12, bare_form, r_layout, i_layout, shift_layout, shift_32_layout, unary_layout, s_layout, b_layout, u_layout, j_layout, fence_layout}
+use Rattle.rv_machine.specs.Compressed.{decode_half}
 use Rattle.rv_machine.specs.Tables.{branch_entry, load_entry, store_entry, imm_entry, imm_32_entry, shift_entry, unary_entry, long_shift_32_entry, shift_32_entry, unary_32_entry, op_entry, op_32_entry, unary_op_32_entry}
 
 -- the first that is there
@@ -78,6 +79,6 @@ by_opcode opcode word =
     if opcode == SYSTEM then decode_system word else
     None
 
--- the operation of a word, whatever the flags; a word whose two lowest bits aren't 11 is a compressed one, and none of these opcodes
+-- the operation of a word: one whose two lowest bits are 11 has 32 bits, and in any other the low half is an instruction of 16 bits
 unfoldable pub decode : IsaFlags → ℕ → Option Decoded
-decode flags word = by_opcode (word_opcode word) word
+decode flags word = if word_opcode word % 4 == 3 then by_opcode (word_opcode word) word else decode_half flags (bits word 15 0)

@@ -86,6 +86,10 @@ j_imm word = signed (2 ^ 20) (j_bits word)
 abbrev pub decoded : MOp → ℕ → ℕ → ℕ → ℤ → Decoded
 decoded op rd rs1 rs2 imm = record { op = op; rd = rd; rs1 = rs1; rs2 = rs2; rs3 = 0; imm = imm; rm = 0; vm = false; len = 4 }
 
+-- the operation that an instruction of 16 bits expands to; what it doesn't have is 0
+abbrev pub compressed : MOp → ℕ → ℕ → ℕ → ℤ → Decoded
+compressed op rd rs1 rs2 imm = record { op = op; rd = rd; rs1 = rs1; rs2 = rs2; rs3 = 0; imm = imm; rm = 0; vm = false; len = 2 }
+
 -- all fields fixed
 abbrev pub bare_form : MOp → Decoded
 bare_form op = decoded op 0 0 0 (pos 0)

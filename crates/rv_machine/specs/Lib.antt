@@ -2,6 +2,7 @@ pub mod State
 pub mod Layout
 pub mod Opcodes
 pub mod Tables
+pub mod Compressed
 pub mod Decode
 pub mod Arithmetic
 pub mod Int

@@ -3,6 +3,8 @@ use Rattle.std.specs.Prelude.{◌≡◌, ℕ, zero, suc, ◌+◌, ◌*◌, ◌%�
 use Rattle.std.specs.FinMap as map
 use Rattle.rv_base.specs.declared.flags.IsaFlags.{IsaFlags}
 use Rattle.rv_machine.specs.declared.decoding.Decoded.{Decoded}
+use Rattle.rv_machine.specs.declared.ops.MOp.TheVariants.{Base}
+use Rattle.rv_machine.specs.declared.ops.BaseOp.TheVariants.{Ebreak}
 use Rattle.rv_machine.specs.declared.machine.Step.{Step}
 use Rattle.rv_machine.specs.declared.machine.Step.TheVariants.{Stepped, Stopped}
 use Rattle.rv_machine.specs.State.{Memory, State, byte, store, wrap, at, set_reg}
@@ -12,6 +14,12 @@ use Rattle.rv_machine.specs.Effects.{act}
 -- four bytes, the lowest first
 abbrev pub fetch : Memory → ℕ → ℕ
 fetch mem pc = byte mem pc + byte mem (wrap (pc + 1)) * 2 ^ 8 + byte mem (wrap (pc + 2)) * 2 ^ 16 + byte mem (wrap (pc + 3)) * 2 ^ 24
+
+-- an ebreak stands there, of four bytes or of two
+pub record IsBreak (flags : IsaFlags) (mem : Memory) (pc : ℕ) : Type 0 where
+  pub d : Decoded
+  pub there : decode flags (fetch mem pc) ≡ Some d
+  pub is : d.op ≡ Base Ebreak
 
 abbrev pub step_on : Option Decoded → State → Option State
 step_on None s = None

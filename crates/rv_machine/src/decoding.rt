@@ -4,7 +4,8 @@ ghost use Rattle.std.specs.Prelude.{◌≡◌, IfSome};
 ghost use Rattle.rv_machine.specs.Layout.{HasFileRegisters};
 ghost use Rattle.rv_machine.specs.Decode.{decode_jalr, decode_branch, decode_load, decode_store, decode_op_imm, decode_op_imm_32, decode_op, decode_op_32, decode_misc_mem, decode_system, by_opcode, decode};
 
-use crate::fields::{funct3, funct6, funct7, funct12, opcode, rd, rs1};
+use crate::compressed::decode_half;
+use crate::fields::{funct3, funct6, funct7, funct12, low_half, opcode, rd, rs1};
 use crate::opcodes::{
     AUIPC, BRANCH, JAL, JALR, LOAD, LUI, MISC_MEM, OP, OP_32, OP_IMM, OP_IMM_32, STORE, SYSTEM,
 };
@@ -32,14 +33,19 @@ pub struct Decoded {
     pub len: u8,
 }
 
-/// The operation of a word, where it has one. A word whose two lowest bits aren't 11 is a compressed one.
+/// The operation of a word, where it has one under these flags. Where the two lowest bits aren't 11, it is that of the
+/// low half.
 #[tactic(auto, unfolding(crate::specs::Decode::decode))]
 pub fn decode(flags: IsaFlags, word: u32) -> Option<Decoded>
     ensures value { result ≡ decode flags word }
     ensures registers { IfSome result HasFileRegisters }
 {
-    let _ = flags;
-    by_opcode(opcode(word), word)
+    let opcode = opcode(word);
+    if opcode % 4 == 3 {
+        by_opcode(opcode, word)
+    } else {
+        decode_half(flags, low_half(word))
+    }
 }
 
 fn by_opcode(opcode: u32, word: u32) -> Option<Decoded>

@@ -2,7 +2,7 @@
 
 ghost use Rattle.std.specs.Prelude.{◌≡◌, ◌<◌, ◌*◌};
 ghost use Rattle.rv_machine.specs.State.{signed};
-ghost use Rattle.rv_machine.specs.Layout.{word_opcode, word_rd, word_funct3, word_rs1, word_rs2, word_funct6, word_funct7, word_funct12};
+ghost use Rattle.rv_machine.specs.Layout.{bits, word_opcode, word_rd, word_funct3, word_rs1, word_rs2, word_funct6, word_funct7, word_funct12};
 
 /// Bits 6:0.
 pub fn opcode(word: u32) -> u32
@@ -61,6 +61,13 @@ pub fn funct12(word: u32) -> u16
     ensures { result ≡ word_funct12 word }
 {
     (word >> 20) as u16
+}
+
+/// Bits 15:0.
+pub fn low_half(word: u32) -> u16
+    ensures { result ≡ bits word 15 0 }
+{
+    (word & 0xffff) as u16
 }
 
 /// A number below twice `half`, read as a signed one.

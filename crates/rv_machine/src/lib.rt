@@ -1,8 +1,11 @@
-//! The machine, of the unprivileged RISC-V manual: decoding of words of 32 bits, and steps of one hart.
+//! The machine, of the unprivileged RISC-V manual: decoding of words of 32 bits and of 16 bits, and steps of one hart.
 #![tactic(auto)]
 
 mod arithmetic;
 mod bits;
+mod compressed;
+mod compressed_fields;
+mod compressed_layouts;
 mod decoding;
 mod fields;
 mod int;
@@ -13,6 +16,7 @@ mod opcodes;
 mod ops;
 mod tables;
 
+pub use compressed::decode_half;
 pub use decoding::{Decoded, decode};
 pub use machine::{IntMachine, Step};
 pub use opcodes::{

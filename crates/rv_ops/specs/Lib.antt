@@ -1,3 +1,4 @@
 pub mod Alu
 pub mod Compare
+pub mod Compressed
 pub mod Memory

@@ -3,10 +3,14 @@
 
 mod alu;
 mod compare;
+mod compressed;
 mod memory;
 mod vec_amode;
 
 pub use alu::{AluOPRRI, AluOPRRR};
 pub use compare::{BranchFunct3, IntegerCompare};
+pub use compressed::{
+    COpcodeSpace, CaOp, CbOp, CiOp, CiwOp, CjOp, ClOp, CrOp, CsOp, CssOp, CsznOp, ZcbMemOp,
+};
 pub use memory::{LoadOP, StoreOP};
 pub use vec_amode::VecAMode;

@@ -2,6 +2,8 @@
 #![tactic(auto)]
 
 #[cfg(test)]
+mod halfwords;
+#[cfg(test)]
 mod loaded;
 #[cfg(test)]
 mod machine;

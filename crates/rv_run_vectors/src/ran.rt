@@ -53,7 +53,7 @@ struct Call {
     text: &'static str,
 }
 
-const RUNS: [Call; 21] = [
+const RUNS: [Call; 26] = [
     Call {
         words: &["a0=1071", "a1=462"],
         input: GCD,
@@ -132,6 +132,40 @@ const RUNS: [Call; 21] = [
         input: "13000000",
         status: 0,
         text: "ebreak at 0\nsteps 0\n",
+    },
+    // `c.addi a0, -1`, `bne a0, zero, -2` and `c.jr ra`.
+    Call {
+        words: &["--hex", "--flags", "zca", "a0=2", "--trace"],
+        input: "7d15e31f05fe8280",
+        status: 0,
+        text: "0: 157d addi a0,a0,-1  a0=1\n2: fe051fe3 bne a0,zero,-2\n0: 157d addi a0,a0,-1  a0=0\n2: fe051fe3 bne a0,zero,-2\n6: 8082 jalr zero,0(ra)\nleft the code to 0x8000000000010000\nsteps 5\na0 0 0x0\n",
+    },
+    Call {
+        words: &["--hex", "--flags", "m,zcb"],
+        input: "7d15e31f05fe8280",
+        status: 0,
+        text: "no operation at 0: 0x1fe3157d\nsteps 0\n",
+    },
+    // `c.addi16sp -32`, `c.sdsp ra, 8`, `c.addi4spn s0, 16`, `c.li a1, -3`, `c.sw a1, 4(s0)`, `c.lw a0, 4(s0)`, `c.addiw a0, 1`,
+    // `c.ldsp ra, 8`, `c.addi16sp 32` and `c.jr ra`, by llvm-mc.
+    Call {
+        words: &["--hex", "--flags", "zca", "sp=4096"],
+        input: "3d71 06e4 0008 f555 4cc0 4840 0525 a260 0561 8280",
+        status: 0,
+        text: "left the code to 0x8000000000010000\nsteps 10\nfp 4080 0xff0\na0 -2 0xfffffffffffffffe\na1 -3 0xfffffffffffffffd\nmemory 0xfe0: 00000000000000000000010000000080\nmemory 0xff0: 00000000fdffffff0000000000000000\n",
+    },
+    Call {
+        words: &["--hex", "--flags", "zca"],
+        input: "01000290",
+        status: 0,
+        text: "ebreak at 2\nsteps 1\n",
+    },
+    // A halfword of zeros is no instruction.
+    Call {
+        words: &["--hex", "--flags", "zca,zcb"],
+        input: "01000000",
+        status: 0,
+        text: "no operation at 2: 0x0\nsteps 1\n",
     },
     Call {
         words: &["a0=2", "--trace"],

@@ -1,7 +1,7 @@
 -- The text of an instruction, and of a step.
 use Rattle.std.specs.Prelude.{ℕ, ◌/◌, ◌%◌, ◌^◌, List, [], ◌++◌, ◌==◌, if◌then◌else◌, codes, ℤ}
 use Rattle.std.specs.Fmt.{decimal, signed_decimal}
-use Rattle.std.specs.Int.{w32, w64, cast_signed, cast_unsigned, to_be_bytes}
+use Rattle.std.specs.Int.{w16, w32, w64, cast_signed, cast_unsigned, to_be_bytes}
 use Rattle.hex.specs.Hex.{encode_lower}
 use Rattle.rv_base.specs.RegNames.{int_names, name_at}
 use Rattle.rv_machine.specs.declared.decoding.Decoded.{Decoded}
@@ -73,10 +73,14 @@ instruction_text d = mnemonic d.op ++ operands_text (operands_of d.op) d
 abbrev pub written_text : ℕ → ℕ → List ℕ
 written_text rd value = if rd == 0 then [] else codes "  " ++ register rd ++ codes "=" ++ signed_decimal (cast_signed w64 value)
 
--- the offset, and the word in eight hexadecimal digits
-abbrev pub place_text : ℕ → ℕ → List ℕ
-place_text offset word = decimal offset ++ codes ": " ++ encode_lower (to_be_bytes w32 word) ++ codes " "
+-- the bytes of an instruction of so many, from the word that begins with them, the highest first: four hexadecimal digits, or eight
+abbrev pub word_text : ℕ → ℕ → List ℕ
+word_text len word = if len == 2 then encode_lower (to_be_bytes w16 (word % 2 ^ 16)) else encode_lower (to_be_bytes w32 word)
 
--- the offset, the word, the instruction, and the value that its register has after it
+-- the offset, and the instruction's bytes
+abbrev pub place_text : ℕ → ℕ → ℕ → List ℕ
+place_text offset len word = decimal offset ++ codes ": " ++ word_text len word ++ codes " "
+
+-- the offset, the instruction in hexadecimal digits and as text, and the value that its register has after it
 abbrev pub step_line : ℕ → ℕ → Decoded → ℕ → List ℕ
-step_line offset word d value = place_text offset word ++ instruction_text d ++ written_text d.rd value ++ codes "\n"
+step_line offset word d value = place_text offset d.len word ++ instruction_text d ++ written_text d.rd value ++ codes "\n"

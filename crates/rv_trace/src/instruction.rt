@@ -2,10 +2,10 @@
 
 ghost use Rattle.std.specs.Prelude.{◌≡◌, ◌++◌, ◌<◌, ◌≤◌, ◌^◌, length, OnOk};
 ghost use Rattle.std.specs.Fmt.{decimal, signed_decimal};
-ghost use Rattle.std.specs.Int.{w32, w64, to_be_bytes, cast_signed};
+ghost use Rattle.std.specs.Int.{w16, w32, w64, to_be_bytes, cast_signed};
 ghost use Rattle.hex.specs.Hex.{encode_lower};
 ghost use Rattle.rv_machine.specs.Layout.{HasFileRegisters};
-ghost use Rattle.rv_trace.specs.Instruction.{register, access, accesses, set, low_bits, first, next, next_number, based, two, three, two_sets, operands_text, instruction_text, written_text, place_text, step_line};
+ghost use Rattle.rv_trace.specs.Instruction.{register, access, accesses, set, low_bits, first, next, next_number, based, two, three, two_sets, operands_text, instruction_text, written_text, word_text, place_text, step_line};
 
 use crate::operands::{Operands, mnemonic, operands_of};
 use itoa::Buffer;
@@ -49,6 +49,26 @@ fn put_word(out: &mut Vec<u8>, word: u32) -> Result<(), OutOfMemory>
     let bytes = word.to_be_bytes();
     let _ = hex::encode_to_slice(bytes.as_slice(), &mut digits[..]);
     put(out, &digits)
+}
+
+fn put_half(out: &mut Vec<u8>, half: u16) -> Result<(), OutOfMemory>
+    ensures { OnOk result (out.new.items ≡ out.old.items ++ encode_lower (to_be_bytes w16 half)) }
+{
+    let mut digits = [0u8; 4];
+    let bytes = half.to_be_bytes();
+    let _ = hex::encode_to_slice(bytes.as_slice(), &mut digits[..]);
+    put(out, &digits)
+}
+
+// The bytes of an instruction of two or four, which the word begins with.
+fn put_bytes(out: &mut Vec<u8>, len: u8, word: u32) -> Result<(), OutOfMemory>
+    ensures { OnOk result (out.new.items ≡ out.old.items ++ word_text len word) }
+{
+    if len == 2 {
+        put_half(out, (word & 0xffff) as u16)
+    } else {
+        put_word(out, word)
+    }
 }
 
 fn put_access(out: &mut Vec<u8>, bit: u64, name: &[u8]) -> Result<(), OutOfMemory>
@@ -224,16 +244,17 @@ fn put_written(alloc: Global, out: &mut Vec<u8>, rd: u8, value: u64) -> Result<(
     put_signed(out, value.cast_signed())
 }
 
-fn put_place(out: &mut Vec<u8>, offset: u64, word: u32) -> Result<(), OutOfMemory>
-    ensures { OnOk result (out.new.items ≡ out.old.items ++ place_text offset word) }
+fn put_place(out: &mut Vec<u8>, offset: u64, len: u8, word: u32) -> Result<(), OutOfMemory>
+    ensures { OnOk result (out.new.items ≡ out.old.items ++ place_text offset len word) }
 {
     put_number(out, offset)?;
     put(out, b": ")?;
-    put_word(out, word)?;
+    put_bytes(out, len, word)?;
     put(out, b" ")
 }
 
-/// The line of a step: its offset, its word, its instruction, and the value that the instruction's register has after it.
+/// The line of a step: its offset, its instruction in hexadecimal digits (of two bytes or four, which the word begins
+/// with) and as text, and the value that the instruction's register has after it.
 pub fn put_step(
     alloc: Global,
     out: &mut Vec<u8>,
@@ -245,7 +266,7 @@ pub fn put_step(
     requires { HasFileRegisters d }
     ensures { OnOk result (out.new.items ≡ out.old.items ++ step_line offset word d value) }
 {
-    put_place(out, offset, word)?;
+    put_place(out, offset, d.len, word)?;
     put_instruction(alloc, out, d)?;
     put_written(alloc, out, d.rd, value)?;
     put(out, b"\n")

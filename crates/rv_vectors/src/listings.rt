@@ -170,7 +170,10 @@ Rets -,a0:a1
 Ret\r
 # comment\r
 # caf\u{e9}
-flags m
+flags M
+flags zca,zcb
+flags zca zca
+flags zca 
 frame 0 0 0 0 0 0
 ";
 

@@ -18,7 +18,7 @@ struct Call {
     text: &'static str,
 }
 
-const CALLS: [Call; 39] = [
+const CALLS: [Call; 50] = [
     Call {
         listing: "",
         status: 0,
@@ -33,6 +33,62 @@ const CALLS: [Call; 39] = [
         listing: COUNTDOWN,
         status: 0,
         text: REPORT,
+    },
+    Call {
+        listing: "flags zca\nRet\n",
+        status: 0,
+        text: "code 2\n00000000 8280\nline 0 0 2\nend 2\n",
+    },
+    Call {
+        listing: "flags zca\nBind L0\nAluRRImm12 addi a0 a0 -1\nCondBr ne a0 zero L0 -\nRet\n",
+        status: 0,
+        text: "code 8\n00000000 7d15e31f05fe8280\nline 0 0 0\nline 1 0 2\nline 2 2 6\nline 3 6 8\nlabel L0 0\nend 8\n",
+    },
+    Call {
+        listing: "flags zca\nAluRRImm12 addi a0 zero 5\nEBreak\n",
+        status: 0,
+        text: "code 4\n00000000 15450290\nline 0 0 2\nline 1 2 4\nend 4\n",
+    },
+    Call {
+        listing: "flags zca\nNop4\n",
+        status: 0,
+        text: "code 4\n00000000 13000000\nline 0 0 4\nend 4\n",
+    },
+    Call {
+        listing: "flags zca\nUdf heap_oob\n",
+        status: 0,
+        text: "code 2\n00000000 0000\nline 0 0 2\ntrap 0 heap_oob\nend 2\n",
+    },
+    Call {
+        listing: "flags zca\nAluRRR sub a0 a1 a0\n",
+        status: 0,
+        text: "code 4\n00000000 3385a540\nline 0 0 4\nend 4\n",
+    },
+    Call {
+        listing: "flags zca\nAluRRR add a0 a1 a0\n",
+        status: 0,
+        text: "code 2\n00000000 2e95\nline 0 0 2\nend 2\n",
+    },
+    // Flags stand first, each at most once.
+    Call {
+        listing: "flags\nRet\n",
+        status: 0,
+        text: "code 4\n00000000 67800000\nline 0 0 4\nend 4\n",
+    },
+    Call {
+        listing: "flags zca zca\n",
+        status: 3,
+        text: "rvemit: syntax at line 1\n",
+    },
+    Call {
+        listing: "flags zca\nflags zcb\n",
+        status: 3,
+        text: "rvemit: syntax at line 2\n",
+    },
+    Call {
+        listing: "frame 0 0 0 0 0 0 -\nflags zca\n",
+        status: 3,
+        text: "rvemit: syntax at line 2\n",
     },
     // A line that leads to its own start takes at least one step, so it has bytes.
     Call {

@@ -1,6 +1,7 @@
 //! Listings with the reports of a harness with the Rust's own emission code: each report is compared byte for byte.
 
 mod accesses;
+mod compressed;
 mod constants;
 mod framed;
 mod islands;
@@ -8,6 +9,10 @@ mod random;
 
 use crate::reported::assert_reported;
 use accesses::{EDGES_LISTING, EDGES_REPORT, FRAME_LISTING, FRAME_REPORT};
+use compressed::{
+    EVERY_FORM_LISTING, EVERY_FORM_REPORT, SHORT_JUMP_LISTING, SHORT_JUMP_REPORT,
+    WITHOUT_ZCB_LISTING, WITHOUT_ZCB_REPORT,
+};
 use constants::{LATER_LISTING, LATER_REPORT, MIXED_LISTING, MIXED_REPORT};
 use framed::{SIXTH_LISTING, SIXTH_REPORT};
 use islands::{
@@ -27,7 +32,7 @@ struct Sample {
     report: &'static str,
 }
 
-const SAMPLES: [Sample; 13] = [
+const SAMPLES: [Sample; 16] = [
     Sample {
         name: "first",
         listing: FIRST_LISTING,
@@ -92,6 +97,21 @@ const SAMPLES: [Sample; 13] = [
         name: "constant after the island",
         listing: LATER_LISTING,
         report: LATER_REPORT,
+    },
+    Sample {
+        name: "every form",
+        listing: EVERY_FORM_LISTING,
+        report: EVERY_FORM_REPORT,
+    },
+    Sample {
+        name: "without zcb",
+        listing: WITHOUT_ZCB_LISTING,
+        report: WITHOUT_ZCB_REPORT,
+    },
+    Sample {
+        name: "short jump",
+        listing: SHORT_JUMP_LISTING,
+        report: SHORT_JUMP_REPORT,
     },
 ];
 

@@ -5,18 +5,19 @@ use Rattle.rv_base.specs.Regs.{number_of}
 use Rattle.rv_ops.specs.declared.memory.LoadOP.TheVariants as loads
 use Rattle.rv_emit.specs.Slots.{Data}
 use Rattle.rv_emit.specs.InstParts.{load_over}
-use Rattle.rv_emit.proofs.SlotsJoined.{bytes_put, both_alone, alone_long, alone_sound}
+use Rattle.rv_emit.proofs.SlotsJoined.{bytes_put, both_alone, alone_sound}
+use Rattle.rv_emit.proofs.AddressesPut.{longer, load_over_short}
 use Rattle.rv_emit.proofs.expansions.put_word_constant.Goals as goal
 
 pub put4-requires-clause-room : goal.put4-requires-clause-room
 put4-requires-clause-room c = λ unspoiled.
-    let l = alone_long (load_over (number_of c.args.rd.reg) loads.Lw 4) c.args.sink.now c.put_load_over.new.sink c.in_ok-put_load_over.ensures.slots in
+    let l = longer (load_over c.args.flags (number_of c.args.rd.reg) loads.Lw 4) c.args.sink.now c.put_load_over.new.sink (load_over_short c.args.flags (number_of c.args.rd.reg) loads.Lw 4) c.in_ok-put_load_over.ensures.slots in
     let r = c.requires.room in omega arith
 
 pub put4-requires-clause-sound : goal.put4-requires-clause-sound
-put4-requires-clause-sound c = λ unspoiled. alone_sound (load_over (number_of c.args.rd.reg) loads.Lw 4) c.args.sink.now c.put_load_over.new.sink c.in_ok-put_load_over.ensures.slots
+put4-requires-clause-sound c = λ unspoiled. alone_sound (load_over c.args.flags (number_of c.args.rd.reg) loads.Lw 4) c.args.sink.now c.put_load_over.new.sink c.in_ok-put_load_over.ensures.slots
 
 pub returns-clause-slots : goal.returns-clause-slots
 returns-clause-slots c =
-    both_alone (load_over (number_of c.args.rd.reg) loads.Lw 4) (Data (to_le_bytes w32 c.args.imm) ∷ []) c.args.sink.now c.put_load_over.new.sink c.put4.new.self tt c.in_ok-put_load_over.ensures.slots
-    (bytes_put c.put_load_over.new.sink c.put4.new.self (to_le_bytes w32 c.args.imm) c.in_ok-put4.ensures.put.2 c.in_ok-put4.ensures.sound)
+    both_alone (load_over c.args.flags (number_of c.args.rd.reg) loads.Lw 4) (Data (to_le_bytes w32 c.args.imm) ∷ []) c.args.sink.now c.put_load_over.new.sink c.put4.new.self tt c.in_ok-put_load_over.ensures.slots
+    (bytes_put c.args.flags c.put_load_over.new.sink c.put4.new.self (to_le_bytes w32 c.args.imm) c.in_ok-put4.ensures.put.2 c.in_ok-put4.ensures.sound)

@@ -1,6 +1,7 @@
 use Rattle.std.proofs.Common.{rules, OnOk, FitsSigned, sym, subst}
 use Rattle.std.specs.Int.{w64}
 use Rattle.std.proofs.lemmas.Int.{to_z-of_z}
+use Rattle.std.proofs.lemmas.Result.{on_ok_weaker}
 use Rattle.rv_base.specs.Regs.{number_of}
 use Rattle.rv_emit.specs.Emission.{PutsAlone}
 use Rattle.rv_emit.specs.Places.{location_at}
@@ -10,8 +11,8 @@ use Rattle.rv_emit.proofs.memory.put_address.Goals as goal
 pub returns-in-Based-clause-slots : goal.returns-in-Based-clause-slots
 returns-in-Based-clause-slots c =
     let f : FitsSigned w64 c.in-Based.offset = search rules in
-    subst (λ place. OnOk c.put_based_address.result (PutsAlone (address_slots (number_of c.args.rd.reg) (location_at place)) c.args.sink.now c.put_based_address.new.sink)) (sym c.in-Based.is) (rw (to_z-of_z w64 c.in-Based.offset f) at c.put_based_address.ensures.slots)
+    subst (λ place. OnOk c.put_based_address.result (PutsAlone c.args.flags (address_slots c.args.flags (number_of c.args.rd.reg) (location_at place)) c.args.sink.now c.put_based_address.new.sink)) (sym c.in-Based.is) (rw (to_z-of_z w64 c.in-Based.offset f) at c.put_based_address.ensures.slots)
 
 pub returns-in-AtLabel-clause-slots : goal.returns-in-AtLabel-clause-slots
 returns-in-AtLabel-clause-slots c =
-    subst (λ place. OnOk c.put_label_address.result (PutsAlone (address_slots (number_of c.args.rd.reg) (location_at place)) c.args.sink.now c.put_label_address.new.sink)) (sym c.in-AtLabel.is) c.put_label_address.ensures.slots
+    subst (λ place. OnOk c.put_label_address.result (PutsAlone c.args.flags (address_slots c.args.flags (number_of c.args.rd.reg) (location_at place)) c.args.sink.now c.put_label_address.new.sink)) (sym c.in-AtLabel.is) (on_ok_weaker c.put_label_address.result (λ p. p c.args.flags) c.put_label_address.ensures.slots)

@@ -1,9 +1,11 @@
-use Rattle.std.proofs.Common.{[], ◌∷◌, ◌++◌, refl, ◌∙◌}
+use Rattle.std.proofs.Common.{[], ◌∷◌, ◌++◌, ◌∙◌}
 use Rattle.std.proofs.lemmas.Int.{to_z-of_z}
 use Rattle.std.specs.Int.{w64}
 use Rattle.std.proofs.lemmas.Result.{on_ok_weaker}
 use Rattle.rv_base.specs.Regs.{number_of}
-use Rattle.rv_emit.specs.Operations.{decoded_addi, decoded_add}
+use Rattle.rv_ops.specs.declared.alu.AluOPRRR.TheVariants.{Add}
+use Rattle.rv_ops.specs.declared.alu.AluOPRRI.TheVariants.{Addi}
+use Rattle.rv_inst.specs.Forms.{short_rri, short_rrr}
 use Rattle.rv_emit.specs.Slots.{Op}
 use Rattle.rv_emit.specs.InstParts.{offset_slots}
 use Rattle.rv_emit.proofs.AddressesPut.{near_put, far_put}
@@ -14,10 +16,10 @@ returns-in-Some-clause-slots c =
     let rd = number_of c.args.rd.reg in
     let r = number_of c.args.base in
     let n = c.in-Some.offset in
-    on_ok_weaker c.put_word.result (λ puts. near_put (λ x. Op (decoded_addi rd r x) ∷ []) (offset_slots rd c.args.offset ++ Op (decoded_add rd rd r) ∷ []) c.args.offset n.value c.args.sink.now c.put_word.new.sink (c.in-Some.ensures ∙ to_z-of_z w64 c.args.offset c.ranges.offset) n.low n.high (puts _ refl c.encode_alu_rr_imm12.ensures)) c.put_word.ensures.slot
+    on_ok_weaker c.put_rri.result (λ p. near_put (λ x. Op (short_rri c.args.flags Addi rd r x) ∷ []) (offset_slots c.args.flags rd c.args.offset ++ Op (short_rrr c.args.flags Add rd rd r) ∷ []) c.args.offset n.value c.args.sink.now c.put_rri.new.sink (c.in-Some.ensures ∙ to_z-of_z w64 c.args.offset c.ranges.offset) n.low n.high p) c.put_rri.ensures.slots
 
 pub returns-in-None-clause-slots : goal.returns-in-None-clause-slots
 returns-in-None-clause-slots c =
     let rd = number_of c.args.rd.reg in
     let r = number_of c.args.base in
-    on_ok_weaker c.put_far_address.result (λ p. far_put (Op (decoded_addi rd r c.args.offset) ∷ []) (offset_slots rd c.args.offset ++ Op (decoded_add rd rd r) ∷ []) c.args.offset c.args.sink.now c.put_far_address.new.sink (rw (to_z-of_z w64 c.args.offset c.ranges.offset) at c.in-None.ensures) p) (rw (to_z-of_z w64 c.args.offset c.ranges.offset) at c.put_far_address.ensures.slots)
+    on_ok_weaker c.put_far_address.result (λ p. far_put (Op (short_rri c.args.flags Addi rd r c.args.offset) ∷ []) (offset_slots c.args.flags rd c.args.offset ++ Op (short_rrr c.args.flags Add rd rd r) ∷ []) c.args.offset c.args.sink.now c.put_far_address.new.sink (rw (to_z-of_z w64 c.args.offset c.ranges.offset) at c.in-None.ensures) p) (rw (to_z-of_z w64 c.args.offset c.ranges.offset) at c.put_far_address.ensures.slots)

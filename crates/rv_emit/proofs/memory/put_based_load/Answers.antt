@@ -5,6 +5,7 @@ use Rattle.std.proofs.lemmas.Int.{to_z-of_z}
 use Rattle.rv_base.specs.Regs.{number_of}
 use Rattle.rv_inst.specs.Addresses.{Based}
 use Rattle.rv_encode.specs.Operations.{decoded_load}
+use Rattle.rv_inst.specs.Forms.{short_load}
 use Rattle.rv_emit.specs.Slots.{Op}
 use Rattle.rv_emit.specs.InstParts.{access_slots, address_slots}
 use Rattle.rv_emit.proofs.AddressesPut.{near_put, far_put}
@@ -13,8 +14,8 @@ use Rattle.rv_emit.proofs.memory.put_based_load.Goals as goal
 pub returns-in-Some-clause-slots : goal.returns-in-Some-clause-slots
 returns-in-Some-clause-slots c =
     let n = c.in-Some.offset in
-    on_ok_weaker c.put_near_load.result (λ p. near_put (λ x. access_slots c.args.trap ++ Op (decoded_load c.args.op (number_of c.args.rd.reg) (number_of c.args.base) x) ∷ []) (address_slots 31 (Based (number_of c.args.base) c.args.offset) ++ access_slots c.args.trap ++ Op (decoded_load c.args.op (number_of c.args.rd.reg) 31 (pos 0)) ∷ []) c.args.offset n.value c.args.sink.now c.put_near_load.new.sink (c.in-Some.ensures ∙ to_z-of_z w64 c.args.offset c.ranges.offset) n.low n.high p) c.put_near_load.ensures.slots
+    on_ok_weaker c.put_near_load.result (λ p. near_put (λ x. access_slots c.args.trap ++ Op (short_load c.args.flags c.args.op (number_of c.args.rd.reg) (number_of c.args.base) x) ∷ []) (address_slots c.args.flags 31 (Based (number_of c.args.base) c.args.offset) ++ access_slots c.args.trap ++ Op (decoded_load c.args.op (number_of c.args.rd.reg) 31 (pos 0)) ∷ []) c.args.offset n.value c.args.sink.now c.put_near_load.new.sink (c.in-Some.ensures ∙ to_z-of_z w64 c.args.offset c.ranges.offset) n.low n.high p) c.put_near_load.ensures.slots
 
 pub returns-in-None-clause-slots : goal.returns-in-None-clause-slots
 returns-in-None-clause-slots c =
-    on_ok_weaker c.put_far_load.result (λ p. far_put (access_slots c.args.trap ++ Op (decoded_load c.args.op (number_of c.args.rd.reg) (number_of c.args.base) c.args.offset) ∷ []) (address_slots 31 (Based (number_of c.args.base) c.args.offset) ++ access_slots c.args.trap ++ Op (decoded_load c.args.op (number_of c.args.rd.reg) 31 (pos 0)) ∷ []) c.args.offset c.args.sink.now c.put_far_load.new.sink (rw (to_z-of_z w64 c.args.offset c.ranges.offset) at c.in-None.ensures) p) (rw (to_z-of_z w64 c.args.offset c.ranges.offset) at c.put_far_load.ensures.slots)
+    on_ok_weaker c.put_far_load.result (λ p. far_put (access_slots c.args.trap ++ Op (short_load c.args.flags c.args.op (number_of c.args.rd.reg) (number_of c.args.base) c.args.offset) ∷ []) (address_slots c.args.flags 31 (Based (number_of c.args.base) c.args.offset) ++ access_slots c.args.trap ++ Op (decoded_load c.args.op (number_of c.args.rd.reg) 31 (pos 0)) ∷ []) c.args.offset c.args.sink.now c.put_far_load.new.sink (rw (to_z-of_z w64 c.args.offset c.ranges.offset) at c.in-None.ensures) p) (rw (to_z-of_z w64 c.args.offset c.ranges.offset) at c.put_far_load.ensures.slots)

@@ -8,22 +8,23 @@ use Rattle.rv_emit.specs.InstParts.{upper_at}
 use Rattle.rv_emit.proofs.AddressesPut.{aim_put}
 use Rattle.rv_emit.proofs.PartsPatched.{addi_patchable}
 use Rattle.rv_emit.proofs.SlotsJoined.{both_alone, alone_long, alone_sound, alone_usable}
+use Rattle.rv_base.specs.Flags.{no_flags}
 use Rattle.rv_emit.proofs.memory.put_label_address.Goals as goal
 
 pub put_use-requires-clause-room : goal.put_use-requires-clause-room
 put_use-requires-clause-room c =
-    let l = alone_long (upper_at (number_of c.args.rd.reg) c.args.label ∷ []) c.args.sink.now c.put_upper.new.sink c.in_ok-put_upper.ensures.slots in
+    let l = alone_long (upper_at (number_of c.args.rd.reg) c.args.label ∷ []) c.args.sink.now c.put_upper.new.sink (c.in_ok-put_upper.ensures.slots no_flags) in
     let r = c.requires.room in omega arith
 
 pub put_use-requires-clause-sound : goal.put_use-requires-clause-sound
-put_use-requires-clause-sound c = alone_sound (upper_at (number_of c.args.rd.reg) c.args.label ∷ []) c.args.sink.now c.put_upper.new.sink c.in_ok-put_upper.ensures.slots
+put_use-requires-clause-sound c = alone_sound (upper_at (number_of c.args.rd.reg) c.args.label ∷ []) c.args.sink.now c.put_upper.new.sink (c.in_ok-put_upper.ensures.slots no_flags)
 
 pub put_use-requires-clause-usable : goal.put_use-requires-clause-usable
-put_use-requires-clause-usable c = alone_usable (upper_at (number_of c.args.rd.reg) c.args.label ∷ []) c.args.sink.now c.put_upper.new.sink c.args.label.number c.in_ok-put_upper.ensures.slots c.requires.label
+put_use-requires-clause-usable c = alone_usable (upper_at (number_of c.args.rd.reg) c.args.label ∷ []) c.args.sink.now c.put_upper.new.sink c.args.label.number (c.in_ok-put_upper.ensures.slots no_flags) c.requires.label
 
 pub returns-clause-slots : goal.returns-clause-slots
 returns-clause-slots c =
     let rd = number_of c.args.rd.reg in
     let w = c.addition_word.result in
-    both_alone (upper_at (number_of c.args.rd.reg) c.args.label ∷ []) (Aim PCRelLo12I (Label c.args.label) (λ d. decoded_addi rd rd (lower_of_distance d) ∷ []) ∷ []) c.args.sink.now c.put_upper.new.sink c.put_use.new.sink tt c.in_ok-put_upper.ensures.slots
-    (aim_put PCRelLo12I _ c.put_upper.new.sink c.put_use.new.sink w c.args.label (λ flags. addi_patchable flags w rd rd (omega arith) c.addition_word.ensures) c.in_ok-put_use.ensures.added c.in_ok-put_use.ensures.sound)
+    λ flags. both_alone (upper_at (number_of c.args.rd.reg) c.args.label ∷ []) (Aim PCRelLo12I (Label c.args.label) (λ d. decoded_addi rd rd (lower_of_distance d) ∷ []) ∷ []) c.args.sink.now c.put_upper.new.sink c.put_use.new.sink tt (c.in_ok-put_upper.ensures.slots flags)
+    (aim_put flags PCRelLo12I _ c.put_upper.new.sink c.put_use.new.sink w c.args.label (addi_patchable flags w rd rd (omega arith) c.addition_word.ensures) c.in_ok-put_use.ensures.added c.in_ok-put_use.ensures.sound)

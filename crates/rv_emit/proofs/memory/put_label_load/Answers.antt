@@ -8,30 +8,31 @@ use Rattle.rv_emit.specs.InstParts.{access_slots, upper_at}
 use Rattle.rv_emit.proofs.AddressesPut.{aim_put, longer, access_short}
 use Rattle.rv_emit.proofs.PartsPatched.{load_patchable}
 use Rattle.rv_emit.proofs.SlotsJoined.{both_alone, alone_long, alone_sound, alone_usable}
+use Rattle.rv_base.specs.Flags.{no_flags}
 use Rattle.rv_emit.proofs.memory.put_label_load.Goals as goal
 
 pub put_access-requires : goal.put_access-requires
-put_access-requires c = record { sound = alone_sound (upper_at (number_of c.args.rd.reg) c.args.label ∷ []) c.args.sink.now c.put_upper.new.sink c.in_ok-put_upper.ensures.slots }
+put_access-requires c = record { sound = alone_sound (upper_at (number_of c.args.rd.reg) c.args.label ∷ []) c.args.sink.now c.put_upper.new.sink (c.in_ok-put_upper.ensures.slots no_flags) }
 
 pub put_use-requires-clause-room : goal.put_use-requires-clause-room
 put_use-requires-clause-room c =
-    let l = alone_long (upper_at (number_of c.args.rd.reg) c.args.label ∷ []) c.args.sink.now c.put_upper.new.sink c.in_ok-put_upper.ensures.slots in
-    let m = longer (access_slots c.args.trap) c.put_upper.new.sink c.put_access.new.sink (access_short c.args.trap) c.in_ok-put_access.ensures.slots in
+    let l = alone_long (upper_at (number_of c.args.rd.reg) c.args.label ∷ []) c.args.sink.now c.put_upper.new.sink (c.in_ok-put_upper.ensures.slots no_flags) in
+    let m = longer (access_slots c.args.trap) c.put_upper.new.sink c.put_access.new.sink (access_short c.args.trap) (c.in_ok-put_access.ensures.slots no_flags) in
     let r = c.requires.room in omega arith
 
 pub put_use-requires-clause-sound : goal.put_use-requires-clause-sound
-put_use-requires-clause-sound c = alone_sound (access_slots c.args.trap) c.put_upper.new.sink c.put_access.new.sink c.in_ok-put_access.ensures.slots
+put_use-requires-clause-sound c = alone_sound (access_slots c.args.trap) c.put_upper.new.sink c.put_access.new.sink (c.in_ok-put_access.ensures.slots no_flags)
 
 pub put_use-requires-clause-usable : goal.put_use-requires-clause-usable
 put_use-requires-clause-usable c =
-    alone_usable (access_slots c.args.trap) c.put_upper.new.sink c.put_access.new.sink c.args.label.number c.in_ok-put_access.ensures.slots
-    (alone_usable (upper_at (number_of c.args.rd.reg) c.args.label ∷ []) c.args.sink.now c.put_upper.new.sink c.args.label.number c.in_ok-put_upper.ensures.slots c.requires.label)
+    alone_usable (access_slots c.args.trap) c.put_upper.new.sink c.put_access.new.sink c.args.label.number (c.in_ok-put_access.ensures.slots no_flags)
+    (alone_usable (upper_at (number_of c.args.rd.reg) c.args.label ∷ []) c.args.sink.now c.put_upper.new.sink c.args.label.number (c.in_ok-put_upper.ensures.slots no_flags) c.requires.label)
 
 pub returns-clause-slots : goal.returns-clause-slots
 returns-clause-slots c =
     let rd = number_of c.args.rd.reg in
     let w = c.load_word.result in
     let aim = Aim PCRelLo12I (Label c.args.label) (λ d. decoded_load c.args.op rd rd (lower_of_distance d) ∷ []) in
-    both_alone (upper_at (number_of c.args.rd.reg) c.args.label ∷ []) (access_slots c.args.trap ++ aim ∷ []) c.args.sink.now c.put_upper.new.sink c.put_use.new.sink tt c.in_ok-put_upper.ensures.slots
-    (both_alone (access_slots c.args.trap) (aim ∷ []) c.put_upper.new.sink c.put_access.new.sink c.put_use.new.sink (access_short c.args.trap).plain c.in_ok-put_access.ensures.slots
-    (aim_put PCRelLo12I _ c.put_access.new.sink c.put_use.new.sink w c.args.label (λ flags. load_patchable flags c.args.op w rd rd (omega arith) c.load_word.ensures) c.in_ok-put_use.ensures.added c.in_ok-put_use.ensures.sound))
+    λ flags. both_alone (upper_at (number_of c.args.rd.reg) c.args.label ∷ []) (access_slots c.args.trap ++ aim ∷ []) c.args.sink.now c.put_upper.new.sink c.put_use.new.sink tt (c.in_ok-put_upper.ensures.slots flags)
+    (both_alone (access_slots c.args.trap) (aim ∷ []) c.put_upper.new.sink c.put_access.new.sink c.put_use.new.sink (access_short c.args.trap).plain (c.in_ok-put_access.ensures.slots flags)
+    (aim_put flags PCRelLo12I _ c.put_access.new.sink c.put_use.new.sink w c.args.label (load_patchable flags c.args.op w rd rd (omega arith) c.load_word.ensures) c.in_ok-put_use.ensures.added c.in_ok-put_use.ensures.sound))

@@ -1,4 +1,4 @@
-use Rattle.std.proofs.Common.{refl, ap}
+use Rattle.std.proofs.Common.{ap}
 use Rattle.std.specs.Int.{cast_unsigned, w16}
 use Rattle.std.proofs.lemmas.Result.{on_ok_weaker}
 use Rattle.rv_base.specs.Regs.{number_of}
@@ -7,7 +7,7 @@ use Rattle.rv_emit.proofs.AddressesPut.{lower_zero_put, lower_put}
 use Rattle.rv_emit.proofs.memory.put_lower_immediate.Goals as goal
 
 pub returns-then-lower-eq0-clause-slots : goal.returns-then-lower-eq0-clause-slots
-returns-then-lower-eq0-clause-slots c = lower_zero_put (number_of c.args.rd.reg) c.args.lower.value c.args.sink.now (bits_zero c.args.lower.value c.args.lower.low c.if-lower-eq0.true) c.requires.sound
+returns-then-lower-eq0-clause-slots c = lower_zero_put c.args.flags (number_of c.args.rd.reg) c.args.lower.value c.args.sink.now (bits_zero c.args.lower.value c.args.lower.low c.if-lower-eq0.true) c.requires.sound
 
 pub returns-clause-slots : goal.returns-clause-slots
-returns-clause-slots c = on_ok_weaker c.put_word.result (λ puts. lower_put (number_of c.args.rd.reg) c.args.lower.value c.args.sink.now c.put_word.new.sink c.args.lower.low c.args.lower.high (λ e. c.if-lower-eq0.false (ap (cast_unsigned w16) e)) (puts _ refl c.encode_alu_rr_imm12.ensures)) c.put_word.ensures.slot
+returns-clause-slots c = on_ok_weaker c.put_rri.result (λ p. lower_put (number_of c.args.rd.reg) c.args.lower.value c.args.sink.now c.put_rri.new.sink c.args.lower.low c.args.lower.high (λ e. c.if-lower-eq0.false (ap (cast_unsigned w16) e)) p) c.put_rri.ensures.slots

@@ -11,4 +11,4 @@ pub returns-clause-slots : goal.returns-clause-slots
 returns-clause-slots c =
     let rd = number_of c.args.rd.reg in
     let w = c.enc_auipc.result in
-    aim_put PCRelHi20 _ c.args.sink.now c.put_use.new.sink w c.args.label (λ flags. upper_patchable flags w rd (omega arith) (auipc_layout no_flags w rd (c.enc_auipc.ensures no_flags))) c.in_ok-put_use.ensures.added c.in_ok-put_use.ensures.sound
+    λ flags. aim_put flags PCRelHi20 _ c.args.sink.now c.put_use.new.sink w c.args.label (upper_patchable flags w rd (omega arith) (auipc_layout w rd (c.enc_auipc.ensures no_flags))) c.in_ok-put_use.ensures.added c.in_ok-put_use.ensures.sound

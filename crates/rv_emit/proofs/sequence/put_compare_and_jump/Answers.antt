@@ -8,4 +8,4 @@ pub put_jump-requires-clause-room : goal.put_jump-requires-clause-room
 put_jump-requires-clause-room c = let l : length (bytes_of c.put_compare.new.sink) ≡ length (bytes_of c.args.sink.now) + 4 = word_longer c.args.sink.now c.put_compare.new.sink _ c.args.taken B12 c.in_ok-put_compare.ensures.word in let r = c.requires.room in omega arith
 
 pub returns-clause-slots : goal.returns-clause-slots
-returns-clause-slots c = branch_and_jump c.args.kind c.args.taken c.args.not_taken _ _ _ c.in_ok-put_compare.ensures.slot c.in_ok-put_jump.ensures.slot
+returns-clause-slots c = branch_and_jump c.args.kind c.args.taken c.args.not_taken _ _ _ (c.in_ok-put_compare.ensures.slot c.args.flags) c.in_ok-put_jump.ensures.slot

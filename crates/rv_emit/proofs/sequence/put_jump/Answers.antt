@@ -1,9 +1,8 @@
-use Rattle.std.proofs.Common.{inl}
-use Rattle.rv_emit.proofs.SlotsPut.{jump_put_at}
+use Rattle.rv_emit.proofs.SlotsPut.{whole_jump_put}
 use Rattle.rv_emit.proofs.sequence.put_jump.Goals as goal
 
-pub returns-clause-slot : goal.returns-clause-slot
-returns-clause-slot c = jump_put_at _ _ _ c.args.label c.jump_word.ensures c.in_ok-put_use.ensures.added c.in_ok-put_use.ensures.sound
+pub returns-then-flags-clause-slot : goal.returns-then-flags-clause-slot
+returns-then-flags-clause-slot c = c.in_ok-put_half_jump.ensures.slot c.args.flags c.if-flags.true
 
-pub put_use-requires-clause-usable : goal.put_use-requires-clause-usable
-put_use-requires-clause-usable c = inl c.requires.known
+pub returns-clause-slot : goal.returns-clause-slot
+returns-clause-slot c = whole_jump_put c.args.flags c.args.sink.now c.put_wide_jump.new.sink c.args.label c.if-flags.false (c.in_ok-put_wide_jump.ensures.slot c.args.flags)

@@ -11,20 +11,20 @@ use Rattle.rv_emit.proofs.sequence.put_memory.Goals as goal
 
 pub returns-in_ok-place-in-Load-clause-parts : goal.returns-in_ok-place-in-Load-clause-parts
 returns-in_ok-place-in-Load-clause-parts c =
-    λ family flags. subst (λ inst. OnOk c.put_load.result (Emits (context_by flags c.args.frame.now (registered_of c.args.sink.now)) inst c.args.sink.now c.put_load.new.sink)) (sym c.in-Load.is)
-    (on_ok_weaker c.put_load.result (λ p setting. named_put (load_slots (number_of c.in-Load.rd.reg) c.in-Load.op c.in-Load.flags.trap) (λ k. refl) (location_of c.args.frame.now c.in-Load.from) c.args.sink.now c.place_of.new.sink c.put_load.new.sink c.in_ok-place-in-Load.ensures.slots p flags) (rw (c.trap_code.ensures, c.in_ok-place-in-Load.ensures.place) at c.put_load.ensures.slots))
+    λ family. subst (λ inst. OnOk c.put_load.result (Emits (context_by c.args.flags c.args.frame.now (registered_of c.args.sink.now)) inst c.args.sink.now c.put_load.new.sink)) (sym c.in-Load.is)
+    (on_ok_weaker c.put_load.result (λ p setting. named_put (load_slots c.args.flags (number_of c.in-Load.rd.reg) c.in-Load.op c.in-Load.access.trap) (λ k. refl) (location_of c.args.frame.now c.in-Load.from) c.args.sink.now c.place_of.new.sink c.put_load.new.sink (c.in_ok-place-in-Load.ensures.slots c.args.flags) p) (rw (c.trap_code.ensures, c.in_ok-place-in-Load.ensures.place) at c.put_load.ensures.slots))
 
 pub returns-in_ok-place-in-Store-clause-parts : goal.returns-in_ok-place-in-Store-clause-parts
 returns-in_ok-place-in-Store-clause-parts c =
-    λ family flags. subst (λ inst. OnOk c.put_store.result (Emits (context_by flags c.args.frame.now (registered_of c.args.sink.now)) inst c.args.sink.now c.put_store.new.sink)) (sym c.in-Store.is)
-    (on_ok_weaker c.put_store.result (λ p setting. named_put (store_slots c.in-Store.op (number_of c.in-Store.src) c.in-Store.flags.trap) (λ k. refl) (location_of c.args.frame.now c.in-Store.to) c.args.sink.now c.place_of-in-Store.new.sink c.put_store.new.sink c.in_ok-place-in-Store.ensures.slots p flags) (rw (c.trap_code-in-Store.ensures, c.in_ok-place-in-Store.ensures.place) at c.put_store.ensures.slots))
+    λ family. subst (λ inst. OnOk c.put_store.result (Emits (context_by c.args.flags c.args.frame.now (registered_of c.args.sink.now)) inst c.args.sink.now c.put_store.new.sink)) (sym c.in-Store.is)
+    (on_ok_weaker c.put_store.result (λ p setting. named_put (store_slots c.args.flags c.in-Store.op (number_of c.in-Store.src) c.in-Store.access.trap) (λ k. refl) (location_of c.args.frame.now c.in-Store.to) c.args.sink.now c.place_of-in-Store.new.sink c.put_store.new.sink (c.in_ok-place-in-Store.ensures.slots c.args.flags) p) (rw (c.trap_code-in-Store.ensures, c.in_ok-place-in-Store.ensures.place) at c.put_store.ensures.slots))
 
 pub returns-in_ok-place-in-LoadAddr-clause-parts : goal.returns-in_ok-place-in-LoadAddr-clause-parts
 returns-in_ok-place-in-LoadAddr-clause-parts c =
-    λ family flags. subst (λ inst. OnOk c.put_address.result (Emits (context_by flags c.args.frame.now (registered_of c.args.sink.now)) inst c.args.sink.now c.put_address.new.sink)) (sym c.in-LoadAddr.is)
-    (on_ok_weaker c.put_address.result (λ p setting. named_put (address_slots (number_of c.in-LoadAddr.rd.reg)) (λ k. refl) (location_of c.args.frame.now c.in-LoadAddr.mem) c.args.sink.now c.place_of-in-LoadAddr.new.sink c.put_address.new.sink c.in_ok-place-in-LoadAddr.ensures.slots p flags) (rw (c.in_ok-place-in-LoadAddr.ensures.place) at c.put_address.ensures.slots))
+    λ family. subst (λ inst. OnOk c.put_address.result (Emits (context_by c.args.flags c.args.frame.now (registered_of c.args.sink.now)) inst c.args.sink.now c.put_address.new.sink)) (sym c.in-LoadAddr.is)
+    (on_ok_weaker c.put_address.result (λ p setting. named_put (address_slots c.args.flags (number_of c.in-LoadAddr.rd.reg)) (λ k. refl) (location_of c.args.frame.now c.in-LoadAddr.mem) c.args.sink.now c.place_of-in-LoadAddr.new.sink c.put_address.new.sink (c.in_ok-place-in-LoadAddr.ensures.slots c.args.flags) p) (rw (c.in_ok-place-in-LoadAddr.ensures.place) at c.put_address.ensures.slots))
 
 pub returns-in-LabelAddress-clause-parts : goal.returns-in-LabelAddress-clause-parts
 returns-in-LabelAddress-clause-parts c =
-    λ family flags. subst (λ inst. OnOk c.put_label_address.result (Emits (context_by flags c.args.frame.now (registered_of c.args.sink.now)) inst c.args.sink.now c.put_label_address.new.sink)) (sym c.in-LabelAddress.is)
-    (on_ok_weaker c.put_label_address.result (λ p setting. p flags) c.put_label_address.ensures.slots)
+    λ family. subst (λ inst. OnOk c.put_label_address.result (Emits (context_by c.args.flags c.args.frame.now (registered_of c.args.sink.now)) inst c.args.sink.now c.put_label_address.new.sink)) (sym c.in-LabelAddress.is)
+    (on_ok_weaker c.put_label_address.result (λ p setting. p c.args.flags) c.put_label_address.ensures.slots)

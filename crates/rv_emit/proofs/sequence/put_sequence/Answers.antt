@@ -6,25 +6,25 @@ use Rattle.rv_emit.proofs.FineOperands.{fine}
 use Rattle.rv_emit.proofs.sequence.put_sequence.Goals as goal
 
 pub put_pseudo-requires-clause-fine : goal.put_pseudo-requires-clause-fine
-put_pseudo-requires-clause-fine c = fine (context_by c.args._flags c.args.frame.now (registered_of c.args.sink.now)) c.args.inst.now c.requires.rule
+put_pseudo-requires-clause-fine c = fine (context_by c.args.flags c.args.frame.now (registered_of c.args.sink.now)) c.args.inst.now c.requires.rule
 
 pub put_integer-requires-clause-fine : goal.put_integer-requires-clause-fine
-put_integer-requires-clause-fine c = fine (context_by c.args._flags c.args.frame.now (registered_of c.args.sink.now)) c.args.inst.now c.requires.rule
+put_integer-requires-clause-fine c = fine (context_by c.args.flags c.args.frame.now (registered_of c.args.sink.now)) c.args.inst.now c.requires.rule
 
 pub put_control-requires-clause-fine : goal.put_control-requires-clause-fine
-put_control-requires-clause-fine c = fine (context_by c.args._flags c.args.frame.now (registered_of c.args.sink.now)) c.args.inst.now c.requires.rule
+put_control-requires-clause-fine c = fine (context_by c.args.flags c.args.frame.now (registered_of c.args.sink.now)) c.args.inst.now c.requires.rule
 
 pub put_memory-requires-clause-fine : goal.put_memory-requires-clause-fine
-put_memory-requires-clause-fine c = fine (context_by c.args._flags c.args.frame.now (registered_of c.args.sink.now)) c.args.inst.now c.requires.rule
+put_memory-requires-clause-fine c = fine (context_by c.args.flags c.args.frame.now (registered_of c.args.sink.now)) c.args.inst.now c.requires.rule
 
 pub put_loop-requires-clause-fine : goal.put_loop-requires-clause-fine
-put_loop-requires-clause-fine c = fine (context_by c.args._flags c.args.frame.now (registered_of c.args.sink.now)) c.args.inst.now c.requires.rule
+put_loop-requires-clause-fine c = fine (context_by c.args.flags c.args.frame.now (registered_of c.args.sink.now)) c.args.inst.now c.requires.rule
 
 pub returns-in-Integer-clause-parts : goal.returns-in-Integer-clause-parts
-returns-in-Integer-clause-parts c = λ asks. on_ok_weaker c.put_integer.result (λ emits. emits (context_by c.args._flags c.args.frame.now (registered_of c.args.sink.now))) (c.put_integer.ensures.parts (sym c.family.ensures ∙ c.in-Integer.is))
+returns-in-Integer-clause-parts c = λ asks. on_ok_weaker c.put_integer.result (λ emits. emits c.args.frame.now (registered_of c.args.sink.now)) (c.put_integer.ensures.parts (sym c.family.ensures ∙ c.in-Integer.is))
 
 pub returns-in-Control-clause-parts : goal.returns-in-Control-clause-parts
-returns-in-Control-clause-parts c = λ asks. on_ok_weaker c.put_control.result (λ emits. emits (context_by c.args._flags c.args.frame.now (registered_of c.args.sink.now))) (c.put_control.ensures.parts (sym c.family.ensures ∙ c.in-Control.is))
+returns-in-Control-clause-parts c = λ asks. on_ok_weaker c.put_control.result (λ emits. emits c.args.frame.now (registered_of c.args.sink.now)) (c.put_control.ensures.parts (sym c.family.ensures ∙ c.in-Control.is))
 
 pub returns-in-Loop-clause-parts : goal.returns-in-Loop-clause-parts
-returns-in-Loop-clause-parts c = λ asks. on_ok_weaker c.put_loop.result (λ emits. emits (context_by c.args._flags c.args.frame.now (registered_of c.args.sink.now))) (c.put_loop.ensures.parts (sym c.family.ensures ∙ c.in-Loop.is))
+returns-in-Loop-clause-parts c = λ asks. on_ok_weaker c.put_loop.result (λ emits. emits c.args.frame.now (registered_of c.args.sink.now)) (c.put_loop.ensures.parts (sym c.family.ensures ∙ c.in-Loop.is))

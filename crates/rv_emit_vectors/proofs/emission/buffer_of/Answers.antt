@@ -13,7 +13,7 @@ emit-requires c =
     let context = context_by flags c.new-state.result.frame (registered_of b) in
     let rule = subst (λ frame. inst_rule (context_by flags frame (registered_of b)) c.args.inst.now ≡ None) c.frame_layout.ensures (subst (λ constants. inst_rule (context_by flags c.frame_layout.result.now constants) c.args.inst.now ≡ None) (sym c.in_ok-buffer.ensures.registered) (sym c.check.ensures ∙ none_there c.check.result (sym c.is_some-2.ensures ∙ c.if-is_some-2.false))) in
     let none = sym (c.island_space.ensures context) ∙ none_there c.island_space.result (sym c.is_some.ensures ∙ c.if-is_some.false) in
-    let small = subst (λ frame. sp_to_args_end frame < 2 ^ 31) (sym (c.new-state.ensures.frame ∙ c.none-2.ensures)) (omega arith) in
+    let small = subst (λ frame. sp_to_args_end frame < 2 ^ 31) (sym (c.new-state.ensures.frame ∙ c.none.ensures)) (omega arith) in
     can_start context c.args.inst.now c.in_ok-buffer.buffer small rule none c.in_ok-buffer.ensures
 
 pub returns-in-Ok : goal.returns-in-Ok

@@ -1,4 +1,4 @@
-use Rattle.std.proofs.Common.{◌≡◌, ◌*◌, ◌/◌, ◌^◌, arith, ap, subst, sym, ◌∙◌, w32}
+use Rattle.std.proofs.Common.{◌≡◌, ◌*◌, ◌/◌, ◌^◌, arith, ap, subst, ◌∙◌, w32}
 use Rattle.std.proofs.lemmas.Int.{ints, to_z-of_z}
 use Rattle.rv_base.specs.Regs.{number_of}
 use Rattle.rv_imms.specs.Bits.{low_bits}

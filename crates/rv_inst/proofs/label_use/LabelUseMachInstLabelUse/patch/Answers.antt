@@ -31,3 +31,11 @@ pub returns-in-PCRelLo12I-clause-aims : goal.returns-in-PCRelLo12I-clause-aims
 returns-in-PCRelLo12I-clause-aims c =
     rw c.in-PCRelLo12I.is
     (c.patch_lower.ensures.bits ∙ sym (lower_of_difference c.args.label_offset c.args.use_offset c.ranges.label_offset.fits c.ranges.use_offset.fits))
+
+pub returns-in-RVCJump-clause-aims : goal.returns-in-RVCJump-clause-aims
+returns-in-RVCJump-clause-aims c =
+    let ahead = rw c.in-RVCJump.is at c.requires.forward_in in
+    let behind = rw c.in-RVCJump.is at c.requires.backward_in in
+    let up : c.args.label_offset < c.args.use_offset + 2048 = omega (arith, ahead) in
+    let low : c.args.use_offset ≤ c.args.label_offset + 2048 = omega (arith, behind) in
+    rw c.in-RVCJump.is (c.patch_compressed_jump.ensures.distance ∙ ap (signed 2048) c.bits_of_distance-in-RVCJump.ensures ∙ signed-distance_bits 2048 c.args.use_offset c.args.label_offset up low)
