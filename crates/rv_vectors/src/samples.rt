@@ -32,7 +32,7 @@ struct Sample {
     report: &'static str,
 }
 
-const SAMPLES: [Sample; 16] = [
+const SAMPLES: [Sample; 13] = [
     Sample {
         name: "first",
         listing: FIRST_LISTING,
@@ -98,22 +98,25 @@ const SAMPLES: [Sample; 16] = [
         listing: LATER_LISTING,
         report: LATER_REPORT,
     },
-    Sample {
-        name: "every form",
-        listing: EVERY_FORM_LISTING,
-        report: EVERY_FORM_REPORT,
-    },
-    Sample {
-        name: "without zcb",
-        listing: WITHOUT_ZCB_LISTING,
-        report: WITHOUT_ZCB_REPORT,
-    },
-    Sample {
-        name: "short jump",
-        listing: SHORT_JUMP_LISTING,
-        report: SHORT_JUMP_REPORT,
-    },
 ];
+
+const EVERY_FORM: Sample = Sample {
+    name: "every form",
+    listing: EVERY_FORM_LISTING,
+    report: EVERY_FORM_REPORT,
+};
+
+const WITHOUT_ZCB: Sample = Sample {
+    name: "without zcb",
+    listing: WITHOUT_ZCB_LISTING,
+    report: WITHOUT_ZCB_REPORT,
+};
+
+const SHORT_JUMP: Sample = Sample {
+    name: "short jump",
+    listing: SHORT_JUMP_LISTING,
+    report: SHORT_JUMP_REPORT,
+};
 
 /// Stops unless the listing of a sample has its report.
 fn assert_sample(rt: &impl Abort, alloc: Global, sample: &Sample) -> Result<(), AllocError> {
@@ -129,6 +132,21 @@ fn samples(rt: HostRuntime) -> Result<(), AllocError> {
         assert_sample(&rt, rt.alloc(), sample)?;
     }
     Ok(())
+}
+
+#[test]
+fn compressed_forms(rt: HostRuntime) -> Result<(), AllocError> {
+    assert_sample(&rt, rt.alloc(), &EVERY_FORM)
+}
+
+#[test]
+fn compressed_forms_without_zcb(rt: HostRuntime) -> Result<(), AllocError> {
+    assert_sample(&rt, rt.alloc(), &WITHOUT_ZCB)
+}
+
+#[test]
+fn short_jumps(rt: HostRuntime) -> Result<(), AllocError> {
+    assert_sample(&rt, rt.alloc(), &SHORT_JUMP)
 }
 
 /// The whole text of one in which some rows stand for many lines.
