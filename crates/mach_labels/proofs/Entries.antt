@@ -24,13 +24,26 @@ own_step false true value own inner sparse only = absurd (false≢true (only ref
 own_step false false value own inner sparse only = refl
 
 -- the label's slot among a buffer's is written
-pub inner_step : {T : Type 0} (low same at : Bool) (value : T) (own inner sparse : Option T) → (low ≡ false → at ≡ same) → (same ≡ true → low ≡ false) → option_or (cond low own (cond at (Some value) inner)) sparse ≡ cond same (Some value) (option_or (cond low own inner) sparse)
-inner_step true true at value own inner sparse is only = absurd (false≢true (sym (only refl)))
-inner_step true false at value own inner sparse is only = refl
-inner_step false true true value own inner sparse is only = refl
-inner_step false true false value own inner sparse is only = absurd (false≢true (is refl))
-inner_step false false true value own inner sparse is only = absurd (false≢true (sym (is refl)))
-inner_step false false false value own inner sparse is only = refl
+pub inner_step : {T : Type 0} (low mid same at : Bool) (value : T) (own inner constants sparse : Option T) → (low ≡ false → mid ≡ true → at ≡ same) → (same ≡ true → low ≡ false) → (same ≡ true → mid ≡ true) → option_or (cond low own (cond mid (cond at (Some value) inner) constants)) sparse ≡ cond same (Some value) (option_or (cond low own (cond mid inner constants)) sparse)
+inner_step true mid true at value own inner constants sparse is high only = absurd (false≢true (sym (high refl)))
+inner_step true mid false at value own inner constants sparse is high only = refl
+inner_step false true true true value own inner constants sparse is high only = refl
+inner_step false true true false value own inner constants sparse is high only = absurd (false≢true (is refl refl))
+inner_step false true false true value own inner constants sparse is high only = absurd (false≢true (sym (is refl refl)))
+inner_step false true false false value own inner constants sparse is high only = refl
+inner_step false false true at value own inner constants sparse is high only = absurd (false≢true (only refl))
+inner_step false false false at value own inner constants sparse is high only = refl
+
+-- the label's slot among the constants' is written
+pub constant_step : {T : Type 0} (low mid same at : Bool) (value : T) (own inner constants sparse : Option T) → (low ≡ false → mid ≡ false → at ≡ same) → (same ≡ true → low ≡ false) → (same ≡ true → mid ≡ false) → option_or (cond low own (cond mid inner (cond at (Some value) constants))) sparse ≡ cond same (Some value) (option_or (cond low own (cond mid inner constants)) sparse)
+constant_step true mid true at value own inner constants sparse is high only = absurd (false≢true (sym (high refl)))
+constant_step true mid false at value own inner constants sparse is high only = refl
+constant_step false true true at value own inner constants sparse is high only = absurd (false≢true (sym (only refl)))
+constant_step false true false at value own inner constants sparse is high only = refl
+constant_step false false true true value own inner constants sparse is high only = refl
+constant_step false false true false value own inner constants sparse is high only = absurd (false≢true (is refl refl))
+constant_step false false false true value own inner constants sparse is high only = absurd (false≢true (sym (is refl refl)))
+constant_step false false false false value own inner constants sparse is high only = refl
 
 -- the map has a new value for a label that has no slot
 pub sparse_step : {T : Type 0} (same : Bool) (value : T) (dense sparse : Option T) → (same ≡ true → dense ≡ None) → option_or dense (cond same (Some value) sparse) ≡ cond same (Some value) (option_or dense sparse)

@@ -1,4 +1,4 @@
-//! The table: two vectors for the numbers that lie close together, and a map for the others.
+//! The table: three vectors for the numbers that lie close together, and a map for the others.
 
 use crate::slots::{put, slot};
 use rv_base::OutOfMemory;
@@ -18,13 +18,14 @@ pub const FIRST_CONSTANT: u32 = 0x80000000;
 pub struct LabelTable<T> {
     own: Vec<Option<T>>,
     inner: Vec<Option<T>>,
+    constants: Vec<Option<T>>,
     sparse: BTreeMap<u32, T>,
     entries: usize,
 }
 
 impl<T: Copy> LabelTable<T> {
     ghost use Rattle.std.specs.Prelude.{◌≡◌, ◌<◌, ◌≤◌, ℕ, None, Some, OnOk, OnErr, nat_eq, if◌then◌else◌};
-    ghost use Rattle.mach_labels.specs.Table.{first_inner, dense_of, entry_of, Puts, Same};
+    ghost use Rattle.mach_labels.specs.Table.{first_inner, first_constant, dense_of, entry_of, Puts, Same};
 
     /// A table with no entries. Takes no memory.
     #[tactic(auto, unfolding(crate::specs::Table::entry_of))]
@@ -34,6 +35,7 @@ impl<T: Copy> LabelTable<T> {
         LabelTable {
             own: Vec::new(alloc),
             inner: Vec::new(alloc),
+            constants: Vec::new(alloc),
             sparse: BTreeMap::new(alloc),
             entries: 0,
         }
@@ -46,8 +48,10 @@ impl<T: Copy> LabelTable<T> {
     {
         let dense = if label < FIRST_INNER {
             slot(&self.own, label as usize)
-        } else {
+        } else if label < FIRST_CONSTANT {
             slot(&self.inner, (label - FIRST_INNER) as usize)
+        } else {
+            slot(&self.constants, (label - FIRST_CONSTANT) as usize)
         };
         match dense {
             Some(value) => Some(value),
@@ -65,8 +69,10 @@ impl<T: Copy> LabelTable<T> {
         }
         if label < FIRST_INNER {
             self.set_own(label, value)
-        } else {
+        } else if label < FIRST_CONSTANT {
             self.set_inner(label, value)
+        } else {
+            self.set_constant(label, value)
         }
     }
 
@@ -96,13 +102,27 @@ impl<T: Copy> LabelTable<T> {
     }
 
     fn set_inner(&mut self, label: u32, value: T) -> Result<(), OutOfMemory>
-        requires { first_inner ≤ label }
+        requires from { first_inner ≤ label }
+        requires below { label < first_constant }
         ensures ok { OnOk result (Puts label value self.old self.new) }
         ensures err { OnErr result (Same self.old self.new) }
     {
         let index = (label - FIRST_INNER) as usize;
         if index < self.inner.len() || index < self.room() {
             put(&mut self.inner, index, value)
+        } else {
+            self.set_sparse(label, value)
+        }
+    }
+
+    fn set_constant(&mut self, label: u32, value: T) -> Result<(), OutOfMemory>
+        requires { first_constant ≤ label }
+        ensures ok { OnOk result (Puts label value self.old self.new) }
+        ensures err { OnErr result (Same self.old self.new) }
+    {
+        let index = (label - FIRST_CONSTANT) as usize;
+        if index < self.constants.len() || index < self.room() {
+            put(&mut self.constants, index, value)
         } else {
             self.set_sparse(label, value)
         }
