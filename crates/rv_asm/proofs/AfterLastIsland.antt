@@ -1,5 +1,5 @@
 -- What is pending since the last island, as lines are put.
-use Rattle.std.proofs.Common.{◌≡◌, ℕ, ◌+◌, ◌⊎◌, inl, inr, Bool, true, false, cond, List, [], ◌∷◌, ◌++◌, length, Option, Some, None, refl, ap, sym, ◌∙◌, subst, arith, ⊎_elim, append_assoc}
+use Rattle.std.proofs.Common.{◌≡◌, ℕ, suc, ◌+◌, ◌⊎◌, inl, inr, Bool, true, false, cond, List, [], ◌∷◌, ◌++◌, length, Option, Some, None, refl, ap, sym, ◌∙◌, subst, arith, ⊎_elim}
 use Rattle.std.specs.Prelude.{slice_get, nat_eq, nat_lt}
 use Rattle.std.proofs.lemmas.Bool.{true≢false, eq-eqb, ne_eqb, cases_eq, lt-ltb, ltb-true}
 use Rattle.std.proofs.lemmas.List.{append-nil}
@@ -7,25 +7,25 @@ use Rattle.rv_base.specs.declared.label.MachLabel.{MachLabel}
 use Rattle.rv_inst.specs.Context.{Context}
 use Rattle.rv_inst.specs.declared.code.LineSpan.{LineSpan}
 use Rattle.rv_inst.specs.declared.inst.Inst.{Inst}
-use Rattle.rv_inst.specs.declared.inst.Inst.TheVariants.{EmitIsland}
+use Rattle.rv_inst.specs.declared.inst.Inst.TheVariants.{EmitIsland, BrTable}
 use Rattle.rv_inst.specs.declared.inst.Line.{Line}
 use Rattle.rv_inst.specs.declared.inst.Line.TheVariants.{Inst as Put, Bind}
 use Rattle.rv_inst.specs.declared.label_use.LabelUse.{LabelUse}
 use Rattle.rv_inst.specs.LabelUse.{label_kinds}
 use Rattle.rv_inst.specs.Rules.{broken_rule}
-use Rattle.rv_inst.specs.Sizes.{line_space}
+use Rattle.rv_inst.specs.Sizes.{words_in, extent_of, line_space}
 use Rattle.mach_buffer.specs.declared.uses.Use.{Use}
 use Rattle.mach_buffer.specs.Buffer.{bytes_of, uses_of, place_of}
 use Rattle.mach_buffer.specs.Windows.{or_place}
 use Rattle.mach_buffer.proofs.Laws.{append_each, none_waits, bound_waits}
 use Rattle.rv_emit.specs.Emitted.{Buffer, AppendsInst, AppendsIsland, IslandIfNeeded}
 use Rattle.rv_inst.specs.Uses.{uses_in}
-use Rattle.rv_emit.proofs.Laws.{waits}
+use Rattle.rv_emit.proofs.Laws.{Each, waits, far_waits, bytes_put}
 use Rattle.rv_asm.specs.Reported.{start_of}
 use Rattle.rv_asm.specs.Reported.{end_before}
 use Rattle.rv_asm.specs.LinesInBuffer.{LinesStand, BindPut}
 use Rattle.rv_asm.specs.Reach.{is_island, bound_by}
-use Rattle.rv_asm.specs.AfterLastIsland.{uses_after_island, EndsIn, AfterLastIsland}
+use Rattle.rv_asm.specs.AfterLastIsland.{uses_after_island, passing, EndsIn, AfterLastIsland}
 use Rattle.rv_asm.proofs.LinesAppended.{Appends, InstAppends, LineAppends}
 use Rattle.rv_asm.proofs.LabelNames.{start_last, room_keeps, emitted_keeps}
 use Rattle.rv_asm.proofs.FirstLines.{own_uses, open_in_island, open_after, open_on, bound_by_more, bound_by_append}
@@ -39,34 +39,60 @@ not_less m n level = on (nat_lt m n) refl
 
 -- ---- what a step does to the uses that are open
 
+-- the uses of two lists that pass
+pub passing_both : (test : Use LabelUse → Bool) (xs ys : List (Use LabelUse)) → passing test (xs ++ ys) ≡ passing test xs ++ passing test ys
+passing_both test [] ys = refl
+passing_both test (u ∷ xs) ys = on (test u) (passing_both test xs ys)
+  where
+    on : (c : Bool) → passing test (xs ++ ys) ≡ passing test xs ++ passing test ys → cond c (u ∷ passing test (xs ++ ys)) (passing test (xs ++ ys)) ≡ cond c (u ∷ passing test xs) (passing test xs) ++ passing test ys
+    on true e = ap (λ us. u ∷ us) e
+    on false e = e
+
+-- where none passes
+passing_none : (test : Use LabelUse → Bool) (uses : List (Use LabelUse)) → Each (λ u. test u ≡ false) uses → passing test uses ≡ []
+passing_none test [] none = refl
+passing_none test (u ∷ uses) none = (λ i. cond (none 0 u refl i) (u ∷ passing test uses) (passing test uses)) ∙ passing_none test uses (λ j v h. none (suc j) v h)
+
+-- of those that pass one test, those that pass one that is no weaker
+passing_less : (test less : Use LabelUse → Bool) → ((u : Use LabelUse) → test u ≡ false → less u ≡ false) → (uses : List (Use LabelUse)) → passing less (passing test uses) ≡ passing less uses
+passing_less test less weaker [] = refl
+passing_less test less weaker (u ∷ uses) = on (test u) refl (passing_less test less weaker uses)
+  where
+    on : (c : Bool) → test u ≡ c → passing less (passing test uses) ≡ passing less uses → passing less (cond c (u ∷ passing test uses) (passing test uses)) ≡ cond (less u) (u ∷ passing less uses) (passing less uses)
+    on true passes e = ap (λ us. cond (less u) (u ∷ us) us) e
+    on false fails e = e ∙ sym (λ i. cond (weaker u fails i) (u ∷ passing less uses) (passing less uses))
+
 -- after an island nothing is pending
 ends_island : (old new : Buffer) → AppendsIsland old new → EndsIn [] new
-ends_island old new p = record {
-  before = uses_of new;
-  whole = sym (append-nil (uses_of new));
-  idle = none_waits (waits (place_of new)) label_kinds (uses_of new) p.settled;
-}
+ends_island old new p = record { same = passing_none (waits (place_of new)) (uses_of new) (none_waits (waits (place_of new)) label_kinds (uses_of new) p.settled) }
 
+-- an instruction adds its own uses, of which those of a table are never pending
 ends_block : (context : Context) (inst : Inst) (old new : Buffer) (uses : List (Use LabelUse)) → AppendsInst context inst old new → EndsIn uses old → EndsIn (uses ++ uses_in context (length (bytes_of old)) inst) new
 ends_block context inst old new uses p e =
     let own = uses_in context (length (bytes_of old)) inst in
-    record {
-      before = e.before;
-      whole = p.adds.uses ∙ ap (λ us. us ++ own) e.whole ∙ append_assoc e.before uses own;
-      idle = λ j u h. ap (λ (place : ℕ → Option ℕ). waits place u) p.adds.places ∙ e.idle j u h;
-    }
+    let test = waits (place_of old) in
+    let far : passing test (own ++ p.far) ≡ passing test own = passing_both test own p.far ∙ ap (λ us. passing test own ++ us) (passing_none test p.far (λ j u h. far_waits (place_of old) u (p.table j u h))) ∙ append-nil (passing test own) in
+    let whole : passing test (uses_of old ++ (own ++ p.far)) ≡ passing test (uses ++ own) = passing_both test (uses_of old) (own ++ p.far) ∙ (λ i. e.same i ++ far i) ∙ sym (passing_both test uses own) in
+    record { same = (λ i. passing (waits (p.adds.places i)) (p.adds.uses i)) ∙ whole ∙ (λ i. passing (waits (sym p.adds.places i)) (uses ++ own)) }
 
 -- what was not pending is not pending once a label more is bound
 ends_bind : (label : MachLabel) (old new : Buffer) (span : LineSpan) (uses : List (Use LabelUse)) → BindPut label old new span → EndsIn uses old → EndsIn uses new
 ends_bind label old new span uses p e = record {
-  before = e.before;
-  whole = p.uses ∙ e.whole;
-  idle = λ j u h. on u (waits (place_of new) u) refl (e.idle j u h);
+  same = ap (passing after) p.uses ∙ sym (passing_less before after weaker (uses_of old)) ∙ ap (passing after) e.same ∙ passing_less before after weaker uses;
 }
   where
-    on : (u : Use LabelUse) (c : Bool) → waits (place_of new) u ≡ c → waits (place_of old) u ≡ false → c ≡ false
-    on u false h before = refl
-    on u true h before = absurd (true≢false (sym (bound_waits label_kinds (place_of old) (place_of new) label.number p.unbound p.kept u h) ∙ before))
+    before : Use LabelUse → Bool
+    before = waits (place_of old)
+
+    after : Use LabelUse → Bool
+    after = waits (place_of new)
+
+    weaker : (u : Use LabelUse) → before u ≡ false → after u ≡ false
+    weaker u none = on (after u) refl
+      where
+        on : (c : Bool) → after u ≡ c → c ≡ false
+        on false h = refl
+        on true h = absurd (true≢false (sym (bound_waits label_kinds (place_of old) (place_of new) label.number p.unbound p.kept u h) ∙ none))
 
 -- an instruction: it is an island, or its uses are added
 emitted_ends : (context : Context) (inst : Inst) (mid new : Buffer) (start end : ℕ) (uses : List (Use LabelUse)) → start ≡ length (bytes_of mid) → end ≡ length (bytes_of new) → Appends context inst mid new → EndsIn uses mid →
@@ -79,6 +105,19 @@ emitted_ends context (EmitIsland space) mid new start end uses starts ends e h =
     let longer = put.1.longer in
     inl (lt-ltb start end (omega arith), ends_island mid new put.1))
     e.1.put
+emitted_ends context (BrTable index tmp1 tmp2 targets) mid new start end uses starts ends (last, made, room, words) h =
+    let inst = BrTable index tmp1 tmp2 targets in
+    let size = words_in (extent_of context inst) in
+    let long = bytes_put context inst last new words in
+    ⊎_elim
+    (λ same.
+    let level : length (bytes_of last) ≡ length (bytes_of mid) = ap (λ (b : Buffer). length (bytes_of b)) same.1 in
+    let own : EndsIn (uses ++ []) new = ends_block context inst last new uses words (subst (EndsIn uses) (sym same.1) h) in
+    inr (not_less (start + size) end (omega (arith, starts, ends, long, level)), own))
+    (λ put.
+    let longer = put.1.longer in
+    inl (lt-ltb (start + size) end (omega (arith, starts, ends, long, longer)), ends_block context inst last new [] words (ends_island mid last put.1)))
+    room.put
 emitted_ends context inst mid new start end uses starts ends e h = inr (refl, subst (λ n. EndsIn (uses ++ uses_in context n inst) new) (sym starts) (ends_block context inst mid new uses e h))
 
 -- ---- labels
@@ -115,14 +154,11 @@ bound_bind lines spans l span old new label count p places = ⊎_elim
 
 pub since_none : (context : Context) (b : Buffer) → uses_of b ≡ [] → ((label : ℕ) → place_of b label ≡ None) → AfterLastIsland context [] [] b
 since_none context b uses none = record {
-  ends = record { before = []; whole = uses; idle = λ j u h. absurd (none_at j u h) };
+  ends = record { same = ap (passing (waits (place_of b))) uses };
   places = λ label low. none label;
   ruled = λ i line h. absurd (no_line i line h);
 }
   where
-    none_at : (j : ℕ) (u : Use LabelUse) → slice_get [] j ≡ Some u → ⊥
-    none_at j u h = absurd (cc)
-
     no_line : (j : ℕ) (line : Line) → slice_get [] j ≡ Some line → ⊥
     no_line j line h = absurd (cc)
 

@@ -143,7 +143,7 @@ so_far_next context setting lines n spans new_spans old new line span e s h inde
     let p = line_appends context setting line old new span rule s.built.sound put in
     let built = built_next context setting (take n lines) line spans span old new rule s.built put at in
     let named = named_next context (take n lines) spans line span old new rule s.named s.built.count p in
-    let sized = sized_next context (take n lines) line old new span s.sized p in
+    let sized = sized_next context (take n lines) line old new span rule s.sized p in
     let since = since_next context (take n lines) spans line span old new s.built s.since rule p in
     let early = early_next context (take n lines) spans line span old new s.built s.since p s.early in
     let reach = reaches_next context (take n lines) spans line span old new s.built p since sized s.reach in

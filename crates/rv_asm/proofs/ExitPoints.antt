@@ -1,13 +1,15 @@
 -- The labels that lines name, and those by which they are left, are bound.
-use Rattle.std.proofs.Common.{◌≡◌, ℕ, suc, Bool, true, false, List, [], ◌∷◌, ◌++◌, Some, refl}
-use Rattle.std.specs.Prelude.{slice_get, nat_eq, if◌then◌else◌, ◌||◌}
+use Rattle.std.proofs.Common.{◌≡◌, ℕ, zero, suc, Bool, true, false, List, [], ◌∷◌, ◌++◌, Some, refl}
+use Rattle.std.specs.Prelude.{slice_get, unwrap_or, nat_eq, if◌then◌else◌, ◌||◌}
 use Rattle.std.proofs.lemmas.Bool.{eqb-true}
 use Rattle.rv_base.specs.declared.label.MachLabel.{MachLabel}
-use Rattle.rv_machine.specs.State.{Values}
+use Rattle.rv_base.specs.Regs.{number_of}
+use Rattle.rv_machine.specs.Arithmetic.{low_word}
+use Rattle.rv_machine.specs.State.{Values, reg}
 use Rattle.rv_inst.specs.declared.inst.Line.{Line}
 use Rattle.rv_inst.specs.declared.inst.Line.TheVariants.{Inst as Put, Bind}
 use Rattle.rv_inst.specs.declared.inst.Inst.{Inst}
-use Rattle.rv_inst.specs.declared.inst.Inst.TheVariants.{TrapIf, Jal, CondBr}
+use Rattle.rv_inst.specs.declared.inst.Inst.TheVariants.{TrapIf, Jal, CondBr, BrTable}
 use Rattle.rv_inst.specs.declared.inst.CondBrTarget.{CondBrTarget}
 use Rattle.rv_inst.specs.declared.inst.CondBrTarget.TheVariants.{Label, Fallthrough}
 use Rattle.rv_inst.specs.Meaning.{Environment, Exit, Next, To, Leave, Break, Trap, Data, compares, exit_of, inst_exit, target_exit}
@@ -39,9 +41,22 @@ branch_bound lines c Fallthrough (Label f) b = either_bound lines c Next (To f.n
 branch_bound lines c (Label t) Fallthrough b = either_bound lines c (To t.number) Next b.0 tt
 branch_bound lines c (Label t) (Label f) b = either_bound lines c (To t.number) (To f.number) b.0 b.1.0
 
+-- a label of a table, by whether there is one of the index
+table_bound : (lines : List Line) (default : MachLabel) (labels : List MachLabel) (index : ℕ) → is_bound lines default.number ≡ true → AllBound lines labels → is_bound lines (unwrap_or (slice_get labels index) default).number ≡ true
+table_bound lines default [] index b all = b
+table_bound lines default (l ∷ labels) zero b all = all.0
+table_bound lines default (l ∷ labels) (suc i) b all = table_bound lines default labels i b all.1
+
+-- those that are the first of others
+bound_first : (lines : List Line) (labels more : List MachLabel) → AllBound lines (labels ++ more) → AllBound lines labels
+bound_first lines [] more b = tt
+bound_first lines (l ∷ labels) more b = (b.0, bound_first lines labels more b.1)
+
 inst_bound : (lines : List Line) (env : Environment) (inst : Inst) (v : Values) → AllBound lines (inst_labels inst) → ExitBound lines (inst_exit env inst v)
 inst_bound lines env (Jal label) v b = b.0
-inst_bound lines env (CondBr t f kind) v b = branch_bound lines (compares kind v) t f b
+inst_bound lines env (CondBr t f kind) v b = branch_bound lines (compares kind v) t f (bound_first lines (target_labels t ++ target_labels f) [] b)
+inst_bound lines env (BrTable index tmp1 tmp2 []) v b = tt
+inst_bound lines env (BrTable index tmp1 tmp2 (default ∷ labels)) v b = table_bound lines default labels (low_word (reg v (number_of index))) b.0 b.1
 inst_bound lines env (TrapIf cmp code) v b = either_bound lines (compares cmp v) (Trap code) Next tt tt
 inst_bound lines env _ v b = tt
 

@@ -1,9 +1,10 @@
 -- The traps of lines, as they are recorded one line after another.
 use Rattle.std.proofs.Common.{◌≡◌, ℕ, suc, ◌+◌, ◌≤◌, Bool, List, [], ◌∷◌, ◌++◌, length, refl, ap, sym, ◌∙◌, arith, ⊎_elim, append_assoc, append-nil}
+use Rattle.rv_inst.specs.Sizes.{table_space}
 use Rattle.rv_inst.specs.Context.{Context}
 use Rattle.rv_inst.specs.declared.code.LineSpan.{LineSpan}
 use Rattle.rv_inst.specs.declared.inst.Inst.{Inst}
-use Rattle.rv_inst.specs.declared.inst.Inst.TheVariants.{EmitIsland}
+use Rattle.rv_inst.specs.declared.inst.Inst.TheVariants.{EmitIsland, BrTable}
 use Rattle.rv_inst.specs.declared.inst.Line.{Line}
 use Rattle.rv_inst.specs.Traps.{inst_traps}
 use Rattle.mach_buffer.specs.Buffer.{bytes_of, traps_of}
@@ -19,6 +20,7 @@ room_traps distance old new made m = ⊎_elim (λ same. ap (λ (b : Buffer). tra
 -- an instruction records its own
 pub appended_traps : (context : Context) (inst : Inst) (old new : Buffer) → Appends context inst old new → traps_of new ≡ traps_of old ++ inst_traps context (length (bytes_of old)) (length (bytes_of new)) inst
 appended_traps context (EmitIsland space) old new (made, room) = room_traps space old new made room ∙ sym (append-nil (traps_of old))
+appended_traps context (BrTable index tmp1 tmp2 targets) old new (mid, made, room, words) = words.traps ∙ ap (λ ts. ts ++ []) (room_traps (table_space (length targets)) old mid made room)
 appended_traps context inst old new e = e.traps
 
 -- a span more changes nothing for the lines before it

@@ -1,8 +1,9 @@
 -- What stands in a buffer lasts, and what a line adds.
-use Rattle.std.proofs.Common.{◌≡◌, ℕ, ◌%◌, inl, inr, ⊎_elim, Bool, true, false, List, [], ◌++◌, length, append-nil, Option, Some, None, refl, ap, sym, ◌∙◌, subst, arith}
+use Rattle.std.proofs.Common.{◌≡◌, ℕ, ◌+◌, ◌-◌, ◌%◌, inl, inr, ⊎_elim, Bool, true, false, List, [], ◌++◌, length, append-nil, Option, Some, None, refl, ap, sym, ◌∙◌, subst, arith}
 use Rattle.std.specs.Prelude.{slice_get}
 use Rattle.rv_base.specs.declared.constant.Constant.{Constant}
 use Rattle.rv_base.specs.declared.constant.VCodeConstant.{VCodeConstant}
+use Rattle.rv_base.specs.declared.flags.IsaFlags.{IsaFlags}
 use Rattle.rv_base.specs.declared.label.MachLabel.{MachLabel}
 use Rattle.rv_inst.specs.Context.{Context}
 use Rattle.rv_inst.specs.declared.inst.Line.{Line}
@@ -14,8 +15,8 @@ use Rattle.rv_inst.specs.LabelUse.{label_kinds}
 use Rattle.rv_inst.specs.Rules.{inst_rule, broken_rule}
 use Rattle.rv_inst.specs.Traps.{inst_traps}
 use Rattle.rv_inst.specs.Operands.{inst_constant}
-use Rattle.rv_inst.specs.declared.inst.Inst.TheVariants.{EmitIsland}
-use Rattle.rv_inst.specs.Sizes.{Words, extent_of, line_space}
+use Rattle.rv_inst.specs.declared.inst.Inst.TheVariants.{EmitIsland, BrTable}
+use Rattle.rv_inst.specs.Sizes.{words_in, extent_of, table_space, line_space}
 use Rattle.mach_buffer.specs.declared.records.ConstPlace.{ConstPlace}
 use Rattle.mach_buffer.specs.declared.uses.Use.{Use}
 use Rattle.mach_buffer.specs.Reach.{is_pending, is_needed, deadlines}
@@ -27,10 +28,10 @@ use Rattle.mach_buffer.specs.Windows.{AreWindows}
 use Rattle.mach_buffer.proofs.Laws.{append_none, grows_put, lasts_more, stands_last as constants_last}
 use Rattle.rv_emit.specs.ConstantsAdded.{StandInTurn, AddsConstants}
 use Rattle.rv_emit.specs.declared.state.EmitVState.{EmitVState}
-use Rattle.rv_emit.specs.Emitted.{Buffer, IsSoundBuffer, HasWindows, IslandIfNeeded, named_by}
+use Rattle.rv_emit.specs.Emitted.{Buffer, IsSoundBuffer, HasWindows, AppendsInst, IslandIfNeeded, named_by}
 use Rattle.rv_emit.specs.InstParts.{parts_of}
 use Rattle.rv_emit.specs.State.{setting_beyond}
-use Rattle.rv_emit.proofs.Laws.{adds_both, adds_none, gap_last, parts_last, gap_put, parts_put, are_blocks}
+use Rattle.rv_emit.proofs.Laws.{adds_both, adds_none, gap_last, parts_last, gap_put, parts_put, are_blocks, bytes_put}
 use Rattle.rv_asm.specs.LinesInBuffer.{LineStands, StandsAfter, InstPut, BindPut, LinePut}
 use Rattle.rv_asm.specs.Reported.{line_traps, line_constant, with_constant, StandOutside}
 use Rattle.rv_asm.proofs.LinesAppended.{Appends, appends, appended_long}
@@ -66,25 +67,36 @@ named_with (Some k) named = refl
 -- an instruction names its own
 appended_named : (context : Context) (inst : Inst) (old new : Buffer) → Appends context inst old new → named_of new ≡ with_constant (inst_constant inst) (named_of old)
 appended_named context (EmitIsland space) old new (made, room) = room_named space old new made room
+appended_named context (BrTable index tmp1 tmp2 targets) old new (mid, made, room, words) = words.named ∙ room_named (table_space (length targets)) old mid made room
 appended_named context inst old new e = e.named ∙ named_with (inst_constant inst) (named_of old)
 
 -- ---- the constants that come to stand
 
--- where an instruction has words, no constant has a byte among them
-abbrev pub HoldsNone : Context → Line → Buffer → ℕ → ℕ → Type 0
-HoldsNone context (Put inst) b start end = (size : ℕ) → extent_of context inst ≡ Words size → StandOutside (registered_of b) (constants_of b) start end
-HoldsNone context (Bind label) b start end = Unit {0}
+-- no constant has a byte among the words of an instruction
+abbrev pub HoldsNone : Context → Line → Buffer → ℕ → Type 0
+HoldsNone context (Put inst) b end = StandOutside (registered_of b) (constants_of b) (end - words_in (extent_of context inst)) end
+HoldsNone context (Bind label) b end = Unit {0}
 
--- words bring none
-appended_constants : (context : Context) (inst : Inst) (old new : Buffer) → Appends context inst old new → (size : ℕ) → extent_of context inst ≡ Words size → constants_of new ≡ constants_of old
-appended_constants context (EmitIsland space) old new e size words = absurd (cc)
-appended_constants context inst old new e size words = e.adds.constants
-
--- those that stand end before words that are put
-words_apart : (old new : Buffer) (start end : ℕ) → StandInTurn (shape_of old) → constants_of new ≡ constants_of old → registered_of new ≡ registered_of old → start ≡ length (bytes_of old) → StandOutside (registered_of new) (constants_of new) start end
-words_apart old new start end turn same known at j c k hc hk =
+-- those that stand end before words that are put, or within what was put before them
+words_apart : (old new : Buffer) (size : ℕ) → StandInTurn (shape_of old) → constants_of new ≡ constants_of old → registered_of new ≡ registered_of old → length (bytes_of new) ≡ length (bytes_of old) + size → StandOutside (registered_of new) (constants_of new) (length (bytes_of new) - size) (length (bytes_of new))
+words_apart old new size turn same known long j c k hc hk =
     let le = turn.within j c k (ap (λ (cs : List ConstPlace). slice_get cs j) (sym same) ∙ hc) (ap (λ (ks : List Constant). slice_get ks c.constant.number) (sym known) ∙ hk) in
-    inr (omega (arith, le, at))
+    inr (omega (arith, le, long))
+
+inst_apart : (context : Context) (inst : Inst) (old new : Buffer) → StandInTurn (shape_of old) → AppendsInst context inst old new → StandOutside (registered_of new) (constants_of new) (length (bytes_of new) - words_in (extent_of context inst)) (length (bytes_of new))
+inst_apart context inst old new turn p = words_apart old new (words_in (extent_of context inst)) turn p.adds.constants p.adds.registered (bytes_put context inst old new p)
+
+-- an island has no words of the instruction's own
+room_apart : (b : Buffer) → StandInTurn (shape_of b) → StandOutside (registered_of b) (constants_of b) (length (bytes_of b) - 0) (length (bytes_of b))
+room_apart b turn = words_apart b b 0 turn refl refl (omega arith)
+
+room_turn : (flags : IsaFlags) (distance : ℕ) (old new : Buffer) (made : Bool) → IsSoundBuffer old → HasWindows old → IslandIfNeeded distance old new made → StandInTurn (shape_of old) → StandInTurn (shape_of new)
+room_turn flags distance old new made s w room turn = (gap_put flags distance old new made s w room).adds.in_turn turn
+
+appended_apart : (context : Context) (inst : Inst) (old new : Buffer) → IsSoundBuffer old → HasWindows old → StandInTurn (shape_of old) → Appends context inst old new → StandOutside (registered_of new) (constants_of new) (length (bytes_of new) - words_in (extent_of context inst)) (length (bytes_of new))
+appended_apart context (EmitIsland space) old new s w turn (made, room) = room_apart new (room_turn context.flags space old new made s w room turn)
+appended_apart context (BrTable index tmp1 tmp2 targets) old new s w turn (mid, made, room, words) = inst_apart context (BrTable index tmp1 tmp2 targets) mid new (room_turn context.flags (table_space (length targets)) old mid made s w room turn) words
+appended_apart context inst old new s w turn e = inst_apart context inst old new turn e
 
 -- ---- a line
 
@@ -100,7 +112,7 @@ pub record LineAdded (context : Context) (line : Line) (old new : Buffer) (span 
   pub named : named_of new ≡ with_constant (line_constant line) (named_of old)
   pub constants : AllStand label_kinds (shape_of old) → AllStand label_kinds (shape_of new)
   pub adds : AddsConstants (shape_of old) (shape_of new)
-  pub apart : StandInTurn (shape_of old) → HoldsNone context line new span.start span.end
+  pub apart : StandInTurn (shape_of old) → HoldsNone context line new span.end
 
 -- where no use is, no island is put
 none_put : (distance : ℕ) (old new : Buffer) (made : Bool) → IslandIfNeeded distance old new made → uses_of old ≡ [] → length (bytes_of new) ≡ length (bytes_of old)
@@ -114,7 +126,7 @@ inst_added context setting inst old new span rule s w p =
     let now = setting_beyond p.made setting in
     let room = gap_put context.flags line_space old p.mid p.made s w p.room in
     let appended = appends context now inst p.mid new rule room.sound p.emitted in
-    let long = appended_long context inst p.mid new appended in
+    let long = appended_long context now inst p.mid new rule appended in
     let put = parts_put context.flags (parts_of context now inst) p.mid new (are_blocks context now inst rule) room.sound room.windows p.emitted in
     record {
       lasts = lasts_more room.lasts put.lasts;
@@ -133,7 +145,7 @@ inst_added context setting inst old new span rule s w p =
       named = appended_named context inst p.mid new appended ∙ ap (with_constant (inst_constant inst)) (room_named line_space old p.mid p.made p.room);
       constants = λ h. put.constants (room.constants h);
       adds = adds_both room.adds put.adds;
-      apart = λ turn size words. words_apart p.mid new span.start span.end (room.adds.in_turn turn) (appended_constants context inst p.mid new appended size words) put.lasts.registered p.start;
+      apart = λ turn. subst (λ n. StandOutside (registered_of new) (constants_of new) (n - words_in (extent_of context inst)) n) (sym p.end) (appended_apart context inst p.mid new room.sound room.windows (room.adds.in_turn turn) appended);
     }
 
 -- ---- a bind

@@ -7,13 +7,14 @@ use Rattle.std.proofs.lemmas.List.{length-append}
 use Rattle.rv_inst.specs.Context.{Context}
 use Rattle.rv_inst.specs.declared.code.LineSpan.{LineSpan}
 use Rattle.rv_inst.specs.declared.inst.Inst.{Inst}
-use Rattle.rv_inst.specs.declared.inst.Inst.TheVariants.{EmitIsland}
+use Rattle.rv_inst.specs.declared.inst.Inst.TheVariants.{EmitIsland, BrTable}
 use Rattle.rv_inst.specs.declared.inst.Line.{Line}
 use Rattle.rv_inst.specs.declared.inst.Line.TheVariants.{Inst as Put, Bind}
-use Rattle.rv_inst.specs.Sizes.{line_space}
+use Rattle.rv_inst.specs.Sizes.{table_space, line_space}
 use Rattle.mach_buffer.specs.Reach.{CanReach, is_needed}
 use Rattle.mach_buffer.specs.Buffer.{bytes_of}
 use Rattle.mach_buffer.proofs.Laws.{slice_get-append_last}
+use Rattle.rv_emit.proofs.Laws.{bytes_put}
 use Rattle.rv_emit.specs.Emitted.{Buffer, pending, IslandIfNeeded}
 use Rattle.rv_asm.specs.Reported.{start_of, end_of}
 use Rattle.rv_asm.specs.Reported.{end_before}
@@ -81,51 +82,61 @@ before_line context lines spans (Put inst) span old new b s p gap =
     subst (λ at. IsDue context lines spans (length lines) at line_space) ends (room_due context lines spans line_space old p.mid p.made s p.room (omega (arith, ends, start, gap)))
 before_line context lines spans (Bind label) span old new b s p gap = let ends = b.ends in let start = p.start in absurd (omega (arith, ends, start, gap))
 
--- in the line
-in_line : (context : Context) (lines : List Line) (spans : List LineSpan) (space : ℕ) (span : LineSpan) (old new : Buffer) → AfterLastIsland context lines spans old → InstAppends context (EmitIsland space) old new span → span.start < span.end → IsDue context lines spans (length lines) span.start space
-in_line context lines spans space span old new s p gap = ⊎_elim
+-- in the line, before its words
+in_line : (context : Context) (lines : List Line) (spans : List LineSpan) (space start : ℕ) (old mid last : Buffer) (first second : Bool) → AfterLastIsland context lines spans old → IslandIfNeeded line_space old mid first → start ≡ length (bytes_of mid) → IslandIfNeeded space mid last second → length (bytes_of mid) < length (bytes_of last) → IsDue context lines spans (length lines) start space
+in_line context lines spans space start old mid last first second s before at within longer = ⊎_elim
     (λ same.
-    let room : IslandIfNeeded space old new p.emitted.0 = subst (λ (b : Buffer). IslandIfNeeded space b new p.emitted.0) same.1 p.emitted.1 in
-    let level : length (bytes_of p.mid) ≡ length (bytes_of old) = ap (λ (b : Buffer). length (bytes_of b)) same.1 in
-    let start = p.start in
-    let end = p.end in
-    subst (λ at. IsDue context lines spans (length lines) at space) (sym level ∙ sym start) (room_due context lines spans space old new p.emitted.0 s room (omega (arith, level, start, end, gap))))
+    let room : IslandIfNeeded space old last second = subst (λ (b : Buffer). IslandIfNeeded space b last second) same.1 within in
+    let level : length (bytes_of mid) ≡ length (bytes_of old) = ap (λ (b : Buffer). length (bytes_of b)) same.1 in
+    subst (λ n. IsDue context lines spans (length lines) n space) (sym level ∙ sym at) (room_due context lines spans space old last second s room (omega (arith, level, longer))))
     (λ put. absurd (no_second put.1.settled))
-    p.room.put
+    before.put
   where
-    no_second : pending p.mid ≡ [] → ⊥
+    no_second : pending mid ≡ [] → ⊥
     no_second settled = ⊎_elim
-        (λ same.
-        let level : length (bytes_of new) ≡ length (bytes_of p.mid) = ap (λ (b : Buffer). length (bytes_of b)) same.1 in
-        let start = p.start in
-        let end = p.end in
-        absurd (omega (arith, level, start, end, gap)))
-        (λ put. true≢false (sym put.0 ∙ p.emitted.1.asked ∙ ap (is_needed (length (bytes_of p.mid)) space) settled))
-        p.emitted.1.put
+        (λ same. let level : length (bytes_of last) ≡ length (bytes_of mid) = ap (λ (b : Buffer). length (bytes_of b)) same.1 in absurd (omega (arith, level, longer)))
+        (λ put. true≢false (sym put.0 ∙ within.asked ∙ ap (is_needed (length (bytes_of mid)) space) settled))
+        within.put
 
 within_line : (context : Context) (lines : List Line) (spans : List LineSpan) (line : Line) (span : LineSpan) (old new : Buffer) → LinesStand context lines spans old → AfterLastIsland context lines spans old → LineAppends context line old new span → IslandDue context (lines ++ line ∷ []) (spans ++ span ∷ []) (length lines) line
 within_line context lines spans (Put inst) span old new b s p = on inst p
   where
+    all_spans : List LineSpan
+    all_spans = spans ++ span ∷ []
+
+    start : start_of all_spans (length lines) ≡ span.start
+    start = ap (start_of all_spans) (sym b.count) ∙ start_last spans span
+
+    end : end_of all_spans (length lines) ≡ span.end
+    end = ap (end_of all_spans) (sym b.count) ∙ end_last spans span
+
+    due : (line : Line) (space : ℕ) → IsDue context lines spans (length lines) span.start space → IsDue context (lines ++ line ∷ []) all_spans (length lines) (start_of all_spans (length lines)) space
+    due line space h = subst (λ at. IsDue context (lines ++ line ∷ []) all_spans (length lines) at space) (sym start) (due_more context lines (line ∷ []) spans (span ∷ []) (length lines) span.start space b.count (omega arith) h)
+
     on : (inst : Inst) → InstAppends context inst old new span → IslandDue context (lines ++ Put inst ∷ []) (spans ++ span ∷ []) (length lines) (Put inst)
-    on (EmitIsland space) p =
-        let all = lines ++ Put (EmitIsland space) ∷ [] in
-        let all_spans = spans ++ span ∷ [] in
-        let start : start_of all_spans (length lines) ≡ span.start = ap (start_of all_spans) (sym b.count) ∙ start_last spans span in
-        let end : end_of all_spans (length lines) ≡ span.end = ap (end_of all_spans) (sym b.count) ∙ end_last spans span in
-        λ gap. subst (λ at. IsDue context all all_spans (length lines) at space) (sym start)
-        (due_more context lines (Put (EmitIsland space) ∷ []) spans (span ∷ []) (length lines) span.start space b.count (omega arith) (in_line context lines spans space span old new s p (omega (arith, start, end, gap))))
+    on (EmitIsland space) p = λ gap. let at = p.start in let last = p.end in due (Put (EmitIsland space)) space (in_line context lines spans space span.start old p.mid new p.made p.emitted.0 s p.room p.start p.emitted.1 (omega (arith, start, end, gap, at, last)))
+    on (BrTable index tmp1 tmp2 targets) p =
+        let inst = BrTable index tmp1 tmp2 targets in
+        let long = bytes_put context inst p.emitted.0 new p.emitted.3 in
+        λ gap. let at = p.start in let last = p.end in due (Put inst) (table_space (length targets)) (in_line context lines spans (table_space (length targets)) span.start old p.mid p.emitted.0 p.made p.emitted.1 s p.room p.start p.emitted.2 (omega (arith, start, end, gap, at, last, long)))
     on inst p = tt
 within_line context lines spans (Bind label) span old new b s p = tt
 
 island_due_more : (context : Context) (lines more : List Line) (spans more_spans : List LineSpan) (i : ℕ) (line : Line) → length spans ≡ length lines → i < length lines → IslandDue context lines spans i line → IslandDue context (lines ++ more) (spans ++ more_spans) i line
 island_due_more context lines more spans more_spans i (Put inst) count lt h = on inst h
   where
+    start : start_of (spans ++ more_spans) i ≡ start_of spans i
+    start = start_more spans more_spans i (omega arith)
+
+    end : end_of (spans ++ more_spans) i ≡ end_of spans i
+    end = end_more spans more_spans i (omega arith)
+
+    due : (space : ℕ) → IsDue context lines spans i (start_of spans i) space → IsDue context (lines ++ more) (spans ++ more_spans) i (start_of (spans ++ more_spans) i) space
+    due space d = subst (λ at. IsDue context (lines ++ more) (spans ++ more_spans) i at space) (sym start) (due_more context lines more spans more_spans i (start_of spans i) space count (omega arith) d)
+
     on : (inst : Inst) → IslandDue context lines spans i (Put inst) → IslandDue context (lines ++ more) (spans ++ more_spans) i (Put inst)
-    on (EmitIsland space) h =
-        let start : start_of (spans ++ more_spans) i ≡ start_of spans i = start_more spans more_spans i (omega arith) in
-        let end : end_of (spans ++ more_spans) i ≡ end_of spans i = end_more spans more_spans i (omega arith) in
-        λ gap. subst (λ at. IsDue context (lines ++ more) (spans ++ more_spans) i at space) (sym start)
-        (due_more context lines more spans more_spans i (start_of spans i) space count (omega arith) (h (omega (arith, start, end, gap))))
+    on (EmitIsland space) h = λ gap. due space (h (omega (arith, start, end, gap)))
+    on (BrTable index tmp1 tmp2 targets) h = λ gap. due (table_space (length targets)) (h (omega (arith, start, end, gap)))
     on inst h = tt
 island_due_more context lines more spans more_spans i (Bind label) count lt h = tt
 

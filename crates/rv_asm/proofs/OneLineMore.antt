@@ -1,5 +1,5 @@
 -- What the loop of `assemble` keeps: of no lines, and of one line more.
-use Rattle.std.proofs.Common.{◌≡◌, ℕ, suc, ◌+◌, ◌⊎◌, inl, inr, ⊎_elim, List, [], ◌∷◌, ◌++◌, length, Some, None, refl, ap, sym, ◌∙◌, subst, arith}
+use Rattle.std.proofs.Common.{◌≡◌, ℕ, suc, ◌+◌, ◌-◌, ◌⊎◌, inl, inr, ⊎_elim, List, [], ◌∷◌, ◌++◌, length, Some, None, refl, ap, sym, ◌∙◌, subst, arith}
 use Rattle.std.specs.Prelude.{slice_get}
 use Rattle.std.proofs.lemmas.List.{length-append}
 use Rattle.rv_inst.specs.Context.{Context}
@@ -9,7 +9,7 @@ use Rattle.rv_inst.specs.declared.inst.Line.TheVariants.{Inst as Put}
 use Rattle.rv_inst.specs.declared.code.LineSpan.{LineSpan}
 use Rattle.rv_inst.specs.declared.label_use.LabelUse.{LabelUse}
 use Rattle.rv_inst.specs.LabelUse.{label_kinds}
-use Rattle.rv_inst.specs.Sizes.{Words, extent_of}
+use Rattle.rv_inst.specs.Sizes.{words_in, extent_of}
 use Rattle.mach_buffer.specs.declared.uses.Use.{Use}
 use Rattle.mach_buffer.specs.declared.records.ConstPlace.{ConstPlace}
 use Rattle.mach_buffer.specs.Buffer.{bytes_of, uses_of, traps_of, registered_of, named_of, constants_of}
@@ -41,7 +41,7 @@ built_none context b eb eu et er en ec s = record {
   named = en;
   stand = λ j c h. absurd (none_there j c h);
   in_turn = record { ascend = λ i j c d k lt h hd hk. absurd (none_there i c h); within = λ j c k h hk. absurd (none_there j c h) };
-  apart = λ i inst size h. absurd (cc);
+  apart = λ i inst h. absurd (cc);
   windows = subst (λ (bs : List ℕ). AreWindows label_kinds bs (uses_of b)) (sym eb)
       (subst (λ (us : List (Use LabelUse)). AreWindows label_kinds [] us) (sym eu) windows_none);
   sound = s;
@@ -90,21 +90,21 @@ module _ (context : Context) (lines : List Line) (line : Line) (spans : List Lin
   first [] e = start_here 0 (ap length (sym e)) ∙ a.first (b.nothing (ap length e)) ∙ b.ends ∙ ap (λ ls. end_before spans (length ls)) e
   first (l ∷ ls) e = let some : length lines ≡ suc (length ls) = ap length e in start_more spans (span ∷ []) 0 (omega (arith, same, some)) ∙ b.first
 
-  -- constants stand apart from words where they do from the same offsets
-  moved_apart : (i start end : ℕ) → start_of all i ≡ start → end_of all i ≡ end → StandOutside context.constants (constants_of new) start end → StandOutside context.constants (constants_of new) (start_of all i) (end_of all i)
-  moved_apart i start end p q h = subst (λ n. StandOutside context.constants (constants_of new) n (end_of all i)) (sym p) (subst (StandOutside context.constants (constants_of new) start) (sym q) h)
+  -- constants stand apart from words that end at the same offset
+  moved_apart : (i end size : ℕ) → end_of all i ≡ end → StandOutside context.constants (constants_of new) (end - size) end → StandOutside context.constants (constants_of new) (end_of all i - size) (end_of all i)
+  moved_apart i end size q h = subst (λ n. StandOutside context.constants (constants_of new) (n - size) n) (sym q) h
 
   -- from a line that stood, since it ends before constants that are new begin; from the last, since those that stand end before it
-  apart : (i : ℕ) (inst : Inst) (size : ℕ) → extent_of context inst ≡ Words size → (slice_get lines i ≡ Some (Put inst)) ⊎ ((i ≡ length lines) × (line ≡ Put inst)) → StandOutside context.constants (constants_of new) (start_of all i) (end_of all i)
-  apart i inst size words (inl h) =
+  apart : (i : ℕ) (inst : Inst) → (slice_get lines i ≡ Some (Put inst)) ⊎ ((i ≡ length lines) × (line ≡ Put inst)) → StandOutside context.constants (constants_of new) (end_of all i - words_in (extent_of context inst)) (end_of all i)
+  apart i inst (inl h) =
       let lt = below lines i (Put inst) h in
       let ends = (b.each i (Put inst) h).ends in
-      moved_apart i _ _ (start_more spans (span ∷ []) i (omega (arith, same, lt))) (end_more spans (span ∷ []) i (omega (arith, same, lt)))
-      (λ j c k hc hk. ⊎_elim (λ stood. b.apart i inst size h words j c k stood hk) (λ after. inl (omega (arith, ends, after))) (a.adds.fresh j c hc))
-  apart i inst size words (inr (e, is)) =
-      moved_apart i _ _ (start_here i e) (ap (end_of all) (e ∙ sym same) ∙ end_last spans span)
-      (subst (λ known. StandOutside known (constants_of new) span.start span.end) (a.lasts.registered ∙ b.registered)
-      (subst (λ l. HoldsNone context l new span.start span.end) is (a.apart b.in_turn) size words))
+      moved_apart i _ (words_in (extent_of context inst)) (end_more spans (span ∷ []) i (omega (arith, same, lt)))
+      (λ j c k hc hk. ⊎_elim (λ stood. b.apart i inst h j c k stood hk) (λ after. inl (omega (arith, ends, after))) (a.adds.fresh j c hc))
+  apart i inst (inr (e, is)) =
+      moved_apart i _ (words_in (extent_of context inst)) (ap (end_of all) (e ∙ sym same) ∙ end_last spans span)
+      (subst (λ known. StandOutside known (constants_of new) (span.end - words_in (extent_of context inst)) span.end) (a.lasts.registered ∙ b.registered)
+      (subst (λ l. HoldsNone context l new span.end) is (a.apart b.in_turn)))
 
   pub built_more : span.index ≡ length lines → LinesStand context (lines ++ line ∷ []) all new
   built_more index = record {
@@ -119,7 +119,7 @@ module _ (context : Context) (lines : List Line) (line : Line) (spans : List Lin
     named = a.named ∙ ap (with_constant (line_constant line)) b.named ∙ sym (constants_more [] lines line);
     stand = a.constants b.stand;
     in_turn = a.adds.in_turn b.in_turn;
-    apart = λ i inst size h words. apart i inst size words (before_or_last lines line i (Put inst) h);
+    apart = λ i inst h. apart i inst (before_or_last lines line i (Put inst) h);
     windows = a.windows;
     sound = a.sound;
   }

@@ -1,5 +1,5 @@
 -- How long code may be, and that an instruction finds its room.
-use Rattle.std.proofs.Common.{◌≡◌, ℕ, suc, ◌+◌, ◌*◌, ◌≤◌, Bool, cond, List, [], ◌∷◌, ◌++◌, length, Option, None, refl, ap, sym, ◌∙◌, subst, arith, ⊎_elim}
+use Rattle.std.proofs.Common.{◌≡◌, ℕ, suc, ◌+◌, ◌-◌, ◌*◌, ◌≤◌, Bool, cond, List, [], ◌∷◌, ◌++◌, length, Option, None, refl, ap, sym, ◌∙◌, subst, arith, ⊎_elim}
 use Rattle.std.specs.Prelude.{is_some}
 use Rattle.rv_base.specs.declared.constant.Constant.{Constant}
 use Rattle.rv_base.specs.declared.label.MachLabel.{MachLabel}
@@ -7,7 +7,7 @@ use Rattle.mach_labels.specs.Table.{first_constant}
 use Rattle.rv_inst.specs.Context.{Context}
 use Rattle.rv_inst.specs.declared.code.LineSpan.{LineSpan}
 use Rattle.rv_inst.specs.declared.inst.Inst.{Inst}
-use Rattle.rv_inst.specs.declared.inst.Inst.TheVariants.{EmitIsland}
+use Rattle.rv_inst.specs.declared.inst.Inst.TheVariants.{EmitIsland, BrTable}
 use Rattle.rv_inst.specs.declared.inst.Line.{Line}
 use Rattle.rv_inst.specs.declared.inst.Line.TheVariants.{Inst as Put, Bind}
 use Rattle.rv_inst.specs.LabelUse.{label_kinds}
@@ -16,8 +16,10 @@ use Rattle.mach_buffer.specs.Buffer.{shape_of, bytes_of, uses_of, place_of, allo
 use Rattle.mach_buffer.specs.Constants.{reserve_from, reserve_of}
 use Rattle.mach_buffer.proofs.Laws.{slack_same, slack_from_reach, reach_from_slack, total, due_total, reserve_other}
 use Rattle.rv_emit.specs.Emitted.{Buffer, pending, AppendsInst, AppendsIsland, IslandIfNeeded, IsBounded}
-use Rattle.rv_emit.proofs.Laws.{waits}
-use Rattle.rv_inst.specs.Sizes.{line_space, line_sum}
+use Rattle.rv_base.specs.Regs.{number_of}
+use Rattle.rv_inst.specs.Rules.{inst_rule, broken_rule}
+use Rattle.rv_emit.proofs.Laws.{waits, bytes_put, none_more, table_most, table_some}
+use Rattle.rv_inst.specs.Sizes.{words_in, extent_of, table_space, line_space, inst_sum, line_sum}
 use Rattle.rv_asm.specs.Refusal.{constants_sum, lines_sum, size_sum}
 use Rattle.rv_asm.specs.LinesInBuffer.{Sized, BindPut}
 use Rattle.rv_asm.proofs.LinesAppended.{Appends, InstAppends, LineAppends}
@@ -91,9 +93,25 @@ room_uses distance old new made m = ⊎_elim
 block_reserve : (context : Context) (inst : Inst) (old new : Buffer) → AppendsInst context inst old new → reserve_of (shape_of new) ≡ reserve_of (shape_of old)
 block_reserve context inst old new p = λ j. reserve_from (p.adds.places j) 0 (p.adds.registered j)
 
-pub emitted_uses : (context : Context) (inst : Inst) (old new : Buffer) → Appends context inst old new → IsBounded context inst old new → Uses 100 old new
-emitted_uses context (EmitIsland space) old new e bounds = let u = room_uses space old new e.0 e.1 in record { size = let s = u.size in omega arith; allocated = u.allocated }
-emitted_uses context inst old new e bounds =
+-- words that are put
+words_uses : (context : Context) (inst : Inst) (most : ℕ) (old new : Buffer) → words_in (extent_of context inst) ≤ most → length (pending new) ≤ length (pending old) → AppendsInst context inst old new → Uses most old new
+words_uses context inst most old new long few p =
+    let bytes = bytes_put context inst old new p in
+    let allocated = p.adds.allocated in
+    let reserve = block_reserve context inst old new p in
+    record { size = omega (arith, bytes, long, few, reserve); allocated = omega (arith, allocated) }
+
+-- what comes before it apart, an instruction uses no more than it counts for
+pub emitted_uses : (context : Context) (inst : Inst) (old new : Buffer) → inst_rule context inst ≡ None → Appends context inst old new → IsBounded context inst old new → Uses (inst_sum context inst - 17) old new
+emitted_uses context (EmitIsland space) old new rule e bounds = let u = room_uses space old new e.0 e.1 in record { size = let s = u.size in omega arith; allocated = u.allocated }
+emitted_uses context (BrTable index tmp1 tmp2 targets) old new rule (mid, made, room, words) bounds =
+    let inst = BrTable index tmp1 tmp2 targets in
+    let most = table_most context.flags (number_of index) (number_of tmp2.reg) (length targets) (table_some context index tmp1 tmp2 targets rule) in
+    let u = room_uses (table_space (length targets)) old mid made room in
+    let w = words_uses context inst (48 + 8 * length targets) mid new most (none_more context inst mid new refl words) words in
+    let a = u.size in let b = w.size in let c = u.allocated in let d = words.adds.allocated in
+    record { size = omega (arith, a, b); allocated = omega (arith, c, d) }
+emitted_uses context inst old new rule e bounds =
     let within = bounds refl in
     let long = within.long in
     let few = within.waiting in
@@ -111,10 +129,10 @@ sized_none context b bytes uses places registered allocated =
     let reserve : reserve_of (shape_of b) ≡ constants_sum context.constants = reserve_all (place_of b) 0 (registered_of b) places ∙ ap constants_sum registered in
     record { reach = subst (CanReach (length (bytes_of b))) (sym none) tt; size = omega (arith, waiting, long, reserve); allocated = omega arith }
 
-inst_sized : (context : Context) (lines : List Line) (inst : Inst) (old new : Buffer) (span : LineSpan) → Sized context lines old → InstAppends context inst old new span → Sized context (lines ++ Put inst ∷ []) new
-inst_sized context lines inst old new span s p =
+inst_sized : (context : Context) (lines : List Line) (inst : Inst) (old new : Buffer) (span : LineSpan) → inst_rule context inst ≡ None → Sized context lines old → InstAppends context inst old new span → Sized context (lines ++ Put inst ∷ []) new
+inst_sized context lines inst old new span rule s p =
     let room : Uses 17 old p.mid = room_uses line_space old p.mid p.made p.room in
-    let block : Uses 100 p.mid new = emitted_uses context inst p.mid new p.emitted p.bounds in
+    let block : Uses (inst_sum context inst - 17) p.mid new = emitted_uses context inst p.mid new rule p.emitted p.bounds in
     let sum = sum_next context lines (Put inst) in
     let least = sum_least context (Put inst) in
     let a = room.size in
@@ -139,6 +157,6 @@ bind_sized context lines label old new span s p =
     let same = p.allocated in
     record { reach = subst (λ n. CanReach n (pending new)) (sym long) reach; size = omega (arith, sum, long, few, reserve, size); allocated = omega (arith, sum, same, allocated) }
 
-pub sized_next : (context : Context) (lines : List Line) (line : Line) (old new : Buffer) (span : LineSpan) → Sized context lines old → LineAppends context line old new span → Sized context (lines ++ line ∷ []) new
-sized_next context lines (Put inst) old new span s p = inst_sized context lines inst old new span s p
-sized_next context lines (Bind label) old new span s p = bind_sized context lines label old new span s p
+pub sized_next : (context : Context) (lines : List Line) (line : Line) (old new : Buffer) (span : LineSpan) → broken_rule context line ≡ None → Sized context lines old → LineAppends context line old new span → Sized context (lines ++ line ∷ []) new
+sized_next context lines (Put inst) old new span rule s p = inst_sized context lines inst old new span rule s p
+sized_next context lines (Bind label) old new span rule s p = bind_sized context lines label old new span s p

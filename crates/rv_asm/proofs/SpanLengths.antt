@@ -1,5 +1,5 @@
 -- What stands in the buffer is what the code reports of its lines: how long each span is, and what stands between two.
-use Rattle.std.proofs.Common.{◌≡◌, ℕ, zero, suc, ◌^◌, ◌<◌, ◌≤◌, inl, ⊎_elim, List, [], ◌∷◌, length, map, Some, sym, ap, subst, ◌∙◌, arith}
+use Rattle.std.proofs.Common.{◌≡◌, ℕ, zero, suc, ◌+◌, ◌^◌, ◌<◌, ◌≤◌, inl, ⊎_elim, List, [], ◌∷◌, length, map, Some, sym, ap, subst, ◌∙◌, arith}
 use Rattle.std.specs.Prelude.{slice_get}
 use Rattle.rv_base.specs.declared.constant.Constant.{Constant}
 use Rattle.std.specs.List.{AllByRecursion}
@@ -7,19 +7,22 @@ use Rattle.rv_inst.specs.Context.{context_of}
 use Rattle.rv_inst.specs.declared.inst.Line.{Line}
 use Rattle.rv_inst.specs.declared.inst.Line.TheVariants.{Inst as Put, Bind}
 use Rattle.rv_inst.specs.declared.inst.Inst.{Inst}
-use Rattle.rv_inst.specs.declared.inst.Inst.TheVariants.{EmitIsland}
+use Rattle.rv_inst.specs.declared.inst.Inst.TheVariants.{EmitIsland, BrTable}
 use Rattle.rv_inst.specs.declared.job.Job.{Job}
 use Rattle.rv_inst.specs.declared.code.Code.{Code}
 use Rattle.rv_inst.specs.LabelUse.{label_kinds}
-use Rattle.rv_inst.specs.Sizes.{Island, extent_of}
+use Rattle.rv_inst.specs.Sizes.{Island, words_in, extent_of, table_space}
 use Rattle.mach_buffer.specs.declared.records.ConstPlace.{ConstPlace}
 use Rattle.mach_buffer.specs.Buffer.{shape_of, bytes_of, traps_of}
 use Rattle.mach_buffer.specs.Constants.{HasConstants}
 use Rattle.rv_emit.specs.ConstantsAdded.{AddsConstants}
 use Rattle.rv_emit.specs.Emitted.{Buffer}
+use Rattle.rv_base.specs.Regs.{number_of}
+use Rattle.rv_emit.specs.InstParts.{table_slots}
 use Rattle.rv_emit.specs.Puts.{AllBytes}
+use Rattle.rv_emit.specs.Slots.{size_of}
 use Rattle.rv_emit.specs.Standing.{IsFinishedTo}
-use Rattle.rv_emit.proofs.Laws.{adds_end, gap_is}
+use Rattle.rv_emit.proofs.Laws.{adds_end, gap_is, table_stands}
 use Rattle.rv_asm.specs.Reported.{start_of, end_of, end_before, binds_from, IsSized, IsSpan, Reported}
 use Rattle.rv_asm.specs.LinesInBuffer.{LineStands, LinesStand}
 use Rattle.rv_asm.proofs.LinesJoin.{line_at}
@@ -32,6 +35,11 @@ all_bytes (b ∷ bytes) h (suc k) lt = all_bytes bytes h.1 k (omega arith)
 module _ (job : Job) (code : Code) (b : Buffer) (built : LinesStand (context_of job) job.lines code.lines b) (f : IsFinishedTo (shape_of b) code.bytes) (constants : code.constants ≡ f.finishes.put.constants) (small : length code.bytes ≤ 2 ^ 64) where
   inst_sized : (inst : Inst) (start end : ℕ) → LineStands (context_of job) (Put inst) b start end → IsSized job.flags code.bytes (extent_of (context_of job) inst) start end
   inst_sized (EmitIsland space) start end (setting, (mid, gap, same), long) = subst (IsSized job.flags code.bytes (Island space) start) same (gap_is (context_of job) (shape_of b) code.bytes f small start mid gap)
+  inst_sized (BrTable index tmp1 tmp2 targets) start end (setting, parts, long) =
+      let slots = table_slots job.flags (number_of index) (number_of tmp1.reg) (number_of tmp2.reg) targets in
+      let t = table_stands job.flags (table_space (length targets)) slots (shape_of b) start end parts in
+      let size : size_of slots + 0 ≡ words_in (extent_of (context_of job) (BrTable index tmp1 tmp2 targets)) = long in
+      (t.0, gap_is (context_of job) (shape_of b) code.bytes f small start t.0 t.1, let ends = t.2 in omega arith)
   inst_sized inst start end (setting, parts, long) = long
 
   line_long : (line : Line) (start end : ℕ) → LineStands (context_of job) line b start end → IsSpan (context_of job) code.bytes line start end
@@ -59,6 +67,6 @@ module _ (job : Job) (code : Code) (b : Buffer) (built : LinesStand (context_of 
     constants = ap (map (λ (c : ConstPlace). c.constant)) constants ∙ f.finishes.listed ∙ built.named;
     placed = subst (HasConstants job.constants code.bytes) (sym constants) (subst (λ (cs : List Constant). HasConstants cs code.bytes f.finishes.put.constants) built.registered f.finishes.constants);
     ascend = λ i j c d k lt hc hd hk. (put_after.in_turn built.in_turn).ascend i j c d k lt (constant_put i c hc) (constant_put j d hd) (ap (λ (ks : List Constant). slice_get ks c.constant.number) (put_after.registered ∙ built.registered) ∙ hk);
-    apart = λ i inst size h words j c k hc hk. let ends = (built.each i (Put inst) h).ends in ⊎_elim (λ stood. built.apart i inst size h words j c k stood hk) (λ after. inl (omega (arith, ends, after))) (put_after.fresh j c (constant_put j c hc));
+    apart = λ i inst h j c k hc hk. let ends = (built.each i (Put inst) h).ends in ⊎_elim (λ stood. built.apart i inst h j c k stood hk) (λ after. inl (omega (arith, ends, after))) (put_after.fresh j c (constant_put j c hc));
     traps = traps ∙ built.traps;
   }

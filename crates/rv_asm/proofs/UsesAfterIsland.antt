@@ -1,5 +1,5 @@
 -- The uses after which no island stands: whose they are, how far they reach, and how many.
-use Rattle.std.proofs.Common.{◌≡◌, ℕ, zero, suc, ◌+◌, ◌*◌, ◌<◌, ◌≤◌, ◌⊎◌, inl, inr, ⊎_elim, Bool, true, false, cond, not, ◌&&◌, ◌||◌, List, [], ◌∷◌, ◌++◌, length, take, drop, Option, Some, None, refl, ap, sym, ◌∙◌, subst, arith}
+use Rattle.std.proofs.Common.{◌≡◌, ℕ, zero, suc, ◌+◌, ◌*◌, ◌<◌, ◌≤◌, ◌⊎◌, inl, inr, ⊎_elim, Bool, true, false, cond, not, ◌&&◌, ◌||◌, List, [], ◌∷◌, length, map, take, drop, Option, Some, None, refl, ap, sym, ◌∙◌, subst, arith}
 use Rattle.std.specs.Prelude.{slice_get, nat_lt, is_none, if◌then◌else◌}
 use Rattle.std.specs.List.{list_any}
 use Rattle.std.proofs.lemmas.Bool.{true≢false, ltb-true, leb-false, or_parts}
@@ -25,8 +25,8 @@ use Rattle.rv_inst.proofs.Rules.{breaks_none}
 use Rattle.rv_inst.specs.Rules.{inst_rule, is_buffer_label}
 use Rattle.mach_buffer.specs.declared.uses.Use.{Use}
 use Rattle.mach_buffer.specs.Reach.{deadline, deadlines, due_by, is_needed, is_needed_from, is_reached}
-use Rattle.mach_buffer.specs.Buffer.{bytes_of, place_of}
-use Rattle.mach_buffer.proofs.Laws.{both_lists, deadlines_append, none_from, due_le_length}
+use Rattle.mach_buffer.specs.Buffer.{bytes_of, uses_of, place_of}
+use Rattle.mach_buffer.proofs.Laws.{both_lists, deadlines_append, due_le_length}
 use Rattle.rv_emit.specs.Emitted.{Buffer, pending}
 use Rattle.rv_inst.specs.Forms.{jump_kind}
 use Rattle.rv_inst.specs.Uses.{use_at, target_uses, target_reach, uses_in}
@@ -34,7 +34,7 @@ use Rattle.rv_emit.proofs.Laws.{deadlines_as, Each, each_none, each_more, uses_b
 use Rattle.rv_asm.specs.Reported.{start_of}
 use Rattle.rv_inst.specs.Uses.{least_reach}
 use Rattle.rv_asm.specs.Reach.{way_count, last_island, first_after_island, uses_from, bound_by, pending_deadlines, IsDue}
-use Rattle.rv_asm.specs.AfterLastIsland.{uses_after_island, AfterLastIsland}
+use Rattle.rv_asm.specs.AfterLastIsland.{uses_after_island, passing, AfterLastIsland}
 use Rattle.rv_asm.proofs.LabelNames.{IsOf, uses_labels}
 use Rattle.rv_asm.proofs.FirstLines.{last_open}
 
@@ -181,12 +181,20 @@ get_drop (y ∷ xs) (suc k) i x h = let same : suc k + i ≡ suc (k + i) = omega
 
 -- ---- what is pending
 
+-- the deadlines of uses for which a test holds are those of the uses that pass it
+deadlines_passing : (test : Use LabelUse → Bool) (uses : List (Use LabelUse)) → deadlines test label_kinds uses ≡ map (deadline label_kinds) (passing test uses)
+deadlines_passing test [] = refl
+deadlines_passing test (u ∷ uses) = on (test u) (deadlines_passing test uses)
+  where
+    on : (c : Bool) → deadlines test label_kinds uses ≡ map (deadline label_kinds) (passing test uses) → cond c (deadline label_kinds u ∷ deadlines test label_kinds uses) (deadlines test label_kinds uses) ≡ map (deadline label_kinds) (cond c (u ∷ passing test uses) (passing test uses))
+    on true e = ap (λ ds. deadline label_kinds u ∷ ds) e
+    on false e = e
+
 -- of the open uses alone
 open_waits : (context : Context) (lines : List Line) (spans : List LineSpan) (b : Buffer) → AfterLastIsland context lines spans b → pending b ≡ deadlines (waits (place_of b)) label_kinds (uses_after_island context lines spans)
 open_waits context lines spans b s =
     let test = waits (place_of b) in
-    ap (deadlines test label_kinds) s.ends.whole ∙ deadlines_append test label_kinds s.ends.before (uses_after_island context lines spans)
-    ∙ ap (λ ds. ds ++ deadlines test label_kinds (uses_after_island context lines spans)) (none_from test label_kinds s.ends.before s.ends.idle)
+    deadlines_passing test (uses_of b) ∙ ap (map (deadline label_kinds)) s.ends.same ∙ sym (deadlines_passing test (uses_after_island context lines spans))
 
 pub open_from_line : (context : Context) (lines : List Line) (spans : List LineSpan) → Each (FromLine context spans (first_after_island context lines spans (length lines)) (drop (first_after_island context lines spans (length lines)) lines)) (uses_after_island context lines spans)
 open_from_line context lines spans = from_line context spans (first_after_island context lines spans (length lines)) (drop (first_after_island context lines spans (length lines)) lines)

@@ -1,5 +1,5 @@
 -- What is pending in the buffer since the last island, by the lines and their spans: a link of the proof.
-use Rattle.std.specs.Prelude.{◌≡◌, ℕ, ◌<◌, false, List, ◌++◌, length, drop, Some, None, slice_get}
+use Rattle.std.specs.Prelude.{◌≡◌, ℕ, ◌<◌, Bool, cond, List, [], ◌∷◌, length, drop, Some, None, slice_get}
 use Rattle.mach_labels.specs.Table.{first_inner}
 use Rattle.rv_inst.specs.Context.{Context}
 use Rattle.rv_inst.specs.declared.code.LineSpan.{LineSpan}
@@ -17,11 +17,14 @@ use Rattle.rv_asm.specs.Reach.{first_after_island, uses_from, bound_by}
 abbrev pub uses_after_island : Context → List Line → List LineSpan → List (Use LabelUse)
 uses_after_island context lines spans = uses_from context spans (first_after_island context lines spans (length lines)) (drop (first_after_island context lines spans (length lines)) lines)
 
--- these uses were recorded last, and none of those before them is pending
+-- those uses for which a test holds
+abbrev pub passing : (Use LabelUse → Bool) → List (Use LabelUse) → List (Use LabelUse)
+passing test [] = []
+passing test (u ∷ uses) = cond (test u) (u ∷ passing test uses) (passing test uses)
+
+-- what is pending is so of these uses
 pub record EndsIn (uses : List (Use LabelUse)) (b : Buffer) : Type 0 where
-  pub before : List (Use LabelUse)
-  pub whole : uses_of b ≡ before ++ uses
-  pub idle : (j : ℕ) (u : Use LabelUse) → slice_get before j ≡ Some u → is_pending label_kinds (place_of b) u ≡ false
+  pub same : passing (is_pending label_kinds (place_of b)) (uses_of b) ≡ passing (is_pending label_kinds (place_of b)) uses
 
 -- no use of a line before the last island is pending, and each label stands where a line binds it
 pub record AfterLastIsland (context : Context) (lines : List Line) (spans : List LineSpan) (b : Buffer) : Type 0 where

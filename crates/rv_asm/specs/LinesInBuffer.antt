@@ -27,21 +27,23 @@ use Rattle.rv_emit.specs.InstParts.{parts_of}
 use Rattle.rv_emit.specs.Standing.{GapStandsIn, PartsIn}
 use Rattle.rv_emit.specs.declared.state.EmitVState.{EmitVState}
 use Rattle.rv_emit.specs.declared.state.EmitVState.TheVariants.{Unknown}
+use Rattle.rv_emit.specs.Slots.{Part, parts_size}
 use Rattle.rv_emit.specs.State.{setting_after, setting_beyond}
 use Rattle.rv_asm.specs.Reported.{start_of, end_of, end_before, binds_from, traps_from, constants_named, StandApart}
 use Rattle.rv_asm.specs.Refusal.{binds, is_bound, size_sum}
-use Rattle.rv_inst.specs.Sizes.{Extent, Words, Island, extent_of, line_space, line_sum}
+use Rattle.rv_inst.specs.Sizes.{Extent, Words, Island, Table, extent_of, line_space, line_sum}
 
 -- ---- where lines stand
 
--- words are as long as they must be
-abbrev pub IsLong : Extent → ℕ → ℕ → Type 0
-IsLong (Words size) start end = end ≡ start + size
-IsLong (Island space) start end = Unit {0}
+-- words are as long as they must be, and so are those that may stand after an island
+abbrev pub IsLong : Extent → List Part → ℕ → ℕ → Type 0
+IsLong (Words size) parts start end = end ≡ start + size
+IsLong (Island space) parts start end = Unit {0}
+IsLong (Table labels size) parts start end = parts_size parts ≡ size
 
 -- the parts of an instruction stand between two offsets, by some setting of the vector unit; a bind has no bytes
 abbrev pub LineStands : Context → Line → Buffer → ℕ → ℕ → Type 0
-LineStands context (Put inst) b start end = (setting : EmitVState) × PartsIn context.flags (parts_of context setting inst) (shape_of b) start end × IsLong (extent_of context inst) start end
+LineStands context (Put inst) b start end = (setting : EmitVState) × PartsIn context.flags (parts_of context setting inst) (shape_of b) start end × IsLong (extent_of context inst) (parts_of context setting inst) start end
 LineStands context (Bind label) b start end = (start ≡ end) × (place_of b label.number ≡ Some start)
 
 -- after the offset where the line before ends stands nothing, or an island, and then the line
@@ -141,10 +143,14 @@ pub record BindPut (label : MachLabel) (old new : Buffer) (span : LineSpan) : Ty
   pub start : span.start ≡ length (bytes_of old)
   pub end : span.end ≡ length (bytes_of old)
 
--- the vector unit's setting known after a line, by whether an island was put before it and the setting known then
-abbrev pub line_setting : Bool → Line → EmitVState → EmitVState
-line_setting made (Put inst) setting = setting_after inst (setting_beyond made setting)
-line_setting made (Bind label) setting = Unknown
+-- the vector unit's setting known after an instruction before which an island was put where one was needed, by that known before
+abbrev pub InstSetting : Context → Inst → Buffer → EmitVState → EmitVState → Type 0
+InstSetting context inst old before after = (mid : Buffer) × (made : Bool) × IslandIfNeeded line_space old mid made × (after ≡ setting_after context mid inst (setting_beyond made before))
+
+-- and after a line: nothing is known where a label is bound
+abbrev pub LineSetting : Context → Line → Buffer → EmitVState → EmitVState → Type 0
+LineSetting context (Put inst) old before after = InstSetting context inst old before after
+LineSetting context (Bind label) old before after = after ≡ Unknown
 
 -- by the vector unit's setting known before the line
 abbrev pub LinePut : Context → EmitVState → Line → Buffer → Buffer → LineSpan → Type 0

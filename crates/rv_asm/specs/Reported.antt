@@ -1,5 +1,5 @@
 -- What the code reports of its lines.
-use Rattle.std.specs.Prelude.{◌≡◌, ℕ, zero, suc, ◌+◌, ◌<◌, ◌≤◌, ◌⊎◌, List, [], ◌∷◌, ◌++◌, length, map, slice_get, Option, Some, None, option_map, unwrap_or}
+use Rattle.std.specs.Prelude.{◌≡◌, ℕ, zero, suc, ◌+◌, ◌-◌, ◌<◌, ◌≤◌, ◌⊎◌, List, [], ◌∷◌, ◌++◌, length, map, slice_get, Option, Some, None, option_map, unwrap_or}
 use Rattle.rv_base.specs.declared.constant.Constant.{Constant}
 use Rattle.rv_base.specs.declared.constant.VCodeConstant.{VCodeConstant}
 use Rattle.rv_inst.specs.Context.{Context, context_of}
@@ -9,7 +9,7 @@ use Rattle.rv_inst.specs.declared.inst.Line.TheVariants.{Inst as Put, Bind}
 use Rattle.rv_inst.specs.declared.job.Job.{Job}
 use Rattle.rv_inst.specs.Islands.{IsIsland}
 use Rattle.rv_inst.specs.Operands.{inst_constant}
-use Rattle.rv_inst.specs.Sizes.{Extent, Words, Island, extent_of}
+use Rattle.rv_inst.specs.Sizes.{Extent, Words, Island, Table, words_in, extent_of}
 use Rattle.rv_base.specs.declared.flags.IsaFlags.{IsaFlags}
 use Rattle.rv_inst.specs.declared.code.Code.{Code}
 use Rattle.rv_inst.specs.declared.code.LineSpan.{LineSpan}
@@ -70,10 +70,11 @@ constants_named lines = constants_after [] lines
 abbrev pub IsGap : IsaFlags → List ℕ → ℕ → ℕ → Type 0
 IsGap flags bytes from to = (from ≡ to) ⊎ IsIsland flags bytes from to
 
--- an instruction's words are as long as they must be; where it asks for an island, nothing stands, or an island
+-- an instruction's words are as long as they must be; where it asks for an island, nothing stands before them, or an island
 abbrev pub IsSized : IsaFlags → List ℕ → Extent → ℕ → ℕ → Type 0
 IsSized flags bytes (Words size) start end = end ≡ start + size
 IsSized flags bytes (Island space) start end = IsGap flags bytes start end
+IsSized flags bytes (Table labels size) start end = (mid : ℕ) × IsGap flags bytes start mid × (end ≡ mid + size)
 
 -- a line's span is as long as the line; that of a bind is empty
 abbrev pub IsSpan : Context → List ℕ → Line → ℕ → ℕ → Type 0
@@ -88,9 +89,9 @@ AreApart start end from to = (end ≤ from) ⊎ (to ≤ start)
 abbrev pub StandOutside : List Constant → List ConstPlace → ℕ → ℕ → Type 0
 StandOutside registered constants start end = (j : ℕ) (c : ConstPlace) (k : Constant) → slice_get constants j ≡ Some c → slice_get registered c.constant.number ≡ Some k → AreApart start end c.offset (c.offset + length k.bytes)
 
--- nor has one a byte among the words of an instruction
+-- nor has one a byte among the words of an instruction, which are the last of its span
 abbrev pub StandApart : Context → List Line → List LineSpan → List ConstPlace → Type 0
-StandApart context lines spans constants = (i : ℕ) (inst : Inst) (size : ℕ) → slice_get lines i ≡ Some (Put inst) → extent_of context inst ≡ Words size → StandOutside context.constants constants (start_of spans i) (end_of spans i)
+StandApart context lines spans constants = (i : ℕ) (inst : Inst) → slice_get lines i ≡ Some (Put inst) → StandOutside context.constants constants (end_of spans i - words_in (extent_of context inst)) (end_of spans i)
 
 -- Every line has one span, in order, as long as the line. The first starts at 0; between two stands nothing, or an island.
 -- The code's end is that of the last line, its labels are the binds, and its traps are those of the lines. Each constant that a

@@ -14,7 +14,7 @@ ghost use Rattle.rv_emit.specs.Emitted.{IsSoundBuffer, pending, IslandIfNeeded, 
 ghost use Rattle.rv_emit.specs.Emission.{EmitsIn};
 ghost use Rattle.rv_emit.specs.declared.state.EmitVState.TheVariants.{Unknown};
 ghost use Rattle.rv_emit.specs.State.{setting_after, setting_beyond};
-ghost use Rattle.rv_asm.specs.LinesInBuffer.{CanPut, InstPut, BindPut, LinePut, line_setting};
+ghost use Rattle.rv_asm.specs.LinesInBuffer.{CanPut, InstPut, BindPut, InstSetting, LinePut, LineSetting};
 
 use mach_buffer::MachBuffer;
 use rv_base::{MachLabel, OutOfMemory};
@@ -38,7 +38,7 @@ pub fn put_line(
     ensures index { IfOk result (λ span. span.index ≡ index) }
     ensures put { IfOk result (λ span. LinePut (context_by info.now.isa_flags state.old.frame (registered_of sink.old)) state.old.vstate line.now sink.old sink.new span) }
     ensures frame { state.new.frame ≡ state.old.frame }
-    ensures setting { OnOk result (state.new.vstate ≡ line_setting (is_needed (length (bytes_of sink.old)) line_space (pending sink.old)) line.now state.old.vstate) }
+    ensures setting { OnOk result (LineSetting (context_by info.now.isa_flags state.old.frame (registered_of sink.old)) line.now sink.old state.old.vstate state.new.vstate) }
 {
     match line {
         Line::Inst(inst) => put_inst(alloc, sink, info, state, index, inst),
@@ -84,7 +84,7 @@ fn put_inst(
     ensures index { IfOk result (λ span. span.index ≡ index) }
     ensures put { IfOk result (λ span. InstPut (context_by info.now.isa_flags state.old.frame (registered_of sink.old)) state.old.vstate inst.now sink.old sink.new span) }
     ensures frame { state.new.frame ≡ state.old.frame }
-    ensures setting { OnOk result (state.new.vstate ≡ setting_after inst.now (setting_beyond (is_needed (length (bytes_of sink.old)) line_space (pending sink.old)) state.old.vstate)) }
+    ensures setting { OnOk result (InstSetting (context_by info.now.isa_flags state.old.frame (registered_of sink.old)) inst.now sink.old state.old.vstate state.new.vstate) }
 {
     emit_needed_island(sink, state)?;
     let start = sink.cur_offset();
@@ -126,7 +126,7 @@ fn emit(
     ensures bounds { OnOk result (IsBounded (context_by info.now.isa_flags state.old.frame (registered_of sink.old)) inst.now sink.old sink.new) }
     ensures reach { OnOk result (CanReach (length (bytes_of sink.new)) (pending sink.new)) }
     ensures frame { state.new.frame ≡ state.old.frame }
-    ensures setting { OnOk result (state.new.vstate ≡ setting_after inst.now state.old.vstate) }
+    ensures setting { OnOk result (state.new.vstate ≡ setting_after (context_by info.now.isa_flags state.old.frame (registered_of sink.old)) sink.old inst.now state.old.vstate) }
 {
     match inst.emit(alloc, sink, info, state) {
         Ok(()) => Ok(()),

@@ -62,6 +62,7 @@ fn rule_name(rule: Rule) -> &'static str
         Rule::BadType => "BadType",
         Rule::Range => "Range",
         Rule::Constant => "Constant",
+        Rule::EmptyTable => "EmptyTable",
         Rule::NoTarget => "NoTarget",
         Rule::Label => "Label",
         Rule::DataSize => "DataSize",

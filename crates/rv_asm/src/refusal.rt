@@ -3,7 +3,7 @@
 ghost use Rattle.std.specs.Prelude.{◌≡◌, ℕ, [], ◌∷◌, ◌++◌, ◌+◌, ◌||◌, ◌<◌, false, length, nat_eq, nat_lt, IfOk, OnOk, IfSome, IfNone};
 ghost use Rattle.rv_base.specs.declared.flags.IsaFlags.{IsaFlags as Flags};
 ghost use Rattle.rv_base.specs.declared.frame.FrameLayout.{FrameLayout as Frame};
-ghost use Rattle.rv_inst.specs.Operands.{named_labels, inst_labels, target_labels};
+ghost use Rattle.rv_inst.specs.Operands.{named_labels, inst_labels, labels_of, target_labels, targets_of};
 ghost use Rattle.rv_inst.specs.Context.{Context, context_by};
 ghost use Rattle.rv_asm.specs.Refusal.{size_limit, is_bound, broken_from, binds, twice_of, twice_in, twice_from, unbound_among, unbound_in, constants_sum, lines_sum, size_sum, lines_refusal, refusal, Finds};
 ghost use Rattle.rv_asm.specs.Job.{job_of};
@@ -136,6 +136,22 @@ fn find_labels_of(bound: &LabelTable<()>, line: &Line) -> Result<(), EmitError>
 fn find_labels_in(bound: &LabelTable<()>, inst: &Inst) -> Result<(), EmitError>
     ensures { Finds (unbound_among (is_in bound.now) (inst_labels inst.now)) result }
 {
+    find_named(bound, inst)?;
+    find_all_of(bound, inst.table())
+}
+
+fn find_all_of(bound: &LabelTable<()>, labels: &[MachLabel]) -> Result<(), EmitError>
+    ensures { Finds (unbound_among (is_in bound.now) labels.now) result }
+{
+    for label in labels {
+        find_label(bound, *label)?;
+    }
+    Ok(())
+}
+
+fn find_named(bound: &LabelTable<()>, inst: &Inst) -> Result<(), EmitError>
+    ensures { Finds (unbound_among (is_in bound.now) (labels_of (targets_of inst.now))) result }
+{
     match inst.targets() {
         Targets::Nowhere | Targets::RefersConstant(_) => Ok(()),
         Targets::Jumps(label) | Targets::Refers(label) => find_label(bound, label),
@@ -214,11 +230,11 @@ fn count_for_more(lines: &[Line], left: u64) -> bool
 {
     let mut left = left;
     for line in lines {
-        let sum = line.size_sum();
-        if sum > left {
+        let size = line.size_sum();
+        if size > u128::from(left) {
             return true;
         }
-        left -= sum;
+        left -= size as u64;
     }
     false
 }

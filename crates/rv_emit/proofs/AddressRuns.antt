@@ -174,7 +174,7 @@ lower_even flags rd o = on (low64 o == 0)
 pub inline_size : (flags : IsaFlags) (rd size : ℕ) (op : LoadOP) (bytes : List ℕ) → length bytes ≡ size → size_of (inline_slots flags rd op size bytes) ≡ 8 + jump_size flags + size
 inline_size flags rd size op bytes long = let jump = jump_len flags (pos (size + jump_size flags)) in omega arith
 
-offset_even : (flags : IsaFlags) (rd : ℕ) (o : ℤ) → size_of (offset_slots flags rd o) % 2 ≡ 0
+pub offset_even : (flags : IsaFlags) (rd : ℕ) (o : ℤ) → size_of (offset_slots flags rd o) % 2 ≡ 0
 offset_even flags rd o = on (is_splittable o)
   where
     on : (c : Bool) → size_of (if c then immediate_slots flags rd (upper_of o) (lower_of o) else inline_slots flags rd loads.Ld 8 (to_le_bytes w64 (low64 o))) % 2 ≡ 0
@@ -279,7 +279,7 @@ label_goes {site} {offset} {s} allocated rd l some lt bounds is_state h stands =
     let x = upper_sum s.pc offset a.to in
     let s1 = at (wrap (s.pc + 4)) (set_reg s.values rd x) in
     let h1 : IsAt site (offset + 4) 4 s1 = set_at 4 rd x h refl in
-    let sum = lower_sums rd l a.to b.to some lt bounds is_state h a.reaches b.reaches in
+    let sum = lower_sums rd l a.to b.to some lt bounds is_state h a.reaches.0 b.reaches.0 in
     sets_both 4 4 rd x (label_address site l) (upper_goes rd l h (omega arith) a)
     (sets_one (decoded_addi rd rd (lower_of_distance (between (offset + 4) b.to))) rd (label_address site l) h1 (omega arith) b.has (λ i. Some (at (wrap (s1.pc + 4)) (set_reg s1.values rd (sum i)))))
 

@@ -1,5 +1,5 @@
 -- What loads, stores and addresses put.
-use Rattle.std.proofs.Common.{◌≡◌, ◌≢◌, ℕ, ◌+◌, ◌-◌, ◌≤◌, ◌==◌, Bool, true, false, List, [], ◌∷◌, ◌++◌, map, length, Option, Some, None, ℤ, pos, negsuc, ◌≤ℤ◌, refl, sym, subst, append_assoc, arith, lit≤}
+use Rattle.std.proofs.Common.{◌≡◌, ◌≢◌, ℕ, ◌+◌, ◌≤◌, ◌==◌, Bool, true, false, List, [], ◌∷◌, ◌++◌, length, Option, Some, None, ℤ, pos, negsuc, ◌≤ℤ◌, refl, sym, subst, append_assoc, arith, lit≤}
 use Rattle.std.specs.Prelude.{if◌then◌else◌}
 use Rattle.std.specs.Int.{to_le_bytes, w64}
 use Rattle.rv_base.specs.declared.flags.IsaFlags.{IsaFlags}
@@ -16,8 +16,8 @@ use Rattle.rv_imms.specs.Bits.{IsSigned}
 use Rattle.rv_imms.specs.Splitting.{value_of, IsSplittable}
 use Rattle.rv_machine.specs.declared.decoding.Decoded.{Decoded}
 use Rattle.rv_machine.specs.State.{low64}
-use Rattle.rv_ops.specs.declared.alu.AluOPRRR.TheVariants.{Add, And}
-use Rattle.rv_ops.specs.declared.alu.AluOPRRI.TheVariants.{Addi, Slli}
+use Rattle.rv_ops.specs.declared.alu.AluOPRRR.TheVariants.{Add}
+use Rattle.rv_ops.specs.declared.alu.AluOPRRI.TheVariants.{Addi}
 use Rattle.rv_ops.specs.declared.memory.LoadOP.{LoadOP}
 use Rattle.rv_ops.specs.declared.memory.LoadOP.TheVariants as loads
 use Rattle.rv_inst.specs.Addresses.{Location, Based, AtLabel, AtConstant, is_near, is_splittable}
@@ -37,7 +37,6 @@ use Rattle.rv_emit.specs.InstParts.{load_over, access_slots, address_slots, imme
 use Rattle.rv_emit.proofs.OffsetParts.{near, far, splits, splits_not, upper_is, lower_is, low64_zero, low64_other}
 use Rattle.rv_emit.proofs.PlainSlots.{IsPlain}
 use Rattle.rv_emit.proofs.SlotsPut.{alone, none_put}
-use Rattle.rv_emit.specs.Popcnt.{start_ops, test_ops}
 use Rattle.rv_emit.proofs.ShortOps.{HasSize, rrr_sized, rri_sized, lui_sized, jump_len, least_few}
 use Rattle.rv_emit.proofs.SlotsJoined.{both_alone, alone_long}
 
@@ -120,24 +119,6 @@ address_short flags rd (Based r o) = on (is_near o)
     on : (c : Bool) → IsShort 24 (if c then Op (short_rri flags Addi rd r o) ∷ [] else offset_slots flags rd o ++ Op (short_rrr flags Add rd rd r) ∷ [])
     on true = record { plain = tt; short = let few = (rri_sized flags Addi rd r o).few in omega arith }
     on false = then_op (offset_slots flags rd o) (short_rrr flags Add rd rd r) (rrr_sized flags Add rd rd r).few (offset_short flags rd o)
-
--- the first parts of a count of ones
-pub start_short : (flags : IsaFlags) (sum tmp step bits : ℕ) → IsShort 16 (map Op (start_ops flags sum tmp step bits))
-start_short flags sum tmp step bits = record {
-  plain = tt;
-  short =
-      let a = (rri_sized flags Addi sum 0 (pos 0)).few in
-      let b = (rri_sized flags Addi step 0 (pos bits)).few in
-      let c = (rri_sized flags Addi tmp 0 (pos 1)).few in
-      let d = (rri_sized flags Slli tmp tmp (pos (bits - 1))).few in
-      omega arith;
-}
-
-pub test_short : (flags : IsaFlags) (sum tmp step rs : ℕ) → IsShort 16 (map Op (test_ops flags sum tmp step rs))
-test_short flags sum tmp step rs = record {
-  plain = tt;
-  short = let a = (rrr_sized flags And 30 tmp rs).few in let b = (rri_sized flags Addi sum sum (pos 1)).few in omega arith;
-}
 
 -- slots that allocate no label, and two more pieces after them
 pub before_both : {flags : IsaFlags} (slots more last : List Slot) (old mid new : Buffer) → IsPlain slots → PutsAlone flags slots old mid → PutsAlone flags (more ++ last) mid new → PutsAlone flags (slots ++ more ++ last) old new

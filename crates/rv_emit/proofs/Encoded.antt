@@ -54,7 +54,7 @@ word_encodes flags w d e = encodes flags (word_bytes w) d refl (ap (decode flags
 are_bytes : (bytes : List ℕ) → length bytes ≡ 4 → AllBytes bytes → AreBytes bytes
 are_bytes bytes four all = record { first = all 0 (omega arith); second = all 1 (omega arith); third = all 2 (omega arith); fourth = all 3 (omega arith) }
 
-word_fits : (w : ℕ) → w < 2 ^ 32 → AreBytes (word_bytes w)
+pub word_fits : (w : ℕ) → w < 2 ^ 32 → AreBytes (word_bytes w)
 word_fits w h = record { first = omega arith; second = omega arith; third = omega arith; fourth = omega arith }
 
 -- a word whose window is patched to a distance decodes to the same operation with that immediate

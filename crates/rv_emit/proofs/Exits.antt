@@ -59,7 +59,7 @@ goes_out {site} {start} {after} {least} {exit} {free} {v} {s} {t} g c =
     comes_out c.state (goes_second g more) c.arrives (record { same = c.same; is_state = c.is_state; are_values = c.are_values; placed = c.placed })
 
 -- what leads on, where it comes out
-led_beside : {site : Site} {free : List ℕ} {v : Values} {s t : State} → IsBeside site free v s → Same s.values t.values → IsState t → t.values.mem ≡ s.values.mem → IsBeside site free v t
+pub led_beside : {site : Site} {free : List ℕ} {v : Values} {s t : State} → IsBeside site free v s → Same s.values t.values → IsState t → t.values.mem ≡ s.values.mem → IsBeside site free v t
 led_beside {site} b same is_state kept = record {
   same = but_then_same b.same same;
   is_state = is_state;
@@ -69,7 +69,7 @@ led_beside {site} b same is_state kept = record {
 
 -- a chain that ends where a use of a label aims
 pub label_out : {site : Site} {start after : ℕ} {free : List ℕ} {v : Values} {s : State} (veneers : Bool) (label : MachLabel) (to : ℕ) (t : State) → Leads site veneers label to → Goes site.context.flags 1 s t → t.pc ≡ wrap (site.base + to) → IsBeside site free v t → ComesOut site start after (To label.number) free v s
-label_out false label to t leads g pc b = comes_out t g (to, leads, pc) b
+label_out false label to t leads g pc b = comes_out t g (to, leads.0, pc) b
 label_out true label to t leads g pc b =
     let c = led_on leads.2 b.placed pc b.is_state in
     comes_out c.state (goes_first g (comes_goes c)) (leads.0, leads.1, c.pc) (led_beside b c.same c.is_state c.kept)

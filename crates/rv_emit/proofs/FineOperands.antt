@@ -5,10 +5,15 @@ use Rattle.rv_inst.specs.Rules.{inst_rule, is_int_type, lacks_constant}
 use Rattle.rv_inst.specs.declared.error.Rule.TheVariants as rule
 use Rattle.rv_inst.proofs.Rules.{breaks_none}
 use Rattle.rv_inst.specs.declared.inst.Inst.{Inst}
-use Rattle.rv_inst.specs.declared.inst.Inst.TheVariants.{Nop0, Nop4, EBreak, SequencePoint, Args, Rets, DummyUse, EmitIsland, RawData, Lui, Auipc, LoadInlineConst, AluRRR, AluRRImm12, Mov, MovFromPReg, Load, Store, LoadAddr, LabelAddress, Ret, TrapIf, Jal, CondBr, Udf, Jalr, Popcnt}
+use Rattle.rv_inst.specs.declared.inst.Inst.TheVariants.{Nop0, Nop4, EBreak, SequencePoint, Args, Rets, DummyUse, EmitIsland, RawData, Lui, Auipc, LoadInlineConst, AluRRR, AluRRImm12, Mov, MovFromPReg, Extend, Select, Load, Store, LoadAddr, LabelAddress, Ret, TrapIf, Jal, CondBr, BrTable, Udf, Jalr, Popcnt, Cltz, Brev8, StackProbeLoop}
 use Rattle.rv_emit.specs.Usable.{IsFine}
 use Rattle.rv_emit.proofs.Operands.{Keeps, keeps, are_usable, data_kept, constant_kept, move_usable, preg_usable, trap_if_usable, not_false, listed, listed_targets}
 use Rattle.rv_emit.proofs.AddressOperands.{load_fine, store_fine, load_addr_fine, label_address_fine}
+use Rattle.rv_emit.proofs.ChoiceRules.{extend_fine, select_fine}
+use Rattle.rv_emit.proofs.ZerosRules.{zeros_fine}
+use Rattle.rv_emit.proofs.ReverseRules.{reverse_fine}
+use Rattle.rv_emit.proofs.ProbeRules.{probe_fine}
+use Rattle.rv_emit.proofs.TableRules.{table_fine}
 
 pub fine : (context : Context) (inst : Inst) → inst_rule context inst ≡ None → IsFine context.constants inst
 fine context inst e = kept inst (keeps context inst e) (breaks_none context inst e rule.Constant)
@@ -30,6 +35,8 @@ fine context inst e = kept inst (keeps context inst e) (breaks_none context inst
     kept (AluRRImm12 op rd rs imm) k there = let all = are_usable (rd.reg ∷ rs ∷ []) k.real k.placed k.free in (all.0.0, all.1.0.0)
     kept (Mov rd rm type) k there = let both = move_usable rd rm type k in (both.0.0, both.1.0)
     kept (MovFromPReg rd rm) k there = let both = preg_usable rd rm k in (both.0.0, both.1.0)
+    kept (Extend rd rn signed from_bits to_bits) k there = extend_fine rd rn signed from_bits to_bits k
+    kept (Select dst condition x y) k there = select_fine dst condition x y k
     kept (Load rd op flags from) k there = load_fine context.constants rd op flags from k there
     kept (Store to op flags src) k there = store_fine context.constants to op flags src k there
     kept (LoadAddr rd mem) k there = load_addr_fine context.constants rd mem k there
@@ -40,6 +47,10 @@ fine context inst e = kept inst (keeps context inst e) (breaks_none context inst
     kept (CondBr taken not_taken kind) k there =
         let all = are_usable (kind.rs1 ∷ kind.rs2 ∷ []) k.real k.placed k.free in
         let both = listed_targets taken not_taken k.listed in (all.0.0, all.1.0.0, both.0, both.1)
+    kept (BrTable index tmp1 tmp2 targets) k there = table_fine index tmp1 tmp2 targets k
     kept (Udf code) k there = tt
     kept (Jalr rd base offset) k there = let all = are_usable (rd.reg ∷ base ∷ []) k.real k.placed k.free in (all.0.0, all.1.0.0)
     kept (Popcnt sum tmp step rs type) k there = let all = are_usable (sum.reg ∷ tmp.reg ∷ step.reg ∷ rs ∷ []) k.real k.placed k.free in (all.0.0, all.1.0.0, all.1.1.0.0, all.1.1.1.0.0, not_false (is_int_type type) k.typed)
+    kept (Cltz sum tmp step rs leading type) k there = zeros_fine sum tmp step rs leading type k
+    kept (Brev8 rs type step tmp tmp2 rd) k there = reverse_fine rs type step tmp tmp2 rd k
+    kept (StackProbeLoop guard_size probe_count tmp) k there = probe_fine guard_size probe_count tmp k

@@ -173,7 +173,7 @@ load_label_out {site} {start} {s = s} rd op l trap usable some e =
     let w = set_reg s.values rd y in
     let x = load_result (load_op op) s.values.mem (label_address site l) in
     let h1 : IsAt site (start + 4) 4 (at (wrap (s.pc + 4)) w) = set_at 4 rd y h refl in
-    let sum = lower_sums rd l a.to b.to some (omega arith) (bounds e) e.is_state h a.reaches b.reaches in
+    let sum = lower_sums rd l a.to b.to some (omega arith) (bounds e) e.is_state h a.reaches.0 b.reaches.0 in
     sets_out slots 8 rd x usable (load_fits (load_op op) s.values.mem (label_address site l) e.is_state.values.bytes) e long
     (sets_both 4 4 rd y x (upper_goes rd l h (omega arith) a)
     (sets_one (decoded_load op rd rd (lower_of_distance (between (start + 4) b.to))) rd x h1 (omega arith) b.has (λ i. Some (at (wrap (wrap (s.pc + 4) + 4)) (set_reg w rd (load_result (load_op op) s.values.mem (sum i)))))))

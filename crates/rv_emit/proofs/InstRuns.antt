@@ -1,7 +1,7 @@
 -- Every instruction that breaks no rule runs as it means.
 use Rattle.std.proofs.Common.{◌≡◌, ℕ, [], ◌∷◌, None, subst, arith}
 use Rattle.rv_inst.specs.declared.inst.Inst.{Inst}
-use Rattle.rv_inst.specs.declared.inst.Inst.TheVariants.{Nop0, Nop4, EBreak, SequencePoint, Args, Rets, DummyUse, EmitIsland, RawData, Lui, Auipc, LoadInlineConst, AluRRR, AluRRImm12, Mov, MovFromPReg, Load, Store, LoadAddr, LabelAddress, Ret, TrapIf, Jal, CondBr, Udf, Jalr, Popcnt}
+use Rattle.rv_inst.specs.declared.inst.Inst.TheVariants.{Nop0, Nop4, EBreak, SequencePoint, Args, Rets, DummyUse, EmitIsland, RawData, Lui, Auipc, LoadInlineConst, AluRRR, AluRRImm12, Mov, MovFromPReg, Extend, Select, Load, Store, LoadAddr, LabelAddress, Ret, TrapIf, Jal, CondBr, BrTable, Udf, Jalr, Popcnt, Cltz, Brev8, StackProbeLoop}
 use Rattle.rv_base.specs.declared.ir_type.IrType.{IrType}
 use Rattle.rv_base.specs.declared.regs.Reg.{Reg}
 use Rattle.rv_base.specs.declared.regs.Writable.{Writable}
@@ -21,7 +21,12 @@ use Rattle.rv_emit.proofs.InstJumps.{jal_runs, cond_br_runs}
 use Rattle.rv_emit.proofs.InstTraps.{udf_runs, raw_data_runs, trap_if_runs}
 use Rattle.rv_emit.proofs.InstConstants.{constant_runs}
 use Rattle.rv_emit.proofs.PopcntRuns.{popcnt_runs}
-use Rattle.rv_emit.proofs.PopcntRules.{is_count}
+use Rattle.rv_emit.proofs.CountRules.{is_count}
+use Rattle.rv_emit.proofs.ChoiceRuns.{extend_runs, select_runs}
+use Rattle.rv_emit.proofs.ZerosRuns.{zeros_runs}
+use Rattle.rv_emit.proofs.ReverseRuns.{reverse_runs}
+use Rattle.rv_emit.proofs.ProbeRuns.{probe_runs}
+use Rattle.rv_emit.proofs.TableRuns.{table_runs}
 
 ebreak_runs : (site : Site) (setting : EmitVState) → RunsIn site setting EBreak
 ebreak_runs site setting = record {
@@ -34,9 +39,7 @@ island_runs site setting needed_space = record {
 }
 
 count_runs : (site : Site) (setting : EmitVState) (sum tmp step : Writable Reg) (rs : Reg) (type : IrType) → Keeps (Popcnt sum tmp step rs type) → RunsIn site setting (Popcnt sum tmp step rs type)
-count_runs site setting sum tmp step rs type k =
-    let all = are_usable (sum.reg ∷ tmp.reg ∷ step.reg ∷ rs ∷ []) k.real k.placed k.free in
-    popcnt_runs site setting sum tmp step rs type (is_count sum tmp step rs type all.0 all.1.0 all.1.1.0 all.1.1.1.0 k.counted k.apart k.typed)
+count_runs site setting sum tmp step rs type k = popcnt_runs site setting sum tmp step rs type (is_count sum tmp step rs type (are_usable (sum.reg ∷ tmp.reg ∷ step.reg ∷ rs ∷ []) k.real k.placed k.free) k.counted k.apart k.typed)
 
 kept_runs : (site : Site) (setting : EmitVState) (inst : Inst) → Keeps inst → RunsIn site setting inst
 kept_runs site setting Nop0 k = record { run = λ start after s v e clear. nothing_out e.stands e }
@@ -55,6 +58,8 @@ kept_runs site setting (AluRRR op rd rs1 rs2) k = let all = are_usable (rd.reg �
 kept_runs site setting (AluRRImm12 op rd rs imm) k = let all = are_usable (rd.reg ∷ rs ∷ []) k.real k.placed k.free in alu_rri_runs site setting op rd rs imm all.0 all.1.0 k.ranged
 kept_runs site setting (Mov rd rm type) k = let both = move_usable rd rm type k in mov_runs site setting rd rm type both.0 both.1
 kept_runs site setting (MovFromPReg rd rm) k = let both = preg_usable rd rm k in mov_from_preg_runs site setting rd rm both.0 both.1
+kept_runs site setting (Extend rd rn signed from_bits to_bits) k = extend_runs site setting rd rn signed from_bits to_bits k
+kept_runs site setting (Select dst condition x y) k = select_runs site setting dst condition x y k
 kept_runs site setting (Load rd op flags from) k = let a = load_kept site.context.frame rd op flags from k in load_runs site setting rd op flags from a.usable a.based a.real
 kept_runs site setting (Store to op flags src) k = let a = store_kept site.context.frame to op flags src k in store_runs site setting to op flags src a.0 a.1
 kept_runs site setting (LoadAddr rd mem) k = let a = load_addr_kept site.context.frame rd mem k in load_addr_runs site setting rd mem a.usable a.real a.based a.apart
@@ -63,9 +68,13 @@ kept_runs site setting Ret k = ret_runs site setting
 kept_runs site setting (TrapIf cmp code) k = let both = trap_if_usable cmp code k in trap_if_runs site setting cmp code both.0 both.1
 kept_runs site setting (Jal label) k = jal_runs site setting label
 kept_runs site setting (CondBr t f kind) k = let all = are_usable (kind.rs1 ∷ kind.rs2 ∷ []) k.real k.placed k.free in cond_br_runs site setting kind t f all.0 all.1.0 k.aimed
+kept_runs site setting (BrTable index tmp1 tmp2 targets) k = table_runs site setting index tmp1 tmp2 targets k
 kept_runs site setting (Udf code) k = udf_runs site setting code
 kept_runs site setting (Jalr rd base offset) k = let all = are_usable (rd.reg ∷ base ∷ []) k.real k.placed k.free in jalr_runs site setting rd base offset all.0 all.1.0
 kept_runs site setting (Popcnt sum tmp step rs type) k = count_runs site setting sum tmp step rs type k
+kept_runs site setting (Cltz sum tmp step rs leading type) k = zeros_runs site setting sum tmp step rs leading type k
+kept_runs site setting (Brev8 rs type step tmp tmp2 rd) k = reverse_runs site setting rs type step tmp tmp2 rd k
+kept_runs site setting (StackProbeLoop guard_size probe_count tmp) k = probe_runs site setting guard_size probe_count tmp k
 
 pub inst_runs : (site : Site) (setting : EmitVState) (inst : Inst) → inst_rule site.context inst ≡ None → RunsIn site setting inst
 inst_runs site setting inst rule = kept_runs site setting inst (keeps site.context inst rule)

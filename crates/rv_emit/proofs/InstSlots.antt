@@ -1,7 +1,6 @@
 -- What an instruction adds to a buffer, and that its parts are blocks.
-use Rattle.std.proofs.Common.{◌≡◌, ◌⊎◌, inl, inr, ℕ, ◌+◌, ◌-◌, ◌%◌, Bool, true, false, nat_eq, List, [], ◌∷◌, length, Some, None, pos, negsuc, refl, ap, sym, ◌∙◌, subst, arith}
+use Rattle.std.proofs.Common.{◌≡◌, ◌⊎◌, inl, inr, ℕ, ◌+◌, ◌-◌, ◌%◌, Bool, true, false, nat_eq, List, [], ◌∷◌, ◌++◌, length, None, pos, refl, ap, sym, ◌∙◌, arith}
 use Rattle.std.specs.Prelude.{if◌then◌else◌, ◌^◌, ◌-ℤ◌}
-use Rattle.std.proofs.lemmas.Option.{same_Some}
 use Rattle.rv_base.specs.Regs.{number_of}
 use Rattle.rv_base.specs.declared.ir_type.IrType.{IrType}
 use Rattle.rv_base.specs.declared.ir_type.IrType.TheVariants.{I32, I64}
@@ -12,15 +11,15 @@ use Rattle.std.specs.Int.{to_le_bytes, w32, w64}
 use Rattle.rv_base.specs.IrType.{bits_of}
 use Rattle.rv_base.specs.declared.flags.IsaFlags.{IsaFlags}
 use Rattle.rv_base.specs.declared.label.MachLabel.{MachLabel}
-use Rattle.rv_ops.specs.declared.alu.AluOPRRR.TheVariants.{And}
-use Rattle.rv_ops.specs.declared.alu.AluOPRRI.TheVariants.{Addi, Slli, Srli}
+use Rattle.rv_ops.specs.declared.alu.AluOPRRI.TheVariants.{Addi, Srli}
 use Rattle.rv_ops.specs.declared.memory.LoadOP.{LoadOP}
 use Rattle.rv_ops.specs.declared.memory.LoadOP.TheVariants as loads
 use Rattle.rv_ops.specs.declared.compare.IntegerCompare.{IntegerCompare}
 use Rattle.rv_inst.specs.Context.{Context}
+use Rattle.rv_machine.specs.Arithmetic.{low_word}
 use Rattle.rv_inst.specs.Rules.{is_word_type, inst_rule}
 use Rattle.rv_inst.specs.declared.inst.Inst.{Inst}
-use Rattle.rv_inst.specs.declared.inst.Inst.TheVariants.{Nop0, Nop4, EBreak, SequencePoint, Args, Rets, DummyUse, EmitIsland, RawData, Lui, Auipc, LoadInlineConst, AluRRR, AluRRImm12, Mov, MovFromPReg, Load, Store, LoadAddr, LabelAddress, Ret, TrapIf, Jal, CondBr, Udf, Jalr, Popcnt}
+use Rattle.rv_inst.specs.declared.inst.Inst.TheVariants.{Nop0, Nop4, EBreak, SequencePoint, Args, Rets, DummyUse, EmitIsland, RawData, Lui, Auipc, LoadInlineConst, AluRRR, AluRRImm12, Mov, MovFromPReg, Extend, Select, Load, Store, LoadAddr, LabelAddress, Ret, TrapIf, Jal, CondBr, BrTable, Udf, Jalr, Popcnt, Cltz, Brev8, StackProbeLoop}
 use Rattle.rv_inst.specs.declared.inst.CondBrTarget.{CondBrTarget}
 use Rattle.rv_inst.specs.declared.inst.CondBrTarget.TheVariants.{Label as ToLabel, Fallthrough}
 use Rattle.rv_inst.specs.Sizes.{Words, extent_of, island_space, move_size, count_size, trap_size}
@@ -30,8 +29,8 @@ use Rattle.rv_inst.specs.Operands.{inst_constant}
 use Rattle.rv_inst.specs.Traps.{inst_traps}
 use Rattle.rv_emit.specs.declared.state.EmitVState.{EmitVState}
 use Rattle.rv_machine.specs.declared.decoding.Decoded.{Decoded}
-use Rattle.rv_emit.specs.Operations.{short_jump, jump_size}
-use Rattle.rv_emit.specs.Popcnt.{turn_size}
+use Rattle.rv_emit.specs.Operations.{jump_size}
+use Rattle.rv_emit.specs.Counts.{start_ops, turn_ops, turn_size}
 use Rattle.rv_inst.specs.Forms.{jump_kind, short_rrr, short_rri, short_lui, short_jalr, short_ebreak}
 use Rattle.rv_inst.specs.LabelUse.{marks_of}
 use Rattle.rv_emit.specs.Emitted.{Buffer, IsSoundBuffer, AppendsInst, IslandIfNeeded, named_by}
@@ -45,6 +44,12 @@ use Rattle.rv_emit.proofs.Operands.{keeps, data_kept, constant_kept}
 use Rattle.rv_inst.specs.Addresses.{AtLabel, location_of}
 use Rattle.rv_emit.proofs.PlainSlots.{IsSummed, summed, nothing}
 use Rattle.rv_emit.proofs.MemorySlots.{load_summed, store_summed, load_addr_summed, label_address_summed, load_block, store_block, address_block}
+use Rattle.rv_emit.proofs.CountSlots.{count_even, ops_block}
+use Rattle.rv_emit.proofs.ChoiceSlots.{extend_summed, extend_block, select_summed, select_block}
+use Rattle.rv_emit.proofs.ZerosSlots.{zeros_summed, zeros_block}
+use Rattle.rv_emit.proofs.ReverseSlots.{reverse_summed, reverse_block}
+use Rattle.rv_emit.proofs.ProbeSlots.{probe_summed, probe_block}
+use Rattle.rv_emit.proofs.TableSlots.{table_block}
 
 one : (context : Context) (inst : Inst) (d : Decoded) → extent_of context inst ≡ Words d.len → ((start : ℕ) → [] ≡ uses_in context start inst) → ((start end : ℕ) → [] ≡ inst_traps context start end inst) → ((named : List VCodeConstant) → named ≡ named_by (inst_constant inst) named) → IsSummed context inst (Op d ∷ [])
 one context inst d long uses traps names = record { plain = tt; long = long ∙ (let e : d.len ≡ d.len + 0 = omega arith in ap Words e); uses = λ allocated start. uses start; traps = λ start. traps start (start + (d.len + 0)); names = names }
@@ -98,7 +103,7 @@ trap_after context cmp code = record {
 counts : (context : Context) (sum tmp step : Writable Reg) (rs : Reg) (type : IrType) → IsSummed context (Popcnt sum tmp step rs type) (count_slots context.flags (number_of sum.reg) (number_of tmp.reg) (number_of step.reg) (number_of rs) (bits_of type))
 counts context sum tmp step rs type = record {
   plain = tt;
-  long = let jump = jump_len context.flags (pos 0 -ℤ pos (turn_size context.flags (number_of sum.reg) (number_of tmp.reg) (number_of step.reg) (number_of rs))) in
+  long = let jump = jump_len context.flags (pos 0 -ℤ pos (turn_size context.flags Srli (number_of sum.reg) (number_of tmp.reg) (number_of step.reg) (number_of rs))) in
       let e : count_size context.flags (number_of sum.reg) (number_of tmp.reg) (number_of step.reg) (number_of rs) (bits_of type) ≡ size_of (count_slots context.flags (number_of sum.reg) (number_of tmp.reg) (number_of step.reg) (number_of rs) (bits_of type)) = omega arith in
       ap Words e;
   uses = λ allocated start. refl;
@@ -124,6 +129,8 @@ appends_inst context setting (AluRRR op rd rs1 rs2) old new rule s asks p = summ
 appends_inst context setting (AluRRImm12 op rd rs imm) old new rule s asks p = summed context (AluRRImm12 op rd rs imm) _ old new (one context (AluRRImm12 op rd rs imm) _ refl (λ start. refl) (λ start end. refl) (λ named. refl)) context.flags p
 appends_inst context setting (Mov rd rm type) old new rule s asks p = summed context (Mov rd rm type) _ old new (moves context (Mov rd rm type) (number_of rd.reg) (number_of rm) refl (λ start. refl) (λ start end. refl) (λ named. refl)) context.flags p
 appends_inst context setting (MovFromPReg rd rm) old new rule s asks p = summed context (MovFromPReg rd rm) _ old new (moves context (MovFromPReg rd rm) (number_of rd.reg) rm.number refl (λ start. refl) (λ start end. refl) (λ named. refl)) context.flags p
+appends_inst context setting (Extend rd rn signed from_bits to_bits) old new rule s asks p = summed context (Extend rd rn signed from_bits to_bits) _ old new (extend_summed context rd rn signed from_bits to_bits) context.flags p
+appends_inst context setting (Select dst condition x y) old new rule s asks p = summed context (Select dst condition x y) _ old new (select_summed context dst condition x y) context.flags p
 appends_inst context setting (Load rd op flags from) old new rule s asks p = summed context (Load rd op flags from) _ old new (load_summed context rd op flags from) context.flags p
 appends_inst context setting (Store to op flags src) old new rule s asks p = summed context (Store to op flags src) _ old new (store_summed context to op flags src) context.flags p
 appends_inst context setting (LoadAddr rd mem) old new rule s asks p = summed context (LoadAddr rd mem) _ old new (load_addr_summed context rd mem) context.flags p
@@ -132,17 +139,20 @@ appends_inst context setting Ret old new rule s asks p = summed context Ret _ ol
 appends_inst context setting (TrapIf cmp code) old new rule s asks p = summed context (TrapIf cmp code) _ old new (trap_after context cmp code) context.flags p
 appends_inst context setting (Jal label) old new rule s asks p = summed context (Jal label) _ old new (jumps context label) context.flags p
 appends_inst context setting (CondBr taken not_taken kind) old new rule s asks p = summed context (CondBr taken not_taken kind) _ old new (branches context kind taken not_taken) context.flags p
+appends_inst context setting (BrTable index tmp1 tmp2 targets) old new rule s asks p = absurd (cc)
 appends_inst context setting (Udf code) old new rule s asks p = summed context (Udf code) _ old new (trap context code) context.flags p
 appends_inst context setting (Jalr rd base offset) old new rule s asks p = summed context (Jalr rd base offset) _ old new (one context (Jalr rd base offset) _ refl (λ start. refl) (λ start end. refl) (λ named. refl)) context.flags p
 appends_inst context setting (Popcnt sum tmp step rs type) old new rule s asks p = summed context (Popcnt sum tmp step rs type) _ old new (counts context sum tmp step rs type) context.flags p
+appends_inst context setting (Cltz sum tmp step rs leading type) old new rule s asks p = summed context (Cltz sum tmp step rs leading type) _ old new (zeros_summed context sum tmp step rs leading type) context.flags p
+appends_inst context setting (Brev8 rs type step tmp tmp2 rd) old new rule s asks p = summed context (Brev8 rs type step tmp tmp2 rd) _ old new (reverse_summed context rs type step tmp tmp2 rd) context.flags p
+appends_inst context setting (StackProbeLoop guard_size probe_count tmp) old new rule s asks p = summed context (StackProbeLoop guard_size probe_count tmp) _ old new (probe_summed context guard_size probe_count tmp) context.flags p
 
 pub inst_appends : (context : Context) (inst : Inst) (old new : Buffer) → inst_rule context inst ≡ None → IsSoundBuffer old → island_space context inst ≡ None → Emits context inst old new → AppendsInst context inst old new
 inst_appends context inst old new rule s asks p = appends_inst context Unknown inst old new rule s asks (p Unknown)
 
--- an instruction that asks for an island puts one where it is needed
-pub asked : (context : Context) (inst : Inst) (space : ℕ) (old new : Buffer) (made : Bool) → island_space context inst ≡ Some space → IslandIfNeeded space old new made → Emits context inst old new
-asked context (EmitIsland needed) space old new made e r setting = (new, made, subst (λ n. IslandIfNeeded n old new made) (sym (same_Some needed space e)) r, refl)
-asked context _ space old new made e r setting = absurd (cc)
+-- an island that is asked for is put where it is needed
+pub asked : (context : Context) (space : ℕ) (old new : Buffer) (made : Bool) → IslandIfNeeded space old new made → Emits context (EmitIsland space) old new
+asked context space old new made r setting = (new, made, r, refl)
 
 -- ---- blocks
 
@@ -182,35 +192,7 @@ trap_even flags = by flags.has_zca
     by false = refl
 
 count_block : (flags : IsaFlags) (sum tmp step rs bits : ℕ) → IsBlock (count_slots flags sum tmp step rs bits)
-count_block flags sum tmp step rs bits =
-    let far = pos 0 -ℤ pos (turn_size flags sum tmp step rs) in
-    let jump = jump_len flags far in
-    let least = least_even flags in
-    let last : (short_jump flags far).len % 2 ≡ 0 = omega arith in (
-      (rri_sized flags Addi sum 0 (pos 0)).even,
-      (
-        (rri_sized flags Addi step 0 (pos bits)).even,
-        (
-          (rri_sized flags Addi tmp 0 (pos 1)).even,
-          (
-            (rri_sized flags Slli tmp tmp (pos (bits - 1))).even,
-            (
-              refl,
-              (
-                (rrr_sized flags And 30 tmp rs).even,
-                (
-                  refl,
-                  (
-                    (rri_sized flags Addi sum sum (pos 1)).even,
-                    ((rri_sized flags Addi step step (negsuc 0)).even, ((rri_sized flags Srli tmp tmp (pos 1)).even, (last, tt))),
-                  ),
-                ),
-              ),
-            ),
-          ),
-        ),
-      ),
-    )
+count_block flags sum tmp step rs bits = ops_block (start_ops flags true sum tmp step bits ++ turn_ops flags false Srli sum tmp step rs) (count_even flags true false Srli sum tmp step rs bits)
 
 -- each part of an instruction is a block
 pub are_blocks : (context : Context) (setting : EmitVState) (inst : Inst) → inst_rule context inst ≡ None → AreBlocks (parts_of context setting inst)
@@ -230,6 +212,8 @@ are_blocks context setting (AluRRR op rd rs1 rs2) rule = (op_block (short_rrr co
 are_blocks context setting (AluRRImm12 op rd rs imm) rule = (op_block (short_rri context.flags op (number_of rd.reg) (number_of rs) imm.value) (rri_sized context.flags op (number_of rd.reg) (number_of rs) imm.value), tt)
 are_blocks context setting (Mov rd rm type) rule = (move_block context.flags (number_of rd.reg) (number_of rm), tt)
 are_blocks context setting (MovFromPReg rd rm) rule = (move_block context.flags (number_of rd.reg) rm.number, tt)
+are_blocks context setting (Extend rd rn signed from_bits to_bits) rule = (extend_block context.flags (number_of rd.reg) (number_of rn) signed from_bits, tt)
+are_blocks context setting (Select dst condition x y) rule = (select_block context.flags dst condition x y, tt)
 are_blocks context setting (Load rd op flags from) rule = (load_block context.flags (number_of rd.reg) op flags.trap (location_of context.frame from), tt)
 are_blocks context setting (Store to op flags src) rule = (store_block context.flags op (number_of src) flags.trap (location_of context.frame to), tt)
 are_blocks context setting (LoadAddr rd mem) rule = (address_block context.flags (number_of rd.reg) (location_of context.frame mem), tt)
@@ -238,6 +222,10 @@ are_blocks context setting Ret rule = (op_block (short_jalr context.flags 0 1 (p
 are_blocks context setting (TrapIf cmp code) rule = ((refl, (trap_even context.flags, tt)), tt)
 are_blocks context setting (Jal label) rule = ((tt, tt), tt)
 are_blocks context setting (CondBr taken not_taken kind) rule = (branch_block context.flags kind taken not_taken, tt)
+are_blocks context setting (BrTable index tmp1 tmp2 targets) rule = (table_block context.flags (number_of index) (number_of tmp1.reg) (number_of tmp2.reg) targets, tt)
 are_blocks context setting (Udf code) rule = ((trap_even context.flags, tt), tt)
 are_blocks context setting (Jalr rd base offset) rule = (op_block (short_jalr context.flags (number_of rd.reg) (number_of base) offset.value) (jalr_sized context.flags (number_of rd.reg) (number_of base) offset.value), tt)
 are_blocks context setting (Popcnt sum tmp step rs type) rule = (count_block context.flags (number_of sum.reg) (number_of tmp.reg) (number_of step.reg) (number_of rs) (bits_of type), tt)
+are_blocks context setting (Cltz sum tmp step rs leading type) rule = (zeros_block context.flags leading (number_of sum.reg) (number_of tmp.reg) (number_of step.reg) (number_of rs) (bits_of type), tt)
+are_blocks context setting (Brev8 rs type step tmp tmp2 rd) rule = (reverse_block context.flags (number_of rd.reg) (number_of tmp.reg) (number_of tmp2.reg) (number_of step.reg) (number_of rs) (bits_of type), tt)
+are_blocks context setting (StackProbeLoop guard_size probe_count tmp) rule = (probe_block context.flags (number_of tmp.reg) (low_word guard_size) (low_word probe_count), tt)

@@ -80,7 +80,7 @@ not_not : (b : Bool) → not (not b) ≡ b
 not_not true = refl
 not_not false = refl
 
-complement_holds : (k : IntCC) (x y : ℕ) → holds (complement_of k) x y ≡ not (holds k x y)
+pub complement_holds : (k : IntCC) (x y : ℕ) → holds (complement_of k) x y ≡ not (holds k x y)
 complement_holds Equal x y = refl
 complement_holds NotEqual x y = sym (not_not (nat_eq x y))
 complement_holds SignedLessThan x y = refl

@@ -16,11 +16,13 @@ pub use Rattle.rv_emit.proofs.PartsPut.{gap_last, parts_last, GapPut, gap_put, P
 pub use Rattle.rv_emit.proofs.ConstantsAdded.{adds_both, adds_none, adds_end, before_or_last}
 -- an instruction's parts are blocks; and what one without labels of its own adds
 pub use Rattle.rv_emit.proofs.InstSlots.{are_blocks, appends_inst}
+pub use Rattle.rv_emit.proofs.TableSlots.{table_most}
+pub use Rattle.rv_emit.proofs.TableAppends.{AppendsTable, appends_table, table_parts_long, table_some, table_stands}
 -- what was put into a buffer, in the finished code
 pub use Rattle.rv_emit.proofs.Standing.{place_within, slots_stand, gap_stands, parts_stand}
 pub use Rattle.rv_emit.proofs.IslandsStand.{island_is, gap_is}
 -- ways on in the finished code
 pub use Rattle.rv_emit.proofs.Ways.{comes_both, leads_here, leads_both}
 -- pending uses and their deadlines
-pub use Rattle.rv_emit.proofs.ReachKept.{Each, waits, each_none, each_more, uses_bare, uses_kinds, few_deadlines, bytes_after, pending_after, calm_after}
+pub use Rattle.rv_emit.proofs.ReachKept.{Each, waits, each_none, each_more, uses_bare, uses_kinds, few_deadlines, bytes_put, far_waits, own_deadlines, pending_adds, pending_after, none_more, calm_after}
 pub use Rattle.rv_emit.proofs.Islands.{deadlines_as}

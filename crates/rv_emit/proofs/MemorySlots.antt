@@ -46,25 +46,25 @@ use Rattle.rv_emit.proofs.PlainSlots.{IsPlain, IsSummed}
 use Rattle.rv_emit.proofs.ShortOps.{rrr_sized, rri_sized, lui_sized, load_sized, store_sized, jump_len, least_even}
 
 -- Slots of a size, with these uses, the last of which, of so many bytes, may trap, that name this constant; and they use no own label.
-record AreCounted (size last : ℕ) (own : ℕ → List (Use LabelUse)) (trap : Option TrapCode) (constant : Option VCodeConstant) (slots : List Slot) : Type 0 where
-  plain : IsPlain slots
-  long : size ≡ size_of slots
-  within : last ≤ size
-  uses : (allocated start : ℕ) → uses_of allocated start slots ≡ own start
-  traps : (start : ℕ) → traps_of start slots ≡ access_traps (start + size - last) trap
-  names : (named : List VCodeConstant) → names_of slots named ≡ named_by constant named
-  closed : (here : ℕ → Option ℕ) (start : ℕ) → AreClosed here start slots
+pub record AreCounted (size last : ℕ) (own : ℕ → List (Use LabelUse)) (trap : Option TrapCode) (constant : Option VCodeConstant) (slots : List Slot) : Type 0 where
+  pub plain : IsPlain slots
+  pub long : size ≡ size_of slots
+  pub within : last ≤ size
+  pub uses : (allocated start : ℕ) → uses_of allocated start slots ≡ own start
+  pub traps : (start : ℕ) → traps_of start slots ≡ access_traps (start + size - last) trap
+  pub names : (named : List VCodeConstant) → names_of slots named ≡ named_by constant named
+  pub closed : (here : ℕ → Option ℕ) (start : ℕ) → AreClosed here start slots
 
 -- the record of a trap at an offset, alone
 abbrev trap_at : TrapCode → ℕ → List MachTrap
 trap_at code at = record { offset = at; code = code } ∷ []
 
-abbrev none : ℕ → List (Use LabelUse)
+abbrev pub none : ℕ → List (Use LabelUse)
 none start = []
 
 -- ---- pieces
 
-nothing : AreCounted 0 0 none None None []
+pub nothing : AreCounted 0 0 none None None []
 nothing = record { plain = tt; long = refl; within = lit≤ tt; uses = λ allocated start. refl; traps = λ start. refl; names = λ named. refl; closed = λ here start. tt }
 
 -- the trap of an access is recorded where it is
@@ -81,7 +81,7 @@ accessed (Some code) d even = record {
 }
 
 -- an operation before slots without uses
-op_then : {size last : ℕ} {trap : Option TrapCode} {slots : List Slot} (d : Decoded) → d.len % 2 ≡ 0 → AreCounted size last none trap None slots → AreCounted (d.len + size) last none trap None (Op d ∷ slots)
+pub op_then : {size last : ℕ} {trap : Option TrapCode} {slots : List Slot} (d : Decoded) → d.len % 2 ≡ 0 → AreCounted size last none trap None slots → AreCounted (d.len + size) last none trap None (Op d ∷ slots)
 op_then {size} {last} {trap} d even c = record {
   plain = c.plain;
   long = ap (λ n. d.len + n) c.long;
@@ -105,13 +105,13 @@ data_then {size} {last} {trap} bytes eight c = record {
 }
 
 -- the same slots, their size said otherwise
-of_size : {n m last : ℕ} {trap : Option TrapCode} {slots : List Slot} → n ≡ m → AreCounted n last none trap None slots → AreCounted m last none trap None slots
+pub of_size : {n m last : ℕ} {trap : Option TrapCode} {slots : List Slot} → n ≡ m → AreCounted n last none trap None slots → AreCounted m last none trap None slots
 of_size {n} {m} {last} {trap} {slots} e c = subst (λ size. AreCounted size last none trap None slots) e c
 
 -- ---- offsets
 
 -- an offset is put into a register before other slots
-offset_then : {size last : ℕ} {trap : Option TrapCode} {slots : List Slot} (flags : IsaFlags) (rd : ℕ) (o : ℤ) → AreCounted size last none trap None slots → AreCounted (far_size flags rd o + size) last none trap None (offset_slots flags rd o ++ slots)
+pub offset_then : {size last : ℕ} {trap : Option TrapCode} {slots : List Slot} (flags : IsaFlags) (rd : ℕ) (o : ℤ) → AreCounted size last none trap None slots → AreCounted (far_size flags rd o + size) last none trap None (offset_slots flags rd o ++ slots)
 offset_then {size} {last} {trap} {slots} flags rd o c = by (is_splittable o) (low64 (lower_of o) == 0)
   where
     up : Decoded
@@ -196,7 +196,7 @@ stored flags op src (Some code) (AtConstant k) = record { plain = tt; long = ref
 
 -- ---- each instruction
 
-summed_by : {context : Context} {inst : Inst} {slots : List Slot} {size last : ℕ} {own : ℕ → List (Use LabelUse)} {trap : Option TrapCode} {constant : Option VCodeConstant} → AreCounted size last own trap constant slots → extent_of context inst ≡ Words size → ((start : ℕ) → own start ≡ uses_in context start inst) → ((start end : ℕ) → access_traps (end - last) trap ≡ inst_traps context start end inst) → constant ≡ inst_constant inst → IsSummed context inst slots
+pub summed_by : {context : Context} {inst : Inst} {slots : List Slot} {size last : ℕ} {own : ℕ → List (Use LabelUse)} {trap : Option TrapCode} {constant : Option VCodeConstant} → AreCounted size last own trap constant slots → extent_of context inst ≡ Words size → ((start : ℕ) → own start ≡ uses_in context start inst) → ((start end : ℕ) → access_traps (end - last) trap ≡ inst_traps context start end inst) → constant ≡ inst_constant inst → IsSummed context inst slots
 summed_by {context} {inst} {slots} {size} {last} {own} {trap} c long uses traps constant = record {
   plain = c.plain;
   long = long ∙ ap Words c.long;

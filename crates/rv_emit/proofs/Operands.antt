@@ -22,8 +22,8 @@ use Rattle.rv_inst.specs.declared.inst.CondBrTarget.TheVariants.{Label as ToLabe
 use Rattle.rv_inst.specs.Context.{Context}
 use Rattle.rv_inst.proofs.Rules.{breaks_none}
 use Rattle.rv_inst.specs.declared.error.Rule.TheVariants as rule
-use Rattle.rv_inst.specs.Operands.{inst_registers, inst_labels, target_labels}
-use Rattle.rv_inst.specs.Rules.{is_int_class, is_virtual, is_other_class, is_reserved, same_class, is_stack_or_frame, is_zero, is_misplaced, has_zero, has_clash, is_int_type, is_word_type, has_bad_type, is_out_of_range, lacks_target, has_bad_size, is_buffer_label, inst_rule}
+use Rattle.rv_inst.specs.Operands.{inst_registers, labels_of, targets_of, table_of, target_labels}
+use Rattle.rv_inst.specs.Rules.{is_int_class, is_virtual, is_other_class, is_reserved, same_class, is_stack_or_frame, is_zero, is_misplaced, has_zero, has_clash, is_int_type, is_word_type, has_bad_type, is_out_of_range, has_empty_table, lacks_target, has_bad_size, is_buffer_label, inst_rule}
 use Rattle.rv_emit.specs.Usable.{IsUsable, IsListed, IsFineTarget}
 
 abbrev pub AreUsable : List Reg → Type 0
@@ -58,6 +58,13 @@ are_usable (r ∷ rs) v h g = (
   are_usable rs (or_right (is_virtual r) _ v) (or_right (is_other_class r) _ h) (or_right (is_reserved r) _ g),
 )
 
+-- a test that holds of none of two lists holds of none of either
+none_of_both : {A : Type 0} (test : A → Bool) (xs ys : List A) → list_any test (xs ++ ys) ≡ false → (list_any test xs ≡ false) × (list_any test ys ≡ false)
+none_of_both test [] ys e = (refl, e)
+none_of_both test (x ∷ xs) ys e =
+    let rest = none_of_both test xs ys (or_right (test x) _ e) in
+    ((λ i. or_left (test x) (list_any test (xs ++ ys)) e i || rest.0 i), rest.1)
+
 -- what an instruction that breaks no rule doesn't break
 pub record Keeps (inst : Inst) : Type 0 where
   pub real : list_any is_virtual (inst_registers inst) ≡ false
@@ -67,8 +74,10 @@ pub record Keeps (inst : Inst) : Type 0 where
   pub apart : has_clash inst ≡ false
   pub typed : has_bad_type inst ≡ false
   pub ranged : is_out_of_range inst ≡ false
+  pub tabled : has_empty_table inst ≡ false
   pub aimed : lacks_target inst ≡ false
-  pub listed : list_any is_buffer_label (inst_labels inst) ≡ false
+  pub listed : list_any is_buffer_label (labels_of (targets_of inst)) ≡ false
+  pub listed_table : list_any is_buffer_label (table_of inst) ≡ false
   pub sized : has_bad_size inst ≡ false
 
 pub keeps : (context : Context) (inst : Inst) → inst_rule context inst ≡ None → Keeps inst
@@ -80,8 +89,10 @@ keeps context inst e = record {
   apart = breaks_none context inst e rule.Clash;
   typed = breaks_none context inst e rule.BadType;
   ranged = breaks_none context inst e rule.Range;
+  tabled = breaks_none context inst e rule.EmptyTable;
   aimed = breaks_none context inst e rule.NoTarget;
-  listed = breaks_none context inst e rule.Label;
+  listed = (none_of_both is_buffer_label (labels_of (targets_of inst)) (table_of inst) (breaks_none context inst e rule.Label)).0;
+  listed_table = (none_of_both is_buffer_label (labels_of (targets_of inst)) (table_of inst) (breaks_none context inst e rule.Label)).1;
   sized = breaks_none context inst e rule.DataSize;
 }
 

@@ -44,7 +44,7 @@ same_low x y e = sym (and_mask x 4) ∙ e ∙ and_mask y 4
 
 -- ---- the upper part
 
-upper_fresh : (w : ℕ) → w < 4096 → IsFresh (marks_of PCRelHi20) (word_bytes w)
+pub upper_fresh : (w : ℕ) → w < 4096 → IsFresh (marks_of PCRelHi20) (word_bytes w)
 upper_fresh w h = (and_comm (w % 256) 0, (no_high (w / 256 % 256) (omega arith), (none (w / 65536 % 256) (omega arith), (none (w / 16777216) (omega arith), tt))))
 
 -- a word with the same low twelve bits has the same opcode and register
@@ -70,7 +70,7 @@ upper_patchable flags w rd fits h = record {
 
 -- ---- the lower part
 
-lower_fresh : (w : ℕ) → w < 1048576 → IsFresh (marks_of PCRelLo12I) (word_bytes w)
+pub lower_fresh : (w : ℕ) → w < 1048576 → IsFresh (marks_of PCRelLo12I) (word_bytes w)
 lower_fresh w h = (and_comm (w % 256) 0, (and_comm (w / 256 % 256) 0, (no_high (w / 65536 % 256) (omega arith), (none (w / 16777216) (omega arith), tt))))
 
 -- a word with the same low twenty bits has the same fields before its immediate

@@ -6,7 +6,7 @@ use Rattle.rv_inst.specs.Context.{Context}
 use Rattle.rv_inst.specs.declared.inst.Inst.{Inst}
 use Rattle.rv_inst.specs.declared.label_use.LabelUse.{LabelUse}
 use Rattle.rv_inst.specs.LabelUse.{marks_of}
-use Rattle.rv_inst.specs.Sizes.{Words, extent_of}
+use Rattle.rv_inst.specs.Sizes.{Words, words_in, extent_of}
 use Rattle.rv_inst.specs.Uses.{uses_in}
 use Rattle.rv_inst.specs.Traps.{inst_traps}
 use Rattle.mach_buffer.specs.declared.records.MachTrap.{MachTrap}
@@ -114,9 +114,11 @@ pub record IsSummed (context : Context) (inst : Inst) (slots : List Slot) : Type
 pub summed : (context : Context) (inst : Inst) (slots : List Slot) (old new : Buffer) → IsSummed context inst slots → (flags : IsaFlags) → PutsParts flags (slots_alone slots) old new → AppendsInst context inst old new
 summed context inst slots old new is flags (mid, p, same) = subst (AppendsInst context inst old) (sym same) (record {
   code = a.code;
+  far = [];
+  table = λ j u h. absurd (cc);
   adds = record {
     bytes = a.bytes;
-    uses = a.uses ∙ ap (λ own. (shape_of old).uses ++ own) (is.uses (allocated_of old) (length (bytes_of old)));
+    uses = a.uses ∙ ap (λ own. (shape_of old).uses ++ own) (is.uses (allocated_of old) (length (bytes_of old)) ∙ sym (append-nil (uses_in context (length (bytes_of old)) inst)));
     places = a.place;
     labels = a.labels;
     allocated = a.allocated;
@@ -126,7 +128,7 @@ summed context inst slots old new is flags (mid, p, same) = subst (AppendsInst c
   };
   traps = a.traps ∙ ap (λ more. (shape_of old).traps ++ more) (is.traps (length (bytes_of old)) ∙ ap (λ n. inst_traps context (length (bytes_of old)) n inst) (sym end));
   named = puts_named flags (allocated_of old) slots (shape_of old) (shape_of mid) p.puts ∙ is.names (named_of old);
-  long = is.long ∙ ap Words (sym a.long);
+  long = ap words_in is.long ∙ sym a.long;
 })
   where
     a : Adds (size_of slots) (uses_of (allocated_of old) (length (bytes_of old)) slots) (traps_of (length (bytes_of old)) slots) (shape_of old) (shape_of mid)
@@ -139,9 +141,11 @@ summed context inst slots old new is flags (mid, p, same) = subst (AppendsInst c
 pub nothing : (context : Context) (inst : Inst) (old new : Buffer) → IsSoundBuffer old → extent_of context inst ≡ Words 0 → uses_in context (length (bytes_of old)) inst ≡ [] → inst_traps context (length (bytes_of old)) (length (bytes_of old)) inst ≡ [] → named_of old ≡ named_by (inst_constant inst) (named_of old) → new ≡ old → AppendsInst context inst old new
 nothing context inst old new sound long uses traps named same = subst (AppendsInst context inst old) (sym same) (record {
   code = [];
+  far = [];
+  table = λ j u h. absurd (cc);
   adds = record {
     bytes = sym (append-nil (bytes_of old));
-    uses = sym (append-nil (shape_of old).uses) ∙ ap (λ own. (shape_of old).uses ++ own) (sym uses);
+    uses = sym (append-nil (shape_of old).uses) ∙ ap (λ own. (shape_of old).uses ++ own) (sym uses ∙ sym (append-nil (uses_in context (length (bytes_of old)) inst)));
     places = refl;
     labels = refl;
     allocated = refl;
@@ -151,5 +155,5 @@ nothing context inst old new sound long uses traps named same = subst (AppendsIn
   };
   traps = sym (append-nil (shape_of old).traps) ∙ ap (λ more. (shape_of old).traps ++ more) (sym traps);
   named = named;
-  long = long;
+  long = ap words_in long;
 })

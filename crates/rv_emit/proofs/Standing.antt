@@ -40,7 +40,7 @@ marks_even PCRelHi20 = refl
 marks_even PCRelLo12I = refl
 marks_even RVCJump = refl
 
-closed_even : (here : ℕ → Option ℕ) (at : ℕ) (slots : List Slot) → AreClosed here at slots → size_of slots % 2 ≡ 0
+pub closed_even : (here : ℕ → Option ℕ) (at : ℕ) (slots : List Slot) → AreClosed here at slots → size_of slots % 2 ≡ 0
 closed_even here at [] h = refl
 closed_even here at (Op d ∷ slots) h = let e = h.0 in let r = closed_even here (at + d.len) slots h.1 in omega arith
 closed_even here at (Aim kind target ops ∷ slots) h = let e = marks_even kind in let r = closed_even here (at + length (marks_of kind)) slots h.1 in omega arith
@@ -114,7 +114,7 @@ module _ (site : Site) (f : Shape LabelUse) (fin : IsFinishedTo f site.bytes) (s
       (λ g. (g.to, ap (λ (p : ℕ → Option ℕ). p label.number) same ∙ g.bound, by_veneer (use_at at label kind) to g))
       goes
   leads kind label at to false h goes = ⊎_elim
-      (λ e. ap (λ (p : ℕ → Option ℕ). p label.number) same ∙ e)
+      (λ e. (ap (λ (p : ℕ → Option ℕ). p label.number) same ∙ e, (place_within label.number to e).1))
       (λ g. absurd (true≢false (sym g.supported ∙ h)))
       goes
 

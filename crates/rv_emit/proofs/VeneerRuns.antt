@@ -48,7 +48,7 @@ old_second : (flags : IsaFlags) → decode flags (word_at (drop 4 (veneer_of PCR
 unfolding decode
 old_second flags = refl
 
-first_bytes : (bytes : List ℕ) → 4 ≤ length bytes → AllBytes bytes → AreBytes bytes
+pub first_bytes : (bytes : List ℕ) → 4 ≤ length bytes → AllBytes bytes → AreBytes bytes
 first_bytes bytes le fits = record { first = fits 0 (omega arith); second = fits 1 (omega arith); third = fits 2 (omega arith); fourth = fits 3 (omega arith) }
 
 -- eight bytes whose window aims at a distance hold both operations, by its upper and its lower part

@@ -1,5 +1,5 @@
 -- What an instruction puts into a buffer: links of the proof.
-use Rattle.std.specs.Prelude.{◌≡◌, ℕ, ◌+◌, ◌*◌, ◌%◌, ◌^◌, ◌<◌, ◌≤◌, ◌⊎◌, ◌≢◌, Bool, true, false, List, [], ◌∷◌, ◌++◌, length, take, Option, Some, None}
+use Rattle.std.specs.Prelude.{◌≡◌, ℕ, ◌+◌, ◌*◌, ◌%◌, ◌^◌, ◌<◌, ◌≤◌, ◌⊎◌, ◌≢◌, Bool, true, false, List, [], ◌∷◌, ◌++◌, length, take, Option, Some, None, slice_get}
 use Rattle.rv_base.specs.declared.flags.IsaFlags.{IsaFlags}
 use Rattle.rv_base.specs.declared.label.MachLabel.{MachLabel}
 use Rattle.rv_base.specs.declared.constant.VCodeConstant.{VCodeConstant}
@@ -9,16 +9,17 @@ use Rattle.mach_labels.specs.Table.{first_inner, first_constant}
 use Rattle.rv_inst.specs.declared.inst.Inst.{Inst}
 use Rattle.rv_inst.specs.declared.label_use.LabelUse.{LabelUse}
 use Rattle.rv_inst.specs.declared.label_use.LabelUse.TheVariants.{Jal20}
-use Rattle.rv_inst.specs.LabelUse.{label_kinds}
+use Rattle.rv_inst.specs.LabelUse.{label_kinds, has_veneer_of}
 use Rattle.rv_inst.specs.LabelUseWords.{word_bytes}
 use Rattle.rv_inst.specs.Context.{Context}
-use Rattle.rv_inst.specs.Operands.{inst_ways, inst_constant}
+use Rattle.rv_inst.specs.Operands.{table_of, inst_ways, inst_constant}
 use Rattle.rv_inst.specs.Rules.{inst_rule}
-use Rattle.rv_inst.specs.Sizes.{Words, extent_of, line_space, island_space, inst_sum}
+use Rattle.rv_inst.specs.Sizes.{words_in, extent_of, line_space, island_space, inst_sum}
 use Rattle.rv_inst.specs.Traps.{inst_traps}
 use Rattle.rv_inst.specs.Uses.{use_at, uses_in}
 use Rattle.mach_buffer.specs.declared.buffer.MachBuffer.{MachBuffer}
 use Rattle.mach_buffer.specs.declared.uses.Use.{Use}
+use Rattle.mach_buffer.specs.Islands.{is_far}
 use Rattle.mach_buffer.specs.Reach.{is_needed}
 use Rattle.mach_buffer.specs.Buffer.{shape_of, bytes_of, uses_of, place_of, labels_of, allocated_of, traps_of, registered_of, named_of, constants_of, pending_of, IsSound}
 use Rattle.mach_buffer.specs.Shape.{Shape, with_allocated, name_more}
@@ -65,13 +66,24 @@ abbrev pub named_by : Option VCodeConstant → List VCodeConstant → List VCode
 named_by None named = named
 named_by (Some k) named = name_more k named
 
--- an instruction's bytes, as many as it is long, its uses and its traps were put at the end, and its constant was named
+-- a use of one of these labels that reaches it wherever it stands in code, and never goes by a veneer
+pub record IsFarUse (labels : List MachLabel) (u : Use LabelUse) : Type 0 where
+  pub far : is_far label_kinds u ≡ true
+  pub direct : has_veneer_of u.kind ≡ false
+  pub bare : u.veneer ≡ None
+  pub index : ℕ
+  pub names : slice_get labels index ≡ Some u.label
+
+-- an instruction's bytes, as many as it is long, its uses, those of its table's labels, and its traps were put at the end, and its
+-- constant was named
 pub record AppendsInst (context : Context) (inst : Inst) (old new : Buffer) : Type 0 where
   pub code : List ℕ
-  pub adds : AppendsCode code (uses_in context (length (bytes_of old)) inst) old new
+  pub far : List (Use LabelUse)
+  pub adds : AppendsCode code (uses_in context (length (bytes_of old)) inst ++ far) old new
+  pub table : (j : ℕ) (u : Use LabelUse) → slice_get far j ≡ Some u → IsFarUse (table_of inst) u
   pub traps : traps_of new ≡ traps_of old ++ inst_traps context (length (bytes_of old)) (length (bytes_of new)) inst
   pub named : named_of new ≡ named_by (inst_constant inst) (named_of old)
-  pub long : extent_of context inst ≡ Words (length code)
+  pub long : words_in (extent_of context inst) ≡ length code
 
 -- ---- an island
 

@@ -1,11 +1,10 @@
 -- The parts of each instruction's code: links of the proof.
-use Rattle.std.specs.Prelude.{ℕ, ◌+◌, ◌%◌, ◌^◌, ◌==◌, nat_eq, if◌then◌else◌, List, [], ◌∷◌, ◌++◌, map, Option, Some, None, ℤ, pos}
-use Rattle.std.specs.Int.{to_le_bytes, w32, w64}
+use Rattle.std.specs.Prelude.{ℕ, ◌+◌, ◌*◌, ◌%◌, ◌^◌, ◌==◌, ◌&&◌, Bool, false, if◌then◌else◌, List, [], ◌∷◌, ◌++◌, map, length, Option, Some, None, ℤ, pos, true}
+use Rattle.std.specs.Int.{to_le_bytes, cast_signed, w32, w64}
 use Rattle.rv_base.specs.declared.flags.IsaFlags.{IsaFlags}
 use Rattle.rv_base.specs.declared.ir_type.IrType.{IrType}
 use Rattle.rv_base.specs.declared.label.MachLabel.{MachLabel}
 use Rattle.rv_base.specs.declared.trap.TrapCode.{TrapCode}
-use Rattle.rv_base.specs.CondCodes.{complement_of}
 use Rattle.rv_base.specs.IrType.{bits_of}
 use Rattle.rv_base.specs.Regs.{number_of}
 use Rattle.rv_ops.specs.declared.alu.AluOPRRR.TheVariants as rrr
@@ -15,9 +14,9 @@ use Rattle.rv_ops.specs.declared.memory.LoadOP.TheVariants as loads
 use Rattle.rv_ops.specs.declared.memory.StoreOP.{StoreOP}
 use Rattle.rv_ops.specs.declared.compare.IntegerCompare.{IntegerCompare}
 use Rattle.rv_inst.specs.Context.{Context}
-use Rattle.rv_inst.specs.Sizes.{trap_size}
+use Rattle.rv_inst.specs.Sizes.{trap_size, table_space, bit_shift}
 use Rattle.rv_inst.specs.declared.inst.Inst.{Inst}
-use Rattle.rv_inst.specs.declared.inst.Inst.TheVariants.{Nop0, Nop4, EBreak, SequencePoint, Args, Rets, DummyUse, EmitIsland, RawData, Lui, Auipc, LoadInlineConst, AluRRR, AluRRImm12, Mov, MovFromPReg, Load, Store, LoadAddr, LabelAddress, Ret, TrapIf, Jal, CondBr, Udf, Jalr, Popcnt}
+use Rattle.rv_inst.specs.declared.inst.Inst.TheVariants.{Nop0, Nop4, EBreak, SequencePoint, Args, Rets, DummyUse, EmitIsland, RawData, Lui, Auipc, LoadInlineConst, AluRRR, AluRRImm12, Mov, MovFromPReg, Extend, Select, Load, Store, LoadAddr, LabelAddress, Ret, TrapIf, Jal, CondBr, BrTable, Udf, Jalr, Popcnt, Cltz, Brev8, StackProbeLoop}
 use Rattle.rv_inst.specs.declared.inst.CondBrTarget.{CondBrTarget}
 use Rattle.rv_inst.specs.declared.inst.CondBrTarget.TheVariants.{Label as ToLabel, Fallthrough}
 use Rattle.rv_inst.specs.declared.label_use.LabelUse.TheVariants.{Jal20, B12, PCRelHi20, PCRelLo12I}
@@ -26,12 +25,17 @@ use Rattle.rv_machine.specs.declared.ops.BaseOp.TheVariants as base
 use Rattle.rv_encode.specs.Operations.{row, decoded_branch, decoded_load, decoded_store}
 use Rattle.rv_inst.specs.Forms.{jump_kind, short_rrr, short_rri, short_lui, short_jalr, short_ebreak, short_load, short_store}
 use Rattle.rv_machine.specs.State.{low64}
+use Rattle.rv_machine.specs.Arithmetic.{low_word}
 use Rattle.mach_buffer.specs.Shape.{constant_label}
 use Rattle.rv_inst.specs.Addresses.{Location, Based, AtLabel, AtConstant, location_of, is_near, is_splittable}
 use Rattle.rv_emit.specs.Immediates.{upper_of, lower_of, upper_of_distance, lower_of_distance}
 use Rattle.rv_emit.specs.declared.state.EmitVState.{EmitVState}
 use Rattle.rv_emit.specs.Operations.{decoded_addi, decoded_jump, short_jump, jump_size}
-use Rattle.rv_emit.specs.Popcnt.{start_ops, test_ops, down_ops}
+use Rattle.rv_emit.specs.Counts.{start_ops, turn_ops}
+pub use Rattle.rv_emit.specs.Choices.{complement, move_slots, extend_slots, select_slots}
+use Rattle.rv_emit.specs.Loops.{reverse_start, reverse_turn}
+use Rattle.rv_emit.specs.Probes.{probe_turn}
+use Rattle.rv_emit.specs.Tables.{jump_slots}
 use Rattle.rv_emit.specs.Slots.{Target, Label, Slot, Op, Aim, Data, Traps, Names, Part, Ask, Slots}
 
 -- ---- jumps
@@ -54,10 +58,6 @@ upper_at rd l = Aim PCRelHi20 (Label l) (λ d. row (Base base.Auipc) rd 0 0 (upp
 abbrev pub branch_to : IntegerCompare → Target → Slot
 branch_to kind target = Aim B12 target (λ d. decoded_branch kind d ∷ [])
 
--- a move of one integer register to another; none is a move to itself
-abbrev pub move_slots : IsaFlags → ℕ → ℕ → List Slot
-move_slots flags rd rs = if nat_eq rd rs then [] else Op (short_rri flags rri.Addi rd rs (pos 0)) ∷ []
-
 -- a branch, and a jump where the comparison doesn't hold
 abbrev pub branch_slots : IsaFlags → IntegerCompare → CondBrTarget → CondBrTarget → List Slot
 branch_slots flags kind Fallthrough not_taken = []
@@ -70,10 +70,6 @@ trap_bytes flags = if flags.has_zca then 0 ∷ 0 ∷ [] else 0 ∷ 0 ∷ 0 ∷ 0
 
 abbrev pub trap_slots : IsaFlags → TrapCode → List Slot
 trap_slots flags code = Traps code ∷ Data (trap_bytes flags) ∷ []
-
--- the comparison that holds where another one doesn't
-abbrev pub complement : IntegerCompare → IntegerCompare
-complement cmp = record { kind = complement_of cmp.kind; rs1 = cmp.rs1; rs2 = cmp.rs2 }
 
 -- a branch over a trap
 abbrev pub branch_over : IsaFlags → IntegerCompare → Slot
@@ -148,11 +144,36 @@ labelled (Based r o) = Based r o
 labelled (AtLabel l) = AtLabel l
 labelled (AtConstant k) = AtLabel (constant_label k)
 
--- ---- a count of ones
+-- ---- counts of bits
 
 -- the ones of so many low bits are counted, from the highest on: the step counts down, and a bit moves down with it
 abbrev pub count_slots : IsaFlags → ℕ → ℕ → ℕ → ℕ → ℕ → List Slot
-count_slots flags sum tmp step rs bits = map Op (start_ops flags sum tmp step bits ++ test_ops flags sum tmp step rs ++ down_ops flags sum tmp step rs)
+count_slots flags sum tmp step rs bits = map Op (start_ops flags true sum tmp step bits ++ turn_ops flags false rri.Srli sum tmp step rs)
+
+-- the zeros before the first one are counted, from the highest of so many low bits on or from the lowest
+abbrev pub zeros_slots : IsaFlags → Bool → ℕ → ℕ → ℕ → ℕ → ℕ → List Slot
+zeros_slots flags leading sum tmp step rs bits = map Op (start_ops flags leading sum tmp step bits ++ turn_ops flags true (bit_shift leading) sum tmp step rs)
+
+-- the bits of the low bytes are reversed, from the highest bit on
+abbrev pub reverse_slots : IsaFlags → ℕ → ℕ → ℕ → ℕ → ℕ → ℕ → List Slot
+reverse_slots flags rd tmp tmp2 step rs bits = map Op (reverse_start flags rd tmp tmp2 step bits ++ reverse_turn flags rd tmp tmp2 step rs)
+
+-- ---- probes of the stack
+
+-- a number of 64 bits in a register: by its lower immediate alone where the upper one is 0
+abbrev pub number_slots : IsaFlags → ℕ → ℤ → List Slot
+number_slots flags rd z = if is_splittable z && low64 (upper_of z) == 0 then Op (short_rri flags rri.Addi rd 0 (lower_of z)) ∷ [] else offset_slots flags rd z
+
+-- x31 counts down from the farthest probe's distance, by a guard each turn
+abbrev pub probe_slots : IsaFlags → ℕ → ℕ → ℕ → List Slot
+probe_slots flags tmp guard count = number_slots flags 31 (cast_signed w64 (guard * count)) ++ number_slots flags tmp (pos guard) ++ map Op (probe_turn flags tmp)
+
+-- ---- a branch by a table
+
+-- the low 32 bits of the index in x31, how many labels there are beside the default, and the jumps
+abbrev pub table_slots : IsaFlags → ℕ → ℕ → ℕ → List MachLabel → List Slot
+table_slots flags index tmp1 tmp2 [] = []
+table_slots flags index tmp1 tmp2 (default ∷ labels) = extend_slots flags 31 index false 32 ++ number_slots flags tmp2 (pos (length labels)) ++ jump_slots tmp1 tmp2 default labels
 
 -- slots alone
 abbrev pub slots_alone : List Slot → List Part
@@ -176,6 +197,8 @@ parts_of context setting (AluRRR op rd rs1 rs2) = slots_alone (Op (short_rrr con
 parts_of context setting (AluRRImm12 op rd rs imm) = slots_alone (Op (short_rri context.flags op (number_of rd.reg) (number_of rs) imm.value) ∷ [])
 parts_of context setting (Mov rd rm type) = slots_alone (move_slots context.flags (number_of rd.reg) (number_of rm))
 parts_of context setting (MovFromPReg rd rm) = slots_alone (move_slots context.flags (number_of rd.reg) rm.number)
+parts_of context setting (Extend rd rn signed from_bits to_bits) = slots_alone (extend_slots context.flags (number_of rd.reg) (number_of rn) signed from_bits)
+parts_of context setting (Select dst condition x y) = slots_alone (select_slots context.flags dst condition x y)
 parts_of context setting (Load rd op flags from) = slots_alone (load_slots context.flags (number_of rd.reg) op flags.trap (location_of context.frame from))
 parts_of context setting (Store to op flags src) = slots_alone (store_slots context.flags op (number_of src) flags.trap (location_of context.frame to))
 parts_of context setting (LoadAddr rd mem) = slots_alone (address_slots context.flags (number_of rd.reg) (location_of context.frame mem))
@@ -184,6 +207,10 @@ parts_of context setting Ret = slots_alone (Op (short_jalr context.flags 0 1 (po
 parts_of context setting (TrapIf cmp code) = slots_alone (branch_over context.flags cmp ∷ trap_slots context.flags code)
 parts_of context setting (Jal label) = slots_alone (jump_to context.flags (Label label) ∷ [])
 parts_of context setting (CondBr taken not_taken kind) = slots_alone (branch_slots context.flags kind taken not_taken)
+parts_of context setting (BrTable index tmp1 tmp2 targets) = Ask (table_space (length targets)) ∷ Slots (table_slots context.flags (number_of index) (number_of tmp1.reg) (number_of tmp2.reg) targets) ∷ []
 parts_of context setting (Udf code) = slots_alone (trap_slots context.flags code)
 parts_of context setting (Jalr rd base offset) = slots_alone (Op (short_jalr context.flags (number_of rd.reg) (number_of base) offset.value) ∷ [])
 parts_of context setting (Popcnt sum tmp step rs type) = slots_alone (count_slots context.flags (number_of sum.reg) (number_of tmp.reg) (number_of step.reg) (number_of rs) (bits_of type))
+parts_of context setting (Cltz sum tmp step rs leading type) = slots_alone (zeros_slots context.flags leading (number_of sum.reg) (number_of tmp.reg) (number_of step.reg) (number_of rs) (bits_of type))
+parts_of context setting (Brev8 rs type step tmp tmp2 rd) = slots_alone (reverse_slots context.flags (number_of rd.reg) (number_of tmp.reg) (number_of tmp2.reg) (number_of step.reg) (number_of rs) (bits_of type))
+parts_of context setting (StackProbeLoop guard_size probe_count tmp) = slots_alone (probe_slots context.flags (number_of tmp.reg) (low_word guard_size) (low_word probe_count))

@@ -3,7 +3,12 @@ pub mod Encoded
 pub mod Operations
 pub mod State
 pub mod Usable
-pub mod Popcnt
+pub mod Counts
+pub mod Choices
+pub mod Loops
+pub mod Reversal
+pub mod Probes
+pub mod Tables
 pub mod Slots
 pub mod Sites
 pub mod Puts

@@ -26,9 +26,15 @@ decoded_jump d = row (Base base.Jal) 0 0 0 d
 abbrev pub short_jump : IsaFlags → ℤ → Decoded
 short_jump flags d = if flags.has_zca then compressed (Base base.Jal) 0 0 0 d else decoded_jump d
 
--- branches where two registers are equal, and where the first isn't less than the second, signed
+-- branches where two registers are equal, where they aren't, and where the first isn't less than the second, signed and unsigned
 abbrev pub decoded_beq : ℕ → ℕ → ℤ → Decoded
 decoded_beq rs1 rs2 d = row (Base base.Beq) 0 rs1 rs2 d
 
 abbrev pub decoded_bge : ℕ → ℕ → ℤ → Decoded
 decoded_bge rs1 rs2 d = row (Base base.Bge) 0 rs1 rs2 d
+
+abbrev pub decoded_bne : ℕ → ℕ → ℤ → Decoded
+decoded_bne rs1 rs2 d = row (Base base.Bne) 0 rs1 rs2 d
+
+abbrev pub decoded_bgeu : ℕ → ℕ → ℤ → Decoded
+decoded_bgeu rs1 rs2 d = row (Base base.Bgeu) 0 rs1 rs2 d

@@ -63,10 +63,10 @@ pub record LeadsOn (site : Site) (from to : ℕ) : Type 0 where
   pub run : (s : State) (v : Values) → IsPlacedAt site s.values.mem → s.pc ≡ wrap (site.base + from) → IsState s → AreValues v → Same v s.values → ComesTo site.context.flags 0 (wrap (site.base + to)) v s
 
 -- where a use may aim whose label may stand far away: where a veneer is supported, at what leads to the label's place; else at the
--- place itself
+-- place itself, which is even
 abbrev pub Leads : Site → Bool → MachLabel → ℕ → Type 0
 Leads site true label to = (at : ℕ) × (site.place label.number ≡ Some at) × LeadsOn site to at
-Leads site false label to = site.place label.number ≡ Some to
+Leads site false label to = (site.place label.number ≡ Some to) × (to % 2 ≡ 0)
 
 -- where a use may aim; one of an own label aims straight at its place
 abbrev pub Reaches : Site → ℕ → LabelUse → Target → ℕ → Type 0

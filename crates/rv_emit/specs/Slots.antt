@@ -48,6 +48,12 @@ abbrev pub size_of : List Slot → ℕ
 size_of [] = 0
 size_of (slot ∷ slots) = slot_size slot + size_of slots
 
+-- how many bytes parts put, islands apart
+abbrev pub parts_size : List Part → ℕ
+parts_size [] = 0
+parts_size (Ask space ∷ parts) = parts_size parts
+parts_size (Slots slots ∷ parts) = size_of slots + parts_size parts
+
 -- ---- labels
 
 -- the label that an instruction allocates as its k-th, where so many were allocated before it

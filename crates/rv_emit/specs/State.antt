@@ -1,41 +1,72 @@
--- What emission knows of the vector unit's setting after an instruction.
-use Rattle.std.specs.Prelude.{Bool, true, false}
+-- What emission knows of the vector unit's setting after an instruction. Nothing is known where a new basic block begins, and after
+-- code in which a `jalr` stands, or a `jal` of four bytes, that over an island among them; other code leaves what was known.
+use Rattle.std.specs.Prelude.{Bool, true, false, not, ◌&&◌, length}
+use Rattle.rv_base.specs.declared.flags.IsaFlags.{IsaFlags}
+use Rattle.mach_buffer.specs.Buffer.{bytes_of}
+use Rattle.mach_buffer.specs.Reach.{is_needed}
+use Rattle.rv_inst.specs.Addresses.{Location, Based, AtLabel, AtConstant, location_of, is_splittable}
+use Rattle.rv_inst.specs.Context.{Context}
+use Rattle.rv_inst.specs.declared.inst.CondBrTarget.{CondBrTarget}
+use Rattle.rv_inst.specs.declared.inst.CondBrTarget.TheVariants.{Label, Fallthrough}
 use Rattle.rv_inst.specs.declared.inst.Inst.{Inst}
-use Rattle.rv_inst.specs.declared.inst.Inst.TheVariants.{Nop0, Nop4, EBreak, SequencePoint, Args, Rets, DummyUse, EmitIsland, RawData, Lui, Auipc, LoadInlineConst, AluRRR, AluRRImm12, Mov, MovFromPReg, Load, Store, LoadAddr, LabelAddress, Ret, TrapIf, Jal, CondBr, Udf, Jalr, Popcnt}
+use Rattle.rv_inst.specs.declared.inst.Inst.TheVariants.{Nop0, Nop4, EBreak, SequencePoint, Args, Rets, DummyUse, EmitIsland, RawData, Lui, Auipc, LoadInlineConst, AluRRR, AluRRImm12, Mov, MovFromPReg, Extend, Select, Load, Store, LoadAddr, LabelAddress, Ret, TrapIf, Jal, CondBr, BrTable, Udf, Jalr, Popcnt, Cltz, Brev8, StackProbeLoop}
+use Rattle.rv_emit.specs.Emitted.{Buffer, pending}
 use Rattle.rv_emit.specs.declared.state.EmitVState.{EmitVState}
 use Rattle.rv_emit.specs.declared.state.EmitVState.TheVariants.{Unknown}
 
--- by the setting known before an instruction, that known after it
-abbrev pub setting_after : Inst → EmitVState → EmitVState
-setting_after Nop0 setting = setting
-setting_after Nop4 setting = setting
-setting_after EBreak setting = setting
-setting_after SequencePoint setting = setting
-setting_after (Args args) setting = setting
-setting_after (Rets rets) setting = setting
-setting_after (DummyUse reg) setting = setting
-setting_after (EmitIsland needed_space) setting = setting
-setting_after (RawData bytes) setting = setting
-setting_after (Lui rd imm) setting = setting
-setting_after (Auipc rd imm) setting = setting
-setting_after (LoadInlineConst rd type imm) setting = setting
-setting_after (AluRRR op rd rs1 rs2) setting = setting
-setting_after (AluRRImm12 op rd rs imm) setting = setting
-setting_after (Mov rd rm type) setting = setting
-setting_after (MovFromPReg rd rm) setting = setting
-setting_after (Load rd op flags from) setting = setting
-setting_after (Store to op flags src) setting = setting
-setting_after (LoadAddr rd mem) setting = setting
-setting_after (LabelAddress dst label) setting = setting
-setting_after Ret setting = setting
-setting_after (TrapIf cmp code) setting = setting
-setting_after (Jal label) setting = setting
-setting_after (CondBr taken not_taken kind) setting = setting
-setting_after (Udf code) setting = setting
-setting_after (Jalr rd base offset) setting = setting
-setting_after (Popcnt sum tmp step rs type) setting = setting
-
--- the setting known where an island may have been put: nothing is known where a new basic block begins
+-- the setting known where a new basic block may begin
 abbrev pub setting_beyond : Bool → EmitVState → EmitVState
 setting_beyond true setting = Unknown
 setting_beyond false setting = setting
+
+-- whether a jump within the code has four bytes
+abbrev pub is_wide : IsaFlags → Bool
+is_wide flags = not flags.has_zca
+
+-- whether the offset of an address stands among the code, which jumps over it: no two immediates make it
+abbrev pub is_inline : Location → Bool
+is_inline (Based r o) = not (is_splittable o)
+is_inline (AtLabel l) = false
+is_inline (AtConstant k) = false
+
+-- whether a branch has a jump after it
+abbrev pub jumps : CondBrTarget → CondBrTarget → Bool
+jumps Fallthrough not_taken = false
+jumps (Label t) Fallthrough = false
+jumps (Label t) (Label f) = true
+
+-- by the buffer and the setting known before an instruction, that known after it
+abbrev pub setting_after : Context → Buffer → Inst → EmitVState → EmitVState
+setting_after context b Nop0 setting = setting
+setting_after context b Nop4 setting = setting
+setting_after context b EBreak setting = setting
+setting_after context b SequencePoint setting = setting
+setting_after context b (Args args) setting = setting
+setting_after context b (Rets rets) setting = setting
+setting_after context b (DummyUse reg) setting = setting
+setting_after context b (EmitIsland needed_space) setting = setting_beyond (is_needed (length (bytes_of b)) needed_space (pending b)) setting
+setting_after context b (RawData bytes) setting = setting
+setting_after context b (Lui rd imm) setting = setting
+setting_after context b (Auipc rd imm) setting = setting
+setting_after context b (LoadInlineConst rd type imm) setting = setting_beyond (is_wide context.flags) setting
+setting_after context b (AluRRR op rd rs1 rs2) setting = setting
+setting_after context b (AluRRImm12 op rd rs imm) setting = setting
+setting_after context b (Mov rd rm type) setting = setting
+setting_after context b (MovFromPReg rd rm) setting = setting
+setting_after context b (Extend rd rn signed from_bits to_bits) setting = setting
+setting_after context b (Select dst condition x y) setting = setting
+setting_after context b (Load rd op flags from) setting = setting_beyond (is_inline (location_of context.frame from) && is_wide context.flags) setting
+setting_after context b (Store to op flags src) setting = setting_beyond (is_inline (location_of context.frame to) && is_wide context.flags) setting
+setting_after context b (LoadAddr rd mem) setting = setting_beyond (is_inline (location_of context.frame mem) && is_wide context.flags) setting
+setting_after context b (LabelAddress dst label) setting = setting
+setting_after context b Ret setting = Unknown
+setting_after context b (TrapIf cmp code) setting = setting
+setting_after context b (Jal label) setting = setting_beyond (is_wide context.flags) setting
+setting_after context b (CondBr taken not_taken kind) setting = setting_beyond (jumps taken not_taken && is_wide context.flags) setting
+setting_after context b (BrTable index tmp1 tmp2 targets) setting = Unknown
+setting_after context b (Udf code) setting = setting
+setting_after context b (Jalr rd base offset) setting = Unknown
+setting_after context b (Popcnt sum tmp step rs type) setting = setting_beyond (is_wide context.flags) setting
+setting_after context b (Cltz sum tmp step rs leading type) setting = setting_beyond (is_wide context.flags) setting
+setting_after context b (Brev8 rs type step tmp tmp2 rd) setting = setting_beyond (is_wide context.flags) setting
+setting_after context b (StackProbeLoop guard_size probe_count tmp) setting = setting_beyond (is_wide context.flags) setting

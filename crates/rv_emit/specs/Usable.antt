@@ -1,5 +1,5 @@
 -- What the words of an instruction ask of its registers, labels and numbers.
-use Rattle.std.specs.Prelude.{◌≡◌, ◌≢◌, ◌⊎◌, ◌<◌, true, List, length, Option, Some, None}
+use Rattle.std.specs.Prelude.{◌≡◌, ◌≢◌, ◌⊎◌, ◌<◌, ◌≤◌, true, List, [], ◌∷◌, length, Option, Some, None}
 use Rattle.rv_base.specs.declared.amode.AMode.{AMode}
 use Rattle.rv_base.specs.declared.constant.Constant.{Constant}
 use Rattle.rv_base.specs.declared.amode.AMode.TheVariants.{RegOffset, SPOffset, FPOffset, SlotOffset, IncomingArg, Const, Label as ToLabel}
@@ -7,12 +7,16 @@ use Rattle.rv_base.specs.AMode.{IsNear, base_of}
 use Rattle.rv_base.specs.declared.regs.Reg.{Reg}
 use Rattle.rv_base.specs.Regs.{number_of}
 use Rattle.rv_base.specs.declared.regs.Reg.TheVariants.{Real}
+use Rattle.rv_base.specs.declared.regs.Writable.{Writable}
+use Rattle.rv_base.specs.declared.value_regs.ValueRegs.{ValueRegs}
+use Rattle.rv_base.specs.ValueRegs.{count_of}
 use Rattle.rv_base.specs.declared.label.MachLabel.{MachLabel}
 use Rattle.mach_labels.specs.Table.{first_inner}
 use Rattle.rv_ops.specs.declared.compare.IntegerCompare.{IntegerCompare}
 use Rattle.rv_encode.specs.Registers.{IsIntRegister}
 use Rattle.rv_inst.specs.declared.inst.Inst.{Inst}
-use Rattle.rv_inst.specs.declared.inst.Inst.TheVariants.{Nop0, Nop4, EBreak, SequencePoint, Args, Rets, DummyUse, EmitIsland, RawData, Lui, Auipc, LoadInlineConst, AluRRR, AluRRImm12, Mov, MovFromPReg, Load, Store, LoadAddr, LabelAddress, Ret, TrapIf, Jal, CondBr, Udf, Jalr, Popcnt}
+use Rattle.rv_inst.specs.declared.inst.Inst.TheVariants.{Nop0, Nop4, EBreak, SequencePoint, Args, Rets, DummyUse, EmitIsland, RawData, Lui, Auipc, LoadInlineConst, AluRRR, AluRRImm12, Mov, MovFromPReg, Extend, Select, Load, Store, LoadAddr, LabelAddress, Ret, TrapIf, Jal, CondBr, BrTable, Udf, Jalr, Popcnt, Cltz, Brev8, StackProbeLoop}
+use Rattle.rv_inst.specs.Operands.{all_of, written_in}
 use Rattle.rv_inst.specs.Rules.{is_int_type}
 use Rattle.rv_inst.specs.declared.inst.CondBrTarget.{CondBrTarget}
 use Rattle.rv_inst.specs.declared.inst.CondBrTarget.TheVariants.{Label, Fallthrough}
@@ -24,6 +28,10 @@ IsUsable r = IsIntRegister r × (number_of r < 30)
 -- a label of a listing
 abbrev pub IsListed : MachLabel → Type 0
 IsListed label = label.number < first_inner
+
+abbrev pub AreListed : List MachLabel → Type 0
+AreListed [] = Unit {0}
+AreListed (l ∷ labels) = IsListed l × AreListed labels
 
 abbrev pub IsFineTarget : CondBrTarget → Type 0
 IsFineTarget (Label label) = IsListed label
@@ -48,6 +56,21 @@ abbrev pub IsApart : Reg → Option Reg → Type 0
 IsApart r None = Unit {0}
 IsApart r (Some base) = number_of r ≢ number_of base
 
+-- one of these integer registers, or two
+abbrev pub AreInt : List Reg → Type 0
+AreInt [] = Unit {0}
+AreInt (r ∷ rs) = IsIntRegister r × AreInt rs
+
+-- values in as many integer registers
+pub record IsFineChoice (to : ValueRegs (Writable Reg)) (condition : IntegerCompare) (first second : ValueRegs Reg) : Type 0 where
+  pub dst : AreInt (written_in to)
+  pub rs1 : IsIntRegister condition.rs1
+  pub rs2 : IsIntRegister condition.rs2
+  pub x : AreInt (all_of first)
+  pub y : AreInt (all_of second)
+  pub x_count : count_of to ≡ count_of first
+  pub y_count : count_of to ≡ count_of second
+
 -- among these constants
 abbrev pub IsFine : List Constant → Inst → Type 0
 IsFine constants Nop0 = Unit {0}
@@ -66,6 +89,8 @@ IsFine constants (AluRRR op rd rs1 rs2) = IsIntRegister rd.reg × IsIntRegister 
 IsFine constants (AluRRImm12 op rd rs imm) = IsIntRegister rd.reg × IsIntRegister rs
 IsFine constants (Mov rd rm type) = IsIntRegister rd.reg × IsIntRegister rm
 IsFine constants (MovFromPReg rd rm) = IsIntRegister rd.reg × IsIntRegister (Real rm)
+IsFine constants (Extend rd rn signed from_bits to_bits) = IsIntRegister rd.reg × IsIntRegister rn × (1 ≤ from_bits) × (from_bits ≤ 64)
+IsFine constants (Select dst condition x y) = IsFineChoice dst condition x y
 IsFine constants (Load rd op flags from) = IsIntRegister rd.reg × IsFineAddress constants from
 IsFine constants (Store to op flags src) = IsIntRegister src × IsFineAddress constants to
 IsFine constants (LoadAddr rd mem) = IsIntRegister rd.reg × IsFineAddress constants mem × IsApart rd.reg (base_of mem)
@@ -74,6 +99,10 @@ IsFine constants Ret = Unit {0}
 IsFine constants (TrapIf cmp code) = IsIntRegister cmp.rs1 × IsIntRegister cmp.rs2
 IsFine constants (Jal label) = IsListed label
 IsFine constants (CondBr taken not_taken kind) = IsFineBranch kind taken not_taken
+IsFine constants (BrTable index tmp1 tmp2 targets) = IsIntRegister index × IsIntRegister tmp1.reg × IsIntRegister tmp2.reg × AreListed targets × (1 ≤ length targets)
 IsFine constants (Udf code) = Unit {0}
 IsFine constants (Jalr rd base offset) = IsIntRegister rd.reg × IsIntRegister base
 IsFine constants (Popcnt sum tmp step rs type) = IsIntRegister sum.reg × IsIntRegister tmp.reg × IsIntRegister step.reg × IsIntRegister rs × (is_int_type type ≡ true)
+IsFine constants (Cltz sum tmp step rs leading type) = IsIntRegister sum.reg × IsIntRegister tmp.reg × IsIntRegister step.reg × IsIntRegister rs × (is_int_type type ≡ true)
+IsFine constants (Brev8 rs type step tmp tmp2 rd) = IsIntRegister rd.reg × IsIntRegister tmp.reg × IsIntRegister tmp2.reg × IsIntRegister step.reg × IsIntRegister rs × (is_int_type type ≡ true)
+IsFine constants (StackProbeLoop guard_size probe_count tmp) = IsIntRegister tmp.reg

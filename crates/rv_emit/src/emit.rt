@@ -1,15 +1,20 @@
 //! Emission of an instruction.
 
-ghost use Rattle.std.specs.Prelude.{◌≡◌, length, OnOk, OnErr, true};
+ghost use Rattle.std.specs.Prelude.{◌≡◌, ◌≤◌, ◌^◌, is_some, length, OnOk, OnErr, IfOk, true};
 ghost use Rattle.mach_buffer.specs.Reach.{CanReach};
 ghost use Rattle.mach_buffer.specs.Buffer.{bytes_of, registered_of, spoiled_of};
 ghost use Rattle.rv_emit.specs.Emitted.{pending, CanEmit, IsBounded};
 ghost use Rattle.rv_emit.specs.Emission.{Emits};
+ghost use Rattle.rv_emit.specs.State.{setting_after, setting_beyond};
+ghost use Rattle.rv_emit.specs.declared.state.EmitVState.{EmitVState as Setting};
 ghost use Rattle.rv_inst.specs.Context.{context_by};
+ghost use Rattle.rv_inst.specs.Sizes.{island_space, table_space};
 
 use crate::island::emit_island_if_needed;
 use crate::sequence::put_sequence;
+use crate::setting::forgets_setting;
 use crate::state::{EmitInfo, EmitState};
+use crate::table::put_table;
 use mach_buffer::MachBuffer;
 use rv_base::{FrameLayout, IsaFlags, OutOfMemory};
 use rv_inst::{EmitError, Inst, LabelUse};
@@ -34,8 +39,8 @@ pub trait MachInstEmit {
     /// How much it puts there at most.
     ghost bounds: { Context → Self → Buffer → Buffer → Type 0 };
 
-    /// By the vector unit's setting known before it, that known after it.
-    ghost setting_after: { Self → Setting → Setting };
+    /// By the buffer and the vector unit's setting known before it, that known after it, in a context.
+    ghost setting_after: { Context → Buffer → Self → Setting → Setting };
 
     /// Puts the sequence. It fails only when out of memory; the buffer is then spoiled.
     fn emit(
@@ -50,7 +55,7 @@ pub trait MachInstEmit {
         ensures bounds { OnOk result (bounds (context_by info.now.isa_flags state.old.frame (registered_of sink.old)) self.now sink.old sink.new) }
         ensures reach { OnOk result (CanReach (length (bytes_of sink.new)) (pending sink.new)) }
         ensures frame { state.new.frame ≡ state.old.frame }
-        ensures setting { OnOk result (state.new.vstate ≡ setting_after self.now state.old.vstate) }
+        ensures setting { OnOk result (state.new.vstate ≡ setting_after (context_by info.now.isa_flags state.old.frame (registered_of sink.old)) sink.old self.now state.old.vstate) }
         ensures wanting { IfErr result (λ e. e ≡ error.OutOfMemory) }
         ensures spoiled { OnErr result (spoiled_of sink.new ≡ true) };
 }
@@ -76,33 +81,78 @@ impl MachInstEmit for Inst {
         state: &mut EmitState,
     ) -> Result<(), EmitError> {
         match put(sink, info.isa_flags, &state.frame, self) {
-            Ok(()) => Ok(()),
+            Ok(forgets) => {
+                if forgets {
+                    state.clobber_vstate();
+                }
+                Ok(())
+            }
             Err(OutOfMemory) => Err(EmitError::OutOfMemory),
         }
     }
 }
 
-/// Puts the sequence of an instruction, or an island where the instruction asks for one.
+/// Puts the sequence of an instruction, or an island where the instruction asks for one. Returns whether nothing is known of the
+/// vector unit's setting after it.
 fn put(
     sink: &mut MachBuffer<LabelUse>,
     flags: IsaFlags,
     frame: &FrameLayout,
     inst: &Inst,
-) -> Result<(), OutOfMemory>
+) -> Result<bool, OutOfMemory>
     requires { CanEmit (context_by flags frame.now (registered_of sink.old)) inst.now sink.old }
     ensures emitted { OnOk result (Emits (context_by flags frame.now (registered_of sink.old)) inst.now sink.old sink.new) }
     ensures bounds { OnOk result (IsBounded (context_by flags frame.now (registered_of sink.old)) inst.now sink.old sink.new) }
     ensures reach { OnOk result (CanReach (length (bytes_of sink.new)) (pending sink.new)) }
+    ensures setting { IfOk result (λ forgets. (setting : Setting) → setting_after (context_by flags frame.now (registered_of sink.old)) sink.old inst.now setting ≡ setting_beyond forgets setting) }
     ensures spoiled { OnErr result (spoiled_of sink.new ≡ true) }
 {
-    match inst.island_space() {
-        Some(space) => {
-            emit_island_if_needed(sink, space)?;
-            Ok(())
-        }
-        None => {
-            put_sequence(sink, flags, frame, inst)?;
-            Ok(())
-        }
+    if inst.asks_for_island() {
+        put_asking(sink, flags, frame, inst)
+    } else {
+        put_sequence(sink, flags, frame, inst)?;
+        Ok(forgets_setting(flags, frame, inst))
     }
+}
+
+/// Puts an island where one is needed before so many bytes, and then the sequence of a branch by a table, whose island is put
+/// before x31 is used. Returns whether nothing is known of the vector unit's setting after it.
+fn put_asking(
+    sink: &mut MachBuffer<LabelUse>,
+    flags: IsaFlags,
+    _frame: &FrameLayout,
+    inst: &Inst,
+) -> Result<bool, OutOfMemory>
+    requires { CanEmit (context_by flags _frame.now (registered_of sink.old)) inst.now sink.old }
+    ensures emitted { is_some (island_space (context_by flags _frame.now (registered_of sink.old)) inst.now) ≡ true → OnOk result (Emits (context_by flags _frame.now (registered_of sink.old)) inst.now sink.old sink.new) }
+    ensures setting { is_some (island_space (context_by flags _frame.now (registered_of sink.old)) inst.now) ≡ true → IfOk result (λ forgets. (setting : Setting) → setting_after (context_by flags _frame.now (registered_of sink.old)) sink.old inst.now setting ≡ setting_beyond forgets setting) }
+    ensures spoiled { OnErr result (spoiled_of sink.new ≡ true) }
+{
+    match inst {
+        Inst::EmitIsland { needed_space } => {
+            let made = emit_island_if_needed(sink, *needed_space)?;
+            Ok(made)
+        }
+        Inst::BrTable {
+            index,
+            tmp1,
+            tmp2,
+            targets,
+        } => {
+            let space = table_space(targets.len());
+            emit_island_if_needed(sink, space)?;
+            put_table(sink, flags, *index, *tmp1, *tmp2, targets.as_slice())?;
+            Ok(true)
+        }
+        _ => Ok(false),
+    }
+}
+
+/// How many bytes a branch by a table of so many labels may need, with a jump over an island before it.
+fn table_space(labels: usize) -> u32
+    requires some { 1 ≤ labels }
+    requires few { labels ≤ 2 ^ 28 }
+    ensures { result ≡ table_space labels }
+{
+    4 * (12 + 2 * (labels as u32 - 1))
 }

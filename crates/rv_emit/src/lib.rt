@@ -1,18 +1,26 @@
 //! An instruction becomes a sequence of bytes, with its uses of labels.
 #![tactic(auto)]
 
+mod choices;
 mod compressed;
 mod compressed_immediates;
 mod compressed_memory;
 mod compressed_registers;
+mod counts;
 mod emit;
 mod expansions;
 mod island;
 mod memory;
+mod numbers;
 mod popcnt;
+mod probes;
+mod reverse;
 mod sequence;
+mod setting;
 mod shortest;
 mod state;
+mod table;
+mod zeros;
 
 pub use emit::MachInstEmit;
 pub use island::emit_island_if_needed;

@@ -458,7 +458,7 @@ fn put_offset(
 }
 
 /// The number that an upper and a lower immediate make in a register.
-fn put_immediates(
+pub(crate) fn put_immediates(
     sink: &mut MachBuffer<LabelUse>,
     flags: IsaFlags,
     rd: WritableReg,

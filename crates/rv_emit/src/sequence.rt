@@ -28,11 +28,15 @@ ghost use Rattle.rv_inst.specs.Uses.{use_at};
 ghost use Rattle.rv_inst.specs.Families.{family_of};
 ghost use Rattle.rv_inst.specs.declared.inst.Family.TheVariants.{Pseudo, Integer, Memory, Control, Loop};
 
+use crate::choices::{put_extend, put_select};
 use crate::compressed::number;
 use crate::expansions::{put_bytes, put_constant, put_trap, put_trap_if};
 use crate::memory::{place_of, put_address, put_label_address, put_load, put_store};
 use crate::popcnt::put_popcnt;
+use crate::probes::put_probe_loop;
+use crate::reverse::put_reverse;
 use crate::shortest::{put_ebreak, put_jalr, put_lui, put_rri, put_rrr};
+use crate::zeros::put_zeros;
 use mach_buffer::MachBuffer;
 use rv_base::{
     FrameLayout, IsaFlags, MachLabel, OutOfMemory, Reg, WritableReg, link_reg, writable_zero_reg,
@@ -52,7 +56,7 @@ pub(crate) fn put_sequence(
 ) -> Result<(), OutOfMemory>
     requires rule { inst_rule (context_by flags frame.now (registered_of sink.old)) inst.now ≡ None }
     requires frame { sp_to_args_end frame.now < 2 ^ 31 }
-    requires room { length (bytes_of sink.old) + 44 < code_limit }
+    requires room { length (bytes_of sink.old) + 84 < code_limit }
     requires sound { IsSoundBuffer sink.old }
     ensures parts { island_space (context_by flags frame.now (registered_of sink.old)) inst.now ≡ None → OnOk result (Emits (context_by flags frame.now (registered_of sink.old)) inst.now sink.old sink.new) }
     ensures refused { OnErr result (spoiled_of sink.new ≡ true) }
@@ -72,7 +76,7 @@ fn put_pseudo(
     inst: &Inst,
 ) -> Result<(), OutOfMemory>
     requires fine { IsFine (registered_of sink.old) inst.now }
-    requires room { length (bytes_of sink.old) + 44 < code_limit }
+    requires room { length (bytes_of sink.old) + 84 < code_limit }
     requires sound { IsSoundBuffer sink.old }
     ensures parts { family_of inst.now ≡ Pseudo → (frame : FrameLayout) (constants : List Constant) → island_space (context_by flags frame constants) inst.now ≡ None → OnOk result (Emits (context_by flags frame constants) inst.now sink.old sink.new) }
     ensures refused { OnErr result (spoiled_of sink.new ≡ true) }
@@ -94,7 +98,7 @@ fn put_integer(
     inst: &Inst,
 ) -> Result<(), OutOfMemory>
     requires fine { IsFine (registered_of sink.old) inst.now }
-    requires room { length (bytes_of sink.old) + 44 < code_limit }
+    requires room { length (bytes_of sink.old) + 84 < code_limit }
     requires sound { IsSoundBuffer sink.old }
     ensures parts { family_of inst.now ≡ Integer → OnOk result (EmitsAnyhow flags inst.now sink.old sink.new) }
     ensures refused { OnErr result (spoiled_of sink.new ≡ true) }
@@ -117,12 +121,25 @@ fn put_integer(
         } => put_rri(sink, flags, *alu_op, *rd, *rs, *imm12),
         Inst::Mov { rd, rm, ty: _ } => put_move(sink, flags, *rd, *rm),
         Inst::MovFromPReg { rd, rm } => put_move(sink, flags, *rd, Reg::Real(*rm)),
+        Inst::Extend {
+            rd,
+            rn,
+            signed,
+            from_bits,
+            to_bits: _,
+        } => put_extend(sink, flags, *rd, *rn, *signed, *from_bits),
+        Inst::Select {
+            dst,
+            condition,
+            x,
+            y,
+        } => put_select(sink, flags, *dst, *condition, *x, *y),
         _ => Ok(()),
     }
 }
 
 /// A move of one integer register to another; none to itself.
-fn put_move(
+pub(crate) fn put_move(
     sink: &mut MachBuffer<LabelUse>,
     flags: IsaFlags,
     rd: WritableReg,
@@ -130,7 +147,7 @@ fn put_move(
 ) -> Result<(), OutOfMemory>
     requires rd { IsIntRegister rd.reg }
     requires rm { IsIntRegister rm }
-    requires room { length (bytes_of sink.old) + 8 < code_limit }
+    requires room { length (bytes_of sink.old) + 4 < code_limit }
     requires sound { IsSoundBuffer sink.old }
     ensures slots { OnOk result (PutsAlone flags (move_slots flags (number_of rd.reg) (number_of rm)) sink.old sink.new) }
     ensures refused { OnErr result (spoiled_of sink.new ≡ true) }
@@ -147,9 +164,9 @@ fn put_control(
     inst: &Inst,
 ) -> Result<(), OutOfMemory>
     requires fine { IsFine (registered_of sink.old) inst.now }
-    requires room { length (bytes_of sink.old) + 44 < code_limit }
+    requires room { length (bytes_of sink.old) + 84 < code_limit }
     requires sound { IsSoundBuffer sink.old }
-    ensures parts { family_of inst.now ≡ Control → OnOk result (EmitsAnyhow flags inst.now sink.old sink.new) }
+    ensures parts { family_of inst.now ≡ Control → (frame : FrameLayout) (constants : List Constant) → island_space (context_by flags frame constants) inst.now ≡ None → OnOk result (Emits (context_by flags frame constants) inst.now sink.old sink.new) }
     ensures refused { OnErr result (spoiled_of sink.new ≡ true) }
 {
     match inst {
@@ -175,7 +192,7 @@ fn put_memory(
 ) -> Result<(), OutOfMemory>
     requires fine { IsFine (registered_of sink.old) inst.now }
     requires frame { sp_to_args_end frame.now < 2 ^ 31 }
-    requires room { length (bytes_of sink.old) + 44 < code_limit }
+    requires room { length (bytes_of sink.old) + 84 < code_limit }
     requires sound { IsSoundBuffer sink.old }
     ensures parts { family_of inst.now ≡ Memory → OnOk result (Emits (context_by flags frame.now (registered_of sink.old)) inst.now sink.old sink.new) }
     ensures refused { OnErr result (spoiled_of sink.new ≡ true) }
@@ -214,7 +231,7 @@ fn put_loop(
     inst: &Inst,
 ) -> Result<(), OutOfMemory>
     requires fine { IsFine (registered_of sink.old) inst.now }
-    requires room { length (bytes_of sink.old) + 44 < code_limit }
+    requires room { length (bytes_of sink.old) + 84 < code_limit }
     requires sound { IsSoundBuffer sink.old }
     ensures parts { family_of inst.now ≡ Loop → OnOk result (EmitsAnyhow flags inst.now sink.old sink.new) }
     ensures refused { OnErr result (spoiled_of sink.new ≡ true) }
@@ -227,6 +244,27 @@ fn put_loop(
             rs,
             ty,
         } => put_popcnt(sink, flags, *sum, *tmp, *step, *rs, *ty),
+        Inst::Cltz {
+            sum,
+            tmp,
+            step,
+            rs,
+            leading,
+            ty,
+        } => put_zeros(sink, flags, *leading, *sum, *tmp, *step, *rs, *ty),
+        Inst::Brev8 {
+            rs,
+            ty,
+            step,
+            tmp,
+            tmp2,
+            rd,
+        } => put_reverse(sink, flags, *rd, *tmp, *tmp2, *step, *rs, *ty),
+        Inst::StackProbeLoop {
+            guard_size,
+            probe_count,
+            tmp,
+        } => put_probe_loop(sink, flags, *guard_size, *probe_count, *tmp),
         _ => Ok(()),
     }
 }

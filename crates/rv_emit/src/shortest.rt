@@ -11,8 +11,7 @@ ghost use Rattle.rv_inst.specs.Forms.{jump_size, short_rrr, short_rri, short_lui
 ghost use Rattle.mach_buffer.specs.Buffer.{bytes_of, spoiled_of};
 ghost use Rattle.rv_emit.specs.Emitted.{IsSoundBuffer};
 ghost use Rattle.rv_emit.specs.Emission.{PutsAlone};
-ghost use Rattle.rv_emit.specs.Encoded.{Holds, IsHalf};
-ghost use Rattle.rv_emit.specs.Popcnt.{IsSizeOf};
+ghost use Rattle.rv_emit.specs.Encoded.{Holds, IsHalf, IsSizeOf};
 ghost use Rattle.rv_emit.specs.Operations.{short_jump};
 ghost use Rattle.rv_emit.specs.Slots.{Op};
 
@@ -48,10 +47,15 @@ pub(crate) fn length_of(encoded: Encoded) -> u8
 }
 
 /// Puts an instruction.
-fn put_encoded(sink: &mut MachBuffer<LabelUse>, encoded: Encoded) -> Result<(), OutOfMemory>
+pub(crate) fn put_encoded(
+    sink: &mut MachBuffer<LabelUse>,
+    encoded: Encoded,
+) -> Result<(), OutOfMemory>
     requires room { length (bytes_of sink.old) + 4 < code_limit }
     requires sound { IsSoundBuffer sink.old }
     ensures slot { OnOk result ((flags : IsaFlags) (d : Decoded) → Holds flags encoded d → PutsAlone flags (Op d ∷ []) sink.old sink.new) }
+    ensures long { OnOk result (length (bytes_of sink.new) ≤ length (bytes_of sink.old) + 4) }
+    ensures sound { OnOk result (IsSoundBuffer sink.new) }
     ensures refused { OnErr result (spoiled_of sink.new ≡ true) }
 {
     match encoded {
@@ -65,6 +69,8 @@ fn put_half(sink: &mut MachBuffer<LabelUse>, half: u16) -> Result<(), OutOfMemor
     requires room { length (bytes_of sink.old) + 4 < code_limit }
     requires sound { IsSoundBuffer sink.old }
     ensures slot { OnOk result ((flags : IsaFlags) (d : Decoded) → IsHalf flags half d → PutsAlone flags (Op d ∷ []) sink.old sink.new) }
+    ensures long { OnOk result (length (bytes_of sink.new) ≤ length (bytes_of sink.old) + 4) }
+    ensures sound { OnOk result (IsSoundBuffer sink.new) }
     ensures refused { OnErr result (spoiled_of sink.new ≡ true) }
 {
     sink.put2(half)?;
@@ -211,6 +217,8 @@ pub(crate) fn put_short_jump(
     requires room { length (bytes_of sink.old) + 4 < code_limit }
     requires sound { IsSoundBuffer sink.old }
     ensures slots { OnOk result (PutsAlone flags (Op (short_jump flags distance.value) ∷ []) sink.old sink.new) }
+    ensures long { OnOk result (length (bytes_of sink.new) ≤ length (bytes_of sink.old) + 4) }
+    ensures sound { OnOk result (IsSoundBuffer sink.new) }
     ensures refused { OnErr result (spoiled_of sink.new ≡ true) }
 {
     put_encoded(sink, encoded_jump(flags, distance))

@@ -1,6 +1,7 @@
 //! What emission knows beside the buffer: the flags, the frame, and the setting of the vector unit.
 
 use rv_base::{FrameLayout, IsaFlags};
+use rv_vector::VState;
 
 /// What is the same for all of a listing.
 #[derive(Clone, Copy, Debug)]
@@ -21,8 +22,11 @@ impl EmitInfo {
 /// What is known of the vector unit's setting.
 #[derive(Clone, Debug, PartialEq, Default, Drop)]
 pub enum EmitVState {
+    /// Nothing, as where a new basic block begins.
     #[default]
     Unknown,
+    /// It is this one.
+    Known(VState),
 }
 
 /// What changes from line to line.
@@ -71,7 +75,7 @@ impl MachInstEmitState for EmitState {
     }
 
     fn on_new_block(&mut self) {
-        self.vstate = EmitVState::Unknown;
+        self.clobber_vstate();
     }
 
     fn frame_layout(&self) -> &FrameLayout {
@@ -81,6 +85,7 @@ impl MachInstEmitState for EmitState {
 
 impl EmitState {
     ghost use Rattle.std.specs.Prelude.{◌≡◌};
+    ghost use Rattle.rv_emit.specs.declared.state.EmitVState.TheVariants.{Unknown};
 
     /// What is known of the vector unit's setting.
     pub fn vstate(&self) -> EmitVState
@@ -88,6 +93,15 @@ impl EmitState {
     {
         match self.vstate {
             EmitVState::Unknown => EmitVState::Unknown,
+            EmitVState::Known(state) => EmitVState::Known(state),
         }
+    }
+
+    /// Forgets what is known of the vector unit's setting.
+    pub(crate) fn clobber_vstate(&mut self)
+        ensures frame { self.new.frame ≡ self.old.frame }
+        ensures setting { self.new.vstate ≡ Unknown }
+    {
+        self.vstate = EmitVState::Unknown;
     }
 }

@@ -1,13 +1,15 @@
 -- A buffer of a single instruction can be emitted into and finished.
-use Rattle.std.proofs.Common.{◌≡◌, ℕ, ◌+◌, ◌^◌, ◌<◌, ◌≤◌, true, false, List, [], ◌∷◌, ◌++◌, length, Option, Some, None, refl, ap, sym, ◌∙◌, subst, arith, inl, ⊎_elim}
-use Rattle.std.specs.Prelude.{slice_get, is_some, unwrap_or}
+use Rattle.std.proofs.Common.{◌≡◌, append-nil, ℕ, ◌+◌, ◌^◌, ◌<◌, ◌≤◌, true, false, List, [], ◌∷◌, ◌++◌, length, Option, Some, None, refl, ap, sym, ◌∙◌, subst, arith, inl, ⊎_elim}
+use Rattle.std.specs.Prelude.{slice_get, is_some}
 use Rattle.std.proofs.lemmas.Bool.{and_parts, eqb-true, true≢false}
 use Rattle.rv_inst.specs.Context.{Context}
 use Rattle.rv_inst.specs.declared.inst.Inst.{Inst}
+use Rattle.rv_inst.specs.declared.inst.Inst.TheVariants.{EmitIsland, BrTable}
 use Rattle.rv_base.specs.Frame.{sp_to_args_end}
+use Rattle.rv_base.specs.declared.label.MachLabel.{MachLabel}
 use Rattle.rv_inst.specs.declared.targets.Targets.{Targets}
 use Rattle.rv_inst.specs.declared.targets.Targets.TheVariants.{Nowhere, Jumps, Branches, Refers, RefersConstant}
-use Rattle.rv_inst.specs.Operands.{targets_of}
+use Rattle.rv_inst.specs.Operands.{targets_of, table_of}
 use Rattle.rv_inst.specs.declared.inst.CondBrTarget.TheVariants.{Label, Fallthrough}
 use Rattle.rv_inst.specs.declared.label_use.LabelUse.{LabelUse}
 use Rattle.rv_inst.specs.declared.label_use.LabelUse.TheVariants.{B12, PCRelHi20, PCRelLo12I}
@@ -23,7 +25,7 @@ use Rattle.mach_buffer.specs.declared.records.ConstPlace.{ConstPlace}
 use Rattle.mach_buffer.specs.Constants.{end_after, reserve_from, reserve_of, IsOrdered, AllStand}
 use Rattle.mach_buffer.specs.Finish.{before_last, last_end, CanFinish}
 use Rattle.mach_buffer.proofs.Laws.{windows_none, slack_from_reach, reaches_from_slack, veneers_reach, last_near, ends_within}
-use Rattle.rv_emit.specs.Emitted.{Buffer, HasWindows, pending, AppendsInst, CanEmit, IsBounded}
+use Rattle.rv_emit.specs.Emitted.{Buffer, HasWindows, pending, IsFarUse, AppendsInst, CanEmit, IsBounded}
 use Rattle.rv_emit.specs.declared.state.EmitVState.{EmitVState}
 use Rattle.rv_emit.specs.Emission.{EmitsIn}
 use Rattle.rv_emit.specs.InstParts.{parts_of}
@@ -66,7 +68,17 @@ start_windows b s =
     (subst (λ (us : List (Use LabelUse)). AreWindows label_kinds [] us) (sym s.uses) windows_none)
 
 plain_sum : (context : Context) (inst : Inst) → island_space context inst ≡ None → inst_sum context inst ≡ 128
-plain_sum context inst none = ap (λ space. 128 + unwrap_or space 0) none
+plain_sum context (BrTable index tmp1 tmp2 targets) none = absurd (cc)
+plain_sum context (EmitIsland space) none = absurd (cc)
+plain_sum context _ none = refl
+
+no_table : (context : Context) (inst : Inst) → island_space context inst ≡ None → table_of inst ≡ []
+no_table context (BrTable index tmp1 tmp2 targets) none = absurd (cc)
+no_table context _ none = refl
+
+none_far : (labels : List MachLabel) (far : List (Use LabelUse)) → labels ≡ [] → ((j : ℕ) (u : Use LabelUse) → slice_get far j ≡ Some u → IsFarUse labels u) → far ≡ []
+none_far labels [] none each = refl
+none_far labels (u ∷ far) none each = absurd (let f = each 0 u refl in let there = ap (λ ls. slice_get ls f.index) (sym none) ∙ f.names in cc)
 
 -- any instruction may be put that asks for no island
 pub can_start : (context : Context) (inst : Inst) (b : Buffer) → sp_to_args_end context.frame < 2 ^ 31 → inst_rule context inst ≡ None → island_space context inst ≡ None → IsStart b → CanEmit context inst b
@@ -122,8 +134,11 @@ holds_one context setting inst old new rule none s e reach bounded = record {
     p : AppendsInst context inst old new
     p = appends_inst context setting inst old new rule s.sound none e
 
+    far : p.far ≡ []
+    far = none_far (table_of inst) p.far (no_table context inst none) p.table
+
     own : (j : ℕ) (u : Use LabelUse) → slice_get (uses_of new) j ≡ Some u → slice_get (uses_in context start inst) j ≡ Some u
-    own j u h = ap (λ (us : List (Use LabelUse)). slice_get us j) (sym (p.adds.uses ∙ ap (λ (us : List (Use LabelUse)). us ++ uses_in context start inst) s.uses)) ∙ h
+    own j u h = ap (λ (us : List (Use LabelUse)). slice_get us j) (sym (p.adds.uses ∙ ap (λ (us : List (Use LabelUse)). us ++ (uses_in context start inst ++ p.far)) s.uses ∙ ap (λ (us : List (Use LabelUse)). uses_in context start inst ++ us) far ∙ append-nil (uses_in context start inst))) ∙ h
 
 -- the buffer can be finished where its labels are bound
 pub can_finish_one : (inst : Inst) (b : Buffer) → HoldsOne inst b → names_first inst ≡ true → CanFinish label_kinds (shape_of b)

@@ -56,7 +56,7 @@ fn buffer_of(alloc: Global, flags: IsaFlags, inst: &Inst) -> Result<MachBuffer<L
 {
     let info = EmitInfo::new(flags);
     let mut state = EmitState::new(FrameLayout::none(alloc));
-    if inst.island_space().is_some() {
+    if inst.asks_for_island() {
         return Err(Fail::new("the instruction asks for an island"));
     }
     if inst

@@ -1,9 +1,12 @@
-//! The words of generated constants, loads and stores. Those of constants are as the manual's layouts of `lui` and `addi` have them.
+//! The words of generated constants, loads, stores and moves. Those of constants are as the manual's layouts of `lui` and `addi` have them.
 
 use crate::emission::{assert_code, code_of};
-use rv_base::{AMode, IrType, IsaFlags, MemFlagsData, a0, a1, writable_a0};
+use rv_base::{
+    AMode, IrType, IsaFlags, MemFlagsData, Reg, RegClass, a0, a1, f_reg, fa1, writable_a0,
+    writable_a2, writable_fa1,
+};
 use rv_imms::Imm12;
-use rv_inst::{Inst, SmallInstVec};
+use rv_inst::{Inst, SmallInstVec, gen_moves};
 use std::alloc::Global;
 use std::process::Abort;
 use std::test::Fail;
@@ -119,4 +122,40 @@ fn accesses_of_a_type(rt: HostRuntime) -> Result<(), Fail> {
     assert_code(&rt, rt.alloc(), &load, &[0x03, 0xa5, 0x45, 0x06])?;
     let store = Inst::gen_store(AMode::SPOffset(100), a0(), IrType::I8, MemFlagsData::new());
     assert_code(&rt, rt.alloc(), &store, &[0x23, 0x02, 0xa1, 0x06])
+}
+
+#[test]
+fn types_of_whole_registers(rt: HostRuntime) -> Result<(), Fail> {
+    let bytes = IrType::vector(IrType::I8, 16);
+    assert_eq!(rt; Inst::canonical_type_for_rc(RegClass::Int), IrType::I64);
+    assert_eq!(rt; Inst::canonical_type_for_rc(RegClass::Float), IrType::F64);
+    assert_eq!(rt; Some(Inst::canonical_type_for_rc(RegClass::Vector)), bytes);
+    Ok(())
+}
+
+#[test]
+fn moves_in_order(rt: HostRuntime) -> Result<(), Fail> {
+    let moves = gen_moves(rt.alloc(), &[writable_a2(), writable_a0()], &[a0(), a1()])?;
+    let bytes = [0x13, 0x06, 0x05, 0x00, 0x13, 0x85, 0x05, 0x00];
+    assert_codes(&rt, rt.alloc(), &moves, &bytes)
+}
+
+/// Returns whether it moves whole floating-point registers.
+fn moves_floats(inst: &Inst, to: Reg, from: Reg) -> bool {
+    match inst {
+        Inst::Mov { rd, rm, ty } => rd.reg == to && *rm == from && *ty == IrType::F64,
+        _ => false,
+    }
+}
+
+#[test]
+fn moves_of_floats(rt: HostRuntime) -> Result<(), Fail> {
+    let to = [writable_fa1(); 5];
+    let from = [f_reg(0), f_reg(1), f_reg(2), f_reg(3), f_reg(4)];
+    let moves = gen_moves(rt.alloc(), &to, &from)?;
+    assert_eq!(rt; moves.len(), 5);
+    for (inst, rm) in moves.as_slice().iter().zip(&from) {
+        assert!(rt; moves_floats(inst, fa1(), *rm));
+    }
+    Ok(())
 }

@@ -22,4 +22,6 @@ mod registers;
 #[cfg(test)]
 mod vec_amode;
 #[cfg(test)]
+mod vector_setting;
+#[cfg(test)]
 mod words;

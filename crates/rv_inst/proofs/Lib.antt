@@ -7,3 +7,4 @@ pub mod PatchPart
 pub mod PatchCompressed
 pub mod Rules
 pub mod Meaning
+pub mod Moves

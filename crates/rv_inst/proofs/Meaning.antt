@@ -1,5 +1,6 @@
 -- What a line means depends on no labels but those that it names, and on where constants stand.
-use Rattle.std.proofs.Common.{◌≡◌, ◌+◌, ◌*◌, ◌^◌, refl, ap}
+use Rattle.std.proofs.Common.{◌≡◌, ◌+◌, ◌*◌, ◌^◌, List, [], ◌∷◌, ◌++◌, refl, ap}
+use Rattle.rv_base.specs.declared.label.MachLabel.{MachLabel}
 use Rattle.rv_base.specs.Regs.{number_of}
 use Rattle.rv_base.specs.declared.amode.AMode.{AMode}
 use Rattle.rv_base.specs.declared.amode.AMode.TheVariants as mode
@@ -12,7 +13,7 @@ use Rattle.rv_inst.specs.declared.inst.Inst.{Inst}
 use Rattle.rv_inst.specs.declared.inst.Inst.TheVariants.{Nop0, Auipc, Load, Store, LoadAddr, LabelAddress, Jalr}
 use Rattle.rv_inst.specs.declared.inst.Line.{Line}
 use Rattle.rv_inst.specs.declared.inst.Line.TheVariants.{Inst as Put, Bind}
-use Rattle.rv_inst.specs.Environments.{AgreeOn}
+use Rattle.rv_inst.specs.Environments.{SameLabels, AgreeOn}
 use Rattle.rv_inst.specs.Meaning.{Environment, inst_effect, effect_of, inst_writes, writes_of, inst_exit, exit_of, address_of, addresses_from, put_bytes}
 use Rattle.rv_inst.specs.Operands.{labels_of, address_targets, inst_labels, named_labels}
 
@@ -26,17 +27,25 @@ address_agrees (mode.IncomingArg o) v a = ap (λ frame. wrap (reg v 2 + low64 (o
 address_agrees (mode.Const k) v a = a.constants_same k.number
 address_agrees (mode.Label l) v a = a.labels_same.0
 
+-- labels that are the first of others
+same_first : (e f : Environment) (labels more : List MachLabel) → SameLabels (labels ++ more) e f → SameLabels labels e f
+same_first e f [] more s = tt
+same_first e f (l ∷ labels) more s = (s.0, same_first e f labels more s.1)
+
+agree_first : {e f : Environment} (labels more : List MachLabel) → AgreeOn (labels ++ more) e f → AgreeOn labels e f
+agree_first {e} {f} labels more a = record { start = a.start; after = a.after; frame = a.frame; labels_same = same_first e f labels more a.labels_same; constants_same = a.constants_same }
+
 inst_effect_agrees : {e f : Environment} (inst : Inst) (v : Values) → AgreeOn (inst_labels inst) e f → inst_effect e inst v ≡ inst_effect f inst v
 inst_effect_agrees (Auipc rd imm) v a = ap (λ n. set_reg v (number_of rd.reg) (wrap (n + low64 imm.value * 2 ^ 12))) a.start
-inst_effect_agrees (Load rd op flags from) v a = ap (λ n. set_reg v (number_of rd.reg) (load_result (load_op op) v.mem n)) (address_agrees from v a)
-inst_effect_agrees (Store to op flags src) v a = ap (λ n. put_bytes v n (store_bytes (store_op op) (reg v (number_of src)))) (address_agrees to v a)
-inst_effect_agrees (LoadAddr rd mem) v a = ap (set_reg v (number_of rd.reg)) (address_agrees mem v a)
+inst_effect_agrees (Load rd op flags from) v a = ap (λ n. set_reg v (number_of rd.reg) (load_result (load_op op) v.mem n)) (address_agrees from v (agree_first (labels_of (address_targets from)) [] a))
+inst_effect_agrees (Store to op flags src) v a = ap (λ n. put_bytes v n (store_bytes (store_op op) (reg v (number_of src)))) (address_agrees to v (agree_first (labels_of (address_targets to)) [] a))
+inst_effect_agrees (LoadAddr rd mem) v a = ap (set_reg v (number_of rd.reg)) (address_agrees mem v (agree_first (labels_of (address_targets mem)) [] a))
 inst_effect_agrees (LabelAddress dst label) v a = ap (set_reg v (number_of dst.reg)) a.labels_same.0
 inst_effect_agrees (Jalr rd base offset) v a = ap (set_reg v (number_of rd.reg)) a.after
 inst_effect_agrees _ v a = refl
 
 inst_writes_agree : {e f : Environment} (inst : Inst) (v : Values) → AgreeOn (inst_labels inst) e f → inst_writes e inst v ≡ inst_writes f inst v
-inst_writes_agree (Store to op flags src) v a = ap (λ n. addresses_from n (store_size op)) (address_agrees to v a)
+inst_writes_agree (Store to op flags src) v a = ap (λ n. addresses_from n (store_size op)) (address_agrees to v (agree_first (labels_of (address_targets to)) [] a))
 inst_writes_agree _ v a = refl
 
 inst_exit_agrees : {e f : Environment} (inst : Inst) (v : Values) → AgreeOn (inst_labels inst) e f → inst_exit e inst v ≡ inst_exit f inst v

@@ -4,7 +4,7 @@ use Rattle.std.specs.Prelude.{slice_get}
 use Rattle.std.specs.List.{find}
 use Rattle.rv_inst.specs.declared.inst.Inst.{Inst}
 use Rattle.rv_inst.specs.declared.error.Rule.{Rule}
-use Rattle.rv_inst.specs.declared.error.Rule.TheVariants.{Virtual, Class, Reserved, Zero, Clash, BadType, Range, Constant, NoTarget, Label, DataSize}
+use Rattle.rv_inst.specs.declared.error.Rule.TheVariants.{Virtual, Class, Reserved, Zero, Clash, BadType, Range, Constant, EmptyTable, NoTarget, Label, DataSize}
 use Rattle.rv_inst.specs.Context.{Context}
 use Rattle.rv_inst.specs.Rules.{every_rule, breaks, inst_rule}
 
@@ -28,6 +28,7 @@ breaks_none context inst e Clash = none_passes (breaks context inst) every_rule 
 breaks_none context inst e BadType = none_passes (breaks context inst) every_rule e 5 BadType refl
 breaks_none context inst e Range = none_passes (breaks context inst) every_rule e 6 Range refl
 breaks_none context inst e Constant = none_passes (breaks context inst) every_rule e 7 Constant refl
-breaks_none context inst e NoTarget = none_passes (breaks context inst) every_rule e 8 NoTarget refl
-breaks_none context inst e Label = none_passes (breaks context inst) every_rule e 9 Label refl
-breaks_none context inst e DataSize = none_passes (breaks context inst) every_rule e 10 DataSize refl
+breaks_none context inst e EmptyTable = none_passes (breaks context inst) every_rule e 8 EmptyTable refl
+breaks_none context inst e NoTarget = none_passes (breaks context inst) every_rule e 9 NoTarget refl
+breaks_none context inst e Label = none_passes (breaks context inst) every_rule e 10 Label refl
+breaks_none context inst e DataSize = none_passes (breaks context inst) every_rule e 11 DataSize refl

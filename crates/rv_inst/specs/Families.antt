@@ -1,6 +1,6 @@
 -- The families of instructions.
 use Rattle.rv_inst.specs.declared.inst.Inst.{Inst}
-use Rattle.rv_inst.specs.declared.inst.Inst.TheVariants.{Nop0, Nop4, EBreak, SequencePoint, Args, Rets, DummyUse, EmitIsland, RawData, Lui, Auipc, LoadInlineConst, AluRRR, AluRRImm12, Mov, MovFromPReg, Load, Store, LoadAddr, LabelAddress, Ret, TrapIf, Jal, CondBr, Udf, Jalr, Popcnt}
+use Rattle.rv_inst.specs.declared.inst.Inst.TheVariants.{Nop0, Nop4, EBreak, SequencePoint, Args, Rets, DummyUse, EmitIsland, RawData, Lui, Auipc, LoadInlineConst, AluRRR, AluRRImm12, Mov, MovFromPReg, Extend, Select, Load, Store, LoadAddr, LabelAddress, Ret, TrapIf, Jal, CondBr, BrTable, Udf, Jalr, Popcnt, Cltz, Brev8, StackProbeLoop}
 use Rattle.rv_inst.specs.declared.inst.Family.{Family}
 use Rattle.rv_inst.specs.declared.inst.Family.TheVariants.{Pseudo, Integer, Memory, Control, Loop}
 
@@ -21,6 +21,8 @@ family_of (AluRRR op rd rs1 rs2) = Integer
 family_of (AluRRImm12 op rd rs imm) = Integer
 family_of (Mov rd rm type) = Integer
 family_of (MovFromPReg rd rm) = Integer
+family_of (Extend rd rn signed from_bits to_bits) = Integer
+family_of (Select dst condition x y) = Integer
 family_of (Load rd op flags from) = Memory
 family_of (Store to op flags src) = Memory
 family_of (LoadAddr rd mem) = Memory
@@ -29,6 +31,10 @@ family_of Ret = Control
 family_of (TrapIf cmp code) = Control
 family_of (Jal label) = Control
 family_of (CondBr taken not_taken kind) = Control
+family_of (BrTable index tmp1 tmp2 targets) = Control
 family_of (Udf code) = Control
 family_of (Jalr rd base offset) = Control
 family_of (Popcnt sum tmp step rs type) = Loop
+family_of (Cltz sum tmp step rs leading type) = Loop
+family_of (Brev8 rs type step tmp tmp2 rd) = Loop
+family_of (StackProbeLoop guard_size probe_count tmp) = Loop

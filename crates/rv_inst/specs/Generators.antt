@@ -1,18 +1,22 @@
--- The instructions that put a constant into a register.
+-- The instructions that put a constant into a register, and those that move registers.
 use Rattle.std.specs.Prelude.{◌≡◌, ℕ, ◌==◌, Bool, false, if◌then◌else◌, List, [], ◌∷◌, ℤ, pos, negsuc}
-use Rattle.std.proofs.Common.{lit<}
+use Rattle.std.proofs.Common.{lit<, refl}
 use Rattle.std.specs.Int.{cast_signed, w64}
 use Rattle.rv_base.specs.declared.ir_type.IrType.{IrType}
+use Rattle.rv_base.specs.declared.ir_type.IrType.TheVariants.{I64, F64, Vector as VectorOf}
+use Rattle.rv_base.specs.declared.ir_type.LaneType.TheVariants as lane
 use Rattle.rv_base.specs.declared.regs.Reg.{Reg}
+use Rattle.rv_base.specs.declared.regs.RegClass.{RegClass}
+use Rattle.rv_base.specs.declared.regs.RegClass.TheVariants.{Int, Float, Vector}
 use Rattle.rv_base.specs.declared.regs.Writable.{Writable}
-use Rattle.rv_base.specs.Regs.{int_reg}
+use Rattle.rv_base.specs.Regs.{class_of, int_reg}
 use Rattle.rv_imms.specs.declared.imm12.Imm12.{Imm12}
 use Rattle.rv_imms.specs.declared.imm20.Imm20.{Imm20}
 use Rattle.rv_imms.specs.Splitting.{IsSplittable}
 use Rattle.rv_ops.specs.declared.alu.AluOPRRI.TheVariants.{Addi}
 use Rattle.rv_inst.specs.Immediates.{upper_of, lower_of}
 use Rattle.rv_inst.specs.declared.inst.Inst.{Inst}
-use Rattle.rv_inst.specs.declared.inst.Inst.TheVariants.{Lui, AluRRImm12, LoadInlineConst}
+use Rattle.rv_inst.specs.declared.inst.Inst.TheVariants.{Lui, AluRRImm12, Mov, LoadInlineConst}
 
 -- x0, which reads 0
 abbrev pub zero_register : Reg
@@ -43,3 +47,18 @@ pub record AreSplit (rd : Writable Reg) (z : ℤ) (insts : List Inst) : Type 0 w
 pub record AreConstant (ty : IrType) (rd : Writable Reg) (value : ℕ) (insts : List Inst) : Type 0 where
   pub split : IsSplittable (cast_signed w64 value) → AreSplit rd (cast_signed w64 value) insts
   pub inline : ¬ (IsSplittable (cast_signed w64 value)) → insts ≡ LoadInlineConst rd ty value ∷ []
+
+-- the type of whole registers of a class
+abbrev pub canonical_type : RegClass → IrType
+canonical_type Int = I64
+canonical_type Float = F64
+canonical_type Vector = VectorOf (record { lane = lane.I8; lanes = 16; counted = refl })
+
+abbrev pub move_of : Writable Reg → Reg → Inst
+move_of rd rm = Mov rd rm (canonical_type (class_of rd.reg))
+
+-- a move for each pair, in order
+abbrev pub moves_of : List (Writable Reg) → List Reg → List Inst
+moves_of [] src = []
+moves_of (rd ∷ rds) [] = []
+moves_of (rd ∷ rds) (rm ∷ src) = move_of rd rm ∷ moves_of rds src

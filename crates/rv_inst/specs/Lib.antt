@@ -12,6 +12,7 @@ pub mod Rules
 pub mod SameValues
 pub mod Sizes
 pub mod OneOperation
+pub mod Bits
 pub mod CondBrTargets
 pub mod RegisterTests
 pub mod Uses

@@ -1,11 +1,13 @@
 -- What a line means: what it makes of the values, and how it is left.
-use Rattle.std.specs.Prelude.{◌⊎◌, ℕ, zero, suc, ◌+◌, ◌*◌, ◌/◌, ◌%◌, ◌^◌, ◌<◌, ◌≤◌, ◌==◌, Bool, if◌then◌else◌, List, [], ◌∷◌, length, slice_index, ℤ}
+use Rattle.std.specs.Prelude.{◌⊎◌, ℕ, zero, suc, ◌+◌, ◌-◌, ◌*◌, ◌/◌, ◌^◌, ◌<◌, ◌≤◌, ◌==◌, Bool, if◌then◌else◌, List, [], ◌∷◌, length, slice_index, slice_get, unwrap_or, map, ℤ}
 use Rattle.rv_base.specs.declared.amode.AMode.{AMode}
 use Rattle.rv_base.specs.declared.frame.FrameLayout.{FrameLayout}
 use Rattle.rv_base.specs.declared.ir_type.IrType.{IrType}
+use Rattle.rv_base.specs.declared.label.MachLabel.{MachLabel}
 use Rattle.rv_base.specs.declared.trap.TrapCode.{TrapCode}
 use Rattle.rv_base.specs.IrType.{bits_of}
 use Rattle.rv_base.specs.Regs.{number_of}
+use Rattle.rv_base.specs.declared.regs.Reg.{Reg}
 use Rattle.rv_base.specs.CondCodes.{holds}
 use Rattle.rv_ops.specs.declared.alu.AluOPRRR.{AluOPRRR}
 use Rattle.rv_ops.specs.declared.alu.AluOPRRI.{AluOPRRI}
@@ -14,15 +16,17 @@ use Rattle.rv_ops.specs.Alu.{is_reversed}
 use Rattle.rv_encode.specs.Operations.{rrr_op, rri_op, load_op, store_op}
 use Rattle.rv_inst.specs.Addresses.{Location, Based, AtLabel, AtConstant, location_of}
 use Rattle.rv_ops.specs.Memory.{store_size}
+use Rattle.rv_inst.specs.Bits.{extended, ones, zeros, reversed_bytes}
+use Rattle.rv_inst.specs.Operands.{all_of, written_in}
 use Rattle.rv_inst.specs.declared.inst.Line.{Line}
 use Rattle.rv_inst.specs.declared.inst.Line.TheVariants.{Inst as Put, Bind}
 use Rattle.rv_inst.specs.declared.inst.Inst.{Inst}
-use Rattle.rv_inst.specs.declared.inst.Inst.TheVariants.{Nop0, Nop4, EBreak, SequencePoint, Args, Rets, DummyUse, EmitIsland, RawData, Lui, Auipc, LoadInlineConst, AluRRR, AluRRImm12, Mov, MovFromPReg, Load, Store, LoadAddr, LabelAddress, Ret, TrapIf, Jal, CondBr, Udf, Jalr, Popcnt}
+use Rattle.rv_inst.specs.declared.inst.Inst.TheVariants.{Nop0, Nop4, EBreak, SequencePoint, Args, Rets, DummyUse, EmitIsland, RawData, Lui, Auipc, LoadInlineConst, AluRRR, AluRRImm12, Mov, MovFromPReg, Extend, Select, Load, Store, LoadAddr, LabelAddress, Ret, TrapIf, Jal, CondBr, BrTable, Udf, Jalr, Popcnt, Cltz, Brev8, StackProbeLoop}
 use Rattle.rv_inst.specs.declared.inst.CondBrTarget.{CondBrTarget}
 use Rattle.rv_inst.specs.declared.inst.CondBrTarget.TheVariants.{Label, Fallthrough}
 use Rattle.rv_machine.specs.State.{Values, reg, set_reg, store, wrap, low64}
 use Rattle.rv_machine.specs.Memory.{load_result, store_bytes}
-use Rattle.rv_machine.specs.Arithmetic.{extend_word}
+use Rattle.rv_machine.specs.Arithmetic.{low_word, extend_word}
 use Rattle.rv_machine.specs.Effects.{alu_result}
 
 -- ---- values
@@ -38,11 +42,6 @@ alu_rri op x n = alu_result (rri_op op) x 0 (low64 n)
 -- the value of an inline constant: of 32 bits, its low word, sign-extended; else its low 64 bits
 abbrev pub constant_of : IrType → ℕ → ℕ
 constant_of type n = if bits_of type == 32 then extend_word n else wrap n
-
--- how many of so many low bits are ones
-abbrev pub ones : ℕ → ℕ → ℕ
-ones zero n = 0
-ones (suc bits) n = n % 2 + ones bits (n / 2)
 
 -- What a line is read among: the addresses of its first byte, of the byte after its last, and of labels and constants by their
 -- numbers; and the frame.
@@ -72,6 +71,31 @@ addresses_from a (suc n) = a ∷ addresses_from (wrap (a + 1)) n
 abbrev pub put_bytes : Values → ℕ → List ℕ → Values
 put_bytes v a bytes = record { regs = v.regs; mem = store v.mem a bytes }
 
+-- a byte 0 goes to each of these addresses
+abbrev pub zero_bytes : Values → List ℕ → Values
+zero_bytes v [] = v
+zero_bytes v (a ∷ addresses) = zero_bytes (put_bytes v a (0 ∷ [])) addresses
+
+-- the addresses of the probes of a stack: so many guards below the stack pointer, from the farthest on down to two
+abbrev pub probes_from : ℕ → ℕ → ℕ → List ℕ
+probes_from sp guard zero = []
+probes_from sp guard (suc zero) = []
+probes_from sp guard (suc (suc k)) = wrap (sp + (2 ^ 64 - suc (suc k) * guard)) ∷ probes_from sp guard (suc k)
+
+-- a guard of no bytes has no probes
+abbrev pub probes_of : ℕ → ℕ → ℕ → List ℕ
+probes_of sp guard count = if guard == 0 then [] else probes_from sp guard count
+
+-- registers, by their numbers, get values, each its own
+abbrev pub set_regs : Values → List ℕ → List ℕ → Values
+set_regs v [] xs = v
+set_regs v (n ∷ ns) [] = v
+set_regs v (n ∷ ns) (x ∷ xs) = set_regs (set_reg v n x) ns xs
+
+-- whether a comparison of two registers holds
+abbrev pub compares : IntegerCompare → Values → Bool
+compares cmp v = holds cmp.kind (reg v (number_of cmp.rs1)) (reg v (number_of cmp.rs2))
+
 -- what an instruction makes of the values; a jump to a register links
 abbrev pub inst_effect : Environment → Inst → Values → Values
 inst_effect env Nop0 v = v
@@ -90,6 +114,8 @@ inst_effect env (AluRRR op rd rs1 rs2) v = set_reg v (number_of rd.reg) (alu_rrr
 inst_effect env (AluRRImm12 op rd rs imm) v = set_reg v (number_of rd.reg) (alu_rri op (reg v (number_of rs)) imm.value)
 inst_effect env (Mov rd rm type) v = set_reg v (number_of rd.reg) (reg v (number_of rm))
 inst_effect env (MovFromPReg rd rm) v = set_reg v (number_of rd.reg) (reg v rm.number)
+inst_effect env (Extend rd rn signed from_bits to_bits) v = set_reg v (number_of rd.reg) (extended signed from_bits (reg v (number_of rn)))
+inst_effect env (Select dst condition x y) v = set_regs v (map number_of (written_in dst)) (map (λ (r : Reg). reg v (number_of r)) (if compares condition v then all_of x else all_of y))
 inst_effect env (Load rd op flags from) v = set_reg v (number_of rd.reg) (load_result (load_op op) v.mem (address_of env from v))
 inst_effect env (Store to op flags src) v = put_bytes v (address_of env to v) (store_bytes (store_op op) (reg v (number_of src)))
 inst_effect env (LoadAddr rd mem) v = set_reg v (number_of rd.reg) (address_of env mem v)
@@ -98,9 +124,13 @@ inst_effect env Ret v = v
 inst_effect env (TrapIf cmp code) v = v
 inst_effect env (Jal label) v = v
 inst_effect env (CondBr taken not_taken kind) v = v
+inst_effect env (BrTable index tmp1 tmp2 targets) v = v
 inst_effect env (Udf code) v = v
 inst_effect env (Jalr rd base offset) v = set_reg v (number_of rd.reg) env.after
 inst_effect env (Popcnt sum tmp step rs type) v = set_reg v (number_of sum.reg) (ones (bits_of type) (reg v (number_of rs)))
+inst_effect env (Cltz sum tmp step rs leading type) v = set_reg v (number_of sum.reg) (zeros leading (bits_of type) (reg v (number_of rs)))
+inst_effect env (Brev8 rs type step tmp tmp2 rd) v = set_reg v (number_of rd.reg) (reversed_bytes (bits_of type / 8) (reg v (number_of rs)))
+inst_effect env (StackProbeLoop guard_size probe_count tmp) v = zero_bytes v (probes_of (reg v 2) (low_word guard_size) (low_word probe_count))
 
 -- what a line makes of the values
 abbrev pub effect_of : Environment → Line → Values → Values
@@ -125,6 +155,8 @@ inst_writes env (AluRRR op rd rs1 rs2) v = []
 inst_writes env (AluRRImm12 op rd rs imm) v = []
 inst_writes env (Mov rd rm type) v = []
 inst_writes env (MovFromPReg rd rm) v = []
+inst_writes env (Extend rd rn signed from_bits to_bits) v = []
+inst_writes env (Select dst condition x y) v = []
 inst_writes env (Load rd op flags from) v = []
 inst_writes env (Store to op flags src) v = addresses_from (address_of env to v) (store_size op)
 inst_writes env (LoadAddr rd mem) v = []
@@ -133,9 +165,13 @@ inst_writes env Ret v = []
 inst_writes env (TrapIf cmp code) v = []
 inst_writes env (Jal label) v = []
 inst_writes env (CondBr taken not_taken kind) v = []
+inst_writes env (BrTable index tmp1 tmp2 targets) v = []
 inst_writes env (Udf code) v = []
 inst_writes env (Jalr rd base offset) v = []
 inst_writes env (Popcnt sum tmp step rs type) v = []
+inst_writes env (Cltz sum tmp step rs leading type) v = []
+inst_writes env (Brev8 rs type step tmp tmp2 rd) v = []
+inst_writes env (StackProbeLoop guard_size probe_count tmp) v = probes_of (reg v 2) (low_word guard_size) (low_word probe_count)
 
 abbrev pub writes_of : Environment → Line → Values → List ℕ
 writes_of env (Put inst) v = inst_writes env inst v
@@ -163,6 +199,8 @@ inst_temporaries (AluRRR op rd rs1 rs2) = []
 inst_temporaries (AluRRImm12 op rd rs imm) = []
 inst_temporaries (Mov rd rm type) = []
 inst_temporaries (MovFromPReg rd rm) = []
+inst_temporaries (Extend rd rn signed from_bits to_bits) = []
+inst_temporaries (Select dst condition x y) = []
 inst_temporaries (Load rd op flags from) = []
 inst_temporaries (Store to op flags src) = []
 inst_temporaries (LoadAddr rd mem) = []
@@ -171,9 +209,13 @@ inst_temporaries Ret = []
 inst_temporaries (TrapIf cmp code) = []
 inst_temporaries (Jal label) = []
 inst_temporaries (CondBr taken not_taken kind) = []
+inst_temporaries (BrTable index tmp1 tmp2 targets) = number_of tmp1.reg ∷ number_of tmp2.reg ∷ []
 inst_temporaries (Udf code) = []
 inst_temporaries (Jalr rd base offset) = []
 inst_temporaries (Popcnt sum tmp step rs type) = number_of tmp.reg ∷ number_of step.reg ∷ []
+inst_temporaries (Cltz sum tmp step rs leading type) = number_of tmp.reg ∷ number_of step.reg ∷ []
+inst_temporaries (Brev8 rs type step tmp tmp2 rd) = number_of step.reg ∷ number_of tmp.reg ∷ number_of tmp2.reg ∷ []
+inst_temporaries (StackProbeLoop guard_size probe_count tmp) = number_of tmp.reg ∷ []
 
 abbrev pub temporaries_of : Line → List ℕ
 temporaries_of (Put inst) = inst_temporaries inst
@@ -191,9 +233,10 @@ pub data Exit : Type 0 where
   Trap : TrapCode → Exit
   Data : Exit
 
--- whether a comparison of two registers holds
-abbrev pub compares : IntegerCompare → Values → Bool
-compares cmp v = holds cmp.kind (reg v (number_of cmp.rs1)) (reg v (number_of cmp.rs2))
+-- a table's labels are the default, and those of the indices from 0 on
+abbrev pub table_exit : List MachLabel → ℕ → Exit
+table_exit [] index = Next
+table_exit (default ∷ labels) index = To (unwrap_or (slice_get labels index) default).number
 
 abbrev pub target_exit : CondBrTarget → Exit
 target_exit (Label label) = To label.number
@@ -217,6 +260,8 @@ inst_exit env (AluRRR op rd rs1 rs2) v = Next
 inst_exit env (AluRRImm12 op rd rs imm) v = Next
 inst_exit env (Mov rd rm type) v = Next
 inst_exit env (MovFromPReg rd rm) v = Next
+inst_exit env (Extend rd rn signed from_bits to_bits) v = Next
+inst_exit env (Select dst condition x y) v = Next
 inst_exit env (Load rd op flags from) v = Next
 inst_exit env (Store to op flags src) v = Next
 inst_exit env (LoadAddr rd mem) v = Next
@@ -225,9 +270,13 @@ inst_exit env Ret v = Leave (reg v 1 / 2 * 2)
 inst_exit env (TrapIf cmp code) v = if compares cmp v then Trap code else Next
 inst_exit env (Jal label) v = To label.number
 inst_exit env (CondBr taken not_taken kind) v = if compares kind v then target_exit taken else target_exit not_taken
+inst_exit env (BrTable index tmp1 tmp2 targets) v = table_exit targets (low_word (reg v (number_of index)))
 inst_exit env (Udf code) v = Trap code
 inst_exit env (Jalr rd base offset) v = Leave (wrap (reg v (number_of base) + low64 offset.value) / 2 * 2)
 inst_exit env (Popcnt sum tmp step rs type) v = Next
+inst_exit env (Cltz sum tmp step rs leading type) v = Next
+inst_exit env (Brev8 rs type step tmp tmp2 rd) v = Next
+inst_exit env (StackProbeLoop guard_size probe_count tmp) v = Next
 
 -- how a line is left from these values
 abbrev pub exit_of : Environment → Line → Values → Exit

@@ -1,19 +1,20 @@
 -- Lines of one machine word: the operation that stands for them, in sixteen bits where it has such a form.
-use Rattle.std.specs.Prelude.{ℕ, nat_eq, if◌then◌else◌, Option, Some, None, pos}
+use Rattle.std.specs.Prelude.{ℕ, Bool, nat_eq, if◌then◌else◌, Option, Some, None, pos}
 use Rattle.rv_base.specs.Regs.{number_of}
 use Rattle.rv_machine.specs.declared.decoding.Decoded.{Decoded}
 use Rattle.rv_machine.specs.declared.ops.MOp.TheVariants.{Base}
 use Rattle.rv_machine.specs.declared.ops.BaseOp.TheVariants as base
-use Rattle.rv_ops.specs.declared.alu.AluOPRRI.TheVariants.{Addi}
+use Rattle.rv_ops.specs.declared.alu.AluOPRRI.TheVariants.{Addi, Andi}
 use Rattle.rv_ops.specs.declared.memory.LoadOP.{LoadOP}
 use Rattle.rv_ops.specs.declared.memory.StoreOP.{StoreOP}
 use Rattle.rv_base.specs.declared.flags.IsaFlags.{IsaFlags}
 use Rattle.rv_encode.specs.Operations.{row, decoded_rri}
 use Rattle.rv_inst.specs.Addresses.{Location, Based, AtLabel, AtConstant, location_of, is_near}
 use Rattle.rv_inst.specs.Context.{Context}
+use Rattle.rv_inst.specs.Sizes.{is_byte}
 use Rattle.rv_inst.specs.Forms.{short_rrr, short_rri, short_lui, short_jalr, short_ebreak, short_load, short_store}
 use Rattle.rv_inst.specs.declared.inst.Inst.{Inst}
-use Rattle.rv_inst.specs.declared.inst.Inst.TheVariants.{Nop0, Nop4, EBreak, SequencePoint, Args, Rets, DummyUse, EmitIsland, RawData, Lui, Auipc, LoadInlineConst, AluRRR, AluRRImm12, Mov, MovFromPReg, Load, Store, LoadAddr, LabelAddress, Ret, TrapIf, Jal, CondBr, Udf, Jalr, Popcnt}
+use Rattle.rv_inst.specs.declared.inst.Inst.TheVariants.{Nop0, Nop4, EBreak, SequencePoint, Args, Rets, DummyUse, EmitIsland, RawData, Lui, Auipc, LoadInlineConst, AluRRR, AluRRImm12, Mov, MovFromPReg, Extend, Select, Load, Store, LoadAddr, LabelAddress, Ret, TrapIf, Jal, CondBr, BrTable, Udf, Jalr, Popcnt, Cltz, Brev8, StackProbeLoop}
 
 -- a move is addi of 0; there is none to the same register
 abbrev pub move_operation : IsaFlags → ℕ → ℕ → Option Decoded
@@ -35,6 +36,10 @@ store_operation flags op src (Based r o) = if is_near o then Some (short_store f
 store_operation flags op src (AtLabel l) = None
 store_operation flags op src (AtConstant k) = None
 
+-- the low byte, zero-extended, is andi of 255; any other extension takes two shifts
+abbrev pub extend_operation : IsaFlags → ℕ → ℕ → Bool → ℕ → Option Decoded
+extend_operation flags rd rn signed bits = if is_byte signed bits then Some (short_rri flags Andi rd rn (pos 255)) else None
+
 -- what goes to a label has its distance beside it, and is none of these
 abbrev pub operation_of : Context → Inst → Option Decoded
 operation_of context Nop0 = None
@@ -53,6 +58,8 @@ operation_of context (AluRRR op rd rs1 rs2) = Some (short_rrr context.flags op (
 operation_of context (AluRRImm12 op rd rs imm) = Some (short_rri context.flags op (number_of rd.reg) (number_of rs) imm.value)
 operation_of context (Mov rd rm type) = move_operation context.flags (number_of rd.reg) (number_of rm)
 operation_of context (MovFromPReg rd rm) = move_operation context.flags (number_of rd.reg) rm.number
+operation_of context (Extend rd rn signed from_bits to_bits) = extend_operation context.flags (number_of rd.reg) (number_of rn) signed from_bits
+operation_of context (Select dst condition x y) = None
 operation_of context (Load rd op flags from) = load_operation context.flags op (number_of rd.reg) (location_of context.frame from)
 operation_of context (Store to op flags src) = store_operation context.flags op (number_of src) (location_of context.frame to)
 operation_of context (LoadAddr rd mem) = address_operation context.flags (number_of rd.reg) (location_of context.frame mem)
@@ -61,6 +68,10 @@ operation_of context Ret = Some (short_jalr context.flags 0 1 (pos 0))
 operation_of context (TrapIf cmp code) = None
 operation_of context (Jal label) = None
 operation_of context (CondBr taken not_taken kind) = None
+operation_of context (BrTable index tmp1 tmp2 targets) = None
 operation_of context (Udf code) = None
 operation_of context (Jalr rd base offset) = Some (short_jalr context.flags (number_of rd.reg) (number_of base) offset.value)
 operation_of context (Popcnt sum tmp step rs type) = None
+operation_of context (Cltz sum tmp step rs leading type) = None
+operation_of context (Brev8 rs type step tmp tmp2 rd) = None
+operation_of context (StackProbeLoop guard_size probe_count tmp) = None

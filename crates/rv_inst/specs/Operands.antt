@@ -9,10 +9,13 @@ use Rattle.rv_base.specs.declared.call.RetPair.{RetPair}
 use Rattle.rv_base.specs.declared.label.MachLabel.{MachLabel}
 use Rattle.rv_base.specs.declared.regs.Reg.{Reg}
 use Rattle.rv_base.specs.declared.regs.Reg.TheVariants.{Real}
+use Rattle.rv_base.specs.declared.regs.Writable.{Writable}
+use Rattle.rv_base.specs.declared.value_regs.ValueRegs.{ValueRegs}
+use Rattle.rv_base.specs.declared.value_regs.ValueRegs.TheVariants.{One, Two}
 use Rattle.rv_inst.specs.declared.inst.Line.{Line}
 use Rattle.rv_inst.specs.declared.inst.Line.TheVariants.{Inst as Put, Bind}
 use Rattle.rv_inst.specs.declared.inst.Inst.{Inst}
-use Rattle.rv_inst.specs.declared.inst.Inst.TheVariants.{Nop0, Nop4, EBreak, SequencePoint, Args, Rets, DummyUse, EmitIsland, RawData, Lui, Auipc, LoadInlineConst, AluRRR, AluRRImm12, Mov, MovFromPReg, Load, Store, LoadAddr, LabelAddress, Ret, TrapIf, Jal, CondBr, Udf, Jalr, Popcnt}
+use Rattle.rv_inst.specs.declared.inst.Inst.TheVariants.{Nop0, Nop4, EBreak, SequencePoint, Args, Rets, DummyUse, EmitIsland, RawData, Lui, Auipc, LoadInlineConst, AluRRR, AluRRImm12, Mov, MovFromPReg, Extend, Select, Load, Store, LoadAddr, LabelAddress, Ret, TrapIf, Jal, CondBr, BrTable, Udf, Jalr, Popcnt, Cltz, Brev8, StackProbeLoop}
 use Rattle.rv_inst.specs.declared.targets.Targets.{Targets}
 use Rattle.rv_inst.specs.declared.targets.Targets.TheVariants.{Nowhere, Jumps, Branches, Refers, RefersConstant}
 use Rattle.rv_inst.specs.declared.inst.CondBrTarget.{CondBrTarget}
@@ -25,6 +28,16 @@ arg_registers (p ∷ pairs) = p.vreg.reg ∷ p.preg ∷ arg_registers pairs
 abbrev pub ret_registers : List RetPair → List Reg
 ret_registers [] = []
 ret_registers (p ∷ pairs) = p.vreg ∷ p.preg ∷ ret_registers pairs
+
+-- the registers of a value
+abbrev pub all_of : {R : Type 0} → ValueRegs R → List R
+all_of (One r) = r ∷ []
+all_of (Two r s) = r ∷ s ∷ []
+
+-- those that are written
+abbrev pub written_in : ValueRegs (Writable Reg) → List Reg
+written_in (One r) = r.reg ∷ []
+written_in (Two r s) = r.reg ∷ s.reg ∷ []
 
 -- the registers of an instruction
 abbrev pub inst_registers : Inst → List Reg
@@ -44,6 +57,8 @@ inst_registers (AluRRR op rd rs1 rs2) = rd.reg ∷ rs1 ∷ rs2 ∷ []
 inst_registers (AluRRImm12 op rd rs imm) = rd.reg ∷ rs ∷ []
 inst_registers (Mov rd rm type) = rd.reg ∷ rm ∷ []
 inst_registers (MovFromPReg rd rm) = rd.reg ∷ Real rm ∷ []
+inst_registers (Extend rd rn signed from_bits to_bits) = rd.reg ∷ rn ∷ []
+inst_registers (Select dst condition x y) = written_in dst ++ condition.rs1 ∷ condition.rs2 ∷ all_of x ++ all_of y
 inst_registers (Load rd op flags from) = rd.reg ∷ registers_of from
 inst_registers (Store to op flags src) = src ∷ registers_of to
 inst_registers (LoadAddr rd mem) = rd.reg ∷ registers_of mem
@@ -52,9 +67,13 @@ inst_registers Ret = []
 inst_registers (TrapIf cmp code) = cmp.rs1 ∷ cmp.rs2 ∷ []
 inst_registers (Jal label) = []
 inst_registers (CondBr taken not_taken kind) = kind.rs1 ∷ kind.rs2 ∷ []
+inst_registers (BrTable index tmp1 tmp2 targets) = index ∷ tmp1.reg ∷ tmp2.reg ∷ []
 inst_registers (Udf code) = []
 inst_registers (Jalr rd base offset) = rd.reg ∷ base ∷ []
 inst_registers (Popcnt sum tmp step rs type) = sum.reg ∷ tmp.reg ∷ step.reg ∷ rs ∷ []
+inst_registers (Cltz sum tmp step rs leading type) = sum.reg ∷ tmp.reg ∷ step.reg ∷ rs ∷ []
+inst_registers (Brev8 rs type step tmp tmp2 rd) = rs ∷ step.reg ∷ tmp.reg ∷ tmp2.reg ∷ rd.reg ∷ []
+inst_registers (StackProbeLoop guard_size probe_count tmp) = tmp.reg ∷ []
 
 abbrev pub target_labels : CondBrTarget → List MachLabel
 target_labels (Label label) = label ∷ []
@@ -88,6 +107,8 @@ targets_of (AluRRR op rd rs1 rs2) = Nowhere
 targets_of (AluRRImm12 op rd rs imm) = Nowhere
 targets_of (Mov rd rm type) = Nowhere
 targets_of (MovFromPReg rd rm) = Nowhere
+targets_of (Extend rd rn signed from_bits to_bits) = Nowhere
+targets_of (Select dst condition x y) = Nowhere
 targets_of (Load rd op flags from) = address_targets from
 targets_of (Store to op flags src) = address_targets to
 targets_of (LoadAddr rd mem) = address_targets mem
@@ -96,9 +117,49 @@ targets_of Ret = Nowhere
 targets_of (TrapIf cmp code) = Nowhere
 targets_of (Jal label) = Jumps label
 targets_of (CondBr taken not_taken kind) = Branches taken not_taken
+targets_of (BrTable index tmp1 tmp2 targets) = Nowhere
 targets_of (Udf code) = Nowhere
 targets_of (Jalr rd base offset) = Nowhere
 targets_of (Popcnt sum tmp step rs type) = Nowhere
+targets_of (Cltz sum tmp step rs leading type) = Nowhere
+targets_of (Brev8 rs type step tmp tmp2 rd) = Nowhere
+targets_of (StackProbeLoop guard_size probe_count tmp) = Nowhere
+
+-- the labels of an instruction's table, the default first
+abbrev pub table_of : Inst → List MachLabel
+table_of Nop0 = []
+table_of Nop4 = []
+table_of EBreak = []
+table_of SequencePoint = []
+table_of (Args args) = []
+table_of (Rets rets) = []
+table_of (DummyUse reg) = []
+table_of (EmitIsland needed_space) = []
+table_of (RawData bytes) = []
+table_of (Lui rd imm) = []
+table_of (Auipc rd imm) = []
+table_of (LoadInlineConst rd type imm) = []
+table_of (AluRRR op rd rs1 rs2) = []
+table_of (AluRRImm12 op rd rs imm) = []
+table_of (Mov rd rm type) = []
+table_of (MovFromPReg rd rm) = []
+table_of (Extend rd rn signed from_bits to_bits) = []
+table_of (Select dst condition x y) = []
+table_of (Load rd op flags from) = []
+table_of (Store to op flags src) = []
+table_of (LoadAddr rd mem) = []
+table_of (LabelAddress dst label) = []
+table_of Ret = []
+table_of (TrapIf cmp code) = []
+table_of (Jal label) = []
+table_of (CondBr taken not_taken kind) = []
+table_of (BrTable index tmp1 tmp2 targets) = targets
+table_of (Udf code) = []
+table_of (Jalr rd base offset) = []
+table_of (Popcnt sum tmp step rs type) = []
+table_of (Cltz sum tmp step rs leading type) = []
+table_of (Brev8 rs type step tmp tmp2 rd) = []
+table_of (StackProbeLoop guard_size probe_count tmp) = []
 
 abbrev pub labels_of : Targets → List MachLabel
 labels_of Nowhere = []
@@ -129,7 +190,7 @@ inst_constant inst = constant_named (targets_of inst)
 
 -- the labels that an instruction names
 abbrev pub inst_labels : Inst → List MachLabel
-inst_labels inst = labels_of (targets_of inst)
+inst_labels inst = labels_of (targets_of inst) ++ table_of inst
 
 -- the labels to which an instruction goes, maybe by a veneer
 abbrev pub inst_ways : Inst → List MachLabel

@@ -11,6 +11,10 @@ use Rattle.rv_base.specs.declared.regs.Reg.{Reg}
 use Rattle.rv_base.specs.declared.regs.Reg.TheVariants.{Real, Virtual as AVirtual}
 use Rattle.rv_base.specs.declared.regs.RegClass.{RegClass}
 use Rattle.rv_base.specs.declared.regs.RegClass.TheVariants.{Int, Float, Vector}
+use Rattle.rv_base.specs.declared.regs.Writable.{Writable}
+use Rattle.rv_base.specs.declared.value_regs.ValueRegs.{ValueRegs}
+use Rattle.rv_base.specs.declared.value_regs.ValueRegs.TheVariants.{One, Two}
+use Rattle.rv_base.specs.ValueRegs.{count_of}
 use Rattle.rv_base.specs.declared.constant.Constant.{Constant}
 use Rattle.rv_base.specs.declared.constant.VCodeConstant.{VCodeConstant}
 use Rattle.rv_base.specs.AMode.{registers_of, own_offset, base_of}
@@ -21,14 +25,14 @@ use Rattle.rv_ops.specs.Alu.{Upper, Number, Shamt6, Shamt5, Fixed, rri_numbers}
 use Rattle.rv_inst.specs.declared.inst.Line.{Line}
 use Rattle.rv_inst.specs.declared.inst.Line.TheVariants.{Inst as Put, Bind}
 use Rattle.rv_inst.specs.declared.inst.Inst.{Inst}
-use Rattle.rv_inst.specs.declared.inst.Inst.TheVariants.{Nop0, Nop4, EBreak, SequencePoint, Args, Rets, DummyUse, EmitIsland, RawData, Lui, Auipc, LoadInlineConst, AluRRR, AluRRImm12, Mov, MovFromPReg, Load, Store, LoadAddr, LabelAddress, Ret, TrapIf, Jal, CondBr, Udf, Jalr, Popcnt}
+use Rattle.rv_inst.specs.declared.inst.Inst.TheVariants.{Nop0, Nop4, EBreak, SequencePoint, Args, Rets, DummyUse, EmitIsland, RawData, Lui, Auipc, LoadInlineConst, AluRRR, AluRRImm12, Mov, MovFromPReg, Extend, Select, Load, Store, LoadAddr, LabelAddress, Ret, TrapIf, Jal, CondBr, BrTable, Udf, Jalr, Popcnt, Cltz, Brev8, StackProbeLoop}
 use Rattle.rv_inst.specs.declared.inst.CondBrTarget.{CondBrTarget}
 use Rattle.rv_inst.specs.declared.inst.CondBrTarget.TheVariants.{Label as ToLabel, Fallthrough}
 use Rattle.rv_inst.specs.declared.error.Rule.{Rule}
-use Rattle.rv_inst.specs.declared.error.Rule.TheVariants.{Virtual, Class, Reserved, Zero, Clash, BadType, Range, Constant as ConstantRule, NoTarget, Label, DataSize}
+use Rattle.rv_inst.specs.declared.error.Rule.TheVariants.{Virtual, Class, Reserved, Zero, Clash, BadType, Range, Constant as ConstantRule, EmptyTable, NoTarget, Label, DataSize}
 use Rattle.rv_inst.specs.Addresses.{constant_in, is_distant}
 use Rattle.rv_inst.specs.Context.{Context}
-use Rattle.rv_inst.specs.Operands.{inst_registers, inst_labels}
+use Rattle.rv_inst.specs.Operands.{all_of, written_in, inst_registers, inst_labels}
 
 -- ---- registers
 
@@ -90,6 +94,21 @@ abbrev pub is_base : Reg → Option Reg → Bool
 is_base r None = false
 is_base r (Some base) = same_register r base
 
+-- whether values are held in other numbers of registers
+abbrev pub is_uneven : ValueRegs (Writable Reg) → ValueRegs Reg → ValueRegs Reg → Bool
+is_uneven dst x y = not (count_of dst == count_of x && count_of dst == count_of y)
+
+-- whether a result that is chosen is one of the registers that are compared; of two results, whether they are the same, or one of
+-- them is any input
+abbrev pub select_clash : ValueRegs (Writable Reg) → List Reg → List Reg → Bool
+select_clash (One r) compared values = is_one_of r.reg compared
+select_clash (Two r s) compared values = clash (r.reg ∷ s.reg ∷ []) (compared ++ values)
+
+-- sp
+abbrev pub is_stack : Reg → Bool
+is_stack (Real p) = is_int_class p.class && p.number == 2
+is_stack (AVirtual v) = false
+
 -- sp or fp
 abbrev pub is_stack_or_frame : PReg → Bool
 is_stack_or_frame p = is_int_class p.class && (p.number == 2 || p.number == 8)
@@ -147,18 +166,27 @@ is_buffer_label label = nat_le first_inner label.number
 
 -- which of these rules are broken: some register has another class than its place asks; x0 stands where a result is computed in
 -- steps; a register that is written before all are read is another's too; a type isn't taken; a shift amount or a bit's index is
--- beyond the register's width; a branch has nowhere to go where its comparison holds; data has a length that isn't taken
+-- beyond the register's width; a table has no label; a branch has nowhere to go where its comparison holds; data has a length that isn't taken
 pub record Faults : Type 0 where
   pub class : Bool
   pub zeroed : Bool
   pub clashing : Bool
   pub type : Bool
   pub range : Bool
+  pub table : Bool
   pub target : Bool
   pub size : Bool
 
 abbrev pub has_other_class : Bool → Faults
-has_other_class class = record { class = class; zeroed = false; clashing = false; type = false; range = false; target = false; size = false }
+has_other_class class = record { class = class; zeroed = false; clashing = false; type = false; range = false; table = false; target = false; size = false }
+
+-- of a count: a sum and two temporaries, which are written before all of what is counted is read
+abbrev pub count_faults : Writable Reg → Writable Reg → Writable Reg → Reg → IrType → Faults
+count_faults sum tmp step rs type = record (has_other_class (list_any is_other_class (sum.reg ∷ tmp.reg ∷ step.reg ∷ rs ∷ []))) {
+  zeroed = list_any is_zero (sum.reg ∷ tmp.reg ∷ step.reg ∷ []);
+  clashing = clash (sum.reg ∷ tmp.reg ∷ step.reg ∷ []) (rs ∷ []);
+  type = not (is_int_type type);
+}
 
 -- A register's place asks the class Int, but the two of a pair or of a move have one class. A move of an integer register
 -- has an integer type of at most 64 bits; of other registers none is built. Data has four or eight bytes.
@@ -179,6 +207,8 @@ faults_of (AluRRR op rd rs1 rs2) = has_other_class (list_any is_other_class (rd.
 faults_of (AluRRImm12 op rd rs imm) = record (has_other_class (list_any is_other_class (rd.reg ∷ rs ∷ []))) { range = is_beyond (shift_limit (rri_numbers op).number) imm.value }
 faults_of (Mov rd rm type) = record (has_other_class (differ_in_class rd.reg rm)) { type = not (is_int_class (class_of rm) && is_int_type type) }
 faults_of (MovFromPReg rd rm) = has_other_class (is_other_class rd.reg || not (is_stack_or_frame rm))
+faults_of (Extend rd rn signed from_bits to_bits) = record (has_other_class (list_any is_other_class (rd.reg ∷ rn ∷ []))) { range = not (nat_le 1 from_bits && nat_le from_bits 64) }
+faults_of (Select dst condition x y) = record (has_other_class (list_any is_other_class (written_in dst ++ condition.rs1 ∷ condition.rs2 ∷ all_of x ++ all_of y))) { clashing = is_uneven dst x y || select_clash dst (condition.rs1 ∷ condition.rs2 ∷ []) (all_of x ++ all_of y) }
 faults_of (Load rd op flags from) = record (has_other_class (list_any is_other_class (rd.reg ∷ registers_of from))) { zeroed = is_none (base_of from) && is_zero rd.reg; range = is_distant (own_offset from) }
 faults_of (Store to op flags src) = record (has_other_class (list_any is_other_class (src ∷ registers_of to))) { range = is_distant (own_offset to) }
 faults_of (LoadAddr rd mem) = record (has_other_class (list_any is_other_class (rd.reg ∷ registers_of mem))) { zeroed = is_zero rd.reg; clashing = is_base rd.reg (base_of mem); range = is_distant (own_offset mem) }
@@ -187,13 +217,21 @@ faults_of Ret = has_other_class false
 faults_of (TrapIf cmp code) = has_other_class (list_any is_other_class (cmp.rs1 ∷ cmp.rs2 ∷ []))
 faults_of (Jal label) = has_other_class false
 faults_of (CondBr taken not_taken kind) = record (has_other_class (list_any is_other_class (kind.rs1 ∷ kind.rs2 ∷ []))) { target = is_fallthrough taken }
+faults_of (BrTable index tmp1 tmp2 targets) = record (has_other_class (list_any is_other_class (index ∷ tmp1.reg ∷ tmp2.reg ∷ []))) {
+  zeroed = list_any is_zero (tmp1.reg ∷ tmp2.reg ∷ []);
+  clashing = clash (tmp1.reg ∷ tmp2.reg ∷ []) (index ∷ []);
+  table = length targets == 0;
+}
 faults_of (Udf code) = has_other_class false
 faults_of (Jalr rd base offset) = has_other_class (list_any is_other_class (rd.reg ∷ base ∷ []))
-faults_of (Popcnt sum tmp step rs type) = record (has_other_class (list_any is_other_class (sum.reg ∷ tmp.reg ∷ step.reg ∷ rs ∷ []))) {
-  zeroed = list_any is_zero (sum.reg ∷ tmp.reg ∷ step.reg ∷ []);
-  clashing = clash (sum.reg ∷ tmp.reg ∷ step.reg ∷ []) (rs ∷ []);
+faults_of (Popcnt sum tmp step rs type) = count_faults sum tmp step rs type
+faults_of (Cltz sum tmp step rs leading type) = count_faults sum tmp step rs type
+faults_of (Brev8 rs type step tmp tmp2 rd) = record (has_other_class (list_any is_other_class (rs ∷ step.reg ∷ tmp.reg ∷ tmp2.reg ∷ rd.reg ∷ []))) {
+  zeroed = list_any is_zero (rd.reg ∷ tmp.reg ∷ tmp2.reg ∷ step.reg ∷ []);
+  clashing = clash (rd.reg ∷ tmp.reg ∷ tmp2.reg ∷ step.reg ∷ []) (rs ∷ []);
   type = not (is_int_type type);
 }
+faults_of (StackProbeLoop guard_size probe_count tmp) = record (has_other_class (list_any is_other_class (tmp.reg ∷ []))) { zeroed = list_any is_zero (tmp.reg ∷ []); clashing = is_stack tmp.reg }
 
 abbrev pub is_misplaced : Inst → Bool
 is_misplaced inst = (faults_of inst).class
@@ -209,6 +247,9 @@ has_bad_type inst = (faults_of inst).type
 
 abbrev pub is_out_of_range : Inst → Bool
 is_out_of_range inst = (faults_of inst).range
+
+abbrev pub has_empty_table : Inst → Bool
+has_empty_table inst = (faults_of inst).table
 
 abbrev pub lacks_target : Inst → Bool
 lacks_target inst = (faults_of inst).target
@@ -245,6 +286,8 @@ lacks_constant constants (AluRRR op rd rs1 rs2) = false
 lacks_constant constants (AluRRImm12 op rd rs imm) = false
 lacks_constant constants (Mov rd rm type) = false
 lacks_constant constants (MovFromPReg rd rm) = false
+lacks_constant constants (Extend rd rn signed from_bits to_bits) = false
+lacks_constant constants (Select dst condition x y) = false
 lacks_constant constants (Load rd op flags from) = lacks_bytes constants (load_size op) (constant_in from)
 lacks_constant constants (Store to op flags src) = lacks_bytes constants 0 (constant_in to)
 lacks_constant constants (LoadAddr rd mem) = lacks_bytes constants 0 (constant_in mem)
@@ -253,14 +296,18 @@ lacks_constant constants Ret = false
 lacks_constant constants (TrapIf cmp code) = false
 lacks_constant constants (Jal label) = false
 lacks_constant constants (CondBr taken not_taken kind) = false
+lacks_constant constants (BrTable index tmp1 tmp2 targets) = false
 lacks_constant constants (Udf code) = false
 lacks_constant constants (Jalr rd base offset) = false
 lacks_constant constants (Popcnt sum tmp step rs type) = false
+lacks_constant constants (Cltz sum tmp step rs leading type) = false
+lacks_constant constants (Brev8 rs type step tmp tmp2 rd) = false
+lacks_constant constants (StackProbeLoop guard_size probe_count tmp) = false
 
 -- ---- the rules in their order
 
 unfoldable pub every_rule : List Rule
-every_rule = Virtual ∷ Class ∷ Reserved ∷ Zero ∷ Clash ∷ BadType ∷ Range ∷ ConstantRule ∷ NoTarget ∷ Label ∷ DataSize ∷ []
+every_rule = Virtual ∷ Class ∷ Reserved ∷ Zero ∷ Clash ∷ BadType ∷ Range ∷ ConstantRule ∷ EmptyTable ∷ NoTarget ∷ Label ∷ DataSize ∷ []
 
 -- whether an instruction breaks a rule, in its context
 abbrev pub breaks : Context → Inst → Rule → Bool
@@ -272,6 +319,7 @@ breaks context inst Clash = has_clash inst
 breaks context inst BadType = has_bad_type inst
 breaks context inst Range = is_out_of_range inst
 breaks context inst ConstantRule = lacks_constant context.constants inst
+breaks context inst EmptyTable = has_empty_table inst
 breaks context inst NoTarget = lacks_target inst
 breaks context inst Label = list_any is_buffer_label (inst_labels inst)
 breaks context inst DataSize = has_bad_size inst

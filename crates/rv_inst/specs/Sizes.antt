@@ -1,24 +1,36 @@
 -- How many bytes an instruction puts, and how many it counts for.
-use Rattle.std.specs.Prelude.{ℕ, ◌+◌, ◌-◌, ◌/◌, length, nat_eq, if◌then◌else◌, Option, Some, None, unwrap_or, pos, negsuc}
+use Rattle.std.specs.Prelude.{ℕ, ◌+◌, ◌-◌, ◌/◌, length, nat_eq, if◌then◌else◌, Option, Some, None, pos, negsuc, ◌*◌, ◌==◌, Bool, true, false, not, ◌&&◌, List, [], ◌∷◌, map, ℤ}
+use Rattle.std.specs.Int.{cast_signed, w64}
 use Rattle.rv_base.specs.IrType.{bits_of}
 use Rattle.rv_base.specs.Regs.{number_of}
+use Rattle.rv_base.specs.declared.regs.Reg.{Reg}
+use Rattle.rv_base.specs.declared.regs.Writable.{Writable}
+use Rattle.rv_base.specs.declared.value_regs.ValueRegs.{ValueRegs}
 use Rattle.rv_base.specs.declared.flags.IsaFlags.{IsaFlags}
 use Rattle.rv_ops.specs.declared.alu.AluOPRRR.TheVariants as rrr
+use Rattle.rv_ops.specs.declared.alu.AluOPRRI.{AluOPRRI}
 use Rattle.rv_ops.specs.declared.alu.AluOPRRI.TheVariants as rri
-use Rattle.rv_inst.specs.Addresses.{location_of, inline_size, address_size, load_size_at, store_size_at}
-use Rattle.rv_inst.specs.Forms.{short_rrr, short_rri, short_lui, short_jalr, short_ebreak, jump_size}
+use Rattle.rv_ops.specs.declared.memory.StoreOP.TheVariants.{Sb}
+use Rattle.rv_machine.specs.State.{low64}
+use Rattle.rv_machine.specs.Arithmetic.{low_word}
+use Rattle.rv_inst.specs.Addresses.{location_of, is_splittable, inline_size, far_size, address_size, load_size_at, store_size_at}
+use Rattle.rv_inst.specs.Forms.{short_rrr, short_rri, short_lui, short_jalr, short_ebreak, short_store, jump_size}
+use Rattle.rv_inst.specs.Immediates.{upper_of, lower_of}
+use Rattle.rv_inst.specs.Operands.{all_of, written_in}
 use Rattle.rv_inst.specs.Context.{Context}
 use Rattle.rv_inst.specs.declared.inst.Line.{Line}
 use Rattle.rv_inst.specs.declared.inst.Line.TheVariants.{Inst as Put, Bind}
 use Rattle.rv_inst.specs.declared.inst.Inst.{Inst}
-use Rattle.rv_inst.specs.declared.inst.Inst.TheVariants.{Nop0, Nop4, EBreak, SequencePoint, Args, Rets, DummyUse, EmitIsland, RawData, Lui, Auipc, LoadInlineConst, AluRRR, AluRRImm12, Mov, MovFromPReg, Load, Store, LoadAddr, LabelAddress, Ret, TrapIf, Jal, CondBr, Udf, Jalr, Popcnt}
+use Rattle.rv_inst.specs.declared.inst.Inst.TheVariants.{Nop0, Nop4, EBreak, SequencePoint, Args, Rets, DummyUse, EmitIsland, RawData, Lui, Auipc, LoadInlineConst, AluRRR, AluRRImm12, Mov, MovFromPReg, Extend, Select, Load, Store, LoadAddr, LabelAddress, Ret, TrapIf, Jal, CondBr, BrTable, Udf, Jalr, Popcnt, Cltz, Brev8, StackProbeLoop}
 use Rattle.rv_inst.specs.declared.inst.CondBrTarget.{CondBrTarget}
 use Rattle.rv_inst.specs.declared.inst.CondBrTarget.TheVariants.{Label, Fallthrough}
 
--- what an instruction puts: so many bytes of its own, or an island where one is needed before so many bytes
+-- what an instruction puts: so many bytes of its own; an island where one is needed before so many bytes; or, of a branch by a
+-- table of so many labels, an island where one is needed before it, and then so many bytes of its own
 pub data Extent : Type 0 where
   Words : ℕ → Extent
   Island : ℕ → Extent
+  Table : ℕ → ℕ → Extent
 
 -- addi of 0; a move to the same register has no instruction
 abbrev pub move_size : IsaFlags → ℕ → ℕ → ℕ
@@ -49,6 +61,95 @@ count_size flags sum tmp step rs bits =
     + (short_rri flags rri.Srli tmp tmp (pos 1)).len
     + jump_size flags
 
+-- the low byte, zero-extended
+abbrev pub is_byte : Bool → ℕ → Bool
+is_byte signed bits = not signed && bits == 8
+
+-- a shift to the right, arithmetic or logical
+abbrev pub right_shift : Bool → AluOPRRI
+right_shift true = rri.Srai
+right_shift false = rri.Srli
+
+-- Low bits are extended by a shift to the left, and one back; a byte is zero-extended by andi.
+abbrev pub extend_size : IsaFlags → ℕ → ℕ → Bool → ℕ → ℕ
+extend_size flags rd rn signed bits =
+    if is_byte signed bits then (short_rri flags rri.Andi rd rn (pos 255)).len else
+    (short_rri flags rri.Slli rd rn (pos (64 - bits))).len + (short_rri flags (right_shift signed) rd rd (pos (64 - bits))).len
+
+-- moves of registers, each to its own
+abbrev pub moves_size : IsaFlags → List ℕ → List ℕ → ℕ
+moves_size flags [] sources = 0
+moves_size flags (rd ∷ rds) [] = 0
+moves_size flags (rd ∷ rds) (rs ∷ sources) = move_size flags rd rs + moves_size flags rds sources
+
+-- Of two values one is moved, and then the other, unless a branch leads over it.
+abbrev pub select_size : IsaFlags → ValueRegs (Writable Reg) → ValueRegs Reg → ValueRegs Reg → ℕ
+select_size flags dst x y = moves_size flags (map number_of (written_in dst)) (map number_of (all_of x)) + 4 + moves_size flags (map number_of (written_in dst)) (map number_of (all_of y))
+
+-- the shift by which a bit moves on, to the one below or to the one above
+abbrev pub bit_shift : Bool → AluOPRRI
+bit_shift true = rri.Srli
+bit_shift false = rri.Slli
+
+-- The zeros of so many bits are counted in a loop: the three or four instructions before it, and the seven of which it consists.
+abbrev pub zeros_size : IsaFlags → Bool → ℕ → ℕ → ℕ → ℕ → ℕ → ℕ
+zeros_size flags leading sum tmp step rs bits =
+    (short_rri flags rri.Addi sum 0 (pos 0)).len
+    + (short_rri flags rri.Addi step 0 (pos bits)).len
+    + (short_rri flags rri.Addi tmp 0 (pos 1)).len
+    + (if leading then (short_rri flags rri.Slli tmp tmp (pos (bits - 1))).len else 0)
+    + 4
+    + (short_rrr flags rrr.And 30 tmp rs).len
+    + 4
+    + (short_rri flags rri.Addi sum sum (pos 1)).len
+    + (short_rri flags rri.Addi step step (negsuc 0)).len
+    + (short_rri flags (bit_shift leading) tmp tmp (pos 1)).len
+    + jump_size flags
+
+-- The bits of bytes are reversed in a loop: the six instructions before it, and the thirteen of which it consists.
+abbrev pub reverse_size : IsaFlags → ℕ → ℕ → ℕ → ℕ → ℕ → ℕ → ℕ
+reverse_size flags rd tmp tmp2 step rs bits =
+    (short_rri flags rri.Addi rd 0 (pos 0)).len
+    + (short_rri flags rri.Addi step 0 (pos bits)).len
+    + (short_rri flags rri.Addi tmp 0 (pos 1)).len
+    + (short_rri flags rri.Slli tmp tmp (pos (bits - 1))).len
+    + (short_rri flags rri.Addi tmp2 0 (pos 1)).len
+    + (short_rri flags rri.Slli tmp2 tmp2 (pos (bits - 8))).len
+    + 4
+    + (short_rrr flags rrr.And 30 tmp rs).len
+    + 4
+    + (short_rrr flags rrr.Or rd rd tmp2).len
+    + (short_rri flags rri.Addi step step (negsuc 0)).len
+    + (short_rri flags rri.Srli tmp tmp (pos 1)).len
+    + (short_rri flags rri.Addi 30 0 (pos 8)).len
+    + (short_rrr flags rrr.Rem 30 step 30).len
+    + 4
+    + (short_rri flags rri.Srli tmp2 tmp2 (pos 15)).len
+    + jump_size flags
+    + (short_rri flags rri.Slli tmp2 tmp2 (pos 1)).len
+    + jump_size flags
+
+-- A number of 64 bits is put into a register by lui and addi, or by one of them where the other's part is 0; any other stands among
+-- the code.
+abbrev pub number_size : IsaFlags → ℕ → ℤ → ℕ
+number_size flags rd z = if is_splittable z && low64 (upper_of z) == 0 then (short_rri flags rri.Addi rd 0 (lower_of z)).len else far_size flags rd z
+
+-- A stack is probed in a loop: the two numbers before it, and the five instructions of which it consists.
+abbrev pub probe_size : IsaFlags → ℕ → ℕ → ℕ → ℕ
+probe_size flags tmp guard count =
+    number_size flags 31 (cast_signed w64 (guard * count))
+    + number_size flags tmp (pos guard)
+    + 4
+    + (short_rrr flags rrr.Sub 30 2 31).len
+    + (short_store flags Sb 30 0 (pos 0)).len
+    + (short_rrr flags rrr.Sub 31 31 tmp).len
+    + jump_size flags
+
+-- The index is extended to 64 bits, and compared with how many labels there are beside the default; then comes a jump to the
+-- default in 8 bytes, a jump into the table in 16, and the table, a jump in 8 bytes for each of the others.
+abbrev pub table_size : IsaFlags → ℕ → ℕ → ℕ → ℕ
+table_size flags index tmp2 labels = extend_size flags 31 index false 32 + number_size flags tmp2 (pos (labels - 1)) + 4 + 8 + 16 + 8 * (labels - 1)
+
 -- A trap where a comparison holds is a branch over a trap. What a label's or a constant's address is taken by, and auipc, have
 -- no forms of sixteen bits.
 abbrev pub extent_of : Context → Inst → Extent
@@ -68,6 +169,8 @@ extent_of context (AluRRR op rd rs1 rs2) = Words (short_rrr context.flags op (nu
 extent_of context (AluRRImm12 op rd rs imm) = Words (short_rri context.flags op (number_of rd.reg) (number_of rs) imm.value).len
 extent_of context (Mov rd rm type) = Words (move_size context.flags (number_of rd.reg) (number_of rm))
 extent_of context (MovFromPReg rd rm) = Words (move_size context.flags (number_of rd.reg) rm.number)
+extent_of context (Extend rd rn signed from_bits to_bits) = Words (extend_size context.flags (number_of rd.reg) (number_of rn) signed from_bits)
+extent_of context (Select dst condition x y) = Words (select_size context.flags dst x y)
 extent_of context (Load rd op flags from) = Words (load_size_at context.flags op (number_of rd.reg) (location_of context.frame from))
 extent_of context (Store to op flags src) = Words (store_size_at context.flags op (number_of src) (location_of context.frame to))
 extent_of context (LoadAddr rd mem) = Words (address_size context.flags (number_of rd.reg) (location_of context.frame mem))
@@ -76,26 +179,47 @@ extent_of context Ret = Words (short_jalr context.flags 0 1 (pos 0)).len
 extent_of context (TrapIf cmp code) = Words (4 + trap_size context.flags)
 extent_of context (Jal label) = Words (jump_size context.flags)
 extent_of context (CondBr taken not_taken kind) = Words (branch_size context.flags taken not_taken)
+extent_of context (BrTable index tmp1 tmp2 targets) = Table (length targets) (table_size context.flags (number_of index) (number_of tmp2.reg) (length targets))
 extent_of context (Udf code) = Words (trap_size context.flags)
 extent_of context (Jalr rd base offset) = Words (short_jalr context.flags (number_of rd.reg) (number_of base) offset.value).len
 extent_of context (Popcnt sum tmp step rs type) = Words (count_size context.flags (number_of sum.reg) (number_of tmp.reg) (number_of step.reg) (number_of rs) (bits_of type))
+extent_of context (Cltz sum tmp step rs leading type) = Words (zeros_size context.flags leading (number_of sum.reg) (number_of tmp.reg) (number_of step.reg) (number_of rs) (bits_of type))
+extent_of context (Brev8 rs type step tmp tmp2 rd) = Words (reverse_size context.flags (number_of rd.reg) (number_of tmp.reg) (number_of tmp2.reg) (number_of step.reg) (number_of rs) (bits_of type))
+extent_of context (StackProbeLoop guard_size probe_count tmp) = Words (probe_size context.flags (number_of tmp.reg) (low_word guard_size) (low_word probe_count))
+
+-- before a branch by a table: twelve words of four bytes, and two for each label beside the default
+abbrev pub table_space : ℕ → ℕ
+table_space labels = 4 * (12 + 2 * (labels - 1))
 
 abbrev pub space_in : Extent → Option ℕ
 space_in (Words size) = None
 space_in (Island space) = Some space
+space_in (Table labels size) = Some (table_space labels)
+
+-- how many bytes of its own it puts
+abbrev pub words_in : Extent → ℕ
+words_in (Words size) = size
+words_in (Island space) = 0
+words_in (Table labels size) = size
+
+-- what it counts for beside 128 bytes
+abbrev pub extra_in : Extent → ℕ
+extra_in (Words size) = 0
+extra_in (Island space) = space
+extra_in (Table labels size) = 8 * labels
 
 -- how many bytes an instruction asks for an island before, where it does
 abbrev pub island_space : Context → Inst → Option ℕ
 island_space context inst = space_in (extent_of context inst)
 
--- Before each line an island is put where one is needed before so many bytes: no line's own code is longer than 84, and a
--- jump over an island takes four.
+-- Before each line an island is put where one is needed before so many bytes: but for a branch by a table, no line's own code is
+-- longer than 84, and a jump over an island takes four.
 abbrev pub line_space : ℕ
 line_space = 88
 
--- what an instruction counts for, in bytes: 128, and those before which it asks for an island
+-- what an instruction counts for, in bytes: 128, those before which an island is asked for, and 8 for each label of a table
 abbrev pub inst_sum : Context → Inst → ℕ
-inst_sum context inst = 128 + unwrap_or (island_space context inst) 0
+inst_sum context inst = 128 + extra_in (extent_of context inst)
 
 -- what a line counts for; a bind like an instruction
 abbrev pub line_sum : Context → Line → ℕ

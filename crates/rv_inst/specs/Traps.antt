@@ -5,7 +5,7 @@ use Rattle.rv_base.specs.Regs.{number_of}
 use Rattle.rv_inst.specs.Addresses.{location_of, load_own_size, store_own_size}
 use Rattle.rv_inst.specs.Context.{Context}
 use Rattle.rv_inst.specs.declared.inst.Inst.{Inst}
-use Rattle.rv_inst.specs.declared.inst.Inst.TheVariants.{Nop0, Nop4, EBreak, SequencePoint, Args, Rets, DummyUse, EmitIsland, RawData, Lui, Auipc, LoadInlineConst, AluRRR, AluRRImm12, Mov, MovFromPReg, Load, Store, LoadAddr, LabelAddress, Ret, TrapIf, Jal, CondBr, Udf, Jalr, Popcnt}
+use Rattle.rv_inst.specs.declared.inst.Inst.TheVariants.{Nop0, Nop4, EBreak, SequencePoint, Args, Rets, DummyUse, EmitIsland, RawData, Lui, Auipc, LoadInlineConst, AluRRR, AluRRImm12, Mov, MovFromPReg, Extend, Select, Load, Store, LoadAddr, LabelAddress, Ret, TrapIf, Jal, CondBr, BrTable, Udf, Jalr, Popcnt, Cltz, Brev8, StackProbeLoop}
 use Rattle.mach_buffer.specs.declared.records.MachTrap.{MachTrap}
 
 -- the trap of an access, where it may trap, at the offset of its own instruction
@@ -31,6 +31,8 @@ inst_traps context start end (AluRRR op rd rs1 rs2) = []
 inst_traps context start end (AluRRImm12 op rd rs imm) = []
 inst_traps context start end (Mov rd rm type) = []
 inst_traps context start end (MovFromPReg rd rm) = []
+inst_traps context start end (Extend rd rn signed from_bits to_bits) = []
+inst_traps context start end (Select dst condition x y) = []
 inst_traps context start end (Load rd op flags from) = access_traps (end - load_own_size context.flags op (number_of rd.reg) (location_of context.frame from)) flags.trap
 inst_traps context start end (Store to op flags src) = access_traps (end - store_own_size context.flags op (number_of src) (location_of context.frame to)) flags.trap
 inst_traps context start end (LoadAddr rd mem) = []
@@ -39,9 +41,13 @@ inst_traps context start end Ret = []
 inst_traps context start end (TrapIf cmp code) = record { offset = start + 4; code = code } ∷ []
 inst_traps context start end (Jal label) = []
 inst_traps context start end (CondBr taken not_taken kind) = []
+inst_traps context start end (BrTable index tmp1 tmp2 targets) = []
 inst_traps context start end (Udf code) = record { offset = start; code = code } ∷ []
 inst_traps context start end (Jalr rd base offset) = []
 inst_traps context start end (Popcnt sum tmp step rs type) = []
+inst_traps context start end (Cltz sum tmp step rs leading type) = []
+inst_traps context start end (Brev8 rs type step tmp tmp2 rd) = []
+inst_traps context start end (StackProbeLoop guard_size probe_count tmp) = []
 
 -- a trap of a cause is recorded at an offset
 pub record IsRecorded (traps : List MachTrap) (at : ℕ) (code : TrapCode) : Type 0 where

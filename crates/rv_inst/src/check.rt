@@ -3,7 +3,7 @@
 ghost use Rattle.std.specs.Prelude.{◌≡◌, ◌++◌};
 ghost use Rattle.rv_inst.specs.Rules.{is_buffer_label, is_misplaced, has_bad_type, is_out_of_range, lacks_target, is_fallthrough, every_rule, breaks, inst_rule, broken_rule};
 ghost use Rattle.std.specs.List.{list_any, find};
-ghost use Rattle.rv_inst.specs.Operands.{inst_labels, target_labels};
+ghost use Rattle.rv_inst.specs.Operands.{inst_labels, labels_of, target_labels, targets_of};
 ghost use Rattle.rv_inst.specs.Context.{context_by};
 
 use crate::addresses::lacks_constant;
@@ -11,14 +11,14 @@ use crate::clashes::{has_clash, has_zero};
 use crate::error::Rule;
 use crate::inst::{CondBrTarget, Inst, Line};
 use crate::places::is_misplaced;
-use crate::ranges::{has_bad_size, has_bad_type, is_out_of_range};
+use crate::ranges::{has_bad_size, has_bad_type, has_empty_table, is_out_of_range};
 use crate::registers::{RegisterTest, has_register};
 use crate::targets::Targets;
 use mach_labels::FIRST_INNER;
 use rv_base::{Constant, FrameLayout, IsaFlags, MachLabel};
 
 /// The rules, in the order in which a line is checked.
-const EVERY_RULE: [Rule; 11] = [
+const EVERY_RULE: [Rule; 12] = [
     Rule::Virtual,
     Rule::Class,
     Rule::Reserved,
@@ -27,6 +27,7 @@ const EVERY_RULE: [Rule; 11] = [
     Rule::BadType,
     Rule::Range,
     Rule::Constant,
+    Rule::EmptyTable,
     Rule::NoTarget,
     Rule::Label,
     Rule::DataSize,
@@ -104,6 +105,7 @@ impl Inst {
             Rule::BadType => has_bad_type(self),
             Rule::Range => is_out_of_range(self),
             Rule::Constant => lacks_constant(self, constants),
+            Rule::EmptyTable => has_empty_table(self),
             Rule::NoTarget => lacks_target(self),
             Rule::Label => has_inner_label(self),
             Rule::DataSize => has_bad_size(self),
@@ -155,8 +157,20 @@ fn has_inner_target(taken: CondBrTarget, not_taken: CondBrTarget) -> bool
     is_inner_target(taken) || is_inner_target(not_taken)
 }
 
+fn any_is_inner(labels: &[MachLabel]) -> bool
+    ensures { result ≡ list_any is_buffer_label labels.now }
+{
+    labels.iter().any(|label| is_buffer_label(*label))
+}
+
 fn has_inner_label(inst: &Inst) -> bool
     ensures { result ≡ list_any is_buffer_label (inst_labels inst.now) }
+{
+    names_inner(inst) || any_is_inner(inst.table())
+}
+
+fn names_inner(inst: &Inst) -> bool
+    ensures { result ≡ list_any is_buffer_label (labels_of (targets_of inst.now)) }
 {
     match inst.targets() {
         Targets::Nowhere | Targets::RefersConstant(_) => false,

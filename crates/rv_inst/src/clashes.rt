@@ -1,11 +1,13 @@
 //! Whether an instruction that computes in steps has a register of its own for each.
 
-ghost use Rattle.std.specs.Prelude.{◌≡◌, [], ◌∷◌};
+ghost use Rattle.std.specs.Prelude.{◌≡◌, [], ◌∷◌, ◌++◌};
 ghost use Rattle.std.specs.List.{list_any};
-ghost use Rattle.rv_inst.specs.Rules.{is_zero, same_class, same_register, is_base, is_one_of, clash, has_zero, has_clash};
+ghost use Rattle.rv_inst.specs.Operands.{all_of};
+ghost use Rattle.rv_inst.specs.Rules.{is_zero, same_class, same_register, is_base, is_one_of, clash, is_uneven, select_clash, is_stack, has_zero, has_clash};
 
 use crate::inst::Inst;
-use rv_base::{Reg, RegClass};
+use rv_base::{Reg, RegClass, ValueRegs, WritableReg};
+use rv_ops::IntegerCompare;
 
 fn is_zero(reg: Reg) -> bool
     ensures { result ≡ is_zero reg }
@@ -61,6 +63,13 @@ fn any_is_zero(registers: &[Reg]) -> bool
     registers.iter().any(|r| is_zero(*r))
 }
 
+/// Two registers that are written while one is still read.
+fn two_clash(first: Reg, second: Reg, input: Reg) -> bool
+    ensures { result ≡ clash (first ∷ second ∷ []) (input ∷ []) }
+{
+    is_one_of(first, &[second, input]) || is_one_of(second, &[input])
+}
+
 /// Three registers that are written while one is still read.
 fn three_clash(first: Reg, second: Reg, third: Reg, input: Reg) -> bool
     ensures { result ≡ clash (first ∷ second ∷ third ∷ []) (input ∷ []) }
@@ -68,6 +77,73 @@ fn three_clash(first: Reg, second: Reg, third: Reg, input: Reg) -> bool
     is_one_of(first, &[second, third, input])
         || is_one_of(second, &[third, input])
         || is_one_of(third, &[input])
+}
+
+/// Four registers that are written while one is still read.
+fn four_clash(first: Reg, second: Reg, third: Reg, fourth: Reg, input: Reg) -> bool
+    ensures { result ≡ clash (first ∷ second ∷ third ∷ fourth ∷ []) (input ∷ []) }
+{
+    is_one_of(first, &[second, third, fourth, input]) || three_clash(second, third, fourth, input)
+}
+
+/// Returns whether values are held in other numbers of registers.
+fn is_uneven(dst: ValueRegs<WritableReg>, x: ValueRegs<Reg>, y: ValueRegs<Reg>) -> bool
+    ensures { result ≡ is_uneven dst x y }
+{
+    !(dst.len() == x.len() && dst.len() == y.len())
+}
+
+fn value_is(reg: Reg, value: ValueRegs<Reg>) -> bool
+    ensures { result ≡ is_one_of reg (all_of value) }
+{
+    match value {
+        ValueRegs::One(r) => is_one_of(reg, &[r]),
+        ValueRegs::Two(r, s) => is_one_of(reg, &[r, s]),
+    }
+}
+
+fn is_either(reg: Reg, x: ValueRegs<Reg>, y: ValueRegs<Reg>) -> bool
+    ensures { result ≡ is_one_of reg (all_of x ++ all_of y) }
+{
+    value_is(reg, x) || value_is(reg, y)
+}
+
+/// Returns whether a register is read by a choice.
+fn is_chosen_by(reg: Reg, condition: IntegerCompare, x: ValueRegs<Reg>, y: ValueRegs<Reg>) -> bool
+    ensures { result ≡ is_one_of reg ((condition.rs1 ∷ condition.rs2 ∷ []) ++ (all_of x ++ all_of y)) }
+{
+    same_register(reg, condition.rs1) || same_register(reg, condition.rs2) || is_either(reg, x, y)
+}
+
+/// Returns whether a result that is chosen is a compared register; of two results, whether they clash.
+fn select_clash(
+    dst: ValueRegs<WritableReg>,
+    condition: IntegerCompare,
+    x: ValueRegs<Reg>,
+    y: ValueRegs<Reg>,
+) -> bool
+    ensures { result ≡ select_clash dst (condition.rs1 ∷ condition.rs2 ∷ []) (all_of x ++ all_of y) }
+{
+    match dst {
+        ValueRegs::One(r) => is_one_of(r.reg, &[condition.rs1, condition.rs2]),
+        ValueRegs::Two(r, s) => {
+            same_register(r.reg, s.reg)
+                || is_chosen_by(r.reg, condition, x, y)
+                || is_chosen_by(s.reg, condition, x, y)
+        }
+    }
+}
+
+fn is_stack(reg: Reg) -> bool
+    ensures { result ≡ is_stack reg }
+{
+    match reg {
+        Reg::Real(real) => match real.class {
+            RegClass::Int => real.number == 2,
+            RegClass::Float | RegClass::Vector => false,
+        },
+        Reg::Virtual(_) => false,
+    }
 }
 
 /// Returns whether x0 stands where a result is computed in steps.
@@ -84,6 +160,12 @@ pub fn has_zero(inst: &Inst) -> bool
         } => from.get_base_register().is_none() && is_zero(rd.reg),
         Inst::LoadAddr { rd, mem: _ } => is_zero(rd.reg),
         Inst::LabelAddress { dst, label: _ } => any_is_zero(&[dst.reg]),
+        Inst::BrTable {
+            index: _,
+            tmp1,
+            tmp2,
+            targets: _,
+        } => any_is_zero(&[tmp1.reg, tmp2.reg]),
         Inst::Popcnt {
             sum,
             tmp,
@@ -91,6 +173,27 @@ pub fn has_zero(inst: &Inst) -> bool
             rs: _,
             ty: _,
         } => any_is_zero(&[sum.reg, tmp.reg, step.reg]),
+        Inst::Cltz {
+            sum,
+            tmp,
+            step,
+            rs: _,
+            leading: _,
+            ty: _,
+        } => any_is_zero(&[sum.reg, tmp.reg, step.reg]),
+        Inst::Brev8 {
+            rs: _,
+            ty: _,
+            step,
+            tmp,
+            tmp2,
+            rd,
+        } => any_is_zero(&[rd.reg, tmp.reg, tmp2.reg, step.reg]),
+        Inst::StackProbeLoop {
+            guard_size: _,
+            probe_count: _,
+            tmp,
+        } => any_is_zero(&[tmp.reg]),
         _ => false,
     }
 }
@@ -100,7 +203,19 @@ pub fn has_clash(inst: &Inst) -> bool
     ensures { result ≡ has_clash inst.now }
 {
     match inst {
+        Inst::Select {
+            dst,
+            condition,
+            x,
+            y,
+        } => is_uneven(*dst, *x, *y) || select_clash(*dst, *condition, *x, *y),
         Inst::LoadAddr { rd, mem } => is_base(rd.reg, mem.get_base_register()),
+        Inst::BrTable {
+            index,
+            tmp1,
+            tmp2,
+            targets: _,
+        } => two_clash(tmp1.reg, tmp2.reg, *index),
         Inst::Popcnt {
             sum,
             tmp,
@@ -108,6 +223,27 @@ pub fn has_clash(inst: &Inst) -> bool
             rs,
             ty: _,
         } => three_clash(sum.reg, tmp.reg, step.reg, *rs),
+        Inst::Cltz {
+            sum,
+            tmp,
+            step,
+            rs,
+            leading: _,
+            ty: _,
+        } => three_clash(sum.reg, tmp.reg, step.reg, *rs),
+        Inst::Brev8 {
+            rs,
+            ty: _,
+            step,
+            tmp,
+            tmp2,
+            rd,
+        } => four_clash(rd.reg, tmp.reg, tmp2.reg, step.reg, *rs),
+        Inst::StackProbeLoop {
+            guard_size: _,
+            probe_count: _,
+            tmp,
+        } => is_stack(tmp.reg),
         _ => false,
     }
 }

@@ -21,6 +21,8 @@ pub enum Rule {
     Range,
     /// A constant that is named is one of the job's, and has as many bytes as are read.
     Constant,
+    /// A table has a label.
+    EmptyTable,
     /// A branch has a label to go to.
     NoTarget,
     /// A label's number is below 2^30.

@@ -1,15 +1,18 @@
-//! Instructions by what they are for: a constant in a register, and a load or a store of a type.
+//! Instructions by what they are for: a constant in a register, a load or a store of a type, and moves of registers.
 
-ghost use Rattle.std.specs.Prelude.{◌≡◌, IsOk, IfOk, OnOk, IsSome, IfSome, ◌++◌, ◌≤◌};
+ghost use Rattle.std.specs.Prelude.{◌≡◌, IsOk, IfOk, OnOk, IsSome, IfSome, ◌++◌, ◌≤◌, length};
 ghost use Rattle.std.specs.Int.{cast_signed, w64};
 ghost use Rattle.smallvec.specs.SmallVec.{HasRoomFor};
 ghost use Rattle.rv_base.specs.declared.ir_type.IrType.TheVariants.{I32, I64};
 ghost use Rattle.rv_ops.specs.Memory.{load_of, store_of};
-ghost use Rattle.rv_inst.specs.Generators.{zero_register, addi_of, split_insts, AreConstant};
+ghost use Rattle.rv_inst.specs.Generators.{zero_register, addi_of, split_insts, AreConstant, canonical_type, move_of, moves_of};
 ghost use Rattle.rv_inst.specs.declared.inst.Inst.TheVariants.{Load, Store};
 
 use crate::inst::Inst;
-use rv_base::{AMode, IrType, MemFlagsData, OutOfMemory, Reg, WritableReg, zero_reg};
+use rv_base::{
+    AMode, IrType, LaneType, MemFlagsData, OutOfMemory, Reg, RegClass, VectorType, WritableReg,
+    zero_reg,
+};
 use rv_imms::{Imm12, Imm20, generate_imm};
 use rv_ops::{AluOPRRI, LoadOP, StoreOP};
 use smallvec::SmallVec;
@@ -89,6 +92,57 @@ impl Inst {
             flags,
             src: from_reg,
         }
+    }
+
+    /// The type of whole registers of a class, which a move of any value of that class has.
+    pub fn canonical_type_for_rc(rc: RegClass) -> IrType
+        ensures { result ≡ canonical_type rc }
+    {
+        match rc {
+            RegClass::Int => IrType::I64,
+            RegClass::Float => IrType::F64,
+            RegClass::Vector => IrType::Vector(VectorType {
+                lane: LaneType::I8,
+                lanes: 16,
+            }),
+        }
+    }
+}
+
+/// A move of each register of `src` to the one of `rd` at its index, one after the other: none may be read after it is written.
+pub fn gen_moves(
+    alloc: Global,
+    rd: &[WritableReg],
+    src: &[Reg],
+) -> Result<SmallInstVec, OutOfMemory>
+    requires same { length rd.now ≡ length src.now }
+    requires some { 1 ≤ length rd.now }
+    ensures moves { IfOk result (λ insts. insts.items ≡ moves_of rd.now src.now) }
+    ensures succeeds { length rd.now ≤ 4 → IsOk result }
+{
+    let mut insts = SmallVec::with_capacity(alloc, rd.len())?;
+    put_moves(&mut insts, rd, src);
+    Ok(insts)
+}
+
+/// Appends a move for each pair.
+fn put_moves(insts: &mut SmallInstVec, rd: &[WritableReg], src: &[Reg])
+    requires same { length rd.now ≡ length src.now }
+    requires room { HasRoomFor insts.old (length rd.now) }
+    ensures { insts.new.items ≡ insts.old.items ++ moves_of rd.now src.now }
+{
+    for (dst, rm) in rd.iter().zip(src) {
+        insts.push_reserved(gen_move(*dst, *rm));
+    }
+}
+
+fn gen_move(rd: WritableReg, rm: Reg) -> Inst
+    ensures { result ≡ move_of rd rm }
+{
+    Inst::Mov {
+        rd,
+        rm,
+        ty: Inst::canonical_type_for_rc(rd.to_reg().class()),
     }
 }
 

@@ -3,7 +3,7 @@
 ghost use Rattle.std.specs.Prelude.{◌≡◌};
 
 use rv_base::{
-    AMode, ArgPair, IrType, List, MachLabel, MemFlagsData, PReg, Reg, RetPair, TrapCode,
+    AMode, ArgPair, IrType, List, MachLabel, MemFlagsData, PReg, Reg, RetPair, TrapCode, ValueRegs,
     WritableReg,
 };
 use rv_imms::{Imm12, Imm20};
@@ -127,6 +127,23 @@ pub enum Inst {
         rd: WritableReg,
         rm: PReg,
     },
+    /// `rd` is the low `from_bits` bits of `rn`, 1 to 64, sign-extended to 64 bits or zero-extended; `to_bits` is of no effect.
+    /// 8 bytes, two shifts; 4 for a byte that is zero-extended.
+    Extend {
+        rd: WritableReg,
+        rn: Reg,
+        signed: bool,
+        from_bits: u8,
+        to_bits: u8,
+    },
+    /// The registers of `dst` are those of `x` where the comparison holds, and else those of `y`. Moves, and a branch over the
+    /// second ones: at most 20 bytes.
+    Select {
+        dst: ValueRegs<WritableReg>,
+        condition: IntegerCompare,
+        x: ValueRegs<Reg>,
+        y: ValueRegs<Reg>,
+    },
     /// `rd` is what the load reads at the address, extended to 64 bits as the operation says. 4 bytes; where the offset isn't of
     /// twelve bits, signed, up to 28; from a label 8.
     Load {
@@ -170,6 +187,15 @@ pub enum Inst {
         not_taken: CondBrTarget,
         kind: IntegerCompare,
     },
+    /// Goes to a label of the table by the index, which is the low 32 bits of `index`: to that after the default where there is
+    /// one, and else to the first, the default. `tmp1` and `tmp2` are temporaries. At most 48 bytes and 8 for each label after the
+    /// default, after an island where one is needed before so many.
+    BrTable {
+        index: Reg,
+        tmp1: WritableReg,
+        tmp2: WritableReg,
+        targets: List<MachLabel>,
+    },
     /// Traps for the cause: four bytes of zeros, which the manual keeps undefined.
     Udf {
         trap_code: TrapCode,
@@ -188,6 +214,34 @@ pub enum Inst {
         step: WritableReg,
         rs: Reg,
         ty: IrType,
+    },
+    /// `sum` is how many zeros stand above the highest one of the low bits of `rs`, or below the lowest one: all of the bits,
+    /// where none is one. The type is an integer of at most 64 bits, and `tmp` and `step` are temporaries. 44 or 40 bytes, with a
+    /// loop of one turn a zero.
+    Cltz {
+        sum: WritableReg,
+        tmp: WritableReg,
+        step: WritableReg,
+        rs: Reg,
+        leading: bool,
+        ty: IrType,
+    },
+    /// `rd` is the low bits of `rs`, of as many as the type has, which is an integer of at most 64 bits, with the bits of each
+    /// byte in reverse order. `step`, `tmp` and `tmp2` are temporaries. 76 bytes, with a loop of one turn a bit.
+    Brev8 {
+        rs: Reg,
+        ty: IrType,
+        step: WritableReg,
+        tmp: WritableReg,
+        tmp2: WritableReg,
+        rd: WritableReg,
+    },
+    /// A byte 0 goes to each address that is `guard_size` bytes times 2, 3 and so on up to `probe_count` below the stack pointer;
+    /// none where the size is 0. `tmp` is a temporary. At most 60 bytes, with a loop of one turn a probe.
+    StackProbeLoop {
+        guard_size: u32,
+        probe_count: u32,
+        tmp: WritableReg,
     },
 }
 
@@ -235,7 +289,9 @@ impl Inst {
             | Inst::AluRRR { .. }
             | Inst::AluRRImm12 { .. }
             | Inst::Mov { .. }
-            | Inst::MovFromPReg { .. } => Family::Integer,
+            | Inst::MovFromPReg { .. }
+            | Inst::Extend { .. }
+            | Inst::Select { .. } => Family::Integer,
             Inst::Load { .. }
             | Inst::Store { .. }
             | Inst::LoadAddr { .. }
@@ -244,9 +300,13 @@ impl Inst {
             | Inst::TrapIf { .. }
             | Inst::Jal { label: _ }
             | Inst::CondBr { .. }
+            | Inst::BrTable { .. }
             | Inst::Udf { trap_code: _ }
             | Inst::Jalr { .. } => Family::Control,
-            Inst::Popcnt { .. } => Family::Loop,
+            Inst::Popcnt { .. }
+            | Inst::Cltz { .. }
+            | Inst::Brev8 { .. }
+            | Inst::StackProbeLoop { .. } => Family::Loop,
         }
     }
 }

@@ -18,7 +18,7 @@ mod targets;
 
 pub use code::{Code, ConstPlace, LabelPlace, LineSpan, MachTrap};
 pub use error::{EmitError, Rule};
-pub use generators::SmallInstVec;
+pub use generators::{SmallInstVec, gen_moves};
 pub use inst::{CondBrTarget, Family, Inst, Line};
 pub use job::Job;
 pub use label_use::LabelUse;

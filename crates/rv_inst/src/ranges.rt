@@ -3,7 +3,7 @@
 ghost use Rattle.std.specs.Prelude.{◌≡◌, not, ◌&&◌};
 ghost use Rattle.rv_base.specs.Regs.{class_of};
 ghost use Rattle.rv_ops.specs.Alu.{rri_numbers};
-ghost use Rattle.rv_inst.specs.Rules.{is_int_class, is_int_type, is_word_type, has_bad_type, shift_limit, is_beyond, is_out_of_range, has_bad_size};
+ghost use Rattle.rv_inst.specs.Rules.{is_int_class, is_int_type, is_word_type, has_bad_type, shift_limit, is_beyond, is_out_of_range, has_empty_table, has_bad_size};
 
 use crate::addresses::is_distant;
 use crate::inst::Inst;
@@ -55,6 +55,22 @@ pub fn has_bad_type(inst: &Inst) -> bool
             rs: _,
             ty,
         } => !is_int_type(*ty),
+        Inst::Cltz {
+            sum: _,
+            tmp: _,
+            step: _,
+            rs: _,
+            leading: _,
+            ty,
+        } => !is_int_type(*ty),
+        Inst::Brev8 {
+            rs: _,
+            ty,
+            step: _,
+            tmp: _,
+            tmp2: _,
+            rd: _,
+        } => !is_int_type(*ty),
         _ => false,
     }
 }
@@ -83,6 +99,13 @@ pub fn is_out_of_range(inst: &Inst) -> bool
             rs: _,
             imm12,
         } => is_amount_beyond(*alu_op, *imm12),
+        Inst::Extend {
+            rd: _,
+            rn: _,
+            signed: _,
+            from_bits,
+            to_bits: _,
+        } => *from_bits < 1 || *from_bits > 64,
         Inst::Load {
             rd: _,
             op: _,
@@ -96,6 +119,21 @@ pub fn is_out_of_range(inst: &Inst) -> bool
             src: _,
         } => is_distant(*to),
         Inst::LoadAddr { rd: _, mem } => is_distant(*mem),
+        _ => false,
+    }
+}
+
+/// Returns whether the instruction has a table without a label.
+pub fn has_empty_table(inst: &Inst) -> bool
+    ensures { result ≡ has_empty_table inst.now }
+{
+    match inst {
+        Inst::BrTable {
+            index: _,
+            tmp1: _,
+            tmp2: _,
+            targets,
+        } => targets.len() == 0,
         _ => false,
     }
 }

@@ -1,15 +1,16 @@
 //! Tests over the registers of an instruction.
 
-ghost use Rattle.std.specs.Prelude.{◌≡◌};
+ghost use Rattle.std.specs.Prelude.{◌≡◌, ◌∷◌, ◌++◌};
 ghost use Rattle.std.specs.List.{list_any};
-ghost use Rattle.rv_inst.specs.Operands.{arg_registers, ret_registers, inst_registers};
+ghost use Rattle.rv_inst.specs.Operands.{arg_registers, ret_registers, all_of, written_in, inst_registers};
 ghost use Rattle.rv_inst.specs.declared.inst.Family.TheVariants.{Pseudo, Integer, Memory, Control, Loop};
 ghost use Rattle.rv_inst.specs.Families.{family_of};
 ghost use Rattle.rv_inst.specs.RegisterTests.{test_of};
 
 use crate::addresses::address_has;
 use crate::inst::{Family, Inst};
-use rv_base::{ArgPair, Reg, RegClass, RetPair};
+use rv_base::{ArgPair, Reg, RegClass, RetPair, ValueRegs, WritableReg};
+use rv_ops::IntegerCompare;
 
 /// What is asked of a register.
 #[derive(Clone, Copy, Debug, PartialEq, Eq)]
@@ -125,8 +126,71 @@ pub fn plain_has(test: RegisterTest, inst: &Inst) -> bool
         } => any_of(test, &[rd.reg, *rs]),
         Inst::Mov { rd, rm, ty: _ } => any_of(test, &[rd.reg, *rm]),
         Inst::MovFromPReg { rd, rm } => any_of(test, &[rd.reg, Reg::Real(*rm)]),
+        Inst::Extend {
+            rd,
+            rn,
+            signed: _,
+            from_bits: _,
+            to_bits: _,
+        } => any_of(test, &[rd.reg, *rn]),
+        Inst::Select {
+            dst,
+            condition,
+            x,
+            y,
+        } => select_has(test, *dst, *condition, *x, *y),
         _ => false,
     }
+}
+
+/// Returns whether the test holds of a register of a value.
+fn value_has(test: RegisterTest, value: ValueRegs<Reg>) -> bool
+    ensures { result ≡ list_any (test_of test) (all_of value) }
+{
+    match value {
+        ValueRegs::One(r) => any_of(test, &[r]),
+        ValueRegs::Two(r, s) => any_of(test, &[r, s]),
+    }
+}
+
+/// Returns whether the test holds of a register that is written.
+fn written_has(test: RegisterTest, value: ValueRegs<WritableReg>) -> bool
+    ensures { result ≡ list_any (test_of test) (written_in value) }
+{
+    match value {
+        ValueRegs::One(r) => any_of(test, &[r.reg]),
+        ValueRegs::Two(r, s) => any_of(test, &[r.reg, s.reg]),
+    }
+}
+
+fn either_has(test: RegisterTest, x: ValueRegs<Reg>, y: ValueRegs<Reg>) -> bool
+    ensures { result ≡ list_any (test_of test) (all_of x ++ all_of y) }
+{
+    value_has(test, x) || value_has(test, y)
+}
+
+/// Returns whether the test holds of a register that a choice reads.
+fn inputs_have(
+    test: RegisterTest,
+    condition: IntegerCompare,
+    x: ValueRegs<Reg>,
+    y: ValueRegs<Reg>,
+) -> bool
+    ensures { result ≡ list_any (test_of test) (condition.rs1 ∷ condition.rs2 ∷ all_of x ++ all_of y) }
+{
+    holds(test, condition.rs1) || holds(test, condition.rs2) || either_has(test, x, y)
+}
+
+fn select_has(
+    test: RegisterTest,
+    dst: ValueRegs<WritableReg>,
+    condition: IntegerCompare,
+    x: ValueRegs<Reg>,
+    y: ValueRegs<Reg>,
+) -> bool
+    ensures { result ≡ list_any (test_of test) (written_in dst ++ condition.rs1 ∷ condition.rs2 ∷ all_of x ++ all_of y) }
+{
+    written_has(test, dst) || inputs_have(test, condition, x, y)
 }
 
 /// Returns whether the test holds of a register of an instruction that reads or writes memory.
@@ -163,6 +227,12 @@ pub fn control_has(test: RegisterTest, inst: &Inst) -> bool
             not_taken: _,
             kind,
         } => any_of(test, &[kind.rs1, kind.rs2]),
+        Inst::BrTable {
+            index,
+            tmp1,
+            tmp2,
+            targets: _,
+        } => any_of(test, &[*index, tmp1.reg, tmp2.reg]),
         Inst::Jalr {
             rd,
             base,
@@ -184,6 +254,27 @@ pub fn loop_has(test: RegisterTest, inst: &Inst) -> bool
             rs,
             ty: _,
         } => any_of(test, &[sum.reg, tmp.reg, step.reg, *rs]),
+        Inst::Cltz {
+            sum,
+            tmp,
+            step,
+            rs,
+            leading: _,
+            ty: _,
+        } => any_of(test, &[sum.reg, tmp.reg, step.reg, *rs]),
+        Inst::Brev8 {
+            rs,
+            ty: _,
+            step,
+            tmp,
+            tmp2,
+            rd,
+        } => any_of(test, &[*rs, step.reg, tmp.reg, tmp2.reg, rd.reg]),
+        Inst::StackProbeLoop {
+            guard_size: _,
+            probe_count: _,
+            tmp,
+        } => any_of(test, &[tmp.reg]),
         _ => false,
     }
 }

@@ -2,7 +2,7 @@
 
 ghost use Rattle.std.specs.Prelude.{◌≡◌};
 ghost use Rattle.rv_inst.specs.Families.{family_of};
-ghost use Rattle.rv_inst.specs.Operands.{targets_of};
+ghost use Rattle.rv_inst.specs.Operands.{table_of, targets_of};
 ghost use Rattle.rv_inst.specs.declared.inst.Family.TheVariants.{Memory, Control};
 
 use crate::addresses::address_targets;
@@ -25,7 +25,22 @@ pub enum Targets {
 }
 
 impl Inst {
-    /// The labels, or the constant, that the instruction names.
+    /// The labels of the instruction's table, the default first; none where it has no table.
+    pub fn table(&self) -> &[MachLabel]
+        ensures { result.now ≡ table_of self.now }
+    {
+        match self {
+            Inst::BrTable {
+                index: _,
+                tmp1: _,
+                tmp2: _,
+                targets,
+            } => targets.as_slice(),
+            _ => &[],
+        }
+    }
+
+    /// The labels, or the constant, that the instruction names, but for those of its table.
     pub fn targets(&self) -> Targets
         ensures { result ≡ targets_of self.now }
     {

@@ -12,4 +12,6 @@ mod readings;
 #[cfg(test)]
 mod refusals;
 #[cfg(test)]
+mod sequences;
+#[cfg(test)]
 mod texts;

@@ -1,17 +1,8 @@
 //! Which rule each line breaks.
 
+use crate::texts::broken;
 use rv_inst::Rule;
-use rv_listing::{ReadError, read_job};
-use std::alloc::Global;
-
-/// The first rule that the first line of a text breaks.
-fn broken(alloc: Global, text: &str) -> Result<Option<Rule>, ReadError> {
-    let job = read_job(alloc, text.as_bytes())?;
-    match job.lines.as_slice() {
-        [line, ..] => Ok(line.check(job.flags, &job.frame, job.constants.as_slice())),
-        [] => Ok(None),
-    }
-}
+use rv_listing::ReadError;
 
 /// A line, and the first rule that it breaks.
 struct Refusal {

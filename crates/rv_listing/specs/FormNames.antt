@@ -23,6 +23,8 @@ form_name forms.AluRRR = codes "AluRRR"
 form_name forms.AluRRImm12 = codes "AluRRImm12"
 form_name forms.Mov = codes "Mov"
 form_name forms.MovFromPReg = codes "MovFromPReg"
+form_name forms.Extend = codes "Extend"
+form_name forms.Select = codes "Select"
 form_name forms.Load = codes "Load"
 form_name forms.Store = codes "Store"
 form_name forms.LoadAddr = codes "LoadAddr"
@@ -31,17 +33,21 @@ form_name forms.Ret = codes "Ret"
 form_name forms.TrapIf = codes "TrapIf"
 form_name forms.Jal = codes "Jal"
 form_name forms.CondBr = codes "CondBr"
+form_name forms.BrTable = codes "BrTable"
 form_name forms.Udf = codes "Udf"
 form_name forms.Jalr = codes "Jalr"
 form_name forms.Popcnt = codes "Popcnt"
+form_name forms.Cltz = codes "Cltz"
+form_name forms.Brev8 = codes "Brev8"
+form_name forms.StackProbeLoop = codes "StackProbeLoop"
 form_name forms.Bind = codes "Bind"
 
 unfoldable pub every_form : List Form
 every_form =
     forms.Nop0 ∷ forms.Nop4 ∷ forms.EBreak ∷ forms.SequencePoint ∷ forms.DummyUse ∷ forms.EmitIsland ∷ forms.Args ∷ forms.Rets ∷
     forms.RawData ∷ forms.Lui ∷ forms.Auipc ∷ forms.LoadInlineConst ∷ forms.AluRRR ∷ forms.AluRRImm12 ∷ forms.Mov ∷
-    forms.MovFromPReg ∷ forms.Load ∷ forms.Store ∷ forms.LoadAddr ∷ forms.LabelAddress ∷ forms.Ret ∷ forms.TrapIf ∷ forms.Jal ∷
-    forms.CondBr ∷ forms.Udf ∷ forms.Jalr ∷ forms.Popcnt ∷ forms.Bind ∷ []
+    forms.MovFromPReg ∷ forms.Extend ∷ forms.Select ∷ forms.Load ∷ forms.Store ∷ forms.LoadAddr ∷ forms.LabelAddress ∷ forms.Ret ∷ forms.TrapIf ∷ forms.Jal ∷
+    forms.CondBr ∷ forms.BrTable ∷ forms.Udf ∷ forms.Jalr ∷ forms.Popcnt ∷ forms.Cltz ∷ forms.Brev8 ∷ forms.StackProbeLoop ∷ forms.Bind ∷ []
 
 -- the form of the lines that begin with this word
 unfoldable pub form_named : List ℕ → Option Form

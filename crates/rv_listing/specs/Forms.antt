@@ -1,6 +1,8 @@
 -- The forms of lines: a token for each field.
 use Rattle.std.specs.Prelude.{ℕ, List, Option, Some}
 use Rattle.rv_base.specs.declared.regs.Reg.{Reg}
+use Rattle.rv_base.specs.declared.regs.Writable.{Writable}
+use Rattle.rv_base.specs.declared.value_regs.ValueRegs.{ValueRegs}
 use Rattle.rv_base.specs.declared.condcodes.IntCC.{IntCC}
 use Rattle.rv_base.specs.declared.trap.TrapCode.{TrapCode}
 use Rattle.rv_inst.specs.declared.inst.CondBrTarget.{CondBrTarget}
@@ -14,7 +16,7 @@ use Rattle.rv_listing.specs.Tokens.{◌>>=◌, natural}
 use Rattle.rv_listing.specs.FormNames.{form_named}
 use Rattle.rv_listing.specs.Fields.{done, ◌⊛◌, whole}
 use Rattle.rv_listing.specs.Registers.{register}
-use Rattle.rv_listing.specs.Operands.{writable, real_register, imm12, imm20, natural_32, label, target}
+use Rattle.rv_listing.specs.Operands.{writable, real_register, imm12, imm20, natural_8, natural_32, label, target, signedness, leading}
 use Rattle.rv_listing.specs.Comparisons.{cond_code}
 use Rattle.rv_listing.specs.Addresses.{amode}
 use Rattle.rv_listing.specs.Operations.{alu_rri, alu_rrr, load_op, store_op}
@@ -22,6 +24,7 @@ use Rattle.rv_listing.specs.Types.{type_named}
 use Rattle.rv_listing.specs.HexDigits.{some_bytes}
 use Rattle.rv_listing.specs.Traps.{trap_named, access_flags}
 use Rattle.rv_listing.specs.Pairs.{arg_pair, ret_pair, listed}
+use Rattle.rv_listing.specs.ValueRegs.{value_regs}
 
 -- ---- those that compute nothing
 
@@ -75,6 +78,15 @@ mov_form = whole (done form.Mov ⊛ writable ⊛ register ⊛ type_named)
 unfoldable pub mov_from_preg_form : List (List ℕ) → Option Inst
 mov_from_preg_form = whole (done form.MovFromPReg ⊛ writable ⊛ real_register)
 
+unfoldable pub extend_form : List (List ℕ) → Option Inst
+extend_form = whole (done form.Extend ⊛ writable ⊛ register ⊛ signedness ⊛ natural_8 ⊛ natural_8)
+
+abbrev pub select : ValueRegs (Writable Reg) → IntCC → Reg → Reg → ValueRegs Reg → ValueRegs Reg → Inst
+select dst cc rs1 rs2 x y = form.Select dst (record { kind = cc; rs1 = rs1; rs2 = rs2 }) x y
+
+unfoldable pub select_form : List (List ℕ) → Option Inst
+select_form = whole (done select ⊛ value_regs writable ⊛ cond_code ⊛ register ⊛ register ⊛ value_regs register ⊛ value_regs register)
+
 -- ---- those that read or write memory, or compute an address
 
 unfoldable pub load_form : List (List ℕ) → Option Inst
@@ -114,6 +126,9 @@ cond_br cc rs1 rs2 taken not_taken = form.CondBr taken not_taken (record { kind 
 unfoldable pub cond_br_form : List (List ℕ) → Option Inst
 cond_br_form = whole (done cond_br ⊛ cond_code ⊛ register ⊛ register ⊛ target ⊛ target)
 
+unfoldable pub br_table_form : List (List ℕ) → Option Inst
+br_table_form = whole (done form.BrTable ⊛ register ⊛ writable ⊛ writable ⊛ listed label)
+
 unfoldable pub jalr_form : List (List ℕ) → Option Inst
 jalr_form = whole (done form.Jalr ⊛ writable ⊛ register ⊛ imm12)
 
@@ -121,6 +136,15 @@ jalr_form = whole (done form.Jalr ⊛ writable ⊛ register ⊛ imm12)
 
 unfoldable pub popcnt_form : List (List ℕ) → Option Inst
 popcnt_form = whole (done form.Popcnt ⊛ writable ⊛ writable ⊛ writable ⊛ register ⊛ type_named)
+
+unfoldable pub cltz_form : List (List ℕ) → Option Inst
+cltz_form = whole (done form.Cltz ⊛ writable ⊛ writable ⊛ writable ⊛ register ⊛ leading ⊛ type_named)
+
+unfoldable pub brev8_form : List (List ℕ) → Option Inst
+brev8_form = whole (done form.Brev8 ⊛ register ⊛ type_named ⊛ writable ⊛ writable ⊛ writable ⊛ writable)
+
+unfoldable pub stack_probe_loop_form : List (List ℕ) → Option Inst
+stack_probe_loop_form = whole (done form.StackProbeLoop ⊛ natural_32 ⊛ natural_32 ⊛ writable)
 
 -- ---- lines
 
@@ -149,6 +173,8 @@ by_form forms.AluRRR ws = put (alu_rrr_form ws)
 by_form forms.AluRRImm12 ws = put (alu_rr_imm12_form ws)
 by_form forms.Mov ws = put (mov_form ws)
 by_form forms.MovFromPReg ws = put (mov_from_preg_form ws)
+by_form forms.Extend ws = put (extend_form ws)
+by_form forms.Select ws = put (select_form ws)
 by_form forms.Load ws = put (load_form ws)
 by_form forms.Store ws = put (store_form ws)
 by_form forms.LoadAddr ws = put (load_addr_form ws)
@@ -157,9 +183,13 @@ by_form forms.Ret ws = put (ret_form ws)
 by_form forms.TrapIf ws = put (trap_if_form ws)
 by_form forms.Jal ws = put (jal_form ws)
 by_form forms.CondBr ws = put (cond_br_form ws)
+by_form forms.BrTable ws = put (br_table_form ws)
 by_form forms.Udf ws = put (udf_form ws)
 by_form forms.Jalr ws = put (jalr_form ws)
 by_form forms.Popcnt ws = put (popcnt_form ws)
+by_form forms.Cltz ws = put (cltz_form ws)
+by_form forms.Brev8 ws = put (brev8_form ws)
+by_form forms.StackProbeLoop ws = put (stack_probe_loop_form ws)
 by_form forms.Bind ws = bind_form ws
 
 unfoldable pub line_form : List ℕ → List (List ℕ) → Option Line

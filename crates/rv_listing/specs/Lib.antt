@@ -10,6 +10,7 @@ pub mod Types
 pub mod Traps
 pub mod HexDigits
 pub mod Pairs
+pub mod ValueRegs
 pub mod FlagsHeader
 pub mod FrameHeader
 pub mod ConstantHeader

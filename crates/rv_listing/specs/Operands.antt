@@ -1,5 +1,5 @@
 -- The tokens for registers, numbers and labels.
-use Rattle.std.specs.Prelude.{ℕ, Bool, ◌^◌, ◌-◌, ◌&&◌, List, Option, Some, None, drop, if◌then◌else◌, codes, ℤ, pos, negsuc, int_le}
+use Rattle.std.specs.Prelude.{ℕ, Bool, true, false, ◌^◌, ◌-◌, ◌&&◌, List, Option, Some, None, drop, if◌then◌else◌, codes, ℤ, pos, negsuc, int_le}
 use Rattle.std.specs.Str.{bytes_eq}
 use lib.Signed.{le_z_yes}
 use Rattle.rv_base.specs.declared.label.MachLabel.{MachLabel}
@@ -33,7 +33,11 @@ imm20_of n = where_true (int_le (negsuc 524287) n) (λ low. where_true (int_le n
 unfoldable pub imm20 : List ℕ → Option Imm20
 imm20 w = signed w >>= imm20_of
 
--- a number of 32 bits, without a sign
+-- a number of 8 bits, without a sign
+unfoldable pub natural_8 : List ℕ → Option ℕ
+natural_8 w = natural w >>= below (2 ^ 8)
+
+-- the same of 32 bits
 unfoldable pub natural_32 : List ℕ → Option ℕ
 natural_32 w = natural w >>= below (2 ^ 32)
 
@@ -44,6 +48,18 @@ label w = if starts 76 w then (decimal (drop 1 w) >>= below (2 ^ 32) >>= λ n. S
 -- a label, or - for the next line
 unfoldable pub target : List ℕ → Option CondBrTarget
 target w = if bytes_eq w (codes "-") then Some targets.Fallthrough else label w >>= λ l. Some (targets.Label l)
+
+-- one of two words: whether it is the first
+abbrev pub either : List ℕ → List ℕ → List ℕ → Option Bool
+either first second w = if bytes_eq w first then Some true else if bytes_eq w second then Some false else None
+
+-- s where the value has a sign, and u where it has none
+unfoldable pub signedness : List ℕ → Option Bool
+signedness = either (codes "s") (codes "u")
+
+-- 1 for the leading zeros, and 0 for the trailing ones
+unfoldable pub leading : List ℕ → Option Bool
+leading = either (codes "1") (codes "0")
 
 -- a number of 64 bits, signed
 abbrev pub fits_i64 : ℤ → Bool

@@ -3,8 +3,9 @@
 ghost use Rattle.std.specs.Prelude.{◌≡◌, ℕ, List, Option};
 ghost use Rattle.rv_listing.specs.Tokens.{words_after};
 ghost use Rattle.rv_listing.specs.Fields.{field, no_more, Takes, Makes};
+ghost use Rattle.rv_listing.specs.Operands.{either};
 
-use crate::tokens::next_word;
+use crate::tokens::{is, next_word};
 use thiserror::Error;
 
 /// What one word of a line stands for.
@@ -31,6 +32,20 @@ pub fn field<T: Token>(rest: &[u8]) -> Option<(T, &[u8])>
     let (w, rest) = next_word(rest)?;
     let x = T::read(w)?;
     Some((x, rest))
+}
+
+/// The next word, as one of two: whether it is the first.
+pub fn flag<'a>(first: &[u8], second: &[u8], rest: &'a [u8]) -> Option<(bool, &'a [u8])>
+    ensures { Takes result (field (either first.now second.now) (words_after rest.now)) }
+{
+    let (w, rest) = next_word(rest)?;
+    if is(first, w) {
+        Some((true, rest))
+    } else if is(second, w) {
+        Some((false, rest))
+    } else {
+        None
+    }
 }
 
 /// What was made, where no word is left.

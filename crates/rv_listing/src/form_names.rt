@@ -24,6 +24,8 @@ pub enum Form {
     AluRRImm12,
     Mov,
     MovFromPReg,
+    Extend,
+    Select,
     Load,
     Store,
     LoadAddr,
@@ -32,9 +34,13 @@ pub enum Form {
     TrapIf,
     Jal,
     CondBr,
+    BrTable,
     Udf,
     Jalr,
     Popcnt,
+    Cltz,
+    Brev8,
+    StackProbeLoop,
     Bind,
 }
 
@@ -60,6 +66,8 @@ impl Form {
             Self::AluRRImm12 => "AluRRImm12",
             Self::Mov => "Mov",
             Self::MovFromPReg => "MovFromPReg",
+            Self::Extend => "Extend",
+            Self::Select => "Select",
             Self::Load => "Load",
             Self::Store => "Store",
             Self::LoadAddr => "LoadAddr",
@@ -68,15 +76,19 @@ impl Form {
             Self::TrapIf => "TrapIf",
             Self::Jal => "Jal",
             Self::CondBr => "CondBr",
+            Self::BrTable => "BrTable",
             Self::Udf => "Udf",
             Self::Jalr => "Jalr",
             Self::Popcnt => "Popcnt",
+            Self::Cltz => "Cltz",
+            Self::Brev8 => "Brev8",
+            Self::StackProbeLoop => "StackProbeLoop",
             Self::Bind => "Bind",
         }
     }
 }
 
-const EVERY_FORM: [Form; 28] = [
+const EVERY_FORM: [Form; 34] = [
     Form::Nop0,
     Form::Nop4,
     Form::EBreak,
@@ -93,6 +105,8 @@ const EVERY_FORM: [Form; 28] = [
     Form::AluRRImm12,
     Form::Mov,
     Form::MovFromPReg,
+    Form::Extend,
+    Form::Select,
     Form::Load,
     Form::Store,
     Form::LoadAddr,
@@ -101,26 +115,30 @@ const EVERY_FORM: [Form; 28] = [
     Form::TrapIf,
     Form::Jal,
     Form::CondBr,
+    Form::BrTable,
     Form::Udf,
     Form::Jalr,
     Form::Popcnt,
+    Form::Cltz,
+    Form::Brev8,
+    Form::StackProbeLoop,
     Form::Bind,
 ];
 
 /// The indices in `EVERY_FORM` by the names' slots.
 const FORM_SLOTS: [u8; 256] = [
-    0, 0, 0, 0, 0, 0, 0, 0, 0, 0, 0, 0, 0, 0, 11, 0, 0, 0, 0, 0, 0, 0, 0, 0, 0, 0, 0, 0, 0, 0, 0,
-    0, 22, 0, 0, 0, 0, 0, 0, 0, 7, 1, 23, 0, 0, 0, 0, 0, 0, 0, 0, 0, 0, 0, 0, 0, 0, 0, 21, 0, 0, 0,
-    2, 0, 0, 0, 0, 0, 0, 0, 0, 0, 0, 0, 0, 0, 0, 24, 9, 0, 0, 0, 16, 0, 0, 0, 0, 0, 0, 0, 0, 0, 0,
-    0, 0, 20, 0, 0, 0, 0, 0, 0, 0, 0, 0, 0, 0, 0, 0, 0, 0, 0, 0, 27, 0, 0, 0, 0, 0, 0, 12, 0, 0, 0,
-    0, 0, 0, 0, 18, 0, 0, 0, 0, 0, 0, 0, 0, 0, 0, 0, 0, 25, 3, 0, 0, 0, 0, 0, 8, 0, 0, 17, 0, 19,
-    0, 0, 0, 13, 0, 0, 0, 0, 0, 0, 0, 0, 26, 0, 0, 0, 0, 0, 15, 0, 0, 0, 0, 0, 0, 0, 0, 0, 0, 0, 0,
-    0, 0, 0, 0, 0, 0, 0, 0, 0, 0, 0, 0, 0, 0, 0, 0, 10, 0, 0, 0, 0, 0, 0, 0, 0, 0, 0, 0, 0, 0, 0,
-    0, 0, 0, 0, 14, 0, 0, 0, 0, 0, 0, 0, 6, 0, 0, 0, 0, 0, 0, 0, 0, 0, 0, 0, 0, 4, 5, 0, 0, 0, 0,
-    0, 0, 0, 0, 0, 0, 0, 0, 0,
+    0, 0, 30, 0, 0, 0, 0, 0, 25, 0, 0, 0, 28, 0, 0, 0, 0, 2, 0, 0, 0, 23, 0, 0, 0, 0, 0, 0, 22, 0,
+    0, 0, 18, 0, 0, 0, 0, 0, 0, 0, 0, 0, 0, 0, 0, 0, 17, 0, 0, 13, 0, 0, 0, 0, 0, 0, 0, 0, 0, 0, 0,
+    0, 0, 11, 0, 0, 0, 3, 1, 0, 0, 0, 0, 0, 0, 0, 0, 0, 0, 0, 0, 0, 0, 0, 0, 0, 0, 0, 0, 0, 0, 0,
+    0, 0, 0, 0, 0, 0, 0, 0, 0, 0, 0, 0, 0, 0, 0, 0, 0, 0, 5, 0, 0, 0, 10, 0, 0, 0, 33, 0, 0, 0, 0,
+    0, 0, 31, 0, 0, 0, 0, 0, 0, 6, 0, 16, 0, 0, 21, 0, 0, 0, 29, 0, 0, 0, 0, 0, 0, 0, 0, 0, 0, 0,
+    0, 0, 0, 0, 0, 14, 0, 0, 0, 0, 0, 0, 0, 0, 0, 0, 12, 0, 0, 0, 0, 0, 0, 0, 0, 0, 0, 0, 9, 0, 0,
+    8, 0, 0, 0, 27, 0, 0, 0, 0, 32, 4, 0, 0, 0, 7, 0, 15, 0, 0, 0, 0, 0, 0, 0, 0, 0, 19, 0, 0, 0,
+    26, 0, 0, 0, 0, 0, 0, 0, 0, 0, 0, 0, 0, 0, 0, 0, 0, 24, 0, 0, 0, 0, 0, 0, 20, 0, 0, 0, 0, 0, 0,
+    0, 0, 0, 0, 0, 0, 0, 0, 0, 0, 0,
 ];
 
-const FORM_FACTOR: u64 = 2193230518291280957;
+const FORM_FACTOR: u64 = 17893659223010774751;
 
 /// The form of the lines that begin with this word.
 pub fn form_named(w: &[u8]) -> Option<Form>

@@ -3,9 +3,9 @@
 ghost use Rattle.std.specs.Prelude.{◌≡◌};
 ghost use Rattle.rv_listing.specs.Tokens.{words_after};
 ghost use Rattle.rv_listing.specs.Fields.{Makes};
-ghost use Rattle.rv_listing.specs.Forms.{args_form, rets_form, dummy_use_form, emit_island_form, raw_data_form, lui_form, auipc_form, load_inline_const_form, alu_rrr_form, alu_rr_imm12_form, mov_form, mov_from_preg_form, load_form, store_form, load_addr_form, label_address_form, trap_if_form, jal_form, cond_br_form, udf_form, jalr_form, popcnt_form, bind_form, put, by_form, line_form};
+ghost use Rattle.rv_listing.specs.Forms.{args_form, rets_form, dummy_use_form, emit_island_form, raw_data_form, lui_form, auipc_form, load_inline_const_form, alu_rrr_form, alu_rr_imm12_form, mov_form, mov_from_preg_form, extend_form, select_form, load_form, store_form, load_addr_form, label_address_form, trap_if_form, jal_form, cond_br_form, br_table_form, udf_form, jalr_form, popcnt_form, cltz_form, brev8_form, stack_probe_loop_form, bind_form, put, by_form, line_form};
 
-use crate::fields::{LineError, allowed, field, whole};
+use crate::fields::{LineError, allowed, field, flag, whole};
 use crate::form_names::{Form, form_named};
 use crate::hex_digits::some_bytes;
 use crate::pairs::listed_field;
@@ -146,6 +146,48 @@ fn mov_from_preg(rest: &[u8]) -> Option<Inst>
     whole(Inst::MovFromPReg { rd, rm }, rest)
 }
 
+#[tactic(auto, unfolding(crate::specs::Forms::extend_form, crate::specs::Operands::signedness))]
+fn extend(rest: &[u8]) -> Option<Inst>
+    ensures { result ≡ extend_form (words_after rest.now) }
+{
+    let (rd, rest) = field(rest)?;
+    let (rn, rest) = field(rest)?;
+    let (signed, rest) = flag(b"s", b"u", rest)?;
+    let (from_bits, rest) = field(rest)?;
+    let (to_bits, rest) = field(rest)?;
+    whole(
+        Inst::Extend {
+            rd,
+            rn,
+            signed,
+            from_bits,
+            to_bits,
+        },
+        rest,
+    )
+}
+
+#[tactic(auto, unfolding(crate::specs::Forms::select_form))]
+fn select(rest: &[u8]) -> Option<Inst>
+    ensures { result ≡ select_form (words_after rest.now) }
+{
+    let (dst, rest) = field(rest)?;
+    let (kind, rest) = field(rest)?;
+    let (rs1, rest) = field(rest)?;
+    let (rs2, rest) = field(rest)?;
+    let (x, rest) = field(rest)?;
+    let (y, rest) = field(rest)?;
+    whole(
+        Inst::Select {
+            dst,
+            condition: IntegerCompare { kind, rs1, rs2 },
+            x,
+            y,
+        },
+        rest,
+    )
+}
+
 // ---- those that read or write memory, or compute an address
 
 #[tactic(auto, unfolding(crate::specs::Forms::load_form))]
@@ -242,6 +284,31 @@ fn cond_br(rest: &[u8]) -> Option<Inst>
     )
 }
 
+#[tactic(auto, unfolding(crate::specs::Forms::br_table_form))]
+fn br_table(alloc: Global, rest: &[u8]) -> Result<Inst, LineError>
+    ensures { Makes result (br_table_form (words_after rest.now)) }
+{
+    let Some((index, rest)) = field(rest) else {
+        return Err(LineError::NotAllowed);
+    };
+    let Some((tmp1, rest)) = field(rest) else {
+        return Err(LineError::NotAllowed);
+    };
+    let Some((tmp2, rest)) = field(rest) else {
+        return Err(LineError::NotAllowed);
+    };
+    let (targets, rest) = listed_field(alloc, rest)?;
+    allowed(whole(
+        Inst::BrTable {
+            index,
+            tmp1,
+            tmp2,
+            targets,
+        },
+        rest,
+    ))
+}
+
 #[tactic(auto, unfolding(crate::specs::Forms::jal_form))]
 fn jal(rest: &[u8]) -> Option<Inst>
     ensures { result ≡ jal_form (words_after rest.now) }
@@ -278,6 +345,69 @@ fn popcnt(rest: &[u8]) -> Option<Inst>
             step,
             rs,
             ty,
+        },
+        rest,
+    )
+}
+
+#[tactic(auto, unfolding(crate::specs::Forms::cltz_form, crate::specs::Operands::leading))]
+fn cltz(rest: &[u8]) -> Option<Inst>
+    ensures { result ≡ cltz_form (words_after rest.now) }
+{
+    let (sum, rest) = field(rest)?;
+    let (tmp, rest) = field(rest)?;
+    let (step, rest) = field(rest)?;
+    let (rs, rest) = field(rest)?;
+    let (leading, rest) = flag(b"1", b"0", rest)?;
+    let (ty, rest) = field(rest)?;
+    whole(
+        Inst::Cltz {
+            sum,
+            tmp,
+            step,
+            rs,
+            leading,
+            ty,
+        },
+        rest,
+    )
+}
+
+#[tactic(auto, unfolding(crate::specs::Forms::brev8_form))]
+fn brev8(rest: &[u8]) -> Option<Inst>
+    ensures { result ≡ brev8_form (words_after rest.now) }
+{
+    let (rs, rest) = field(rest)?;
+    let (ty, rest) = field(rest)?;
+    let (step, rest) = field(rest)?;
+    let (tmp, rest) = field(rest)?;
+    let (tmp2, rest) = field(rest)?;
+    let (rd, rest) = field(rest)?;
+    whole(
+        Inst::Brev8 {
+            rs,
+            ty,
+            step,
+            tmp,
+            tmp2,
+            rd,
+        },
+        rest,
+    )
+}
+
+#[tactic(auto, unfolding(crate::specs::Forms::stack_probe_loop_form))]
+fn stack_probe_loop(rest: &[u8]) -> Option<Inst>
+    ensures { result ≡ stack_probe_loop_form (words_after rest.now) }
+{
+    let (guard_size, rest) = field(rest)?;
+    let (probe_count, rest) = field(rest)?;
+    let (tmp, rest) = field(rest)?;
+    whole(
+        Inst::StackProbeLoop {
+            guard_size,
+            probe_count,
+            tmp,
         },
         rest,
     )
@@ -324,6 +454,8 @@ fn line_of(alloc: Global, form: Form, rest: &[u8]) -> Result<Line, LineError>
         Form::AluRRImm12 => put(alu_rr_imm12(rest)),
         Form::Mov => put(mov(rest)),
         Form::MovFromPReg => put(mov_from_preg(rest)),
+        Form::Extend => put(extend(rest)),
+        Form::Select => put(select(rest)),
         Form::Load => put(load(rest)),
         Form::Store => put(store(rest)),
         Form::LoadAddr => put(load_addr(rest)),
@@ -332,9 +464,13 @@ fn line_of(alloc: Global, form: Form, rest: &[u8]) -> Result<Line, LineError>
         Form::TrapIf => put(trap_if(rest)),
         Form::Jal => put(jal(rest)),
         Form::CondBr => put(cond_br(rest)),
+        Form::BrTable => Ok(Line::Inst(br_table(alloc, rest)?)),
         Form::Udf => put(udf(rest)),
         Form::Jalr => put(jalr(rest)),
         Form::Popcnt => put(popcnt(rest)),
+        Form::Cltz => put(cltz(rest)),
+        Form::Brev8 => put(brev8(rest)),
+        Form::StackProbeLoop => put(stack_probe_loop(rest)),
         Form::Bind => allowed(bind(rest)),
     }
 }

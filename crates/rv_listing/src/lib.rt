@@ -20,6 +20,7 @@ mod slots;
 mod tokens;
 mod traps;
 mod types;
+mod value_regs;
 
 pub use code_report::report;
 pub use fields::LineError;

@@ -4,7 +4,7 @@ ghost use Rattle.std.specs.Prelude.{◌≡◌};
 ghost use Rattle.rv_base.specs.Regs.{real_of};
 ghost use Rattle.rv_listing.specs.Tokens.{natural};
 ghost use Rattle.rv_listing.specs.Registers.{register};
-ghost use Rattle.rv_listing.specs.Operands.{writable, real_register, imm12_of, imm12, imm20_of, imm20, natural_32, offset_of, offset, label, target};
+ghost use Rattle.rv_listing.specs.Operands.{writable, real_register, imm12_of, imm12, imm20_of, imm20, natural_8, natural_32, offset_of, offset, label, target};
 
 use crate::fields::Token;
 use crate::registers::register;
@@ -80,6 +80,16 @@ impl Token for Imm20 {
     #[tactic(auto, unfolding(crate::specs::Operands::imm20))]
     fn read(w: &[u8]) -> Option<Imm20> {
         imm20_of(signed(w)?)
+    }
+}
+
+impl Token for u8 {
+    ghost reads = { natural_8 };
+
+    #[tactic(auto, unfolding(crate::specs::Operands::natural_8))]
+    fn read(w: &[u8]) -> Option<u8> {
+        let n = natural(w)?;
+        if n < 0x100 { Some(n as u8) } else { None }
     }
 }
 

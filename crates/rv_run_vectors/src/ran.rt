@@ -40,6 +40,22 @@ const CONSTANT_PLACES: &str =
 const TRAP_IF: &str =
     "code 12\n00000000 6314b5000000000067800000\nline 0 0 8\nline 1 8 12\ntrap 4 heap_oob\nend 12\n";
 
+/// `BrTable a0 a1 a2 L0,L1,L2`, `Ret` at L0 and L1, and `EBreak` at L2.
+const TABLE: &str =
+    "code 64\n00000000 931f050293df0f021306200063e6cf00\n00000010 17060000670086029705000013963f00\n00000020 b385c500678005011706000067000601\n00000030 170600006700c6006780000073001000\nline 0 0 56\nline 1 56 56\nline 2 56 56\nline 3 56 60\nline 4 60 60\nline 5 60 64\nlabel L0 56\nlabel L1 56\nlabel L2 60\nend 64\n";
+
+/// `BrTable a0 a1 a2 L0`, and `Ret` at L0.
+const DEFAULT: &str =
+    "code 44\n00000000 931f050293df0f021306000063e6cf00\n00000010 17060000670086019705000013963f00\n00000020 b385c5006780050167800000\nline 0 0 40\nline 1 40 40\nline 2 40 44\nlabel L0 40\nend 44\n";
+
+/// `StackProbeLoop 0 3 t3` and `Ret`.
+const NO_PROBES: &str =
+    "code 32\n00000000 930f0000130e0000637afe01330ff141\n00000010 23000f00b38fcf416ff01fff67800000\nline 0 0 28\nline 1 28 32\nend 32\n";
+
+/// `StackProbeLoop 4096 3 t3` and `Ret`.
+const PROBES: &str =
+    "code 32\n00000000 b73f0000371e0000637afe01330ff141\n00000010 23000f00b38fcf416ff01fff67800000\nline 0 0 28\nline 1 28 32\nend 32\n";
+
 /// The listing of `examples/squares.lst`: eight squares are stored to the stack slots, and loaded again. The report is that of a harness
 /// with the Rust's own emission code.
 const SQUARES: &str =
@@ -53,7 +69,7 @@ struct Call {
     text: &'static str,
 }
 
-const RUNS: [Call; 26] = [
+const RUNS: [Call; 31] = [
     Call {
         words: &["a0=1071", "a1=462"],
         input: GCD,
@@ -66,6 +82,46 @@ const RUNS: [Call; 26] = [
         input: SQUARES,
         status: 0,
         text: "left the code to 0x8000000000010000\nsteps 80\nt0 4096 0x1000\nt1 4096 0x1000\nt2 1 0x1\na0 204 0xcc\nmemory 0xfc0: 40000000000000003100000000000000\nmemory 0xfd0: 24000000000000001900000000000000\nmemory 0xfe0: 10000000000000000900000000000000\nmemory 0xff0: 04000000000000000100000000000000\n",
+    },
+    // The index is the low 32 bits: two shifts, the number, the comparison, four words into the table, and two of it.
+    Call {
+        words: &["a0=0x100000001"],
+        input: TABLE,
+        status: 0,
+        text: "ebreak at 60\nsteps 10\na1 65568 0x10020\na2 65584 0x10030\nt6 1 0x1\n",
+    },
+    Call {
+        words: &["a0=2"],
+        input: TABLE,
+        status: 0,
+        text: "left the code to 0x8000000000010000\nsteps 7\na2 65552 0x10010\nt6 2 0x2\n",
+    },
+    Call {
+        words: &["a0=-1"],
+        input: DEFAULT,
+        status: 0,
+        text: "left the code to 0x8000000000010000\nsteps 7\na2 65552 0x10010\nt6 4294967295 0xffffffff\n",
+    },
+    Call {
+        words: &["sp=0x20000"],
+        input: NO_PROBES,
+        status: 0,
+        text: "left the code to 0x8000000000010000\nsteps 4\n",
+    },
+    // Two numbers, five words for each of two probes, the last comparison, and the return.
+    Call {
+        words: &[
+            "sp=0x20000",
+            "--data",
+            "0x1d000=ffff",
+            "--data",
+            "0x1e000=ffff",
+            "--data",
+            "0x1f000=ffff",
+        ],
+        input: PROBES,
+        status: 0,
+        text: "left the code to 0x8000000000010000\nsteps 14\nt3 4096 0x1000\nt5 122880 0x1e000\nt6 4096 0x1000\nmemory 0x1d000: 00ff0000000000000000000000000000\nmemory 0x1e000: 00ff0000000000000000000000000000\n",
     },
     Call {
         words: &["a0=5"],

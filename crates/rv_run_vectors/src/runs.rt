@@ -16,9 +16,9 @@ use std::process::Abort;
 use std::test::Fail;
 use thiserror::Error;
 
-const BASE: u64 = 0x1000;
+pub const BASE: u64 = 0x1000;
 
-const CALLER: u64 = 0x20000;
+pub const CALLER: u64 = 0x20000;
 
 fn addi(rd: Reg, rs: Reg, value: i16) -> Line {
     Line::Inst(Inst::AluRRImm12 {
@@ -63,7 +63,7 @@ fn started(alloc: Global, code: &[u8], registers: &Registers) -> Result<IntMachi
 }
 
 /// Returns whether each step is done until the machine is back at its caller.
-fn returns(machine: &mut IntMachine) -> Result<bool, OutOfMemory> {
+pub fn returns(machine: &mut IntMachine) -> Result<bool, OutOfMemory> {
     for _ in 0..10000 {
         if machine.pc() == CALLER {
             return Ok(true);

@@ -18,7 +18,7 @@ struct Call {
     text: &'static str,
 }
 
-const CALLS: [Call; 50] = [
+const CALLS: [Call; 55] = [
     Call {
         listing: "",
         status: 0,
@@ -207,6 +207,33 @@ const CALLS: [Call; 50] = [
         listing: "Popcnt a0 a1 a2 a3 i64\nPopcnt a0 a1 a2 a3 i8\nTrapIf eq a0 a1 heap_oob\nUdf heap_oob\nRawData 01020304\nLoadInlineConst a0 i64 0x123456789abcdef0\nLoadInlineConst a0 i32 5\nRet\n",
         status: 0,
         text: "code 144\n00000000 1305000013060004930510009395f503\n00000010 635ec00033ffd5006304e00113051500\n00000020 1306f6ff93d515006ff09ffe13050000\n00000030 130680009305100093957500635ec000\n00000040 33ffd5006304e001130515001306f6ff\n00000050 93d515006ff09ffe6314b50000000000\n00000060 0000000001020304170500000335c500\n00000070 6f00c000f0debc9a7856341217050000\n00000080 0325c5006f0080000500000067800000\nline 0 0 44\nline 1 44 88\nline 2 88 96\nline 3 96 100\nline 4 100 104\nline 5 104 124\nline 6 124 140\nline 7 140 144\ntrap 92 heap_oob\ntrap 96 heap_oob\nend 144\n",
+    },
+    // A table of two labels and a default.
+    Call {
+        listing: "BrTable a0 a1 a2 L0,L1,L2\nBind L0\nBind L1\nRet\nBind L2\nEBreak\n",
+        status: 0,
+        text: "code 64\n00000000 931f050293df0f021306200063e6cf00\n00000010 17060000670086029705000013963f00\n00000020 b385c500678005011706000067000601\n00000030 170600006700c6006780000073001000\nline 0 0 56\nline 1 56 56\nline 2 56 56\nline 3 56 60\nline 4 60 60\nline 5 60 64\nlabel L0 56\nlabel L1 56\nlabel L2 60\nend 64\n",
+    },
+    // The value that stands in the destination isn't moved, and the comparison is inverted.
+    Call {
+        listing: "Select a0 eq a1 a2 a3 a0",
+        status: 0,
+        text: "code 8\n00000000 6394c50013850600\nline 0 0 8\nend 8\n",
+    },
+    Call {
+        listing: "BrTable a0 a1 a2 L0,L1\nBind L0\n",
+        status: 4,
+        text: "rvemit: UnboundLabel 1\n",
+    },
+    Call {
+        listing: "BrTable a0 a1 a2 -\n",
+        status: 4,
+        text: "rvemit: Malformed 0 EmptyTable\n",
+    },
+    Call {
+        listing: "Extend a0 a1 s 0 64\n",
+        status: 4,
+        text: "rvemit: Malformed 0 Range\n",
     },
     // The words of loads and stores.
     Call {

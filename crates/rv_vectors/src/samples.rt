@@ -6,6 +6,7 @@ mod constants;
 mod framed;
 mod islands;
 mod random;
+mod sequences;
 
 use crate::reported::assert_reported;
 use accesses::{EDGES_LISTING, EDGES_REPORT, FRAME_LISTING, FRAME_REPORT};
@@ -21,6 +22,10 @@ use islands::{
 use random::{
     FIFTH_LISTING, FIFTH_REPORT, FIRST_LISTING, FIRST_REPORT, FOURTH_LISTING, FOURTH_REPORT,
     SECOND_LISTING, SECOND_REPORT, THIRD_LISTING, THIRD_REPORT,
+};
+use sequences::{
+    PLAIN_SEQUENCES_LISTING, PLAIN_SEQUENCES_REPORT, SHORT_SEQUENCES_LISTING,
+    SHORT_SEQUENCES_REPORT,
 };
 use std::alloc::{AllocError, Global};
 use std::process::Abort;
@@ -118,6 +123,18 @@ const SHORT_JUMP: Sample = Sample {
     report: SHORT_JUMP_REPORT,
 };
 
+const PLAIN_SEQUENCES: Sample = Sample {
+    name: "plain sequences",
+    listing: PLAIN_SEQUENCES_LISTING,
+    report: PLAIN_SEQUENCES_REPORT,
+};
+
+const SHORT_SEQUENCES: Sample = Sample {
+    name: "short sequences",
+    listing: SHORT_SEQUENCES_LISTING,
+    report: SHORT_SEQUENCES_REPORT,
+};
+
 /// Stops unless the listing of a sample has its report.
 fn assert_sample(rt: &impl Abort, alloc: Global, sample: &Sample) -> Result<(), AllocError> {
     let listing = written_out(alloc, sample.listing)?;
@@ -147,6 +164,16 @@ fn compressed_forms_without_zcb(rt: HostRuntime) -> Result<(), AllocError> {
 #[test]
 fn short_jumps(rt: HostRuntime) -> Result<(), AllocError> {
     assert_sample(&rt, rt.alloc(), &SHORT_JUMP)
+}
+
+#[test]
+fn plain_sequences(rt: HostRuntime) -> Result<(), AllocError> {
+    assert_sample(&rt, rt.alloc(), &PLAIN_SEQUENCES)
+}
+
+#[test]
+fn short_sequences(rt: HostRuntime) -> Result<(), AllocError> {
+    assert_sample(&rt, rt.alloc(), &SHORT_SEQUENCES)
 }
 
 /// The whole text of one in which some rows stand for many lines.

@@ -1,7 +1,7 @@
-use Rattle.std.proofs.Common.{[], sym, ◌∙◌, subst}
+use Rattle.std.proofs.Common.{◌≡◌, [], sym, ◌∙◌, subst}
 use Rattle.rv_emit.specs.Emission.{EmitsIn}
 use Rattle.rv_emit.specs.Emitted.{IsBounded}
-use Rattle.rv_emit.specs.State.{setting_beyond}
+use Rattle.rv_emit.specs.State.{setting_after, setting_beyond}
 use Rattle.rv_inst.specs.Context.{context_by}
 use Rattle.rv_asm.proofs.lines.put_inst.Goals as goal
 
@@ -19,3 +19,14 @@ returns-clause-put c = record {
   start = c.cur_offset-start.ensures;
   end = c.cur_offset-end.ensures;
 }
+
+pub returns-clause-setting : goal.returns-clause-setting
+returns-clause-setting c =
+    let room = c.in_ok-emit_needed_island.ensures in
+    let mid = c.emit_needed_island.new.sink in
+    let flags = c.args.info.now.isa_flags in
+    let before = c.args.state.now in
+    let known = room.setting ∙ sym (λ i. setting_beyond (room.room.asked i) before.vstate) in
+    let after : c.emit.new.state.vstate ≡ setting_after (context_by flags before.frame []) mid c.args.inst.now c.emit_needed_island.new.state.vstate =
+    subst (λ frame. c.emit.new.state.vstate ≡ setting_after (context_by flags frame []) mid c.args.inst.now c.emit_needed_island.new.state.vstate) room.frame c.in_ok-emit.ensures.setting in
+    (mid, c.in_ok-emit_needed_island.field-0, room.room, after ∙ (λ i. setting_after (context_by flags before.frame []) mid c.args.inst.now (known i)))

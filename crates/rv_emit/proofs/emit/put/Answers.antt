@@ -1,24 +1,46 @@
-use Rattle.std.proofs.Common.{sym}
-use Rattle.rv_inst.specs.Context.{context_by}
+use Rattle.std.proofs.Common.{◌≡◌, ℕ, false, Option, Some, None, refl, sym}
+use Rattle.std.specs.Prelude.{is_some}
+use Rattle.std.proofs.lemmas.Result.{on_ok_weaker}
 use Rattle.mach_buffer.specs.Buffer.{registered_of}
-use Rattle.rv_emit.proofs.ReachKept.{block_bounds, reach_calm, reach_after, reach_after_island}
-use Rattle.rv_emit.proofs.InstSlots.{inst_appends, asked}
+use Rattle.rv_inst.specs.Context.{context_by}
+use Rattle.rv_emit.specs.declared.state.EmitVState.TheVariants.{Unknown}
+use Rattle.rv_emit.proofs.FineOperands.{fine}
+use Rattle.rv_emit.proofs.InstSlots.{inst_appends}
+use Rattle.rv_emit.proofs.ReachKept.{block_bounds, reach_after}
+use Rattle.rv_emit.proofs.TableAppends.{reach_asking}
 use Rattle.rv_emit.proofs.emit.put.Goals as goal
 
-pub emit_island_if_needed-requires-clause-reach : goal.emit_island_if_needed-requires-clause-reach
-emit_island_if_needed-requires-clause-reach c = reach_calm c.args.sink.now c.requires.calm
+none_asked : (space : Option ℕ) → false ≡ is_some space → space ≡ None
+none_asked None e = refl
+none_asked (Some n) e = absurd (cc)
 
-pub returns-in_ok-emit_island_if_needed-in-Some-clause-reach : goal.returns-in_ok-emit_island_if_needed-in-Some-clause-reach
-returns-in_ok-emit_island_if_needed-in-Some-clause-reach c = reach_after_island _ c.args.sink.now c.emit_island_if_needed.new.sink _ c.in_ok-emit_island_if_needed-in-Some.ensures.made (reach_calm c.args.sink.now c.requires.calm)
+pub returns-then-asks_for_island-clause-reach : goal.returns-then-asks_for_island-clause-reach
+returns-then-asks_for_island-clause-reach c =
+    let context = context_by c.args.flags c.args.frame.now (registered_of c.args.sink.now) in
+    let asks = sym (c.if-asks_for_island.ensures context) in
+    on_ok_weaker c.put_asking.result (λ emitted. reach_asking context Unknown c.args.inst.now c.args.sink.now c.put_asking.new.sink c.requires asks (emitted Unknown)) (c.put_asking.ensures.emitted asks)
 
-pub returns-in_ok-put_sequence-in-None-clause-reach : goal.returns-in_ok-put_sequence-in-None-clause-reach
-returns-in_ok-put_sequence-in-None-clause-reach c = reach_after (context_by c.args.flags c.args.frame.now (registered_of c.args.sink.now)) c.args.inst.now c.args.sink.now c.put_sequence.new.sink c.requires (inst_appends (context_by c.args.flags c.args.frame.now (registered_of c.args.sink.now)) c.args.inst.now c.args.sink.now c.put_sequence.new.sink c.requires.rule c.requires.sound (sym (c.in-None.ensures (context_by c.args.flags c.args.frame.now (registered_of c.args.sink.now)))) (c.in_ok-put_sequence-in-None.ensures.parts (sym (c.in-None.ensures (context_by c.args.flags c.args.frame.now (registered_of c.args.sink.now))))))
+pub forgets_setting-requires-clause-fine : goal.forgets_setting-requires-clause-fine
+forgets_setting-requires-clause-fine c = (registered_of c.args.sink.now, fine (context_by c.args.flags c.args.frame.now (registered_of c.args.sink.now)) c.args.inst.now c.requires.rule)
 
-pub returns-in_ok-put_sequence-in-None-clause-bounds : goal.returns-in_ok-put_sequence-in-None-clause-bounds
-returns-in_ok-put_sequence-in-None-clause-bounds c = block_bounds (context_by c.args.flags c.args.frame.now (registered_of c.args.sink.now)) c.args.inst.now c.args.sink.now c.put_sequence.new.sink c.requires.rule (inst_appends (context_by c.args.flags c.args.frame.now (registered_of c.args.sink.now)) c.args.inst.now c.args.sink.now c.put_sequence.new.sink c.requires.rule c.requires.sound (sym (c.in-None.ensures (context_by c.args.flags c.args.frame.now (registered_of c.args.sink.now)))) (c.in_ok-put_sequence-in-None.ensures.parts (sym (c.in-None.ensures (context_by c.args.flags c.args.frame.now (registered_of c.args.sink.now))))))
+pub returns-in_ok-put_sequence-clause-emitted : goal.returns-in_ok-put_sequence-clause-emitted
+returns-in_ok-put_sequence-clause-emitted c =
+    let context = context_by c.args.flags c.args.frame.now (registered_of c.args.sink.now) in
+    c.in_ok-put_sequence.ensures.parts (none_asked _ (c.if-asks_for_island.ensures context))
 
-pub returns-in_ok-emit_island_if_needed-in-Some-clause-emitted : goal.returns-in_ok-emit_island_if_needed-in-Some-clause-emitted
-returns-in_ok-emit_island_if_needed-in-Some-clause-emitted c = asked (context_by c.args.flags c.args.frame.now (registered_of c.args.sink.now)) c.args.inst.now _ c.args.sink.now c.emit_island_if_needed.new.sink _ (sym (c.in-Some.ensures (context_by c.args.flags c.args.frame.now (registered_of c.args.sink.now)))) c.in_ok-emit_island_if_needed-in-Some.ensures.made
+pub returns-in_ok-put_sequence-clause-bounds : goal.returns-in_ok-put_sequence-clause-bounds
+returns-in_ok-put_sequence-clause-bounds c =
+    let context = context_by c.args.flags c.args.frame.now (registered_of c.args.sink.now) in
+    let none = none_asked _ (c.if-asks_for_island.ensures context) in
+    block_bounds context c.args.inst.now c.args.sink.now c.put_sequence.new.sink c.requires.rule (inst_appends context c.args.inst.now c.args.sink.now c.put_sequence.new.sink c.requires.rule c.requires.sound none (c.in_ok-put_sequence.ensures.parts none))
 
-pub returns-in_ok-put_sequence-in-None-clause-emitted : goal.returns-in_ok-put_sequence-in-None-clause-emitted
-returns-in_ok-put_sequence-in-None-clause-emitted c = c.in_ok-put_sequence-in-None.ensures.parts (sym (c.in-None.ensures (context_by c.args.flags c.args.frame.now (registered_of c.args.sink.now))))
+pub returns-in_ok-put_sequence-clause-reach : goal.returns-in_ok-put_sequence-clause-reach
+returns-in_ok-put_sequence-clause-reach c =
+    let context = context_by c.args.flags c.args.frame.now (registered_of c.args.sink.now) in
+    let none = none_asked _ (c.if-asks_for_island.ensures context) in
+    reach_after context c.args.inst.now c.args.sink.now c.put_sequence.new.sink c.requires none (inst_appends context c.args.inst.now c.args.sink.now c.put_sequence.new.sink c.requires.rule c.requires.sound none (c.in_ok-put_sequence.ensures.parts none))
+
+pub returns-in_ok-put_sequence-clause-setting : goal.returns-in_ok-put_sequence-clause-setting
+returns-in_ok-put_sequence-clause-setting c =
+    let context = context_by c.args.flags c.args.frame.now (registered_of c.args.sink.now) in
+    c.forgets_setting.ensures (registered_of c.args.sink.now) (none_asked _ (c.if-asks_for_island.ensures context)) c.args.sink.now

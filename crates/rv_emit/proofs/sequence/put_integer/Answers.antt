@@ -32,3 +32,13 @@ pub returns-in-Lui-clause-parts : goal.returns-in-Lui-clause-parts
 returns-in-Lui-clause-parts c =
     λ family. subst (λ inst. OnOk c.put_lui.result (EmitsAnyhow c.args.flags inst c.args.sink.now c.put_lui.new.sink)) (sym c.in-Lui.is)
     (on_ok_weaker c.put_lui.result (λ p frame constants setting. p) c.put_lui.ensures.slots)
+
+pub returns-in-Extend-clause-parts : goal.returns-in-Extend-clause-parts
+returns-in-Extend-clause-parts c =
+    λ family. subst (λ inst. OnOk c.put_extend.result (EmitsAnyhow c.args.flags inst c.args.sink.now c.put_extend.new.sink)) (sym c.in-Extend.is)
+    (on_ok_weaker c.put_extend.result (λ p frame constants setting. p) c.put_extend.ensures.slots)
+
+pub returns-in-Select-clause-parts : goal.returns-in-Select-clause-parts
+returns-in-Select-clause-parts c =
+    λ family. subst (λ inst. OnOk c.put_select.result (EmitsAnyhow c.args.flags inst c.args.sink.now c.put_select.new.sink)) (sym c.in-Select.is)
+    (on_ok_weaker c.put_select.result (λ p frame constants setting. p) c.put_select.ensures.slots)

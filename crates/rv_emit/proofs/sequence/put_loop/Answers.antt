@@ -7,3 +7,18 @@ pub returns-in-Popcnt-clause-parts : goal.returns-in-Popcnt-clause-parts
 returns-in-Popcnt-clause-parts c =
     λ family. subst (λ inst. OnOk c.put_popcnt.result (EmitsAnyhow c.args.flags inst c.args.sink.now c.put_popcnt.new.sink)) (sym c.in-Popcnt.is)
     (on_ok_weaker c.put_popcnt.result (λ p frame constants setting. p) c.put_popcnt.ensures.slots)
+
+pub returns-in-Cltz-clause-parts : goal.returns-in-Cltz-clause-parts
+returns-in-Cltz-clause-parts c =
+    λ family. subst (λ inst. OnOk c.put_zeros.result (EmitsAnyhow c.args.flags inst c.args.sink.now c.put_zeros.new.sink)) (sym c.in-Cltz.is)
+    (on_ok_weaker c.put_zeros.result (λ p frame constants setting. p) c.put_zeros.ensures.slots)
+
+pub returns-in-Brev8-clause-parts : goal.returns-in-Brev8-clause-parts
+returns-in-Brev8-clause-parts c =
+    λ family. subst (λ inst. OnOk c.put_reverse.result (EmitsAnyhow c.args.flags inst c.args.sink.now c.put_reverse.new.sink)) (sym c.in-Brev8.is)
+    (on_ok_weaker c.put_reverse.result (λ p frame constants setting. p) c.put_reverse.ensures.slots)
+
+pub returns-in-StackProbeLoop-clause-parts : goal.returns-in-StackProbeLoop-clause-parts
+returns-in-StackProbeLoop-clause-parts c =
+    λ family. subst (λ inst. OnOk c.put_probe_loop.result (EmitsAnyhow c.args.flags inst c.args.sink.now c.put_probe_loop.new.sink)) (sym c.in-StackProbeLoop.is)
+    (on_ok_weaker c.put_probe_loop.result (λ p frame constants setting. p) c.put_probe_loop.ensures.slots)

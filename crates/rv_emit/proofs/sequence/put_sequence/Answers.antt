@@ -24,7 +24,7 @@ pub returns-in-Integer-clause-parts : goal.returns-in-Integer-clause-parts
 returns-in-Integer-clause-parts c = λ asks. on_ok_weaker c.put_integer.result (λ emits. emits c.args.frame.now (registered_of c.args.sink.now)) (c.put_integer.ensures.parts (sym c.family.ensures ∙ c.in-Integer.is))
 
 pub returns-in-Control-clause-parts : goal.returns-in-Control-clause-parts
-returns-in-Control-clause-parts c = λ asks. on_ok_weaker c.put_control.result (λ emits. emits c.args.frame.now (registered_of c.args.sink.now)) (c.put_control.ensures.parts (sym c.family.ensures ∙ c.in-Control.is))
+returns-in-Control-clause-parts c = λ asks. c.put_control.ensures.parts (sym c.family.ensures ∙ c.in-Control.is) c.args.frame.now (registered_of c.args.sink.now) asks
 
 pub returns-in-Loop-clause-parts : goal.returns-in-Loop-clause-parts
 returns-in-Loop-clause-parts c = λ asks. on_ok_weaker c.put_loop.result (λ emits. emits c.args.frame.now (registered_of c.args.sink.now)) (c.put_loop.ensures.parts (sym c.family.ensures ∙ c.in-Loop.is))

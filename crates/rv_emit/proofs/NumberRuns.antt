@@ -1,0 +1,57 @@
+-- A number is put into a register.
+use Rattle.std.proofs.Common.{◌≡◌, ℕ, ◌+◌, ◌%◌, ◌^◌, ◌<◌, Bool, true, false, ℤ, Some, arith, refl, ap, subst, ◌∙◌, eqb-true}
+use Rattle.std.specs.Prelude.{◌==◌}
+use Rattle.std.specs.Int.{cast_signed, w64}
+use Rattle.std.proofs.lemmas.Bool.{and_parts}
+use Rattle.std.proofs.lemmas.Int.{of_z-to_z}
+use Rattle.rv_base.specs.declared.flags.IsaFlags.{IsaFlags}
+use Rattle.rv_ops.specs.declared.alu.AluOPRRI.TheVariants.{Addi}
+use Rattle.rv_machine.specs.State.{State, IsState, set_reg, wrap, low64, at}
+use Rattle.rv_inst.specs.Addresses.{is_splittable}
+use Rattle.rv_inst.specs.Forms.{short_rri}
+use Rattle.rv_emit.specs.Chains.{IsAt}
+use Rattle.rv_emit.specs.Immediates.{upper_of, lower_of}
+use Rattle.rv_emit.specs.InstParts.{number_slots}
+use Rattle.rv_emit.specs.Sites.{Site, StandsIn}
+use Rattle.rv_emit.specs.Slots.{size_of}
+use Rattle.rv_emit.proofs.AddressRuns.{Sets, sets_one, offset_even, offset_goes}
+use Rattle.rv_emit.proofs.ImmediateValues.{offset_sums}
+use Rattle.rv_emit.proofs.NumbersPut.{is_low, slots_by}
+use Rattle.rv_emit.proofs.ShortOps.{rri_acts, rri_sized}
+
+-- a number without an upper immediate is its lower one
+lower_whole : (z : ℤ) → is_low z ≡ true → wrap (0 + low64 (lower_of z)) ≡ wrap (low64 z)
+lower_whole z low =
+    let both = and_parts (is_splittable z) (low64 (upper_of z) == 0) low in
+    let sum = offset_sums z both.0 in
+    let none : low64 (upper_of z) ≡ 0 = eqb-true (low64 (upper_of z)) 0 both.1 in
+    omega (arith, sum, none)
+
+pub number_even : (flags : IsaFlags) (rd : ℕ) (z : ℤ) → size_of (number_slots flags rd z) % 2 ≡ 0
+number_even flags rd z = by (is_low z)
+  where
+    by : (low : Bool) → size_of (slots_by flags rd z low) % 2 ≡ 0
+    by true = let e = (rri_sized flags Addi rd 0 (lower_of z)).even in omega arith
+    by false = offset_even flags rd z
+
+-- the number, modulo 2 ^ 64, and nothing else
+pub number_goes : {site : Site} {offset : ℕ} {s : State} (allocated rd : ℕ) (z : ℤ) → 0 < rd → rd < 32 → IsState s → IsAt site offset (size_of (number_slots site.context.flags rd z)) s → StandsIn site allocated offset (number_slots site.context.flags rd z) → Sets site.context.flags (size_of (number_slots site.context.flags rd z)) s rd (wrap (low64 z))
+number_goes {site} {offset} {s} allocated rd z some lt is_state = by (is_low z) refl
+  where
+    flags : IsaFlags
+    flags = site.context.flags
+
+    by : (low : Bool) → is_low z ≡ low → IsAt site offset (size_of (slots_by flags rd z low)) s → StandsIn site allocated offset (slots_by flags rd z low) → Sets flags (size_of (slots_by flags rd z low)) s rd (wrap (low64 z))
+    by true low h stands =
+        let d = short_rri flags Addi rd 0 (lower_of z) in
+        let size = rri_sized flags Addi rd 0 (lower_of z) in
+        let long = size.some in
+        let all : d.len ≡ d.len + 0 = omega arith in
+        let value = lower_whole z low in
+        subst (λ n. Sets flags n s rd (wrap (low64 z))) all
+        (sets_one d rd (wrap (low64 z)) h (omega arith) stands.0 (rri_acts flags Addi rd 0 (lower_of z) s refl is_state ∙ ap (λ x. Some (at (wrap (s.pc + d.len)) (set_reg s.values rd x))) value))
+    by false high h stands = offset_goes allocated rd z some lt is_state h stands
+
+-- 64 bits, by the number that they are in two's complement
+pub bits_back : (n : ℕ) → n < 2 ^ 64 → wrap (low64 (cast_signed w64 n)) ≡ n
+bits_back n lt = let same = of_z-to_z w64 n lt in omega arith

@@ -1,0 +1,231 @@
+-- What a branch by a table puts: jumps in eight bytes, and the words before them.
+use Rattle.std.proofs.Common.{◌≡◌, inl, ℕ, zero, suc, ◌+◌, ◌-◌, ◌*◌, ◌/◌, ◌%◌, ◌^◌, ◌<◌, ◌≤◌, Bool, true, false, List, [], ◌∷◌, ◌++◌, map, take, drop, length, Some, None, ℤ, pos, negsuc, ◌≤ℤ◌, ⊎_elim, refl, ap, sym, subst, ◌∙◌, append_assoc, arith}
+use Rattle.std.specs.Prelude.{get_or}
+use Rattle.std.specs.Option.{option_map}
+use Rattle.std.specs.Int.{to_le_bytes, cast_signed, w32, w64}
+use Rattle.std.proofs.lemmas.Int.{ints}
+use Rattle.std.proofs.lemmas.List.{length-drop, length-take, map-append, take_all, take_more}
+use Rattle.rv_base.specs.LabelUse.{SameOutside}
+use Rattle.rv_base.specs.declared.flags.IsaFlags.{IsaFlags}
+use Rattle.rv_base.specs.declared.label.MachLabel.{MachLabel}
+use Rattle.rv_machine.specs.declared.ops.MOp.TheVariants.{Base}
+use Rattle.rv_machine.specs.declared.ops.BaseOp.TheVariants as base
+use Rattle.rv_machine.specs.Decode.{decode, by_opcode}
+use Rattle.rv_machine.specs.Layout.{word_opcode, word_funct3, u_bits, i_bits, i_layout}
+use Rattle.rv_machine.specs.Opcodes.{AUIPC, JALR}
+use Rattle.rv_machine.specs.State.{signed}
+use Rattle.rv_encode.specs.Layouts.{IsUType, IsIType}
+use Rattle.rv_encode.specs.Operations.{row}
+use Rattle.rv_encode.proofs.Decoding.{opcode_decodes}
+use Rattle.rv_inst.specs.declared.label_use.LabelUse.TheVariants.{PCRel32}
+use Rattle.rv_inst.specs.LabelUse.{Aims, marks_of}
+use Rattle.rv_inst.specs.LabelUseBridges.{with_immediate, PairDecodes}
+use Rattle.rv_inst.specs.LabelUseWords.{word_at, word_bytes}
+use Rattle.rv_inst.specs.Uses.{use_at}
+use Rattle.rv_inst.proofs.Bridges.{decode-patched_pair}
+use Rattle.mach_buffer.specs.Buffer.{shape_of, bytes_of}
+use Rattle.mach_buffer.specs.Shape.{with_bytes, with_use}
+use Rattle.rv_emit.specs.Emission.{PutsAlone, Emits}
+use Rattle.rv_emit.specs.Emitted.{Buffer, IsSoundBuffer, AppendsIsland, IslandIfNeeded, pending}
+use Rattle.rv_emit.specs.Immediates.{upper_of, lower_of}
+use Rattle.rv_emit.specs.Operations.{decoded_jalr}
+use Rattle.rv_emit.specs.Puts.{AllBytes, IsPatchable}
+use Rattle.rv_emit.specs.Choices.{extend_slots}
+use Rattle.rv_emit.specs.InstParts.{number_slots, table_slots}
+use Rattle.rv_emit.specs.Tables.{far_jump, jump_slots}
+use Rattle.rv_emit.specs.Usable.{AreListed, IsListed}
+use Rattle.rv_emit.proofs.Encoded.{word_fits}
+use Rattle.rv_emit.proofs.OffsetParts.{upper_is, lower_is}
+use Rattle.rv_emit.proofs.PartsPatched.{upper_fresh, lower_fresh}
+use Rattle.rv_emit.proofs.PlacedBytes.{word_there, rest_there, rest_fits}
+use Rattle.rv_inst.specs.Context.{Context}
+use Rattle.rv_inst.specs.Rules.{inst_rule}
+use Rattle.rv_inst.specs.Sizes.{inst_sum, table_space}
+use Rattle.rv_encode.specs.Registers.{IsIntRegister}
+use Rattle.rv_base.specs.LabelUse.{code_limit}
+use Rattle.rv_base.specs.Regs.{number_of}
+use Rattle.mach_buffer.specs.Constants.{reserve_of}
+use Rattle.rv_inst.specs.declared.inst.Inst.{Inst}
+use Rattle.rv_inst.specs.declared.inst.Inst.TheVariants.{EmitIsland, BrTable}
+use Rattle.rv_base.specs.declared.regs.Reg.{Reg}
+use Rattle.rv_base.specs.declared.regs.Writable.{Writable}
+use Rattle.rv_emit.proofs.Operands.{keeps}
+use Rattle.rv_emit.proofs.TableRules.{table_fine}
+use Rattle.rv_emit.proofs.SlotsPut.{alone}
+use Rattle.rv_emit.proofs.SlotsJoined.{both_alone, alone_long}
+use Rattle.rv_emit.proofs.TableSlots.{even_plain, extend_even, extend_few, number_even, number_few, number_long, count_splits, far_jumps_even, far_jumps_long}
+use Rattle.rv_emit.proofs.VeneerRuns.{first_bytes}
+
+-- ---- a window of two words
+
+-- the words of a far jump before its use is patched
+abbrev pub pair_bytes : ℕ → ℕ → List ℕ
+pair_bytes first second = word_bytes first ++ word_bytes second
+
+first_back : (w x : ℕ) → word_at (pair_bytes w x) ≡ w
+first_back w x = omega arith
+
+second_back : (w x : ℕ) → word_at (drop 4 (pair_bytes w x)) ≡ x
+second_back w x = omega arith
+
+-- numbers that are read as signed ones of few bits
+upper_low : (n : ℕ) → n < 2 ^ 20 → negsuc 524287 ≤ℤ signed (2 ^ 19) n
+upper_low n lt = grind (arith, ints)
+
+upper_high : (n : ℕ) → n < 2 ^ 20 → signed (2 ^ 19) n ≤ℤ pos 524287
+upper_high n lt = grind (arith, ints)
+
+lower_low : (n : ℕ) → n < 2 ^ 12 → negsuc 2047 ≤ℤ signed (2 ^ 11) n
+lower_low n lt = grind (arith, ints)
+
+lower_high : (n : ℕ) → n < 2 ^ 12 → signed (2 ^ 11) n ≤ℤ pos 2047
+lower_high n lt = grind (arith, ints)
+
+jalr_decodes : (x : ℕ) → word_funct3 x ≡ 0 → by_opcode JALR x ≡ Some (i_layout x (Base base.Jalr))
+jalr_decodes x z = rw z
+
+-- both words with a distance patched in
+pair_decodes : (flags : IsaFlags) (w x tmp : ℕ) (new : List ℕ) (d : ℤ) → w < 2 ^ 32 → x < 2 ^ 32 → IsUType w AUIPC tmp 0 → IsIType x JALR 0 0 tmp 0 → length new ≡ 8 → AllBytes new → SameOutside (marks_of PCRel32) (pair_bytes w x) new → Aims PCRel32 new d → PairDecodes flags (pair_bytes w x) new d
+pair_decodes flags w x tmp new d fw fx h g long all same aims =
+    decode-patched_pair flags (pair_bytes w x) new d
+    (let b = word_fits w fw in record { first = b.first; second = b.second; third = b.third; fourth = b.fourth }) (first_bytes new (omega arith) all)
+    (let b = word_fits x fx in record { first = b.first; second = b.second; third = b.third; fourth = b.fourth }) (first_bytes (drop 4 new) (omega (arith, length-drop 4 new)) (rest_fits new 4 (omega arith) all))
+    same (ap word_opcode (first_back w x) ∙ h.opcode_is) (inl (ap word_opcode (second_back w x) ∙ g.opcode_is)) aims
+
+-- the upper and the lower immediate that they hold are those of the distance
+upper_held : {flags : IsaFlags} {old new : List ℕ} {d : ℤ} (p : PairDecodes flags old new d) → u_bits (word_at new) < 2 ^ 20 → i_bits (word_at (drop 4 new)) < 2 ^ 12 → (upper_of d ≡ p.upper) × (lower_of d ≡ p.lower)
+upper_held {d = d} p fu fl =
+    let a = subst (λ z. negsuc 524287 ≤ℤ z) (sym p.upper_is) (upper_low _ fu) in
+    let b = subst (λ z. z ≤ℤ pos 524287) (sym p.upper_is) (upper_high _ fu) in
+    let l = subst (λ z. negsuc 2047 ≤ℤ z) (sym p.lower_is) (lower_low _ fl) in
+    let m = subst (λ z. z ≤ℤ pos 2047) (sym p.lower_is) (lower_high _ fl) in
+    (upper_is d p.upper p.lower a b l m p.sum, lower_is d p.upper p.lower a b l m p.sum)
+
+pub pair_patchable : (flags : IsaFlags) (w x tmp : ℕ) → w < 2 ^ 32 → x < 2 ^ 32 → IsUType w AUIPC tmp 0 → IsIType x JALR 0 0 tmp 0 → IsPatchable flags PCRel32 (pair_bytes w x) (λ d. row (Base base.Auipc) tmp 0 0 (upper_of d) ∷ decoded_jalr 0 tmp (lower_of d) ∷ [])
+pair_patchable flags w x tmp fw fx h g = record {
+  long = refl;
+  fresh = let a = h.imm_is in let b = g.imm_is in
+      let f = upper_fresh w (omega arith) in let e = lower_fresh x (omega arith) in
+      (f.0, (f.1.0, (f.1.1.0, (f.1.1.1.0, (e.0, (e.1.0, (e.1.1.0, (e.1.1.1.0, tt))))))));
+  patched = λ new d long all same aims mem a there.
+      let p = pair_decodes flags w x tmp new d fw fx h g long all same aims in
+      let held = upper_held p (omega arith) (omega arith) in
+      let upper : decode flags (word_at new) ≡ Some (row (Base base.Auipc) tmp 0 0 (upper_of d)) = p.first ∙ ap (λ n. option_map (with_immediate p.upper) (decode flags n)) (first_back w x) ∙ ap (option_map (with_immediate p.upper)) (opcode_decodes flags w AUIPC h.opcode_is refl) ∙ (λ i. Some (row (Base base.Auipc) (h.rd_is i) 0 0 (sym held.0 i))) in
+      let lower : decode flags (word_at (drop 4 new)) ≡ Some (decoded_jalr 0 tmp (lower_of d)) = p.second ∙ ap (λ n. option_map (with_immediate p.lower) (decode flags n)) (second_back w x) ∙ ap (option_map (with_immediate p.lower)) (opcode_decodes flags x JALR g.opcode_is refl ∙ jalr_decodes x g.funct3_is) ∙ (λ i. Some (decoded_jalr (g.rd_is i) (g.rs1_is i) (sym held.1 i))) in (
+        ap (decode flags) (word_there mem a new (omega arith) there) ∙ upper,
+        (ap (decode flags) (word_there mem (a + 4) (drop 4 new) (omega (arith, length-drop 4 new)) (rest_there mem a new 4 (omega arith) there)) ∙ lower, tt),
+      );
+}
+
+-- ---- a jump in eight bytes
+
+-- a word's bytes
+same_bytes : (x : ℕ) → x < 2 ^ 32 → to_le_bytes w32 x ≡ word_bytes x
+same_bytes x fits = let high : x / 16777216 % 256 ≡ x / 16777216 = omega arith in ap (λ n. x % 256 ∷ x / 256 % 256 ∷ x / 65536 % 256 ∷ n ∷ []) high
+
+pub far_put : (flags : IsaFlags) (tmp : ℕ) (label : MachLabel) (old mid new : Buffer) (w x : ℕ) → IsPatchable flags PCRel32 (pair_bytes w x) (λ d. row (Base base.Auipc) tmp 0 0 (upper_of d) ∷ decoded_jalr 0 tmp (lower_of d) ∷ []) → shape_of mid ≡ with_bytes (word_bytes w) (with_use (use_at (length (bytes_of old)) label PCRel32) (shape_of old)) → x < 2 ^ 32 → shape_of new ≡ with_bytes (to_le_bytes w32 x) (shape_of mid) → IsSoundBuffer new → PutsAlone flags (far_jump tmp label ∷ []) old new
+far_put flags tmp label old mid new w x is first fits second sound = alone (record {
+  puts = (shape_of new, (pair_bytes w x, is, second ∙ (λ i. with_bytes (same_bytes x fits i) (first i)) ∙ joined), refl);
+  sound = sound;
+})
+  where
+    joined : with_bytes (word_bytes x) (with_bytes (word_bytes w) (with_use (use_at (length (bytes_of old)) label PCRel32) (shape_of old))) ≡ with_bytes (pair_bytes w x) (with_use (use_at (length (bytes_of old)) label PCRel32) (shape_of old))
+    joined = ap (λ b. record (with_use (use_at (length (bytes_of old)) label PCRel32) (shape_of old)) { bytes = b }) (append_assoc (bytes_of old) (word_bytes w) (word_bytes x))
+
+-- ---- the table
+
+-- each of a listing's labels is one
+pub each_listed : (labels : List MachLabel) (k : ℕ) (d : MachLabel) → AreListed labels → k < length labels → IsListed (get_or labels k d)
+each_listed [] k d h lt = absurd (omega arith)
+each_listed (label ∷ labels) zero d h lt = h.0
+each_listed (label ∷ labels) (suc k) d h lt = each_listed labels k d h.1 (omega arith)
+
+-- one jump more
+pub one_more : {flags : IsaFlags} (tmp : ℕ) (labels : List MachLabel) (k : ℕ) (d : MachLabel) (old mid new : Buffer) → k < length labels → PutsAlone flags (map (far_jump tmp) (take k labels)) old mid → PutsAlone flags (far_jump tmp (get_or labels k d) ∷ []) mid new → PutsAlone flags (map (far_jump tmp) (take (k + 1) labels)) old new
+one_more {flags} tmp labels k d old mid new lt p q =
+    subst (λ slots. PutsAlone flags slots old new) (sym (ap (map (far_jump tmp)) (take_more labels k d lt) ∙ map-append (far_jump tmp) (take k labels) (get_or labels k d ∷ [])))
+    (both_alone (map (far_jump tmp) (take k labels)) (far_jump tmp (get_or labels k d) ∷ []) old mid new (even_plain (map (far_jump tmp) (take k labels)) (far_jumps_even tmp (take k labels))) p q)
+
+-- all of them
+pub all_put : {flags : IsaFlags} (tmp : ℕ) (labels : List MachLabel) (k : ℕ) (old new : Buffer) → length labels ≤ k → PutsAlone flags (map (far_jump tmp) (take k labels)) old new → PutsAlone flags (map (far_jump tmp) labels) old new
+all_put {flags} tmp labels k old new le p = subst (λ ls. PutsAlone flags (map (far_jump tmp) ls) old new) (take_all k labels le) p
+
+-- how long they are
+pub some_long : {flags : IsaFlags} (tmp : ℕ) (labels : List MachLabel) (k : ℕ) (old new : Buffer) → k ≤ length labels → PutsAlone flags (map (far_jump tmp) (take k labels)) old new → length (bytes_of new) ≡ length (bytes_of old) + 8 * k
+some_long tmp labels k old new le p =
+    let a = alone_long (map (far_jump tmp) (take k labels)) old new p in
+    let b = far_jumps_long tmp (take k labels) in
+    let e = length-take k labels in
+    omega arith
+
+-- ---- the whole sequence
+
+-- the labels after the default, as the code has them
+abbrev pub others : List MachLabel → List MachLabel
+others targets = take (length targets - 1) (drop 1 targets)
+
+pub others_fewer : (targets : List MachLabel) → 1 ≤ length targets → length (others targets) + 1 ≡ length targets
+others_fewer [] some = absurd (omega arith)
+others_fewer (default ∷ labels) some = let e = length-take (length (default ∷ labels) - 1) labels in omega arith
+
+-- the index goes to x31
+pub extended : {flags : IsaFlags} {old new : Buffer} (spare index : ℕ) → spare ≡ 31 → PutsAlone flags (extend_slots flags spare index false 32) old new → PutsAlone flags (extend_slots flags 31 index false 32) old new
+extended {flags} {old} {new} spare index e p = subst (λ n. PutsAlone flags (extend_slots flags n index false 32) old new) e p
+
+-- a number of few bits, signed
+small_signed : (n : ℕ) → n < 2 ^ 32 → cast_signed w64 n ≡ pos n
+small_signed n lt = grind (arith, ints)
+
+pub counted : {flags : IsaFlags} {old new : Buffer} (tmp2 n : ℕ) → n < 2 ^ 32 → PutsAlone flags (number_slots flags tmp2 (cast_signed w64 n)) old new → PutsAlone flags (number_slots flags tmp2 (pos n)) old new
+counted {flags} {old} {new} tmp2 n lt p = subst (λ z. PutsAlone flags (number_slots flags tmp2 z) old new) (small_signed n lt) p
+
+-- how long the pieces are before the jumps
+pub before_few : {flags : IsaFlags} (index tmp2 n : ℕ) (old mid new : Buffer) → n < 2 ^ 30 → PutsAlone flags (extend_slots flags 31 index false 32) old mid → PutsAlone flags (number_slots flags tmp2 (pos n)) mid new → length (bytes_of new) ≤ length (bytes_of old) + 16
+before_few {flags} index tmp2 n old mid new lt p q =
+    let a = alone_long (extend_slots flags 31 index false 32) old mid p in
+    let b = alone_long (number_slots flags tmp2 (pos n)) mid new q in
+    let c = extend_few flags 31 index in
+    let d = number_long flags tmp2 (pos n) in
+    let e = number_few flags tmp2 (pos n) (count_splits n lt) in
+    omega arith
+
+pub table_put : {flags : IsaFlags} (index tmp1 tmp2 : ℕ) (targets : List MachLabel) (d : MachLabel) (old a b new : Buffer) → 1 ≤ length targets → PutsAlone flags (extend_slots flags 31 index false 32) old a → PutsAlone flags (number_slots flags tmp2 (pos (length (others targets)))) a b → PutsAlone flags (jump_slots tmp1 tmp2 (get_or targets 0 d) (others targets)) b new → PutsAlone flags (table_slots flags index tmp1 tmp2 targets) old new
+table_put index tmp1 tmp2 [] d old a b new some p q r = absurd (omega arith)
+table_put {flags} index tmp1 tmp2 (default ∷ labels) d old a b new some p q r =
+    let same : others (default ∷ labels) ≡ labels = take_all (length (default ∷ labels) - 1) labels (omega arith) in
+    let number = subst (λ ls. PutsAlone flags (number_slots flags tmp2 (pos (length ls))) a b) same q in
+    let jumps = subst (λ ls. PutsAlone flags (jump_slots tmp1 tmp2 default ls) b new) same r in
+    let extend = extend_slots flags 31 index false 32 in
+    let count = number_slots flags tmp2 (pos (length labels)) in
+    both_alone extend (count ++ jump_slots tmp1 tmp2 default labels) old a new (even_plain extend (extend_even flags 31 index)) p
+    (both_alone count (jump_slots tmp1 tmp2 default labels) a b new (even_plain count (number_even flags tmp2 (pos (length labels)))) number jumps)
+
+-- ---- the instruction
+
+-- what a branch by a table that breaks no rule asks of its registers and labels
+pub table_kept : (context : Context) (inst : Inst) (index : Reg) (tmp1 tmp2 : Writable Reg) (targets : List MachLabel) → inst ≡ BrTable index tmp1 tmp2 targets → inst_rule context inst ≡ None → IsIntRegister index × IsIntRegister tmp1.reg × IsIntRegister tmp2.reg × AreListed targets × (1 ≤ length targets)
+table_kept context inst index tmp1 tmp2 targets is rule = table_fine index tmp1 tmp2 targets (keeps context (BrTable index tmp1 tmp2 targets) (ap (inst_rule context) (sym is) ∙ rule))
+
+-- how many bytes it counts for
+pub table_sum : (context : Context) (inst : Inst) (index : Reg) (tmp1 tmp2 : Writable Reg) (targets : List MachLabel) → inst ≡ BrTable index tmp1 tmp2 targets → inst_sum context inst ≡ 128 + 8 * length targets
+table_sum context inst index tmp1 tmp2 targets is = ap (inst_sum context) is
+
+-- after an island where one is needed, room is left for as many bytes as were counted
+pub island_room : (space extra : ℕ) (old new : Buffer) (made : Bool) → length (bytes_of old) + (128 + extra) + reserve_of (shape_of old) + 8 * length (pending old) + 32 < code_limit → IslandIfNeeded space old new made → length (bytes_of new) + 40 + extra < code_limit
+island_room space extra old new made room m = ⊎_elim
+    (λ (same : (made ≡ false) × (new ≡ old)). let e : length (bytes_of new) ≡ length (bytes_of old) = ap (λ (b : Buffer). length (bytes_of b)) same.1 in omega arith)
+    (λ (put : (made ≡ true) × AppendsIsland old new). let short = put.1.short in omega arith)
+    m.put
+
+pub island_sound : (space : ℕ) (old new : Buffer) (made : Bool) → IsSoundBuffer old → IslandIfNeeded space old new made → IsSoundBuffer new
+island_sound space old new made sound m = ⊎_elim (λ same. subst IsSoundBuffer (sym same.1) sound) (λ put. put.1.sound) m.put
+
+-- an island alone
+pub island_emits : (context : Context) (inst : Inst) (space : ℕ) (old new : Buffer) (made : Bool) → inst ≡ EmitIsland space → IslandIfNeeded space old new made → Emits context inst old new
+island_emits context inst space old new made is m = subst (λ i. Emits context i old new) (sym is) (λ setting. (new, made, m, refl))
+
+-- an island, and the sequence after it
+pub table_emits : (context : Context) (inst : Inst) (index : Reg) (tmp1 tmp2 : Writable Reg) (targets : List MachLabel) (space : ℕ) (old mid new : Buffer) (made : Bool) → inst ≡ BrTable index tmp1 tmp2 targets → space ≡ table_space (length targets) → IslandIfNeeded space old mid made → (labels : List MachLabel) → labels ≡ targets → PutsAlone context.flags (table_slots context.flags (number_of index) (number_of tmp1.reg) (number_of tmp2.reg) labels) mid new → Emits context inst old new
+table_emits context inst index tmp1 tmp2 targets space old mid new made is wide m labels all p =
+    let slots = subst (λ ls. PutsAlone context.flags (table_slots context.flags (number_of index) (number_of tmp1.reg) (number_of tmp2.reg) ls) mid new) all p in
+    subst (λ i. Emits context i old new) (sym is) (λ setting. (mid, made, subst (λ n. IslandIfNeeded n old mid made) wide m, slots))

@@ -1,0 +1,8 @@
+use Rattle.std.proofs.Common.{map, take}
+use Rattle.rv_base.specs.Regs.{number_of}
+use Rattle.rv_emit.specs.Emission.{PutsAlone}
+use Rattle.rv_emit.specs.Tables.{far_jump}
+use Rattle.rv_emit.proofs.table.put_far_jumps.Given as goal
+
+abbrev pub invariant-loop-label : goal.invariant-loop-label
+invariant-loop-label l = PutsAlone l.flags (map (far_jump (number_of l.tmp.reg)) (take l.label-index l.labels)) l.fn.sink l.sink

@@ -1,0 +1,120 @@
+//! What emission still knows of the vector unit's setting after an instruction's sequence.
+
+ghost use Rattle.std.specs.Prelude.{◌≡◌, ◌<◌, ◌^◌, ◌&&◌, not, List, None};
+ghost use Rattle.rv_base.specs.declared.constant.Constant.{Constant};
+ghost use Rattle.rv_base.specs.Frame.{sp_to_args_end};
+ghost use Rattle.rv_inst.specs.Addresses.{location_of, is_splittable};
+ghost use Rattle.rv_inst.specs.Context.{context_by};
+ghost use Rattle.rv_inst.specs.Families.{family_of};
+ghost use Rattle.rv_inst.specs.Sizes.{island_space};
+ghost use Rattle.rv_inst.specs.declared.inst.Family.TheVariants.{Integer, Memory, Control, Loop};
+ghost use Rattle.rv_emit.specs.declared.state.EmitVState.{EmitVState as Setting};
+ghost use Rattle.rv_emit.specs.Emitted.{Buffer};
+ghost use Rattle.rv_emit.specs.State.{setting_after, setting_beyond, is_inline, jumps};
+ghost use Rattle.rv_emit.specs.Usable.{IsFine, IsFineAddress};
+
+use rv_base::{AMode, FrameLayout, IsaFlags};
+use rv_imms::{imm_max, imm_min};
+use rv_inst::{CondBrTarget, Family, Inst};
+
+/// Returns whether nothing is known of the setting after the sequence of an instruction that asks for no island: a `jalr` stands
+/// in it, or a `jal` of four bytes.
+pub(crate) fn forgets_setting(flags: IsaFlags, frame: &FrameLayout, inst: &Inst) -> bool
+    requires frame { sp_to_args_end frame.now < 2 ^ 31 }
+    requires fine { (constants : List Constant) × IsFine constants inst.now }
+    ensures { (constants : List Constant) → island_space (context_by flags frame.now constants) inst.now ≡ None → (b : Buffer) (setting : Setting) → setting_after (context_by flags frame.now constants) b inst.now setting ≡ setting_beyond result setting }
+{
+    match inst.family() {
+        Family::Pseudo => false,
+        Family::Integer => integer_forgets(flags, inst),
+        Family::Memory => memory_forgets(flags, frame, inst),
+        Family::Control => control_forgets(flags, inst),
+        Family::Loop => loop_forgets(flags, inst),
+    }
+}
+
+/// A constant that stands among the code is jumped over.
+fn integer_forgets(flags: IsaFlags, inst: &Inst) -> bool
+    ensures { family_of inst.now ≡ Integer → (frame : FrameLayout) (constants : List Constant) (b : Buffer) (setting : Setting) → setting_after (context_by flags frame constants) b inst.now setting ≡ setting_beyond result setting }
+{
+    match inst {
+        Inst::LoadInlineConst { .. } => !flags.has_zca,
+        _ => false,
+    }
+}
+
+/// So is an offset.
+fn memory_forgets(flags: IsaFlags, frame: &FrameLayout, inst: &Inst) -> bool
+    requires frame { sp_to_args_end frame.now < 2 ^ 31 }
+    requires fine { (constants : List Constant) × IsFine constants inst.now }
+    ensures { family_of inst.now ≡ Memory → (constants : List Constant) (b : Buffer) (setting : Setting) → setting_after (context_by flags frame.now constants) b inst.now setting ≡ setting_beyond result setting }
+{
+    match inst {
+        Inst::Load { from, .. } => has_inline_offset(frame, *from) && !flags.has_zca,
+        Inst::Store { to, .. } => has_inline_offset(frame, *to) && !flags.has_zca,
+        Inst::LoadAddr { mem, .. } => has_inline_offset(frame, *mem) && !flags.has_zca,
+        _ => false,
+    }
+}
+
+fn control_forgets(flags: IsaFlags, inst: &Inst) -> bool
+    ensures { family_of inst.now ≡ Control → (frame : FrameLayout) (constants : List Constant) (b : Buffer) (setting : Setting) → setting_after (context_by flags frame constants) b inst.now setting ≡ setting_beyond result setting }
+{
+    match inst {
+        Inst::Ret | Inst::BrTable { .. } | Inst::Jalr { .. } => true,
+        Inst::Jal { label: _ } => !flags.has_zca,
+        Inst::CondBr {
+            taken,
+            not_taken,
+            ..
+        } => branch_jumps(*taken, *not_taken) && !flags.has_zca,
+        _ => false,
+    }
+}
+
+/// Each loop jumps back to its start.
+fn loop_forgets(flags: IsaFlags, inst: &Inst) -> bool
+    ensures { family_of inst.now ≡ Loop → (frame : FrameLayout) (constants : List Constant) (b : Buffer) (setting : Setting) → setting_after (context_by flags frame constants) b inst.now setting ≡ setting_beyond result setting }
+{
+    match inst {
+        Inst::Popcnt { .. }
+        | Inst::Cltz { .. }
+        | Inst::Brev8 { .. }
+        | Inst::StackProbeLoop { .. } => !flags.has_zca,
+        _ => false,
+    }
+}
+
+/// Returns whether a branch has a jump after it.
+fn branch_jumps(taken: CondBrTarget, not_taken: CondBrTarget) -> bool
+    ensures { result ≡ jumps taken not_taken }
+{
+    match (taken, not_taken) {
+        (CondBrTarget::Fallthrough, _) => false,
+        (CondBrTarget::Label(_), CondBrTarget::Fallthrough) => false,
+        (CondBrTarget::Label(_), CondBrTarget::Label(_)) => true,
+    }
+}
+
+/// Returns whether the offset of an address stands among the code.
+fn has_inline_offset(frame: &FrameLayout, mode: AMode) -> bool
+    requires frame { sp_to_args_end frame.now < 2 ^ 31 }
+    requires fine { (constants : List Constant) × IsFineAddress constants mode }
+    ensures { result ≡ is_inline (location_of frame.now mode) }
+{
+    match mode {
+        AMode::RegOffset(_, offset) => is_unsplittable(offset),
+        AMode::SPOffset(offset) => is_unsplittable(offset),
+        AMode::FPOffset(offset) => is_unsplittable(offset),
+        AMode::SlotOffset(_) => is_unsplittable(mode.get_offset(frame)),
+        AMode::IncomingArg(_) => is_unsplittable(mode.get_offset(frame)),
+        AMode::Const(_) | AMode::Label(_) => false,
+    }
+}
+
+/// Returns whether no two immediates make an offset.
+fn is_unsplittable(offset: i64) -> bool
+    ensures { result ≡ not (is_splittable offset) }
+{
+    offset < imm_min() || offset > imm_max()
+}

@@ -1,0 +1,57 @@
+//! The sequence that counts the zeros of a register before its first one.
+
+ghost use Rattle.std.specs.Prelude.{◌≡◌, ◌+◌, ◌<◌, length, OnOk, OnErr, true};
+ghost use Rattle.rv_base.specs.LabelUse.{code_limit};
+ghost use Rattle.rv_base.specs.Regs.{number_of};
+ghost use Rattle.rv_base.specs.IrType.{bits_of};
+ghost use Rattle.rv_encode.specs.Registers.{IsIntRegister};
+ghost use Rattle.rv_inst.specs.Rules.{is_int_type};
+ghost use Rattle.rv_inst.specs.Sizes.{bit_shift};
+ghost use Rattle.mach_buffer.specs.Buffer.{bytes_of, spoiled_of};
+ghost use Rattle.rv_emit.specs.Emitted.{IsSoundBuffer};
+ghost use Rattle.rv_emit.specs.Emission.{PutsAlone};
+ghost use Rattle.rv_emit.specs.InstParts.{zeros_slots};
+
+use crate::counts::{put_start, put_turn};
+use mach_buffer::MachBuffer;
+use rv_base::{IrType, IsaFlags, OutOfMemory, Reg, WritableReg};
+use rv_inst::LabelUse;
+use rv_ops::AluOPRRI;
+
+/// Counts the zeros of a register's low bits, as many as the type has, from the highest on or from the lowest, until one is a
+/// one: `step` counts the bits that are left, and `tmp` holds the next one.
+pub(crate) fn put_zeros(
+    sink: &mut MachBuffer<LabelUse>,
+    flags: IsaFlags,
+    leading: bool,
+    sum: WritableReg,
+    tmp: WritableReg,
+    step: WritableReg,
+    rs: Reg,
+    ty: IrType,
+) -> Result<(), OutOfMemory>
+    requires sum { IsIntRegister sum.reg }
+    requires tmp { IsIntRegister tmp.reg }
+    requires step { IsIntRegister step.reg }
+    requires rs { IsIntRegister rs }
+    requires ty { is_int_type ty ≡ true }
+    requires room { length (bytes_of sink.old) + 44 < code_limit }
+    requires sound { IsSoundBuffer sink.old }
+    ensures slots { OnOk result (PutsAlone flags (zeros_slots flags leading (number_of sum.reg) (number_of tmp.reg) (number_of step.reg) (number_of rs) (bits_of ty)) sink.old sink.new) }
+    ensures refused { OnErr result (spoiled_of sink.new ≡ true) }
+{
+    put_start(sink, flags, leading, sum, tmp, step, ty)?;
+    put_turn(sink, flags, true, next_shift(leading), sum, tmp, step, rs)?;
+    Ok(())
+}
+
+/// After a bit comes the one below it, or the one above.
+fn next_shift(leading: bool) -> AluOPRRI
+    ensures { result ≡ bit_shift leading }
+{
+    if leading {
+        AluOPRRI::Srli
+    } else {
+        AluOPRRI::Slli
+    }
+}

@@ -1,0 +1,4 @@
+pub mod Modes
+pub mod VState
+pub mod VType
+pub mod Widths
