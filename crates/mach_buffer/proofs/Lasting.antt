@@ -1,6 +1,18 @@
 -- How a buffer grows, and what lasts in it.
 use Rattle.std.proofs.Common.{◌≡◌, ℕ, ◌+◌, ◌≤◌, true, List, [], ◌∷◌, ◌++◌, length, take, set, Option, Some, None, refl, ap, sym, ◌∙◌, subst, arith, append_assoc}
-use Rattle.mach_buffer.proofs.Words.{nat_tests, take-take, length-append, map-append, slice_get, MachLabel, Kinds, VCodeConstant, TrapCode, Use, Shape, with_bytes, with_use, with_label, with_allocated, with_trap, with_named, veneer_use, core, recorded, is_reached, put_at, put_veneer, put_all, IsNone, Grows, Lasts}
+use Rattle.std.specs.Prelude.{slice_get}
+use Rattle.std.proofs.lemmas.Bool.Decides.{nat_tests}
+use Rattle.std.proofs.lemmas.List.{take-take, length-append, map-append}
+use Rattle.rv_base.specs.declared.label.MachLabel.{MachLabel}
+use Rattle.rv_base.specs.LabelUse.{Kinds}
+use Rattle.rv_base.specs.declared.constant.VCodeConstant.{VCodeConstant}
+use Rattle.rv_base.specs.declared.trap.TrapCode.{TrapCode}
+use Rattle.mach_buffer.specs.declared.uses.Use.{Use}
+use Rattle.mach_buffer.specs.Shape.{Shape, with_bytes, with_use, with_label, with_allocated, with_trap, with_named, veneer_use, core, recorded}
+use Rattle.mach_buffer.specs.Reach.{is_reached}
+use Rattle.mach_buffer.specs.Veneers.{put_at, put_veneer, put_all}
+use Rattle.mach_buffer.specs.VeneerConditions.{IsNone}
+use Rattle.mach_buffer.specs.Growth.{Grows, Lasts}
 use Rattle.mach_buffer.proofs.Links.{recorded_set}
 use Rattle.mach_buffer.proofs.Lists.{append_none, both_lists, map_each, none_some, only_one, slice_get-append, slice_get-set_other, take_front}
 use Rattle.mach_buffer.proofs.ConstantOrder.{placed_other}
@@ -31,41 +43,14 @@ grows_put {L} {bytes} {uses} {place} block own after new_bytes new_uses new_plac
   places = kept;
 }
 
--- what a list becomes as elements are added
-pub record Added {X : Type 0} (xs ys : List X) : Type 0 where
-  pub more : List X
-  pub is : ys ≡ xs ++ more
-
-abbrev pub none_added : {X : Type 0} (xs : List X) → Added xs xs
-none_added xs = record { more = []; is = sym (append_none xs) }
-
-abbrev pub some_added : {X : Type 0} (xs more : List X) → Added xs (xs ++ more)
-some_added xs more = record { more = more; is = refl }
+-- by places of labels alone
+grows_places : {L : Type 0} {bytes : List ℕ} {uses : List (Use L)} {place new_place : ℕ → Option ℕ} → ((label to : ℕ) → place label ≡ Some to → new_place label ≡ Some to) → Grows bytes uses place bytes uses new_place
+grows_places {L} {bytes} {uses} kept = grows_put [] [] (λ k u h. absurd (cc)) bytes uses _ (sym (append_none bytes)) (sym (append_none (recorded uses))) kept
 
 -- ---- lasting
 
--- a shape lasts in one whose lists only had elements added
-pub lasts_added : {L : Type 0} (kinds : Kinds L) (s t : Shape L) → Added s.bytes t.bytes → (uses : Added s.uses t.uses) → ((k : ℕ) (u : Use L) → slice_get uses.more k ≡ Some u → length s.bytes ≤ u.offset) → ((label to : ℕ) → s.place label ≡ Some to → t.place label ≡ Some to) →
-    s.allocated ≤ t.allocated → Added s.traps t.traps → t.registered ≡ s.registered → Added s.named t.named → Added s.constants t.constants → Lasts kinds s t
-lasts_added {L} kinds s t bytes uses after places allocated traps registered named constants = record {
-  grows = grows_put bytes.more uses.more after t.bytes t.uses t.place bytes.is (ap recorded uses.is ∙ map-append core s.uses uses.more) places;
-  straight = λ j u h bare reached. stays uses j u h;
-  allocated = allocated;
-  traps = stays traps;
-  registered = registered;
-  named = stays named;
-  constants = stays constants;
-}
-  where
-    stays : {X : Type 0} {xs ys : List X} → Added xs ys → (i : ℕ) (x : X) → slice_get xs i ≡ Some x → slice_get ys i ≡ Some x
-    stays {xs = xs} a i x h = ap (λ ys. slice_get ys i) a.is ∙ slice_get-append xs a.more i x h
-
--- the labels are bound as they were, or one more is
-pub lasts_places : {L : Type 0} (kinds : Kinds L) (s t : Shape L) → Added s.bytes t.bytes → t.uses ≡ s.uses → ((label to : ℕ) → s.place label ≡ Some to → t.place label ≡ Some to) → s.allocated ≤ t.allocated → Added s.traps t.traps → t.registered ≡ s.registered → Added s.named t.named → Added s.constants t.constants → Lasts kinds s t
-lasts_places kinds s t bytes uses = lasts_added kinds s t bytes (record { more = []; is = uses ∙ sym (append_none s.uses) }) (λ k u h. absurd (cc))
-
 pub lasts_same : {L : Type 0} (kinds : Kinds L) (s : Shape L) → Lasts kinds s s
-lasts_same kinds s = lasts_places kinds s s (none_added _) refl (λ label to h. h) (omega arith) (none_added _) refl (none_added _) (none_added _)
+lasts_same kinds s = record { grows = grows_places (λ label to h. h); straight = λ j u h bare reached. h; allocated = omega arith; traps = λ k r h. h; registered = refl; named = λ i k h. h; constants = λ j c h. h }
 
 -- a label in reach stays so
 pub stays_reached : {L : Type 0} (kinds : Kinds L) (u : Use L) (old new : Option ℕ) → ((to : ℕ) → old ≡ Some to → new ≡ Some to) → is_reached kinds old u ≡ true → is_reached kinds new u ≡ true
@@ -83,22 +68,46 @@ lasts_more {L} {kinds} {s} {t} {v} x y = record {
 }
 
 pub lasts_bytes : {L : Type 0} (kinds : Kinds L) (piece : List ℕ) (s : Shape L) → Lasts kinds s (with_bytes piece s)
-lasts_bytes kinds piece s = lasts_places kinds s (with_bytes piece s) (some_added _ _) refl (λ label to h. h) (omega arith) (none_added _) refl (none_added _) (none_added _)
+lasts_bytes kinds piece s = record {
+  grows = grows_put piece [] (λ k u h. absurd (cc)) (s.bytes ++ piece) s.uses s.place refl (sym (append_none (recorded s.uses))) (λ label to h. h);
+  straight = λ j u h bare reached. h;
+  allocated = omega arith;
+  traps = λ k r h. h;
+  registered = refl;
+  named = λ i k h. h;
+  constants = λ j c h. h;
+}
 
 pub lasts_use : {L : Type 0} (kinds : Kinds L) (u : Use L) (s : Shape L) → length s.bytes ≤ u.offset → Lasts kinds s (with_use u s)
-lasts_use {L} kinds u s le = lasts_added kinds s (with_use u s) (none_added _) (some_added _ _) (only_one (λ (y : Use L). length s.bytes ≤ y.offset) u le) (λ label to h. h) (omega arith) (none_added _) refl (none_added _) (none_added _)
+lasts_use {L} kinds u s le = record {
+  grows = grows_put [] (u ∷ []) (only_one (λ (y : Use L). length s.bytes ≤ y.offset) u le) s.bytes (s.uses ++ u ∷ []) s.place (sym (append_none s.bytes)) (map-append _ s.uses (u ∷ [])) (λ label to h. h);
+  straight = λ j x h bare reached. slice_get-append s.uses (u ∷ []) j x h;
+  allocated = omega arith;
+  traps = λ k r h. h;
+  registered = refl;
+  named = λ i k h. h;
+  constants = λ j c h. h;
+}
 
 pub lasts_allocated : {L : Type 0} (kinds : Kinds L) (s : Shape L) → Lasts kinds s (with_allocated s)
-lasts_allocated kinds s = lasts_places kinds s (with_allocated s) (none_added _) refl (λ label to h. h) (omega arith) (none_added _) refl (none_added _) (none_added _)
+lasts_allocated kinds s = record { grows = grows_places (λ label to h. h); straight = λ j u h bare reached. h; allocated = omega arith; traps = λ k r h. h; registered = refl; named = λ i k h. h; constants = λ j c h. h }
 
 pub lasts_trap : {L : Type 0} (kinds : Kinds L) (code : TrapCode) (s : Shape L) → Lasts kinds s (with_trap code s)
-lasts_trap kinds code s = lasts_places kinds s (with_trap code s) (none_added _) refl (λ label to h. h) (omega arith) (some_added _ _) refl (none_added _) (none_added _)
+lasts_trap kinds code s = record { grows = grows_places (λ label to h. h); straight = λ j u h bare reached. h; allocated = omega arith; traps = λ k r h. slice_get-append s.traps (record { offset = length s.bytes; code = code } ∷ []) k r h; registered = refl; named = λ i k h. h; constants = λ j c h. h }
 
 pub lasts_named : {L : Type 0} (kinds : Kinds L) (k : VCodeConstant) (s : Shape L) → Lasts kinds s (with_named k s)
-lasts_named kinds k s = lasts_places kinds s (with_named k s) (none_added _) refl (λ label to h. h) (omega arith) (none_added _) refl (some_added _ _) (none_added _)
+lasts_named kinds k s = record { grows = grows_places (λ label to h. h); straight = λ j u h bare reached. h; allocated = omega arith; traps = λ i r h. h; registered = refl; named = λ i l h. slice_get-append s.named _ i l h; constants = λ j c h. h }
 
 pub lasts_label : {L : Type 0} (kinds : Kinds L) (label : MachLabel) (s : Shape L) → s.place label.number ≡ None → Lasts kinds s (with_label label s)
-lasts_label kinds label s unbound = lasts_places kinds s (with_label label s) (none_added _) refl (λ other to h. placed_other s.place label.number (length s.bytes) other (λ e. none_some (s.place other) to (ap s.place e ∙ unbound) h) ∙ h) (omega arith) (none_added _) refl (none_added _) (none_added _)
+lasts_label kinds label s unbound = record {
+  grows = grows_places (λ other to h. placed_other s.place label.number (length s.bytes) other (λ e. none_some (s.place other) to (ap s.place e ∙ unbound) h) ∙ h);
+  straight = λ j u h bare reached. h;
+  allocated = omega arith;
+  traps = λ k r h. h;
+  registered = refl;
+  named = λ i k h. h;
+  constants = λ j c h. h;
+}
 
 -- ---- veneers
 
@@ -109,7 +118,7 @@ pub record VeneersLast {L : Type 0} (kinds : Kinds L) (order : List ℕ) (s t : 
   pub keeps : (j : ℕ) (u : Use L) → IsNone j order → slice_get s.uses j ≡ Some u → slice_get t.uses j ≡ Some u
 
 one_last : {L : Type 0} (kinds : Kinds L) (i : ℕ) (o : Option (Use L)) (s : Shape L) → slice_get s.uses i ≡ o → VeneersLast kinds (i ∷ []) s (put_at kinds i o s)
-one_last kinds i None s e = record { same = refl; grows = (lasts_same kinds s).grows; keeps = λ j u none h. h }
+one_last kinds i None s e = record { same = refl; grows = grows_places (λ label to h. h); keeps = λ j u none h. h }
 one_last {L} kinds i (Some u) s e =
     let v : Use L = record u { veneer = Some (length s.bytes) } in
     let own : Use L = veneer_use (kinds.veneer u.kind) (length s.bytes) u.label in
@@ -120,7 +129,7 @@ one_last {L} kinds i (Some u) s e =
     }
 
 pub veneers_last : {L : Type 0} (kinds : Kinds L) (order : List ℕ) (s : Shape L) → VeneersLast kinds order s (put_all kinds order s)
-veneers_last kinds [] s = record { same = refl; grows = (lasts_same kinds s).grows; keeps = λ j u none h. h }
+veneers_last kinds [] s = record { same = refl; grows = grows_places (λ label to h. h); keeps = λ j u none h. h }
 veneers_last {L} kinds (i ∷ order) s =
     let a = one_last kinds i (slice_get s.uses i) s refl in
     let b = veneers_last kinds order (put_veneer kinds i s) in

@@ -1,4 +1,3 @@
-pub mod Words
 pub mod Slack
 pub mod Lists
 pub mod Numbers
@@ -9,7 +8,6 @@ pub mod VeneersPut
 pub mod ConstantOrder
 pub mod Sound
 pub mod OrderOfVeneers
-pub mod VeneersAndConstants
 pub mod IslandVeneers
 pub mod LastVeneers
 pub mod Lasting

@@ -1,6 +1,21 @@
 -- A piece of code, with one use or none, as it is put and in finished code.
 use Rattle.std.proofs.Common.{◌≡◌, ℕ, ◌+◌, ◌%◌, ◌≤◌, inl, inr, ⊎_elim, true, false, List, [], ◌∷◌, ◌++◌, length, Option, Some, None, refl, ap, sym, ◌∙◌, subst, arith}
-use Rattle.mach_buffer.proofs.Words.{true≢false, and_left, false_from_ne_true, true_from_ne_false, same_Some, length-append, take_all, slice_get, Kinds, Veneer, IsFresh, SameOutside, Patch, Use, Shape, with_bytes, with_use, core, recorded, IsLinked, window, IsApart, AreWindows, AllEnd, KeepsOthers, patch_of, patches_of, is_reached, is_pending, IsVia, Arrives, Finishes, Grows, Lasts, IsPiece, UseFinished, AllStand, HasConstants, Inside, AreSound}
+use Rattle.std.specs.Prelude.{slice_get}
+use Rattle.std.proofs.lemmas.Bool.{true≢false, and_left, false_from_ne_true, true_from_ne_false}
+use Rattle.std.proofs.lemmas.Option.{same_Some}
+use Rattle.std.proofs.lemmas.List.{length-append, take_all}
+use Rattle.rv_base.specs.LabelUse.{Kinds, Veneer, IsFresh, SameOutside}
+use Rattle.mach_buffer.specs.declared.patches.Patch.{Patch}
+use Rattle.mach_buffer.specs.declared.uses.Use.{Use}
+use Rattle.mach_buffer.specs.Shape.{Shape, with_bytes, with_use, core, recorded}
+use Rattle.mach_buffer.specs.Links.{IsLinked}
+use Rattle.mach_buffer.specs.Windows.{window, IsApart, AreWindows, AllEnd, KeepsOthers, patch_of, patches_of}
+use Rattle.mach_buffer.specs.Reach.{is_reached, is_pending}
+use Rattle.mach_buffer.specs.Finish.{IsVia, Arrives, Finishes}
+use Rattle.mach_buffer.specs.Growth.{Grows, Lasts}
+use Rattle.mach_buffer.specs.Pieces.{IsPiece, UseFinished}
+use Rattle.mach_buffer.specs.Constants.{AllStand, HasConstants}
+use Rattle.mach_buffer.specs.Buffer.{Inside, AreSound}
 use Rattle.mach_buffer.proofs.Lasting.{grows_more}
 use Rattle.mach_buffer.proofs.LastVeneers.{some_place, finish_keeps, patch_at}
 use Rattle.mach_buffer.proofs.Links.{window_stays, window_last, recorded_get, windows_bytes, windows_use}

@@ -91,7 +91,8 @@ impl<L: MachInstLabelUse> MachBuffer<L> {
             .pending
             .order(&self.code.uses, &self.labels, None, self.alloc)?;
         self.pad_last(order.len())?;
-        self.put_pending(false, &order)?;
+        self.put_veneers(&order)?;
+        self.put_constants()?;
         Ok(())
     }
 

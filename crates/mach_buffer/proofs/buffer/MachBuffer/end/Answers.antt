@@ -1,5 +1,10 @@
 use Rattle.std.proofs.Common.{◌≡◌, ◌∙◌, ap, sym, subst, length, List, ℕ}
-use Rattle.mach_buffer.proofs.Words.{take_at, Shape, inside_of, shape_of, bytes_of, place_of, constants_of, Constant, HasConstants, Finishes}
+use Rattle.std.proofs.lemmas.List.{take_at}
+use Rattle.mach_buffer.specs.Shape.{Shape}
+use Rattle.mach_buffer.specs.Buffer.{inside_of, shape_of, bytes_of, place_of, constants_of}
+use Rattle.rv_base.specs.declared.constant.Constant.{Constant}
+use Rattle.mach_buffer.specs.Constants.{HasConstants}
+use Rattle.mach_buffer.specs.Finish.{Finishes}
 use Rattle.mach_buffer.proofs.Pieces.{constants_kept}
 use Rattle.mach_buffer.proofs.LastVeneers.{LastDone, last_done, can_patch_all, all_arrive}
 use Rattle.mach_buffer.proofs.buffer.MachBuffer.end.Given as given
