@@ -1,60 +1,19 @@
 -- The constants that wait are put: where they end, what stands after them, and the room that they take.
 use Rattle.std.proofs.Common.{◌≡◌, ℕ, zero, suc, ◌+◌, ◌-◌, ◌%◌, ◌<◌, ◌≤◌, ◌⊎◌, inl, inr, ⊎_elim, List, [], ◌∷◌, ◌++◌, length, Option, Some, None, refl, ap, sym, ◌∙◌, subst, arith, append_assoc}
-use Rattle.std.specs.Prelude.{slice_get, is_some, if◌then◌else◌}
-use Rattle.std.proofs.lemmas.Bool.{cases_eq}
-use Rattle.std.proofs.lemmas.Option.{same_Some}
-use Rattle.std.proofs.lemmas.List.{length-append}
-use Rattle.rv_base.specs.LabelUse.{Kinds}
-use Rattle.rv_base.specs.declared.constant.ConstAlign.{ConstAlign}
-use Rattle.rv_base.specs.declared.constant.ConstAlign.TheVariants.{A1, A2, A4, A8, A16}
-use Rattle.rv_base.specs.declared.constant.Constant.{Constant}
-use Rattle.rv_base.specs.declared.constant.VCodeConstant.{VCodeConstant}
-use Rattle.mach_labels.specs.Table.{first_constant}
-use Rattle.mach_buffer.specs.declared.records.ConstPlace.{ConstPlace}
-use Rattle.mach_buffer.specs.Shape.{Shape, with_bytes, placed, constant_label, waiting_of, IsConstantLabel}
-use Rattle.mach_buffer.specs.Windows.{AllEnd}
-use Rattle.mach_buffer.specs.Growth.{Lasts}
-use Rattle.mach_buffer.specs.Constants.{zeros, aligned_to, constant_end, constants_end, end_after, put_constant_at, put_constant, put_each, put_constants, reserve_from, reserve_of, IsOrdered, ConstantStands, AllStand}
+use Rattle.mach_buffer.proofs.Words.{nat_tests, cases_eq, same_Some, length-append, slice_get, is_some, if◌then◌else◌, Kinds, ConstAlign, A1, A2, A4, A8, A16, Constant, VCodeConstant, first_constant, ConstPlace, Shape, with_bytes, placed, constant_label, waiting_of, IsConstantLabel, AllEnd, Lasts, zeros, aligned_to, constant_end, constants_end, end_after, put_constant_at, put_constant, put_each, put_constants, reserve_from, reserve_of, IsOrdered, ConstantStands, AllStand}
 use Rattle.mach_buffer.proofs.ConstantOrder.{placed_same, placed_other, next_there, next_waits, ordered_constant}
-use Rattle.mach_buffer.proofs.Lasting.{grows_put, lasts_same, lasts_more}
-use Rattle.mach_buffer.proofs.Lists.{append_none, locate, one_there, none_some, slice_get-append}
+use Rattle.mach_buffer.proofs.Lasting.{none_added, some_added, records_same, lasts_places, lasts_same, lasts_more}
+use Rattle.mach_buffer.proofs.Lists.{append_each, none_some}
 
 -- ---- alignments
 
-pub aligned_after : (a : ConstAlign) (n : ℕ) → n ≤ aligned_to a n
-aligned_after A1 n = omega arith
-aligned_after A2 n = omega arith
-aligned_after A4 n = omega arith
-aligned_after A8 n = omega arith
-aligned_after A16 n = omega arith
-
-pub aligned_by : (a : ConstAlign) (n : ℕ) → aligned_to a n ≤ n + 15
-aligned_by A1 n = omega arith
-aligned_by A2 n = omega arith
-aligned_by A4 n = omega arith
-aligned_by A8 n = omega arith
-aligned_by A16 n = omega arith
-
-aligned_even : (a : ConstAlign) (n : ℕ) → aligned_to a n % 2 ≡ 0
-aligned_even A1 n = omega arith
-aligned_even A2 n = omega arith
-aligned_even A4 n = omega arith
-aligned_even A8 n = omega arith
-aligned_even A16 n = omega arith
-
-aligned_whole : (a : ConstAlign) (n : ℕ) → aligned_to a (aligned_to a n) ≡ aligned_to a n
-aligned_whole A1 n = omega arith
-aligned_whole A2 n = omega arith
-aligned_whole A4 n = omega arith
-aligned_whole A8 n = omega arith
-aligned_whole A16 n = omega arith
-
-aligned_keeps : (a : ConstAlign) (m n : ℕ) → m ≤ n → aligned_to a m ≤ aligned_to a n
-aligned_keeps A1 m n le = omega arith
-aligned_keeps A2 m n le = omega arith
-aligned_keeps A4 m n le = omega arith
-aligned_keeps A8 m n le = omega arith
-aligned_keeps A16 m n le = omega arith
+-- the next multiple is at most 15 after, is even, is its own next, and only grows
+pub aligned_is : (a : ConstAlign) (n : ℕ) → (n ≤ aligned_to a n) × (aligned_to a n ≤ n + 15) × (aligned_to a n % 2 ≡ 0) × (aligned_to a (aligned_to a n) ≡ aligned_to a n) × ((m : ℕ) → m ≤ n → aligned_to a m ≤ aligned_to a n)
+aligned_is A1 n = (omega arith, omega arith, omega arith, omega arith, λ m le. omega arith)
+aligned_is A2 n = (omega arith, omega arith, omega arith, omega arith, λ m le. omega arith)
+aligned_is A4 n = (omega arith, omega arith, omega arith, omega arith, λ m le. omega arith)
+aligned_is A8 n = (omega arith, omega arith, omega arith, omega arith, λ m le. omega arith)
+aligned_is A16 n = (omega arith, omega arith, omega arith, omega arith, λ m le. omega arith)
 
 pub length_zeros : (n : ℕ) → length (zeros n) ≡ n
 length_zeros zero = refl
@@ -62,21 +21,14 @@ length_zeros (suc n) = ap suc (length_zeros n)
 
 -- ---- where constants end
 
-pub end_grows : (o : Option Constant) (n : ℕ) → n ≤ constant_end o n
-end_grows None n = omega arith
-end_grows (Some c) n = let a = aligned_after c.align n in omega arith
+end_is : (o : Option Constant) (n : ℕ) → (n ≤ constant_end o n) × ((m : ℕ) → m ≤ n → constant_end o m ≤ constant_end o n)
+end_is None n = (omega arith, λ m le. le)
+end_is (Some c) n = let a = aligned_is c.align n in (omega arith, λ m le. let k = a.4 m le in omega arith)
 
-end_keeps : (o : Option Constant) (m n : ℕ) → m ≤ n → constant_end o m ≤ constant_end o n
-end_keeps None m n le = le
-end_keeps (Some c) m n le = let a = aligned_keeps c.align m n le in omega arith
-
-pub ends_grow : (registered : List Constant) (ks : List VCodeConstant) (n : ℕ) → n ≤ constants_end registered ks n
-ends_grow registered [] n = omega arith
-ends_grow registered (k ∷ ks) n = let a = end_grows (slice_get registered k.number) n in let b = ends_grow registered ks (constant_end (slice_get registered k.number) n) in omega arith
-
-pub ends_keep : (registered : List Constant) (ks : List VCodeConstant) (m n : ℕ) → m ≤ n → constants_end registered ks m ≤ constants_end registered ks n
-ends_keep registered [] m n le = le
-ends_keep registered (k ∷ ks) m n le = ends_keep registered ks _ _ (end_keeps (slice_get registered k.number) m n le)
+-- they end after where they begin, and end later where they begin later
+pub ends_is : (registered : List Constant) (ks : List VCodeConstant) (n : ℕ) → (n ≤ constants_end registered ks n) × ((m : ℕ) → m ≤ n → constants_end registered ks m ≤ constants_end registered ks n)
+ends_is registered [] n = (omega arith, λ m le. le)
+ends_is registered (k ∷ ks) n = let a = end_is (slice_get registered k.number) n in let b = ends_is registered ks (constant_end (slice_get registered k.number) n) in (omega arith, λ m le. b.1 _ (a.1 m le))
 
 -- ---- one constant
 
@@ -89,8 +41,6 @@ found_at (x ∷ xs) (suc n) lt = found_at xs n (omega arith)
 -- what stands after constants are put
 pub record ConstantsDone {L : Type 0} (kinds : Kinds L) (s t : Shape L) : Type 0 where
   pub same : t ≡ record s { bytes = t.bytes; place = t.place; constants = t.constants }
-  pub more : List ℕ
-  pub bytes : t.bytes ≡ s.bytes ++ more
   pub lasts : Lasts kinds s t
   pub ordered : IsOrdered t
   pub places : (label at : ℕ) → t.place label ≡ Some at → (s.place label ≡ Some at) ⊎ ((at ≤ length t.bytes) × (at % 2 ≡ 0) × IsConstantLabel s.named label)
@@ -108,7 +58,7 @@ module _ {L : Type 0} (kinds : Kinds L) (s : Shape L) (k : VCodeConstant) (ks : 
   pad_one = zeros (at_one - length s.bytes)
 
   pad_long : length (s.bytes ++ pad_one) ≡ at_one
-  pad_long = let z = length_zeros (at_one - length s.bytes) in let l = length-append s.bytes pad_one in let a = aligned_after c.align (length s.bytes) in omega arith
+  pad_long = let z = length_zeros (at_one - length s.bytes) in let l = length-append s.bytes pad_one in let a = (aligned_is c.align (length s.bytes)).0 in omega arith
 
   pub one_long : length one.bytes ≡ constant_end (Some c) (length s.bytes)
   one_long = length-append (s.bytes ++ pad_one) c.bytes ∙ ap (λ n. n + length c.bytes) pad_long
@@ -121,27 +71,11 @@ module _ {L : Type 0} (kinds : Kinds L) (s : Shape L) (k : VCodeConstant) (ks : 
   places_stay label to h = placed_other s.place (constant_label k).number at_one label (λ e. none_some (s.place label) to (ap s.place e ∙ free_one) h) ∙ h
 
   one_lasts : Lasts kinds s one
-  one_lasts = record {
-    grows = grows_put (pad_one ++ c.bytes) [] (λ j u h. absurd (cc)) one.bytes s.uses one.place (append_assoc s.bytes pad_one c.bytes) (sym (append_none _)) places_stay;
-    straight = λ j u h bare reached. h;
-    allocated = omega arith;
-    traps = λ j r h. h;
-    registered = refl;
-    named = λ i l h. h;
-    constants = λ j d h. slice_get-append s.constants _ j d h;
-  }
+  one_lasts = lasts_places kinds s one (record { more = pad_one ++ c.bytes; is = append_assoc s.bytes pad_one c.bytes }) refl places_stay (omega arith) (records_same refl) refl (none_added _) (some_added _ _)
 
   -- its bytes come after the zero bytes
   put_lasts : Lasts kinds (with_bytes c.bytes (with_bytes pad_one s)) one
-  put_lasts = record {
-    grows = grows_put [] [] (λ j u h. absurd (cc)) one.bytes s.uses one.place (sym (append_none _)) (sym (append_none _)) places_stay;
-    straight = λ j u h bare reached. h;
-    allocated = omega arith;
-    traps = λ j r h. h;
-    registered = refl;
-    named = λ i l h. h;
-    constants = λ j d h. slice_get-append s.constants _ j d h;
-  }
+  put_lasts = lasts_places kinds (with_bytes c.bytes (with_bytes pad_one s)) one (none_added _) refl places_stay (omega arith) (records_same refl) refl (none_added _) (some_added _ _)
 
   one_stands : AllEnd kinds s → ConstantStands kinds one (record { constant = k; offset = at_one })
   one_stands ends = record {
@@ -150,27 +84,23 @@ module _ {L : Type 0} (kinds : Kinds L) (s : Shape L) (k : VCodeConstant) (ks : 
     before = with_bytes pad_one s;
     ends = λ j u h. let e = ends j u h in let l = length-append s.bytes pad_one in omega arith;
     at = sym pad_long;
-    aligned = aligned_whole c.align (length s.bytes);
+    aligned = (aligned_is c.align (length s.bytes)).3;
     lasts = put_lasts;
   }
 
   pub one_done : ConstantsDone kinds s one
   one_done = record {
     same = refl;
-    more = pad_one ++ c.bytes;
-    bytes = append_assoc s.bytes pad_one c.bytes;
     lasts = one_lasts;
     ordered = ordered_constant s k ks at_one wait o;
     places = λ label to h. ⊎_elim
         (λ e. inr (let here : at_one ≡ to = same_Some _ _ (sym (placed_same s.place (constant_label k).number at_one) ∙ ap (placed s.place (constant_label k).number at_one) (sym e) ∙ h) in
-        (omega (arith, one_long), subst (λ n. n % 2 ≡ 0) here (aligned_even c.align (length s.bytes)), record { index = length s.constants; constant = k; there = next_there s k ks wait; is = e })))
+        (omega (arith, one_long), subst (λ n. n % 2 ≡ 0) here (aligned_is c.align (length s.bytes)).2, record { index = length s.constants; constant = k; there = next_there s k ks wait; is = e })))
         (λ ne. inl (sym (placed_other s.place (constant_label k).number at_one label ne) ∙ h))
         (cases_eq label (constant_label k).number);
     others = λ label lt. placed_other s.place (constant_label k).number at_one label (λ e. absurd (omega arith));
-    stand = λ ends stand j d h. ⊎_elim
-        (λ a. let w = stand j d a in record { constant = w.constant; there = w.there; before = w.before; ends = w.ends; at = w.at; aligned = w.aligned; lasts = lasts_more w.lasts one_lasts })
-        (λ a. subst (ConstantStands kinds one) (one_there (record { constant = k; offset = at_one }) a.index d a.there).1 (one_stands ends))
-        (locate s.constants (record { constant = k; offset = at_one } ∷ []) j d h);
+    stand = λ ends stand. append_each (ConstantStands kinds one) s.constants (record { constant = k; offset = at_one }) (one_stands ends)
+        (λ j d h. let w = stand j d h in record { constant = w.constant; there = w.there; before = w.before; ends = w.ends; at = w.at; aligned = w.aligned; lasts = lasts_more w.lasts one_lasts });
   }
 
 -- ---- all of them
@@ -187,8 +117,6 @@ uses_stay {L} (k ∷ ks) s = uses_stay ks (put_constant k s) ∙ on (slice_get s
 done_none : {L : Type 0} {kinds : Kinds L} (s : Shape L) → IsOrdered s → ConstantsDone kinds s s
 done_none {kinds = kinds} s o = record {
   same = refl;
-  more = [];
-  bytes = sym (append_none s.bytes);
   lasts = lasts_same kinds s;
   ordered = o;
   places = λ label at h. inl h;
@@ -203,8 +131,6 @@ done_more {L} {kinds} {s} {m} {t} a b =
     let longer = b.lasts.grows.longer in
     record {
       same = b.same ∙ ap (λ (x : Shape L). record x { bytes = t.bytes; place = t.place; constants = t.constants }) a.same;
-      more = a.more ++ b.more;
-      bytes = b.bytes ∙ ap (λ (bs : List ℕ). bs ++ b.more) a.bytes ∙ append_assoc s.bytes a.more b.more;
       lasts = lasts_more a.lasts b.lasts;
       ordered = b.ordered;
       places = λ label at h. ⊎_elim
@@ -218,7 +144,7 @@ done_more {L} {kinds} {s} {m} {t} a b =
     }
 
 -- several are put, up to an offset
-record EachDone {L : Type 0} (kinds : Kinds L) (s t : Shape L) (end : ℕ) : Type 0 where
+pub record EachDone {L : Type 0} (kinds : Kinds L) (s t : Shape L) (end : ℕ) : Type 0 where
   pub done : ConstantsDone kinds s t
   pub long : length t.bytes ≡ end
   pub waiting : waiting_of t ≡ []
@@ -237,18 +163,8 @@ each_done {L} {kinds} (k ∷ ks) s wait o =
       waiting = rest.waiting;
     })
 
-module _ {L : Type 0} (kinds : Kinds L) (s : Shape L) (o : IsOrdered s) where
-  each : EachDone kinds s (put_constants s) (end_after s (length s.bytes))
-  each = each_done (waiting_of s) s refl o
-
-  pub constants_done : ConstantsDone kinds s (put_constants s)
-  constants_done = each.done
-
-  pub constants_long : length (put_constants s).bytes ≡ end_after s (length s.bytes)
-  constants_long = each.long
-
-  pub constants_waiting : waiting_of (put_constants s) ≡ []
-  constants_waiting = each.waiting
+pub constants_put : {L : Type 0} (kinds : Kinds L) (s : Shape L) → IsOrdered s → EachDone kinds s (put_constants s) (end_after s (length s.bytes))
+constants_put kinds s o = each_done (waiting_of s) s refl o
 
 -- what stands lasts
 pub stands_last : {L : Type 0} {kinds : Kinds L} {s t : Shape L} → Lasts kinds s t → t.constants ≡ s.constants → AllStand kinds s → AllStand kinds t
@@ -264,23 +180,13 @@ reserve_other place new_place i [] same = refl
 reserve_other place new_place i (c ∷ cs) same = (λ k. (if is_some (same i (omega arith) k) then 0 else length c.bytes + 16) + reserve_other place new_place (suc i) cs (λ n le. same n (omega arith)) k)
 
 -- one that comes to stand takes its bytes and 16
-reserve_less : (place : ℕ → Option ℕ) (i n at : ℕ) (cs : List Constant) (c : Constant) → slice_get cs n ≡ Some c → place (first_constant + (i + n)) ≡ None → reserve_from (placed place (first_constant + (i + n)) at) i cs + (length c.bytes + 16) ≡ reserve_from place i cs
-reserve_less place i n at [] c h free = absurd (cc)
-reserve_less place i zero at (d ∷ cs) c h free =
-    let label : first_constant + (i + 0) ≡ first_constant + i = omega arith in
-    let stands : placed place (first_constant + (i + 0)) at (first_constant + i) ≡ Some at = ap (λ l. placed place l at (first_constant + i)) label ∙ placed_same place (first_constant + i) at in
-    let was : place (first_constant + i) ≡ None = ap place (sym label) ∙ free in
-    let rest = reserve_other place (placed place (first_constant + (i + 0)) at) (suc i) cs (λ m le. placed_other place (first_constant + (i + 0)) at (first_constant + m) (λ q. absurd (omega arith))) in
-    let long : length d.bytes ≡ length c.bytes = ap (λ (x : Constant). length x.bytes) (same_Some _ _ h) in
-    let head_new : (if is_some (placed place (first_constant + (i + 0)) at (first_constant + i)) then 0 else length d.bytes + 16) ≡ 0 = ap (λ (o : Option ℕ). if is_some o then 0 else length d.bytes + 16) stands in
-    let head_old : (if is_some (place (first_constant + i)) then 0 else length d.bytes + 16) ≡ length d.bytes + 16 = ap (λ (o : Option ℕ). if is_some o then 0 else length d.bytes + 16) was in
-    omega (arith, rest, long, head_new, head_old)
-reserve_less place i (suc n) at (d ∷ cs) c h free =
-    let label : first_constant + (suc i + n) ≡ first_constant + (i + suc n) = omega arith in
-    let rest = reserve_less place (suc i) n at cs c h (ap place label ∙ free) in
-    let rest_ : reserve_from (placed place (first_constant + (i + suc n)) at) (suc i) cs + (length c.bytes + 16) ≡ reserve_from place (suc i) cs = ap (λ l. reserve_from (placed place l at) (suc i) cs + (length c.bytes + 16)) (sym label) ∙ rest in
-    let head : (if is_some (placed place (first_constant + (i + suc n)) at (first_constant + i)) then 0 else length d.bytes + 16) ≡ (if is_some (place (first_constant + i)) then 0 else length d.bytes + 16) = ap (λ (o : Option ℕ). if is_some o then 0 else length d.bytes + 16) (placed_other place (first_constant + (i + suc n)) at (first_constant + i) (λ q. absurd (omega arith))) in
-    omega (arith, rest_, head)
+reserve_less : (place : ℕ → Option ℕ) (i n label at : ℕ) (cs : List Constant) (c : Constant) → slice_get cs n ≡ Some c → label ≡ first_constant + (i + n) → place label ≡ None → reserve_from (placed place label at) i cs + (length c.bytes + 16) ≡ reserve_from place i cs
+reserve_less place i n label at [] c h is free = absurd (cc)
+reserve_less place i zero label at (d ∷ cs) c h is free =
+    let rest = reserve_other place (placed place label at) (suc i) cs (λ m le. placed_other place label at (first_constant + m) (λ q. absurd (omega arith))) in
+    let was : place (first_constant + i) ≡ None = ap place (omega arith) ∙ free in
+    grind (arith, nat_tests, rest, was)
+reserve_less place i (suc n) label at (d ∷ cs) c h is free = grind (arith, nat_tests, reserve_less place (suc i) n label at cs c h (omega arith) free)
 
 -- so constants that are put take no more room than was kept for them
 each_room : {L : Type 0} (ks : List VCodeConstant) (s : Shape L) → waiting_of s ≡ ks → IsOrdered s → (n : ℕ) → constants_end s.registered ks n + reserve_of (put_each ks s) ≤ n + reserve_of s
@@ -291,10 +197,9 @@ each_room {L} (k ∷ ks) s wait o n =
     let at = aligned_to c.align (length s.bytes) in
     let m : Shape L = put_constant_at (Some c) k s in
     let rest = each_room ks m (next_waits s k ks _ wait) (ordered_constant s k ks at wait o) (constant_end (Some c) n) in
-    let less = reserve_less s.place 0 k.number at s.registered c found.1 (ap s.place (omega arith) ∙ o.free (length s.constants) k (omega arith) (next_there s k ks wait)) in
-    let less_ : reserve_of m + (length c.bytes + 16) ≡ reserve_of s = ap (λ l. reserve_from (placed s.place l at) 0 s.registered + (length c.bytes + 16)) (omega arith) ∙ less in
-    let near = aligned_by c.align n in
-    subst (λ (p : Option Constant). constants_end s.registered ks (constant_end p n) + reserve_of (put_each ks (put_constant_at p k s)) ≤ n + reserve_of s) (sym found.1) (omega (arith, rest, less_, near))
+    let less = reserve_less s.place 0 k.number (constant_label k).number at s.registered c found.1 (omega arith) (o.free (length s.constants) k (omega arith) (next_there s k ks wait)) in
+    let near = (aligned_is c.align n).1 in
+    subst (λ (p : Option Constant). constants_end s.registered ks (constant_end p n) + reserve_of (put_each ks (put_constant_at p k s)) ≤ n + reserve_of s) (sym found.1) (omega (arith, rest, less, near))
 
 pub ends_within : {L : Type 0} (s : Shape L) → IsOrdered s → (n : ℕ) → end_after s n + reserve_of (put_constants s) ≤ n + reserve_of s
 ends_within s o n = each_room (waiting_of s) s refl o n

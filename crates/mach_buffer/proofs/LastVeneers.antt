@@ -1,37 +1,15 @@
 -- The last veneers: that they can be put, what stands after them, and where each use goes once it is patched.
-use Rattle.std.proofs.lemmas.Bool.Decides.{nat_tests}
-use Rattle.std.proofs.Common.{◌≡◌, ◌≢◌, ℕ, zero, suc, ◌+◌, ◌-◌, ◌%◌, ◌<◌, ◌≤◌, inl, inr, ⊎_elim, true, false, List, [], ◌++◌, length, map, take, drop, Option, Some, None, unwrap_or, refl, ap, sym, ◌∙◌, subst, arith, pos, ◌-ℤ◌}
-use Rattle.std.specs.Prelude.{slice_get, is_some}
-use Rattle.std.proofs.Math.Bool.{and-true}
-use Rattle.std.specs.Option.{option_map}
-use Rattle.std.proofs.lemmas.Option.{slice_get-map}
-use Rattle.std.proofs.lemmas.List.{take-take, drop-drop, drop-take, length-drop, take_all}
-use Rattle.std.proofs.lemmas.Bool.{true≢false, and_parts, cases_Bool, false_from_ne_true}
-use Rattle.rv_base.specs.LabelUse.{code_limit, Kinds, SameOutside, IsVeneer}
-use Rattle.mach_buffer.specs.declared.patches.Patch.{Patch}
-use Rattle.mach_buffer.specs.declared.uses.Use.{Use}
-use Rattle.mach_labels.specs.Table.{first_constant}
-use Rattle.mach_buffer.specs.declared.records.ConstPlace.{ConstPlace}
-use Rattle.mach_buffer.specs.Shape.{Shape, with_bytes, veneer_use, core, waiting_of}
-use Rattle.mach_buffer.specs.Links.{IsLinked}
-use Rattle.mach_buffer.specs.Constants.{end_after, put_constants, offset_in, IsOrdered, AllStand}
-use Rattle.mach_buffer.specs.Reach.{is_reached, is_pending, is_other}
-use Rattle.mach_buffer.specs.Growth.{Grows, Lasts}
-use Rattle.mach_buffer.specs.Windows.{window, AreWindows, CanPatch, CanPatchAll, IsApart, AllAim, AllKept, KeepsOthers, or_place, patch_of, patches_of}
-use Rattle.mach_buffer.specs.Veneers.{put_all, IsOrder}
-use Rattle.mach_buffer.specs.Islands.{aligned, padding, is_far}
-use Rattle.mach_buffer.specs.Finish.{before_last, padded_for, pending_in, last_end, CanFinish, Finishes, Arrives, AllArrive}
-use Rattle.mach_buffer.specs.VeneerConditions.{AddsOwn}
-use Rattle.mach_buffer.specs.Buffer.{Inside, AreSound}
-use Rattle.mach_buffer.proofs.Links.{HasLaw, linked_bytes, windows_bytes}
+use Rattle.std.proofs.Common.{◌≡◌, ◌≢◌, ℕ, zero, suc, ◌+◌, ◌-◌, ◌*◌, ◌%◌, ◌<◌, ◌≤◌, inl, inr, ⊎_elim, true, false, List, [], ◌++◌, length, map, take, drop, Option, Some, None, unwrap_or, refl, ap, sym, ◌∙◌, subst, arith, pos, ◌-ℤ◌}
+use Rattle.mach_buffer.proofs.Words.{nat_tests, and-true, slice_get-map, take-take, drop-drop, drop-take, length-drop, take_all, true≢false, and_parts, cases_Bool, false_from_ne_true, slice_get, is_some, option_map, code_limit, Kinds, SameOutside, IsVeneer, Patch, Use, first_constant, ConstPlace, Shape, with_bytes, veneer_use, core, waiting_of, IsLinked, end_after, put_constants, offset_in, AllStand, is_reached, is_pending, is_other, Grows, window, AreWindows, CanPatch, CanPatchAll, IsApart, AllAim, AllKept, KeepsOthers, or_place, patch_of, patches_of, put_all, IsOrder, aligned, padding, is_far, before_last, padded_for, pending_in, last_end, CanFinish, Finishes, Arrives, AllArrive, CanPutAll, AddsOwn, Inside, AreSound}
+use Rattle.mach_buffer.proofs.Links.{HasLaw, linked_bytes}
 use Rattle.mach_buffer.proofs.Lists.{append_none, comes_from, map_each}
-use Rattle.mach_buffer.proofs.Lasting.{grows_more, lasts_bytes, lasts_more, lasts_veneers, stays_reached, veneers_last}
+use Rattle.mach_buffer.proofs.Lasting.{stays_reached, veneers_last}
 use Rattle.mach_buffer.proofs.ConstantOrder.{all_listed, bound_or_named, place_offset}
-use Rattle.mach_buffer.proofs.ConstantsPut.{ends_grow, ConstantsDone, constants_done, constants_long, constants_waiting, uses_stay, stands_last}
+use Rattle.mach_buffer.proofs.ConstantsPut.{ends_is, uses_stay}
 use Rattle.mach_buffer.proofs.OrderOfVeneers.{order_none, order_has, order_long, can_order, not_pending}
-use Rattle.mach_buffer.proofs.VeneersPut.{veneered, all_idle, recorded_at, own_labels, Going}
-use Rattle.mach_buffer.proofs.IslandVeneers.{length_padded, padding_even, grown_waits}
-use Rattle.mach_buffer.proofs.Sound.{whole_bytes}
+use Rattle.mach_buffer.proofs.VeneersPut.{recorded_at, own_labels}
+use Rattle.mach_buffer.proofs.VeneersAndConstants.{length_padded, padding_even, grown_waits, Extended, extended}
+use Rattle.mach_buffer.proofs.Sound.{whole_of, whole_bytes}
 use Rattle.mach_buffer.proofs.Slack.{reaches_from_each}
 
 -- ---- all that is pending
@@ -67,19 +45,20 @@ module _ {L : Type 0} (kinds : Kinds L) (s : Shape L) (order : List ℕ) where
   last_start : IsOrder kinds (is_pending kinds s.place) s.uses order → length (s.bytes ++ last_padding (length order) s.bytes) ≡ length (before_last s.bytes (length (pending_in kinds s)))
   last_start o = ap (length {A = ℕ}) (last_bytes (length order) s.bytes) ∙ ap (λ n. length (before_last s.bytes n)) (order_long o)
 
-  padded_going : {p : Inside} → AreSound kinds s p → CanFinish kinds s → IsOrder kinds (is_pending kinds s.place) s.uses order → Going kinds order order (with_bytes (last_padding (length order) s.bytes) s) (with_bytes (last_padding (length order) s.bytes) s)
-  padded_going sound can o = record {
-    whole = refl;
-    even = (whole_bytes sound (last_padding (length order) s.bytes) (last_even (length order) s.bytes sound.even)).even;
+  padded_can : {p : Inside} → AreSound kinds s p → CanFinish kinds s → IsOrder kinds (is_pending kinds s.place) s.uses order → CanPutAll kinds (with_bytes (last_padding (length order) s.bytes) s) order
+  padded_can sound can o = record {
+    linked = linked_bytes sound.linked (last_padding (length order) s.bytes);
+    even = (whole_bytes (whole_of sound) (last_padding (length order) s.bytes) (last_even (length order) s.bytes sound.even)).even;
+    ordered = sound.ordered;
     can = can_order (length (s.bytes ++ last_padding (length order) s.bytes)) o (λ u h. (and_parts (kinds.has_veneer u.kind) _ h).0) (rw (last_start o) (reaches_from_each _ _ can.reach));
-    room = omega (arith, can.short, ends_grow s.registered (waiting_of s) (last_end kinds s), last_start o, order_long o);
+    room = rw (last_start o, order_long o) can.short;
   }
 
-  pub last_going : {p : Inside} → AreSound kinds s p → CanFinish kinds s → IsOrder kinds (is_pending kinds s.place) s.uses order → Going kinds order order (padded_for (length order) s) (padded_for (length order) s)
-  last_going sound can o = rw (padded_as (length order) s) (padded_going sound can o)
+  pub last_can : {p : Inside} → AreSound kinds s p → CanFinish kinds s → IsOrder kinds (is_pending kinds s.place) s.uses order → CanPutAll kinds (padded_for (length order) s) order
+  last_can sound can o = rw (padded_as (length order) s) (padded_can sound can o)
 
   pub last_room : CanFinish kinds s → IsOrder kinds (is_pending kinds s.place) s.uses order → (count : ℕ) → count ≡ length order → count ≢ 0 → aligned (length s.bytes) < code_limit
-  last_room can o count e ne = grind (arith, nat_tests, can.short, ends_grow s.registered (waiting_of s) (last_end kinds s), order_long o, length_padded s.bytes)
+  last_room can o count e ne = grind (arith, nat_tests, can.short, (ends_is s.registered (waiting_of s) (last_end kinds s)).0, order_long o, length_padded s.bytes)
 
 -- ---- what stands once no use is pending
 
@@ -123,58 +102,31 @@ pub record LastDone {L : Type 0} (kinds : Kinds L) (s put : Shape L) : Type 0 wh
 pub last_done : {L : Type 0} {kinds : Kinds L} → HasLaw kinds → (s : Shape L) (p : Inside) (order : List ℕ) → AreSound kinds s p → CanFinish kinds s → IsOrder kinds (is_pending kinds s.place) s.uses order → LastDone kinds s (put_constants (put_all kinds order (padded_for (length order) s)))
 last_done {L} {kinds} law s p order sound can o =
     let pad = last_padding (length order) s.bytes in
-    let v = veneered law order (whole_bytes sound pad (last_even (length order) s.bytes sound.even)) (padded_going kinds s order sound can o) in
-    let t : Shape L = record s { bytes = (put_all kinds order (with_bytes pad s)).bytes; uses = (put_all kinds order (with_bytes pad s)).uses } in
-    let c : ConstantsDone kinds t (put_constants t) = constants_done kinds t v.whole.ordered in
-    let d = put_constants t in
-    let m : Shape L = record t { bytes = d.bytes; place = d.place; constants = d.constants } in
-    let is : put_constants (put_all kinds order (with_bytes pad s)) ≡ m = ap put_constants v.last.same ∙ c.same in
-    let long : length t.bytes ≡ last_end kinds s = omega (arith, v.all.long, last_start kinds s order o, order_long o) in
-    let longer = c.lasts.grows.longer in
-    let end : length m.bytes ≡ end_after s (last_end kinds s) = constants_long kinds t v.whole.ordered ∙ ap (end_after s) long in
-    let waiting = ap (λ (x : Shape L). waiting_of x) (sym c.same) ∙ constants_waiting kinds t v.whole.ordered in
-    let ordered : IsOrdered m = subst (λ (x : Shape L). IsOrdered x) c.same c.ordered in
-    let windows = v.all.windows (windows_bytes can.windows pad) in
-    let places : (label at : ℕ) → m.place label ≡ Some at → (at ≤ length m.bytes) × (at % 2 ≡ 0) = λ label at h. ⊎_elim
-    (λ a. let q = v.whole.places label at a in (omega (arith, q.0, longer), q.1))
-    (λ a. (a.0, a.1))
-    (c.places label at h) in
-    let bound : (j : ℕ) (u : Use L) → slice_get t.uses j ≡ Some u → is_some (m.place u.label.number) ≡ true = own_labels v.all.grown (λ l. is_some (m.place l.number) ≡ true)
-    (λ j u h. bound_or_named m ordered waiting u.label.number (⊎_elim (λ a. inl (let to = some_place (s.place u.label.number) a in ap is_some (c.lasts.grows.places u.label.number to.0 to.1))) (λ a. inr a) (can.bound j u h))) in
-    let far : (j : ℕ) (u : Use L) → slice_get t.uses j ≡ Some u → is_far kinds u ≡ true → is_reached kinds (m.place u.label.number) u ≡ true = λ j u h f.
-    let to = some_place (m.place u.label.number) (bound j u h) in
-    far_reaches kinds (m.place u.label.number) u to.0 (length m.bytes) to.1 (places u.label.number to.0 to.1).0 (let b = v.whole.linked.before j u h in omega (arith, b, longer)) (omega (arith, end, can.short)) f in
-    let near : (j : ℕ) (u : Use L) → slice_get s.uses j ≡ Some u → kinds.has_veneer u.kind ≡ false → is_far kinds u ≡ false → is_reached kinds (m.place u.label.number) u ≡ true = λ j u h none f. stays_reached kinds u (s.place u.label.number) (m.place u.label.number) (c.lasts.grows.places u.label.number) (can.direct j u h none f) in
-    let to_veneers : Lasts kinds s t = subst (Lasts kinds s) v.last.same (lasts_more (lasts_bytes kinds pad s) (lasts_veneers kinds order (with_bytes pad s) (λ j u h reached. order_none o j u h (not_pending kinds s.place u reached)))) in
-    rw (padded_as (length order) s) (subst (LastDone kinds s) (sym is) (record {
+    let x : Extended kinds pad order s = extended law pad order s (whole_of sound) (last_even (length order) s.bytes sound.even) (padded_can kinds s order sound can o) in
+    let m : Shape L = record s { bytes = x.bytes; uses = x.uses; place = x.place; constants = x.constants } in
+    let end : length x.bytes ≡ end_after s (last_end kinds s) = x.long ∙ (λ i. end_after s (last_start kinds s order o i + 8 * order_long o i)) in
+    let bound : (j : ℕ) (u : Use L) → slice_get x.uses j ≡ Some u → is_some (x.place u.label.number) ≡ true = own_labels x.own (λ l. is_some (x.place l.number) ≡ true)
+    (λ j u h. bound_or_named m x.ordered x.waiting u.label.number (⊎_elim (λ a. inl (let to = some_place (s.place u.label.number) a in ap is_some (x.grows.places u.label.number to.0 to.1))) (λ a. inr a) (can.bound j u h))) in
+    let far : (j : ℕ) (u : Use L) → slice_get x.uses j ≡ Some u → is_far kinds u ≡ true → is_reached kinds (x.place u.label.number) u ≡ true = λ j u h f.
+    let to = some_place (x.place u.label.number) (bound j u h) in
+    far_reaches kinds (x.place u.label.number) u to.0 (length x.bytes) to.1 (x.places u.label.number to.0 to.1).0 (x.linked.before j u h) (omega (arith, end, can.short)) f in
+    let near : (j : ℕ) (u : Use L) → slice_get s.uses j ≡ Some u → kinds.has_veneer u.kind ≡ false → is_far kinds u ≡ false → is_reached kinds (x.place u.label.number) u ≡ true = λ j u h none f. stays_reached kinds u (s.place u.label.number) (x.place u.label.number) (x.grows.places u.label.number) (can.direct j u h none f) in
+    rw (padded_as (length order) s) (subst (LastDone kinds s) (sym x.is) (record {
       same = refl;
       end = record {
-        linked = subst (λ (bs : List ℕ). IsLinked kinds bs t.uses) (sym c.bytes) (linked_bytes v.whole.linked c.more);
-        places = places;
-        windows = subst (λ (bs : List ℕ). AreWindows kinds bs t.uses) (sym c.bytes) (windows_bytes windows c.more);
-        idle = all_idle v.all m.place (λ j u there before none. false_from_ne_true (is_pending kinds m.place u) (λ w. order_has o j u there (grown_waits kinds s.place m.place u c.lasts.grows.places w) none));
-        direct = λ j u h none. ⊎_elim (far j u h) (near_reaches m.place v.all.grown near j u h none) (cases_Bool (is_far kinds u));
+        linked = x.linked;
+        places = λ label at h. let q = x.places label at h in (q.0, q.1);
+        windows = x.windows can.windows;
+        idle = x.idle x.place (λ j u there before none. false_from_ne_true (is_pending kinds x.place u) (λ w. order_has o j u there (grown_waits kinds s.place x.place u x.grows.places w) none));
+        direct = λ j u h none. ⊎_elim (far j u h) (near_reaches x.place x.own near j u h none) (cases_Bool (is_far kinds u));
       };
-      grows = grows_more (lasts_bytes kinds pad s).grows (grows_more v.last.grows (subst (λ (x : Shape L). Grows t.bytes t.uses t.place x.bytes x.uses x.place) c.same c.lasts.grows));
+      grows = x.grows;
       long = end;
       bound = bound;
-      stand = subst (AllStand kinds) c.same (c.stand (λ j u h. windows.inside j u h) (stands_last to_veneers refl can.constants));
-      listed = all_listed m ordered waiting;
-      offsets = place_offset m ordered waiting (λ label at h. ⊎_elim (λ a. (v.whole.places label at a).2) (λ a. inr a.2) (c.places label at h));
+      stand = x.stand (λ j u h reached. order_none o j u h (not_pending kinds s.place u reached)) can.windows can.constants;
+      listed = all_listed m x.ordered x.waiting;
+      offsets = place_offset m x.ordered x.waiting (λ label at h. (x.places label at h).2);
     }))
-
--- after the last veneers there is room for the constants
-pub record LastRooms {L : Type 0} (t : Shape L) : Type 0 where
-  pub ordered : IsOrdered t
-  pub constants : end_after t (length t.bytes) < code_limit
-
-pub last_rooms : {L : Type 0} {kinds : Kinds L} → HasLaw kinds → (s : Shape L) (p : Inside) (order : List ℕ) → AreSound kinds s p → CanFinish kinds s → IsOrder kinds (is_pending kinds s.place) s.uses order → LastRooms (put_all kinds order (padded_for (length order) s))
-last_rooms {L} {kinds} law s p order sound can o =
-    let pad = last_padding (length order) s.bytes in
-    let v = veneered law order (whole_bytes sound pad (last_even (length order) s.bytes sound.even)) (padded_going kinds s order sound can o) in
-    let t : Shape L = record s { bytes = (put_all kinds order (with_bytes pad s)).bytes; uses = (put_all kinds order (with_bytes pad s)).uses } in
-    let long : length t.bytes ≡ last_end kinds s = omega (arith, v.all.long, last_start kinds s order o, order_long o) in
-    rw (padded_as (length order) s) (subst (λ (x : Shape L). LastRooms x) (sym v.last.same) (record { ordered = v.whole.ordered; constants = subst (λ n. end_after s n < code_limit) (sym long) can.short }))
 
 -- a use that isn't pending stays as it is before the patches
 pub finish_keeps : {L : Type 0} {kinds : Kinds L} {s : Shape L} {bytes : List ℕ} (f : Finishes kinds s bytes) (j : ℕ) (u : Use L) → slice_get s.uses j ≡ Some u → is_pending kinds s.place u ≡ false → slice_get f.put.uses j ≡ Some u
@@ -203,14 +155,11 @@ module _ {L : Type 0} {kinds : Kinds L} {s : Shape L} where
   bounds f j u h (Some at) o hv ho = let x = f.linked.each j u at h hv in let n = x.near in let a = x.after in (n, omega arith, x.even)
   bounds f j u h None o hv ho = grind (arith, nat_tests, f.idle j u h, f.direct j u h, f.places u.label.number)
 
-  use_can : CanEnd kinds s → (j : ℕ) (u : Use L) → slice_get s.uses j ≡ Some u → CanPatch kinds s.bytes (patch_of s.place u)
-  use_can f j u h =
-      let b = bounds f j u h u.veneer (s.place u.label.number) refl refl in
-      record { forward_in = b.0; backward_in = b.1; target_even = b.2; place_even = f.windows.even j u h; inside = f.windows.inside j u h; fresh = f.windows.fresh j u h }
-
   pub can_patch_all : CanEnd kinds s → CanPatchAll kinds s.bytes (patches_of s.place s.uses)
   can_patch_all f = record {
-    each = map_each (CanPatch kinds s.bytes) (patch_of s.place) s.uses (use_can f);
+    each = map_each (CanPatch kinds s.bytes) (patch_of s.place) s.uses (λ j u h.
+        let b = bounds f j u h u.veneer (s.place u.label.number) refl refl in
+        record { forward_in = b.0; backward_in = b.1; target_even = b.2; place_even = f.windows.even j u h; inside = f.windows.inside j u h; fresh = f.windows.fresh j u h });
     apart = λ j k p q ne hj hk.
         let a = comes_from (patch_of s.place) s.uses j p hj in
         let b = comes_from (patch_of s.place) s.uses k q hk in

@@ -3,9 +3,10 @@ pub use Rattle.mach_buffer.proofs.Slack.{due_total, total, due_le_length, slack_
 pub use Rattle.mach_buffer.proofs.Lists.{append_none, below, both_lists, comes_from, locate, slice_get-append, slice_get-append_last, append_each, take_front}
 pub use Rattle.mach_buffer.proofs.Links.{window_stays, recorded_get, OwnWindows, windows_block, windows_bytes, windows_none}
 pub use Rattle.mach_buffer.proofs.VeneersPut.{Was, recorded_at}
-pub use Rattle.mach_buffer.proofs.IslandVeneers.{length_padded, aligned_near, own_idle, lasts_island, IslandRest, island_rest, island_reserve}
+pub use Rattle.mach_buffer.proofs.VeneersAndConstants.{length_padded, aligned_near}
+pub use Rattle.mach_buffer.proofs.IslandVeneers.{own_idle, lasts_island, IslandRest, island_rest, island_reserve}
 pub use Rattle.mach_buffer.proofs.LastVeneers.{last_near}
 pub use Rattle.mach_buffer.proofs.ConstantOrder.{placed_same, placed_other}
-pub use Rattle.mach_buffer.proofs.Lasting.{grows_put, lasts_same, lasts_more, lasts_bytes, lasts_use, lasts_allocated, lasts_trap, lasts_named, lasts_label}
+pub use Rattle.mach_buffer.proofs.Lasting.{grows_put, lasts_same, lasts_more, lasts_bytes, lasts_use, lasts_allocated, lasts_record, lasts_named, lasts_label}
 pub use Rattle.mach_buffer.proofs.Pieces.{windows_with_bytes, windows_with_use, piece_finished, use_finished}
 pub use Rattle.mach_buffer.proofs.ConstantsPut.{ends_within, reserve_other, stands_last}

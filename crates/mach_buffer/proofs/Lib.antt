@@ -1,3 +1,4 @@
+pub mod Words
 pub mod Slack
 pub mod Lists
 pub mod Numbers
@@ -8,6 +9,7 @@ pub mod VeneersPut
 pub mod ConstantOrder
 pub mod Sound
 pub mod OrderOfVeneers
+pub mod VeneersAndConstants
 pub mod IslandVeneers
 pub mod LastVeneers
 pub mod Lasting

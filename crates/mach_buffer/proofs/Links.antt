@@ -1,16 +1,6 @@
 -- Veneers that stand, and the windows of uses, as code and uses are added.
 use Rattle.std.proofs.Common.{◌≡◌, ◌≢◌, ℕ, ◌+◌, ◌-◌, ◌%◌, ◌≤◌, ◌⊎◌, inl, inr, ⊎_elim, true, false, List, [], ◌∷◌, ◌++◌, length, take, drop, set, Option, Some, None, refl, ap, sym, ◌∙◌, subst, arith}
-use Rattle.std.specs.Prelude.{slice_get}
-use Rattle.std.specs.Option.{option_map}
-use Rattle.std.proofs.lemmas.Bool.{true≢false}
-use Rattle.std.proofs.lemmas.Option.{same_Some, get_or_from_slice_get, slice_get-map}
-use Rattle.std.proofs.lemmas.List.{drop_at, drop-drop, drop-take, take-take, length-append, length-drop, take_all, set-append_left, map-set, set-get_or}
-use Rattle.rv_base.specs.LabelUse.{Kinds, IsVeneer, IsFresh}
-use Rattle.mach_buffer.specs.declared.uses.Use.{Use}
-use Rattle.mach_buffer.specs.Shape.{veneer_use, core, recorded}
-use Rattle.mach_buffer.specs.Windows.{window, IsApart, AreWindows}
-use Rattle.mach_buffer.specs.Reach.{deadline}
-use Rattle.mach_buffer.specs.Links.{HasVeneer, IsLinked}
+use Rattle.mach_buffer.proofs.Words.{true≢false, same_Some, get_or_from_slice_get, slice_get-map, drop_at, drop-drop, drop-take, take-take, length-append, length-drop, take_all, set-append_left, map-set, set-get_or, slice_get, option_map, Kinds, IsVeneer, IsFresh, Use, veneer_use, core, recorded, window, IsApart, AreWindows, deadline, HasVeneer, IsLinked}
 use Rattle.mach_buffer.proofs.Lists.{After, append_each, below, both_lists, changed, locate, none_some, one_there, only_one, set_each, slice_get-append, slice_get-append_last, slice_get-set_other, take_front}
 use Rattle.mach_buffer.proofs.Windows.{fresh_in_prefix}
 
@@ -73,27 +63,6 @@ module _ {L : Type 0} {kinds : Kinds L} {bytes : List ℕ} {uses : List (Use L)}
         before = set_each (λ x. x.offset ≤ length bytes) uses i v (l.before i u there) l.before;
       }
 
--- a use gets its veneer
-pub linked_veneer : {L : Type 0} {kinds : Kinds L} {bytes : List ℕ} {uses : List (Use L)} → HasLaw kinds → IsLinked kinds bytes uses → (i : ℕ) (u : Use L) → slice_get uses i ≡ Some u → length bytes ≤ deadline kinds u → kinds.has_veneer u.kind ≡ true → length bytes % 2 ≡ 0 →
-    IsLinked kinds (bytes ++ (kinds.veneer u.kind).bytes) (set uses i (record u { veneer = Some (length bytes) }) ++ veneer_use (kinds.veneer u.kind) (length bytes) u.label ∷ [])
-linked_veneer {L} {kinds} {bytes} {uses} law l i u there near supported even =
-    let V = kinds.veneer u.kind in
-    let ok : IsVeneer kinds V = law u.kind supported in
-    let own : Use L = veneer_use V (length bytes) u.label in
-    let long : length (bytes ++ V.bytes) ≡ length bytes + 8 = length-append bytes V.bytes ∙ ap (λ n. length bytes + n) ok.eight in
-    let has : HasVeneer kinds (bytes ++ V.bytes) (uses ++ own ∷ []) u (length bytes) = record {
-      inside = omega (arith, long);
-      code = ap (window (bytes ++ V.bytes) (length bytes)) (sym ok.eight) ∙ window_last bytes V.bytes;
-      index = length uses;
-      own = slice_get-append_last uses own;
-      near = near;
-      after = l.before i u there;
-      supported = supported;
-      even = even;
-    } in
-    rw (← set-append_left uses (own ∷ []) i (record u { veneer = Some (length bytes) }) (below uses i u there))
-    (linked_set law (linked_use (linked_bytes l V.bytes) own refl (omega (arith, long, ok.inside))) i u (slice_get-append uses (own ∷ []) i u there) (length bytes) has)
-
 -- ---- uses as they were recorded
 
 pub recorded_set : {L : Type 0} (uses : List (Use L)) (i : ℕ) (u v : Use L) → slice_get uses i ≡ Some u → core v ≡ core u → recorded (set uses i v) ≡ recorded uses
@@ -117,9 +86,6 @@ windows_bytes {L} {kinds} {bytes} w more =
 
 pub windows_none : {L : Type 0} {kinds : Kinds L} → AreWindows kinds [] []
 windows_none {L} {kinds} = record { even = λ j u h. absurd (cc); inside = λ j u h. absurd (cc); fresh = λ j u h. absurd (cc); apart = λ j k u v ne hj hk. absurd (cc); clear = λ j k u v at hj e hk. absurd (cc) }
-
-fresh_short : (marks s : List ℕ) → length marks ≤ length s → IsFresh marks s → IsFresh marks (take (length marks) s)
-fresh_short marks s le h = fresh_in_prefix marks 0 (length s) (length marks) s (omega arith) (omega arith) (subst (IsFresh marks) (sym (take_all (length s) s (omega arith))) h)
 
 window_block : (bytes block : List ℕ) (place size : ℕ) → length bytes ≤ place → window (bytes ++ block) place size ≡ window block (place - length bytes) size
 window_block bytes block place size le =
@@ -199,16 +165,30 @@ windows_set {L} {kinds} {bytes} {uses} law l i u there supported at w fits =
           (changed uses i v j x hj);
     }
 
-pub windows_veneer : {L : Type 0} {kinds : Kinds L} {bytes : List ℕ} {uses : List (Use L)} → HasLaw kinds → IsLinked kinds bytes uses → (i : ℕ) (u : Use L) → slice_get uses i ≡ Some u → kinds.has_veneer u.kind ≡ true → length bytes % 2 ≡ 0 → AreWindows kinds bytes uses →
-    AreWindows kinds (bytes ++ (kinds.veneer u.kind).bytes) (set uses i (record u { veneer = Some (length bytes) }) ++ veneer_use (kinds.veneer u.kind) (length bytes) u.label ∷ [])
-windows_veneer {L} {kinds} {bytes} {uses} law l i u there supported even w =
+-- a use gets its veneer: what is linked stays so, and so do the windows
+pub veneer_put : {L : Type 0} {kinds : Kinds L} {bytes : List ℕ} {uses : List (Use L)} → HasLaw kinds → IsLinked kinds bytes uses → (i : ℕ) (u : Use L) → slice_get uses i ≡ Some u → length bytes ≤ deadline kinds u → kinds.has_veneer u.kind ≡ true → length bytes % 2 ≡ 0 →
+    let new_bytes = bytes ++ (kinds.veneer u.kind).bytes in let new_uses = set uses i (record u { veneer = Some (length bytes) }) ++ veneer_use (kinds.veneer u.kind) (length bytes) u.label ∷ [] in IsLinked kinds new_bytes new_uses × (AreWindows kinds bytes uses → AreWindows kinds new_bytes new_uses)
+veneer_put {L} {kinds} {bytes} {uses} law l i u there near supported even =
     let V = kinds.veneer u.kind in
     let ok : IsVeneer kinds V = law u.kind supported in
     let own : Use L = veneer_use V (length bytes) u.label in
-    let new = bytes ++ V.bytes in
-    let long : length new ≡ length bytes + 8 = length-append bytes V.bytes ∙ ap (λ n. length bytes + n) ok.eight in
-    let fresh = fresh_short (kinds.fields V.kind) (drop V.place V.bytes) (omega (arith, length-drop V.place V.bytes, ok.eight, ok.inside)) ok.fresh in
-    let uses_apart = windows_use w l V.bytes own V.place refl (omega (arith, even, ok.place_even)) refl (omega (arith, ok.eight, ok.inside)) fresh in
-    rw (← set-append_left uses (own ∷ []) i (record u { veneer = Some (length bytes) }) (below uses i u there))
-    (windows_set law (linked_use (linked_bytes l V.bytes) own refl (omega (arith, long, ok.inside))) i u (slice_get-append uses (own ∷ []) i u there) supported (length bytes) uses_apart
-    (append_each (λ y. (y ≡ own) ⊎ IsApart y.offset (length (kinds.fields y.kind)) (length bytes) 8) uses own (inl refl) (λ k y h. inr (inl (w.inside k y h)))))
+    let long : length (bytes ++ V.bytes) ≡ length bytes + 8 = length-append bytes V.bytes ∙ ap (λ n. length bytes + n) ok.eight in
+    let more = linked_use (linked_bytes l V.bytes) own refl (omega (arith, long, ok.inside)) in
+    let still = slice_get-append uses (own ∷ []) i u there in
+    let has : HasVeneer kinds (bytes ++ V.bytes) (uses ++ own ∷ []) u (length bytes) = record {
+      inside = omega (arith, long);
+      code = ap (window (bytes ++ V.bytes) (length bytes)) (sym ok.eight) ∙ window_last bytes V.bytes;
+      index = length uses;
+      own = slice_get-append_last uses own;
+      near = near;
+      after = l.before i u there;
+      supported = supported;
+      even = even;
+    } in
+    let rest = drop V.place V.bytes in
+    let fresh = fresh_in_prefix (kinds.fields V.kind) 0 (length rest) (length (kinds.fields V.kind)) rest (omega (arith, length-drop V.place V.bytes, ok.eight, ok.inside)) (omega arith) (subst (IsFresh (kinds.fields V.kind)) (sym (take_all (length rest) rest (omega arith))) ok.fresh) in
+    rw (← set-append_left uses (own ∷ []) i (record u { veneer = Some (length bytes) }) (below uses i u there)) (
+      linked_set law more i u still (length bytes) has,
+      λ w. windows_set law more i u still supported (length bytes) (windows_use w l V.bytes own V.place refl (omega (arith, even, ok.place_even)) refl (omega (arith, ok.eight, ok.inside)) fresh)
+          (append_each (λ y. (y ≡ own) ⊎ IsApart y.offset (length (kinds.fields y.kind)) (length bytes) 8) uses own (inl refl) (λ k y h. inr (inl (w.inside k y h)))),
+    )

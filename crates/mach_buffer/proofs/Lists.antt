@@ -1,10 +1,6 @@
 -- Elements of lists by their places.
-use Rattle.std.proofs.Common.{◌≡◌, ◌≢◌, ℕ, zero, suc, ◌+◌, ◌<◌, ◌⊎◌, inl, inr, ⊎_elim, List, [], ◌∷◌, ◌++◌, length, drop, map, set, Option, Some, None, refl, ap, sym, ◌∙◌, subst, arith, get_or}
-use Rattle.std.specs.List.{slice_get, slice_index_or}
-use Rattle.std.proofs.lemmas.List.{drop_more, drop-map}
-use Rattle.std.proofs.lemmas.Bool.{cases_eq}
-use Rattle.std.proofs.lemmas.Grind.{common_steps}
-use Rattle.std.proofs.lemmas.Option.{same_Some, gets}
+use Rattle.std.proofs.Common.{◌≡◌, ◌≢◌, ℕ, zero, suc, ◌+◌, ◌<◌, ◌⊎◌, inl, inr, ⊎_elim, List, [], ◌∷◌, ◌++◌, length, drop, map, set, Option, Some, None, refl, ap, sym, ◌∙◌, subst, arith}
+use Rattle.mach_buffer.proofs.Words.{drop_more, drop-map, cases_eq, common_steps, same_Some, gets, slice_get, slice_index_or}
 pub use Rattle.std.proofs.lemmas.Option.{slice_get_within as below}
 pub use Rattle.std.proofs.lemmas.List.{append-nil as append_none, length-set as length_set}
 pub use Rattle.std.proofs.Math.Seq.{take-append_seam as take_front}
@@ -72,9 +68,17 @@ append_each P xs y py h = both_lists P xs (y ∷ []) h (only_one P y py)
 pub none_some : {X : Type 0} (o : Option X) (x : X) → o ≡ None → o ≡ Some x → ⊥
 none_some o x p q = cc
 
--- what is left of a list from a place on
-pub drop_split : (items all : List ℕ) (i : ℕ) → items ≡ all → i < length items → drop i all ≡ get_or items i 0 ∷ drop (i + 1) all
-drop_split items all i same lt = subst (λ (ns : List ℕ). drop i ns ≡ get_or items i 0 ∷ drop (i + 1) ns) same (drop_more items i 0 lt)
+pub none_of : {X : Type 0} (o : Option X) → ((x : X) → o ≡ Some x → ⊥) → o ≡ None
+none_of None never = refl
+none_of (Some x) never = absurd (never x refl)
 
+-- the first element of what is left, and the rest
+pub dropped : {X : Type 0} (xs : List X) (n : ℕ) (x : X) (ys : List X) → drop n xs ≡ x ∷ ys → (slice_get xs n ≡ Some x) × (drop (suc n) xs ≡ ys)
+dropped [] zero x ys e = absurd (cc)
+dropped [] (suc n) x ys e = absurd (cc)
+dropped (y ∷ xs) zero x ys e = (cc, cc)
+dropped (y ∷ xs) (suc n) x ys e = dropped xs n x ys e
+
+-- what is left of a list from a place on
 pub drop_mapped : {X : Type 0} (f : X → ℕ) (xs : List X) (i : ℕ) (d : X) → i < length xs → drop i (map f xs) ≡ f (slice_index_or xs i d) ∷ drop (i + 1) (map f xs)
 drop_mapped f xs i d lt = drop-map f i xs ∙ ap (map f) (drop_more xs i d lt) ∙ ap (λ ns. f (slice_index_or xs i d) ∷ ns) (sym (drop-map f (i + 1) xs))

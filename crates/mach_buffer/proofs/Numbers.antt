@@ -1,19 +1,6 @@
 -- Uses by their numbers.
-use Rattle.std.proofs.lemmas.Bool.Decides.{nat_tests}
 use Rattle.std.proofs.Common.{◌≡◌, ◌≢◌, ℕ, zero, suc, ◌+◌, ◌<◌, Bool, true, false, not, ◌&&◌, cond, List, [], ◌∷◌, ◌++◌, length, map, take, get_or, Option, Some, None, refl, ap, sym, ◌∙◌, arith, append_assoc, add-one}
-use Rattle.std.specs.Prelude.{slice_get, nat_eq, filter, count_by, IsPermutation}
-use Rattle.std.proofs.lemmas.Bool.{true≢false}
-use Rattle.std.proofs.lemmas.Option.{get_or_from_slice_get, slice_get-get_or}
-use Rattle.std.proofs.lemmas.List.{length_push, length-take-le, get_or-take}
-use Rattle.std.proofs.lemmas.List.Recursion.{is_count_by}
-use Rattle.std.proofs.lemmas.List.Sums.{get_or-le-sum_by, sum_by_more_le}
-use Rattle.std.proofs.lemmas.List.Sorted.{IsPermutation-refl, IsPermutation-cons, IsPermutation-sym, IsPermutation-trans, IsPermutation-middle, sum_by-IsPermutation}
-use Rattle.rv_base.specs.LabelUse.{Kinds}
-use Rattle.mach_buffer.specs.declared.uses.Use.{Use}
-use Rattle.mach_buffer.specs.Reach.{deadlines}
-use Rattle.mach_buffer.specs.Veneers.{numbers_from, numbers_of}
-use Rattle.mach_buffer.specs.Queues.{passes, test_at, where_it, deadline_at}
-use Rattle.mach_buffer.specs.VeneerConditions.{IsNone}
+use Rattle.mach_buffer.proofs.Words.{nat_tests, true≢false, get_or_from_slice_get, slice_get-get_or, length_push, length-take-le, get_or-take, is_count_by, get_or-le-sum_by, sum_by_more_le, IsPermutation-refl, IsPermutation-cons, IsPermutation-sym, IsPermutation-trans, IsPermutation-middle, sum_by-IsPermutation, slice_get, nat_eq, filter, count_by, IsPermutation, Kinds, Use, deadlines, numbers_from, numbers_of, passes, test_at, where_it, deadline_at, IsNone}
 use Rattle.mach_buffer.proofs.Lists.{below, slice_get-append, slice_get-append_at}
 
 -- the deadlines of uses are those at their numbers

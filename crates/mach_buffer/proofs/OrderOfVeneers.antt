@@ -1,27 +1,8 @@
 -- What the order of veneers tells of uses, that each reaches its veneer, and how sorted keys give the order.
-use Rattle.std.proofs.lemmas.Bool.Decides.{nat_tests}
 use Rattle.std.proofs.Common.{◌≡◌, ◌≢◌, ℕ, suc, ◌+◌, ◌<◌, ◌≤◌, Bool, true, cond, List, [], ◌∷◌, length, map, Option, Some, refl, ap, sym, ◌∙◌, arith, false, not, ◌&&◌, ◌++◌, None, subst, Ordering}
-use Rattle.std.specs.Prelude.{slice_get, nat_le, count_by, IsPermutation, slice_index_or, filter, IsSorted}
-use Rattle.std.proofs.lemmas.Option.{same_Some, get_or_from_slice_get}
-use Rattle.std.proofs.lemmas.List.{length-map, map-append}
-use Rattle.std.proofs.lemmas.List.Recursion.{is_count_by}
-use Rattle.std.proofs.lemmas.List.Sorted.{IsPermutation-map, length_permutation, sum_by-IsPermutation, ranks_by, sorted_far, IsPermutation-trans, All-permutation}
-use Rattle.rv_base.specs.LabelUse.{Kinds}
-use Rattle.mach_buffer.specs.declared.uses.Use.{Use}
-use Rattle.mach_buffer.specs.Reach.{deadline, is_reached, is_pending, deadlines, due_by, StillReaches, is_other, names}
-use Rattle.mach_buffer.specs.Veneers.{numbers_of, IsSooner, by_deadline, by_place, by_number, IsOrder}
-use Rattle.mach_buffer.specs.Queues.{deadline_in, deadline_at, test_at, keys_where, is_near, is_queued, is_other_queued, key_number, Keeps, AreKept}
-use Rattle.mach_buffer.specs.VeneerConditions.{IsNone, CanPut}
+use Rattle.mach_buffer.proofs.Words.{nat_tests, same_Some, get_or_from_slice_get, length-map, map-append, is_count_by, IsPermutation-map, length_permutation, sum_by-IsPermutation, ranks_by, sorted_far, IsPermutation-trans, All-permutation, and_parts, nat_cmp_total, on_total, then_total, All-map, slice_get, nat_le, count_by, IsPermutation, slice_index_or, filter, IsSorted, Kinds, Use, deadline, is_reached, is_pending, deadlines, due_by, StillReaches, is_other, names, numbers_of, IsSooner, by_deadline, by_place, by_number, IsOrder, deadline_in, deadline_at, test_at, keys_where, is_near, is_queued, is_other_queued, key_number, Keeps, AreKept, IsNone, CanPut, IsStrictWeakOrder, nat_cmp, ordering_then, is_lt, MachLabel, PendingKey, Pending}
 use Rattle.mach_buffer.proofs.Numbers.{IsNumber, number_is, numbers_differ, number_there, none_by, deadlines_from, numbers_parts}
 use Rattle.mach_buffer.proofs.Slack.{reaches_next, reaches_due}
-use Rattle.std.specs.Cmp.{IsStrictWeakOrder}
-use Rattle.std.specs.Ordering.{nat_cmp, ordering_then, is_lt}
-use Rattle.std.proofs.lemmas.Bool.{and_parts}
-use Rattle.std.proofs.lemmas.Cmp.{nat_cmp_total, on_total, then_total}
-use Rattle.std.proofs.lemmas.List.Elements.{All-map}
-use Rattle.rv_base.specs.declared.label.MachLabel.{MachLabel}
-use Rattle.mach_buffer.specs.declared.uses.PendingKey.{PendingKey}
-use Rattle.mach_buffer.specs.declared.pending.Pending.{Pending}
 use Rattle.mach_buffer.proofs.QueueContents.{keeps_fewer}
 use Rattle.mach_buffer.proofs.Lists.{below, comes_from}
 

@@ -1,21 +1,6 @@
 -- A piece of code, with one use or none, as it is put and in finished code.
-use Rattle.std.proofs.Common.{◌≡◌, ℕ, ◌+◌, ◌%◌, ◌≤◌, inl, inr, ⊎_elim, true, false, List, [], ◌∷◌, ◌++◌, length, Option, Some, None, refl, ap, sym, ◌∙◌, subst, arith}
-use Rattle.std.specs.Prelude.{slice_get}
-use Rattle.std.proofs.lemmas.Bool.{true≢false, and_left, false_from_ne_true, true_from_ne_false}
-use Rattle.std.proofs.lemmas.Option.{same_Some}
-use Rattle.std.proofs.lemmas.List.{length-append, take_all}
-use Rattle.rv_base.specs.LabelUse.{Kinds, Veneer, IsFresh, SameOutside}
-use Rattle.mach_buffer.specs.declared.patches.Patch.{Patch}
-use Rattle.mach_buffer.specs.declared.uses.Use.{Use}
-use Rattle.mach_buffer.specs.Shape.{Shape, with_bytes, with_use, core, recorded}
-use Rattle.mach_buffer.specs.Links.{IsLinked}
-use Rattle.mach_buffer.specs.Windows.{window, IsApart, AreWindows, AllEnd, KeepsOthers, patch_of, patches_of}
-use Rattle.mach_buffer.specs.Reach.{is_reached, is_pending}
-use Rattle.mach_buffer.specs.Finish.{IsVia, Arrives, Finishes}
-use Rattle.mach_buffer.specs.Growth.{Grows, Lasts}
-use Rattle.mach_buffer.specs.Pieces.{IsPiece, UseFinished}
-use Rattle.mach_buffer.specs.Constants.{AllStand, HasConstants}
-use Rattle.mach_buffer.specs.Buffer.{Inside, AreSound}
+use Rattle.std.proofs.Common.{◌≡◌, ℕ, ◌+◌, ◌%◌, ◌≤◌, inl, inr, ⊎_elim, true, List, [], ◌∷◌, ◌++◌, length, Option, Some, None, refl, ap, sym, ◌∙◌, subst, arith}
+use Rattle.mach_buffer.proofs.Words.{false_from_ne_true, same_Some, length-append, take_all, slice_get, Kinds, Veneer, IsFresh, SameOutside, Patch, Use, Shape, with_bytes, with_use, core, recorded, HasVeneer, IsLinked, window, IsApart, AreWindows, AllEnd, KeepsOthers, patch_of, patches_of, is_reached, is_pending, IsVia, Arrives, Finishes, Grows, Lasts, IsPiece, UseFinished, AllStand, HasConstants, Inside, AreSound}
 use Rattle.mach_buffer.proofs.Lasting.{grows_more}
 use Rattle.mach_buffer.proofs.LastVeneers.{some_place, finish_keeps, patch_at}
 use Rattle.mach_buffer.proofs.Links.{window_stays, window_last, recorded_get, windows_bytes, windows_use}
@@ -70,43 +55,39 @@ constants_kept kinds place put bytes same stand others j c h =
 abbrev via_core : {L : Type 0} {kinds : Kinds L} {v : Veneer L} {bytes : List ℕ} {u : Use L} {to : ℕ} → IsVia kinds v bytes u to → IsVia kinds v bytes (core u) to
 via_core v = record { at = v.at; there = v.there; even = v.even; inside = v.inside; front = v.front; own = v.own; back = v.back; on = v.on }
 
+abbrev has_core : {L : Type 0} {kinds : Kinds L} {bytes : List ℕ} {uses : List (Use L)} {u : Use L} {at : ℕ} → HasVeneer kinds bytes uses u at → HasVeneer kinds bytes uses (core u) at
+has_core h = record { inside = h.inside; code = h.code; index = h.index; own = h.own; near = h.near; after = h.after; supported = h.supported; even = h.even }
+
 module _ {L : Type 0} {kinds : Kinds L} {s f : Shape L} {piece bytes : List ℕ} where
   -- as a use arrives, once it is known whether it has a veneer
-  finished_as : {place : ℕ → Option ℕ} (w : Use L) (to : ℕ) → place w.label.number ≡ Some to → to ≤ length bytes → to % 2 ≡ 0 → SameOutside (kinds.fields w.kind) piece (window bytes w.offset (length (kinds.fields w.kind))) → ((at : ℕ) → w.veneer ≡ Some at → kinds.has_veneer w.kind ≡ true) →
-      ((at : ℕ) → w.veneer ≡ Some at → slice_get f.uses (length s.uses) ≡ Some (core w) → is_reached kinds (f.place w.label.number) (core w) ≡ true → ⊥) → (o : Option ℕ) → w.veneer ≡ o → Arrives kinds bytes w to o → UseFinished kinds s f place bytes piece (core w)
-  finished_as w to bound inside even kept supported unveneered None e a = record { target = to; aimed = a; kept = kept; even = even; inside = inside; goes = inl bound; straight = λ h reached. bound }
-  finished_as w to bound inside even kept supported unveneered (Some at) e (via, here) = record {
+  finished_as : {put : Shape L} (w : Use L) (to : ℕ) → put.place w.label.number ≡ Some to → to ≤ length bytes → to % 2 ≡ 0 → SameOutside (kinds.fields w.kind) piece (window bytes w.offset (length (kinds.fields w.kind))) → ((at : ℕ) → w.veneer ≡ Some at → HasVeneer kinds put.bytes put.uses w at) →
+      ((at : ℕ) → w.veneer ≡ Some at → slice_get f.uses (length s.uses) ≡ Some (core w) → is_reached kinds (f.place w.label.number) (core w) ≡ true → ⊥) → (o : Option ℕ) → w.veneer ≡ o → Arrives kinds bytes w to o → UseFinished kinds s f put bytes piece (core w)
+  finished_as {put = put} w to bound inside even kept has unveneered None e a = record { target = to; aimed = a; kept = kept; even = even; inside = inside; goes = inl bound; straight = λ h reached. bound }
+  finished_as {put = put} w to bound inside even kept has unveneered (Some at) e (via, here) = record {
     target = via.at;
     aimed = via.there;
     kept = kept;
     even = via.even;
     inside = let i = via.inside in omega arith;
-    goes = inr (record { supported = supported at e; to = to; bound = bound; via = via_core via; here = refl });
+    goes = inr (record { supported = (has at e).supported; to = to; bound = bound; via = via_core via; here = refl; stood = subst (HasVeneer kinds put.bytes put.uses (core w)) (sym here) (has_core (has at e)) });
     straight = λ h reached. absurd (unveneered at e h reached);
   }
 
-  pub use_finished : {u : Use L} {p : Inside} → IsPiece kinds s piece u → Lasts kinds (with_bytes piece (with_use u s)) f → AreSound kinds f p → (fin : Finishes kinds f bytes) → UseFinished kinds s f fin.put.place bytes piece u
+  pub use_finished : {u : Use L} {p : Inside} → IsPiece kinds s piece u → Lasts kinds (with_bytes piece (with_use u s)) f → AreSound kinds f p → (fin : Finishes kinds f bytes) → UseFinished kinds s f fin.put bytes piece u
   use_finished {u} is lasts sound fin =
       let x = grows_more lasts.grows fin.grows in
       let J = length s.uses in
       let here = recorded_get (s.uses ++ u ∷ []) J u (slice_get-append_last s.uses u) in
-      -- the use in f, and before the patches
-      let v = comes_from core f.uses J (core u) (ap (λ us. slice_get us J) lasts.grows.grown ∙ slice_get-append (recorded (s.uses ++ u ∷ [])) lasts.grows.more J (core u) here) in
+      -- the use before the patches
       let w = comes_from core fin.put.uses J (core u) (ap (λ us. slice_get us J) x.grown ∙ slice_get-append (recorded (s.uses ++ u ∷ [])) x.more J (core u) here) in
       let same : core w.from ≡ u = w.is ∙ (λ i. record u { veneer = sym is.bare i }) in
-      let alike : core v.from ≡ core w.from = v.is ∙ sym w.is in
       let to = some_place (fin.put.place w.from.label.number) (fin.bound J w.from w.there) in
       let there = fin.places w.from.label.number to.0 to.1 in
-      -- a use that isn't pending stays as it is
-      let stays : is_pending kinds f.place v.from ≡ false → v.from ≡ w.from = λ idle. same_Some _ _ (sym (finish_keeps fin J v.from v.there idle) ∙ w.there) in
       let as_put = (λ i. window fin.put.bytes (is.at i) (sym is.long i)) ∙ window_stays (s.bytes ++ piece) fin.put.bytes (length s.bytes) (length piece) (omega (arith, length-append s.bytes piece)) x.before ∙ window_last s.bytes piece in
       let kept = subst (λ a. SameOutside (kinds.fields w.from.kind) a (window bytes w.from.offset (length (kinds.fields w.from.kind)))) (subst (λ (y : Use L). window fin.put.bytes y.offset (length (kinds.fields y.kind)) ≡ piece) (sym same) as_put)
       (fin.kept J (patch_of fin.put.place w.from) (patch_at fin.put.place fin.put.uses J w.from w.there)) in
-      -- one that has a veneer supports one, and one in reach of its label has none
-      let supported : (at : ℕ) → w.from.veneer ≡ Some at → kinds.has_veneer w.from.kind ≡ true = λ at e. true_from_ne_false (kinds.has_veneer w.from.kind) (λ h.
-      let none : kinds.has_veneer v.from.kind ≡ false = ap (λ (y : Use L). kinds.has_veneer y.kind) alike ∙ h in
-      true≢false (sym (sound.linked.each J v.from at v.there (ap (λ (y : Use L). y.veneer) (stays (and_left (kinds.has_veneer v.from.kind) _ none)) ∙ e)).supported ∙ none)) in
+      -- one in reach of its label has no veneer
       let unveneered : (at : ℕ) → w.from.veneer ≡ Some at → slice_get f.uses J ≡ Some (core w.from) → is_reached kinds (f.place w.from.label.number) (core w.from) ≡ true → ⊥ = λ at e h reached.
       let put = finish_keeps fin J (core w.from) h (false_from_ne_true (is_pending kinds f.place (core w.from)) (not_pending kinds f.place (core w.from) reached)) in
       none_some w.from.veneer at (ap (λ (y : Use L). y.veneer) (sym (same_Some (core w.from) w.from (sym put ∙ w.there)))) e in
-      subst (UseFinished kinds s f fin.put.place bytes piece) same (finished_as w.from to.0 to.1 (omega (arith, fin.same_length, there.0)) there.1 kept supported unveneered w.from.veneer refl (fin.arrive J w.from to.0 w.there to.1))
+      subst (UseFinished kinds s f fin.put bytes piece) same (finished_as w.from to.0 to.1 (omega (arith, fin.same_length, there.0)) there.1 kept (λ at e. fin.linked.each J w.from at w.there e) unveneered w.from.veneer refl (fin.arrive J w.from to.0 w.there to.1))

@@ -1,19 +1,6 @@
 -- The queues of pending uses, as uses and labels come, and the search in them for a deadline that might be missed.
-use Rattle.std.proofs.lemmas.Bool.Decides.{nat_tests}
-use Rattle.std.proofs.Common.{◌≡◌, ℕ, ◌+◌, ◌*◌, ◌<◌, ◌≤◌, Bool, true, false, not, List, [], ◌∷◌, ◌++◌, length, map, Option, Some, None, ap, sym, ◌∙◌, subst, arith, append_assoc, ◌-◌, refl}
-use Rattle.std.specs.Prelude.{slice_get, filter, count_by, is_some}
-use Rattle.std.proofs.lemmas.Bool.{and_parts, and_from, and_left, and_right, true_from_ne_false}
-use Rattle.std.proofs.lemmas.List.{nil_from_length, length-append, map-append, length-map}
-use Rattle.std.proofs.lemmas.List.Elements.{filter-append}
-use Rattle.std.proofs.lemmas.List.Recursion.{is_count_by}
-use Rattle.std.proofs.lemmas.List.Sums.{count_by-le-length}
-use Rattle.std.proofs.lemmas.List.Sorted.{IsPermutation-refl}
-use Rattle.rv_base.specs.LabelUse.{Kinds}
-use Rattle.mach_buffer.specs.declared.uses.Use.{Use}
-use Rattle.mach_buffer.specs.declared.pending.Pending.{Pending}
-use Rattle.mach_buffer.specs.Reach.{deadline, is_pending, deadlines, due_by, HasSlack, AllOf, is_needed_from}
-use Rattle.mach_buffer.specs.Veneers.{numbers_of}
-use Rattle.mach_buffer.specs.Queues.{passes, test_at, use_where, is_due_at, deadline_in, deadline_at, is_near, on_side, is_queued, slack_after, Keeps, AreKept, due_in, shows_slack}
+use Rattle.std.proofs.Common.{◌≡◌, ℕ, ◌+◌, ◌*◌, ◌<◌, ◌≤◌, Bool, true, false, List, [], ◌∷◌, ◌++◌, length, map, Option, Some, None, ap, sym, ◌∙◌, subst, arith, ◌-◌, refl}
+use Rattle.mach_buffer.proofs.Words.{nat_tests, and_parts, and_from, and_left, true_from_ne_false, nil_from_length, length-append, map-append, length-map, filter-append, is_count_by, count_by-le-length, IsPermutation-refl, slice_get, filter, count_by, is_some, Kinds, Use, Pending, deadline, is_pending, deadlines, due_by, HasSlack, AllOf, is_needed_from, numbers_of, passes, test_at, use_where, is_due_at, deadline_in, deadline_at, is_near, on_side, is_queued, slack_after, Keeps, AreKept, due_in, shows_slack}
 use Rattle.mach_buffer.proofs.Lists.{below, append_each, append_none, slice_get-append_last}
 use Rattle.mach_buffer.proofs.Numbers.{deadlines_from, number_is, numbers_fewer, filter_fewer, numbers_more, filter_more, where_some, where_none}
 use Rattle.mach_buffer.proofs.Slack.{due_append, due_fewer, due_le_length, deadlines_append, slack_same, none_from, due_mono, each_from_slack, slack_less, slack_not_needed}
@@ -80,29 +67,29 @@ keeps_none kinds test uses numbers slack e idle = subst (λ ns. Keeps kinds test
 
 -- ---- a queue of those that are still pending
 
-pub record Tidying {L : Type 0} (kinds : Kinds L) (test : Use L → Bool) (uses : List (Use L)) (numbers : List ℕ) (slack : ℕ) (all left : List ℕ) : Type 0 where
-  pub passed : numbers ++ filter (test_at test uses) left ≡ filter (test_at test uses) all
+-- of the numbers so far, those are kept whose uses pass; and the slack is room before their deadlines
+pub record Tidied {L : Type 0} (kinds : Kinds L) (test : Use L → Bool) (uses : List (Use L)) (numbers : List ℕ) (slack : ℕ) (taken : List ℕ) : Type 0 where
+  pub passed : numbers ≡ filter (test_at test uses) taken
   pub room : 1 ≤ slack → HasSlack slack 0 (map (deadline_at kinds uses) numbers)
 
-module _ {L : Type 0} {kinds : Kinds L} {test : Use L → Bool} {uses : List (Use L)} {numbers : List ℕ} {slack : ℕ} {all : List ℕ} where
-  pub tidy_skip : (i : ℕ) (left whole : List ℕ) → whole ≡ i ∷ left → None ≡ use_where test uses i → Tidying kinds test uses numbers slack all whole → Tidying kinds test uses numbers slack all left
-  tidy_skip i left whole e none t = record { passed = rw (e, where_none test (slice_get uses i) (sym none)) at t.passed; room = t.room }
+module _ {L : Type 0} {kinds : Kinds L} {test : Use L → Bool} {uses : List (Use L)} {numbers taken : List ℕ} {slack : ℕ} where
+  pub tidy_skip : (i : ℕ) → None ≡ use_where test uses i → Tidied kinds test uses numbers slack taken → Tidied kinds test uses numbers slack (taken ++ i ∷ [])
+  tidy_skip i none t = record { passed = rw (filter-append, where_none test (slice_get uses i) (sym none), append_none) t.passed; room = t.room }
 
-  pub tidy_take : (i : ℕ) (left whole : List ℕ) (u : Use L) (new_numbers : List ℕ) (new_slack : ℕ) → whole ≡ i ∷ left → Some u ≡ use_where test uses i → new_numbers ≡ numbers ++ i ∷ [] → new_slack ≡ slack_after slack (deadline kinds u) (length numbers + 1) →
-      Tidying kinds test uses numbers slack all whole → Tidying kinds test uses new_numbers new_slack all left
-  tidy_take i left whole u new_numbers new_slack e some en es t =
+  pub tidy_take : (i : ℕ) (u : Use L) → Some u ≡ use_where test uses i → Tidied kinds test uses numbers slack taken → Tidied kinds test uses (numbers ++ i ∷ []) (slack_after slack (deadline kinds u) (length numbers + 1)) (taken ++ i ∷ [])
+  tidy_take i u some t =
       let is = where_some test (slice_get uses i) u (sym some) in
       let passes_it : test_at test uses i ≡ true = ap (passes test) is.0 ∙ is.1 in
       let last : deadline_at kinds uses i ≡ deadline kinds u = ap (deadline_in kinds) is.0 in
       let long = length-map numbers (deadline_at kinds uses) in
       record {
-        passed = rw (en, append_assoc) (rw (e, passes_it) at t.passed);
-        room = λ one. rw (es, en, map-append, last) (room_after slack (deadline kinds u) (length numbers + 1) (map (deadline_at kinds uses) numbers) (omega arith) t.room (rw es at one));
+        passed = rw (filter-append, passes_it) (ap (λ ns. ns ++ i ∷ []) t.passed);
+        room = λ one. rw (map-append, last) (room_after slack (deadline kinds u) (length numbers + 1) (map (deadline_at kinds uses) numbers) (omega arith) t.room one);
       }
 
-  pub tidy_end : (old_slack : ℕ) (left : List ℕ) → left ≡ [] → Keeps kinds test uses all old_slack → Tidying kinds test uses numbers slack all left → Keeps kinds test uses numbers slack
-  tidy_end old_slack left none k t =
-      let whole : numbers ≡ numbers_of test uses = sym (append_none numbers) ∙ (rw none at t.passed) ∙ k.same in
+  pub tidy_end : {old_slack : ℕ} → Keeps kinds test uses taken old_slack → Tidied kinds test uses numbers slack taken → Keeps kinds test uses numbers slack
+  tidy_end k t =
+      let whole : numbers ≡ numbers_of test uses = t.passed ∙ k.same in
       record {
         low = λ j i h. let n = number_is test uses (numbers_of test uses) (IsPermutation-refl (numbers_of test uses)) j i (rw whole at h) in below uses i n.user n.there;
         same = rw whole (numbers_fewer test test (λ u h. h) [] uses);
@@ -122,28 +109,6 @@ pub kept_fewer : {L : Type 0} {kinds : Kinds L} {place : ℕ → Option ℕ} {us
 kept_fewer {L} {kinds} {place} {uses} {p} new_place sub k =
     let side : (near : Bool) (u : Use L) → is_queued kinds new_place near u ≡ true → is_queued kinds place near u ≡ true = λ near u h. let q = and_parts (is_pending kinds new_place u) (on_side near (is_near kinds u)) h in and_from _ _ (sub u q.0) q.1 in
     record { near = keeps_fewer (is_queued kinds new_place true) (side true) k.near; far = keeps_fewer (is_queued kinds new_place false) (side false) k.far }
-
--- a use is recorded, and put into its queue where it is pending
-module _ {L : Type 0} {kinds : Kinds L} {place : ℕ → Option ℕ} {uses : List (Use L)} {p : Pending} where
-  pub kept_idle : (u : Use L) → is_pending kinds place u ≡ false → AreKept kinds place uses p → AreKept kinds place (uses ++ u ∷ []) p
-  kept_idle u idle k = record {
-    near = keeps_skip u (and_left (is_pending kinds place u) (is_near kinds u) idle) k.near;
-    far = keeps_skip u (and_left (is_pending kinds place u) (not (is_near kinds u)) idle) k.far;
-  }
-
-  pub kept_near : (u : Use L) (new : Pending) → is_pending kinds place u ≡ true → is_near kinds u ≡ true → new.near.numbers.items ≡ p.near.numbers.items ++ length uses ∷ [] → new.near.slack ≡ slack_after p.near.slack (deadline kinds u) (length p.near.numbers.items + 1) → new.far ≡ p.far →
-      AreKept kinds place uses p → AreKept kinds place (uses ++ u ∷ []) new
-  kept_near u new waits near en es ef k = record {
-    near = rw (en, es) (keeps_push u (and_from _ _ waits near) k.near);
-    far = rw ef (keeps_skip u (and_right (is_pending kinds place u) (not (is_near kinds u)) (ap not near)) k.far);
-  }
-
-  pub kept_far : (u : Use L) (new : Pending) → is_pending kinds place u ≡ true → is_near kinds u ≡ false → new.far.numbers.items ≡ p.far.numbers.items ++ length uses ∷ [] → new.far.slack ≡ slack_after p.far.slack (deadline kinds u) (length p.far.numbers.items + 1) → new.near ≡ p.near →
-      AreKept kinds place uses p → AreKept kinds place (uses ++ u ∷ []) new
-  kept_far u new waits far en es ef k = record {
-    near = rw ef (keeps_skip u (and_right (is_pending kinds place u) (is_near kinds u) far) k.near);
-    far = rw (en, es) (keeps_push u (and_from _ _ waits (ap not far)) k.far);
-  }
 
 -- ---- the pending uses are those of both queues
 
@@ -165,13 +130,6 @@ pub not_needed : (cur : ℕ) (ds : List ℕ) → HasSlack cur 30 ds → is_neede
 not_needed cur ds h = not_needed_from cur ds ds (each_from_slack cur 30 ds h)
 
 module _ {L : Type 0} {kinds : Kinds L} {place : ℕ → Option ℕ} {uses : List (Use L)} {p : Pending} where
-  -- how many are due, by what is counted in the queues
-  pub due_counted : (k : AreKept kinds place uses p) (end : ℕ) → count_by (λ i. is_due_at kinds (is_queued kinds place true) uses end i) p.near.numbers.items + count_by (λ i. is_due_at kinds (is_queued kinds place false) uses end i) p.far.numbers.items ≡ due_in kinds place uses end
-  due_counted k end = (λ i. kept_due k.near end i + kept_due k.far end i) ∙ sym (due_parts kinds place uses end)
-
-  pub pending_counted : (k : AreKept kinds place uses p) → count_by (λ i. is_some (use_where (is_queued kinds place true) uses i)) p.near.numbers.items + count_by (λ i. is_some (use_where (is_queued kinds place false) uses i)) p.far.numbers.items ≡ length (deadlines (is_pending kinds place) kinds uses)
-  pending_counted k = (λ i. kept_count k.near i + kept_count k.far i) ∙ sym (count_parts kinds place uses)
-
   -- no more are pending than the queues have
   pub kept_many : AreKept kinds place uses p → length (deadlines (is_pending kinds place) kinds uses) ≤ length p.near.numbers.items + length p.far.numbers.items
   kept_many k = let sum = count_parts kinds place uses in let a = kept_few k.near in let b = kept_few k.far in omega arith

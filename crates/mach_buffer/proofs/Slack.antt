@@ -1,11 +1,6 @@
 -- Deadlines and the room before them.
-use Rattle.std.proofs.lemmas.Bool.Decides.{nat_tests}
 use Rattle.std.proofs.Common.{◌≡◌, ◌≢◌, ℕ, zero, suc, ◌+◌, ◌*◌, ◌≤◌, Bool, true, false, List, [], ◌∷◌, ◌++◌, length, Option, Some, None, refl, subst, ⊎_elim, arith}
-use Rattle.mach_buffer.specs.declared.uses.Use.{Use}
-use Rattle.std.specs.Prelude.{slice_get}
-use Rattle.std.proofs.lemmas.Bool.{cases_lt, or_parts}
-use Rattle.rv_base.specs.LabelUse.{Kinds}
-use Rattle.mach_buffer.specs.Reach.{AllOf, CanReach, VeneersReach, StillReaches, deadline, is_pending, deadlines, due_by, HasSlack, is_needed_from, is_needed}
+use Rattle.mach_buffer.proofs.Words.{nat_tests, cases_lt, or_parts, Use, slice_get, Kinds, AllOf, CanReach, VeneersReach, StillReaches, deadline, is_pending, deadlines, due_by, HasSlack, is_needed_from, is_needed}
 
 -- ---- how many are due
 

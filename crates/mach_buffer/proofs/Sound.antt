@@ -1,41 +1,26 @@
 -- A sound buffer, as calls are made.
-use Rattle.std.proofs.Common.{Bool, inl, inr, ◌<◌, ◌≡◌, ◌≢◌, ℕ, ◌+◌, ◌%◌, ◌≤◌, true, false, List, [], ◌∷◌, ◌++◌, length, Option, Some, None, refl, ap, sym, ◌∙◌, subst, arith, ⊎_elim}
-use Rattle.std.specs.Prelude.{slice_get, Result, Ok, Err, is_err, OnOk}
-use Rattle.std.proofs.lemmas.Bool.{cases_eq, true≢false}
-use Rattle.std.proofs.lemmas.Option.{same_Some}
-use Rattle.std.proofs.lemmas.List.{length-append}
-use Rattle.rv_base.specs.LabelUse.{Kinds}
-use Rattle.rv_base.specs.declared.label.MachLabel.{MachLabel}
-use Rattle.rv_base.specs.declared.constant.Constant.{Constant}
-use Rattle.rv_base.specs.declared.constant.VCodeConstant.{VCodeConstant}
-use Rattle.mach_labels.specs.Table.{first_inner}
-use Rattle.mach_buffer.specs.declared.uses.Use.{Use}
-use Rattle.mach_buffer.specs.declared.pending.Pending.{Pending}
-use Rattle.mach_buffer.specs.Shape.{Shape, with_bytes, with_use, with_label, with_allocated, with_named, with_registered, name_more, placed, inner_count, IsKnown, IsUsable}
-use Rattle.mach_buffer.specs.Constants.{IsOrdered, AreNoted}
-use Rattle.mach_buffer.specs.Reach.{is_pending, due_by}
-use Rattle.mach_buffer.specs.Links.{IsLinked}
-use Rattle.mach_buffer.specs.Finish.{pending_in}
-use Rattle.mach_buffer.specs.Queues.{AreKept}
-use Rattle.mach_buffer.specs.Buffer.{Inside, AreSound}
-use Rattle.mach_buffer.proofs.ConstantOrder.{placed_same, placed_other, HasNone, ordered_none, ordered_label, ordered_allocated, ordered_named, ordered_registered, named_usable, not_next}
+use Rattle.std.proofs.Common.{Bool, inl, inr, ◌<◌, ◌≡◌, ◌≢◌, ℕ, ◌+◌, ◌%◌, ◌≤◌, true, false, List, [], ◌∷◌, ◌++◌, length, Some, None, refl, ap, sym, ◌∙◌, subst, arith, ⊎_elim}
+use Rattle.mach_buffer.proofs.Words.{cases_eq, true≢false, same_Some, length-append, slice_get, Result, Ok, Err, is_err, OnOk, Kinds, MachLabel, Constant, VCodeConstant, first_inner, Use, Pending, Shape, with_bytes, with_use, with_label, with_allocated, with_named, with_registered, name_more, placed, inner_count, IsKnown, IsUsable, IsOrdered, AreNoted, is_pending, due_by, IsLinked, pending_in, AreKept, Inside, AreSound}
+use Rattle.mach_buffer.proofs.ConstantOrder.{placed_same, placed_other, ordered_label, ordered_allocated, ordered_named, ordered_registered, named_usable, not_next}
 use Rattle.mach_buffer.proofs.QueueContents.{kept_none, kept_fewer}
 use Rattle.mach_buffer.proofs.Links.{linked_bytes, linked_use}
-use Rattle.mach_buffer.proofs.Lists.{append_each, none_some}
+use Rattle.mach_buffer.proofs.Lists.{append_each, none_of}
 use Rattle.mach_buffer.proofs.Slack.{bound_waits, due_fewer}
 
-pub sound_none : {L : Type 0} (kinds : Kinds L) (s : Shape L) (p : Inside) → s.bytes ≡ [] → s.uses ≡ [] → ((label : ℕ) → s.place label ≡ None) → s.allocated ≡ 0 → HasNone s p.seen → p.pending.near.numbers.items ≡ [] → p.pending.far.numbers.items ≡ [] → AreSound kinds s p
-sound_none {L} kinds s p eb eu none allocated constants near far =
-    let no_use : (j : ℕ) (u : Use L) → slice_get s.uses j ≡ Some u → ⊥ = λ j u h. let e : slice_get [] j ≡ Some u = sym (ap (λ us. slice_get us j) eu) ∙ h in absurd (cc) in
-    record {
-      linked = record { each = λ j u at h e. absurd (no_use j u h); before = λ j u h. absurd (no_use j u h) };
-      even = ap (λ (bs : List ℕ). length bs % 2) eb;
-      places = λ label at h. absurd (none_some (s.place label) at (none label) h);
-      known = λ j u h. absurd (no_use j u h);
-      ordered = ordered_none constants (omega (arith, allocated));
-      kept = kept_none kinds s.place s.uses p.pending near far (λ j u h. absurd (no_use j u h));
-      noted = record { long = ap (length {A = Bool}) constants.seen ∙ sym (ap (length {A = Constant}) constants.registered); each = λ n lt. let z : length s.registered ≡ 0 = ap (length {A = Constant}) constants.registered in absurd (omega arith) };
-    }
+-- a buffer in which nothing is
+abbrev pub empty : {L : Type 0} → Shape L
+empty = record { bytes = []; uses = []; place = λ label. None; labels = []; allocated = 0; records = []; registered = []; named = []; constants = [] }
+
+pub sound_none : {L : Type 0} (kinds : Kinds L) (p : Inside) → p.pending.near.numbers.items ≡ [] → p.pending.far.numbers.items ≡ [] → p.seen ≡ [] → AreSound kinds empty p
+sound_none kinds p near far seen = record {
+  linked = record { each = λ j u at h e. absurd (cc); before = λ j u h. absurd (cc) };
+  even = refl;
+  places = λ label at h. absurd (cc);
+  known = λ j u h. absurd (cc);
+  ordered = record { few = omega arith; count = omega arith; known = λ i k e. absurd (cc); once = λ i j k l ne hi hj. absurd (cc); first = refl; bound = λ j c e. absurd (cc); free = λ i k le e. absurd (cc) };
+  kept = kept_none kinds (λ label. None) [] p.pending near far (λ j u h. absurd (cc));
+  noted = record { long = ap (length {A = Bool}) seen; each = λ n lt. absurd (omega arith) };
+}
 
 -- all that holds of a sound buffer but for its queues
 pub record IsWhole {L : Type 0} (kinds : Kinds L) (s : Shape L) : Type 0 where
@@ -50,6 +35,16 @@ whole_of h = record { linked = h.linked; even = h.even; places = h.places; known
 
 pub sound_of : {L : Type 0} {kinds : Kinds L} {s : Shape L} {p : Inside} → IsWhole kinds s → AreKept kinds s.place s.uses p.pending → AreNoted s.registered s.named p.seen → AreSound kinds s p
 sound_of w kept noted = record { linked = w.linked; even = w.even; places = w.places; known = w.known; ordered = w.ordered; kept = kept; noted = noted }
+
+-- an even number of bytes is put
+pub whole_bytes : {L : Type 0} {kinds : Kinds L} {s : Shape L} → IsWhole kinds s → (more : List ℕ) → length more % 2 ≡ 0 → IsWhole kinds (with_bytes more s)
+whole_bytes {L} {kinds} {s} h more even = record {
+  linked = linked_bytes h.linked more;
+  even = omega (arith, h.even, length-append s.bytes more);
+  places = λ label at e. let q = h.places label at e in (omega (arith, q.0, length-append s.bytes more), q.1, q.2);
+  known = h.known;
+  ordered = h.ordered;
+}
 
 -- a label is bound
 pub whole_label : {L : Type 0} {kinds : Kinds L} {s : Shape L} → IsWhole kinds s → (label : MachLabel) → IsKnown label.number s.allocated → IsWhole kinds (with_label label s)
@@ -75,15 +70,6 @@ more_usable s label (inl k) = inl (omega arith)
 more_usable s label (inr c) = inr c
 
 module _ {L : Type 0} {kinds : Kinds L} {s : Shape L} {p : Inside} where
-  pub whole_bytes : AreSound kinds s p → (more : List ℕ) → length more % 2 ≡ 0 → IsWhole kinds (with_bytes more s)
-  whole_bytes h more even = record {
-    linked = linked_bytes h.linked more;
-    even = omega (arith, h.even, length-append s.bytes more);
-    places = λ label at e. let q = h.places label at e in (omega (arith, q.0, length-append s.bytes more), q.1, q.2);
-    known = h.known;
-    ordered = h.ordered;
-  }
-
   pub sound_allocated : AreSound kinds s p → s.allocated < inner_count → AreSound kinds (with_allocated s) p
   sound_allocated h few = record {
     linked = h.linked;
@@ -123,11 +109,7 @@ module _ {L : Type 0} {kinds : Kinds L} {s : Shape L} {p : Inside} where
 
   -- what is given out next is bound nowhere, and named by no use
   pub unbound_next : AreSound kinds s p → (label : ℕ) → s.allocated < inner_count → label ≡ first_inner + s.allocated → s.place label ≡ None
-  unbound_next h label few e = on (s.place label) refl
-    where
-      on : (o : Option ℕ) → s.place label ≡ o → s.place label ≡ None
-      on None q = q
-      on (Some at) q = absurd (not_next s few e (h.places label at q).2)
+  unbound_next h label few e = none_of (s.place label) (λ at q. not_next s few e (h.places label at q).2)
 
   pub unnamed_next : AreSound kinds s p → (label : ℕ) → s.allocated < inner_count → label ≡ first_inner + s.allocated → (j : ℕ) (u : Use L) → slice_get s.uses j ≡ Some u → u.label.number ≢ label
   unnamed_next h label few e j u g q = not_next s few (q ∙ e) (h.known j u g)

@@ -1,23 +1,7 @@
 -- Veneers put one after the other: between two of them, and what stands after them.
-use Rattle.std.proofs.Common.{◌≡◌, ℕ, ◌+◌, ◌*◌, ◌%◌, ◌<◌, ◌≤◌, ◌⊎◌, inl, inr, ⊎_elim, true, false, List, [], ◌∷◌, ◌++◌, length, set, Option, Some, None, refl, ap, sym, ◌∙◌, subst, arith, append_assoc}
-use Rattle.std.specs.Prelude.{slice_get}
-use Rattle.std.specs.Option.{IsSomeAnd}
-use Rattle.std.proofs.lemmas.Bool.Decides.{nat_tests}
-use Rattle.std.proofs.lemmas.Bool.{true≢false, le-leb, and_from}
-use Rattle.std.proofs.lemmas.List.{length-append, length-map, map-append}
-use Rattle.rv_base.specs.declared.label.MachLabel.{MachLabel}
-use Rattle.rv_base.specs.LabelUse.{code_limit, Kinds}
-use Rattle.mach_buffer.specs.declared.uses.Use.{Use}
-use Rattle.mach_buffer.specs.Shape.{Shape, veneer_use, core, recorded, IsUsable}
-use Rattle.mach_buffer.specs.Reach.{is_pending}
-use Rattle.mach_buffer.specs.Windows.{AreWindows}
-use Rattle.mach_buffer.specs.Links.{IsLinked}
-use Rattle.mach_buffer.specs.Veneers.{put_at, put_veneer, put_all}
-use Rattle.mach_buffer.specs.Islands.{IsOwn}
-use Rattle.mach_buffer.specs.VeneerConditions.{IsNone, CanPutAt, CanPut, AddsOwn}
-use Rattle.mach_buffer.proofs.Links.{HasLaw, linked_veneer, recorded_get, recorded_set, windows_veneer}
-use Rattle.mach_buffer.proofs.Lasting.{VeneersLast, veneers_last}
-use Rattle.mach_buffer.proofs.Sound.{IsWhole}
+use Rattle.std.proofs.Common.{◌≡◌, ℕ, ◌+◌, ◌*◌, ◌%◌, ◌<◌, ◌≤◌, ◌⊎◌, inl, inr, ⊎_elim, true, List, [], ◌∷◌, ◌++◌, length, set, Some, None, refl, ap, sym, ◌∙◌, subst, arith, append_assoc}
+use Rattle.mach_buffer.proofs.Words.{true≢false, le-leb, and_from, length-append, length-map, map-append, slice_get, IsSomeAnd, MachLabel, code_limit, Kinds, Use, Shape, veneer_use, core, recorded, AreWindows, IsLinked, put_at, put_veneer, put_all, IsOwn, IsNone, CanPutAt, CanPut, AddsOwn}
+use Rattle.mach_buffer.proofs.Links.{HasLaw, recorded_get, recorded_set, veneer_put}
 use Rattle.mach_buffer.proofs.Lists.{append_none, both_lists, changed, comes_from, locate, none_some, one_there, only_one, slice_get-append, slice_get-set_other}
 
 -- ---- uses alike
@@ -108,9 +92,6 @@ pub record AllPut {L : Type 0} (kinds : Kinds L) (order : List ℕ) (s t : Shape
   pub kept : (j : ℕ) (u : Use L) → slice_get t.uses j ≡ Some u → u.veneer ≡ None → kinds.has_veneer u.kind ≡ true → (slice_get s.uses j ≡ Some u) × IsNone j order
   pub windows : AreWindows kinds s.bytes s.uses → AreWindows kinds t.bytes t.uses
 
-all_none : {L : Type 0} {kinds : Kinds L} (s : Shape L) → IsLinked kinds s.bytes s.uses → length s.bytes % 2 ≡ 0 → AllPut kinds [] s s
-all_none s linked even = record { linked = linked; even = even; long = omega arith; grown = adds_none (length s.bytes) s.uses; kept = λ j u h bare has. (h, tt); windows = λ w. w }
-
 all_more : {L : Type 0} {kinds : Kinds L} {i : ℕ} {order : List ℕ} {s m t : Shape L} → AllPut kinds (i ∷ []) s m → AllPut kinds order m t → AllPut kinds (i ∷ order) s t
 all_more a b = record {
   linked = b.linked;
@@ -128,9 +109,10 @@ all_one {L} {kinds} law i s linked even can =
     let v : Use L = record u { veneer = Some (length s.bytes) } in
     let own : Use L = veneer_use (kinds.veneer u.kind) (length s.bytes) u.label in
     let long : length (s.bytes ++ (kinds.veneer u.kind).bytes) ≡ length s.bytes + 8 = length-append s.bytes (kinds.veneer u.kind).bytes ∙ ap (λ n. length s.bytes + n) ok.eight in
+    let put = veneer_put law linked i u can.there can.near can.supported even in
     let is_own : IsOwn kinds s.uses (length s.bytes) own = record { after = omega arith; bare = refl; final = ok.final; far = and_from _ _ (le-leb _ _ ok.far_forward) (le-leb _ _ ok.far_backward); user = i; used = u; there = can.there; names = refl } in
     rw can.there (record {
-      linked = linked_veneer law linked i u can.there can.near can.supported even;
+      linked = put.0;
       even = omega (arith, long, even);
       long = omega (arith, long);
       grown = record { more = own ∷ []; grown = map-append core (set s.uses i v) (own ∷ []) ∙ ap (λ us. us ++ own ∷ []) (recorded_set s.uses i u v can.there refl); own = only_one (IsOwn kinds s.uses (length s.bytes)) own is_own };
@@ -138,29 +120,9 @@ all_one {L} {kinds} law i s linked even can =
           (λ a. ⊎_elim (λ c. (c.1, (λ e. c.0 (sym e), tt))) (λ c. absurd (none_some x.veneer (length s.bytes) bare (ap (λ (y : Use L). y.veneer) (sym c.1)))) (changed s.uses i v j x a))
           (λ a. absurd (true≢false (sym has ∙ ap (λ (y : Use L). kinds.has_veneer y.kind) (sym (one_there own a.index x a.there).1) ∙ ok.final)))
           (locate (set s.uses i v) (own ∷ []) j x h);
-      windows = windows_veneer law linked i u can.there can.supported even;
+      windows = put.1;
     })
 
 pub all_put : {L : Type 0} {kinds : Kinds L} → HasLaw kinds → {all : List ℕ} {first : Shape L} (order : List ℕ) (s : Shape L) → IsLinked kinds s.bytes s.uses → Going kinds order all first s → AllPut kinds order s (put_all kinds order s)
-all_put law [] s linked w = all_none s linked w.even
+all_put law [] s linked w = record { linked = linked; even = w.even; long = omega arith; grown = adds_none (length s.bytes) s.uses; kept = λ j u h bare has. (h, tt); windows = λ x. x }
 all_put {L} {kinds} law (i ∷ order) s linked w = let one = all_one law i s linked w.even w.can.0 in all_more one (all_put law order (put_veneer kinds i s) one.linked (going_next law w refl _ refl))
-
--- with what was whole before, and what lasts
-pub record Veneered {L : Type 0} (kinds : Kinds L) (order : List ℕ) (s t : Shape L) : Type 0 where
-  pub all : AllPut kinds order s t
-  pub last : VeneersLast kinds order s t
-  pub whole : IsWhole kinds (record s { bytes = t.bytes; uses = t.uses })
-
-pub veneered : {L : Type 0} {kinds : Kinds L} → HasLaw kinds → {s : Shape L} (order : List ℕ) → IsWhole kinds s → Going kinds order order s s → Veneered kinds order s (put_all kinds order s)
-veneered {L} {kinds} law {s} order w going =
-    let all = all_put law order s w.linked going in
-    record {
-      all = all;
-      last = veneers_last kinds order s;
-      whole = record { linked = all.linked; even = all.even; places = λ label to h. let q = w.places label to h in (omega (arith, q.0, all.long), q.1, q.2); known = own_labels all.grown (λ l. IsUsable s l.number) w.known; ordered = w.ordered };
-    }
-
--- no use is pending any more, where none is that was there and got no veneer
-pub all_idle : {L : Type 0} {kinds : Kinds L} {order : List ℕ} {s t : Shape L} → AllPut kinds order s t → (place : ℕ → Option ℕ) → ((j : ℕ) (u : Use L) → slice_get s.uses j ≡ Some u → u.offset ≤ length t.bytes → IsNone j order → is_pending kinds place u ≡ false) →
-    (j : ℕ) (u : Use L) → slice_get t.uses j ≡ Some u → is_pending kinds place u ≡ false
-all_idle all place idle j u h = grind (arith, nat_tests, all.kept j u h, all.linked.before j u h, idle j u)

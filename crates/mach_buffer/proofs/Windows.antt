@@ -1,13 +1,7 @@
 -- Windows of bytes, and patches one after the other.
 use Rattle.std.proofs.Common.{◌≡◌, ℕ, ◌+◌, ◌-◌, ◌≤◌, List, [], ◌∷◌, ◌++◌, ◌⊎◌, length, take, drop, ap, sym, subst, ◌∙◌, arith, inl, inr, bit_and, ◌≢◌, ◌<◌, Some, ⊎_elim, pos, ◌-ℤ◌}
-use Rattle.std.proofs.lemmas.List.{append-nil, get_or-take, drop-take, take-take, take_at, take_rest, drop-drop, drop_at, drop_all, length-drop, length-append, length-take-le}
+use Rattle.mach_buffer.proofs.Words.{append-nil, get_or-take, drop-take, take-take, take_at, take_rest, drop-drop, drop_at, drop_all, length-drop, length-append, length-take-le, slice_get_within, same_Some, cases_lt, IsFreshFrom, SameOutside, SameOutsideFrom, Kinds, window, ChangesOnly, CanPatch, CanPatchAll, AllAim, AllKept, KeepsOthers, slice_get, Patch}
 use borrow.Rule.Slice.PartMut.{put_mid}
-use Rattle.rv_base.specs.LabelUse.{IsFreshFrom, SameOutside, SameOutsideFrom, Kinds}
-use Rattle.mach_buffer.specs.Windows.{window, ChangesOnly, CanPatch, CanPatchAll, AllAim, AllKept, KeepsOthers}
-use Rattle.std.specs.List.{slice_get}
-use Rattle.std.proofs.lemmas.Option.{slice_get_within, same_Some}
-use Rattle.std.proofs.lemmas.Bool.{cases_lt}
-use Rattle.mach_buffer.specs.declared.patches.Patch.{Patch}
 
 -- to be fresh asks for the bytes of the marks alone
 pub fresh_in_prefix : (marks : List ℕ) (i m n : ℕ) (s : List ℕ) → i + length marks ≤ m → i + length marks ≤ n → IsFreshFrom i marks (take m s) → IsFreshFrom i marks (take n s)

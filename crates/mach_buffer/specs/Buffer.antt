@@ -6,7 +6,7 @@ use Rattle.mach_buffer.specs.declared.uses.LabelPlace.{LabelPlace}
 use Rattle.rv_base.specs.declared.constant.Constant.{Constant}
 use Rattle.rv_base.specs.declared.constant.VCodeConstant.{VCodeConstant}
 use Rattle.mach_buffer.specs.declared.records.ConstPlace.{ConstPlace}
-use Rattle.mach_buffer.specs.declared.records.MachTrap.{MachTrap}
+use Rattle.mach_buffer.specs.declared.records.MachRecord.{MachRecord}
 use Rattle.mach_buffer.specs.declared.pending.Pending.{Pending}
 use Rattle.mach_buffer.specs.declared.buffer.MachBuffer.{MachBuffer}
 use Rattle.mach_buffer.specs.Shape.{Shape, IsUsable}
@@ -17,7 +17,7 @@ use Rattle.mach_buffer.specs.Queues.{AreKept}
 use Rattle.mach_buffer.specs.Places.{place_in}
 
 abbrev pub shape_of : {L : Type 0} → MachBuffer L → Shape L
-shape_of b = record { bytes = b.code.bytes.items; uses = b.code.uses.items; place = place_in b.labels; labels = b.labels.bound.items; allocated = b.labels.allocated; traps = b.traps.items; registered = b.constants.registered.items; named = b.constants.named.items; constants = b.constants.placed.items }
+shape_of b = record { bytes = b.code.bytes.items; uses = b.code.uses.items; place = place_in b.labels; labels = b.labels.bound.items; allocated = b.labels.allocated; records = b.records.items; registered = b.constants.registered.items; named = b.constants.named.items; constants = b.constants.placed.items }
 
 -- the bytes so far
 abbrev pub bytes_of : {L : Type 0} → MachBuffer L → List ℕ
@@ -39,9 +39,9 @@ labels_of b = (shape_of b).labels
 abbrev pub allocated_of : {L : Type 0} → MachBuffer L → ℕ
 allocated_of b = (shape_of b).allocated
 
--- the traps, in the order in which they were recorded
-abbrev pub traps_of : {L : Type 0} → MachBuffer L → List MachTrap
-traps_of b = (shape_of b).traps
+-- the records, in the order in which they were recorded
+abbrev pub records_of : {L : Type 0} → MachBuffer L → List MachRecord
+records_of b = (shape_of b).records
 
 -- the constants that code may name
 abbrev pub registered_of : {L : Type 0} → MachBuffer L → List Constant

@@ -7,6 +7,7 @@ use Rattle.mach_buffer.specs.declared.uses.Use.{Use}
 use Rattle.mach_buffer.specs.Shape.{Shape, IsConstantLabel}
 use Rattle.mach_buffer.specs.Windows.{window, AreWindows, AllKept, KeepsOthers, patches_of}
 use Rattle.mach_buffer.specs.Reach.{is_reached, is_pending, deadlines, VeneersReach}
+use Rattle.mach_buffer.specs.Links.{IsLinked}
 use Rattle.mach_buffer.specs.Veneers.{put_all, IsOrder}
 use Rattle.mach_buffer.specs.Growth.{Grows}
 use Rattle.mach_buffer.specs.Islands.{padding, padded, is_far}
@@ -70,6 +71,7 @@ pub record Finishes {L : Type 0} (kinds : Kinds L) (s : Shape L) (bytes : List �
   pub long : length put.bytes ≡ end_after s (last_end kinds s)
   pub grows : Grows s.bytes s.uses s.place put.bytes put.uses put.place
   pub places : (label at : ℕ) → put.place label ≡ Some at → (at ≤ length put.bytes) × (at % 2 ≡ 0)
+  pub linked : IsLinked kinds put.bytes put.uses
   pub bound : (j : ℕ) (u : Use L) → slice_get put.uses j ≡ Some u → is_some (put.place u.label.number) ≡ true
   pub same_length : length bytes ≡ length put.bytes
   pub arrive : AllArrive kinds bytes put.place put.uses

@@ -1,4 +1,5 @@
 pub mod Shape
+pub mod Records
 pub mod Reach
 pub mod Windows
 pub mod Links

@@ -2,17 +2,17 @@
 use Rattle.std.specs.Prelude.{◌≡◌, ◌⊎◌, ℕ, ◌+◌, ◌^◌, ◌<◌, Bool, false, ◌||◌, List, [], ◌∷◌, ◌++◌, length, map, drop, Option, Some, None, nat_eq, nat_lt, if◌then◌else◌, slice_get}
 use Rattle.rv_base.specs.declared.label.MachLabel.{MachLabel}
 use Rattle.rv_base.specs.LabelUse.{Veneer}
-use Rattle.rv_base.specs.declared.trap.TrapCode.{TrapCode}
 use Rattle.rv_base.specs.declared.constant.Constant.{Constant}
 use Rattle.rv_base.specs.declared.constant.VCodeConstant.{VCodeConstant}
 use Rattle.mach_labels.specs.Table.{first_inner, first_constant}
 use Rattle.mach_buffer.specs.declared.uses.Use.{Use}
 use Rattle.mach_buffer.specs.declared.uses.LabelPlace.{LabelPlace}
 use Rattle.mach_buffer.specs.declared.records.ConstPlace.{ConstPlace}
-use Rattle.mach_buffer.specs.declared.records.MachTrap.{MachTrap}
+use Rattle.mach_buffer.specs.declared.records.Event.{Event}
+use Rattle.mach_buffer.specs.declared.records.MachRecord.{MachRecord}
 
 -- its bytes; its uses in the order in which they were recorded, each with its veneer's place where it has one; the places of
--- labels; the labels below 2^30 that are bound, in order of binding; how many inner labels were allocated; the traps, in the
+-- labels; the labels below 2^30 that are bound, in order of binding; how many inner labels were allocated; the records, in the
 -- order in which they were recorded; the constants that code may name; those that were named, in order of their first use; and
 -- those that stand, which are the first of these, with their offsets
 pub record Shape (L : Type 0) : Type 0 where
@@ -21,7 +21,7 @@ pub record Shape (L : Type 0) : Type 0 where
   pub place : ℕ → Option ℕ
   pub labels : List LabelPlace
   pub allocated : ℕ
-  pub traps : List MachTrap
+  pub records : List MachRecord
   pub registered : List Constant
   pub named : List VCodeConstant
   pub constants : List ConstPlace
@@ -50,9 +50,9 @@ with_label label s = record s { place = placed s.place label.number (length s.by
 abbrev pub with_allocated : {L : Type 0} → Shape L → Shape L
 with_allocated s = record s { allocated = s.allocated + 1 }
 
--- a trap more, at the end of the bytes
-abbrev pub with_trap : {L : Type 0} → TrapCode → Shape L → Shape L
-with_trap code s = record s { traps = s.traps ++ record { offset = length s.bytes; code = code } ∷ [] }
+-- a record more, at the end of the bytes
+abbrev pub with_record : {L : Type 0} → Event → Shape L → Shape L
+with_record event s = record s { records = s.records ++ record { offset = length s.bytes; event = event } ∷ [] }
 
 -- constants become known
 abbrev pub with_registered : {L : Type 0} → List Constant → Shape L → Shape L

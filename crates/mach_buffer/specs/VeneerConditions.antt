@@ -1,9 +1,11 @@
 -- What is asked of uses that get their veneers, and what they bring.
-use Rattle.std.specs.Prelude.{◌≡◌, ◌≢◌, ℕ, ◌+◌, ◌≤◌, true, List, [], ◌∷◌, ◌++◌, Some, slice_get}
-use Rattle.rv_base.specs.LabelUse.{Kinds}
+use Rattle.std.specs.Prelude.{◌≡◌, ◌≢◌, ℕ, ◌+◌, ◌*◌, ◌%◌, ◌<◌, ◌≤◌, true, List, [], ◌∷◌, ◌++◌, length, Some, slice_get}
+use Rattle.rv_base.specs.LabelUse.{code_limit, Kinds}
 use Rattle.mach_buffer.specs.declared.uses.Use.{Use}
-use Rattle.mach_buffer.specs.Shape.{recorded}
+use Rattle.mach_buffer.specs.Shape.{Shape, recorded}
 use Rattle.mach_buffer.specs.Reach.{deadline}
+use Rattle.mach_buffer.specs.Links.{IsLinked}
+use Rattle.mach_buffer.specs.Constants.{end_after, IsOrdered}
 use Rattle.mach_buffer.specs.Islands.{IsOwn}
 
 -- the use of a number supports a veneer, and reaches an offset
@@ -22,6 +24,14 @@ IsNone i (j ∷ order) = (j ≢ i) × IsNone i order
 abbrev pub CanPut : {L : Type 0} → Kinds L → List (Use L) → ℕ → List ℕ → Type 0
 CanPut kinds uses cur [] = Unit {0}
 CanPut kinds uses cur (i ∷ order) = CanPutAt kinds uses cur i × IsNone i order × CanPut kinds uses (cur + 8) order
+
+-- each of these veneers can be put, and then the constants that wait
+pub record CanPutAll {L : Type 0} (kinds : Kinds L) (s : Shape L) (order : List ℕ) : Type 0 where
+  pub linked : IsLinked kinds s.bytes s.uses
+  pub even : length s.bytes % 2 ≡ 0
+  pub ordered : IsOrdered s
+  pub can : CanPut kinds s.uses (length s.bytes) order
+  pub room : end_after s (length s.bytes + 8 * length order) < code_limit
 
 -- uses in veneers were added
 pub record AddsOwn {L : Type 0} (kinds : Kinds L) (from : ℕ) (uses new_uses : List (Use L)) : Type 0 where

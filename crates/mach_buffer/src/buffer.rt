@@ -5,9 +5,12 @@ use crate::constants::Constants;
 use crate::labels::{INNER_COUNT, Labels, constant_label};
 use crate::pending::Pending;
 use crate::reach::ISLAND_MARGIN;
-use crate::records::MachTrap;
+use crate::records::{Event, FinalizedRelocTarget, MachRecord};
 use crate::uses::Use;
-use rv_base::{Constant, MachInstLabelUse, MachLabel, OutOfMemory, TrapCode, VCodeConstant};
+use rv_base::{
+    Constant, MachInstLabelUse, MachLabel, OutOfMemory, Reloc, RelocTarget, TrapCode, UnwindInst,
+    VCodeConstant,
+};
 use std::alloc::Global;
 
 /// Code is shorter than this many bytes.
@@ -27,7 +30,7 @@ pub struct MachBuffer<L> {
     pub(crate) labels: Labels,
     pub(crate) constants: Constants,
     pub(crate) pending: Pending,
-    pub(crate) traps: Vec<MachTrap>,
+    pub(crate) records: Vec<MachRecord>,
     pub(crate) spoiled: bool,
 }
 
@@ -37,10 +40,13 @@ impl<L: MachInstLabelUse> MachBuffer<L> {
     ghost use mir.Syntax.{w16, w32, w64};
     ghost use Rattle.rv_base.specs.LabelUse.{code_limit};
     ghost use Rattle.mach_labels.specs.Table.{first_inner};
-    ghost use Rattle.mach_buffer.specs.Shape.{with_bytes, with_use, with_label, with_allocated, with_trap, with_registered, with_named, constant_label, inner_count, IsKnown, IsUsable};
+    ghost use Rattle.mach_buffer.specs.Shape.{with_bytes, with_use, with_label, with_allocated, with_record, with_registered, with_named, constant_label, inner_count, IsKnown, IsUsable};
     ghost use Rattle.mach_buffer.specs.Constants.{reserve_of};
+    ghost use Rattle.mach_buffer.specs.Records.{finalized};
+    ghost use Rattle.mach_buffer.specs.declared.records.Event.TheVariants.{Trap, Reloc as Relocates, Unwind};
+    ghost use Rattle.mach_buffer.specs.declared.records.FinalizedRelocTarget.TheVariants.{Func};
     ghost use Rattle.mach_buffer.specs.Reach.{island_margin, is_needed, due_by};
-    ghost use Rattle.mach_buffer.specs.Buffer.{shape_of, inside_of, bytes_of, uses_of, place_of, allocated_of, traps_of, registered_of, named_of, constants_of, spoiled_of, pending_of, Unless, Takes, IsSound};
+    ghost use Rattle.mach_buffer.specs.Buffer.{shape_of, inside_of, bytes_of, uses_of, place_of, allocated_of, records_of, registered_of, named_of, constants_of, spoiled_of, pending_of, Unless, Takes, IsSound};
 
     /// An empty buffer. Takes no memory.
     pub fn new(alloc: Global) -> MachBuffer<L>
@@ -49,7 +55,7 @@ impl<L: MachInstLabelUse> MachBuffer<L> {
         ensures places { (label : ℕ) → place_of result label ≡ None }
         ensures labels { (shape_of result).labels ≡ [] }
         ensures allocated { allocated_of result ≡ 0 }
-        ensures traps { traps_of result ≡ [] }
+        ensures records { records_of result ≡ [] }
         ensures registered { registered_of result ≡ [] }
         ensures named { named_of result ≡ [] }
         ensures constants { constants_of result ≡ [] }
@@ -62,7 +68,7 @@ impl<L: MachInstLabelUse> MachBuffer<L> {
             labels: Labels::new(alloc),
             constants: Constants::new(alloc),
             pending: Pending::new(alloc),
-            traps: Vec::new(alloc),
+            records: Vec::new(alloc),
             spoiled: false,
         }
     }
@@ -293,25 +299,78 @@ impl<L: MachInstLabelUse> MachBuffer<L> {
     /// Records a trap at the current offset.
     pub fn add_trap(&mut self, code: TrapCode) -> Result<(), OutOfMemory>
         requires sound { Unless (spoiled_of self.old) (IsSound L.kinds self.old) }
-        ensures recorded { Takes result (with_trap code) self.old self.new }
+        ensures recorded { Takes result (with_record (Trap code)) self.old self.new }
+        ensures sound { OnOk result (IsSound L.kinds self.new) }
+    {
+        self.add_record(Event::Trap(code))
+    }
+
+    /// Records a relocation of the bytes that are put next. A label that it refers to is bound already.
+    pub fn add_reloc(
+        &mut self,
+        kind: Reloc,
+        target: RelocTarget,
+        addend: i64,
+    ) -> Result<(), OutOfMemory>
+        requires sound { Unless (spoiled_of self.old) (IsSound L.kinds self.old) }
+        ensures recorded { Takes result (with_record (Relocates kind (finalized (place_of self.old) target) addend)) self.old self.new }
+        ensures sound { OnOk result (IsSound L.kinds self.new) }
+    {
+        let target = self.finalized(target);
+        self.add_record(Event::Reloc(kind, target, addend))
+    }
+
+    /// Records a relocation of the bytes that are put next, which refers to a place in the code by its offset.
+    pub fn add_reloc_to(&mut self, kind: Reloc, offset: u32, addend: i64) -> Result<(), OutOfMemory>
+        requires sound { Unless (spoiled_of self.old) (IsSound L.kinds self.old) }
+        ensures recorded { Takes result (with_record (Relocates kind (Func offset) addend)) self.old self.new }
+        ensures sound { OnOk result (IsSound L.kinds self.new) }
+    {
+        self.add_record(Event::Reloc(kind, FinalizedRelocTarget::Func(offset), addend))
+    }
+
+    /// Records a step in the making of the frame at the current offset.
+    pub fn add_unwind(&mut self, inst: UnwindInst) -> Result<(), OutOfMemory>
+        requires sound { Unless (spoiled_of self.old) (IsSound L.kinds self.old) }
+        ensures recorded { Takes result (with_record (Unwind inst)) self.old self.new }
+        ensures sound { OnOk result (IsSound L.kinds self.new) }
+    {
+        self.add_record(Event::Unwind(inst))
+    }
+
+    /// A relocation's target: a label by its place.
+    fn finalized(&self, target: RelocTarget) -> FinalizedRelocTarget
+        ensures { result ≡ finalized (place_of self.now) target }
+    {
+        match target {
+            RelocTarget::Name(name) => FinalizedRelocTarget::ExternalName(name),
+            RelocTarget::Label(label) => {
+                FinalizedRelocTarget::Func(self.labels.place(label).unwrap_or(0))
+            }
+        }
+    }
+
+    fn add_record(&mut self, event: Event) -> Result<(), OutOfMemory>
+        requires sound { Unless (spoiled_of self.old) (IsSound L.kinds self.old) }
+        ensures recorded { Takes result (with_record event) self.old self.new }
         ensures sound { OnOk result (IsSound L.kinds self.new) }
     {
         self.check()?;
-        if self.record_trap(code).is_err() {
+        if self.record(event).is_err() {
             self.spoiled = true;
             return Err(OutOfMemory);
         }
         Ok(())
     }
 
-    fn record_trap(&mut self, code: TrapCode) -> Result<(), OutOfMemory>
+    fn record(&mut self, event: Event) -> Result<(), OutOfMemory>
         requires sound { IsSound L.kinds self.old }
-        ensures shape { OnOk result (shape_of self.new ≡ with_trap code (shape_of self.old)) }
+        ensures shape { OnOk result (shape_of self.new ≡ with_record event (shape_of self.old)) }
         ensures sound { OnOk result (IsSound L.kinds self.new) }
         ensures spoiled { spoiled_of self.new ≡ spoiled_of self.old }
     {
         let offset = self.cur_offset();
-        self.traps.push(MachTrap { offset, code })?;
+        self.records.push(MachRecord { offset, event })?;
         Ok(())
     }
 

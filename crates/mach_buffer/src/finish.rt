@@ -5,18 +5,21 @@ use crate::code::Code;
 use crate::constants::Constants;
 use crate::labels::Labels;
 use crate::patches::patch_all;
-use crate::records::{ConstPlace, MachTrap};
+use crate::records::{ConstPlace, MachReloc, MachTrap, MachUnwind};
+use crate::split::{relocs_in, traps_in, unwinds_in};
 use crate::uses::LabelPlace;
 use rv_base::{Constant, List, MachInstLabelUse, OutOfMemory};
 
 /// Patched code; where the labels below 2^30 stand, in order of binding; where the constants stand that it names, in order of
-/// place; and the traps, in the order in which they were recorded.
+/// place; and the relocations, the traps and the steps in the making of the frame, in the order in which they were recorded.
 #[derive(Drop)]
 pub struct Finished {
     pub bytes: List<u8>,
     pub labels: List<LabelPlace>,
     pub constants: List<ConstPlace>,
+    pub relocs: List<MachReloc>,
     pub traps: List<MachTrap>,
+    pub unwinds: List<MachUnwind>,
 }
 
 impl<L: MachInstLabelUse> MachBuffer<L> {
@@ -25,7 +28,8 @@ impl<L: MachInstLabelUse> MachBuffer<L> {
     ghost use Rattle.mach_buffer.specs.Islands.{aligned};
     ghost use Rattle.mach_buffer.specs.Finish.{padded_for, CanFinish, Finishes};
     ghost use Rattle.mach_buffer.specs.LastVeneers.{LastPut};
-    ghost use Rattle.mach_buffer.specs.Buffer.{shape_of, bytes_of, labels_of, registered_of, traps_of, spoiled_of, Unless, IsSound};
+    ghost use Rattle.mach_buffer.specs.Records.{relocs_in, traps_in, unwinds_in};
+    ghost use Rattle.mach_buffer.specs.Buffer.{shape_of, bytes_of, labels_of, registered_of, records_of, spoiled_of, Unless, IsSound};
 
     /// Puts a veneer for each use that is pending, by deadline, then by place, then as recorded; then the constants that wait;
     /// and patches every window: a use then goes by its veneer, and straight to its label where it has none. The constants are
@@ -36,7 +40,9 @@ impl<L: MachInstLabelUse> MachBuffer<L> {
         requires ready { Unless (spoiled_of self) (CanFinish L.kinds (shape_of self)) }
         ensures code { IfOk result (λ f. (finishes : Finishes L.kinds (shape_of self) f.bytes) × (f.constants ≡ finishes.put.constants)) }
         ensures labels { IfOk result (λ f. f.labels ≡ labels_of self) }
-        ensures traps { IfOk result (λ f. f.traps ≡ traps_of self) }
+        ensures relocs { IfOk result (λ f. f.relocs ≡ relocs_in (records_of self)) }
+        ensures traps { IfOk result (λ f. f.traps ≡ traps_in (records_of self)) }
+        ensures unwinds { IfOk result (λ f. f.unwinds ≡ unwinds_in (records_of self)) }
         ensures unspoiled { OnOk result (spoiled_of self ≡ false) }
     {
         self.check()?;
@@ -48,7 +54,9 @@ impl<L: MachInstLabelUse> MachBuffer<L> {
         requires ready { CanFinish L.kinds (shape_of self) }
         ensures code { IfOk result (λ f. (finishes : Finishes L.kinds (shape_of self) f.bytes) × (f.constants ≡ finishes.put.constants)) }
         ensures labels { IfOk result (λ f. f.labels ≡ labels_of self) }
-        ensures traps { IfOk result (λ f. f.traps ≡ traps_of self) }
+        ensures relocs { IfOk result (λ f. f.relocs ≡ relocs_in (records_of self)) }
+        ensures traps { IfOk result (λ f. f.traps ≡ traps_in (records_of self)) }
+        ensures unwinds { IfOk result (λ f. f.unwinds ≡ unwinds_in (records_of self)) }
     {
         self.put_last()?;
         let MachBuffer {
@@ -57,7 +65,7 @@ impl<L: MachInstLabelUse> MachBuffer<L> {
             labels,
             constants,
             pending,
-            traps,
+            records,
             spoiled,
         } = self;
         let Code { mut bytes, uses } = code;
@@ -77,7 +85,9 @@ impl<L: MachInstLabelUse> MachBuffer<L> {
             bytes: List::from_vec(bytes),
             labels: List::from_vec(bound),
             constants: List::from_vec(placed),
-            traps: List::from_vec(traps),
+            relocs: List::from_vec(relocs_in(&records, alloc)?),
+            traps: List::from_vec(traps_in(&records, alloc)?),
+            unwinds: List::from_vec(unwinds_in(&records, alloc)?),
         })
     }
 
@@ -91,8 +101,7 @@ impl<L: MachInstLabelUse> MachBuffer<L> {
             .pending
             .order(&self.code.uses, &self.labels, None, self.alloc)?;
         self.pad_last(order.len())?;
-        self.put_veneers(&order)?;
-        self.put_constants()?;
+        self.put_pending(false, &order)?;
         Ok(())
     }
 

@@ -18,7 +18,7 @@ impl<L: MachInstLabelUse> MachBuffer<L> {
     ghost use Rattle.mach_buffer.specs.Islands.{aligned, padded, needs_own as own_needed, with_own, CanIsland, Islanded};
     ghost use Rattle.mach_buffer.specs.Growth.{Grows};
     ghost use Rattle.mach_buffer.specs.Queues.{key_number};
-    ghost use Rattle.mach_buffer.specs.VeneerConditions.{CanPut, AddsOwn};
+    ghost use Rattle.mach_buffer.specs.VeneerConditions.{CanPut, CanPutAll, AddsOwn};
     ghost use Rattle.mach_buffer.specs.Buffer.{shape_of, inside_of, bytes_of, uses_of, place_of, registered_of, spoiled_of, Unless, TakesAs, IsSound};
 
     /// Makes an island after its jump, whose four bytes stand last: zero bytes to a multiple of four, the jump's own veneer
@@ -62,9 +62,7 @@ impl<L: MachInstLabelUse> MachBuffer<L> {
             self.alloc,
         )?;
         let needed = self.needs_own(order.len());
-        self.put_own(needed)?;
-        self.put_veneers(&order)?;
-        self.put_constants()?;
+        self.put_pending(needed, &order)?;
         self.pad()?;
         self.pending.clear();
         self.place_label(after_island)?;
@@ -107,9 +105,27 @@ impl<L: MachInstLabelUse> MachBuffer<L> {
         deadline(last) < end
     }
 
+    /// Puts the veneer of the use that was recorded last, where it needs one; the veneers of uses in their order; and the
+    /// constants that wait.
+    pub(crate) fn put_pending(
+        &mut self,
+        needed: bool,
+        order: &[PendingKey],
+    ) -> Result<(), OutOfMemory>
+        requires { CanPutAll L.kinds (shape_of self.old) (with_own needed (length (uses_of self.old) - 1) (map key_number order.now)) }
+        ensures put { OnOk result (shape_of self.new ≡ put_constants (put_all L.kinds (with_own needed (length (uses_of self.old) - 1) (map key_number order.now)) (shape_of self.old))) }
+        ensures inside { inside_of self.new ≡ inside_of self.old }
+        ensures spoiled { spoiled_of self.new ≡ spoiled_of self.old }
+    {
+        self.put_own(needed)?;
+        self.put_veneers(order)?;
+        self.put_constants()?;
+        Ok(())
+    }
+
     /// Puts the veneer of the use that was recorded last, where it needs one.
     fn put_own(&mut self, needed: bool) -> Result<(), OutOfMemory>
-        requires some { 1 ≤ length (uses_of self.old) }
+        requires some { needed ≡ true → 1 ≤ length (uses_of self.old) }
         requires may { needed ≡ true → IsSomeAnd (slice_get (uses_of self.old) (length (uses_of self.old) - 1)) (λ u. L.kinds.has_veneer u.kind ≡ true) }
         requires room { needed ≡ true → length (bytes_of self.old) + 8 < code_limit }
         requires even { length (bytes_of self.old) % 2 ≡ 0 }
@@ -125,7 +141,7 @@ impl<L: MachInstLabelUse> MachBuffer<L> {
     }
 
     /// Puts the veneers of uses in their order.
-    pub(crate) fn put_veneers(&mut self, order: &[PendingKey]) -> Result<(), OutOfMemory>
+    fn put_veneers(&mut self, order: &[PendingKey]) -> Result<(), OutOfMemory>
         requires can { CanPut L.kinds (uses_of self.old) (length (bytes_of self.old)) (map key_number order.now) }
         requires room { length (bytes_of self.old) + 8 * length order.now < code_limit }
         requires even { length (bytes_of self.old) % 2 ≡ 0 }
@@ -140,7 +156,7 @@ impl<L: MachInstLabelUse> MachBuffer<L> {
     }
 
     /// Puts the constants that wait, in the order of their first use.
-    pub(crate) fn put_constants(&mut self) -> Result<(), OutOfMemory>
+    fn put_constants(&mut self) -> Result<(), OutOfMemory>
         requires ordered { IsOrdered (shape_of self.old) }
         requires room { end_after (shape_of self.old) (length (bytes_of self.old)) < code_limit }
         ensures put { OnOk result (shape_of self.new ≡ put_constants (shape_of self.old)) }

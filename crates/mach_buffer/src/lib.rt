@@ -11,9 +11,12 @@ mod patches;
 mod pending;
 mod reach;
 mod records;
+mod split;
 mod uses;
 
 pub use buffer::MachBuffer;
 pub use finish::Finished;
-pub use records::{ConstPlace, MachTrap};
+pub use records::{
+    ConstPlace, Event, FinalizedRelocTarget, MachRecord, MachReloc, MachTrap, MachUnwind,
+};
 pub use uses::{LabelPlace, Use};

@@ -12,7 +12,8 @@ use Rattle.rv_inst.specs.declared.code.Code.{Code}
 use Rattle.rv_inst.specs.declared.code.LineSpan.{LineSpan}
 use Rattle.rv_inst.specs.LabelUse.{label_kinds}
 use Rattle.mach_buffer.specs.Finish.{CanFinish, Finishes}
-use Rattle.mach_buffer.specs.Buffer.{shape_of, bytes_of, uses_of, place_of, labels_of, traps_of, allocated_of, registered_of, named_of, constants_of}
+use Rattle.mach_buffer.specs.Records.{relocs_in, traps_in, unwinds_in}
+use Rattle.mach_buffer.specs.Buffer.{shape_of, bytes_of, uses_of, place_of, labels_of, records_of, allocated_of, registered_of, named_of, constants_of}
 use Rattle.rv_emit.specs.declared.state.EmitVState.{EmitVState}
 use Rattle.rv_emit.specs.Emitted.{Buffer, IsSoundBuffer}
 use Rattle.rv_asm.specs.Refusal.{binds, is_bound, lines_sum, size_sum, lines_refusal}
@@ -40,9 +41,9 @@ pub record SoFar (context : Context) (lines : List Line) (count : ℕ) (spans : 
   pub reach : ReachesOn context (take count lines) spans
 
 -- before the first
-pub so_far_none : (context : Context) (lines : List Line) (b : Buffer) → bytes_of b ≡ [] → uses_of b ≡ [] → ((label : ℕ) → place_of b label ≡ None) → labels_of b ≡ [] → allocated_of b ≡ 0 → traps_of b ≡ [] → registered_of b ≡ context.constants → named_of b ≡ [] → constants_of b ≡ [] → IsSoundBuffer b → SoFar context lines 0 [] b
-so_far_none context lines b bytes uses places labels allocated traps registered named constants sound = record {
-  built = built_none context b bytes uses traps registered named constants sound;
+pub so_far_none : (context : Context) (lines : List Line) (b : Buffer) → bytes_of b ≡ [] → uses_of b ≡ [] → ((label : ℕ) → place_of b label ≡ None) → labels_of b ≡ [] → allocated_of b ≡ 0 → records_of b ≡ [] → registered_of b ≡ context.constants → named_of b ≡ [] → constants_of b ≡ [] → IsSoundBuffer b → SoFar context lines 0 [] b
+so_far_none context lines b bytes uses places labels allocated records registered named constants sound = record {
+  built = built_none context b bytes uses records registered named constants sound;
   named = named_none b uses labels places;
   sized = sized_none context b bytes uses places registered allocated;
   since = since_none context b uses places;
@@ -185,10 +186,10 @@ ready context lines n spans b e le s =
     can_finish context lines spans b all.built all.named all.sized (sum_small context lines e) (named_is_bound context lines e)
 
 -- and then it is finished
-pub finished : (context : Context) (lines : List Line) (n : ℕ) (code : Code) (b : Buffer) → lines_refusal context lines ≡ None → length lines ≤ n → SoFar context lines n code.lines b → (f : Finishes label_kinds (shape_of b) code.bytes) → code.constants ≡ f.put.constants → code.labels ≡ labels_of b → code.traps ≡ traps_of b → code.end ≡ length (bytes_of b) → IsFinished context lines code
-finished context lines n code b e le s f constants labels traps end =
+pub finished : (context : Context) (lines : List Line) (n : ℕ) (code : Code) (b : Buffer) → lines_refusal context lines ≡ None → length lines ≤ n → SoFar context lines n code.lines b → (f : Finishes label_kinds (shape_of b) code.bytes) → code.constants ≡ f.put.constants → code.labels ≡ labels_of b → code.relocs ≡ relocs_in (records_of b) → code.traps ≡ traps_in (records_of b) → code.unwinds ≡ unwinds_in (records_of b) → code.end ≡ length (bytes_of b) → IsFinished context lines code
+finished context lines n code b e le s f constants labels relocs traps unwinds end =
     let all = at_end context lines n code.lines b le s in
-    record { sink = b; built = all.built; named = all.named; sized = all.sized; early = all.early; reach = all.reach; ready = ready context lines n code.lines b e le s; finished = f; constants = constants; labels = labels; traps = traps; end = end }
+    record { sink = b; built = all.built; named = all.named; sized = all.sized; early = all.early; reach = all.reach; ready = ready context lines n code.lines b e le s; finished = f; constants = constants; labels = labels; relocs = relocs; traps = traps; unwinds = unwinds; end = end }
 
 -- the code is short
 pub code_short : (context : Context) (lines : List Line) (n : ℕ) (spans : List LineSpan) (b : Buffer) (bytes : List ℕ) → lines_refusal context lines ≡ None → length lines ≤ n → SoFar context lines n spans b → Finishes label_kinds (shape_of b) bytes → length bytes < 2 ^ 32

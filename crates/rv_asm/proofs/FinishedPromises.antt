@@ -1,5 +1,7 @@
 -- Code that was built and finished keeps what is promised of it.
-use Rattle.std.proofs.Common.{◌≡◌, None, ◌∙◌, arith}
+use Rattle.std.proofs.Common.{◌≡◌, None, ◌∙◌, ap, sym, subst, arith}
+use Rattle.std.specs.List.{AllByRecursion}
+use Rattle.mach_buffer.specs.Records.{unwinds_in}
 use Rattle.rv_inst.specs.Context.{context_of}
 use Rattle.rv_inst.specs.declared.job.Job.{Job}
 use Rattle.rv_inst.specs.declared.code.Code.{Code}
@@ -10,12 +12,18 @@ use Rattle.rv_asm.specs.Refusal.{refusal, lines_refusal}
 use Rattle.rv_asm.specs.Reported.{Reported}
 use Rattle.rv_asm.specs.Simulation.{RunsAsListed, HasOperations}
 use Rattle.rv_asm.specs.FinishedCode.{IsFinished}
+use Rattle.rv_asm.specs.SavedRegisters.{SavesReal}
+use Rattle.rv_asm.proofs.SavedRegisters.{lines_save}
 use Rattle.rv_asm.specs.Reach.{InReach}
 use Rattle.rv_asm.proofs.Finish.{finished_short}
 use Rattle.rv_asm.proofs.FinishedLines.{built_runs, built_operations}
 use Rattle.rv_asm.proofs.RefusalOrder.{accepted_lines, parts, no_rule_broken, sum_small}
 use Rattle.rv_asm.proofs.RulesKept.{names_bound}
 use Rattle.rv_asm.proofs.SpanLengths.{all_bytes, built_reported}
+
+-- saved registers are the machine's
+pub finished_saves : (job : Job) (code : Code) → refusal job ≡ None → IsFinished (context_of job) job.lines code → AllByRecursion SavesReal code.unwinds
+finished_saves job code accepted f = subst (AllByRecursion SavesReal) (sym (f.unwinds ∙ ap unwinds_in f.built.records)) (lines_save (context_of job) code.lines 0 job.lines (no_rule_broken (context_of job) job.lines (accepted_lines job accepted)))
 
 module _ (job : Job) (code : Code) (accepted : refusal job ≡ None) (f : IsFinished (context_of job) job.lines code) (fits : CodeFits code) where
   abbrev e : lines_refusal (context_of job) job.lines ≡ None
@@ -30,16 +38,16 @@ module _ (job : Job) (code : Code) (accepted : refusal job ≡ None) (f : IsFini
       let long = f.finished.same_length in
       let short = finished_short (context_of job) job.lines f.sink code.bytes f.built.sound f.sized f.finished in
       let small = sum_small (context_of job) job.lines e in
-      built_reported job code f.sink f.built finished f.constants (omega (arith, short, small)) (f.labels ∙ f.named.labels) f.traps f.end (omega (arith, longer, long))
+      built_reported job code f.sink f.built finished f.constants (omega (arith, short, small)) (f.labels ∙ f.named.labels) f.relocs f.traps f.unwinds f.end (omega (arith, longer, long))
 
   pub finished_runs : RunsAsListed job code
   finished_runs =
       let short = finished_short (context_of job) job.lines f.sink code.bytes f.built.sound f.sized f.finished in
       let small = sum_small (context_of job) job.lines e in
-      built_runs job code f.sink f.built finished f.constants f.traps (no_rule_broken (context_of job) job.lines e) (omega (arith, short, small)) f.end (names_bound job.lines job.lines (parts (context_of job) job.lines e).unbound)
+      built_runs job code f.sink f.built finished f.constants f.relocs f.traps (no_rule_broken (context_of job) job.lines e) (omega (arith, short, small)) f.end (names_bound job.lines job.lines (parts (context_of job) job.lines e).unbound)
 
   pub finished_operations : HasOperations job code
-  finished_operations = built_operations job code f.sink f.built finished f.constants f.traps (no_rule_broken (context_of job) job.lines e)
+  finished_operations = built_operations job code f.sink f.built finished f.constants f.relocs f.traps (no_rule_broken (context_of job) job.lines e)
 
   pub finished_in_reach : InReach job code
   finished_in_reach = record {

@@ -15,8 +15,11 @@ pub mod LinesInBuffer
 pub mod SpanLengths
 pub mod OneOperations
 pub mod FinishedLines
+pub mod Images
+pub mod SavedRegisters
 pub mod LinesJoin
 pub mod AssemblyLoop
 pub mod ValuesKept
 pub mod LinesAppended
-pub mod LineTraps
+pub mod LineRecords
+pub mod Relocations

@@ -11,16 +11,16 @@ use Rattle.rv_inst.specs.declared.inst.Line.TheVariants.{Inst as Put, Bind}
 use Rattle.rv_inst.specs.declared.inst.Inst.{Inst}
 use Rattle.rv_inst.specs.declared.code.LineSpan.{LineSpan}
 use Rattle.rv_inst.specs.declared.label_use.LabelUse.{LabelUse}
-use Rattle.rv_inst.specs.LabelUse.{label_kinds}
+use Rattle.rv_inst.specs.LabelUse.{label_kinds, marks_of}
 use Rattle.rv_inst.specs.Rules.{inst_rule, broken_rule}
-use Rattle.rv_inst.specs.Traps.{inst_traps}
+use Rattle.rv_inst.specs.Records.{inst_records}
 use Rattle.rv_inst.specs.Operands.{inst_constant}
 use Rattle.rv_inst.specs.declared.inst.Inst.TheVariants.{EmitIsland, BrTable}
 use Rattle.rv_inst.specs.Sizes.{words_in, extent_of, table_space, line_space}
 use Rattle.mach_buffer.specs.declared.records.ConstPlace.{ConstPlace}
 use Rattle.mach_buffer.specs.declared.uses.Use.{Use}
 use Rattle.mach_buffer.specs.Reach.{is_pending, is_needed, deadlines}
-use Rattle.mach_buffer.specs.Buffer.{shape_of, bytes_of, uses_of, place_of, traps_of, registered_of, named_of, constants_of}
+use Rattle.mach_buffer.specs.Buffer.{shape_of, bytes_of, uses_of, place_of, records_of, registered_of, named_of, constants_of}
 use Rattle.mach_buffer.specs.Constants.{AllStand}
 use Rattle.mach_buffer.specs.Growth.{Lasts}
 use Rattle.mach_buffer.specs.Shape.{recorded}
@@ -29,13 +29,14 @@ use Rattle.mach_buffer.proofs.Laws.{append_none, grows_put, lasts_more, stands_l
 use Rattle.rv_emit.specs.ConstantsAdded.{StandInTurn, AddsConstants}
 use Rattle.rv_emit.specs.declared.state.EmitVState.{EmitVState}
 use Rattle.rv_emit.specs.Emitted.{Buffer, IsSoundBuffer, HasWindows, AppendsInst, IslandIfNeeded, named_by}
+use Rattle.rv_emit.specs.Images.{EndsWithin, AllClear, FieldsStand}
 use Rattle.rv_emit.specs.InstParts.{parts_of}
 use Rattle.rv_emit.specs.State.{setting_beyond}
 use Rattle.rv_emit.proofs.Laws.{adds_both, adds_none, gap_last, parts_last, gap_put, parts_put, are_blocks, bytes_put}
 use Rattle.rv_asm.specs.LinesInBuffer.{LineStands, StandsAfter, InstPut, BindPut, LinePut}
-use Rattle.rv_asm.specs.Reported.{line_traps, line_constant, with_constant, StandOutside}
+use Rattle.rv_asm.specs.Reported.{line_records, line_constant, with_constant, StandOutside}
 use Rattle.rv_asm.proofs.LinesAppended.{Appends, appends, appended_long}
-use Rattle.rv_asm.proofs.LineTraps.{room_traps, appended_traps}
+use Rattle.rv_asm.proofs.LineRecords.{room_records, appended_records}
 
 -- what lasts from one buffer to another
 abbrev pub LastsTo : Buffer → Buffer → Type 0
@@ -52,6 +53,7 @@ stands_last context line old new l before start end h = record {
   even = h.even;
   within = let a = h.within in let b = l.grows.longer in omega arith;
   ends = let a = h.ends in let b = l.grows.longer in omega arith;
+  short = h.short;
 }
 
 -- ---- the constants that are named
@@ -90,13 +92,13 @@ inst_apart context inst old new turn p = words_apart old new (words_in (extent_o
 room_apart : (b : Buffer) → StandInTurn (shape_of b) → StandOutside (registered_of b) (constants_of b) (length (bytes_of b) - 0) (length (bytes_of b))
 room_apart b turn = words_apart b b 0 turn refl refl (omega arith)
 
-room_turn : (flags : IsaFlags) (distance : ℕ) (old new : Buffer) (made : Bool) → IsSoundBuffer old → HasWindows old → IslandIfNeeded distance old new made → StandInTurn (shape_of old) → StandInTurn (shape_of new)
-room_turn flags distance old new made s w room turn = (gap_put flags distance old new made s w room).adds.in_turn turn
+room_turn : (flags : IsaFlags) (distance : ℕ) (old new : Buffer) (made : Bool) → IsSoundBuffer old → HasWindows old → FieldsStand (shape_of old) → IslandIfNeeded distance old new made → StandInTurn (shape_of old) → StandInTurn (shape_of new)
+room_turn flags distance old new made s w f room turn = (gap_put flags distance old new made s w f room).adds.in_turn turn
 
-appended_apart : (context : Context) (inst : Inst) (old new : Buffer) → IsSoundBuffer old → HasWindows old → StandInTurn (shape_of old) → Appends context inst old new → StandOutside (registered_of new) (constants_of new) (length (bytes_of new) - words_in (extent_of context inst)) (length (bytes_of new))
-appended_apart context (EmitIsland space) old new s w turn (made, room) = room_apart new (room_turn context.flags space old new made s w room turn)
-appended_apart context (BrTable index tmp1 tmp2 targets) old new s w turn (mid, made, room, words) = inst_apart context (BrTable index tmp1 tmp2 targets) mid new (room_turn context.flags (table_space (length targets)) old mid made s w room turn) words
-appended_apart context inst old new s w turn e = inst_apart context inst old new turn e
+appended_apart : (context : Context) (inst : Inst) (old new : Buffer) → IsSoundBuffer old → HasWindows old → FieldsStand (shape_of old) → StandInTurn (shape_of old) → Appends context inst old new → StandOutside (registered_of new) (constants_of new) (length (bytes_of new) - words_in (extent_of context inst)) (length (bytes_of new))
+appended_apart context (EmitIsland space) old new s w f turn (made, room) = room_apart new (room_turn context.flags space old new made s w f room turn)
+appended_apart context (BrTable index tmp1 tmp2 targets) old new s w f turn (mid, made, room, words) = inst_apart context (BrTable index tmp1 tmp2 targets) mid new (room_turn context.flags (table_space (length targets)) old mid made s w f room turn) words
+appended_apart context inst old new s w f turn e = inst_apart context inst old new turn e
 
 -- ---- a line
 
@@ -106,9 +108,10 @@ pub record LineAdded (context : Context) (line : Line) (old new : Buffer) (span 
   pub stands : StandsAfter context line new (length (bytes_of old)) span.start span.end
   pub end : span.end ≡ length (bytes_of new)
   pub windows : HasWindows new
+  pub fields : FieldsStand (shape_of new)
   pub sound : IsSoundBuffer new
   pub first : uses_of old ≡ [] → span.start ≡ length (bytes_of old)
-  pub traps : traps_of new ≡ traps_of old ++ line_traps context span.start span.end line
+  pub records : records_of new ≡ records_of old ++ line_records context span.start span.end line
   pub named : named_of new ≡ with_constant (line_constant line) (named_of old)
   pub constants : AllStand label_kinds (shape_of old) → AllStand label_kinds (shape_of new)
   pub adds : AddsConstants (shape_of old) (shape_of new)
@@ -121,13 +124,13 @@ none_put distance old new made m none = ⊎_elim
     (λ put. let needed : true ≡ false = sym put.0 ∙ m.asked ∙ ap (λ us. is_needed (length (bytes_of old)) distance (deadlines (is_pending label_kinds (place_of old)) label_kinds us)) none in absurd (cc))
     m.put
 
-inst_added : (context : Context) (setting : EmitVState) (inst : Inst) (old new : Buffer) (span : LineSpan) → inst_rule context inst ≡ None → IsSoundBuffer old → HasWindows old → InstPut context setting inst old new span → LineAdded context (Put inst) old new span
-inst_added context setting inst old new span rule s w p =
+inst_added : (context : Context) (setting : EmitVState) (inst : Inst) (old new : Buffer) (span : LineSpan) → inst_rule context inst ≡ None → IsSoundBuffer old → HasWindows old → FieldsStand (shape_of old) → InstPut context setting inst old new span → LineAdded context (Put inst) old new span
+inst_added context setting inst old new span rule s w f p =
     let now = setting_beyond p.made setting in
-    let room = gap_put context.flags line_space old p.mid p.made s w p.room in
+    let room = gap_put context.flags line_space old p.mid p.made s w f p.room in
     let appended = appends context now inst p.mid new rule room.sound p.emitted in
     let long = appended_long context now inst p.mid new rule appended in
-    let put = parts_put context.flags (parts_of context now inst) p.mid new (are_blocks context now inst rule) room.sound room.windows p.emitted in
+    let put = parts_put context.flags (parts_of context now inst) p.mid new (are_blocks context now inst rule) room.sound room.windows room.fields p.emitted in
     record {
       lasts = lasts_more room.lasts put.lasts;
       stands = subst (λ n. StandsAfter context (Put inst) new (length (bytes_of old)) n span.end) (sym p.start) (record {
@@ -136,16 +139,18 @@ inst_added context setting inst old new span rule s w p =
         even = room.sound.even;
         within = put.lasts.grows.longer;
         ends = let e = p.end in omega (arith, e);
+        short = λ none. let most = (p.bounds none).long in let e = p.end in omega arith;
       });
       end = p.end;
       windows = put.windows;
+      fields = put.fields;
       sound = put.sound;
       first = λ h. p.start ∙ none_put line_space old p.mid p.made p.room h;
-      traps = appended_traps context inst p.mid new appended ∙ (λ i. room_traps line_space old p.mid p.made p.room i ++ inst_traps context (sym p.start i) (sym p.end i) inst);
+      records = appended_records context inst p.mid new appended ∙ (λ i. room_records line_space old p.mid p.made p.room i ++ inst_records context (sym p.start i) (sym p.end i) inst);
       named = appended_named context inst p.mid new appended ∙ ap (with_constant (inst_constant inst)) (room_named line_space old p.mid p.made p.room);
       constants = λ h. put.constants (room.constants h);
       adds = adds_both room.adds put.adds;
-      apart = λ turn. subst (λ n. StandOutside (registered_of new) (constants_of new) (n - words_in (extent_of context inst)) n) (sym p.end) (appended_apart context inst p.mid new room.sound room.windows (room.adds.in_turn turn) appended);
+      apart = λ turn. subst (λ n. StandOutside (registered_of new) (constants_of new) (n - words_in (extent_of context inst)) n) (sym p.end) (appended_apart context inst p.mid new room.sound room.windows room.fields (room.adds.in_turn turn) appended);
     }
 
 -- ---- a bind
@@ -160,14 +165,14 @@ bind_lasts label old new span p = record {
       (λ other to h. p.kept other (λ e. none_some (place_of old label.number) to p.unbound (ap (place_of old) (sym e) ∙ h)) ∙ h);
   straight = λ j u h bare reached. ap (λ us. slice_get us j) p.uses ∙ h;
   allocated = let e = p.allocated in omega arith;
-  traps = λ k r h. ap (λ ts. slice_get ts k) p.traps ∙ h;
+  records = record { stay = λ k r h. ap (λ rs. slice_get rs k) p.records ∙ h; later = λ k r h. inl (ap (λ rs. slice_get rs k) (sym p.records) ∙ h) };
   registered = p.registered;
   named = λ i k h. ap (λ ks. slice_get ks i) p.named ∙ h;
   constants = λ j c h. ap (λ cs. slice_get cs j) p.constants ∙ h;
 }
 
-bind_added : (context : Context) (label : MachLabel) (old new : Buffer) (span : LineSpan) → IsSoundBuffer old → HasWindows old → BindPut label old new span → LineAdded context (Bind label) old new span
-bind_added context label old new span s w p = record {
+bind_added : (context : Context) (label : MachLabel) (old new : Buffer) (span : LineSpan) → IsSoundBuffer old → HasWindows old → FieldsStand (shape_of old) → BindPut label old new span → LineAdded context (Bind label) old new span
+bind_added context label old new span s w f p = record {
   lasts = bind_lasts label old new span p;
   stands = record {
     gap = inl (sym p.start);
@@ -175,19 +180,24 @@ bind_added context label old new span s w p = record {
     even = ap (λ n. n % 2) p.start ∙ s.even;
     within = let e = p.start in let same : length (bytes_of new) ≡ length (bytes_of old) = ap (length {A = ℕ}) p.bytes in omega arith;
     ends = let e = p.end in let same : length (bytes_of new) ≡ length (bytes_of old) = ap (length {A = ℕ}) p.bytes in omega arith;
+    short = tt;
   };
   end = p.end ∙ ap (length {A = ℕ}) (sym p.bytes);
   windows = subst (λ (bs : List ℕ). AreWindows label_kinds bs (uses_of new)) (sym p.bytes)
       (subst (λ (us : List (Use LabelUse)). AreWindows label_kinds (bytes_of old) us) (sym p.uses) w);
+  fields = record {
+    ends = λ k r h. subst (λ (bs : List ℕ). EndsWithin (length bs) r.offset r.event) (sym p.bytes) (f.ends k r (ap (λ rs. slice_get rs k) (sym p.records) ∙ h));
+    clear = λ j u h. subst (λ rs. AllClear rs u.offset (length (marks_of u.kind))) (sym p.records) (f.clear j u (ap (λ us. slice_get us j) (sym p.uses) ∙ h));
+  };
   sound = p.sound;
   first = λ h. p.start;
-  traps = p.traps ∙ sym (append-nil (traps_of old));
+  records = p.records ∙ sym (append-nil (records_of old));
   named = p.named;
   constants = λ h. constants_last (bind_lasts label old new span p) p.constants h;
   adds = adds_none (bind_lasts label old new span p).grows.longer p.constants p.registered;
   apart = λ turn. tt;
 }
 
-pub line_added : (context : Context) (setting : EmitVState) (line : Line) (old new : Buffer) (span : LineSpan) → broken_rule context line ≡ None → IsSoundBuffer old → HasWindows old → LinePut context setting line old new span → LineAdded context line old new span
-line_added context setting (Put inst) old new span rule s w p = inst_added context setting inst old new span rule s w p
-line_added context setting (Bind label) old new span rule s w p = bind_added context label old new span s w p
+pub line_added : (context : Context) (setting : EmitVState) (line : Line) (old new : Buffer) (span : LineSpan) → broken_rule context line ≡ None → IsSoundBuffer old → HasWindows old → FieldsStand (shape_of old) → LinePut context setting line old new span → LineAdded context line old new span
+line_added context setting (Put inst) old new span rule s w f p = inst_added context setting inst old new span rule s w f p
+line_added context setting (Bind label) old new span rule s w f p = bind_added context label old new span s w f p

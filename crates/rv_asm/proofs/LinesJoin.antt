@@ -4,7 +4,8 @@ use Rattle.std.proofs.Common.{◌≡◌, ℕ, zero, suc, ◌+◌, ◌%◌, ◌<�
 use Rattle.std.specs.Prelude.{slice_get, nat_lt, unwrap_or, if◌then◌else◌}
 use Rattle.std.proofs.lemmas.Bool.{ltb-true, ltb-false}
 use Rattle.std.proofs.lemmas.Option.{same_Some, slice_get_within}
-use Rattle.rv_machine.specs.State.{State, IsState, Values, AreValues, wrap}
+use Rattle.rv_base.specs.declared.trap.TrapCode.{TrapCode}
+use Rattle.rv_machine.specs.State.{Memory, State, IsState, Values, AreValues, wrap}
 use Rattle.rv_machine.specs.Steps.{iter}
 use Rattle.rv_inst.specs.Context.{context_of}
 use Rattle.rv_inst.specs.declared.inst.Line.{Line}
@@ -18,6 +19,9 @@ use Rattle.rv_inst.proofs.Meaning.{effect_agrees, writes_agree, exit_agrees}
 use Rattle.rv_base.specs.LabelUse.{code_limit}
 use Rattle.mach_labels.specs.Table.{first_constant}
 use Rattle.mach_buffer.specs.Constants.{offset_in}
+use Rattle.mach_buffer.specs.declared.records.Event.TheVariants as event
+use Rattle.mach_buffer.specs.declared.records.MachRecord.{MachRecord}
+use Rattle.rv_inst.specs.Records.{IsRecorded, IsTrapAt}
 use Rattle.rv_base.specs.declared.label.MachLabel.{MachLabel}
 use Rattle.rv_inst.specs.Operands.{named_labels}
 use Rattle.rv_inst.specs.Rules.{broken_rule}
@@ -29,13 +33,20 @@ use Rattle.rv_emit.specs.Sites.{Site, IsPlacedAt, LeadsOn, PartsStand}
 use Rattle.rv_emit.proofs.Laws.{iter_none, iter_after, same_but, but_then_same, inst_runs}
 use Rattle.rv_asm.specs.Refusal.{is_bound}
 use Rattle.rv_asm.specs.Reported.{start_of, end_of}
-use Rattle.rv_asm.specs.Simulation.{Point, At, Out, End, Stop, Trapped, InData, Addresses, IsBack, Leads, next_point, binding_line, environment_of, WritesOutside, address_of, IsPlaced, IsStopped, Comes, RunsAsListed}
+use Rattle.rv_asm.specs.Simulation.{Point, At, Out, End, Stop, Trapped, InData, IsBack, Leads, next_point, binding_line, environment_of, WritesOutside, address_of, IsStopped, Comes, RunsAsListed}
+use Rattle.rv_asm.specs.Placed.{Addresses, address_of_name, bytes_from, IsPlaced}
+use Rattle.rv_asm.proofs.Images.{from_long, placed_at}
 use Rattle.rv_asm.proofs.ExitPoints.{AllBound, ExitBound, exit_bound}
 use Rattle.rv_asm.proofs.ValuesKept.{same_itself}
 
--- the code of a job at a base
-abbrev pub site_of : Job → Code → (ℕ → Option ℕ) → ℕ → Site
-site_of job code place base = record { context = context_of job; base = base; bytes = code.bytes; place = place; traps = code.traps }
+-- what a buffer knows of the code of a job beside what the code tells: the places of labels, and the records in their order
+pub record Known : Type 0 where
+  pub place : ℕ → Option ℕ
+  pub records : List MachRecord
+
+-- the code of a job, where it stands in a memory at a base
+abbrev pub site_of : Job → Code → Known → ℕ → Addresses → Addresses → Memory → Site
+site_of job code known base symbols slots mem = record { context = context_of job; base = base; bytes = bytes_from mem base (length code.bytes); place = known.place; records = known.records; symbol = λ number. unwrap_or (address_of_name symbols number) 0; slot = λ number. unwrap_or (address_of_name slots number) 0 }
 
 -- where a label of the listing stands
 abbrev pub label_place : List Line → Code → ℕ → ℕ
@@ -54,16 +65,17 @@ LineIn site (Bind label) start after = start ≡ after
 
 -- each line stands in the code, keeps the rules and names labels that are bound; what stands after it leads to the next one;
 -- the last line ends the code; and labels stand where they are bound, and constants at their offsets
-pub record IsThreaded (job : Job) (code : Code) (place : ℕ → Option ℕ) : Type 0 where
-  pub line : (base i : ℕ) (line : Line) → slice_get job.lines i ≡ Some line → LineIn (site_of job code place base) line (start_of code.lines i) (end_of code.lines i)
+pub record IsThreaded (job : Job) (code : Code) (known : Known) : Type 0 where
+  pub line : (base : ℕ) (symbols slots : Addresses) (mem : Memory) → IsPlaced code base symbols slots mem → (i : ℕ) (line : Line) → slice_get job.lines i ≡ Some line → LineIn (site_of job code known base symbols slots mem) line (start_of code.lines i) (end_of code.lines i)
   pub ruled : (i : ℕ) (line : Line) → slice_get job.lines i ≡ Some line → broken_rule (context_of job) line ≡ None
   pub named : (i : ℕ) (line : Line) → slice_get job.lines i ≡ Some line → AllBound job.lines (named_labels line)
-  pub gap : (base i : ℕ) → suc i < length job.lines → LeadsOn (site_of job code place base) (end_of code.lines i) (start_of code.lines (suc i))
+  pub gap : (base : ℕ) (symbols slots : Addresses) (mem : Memory) → IsPlaced code base symbols slots mem → (i : ℕ) → suc i < length job.lines → LeadsOn (site_of job code known base symbols slots mem) (end_of code.lines i) (start_of code.lines (suc i))
   pub last : (i : ℕ) → suc i ≡ length job.lines → code.end ≡ end_of code.lines i
-  pub bound : (label : ℕ) → is_bound job.lines label ≡ true → place label ≡ Some (label_place job.lines code label)
-  pub constants : (number : ℕ) → place (first_constant + number) ≡ offset_in code.constants number
+  pub bound : (label : ℕ) → is_bound job.lines label ≡ true → known.place label ≡ Some (label_place job.lines code label)
+  pub constants : (number : ℕ) → known.place (first_constant + number) ≡ offset_in code.constants number
+  pub traps : (at : ℕ) (cause : TrapCode) → IsRecorded known.records at (event.Trap cause) → IsTrapAt code.traps at cause
   pub short : length code.bytes < code_limit
-  pub placed : (label at : ℕ) → place label ≡ Some at → at ≤ length code.bytes
+  pub placed : (label at : ℕ) → known.place label ≡ Some at → at ≤ length code.bytes
 
 -- ---- one line
 
@@ -106,10 +118,10 @@ record Reached (job : Job) (code : Code) (base i : ℕ) (p : Point) (free : List
   same : SameBut free v state.values
   is_state : IsState state
 
-module _ (job : Job) (code : Code) (place : ℕ → Option ℕ) (t : IsThreaded job code place) (base i : ℕ) (lt : i < length job.lines) (free : List ℕ) (v : Values) (s : State) where
+module _ (job : Job) (code : Code) (known : Known) (t : IsThreaded job code known) (base : ℕ) (symbols slots : Addresses) (mem : Memory) (stood : IsPlaced code base symbols slots mem) (i : ℕ) (lt : i < length job.lines) (free : List ℕ) (v : Values) (s : State) where
   -- the line came out at an exit
   abbrev CameOut : Exit → Type 0
-  CameOut x = ComesOut (site_of job code place base) (start_of code.lines i) (end_of code.lines i) x free v s
+  CameOut x = ComesOut (site_of job code known base symbols slots mem) (start_of code.lines i) (end_of code.lines i) x free v s
 
   -- and that is where a point is
   there : (x : Exit) (e : CameOut x) (p : Point) → (IsBack i p → 1 ≤ e.steps) → e.state.pc ≡ address_of code base p → IsStopped job.flags p e.state → Reached job code base i p free v s
@@ -118,7 +130,7 @@ module _ (job : Job) (code : Code) (place : ℕ → Option ℕ) (t : IsThreaded 
   -- to the next line, or to the end
   goes_on : CameOut Next → (c : Bool) → nat_lt (suc i) (length job.lines) ≡ c → Reached job code base i (if c then At (suc i) else End) free v s
   goes_on e true h =
-      let g = (t.gap base i (ltb-true _ _ h)).run e.state e.state.values e.placed e.arrives e.is_state e.is_state.values (same_itself e.state.values) in
+      let g = (t.gap base symbols slots mem stood i (ltb-true _ _ h)).run e.state e.state.values e.placed e.arrives e.is_state e.is_state.values (same_itself e.state.values) in
       record {
         steps = g.steps + e.steps;
         state = g.state;
@@ -150,28 +162,41 @@ module _ (job : Job) (code : Code) (place : ℕ → Option ℕ) (t : IsThreaded 
   reaches Break bound e = record { point = Stop i; leads = refl; reached = there Break e (Stop i) (λ back. absurd back) e.arrives.0 e.arrives.1 }
   reaches (Trap cause) bound e =
       let a = e.arrives in
-      record { point = Trapped i a.0; leads = (a.0, refl, record { recorded = a.1; first = a.2; last = a.3 }); reached = there (Trap cause) e (Trapped i a.0) (λ back. absurd back) a.4 a.5 }
+      record { point = Trapped i a.0; leads = (a.0, refl, record { recorded = t.traps a.0 cause a.1; first = a.2; last = a.3 }); reached = there (Trap cause) e (Trapped i a.0) (λ back. absurd back) a.4 a.5 }
   reaches Data bound e = record { point = InData i; leads = refl; reached = there Data e (InData i) (λ back. absurd back) e.arrives tt }
 
 -- the labels that a line names have the same addresses in the code as in the listing
-same_labels : (job : Job) (code : Code) (place : ℕ → Option ℕ) → IsThreaded job code place → (base i : ℕ) (labels : List MachLabel) → AllBound job.lines labels → SameLabels labels (environment (site_of job code place base) (start_of code.lines i) (end_of code.lines i)) (environment_of job code base i)
-same_labels job code place t base i [] bound = tt
-same_labels job code place t base i (l ∷ labels) bound = (ap (λ at. wrap (base + unwrap_or at 0)) (t.bound l.number bound.0), same_labels job code place t base i labels bound.1)
+same_labels : (job : Job) (code : Code) (known : Known) → IsThreaded job code known → (base : ℕ) (symbols slots : Addresses) (mem : Memory) (i : ℕ) (labels : List MachLabel) → AllBound job.lines labels → SameLabels labels (environment (site_of job code known base symbols slots mem) (start_of code.lines i) (end_of code.lines i)) (environment_of job code base symbols slots i)
+same_labels job code known t base symbols slots mem i [] bound = tt
+same_labels job code known t base symbols slots mem i (l ∷ labels) bound = (ap (λ at. wrap (base + unwrap_or at 0)) (t.bound l.number bound.0), same_labels job code known t base symbols slots mem i labels bound.1)
 
-agrees : (job : Job) (code : Code) (place : ℕ → Option ℕ) → IsThreaded job code place → (base i : ℕ) (line : Line) → slice_get job.lines i ≡ Some line → AgreeOn (named_labels line) (environment (site_of job code place base) (start_of code.lines i) (end_of code.lines i)) (environment_of job code base i)
-agrees job code place t base i line e = record { start = refl; after = refl; frame = refl; labels_same = same_labels job code place t base i (named_labels line) (t.named i line e); constants_same = λ number. ap (λ at. wrap (base + unwrap_or at 0)) (t.constants number) }
+agrees : (job : Job) (code : Code) (known : Known) → IsThreaded job code known → (base : ℕ) (symbols slots : Addresses) (mem : Memory) (i : ℕ) (line : Line) → slice_get job.lines i ≡ Some line → AgreeOn (named_labels line) (environment (site_of job code known base symbols slots mem) (start_of code.lines i) (end_of code.lines i)) (environment_of job code base symbols slots i)
+agrees job code known t base symbols slots mem i line e = record {
+  start = refl;
+  after = refl;
+  frame = refl;
+  labels_same = same_labels job code known t base symbols slots mem i (named_labels line) (t.named i line e);
+  constants_same = λ number. ap (λ at. wrap (base + unwrap_or at 0)) (t.constants number);
+  symbols_same = λ number. refl;
+  slots_same = λ number. refl;
+}
 
-comes : (job : Job) (code : Code) (place : ℕ → Option ℕ) → IsThreaded job code place → (base : ℕ) (symbols slots : Addresses) (i : ℕ) (line : Line) (s : State) (v : Values) → i < length job.lines → slice_get job.lines i ≡ Some line → WritesOutside job code base i line v → IsPlaced code base symbols slots s.values.mem → IsState s → AreValues v → s.pc ≡ address_of code base (At i) → Same v s.values → Comes job code base (At i) v s
-comes job code place t base symbols slots i line s v lt e outside placed is_state are_values pc same =
-    let site = site_of job code place base in
+comes : (job : Job) (code : Code) (known : Known) → IsThreaded job code known → (base : ℕ) (symbols slots : Addresses) (i : ℕ) (line : Line) (s : State) (v : Values) → i < length job.lines → slice_get job.lines i ≡ Some line → WritesOutside job code base symbols slots i line v → IsPlaced code base symbols slots s.values.mem → IsState s → AreValues v → s.pc ≡ address_of code base (At i) → Same v s.values → Comes job code base symbols slots (At i) v s
+comes job code known t base symbols slots i line s v lt e outside placed is_state are_values pc same =
+    let mem = s.values.mem in
+    let site = site_of job code known base symbols slots mem in
+    let env = environment_of job code base symbols slots i in
     let start = start_of code.lines i in
     let end = end_of code.lines i in
-    let a = agrees job code place t base i line e in
-    let clear = subst (AreOutside base (length code.bytes)) (sym (writes_agree line v a)) outside in
-    let out = line_comes site line start end s v t.short t.placed (t.line base i line e) (t.ruled i line e) clear (record { aligned = placed.aligned; bytes = record { room = placed.room; there = placed.there } }) pc is_state are_values same in
+    let long = from_long mem base (length code.bytes) in
+    let a = agrees job code known t base symbols slots mem i line e in
+    let clear = subst (λ n. AreOutside base n (writes_of (environment site start end) line v)) (sym long) (subst (AreOutside base (length code.bytes)) (sym (writes_agree line v a)) outside) in
+    let short : length site.bytes < code_limit = subst (λ n. n < code_limit) (sym long) t.short in
+    let within : (label at : ℕ) → site.place label ≡ Some at → at ≤ length site.bytes = λ label at h. subst (λ n. at ≤ n) (sym long) (t.placed label at h) in
+    let out = line_comes site line start end s v short within (t.line base symbols slots mem placed i line e) (t.ruled i line e) clear (placed_at code base symbols slots mem (context_of job) known.place known.records placed) pc is_state are_values same in
     let led = subst (λ x. ComesOut site start end x (temporaries_of line) (effect_of (environment site start end) line v) s) (exit_agrees line v a) out in
-    let came = subst (λ w. ComesOut site start end (exit_of (environment_of job code base i) line v) (temporaries_of line) w s) (effect_agrees line v a) led in
-    let ends = reaches job code place t base i lt (temporaries_of line) (effect_of (environment_of job code base i) line v) s (exit_of (environment_of job code base i) line v) (exit_bound job.lines (environment_of job code base i) line v (t.named i line e)) came in
+    let came = subst (λ w. ComesOut site start end (exit_of env line v) (temporaries_of line) w s) (effect_agrees line v a) led in
+    let ends = reaches job code known t base symbols slots mem placed i lt (temporaries_of line) (effect_of env line v) s (exit_of env line v) (exit_bound job.lines env line v (t.named i line e)) came in
     let r = ends.reached in
     record {
       steps = r.steps;
@@ -194,8 +219,8 @@ line_at [] i lt = absurd (omega arith)
 line_at (l ∷ lines) zero lt = (l, refl)
 line_at (l ∷ lines) (suc i) lt = line_at lines i (omega arith)
 
-pub threaded_runs : (job : Job) (code : Code) (place : ℕ → Option ℕ) → IsThreaded job code place → RunsAsListed job code
-threaded_runs job code place t = record {
+pub threaded_runs : (job : Job) (code : Code) (known : Known) → IsThreaded job code known → RunsAsListed job code
+threaded_runs job code known t = record {
   from = λ base symbols slots i line s v e outside placed is_state are_values pc same.
-      comes job code place t base symbols slots i line s v (slice_get_within job.lines i line e) e outside placed is_state are_values pc same;
+      comes job code known t base symbols slots i line s v (slice_get_within job.lines i line e) e outside placed is_state are_values pc same;
 }

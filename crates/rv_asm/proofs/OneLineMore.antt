@@ -12,23 +12,24 @@ use Rattle.rv_inst.specs.LabelUse.{label_kinds}
 use Rattle.rv_inst.specs.Sizes.{words_in, extent_of}
 use Rattle.mach_buffer.specs.declared.uses.Use.{Use}
 use Rattle.mach_buffer.specs.declared.records.ConstPlace.{ConstPlace}
-use Rattle.mach_buffer.specs.Buffer.{bytes_of, uses_of, traps_of, registered_of, named_of, constants_of}
+use Rattle.mach_buffer.specs.declared.records.MachRecord.{MachRecord}
+use Rattle.mach_buffer.specs.Buffer.{bytes_of, uses_of, records_of, registered_of, named_of, constants_of}
 use Rattle.mach_buffer.specs.Windows.{AreWindows}
 use Rattle.mach_buffer.proofs.Laws.{windows_none, below}
 use Rattle.rv_emit.specs.declared.state.EmitVState.{EmitVState}
 use Rattle.rv_emit.specs.Emitted.{Buffer, IsSoundBuffer}
 use Rattle.rv_emit.proofs.Laws.{before_or_last}
 use Rattle.rv_base.specs.declared.constant.VCodeConstant.{VCodeConstant}
-use Rattle.rv_asm.specs.Reported.{start_of, end_of, end_before, line_traps, line_constant, with_constant, constants_after, StandOutside}
+use Rattle.rv_asm.specs.Reported.{start_of, end_of, end_before, line_records, line_constant, with_constant, constants_after, StandOutside}
 use Rattle.rv_asm.specs.LinesInBuffer.{StandsAfter, LinesStand, LinePut}
 use Rattle.rv_asm.proofs.FirstLines.{ends_more}
 use Rattle.rv_asm.proofs.LabelNames.{start_more, end_more, start_last, end_last}
 use Rattle.rv_inst.specs.Rules.{broken_rule}
-use Rattle.rv_asm.proofs.LineTraps.{traps_next}
+use Rattle.rv_asm.proofs.LineRecords.{records_next}
 use Rattle.rv_asm.proofs.LinesInBuffer.{HoldsNone, LineAdded, stands_last, line_added}
 
 -- no line stands in an empty buffer
-pub built_none : (context : Context) (b : Buffer) → bytes_of b ≡ [] → uses_of b ≡ [] → traps_of b ≡ [] → registered_of b ≡ context.constants → named_of b ≡ [] → constants_of b ≡ [] → IsSoundBuffer b → LinesStand context [] [] b
+pub built_none : (context : Context) (b : Buffer) → bytes_of b ≡ [] → uses_of b ≡ [] → records_of b ≡ [] → registered_of b ≡ context.constants → named_of b ≡ [] → constants_of b ≡ [] → IsSoundBuffer b → LinesStand context [] [] b
 built_none context b eb eu et er en ec s = record {
   count = refl;
   indices = λ i x h. absurd (cc);
@@ -36,7 +37,7 @@ built_none context b eb eu et er en ec s = record {
   ends = ap (length {A = ℕ}) eb;
   first = refl;
   nothing = λ e. eu;
-  traps = et;
+  records = et;
   registered = er;
   named = en;
   stand = λ j c h. absurd (none_there j c h);
@@ -44,9 +45,16 @@ built_none context b eb eu et er en ec s = record {
   apart = λ i inst h. absurd (cc);
   windows = subst (λ (bs : List ℕ). AreWindows label_kinds bs (uses_of b)) (sym eb)
       (subst (λ (us : List (Use LabelUse)). AreWindows label_kinds [] us) (sym eu) windows_none);
+  fields = record { ends = λ k r h. absurd (no_record k r (sym (ap (λ rs. slice_get rs k) et) ∙ h)); clear = λ j u h. absurd (no_use j u (sym (ap (λ us. slice_get us j) eu) ∙ h)) };
   sound = s;
 }
   where
+    no_record : (k : ℕ) (r : MachRecord) → slice_get [] k ≡ Some r → ⊥
+    no_record k r h = absurd (cc)
+
+    no_use : (j : ℕ) (u : Use LabelUse) → slice_get [] j ≡ Some u → ⊥
+    no_use j u h = absurd (cc)
+
     none_at : (j : ℕ) (c : ConstPlace) → slice_get [] j ≡ Some c → ⊥
     none_at j c h = absurd (cc)
 
@@ -114,16 +122,17 @@ module _ (context : Context) (lines : List Line) (line : Line) (spans : List Lin
     ends = sym a.end ∙ sym (end_last spans span) ∙ ap (end_before all) (ap suc same ∙ omega (arith, more_lines));
     first = first lines refl;
     nothing = λ e. absurd (omega (arith, more_lines, e));
-    traps = a.traps ∙ ap (λ ts. ts ++ line_traps context span.start span.end line) b.traps ∙ sym (traps_next context lines spans line span same);
+    records = a.records ∙ ap (λ ts. ts ++ line_records context span.start span.end line) b.records ∙ sym (records_next context lines spans line span same);
     registered = a.lasts.registered ∙ b.registered;
     named = a.named ∙ ap (with_constant (line_constant line)) b.named ∙ sym (constants_more [] lines line);
     stand = a.constants b.stand;
     in_turn = a.adds.in_turn b.in_turn;
     apart = λ i inst h. apart i inst (before_or_last lines line i (Put inst) h);
     windows = a.windows;
+    fields = a.fields;
     sound = a.sound;
   }
 
 -- a turn of the loop
 pub built_next : (context : Context) (setting : EmitVState) (lines : List Line) (line : Line) (spans : List LineSpan) (span : LineSpan) (old new : Buffer) → broken_rule context line ≡ None → LinesStand context lines spans old → LinePut context setting line old new span → span.index ≡ length lines → LinesStand context (lines ++ line ∷ []) (spans ++ span ∷ []) new
-built_next context setting lines line spans span old new rule b p index = built_more context lines line spans span old new b (line_added context setting line old new span rule b.sound b.windows p) index
+built_next context setting lines line spans span old new rule b p index = built_more context lines line spans span old new b (line_added context setting line old new span rule b.sound b.windows b.fields p) index

@@ -10,7 +10,7 @@ use Rattle.rv_ops.specs.declared.memory.LoadOP.{LoadOP}
 use Rattle.rv_ops.specs.declared.memory.StoreOP.{StoreOP}
 use Rattle.rv_inst.specs.Addresses.{Location, Based, AtLabel, AtConstant, location_of, is_near}
 use Rattle.rv_inst.specs.declared.inst.Inst.{Inst}
-use Rattle.rv_inst.specs.declared.inst.Inst.TheVariants.{Nop0, Nop4, EBreak, SequencePoint, Args, Rets, DummyUse, EmitIsland, RawData, Lui, Auipc, LoadInlineConst, AluRRR, AluRRImm12, Mov, MovFromPReg, Extend, Select, Load, Store, LoadAddr, LabelAddress, Ret, TrapIf, Jal, CondBr, BrTable, Udf, Jalr, Popcnt, Cltz, Brev8, StackProbeLoop}
+use Rattle.rv_inst.specs.declared.inst.Inst.TheVariants.{Nop0, Nop4, EBreak, SequencePoint, Args, Rets, DummyUse, EmitIsland, RawData, Lui, Auipc, LoadInlineConst, AluRRR, AluRRImm12, Mov, MovFromPReg, Extend, Select, Load, Store, LoadAddr, LabelAddress, Ret, TrapIf, Jal, CondBr, BrTable, Udf, Jalr, Popcnt, Cltz, Brev8, StackProbeLoop, LoadExtNameGot, LoadExtNameNear, LoadExtNameFar, Unwind}
 use Rattle.rv_inst.specs.Sizes.{is_byte}
 use Rattle.rv_inst.specs.OneOperation.{address_operation, load_operation, store_operation, operation_of}
 use Rattle.rv_emit.specs.declared.state.EmitVState.{EmitVState}
@@ -91,3 +91,7 @@ module _ (site : Site) (start : ℕ) (d : Decoded) where
   has_operation setting (Cltz sum tmp step rs leading type) after e p = absurd (cc)
   has_operation setting (Brev8 rs type step tmp tmp2 rd) after e p = absurd (cc)
   has_operation setting (StackProbeLoop guard_size probe_count tmp) after e p = absurd (cc)
+  has_operation setting (LoadExtNameGot rd name) after e p = absurd (cc)
+  has_operation setting (LoadExtNameNear rd name offset) after e p = absurd (cc)
+  has_operation setting (LoadExtNameFar rd name offset) after e p = absurd (cc)
+  has_operation setting (Unwind inst) after e p = absurd (cc)

@@ -13,7 +13,9 @@ use Rattle.rv_inst.specs.declared.code.Code.{Code}
 use Rattle.rv_inst.specs.LabelUse.{label_kinds}
 use Rattle.rv_inst.specs.Sizes.{Island, words_in, extent_of, table_space}
 use Rattle.mach_buffer.specs.declared.records.ConstPlace.{ConstPlace}
-use Rattle.mach_buffer.specs.Buffer.{shape_of, bytes_of, traps_of}
+use Rattle.mach_buffer.specs.declared.records.MachReloc.{MachReloc}
+use Rattle.mach_buffer.specs.Buffer.{shape_of, bytes_of, records_of}
+use Rattle.mach_buffer.specs.Records.{relocs_in, traps_in, unwinds_in}
 use Rattle.mach_buffer.specs.Constants.{HasConstants}
 use Rattle.rv_emit.specs.ConstantsAdded.{AddsConstants}
 use Rattle.rv_emit.specs.Emitted.{Buffer}
@@ -23,9 +25,10 @@ use Rattle.rv_emit.specs.Puts.{AllBytes}
 use Rattle.rv_emit.specs.Slots.{size_of}
 use Rattle.rv_emit.specs.Standing.{IsFinishedTo}
 use Rattle.rv_emit.proofs.Laws.{adds_end, gap_is, table_stands}
-use Rattle.rv_asm.specs.Reported.{start_of, end_of, end_before, binds_from, IsSized, IsSpan, Reported}
+use Rattle.rv_asm.specs.Reported.{start_of, end_of, end_before, binds_from, records_from, IsGap, IsSized, IsSpan, Reported}
 use Rattle.rv_asm.specs.LinesInBuffer.{LineStands, LinesStand}
 use Rattle.rv_asm.proofs.LinesJoin.{line_at}
+use Rattle.rv_asm.proofs.Relocations.{fields_in_lines, fields_apart}
 
 pub all_bytes : (bytes : List ℕ) → AllByRecursion (λ b. b < 256) bytes → AllBytes bytes
 all_bytes [] h k lt = absurd (omega arith)
@@ -53,13 +56,23 @@ module _ (job : Job) (code : Code) (b : Buffer) (built : LinesStand (context_of 
   constant_put : (j : ℕ) (c : ConstPlace) → slice_get code.constants j ≡ Some c → slice_get f.finishes.put.constants j ≡ Some c
   constant_put j c h = ap (λ (cs : List ConstPlace). slice_get cs j) (sym constants) ∙ h
 
-  pub built_reported : code.labels ≡ binds_from code.lines 0 job.lines → code.traps ≡ traps_of b → code.end ≡ length (bytes_of b) → length (bytes_of b) ≤ length code.bytes → Reported job code
-  built_reported labels traps end within = record {
+  spans_long : (i : ℕ) (line : Line) → slice_get job.lines i ≡ Some line → IsSpan (context_of job) code.bytes line (start_of code.lines i) (end_of code.lines i)
+  spans_long i line e = line_long line (start_of code.lines i) (end_of code.lines i) (built.each i line e).there
+
+  spans_joined : (i : ℕ) → suc i < length job.lines → IsGap job.flags code.bytes (end_of code.lines i) (start_of code.lines (suc i))
+  spans_joined i lt = let next = line_at job.lines (suc i) lt in gap_is (context_of job) (shape_of b) code.bytes f small (end_of code.lines i) (start_of code.lines (suc i)) (built.each (suc i) next.0 next.1).gap
+
+  reloc_of : code.relocs ≡ relocs_in (records_of b) → (j : ℕ) (r : MachReloc) → slice_get code.relocs j ≡ Some r → slice_get (relocs_in (records_from (context_of job) code.lines 0 job.lines)) j ≡ Some r
+  reloc_of relocs j r e = ap (λ (rs : List MachReloc). slice_get rs j) (sym (relocs ∙ ap relocs_in built.records)) ∙ e
+
+  pub built_reported : code.labels ≡ binds_from code.lines 0 job.lines → code.relocs ≡ relocs_in (records_of b) → code.traps ≡ traps_in (records_of b) → code.unwinds ≡ unwinds_in (records_of b) → code.end ≡ length (bytes_of b) → length (bytes_of b) ≤ length code.bytes → Reported job code
+  built_reported labels relocs traps unwinds end within = record {
     count = built.count;
     indices = built.indices;
     first = built.first;
-    long = λ i line e. line_long line (start_of code.lines i) (end_of code.lines i) (built.each i line e).there;
-    joined = λ i lt. let next = line_at job.lines (suc i) lt in gap_is (context_of job) (shape_of b) code.bytes f small (end_of code.lines i) (start_of code.lines (suc i)) (built.each (suc i) next.0 next.1).gap;
+    long = spans_long;
+    short = λ i line e. (built.each i line e).short;
+    joined = spans_joined;
     last = λ i e. end ∙ built.ends ∙ ap (end_before code.lines) (sym e);
     none = λ e. end ∙ built.ends ∙ ap (end_before code.lines) e;
     within = omega arith;
@@ -68,5 +81,9 @@ module _ (job : Job) (code : Code) (b : Buffer) (built : LinesStand (context_of 
     placed = subst (HasConstants job.constants code.bytes) (sym constants) (subst (λ (cs : List Constant). HasConstants cs code.bytes f.finishes.put.constants) built.registered f.finishes.constants);
     ascend = λ i j c d k lt hc hd hk. (put_after.in_turn built.in_turn).ascend i j c d k lt (constant_put i c hc) (constant_put j d hd) (ap (λ (ks : List Constant). slice_get ks c.constant.number) (put_after.registered ∙ built.registered) ∙ hk);
     apart = λ i inst h j c k hc hk. let ends = (built.each i (Put inst) h).ends in ⊎_elim (λ stood. built.apart i inst h j c k stood hk) (λ after. inl (omega (arith, ends, after))) (put_after.fresh j c (constant_put j c hc));
-    traps = traps ∙ built.traps;
+    relocs = relocs ∙ ap relocs_in built.records;
+    traps = traps ∙ ap traps_in built.records;
+    unwinds = unwinds ∙ ap unwinds_in built.records;
+    fields = λ j r e. fields_in_lines (context_of job) code.bytes code.lines job.lines built.count spans_long j r (reloc_of relocs j r e);
+    fields_apart = λ j k r s differ e g. fields_apart (context_of job) code.bytes code.lines job.lines built.count spans_long spans_joined j k r s differ (reloc_of relocs j r e) (reloc_of relocs k s g);
   }

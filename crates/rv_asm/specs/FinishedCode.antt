@@ -4,7 +4,8 @@ use Rattle.rv_inst.specs.Context.{Context}
 use Rattle.rv_inst.specs.declared.inst.Line.{Line}
 use Rattle.rv_inst.specs.declared.code.Code.{Code}
 use Rattle.rv_inst.specs.LabelUse.{label_kinds}
-use Rattle.mach_buffer.specs.Buffer.{shape_of, bytes_of, labels_of, traps_of}
+use Rattle.mach_buffer.specs.Buffer.{shape_of, bytes_of, labels_of, records_of}
+use Rattle.mach_buffer.specs.Records.{relocs_in, traps_in, unwinds_in}
 use Rattle.mach_buffer.specs.Finish.{CanFinish, Finishes}
 use Rattle.rv_emit.specs.Emitted.{Buffer}
 use Rattle.rv_asm.specs.LinesInBuffer.{LinesStand, Named, Sized}
@@ -21,5 +22,7 @@ pub record IsFinished (context : Context) (lines : List Line) (code : Code) : Ty
   pub finished : Finishes label_kinds (shape_of sink) code.bytes
   pub constants : code.constants ≡ finished.put.constants
   pub labels : code.labels ≡ labels_of sink
-  pub traps : code.traps ≡ traps_of sink
+  pub relocs : code.relocs ≡ relocs_in (records_of sink)
+  pub traps : code.traps ≡ traps_in (records_of sink)
+  pub unwinds : code.unwinds ≡ unwinds_in (records_of sink)
   pub end : code.end ≡ length (bytes_of sink)

@@ -5,6 +5,8 @@ pub mod Job
 pub mod Outcomes
 pub mod Reach
 pub mod Refusal
+pub mod Placed
 pub mod Simulation
 pub mod AfterLastIsland
 pub mod Reported
+pub mod SavedRegisters

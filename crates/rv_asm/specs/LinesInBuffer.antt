@@ -16,20 +16,21 @@ use Rattle.rv_inst.specs.Rules.{broken_rule}
 use Rattle.rv_inst.specs.LabelUse.{label_kinds, has_veneer_of}
 use Rattle.mach_buffer.specs.declared.uses.Use.{Use}
 use Rattle.mach_buffer.specs.Reach.{CanReach, due_by}
-use Rattle.mach_buffer.specs.Buffer.{shape_of, bytes_of, uses_of, place_of, labels_of, allocated_of, traps_of, registered_of, named_of, constants_of}
+use Rattle.mach_buffer.specs.Buffer.{shape_of, bytes_of, uses_of, place_of, labels_of, allocated_of, records_of, registered_of, named_of, constants_of}
 use Rattle.mach_buffer.specs.Shape.{listed}
 use Rattle.mach_buffer.specs.Constants.{reserve_of, AllStand}
 use Rattle.mach_buffer.specs.Islands.{is_far}
 use Rattle.rv_emit.specs.Emitted.{Buffer, IsSoundBuffer, HasWindows, pending, IslandIfNeeded, IsBounded}
 use Rattle.rv_emit.specs.ConstantsAdded.{StandInTurn}
 use Rattle.rv_emit.specs.Emission.{EmitsIn}
+use Rattle.rv_emit.specs.Images.{FieldsStand}
 use Rattle.rv_emit.specs.InstParts.{parts_of}
 use Rattle.rv_emit.specs.Standing.{GapStandsIn, PartsIn}
 use Rattle.rv_emit.specs.declared.state.EmitVState.{EmitVState}
 use Rattle.rv_emit.specs.declared.state.EmitVState.TheVariants.{Unknown}
 use Rattle.rv_emit.specs.Slots.{Part, parts_size}
 use Rattle.rv_emit.specs.State.{setting_after, setting_beyond}
-use Rattle.rv_asm.specs.Reported.{start_of, end_of, end_before, binds_from, traps_from, constants_named, StandApart}
+use Rattle.rv_asm.specs.Reported.{start_of, end_of, end_before, binds_from, records_from, constants_named, IsShort, StandApart}
 use Rattle.rv_asm.specs.Refusal.{binds, is_bound, size_sum}
 use Rattle.rv_inst.specs.Sizes.{Extent, Words, Island, Table, extent_of, line_space, line_sum}
 
@@ -46,16 +47,17 @@ abbrev pub LineStands : Context → Line → Buffer → ℕ → ℕ → Type 0
 LineStands context (Put inst) b start end = (setting : EmitVState) × PartsIn context.flags (parts_of context setting inst) (shape_of b) start end × IsLong (extent_of context inst) (parts_of context setting inst) start end
 LineStands context (Bind label) b start end = (start ≡ end) × (place_of b label.number ≡ Some start)
 
--- after the offset where the line before ends stands nothing, or an island, and then the line
+-- after the offset where the line before ends stands nothing, or an island, and then the line, no longer than it may be
 pub record StandsAfter (context : Context) (line : Line) (b : Buffer) (before start end : ℕ) : Type 0 where
   pub gap : GapStandsIn context.flags (shape_of b) before start
   pub there : LineStands context line b start end
   pub even : start % 2 ≡ 0
   pub within : start ≤ length (bytes_of b)
   pub ends : end ≤ length (bytes_of b)
+  pub short : IsShort context line start end
 
--- each line stands at its span, and before it nothing or an island; and the constants that islands took with them stand, one
--- after the other, and apart from the words of instructions
+-- each line stands at its span, and before it nothing or an island; the constants that islands took with them stand, one after
+-- the other, and apart from the words of instructions; and what relocations fill is apart from the windows of uses
 pub record LinesStand (context : Context) (lines : List Line) (spans : List LineSpan) (b : Buffer) : Type 0 where
   pub count : length spans ≡ length lines
   pub indices : (i : ℕ) (s : LineSpan) → slice_get spans i ≡ Some s → s.index ≡ i
@@ -63,13 +65,14 @@ pub record LinesStand (context : Context) (lines : List Line) (spans : List Line
   pub ends : length (bytes_of b) ≡ end_before spans (length lines)
   pub first : start_of spans 0 ≡ 0
   pub nothing : length lines ≡ 0 → uses_of b ≡ []
-  pub traps : traps_of b ≡ traps_from context spans 0 lines
+  pub records : records_of b ≡ records_from context spans 0 lines
   pub registered : registered_of b ≡ context.constants
   pub named : named_of b ≡ constants_named lines
   pub stand : AllStand label_kinds (shape_of b)
   pub in_turn : StandInTurn (shape_of b)
   pub apart : StandApart context lines spans (constants_of b)
   pub windows : HasWindows b
+  pub fields : FieldsStand (shape_of b)
   pub sound : IsSoundBuffer b
 
 -- ---- labels
@@ -134,7 +137,7 @@ pub record BindPut (label : MachLabel) (old new : Buffer) (span : LineSpan) : Ty
   pub bytes : bytes_of new ≡ bytes_of old
   pub uses : uses_of new ≡ uses_of old
   pub allocated : allocated_of new ≡ allocated_of old
-  pub traps : traps_of new ≡ traps_of old
+  pub records : records_of new ≡ records_of old
   pub registered : registered_of new ≡ registered_of old
   pub named : named_of new ≡ named_of old
   pub constants : constants_of new ≡ constants_of old

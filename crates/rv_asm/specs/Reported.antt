@@ -1,5 +1,5 @@
 -- What the code reports of its lines.
-use Rattle.std.specs.Prelude.{◌≡◌, ℕ, zero, suc, ◌+◌, ◌-◌, ◌<◌, ◌≤◌, ◌⊎◌, List, [], ◌∷◌, ◌++◌, length, map, slice_get, Option, Some, None, option_map, unwrap_or}
+use Rattle.std.specs.Prelude.{◌≡◌, ◌≢◌, ℕ, zero, suc, ◌+◌, ◌-◌, ◌<◌, ◌≤◌, ◌⊎◌, List, [], ◌∷◌, ◌++◌, length, map, slice_get, Option, Some, None, option_map, unwrap_or}
 use Rattle.rv_base.specs.declared.constant.Constant.{Constant}
 use Rattle.rv_base.specs.declared.constant.VCodeConstant.{VCodeConstant}
 use Rattle.rv_inst.specs.Context.{Context, context_of}
@@ -9,16 +9,20 @@ use Rattle.rv_inst.specs.declared.inst.Line.TheVariants.{Inst as Put, Bind}
 use Rattle.rv_inst.specs.declared.job.Job.{Job}
 use Rattle.rv_inst.specs.Islands.{IsIsland}
 use Rattle.rv_inst.specs.Operands.{inst_constant}
-use Rattle.rv_inst.specs.Sizes.{Extent, Words, Island, Table, words_in, extent_of}
+use Rattle.rv_inst.specs.Sizes.{Extent, Words, Island, Table, words_in, extent_of, island_space}
 use Rattle.rv_base.specs.declared.flags.IsaFlags.{IsaFlags}
 use Rattle.rv_inst.specs.declared.code.Code.{Code}
 use Rattle.rv_inst.specs.declared.code.LineSpan.{LineSpan}
 use Rattle.mach_buffer.specs.declared.uses.LabelPlace.{LabelPlace}
-use Rattle.mach_buffer.specs.declared.records.MachTrap.{MachTrap}
+use Rattle.mach_buffer.specs.declared.records.MachRecord.{MachRecord}
+use Rattle.mach_buffer.specs.Records.{relocs_in, traps_in, unwinds_in}
 use Rattle.mach_buffer.specs.declared.records.ConstPlace.{ConstPlace}
 use Rattle.mach_buffer.specs.Shape.{name_more}
 use Rattle.mach_buffer.specs.Constants.{HasConstants}
-use Rattle.rv_inst.specs.Traps.{inst_traps}
+use Rattle.mach_buffer.specs.Windows.{IsApart}
+use Rattle.mach_buffer.specs.declared.records.MachReloc.{MachReloc}
+use Rattle.rv_inst.specs.Records.{inst_records}
+use Rattle.rv_inst.specs.Relocations.{field_size}
 
 abbrev pub start_of : List LineSpan → ℕ → ℕ
 start_of spans i = unwrap_or (option_map (λ (s : LineSpan). s.start) (slice_get spans i)) 0
@@ -37,15 +41,15 @@ binds_from spans i [] = []
 binds_from spans i (Bind l ∷ lines) = (record { label = l; offset = start_of spans i }) ∷ binds_from spans (suc i) lines
 binds_from spans i (Put inst ∷ lines) = binds_from spans (suc i) lines
 
--- the traps of a line that starts and ends at offsets
-abbrev pub line_traps : Context → ℕ → ℕ → Line → List MachTrap
-line_traps context start end (Put inst) = inst_traps context start end inst
-line_traps context start end (Bind label) = []
+-- the records of a line that starts and ends at offsets
+abbrev pub line_records : Context → ℕ → ℕ → Line → List MachRecord
+line_records context start end (Put inst) = inst_records context start end inst
+line_records context start end (Bind label) = []
 
--- the traps of lines, the first of which has index i
-abbrev pub traps_from : Context → List LineSpan → ℕ → List Line → List MachTrap
-traps_from context spans i [] = []
-traps_from context spans i (line ∷ lines) = line_traps context (start_of spans i) (end_of spans i) line ++ traps_from context spans (suc i) lines
+-- the records of lines, the first of which has index i
+abbrev pub records_from : Context → List LineSpan → ℕ → List Line → List MachRecord
+records_from context spans i [] = []
+records_from context spans i (line ∷ lines) = line_records context (start_of spans i) (end_of spans i) line ++ records_from context spans (suc i) lines
 
 -- the constant that a line names
 abbrev pub line_constant : Line → Option VCodeConstant
@@ -81,6 +85,11 @@ abbrev pub IsSpan : Context → List ℕ → Line → ℕ → ℕ → Type 0
 IsSpan context bytes (Put inst) start end = IsSized context.flags bytes (extent_of context inst) start end
 IsSpan context bytes (Bind label) start end = end ≡ start
 
+-- but where it asks for an island itself, an instruction has at most 84 bytes
+abbrev pub IsShort : Context → Line → ℕ → ℕ → Type 0
+IsShort context (Put inst) start end = island_space context inst ≡ None → end ≤ start + 84
+IsShort context (Bind label) start end = Unit {0}
+
 -- two stretches of code share no byte
 abbrev pub AreApart : ℕ → ℕ → ℕ → ℕ → Type 0
 AreApart start end from to = (end ≤ from) ⊎ (to ≤ start)
@@ -93,16 +102,26 @@ StandOutside registered constants start end = (j : ℕ) (c : ConstPlace) (k : Co
 abbrev pub StandApart : Context → List Line → List LineSpan → List ConstPlace → Type 0
 StandApart context lines spans constants = (i : ℕ) (inst : Inst) → slice_get lines i ≡ Some (Put inst) → StandOutside context.constants constants (end_of spans i - words_in (extent_of context inst)) (end_of spans i)
 
--- Every line has one span, in order, as long as the line. The first starts at 0; between two stands nothing, or an island.
--- The code's end is that of the last line, its labels are the binds, and its traps are those of the lines. Each constant that a
--- line names has one offset, a multiple of its alignment, at which its bytes stand, and no other constant has one; they are in
--- the order of their first use. In this order each ends before the next one begins, and none has a byte among an instruction's
--- words, so their bytes are those of islands, or come after all lines.
+-- the bytes that a relocation fills are all in the span of one of the lines
+pub record FillsInLine (spans : List LineSpan) (r : MachReloc) : Type 0 where
+  pub index : ℕ
+  pub below : index < length spans
+  pub starts : start_of spans index ≤ r.offset
+  pub ends : r.offset + field_size r.kind ≤ end_of spans index
+
+-- Every line has one span, in order, as long as the line, and of at most 84 bytes unless it asks for an island. The first starts at 0; between two stands nothing, or an island.
+-- The code's end is that of the last line, its labels are the binds, and its records are those of the lines: what a linker
+-- fills, traps, and steps in the making of the frame. Each constant that a line names has one offset, a multiple of its
+-- alignment, at which its bytes stand, and no other constant has one; they are in the order of their first use. In this order
+-- each ends before the next one begins, and none has a byte among an instruction's words, so their bytes are those of islands,
+-- or come after all lines. The bytes that a relocation fills are in the span of a line, and no other relocation fills one of
+-- them.
 pub record Reported (job : Job) (code : Code) : Type 0 where
   pub count : length code.lines ≡ length job.lines
   pub indices : (i : ℕ) (span : LineSpan) → slice_get code.lines i ≡ Some span → span.index ≡ i
   pub first : start_of code.lines 0 ≡ 0
   pub long : (i : ℕ) (line : Line) → slice_get job.lines i ≡ Some line → IsSpan (context_of job) code.bytes line (start_of code.lines i) (end_of code.lines i)
+  pub short : (i : ℕ) (line : Line) → slice_get job.lines i ≡ Some line → IsShort (context_of job) line (start_of code.lines i) (end_of code.lines i)
   pub joined : (i : ℕ) → suc i < length job.lines → IsGap job.flags code.bytes (end_of code.lines i) (start_of code.lines (suc i))
   pub last : (i : ℕ) → suc i ≡ length job.lines → code.end ≡ end_of code.lines i
   pub none : length job.lines ≡ 0 → code.end ≡ 0
@@ -112,4 +131,8 @@ pub record Reported (job : Job) (code : Code) : Type 0 where
   pub placed : HasConstants job.constants code.bytes code.constants
   pub ascend : (i j : ℕ) (c d : ConstPlace) (k : Constant) → i < j → slice_get code.constants i ≡ Some c → slice_get code.constants j ≡ Some d → slice_get job.constants c.constant.number ≡ Some k → c.offset + length k.bytes ≤ d.offset
   pub apart : StandApart (context_of job) job.lines code.lines code.constants
-  pub traps : code.traps ≡ traps_from (context_of job) code.lines 0 job.lines
+  pub relocs : code.relocs ≡ relocs_in (records_from (context_of job) code.lines 0 job.lines)
+  pub traps : code.traps ≡ traps_in (records_from (context_of job) code.lines 0 job.lines)
+  pub unwinds : code.unwinds ≡ unwinds_in (records_from (context_of job) code.lines 0 job.lines)
+  pub fields : (j : ℕ) (r : MachReloc) → slice_get code.relocs j ≡ Some r → FillsInLine code.lines r
+  pub fields_apart : (j k : ℕ) (r s : MachReloc) → j ≢ k → slice_get code.relocs j ≡ Some r → slice_get code.relocs k ≡ Some s → IsApart r.offset (field_size r.kind) s.offset (field_size s.kind)

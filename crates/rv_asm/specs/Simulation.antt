@@ -1,10 +1,8 @@
 -- What it is for code to run as its job says.
-use Rattle.std.specs.Prelude.{◌≡◌, ℕ, suc, ◌+◌, ◌%◌, ◌^◌, ◌<◌, ◌≤◌, nat_eq, nat_lt, if◌then◌else◌, List, [], ◌∷◌, length, slice_get, slice_index, Some, None, unwrap_or}
-use Rattle.std.specs.FinMap.{FinMap}
-use Rattle.std.specs.Ordering.{nat_cmp}
+use Rattle.std.specs.Prelude.{◌≡◌, ℕ, suc, ◌+◌, ◌<◌, ◌≤◌, nat_eq, nat_lt, if◌then◌else◌, List, [], ◌∷◌, length, slice_get, Some, None, unwrap_or}
 use Rattle.rv_base.specs.declared.trap.TrapCode.{TrapCode}
 use Rattle.mach_buffer.specs.Constants.{offset_in}
-use Rattle.rv_inst.specs.Traps.{IsRecorded}
+use Rattle.rv_inst.specs.Records.{IsTrapAt}
 use Rattle.rv_inst.specs.declared.inst.Inst.{Inst}
 use Rattle.rv_inst.specs.declared.inst.Line.{Line}
 use Rattle.rv_inst.specs.declared.inst.Line.TheVariants.{Inst as Put, Bind}
@@ -13,12 +11,13 @@ use Rattle.rv_inst.specs.Context.{context_of}
 use Rattle.rv_inst.specs.OneOperation.{operation_of}
 use Rattle.rv_inst.specs.declared.code.Code.{Code}
 use Rattle.rv_inst.specs.Meaning.{Environment, Exit, Next, To, Leave, Break, Trap, Data, exit_of, effect_of, writes_of, temporaries_of, AreOutside}
-use Rattle.rv_machine.specs.State.{State, IsState, Values, AreValues, Memory, byte, wrap}
+use Rattle.rv_machine.specs.State.{State, IsState, Values, AreValues, Memory, wrap}
 use Rattle.rv_base.specs.declared.flags.IsaFlags.{IsaFlags}
 use Rattle.rv_machine.specs.declared.decoding.Decoded.{Decoded}
 use Rattle.rv_machine.specs.Decode.{decode}
 use Rattle.rv_machine.specs.Steps.{IsBreak, fetch, iter}
 use Rattle.rv_inst.specs.SameValues.{Same, SameBut}
+use Rattle.rv_asm.specs.Placed.{Addresses, address_of_name, IsPlaced}
 use Rattle.rv_asm.specs.Reported.{start_of, end_of}
 
 -- the start of a line, by its number; an address outside the code; the end of the last line; the break of a line; the trap of
@@ -42,7 +41,7 @@ next_point lines i = if nat_lt (suc i) (length lines) then At (suc i) else End
 
 -- a trap of line i for a cause is recorded at an offset
 pub record IsTrapOf (code : Code) (i at : ℕ) (cause : TrapCode) : Type 0 where
-  pub recorded : IsRecorded code.traps at cause
+  pub recorded : IsTrapAt code.traps at cause
   pub first : start_of code.lines i ≤ at
   pub last : at < end_of code.lines i
 
@@ -57,21 +56,21 @@ Leads lines code i Data q = q ≡ InData i
 
 -- what a line is read among, for code that stands at a base: a label has the address of the first line that binds it, and a
 -- constant that of its offset
-abbrev pub environment_of : Job → Code → ℕ → ℕ → Environment
-environment_of job code base i = record { start = wrap (base + start_of code.lines i); after = wrap (base + end_of code.lines i); label = λ label. wrap (base + start_of code.lines (binding_line job.lines label)); constant = λ number. wrap (base + unwrap_or (offset_in code.constants number) 0); frame = job.frame }
+abbrev pub environment_of : Job → Code → ℕ → Addresses → Addresses → ℕ → Environment
+environment_of job code base symbols slots i = record { start = wrap (base + start_of code.lines i); after = wrap (base + end_of code.lines i); label = λ label. wrap (base + start_of code.lines (binding_line job.lines label)); constant = λ number. wrap (base + unwrap_or (offset_in code.constants number) 0); frame = job.frame; symbol = λ number. unwrap_or (address_of_name symbols number) 0; slot = λ number. unwrap_or (address_of_name slots number) 0 }
 
 -- a line writes no byte of the code, which stands at a base
-abbrev pub WritesOutside : Job → Code → ℕ → ℕ → Line → Values → Type 0
-WritesOutside job code base i line v = AreOutside base (length code.bytes) (writes_of (environment_of job code base i) line v)
+abbrev pub WritesOutside : Job → Code → ℕ → Addresses → Addresses → ℕ → Line → Values → Type 0
+WritesOutside job code base symbols slots i line v = AreOutside base (length code.bytes) (writes_of (environment_of job code base symbols slots i) line v)
 
 -- one line at once, from a point and values to a point and values; the line's temporaries may hold anything after it
-pub record OneLine (job : Job) (code : Code) (base : ℕ) (p : Point) (v : Values) (q : Point) (w : Values) : Type 0 where
+pub record OneLine (job : Job) (code : Code) (base : ℕ) (symbols slots : Addresses) (p : Point) (v : Values) (q : Point) (w : Values) : Type 0 where
   pub index : ℕ
   pub line : Line
   pub at : p ≡ At index
   pub listed : slice_get job.lines index ≡ Some line
-  pub leads : Leads job.lines code index (exit_of (environment_of job code base index) line v) q
-  pub effect : SameBut (temporaries_of line) (effect_of (environment_of job code base index) line v) w
+  pub leads : Leads job.lines code index (exit_of (environment_of job code base symbols slots index) line v) q
+  pub effect : SameBut (temporaries_of line) (effect_of (environment_of job code base symbols slots index) line v) w
 
 -- the address of a point, for code that stands at a base
 abbrev pub address_of : Code → ℕ → Point → ℕ
@@ -91,16 +90,6 @@ IsStopped flags End s = Unit {0}
 IsStopped flags (Trapped i at) s = decode flags (fetch s.values.mem s.pc) ≡ None
 IsStopped flags (InData i) s = Unit {0}
 
--- addresses of symbols, or of the slots that hold them, by the number of a name
-abbrev pub Addresses : Type 0
-Addresses = FinMap nat_cmp ℕ
-
--- The code's bytes stand in the memory from base on. No relocation is recorded, so no symbol is asked for.
-pub record IsPlaced (code : Code) (base : ℕ) (symbols slots : Addresses) (mem : Memory) : Type 0 where
-  pub aligned : base % 4 ≡ 0
-  pub room : base + length code.bytes ≤ 2 ^ 64
-  pub there : (k : ℕ) → k < length code.bytes → byte mem (base + k) ≡ slice_index code.bytes k
-
 -- the start of the line of an index, or of one before it
 abbrev pub IsBack : ℕ → Point → Type 0
 IsBack index (At j) = j ≤ index
@@ -112,12 +101,12 @@ IsBack index (InData i) = ⊥
 
 -- From this point the machine comes, in some steps, where one line leads, with values that are the same. To a line that
 -- doesn't stand after this one it takes a step: so where the listing runs without end, the machine does.
-pub record Comes (job : Job) (code : Code) (base : ℕ) (p : Point) (v : Values) (s : State) : Type 0 where
+pub record Comes (job : Job) (code : Code) (base : ℕ) (symbols slots : Addresses) (p : Point) (v : Values) (s : State) : Type 0 where
   pub steps : ℕ
   pub point : Point
   pub values : Values
   pub state : State
-  pub line : OneLine job code base p v point values
+  pub line : OneLine job code base symbols slots p v point values
   pub ran : iter job.flags steps s ≡ Some state
   pub moved : IsBack line.index point → 1 ≤ steps
   pub stands : state.pc ≡ address_of code base point
@@ -126,10 +115,10 @@ pub record Comes (job : Job) (code : Code) (base : ℕ) (p : Point) (v : Values)
   pub is_state : IsState state
   pub are_values : AreValues values
 
--- The code runs as its job says: from the start of every line, wherever the code is placed, and from all values from which the
--- line doesn't write on the code.
+-- The code runs as its job says: from the start of every line, wherever the code is placed and its symbols are, and from all values
+-- from which the line doesn't write on the code.
 pub record RunsAsListed (job : Job) (code : Code) : Type 0 where
-  pub from : (base : ℕ) (symbols slots : Addresses) (i : ℕ) (line : Line) (s : State) (v : Values) → slice_get job.lines i ≡ Some line → WritesOutside job code base i line v → IsPlaced code base symbols slots s.values.mem → IsState s → AreValues v → s.pc ≡ address_of code base (At i) → Same v s.values → Comes job code base (At i) v s
+  pub from : (base : ℕ) (symbols slots : Addresses) (i : ℕ) (line : Line) (s : State) (v : Values) → slice_get job.lines i ≡ Some line → WritesOutside job code base symbols slots i line v → IsPlaced code base symbols slots s.values.mem → IsState s → AreValues v → s.pc ≡ address_of code base (At i) → Same v s.values → Comes job code base symbols slots (At i) v s
 
 -- Wherever the code is placed, the machine reads at the start of a line of one machine word the operation that stands for it: in two
 -- bytes where the instruction has a form of sixteen bits, and then that form's, else in four.

@@ -76,7 +76,9 @@ fn build(
         lines: List::from_vec(spans),
         labels: finished.labels,
         constants: finished.constants,
+        relocs: finished.relocs,
         traps: finished.traps,
+        unwinds: finished.unwinds,
         end,
     })
 }

@@ -25,6 +25,7 @@ mod reg_names;
 mod regs;
 mod reloc;
 mod trap;
+mod unwind;
 mod value_regs;
 
 pub use amode::{AMode, StackAMode};
@@ -54,6 +55,7 @@ pub use out_of_memory::OutOfMemory;
 pub use preg_set::PRegSet;
 pub use reg_names::reg_name;
 pub use regs::{PReg, Reg, RegClass, VirtualReg, Writable, WritableReg};
-pub use reloc::Reloc;
+pub use reloc::{Reloc, RelocTarget};
 pub use trap::{TrapCode, UserTrap};
+pub use unwind::UnwindInst;
 pub use value_regs::ValueRegs;

@@ -1,5 +1,8 @@
 //! Relocations.
 
+use crate::external_name::ExternalName;
+use crate::label::MachLabel;
+
 /// How a place in code depends on a symbol, by the names of the RISC-V ELF psABI's section "Relocations". S is the
 /// symbol's address plus the addend, P the place's own address.
 #[derive(Clone, Copy, Debug, PartialEq, Eq)]
@@ -14,4 +17,13 @@ pub enum Reloc {
     RiscvPCRelLo12I,
     /// R_RISCV_64: eight bytes with S.
     Abs8,
+}
+
+/// What a relocation refers to.
+#[derive(Clone, Copy, Debug, PartialEq, Eq)]
+pub enum RelocTarget {
+    /// A symbol.
+    Name(ExternalName),
+    /// A place in the code itself.
+    Label(MachLabel),
 }

@@ -25,12 +25,12 @@ use Rattle.rv_inst.specs.LabelUse.{marks_of}
 use Rattle.rv_inst.specs.Meaning.{Environment, address_at}
 use Rattle.rv_emit.specs.Chains.{Goes, IsAt}
 use Rattle.rv_emit.specs.Immediates.{upper_of, lower_of, upper_of_distance, lower_of_distance}
-use Rattle.rv_emit.specs.InstParts.{inline_slots, lower_slots, immediate_slots, offset_slots, address_slots}
+use Rattle.rv_emit.specs.InstParts.{load_over, inline_slots, lower_slots, immediate_slots, offset_slots, address_slots}
 use Rattle.rv_emit.specs.InstRuns.{environment}
 use Rattle.rv_inst.specs.Forms.{short_rrr, short_rri, short_lui}
 use Rattle.rv_emit.specs.Operations.{decoded_addi, short_jump, jump_size}
 use Rattle.rv_emit.specs.Sites.{Site, BytesAt, AimsFrom, CodeHas, StandsIn}
-use Rattle.rv_emit.specs.Slots.{Label, Slot, Op, Aim, Data, Traps, Names, Allocate, Here, size_of, between}
+use Rattle.rv_emit.specs.Slots.{Label, Slot, Op, Aim, Data, Notes, Names, Allocate, Here, Fill, Address, size_of, between}
 use Rattle.rv_inst.specs.SameValues.{Same}
 use Rattle.rv_emit.proofs.AddressRules.{IsUsableAt, IsApartAt}
 use Rattle.rv_emit.proofs.Chains.{goes_both, goes_at_least}
@@ -51,10 +51,12 @@ stands_split site allocated from [] more s = (tt, subst (λ n. StandsIn site all
 stands_split site allocated from (Op d ∷ slots) more s = let r = stands_split site allocated (from + d.len) slots more s.1 in ((s.0, r.0), subst (λ n. StandsIn site allocated n more) (omega arith) r.1)
 stands_split site allocated from (Aim kind target ops ∷ slots) more s = let r = stands_split site allocated (from + length (marks_of kind)) slots more s.1 in ((s.0, r.0), subst (λ n. StandsIn site allocated n more) (omega arith) r.1)
 stands_split site allocated from (Data bytes ∷ slots) more s = let r = stands_split site allocated (from + length bytes) slots more s.1 in ((s.0, r.0), subst (λ n. StandsIn site allocated n more) (omega arith) r.1)
-stands_split site allocated from (Traps code ∷ slots) more s = let r = stands_split site allocated from slots more s.1 in ((s.0, r.0), subst (λ n. StandsIn site allocated n more) (omega arith) r.1)
+stands_split site allocated from (Notes event ∷ slots) more s = let r = stands_split site allocated from slots more s.1 in ((s.0, r.0), subst (λ n. StandsIn site allocated n more) (omega arith) r.1)
 stands_split site allocated from (Names k ∷ slots) more s = let r = stands_split site allocated from slots more s in (r.0, subst (λ n. StandsIn site allocated n more) (omega arith) r.1)
 stands_split site allocated from (Allocate ∷ slots) more s = let r = stands_split site allocated from slots more s in (r.0, subst (λ n. StandsIn site allocated n more) (omega arith) r.1)
 stands_split site allocated from (Here k ∷ slots) more s = let r = stands_split site allocated from slots more s.1 in ((s.0, r.0), subst (λ n. StandsIn site allocated n more) (omega arith) r.1)
+stands_split site allocated from (Fill symbol upper lower ∷ slots) more s = let r = stands_split site allocated (from + 8) slots more s.1 in ((s.0, r.0), subst (λ n. StandsIn site allocated n more) (omega arith) r.1)
+stands_split site allocated from (Address name addend ∷ slots) more s = let r = stands_split site allocated (from + 8) slots more s.1 in ((s.0, r.0), subst (λ n. StandsIn site allocated n more) (omega arith) r.1)
 
 -- ---- one register, written
 
@@ -126,9 +128,9 @@ immediate_goes {site} {offset} {s} allocated rd o false test some lt fits is_sta
 -- ---- an offset, from among the code
 
 -- the auipc, the load of bytes that stand after the code, and the jump over them
-pub inline_goes : {site : Site} {offset : ℕ} {s : State} (allocated rd size x : ℕ) (op : LoadOP) (bytes : List ℕ) → 0 < rd → rd < 32 → size < 16 → length bytes ≡ size → ((mem : Memory) (a : ℕ) → BytesAt mem a bytes → load_result (load_op op) mem a ≡ x) → 0 < size → IsState s →
-    IsAt site offset (size_of (inline_slots site.context.flags rd op size bytes)) s → StandsIn site allocated offset (inline_slots site.context.flags rd op size bytes) → Sets site.context.flags (8 + jump_size site.context.flags + size) s rd x
-inline_goes {site} {offset} {s} allocated rd size x op bytes some lt little long reads filled is_state h stands =
+pub over_goes : {site : Site} {offset : ℕ} {s : State} (allocated rd size x : ℕ) (op : LoadOP) (bytes : List ℕ) → 0 < rd → rd < 32 → size < 16 → length bytes ≡ size → ((mem : Memory) (a : ℕ) → BytesAt mem a bytes → load_result (load_op op) mem a ≡ x) → 0 < size → IsState s →
+    IsAt site offset (8 + jump_size site.context.flags + size) s → StandsIn site allocated offset (load_over site.context.flags rd op size) → BytesAt s.values.mem (site.base + (offset + 4 + 4 + (short_jump site.context.flags (pos (size + jump_size site.context.flags))).len)) bytes → Sets site.context.flags (8 + jump_size site.context.flags + size) s rd x
+over_goes {site} {offset} {s} allocated rd size x op bytes some lt little long reads filled is_state whole stands there =
     let flags = site.context.flags in
     let j = jump_size flags in
     let few = least_few flags in
@@ -143,8 +145,8 @@ inline_goes {site} {offset} {s} allocated rd size x op bytes some lt little long
     let ahead : low64 (pos (8 + j)) ≡ 8 + j = small_number (8 + j) (omega arith) in
     let s1 = at (wrap (s.pc + 4)) (set_reg s.values rd a) in
     let s2 = at (wrap (s.pc + 8)) (set_reg s.values rd x) in
-    let h1 : IsAt site (offset + 4) (4 + (jump.len + (length bytes + 0))) s1 = set_at 4 rd a h refl in
-    let there : BytesAt s.values.mem (site.base + (offset + 4 + 4 + jump.len)) bytes = stands.1.1.1.0 s.values.mem h.placed in
+    let h : IsAt site offset (4 + (4 + jump.len)) s = shorter (4 + (4 + jump.len)) whole (omega arith) in
+    let h1 : IsAt site (offset + 4) (4 + jump.len) s1 = set_at 4 rd a h refl in
     let room = there.room in
     let here : s.pc ≡ site.base + offset = pc_in_code h (omega arith) in
     let back : reg s1.values rd ≡ a = reads_back s.values rd a is_state.values some lt in
@@ -155,6 +157,17 @@ inline_goes {site} {offset} {s} allocated rd size x op bytes some lt little long
     let h2 : IsAt site (offset + 8) jump.len s2 = set_at 8 rd x (shorter (8 + jump.len) h (omega arith)) refl in
     let jumped : wrap (s2.pc + low64 far) ≡ wrap (s.pc + (8 + j + size)) = (λ i. wrap (s2.pc + over i)) ∙ omega arith in
     goes_both {n = 0} loaded (goes_at_least (omega arith) (step_at jump [] (at (wrap (s.pc + (8 + j + size))) s2.values) h2 (omega arith) (subst (λ n. CodeHas site n (jump ∷ [])) (omega arith) stands.1.1.0) (jump_acts flags far s2 ∙ (λ i. Some (at (jumped i) s2.values)))))
+
+-- how long the code of an inline constant is
+pub inline_size : (flags : IsaFlags) (rd size : ℕ) (op : LoadOP) (bytes : List ℕ) → length bytes ≡ size → size_of (inline_slots flags rd op size bytes) ≡ 8 + jump_size flags + size
+inline_size flags rd size op bytes long = let jump = jump_len flags (pos (size + jump_size flags)) in omega arith
+
+-- those bytes are a constant
+pub inline_goes : {site : Site} {offset : ℕ} {s : State} (allocated rd size x : ℕ) (op : LoadOP) (bytes : List ℕ) → 0 < rd → rd < 32 → size < 16 → length bytes ≡ size → ((mem : Memory) (a : ℕ) → BytesAt mem a bytes → load_result (load_op op) mem a ≡ x) → 0 < size → IsState s →
+    IsAt site offset (size_of (inline_slots site.context.flags rd op size bytes)) s → StandsIn site allocated offset (inline_slots site.context.flags rd op size bytes) → Sets site.context.flags (8 + jump_size site.context.flags + size) s rd x
+inline_goes {site} {offset} {s} allocated rd size x op bytes some lt little long reads filled is_state h stands =
+    let e = inline_size site.context.flags rd size op bytes long in
+    over_goes allocated rd size x op bytes some lt little long reads filled is_state (shorter (8 + jump_size site.context.flags + size) h (omega arith)) (stands.0, (stands.1.0, (stands.1.1.0, tt))) (stands.1.1.1.0 s.values.mem h.placed)
 
 -- eight bytes that stand in the memory, as a number
 pub eight_there : (mem : Memory) (a w : ℕ) → BytesAt mem a (to_le_bytes w64 w) → load_bytes mem a 8 ≡ wrap w
@@ -169,10 +182,6 @@ lower_even flags rd o = on (low64 o == 0)
     on : (c : Bool) → size_of (if c then [] else Op (short_rri flags Addi rd rd o) ∷ []) % 2 ≡ 0
     on true = refl
     on false = let e = (rri_sized flags Addi rd rd o).even in omega arith
-
--- how long the code of an inline constant is
-pub inline_size : (flags : IsaFlags) (rd size : ℕ) (op : LoadOP) (bytes : List ℕ) → length bytes ≡ size → size_of (inline_slots flags rd op size bytes) ≡ 8 + jump_size flags + size
-inline_size flags rd size op bytes long = let jump = jump_len flags (pos (size + jump_size flags)) in omega arith
 
 pub offset_even : (flags : IsaFlags) (rd : ℕ) (o : ℤ) → size_of (offset_slots flags rd o) % 2 ≡ 0
 offset_even flags rd o = on (is_splittable o)

@@ -25,13 +25,14 @@ use Rattle.rv_inst.specs.declared.label_use.LabelUse.{LabelUse}
 use Rattle.rv_inst.specs.LabelUseWords.{word_bytes}
 use Rattle.rv_inst.specs.Uses.{use_at}
 use Rattle.mach_buffer.specs.Buffer.{shape_of, bytes_of}
-use Rattle.mach_buffer.specs.Shape.{with_bytes, with_use, with_trap, with_named, constant_label}
+use Rattle.mach_buffer.specs.declared.records.Event.TheVariants as event
+use Rattle.mach_buffer.specs.Shape.{with_bytes, with_use, with_record, with_named, constant_label}
 use Rattle.rv_emit.specs.Emitted.{Buffer, IsSoundBuffer}
 use Rattle.rv_emit.specs.Emission.{PutsAlone}
 use Rattle.rv_emit.specs.Immediates.{upper_of, lower_of}
 use Rattle.rv_inst.specs.Forms.{short_rrr, short_rri}
 use Rattle.rv_emit.specs.Operations.{jump_size}
-use Rattle.rv_emit.specs.Slots.{Slot, Op, Aim, Data, Traps, Names, Allocate, Here, Label, size_of}
+use Rattle.rv_emit.specs.Slots.{Slot, Op, Aim, Data, Notes, Names, Allocate, Here, Fill, Address, Label, size_of}
 use Rattle.rv_emit.specs.Puts.{IsPatchable}
 use Rattle.rv_emit.specs.InstParts.{load_over, access_slots, address_slots, immediate_slots, inline_slots, labelled, lower_slots, naming_slots, offset_slots}
 use Rattle.rv_emit.proofs.OffsetParts.{near, far, splits, splits_not, upper_is, lower_is, low64_zero, low64_other}
@@ -46,8 +47,8 @@ use Rattle.rv_emit.proofs.SlotsJoined.{both_alone, alone_long}
 pub aim_put : (flags : IsaFlags) (kind : LabelUse) (ops : ℤ → List Decoded) (old new : Buffer) (w : ℕ) (label : MachLabel) → IsPatchable flags kind (word_bytes w) ops → shape_of new ≡ with_bytes (word_bytes w) (with_use (use_at (length (bytes_of old)) label kind) (shape_of old)) → IsSoundBuffer new → PutsAlone flags (Aim kind (Label label) ops ∷ []) old new
 aim_put flags kind ops old new w label is put sound = alone (record { puts = (shape_of new, (word_bytes w, is, put), refl); sound = sound })
 
-pub access_put : (flags : IsaFlags) (old new : Buffer) (trap : Option TrapCode) (code : TrapCode) → trap ≡ Some code → shape_of new ≡ with_trap code (shape_of old) → IsSoundBuffer new → PutsAlone flags (access_slots trap) old new
-access_put flags old new trap code is put sound = subst (λ t. PutsAlone flags (access_slots t) old new) (sym is) (alone (record { puts = (shape_of new, put, refl); sound = sound }))
+pub access_put : (flags : IsaFlags) (old new : Buffer) (trap : Option TrapCode) (code : TrapCode) → trap ≡ Some code → shape_of new ≡ with_record (event.Trap code) (shape_of old) → IsSoundBuffer new → PutsAlone flags (access_slots trap) old new
+access_put flags old new trap code is put sound = subst (λ t. PutsAlone flags (access_slots t) old new) (sym is) (alone (record { puts = (shape_of new, (tt, put), refl); sound = sound }))
 
 pub no_access : (flags : IsaFlags) (b : Buffer) (trap : Option TrapCode) → trap ≡ None → IsSoundBuffer b → PutsAlone flags (access_slots trap) b b
 no_access flags b trap is sound = subst (λ t. PutsAlone flags (access_slots t) b b) (sym is) (none_put flags b sound)
@@ -74,10 +75,12 @@ then_op {bound} slots d few s = record { plain = plain slots s.plain; short = le
     plain (Op x ∷ front) p = plain front p
     plain (Aim kind target ops ∷ front) p = plain front p
     plain (Data bytes ∷ front) p = plain front p
-    plain (Traps code ∷ front) p = plain front p
+    plain (Notes event ∷ front) p = plain front p
     plain (Names k ∷ front) p = plain front p
     plain (Allocate ∷ front) p = absurd p
     plain (Here k ∷ front) p = absurd p
+    plain (Fill symbol upper lower ∷ front) p = plain front p
+    plain (Address name addend ∷ front) p = plain front p
 
     size : (front : List Slot) → size_of (front ++ Op d ∷ []) ≡ size_of front + d.len
     size [] = omega arith

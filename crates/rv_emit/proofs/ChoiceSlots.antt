@@ -16,7 +16,7 @@ use Rattle.rv_inst.specs.Context.{Context}
 use Rattle.rv_inst.specs.Forms.{short_rri}
 use Rattle.rv_inst.specs.Operands.{all_of, written_in, inst_constant}
 use Rattle.rv_inst.specs.Sizes.{Words, extent_of, extend_size, is_byte, move_size, moves_size, right_shift, select_size}
-use Rattle.rv_inst.specs.Traps.{inst_traps}
+use Rattle.rv_inst.specs.Records.{inst_records}
 use Rattle.rv_inst.specs.Uses.{uses_in}
 use Rattle.rv_inst.specs.declared.inst.Inst.{Inst}
 use Rattle.rv_inst.specs.declared.inst.Inst.TheVariants.{Extend, Select}
@@ -24,7 +24,7 @@ use Rattle.rv_emit.specs.Choices.{chosen_slots, choice_slots, complement, moves_
 use Rattle.rv_emit.specs.Emission.{PutsAlone}
 use Rattle.rv_emit.specs.Emitted.{Buffer, named_by}
 use Rattle.rv_emit.specs.InstParts.{extend_slots, move_slots, select_slots}
-use Rattle.rv_emit.specs.Slots.{Slot, Op, Aim, Data, Traps, Names, Allocate, Here, AreClosed, IsBlock, names_of, size_of, traps_of, uses_of}
+use Rattle.rv_emit.specs.Slots.{Slot, Op, Aim, Data, Notes, Names, Allocate, Here, Fill, Address, AreClosed, IsBlock, names_of, size_of, records_of, uses_of}
 use Rattle.rv_emit.proofs.AddressRuns.{size_append}
 use Rattle.rv_emit.proofs.PlainSlots.{IsPlain, IsSummed}
 use Rattle.rv_emit.proofs.ShortOps.{HasSize, rri_sized}
@@ -38,30 +38,36 @@ AreOps [] = Unit {0}
 AreOps (Op d ∷ slots) = HasSize d × AreOps slots
 AreOps (Aim kind target ops ∷ slots) = ⊥
 AreOps (Data bytes ∷ slots) = ⊥
-AreOps (Traps code ∷ slots) = ⊥
+AreOps (Notes event ∷ slots) = ⊥
 AreOps (Names k ∷ slots) = ⊥
 AreOps (Allocate ∷ slots) = ⊥
 AreOps (Here k ∷ slots) = ⊥
+AreOps (Fill symbol upper lower ∷ slots) = ⊥
+AreOps (Address name addend ∷ slots) = ⊥
 
 ops_both : (slots more : List Slot) → AreOps slots → AreOps more → AreOps (slots ++ more)
 ops_both [] more a b = b
 ops_both (Op d ∷ slots) more a b = (a.0, ops_both slots more a.1 b)
 ops_both (Aim kind target ops ∷ slots) more a b = absurd a
 ops_both (Data bytes ∷ slots) more a b = absurd a
-ops_both (Traps code ∷ slots) more a b = absurd a
+ops_both (Notes event ∷ slots) more a b = absurd a
 ops_both (Names k ∷ slots) more a b = absurd a
 ops_both (Allocate ∷ slots) more a b = absurd a
 ops_both (Here k ∷ slots) more a b = absurd a
+ops_both (Fill symbol upper lower ∷ slots) more a b = absurd a
+ops_both (Address name addend ∷ slots) more a b = absurd a
 
 ops_plain : (slots : List Slot) → AreOps slots → IsPlain slots
 ops_plain [] a = tt
 ops_plain (Op d ∷ slots) a = ops_plain slots a.1
 ops_plain (Aim kind target ops ∷ slots) a = absurd a
 ops_plain (Data bytes ∷ slots) a = absurd a
-ops_plain (Traps code ∷ slots) a = absurd a
+ops_plain (Notes event ∷ slots) a = absurd a
 ops_plain (Names k ∷ slots) a = absurd a
 ops_plain (Allocate ∷ slots) a = absurd a
 ops_plain (Here k ∷ slots) a = absurd a
+ops_plain (Fill symbol upper lower ∷ slots) a = absurd a
+ops_plain (Address name addend ∷ slots) a = absurd a
 
 ops_block : (slots : List Slot) → AreOps slots → IsBlock slots
 ops_block slots a = closed _ 0 slots a
@@ -71,49 +77,57 @@ ops_block slots a = closed _ 0 slots a
     closed here at (Op d ∷ slots) a = (let size = a.0 in size.even, closed here (at + d.len) slots a.1)
     closed here at (Aim kind target ops ∷ slots) a = absurd a
     closed here at (Data bytes ∷ slots) a = absurd a
-    closed here at (Traps code ∷ slots) a = absurd a
+    closed here at (Notes event ∷ slots) a = absurd a
     closed here at (Names k ∷ slots) a = absurd a
     closed here at (Allocate ∷ slots) a = absurd a
     closed here at (Here k ∷ slots) a = absurd a
+    closed here at (Fill symbol upper lower ∷ slots) a = absurd a
+    closed here at (Address name addend ∷ slots) a = absurd a
 
--- they have no uses and no traps, and name no constant
+-- they have no uses and no records, and name no constant
 ops_uses : (allocated at : ℕ) (slots : List Slot) → AreOps slots → uses_of allocated at slots ≡ []
 ops_uses allocated at [] a = refl
 ops_uses allocated at (Op d ∷ slots) a = ops_uses allocated (at + d.len) slots a.1
 ops_uses allocated at (Aim kind target ops ∷ slots) a = absurd a
 ops_uses allocated at (Data bytes ∷ slots) a = absurd a
-ops_uses allocated at (Traps code ∷ slots) a = absurd a
+ops_uses allocated at (Notes event ∷ slots) a = absurd a
 ops_uses allocated at (Names k ∷ slots) a = absurd a
 ops_uses allocated at (Allocate ∷ slots) a = absurd a
 ops_uses allocated at (Here k ∷ slots) a = absurd a
+ops_uses allocated at (Fill symbol upper lower ∷ slots) a = absurd a
+ops_uses allocated at (Address name addend ∷ slots) a = absurd a
 
-ops_traps : (at : ℕ) (slots : List Slot) → AreOps slots → traps_of at slots ≡ []
-ops_traps at [] a = refl
-ops_traps at (Op d ∷ slots) a = ops_traps (at + d.len) slots a.1
-ops_traps at (Aim kind target ops ∷ slots) a = absurd a
-ops_traps at (Data bytes ∷ slots) a = absurd a
-ops_traps at (Traps code ∷ slots) a = absurd a
-ops_traps at (Names k ∷ slots) a = absurd a
-ops_traps at (Allocate ∷ slots) a = absurd a
-ops_traps at (Here k ∷ slots) a = absurd a
+ops_records : (at : ℕ) (slots : List Slot) → AreOps slots → records_of at slots ≡ []
+ops_records at [] a = refl
+ops_records at (Op d ∷ slots) a = ops_records (at + d.len) slots a.1
+ops_records at (Aim kind target ops ∷ slots) a = absurd a
+ops_records at (Data bytes ∷ slots) a = absurd a
+ops_records at (Notes event ∷ slots) a = absurd a
+ops_records at (Names k ∷ slots) a = absurd a
+ops_records at (Allocate ∷ slots) a = absurd a
+ops_records at (Here k ∷ slots) a = absurd a
+ops_records at (Fill symbol upper lower ∷ slots) a = absurd a
+ops_records at (Address name addend ∷ slots) a = absurd a
 
 ops_names : (slots : List Slot) (named : List VCodeConstant) → AreOps slots → names_of slots named ≡ named
 ops_names [] named a = refl
 ops_names (Op d ∷ slots) named a = ops_names slots named a.1
 ops_names (Aim kind target ops ∷ slots) named a = absurd a
 ops_names (Data bytes ∷ slots) named a = absurd a
-ops_names (Traps code ∷ slots) named a = absurd a
+ops_names (Notes event ∷ slots) named a = absurd a
 ops_names (Names k ∷ slots) named a = absurd a
 ops_names (Allocate ∷ slots) named a = absurd a
 ops_names (Here k ∷ slots) named a = absurd a
+ops_names (Fill symbol upper lower ∷ slots) named a = absurd a
+ops_names (Address name addend ∷ slots) named a = absurd a
 
 -- of an instruction that is as long, and has none either
-ops_summed : (context : Context) (inst : Inst) (slots : List Slot) → AreOps slots → extent_of context inst ≡ Words (size_of slots) → ((start : ℕ) → [] ≡ uses_in context start inst) → ((start end : ℕ) → [] ≡ inst_traps context start end inst) → ((named : List VCodeConstant) → named ≡ named_by (inst_constant inst) named) → IsSummed context inst slots
-ops_summed context inst slots a long uses traps names = record {
+ops_summed : (context : Context) (inst : Inst) (slots : List Slot) → AreOps slots → extent_of context inst ≡ Words (size_of slots) → ((start : ℕ) → [] ≡ uses_in context start inst) → ((start end : ℕ) → [] ≡ inst_records context start end inst) → ((named : List VCodeConstant) → named ≡ named_by (inst_constant inst) named) → IsSummed context inst slots
+ops_summed context inst slots a long uses records names = record {
   plain = ops_plain slots a;
   long = long;
   uses = λ allocated start. ops_uses allocated start slots a ∙ uses start;
-  traps = λ start. ops_traps start slots a ∙ traps start (start + size_of slots);
+  records = λ start. ops_records start slots a ∙ records start (start + size_of slots);
   names = λ named. ops_names slots named a ∙ names named;
 }
 

@@ -5,7 +5,7 @@ use Rattle.rv_inst.specs.Rules.{inst_rule, is_int_type, lacks_constant}
 use Rattle.rv_inst.specs.declared.error.Rule.TheVariants as rule
 use Rattle.rv_inst.proofs.Rules.{breaks_none}
 use Rattle.rv_inst.specs.declared.inst.Inst.{Inst}
-use Rattle.rv_inst.specs.declared.inst.Inst.TheVariants.{Nop0, Nop4, EBreak, SequencePoint, Args, Rets, DummyUse, EmitIsland, RawData, Lui, Auipc, LoadInlineConst, AluRRR, AluRRImm12, Mov, MovFromPReg, Extend, Select, Load, Store, LoadAddr, LabelAddress, Ret, TrapIf, Jal, CondBr, BrTable, Udf, Jalr, Popcnt, Cltz, Brev8, StackProbeLoop}
+use Rattle.rv_inst.specs.declared.inst.Inst.TheVariants.{Nop0, Nop4, EBreak, SequencePoint, Args, Rets, DummyUse, EmitIsland, RawData, Lui, Auipc, LoadInlineConst, AluRRR, AluRRImm12, Mov, MovFromPReg, Extend, Select, Load, Store, LoadAddr, LabelAddress, Ret, TrapIf, Jal, CondBr, BrTable, Udf, Jalr, Popcnt, Cltz, Brev8, StackProbeLoop, LoadExtNameGot, LoadExtNameNear, LoadExtNameFar, Unwind}
 use Rattle.rv_emit.specs.Usable.{IsFine}
 use Rattle.rv_emit.proofs.Operands.{Keeps, keeps, are_usable, data_kept, constant_kept, move_usable, preg_usable, trap_if_usable, not_false, listed, listed_targets}
 use Rattle.rv_emit.proofs.AddressOperands.{load_fine, store_fine, load_addr_fine, label_address_fine}
@@ -54,3 +54,7 @@ fine context inst e = kept inst (keeps context inst e) (breaks_none context inst
     kept (Cltz sum tmp step rs leading type) k there = zeros_fine sum tmp step rs leading type k
     kept (Brev8 rs type step tmp tmp2 rd) k there = reverse_fine rs type step tmp tmp2 rd k
     kept (StackProbeLoop guard_size probe_count tmp) k there = probe_fine guard_size probe_count tmp k
+    kept (LoadExtNameGot rd name) k there = (are_usable (rd.reg ∷ []) k.real k.placed k.free).0.0
+    kept (LoadExtNameNear rd name offset) k there = (are_usable (rd.reg ∷ []) k.real k.placed k.free).0.0
+    kept (LoadExtNameFar rd name offset) k there = (are_usable (rd.reg ∷ []) k.real k.placed k.free).0.0
+    kept (Unwind inst) k there = tt

@@ -1,18 +1,18 @@
 -- Every instruction that breaks no rule runs as it means.
-use Rattle.std.proofs.Common.{◌≡◌, ℕ, [], ◌∷◌, None, subst, arith}
+use Rattle.std.proofs.Common.{◌≡◌, ℕ, false, [], ◌∷◌, None, subst, arith}
 use Rattle.rv_inst.specs.declared.inst.Inst.{Inst}
-use Rattle.rv_inst.specs.declared.inst.Inst.TheVariants.{Nop0, Nop4, EBreak, SequencePoint, Args, Rets, DummyUse, EmitIsland, RawData, Lui, Auipc, LoadInlineConst, AluRRR, AluRRImm12, Mov, MovFromPReg, Extend, Select, Load, Store, LoadAddr, LabelAddress, Ret, TrapIf, Jal, CondBr, BrTable, Udf, Jalr, Popcnt, Cltz, Brev8, StackProbeLoop}
+use Rattle.rv_inst.specs.declared.inst.Inst.TheVariants.{Nop0, Nop4, EBreak, SequencePoint, Args, Rets, DummyUse, EmitIsland, RawData, Lui, Auipc, LoadInlineConst, AluRRR, AluRRImm12, Mov, MovFromPReg, Extend, Select, Load, Store, LoadAddr, LabelAddress, Ret, TrapIf, Jal, CondBr, BrTable, Udf, Jalr, Popcnt, Cltz, Brev8, StackProbeLoop, LoadExtNameGot, LoadExtNameNear, LoadExtNameFar, Unwind}
 use Rattle.rv_base.specs.declared.ir_type.IrType.{IrType}
 use Rattle.rv_base.specs.declared.regs.Reg.{Reg}
 use Rattle.rv_base.specs.declared.regs.Writable.{Writable}
-use Rattle.rv_inst.specs.Rules.{inst_rule}
+use Rattle.rv_inst.specs.Rules.{is_zero, inst_rule}
 use Rattle.rv_emit.specs.declared.state.EmitVState.{EmitVState}
 use Rattle.rv_inst.specs.Forms.{short_ebreak}
 use Rattle.rv_emit.proofs.ShortOps.{ebreak_sized, ebreak_breaks}
 use Rattle.rv_emit.specs.Slots.{Op}
 use Rattle.rv_emit.specs.Sites.{Site, GapIn}
 use Rattle.rv_emit.specs.InstRuns.{RunsIn}
-use Rattle.rv_emit.proofs.Operands.{Keeps, keeps, are_usable, move_usable, preg_usable, constant_kept, trap_if_usable}
+use Rattle.rv_emit.proofs.Operands.{Keeps, keeps, are_usable, not_zero, or_left, move_usable, preg_usable, constant_kept, trap_if_usable}
 use Rattle.rv_emit.proofs.AddressOperands.{load_kept, store_kept, load_addr_kept, label_address_kept}
 use Rattle.rv_emit.proofs.InstMemory.{load_runs, store_runs, load_addr_runs, label_address_runs}
 use Rattle.rv_emit.proofs.Exits.{starts_beside, starts_at, gap_out, break_out}
@@ -27,6 +27,7 @@ use Rattle.rv_emit.proofs.ZerosRuns.{zeros_runs}
 use Rattle.rv_emit.proofs.ReverseRuns.{reverse_runs}
 use Rattle.rv_emit.proofs.ProbeRuns.{probe_runs}
 use Rattle.rv_emit.proofs.TableRuns.{table_runs}
+use Rattle.rv_emit.proofs.SymbolRuns.{got_runs, near_runs, far_runs, unwind_runs}
 
 ebreak_runs : (site : Site) (setting : EmitVState) → RunsIn site setting EBreak
 ebreak_runs site setting = record {
@@ -75,6 +76,10 @@ kept_runs site setting (Popcnt sum tmp step rs type) k = count_runs site setting
 kept_runs site setting (Cltz sum tmp step rs leading type) k = zeros_runs site setting sum tmp step rs leading type k
 kept_runs site setting (Brev8 rs type step tmp tmp2 rd) k = reverse_runs site setting rs type step tmp tmp2 rd k
 kept_runs site setting (StackProbeLoop guard_size probe_count tmp) k = probe_runs site setting guard_size probe_count tmp k
+kept_runs site setting (LoadExtNameGot rd name) k = let h = (are_usable (rd.reg ∷ []) k.real k.placed k.free).0 in got_runs site setting rd name h (not_zero rd.reg h (or_left (is_zero rd.reg) false k.counted))
+kept_runs site setting (LoadExtNameNear rd name offset) k = let h = (are_usable (rd.reg ∷ []) k.real k.placed k.free).0 in near_runs site setting rd name offset h (not_zero rd.reg h (or_left (is_zero rd.reg) false k.counted))
+kept_runs site setting (LoadExtNameFar rd name offset) k = let h = (are_usable (rd.reg ∷ []) k.real k.placed k.free).0 in far_runs site setting rd name offset h (not_zero rd.reg h (or_left (is_zero rd.reg) false k.counted))
+kept_runs site setting (Unwind inst) k = unwind_runs site setting inst
 
 pub inst_runs : (site : Site) (setting : EmitVState) (inst : Inst) → inst_rule site.context inst ≡ None → RunsIn site setting inst
 inst_runs site setting inst rule = kept_runs site setting inst (keeps site.context inst rule)

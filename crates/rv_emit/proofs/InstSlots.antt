@@ -1,5 +1,5 @@
 -- What an instruction adds to a buffer, and that its parts are blocks.
-use Rattle.std.proofs.Common.{◌≡◌, ◌⊎◌, inl, inr, ℕ, ◌+◌, ◌-◌, ◌%◌, Bool, true, false, nat_eq, List, [], ◌∷◌, ◌++◌, length, None, pos, refl, ap, sym, ◌∙◌, arith}
+use Rattle.std.proofs.Common.{◌≡◌, ◌⊎◌, inl, inr, ℕ, ◌+◌, ◌%◌, Bool, true, false, nat_eq, List, [], ◌∷◌, ◌++◌, length, None, pos, refl, ap, sym, ◌∙◌, arith}
 use Rattle.std.specs.Prelude.{if◌then◌else◌, ◌^◌, ◌-ℤ◌}
 use Rattle.rv_base.specs.Regs.{number_of}
 use Rattle.rv_base.specs.declared.ir_type.IrType.{IrType}
@@ -19,14 +19,14 @@ use Rattle.rv_inst.specs.Context.{Context}
 use Rattle.rv_machine.specs.Arithmetic.{low_word}
 use Rattle.rv_inst.specs.Rules.{is_word_type, inst_rule}
 use Rattle.rv_inst.specs.declared.inst.Inst.{Inst}
-use Rattle.rv_inst.specs.declared.inst.Inst.TheVariants.{Nop0, Nop4, EBreak, SequencePoint, Args, Rets, DummyUse, EmitIsland, RawData, Lui, Auipc, LoadInlineConst, AluRRR, AluRRImm12, Mov, MovFromPReg, Extend, Select, Load, Store, LoadAddr, LabelAddress, Ret, TrapIf, Jal, CondBr, BrTable, Udf, Jalr, Popcnt, Cltz, Brev8, StackProbeLoop}
+use Rattle.rv_inst.specs.declared.inst.Inst.TheVariants.{Nop0, Nop4, EBreak, SequencePoint, Args, Rets, DummyUse, EmitIsland, RawData, Lui, Auipc, LoadInlineConst, AluRRR, AluRRImm12, Mov, MovFromPReg, Extend, Select, Load, Store, LoadAddr, LabelAddress, Ret, TrapIf, Jal, CondBr, BrTable, Udf, Jalr, Popcnt, Cltz, Brev8, StackProbeLoop, LoadExtNameGot, LoadExtNameNear, LoadExtNameFar, Unwind}
 use Rattle.rv_inst.specs.declared.inst.CondBrTarget.{CondBrTarget}
 use Rattle.rv_inst.specs.declared.inst.CondBrTarget.TheVariants.{Label as ToLabel, Fallthrough}
 use Rattle.rv_inst.specs.Sizes.{Words, extent_of, island_space, move_size, count_size, trap_size}
 use Rattle.rv_inst.specs.Uses.{uses_in}
 use Rattle.rv_base.specs.declared.constant.VCodeConstant.{VCodeConstant}
 use Rattle.rv_inst.specs.Operands.{inst_constant}
-use Rattle.rv_inst.specs.Traps.{inst_traps}
+use Rattle.rv_inst.specs.Records.{inst_records}
 use Rattle.rv_emit.specs.declared.state.EmitVState.{EmitVState}
 use Rattle.rv_machine.specs.declared.decoding.Decoded.{Decoded}
 use Rattle.rv_emit.specs.Operations.{jump_size}
@@ -49,36 +49,37 @@ use Rattle.rv_emit.proofs.ChoiceSlots.{extend_summed, extend_block, select_summe
 use Rattle.rv_emit.proofs.ZerosSlots.{zeros_summed, zeros_block}
 use Rattle.rv_emit.proofs.ReverseSlots.{reverse_summed, reverse_block}
 use Rattle.rv_emit.proofs.ProbeSlots.{probe_summed, probe_block}
+use Rattle.rv_emit.proofs.SymbolSlots.{got_summed, near_summed, far_summed, unwind_summed, far_block}
 use Rattle.rv_emit.proofs.TableSlots.{table_block}
 
-one : (context : Context) (inst : Inst) (d : Decoded) → extent_of context inst ≡ Words d.len → ((start : ℕ) → [] ≡ uses_in context start inst) → ((start end : ℕ) → [] ≡ inst_traps context start end inst) → ((named : List VCodeConstant) → named ≡ named_by (inst_constant inst) named) → IsSummed context inst (Op d ∷ [])
-one context inst d long uses traps names = record { plain = tt; long = long ∙ (let e : d.len ≡ d.len + 0 = omega arith in ap Words e); uses = λ allocated start. uses start; traps = λ start. traps start (start + (d.len + 0)); names = names }
+one : (context : Context) (inst : Inst) (d : Decoded) → extent_of context inst ≡ Words d.len → ((start : ℕ) → [] ≡ uses_in context start inst) → ((start end : ℕ) → [] ≡ inst_records context start end inst) → ((named : List VCodeConstant) → named ≡ named_by (inst_constant inst) named) → IsSummed context inst (Op d ∷ [])
+one context inst d long uses records names = record { plain = tt; long = long ∙ (let e : d.len ≡ d.len + 0 = omega arith in ap Words e); uses = λ allocated start. uses start; records = λ start. records start (start + (d.len + 0)); names = names }
 
-moves : (context : Context) (inst : Inst) (rd rs : ℕ) → extent_of context inst ≡ Words (move_size context.flags rd rs) → ((start : ℕ) → [] ≡ uses_in context start inst) → ((start end : ℕ) → [] ≡ inst_traps context start end inst) → ((named : List VCodeConstant) → named ≡ named_by (inst_constant inst) named) → IsSummed context inst (move_slots context.flags rd rs)
-moves context inst rd rs long uses traps names = on (nat_eq rd rs) long
+moves : (context : Context) (inst : Inst) (rd rs : ℕ) → extent_of context inst ≡ Words (move_size context.flags rd rs) → ((start : ℕ) → [] ≡ uses_in context start inst) → ((start end : ℕ) → [] ≡ inst_records context start end inst) → ((named : List VCodeConstant) → named ≡ named_by (inst_constant inst) named) → IsSummed context inst (move_slots context.flags rd rs)
+moves context inst rd rs long uses records names = on (nat_eq rd rs) long
   where
     d : Decoded
     d = short_rri context.flags Addi rd rs (pos 0)
 
     on : (c : Bool) → extent_of context inst ≡ Words (if c then 0 else d.len) → IsSummed context inst (if c then [] else Op d ∷ [])
-    on true e = record { plain = tt; long = e; uses = λ allocated start. uses start; traps = λ start. traps start (start + 0); names = names }
-    on false e = one context inst d e uses traps names
+    on true e = record { plain = tt; long = e; uses = λ allocated start. uses start; records = λ start. records start (start + 0); names = names }
+    on false e = one context inst d e uses records names
 
 -- a branch, and a jump or none
 branches : (context : Context) (kind : IntegerCompare) (taken not_taken : CondBrTarget) → IsSummed context (CondBr taken not_taken kind) (branch_slots context.flags kind taken not_taken)
-branches context kind Fallthrough not_taken = record { plain = tt; long = refl; uses = λ allocated start. refl; traps = λ start. refl; names = λ named. refl }
-branches context kind (ToLabel t) Fallthrough = record { plain = tt; long = refl; uses = λ allocated start. refl; traps = λ start. refl; names = λ named. refl }
-branches context kind (ToLabel t) (ToLabel f) = record { plain = tt; long = let w = window_long context.flags in let e : 4 + jump_size context.flags ≡ 4 + (length (marks_of (jump_kind context.flags)) + 0) = omega arith in ap Words e; uses = λ allocated start. refl; traps = λ start. refl; names = λ named. refl }
+branches context kind Fallthrough not_taken = record { plain = tt; long = refl; uses = λ allocated start. refl; records = λ start. refl; names = λ named. refl }
+branches context kind (ToLabel t) Fallthrough = record { plain = tt; long = refl; uses = λ allocated start. refl; records = λ start. refl; names = λ named. refl }
+branches context kind (ToLabel t) (ToLabel f) = record { plain = tt; long = let w = window_long context.flags in let e : 4 + jump_size context.flags ≡ 4 + (length (marks_of (jump_kind context.flags)) + 0) = omega arith in ap Words e; uses = λ allocated start. refl; records = λ start. refl; names = λ named. refl }
 
 jumps : (context : Context) (label : MachLabel) → IsSummed context (Jal label) (jump_to context.flags (Label label) ∷ [])
-jumps context label = record { plain = tt; long = let w = window_long context.flags in let e : jump_size context.flags ≡ length (marks_of (jump_kind context.flags)) + 0 = omega arith in ap Words e; uses = λ allocated start. refl; traps = λ start. refl; names = λ named. refl }
+jumps context label = record { plain = tt; long = let w = window_long context.flags in let e : jump_size context.flags ≡ length (marks_of (jump_kind context.flags)) + 0 = omega arith in ap Words e; uses = λ allocated start. refl; records = λ start. refl; names = λ named. refl }
 
 raw_data : (context : Context) (bytes : List ℕ) → IsSummed context (RawData bytes) (Data bytes ∷ [])
-raw_data context bytes = record { plain = tt; long = let e : length bytes ≡ length bytes + 0 = omega arith in ap Words e; uses = λ allocated start. refl; traps = λ start. refl; names = λ named. refl }
+raw_data context bytes = record { plain = tt; long = let e : length bytes ≡ length bytes + 0 = omega arith in ap Words e; uses = λ allocated start. refl; records = λ start. refl; names = λ named. refl }
 
 constants : (context : Context) (rd : Writable Reg) (type : IrType) (imm : ℕ) → is_word_type type ≡ true → IsSummed context (LoadInlineConst rd type imm) (constant_slots context.flags (number_of rd.reg) type imm)
-constants context rd I32 imm word = record { plain = tt; long = let e = inline_size context.flags (number_of rd.reg) 4 loads.Lw (to_le_bytes w32 (imm % 2 ^ 32)) refl in ap Words (sym e); uses = λ allocated start. refl; traps = λ start. refl; names = λ named. refl }
-constants context rd I64 imm word = record { plain = tt; long = let e = inline_size context.flags (number_of rd.reg) 8 loads.Ld (to_le_bytes w64 imm) refl in ap Words (sym e); uses = λ allocated start. refl; traps = λ start. refl; names = λ named. refl }
+constants context rd I32 imm word = record { plain = tt; long = let e = inline_size context.flags (number_of rd.reg) 4 loads.Lw (to_le_bytes w32 (imm % 2 ^ 32)) refl in ap Words (sym e); uses = λ allocated start. refl; records = λ start. refl; names = λ named. refl }
+constants context rd I64 imm word = record { plain = tt; long = let e = inline_size context.flags (number_of rd.reg) 8 loads.Ld (to_le_bytes w64 imm) refl in ap Words (sym e); uses = λ allocated start. refl; records = λ start. refl; names = λ named. refl }
 constants context rd _ imm word = absurd (cc)
 
 trap_long : (flags : IsaFlags) → length (trap_bytes flags) ≡ trap_size flags
@@ -89,14 +90,14 @@ trap_long flags = by flags.has_zca
     by false = refl
 
 trap : (context : Context) (code : TrapCode) → IsSummed context (Udf code) (trap_slots context.flags code)
-trap context code = record { plain = tt; long = let t = trap_long context.flags in let e : trap_size context.flags ≡ size_of (trap_slots context.flags code) = omega arith in ap Words e; uses = λ allocated start. refl; traps = λ start. refl; names = λ named. refl }
+trap context code = record { plain = tt; long = let t = trap_long context.flags in let e : trap_size context.flags ≡ size_of (trap_slots context.flags code) = omega arith in ap Words e; uses = λ allocated start. refl; records = λ start. refl; names = λ named. refl }
 
 trap_after : (context : Context) (cmp : IntegerCompare) (code : TrapCode) → IsSummed context (TrapIf cmp code) (branch_over context.flags cmp ∷ trap_slots context.flags code)
 trap_after context cmp code = record {
   plain = tt;
   long = let t = trap_long context.flags in let e : 4 + trap_size context.flags ≡ size_of (branch_over context.flags cmp ∷ trap_slots context.flags code) = omega arith in ap Words e;
   uses = λ allocated start. refl;
-  traps = λ start. refl;
+  records = λ start. refl;
   names = λ named. refl;
 }
 
@@ -107,7 +108,7 @@ counts context sum tmp step rs type = record {
       let e : count_size context.flags (number_of sum.reg) (number_of tmp.reg) (number_of step.reg) (number_of rs) (bits_of type) ≡ size_of (count_slots context.flags (number_of sum.reg) (number_of tmp.reg) (number_of step.reg) (number_of rs) (bits_of type)) = omega arith in
       ap Words e;
   uses = λ allocated start. refl;
-  traps = λ start. refl;
+  records = λ start. refl;
   names = λ named. refl;
 }
 
@@ -146,6 +147,10 @@ appends_inst context setting (Popcnt sum tmp step rs type) old new rule s asks p
 appends_inst context setting (Cltz sum tmp step rs leading type) old new rule s asks p = summed context (Cltz sum tmp step rs leading type) _ old new (zeros_summed context sum tmp step rs leading type) context.flags p
 appends_inst context setting (Brev8 rs type step tmp tmp2 rd) old new rule s asks p = summed context (Brev8 rs type step tmp tmp2 rd) _ old new (reverse_summed context rs type step tmp tmp2 rd) context.flags p
 appends_inst context setting (StackProbeLoop guard_size probe_count tmp) old new rule s asks p = summed context (StackProbeLoop guard_size probe_count tmp) _ old new (probe_summed context guard_size probe_count tmp) context.flags p
+appends_inst context setting (LoadExtNameGot rd name) old new rule s asks p = summed context (LoadExtNameGot rd name) _ old new (got_summed context rd name) context.flags p
+appends_inst context setting (LoadExtNameNear rd name offset) old new rule s asks p = summed context (LoadExtNameNear rd name offset) _ old new (near_summed context rd name offset) context.flags p
+appends_inst context setting (LoadExtNameFar rd name offset) old new rule s asks p = summed context (LoadExtNameFar rd name offset) _ old new (far_summed context rd name offset) context.flags p
+appends_inst context setting (Unwind inst) old new rule s asks p = summed context (Unwind inst) _ old new (unwind_summed context inst) context.flags p
 
 pub inst_appends : (context : Context) (inst : Inst) (old new : Buffer) → inst_rule context inst ≡ None → IsSoundBuffer old → island_space context inst ≡ None → Emits context inst old new → AppendsInst context inst old new
 inst_appends context inst old new rule s asks p = appends_inst context Unknown inst old new rule s asks (p Unknown)
@@ -229,3 +234,7 @@ are_blocks context setting (Popcnt sum tmp step rs type) rule = (count_block con
 are_blocks context setting (Cltz sum tmp step rs leading type) rule = (zeros_block context.flags leading (number_of sum.reg) (number_of tmp.reg) (number_of step.reg) (number_of rs) (bits_of type), tt)
 are_blocks context setting (Brev8 rs type step tmp tmp2 rd) rule = (reverse_block context.flags (number_of rd.reg) (number_of tmp.reg) (number_of tmp2.reg) (number_of step.reg) (number_of rs) (bits_of type), tt)
 are_blocks context setting (StackProbeLoop guard_size probe_count tmp) rule = (probe_block context.flags (number_of tmp.reg) (low_word guard_size) (low_word probe_count), tt)
+are_blocks context setting (LoadExtNameGot rd name) rule = (tt, tt)
+are_blocks context setting (LoadExtNameNear rd name offset) rule = (tt, tt)
+are_blocks context setting (LoadExtNameFar rd name offset) rule = (far_block context.flags (number_of rd.reg) name offset, tt)
+are_blocks context setting (Unwind inst) rule = (tt, tt)

@@ -19,7 +19,8 @@ use Rattle.rv_emit.specs.declared.state.EmitVState.{EmitVState}
 use Rattle.rv_emit.specs.Usable.{IsUsable}
 use Rattle.rv_emit.specs.Slots.{Slot, size_of}
 use Rattle.rv_emit.specs.Sites.{Site, BytesAt}
-use Rattle.rv_inst.specs.Traps.{IsRecorded}
+use Rattle.rv_inst.specs.Records.{IsRecorded}
+use Rattle.mach_buffer.specs.declared.records.Event.TheVariants as event
 use Rattle.rv_emit.specs.InstParts.{slots_alone, trap_bytes, trap_slots, complement, branch_over}
 use Rattle.rv_inst.specs.Sizes.{trap_size}
 use Rattle.rv_emit.specs.InstRuns.{Enters, ComesOut, RunsIn}
@@ -61,7 +62,7 @@ trap_some flags = by flags.has_zca
     by false = lit< tt
 
 -- the machine stays where the word of a recorded trap stands
-trap_out : {site : Site} {start after offset size : ℕ} {free : List ℕ} {v : Values} {s : State} (code : TrapCode) → IsAt site offset size s → 0 < size → IsRecorded site.traps offset code → BytesAt s.values.mem (site.base + offset) (trap_bytes site.context.flags) → start ≤ offset → offset < after → IsBeside site free v s → ComesOut site start after (Trap code) free v s
+trap_out : {site : Site} {start after offset size : ℕ} {free : List ℕ} {v : Values} {s : State} (code : TrapCode) → IsAt site offset size s → 0 < size → IsRecorded site.records offset (event.Trap code) → BytesAt s.values.mem (site.base + offset) (trap_bytes site.context.flags) → start ≤ offset → offset < after → IsBeside site free v s → ComesOut site start after (Trap code) free v s
 trap_out {site} {start} {after} {offset} {size} {free} {v} {s} code h some recorded bytes le lt b = comes_out s (goes_none site.context.flags s) (offset, recorded, le, lt, h.pc, no_operation h some bytes) b
 
 pub udf_runs : (site : Site) (setting : EmitVState) (code : TrapCode) → RunsIn site setting (Udf code)

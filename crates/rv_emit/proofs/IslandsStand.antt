@@ -25,6 +25,7 @@ use Rattle.rv_emit.specs.InstParts.{wide_jump_to}
 use Rattle.rv_emit.specs.Operations.{decoded_jump}
 use Rattle.rv_emit.specs.Slots.{Label, between}
 use Rattle.rv_emit.specs.Sites.{Site, BytesAt, CodeHas}
+use Rattle.rv_emit.specs.Images.{KeepsOutside}
 use Rattle.rv_emit.specs.Puts.{AllBytes}
 use Rattle.rv_emit.specs.Standing.{IslandIn, GapStandsIn, IsFinishedTo}
 use Rattle.rv_emit.proofs.PlacedBytes.{window_length, window_there}
@@ -77,7 +78,7 @@ via_goes_on flags bytes kind u to g fits small =
 
 module _ (context : Context) (f : Shape LabelUse) (bytes : List ℕ) (fin : IsFinishedTo f bytes) (small : length bytes ≤ 2 ^ 64) where
   -- what a use that goes by a veneer of the buffer finds there
-  veneer_goes_on : (u : Use LabelUse) (at to : ℕ) → fin.finishes.put.place u.label.number ≡ Some to → ByVeneer label_kinds fin.finishes.put.place bytes u at → GoesOn context.flags bytes at to
+  veneer_goes_on : (u : Use LabelUse) (at to : ℕ) → fin.finishes.put.place u.label.number ≡ Some to → ByVeneer label_kinds fin.finishes.put bytes u at → GoesOn context.flags bytes at to
   veneer_goes_on u at to bound g =
       subst (λ n. GoesOn context.flags bytes n to) g.here
       (subst (GoesOn context.flags bytes g.via.at) (same_Some g.to to (sym g.bound ∙ bound)) (via_goes_on context.flags bytes u.kind u g.to g.via fin.all_bytes small))
@@ -91,7 +92,10 @@ module _ (context : Context) (f : Shape LabelUse) (bytes : List ℕ) (fin : IsFi
   })
     where
       site : Site
-      site = record { context = context; base = 0; bytes = bytes; place = fin.finishes.put.place; traps = f.traps }
+      site = record { context = context; base = 0; bytes = bytes; place = fin.finishes.put.place; records = f.records; symbol = λ name. 0; slot = λ name. 0 }
+
+      unfilled : KeepsOutside site bytes
+      unfilled = record { long = refl; bytes = fin.all_bytes; same = λ from size le clear. refl }
 
       bound : fin.finishes.put.place i.after_island.number ≡ Some to
       bound = fin.finishes.grows.places i.after_island.number to i.bound
@@ -112,13 +116,13 @@ module _ (context : Context) (f : Shape LabelUse) (bytes : List ℕ) (fin : IsFi
       lasts = lasts_more (puts_last context.flags old.allocated [] mid i.jump.new i.jump.puts.2) i.jump.lasts
 
       room : length old.bytes + 4 ≤ length bytes
-      room = let l = slot_bytes context.flags old.allocated (wide_jump_to (Label i.after_island)) old mid i.jump.puts.1 in let w = within site f fin refl refl mid lasts in omega arith
+      room = let l = slot_bytes context.flags old.allocated (wide_jump_to (Label i.after_island)) old mid i.jump.puts.1 in let w = within site f bytes fin unfilled refl refl mid lasts in omega arith
 
-      x : UseFinished label_kinds old f fin.finishes.put.place bytes i.jump.puts.1.0 u
-      x = aim_finished site f fin refl refl old.allocated Jal20 (Label i.after_island) (λ d. decoded_jump d ∷ []) old mid i.jump.puts.1 lasts
+      x : UseFinished label_kinds old f fin.finishes.put bytes i.jump.puts.1.0 u
+      x = aim_finished site f bytes fin unfilled refl refl old.allocated Jal20 (Label i.after_island) (λ d. decoded_jump d ∷ []) old mid i.jump.puts.1 lasts
 
       has : CodeHas site (length old.bytes) (decoded_jump (between (length old.bytes) x.target) ∷ [])
-      has = aim_has site f fin refl refl old.allocated Jal20 (Label i.after_island) (λ d. decoded_jump d ∷ []) old mid i.jump.puts.1 room x
+      has = aim_has site f bytes fin unfilled refl refl old.allocated Jal20 (Label i.after_island) (λ d. decoded_jump d ∷ []) old mid i.jump.puts.1 i.jump.fields lasts room x
 
   -- nothing, or an island
   pub gap_is : (from to : ℕ) → GapStandsIn context.flags f from to → (from ≡ to) ⊎ IsIsland context.flags bytes from to

@@ -8,7 +8,7 @@ use Rattle.rv_inst.specs.declared.label_use.LabelUse.TheVariants.{Jal20}
 use Rattle.rv_inst.specs.LabelUse.{label_kinds}
 use Rattle.rv_inst.specs.LabelUseWords.{word_bytes}
 use Rattle.mach_buffer.specs.declared.uses.Use.{Use}
-use Rattle.mach_buffer.specs.Buffer.{shape_of, bytes_of, uses_of, place_of, labels_of, allocated_of, traps_of, registered_of}
+use Rattle.mach_buffer.specs.Buffer.{shape_of, bytes_of, uses_of, place_of, labels_of, allocated_of, records_of, registered_of}
 use Rattle.mach_buffer.specs.Constants.{end_after, AllStand}
 use Rattle.mach_buffer.specs.Shape.{with_allocated, with_bytes, with_use}
 use Rattle.mach_buffer.specs.Reach.{deadline}
@@ -66,8 +66,8 @@ end_whole ends start count last = whole (ends (first_of ends start count last + 
 -- a jump was put, and the island after it
 pub puts_island : (old allocated mid new : Buffer) (after_island : MachLabel) → JumpPut old mid after_island → labels_of allocated ≡ labels_of old → IsSoundBuffer allocated → bytes_of allocated ≡ bytes_of old → (HasWindows old → HasWindows allocated) →
     AppendsCode (word_bytes 0x6f) (use_at (length (bytes_of allocated)) after_island Jal20 ∷ []) allocated mid →
-    Islanded label_kinds after_island (shape_of mid) (shape_of new) → Grows (bytes_of mid) (uses_of mid) (place_of mid) (bytes_of new) (uses_of new) (place_of new) → AddsOwn label_kinds (length (bytes_of mid)) (uses_of mid) (uses_of new) → (HasWindows mid → HasWindows new) → (HasWindows mid → AllStand label_kinds (shape_of mid) → AllStand label_kinds (shape_of new)) → IsSoundBuffer new → ((flags : IsaFlags) → Puts flags (allocated_of old + 1) (wide_jump_to (Label after_island) ∷ []) (with_allocated (shape_of old)) (shape_of mid)) → CanIsland label_kinds (shape_of mid) after_island → traps_of mid ≡ traps_of old → AppendsIsland old new
-puts_island old allocated mid new after_island p labels sound same_bytes windows a i grows own kept stand now puts can traps =
+    Islanded label_kinds after_island (shape_of mid) (shape_of new) → Grows (bytes_of mid) (uses_of mid) (place_of mid) (bytes_of new) (uses_of new) (place_of new) → AddsOwn label_kinds (length (bytes_of mid)) (uses_of mid) (uses_of new) → (HasWindows mid → HasWindows new) → (HasWindows mid → AllStand label_kinds (shape_of mid) → AllStand label_kinds (shape_of new)) → IsSoundBuffer new → ((flags : IsaFlags) → Puts flags (allocated_of old + 1) (wide_jump_to (Label after_island) ∷ []) (with_allocated (shape_of old)) (shape_of mid)) → CanIsland label_kinds (shape_of mid) after_island → records_of mid ≡ records_of old → AppendsIsland old new
+puts_island old allocated mid new after_island p labels sound same_bytes windows a i grows own kept stand now puts can records =
     let rest = island_rest p.sound.ordered i in
     let long : length (bytes_of mid) ≡ length (bytes_of old) + 4 = ap (length {A = ℕ}) p.bytes ∙ length-append (bytes_of old) (word_bytes 0x6f) in
     let count = length (others_of label_kinds (shape_of mid) after_island) in
@@ -98,7 +98,7 @@ puts_island old allocated mid new after_island p labels sound same_bytes windows
       bound = rest.bound;
       places = λ label low ne. rest.places label low ne ∙ ap (λ (place : ℕ → Option ℕ). place label) p.places;
       labels = rest.labels (omega (arith, drawn_fresh)) ∙ a.labels ∙ labels;
-      traps = rest.traps ∙ traps;
+      records = rest.records ∙ records;
       registered = rest.registered ∙ p.registered;
       named = rest.named ∙ named;
       settled = i.settled;

@@ -26,3 +26,5 @@ pub use Rattle.rv_emit.proofs.Ways.{comes_both, leads_here, leads_both}
 -- pending uses and their deadlines
 pub use Rattle.rv_emit.proofs.ReachKept.{Each, waits, each_none, each_more, uses_bare, uses_kinds, few_deadlines, bytes_put, far_waits, own_deadlines, pending_adds, pending_after, none_more, calm_after}
 pub use Rattle.rv_emit.proofs.Islands.{deadlines_as}
+pub use Rattle.rv_emit.proofs.NumberRuns.{bits_back}
+pub use Rattle.rv_emit.proofs.Fields.{ends_later}

@@ -20,6 +20,7 @@ mod OneMoreRegister
 mod Operands
 mod OperationActs
 mod OwnLabels
+mod Fields
 mod PartsPut
 mod PlacedBytes
 mod PlainSlots
@@ -57,6 +58,9 @@ mod Registers
 mod Settings
 mod SlotsJoined
 mod SlotsPut
+mod SymbolRuns
+mod SymbolSlots
+mod SymbolsPut
 mod Standing
 mod Steps
 mod VeneerRuns

@@ -21,7 +21,8 @@ use Rattle.rv_machine.specs.declared.decoding.Decoded.{Decoded}
 use Rattle.rv_machine.specs.declared.ops.MOp.TheVariants.{Base}
 use Rattle.rv_machine.specs.declared.ops.BaseOp.TheVariants as base
 use Rattle.rv_machine.specs.State.{low64}
-use Rattle.mach_buffer.specs.declared.records.MachTrap.{MachTrap}
+use Rattle.mach_buffer.specs.declared.records.Event.TheVariants as event
+use Rattle.mach_buffer.specs.declared.records.MachRecord.{MachRecord}
 use Rattle.mach_buffer.specs.declared.uses.Use.{Use}
 use Rattle.rv_encode.specs.Operations.{row, decoded_load, decoded_store}
 use Rattle.rv_inst.specs.Addresses.{Location, Based, AtLabel, AtConstant, location_of, is_near, is_splittable, inline_size, far_size, far_address_size, address_size, load_size_at, store_size_at, load_own_size, store_own_size}
@@ -34,13 +35,13 @@ use Rattle.rv_base.specs.declared.constant.VCodeConstant.{VCodeConstant}
 use Rattle.mach_buffer.specs.Shape.{constant_label}
 use Rattle.rv_emit.specs.Emitted.{named_by}
 use Rattle.rv_inst.specs.Sizes.{Words, extent_of}
-use Rattle.rv_inst.specs.Traps.{access_traps, inst_traps}
+use Rattle.rv_inst.specs.Records.{access_records, inst_records}
 use Rattle.rv_inst.specs.Uses.{use_at, uses_in, target_uses}
 use Rattle.rv_inst.specs.Context.{Context}
 use Rattle.rv_inst.specs.declared.inst.Inst.TheVariants.{Load, Store, LoadAddr, LabelAddress}
 use Rattle.rv_emit.specs.Immediates.{upper_of, lower_of}
 use Rattle.rv_emit.specs.Operations.{short_jump, jump_size}
-use Rattle.rv_emit.specs.Slots.{Slot, Op, Data, size_of, uses_of, traps_of, names_of, AreClosed, IsBlock}
+use Rattle.rv_emit.specs.Slots.{Slot, Op, Data, size_of, uses_of, records_of, names_of, AreClosed, IsBlock}
 use Rattle.rv_emit.specs.InstParts.{inline_slots, offset_slots, access_slots, load_slots, store_slots, address_slots}
 use Rattle.rv_emit.proofs.PlainSlots.{IsPlain, IsSummed}
 use Rattle.rv_emit.proofs.ShortOps.{rrr_sized, rri_sized, lui_sized, load_sized, store_sized, jump_len, least_even}
@@ -51,13 +52,13 @@ pub record AreCounted (size last : ℕ) (own : ℕ → List (Use LabelUse)) (tra
   pub long : size ≡ size_of slots
   pub within : last ≤ size
   pub uses : (allocated start : ℕ) → uses_of allocated start slots ≡ own start
-  pub traps : (start : ℕ) → traps_of start slots ≡ access_traps (start + size - last) trap
+  pub records : (start : ℕ) → records_of start slots ≡ access_records (start + size - last) trap
   pub names : (named : List VCodeConstant) → names_of slots named ≡ named_by constant named
   pub closed : (here : ℕ → Option ℕ) (start : ℕ) → AreClosed here start slots
 
 -- the record of a trap at an offset, alone
-abbrev trap_at : TrapCode → ℕ → List MachTrap
-trap_at code at = record { offset = at; code = code } ∷ []
+abbrev trap_at : TrapCode → ℕ → List MachRecord
+trap_at code at = record { offset = at; event = event.Trap code } ∷ []
 
 abbrev pub none : ℕ → List (Use LabelUse)
 none start = []
@@ -65,17 +66,17 @@ none start = []
 -- ---- pieces
 
 pub nothing : AreCounted 0 0 none None None []
-nothing = record { plain = tt; long = refl; within = lit≤ tt; uses = λ allocated start. refl; traps = λ start. refl; names = λ named. refl; closed = λ here start. tt }
+nothing = record { plain = tt; long = refl; within = lit≤ tt; uses = λ allocated start. refl; records = λ start. refl; names = λ named. refl; closed = λ here start. tt }
 
 -- the trap of an access is recorded where it is
 accessed : (trap : Option TrapCode) (d : Decoded) → d.len % 2 ≡ 0 → AreCounted d.len d.len none trap None (access_slots trap ++ Op d ∷ [])
-accessed None d even = record { plain = tt; long = omega arith; within = omega arith; uses = λ allocated start. refl; traps = λ start. refl; names = λ named. refl; closed = λ here start. (even, tt) }
+accessed None d even = record { plain = tt; long = omega arith; within = omega arith; uses = λ allocated start. refl; records = λ start. refl; names = λ named. refl; closed = λ here start. (even, tt) }
 accessed (Some code) d even = record {
   plain = tt;
   long = omega arith;
   within = omega arith;
   uses = λ allocated start. refl;
-  traps = λ start. let e : start ≡ start + d.len - d.len = omega arith in ap (trap_at code) e;
+  records = λ start. let e : start ≡ start + d.len - d.len = omega arith in ap (trap_at code) e;
   names = λ named. refl;
   closed = λ here start. (even, tt);
 }
@@ -87,7 +88,7 @@ op_then {size} {last} {trap} d even c = record {
   long = ap (λ n. d.len + n) c.long;
   within = let w = c.within in omega arith;
   uses = λ allocated start. c.uses allocated (start + d.len);
-  traps = λ start. c.traps (start + d.len) ∙ (let e : start + d.len + size - last ≡ start + (d.len + size) - last = omega arith in ap (λ n. access_traps n trap) e);
+  records = λ start. c.records (start + d.len) ∙ (let e : start + d.len + size - last ≡ start + (d.len + size) - last = omega arith in ap (λ n. access_records n trap) e);
   names = c.names;
   closed = λ here start. (even, c.closed here (start + d.len));
 }
@@ -99,7 +100,7 @@ data_then {size} {last} {trap} bytes eight c = record {
   long = (λ i. sym eight i + c.long i);
   within = let w = c.within in omega arith;
   uses = λ allocated start. c.uses allocated (start + length bytes);
-  traps = λ start. c.traps (start + length bytes) ∙ (let e : start + length bytes + size - last ≡ start + (8 + size) - last = omega arith in ap (λ n. access_traps n trap) e);
+  records = λ start. c.records (start + length bytes) ∙ (let e : start + length bytes + size - last ≡ start + (8 + size) - last = omega arith in ap (λ n. access_records n trap) e);
   names = c.names;
   closed = λ here start. (ap (λ n. n % 2) eight, c.closed here (start + length bytes));
 }
@@ -177,31 +178,31 @@ addresses flags rd (Based r o) = by (is_near o)
     by : (t : Bool) → AreCounted (if t then (short_rri flags Addi rd r o).len else far_address_size flags rd r o) 0 none None None (if t then Op (short_rri flags Addi rd r o) ∷ [] else offset_slots flags rd o ++ Op (short_rrr flags Add rd rd r) ∷ [])
     by true = of_size (omega arith) (op_then (short_rri flags Addi rd r o) (rri_sized flags Addi rd r o).even nothing)
     by false = of_size (omega arith) (sum_then flags rd r o nothing)
-addresses flags rd (AtLabel l) = record { plain = tt; long = refl; within = lit≤ tt; uses = λ allocated start. refl; traps = λ start. refl; names = λ named. refl; closed = λ here start. (tt, (tt, tt)) }
-addresses flags rd (AtConstant k) = record { plain = tt; long = refl; within = lit≤ tt; uses = λ allocated start. refl; traps = λ start. refl; names = λ named. refl; closed = λ here start. (tt, (tt, tt)) }
+addresses flags rd (AtLabel l) = record { plain = tt; long = refl; within = lit≤ tt; uses = λ allocated start. refl; records = λ start. refl; names = λ named. refl; closed = λ here start. (tt, (tt, tt)) }
+addresses flags rd (AtConstant k) = record { plain = tt; long = refl; within = lit≤ tt; uses = λ allocated start. refl; records = λ start. refl; names = λ named. refl; closed = λ here start. (tt, (tt, tt)) }
 
 loaded : (flags : IsaFlags) (rd : ℕ) (op : LoadOP) (trap : Option TrapCode) (at : Location) → AreCounted (load_size_at flags op rd at) (load_own_size flags op rd at) (uses_at at) trap (constant_at at) (load_slots flags rd op trap at)
 loaded flags rd op trap (Based r o) = based flags (short_load flags op rd r o) (decoded_load op rd 31 (pos 0)) trap r o (load_sized flags op rd r o).even refl
-loaded flags rd op None (AtLabel l) = record { plain = tt; long = refl; within = lit≤ tt; uses = λ allocated start. refl; traps = λ start. refl; names = λ named. refl; closed = λ here start. (tt, (tt, tt)) }
-loaded flags rd op None (AtConstant k) = record { plain = tt; long = refl; within = lit≤ tt; uses = λ allocated start. refl; traps = λ start. refl; names = λ named. refl; closed = λ here start. (tt, (tt, tt)) }
-loaded flags rd op (Some code) (AtLabel l) = record { plain = tt; long = refl; within = lit≤ tt; uses = λ allocated start. refl; traps = λ start. let e : start + 4 ≡ start + 8 - 4 = omega arith in ap (trap_at code) e; names = λ named. refl; closed = λ here start. (tt, (tt, tt)) }
-loaded flags rd op (Some code) (AtConstant k) = record { plain = tt; long = refl; within = lit≤ tt; uses = λ allocated start. refl; traps = λ start. let e : start + 4 ≡ start + 8 - 4 = omega arith in ap (trap_at code) e; names = λ named. refl; closed = λ here start. (tt, (tt, tt)) }
+loaded flags rd op None (AtLabel l) = record { plain = tt; long = refl; within = lit≤ tt; uses = λ allocated start. refl; records = λ start. refl; names = λ named. refl; closed = λ here start. (tt, (tt, tt)) }
+loaded flags rd op None (AtConstant k) = record { plain = tt; long = refl; within = lit≤ tt; uses = λ allocated start. refl; records = λ start. refl; names = λ named. refl; closed = λ here start. (tt, (tt, tt)) }
+loaded flags rd op (Some code) (AtLabel l) = record { plain = tt; long = refl; within = lit≤ tt; uses = λ allocated start. refl; records = λ start. let e : start + 4 ≡ start + 8 - 4 = omega arith in ap (trap_at code) e; names = λ named. refl; closed = λ here start. (tt, (tt, tt)) }
+loaded flags rd op (Some code) (AtConstant k) = record { plain = tt; long = refl; within = lit≤ tt; uses = λ allocated start. refl; records = λ start. let e : start + 4 ≡ start + 8 - 4 = omega arith in ap (trap_at code) e; names = λ named. refl; closed = λ here start. (tt, (tt, tt)) }
 
 stored : (flags : IsaFlags) (op : StoreOP) (src : ℕ) (trap : Option TrapCode) (at : Location) → AreCounted (store_size_at flags op src at) (store_own_size flags op src at) (uses_at at) trap (constant_at at) (store_slots flags op src trap at)
 stored flags op src trap (Based r o) = based flags (short_store flags op r src o) (decoded_store op 31 src (pos 0)) trap r o (store_sized flags op r src o).even refl
-stored flags op src None (AtLabel l) = record { plain = tt; long = refl; within = lit≤ tt; uses = λ allocated start. refl; traps = λ start. refl; names = λ named. refl; closed = λ here start. (tt, (tt, (refl, tt))) }
-stored flags op src None (AtConstant k) = record { plain = tt; long = refl; within = lit≤ tt; uses = λ allocated start. refl; traps = λ start. refl; names = λ named. refl; closed = λ here start. (tt, (tt, (refl, tt))) }
-stored flags op src (Some code) (AtLabel l) = record { plain = tt; long = refl; within = lit≤ tt; uses = λ allocated start. refl; traps = λ start. let e : start + 4 + 4 ≡ start + 12 - 4 = omega arith in ap (trap_at code) e; names = λ named. refl; closed = λ here start. (tt, (tt, (refl, tt))) }
-stored flags op src (Some code) (AtConstant k) = record { plain = tt; long = refl; within = lit≤ tt; uses = λ allocated start. refl; traps = λ start. let e : start + 4 + 4 ≡ start + 12 - 4 = omega arith in ap (trap_at code) e; names = λ named. refl; closed = λ here start. (tt, (tt, (refl, tt))) }
+stored flags op src None (AtLabel l) = record { plain = tt; long = refl; within = lit≤ tt; uses = λ allocated start. refl; records = λ start. refl; names = λ named. refl; closed = λ here start. (tt, (tt, (refl, tt))) }
+stored flags op src None (AtConstant k) = record { plain = tt; long = refl; within = lit≤ tt; uses = λ allocated start. refl; records = λ start. refl; names = λ named. refl; closed = λ here start. (tt, (tt, (refl, tt))) }
+stored flags op src (Some code) (AtLabel l) = record { plain = tt; long = refl; within = lit≤ tt; uses = λ allocated start. refl; records = λ start. let e : start + 4 + 4 ≡ start + 12 - 4 = omega arith in ap (trap_at code) e; names = λ named. refl; closed = λ here start. (tt, (tt, (refl, tt))) }
+stored flags op src (Some code) (AtConstant k) = record { plain = tt; long = refl; within = lit≤ tt; uses = λ allocated start. refl; records = λ start. let e : start + 4 + 4 ≡ start + 12 - 4 = omega arith in ap (trap_at code) e; names = λ named. refl; closed = λ here start. (tt, (tt, (refl, tt))) }
 
 -- ---- each instruction
 
-pub summed_by : {context : Context} {inst : Inst} {slots : List Slot} {size last : ℕ} {own : ℕ → List (Use LabelUse)} {trap : Option TrapCode} {constant : Option VCodeConstant} → AreCounted size last own trap constant slots → extent_of context inst ≡ Words size → ((start : ℕ) → own start ≡ uses_in context start inst) → ((start end : ℕ) → access_traps (end - last) trap ≡ inst_traps context start end inst) → constant ≡ inst_constant inst → IsSummed context inst slots
-summed_by {context} {inst} {slots} {size} {last} {own} {trap} c long uses traps constant = record {
+pub summed_by : {context : Context} {inst : Inst} {slots : List Slot} {size last : ℕ} {own : ℕ → List (Use LabelUse)} {trap : Option TrapCode} {constant : Option VCodeConstant} → AreCounted size last own trap constant slots → extent_of context inst ≡ Words size → ((start : ℕ) → own start ≡ uses_in context start inst) → ((start end : ℕ) → access_records (end - last) trap ≡ inst_records context start end inst) → constant ≡ inst_constant inst → IsSummed context inst slots
+summed_by {context} {inst} {slots} {size} {last} {own} {trap} c long uses records constant = record {
   plain = c.plain;
   long = long ∙ ap Words c.long;
   uses = λ allocated start. c.uses allocated start ∙ uses start;
-  traps = λ start. c.traps start ∙ ap (λ n. access_traps (start + n - last) trap) c.long ∙ traps start (start + size_of slots);
+  records = λ start. c.records start ∙ ap (λ n. access_records (start + n - last) trap) c.long ∙ records start (start + size_of slots);
   names = λ named. c.names named ∙ ap (λ o. named_by o named) constant;
 }
 

@@ -30,7 +30,7 @@ abbrev pub AreUsable : List Reg → Type 0
 AreUsable [] = Unit {0}
 AreUsable (r ∷ rs) = IsUsable r × AreUsable rs
 
-or_left : (a b : Bool) → (a || b) ≡ false → a ≡ false
+pub or_left : (a b : Bool) → (a || b) ≡ false → a ≡ false
 or_left true b e = e
 or_left false b e = refl
 

@@ -7,7 +7,7 @@ use Rattle.rv_inst.specs.declared.label_use.LabelUse.TheVariants.{Jal20, PCRel32
 use Rattle.rv_inst.specs.LabelUse.{label_kinds, marks_of}
 use Rattle.rv_inst.specs.Uses.{use_at}
 use Rattle.mach_buffer.specs.declared.uses.Use.{Use}
-use Rattle.mach_buffer.specs.Shape.{Shape, with_allocated}
+use Rattle.mach_buffer.specs.Shape.{Shape, with_bytes, with_allocated}
 use Rattle.mach_buffer.specs.Windows.{AreWindows}
 use Rattle.mach_buffer.specs.Links.{HasVeneer, IsLinked}
 use Rattle.mach_buffer.specs.Growth.{Lasts}
@@ -15,20 +15,22 @@ use Rattle.mach_buffer.specs.Constants.{AllStand}
 use Rattle.mach_buffer.specs.Buffer.{shape_of, bytes_of, allocated_of}
 use Rattle.mach_buffer.proofs.Laws.{append_each, slice_get-append, take_front, window_stays, lasts_same, lasts_more, lasts_allocated, windows_with_bytes, windows_with_use, stands_last}
 use Rattle.std.specs.Prelude.{Option}
-use Rattle.rv_emit.specs.Slots.{Slot, slot_size, Op, Aim, Data, Traps, Names, Allocate, Here, Part, Ask, Slots, Label, label_of, AreClosed, AreBlocks}
-use Rattle.rv_emit.specs.Puts.{PutsSlot, Puts}
+use Rattle.rv_emit.specs.Slots.{Slot, slot_size, Op, Aim, Data, Notes, Names, Allocate, Here, Fill, Address, Part, Ask, Slots, Label, label_of, AreClosed, AreBlocks}
+use Rattle.rv_emit.specs.Puts.{eight_zeros, PutsSlot, Puts}
+use Rattle.rv_emit.specs.Images.{FieldsEnd, FieldsStand}
 use Rattle.rv_emit.specs.InstParts.{wide_jump_to}
 use Rattle.rv_emit.specs.Emitted.{Buffer, IsSoundBuffer, HasWindows, AppendsIsland, IslandIfNeeded}
 use Rattle.rv_emit.specs.Emission.{PutsParts}
 use Rattle.rv_emit.specs.Standing.{SlotsIn, IslandIn, GapStandsIn, PartsIn}
 use Rattle.rv_emit.specs.ConstantsAdded.{AddsConstants}
 use Rattle.rv_emit.proofs.ConstantsAdded.{adds_both, adds_none, adds_same}
+use Rattle.rv_emit.proofs.Fields.{puts_fields, island_fields}
 use Rattle.rv_emit.proofs.PutsLast.{slot_bytes, puts_last, puts_bytes, puts_constants}
 
 -- ---- what stands stays
 
 slots_in_last : {flags : IsaFlags} {slots : List Slot} {f g : Shape LabelUse} (start end : ℕ) → SlotsIn flags slots f start end → Lasts label_kinds f g → SlotsIn flags slots g start end
-slots_in_last start end q l = record { old = q.old; new = q.new; puts = q.puts; windows = q.windows; starts = q.starts; ends = q.ends; lasts = lasts_more q.lasts l }
+slots_in_last start end q l = record { old = q.old; new = q.new; puts = q.puts; windows = q.windows; fields = q.fields; starts = q.starts; ends = q.ends; lasts = lasts_more q.lasts l }
 
 pub gap_last : {flags : IsaFlags} {f g : Shape LabelUse} (from to : ℕ) → GapStandsIn flags f from to → Lasts label_kinds f g → GapStandsIn flags g from to
 gap_last from to (inl e) l = inl e
@@ -90,20 +92,27 @@ slot_well flags allocated (Aim kind target ops) s t even (window, is, e) w =
       linked = linked_bytes s.bytes window (s.uses ++ u ∷ []) (linked_use s.bytes s.uses u refl (omega arith) w.linked);
     })
 slot_well flags allocated (Data bytes) s t even e w = subst StandWell (sym e) (record { windows = windows_with_bytes s w.windows bytes; linked = linked_bytes s.bytes bytes s.uses w.linked })
-slot_well flags allocated (Traps code) s t even e w = subst StandWell (sym e) (record { windows = w.windows; linked = w.linked })
+slot_well flags allocated (Notes event) s t even (asks, e) w = subst StandWell (sym e) (record { windows = w.windows; linked = w.linked })
 slot_well flags allocated (Names k) s t even e w = subst StandWell (sym e) (record { windows = w.windows; linked = w.linked })
 slot_well flags allocated Allocate s t even e w = subst StandWell (sym e) (record { windows = w.windows; linked = w.linked })
 slot_well flags allocated (Here k) s t even (unbound, e) w = subst StandWell (sym e) (record { windows = w.windows; linked = w.linked })
+slot_well flags allocated (Fill symbol upper lower) s t even (first, second, hi, lo, e) w = subst StandWell (sym e) (record {
+  windows = windows_with_bytes (with_bytes first s) (windows_with_bytes s w.windows first) second;
+  linked = linked_bytes (s.bytes ++ first) second s.uses (linked_bytes s.bytes first s.uses w.linked);
+})
+slot_well flags allocated (Address name addend) s t even e w = subst StandWell (sym e) (record { windows = windows_with_bytes s w.windows eight_zeros; linked = linked_bytes s.bytes eight_zeros s.uses w.linked })
 
 -- a piece of a block has an even length
 even_after : (here : ℕ → Option ℕ) (at : ℕ) (slot : Slot) (slots : List Slot) → AreClosed here at (slot ∷ slots) → (slot_size slot % 2 ≡ 0) × ((n : ℕ) × AreClosed here n slots)
 even_after here at (Op d) slots c = (c.0, (at + d.len, c.1))
 even_after here at (Aim kind target ops) slots c = (even_marks kind, (at + length (marks_of kind), c.1))
 even_after here at (Data bytes) slots c = (c.0, (at + length bytes, c.1))
-even_after here at (Traps code) slots c = (refl, (at, c))
+even_after here at (Notes event) slots c = (refl, (at, c))
 even_after here at (Names k) slots c = (refl, (at, c))
 even_after here at Allocate slots c = (refl, (at, c))
 even_after here at (Here k) slots c = (refl, (at, c))
+even_after here at (Fill symbol upper lower) slots c = (refl, (at + 8, c))
+even_after here at (Address name addend) slots c = (refl, (at + 8, c))
 
 puts_well : (flags : IsaFlags) (allocated : ℕ) (slots : List Slot) (here : ℕ → Option ℕ) (at : ℕ) (s t : Shape LabelUse) → AreClosed here at slots → length s.bytes % 2 ≡ 0 → Puts flags allocated slots s t → StandWell s → StandWell t
 puts_well flags allocated [] here at s t c even p w = subst StandWell (sym p) w
@@ -119,19 +128,21 @@ puts_well flags allocated (slot ∷ slots) here at s t c even (m, first, rest) w
 pub record GapPut (flags : IsaFlags) (old new : Buffer) : Type 0 where
   pub gap : GapStandsIn flags (shape_of new) (length (bytes_of old)) (length (bytes_of new))
   pub windows : HasWindows new
+  pub fields : FieldsStand (shape_of new)
   pub constants : AllStand label_kinds (shape_of old) → AllStand label_kinds (shape_of new)
   pub adds : AddsConstants (shape_of old) (shape_of new)
   pub lasts : Lasts label_kinds (shape_of old) (shape_of new)
   pub sound : IsSoundBuffer new
 
-island_in : (flags : IsaFlags) (old new : Buffer) → HasWindows old → (p : AppendsIsland old new) → IslandIn flags (shape_of new) (length (bytes_of old)) (length (bytes_of new))
-island_in flags old new w p = record {
+island_in : (flags : IsaFlags) (old new : Buffer) → HasWindows old → FieldsEnd (shape_of old) → (p : AppendsIsland old new) → IslandIn flags (shape_of new) (length (bytes_of old)) (length (bytes_of new))
+island_in flags old new w ends p = record {
   after_island = p.after_island;
   jump = record {
     old = with_allocated (shape_of old);
     new = p.jumped;
     puts = p.puts flags;
     windows = w;
+    fields = ends;
     starts = refl;
     ends = sym (puts_bytes flags (allocated_of old + 1) (wide_jump_to (Label p.after_island) ∷ []) (with_allocated (shape_of old)) p.jumped (p.puts flags));
     lasts = p.lasts;
@@ -140,14 +151,15 @@ island_in flags old new w p = record {
   longer = p.longer;
 }
 
-pub gap_put : (flags : IsaFlags) (distance : ℕ) (old new : Buffer) (made : Bool) → IsSoundBuffer old → HasWindows old → IslandIfNeeded distance old new made → GapPut flags old new
-gap_put flags distance old new made s w r = on r.put
+pub gap_put : (flags : IsaFlags) (distance : ℕ) (old new : Buffer) (made : Bool) → IsSoundBuffer old → HasWindows old → FieldsStand (shape_of old) → IslandIfNeeded distance old new made → GapPut flags old new
+gap_put flags distance old new made s w f r = on r.put
   where
     on : ((made ≡ false) × (new ≡ old)) ⊎ ((made ≡ true) × AppendsIsland old new) → GapPut flags old new
-    on (inl (e, same)) = subst (GapPut flags old) (sym same) (record { gap = inl refl; windows = w; constants = λ all. all; adds = adds_same (shape_of old); lasts = lasts_same label_kinds (shape_of old); sound = s })
+    on (inl (e, same)) = subst (GapPut flags old) (sym same) (record { gap = inl refl; windows = w; fields = f; constants = λ all. all; adds = adds_same (shape_of old); lasts = lasts_same label_kinds (shape_of old); sound = s })
     on (inr (e, p)) = record {
-      gap = inr (island_in flags old new w p);
+      gap = inr (island_in flags old new w f.ends p);
       windows = p.windows w;
+      fields = island_fields old new p f;
       constants = λ all. p.constants w all;
       adds = p.adds;
       lasts = lasts_more (lasts_allocated label_kinds (shape_of old)) (lasts_more (puts_last flags (allocated_of old + 1) (wide_jump_to (Label p.after_island) ∷ []) (with_allocated (shape_of old)) p.jumped (p.puts flags)) p.lasts);
@@ -160,24 +172,26 @@ gap_put flags distance old new made s w r = on r.put
 pub record PartsPut (flags : IsaFlags) (parts : List Part) (old new : Buffer) : Type 0 where
   pub stand : PartsIn flags parts (shape_of new) (length (bytes_of old)) (length (bytes_of new))
   pub windows : HasWindows new
+  pub fields : FieldsStand (shape_of new)
   pub constants : AllStand label_kinds (shape_of old) → AllStand label_kinds (shape_of new)
   pub adds : AddsConstants (shape_of old) (shape_of new)
   pub lasts : Lasts label_kinds (shape_of old) (shape_of new)
   pub sound : IsSoundBuffer new
 
-pub parts_put : (flags : IsaFlags) (parts : List Part) (old new : Buffer) → AreBlocks parts → IsSoundBuffer old → HasWindows old → PutsParts flags parts old new → PartsPut flags parts old new
-parts_put flags [] old new blocks s w p = subst (PartsPut flags [] old) (sym p) (record { stand = refl; windows = w; constants = λ all. all; adds = adds_same (shape_of old); lasts = lasts_same label_kinds (shape_of old); sound = s })
-parts_put flags (Ask space ∷ parts) old new blocks s w (mid, made, r, rest) =
-    let g = gap_put flags space old mid made s w r in
-    let q = parts_put flags parts mid new blocks g.sound g.windows rest in
-    record { stand = (length (bytes_of mid), gap_last _ _ g.gap q.lasts, q.stand); windows = q.windows; constants = λ all. q.constants (g.constants all); adds = adds_both g.adds q.adds; lasts = lasts_more g.lasts q.lasts; sound = q.sound }
-parts_put flags (Slots slots ∷ parts) old new blocks s w (mid, p, rest) =
+pub parts_put : (flags : IsaFlags) (parts : List Part) (old new : Buffer) → AreBlocks parts → IsSoundBuffer old → HasWindows old → FieldsStand (shape_of old) → PutsParts flags parts old new → PartsPut flags parts old new
+parts_put flags [] old new blocks s w f p = subst (PartsPut flags [] old) (sym p) (record { stand = refl; windows = w; fields = f; constants = λ all. all; adds = adds_same (shape_of old); lasts = lasts_same label_kinds (shape_of old); sound = s })
+parts_put flags (Ask space ∷ parts) old new blocks s w f (mid, made, r, rest) =
+    let g = gap_put flags space old mid made s w f r in
+    let q = parts_put flags parts mid new blocks g.sound g.windows g.fields rest in
+    record { stand = (length (bytes_of mid), gap_last _ _ g.gap q.lasts, q.stand); windows = q.windows; fields = q.fields; constants = λ all. q.constants (g.constants all); adds = adds_both g.adds q.adds; lasts = lasts_more g.lasts q.lasts; sound = q.sound }
+parts_put flags (Slots slots ∷ parts) old new blocks s w f (mid, p, rest) =
     let well = puts_well flags (allocated_of old) slots _ 0 (shape_of old) (shape_of mid) blocks.0 s.even p.puts (record { windows = w; linked = s.linked }) in
-    let q = parts_put flags parts mid new blocks.1 p.sound well.windows rest in
+    let q = parts_put flags parts mid new blocks.1 p.sound well.windows (puts_fields flags (allocated_of old) slots (shape_of old) (shape_of mid) p.puts w.inside f) rest in
     let lasts = puts_last flags (allocated_of old) slots (shape_of old) (shape_of mid) p.puts in
     record {
-      stand = (length (bytes_of mid), record { old = shape_of old; new = shape_of mid; puts = p.puts; windows = w; starts = refl; ends = refl; lasts = q.lasts }, q.stand);
+      stand = (length (bytes_of mid), record { old = shape_of old; new = shape_of mid; puts = p.puts; windows = w; fields = f.ends; starts = refl; ends = refl; lasts = q.lasts }, q.stand);
       windows = q.windows;
+      fields = q.fields;
       constants = λ all. q.constants (stands_last lasts (puts_constants flags (allocated_of old) slots (shape_of old) (shape_of mid) p.puts) all);
       adds = adds_both (adds_none lasts.grows.longer (puts_constants flags (allocated_of old) slots (shape_of old) (shape_of mid) p.puts) lasts.registered) q.adds;
       lasts = lasts_more lasts q.lasts;

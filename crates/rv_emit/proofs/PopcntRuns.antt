@@ -1,5 +1,5 @@
 -- The ones of a register are counted, from the highest of its low bits on.
-use Rattle.std.proofs.Common.{◌≡◌, ℕ, zero, suc, ◌+◌, ◌-◌, ◌*◌, ◌/◌, ◌^◌, ◌<◌, ◌≤◌, pos, true, false, [], ◌∷◌, List, map, Some, arith, refl, ap, subst, ◌∙◌, lit≤}
+use Rattle.std.proofs.Common.{◌≡◌, ℕ, zero, suc, ◌+◌, ◌*◌, ◌/◌, ◌^◌, ◌<◌, ◌≤◌, pos, true, false, [], ◌∷◌, List, map, Some, arith, refl, ap, subst, ◌∙◌, lit≤}
 use Rattle.std.specs.Prelude.{nat_eq, if◌then◌else◌, ◌-ℤ◌}
 use Rattle.std.specs.Int.{bit_at}
 use Rattle.std.proofs.lemmas.Nat.{pow_pos}

@@ -17,7 +17,7 @@ use Rattle.rv_inst.specs.Context.{Context}
 use Rattle.rv_machine.specs.Arithmetic.{low_word}
 use Rattle.rv_inst.specs.declared.inst.CondBrTarget.{CondBrTarget}
 use Rattle.rv_inst.specs.declared.inst.Inst.{Inst}
-use Rattle.rv_inst.specs.declared.inst.Inst.TheVariants.{Nop0, Nop4, EBreak, SequencePoint, Args, Rets, DummyUse, EmitIsland, RawData, Lui, Auipc, LoadInlineConst, AluRRR, AluRRImm12, Mov, MovFromPReg, Extend, Select, Load, Store, LoadAddr, LabelAddress, Ret, TrapIf, Jal, CondBr, BrTable, Udf, Jalr, Popcnt, Cltz, Brev8, StackProbeLoop}
+use Rattle.rv_inst.specs.declared.inst.Inst.TheVariants.{Nop0, Nop4, EBreak, SequencePoint, Args, Rets, DummyUse, EmitIsland, RawData, Lui, Auipc, LoadInlineConst, AluRRR, AluRRImm12, Mov, MovFromPReg, Extend, Select, Load, Store, LoadAddr, LabelAddress, Ret, TrapIf, Jal, CondBr, BrTable, Udf, Jalr, Popcnt, Cltz, Brev8, StackProbeLoop, LoadExtNameGot, LoadExtNameNear, LoadExtNameFar, Unwind}
 use Rattle.rv_inst.specs.Rules.{is_word_type, inst_rule}
 use Rattle.rv_base.specs.declared.ir_type.IrType.{IrType}
 use Rattle.rv_base.specs.declared.ir_type.IrType.TheVariants.{I32, I64}
@@ -218,6 +218,10 @@ short context (Popcnt sum tmp step rs type) rule asks = count_short context.flag
 short context (Cltz sum tmp step rs leading type) rule asks = zeros_short context.flags leading (number_of sum.reg) (number_of tmp.reg) (number_of step.reg) (number_of rs) (bits_of type)
 short context (Brev8 rs type step tmp tmp2 rd) rule asks = reverse_short context.flags (number_of rd.reg) (number_of tmp.reg) (number_of tmp2.reg) (number_of step.reg) (number_of rs) (bits_of type)
 short context (StackProbeLoop guard_size probe_count tmp) rule asks = probe_short context.flags (number_of tmp.reg) (low_word guard_size) (low_word probe_count)
+short context (LoadExtNameGot rd name) rule asks = omega arith
+short context (LoadExtNameNear rd name offset) rule asks = omega arith
+short context (LoadExtNameFar rd name offset) rule asks = let few = least_few context.flags in omega arith
+short context (Unwind inst) rule asks = omega arith
 
 -- as many bytes more as it is long
 pub bytes_put : (context : Context) (inst : Inst) (old new : Buffer) → AppendsInst context inst old new → length (bytes_of new) ≡ length (bytes_of old) + words_in (extent_of context inst)

@@ -104,7 +104,7 @@ reverse_summed context rs type step tmp tmp2 rd = record {
       let e : reverse_size context.flags (number_of rd.reg) (number_of tmp.reg) (number_of tmp2.reg) (number_of step.reg) (number_of rs) (bits_of type) ≡ size_of (reverse_slots context.flags (number_of rd.reg) (number_of tmp.reg) (number_of tmp2.reg) (number_of step.reg) (number_of rs) (bits_of type)) = omega arith in
       ap Words e;
   uses = λ allocated start. refl;
-  traps = λ start. refl;
+  records = λ start. refl;
   names = λ named. refl;
 }
 

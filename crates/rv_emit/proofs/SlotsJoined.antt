@@ -15,7 +15,8 @@ use Rattle.rv_encode.specs.Operations.{decoded_branch}
 use Rattle.rv_inst.specs.declared.label_use.LabelUse.{LabelUse}
 use Rattle.rv_inst.specs.LabelUse.{label_kinds}
 use Rattle.mach_buffer.specs.Buffer.{shape_of, bytes_of, allocated_of}
-use Rattle.mach_buffer.specs.Shape.{Shape, IsUsable, with_bytes, with_trap}
+use Rattle.mach_buffer.specs.declared.records.Event.TheVariants as event
+use Rattle.mach_buffer.specs.Shape.{Shape, IsUsable, with_bytes, with_record}
 use Rattle.mach_buffer.specs.Growth.{Lasts}
 use Rattle.rv_emit.specs.Emitted.{Buffer, IsSoundBuffer}
 use Rattle.rv_emit.specs.Emission.{PutsAlone}
@@ -60,8 +61,8 @@ alone_usable {flags} slots old new label q usable = subst (λ (b : Buffer). IsUs
 pub bytes_put : (flags : IsaFlags) (old new : Buffer) (bytes : List ℕ) → shape_of new ≡ with_bytes bytes (shape_of old) → IsSoundBuffer new → PutsAlone flags (Data bytes ∷ []) old new
 bytes_put flags old new bytes put sound = alone (record { puts = (shape_of new, put, refl); sound = sound })
 
-pub trap_put : (flags : IsaFlags) (old mid new : Buffer) (code : TrapCode) (bytes : List ℕ) → bytes ≡ trap_bytes flags → shape_of mid ≡ with_trap code (shape_of old) → shape_of new ≡ with_bytes bytes (shape_of mid) → IsSoundBuffer new → PutsAlone flags (trap_slots flags code) old new
-trap_put flags old mid new code bytes are recorded put sound = alone (record { puts = (shape_of mid, recorded, (shape_of new, put ∙ ap (λ b. with_bytes b (shape_of mid)) are, refl)); sound = sound })
+pub trap_put : (flags : IsaFlags) (old mid new : Buffer) (code : TrapCode) (bytes : List ℕ) → bytes ≡ trap_bytes flags → shape_of mid ≡ with_record (event.Trap code) (shape_of old) → shape_of new ≡ with_bytes bytes (shape_of mid) → IsSoundBuffer new → PutsAlone flags (trap_slots flags code) old new
+trap_put flags old mid new code bytes are recorded put sound = alone (record { puts = (shape_of mid, (tt, recorded), (shape_of new, put ∙ ap (λ b. with_bytes b (shape_of mid)) are, refl)); sound = sound })
 
 -- the bytes by the flags
 pub half_trap : (flags : IsaFlags) → flags.has_zca ≡ true → 0 ∷ 0 ∷ [] ≡ trap_bytes flags

@@ -30,7 +30,7 @@ use Rattle.rv_emit.specs.Emission.{PutsSlots, EmitsIn}
 use Rattle.rv_emit.specs.Emitted.{Buffer, pending, IsFarUse, AppendsInst, IslandIfNeeded, CanEmit}
 use Rattle.rv_emit.specs.Immediates.{upper_of, lower_of}
 use Rattle.rv_emit.specs.InstParts.{inline_slots, number_slots, table_slots, parts_of}
-use Rattle.rv_emit.specs.Slots.{Target, Label, Own, Ask, Slots, Slot, Op, Aim, Data, Traps, Names, Allocate, Here, size_of, parts_size, uses_of, traps_of, names_of}
+use Rattle.rv_emit.specs.Slots.{Target, Label, Own, Ask, Slots, Slot, Op, Aim, Data, Notes, Names, Allocate, Here, Fill, Address, size_of, parts_size, uses_of, records_of, names_of}
 use Rattle.rv_emit.specs.Standing.{GapStandsIn, PartsIn}
 use Rattle.rv_emit.specs.Tables.{far_jump, jump_slots}
 use Rattle.rv_emit.proofs.FineOperands.{fine}
@@ -56,30 +56,36 @@ AreFar labels [] = Unit {0}
 AreFar labels (Op d ∷ slots) = AreFar labels slots
 AreFar labels (Aim kind target ops ∷ slots) = IsFarAim labels kind target × AreFar labels slots
 AreFar labels (Data bytes ∷ slots) = AreFar labels slots
-AreFar labels (Traps code ∷ slots) = ⊥
+AreFar labels (Notes event ∷ slots) = ⊥
 AreFar labels (Names k ∷ slots) = ⊥
 AreFar labels (Allocate ∷ slots) = ⊥
 AreFar labels (Here k ∷ slots) = ⊥
+AreFar labels (Fill symbol upper lower ∷ slots) = ⊥
+AreFar labels (Address name addend ∷ slots) = ⊥
 
 far_both : (labels : List MachLabel) (slots more : List Slot) → AreFar labels slots → AreFar labels more → AreFar labels (slots ++ more)
 far_both labels [] more a b = b
 far_both labels (Op d ∷ slots) more a b = far_both labels slots more a b
 far_both labels (Aim kind target ops ∷ slots) more a b = (a.0, far_both labels slots more a.1 b)
 far_both labels (Data bytes ∷ slots) more a b = far_both labels slots more a b
-far_both labels (Traps code ∷ slots) more a b = absurd a
+far_both labels (Notes event ∷ slots) more a b = absurd a
 far_both labels (Names k ∷ slots) more a b = absurd a
 far_both labels (Allocate ∷ slots) more a b = absurd a
 far_both labels (Here k ∷ slots) more a b = absurd a
+far_both labels (Fill symbol upper lower ∷ slots) more a b = absurd a
+far_both labels (Address name addend ∷ slots) more a b = absurd a
 
 far_plain : (labels : List MachLabel) (slots : List Slot) → AreFar labels slots → IsPlain slots
 far_plain labels [] a = tt
 far_plain labels (Op d ∷ slots) a = far_plain labels slots a
 far_plain labels (Aim kind target ops ∷ slots) a = far_plain labels slots a.1
 far_plain labels (Data bytes ∷ slots) a = far_plain labels slots a
-far_plain labels (Traps code ∷ slots) a = absurd a
+far_plain labels (Notes event ∷ slots) a = absurd a
 far_plain labels (Names k ∷ slots) a = absurd a
 far_plain labels (Allocate ∷ slots) a = absurd a
 far_plain labels (Here k ∷ slots) a = absurd a
+far_plain labels (Fill symbol upper lower ∷ slots) a = absurd a
+far_plain labels (Address name addend ∷ slots) a = absurd a
 
 far_use : (labels : List MachLabel) (allocated at : ℕ) (label : MachLabel) (kind : LabelUse) → kind ≡ PCRel32 → IsIn labels label → IsFarUse labels (use_at at label kind)
 far_use labels allocated at label kind is i = subst (λ k. IsFarUse labels (use_at at label k)) (sym is) (record { far = refl; direct = refl; bare = refl; index = i.index; names = i.there })
@@ -90,30 +96,36 @@ far_uses labels allocated at (Op d ∷ slots) a = far_uses labels allocated (at 
 far_uses labels allocated at (Aim kind (Label label) ops ∷ slots) a = each_more (IsFarUse labels) _ (uses_of allocated (at + length (marks_of kind)) slots) (far_use labels allocated at label kind a.0.0 a.0.1) (far_uses labels allocated (at + length (marks_of kind)) slots a.1)
 far_uses labels allocated at (Aim kind (Own k) ops ∷ slots) a = absurd a.0
 far_uses labels allocated at (Data bytes ∷ slots) a = far_uses labels allocated (at + length bytes) slots a
-far_uses labels allocated at (Traps code ∷ slots) a = absurd a
+far_uses labels allocated at (Notes event ∷ slots) a = absurd a
 far_uses labels allocated at (Names k ∷ slots) a = absurd a
 far_uses labels allocated at (Allocate ∷ slots) a = absurd a
 far_uses labels allocated at (Here k ∷ slots) a = absurd a
+far_uses labels allocated at (Fill symbol upper lower ∷ slots) a = absurd a
+far_uses labels allocated at (Address name addend ∷ slots) a = absurd a
 
-far_traps : (labels : List MachLabel) (at : ℕ) (slots : List Slot) → AreFar labels slots → traps_of at slots ≡ []
-far_traps labels at [] a = refl
-far_traps labels at (Op d ∷ slots) a = far_traps labels (at + d.len) slots a
-far_traps labels at (Aim kind target ops ∷ slots) a = far_traps labels (at + length (marks_of kind)) slots a.1
-far_traps labels at (Data bytes ∷ slots) a = far_traps labels (at + length bytes) slots a
-far_traps labels at (Traps code ∷ slots) a = absurd a
-far_traps labels at (Names k ∷ slots) a = absurd a
-far_traps labels at (Allocate ∷ slots) a = absurd a
-far_traps labels at (Here k ∷ slots) a = absurd a
+far_records : (labels : List MachLabel) (at : ℕ) (slots : List Slot) → AreFar labels slots → records_of at slots ≡ []
+far_records labels at [] a = refl
+far_records labels at (Op d ∷ slots) a = far_records labels (at + d.len) slots a
+far_records labels at (Aim kind target ops ∷ slots) a = far_records labels (at + length (marks_of kind)) slots a.1
+far_records labels at (Data bytes ∷ slots) a = far_records labels (at + length bytes) slots a
+far_records labels at (Notes event ∷ slots) a = absurd a
+far_records labels at (Names k ∷ slots) a = absurd a
+far_records labels at (Allocate ∷ slots) a = absurd a
+far_records labels at (Here k ∷ slots) a = absurd a
+far_records labels at (Fill symbol upper lower ∷ slots) a = absurd a
+far_records labels at (Address name addend ∷ slots) a = absurd a
 
 far_names : (labels : List MachLabel) (named : List VCodeConstant) (slots : List Slot) → AreFar labels slots → names_of slots named ≡ named
 far_names labels named [] a = refl
 far_names labels named (Op d ∷ slots) a = far_names labels named slots a
 far_names labels named (Aim kind target ops ∷ slots) a = far_names labels named slots a.1
 far_names labels named (Data bytes ∷ slots) a = far_names labels named slots a
-far_names labels named (Traps code ∷ slots) a = absurd a
+far_names labels named (Notes event ∷ slots) a = absurd a
 far_names labels named (Names k ∷ slots) a = absurd a
 far_names labels named (Allocate ∷ slots) a = absurd a
 far_names labels named (Here k ∷ slots) a = absurd a
+far_names labels named (Fill symbol upper lower ∷ slots) a = absurd a
+far_names labels named (Address name addend ∷ slots) a = absurd a
 
 -- ---- those of a table
 
@@ -163,7 +175,7 @@ appends_words context index tmp1 tmp2 targets old new some p = record {
     sound = p.sound;
   };
   table = far_uses targets allocated start slots far;
-  traps = a.traps ∙ ap (λ more. (shape_of old).traps ++ more) (far_traps targets start slots far);
+  records = a.records ∙ ap (λ more. (shape_of old).records ++ more) (far_records targets start slots far);
   named = puts_named flags allocated slots (shape_of old) (shape_of new) p.puts ∙ far_names targets (named_of old) slots far;
   long = sym (table_long flags (number_of index) (number_of tmp1.reg) (number_of tmp2.reg) targets some) ∙ sym a.long;
 }
@@ -183,7 +195,7 @@ appends_words context index tmp1 tmp2 targets old new some p = record {
     far : AreFar targets slots
     far = table_far flags (number_of index) (number_of tmp1.reg) (number_of tmp2.reg) targets
 
-    a : Adds (size_of slots) (uses_of allocated start slots) (traps_of start slots) (shape_of old) (shape_of new)
+    a : Adds (size_of slots) (uses_of allocated start slots) (records_of start slots) (shape_of old) (shape_of new)
     a = plain_adds flags allocated slots (shape_of old) (shape_of new) (far_plain targets slots far) p.puts
 
 pub appends_table : (context : Context) (setting : EmitVState) (index : Reg) (tmp1 tmp2 : Writable Reg) (targets : List MachLabel) (old new : Buffer) → 1 ≤ length targets → EmitsIn context setting (BrTable index tmp1 tmp2 targets) old new → AppendsTable context index tmp1 tmp2 targets old new

@@ -16,7 +16,7 @@ use Rattle.rv_emit.specs.Choices.{extend_slots}
 use Rattle.rv_emit.specs.Immediates.{upper_of, lower_of}
 use Rattle.rv_emit.specs.InstParts.{inline_slots, number_slots, table_slots}
 use Rattle.rv_emit.specs.Operations.{jump_size}
-use Rattle.rv_emit.specs.Slots.{Label, Own, Slot, Op, Aim, Data, Traps, Names, Allocate, Here, AreClosed, IsBlock, size_of}
+use Rattle.rv_emit.specs.Slots.{Label, Own, Slot, Op, Aim, Data, Notes, Names, Allocate, Here, Fill, Address, AreClosed, IsBlock, size_of}
 use Rattle.rv_emit.specs.Tables.{far_jump, jump_slots}
 use Rattle.rv_emit.proofs.AddressRuns.{size_append}
 use Rattle.rv_emit.proofs.NumberSlots.{numbers, number_few as number_most}
@@ -32,10 +32,12 @@ AreEven (Op d ∷ slots) = (d.len % 2 ≡ 0) × AreEven slots
 AreEven (Aim kind (Label label) ops ∷ slots) = AreEven slots
 AreEven (Aim kind (Own k) ops ∷ slots) = ⊥
 AreEven (Data bytes ∷ slots) = (length bytes % 2 ≡ 0) × AreEven slots
-AreEven (Traps code ∷ slots) = AreEven slots
+AreEven (Notes event ∷ slots) = AreEven slots
 AreEven (Names k ∷ slots) = AreEven slots
 AreEven (Allocate ∷ slots) = ⊥
 AreEven (Here k ∷ slots) = ⊥
+AreEven (Fill symbol upper lower ∷ slots) = AreEven slots
+AreEven (Address name addend ∷ slots) = AreEven slots
 
 pub even_plain : (slots : List Slot) → AreEven slots → IsPlain slots
 even_plain [] e = tt
@@ -43,10 +45,12 @@ even_plain (Op d ∷ slots) e = even_plain slots e.1
 even_plain (Aim kind (Label label) ops ∷ slots) e = even_plain slots e
 even_plain (Aim kind (Own k) ops ∷ slots) e = absurd e
 even_plain (Data bytes ∷ slots) e = even_plain slots e.1
-even_plain (Traps code ∷ slots) e = even_plain slots e
+even_plain (Notes event ∷ slots) e = even_plain slots e
 even_plain (Names k ∷ slots) e = even_plain slots e
 even_plain (Allocate ∷ slots) e = absurd e
 even_plain (Here k ∷ slots) e = absurd e
+even_plain (Fill symbol upper lower ∷ slots) e = even_plain slots e
+even_plain (Address name addend ∷ slots) e = even_plain slots e
 
 pub even_closed : (here : ℕ → Option ℕ) (at : ℕ) (slots : List Slot) → AreEven slots → AreClosed here at slots
 even_closed here at [] e = tt
@@ -54,10 +58,12 @@ even_closed here at (Op d ∷ slots) e = (e.0, even_closed here (at + d.len) slo
 even_closed here at (Aim kind (Label label) ops ∷ slots) e = (tt, even_closed here (at + length (marks_of kind)) slots e)
 even_closed here at (Aim kind (Own k) ops ∷ slots) e = absurd e
 even_closed here at (Data bytes ∷ slots) e = (e.0, even_closed here (at + length bytes) slots e.1)
-even_closed here at (Traps code ∷ slots) e = even_closed here at slots e
+even_closed here at (Notes event ∷ slots) e = even_closed here at slots e
 even_closed here at (Names k ∷ slots) e = even_closed here at slots e
 even_closed here at (Allocate ∷ slots) e = absurd e
 even_closed here at (Here k ∷ slots) e = absurd e
+even_closed here at (Fill symbol upper lower ∷ slots) e = even_closed here (at + 8) slots e
+even_closed here at (Address name addend ∷ slots) e = even_closed here (at + 8) slots e
 
 even_both : (slots more : List Slot) → AreEven slots → AreEven more → AreEven (slots ++ more)
 even_both [] more e f = f
@@ -65,10 +71,12 @@ even_both (Op d ∷ slots) more e f = (e.0, even_both slots more e.1 f)
 even_both (Aim kind (Label label) ops ∷ slots) more e f = even_both slots more e f
 even_both (Aim kind (Own k) ops ∷ slots) more e f = absurd e
 even_both (Data bytes ∷ slots) more e f = (e.0, even_both slots more e.1 f)
-even_both (Traps code ∷ slots) more e f = even_both slots more e f
+even_both (Notes event ∷ slots) more e f = even_both slots more e f
 even_both (Names k ∷ slots) more e f = even_both slots more e f
 even_both (Allocate ∷ slots) more e f = absurd e
 even_both (Here k ∷ slots) more e f = absurd e
+even_both (Fill symbol upper lower ∷ slots) more e f = even_both slots more e f
+even_both (Address name addend ∷ slots) more e f = even_both slots more e f
 
 -- ---- the pieces of a branch by a table
 

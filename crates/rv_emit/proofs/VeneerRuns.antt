@@ -136,5 +136,9 @@ via_decodes flags bytes kind u to g fits =
     (subst (λ n. SameOutside (marks_of PCRel32) (veneer_of PCRel32).bytes (window bytes n 8)) same_place g.own)
     (subst (λ n. Aims PCRel32 (window bytes n 8) (pos to -ℤ pos n)) same_place g.on)
 
-pub veneer_leads : (site : Site) (kind : LabelUse) (u : Use LabelUse) (to : ℕ) (g : IsVia label_kinds (veneer_of kind) site.bytes u to) → AllBytes site.bytes → to % 2 ≡ 0 → LeadsOn site g.at to
-veneer_leads site kind u to g fits even = pair_leads site g.at to g.even even g.inside (via_decodes site.context.flags site.bytes kind u to g fits)
+-- where a linker leaves it as it is in the finished code
+pub veneer_leads : (site : Site) (final : List ℕ) (kind : LabelUse) (u : Use LabelUse) (to at : ℕ) (g : IsVia label_kinds (veneer_of kind) final u to) → g.at ≡ at → AllBytes final → length site.bytes ≡ length final → window site.bytes at 8 ≡ window final at 8 → to % 2 ≡ 0 → LeadsOn site at to
+veneer_leads site final kind u to at g here fits long left even =
+    let p = subst (λ n. PairDecodes site.context.flags (veneer_of PCRel32).bytes (window final n 8) (pos to -ℤ pos n)) here (via_decodes site.context.flags final kind u to g fits) in
+    let inside = g.inside in
+    pair_leads site at to (subst (λ (n : ℕ). n % 2 ≡ 0) here g.even) even (omega arith) (subst (λ w. PairDecodes site.context.flags (veneer_of PCRel32).bytes w (pos to -ℤ pos at)) (sym left) p)

@@ -1,5 +1,5 @@
 -- The slots that count zeros: how long they are, and that they are of even pieces.
-use Rattle.std.proofs.Common.{◌≡◌, ℕ, ◌+◌, ◌-◌, ◌≤◌, Bool, true, false, ◌++◌, pos, negsuc, refl, ap, arith, lit≤}
+use Rattle.std.proofs.Common.{◌≡◌, ℕ, ◌-◌, ◌≤◌, Bool, true, false, ◌++◌, pos, negsuc, refl, ap, arith, lit≤}
 use Rattle.std.specs.Prelude.{if◌then◌else◌, ◌-ℤ◌}
 use Rattle.rv_base.specs.declared.flags.IsaFlags.{IsaFlags}
 use Rattle.rv_base.specs.declared.ir_type.IrType.{IrType}
@@ -29,14 +29,14 @@ zeros_summed context sum tmp step rs true type = record {
   plain = tt;
   long = ap Words (zeros_long context.flags true (number_of sum.reg) (number_of tmp.reg) (number_of step.reg) (number_of rs) (bits_of type));
   uses = λ allocated start. refl;
-  traps = λ start. refl;
+  records = λ start. refl;
   names = λ named. refl;
 }
 zeros_summed context sum tmp step rs false type = record {
   plain = tt;
   long = ap Words (zeros_long context.flags false (number_of sum.reg) (number_of tmp.reg) (number_of step.reg) (number_of rs) (bits_of type));
   uses = λ allocated start. refl;
-  traps = λ start. refl;
+  records = λ start. refl;
   names = λ named. refl;
 }
 

@@ -15,13 +15,13 @@ use Rattle.rv_inst.specs.Context.{Context}
 use Rattle.rv_inst.specs.Operands.{table_of, inst_ways, inst_constant}
 use Rattle.rv_inst.specs.Rules.{inst_rule}
 use Rattle.rv_inst.specs.Sizes.{words_in, extent_of, line_space, island_space, inst_sum}
-use Rattle.rv_inst.specs.Traps.{inst_traps}
+use Rattle.rv_inst.specs.Records.{inst_records}
 use Rattle.rv_inst.specs.Uses.{use_at, uses_in}
 use Rattle.mach_buffer.specs.declared.buffer.MachBuffer.{MachBuffer}
 use Rattle.mach_buffer.specs.declared.uses.Use.{Use}
 use Rattle.mach_buffer.specs.Islands.{is_far}
 use Rattle.mach_buffer.specs.Reach.{is_needed}
-use Rattle.mach_buffer.specs.Buffer.{shape_of, bytes_of, uses_of, place_of, labels_of, allocated_of, traps_of, registered_of, named_of, constants_of, pending_of, IsSound}
+use Rattle.mach_buffer.specs.Buffer.{shape_of, bytes_of, uses_of, place_of, labels_of, allocated_of, records_of, registered_of, named_of, constants_of, pending_of, IsSound}
 use Rattle.mach_buffer.specs.Shape.{Shape, with_allocated, name_more}
 use Rattle.mach_buffer.specs.Constants.{reserve_of, AllStand}
 use Rattle.mach_buffer.specs.Growth.{Lasts}
@@ -74,14 +74,14 @@ pub record IsFarUse (labels : List MachLabel) (u : Use LabelUse) : Type 0 where
   pub index : ℕ
   pub names : slice_get labels index ≡ Some u.label
 
--- an instruction's bytes, as many as it is long, its uses, those of its table's labels, and its traps were put at the end, and its
+-- an instruction's bytes, as many as it is long, its uses, those of its table's labels, and its records were put at the end, and its
 -- constant was named
 pub record AppendsInst (context : Context) (inst : Inst) (old new : Buffer) : Type 0 where
   pub code : List ℕ
   pub far : List (Use LabelUse)
   pub adds : AppendsCode code (uses_in context (length (bytes_of old)) inst ++ far) old new
   pub table : (j : ℕ) (u : Use LabelUse) → slice_get far j ≡ Some u → IsFarUse (table_of inst) u
-  pub traps : traps_of new ≡ traps_of old ++ inst_traps context (length (bytes_of old)) (length (bytes_of new)) inst
+  pub records : records_of new ≡ records_of old ++ inst_records context (length (bytes_of old)) (length (bytes_of new)) inst
   pub named : named_of new ≡ named_by (inst_constant inst) (named_of old)
   pub long : words_in (extent_of context inst) ≡ length code
 
@@ -102,7 +102,7 @@ pub record AppendsIsland (old new : Buffer) : Type 0 where
   pub bound : place_of new after_island.number ≡ Some (length (bytes_of new))
   pub places : (label : ℕ) → label < first_constant → label ≢ after_island.number → place_of new label ≡ place_of old label
   pub labels : labels_of new ≡ labels_of old
-  pub traps : traps_of new ≡ traps_of old
+  pub records : records_of new ≡ records_of old
   pub registered : registered_of new ≡ registered_of old
   pub named : named_of new ≡ named_of old
   pub settled : pending new ≡ []

@@ -4,6 +4,7 @@ use Rattle.std.specs.Int.{to_le_bytes, cast_signed, w32, w64}
 use Rattle.rv_base.specs.declared.flags.IsaFlags.{IsaFlags}
 use Rattle.rv_base.specs.declared.ir_type.IrType.{IrType}
 use Rattle.rv_base.specs.declared.label.MachLabel.{MachLabel}
+use Rattle.rv_base.specs.declared.external_name.ExternalName.{ExternalName}
 use Rattle.rv_base.specs.declared.trap.TrapCode.{TrapCode}
 use Rattle.rv_base.specs.IrType.{bits_of}
 use Rattle.rv_base.specs.Regs.{number_of}
@@ -16,7 +17,7 @@ use Rattle.rv_ops.specs.declared.compare.IntegerCompare.{IntegerCompare}
 use Rattle.rv_inst.specs.Context.{Context}
 use Rattle.rv_inst.specs.Sizes.{trap_size, table_space, bit_shift}
 use Rattle.rv_inst.specs.declared.inst.Inst.{Inst}
-use Rattle.rv_inst.specs.declared.inst.Inst.TheVariants.{Nop0, Nop4, EBreak, SequencePoint, Args, Rets, DummyUse, EmitIsland, RawData, Lui, Auipc, LoadInlineConst, AluRRR, AluRRImm12, Mov, MovFromPReg, Extend, Select, Load, Store, LoadAddr, LabelAddress, Ret, TrapIf, Jal, CondBr, BrTable, Udf, Jalr, Popcnt, Cltz, Brev8, StackProbeLoop}
+use Rattle.rv_inst.specs.declared.inst.Inst.TheVariants.{Nop0, Nop4, EBreak, SequencePoint, Args, Rets, DummyUse, EmitIsland, RawData, Lui, Auipc, LoadInlineConst, AluRRR, AluRRImm12, Mov, MovFromPReg, Extend, Select, Load, Store, LoadAddr, LabelAddress, Ret, TrapIf, Jal, CondBr, BrTable, Udf, Jalr, Popcnt, Cltz, Brev8, StackProbeLoop, LoadExtNameGot, LoadExtNameNear, LoadExtNameFar, Unwind}
 use Rattle.rv_inst.specs.declared.inst.CondBrTarget.{CondBrTarget}
 use Rattle.rv_inst.specs.declared.inst.CondBrTarget.TheVariants.{Label as ToLabel, Fallthrough}
 use Rattle.rv_inst.specs.declared.label_use.LabelUse.TheVariants.{Jal20, B12, PCRelHi20, PCRelLo12I}
@@ -29,6 +30,7 @@ use Rattle.rv_machine.specs.Arithmetic.{low_word}
 use Rattle.mach_buffer.specs.Shape.{constant_label}
 use Rattle.rv_inst.specs.Addresses.{Location, Based, AtLabel, AtConstant, location_of, is_near, is_splittable}
 use Rattle.rv_emit.specs.Immediates.{upper_of, lower_of, upper_of_distance, lower_of_distance}
+use Rattle.mach_buffer.specs.declared.records.Event.TheVariants as event
 use Rattle.rv_emit.specs.declared.state.EmitVState.{EmitVState}
 use Rattle.rv_emit.specs.Operations.{decoded_addi, decoded_jump, short_jump, jump_size}
 use Rattle.rv_emit.specs.Counts.{start_ops, turn_ops}
@@ -36,7 +38,7 @@ pub use Rattle.rv_emit.specs.Choices.{complement, move_slots, extend_slots, sele
 use Rattle.rv_emit.specs.Loops.{reverse_start, reverse_turn}
 use Rattle.rv_emit.specs.Probes.{probe_turn}
 use Rattle.rv_emit.specs.Tables.{jump_slots}
-use Rattle.rv_emit.specs.Slots.{Target, Label, Slot, Op, Aim, Data, Traps, Names, Part, Ask, Slots}
+use Rattle.rv_emit.specs.Slots.{AddressOf, SlotOf, Target, Label, Slot, Op, Aim, Data, Notes, Names, Fill, Address, Part, Ask, Slots}
 
 -- ---- jumps
 
@@ -69,7 +71,7 @@ abbrev pub trap_bytes : IsaFlags → List ℕ
 trap_bytes flags = if flags.has_zca then 0 ∷ 0 ∷ [] else 0 ∷ 0 ∷ 0 ∷ 0 ∷ []
 
 abbrev pub trap_slots : IsaFlags → TrapCode → List Slot
-trap_slots flags code = Traps code ∷ Data (trap_bytes flags) ∷ []
+trap_slots flags code = Notes (event.Trap code) ∷ Data (trap_bytes flags) ∷ []
 
 -- a branch over a trap
 abbrev pub branch_over : IsaFlags → IntegerCompare → Slot
@@ -109,7 +111,7 @@ address_slots flags rd (AtConstant k) = Names k ∷ label_slots rd (constant_lab
 -- the trap of an access, where it may trap
 abbrev pub access_slots : Option TrapCode → List Slot
 access_slots None = []
-access_slots (Some code) = Traps code ∷ []
+access_slots (Some code) = Notes (event.Trap code) ∷ []
 
 -- a load from a label: the lower part of its distance is in the load's word
 abbrev pub label_load_slots : ℕ → LoadOP → Option TrapCode → MachLabel → List Slot
@@ -175,6 +177,20 @@ abbrev pub table_slots : IsaFlags → ℕ → ℕ → ℕ → List MachLabel →
 table_slots flags index tmp1 tmp2 [] = []
 table_slots flags index tmp1 tmp2 (default ∷ labels) = extend_slots flags 31 index false 32 ++ number_slots flags tmp2 (pos (length labels)) ++ jump_slots tmp1 tmp2 default labels
 
+-- ---- symbols
+
+-- the address of a symbol's slot by the distance to it, and a load from there
+abbrev pub got_slots : ℕ → ExternalName → List Slot
+got_slots rd name = Fill (SlotOf name) (λ d. row (Base base.Auipc) rd 0 0 (upper_of_distance d) ∷ []) (λ d. decoded_load loads.Ld rd rd (lower_of_distance d) ∷ []) ∷ []
+
+-- the address of a symbol by the distance to it
+abbrev pub near_slots : ℕ → ExternalName → ℤ → List Slot
+near_slots rd name offset = Fill (AddressOf name offset) (λ d. row (Base base.Auipc) rd 0 0 (upper_of_distance d) ∷ []) (λ d. decoded_addi rd rd (lower_of_distance d) ∷ []) ∷ []
+
+-- the address of a symbol from among the code
+abbrev pub far_slots : IsaFlags → ℕ → ExternalName → ℤ → List Slot
+far_slots flags rd name offset = load_over flags rd loads.Ld 8 ++ Address name offset ∷ []
+
 -- slots alone
 abbrev pub slots_alone : List Slot → List Part
 slots_alone slots = Slots slots ∷ []
@@ -214,3 +230,7 @@ parts_of context setting (Popcnt sum tmp step rs type) = slots_alone (count_slot
 parts_of context setting (Cltz sum tmp step rs leading type) = slots_alone (zeros_slots context.flags leading (number_of sum.reg) (number_of tmp.reg) (number_of step.reg) (number_of rs) (bits_of type))
 parts_of context setting (Brev8 rs type step tmp tmp2 rd) = slots_alone (reverse_slots context.flags (number_of rd.reg) (number_of tmp.reg) (number_of tmp2.reg) (number_of step.reg) (number_of rs) (bits_of type))
 parts_of context setting (StackProbeLoop guard_size probe_count tmp) = slots_alone (probe_slots context.flags (number_of tmp.reg) (low_word guard_size) (low_word probe_count))
+parts_of context setting (LoadExtNameGot rd name) = slots_alone (got_slots (number_of rd.reg) name)
+parts_of context setting (LoadExtNameNear rd name offset) = slots_alone (near_slots (number_of rd.reg) name offset)
+parts_of context setting (LoadExtNameFar rd name offset) = slots_alone (far_slots context.flags (number_of rd.reg) name offset)
+parts_of context setting (Unwind inst) = slots_alone (Notes (event.Unwind inst) ∷ [])

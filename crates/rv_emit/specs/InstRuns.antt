@@ -9,9 +9,10 @@ use Rattle.rv_inst.specs.declared.inst.Inst.{Inst}
 use Rattle.rv_inst.specs.Meaning.{Environment, Exit, Next, To, Leave, Break, Trap, Data, inst_exit, inst_effect, inst_writes, inst_temporaries, AreOutside}
 use Rattle.rv_inst.specs.SameValues.{Same, SameBut}
 use Rattle.rv_emit.specs.declared.state.EmitVState.{EmitVState}
+use Rattle.mach_buffer.specs.declared.records.Event.TheVariants as event
 use Rattle.rv_emit.specs.Slots.{Part}
 use Rattle.rv_emit.specs.Sites.{Site, IsPlacedAt, PartsStand}
-use Rattle.rv_inst.specs.Traps.{IsRecorded}
+use Rattle.rv_inst.specs.Records.{IsRecorded}
 use Rattle.rv_emit.specs.InstParts.{parts_of}
 
 -- a machine at the start of parts that stand between two offsets, beside the listing's values; the code is short enough for every
@@ -43,7 +44,7 @@ abbrev pub Arrives : Site → ℕ → ℕ → Exit → State → Type 0
 Arrives site start after Next t = t.pc ≡ wrap (site.base + after)
 Arrives site start after (To label) t = (at : ℕ) × (site.place label ≡ Some at) × (t.pc ≡ wrap (site.base + at))
 Arrives site start after (Leave a) t = t.pc ≡ a
-Arrives site start after (Trap code) t = (at : ℕ) × IsRecorded site.traps at code × (start ≤ at) × (at < after) × (t.pc ≡ wrap (site.base + at)) × (decode site.context.flags (fetch t.values.mem t.pc) ≡ None)
+Arrives site start after (Trap code) t = (at : ℕ) × IsRecorded site.records at (event.Trap code) × (start ≤ at) × (at < after) × (t.pc ≡ wrap (site.base + at)) × (decode site.context.flags (fetch t.values.mem t.pc) ≡ None)
 Arrives site start after Data t = t.pc ≡ wrap (site.base + start)
 Arrives site start after Break t = (t.pc ≡ wrap (site.base + start)) × IsBreak site.context.flags t.values.mem t.pc
 
@@ -62,7 +63,7 @@ pub record ComesOut (site : Site) (start after : ℕ) (exit : Exit) (free : List
 -- what the parts of an instruction are read among that stand between two offsets; a label that isn't bound, and a constant whose
 -- label isn't, is at the base
 abbrev pub environment : Site → ℕ → ℕ → Environment
-environment site start after = record { start = wrap (site.base + start); after = wrap (site.base + after); label = λ label. wrap (site.base + unwrap_or (site.place label) 0); constant = λ number. wrap (site.base + unwrap_or (site.place (first_constant + number)) 0); frame = site.context.frame }
+environment site start after = record { start = wrap (site.base + start); after = wrap (site.base + after); label = λ label. wrap (site.base + unwrap_or (site.place label) 0); constant = λ number. wrap (site.base + unwrap_or (site.place (first_constant + number)) 0); frame = site.context.frame; symbol = site.symbol; slot = site.slot }
 
 -- the parts of an instruction run as it means, wherever they stand in the code, where it writes no byte of the code
 pub record RunsIn (site : Site) (setting : EmitVState) (inst : Inst) : Type 0 where

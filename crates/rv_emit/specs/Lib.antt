@@ -11,6 +11,7 @@ pub mod Probes
 pub mod Tables
 pub mod Slots
 pub mod Sites
+pub mod Images
 pub mod Puts
 pub mod Emission
 pub mod InstParts

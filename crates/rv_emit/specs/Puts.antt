@@ -5,10 +5,13 @@ use Rattle.rv_base.specs.LabelUse.{IsFresh, SameOutside}
 use Rattle.rv_machine.specs.declared.decoding.Decoded.{Decoded}
 use Rattle.rv_machine.specs.State.{Memory}
 use Rattle.rv_inst.specs.declared.label_use.LabelUse.{LabelUse}
+use Rattle.rv_inst.specs.declared.label_use.LabelUse.TheVariants.{PCRelHi20, PCRelLo12I}
+use Rattle.mach_buffer.specs.declared.records.Event.{Event}
+use Rattle.mach_buffer.specs.declared.records.Event.TheVariants as event
 use Rattle.rv_inst.specs.LabelUse.{Aims, marks_of}
 use Rattle.rv_inst.specs.Uses.{use_at}
-use Rattle.mach_buffer.specs.Shape.{Shape, with_bytes, with_use, with_label, with_allocated, with_trap, with_named}
-use Rattle.rv_emit.specs.Slots.{Slot, Op, Aim, Data, Traps, Names, Allocate, Here, own_label, label_of}
+use Rattle.mach_buffer.specs.Shape.{Shape, with_bytes, with_use, with_label, with_allocated, with_record, with_named}
+use Rattle.rv_emit.specs.Slots.{Slot, Op, Aim, Data, Notes, Names, Allocate, Here, Fill, Address, own_label, label_of, upper_event, lower_event, address_event}
 use Rattle.rv_emit.specs.Sites.{BytesAt, HasOps}
 
 -- all are bytes
@@ -25,15 +28,27 @@ pub record IsPatchable (flags : IsaFlags) (kind : LabelUse) (window : List ℕ) 
   pub fresh : IsFresh (marks_of kind) window
   pub patched : (new : List ℕ) (d : ℤ) → length new ≡ length (marks_of kind) → AllBytes new → SameOutside (marks_of kind) window new → Aims kind new d → Encodes flags new (ops d)
 
+-- an event that asks nothing of the bytes at its offset
+abbrev pub AsksNothing : Event → Type 0
+AsksNothing (event.Trap code) = Unit {0}
+AsksNothing (event.Reloc kind target addend) = ⊥
+AsksNothing (event.Unwind inst) = Unit {0}
+
+-- eight bytes that aren't filled yet
+abbrev pub eight_zeros : List ℕ
+eight_zeros = 0 ∷ 0 ∷ 0 ∷ 0 ∷ 0 ∷ 0 ∷ 0 ∷ 0 ∷ []
+
 -- a slot was put
 abbrev pub PutsSlot : IsaFlags → ℕ → Slot → Shape LabelUse → Shape LabelUse → Type 0
 PutsSlot flags allocated (Op d) s t = (bytes : List ℕ) × (length bytes ≡ d.len) × Encodes flags bytes (d ∷ []) × (t ≡ with_bytes bytes s)
 PutsSlot flags allocated (Aim kind target ops) s t = (window : List ℕ) × IsPatchable flags kind window ops × (t ≡ with_bytes window (with_use (use_at (length s.bytes) (label_of allocated target) kind) s))
 PutsSlot flags allocated (Data bytes) s t = t ≡ with_bytes bytes s
-PutsSlot flags allocated (Traps code) s t = t ≡ with_trap code s
+PutsSlot flags allocated (Notes e) s t = AsksNothing e × (t ≡ with_record e s)
 PutsSlot flags allocated (Names k) s t = t ≡ with_named k s
 PutsSlot flags allocated Allocate s t = t ≡ with_allocated s
 PutsSlot flags allocated (Here k) s t = (s.place (own_label allocated k).number ≡ None) × (t ≡ with_label (own_label allocated k) s)
+PutsSlot flags allocated (Fill symbol upper lower) s t = (first : List ℕ) × (second : List ℕ) × IsPatchable flags PCRelHi20 first upper × IsPatchable flags PCRelLo12I second lower × (t ≡ with_bytes second (with_record (lower_event (length s.bytes)) (with_bytes first (with_record (upper_event symbol) s))))
+PutsSlot flags allocated (Address name addend) s t = t ≡ with_bytes eight_zeros (with_record (address_event name addend) s)
 
 -- slots were put one after the other
 abbrev pub Puts : IsaFlags → ℕ → List Slot → Shape LabelUse → Shape LabelUse → Type 0

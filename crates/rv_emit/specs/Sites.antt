@@ -1,18 +1,21 @@
 -- Finished code that stands in the memory, and an instruction's parts in it.
-use Rattle.std.specs.Prelude.{◌≡◌, ℕ, ◌+◌, ◌%◌, ◌^◌, ◌<◌, ◌≤◌, Bool, true, false, List, [], ◌∷◌, length, Option, Some, ℤ, slice_index}
+use Rattle.std.specs.Prelude.{◌≡◌, ℕ, ◌+◌, ◌%◌, ◌^◌, ◌<◌, ◌≤◌, Bool, true, false, List, [], ◌∷◌, length, Option, Some, ℤ, pos, ◌-ℤ◌, slice_index}
 use Rattle.rv_base.specs.declared.flags.IsaFlags.{IsaFlags}
 use Rattle.rv_base.specs.declared.label.MachLabel.{MachLabel}
-use Rattle.mach_buffer.specs.declared.records.MachTrap.{MachTrap}
+use Rattle.mach_buffer.specs.declared.records.MachRecord.{MachRecord}
 use Rattle.rv_machine.specs.declared.decoding.Decoded.{Decoded}
 use Rattle.rv_machine.specs.Decode.{decode}
-use Rattle.rv_machine.specs.State.{State, IsState, Values, AreValues, Memory, byte, wrap}
+use Rattle.std.specs.Int.{to_le_bytes, w64}
+use Rattle.rv_machine.specs.State.{State, IsState, Values, AreValues, Memory, byte, wrap, low64}
 use Rattle.rv_machine.specs.Steps.{fetch, iter}
 use Rattle.rv_inst.specs.Context.{Context}
-use Rattle.rv_inst.specs.Traps.{IsRecorded}
+use Rattle.rv_inst.specs.Records.{IsRecorded}
+use Rattle.rv_emit.specs.Slots.{Symbol, AddressOf, SlotOf}
 use Rattle.rv_inst.specs.declared.label_use.LabelUse.{LabelUse}
 use Rattle.rv_inst.specs.LabelUse.{marks_of, has_veneer_of}
+use Rattle.rv_inst.specs.Addresses.{is_splittable}
 use Rattle.rv_inst.specs.SameValues.{Same}
-use Rattle.rv_emit.specs.Slots.{Target, Label, Own, Slot, Op, Aim, Data, Traps, Names, Allocate, Here, Part, Ask, Slots, size_of, own_label, between}
+use Rattle.rv_emit.specs.Slots.{Target, Label, Own, Slot, Op, Aim, Data, Notes, Names, Allocate, Here, Fill, Address, Part, Ask, Slots, size_of, own_label, between}
 
 -- ---- code in the memory
 
@@ -26,14 +29,17 @@ abbrev pub HasOps : IsaFlags → Memory → ℕ → List Decoded → Type 0
 HasOps flags mem a [] = Unit {0}
 HasOps flags mem a (d ∷ ops) = (decode flags (fetch mem a) ≡ Some d) × HasOps flags mem (a + d.len) ops
 
--- finished code: its job's context, its bytes, the address from which they stand, the offsets of its labels in the end, those of
--- constants among them, and its traps
+-- finished code: its job's context, the address from which it stands, its bytes there, filled by a linker; the offsets of its
+-- labels in the end, those of constants among them; its records; and the addresses of symbols and of the slots that hold them,
+-- by the numbers of their names
 pub record Site : Type 0 where
   pub context : Context
   pub base : ℕ
   pub bytes : List ℕ
   pub place : ℕ → Option ℕ
-  pub traps : List MachTrap
+  pub records : List MachRecord
+  pub symbol : ℕ → ℕ
+  pub slot : ℕ → ℕ
 
 -- it stands in the memory
 pub record IsPlacedAt (site : Site) (mem : Memory) : Type 0 where
@@ -81,16 +87,31 @@ pub record AimsFrom (site : Site) (allocated at : ℕ) (kind : LabelUse) (target
   pub reaches : Reaches site allocated kind target to
   pub has : CodeHas site at (ops (between at to))
 
+-- the address of a symbol plus a number, or of the slot that holds it
+abbrev pub symbol_address : Site → Symbol → ℕ
+symbol_address site (AddressOf name addend) = wrap (site.symbol name.number + low64 addend)
+symbol_address site (SlotOf name) = site.slot name.number
+
+-- two words hold the distance from the first to a symbol, which both together reach
+pub record FillsFrom (site : Site) (at : ℕ) (symbol : Symbol) (upper lower : ℤ → List Decoded) : Type 0 where
+  pub distance : ℤ
+  pub near : is_splittable distance ≡ true
+  pub leads : wrap (site.base + at + low64 distance) ≡ symbol_address site symbol
+  pub has_upper : CodeHas site at (upper distance)
+  pub has_lower : CodeHas site (at + 4) (lower (distance -ℤ pos 4))
+
 -- slots stand in the code from an offset on, where so many labels were allocated before them
 abbrev pub StandsIn : Site → ℕ → ℕ → List Slot → Type 0
 StandsIn site allocated at [] = Unit {0}
 StandsIn site allocated at (Op d ∷ slots) = CodeHas site at (d ∷ []) × StandsIn site allocated (at + d.len) slots
 StandsIn site allocated at (Aim kind target ops ∷ slots) = AimsFrom site allocated at kind target ops × StandsIn site allocated (at + length (marks_of kind)) slots
 StandsIn site allocated at (Data bytes ∷ slots) = ((mem : Memory) → IsPlacedAt site mem → BytesAt mem (site.base + at) bytes) × StandsIn site allocated (at + length bytes) slots
-StandsIn site allocated at (Traps code ∷ slots) = IsRecorded site.traps at code × StandsIn site allocated at slots
+StandsIn site allocated at (Notes event ∷ slots) = IsRecorded site.records at event × StandsIn site allocated at slots
 StandsIn site allocated at (Names k ∷ slots) = StandsIn site allocated at slots
 StandsIn site allocated at (Allocate ∷ slots) = StandsIn site allocated at slots
 StandsIn site allocated at (Here k ∷ slots) = (site.place (own_label allocated k).number ≡ Some at) × StandsIn site allocated at slots
+StandsIn site allocated at (Fill symbol upper lower ∷ slots) = FillsFrom site at symbol upper lower × StandsIn site allocated (at + 8) slots
+StandsIn site allocated at (Address name addend ∷ slots) = ((mem : Memory) → IsPlacedAt site mem → BytesAt mem (site.base + at) (to_le_bytes w64 (symbol_address site (AddressOf name addend)))) × StandsIn site allocated (at + 8) slots
 
 -- nothing stands between two offsets, or what leads on
 pub record GapIn (site : Site) (from to : ℕ) : Type 0 where

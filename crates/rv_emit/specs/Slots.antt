@@ -1,7 +1,8 @@
 -- The parts of an instruction's code: asks for an island, and slots, which are pieces of code one after the other.
 use Rattle.std.specs.Prelude.{◌≡◌, ℕ, ◌+◌, ◌%◌, ◌≤◌, nat_eq, if◌then◌else◌, List, [], ◌∷◌, length, Option, Some, None, ℤ, pos, ◌-ℤ◌}
 use Rattle.rv_base.specs.declared.label.MachLabel.{MachLabel}
-use Rattle.rv_base.specs.declared.trap.TrapCode.{TrapCode}
+use Rattle.rv_base.specs.declared.external_name.ExternalName.{ExternalName}
+use Rattle.rv_base.specs.declared.reloc.Reloc.TheVariants.{RiscvGotHi20, RiscvPCRelHi20, RiscvPCRelLo12I, Abs8}
 use Rattle.rv_base.specs.declared.constant.VCodeConstant.{VCodeConstant}
 use Rattle.mach_labels.specs.Table.{first_inner}
 use Rattle.rv_machine.specs.declared.decoding.Decoded.{Decoded}
@@ -9,7 +10,10 @@ use Rattle.rv_inst.specs.declared.label_use.LabelUse.{LabelUse}
 use Rattle.rv_inst.specs.LabelUse.{marks_of, forward_of, backward_of}
 use Rattle.rv_inst.specs.Uses.{use_at}
 use Rattle.mach_buffer.specs.declared.uses.Use.{Use}
-use Rattle.mach_buffer.specs.declared.records.MachTrap.{MachTrap}
+use Rattle.mach_buffer.specs.declared.records.Event.{Event}
+use Rattle.mach_buffer.specs.declared.records.Event.TheVariants as event
+use Rattle.mach_buffer.specs.declared.records.FinalizedRelocTarget.TheVariants as target
+use Rattle.mach_buffer.specs.declared.records.MachRecord.{MachRecord}
 use Rattle.mach_buffer.specs.Shape.{name_more}
 
 -- a label that may stand far away, or one of the instruction's own, by its number among those
@@ -17,16 +21,25 @@ pub data Target : Type 0 where
   Label : MachLabel → Target
   Own : ℕ → Target
 
+-- what a linker tells the address of: a symbol, to which a number is added; or the slot that holds a symbol's address
+pub data Symbol : Type 0 where
+  AddressOf : ExternalName → ℤ → Symbol
+  SlotOf : ExternalName → Symbol
+
 -- an operation of the machine; the window of a use of a label, with its operations by the distance that it holds; bytes that
--- are no code; the record of a trap here; a constant that is named; an own label that is allocated; or one that is bound here
+-- are no code; the record of an event here; a constant that is named; an own label that is allocated; one that is bound here; two
+-- words that a linker fills with the upper and the lower part of the distance to a symbol, each with its operations by the
+-- distance from its own place; or eight bytes that it fills with a symbol's address plus a number
 pub data Slot : Type 0 where
   Op : Decoded → Slot
   Aim : LabelUse → Target → (ℤ → List Decoded) → Slot
   Data : List ℕ → Slot
-  Traps : TrapCode → Slot
+  Notes : Event → Slot
   Names : VCodeConstant → Slot
   Allocate : Slot
   Here : ℕ → Slot
+  Fill : Symbol → (ℤ → List Decoded) → (ℤ → List Decoded) → Slot
+  Address : ExternalName → ℤ → Slot
 
 -- an island where one is needed before so many bytes, or slots
 pub data Part : Type 0 where
@@ -39,10 +52,12 @@ abbrev pub slot_size : Slot → ℕ
 slot_size (Op d) = d.len
 slot_size (Aim kind target ops) = length (marks_of kind)
 slot_size (Data bytes) = length bytes
-slot_size (Traps code) = 0
+slot_size (Notes event) = 0
 slot_size (Names k) = 0
 slot_size Allocate = 0
 slot_size (Here k) = 0
+slot_size (Fill symbol upper lower) = 8
+slot_size (Address name addend) = 8
 
 abbrev pub size_of : List Slot → ℕ
 size_of [] = 0
@@ -70,10 +85,12 @@ allocations [] = 0
 allocations (Op d ∷ slots) = allocations slots
 allocations (Aim kind target ops ∷ slots) = allocations slots
 allocations (Data bytes ∷ slots) = allocations slots
-allocations (Traps code ∷ slots) = allocations slots
+allocations (Notes event ∷ slots) = allocations slots
 allocations (Names k ∷ slots) = allocations slots
 allocations (Allocate ∷ slots) = 1 + allocations slots
 allocations (Here k ∷ slots) = allocations slots
+allocations (Fill symbol upper lower ∷ slots) = allocations slots
+allocations (Address name addend ∷ slots) = allocations slots
 
 -- the uses of slots that begin at an offset
 abbrev pub uses_of : ℕ → ℕ → List Slot → List (Use LabelUse)
@@ -81,21 +98,37 @@ uses_of allocated at [] = []
 uses_of allocated at (Op d ∷ slots) = uses_of allocated (at + d.len) slots
 uses_of allocated at (Aim kind target ops ∷ slots) = use_at at (label_of allocated target) kind ∷ uses_of allocated (at + length (marks_of kind)) slots
 uses_of allocated at (Data bytes ∷ slots) = uses_of allocated (at + length bytes) slots
-uses_of allocated at (Traps code ∷ slots) = uses_of allocated at slots
+uses_of allocated at (Notes event ∷ slots) = uses_of allocated at slots
 uses_of allocated at (Names k ∷ slots) = uses_of allocated at slots
 uses_of allocated at (Allocate ∷ slots) = uses_of allocated at slots
 uses_of allocated at (Here k ∷ slots) = uses_of allocated at slots
+uses_of allocated at (Fill symbol upper lower ∷ slots) = uses_of allocated (at + 8) slots
+uses_of allocated at (Address name addend ∷ slots) = uses_of allocated (at + 8) slots
 
--- the traps of slots that begin at an offset
-abbrev pub traps_of : ℕ → List Slot → List MachTrap
-traps_of at [] = []
-traps_of at (Op d ∷ slots) = traps_of (at + d.len) slots
-traps_of at (Aim kind target ops ∷ slots) = traps_of (at + length (marks_of kind)) slots
-traps_of at (Data bytes ∷ slots) = traps_of (at + length bytes) slots
-traps_of at (Traps code ∷ slots) = record { offset = at; code = code } ∷ traps_of at slots
-traps_of at (Names k ∷ slots) = traps_of at slots
-traps_of at (Allocate ∷ slots) = traps_of at slots
-traps_of at (Here k ∷ slots) = traps_of at slots
+-- the relocations of two words that hold the distance to a symbol: of its upper part, and of its lower part, which names the place of
+-- the first word; and of eight bytes that hold an address
+abbrev pub upper_event : Symbol → Event
+upper_event (AddressOf name addend) = event.Reloc RiscvPCRelHi20 (target.ExternalName name) addend
+upper_event (SlotOf name) = event.Reloc RiscvGotHi20 (target.ExternalName name) (pos 0)
+
+abbrev pub lower_event : ℕ → Event
+lower_event at = event.Reloc RiscvPCRelLo12I (target.Func at) (pos 0)
+
+abbrev pub address_event : ExternalName → ℤ → Event
+address_event name addend = event.Reloc Abs8 (target.ExternalName name) addend
+
+-- the records of slots that begin at an offset
+abbrev pub records_of : ℕ → List Slot → List MachRecord
+records_of at [] = []
+records_of at (Op d ∷ slots) = records_of (at + d.len) slots
+records_of at (Aim kind target ops ∷ slots) = records_of (at + length (marks_of kind)) slots
+records_of at (Data bytes ∷ slots) = records_of (at + length bytes) slots
+records_of at (Notes event ∷ slots) = record { offset = at; event = event } ∷ records_of at slots
+records_of at (Names k ∷ slots) = records_of at slots
+records_of at (Allocate ∷ slots) = records_of at slots
+records_of at (Here k ∷ slots) = records_of at slots
+records_of at (Fill symbol upper lower ∷ slots) = record { offset = at; event = upper_event symbol } ∷ record { offset = at + 4; event = lower_event at } ∷ records_of (at + 8) slots
+records_of at (Address name addend ∷ slots) = record { offset = at; event = address_event name addend } ∷ records_of (at + 8) slots
 
 -- the constants that are named, once slots name theirs
 abbrev pub names_of : List Slot → List VCodeConstant → List VCodeConstant
@@ -103,10 +136,12 @@ names_of [] named = named
 names_of (Op d ∷ slots) named = names_of slots named
 names_of (Aim kind target ops ∷ slots) named = names_of slots named
 names_of (Data bytes ∷ slots) named = names_of slots named
-names_of (Traps code ∷ slots) named = names_of slots named
+names_of (Notes event ∷ slots) named = names_of slots named
 names_of (Names k ∷ slots) named = names_of slots (name_more k named)
 names_of (Allocate ∷ slots) named = names_of slots named
 names_of (Here k ∷ slots) named = names_of slots named
+names_of (Fill symbol upper lower ∷ slots) named = names_of slots named
+names_of (Address name addend ∷ slots) named = names_of slots named
 
 -- ---- distances
 
@@ -122,10 +157,12 @@ here_at k at [] = None
 here_at k at (Op d ∷ slots) = here_at k (at + d.len) slots
 here_at k at (Aim kind target ops ∷ slots) = here_at k (at + length (marks_of kind)) slots
 here_at k at (Data bytes ∷ slots) = here_at k (at + length bytes) slots
-here_at k at (Traps code ∷ slots) = here_at k at slots
+here_at k at (Notes event ∷ slots) = here_at k at slots
 here_at k at (Names constant ∷ slots) = here_at k at slots
 here_at k at (Allocate ∷ slots) = here_at k at slots
 here_at k at (Here j ∷ slots) = if nat_eq j k then Some at else here_at k at slots
+here_at k at (Fill symbol upper lower ∷ slots) = here_at k (at + 8) slots
+here_at k at (Address name addend ∷ slots) = here_at k (at + 8) slots
 
 -- a use at an offset reaches where an own label is bound
 pub record IsBoundNear (bound : Option ℕ) (kind : LabelUse) (at : ℕ) : Type 0 where
@@ -144,10 +181,12 @@ AreClosed here at [] = Unit {0}
 AreClosed here at (Op d ∷ slots) = (d.len % 2 ≡ 0) × AreClosed here (at + d.len) slots
 AreClosed here at (Aim kind target ops ∷ slots) = IsClosed here kind target at × AreClosed here (at + length (marks_of kind)) slots
 AreClosed here at (Data bytes ∷ slots) = (length bytes % 2 ≡ 0) × AreClosed here (at + length bytes) slots
-AreClosed here at (Traps code ∷ slots) = AreClosed here at slots
+AreClosed here at (Notes event ∷ slots) = AreClosed here at slots
 AreClosed here at (Names k ∷ slots) = AreClosed here at slots
 AreClosed here at (Allocate ∷ slots) = AreClosed here at slots
 AreClosed here at (Here k ∷ slots) = AreClosed here at slots
+AreClosed here at (Fill symbol upper lower ∷ slots) = AreClosed here (at + 8) slots
+AreClosed here at (Address name addend ∷ slots) = AreClosed here (at + 8) slots
 
 -- slots that use no own label but theirs
 abbrev pub IsBlock : List Slot → Type 0

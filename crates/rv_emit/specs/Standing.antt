@@ -10,6 +10,7 @@ use Rattle.mach_buffer.specs.Buffer.{Inside, AreSound}
 use Rattle.mach_buffer.specs.Finish.{CanFinish, Finishes}
 use Rattle.mach_buffer.specs.Growth.{Lasts}
 use Rattle.rv_emit.specs.Slots.{Label, Slot, Part, Ask, Slots}
+use Rattle.rv_emit.specs.Images.{FieldsEnd}
 use Rattle.rv_emit.specs.Puts.{AllBytes, Puts}
 use Rattle.rv_emit.specs.InstParts.{wide_jump_to}
 
@@ -19,6 +20,7 @@ pub record SlotsIn (flags : IsaFlags) (slots : List Slot) (f : Shape LabelUse) (
   pub new : Shape LabelUse
   pub puts : Puts flags old.allocated slots old new
   pub windows : AreWindows label_kinds old.bytes old.uses
+  pub fields : FieldsEnd old
   pub starts : start ≡ length old.bytes
   pub ends : end ≡ length new.bytes
   pub lasts : Lasts label_kinds new f

@@ -9,7 +9,7 @@ use Rattle.rv_inst.specs.Context.{Context}
 use Rattle.rv_inst.specs.declared.inst.CondBrTarget.{CondBrTarget}
 use Rattle.rv_inst.specs.declared.inst.CondBrTarget.TheVariants.{Label, Fallthrough}
 use Rattle.rv_inst.specs.declared.inst.Inst.{Inst}
-use Rattle.rv_inst.specs.declared.inst.Inst.TheVariants.{Nop0, Nop4, EBreak, SequencePoint, Args, Rets, DummyUse, EmitIsland, RawData, Lui, Auipc, LoadInlineConst, AluRRR, AluRRImm12, Mov, MovFromPReg, Extend, Select, Load, Store, LoadAddr, LabelAddress, Ret, TrapIf, Jal, CondBr, BrTable, Udf, Jalr, Popcnt, Cltz, Brev8, StackProbeLoop}
+use Rattle.rv_inst.specs.declared.inst.Inst.TheVariants.{Nop0, Nop4, EBreak, SequencePoint, Args, Rets, DummyUse, EmitIsland, RawData, Lui, Auipc, LoadInlineConst, AluRRR, AluRRImm12, Mov, MovFromPReg, Extend, Select, Load, Store, LoadAddr, LabelAddress, Ret, TrapIf, Jal, CondBr, BrTable, Udf, Jalr, Popcnt, Cltz, Brev8, StackProbeLoop, LoadExtNameGot, LoadExtNameNear, LoadExtNameFar, Unwind}
 use Rattle.rv_emit.specs.Emitted.{Buffer, pending}
 use Rattle.rv_emit.specs.declared.state.EmitVState.{EmitVState}
 use Rattle.rv_emit.specs.declared.state.EmitVState.TheVariants.{Unknown}
@@ -70,3 +70,7 @@ setting_after context b (Popcnt sum tmp step rs type) setting = setting_beyond (
 setting_after context b (Cltz sum tmp step rs leading type) setting = setting_beyond (is_wide context.flags) setting
 setting_after context b (Brev8 rs type step tmp tmp2 rd) setting = setting_beyond (is_wide context.flags) setting
 setting_after context b (StackProbeLoop guard_size probe_count tmp) setting = setting_beyond (is_wide context.flags) setting
+setting_after context b (LoadExtNameGot rd name) setting = setting
+setting_after context b (LoadExtNameNear rd name offset) setting = setting
+setting_after context b (LoadExtNameFar rd name offset) setting = setting_beyond (is_wide context.flags) setting
+setting_after context b (Unwind inst) setting = setting

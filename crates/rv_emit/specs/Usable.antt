@@ -15,7 +15,7 @@ use Rattle.mach_labels.specs.Table.{first_inner}
 use Rattle.rv_ops.specs.declared.compare.IntegerCompare.{IntegerCompare}
 use Rattle.rv_encode.specs.Registers.{IsIntRegister}
 use Rattle.rv_inst.specs.declared.inst.Inst.{Inst}
-use Rattle.rv_inst.specs.declared.inst.Inst.TheVariants.{Nop0, Nop4, EBreak, SequencePoint, Args, Rets, DummyUse, EmitIsland, RawData, Lui, Auipc, LoadInlineConst, AluRRR, AluRRImm12, Mov, MovFromPReg, Extend, Select, Load, Store, LoadAddr, LabelAddress, Ret, TrapIf, Jal, CondBr, BrTable, Udf, Jalr, Popcnt, Cltz, Brev8, StackProbeLoop}
+use Rattle.rv_inst.specs.declared.inst.Inst.TheVariants.{Nop0, Nop4, EBreak, SequencePoint, Args, Rets, DummyUse, EmitIsland, RawData, Lui, Auipc, LoadInlineConst, AluRRR, AluRRImm12, Mov, MovFromPReg, Extend, Select, Load, Store, LoadAddr, LabelAddress, Ret, TrapIf, Jal, CondBr, BrTable, Udf, Jalr, Popcnt, Cltz, Brev8, StackProbeLoop, LoadExtNameGot, LoadExtNameNear, LoadExtNameFar, Unwind}
 use Rattle.rv_inst.specs.Operands.{all_of, written_in}
 use Rattle.rv_inst.specs.Rules.{is_int_type}
 use Rattle.rv_inst.specs.declared.inst.CondBrTarget.{CondBrTarget}
@@ -106,3 +106,7 @@ IsFine constants (Popcnt sum tmp step rs type) = IsIntRegister sum.reg × IsIntR
 IsFine constants (Cltz sum tmp step rs leading type) = IsIntRegister sum.reg × IsIntRegister tmp.reg × IsIntRegister step.reg × IsIntRegister rs × (is_int_type type ≡ true)
 IsFine constants (Brev8 rs type step tmp tmp2 rd) = IsIntRegister rd.reg × IsIntRegister tmp.reg × IsIntRegister tmp2.reg × IsIntRegister step.reg × IsIntRegister rs × (is_int_type type ≡ true)
 IsFine constants (StackProbeLoop guard_size probe_count tmp) = IsIntRegister tmp.reg
+IsFine constants (LoadExtNameGot rd name) = IsIntRegister rd.reg
+IsFine constants (LoadExtNameNear rd name offset) = IsIntRegister rd.reg
+IsFine constants (LoadExtNameFar rd name offset) = IsIntRegister rd.reg
+IsFine constants (Unwind inst) = Unit {0}

@@ -144,7 +144,7 @@ pub(crate) fn put_double_constant(
 }
 
 /// A load of what stands after this code, and a jump over it.
-fn put_load_over(
+pub(crate) fn put_load_over(
     sink: &mut MachBuffer<LabelUse>,
     flags: IsaFlags,
     rd: WritableReg,

@@ -19,6 +19,7 @@ mod sequence;
 mod setting;
 mod shortest;
 mod state;
+mod symbols;
 mod table;
 mod zeros;
 

@@ -202,7 +202,7 @@ fn put_label_load(
 }
 
 /// The word of a load into its own base, whose offset is still to come.
-fn load_word(op: LoadOP, rd: WritableReg) -> u32
+pub(crate) fn load_word(op: LoadOP, rd: WritableReg) -> u32
     requires { IsIntRegister rd.reg }
     ensures { IsIType result LOAD (number_of rd.reg) (load_funct3 op) (number_of rd.reg) 0 }
 {
@@ -393,7 +393,7 @@ pub(crate) fn put_label_address(
 }
 
 /// The word of an addition to a register whose immediate is still to come.
-fn addition_word(rd: WritableReg) -> u32
+pub(crate) fn addition_word(rd: WritableReg) -> u32
     requires { IsIntRegister rd.reg }
     ensures { IsIType result OP_IMM (number_of rd.reg) 0 (number_of rd.reg) 0 }
 {

@@ -26,7 +26,7 @@ ghost use Rattle.rv_emit.specs.InstParts.{jump_to, wide_jump_to, branch_to, move
 ghost use Rattle.rv_inst.specs.Sizes.{island_space};
 ghost use Rattle.rv_inst.specs.Uses.{use_at};
 ghost use Rattle.rv_inst.specs.Families.{family_of};
-ghost use Rattle.rv_inst.specs.declared.inst.Family.TheVariants.{Pseudo, Integer, Memory, Control, Loop};
+ghost use Rattle.rv_inst.specs.declared.inst.Family.TheVariants.{Pseudo, Integer, Memory, Control, Loop, Symbols};
 
 use crate::choices::{put_extend, put_select};
 use crate::compressed::number;
@@ -36,6 +36,7 @@ use crate::popcnt::put_popcnt;
 use crate::probes::put_probe_loop;
 use crate::reverse::put_reverse;
 use crate::shortest::{put_ebreak, put_jalr, put_lui, put_rri, put_rrr};
+use crate::symbols::{put_far_symbol, put_near_symbol, put_slot_load, put_unwind};
 use crate::zeros::put_zeros;
 use mach_buffer::MachBuffer;
 use rv_base::{
@@ -67,6 +68,7 @@ pub(crate) fn put_sequence(
         Family::Memory => put_memory(sink, flags, frame, inst),
         Family::Control => put_control(sink, flags, inst),
         Family::Loop => put_loop(sink, flags, inst),
+        Family::Symbols => put_symbol(sink, flags, inst),
     }
 }
 
@@ -87,6 +89,7 @@ fn put_pseudo(
             encode_alu_rr_imm12(AluOPRRI::Addi, writable_zero_reg(), zero_reg(), Imm12::ZERO),
         ),
         Inst::EBreak => put_ebreak(sink, flags),
+        Inst::Unwind { inst: step } => put_unwind(sink, *step),
         Inst::RawData { bytes } => put_bytes(sink, bytes.as_slice()),
         _ => Ok(()),
     }
@@ -265,6 +268,27 @@ fn put_loop(
             probe_count,
             tmp,
         } => put_probe_loop(sink, flags, *guard_size, *probe_count, *tmp),
+        _ => Ok(()),
+    }
+}
+
+fn put_symbol(
+    sink: &mut MachBuffer<LabelUse>,
+    flags: IsaFlags,
+    inst: &Inst,
+) -> Result<(), OutOfMemory>
+    requires fine { IsFine (registered_of sink.old) inst.now }
+    requires room { length (bytes_of sink.old) + 84 < code_limit }
+    requires sound { IsSoundBuffer sink.old }
+    ensures parts { family_of inst.now ≡ Symbols → OnOk result (EmitsAnyhow flags inst.now sink.old sink.new) }
+    ensures refused { OnErr result (spoiled_of sink.new ≡ true) }
+{
+    match inst {
+        Inst::LoadExtNameGot { rd, name } => put_slot_load(sink, *rd, *name),
+        Inst::LoadExtNameNear { rd, name, offset } => put_near_symbol(sink, *rd, *name, *offset),
+        Inst::LoadExtNameFar { rd, name, offset } => {
+            put_far_symbol(sink, flags, *rd, *name, *offset)
+        }
         _ => Ok(()),
     }
 }

@@ -7,7 +7,7 @@ ghost use Rattle.rv_inst.specs.Addresses.{location_of, is_splittable};
 ghost use Rattle.rv_inst.specs.Context.{context_by};
 ghost use Rattle.rv_inst.specs.Families.{family_of};
 ghost use Rattle.rv_inst.specs.Sizes.{island_space};
-ghost use Rattle.rv_inst.specs.declared.inst.Family.TheVariants.{Integer, Memory, Control, Loop};
+ghost use Rattle.rv_inst.specs.declared.inst.Family.TheVariants.{Integer, Memory, Control, Loop, Symbols};
 ghost use Rattle.rv_emit.specs.declared.state.EmitVState.{EmitVState as Setting};
 ghost use Rattle.rv_emit.specs.Emitted.{Buffer};
 ghost use Rattle.rv_emit.specs.State.{setting_after, setting_beyond, is_inline, jumps};
@@ -30,6 +30,7 @@ pub(crate) fn forgets_setting(flags: IsaFlags, frame: &FrameLayout, inst: &Inst)
         Family::Memory => memory_forgets(flags, frame, inst),
         Family::Control => control_forgets(flags, inst),
         Family::Loop => loop_forgets(flags, inst),
+        Family::Symbols => symbol_forgets(flags, inst),
     }
 }
 
@@ -81,6 +82,16 @@ fn loop_forgets(flags: IsaFlags, inst: &Inst) -> bool
         | Inst::Cltz { .. }
         | Inst::Brev8 { .. }
         | Inst::StackProbeLoop { .. } => !flags.has_zca,
+        _ => false,
+    }
+}
+
+/// A symbol's address that stands among the code is jumped over.
+fn symbol_forgets(flags: IsaFlags, inst: &Inst) -> bool
+    ensures { family_of inst.now ≡ Symbols → (frame : FrameLayout) (constants : List Constant) (b : Buffer) (setting : Setting) → setting_after (context_by flags frame constants) b inst.now setting ≡ setting_beyond result setting }
+{
+    match inst {
+        Inst::LoadExtNameFar { .. } => !flags.has_zca,
         _ => false,
     }
 }

@@ -10,17 +10,18 @@ use Rattle.mach_buffer.specs.declared.uses.Use.{Use}
 use Rattle.mach_buffer.specs.declared.buffer.MachBuffer.{MachBuffer}
 use Rattle.rv_base.specs.declared.constant.VCodeConstant.{VCodeConstant}
 use Rattle.mach_buffer.specs.declared.records.ConstPlace.{ConstPlace}
+use Rattle.mach_buffer.specs.declared.records.Event.{Event}
 use Rattle.mach_buffer.specs.Constants.{end_after, reserve_of, AllStand}
 use Rattle.mach_buffer.specs.Growth.{Lasts}
 use Rattle.mach_buffer.specs.Windows.{window, AreWindows, IsApart}
 use Rattle.mach_buffer.specs.Reach.{deadline, deadlines, due_by, is_pending, is_other, HasSlack}
 use Rattle.mach_buffer.specs.Buffer.{shape_of, bytes_of, uses_of, place_of, allocated_of, constants_of, pending_of, IsSound}
-use Rattle.mach_buffer.specs.Shape.{Shape, with_bytes, with_use, with_label, with_allocated, with_named, constant_label, placed, core, recorded, IsKnown, IsUsable}
+use Rattle.mach_buffer.specs.Shape.{Shape, with_bytes, with_use, with_label, with_allocated, with_record, with_named, constant_label, placed, core, recorded, IsKnown, IsUsable}
 use Rattle.mach_buffer.specs.Islands.{aligned, padding, needs_own, first_of, others_of, is_far, IsJumpOver, CanIsland, Islanded}
 use Rattle.mach_buffer.specs.Finish.{before_last, last_end, CanFinish}
 use Rattle.mach_buffer.specs.VeneerConditions.{AddsOwn}
 use Rattle.rv_emit_vectors.specs.Kept.{IsMet, IsKept}
-use Rattle.mach_buffer.proofs.Laws.{append_none, windows_bytes, OwnWindows, windows_block, windows_none, aligned_near, length_padded, Was, recorded_at, append_each, own_idle, due_fewer, deadlines_append, reaches_from_slack, veneers_reach, reach_from_slack, slack_less, slack_none, slack_same, slack_use, placed_same, IslandRest, island_rest, island_reserve, lasts_island, lasts_more, lasts_bytes, lasts_use, lasts_allocated, lasts_named, lasts_label, stands_last, ends_within}
+use Rattle.mach_buffer.proofs.Laws.{append_none, windows_bytes, OwnWindows, windows_block, windows_none, aligned_near, length_padded, Was, recorded_at, append_each, own_idle, due_fewer, deadlines_append, reaches_from_slack, veneers_reach, reach_from_slack, slack_less, slack_none, slack_same, slack_use, placed_same, IslandRest, island_rest, island_reserve, lasts_island, lasts_more, lasts_bytes, lasts_use, lasts_allocated, lasts_record, lasts_named, lasts_label, stands_last, ends_within}
 
 map_append_core : {L : Type 0} (uses : List (Use L)) (u : Use L) → recorded (uses ++ u ∷ []) ≡ recorded uses ++ recorded (u ∷ [])
 map_append_core [] u = refl
@@ -177,6 +178,21 @@ module _ {L : Type 0} {kinds : Kinds L} where
         supported = λ j u h. k.supported j u (ap (λ us. slice_get us j) (sym eu) ∙ h);
         named = λ j u h. subst (λ (x : Shape L). IsMet labels x u.label.number) (sym same) (still_met (lasts_allocated kinds (shape_of b)) u.label.number (k.named j u (ap (λ us. slice_get us j) (sym eu) ∙ h)));
         stand = still_stand (lasts_allocated kinds (shape_of b)) refl same k.stand;
+      }
+
+  -- a record is made
+  pub kept_recorded : {labels : ℕ} {b : MachBuffer L} → IsKept kinds labels b → (new : MachBuffer L) (event : Event) → IsSound kinds new → shape_of new ≡ with_record event (shape_of b) → IsKept kinds labels new
+  kept_recorded {labels} {b} k new event sound same =
+      let eb : bytes_of new ≡ bytes_of b = ap (λ (x : Shape L). x.bytes) same in
+      let eu : uses_of new ≡ uses_of b = ap (λ (x : Shape L). x.uses) same in
+      let ep : place_of new ≡ place_of b = ap (λ (x : Shape L). x.place) same in
+      record {
+        sound = sound;
+        windows = windows_as k.windows eb eu;
+        slack = subst (λ s. HasSlack (length s) 14 (pending_of kinds new)) (sym eb) (subst (HasSlack (length (bytes_of b)) 14) (sym (same_pending kinds b new eu ep)) k.slack);
+        supported = λ j u h. k.supported j u (ap (λ us. slice_get us j) (sym eu) ∙ h);
+        named = λ j u h. subst (λ (x : Shape L). IsMet labels x u.label.number) (sym same) (still_met (lasts_record kinds event (shape_of b)) u.label.number (k.named j u (ap (λ us. slice_get us j) (sym eu) ∙ h)));
+        stand = still_stand (lasts_record kinds event (shape_of b)) refl same k.stand;
       }
 
   -- a constant is named

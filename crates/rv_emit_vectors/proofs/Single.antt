@@ -18,7 +18,7 @@ use Rattle.rv_inst.specs.Forms.{jump_kind}
 use Rattle.rv_inst.specs.Rules.{inst_rule}
 use Rattle.mach_buffer.specs.declared.uses.Use.{Use}
 use Rattle.mach_buffer.specs.Reach.{CanReach, is_needed, deadlines}
-use Rattle.mach_buffer.specs.Buffer.{shape_of, bytes_of, uses_of, place_of, constants_of}
+use Rattle.mach_buffer.specs.Buffer.{shape_of, bytes_of, uses_of, place_of, records_of, constants_of}
 use Rattle.mach_buffer.specs.Windows.{AreWindows}
 use Rattle.mach_buffer.specs.Shape.{Shape}
 use Rattle.mach_buffer.specs.declared.records.ConstPlace.{ConstPlace}
@@ -28,6 +28,7 @@ use Rattle.mach_buffer.proofs.Laws.{windows_none, slack_from_reach, reaches_from
 use Rattle.rv_emit.specs.Emitted.{Buffer, HasWindows, pending, IsFarUse, AppendsInst, CanEmit, IsBounded}
 use Rattle.rv_emit.specs.declared.state.EmitVState.{EmitVState}
 use Rattle.rv_emit.specs.Emission.{EmitsIn}
+use Rattle.rv_emit.specs.Images.{FieldsStand}
 use Rattle.rv_emit.specs.InstParts.{parts_of}
 use Rattle.rv_inst.specs.Uses.{use_at, target_uses, uses_in}
 use Rattle.rv_inst.specs.Sizes.{line_space, island_space, inst_sum}
@@ -96,6 +97,17 @@ can_start context inst b frame rule none s = record {
       omega arith;
 }
 
+-- and no relocation's bytes
+none_in : {A : Type 0} (xs : List A) → xs ≡ [] → (k : ℕ) (x : A) → slice_get xs k ≡ Some x → ⊥
+none_in [] e k x h = absurd (cc)
+none_in (y ∷ ys) e k x h = absurd (cc)
+
+start_fields : (b : Buffer) → IsStart b → FieldsStand (shape_of b)
+start_fields b s = record {
+  ends = λ k r h. absurd (none_in (records_of b) s.records k r h);
+  clear = λ j u h. absurd (none_in (uses_of b) s.uses j u h);
+}
+
 -- ---- one instruction
 
 -- its uses name the label 0
@@ -117,7 +129,7 @@ uses_first context start inst h = on (targets_of inst) h
 pub holds_one : (context : Context) (setting : EmitVState) (inst : Inst) (old new : Buffer) → inst_rule context inst ≡ None → island_space context inst ≡ None → IsStart old → EmitsIn context setting inst old new → CanReach (length (bytes_of new)) (pending new) → IsBounded context inst old new → HoldsOne inst new
 holds_one context setting inst old new rule none s e reach bounded = record {
   sound = p.adds.sound;
-  windows = (parts_put context.flags (parts_of context setting inst) old new (are_blocks context setting inst rule) s.sound (start_windows old s) e).windows;
+  windows = (parts_put context.flags (parts_of context setting inst) old new (are_blocks context setting inst rule) s.sound (start_windows old s) (start_fields old s) e).windows;
   reach = reach;
   allocated = p.adds.allocated ∙ s.allocated;
   registered = p.adds.registered ∙ s.registered;

@@ -11,7 +11,7 @@ use Rattle.rv_inst.specs.LabelUse.{label_kinds, has_veneer_of}
 use Rattle.mach_buffer.specs.Islands.{is_far}
 use Rattle.mach_buffer.specs.declared.uses.Use.{Use}
 use Rattle.mach_buffer.specs.Reach.{CanReach}
-use Rattle.mach_buffer.specs.Buffer.{bytes_of, uses_of, place_of, allocated_of, registered_of, constants_of}
+use Rattle.mach_buffer.specs.Buffer.{bytes_of, uses_of, place_of, allocated_of, records_of, registered_of, constants_of}
 use Rattle.rv_emit.specs.Emitted.{Buffer, IsSoundBuffer, HasWindows, pending}
 
 -- a target is the label 0, where it is a label
@@ -36,6 +36,7 @@ pub record IsStart (b : Buffer) : Type 0 where
   pub uses : uses_of b ≡ []
   pub first : place_of b 0 ≡ Some 0
   pub allocated : allocated_of b ≡ 0
+  pub records : records_of b ≡ []
   pub registered : registered_of b ≡ []
   pub constants : constants_of b ≡ []
   pub sound : IsSoundBuffer b

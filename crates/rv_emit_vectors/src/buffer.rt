@@ -1,119 +1,19 @@
-//! The buffer over a toy: a kind of one byte that counts in steps of two, and a kind that reaches everywhere.
+//! The buffer over a toy: its calls, and an assembler of items.
 
 ghost use Rattle.std.specs.Prelude.{◌≡◌, ◌∷◌, []};
 ghost use Rattle.rv_base.specs.LabelUse.{code_limit};
 ghost use Rattle.mach_labels.specs.Table.{first_inner};
+ghost use Rattle.std.specs.Prelude.{◌≤◌, ◌<◌, ◌^◌, length, IfOk, None};
+ghost use Rattle.mach_buffer.specs.Buffer.{bytes_of, place_of, allocated_of, IsSound};
 
+use crate::toy::Toy;
 use mach_buffer::{Finished, MachBuffer};
 use rv_base::{
-    ConstAlign, Constant, List, MachInstLabelUse, MachLabel, OutOfMemory, Reloc, VCodeConstant,
+    Constant, MachInstLabelUse, MachLabel, OutOfMemory, Reloc, RelocTarget, TrapCode, UnwindInst,
+    VCodeConstant, f_reg,
 };
 use std::alloc::Global;
-use std::process::Abort;
 use std::test::Fail;
-
-/// A kind of use.
-#[derive(Clone, Copy, Debug, PartialEq, Eq)]
-pub enum Toy {
-    /// One byte: half the distance, from -128 to 127.
-    Short,
-    /// Four bytes: the distance modulo 2^32.
-    Far,
-}
-
-impl MachInstLabelUse for Toy {
-    ghost use Rattle.rv_emit_vectors.specs.declared.buffer.Toy.TheVariants.{Short, Far};
-    ghost use Rattle.std.specs.Prelude.{refl, ℕ, ◌+◌, ◌*◌, ◌/◌, ◌%◌, slice_index, ℤ, true, false, None};
-    ghost use Rattle.std.specs.Int.{cast_unsigned};
-    ghost use Rattle.std.proofs.Common.{rules};
-    ghost use mir.Syntax.{w32};
-
-    ghost kinds = { record { aims = elim [ Short ↦ λ window d. slice_index window 0 ≡ cast_unsigned w32 d / 2 % 256 | Far ↦ λ window d. slice_index window 0 + 256 * slice_index window 1 + 65536 * slice_index window 2 + 16777216 * slice_index window 3 ≡ cast_unsigned w32 d ]; fields = elim [ Short ↦ 0xff ∷ [] | Far ↦ 0xff ∷ 0xff ∷ 0xff ∷ 0xff ∷ [] ]; forward = elim [ Short ↦ 254 | Far ↦ 4294967295 ]; backward = elim [ Short ↦ 256 | Far ↦ 4294967295 ]; has_veneer = elim [ Short ↦ true | Far ↦ false ]; veneer = λ kind. record { bytes = 0 ∷ 0 ∷ 0 ∷ 0 ∷ 0xee ∷ 0xee ∷ 0xee ∷ 0xee ∷ []; place = 0; kind = Far } } };
-
-    ghost of_reloc = { λ reloc addend. None };
-
-    ghost ALIGN = { 4 };
-
-    ghost align_ok = { refl };
-
-    ghost veneer_ok = { Prim.search rules };
-
-    const ALIGN: u32 = 4;
-
-    fn max_pos_range(self) -> u32 {
-        match self {
-            Toy::Short => 254,
-            Toy::Far => 4294967295,
-        }
-    }
-
-    fn max_neg_range(self) -> u32 {
-        match self {
-            Toy::Short => 256,
-            Toy::Far => 4294967295,
-        }
-    }
-
-    fn patch_size(self) -> u32 {
-        match self {
-            Toy::Short => 1,
-            Toy::Far => 4,
-        }
-    }
-
-    fn patch(self, buffer: &mut [u8], use_offset: u32, label_offset: u32) {
-        let distance = label_offset.wrapping_sub(use_offset);
-        match self {
-            Toy::Short => write_half(buffer, distance),
-            Toy::Far => write_word(buffer, distance),
-        }
-    }
-
-    fn supports_veneer(self) -> bool {
-        matches!(self, Toy::Short)
-    }
-
-    fn veneer_size(self) -> u32 {
-        8
-    }
-
-    fn worst_case_veneer_size() -> u32 {
-        8
-    }
-
-    fn generate_veneer(self, buffer: &mut [u8], veneer_offset: u32) -> (u32, Toy) {
-        buffer.copy_from_slice(&[0, 0, 0, 0, 0xee, 0xee, 0xee, 0xee]);
-        (veneer_offset, Toy::Far)
-    }
-
-    fn from_reloc(_reloc: Reloc, _addend: i64) -> Option<Toy> {
-        None
-    }
-}
-
-ghost use Rattle.std.specs.Prelude.{◌≤◌, ◌/◌, ◌%◌, length, drop};
-
-/// Puts half a distance into the first byte, modulo 256.
-fn write_half(buffer: &mut [u8], distance: u32)
-    requires { 1 ≤ length buffer.old }
-    ensures { buffer.new ≡ distance / 2 % 256 ∷ drop 1 buffer.old }
-{
-    buffer[0] = (distance / 2 & 0xff) as u8;
-}
-
-/// Puts a word into the first four bytes.
-fn write_word(buffer: &mut [u8], word: u32)
-    requires { 4 ≤ length buffer.old }
-    ensures { buffer.new ≡ word % 256 ∷ word / 256 % 256 ∷ word / 65536 % 256 ∷ word / 16777216 ∷ drop 4 buffer.old }
-{
-    buffer[0] = (word & 0xff) as u8;
-    buffer[1] = (word >> 8 & 0xff) as u8;
-    buffer[2] = (word >> 16 & 0xff) as u8;
-    buffer[3] = (word >> 24) as u8;
-}
-
-ghost use Rattle.std.specs.Prelude.{◌<◌, ◌^◌, IfOk, None};
-ghost use Rattle.mach_buffer.specs.Buffer.{bytes_of, place_of, allocated_of, IsSound};
 
 /// A use of one byte, and no bytes.
 fn noted(alloc: Global, label: MachLabel) -> Result<MachBuffer<Toy>, OutOfMemory>
@@ -162,7 +62,7 @@ fn islands_are_needed_by_the_rule(rt: HostRuntime) -> Result<(), OutOfMemory> {
 }
 
 /// Code is shorter than this many bytes.
-const CODE_LIMIT: u64 = 2147479552;
+pub const CODE_LIMIT: u64 = 2147479552;
 
 /// Returns whether there is room for one byte too many and for as many as may be, and for eight more once the label is bound.
 fn room_left(alloc: Global) -> Result<[bool; 3], OutOfMemory> {
@@ -240,7 +140,7 @@ fn spoiled_buffers_refuse(rt: HostRuntime) -> Result<(), OutOfMemory> {
 
 /// What the assembler below reads.
 #[derive(Clone, Copy)]
-enum Item {
+pub enum Item {
     /// An even number of filler bytes, up to 250.
     Fill(u32),
     /// A use of one of four labels: a byte with its window, and a byte 0x11.
@@ -249,6 +149,51 @@ enum Item {
     Bind(u32),
     /// A use of a constant: a byte with its window, and a byte 0x11.
     Name(u32),
+    /// A record at the end of the code.
+    Record(Note),
+}
+
+/// What is recorded.
+#[derive(Clone, Copy)]
+pub enum Note {
+    /// That the stack overflows there.
+    Trap,
+    /// A relocation that refers to a symbol or to a label.
+    Refers(Reloc, RelocTarget, i64),
+    /// A relocation that refers to an offset.
+    RefersTo(Reloc, u32, i64),
+    /// A step in the making of the frame.
+    Makes(Step),
+}
+
+/// A step in the making of a frame, with its distances or sizes.
+#[derive(Clone, Copy)]
+pub enum Step {
+    Push(u32),
+    Frame(u32, u32),
+    Alloc(u32),
+    /// The register fs11 is saved.
+    Save(u32),
+}
+
+/// The step as it is recorded.
+pub fn inst_of(step: Step) -> UnwindInst {
+    match step {
+        Step::Push(offset_upward_to_caller_sp) => UnwindInst::PushFrameRegs {
+            offset_upward_to_caller_sp,
+        },
+        Step::Frame(offset_upward_to_caller_sp, offset_downward_to_clobbers) => {
+            UnwindInst::DefineNewFrame {
+                offset_upward_to_caller_sp,
+                offset_downward_to_clobbers,
+            }
+        }
+        Step::Alloc(size) => UnwindInst::StackAlloc { size },
+        Step::Save(clobber_offset) => UnwindInst::SaveReg {
+            clobber_offset,
+            reg: f_reg(27),
+        },
+    }
 }
 
 ghost use Rattle.std.specs.Prelude.{OnOk, ℕ, ◌+◌, ◌*◌, true, is_some};
@@ -278,7 +223,7 @@ fn put_jump<L: MachInstLabelUse>(buffer: &mut MachBuffer<L>, kind: L) -> Result<
 }
 
 /// Makes an island where one is needed before so many bytes, and notes where it stands.
-fn make_way<L: MachInstLabelUse>(
+pub fn make_way<L: MachInstLabelUse>(
     buffer: &mut MachBuffer<L>,
     kind: L,
     distance: u32,
@@ -400,8 +345,23 @@ fn bind<L: MachInstLabelUse>(buffer: &mut MachBuffer<L>, label: u32) -> Result<(
     Ok(())
 }
 
+/// Records what a note asks.
+fn put_note<L: MachInstLabelUse>(buffer: &mut MachBuffer<L>, note: Note) -> Result<(), OutOfMemory>
+    requires kept { IsKept L.kinds 4 buffer.old }
+    ensures kept { OnOk result (IsKept L.kinds 4 buffer.new) }
+    ensures registered { OnOk result (registered_of buffer.new ≡ registered_of buffer.old) }
+{
+    match note {
+        Note::Trap => buffer.add_trap(TrapCode::STACK_OVERFLOW)?,
+        Note::Refers(kind, target, addend) => buffer.add_reloc(kind, target, addend)?,
+        Note::RefersTo(kind, offset, addend) => buffer.add_reloc_to(kind, offset, addend)?,
+        Note::Makes(step) => buffer.add_unwind(inst_of(step))?,
+    }
+    Ok(())
+}
+
 /// Puts what an item asks.
-fn put_item<L: MachInstLabelUse>(
+pub fn put_item<L: MachInstLabelUse>(
     buffer: &mut MachBuffer<L>,
     kind: L,
     constants: &[Constant],
@@ -430,6 +390,10 @@ fn put_item<L: MachInstLabelUse>(
                 return Err(Fail::new("none of the constants"));
             }
             put_name(buffer, kind, VCodeConstant::from_u32(number), islands)
+        }
+        Item::Record(note) => {
+            put_note(buffer, note)?;
+            Ok(())
         }
     }
 }
@@ -465,7 +429,7 @@ fn end<L: MachInstLabelUse>(
 }
 
 /// An empty buffer with these constants.
-fn empty<L: MachInstLabelUse>(
+pub fn empty<L: MachInstLabelUse>(
     alloc: Global,
     constants: &[Constant],
 ) -> Result<MachBuffer<L>, OutOfMemory>
@@ -479,7 +443,7 @@ fn empty<L: MachInstLabelUse>(
 }
 
 /// Assembles items, and notes where islands stand.
-fn assemble<L: MachInstLabelUse>(
+pub fn assemble<L: MachInstLabelUse>(
     alloc: Global,
     kind: L,
     constants: &[Constant],
@@ -496,361 +460,4 @@ fn assemble<L: MachInstLabelUse>(
         put_item(&mut buffer, kind, constants, *item, islands)?;
     }
     end(buffer, constants)
-}
-
-use self::Item::{Bind, Fill, Name, Use};
-
-/// Items with the places of their islands, and how long their code is.
-struct Stand {
-    items: &'static [Item],
-    at: &'static [u32],
-    long: usize,
-}
-
-// One use that is pending at 0 has the deadline 254, and 254 - 14 - 8 * 3 = 216. Of two the later has 256, and
-// 256 - 14 - 8 * 4 = 210. Of 28 the last has 308, and 308 - 14 - 8 * 30 = 54.
-const STANDS: [Stand; 10] = [
-    Stand {
-        items: &[Use(0), Fill(100), Bind(0)],
-        at: &[],
-        long: 102,
-    },
-    Stand {
-        items: &[Use(0), Fill(214), Bind(0)],
-        at: &[],
-        long: 216,
-    },
-    Stand {
-        items: &[Use(0), Fill(216), Bind(0)],
-        at: &[2],
-        long: 232,
-    },
-    Stand {
-        items: &[Use(0), Fill(214), Fill(2)],
-        at: &[216],
-        long: 230,
-    },
-    Stand {
-        items: &[Use(0), Use(0), Fill(206)],
-        at: &[],
-        long: 210,
-    },
-    Stand {
-        items: &[Use(0), Use(1), Fill(208)],
-        at: &[4],
-        long: 232,
-    },
-    Stand {
-        items: &[Use(0), Use(1), Bind(0), Fill(214)],
-        at: &[],
-        long: 218,
-    },
-    Stand {
-        items: &[Bind(0), Fill(250), Use(0)],
-        at: &[],
-        long: 252,
-    },
-    Stand {
-        items: &[Use(0); 28],
-        at: &[],
-        long: 56,
-    },
-    Stand {
-        items: &[Use(0); 40],
-        at: &[56],
-        long: 308,
-    },
-];
-
-/// Stops unless the islands of a row stand at its offsets, and its code is as long.
-fn assert_stand(rt: &impl Abort, alloc: Global, row: &Stand) -> Result<(), Fail> {
-    let mut islands = Vec::new(alloc);
-    let code = assemble(alloc, Toy::Short, &[], row.items, &mut islands)?;
-    assert_eq!(rt; islands.as_slice(), row.at);
-    assert_eq!(rt; code.bytes.len(), row.long);
-    Ok(())
-}
-
-#[test]
-fn islands_stand_by_the_rule(rt: HostRuntime) -> Result<(), Fail> {
-    for row in &STANDS {
-        assert_stand(&rt, rt.alloc(), row)?;
-    }
-    Ok(())
-}
-
-/// Items with some bytes of their code, from `at` on.
-struct Aim {
-    items: &'static [Item],
-    at: usize,
-    bytes: &'static [u8],
-}
-
-const AIMS: [Aim; 4] = [
-    Aim {
-        items: &[Use(0), Fill(2), Bind(0)],
-        at: 0,
-        bytes: &[2, 0x11, 0x44, 0x44],
-    },
-    // A jump at 2 round an island, whose veneer at 8 goes to 232.
-    Aim {
-        items: &[Use(0), Fill(216)],
-        at: 0,
-        bytes: &[
-            4, 0x11, 7, 0xaa, 0xaa, 0xaa, 0, 0, 0xe0, 0, 0, 0, 0xee, 0xee, 0xee, 0xee, 0x44,
-        ],
-    },
-    // A jump at 4; the earlier use has the earlier veneer.
-    Aim {
-        items: &[Use(0), Use(0), Fill(208)],
-        at: 0,
-        bytes: &[
-            4, 0x11, 7, 0x11, 10, 0xaa, 0xaa, 0xaa, 0xe0, 0, 0, 0, 0xee, 0xee, 0xee, 0xee, 0xd8,
-        ],
-    },
-    // A use at 260 of a label at 0 goes by a veneer at 264, which is put at the end.
-    Aim {
-        items: &[Bind(0), Fill(250), Fill(10), Use(0)],
-        at: 260,
-        bytes: &[
-            2, 0x11, 0, 0, 0xf8, 0xfe, 0xff, 0xff, 0xee, 0xee, 0xee, 0xee,
-        ],
-    },
-];
-
-/// Stops unless the code of a row has its bytes.
-fn assert_aim(rt: &impl Abort, alloc: Global, row: &Aim) -> Result<(), Fail> {
-    let mut islands = Vec::new(alloc);
-    let code = assemble(alloc, Toy::Short, &[], row.items, &mut islands)?;
-    let rest = code.bytes.as_slice().get(row.at..).unwrap_or(&[]);
-    let found = rest.get(..row.bytes.len()).unwrap_or(&[]);
-    assert_eq!(rt; found, row.bytes);
-    Ok(())
-}
-
-#[test]
-fn windows_aim_at_labels_and_veneers(rt: HostRuntime) -> Result<(), Fail> {
-    for row in &AIMS {
-        assert_aim(&rt, rt.alloc(), row)?;
-    }
-    Ok(())
-}
-
-/// The first labels that a buffer draws.
-fn allocated(alloc: Global) -> Result<[u32; 2], OutOfMemory> {
-    let mut buffer = MachBuffer::<Toy>::new(alloc);
-    let first = buffer.get_label()?;
-    let second = buffer.get_label()?;
-    Ok([first.as_u32(), second.as_u32()])
-}
-
-#[test]
-fn labels_are_drawn_in_order(rt: HostRuntime) -> Result<(), OutOfMemory> {
-    assert_eq!(rt; allocated(rt.alloc())?, [0x40000000, 0x40000001]);
-    Ok(())
-}
-
-/// A constant's alignment and bytes.
-struct Datum {
-    align: ConstAlign,
-    bytes: &'static [u8],
-}
-
-const DATA: [Datum; 7] = [
-    Datum {
-        align: ConstAlign::A1,
-        bytes: &[0xc0],
-    },
-    Datum {
-        align: ConstAlign::A16,
-        bytes: &[0xc1; 5],
-    },
-    Datum {
-        align: ConstAlign::A2,
-        bytes: &[0xc2; 3],
-    },
-    Datum {
-        align: ConstAlign::A8,
-        bytes: &[0xc3; 7],
-    },
-    Datum {
-        align: ConstAlign::A4,
-        bytes: &[0xc4; 4],
-    },
-    Datum {
-        align: ConstAlign::A1,
-        bytes: &[0xc5; 251],
-    },
-    Datum {
-        align: ConstAlign::A2,
-        bytes: &[0xc6; 9],
-    },
-];
-
-fn constants_of(alloc: Global, data: &[Datum]) -> Result<Vec<Constant>, OutOfMemory> {
-    let mut constants = Vec::new(alloc);
-    for datum in data {
-        let mut bytes = Vec::new(alloc);
-        bytes.extend_from_slice(datum.bytes)?;
-        constants.push(Constant {
-            bytes: List::from_vec(bytes),
-            align: datum.align,
-        })?;
-    }
-    Ok(constants)
-}
-
-/// Items with how long their code is, the numbers and offsets of their constants, and some bytes, from `at` on.
-struct Pool {
-    items: &'static [Item],
-    long: usize,
-    constants: &'static [(u32, u32)],
-    at: usize,
-    bytes: &'static [u8],
-}
-
-const POOLS: [Pool; 8] = [
-    // Nothing is named.
-    Pool {
-        items: &[Fill(2)],
-        long: 2,
-        constants: &[],
-        at: 0,
-        bytes: &[0x44, 0x44],
-    },
-    // A use at 0 goes by a veneer at 4 to a constant at 12.
-    Pool {
-        items: &[Name(4)],
-        long: 16,
-        constants: &[(4, 12)],
-        at: 0,
-        bytes: &[
-            2, 0x11, 0, 0, 8, 0, 0, 0, 0xee, 0xee, 0xee, 0xee, 0xc4, 0xc4, 0xc4, 0xc4,
-        ],
-    },
-    // Six uses go by veneers from 12 on; the first and the fourth to one constant.
-    Pool {
-        items: &[Name(3), Name(0), Name(4), Name(3), Name(1), Name(2)],
-        long: 89,
-        constants: &[(3, 64), (0, 72), (4, 76), (1, 80), (2, 86)],
-        at: 0,
-        bytes: &[
-            6, 0x11, 9, 0x11, 12, 0x11, 15, 0x11, 18, 0x11, 21, 0x11, 52, 0, 0, 0, 0xee, 0xee,
-            0xee, 0xee, 52, 0, 0, 0, 0xee, 0xee, 0xee, 0xee, 48, 0, 0, 0, 0xee, 0xee, 0xee, 0xee,
-            28, 0, 0, 0, 0xee, 0xee, 0xee, 0xee, 36, 0, 0, 0, 0xee, 0xee, 0xee, 0xee, 34, 0, 0, 0,
-            0xee, 0xee, 0xee, 0xee, 0, 0, 0, 0, 0xc3, 0xc3, 0xc3, 0xc3, 0xc3, 0xc3, 0xc3, 0, 0xc0,
-            0, 0, 0, 0xc4, 0xc4, 0xc4, 0xc4, 0xc1, 0xc1, 0xc1, 0xc1, 0xc1, 0, 0xc2, 0xc2, 0xc2,
-        ],
-    },
-    // A jump at 2 round an island, which has a veneer at 8 and a constant at 16, and ends at 24.
-    Pool {
-        items: &[Name(1), Fill(216), Name(2), Name(1)],
-        long: 255,
-        constants: &[(1, 16), (2, 252)],
-        at: 0,
-        bytes: &[
-            4, 0x11, 11, 0xaa, 0xaa, 0xaa, 0, 0, 8, 0, 0, 0, 0xee, 0xee, 0xee, 0xee, 0xc1, 0xc1,
-            0xc1, 0xc1, 0xc1, 0, 0, 0, 0x44,
-        ],
-    },
-    // After it a use at 240 goes by a veneer at 244 to a constant at 252, and one at 242 goes 226 bytes back.
-    Pool {
-        items: &[Name(1), Fill(216), Name(2), Name(1)],
-        long: 255,
-        constants: &[(1, 16), (2, 252)],
-        at: 239,
-        bytes: &[
-            0x44, 2, 0x11, 0x8f, 0x11, 8, 0, 0, 0, 0xee, 0xee, 0xee, 0xee, 0xc2, 0xc2, 0xc2,
-        ],
-    },
-    // With a constant of 251 bytes at 16 the island would end at 268, and a jump at 2 reaches 256: so it goes by a veneer of its
-    // own at 8 to the end at 276.
-    Pool {
-        items: &[Name(5), Fill(216)],
-        long: 492,
-        constants: &[(5, 24)],
-        at: 0,
-        bytes: &[
-            8, 0x11, 3, 0xaa, 0xaa, 0xaa, 0, 0, 12, 1, 0, 0, 0xee, 0xee, 0xee, 0xee, 8, 0, 0, 0,
-            0xee, 0xee, 0xee, 0xee, 0xc5,
-        ],
-    },
-    Pool {
-        items: &[Name(5), Fill(216)],
-        long: 492,
-        constants: &[(5, 24)],
-        at: 272,
-        bytes: &[0xc5, 0xc5, 0xc5, 0, 0x44],
-    },
-    // A label's veneer at 8, and then a constant's at 16 to 24, and an island's end at 28.
-    Pool {
-        items: &[Use(0), Name(2), Fill(208), Name(2)],
-        long: 238,
-        constants: &[(2, 24)],
-        at: 0,
-        bytes: &[
-            4, 0x11, 7, 0x11, 12, 0xaa, 0xaa, 0xaa, 0xe6, 0, 0, 0, 0xee, 0xee, 0xee, 0xee, 8, 0, 0,
-            0, 0xee, 0xee, 0xee, 0xee, 0xc2, 0xc2, 0xc2, 0, 0x44,
-        ],
-    },
-];
-
-/// Stops unless the code of a row has its constants and its bytes.
-fn assert_pool(rt: &impl Abort, alloc: Global, row: &Pool) -> Result<(), Fail> {
-    let constants = constants_of(alloc, &DATA)?;
-    let mut islands = Vec::new(alloc);
-    let code = assemble(alloc, Toy::Short, &constants, row.items, &mut islands)?;
-    assert_eq!(rt; code.bytes.len(), row.long);
-    let mut places = Vec::new(alloc);
-    for place in code.constants.as_slice() {
-        places.push((place.constant.number, place.offset))?;
-    }
-    assert_eq!(rt; places.as_slice(), row.constants);
-    let rest = code.bytes.as_slice().get(row.at..).unwrap_or(&[]);
-    let found = rest.get(..row.bytes.len()).unwrap_or(&[]);
-    assert_eq!(rt; found, row.bytes);
-    Ok(())
-}
-
-#[test]
-fn constants_stand_after_veneers(rt: HostRuntime) -> Result<(), Fail> {
-    for row in &POOLS {
-        assert_pool(&rt, rt.alloc(), row)?;
-    }
-    Ok(())
-}
-
-const TWO: [Datum; 2] = [
-    Datum {
-        align: ConstAlign::A1,
-        bytes: &[0xc0; 3],
-    },
-    Datum {
-        align: ConstAlign::A1,
-        bytes: &[0xc1; 5],
-    },
-];
-
-/// Returns whether there is room for one byte too many and for as many as may be, with constants of 3 and 5 bytes; and the same
-/// once the second stands.
-fn room_for_constants(alloc: Global) -> Result<[bool; 4], Fail> {
-    let constants = constants_of(alloc, &TWO)?;
-    if constants.len() > 2 {
-        return Err(Fail::new("more than two constants"));
-    }
-    let mut islands = Vec::new(alloc);
-    let mut buffer = empty::<Toy>(alloc, &constants)?;
-    let too_many = buffer.has_room(CODE_LIMIT - 72);
-    let most = buffer.has_room(CODE_LIMIT - 73);
-    put_item(&mut buffer, Toy::Short, &constants, Name(1), &mut islands)?;
-    // The constant stands from 16 to 21, and the island ends at 24.
-    make_way(&mut buffer, Toy::Short, 250, &mut islands)?;
-    let more = buffer.has_room(CODE_LIMIT - 75);
-    Ok([too_many, most, more, buffer.has_room(CODE_LIMIT - 76)])
-}
-
-#[test]
-fn room_is_left_for_constants(rt: HostRuntime) -> Result<(), Fail> {
-    assert_eq!(rt; room_for_constants(rt.alloc())?, [false, true, false, true]);
-    Ok(())
 }

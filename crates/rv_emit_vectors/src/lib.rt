@@ -4,6 +4,8 @@
 #[cfg(test)]
 mod buffer;
 #[cfg(test)]
+mod constant_rows;
+#[cfg(test)]
 mod emission;
 #[cfg(test)]
 mod generators;
@@ -14,11 +16,17 @@ mod halves;
 #[cfg(test)]
 mod immediates;
 #[cfg(test)]
+mod island_rows;
+#[cfg(test)]
 mod label_table;
 #[cfg(test)]
 mod label_uses;
 #[cfg(test)]
+mod record_rows;
+#[cfg(test)]
 mod registers;
+#[cfg(test)]
+mod toy;
 #[cfg(test)]
 mod vec_amode;
 #[cfg(test)]

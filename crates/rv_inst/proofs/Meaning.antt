@@ -1,4 +1,4 @@
--- What a line means depends on no labels but those that it names, and on where constants stand.
+-- What a line means depends on no labels but those that it names, and on where constants, symbols and slots stand.
 use Rattle.std.proofs.Common.{◌≡◌, ◌+◌, ◌*◌, ◌^◌, List, [], ◌∷◌, ◌++◌, refl, ap}
 use Rattle.rv_base.specs.declared.label.MachLabel.{MachLabel}
 use Rattle.rv_base.specs.Regs.{number_of}
@@ -8,9 +8,10 @@ use Rattle.rv_base.specs.AMode.{offset_of}
 use Rattle.rv_encode.specs.Operations.{load_op, store_op}
 use Rattle.rv_machine.specs.Memory.{load_result, store_bytes}
 use Rattle.rv_machine.specs.State.{Values, reg, set_reg, wrap, low64}
+use Rattle.rv_ops.specs.declared.memory.LoadOP.TheVariants.{Ld}
 use Rattle.rv_ops.specs.Memory.{store_size}
 use Rattle.rv_inst.specs.declared.inst.Inst.{Inst}
-use Rattle.rv_inst.specs.declared.inst.Inst.TheVariants.{Nop0, Auipc, Load, Store, LoadAddr, LabelAddress, Jalr}
+use Rattle.rv_inst.specs.declared.inst.Inst.TheVariants.{Nop0, Auipc, Load, Store, LoadAddr, LabelAddress, Jalr, LoadExtNameGot, LoadExtNameNear, LoadExtNameFar}
 use Rattle.rv_inst.specs.declared.inst.Line.{Line}
 use Rattle.rv_inst.specs.declared.inst.Line.TheVariants.{Inst as Put, Bind}
 use Rattle.rv_inst.specs.Environments.{SameLabels, AgreeOn}
@@ -33,7 +34,7 @@ same_first e f [] more s = tt
 same_first e f (l ∷ labels) more s = (s.0, same_first e f labels more s.1)
 
 agree_first : {e f : Environment} (labels more : List MachLabel) → AgreeOn (labels ++ more) e f → AgreeOn labels e f
-agree_first {e} {f} labels more a = record { start = a.start; after = a.after; frame = a.frame; labels_same = same_first e f labels more a.labels_same; constants_same = a.constants_same }
+agree_first {e} {f} labels more a = record { start = a.start; after = a.after; frame = a.frame; labels_same = same_first e f labels more a.labels_same; constants_same = a.constants_same; symbols_same = a.symbols_same; slots_same = a.slots_same }
 
 inst_effect_agrees : {e f : Environment} (inst : Inst) (v : Values) → AgreeOn (inst_labels inst) e f → inst_effect e inst v ≡ inst_effect f inst v
 inst_effect_agrees (Auipc rd imm) v a = ap (λ n. set_reg v (number_of rd.reg) (wrap (n + low64 imm.value * 2 ^ 12))) a.start
@@ -42,6 +43,9 @@ inst_effect_agrees (Store to op flags src) v a = ap (λ n. put_bytes v n (store_
 inst_effect_agrees (LoadAddr rd mem) v a = ap (set_reg v (number_of rd.reg)) (address_agrees mem v (agree_first (labels_of (address_targets mem)) [] a))
 inst_effect_agrees (LabelAddress dst label) v a = ap (set_reg v (number_of dst.reg)) a.labels_same.0
 inst_effect_agrees (Jalr rd base offset) v a = ap (set_reg v (number_of rd.reg)) a.after
+inst_effect_agrees (LoadExtNameGot rd name) v a = ap (λ n. set_reg v (number_of rd.reg) (load_result (load_op Ld) v.mem n)) (a.slots_same name.number)
+inst_effect_agrees (LoadExtNameNear rd name offset) v a = ap (λ n. set_reg v (number_of rd.reg) (wrap (n + low64 offset))) (a.symbols_same name.number)
+inst_effect_agrees (LoadExtNameFar rd name offset) v a = ap (λ n. set_reg v (number_of rd.reg) (wrap (n + low64 offset))) (a.symbols_same name.number)
 inst_effect_agrees _ v a = refl
 
 inst_writes_agree : {e f : Environment} (inst : Inst) (v : Values) → AgreeOn (inst_labels inst) e f → inst_writes e inst v ≡ inst_writes f inst v

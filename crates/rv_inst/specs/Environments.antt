@@ -1,5 +1,5 @@
--- Environments in which a line means the same, since labels that it names, and all constants, stand at the same addresses: a link
--- of the proof.
+-- Environments in which a line means the same, since labels that it names, and all constants, symbols and slots, stand at the same
+-- addresses: a link of the proof.
 use Rattle.std.specs.Prelude.{◌≡◌, ℕ, List, [], ◌∷◌}
 use Rattle.rv_base.specs.declared.label.MachLabel.{MachLabel}
 use Rattle.rv_inst.specs.Meaning.{Environment}
@@ -15,3 +15,5 @@ pub record AgreeOn (labels : List MachLabel) (e f : Environment) : Type 0 where
   pub frame : e.frame ≡ f.frame
   pub labels_same : SameLabels labels e f
   pub constants_same : (k : ℕ) → e.constant k ≡ f.constant k
+  pub symbols_same : (n : ℕ) → e.symbol n ≡ f.symbol n
+  pub slots_same : (n : ℕ) → e.slot n ≡ f.slot n

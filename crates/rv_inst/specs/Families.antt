@@ -1,8 +1,8 @@
 -- The families of instructions.
 use Rattle.rv_inst.specs.declared.inst.Inst.{Inst}
-use Rattle.rv_inst.specs.declared.inst.Inst.TheVariants.{Nop0, Nop4, EBreak, SequencePoint, Args, Rets, DummyUse, EmitIsland, RawData, Lui, Auipc, LoadInlineConst, AluRRR, AluRRImm12, Mov, MovFromPReg, Extend, Select, Load, Store, LoadAddr, LabelAddress, Ret, TrapIf, Jal, CondBr, BrTable, Udf, Jalr, Popcnt, Cltz, Brev8, StackProbeLoop}
+use Rattle.rv_inst.specs.declared.inst.Inst.TheVariants.{Nop0, Nop4, EBreak, SequencePoint, Args, Rets, DummyUse, Unwind, EmitIsland, RawData, Lui, Auipc, LoadInlineConst, AluRRR, AluRRImm12, Mov, MovFromPReg, Extend, Select, Load, Store, LoadAddr, LabelAddress, Ret, TrapIf, Jal, CondBr, BrTable, Udf, Jalr, Popcnt, Cltz, Brev8, StackProbeLoop, LoadExtNameGot, LoadExtNameNear, LoadExtNameFar}
 use Rattle.rv_inst.specs.declared.inst.Family.{Family}
-use Rattle.rv_inst.specs.declared.inst.Family.TheVariants.{Pseudo, Integer, Memory, Control, Loop}
+use Rattle.rv_inst.specs.declared.inst.Family.TheVariants.{Pseudo, Integer, Memory, Control, Loop, Symbols}
 
 abbrev pub family_of : Inst → Family
 family_of Nop0 = Pseudo
@@ -12,6 +12,7 @@ family_of SequencePoint = Pseudo
 family_of (Args args) = Pseudo
 family_of (Rets rets) = Pseudo
 family_of (DummyUse reg) = Pseudo
+family_of (Unwind inst) = Pseudo
 family_of (EmitIsland needed_space) = Pseudo
 family_of (RawData bytes) = Pseudo
 family_of (Lui rd imm) = Integer
@@ -38,3 +39,6 @@ family_of (Popcnt sum tmp step rs type) = Loop
 family_of (Cltz sum tmp step rs leading type) = Loop
 family_of (Brev8 rs type step tmp tmp2 rd) = Loop
 family_of (StackProbeLoop guard_size probe_count tmp) = Loop
+family_of (LoadExtNameGot rd name) = Symbols
+family_of (LoadExtNameNear rd name offset) = Symbols
+family_of (LoadExtNameFar rd name offset) = Symbols

@@ -1,4 +1,6 @@
 pub mod Families
+pub mod Records
+pub mod Relocations
 pub mod Forms
 pub mod Operands
 pub mod Immediates
@@ -17,6 +19,5 @@ pub mod CondBrTargets
 pub mod RegisterTests
 pub mod Uses
 pub mod Context
-pub mod Traps
 pub mod Environments
 pub mod Addresses

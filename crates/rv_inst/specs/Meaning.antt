@@ -1,6 +1,7 @@
 -- What a line means: what it makes of the values, and how it is left.
 use Rattle.std.specs.Prelude.{◌⊎◌, ℕ, zero, suc, ◌+◌, ◌-◌, ◌*◌, ◌/◌, ◌^◌, ◌<◌, ◌≤◌, ◌==◌, Bool, if◌then◌else◌, List, [], ◌∷◌, length, slice_index, slice_get, unwrap_or, map, ℤ}
 use Rattle.rv_base.specs.declared.amode.AMode.{AMode}
+use Rattle.rv_base.specs.declared.external_name.ExternalName.{ExternalName}
 use Rattle.rv_base.specs.declared.frame.FrameLayout.{FrameLayout}
 use Rattle.rv_base.specs.declared.ir_type.IrType.{IrType}
 use Rattle.rv_base.specs.declared.label.MachLabel.{MachLabel}
@@ -12,6 +13,7 @@ use Rattle.rv_base.specs.CondCodes.{holds}
 use Rattle.rv_ops.specs.declared.alu.AluOPRRR.{AluOPRRR}
 use Rattle.rv_ops.specs.declared.alu.AluOPRRI.{AluOPRRI}
 use Rattle.rv_ops.specs.declared.compare.IntegerCompare.{IntegerCompare}
+use Rattle.rv_ops.specs.declared.memory.LoadOP.TheVariants.{Ld}
 use Rattle.rv_ops.specs.Alu.{is_reversed}
 use Rattle.rv_encode.specs.Operations.{rrr_op, rri_op, load_op, store_op}
 use Rattle.rv_inst.specs.Addresses.{Location, Based, AtLabel, AtConstant, location_of}
@@ -21,7 +23,7 @@ use Rattle.rv_inst.specs.Operands.{all_of, written_in}
 use Rattle.rv_inst.specs.declared.inst.Line.{Line}
 use Rattle.rv_inst.specs.declared.inst.Line.TheVariants.{Inst as Put, Bind}
 use Rattle.rv_inst.specs.declared.inst.Inst.{Inst}
-use Rattle.rv_inst.specs.declared.inst.Inst.TheVariants.{Nop0, Nop4, EBreak, SequencePoint, Args, Rets, DummyUse, EmitIsland, RawData, Lui, Auipc, LoadInlineConst, AluRRR, AluRRImm12, Mov, MovFromPReg, Extend, Select, Load, Store, LoadAddr, LabelAddress, Ret, TrapIf, Jal, CondBr, BrTable, Udf, Jalr, Popcnt, Cltz, Brev8, StackProbeLoop}
+use Rattle.rv_inst.specs.declared.inst.Inst.TheVariants.{Nop0, Nop4, EBreak, SequencePoint, Args, Rets, DummyUse, Unwind, EmitIsland, RawData, Lui, Auipc, LoadInlineConst, AluRRR, AluRRImm12, Mov, MovFromPReg, Extend, Select, Load, Store, LoadAddr, LabelAddress, Ret, TrapIf, Jal, CondBr, BrTable, Udf, Jalr, Popcnt, Cltz, Brev8, StackProbeLoop, LoadExtNameGot, LoadExtNameNear, LoadExtNameFar}
 use Rattle.rv_inst.specs.declared.inst.CondBrTarget.{CondBrTarget}
 use Rattle.rv_inst.specs.declared.inst.CondBrTarget.TheVariants.{Label, Fallthrough}
 use Rattle.rv_machine.specs.State.{Values, reg, set_reg, store, wrap, low64}
@@ -43,13 +45,15 @@ alu_rri op x n = alu_result (rri_op op) x 0 (low64 n)
 abbrev pub constant_of : IrType → ℕ → ℕ
 constant_of type n = if bits_of type == 32 then extend_word n else wrap n
 
--- What a line is read among: the addresses of its first byte, of the byte after its last, and of labels and constants by their
--- numbers; and the frame.
+-- What a line is read among: the addresses of its first byte, of the byte after its last, of labels, constants and symbols by their
+-- numbers, and of the slots that hold the addresses of symbols; and the frame.
 pub record Environment : Type 0 where
   pub start : ℕ
   pub after : ℕ
   pub label : ℕ → ℕ
   pub constant : ℕ → ℕ
+  pub symbol : ℕ → ℕ
+  pub slot : ℕ → ℕ
   pub frame : FrameLayout
 
 -- the address of a location
@@ -61,6 +65,10 @@ address_at env v (AtConstant k) = env.constant k.number
 -- the address of a load or a store
 abbrev pub address_of : Environment → AMode → Values → ℕ
 address_of env mode v = address_at env v (location_of env.frame mode)
+
+-- the address of a symbol plus an offset
+abbrev pub symbol_at : Environment → ExternalName → ℤ → ℕ
+symbol_at env name offset = wrap (env.symbol name.number + low64 offset)
 
 -- so many addresses, one after the other, from one on
 abbrev pub addresses_from : ℕ → ℕ → List ℕ
@@ -105,6 +113,7 @@ inst_effect env SequencePoint v = v
 inst_effect env (Args args) v = v
 inst_effect env (Rets rets) v = v
 inst_effect env (DummyUse reg) v = v
+inst_effect env (Unwind inst) v = v
 inst_effect env (EmitIsland needed_space) v = v
 inst_effect env (RawData bytes) v = v
 inst_effect env (Lui rd imm) v = set_reg v (number_of rd.reg) (wrap (low64 imm.value * 2 ^ 12))
@@ -131,6 +140,9 @@ inst_effect env (Popcnt sum tmp step rs type) v = set_reg v (number_of sum.reg) 
 inst_effect env (Cltz sum tmp step rs leading type) v = set_reg v (number_of sum.reg) (zeros leading (bits_of type) (reg v (number_of rs)))
 inst_effect env (Brev8 rs type step tmp tmp2 rd) v = set_reg v (number_of rd.reg) (reversed_bytes (bits_of type / 8) (reg v (number_of rs)))
 inst_effect env (StackProbeLoop guard_size probe_count tmp) v = zero_bytes v (probes_of (reg v 2) (low_word guard_size) (low_word probe_count))
+inst_effect env (LoadExtNameGot rd name) v = set_reg v (number_of rd.reg) (load_result (load_op Ld) v.mem (env.slot name.number))
+inst_effect env (LoadExtNameNear rd name offset) v = set_reg v (number_of rd.reg) (symbol_at env name offset)
+inst_effect env (LoadExtNameFar rd name offset) v = set_reg v (number_of rd.reg) (symbol_at env name offset)
 
 -- what a line makes of the values
 abbrev pub effect_of : Environment → Line → Values → Values
@@ -146,6 +158,7 @@ inst_writes env SequencePoint v = []
 inst_writes env (Args args) v = []
 inst_writes env (Rets rets) v = []
 inst_writes env (DummyUse reg) v = []
+inst_writes env (Unwind inst) v = []
 inst_writes env (EmitIsland needed_space) v = []
 inst_writes env (RawData bytes) v = []
 inst_writes env (Lui rd imm) v = []
@@ -172,6 +185,9 @@ inst_writes env (Popcnt sum tmp step rs type) v = []
 inst_writes env (Cltz sum tmp step rs leading type) v = []
 inst_writes env (Brev8 rs type step tmp tmp2 rd) v = []
 inst_writes env (StackProbeLoop guard_size probe_count tmp) v = probes_of (reg v 2) (low_word guard_size) (low_word probe_count)
+inst_writes env (LoadExtNameGot rd name) v = []
+inst_writes env (LoadExtNameNear rd name offset) v = []
+inst_writes env (LoadExtNameFar rd name offset) v = []
 
 abbrev pub writes_of : Environment → Line → Values → List ℕ
 writes_of env (Put inst) v = inst_writes env inst v
@@ -190,6 +206,7 @@ inst_temporaries SequencePoint = []
 inst_temporaries (Args args) = []
 inst_temporaries (Rets rets) = []
 inst_temporaries (DummyUse reg) = []
+inst_temporaries (Unwind inst) = []
 inst_temporaries (EmitIsland needed_space) = []
 inst_temporaries (RawData bytes) = []
 inst_temporaries (Lui rd imm) = []
@@ -216,6 +233,9 @@ inst_temporaries (Popcnt sum tmp step rs type) = number_of tmp.reg ∷ number_of
 inst_temporaries (Cltz sum tmp step rs leading type) = number_of tmp.reg ∷ number_of step.reg ∷ []
 inst_temporaries (Brev8 rs type step tmp tmp2 rd) = number_of step.reg ∷ number_of tmp.reg ∷ number_of tmp2.reg ∷ []
 inst_temporaries (StackProbeLoop guard_size probe_count tmp) = number_of tmp.reg ∷ []
+inst_temporaries (LoadExtNameGot rd name) = []
+inst_temporaries (LoadExtNameNear rd name offset) = []
+inst_temporaries (LoadExtNameFar rd name offset) = []
 
 abbrev pub temporaries_of : Line → List ℕ
 temporaries_of (Put inst) = inst_temporaries inst
@@ -251,6 +271,7 @@ inst_exit env SequencePoint v = Next
 inst_exit env (Args args) v = Next
 inst_exit env (Rets rets) v = Next
 inst_exit env (DummyUse reg) v = Next
+inst_exit env (Unwind inst) v = Next
 inst_exit env (EmitIsland needed_space) v = Next
 inst_exit env (RawData bytes) v = Data
 inst_exit env (Lui rd imm) v = Next
@@ -277,6 +298,9 @@ inst_exit env (Popcnt sum tmp step rs type) v = Next
 inst_exit env (Cltz sum tmp step rs leading type) v = Next
 inst_exit env (Brev8 rs type step tmp tmp2 rd) v = Next
 inst_exit env (StackProbeLoop guard_size probe_count tmp) v = Next
+inst_exit env (LoadExtNameGot rd name) v = Next
+inst_exit env (LoadExtNameNear rd name offset) v = Next
+inst_exit env (LoadExtNameFar rd name offset) v = Next
 
 -- how a line is left from these values
 abbrev pub exit_of : Environment → Line → Values → Exit

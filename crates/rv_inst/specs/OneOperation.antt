@@ -14,7 +14,7 @@ use Rattle.rv_inst.specs.Context.{Context}
 use Rattle.rv_inst.specs.Sizes.{is_byte}
 use Rattle.rv_inst.specs.Forms.{short_rrr, short_rri, short_lui, short_jalr, short_ebreak, short_load, short_store}
 use Rattle.rv_inst.specs.declared.inst.Inst.{Inst}
-use Rattle.rv_inst.specs.declared.inst.Inst.TheVariants.{Nop0, Nop4, EBreak, SequencePoint, Args, Rets, DummyUse, EmitIsland, RawData, Lui, Auipc, LoadInlineConst, AluRRR, AluRRImm12, Mov, MovFromPReg, Extend, Select, Load, Store, LoadAddr, LabelAddress, Ret, TrapIf, Jal, CondBr, BrTable, Udf, Jalr, Popcnt, Cltz, Brev8, StackProbeLoop}
+use Rattle.rv_inst.specs.declared.inst.Inst.TheVariants.{Nop0, Nop4, EBreak, SequencePoint, Args, Rets, DummyUse, Unwind, EmitIsland, RawData, Lui, Auipc, LoadInlineConst, AluRRR, AluRRImm12, Mov, MovFromPReg, Extend, Select, Load, Store, LoadAddr, LabelAddress, Ret, TrapIf, Jal, CondBr, BrTable, Udf, Jalr, Popcnt, Cltz, Brev8, StackProbeLoop, LoadExtNameGot, LoadExtNameNear, LoadExtNameFar}
 
 -- a move is addi of 0; there is none to the same register
 abbrev pub move_operation : IsaFlags → ℕ → ℕ → Option Decoded
@@ -49,6 +49,7 @@ operation_of context SequencePoint = None
 operation_of context (Args args) = None
 operation_of context (Rets rets) = None
 operation_of context (DummyUse reg) = None
+operation_of context (Unwind inst) = None
 operation_of context (EmitIsland needed_space) = None
 operation_of context (RawData bytes) = None
 operation_of context (Lui rd imm) = Some (short_lui context.flags (number_of rd.reg) imm.value)
@@ -75,3 +76,6 @@ operation_of context (Popcnt sum tmp step rs type) = None
 operation_of context (Cltz sum tmp step rs leading type) = None
 operation_of context (Brev8 rs type step tmp tmp2 rd) = None
 operation_of context (StackProbeLoop guard_size probe_count tmp) = None
+operation_of context (LoadExtNameGot rd name) = None
+operation_of context (LoadExtNameNear rd name offset) = None
+operation_of context (LoadExtNameFar rd name offset) = None

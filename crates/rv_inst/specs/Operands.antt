@@ -10,12 +10,14 @@ use Rattle.rv_base.specs.declared.label.MachLabel.{MachLabel}
 use Rattle.rv_base.specs.declared.regs.Reg.{Reg}
 use Rattle.rv_base.specs.declared.regs.Reg.TheVariants.{Real}
 use Rattle.rv_base.specs.declared.regs.Writable.{Writable}
+use Rattle.rv_base.specs.declared.unwind.UnwindInst.{UnwindInst}
+use Rattle.rv_base.specs.declared.unwind.UnwindInst.TheVariants.{PushFrameRegs, DefineNewFrame, StackAlloc, SaveReg}
 use Rattle.rv_base.specs.declared.value_regs.ValueRegs.{ValueRegs}
 use Rattle.rv_base.specs.declared.value_regs.ValueRegs.TheVariants.{One, Two}
 use Rattle.rv_inst.specs.declared.inst.Line.{Line}
 use Rattle.rv_inst.specs.declared.inst.Line.TheVariants.{Inst as Put, Bind}
 use Rattle.rv_inst.specs.declared.inst.Inst.{Inst}
-use Rattle.rv_inst.specs.declared.inst.Inst.TheVariants.{Nop0, Nop4, EBreak, SequencePoint, Args, Rets, DummyUse, EmitIsland, RawData, Lui, Auipc, LoadInlineConst, AluRRR, AluRRImm12, Mov, MovFromPReg, Extend, Select, Load, Store, LoadAddr, LabelAddress, Ret, TrapIf, Jal, CondBr, BrTable, Udf, Jalr, Popcnt, Cltz, Brev8, StackProbeLoop}
+use Rattle.rv_inst.specs.declared.inst.Inst.TheVariants.{Nop0, Nop4, EBreak, SequencePoint, Args, Rets, DummyUse, Unwind, EmitIsland, RawData, Lui, Auipc, LoadInlineConst, AluRRR, AluRRImm12, Mov, MovFromPReg, Extend, Select, Load, Store, LoadAddr, LabelAddress, Ret, TrapIf, Jal, CondBr, BrTable, Udf, Jalr, Popcnt, Cltz, Brev8, StackProbeLoop, LoadExtNameGot, LoadExtNameNear, LoadExtNameFar}
 use Rattle.rv_inst.specs.declared.targets.Targets.{Targets}
 use Rattle.rv_inst.specs.declared.targets.Targets.TheVariants.{Nowhere, Jumps, Branches, Refers, RefersConstant}
 use Rattle.rv_inst.specs.declared.inst.CondBrTarget.{CondBrTarget}
@@ -39,6 +41,13 @@ abbrev pub written_in : ValueRegs (Writable Reg) → List Reg
 written_in (One r) = r.reg ∷ []
 written_in (Two r s) = r.reg ∷ s.reg ∷ []
 
+-- the register that a step in the making of a frame saves
+abbrev pub unwind_registers : UnwindInst → List Reg
+unwind_registers (PushFrameRegs to_caller) = []
+unwind_registers (DefineNewFrame to_caller to_clobbers) = []
+unwind_registers (StackAlloc size) = []
+unwind_registers (SaveReg offset reg) = reg ∷ []
+
 -- the registers of an instruction
 abbrev pub inst_registers : Inst → List Reg
 inst_registers Nop0 = []
@@ -48,6 +57,7 @@ inst_registers SequencePoint = []
 inst_registers (Args args) = arg_registers args
 inst_registers (Rets rets) = ret_registers rets
 inst_registers (DummyUse reg) = reg ∷ []
+inst_registers (Unwind inst) = unwind_registers inst
 inst_registers (EmitIsland needed_space) = []
 inst_registers (RawData bytes) = []
 inst_registers (Lui rd imm) = rd.reg ∷ []
@@ -74,6 +84,9 @@ inst_registers (Popcnt sum tmp step rs type) = sum.reg ∷ tmp.reg ∷ step.reg 
 inst_registers (Cltz sum tmp step rs leading type) = sum.reg ∷ tmp.reg ∷ step.reg ∷ rs ∷ []
 inst_registers (Brev8 rs type step tmp tmp2 rd) = rs ∷ step.reg ∷ tmp.reg ∷ tmp2.reg ∷ rd.reg ∷ []
 inst_registers (StackProbeLoop guard_size probe_count tmp) = tmp.reg ∷ []
+inst_registers (LoadExtNameGot rd name) = rd.reg ∷ []
+inst_registers (LoadExtNameNear rd name offset) = rd.reg ∷ []
+inst_registers (LoadExtNameFar rd name offset) = rd.reg ∷ []
 
 abbrev pub target_labels : CondBrTarget → List MachLabel
 target_labels (Label label) = label ∷ []
@@ -98,6 +111,7 @@ targets_of SequencePoint = Nowhere
 targets_of (Args args) = Nowhere
 targets_of (Rets rets) = Nowhere
 targets_of (DummyUse reg) = Nowhere
+targets_of (Unwind inst) = Nowhere
 targets_of (EmitIsland needed_space) = Nowhere
 targets_of (RawData bytes) = Nowhere
 targets_of (Lui rd imm) = Nowhere
@@ -124,6 +138,9 @@ targets_of (Popcnt sum tmp step rs type) = Nowhere
 targets_of (Cltz sum tmp step rs leading type) = Nowhere
 targets_of (Brev8 rs type step tmp tmp2 rd) = Nowhere
 targets_of (StackProbeLoop guard_size probe_count tmp) = Nowhere
+targets_of (LoadExtNameGot rd name) = Nowhere
+targets_of (LoadExtNameNear rd name offset) = Nowhere
+targets_of (LoadExtNameFar rd name offset) = Nowhere
 
 -- the labels of an instruction's table, the default first
 abbrev pub table_of : Inst → List MachLabel
@@ -134,6 +151,7 @@ table_of SequencePoint = []
 table_of (Args args) = []
 table_of (Rets rets) = []
 table_of (DummyUse reg) = []
+table_of (Unwind inst) = []
 table_of (EmitIsland needed_space) = []
 table_of (RawData bytes) = []
 table_of (Lui rd imm) = []
@@ -160,6 +178,9 @@ table_of (Popcnt sum tmp step rs type) = []
 table_of (Cltz sum tmp step rs leading type) = []
 table_of (Brev8 rs type step tmp tmp2 rd) = []
 table_of (StackProbeLoop guard_size probe_count tmp) = []
+table_of (LoadExtNameGot rd name) = []
+table_of (LoadExtNameNear rd name offset) = []
+table_of (LoadExtNameFar rd name offset) = []
 
 abbrev pub labels_of : Targets → List MachLabel
 labels_of Nowhere = []

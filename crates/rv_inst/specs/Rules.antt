@@ -25,7 +25,7 @@ use Rattle.rv_ops.specs.Alu.{Upper, Number, Shamt6, Shamt5, Fixed, rri_numbers}
 use Rattle.rv_inst.specs.declared.inst.Line.{Line}
 use Rattle.rv_inst.specs.declared.inst.Line.TheVariants.{Inst as Put, Bind}
 use Rattle.rv_inst.specs.declared.inst.Inst.{Inst}
-use Rattle.rv_inst.specs.declared.inst.Inst.TheVariants.{Nop0, Nop4, EBreak, SequencePoint, Args, Rets, DummyUse, EmitIsland, RawData, Lui, Auipc, LoadInlineConst, AluRRR, AluRRImm12, Mov, MovFromPReg, Extend, Select, Load, Store, LoadAddr, LabelAddress, Ret, TrapIf, Jal, CondBr, BrTable, Udf, Jalr, Popcnt, Cltz, Brev8, StackProbeLoop}
+use Rattle.rv_inst.specs.declared.inst.Inst.TheVariants.{Nop0, Nop4, EBreak, SequencePoint, Args, Rets, DummyUse, Unwind, EmitIsland, RawData, Lui, Auipc, LoadInlineConst, AluRRR, AluRRImm12, Mov, MovFromPReg, Extend, Select, Load, Store, LoadAddr, LabelAddress, Ret, TrapIf, Jal, CondBr, BrTable, Udf, Jalr, Popcnt, Cltz, Brev8, StackProbeLoop, LoadExtNameGot, LoadExtNameNear, LoadExtNameFar}
 use Rattle.rv_inst.specs.declared.inst.CondBrTarget.{CondBrTarget}
 use Rattle.rv_inst.specs.declared.inst.CondBrTarget.TheVariants.{Label as ToLabel, Fallthrough}
 use Rattle.rv_inst.specs.declared.error.Rule.{Rule}
@@ -198,6 +198,7 @@ faults_of SequencePoint = has_other_class false
 faults_of (Args args) = has_other_class (list_any (λ (p : ArgPair). differ_in_class p.vreg.reg p.preg) args)
 faults_of (Rets rets) = has_other_class (list_any (λ (p : RetPair). differ_in_class p.vreg p.preg) rets)
 faults_of (DummyUse reg) = has_other_class false
+faults_of (Unwind inst) = has_other_class false
 faults_of (EmitIsland needed_space) = has_other_class false
 faults_of (RawData bytes) = record (has_other_class false) { size = not (length bytes == 4 || length bytes == 8) }
 faults_of (Lui rd imm) = has_other_class (list_any is_other_class (rd.reg ∷ []))
@@ -232,6 +233,9 @@ faults_of (Brev8 rs type step tmp tmp2 rd) = record (has_other_class (list_any i
   type = not (is_int_type type);
 }
 faults_of (StackProbeLoop guard_size probe_count tmp) = record (has_other_class (list_any is_other_class (tmp.reg ∷ []))) { zeroed = list_any is_zero (tmp.reg ∷ []); clashing = is_stack tmp.reg }
+faults_of (LoadExtNameGot rd name) = record (has_other_class (list_any is_other_class (rd.reg ∷ []))) { zeroed = list_any is_zero (rd.reg ∷ []) }
+faults_of (LoadExtNameNear rd name offset) = record (has_other_class (list_any is_other_class (rd.reg ∷ []))) { zeroed = list_any is_zero (rd.reg ∷ []) }
+faults_of (LoadExtNameFar rd name offset) = record (has_other_class (list_any is_other_class (rd.reg ∷ []))) { zeroed = list_any is_zero (rd.reg ∷ []) }
 
 abbrev pub is_misplaced : Inst → Bool
 is_misplaced inst = (faults_of inst).class
@@ -277,6 +281,7 @@ lacks_constant constants SequencePoint = false
 lacks_constant constants (Args args) = false
 lacks_constant constants (Rets rets) = false
 lacks_constant constants (DummyUse reg) = false
+lacks_constant constants (Unwind inst) = false
 lacks_constant constants (EmitIsland needed_space) = false
 lacks_constant constants (RawData bytes) = false
 lacks_constant constants (Lui rd imm) = false
@@ -303,6 +308,9 @@ lacks_constant constants (Popcnt sum tmp step rs type) = false
 lacks_constant constants (Cltz sum tmp step rs leading type) = false
 lacks_constant constants (Brev8 rs type step tmp tmp2 rd) = false
 lacks_constant constants (StackProbeLoop guard_size probe_count tmp) = false
+lacks_constant constants (LoadExtNameGot rd name) = false
+lacks_constant constants (LoadExtNameNear rd name offset) = false
+lacks_constant constants (LoadExtNameFar rd name offset) = false
 
 -- ---- the rules in their order
 

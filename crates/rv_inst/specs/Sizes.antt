@@ -21,7 +21,7 @@ use Rattle.rv_inst.specs.Context.{Context}
 use Rattle.rv_inst.specs.declared.inst.Line.{Line}
 use Rattle.rv_inst.specs.declared.inst.Line.TheVariants.{Inst as Put, Bind}
 use Rattle.rv_inst.specs.declared.inst.Inst.{Inst}
-use Rattle.rv_inst.specs.declared.inst.Inst.TheVariants.{Nop0, Nop4, EBreak, SequencePoint, Args, Rets, DummyUse, EmitIsland, RawData, Lui, Auipc, LoadInlineConst, AluRRR, AluRRImm12, Mov, MovFromPReg, Extend, Select, Load, Store, LoadAddr, LabelAddress, Ret, TrapIf, Jal, CondBr, BrTable, Udf, Jalr, Popcnt, Cltz, Brev8, StackProbeLoop}
+use Rattle.rv_inst.specs.declared.inst.Inst.TheVariants.{Nop0, Nop4, EBreak, SequencePoint, Args, Rets, DummyUse, Unwind, EmitIsland, RawData, Lui, Auipc, LoadInlineConst, AluRRR, AluRRImm12, Mov, MovFromPReg, Extend, Select, Load, Store, LoadAddr, LabelAddress, Ret, TrapIf, Jal, CondBr, BrTable, Udf, Jalr, Popcnt, Cltz, Brev8, StackProbeLoop, LoadExtNameGot, LoadExtNameNear, LoadExtNameFar}
 use Rattle.rv_inst.specs.declared.inst.CondBrTarget.{CondBrTarget}
 use Rattle.rv_inst.specs.declared.inst.CondBrTarget.TheVariants.{Label, Fallthrough}
 
@@ -160,6 +160,7 @@ extent_of context SequencePoint = Words 0
 extent_of context (Args args) = Words 0
 extent_of context (Rets rets) = Words 0
 extent_of context (DummyUse reg) = Words 0
+extent_of context (Unwind inst) = Words 0
 extent_of context (EmitIsland needed_space) = Island needed_space
 extent_of context (RawData bytes) = Words (length bytes)
 extent_of context (Lui rd imm) = Words (short_lui context.flags (number_of rd.reg) imm.value).len
@@ -186,6 +187,9 @@ extent_of context (Popcnt sum tmp step rs type) = Words (count_size context.flag
 extent_of context (Cltz sum tmp step rs leading type) = Words (zeros_size context.flags leading (number_of sum.reg) (number_of tmp.reg) (number_of step.reg) (number_of rs) (bits_of type))
 extent_of context (Brev8 rs type step tmp tmp2 rd) = Words (reverse_size context.flags (number_of rd.reg) (number_of tmp.reg) (number_of tmp2.reg) (number_of step.reg) (number_of rs) (bits_of type))
 extent_of context (StackProbeLoop guard_size probe_count tmp) = Words (probe_size context.flags (number_of tmp.reg) (low_word guard_size) (low_word probe_count))
+extent_of context (LoadExtNameGot rd name) = Words 8
+extent_of context (LoadExtNameNear rd name offset) = Words 8
+extent_of context (LoadExtNameFar rd name offset) = Words (inline_size context.flags 8)
 
 -- before a branch by a table: twelve words of four bytes, and two for each label beside the default
 abbrev pub table_space : ℕ → ℕ

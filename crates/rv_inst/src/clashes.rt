@@ -194,6 +194,17 @@ pub fn has_zero(inst: &Inst) -> bool
             probe_count: _,
             tmp,
         } => any_is_zero(&[tmp.reg]),
+        Inst::LoadExtNameGot { rd, name: _ } => any_is_zero(&[rd.reg]),
+        Inst::LoadExtNameNear {
+            rd,
+            name: _,
+            offset: _,
+        } => any_is_zero(&[rd.reg]),
+        Inst::LoadExtNameFar {
+            rd,
+            name: _,
+            offset: _,
+        } => any_is_zero(&[rd.reg]),
         _ => false,
     }
 }

@@ -2,7 +2,7 @@
 
 ghost use Rattle.std.specs.Prelude.{length, ◌<◌, ◌^◌};
 
-pub use mach_buffer::{ConstPlace, LabelPlace, MachTrap};
+pub use mach_buffer::{ConstPlace, LabelPlace, MachReloc, MachTrap, MachUnwind};
 use rv_base::List;
 
 /// Where the bytes of a line begin and end.
@@ -16,8 +16,8 @@ pub struct LineSpan {
     pub end: u32,
 }
 
-/// Machine code, with a span for each line, a place for each label and each constant, a record for each instruction that may
-/// trap, and where the last line ends.
+/// Machine code, with a span for each line, a place for each label and each constant, a record for each place that a linker
+/// fills, each instruction that may trap and each step in the making of the frame, and where the last line ends.
 #[derive(Drop)]
 pub struct Code {
     pub bytes: List<u8>,
@@ -27,8 +27,12 @@ pub struct Code {
     pub labels: List<LabelPlace>,
     /// The offset of each constant that is named, in order of place.
     pub constants: List<ConstPlace>,
+    /// What a linker fills, in the order in which it was recorded.
+    pub relocs: List<MachReloc>,
     /// The offset and the cause of each instruction that may trap, in the order in which they were recorded.
     pub traps: List<MachTrap>,
+    /// The steps in the making of the frame, in the order in which they were recorded.
+    pub unwinds: List<MachUnwind>,
     /// The offset after the last line; veneers may stand after it.
     pub end: u32,
     ghost small: { length bytes < 2 ^ 32 },

@@ -3,8 +3,8 @@
 ghost use Rattle.std.specs.Prelude.{◌≡◌};
 
 use rv_base::{
-    AMode, ArgPair, IrType, List, MachLabel, MemFlagsData, PReg, Reg, RetPair, TrapCode, ValueRegs,
-    WritableReg,
+    AMode, ArgPair, ExternalName, IrType, List, MachLabel, MemFlagsData, PReg, Reg, RetPair,
+    TrapCode, UnwindInst, ValueRegs, WritableReg,
 };
 use rv_imms::{Imm12, Imm20};
 use rv_ops::{AluOPRRI, AluOPRRR, IntegerCompare, LoadOP, StoreOP};
@@ -75,6 +75,10 @@ pub enum Inst {
     /// A register that counts as used here; no bytes.
     DummyUse {
         reg: Reg,
+    },
+    /// A step in the making of the frame, which is reported to those that unwind it; no bytes.
+    Unwind {
+        inst: UnwindInst,
     },
     /// An island stands here, where one is needed before so many bytes.
     EmitIsland {
@@ -243,6 +247,26 @@ pub enum Inst {
         probe_count: u32,
         tmp: WritableReg,
     },
+    /// `rd` is what stands in the symbol's slot, which a linker fills with the symbol's address. 8 bytes, an `auipc` and a load,
+    /// whose immediates a linker fills.
+    LoadExtNameGot {
+        rd: WritableReg,
+        name: ExternalName,
+    },
+    /// `rd` is the symbol's address plus the offset, by its distance from here. 8 bytes, an `auipc` and an `addi`, whose immediates
+    /// a linker fills.
+    LoadExtNameNear {
+        rd: WritableReg,
+        name: ExternalName,
+        offset: i64,
+    },
+    /// `rd` is the symbol's address plus the offset, which stands among the code, in eight bytes that a linker fills. 20 bytes, or
+    /// 18 with a jump of sixteen bits over them.
+    LoadExtNameFar {
+        rd: WritableReg,
+        name: ExternalName,
+        offset: i64,
+    },
 }
 
 /// `Nop0`, which does nothing.
@@ -265,6 +289,8 @@ pub enum Family {
     Control,
     /// Those that compute by a loop of their own, and go on.
     Loop,
+    /// Those that depend on a symbol outside the code.
+    Symbols,
 }
 
 impl Inst {
@@ -281,6 +307,7 @@ impl Inst {
             | Inst::Args { args: _ }
             | Inst::Rets { rets: _ }
             | Inst::DummyUse { reg: _ }
+            | Inst::Unwind { inst: _ }
             | Inst::EmitIsland { needed_space: _ }
             | Inst::RawData { bytes: _ } => Family::Pseudo,
             Inst::Lui { .. }
@@ -307,6 +334,9 @@ impl Inst {
             | Inst::Cltz { .. }
             | Inst::Brev8 { .. }
             | Inst::StackProbeLoop { .. } => Family::Loop,
+            Inst::LoadExtNameGot { .. }
+            | Inst::LoadExtNameNear { .. }
+            | Inst::LoadExtNameFar { .. } => Family::Symbols,
         }
     }
 }

@@ -16,7 +16,7 @@ mod registers;
 mod sizes;
 mod targets;
 
-pub use code::{Code, ConstPlace, LabelPlace, LineSpan, MachTrap};
+pub use code::{Code, ConstPlace, LabelPlace, LineSpan, MachReloc, MachTrap, MachUnwind};
 pub use error::{EmitError, Rule};
 pub use generators::{SmallInstVec, gen_moves};
 pub use inst::{CondBrTarget, Family, Inst, Line};

@@ -10,7 +10,7 @@ ghost use Rattle.rv_inst.specs.Families.{family_of};
 
 use crate::inst::{Family, Inst};
 use crate::registers::{
-    RegisterTest, control_has, is_other_class, loop_has, memory_has, plain_has,
+    RegisterTest, control_has, is_other_class, loop_has, memory_has, plain_has, symbol_has,
 };
 use rv_base::{ArgPair as Arg, PReg, Reg, RegClass, RetPair as Ret};
 
@@ -77,5 +77,6 @@ pub fn is_misplaced(inst: &Inst) -> bool
         Family::Memory => memory_has(RegisterTest::OtherClass, inst),
         Family::Control => control_has(RegisterTest::OtherClass, inst),
         Family::Loop => loop_has(RegisterTest::OtherClass, inst),
+        Family::Symbols => symbol_has(RegisterTest::OtherClass, inst),
     }
 }

@@ -2,14 +2,14 @@
 
 ghost use Rattle.std.specs.Prelude.{◌≡◌, ◌∷◌, ◌++◌};
 ghost use Rattle.std.specs.List.{list_any};
-ghost use Rattle.rv_inst.specs.Operands.{arg_registers, ret_registers, all_of, written_in, inst_registers};
-ghost use Rattle.rv_inst.specs.declared.inst.Family.TheVariants.{Pseudo, Integer, Memory, Control, Loop};
+ghost use Rattle.rv_inst.specs.Operands.{arg_registers, ret_registers, all_of, written_in, unwind_registers, inst_registers};
+ghost use Rattle.rv_inst.specs.declared.inst.Family.TheVariants.{Pseudo, Integer, Memory, Control, Loop, Symbols};
 ghost use Rattle.rv_inst.specs.Families.{family_of};
 ghost use Rattle.rv_inst.specs.RegisterTests.{test_of};
 
 use crate::addresses::address_has;
 use crate::inst::{Family, Inst};
-use rv_base::{ArgPair, Reg, RegClass, RetPair, ValueRegs, WritableReg};
+use rv_base::{ArgPair, Reg, RegClass, RetPair, UnwindInst, ValueRegs, WritableReg};
 use rv_ops::IntegerCompare;
 
 /// What is asked of a register.
@@ -93,6 +93,21 @@ fn any_of_rets(test: RegisterTest, pairs: &[RetPair]) -> bool
     false
 }
 
+/// Returns whether the test holds of the register that a step in the making of a frame saves.
+fn unwind_has(test: RegisterTest, inst: UnwindInst) -> bool
+    ensures { result ≡ list_any (test_of test) (unwind_registers inst) }
+{
+    match inst {
+        UnwindInst::SaveReg {
+            clobber_offset: _,
+            reg,
+        } => any_of(test, &[reg]),
+        UnwindInst::PushFrameRegs { .. }
+        | UnwindInst::DefineNewFrame { .. }
+        | UnwindInst::StackAlloc { .. } => false,
+    }
+}
+
 fn marks_has(test: RegisterTest, inst: &Inst) -> bool
     ensures { family_of inst.now ≡ Pseudo → result ≡ list_any (test_of test) (inst_registers inst.now) }
 {
@@ -100,6 +115,7 @@ fn marks_has(test: RegisterTest, inst: &Inst) -> bool
         Inst::Args { args } => any_of_args(test, args.as_slice()),
         Inst::Rets { rets } => any_of_rets(test, rets.as_slice()),
         Inst::DummyUse { reg } => any_of(test, &[*reg]),
+        Inst::Unwind { inst } => unwind_has(test, *inst),
         _ => false,
     }
 }
@@ -279,6 +295,26 @@ pub fn loop_has(test: RegisterTest, inst: &Inst) -> bool
     }
 }
 
+/// Returns whether the test holds of a register of an instruction that depends on a symbol.
+pub fn symbol_has(test: RegisterTest, inst: &Inst) -> bool
+    ensures { family_of inst.now ≡ Symbols → result ≡ list_any (test_of test) (inst_registers inst.now) }
+{
+    match inst {
+        Inst::LoadExtNameGot { rd, name: _ } => any_of(test, &[rd.reg]),
+        Inst::LoadExtNameNear {
+            rd,
+            name: _,
+            offset: _,
+        } => any_of(test, &[rd.reg]),
+        Inst::LoadExtNameFar {
+            rd,
+            name: _,
+            offset: _,
+        } => any_of(test, &[rd.reg]),
+        _ => false,
+    }
+}
+
 /// Returns whether the test holds of a register of the instruction.
 pub fn has_register(test: RegisterTest, inst: &Inst) -> bool
     ensures { result ≡ list_any (test_of test) (inst_registers inst.now) }
@@ -289,5 +325,6 @@ pub fn has_register(test: RegisterTest, inst: &Inst) -> bool
         Family::Memory => memory_has(test, inst),
         Family::Control => control_has(test, inst),
         Family::Loop => loop_has(test, inst),
+        Family::Symbols => symbol_has(test, inst),
     }
 }

@@ -45,7 +45,7 @@ impl Inst {
         ensures { result ≡ targets_of self.now }
     {
         match self.family() {
-            Family::Pseudo | Family::Integer | Family::Loop => Targets::Nowhere,
+            Family::Pseudo | Family::Integer | Family::Loop | Family::Symbols => Targets::Nowhere,
             Family::Memory => memory_targets(self),
             Family::Control => control_targets(self),
         }

@@ -14,4 +14,6 @@ mod refusals;
 #[cfg(test)]
 mod sequences;
 #[cfg(test)]
+mod symbols;
+#[cfg(test)]
 mod texts;

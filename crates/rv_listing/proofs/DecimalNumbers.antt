@@ -7,7 +7,7 @@ use Rattle.std.proofs.lemmas.Bool.{lt-ltb, ne_eqb, cases_lt}
 use borrow.Author.Count.{below_none, below_more}
 use Rattle.rv_listing.specs.Tokens.{◌>>=◌, below, digit, digits_after, digits, decimal}
 
-below_is : (limit n : ℕ) → n < limit → below limit n ≡ Some n
+pub below_is : (limit n : ℕ) → n < limit → below limit n ≡ Some n
 below_is limit n low = rw (lt-ltb n limit low) refl
 
 abbrev ReadsDigit : ℕ → Type 0

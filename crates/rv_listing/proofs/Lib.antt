@@ -1,9 +1,12 @@
 pub mod FirstBadLine
 pub mod Cuts
 pub mod DecimalNumbers
+pub mod SymbolNames
 pub mod TrapNames
 pub mod RegisterNames
 pub mod Ranges
+pub mod ReportWords
+pub mod RecordLines
 pub mod OneReport
 pub mod HexLines
 pub mod Vectors

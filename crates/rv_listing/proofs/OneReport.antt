@@ -1,52 +1,21 @@
 -- A report is of one code alone: it is made of pieces that open a text in one way alone.
-use Rattle.std.proofs.Common.{◌≡◌, ℕ, zero, suc, ◌+◌, ◌/◌, ◌%◌, ◌*◌, ◌^◌, ◌<◌, ◌≤◌, List, [], ◌∷◌, ◌++◌, length, get_or, take, drop, refl, sym, ap, ◌∙◌, subst, append_assoc, lit≤, arith}
+use Rattle.std.proofs.Common.{◌≡◌, ℕ, zero, suc, ◌+◌, ◌/◌, ◌*◌, ◌^◌, ◌<◌, ◌≤◌, List, [], ◌∷◌, ◌++◌, length, get_or, take, drop, refl, sym, ap, ◌∙◌, subst, append_assoc, arith}
 use Rattle.std.specs.Prelude.{codes}
 use Rattle.std.specs.List.{flat_map, AllByRecursion}
 use Rattle.std.specs.Coded.{le_prop}
 use Rattle.std.specs.Fmt.{decimal}
-use Rattle.std.proofs.lemmas.Fmt.{decimal_by_steps, decimal_injective}
 use Rattle.rv_inst.specs.declared.code.LineSpan.{LineSpan}
 use Rattle.mach_buffer.specs.declared.uses.LabelPlace.{LabelPlace}
 use Rattle.mach_buffer.specs.declared.records.ConstPlace.{ConstPlace}
-use Rattle.mach_buffer.specs.declared.records.MachTrap.{MachTrap}
-use Rattle.rv_base.specs.declared.trap.TrapCode.{TrapCode}
-use Rattle.rv_base.specs.declared.trap.TrapCode.TheVariants.{StackOverflow, HeapOutOfBounds, IntegerOverflow, IntegerDivisionByZero, BadConversionToInteger, User}
-use Rattle.rv_base.specs.Trap.{name_of}
-use Rattle.rv_listing.proofs.TrapNames.{same_trap}
 use Rattle.std.specs.Int.{w32, to_be_bytes}
 use Rattle.std.proofs.lemmas.List.{length-take, length-drop, take-append-drop}
 use Rattle.hex.specs.Hex.{IsBytes, encode_lower, lower_digits, decode_of}
 use Rattle.hex.proofs.HexLemmas.{decode_of-encode_lower, length-encode_with}
 use Rattle.rv_inst.specs.declared.code.Code.{Code}
-use Rattle.rv_listing.specs.Report.{span_line, label_line, const_line, trap_line, hex_lines, all_hex_lines, report}
-use Rattle.rv_listing.specs.CodeRanges.{SpanFits, LabelFits, ConstFits, TrapFits, CodeFits}
-
-abbrev Digits : List ℕ → Type 0
-Digits [] = Unit {0}
-Digits (c ∷ cs) = (48 ≤ c) × Digits cs
-
-Digits-push : (ds : List ℕ) (c : ℕ) → 48 ≤ c → Digits ds → Digits (ds ++ c ∷ [])
-Digits-push [] c h ds = (h, tt)
-Digits-push (d ∷ ds) c h all = (all.0, Digits-push ds c h all.1)
-
-Digits-decimal : (n : ℕ) → n < 2 ^ 64 → Digits (decimal n)
-Digits-decimal n lt = decimal_by_steps (λ n ds. Digits ds) (λ n small. (omega arith, tt)) (λ n ds big all. Digits-push ds (48 + n % 10) (omega arith) all) n lt
-
--- digits up to a byte below them
-digits_cut : (xs ys a b : List ℕ) (c : ℕ) → c < 48 → Digits xs → Digits ys → xs ++ c ∷ a ≡ ys ++ c ∷ b → (xs ≡ ys) × (a ≡ b)
-digits_cut [] [] a b c low dx dy e = (refl, cc)
-digits_cut [] (y ∷ ys) a b c low dx dy e = let same : c ≡ y = cc in absurd (omega arith)
-digits_cut (x ∷ xs) [] a b c low dx dy e = let same : x ≡ c = cc in absurd (omega arith)
-digits_cut (x ∷ xs) (y ∷ ys) a b c low dx dy e =
-    let head : x ≡ y = cc in
-    let tails : xs ++ c ∷ a ≡ ys ++ c ∷ b = cc in
-    let rest = digits_cut xs ys a b c low dx.1 dy.1 tails in
-    (cc (rest.0, head), rest.1)
-
-number_opens : (m n : ℕ) (a b : List ℕ) (c : ℕ) → c < 48 → m < 2 ^ 64 → n < 2 ^ 64 → decimal m ++ c ∷ a ≡ decimal n ++ c ∷ b → (m ≡ n) × (a ≡ b)
-number_opens m n a b c low hm hn e =
-    let cut = digits_cut (decimal m) (decimal n) a b c low (Digits-decimal m hm) (Digits-decimal n hn) e in
-    (decimal_injective m n hm hn cut.0, cut.1)
+use Rattle.rv_listing.specs.Report.{span_line, label_line, const_line, reloc_line, trap_line, unwind_line, hex_lines, all_hex_lines, report}
+use Rattle.rv_listing.specs.CodeRanges.{SpanFits, LabelFits, ConstFits, RelocFits, TrapFits, UnwindFits, CodeFits}
+use Rattle.rv_listing.proofs.ReportWords.{number_opens, two_open, regroup_two, far, near}
+use Rattle.rv_listing.proofs.RecordLines.{reloc_opens, trap_opens, unwind_opens}
 
 regroup : (p i s e a : List ℕ) → (p ++ i ++ 32 ∷ [] ++ s ++ 32 ∷ [] ++ e ++ 10 ∷ []) ++ a ≡ p ++ (i ++ 32 ∷ (s ++ 32 ∷ (e ++ 10 ∷ a)))
 regroup p i s e a = simp append_assoc
@@ -65,15 +34,6 @@ span_opens x y a b fx fy e =
     made : (x y : LineSpan) → x.index ≡ y.index → x.start ≡ y.start → x.end ≡ y.end → x ≡ y
     made x y p q r = λ i. record { index = p i; start = q i; end = r i }
 
--- two parts between a text and the end of a line
-regroup_two : (p i s a : List ℕ) → (p ++ i ++ 32 ∷ [] ++ s ++ 10 ∷ []) ++ a ≡ p ++ (i ++ 32 ∷ (s ++ 10 ∷ a))
-regroup_two p i s a = simp append_assoc
-
-two_open : (m n j k : ℕ) (a b : List ℕ) → m < 2 ^ 32 → n < 2 ^ 32 → j < 2 ^ 32 → k < 2 ^ 32 → decimal m ++ 32 ∷ (decimal j ++ 10 ∷ a) ≡ decimal n ++ 32 ∷ (decimal k ++ 10 ∷ b) → (m ≡ n) × ((j ≡ k) × (a ≡ b))
-two_open m n j k a b hm hn hj hk e =
-    let one = number_opens m n _ _ 32 (omega arith) (omega arith) (omega arith) e in
-    (one.0, number_opens j k _ _ 10 (omega arith) (omega arith) (omega arith) one.1)
-
 label_opens : (x y : LabelPlace) (a b : List ℕ) → LabelFits x → LabelFits y → label_line x ++ a ≡ label_line y ++ b → (x ≡ y) × (a ≡ b)
 label_opens x y a b fx fy e =
     let ex = regroup_two (codes "label L") (decimal x.label.number) (decimal x.offset) a in
@@ -87,28 +47,6 @@ const_opens x y a b fx fy e =
     let ey = regroup_two (codes "const ") (decimal y.constant.number) (decimal y.offset) b in
     let numbers = two_open x.constant.number y.constant.number x.offset y.offset a b fx.constant fy.constant fx.offset fy.offset (ap (drop 6) (sym ex ∙ e ∙ ey)) in
     ((λ i. record { constant = record { number = numbers.0 i }; offset = numbers.1.0 i }), numbers.1.1)
-
--- the bytes of a cause's name are those of letters, digits and _
-Digits-name : (code : TrapCode) → Digits (name_of code)
-Digits-name StackOverflow = (lit≤ tt, (lit≤ tt, (lit≤ tt, (lit≤ tt, (lit≤ tt, (lit≤ tt, (lit≤ tt, tt)))))))
-Digits-name HeapOutOfBounds = (lit≤ tt, (lit≤ tt, (lit≤ tt, (lit≤ tt, (lit≤ tt, (lit≤ tt, (lit≤ tt, (lit≤ tt, tt))))))))
-Digits-name IntegerOverflow = (lit≤ tt, (lit≤ tt, (lit≤ tt, (lit≤ tt, (lit≤ tt, (lit≤ tt, (lit≤ tt, tt)))))))
-Digits-name IntegerDivisionByZero = (lit≤ tt, (lit≤ tt, (lit≤ tt, (lit≤ tt, (lit≤ tt, (lit≤ tt, (lit≤ tt, (lit≤ tt, tt))))))))
-Digits-name BadConversionToInteger = (lit≤ tt, (lit≤ tt, (lit≤ tt, (lit≤ tt, (lit≤ tt, (lit≤ tt, (lit≤ tt, (lit≤ tt, (lit≤ tt, tt)))))))))
-Digits-name (User trap) = let high = trap.high in (lit≤ tt, (lit≤ tt, (lit≤ tt, (lit≤ tt, Digits-decimal trap.number (omega arith)))))
-
-trap_opens : (x y : MachTrap) (a b : List ℕ) → TrapFits x → TrapFits y → trap_line x ++ a ≡ trap_line y ++ b → (x ≡ y) × (a ≡ b)
-trap_opens x y a b fx fy e =
-    let ex = regroup_two (codes "trap ") (decimal x.offset) (name_of x.code) a in
-    let ey = regroup_two (codes "trap ") (decimal y.offset) (name_of y.code) b in
-    let all = sym ex ∙ e ∙ ey in
-    let numbers : decimal x.offset ++ 32 ∷ (name_of x.code ++ 10 ∷ a) ≡ decimal y.offset ++ 32 ∷ (name_of y.code ++ 10 ∷ b) = ap (drop 5) all in
-    let one = number_opens x.offset y.offset _ _ 32 (omega arith) (omega (arith, fx.offset)) (omega (arith, fy.offset)) numbers in
-    let names = digits_cut (name_of x.code) (name_of y.code) a b 10 (omega arith) (Digits-name x.code) (Digits-name y.code) one.1 in
-    (made x y one.0 (same_trap x.code y.code names.0), names.1)
-  where
-    made : (x y : MachTrap) → x.offset ≡ y.offset → x.code ≡ y.code → x ≡ y
-    made x y p q = λ i. record { offset = p i; code = q i }
 
 -- A piece that opens a text in one way: what it stands for, and what is after it, is known.
 pub record Opens {A : Type 0} (P : A → Type 0) (f : A → List ℕ) : Type 0 where
@@ -185,48 +123,80 @@ hex_lines_open (suc n) at xs ys a b len fits fx fy e =
 abbrev ending : ℕ → List ℕ
 ending n = codes "end " ++ (decimal n ++ 10 ∷ [])
 
-regroup_report : (p n r s l k t e m : List ℕ) → p ++ n ++ 10 ∷ [] ++ r ++ s ++ l ++ k ++ t ++ e ++ m ++ 10 ∷ [] ≡ p ++ (n ++ 10 ∷ (r ++ (s ++ (l ++ (k ++ (t ++ (e ++ (m ++ 10 ∷ []))))))))
-regroup_report p n r s l k t e m = simp append_assoc
+abbrev unwinds_and_end : Code → List ℕ
+unwinds_and_end c = flat_map unwind_line c.unwinds ++ ending c.end
 
-far : (m n : ℕ) → m ≡ n → n < m → ⊥
-far m n e lt = absurd (omega arith)
+abbrev traps_and_rest : Code → List ℕ
+traps_and_rest c = flat_map trap_line c.traps ++ unwinds_and_end c
 
-abbrev traps_and_end : Code → List ℕ
-traps_and_end c = flat_map trap_line c.traps ++ ending c.end
+abbrev relocs_and_rest : Code → List ℕ
+relocs_and_rest c = flat_map reloc_line c.relocs ++ traps_and_rest c
 
-abbrev constants_and_traps : Code → List ℕ
-constants_and_traps c = flat_map const_line c.constants ++ traps_and_end c
+abbrev constants_and_rest : Code → List ℕ
+constants_and_rest c = flat_map const_line c.constants ++ relocs_and_rest c
 
-abbrev labels_and_constants : Code → List ℕ
-labels_and_constants c = flat_map label_line c.labels ++ constants_and_traps c
+abbrev labels_and_rest : Code → List ℕ
+labels_and_rest c = flat_map label_line c.labels ++ constants_and_rest c
 
 abbrev after_hex_lines : Code → List ℕ
-after_hex_lines c = flat_map span_line c.lines ++ labels_and_constants c
+after_hex_lines c = flat_map span_line c.lines ++ labels_and_rest c
 
-near : (m n : ℕ) → m ≡ n → m < n → ⊥
-near m n e lt = absurd (omega arith)
+-- a byte that a text doesn't begin with
+abbrev first : List ℕ → ℕ
+first w = get_or w 0 0
 
--- a line of a span begins like none of a label, a constant or a trap, and so for the others
-no_span : (ls : List LabelPlace) (cs : List ConstPlace) (ts : List MachTrap) (n : ℕ) → No SpanFits span_line (flat_map label_line ls ++ (flat_map const_line cs ++ (flat_map trap_line ts ++ ending n)))
-no_span [] [] [] n x t fits e = far 108 101 (ap (λ (w : List ℕ). get_or w 0 0) e) (omega arith)
-no_span [] [] (tr ∷ ts) n x t fits e = near 108 116 (ap (λ (w : List ℕ). get_or w 0 0) e) (omega arith)
-no_span [] (c ∷ cs) ts n x t fits e = far 108 99 (ap (λ (w : List ℕ). get_or w 0 0) e) (omega arith)
-no_span (l ∷ ls) cs ts n x t fits e = far 105 97 (ap (λ (w : List ℕ). get_or w 1 0) e) (omega arith)
+abbrev NotFirst : ℕ → List ℕ → Type 0
+NotFirst k w = first w ≡ k → ⊥
 
-no_label : (cs : List ConstPlace) (ts : List MachTrap) (n : ℕ) → No LabelFits label_line (flat_map const_line cs ++ (flat_map trap_line ts ++ ending n))
-no_label [] [] n x t fits e = far 108 101 (ap (λ (w : List ℕ). get_or w 0 0) e) (omega arith)
-no_label [] (tr ∷ ts) n x t fits e = near 108 116 (ap (λ (w : List ℕ). get_or w 0 0) e) (omega arith)
-no_label (c ∷ cs) ts n x t fits e = far 108 99 (ap (λ (w : List ℕ). get_or w 0 0) e) (omega arith)
+-- lines that begin with another byte, before what doesn't begin with this one
+other_first : {A : Type 0} (k c : ℕ) (f : A → List ℕ) → ((x : A) (t : List ℕ) → first (f x ++ t) ≡ c) → (c ≡ k → ⊥) → (xs : List A) (rest : List ℕ) → NotFirst k rest → NotFirst k (flat_map f xs ++ rest)
+other_first k c f begins differ [] rest later e = later e
+other_first k c f begins differ (x ∷ xs) rest later e = differ (sym (begins x (flat_map f xs ++ rest)) ∙ ap first (sym (append_assoc (f x) (flat_map f xs) rest)) ∙ e)
 
-no_const : (ts : List MachTrap) (n : ℕ) → No ConstFits const_line (flat_map trap_line ts ++ ending n)
-no_const [] n x t fits e = near 99 101 (ap (λ (w : List ℕ). get_or w 0 0) e) (omega arith)
-no_const (tr ∷ ts) n x t fits e = near 99 116 (ap (λ (w : List ℕ). get_or w 0 0) e) (omega arith)
+-- A line of each kind begins like none of a later kind: c, r, t, u and e are distinct, and none is l.
+no_unwind_first : (k : ℕ) (c : Code) → (101 ≡ k → ⊥) → (117 ≡ k → ⊥) → NotFirst k (unwinds_and_end c)
+no_unwind_first k c e u = other_first k 117 unwind_line (λ x t. refl) u c.unwinds (ending c.end) e
 
-no_trap : (n : ℕ) → No TrapFits trap_line (ending n)
-no_trap n x t fits e = far 116 101 (ap (λ (w : List ℕ). get_or w 0 0) e) (omega arith)
+no_trap_first : (k : ℕ) (c : Code) → (101 ≡ k → ⊥) → (117 ≡ k → ⊥) → (116 ≡ k → ⊥) → NotFirst k (traps_and_rest c)
+no_trap_first k c e u t = other_first k 116 trap_line (λ x t. refl) t c.traps (unwinds_and_end c) (no_unwind_first k c e u)
+
+no_reloc_first : (k : ℕ) (c : Code) → (101 ≡ k → ⊥) → (117 ≡ k → ⊥) → (116 ≡ k → ⊥) → (114 ≡ k → ⊥) → NotFirst k (relocs_and_rest c)
+no_reloc_first k c e u t r = other_first k 114 reloc_line (λ x t. refl) r c.relocs (traps_and_rest c) (no_trap_first k c e u t)
+
+no_const_first : (k : ℕ) (c : Code) → (101 ≡ k → ⊥) → (117 ≡ k → ⊥) → (116 ≡ k → ⊥) → (114 ≡ k → ⊥) → (99 ≡ k → ⊥) → NotFirst k (constants_and_rest c)
+no_const_first k c e u t r n = other_first k 99 const_line (λ x t. refl) n c.constants (relocs_and_rest c) (no_reloc_first k c e u t r)
+
+no_unwind : (c : Code) → No UnwindFits unwind_line (ending c.end)
+no_unwind c x t fits e = far 117 101 (ap first e) (omega arith)
+
+no_trap : (c : Code) → No TrapFits trap_line (unwinds_and_end c)
+no_trap c x t fits e = no_unwind_first 116 c (λ d. near 101 116 d (omega arith)) (λ d. far 117 116 d (omega arith)) (sym (ap first e))
+
+no_reloc : (c : Code) → No RelocFits reloc_line (traps_and_rest c)
+no_reloc c x t fits e = no_trap_first 114 c (λ d. near 101 114 d (omega arith)) (λ d. far 117 114 d (omega arith)) (λ d. far 116 114 d (omega arith)) (sym (ap first e))
+
+no_const : (c : Code) → No ConstFits const_line (relocs_and_rest c)
+no_const c x t fits e = no_reloc_first 99 c (λ d. far 101 99 d (omega arith)) (λ d. far 117 99 d (omega arith)) (λ d. far 116 99 d (omega arith)) (λ d. far 114 99 d (omega arith)) (sym (ap first e))
+
+no_l : (c : Code) → NotFirst 108 (constants_and_rest c)
+no_l c = no_const_first 108 c (λ d. near 101 108 d (omega arith)) (λ d. far 117 108 d (omega arith)) (λ d. far 116 108 d (omega arith)) (λ d. far 114 108 d (omega arith)) (λ d. near 99 108 d (omega arith))
+
+no_label : (c : Code) → No LabelFits label_line (constants_and_rest c)
+no_label c x t fits e = no_l c (sym (ap first e))
+
+-- the line of a label begins with an l, too, and then with another byte
+no_span_before : (ls : List LabelPlace) (rest : List ℕ) → NotFirst 108 rest → No SpanFits span_line (flat_map label_line ls ++ rest)
+no_span_before [] rest later x t fits e = later (sym (ap first e))
+no_span_before (l ∷ ls) rest later x t fits e = far 105 97 (ap (λ (w : List ℕ). get_or w 1 0) e) (omega arith)
+
+no_span : (c : Code) → No SpanFits span_line (labels_and_rest c)
+no_span c = no_span_before c.labels (constants_and_rest c) (no_l c)
+
+regroup_report : (p n r s l k o t u e m : List ℕ) → p ++ n ++ 10 ∷ [] ++ r ++ s ++ l ++ k ++ o ++ t ++ u ++ e ++ m ++ 10 ∷ [] ≡ p ++ (n ++ 10 ∷ (r ++ (s ++ (l ++ (k ++ (o ++ (t ++ (u ++ (e ++ (m ++ 10 ∷ []))))))))))
+regroup_report p n r s l k o t u e m = simp append_assoc
 
 grouped : (c : Code) → report c ≡ codes "code " ++ (decimal (length c.bytes) ++ 10 ∷ (all_hex_lines c.bytes ++ after_hex_lines c))
-grouped c = regroup_report (codes "code ") (decimal (length c.bytes)) (all_hex_lines c.bytes) (flat_map span_line c.lines) (flat_map label_line c.labels) (flat_map const_line c.constants) (flat_map trap_line c.traps) (codes "end ") (decimal c.end)
+grouped c = regroup_report (codes "code ") (decimal (length c.bytes)) (all_hex_lines c.bytes) (flat_map span_line c.lines) (flat_map label_line c.labels) (flat_map const_line c.constants) (flat_map reloc_line c.relocs) (flat_map trap_line c.traps) (flat_map unwind_line c.unwinds) (codes "end ") (decimal c.end)
 
 all_hex_lines_open : (xs ys a b : List ℕ) → length xs ≡ length ys → AllByRecursion (λ b. b < 256) xs → AllByRecursion (λ b. b < 256) ys → all_hex_lines xs ++ a ≡ all_hex_lines ys ++ b → (xs ≡ ys) × (a ≡ b)
 all_hex_lines_open xs ys a b len fx fy e =
@@ -237,14 +207,16 @@ same_code c d fc fd e =
     let whole = ap (drop 5) (sym (grouped c) ∙ e ∙ grouped d) in
     let count = number_opens (length c.bytes) (length d.bytes) (all_hex_lines c.bytes ++ after_hex_lines c) (all_hex_lines d.bytes ++ after_hex_lines d) 10 (omega arith) (omega (arith, c.small)) (omega (arith, d.small)) whole in
     let bytes = all_hex_lines_open c.bytes d.bytes (after_hex_lines c) (after_hex_lines d) count.0 fc.bytes fd.bytes count.1 in
-    let lines = all_open SpanFits span_line (record { one = span_opens }) c.lines d.lines (labels_and_constants c) (labels_and_constants d) fc.lines fd.lines (no_span c.labels c.constants c.traps c.end) (no_span d.labels d.constants d.traps d.end) bytes.1 in
-    let labels = all_open LabelFits label_line (record { one = label_opens }) c.labels d.labels (constants_and_traps c) (constants_and_traps d) fc.labels fd.labels (no_label c.constants c.traps c.end) (no_label d.constants d.traps d.end) lines.1 in
-    let constants = all_open ConstFits const_line (record { one = const_opens }) c.constants d.constants (traps_and_end c) (traps_and_end d) fc.constants fd.constants (no_const c.traps c.end) (no_const d.traps d.end) labels.1 in
-    let traps = all_open TrapFits trap_line (record { one = trap_opens }) c.traps d.traps (ending c.end) (ending d.end) fc.traps fd.traps (no_trap c.end) (no_trap d.end) constants.1 in
-    let last = number_opens c.end d.end [] [] 10 (omega arith) (omega (arith, fc.end)) (omega (arith, fd.end)) (ap (drop 4) traps.1) in
-    made c d bytes.0 lines.0 labels.0 constants.0 traps.0 last.0
+    let lines = all_open SpanFits span_line (record { one = span_opens }) c.lines d.lines (labels_and_rest c) (labels_and_rest d) fc.lines fd.lines (no_span c) (no_span d) bytes.1 in
+    let labels = all_open LabelFits label_line (record { one = label_opens }) c.labels d.labels (constants_and_rest c) (constants_and_rest d) fc.labels fd.labels (no_label c) (no_label d) lines.1 in
+    let constants = all_open ConstFits const_line (record { one = const_opens }) c.constants d.constants (relocs_and_rest c) (relocs_and_rest d) fc.constants fd.constants (no_const c) (no_const d) labels.1 in
+    let relocs = all_open RelocFits reloc_line (record { one = reloc_opens }) c.relocs d.relocs (traps_and_rest c) (traps_and_rest d) fc.relocs fd.relocs (no_reloc c) (no_reloc d) constants.1 in
+    let traps = all_open TrapFits trap_line (record { one = trap_opens }) c.traps d.traps (unwinds_and_end c) (unwinds_and_end d) fc.traps fd.traps (no_trap c) (no_trap d) relocs.1 in
+    let unwinds = all_open UnwindFits unwind_line (record { one = unwind_opens }) c.unwinds d.unwinds (ending c.end) (ending d.end) fc.unwinds fd.unwinds (no_unwind c) (no_unwind d) traps.1 in
+    let last = number_opens c.end d.end [] [] 10 (omega arith) (omega (arith, fc.end)) (omega (arith, fd.end)) (ap (drop 4) unwinds.1) in
+    made c d bytes.0 lines.0 labels.0 constants.0 relocs.0 traps.0 unwinds.0 last.0
   where
-    made : (c d : Code) → c.bytes ≡ d.bytes → c.lines ≡ d.lines → c.labels ≡ d.labels → c.constants ≡ d.constants → c.traps ≡ d.traps → c.end ≡ d.end → c ≡ d
-    made c d p q r k t s =
-        let Rest : List ℕ → Type 0 = λ (bs : List ℕ). (small : length bs < 2 ^ 32) → c ≡ record { bytes = bs; lines = d.lines; labels = d.labels; constants = d.constants; traps = d.traps; «end» = d.end; small = small } in
-        subst Rest p (λ small. λ i. record { bytes = c.bytes; lines = q i; labels = r i; constants = k i; traps = t i; «end» = s i; small = le_prop c.small small i }) d.small
+    made : (c d : Code) → c.bytes ≡ d.bytes → c.lines ≡ d.lines → c.labels ≡ d.labels → c.constants ≡ d.constants → c.relocs ≡ d.relocs → c.traps ≡ d.traps → c.unwinds ≡ d.unwinds → c.end ≡ d.end → c ≡ d
+    made c d p q r k o t u s =
+        let Rest : List ℕ → Type 0 = λ (bs : List ℕ). (small : length bs < 2 ^ 32) → c ≡ record { bytes = bs; lines = d.lines; labels = d.labels; constants = d.constants; relocs = d.relocs; traps = d.traps; unwinds = d.unwinds; «end» = d.end; small = small } in
+        subst Rest p (λ small. λ i. record { bytes = c.bytes; lines = q i; labels = r i; constants = k i; relocs = o i; traps = t i; unwinds = u i; «end» = s i; small = le_prop c.small small i }) d.small

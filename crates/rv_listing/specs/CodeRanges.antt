@@ -1,10 +1,18 @@
 -- The numbers of a code are those of their types.
-use Rattle.std.specs.Prelude.{◌<◌, ◌^◌}
+use Rattle.std.specs.Prelude.{◌<◌, ◌-◌, ◌^◌, pos, negsuc, ◌≤ℤ◌}
 use Rattle.std.specs.List.{AllByRecursion}
 use Rattle.rv_inst.specs.declared.code.LineSpan.{LineSpan}
 use Rattle.mach_buffer.specs.declared.uses.LabelPlace.{LabelPlace}
 use Rattle.mach_buffer.specs.declared.records.ConstPlace.{ConstPlace}
+use Rattle.mach_buffer.specs.declared.records.FinalizedRelocTarget.{FinalizedRelocTarget}
+use Rattle.mach_buffer.specs.declared.records.FinalizedRelocTarget.TheVariants.{ExternalName, Func}
+use Rattle.mach_buffer.specs.declared.records.MachReloc.{MachReloc}
 use Rattle.mach_buffer.specs.declared.records.MachTrap.{MachTrap}
+use Rattle.mach_buffer.specs.declared.records.MachUnwind.{MachUnwind}
+use Rattle.rv_base.specs.declared.regs.Reg.{Reg}
+use Rattle.rv_base.specs.declared.regs.Reg.TheVariants.{Real, Virtual}
+use Rattle.rv_base.specs.declared.unwind.UnwindInst.{UnwindInst}
+use Rattle.rv_base.specs.declared.unwind.UnwindInst.TheVariants.{PushFrameRegs, DefineNewFrame, StackAlloc, SaveReg}
 use Rattle.rv_inst.specs.declared.code.Code.{Code}
 
 pub record SpanFits (l : LineSpan) : Type 0 where
@@ -20,14 +28,41 @@ pub record ConstFits (c : ConstPlace) : Type 0 where
   pub constant : c.constant.number < 2 ^ 32
   pub offset : c.offset < 2 ^ 32
 
+abbrev pub TargetFits : FinalizedRelocTarget → Type 0
+TargetFits (ExternalName name) = name.number < 2 ^ 32
+TargetFits (Func offset) = offset < 2 ^ 32
+
+pub record RelocFits (r : MachReloc) : Type 0 where
+  pub offset : r.offset < 2 ^ 32
+  pub target : TargetFits r.target
+  pub low : negsuc (2 ^ 63 - 1) ≤ℤ r.addend
+  pub high : r.addend ≤ℤ pos (2 ^ 63 - 1)
+
 -- a cause has its range in its type
 pub record TrapFits (t : MachTrap) : Type 0 where
   pub offset : t.offset < 2 ^ 32
+
+-- A register of the machine, which has its range in its type. Virtual ones of two classes may have one name.
+abbrev pub IsOfMachine : Reg → Type 0
+IsOfMachine (Real p) = Unit {0}
+IsOfMachine (Virtual v) = ⊥
+
+abbrev pub StepFits : UnwindInst → Type 0
+StepFits (PushFrameRegs to_caller) = to_caller < 2 ^ 32
+StepFits (DefineNewFrame to_caller to_saved) = (to_caller < 2 ^ 32) × (to_saved < 2 ^ 32)
+StepFits (StackAlloc size) = size < 2 ^ 32
+StepFits (SaveReg above reg) = (above < 2 ^ 32) × IsOfMachine reg
+
+pub record UnwindFits (u : MachUnwind) : Type 0 where
+  pub offset : u.offset < 2 ^ 32
+  pub step : StepFits u.inst
 
 pub record CodeFits (c : Code) : Type 0 where
   pub bytes : AllByRecursion (λ b. b < 256) c.bytes
   pub lines : AllByRecursion SpanFits c.lines
   pub labels : AllByRecursion LabelFits c.labels
   pub constants : AllByRecursion ConstFits c.constants
+  pub relocs : AllByRecursion RelocFits c.relocs
   pub traps : AllByRecursion TrapFits c.traps
+  pub unwinds : AllByRecursion UnwindFits c.unwinds
   pub «end» : c.end < 2 ^ 32

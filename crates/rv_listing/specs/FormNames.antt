@@ -12,6 +12,7 @@ form_name forms.Nop4 = codes "Nop4"
 form_name forms.EBreak = codes "EBreak"
 form_name forms.SequencePoint = codes "SequencePoint"
 form_name forms.DummyUse = codes "DummyUse"
+form_name forms.Unwind = codes "Unwind"
 form_name forms.EmitIsland = codes "EmitIsland"
 form_name forms.Args = codes "Args"
 form_name forms.Rets = codes "Rets"
@@ -40,14 +41,18 @@ form_name forms.Popcnt = codes "Popcnt"
 form_name forms.Cltz = codes "Cltz"
 form_name forms.Brev8 = codes "Brev8"
 form_name forms.StackProbeLoop = codes "StackProbeLoop"
+form_name forms.LoadExtNameGot = codes "LoadExtNameGot"
+form_name forms.LoadExtNameNear = codes "LoadExtNameNear"
+form_name forms.LoadExtNameFar = codes "LoadExtNameFar"
 form_name forms.Bind = codes "Bind"
 
 unfoldable pub every_form : List Form
 every_form =
-    forms.Nop0 ∷ forms.Nop4 ∷ forms.EBreak ∷ forms.SequencePoint ∷ forms.DummyUse ∷ forms.EmitIsland ∷ forms.Args ∷ forms.Rets ∷
+    forms.Nop0 ∷ forms.Nop4 ∷ forms.EBreak ∷ forms.SequencePoint ∷ forms.DummyUse ∷ forms.Unwind ∷ forms.EmitIsland ∷ forms.Args ∷ forms.Rets ∷
     forms.RawData ∷ forms.Lui ∷ forms.Auipc ∷ forms.LoadInlineConst ∷ forms.AluRRR ∷ forms.AluRRImm12 ∷ forms.Mov ∷
     forms.MovFromPReg ∷ forms.Extend ∷ forms.Select ∷ forms.Load ∷ forms.Store ∷ forms.LoadAddr ∷ forms.LabelAddress ∷ forms.Ret ∷ forms.TrapIf ∷ forms.Jal ∷
-    forms.CondBr ∷ forms.BrTable ∷ forms.Udf ∷ forms.Jalr ∷ forms.Popcnt ∷ forms.Cltz ∷ forms.Brev8 ∷ forms.StackProbeLoop ∷ forms.Bind ∷ []
+    forms.CondBr ∷ forms.BrTable ∷ forms.Udf ∷ forms.Jalr ∷ forms.Popcnt ∷ forms.Cltz ∷ forms.Brev8 ∷ forms.StackProbeLoop ∷
+    forms.LoadExtNameGot ∷ forms.LoadExtNameNear ∷ forms.LoadExtNameFar ∷ forms.Bind ∷ []
 
 -- the form of the lines that begin with this word
 unfoldable pub form_named : List ℕ → Option Form

@@ -16,7 +16,7 @@ use Rattle.rv_listing.specs.Tokens.{◌>>=◌, natural}
 use Rattle.rv_listing.specs.FormNames.{form_named}
 use Rattle.rv_listing.specs.Fields.{done, ◌⊛◌, whole}
 use Rattle.rv_listing.specs.Registers.{register}
-use Rattle.rv_listing.specs.Operands.{writable, real_register, imm12, imm20, natural_8, natural_32, label, target, signedness, leading}
+use Rattle.rv_listing.specs.Operands.{writable, real_register, imm12, imm20, natural_8, natural_32, label, symbol, offset, target, signedness, leading}
 use Rattle.rv_listing.specs.Comparisons.{cond_code}
 use Rattle.rv_listing.specs.Addresses.{amode}
 use Rattle.rv_listing.specs.Operations.{alu_rri, alu_rrr, load_op, store_op}
@@ -25,6 +25,7 @@ use Rattle.rv_listing.specs.HexDigits.{some_bytes}
 use Rattle.rv_listing.specs.Traps.{trap_named, access_flags}
 use Rattle.rv_listing.specs.Pairs.{arg_pair, ret_pair, listed}
 use Rattle.rv_listing.specs.ValueRegs.{value_regs}
+use Rattle.rv_listing.specs.UnwindSteps.{step_of}
 
 -- ---- those that compute nothing
 
@@ -42,6 +43,9 @@ sequence_point_form = whole (done form.SequencePoint)
 
 unfoldable pub dummy_use_form : List (List ℕ) → Option Inst
 dummy_use_form = whole (done form.DummyUse ⊛ register)
+
+unfoldable pub unwind_form : List (List ℕ) → Option Inst
+unwind_form ws = step_of ws >>= λ step. Some (form.Unwind step)
 
 unfoldable pub emit_island_form : List (List ℕ) → Option Inst
 emit_island_form = whole (done form.EmitIsland ⊛ natural_32)
@@ -146,6 +150,17 @@ brev8_form = whole (done form.Brev8 ⊛ register ⊛ type_named ⊛ writable ⊛
 unfoldable pub stack_probe_loop_form : List (List ℕ) → Option Inst
 stack_probe_loop_form = whole (done form.StackProbeLoop ⊛ natural_32 ⊛ natural_32 ⊛ writable)
 
+-- ---- those that depend on a symbol
+
+unfoldable pub load_ext_name_got_form : List (List ℕ) → Option Inst
+load_ext_name_got_form = whole (done form.LoadExtNameGot ⊛ writable ⊛ symbol)
+
+unfoldable pub load_ext_name_near_form : List (List ℕ) → Option Inst
+load_ext_name_near_form = whole (done form.LoadExtNameNear ⊛ writable ⊛ symbol ⊛ offset)
+
+unfoldable pub load_ext_name_far_form : List (List ℕ) → Option Inst
+load_ext_name_far_form = whole (done form.LoadExtNameFar ⊛ writable ⊛ symbol ⊛ offset)
+
 -- ---- lines
 
 unfoldable pub bind_form : List (List ℕ) → Option Line
@@ -162,6 +177,7 @@ by_form forms.Nop4 ws = put (nop4_form ws)
 by_form forms.EBreak ws = put (ebreak_form ws)
 by_form forms.SequencePoint ws = put (sequence_point_form ws)
 by_form forms.DummyUse ws = put (dummy_use_form ws)
+by_form forms.Unwind ws = put (unwind_form ws)
 by_form forms.EmitIsland ws = put (emit_island_form ws)
 by_form forms.Args ws = put (args_form ws)
 by_form forms.Rets ws = put (rets_form ws)
@@ -190,6 +206,9 @@ by_form forms.Popcnt ws = put (popcnt_form ws)
 by_form forms.Cltz ws = put (cltz_form ws)
 by_form forms.Brev8 ws = put (brev8_form ws)
 by_form forms.StackProbeLoop ws = put (stack_probe_loop_form ws)
+by_form forms.LoadExtNameGot ws = put (load_ext_name_got_form ws)
+by_form forms.LoadExtNameNear ws = put (load_ext_name_near_form ws)
+by_form forms.LoadExtNameFar ws = put (load_ext_name_far_form ws)
 by_form forms.Bind ws = bind_form ws
 
 unfoldable pub line_form : List ℕ → List (List ℕ) → Option Line

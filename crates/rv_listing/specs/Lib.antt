@@ -14,8 +14,10 @@ pub mod ValueRegs
 pub mod FlagsHeader
 pub mod FrameHeader
 pub mod ConstantHeader
+pub mod UnwindSteps
 pub mod FormNames
 pub mod Forms
 pub mod Reading
 pub mod CodeRanges
+pub mod Relocations
 pub mod Report

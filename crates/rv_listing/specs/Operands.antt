@@ -1,7 +1,8 @@
--- The tokens for registers, numbers and labels.
-use Rattle.std.specs.Prelude.{ℕ, Bool, true, false, ◌^◌, ◌-◌, ◌&&◌, List, Option, Some, None, drop, if◌then◌else◌, codes, ℤ, pos, negsuc, int_le}
+-- The tokens for registers, numbers, labels and symbols.
+use Rattle.std.specs.Prelude.{ℕ, Bool, true, false, ◌^◌, ◌-◌, ◌&&◌, List, Option, Some, None, take, drop, if◌then◌else◌, codes, ℤ, pos, negsuc, int_le}
 use Rattle.std.specs.Str.{bytes_eq}
 use lib.Signed.{le_z_yes}
+use Rattle.rv_base.specs.declared.external_name.ExternalName.{ExternalName}
 use Rattle.rv_base.specs.declared.label.MachLabel.{MachLabel}
 use Rattle.rv_base.specs.declared.regs.PReg.{PReg}
 use Rattle.rv_base.specs.declared.regs.Reg.{Reg}
@@ -44,6 +45,10 @@ natural_32 w = natural w >>= below (2 ^ 32)
 -- L and the label's number
 unfoldable pub label : List ℕ → Option MachLabel
 label w = if starts 76 w then (decimal (drop 1 w) >>= below (2 ^ 32) >>= λ n. Some (record { number = n })) else None
+
+-- userextname and the symbol's number
+unfoldable pub symbol : List ℕ → Option ExternalName
+symbol w = if bytes_eq (take 11 w) (codes "userextname") then (decimal (drop 11 w) >>= below (2 ^ 32) >>= λ n. Some (record { number = n })) else None
 
 -- a label, or - for the next line
 unfoldable pub target : List ℕ → Option CondBrTarget

@@ -1,16 +1,21 @@
 //! The report of a code: what the program writes.
 
-ghost use Rattle.std.specs.Prelude.{◌≡◌, ◌<◌, ◌≤◌, ◌^◌, ◌++◌, length, take, drop, IfOk, OnOk};
+ghost use Rattle.std.specs.Prelude.{◌≡◌, ◌<◌, ◌≤◌, ◌^◌, [], ◌∷◌, ◌++◌, codes, length, take, drop, IfOk, OnOk};
 ghost use Rattle.std.specs.List.{flat_map};
-ghost use Rattle.std.specs.Fmt.{decimal};
+ghost use Rattle.std.specs.Fmt.{decimal, signed_decimal};
 ghost use Rattle.hex.specs.Hex.{encode_lower};
 ghost use Rattle.rv_inst.specs.declared.code.Code.{Code as ACode};
 ghost use Rattle.rv_listing.specs.CodeRanges.{CodeFits};
-ghost use Rattle.rv_listing.specs.Report.{lf, hex_line, all_hex_lines, span_line, label_line, const_line, trap_line, report};
+ghost use Rattle.rv_base.specs.RegNames.{name_of as register_name};
+ghost use Rattle.rv_listing.specs.Relocations.{target_text};
+ghost use Rattle.rv_listing.specs.UnwindSteps.{step_text};
+ghost use Rattle.rv_listing.specs.Report.{lf, hex_line, all_hex_lines, span_line, label_line, const_line, reloc_line, trap_line, unwind_line, report};
 
+use crate::relocations::kind_name;
 use itoa::Buffer;
-use rv_base::OutOfMemory;
-use rv_inst::{Code, ConstPlace, LabelPlace, LineSpan, MachTrap};
+use mach_buffer::FinalizedRelocTarget;
+use rv_base::{OutOfMemory, Reg, UnwindInst, reg_name};
+use rv_inst::{Code, ConstPlace, LabelPlace, LineSpan, MachReloc, MachTrap, MachUnwind};
 use std::alloc::Global;
 
 fn put(out: &mut Vec<u8>, text: &[u8]) -> Result<(), OutOfMemory>
@@ -40,6 +45,16 @@ fn end_line(out: &mut Vec<u8>, text: &[u8], n: u64) -> Result<(), OutOfMemory>
     ensures { OnOk result (out.new.items ≡ out.old.items ++ text.now ++ decimal n ++ lf) }
 {
     put_numbered(out, text, n)?;
+    put(out, b"\n")
+}
+
+// A text, and a signed number after it, up to the end of a line.
+fn end_signed(out: &mut Vec<u8>, text: &[u8], n: i64) -> Result<(), OutOfMemory>
+    ensures { OnOk result (out.new.items ≡ out.old.items ++ text.now ++ signed_decimal n ++ lf) }
+{
+    let mut buffer = Buffer::new();
+    put(out, text)?;
+    put(out, buffer.format(n).as_bytes())?;
     put(out, b"\n")
 }
 
@@ -113,6 +128,28 @@ fn put_constant(out: &mut Vec<u8>, c: &ConstPlace) -> Result<(), OutOfMemory>
     end_line(out, b" ", c.offset as u64)
 }
 
+fn put_target(out: &mut Vec<u8>, target: FinalizedRelocTarget) -> Result<(), OutOfMemory>
+    ensures { OnOk result (out.new.items ≡ out.old.items ++ target_text target) }
+{
+    match target {
+        FinalizedRelocTarget::ExternalName(name) => {
+            put_numbered(out, b"userextname", name.number as u64)
+        }
+        FinalizedRelocTarget::Func(offset) => put_numbered(out, b"@", offset as u64),
+    }
+}
+
+fn put_reloc(out: &mut Vec<u8>, r: &MachReloc) -> Result<(), OutOfMemory>
+    ensures { OnOk result (out.new.items ≡ out.old.items ++ reloc_line r.now) }
+{
+    put_numbered(out, b"reloc ", r.offset as u64)?;
+    put(out, b" ")?;
+    put(out, kind_name(r.kind).as_bytes())?;
+    put(out, b" ")?;
+    put_target(out, r.target)?;
+    end_signed(out, b" ", r.addend)
+}
+
 fn put_trap(alloc: Global, out: &mut Vec<u8>, t: &MachTrap) -> Result<(), OutOfMemory>
     ensures { OnOk result (out.new.items ≡ out.old.items ++ trap_line t.now) }
 {
@@ -121,6 +158,47 @@ fn put_trap(alloc: Global, out: &mut Vec<u8>, t: &MachTrap) -> Result<(), OutOfM
     put_numbered(out, b"trap ", t.offset as u64)?;
     put(out, b" ")?;
     put(out, name.as_bytes())?;
+    put(out, b"\n")
+}
+
+// A register that is saved, after where it is.
+fn put_saved(alloc: Global, out: &mut Vec<u8>, above: u32, reg: Reg) -> Result<(), OutOfMemory>
+    ensures { OnOk result (out.new.items ≡ out.old.items ++ codes "save " ++ decimal above ++ 32 ∷ [] ++ register_name reg) }
+{
+    let name = reg_name(alloc, reg)?;
+    put_numbered(out, b"save ", above as u64)?;
+    put(out, b" ")?;
+    put(out, name.as_bytes())
+}
+
+fn put_step(alloc: Global, out: &mut Vec<u8>, step: UnwindInst) -> Result<(), OutOfMemory>
+    ensures { OnOk result (out.new.items ≡ out.old.items ++ step_text step) }
+{
+    match step {
+        UnwindInst::PushFrameRegs {
+            offset_upward_to_caller_sp,
+        } => put_numbered(out, b"push ", offset_upward_to_caller_sp as u64),
+        UnwindInst::DefineNewFrame {
+            offset_upward_to_caller_sp,
+            offset_downward_to_clobbers,
+        } => {
+            put_numbered(out, b"frame ", offset_upward_to_caller_sp as u64)?;
+            put_numbered(out, b" ", offset_downward_to_clobbers as u64)
+        }
+        UnwindInst::StackAlloc { size } => put_numbered(out, b"alloc ", size as u64),
+        UnwindInst::SaveReg {
+            clobber_offset,
+            reg,
+        } => put_saved(alloc, out, clobber_offset, reg),
+    }
+}
+
+fn put_unwind(alloc: Global, out: &mut Vec<u8>, u: &MachUnwind) -> Result<(), OutOfMemory>
+    ensures { OnOk result (out.new.items ≡ out.old.items ++ unwind_line u.now) }
+{
+    put_numbered(out, b"unwind ", u.offset as u64)?;
+    put(out, b" ")?;
+    put_step(alloc, out, u.inst)?;
     put(out, b"\n")
 }
 
@@ -151,11 +229,29 @@ fn put_constants(out: &mut Vec<u8>, constants: &[ConstPlace]) -> Result<(), OutO
     Ok(())
 }
 
+fn put_relocs(out: &mut Vec<u8>, relocs: &[MachReloc]) -> Result<(), OutOfMemory>
+    ensures { OnOk result (out.new.items ≡ out.old.items ++ flat_map reloc_line relocs.now) }
+{
+    for r in relocs {
+        put_reloc(out, r)?;
+    }
+    Ok(())
+}
+
 fn put_traps(alloc: Global, out: &mut Vec<u8>, traps: &[MachTrap]) -> Result<(), OutOfMemory>
     ensures { OnOk result (out.new.items ≡ out.old.items ++ flat_map trap_line traps.now) }
 {
     for t in traps {
         put_trap(alloc, out, t)?;
+    }
+    Ok(())
+}
+
+fn put_unwinds(alloc: Global, out: &mut Vec<u8>, unwinds: &[MachUnwind]) -> Result<(), OutOfMemory>
+    ensures { OnOk result (out.new.items ≡ out.old.items ++ flat_map unwind_line unwinds.now) }
+{
+    for u in unwinds {
+        put_unwind(alloc, out, u)?;
     }
     Ok(())
 }
@@ -169,14 +265,16 @@ fn text_of(alloc: Global, code: &Code) -> Result<Vec<u8>, OutOfMemory>
     put_spans(&mut out, code.lines.as_slice())?;
     put_labels(&mut out, code.labels.as_slice())?;
     put_constants(&mut out, code.constants.as_slice())?;
+    put_relocs(&mut out, code.relocs.as_slice())?;
     put_traps(alloc, &mut out, code.traps.as_slice())?;
+    put_unwinds(alloc, &mut out, code.unwinds.as_slice())?;
     end_line(&mut out, b"end ", code.end as u64)?;
     Ok(out)
 }
 
 /// The text of the code, in lines that LF ends: its length, its bytes in lines of sixteen, where each line, each
-/// label and each constant stands, each trap and its cause, and where the last line ends. Numbers are decimal but in the lines of bytes. No other
-/// code has this text.
+/// label and each constant stands, each relocation, each trap and its cause, each step in the making of the frame, and where the
+/// last line ends. Numbers are decimal but in the lines of bytes. No other code has this text.
 pub fn report(alloc: Global, code: &Code) -> Result<Vec<u8>, OutOfMemory>
     ensures text { IfOk result (λ text. text.items ≡ report code.now) }
     ensures one_code { IfOk result (λ text. (other : ACode) → CodeFits code.now → CodeFits other → report other ≡ text.items → other ≡ code.now) }

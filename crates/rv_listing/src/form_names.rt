@@ -13,6 +13,7 @@ pub enum Form {
     EBreak,
     SequencePoint,
     DummyUse,
+    Unwind,
     EmitIsland,
     Args,
     Rets,
@@ -41,6 +42,9 @@ pub enum Form {
     Cltz,
     Brev8,
     StackProbeLoop,
+    LoadExtNameGot,
+    LoadExtNameNear,
+    LoadExtNameFar,
     Bind,
 }
 
@@ -55,6 +59,7 @@ impl Form {
             Self::EBreak => "EBreak",
             Self::SequencePoint => "SequencePoint",
             Self::DummyUse => "DummyUse",
+            Self::Unwind => "Unwind",
             Self::EmitIsland => "EmitIsland",
             Self::Args => "Args",
             Self::Rets => "Rets",
@@ -83,17 +88,21 @@ impl Form {
             Self::Cltz => "Cltz",
             Self::Brev8 => "Brev8",
             Self::StackProbeLoop => "StackProbeLoop",
+            Self::LoadExtNameGot => "LoadExtNameGot",
+            Self::LoadExtNameNear => "LoadExtNameNear",
+            Self::LoadExtNameFar => "LoadExtNameFar",
             Self::Bind => "Bind",
         }
     }
 }
 
-const EVERY_FORM: [Form; 34] = [
+const EVERY_FORM: [Form; 38] = [
     Form::Nop0,
     Form::Nop4,
     Form::EBreak,
     Form::SequencePoint,
     Form::DummyUse,
+    Form::Unwind,
     Form::EmitIsland,
     Form::Args,
     Form::Rets,
@@ -122,23 +131,26 @@ const EVERY_FORM: [Form; 34] = [
     Form::Cltz,
     Form::Brev8,
     Form::StackProbeLoop,
+    Form::LoadExtNameGot,
+    Form::LoadExtNameNear,
+    Form::LoadExtNameFar,
     Form::Bind,
 ];
 
 /// The indices in `EVERY_FORM` by the names' slots.
 const FORM_SLOTS: [u8; 256] = [
-    0, 0, 30, 0, 0, 0, 0, 0, 25, 0, 0, 0, 28, 0, 0, 0, 0, 2, 0, 0, 0, 23, 0, 0, 0, 0, 0, 0, 22, 0,
-    0, 0, 18, 0, 0, 0, 0, 0, 0, 0, 0, 0, 0, 0, 0, 0, 17, 0, 0, 13, 0, 0, 0, 0, 0, 0, 0, 0, 0, 0, 0,
-    0, 0, 11, 0, 0, 0, 3, 1, 0, 0, 0, 0, 0, 0, 0, 0, 0, 0, 0, 0, 0, 0, 0, 0, 0, 0, 0, 0, 0, 0, 0,
-    0, 0, 0, 0, 0, 0, 0, 0, 0, 0, 0, 0, 0, 0, 0, 0, 0, 0, 5, 0, 0, 0, 10, 0, 0, 0, 33, 0, 0, 0, 0,
-    0, 0, 31, 0, 0, 0, 0, 0, 0, 6, 0, 16, 0, 0, 21, 0, 0, 0, 29, 0, 0, 0, 0, 0, 0, 0, 0, 0, 0, 0,
-    0, 0, 0, 0, 0, 14, 0, 0, 0, 0, 0, 0, 0, 0, 0, 0, 12, 0, 0, 0, 0, 0, 0, 0, 0, 0, 0, 0, 9, 0, 0,
-    8, 0, 0, 0, 27, 0, 0, 0, 0, 32, 4, 0, 0, 0, 7, 0, 15, 0, 0, 0, 0, 0, 0, 0, 0, 0, 19, 0, 0, 0,
-    26, 0, 0, 0, 0, 0, 0, 0, 0, 0, 0, 0, 0, 0, 0, 0, 0, 24, 0, 0, 0, 0, 0, 0, 20, 0, 0, 0, 0, 0, 0,
-    0, 0, 0, 0, 0, 0, 0, 0, 0, 0, 0,
+    0, 0, 0, 0, 0, 0, 0, 0, 0, 25, 0, 0, 0, 0, 8, 14, 0, 0, 6, 0, 0, 0, 0, 0, 0, 30, 0, 0, 0, 0, 0,
+    0, 0, 0, 0, 0, 0, 35, 0, 0, 0, 0, 18, 0, 0, 0, 1, 0, 19, 0, 0, 16, 0, 0, 33, 0, 0, 0, 0, 0, 3,
+    0, 0, 0, 0, 28, 17, 0, 0, 0, 0, 0, 0, 0, 0, 0, 31, 0, 0, 0, 13, 0, 0, 0, 0, 0, 11, 12, 0, 0, 0,
+    15, 23, 0, 0, 29, 0, 0, 7, 0, 0, 0, 0, 21, 0, 9, 0, 0, 34, 0, 27, 0, 0, 0, 32, 0, 0, 22, 0, 0,
+    0, 0, 0, 0, 0, 0, 4, 0, 0, 0, 0, 0, 0, 0, 0, 0, 0, 0, 0, 0, 0, 0, 0, 0, 0, 0, 0, 0, 0, 0, 0, 0,
+    0, 0, 0, 36, 0, 0, 0, 0, 0, 0, 0, 0, 0, 0, 0, 0, 10, 0, 0, 0, 0, 0, 0, 0, 0, 0, 0, 0, 26, 0, 0,
+    0, 0, 0, 37, 0, 0, 0, 24, 0, 0, 0, 0, 0, 0, 0, 0, 0, 0, 0, 0, 0, 0, 0, 20, 0, 0, 0, 0, 0, 0, 0,
+    0, 0, 0, 0, 0, 0, 0, 0, 0, 0, 0, 0, 0, 5, 0, 0, 0, 0, 2, 0, 0, 0, 0, 0, 0, 0, 0, 0, 0, 0, 0, 0,
+    0, 0, 0, 0, 0, 0, 0, 0, 0, 0,
 ];
 
-const FORM_FACTOR: u64 = 17893659223010774751;
+const FORM_FACTOR: u64 = 12853865251737306535;
 
 /// The form of the lines that begin with this word.
 pub fn form_named(w: &[u8]) -> Option<Form>

@@ -3,13 +3,14 @@
 ghost use Rattle.std.specs.Prelude.{◌≡◌};
 ghost use Rattle.rv_listing.specs.Tokens.{words_after};
 ghost use Rattle.rv_listing.specs.Fields.{Makes};
-ghost use Rattle.rv_listing.specs.Forms.{args_form, rets_form, dummy_use_form, emit_island_form, raw_data_form, lui_form, auipc_form, load_inline_const_form, alu_rrr_form, alu_rr_imm12_form, mov_form, mov_from_preg_form, extend_form, select_form, load_form, store_form, load_addr_form, label_address_form, trap_if_form, jal_form, cond_br_form, br_table_form, udf_form, jalr_form, popcnt_form, cltz_form, brev8_form, stack_probe_loop_form, bind_form, put, by_form, line_form};
+ghost use Rattle.rv_listing.specs.Forms.{args_form, rets_form, dummy_use_form, unwind_form, emit_island_form, raw_data_form, lui_form, auipc_form, load_inline_const_form, alu_rrr_form, alu_rr_imm12_form, mov_form, mov_from_preg_form, extend_form, select_form, load_form, store_form, load_addr_form, label_address_form, trap_if_form, jal_form, cond_br_form, br_table_form, udf_form, jalr_form, popcnt_form, cltz_form, brev8_form, stack_probe_loop_form, load_ext_name_got_form, load_ext_name_near_form, load_ext_name_far_form, bind_form, put, by_form, line_form};
 
 use crate::fields::{LineError, allowed, field, flag, whole};
 use crate::form_names::{Form, form_named};
 use crate::hex_digits::some_bytes;
 use crate::pairs::listed_field;
 use crate::tokens::next_word;
+use crate::unwind_steps::step;
 use rv_inst::{Inst, Line};
 use rv_ops::IntegerCompare;
 use std::alloc::Global;
@@ -22,6 +23,14 @@ fn dummy_use(rest: &[u8]) -> Option<Inst>
 {
     let (reg, rest) = field(rest)?;
     whole(Inst::DummyUse { reg }, rest)
+}
+
+#[tactic(auto, unfolding(crate::specs::Forms::unwind_form))]
+fn unwind(rest: &[u8]) -> Option<Inst>
+    ensures { result ≡ unwind_form (words_after rest.now) }
+{
+    let inst = step(rest)?;
+    Some(Inst::Unwind { inst })
 }
 
 #[tactic(auto, unfolding(crate::specs::Forms::emit_island_form))]
@@ -413,6 +422,37 @@ fn stack_probe_loop(rest: &[u8]) -> Option<Inst>
     )
 }
 
+// ---- those that depend on a symbol
+
+#[tactic(auto, unfolding(crate::specs::Forms::load_ext_name_got_form))]
+fn load_ext_name_got(rest: &[u8]) -> Option<Inst>
+    ensures { result ≡ load_ext_name_got_form (words_after rest.now) }
+{
+    let (rd, rest) = field(rest)?;
+    let (name, rest) = field(rest)?;
+    whole(Inst::LoadExtNameGot { rd, name }, rest)
+}
+
+#[tactic(auto, unfolding(crate::specs::Forms::load_ext_name_near_form))]
+fn load_ext_name_near(rest: &[u8]) -> Option<Inst>
+    ensures { result ≡ load_ext_name_near_form (words_after rest.now) }
+{
+    let (rd, rest) = field(rest)?;
+    let (name, rest) = field(rest)?;
+    let (offset, rest) = field(rest)?;
+    whole(Inst::LoadExtNameNear { rd, name, offset }, rest)
+}
+
+#[tactic(auto, unfolding(crate::specs::Forms::load_ext_name_far_form))]
+fn load_ext_name_far(rest: &[u8]) -> Option<Inst>
+    ensures { result ≡ load_ext_name_far_form (words_after rest.now) }
+{
+    let (rd, rest) = field(rest)?;
+    let (name, rest) = field(rest)?;
+    let (offset, rest) = field(rest)?;
+    whole(Inst::LoadExtNameFar { rd, name, offset }, rest)
+}
+
 // ---- lines
 
 #[tactic(auto, unfolding(crate::specs::Forms::bind_form))]
@@ -443,6 +483,7 @@ fn line_of(alloc: Global, form: Form, rest: &[u8]) -> Result<Line, LineError>
         Form::EBreak => put(whole(Inst::EBreak, rest)),
         Form::SequencePoint => put(whole(Inst::SequencePoint, rest)),
         Form::DummyUse => put(dummy_use(rest)),
+        Form::Unwind => put(unwind(rest)),
         Form::EmitIsland => put(emit_island(rest)),
         Form::Args => Ok(Line::Inst(args(alloc, rest)?)),
         Form::Rets => Ok(Line::Inst(rets(alloc, rest)?)),
@@ -471,6 +512,9 @@ fn line_of(alloc: Global, form: Form, rest: &[u8]) -> Result<Line, LineError>
         Form::Cltz => put(cltz(rest)),
         Form::Brev8 => put(brev8(rest)),
         Form::StackProbeLoop => put(stack_probe_loop(rest)),
+        Form::LoadExtNameGot => put(load_ext_name_got(rest)),
+        Form::LoadExtNameNear => put(load_ext_name_near(rest)),
+        Form::LoadExtNameFar => put(load_ext_name_far(rest)),
         Form::Bind => allowed(bind(rest)),
     }
 }

@@ -16,18 +16,22 @@ mod operations;
 mod pairs;
 mod reading;
 mod registers;
+mod relocations;
 mod slots;
 mod tokens;
 mod traps;
 mod types;
+mod unwind_steps;
 mod value_regs;
 
 pub use code_report::report;
 pub use fields::LineError;
 pub use flags_header::with_flag;
 pub use hex_digits::hex_bytes;
+pub use operands::symbol_named;
 pub use reading::{ReadError, read_job};
 pub use registers::register;
+pub use relocations::reloc_named;
 pub use tokens::{
     decimal, first_part, first_word, natural, next_line, next_part, next_word, starts, tail,
     two_parts,

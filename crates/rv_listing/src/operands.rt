@@ -1,15 +1,17 @@
-//! The tokens for registers, numbers, labels and conditions.
+//! The tokens for registers, numbers, labels, symbols and targets.
 
-ghost use Rattle.std.specs.Prelude.{◌≡◌};
+ghost use Rattle.std.specs.Prelude.{◌≡◌, ◌<◌, ◌^◌, ◌++◌, Some, codes};
+ghost use Rattle.std.specs.Fmt.{decimal as written};
+ghost use Rattle.rv_base.specs.declared.external_name.ExternalName.{ExternalName as AName};
 ghost use Rattle.rv_base.specs.Regs.{real_of};
 ghost use Rattle.rv_listing.specs.Tokens.{natural};
 ghost use Rattle.rv_listing.specs.Registers.{register};
-ghost use Rattle.rv_listing.specs.Operands.{writable, real_register, imm12_of, imm12, imm20_of, imm20, natural_8, natural_32, offset_of, offset, label, target};
+ghost use Rattle.rv_listing.specs.Operands.{writable, real_register, imm12_of, imm12, imm20_of, imm20, natural_8, natural_32, offset_of, offset, label, symbol, target};
 
 use crate::fields::Token;
 use crate::registers::register;
-use crate::tokens::{is, natural, number, signed, starts};
-use rv_base::{MachLabel, PReg, Reg, Writable};
+use crate::tokens::{decimal, is, natural, number, signed, starts};
+use rv_base::{ExternalName, MachLabel, PReg, Reg, Writable};
 use rv_imms::{Imm12, Imm20};
 use rv_inst::CondBrTarget;
 
@@ -151,6 +153,35 @@ impl Token for MachLabel {
         } else {
             None
         }
+    }
+}
+
+#[tactic(auto, unfolding(crate::specs::Operands::symbol))]
+fn find_symbol(w: &[u8]) -> Option<ExternalName>
+    ensures { result ≡ symbol w.now }
+{
+    let digits = w.strip_prefix(b"userextname")?;
+    let n = decimal(digits)?;
+    if n < 0x1_0000_0000 {
+        Some(ExternalName { number: n as u32 })
+    } else {
+        None
+    }
+}
+
+/// The symbol of this name.
+pub fn symbol_named(w: &[u8]) -> Option<ExternalName>
+    ensures reads { result ≡ symbol w.now }
+    ensures named { (name : AName) → name.number < 2 ^ 32 → w.now ≡ codes "userextname" ++ written name.number → result ≡ Some name }
+{
+    find_symbol(w)
+}
+
+impl Token for ExternalName {
+    ghost reads = { symbol };
+
+    fn read(w: &[u8]) -> Option<ExternalName> {
+        symbol_named(w)
     }
 }
 

@@ -16,7 +16,7 @@ fn byte(w: &[u8], index: usize) -> u64
     }
 }
 
-/// The number of a word: five of its bytes, which tell any two names of a table apart.
+/// The number of a word: five of its bytes and its length, which tell any two names of a table apart.
 #[inline(always)]
 #[tactic(auto, unfolding(crate::specs::Slots::key))]
 fn key(w: &[u8]) -> u64
@@ -27,6 +27,7 @@ fn key(w: &[u8]) -> u64
         + byte(w, 2) * 0x1_0000
         + byte(w, w.len().saturating_sub(2)) * 0x100_0000
         + byte(w, w.len().saturating_sub(1)) * 0x1_0000_0000
+        + w.len() as u64 % 0x100 * 0x100_0000_0000
 }
 
 #[inline(always)]

@@ -1,4 +1,5 @@
 pub mod Command
 pub mod Hex
+pub mod Records
 pub mod Report
 pub mod Words

@@ -11,11 +11,12 @@ use Rattle.rv_base.specs.declared.trap.TrapCode.{TrapCode}
 use Rattle.rv_listing.specs.declared.fields.LineError.{LineError}
 use Rattle.rv_listing.specs.declared.fields.LineError.TheVariants as bad
 use Rattle.rv_listing.specs.HexDigits.{hex_bytes}
+use Rattle.rv_load.specs.Records.{number_32, reloc_words, is_within, unwind_words}
 use Rattle.rv_load.specs.declared.program.Program.{Program}
 use Rattle.rv_load.specs.declared.program.ProgramError.{ProgramError}
 use Rattle.rv_load.specs.declared.program.ProgramError.TheVariants as errors
 use Rattle.rv_load.specs.declared.report.Part.{Part}
-use Rattle.rv_load.specs.declared.report.Part.TheVariants.{Nothing, Bytes, Lines, Labels, Constants, Traps, End}
+use Rattle.rv_load.specs.declared.report.Part.TheVariants.{Nothing, Bytes, Lines, Labels, Constants, Relocations, Traps, Unwinds, End}
 use Rattle.rv_load.specs.declared.report.Draft.{Draft}
 
 abbrev pub blank : Draft
@@ -28,8 +29,10 @@ rank Bytes = 1
 rank Lines = 2
 rank Labels = 3
 rank Constants = 4
-rank Traps = 5
-rank End = 6
+rank Relocations = 5
+rank Traps = 6
+rank Unwinds = 7
+rank End = 8
 
 -- all bytes have come, and no later part
 abbrev pub may_have : Part → Draft → Bool
@@ -92,17 +95,17 @@ label_offset ws = field label ws >>= λ l. one l.1
 abbrev pub label_line : Draft → List (List ℕ) → Option Draft
 label_line d ws = label_offset ws >>= at_offset Labels d
 
--- a constant's number, of 32 bits
-abbrev pub constant : List ℕ → Option ℕ
-constant w = decimal w >>= below (2 ^ 32)
-
--- the offset after a constant's number
+-- the offset after a constant's number, which is of 32 bits
 abbrev pub const_offset : List (List ℕ) → Option ℕ
-const_offset ws = field constant ws >>= λ k. one k.1
+const_offset ws = field number_32 ws >>= λ k. one k.1
 
 -- `const K OFFSET`
 abbrev pub const_line : Draft → List (List ℕ) → Option Draft
 const_line d ws = const_offset ws >>= at_offset Constants d
+
+-- `reloc OFFSET KIND TARGET ADDEND`; a place in the code is at most the code's length
+abbrev pub reloc_line : Draft → List (List ℕ) → Option Draft
+reloc_line d ws = reloc_words ws >>= λ r. if is_within d.count r.1 then at_offset Relocations d r.0 else None
 
 -- an offset and a cause, where they are the last words
 abbrev pub trap_words : List (List ℕ) → Option (ℕ × TrapCode)
@@ -112,16 +115,22 @@ trap_words ws = field decimal ws >>= λ a. field trap_named a.1 >>= λ b. no_mor
 abbrev pub trap_line : Draft → List (List ℕ) → Option Draft
 trap_line d ws = trap_words ws >>= λ t. at_offset Traps d t.0
 
+-- `unwind OFFSET STEP`
+abbrev pub unwind_line : Draft → List (List ℕ) → Option Draft
+unwind_line d ws = unwind_words ws >>= λ u. at_offset Unwinds d u.0
+
 -- `end OFFSET`
 abbrev pub end_line : Draft → List (List ℕ) → Option Draft
-end_line d ws = one ws >>= λ n. if may_have Traps d && nat_le n d.count then Some (record d { part = End }) else None
+end_line d ws = one ws >>= λ n. if may_have Unwinds d && nat_le n d.count then Some (record d { part = End }) else None
 
 abbrev pub by_name : Draft → List ℕ → List (List ℕ) → Option Draft
 by_name d name ws =
     if bytes_eq name (codes "line") then span_line d ws else
     if bytes_eq name (codes "label") then label_line d ws else
     if bytes_eq name (codes "const") then const_line d ws else
+    if bytes_eq name (codes "reloc") then reloc_line d ws else
     if bytes_eq name (codes "trap") then trap_line d ws else
+    if bytes_eq name (codes "unwind") then unwind_line d ws else
     if bytes_eq name (codes "code") then head_line d ws else
     if bytes_eq name (codes "end") then end_line d ws else
     row_line d name ws
@@ -136,7 +145,7 @@ with_line d line = by_words d (words_of line)
 
 -- the code of a report that is whole; the number of the line that is missing, where it isn't
 abbrev pub whole_at : ℕ → Draft → Result Program ℕ
-whole_at n d = if rank d.part == 6 then Ok (record { bytes = d.bytes; lines = d.lines }) else Err n
+whole_at n d = if rank d.part == 8 then Ok (record { bytes = d.bytes; lines = d.lines }) else Err n
 
 -- what comes of a line that is number n
 abbrev pub or_line : ℕ → Option Draft → (Draft → Result Program ℕ) → Result Program ℕ

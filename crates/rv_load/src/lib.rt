@@ -4,6 +4,7 @@
 mod digits;
 mod given;
 mod program;
+mod records;
 mod report;
 mod settings;
 mod words;

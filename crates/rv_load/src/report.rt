@@ -6,9 +6,10 @@ ghost use Rattle.hex.specs.Hex.{encode_lower};
 ghost use Rattle.std.specs.Int.{w32, to_be_bytes};
 ghost use Rattle.rv_listing.specs.Tokens.{words_after, words_of, lines_of, decimal};
 ghost use Rattle.rv_listing.specs.Fields.{field, Takes, Makes};
-ghost use Rattle.rv_load.specs.Report.{rank, blank, may_have, is_offset, one, head_line, last_bytes, with_bytes, row_line, three, span_of, span_line, at_offset, label, label_offset, label_line, constant, const_offset, const_line, trap_words, trap_line, end_line, with_line, Turns, ReadsReport};
+ghost use Rattle.rv_load.specs.Report.{rank, blank, may_have, is_offset, one, head_line, last_bytes, with_bytes, row_line, three, span_of, span_line, at_offset, label, label_offset, label_line, const_offset, const_line, reloc_line, trap_words, trap_line, unwind_line, end_line, with_line, Turns, ReadsReport};
 
 use crate::program::{Program, ProgramError};
+use crate::records::{is_within, number, number_32, reloc_words, unwind_words};
 use rv_base::{List, OutOfMemory, TrapCode};
 use rv_inst::LineSpan;
 use rv_listing::{
@@ -24,7 +25,9 @@ pub enum Part {
     Lines,
     Labels,
     Constants,
+    Relocations,
     Traps,
+    Unwinds,
     End,
 }
 
@@ -58,8 +61,10 @@ fn rank(part: Part) -> u8
         Part::Lines => 2,
         Part::Labels => 3,
         Part::Constants => 4,
-        Part::Traps => 5,
-        Part::End => 6,
+        Part::Relocations => 5,
+        Part::Traps => 6,
+        Part::Unwinds => 7,
+        Part::End => 8,
     }
 }
 
@@ -75,15 +80,6 @@ fn may_have(part: Part, draft: &Draft) -> bool
 {
     let so_far = rank(draft.part);
     0 < so_far && so_far <= rank(part) && draft.bytes.len() as u64 == draft.count
-}
-
-// The next word, as a decimal number.
-fn number(rest: &[u8]) -> Option<(u64, &[u8])>
-    ensures { Takes result (field decimal (words_after rest.now)) }
-{
-    let (w, rest) = next_word(rest)?;
-    let n = decimal(w)?;
-    Some((n, rest))
 }
 
 // The next word as a decimal number, where it is the last.
@@ -256,19 +252,12 @@ fn label_line(draft: &mut Draft, rest: &[u8]) -> Result<(), LineError>
     }
 }
 
-fn constant(w: &[u8]) -> Option<u64>
-    ensures { result ≡ constant w.now }
-{
-    let n = decimal(w)?;
-    if n < 1 << 32 { Some(n) } else { None }
-}
-
 // The offset after a constant's number.
 fn const_offset(rest: &[u8]) -> Option<u64>
     ensures { result ≡ const_offset (words_after rest.now) }
 {
     let (w, rest) = next_word(rest)?;
-    constant(w)?;
+    number_32(w)?;
     last_number(rest)
 }
 
@@ -278,6 +267,17 @@ fn const_line(draft: &mut Draft, rest: &[u8]) -> Result<(), LineError>
     match const_offset(rest) {
         Some(offset) => at_offset(Part::Constants, draft, offset),
         None => Err(LineError::NotAllowed),
+    }
+}
+
+fn reloc_line(draft: &mut Draft, rest: &[u8]) -> Result<(), LineError>
+    ensures { Turns (reloc_line draft.old (words_after rest.now)) draft.new result }
+{
+    match reloc_words(rest) {
+        Some((offset, target)) if is_within(draft.count, target) => {
+            at_offset(Part::Relocations, draft, offset)
+        }
+        _ => Err(LineError::NotAllowed),
     }
 }
 
@@ -303,11 +303,20 @@ fn trap_line(draft: &mut Draft, rest: &[u8]) -> Result<(), LineError>
     }
 }
 
+fn unwind_line(draft: &mut Draft, rest: &[u8]) -> Result<(), LineError>
+    ensures { Turns (unwind_line draft.old (words_after rest.now)) draft.new result }
+{
+    match unwind_words(rest) {
+        Some((offset, _)) => at_offset(Part::Unwinds, draft, offset),
+        None => Err(LineError::NotAllowed),
+    }
+}
+
 fn end_line(draft: &mut Draft, rest: &[u8]) -> Result<(), LineError>
     ensures { Turns (end_line draft.old (words_after rest.now)) draft.new result }
 {
     match last_number(rest) {
-        Some(offset) if may_have(Part::Traps, draft) && offset <= draft.count => {
+        Some(offset) if may_have(Part::Unwinds, draft) && offset <= draft.count => {
             draft.part = Part::End;
             Ok(())
         }
@@ -326,8 +335,12 @@ fn take_line(alloc: Global, draft: &mut Draft, line: &[u8]) -> Result<(), LineEr
         label_line(draft, rest)
     } else if is(b"const", name) {
         const_line(draft, rest)
+    } else if is(b"reloc", name) {
+        reloc_line(draft, rest)
     } else if is(b"trap", name) {
         trap_line(draft, rest)
+    } else if is(b"unwind", name) {
+        unwind_line(draft, rest)
     } else if is(b"code", name) {
         head_line(draft, rest)
     } else if is(b"end", name) {
@@ -352,7 +365,7 @@ fn read_lines(alloc: Global, text: &[u8]) -> Result<Program, ProgramError>
         number += 1;
         rest = after;
     }
-    if rank(draft.part) == 6 {
+    if rank(draft.part) == 8 {
         Ok(Program {
             bytes: draft.bytes,
             lines: draft.lines,

@@ -4,7 +4,8 @@ use Rattle.rv_inst.specs.declared.code.Code.{Code}
 use Rattle.rv_inst.specs.SameValues.{Same}
 use Rattle.rv_machine.specs.State.{IsState, AreValues}
 use Rattle.rv_machine.specs.Steps.{Machine}
-use Rattle.rv_asm.specs.Simulation.{Addresses, At, IsPlaced, address_of}
+use Rattle.rv_asm.specs.Placed.{Addresses, IsPlaced}
+use Rattle.rv_asm.specs.Simulation.{At, address_of}
 
 -- what the headline asks of a state before a line, beside values that are the same as its own
 pub record IsBefore (code : Code) (base i : ℕ) (m : Machine) : Type 0 where

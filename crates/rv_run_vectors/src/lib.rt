@@ -14,4 +14,8 @@ mod memory;
 #[cfg(test)]
 mod ran;
 #[cfg(test)]
+mod records;
+#[cfg(test)]
 mod runs;
+#[cfg(test)]
+mod symbols;

@@ -5,19 +5,22 @@ ghost use Rattle.rv_asm.specs.Reported.{start_of};
 ghost use Rattle.rv_run_vectors.specs.Loaded.{IsBefore};
 
 use rv_asm::assemble;
-use rv_base::{FrameLayout, IsaFlags, OutOfMemory};
-use rv_inst::{Code, EmitError, Inst, Line};
+use rv_base::{FrameLayout, IsaFlags};
+use rv_inst::{Code, Inst, Line};
 use rv_machine::{IntMachine, Step};
 use std::alloc::Global;
 use std::test::Fail;
 
-/// A machine that holds code at an address, and stands at its start.
-fn loaded(alloc: Global, code: &Code, base: u64) -> Result<IntMachine, OutOfMemory>
+/// A machine that holds code at an address, and stands at its start. Refuses code that a linker has to fill.
+fn loaded(alloc: Global, code: &Code, base: u64) -> Result<IntMachine, Fail>
     requires aligned { base % 4 ≡ 0 }
     requires room { base + length code.now.bytes ≤ 2 ^ 64 }
     requires first { start_of code.now.lines 0 ≡ 0 }
     ensures { IfOk result (IsBefore code.now base 0) }
 {
+    if !code.relocs.as_slice().is_empty() {
+        return Err(Fail::new("code that a linker has to fill"));
+    }
     let mut machine = IntMachine::new(alloc, IsaFlags::none(), base);
     machine.load_image(base, code.bytes.as_slice())?;
     machine.pc();
@@ -25,16 +28,13 @@ fn loaded(alloc: Global, code: &Code, base: u64) -> Result<IntMachine, OutOfMemo
 }
 
 /// A machine before the code of a listing.
-fn started(alloc: Global, lines: &[Line], base: u64) -> Result<IntMachine, EmitError>
+fn started(alloc: Global, lines: &[Line], base: u64) -> Result<IntMachine, Fail>
     requires aligned { base % 4 ≡ 0 }
     requires room { base + 2 ^ 32 ≤ 2 ^ 64 }
 {
     let frame = FrameLayout::none(alloc);
     let code = assemble(alloc, lines, IsaFlags::none(), &frame, &[])?;
-    match loaded(alloc, &code, base) {
-        Ok(machine) => Ok(machine),
-        Err(OutOfMemory) => Err(EmitError::OutOfMemory),
-    }
+    loaded(alloc, &code, base)
 }
 
 #[test]

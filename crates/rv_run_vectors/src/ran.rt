@@ -399,21 +399,94 @@ fn owned(alloc: Global, words: &[&str]) -> Result<Vec<String>, AllocError> {
     Ok(all)
 }
 
-/// Stops unless a call ends with its status and writes its text.
-fn assert_call(rt: &impl Abort, alloc: Global, call: &Call) -> Result<(), AllocError> {
-    let words = owned(alloc, call.words)?;
+/// Stops unless a call over an input ends with this status and writes this text.
+pub(crate) fn assert_text(
+    rt: &impl Abort,
+    alloc: Global,
+    words: &[&str],
+    input: &str,
+    (status, text): (u8, &str),
+) -> Result<(), AllocError> {
+    let words = owned(alloc, words)?;
     let mut sink = SureSink::new(alloc);
-    let mut source = SureSource::new(call.input.as_bytes());
+    let mut source = SureSource::new(input.as_bytes());
     let outcome = run(alloc, &words, &mut source, &mut sink, &mut Silent);
-    let text = call.text;
-    assert!(rt; outcome.status() == call.status, "status at {text}");
+    assert!(rt; outcome.status() == status, "status at {text}");
     assert_eq!(rt; sink.bytes(), text.as_bytes());
     Ok(())
+}
+
+/// Stops unless a call ends with its status and writes its text.
+fn assert_call(rt: &impl Abort, alloc: Global, call: &Call) -> Result<(), AllocError> {
+    assert_text(rt, alloc, call.words, call.input, (call.status, call.text))
 }
 
 #[test]
 fn code_runs(rt: HostRuntime) -> Result<(), AllocError> {
     for call in &RUNS {
+        assert_call(&rt, rt.alloc(), call)?;
+    }
+    Ok(())
+}
+
+/// The report of `LoadExtNameNear a0 userextname1 -8`, `Unwind alloc 16` and `Ret`, as the harness with the Rust's own emission code
+/// writes it.
+const SYMBOL: &str = "\
+code 12
+00000000 170500001305050067800000
+line 0 0 8
+line 1 8 8
+line 2 8 12
+reloc 0 RiscvPCRelHi20 userextname1 -8
+reloc 4 RiscvPCRelLo12I @0 0
+unwind 8 alloc 16
+end 12
+";
+
+/// Reports with records of symbols and of frames: nothing is filled, so that the first leaves its own address; and lines that
+/// stand in no such order, or are of no form.
+const LINKED: [Call; 6] = [
+    Call {
+        words: &[],
+        input: SYMBOL,
+        status: 0,
+        text: "left the code to 0x8000000000010000\nsteps 3\na0 65536 0x10000\n",
+    },
+    Call {
+        words: &[],
+        input: "code 4\n00000000 67800000\nreloc 0 Abs8 @0 -9223372036854775808\ntrap 0 stk_ovf\nunwind 4 save 8 v31\nend 4\n",
+        status: 0,
+        text: "left the code to 0x8000000000010000\nsteps 1\n",
+    },
+    Call {
+        words: &[],
+        input: "code 4\n00000000 67800000\ntrap 0 stk_ovf\nreloc 0 Abs8 @0 0\nend 4\n",
+        status: 3,
+        text: "rvrun: no report at line 4\n",
+    },
+    Call {
+        words: &[],
+        input: "code 4\n00000000 67800000\nunwind 0 push 16\ntrap 0 stk_ovf\nend 4\n",
+        status: 3,
+        text: "rvrun: no report at line 4\n",
+    },
+    Call {
+        words: &[],
+        input: "code 4\n00000000 67800000\nreloc 0 Abs4 userextname1 0\nend 4\n",
+        status: 3,
+        text: "rvrun: no report at line 3\n",
+    },
+    Call {
+        words: &[],
+        input: "code 4\n00000000 67800000\nunwind 0 frame 16\nend 4\n",
+        status: 3,
+        text: "rvrun: no report at line 3\n",
+    },
+];
+
+#[test]
+fn records_are_read_and_left(rt: HostRuntime) -> Result<(), AllocError> {
+    for call in &LINKED {
         assert_call(&rt, rt.alloc(), call)?;
     }
     Ok(())

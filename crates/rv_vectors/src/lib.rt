@@ -15,3 +15,5 @@ mod reported;
 mod samples;
 #[cfg(test)]
 mod streams;
+#[cfg(test)]
+mod symbols;

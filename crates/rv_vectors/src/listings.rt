@@ -1,5 +1,9 @@
-use rv_base::{List, MachLabel, OutOfMemory, Reg, RegClass, TrapCode, VCodeConstant};
-use rv_inst::{Code, ConstPlace, LabelPlace, LineSpan, MachTrap};
+use mach_buffer::FinalizedRelocTarget;
+use rv_base::{
+    ExternalName, List, MachLabel, OutOfMemory, PReg, Reg, RegClass, Reloc, TrapCode, UnwindInst,
+    VCodeConstant,
+};
+use rv_inst::{Code, ConstPlace, LabelPlace, LineSpan, MachReloc, MachTrap, MachUnwind};
 use rv_listing::{ReadError, read_job, register, report};
 use std::alloc::Global;
 use std::process::Abort;
@@ -192,6 +196,63 @@ fn bad_lines_have_their_numbers(rt: HostRuntime) {
     assert_count(&rt, rt.alloc(), "Ret\n\nRet \n", third);
 }
 
+/// A relocation of each kind.
+fn five_relocs(alloc: Global) -> Result<Vec<MachReloc>, OutOfMemory> {
+    let name = |number: u32| FinalizedRelocTarget::ExternalName(ExternalName::from_u32(number));
+    let rows = [
+        (0, Reloc::RiscvCallPlt, name(4294967295), -8),
+        (4, Reloc::RiscvGotHi20, name(0), 0),
+        (8, Reloc::RiscvPCRelHi20, name(7), i64::MAX),
+        (8, Reloc::RiscvPCRelLo12I, FinalizedRelocTarget::Func(4), 0),
+        (10, Reloc::Abs8, FinalizedRelocTarget::Func(12), i64::MIN),
+    ];
+    let mut relocs = Vec::new(alloc);
+    for (offset, kind, target, addend) in rows {
+        relocs.push(MachReloc {
+            offset,
+            kind,
+            target,
+            addend,
+        })?;
+    }
+    Ok(relocs)
+}
+
+/// A step of each kind in the making of a frame.
+fn four_unwinds(alloc: Global) -> Result<Vec<MachUnwind>, OutOfMemory> {
+    let rows = [
+        (
+            0,
+            UnwindInst::PushFrameRegs {
+                offset_upward_to_caller_sp: 16,
+            },
+        ),
+        (
+            4,
+            UnwindInst::DefineNewFrame {
+                offset_upward_to_caller_sp: 16,
+                offset_downward_to_clobbers: 32,
+            },
+        ),
+        (8, UnwindInst::StackAlloc { size: 4294967295 }),
+        (
+            12,
+            UnwindInst::SaveReg {
+                clobber_offset: 24,
+                reg: Reg::Real(PReg {
+                    class: RegClass::Float,
+                    number: 27,
+                }),
+            },
+        ),
+    ];
+    let mut unwinds = Vec::new(alloc);
+    for (offset, inst) in rows {
+        unwinds.push(MachUnwind { offset, inst })?;
+    }
+    Ok(unwinds)
+}
+
 // A code of two rows, with its text as the report's format has it.
 #[test]
 fn reports(rt: HostRuntime) -> Result<(), OutOfMemory> {
@@ -249,11 +310,17 @@ fn reports(rt: HostRuntime) -> Result<(), OutOfMemory> {
         lines: List::from_vec(lines),
         labels: List::from_vec(labels),
         constants: List::from_vec(constants),
+        relocs: List::from_vec(five_relocs(alloc)?),
         traps: List::from_vec(traps),
+        unwinds: List::from_vec(four_unwinds(alloc)?),
         end: 16,
     };
     let wanted =
-        "code 18\n00000000 1305f5ffe31e05fe6780000001020304\n00000010 05ab\nline 0 0 0\nline 1 0 12\nlabel L7 4\nconst 3 16\ntrap 8 heap_oob\ntrap 12 user250\nend 16\n";
+        "code 18\n00000000 1305f5ffe31e05fe6780000001020304\n00000010 05ab\nline 0 0 0\nline 1 0 12\nlabel L7 4\nconst 3 16\n\
+reloc 0 RiscvCallPlt userextname4294967295 -8\nreloc 4 RiscvGotHi20 userextname0 0\n\
+reloc 8 RiscvPCRelHi20 userextname7 9223372036854775807\nreloc 8 RiscvPCRelLo12I @4 0\n\
+reloc 10 Abs8 @12 -9223372036854775808\ntrap 8 heap_oob\ntrap 12 user250\n\
+unwind 0 push 16\nunwind 4 frame 16 32\nunwind 8 alloc 4294967295\nunwind 12 save 24 fs11\nend 16\n";
     let text = report(alloc, &code)?;
     assert_eq!(rt; text.as_slice(), wanted.as_bytes());
     Ok(())

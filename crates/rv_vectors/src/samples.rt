@@ -1,32 +1,40 @@
 //! Listings with the reports of a harness with the Rust's own emission code: each report is compared byte for byte.
 
 mod accesses;
-mod compressed;
 mod constants;
+mod forms;
+mod forms_code;
+mod forms_spans;
+mod forms_without_zcb;
 mod framed;
 mod islands;
+mod plain_lines;
+mod plain_reported;
 mod random;
-mod sequences;
+mod short_lines;
+mod short_reported;
 
 use crate::reported::assert_reported;
 use accesses::{EDGES_LISTING, EDGES_REPORT, FRAME_LISTING, FRAME_REPORT};
-use compressed::{
-    EVERY_FORM_LISTING, EVERY_FORM_REPORT, SHORT_JUMP_LISTING, SHORT_JUMP_REPORT,
-    WITHOUT_ZCB_LISTING, WITHOUT_ZCB_REPORT,
-};
 use constants::{LATER_LISTING, LATER_REPORT, MIXED_LISTING, MIXED_REPORT};
+use forms::EVERY_FORM_LISTING;
+use forms_code::{EVERY_FORM_CODE, EVERY_FORM_TRAPS};
+use forms_spans::EVERY_FORM_SPANS;
+use forms_without_zcb::{
+    SHORT_JUMP_LISTING, SHORT_JUMP_REPORT, WITHOUT_ZCB_LISTING, WITHOUT_ZCB_REPORT,
+};
 use framed::{SIXTH_LISTING, SIXTH_REPORT};
 use islands::{
     ASKED_LISTING, ASKED_REPORT, LONG_LISTING, LONG_REPORT, NARROW_LISTING, NARROW_REPORT,
 };
+use plain_lines::PLAIN_SEQUENCES_LISTING;
+use plain_reported::PLAIN_SEQUENCES_REPORT;
 use random::{
     FIFTH_LISTING, FIFTH_REPORT, FIRST_LISTING, FIRST_REPORT, FOURTH_LISTING, FOURTH_REPORT,
     SECOND_LISTING, SECOND_REPORT, THIRD_LISTING, THIRD_REPORT,
 };
-use sequences::{
-    PLAIN_SEQUENCES_LISTING, PLAIN_SEQUENCES_REPORT, SHORT_SEQUENCES_LISTING,
-    SHORT_SEQUENCES_REPORT,
-};
+use short_lines::SHORT_SEQUENCES_LISTING;
+use short_reported::SHORT_SEQUENCES_REPORT;
 use std::alloc::{AllocError, Global};
 use std::process::Abort;
 
@@ -105,12 +113,6 @@ const SAMPLES: [Sample; 13] = [
     },
 ];
 
-const EVERY_FORM: Sample = Sample {
-    name: "every form",
-    listing: EVERY_FORM_LISTING,
-    report: EVERY_FORM_REPORT,
-};
-
 const WITHOUT_ZCB: Sample = Sample {
     name: "without zcb",
     listing: WITHOUT_ZCB_LISTING,
@@ -153,7 +155,12 @@ fn samples(rt: HostRuntime) -> Result<(), AllocError> {
 
 #[test]
 fn compressed_forms(rt: HostRuntime) -> Result<(), AllocError> {
-    assert_sample(&rt, rt.alloc(), &EVERY_FORM)
+    let mut report = written_out(rt.alloc(), EVERY_FORM_CODE)?;
+    report.push_str(EVERY_FORM_SPANS)?;
+    report.push_str(EVERY_FORM_TRAPS)?;
+    let listing = EVERY_FORM_LISTING.as_bytes();
+    assert_reported(&rt, rt.alloc(), "every form", listing, 0, &report);
+    Ok(())
 }
 
 #[test]
@@ -177,7 +184,7 @@ fn short_sequences(rt: HostRuntime) -> Result<(), AllocError> {
 }
 
 /// The whole text of one in which some rows stand for many lines.
-fn written_out(alloc: Global, short: &str) -> Result<String, AllocError> {
+pub fn written_out(alloc: Global, short: &str) -> Result<String, AllocError> {
     let mut text = String::new(alloc);
     for row in short.lines() {
         put_row(&mut text, row)?;

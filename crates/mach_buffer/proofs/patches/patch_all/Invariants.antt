@@ -1,6 +1,5 @@
 use Rattle.std.proofs.Common.{◌≡◌, length}
-use Rattle.mach_buffer.specs.Places.{place_in}
-use Rattle.mach_buffer.specs.Windows.{patches_of}
+use Rattle.mach_buffer.proofs.Words.{place_in, patches_of}
 use Rattle.mach_buffer.proofs.Windows.{Progress}
 use Rattle.mach_buffer.proofs.patches.patch_all.Given as goal
 

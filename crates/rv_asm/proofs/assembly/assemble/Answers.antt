@@ -1,5 +1,5 @@
 use Rattle.rv_asm.specs.Job.{job_of}
-use Rattle.rv_asm.proofs.FinishedPromises.{finished_reported, finished_runs, finished_operations, finished_in_reach}
+use Rattle.rv_asm.proofs.FinishedPromises.{finished_saves, finished_reported, finished_runs, finished_operations, finished_in_reach}
 use Rattle.rv_asm.proofs.RefusalOrder.{accepted_frame, accepted_lines}
 use Rattle.rv_asm.proofs.assembly.assemble.Goals as goal
 
@@ -8,6 +8,9 @@ build-requires-clause-frame c = accepted_frame (job_of c.args.lines.now c.args.f
 
 pub build-requires-clause-accepted : goal.build-requires-clause-accepted
 build-requires-clause-accepted c = accepted_lines (job_of c.args.lines.now c.args.flags c.args.frame.now c.args.constants.now) c.in_ok-refuse.ensures
+
+pub code_fits-requires : goal.code_fits-requires
+code_fits-requires c = record { saved = finished_saves (job_of c.args.lines.now c.args.flags c.args.frame.now c.args.constants.now) c.in-Ok.code c.in_ok-refuse.ensures c.in-Ok.ensures }
 
 pub returns-in-Ok-clause-reported : goal.returns-in-Ok-clause-reported
 returns-in-Ok-clause-reported c = finished_reported (job_of c.args.lines.now c.args.flags c.args.frame.now c.args.constants.now) c.in-Ok.code c.in_ok-refuse.ensures c.in-Ok.ensures c.code_fits.ensures

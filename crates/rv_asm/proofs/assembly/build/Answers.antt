@@ -28,7 +28,7 @@ loop-index-init c =
       so_far = subst (λ (spans : List LineSpan). SoFar (context_by c.new-info.result.isa_flags c.args.frame.now c.args.constants.now) c.args.lines.now 0 spans c.register_constants.new.self) (sym c.new-spans.ensures.items)
           (so_far_none (context_by c.new-info.result.isa_flags c.args.frame.now c.args.constants.now) c.args.lines.now c.register_constants.new.self
           (ap (λ x. x.bytes) s ∙ new.bytes) (ap (λ x. x.uses) s ∙ new.uses) (λ label. ap (λ x. x.place label) s ∙ new.places label) (ap (λ x. x.labels) s ∙ new.labels)
-          (ap (λ x. x.allocated) s ∙ new.allocated) (ap (λ x. x.traps) s ∙ new.traps) (ap (λ x. x.registered) s) (ap (λ x. x.named) s ∙ new.named) (ap (λ x. x.constants) s ∙ new.constants)
+          (ap (λ x. x.allocated) s ∙ new.allocated) (ap (λ x. x.records) s ∙ new.records) (ap (λ x. x.registered) s) (ap (λ x. x.named) s ∙ new.named) (ap (λ x. x.constants) s ∙ new.constants)
           c.in_ok-register_constants.ensures.sound);
     }
 
@@ -76,4 +76,4 @@ returns c =
     finished (context_by c.args.flags c.args.frame.now c.args.constants.now) c.args.lines.now c.loop-index.index _ c.loop-index.sink c.requires.accepted c.loop-index-test.false
     (subst (λ flags. SoFar (context_by flags c.args.frame.now c.args.constants.now) c.args.lines.now c.loop-index.index c.from_vec.result c.loop-index.sink) c.new-info.ensures
     (subst (λ (spans : List LineSpan). SoFar (context_by c.new-info.result.isa_flags c.args.frame.now c.args.constants.now) c.args.lines.now c.loop-index.index spans c.loop-index.sink) (sym c.from_vec.ensures) c.loop-index.invariant.so_far))
-    c.in_ok-finished.ensures.code.0 c.in_ok-finished.ensures.code.1 c.in_ok-finished.ensures.labels c.in_ok-finished.ensures.traps c.cur_offset-end.ensures
+    c.in_ok-finished.ensures.code.0 c.in_ok-finished.ensures.code.1 c.in_ok-finished.ensures.labels c.in_ok-finished.ensures.relocs c.in_ok-finished.ensures.traps c.in_ok-finished.ensures.unwinds c.cur_offset-end.ensures

@@ -15,3 +15,8 @@ pub returns-in-EBreak-clause-parts : goal.returns-in-EBreak-clause-parts
 returns-in-EBreak-clause-parts c =
     λ family frame constants asks. subst (λ inst. OnOk c.put_ebreak.result (Emits (context_by c.args.flags frame constants) inst c.args.sink.now c.put_ebreak.new.sink)) (sym c.in-EBreak.is)
     (on_ok_weaker c.put_ebreak.result (λ p setting. p) c.put_ebreak.ensures.slots)
+
+pub returns-in-Unwind-clause-parts : goal.returns-in-Unwind-clause-parts
+returns-in-Unwind-clause-parts c =
+    λ family frame constants asks. subst (λ inst. OnOk c.put_unwind.result (Emits (context_by c.args.flags frame constants) inst c.args.sink.now c.put_unwind.new.sink)) (sym c.in-Unwind.is)
+    (on_ok_weaker c.put_unwind.result (λ p setting. p c.args.flags) c.put_unwind.ensures.slots)

@@ -20,6 +20,9 @@ put_memory-requires-clause-fine c = fine (context_by c.args.flags c.args.frame.n
 pub put_loop-requires-clause-fine : goal.put_loop-requires-clause-fine
 put_loop-requires-clause-fine c = fine (context_by c.args.flags c.args.frame.now (registered_of c.args.sink.now)) c.args.inst.now c.requires.rule
 
+pub put_symbol-requires-clause-fine : goal.put_symbol-requires-clause-fine
+put_symbol-requires-clause-fine c = fine (context_by c.args.flags c.args.frame.now (registered_of c.args.sink.now)) c.args.inst.now c.requires.rule
+
 pub returns-in-Integer-clause-parts : goal.returns-in-Integer-clause-parts
 returns-in-Integer-clause-parts c = λ asks. on_ok_weaker c.put_integer.result (λ emits. emits c.args.frame.now (registered_of c.args.sink.now)) (c.put_integer.ensures.parts (sym c.family.ensures ∙ c.in-Integer.is))
 
@@ -28,3 +31,6 @@ returns-in-Control-clause-parts c = λ asks. c.put_control.ensures.parts (sym c.
 
 pub returns-in-Loop-clause-parts : goal.returns-in-Loop-clause-parts
 returns-in-Loop-clause-parts c = λ asks. on_ok_weaker c.put_loop.result (λ emits. emits c.args.frame.now (registered_of c.args.sink.now)) (c.put_loop.ensures.parts (sym c.family.ensures ∙ c.in-Loop.is))
+
+pub returns-in-Symbols-clause-parts : goal.returns-in-Symbols-clause-parts
+returns-in-Symbols-clause-parts c = λ asks. on_ok_weaker c.put_symbol.result (λ emits. emits c.args.frame.now (registered_of c.args.sink.now)) (c.put_symbol.ensures.parts (sym c.family.ensures ∙ c.in-Symbols.is))

@@ -1,6 +1,6 @@
 use Rattle.std.proofs.Common.{ap, ◌∙◌}
 use Rattle.mach_buffer.specs.Shape.{Shape}
-use Rattle.rv_emit_vectors.specs.declared.buffer.Toy.{Toy}
+use Rattle.rv_emit_vectors.specs.declared.toy.Toy.{Toy}
 use Rattle.rv_emit_vectors.proofs.buffer.waiting.Goals as goal
 
 pub returns-clause-unbound : goal.returns-clause-unbound

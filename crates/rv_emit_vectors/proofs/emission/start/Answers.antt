@@ -16,6 +16,7 @@ returns c =
       uses = ap (λ (x : Shape LabelUse). x.uses) s ∙ n.uses;
       first = ap (λ (x : Shape LabelUse). x.place 0) s ∙ ap (λ k. placed (place_of b) k (length (bytes_of b)) 0) c.from_u32.ensures ∙ placed_same (place_of b) 0 (length (bytes_of b)) ∙ ap (λ (bs : List ℕ). Some (length bs)) n.bytes;
       allocated = ap (λ (x : Shape LabelUse). x.allocated) s ∙ n.allocated;
+      records = ap (λ (x : Shape LabelUse). x.records) s ∙ n.records;
       registered = ap (λ (x : Shape LabelUse). x.registered) s ∙ n.registered;
       constants = ap (λ (x : Shape LabelUse). x.constants) s ∙ n.constants;
       sound = e.sound;

@@ -6,5 +6,5 @@ use Rattle.rv_listing.proofs.code_report.text_of.Goals as goal
 
 pub returns : goal.returns
 returns c =
-    let last : c.end_line-2.new.out.items ≡ c.put_traps.new.out.items ++ codes "end " ++ decimal c.args.code.now.end ++ lf = c.in_ok-end_line-2.ensures in
-    rw (last, c.in_ok-put_traps.ensures, c.in_ok-put_constants.ensures, c.in_ok-put_labels.ensures, c.in_ok-put_spans.ensures, c.in_ok-put_hex_lines.ensures, c.in_ok-end_line.ensures, c.new-out.ensures.items, c.len.ensures, c.as_slice.ensures, c.as_slice-2.ensures, c.as_slice-3.ensures, c.as_slice-4.ensures, c.as_slice-5.ensures) refl
+    let last : c.end_line-2.new.out.items ≡ c.put_unwinds.new.out.items ++ codes "end " ++ decimal c.args.code.now.end ++ lf = c.in_ok-end_line-2.ensures in
+    rw (last, c.in_ok-put_unwinds.ensures, c.in_ok-put_traps.ensures, c.in_ok-put_relocs.ensures, c.in_ok-put_constants.ensures, c.in_ok-put_labels.ensures, c.in_ok-put_spans.ensures, c.in_ok-put_hex_lines.ensures, c.in_ok-end_line.ensures, c.new-out.ensures.items, c.len.ensures, c.as_slice.ensures, c.as_slice-2.ensures, c.as_slice-3.ensures, c.as_slice-4.ensures, c.as_slice-5.ensures, c.as_slice-6.ensures, c.as_slice-7.ensures) refl

@@ -1,8 +1,5 @@
 use Rattle.std.proofs.Common.{◌≡◌, ◌≤◌, ◌∙◌, subst, sym}
-use Rattle.mach_buffer.specs.Shape.{Shape, with_label}
-use Rattle.mach_buffer.specs.Reach.{due_by}
-use Rattle.mach_buffer.specs.Finish.{pending_in}
-use Rattle.mach_buffer.specs.Buffer.{AreSound, inside_of, shape_of}
+use Rattle.mach_buffer.proofs.Words.{Shape, with_label, due_by, pending_in, shape_of}
 use Rattle.mach_buffer.proofs.Sound.{sound_label, label_fewer, not_refused}
 use Rattle.mach_buffer.proofs.buffer.MachBuffer.bind_label.Goals as goal
 
@@ -15,6 +12,5 @@ returns g c =
     record {
       bound = (ok, c.place_label.ensures.spoiled ∙ ok, shape);
       fewer = λ end. subst (λ (s : Shape g.row.L.Denot). due_by end (pending_in K.kinds s) ≤ due_by end (pending_in K.kinds old)) (sym shape) (label_fewer (c.requires.sound ok) c.args.label (c.requires.unbound ok) end);
-      sound = subst (λ p. AreSound K.kinds (shape_of c.place_label.new.self) p) (sym c.place_label.ensures.inside)
-          (subst (λ (s : Shape g.row.L.Denot). AreSound K.kinds s (inside_of c.args.self.now)) (sym shape) (sound_label (c.requires.sound ok) c.args.label (c.requires.known ok) (c.requires.unbound ok)));
+      sound = rw (c.place_label.ensures.inside, shape) (sound_label (c.requires.sound ok) c.args.label (c.requires.known ok) (c.requires.unbound ok));
     }

@@ -1,10 +1,6 @@
 use Rattle.std.proofs.Common.{◌≡◌, ◌∙◌, ap, sym, subst, length, List, ℕ}
-use Rattle.std.proofs.lemmas.List.{take_at}
-use Rattle.mach_buffer.specs.Shape.{Shape}
-use Rattle.mach_buffer.specs.Buffer.{inside_of, shape_of, bytes_of, place_of, constants_of}
-use Rattle.rv_base.specs.declared.constant.Constant.{Constant}
-use Rattle.mach_buffer.specs.Constants.{HasConstants}
-use Rattle.mach_buffer.specs.Finish.{Finishes}
+use Rattle.mach_buffer.proofs.Words.{take_at, Shape, inside_of, shape_of, bytes_of, place_of, constants_of, Constant, HasConstants, Finishes}
+use Rattle.mach_buffer.specs.Records.{relocs_in, traps_in, unwinds_in}
 use Rattle.mach_buffer.proofs.Pieces.{constants_kept}
 use Rattle.mach_buffer.proofs.LastVeneers.{LastDone, last_done, can_patch_all, all_arrive}
 use Rattle.mach_buffer.proofs.buffer.MachBuffer.end.Given as given
@@ -22,8 +18,14 @@ patch_all-requires g c = rw (c.deref_mut.ensures.value, c.deref.ensures.value) (
 pub returns-clause-labels : goal.returns-clause-labels
 returns-clause-labels g c = c.from_vec-2.ensures ∙ ap (λ (x : Shape g.row.L.Denot). x.labels) (done g (goal.at.returns-clause-labels g c).In_ok-put_last).same
 
+pub returns-clause-relocs : goal.returns-clause-relocs
+returns-clause-relocs g c = c.from_vec-4.ensures ∙ c.in_ok-relocs_in.ensures ∙ ap relocs_in c.deref-2.ensures.value ∙ ap (λ (x : Shape g.row.L.Denot). relocs_in x.records) (done g (goal.at.returns-clause-relocs g c).In_ok-put_last).same
+
 pub returns-clause-traps : goal.returns-clause-traps
-returns-clause-traps g c = c.from_vec-4.ensures ∙ ap (λ (x : Shape g.row.L.Denot). x.traps) (done g (goal.at.returns-clause-traps g c).In_ok-put_last).same
+returns-clause-traps g c = c.from_vec-5.ensures ∙ c.in_ok-traps_in.ensures ∙ ap traps_in c.deref-3.ensures.value ∙ ap (λ (x : Shape g.row.L.Denot). traps_in x.records) (done g (goal.at.returns-clause-traps g c).In_ok-put_last).same
+
+pub returns-clause-unwinds : goal.returns-clause-unwinds
+returns-clause-unwinds g c = c.from_vec-6.ensures ∙ c.in_ok-unwinds_in.ensures ∙ ap unwinds_in c.deref-4.ensures.value ∙ ap (λ (x : Shape g.row.L.Denot). unwinds_in x.records) (done g (goal.at.returns-clause-unwinds g c).In_ok-put_last).same
 
 pub returns-clause-code : goal.returns-clause-code
 returns-clause-code g c =
@@ -48,6 +50,7 @@ returns-clause-code g c =
       long = d.long;
       grows = d.grows;
       places = d.end.places;
+      linked = d.end.linked;
       bound = d.bound;
       same_length = same_length;
       arrive = all_arrive g.met.L.MachInstLabelUse.veneer_ok d.end final same_length aim kept others;

@@ -1,5 +1,5 @@
 use Rattle.std.proofs.Common.{inr}
-use Rattle.mach_buffer.specs.Buffer.{named_of}
+use Rattle.mach_buffer.proofs.Words.{named_of}
 use Rattle.mach_buffer.proofs.ConstantCalls.{name_there}
 use Rattle.mach_buffer.proofs.Sound.{sound_named, not_refused}
 use Rattle.mach_buffer.proofs.buffer.MachBuffer.get_label_for_constant.Goals as goal

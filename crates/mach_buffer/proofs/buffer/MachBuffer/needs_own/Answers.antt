@@ -1,28 +1,17 @@
-use Rattle.std.proofs.Common.{rules, get_or, ◌≡◌, ◌+◌, ◌-◌, ◌*◌, ◌<◌, ◌∙◌, ap, length, arith, nat_lt}
-use Rattle.std.proofs.lemmas.Option.{slice_get-get_or}
-use Rattle.rv_base.specs.LabelUse.{code_limit}
-use Rattle.mach_buffer.specs.Shape.{waiting_of}
-use Rattle.mach_buffer.specs.Constants.{end_after}
-use Rattle.mach_buffer.specs.Islands.{aligned}
-use Rattle.mach_buffer.specs.Reach.{deadline}
-use Rattle.mach_buffer.specs.Buffer.{shape_of, bytes_of}
-use Rattle.mach_buffer.proofs.ConstantsPut.{ends_grow}
-use Rattle.mach_buffer.proofs.buffer.MachBuffer.needs_own.Given as given
-use Rattle.mach_buffer.proofs.buffer.MachBuffer.needs_own.Goals.{After-len}
+use Rattle.std.proofs.Common.{rules, get_or, ◌≡◌, ◌+◌, ◌-◌, ◌*◌, ◌∙◌, ap, length, arith, nat_lt}
+use Rattle.mach_buffer.proofs.Words.{slice_get-get_or, end_after, aligned, deadline, shape_of, waiting_of}
+use Rattle.mach_buffer.proofs.ConstantsPut.{ends_is}
 use Rattle.mach_buffer.proofs.buffer.MachBuffer.needs_own.Goals as goal
 
-short : (g : given.Over) (c : After-len g) → length (bytes_of c.args.self.now) + 8 * c.args.count < code_limit
-short g c =
-    let s = shape_of c.args.self.now in
-    let grow = ends_grow s.registered (waiting_of s) (length s.bytes + 8 * c.args.count) in
-    let room = c.requires.room in
-    omega arith
-
 pub overflow_mul-veneers_end : goal.overflow_mul-veneers_end
-overflow_mul-veneers_end g c = omega (arith, short g c)
+overflow_mul-veneers_end g c = let s = shape_of c.args.self.now in let e = (ends_is s.registered (waiting_of s) (length s.bytes + 8 * c.args.count)).0 in let r = c.requires.room in omega arith
 
 pub overflow_add-veneers_end : goal.overflow_add-veneers_end
-overflow_add-veneers_end g c = omega (arith, short g c, c.len.ensures)
+overflow_add-veneers_end g c =
+    let s = shape_of c.args.self.now in
+    let bytes : c.len.result ≡ length s.bytes = search rules in
+    let e = (ends_is s.registered (waiting_of s) (length s.bytes + 8 * c.args.count)).0 in
+    let r = c.requires.room in omega arith
 
 pub returns : goal.returns
 returns g c =

@@ -1,6 +1,5 @@
 use Rattle.std.proofs.Common.{rules, ◌≡◌, ◌+◌, ◌∷◌, ◌∙◌, ap, sym, get_or, drop, length, arith}
-use Rattle.std.proofs.lemmas.List.{drop_more}
-use Rattle.mach_buffer.specs.Buffer.{shape_of, named_of}
+use Rattle.mach_buffer.proofs.Words.{drop_more, shape_of, named_of}
 use Rattle.mach_buffer.proofs.ConstantCalls.{putting_room, putting_next}
 use Rattle.mach_buffer.proofs.buffer.MachBuffer.put_constants.Given as given
 use Rattle.mach_buffer.proofs.buffer.MachBuffer.put_constants.Goals.{After-index-constant}

@@ -1,5 +1,5 @@
 use Rattle.std.proofs.Common.{◌≡◌, drop}
-use Rattle.mach_buffer.specs.Buffer.{shape_of, inside_of, spoiled_of}
+use Rattle.mach_buffer.proofs.Words.{shape_of, inside_of, spoiled_of}
 use Rattle.mach_buffer.proofs.ConstantCalls.{Putting}
 use Rattle.mach_buffer.proofs.buffer.MachBuffer.put_constants.Given as goal
 

@@ -1,19 +1,14 @@
 use Rattle.std.proofs.Common.{◌∙◌, refl, arith}
-use Rattle.std.proofs.lemmas.List.{length-map}
-use Rattle.mach_buffer.specs.Queues.{key_number}
-use Rattle.mach_buffer.specs.Buffer.{shape_of}
+use Rattle.mach_buffer.proofs.Words.{length-map, key_number, shape_of}
 use Rattle.mach_buffer.proofs.Lists.{drop_mapped}
 use Rattle.mach_buffer.proofs.VeneersPut.{going_may, going_room, going_next}
 use Rattle.mach_buffer.proofs.buffer.MachBuffer.put_veneers.Goals as goal
 
-pub put_veneer-requires-clause-may : goal.put_veneer-requires-clause-may
-put_veneer-requires-clause-may g c = going_may c.loop-key.invariant.0 (drop_mapped key_number c.args.order.now c.loop-key.key-index _ c.loop-key-test.true)
-
-pub put_veneer-requires-clause-room : goal.put_veneer-requires-clause-room
-put_veneer-requires-clause-room g c = going_room c.loop-key.invariant.0 (drop_mapped key_number c.args.order.now c.loop-key.key-index (record { deadline = 0; offset = 0; index = 0 }) c.loop-key-test.true)
-
-pub put_veneer-requires-clause-even : goal.put_veneer-requires-clause-even
-put_veneer-requires-clause-even g c = c.loop-key.invariant.0.even
+pub put_veneer-requires : goal.put_veneer-requires
+put_veneer-requires g c =
+    let w = c.loop-key.invariant.0 in
+    let next = drop_mapped key_number c.args.order.now c.loop-key.key-index _ c.loop-key-test.true in
+    record { may = going_may w next; room = going_room w next; even = w.even }
 
 pub loop-key-init : goal.loop-key-init
 loop-key-init g c =

@@ -1,6 +1,5 @@
 use Rattle.std.proofs.Common.{◌≡◌, drop, map}
-use Rattle.mach_buffer.specs.Queues.{key_number}
-use Rattle.mach_buffer.specs.Buffer.{shape_of, inside_of, spoiled_of}
+use Rattle.mach_buffer.proofs.Words.{key_number, shape_of, inside_of, spoiled_of}
 use Rattle.mach_buffer.proofs.VeneersPut.{Going}
 use Rattle.mach_buffer.proofs.buffer.MachBuffer.put_veneers.Given as goal
 

@@ -1,5 +1,5 @@
 use Rattle.std.proofs.Common.{ap}
-use Rattle.mach_buffer.specs.Buffer.{shape_of}
+use Rattle.mach_buffer.proofs.Words.{shape_of}
 use Rattle.mach_buffer.proofs.ConstantCalls.{none_named}
 use Rattle.mach_buffer.proofs.Sound.{sound_registered, not_refused}
 use Rattle.mach_buffer.proofs.buffer.MachBuffer.register_constants.Goals as goal

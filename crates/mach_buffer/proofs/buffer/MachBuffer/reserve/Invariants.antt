@@ -1,6 +1,5 @@
 use Rattle.std.proofs.Common.{◌≡◌, ◌+◌, ◌*◌, ◌≤◌, drop}
-use Rattle.mach_buffer.specs.Constants.{reserve_from, reserve_of}
-use Rattle.mach_buffer.specs.Buffer.{shape_of, place_of}
+use Rattle.mach_buffer.proofs.Words.{reserve_from, reserve_of, shape_of, place_of}
 use Rattle.mach_buffer.proofs.buffer.MachBuffer.reserve.Given as goal
 
 abbrev pub invariant-loop-constant : goal.invariant-loop-constant

@@ -1,5 +1,5 @@
 use Rattle.std.proofs.Common.{rules, ◌≡◌, ◌-◌, ◌++◌, ◌∙◌, ap, subst, take, length, arith, List, ℕ, OnOk}
-use Rattle.mach_buffer.specs.Constants.{zeros}
+use Rattle.mach_buffer.proofs.Words.{zeros}
 use Rattle.mach_buffer.proofs.ConstantCalls.{zeros_taken}
 use Rattle.mach_buffer.proofs.code.Code.pad_to.Goals as goal
 

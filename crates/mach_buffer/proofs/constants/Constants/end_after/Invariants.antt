@@ -1,5 +1,5 @@
 use Rattle.std.proofs.Common.{◌≡◌, drop, length}
-use Rattle.mach_buffer.specs.Constants.{constants_end}
+use Rattle.mach_buffer.proofs.Words.{constants_end}
 use Rattle.mach_buffer.proofs.constants.Constants.end_after.Given as goal
 
 abbrev pub invariant-loop-index : goal.invariant-loop-index

@@ -1,5 +1,5 @@
 use Rattle.std.proofs.Common.{◌∙◌, sym, arith}
-use Rattle.std.proofs.lemmas.Option.{same_Some, slice_get-get_or}
+use Rattle.mach_buffer.proofs.Words.{same_Some, slice_get-get_or}
 use Rattle.mach_buffer.proofs.ConstantCalls.{noted_more, name_again}
 use Rattle.mach_buffer.proofs.constants.Constants.name.Goals as goal
 

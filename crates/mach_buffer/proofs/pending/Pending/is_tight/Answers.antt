@@ -1,6 +1,5 @@
 use Rattle.std.proofs.Common.{◌≡◌, ◌+◌, ◌-◌, ◌*◌, sym, ◌∙◌, subst, arith, ℕ}
-use Rattle.mach_buffer.specs.Places.{place_in}
-use Rattle.mach_buffer.specs.Reach.{is_pending, deadlines}
+use Rattle.mach_buffer.proofs.Words.{place_in, is_pending, deadlines}
 use Rattle.mach_buffer.proofs.QueueContents.{IsBound, slack_shown, kept_many, bound_start, bound_next, bound_none, bound_many}
 use Rattle.mach_buffer.proofs.pending.Pending.is_tight.Goals as goal
 

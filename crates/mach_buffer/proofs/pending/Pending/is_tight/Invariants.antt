@@ -1,5 +1,4 @@
-use Rattle.mach_buffer.specs.Places.{place_in}
-use Rattle.mach_buffer.specs.Reach.{is_pending, deadlines}
+use Rattle.mach_buffer.proofs.Words.{place_in, is_pending, deadlines}
 use Rattle.mach_buffer.proofs.QueueContents.{IsBound}
 use Rattle.mach_buffer.proofs.pending.Pending.is_tight.Given as goal
 

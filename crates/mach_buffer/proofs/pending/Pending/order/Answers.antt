@@ -1,6 +1,5 @@
 use Rattle.std.proofs.Common.{◌++◌, ◌∙◌, ap, true}
-use Rattle.mach_buffer.specs.Places.{place_in}
-use Rattle.mach_buffer.specs.Queues.{is_other_queued, keys_where}
+use Rattle.mach_buffer.proofs.Words.{place_in, is_other_queued, keys_where}
 use Rattle.mach_buffer.proofs.OrderOfVeneers.{order_is}
 use Rattle.mach_buffer.proofs.pending.Pending.order.Goals as goal
 

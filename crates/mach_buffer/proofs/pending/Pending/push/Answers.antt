@@ -1,14 +1,27 @@
-use Rattle.std.proofs.Common.{◌∙◌, sym, refl}
-use Rattle.mach_buffer.proofs.QueueContents.{kept_idle, kept_near, kept_far}
+use Rattle.std.proofs.Common.{not, ◌∙◌, ap, sym}
+use Rattle.mach_buffer.proofs.Words.{and_left, and_right, and_from}
+use Rattle.mach_buffer.proofs.QueueContents.{keeps_skip, keeps_push}
 use Rattle.mach_buffer.proofs.pending.Pending.push.Goals as goal
 
 pub returns-then-not-is_pending : goal.returns-then-not-is_pending
-returns-then-not-is_pending g c = kept_idle c.args.u.now (sym c.is_pending.ensures ∙ c.if-not-is_pending.true) c.requires
+returns-then-not-is_pending g c =
+    let idle = sym c.is_pending.ensures ∙ c.if-not-is_pending.true in
+    record { near = keeps_skip c.args.u.now (and_left _ _ idle) c.requires.near; far = keeps_skip c.args.u.now (and_left _ _ idle) c.requires.far }
 
 pub returns-then-is_near : goal.returns-then-is_near
 returns-then-is_near g c =
-    kept_near c.args.u.now _ (sym c.is_pending.ensures ∙ c.if-not-is_pending.false) (sym c.is_near.ensures ∙ c.if-is_near.true) c.in_ok-push.ensures.numbers (rw c.deadline.ensures.value at c.in_ok-push.ensures.slack) refl c.requires
+    let near = sym c.is_near.ensures ∙ c.if-is_near.true in
+    let e = c.in_ok-push.ensures in
+    record {
+      near = rw (e.numbers, e.slack, c.deadline.ensures.value) (keeps_push c.args.u.now (and_from _ _ (sym c.is_pending.ensures ∙ c.if-not-is_pending.false) near) c.requires.near);
+      far = keeps_skip c.args.u.now (and_right _ _ (ap not near)) c.requires.far;
+    }
 
 pub returns : goal.returns
 returns g c =
-    kept_far c.args.u.now _ (sym c.is_pending.ensures ∙ c.if-not-is_pending.false) (sym c.is_near.ensures ∙ c.if-is_near.false) c.in_ok-push-2.ensures.numbers (rw c.deadline-2.ensures.value at c.in_ok-push-2.ensures.slack) refl c.requires
+    let far = sym c.is_near.ensures ∙ c.if-is_near.false in
+    let e = c.in_ok-push-2.ensures in
+    record {
+      near = keeps_skip c.args.u.now (and_right _ _ far) c.requires.near;
+      far = rw (e.numbers, e.slack, c.deadline-2.ensures.value) (keeps_push c.args.u.now (and_from _ _ (sym c.is_pending.ensures ∙ c.if-not-is_pending.false) (ap not far)) c.requires.far);
+    }

@@ -1,10 +1,9 @@
-use Rattle.std.proofs.Common.{◌≡◌, ◌++◌, drop}
-use Rattle.mach_buffer.specs.Places.{place_in}
-use Rattle.mach_buffer.specs.Queues.{is_other_queued, keys_where}
+use Rattle.std.proofs.Common.{◌≡◌, ◌++◌, take}
+use Rattle.mach_buffer.proofs.Words.{place_in, is_other_queued, keys_where}
 use Rattle.mach_buffer.proofs.pending.Queue.collect.Given as goal
 
 abbrev pub invariant-loop-number : goal.invariant-loop-number
 invariant-loop-number g l =
     let K = g.L.MachInstLabelUse in
     let found = keys_where K.kinds (is_other_queued K.kinds (place_in l.labels) l.near l.after_island) l.uses in
-    l.keys.items ++ found (drop l.number-index l.self.numbers.items) ≡ l.initial.keys.items ++ found l.self.numbers.items
+    l.keys.items ≡ l.initial.keys.items ++ found (take l.number-index l.self.numbers.items)

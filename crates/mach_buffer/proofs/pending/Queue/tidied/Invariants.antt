@@ -1,8 +1,7 @@
-use Rattle.std.proofs.Common.{drop}
-use Rattle.mach_buffer.specs.Places.{place_in}
-use Rattle.mach_buffer.specs.Queues.{is_queued}
-use Rattle.mach_buffer.proofs.QueueContents.{Tidying}
+use Rattle.std.proofs.Common.{take}
+use Rattle.mach_buffer.proofs.Words.{place_in, is_queued}
+use Rattle.mach_buffer.proofs.QueueContents.{Tidied}
 use Rattle.mach_buffer.proofs.pending.Queue.tidied.Given as goal
 
 abbrev pub invariant-loop-number : goal.invariant-loop-number
-invariant-loop-number g l = let K = g.L.MachInstLabelUse in Tidying K.kinds (is_queued K.kinds (place_in l.labels) l.near) l.uses l.queue.numbers.items l.queue.slack l.self.numbers.items (drop l.number-index l.self.numbers.items)
+invariant-loop-number g l = let K = g.L.MachInstLabelUse in Tidied K.kinds (is_queued K.kinds (place_in l.labels) l.near) l.uses l.queue.numbers.items l.queue.slack (take l.number-index l.self.numbers.items)

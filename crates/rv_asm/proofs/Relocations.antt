@@ -1,0 +1,181 @@
+-- The bytes that relocations fill: each relocation's are in the span of its line, and no two share one.
+use Rattle.std.proofs.Common.{◌≡◌, ◌≢◌, inl, inr, ⊎_elim, ℕ, zero, suc, ◌+◌, ◌<◌, ◌≤◌, List, [], ◌∷◌, ◌++◌, length, Option, Some, None, refl, sym, ap, subst, ◌∙◌, arith}
+use Rattle.std.specs.Prelude.{slice_get}
+use Rattle.std.proofs.lemmas.Grind.{flat_map-append}
+use Rattle.std.proofs.lemmas.Option.{same_Some}
+use Rattle.rv_base.specs.declared.flags.IsaFlags.{IsaFlags}
+use Rattle.rv_base.specs.declared.trap.TrapCode.{TrapCode}
+use Rattle.mach_buffer.specs.Records.{record_relocs, relocs_in}
+use Rattle.mach_buffer.specs.Windows.{IsApart}
+use Rattle.mach_buffer.specs.declared.records.MachReloc.{MachReloc}
+use Rattle.mach_buffer.proofs.Laws.{locate}
+use Rattle.rv_inst.specs.Context.{Context}
+use Rattle.rv_inst.specs.Records.{access_records, inst_records}
+use Rattle.rv_inst.specs.Relocations.{field_size}
+use Rattle.rv_inst.specs.Sizes.{Extent, Words, Island, Table, extent_of}
+use Rattle.rv_inst.specs.declared.code.LineSpan.{LineSpan}
+use Rattle.rv_inst.specs.declared.inst.Inst.{Inst}
+use Rattle.rv_inst.specs.declared.inst.Inst.TheVariants.{Load, Store, LoadExtNameGot, LoadExtNameNear, LoadExtNameFar}
+use Rattle.rv_inst.specs.declared.inst.Line.{Line}
+use Rattle.rv_inst.specs.declared.inst.Line.TheVariants.{Inst as Put, Bind}
+use Rattle.rv_asm.specs.Reported.{start_of, end_of, line_records, records_from, IsGap, IsSized, IsSpan, FillsInLine}
+
+-- ---- fields one after the other
+
+-- between two offsets: the bytes of each end before those of the next one begin
+abbrev FillInTurn : List MachReloc → ℕ → ℕ → Type 0
+FillInTurn [] from to = from ≤ to
+FillInTurn (r ∷ rs) from to = (from ≤ r.offset) × FillInTurn rs (r.offset + field_size r.kind) to
+
+fill_from : (rs : List MachReloc) (before from to : ℕ) → before ≤ from → FillInTurn rs from to → FillInTurn rs before to
+fill_from [] before from to le h = omega arith
+fill_from (r ∷ rs) before from to le h = (let first = h.0 in omega arith, h.1)
+
+fill_both : (rs more : List MachReloc) (from mid to : ℕ) → FillInTurn rs from mid → FillInTurn more mid to → FillInTurn (rs ++ more) from to
+fill_both [] more from mid to h g = fill_from more from mid to h g
+fill_both (r ∷ rs) more from mid to h g = (h.0, fill_both rs more (r.offset + field_size r.kind) mid to h.1 g)
+
+fill_ascends : (rs : List MachReloc) (from to : ℕ) → FillInTurn rs from to → from ≤ to
+fill_ascends [] from to h = h
+fill_ascends (r ∷ rs) from to h = let first = h.0 in let rest = fill_ascends rs (r.offset + field_size r.kind) to h.1 in omega arith
+
+fill_between : (rs : List MachReloc) (from to j : ℕ) (r : MachReloc) → FillInTurn rs from to → slice_get rs j ≡ Some r → (from ≤ r.offset) × (r.offset + field_size r.kind ≤ to)
+fill_between [] from to j r h e = absurd (cc)
+fill_between (x ∷ rs) from to zero r h e = subst (λ (r : MachReloc). (from ≤ r.offset) × (r.offset + field_size r.kind ≤ to)) (same_Some x r e) (h.0, fill_ascends rs (x.offset + field_size x.kind) to h.1)
+fill_between (x ∷ rs) from to (suc j) r h e =
+    let first = h.0 in
+    let rest = fill_between rs (x.offset + field_size x.kind) to j r h.1 e in
+    let after = rest.0 in
+    (omega arith, rest.1)
+
+fill_after : (x : MachReloc) (rs : List MachReloc) (from to k : ℕ) (r s : MachReloc) → FillInTurn (x ∷ rs) from to → Some x ≡ Some r → slice_get rs k ≡ Some s → r.offset + field_size r.kind ≤ s.offset
+fill_after x rs from to k r s h e g = subst (λ (r : MachReloc). r.offset + field_size r.kind ≤ s.offset) (same_Some x r e) (fill_between rs (x.offset + field_size x.kind) to k s h.1 g).0
+
+fill_apart : (rs : List MachReloc) (from to j k : ℕ) (r s : MachReloc) → FillInTurn rs from to → j ≢ k → slice_get rs j ≡ Some r → slice_get rs k ≡ Some s → IsApart r.offset (field_size r.kind) s.offset (field_size s.kind)
+fill_apart [] from to j k r s h differ e g = absurd (cc)
+fill_apart (x ∷ rs) from to zero zero r s h differ e g = absurd (differ refl)
+fill_apart (x ∷ rs) from to zero (suc k) r s h differ e g = inl (fill_after x rs from to k r s h e g)
+fill_apart (x ∷ rs) from to (suc j) zero r s h differ e g = inr (fill_after x rs from to j s r h g e)
+fill_apart (x ∷ rs) from to (suc j) (suc k) r s h differ e g = fill_apart rs (x.offset + field_size x.kind) to j k r s h.1 (λ same. differ (ap suc same)) e g
+
+-- ---- one line
+
+gap_ascends : (flags : IsaFlags) (bytes : List ℕ) (from to : ℕ) → IsGap flags bytes from to → from ≤ to
+gap_ascends flags bytes from to h = ⊎_elim (λ same. omega arith) (λ island. let longer = island.longer in omega arith) h
+
+sized_ascends : (flags : IsaFlags) (bytes : List ℕ) (extent : Extent) (start end : ℕ) → IsSized flags bytes extent start end → start ≤ end
+sized_ascends flags bytes (Words size) start end h = omega arith
+sized_ascends flags bytes (Island space) start end h = gap_ascends flags bytes start end h
+sized_ascends flags bytes (Table labels size) start end (mid, gap, same) = let before = gap_ascends flags bytes start mid gap in omega arith
+
+access_fill : (at : ℕ) (trap : Option TrapCode) (start end : ℕ) → start ≤ end → FillInTurn (relocs_in (access_records at trap)) start end
+access_fill at None start end le = le
+access_fill at (Some code) start end le = le
+
+-- what an instruction's relocations fill stands where the instruction does
+inst_fill : (context : Context) (bytes : List ℕ) (inst : Inst) (start end : ℕ) → IsSized context.flags bytes (extent_of context inst) start end → FillInTurn (relocs_in (inst_records context start end inst)) start end
+inst_fill context bytes (Load rd op flags from) start end h = access_fill _ flags.trap start end (omega arith)
+inst_fill context bytes (Store to op flags src) start end h = access_fill _ flags.trap start end (omega arith)
+inst_fill context bytes (LoadExtNameGot rd name) start end h = (omega arith, (omega arith, omega arith))
+inst_fill context bytes (LoadExtNameNear rd name offset) start end h = (omega arith, (omega arith, omega arith))
+inst_fill context bytes (LoadExtNameFar rd name offset) start end h = (omega arith, omega arith)
+inst_fill context bytes inst start end h = sized_ascends context.flags bytes (extent_of context inst) start end h
+
+line_fill : (context : Context) (bytes : List ℕ) (line : Line) (start end : ℕ) → IsSpan context bytes line start end → FillInTurn (relocs_in (line_records context start end line)) start end
+line_fill context bytes (Put inst) start end h = inst_fill context bytes inst start end h
+line_fill context bytes (Bind label) start end h = omega arith
+
+-- ---- all lines
+
+module _ (context : Context) (bytes : List ℕ) (spans : List LineSpan) where
+  -- lines, the first of which has index i, are as long as they must be; between two stands nothing, or an island
+  abbrev AreLong : ℕ → List Line → Type 0
+  AreLong i lines = (k : ℕ) (line : Line) → slice_get lines k ≡ Some line → IsSpan context bytes line (start_of spans (i + k)) (end_of spans (i + k))
+
+  abbrev AreJoined : ℕ → List Line → Type 0
+  AreJoined i lines = (k : ℕ) → suc k < length lines → IsGap context.flags bytes (end_of spans (i + k)) (start_of spans (suc (i + k)))
+
+  rest_long : (i : ℕ) (line : Line) (lines : List Line) → AreLong i (line ∷ lines) → AreLong (suc i) lines
+  rest_long i line lines long k next e = let same : i + suc k ≡ suc i + k = omega arith in subst (λ n. IsSpan context bytes next (start_of spans n) (end_of spans n)) same (long (suc k) next e)
+
+  rest_joined : (i : ℕ) (line : Line) (lines : List Line) → AreJoined i (line ∷ lines) → AreJoined (suc i) lines
+  rest_joined i line lines joined k lt = let same : i + suc k ≡ suc i + k = omega arith in subst (λ n. IsGap context.flags bytes (end_of spans n) (start_of spans (suc n))) same (joined (suc k) (omega arith))
+
+  first_fill : (i : ℕ) (line : Line) (lines : List Line) → AreLong i (line ∷ lines) → FillInTurn (relocs_in (line_records context (start_of spans i) (end_of spans i) line)) (start_of spans i) (end_of spans i)
+  first_fill i line lines long =
+      let here : i + 0 ≡ i = omega arith in
+      line_fill context bytes line (start_of spans i) (end_of spans i) (subst (λ n. IsSpan context bytes line (start_of spans n) (end_of spans n)) here (long 0 line refl))
+
+  next_starts : (i : ℕ) (line : Line) (lines : List Line) → AreJoined i (line ∷ lines) → 0 < length lines → end_of spans i ≤ start_of spans (suc i)
+  next_starts i line lines joined lt =
+      let here : i + 0 ≡ i = omega arith in
+      gap_ascends context.flags bytes (end_of spans i) (start_of spans (suc i)) (subst (λ n. IsGap context.flags bytes (end_of spans n) (start_of spans (suc n))) here (joined 0 (omega arith)))
+
+  relocs_split : (i : ℕ) (line : Line) (lines : List Line) → relocs_in (records_from context spans i (line ∷ lines)) ≡ relocs_in (line_records context (start_of spans i) (end_of spans i) line) ++ relocs_in (records_from context spans (suc i) lines)
+  relocs_split i line lines = flat_map-append record_relocs (line_records context (start_of spans i) (end_of spans i) line) (records_from context spans (suc i) lines)
+
+  lines_fill : (i : ℕ) (lines : List Line) (from : ℕ) → AreLong i lines → AreJoined i lines → (0 < length lines → from ≤ start_of spans i) → (to : ℕ) × FillInTurn (relocs_in (records_from context spans i lines)) from to
+  lines_fill i [] from long joined starts = (from, omega arith)
+  lines_fill i (line ∷ lines) from long joined starts =
+      let first = relocs_in (line_records context (start_of spans i) (end_of spans i) line) in
+      let more = relocs_in (records_from context spans (suc i) lines) in
+      let rest = lines_fill (suc i) lines (end_of spans i) (rest_long i line lines long) (rest_joined i line lines joined) (next_starts i line lines joined) in
+      let both = fill_both first more (start_of spans i) (end_of spans i) rest.0 (first_fill i line lines long) rest.1 in
+      (rest.0, subst (λ rs. FillInTurn rs from rest.0) (sym (relocs_split i line lines)) (fill_from (first ++ more) from (start_of spans i) rest.0 (starts (omega arith)) both))
+
+  -- a line, whose index is i and some, has the bytes that a relocation fills
+  record Among (i : ℕ) (lines : List Line) (r : MachReloc) : Type 0 where
+    place : ℕ
+    below : place < length lines
+    starts : start_of spans (i + place) ≤ r.offset
+    ends : r.offset + field_size r.kind ≤ end_of spans (i + place)
+
+  among_lines : (i : ℕ) (lines : List Line) (j : ℕ) (r : MachReloc) → AreLong i lines → slice_get (relocs_in (records_from context spans i lines)) j ≡ Some r → Among i lines r
+  among_lines i [] j r long e = absurd (cc)
+  among_lines i (line ∷ lines) j r long e =
+      let first = relocs_in (line_records context (start_of spans i) (end_of spans i) line) in
+      let more = relocs_in (records_from context spans (suc i) lines) in
+      let here : i ≡ i + 0 = omega arith in
+      ⊎_elim
+      (λ own.
+      let between = fill_between first (start_of spans i) (end_of spans i) j r (first_fill i line lines long) own in
+      record {
+        place = 0;
+        below = omega arith;
+        starts = subst (λ n. start_of spans n ≤ r.offset) here between.0;
+        ends = subst (λ n. r.offset + field_size r.kind ≤ end_of spans n) here between.1;
+      })
+      (λ later.
+      let a = among_lines (suc i) lines later.index r (rest_long i line lines long) later.there in
+      let below = a.below in
+      let same : suc i + a.place ≡ i + suc a.place = omega arith in
+      record {
+        place = suc a.place;
+        below = omega arith;
+        starts = subst (λ n. start_of spans n ≤ r.offset) same a.starts;
+        ends = subst (λ n. r.offset + field_size r.kind ≤ end_of spans n) same a.ends;
+      })
+      (locate first more j r (ap (λ rs. slice_get rs j) (sym (relocs_split i line lines)) ∙ e))
+
+  module _ (lines : List Line) (count : length spans ≡ length lines) (long : (i : ℕ) (line : Line) → slice_get lines i ≡ Some line → IsSpan context bytes line (start_of spans i) (end_of spans i)) where
+    all_long : AreLong 0 lines
+    all_long k line e = let same : k ≡ 0 + k = omega arith in subst (λ n. IsSpan context bytes line (start_of spans n) (end_of spans n)) same (long k line e)
+
+    -- each relocation's bytes are a line's
+    pub fields_in_lines : (j : ℕ) (r : MachReloc) → slice_get (relocs_in (records_from context spans 0 lines)) j ≡ Some r → FillsInLine spans r
+    fields_in_lines j r e =
+        let a = among_lines 0 lines j r all_long e in
+        let below = a.below in
+        let same : 0 + a.place ≡ a.place = omega arith in
+        record {
+          index = a.place;
+          below = omega arith;
+          starts = subst (λ n. start_of spans n ≤ r.offset) same a.starts;
+          ends = subst (λ n. r.offset + field_size r.kind ≤ end_of spans n) same a.ends;
+        }
+
+    -- no two share a byte
+    pub fields_apart : ((i : ℕ) → suc i < length lines → IsGap context.flags bytes (end_of spans i) (start_of spans (suc i))) → (j k : ℕ) (r s : MachReloc) → j ≢ k → slice_get (relocs_in (records_from context spans 0 lines)) j ≡ Some r → slice_get (relocs_in (records_from context spans 0 lines)) k ≡ Some s → IsApart r.offset (field_size r.kind) s.offset (field_size s.kind)
+    fields_apart joined j k r s differ e g =
+        let all = lines_fill 0 lines (start_of spans 0) all_long (λ i lt. let same : i ≡ 0 + i = omega arith in subst (λ n. IsGap context.flags bytes (end_of spans n) (start_of spans (suc n))) same (joined i lt)) (λ lt. omega arith) in
+        fill_apart (relocs_in (records_from context spans 0 lines)) (start_of spans 0) all.0 j k r s all.1 differ e g

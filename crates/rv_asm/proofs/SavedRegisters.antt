@@ -1,0 +1,56 @@
+-- The steps in the making of a frame that lines tell save registers of the machine: a line that names a virtual one is refused.
+use Rattle.std.proofs.Common.{◌≡◌, ℕ, suc, false, List, [], ◌∷◌, ◌++◌, Option, Some, None, refl, sym, subst}
+use Rattle.std.specs.Prelude.{slice_get}
+use Rattle.std.specs.List.{AllByRecursion, list_any}
+use Rattle.std.proofs.lemmas.Grind.{flat_map-append}
+use Rattle.rv_base.specs.declared.regs.Reg.TheVariants.{Real, Virtual}
+use Rattle.rv_base.specs.declared.trap.TrapCode.{TrapCode}
+use Rattle.rv_base.specs.declared.unwind.UnwindInst.{UnwindInst}
+use Rattle.rv_base.specs.declared.unwind.UnwindInst.TheVariants.{PushFrameRegs, DefineNewFrame, StackAlloc, SaveReg}
+use Rattle.mach_buffer.specs.Records.{record_unwinds, unwinds_in}
+use Rattle.mach_buffer.specs.declared.records.MachUnwind.{MachUnwind}
+use Rattle.rv_inst.specs.Context.{Context}
+use Rattle.rv_inst.specs.Operands.{inst_registers}
+use Rattle.rv_inst.specs.Records.{access_records, inst_records}
+use Rattle.rv_inst.specs.Rules.{inst_rule, broken_rule, is_virtual}
+use Rattle.rv_inst.specs.declared.code.LineSpan.{LineSpan}
+use Rattle.rv_inst.specs.declared.inst.Inst.{Inst}
+use Rattle.rv_inst.specs.declared.inst.Inst.TheVariants.{Load, Store, Unwind}
+use Rattle.rv_inst.specs.declared.inst.Line.{Line}
+use Rattle.rv_inst.specs.declared.inst.Line.TheVariants.{Inst as Put, Bind}
+use Rattle.rv_emit.proofs.Laws.{keeps}
+use Rattle.rv_asm.specs.Reported.{start_of, end_of, line_records, records_from}
+use Rattle.rv_asm.specs.SavedRegisters.{StepSaves, SavesReal}
+
+both : (xs ys : List MachUnwind) → AllByRecursion SavesReal xs → AllByRecursion SavesReal ys → AllByRecursion SavesReal (xs ++ ys)
+both [] ys h g = g
+both (x ∷ xs) ys h g = (h.0, both xs ys h.1 g)
+
+step_saves : (inst : UnwindInst) → list_any is_virtual (inst_registers (Unwind inst)) ≡ false → StepSaves inst
+step_saves (PushFrameRegs to_caller) h = tt
+step_saves (DefineNewFrame to_caller to_saved) h = tt
+step_saves (StackAlloc size) h = tt
+step_saves (SaveReg above (Real p)) h = tt
+step_saves (SaveReg above (Virtual v)) h = absurd (cc)
+
+access_saves : (at : ℕ) (trap : Option TrapCode) → AllByRecursion SavesReal (unwinds_in (access_records at trap))
+access_saves at None = tt
+access_saves at (Some code) = tt
+
+inst_saves : (context : Context) (start end : ℕ) (inst : Inst) → inst_rule context inst ≡ None → AllByRecursion SavesReal (unwinds_in (inst_records context start end inst))
+inst_saves context start end (Load rd op flags from) rule = access_saves _ flags.trap
+inst_saves context start end (Store to op flags src) rule = access_saves _ flags.trap
+inst_saves context start end (Unwind inst) rule = (step_saves inst (keeps context (Unwind inst) rule).real, tt)
+inst_saves context start end inst rule = tt
+
+line_saves : (context : Context) (start end : ℕ) (line : Line) → broken_rule context line ≡ None → AllByRecursion SavesReal (unwinds_in (line_records context start end line))
+line_saves context start end (Put inst) rule = inst_saves context start end inst rule
+line_saves context start end (Bind label) rule = tt
+
+pub lines_save : (context : Context) (spans : List LineSpan) (i : ℕ) (lines : List Line) → ((k : ℕ) (line : Line) → slice_get lines k ≡ Some line → broken_rule context line ≡ None) → AllByRecursion SavesReal (unwinds_in (records_from context spans i lines))
+lines_save context spans i [] ruled = tt
+lines_save context spans i (line ∷ lines) ruled =
+    let first = line_records context (start_of spans i) (end_of spans i) line in
+    let rest = records_from context spans (suc i) lines in
+    subst (AllByRecursion SavesReal) (sym (flat_map-append record_unwinds first rest))
+    (both (unwinds_in first) (unwinds_in rest) (line_saves context (start_of spans i) (end_of spans i) line (ruled 0 line refl)) (lines_save context spans (suc i) lines (λ k l h. ruled (suc k) l h)))

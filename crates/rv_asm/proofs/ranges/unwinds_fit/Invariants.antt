@@ -1,0 +1,8 @@
+use Rattle.std.proofs.Common.{drop}
+use Rattle.std.specs.List.{AllByRecursion}
+use Rattle.rv_listing.specs.CodeRanges.{UnwindFits}
+use Rattle.rv_asm.specs.SavedRegisters.{SavesReal}
+use Rattle.rv_asm.proofs.ranges.unwinds_fit.Given as goal
+
+abbrev pub invariant-loop-unwind : goal.invariant-loop-unwind
+invariant-loop-unwind l = (AllByRecursion UnwindFits (drop l.unwind-index l.unwinds) → AllByRecursion UnwindFits l.unwinds) × AllByRecursion SavesReal (drop l.unwind-index l.unwinds)

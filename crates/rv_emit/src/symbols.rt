@@ -1,0 +1,137 @@
+//! Addresses of symbols, whose bytes a linker fills, and steps in the making of a frame.
+
+ghost use Rattle.std.specs.Prelude.{◌≡◌, [], ◌∷◌, ◌+◌, ◌<◌, length, OnOk, OnErr, true};
+ghost use Rattle.rv_base.specs.declared.flags.IsaFlags.{IsaFlags};
+ghost use Rattle.rv_base.specs.LabelUse.{code_limit};
+ghost use Rattle.rv_base.specs.Regs.{number_of};
+ghost use Rattle.rv_encode.specs.Registers.{IsIntRegister};
+ghost use Rattle.rv_inst.specs.LabelUseWords.{word_bytes};
+ghost use Rattle.mach_buffer.specs.declared.records.Event.TheVariants.{Reloc as Relocates, Unwind as Unwinds};
+ghost use Rattle.mach_buffer.specs.declared.records.FinalizedRelocTarget.TheVariants.{ExternalName as ToName};
+ghost use Rattle.mach_buffer.specs.Buffer.{shape_of, bytes_of, spoiled_of};
+ghost use Rattle.mach_buffer.specs.Shape.{with_bytes, with_record};
+ghost use Rattle.rv_emit.specs.Emission.{PutsAlone};
+ghost use Rattle.rv_emit.specs.Emitted.{IsSoundBuffer};
+ghost use Rattle.rv_emit.specs.InstParts.{far_slots, got_slots, near_slots};
+ghost use Rattle.rv_emit.specs.Puts.{eight_zeros};
+ghost use Rattle.rv_emit.specs.Slots.{Notes, address_event, lower_event};
+
+use crate::expansions::put_load_over;
+use crate::memory::{addition_word, load_word};
+use mach_buffer::MachBuffer;
+use rv_base::{ExternalName, IsaFlags, OutOfMemory, Reloc, RelocTarget, UnwindInst, WritableReg};
+use rv_encode::enc_auipc;
+use rv_imms::Imm20;
+use rv_inst::LabelUse;
+use rv_ops::LoadOP;
+
+/// What stands in a symbol's slot: its address, by the distance to the slot.
+pub(crate) fn put_slot_load(
+    sink: &mut MachBuffer<LabelUse>,
+    rd: WritableReg,
+    name: ExternalName,
+) -> Result<(), OutOfMemory>
+    requires rd { IsIntRegister rd.reg }
+    requires room { length (bytes_of sink.old) + 8 < code_limit }
+    requires sound { IsSoundBuffer sink.old }
+    ensures slots { OnOk result ((flags : IsaFlags) → PutsAlone flags (got_slots (number_of rd.reg) name) sink.old sink.new) }
+    ensures refused { OnErr result (spoiled_of sink.new ≡ true) }
+{
+    let upper = enc_auipc(rd, Imm20::ZERO);
+    let lower = load_word(LoadOP::Ld, rd);
+    put_pair(sink, Reloc::RiscvGotHi20, name, 0, upper, lower)?;
+    Ok(())
+}
+
+/// A symbol's address plus an offset, by the distance to it.
+pub(crate) fn put_near_symbol(
+    sink: &mut MachBuffer<LabelUse>,
+    rd: WritableReg,
+    name: ExternalName,
+    offset: i64,
+) -> Result<(), OutOfMemory>
+    requires rd { IsIntRegister rd.reg }
+    requires room { length (bytes_of sink.old) + 8 < code_limit }
+    requires sound { IsSoundBuffer sink.old }
+    ensures slots { OnOk result ((flags : IsaFlags) → PutsAlone flags (near_slots (number_of rd.reg) name offset) sink.old sink.new) }
+    ensures refused { OnErr result (spoiled_of sink.new ≡ true) }
+{
+    let upper = enc_auipc(rd, Imm20::ZERO);
+    let lower = addition_word(rd);
+    put_pair(sink, Reloc::RiscvPCRelHi20, name, offset, upper, lower)?;
+    Ok(())
+}
+
+/// Puts two words that a linker fills with the upper and the lower part of the distance from the first one to a symbol plus an
+/// addend, or to its slot. They are of four bytes each whatever the flags are. The relocation of the second names the place of the
+/// first, whose distance is the one that it has the lower part of.
+fn put_pair(
+    sink: &mut MachBuffer<LabelUse>,
+    kind: Reloc,
+    name: ExternalName,
+    addend: i64,
+    upper: u32,
+    lower: u32,
+) -> Result<(), OutOfMemory>
+    requires room { length (bytes_of sink.old) + 8 < code_limit }
+    requires sound { IsSoundBuffer sink.old }
+    ensures put { OnOk result (shape_of sink.new ≡ with_bytes (word_bytes lower) (with_record (lower_event (length (bytes_of sink.old))) (with_bytes (word_bytes upper) (with_record (Relocates kind (ToName name) addend) (shape_of sink.old))))) }
+    ensures sound { OnOk result (IsSoundBuffer sink.new) }
+    ensures refused { OnErr result (spoiled_of sink.new ≡ true) }
+{
+    let start = sink.cur_offset();
+    sink.add_reloc(kind, RelocTarget::Name(name), addend)?;
+    sink.put4(upper)?;
+    sink.add_reloc_to(Reloc::RiscvPCRelLo12I, start, 0)?;
+    sink.put4(lower)?;
+    Ok(())
+}
+
+/// A symbol's address plus an offset, from among the code, which jumps over it.
+pub(crate) fn put_far_symbol(
+    sink: &mut MachBuffer<LabelUse>,
+    flags: IsaFlags,
+    rd: WritableReg,
+    name: ExternalName,
+    offset: i64,
+) -> Result<(), OutOfMemory>
+    requires rd { IsIntRegister rd.reg }
+    requires room { length (bytes_of sink.old) + 20 < code_limit }
+    requires sound { IsSoundBuffer sink.old }
+    ensures slots { OnOk result (PutsAlone flags (far_slots flags (number_of rd.reg) name offset) sink.old sink.new) }
+    ensures refused { OnErr result (spoiled_of sink.new ≡ true) }
+{
+    put_load_over(sink, flags, rd, LoadOP::Ld, 8)?;
+    put_symbol_bytes(sink, name, offset)?;
+    Ok(())
+}
+
+/// Eight bytes that a linker fills with a symbol's address plus an offset.
+fn put_symbol_bytes(
+    sink: &mut MachBuffer<LabelUse>,
+    name: ExternalName,
+    offset: i64,
+) -> Result<(), OutOfMemory>
+    requires room { length (bytes_of sink.old) + 8 < code_limit }
+    requires sound { IsSoundBuffer sink.old }
+    ensures put { OnOk result (shape_of sink.new ≡ with_bytes eight_zeros (with_record (address_event name offset) (shape_of sink.old))) }
+    ensures sound { OnOk result (IsSoundBuffer sink.new) }
+    ensures refused { OnErr result (spoiled_of sink.new ≡ true) }
+{
+    sink.add_reloc(Reloc::Abs8, RelocTarget::Name(name), offset)?;
+    sink.put8(0)?;
+    Ok(())
+}
+
+/// The record of a step in the making of a frame.
+pub(crate) fn put_unwind(
+    sink: &mut MachBuffer<LabelUse>,
+    inst: UnwindInst,
+) -> Result<(), OutOfMemory>
+    requires sound { IsSoundBuffer sink.old }
+    ensures slots { OnOk result ((flags : IsaFlags) → PutsAlone flags (Notes (Unwinds inst) ∷ []) sink.old sink.new) }
+    ensures refused { OnErr result (spoiled_of sink.new ≡ true) }
+{
+    sink.add_unwind(inst)?;
+    Ok(())
+}

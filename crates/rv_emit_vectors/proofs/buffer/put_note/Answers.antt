@@ -1,0 +1,14 @@
+use Rattle.rv_emit_vectors.proofs.Kept.{kept_recorded}
+use Rattle.rv_emit_vectors.proofs.buffer.put_note.Goals as goal
+
+pub returns-in_ok-add_trap-in-Trap-clause-kept : goal.returns-in_ok-add_trap-in-Trap-clause-kept
+returns-in_ok-add_trap-in-Trap-clause-kept g c = let e = c.in_ok-add_trap-in-Trap.ensures in kept_recorded c.requires.kept c.add_trap.new.self _ e.sound e.recorded.2
+
+pub returns-in_ok-add_reloc-in-Refers-clause-kept : goal.returns-in_ok-add_reloc-in-Refers-clause-kept
+returns-in_ok-add_reloc-in-Refers-clause-kept g c = let e = c.in_ok-add_reloc-in-Refers.ensures in kept_recorded c.requires.kept c.add_reloc.new.self _ e.sound e.recorded.2
+
+pub returns-in_ok-add_reloc_to-in-RefersTo-clause-kept : goal.returns-in_ok-add_reloc_to-in-RefersTo-clause-kept
+returns-in_ok-add_reloc_to-in-RefersTo-clause-kept g c = let e = c.in_ok-add_reloc_to-in-RefersTo.ensures in kept_recorded c.requires.kept c.add_reloc_to.new.self _ e.sound e.recorded.2
+
+pub returns-in_ok-add_unwind-in-Makes-clause-kept : goal.returns-in_ok-add_unwind-in-Makes-clause-kept
+returns-in_ok-add_unwind-in-Makes-clause-kept g c = let e = c.in_ok-add_unwind-in-Makes.ensures in kept_recorded c.requires.kept c.add_unwind.new.self _ e.sound e.recorded.2

@@ -1,0 +1,214 @@
+//! Where the constants stand that code in a buffer names.
+
+use crate::buffer::Item::{Fill, Name, Use};
+use crate::buffer::{CODE_LIMIT, Item, assemble, empty, make_way, put_item};
+use crate::toy::Toy;
+use rv_base::{ConstAlign, Constant, List, OutOfMemory};
+use std::alloc::Global;
+use std::process::Abort;
+use std::test::Fail;
+
+/// A constant's alignment and bytes.
+struct Datum {
+    align: ConstAlign,
+    bytes: &'static [u8],
+}
+
+const DATA: [Datum; 7] = [
+    Datum {
+        align: ConstAlign::A1,
+        bytes: &[0xc0],
+    },
+    Datum {
+        align: ConstAlign::A16,
+        bytes: &[0xc1; 5],
+    },
+    Datum {
+        align: ConstAlign::A2,
+        bytes: &[0xc2; 3],
+    },
+    Datum {
+        align: ConstAlign::A8,
+        bytes: &[0xc3; 7],
+    },
+    Datum {
+        align: ConstAlign::A4,
+        bytes: &[0xc4; 4],
+    },
+    Datum {
+        align: ConstAlign::A1,
+        bytes: &[0xc5; 251],
+    },
+    Datum {
+        align: ConstAlign::A2,
+        bytes: &[0xc6; 9],
+    },
+];
+
+fn constants_of(alloc: Global, data: &[Datum]) -> Result<Vec<Constant>, OutOfMemory> {
+    let mut constants = Vec::new(alloc);
+    for datum in data {
+        let mut bytes = Vec::new(alloc);
+        bytes.extend_from_slice(datum.bytes)?;
+        constants.push(Constant {
+            bytes: List::from_vec(bytes),
+            align: datum.align,
+        })?;
+    }
+    Ok(constants)
+}
+
+/// Items with how long their code is, the numbers and offsets of their constants, and some bytes, from `at` on.
+struct Pool {
+    items: &'static [Item],
+    long: usize,
+    constants: &'static [(u32, u32)],
+    at: usize,
+    bytes: &'static [u8],
+}
+
+const POOLS: [Pool; 8] = [
+    // Nothing is named.
+    Pool {
+        items: &[Fill(2)],
+        long: 2,
+        constants: &[],
+        at: 0,
+        bytes: &[0x44, 0x44],
+    },
+    // A use at 0 goes by a veneer at 4 to a constant at 12.
+    Pool {
+        items: &[Name(4)],
+        long: 16,
+        constants: &[(4, 12)],
+        at: 0,
+        bytes: &[
+            2, 0x11, 0, 0, 8, 0, 0, 0, 0xee, 0xee, 0xee, 0xee, 0xc4, 0xc4, 0xc4, 0xc4,
+        ],
+    },
+    // Six uses go by veneers from 12 on; the first and the fourth to one constant.
+    Pool {
+        items: &[Name(3), Name(0), Name(4), Name(3), Name(1), Name(2)],
+        long: 89,
+        constants: &[(3, 64), (0, 72), (4, 76), (1, 80), (2, 86)],
+        at: 0,
+        bytes: &[
+            6, 0x11, 9, 0x11, 12, 0x11, 15, 0x11, 18, 0x11, 21, 0x11, 52, 0, 0, 0, 0xee, 0xee,
+            0xee, 0xee, 52, 0, 0, 0, 0xee, 0xee, 0xee, 0xee, 48, 0, 0, 0, 0xee, 0xee, 0xee, 0xee,
+            28, 0, 0, 0, 0xee, 0xee, 0xee, 0xee, 36, 0, 0, 0, 0xee, 0xee, 0xee, 0xee, 34, 0, 0, 0,
+            0xee, 0xee, 0xee, 0xee, 0, 0, 0, 0, 0xc3, 0xc3, 0xc3, 0xc3, 0xc3, 0xc3, 0xc3, 0, 0xc0,
+            0, 0, 0, 0xc4, 0xc4, 0xc4, 0xc4, 0xc1, 0xc1, 0xc1, 0xc1, 0xc1, 0, 0xc2, 0xc2, 0xc2,
+        ],
+    },
+    // A jump at 2 round an island, which has a veneer at 8 and a constant at 16, and ends at 24.
+    Pool {
+        items: &[Name(1), Fill(216), Name(2), Name(1)],
+        long: 255,
+        constants: &[(1, 16), (2, 252)],
+        at: 0,
+        bytes: &[
+            4, 0x11, 11, 0xaa, 0xaa, 0xaa, 0, 0, 8, 0, 0, 0, 0xee, 0xee, 0xee, 0xee, 0xc1, 0xc1,
+            0xc1, 0xc1, 0xc1, 0, 0, 0, 0x44,
+        ],
+    },
+    // After it a use at 240 goes by a veneer at 244 to a constant at 252, and one at 242 goes 226 bytes back.
+    Pool {
+        items: &[Name(1), Fill(216), Name(2), Name(1)],
+        long: 255,
+        constants: &[(1, 16), (2, 252)],
+        at: 239,
+        bytes: &[
+            0x44, 2, 0x11, 0x8f, 0x11, 8, 0, 0, 0, 0xee, 0xee, 0xee, 0xee, 0xc2, 0xc2, 0xc2,
+        ],
+    },
+    // With a constant of 251 bytes at 16 the island would end at 268, and a jump at 2 reaches 256: so it goes by a veneer of its
+    // own at 8 to the end at 276.
+    Pool {
+        items: &[Name(5), Fill(216)],
+        long: 492,
+        constants: &[(5, 24)],
+        at: 0,
+        bytes: &[
+            8, 0x11, 3, 0xaa, 0xaa, 0xaa, 0, 0, 12, 1, 0, 0, 0xee, 0xee, 0xee, 0xee, 8, 0, 0, 0,
+            0xee, 0xee, 0xee, 0xee, 0xc5,
+        ],
+    },
+    Pool {
+        items: &[Name(5), Fill(216)],
+        long: 492,
+        constants: &[(5, 24)],
+        at: 272,
+        bytes: &[0xc5, 0xc5, 0xc5, 0, 0x44],
+    },
+    // A label's veneer at 8, and then a constant's at 16 to 24, and an island's end at 28.
+    Pool {
+        items: &[Use(0), Name(2), Fill(208), Name(2)],
+        long: 238,
+        constants: &[(2, 24)],
+        at: 0,
+        bytes: &[
+            4, 0x11, 7, 0x11, 12, 0xaa, 0xaa, 0xaa, 0xe6, 0, 0, 0, 0xee, 0xee, 0xee, 0xee, 8, 0, 0,
+            0, 0xee, 0xee, 0xee, 0xee, 0xc2, 0xc2, 0xc2, 0, 0x44,
+        ],
+    },
+];
+
+/// Stops unless the code of a row has its constants and its bytes.
+fn assert_pool(rt: &impl Abort, alloc: Global, row: &Pool) -> Result<(), Fail> {
+    let constants = constants_of(alloc, &DATA)?;
+    let mut islands = Vec::new(alloc);
+    let code = assemble(alloc, Toy::Short, &constants, row.items, &mut islands)?;
+    assert_eq!(rt; code.bytes.len(), row.long);
+    let mut places = Vec::new(alloc);
+    for place in code.constants.as_slice() {
+        places.push((place.constant.number, place.offset))?;
+    }
+    assert_eq!(rt; places.as_slice(), row.constants);
+    let rest = code.bytes.as_slice().get(row.at..).unwrap_or(&[]);
+    let found = rest.get(..row.bytes.len()).unwrap_or(&[]);
+    assert_eq!(rt; found, row.bytes);
+    Ok(())
+}
+
+#[test]
+fn constants_stand_after_veneers(rt: HostRuntime) -> Result<(), Fail> {
+    for row in &POOLS {
+        assert_pool(&rt, rt.alloc(), row)?;
+    }
+    Ok(())
+}
+
+const TWO: [Datum; 2] = [
+    Datum {
+        align: ConstAlign::A1,
+        bytes: &[0xc0; 3],
+    },
+    Datum {
+        align: ConstAlign::A1,
+        bytes: &[0xc1; 5],
+    },
+];
+
+/// Returns whether there is room for one byte too many and for as many as may be, with constants of 3 and 5 bytes; and the same
+/// once the second stands.
+fn room_for_constants(alloc: Global) -> Result<[bool; 4], Fail> {
+    let constants = constants_of(alloc, &TWO)?;
+    if constants.len() > 2 {
+        return Err(Fail::new("more than two constants"));
+    }
+    let mut islands = Vec::new(alloc);
+    let mut buffer = empty::<Toy>(alloc, &constants)?;
+    let too_many = buffer.has_room(CODE_LIMIT - 72);
+    let most = buffer.has_room(CODE_LIMIT - 73);
+    put_item(&mut buffer, Toy::Short, &constants, Name(1), &mut islands)?;
+    // The constant stands from 16 to 21, and the island ends at 24.
+    make_way(&mut buffer, Toy::Short, 250, &mut islands)?;
+    let more = buffer.has_room(CODE_LIMIT - 75);
+    Ok([too_many, most, more, buffer.has_room(CODE_LIMIT - 76)])
+}
+
+#[test]
+fn room_is_left_for_constants(rt: HostRuntime) -> Result<(), Fail> {
+    assert_eq!(rt; room_for_constants(rt.alloc())?, [false, true, false, true]);
+    Ok(())
+}

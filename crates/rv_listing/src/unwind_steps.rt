@@ -1,0 +1,86 @@
+//! Steps in the making of a frame.
+
+ghost use Rattle.std.specs.Prelude.{◌≡◌};
+ghost use Rattle.rv_listing.specs.Tokens.{words_after};
+ghost use Rattle.rv_listing.specs.UnwindSteps.{alloc_form, by_kind, new_frame_form, push_form, save_form, step_of};
+
+use crate::fields::{field, whole};
+use crate::tokens::{is, next_word};
+use rv_base::UnwindInst;
+
+#[tactic(auto, unfolding(crate::specs::UnwindSteps::push_form))]
+fn push(rest: &[u8]) -> Option<UnwindInst>
+    ensures { result ≡ push_form (words_after rest.now) }
+{
+    let (offset_upward_to_caller_sp, rest) = field(rest)?;
+    whole(
+        UnwindInst::PushFrameRegs {
+            offset_upward_to_caller_sp,
+        },
+        rest,
+    )
+}
+
+#[tactic(auto, unfolding(crate::specs::UnwindSteps::new_frame_form))]
+fn new_frame(rest: &[u8]) -> Option<UnwindInst>
+    ensures { result ≡ new_frame_form (words_after rest.now) }
+{
+    let (offset_upward_to_caller_sp, rest) = field(rest)?;
+    let (offset_downward_to_clobbers, rest) = field(rest)?;
+    whole(
+        UnwindInst::DefineNewFrame {
+            offset_upward_to_caller_sp,
+            offset_downward_to_clobbers,
+        },
+        rest,
+    )
+}
+
+#[tactic(auto, unfolding(crate::specs::UnwindSteps::alloc_form))]
+fn alloc(rest: &[u8]) -> Option<UnwindInst>
+    ensures { result ≡ alloc_form (words_after rest.now) }
+{
+    let (size, rest) = field(rest)?;
+    whole(UnwindInst::StackAlloc { size }, rest)
+}
+
+#[tactic(auto, unfolding(crate::specs::UnwindSteps::save_form))]
+fn save(rest: &[u8]) -> Option<UnwindInst>
+    ensures { result ≡ save_form (words_after rest.now) }
+{
+    let (clobber_offset, rest) = field(rest)?;
+    let (reg, rest) = field(rest)?;
+    whole(
+        UnwindInst::SaveReg {
+            clobber_offset,
+            reg,
+        },
+        rest,
+    )
+}
+
+// The step of a kind, with these fields after it.
+#[tactic(auto, unfolding(crate::specs::UnwindSteps::by_kind))]
+fn by_kind(kind: &[u8], rest: &[u8]) -> Option<UnwindInst>
+    ensures { result ≡ by_kind kind.now (words_after rest.now) }
+{
+    if is(b"push", kind) {
+        push(rest)
+    } else if is(b"frame", kind) {
+        new_frame(rest)
+    } else if is(b"alloc", kind) {
+        alloc(rest)
+    } else if is(b"save", kind) {
+        save(rest)
+    } else {
+        None
+    }
+}
+
+/// The step that these words say: its kind, and its fields.
+pub fn step(rest: &[u8]) -> Option<UnwindInst>
+    ensures { result ≡ step_of (words_after rest.now) }
+{
+    let (kind, rest) = next_word(rest)?;
+    by_kind(kind, rest)
+}

@@ -1,0 +1,184 @@
+//! The words of a report's lines of relocations and of steps in the making of the frame.
+
+ghost use Rattle.std.specs.Prelude.{◌≡◌};
+ghost use Rattle.rv_listing.specs.Tokens.{words_after, decimal};
+ghost use Rattle.rv_listing.specs.Fields.{field, no_more, Takes};
+ghost use Rattle.rv_load.specs.Records.{addend, alloc_step, frame_step, is_within, machine_register, number_32, push_step, reloc_target, reloc_words, save_step, step_of, step_of_kind, unwind_words};
+
+use mach_buffer::FinalizedRelocTarget;
+use rv_base::{PReg, Reg, UnwindInst};
+use rv_listing::{decimal, next_word, register, reloc_named, starts, symbol_named, tail};
+
+/// The next word, as a decimal number.
+pub fn number(rest: &[u8]) -> Option<(u64, &[u8])>
+    ensures { Takes result (field decimal (words_after rest.now)) }
+{
+    let (w, rest) = next_word(rest)?;
+    let n = decimal(w)?;
+    Some((n, rest))
+}
+
+/// A decimal number of 32 bits.
+pub fn number_32(w: &[u8]) -> Option<u32>
+    ensures { result ≡ number_32 w.now }
+{
+    let n = decimal(w)?;
+    if n < 1 << 32 { Some(n as u32) } else { None }
+}
+
+// What was made, where no word is left.
+fn whole<T: Copy>(made: T, rest: &[u8]) -> Option<T>
+    ensures { result ≡ no_more (made, words_after rest.now) }
+{
+    match next_word(rest) {
+        None => Some(made),
+        Some(_) => None,
+    }
+}
+
+// ---- relocations
+
+fn reloc_target(w: &[u8]) -> Option<FinalizedRelocTarget>
+    ensures { result ≡ reloc_target w.now }
+{
+    if starts(b'@', w) {
+        Some(FinalizedRelocTarget::Func(number_32(tail(w))?))
+    } else {
+        Some(FinalizedRelocTarget::ExternalName(symbol_named(w)?))
+    }
+}
+
+fn addend(w: &[u8]) -> Option<u64>
+    ensures { result ≡ addend w.now }
+{
+    if starts(b'-', w) {
+        let n = decimal(tail(w))?;
+        if n <= 1 << 63 { Some(n) } else { None }
+    } else {
+        let n = decimal(w)?;
+        if n < 1 << 63 { Some(n) } else { None }
+    }
+}
+
+/// The offset of a relocation, and what it refers to.
+pub fn reloc_words(rest: &[u8]) -> Option<(u64, FinalizedRelocTarget)>
+    ensures { result ≡ reloc_words (words_after rest.now) }
+{
+    let (offset, rest) = number(rest)?;
+    let (w, rest) = next_word(rest)?;
+    reloc_named(w)?;
+    let (w, rest) = next_word(rest)?;
+    let target = reloc_target(w)?;
+    let (w, rest) = next_word(rest)?;
+    addend(w)?;
+    whole((offset, target), rest)
+}
+
+/// Returns whether a place in the code of so many bytes is at most their number.
+pub fn is_within(count: u64, target: FinalizedRelocTarget) -> bool
+    ensures { result ≡ is_within count target }
+{
+    match target {
+        FinalizedRelocTarget::ExternalName(_) => true,
+        FinalizedRelocTarget::Func(offset) => offset as u64 <= count,
+    }
+}
+
+// ---- steps in the making of the frame
+
+// The next word, as a decimal number of 32 bits.
+fn size(rest: &[u8]) -> Option<(u32, &[u8])>
+    ensures { Takes result (field number_32 (words_after rest.now)) }
+{
+    let (w, rest) = next_word(rest)?;
+    let n = number_32(w)?;
+    Some((n, rest))
+}
+
+// The next word, as a register of the machine.
+fn saved(rest: &[u8]) -> Option<(PReg, &[u8])>
+    ensures { Takes result (field machine_register (words_after rest.now)) }
+{
+    let (w, rest) = next_word(rest)?;
+    let reg = machine_register(w)?;
+    Some((reg, rest))
+}
+
+fn machine_register(w: &[u8]) -> Option<PReg>
+    ensures { result ≡ machine_register w.now }
+{
+    register(w)?.to_real_reg()
+}
+
+fn push_step(rest: &[u8]) -> Option<UnwindInst>
+    ensures { result ≡ push_step (words_after rest.now) }
+{
+    let (offset_upward_to_caller_sp, rest) = size(rest)?;
+    whole(
+        UnwindInst::PushFrameRegs {
+            offset_upward_to_caller_sp,
+        },
+        rest,
+    )
+}
+
+fn frame_step(rest: &[u8]) -> Option<UnwindInst>
+    ensures { result ≡ frame_step (words_after rest.now) }
+{
+    let (offset_upward_to_caller_sp, rest) = size(rest)?;
+    let (offset_downward_to_clobbers, rest) = size(rest)?;
+    whole(
+        UnwindInst::DefineNewFrame {
+            offset_upward_to_caller_sp,
+            offset_downward_to_clobbers,
+        },
+        rest,
+    )
+}
+
+fn alloc_step(rest: &[u8]) -> Option<UnwindInst>
+    ensures { result ≡ alloc_step (words_after rest.now) }
+{
+    let (size, rest) = size(rest)?;
+    whole(UnwindInst::StackAlloc { size }, rest)
+}
+
+fn save_step(rest: &[u8]) -> Option<UnwindInst>
+    ensures { result ≡ save_step (words_after rest.now) }
+{
+    let (clobber_offset, rest) = size(rest)?;
+    let (reg, rest) = saved(rest)?;
+    whole(
+        UnwindInst::SaveReg {
+            clobber_offset,
+            reg: Reg::Real(reg),
+        },
+        rest,
+    )
+}
+
+fn step_of_kind(kind: &[u8], rest: &[u8]) -> Option<UnwindInst>
+    ensures { result ≡ step_of_kind kind.now (words_after rest.now) }
+{
+    if kind == b"push".as_slice() {
+        push_step(rest)
+    } else if kind == b"frame".as_slice() {
+        frame_step(rest)
+    } else if kind == b"alloc".as_slice() {
+        alloc_step(rest)
+    } else if kind == b"save".as_slice() {
+        save_step(rest)
+    } else {
+        None
+    }
+}
+
+/// An offset, and the step that is done there.
+pub fn unwind_words(rest: &[u8]) -> Option<(u64, UnwindInst)>
+    ensures { result ≡ unwind_words (words_after rest.now) }
+{
+    let (offset, rest) = number(rest)?;
+    let (kind, rest) = next_word(rest)?;
+    let step = step_of_kind(kind, rest)?;
+    Some((offset, step))
+}
