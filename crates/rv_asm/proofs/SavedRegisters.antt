@@ -31,7 +31,7 @@ step_saves (PushFrameRegs to_caller) h = tt
 step_saves (DefineNewFrame to_caller to_saved) h = tt
 step_saves (StackAlloc size) h = tt
 step_saves (SaveReg above (Real p)) h = tt
-step_saves (SaveReg above (Virtual v)) h = absurd (cc)
+step_saves (SaveReg above (Virtual class index)) h = absurd (cc)
 
 access_saves : (at : ℕ) (trap : Option TrapCode) → AllByRecursion SavesReal (unwinds_in (access_records at trap))
 access_saves at None = tt

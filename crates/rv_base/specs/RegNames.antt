@@ -34,4 +34,4 @@ real_name Vector number = codes "v" ++ decimal number
 
 abbrev pub name_of : Reg → List ℕ
 name_of (Real p) = real_name p.class p.number
-name_of (Virtual v) = codes "%" ++ decimal v.index
+name_of (Virtual class index) = codes "%" ++ decimal index.value

@@ -54,7 +54,7 @@ pub use operands::OperandVisitor;
 pub use out_of_memory::OutOfMemory;
 pub use preg_set::PRegSet;
 pub use reg_names::reg_name;
-pub use regs::{PReg, Reg, RegClass, VirtualReg, Writable, WritableReg};
+pub use regs::{PReg, Reg, RegClass, VirtualIndex, Writable, WritableReg};
 pub use reloc::{Reloc, RelocTarget};
 pub use trap::{TrapCode, UserTrap};
 pub use unwind::UnwindInst;

@@ -28,8 +28,8 @@ impl fmt::Display for Reg {
                     write!(f, "v{number}")
                 }
             },
-            Reg::Virtual(reg) => {
-                let index = reg.index;
+            Reg::Virtual { class: _, index } => {
+                let index = index.value;
                 write!(f, "%{index}")
             }
         }

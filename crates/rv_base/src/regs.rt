@@ -44,23 +44,27 @@ impl PReg {
     }
 }
 
-/// A register that a register allocator has yet to choose a real one for. Its index is from 192 to 2^21 - 1: those below
-/// 192, 64 for each file, stand for the real registers, and the allocator keeps 21 bits of an index.
+/// The index of a virtual register, from 192 to 2^21 - 1: those below 192, 64 for each file, stand for the real registers,
+/// and a register allocator keeps 21 bits of an index.
 #[derive(Clone, Copy, Debug, PartialEq, Eq, PartialOrd, Ord, Hash)]
-pub struct VirtualReg {
-    pub index: u32,
-    pub class: RegClass,
-    ghost low: { 192 ≤ index },
-    ghost high: { index < 2097152 },
+pub struct VirtualIndex {
+    pub value: u32,
+    ghost low: { 192 ≤ value },
+    ghost high: { value < 2097152 },
 }
 
-/// A register of an instruction. Real ones come before virtual ones; real ones by file and number, virtual ones by
-/// index.
+/// A register of an instruction: the machine's, or a virtual one, which a register allocator has yet to choose a real one
+/// for. Real ones come before virtual ones; real ones by file and number, virtual ones by file and index. Eight bytes.
 #[derive(Clone, Copy, Debug, PartialEq, Eq, PartialOrd, Ord, Hash)]
 pub enum Reg {
     Real(PReg),
-    Virtual(VirtualReg),
+    Virtual {
+        class: RegClass,
+        index: VirtualIndex,
+    },
 }
+
+const _: () = prove!(size_of::<Reg>() == 8);
 
 /// A register that an instruction writes.
 #[derive(Clone, Copy, Debug, PartialEq, Eq, PartialOrd, Ord, Hash)]
@@ -101,7 +105,10 @@ impl Reg {
         requires high { index < 2097152 }
         ensures { IsVirtualOf result index class }
     {
-        Reg::Virtual(VirtualReg { index, class })
+        Reg::Virtual {
+            class,
+            index: VirtualIndex { value: index },
+        }
     }
 
     /// The file that it is of.
@@ -110,7 +117,7 @@ impl Reg {
     {
         match self {
             Reg::Real(reg) => reg.class,
-            Reg::Virtual(reg) => reg.class,
+            Reg::Virtual { class, index: _ } => class,
         }
     }
 
@@ -120,7 +127,7 @@ impl Reg {
     {
         match self {
             Reg::Real(reg) => Some(reg),
-            Reg::Virtual(_) => None,
+            Reg::Virtual { .. } => None,
         }
     }
 }

@@ -39,8 +39,8 @@ near o e = let both = neither (int_lt o (negsuc (2 ^ 62 - 1))) (int_lt (pos (2 ^
 -- two integer registers that aren't the same have different numbers
 differ : (r s : Reg) → IsUsable r → IsUsable s → same_register r s ≡ false → number_of r ≢ number_of s
 differ (Real p) (Real q) hr hs e = eqb-false p.number q.number ((λ i. same_class (sym hr.0 i) (sym hs.0 i) && (p.number == q.number)) ∙ e)
-differ (Virtual v) s hr hs e = absurd hr.0
-differ r (Virtual w) hr hs e = absurd hs.0
+differ (Virtual class index) s hr hs e = absurd hr.0
+differ r (Virtual class index) hr hs e = absurd hs.0
 
 apart : (r : Reg) (mode : AMode) → IsUsable r → AreUsable (registers_of mode) → is_base r (base_of mode) ≡ false → IsApart r (base_of mode)
 apart r (RegOffset base o) h all e = differ r base h all.0 e

@@ -21,9 +21,9 @@ numbers_differ (Real p) (Real q) hr hs e = differ p.number q.number ((λ i. same
   where
     differ : (m n : ℕ) → (m == n) ≡ false → m ≢ n
     differ m n e = grind (arith, nat_tests)
-numbers_differ (Real p) (AVirtual w) hr hs e = absurd hs.0
-numbers_differ (AVirtual v) (Real q) hr hs e = absurd hr.0
-numbers_differ (AVirtual v) (AVirtual w) hr hs e = absurd hr.0
+numbers_differ (Real p) (AVirtual class index) hr hs e = absurd hs.0
+numbers_differ (AVirtual class index) (Real q) hr hs e = absurd hr.0
+numbers_differ (AVirtual c i) (AVirtual d j) hr hs e = absurd hr.0
 
 -- an integer type of at most 64 bits has some bits, and at most 64
 pub some_bits : (type : IrType) → not (is_int_type type) ≡ false → (1 ≤ bits_of type) × (bits_of type ≤ 64)

@@ -49,7 +49,7 @@ int_usable Vector n h g = absurd (cc)
 
 is_usable : (r : Reg) → is_virtual r ≡ false → is_other_class r ≡ false → is_reserved r ≡ false → IsUsable r
 is_usable (Real p) v h g = int_usable p.class p.number h g
-is_usable (AVirtual x) v h g = absurd (cc)
+is_usable (AVirtual class index) v h g = absurd (cc)
 
 pub are_usable : (rs : List Reg) → list_any is_virtual rs ≡ false → list_any is_other_class rs ≡ false → list_any is_reserved rs ≡ false → AreUsable rs
 are_usable [] v h g = tt
@@ -161,7 +161,7 @@ not_zero (Real p) u h = from (is_int_class p.class) (ap is_int_class u.0) h
     from : (c : Bool) → c ≡ true → (c && (p.number == 0)) ≡ false → 0 < p.number
     from true e zero = grind (arith, nat_tests)
     from false e zero = absurd (cc)
-not_zero (AVirtual x) u h = absurd u.0
+not_zero (AVirtual class index) u h = absurd u.0
 
 -- the register of a constant, and its type
 pub record ConstantKept (rd : Writable Reg) (type : IrType) : Type 0 where

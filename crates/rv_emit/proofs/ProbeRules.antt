@@ -23,7 +23,7 @@ not_stack (Real p) u h = from (is_int_class p.class) (ap is_int_class u.0) h
     from : (c : Bool) → c ≡ true → (c && (p.number == 2)) ≡ false → p.number ≢ 2
     from true e other = grind (arith, nat_tests)
     from false e other = absurd (cc)
-not_stack (AVirtual x) u h = absurd u.0
+not_stack (AVirtual class index) u h = absurd u.0
 
 -- the register of a guard's size
 pub record IsProbe (tmp : ℕ) : Type 0 where

@@ -66,7 +66,7 @@ funct3_small branch.Geu = lit< tt
 
 number_small : (r : Reg) → number_of r < 32
 number_small (Real p) = p.in_file
-number_small (Virtual v) = lit< tt
+number_small (Virtual class index) = lit< tt
 
 -- what the word of a branch is
 pub record IsBranch (w : ℕ) (kind : IntegerCompare) : Type 0 where

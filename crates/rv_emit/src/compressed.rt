@@ -139,7 +139,7 @@ pub(crate) fn number(reg: Reg) -> u8
 {
     match reg {
         Reg::Real(reg) => reg.number,
-        Reg::Virtual(_) => 0,
+        Reg::Virtual { .. } => 0,
     }
 }
 

@@ -17,7 +17,7 @@ pub fn reg_to_gpr_num(m: Reg) -> u32
 {
     match m {
         Reg::Real(reg) => u32::from(reg.number),
-        Reg::Virtual(_) => 0,
+        Reg::Virtual { .. } => 0,
     }
 }
 

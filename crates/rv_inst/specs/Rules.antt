@@ -38,7 +38,7 @@ use Rattle.rv_inst.specs.Operands.{all_of, written_in, inst_registers, inst_labe
 
 abbrev pub is_virtual : Reg → Bool
 is_virtual (Real p) = false
-is_virtual (AVirtual v) = true
+is_virtual (AVirtual class index) = true
 
 abbrev pub is_int_class : RegClass → Bool
 is_int_class Int = true
@@ -51,7 +51,7 @@ is_other_class r = not (is_int_class (class_of r))
 -- x30 or x31, which veneers and expansions change
 abbrev pub is_reserved : Reg → Bool
 is_reserved (Real p) = is_int_class p.class && nat_le 30 p.number
-is_reserved (AVirtual v) = false
+is_reserved (AVirtual class index) = false
 
 abbrev pub is_vector_class : RegClass → Bool
 is_vector_class Int = false
@@ -72,13 +72,13 @@ differ_in_class r s = not (same_class (class_of r) (class_of s))
 
 abbrev pub is_zero : Reg → Bool
 is_zero (Real p) = is_int_class p.class && p.number == 0
-is_zero (AVirtual v) = false
+is_zero (AVirtual class index) = false
 
 abbrev pub same_register : Reg → Reg → Bool
 same_register (Real p) (Real q) = same_class p.class q.class && p.number == q.number
-same_register (Real p) (AVirtual w) = false
-same_register (AVirtual v) (Real q) = false
-same_register (AVirtual v) (AVirtual w) = same_class v.class w.class && v.index == w.index
+same_register (Real p) (AVirtual class index) = false
+same_register (AVirtual class index) (Real q) = false
+same_register (AVirtual c i) (AVirtual d j) = same_class c d && i.value == j.value
 
 -- whether a register is among these
 abbrev pub is_one_of : Reg → List Reg → Bool
@@ -107,7 +107,7 @@ select_clash (Two r s) compared values = clash (r.reg ∷ s.reg ∷ []) (compare
 -- sp
 abbrev pub is_stack : Reg → Bool
 is_stack (Real p) = is_int_class p.class && p.number == 2
-is_stack (AVirtual v) = false
+is_stack (AVirtual class index) = false
 
 -- sp or fp
 abbrev pub is_stack_or_frame : PReg → Bool

@@ -17,7 +17,7 @@ fn is_zero(reg: Reg) -> bool
             RegClass::Int => real.number == 0,
             RegClass::Float | RegClass::Vector => false,
         },
-        Reg::Virtual(_) => false,
+        Reg::Virtual { .. } => false,
     }
 }
 
@@ -37,8 +37,10 @@ fn same_register(first: Reg, second: Reg) -> bool
 {
     match (first, second) {
         (Reg::Real(p), Reg::Real(q)) => same_class(p.class, q.class) && p.number == q.number,
-        (Reg::Virtual(v), Reg::Virtual(w)) => same_class(v.class, w.class) && v.index == w.index,
-        (Reg::Real(_), Reg::Virtual(_)) | (Reg::Virtual(_), Reg::Real(_)) => false,
+        (Reg::Virtual { class: c, index: i }, Reg::Virtual { class: d, index: j }) => {
+            same_class(c, d) && i.value == j.value
+        }
+        (Reg::Real(_), Reg::Virtual { .. }) | (Reg::Virtual { .. }, Reg::Real(_)) => false,
     }
 }
 
@@ -142,7 +144,7 @@ fn is_stack(reg: Reg) -> bool
             RegClass::Int => real.number == 2,
             RegClass::Float | RegClass::Vector => false,
         },
-        Reg::Virtual(_) => false,
+        Reg::Virtual { .. } => false,
     }
 }
 

@@ -39,7 +39,7 @@ fn is_virtual(reg: Reg) -> bool
 {
     match reg {
         Reg::Real(_) => false,
-        Reg::Virtual(_) => true,
+        Reg::Virtual { .. } => true,
     }
 }
 
@@ -61,7 +61,7 @@ fn is_reserved(reg: Reg) -> bool
             RegClass::Int => real.number >= 30,
             RegClass::Float | RegClass::Vector => false,
         },
-        Reg::Virtual(_) => false,
+        Reg::Virtual { .. } => false,
     }
 }
 

@@ -27,7 +27,7 @@ pub(crate) fn broken(alloc: Global, text: &str) -> Result<Option<Rule>, ReadErro
 pub(crate) fn number(reg: Reg) -> u8 {
     match reg {
         Reg::Real(real) => real.number,
-        Reg::Virtual(_) => 255,
+        Reg::Virtual { .. } => 255,
     }
 }
 

@@ -33,9 +33,9 @@ pub real_is : (class : RegClass) (n : ℕ) (low : n < 32) → Some (Real (record
 unfolding real
 real_is class n low = where_holds (ltb n 32) _ _ (lt→ltb n 32 low) (λ h. λ i. Some (Real (record { class = class; number = n; in_file = le_prop low (ltb→lt n 32 h) i })))
 
-pub virtual_is : (n : ℕ) (low : 192 ≤ n) (high : n < 2097152) → Some (Virtual (record { index = n; class = Int; low = low; high = high })) ≡ virtual_register n
+pub virtual_is : (n : ℕ) (low : 192 ≤ n) (high : n < 2097152) → Some (Virtual Int (record { value = n; low = low; high = high })) ≡ virtual_register n
 unfolding virtual_register
-virtual_is n low high = where_holds (leb 192 n) _ _ (le→leb 192 n low) (λ l. where_holds (ltb n 2097152) _ _ (lt→ltb n 2097152 high) (λ h. λ i. Some (Virtual (record { index = n; class = Int; low = le_prop low (leb→le 192 n l) i; high = le_prop high (ltb→lt n 2097152 h) i }))))
+virtual_is n low high = where_holds (leb 192 n) _ _ (le→leb 192 n low) (λ l. where_holds (ltb n 2097152) _ _ (lt→ltb n 2097152 high) (λ h. λ i. Some (Virtual Int (record { value = n; low = le_prop low (leb→le 192 n l) i; high = le_prop high (ltb→lt n 2097152 h) i }))))
 
 pub virtual_high : (n : ℕ) → 2097152 ≤ n → None ≡ virtual_register n
 unfolding virtual_register

@@ -154,8 +154,8 @@ step_opens (SaveReg m (Real p)) (SaveReg n (Real q)) a b fx fy e =
     let names = cut 48 (real_name p.class p.number) (real_name q.class q.number) a b 10 (omega arith) (Above-register p.class p.number p.in_file) (Above-register q.class q.number q.in_file) one.1 in
     let regs = same_register p q names.0 in
     ((λ i. SaveReg (one.0 i) (Real (regs i))), names.1)
-step_opens (SaveReg m (Virtual v)) (SaveReg n s) a b fx fy e = absurd fx.1
-step_opens (SaveReg m (Real p)) (SaveReg n (Virtual v)) a b fx fy e = absurd fy.1
+step_opens (SaveReg m (Virtual class index)) (SaveReg n s) a b fx fy e = absurd fx.1
+step_opens (SaveReg m (Real p)) (SaveReg n (Virtual class index)) a b fx fy e = absurd fy.1
 
 pub unwind_opens : (x y : MachUnwind) (a b : List ℕ) → UnwindFits x → UnwindFits y → unwind_line x ++ a ≡ unwind_line y ++ b → (x ≡ y) × (a ≡ b)
 unwind_opens x y a b fx fy e =

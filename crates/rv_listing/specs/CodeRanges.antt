@@ -45,7 +45,7 @@ pub record TrapFits (t : MachTrap) : Type 0 where
 -- A register of the machine, which has its range in its type. Virtual ones of two classes may have one name.
 abbrev pub IsOfMachine : Reg → Type 0
 IsOfMachine (Real p) = Unit {0}
-IsOfMachine (Virtual v) = ⊥
+IsOfMachine (Virtual class index) = ⊥
 
 abbrev pub StepFits : UnwindInst → Type 0
 StepFits (PushFrameRegs to_caller) = to_caller < 2 ^ 32

@@ -14,7 +14,7 @@ real class n = where_true (nat_lt n 32) (λ low. Some (Real (record { class = cl
 
 -- an integer register that none of the machine's was chosen for
 unfoldable pub virtual_register : ℕ → Option Reg
-virtual_register n = where_true (nat_le 192 n) (λ low. where_true (nat_lt n 2097152) (λ high. Some (Virtual (record { index = n; class = Int; low = leb→le 192 n low; high = ltb→lt n 2097152 high }))))
+virtual_register n = where_true (nat_le 192 n) (λ low. where_true (nat_lt n 2097152) (λ high. Some (Virtual Int (record { value = n; low = leb→le 192 n low; high = ltb→lt n 2097152 high }))))
 
 -- a0 to a7 are x10 to x17, and so for fa
 abbrev pub argument : ℕ → Option ℕ

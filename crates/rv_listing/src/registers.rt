@@ -7,7 +7,7 @@ ghost use Rattle.rv_listing.specs.Tokens.{◌>>=◌ as and_then, decimal};
 ghost use Rattle.rv_listing.specs.Registers.{after_f, after_s, after_t, argument, by_letter, fixed, float, float_saved, float_temporary, other, real, register, saved, single, temporary, virtual_register};
 
 use crate::tokens::{decimal, is, starts, tail};
-use rv_base::{PReg, Reg, RegClass, VirtualReg};
+use rv_base::{PReg, Reg, RegClass, VirtualIndex};
 
 #[tactic(auto, unfolding(crate::specs::Registers::real))]
 fn real(class: RegClass, number: u64) -> Option<Reg>
@@ -30,10 +30,12 @@ fn virtual_register(number: u64) -> Option<Reg>
     if number < 192 {
         None
     } else if number < 2097152 {
-        Some(Reg::Virtual(VirtualReg {
-            index: number as u32,
+        Some(Reg::Virtual {
             class: RegClass::Int,
-        }))
+            index: VirtualIndex {
+                value: number as u32,
+            },
+        })
     } else {
         None
     }

@@ -97,7 +97,7 @@ of_class Vector p = None
 
 abbrev pub int_register : Reg → Option PReg
 int_register (Real p) = of_class p.class p
-int_register (Virtual v) = None
+int_register (Virtual class index) = None
 
 -- the register of a name; s0 is another name of fp
 abbrev pub named_register : List ℕ → Option PReg

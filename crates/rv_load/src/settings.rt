@@ -206,7 +206,7 @@ fn int_register(reg: Reg) -> Option<PReg>
             RegClass::Float => None,
             RegClass::Vector => None,
         },
-        Reg::Virtual(_) => None,
+        Reg::Virtual { .. } => None,
     }
 }
 

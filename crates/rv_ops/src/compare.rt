@@ -45,7 +45,7 @@ fn number(reg: Reg) -> u32
 {
     match reg {
         Reg::Real(reg) => u32::from(reg.number),
-        Reg::Virtual(_) => 0,
+        Reg::Virtual { .. } => 0,
     }
 }
 

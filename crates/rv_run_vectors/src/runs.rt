@@ -271,7 +271,7 @@ fn number(reg: Reg) -> usize
 {
     match reg {
         Reg::Real(reg) => usize::from(reg.number),
-        Reg::Virtual(_) => 0,
+        Reg::Virtual { .. } => 0,
     }
 }
 

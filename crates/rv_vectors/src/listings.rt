@@ -58,7 +58,10 @@ fn other_names_are_refused(rt: HostRuntime) {
 #[test]
 fn virtual_registers_have_numbers(rt: HostRuntime) {
     match register(b"%192") {
-        Some(Reg::Virtual(reg)) => assert_eq!(rt; (reg.index, reg.class), (192, RegClass::Int)),
+        Some(Reg::Virtual { class, index }) => assert_eq!(rt;
+            (index.value, class),
+            (192, RegClass::Int)
+        ),
         _ => assert!(rt; false),
     }
 }
