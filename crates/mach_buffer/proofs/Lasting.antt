@@ -1,8 +1,8 @@
 -- How a buffer grows, and what lasts in it.
-use Rattle.std.proofs.Common.{◌≡◌, inl, inr, ⊎_elim, ℕ, ◌+◌, ◌≤◌, true, List, [], ◌∷◌, ◌++◌, length, take, set, Option, Some, None, refl, ap, sym, ◌∙◌, subst, arith, append_assoc}
+use Rattle.std.proofs.Common.{◌≡◌, ℕ, ◌+◌, ◌≤◌, true, List, [], ◌∷◌, ◌++◌, length, take, set, Option, Some, None, refl, ap, sym, ◌∙◌, arith, append_assoc}
 use Rattle.mach_buffer.proofs.Words.{nat_tests, take-take, length-append, map-append, slice_get, MachLabel, Kinds, VCodeConstant, Event, MachRecord, Use, Shape, with_bytes, with_use, with_label, with_allocated, with_record, with_named, veneer_use, core, recorded, is_reached, put_at, put_veneer, put_all, IsNone, Grows, RecordsLast, Lasts}
 use Rattle.mach_buffer.proofs.Links.{recorded_set}
-use Rattle.mach_buffer.proofs.Lists.{append_none, both_lists, locate, map_each, none_some, one_there, only_one, slice_get-append, slice_get-set_other, take_front}
+use Rattle.mach_buffer.proofs.Lists.{append_none, both_lists, map_each, none_some, only_one, slice_get-append, slice_get-set_other, take_front, pushed}
 use Rattle.mach_buffer.proofs.ConstantOrder.{placed_other}
 
 -- ---- growing
@@ -42,86 +42,51 @@ none_added xs = record { more = []; is = sym (append_none xs) }
 abbrev pub some_added : {X : Type 0} (xs more : List X) → Added xs (xs ++ more)
 some_added xs more = record { more = more; is = refl }
 
--- ---- records
-
--- none was added
-pub records_same : {L : Type 0} {s t : Shape L} → t.records ≡ s.records → RecordsLast s t
-records_same {L} {s} {t} e = record { stay = λ k r h. ap (λ rs. slice_get rs k) e ∙ h; later = λ k r h. inl (sym (ap (λ rs. slice_get rs k) e) ∙ h) }
-
--- and then some more
-records_more : {L : Type 0} {s t v : Shape L} → length s.bytes ≤ length t.bytes → RecordsLast s t → RecordsLast t v → RecordsLast s v
-records_more {L} {s} {t} {v} longer x y = record {
-  stay = λ k r h. y.stay k r (x.stay k r h);
-  later = λ k r h. ⊎_elim (λ old. x.later k r old) (λ le. inr (omega arith)) (y.later k r h);
-}
-
--- one was recorded
-one_recorded : {L : Type 0} (event : Event) (s : Shape L) → RecordsLast s (with_record event s)
-one_recorded {L} event s = record {
-  stay = λ k r h. slice_get-append s.records _ k r h;
-  later = λ k r h. ⊎_elim (λ old. inl old) (λ new. inr (let e = one_there new_record new.index r new.there in subst (λ (x : MachRecord). length s.bytes ≤ x.offset) e.1 (omega arith))) (locate s.records (new_record ∷ []) k r h);
-}
-  where
-    new_record : MachRecord
-    new_record = record { offset = length s.bytes; event = event }
-
 -- ---- lasting
 
 -- a shape lasts in one whose lists only had elements added
 pub lasts_added : {L : Type 0} (kinds : Kinds L) (s t : Shape L) → Added s.bytes t.bytes → (uses : Added s.uses t.uses) → ((k : ℕ) (u : Use L) → slice_get uses.more k ≡ Some u → length s.bytes ≤ u.offset) → ((label to : ℕ) → s.place label ≡ Some to → t.place label ≡ Some to) →
     s.allocated ≤ t.allocated → RecordsLast s t → t.registered ≡ s.registered → Added s.named t.named → Added s.constants t.constants → Lasts kinds s t
-lasts_added {L} kinds s t bytes uses after places allocated records registered named constants = record {
-  grows = grows_put bytes.more uses.more after t.bytes t.uses t.place bytes.is (ap recorded uses.is ∙ map-append core s.uses uses.more) places;
-  straight = λ j u h bare reached. stays uses j u h;
-  allocated = allocated;
-  records = records;
-  registered = registered;
-  named = stays named;
-  constants = stays constants;
-}
-  where
-    stays : {X : Type 0} {xs ys : List X} → Added xs ys → (i : ℕ) (x : X) → slice_get xs i ≡ Some x → slice_get ys i ≡ Some x
-    stays {xs = xs} a i x h = ap (λ ys. slice_get ys i) a.is ∙ slice_get-append xs a.more i x h
+lasts_added {L} kinds s t bytes uses after places allocated records registered named constants =
+    let grows = grows_put bytes.more uses.more after t.bytes t.uses t.place bytes.is (ap recorded uses.is ∙ map-append core s.uses uses.more) places in
+    grind (arith, slice_get-append s.uses uses.more, slice_get-append s.named named.more, slice_get-append s.constants constants.more)
 
 -- the labels are bound as they were, or one more is
 pub lasts_places : {L : Type 0} (kinds : Kinds L) (s t : Shape L) → Added s.bytes t.bytes → t.uses ≡ s.uses → ((label to : ℕ) → s.place label ≡ Some to → t.place label ≡ Some to) → s.allocated ≤ t.allocated → RecordsLast s t → t.registered ≡ s.registered → Added s.named t.named → Added s.constants t.constants → Lasts kinds s t
 lasts_places kinds s t bytes uses = lasts_added kinds s t bytes (record { more = []; is = uses ∙ sym (append_none s.uses) }) (λ k u h. absurd (cc))
 
 pub lasts_same : {L : Type 0} (kinds : Kinds L) (s : Shape L) → Lasts kinds s s
-lasts_same kinds s = lasts_places kinds s s (none_added _) refl (λ label to h. h) (omega arith) (records_same refl) refl (none_added _) (none_added _)
+lasts_same kinds s = lasts_places kinds s s (none_added _) refl (λ label to h. h) (omega arith) (grind arith) refl (none_added _) (none_added _)
 
 -- a label in reach stays so
 pub stays_reached : {L : Type 0} (kinds : Kinds L) (u : Use L) (old new : Option ℕ) → ((to : ℕ) → old ≡ Some to → new ≡ Some to) → is_reached kinds old u ≡ true → is_reached kinds new u ≡ true
 stays_reached kinds u old new stays h = grind (arith, nat_tests, stays)
 
 pub lasts_more : {L : Type 0} {kinds : Kinds L} {s t v : Shape L} → Lasts kinds s t → Lasts kinds t v → Lasts kinds s v
-lasts_more {L} {kinds} {s} {t} {v} x y = record {
-  grows = grows_more x.grows y.grows;
-  straight = λ j u h bare reached. y.straight j u (x.straight j u h bare reached) bare (stays_reached kinds u (s.place u.label.number) (t.place u.label.number) (x.grows.places u.label.number) reached);
-  allocated = let a = x.allocated in let b = y.allocated in omega arith;
-  records = records_more x.grows.longer x.records y.records;
-  registered = y.registered ∙ x.registered;
-  named = λ i k h. y.named i k (x.named i k h);
-  constants = λ j c h. y.constants j c (x.constants j c h);
-}
+lasts_more {L} {kinds} {s} {t} {v} x y =
+    let grows = grows_more x.grows y.grows in
+    grind (arith, stays_reached, x.grows.longer)
 
 pub lasts_bytes : {L : Type 0} (kinds : Kinds L) (piece : List ℕ) (s : Shape L) → Lasts kinds s (with_bytes piece s)
-lasts_bytes kinds piece s = lasts_places kinds s (with_bytes piece s) (some_added _ _) refl (λ label to h. h) (omega arith) (records_same refl) refl (none_added _) (none_added _)
+lasts_bytes kinds piece s = lasts_places kinds s (with_bytes piece s) (some_added _ _) refl (λ label to h. h) (omega arith) (grind arith) refl (none_added _) (none_added _)
 
 pub lasts_use : {L : Type 0} (kinds : Kinds L) (u : Use L) (s : Shape L) → length s.bytes ≤ u.offset → Lasts kinds s (with_use u s)
-lasts_use {L} kinds u s le = lasts_added kinds s (with_use u s) (none_added _) (some_added _ _) (only_one (λ (y : Use L). length s.bytes ≤ y.offset) u le) (λ label to h. h) (omega arith) (records_same refl) refl (none_added _) (none_added _)
+lasts_use {L} kinds u s le = lasts_added kinds s (with_use u s) (none_added _) (some_added _ _) (only_one (λ (y : Use L). length s.bytes ≤ y.offset) u le) (λ label to h. h) (omega arith) (grind arith) refl (none_added _) (none_added _)
 
 pub lasts_allocated : {L : Type 0} (kinds : Kinds L) (s : Shape L) → Lasts kinds s (with_allocated s)
-lasts_allocated kinds s = lasts_places kinds s (with_allocated s) (none_added _) refl (λ label to h. h) (omega arith) (records_same refl) refl (none_added _) (none_added _)
+lasts_allocated kinds s = lasts_places kinds s (with_allocated s) (none_added _) refl (λ label to h. h) (omega arith) (grind arith) refl (none_added _) (none_added _)
 
 pub lasts_record : {L : Type 0} (kinds : Kinds L) (event : Event) (s : Shape L) → Lasts kinds s (with_record event s)
-lasts_record kinds event s = lasts_places kinds s (with_record event s) (none_added _) refl (λ label to h. h) (omega arith) (one_recorded event s) refl (none_added _) (none_added _)
+lasts_record kinds event s =
+    let new : MachRecord = record { offset = length s.bytes; event = event } in
+    let records : RecordsLast s (with_record event s) = grind (arith, slice_get-append s.records (new ∷ []), pushed s.records new) in
+    lasts_places kinds s (with_record event s) (none_added _) refl (λ label to h. h) (omega arith) records refl (none_added _) (none_added _)
 
 pub lasts_named : {L : Type 0} (kinds : Kinds L) (k : VCodeConstant) (s : Shape L) → Lasts kinds s (with_named k s)
-lasts_named kinds k s = lasts_places kinds s (with_named k s) (none_added _) refl (λ label to h. h) (omega arith) (records_same refl) refl (some_added _ _) (none_added _)
+lasts_named kinds k s = lasts_places kinds s (with_named k s) (none_added _) refl (λ label to h. h) (omega arith) (grind arith) refl (some_added _ _) (none_added _)
 
 pub lasts_label : {L : Type 0} (kinds : Kinds L) (label : MachLabel) (s : Shape L) → s.place label.number ≡ None → Lasts kinds s (with_label label s)
-lasts_label kinds label s unbound = lasts_places kinds s (with_label label s) (none_added _) refl (λ other to h. placed_other s.place label.number (length s.bytes) other (λ e. none_some (s.place other) to (ap s.place e ∙ unbound) h) ∙ h) (omega arith) (records_same refl) refl (none_added _) (none_added _)
+lasts_label kinds label s unbound = lasts_places kinds s (with_label label s) (none_added _) refl (λ other to h. placed_other s.place label.number (length s.bytes) other (λ e. none_some (s.place other) to (ap s.place e ∙ unbound) h) ∙ h) (omega arith) (grind arith) refl (none_added _) (none_added _)
 
 -- ---- veneers
 
@@ -147,15 +112,13 @@ veneers_last kinds [] s = record { same = refl; grows = (lasts_same kinds s).gro
 veneers_last {L} kinds (i ∷ order) s =
     let a = one_last kinds i (slice_get s.uses i) s refl in
     let b = veneers_last kinds order (put_veneer kinds i s) in
-    let place = ap (λ (x : Shape L). x.place) a.same in
-    record {
-      same = b.same ∙ ap (λ (x : Shape L). record x { bytes = (put_all kinds (i ∷ order) s).bytes; uses = (put_all kinds (i ∷ order) s).uses }) a.same;
-      grows = grows_more a.grows (subst (λ (p : ℕ → Option ℕ). Grows (put_veneer kinds i s).bytes (put_veneer kinds i s).uses p (put_all kinds (i ∷ order) s).bytes (put_all kinds (i ∷ order) s).uses p) place b.grows);
-      keeps = λ j u none h. b.keeps j u none.1 (a.keeps j u (none.0, tt) h);
-    }
+    let t = put_all kinds (i ∷ order) s in
+    let same = b.same ∙ ap (λ (x : Shape L). record x { bytes = t.bytes; uses = t.uses }) a.same in
+    let grows = grows_more a.grows (rw (ap (λ (x : Shape L). x.place) a.same) at b.grows) in
+    grind (arith, a.keeps, b.keeps)
 
 -- a shape lasts, where no use in reach of its label is one of theirs
 pub lasts_veneers : {L : Type 0} (kinds : Kinds L) (order : List ℕ) (s : Shape L) → ((j : ℕ) (u : Use L) → slice_get s.uses j ≡ Some u → is_reached kinds (s.place u.label.number) u ≡ true → IsNone j order) → Lasts kinds s (put_all kinds order s)
 lasts_veneers {L} kinds order s none =
     let v = veneers_last kinds order s in
-    rw v.same (record { grows = v.grows; straight = λ j u h bare reached. v.keeps j u (none j u h reached) h; allocated = omega arith; records = records_same refl; registered = refl; named = λ i k h. h; constants = λ j c h. h })
+    rw v.same (grind (arith, none, v.keeps))

@@ -2,8 +2,7 @@
 pub use Rattle.mach_buffer.proofs.Slack.{due_total, total, due_le_length, slack_less, slack_none, slack_same, slack_use, slack_from_reach, reach_from_slack, reaches_from_slack, veneers_reach, slack_not_needed, deadlines_append, due_fewer, bound_waits, none_waits, none_from}
 pub use Rattle.mach_buffer.proofs.Lists.{append_none, below, both_lists, comes_from, locate, slice_get-append, slice_get-append_last, append_each, take_front}
 pub use Rattle.mach_buffer.proofs.Links.{window_stays, recorded_get, OwnWindows, windows_block, windows_bytes, windows_none}
-pub use Rattle.mach_buffer.proofs.VeneersPut.{Was, recorded_at}
-pub use Rattle.mach_buffer.proofs.VeneersAndConstants.{length_padded, aligned_near}
+pub use Rattle.mach_buffer.proofs.VeneersAndConstants.{Was, recorded_at, length_padded, aligned_near}
 pub use Rattle.mach_buffer.proofs.IslandVeneers.{own_idle, lasts_island, IslandRest, island_rest, island_reserve}
 pub use Rattle.mach_buffer.proofs.LastVeneers.{last_near}
 pub use Rattle.mach_buffer.proofs.ConstantOrder.{placed_same, placed_other}

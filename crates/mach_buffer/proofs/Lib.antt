@@ -1,11 +1,9 @@
 pub mod Words
 pub mod Slack
 pub mod Lists
-pub mod Numbers
 pub mod QueueContents
 pub mod Windows
 pub mod Links
-pub mod VeneersPut
 pub mod ConstantOrder
 pub mod Sound
 pub mod OrderOfVeneers
@@ -14,6 +12,5 @@ pub mod IslandVeneers
 pub mod LastVeneers
 pub mod Lasting
 pub mod ConstantsPut
-pub mod ConstantCalls
 pub mod Pieces
 pub mod Laws

@@ -1,7 +1,7 @@
 -- Veneers that stand, and the windows of uses, as code and uses are added.
-use Rattle.std.proofs.Common.{◌≡◌, ◌≢◌, ℕ, ◌+◌, ◌-◌, ◌%◌, ◌≤◌, ◌⊎◌, inl, inr, ⊎_elim, true, false, List, [], ◌∷◌, ◌++◌, length, take, drop, set, Option, Some, None, refl, ap, sym, ◌∙◌, subst, arith}
-use Rattle.mach_buffer.proofs.Words.{true≢false, same_Some, get_or_from_slice_get, slice_get-map, drop_at, drop-drop, drop-take, take-take, length-append, length-drop, take_all, set-append_left, map-set, set-get_or, slice_get, option_map, Kinds, IsVeneer, IsFresh, Use, veneer_use, core, recorded, window, IsApart, AreWindows, deadline, HasVeneer, IsLinked}
-use Rattle.mach_buffer.proofs.Lists.{After, append_each, below, both_lists, changed, locate, none_some, one_there, only_one, set_each, slice_get-append, slice_get-append_last, slice_get-set_other, take_front}
+use Rattle.std.proofs.Common.{◌≡◌, ◌≢◌, ℕ, ◌+◌, ◌-◌, ◌%◌, ◌≤◌, ◌⊎◌, inl, inr, true, false, List, [], ◌∷◌, ◌++◌, length, take, drop, set, Option, Some, None, refl, ap, sym, ◌∙◌, subst, arith}
+use Rattle.mach_buffer.proofs.Words.{true≢false, same_Some, slice_get-map, drop_at, drop-drop, drop-take, take-take, length-append, length-drop, take_all, set-append_left, map-set, set-get_or, slice_get, Kinds, IsVeneer, IsFresh, Use, veneer_use, core, recorded, window, IsApart, AreWindows, deadline, HasVeneer, IsLinked, common_steps, gets}
+use Rattle.mach_buffer.proofs.Lists.{append_each, below, both_lists, changed, locate, none_some, one_there, only_one, set_each, slice_get-append, slice_get-append_last, slice_get-set_other, take_front, mapped}
 use Rattle.mach_buffer.proofs.Windows.{fresh_in_prefix}
 
 -- the veneer of each kind that has one
@@ -15,22 +15,13 @@ window_stays bytes new p n le e =
 
 -- the window at the end of what was there
 pub window_last : (bytes code : List ℕ) → window (bytes ++ code) (length bytes) (length code) ≡ code
-window_last bytes code = ap (take (length code)) (drop_at bytes code (length bytes) refl) ∙ take_all (length code) code (omega arith)
+window_last bytes code = grind (arith, common_steps)
 
 module _ {L : Type 0} {kinds : Kinds L} {bytes : List ℕ} {uses : List (Use L)} where
   -- a veneer stays where its own use does, whatever is known of the veneer's place
   has_stays : {u : Use L} {at : ℕ} (o : Option ℕ) (new_bytes : List ℕ) (new_uses : List (Use L)) → take (length bytes) new_bytes ≡ bytes → length bytes ≤ length new_bytes → (h : HasVeneer kinds bytes uses u at) → slice_get new_uses h.index ≡ Some (veneer_use (kinds.veneer u.kind) at u.label) →
       HasVeneer kinds new_bytes new_uses (record u { veneer = o }) at
-  has_stays o new_bytes new_uses before longer h own = record {
-    inside = let i = h.inside in omega arith;
-    code = window_stays bytes new_bytes _ 8 h.inside before ∙ h.code;
-    index = h.index;
-    own = own;
-    near = h.near;
-    after = h.after;
-    supported = h.supported;
-    even = h.even;
-  }
+  has_stays o new_bytes new_uses before longer h own = record { inside = (let i = h.inside in omega arith); code = window_stays bytes new_bytes _ 8 h.inside before ∙ h.code; index = h.index; own = own; near = h.near; after = h.after; supported = h.supported; even = h.even }
 
   -- bytes are added
   pub linked_bytes : IsLinked kinds bytes uses → (more : List ℕ) → IsLinked kinds (bytes ++ more) uses
@@ -66,10 +57,10 @@ module _ {L : Type 0} {kinds : Kinds L} {bytes : List ℕ} {uses : List (Use L)}
 -- ---- uses as they were recorded
 
 pub recorded_set : {L : Type 0} (uses : List (Use L)) (i : ℕ) (u v : Use L) → slice_get uses i ≡ Some u → core v ≡ core u → recorded (set uses i v) ≡ recorded uses
-recorded_set uses i u v h e = map-set core uses i v ∙ ap (set (recorded uses) i) (e ∙ sym (get_or_from_slice_get (recorded uses) i (core u) (core u) (slice_get-map core uses i ∙ ap (option_map core) h))) ∙ set-get_or (recorded uses) i (core u)
+recorded_set uses i u v h e = map-set core uses i v ∙ grind (arith, common_steps, gets, slice_get-map core uses i, set-get_or (recorded uses) i (core u))
 
 pub recorded_get : {L : Type 0} (uses : List (Use L)) (i : ℕ) (u : Use L) → slice_get uses i ≡ Some u → slice_get (recorded uses) i ≡ Some (core u)
-recorded_get uses i u h = slice_get-map core uses i ∙ ap (option_map core) h
+recorded_get = mapped core
 
 -- ---- the windows of uses, as a buffer grows
 
@@ -85,7 +76,7 @@ windows_bytes {L} {kinds} {bytes} w more =
     }
 
 pub windows_none : {L : Type 0} {kinds : Kinds L} → AreWindows kinds [] []
-windows_none {L} {kinds} = record { even = λ j u h. absurd (cc); inside = λ j u h. absurd (cc); fresh = λ j u h. absurd (cc); apart = λ j k u v ne hj hk. absurd (cc); clear = λ j k u v at hj e hk. absurd (cc) }
+windows_none {L} {kinds} = grind arith
 
 window_block : (bytes block : List ℕ) (place size : ℕ) → length bytes ≤ place → window (bytes ++ block) place size ≡ window block (place - length bytes) size
 window_block bytes block place size le =
@@ -109,33 +100,23 @@ windows_block {L} {kinds} {bytes} {uses} w l block own o = record {
   inside = both_lists (λ x. x.offset + length (kinds.fields x.kind) ≤ length (bytes ++ block)) uses own (λ k x q. let i = w.inside k x q in omega (arith, length-append bytes block)) (λ k x q. let i = o.ends k x q in omega (arith, length-append bytes block));
   fresh = both_lists (λ x. IsFresh (kinds.fields x.kind) (window (bytes ++ block) x.offset (length (kinds.fields x.kind)))) uses own (windows_bytes w block).fresh
       (λ k x q. subst (IsFresh (kinds.fields x.kind)) (sym (window_block bytes block x.offset (length (kinds.fields x.kind)) (o.begins k x q))) (o.fresh k x q));
-  apart = λ j k u v ne hj hk. apart j k u v ne (locate uses own j u hj) (locate uses own k v hk);
-  clear = λ j k u v at hj e hk. clear j u v at (locate uses own j u hj) e (locate uses own k v hk);
+  apart = λ j k u v ne hj hk. grind (arith, locate uses own j u hj, locate uses own k v hk, w.apart j k u v, o.apart, w.inside j u, w.inside k v, o.begins);
+  clear = λ j k u v at hj e hk. grind (arith, locate uses own j u hj, locate uses own k v hk, w.clear j k u v at, l.each j u at, o.begins, o.bare);
 }
-  where
-    apart : (j k : ℕ) (u v : Use L) → j ≢ k → (slice_get uses j ≡ Some u) ⊎ After uses own j u → (slice_get uses k ≡ Some v) ⊎ After uses own k v → IsApart u.offset (length (kinds.fields u.kind)) v.offset (length (kinds.fields v.kind))
-    apart j k u v ne (inl a) (inl b) = w.apart j k u v ne a b
-    apart j k u v ne (inl a) (inr b) = let x = w.inside j u a in let y = o.begins b.index v b.there in inl (omega arith)
-    apart j k u v ne (inr a) (inl b) = let x = o.begins a.index u a.there in let y = w.inside k v b in inr (omega arith)
-    apart j k u v ne (inr a) (inr b) = o.apart a.index b.index u v (λ e. let x = a.is in let y = b.is in ne (omega arith)) a.there b.there
-
-    clear : (j : ℕ) (u v : Use L) (at : ℕ) {k : ℕ} → (slice_get uses j ≡ Some u) ⊎ After uses own j u → u.veneer ≡ Some at → (slice_get uses k ≡ Some v) ⊎ After uses own k v → (v ≡ veneer_use (kinds.veneer u.kind) at u.label) ⊎ IsApart v.offset (length (kinds.fields v.kind)) at 8
-    clear j u v at {k} (inl a) e (inl b) = w.clear j k u v at a e b
-    clear j u v at {k} (inl a) e (inr b) = let x = (l.each j u at a e).inside in let y = o.begins b.index v b.there in inr (inr (omega arith))
-    clear j u v at {k} (inr a) e b = absurd (none_some u.veneer at (o.bare a.index u a.there) e)
 
 -- with one use
 pub windows_use : {L : Type 0} {kinds : Kinds L} {bytes : List ℕ} {uses : List (Use L)} → AreWindows kinds bytes uses → IsLinked kinds bytes uses → (block : List ℕ) (u : Use L) (from : ℕ) → u.veneer ≡ None → u.offset % 2 ≡ 0 → u.offset ≡ length bytes + from → from + length (kinds.fields u.kind) ≤ length block →
     IsFresh (kinds.fields u.kind) (window block from (length (kinds.fields u.kind))) → AreWindows kinds (bytes ++ block) (uses ++ u ∷ [])
 windows_use {L} {kinds} {bytes} w l block u from bare even at ends fresh =
     let start : u.offset - length bytes ≡ from = omega arith in
+    let there : IsFresh (kinds.fields u.kind) (window block (u.offset - length bytes) (length (kinds.fields u.kind))) = rw start fresh in
     windows_block w l block (u ∷ []) (record {
       bare = only_one (λ x. x.veneer ≡ None) u bare;
       even = only_one (λ x. x.offset % 2 ≡ 0) u even;
-      begins = only_one (λ x. length bytes ≤ x.offset) u (omega arith);
-      ends = only_one (λ x. x.offset + length (kinds.fields x.kind) ≤ length bytes + length block) u (omega arith);
-      fresh = only_one (λ x. IsFresh (kinds.fields x.kind) (window block (x.offset - length bytes) (length (kinds.fields x.kind)))) u (rw start fresh);
-      apart = λ j k x y ne hj hk. absurd (ne ((one_there u j x hj).0 ∙ sym (one_there u k y hk).0));
+      begins = λ k x h. grind (arith, one_there u k x h);
+      ends = λ k x h. grind (arith, one_there u k x h);
+      fresh = only_one (λ x. IsFresh (kinds.fields x.kind) (window block (x.offset - length bytes) (length (kinds.fields x.kind)))) u there;
+      apart = λ j k x y ne hj hk. grind (arith, one_there u j x hj, one_there u k y hk);
     })
 
 -- ---- a veneer
@@ -145,24 +126,15 @@ windows_set : {L : Type 0} {kinds : Kinds L} {bytes : List ℕ} {uses : List (Us
     ((k : ℕ) (y : Use L) → slice_get uses k ≡ Some y → (y ≡ veneer_use (kinds.veneer u.kind) at u.label) ⊎ IsApart y.offset (length (kinds.fields y.kind)) at 8) → AreWindows kinds bytes (set uses i (record u { veneer = Some at }))
 windows_set {L} {kinds} {bytes} {uses} law l i u there supported at w fits =
     let v : Use L = record u { veneer = Some at } in
-    let size : Use L → ℕ = λ x. length (kinds.fields x.kind) in
-    let was : (k : ℕ) (x : Use L) → slice_get (set uses i v) k ≡ Some x → (z : Use L) × (slice_get uses k ≡ Some z) × (core z ≡ core x) = λ k x h. ⊎_elim (λ a. (x, a.1, refl)) (λ a. (u, ap (slice_get uses) a.0 ∙ there, ap core a.1)) (changed uses i v k x h) in
-    -- the use is none in a veneer, and its window is where it was
-    let Clear : Use L → ℕ → Use L → Type 0 = λ x to y. (y ≡ veneer_use (kinds.veneer x.kind) to x.label) ⊎ IsApart y.offset (size y) to 8 in
-    let clear : (x : Use L) (to : ℕ) → kinds.has_veneer (kinds.veneer x.kind).kind ≡ false → ((k : ℕ) (y : Use L) → slice_get uses k ≡ Some y → Clear x to y) → (k : ℕ) (y : Use L) → slice_get (set uses i v) k ≡ Some y → Clear x to y = λ x to final was. set_each (Clear x to) uses i v
-    (⊎_elim (λ c. absurd (true≢false (sym supported ∙ ap (λ (z : Use L). kinds.has_veneer z.kind) c ∙ final))) (λ c. inr c) (was i u there)) was in
+    let was = changed uses i v in
+    -- a use in a veneer supports none
+    let final : (j : ℕ) (x : Use L) (to : ℕ) → slice_get uses j ≡ Some x → x.veneer ≡ Some to → kinds.has_veneer (kinds.veneer x.kind).kind ≡ false = λ j x to h e. (law x.kind (l.each j x to h e).supported).final in
     record {
       even = set_each (λ x. x.offset % 2 ≡ 0) uses i v (w.even i u there) w.even;
-      inside = set_each (λ x. x.offset + size x ≤ length bytes) uses i v (w.inside i u there) w.inside;
-      fresh = set_each (λ x. IsFresh (kinds.fields x.kind) (window bytes x.offset (size x))) uses i v (w.fresh i u there) w.fresh;
-      apart = λ j k x y ne hj hk.
-          let a = was j x hj in
-          let b = was k y hk in
-          subst (λ (z : Use L). IsApart z.offset (size z) y.offset (size y)) a.2 (subst (λ (z : Use L). IsApart a.0.offset (size a.0) z.offset (size z)) b.2 (w.apart j k a.0 b.0 ne a.1 b.1));
-      clear = λ j k x y to hj e hk. ⊎_elim
-          (λ a. let h = l.each j x to a.1 e in clear x to (law x.kind h.supported).final (λ m z. w.clear j m x z to a.1 e) k y hk)
-          (λ a. subst (λ (z : Use L). Clear z to y) a.1 (subst (λ (m : ℕ). Clear u m y) (same_Some _ _ (ap (λ (z : Use L). z.veneer) a.1 ∙ e)) (clear u at (law u.kind supported).final fits k y hk)))
-          (changed uses i v j x hj);
+      inside = set_each (λ x. x.offset + length (kinds.fields x.kind) ≤ length bytes) uses i v (w.inside i u there) w.inside;
+      fresh = set_each (λ x. IsFresh (kinds.fields x.kind) (window bytes x.offset (length (kinds.fields x.kind)))) uses i v (w.fresh i u there) w.fresh;
+      apart = λ j k x y ne hj hk. grind (arith, was j x hj, was k y hk, w.apart j k x y ne, w.apart j k u y ne, w.apart j k x u ne);
+      clear = λ j k x y to hj e hk. grind (arith, was j x hj, was k y hk, w.clear j k x y to, w.clear j k x u to, fits k y, fits k u, final j x to, (law u.kind supported).final);
     }
 
 -- a use gets its veneer: what is linked stays so, and so do the windows

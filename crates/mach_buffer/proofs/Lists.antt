@@ -1,8 +1,8 @@
 -- Elements of lists by their places.
 use Rattle.std.proofs.Common.{◌≡◌, ◌≢◌, ℕ, zero, suc, ◌+◌, ◌<◌, ◌⊎◌, inl, inr, ⊎_elim, List, [], ◌∷◌, ◌++◌, length, drop, map, set, Option, Some, None, refl, ap, sym, ◌∙◌, subst, arith}
-use Rattle.mach_buffer.proofs.Words.{drop_more, drop-map, cases_eq, common_steps, same_Some, gets, slice_get, slice_index_or}
+use Rattle.mach_buffer.proofs.Words.{drop-map, cases_eq, common_steps, same_Some, gets, slice_get, slice_index_or, slice_get-map, option_map}
 pub use Rattle.std.proofs.lemmas.Option.{slice_get_within as below}
-pub use Rattle.std.proofs.lemmas.List.{append-nil as append_none, length-set as length_set}
+pub use Rattle.std.proofs.lemmas.List.{append-nil as append_none}
 pub use Rattle.std.proofs.Math.Seq.{take-append_seam as take_front}
 
 pub slice_get-append : {X : Type 0} (xs ys : List X) (i : ℕ) (x : X) → slice_get xs i ≡ Some x → slice_get (xs ++ ys) i ≡ Some x
@@ -36,6 +36,9 @@ comes_from f [] j y h = absurd (cc)
 comes_from f (x ∷ xs) zero y h = record { from = x; there = refl; is = same_Some _ _ h }
 comes_from f (x ∷ xs) (suc j) y h = let c = comes_from f xs j y h in record { from = c.from; there = c.there; is = c.is }
 
+pub mapped : {X Y : Type 0} (f : X → Y) (xs : List X) (j : ℕ) (x : X) → slice_get xs j ≡ Some x → slice_get (map f xs) j ≡ Some (f x)
+mapped f xs j x h = slice_get-map f xs j ∙ ap (option_map f) h
+
 pub map_each : {X Y : Type 0} (P : Y → Type 0) (f : X → Y) (xs : List X) → ((j : ℕ) (x : X) → slice_get xs j ≡ Some x → P (f x)) → (j : ℕ) (y : Y) → slice_get (map f xs) j ≡ Some y → P y
 map_each P f xs each j y h = let c = comes_from f xs j y h in subst P c.is (each j c.from c.there)
 
@@ -55,30 +58,30 @@ pub both_lists : {X : Type 0} (P : X → Type 0) (xs ys : List X) → ((j : ℕ)
 both_lists P xs ys hx hy j x h = ⊎_elim (λ a. hx j x a) (λ a. hy a.index x a.there) (locate xs ys j x h)
 
 pub one_there : {X : Type 0} (y : X) (k : ℕ) (x : X) → slice_get (y ∷ []) k ≡ Some x → (k ≡ 0) × (y ≡ x)
-one_there y zero x h = (refl, same_Some _ _ h)
-one_there y (suc k) x h = absurd (cc)
+one_there y k x h = grind arith
 
 pub only_one : {X : Type 0} (P : X → Type 0) (y : X) → P y → (k : ℕ) (x : X) → slice_get (y ∷ []) k ≡ Some x → P x
 only_one P y py k x h = subst P (one_there y k x h).1 py
 
--- and one that is added
+-- an element of a list with one added
+pub pushed : {X : Type 0} (xs : List X) (y : X) (k : ℕ) (x : X) → slice_get (xs ++ y ∷ []) k ≡ Some x → (slice_get xs k ≡ Some x) ⊎ ((k ≡ length xs) × (y ≡ x))
+pushed xs y k x h = grind (arith, locate xs (y ∷ []) k x h, one_there y)
+
 pub append_each : {X : Type 0} (P : X → Type 0) (xs : List X) (y : X) → P y → ((j : ℕ) (x : X) → slice_get xs j ≡ Some x → P x) → (j : ℕ) (x : X) → slice_get (xs ++ y ∷ []) j ≡ Some x → P x
-append_each P xs y py h = both_lists P xs (y ∷ []) h (only_one P y py)
+append_each P xs y py h j x k = ⊎_elim (λ a. h j x a) (λ a. subst P a.1 py) (pushed xs y j x k)
+
+-- one below the length is found
+pub found_at : {X : Type 0} (xs : List X) (n : ℕ) → n < length xs → (x : X) × (slice_get xs n ≡ Some x)
+found_at [] n lt = absurd (omega arith)
+found_at (x ∷ xs) zero lt = (x, refl)
+found_at (x ∷ xs) (suc n) lt = found_at xs n (omega arith)
 
 pub none_some : {X : Type 0} (o : Option X) (x : X) → o ≡ None → o ≡ Some x → ⊥
 none_some o x p q = cc
 
 pub none_of : {X : Type 0} (o : Option X) → ((x : X) → o ≡ Some x → ⊥) → o ≡ None
-none_of None never = refl
-none_of (Some x) never = absurd (never x refl)
-
--- the first element of what is left, and the rest
-pub dropped : {X : Type 0} (xs : List X) (n : ℕ) (x : X) (ys : List X) → drop n xs ≡ x ∷ ys → (slice_get xs n ≡ Some x) × (drop (suc n) xs ≡ ys)
-dropped [] zero x ys e = absurd (cc)
-dropped [] (suc n) x ys e = absurd (cc)
-dropped (y ∷ xs) zero x ys e = (cc, cc)
-dropped (y ∷ xs) (suc n) x ys e = dropped xs n x ys e
+none_of o never = grind (arith, never)
 
 -- what is left of a list from a place on
 pub drop_mapped : {X : Type 0} (f : X → ℕ) (xs : List X) (i : ℕ) (d : X) → i < length xs → drop i (map f xs) ≡ f (slice_index_or xs i d) ∷ drop (i + 1) (map f xs)
-drop_mapped f xs i d lt = drop-map f i xs ∙ ap (map f) (drop_more xs i d lt) ∙ ap (λ ns. f (slice_index_or xs i d) ∷ ns) (sym (drop-map f (i + 1) xs))
+drop_mapped f xs i d lt = grind (arith, common_steps, drop-map)

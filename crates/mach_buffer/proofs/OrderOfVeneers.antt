@@ -1,31 +1,23 @@
 -- What the order of veneers tells of uses, that each reaches its veneer, and how sorted keys give the order.
-use Rattle.std.proofs.Common.{◌≡◌, ◌≢◌, ℕ, suc, ◌+◌, ◌<◌, ◌≤◌, Bool, true, cond, List, [], ◌∷◌, length, map, Option, Some, refl, ap, sym, ◌∙◌, arith, false, not, ◌&&◌, ◌++◌, None, subst, Ordering}
-use Rattle.mach_buffer.proofs.Words.{nat_tests, same_Some, get_or_from_slice_get, length-map, map-append, is_count_by, IsPermutation-map, length_permutation, sum_by-IsPermutation, ranks_by, sorted_far, IsPermutation-trans, All-permutation, and_parts, nat_cmp_total, on_total, then_total, All-map, slice_get, nat_le, count_by, IsPermutation, slice_index_or, filter, IsSorted, Kinds, Use, deadline, is_reached, is_pending, deadlines, due_by, StillReaches, is_other, names, numbers_of, IsSooner, by_deadline, by_place, by_number, IsOrder, deadline_in, deadline_at, test_at, keys_where, is_near, is_queued, is_other_queued, key_number, Keeps, AreKept, IsNone, CanPut, IsStrictWeakOrder, nat_cmp, ordering_then, is_lt, MachLabel, PendingKey, Pending}
-use Rattle.mach_buffer.proofs.Numbers.{IsNumber, number_is, numbers_differ, number_there, none_by, deadlines_from, numbers_parts}
+use Rattle.std.proofs.Common.{◌≡◌, ◌≢◌, ℕ, suc, ◌+◌, ◌<◌, ◌≤◌, Bool, true, cond, List, [], ◌∷◌, length, map, Option, Some, refl, ap, sym, ◌∙◌, arith, false, ◌++◌, None, subst, Ordering}
+use Rattle.mach_buffer.proofs.Words.{nat_tests, get_or_from_slice_get, length-map, map-append, is_count_by, IsPermutation-map, length_permutation, sum_by-IsPermutation, ranks_by, sorted_far, IsPermutation-trans, All-permutation, nat_cmp_total, on_total, then_total, All-map, slice_get, nat_le, IsPermutation, slice_index_or, filter, IsSorted, Kinds, Use, is_reached, is_pending, deadlines, due_by, StillReaches, is_other, numbers_of, by_deadline, by_place, by_number, IsOrder, deadline_in, deadline_at, test_at, keys_where, is_near, is_queued, is_other_queued, key_number, Keeps, AreKept, IsNone, CanPut, IsStrictWeakOrder, nat_cmp, ordering_then, is_lt, MachLabel, PendingKey, Pending}
 use Rattle.mach_buffer.proofs.Slack.{reaches_next, reaches_due}
-use Rattle.mach_buffer.proofs.QueueContents.{keeps_fewer}
+use Rattle.mach_buffer.proofs.QueueContents.{IsNumber, number_is, numbers_differ, number_there, none_by, deadlines_from, numbers_parts, keeps_fewer}
 use Rattle.mach_buffer.proofs.Lists.{below, comes_from}
 
 -- a use in reach of its label is none of those that get veneers
 pub not_pending : {L : Type 0} (kinds : Kinds L) (place : ℕ → Option ℕ) (u : Use L) → is_reached kinds (place u.label.number) u ≡ true → is_pending kinds place u ≡ true → ⊥
 not_pending kinds place u reached pending = absurd (grind (arith, nat_tests))
 
--- ---- deadlines in another order
-
-due_is_count : (end : ℕ) (ds : List ℕ) → due_by end ds ≡ count_by (λ d. nat_le d end) ds
-due_is_count end ds = is_count_by (due_by end) (λ d. nat_le d end) refl (λ d es. grind (arith, nat_tests)) ds
-
+-- deadlines in another order
 due_permuted : (end : ℕ) (ds es : List ℕ) → IsPermutation ds es → due_by end es ≡ due_by end ds
-due_permuted end ds es perm = due_is_count end es ∙ sum_by-IsPermutation (λ d. cond (nat_le d end) 1 0) ds es perm ∙ sym (due_is_count end ds)
+due_permuted end ds es perm =
+    let count = is_count_by (due_by end) (λ d. nat_le d end) refl (λ d es. grind (arith, nat_tests)) in
+    count es ∙ sum_by-IsPermutation (λ d. cond (nat_le d end) 1 0) ds es perm ∙ sym (count ds)
 
 none_sooner : (due : ℕ → ℕ) (d end : ℕ) (ns : List ℕ) → ((k j : ℕ) → slice_get ns k ≡ Some j → d ≤ due j) → 1 ≤ due_by end (map due ns) → d ≤ end
 none_sooner due d end [] all one = absurd (omega arith)
 none_sooner due d end (j ∷ ns) all one = grind (arith, nat_tests, all 0 j, none_sooner due d end ns (λ k x h. all (suc k) x h))
-
-sooner_first : {L : Type 0} {kinds : Kinds L} {i j : ℕ} {u v : Use L} → IsSooner kinds i u j v → deadline kinds u ≤ deadline kinds v
-sooner_first (by_deadline l) = omega arith
-sooner_first (by_place d l) = omega arith
-sooner_first (by_number d p l) = omega arith
 
 module _ {L : Type 0} (kinds : Kinds L) (test : Use L → Bool) (uses : List (Use L)) where
   can_list : (cur : ℕ) (order : List ℕ) → StillReaches cur (map (deadline_at kinds uses) order) → ((u : Use L) → test u ≡ true → kinds.has_veneer u.kind ≡ true) → ((k i : ℕ) → slice_get order k ≡ Some i → IsNumber test uses i) →
@@ -34,10 +26,9 @@ module _ {L : Type 0} (kinds : Kinds L) (test : Use L → Bool) (uses : List (Us
   can_list cur (i ∷ order) reach may each pairs =
       let n = each 0 i refl in
       let D : ℕ → ℕ = deadline_at kinds uses in
-      let due : D i ≡ deadline kinds n.user = ap (deadline_in kinds) n.there in
       let near = reaches_due cur (D i) (map D order) reach in
       let sooner : (end : ℕ) → 1 ≤ due_by end (map D order) → D i ≤ end = λ end. none_sooner D (D i) end order (λ k j h. (pairs 0 (suc k) i j (omega arith) refl h).1) in (
-        record { user = n.user; there = n.there; supported = may n.user n.holds; near = omega arith },
+        record { user = n.user; there = n.there; supported = may n.user n.holds; near = omega (arith, ap (deadline_in kinds) n.there) },
         none_by i order (λ k j h e. (pairs 0 (suc k) i j (omega arith) refl h).0 (sym e)),
         can_list (cur + 8) order (reaches_next cur (D i) (map D order) sooner reach) may (λ k j h. each (suc k) j h) (λ a b x y lt ha hb. pairs (suc a) (suc b) x y (omega arith) ha hb),
       )
@@ -47,7 +38,7 @@ module _ {L : Type 0} (kinds : Kinds L) (test : Use L → Bool) (uses : List (Us
 module _ {L : Type 0} {kinds : Kinds L} {test : Use L → Bool} {uses : List (Use L)} where
   -- a use for which the test fails is none of them, and one for which it holds is
   pub order_none : {order : List ℕ} → IsOrder kinds test uses order → (j : ℕ) (u : Use L) → slice_get uses j ≡ Some u → (test u ≡ true → ⊥) → IsNone j order
-  order_none {order} o j u there fails = none_by j order (λ k i h e. let n = number_is test uses order o.exactly k i h in fails (ap test (same_Some _ _ (sym there ∙ ap (slice_get uses) (sym e) ∙ n.there)) ∙ n.holds))
+  order_none {order} o j u there fails = none_by j order (λ k i h e. let n = number_is test uses order o.exactly k i h in fails (grind arith))
 
   pub order_has : {order : List ℕ} → IsOrder kinds test uses order → (j : ℕ) (u : Use L) → slice_get uses j ≡ Some u → test u ≡ true → IsNone j order → ⊥
   order_has {order} o = number_there test uses order o.exactly
@@ -59,14 +50,12 @@ module _ {L : Type 0} {kinds : Kinds L} {test : Use L → Bool} {uses : List (Us
   pub can_order : {order : List ℕ} (cur : ℕ) → IsOrder kinds test uses order → ((u : Use L) → test u ≡ true → kinds.has_veneer u.kind ≡ true) → StillReaches cur (deadlines test kinds uses) → CanPut kinds uses cur order
   can_order {order} cur o may reach =
       let D : ℕ → ℕ = deadline_at kinds uses in
-      let same : (end : ℕ) → due_by end (map D order) ≡ due_by end (deadlines test kinds uses) = λ end. due_permuted end (map D (numbers_of test uses)) (map D order) (IsPermutation-map D (numbers_of test uses) order o.exactly) ∙ sym (ap (due_by end) (deadlines_from kinds test [] uses)) in
-      let rising : (a b i j : ℕ) → a < b → slice_get order a ≡ Some i → slice_get order b ≡ Some j → D i ≤ D j = λ a b i j lt ha hb.
-      let x = number_is test uses order o.exactly a i ha in
-      let y = number_is test uses order o.exactly b j hb in
-      let first = sooner_first (o.sorted a b i j x.user y.user lt ha hb x.there y.there) in
-      omega (arith, first, ap (deadline_in kinds) x.there, ap (deadline_in kinds) y.there) in
-      can_list kinds test uses cur order (record { each = λ end one. let e = reach.each end (let s = same end in omega arith) in let s = same end in omega arith }) may (number_is test uses order o.exactly)
-      (λ a b i j lt ha hb. (numbers_differ test uses order o.exactly a b i j lt ha hb, rising a b i j lt ha hb))
+      let same : (end : ℕ) → due_by end (map D order) ≡ due_by end (deadlines test kinds uses) = λ end. due_permuted end _ (map D order) (IsPermutation-map D (numbers_of test uses) order o.exactly) ∙ sym (ap (due_by end) (deadlines_from kinds test [] uses)) in
+      let is = number_is test uses order o.exactly in
+      can_list kinds test uses cur order (record { each = λ end one. grind (arith, same end, reach.each end) }) may is (λ a b i j lt ha hb.
+      let x = is a i ha in
+      let y = is b j hb in
+      (numbers_differ test uses order o.exactly a b i j lt ha hb, grind (arith, o.sorted a b i j x.user y.user lt ha hb x.there y.there, ap (deadline_in kinds) x.there, ap (deadline_in kinds) y.there)))
 
 -- ---- keys of uses
 
@@ -99,14 +88,7 @@ in_order ts up a b s t lt ha hb =
     let there : is_lt (key_cmp (slice_index_or ts b s) (slice_index_or ts a s)) ≡ is_lt (key_cmp t s) = λ i. is_lt (key_cmp (get_or_from_slice_get ts b t s hb i) (get_or_from_slice_get ts a s s ha i)) in
     sym there ∙ sorted_far (λ c d. is_lt (key_cmp c d)) key_order ts up a b s (omega arith) (below ts b t hb)
 
--- of two keys in order the use of the first has its veneer sooner
-sooner : {L : Type 0} {kinds : Kinds L} {i j : ℕ} {u v : Use L} (s t : PendingKey) → s.deadline ≡ deadline kinds u → s.offset ≡ u.offset → s.index ≡ i → t.deadline ≡ deadline kinds v → t.offset ≡ v.offset → t.index ≡ j → i ≢ j → is_lt (key_cmp t s) ≡ false → IsSooner kinds i u j v
-sooner s t sd so si td to ti ne e = grind (arith, nat_tests, by_deadline, by_place, by_number)
-
 -- ---- the order of both queues
-
-and_swap : (a b c : Bool) → ((a && b) && c) ≡ ((a && c) && b)
-and_swap a b c = grind (arith, nat_tests)
 
 module _ {L : Type 0} {kinds : Kinds L} {place : ℕ → Option ℕ} {uses : List (Use L)} {p : Pending} where
   pub order_is : (after_island : Option MachLabel) (near_keys keys sorted : List PendingKey) → AreKept kinds place uses p → near_keys ≡ [] ++ keys_where kinds (is_other_queued kinds place true after_island) uses p.near.numbers.items →
@@ -115,25 +97,21 @@ module _ {L : Type 0} {kinds : Kinds L} {place : ℕ → Option ℕ} {uses : Lis
       let Q : Bool → Use L → Bool = λ near. is_other_queued kinds place near after_island in
       let K : ℕ → PendingKey = key_at kinds uses in
       let N = numbers_of (Q true) uses ++ numbers_of (Q false) uses in
-      let queue : (near : Bool) (ns : List ℕ) (slack : ℕ) → Keeps kinds (is_queued kinds place near) uses ns slack → keys_where kinds (Q near) uses ns ≡ map K (numbers_of (Q near) uses) = λ near ns slack q.
-      keys_are kinds (Q near) uses ns ∙ ap (map K) (keeps_fewer (Q near) (λ u h. (and_parts (is_queued kinds place near u) (not (names after_island u)) h).0) q).same in
+      let queue : (near : Bool) (ns : List ℕ) (slack : ℕ) → Keeps kinds (is_queued kinds place near) uses ns slack → keys_where kinds (Q near) uses ns ≡ map K (numbers_of (Q near) uses) =
+      λ near ns slack q. keys_are kinds (Q near) uses ns ∙ ap (map K) (keeps_fewer (Q near) (λ u h. grind (arith, nat_tests)) q).same in
       let whole : keys ≡ map K N = et ∙ (λ i. (en ∙ queue true _ _ k.near) i ++ queue false _ _ k.far i) ∙ sym (map-append K (numbers_of (Q true) uses) (numbers_of (Q false) uses)) in
-      let exactly : IsPermutation (numbers_of (is_other kinds place after_island) uses) (map key_number sorted) = IsPermutation-trans _ N (map key_number sorted)
-      (numbers_parts (is_other kinds place after_island) (Q true) (Q false) (is_near kinds) (λ u. and_swap (is_pending kinds place u) (is_near kinds u) (not (names after_island u))) (λ u. and_swap (is_pending kinds place u) (not (is_near kinds u)) (not (names after_island u))) 0 uses)
-      (subst (λ ns. IsPermutation ns (map key_number sorted)) (ap (map key_number) whole ∙ numbers_back kinds uses N) (IsPermutation-map key_number keys sorted perm)) in
+      let parts = numbers_parts (is_other kinds place after_island) (Q true) (Q false) (is_near kinds) (λ u. grind (arith, nat_tests)) (λ u. grind (arith, nat_tests)) 0 uses in
+      let exactly : IsPermutation (numbers_of (is_other kinds place after_island) uses) (map key_number sorted) =
+      IsPermutation-trans _ N (map key_number sorted) parts (rw (whole, numbers_back kinds uses N) at (IsPermutation-map key_number keys sorted perm)) in
       -- each key is that of the use of its number
       let IsKey : PendingKey → Type 0 = λ t. K t.index ≡ t in
       let each : (j : ℕ) (t : PendingKey) → slice_get sorted j ≡ Some t → K t.index ≡ t = λ j t h.
-      subst IsKey (get_or_from_slice_get sorted j t t h) (All-permutation IsKey (map K N) sorted (subst (λ ts. IsPermutation ts sorted) whole perm) (All-map IsKey K N (λ i d lt. refl)) j t (below sorted j t h)) in
-      let at : (a i : ℕ) (u : Use L) (t : PendingKey) → slice_get sorted a ≡ Some t → t.index ≡ i → slice_get uses i ≡ Some u → (t.deadline ≡ deadline kinds u) × (t.offset ≡ u.offset) = λ a i u t h e q.
-      let there = ap (slice_get uses) e ∙ q in
-      (sym (ap (λ (s : PendingKey). s.deadline) (each a t h)) ∙ ap (deadline_in kinds) there, sym (ap (λ (s : PendingKey). s.offset) (each a t h)) ∙ ap offset_in there) in
+      subst IsKey (get_or_from_slice_get sorted j t t h) (All-permutation IsKey (map K N) sorted (rw whole at perm) (All-map IsKey K N (λ i d lt. refl)) j t (below sorted j t h)) in
       record {
         exactly = exactly;
         sorted = λ a b i j u v lt ha hb hu hv.
             let s = comes_from key_number sorted a i ha in
             let t = comes_from key_number sorted b j hb in
-            let x = at a i u s.from s.there s.is hu in
-            let y = at b j v t.from t.there t.is hv in
-            sooner s.from t.from x.0 x.1 s.is y.0 y.1 t.is (numbers_differ (is_other kinds place after_island) uses (map key_number sorted) exactly a b i j lt ha hb) (in_order sorted up a b s.from t.from lt s.there t.there);
+            let differ = numbers_differ (is_other kinds place after_island) uses (map key_number sorted) exactly a b i j lt ha hb in
+            grind (arith, nat_tests, each a s.from s.there, each b t.from t.there, in_order sorted up a b s.from t.from lt s.there t.there, by_deadline, by_place, by_number);
       }

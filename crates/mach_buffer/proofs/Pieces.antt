@@ -1,15 +1,14 @@
 -- A piece of code, with one use or none, as it is put and in finished code.
-use Rattle.std.proofs.Common.{◌≡◌, ℕ, ◌+◌, ◌%◌, ◌≤◌, inl, inr, ⊎_elim, true, List, [], ◌∷◌, ◌++◌, length, Option, Some, None, refl, ap, sym, ◌∙◌, subst, arith}
-use Rattle.mach_buffer.proofs.Words.{false_from_ne_true, same_Some, length-append, take_all, slice_get, Kinds, Veneer, IsFresh, SameOutside, Patch, Use, Shape, with_bytes, with_use, core, recorded, HasVeneer, IsLinked, window, IsApart, AreWindows, AllEnd, KeepsOthers, patch_of, patches_of, is_reached, is_pending, IsVia, Arrives, Finishes, Grows, Lasts, IsPiece, UseFinished, AllStand, HasConstants, Inside, AreSound}
+use Rattle.std.proofs.Common.{◌≡◌, ℕ, ◌+◌, ◌%◌, ◌≤◌, inl, inr, ⊎_elim, List, [], ◌∷◌, ◌++◌, length, Option, Some, None, refl, ap, sym, ◌∙◌, subst, arith}
+use Rattle.mach_buffer.proofs.Words.{false_from_ne_true, same_Some, length-append, take_all, slice_get, Kinds, Veneer, IsFresh, Patch, Use, Shape, with_bytes, with_use, core, recorded, HasVeneer, IsLinked, window, IsApart, AreWindows, AllEnd, KeepsOthers, patch_of, patches_of, is_pending, IsVia, Arrives, Finishes, Grows, Lasts, IsPiece, UseFinished, AllStand, HasConstants, Inside, AreSound}
 use Rattle.mach_buffer.proofs.Lasting.{grows_more}
-use Rattle.mach_buffer.proofs.LastVeneers.{some_place, finish_keeps, patch_at}
+use Rattle.mach_buffer.proofs.LastVeneers.{some_place, finish_keeps}
 use Rattle.mach_buffer.proofs.Links.{window_stays, window_last, recorded_get, windows_bytes, windows_use}
-use Rattle.mach_buffer.proofs.Lists.{comes_from, map_each, none_some, slice_get-append, slice_get-append_last}
+use Rattle.mach_buffer.proofs.Lists.{comes_from, map_each, none_some, slice_get-append, slice_get-append_last, mapped}
 use Rattle.mach_buffer.proofs.OrderOfVeneers.{not_pending}
-use Rattle.mach_buffer.proofs.VeneersPut.{recorded_at}
+use Rattle.mach_buffer.proofs.VeneersAndConstants.{recorded_at}
 
--- ---- windows, as a piece is put
-
+-- windows, as a piece is put
 pub windows_with_bytes : {L : Type 0} {kinds : Kinds L} (s : Shape L) → AreWindows kinds s.bytes s.uses → (piece : List ℕ) → AreWindows kinds (with_bytes piece s).bytes (with_bytes piece s).uses
 windows_with_bytes s w piece = windows_bytes w piece
 
@@ -42,13 +41,7 @@ pub constants_kept : {L : Type 0} (kinds : Kinds L) (place : ℕ → Option ℕ)
 constants_kept kinds place put bytes same stand others j c h =
     let w = stand j c h in
     let kept : window bytes (length w.before.bytes) (length w.constant.bytes) ≡ w.constant.bytes = piece_kept kinds place w.before w.ends w.lasts.grows others in
-    record {
-      constant = w.constant;
-      there = w.there;
-      aligned = w.aligned;
-      stands = ap (λ n. window bytes n (length w.constant.bytes)) w.at ∙ kept;
-      inside = omega (arith, w.at, length-append w.before.bytes w.constant.bytes, w.lasts.grows.longer, same);
-    }
+    record { constant = w.constant; there = w.there; aligned = w.aligned; stands = ap (λ n. window bytes n (length w.constant.bytes)) w.at ∙ kept; inside = omega (arith, w.at, length-append w.before.bytes w.constant.bytes, w.lasts.grows.longer, same) }
 
 -- ---- a piece with one use
 
@@ -59,20 +52,6 @@ abbrev has_core : {L : Type 0} {kinds : Kinds L} {bytes : List ℕ} {uses : List
 has_core h = record { inside = h.inside; code = h.code; index = h.index; own = h.own; near = h.near; after = h.after; supported = h.supported; even = h.even }
 
 module _ {L : Type 0} {kinds : Kinds L} {s f : Shape L} {piece bytes : List ℕ} where
-  -- as a use arrives, once it is known whether it has a veneer
-  finished_as : {put : Shape L} (w : Use L) (to : ℕ) → put.place w.label.number ≡ Some to → to ≤ length bytes → to % 2 ≡ 0 → SameOutside (kinds.fields w.kind) piece (window bytes w.offset (length (kinds.fields w.kind))) → ((at : ℕ) → w.veneer ≡ Some at → HasVeneer kinds put.bytes put.uses w at) →
-      ((at : ℕ) → w.veneer ≡ Some at → slice_get f.uses (length s.uses) ≡ Some (core w) → is_reached kinds (f.place w.label.number) (core w) ≡ true → ⊥) → (o : Option ℕ) → w.veneer ≡ o → Arrives kinds bytes w to o → UseFinished kinds s f put bytes piece (core w)
-  finished_as {put = put} w to bound inside even kept has unveneered None e a = record { target = to; aimed = a; kept = kept; even = even; inside = inside; goes = inl bound; straight = λ h reached. bound }
-  finished_as {put = put} w to bound inside even kept has unveneered (Some at) e (via, here) = record {
-    target = via.at;
-    aimed = via.there;
-    kept = kept;
-    even = via.even;
-    inside = let i = via.inside in omega arith;
-    goes = inr (record { supported = (has at e).supported; to = to; bound = bound; via = via_core via; here = refl; stood = subst (HasVeneer kinds put.bytes put.uses (core w)) (sym here) (has_core (has at e)) });
-    straight = λ h reached. absurd (unveneered at e h reached);
-  }
-
   pub use_finished : {u : Use L} {p : Inside} → IsPiece kinds s piece u → Lasts kinds (with_bytes piece (with_use u s)) f → AreSound kinds f p → (fin : Finishes kinds f bytes) → UseFinished kinds s f fin.put bytes piece u
   use_finished {u} is lasts sound fin =
       let x = grows_more lasts.grows fin.grows in
@@ -84,10 +63,24 @@ module _ {L : Type 0} {kinds : Kinds L} {s f : Shape L} {piece bytes : List ℕ}
       let to = some_place (fin.put.place w.from.label.number) (fin.bound J w.from w.there) in
       let there = fin.places w.from.label.number to.0 to.1 in
       let as_put = (λ i. window fin.put.bytes (is.at i) (sym is.long i)) ∙ window_stays (s.bytes ++ piece) fin.put.bytes (length s.bytes) (length piece) (omega (arith, length-append s.bytes piece)) x.before ∙ window_last s.bytes piece in
-      let kept = subst (λ a. SameOutside (kinds.fields w.from.kind) a (window bytes w.from.offset (length (kinds.fields w.from.kind)))) (subst (λ (y : Use L). window fin.put.bytes y.offset (length (kinds.fields y.kind)) ≡ piece) (sym same) as_put)
-      (fin.kept J (patch_of fin.put.place w.from) (patch_at fin.put.place fin.put.uses J w.from w.there)) in
-      -- one in reach of its label has no veneer
-      let unveneered : (at : ℕ) → w.from.veneer ≡ Some at → slice_get f.uses J ≡ Some (core w.from) → is_reached kinds (f.place w.from.label.number) (core w.from) ≡ true → ⊥ = λ at e h reached.
-      let put = finish_keeps fin J (core w.from) h (false_from_ne_true (is_pending kinds f.place (core w.from)) (not_pending kinds f.place (core w.from) reached)) in
-      none_some w.from.veneer at (ap (λ (y : Use L). y.veneer) (sym (same_Some (core w.from) w.from (sym put ∙ w.there)))) e in
-      subst (UseFinished kinds s f fin.put bytes piece) same (finished_as w.from to.0 to.1 (omega (arith, fin.same_length, there.0)) there.1 kept (λ at e. fin.linked.each J w.from at w.there e) unveneered w.from.veneer refl (fin.arrive J w.from to.0 w.there to.1))
+      let stood : window fin.put.bytes w.from.offset (length (kinds.fields w.from.kind)) ≡ piece = subst (λ (y : Use L). window fin.put.bytes y.offset (length (kinds.fields y.kind)) ≡ piece) (sym same) as_put in
+      let kept = rw stood at (fin.kept J (patch_of fin.put.place w.from) (mapped (patch_of fin.put.place) fin.put.uses J w.from w.there)) in
+      let Finished : Option ℕ → Type 0 = λ o. w.from.veneer ≡ o → Arrives kinds bytes w.from to.0 o → UseFinished kinds s f fin.put bytes piece (core w.from) in
+      let finished : Finished w.from.veneer = elim w.from.veneer as Finished [
+        | None ↦ λ e a. record { target = to.0; aimed = a; kept = kept; even = there.1; inside = omega (arith, fin.same_length, there.0); goes = inl to.1; straight = λ h reached. to.1 }
+        | Some at ↦ λ e a.
+            let has = fin.linked.each J w.from at w.there e in
+            record {
+              target = a.0.at;
+              aimed = a.0.there;
+              kept = kept;
+              even = a.0.even;
+              inside = omega (arith, a.0.inside);
+              goes = inr (record { supported = has.supported; to = to.0; bound = to.1; via = via_core a.0; here = refl; stood = rw a.1 (has_core has) });
+              -- one in reach of its label has no veneer
+              straight = λ h reached.
+                  let put = finish_keeps fin J (core w.from) h (false_from_ne_true (is_pending kinds f.place (core w.from)) (not_pending kinds f.place (core w.from) reached)) in
+                  absurd (none_some w.from.veneer at (ap (λ (y : Use L). y.veneer) (sym (same_Some (core w.from) w.from (sym put ∙ w.there)))) e);
+            }
+      ] in
+      subst (UseFinished kinds s f fin.put bytes piece) same (finished refl (fin.arrive J w.from to.0 w.there to.1))

@@ -1,11 +1,104 @@
--- The queues of pending uses, as uses and labels come, and the search in them for a deadline that might be missed.
-use Rattle.std.proofs.Common.{◌≡◌, ℕ, ◌+◌, ◌*◌, ◌<◌, ◌≤◌, Bool, true, false, List, [], ◌∷◌, ◌++◌, length, map, Option, Some, None, ap, sym, ◌∙◌, subst, arith, ◌-◌, refl}
-use Rattle.mach_buffer.proofs.Words.{nat_tests, and_parts, and_from, and_left, true_from_ne_false, nil_from_length, length-append, map-append, length-map, filter-append, is_count_by, count_by-le-length, IsPermutation-refl, slice_get, filter, count_by, is_some, Kinds, Use, Pending, deadline, is_pending, deadlines, due_by, HasSlack, AllOf, is_needed_from, numbers_of, passes, test_at, use_where, is_due_at, deadline_in, deadline_at, is_near, on_side, is_queued, slack_after, Keeps, AreKept, due_in, shows_slack}
-use Rattle.mach_buffer.proofs.Lists.{below, append_each, append_none, slice_get-append_last}
-use Rattle.mach_buffer.proofs.Numbers.{deadlines_from, number_is, numbers_fewer, filter_fewer, numbers_more, filter_more, where_some, where_none}
-use Rattle.mach_buffer.proofs.Slack.{due_append, due_fewer, due_le_length, deadlines_append, slack_same, none_from, due_mono, each_from_slack, slack_less, slack_not_needed}
+-- Uses by their numbers, and the queues of pending uses, as uses and labels come, and the search in them for a deadline that might be missed.
+use Rattle.std.proofs.Common.{◌≡◌, ℕ, ◌+◌, ◌*◌, ◌<◌, ◌≤◌, Bool, true, false, List, [], ◌∷◌, ◌++◌, length, map, Option, Some, None, ap, sym, ◌∙◌, arith, ◌-◌, refl, ◌≢◌, zero, suc, not, ◌&&◌, cond, take, get_or, append_assoc, add-one}
+use Rattle.mach_buffer.proofs.Words.{nat_tests, and_left, true_from_ne_false, nil_from_length, length-append, map-append, length-map, filter-append, is_count_by, count_by-le-length, IsPermutation-refl, slice_get, filter, count_by, is_some, Kinds, Use, Pending, deadline, is_pending, deadlines, due_by, HasSlack, AllOf, is_needed_from, numbers_of, test_at, use_where, is_due_at, deadline_at, is_near, on_side, is_queued, slack_after, Keeps, AreKept, due_in, shows_slack, true≢false, get_or_from_slice_get, slice_get-get_or, length_push, length-take-le, get_or-take, get_or-le-sum_by, sum_by_more_le, IsPermutation-cons, IsPermutation-sym, IsPermutation-trans, IsPermutation-middle, sum_by-IsPermutation, nat_eq, IsPermutation, numbers_from, passes, IsNone}
+use Rattle.mach_buffer.proofs.Lists.{below, append_each, append_none, slice_get-append_last, slice_get-append, slice_get-append_at}
+use Rattle.mach_buffer.proofs.Slack.{due_append, due_fewer, due_le_length, deadlines_append, slack_same, none_from, each_due, slack_not_needed}
 
--- ---- slack
+-- the deadlines of uses are those at their numbers
+pub deadlines_from : {L : Type 0} (kinds : Kinds L) (test : Use L → Bool) (front uses : List (Use L)) → deadlines test kinds uses ≡ map (deadline_at kinds (front ++ uses)) (numbers_from (length front) test uses)
+deadlines_from kinds test front [] = refl
+deadlines_from kinds test front (u ∷ uses) =
+    let rest = rw (append_assoc, length_push, add-one) at (deadlines_from kinds test (front ++ u ∷ []) uses) in
+    grind (arith, nat_tests, slice_get-append_at front u uses, rest)
+
+-- a test that asks more
+pub numbers_fewer : {L : Type 0} (test new_test : Use L → Bool) → ((u : Use L) → new_test u ≡ true → test u ≡ true) → (front uses : List (Use L)) → filter (test_at new_test (front ++ uses)) (numbers_from (length front) test uses) ≡ numbers_from (length front) new_test uses
+numbers_fewer test new_test sub front [] = refl
+numbers_fewer test new_test sub front (u ∷ uses) =
+    let rest = rw (append_assoc, length_push, add-one) at (numbers_fewer test new_test sub (front ++ u ∷ []) uses) in
+    grind (arith, nat_tests, sub u, slice_get-append_at front u uses, rest)
+
+pub filter_fewer : {L : Type 0} (test new_test : Use L → Bool) → ((u : Use L) → new_test u ≡ true → test u ≡ true) → (uses : List (Use L)) (ns : List ℕ) → filter (test_at new_test uses) (filter (test_at test uses) ns) ≡ filter (test_at new_test uses) ns
+filter_fewer test new_test sub uses [] = refl
+filter_fewer test new_test sub uses (n ∷ ns) = grind (arith, nat_tests, sub, filter_fewer test new_test sub uses ns)
+
+-- a use more
+pub numbers_more : {L : Type 0} (n : ℕ) (test : Use L → Bool) (uses : List (Use L)) (u : Use L) → numbers_from n test (uses ++ u ∷ []) ≡ numbers_from n test uses ++ cond (test u) ((n + length uses) ∷ []) []
+numbers_more n test [] u = let same : n ≡ n + 0 = omega arith in ap (λ (m : ℕ). cond (test u) (m ∷ []) []) same
+numbers_more n test (w ∷ uses) u = grind (arith, nat_tests, numbers_more (suc n) test uses u)
+
+pub filter_more : {L : Type 0} (test : Use L → Bool) (uses : List (Use L)) (u : Use L) (ns : List ℕ) → ((k i : ℕ) → slice_get ns k ≡ Some i → i < length uses) → filter (test_at test (uses ++ u ∷ [])) ns ≡ filter (test_at test uses) ns
+filter_more test uses u [] low = refl
+filter_more test uses u (n ∷ ns) low = grind (arith, nat_tests, slice_get-append uses (u ∷ []) n (get_or uses n u) (slice_get-get_or uses n u (low 0 n refl)), slice_get-get_or uses n u, low 0 n, filter_more test uses u ns (λ k i h. low (suc k) i h))
+
+-- ---- two parts of a test
+
+parts_more : (N A B : List ℕ) (n : ℕ) (t s : Bool) → IsPermutation N (A ++ B) → IsPermutation (cond t (n ∷ N) N) (cond (t && s) (n ∷ A) A ++ cond (t && not s) (n ∷ B) B)
+parts_more N A B n true true rest = IsPermutation-cons n N (A ++ B) rest
+parts_more N A B n true false rest = IsPermutation-trans (n ∷ N) (n ∷ (A ++ B)) (A ++ n ∷ B) (IsPermutation-cons n N (A ++ B) rest) (IsPermutation-sym (A ++ n ∷ B) (n ∷ (A ++ B)) (IsPermutation-middle A n B))
+parts_more N A B n false s rest = rest
+
+-- those of a test and those of its two parts
+pub numbers_parts : {L : Type 0} (test a b : Use L → Bool) (c : Use L → Bool) → ((u : Use L) → a u ≡ (test u && c u)) → ((u : Use L) → b u ≡ (test u && not (c u))) → (n : ℕ) (uses : List (Use L)) → IsPermutation (numbers_from n test uses) (numbers_from n a uses ++ numbers_from n b uses)
+numbers_parts test a b c ha hb n [] = IsPermutation-refl []
+numbers_parts test a b c ha hb n (u ∷ uses) = rw (ha u, hb u) (parts_more _ _ _ n (test u) (c u) (numbers_parts test a b c ha hb (suc n) uses))
+
+-- ---- the same numbers in another order
+
+-- how often a number is there
+abbrev times : ℕ → List ℕ → ℕ
+times i [] = 0
+times i (j ∷ ns) = cond (nat_eq j i) (1 + times i ns) (times i ns)
+
+times_none : {L : Type 0} (n m : ℕ) (test : Use L → Bool) (uses : List (Use L)) → m < n → times m (numbers_from n test uses) ≡ 0
+times_none n m test [] lt = refl
+times_none n m test (u ∷ uses) lt = grind (arith, nat_tests, times_none (suc n) m test uses)
+
+-- once, where the test holds of its use
+times_from : {L : Type 0} (n i m : ℕ) (test : Use L → Bool) (uses : List (Use L)) → n + i ≡ m → times m (numbers_from n test uses) ≡ cond (test_at test uses i) 1 0
+times_from n i m test [] e = refl
+times_from n zero m test (u ∷ uses) e = grind (arith, nat_tests, times_none (suc n) m test uses)
+times_from n (suc i) m test (u ∷ uses) e = grind (arith, nat_tests, times_from (suc n) i m test uses)
+
+-- what a number is: that of a use for which the test holds
+pub record IsNumber {L : Type 0} (test : Use L → Bool) (uses : List (Use L)) (i : ℕ) : Type 0 where
+  pub user : Use L
+  pub there : slice_get uses i ≡ Some user
+  pub holds : test user ≡ true
+
+passed : {L : Type 0} (test : Use L → Bool) (uses : List (Use L)) (i : ℕ) (o : Option (Use L)) → slice_get uses i ≡ o → passes test o ≡ true → IsNumber test uses i
+passed test uses i None e h = absurd (true≢false (sym h))
+passed test uses i (Some u) e h = record { user = u; there = e; holds = h }
+
+pub none_by : (i : ℕ) (ns : List ℕ) → ((k j : ℕ) → slice_get ns k ≡ Some j → j ≢ i) → IsNone i ns
+none_by i [] f = tt
+none_by i (j ∷ ns) f = (f 0 j refl, none_by i ns (λ k x h. f (suc k) x h))
+
+none_times : (i : ℕ) (ns : List ℕ) → IsNone i ns → times i ns ≡ 0
+none_times i [] none = refl
+none_times i (j ∷ ns) none = grind (arith, nat_tests, none.0, none_times i ns none.1)
+
+times_count : (i : ℕ) (ns : List ℕ) → times i ns ≡ count_by (λ k. nat_eq k i) ns
+times_count i = is_count_by (times i) (λ k. nat_eq k i) refl (λ k ks. refl)
+
+module _ {L : Type 0} (test : Use L → Bool) (uses : List (Use L)) (ns : List ℕ) where
+  times_here : IsPermutation (numbers_of test uses) ns → (i : ℕ) → times i ns ≡ cond (test_at test uses i) 1 0
+  times_here perm i = times_count i ns ∙ sum_by-IsPermutation (λ k. cond (nat_eq k i) 1 0) (numbers_of test uses) ns perm ∙ sym (times_count i (numbers_of test uses)) ∙ times_from 0 i i test uses (omega arith)
+
+  pub number_is : IsPermutation (numbers_of test uses) ns → (k i : ℕ) → slice_get ns k ≡ Some i → IsNumber test uses i
+  number_is perm k i h =
+      let one = get_or-le-sum_by (λ m. cond (nat_eq m i) 1 0) ns k i (below ns k i h) in
+      passed test uses i (slice_get uses i) refl (grind (arith, nat_tests, times_here perm i, times_count i ns, one, get_or_from_slice_get ns k i i h))
+
+  pub numbers_differ : IsPermutation (numbers_of test uses) ns → (a b i j : ℕ) → a < b → slice_get ns a ≡ Some i → slice_get ns b ≡ Some j → i ≢ j
+  numbers_differ perm a b i j lt ha hb e =
+      let f : ℕ → ℕ = λ m. cond (nat_eq m i) 1 0 in
+      let within = below ns b j hb in
+      let first = get_or-le-sum_by f (take b ns) a i (omega (arith, length-take-le b ns (omega arith))) in
+      absurd (grind (arith, nat_tests, times_here perm i, times_count i ns, sum_by_more_le f ns b i within, first, get_or-take b ns a i lt, get_or_from_slice_get ns a i i ha, get_or_from_slice_get ns b j i hb))
+
+  pub number_there : IsPermutation (numbers_of test uses) ns → (j : ℕ) (u : Use L) → slice_get uses j ≡ Some u → test u ≡ true → IsNone j ns → ⊥
+  number_there perm j u h holds none = absurd (grind (arith, nat_tests, times_here perm j, none_times j ns none))
 
 -- a deadline more
 pub room_after : (slack d n : ℕ) (ds : List ℕ) → length ds < n → (1 ≤ slack → HasSlack slack 0 ds) → 1 ≤ slack_after slack d n → HasSlack (slack_after slack d n) 0 (ds ++ d ∷ [])
@@ -30,40 +123,34 @@ module _ {L : Type 0} {kinds : Kinds L} {test : Use L → Bool} {uses : List (Us
 
   -- a test that asks more
   pub keeps_fewer : (new_test : Use L → Bool) → ((u : Use L) → new_test u ≡ true → test u ≡ true) → Keeps kinds test uses numbers slack → Keeps kinds new_test uses numbers slack
-  keeps_fewer new_test sub k = record {
-    low = k.low;
-    same = sym (filter_fewer test new_test sub uses numbers) ∙ ap (filter (test_at new_test uses)) k.same ∙ numbers_fewer test new_test sub [] uses;
-    room = λ one. slack_same slack 0 (deadlines test kinds uses) (deadlines new_test kinds uses) (λ end. due_fewer test new_test kinds end uses sub) (k.room one);
-  }
+  keeps_fewer new_test sub k =
+      let same = sym (filter_fewer test new_test sub uses numbers) ∙ ap (filter (test_at new_test uses)) k.same ∙ numbers_fewer test new_test sub [] uses in
+      let room : 1 ≤ slack → HasSlack slack 0 (deadlines new_test kinds uses) = λ one. slack_same slack 0 _ _ (λ end. due_fewer test new_test kinds end uses sub) (k.room one) in
+      assumption
 
   -- a use that isn't of this queue
   pub keeps_skip : (u : Use L) → test u ≡ false → Keeps kinds test uses numbers slack → Keeps kinds test (uses ++ u ∷ []) numbers slack
-  keeps_skip u idle k = record {
-    low = λ j i h. omega (arith, k.low j i h, length-append uses (u ∷ []));
-    same = filter_more test uses u numbers k.low ∙ k.same ∙ sym (rw (numbers_more 0 test uses u, idle) (append_none (numbers_of test uses)));
-    room = λ one. rw (deadlines_append, idle, append_none) (k.room one);
-  }
+  keeps_skip u idle k =
+      let long = length-append uses (u ∷ []) in
+      grind (arith, nat_tests, filter_more, numbers_more, append_none, deadlines_append)
 
   -- and one that is
   pub keeps_push : (u : Use L) → test u ≡ true → Keeps kinds test uses numbers slack → Keeps kinds test (uses ++ u ∷ []) (numbers ++ length uses ∷ []) (slack_after slack (deadline kinds u) (length numbers + 1))
   keeps_push u waits k =
       let long = length-append uses (u ∷ []) in
       let few = kept_few k in
-      let last : test_at test (uses ++ u ∷ []) (length uses) ≡ true = ap (passes test) (slice_get-append_last uses u) ∙ waits in
-      let zero_more : 0 + length uses ≡ length uses = omega arith in
-      record {
-        low = append_each (λ i. i < length (uses ++ u ∷ [])) numbers (length uses) (omega arith) (λ j i h. let l = k.low j i h in omega arith);
-        same = rw (filter-append, filter_more test uses u numbers k.low, k.same, last, numbers_more 0 test uses u, waits, zero_more);
-        room = λ one. rw (deadlines_append, waits) (room_after slack (deadline kinds u) (length numbers + 1) (deadlines test kinds uses) (omega arith) k.room one);
-      }
+      let last = slice_get-append_last uses u in
+      let low = append_each (λ i. i < length (uses ++ u ∷ [])) numbers (length uses) (omega arith) (λ j i h. let l = k.low j i h in omega arith) in
+      let room = room_after slack (deadline kinds u) (length numbers + 1) (deadlines test kinds uses) in
+      grind (arith, nat_tests, filter-append, filter_more test uses u numbers k.low, numbers_more 0 test uses u, deadlines_append test kinds uses (u ∷ []))
 
 -- a queue with nothing in it, where nothing passes the test
 pub keeps_none : {L : Type 0} (kinds : Kinds L) (test : Use L → Bool) (uses : List (Use L)) (numbers : List ℕ) (slack : ℕ) → numbers ≡ [] → ((j : ℕ) (u : Use L) → slice_get uses j ≡ Some u → test u ≡ false) → Keeps kinds test uses numbers slack
-keeps_none kinds test uses numbers slack e idle = subst (λ ns. Keeps kinds test uses ns slack) (sym e) (record {
-  low = λ k i h. absurd (cc);
-  same = sym (nil_from_length (numbers_of test uses) (sym (length-map (numbers_of test uses) (deadline_at kinds uses)) ∙ ap (length {A = ℕ}) (sym (deadlines_from kinds test [] uses) ∙ none_from test kinds uses idle)));
-  room = λ one. subst (HasSlack slack 0) (sym (none_from test kinds uses idle)) (record { each = λ end due. absurd (omega arith) });
-})
+keeps_none kinds test uses numbers slack e idle =
+    let none = none_from test kinds uses idle in
+    let from = deadlines_from kinds test [] uses in
+    let long = length-map (numbers_of test uses) (deadline_at kinds uses) in
+    rw e (grind (arith, nil_from_length (numbers_of test uses)))
 
 -- ---- a queue of those that are still pending
 
@@ -74,27 +161,20 @@ pub record Tidied {L : Type 0} (kinds : Kinds L) (test : Use L → Bool) (uses :
 
 module _ {L : Type 0} {kinds : Kinds L} {test : Use L → Bool} {uses : List (Use L)} {numbers taken : List ℕ} {slack : ℕ} where
   pub tidy_skip : (i : ℕ) → None ≡ use_where test uses i → Tidied kinds test uses numbers slack taken → Tidied kinds test uses numbers slack (taken ++ i ∷ [])
-  tidy_skip i none t = record { passed = rw (filter-append, where_none test (slice_get uses i) (sym none), append_none) t.passed; room = t.room }
+  tidy_skip i none t = grind (arith, nat_tests, filter-append, append_none)
 
   pub tidy_take : (i : ℕ) (u : Use L) → Some u ≡ use_where test uses i → Tidied kinds test uses numbers slack taken → Tidied kinds test uses (numbers ++ i ∷ []) (slack_after slack (deadline kinds u) (length numbers + 1)) (taken ++ i ∷ [])
   tidy_take i u some t =
-      let is = where_some test (slice_get uses i) u (sym some) in
-      let passes_it : test_at test uses i ≡ true = ap (passes test) is.0 ∙ is.1 in
-      let last : deadline_at kinds uses i ≡ deadline kinds u = ap (deadline_in kinds) is.0 in
       let long = length-map numbers (deadline_at kinds uses) in
-      record {
-        passed = rw (filter-append, passes_it) (ap (λ ns. ns ++ i ∷ []) t.passed);
-        room = λ one. rw (map-append, last) (room_after slack (deadline kinds u) (length numbers + 1) (map (deadline_at kinds uses) numbers) (omega arith) t.room one);
-      }
+      let room = room_after slack (deadline kinds u) (length numbers + 1) (map (deadline_at kinds uses) numbers) in
+      grind (arith, nat_tests, filter-append, map-append)
 
   pub tidy_end : {old_slack : ℕ} → Keeps kinds test uses taken old_slack → Tidied kinds test uses numbers slack taken → Keeps kinds test uses numbers slack
   tidy_end k t =
       let whole : numbers ≡ numbers_of test uses = t.passed ∙ k.same in
-      record {
-        low = λ j i h. let n = number_is test uses (numbers_of test uses) (IsPermutation-refl (numbers_of test uses)) j i (rw whole at h) in below uses i n.user n.there;
-        same = rw whole (numbers_fewer test test (λ u h. h) [] uses);
-        room = λ one. rw (deadlines_from kinds test [] uses, ← whole) (t.room one);
-      }
+      let low : (j i : ℕ) → slice_get numbers j ≡ Some i → i < length uses = λ j i h. let n = number_is test uses (numbers_of test uses) (IsPermutation-refl (numbers_of test uses)) j i (rw whole at h) in below uses i n.user n.there in
+      let same = numbers_fewer test test (λ u h. h) [] uses in
+      grind (arith, deadlines_from kinds test [] uses)
 
 -- ---- both queues
 
@@ -107,7 +187,7 @@ kept_none {L} kinds place uses p near far idle =
 -- fewer are pending
 pub kept_fewer : {L : Type 0} {kinds : Kinds L} {place : ℕ → Option ℕ} {uses : List (Use L)} {p : Pending} (new_place : ℕ → Option ℕ) → ((u : Use L) → is_pending kinds new_place u ≡ true → is_pending kinds place u ≡ true) → AreKept kinds place uses p → AreKept kinds new_place uses p
 kept_fewer {L} {kinds} {place} {uses} {p} new_place sub k =
-    let side : (near : Bool) (u : Use L) → is_queued kinds new_place near u ≡ true → is_queued kinds place near u ≡ true = λ near u h. let q = and_parts (is_pending kinds new_place u) (on_side near (is_near kinds u)) h in and_from _ _ (sub u q.0) q.1 in
+    let side : (near : Bool) (u : Use L) → is_queued kinds new_place near u ≡ true → is_queued kinds place near u ≡ true = λ near u h. grind (arith, nat_tests, sub u) in
     record { near = keeps_fewer (is_queued kinds new_place true) (side true) k.near; far = keeps_fewer (is_queued kinds new_place false) (side false) k.far }
 
 -- ---- the pending uses are those of both queues
@@ -127,39 +207,19 @@ not_needed_from cur all [] h = refl
 not_needed_from cur all (d ∷ ds) h = grind (arith, nat_tests, h.0, not_needed_from cur all ds h.1)
 
 pub not_needed : (cur : ℕ) (ds : List ℕ) → HasSlack cur 30 ds → is_needed_from cur ds ds ≡ false
-not_needed cur ds h = not_needed_from cur ds ds (each_from_slack cur 30 ds h)
+not_needed cur ds h = not_needed_from cur ds ds (each_due (λ d. cur + 30 + 8 * due_by d ds ≤ d) ds ds (λ end. omega arith) h.each)
 
 module _ {L : Type 0} {kinds : Kinds L} {place : ℕ → Option ℕ} {uses : List (Use L)} {p : Pending} where
-  -- no more are pending than the queues have
-  pub kept_many : AreKept kinds place uses p → length (deadlines (is_pending kinds place) kinds uses) ≤ length p.near.numbers.items + length p.far.numbers.items
-  kept_many k = let sum = count_parts kinds place uses in let a = kept_few k.near in let b = kept_few k.far in omega arith
-
-  -- the slack of both queues is slack of all
-  slack_both : AreKept kinds place uses p → (start : ℕ) → 1 ≤ start → shows_slack p start ≡ true → HasSlack start 0 (deadlines (is_pending kinds place) kinds uses)
-  slack_both k start some shows = record {
-    each = λ end one.
-        let sum = due_parts kinds place uses end in
-        let few = kept_few k.near in
-        let most = due_le_length end (deadlines (is_queued kinds place true) kinds uses) in
-        let near : 1 ≤ p.near.slack → 1 ≤ due_by end (deadlines (is_queued kinds place true) kinds uses) → p.near.slack + 0 + 8 * due_by end (deadlines (is_queued kinds place true) kinds uses) ≤ end = λ le. (k.near.room le).each end in
-        let far : 1 ≤ p.far.slack → 1 ≤ due_by end (deadlines (is_queued kinds place false) kinds uses) → p.far.slack + 0 + 8 * due_by end (deadlines (is_queued kinds place false) kinds uses) ≤ end = λ le. (k.far.room le).each end in
-        grind (arith, nat_tests, near, far);
-  }
-
   -- no island is needed then
   pub slack_shown : AreKept kinds place uses p → (start : ℕ) → 30 ≤ start → shows_slack p start ≡ true → is_needed_from (start - 30) (deadlines (is_pending kinds place) kinds uses) (deadlines (is_pending kinds place) kinds uses) ≡ false
-  slack_shown k start some shows = not_needed (start - 30) (deadlines (is_pending kinds place) kinds uses) (slack_less start 0 (start - 30) 30 _ (omega arith) (slack_both k start (omega arith) shows))
+  slack_shown k start some shows =
+      let sum = due_parts kinds place uses in
+      let few = kept_few k.near in
+      not_needed (start - 30) (deadlines (is_pending kinds place) kinds uses) (record { each = λ end one. grind (arith, nat_tests, due_le_length) })
 
 -- wherever too many are due, at most so many are
 pub record IsBound (start count : ℕ) (ds : List ℕ) : Type 0 where
   pub each : (end : ℕ) → end < start + 8 * due_by end ds → due_by end ds ≤ count
-
-pub bound_start : (start count : ℕ) (ds : List ℕ) → length ds ≤ count → IsBound start count ds
-bound_start start count ds le = record { each = λ end lt. let m = due_le_length end ds in omega arith }
-
--- then no more are than are due within that many veneers
-pub bound_next : (start count due end : ℕ) (ds : List ℕ) → IsBound start count ds → end + 1 ≡ start + 8 * count → due ≡ due_by end ds → IsBound start due ds
-bound_next start count due end ds b e d = record { each = λ at lt. let c = b.each at lt in let m = due_mono at end ds (omega arith) in omega arith }
 
 pub bound_none : (start : ℕ) (ds : List ℕ) → 30 ≤ start → IsBound start 0 ds → is_needed_from (start - 30) ds ds ≡ false
 bound_none start ds some b = not_needed (start - 30) ds (record { each = λ end one. grind (arith, nat_tests, b.each end) })

@@ -44,19 +44,13 @@ each_end P later ds h (suc end) one = ⊎_elim
     (λ le. let same : due_by end ds ≡ due_by (suc end) ds = omega (arith, le, due_mono end (suc end) ds (omega arith)) in subst (P (suc end)) same (later end (due_by end ds) (each_end P later ds h end (omega arith))))
     (cases_lt (due_by end ds) (due_by (suc end) ds))
 
-slack_from_each : (cur slack : ℕ) (ds : List ℕ) → AllOf (λ d. cur + slack + 8 * due_by d ds ≤ d) ds → HasSlack cur slack ds
-slack_from_each cur slack ds h = record { each = each_end (λ d n. cur + slack + 8 * n ≤ d) (λ d n le. omega arith) ds h }
-
 pub reaches_from_each : (start : ℕ) (ds : List ℕ) → VeneersReach start ds → StillReaches start ds
 reaches_from_each start ds h = record { each = each_end (λ d n. start + 8 * n ≤ d + 8) (λ d n le. omega arith) ds h }
 
 -- what is said of every offset by which one is due is said of each deadline
-each_due : (P : ℕ → Type 0) (all ds : List ℕ) → ((end : ℕ) → due_by end ds ≤ due_by end all) → ((end : ℕ) → 1 ≤ due_by end all → P end) → AllOf P ds
+pub each_due : (P : ℕ → Type 0) (all ds : List ℕ) → ((end : ℕ) → due_by end ds ≤ due_by end all) → ((end : ℕ) → 1 ≤ due_by end all → P end) → AllOf P ds
 each_due P all [] part h = tt
 each_due P all (d ∷ ds) part h = (h d (grind (arith, nat_tests, part d)), each_due P all ds (λ end. grind (arith, nat_tests, part end)) h)
-
-pub each_from_slack : (cur slack : ℕ) (ds : List ℕ) → HasSlack cur slack ds → AllOf (λ d. cur + slack + 8 * due_by d ds ≤ d) ds
-each_from_slack cur slack ds h = each_due (λ d. cur + slack + 8 * due_by d ds ≤ d) ds ds (λ end. omega arith) h.each
 
 -- where no island is needed before so many bytes, there is slack for them
 not_needed_each : (cur : ℕ) (all ds : List ℕ) → is_needed_from cur all ds ≡ false → AllOf (λ d. cur + 30 + 8 * due_by d all ≤ d) ds
@@ -64,7 +58,7 @@ not_needed_each cur all [] h = tt
 not_needed_each cur all (d ∷ ds) h = (grind (arith, nat_tests), not_needed_each cur all ds (or_parts _ _ h).1)
 
 pub slack_not_needed : (cur distance : ℕ) (ds : List ℕ) → is_needed cur distance ds ≡ false → HasSlack (cur + distance) 30 ds
-slack_not_needed cur distance ds h = slack_from_each (cur + distance) 30 ds (not_needed_each (cur + distance) ds ds h)
+slack_not_needed cur distance ds h = record { each = each_end (λ d n. cur + distance + 30 + 8 * n ≤ d) (λ d n le. omega arith) ds (not_needed_each (cur + distance) ds ds h) }
 
 -- ---- the deadlines of uses
 
@@ -106,10 +100,10 @@ veneers_reach start ds h = each_due (λ d. start + 8 * due_by d ds ≤ d + 8) ds
 
 -- Reach is slack of 14 bytes
 pub slack_from_reach : (cur : ℕ) (ds : List ℕ) → CanReach cur ds → HasSlack cur 14 ds
-slack_from_reach cur ds h = slack_from_each cur 14 ds h
+slack_from_reach cur ds h = record { each = each_end (λ d n. cur + 14 + 8 * n ≤ d) (λ d n le. omega arith) ds h }
 
 pub reach_from_slack : (cur : ℕ) (ds : List ℕ) → HasSlack cur 14 ds → CanReach cur ds
-reach_from_slack cur ds h = each_from_slack cur 14 ds h
+reach_from_slack cur ds h = each_due (λ d. cur + 14 + 8 * due_by d ds ≤ d) ds ds (λ end. omega arith) h.each
 
 -- ---- counts that agree everywhere
 

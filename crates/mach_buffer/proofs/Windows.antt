@@ -1,25 +1,21 @@
 -- Windows of bytes, and patches one after the other.
-use Rattle.std.proofs.Common.{◌≡◌, ℕ, ◌+◌, ◌-◌, ◌≤◌, List, [], ◌∷◌, ◌++◌, ◌⊎◌, length, take, drop, ap, sym, subst, ◌∙◌, arith, inl, inr, bit_and, ◌≢◌, ◌<◌, Some, ⊎_elim, pos, ◌-ℤ◌}
-use Rattle.mach_buffer.proofs.Words.{append-nil, get_or-take, drop-take, take-take, take_at, take_rest, drop-drop, drop_at, drop_all, length-drop, length-append, length-take-le, slice_get_within, same_Some, cases_lt, IsFreshFrom, SameOutside, SameOutsideFrom, Kinds, window, ChangesOnly, CanPatch, CanPatchAll, AllAim, AllKept, KeepsOthers, slice_get, Patch}
+use Rattle.std.proofs.Common.{◌≡◌, ℕ, ◌+◌, ◌-◌, ◌≤◌, List, [], ◌∷◌, ◌++◌, ◌⊎◌, length, take, drop, ap, sym, subst, ◌∙◌, arith, inl, inr, ◌≢◌, ◌<◌, Some, ⊎_elim, pos, ◌-ℤ◌}
+use Rattle.mach_buffer.proofs.Words.{get_or-take, drop-take, take-take, take_at, take_rest, drop-drop, drop_at, length-append, length-take-le, slice_get_within, same_Some, cases_lt, IsFreshFrom, SameOutside, SameOutsideFrom, Kinds, window, ChangesOnly, CanPatch, CanPatchAll, KeepsOthers, slice_get, Patch, common_steps}
 use borrow.Rule.Slice.PartMut.{put_mid}
 
 -- to be fresh asks for the bytes of the marks alone
 pub fresh_in_prefix : (marks : List ℕ) (i m n : ℕ) (s : List ℕ) → i + length marks ≤ m → i + length marks ≤ n → IsFreshFrom i marks (take m s) → IsFreshFrom i marks (take n s)
 fresh_in_prefix [] i m n s h k f = tt
-fresh_in_prefix (x ∷ marks) i m n s h k f =
-    (ap (λ (b : ℕ). bit_and b x) (get_or-take n s i 0 (omega arith) ∙ sym (get_or-take m s i 0 (omega arith))) ∙ f.0, fresh_in_prefix marks (i + 1) m n s (omega arith) (omega arith) f.1)
+fresh_in_prefix (x ∷ marks) i m n s h k f = grind (arith, get_or-take, fresh_in_prefix marks (i + 1) m n s)
 
 -- and so does a comparison outside them
 pub same_in_prefix : (marks : List ℕ) (i m : ℕ) (s t : List ℕ) → i + length marks ≤ m → SameOutsideFrom i marks s t → SameOutsideFrom i marks (take m s) (take m t)
 same_in_prefix [] i m s t h f = tt
-same_in_prefix (x ∷ marks) i m s t h f = (
-  ap (λ (b : ℕ). bit_and b (255 - x)) (get_or-take m t i 0 (omega arith)) ∙ f.0 ∙ ap (λ (b : ℕ). bit_and b (255 - x)) (sym (get_or-take m s i 0 (omega arith))),
-  same_in_prefix marks (i + 1) m s t (omega arith) f.1,
-)
+same_in_prefix (x ∷ marks) i m s t h f = grind (arith, get_or-take, same_in_prefix marks (i + 1) m s t)
 
 -- a write to all bytes from a place on
 written : (old part : List ℕ) (o : ℕ) → o ≤ length old → put_mid o (length old - o) old part ≡ take o old ++ part
-written old part o le = ap (λ r. take o old ++ (part ++ r)) (drop_all (length old - o) (drop o old) (omega (arith, length-drop o old))) ∙ ap (λ p. take o old ++ p) (append-nil part)
+written old part o le = grind (arith, common_steps)
 
 pub changes_part : (old part : List ℕ) (o n : ℕ) → o + n ≤ length old → length part ≡ length old - o → drop n part ≡ drop n (take (length old - o) (drop o old)) →
     ChangesOnly old (put_mid o (length old - o) old part) o n
@@ -64,14 +60,8 @@ module _ {L : Type 0} {kinds : Kinds L} {first now : List ℕ} {uses : List (Pat
       slice_get uses i ≡ Some u → length now ≡ length first → CanPatch kinds now u
   progress_can p can u h same =
       let c = can.each i u h in
-      record {
-        forward_in = c.forward_in;
-        backward_in = c.backward_in;
-        place_even = c.place_even;
-        target_even = c.target_even;
-        inside = omega (arith, c.inside);
-        fresh = rw (p.left i u (omega arith) h) c.fresh;
-      }
+      let left = p.left i u (omega arith) h in
+      grind arith
 
   -- one more window is patched
   pub progress_patched : (p : Progress kinds first now uses i) (can : CanPatchAll kinds first uses) (u : Patch L) (new : List ℕ) →
@@ -81,18 +71,13 @@ module _ {L : Type 0} {kinds : Kinds L} {first now : List ℕ} {uses : List (Pat
   progress_patched p can u new h c kept a =
       let stays : (j : ℕ) (v : Patch L) → j ≢ i → slice_get uses j ≡ Some v → window new v.offset (length (kinds.fields v.kind)) ≡ window now v.offset (length (kinds.fields v.kind)) =
       λ j v ne k. window_apart now new u.offset (length (kinds.fields u.kind)) v.offset (length (kinds.fields v.kind)) c (can.apart j i v u ne k h) in
+      let here : IsDone kinds first new u = (a, rw (← p.left i u (omega arith) h) kept) in
       record {
-        done = λ j v lt k. ⊎_elim
-            (λ below. rw (stays j v (omega arith) k) (p.done j v below k))
-            (λ above. subst (IsDone kinds first new) (let at : j ≡ i = omega arith in same_Some _ _ (sym h ∙ ap (slice_get uses) (sym at) ∙ k)) (a, rw (← p.left i u (omega arith) h) kept))
-            (cases_lt j i);
+        done = λ j v lt k. ⊎_elim (λ below. rw (stays j v (omega arith) k) (p.done j v below k)) (λ above. subst (IsDone kinds first new) (let at : i ≡ j = omega arith in same_Some _ _ (sym h ∙ ap (slice_get uses) at ∙ k)) here) (cases_lt j i);
         left = λ j v le k. stays j v (omega arith) k ∙ p.left j v (omega arith) k;
         others = λ q m apart. window_apart now new u.offset (length (kinds.fields u.kind)) q m c (apart i u h) ∙ p.others q m apart;
       }
 
-  -- at the end all aim
-  pub progress_all : (p : Progress kinds first now uses i) → length uses ≤ i → AllAim kinds now uses
-  progress_all p h j u k = (p.done j u (let within = slice_get_within uses j u k in omega arith) k).0
-
-  pub progress_kept : (p : Progress kinds first now uses i) → length uses ≤ i → AllKept kinds first now uses
-  progress_kept p h j u k = (p.done j u (let within = slice_get_within uses j u k in omega arith) k).1
+  -- at the end all are done
+  pub progress_done : (p : Progress kinds first now uses i) → length uses ≤ i → (j : ℕ) (u : Patch L) → slice_get uses j ≡ Some u → IsDone kinds first now u
+  progress_done p h j u k = p.done j u (let within = slice_get_within uses j u k in omega arith) k

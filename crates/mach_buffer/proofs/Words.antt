@@ -1,6 +1,4 @@
 -- The lemmas of std that proofs cite, and the words of definitions that they speak of.
-pub use Rattle.std.proofs.Math.Bool.{and-true}
-pub use Rattle.std.proofs.Math.Seq.{take-suc}
 pub use Rattle.std.proofs.lemmas.Bool.{and_from, and_left, and_parts, and_right, cases_Bool, cases_eq, cases_lt, eq-eqb, false_from_ne_true, le-leb, le-ltb, ne_eqb, or_parts, true_from_ne_false, true≢false}
 pub use Rattle.std.proofs.lemmas.Bool.Decides.{nat_tests}
 pub use Rattle.std.proofs.lemmas.Cmp.{nat_cmp_total, on_total, then_total}
@@ -28,6 +26,7 @@ pub use Rattle.mach_buffer.specs.Constants.{aligned_to, AllStand, AreNoted, AreO
 pub use Rattle.mach_buffer.specs.Finish.{AllArrive, Arrives, before_last, CanFinish, Finishes, IsVia, last_end, padded_for, pending_in}
 pub use Rattle.mach_buffer.specs.Growth.{Grows, Lasts, RecordsLast}
 pub use Rattle.mach_buffer.specs.Islands.{aligned, CanIsland, first_of, is_far, IsJumpOver, island_veneers, Islanded, IsOwn, needs_own, others_of, padded, padding, with_own}
+pub use Rattle.mach_buffer.specs.LastVeneers.{LastPut}
 pub use Rattle.mach_buffer.specs.Links.{HasVeneer, IsLinked}
 pub use Rattle.mach_buffer.specs.Pieces.{IsPiece, UseFinished}
 pub use Rattle.mach_buffer.specs.Places.{place_in}

@@ -6,10 +6,11 @@ use crate::labels::{INNER_COUNT, Labels, constant_label};
 use crate::pending::Pending;
 use crate::reach::ISLAND_MARGIN;
 use crate::records::{Event, FinalizedRelocTarget, MachRecord};
+use crate::split::copy_of_map;
 use crate::uses::Use;
 use rv_base::{
-    Constant, MachInstLabelUse, MachLabel, OutOfMemory, Reloc, RelocTarget, TrapCode, UnwindInst,
-    VCodeConstant,
+    Constant, List, MachInstLabelUse, MachLabel, OutOfMemory, Reloc, RelocTarget, TrapCode,
+    TryCallHandler, UnwindInst, UserStackMap, VCodeConstant,
 };
 use std::alloc::Global;
 
@@ -43,12 +44,13 @@ impl<L: MachInstLabelUse> MachBuffer<L> {
     ghost use Rattle.mach_buffer.specs.Shape.{with_bytes, with_use, with_label, with_allocated, with_record, with_registered, with_named, constant_label, inner_count, IsKnown, IsUsable};
     ghost use Rattle.mach_buffer.specs.Constants.{reserve_of};
     ghost use Rattle.mach_buffer.specs.Records.{finalized};
-    ghost use Rattle.mach_buffer.specs.declared.records.Event.TheVariants.{Trap, Reloc as Relocates, Unwind};
+    ghost use Rattle.mach_buffer.specs.declared.records.Event.TheVariants.{Trap, Reloc as Relocates, Unwind, CallSite, TryCallSite, PatchableCallSite, StackMap};
     ghost use Rattle.mach_buffer.specs.declared.records.FinalizedRelocTarget.TheVariants.{Func};
     ghost use Rattle.mach_buffer.specs.Reach.{island_margin, is_needed, due_by};
     ghost use Rattle.mach_buffer.specs.Buffer.{shape_of, inside_of, bytes_of, uses_of, place_of, allocated_of, records_of, registered_of, named_of, constants_of, spoiled_of, pending_of, Unless, Takes, IsSound};
 
     /// An empty buffer. Takes no memory.
+    #[tactic(auto, using(crate::proofs::Sound::sound_none))]
     pub fn new(alloc: Global) -> MachBuffer<L>
         ensures bytes { bytes_of result ≡ [] }
         ensures uses { uses_of result ≡ [] }
@@ -82,11 +84,13 @@ impl<L: MachInstLabelUse> MachBuffer<L> {
         ensures sound { OnOk result (IsSound L.kinds self.new) }
     {
         self.check()?;
-        if self.constants.register(constants, self.alloc).is_err() {
-            self.spoiled = true;
-            return Err(OutOfMemory);
+        match self.constants.register(constants, self.alloc) {
+            Ok(()) => Ok(()),
+            Err(error) => {
+                self.spoiled = true;
+                Err(error)
+            }
         }
-        Ok(())
     }
 
     /// The label of a constant, which is put with the next island or at the end, unless it stands already.
@@ -102,11 +106,13 @@ impl<L: MachInstLabelUse> MachBuffer<L> {
         ensures sound { OnOk result (IsSound L.kinds self.new) }
     {
         self.check()?;
-        if self.constants.name(constant).is_err() {
-            self.spoiled = true;
-            return Err(OutOfMemory);
+        match self.constants.name(constant) {
+            Ok(()) => Ok(constant_label(constant)),
+            Err(error) => {
+                self.spoiled = true;
+                Err(error)
+            }
         }
-        Ok(constant_label(constant))
     }
 
     /// Refuses where the buffer is spoiled.
@@ -191,11 +197,13 @@ impl<L: MachInstLabelUse> MachBuffer<L> {
         ensures sound { OnOk result (IsSound L.kinds self.new) }
     {
         self.check()?;
-        if self.add_bytes(bytes).is_err() {
-            self.spoiled = true;
-            return Err(OutOfMemory);
+        match self.add_bytes(bytes) {
+            Ok(()) => Ok(()),
+            Err(error) => {
+                self.spoiled = true;
+                Err(error)
+            }
         }
-        Ok(())
     }
 
     fn add_bytes(&mut self, bytes: &[u8]) -> Result<(), OutOfMemory>
@@ -238,11 +246,13 @@ impl<L: MachInstLabelUse> MachBuffer<L> {
         ensures sound { OnOk result (IsSound L.kinds self.new) }
     {
         self.check()?;
-        if self.place_label(label).is_err() {
-            self.spoiled = true;
-            return Err(OutOfMemory);
+        match self.place_label(label) {
+            Ok(()) => Ok(()),
+            Err(error) => {
+                self.spoiled = true;
+                Err(error)
+            }
         }
-        Ok(())
     }
 
     /// Notes that a label stands here.
@@ -275,11 +285,13 @@ impl<L: MachInstLabelUse> MachBuffer<L> {
             kind,
             veneer: None,
         };
-        if self.add_use(u).is_err() {
-            self.spoiled = true;
-            return Err(OutOfMemory);
+        match self.add_use(u) {
+            Ok(()) => Ok(()),
+            Err(error) => {
+                self.spoiled = true;
+                Err(error)
+            }
         }
-        Ok(())
     }
 
     fn add_use(&mut self, u: Use<L>) -> Result<(), OutOfMemory>
@@ -338,6 +350,66 @@ impl<L: MachInstLabelUse> MachBuffer<L> {
         self.add_record(Event::Unwind(inst))
     }
 
+    /// Records a call site at the current offset.
+    pub fn add_call_site(&mut self) -> Result<(), OutOfMemory>
+        requires sound { Unless (spoiled_of self.old) (IsSound L.kinds self.old) }
+        ensures recorded { Takes result (with_record CallSite) self.old self.new }
+        ensures sound { OnOk result (IsSound L.kinds self.new) }
+    {
+        self.add_record(Event::CallSite)
+    }
+
+    /// Records the call site of a call that may throw at the current offset, with copies of its handlers, and how far above the
+    /// stack pointer the frame pointer is, in bytes, where that is known.
+    pub fn add_try_call_site(
+        &mut self,
+        frame_offset: Option<u32>,
+        handlers: &[TryCallHandler],
+    ) -> Result<(), OutOfMemory>
+        requires sound { Unless (spoiled_of self.old) (IsSound L.kinds self.old) }
+        ensures recorded { Takes result (with_record (TryCallSite frame_offset handlers.now)) self.old self.new }
+        ensures sound { OnOk result (IsSound L.kinds self.new) }
+    {
+        match List::from_slice(self.alloc, handlers) {
+            Ok(handlers) => self.add_record(Event::TryCallSite(frame_offset, handlers)),
+            Err(error) => {
+                self.spoiled = true;
+                Err(error)
+            }
+        }
+    }
+
+    /// Records the values on the stack where a call returns, at the current offset: `return_offset` is there, and `span` is how
+    /// many bytes of the frame the map tells of, from the stack pointer upwards. Keeps a copy of the map.
+    pub fn push_user_stack_map(
+        &mut self,
+        return_offset: u32,
+        span: u32,
+        map: &UserStackMap,
+    ) -> Result<(), OutOfMemory>
+        requires here { Unless (spoiled_of self.old) (return_offset ≡ length (bytes_of self.old)) }
+        requires sound { Unless (spoiled_of self.old) (IsSound L.kinds self.old) }
+        ensures recorded { Takes result (with_record (StackMap span map.now)) self.old self.new }
+        ensures sound { OnOk result (IsSound L.kinds self.new) }
+    {
+        match copy_of_map(map, self.alloc) {
+            Ok(copy) => self.add_record(Event::StackMap(span, copy)),
+            Err(error) => {
+                self.spoiled = true;
+                Err(error)
+            }
+        }
+    }
+
+    /// Records that a call of so many bytes ends at the current offset, and may be patched.
+    pub fn add_patchable_call_site(&mut self, len: u32) -> Result<(), OutOfMemory>
+        requires sound { Unless (spoiled_of self.old) (IsSound L.kinds self.old) }
+        ensures recorded { Takes result (with_record (PatchableCallSite len)) self.old self.new }
+        ensures sound { OnOk result (IsSound L.kinds self.new) }
+    {
+        self.add_record(Event::PatchableCallSite(len))
+    }
+
     /// A relocation's target: a label by its place.
     fn finalized(&self, target: RelocTarget) -> FinalizedRelocTarget
         ensures { result ≡ finalized (place_of self.now) target }
@@ -356,11 +428,13 @@ impl<L: MachInstLabelUse> MachBuffer<L> {
         ensures sound { OnOk result (IsSound L.kinds self.new) }
     {
         self.check()?;
-        if self.record(event).is_err() {
-            self.spoiled = true;
-            return Err(OutOfMemory);
+        match self.record(event) {
+            Ok(()) => Ok(()),
+            Err(error) => {
+                self.spoiled = true;
+                Err(error)
+            }
         }
-        Ok(())
     }
 
     fn record(&mut self, event: Event) -> Result<(), OutOfMemory>

@@ -76,6 +76,7 @@ impl Constants {
     }
 
     /// Keeps copies of the constants that code may name. There are none so far.
+    #[tactic(auto, using(std::proofs::lemmas::Grind::common_steps, crate::proofs::ConstantOrder::noted_none))]
     pub(crate) fn register(
         &mut self,
         constants: &[Constant],
@@ -114,6 +115,7 @@ impl Constants {
     }
 
     /// Where the constants that don't stand yet end, when they are put from an offset on.
+    #[tactic(auto, using(std::proofs::lemmas::Grind::common_steps, crate::proofs::ConstantsPut::ends_is))]
     pub(crate) fn end_after(&self, start: u64) -> u64
         requires { constants_end self.now.registered.items (drop (length self.now.placed.items) self.now.named.items) start < code_limit }
         ensures { result ≡ constants_end self.now.registered.items (drop (length self.now.placed.items) self.now.named.items) start }

@@ -5,13 +5,17 @@ use crate::code::Code;
 use crate::constants::Constants;
 use crate::labels::Labels;
 use crate::patches::patch_all;
-use crate::records::{ConstPlace, MachReloc, MachTrap, MachUnwind};
-use crate::split::{relocs_in, traps_in, unwinds_in};
+use crate::records::{
+    ConstPlace, MachPatchable, MachReloc, MachStackMap, MachTrap, MachTryCallSite, MachUnwind,
+};
+use crate::split::{calls_in, maps_in, patches_in, relocs_in, traps_in, tries_in, unwinds_in};
 use crate::uses::LabelPlace;
 use rv_base::{Constant, List, MachInstLabelUse, OutOfMemory};
 
 /// Patched code; where the labels below 2^30 stand, in order of binding; where the constants stand that it names, in order of
-/// place; and the relocations, the traps and the steps in the making of the frame, in the order in which they were recorded.
+/// place; and the relocations, the traps, the offsets of call sites, the call sites of calls that may throw, the calls that may be
+/// patched, the values on the stack where calls return and the steps in the making of the frame, in the order in which they were
+/// recorded.
 #[derive(Drop)]
 pub struct Finished {
     pub bytes: List<u8>,
@@ -19,6 +23,10 @@ pub struct Finished {
     pub constants: List<ConstPlace>,
     pub relocs: List<MachReloc>,
     pub traps: List<MachTrap>,
+    pub call_sites: List<u32>,
+    pub try_call_sites: List<MachTryCallSite>,
+    pub patchable_call_sites: List<MachPatchable>,
+    pub stack_maps: List<MachStackMap>,
     pub unwinds: List<MachUnwind>,
 }
 
@@ -28,12 +36,12 @@ impl<L: MachInstLabelUse> MachBuffer<L> {
     ghost use Rattle.mach_buffer.specs.Islands.{aligned};
     ghost use Rattle.mach_buffer.specs.Finish.{padded_for, CanFinish, Finishes};
     ghost use Rattle.mach_buffer.specs.LastVeneers.{LastPut};
-    ghost use Rattle.mach_buffer.specs.Records.{relocs_in, traps_in, unwinds_in};
-    ghost use Rattle.mach_buffer.specs.Buffer.{shape_of, bytes_of, labels_of, registered_of, records_of, spoiled_of, Unless, IsSound};
+    ghost use Rattle.mach_buffer.specs.Records.{calls_in, maps_in, offset_or_zero, patches_in, relocs_in, traps_in, tries_in, unwinds_in};
+    ghost use Rattle.mach_buffer.specs.Buffer.{shape_of, bytes_of, labels_of, place_of, registered_of, records_of, spoiled_of, Unless, IsSound};
 
     /// Puts a veneer for each use that is pending, by deadline, then by place, then as recorded; then the constants that wait;
     /// and patches every window: a use then goes by its veneer, and straight to its label where it has none. The constants are
-    /// those that were registered.
+    /// those that were registered. The labels of handlers are by their places before that, or by 0 where they have none.
     pub fn finish(self, constants: &[Constant]) -> Result<Finished, OutOfMemory>
         requires registered { Unless (spoiled_of self) (registered_of self ≡ constants.now) }
         requires sound { Unless (spoiled_of self) (IsSound L.kinds self) }
@@ -42,6 +50,10 @@ impl<L: MachInstLabelUse> MachBuffer<L> {
         ensures labels { IfOk result (λ f. f.labels ≡ labels_of self) }
         ensures relocs { IfOk result (λ f. f.relocs ≡ relocs_in (records_of self)) }
         ensures traps { IfOk result (λ f. f.traps ≡ traps_in (records_of self)) }
+        ensures call_sites { IfOk result (λ f. f.call_sites ≡ calls_in (records_of self)) }
+        ensures try_call_sites { IfOk result (λ f. f.try_call_sites ≡ tries_in (offset_or_zero (place_of self)) (records_of self)) }
+        ensures patchable_call_sites { IfOk result (λ f. f.patchable_call_sites ≡ patches_in (records_of self)) }
+        ensures stack_maps { IfOk result (λ f. f.stack_maps ≡ maps_in (records_of self)) }
         ensures unwinds { IfOk result (λ f. f.unwinds ≡ unwinds_in (records_of self)) }
         ensures unspoiled { OnOk result (spoiled_of self ≡ false) }
     {
@@ -56,8 +68,13 @@ impl<L: MachInstLabelUse> MachBuffer<L> {
         ensures labels { IfOk result (λ f. f.labels ≡ labels_of self) }
         ensures relocs { IfOk result (λ f. f.relocs ≡ relocs_in (records_of self)) }
         ensures traps { IfOk result (λ f. f.traps ≡ traps_in (records_of self)) }
+        ensures call_sites { IfOk result (λ f. f.call_sites ≡ calls_in (records_of self)) }
+        ensures try_call_sites { IfOk result (λ f. f.try_call_sites ≡ tries_in (offset_or_zero (place_of self)) (records_of self)) }
+        ensures patchable_call_sites { IfOk result (λ f. f.patchable_call_sites ≡ patches_in (records_of self)) }
+        ensures stack_maps { IfOk result (λ f. f.stack_maps ≡ maps_in (records_of self)) }
         ensures unwinds { IfOk result (λ f. f.unwinds ≡ unwinds_in (records_of self)) }
     {
+        let tries = tries_in(&self.records, &self.labels, self.alloc)?;
         self.put_last()?;
         let MachBuffer {
             alloc,
@@ -87,6 +104,10 @@ impl<L: MachInstLabelUse> MachBuffer<L> {
             constants: List::from_vec(placed),
             relocs: List::from_vec(relocs_in(&records, alloc)?),
             traps: List::from_vec(traps_in(&records, alloc)?),
+            call_sites: List::from_vec(calls_in(&records, alloc)?),
+            try_call_sites: List::from_vec(tries),
+            patchable_call_sites: List::from_vec(patches_in(&records, alloc)?),
+            stack_maps: List::from_vec(maps_in(&records, alloc)?),
             unwinds: List::from_vec(unwinds_in(&records, alloc)?),
         })
     }

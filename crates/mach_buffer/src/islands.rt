@@ -36,11 +36,13 @@ impl<L: MachInstLabelUse> MachBuffer<L> {
         ensures sound { OnOk result (IsSound L.kinds self.new) }
     {
         self.check()?;
-        if self.put_island(after_island).is_err() {
-            self.spoiled = true;
-            return Err(OutOfMemory);
+        match self.put_island(after_island) {
+            Ok(()) => Ok(()),
+            Err(error) => {
+                self.spoiled = true;
+                Err(error)
+            }
         }
-        Ok(())
     }
 
     fn put_island(&mut self, after_island: MachLabel) -> Result<(), OutOfMemory>
@@ -94,6 +96,7 @@ impl<L: MachInstLabelUse> MachBuffer<L> {
 
     /// Returns whether an island with `count` veneers from here on, and the constants that wait, ends out of reach of the use that
     /// was recorded last.
+    #[tactic(auto, using(std::proofs::lemmas::Option::gets, crate::proofs::ConstantsPut::ends_is))]
     fn needs_own(&self, count: usize) -> bool
         requires some { 1 ≤ length (uses_of self.now) }
         requires room { end_after (shape_of self.now) (length (bytes_of self.now) + 8 * count) < code_limit }
@@ -141,6 +144,7 @@ impl<L: MachInstLabelUse> MachBuffer<L> {
     }
 
     /// Puts the veneers of uses in their order.
+    #[tactic(auto, using(crate::proofs::VeneersAndConstants::going_may, crate::proofs::VeneersAndConstants::going_room, crate::proofs::Lists::drop_mapped))]
     fn put_veneers(&mut self, order: &[PendingKey]) -> Result<(), OutOfMemory>
         requires can { CanPut L.kinds (uses_of self.old) (length (bytes_of self.old)) (map key_number order.now) }
         requires room { length (bytes_of self.old) + 8 * length order.now < code_limit }

@@ -17,6 +17,7 @@ mod uses;
 pub use buffer::MachBuffer;
 pub use finish::Finished;
 pub use records::{
-    ConstPlace, Event, FinalizedRelocTarget, MachRecord, MachReloc, MachTrap, MachUnwind,
+    ConstPlace, Event, FinalizedMachExceptionHandler, FinalizedRelocTarget, MachPatchable,
+    MachRecord, MachReloc, MachStackMap, MachTrap, MachTryCallSite, MachUnwind,
 };
 pub use uses::{LabelPlace, Use};

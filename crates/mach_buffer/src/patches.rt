@@ -18,6 +18,7 @@ pub struct Patch<L> {
 }
 
 /// Patches one window.
+#[tactic(auto, using(crate::proofs::Windows::fresh_in_prefix, crate::proofs::Windows::kept_in_part))]
 fn patch_one<L: MachInstLabelUse>(bytes: &mut [u8], patch: &Patch<L>)
     requires { CanPatch L.kinds bytes.old patch.now }
     ensures aims { L.kinds.aims patch.now.kind (window bytes.new patch.now.offset (length (L.kinds.fields patch.now.kind))) (pos patch.now.target -ℤ pos patch.now.offset) }

@@ -1,7 +1,7 @@
 //! The queues of pending uses.
 
 use crate::labels::Labels;
-use crate::reach::{deadline, is_near, is_pending, is_queued, names};
+use crate::reach::{deadline, is_near, is_pending, names};
 use crate::uses::{PendingKey, Use};
 use rv_base::{MachInstLabelUse, MachLabel, OutOfMemory};
 use std::alloc::Global;
@@ -20,6 +20,13 @@ pub struct Queue {
 pub struct Pending {
     pub(crate) near: Queue,
     pub(crate) far: Queue,
+}
+
+/// Returns whether a use is pending, and reaches as far as those of a queue.
+fn is_queued<L: MachInstLabelUse>(u: &Use<L>, labels: &Labels, near: bool) -> bool
+    ensures { result ≡ queued L.kinds (place_in labels.now) near u.now }
+{
+    is_near(u) == near && is_pending(u, labels)
 }
 
 /// The use of a number, where it is pending and belongs to a queue.
@@ -114,6 +121,24 @@ impl Queue {
         let less = self.slack.saturating_sub(8).min(deadline.saturating_sub(8));
         self.numbers.push(number)?;
         self.slack = less.max(self.slack.min(rest));
+        Ok(())
+    }
+
+    /// Adds the use that is recorded next, where it is pending and belongs to this queue.
+    fn add<L: MachInstLabelUse>(
+        &mut self,
+        uses: &[Use<L>],
+        labels: &Labels,
+        near: bool,
+        u: &Use<L>,
+    ) -> Result<(), OutOfMemory>
+        requires { Keeps L.kinds (queued L.kinds (place_in labels.now) near) uses.now self.old.numbers.items self.old.slack }
+        ensures { OnOk result (Keeps L.kinds (queued L.kinds (place_in labels.now) near) (uses.now ++ u.now ∷ []) self.new.numbers.items self.new.slack) }
+    {
+        if !is_queued(u, labels, near) {
+            return Ok(());
+        }
+        self.push(uses.len(), deadline(u))?;
         Ok(())
     }
 
@@ -217,14 +242,8 @@ impl Pending {
         requires { AreKept L.kinds (place_in labels.now) uses.now self.old }
         ensures { OnOk result (AreKept L.kinds (place_in labels.now) (uses.now ++ u.now ∷ []) self.new) }
     {
-        if !is_pending(u, labels) {
-            return Ok(());
-        }
-        if is_near(u) {
-            self.near.push(uses.len(), deadline(u))?;
-            return Ok(());
-        }
-        self.far.push(uses.len(), deadline(u))?;
+        self.near.add(uses, labels, true, u)?;
+        self.far.add(uses, labels, false, u)?;
         Ok(())
     }
 
@@ -267,6 +286,7 @@ impl Pending {
     }
 
     /// How many uses are pending.
+    #[tactic(auto, using(crate::proofs::QueueContents::kept_count, crate::proofs::QueueContents::count_parts))]
     pub(crate) fn count<L: MachInstLabelUse>(&self, uses: &[Use<L>], labels: &Labels) -> usize
         requires { AreKept L.kinds (place_in labels.now) uses.now self.now }
         ensures { result ≡ length (deadlines (pending L.kinds (place_in labels.now)) L.kinds uses.now) }
@@ -275,6 +295,7 @@ impl Pending {
     }
 
     /// How many pending uses are due by an offset.
+    #[tactic(auto, using(crate::proofs::QueueContents::kept_due, crate::proofs::QueueContents::due_parts))]
     fn count_due<L: MachInstLabelUse>(&self, uses: &[Use<L>], labels: &Labels, end: u128) -> usize
         requires { AreKept L.kinds (place_in labels.now) uses.now self.now }
         ensures { result ≡ due_in L.kinds (place_in labels.now) uses.now end }
@@ -291,6 +312,7 @@ impl Pending {
     }
 
     /// Returns whether the veneers of all that is due by some deadline, put from `start` on, end past it.
+    #[tactic(auto, using(crate::proofs::QueueContents::slack_shown, crate::proofs::QueueContents::bound_none, crate::proofs::Slack::due_le_length, crate::proofs::Slack::due_mono, crate::proofs::QueueContents::kept_few, crate::proofs::QueueContents::count_parts))]
     pub(crate) fn is_tight<L: MachInstLabelUse>(
         &self,
         uses: &[Use<L>],

@@ -2,7 +2,7 @@
 
 ghost use Rattle.std.specs.Prelude.{◌≡◌, ◌<◌};
 ghost use Rattle.mach_buffer.specs.Reach.{deadline as last_of, is_reached as reached, is_pending as pending, names as names_label};
-ghost use Rattle.mach_buffer.specs.Queues.{is_near as near_to, is_queued as queued};
+ghost use Rattle.mach_buffer.specs.Queues.{is_near as near_to};
 ghost use Rattle.mach_buffer.specs.Places.{place_in};
 
 use crate::labels::Labels;
@@ -50,13 +50,6 @@ pub(crate) fn is_near<L: MachInstLabelUse>(u: &Use<L>) -> bool
     ensures { result ≡ near_to L.kinds u.now }
 {
     u.kind.max_pos_range() < FAR
-}
-
-/// Returns whether a use is pending, and reaches as far as those of a queue.
-pub(crate) fn is_queued<L: MachInstLabelUse>(u: &Use<L>, labels: &Labels, near: bool) -> bool
-    ensures { result ≡ queued L.kinds (place_in labels.now) near u.now }
-{
-    is_pending(u, labels) && is_near(u) == near
 }
 
 /// Returns whether a use names this label.

@@ -1,6 +1,8 @@
 //! What is recorded at offsets, beside uses of labels.
 
-use rv_base::{ExternalName, Reloc, TrapCode, UnwindInst, VCodeConstant};
+use rv_base::{
+    ExternalName, List, Reloc, TrapCode, TryCallHandler, UnwindInst, UserStackMap, VCodeConstant,
+};
 
 /// What a relocation refers to, once labels have their places.
 #[derive(Clone, Copy, Debug, PartialEq, Eq)]
@@ -11,8 +13,18 @@ pub enum FinalizedRelocTarget {
     Func(u32),
 }
 
-/// What a record tells of the code at its offset.
+/// Where control goes where a callee throws, once labels have their places: the tag, where it asks for one, and an offset in bytes
+/// from the code's start.
 #[derive(Clone, Copy, Debug, PartialEq, Eq)]
+pub enum FinalizedMachExceptionHandler {
+    /// An exception with the tag.
+    Tag(u32, u32),
+    /// Any exception that no handler before it takes.
+    Default(u32),
+}
+
+/// What a record tells of the code at its offset.
+#[derive(Drop)]
 pub enum Event {
     /// The instruction there may trap, for this cause.
     Trap(TrapCode),
@@ -20,10 +32,19 @@ pub enum Event {
     Reloc(Reloc, FinalizedRelocTarget, i64),
     /// There a step in the making of the frame is done.
     Unwind(UnwindInst),
+    /// A call stands before it, whose return address it is; of a tail call, it begins there.
+    CallSite,
+    /// So does a call that may throw, with its handlers, and how far above the stack pointer the frame pointer is, in bytes, where
+    /// that is known.
+    TryCallSite(Option<u32>, List<TryCallHandler>),
+    /// A call that may be patched ends there, of so many bytes.
+    PatchableCallSite(u32),
+    /// A call returns there; the map tells of so many bytes of the frame, from the stack pointer upwards.
+    StackMap(u32, UserStackMap),
 }
 
 /// A record, at an offset in bytes from the code's start.
-#[derive(Clone, Copy, Debug, PartialEq, Eq)]
+#[derive(Drop)]
 pub struct MachRecord {
     pub offset: u32,
     pub event: Event,
@@ -50,6 +71,31 @@ pub struct MachReloc {
 pub struct MachUnwind {
     pub offset: u32,
     pub inst: UnwindInst,
+}
+
+/// A call that may be patched, by the offset in bytes from the code's start where it ends, and its length in bytes.
+#[derive(Clone, Copy, Debug, PartialEq, Eq)]
+pub struct MachPatchable {
+    pub offset: u32,
+    pub len: u32,
+}
+
+/// A call that may throw, by the offset in bytes from the code's start to which it returns.
+#[derive(Drop)]
+pub struct MachTryCallSite {
+    pub offset: u32,
+    /// How far above the stack pointer the frame pointer is, in bytes, where that is known.
+    pub frame_offset: Option<u32>,
+    pub handlers: List<FinalizedMachExceptionHandler>,
+}
+
+/// The values on the stack that a collector must find, by the offset in bytes from the code's start to which the call returns.
+#[derive(Drop)]
+pub struct MachStackMap {
+    pub offset: u32,
+    /// How many bytes of the frame it tells of, from the stack pointer upwards.
+    pub span: u32,
+    pub map: UserStackMap,
 }
 
 /// Where a constant stands: the offset of its first byte, in bytes from the code's start.

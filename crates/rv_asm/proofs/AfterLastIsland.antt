@@ -7,7 +7,7 @@ use Rattle.rv_base.specs.declared.label.MachLabel.{MachLabel}
 use Rattle.rv_inst.specs.Context.{Context}
 use Rattle.rv_inst.specs.declared.code.LineSpan.{LineSpan}
 use Rattle.rv_inst.specs.declared.inst.Inst.{Inst}
-use Rattle.rv_inst.specs.declared.inst.Inst.TheVariants.{EmitIsland, BrTable}
+use Rattle.rv_inst.specs.declared.inst.Inst.TheVariants.{EmitIsland, BrTable, ReturnCall, ReturnCallInd}
 use Rattle.rv_inst.specs.declared.inst.Line.{Line}
 use Rattle.rv_inst.specs.declared.inst.Line.TheVariants.{Inst as Put, Bind}
 use Rattle.rv_inst.specs.declared.label_use.LabelUse.{LabelUse}
@@ -67,9 +67,9 @@ ends_island : (old new : Buffer) → AppendsIsland old new → EndsIn [] new
 ends_island old new p = record { same = passing_none (waits (place_of new)) (uses_of new) (none_waits (waits (place_of new)) label_kinds (uses_of new) p.settled) }
 
 -- an instruction adds its own uses, of which those of a table are never pending
-ends_block : (context : Context) (inst : Inst) (old new : Buffer) (uses : List (Use LabelUse)) → AppendsInst context inst old new → EndsIn uses old → EndsIn (uses ++ uses_in context (length (bytes_of old)) inst) new
+ends_block : (context : Context) (inst : Inst) (old new : Buffer) (uses : List (Use LabelUse)) → AppendsInst context inst old new → EndsIn uses old → EndsIn (uses ++ uses_in context (length (bytes_of old)) (length (bytes_of new)) inst) new
 ends_block context inst old new uses p e =
-    let own = uses_in context (length (bytes_of old)) inst in
+    let own = uses_in context (length (bytes_of old)) (length (bytes_of new)) inst in
     let test = waits (place_of old) in
     let far : passing test (own ++ p.far) ≡ passing test own = passing_both test own p.far ∙ ap (λ us. passing test own ++ us) (passing_none test p.far (λ j u h. far_waits (place_of old) u (p.table j u h))) ∙ append-nil (passing test own) in
     let whole : passing test (uses_of old ++ (own ++ p.far)) ≡ passing test (uses ++ own) = passing_both test (uses_of old) (own ++ p.far) ∙ (λ i. e.same i ++ far i) ∙ sym (passing_both test uses own) in
@@ -94,9 +94,25 @@ ends_bind label old new span uses p e = record {
         on false h = refl
         on true h = absurd (true≢false (sym (bound_waits label_kinds (place_of old) (place_of new) label.number p.unbound p.kept u h) ∙ none))
 
+-- an instruction without uses that may go back, after an island where one is needed
+after_ends : (context : Context) (inst : Inst) (space : ℕ) (mid last new : Buffer) (made : Bool) (start end : ℕ) (uses : List (Use LabelUse)) → start ≡ length (bytes_of mid) → end ≡ length (bytes_of new) → ((at to : ℕ) → uses_in context at to inst ≡ []) → IslandIfNeeded space mid last made → AppendsInst context inst last new → EndsIn uses mid →
+    ((nat_lt (start + words_in (extent_of context inst)) end ≡ true) × EndsIn [] new) ⊎ ((nat_lt (start + words_in (extent_of context inst)) end ≡ false) × EndsIn (uses ++ []) new)
+after_ends context inst space mid last new made start end uses starts ends none room words h =
+    let size = words_in (extent_of context inst) in
+    let long = bytes_put context inst last new words in
+    let block : (more : List (Use LabelUse)) → EndsIn more last → EndsIn (more ++ []) new = λ more e. subst (λ own. EndsIn (more ++ own) new) (none (length (bytes_of last)) (length (bytes_of new))) (ends_block context inst last new more words e) in
+    ⊎_elim
+    (λ same.
+    let level : length (bytes_of last) ≡ length (bytes_of mid) = ap (λ (b : Buffer). length (bytes_of b)) same.1 in
+    inr (not_less (start + size) end (omega (arith, starts, ends, long, level)), block uses (subst (EndsIn uses) (sym same.1) h)))
+    (λ put.
+    let longer = put.1.longer in
+    inl (lt-ltb (start + size) end (omega (arith, starts, ends, long, longer)), block [] (ends_island mid last put.1)))
+    room.put
+
 -- an instruction: it is an island, or its uses are added
 emitted_ends : (context : Context) (inst : Inst) (mid new : Buffer) (start end : ℕ) (uses : List (Use LabelUse)) → start ≡ length (bytes_of mid) → end ≡ length (bytes_of new) → Appends context inst mid new → EndsIn uses mid →
-    ((is_island context (Put inst) start end ≡ true) × EndsIn [] new) ⊎ ((is_island context (Put inst) start end ≡ false) × EndsIn (uses ++ uses_in context start inst) new)
+    ((is_island context (Put inst) start end ≡ true) × EndsIn [] new) ⊎ ((is_island context (Put inst) start end ≡ false) × EndsIn (uses ++ uses_in context start end inst) new)
 emitted_ends context (EmitIsland space) mid new start end uses starts ends e h = ⊎_elim
     (λ same.
     let level : start ≡ end = starts ∙ sym (ap (λ (b : Buffer). length (bytes_of b)) same.1) ∙ sym ends in
@@ -105,20 +121,10 @@ emitted_ends context (EmitIsland space) mid new start end uses starts ends e h =
     let longer = put.1.longer in
     inl (lt-ltb start end (omega arith), ends_island mid new put.1))
     e.1.put
-emitted_ends context (BrTable index tmp1 tmp2 targets) mid new start end uses starts ends (last, made, room, words) h =
-    let inst = BrTable index tmp1 tmp2 targets in
-    let size = words_in (extent_of context inst) in
-    let long = bytes_put context inst last new words in
-    ⊎_elim
-    (λ same.
-    let level : length (bytes_of last) ≡ length (bytes_of mid) = ap (λ (b : Buffer). length (bytes_of b)) same.1 in
-    let own : EndsIn (uses ++ []) new = ends_block context inst last new uses words (subst (EndsIn uses) (sym same.1) h) in
-    inr (not_less (start + size) end (omega (arith, starts, ends, long, level)), own))
-    (λ put.
-    let longer = put.1.longer in
-    inl (lt-ltb (start + size) end (omega (arith, starts, ends, long, longer)), ends_block context inst last new [] words (ends_island mid last put.1)))
-    room.put
-emitted_ends context inst mid new start end uses starts ends e h = inr (refl, subst (λ n. EndsIn (uses ++ uses_in context n inst) new) (sym starts) (ends_block context inst mid new uses e h))
+emitted_ends context (BrTable index tmp1 tmp2 targets) mid new start end uses starts ends (last, made, room, words) h = after_ends context (BrTable index tmp1 tmp2 targets) _ mid last new made start end uses starts ends (λ at to. refl) room words h
+emitted_ends context (ReturnCall info) mid new start end uses starts ends (last, made, room, words) h = after_ends context (ReturnCall info) _ mid last new made start end uses starts ends (λ at to. refl) room words h
+emitted_ends context (ReturnCallInd info) mid new start end uses starts ends (last, made, room, words) h = after_ends context (ReturnCallInd info) _ mid last new made start end uses starts ends (λ at to. refl) room words h
+emitted_ends context inst mid new start end uses starts ends e h = inr (refl, subst (λ n. EndsIn (uses ++ uses_in context n end inst) new) (sym starts) (subst (λ n. EndsIn (uses ++ uses_in context (length (bytes_of mid)) n inst) new) (sym ends) (ends_block context inst mid new uses e h)))
 
 -- ---- labels
 
@@ -166,7 +172,7 @@ since_none context b uses none = record {
 record Roomed (context : Context) (lines : List Line) (spans : List LineSpan) (line : Line) (span : LineSpan) (mid : Buffer) : Type 0 where
   pub uses : List (Use LabelUse)
   pub ends : EndsIn uses mid
-  pub adds : is_island context line span.start span.end ≡ false → uses_after_island context (lines ++ line ∷ []) (spans ++ span ∷ []) ≡ uses ++ own_uses context line span.start
+  pub adds : is_island context line span.start span.end ≡ false → uses_after_island context (lines ++ line ∷ []) (spans ++ span ∷ []) ≡ uses ++ own_uses context line span.start span.end
 
 room_ends : (context : Context) (lines : List Line) (spans : List LineSpan) (line : Line) (span : LineSpan) (old mid : Buffer) (made : Bool) → length spans ≡ length lines → length (bytes_of old) ≡ end_before spans (length lines) → IslandIfNeeded line_space old mid made → span.start ≡ length (bytes_of mid) → EndsIn (uses_after_island context lines spans) old → Roomed context lines spans line span mid
 room_ends context lines spans line span old mid made count ends m start h = ⊎_elim

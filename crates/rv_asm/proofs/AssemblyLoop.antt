@@ -3,28 +3,31 @@ use Rattle.std.proofs.Common.{◌≡◌, ℕ, zero, suc, ◌+◌, ◌^◌, ◌<�
 use Rattle.std.specs.Prelude.{slice_get, slice_index_or, nat_eq}
 use Rattle.std.proofs.lemmas.Bool.Decides.{nat_tests}
 use Rattle.std.proofs.lemmas.Option.{same_Some}
+use Rattle.rv_base.specs.declared.flags.IsaFlags.{IsaFlags}
 use Rattle.rv_base.specs.declared.label.MachLabel.{MachLabel}
-use Rattle.rv_base.specs.Frame.{sp_to_args_end}
 use Rattle.rv_inst.specs.Context.{Context}
 use Rattle.rv_inst.specs.declared.inst.Line.{Line}
 use Rattle.rv_inst.specs.declared.inst.Line.TheVariants.{Inst as Put, Bind}
 use Rattle.rv_inst.specs.declared.code.Code.{Code}
 use Rattle.rv_inst.specs.declared.code.LineSpan.{LineSpan}
+use Rattle.rv_inst.specs.declared.code.CallReturn.{CallReturn}
 use Rattle.rv_inst.specs.LabelUse.{label_kinds}
 use Rattle.mach_buffer.specs.Finish.{CanFinish, Finishes}
-use Rattle.mach_buffer.specs.Records.{relocs_in, traps_in, unwinds_in}
+use Rattle.mach_buffer.specs.Records.{relocs_in, traps_in, calls_in, tries_in, patches_in, maps_in, unwinds_in, offset_or_zero}
 use Rattle.mach_buffer.specs.Buffer.{shape_of, bytes_of, uses_of, place_of, labels_of, records_of, allocated_of, registered_of, named_of, constants_of}
 use Rattle.rv_emit.specs.declared.state.EmitVState.{EmitVState}
 use Rattle.rv_emit.specs.Emitted.{Buffer, IsSoundBuffer}
-use Rattle.rv_asm.specs.Refusal.{binds, is_bound, lines_sum, size_sum, lines_refusal}
+use Rattle.rv_asm.specs.Refusal.{has_bad_frame, binds, is_bound, lines_sum, size_sum, lines_refusal}
 use Rattle.rv_inst.specs.Sizes.{line_sum}
-use Rattle.rv_asm.specs.LinesInBuffer.{LinesStand, Named, Sized, CanPut, LinePut}
+use Rattle.rv_asm.specs.LinesInBuffer.{LinesStand, Named, Sized, CanPut, LinePut, ReturnsWithin}
+use Rattle.rv_asm.specs.Reported.{line_returns, returns_from}
 use Rattle.rv_asm.specs.AfterLastIsland.{AfterLastIsland}
 use Rattle.rv_asm.specs.Reach.{NotEarly, ReachesOn}
 use Rattle.rv_asm.specs.FinishedCode.{IsFinished}
-use Rattle.rv_asm.proofs.RefusalOrder.{no_rule_broken, bound_once, bound_by, named_is_bound, sum_small}
+use Rattle.rv_asm.proofs.RefusalOrder.{frame_small, none_unfit, no_rule_broken, bound_once, bound_by, named_is_bound, sum_small}
 use Rattle.rv_asm.proofs.Finish.{can_finish, finished_short}
 use Rattle.rv_asm.proofs.LinesAppended.{line_appends}
+use Rattle.rv_asm.proofs.CallReturns.{returns_next, returns_within}
 use Rattle.rv_asm.proofs.OneLineMore.{built_none, built_next}
 use Rattle.rv_asm.proofs.LabelNames.{named_none, named_next, low_label}
 use Rattle.rv_asm.proofs.Sizes.{sized_none, sized_next}
@@ -119,7 +122,7 @@ unbound_next context lines n spans b (Bind l) e s h label is =
     subst (λ k. place_of b k ≡ None) (label_is l label is) (s.named.unbound l.number (low_label context l (no_rule_broken context lines e n (Bind l) h)) (not_bound context lines n l e h))
 
 -- the next line can be put
-pub can_put : (context : Context) (lines : List Line) (n : ℕ) (spans : List LineSpan) (b : Buffer) (line : Line) → sp_to_args_end context.frame < 2 ^ 31 → lines_refusal context lines ≡ None → SoFar context lines n spans b → slice_get lines n ≡ Some line → CanPut context line b
+pub can_put : (context : Context) (lines : List Line) (n : ℕ) (spans : List LineSpan) (b : Buffer) (line : Line) → has_bad_frame context.frame lines ≡ false → lines_refusal context lines ≡ None → SoFar context lines n spans b → slice_get lines n ≡ Some line → CanPut context line b
 can_put context lines n spans b line frame e s h =
     let small = sum_small context lines e in
     let least = sum_take context lines n line h in
@@ -127,7 +130,8 @@ can_put context lines n spans b line frame e s h =
     let allocated = s.sized.allocated in
     record {
       rule = no_rule_broken context lines e n line h;
-      frame = frame;
+      frame = frame_small context.frame lines frame;
+      fit = none_unfit context.frame lines frame n line h;
       sound = s.built.sound;
       reach = s.sized.reach;
       few = omega (arith, small, least, allocated);
@@ -160,6 +164,18 @@ so_far_next context setting lines n spans new_spans old new line span e s h inde
       reach = subst (λ ls. ReachesOn context ls (spans ++ span ∷ [])) more reach;
     }
 
+-- where its call returns is within it
+pub within_line : (context : Context) (setting : EmitVState) (lines : List Line) (n : ℕ) (spans : List LineSpan) (old new : Buffer) (line : Line) (span : LineSpan) → lines_refusal context lines ≡ None → SoFar context lines n spans old → slice_get lines n ≡ Some line → LinePut context setting line old new span → ReturnsWithin context.flags line span
+within_line context setting lines n spans old new line span e s h put = returns_within context line old new span (line_appends context setting line old new span (no_rule_broken context lines e n line h) s.built.sound put)
+
+-- and is added to those of the lines before
+pub returns_so_far : (context : Context) (flags : IsaFlags) (lines : List Line) (n : ℕ) (spans new_spans : List LineSpan) (b : Buffer) (returns new_returns : List CallReturn) (line : Line) (span : LineSpan) → SoFar context lines n spans b → slice_get lines n ≡ Some line → span.index ≡ n → new_spans ≡ spans ++ span ∷ [] → returns ≡ returns_from flags spans 0 (take n lines) → new_returns ≡ returns ++ line_returns flags span.index span.start line → new_returns ≡ returns_from flags new_spans 0 (take (n + 1) lines)
+returns_so_far context flags lines n spans new_spans b returns new_returns line span s h index pushed before added =
+    added
+    ∙ (λ i. before i ++ line_returns flags (index i) span.start line)
+    ∙ sym (returns_next flags (take n lines) n spans line span s.built.count (take_count lines n line h))
+    ∙ (λ i. returns_from flags (sym pushed i) 0 (sym (take_next lines n line h) i))
+
 -- after the last
 record AtEnd (context : Context) (lines : List Line) (spans : List LineSpan) (b : Buffer) : Type 0 where
   built : LinesStand context lines spans b
@@ -186,10 +202,10 @@ ready context lines n spans b e le s =
     can_finish context lines spans b all.built all.named all.sized (sum_small context lines e) (named_is_bound context lines e)
 
 -- and then it is finished
-pub finished : (context : Context) (lines : List Line) (n : ℕ) (code : Code) (b : Buffer) → lines_refusal context lines ≡ None → length lines ≤ n → SoFar context lines n code.lines b → (f : Finishes label_kinds (shape_of b) code.bytes) → code.constants ≡ f.put.constants → code.labels ≡ labels_of b → code.relocs ≡ relocs_in (records_of b) → code.traps ≡ traps_in (records_of b) → code.unwinds ≡ unwinds_in (records_of b) → code.end ≡ length (bytes_of b) → IsFinished context lines code
-finished context lines n code b e le s f constants labels relocs traps unwinds end =
+pub finished : (context : Context) (lines : List Line) (n : ℕ) (code : Code) (b : Buffer) → lines_refusal context lines ≡ None → length lines ≤ n → SoFar context lines n code.lines b → code.returns ≡ returns_from context.flags code.lines 0 (take n lines) → (f : Finishes label_kinds (shape_of b) code.bytes) → code.constants ≡ f.put.constants → code.labels ≡ labels_of b → code.relocs ≡ relocs_in (records_of b) → code.traps ≡ traps_in (records_of b) → code.call_sites ≡ calls_in (records_of b) → code.try_call_sites ≡ tries_in (offset_or_zero (place_of b)) (records_of b) → code.patchable_call_sites ≡ patches_in (records_of b) → code.stack_maps ≡ maps_in (records_of b) → code.unwinds ≡ unwinds_in (records_of b) → code.end ≡ length (bytes_of b) → IsFinished context lines code
+finished context lines n code b e le s returns f constants labels relocs traps call_sites try_call_sites patchable_call_sites stack_maps unwinds end =
     let all = at_end context lines n code.lines b le s in
-    record { sink = b; built = all.built; named = all.named; sized = all.sized; early = all.early; reach = all.reach; ready = ready context lines n code.lines b e le s; finished = f; constants = constants; labels = labels; relocs = relocs; traps = traps; unwinds = unwinds; end = end }
+    record { sink = b; built = all.built; named = all.named; sized = all.sized; early = all.early; reach = all.reach; ready = ready context lines n code.lines b e le s; finished = f; constants = constants; returns = returns ∙ ap (returns_from context.flags code.lines 0) (take_whole lines n le); labels = labels; relocs = relocs; traps = traps; call_sites = call_sites; try_call_sites = try_call_sites; patchable_call_sites = patchable_call_sites; stack_maps = stack_maps; unwinds = unwinds; end = end }
 
 -- the code is short
 pub code_short : (context : Context) (lines : List Line) (n : ℕ) (spans : List LineSpan) (b : Buffer) (bytes : List ℕ) → lines_refusal context lines ≡ None → length lines ≤ n → SoFar context lines n spans b → Finishes label_kinds (shape_of b) bytes → length bytes < 2 ^ 32

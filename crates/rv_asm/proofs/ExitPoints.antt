@@ -1,7 +1,8 @@
 -- The labels that lines name, and those by which they are left, are bound.
-use Rattle.std.proofs.Common.{◌≡◌, ℕ, zero, suc, Bool, true, false, List, [], ◌∷◌, ◌++◌, Some, refl}
+use Rattle.std.proofs.Common.{◌≡◌, ℕ, zero, suc, Bool, true, false, List, [], ◌∷◌, ◌++◌, Option, Some, None, refl}
 use Rattle.std.specs.Prelude.{slice_get, unwrap_or, nat_eq, if◌then◌else◌, ◌||◌}
 use Rattle.std.proofs.lemmas.Bool.{eqb-true}
+use Rattle.rv_base.specs.declared.call.TryCallInfo.{TryCallInfo}
 use Rattle.rv_base.specs.declared.label.MachLabel.{MachLabel}
 use Rattle.rv_base.specs.Regs.{number_of}
 use Rattle.rv_machine.specs.Arithmetic.{low_word}
@@ -12,10 +13,10 @@ use Rattle.rv_inst.specs.declared.inst.Inst.{Inst}
 use Rattle.rv_inst.specs.declared.inst.Inst.TheVariants.{TrapIf, Jal, CondBr, BrTable}
 use Rattle.rv_inst.specs.declared.inst.CondBrTarget.{CondBrTarget}
 use Rattle.rv_inst.specs.declared.inst.CondBrTarget.TheVariants.{Label, Fallthrough}
-use Rattle.rv_inst.specs.Meaning.{Environment, Exit, Next, To, Leave, Break, Trap, Data, compares, exit_of, inst_exit, target_exit}
-use Rattle.rv_inst.specs.Operands.{named_labels, inst_labels, target_labels}
+use Rattle.rv_inst.specs.Meaning.{Environment, Exit, Next, To, Leave, Break, Trap, Data, compares, exit_of, inst_exit, target_exit, try_exit, return_exit}
+use Rattle.rv_inst.specs.Operands.{named_labels, inst_labels, labels_of, table_of, target_labels, targets_of, try_call_of, try_labels}
 use Rattle.rv_asm.specs.Refusal.{is_bound}
-use Rattle.rv_asm.specs.Simulation.{binding_line}
+use Rattle.rv_asm.specs.Reported.{binding_line}
 
 -- these labels are bound
 abbrev pub AllBound : List Line → List MachLabel → Type 0
@@ -59,6 +60,14 @@ inst_bound lines env (BrTable index tmp1 tmp2 []) v b = tt
 inst_bound lines env (BrTable index tmp1 tmp2 (default ∷ labels)) v b = table_bound lines default labels (low_word (reg v (number_of index))) b.0 b.1
 inst_bound lines env (TrapIf cmp code) v b = either_bound lines (compares cmp v) (Trap code) Next tt tt
 inst_bound lines env _ v b = tt
+
+-- a call goes on to a label that it names
+try_bound : (lines : List Line) (t : Option TryCallInfo) (more : List MachLabel) → AllBound lines (try_labels t ++ more) → ExitBound lines (try_exit t)
+try_bound lines None more b = tt
+try_bound lines (Some t) more b = b.0
+
+pub return_bound : (lines : List Line) (inst : Inst) → AllBound lines (inst_labels inst) → ExitBound lines (return_exit (Put inst))
+return_bound lines inst b = try_bound lines (try_call_of inst) (labels_of (targets_of inst)) (bound_first lines (try_labels (try_call_of inst) ++ labels_of (targets_of inst)) (table_of inst) b)
 
 pub exit_bound : (lines : List Line) (env : Environment) (line : Line) (v : Values) → AllBound lines (named_labels line) → ExitBound lines (exit_of env line v)
 exit_bound lines env (Put inst) v b = inst_bound lines env inst v b

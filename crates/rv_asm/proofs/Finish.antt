@@ -18,8 +18,7 @@ use Rattle.mach_buffer.proofs.Laws.{last_near, slack_from_reach, reaches_from_sl
 use Rattle.rv_emit.specs.Emitted.{Buffer, IsSoundBuffer, pending}
 use Rattle.rv_asm.specs.Refusal.{size_limit, is_bound, size_sum}
 use Rattle.rv_asm.specs.LinesInBuffer.{IsNamed, LinesStand, Named, Sized}
-use Rattle.rv_asm.specs.Reported.{start_of}
-use Rattle.rv_asm.specs.Simulation.{binding_line}
+use Rattle.rv_asm.specs.Reported.{start_of, binding_line}
 use Rattle.rv_asm.proofs.ExitPoints.{bind_at}
 
 -- each label that a line names is bound by a line

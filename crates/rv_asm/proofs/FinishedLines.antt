@@ -1,5 +1,5 @@
 -- Code that a buffer of lines was finished to runs as its job says.
-use Rattle.std.proofs.Common.{◌≡◌, ℕ, suc, ◌%◌, ◌<◌, length, Some, None, arith, refl, sym, ap, subst, ◌∙◌}
+use Rattle.std.proofs.Common.{◌≡◌, ℕ, suc, ◌%◌, ◌<◌, false, length, Some, None, arith, refl, sym, ap, subst, ◌∙◌}
 use Rattle.std.specs.Prelude.{slice_get}
 use Rattle.rv_base.specs.LabelUse.{code_limit}
 use Rattle.rv_inst.specs.Context.{context_of}
@@ -20,7 +20,8 @@ use Rattle.rv_emit.specs.InstParts.{parts_of}
 use Rattle.rv_emit.specs.Sites.{Site, GapIn}
 use Rattle.rv_emit.specs.Standing.{IsFinishedTo}
 use Rattle.rv_emit.proofs.Laws.{are_blocks, gap_stands, parts_stand}
-use Rattle.rv_asm.specs.Reported.{start_of, end_of, end_before}
+use Rattle.rv_asm.specs.Reported.{start_of, end_of, end_before, returns_from}
+use Rattle.rv_asm.specs.Refusal.{is_unfit}
 use Rattle.rv_asm.specs.Simulation.{RunsAsListed, HasOperations}
 use Rattle.rv_asm.specs.LinesInBuffer.{StandsAfter, LinesStand}
 use Rattle.rv_asm.specs.Placed.{Addresses, IsPlaced}
@@ -75,13 +76,15 @@ module _ (job : Job) (code : Code) (b : Buffer) (built : LinesStand (context_of 
         (has_operation (site_of job code known base symbols slots mem) (start_of code.lines i) d line.setting inst (end_of code.lines i) one line.stands mem (placed_at code base symbols slots mem (context_of job) f.finishes.put.place (records_of b) placed)).0;
   }
 
-  pub built_runs : length code.bytes < code_limit → code.end ≡ length (bytes_of b) → ((i : ℕ) (line : Line) → slice_get job.lines i ≡ Some line → AllBound job.lines (named_labels line)) → RunsAsListed job code
-  built_runs short end named = threaded_runs job code known (record {
+  pub built_runs : length code.bytes < code_limit → code.end ≡ length (bytes_of b) → code.returns ≡ returns_from job.flags code.lines 0 job.lines → ((i : ℕ) (line : Line) → slice_get job.lines i ≡ Some line → is_unfit job.frame line ≡ false) → ((i : ℕ) (line : Line) → slice_get job.lines i ≡ Some line → AllBound job.lines (named_labels line)) → RunsAsListed job code
+  built_runs short end returns fit named = threaded_runs job code known (record {
     line = λ base symbols slots mem placed i line e. (each_in base symbols slots mem placed i line e).0;
     ruled = ruled;
+    fit = fit;
     named = named;
     gap = λ base symbols slots mem placed i lt. (gap_in base symbols slots mem placed i lt).leads;
     last = λ i e. end ∙ built.ends ∙ ap (end_before code.lines) (sym e);
+    returns = returns;
     bound = λ label e. f.finishes.grows.places label _ (bound_place job.lines code.lines b label built e);
     constants = λ number. f.finishes.offsets number ∙ ap (λ places. offset_in places number) (sym constants);
     traps = λ at cause r. subst (λ ts. IsTrapAt ts at cause) (sym traps) (trap_told (records_of b) at cause r);

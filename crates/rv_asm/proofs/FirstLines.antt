@@ -91,16 +91,17 @@ pub uses_more : (context : Context) (spans more : List LineSpan) (i : ℕ) (line
 uses_more context spans more i [] le = refl
 uses_more context spans more i (Put inst ∷ lines) le =
     let a = start_more spans more i (omega arith) in
+    let e = end_more spans more i (omega arith) in
     let b = uses_more context spans more (suc i) lines (omega arith) in
-    λ j. uses_in context (a j) inst ++ b j
+    λ j. uses_in context (a j) (e j) inst ++ b j
 uses_more context spans more i (Bind label ∷ lines) le = uses_more context spans more (suc i) lines (omega arith)
 
 pub uses_append : (context : Context) (spans : List LineSpan) (i : ℕ) (lines more : List Line) → uses_from context spans i (lines ++ more) ≡ uses_from context spans i lines ++ uses_from context spans (i + length lines) more
 uses_append context spans i [] more = let same : i ≡ i + 0 = omega arith in ap (λ n. uses_from context spans n more) same
 uses_append context spans i (Put inst ∷ lines) more =
     let same : suc i + length lines ≡ i + suc (length lines) = omega arith in
-    ap (λ us. uses_in context (start_of spans i) inst ++ us) (uses_append context spans (suc i) lines more ∙ ap (λ n. uses_from context spans (suc i) lines ++ uses_from context spans n more) same)
-    ∙ sym (append_assoc (uses_in context (start_of spans i) inst) (uses_from context spans (suc i) lines) (uses_from context spans (i + suc (length lines)) more))
+    ap (λ us. uses_in context (start_of spans i) (end_of spans i) inst ++ us) (uses_append context spans (suc i) lines more ∙ ap (λ n. uses_from context spans (suc i) lines ++ uses_from context spans n more) same)
+    ∙ sym (append_assoc (uses_in context (start_of spans i) (end_of spans i) inst) (uses_from context spans (suc i) lines) (uses_from context spans (i + suc (length lines)) more))
 uses_append context spans i (Bind label ∷ lines) more =
     let same : suc i + length lines ≡ i + suc (length lines) = omega arith in
     uses_append context spans (suc i) lines more ∙ ap (λ n. uses_from context spans (suc i) lines ++ uses_from context spans n more) same
@@ -171,16 +172,16 @@ due_more context lines more spans more_spans i at distance count le d =
 
 -- ---- the uses that are open, as one line is added
 
--- those of a line that starts at an offset
-abbrev pub own_uses : (context : Context) → Line → ℕ → List (Use LabelUse)
-own_uses context (Put inst) start = uses_in context start inst
-own_uses context (Bind label) start = []
+-- those of a line between two offsets
+abbrev pub own_uses : (context : Context) → Line → ℕ → ℕ → List (Use LabelUse)
+own_uses context (Put inst) start end = uses_in context start end inst
+own_uses context (Bind label) start end = []
 
 open_at : (context : Context) (lines : List Line) (spans : List LineSpan) (k : ℕ) → first_after_island context lines spans (length lines) ≡ k → uses_after_island context lines spans ≡ uses_from context spans k (drop k lines)
 open_at context lines spans k e = ap (λ n. uses_from context spans n (drop n lines)) e
 
-own_last : (context : Context) (spans : List LineSpan) (line : Line) (span : LineSpan) → uses_from context (spans ++ span ∷ []) (length spans) (line ∷ []) ≡ own_uses context line span.start
-own_last context spans (Put inst) span = append-nil _ ∙ ap (λ n. uses_in context n inst) (start_last spans span)
+own_last : (context : Context) (spans : List LineSpan) (line : Line) (span : LineSpan) → uses_from context (spans ++ span ∷ []) (length spans) (line ∷ []) ≡ own_uses context line span.start span.end
+own_last context spans (Put inst) span = append-nil _ ∙ (λ j. uses_in context (start_last spans span j) (end_last spans span j) inst)
 own_last context spans (Bind label) span = refl
 
 open_next : (context : Context) (lines : List Line) (spans : List LineSpan) (line : Line) (span : LineSpan) → length spans ≡ length lines →
@@ -208,7 +209,7 @@ module _ (context : Context) (lines : List Line) (spans : List LineSpan) (line :
       open_at context all (spans ++ span ∷ []) (suc (length lines)) from ∙ ap (uses_from context (spans ++ span ∷ []) (suc (length lines))) (drop_all (suc (length lines)) all (omega arith))
 
   -- an island before the line: its own
-  pub open_after : is_island context line span.start span.end ≡ false → nat_lt (end_before spans (length lines)) span.start ≡ true → uses_after_island context (lines ++ line ∷ []) (spans ++ span ∷ []) ≡ own_uses context line span.start
+  pub open_after : is_island context line span.start span.end ≡ false → nat_lt (end_before spans (length lines)) span.start ≡ true → uses_after_island context (lines ++ line ∷ []) (spans ++ span ∷ []) ≡ own_uses context line span.start span.end
   open_after e f =
       let all = lines ++ line ∷ [] in
       let all_spans = spans ++ span ∷ [] in
@@ -217,7 +218,7 @@ module _ (context : Context) (lines : List Line) (spans : List LineSpan) (line :
       open_at context all all_spans n from ∙ (λ j. uses_from context all_spans (sym count j) (drop-append_seam lines (line ∷ []) j)) ∙ own_last context spans line span
 
   -- no island: its own are added
-  pub open_on : is_island context line span.start span.end ≡ false → nat_lt (end_before spans (length lines)) span.start ≡ false → uses_after_island context (lines ++ line ∷ []) (spans ++ span ∷ []) ≡ uses_after_island context lines spans ++ own_uses context line span.start
+  pub open_on : is_island context line span.start span.end ≡ false → nat_lt (end_before spans (length lines)) span.start ≡ false → uses_after_island context (lines ++ line ∷ []) (spans ++ span ∷ []) ≡ uses_after_island context lines spans ++ own_uses context line span.start span.end
   open_on e f =
       let all = lines ++ line ∷ [] in
       let all_spans = spans ++ span ∷ [] in

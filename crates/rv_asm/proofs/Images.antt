@@ -9,7 +9,8 @@ use Rattle.std.proofs.lemmas.List.{get_or-take, get_or-drop, length-take, length
 use Rattle.std.proofs.lemmas.Option.{same_Some}
 use Rattle.rv_base.specs.LabelUse.{SameOutside}
 use Rattle.rv_base.specs.declared.reloc.Reloc.{Reloc}
-use Rattle.rv_base.specs.declared.reloc.Reloc.TheVariants.{RiscvGotHi20, RiscvPCRelHi20, RiscvPCRelLo12I, Abs8}
+use Rattle.rv_base.specs.declared.reloc.Reloc.TheVariants.{RiscvCallPlt, RiscvGotHi20, RiscvPCRelHi20, RiscvPCRelLo12I, Abs8}
+use Rattle.rv_base.specs.declared.external_name.ExternalName.{ExternalName}
 use Rattle.rv_base.specs.declared.trap.TrapCode.{TrapCode}
 use Rattle.mach_buffer.specs.Records.{relocs_in, traps_in, record_relocs, record_traps, event_relocs}
 use Rattle.mach_buffer.specs.Windows.{window, IsApart}
@@ -28,10 +29,10 @@ use Rattle.rv_inst.specs.Records.{IsRecorded, IsTrapAt}
 use Rattle.rv_inst.specs.Relocations.{field_size, IsOutside}
 use Rattle.rv_inst.specs.declared.code.Code.{Code}
 use Rattle.rv_inst.specs.declared.label_use.LabelUse.{LabelUse}
-use Rattle.rv_inst.specs.declared.label_use.LabelUse.TheVariants.{PCRelHi20, PCRelLo12I}
-use Rattle.rv_emit.specs.Images.{EndsWithin, IsClear, AllClear, FieldsStand, KeepsOutside, HoldsDistance, IsFilledWith, IsFilled}
+use Rattle.rv_inst.specs.declared.label_use.LabelUse.TheVariants.{PCRel32, PCRelHi20, PCRelLo12I}
+use Rattle.rv_emit.specs.Images.{EndsWithin, IsClear, AllClear, FieldsStand, KeepsOutside, HoldsDistance, IsFilledWith, IsLinkedWith, IsFilled}
 use Rattle.rv_emit.specs.Sites.{Site, IsPlacedAt}
-use Rattle.rv_emit.specs.Slots.{Symbol, AddressOf, SlotOf, upper_event, lower_event}
+use Rattle.rv_emit.specs.Slots.{Symbol, AddressOf, SlotOf, upper_event, lower_event, call_event}
 use Rattle.rv_emit.specs.Standing.{IsFinishedTo}
 use Rattle.rv_emit.proofs.Laws.{bits_back, ends_later}
 use Rattle.rv_asm.specs.Placed.{Addresses, address_of_name, bytes_from, distance_to, IsPlaced}
@@ -138,6 +139,10 @@ module _ (code : Code) (base : ℕ) (symbols slots : Addresses) (mem : Memory) (
       on : (offset : ℕ) (e : Event) (i : ℕ) → slice_get (event_relocs offset e) i ≡ Some r → IsClear from size offset e → IsApart (from + k) 1 r.offset (field_size r.kind)
       on offset (event.Trap cause) i tells c = absurd (cc)
       on offset (event.Unwind u) i tells c = absurd (cc)
+      on offset event.CallSite i tells c = absurd (cc)
+      on offset (event.TryCallSite to_fp handlers) i tells c = absurd (cc)
+      on offset (event.PatchableCallSite len) i tells c = absurd (cc)
+      on offset (event.StackMap span entries) i tells c = absurd (cc)
       on offset (event.Reloc kind to addend) zero tells c =
           let is : record { offset = offset; kind = kind; target = to; addend = addend } ≡ r = same_Some _ _ tells in
           subst (λ (x : MachReloc). IsApart (from + k) 1 x.offset (field_size x.kind)) is (⊎_elim (λ before. inl (omega arith)) (λ after. inr (omega arith)) c)
@@ -206,6 +211,23 @@ module _ (code : Code) (base : ℕ) (symbols slots : Addresses) (mem : Memory) (
           holds = holds_both at (distance_to (wrap (base + at)) f.0) (omega arith) f.2.1.aims f.2.1.kept g.aims g.kept;
         }
 
+    -- the distance of a call is whole in its two words
+    calls : (k at : ℕ) (name : ExternalName) → slice_get records k ≡ Some (record { offset = at; event = call_event name }) → IsLinkedWith site code.bytes at name
+    calls k at name h =
+        let u = reloc_told same k at RiscvCallPlt (target.ExternalName name) (pos 0) h in
+        let f = placed.filled u.0 _ u.1 in
+        let sum = sum_leads (address_of_name symbols name.number) (pos 0) f.0 f.1 in
+        let fits : f.0 < 2 ^ 64 = omega arith in
+        let le : at + 8 ≤ length code.bytes = ends k _ h in
+        let here = sym (window_from mem base (length code.bytes) at 8 (omega arith)) in
+        record {
+          distance = distance_to (wrap (base + at)) f.0;
+          near = f.2.0;
+          leads = leads_to at f.0 fits ∙ sym sum;
+          aims = subst (λ w. Aims PCRel32 w (distance_to (wrap (base + at)) f.0)) here f.2.1.aims;
+          kept = subst (SameOutside (marks_of PCRel32) (window code.bytes at 8)) here f.2.1.kept;
+        }
+
     pub is_filled : IsFilled site code.bytes
     is_filled = record {
       distances = distances;
@@ -215,4 +237,5 @@ module _ (code : Code) (base : ℕ) (symbols slots : Addresses) (mem : Memory) (
           let sum = sum_leads (address_of_name symbols name.number) addend f.0 f.1 in
           let le : at + 8 ≤ length code.bytes = ends k _ h in
           window_from mem base (length code.bytes) at 8 (omega arith) ∙ f.2 ∙ ap (to_le_bytes w64) (sym sum);
+      calls = calls;
     }

@@ -3,12 +3,13 @@ use Rattle.std.proofs.Common.{◌≡◌, ℕ, zero, suc, ◌+◌, ◌<◌, ◌�
 use Rattle.std.specs.Prelude.{slice_get, nat_eq, nat_le, nat_lt, is_some, option_map, unwrap_or}
 use Rattle.std.proofs.lemmas.Bool.{true≢false, eq-eqb, leb-false, ltb-true, ltb-false, or_parts, cases_eq, lt-ltb}
 use Rattle.std.proofs.lemmas.List.{append-nil, map-append}
+use Rattle.rv_base.specs.declared.call.TryCallInfo.{TryCallInfo}
 use Rattle.rv_base.specs.declared.label.MachLabel.{MachLabel}
 use Rattle.mach_labels.specs.Table.{first_inner, first_constant}
 use Rattle.rv_inst.specs.Context.{Context}
 use Rattle.rv_inst.specs.declared.code.LineSpan.{LineSpan}
 use Rattle.rv_inst.specs.declared.inst.Inst.{Inst}
-use Rattle.rv_inst.specs.declared.inst.Inst.TheVariants.{EmitIsland, BrTable}
+use Rattle.rv_inst.specs.declared.inst.Inst.TheVariants.{EmitIsland, BrTable, ReturnCall, ReturnCallInd}
 use Rattle.rv_inst.specs.declared.inst.CondBrTarget.TheVariants.{Label, Fallthrough}
 use Rattle.rv_inst.specs.declared.inst.Line.{Line}
 use Rattle.rv_inst.specs.declared.inst.Line.TheVariants.{Inst as Put, Bind}
@@ -18,9 +19,9 @@ use Rattle.rv_inst.specs.declared.error.Rule.TheVariants as rule_of
 use Rattle.rv_inst.specs.Rules.{broken_rule}
 use Rattle.rv_inst.specs.declared.targets.Targets.{Targets}
 use Rattle.rv_inst.specs.declared.targets.Targets.TheVariants.{Nowhere, Jumps, Branches, Refers, RefersConstant}
-use Rattle.rv_inst.specs.Operands.{targets_of, table_of, labels_of as target_names, inst_labels}
+use Rattle.rv_inst.specs.Operands.{targets_of, table_of, labels_of as target_names, inst_labels, try_call_of, try_labels}
 use Rattle.rv_inst.specs.LabelUse.{label_kinds, has_veneer_of}
-use Rattle.rv_inst.specs.Sizes.{table_space, line_space}
+use Rattle.rv_inst.specs.Sizes.{line_space}
 use Rattle.mach_buffer.specs.declared.uses.Use.{Use}
 use Rattle.mach_buffer.specs.Buffer.{bytes_of, uses_of, place_of, labels_of}
 use Rattle.mach_buffer.specs.Shape.{recorded, core, listed, constant_label}
@@ -28,7 +29,7 @@ use Rattle.mach_buffer.specs.Islands.{is_far}
 use Rattle.mach_buffer.proofs.Laws.{both_lists, comes_from, slice_get-append, slice_get-append_last, append_each, recorded_get}
 use Rattle.rv_emit.specs.Emitted.{Buffer, IsFarUse, AppendsInst, AppendsIsland, IslandIfNeeded}
 use Rattle.rv_inst.specs.Forms.{jump_kind}
-use Rattle.rv_inst.specs.Uses.{use_at, target_uses, uses_in}
+use Rattle.rv_inst.specs.Uses.{use_at, target_uses, uses_by, uses_in}
 use Rattle.rv_emit.proofs.Laws.{Each, each_none, each_more, uses_kinds}
 use Rattle.rv_asm.specs.Reported.{start_of, end_of, binds_from}
 use Rattle.rv_asm.specs.Refusal.{binds, is_bound}
@@ -182,12 +183,21 @@ get_after : {X : Type 0} (xs ys : List X) (i : ℕ) → slice_get (xs ++ ys) (le
 get_after [] ys i = let none : 0 + i ≡ i = omega arith in ap (slice_get ys) none
 get_after (x ∷ xs) ys i = let next : suc (length xs) + i ≡ suc (length xs + i) = omega arith in ap (slice_get (x ∷ xs ++ ys)) next ∙ get_after xs ys i
 
+-- one of the labels after others
+of_rest : (labels more : List MachLabel) (number : ℕ) → IsOf more number → IsOf (labels ++ more) number
+of_rest labels more number o = record { place = length labels + o.place; label = o.label; names = get_after labels more o.place ∙ o.names; is = o.is }
+
 -- a use of a table's label is of one that the instruction names
 pub table_named : (inst : Inst) (u : Use LabelUse) → IsFarUse (table_of inst) u → IsOf (inst_labels inst) u.label.number
-table_named inst u f = record { place = length (target_names (targets_of inst)) + f.index; label = u.label; names = get_after (target_names (targets_of inst)) (table_of inst) f.index ∙ f.names; is = refl }
+table_named inst u f = of_rest (try_labels (try_call_of inst) ++ target_names (targets_of inst)) (table_of inst) u.label.number (record {
+  place = f.index;
+  label = u.label;
+  names = f.names;
+  is = refl;
+})
 
-pub uses_labels : (context : Context) (start : ℕ) (inst : Inst) → Each (UsesOneOf (inst_labels inst)) (uses_in context start inst)
-uses_labels context start inst j u h = ⊎_elim (λ o. inl (of_first (target_names (targets_of inst)) (table_of inst) u.label.number o)) (λ high. inr high) (on (targets_of inst) j u h)
+pub uses_labels : (context : Context) (start end : ℕ) (inst : Inst) → Each (UsesOneOf (inst_labels inst)) (uses_in context start end inst)
+uses_labels context start end inst = by (try_call_of inst)
   where
     first : (label : MachLabel) (labels : List MachLabel) → IsOf (label ∷ labels) label.number
     first label labels = record { place = 0; label = label; names = refl; is = refl }
@@ -210,6 +220,10 @@ uses_labels context start inst j u h = ⊎_elim (λ o. inl (of_first (target_nam
         each_more (UsesOneOf []) _ (use_at (start + 4) (constant_label k) PCRelLo12I ∷ []) (inr (omega arith, refl))
         (each_more (UsesOneOf []) _ [] (inr (omega arith, refl)) (each_none _))
 
+    by : (t : Option TryCallInfo) → Each (UsesOneOf (try_labels t ++ target_names (targets_of inst) ++ table_of inst)) (uses_by context.flags start end t (targets_of inst))
+    by None = λ j u h. ⊎_elim (λ o. inl (of_first (target_names (targets_of inst)) (table_of inst) u.label.number o)) (λ high. inr high) (on (targets_of inst) j u h)
+    by (Some t) = each_more (UsesOneOf _) _ [] (inl (first t.continuation _)) (each_none _)
+
 own_named : (lines : List Line) (inst : Inst) (number : ℕ) → IsOf (inst_labels inst) number → IsNamed (lines ++ Put inst ∷ []) number
 own_named lines inst number o = record {
   index = length lines;
@@ -224,12 +238,13 @@ own_named lines inst number o = record {
 good_block : (context : Context) (lines : List Line) (inst : Inst) (old new : Buffer) → AppendsInst context inst old new → AreGood lines old → AreGood (lines ++ Put inst ∷ []) new
 good_block context lines inst old new p h =
     let start = length (bytes_of old) in
+    let end = length (bytes_of new) in
     let all = lines ++ Put inst ∷ [] in
-    let own = uses_in context start inst ++ p.far in
+    let own = uses_in context start end inst ++ p.far in
     let whole : recorded (uses_of new) ≡ recorded (uses_of old) ++ recorded own = ap recorded p.adds.uses ∙ map-append core (uses_of old) own in
     let keeps : Keeps old new = λ label low e. ap (λ (place : ℕ → Option ℕ). is_some (place label)) p.adds.places ∙ e in
-    let good : Each (IsGood all new) own = both_lists (IsGood all new) (uses_in context start inst) p.far
-    (λ j u e. (uses_kinds context start inst j u e, inr (⊎_elim (λ o. inl (own_named lines inst u.label.number o)) (λ high. inr high.0) (uses_labels context start inst j u e))))
+    let good : Each (IsGood all new) own = both_lists (IsGood all new) (uses_in context start end inst) p.far
+    (λ j u e. (uses_kinds context start end inst j u e, inr (⊎_elim (λ o. inl (own_named lines inst u.label.number o)) (λ high. inr high.0) (uses_labels context start end inst j u e))))
     (λ j u e. let f = p.table j u e in (inr f.far, inr (inl (own_named lines inst u.label.number (table_named inst u f))))) in
     let each : Each (IsGood all new) (recorded own) = λ j u e. let from = comes_from core own j u e in subst (IsGood all new) from.is (good j from.from from.there) in
     good_as all new (recorded (uses_of old) ++ recorded own) whole
@@ -240,7 +255,9 @@ good_line lines more b h j u e = good_kept lines more b b (λ label low g. g) u 
 
 pub good_emitted : (context : Context) (lines : List Line) (inst : Inst) (old new : Buffer) → Appends context inst old new → AreGood lines old → AreGood (lines ++ Put inst ∷ []) new
 good_emitted context lines (EmitIsland space) old new e h = good_line lines (Put (EmitIsland space) ∷ []) new (good_room lines space old new e.0 e.1 h)
-good_emitted context lines (BrTable index tmp1 tmp2 targets) old new (mid, made, room, words) h = good_block context lines (BrTable index tmp1 tmp2 targets) mid new words (good_room lines (table_space (length targets)) old mid made room h)
+good_emitted context lines (BrTable index tmp1 tmp2 targets) old new (mid, made, room, words) h = good_block context lines (BrTable index tmp1 tmp2 targets) mid new words (good_room lines _ old mid made room h)
+good_emitted context lines (ReturnCall info) old new (mid, made, room, words) h = good_block context lines (ReturnCall info) mid new words (good_room lines _ old mid made room h)
+good_emitted context lines (ReturnCallInd info) old new (mid, made, room, words) h = good_block context lines (ReturnCallInd info) mid new words (good_room lines _ old mid made room h)
 good_emitted context lines inst old new e h = good_block context lines inst old new e h
 
 -- ---- the loop's invariant
@@ -258,12 +275,17 @@ room_keeps distance old new made m = ⊎_elim
 block_keeps : (context : Context) (inst : Inst) (old new : Buffer) → AppendsInst context inst old new → (labels_of new ≡ labels_of old) × KeepsLow old new
 block_keeps context inst old new p = (p.adds.labels, λ label low. ap (λ (place : ℕ → Option ℕ). place label) p.adds.places)
 
+after_keeps : (context : Context) (inst : Inst) (space : ℕ) (old mid new : Buffer) (made : Bool) → IslandIfNeeded space old mid made → AppendsInst context inst mid new → (labels_of new ≡ labels_of old) × KeepsLow old new
+after_keeps context inst space old mid new made room words =
+    let first = room_keeps space old mid made room in
+    let next = block_keeps context inst mid new words in
+    (next.0 ∙ first.0, λ label low. next.1 label low ∙ first.1 label low)
+
 pub emitted_keeps : (context : Context) (inst : Inst) (old new : Buffer) → Appends context inst old new → (labels_of new ≡ labels_of old) × KeepsLow old new
 emitted_keeps context (EmitIsland space) old new e = room_keeps space old new e.0 e.1
-emitted_keeps context (BrTable index tmp1 tmp2 targets) old new (mid, made, room, words) =
-    let first = room_keeps (table_space (length targets)) old mid made room in
-    let next = block_keeps context (BrTable index tmp1 tmp2 targets) mid new words in
-    (next.0 ∙ first.0, λ label low. next.1 label low ∙ first.1 label low)
+emitted_keeps context (BrTable index tmp1 tmp2 targets) old new (mid, made, room, words) = after_keeps context (BrTable index tmp1 tmp2 targets) _ old mid new made room words
+emitted_keeps context (ReturnCall info) old new (mid, made, room, words) = after_keeps context (ReturnCall info) _ old mid new made room words
+emitted_keeps context (ReturnCallInd info) old new (mid, made, room, words) = after_keeps context (ReturnCallInd info) _ old mid new made room words
 emitted_keeps context inst old new e = block_keeps context inst old new e
 
 pub named_none : (b : Buffer) → uses_of b ≡ [] → labels_of b ≡ [] → ((label : ℕ) → place_of b label ≡ None) → Named [] [] b

@@ -22,4 +22,6 @@ pub mod AssemblyLoop
 pub mod ValuesKept
 pub mod LinesAppended
 pub mod LineRecords
+pub mod CallReturns
 pub mod Relocations
+pub mod Handlers

@@ -1,13 +1,13 @@
 -- The records of lines, as they are recorded one line after another.
 use Rattle.std.proofs.Common.{◌≡◌, ℕ, suc, ◌+◌, ◌≤◌, Bool, List, [], ◌∷◌, ◌++◌, length, refl, ap, sym, ◌∙◌, arith, ⊎_elim, append_assoc, append-nil}
-use Rattle.rv_inst.specs.Sizes.{table_space}
 use Rattle.rv_inst.specs.Context.{Context}
 use Rattle.rv_inst.specs.declared.code.LineSpan.{LineSpan}
 use Rattle.rv_inst.specs.declared.inst.Inst.{Inst}
-use Rattle.rv_inst.specs.declared.inst.Inst.TheVariants.{EmitIsland, BrTable}
+use Rattle.rv_inst.specs.declared.inst.Inst.TheVariants.{EmitIsland, BrTable, ReturnCall, ReturnCallInd}
 use Rattle.rv_inst.specs.declared.inst.Line.{Line}
 use Rattle.rv_inst.specs.Records.{inst_records}
 use Rattle.mach_buffer.specs.Buffer.{bytes_of, records_of}
+use Rattle.mach_buffer.specs.declared.records.MachRecord.{MachRecord}
 use Rattle.rv_emit.specs.Emitted.{Buffer, IslandIfNeeded}
 use Rattle.rv_asm.specs.Reported.{start_of, end_of, line_records, records_from}
 use Rattle.rv_asm.proofs.LabelNames.{start_more, end_more, start_last, end_last}
@@ -17,10 +17,16 @@ use Rattle.rv_asm.proofs.LinesAppended.{Appends}
 pub room_records : (distance : ℕ) (old new : Buffer) (made : Bool) → IslandIfNeeded distance old new made → records_of new ≡ records_of old
 room_records distance old new made m = ⊎_elim (λ same. ap (λ (b : Buffer). records_of b) same.1) (λ put. put.1.records) m.put
 
+-- nor does one before other records
+after_room : (distance : ℕ) (old mid new : Buffer) (made : Bool) (own : List MachRecord) → IslandIfNeeded distance old mid made → records_of new ≡ records_of mid ++ own → records_of new ≡ records_of old ++ own
+after_room distance old mid new made own room records = records ∙ ap (λ rs. rs ++ own) (room_records distance old mid made room)
+
 -- an instruction records its own
 pub appended_records : (context : Context) (inst : Inst) (old new : Buffer) → Appends context inst old new → records_of new ≡ records_of old ++ inst_records context (length (bytes_of old)) (length (bytes_of new)) inst
 appended_records context (EmitIsland space) old new (made, room) = room_records space old new made room ∙ sym (append-nil (records_of old))
-appended_records context (BrTable index tmp1 tmp2 targets) old new (mid, made, room, words) = words.records ∙ ap (λ ts. ts ++ []) (room_records (table_space (length targets)) old mid made room)
+appended_records context (BrTable index tmp1 tmp2 targets) old new (mid, made, room, words) = after_room _ old mid new made [] room words.records
+appended_records context (ReturnCall info) old new (mid, made, room, words) = after_room _ old mid new made (inst_records context (length (bytes_of mid)) (length (bytes_of new)) (ReturnCall info)) room words.records
+appended_records context (ReturnCallInd info) old new (mid, made, room, words) = after_room _ old mid new made [] room words.records
 appended_records context inst old new e = e.records
 
 -- a span more changes nothing for the lines before it

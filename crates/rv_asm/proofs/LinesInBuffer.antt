@@ -15,8 +15,8 @@ use Rattle.rv_inst.specs.LabelUse.{label_kinds, marks_of}
 use Rattle.rv_inst.specs.Rules.{inst_rule, broken_rule}
 use Rattle.rv_inst.specs.Records.{inst_records}
 use Rattle.rv_inst.specs.Operands.{inst_constant}
-use Rattle.rv_inst.specs.declared.inst.Inst.TheVariants.{EmitIsland, BrTable}
-use Rattle.rv_inst.specs.Sizes.{words_in, extent_of, table_space, line_space}
+use Rattle.rv_inst.specs.declared.inst.Inst.TheVariants.{EmitIsland, BrTable, ReturnCall, ReturnCallInd}
+use Rattle.rv_inst.specs.Sizes.{words_in, extent_of, line_space}
 use Rattle.mach_buffer.specs.declared.records.ConstPlace.{ConstPlace}
 use Rattle.mach_buffer.specs.declared.uses.Use.{Use}
 use Rattle.mach_buffer.specs.Reach.{is_pending, is_needed, deadlines}
@@ -69,7 +69,9 @@ named_with (Some k) named = refl
 -- an instruction names its own
 appended_named : (context : Context) (inst : Inst) (old new : Buffer) → Appends context inst old new → named_of new ≡ with_constant (inst_constant inst) (named_of old)
 appended_named context (EmitIsland space) old new (made, room) = room_named space old new made room
-appended_named context (BrTable index tmp1 tmp2 targets) old new (mid, made, room, words) = words.named ∙ room_named (table_space (length targets)) old mid made room
+appended_named context (BrTable index tmp1 tmp2 targets) old new (mid, made, room, words) = words.named ∙ room_named _ old mid made room
+appended_named context (ReturnCall info) old new (mid, made, room, words) = words.named ∙ room_named _ old mid made room
+appended_named context (ReturnCallInd info) old new (mid, made, room, words) = words.named ∙ room_named _ old mid made room
 appended_named context inst old new e = e.named ∙ named_with (inst_constant inst) (named_of old)
 
 -- ---- the constants that come to stand
@@ -97,7 +99,9 @@ room_turn flags distance old new made s w f room turn = (gap_put flags distance 
 
 appended_apart : (context : Context) (inst : Inst) (old new : Buffer) → IsSoundBuffer old → HasWindows old → FieldsStand (shape_of old) → StandInTurn (shape_of old) → Appends context inst old new → StandOutside (registered_of new) (constants_of new) (length (bytes_of new) - words_in (extent_of context inst)) (length (bytes_of new))
 appended_apart context (EmitIsland space) old new s w f turn (made, room) = room_apart new (room_turn context.flags space old new made s w f room turn)
-appended_apart context (BrTable index tmp1 tmp2 targets) old new s w f turn (mid, made, room, words) = inst_apart context (BrTable index tmp1 tmp2 targets) mid new (room_turn context.flags (table_space (length targets)) old mid made s w f room turn) words
+appended_apart context (BrTable index tmp1 tmp2 targets) old new s w f turn (mid, made, room, words) = inst_apart context (BrTable index tmp1 tmp2 targets) mid new (room_turn context.flags _ old mid made s w f room turn) words
+appended_apart context (ReturnCall info) old new s w f turn (mid, made, room, words) = inst_apart context (ReturnCall info) mid new (room_turn context.flags _ old mid made s w f room turn) words
+appended_apart context (ReturnCallInd info) old new s w f turn (mid, made, room, words) = inst_apart context (ReturnCallInd info) mid new (room_turn context.flags _ old mid made s w f room turn) words
 appended_apart context inst old new s w f turn e = inst_apart context inst old new turn e
 
 -- ---- a line

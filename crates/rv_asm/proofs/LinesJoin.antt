@@ -7,13 +7,14 @@ use Rattle.std.proofs.lemmas.Option.{same_Some, slice_get_within}
 use Rattle.rv_base.specs.declared.trap.TrapCode.{TrapCode}
 use Rattle.rv_machine.specs.State.{Memory, State, IsState, Values, AreValues, wrap}
 use Rattle.rv_machine.specs.Steps.{iter}
+use Rattle.rv_inst.specs.Calls.{Return, return_of}
 use Rattle.rv_inst.specs.Context.{context_of}
 use Rattle.rv_inst.specs.declared.inst.Line.{Line}
 use Rattle.rv_inst.specs.declared.inst.Line.TheVariants.{Inst as Put, Bind}
 use Rattle.rv_inst.specs.declared.inst.Inst.{Inst}
 use Rattle.rv_inst.specs.declared.job.Job.{Job}
 use Rattle.rv_inst.specs.declared.code.Code.{Code}
-use Rattle.rv_inst.specs.Meaning.{Exit, Next, To, Leave, Break, Trap, Data, exit_of, effect_of, writes_of, temporaries_of, AreOutside}
+use Rattle.rv_inst.specs.Meaning.{Exit, Next, To, Leave, Break, Trap, Data, exit_of, effect_of, writes_of, temporaries_of, resumed, resumed_by, AreOutside, return_exit}
 use Rattle.rv_inst.specs.Environments.{SameLabels, AgreeOn}
 use Rattle.rv_inst.proofs.Meaning.{effect_agrees, writes_agree, exit_agrees}
 use Rattle.rv_base.specs.LabelUse.{code_limit}
@@ -30,13 +31,14 @@ use Rattle.rv_emit.specs.declared.state.EmitVState.{EmitVState}
 use Rattle.rv_emit.specs.InstParts.{parts_of}
 use Rattle.rv_emit.specs.InstRuns.{ComesOut, environment}
 use Rattle.rv_emit.specs.Sites.{Site, IsPlacedAt, LeadsOn, PartsStand}
-use Rattle.rv_emit.proofs.Laws.{iter_none, iter_after, same_but, but_then_same, inst_runs}
-use Rattle.rv_asm.specs.Refusal.{is_bound}
-use Rattle.rv_asm.specs.Reported.{start_of, end_of}
-use Rattle.rv_asm.specs.Simulation.{Point, At, Out, End, Stop, Trapped, InData, IsBack, Leads, next_point, binding_line, environment_of, WritesOutside, address_of, IsStopped, Comes, RunsAsListed}
+use Rattle.rv_emit.proofs.Laws.{iter_none, iter_after, same_but, but_then_same, inst_runs, inst_resumes}
+use Rattle.rv_asm.specs.Refusal.{is_unfit, is_bound}
+use Rattle.rv_asm.specs.Reported.{start_of, end_of, binding_line, label_start, returns_from}
+use Rattle.rv_asm.specs.Simulation.{Point, At, Returned, Out, End, Stop, Trapped, InData, IsBack, Leads, next_point, environment_of, WritesOutside, AtStart, AtReturn, return_at, address_of, IsStopped, Comes, RunsAsListed}
 use Rattle.rv_asm.specs.Placed.{Addresses, address_of_name, bytes_from, IsPlaced}
 use Rattle.rv_asm.proofs.Images.{from_long, placed_at}
-use Rattle.rv_asm.proofs.ExitPoints.{AllBound, ExitBound, exit_bound}
+use Rattle.rv_asm.proofs.ExitPoints.{AllBound, ExitBound, exit_bound, return_bound}
+use Rattle.rv_asm.proofs.CallReturns.{return_found}
 use Rattle.rv_asm.proofs.ValuesKept.{same_itself}
 
 -- what a buffer knows of the code of a job beside what the code tells: the places of labels, and the records in their order
@@ -63,14 +65,17 @@ abbrev pub LineIn : Site → Line → ℕ → ℕ → Type 0
 LineIn site (Put inst) start after = InstIn site inst start after
 LineIn site (Bind label) start after = start ≡ after
 
--- each line stands in the code, keeps the rules and names labels that are bound; what stands after it leads to the next one;
--- the last line ends the code; and labels stand where they are bound, and constants at their offsets
+-- each line stands in the code, keeps the rules, can restore the frame where it has to, and names labels that are bound; what
+-- stands after it leads to the next one; the last line ends the code; calls return where the code tells; and labels stand where
+-- they are bound, and constants at their offsets
 pub record IsThreaded (job : Job) (code : Code) (known : Known) : Type 0 where
   pub line : (base : ℕ) (symbols slots : Addresses) (mem : Memory) → IsPlaced code base symbols slots mem → (i : ℕ) (line : Line) → slice_get job.lines i ≡ Some line → LineIn (site_of job code known base symbols slots mem) line (start_of code.lines i) (end_of code.lines i)
   pub ruled : (i : ℕ) (line : Line) → slice_get job.lines i ≡ Some line → broken_rule (context_of job) line ≡ None
+  pub fit : (i : ℕ) (line : Line) → slice_get job.lines i ≡ Some line → is_unfit job.frame line ≡ false
   pub named : (i : ℕ) (line : Line) → slice_get job.lines i ≡ Some line → AllBound job.lines (named_labels line)
   pub gap : (base : ℕ) (symbols slots : Addresses) (mem : Memory) → IsPlaced code base symbols slots mem → (i : ℕ) → suc i < length job.lines → LeadsOn (site_of job code known base symbols slots mem) (end_of code.lines i) (start_of code.lines (suc i))
   pub last : (i : ℕ) → suc i ≡ length job.lines → code.end ≡ end_of code.lines i
+  pub returns : code.returns ≡ returns_from job.flags code.lines 0 job.lines
   pub bound : (label : ℕ) → is_bound job.lines label ≡ true → known.place label ≡ Some (label_place job.lines code label)
   pub constants : (number : ℕ) → known.place (first_constant + number) ≡ offset_in code.constants number
   pub traps : (at : ℕ) (cause : TrapCode) → IsRecorded known.records at (event.Trap cause) → IsTrapAt code.traps at cause
@@ -80,8 +85,8 @@ pub record IsThreaded (job : Job) (code : Code) (known : Known) : Type 0 where
 -- ---- one line
 
 -- a line of the code runs as it means
-line_comes : (site : Site) (line : Line) (start after : ℕ) (s : State) (v : Values) → length site.bytes < code_limit → ((label at : ℕ) → site.place label ≡ Some at → at ≤ length site.bytes) → LineIn site line start after → broken_rule site.context line ≡ None → AreOutside site.base (length site.bytes) (writes_of (environment site start after) line v) → IsPlacedAt site s.values.mem → s.pc ≡ wrap (site.base + start) → IsState s → AreValues v → Same v s.values → ComesOut site start after (exit_of (environment site start after) line v) (temporaries_of line) (effect_of (environment site start after) line v) s
-line_comes site (Put inst) start after s v short labels h rule outside placed pc is_state are_values same = (inst_runs site h.setting inst rule).run start after s v (record {
+line_comes : (site : Site) (line : Line) (start after : ℕ) (s : State) (v : Values) → length site.bytes < code_limit → ((label at : ℕ) → site.place label ≡ Some at → at ≤ length site.bytes) → LineIn site line start after → broken_rule site.context line ≡ None → is_unfit site.context.frame line ≡ false → AreOutside site.base (length site.bytes) (writes_of (environment site start after) line v) → IsPlacedAt site s.values.mem → s.pc ≡ wrap (site.base + start) → IsState s → AreValues v → Same v s.values → ComesOut site start after (exit_of (environment site start after) line v) (temporaries_of line) (effect_of (environment site start after) line v) s
+line_comes site (Put inst) start after s v short labels h rule fit outside placed pc is_state are_values same = (inst_runs site h.setting inst rule fit).run start after s v (record {
   even = h.even;
   within = h.within;
   short = short;
@@ -93,7 +98,7 @@ line_comes site (Put inst) start after s v short labels h rule outside placed pc
   are_values = are_values;
   same = same;
 }) outside
-line_comes site (Bind label) start after s v short labels h rule outside placed pc is_state are_values same = record {
+line_comes site (Bind label) start after s v short labels h rule fit outside placed pc is_state are_values same = record {
   steps = 0;
   state = s;
   moved = lit≤ tt;
@@ -158,7 +163,7 @@ module _ (job : Job) (code : Code) (known : Known) (t : IsThreaded job code know
     leads = refl;
     reached = there (To label) e (At (binding_line job.lines label)) (λ back. e.moved) (e.arrives.2 ∙ ap (λ n. wrap (base + n)) (same_Some e.arrives.0 (label_place job.lines code label) (sym e.arrives.1 ∙ t.bound label bound))) tt;
   }
-  reaches (Leave a) bound e = record { point = Out a; leads = refl; reached = there (Leave a) e (Out a) (λ back. absurd back) e.arrives tt }
+  reaches (Leave a) bound e = record { point = Out a; leads = refl; reached = there (Leave a) e (Out a) (λ back. e.moved) e.arrives tt }
   reaches Break bound e = record { point = Stop i; leads = refl; reached = there Break e (Stop i) (λ back. absurd back) e.arrives.0 e.arrives.1 }
   reaches (Trap cause) bound e =
       let a = e.arrives in
@@ -174,6 +179,7 @@ agrees : (job : Job) (code : Code) (known : Known) → IsThreaded job code known
 agrees job code known t base symbols slots mem i line e = record {
   start = refl;
   after = refl;
+  flags = refl;
   frame = refl;
   labels_same = same_labels job code known t base symbols slots mem i (named_labels line) (t.named i line e);
   constants_same = λ number. ap (λ at. wrap (base + unwrap_or at 0)) (t.constants number);
@@ -193,7 +199,7 @@ comes job code known t base symbols slots i line s v lt e outside placed is_stat
     let clear = subst (λ n. AreOutside base n (writes_of (environment site start end) line v)) (sym long) (subst (AreOutside base (length code.bytes)) (sym (writes_agree line v a)) outside) in
     let short : length site.bytes < code_limit = subst (λ n. n < code_limit) (sym long) t.short in
     let within : (label at : ℕ) → site.place label ≡ Some at → at ≤ length site.bytes = λ label at h. subst (λ n. at ≤ n) (sym long) (t.placed label at h) in
-    let out = line_comes site line start end s v short within (t.line base symbols slots mem placed i line e) (t.ruled i line e) clear (placed_at code base symbols slots mem (context_of job) known.place known.records placed) pc is_state are_values same in
+    let out = line_comes site line start end s v short within (t.line base symbols slots mem placed i line e) (t.ruled i line e) (t.fit i line e) clear (placed_at code base symbols slots mem (context_of job) known.place known.records placed) pc is_state are_values same in
     let led = subst (λ x. ComesOut site start end x (temporaries_of line) (effect_of (environment site start end) line v) s) (exit_agrees line v a) out in
     let came = subst (λ w. ComesOut site start end (exit_of env line v) (temporaries_of line) w s) (effect_agrees line v a) led in
     let ends = reaches job code known t base symbols slots mem placed i lt (temporaries_of line) (effect_of env line v) s (exit_of env line v) (exit_bound job.lines env line v (t.named i line e)) came in
@@ -203,7 +209,7 @@ comes job code known t base symbols slots i line s v lt e outside placed is_stat
       point = ends.point;
       values = r.state.values;
       state = r.state;
-      line = record { index = i; line = line; at = refl; listed = e; leads = ends.leads; effect = r.same };
+      line = record { index = i; line = line; entry = AtStart; at = refl; listed = e; leads = ends.leads; effect = r.same };
       ran = r.ran;
       moved = r.moved;
       stands = r.stands;
@@ -211,6 +217,42 @@ comes job code known t base symbols slots i line s v lt e outside placed is_stat
       same = same_itself r.state.values;
       is_state = r.is_state;
       are_values = r.is_state.values;
+    }
+
+-- from where the call of a line returns it goes on to the next line
+resumes : (job : Job) (code : Code) (known : Known) → IsThreaded job code known → (base : ℕ) (symbols slots : Addresses) (i : ℕ) (inst : Inst) (r : Return) (s : State) (v : Values) → slice_get job.lines i ≡ Some (Put inst) → return_of job.flags inst ≡ Some r → IsPlaced code base symbols slots s.values.mem → IsState s → AreValues v → s.pc ≡ address_of code base (Returned i) → Same v s.values → Comes job code base symbols slots (Returned i) v s
+resumes job code known t base symbols slots i inst r s v e told placed is_state are_values pc same =
+    let mem = s.values.mem in
+    let site = site_of job code known base symbols slots mem in
+    let long = from_long mem base (length code.bytes) in
+    let h = t.line base symbols slots mem placed i (Put inst) e in
+    let from : return_at code.returns i ≡ start_of code.lines i + r.offset = ap (λ rs. return_at rs i) t.returns ∙ return_found job.flags code.lines i job.lines inst r e told in
+    let out = (inst_resumes site h.setting inst r (t.ruled i (Put inst) e) told).run (start_of code.lines i) (end_of code.lines i) s v (record {
+      even = h.even;
+      within = h.within;
+      short = subst (λ n. n < code_limit) (sym long) t.short;
+      stands = h.stands;
+      placed = placed_at code base symbols slots mem (context_of job) known.place known.records placed;
+      pc = pc ∙ ap (λ n. wrap (base + n)) from;
+      is_state = is_state;
+      are_values = are_values;
+      same = same;
+    }) in
+    let ends = reaches job code known t base symbols slots mem placed i (slice_get_within job.lines i (Put inst) e) [] (resumed r.popped v) s (return_exit (Put inst)) (return_bound job.lines inst (t.named i (Put inst) e)) out in
+    let reached = ends.reached in
+    record {
+      steps = reached.steps;
+      point = ends.point;
+      values = reached.state.values;
+      state = reached.state;
+      line = record { index = i; line = Put inst; entry = AtReturn; at = refl; listed = e; leads = ends.leads; effect = subst (λ w. SameBut [] w reached.state.values) (sym (ap (λ o. resumed_by o v) told)) reached.same };
+      ran = reached.ran;
+      moved = reached.moved;
+      stands = reached.stands;
+      stopped = reached.stopped;
+      same = same_itself reached.state.values;
+      is_state = reached.is_state;
+      are_values = reached.is_state.values;
     }
 
 -- an index below the length has its line
@@ -223,4 +265,5 @@ pub threaded_runs : (job : Job) (code : Code) (known : Known) → IsThreaded job
 threaded_runs job code known t = record {
   from = λ base symbols slots i line s v e outside placed is_state are_values pc same.
       comes job code known t base symbols slots i line s v (slice_get_within job.lines i line e) e outside placed is_state are_values pc same;
+  back = λ base symbols slots i inst r s v e told placed is_state are_values pc same. resumes job code known t base symbols slots i inst r s v e told placed is_state are_values pc same;
 }

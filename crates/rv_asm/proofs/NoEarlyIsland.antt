@@ -1,5 +1,5 @@
 -- No island is early, and Reach holds after every line, as lines are put.
-use Rattle.std.proofs.Common.{◌≡◌, ℕ, zero, suc, ◌<◌, Bool, true, false, List, [], ◌∷◌, ◌++◌, length, Some, refl, ap, sym, ◌∙◌, subst, arith, ⊎_elim}
+use Rattle.std.proofs.Common.{◌≡◌, ℕ, zero, suc, ◌+◌, ◌<◌, Bool, true, false, List, [], ◌∷◌, ◌++◌, length, Some, refl, ap, sym, ◌∙◌, subst, arith, ⊎_elim}
 use Rattle.std.specs.Prelude.{slice_get, nat_lt}
 use Rattle.std.proofs.lemmas.Bool.{true≢false, ltb-true, ltb-false}
 use Rattle.std.proofs.lemmas.Option.{same_Some, slice_get_within}
@@ -7,15 +7,15 @@ use Rattle.std.proofs.lemmas.List.{length-append}
 use Rattle.rv_inst.specs.Context.{Context}
 use Rattle.rv_inst.specs.declared.code.LineSpan.{LineSpan}
 use Rattle.rv_inst.specs.declared.inst.Inst.{Inst}
-use Rattle.rv_inst.specs.declared.inst.Inst.TheVariants.{EmitIsland, BrTable}
+use Rattle.rv_inst.specs.declared.inst.Inst.TheVariants.{EmitIsland, BrTable, ReturnCall, ReturnCallInd}
 use Rattle.rv_inst.specs.declared.inst.Line.{Line}
 use Rattle.rv_inst.specs.declared.inst.Line.TheVariants.{Inst as Put, Bind}
-use Rattle.rv_inst.specs.Sizes.{table_space, line_space}
+use Rattle.rv_inst.specs.Sizes.{table_space, return_size, words_in, extent_of, line_space}
 use Rattle.mach_buffer.specs.Reach.{CanReach, is_needed}
 use Rattle.mach_buffer.specs.Buffer.{bytes_of}
 use Rattle.mach_buffer.proofs.Laws.{slice_get-append_last}
 use Rattle.rv_emit.proofs.Laws.{bytes_put}
-use Rattle.rv_emit.specs.Emitted.{Buffer, pending, IslandIfNeeded}
+use Rattle.rv_emit.specs.Emitted.{Buffer, pending, AppendsInst, IslandIfNeeded}
 use Rattle.rv_asm.specs.Reported.{start_of, end_of}
 use Rattle.rv_asm.specs.Reported.{end_before}
 use Rattle.rv_asm.specs.LinesInBuffer.{LinesStand, Sized}
@@ -68,10 +68,10 @@ reaches_next context lines spans line span old new b p s sized h i le = by_place
 -- ---- no island is early
 
 -- where one was put before so many bytes, it is due
-room_due : (context : Context) (lines : List Line) (spans : List LineSpan) (distance : ℕ) (old new : Buffer) (made : Bool) → AfterLastIsland context lines spans old → IslandIfNeeded distance old new made → length (bytes_of old) < length (bytes_of new) → IsDue context lines spans (length lines) (length (bytes_of old)) distance
-room_due context lines spans distance old new made s m longer = ⊎_elim
+room_due : (context : Context) (lines : List Line) (spans : List LineSpan) (distance : ℕ) (old new : Buffer) (made : Bool) → LinesStand context lines spans old → AfterLastIsland context lines spans old → IslandIfNeeded distance old new made → length (bytes_of old) < length (bytes_of new) → IsDue context lines spans (length lines) (length (bytes_of old)) distance
+room_due context lines spans distance old new made b s m longer = ⊎_elim
     (λ same. let level : length (bytes_of new) ≡ length (bytes_of old) = ap (λ (b : Buffer). length (bytes_of b)) same.1 in absurd (omega (arith, level, longer)))
-    (λ put. due_now context lines spans old distance s (sym m.asked ∙ put.0))
+    (λ put. due_now context lines spans old distance b s (sym m.asked ∙ put.0))
     m.put
 
 -- before the line
@@ -79,16 +79,16 @@ before_line : (context : Context) (lines : List Line) (spans : List LineSpan) (l
 before_line context lines spans (Put inst) span old new b s p gap =
     let ends = b.ends in
     let start = p.start in
-    subst (λ at. IsDue context lines spans (length lines) at line_space) ends (room_due context lines spans line_space old p.mid p.made s p.room (omega (arith, ends, start, gap)))
+    subst (λ at. IsDue context lines spans (length lines) at line_space) ends (room_due context lines spans line_space old p.mid p.made b s p.room (omega (arith, ends, start, gap)))
 before_line context lines spans (Bind label) span old new b s p gap = let ends = b.ends in let start = p.start in absurd (omega (arith, ends, start, gap))
 
 -- in the line, before its words
-in_line : (context : Context) (lines : List Line) (spans : List LineSpan) (space start : ℕ) (old mid last : Buffer) (first second : Bool) → AfterLastIsland context lines spans old → IslandIfNeeded line_space old mid first → start ≡ length (bytes_of mid) → IslandIfNeeded space mid last second → length (bytes_of mid) < length (bytes_of last) → IsDue context lines spans (length lines) start space
-in_line context lines spans space start old mid last first second s before at within longer = ⊎_elim
+in_line : (context : Context) (lines : List Line) (spans : List LineSpan) (space start : ℕ) (old mid last : Buffer) (first second : Bool) → LinesStand context lines spans old → AfterLastIsland context lines spans old → IslandIfNeeded line_space old mid first → start ≡ length (bytes_of mid) → IslandIfNeeded space mid last second → length (bytes_of mid) < length (bytes_of last) → IsDue context lines spans (length lines) start space
+in_line context lines spans space start old mid last first second b s before at within longer = ⊎_elim
     (λ same.
-    let room : IslandIfNeeded space old last second = subst (λ (b : Buffer). IslandIfNeeded space b last second) same.1 within in
+    let room : IslandIfNeeded space old last second = subst (λ (x : Buffer). IslandIfNeeded space x last second) same.1 within in
     let level : length (bytes_of mid) ≡ length (bytes_of old) = ap (λ (b : Buffer). length (bytes_of b)) same.1 in
-    subst (λ n. IsDue context lines spans (length lines) n space) (sym level ∙ sym at) (room_due context lines spans space old last second s room (omega (arith, level, longer))))
+    subst (λ n. IsDue context lines spans (length lines) n space) (sym level ∙ sym at) (room_due context lines spans space old last second b s room (omega (arith, level, longer))))
     (λ put. absurd (no_second put.1.settled))
     before.put
   where
@@ -113,12 +113,18 @@ within_line context lines spans (Put inst) span old new b s p = on inst p
     due : (line : Line) (space : ℕ) → IsDue context lines spans (length lines) span.start space → IsDue context (lines ++ line ∷ []) all_spans (length lines) (start_of all_spans (length lines)) space
     due line space h = subst (λ at. IsDue context (lines ++ line ∷ []) all_spans (length lines) at space) (sym start) (due_more context lines (line ∷ []) spans (span ∷ []) (length lines) span.start space b.count (omega arith) h)
 
+    -- before the words of an instruction that asks for one before so many bytes
+    after : (inst : Inst) (space : ℕ) (mid last : Buffer) (first second : Bool) → IslandIfNeeded line_space old mid first → span.start ≡ length (bytes_of mid) → IslandIfNeeded space mid last second → AppendsInst context inst last new → span.end ≡ length (bytes_of new) → start_of all_spans (length lines) + words_in (extent_of context inst) < end_of all_spans (length lines) →
+        IsDue context (lines ++ Put inst ∷ []) all_spans (length lines) (start_of all_spans (length lines)) space
+    after inst space mid last first second before at room words ends gap =
+        let long = bytes_put context inst last new words in
+        due (Put inst) space (in_line context lines spans space span.start old mid last first second b s before at room (omega (arith, start, end, gap, at, ends, long)))
+
     on : (inst : Inst) → InstAppends context inst old new span → IslandDue context (lines ++ Put inst ∷ []) (spans ++ span ∷ []) (length lines) (Put inst)
-    on (EmitIsland space) p = λ gap. let at = p.start in let last = p.end in due (Put (EmitIsland space)) space (in_line context lines spans space span.start old p.mid new p.made p.emitted.0 s p.room p.start p.emitted.1 (omega (arith, start, end, gap, at, last)))
-    on (BrTable index tmp1 tmp2 targets) p =
-        let inst = BrTable index tmp1 tmp2 targets in
-        let long = bytes_put context inst p.emitted.0 new p.emitted.3 in
-        λ gap. let at = p.start in let last = p.end in due (Put inst) (table_space (length targets)) (in_line context lines spans (table_space (length targets)) span.start old p.mid p.emitted.0 p.made p.emitted.1 s p.room p.start p.emitted.2 (omega (arith, start, end, gap, at, last, long)))
+    on (EmitIsland space) p = λ gap. let at = p.start in let last = p.end in due (Put (EmitIsland space)) space (in_line context lines spans space span.start old p.mid new p.made p.emitted.0 b s p.room p.start p.emitted.1 (omega (arith, start, end, gap, at, last)))
+    on (BrTable index tmp1 tmp2 targets) p = after (BrTable index tmp1 tmp2 targets) (table_space (length targets)) p.mid p.emitted.0 p.made p.emitted.1 p.room p.start p.emitted.2 p.emitted.3 p.end
+    on (ReturnCall info) p = after (ReturnCall info) (return_size context.flags context.frame info.new_stack_arg_size + 8) p.mid p.emitted.0 p.made p.emitted.1 p.room p.start p.emitted.2 p.emitted.3 p.end
+    on (ReturnCallInd info) p = after (ReturnCallInd info) (return_size context.flags context.frame info.new_stack_arg_size + 4) p.mid p.emitted.0 p.made p.emitted.1 p.room p.start p.emitted.2 p.emitted.3 p.end
     on inst p = tt
 within_line context lines spans (Bind label) span old new b s p = tt
 
@@ -137,6 +143,8 @@ island_due_more context lines more spans more_spans i (Put inst) count lt h = on
     on : (inst : Inst) → IslandDue context lines spans i (Put inst) → IslandDue context (lines ++ more) (spans ++ more_spans) i (Put inst)
     on (EmitIsland space) h = λ gap. due space (h (omega (arith, start, end, gap)))
     on (BrTable index tmp1 tmp2 targets) h = λ gap. due (table_space (length targets)) (h (omega (arith, start, end, gap)))
+    on (ReturnCall info) h = λ gap. due (return_size context.flags context.frame info.new_stack_arg_size + 8) (h (omega (arith, start, end, gap)))
+    on (ReturnCallInd info) h = λ gap. due (return_size context.flags context.frame info.new_stack_arg_size + 4) (h (omega (arith, start, end, gap)))
     on inst h = tt
 island_due_more context lines more spans more_spans i (Bind label) count lt h = tt
 

@@ -10,7 +10,7 @@ use Rattle.rv_ops.specs.declared.memory.LoadOP.{LoadOP}
 use Rattle.rv_ops.specs.declared.memory.StoreOP.{StoreOP}
 use Rattle.rv_inst.specs.Addresses.{Location, Based, AtLabel, AtConstant, location_of, is_near}
 use Rattle.rv_inst.specs.declared.inst.Inst.{Inst}
-use Rattle.rv_inst.specs.declared.inst.Inst.TheVariants.{Nop0, Nop4, EBreak, SequencePoint, Args, Rets, DummyUse, EmitIsland, RawData, Lui, Auipc, LoadInlineConst, AluRRR, AluRRImm12, Mov, MovFromPReg, Extend, Select, Load, Store, LoadAddr, LabelAddress, Ret, TrapIf, Jal, CondBr, BrTable, Udf, Jalr, Popcnt, Cltz, Brev8, StackProbeLoop, LoadExtNameGot, LoadExtNameNear, LoadExtNameFar, Unwind}
+use Rattle.rv_inst.specs.declared.inst.Inst.TheVariants.{Nop0, Nop4, EBreak, SequencePoint, Args, Rets, DummyUse, EmitIsland, RawData, Lui, Auipc, LoadInlineConst, AluRRR, AluRRImm12, Mov, MovFromPReg, Extend, Select, Load, Store, LoadAddr, LabelAddress, Ret, TrapIf, Jal, CondBr, BrTable, Udf, Jalr, Popcnt, Cltz, Brev8, StackProbeLoop, LoadExtNameGot, LoadExtNameNear, LoadExtNameFar, Call, CallInd, ReturnCall, ReturnCallInd, Unwind}
 use Rattle.rv_inst.specs.Sizes.{is_byte}
 use Rattle.rv_inst.specs.OneOperation.{address_operation, load_operation, store_operation, operation_of}
 use Rattle.rv_emit.specs.declared.state.EmitVState.{EmitVState}
@@ -75,7 +75,7 @@ module _ (site : Site) (start : ℕ) (d : Decoded) where
   has_operation setting (Mov rd rm type) after e p = unless p.0 (nat_eq (number_of rd.reg) (number_of rm)) _ e p.1
   has_operation setting (MovFromPReg rd rm) after e p = unless p.0 (nat_eq (number_of rd.reg) rm.number) _ e p.1
   has_operation setting (Extend rd rn signed from_bits to_bits) after e p = near_address p.0 (is_byte signed from_bits) _ _ e p.1
-  has_operation setting (Select dst condition x y) after e p = absurd (cc)
+  has_operation setting (Select info) after e p = absurd (cc)
   has_operation setting (Load rd op flags from) after e p = loads site.context.flags p.0 op (number_of rd.reg) flags.trap (location_of site.context.frame from) e p.1
   has_operation setting (Store to op flags src) after e p = stores site.context.flags p.0 op (number_of src) flags.trap (location_of site.context.frame to) e p.1
   has_operation setting (LoadAddr rd mem) after e p = addresses site.context.flags p.0 (number_of rd.reg) (location_of site.context.frame mem) e p.1
@@ -94,4 +94,8 @@ module _ (site : Site) (start : ℕ) (d : Decoded) where
   has_operation setting (LoadExtNameGot rd name) after e p = absurd (cc)
   has_operation setting (LoadExtNameNear rd name offset) after e p = absurd (cc)
   has_operation setting (LoadExtNameFar rd name offset) after e p = absurd (cc)
+  has_operation setting (Call info) after e p = absurd (cc)
+  has_operation setting (CallInd info) after e p = absurd (cc)
+  has_operation setting (ReturnCall info) after e p = absurd (cc)
+  has_operation setting (ReturnCallInd info) after e p = absurd (cc)
   has_operation setting (Unwind inst) after e p = absurd (cc)

@@ -5,7 +5,10 @@ use mathlib.Core.Path.{fun_ext}
 use Rattle.std.proofs.lemmas.Bool.{ltb-false, leb-false}
 use Rattle.std.proofs.lemmas.Bool.Decides.{nat_tests}
 use Rattle.rv_base.specs.declared.label.MachLabel.{MachLabel}
+use Rattle.rv_base.specs.declared.frame.FrameLayout.{FrameLayout}
 use Rattle.rv_base.specs.Frame.{sp_to_args_end}
+use Rattle.rv_inst.specs.Frames.{is_bad_frame}
+use Rattle.std.specs.List.{list_any}
 use Rattle.rv_inst.specs.Context.{Context, context_of}
 use Rattle.rv_inst.specs.declared.job.Job.{Job}
 use Rattle.rv_inst.specs.declared.error.EmitError.TheVariants.{BadFrame}
@@ -17,7 +20,7 @@ use Rattle.rv_inst.specs.Operands.{named_labels}
 use Rattle.rv_inst.specs.Rules.{first_of, broken_rule}
 use Rattle.rv_base.specs.declared.constant.Constant.{Constant}
 use Rattle.mach_buffer.specs.Shape.{inner_count}
-use Rattle.rv_asm.specs.Refusal.{size_limit, constants_sum, malformed, broken_from, binds, is_bound, twice_of, twice_in, twice_from, unbound_among, unbound_in, size_sum, too_large, is_bad_frame, bad_frame, lines_refusal, refusal, Finds}
+use Rattle.rv_asm.specs.Refusal.{size_limit, constants_sum, malformed, broken_from, binds, is_bound, twice_of, twice_in, twice_from, unbound_among, unbound_in, size_sum, too_large, is_unfit, has_bad_frame, bad_frame, lines_refusal, refusal, Finds}
 
 -- What is looked for among the labels of a set is looked for among those that the lines bind.
 pub finds_by_test : {X : Type 0} (bound test : ℕ → Bool) (lines : List Line) (r : Result X EmitError) → ((label : ℕ) → bound label ≡ test label) → Finds (unbound_in bound lines) r → Finds (unbound_in test lines) r
@@ -46,27 +49,42 @@ parts context lines e =
     let e2 = none_right (twice_from (λ label. false) lines) _ e1 in
     record { broken = none_left _ _ e; twice = none_left _ _ e1; unbound = none_left _ _ e2; large = none_right (unbound_in (is_bound lines) lines) _ e2 }
 
--- a job that isn't refused: its lines aren't, and its frame's sizes sum to less than 2^31
+-- a job that isn't refused: its lines aren't, and its frame is one that all of them can restore
 pub accepted_lines : (job : Job) → refusal job ≡ None → lines_refusal (context_of job) job.lines ≡ None
 unfolding refusal
-accepted_lines job e = none_right (bad_frame job.frame) _ e
+accepted_lines job e = none_right (bad_frame job.frame job.lines) _ e
 
 test_none : {X : Type 0} (c : Bool) (x : X) → (if c then Some x else None) ≡ None → c ≡ false
 test_none true x e = absurd (cc)
 test_none false x e = refl
 
+same_some : {X : Type 0} {x y : X} → Some x ≡ Some y → x ≡ y
+same_some e = cc
+
 or_left : (a b : Bool) → (a || b) ≡ false → a ≡ false
 or_left true b e = absurd (cc)
 or_left false b e = refl
 
-pub accepted_frame : (job : Job) → refusal job ≡ None → sp_to_args_end job.frame < 2 ^ 31
-unfolding refusal
-accepted_frame job e =
-    let small = or_left (nat_le (2 ^ 31) (sp_to_args_end job.frame)) _ (test_none (is_bad_frame job.frame) BadFrame (none_left (bad_frame job.frame) _ e)) in
-    leb-false (2 ^ 31) (sp_to_args_end job.frame) small
+or_right : (a b : Bool) → (a || b) ≡ false → b ≡ false
+or_right true b e = absurd (cc)
+or_right false b e = e
 
-same_some : {X : Type 0} {x y : X} → Some x ≡ Some y → x ≡ y
-same_some e = cc
+pub accepted_frame : (job : Job) → refusal job ≡ None → has_bad_frame job.frame job.lines ≡ false
+unfolding refusal
+accepted_frame job e = test_none (has_bad_frame job.frame job.lines) BadFrame (none_left (bad_frame job.frame job.lines) _ e)
+
+-- its sizes sum to less than 2^31
+pub frame_small : (frame : FrameLayout) (lines : List Line) → has_bad_frame frame lines ≡ false → sp_to_args_end frame < 2 ^ 31
+frame_small frame lines e = leb-false (2 ^ 31) (sp_to_args_end frame) (or_left (nat_le (2 ^ 31) (sp_to_args_end frame)) _ (or_left (is_bad_frame frame) _ e))
+
+-- none of the lines is one that can't restore it
+pub none_unfit : (frame : FrameLayout) (lines : List Line) → has_bad_frame frame lines ≡ false → (i : ℕ) (line : Line) → slice_get lines i ≡ Some line → is_unfit frame line ≡ false
+none_unfit frame lines e = among lines (or_right (is_bad_frame frame) _ e)
+  where
+    among : (ls : List Line) → list_any (is_unfit frame) ls ≡ false → (i : ℕ) (line : Line) → slice_get ls i ≡ Some line → is_unfit frame line ≡ false
+    among [] h i line at = absurd (cc)
+    among (l ∷ ls) h zero line at = subst (λ (x : Line). is_unfit frame x ≡ false) (same_some at) (or_left (is_unfit frame l) _ h)
+    among (l ∷ ls) h (suc i) line at = among ls (or_right (is_unfit frame l) _ h) i line at
 
 -- ---- rules
 

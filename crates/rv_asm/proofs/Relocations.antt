@@ -1,21 +1,25 @@
 -- The bytes that relocations fill: each relocation's are in the span of its line, and no two share one.
-use Rattle.std.proofs.Common.{◌≡◌, ◌≢◌, inl, inr, ⊎_elim, ℕ, zero, suc, ◌+◌, ◌<◌, ◌≤◌, List, [], ◌∷◌, ◌++◌, length, Option, Some, None, refl, sym, ap, subst, ◌∙◌, arith}
+use Rattle.std.proofs.Common.{◌≡◌, ◌≢◌, inl, inr, ⊎_elim, ℕ, zero, suc, ◌+◌, ◌<◌, ◌≤◌, Bool, true, false, List, [], ◌∷◌, ◌++◌, length, Option, Some, None, refl, sym, ap, subst, ◌∙◌, append-nil, arith}
 use Rattle.std.specs.Prelude.{slice_get}
 use Rattle.std.proofs.lemmas.Grind.{flat_map-append}
 use Rattle.std.proofs.lemmas.Option.{same_Some}
+use Rattle.rv_base.specs.declared.call.TryCallInfo.{TryCallInfo}
+use Rattle.rv_base.specs.declared.call.UserStackMap.{UserStackMap}
 use Rattle.rv_base.specs.declared.flags.IsaFlags.{IsaFlags}
+use Rattle.rv_base.specs.declared.frame.FrameLayout.{FrameLayout}
 use Rattle.rv_base.specs.declared.trap.TrapCode.{TrapCode}
 use Rattle.mach_buffer.specs.Records.{record_relocs, relocs_in}
 use Rattle.mach_buffer.specs.Windows.{IsApart}
+use Rattle.mach_buffer.specs.declared.records.MachRecord.{MachRecord}
 use Rattle.mach_buffer.specs.declared.records.MachReloc.{MachReloc}
 use Rattle.mach_buffer.proofs.Laws.{locate}
 use Rattle.rv_inst.specs.Context.{Context}
-use Rattle.rv_inst.specs.Records.{access_records, inst_records}
+use Rattle.rv_inst.specs.Records.{access_records, patch_records, return_records, inst_records}
 use Rattle.rv_inst.specs.Relocations.{field_size}
-use Rattle.rv_inst.specs.Sizes.{Extent, Words, Island, Table, extent_of}
+use Rattle.rv_inst.specs.Sizes.{Extent, Words, Island, After, extent_of}
 use Rattle.rv_inst.specs.declared.code.LineSpan.{LineSpan}
 use Rattle.rv_inst.specs.declared.inst.Inst.{Inst}
-use Rattle.rv_inst.specs.declared.inst.Inst.TheVariants.{Load, Store, LoadExtNameGot, LoadExtNameNear, LoadExtNameFar}
+use Rattle.rv_inst.specs.declared.inst.Inst.TheVariants.{Load, Store, LoadExtNameGot, LoadExtNameNear, LoadExtNameFar, Call, CallInd, ReturnCall}
 use Rattle.rv_inst.specs.declared.inst.Line.{Line}
 use Rattle.rv_inst.specs.declared.inst.Line.TheVariants.{Inst as Put, Bind}
 use Rattle.rv_asm.specs.Reported.{start_of, end_of, line_records, records_from, IsGap, IsSized, IsSpan, FillsInLine}
@@ -66,11 +70,24 @@ gap_ascends flags bytes from to h = ⊎_elim (λ same. omega arith) (λ island. 
 sized_ascends : (flags : IsaFlags) (bytes : List ℕ) (extent : Extent) (start end : ℕ) → IsSized flags bytes extent start end → start ≤ end
 sized_ascends flags bytes (Words size) start end h = omega arith
 sized_ascends flags bytes (Island space) start end h = gap_ascends flags bytes start end h
-sized_ascends flags bytes (Table labels size) start end (mid, gap, same) = let before = gap_ascends flags bytes start mid gap in omega arith
+sized_ascends flags bytes (After space size more) start end (mid, gap, same) = let before = gap_ascends flags bytes start mid gap in omega arith
 
 access_fill : (at : ℕ) (trap : Option TrapCode) (start end : ℕ) → start ≤ end → FillInTurn (relocs_in (access_records at trap)) start end
 access_fill at None start end le = le
 access_fill at (Some code) start end le = le
+
+patch_fill : (patchable : Bool) (begin end from to : ℕ) → from ≤ to → FillInTurn (relocs_in (patch_records patchable begin end)) from to
+patch_fill false begin end from to le = le
+patch_fill true begin end from to le = le
+
+-- the records where a call returns are no relocations
+site_fill : (frame : FrameLayout) (at : ℕ) (t : Option TryCallInfo) (more : List MachRecord) (from to : ℕ) → FillInTurn (relocs_in more) from to → FillInTurn (relocs_in (return_records frame at None t ++ more)) from to
+site_fill frame at None more from to h = h
+site_fill frame at (Some t) more from to h = h
+
+return_fill : (frame : FrameLayout) (at : ℕ) (entries : Option UserStackMap) (t : Option TryCallInfo) (more : List MachRecord) (from to : ℕ) → FillInTurn (relocs_in more) from to → FillInTurn (relocs_in (return_records frame at entries t ++ more)) from to
+return_fill frame at None t more from to h = site_fill frame at t more from to h
+return_fill frame at (Some entries) t more from to h = site_fill frame at t more from to h
 
 -- what an instruction's relocations fill stands where the instruction does
 inst_fill : (context : Context) (bytes : List ℕ) (inst : Inst) (start end : ℕ) → IsSized context.flags bytes (extent_of context inst) start end → FillInTurn (relocs_in (inst_records context start end inst)) start end
@@ -79,6 +96,11 @@ inst_fill context bytes (Store to op flags src) start end h = access_fill _ flag
 inst_fill context bytes (LoadExtNameGot rd name) start end h = (omega arith, (omega arith, omega arith))
 inst_fill context bytes (LoadExtNameNear rd name offset) start end h = (omega arith, (omega arith, omega arith))
 inst_fill context bytes (LoadExtNameFar rd name offset) start end h = (omega arith, omega arith)
+inst_fill context bytes (Call info) start end h = (omega arith, return_fill context.frame _ info.stack_map info.try_call_info (patch_records info.patchable _ _) (start + 8) end (patch_fill info.patchable _ _ (start + 8) end (omega arith)))
+inst_fill context bytes (CallInd info) start end h =
+    subst (λ rs. FillInTurn (relocs_in rs) start end) (append-nil (return_records context.frame _ info.stack_map info.try_call_info))
+    (return_fill context.frame _ info.stack_map info.try_call_info [] start end (omega arith))
+inst_fill context bytes (ReturnCall info) start end (mid, gap, same) = let before = gap_ascends context.flags bytes start mid gap in (omega arith, omega arith)
 inst_fill context bytes inst start end h = sized_ascends context.flags bytes (extent_of context inst) start end h
 
 line_fill : (context : Context) (bytes : List ℕ) (line : Line) (start end : ℕ) → IsSpan context bytes line start end → FillInTurn (relocs_in (line_records context start end line)) start end

@@ -1,5 +1,5 @@
 -- How long code may be, and that an instruction finds its room.
-use Rattle.std.proofs.Common.{◌≡◌, ℕ, suc, ◌+◌, ◌-◌, ◌*◌, ◌≤◌, Bool, cond, List, [], ◌∷◌, ◌++◌, length, Option, None, refl, ap, sym, ◌∙◌, subst, arith, ⊎_elim}
+use Rattle.std.proofs.Common.{◌≡◌, ℕ, suc, ◌+◌, ◌-◌, ◌*◌, ◌≤◌, Bool, cond, List, [], ◌∷◌, ◌++◌, length, Option, None, pos, refl, ap, sym, ◌∙◌, subst, arith, ⊎_elim}
 use Rattle.std.specs.Prelude.{is_some}
 use Rattle.rv_base.specs.declared.constant.Constant.{Constant}
 use Rattle.rv_base.specs.declared.label.MachLabel.{MachLabel}
@@ -7,7 +7,7 @@ use Rattle.mach_labels.specs.Table.{first_constant}
 use Rattle.rv_inst.specs.Context.{Context}
 use Rattle.rv_inst.specs.declared.code.LineSpan.{LineSpan}
 use Rattle.rv_inst.specs.declared.inst.Inst.{Inst}
-use Rattle.rv_inst.specs.declared.inst.Inst.TheVariants.{EmitIsland, BrTable}
+use Rattle.rv_inst.specs.declared.inst.Inst.TheVariants.{EmitIsland, BrTable, ReturnCall, ReturnCallInd}
 use Rattle.rv_inst.specs.declared.inst.Line.{Line}
 use Rattle.rv_inst.specs.declared.inst.Line.TheVariants.{Inst as Put, Bind}
 use Rattle.rv_inst.specs.LabelUse.{label_kinds}
@@ -18,7 +18,7 @@ use Rattle.mach_buffer.proofs.Laws.{slack_same, slack_from_reach, reach_from_sla
 use Rattle.rv_emit.specs.Emitted.{Buffer, pending, AppendsInst, AppendsIsland, IslandIfNeeded, IsBounded}
 use Rattle.rv_base.specs.Regs.{number_of}
 use Rattle.rv_inst.specs.Rules.{inst_rule, broken_rule}
-use Rattle.rv_emit.proofs.Laws.{waits, bytes_put, none_more, table_most, table_some}
+use Rattle.rv_emit.proofs.Laws.{waits, bytes_put, none_more, table_most, table_some, return_most, jalr_sized}
 use Rattle.rv_inst.specs.Sizes.{words_in, extent_of, table_space, line_space, inst_sum, line_sum}
 use Rattle.rv_asm.specs.Refusal.{constants_sum, lines_sum, size_sum}
 use Rattle.rv_asm.specs.LinesInBuffer.{Sized, BindPut}
@@ -36,11 +36,7 @@ sum_next context lines line = let whole = lines_append context lines (line ∷ [
 -- each line counts for 128 bytes and more
 pub sum_least : (context : Context) (line : Line) → 128 ≤ line_sum context line
 sum_least context (Bind label) = omega arith
-sum_least context (Put inst) = on inst
-  where
-    on : (inst : Inst) → 128 ≤ line_sum context (Put inst)
-    on (EmitIsland space) = omega arith
-    on _ = omega arith
+sum_least context (Put inst) = omega arith
 
 -- ---- room for constants that don't stand yet
 
@@ -101,16 +97,27 @@ words_uses context inst most old new long few p =
     let reserve = block_reserve context inst old new p in
     record { size = omega (arith, bytes, long, few, reserve); allocated = omega (arith, allocated) }
 
+-- and those that are put after an island where one is needed
+after_uses : (context : Context) (inst : Inst) (space most : ℕ) (old mid new : Buffer) (made : Bool) → most + 34 ≤ inst_sum context inst → words_in (extent_of context inst) ≤ most → length (pending new) ≤ length (pending mid) → IslandIfNeeded space old mid made → AppendsInst context inst mid new → Uses (inst_sum context inst - 17) old new
+after_uses context inst space most old mid new made sum long few room words =
+    let u = room_uses space old mid made room in
+    let w = words_uses context inst most mid new long few words in
+    let a = u.size in let b = w.size in let c = u.allocated in let d = words.adds.allocated in
+    record { size = omega (arith, a, b, sum); allocated = omega (arith, c, d) }
+
 -- what comes before it apart, an instruction uses no more than it counts for
 pub emitted_uses : (context : Context) (inst : Inst) (old new : Buffer) → inst_rule context inst ≡ None → Appends context inst old new → IsBounded context inst old new → Uses (inst_sum context inst - 17) old new
 emitted_uses context (EmitIsland space) old new rule e bounds = let u = room_uses space old new e.0 e.1 in record { size = let s = u.size in omega arith; allocated = u.allocated }
 emitted_uses context (BrTable index tmp1 tmp2 targets) old new rule (mid, made, room, words) bounds =
-    let inst = BrTable index tmp1 tmp2 targets in
     let most = table_most context.flags (number_of index) (number_of tmp2.reg) (length targets) (table_some context index tmp1 tmp2 targets rule) in
-    let u = room_uses (table_space (length targets)) old mid made room in
-    let w = words_uses context inst (48 + 8 * length targets) mid new most (none_more context inst mid new refl words) words in
-    let a = u.size in let b = w.size in let c = u.allocated in let d = words.adds.allocated in
-    record { size = omega (arith, a, b); allocated = omega (arith, c, d) }
+    after_uses context (BrTable index tmp1 tmp2 targets) (table_space (length targets)) (48 + 8 * length targets) old mid new made (omega arith) most (none_more context (BrTable index tmp1 tmp2 targets) mid new refl words) room words
+emitted_uses context (ReturnCall info) old new rule (mid, made, room, words) bounds =
+    let most = return_most context.flags context.frame info.new_stack_arg_size in
+    after_uses context (ReturnCall info) _ (88 + 28 * length context.frame.clobbered_callee_saves) old mid new made (omega arith) (omega arith) (none_more context (ReturnCall info) mid new refl words) room words
+emitted_uses context (ReturnCallInd info) old new rule (mid, made, room, words) bounds =
+    let most = return_most context.flags context.frame info.new_stack_arg_size in
+    let few = (jalr_sized context.flags 0 5 (pos 0)).few in
+    after_uses context (ReturnCallInd info) _ (88 + 28 * length context.frame.clobbered_callee_saves) old mid new made (omega arith) (omega arith) (none_more context (ReturnCallInd info) mid new refl words) room words
 emitted_uses context inst old new rule e bounds =
     let within = bounds refl in
     let long = within.long in

@@ -7,26 +7,29 @@ use Rattle.rv_inst.specs.Context.{context_of}
 use Rattle.rv_inst.specs.declared.inst.Line.{Line}
 use Rattle.rv_inst.specs.declared.inst.Line.TheVariants.{Inst as Put, Bind}
 use Rattle.rv_inst.specs.declared.inst.Inst.{Inst}
-use Rattle.rv_inst.specs.declared.inst.Inst.TheVariants.{EmitIsland, BrTable}
+use Rattle.rv_inst.specs.declared.inst.Inst.TheVariants.{EmitIsland, BrTable, ReturnCall, ReturnCallInd}
 use Rattle.rv_inst.specs.declared.job.Job.{Job}
 use Rattle.rv_inst.specs.declared.code.Code.{Code}
 use Rattle.rv_inst.specs.LabelUse.{label_kinds}
-use Rattle.rv_inst.specs.Sizes.{Island, words_in, extent_of, table_space}
+use Rattle.rv_inst.specs.Sizes.{Island, words_in, extent_of, table_space, return_size}
 use Rattle.mach_buffer.specs.declared.records.ConstPlace.{ConstPlace}
 use Rattle.mach_buffer.specs.declared.records.MachReloc.{MachReloc}
-use Rattle.mach_buffer.specs.Buffer.{shape_of, bytes_of, records_of}
-use Rattle.mach_buffer.specs.Records.{relocs_in, traps_in, unwinds_in}
+use Rattle.mach_buffer.specs.Buffer.{shape_of, bytes_of, place_of, records_of}
+use Rattle.mach_buffer.specs.Records.{relocs_in, traps_in, calls_in, tries_in, patches_in, maps_in, unwinds_in, offset_or_zero}
+use Rattle.rv_inst.specs.Operands.{named_labels}
 use Rattle.mach_buffer.specs.Constants.{HasConstants}
 use Rattle.rv_emit.specs.ConstantsAdded.{AddsConstants}
 use Rattle.rv_emit.specs.Emitted.{Buffer}
 use Rattle.rv_base.specs.Regs.{number_of}
-use Rattle.rv_emit.specs.InstParts.{table_slots}
+use Rattle.rv_emit.specs.InstParts.{table_slots, tail_slots, t0_slots}
 use Rattle.rv_emit.specs.Puts.{AllBytes}
 use Rattle.rv_emit.specs.Slots.{size_of}
 use Rattle.rv_emit.specs.Standing.{IsFinishedTo}
 use Rattle.rv_emit.proofs.Laws.{adds_end, gap_is, table_stands}
-use Rattle.rv_asm.specs.Reported.{start_of, end_of, end_before, binds_from, records_from, IsGap, IsSized, IsSpan, Reported}
+use Rattle.rv_asm.specs.Reported.{start_of, end_of, end_before, binds_from, returns_from, records_from, IsGap, IsSized, IsSpan, Reported}
 use Rattle.rv_asm.specs.LinesInBuffer.{LineStands, LinesStand}
+use Rattle.rv_asm.proofs.ExitPoints.{AllBound}
+use Rattle.rv_asm.proofs.Handlers.{handlers_told}
 use Rattle.rv_asm.proofs.LinesJoin.{line_at}
 use Rattle.rv_asm.proofs.Relocations.{fields_in_lines, fields_apart}
 
@@ -42,6 +45,16 @@ module _ (job : Job) (code : Code) (b : Buffer) (built : LinesStand (context_of 
       let slots = table_slots job.flags (number_of index) (number_of tmp1.reg) (number_of tmp2.reg) targets in
       let t = table_stands job.flags (table_space (length targets)) slots (shape_of b) start end parts in
       let size : size_of slots + 0 ≡ words_in (extent_of (context_of job) (BrTable index tmp1 tmp2 targets)) = long in
+      (t.0, gap_is (context_of job) (shape_of b) code.bytes f small start t.0 t.1, let ends = t.2 in omega arith)
+  inst_sized (ReturnCall info) start end (setting, parts, long) =
+      let slots = tail_slots job.flags job.frame info.new_stack_arg_size info.dest in
+      let t = table_stands job.flags (return_size job.flags job.frame info.new_stack_arg_size + 8) slots (shape_of b) start end parts in
+      let size : size_of slots + 0 ≡ words_in (extent_of (context_of job) (ReturnCall info)) = long in
+      (t.0, gap_is (context_of job) (shape_of b) code.bytes f small start t.0 t.1, let ends = t.2 in omega arith)
+  inst_sized (ReturnCallInd info) start end (setting, parts, long) =
+      let slots = t0_slots job.flags job.frame info.new_stack_arg_size in
+      let t = table_stands job.flags (return_size job.flags job.frame info.new_stack_arg_size + 4) slots (shape_of b) start end parts in
+      let size : size_of slots + 0 ≡ words_in (extent_of (context_of job) (ReturnCallInd info)) = long in
       (t.0, gap_is (context_of job) (shape_of b) code.bytes f small start t.0 t.1, let ends = t.2 in omega arith)
   inst_sized inst start end (setting, parts, long) = long
 
@@ -65,8 +78,8 @@ module _ (job : Job) (code : Code) (b : Buffer) (built : LinesStand (context_of 
   reloc_of : code.relocs ≡ relocs_in (records_of b) → (j : ℕ) (r : MachReloc) → slice_get code.relocs j ≡ Some r → slice_get (relocs_in (records_from (context_of job) code.lines 0 job.lines)) j ≡ Some r
   reloc_of relocs j r e = ap (λ (rs : List MachReloc). slice_get rs j) (sym (relocs ∙ ap relocs_in built.records)) ∙ e
 
-  pub built_reported : code.labels ≡ binds_from code.lines 0 job.lines → code.relocs ≡ relocs_in (records_of b) → code.traps ≡ traps_in (records_of b) → code.unwinds ≡ unwinds_in (records_of b) → code.end ≡ length (bytes_of b) → length (bytes_of b) ≤ length code.bytes → Reported job code
-  built_reported labels relocs traps unwinds end within = record {
+  pub built_reported : code.returns ≡ returns_from job.flags code.lines 0 job.lines → code.labels ≡ binds_from code.lines 0 job.lines → code.relocs ≡ relocs_in (records_of b) → code.traps ≡ traps_in (records_of b) → code.call_sites ≡ calls_in (records_of b) → code.try_call_sites ≡ tries_in (offset_or_zero (place_of b)) (records_of b) → code.patchable_call_sites ≡ patches_in (records_of b) → code.stack_maps ≡ maps_in (records_of b) → code.unwinds ≡ unwinds_in (records_of b) → code.end ≡ length (bytes_of b) → length (bytes_of b) ≤ length code.bytes → ((i : ℕ) (line : Line) → slice_get job.lines i ≡ Some line → AllBound job.lines (named_labels line)) → Reported job code
+  built_reported returns labels relocs traps call_sites try_call_sites patchable_call_sites stack_maps unwinds end within named = record {
     count = built.count;
     indices = built.indices;
     first = built.first;
@@ -76,6 +89,7 @@ module _ (job : Job) (code : Code) (b : Buffer) (built : LinesStand (context_of 
     last = λ i e. end ∙ built.ends ∙ ap (end_before code.lines) (sym e);
     none = λ e. end ∙ built.ends ∙ ap (end_before code.lines) e;
     within = omega arith;
+    returns = returns;
     labels = labels;
     constants = ap (map (λ (c : ConstPlace). c.constant)) constants ∙ f.finishes.listed ∙ built.named;
     placed = subst (HasConstants job.constants code.bytes) (sym constants) (subst (λ (cs : List Constant). HasConstants cs code.bytes f.finishes.put.constants) built.registered f.finishes.constants);
@@ -83,6 +97,10 @@ module _ (job : Job) (code : Code) (b : Buffer) (built : LinesStand (context_of 
     apart = λ i inst h j c k hc hk. let ends = (built.each i (Put inst) h).ends in ⊎_elim (λ stood. built.apart i inst h j c k stood hk) (λ after. inl (omega (arith, ends, after))) (put_after.fresh j c (constant_put j c hc));
     relocs = relocs ∙ ap relocs_in built.records;
     traps = traps ∙ ap traps_in built.records;
+    call_sites = call_sites ∙ ap calls_in built.records;
+    try_call_sites = try_call_sites ∙ ap (tries_in (offset_or_zero (place_of b))) built.records ∙ handlers_told job.lines code.lines b built named;
+    patchable_call_sites = patchable_call_sites ∙ ap patches_in built.records;
+    stack_maps = stack_maps ∙ ap maps_in built.records;
     unwinds = unwinds ∙ ap unwinds_in built.records;
     fields = λ j r e. fields_in_lines (context_of job) code.bytes code.lines job.lines built.count spans_long j r (reloc_of relocs j r e);
     fields_apart = λ j k r s differ e g. fields_apart (context_of job) code.bytes code.lines job.lines built.count spans_long spans_joined j k r s differ (reloc_of relocs j r e) (reloc_of relocs k s g);

@@ -1,11 +1,14 @@
 -- The uses after which no island stands: whose they are, how far they reach, and how many.
 use Rattle.std.proofs.Common.{◌≡◌, ℕ, zero, suc, ◌+◌, ◌*◌, ◌<◌, ◌≤◌, ◌⊎◌, inl, inr, ⊎_elim, Bool, true, false, cond, not, ◌&&◌, ◌||◌, List, [], ◌∷◌, length, map, take, drop, Option, Some, None, refl, ap, sym, ◌∙◌, subst, arith}
-use Rattle.std.specs.Prelude.{slice_get, nat_lt, is_none, if◌then◌else◌}
+use Rattle.std.specs.Prelude.{slice_get, nat_lt, is_none, if◌then◌else◌, ◌-◌, pos}
 use Rattle.std.specs.List.{list_any}
 use Rattle.std.proofs.lemmas.Bool.{true≢false, ltb-true, leb-false, or_parts}
 use Rattle.std.proofs.lemmas.Option.{slice_get_within}
 use Rattle.std.proofs.lemmas.List.{length-append, take_all}
 use Rattle.mach_labels.specs.Table.{first_inner}
+use Rattle.rv_base.specs.declared.call.TryCallInfo.{TryCallInfo}
+use Rattle.rv_base.specs.declared.flags.IsaFlags.{IsaFlags}
+use Rattle.rv_base.specs.Regs.{number_of}
 use Rattle.rv_inst.specs.Context.{Context}
 use Rattle.rv_inst.specs.declared.code.LineSpan.{LineSpan}
 use Rattle.rv_inst.specs.declared.error.Rule.{Rule}
@@ -15,7 +18,9 @@ use Rattle.rv_inst.specs.declared.inst.Line.{Line}
 use Rattle.rv_inst.specs.declared.inst.Line.TheVariants.{Inst as Put, Bind}
 use Rattle.rv_inst.specs.declared.label_use.LabelUse.{LabelUse}
 use Rattle.rv_inst.specs.declared.label_use.LabelUse.TheVariants.{Jal20, B12, PCRelLo12I, RVCJump}
-use Rattle.rv_inst.specs.Operands.{targets_of, ways_of, inst_ways, inst_labels}
+use Rattle.rv_inst.specs.Operands.{targets_of, ways_of, ways_by, inst_ways, inst_labels, try_call_of}
+use Rattle.rv_inst.specs.Sizes.{call_size, try_size}
+use Rattle.rv_inst.specs.declared.inst.Inst.TheVariants.{Call, CallInd}
 use Rattle.rv_inst.specs.declared.targets.Targets.{Targets}
 use Rattle.rv_inst.specs.declared.targets.Targets.TheVariants.{Nowhere, Jumps, Branches, Refers, RefersConstant}
 use Rattle.mach_buffer.specs.Shape.{constant_label}
@@ -28,10 +33,11 @@ use Rattle.mach_buffer.specs.Reach.{deadline, deadlines, due_by, is_needed, is_n
 use Rattle.mach_buffer.specs.Buffer.{bytes_of, uses_of, place_of}
 use Rattle.mach_buffer.proofs.Laws.{both_lists, deadlines_append, due_le_length}
 use Rattle.rv_emit.specs.Emitted.{Buffer, pending}
-use Rattle.rv_inst.specs.Forms.{jump_kind}
-use Rattle.rv_inst.specs.Uses.{use_at, target_uses, target_reach, uses_in}
+use Rattle.rv_inst.specs.Forms.{jump_kind, jump_size, short_jalr}
+use Rattle.rv_inst.specs.Uses.{use_at, target_uses, target_reach, jump_reach, inst_reach, uses_by, uses_in}
 use Rattle.rv_emit.proofs.Laws.{deadlines_as, Each, each_none, each_more, uses_bare, few_deadlines, waits}
-use Rattle.rv_asm.specs.Reported.{start_of}
+use Rattle.rv_asm.specs.Reported.{start_of, end_of}
+use Rattle.rv_asm.specs.LinesInBuffer.{LineStands, LinesStand}
 use Rattle.rv_inst.specs.Uses.{least_reach}
 use Rattle.rv_asm.specs.Reach.{way_count, last_island, first_after_island, uses_from, bound_by, pending_deadlines, IsDue}
 use Rattle.rv_asm.specs.AfterLastIsland.{uses_after_island, passing, AfterLastIsland}
@@ -53,9 +59,19 @@ after_least : (short : Bool) (start : ℕ) → start + (if short then 2046 else 
 after_least true start = omega arith
 after_least false start = omega arith
 
+-- a jump at the end of what begins before it, too
+last_least : (short : Bool) (start end : ℕ) → start + (if short then 2 else 4) ≤ end → start + (if short then 2046 else 1048574) ≤ end - (if short then 2 else 4) + forward_of (if short then RVCJump else Jal20)
+last_least true start end le = omega arith
+last_least false start end le = omega arith
+
+-- an instruction has room for the jump with which it goes on, where it is a call that does
+abbrev HasJump : IsaFlags → ℕ → ℕ → Option TryCallInfo → Type 0
+HasJump flags start end None = Unit {0}
+HasJump flags start end (Some t) = start + jump_size flags ≤ end
+
 -- each reaches as far as the shortest of its line
-uses_least : (context : Context) (start : ℕ) (inst : Inst) → Each (λ u. start + least_reach context (Put inst) ≤ deadline label_kinds u) (uses_in context start inst)
-uses_least context start inst = on (targets_of inst)
+uses_least : (context : Context) (start end : ℕ) (inst : Inst) → HasJump context.flags start end (try_call_of inst) → Each (λ u. start + least_reach context (Put inst) ≤ deadline label_kinds u) (uses_in context start end inst)
+uses_least context start end inst room = by (try_call_of inst) room
   where
     on : (targets : Targets) → Each (λ u. start + target_reach context.flags targets ≤ deadline label_kinds u) (target_uses context.flags start targets)
     on Nowhere = each_none _
@@ -70,9 +86,13 @@ uses_least context start inst = on (targets_of inst)
     on (RefersConstant k) =
         each_more (λ u. start + 1048574 ≤ deadline label_kinds u) _ (use_at (start + 4) (constant_label k) PCRelLo12I ∷ []) (omega arith) (each_more (λ u. start + 1048574 ≤ deadline label_kinds u) _ [] (omega arith) (each_none _))
 
+    by : (t : Option TryCallInfo) → HasJump context.flags start end t → Each (λ u. start + inst_reach context.flags t (targets_of inst) ≤ deadline label_kinds u) (uses_by context.flags start end t (targets_of inst))
+    by None room = on (targets_of inst)
+    by (Some t) room = each_more (λ u. start + jump_reach context.flags ≤ deadline label_kinds u) _ [] (last_least context.flags.has_zca start end room) (each_none _)
+
 -- one that may go by a veneer goes to a label
-uses_ways : (context : Context) (start : ℕ) (inst : Inst) → Each (λ u. has_veneer_of u.kind ≡ true → 1 ≤ length (inst_ways inst)) (uses_in context start inst)
-uses_ways context start inst = on (targets_of inst)
+uses_ways : (context : Context) (start end : ℕ) (inst : Inst) → Each (λ u. has_veneer_of u.kind ≡ true → 1 ≤ length (inst_ways inst)) (uses_in context start end inst)
+uses_ways context start end inst = by (try_call_of inst)
   where
     on : (targets : Targets) → Each (λ u. has_veneer_of u.kind ≡ true → 1 ≤ length (ways_of targets)) (target_uses context.flags start targets)
     on Nowhere = each_none _
@@ -86,9 +106,13 @@ uses_ways context start inst = on (targets_of inst)
     on (RefersConstant k) =
         each_more (λ u. has_veneer_of u.kind ≡ true → 1 ≤ 0) _ (use_at (start + 4) (constant_label k) PCRelLo12I ∷ []) (λ e. absurd (cc)) (each_more (λ u. has_veneer_of u.kind ≡ true → 1 ≤ 0) _ [] (λ e. absurd (cc)) (each_none _))
 
+    by : (t : Option TryCallInfo) → Each (λ u. has_veneer_of u.kind ≡ true → 1 ≤ length (ways_by t (targets_of inst))) (uses_by context.flags start end t (targets_of inst))
+    by None = on (targets_of inst)
+    by (Some t) = each_more (λ u. has_veneer_of u.kind ≡ true → 1 ≤ 1) _ [] (λ e. omega arith) (each_none _)
+
 -- no more are pending than it goes to labels
-few_ways : (context : Context) (place : ℕ → Option ℕ) (start : ℕ) (inst : Inst) → length (deadlines (waits place) label_kinds (uses_in context start inst)) ≤ length (inst_ways inst)
-few_ways context place start inst = on (targets_of inst)
+few_ways : (context : Context) (place : ℕ → Option ℕ) (start end : ℕ) (inst : Inst) → length (deadlines (waits place) label_kinds (uses_in context start end inst)) ≤ length (inst_ways inst)
+few_ways context place start end inst = by (try_call_of inst)
   where
     of_uses : (uses : List (Use LabelUse)) (most : ℕ) → length uses ≤ most → length (deadlines (waits place) label_kinds uses) ≤ most
     of_uses uses most le = let few = few_deadlines (waits place) label_kinds uses in omega arith
@@ -101,6 +125,10 @@ few_ways context place start inst = on (targets_of inst)
     on (Branches (Label t) (Label f)) = of_uses (use_at start t B12 ∷ use_at (start + 4) f (jump_kind context.flags) ∷ []) 2 (omega arith)
     on (Refers label) = omega arith
     on (RefersConstant k) = omega arith
+
+    by : (t : Option TryCallInfo) → length (deadlines (waits place) label_kinds (uses_by context.flags start end t (targets_of inst))) ≤ length (ways_by t (targets_of inst))
+    by None = on (targets_of inst)
+    by (Some t) = of_uses (use_at (end - jump_size context.flags) t.continuation (jump_kind context.flags) ∷ []) 1 (omega arith)
 
 skip : (c : Bool) (rule : Rule) (rest : Option Rule) → cond c (Some rule) rest ≡ None → rest ≡ None
 skip true rule rest h = absurd (cc)
@@ -125,8 +153,8 @@ label_outer context inst label rule named =
     subst (λ n. n < first_inner) named.is low
 
 -- each names a label of the listing's, or goes by no veneer
-uses_outer : (context : Context) (start : ℕ) (inst : Inst) → inst_rule context inst ≡ None → Each (λ u. (u.label.number < first_inner) ⊎ (has_veneer_of u.kind ≡ false)) (uses_in context start inst)
-uses_outer context start inst rule j u h = ⊎_elim (λ named. inl (label_outer context inst u.label.number rule named)) (λ high. inr high.1) (uses_labels context start inst j u h)
+uses_outer : (context : Context) (start end : ℕ) (inst : Inst) → inst_rule context inst ≡ None → Each (λ u. (u.label.number < first_inner) ⊎ (has_veneer_of u.kind ≡ false)) (uses_in context start end inst)
+uses_outer context start end inst rule j u h = ⊎_elim (λ named. inl (label_outer context inst u.label.number rule named)) (λ high. inr high.1) (uses_labels context start end inst j u h)
 
 -- ---- the uses of lines
 
@@ -136,19 +164,19 @@ pub record FromLine (context : Context) (spans : List LineSpan) (first : ℕ) (l
   pub inst : Inst
   pub there : slice_get lines index ≡ Some (Put inst)
   pub place : ℕ
-  pub own : slice_get (uses_in context (start_of spans (first + index)) inst) place ≡ Some u
+  pub own : slice_get (uses_in context (start_of spans (first + index)) (end_of spans (first + index)) inst) place ≡ Some u
 
 later_line : (context : Context) (spans : List LineSpan) (first : ℕ) (line : Line) (lines : List Line) (u : Use LabelUse) → FromLine context spans (suc first) lines u → FromLine context spans first (line ∷ lines) u
 later_line context spans first line lines u f =
     let same : suc first + f.index ≡ first + suc f.index = omega arith in
-    record { index = suc f.index; inst = f.inst; there = f.there; place = f.place; own = subst (λ n. slice_get (uses_in context (start_of spans n) f.inst) f.place ≡ Some u) same f.own }
+    record { index = suc f.index; inst = f.inst; there = f.there; place = f.place; own = subst (λ n. slice_get (uses_in context (start_of spans n) (end_of spans n) f.inst) f.place ≡ Some u) same f.own }
 
 pub from_line : (context : Context) (spans : List LineSpan) (first : ℕ) (lines : List Line) → Each (FromLine context spans first lines) (uses_from context spans first lines)
 from_line context spans first [] = each_none _
 from_line context spans first (Put inst ∷ lines) =
     let here : first ≡ first + 0 = omega arith in
-    both_lists (FromLine context spans first (Put inst ∷ lines)) (uses_in context (start_of spans first) inst) (uses_from context spans (suc first) lines)
-    (λ j u h. record { index = 0; inst = inst; there = refl; place = j; own = subst (λ n. slice_get (uses_in context (start_of spans n) inst) j ≡ Some u) here h })
+    both_lists (FromLine context spans first (Put inst ∷ lines)) (uses_in context (start_of spans first) (end_of spans first) inst) (uses_from context spans (suc first) lines)
+    (λ j u h. record { index = 0; inst = inst; there = refl; place = j; own = subst (λ n. slice_get (uses_in context (start_of spans n) (end_of spans n) inst) j ≡ Some u) here h })
     (λ j u h. later_line context spans first (Put inst) lines u (from_line context spans (suc first) lines j u h))
 from_line context spans first (Bind label ∷ lines) = λ j u h. later_line context spans first (Bind label) lines u (from_line context spans (suc first) lines j u h)
 
@@ -156,10 +184,10 @@ few_in_lines : (context : Context) (place : ℕ → Option ℕ) (spans : List Li
 few_in_lines context place spans first [] = omega arith
 few_in_lines context place spans first (Put inst ∷ lines) =
     let rest = few_in_lines context place spans (suc first) lines in
-    let own = few_ways context place (start_of spans first) inst in
-    let front = deadlines (waits place) label_kinds (uses_in context (start_of spans first) inst) in
+    let own = few_ways context place (start_of spans first) (end_of spans first) inst in
+    let front = deadlines (waits place) label_kinds (uses_in context (start_of spans first) (end_of spans first) inst) in
     let back = deadlines (waits place) label_kinds (uses_from context spans (suc first) lines) in
-    let whole : length (deadlines (waits place) label_kinds (uses_from context spans first (Put inst ∷ lines))) ≡ length front + length back = ap length (deadlines_append (waits place) label_kinds (uses_in context (start_of spans first) inst) (uses_from context spans (suc first) lines)) ∙ length-append front back in
+    let whole : length (deadlines (waits place) label_kinds (uses_from context spans first (Put inst ∷ lines))) ≡ length front + length back = ap length (deadlines_append (waits place) label_kinds (uses_in context (start_of spans first) (end_of spans first) inst) (uses_from context spans (suc first) lines)) ∙ length-append front back in
     omega (arith, rest, own, whole)
 few_in_lines context place spans first (Bind label ∷ lines) = let rest = few_in_lines context place spans (suc first) lines in omega (arith, rest)
 
@@ -213,7 +241,8 @@ pending_waiting context lines spans b s =
     each j u h =
         let f = open_from_line context lines spans j u h in
         let start = start_of spans (first_after_island context lines spans (length lines) + f.index) in
-        let bare : u.veneer ≡ None = uses_bare context start f.inst f.place u f.own in
+        let end = end_of spans (first_after_island context lines spans (length lines) + f.index) in
+        let bare : u.veneer ≡ None = uses_bare context start end f.inst f.place u f.own in
         let rule : inst_rule context f.inst ≡ None = s.ruled (first_after_island context lines spans (length lines) + f.index) (Put f.inst) (get_drop lines (first_after_island context lines spans (length lines)) f.index (Put f.inst) f.there) in
         ⊎_elim
         (λ low.
@@ -222,7 +251,7 @@ pending_waiting context lines spans b s =
         (λ none.
         (λ i. none i && (is_none u.veneer && not (is_reached label_kinds (place_of b u.label.number) u)))
         ∙ sym (λ i. none i && not (is_reached label_kinds (bound_by spans 0 lines u.label.number) u)))
-        (uses_outer context start f.inst rule f.place u f.own)
+        (uses_outer context start end f.inst rule f.place u f.own)
 
 -- ---- an island that is needed
 
@@ -264,9 +293,23 @@ and_first : (a b : Bool) → (a && b) ≡ true → a ≡ true
 and_first true b e = refl
 and_first false b e = absurd (cc)
 
+-- a call that goes on stands with its jump
+has_jump : (context : Context) (inst : Inst) (b : Buffer) (start end : ℕ) → LineStands context (Put inst) b start end → HasJump context.flags start end (try_call_of inst)
+has_jump context (Call info) b start end h = on info.try_call_info h.2
+  where
+    on : (t : Option TryCallInfo) → end ≡ start + (call_size context.flags 8 info.callee_pop_size + try_size context.flags t) → HasJump context.flags start end t
+    on None long = tt
+    on (Some t) long = omega arith
+has_jump context (CallInd info) b start end h = on info.try_call_info h.2
+  where
+    on : (t : Option TryCallInfo) → end ≡ start + (call_size context.flags (short_jalr context.flags 1 (number_of info.dest) (pos 0)).len info.callee_pop_size + try_size context.flags t) → HasJump context.flags start end t
+    on None long = tt
+    on (Some t) long = omega arith
+has_jump context _ b start end h = tt
+
 -- an island that is needed after some lines is due there
-pub due_now : (context : Context) (lines : List Line) (spans : List LineSpan) (b : Buffer) (distance : ℕ) → AfterLastIsland context lines spans b → is_needed (length (bytes_of b)) distance (pending b) ≡ true → IsDue context lines spans (length lines) (length (bytes_of b)) distance
-due_now context lines spans b distance s needed =
+pub due_now : (context : Context) (lines : List Line) (spans : List LineSpan) (b : Buffer) (distance : ℕ) → LinesStand context lines spans b → AfterLastIsland context lines spans b → is_needed (length (bytes_of b)) distance (pending b) ≡ true → IsDue context lines spans (length lines) (length (bytes_of b)) distance
+due_now context lines spans b distance built s needed =
     let n = length lines in
     let k = first_after_island context lines spans n in
     let cur = length (bytes_of b) in
@@ -276,8 +319,8 @@ due_now context lines spans b distance s needed =
     let o : OfUse (waits (place_of b)) us m.due = of_use (waits (place_of b)) us m.index m.due m.there in
     let f : FromLine context spans k (drop k lines) o.user = open_from_line context lines spans o.index o.user o.there in
     let there : slice_get lines (k + f.index) ≡ Some (Put f.inst) = get_drop lines k f.index (Put f.inst) f.there in
-    let some : 1 ≤ length (inst_ways f.inst) = uses_ways context (start_of spans (k + f.index)) f.inst f.place o.user f.own (and_first (has_veneer_of o.user.kind) _ o.passes) in
-    let least : start_of spans (k + f.index) + least_reach context (Put f.inst) ≤ deadline label_kinds o.user = uses_least context (start_of spans (k + f.index)) f.inst f.place o.user f.own in
+    let some : 1 ≤ length (inst_ways f.inst) = uses_ways context (start_of spans (k + f.index)) (end_of spans (k + f.index)) f.inst f.place o.user f.own (and_first (has_veneer_of o.user.kind) _ o.passes) in
+    let least : start_of spans (k + f.index) + least_reach context (Put f.inst) ≤ deadline label_kinds o.user = uses_least context (start_of spans (k + f.index)) (end_of spans (k + f.index)) f.inst (has_jump context f.inst b (start_of spans (k + f.index)) (end_of spans (k + f.index)) (built.each (k + f.index) (Put f.inst) there).there) f.place o.user f.own in
     let is : deadline label_kinds o.user ≡ m.due = o.is in
     let late = m.late in
     let last : last_island spans n ≤ k = last_open context lines spans n in

@@ -4,11 +4,12 @@ use Rattle.rv_inst.specs.Context.{Context}
 use Rattle.rv_inst.specs.declared.inst.Line.{Line}
 use Rattle.rv_inst.specs.declared.code.Code.{Code}
 use Rattle.rv_inst.specs.LabelUse.{label_kinds}
-use Rattle.mach_buffer.specs.Buffer.{shape_of, bytes_of, labels_of, records_of}
-use Rattle.mach_buffer.specs.Records.{relocs_in, traps_in, unwinds_in}
+use Rattle.mach_buffer.specs.Buffer.{shape_of, bytes_of, place_of, labels_of, records_of}
+use Rattle.mach_buffer.specs.Records.{relocs_in, traps_in, calls_in, tries_in, patches_in, maps_in, unwinds_in, offset_or_zero}
 use Rattle.mach_buffer.specs.Finish.{CanFinish, Finishes}
 use Rattle.rv_emit.specs.Emitted.{Buffer}
 use Rattle.rv_asm.specs.LinesInBuffer.{LinesStand, Named, Sized}
+use Rattle.rv_asm.specs.Reported.{returns_from}
 use Rattle.rv_asm.specs.Reach.{NotEarly, ReachesOn}
 
 pub record IsFinished (context : Context) (lines : List Line) (code : Code) : Type 0 where
@@ -21,8 +22,13 @@ pub record IsFinished (context : Context) (lines : List Line) (code : Code) : Ty
   pub ready : CanFinish label_kinds (shape_of sink)
   pub finished : Finishes label_kinds (shape_of sink) code.bytes
   pub constants : code.constants ≡ finished.put.constants
+  pub returns : code.returns ≡ returns_from context.flags code.lines 0 lines
   pub labels : code.labels ≡ labels_of sink
   pub relocs : code.relocs ≡ relocs_in (records_of sink)
   pub traps : code.traps ≡ traps_in (records_of sink)
+  pub call_sites : code.call_sites ≡ calls_in (records_of sink)
+  pub try_call_sites : code.try_call_sites ≡ tries_in (offset_or_zero (place_of sink)) (records_of sink)
+  pub patchable_call_sites : code.patchable_call_sites ≡ patches_in (records_of sink)
+  pub stack_maps : code.stack_maps ≡ maps_in (records_of sink)
   pub unwinds : code.unwinds ≡ unwinds_in (records_of sink)
   pub end : code.end ≡ length (bytes_of sink)

@@ -1,6 +1,8 @@
 -- What stands in the buffer after some lines: what the loop of `assemble` keeps, and what one line adds. Links of the
 -- proof.
 use Rattle.std.specs.Prelude.{◌≡◌, ◌≢◌, ℕ, ◌+◌, ◌*◌, ◌%◌, ◌^◌, ◌<◌, ◌≤◌, ◌⊎◌, Bool, true, false, List, [], ◌++◌, length, Some, None, is_some, slice_get}
+use Rattle.std.specs.List.{AllByRecursion}
+use Rattle.rv_base.specs.declared.flags.IsaFlags.{IsaFlags}
 use Rattle.rv_base.specs.declared.label.MachLabel.{MachLabel}
 use Rattle.rv_base.specs.Frame.{sp_to_args_end}
 use Rattle.rv_base.specs.LabelUse.{code_limit}
@@ -10,6 +12,7 @@ use Rattle.rv_inst.specs.declared.inst.Line.{Line}
 use Rattle.rv_inst.specs.declared.inst.Line.TheVariants.{Inst as Put, Bind}
 use Rattle.rv_inst.specs.declared.inst.Inst.{Inst}
 use Rattle.rv_inst.specs.declared.code.LineSpan.{LineSpan}
+use Rattle.rv_inst.specs.declared.code.CallReturn.{CallReturn}
 use Rattle.rv_inst.specs.declared.label_use.LabelUse.{LabelUse}
 use Rattle.rv_inst.specs.Operands.{named_labels}
 use Rattle.rv_inst.specs.Rules.{broken_rule}
@@ -30,9 +33,9 @@ use Rattle.rv_emit.specs.declared.state.EmitVState.{EmitVState}
 use Rattle.rv_emit.specs.declared.state.EmitVState.TheVariants.{Unknown}
 use Rattle.rv_emit.specs.Slots.{Part, parts_size}
 use Rattle.rv_emit.specs.State.{setting_after, setting_beyond}
-use Rattle.rv_asm.specs.Reported.{start_of, end_of, end_before, binds_from, records_from, constants_named, IsShort, StandApart}
-use Rattle.rv_asm.specs.Refusal.{binds, is_bound, size_sum}
-use Rattle.rv_inst.specs.Sizes.{Extent, Words, Island, Table, extent_of, line_space, line_sum}
+use Rattle.rv_asm.specs.Reported.{start_of, end_of, end_before, binds_from, line_returns, records_from, constants_named, IsShort, StandApart}
+use Rattle.rv_asm.specs.Refusal.{is_unfit, binds, is_bound, size_sum}
+use Rattle.rv_inst.specs.Sizes.{Extent, Words, Island, After, extent_of, line_space, line_sum}
 
 -- ---- where lines stand
 
@@ -40,7 +43,7 @@ use Rattle.rv_inst.specs.Sizes.{Extent, Words, Island, Table, extent_of, line_sp
 abbrev pub IsLong : Extent → List Part → ℕ → ℕ → Type 0
 IsLong (Words size) parts start end = end ≡ start + size
 IsLong (Island space) parts start end = Unit {0}
-IsLong (Table labels size) parts start end = parts_size parts ≡ size
+IsLong (After space size more) parts start end = parts_size parts ≡ size
 
 -- the parts of an instruction stand between two offsets, by some setting of the vector unit; a bind has no bytes
 abbrev pub LineStands : Context → Line → Buffer → ℕ → ℕ → Type 0
@@ -110,6 +113,7 @@ pub record Sized (context : Context) (lines : List Line) (b : Buffer) : Type 0 w
 pub record CanPut (context : Context) (line : Line) (b : Buffer) : Type 0 where
   pub rule : broken_rule context line ≡ None
   pub frame : sp_to_args_end context.frame < 2 ^ 31
+  pub fit : is_unfit context.frame line ≡ false
   pub sound : IsSoundBuffer b
   pub reach : CanReach (length (bytes_of b)) (pending b)
   pub few : allocated_of b + 1 < 2 ^ 29
@@ -159,3 +163,7 @@ LineSetting context (Bind label) old before after = after ≡ Unknown
 abbrev pub LinePut : Context → EmitVState → Line → Buffer → Buffer → LineSpan → Type 0
 LinePut context setting (Put inst) old new span = InstPut context setting inst old new span
 LinePut context setting (Bind label) old new span = BindPut label old new span
+
+-- the call of a line returns within it
+abbrev pub ReturnsWithin : IsaFlags → Line → LineSpan → Type 0
+ReturnsWithin flags line span = AllByRecursion (λ (r : CallReturn). r.offset ≤ span.end) (line_returns flags span.index span.start line)

@@ -34,6 +34,7 @@ rule_name rules.Constant = codes "Constant"
 rule_name rules.EmptyTable = codes "EmptyTable"
 rule_name rules.NoTarget = codes "NoTarget"
 rule_name rules.Label = codes "Label"
+rule_name rules.TailArgs = codes "TailArgs"
 rule_name rules.DataSize = codes "DataSize"
 
 abbrev pub error_line : EmitError → List ℕ

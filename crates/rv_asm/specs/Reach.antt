@@ -12,7 +12,7 @@ use Rattle.rv_inst.specs.Operands.{line_ways}
 use Rattle.rv_inst.specs.LabelUse.{label_kinds, has_veneer_of}
 use Rattle.mach_buffer.specs.declared.uses.Use.{Use}
 use Rattle.mach_buffer.specs.Reach.{is_reached, deadlines, CanReach}
-use Rattle.rv_inst.specs.Sizes.{line_space, Extent, Words, Island, Table, table_space, extent_of}
+use Rattle.rv_inst.specs.Sizes.{line_space, Extent, Words, Island, After, extent_of}
 use Rattle.rv_inst.specs.Uses.{uses_in, least_reach}
 use Rattle.rv_asm.specs.Reported.{start_of, end_of, end_before}
 use Rattle.rv_asm.specs.Refusal.{size_sum}
@@ -27,7 +27,7 @@ is_after_island spans i = nat_lt (end_before spans i) (start_of spans i)
 abbrev pub is_island_of : Extent → ℕ → ℕ → Bool
 is_island_of (Words size) start end = false
 is_island_of (Island space) start end = nat_lt start end
-is_island_of (Table labels size) start end = nat_lt (start + size) end
+is_island_of (After space size more) start end = nat_lt (start + size) end
 
 abbrev pub is_island : Context → Line → ℕ → ℕ → Bool
 is_island context (Put inst) start end = is_island_of (extent_of context inst) start end
@@ -59,7 +59,7 @@ pub record IsDue (context : Context) (lines : List Line) (spans : List LineSpan)
 abbrev pub IsDueOf : Context → List Line → List LineSpan → ℕ → Extent → Type 0
 IsDueOf context lines spans i (Words size) = Unit {0}
 IsDueOf context lines spans i (Island space) = start_of spans i < end_of spans i → IsDue context lines spans i (start_of spans i) space
-IsDueOf context lines spans i (Table labels size) = start_of spans i + size < end_of spans i → IsDue context lines spans i (start_of spans i) (table_space labels)
+IsDueOf context lines spans i (After space size more) = start_of spans i + size < end_of spans i → IsDue context lines spans i (start_of spans i) space
 
 abbrev pub IslandDue : Context → List Line → List LineSpan → ℕ → Line → Type 0
 IslandDue context lines spans i (Put inst) = IsDueOf context lines spans i (extent_of context inst)
@@ -75,7 +75,7 @@ pub record NotEarly (context : Context) (lines : List Line) (spans : List LineSp
 -- the uses of lines, the first of which has an index
 abbrev pub uses_from : Context → List LineSpan → ℕ → List Line → List (Use LabelUse)
 uses_from context spans i [] = []
-uses_from context spans i (Put inst ∷ lines) = uses_in context (start_of spans i) inst ++ uses_from context spans (suc i) lines
+uses_from context spans i (Put inst ∷ lines) = uses_in context (start_of spans i) (end_of spans i) inst ++ uses_from context spans (suc i) lines
 uses_from context spans i (Bind label ∷ lines) = uses_from context spans (suc i) lines
 
 -- whether an island stands in the line of an index

@@ -1,12 +1,9 @@
 -- Why a job is refused: the first cause, in the order in which the causes are looked for.
-use Rattle.std.specs.Prelude.{◌≡◌, ℕ, suc, ◌+◌, ◌^◌, Bool, false, ◌||◌, ◌&&◌, ◌==◌, nat_eq, nat_lt, nat_le, if◌then◌else◌, List, [], ◌∷◌, length, Option, Some, None, Result, Ok, Err}
+use Rattle.std.specs.Prelude.{◌≡◌, ℕ, suc, ◌+◌, ◌^◌, Bool, false, ◌||◌, nat_eq, nat_lt, if◌then◌else◌, List, [], ◌∷◌, length, Option, Some, None, Result, Ok, Err}
 use Rattle.std.specs.List.{list_any}
 use Rattle.rv_base.specs.declared.constant.Constant.{Constant}
 use Rattle.rv_base.specs.declared.frame.FrameLayout.{FrameLayout}
 use Rattle.rv_base.specs.declared.label.MachLabel.{MachLabel}
-use Rattle.rv_base.specs.declared.regs.PReg.{PReg}
-use Rattle.rv_base.specs.declared.regs.Writable.{Writable}
-use Rattle.rv_base.specs.Frame.{sp_to_args_end}
 use Rattle.rv_inst.specs.Context.{Context, context_of}
 use Rattle.rv_inst.specs.declared.job.Job.{Job}
 use Rattle.rv_inst.specs.declared.inst.Line.{Line}
@@ -14,24 +11,26 @@ use Rattle.rv_inst.specs.declared.inst.Line.TheVariants.{Inst as Put, Bind}
 use Rattle.rv_inst.specs.declared.error.Rule.{Rule}
 use Rattle.rv_inst.specs.declared.error.EmitError.{EmitError}
 use Rattle.rv_inst.specs.declared.error.EmitError.TheVariants.{BadFrame, Malformed, LabelTwice, UnboundLabel, TooLarge, OutOfMemory}
-use Rattle.rv_inst.specs.Operands.{named_labels}
-use Rattle.rv_inst.specs.Rules.{is_int_class, is_vector_class, first_of, broken_rule}
+use Rattle.rv_inst.specs.Frames.{is_bad_frame, is_bad_frame_for}
+use Rattle.rv_inst.specs.Operands.{named_labels, tail_call_of}
+use Rattle.rv_inst.specs.Rules.{first_of, broken_rule}
 use Rattle.rv_inst.specs.Sizes.{line_sum}
 
 abbrev pub malformed : ℕ → Option Rule → Option EmitError
 malformed index None = None
 malformed index (Some rule) = Some (Malformed index rule)
 
--- a register that a frame can't save: a vector register, or x0, ra, sp, fp, x30 or x31
-abbrev pub is_unsaved : PReg → Bool
-is_unsaved p = is_vector_class p.class || (is_int_class p.class && (nat_lt p.number 3 || p.number == 8 || nat_le 30 p.number))
+-- whether a line is a tail call that can't restore a frame
+abbrev pub is_unfit : FrameLayout → Line → Bool
+is_unfit frame (Put inst) = is_bad_frame_for frame (tail_call_of inst)
+is_unfit frame (Bind label) = false
 
--- the frame's sizes sum to 2^31 bytes or more, or it saves a register that it can't
-abbrev pub is_bad_frame : FrameLayout → Bool
-is_bad_frame frame = nat_le (2 ^ 31) (sp_to_args_end frame) || list_any (λ (r : Writable PReg). is_unsaved r.reg) frame.clobbered_callee_saves
+-- a frame that no function has, or that one of these lines can't restore
+abbrev pub has_bad_frame : FrameLayout → List Line → Bool
+has_bad_frame frame lines = is_bad_frame frame || list_any (is_unfit frame) lines
 
-abbrev pub bad_frame : FrameLayout → Option EmitError
-bad_frame frame = if is_bad_frame frame then Some BadFrame else None
+abbrev pub bad_frame : FrameLayout → List Line → Option EmitError
+bad_frame frame lines = if has_bad_frame frame lines then Some BadFrame else None
 
 -- the first line that breaks a rule in the context, the first of them all having an index
 abbrev pub broken_from : Context → ℕ → List Line → Option EmitError
@@ -99,7 +98,7 @@ lines_refusal context lines = first_of (broken_from context 0 lines) (first_of (
 
 -- why a job is refused, if it is
 unfoldable pub refusal : Job → Option EmitError
-refusal job = first_of (bad_frame job.frame) (lines_refusal (context_of job) job.lines)
+refusal job = first_of (bad_frame job.frame job.lines) (lines_refusal (context_of job) job.lines)
 
 -- what a look for an error answers; out of memory may come at any time
 abbrev pub Finds : {X : Type 0} → Option EmitError → Result X EmitError → Type 0

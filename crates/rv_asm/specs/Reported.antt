@@ -1,5 +1,5 @@
 -- What the code reports of its lines.
-use Rattle.std.specs.Prelude.{◌≡◌, ◌≢◌, ℕ, zero, suc, ◌+◌, ◌-◌, ◌<◌, ◌≤◌, ◌⊎◌, List, [], ◌∷◌, ◌++◌, length, map, slice_get, Option, Some, None, option_map, unwrap_or}
+use Rattle.std.specs.Prelude.{◌≡◌, ◌≢◌, ℕ, zero, suc, ◌+◌, ◌-◌, ◌<◌, ◌≤◌, ◌⊎◌, nat_eq, if◌then◌else◌, List, [], ◌∷◌, ◌++◌, length, map, slice_get, Option, Some, None, option_map, unwrap_or}
 use Rattle.rv_base.specs.declared.constant.Constant.{Constant}
 use Rattle.rv_base.specs.declared.constant.VCodeConstant.{VCodeConstant}
 use Rattle.rv_inst.specs.Context.{Context, context_of}
@@ -9,13 +9,15 @@ use Rattle.rv_inst.specs.declared.inst.Line.TheVariants.{Inst as Put, Bind}
 use Rattle.rv_inst.specs.declared.job.Job.{Job}
 use Rattle.rv_inst.specs.Islands.{IsIsland}
 use Rattle.rv_inst.specs.Operands.{inst_constant}
-use Rattle.rv_inst.specs.Sizes.{Extent, Words, Island, Table, words_in, extent_of, island_space}
+use Rattle.rv_inst.specs.Sizes.{Extent, Words, Island, After, words_in, extent_of, island_space}
 use Rattle.rv_base.specs.declared.flags.IsaFlags.{IsaFlags}
 use Rattle.rv_inst.specs.declared.code.Code.{Code}
 use Rattle.rv_inst.specs.declared.code.LineSpan.{LineSpan}
+use Rattle.rv_inst.specs.declared.code.CallReturn.{CallReturn}
+use Rattle.rv_inst.specs.Calls.{Return, return_of}
 use Rattle.mach_buffer.specs.declared.uses.LabelPlace.{LabelPlace}
 use Rattle.mach_buffer.specs.declared.records.MachRecord.{MachRecord}
-use Rattle.mach_buffer.specs.Records.{relocs_in, traps_in, unwinds_in}
+use Rattle.mach_buffer.specs.Records.{relocs_in, traps_in, calls_in, tries_in, patches_in, maps_in, unwinds_in}
 use Rattle.mach_buffer.specs.declared.records.ConstPlace.{ConstPlace}
 use Rattle.mach_buffer.specs.Shape.{name_more}
 use Rattle.mach_buffer.specs.Constants.{HasConstants}
@@ -51,6 +53,20 @@ abbrev pub records_from : Context → List LineSpan → ℕ → List Line → Li
 records_from context spans i [] = []
 records_from context spans i (line ∷ lines) = line_records context (start_of spans i) (end_of spans i) line ++ records_from context spans (suc i) lines
 
+-- where the call of a line that starts at an offset returns, where it is one
+abbrev pub return_from : ℕ → ℕ → Option Return → List CallReturn
+return_from i start None = []
+return_from i start (Some r) = record { index = i; offset = start + r.offset } ∷ []
+
+abbrev pub line_returns : IsaFlags → ℕ → ℕ → Line → List CallReturn
+line_returns flags i start (Put inst) = return_from i start (return_of flags inst)
+line_returns flags i start (Bind label) = []
+
+-- the returns of lines, the first of which has index i
+abbrev pub returns_from : IsaFlags → List LineSpan → ℕ → List Line → List CallReturn
+returns_from flags spans i [] = []
+returns_from flags spans i (line ∷ lines) = line_returns flags i (start_of spans i) line ++ returns_from flags spans (suc i) lines
+
 -- the constant that a line names
 abbrev pub line_constant : Line → Option VCodeConstant
 line_constant (Put inst) = inst_constant inst
@@ -74,11 +90,21 @@ constants_named lines = constants_after [] lines
 abbrev pub IsGap : IsaFlags → List ℕ → ℕ → ℕ → Type 0
 IsGap flags bytes from to = (from ≡ to) ⊎ IsIsland flags bytes from to
 
+-- the number of the first line that binds a label
+abbrev pub binding_line : List Line → ℕ → ℕ
+binding_line [] label = 0
+binding_line (Bind l ∷ lines) label = if nat_eq l.number label then 0 else suc (binding_line lines label)
+binding_line (Put inst ∷ lines) label = suc (binding_line lines label)
+
+-- where a label stands: the start of the line that binds it
+abbrev pub label_start : List LineSpan → List Line → ℕ → ℕ
+label_start spans lines label = start_of spans (binding_line lines label)
+
 -- an instruction's words are as long as they must be; where it asks for an island, nothing stands before them, or an island
 abbrev pub IsSized : IsaFlags → List ℕ → Extent → ℕ → ℕ → Type 0
 IsSized flags bytes (Words size) start end = end ≡ start + size
 IsSized flags bytes (Island space) start end = IsGap flags bytes start end
-IsSized flags bytes (Table labels size) start end = (mid : ℕ) × IsGap flags bytes start mid × (end ≡ mid + size)
+IsSized flags bytes (After space size more) start end = (mid : ℕ) × IsGap flags bytes start mid × (end ≡ mid + size)
 
 -- a line's span is as long as the line; that of a bind is empty
 abbrev pub IsSpan : Context → List ℕ → Line → ℕ → ℕ → Type 0
@@ -109,13 +135,15 @@ pub record FillsInLine (spans : List LineSpan) (r : MachReloc) : Type 0 where
   pub starts : start_of spans index ≤ r.offset
   pub ends : r.offset + field_size r.kind ≤ end_of spans index
 
--- Every line has one span, in order, as long as the line, and of at most 84 bytes unless it asks for an island. The first starts at 0; between two stands nothing, or an island.
--- The code's end is that of the last line, its labels are the binds, and its records are those of the lines: what a linker
--- fills, traps, and steps in the making of the frame. Each constant that a line names has one offset, a multiple of its
--- alignment, at which its bytes stand, and no other constant has one; they are in the order of their first use. In this order
--- each ends before the next one begins, and none has a byte among an instruction's words, so their bytes are those of islands,
--- or come after all lines. The bytes that a relocation fills are in the span of a line, and no other relocation fills one of
--- them.
+-- Every line has one span, in order, as long as the line, and of at most 84 bytes unless it asks for an island. The first starts
+-- at 0; between two stands nothing, or an island.
+-- The code's end is that of the last line, its labels are the binds, its returns are those of the calls, and its records are
+-- those of the lines: what a linker fills, traps, call sites, those of calls that may throw, each handler with the offset of its label,
+-- calls that may be patched, values on the stack, and steps in the making of the frame.
+-- Each constant that a line names has one offset, a multiple of its alignment, at which its bytes stand, and no other constant
+-- has one; they are in the order of their first use. In this order each ends before the next one begins, and none has a byte
+-- among an instruction's words, so their bytes are those of islands, or come after all lines. The bytes that a relocation fills
+-- are in the span of a line, and no other relocation fills one of them.
 pub record Reported (job : Job) (code : Code) : Type 0 where
   pub count : length code.lines ≡ length job.lines
   pub indices : (i : ℕ) (span : LineSpan) → slice_get code.lines i ≡ Some span → span.index ≡ i
@@ -126,6 +154,7 @@ pub record Reported (job : Job) (code : Code) : Type 0 where
   pub last : (i : ℕ) → suc i ≡ length job.lines → code.end ≡ end_of code.lines i
   pub none : length job.lines ≡ 0 → code.end ≡ 0
   pub within : code.end ≤ length code.bytes
+  pub returns : code.returns ≡ returns_from job.flags code.lines 0 job.lines
   pub labels : code.labels ≡ binds_from code.lines 0 job.lines
   pub constants : map (λ (c : ConstPlace). c.constant) code.constants ≡ constants_named job.lines
   pub placed : HasConstants job.constants code.bytes code.constants
@@ -133,6 +162,10 @@ pub record Reported (job : Job) (code : Code) : Type 0 where
   pub apart : StandApart (context_of job) job.lines code.lines code.constants
   pub relocs : code.relocs ≡ relocs_in (records_from (context_of job) code.lines 0 job.lines)
   pub traps : code.traps ≡ traps_in (records_from (context_of job) code.lines 0 job.lines)
+  pub call_sites : code.call_sites ≡ calls_in (records_from (context_of job) code.lines 0 job.lines)
+  pub try_call_sites : code.try_call_sites ≡ tries_in (label_start code.lines job.lines) (records_from (context_of job) code.lines 0 job.lines)
+  pub patchable_call_sites : code.patchable_call_sites ≡ patches_in (records_from (context_of job) code.lines 0 job.lines)
+  pub stack_maps : code.stack_maps ≡ maps_in (records_from (context_of job) code.lines 0 job.lines)
   pub unwinds : code.unwinds ≡ unwinds_in (records_from (context_of job) code.lines 0 job.lines)
   pub fields : (j : ℕ) (r : MachReloc) → slice_get code.relocs j ≡ Some r → FillsInLine code.lines r
   pub fields_apart : (j k : ℕ) (r s : MachReloc) → j ≢ k → slice_get code.relocs j ≡ Some r → slice_get code.relocs k ≡ Some s → IsApart r.offset (field_size r.kind) s.offset (field_size s.kind)

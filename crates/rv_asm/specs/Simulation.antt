@@ -10,7 +10,9 @@ use Rattle.rv_inst.specs.declared.job.Job.{Job}
 use Rattle.rv_inst.specs.Context.{context_of}
 use Rattle.rv_inst.specs.OneOperation.{operation_of}
 use Rattle.rv_inst.specs.declared.code.Code.{Code}
-use Rattle.rv_inst.specs.Meaning.{Environment, Exit, Next, To, Leave, Break, Trap, Data, exit_of, effect_of, writes_of, temporaries_of, AreOutside}
+use Rattle.rv_inst.specs.declared.code.CallReturn.{CallReturn}
+use Rattle.rv_inst.specs.Calls.{Return, return_of}
+use Rattle.rv_inst.specs.Meaning.{Environment, Exit, Next, To, Leave, Break, Trap, Data, exit_of, return_exit, effect_of, return_effect, writes_of, temporaries_of, AreOutside}
 use Rattle.rv_machine.specs.State.{State, IsState, Values, AreValues, Memory, wrap}
 use Rattle.rv_base.specs.declared.flags.IsaFlags.{IsaFlags}
 use Rattle.rv_machine.specs.declared.decoding.Decoded.{Decoded}
@@ -18,23 +20,18 @@ use Rattle.rv_machine.specs.Decode.{decode}
 use Rattle.rv_machine.specs.Steps.{IsBreak, fetch, iter}
 use Rattle.rv_inst.specs.SameValues.{Same, SameBut}
 use Rattle.rv_asm.specs.Placed.{Addresses, address_of_name, IsPlaced}
-use Rattle.rv_asm.specs.Reported.{start_of, end_of}
+use Rattle.rv_asm.specs.Reported.{start_of, end_of, binding_line, label_start}
 
--- the start of a line, by its number; an address outside the code; the end of the last line; the break of a line; the trap of
--- a line, which is recorded at an offset; or the data of a line
+-- the start of a line, by its number; where the call of a line returns; an address; the end of the last line;
+-- the break of a line; the trap of a line, which is recorded at an offset; or the data of a line
 pub data Point : Type 0 where
   At : ℕ → Point
+  Returned : ℕ → Point
   Out : ℕ → Point
   End : Point
   Stop : ℕ → Point
   Trapped : ℕ → ℕ → Point
   InData : ℕ → Point
-
--- the number of the first line that binds a label
-abbrev pub binding_line : List Line → ℕ → ℕ
-binding_line [] label = 0
-binding_line (Bind l ∷ lines) label = if nat_eq l.number label then 0 else suc (binding_line lines label)
-binding_line (Put inst ∷ lines) label = suc (binding_line lines label)
 
 abbrev pub next_point : List Line → ℕ → Point
 next_point lines i = if nat_lt (suc i) (length lines) then At (suc i) else End
@@ -57,24 +54,53 @@ Leads lines code i Data q = q ≡ InData i
 -- what a line is read among, for code that stands at a base: a label has the address of the first line that binds it, and a
 -- constant that of its offset
 abbrev pub environment_of : Job → Code → ℕ → Addresses → Addresses → ℕ → Environment
-environment_of job code base symbols slots i = record { start = wrap (base + start_of code.lines i); after = wrap (base + end_of code.lines i); label = λ label. wrap (base + start_of code.lines (binding_line job.lines label)); constant = λ number. wrap (base + unwrap_or (offset_in code.constants number) 0); frame = job.frame; symbol = λ number. unwrap_or (address_of_name symbols number) 0; slot = λ number. unwrap_or (address_of_name slots number) 0 }
+environment_of job code base symbols slots i = record { start = wrap (base + start_of code.lines i); after = wrap (base + end_of code.lines i); label = λ label. wrap (base + label_start code.lines job.lines label); constant = λ number. wrap (base + unwrap_or (offset_in code.constants number) 0); flags = job.flags; frame = job.frame; symbol = λ number. unwrap_or (address_of_name symbols number) 0; slot = λ number. unwrap_or (address_of_name slots number) 0 }
 
 -- a line writes no byte of the code, which stands at a base
 abbrev pub WritesOutside : Job → Code → ℕ → Addresses → Addresses → ℕ → Line → Values → Type 0
 WritesOutside job code base symbols slots i line v = AreOutside base (length code.bytes) (writes_of (environment_of job code base symbols slots i) line v)
 
+-- a line is entered at its start, or, where it is a call, where that returns
+pub data Entry : Type 0 where
+  AtStart : Entry
+  AtReturn : Entry
+
+abbrev pub entry_point : Entry → ℕ → Point
+entry_point AtStart i = At i
+entry_point AtReturn i = Returned i
+
+-- what a line makes of the values from there, how it is left, and which registers may hold anything then
+abbrev pub effect_from : Entry → Environment → Line → Values → Values
+effect_from AtStart env line v = effect_of env line v
+effect_from AtReturn env line v = return_effect env line v
+
+abbrev pub exit_from : Entry → Environment → Line → Values → Exit
+exit_from AtStart env line v = exit_of env line v
+exit_from AtReturn env line v = return_exit line
+
+abbrev pub temporaries_from : Entry → Line → List ℕ
+temporaries_from AtStart line = temporaries_of line
+temporaries_from AtReturn line = []
+
 -- one line at once, from a point and values to a point and values; the line's temporaries may hold anything after it
 pub record OneLine (job : Job) (code : Code) (base : ℕ) (symbols slots : Addresses) (p : Point) (v : Values) (q : Point) (w : Values) : Type 0 where
   pub index : ℕ
   pub line : Line
-  pub at : p ≡ At index
+  pub entry : Entry
+  pub at : p ≡ entry_point entry index
   pub listed : slice_get job.lines index ≡ Some line
-  pub leads : Leads job.lines code index (exit_of (environment_of job code base symbols slots index) line v) q
-  pub effect : SameBut (temporaries_of line) (effect_of (environment_of job code base symbols slots index) line v) w
+  pub leads : Leads job.lines code index (exit_from entry (environment_of job code base symbols slots index) line v) q
+  pub effect : SameBut (temporaries_from entry line) (effect_from entry (environment_of job code base symbols slots index) line v) w
+
+-- the offset where the call of a line returns
+abbrev pub return_at : List CallReturn → ℕ → ℕ
+return_at [] i = 0
+return_at (r ∷ returns) i = if nat_eq r.index i then r.offset else return_at returns i
 
 -- the address of a point, for code that stands at a base
 abbrev pub address_of : Code → ℕ → Point → ℕ
 address_of code base (At i) = wrap (base + start_of code.lines i)
+address_of code base (Returned i) = wrap (base + return_at code.returns i)
 address_of code base End = wrap (base + code.end)
 address_of code base (Out a) = a
 address_of code base (Stop i) = wrap (base + start_of code.lines i)
@@ -85,15 +111,17 @@ address_of code base (InData i) = wrap (base + start_of code.lines i)
 abbrev pub IsStopped : IsaFlags → Point → State → Type 0
 IsStopped flags (Stop i) s = IsBreak flags s.values.mem s.pc
 IsStopped flags (At i) s = Unit {0}
+IsStopped flags (Returned i) s = Unit {0}
 IsStopped flags (Out a) s = Unit {0}
 IsStopped flags End s = Unit {0}
 IsStopped flags (Trapped i at) s = decode flags (fetch s.values.mem s.pc) ≡ None
 IsStopped flags (InData i) s = Unit {0}
 
--- the start of the line of an index, or of one before it
+-- the start of the line of an index, or of one before it, or an address, which may be that of any line
 abbrev pub IsBack : ℕ → Point → Type 0
 IsBack index (At j) = j ≤ index
-IsBack index (Out a) = ⊥
+IsBack index (Returned j) = ⊥
+IsBack index (Out a) = Unit {0}
 IsBack index End = ⊥
 IsBack index (Stop i) = ⊥
 IsBack index (Trapped i at) = ⊥
@@ -116,9 +144,10 @@ pub record Comes (job : Job) (code : Code) (base : ℕ) (symbols slots : Address
   pub are_values : AreValues values
 
 -- The code runs as its job says: from the start of every line, wherever the code is placed and its symbols are, and from all values
--- from which the line doesn't write on the code.
+-- from which the line doesn't write on the code; and from where each call returns, with all values.
 pub record RunsAsListed (job : Job) (code : Code) : Type 0 where
   pub from : (base : ℕ) (symbols slots : Addresses) (i : ℕ) (line : Line) (s : State) (v : Values) → slice_get job.lines i ≡ Some line → WritesOutside job code base symbols slots i line v → IsPlaced code base symbols slots s.values.mem → IsState s → AreValues v → s.pc ≡ address_of code base (At i) → Same v s.values → Comes job code base symbols slots (At i) v s
+  pub back : (base : ℕ) (symbols slots : Addresses) (i : ℕ) (inst : Inst) (r : Return) (s : State) (v : Values) → slice_get job.lines i ≡ Some (Put inst) → return_of job.flags inst ≡ Some r → IsPlaced code base symbols slots s.values.mem → IsState s → AreValues v → s.pc ≡ address_of code base (Returned i) → Same v s.values → Comes job code base symbols slots (Returned i) v s
 
 -- Wherever the code is placed, the machine reads at the start of a line of one machine word the operation that stands for it: in two
 -- bytes where the instruction has a form of sixteen bits, and then that form's, else in four.

@@ -1,11 +1,10 @@
 //! From lines to the code that runs as they say.
 
-ghost use Rattle.std.specs.Prelude.{◌≡◌, ℕ, ◌^◌, ◌<◌, None, IfOk, OnOk};
+ghost use Rattle.std.specs.Prelude.{◌≡◌, false, None, IfOk};
 ghost use Rattle.rv_base.specs.declared.flags.IsaFlags.{IsaFlags};
-ghost use Rattle.rv_base.specs.Frame.{sp_to_args_end};
 ghost use Rattle.rv_listing.specs.CodeRanges.{CodeFits};
 ghost use Rattle.rv_asm.specs.Job.{job_of};
-ghost use Rattle.rv_asm.specs.Refusal.{lines_refusal, refusal, Finds};
+ghost use Rattle.rv_asm.specs.Refusal.{has_bad_frame, lines_refusal, refusal, Finds};
 ghost use Rattle.rv_asm.specs.Reported.{Reported};
 ghost use Rattle.rv_asm.specs.Simulation.{RunsAsListed, HasOperations};
 ghost use Rattle.rv_asm.specs.Reach.{InReach};
@@ -16,6 +15,7 @@ use crate::frame::copy_of;
 use crate::lines::put_line;
 use crate::ranges::code_fits;
 use crate::refusal::refuse;
+use crate::returns::add_return;
 use mach_buffer::MachBuffer;
 use rv_base::{Constant, FrameLayout, IsaFlags, List, OutOfMemory};
 use rv_emit::{EmitInfo, EmitState, MachInstEmitState};
@@ -56,7 +56,7 @@ fn build(
     frame: &FrameLayout,
     constants: &[Constant],
 ) -> Result<Code, OutOfMemory>
-    requires frame { sp_to_args_end frame.now < 2 ^ 31 }
+    requires frame { has_bad_frame frame.now lines.now ≡ false }
     requires accepted { lines_refusal (context_by flags frame.now constants.now) lines.now ≡ None }
     ensures { IfOk result (IsFinished (context_by flags frame.now constants.now) lines.now) }
 {
@@ -65,19 +65,26 @@ fn build(
     let mut sink = MachBuffer::<LabelUse>::new(alloc);
     sink.register_constants(constants)?;
     let mut spans = Vec::new(alloc);
+    let mut returns = Vec::new(alloc);
     for (index, line) in lines.iter().enumerate() {
         let span = put_line(alloc, &mut sink, &info, &mut state, index, line)?;
         spans.push(span)?;
+        add_return(&mut returns, flags, span, line)?;
     }
     let end = sink.cur_offset();
     let finished = sink.finish(constants)?;
     Ok(Code {
         bytes: finished.bytes,
         lines: List::from_vec(spans),
+        returns: List::from_vec(returns),
         labels: finished.labels,
         constants: finished.constants,
         relocs: finished.relocs,
         traps: finished.traps,
+        call_sites: finished.call_sites,
+        try_call_sites: finished.try_call_sites,
+        patchable_call_sites: finished.patchable_call_sites,
+        stack_maps: finished.stack_maps,
         unwinds: finished.unwinds,
         end,
     })

@@ -8,6 +8,7 @@ mod outcome;
 mod program;
 mod ranges;
 mod refusal;
+mod returns;
 
 pub use assembly::assemble;
 pub use outcome::Outcome;

@@ -65,6 +65,7 @@ fn rule_name(rule: Rule) -> &'static str
         Rule::EmptyTable => "EmptyTable",
         Rule::NoTarget => "NoTarget",
         Rule::Label => "Label",
+        Rule::TailArgs => "TailArgs",
         Rule::DataSize => "DataSize",
     }
 }

@@ -1,18 +1,20 @@
 //! Why a job is refused.
 
-ghost use Rattle.std.specs.Prelude.{◌≡◌, ℕ, [], ◌∷◌, ◌++◌, ◌+◌, ◌||◌, ◌<◌, false, length, nat_eq, nat_lt, IfOk, OnOk, IfSome, IfNone};
+ghost use Rattle.std.specs.Prelude.{◌≡◌, ℕ, List, map, option_copied, [], ◌∷◌, ◌++◌, ◌+◌, ◌||◌, ◌<◌, false, length, nat_eq, nat_lt, IfOk, OnOk, IfSome, IfNone};
 ghost use Rattle.rv_base.specs.declared.flags.IsaFlags.{IsaFlags as Flags};
-ghost use Rattle.rv_base.specs.declared.frame.FrameLayout.{FrameLayout as Frame};
-ghost use Rattle.rv_inst.specs.Operands.{named_labels, inst_labels, labels_of, target_labels, targets_of};
-ghost use Rattle.rv_inst.specs.Context.{Context, context_by};
-ghost use Rattle.rv_asm.specs.Refusal.{size_limit, is_bound, broken_from, binds, twice_of, twice_in, twice_from, unbound_among, unbound_in, constants_sum, lines_sum, size_sum, lines_refusal, refusal, Finds};
+ghost use Rattle.rv_base.specs.declared.constant.Constant.{Constant as Data};
+ghost use Rattle.std.specs.List.{list_any};
+ghost use Rattle.rv_inst.specs.Operands.{handler_label as label_of_handler, named_labels, inst_labels, labels_of, target_labels, targets_of, try_labels};
+ghost use Rattle.rv_inst.specs.Context.{context_by};
+ghost use Rattle.rv_asm.specs.Refusal.{is_unfit, size_limit, is_bound, broken_from, binds, twice_of, twice_in, twice_from, unbound_among, unbound_in, constants_sum, lines_sum, size_sum, lines_refusal, refusal, Finds};
 ghost use Rattle.rv_asm.specs.Job.{job_of};
 ghost use Rattle.rv_asm.specs.BoundLabels.{is_in};
 
-use crate::frame::is_bad_frame;
 use mach_labels::LabelTable;
-use rv_base::{Constant, FrameLayout, IsaFlags, MachLabel};
-use rv_inst::{CondBrTarget, EmitError, Inst, Line, Targets};
+use rv_base::{Constant, FrameLayout, IsaFlags, MachLabel, TryCallHandler, TryCallInfo};
+use rv_inst::{
+    CondBrTarget, EmitError, Inst, Line, Targets, handler_label, is_bad_frame, is_bad_frame_for,
+};
 use std::alloc::Global;
 
 /// Refuses a job for its first cause, where it has one.
@@ -26,10 +28,26 @@ pub fn refuse(
 ) -> Result<(), EmitError>
     ensures { Finds (refusal (job_of lines.now flags frame.now constants.now)) result }
 {
-    if is_bad_frame(frame) {
+    if is_bad_frame(frame) || any_is_unfit(lines, frame) {
         return Err(EmitError::BadFrame);
     }
     refuse_lines(alloc, lines, flags, frame, constants)
+}
+
+/// Returns whether one of the lines is a tail call that can't restore the frame.
+fn any_is_unfit(lines: &[Line], frame: &FrameLayout) -> bool
+    ensures { result ≡ list_any (is_unfit frame.now) lines.now }
+{
+    lines.iter().any(|line| is_unfit(line, frame))
+}
+
+fn is_unfit(line: &Line, frame: &FrameLayout) -> bool
+    ensures { result ≡ is_unfit frame.now line.now }
+{
+    match line {
+        Line::Inst(inst) => is_bad_frame_for(inst, frame),
+        Line::Bind(_) => false,
+    }
 }
 
 /// Refuses lines for their first cause, where they have one.
@@ -46,7 +64,7 @@ fn refuse_lines(
     check_rules(lines, flags, frame, constants)?;
     let bound = bind_labels(alloc, lines)?;
     find_all(&bound, lines)?;
-    if is_too_large(lines, constants) {
+    if is_too_large(lines, frame, constants) {
         return Err(EmitError::TooLarge);
     }
     Ok(())
@@ -136,8 +154,30 @@ fn find_labels_of(bound: &LabelTable<()>, line: &Line) -> Result<(), EmitError>
 fn find_labels_in(bound: &LabelTable<()>, inst: &Inst) -> Result<(), EmitError>
     ensures { Finds (unbound_among (is_in bound.now) (inst_labels inst.now)) result }
 {
+    find_continued(bound, inst.try_call())?;
     find_named(bound, inst)?;
     find_all_of(bound, inst.table())
+}
+
+fn find_continued(bound: &LabelTable<()>, info: Option<&TryCallInfo>) -> Result<(), EmitError>
+    ensures { Finds (unbound_among (is_in bound.now) (try_labels (option_copied info.entry))) result }
+{
+    match info {
+        Some(info) => {
+            find_label(bound, info.continuation)?;
+            find_handlers(bound, info.handlers.as_slice())
+        }
+        None => Ok(()),
+    }
+}
+
+fn find_handlers(bound: &LabelTable<()>, handlers: &[TryCallHandler]) -> Result<(), EmitError>
+    ensures { Finds (unbound_among (is_in bound.now) (map label_of_handler handlers.now)) result }
+{
+    for handler in handlers {
+        find_label(bound, handler_label(*handler))?;
+    }
+    Ok(())
 }
 
 fn find_all_of(bound: &LabelTable<()>, labels: &[MachLabel]) -> Result<(), EmitError>
@@ -192,11 +232,11 @@ fn find_label(bound: &LabelTable<()>, label: MachLabel) -> Result<(), EmitError>
 const SIZE_LIMIT: u64 = 1 << 30;
 
 /// Returns whether the lines and the constants count for more bytes than they may.
-fn is_too_large(lines: &[Line], constants: &[Constant]) -> bool
-    ensures { (flags : Flags) (frame : Frame) → result ≡ nat_lt size_limit (size_sum (context_by flags frame constants.now) lines.now) }
+fn is_too_large(lines: &[Line], frame: &FrameLayout, constants: &[Constant]) -> bool
+    ensures { (flags : Flags) → result ≡ nat_lt size_limit (size_sum (context_by flags frame.now constants.now) lines.now) }
 {
     match left_by_constants(constants) {
-        Some(left) => count_for_more(lines, left),
+        Some(left) => count_for_more(lines, frame, left),
         None => true,
     }
 }
@@ -225,12 +265,12 @@ fn constant_sum(constant: &Constant) -> u128
 }
 
 /// Returns whether the lines count for more bytes than are left.
-fn count_for_more(lines: &[Line], left: u64) -> bool
-    ensures { (context : Context) → result ≡ nat_lt left (lines_sum context lines.now) }
+fn count_for_more(lines: &[Line], frame: &FrameLayout, left: u64) -> bool
+    ensures { (flags : Flags) (constants : List Data) → result ≡ nat_lt left (lines_sum (context_by flags frame.now constants) lines.now) }
 {
     let mut left = left;
     for line in lines {
-        let size = line.size_sum();
+        let size = line.size_sum(frame);
         if size > u128::from(left) {
             return true;
         }

@@ -29,7 +29,10 @@ mod unwind;
 mod value_regs;
 
 pub use amode::{AMode, StackAMode};
-pub use call::{ArgPair, RetPair};
+pub use call::{
+    ArgPair, CallArgPair, CallInfo, CallRetPair, RetLocation, RetPair, ReturnCallInfo,
+    TryCallHandler, TryCallInfo, UserStackMap,
+};
 pub use class_regs::{FReg, VReg, WritableFReg, WritableVReg, WritableXReg, XReg};
 pub use codegen_error::CodegenError;
 pub use condcodes::IntCC;

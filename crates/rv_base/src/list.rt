@@ -1,6 +1,6 @@
 //! A list that contracts see as its elements, wherever they lie in memory.
 
-ghost use Rattle.std.specs.Prelude.{◌≡◌, ◌++◌, ◌∷◌, [], ◌==◌, length, OnOk, OnErr};
+ghost use Rattle.std.specs.Prelude.{◌≡◌, ◌++◌, ◌∷◌, [], ◌==◌, length, OnOk, OnErr, IfOk};
 
 use crate::out_of_memory::OutOfMemory;
 use std::alloc::Global;
@@ -71,5 +71,16 @@ impl<T: Drop> List<T> {
     {
         self.items.push(element)?;
         Ok(())
+    }
+}
+
+impl<T: Copy> List<T> {
+    /// A copy of the elements.
+    pub fn from_slice(alloc: Global, elements: &[T]) -> Result<List<T>, OutOfMemory>
+        ensures { IfOk result (λ list. list ≡ elements.now) }
+    {
+        Ok(List {
+            items: Vec::from_slice(alloc, elements)?,
+        })
     }
 }

@@ -30,7 +30,7 @@ use Rattle.rv_emit.specs.InstRuns.{environment}
 use Rattle.rv_inst.specs.Forms.{short_rrr, short_rri, short_lui}
 use Rattle.rv_emit.specs.Operations.{decoded_addi, short_jump, jump_size}
 use Rattle.rv_emit.specs.Sites.{Site, BytesAt, AimsFrom, CodeHas, StandsIn}
-use Rattle.rv_emit.specs.Slots.{Label, Slot, Op, Aim, Data, Notes, Names, Allocate, Here, Fill, Address, size_of, between}
+use Rattle.rv_emit.specs.Slots.{Label, Slot, Op, Aim, Data, Notes, Names, Allocate, Here, Fill, Address, CallTo, size_of, between}
 use Rattle.rv_inst.specs.SameValues.{Same}
 use Rattle.rv_emit.proofs.AddressRules.{IsUsableAt, IsApartAt}
 use Rattle.rv_emit.proofs.Chains.{goes_both, goes_at_least}
@@ -57,6 +57,7 @@ stands_split site allocated from (Allocate ∷ slots) more s = let r = stands_sp
 stands_split site allocated from (Here k ∷ slots) more s = let r = stands_split site allocated from slots more s.1 in ((s.0, r.0), subst (λ n. StandsIn site allocated n more) (omega arith) r.1)
 stands_split site allocated from (Fill symbol upper lower ∷ slots) more s = let r = stands_split site allocated (from + 8) slots more s.1 in ((s.0, r.0), subst (λ n. StandsIn site allocated n more) (omega arith) r.1)
 stands_split site allocated from (Address name addend ∷ slots) more s = let r = stands_split site allocated (from + 8) slots more s.1 in ((s.0, r.0), subst (λ n. StandsIn site allocated n more) (omega arith) r.1)
+stands_split site allocated from (CallTo name ops ∷ slots) more s = let r = stands_split site allocated (from + 8) slots more s.1 in ((s.0, r.0), subst (λ n. StandsIn site allocated n more) (omega arith) r.1)
 
 -- ---- one register, written
 

@@ -32,7 +32,7 @@ use Rattle.rv_emit.specs.Emission.{PutsAlone}
 use Rattle.rv_emit.specs.Immediates.{upper_of, lower_of}
 use Rattle.rv_inst.specs.Forms.{short_rrr, short_rri}
 use Rattle.rv_emit.specs.Operations.{jump_size}
-use Rattle.rv_emit.specs.Slots.{Slot, Op, Aim, Data, Notes, Names, Allocate, Here, Fill, Address, Label, size_of}
+use Rattle.rv_emit.specs.Slots.{Slot, Op, Aim, Data, Notes, Names, Allocate, Here, Fill, Address, CallTo, Label, size_of}
 use Rattle.rv_emit.specs.Puts.{IsPatchable}
 use Rattle.rv_emit.specs.InstParts.{load_over, access_slots, address_slots, immediate_slots, inline_slots, labelled, lower_slots, naming_slots, offset_slots}
 use Rattle.rv_emit.proofs.OffsetParts.{near, far, splits, splits_not, upper_is, lower_is, low64_zero, low64_other}
@@ -81,6 +81,7 @@ then_op {bound} slots d few s = record { plain = plain slots s.plain; short = le
     plain (Here k ∷ front) p = absurd p
     plain (Fill symbol upper lower ∷ front) p = plain front p
     plain (Address name addend ∷ front) p = plain front p
+    plain (CallTo name ops ∷ front) p = plain front p
 
     size : (front : List Slot) → size_of (front ++ Op d ∷ []) ≡ size_of front + d.len
     size [] = omega arith

@@ -101,7 +101,7 @@ one_other n rd e = by (nat_eq n rd) refl e
     by true test e = absurd (cc)
     by false test e = let other : nat_eq rd n ≡ false = grind (arith, nat_tests) in λ i. other i || false
 
-pub is_choice : (dst : ValueRegs (Writable Reg)) (condition : IntegerCompare) (x y : ValueRegs Reg) → Keeps (Select dst condition x y) → IsChoice (map number_of (written_in dst)) (map number_of (all_of x)) (map number_of (all_of y)) (number_of condition.rs1) (number_of condition.rs2)
+pub is_choice : (dst : ValueRegs (Writable Reg)) (condition : IntegerCompare) (x y : ValueRegs Reg) → Keeps (Select (record { dst = dst; condition = condition; x = x; y = y })) → IsChoice (map number_of (written_in dst)) (map number_of (all_of x)) (map number_of (all_of y)) (number_of condition.rs1) (number_of condition.rs2)
 is_choice (One r) condition (One a) (One b) k =
     let all = are_usable (r.reg ∷ condition.rs1 ∷ condition.rs2 ∷ a ∷ b ∷ []) k.real k.placed k.free in
     let h = all.0 in
@@ -159,7 +159,7 @@ is_choice (One r) condition (Two a b) y k = absurd (cc)
 is_choice (Two r s) condition (One a) y k = absurd (cc)
 is_choice (Two r s) condition (Two a b) (One c) k = absurd (cc)
 
-pub select_fine : (dst : ValueRegs (Writable Reg)) (condition : IntegerCompare) (x y : ValueRegs Reg) → Keeps (Select dst condition x y) → IsFineChoice dst condition x y
+pub select_fine : (dst : ValueRegs (Writable Reg)) (condition : IntegerCompare) (x y : ValueRegs Reg) → Keeps (Select (record { dst = dst; condition = condition; x = x; y = y })) → IsFineChoice dst condition x y
 select_fine (One r) condition (One a) (One b) k =
     let all = are_usable (r.reg ∷ condition.rs1 ∷ condition.rs2 ∷ a ∷ b ∷ []) k.real k.placed k.free in
     record { dst = (all.0.0, tt); rs1 = all.1.0.0; rs2 = all.1.1.0.0; x = (all.1.1.1.0.0, tt); y = (all.1.1.1.1.0.0, tt); x_count = refl; y_count = refl }

@@ -29,6 +29,7 @@ use Rattle.rv_inst.specs.Operands.{all_of, written_in}
 use Rattle.rv_inst.specs.Rules.{is_beyond, shift_limit}
 use Rattle.rv_inst.specs.SameValues.{Same, SameBut, is_among}
 use Rattle.rv_inst.specs.Sizes.{is_byte, move_size, moves_size, right_shift}
+use Rattle.rv_inst.specs.declared.inst.SelectInfo.{SelectInfo}
 use Rattle.rv_inst.specs.declared.inst.Inst.TheVariants.{Extend, Select}
 use Rattle.rv_emit.specs.declared.state.EmitVState.{EmitVState}
 use Rattle.rv_emit.specs.Choices.{choice_slots, chosen_slots, complement, move_slots, moves_slots, same_numbers}
@@ -458,10 +459,10 @@ read_numbers v true (Two a b) y = refl
 read_numbers v false x (One c) = refl
 read_numbers v false x (Two c d) = refl
 
-pub select_runs : (site : Site) (setting : EmitVState) (dst : ValueRegs (Writable Reg)) (condition : IntegerCompare) (x y : ValueRegs Reg) → Keeps (Select dst condition x y) → RunsIn site setting (Select dst condition x y)
-select_runs site setting dst condition x y k = record {
+pub select_runs : (site : Site) (setting : EmitVState) (info : SelectInfo) → Keeps (Select info) → RunsIn site setting (Select info)
+select_runs site setting info k = record {
   run = λ start after s v e clear.
-      let rds = map number_of (written_in dst) in
-      subst (λ xs. ComesOut site start after Next [] (set_regs v rds xs) s) (read_numbers v (compares condition v) x y)
-      (chosen_out rds (map number_of (all_of x)) (map number_of (all_of y)) condition (is_choice dst condition x y k) e);
+      let rds = map number_of (written_in info.dst) in
+      subst (λ xs. ComesOut site start after Next [] (set_regs v rds xs) s) (read_numbers v (compares info.condition v) info.x info.y)
+      (chosen_out rds (map number_of (all_of info.x)) (map number_of (all_of info.y)) info.condition (is_choice info.dst info.condition info.x info.y k) e);
 }

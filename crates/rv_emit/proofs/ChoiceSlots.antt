@@ -19,12 +19,13 @@ use Rattle.rv_inst.specs.Sizes.{Words, extent_of, extend_size, is_byte, move_siz
 use Rattle.rv_inst.specs.Records.{inst_records}
 use Rattle.rv_inst.specs.Uses.{uses_in}
 use Rattle.rv_inst.specs.declared.inst.Inst.{Inst}
+use Rattle.rv_inst.specs.declared.inst.SelectInfo.{SelectInfo}
 use Rattle.rv_inst.specs.declared.inst.Inst.TheVariants.{Extend, Select}
 use Rattle.rv_emit.specs.Choices.{chosen_slots, choice_slots, complement, moves_slots, same_numbers}
 use Rattle.rv_emit.specs.Emission.{PutsAlone}
 use Rattle.rv_emit.specs.Emitted.{Buffer, named_by}
 use Rattle.rv_emit.specs.InstParts.{extend_slots, move_slots, select_slots}
-use Rattle.rv_emit.specs.Slots.{Slot, Op, Aim, Data, Notes, Names, Allocate, Here, Fill, Address, AreClosed, IsBlock, names_of, size_of, records_of, uses_of}
+use Rattle.rv_emit.specs.Slots.{Slot, Op, Aim, Data, Notes, Names, Allocate, Here, Fill, Address, CallTo, AreClosed, IsBlock, names_of, size_of, records_of, uses_of}
 use Rattle.rv_emit.proofs.AddressRuns.{size_append}
 use Rattle.rv_emit.proofs.PlainSlots.{IsPlain, IsSummed}
 use Rattle.rv_emit.proofs.ShortOps.{HasSize, rri_sized}
@@ -44,6 +45,7 @@ AreOps (Allocate ∷ slots) = ⊥
 AreOps (Here k ∷ slots) = ⊥
 AreOps (Fill symbol upper lower ∷ slots) = ⊥
 AreOps (Address name addend ∷ slots) = ⊥
+AreOps (CallTo name ops ∷ slots) = ⊥
 
 ops_both : (slots more : List Slot) → AreOps slots → AreOps more → AreOps (slots ++ more)
 ops_both [] more a b = b
@@ -56,6 +58,7 @@ ops_both (Allocate ∷ slots) more a b = absurd a
 ops_both (Here k ∷ slots) more a b = absurd a
 ops_both (Fill symbol upper lower ∷ slots) more a b = absurd a
 ops_both (Address name addend ∷ slots) more a b = absurd a
+ops_both (CallTo name ops ∷ slots) more a b = absurd a
 
 ops_plain : (slots : List Slot) → AreOps slots → IsPlain slots
 ops_plain [] a = tt
@@ -68,6 +71,7 @@ ops_plain (Allocate ∷ slots) a = absurd a
 ops_plain (Here k ∷ slots) a = absurd a
 ops_plain (Fill symbol upper lower ∷ slots) a = absurd a
 ops_plain (Address name addend ∷ slots) a = absurd a
+ops_plain (CallTo name ops ∷ slots) a = absurd a
 
 ops_block : (slots : List Slot) → AreOps slots → IsBlock slots
 ops_block slots a = closed _ 0 slots a
@@ -83,6 +87,7 @@ ops_block slots a = closed _ 0 slots a
     closed here at (Here k ∷ slots) a = absurd a
     closed here at (Fill symbol upper lower ∷ slots) a = absurd a
     closed here at (Address name addend ∷ slots) a = absurd a
+    closed here at (CallTo name ops ∷ slots) a = absurd a
 
 -- they have no uses and no records, and name no constant
 ops_uses : (allocated at : ℕ) (slots : List Slot) → AreOps slots → uses_of allocated at slots ≡ []
@@ -96,6 +101,7 @@ ops_uses allocated at (Allocate ∷ slots) a = absurd a
 ops_uses allocated at (Here k ∷ slots) a = absurd a
 ops_uses allocated at (Fill symbol upper lower ∷ slots) a = absurd a
 ops_uses allocated at (Address name addend ∷ slots) a = absurd a
+ops_uses allocated at (CallTo name ops ∷ slots) a = absurd a
 
 ops_records : (at : ℕ) (slots : List Slot) → AreOps slots → records_of at slots ≡ []
 ops_records at [] a = refl
@@ -108,6 +114,7 @@ ops_records at (Allocate ∷ slots) a = absurd a
 ops_records at (Here k ∷ slots) a = absurd a
 ops_records at (Fill symbol upper lower ∷ slots) a = absurd a
 ops_records at (Address name addend ∷ slots) a = absurd a
+ops_records at (CallTo name ops ∷ slots) a = absurd a
 
 ops_names : (slots : List Slot) (named : List VCodeConstant) → AreOps slots → names_of slots named ≡ named
 ops_names [] named a = refl
@@ -120,13 +127,14 @@ ops_names (Allocate ∷ slots) named a = absurd a
 ops_names (Here k ∷ slots) named a = absurd a
 ops_names (Fill symbol upper lower ∷ slots) named a = absurd a
 ops_names (Address name addend ∷ slots) named a = absurd a
+ops_names (CallTo name ops ∷ slots) named a = absurd a
 
 -- of an instruction that is as long, and has none either
-ops_summed : (context : Context) (inst : Inst) (slots : List Slot) → AreOps slots → extent_of context inst ≡ Words (size_of slots) → ((start : ℕ) → [] ≡ uses_in context start inst) → ((start end : ℕ) → [] ≡ inst_records context start end inst) → ((named : List VCodeConstant) → named ≡ named_by (inst_constant inst) named) → IsSummed context inst slots
+ops_summed : (context : Context) (inst : Inst) (slots : List Slot) → AreOps slots → extent_of context inst ≡ Words (size_of slots) → ((start end : ℕ) → [] ≡ uses_in context start end inst) → ((start end : ℕ) → [] ≡ inst_records context start end inst) → ((named : List VCodeConstant) → named ≡ named_by (inst_constant inst) named) → IsSummed context inst slots
 ops_summed context inst slots a long uses records names = record {
   plain = ops_plain slots a;
   long = long;
-  uses = λ allocated start. ops_uses allocated start slots a ∙ uses start;
+  uses = λ allocated start. ops_uses allocated start slots a ∙ uses start (start + size_of slots);
   records = λ start. ops_records start slots a ∙ records start (start + size_of slots);
   names = λ named. ops_names slots named a ∙ names named;
 }
@@ -158,7 +166,7 @@ extend_long flags rd rn signed bits = on (is_byte signed bits)
 
 pub extend_summed : (context : Context) (rd : Writable Reg) (rn : Reg) (signed : Bool) (from_bits to_bits : ℕ) → IsSummed context (Extend rd rn signed from_bits to_bits) (extend_slots context.flags (number_of rd.reg) (number_of rn) signed from_bits)
 extend_summed context rd rn signed from_bits to_bits =
-    ops_summed context (Extend rd rn signed from_bits to_bits) _ (extend_ops context.flags (number_of rd.reg) (number_of rn) signed from_bits) (ap Words (extend_long context.flags (number_of rd.reg) (number_of rn) signed from_bits)) (λ start. refl) (λ start end. refl) (λ named. refl)
+    ops_summed context (Extend rd rn signed from_bits to_bits) _ (extend_ops context.flags (number_of rd.reg) (number_of rn) signed from_bits) (ap Words (extend_long context.flags (number_of rd.reg) (number_of rn) signed from_bits)) (λ start end. refl) (λ start end. refl) (λ named. refl)
 
 pub extend_block : (flags : IsaFlags) (rd rn : ℕ) (signed : Bool) (bits : ℕ) → IsBlock (extend_slots flags rd rn signed bits)
 extend_block flags rd rn signed bits = ops_block (extend_slots flags rd rn signed bits) (extend_ops flags rd rn signed bits)
@@ -289,12 +297,12 @@ chosen_long flags rds condition xs ys = on (same_numbers ys rds)
     on true = let e = choice_long flags rds ys xs (complement condition) in omega arith
     on false = let e = choice_long flags rds xs ys condition in omega arith
 
-pub select_summed : (context : Context) (dst : ValueRegs (Writable Reg)) (condition : IntegerCompare) (x y : ValueRegs Reg) → IsSummed context (Select dst condition x y) (select_slots context.flags dst condition x y)
-select_summed context dst condition x y =
-    let rds = map number_of (written_in dst) in
-    let xs = map number_of (all_of x) in
-    let ys = map number_of (all_of y) in
-    ops_summed context (Select dst condition x y) _ (chosen_ops context.flags rds condition xs ys) (ap Words (chosen_long context.flags rds condition xs ys)) (λ start. refl) (λ start end. refl) (λ named. refl)
+pub select_summed : (context : Context) (info : SelectInfo) → IsSummed context (Select info) (select_slots context.flags info.dst info.condition info.x info.y)
+select_summed context info =
+    let rds = map number_of (written_in info.dst) in
+    let xs = map number_of (all_of info.x) in
+    let ys = map number_of (all_of info.y) in
+    ops_summed context (Select info) _ (chosen_ops context.flags rds info.condition xs ys) (ap Words (chosen_long context.flags rds info.condition xs ys)) (λ start end. refl) (λ start end. refl) (λ named. refl)
 
 pub select_block : (flags : IsaFlags) (dst : ValueRegs (Writable Reg)) (condition : IntegerCompare) (x y : ValueRegs Reg) → IsBlock (select_slots flags dst condition x y)
 select_block flags dst condition x y = ops_block (select_slots flags dst condition x y) (chosen_ops flags (map number_of (written_in dst)) condition (map number_of (all_of x)) (map number_of (all_of y)))

@@ -11,7 +11,8 @@ use Rattle.rv_inst.specs.Meaning.{alu_rrr, alu_rri}
 use Rattle.rv_inst.specs.Rules.{shift_limit, is_beyond}
 use Rattle.rv_emit.specs.Sites.{Site, CodeHas}
 use Rattle.rv_emit.specs.Chains.{Goes, IsAt}
-use Rattle.rv_emit.proofs.Chains.{goes_at_least, goes_second}
+use Rattle.rv_emit.proofs.AddressRuns.{Sets, set_at, shorter}
+use Rattle.rv_emit.proofs.Chains.{goes_none, goes_at_least, goes_second}
 use Rattle.rv_emit.proofs.CodeSteps.{step_at, at_next}
 use Rattle.rv_emit.proofs.OperationActs.{rrr_fits}
 use Rattle.rv_emit.proofs.Registers.{are_values_set}
@@ -32,13 +33,21 @@ pub record Comes (site : Site) (offset size : ℕ) (Such : Values → Type 0) (s
 pub comes_on : {site : Site} {offset size offset' size' : ℕ} {Such Such' : Values → Type 0} {s : State} → Comes site offset size Such s → ((t : State) → InCourse site offset size Such t → Comes site offset' size' Such' t) → Comes site offset' size' Such' s
 comes_on c on = let d = on c.state c.course in record { state = d.state; goes = goes_second c.goes d.goes; course = d.course }
 
+-- it is there
+pub comes_here : {site : Site} {offset size : ℕ} {Such : Values → Type 0} {s : State} → InCourse site offset size Such s → Comes site offset size Such s
+comes_here {site} {s = s} k = record { state = s; goes = goes_none site.context.flags s; course = k }
+
+-- before fewer bytes
+pub course_before : {site : Site} {offset size : ℕ} {Such : Values → Type 0} {s : State} (less : ℕ) → InCourse site offset size Such s → less ≤ size → InCourse site offset less Such s
+course_before less k le = record { here = shorter less k.here le; is_state = k.is_state; values = k.values }
+
 -- its values are such too
 pub course_of : {site : Site} {offset size : ℕ} {Such Such' : Values → Type 0} {s : State} → ((w : Values) → Such w → Such' w) → InCourse site offset size Such s → InCourse site offset size Such' s
 course_of {s = s} so k = record { here = k.here; is_state = k.is_state; values = so s.values k.values }
 
 -- ---- an operation writes a register
 
-writes : {site : Site} {offset size : ℕ} {Such : Values → Type 0} {s : State} (After : Values → Type 0) (d : Decoded) (n x : ℕ) → HasSize d → CodeHas site offset (d ∷ []) → act d s ≡ Some (at (wrap (s.pc + d.len)) (set_reg s.values n x)) → n < 32 → x < 2 ^ 64 → InCourse site offset (d.len + size) Such s → After (set_reg s.values n x) → Comes site (offset + d.len) size After s
+pub writes : {site : Site} {offset size : ℕ} {Such : Values → Type 0} {s : State} (After : Values → Type 0) (d : Decoded) (n x : ℕ) → HasSize d → CodeHas site offset (d ∷ []) → act d s ≡ Some (at (wrap (s.pc + d.len)) (set_reg s.values n x)) → n < 32 → x < 2 ^ 64 → InCourse site offset (d.len + size) Such s → After (set_reg s.values n x) → Comes site (offset + d.len) size After s
 writes {s = s} After d n x sized has acts lt fits k after =
     let t = at (wrap (s.pc + d.len)) (set_reg s.values n x) in
     let some = sized.some in
@@ -51,6 +60,18 @@ writes {s = s} After d n x sized has acts lt fits k after =
         values = after;
       };
     }
+
+-- so many bytes do
+pub sets_comes : {site : Site} {offset size : ℕ} {Such : Values → Type 0} {s : State} (After : Values → Type 0) (k n x : ℕ) → k % 2 ≡ 0 → n < 32 → x < 2 ^ 64 → Sets site.context.flags k s n x → InCourse site offset (k + size) Such s → After (set_reg s.values n x) → Comes site (offset + k) size After s
+sets_comes {s = s} After k n x even lt fits goes c after = record {
+  state = at (wrap (s.pc + k)) (set_reg s.values n x);
+  goes = goes;
+  course = record {
+    here = set_at k n x c.here even;
+    is_state = record { pc = omega arith; values = are_values_set s.values n x c.is_state.values lt fits };
+    values = after;
+  };
+}
 
 -- one of a register and an immediate
 pub rri_writes : {site : Site} {offset size : ℕ} {Such : Values → Type 0} {s : State} (After : Values → Type 0) (op : AluOPRRI) (rd rs : ℕ) (imm : ℤ) (x : ℕ) → is_beyond (shift_limit (rri_numbers op).number) imm ≡ false → CodeHas site offset (short_rri site.context.flags op rd rs imm ∷ []) → alu_rri op (reg s.values rs) imm ≡ x → rd < 32 → x < 2 ^ 64 → InCourse site offset ((short_rri site.context.flags op rd rs imm).len + size) Such s → After (set_reg s.values rd x) → Comes site (offset + (short_rri site.context.flags op rd rs imm).len) size After s

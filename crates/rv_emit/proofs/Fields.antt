@@ -12,7 +12,7 @@ use Rattle.mach_buffer.specs.Growth.{RecordsLast}
 use Rattle.mach_buffer.specs.Shape.{Shape}
 use Rattle.mach_buffer.specs.Windows.{AllEnd}
 use Rattle.mach_buffer.specs.declared.records.Event.{Event}
-use Rattle.mach_buffer.specs.declared.records.Event.TheVariants.{Trap, Reloc, Unwind}
+use Rattle.mach_buffer.specs.declared.records.Event.TheVariants.{Trap, Reloc, Unwind, CallSite, TryCallSite, PatchableCallSite, StackMap}
 use Rattle.mach_buffer.specs.declared.records.MachRecord.{MachRecord}
 use Rattle.mach_buffer.specs.declared.uses.Use.{Use}
 use Rattle.mach_buffer.proofs.Laws.{append_each, recorded_at}
@@ -20,7 +20,7 @@ use Rattle.rv_emit.specs.Emitted.{Buffer, AppendsIsland}
 use Rattle.rv_emit.specs.Images.{EndsWithin, IsClear, AllClear, FieldsEnd, FieldsStand}
 use Rattle.rv_emit.specs.Puts.{AsksNothing, PutsSlot, Puts}
 use Rattle.rv_emit.proofs.PutsLast.{slot_ends}
-use Rattle.rv_emit.specs.Slots.{Slot, Op, Aim, Data, Notes, Names, Allocate, Here, Fill, Address, label_of, upper_event, lower_event, address_event, AddressOf, SlotOf, Symbol}
+use Rattle.rv_emit.specs.Slots.{Slot, Op, Aim, Data, Notes, Names, Allocate, Here, Fill, Address, CallTo, label_of, upper_event, lower_event, address_event, call_event, AddressOf, SlotOf, Symbol}
 
 -- ---- one event
 
@@ -29,26 +29,46 @@ pub ends_clear : (from size offset : ℕ) (e : Event) → EndsWithin from offset
 ends_clear from size offset (Trap code) h = tt
 ends_clear from size offset (Reloc kind target addend) h = inr h
 ends_clear from size offset (Unwind inst) h = tt
+ends_clear from size offset CallSite h = tt
+ends_clear from size offset (TryCallSite to_fp handlers) h = tt
+ends_clear from size offset (PatchableCallSite len) h = tt
+ends_clear from size offset (StackMap span entries) h = tt
 
 pub after_clear : (from size offset : ℕ) (e : Event) → from + size ≤ offset → IsClear from size offset e
 after_clear from size offset (Trap code) h = tt
 after_clear from size offset (Reloc kind target addend) h = inl h
 after_clear from size offset (Unwind inst) h = tt
+after_clear from size offset CallSite h = tt
+after_clear from size offset (TryCallSite to_fp handlers) h = tt
+after_clear from size offset (PatchableCallSite len) h = tt
+after_clear from size offset (StackMap span entries) h = tt
 
 pub ends_later : (n m offset : ℕ) (e : Event) → n ≤ m → EndsWithin n offset e → EndsWithin m offset e
 ends_later n m offset (Trap code) le h = tt
 ends_later n m offset (Reloc kind target addend) le h = omega arith
 ends_later n m offset (Unwind inst) le h = tt
+ends_later n m offset CallSite le h = tt
+ends_later n m offset (TryCallSite to_fp handlers) le h = tt
+ends_later n m offset (PatchableCallSite len) le h = tt
+ends_later n m offset (StackMap span entries) le h = tt
 
 nothing_ends : (n offset : ℕ) (e : Event) → AsksNothing e → EndsWithin n offset e
 nothing_ends n offset (Trap code) h = tt
 nothing_ends n offset (Reloc kind target addend) h = absurd h
 nothing_ends n offset (Unwind inst) h = tt
+nothing_ends n offset CallSite h = tt
+nothing_ends n offset (TryCallSite to_fp handlers) h = tt
+nothing_ends n offset (PatchableCallSite len) h = tt
+nothing_ends n offset (StackMap span entries) h = tt
 
 nothing_clear : (from size offset : ℕ) (e : Event) → AsksNothing e → IsClear from size offset e
 nothing_clear from size offset (Trap code) h = tt
 nothing_clear from size offset (Reloc kind target addend) h = absurd h
 nothing_clear from size offset (Unwind inst) h = tt
+nothing_clear from size offset CallSite h = tt
+nothing_clear from size offset (TryCallSite to_fp handlers) h = tt
+nothing_clear from size offset (PatchableCallSite len) h = tt
+nothing_clear from size offset (StackMap span entries) h = tt
 
 upper_ends : (n at : ℕ) (symbol : Symbol) → at + 4 ≤ n → EndsWithin n at (upper_event symbol)
 upper_ends n at (AddressOf name addend) le = le
@@ -98,6 +118,11 @@ slot_fields_end flags allocated (Address name addend) s t e ends =
     let here = length s.bytes in
     let one = length-append s.bytes (0 ∷ 0 ∷ 0 ∷ 0 ∷ 0 ∷ 0 ∷ 0 ∷ 0 ∷ []) in
     subst FieldsEnd (sym e) (one_ends s.records (record { offset = here; event = address_event name addend }) here (length (s.bytes ++ (0 ∷ 0 ∷ 0 ∷ 0 ∷ 0 ∷ 0 ∷ 0 ∷ 0 ∷ []))) (omega arith) (omega arith) ends)
+slot_fields_end flags allocated (CallTo name ops) s t (code, is, e) ends =
+    let here = length s.bytes in
+    let one = length-append s.bytes code in
+    let a : length code ≡ 8 = is.long in
+    subst FieldsEnd (sym e) (one_ends s.records (record { offset = here; event = call_event name }) here (length (s.bytes ++ code)) (omega arith) (omega arith) ends)
 
 pub puts_fields_end : (flags : IsaFlags) (allocated : ℕ) (slots : List Slot) (s t : Shape LabelUse) → Puts flags allocated slots s t → FieldsEnd s → FieldsEnd t
 puts_fields_end flags allocated [] s t p ends = subst FieldsEnd (sym p) ends
@@ -130,6 +155,12 @@ slot_clear flags allocated (Address name addend) s t e ends f j u h =
     let end : u.offset + length (marks_of u.kind) ≤ here = ends j u there in
     subst (λ rs. AllClear rs u.offset (length (marks_of u.kind))) (λ i. (sym e i).records)
     (one_clear s.records (record { offset = here; event = address_event name addend }) u.offset (length (marks_of u.kind)) (after_clear u.offset (length (marks_of u.kind)) here (address_event name addend) end) (f.clear j u there))
+slot_clear flags allocated (CallTo name ops) s t (code, is, e) ends f j u h =
+    let here = length s.bytes in
+    let there : slice_get s.uses j ≡ Some u = (λ i. slice_get (sym e i).uses j) ∙ h in
+    let end : u.offset + length (marks_of u.kind) ≤ here = ends j u there in
+    subst (λ rs. AllClear rs u.offset (length (marks_of u.kind))) (λ i. (sym e i).records)
+    (one_clear s.records (record { offset = here; event = call_event name }) u.offset (length (marks_of u.kind)) (after_clear u.offset (length (marks_of u.kind)) here (call_event name) end) (f.clear j u there))
 
 pub slot_fields : (flags : IsaFlags) (allocated : ℕ) (slot : Slot) (s t : Shape LabelUse) → PutsSlot flags allocated slot s t → AllEnd label_kinds s → FieldsStand s → FieldsStand t
 slot_fields flags allocated slot s t p ends f = record { ends = slot_fields_end flags allocated slot s t p f.ends; clear = slot_clear flags allocated slot s t p ends f }

@@ -5,15 +5,16 @@ use Rattle.rv_inst.specs.Rules.{inst_rule, is_int_type, lacks_constant}
 use Rattle.rv_inst.specs.declared.error.Rule.TheVariants as rule
 use Rattle.rv_inst.proofs.Rules.{breaks_none}
 use Rattle.rv_inst.specs.declared.inst.Inst.{Inst}
-use Rattle.rv_inst.specs.declared.inst.Inst.TheVariants.{Nop0, Nop4, EBreak, SequencePoint, Args, Rets, DummyUse, EmitIsland, RawData, Lui, Auipc, LoadInlineConst, AluRRR, AluRRImm12, Mov, MovFromPReg, Extend, Select, Load, Store, LoadAddr, LabelAddress, Ret, TrapIf, Jal, CondBr, BrTable, Udf, Jalr, Popcnt, Cltz, Brev8, StackProbeLoop, LoadExtNameGot, LoadExtNameNear, LoadExtNameFar, Unwind}
+use Rattle.rv_inst.specs.declared.inst.Inst.TheVariants.{Nop0, Nop4, EBreak, SequencePoint, Args, Rets, DummyUse, EmitIsland, RawData, Lui, Auipc, LoadInlineConst, AluRRR, AluRRImm12, Mov, MovFromPReg, Extend, Select, Load, Store, LoadAddr, LabelAddress, Ret, TrapIf, Jal, CondBr, BrTable, Udf, Jalr, Popcnt, Cltz, Brev8, StackProbeLoop, LoadExtNameGot, LoadExtNameNear, LoadExtNameFar, Call, CallInd, ReturnCall, ReturnCallInd, Unwind}
 use Rattle.rv_emit.specs.Usable.{IsFine}
-use Rattle.rv_emit.proofs.Operands.{Keeps, keeps, are_usable, data_kept, constant_kept, move_usable, preg_usable, trap_if_usable, not_false, listed, listed_targets}
+use Rattle.rv_emit.proofs.Operands.{Keeps, keeps, are_usable, data_kept, constant_kept, move_usable, preg_usable, trap_if_usable, call_usable, not_false, listed, listed_targets, listed_try}
 use Rattle.rv_emit.proofs.AddressOperands.{load_fine, store_fine, load_addr_fine, label_address_fine}
 use Rattle.rv_emit.proofs.ChoiceRules.{extend_fine, select_fine}
 use Rattle.rv_emit.proofs.ZerosRules.{zeros_fine}
 use Rattle.rv_emit.proofs.ReverseRules.{reverse_fine}
 use Rattle.rv_emit.proofs.ProbeRules.{probe_fine}
 use Rattle.rv_emit.proofs.TableRules.{table_fine}
+use Rattle.rv_emit.proofs.TailRules.{target_fine}
 
 pub fine : (context : Context) (inst : Inst) → inst_rule context inst ≡ None → IsFine context.constants inst
 fine context inst e = kept inst (keeps context inst e) (breaks_none context inst e rule.Constant)
@@ -36,7 +37,7 @@ fine context inst e = kept inst (keeps context inst e) (breaks_none context inst
     kept (Mov rd rm type) k there = let both = move_usable rd rm type k in (both.0.0, both.1.0)
     kept (MovFromPReg rd rm) k there = let both = preg_usable rd rm k in (both.0.0, both.1.0)
     kept (Extend rd rn signed from_bits to_bits) k there = extend_fine rd rn signed from_bits to_bits k
-    kept (Select dst condition x y) k there = select_fine dst condition x y k
+    kept (Select info) k there = select_fine info.dst info.condition info.x info.y k
     kept (Load rd op flags from) k there = load_fine context.constants rd op flags from k there
     kept (Store to op flags src) k there = store_fine context.constants to op flags src k there
     kept (LoadAddr rd mem) k there = load_addr_fine context.constants rd mem k there
@@ -57,4 +58,8 @@ fine context inst e = kept inst (keeps context inst e) (breaks_none context inst
     kept (LoadExtNameGot rd name) k there = (are_usable (rd.reg ∷ []) k.real k.placed k.free).0.0
     kept (LoadExtNameNear rd name offset) k there = (are_usable (rd.reg ∷ []) k.real k.placed k.free).0.0
     kept (LoadExtNameFar rd name offset) k there = (are_usable (rd.reg ∷ []) k.real k.placed k.free).0.0
+    kept (Call info) k there = listed_try info.try_call_info k.listed_try
+    kept (CallInd info) k there = ((call_usable info k).0, listed_try info.try_call_info k.listed_try)
+    kept (ReturnCall info) k there = tt
+    kept (ReturnCallInd info) k there = target_fine info k
     kept (Unwind inst) k there = tt

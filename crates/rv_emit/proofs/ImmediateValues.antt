@@ -59,6 +59,14 @@ offset_sums (negsuc n) h =
     let d = (2 ^ 64 - suc n) % 2 ^ 12 in
     from_none _ _ _ (sum_of_negative 0 u d (low64 (signed (2 ^ 19) u)) (low64 (signed (2 ^ 11) d)) (read_low (2 ^ 19) u (omega arith) (omega arith)) (read_low (2 ^ 11) d (omega arith) (omega arith)) (suc n) (omega arith) fits refl refl)
 
+-- before a sum
+plus_before : (p a b o : ℕ) → wrap (wrap a + b) ≡ wrap o → wrap (wrap (p + a) + b) ≡ wrap (p + o)
+plus_before p a b o e = omega arith
+
+-- and so they do after an address
+pub address_sums : (p : ℕ) (o : ℤ) → is_splittable o ≡ true → wrap (wrap (p + low64 (upper_of o) * 2 ^ 12) + low64 (lower_of o)) ≡ wrap (p + low64 o)
+address_sums p o fits = plus_before p (low64 (upper_of o) * 2 ^ 12) (low64 (lower_of o)) (low64 o) (offset_sums o fits)
+
 -- ---- a distance
 
 abbrev Sums : ℕ → ℤ → Type 0

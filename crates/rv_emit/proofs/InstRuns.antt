@@ -1,10 +1,12 @@
 -- Every instruction that breaks no rule runs as it means.
 use Rattle.std.proofs.Common.{◌≡◌, ℕ, false, [], ◌∷◌, None, subst, arith}
 use Rattle.rv_inst.specs.declared.inst.Inst.{Inst}
-use Rattle.rv_inst.specs.declared.inst.Inst.TheVariants.{Nop0, Nop4, EBreak, SequencePoint, Args, Rets, DummyUse, EmitIsland, RawData, Lui, Auipc, LoadInlineConst, AluRRR, AluRRImm12, Mov, MovFromPReg, Extend, Select, Load, Store, LoadAddr, LabelAddress, Ret, TrapIf, Jal, CondBr, BrTable, Udf, Jalr, Popcnt, Cltz, Brev8, StackProbeLoop, LoadExtNameGot, LoadExtNameNear, LoadExtNameFar, Unwind}
+use Rattle.rv_inst.specs.declared.inst.Inst.TheVariants.{Nop0, Nop4, EBreak, SequencePoint, Args, Rets, DummyUse, EmitIsland, RawData, Lui, Auipc, LoadInlineConst, AluRRR, AluRRImm12, Mov, MovFromPReg, Extend, Select, Load, Store, LoadAddr, LabelAddress, Ret, TrapIf, Jal, CondBr, BrTable, Udf, Jalr, Popcnt, Cltz, Brev8, StackProbeLoop, LoadExtNameGot, LoadExtNameNear, LoadExtNameFar, Call, CallInd, ReturnCall, ReturnCallInd, Unwind}
 use Rattle.rv_base.specs.declared.ir_type.IrType.{IrType}
 use Rattle.rv_base.specs.declared.regs.Reg.{Reg}
 use Rattle.rv_base.specs.declared.regs.Writable.{Writable}
+use Rattle.rv_inst.specs.Frames.{is_bad_frame_for}
+use Rattle.rv_inst.specs.Operands.{tail_call_of}
 use Rattle.rv_inst.specs.Rules.{is_zero, inst_rule}
 use Rattle.rv_emit.specs.declared.state.EmitVState.{EmitVState}
 use Rattle.rv_inst.specs.Forms.{short_ebreak}
@@ -12,7 +14,7 @@ use Rattle.rv_emit.proofs.ShortOps.{ebreak_sized, ebreak_breaks}
 use Rattle.rv_emit.specs.Slots.{Op}
 use Rattle.rv_emit.specs.Sites.{Site, GapIn}
 use Rattle.rv_emit.specs.InstRuns.{RunsIn}
-use Rattle.rv_emit.proofs.Operands.{Keeps, keeps, are_usable, not_zero, or_left, move_usable, preg_usable, constant_kept, trap_if_usable}
+use Rattle.rv_emit.proofs.Operands.{Keeps, keeps, are_usable, not_zero, or_left, move_usable, preg_usable, constant_kept, trap_if_usable, call_usable}
 use Rattle.rv_emit.proofs.AddressOperands.{load_kept, store_kept, load_addr_kept, label_address_kept}
 use Rattle.rv_emit.proofs.InstMemory.{load_runs, store_runs, load_addr_runs, label_address_runs}
 use Rattle.rv_emit.proofs.Exits.{starts_beside, starts_at, gap_out, break_out}
@@ -27,6 +29,9 @@ use Rattle.rv_emit.proofs.ZerosRuns.{zeros_runs}
 use Rattle.rv_emit.proofs.ReverseRuns.{reverse_runs}
 use Rattle.rv_emit.proofs.ProbeRuns.{probe_runs}
 use Rattle.rv_emit.proofs.TableRuns.{table_runs}
+use Rattle.rv_emit.proofs.CallRuns.{call_runs, call_ind_runs}
+use Rattle.rv_emit.proofs.ReturnRuns.{return_call_runs, return_call_ind_runs}
+use Rattle.rv_emit.proofs.TailRules.{target_fine}
 use Rattle.rv_emit.proofs.SymbolRuns.{got_runs, near_runs, far_runs, unwind_runs}
 
 ebreak_runs : (site : Site) (setting : EmitVState) → RunsIn site setting EBreak
@@ -42,44 +47,49 @@ island_runs site setting needed_space = record {
 count_runs : (site : Site) (setting : EmitVState) (sum tmp step : Writable Reg) (rs : Reg) (type : IrType) → Keeps (Popcnt sum tmp step rs type) → RunsIn site setting (Popcnt sum tmp step rs type)
 count_runs site setting sum tmp step rs type k = popcnt_runs site setting sum tmp step rs type (is_count sum tmp step rs type (are_usable (sum.reg ∷ tmp.reg ∷ step.reg ∷ rs ∷ []) k.real k.placed k.free) k.counted k.apart k.typed)
 
-kept_runs : (site : Site) (setting : EmitVState) (inst : Inst) → Keeps inst → RunsIn site setting inst
-kept_runs site setting Nop0 k = record { run = λ start after s v e clear. nothing_out e.stands e }
-kept_runs site setting Nop4 k = nop4_runs site setting
-kept_runs site setting EBreak k = ebreak_runs site setting
-kept_runs site setting SequencePoint k = record { run = λ start after s v e clear. nothing_out e.stands e }
-kept_runs site setting (Args args) k = record { run = λ start after s v e clear. nothing_out e.stands e }
-kept_runs site setting (Rets rets) k = record { run = λ start after s v e clear. nothing_out e.stands e }
-kept_runs site setting (DummyUse reg) k = record { run = λ start after s v e clear. nothing_out e.stands e }
-kept_runs site setting (EmitIsland needed_space) k = island_runs site setting needed_space
-kept_runs site setting (RawData bytes) k = raw_data_runs site setting bytes
-kept_runs site setting (Lui rd imm) k = lui_runs site setting rd imm (are_usable (rd.reg ∷ []) k.real k.placed k.free).0
-kept_runs site setting (Auipc rd imm) k = auipc_runs site setting rd imm (are_usable (rd.reg ∷ []) k.real k.placed k.free).0
-kept_runs site setting (LoadInlineConst rd type imm) k = let c = constant_kept rd type imm k in constant_runs site setting rd type imm c.usable c.counted c.typed
-kept_runs site setting (AluRRR op rd rs1 rs2) k = let all = are_usable (rd.reg ∷ rs1 ∷ rs2 ∷ []) k.real k.placed k.free in alu_rrr_runs site setting op rd rs1 rs2 all.0 all.1.0 all.1.1.0
-kept_runs site setting (AluRRImm12 op rd rs imm) k = let all = are_usable (rd.reg ∷ rs ∷ []) k.real k.placed k.free in alu_rri_runs site setting op rd rs imm all.0 all.1.0 k.ranged
-kept_runs site setting (Mov rd rm type) k = let both = move_usable rd rm type k in mov_runs site setting rd rm type both.0 both.1
-kept_runs site setting (MovFromPReg rd rm) k = let both = preg_usable rd rm k in mov_from_preg_runs site setting rd rm both.0 both.1
-kept_runs site setting (Extend rd rn signed from_bits to_bits) k = extend_runs site setting rd rn signed from_bits to_bits k
-kept_runs site setting (Select dst condition x y) k = select_runs site setting dst condition x y k
-kept_runs site setting (Load rd op flags from) k = let a = load_kept site.context.frame rd op flags from k in load_runs site setting rd op flags from a.usable a.based a.real
-kept_runs site setting (Store to op flags src) k = let a = store_kept site.context.frame to op flags src k in store_runs site setting to op flags src a.0 a.1
-kept_runs site setting (LoadAddr rd mem) k = let a = load_addr_kept site.context.frame rd mem k in load_addr_runs site setting rd mem a.usable a.real a.based a.apart
-kept_runs site setting (LabelAddress dst label) k = let a = label_address_kept dst label k in label_address_runs site setting dst label a.0 a.1
-kept_runs site setting Ret k = ret_runs site setting
-kept_runs site setting (TrapIf cmp code) k = let both = trap_if_usable cmp code k in trap_if_runs site setting cmp code both.0 both.1
-kept_runs site setting (Jal label) k = jal_runs site setting label
-kept_runs site setting (CondBr t f kind) k = let all = are_usable (kind.rs1 ∷ kind.rs2 ∷ []) k.real k.placed k.free in cond_br_runs site setting kind t f all.0 all.1.0 k.aimed
-kept_runs site setting (BrTable index tmp1 tmp2 targets) k = table_runs site setting index tmp1 tmp2 targets k
-kept_runs site setting (Udf code) k = udf_runs site setting code
-kept_runs site setting (Jalr rd base offset) k = let all = are_usable (rd.reg ∷ base ∷ []) k.real k.placed k.free in jalr_runs site setting rd base offset all.0 all.1.0
-kept_runs site setting (Popcnt sum tmp step rs type) k = count_runs site setting sum tmp step rs type k
-kept_runs site setting (Cltz sum tmp step rs leading type) k = zeros_runs site setting sum tmp step rs leading type k
-kept_runs site setting (Brev8 rs type step tmp tmp2 rd) k = reverse_runs site setting rs type step tmp tmp2 rd k
-kept_runs site setting (StackProbeLoop guard_size probe_count tmp) k = probe_runs site setting guard_size probe_count tmp k
-kept_runs site setting (LoadExtNameGot rd name) k = let h = (are_usable (rd.reg ∷ []) k.real k.placed k.free).0 in got_runs site setting rd name h (not_zero rd.reg h (or_left (is_zero rd.reg) false k.counted))
-kept_runs site setting (LoadExtNameNear rd name offset) k = let h = (are_usable (rd.reg ∷ []) k.real k.placed k.free).0 in near_runs site setting rd name offset h (not_zero rd.reg h (or_left (is_zero rd.reg) false k.counted))
-kept_runs site setting (LoadExtNameFar rd name offset) k = let h = (are_usable (rd.reg ∷ []) k.real k.placed k.free).0 in far_runs site setting rd name offset h (not_zero rd.reg h (or_left (is_zero rd.reg) false k.counted))
-kept_runs site setting (Unwind inst) k = unwind_runs site setting inst
+kept_runs : (site : Site) (setting : EmitVState) (inst : Inst) → Keeps inst → is_bad_frame_for site.context.frame (tail_call_of inst) ≡ false → RunsIn site setting inst
+kept_runs site setting Nop0 k r = record { run = λ start after s v e clear. nothing_out e.stands e }
+kept_runs site setting Nop4 k r = nop4_runs site setting
+kept_runs site setting EBreak k r = ebreak_runs site setting
+kept_runs site setting SequencePoint k r = record { run = λ start after s v e clear. nothing_out e.stands e }
+kept_runs site setting (Args args) k r = record { run = λ start after s v e clear. nothing_out e.stands e }
+kept_runs site setting (Rets rets) k r = record { run = λ start after s v e clear. nothing_out e.stands e }
+kept_runs site setting (DummyUse reg) k r = record { run = λ start after s v e clear. nothing_out e.stands e }
+kept_runs site setting (EmitIsland needed_space) k r = island_runs site setting needed_space
+kept_runs site setting (RawData bytes) k r = raw_data_runs site setting bytes
+kept_runs site setting (Lui rd imm) k r = lui_runs site setting rd imm (are_usable (rd.reg ∷ []) k.real k.placed k.free).0
+kept_runs site setting (Auipc rd imm) k r = auipc_runs site setting rd imm (are_usable (rd.reg ∷ []) k.real k.placed k.free).0
+kept_runs site setting (LoadInlineConst rd type imm) k r = let c = constant_kept rd type imm k in constant_runs site setting rd type imm c.usable c.counted c.typed
+kept_runs site setting (AluRRR op rd rs1 rs2) k r = let all = are_usable (rd.reg ∷ rs1 ∷ rs2 ∷ []) k.real k.placed k.free in alu_rrr_runs site setting op rd rs1 rs2 all.0 all.1.0 all.1.1.0
+kept_runs site setting (AluRRImm12 op rd rs imm) k r = let all = are_usable (rd.reg ∷ rs ∷ []) k.real k.placed k.free in alu_rri_runs site setting op rd rs imm all.0 all.1.0 k.ranged
+kept_runs site setting (Mov rd rm type) k r = let both = move_usable rd rm type k in mov_runs site setting rd rm type both.0 both.1
+kept_runs site setting (MovFromPReg rd rm) k r = let both = preg_usable rd rm k in mov_from_preg_runs site setting rd rm both.0 both.1
+kept_runs site setting (Extend rd rn signed from_bits to_bits) k r = extend_runs site setting rd rn signed from_bits to_bits k
+kept_runs site setting (Select info) k r = select_runs site setting info k
+kept_runs site setting (Load rd op flags from) k r = let a = load_kept site.context.frame rd op flags from k in load_runs site setting rd op flags from a.usable a.based a.real
+kept_runs site setting (Store to op flags src) k r = let a = store_kept site.context.frame to op flags src k in store_runs site setting to op flags src a.0 a.1
+kept_runs site setting (LoadAddr rd mem) k r = let a = load_addr_kept site.context.frame rd mem k in load_addr_runs site setting rd mem a.usable a.real a.based a.apart
+kept_runs site setting (LabelAddress dst label) k r = let a = label_address_kept dst label k in label_address_runs site setting dst label a.0 a.1
+kept_runs site setting Ret k r = ret_runs site setting
+kept_runs site setting (TrapIf cmp code) k r = let both = trap_if_usable cmp code k in trap_if_runs site setting cmp code both.0 both.1
+kept_runs site setting (Jal label) k r = jal_runs site setting label
+kept_runs site setting (CondBr t f kind) k r = let all = are_usable (kind.rs1 ∷ kind.rs2 ∷ []) k.real k.placed k.free in cond_br_runs site setting kind t f all.0 all.1.0 k.aimed
+kept_runs site setting (BrTable index tmp1 tmp2 targets) k r = table_runs site setting index tmp1 tmp2 targets k
+kept_runs site setting (Udf code) k r = udf_runs site setting code
+kept_runs site setting (Jalr rd base offset) k r = let all = are_usable (rd.reg ∷ base ∷ []) k.real k.placed k.free in jalr_runs site setting rd base offset all.0 all.1.0
+kept_runs site setting (Popcnt sum tmp step rs type) k r = count_runs site setting sum tmp step rs type k
+kept_runs site setting (Cltz sum tmp step rs leading type) k r = zeros_runs site setting sum tmp step rs leading type k
+kept_runs site setting (Brev8 rs type step tmp tmp2 rd) k r = reverse_runs site setting rs type step tmp tmp2 rd k
+kept_runs site setting (StackProbeLoop guard_size probe_count tmp) k r = probe_runs site setting guard_size probe_count tmp k
+kept_runs site setting (LoadExtNameGot rd name) k r = let h = (are_usable (rd.reg ∷ []) k.real k.placed k.free).0 in got_runs site setting rd name h (not_zero rd.reg h (or_left (is_zero rd.reg) false k.counted))
+kept_runs site setting (LoadExtNameNear rd name offset) k r = let h = (are_usable (rd.reg ∷ []) k.real k.placed k.free).0 in near_runs site setting rd name offset h (not_zero rd.reg h (or_left (is_zero rd.reg) false k.counted))
+kept_runs site setting (LoadExtNameFar rd name offset) k r = let h = (are_usable (rd.reg ∷ []) k.real k.placed k.free).0 in far_runs site setting rd name offset h (not_zero rd.reg h (or_left (is_zero rd.reg) false k.counted))
+kept_runs site setting (Call info) k r = call_runs site setting info
+kept_runs site setting (CallInd info) k r = call_ind_runs site setting info (call_usable info k)
+kept_runs site setting (ReturnCall info) k r = return_call_runs site setting info r
+kept_runs site setting (ReturnCallInd info) k r = return_call_ind_runs site setting info (target_fine info k).1 r
+kept_runs site setting (Unwind inst) k r = unwind_runs site setting inst
 
-pub inst_runs : (site : Site) (setting : EmitVState) (inst : Inst) → inst_rule site.context inst ≡ None → RunsIn site setting inst
-inst_runs site setting inst rule = kept_runs site setting inst (keeps site.context inst rule)
+-- where a frame that it takes away can be restored
+pub inst_runs : (site : Site) (setting : EmitVState) (inst : Inst) → inst_rule site.context inst ≡ None → is_bad_frame_for site.context.frame (tail_call_of inst) ≡ false → RunsIn site setting inst
+inst_runs site setting inst rule restores = kept_runs site setting inst (keeps site.context inst rule) restores

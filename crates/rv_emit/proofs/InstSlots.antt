@@ -19,7 +19,7 @@ use Rattle.rv_inst.specs.Context.{Context}
 use Rattle.rv_machine.specs.Arithmetic.{low_word}
 use Rattle.rv_inst.specs.Rules.{is_word_type, inst_rule}
 use Rattle.rv_inst.specs.declared.inst.Inst.{Inst}
-use Rattle.rv_inst.specs.declared.inst.Inst.TheVariants.{Nop0, Nop4, EBreak, SequencePoint, Args, Rets, DummyUse, EmitIsland, RawData, Lui, Auipc, LoadInlineConst, AluRRR, AluRRImm12, Mov, MovFromPReg, Extend, Select, Load, Store, LoadAddr, LabelAddress, Ret, TrapIf, Jal, CondBr, BrTable, Udf, Jalr, Popcnt, Cltz, Brev8, StackProbeLoop, LoadExtNameGot, LoadExtNameNear, LoadExtNameFar, Unwind}
+use Rattle.rv_inst.specs.declared.inst.Inst.TheVariants.{Nop0, Nop4, EBreak, SequencePoint, Args, Rets, DummyUse, EmitIsland, RawData, Lui, Auipc, LoadInlineConst, AluRRR, AluRRImm12, Mov, MovFromPReg, Extend, Select, Load, Store, LoadAddr, LabelAddress, Ret, TrapIf, Jal, CondBr, BrTable, Udf, Jalr, Popcnt, Cltz, Brev8, StackProbeLoop, LoadExtNameGot, LoadExtNameNear, LoadExtNameFar, Call, CallInd, ReturnCall, ReturnCallInd, Unwind}
 use Rattle.rv_inst.specs.declared.inst.CondBrTarget.{CondBrTarget}
 use Rattle.rv_inst.specs.declared.inst.CondBrTarget.TheVariants.{Label as ToLabel, Fallthrough}
 use Rattle.rv_inst.specs.Sizes.{Words, extent_of, island_space, move_size, count_size, trap_size}
@@ -51,18 +51,20 @@ use Rattle.rv_emit.proofs.ReverseSlots.{reverse_summed, reverse_block}
 use Rattle.rv_emit.proofs.ProbeSlots.{probe_summed, probe_block}
 use Rattle.rv_emit.proofs.SymbolSlots.{got_summed, near_summed, far_summed, unwind_summed, far_block}
 use Rattle.rv_emit.proofs.TableSlots.{table_block}
+use Rattle.rv_emit.proofs.TailSlots.{tail_block, t0_block}
+use Rattle.rv_emit.proofs.CallSlots.{call_summed, call_ind_summed, call_block, call_ind_block}
 
-one : (context : Context) (inst : Inst) (d : Decoded) → extent_of context inst ≡ Words d.len → ((start : ℕ) → [] ≡ uses_in context start inst) → ((start end : ℕ) → [] ≡ inst_records context start end inst) → ((named : List VCodeConstant) → named ≡ named_by (inst_constant inst) named) → IsSummed context inst (Op d ∷ [])
-one context inst d long uses records names = record { plain = tt; long = long ∙ (let e : d.len ≡ d.len + 0 = omega arith in ap Words e); uses = λ allocated start. uses start; records = λ start. records start (start + (d.len + 0)); names = names }
+one : (context : Context) (inst : Inst) (d : Decoded) → extent_of context inst ≡ Words d.len → ((start end : ℕ) → [] ≡ uses_in context start end inst) → ((start end : ℕ) → [] ≡ inst_records context start end inst) → ((named : List VCodeConstant) → named ≡ named_by (inst_constant inst) named) → IsSummed context inst (Op d ∷ [])
+one context inst d long uses records names = record { plain = tt; long = long ∙ (let e : d.len ≡ d.len + 0 = omega arith in ap Words e); uses = λ allocated start. uses start (start + (d.len + 0)); records = λ start. records start (start + (d.len + 0)); names = names }
 
-moves : (context : Context) (inst : Inst) (rd rs : ℕ) → extent_of context inst ≡ Words (move_size context.flags rd rs) → ((start : ℕ) → [] ≡ uses_in context start inst) → ((start end : ℕ) → [] ≡ inst_records context start end inst) → ((named : List VCodeConstant) → named ≡ named_by (inst_constant inst) named) → IsSummed context inst (move_slots context.flags rd rs)
+moves : (context : Context) (inst : Inst) (rd rs : ℕ) → extent_of context inst ≡ Words (move_size context.flags rd rs) → ((start end : ℕ) → [] ≡ uses_in context start end inst) → ((start end : ℕ) → [] ≡ inst_records context start end inst) → ((named : List VCodeConstant) → named ≡ named_by (inst_constant inst) named) → IsSummed context inst (move_slots context.flags rd rs)
 moves context inst rd rs long uses records names = on (nat_eq rd rs) long
   where
     d : Decoded
     d = short_rri context.flags Addi rd rs (pos 0)
 
     on : (c : Bool) → extent_of context inst ≡ Words (if c then 0 else d.len) → IsSummed context inst (if c then [] else Op d ∷ [])
-    on true e = record { plain = tt; long = e; uses = λ allocated start. uses start; records = λ start. records start (start + 0); names = names }
+    on true e = record { plain = tt; long = e; uses = λ allocated start. uses start (start + 0); records = λ start. records start (start + 0); names = names }
     on false e = one context inst d e uses records names
 
 -- a branch, and a jump or none
@@ -115,34 +117,34 @@ counts context sum tmp step rs type = record {
 -- what an instruction that asks for no island adds
 pub appends_inst : (context : Context) (setting : EmitVState) (inst : Inst) (old new : Buffer) → inst_rule context inst ≡ None → IsSoundBuffer old → island_space context inst ≡ None → EmitsIn context setting inst old new → AppendsInst context inst old new
 appends_inst context setting Nop0 old new rule s asks p = nothing context Nop0 old new s refl refl refl refl p
-appends_inst context setting Nop4 old new rule s asks p = summed context Nop4 _ old new (one context Nop4 _ refl (λ start. refl) (λ start end. refl) (λ named. refl)) context.flags p
-appends_inst context setting EBreak old new rule s asks p = summed context EBreak _ old new (one context EBreak _ refl (λ start. refl) (λ start end. refl) (λ named. refl)) context.flags p
+appends_inst context setting Nop4 old new rule s asks p = summed context Nop4 _ old new (one context Nop4 _ refl (λ start end. refl) (λ start end. refl) (λ named. refl)) context.flags p
+appends_inst context setting EBreak old new rule s asks p = summed context EBreak _ old new (one context EBreak _ refl (λ start end. refl) (λ start end. refl) (λ named. refl)) context.flags p
 appends_inst context setting SequencePoint old new rule s asks p = nothing context SequencePoint old new s refl refl refl refl p
 appends_inst context setting (Args args) old new rule s asks p = nothing context (Args args) old new s refl refl refl refl p
 appends_inst context setting (Rets rets) old new rule s asks p = nothing context (Rets rets) old new s refl refl refl refl p
 appends_inst context setting (DummyUse reg) old new rule s asks p = nothing context (DummyUse reg) old new s refl refl refl refl p
 appends_inst context setting (EmitIsland space) old new rule s asks p = absurd (cc)
 appends_inst context setting (RawData bytes) old new rule s asks p = summed context (RawData bytes) _ old new (raw_data context bytes) context.flags p
-appends_inst context setting (Lui rd imm) old new rule s asks p = summed context (Lui rd imm) _ old new (one context (Lui rd imm) _ refl (λ start. refl) (λ start end. refl) (λ named. refl)) context.flags p
-appends_inst context setting (Auipc rd imm) old new rule s asks p = summed context (Auipc rd imm) _ old new (one context (Auipc rd imm) _ refl (λ start. refl) (λ start end. refl) (λ named. refl)) context.flags p
+appends_inst context setting (Lui rd imm) old new rule s asks p = summed context (Lui rd imm) _ old new (one context (Lui rd imm) _ refl (λ start end. refl) (λ start end. refl) (λ named. refl)) context.flags p
+appends_inst context setting (Auipc rd imm) old new rule s asks p = summed context (Auipc rd imm) _ old new (one context (Auipc rd imm) _ refl (λ start end. refl) (λ start end. refl) (λ named. refl)) context.flags p
 appends_inst context setting (LoadInlineConst rd type imm) old new rule s asks p = summed context (LoadInlineConst rd type imm) _ old new (constants context rd type imm (constant_kept rd type imm (keeps context _ rule)).typed) context.flags p
-appends_inst context setting (AluRRR op rd rs1 rs2) old new rule s asks p = summed context (AluRRR op rd rs1 rs2) _ old new (one context (AluRRR op rd rs1 rs2) _ refl (λ start. refl) (λ start end. refl) (λ named. refl)) context.flags p
-appends_inst context setting (AluRRImm12 op rd rs imm) old new rule s asks p = summed context (AluRRImm12 op rd rs imm) _ old new (one context (AluRRImm12 op rd rs imm) _ refl (λ start. refl) (λ start end. refl) (λ named. refl)) context.flags p
-appends_inst context setting (Mov rd rm type) old new rule s asks p = summed context (Mov rd rm type) _ old new (moves context (Mov rd rm type) (number_of rd.reg) (number_of rm) refl (λ start. refl) (λ start end. refl) (λ named. refl)) context.flags p
-appends_inst context setting (MovFromPReg rd rm) old new rule s asks p = summed context (MovFromPReg rd rm) _ old new (moves context (MovFromPReg rd rm) (number_of rd.reg) rm.number refl (λ start. refl) (λ start end. refl) (λ named. refl)) context.flags p
+appends_inst context setting (AluRRR op rd rs1 rs2) old new rule s asks p = summed context (AluRRR op rd rs1 rs2) _ old new (one context (AluRRR op rd rs1 rs2) _ refl (λ start end. refl) (λ start end. refl) (λ named. refl)) context.flags p
+appends_inst context setting (AluRRImm12 op rd rs imm) old new rule s asks p = summed context (AluRRImm12 op rd rs imm) _ old new (one context (AluRRImm12 op rd rs imm) _ refl (λ start end. refl) (λ start end. refl) (λ named. refl)) context.flags p
+appends_inst context setting (Mov rd rm type) old new rule s asks p = summed context (Mov rd rm type) _ old new (moves context (Mov rd rm type) (number_of rd.reg) (number_of rm) refl (λ start end. refl) (λ start end. refl) (λ named. refl)) context.flags p
+appends_inst context setting (MovFromPReg rd rm) old new rule s asks p = summed context (MovFromPReg rd rm) _ old new (moves context (MovFromPReg rd rm) (number_of rd.reg) rm.number refl (λ start end. refl) (λ start end. refl) (λ named. refl)) context.flags p
 appends_inst context setting (Extend rd rn signed from_bits to_bits) old new rule s asks p = summed context (Extend rd rn signed from_bits to_bits) _ old new (extend_summed context rd rn signed from_bits to_bits) context.flags p
-appends_inst context setting (Select dst condition x y) old new rule s asks p = summed context (Select dst condition x y) _ old new (select_summed context dst condition x y) context.flags p
+appends_inst context setting (Select info) old new rule s asks p = summed context (Select info) _ old new (select_summed context info) context.flags p
 appends_inst context setting (Load rd op flags from) old new rule s asks p = summed context (Load rd op flags from) _ old new (load_summed context rd op flags from) context.flags p
 appends_inst context setting (Store to op flags src) old new rule s asks p = summed context (Store to op flags src) _ old new (store_summed context to op flags src) context.flags p
 appends_inst context setting (LoadAddr rd mem) old new rule s asks p = summed context (LoadAddr rd mem) _ old new (load_addr_summed context rd mem) context.flags p
 appends_inst context setting (LabelAddress dst label) old new rule s asks p = summed context (LabelAddress dst label) _ old new (label_address_summed context dst label) context.flags p
-appends_inst context setting Ret old new rule s asks p = summed context Ret _ old new (one context Ret _ refl (λ start. refl) (λ start end. refl) (λ named. refl)) context.flags p
+appends_inst context setting Ret old new rule s asks p = summed context Ret _ old new (one context Ret _ refl (λ start end. refl) (λ start end. refl) (λ named. refl)) context.flags p
 appends_inst context setting (TrapIf cmp code) old new rule s asks p = summed context (TrapIf cmp code) _ old new (trap_after context cmp code) context.flags p
 appends_inst context setting (Jal label) old new rule s asks p = summed context (Jal label) _ old new (jumps context label) context.flags p
 appends_inst context setting (CondBr taken not_taken kind) old new rule s asks p = summed context (CondBr taken not_taken kind) _ old new (branches context kind taken not_taken) context.flags p
 appends_inst context setting (BrTable index tmp1 tmp2 targets) old new rule s asks p = absurd (cc)
 appends_inst context setting (Udf code) old new rule s asks p = summed context (Udf code) _ old new (trap context code) context.flags p
-appends_inst context setting (Jalr rd base offset) old new rule s asks p = summed context (Jalr rd base offset) _ old new (one context (Jalr rd base offset) _ refl (λ start. refl) (λ start end. refl) (λ named. refl)) context.flags p
+appends_inst context setting (Jalr rd base offset) old new rule s asks p = summed context (Jalr rd base offset) _ old new (one context (Jalr rd base offset) _ refl (λ start end. refl) (λ start end. refl) (λ named. refl)) context.flags p
 appends_inst context setting (Popcnt sum tmp step rs type) old new rule s asks p = summed context (Popcnt sum tmp step rs type) _ old new (counts context sum tmp step rs type) context.flags p
 appends_inst context setting (Cltz sum tmp step rs leading type) old new rule s asks p = summed context (Cltz sum tmp step rs leading type) _ old new (zeros_summed context sum tmp step rs leading type) context.flags p
 appends_inst context setting (Brev8 rs type step tmp tmp2 rd) old new rule s asks p = summed context (Brev8 rs type step tmp tmp2 rd) _ old new (reverse_summed context rs type step tmp tmp2 rd) context.flags p
@@ -150,6 +152,10 @@ appends_inst context setting (StackProbeLoop guard_size probe_count tmp) old new
 appends_inst context setting (LoadExtNameGot rd name) old new rule s asks p = summed context (LoadExtNameGot rd name) _ old new (got_summed context rd name) context.flags p
 appends_inst context setting (LoadExtNameNear rd name offset) old new rule s asks p = summed context (LoadExtNameNear rd name offset) _ old new (near_summed context rd name offset) context.flags p
 appends_inst context setting (LoadExtNameFar rd name offset) old new rule s asks p = summed context (LoadExtNameFar rd name offset) _ old new (far_summed context rd name offset) context.flags p
+appends_inst context setting (Call info) old new rule s asks p = summed context (Call info) _ old new (call_summed context info) context.flags p
+appends_inst context setting (CallInd info) old new rule s asks p = summed context (CallInd info) _ old new (call_ind_summed context info) context.flags p
+appends_inst context setting (ReturnCall info) old new rule s asks p = absurd (cc)
+appends_inst context setting (ReturnCallInd info) old new rule s asks p = absurd (cc)
 appends_inst context setting (Unwind inst) old new rule s asks p = summed context (Unwind inst) _ old new (unwind_summed context inst) context.flags p
 
 pub inst_appends : (context : Context) (inst : Inst) (old new : Buffer) → inst_rule context inst ≡ None → IsSoundBuffer old → island_space context inst ≡ None → Emits context inst old new → AppendsInst context inst old new
@@ -218,7 +224,7 @@ are_blocks context setting (AluRRImm12 op rd rs imm) rule = (op_block (short_rri
 are_blocks context setting (Mov rd rm type) rule = (move_block context.flags (number_of rd.reg) (number_of rm), tt)
 are_blocks context setting (MovFromPReg rd rm) rule = (move_block context.flags (number_of rd.reg) rm.number, tt)
 are_blocks context setting (Extend rd rn signed from_bits to_bits) rule = (extend_block context.flags (number_of rd.reg) (number_of rn) signed from_bits, tt)
-are_blocks context setting (Select dst condition x y) rule = (select_block context.flags dst condition x y, tt)
+are_blocks context setting (Select info) rule = (select_block context.flags info.dst info.condition info.x info.y, tt)
 are_blocks context setting (Load rd op flags from) rule = (load_block context.flags (number_of rd.reg) op flags.trap (location_of context.frame from), tt)
 are_blocks context setting (Store to op flags src) rule = (store_block context.flags op (number_of src) flags.trap (location_of context.frame to), tt)
 are_blocks context setting (LoadAddr rd mem) rule = (address_block context.flags (number_of rd.reg) (location_of context.frame mem), tt)
@@ -237,4 +243,8 @@ are_blocks context setting (StackProbeLoop guard_size probe_count tmp) rule = (p
 are_blocks context setting (LoadExtNameGot rd name) rule = (tt, tt)
 are_blocks context setting (LoadExtNameNear rd name offset) rule = (tt, tt)
 are_blocks context setting (LoadExtNameFar rd name offset) rule = (far_block context.flags (number_of rd.reg) name offset, tt)
+are_blocks context setting (Call info) rule = (call_block context.flags context.frame info, tt)
+are_blocks context setting (CallInd info) rule = (call_ind_block context.flags context.frame info, tt)
+are_blocks context setting (ReturnCall info) rule = (tail_block context.flags context.frame info.new_stack_arg_size info.dest, tt)
+are_blocks context setting (ReturnCallInd info) rule = (t0_block context.flags context.frame info.new_stack_arg_size, tt)
 are_blocks context setting (Unwind inst) rule = (tt, tt)

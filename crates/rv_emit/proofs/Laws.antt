@@ -9,6 +9,8 @@ pub use Rattle.rv_emit.proofs.Registers.{are_values_set}
 pub use Rattle.rv_emit.proofs.Operands.{keeps}
 -- an instruction's parts, wherever they stand: they run as it means
 pub use Rattle.rv_emit.proofs.InstRuns.{inst_runs}
+-- and what is left of a call where it returns
+pub use Rattle.rv_emit.proofs.CallRuns.{inst_resumes}
 -- a buffer into which slots were put, and parts
 pub use Rattle.rv_emit.proofs.PutsLast.{puts_last, puts_bytes, puts_uses, puts_named, puts_constants, puts_ends}
 pub use Rattle.rv_emit.proofs.PartsPut.{gap_last, parts_last, GapPut, gap_put, PartsPut, parts_put}
@@ -17,7 +19,9 @@ pub use Rattle.rv_emit.proofs.ConstantsAdded.{adds_both, adds_none, adds_end, be
 -- an instruction's parts are blocks; and what one without labels of its own adds
 pub use Rattle.rv_emit.proofs.InstSlots.{are_blocks, appends_inst}
 pub use Rattle.rv_emit.proofs.TableSlots.{table_most}
-pub use Rattle.rv_emit.proofs.TableAppends.{AppendsTable, appends_table, table_parts_long, table_some, table_stands}
+pub use Rattle.rv_emit.proofs.TableAppends.{AppendsAfter, appends_table, table_parts_long, table_some, table_stands}
+pub use Rattle.rv_emit.proofs.TailSlots.{return_most}
+pub use Rattle.rv_emit.proofs.TailAppends.{appends_tail, appends_t0, tail_parts_long, t0_parts_long}
 -- what was put into a buffer, in the finished code
 pub use Rattle.rv_emit.proofs.Standing.{place_within, slots_stand, gap_stands, parts_stand}
 pub use Rattle.rv_emit.proofs.IslandsStand.{island_is, gap_is}
@@ -28,3 +32,5 @@ pub use Rattle.rv_emit.proofs.ReachKept.{Each, waits, each_none, each_more, uses
 pub use Rattle.rv_emit.proofs.Islands.{deadlines_as}
 pub use Rattle.rv_emit.proofs.NumberRuns.{bits_back}
 pub use Rattle.rv_emit.proofs.Fields.{ends_later}
+-- how long the operations of a jump by a register are
+pub use Rattle.rv_emit.proofs.ShortOps.{jalr_sized}

@@ -59,6 +59,10 @@ mod Settings
 mod SlotsJoined
 mod SlotsPut
 mod SymbolRuns
+mod StackRuns
+mod ReturnRules
+mod ReturnRuns
+mod CallRuns
 mod SymbolSlots
 mod SymbolsPut
 mod Standing
@@ -84,3 +88,8 @@ mod NumberRuns
 mod NumberSlots
 mod NumbersPut
 mod OffsetSizes
+pub mod TailAppends
+pub mod TailRules
+pub mod TailSlots
+pub mod TailsPut
+pub mod CallSlots

@@ -21,6 +21,7 @@ use Rattle.rv_machine.specs.declared.decoding.Decoded.{Decoded}
 use Rattle.rv_machine.specs.declared.ops.MOp.TheVariants.{Base}
 use Rattle.rv_machine.specs.declared.ops.BaseOp.TheVariants as base
 use Rattle.rv_machine.specs.State.{low64}
+use Rattle.mach_buffer.specs.declared.records.Event.{Event}
 use Rattle.mach_buffer.specs.declared.records.Event.TheVariants as event
 use Rattle.mach_buffer.specs.declared.records.MachRecord.{MachRecord}
 use Rattle.mach_buffer.specs.declared.uses.Use.{Use}
@@ -41,27 +42,36 @@ use Rattle.rv_inst.specs.Context.{Context}
 use Rattle.rv_inst.specs.declared.inst.Inst.TheVariants.{Load, Store, LoadAddr, LabelAddress}
 use Rattle.rv_emit.specs.Immediates.{upper_of, lower_of}
 use Rattle.rv_emit.specs.Operations.{short_jump, jump_size}
-use Rattle.rv_emit.specs.Slots.{Slot, Op, Data, size_of, uses_of, records_of, names_of, AreClosed, IsBlock}
+use Rattle.rv_emit.specs.Slots.{Slot, Op, Data, Notes, size_of, uses_of, records_of, names_of, AreClosed, IsBlock}
 use Rattle.rv_emit.specs.InstParts.{inline_slots, offset_slots, access_slots, load_slots, store_slots, address_slots}
 use Rattle.rv_emit.proofs.PlainSlots.{IsPlain, IsSummed}
 use Rattle.rv_emit.proofs.ShortOps.{rrr_sized, rri_sized, lui_sized, load_sized, store_sized, jump_len, least_even}
 
--- Slots of a size, with these uses, the last of which, of so many bytes, may trap, that name this constant; and they use no own label.
-pub record AreCounted (size last : ℕ) (own : ℕ → List (Use LabelUse)) (trap : Option TrapCode) (constant : Option VCodeConstant) (slots : List Slot) : Type 0 where
+-- Slots of a size, with these uses between their start and their end, with these records so many bytes before the end, that name this constant; and they use no own
+-- label.
+pub record AreTold (size last : ℕ) (own : ℕ → ℕ → List (Use LabelUse)) (told : ℕ → List MachRecord) (constant : Option VCodeConstant) (slots : List Slot) : Type 0 where
   pub plain : IsPlain slots
   pub long : size ≡ size_of slots
   pub within : last ≤ size
-  pub uses : (allocated start : ℕ) → uses_of allocated start slots ≡ own start
-  pub records : (start : ℕ) → records_of start slots ≡ access_records (start + size - last) trap
+  pub uses : (allocated start : ℕ) → uses_of allocated start slots ≡ own start (start + size)
+  pub records : (start : ℕ) → records_of start slots ≡ told (start + size - last)
   pub names : (named : List VCodeConstant) → names_of slots named ≡ named_by constant named
   pub closed : (here : ℕ → Option ℕ) (start : ℕ) → AreClosed here start slots
+
+-- the last of them, of so many bytes, may trap
+abbrev pub AreCounted : ℕ → ℕ → (ℕ → ℕ → List (Use LabelUse)) → Option TrapCode → Option VCodeConstant → List Slot → Type 0
+AreCounted size last own trap constant slots = AreTold size last own (λ at. access_records at trap) constant slots
 
 -- the record of a trap at an offset, alone
 abbrev trap_at : TrapCode → ℕ → List MachRecord
 trap_at code at = record { offset = at; event = event.Trap code } ∷ []
 
-abbrev pub none : ℕ → List (Use LabelUse)
-none start = []
+-- uses that depend on the end alone
+abbrev pub at_end : (ℕ → List (Use LabelUse)) → ℕ → ℕ → List (Use LabelUse)
+at_end rest start end = rest end
+
+abbrev pub none : ℕ → ℕ → List (Use LabelUse)
+none = at_end (λ end. [])
 
 -- ---- pieces
 
@@ -82,38 +92,62 @@ accessed (Some code) d even = record {
 }
 
 -- an operation before slots without uses
-pub op_then : {size last : ℕ} {trap : Option TrapCode} {slots : List Slot} (d : Decoded) → d.len % 2 ≡ 0 → AreCounted size last none trap None slots → AreCounted (d.len + size) last none trap None (Op d ∷ slots)
-op_then {size} {last} {trap} d even c = record {
+pub op_then : {size last : ℕ} {rest : ℕ → List (Use LabelUse)} {told : ℕ → List MachRecord} {slots : List Slot} (d : Decoded) → d.len % 2 ≡ 0 → AreTold size last (at_end rest) told None slots → AreTold (d.len + size) last (at_end rest) told None (Op d ∷ slots)
+op_then {size} {last} {rest} {told} d even c = record {
   plain = c.plain;
   long = ap (λ n. d.len + n) c.long;
   within = let w = c.within in omega arith;
-  uses = λ allocated start. c.uses allocated (start + d.len);
-  records = λ start. c.records (start + d.len) ∙ (let e : start + d.len + size - last ≡ start + (d.len + size) - last = omega arith in ap (λ n. access_records n trap) e);
+  uses = λ allocated start. c.uses allocated (start + d.len) ∙ (let e : start + d.len + size ≡ start + (d.len + size) = omega arith in ap rest e);
+  records = λ start. c.records (start + d.len) ∙ (let e : start + d.len + size - last ≡ start + (d.len + size) - last = omega arith in ap told e);
   names = c.names;
   closed = λ here start. (even, c.closed here (start + d.len));
 }
 
 -- eight bytes before slots without uses
-data_then : {size last : ℕ} {trap : Option TrapCode} {slots : List Slot} (bytes : List ℕ) → length bytes ≡ 8 → AreCounted size last none trap None slots → AreCounted (8 + size) last none trap None (Data bytes ∷ slots)
-data_then {size} {last} {trap} bytes eight c = record {
+data_then : {size last : ℕ} {rest : ℕ → List (Use LabelUse)} {told : ℕ → List MachRecord} {slots : List Slot} (bytes : List ℕ) → length bytes ≡ 8 → AreTold size last (at_end rest) told None slots → AreTold (8 + size) last (at_end rest) told None (Data bytes ∷ slots)
+data_then {size} {last} {rest} {told} bytes eight c = record {
   plain = c.plain;
   long = (λ i. sym eight i + c.long i);
   within = let w = c.within in omega arith;
-  uses = λ allocated start. c.uses allocated (start + length bytes);
-  records = λ start. c.records (start + length bytes) ∙ (let e : start + length bytes + size - last ≡ start + (8 + size) - last = omega arith in ap (λ n. access_records n trap) e);
+  uses = λ allocated start. c.uses allocated (start + length bytes) ∙ (let e : start + length bytes + size ≡ start + (8 + size) = omega arith in ap rest e);
+  records = λ start. c.records (start + length bytes) ∙ (let e : start + length bytes + size - last ≡ start + (8 + size) - last = omega arith in ap told e);
   names = c.names;
   closed = λ here start. (ap (λ n. n % 2) eight, c.closed here (start + length bytes));
 }
 
+-- a record before slots whose own records are said from their start
+pub note_then : {size : ℕ} {rest : ℕ → List (Use LabelUse)} {told : ℕ → List MachRecord} {slots : List Slot} (noted : Event) → AreTold size size (at_end rest) told None slots → AreTold size size (at_end rest) (λ at. record { offset = at; event = noted } ∷ told at) None (Notes noted ∷ slots)
+note_then {size} {rest} {told} {slots} noted c = record {
+  plain = c.plain;
+  long = let long = c.long in let e : size ≡ 0 + size_of slots = omega arith in e;
+  within = c.within;
+  uses = λ allocated start. c.uses allocated start;
+  records = λ start. let e : start ≡ start + size - size = omega arith in (λ i. record { offset = e i; event = noted } ∷ c.records start i);
+  names = c.names;
+  closed = λ here start. c.closed here start;
+}
+
+-- records are said from the start
+pub from_start : {size last : ℕ} {rest : ℕ → List (Use LabelUse)} {told : ℕ → List MachRecord} {slots : List Slot} → AreTold size last (at_end rest) told None slots → AreTold size size (at_end rest) (λ at. told (at + size - last)) None slots
+from_start {size} {last} {rest} {told} c = record {
+  plain = c.plain;
+  long = c.long;
+  within = omega arith;
+  uses = c.uses;
+  records = λ start. c.records start ∙ (let e : start + size - last ≡ start + size - size + size - last = omega arith in ap told e);
+  names = c.names;
+  closed = c.closed;
+}
+
 -- the same slots, their size said otherwise
-pub of_size : {n m last : ℕ} {trap : Option TrapCode} {slots : List Slot} → n ≡ m → AreCounted n last none trap None slots → AreCounted m last none trap None slots
-of_size {n} {m} {last} {trap} {slots} e c = subst (λ size. AreCounted size last none trap None slots) e c
+pub of_size : {n m last : ℕ} {rest : ℕ → List (Use LabelUse)} {told : ℕ → List MachRecord} {slots : List Slot} → n ≡ m → AreTold n last (at_end rest) told None slots → AreTold m last (at_end rest) told None slots
+of_size {n} {m} {last} {rest} {told} {slots} e c = subst (λ size. AreTold size last (at_end rest) told None slots) e c
 
 -- ---- offsets
 
 -- an offset is put into a register before other slots
-pub offset_then : {size last : ℕ} {trap : Option TrapCode} {slots : List Slot} (flags : IsaFlags) (rd : ℕ) (o : ℤ) → AreCounted size last none trap None slots → AreCounted (far_size flags rd o + size) last none trap None (offset_slots flags rd o ++ slots)
-offset_then {size} {last} {trap} {slots} flags rd o c = by (is_splittable o) (low64 (lower_of o) == 0)
+pub offset_then : {size last : ℕ} {rest : ℕ → List (Use LabelUse)} {told : ℕ → List MachRecord} {slots : List Slot} (flags : IsaFlags) (rd : ℕ) (o : ℤ) → AreTold size last (at_end rest) told None slots → AreTold (far_size flags rd o + size) last (at_end rest) told None (offset_slots flags rd o ++ slots)
+offset_then {size} {last} {rest} {told} {slots} flags rd o c = by (is_splittable o) (low64 (lower_of o) == 0)
   where
     up : Decoded
     up = short_lui flags rd (upper_of o)
@@ -130,7 +164,7 @@ offset_then {size} {last} {trap} {slots} flags rd o c = by (is_splittable o) (lo
     jump_even : (short_jump flags far).len % 2 ≡ 0
     jump_even = let jump = jump_len flags far in let even = least_even flags in omega arith
 
-    by : (s n : Bool) → AreCounted ((if s then up.len + (if n then 0 else down.len) else inline_size flags 8) + size) last none trap None ((if s then Op up ∷ (if n then [] else Op down ∷ []) else inline_slots flags rd loads.Ld 8 (to_le_bytes w64 (low64 o))) ++ slots)
+    by : (s n : Bool) → AreTold ((if s then up.len + (if n then 0 else down.len) else inline_size flags 8) + size) last (at_end rest) told None ((if s then Op up ∷ (if n then [] else Op down ∷ []) else inline_slots flags rd loads.Ld 8 (to_le_bytes w64 (low64 o))) ++ slots)
     by true true = of_size (omega arith) (op_then up up_even c)
     by true false = of_size (omega arith) (op_then up up_even (op_then down (rri_sized flags Addi rd rd (lower_of o)).even c))
     by false n = of_size (let jump = jump_len flags far in omega arith)
@@ -142,10 +176,10 @@ offset_then {size} {last} {trap} {slots} flags rd o c = by (is_splittable o) (lo
 -- ---- by location
 
 -- the uses of an address
-abbrev uses_at : Location → ℕ → List (Use LabelUse)
+abbrev uses_at : Location → ℕ → ℕ → List (Use LabelUse)
 uses_at (Based r o) = none
-uses_at (AtLabel l) = λ start. use_at start l PCRelHi20 ∷ use_at (start + 4) l PCRelLo12I ∷ []
-uses_at (AtConstant k) = λ start. use_at start (constant_label k) PCRelHi20 ∷ use_at (start + 4) (constant_label k) PCRelLo12I ∷ []
+uses_at (AtLabel l) = λ start end. use_at start l PCRelHi20 ∷ use_at (start + 4) l PCRelLo12I ∷ []
+uses_at (AtConstant k) = λ start end. use_at start (constant_label k) PCRelHi20 ∷ use_at (start + 4) (constant_label k) PCRelLo12I ∷ []
 
 -- its constant
 abbrev constant_at : Location → Option VCodeConstant
@@ -154,7 +188,7 @@ constant_at (AtLabel l) = None
 constant_at (AtConstant k) = Some k
 
 -- the sum of an offset and a register, after it
-sum_then : {size last : ℕ} {trap : Option TrapCode} {slots : List Slot} (flags : IsaFlags) (rd r : ℕ) (o : ℤ) → AreCounted size last none trap None slots → AreCounted (far_address_size flags rd r o + size) last none trap None (offset_slots flags rd o ++ Op (short_rrr flags Add rd rd r) ∷ slots)
+pub sum_then : {size last : ℕ} {rest : ℕ → List (Use LabelUse)} {told : ℕ → List MachRecord} {slots : List Slot} (flags : IsaFlags) (rd r : ℕ) (o : ℤ) → AreTold size last (at_end rest) told None slots → AreTold (far_address_size flags rd r o + size) last (at_end rest) told None (offset_slots flags rd o ++ Op (short_rrr flags Add rd rd r) ∷ slots)
 sum_then flags rd r o c = of_size (omega arith) (offset_then flags rd o (op_then (short_rrr flags Add rd rd r) (rrr_sized flags Add rd rd r).even c))
 
 -- an access to a register plus an offset
@@ -197,12 +231,12 @@ stored flags op src (Some code) (AtConstant k) = record { plain = tt; long = ref
 
 -- ---- each instruction
 
-pub summed_by : {context : Context} {inst : Inst} {slots : List Slot} {size last : ℕ} {own : ℕ → List (Use LabelUse)} {trap : Option TrapCode} {constant : Option VCodeConstant} → AreCounted size last own trap constant slots → extent_of context inst ≡ Words size → ((start : ℕ) → own start ≡ uses_in context start inst) → ((start end : ℕ) → access_records (end - last) trap ≡ inst_records context start end inst) → constant ≡ inst_constant inst → IsSummed context inst slots
-summed_by {context} {inst} {slots} {size} {last} {own} {trap} c long uses records constant = record {
+pub summed_by : {context : Context} {inst : Inst} {slots : List Slot} {size last : ℕ} {own : ℕ → ℕ → List (Use LabelUse)} {told : ℕ → List MachRecord} {constant : Option VCodeConstant} → AreTold size last own told constant slots → extent_of context inst ≡ Words size → ((start end : ℕ) → own start end ≡ uses_in context start end inst) → ((start end : ℕ) → told (end - last) ≡ inst_records context start end inst) → constant ≡ inst_constant inst → IsSummed context inst slots
+summed_by {context} {inst} {slots} {size} {last} {own} {told} c long uses records constant = record {
   plain = c.plain;
   long = long ∙ ap Words c.long;
-  uses = λ allocated start. c.uses allocated start ∙ uses start;
-  records = λ start. c.records start ∙ ap (λ n. access_records (start + n - last) trap) c.long ∙ records start (start + size_of slots);
+  uses = λ allocated start. c.uses allocated start ∙ ap (λ n. own start (start + n)) c.long ∙ uses start (start + size_of slots);
+  records = λ start. c.records start ∙ ap (λ n. told (start + n - last)) c.long ∙ records start (start + size_of slots);
   names = λ named. c.names named ∙ ap (λ o. named_by o named) constant;
 }
 
@@ -216,14 +250,14 @@ same_constant frame (IncomingArg o) = refl
 same_constant frame (Const k) = refl
 same_constant frame (Label l) = refl
 
-same_uses : (flags : IsaFlags) (frame : FrameLayout) (mode : AMode) (start : ℕ) → uses_at (location_of frame mode) start ≡ target_uses flags start (address_targets mode)
-same_uses flags frame (RegOffset r o) start = refl
-same_uses flags frame (SPOffset o) start = refl
-same_uses flags frame (FPOffset o) start = refl
-same_uses flags frame (SlotOffset o) start = refl
-same_uses flags frame (IncomingArg o) start = refl
-same_uses flags frame (Const k) start = refl
-same_uses flags frame (Label l) start = refl
+same_uses : (flags : IsaFlags) (frame : FrameLayout) (mode : AMode) (start end : ℕ) → uses_at (location_of frame mode) start end ≡ target_uses flags start (address_targets mode)
+same_uses flags frame (RegOffset r o) start end = refl
+same_uses flags frame (SPOffset o) start end = refl
+same_uses flags frame (FPOffset o) start end = refl
+same_uses flags frame (SlotOffset o) start end = refl
+same_uses flags frame (IncomingArg o) start end = refl
+same_uses flags frame (Const k) start end = refl
+same_uses flags frame (Label l) start end = refl
 
 pub load_summed : (context : Context) (rd : Writable Reg) (op : LoadOP) (flags : MemFlagsData) (from : AMode) → IsSummed context (Load rd op flags from) (load_slots context.flags (number_of rd.reg) op flags.trap (location_of context.frame from))
 load_summed context rd op flags from = summed_by (loaded context.flags (number_of rd.reg) op flags.trap (location_of context.frame from)) refl (same_uses context.flags context.frame from) (λ start end. refl) (same_constant context.frame from)
@@ -235,7 +269,7 @@ pub load_addr_summed : (context : Context) (rd : Writable Reg) (mem : AMode) →
 load_addr_summed context rd mem = summed_by (addresses context.flags (number_of rd.reg) (location_of context.frame mem)) refl (same_uses context.flags context.frame mem) (λ start end. refl) (same_constant context.frame mem)
 
 pub label_address_summed : (context : Context) (dst : Writable Reg) (label : MachLabel) → IsSummed context (LabelAddress dst label) (address_slots context.flags (number_of dst.reg) (AtLabel label))
-label_address_summed context dst label = summed_by (addresses context.flags (number_of dst.reg) (AtLabel label)) refl (λ start. refl) (λ start end. refl) refl
+label_address_summed context dst label = summed_by (addresses context.flags (number_of dst.reg) (AtLabel label)) refl (λ start end. refl) (λ start end. refl) refl
 
 pub load_block : (flags : IsaFlags) (rd : ℕ) (op : LoadOP) (trap : Option TrapCode) (at : Location) → IsBlock (load_slots flags rd op trap at)
 load_block flags rd op trap at = (loaded flags rd op trap at).closed _ 0

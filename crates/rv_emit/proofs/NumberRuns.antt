@@ -6,7 +6,7 @@ use Rattle.std.proofs.lemmas.Bool.{and_parts}
 use Rattle.std.proofs.lemmas.Int.{of_z-to_z}
 use Rattle.rv_base.specs.declared.flags.IsaFlags.{IsaFlags}
 use Rattle.rv_ops.specs.declared.alu.AluOPRRI.TheVariants.{Addi}
-use Rattle.rv_machine.specs.State.{State, IsState, set_reg, wrap, low64, at}
+use Rattle.rv_machine.specs.State.{State, IsState, Values, set_reg, wrap, low64, at}
 use Rattle.rv_inst.specs.Addresses.{is_splittable}
 use Rattle.rv_inst.specs.Forms.{short_rri}
 use Rattle.rv_emit.specs.Chains.{IsAt}
@@ -14,7 +14,8 @@ use Rattle.rv_emit.specs.Immediates.{upper_of, lower_of}
 use Rattle.rv_emit.specs.InstParts.{number_slots}
 use Rattle.rv_emit.specs.Sites.{Site, StandsIn}
 use Rattle.rv_emit.specs.Slots.{size_of}
-use Rattle.rv_emit.proofs.AddressRuns.{Sets, sets_one, offset_even, offset_goes}
+use Rattle.rv_emit.proofs.AddressRuns.{Sets, sets_one, shorter, offset_even, offset_goes}
+use Rattle.rv_emit.proofs.Courses.{InCourse, Comes, sets_comes}
 use Rattle.rv_emit.proofs.ImmediateValues.{offset_sums}
 use Rattle.rv_emit.proofs.NumbersPut.{is_low, slots_by}
 use Rattle.rv_emit.proofs.ShortOps.{rri_acts, rri_sized}
@@ -51,6 +52,17 @@ number_goes {site} {offset} {s} allocated rd z some lt is_state = by (is_low z) 
         subst (λ n. Sets flags n s rd (wrap (low64 z))) all
         (sets_one d rd (wrap (low64 z)) h (omega arith) stands.0 (rri_acts flags Addi rd 0 (lower_of z) s refl is_state ∙ ap (λ x. Some (at (wrap (s.pc + d.len)) (set_reg s.values rd x))) value))
     by false high h stands = offset_goes allocated rd z some lt is_state h stands
+
+wrapped_fits : (n x : ℕ) → wrap n ≡ x → x < 2 ^ 64
+wrapped_fits n x is = omega arith
+
+-- and on the way of a machine
+pub number_comes : {site : Site} {offset size : ℕ} {Such : Values → Type 0} {s : State} (After : Values → Type 0) (allocated rd x : ℕ) (z : ℤ) → 0 < rd → rd < 32 → wrap (low64 z) ≡ x → StandsIn site allocated offset (number_slots site.context.flags rd z) → InCourse site offset (size_of (number_slots site.context.flags rd z) + size) Such s → After (set_reg s.values rd x) → Comes site (offset + size_of (number_slots site.context.flags rd z)) size After s
+number_comes {site} {s = s} After allocated rd x z some lt is stands k after =
+    let flags = site.context.flags in
+    let n = size_of (number_slots flags rd z) in
+    let goes = number_goes allocated rd z some lt k.is_state (shorter n k.here (omega arith)) stands in
+    sets_comes After n rd x (number_even flags rd z) lt (wrapped_fits (low64 z) x is) (subst (λ m. Sets flags n s rd m) is goes) k after
 
 -- 64 bits, by the number that they are in two's complement
 pub bits_back : (n : ℕ) → n < 2 ^ 64 → wrap (low64 (cast_signed w64 n)) ≡ n

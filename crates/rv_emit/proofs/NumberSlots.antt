@@ -2,24 +2,26 @@
 use Rattle.std.proofs.Common.{ℕ, ◌+◌, ◌≤◌, Bool, true, false, List, ◌++◌, Option, None, ℤ, subst, arith, append-nil}
 use Rattle.std.specs.Prelude.{if◌then◌else◌}
 use Rattle.rv_base.specs.declared.flags.IsaFlags.{IsaFlags}
-use Rattle.rv_base.specs.declared.trap.TrapCode.{TrapCode}
+use Rattle.mach_buffer.specs.declared.records.MachRecord.{MachRecord}
+use Rattle.mach_buffer.specs.declared.uses.Use.{Use}
 use Rattle.rv_ops.specs.declared.alu.AluOPRRI.TheVariants.{Addi}
+use Rattle.rv_inst.specs.declared.label_use.LabelUse.{LabelUse}
 use Rattle.rv_inst.specs.Addresses.{far_size}
 use Rattle.rv_inst.specs.Forms.{short_rri}
 use Rattle.rv_inst.specs.Sizes.{number_size}
 use Rattle.rv_emit.specs.Immediates.{lower_of}
 use Rattle.rv_emit.specs.InstParts.{number_slots}
 use Rattle.rv_emit.specs.Slots.{Slot}
-use Rattle.rv_emit.proofs.MemorySlots.{AreCounted, none, nothing, of_size, op_then, offset_then}
+use Rattle.rv_emit.proofs.MemorySlots.{AreCounted, AreTold, at_end, none, nothing, of_size, op_then, offset_then}
 use Rattle.rv_emit.proofs.NumbersPut.{is_low, slots_by}
 use Rattle.rv_emit.proofs.OffsetSizes.{far_short}
 use Rattle.rv_emit.proofs.ShortOps.{rri_sized}
 
 -- a number is put into a register before other slots
-pub number_then : {size last : ℕ} {trap : Option TrapCode} {slots : List Slot} (flags : IsaFlags) (rd : ℕ) (z : ℤ) → AreCounted size last none trap None slots → AreCounted (number_size flags rd z + size) last none trap None (number_slots flags rd z ++ slots)
-number_then {size} {last} {trap} {slots} flags rd z c = by (is_low z)
+pub number_then : {size last : ℕ} {rest : ℕ → List (Use LabelUse)} {told : ℕ → List MachRecord} {slots : List Slot} (flags : IsaFlags) (rd : ℕ) (z : ℤ) → AreTold size last (at_end rest) told None slots → AreTold (number_size flags rd z + size) last (at_end rest) told None (number_slots flags rd z ++ slots)
+number_then {size} {last} {rest} {told} {slots} flags rd z c = by (is_low z)
   where
-    by : (low : Bool) → AreCounted ((if low then (short_rri flags Addi rd 0 (lower_of z)).len else far_size flags rd z) + size) last none trap None (slots_by flags rd z low ++ slots)
+    by : (low : Bool) → AreTold ((if low then (short_rri flags Addi rd 0 (lower_of z)).len else far_size flags rd z) + size) last (at_end rest) told None (slots_by flags rd z low ++ slots)
     by true = op_then (short_rri flags Addi rd 0 (lower_of z)) (rri_sized flags Addi rd 0 (lower_of z)).even c
     by false = offset_then flags rd z c
 

@@ -1,8 +1,10 @@
 -- What an instruction that breaks no rule gives: integer registers below x30, numbers in range, and branches with a target.
-use Rattle.std.proofs.Common.{◌≡◌, ◌⊎◌, inl, inr, ℕ, ◌<◌, Bool, true, false, List, [], ◌∷◌, ◌++◌, length, None, arith, refl, ap, eqb-true}
+use Rattle.std.proofs.Common.{◌≡◌, ◌⊎◌, inl, inr, ℕ, ◌<◌, Bool, true, false, List, [], ◌∷◌, ◌++◌, length, Option, Some, None, arith, refl, ap, eqb-true}
 use Rattle.std.specs.Prelude.{nat_le, ◌||◌, ◌&&◌, ◌==◌, not}
 use Rattle.std.specs.List.{list_any}
 use Rattle.std.proofs.lemmas.Bool.Decides.{nat_tests}
+use Rattle.rv_base.specs.declared.call.CallInfo.{CallInfo}
+use Rattle.rv_base.specs.declared.call.TryCallInfo.{TryCallInfo}
 use Rattle.rv_base.specs.declared.regs.Reg.{Reg}
 use Rattle.rv_base.specs.declared.regs.Reg.TheVariants.{Real, Virtual as AVirtual}
 use Rattle.rv_base.specs.declared.regs.PReg.{PReg}
@@ -16,15 +18,15 @@ use Rattle.rv_base.specs.declared.trap.TrapCode.{TrapCode}
 use Rattle.mach_labels.specs.Table.{first_inner}
 use Rattle.rv_ops.specs.declared.compare.IntegerCompare.{IntegerCompare}
 use Rattle.rv_inst.specs.declared.inst.Inst.{Inst}
-use Rattle.rv_inst.specs.declared.inst.Inst.TheVariants.{RawData, LoadInlineConst, Mov, MovFromPReg, TrapIf}
+use Rattle.rv_inst.specs.declared.inst.Inst.TheVariants.{RawData, LoadInlineConst, Mov, MovFromPReg, TrapIf, CallInd}
 use Rattle.rv_inst.specs.declared.inst.CondBrTarget.{CondBrTarget}
 use Rattle.rv_inst.specs.declared.inst.CondBrTarget.TheVariants.{Label as ToLabel, Fallthrough}
 use Rattle.rv_inst.specs.Context.{Context}
 use Rattle.rv_inst.proofs.Rules.{breaks_none}
 use Rattle.rv_inst.specs.declared.error.Rule.TheVariants as rule
-use Rattle.rv_inst.specs.Operands.{inst_registers, labels_of, targets_of, table_of, target_labels}
+use Rattle.rv_inst.specs.Operands.{inst_registers, labels_of, targets_of, table_of, target_labels, try_call_of, try_labels}
 use Rattle.rv_inst.specs.Rules.{is_int_class, is_virtual, is_other_class, is_reserved, same_class, is_stack_or_frame, is_zero, is_misplaced, has_zero, has_clash, is_int_type, is_word_type, has_bad_type, is_out_of_range, has_empty_table, lacks_target, has_bad_size, is_buffer_label, inst_rule}
-use Rattle.rv_emit.specs.Usable.{IsUsable, IsListed, IsFineTarget}
+use Rattle.rv_emit.specs.Usable.{IsUsable, IsListed, IsFineTarget, IsFineTry}
 
 abbrev pub AreUsable : List Reg → Type 0
 AreUsable [] = Unit {0}
@@ -76,9 +78,13 @@ pub record Keeps (inst : Inst) : Type 0 where
   pub ranged : is_out_of_range inst ≡ false
   pub tabled : has_empty_table inst ≡ false
   pub aimed : lacks_target inst ≡ false
+  pub listed_try : list_any is_buffer_label (try_labels (try_call_of inst)) ≡ false
   pub listed : list_any is_buffer_label (labels_of (targets_of inst)) ≡ false
   pub listed_table : list_any is_buffer_label (table_of inst) ≡ false
   pub sized : has_bad_size inst ≡ false
+
+all_labels : (context : Context) (inst : Inst) → inst_rule context inst ≡ None → (list_any is_buffer_label (try_labels (try_call_of inst) ++ labels_of (targets_of inst)) ≡ false) × (list_any is_buffer_label (table_of inst) ≡ false)
+all_labels context inst e = none_of_both is_buffer_label (try_labels (try_call_of inst) ++ labels_of (targets_of inst)) (table_of inst) (breaks_none context inst e rule.Label)
 
 pub keeps : (context : Context) (inst : Inst) → inst_rule context inst ≡ None → Keeps inst
 keeps context inst e = record {
@@ -91,8 +97,9 @@ keeps context inst e = record {
   ranged = breaks_none context inst e rule.Range;
   tabled = breaks_none context inst e rule.EmptyTable;
   aimed = breaks_none context inst e rule.NoTarget;
-  listed = (none_of_both is_buffer_label (labels_of (targets_of inst)) (table_of inst) (breaks_none context inst e rule.Label)).0;
-  listed_table = (none_of_both is_buffer_label (labels_of (targets_of inst)) (table_of inst) (breaks_none context inst e rule.Label)).1;
+  listed_try = (none_of_both is_buffer_label (try_labels (try_call_of inst)) (labels_of (targets_of inst)) (all_labels context inst e).0).0;
+  listed = (none_of_both is_buffer_label (try_labels (try_call_of inst)) (labels_of (targets_of inst)) (all_labels context inst e).0).1;
+  listed_table = (all_labels context inst e).1;
   sized = breaks_none context inst e rule.DataSize;
 }
 
@@ -178,6 +185,12 @@ constant_kept rd type imm k =
 pub trap_if_usable : (cmp : IntegerCompare) (code : TrapCode) → Keeps (TrapIf cmp code) → IsUsable cmp.rs1 × IsUsable cmp.rs2
 trap_if_usable cmp code k = let all = are_usable (cmp.rs1 ∷ cmp.rs2 ∷ []) k.real k.placed k.free in (all.0, all.1.0)
 
+-- ---- calls
+
+-- the register with the address that is called
+pub call_usable : (info : CallInfo Reg) → Keeps (CallInd info) → IsUsable info.dest
+call_usable info k = is_usable info.dest (or_left (is_virtual info.dest) _ k.real) (or_left (is_other_class info.dest) _ k.placed) (or_left (is_reserved info.dest) _ k.free)
+
 -- ---- what the words of an instruction ask
 
 pub listed : (label : MachLabel) (more : Bool) → (is_buffer_label label || more) ≡ false → IsListed label
@@ -191,3 +204,7 @@ listed_targets (ToLabel t) (ToLabel f) e = (listed t _ e, listed f false (or_rig
 listed_targets (ToLabel t) Fallthrough e = (listed t _ e, tt)
 listed_targets Fallthrough (ToLabel f) e = (tt, listed f _ e)
 listed_targets Fallthrough Fallthrough e = (tt, tt)
+
+pub listed_try : (t : Option TryCallInfo) → list_any is_buffer_label (try_labels t) ≡ false → IsFineTry t
+listed_try None e = tt
+listed_try (Some t) e = listed t.continuation _ e

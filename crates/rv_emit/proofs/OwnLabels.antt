@@ -7,7 +7,7 @@ use Rattle.rv_base.specs.declared.flags.IsaFlags.{IsaFlags}
 use Rattle.rv_inst.specs.declared.label_use.LabelUse.{LabelUse}
 use Rattle.mach_buffer.specs.Shape.{Shape}
 use Rattle.mach_buffer.proofs.Laws.{placed_same}
-use Rattle.rv_emit.specs.Slots.{Slot, Op, Aim, Data, Notes, Names, Allocate, Here, Fill, Address, own_label, here_at}
+use Rattle.rv_emit.specs.Slots.{Slot, Op, Aim, Data, Notes, Names, Allocate, Here, Fill, Address, CallTo, own_label, here_at}
 use Rattle.rv_emit.specs.Puts.{PutsSlot, Puts}
 use Rattle.rv_emit.proofs.PutsLast.{slot_bytes, puts_last}
 
@@ -28,6 +28,7 @@ own_bound flags allocated from at (Names c ∷ slots) s t p e k to h = let l = s
 own_bound flags allocated from at (Allocate ∷ slots) s t p e k to h = let l = slot_bytes flags allocated Allocate s p.0 p.1 in own_bound flags allocated from at slots p.0 t p.2 (omega arith) k to h
 own_bound flags allocated from at (Fill symbol upper lower ∷ slots) s t p e k to h = let l = slot_bytes flags allocated (Fill symbol upper lower) s p.0 p.1 in own_bound flags allocated from (at + 8) slots p.0 t p.2 (omega arith) k to h
 own_bound flags allocated from at (Address name addend ∷ slots) s t p e k to h = let l = slot_bytes flags allocated (Address name addend) s p.0 p.1 in own_bound flags allocated from (at + 8) slots p.0 t p.2 (omega arith) k to h
+own_bound flags allocated from at (CallTo name ops ∷ slots) s t p e k to h = let l = slot_bytes flags allocated (CallTo name ops) s p.0 p.1 in own_bound flags allocated from (at + 8) slots p.0 t p.2 (omega arith) k to h
 own_bound flags allocated from at (Here j ∷ slots) s t p e k to h = on (nat_eq j k) refl (own_bound flags allocated from at slots p.0 t p.2 (let l = slot_bytes flags allocated (Here j) s p.0 p.1 in omega arith) k to) h
   where
     on : (c : Bool) → nat_eq j k ≡ c → (here_at k at slots ≡ Some to → t.place (own_label allocated k).number ≡ Some (from + to)) → (if c then Some at else here_at k at slots) ≡ Some to → t.place (own_label allocated k).number ≡ Some (from + to)

@@ -15,7 +15,7 @@ use Rattle.mach_buffer.specs.Constants.{AllStand}
 use Rattle.mach_buffer.specs.Buffer.{shape_of, bytes_of, allocated_of}
 use Rattle.mach_buffer.proofs.Laws.{append_each, slice_get-append, take_front, window_stays, lasts_same, lasts_more, lasts_allocated, windows_with_bytes, windows_with_use, stands_last}
 use Rattle.std.specs.Prelude.{Option}
-use Rattle.rv_emit.specs.Slots.{Slot, slot_size, Op, Aim, Data, Notes, Names, Allocate, Here, Fill, Address, Part, Ask, Slots, Label, label_of, AreClosed, AreBlocks}
+use Rattle.rv_emit.specs.Slots.{Slot, slot_size, Op, Aim, Data, Notes, Names, Allocate, Here, Fill, Address, CallTo, Part, Ask, Slots, Label, label_of, AreClosed, AreBlocks}
 use Rattle.rv_emit.specs.Puts.{eight_zeros, PutsSlot, Puts}
 use Rattle.rv_emit.specs.Images.{FieldsEnd, FieldsStand}
 use Rattle.rv_emit.specs.InstParts.{wide_jump_to}
@@ -101,6 +101,7 @@ slot_well flags allocated (Fill symbol upper lower) s t even (first, second, hi,
   linked = linked_bytes (s.bytes ++ first) second s.uses (linked_bytes s.bytes first s.uses w.linked);
 })
 slot_well flags allocated (Address name addend) s t even e w = subst StandWell (sym e) (record { windows = windows_with_bytes s w.windows eight_zeros; linked = linked_bytes s.bytes eight_zeros s.uses w.linked })
+slot_well flags allocated (CallTo name ops) s t even (code, is, e) w = subst StandWell (sym e) (record { windows = windows_with_bytes s w.windows code; linked = linked_bytes s.bytes code s.uses w.linked })
 
 -- a piece of a block has an even length
 even_after : (here : ℕ → Option ℕ) (at : ℕ) (slot : Slot) (slots : List Slot) → AreClosed here at (slot ∷ slots) → (slot_size slot % 2 ≡ 0) × ((n : ℕ) × AreClosed here n slots)
@@ -113,6 +114,7 @@ even_after here at Allocate slots c = (refl, (at, c))
 even_after here at (Here k) slots c = (refl, (at, c))
 even_after here at (Fill symbol upper lower) slots c = (refl, (at + 8, c))
 even_after here at (Address name addend) slots c = (refl, (at + 8, c))
+even_after here at (CallTo name ops) slots c = (refl, (at + 8, c))
 
 puts_well : (flags : IsaFlags) (allocated : ℕ) (slots : List Slot) (here : ℕ → Option ℕ) (at : ℕ) (s t : Shape LabelUse) → AreClosed here at slots → length s.bytes % 2 ≡ 0 → Puts flags allocated slots s t → StandWell s → StandWell t
 puts_well flags allocated [] here at s t c even p w = subst StandWell (sym p) w

@@ -14,7 +14,7 @@ use Rattle.mach_buffer.specs.declared.uses.Use.{Use}
 use Rattle.mach_buffer.specs.Shape.{Shape}
 use Rattle.mach_buffer.specs.Buffer.{shape_of, bytes_of, allocated_of, named_of}
 use Rattle.rv_emit.specs.Emitted.{Buffer, IsSoundBuffer, AppendsInst, named_by}
-use Rattle.rv_emit.specs.Slots.{Slot, Op, Aim, Data, Notes, Names, Allocate, Here, Fill, Address, size_of, uses_of, records_of, names_of, upper_event, lower_event, address_event}
+use Rattle.rv_emit.specs.Slots.{Slot, Op, Aim, Data, Notes, Names, Allocate, Here, Fill, Address, CallTo, size_of, uses_of, records_of, names_of, upper_event, lower_event, address_event, call_event}
 use Rattle.rv_emit.specs.Puts.{Puts, eight_zeros}
 use Rattle.rv_emit.specs.InstParts.{slots_alone}
 use Rattle.rv_emit.specs.Emission.{PutsParts}
@@ -34,6 +34,7 @@ IsPlain (Allocate ∷ slots) = ⊥
 IsPlain (Here k ∷ slots) = ⊥
 IsPlain (Fill symbol upper lower ∷ slots) = IsPlain slots
 IsPlain (Address name addend ∷ slots) = IsPlain slots
+IsPlain (CallTo name ops ∷ slots) = IsPlain slots
 
 -- what they add to a shape
 pub record Adds (size : ℕ) (own : List (Use LabelUse)) (more : List MachRecord) (s t : Shape LabelUse) : Type 0 where
@@ -123,25 +124,41 @@ plain_adds flags allocated (Address name addend ∷ slots) s t plain (m, e, p) =
     adds_after s m t eight_zeros [] (uses_of allocated (length s.bytes + 8) slots) (size_of slots) (record { offset = length s.bytes; event = address_event name addend } ∷ []) (records_of (length s.bytes + 8) slots)
     (ap (λ (x : Shape LabelUse). x.bytes) e) (ap (λ (x : Shape LabelUse). x.uses) e ∙ sym (append-nil s.uses)) (ap (λ (x : Shape LabelUse). x.place) e) (ap (λ (x : Shape LabelUse). x.labels) e) (ap (λ (x : Shape LabelUse). x.allocated) e) (ap (λ (x : Shape LabelUse). x.records) e)
     (subst (λ n. Adds (size_of slots) (uses_of allocated n slots) (records_of n slots) m t) long (plain_adds flags allocated slots m t plain p))
+plain_adds flags allocated (CallTo name ops ∷ slots) s t plain (m, put, p) =
+    let e = put.2 in
+    let size : length put.0 ≡ 8 = put.1.long in
+    let long : length m.bytes ≡ length s.bytes + 8 = ap (λ (x : Shape LabelUse). length x.bytes) e ∙ length-append s.bytes put.0 ∙ ap (λ n. length s.bytes + n) size in
+    subst (λ n. Adds (n + size_of slots) (uses_of allocated (length s.bytes + 8) slots) (records_of (length s.bytes) (CallTo name ops ∷ slots)) s t) size
+    (adds_after s m t put.0 [] (uses_of allocated (length s.bytes + 8) slots) (size_of slots) (record { offset = length s.bytes; event = call_event name } ∷ []) (records_of (length s.bytes + 8) slots)
+    (ap (λ (x : Shape LabelUse). x.bytes) e) (ap (λ (x : Shape LabelUse). x.uses) e ∙ sym (append-nil s.uses)) (ap (λ (x : Shape LabelUse). x.place) e) (ap (λ (x : Shape LabelUse). x.labels) e) (ap (λ (x : Shape LabelUse). x.allocated) e) (ap (λ (x : Shape LabelUse). x.records) e)
+    (subst (λ n. Adds (size_of slots) (uses_of allocated n slots) (records_of n slots) m t) long (plain_adds flags allocated slots m t plain p)))
 
 -- ---- an instruction
 
 -- an instruction's slots add its uses and records, and as many bytes as it is long, and name its constant
-pub record IsSummed (context : Context) (inst : Inst) (slots : List Slot) : Type 0 where
+pub record IsAdded (context : Context) (inst : Inst) (slots : List Slot) : Type 0 where
   pub plain : IsPlain slots
-  pub long : extent_of context inst ≡ Words (size_of slots)
-  pub uses : (allocated start : ℕ) → uses_of allocated start slots ≡ uses_in context start inst
+  pub long : words_in (extent_of context inst) ≡ size_of slots
+  pub uses : (allocated start : ℕ) → uses_of allocated start slots ≡ uses_in context start (start + size_of slots) inst
   pub records : (start : ℕ) → records_of start slots ≡ inst_records context start (start + size_of slots) inst
   pub names : (named : List VCodeConstant) → names_of slots named ≡ named_by (inst_constant inst) named
 
-pub summed : (context : Context) (inst : Inst) (slots : List Slot) (old new : Buffer) → IsSummed context inst slots → (flags : IsaFlags) → PutsParts flags (slots_alone slots) old new → AppendsInst context inst old new
-summed context inst slots old new is flags (mid, p, same) = subst (AppendsInst context inst old) (sym same) (record {
+-- and they are all that it puts
+pub record IsSummed (context : Context) (inst : Inst) (slots : List Slot) : Type 0 where
+  pub plain : IsPlain slots
+  pub long : extent_of context inst ≡ Words (size_of slots)
+  pub uses : (allocated start : ℕ) → uses_of allocated start slots ≡ uses_in context start (start + size_of slots) inst
+  pub records : (start : ℕ) → records_of start slots ≡ inst_records context start (start + size_of slots) inst
+  pub names : (named : List VCodeConstant) → names_of slots named ≡ named_by (inst_constant inst) named
+
+pub added : (context : Context) (inst : Inst) (slots : List Slot) (old new : Buffer) → IsAdded context inst slots → (flags : IsaFlags) → PutsParts flags (slots_alone slots) old new → AppendsInst context inst old new
+added context inst slots old new is flags (mid, p, same) = subst (AppendsInst context inst old) (sym same) (record {
   code = a.code;
   far = [];
   table = λ j u h. absurd (cc);
   adds = record {
     bytes = a.bytes;
-    uses = a.uses ∙ ap (λ own. (shape_of old).uses ++ own) (is.uses (allocated_of old) (length (bytes_of old)) ∙ sym (append-nil (uses_in context (length (bytes_of old)) inst)));
+    uses = a.uses ∙ ap (λ own. (shape_of old).uses ++ own) (is.uses (allocated_of old) (length (bytes_of old)) ∙ ap (λ n. uses_in context (length (bytes_of old)) n inst) (sym end) ∙ sym (append-nil (uses_in context (length (bytes_of old)) (length (bytes_of mid)) inst)));
     places = a.place;
     labels = a.labels;
     allocated = a.allocated;
@@ -151,7 +168,7 @@ summed context inst slots old new is flags (mid, p, same) = subst (AppendsInst c
   };
   records = a.records ∙ ap (λ more. (shape_of old).records ++ more) (is.records (length (bytes_of old)) ∙ ap (λ n. inst_records context (length (bytes_of old)) n inst) (sym end));
   named = puts_named flags (allocated_of old) slots (shape_of old) (shape_of mid) p.puts ∙ is.names (named_of old);
-  long = ap words_in is.long ∙ sym a.long;
+  long = is.long ∙ sym a.long;
 })
   where
     a : Adds (size_of slots) (uses_of (allocated_of old) (length (bytes_of old)) slots) (records_of (length (bytes_of old)) slots) (shape_of old) (shape_of mid)
@@ -160,15 +177,18 @@ summed context inst slots old new is flags (mid, p, same) = subst (AppendsInst c
     end : length (bytes_of mid) ≡ length (bytes_of old) + size_of slots
     end = ap length a.bytes ∙ length-append (bytes_of old) a.code ∙ ap (λ n. length (bytes_of old) + n) a.long
 
+pub summed : (context : Context) (inst : Inst) (slots : List Slot) (old new : Buffer) → IsSummed context inst slots → (flags : IsaFlags) → PutsParts flags (slots_alone slots) old new → AppendsInst context inst old new
+summed context inst slots old new is flags p = added context inst slots old new (record { plain = is.plain; long = ap words_in is.long; uses = is.uses; records = is.records; names = is.names }) flags p
+
 -- nothing was put
-pub nothing : (context : Context) (inst : Inst) (old new : Buffer) → IsSoundBuffer old → extent_of context inst ≡ Words 0 → uses_in context (length (bytes_of old)) inst ≡ [] → inst_records context (length (bytes_of old)) (length (bytes_of old)) inst ≡ [] → named_of old ≡ named_by (inst_constant inst) (named_of old) → new ≡ old → AppendsInst context inst old new
+pub nothing : (context : Context) (inst : Inst) (old new : Buffer) → IsSoundBuffer old → extent_of context inst ≡ Words 0 → uses_in context (length (bytes_of old)) (length (bytes_of old)) inst ≡ [] → inst_records context (length (bytes_of old)) (length (bytes_of old)) inst ≡ [] → named_of old ≡ named_by (inst_constant inst) (named_of old) → new ≡ old → AppendsInst context inst old new
 nothing context inst old new sound long uses records named same = subst (AppendsInst context inst old) (sym same) (record {
   code = [];
   far = [];
   table = λ j u h. absurd (cc);
   adds = record {
     bytes = sym (append-nil (bytes_of old));
-    uses = sym (append-nil (shape_of old).uses) ∙ ap (λ own. (shape_of old).uses ++ own) (sym uses ∙ sym (append-nil (uses_in context (length (bytes_of old)) inst)));
+    uses = sym (append-nil (shape_of old).uses) ∙ ap (λ own. (shape_of old).uses ++ own) (sym uses ∙ sym (append-nil (uses_in context (length (bytes_of old)) (length (bytes_of old)) inst)));
     places = refl;
     labels = refl;
     allocated = refl;

@@ -1,5 +1,5 @@
 -- The stack is probed, from the farthest guard on.
-use Rattle.std.proofs.Common.{◌≡◌, ◌≢◌, ℕ, zero, suc, ◌+◌, ◌-◌, ◌*◌, ◌%◌, ◌^◌, ◌<◌, ◌≤◌, pos, ℤ, Bool, true, false, List, [], ◌∷◌, ◌++◌, map, length, Some, arith, refl, sym, ap, subst, ◌∙◌, lit<, lit≤, eqb-true}
+use Rattle.std.proofs.Common.{◌≡◌, ◌≢◌, ℕ, zero, suc, ◌+◌, ◌-◌, ◌*◌, ◌%◌, ◌^◌, ◌<◌, ◌≤◌, pos, Bool, true, false, List, [], ◌∷◌, ◌++◌, map, length, Some, arith, refl, sym, ap, subst, ◌∙◌, lit<, lit≤, eqb-true}
 use Rattle.std.specs.Prelude.{nat_lt, if◌then◌else◌, not, ◌==◌, ◌-ℤ◌}
 use Rattle.std.specs.Int.{cast_signed, w64}
 use Rattle.std.proofs.lemmas.Bool.{lt-ltb}
@@ -27,17 +27,17 @@ use Rattle.rv_emit.specs.Operations.{decoded_bgeu, short_jump, jump_size}
 use Rattle.rv_emit.specs.Probes.{probe_op, zero_op, nearer_op, probe_turn, probe_turn_size}
 use Rattle.rv_emit.specs.Sites.{Site, CodeHas, StandsIn}
 use Rattle.rv_emit.specs.Slots.{Slot, Op, size_of}
-use Rattle.rv_emit.proofs.AddressRuns.{Sets, size_append, stands_split, shorter, set_at}
+use Rattle.rv_emit.proofs.AddressRuns.{size_append, stands_split}
 use Rattle.rv_emit.proofs.Chains.{goes_at_least}
 use Rattle.rv_emit.proofs.CodeSteps.{step_at, at_next}
 use Rattle.rv_emit.proofs.Courses.{InCourse, Comes, comes_on, rrr_writes, goes_ahead, goes_back}
 use Rattle.rv_emit.proofs.Exits.{same_but, starts_at, comes_out}
 use Rattle.rv_emit.proofs.MemoryKept.{placed_after, put_same, put_values}
-use Rattle.rv_emit.proofs.NumberRuns.{number_goes, number_even, bits_back}
+use Rattle.rv_emit.proofs.NumberRuns.{number_comes, bits_back}
 use Rattle.rv_emit.proofs.Operands.{Keeps}
 use Rattle.rv_emit.proofs.ProbeRules.{IsProbe, is_probe}
 use Rattle.rv_emit.proofs.ProbeSlots.{probe_sized, zero_sized, nearer_sized}
-use Rattle.rv_emit.proofs.Registers.{are_values_set, reads_back, reads_other, temporary_set, spare_set}
+use Rattle.rv_emit.proofs.Registers.{reads_back, reads_other, temporary_set, spare_set}
 use Rattle.rv_emit.proofs.ShortOps.{store_acts, jump_acts, jump_len, least_even, least_few, least_some, small_number, back_number}
 
 -- ---- numbers
@@ -257,25 +257,6 @@ turns {site} {loop} {tmp} {guard} allocated (suc (suc n)) u s h some fits out st
     turns allocated (suc n) (put_bytes u a (0 ∷ [])) t2 h some (omega arith) (rest_outside site.base (length site.bytes) a rest out) stands k2)
 
 -- ---- before the first turn
-
-wrapped_fits : (n x : ℕ) → wrap n ≡ x → x < 2 ^ 64
-wrapped_fits n x is = omega arith
-
--- a number is put into a register
-number_comes : {site : Site} {offset size : ℕ} {Such : Values → Type 0} {s : State} (After : Values → Type 0) (allocated rd x : ℕ) (z : ℤ) → 0 < rd → rd < 32 → wrap (low64 z) ≡ x → StandsIn site allocated offset (number_slots site.context.flags rd z) → InCourse site offset (size_of (number_slots site.context.flags rd z) + size) Such s → After (set_reg s.values rd x) → Comes site (offset + size_of (number_slots site.context.flags rd z)) size After s
-number_comes {site} {offset} {s = s} After allocated rd x z some lt is stands k after =
-    let flags = site.context.flags in
-    let n = size_of (number_slots flags rd z) in
-    let goes = number_goes allocated rd z some lt k.is_state (shorter n k.here (omega arith)) stands in
-    record {
-      state = at (wrap (s.pc + n)) (set_reg s.values rd x);
-      goes = subst (λ m. Sets flags n s rd m) is goes;
-      course = record {
-        here = set_at n rd x k.here (number_even flags rd z);
-        is_state = record { pc = omega arith; values = are_values_set s.values rd x k.is_state.values lt (wrapped_fits (low64 z) x is) };
-        values = after;
-      };
-    }
 
 -- the farthest probe's distance is in x31; all else is as it was
 record Starts (left : ℕ) (v w : Values) : Type 0 where

@@ -56,7 +56,7 @@ probes_counted flags tmp guard count =
     (of_size (omega arith) (number_then flags 31 (cast_signed w64 (guard * count)) (number_then flags tmp (pos guard) (turn_counted flags tmp))))
 
 pub probe_summed : (context : Context) (guard count : ℕ) (tmp : Writable Reg) → IsSummed context (StackProbeLoop guard count tmp) (probe_slots context.flags (number_of tmp.reg) (low_word guard) (low_word count))
-probe_summed context guard count tmp = summed_by (probes_counted context.flags (number_of tmp.reg) (low_word guard) (low_word count)) refl (λ start. refl) (λ start end. refl) refl
+probe_summed context guard count tmp = summed_by (probes_counted context.flags (number_of tmp.reg) (low_word guard) (low_word count)) refl (λ start end. refl) (λ start end. refl) refl
 
 pub probe_block : (flags : IsaFlags) (tmp guard count : ℕ) → IsBlock (probe_slots flags tmp guard count)
 probe_block flags tmp guard count = (probes_counted flags tmp guard count).closed _ 0

@@ -12,7 +12,7 @@ use Rattle.mach_buffer.specs.Shape.{Shape, with_bytes, with_use, with_record}
 use Rattle.mach_buffer.specs.Growth.{Lasts}
 use Rattle.mach_buffer.specs.Windows.{AllEnd}
 use Rattle.mach_buffer.proofs.Laws.{append_none, append_each, lasts_same, lasts_more, lasts_bytes, lasts_use, lasts_allocated, lasts_record, lasts_named, lasts_label}
-use Rattle.rv_emit.specs.Slots.{Slot, Op, Aim, Data, Notes, Names, Allocate, Here, Fill, Address, slot_size, size_of, own_label, label_of, uses_of, names_of, upper_event, lower_event, address_event}
+use Rattle.rv_emit.specs.Slots.{Slot, Op, Aim, Data, Notes, Names, Allocate, Here, Fill, Address, CallTo, slot_size, size_of, own_label, label_of, uses_of, names_of, upper_event, lower_event, address_event, call_event}
 use Rattle.rv_emit.specs.Puts.{PutsSlot, Puts, eight_zeros}
 
 -- ---- one slot
@@ -34,6 +34,7 @@ slot_lasts flags allocated (Fill symbol upper lower) s t p =
     subst (Lasts label_kinds s) (sym p.4)
     (lasts_more (lasts_more (lasts_record label_kinds (upper_event symbol) s) (lasts_bytes label_kinds p.0 s1)) (lasts_more (lasts_record label_kinds lower_part s2) (lasts_bytes label_kinds p.1 (with_record lower_part s2))))
 slot_lasts flags allocated (Address name addend) s t p = subst (Lasts label_kinds s) (sym p) (lasts_more (lasts_record label_kinds (address_event name addend) s) (lasts_bytes label_kinds eight_zeros (with_record (address_event name addend) s)))
+slot_lasts flags allocated (CallTo name ops) s t p = subst (Lasts label_kinds s) (sym p.2) (lasts_more (lasts_record label_kinds (call_event name) s) (lasts_bytes label_kinds p.0 (with_record (call_event name) s)))
 
 pub slot_bytes : (flags : IsaFlags) (allocated : ℕ) (slot : Slot) (s t : Shape LabelUse) → PutsSlot flags allocated slot s t → length t.bytes ≡ length s.bytes + slot_size slot
 slot_bytes flags allocated (Op d) s t p = (λ i. length (p.3 i).bytes) ∙ length-append s.bytes p.0 ∙ ap (λ n. length s.bytes + n) p.1
@@ -48,6 +49,7 @@ slot_bytes flags allocated (Fill symbol upper lower) s t p =
     let second = p.3.long in
     (λ i. length (p.4 i).bytes) ∙ omega (arith, length-append s.bytes p.0, length-append (s.bytes ++ p.0) p.1)
 slot_bytes flags allocated (Address name addend) s t p = (λ i. length (p i).bytes) ∙ length-append s.bytes eight_zeros
+slot_bytes flags allocated (CallTo name ops) s t p = (λ i. length (p.2 i).bytes) ∙ length-append s.bytes p.0 ∙ ap (λ n. length s.bytes + n) p.1.long
 
 slot_uses : (flags : IsaFlags) (allocated : ℕ) (slot : Slot) (s t : Shape LabelUse) → PutsSlot flags allocated slot s t → t.uses ≡ s.uses ++ uses_of allocated (length s.bytes) (slot ∷ [])
 slot_uses flags allocated (Op d) s t p = (λ i. (p.3 i).uses) ∙ sym (append_none s.uses)
@@ -59,6 +61,7 @@ slot_uses flags allocated Allocate s t p = (λ i. (p i).uses) ∙ sym (append_no
 slot_uses flags allocated (Here k) s t p = (λ i. (p.1 i).uses) ∙ sym (append_none s.uses)
 slot_uses flags allocated (Fill symbol upper lower) s t p = (λ i. (p.4 i).uses) ∙ sym (append_none s.uses)
 slot_uses flags allocated (Address name addend) s t p = (λ i. (p i).uses) ∙ sym (append_none s.uses)
+slot_uses flags allocated (CallTo name ops) s t p = (λ i. (p.2 i).uses) ∙ sym (append_none s.uses)
 
 -- the uses of a slot, and then those of others
 uses_both : (allocated at : ℕ) (slot : Slot) (slots : List Slot) → uses_of allocated at (slot ∷ []) ++ uses_of allocated (at + slot_size slot) slots ≡ uses_of allocated at (slot ∷ slots)
@@ -71,6 +74,7 @@ uses_both allocated at Allocate slots = let same : at + 0 ≡ at = omega arith i
 uses_both allocated at (Here k) slots = let same : at + 0 ≡ at = omega arith in ap (λ n. uses_of allocated n slots) same
 uses_both allocated at (Fill symbol upper lower) slots = refl
 uses_both allocated at (Address name addend) slots = refl
+uses_both allocated at (CallTo name ops) slots = refl
 
 pub slot_ends : (flags : IsaFlags) (allocated : ℕ) (slot : Slot) (s t : Shape LabelUse) → PutsSlot flags allocated slot s t → AllEnd label_kinds s → AllEnd label_kinds t
 slot_ends flags allocated (Op d) s t p ends = subst (AllEnd label_kinds) (sym p.3) (λ j u h. let e = ends j u h in omega (arith, length-append s.bytes p.0))
@@ -85,6 +89,7 @@ slot_ends flags allocated Allocate s t p ends = subst (AllEnd label_kinds) (sym 
 slot_ends flags allocated (Here k) s t p ends = subst (AllEnd label_kinds) (sym p.1) ends
 slot_ends flags allocated (Fill symbol upper lower) s t p ends = subst (AllEnd label_kinds) (sym p.4) (λ j u h. let e = ends j u h in omega (arith, length-append s.bytes p.0, length-append (s.bytes ++ p.0) p.1))
 slot_ends flags allocated (Address name addend) s t p ends = subst (AllEnd label_kinds) (sym p) (λ j u h. let e = ends j u h in omega (arith, length-append s.bytes eight_zeros))
+slot_ends flags allocated (CallTo name ops) s t p ends = subst (AllEnd label_kinds) (sym p.2) (λ j u h. let e = ends j u h in omega (arith, length-append s.bytes p.0))
 
 slot_named : (flags : IsaFlags) (allocated : ℕ) (slot : Slot) (s t : Shape LabelUse) → PutsSlot flags allocated slot s t → t.named ≡ names_of (slot ∷ []) s.named
 slot_named flags allocated (Op d) s t p = λ i. (p.3 i).named
@@ -96,6 +101,7 @@ slot_named flags allocated Allocate s t p = λ i. (p i).named
 slot_named flags allocated (Here k) s t p = λ i. (p.1 i).named
 slot_named flags allocated (Fill symbol upper lower) s t p = λ i. (p.4 i).named
 slot_named flags allocated (Address name addend) s t p = λ i. (p i).named
+slot_named flags allocated (CallTo name ops) s t p = λ i. (p.2 i).named
 
 -- the names of a slot, and then those of others
 names_both : (slot : Slot) (slots : List Slot) (named : List VCodeConstant) → names_of slots (names_of (slot ∷ []) named) ≡ names_of (slot ∷ slots) named
@@ -108,6 +114,7 @@ names_both Allocate slots named = refl
 names_both (Here k) slots named = refl
 names_both (Fill symbol upper lower) slots named = refl
 names_both (Address name addend) slots named = refl
+names_both (CallTo name ops) slots named = refl
 
 -- no slot puts a constant
 slot_constants : (flags : IsaFlags) (allocated : ℕ) (slot : Slot) (s t : Shape LabelUse) → PutsSlot flags allocated slot s t → t.constants ≡ s.constants
@@ -120,6 +127,7 @@ slot_constants flags allocated Allocate s t p = λ i. (p i).constants
 slot_constants flags allocated (Here k) s t p = λ i. (p.1 i).constants
 slot_constants flags allocated (Fill symbol upper lower) s t p = λ i. (p.4 i).constants
 slot_constants flags allocated (Address name addend) s t p = λ i. (p i).constants
+slot_constants flags allocated (CallTo name ops) s t p = λ i. (p.2 i).constants
 
 -- ---- slots
 

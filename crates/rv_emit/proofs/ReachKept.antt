@@ -4,6 +4,7 @@ use Rattle.std.specs.Prelude.{is_none, not, ◌&&◌, slice_get, nat_eq, ℤ, po
 use Rattle.rv_inst.specs.Addresses.{Location, Based, AtLabel, AtConstant, location_of, is_near, inline_size, far_address_size, address_size, load_size_at, store_size_at}
 use Rattle.std.proofs.lemmas.Option.{same_Some}
 use Rattle.std.proofs.lemmas.List.{length-append, append-nil}
+use Rattle.rv_base.specs.declared.call.TryCallInfo.{TryCallInfo}
 use Rattle.rv_base.specs.declared.label.MachLabel.{MachLabel}
 use Rattle.rv_base.specs.declared.flags.IsaFlags.{IsaFlags}
 use Rattle.rv_base.specs.Regs.{number_of}
@@ -12,12 +13,12 @@ use Rattle.rv_ops.specs.declared.alu.AluOPRRR.TheVariants.{Add, And}
 use Rattle.rv_ops.specs.declared.alu.AluOPRRI.TheVariants.{Addi, Slli, Srli}
 use Rattle.rv_ops.specs.declared.memory.LoadOP.{LoadOP}
 use Rattle.rv_ops.specs.declared.memory.StoreOP.{StoreOP}
-use Rattle.rv_inst.specs.Forms.{jump_kind, short_rrr, short_rri, short_lui, short_jalr, short_ebreak, short_load, short_store}
+use Rattle.rv_inst.specs.Forms.{jump_kind, jump_size, short_rrr, short_rri, short_lui, short_jalr, short_ebreak, short_load, short_store}
 use Rattle.rv_inst.specs.Context.{Context}
 use Rattle.rv_machine.specs.Arithmetic.{low_word}
 use Rattle.rv_inst.specs.declared.inst.CondBrTarget.{CondBrTarget}
 use Rattle.rv_inst.specs.declared.inst.Inst.{Inst}
-use Rattle.rv_inst.specs.declared.inst.Inst.TheVariants.{Nop0, Nop4, EBreak, SequencePoint, Args, Rets, DummyUse, EmitIsland, RawData, Lui, Auipc, LoadInlineConst, AluRRR, AluRRImm12, Mov, MovFromPReg, Extend, Select, Load, Store, LoadAddr, LabelAddress, Ret, TrapIf, Jal, CondBr, BrTable, Udf, Jalr, Popcnt, Cltz, Brev8, StackProbeLoop, LoadExtNameGot, LoadExtNameNear, LoadExtNameFar, Unwind}
+use Rattle.rv_inst.specs.declared.inst.Inst.TheVariants.{Nop0, Nop4, EBreak, SequencePoint, Args, Rets, DummyUse, EmitIsland, RawData, Lui, Auipc, LoadInlineConst, AluRRR, AluRRImm12, Mov, MovFromPReg, Extend, Select, Load, Store, LoadAddr, LabelAddress, Ret, TrapIf, Jal, CondBr, BrTable, Udf, Jalr, Popcnt, Cltz, Brev8, StackProbeLoop, LoadExtNameGot, LoadExtNameNear, LoadExtNameFar, Call, CallInd, ReturnCall, ReturnCallInd, Unwind}
 use Rattle.rv_inst.specs.Rules.{is_word_type, inst_rule}
 use Rattle.rv_base.specs.declared.ir_type.IrType.{IrType}
 use Rattle.rv_base.specs.declared.ir_type.IrType.TheVariants.{I32, I64}
@@ -27,7 +28,7 @@ use Rattle.rv_inst.specs.declared.inst.CondBrTarget.TheVariants.{Label, Fallthro
 use Rattle.rv_inst.specs.declared.label_use.LabelUse.{LabelUse}
 use Rattle.rv_inst.specs.declared.label_use.LabelUse.TheVariants.{Jal20, B12, PCRelHi20, PCRelLo12I, RVCJump}
 use Rattle.rv_inst.specs.LabelUse.{label_kinds, forward_of, has_veneer_of}
-use Rattle.rv_inst.specs.Operands.{targets_of, ways_of, inst_ways}
+use Rattle.rv_inst.specs.Operands.{targets_of, ways_of, ways_by, inst_ways, try_call_of}
 use Rattle.rv_inst.specs.declared.targets.Targets.{Targets}
 use Rattle.rv_inst.specs.declared.targets.Targets.TheVariants.{Nowhere, Jumps, Branches, Refers, RefersConstant}
 use Rattle.mach_buffer.specs.Shape.{constant_label}
@@ -40,12 +41,13 @@ use Rattle.mach_buffer.proofs.Laws.{deadlines_append, none_from, slack_use, slac
 use Rattle.rv_emit.proofs.ShortOps.{HasSize, rrr_sized, rri_sized, lui_sized, jalr_sized, ebreak_sized, load_sized, store_sized, least_few}
 use Rattle.rv_emit.specs.Emitted.{Buffer, pending, IsFarUse, AppendsInst, IslandIfNeeded, CanEmit, IsBounded}
 use Rattle.rv_inst.specs.Sizes.{words_in, line_space, extent_of, island_space, move_size, branch_size, count_size, trap_size}
-use Rattle.rv_inst.specs.Uses.{use_at, target_uses, uses_in}
+use Rattle.rv_inst.specs.Uses.{use_at, target_uses, uses_by, uses_in}
 use Rattle.rv_emit.proofs.OffsetSizes.{far_short}
 use Rattle.rv_emit.proofs.ChoiceSlots.{extend_short, select_short}
 use Rattle.rv_emit.proofs.ZerosSlots.{zeros_short}
 use Rattle.rv_emit.proofs.ReverseSlots.{reverse_short}
 use Rattle.rv_emit.proofs.ProbeSlots.{probe_short}
+use Rattle.rv_emit.proofs.CallSlots.{call_short, call_ind_short}
 
 -- whether a use is pending
 abbrev pub waits : (ℕ → Option ℕ) → Use LabelUse → Bool
@@ -54,8 +56,8 @@ waits place = is_pending label_kinds place
 -- ---- uses of an instruction
 
 -- what holds of each list of uses that an instruction may have, holds of its own
-pub each_uses : (P : List (Use LabelUse) → Type 0) (context : Context) (start : ℕ) (inst : Inst) → P [] → ((label : MachLabel) → P (use_at start label (jump_kind context.flags) ∷ [])) → ((t : MachLabel) → P (use_at start t B12 ∷ [])) → ((t f : MachLabel) → P (use_at start t B12 ∷ use_at (start + 4) f (jump_kind context.flags) ∷ [])) → ((label : MachLabel) → P (use_at start label PCRelHi20 ∷ use_at (start + 4) label PCRelLo12I ∷ [])) → P (uses_in context start inst)
-each_uses P context start inst none jump one two address = on (targets_of inst)
+pub each_uses : (P : List (Use LabelUse) → Type 0) (context : Context) (start end : ℕ) (inst : Inst) → ((label : MachLabel) → P (use_at (end - jump_size context.flags) label (jump_kind context.flags) ∷ [])) → P [] → ((label : MachLabel) → P (use_at start label (jump_kind context.flags) ∷ [])) → ((t : MachLabel) → P (use_at start t B12 ∷ [])) → ((t f : MachLabel) → P (use_at start t B12 ∷ use_at (start + 4) f (jump_kind context.flags) ∷ [])) → ((label : MachLabel) → P (use_at start label PCRelHi20 ∷ use_at (start + 4) label PCRelLo12I ∷ [])) → P (uses_in context start end inst)
+each_uses P context start end inst continued none jump one two address = by (try_call_of inst)
   where
     on : (targets : Targets) → P (target_uses context.flags start targets)
     on Nowhere = none
@@ -66,9 +68,13 @@ each_uses P context start inst none jump one two address = on (targets_of inst)
     on (Refers label) = address label
     on (RefersConstant constant) = address (constant_label constant)
 
+    by : (t : Option TryCallInfo) → P (uses_by context.flags start end t (targets_of inst))
+    by None = on (targets_of inst)
+    by (Some t) = continued t.continuation
+
 -- at most two
-pub few_uses : (context : Context) (start : ℕ) (inst : Inst) → length (uses_in context start inst) ≤ 2
-few_uses context start inst = each_uses (λ us. length us ≤ 2) context start inst (omega arith) (λ label. omega arith) (λ t. omega arith) (λ t f. omega arith) (λ label. omega arith)
+pub few_uses : (context : Context) (start end : ℕ) (inst : Inst) → length (uses_in context start end inst) ≤ 2
+few_uses context start end inst = each_uses (λ us. length us ≤ 2) context start end inst (λ label. omega arith) (omega arith) (λ label. omega arith) (λ t. omega arith) (λ t f. omega arith) (λ label. omega arith)
 
 -- what holds of each element
 abbrev pub Each : {X : Type 0} → (X → Type 0) → List X → Type 0
@@ -82,9 +88,9 @@ each_more P x xs p rest zero y h = subst P (same_Some _ _ h) p
 each_more P x xs p rest (suc k) y h = rest k y h
 
 -- what holds of each use that may stand in a sequence holds of those of an instruction
-pub each_use : (P : Use LabelUse → Type 0) (context : Context) (start : ℕ) (inst : Inst) → ((label : MachLabel) → P (use_at start label (jump_kind context.flags))) → ((label : MachLabel) → P (use_at start label B12)) → ((label : MachLabel) → P (use_at (start + 4) label (jump_kind context.flags))) → ((label : MachLabel) → P (use_at start label PCRelHi20)) → ((label : MachLabel) → P (use_at (start + 4) label PCRelLo12I)) → Each P (uses_in context start inst)
-each_use P context start inst jump branch second upper lower =
-    each_uses (Each P) context start inst (each_none P)
+pub each_use : (P : Use LabelUse → Type 0) (context : Context) (start end : ℕ) (inst : Inst) → ((label : MachLabel) → P (use_at (end - jump_size context.flags) label (jump_kind context.flags))) → ((label : MachLabel) → P (use_at start label (jump_kind context.flags))) → ((label : MachLabel) → P (use_at start label B12)) → ((label : MachLabel) → P (use_at (start + 4) label (jump_kind context.flags))) → ((label : MachLabel) → P (use_at start label PCRelHi20)) → ((label : MachLabel) → P (use_at (start + 4) label PCRelLo12I)) → Each P (uses_in context start end inst)
+each_use P context start end inst continued jump branch second upper lower =
+    each_uses (Each P) context start end inst (λ label. each_more P _ [] (continued label) (each_none P)) (each_none P)
     (λ label. each_more P _ [] (jump label) (each_none P))
     (λ t. each_more P _ [] (branch t) (each_none P))
     (λ t f. each_more P _ (use_at (start + 4) f (jump_kind context.flags) ∷ []) (branch t) (each_more P _ [] (second f) (each_none P)))
@@ -105,20 +111,27 @@ jump_served flags = by flags.has_zca
     by true = refl
     by false = refl
 
--- each reaches over 2046 bytes
-pub uses_far : (context : Context) (start : ℕ) (inst : Inst) → Each (λ u. start + 2046 ≤ deadline label_kinds u) (uses_in context start inst)
-uses_far context start inst = let far = jump_far context.flags in each_use (λ u. start + 2046 ≤ deadline label_kinds u) context start inst (λ label. omega arith) (λ label. omega arith) (λ label. omega arith) (λ label. omega arith) (λ label. omega arith)
+jump_few : (flags : IsaFlags) → jump_size flags ≤ 4
+jump_few flags = by flags.has_zca
+  where
+    by : (c : Bool) → (if c then 2 else 4) ≤ 4
+    by true = omega arith
+    by false = omega arith
+
+-- each reaches over 1900 bytes after the instruction
+pub uses_far : (context : Context) (start end : ℕ) (inst : Inst) → end ≤ start + 84 → Each (λ u. end + 1900 ≤ deadline label_kinds u) (uses_in context start end inst)
+uses_far context start end inst le = let far = jump_far context.flags in let few = jump_few context.flags in each_use (λ u. end + 1900 ≤ deadline label_kinds u) context start end inst (λ label. omega arith) (λ label. omega arith) (λ label. omega arith) (λ label. omega arith) (λ label. omega arith) (λ label. omega arith)
 
 -- a use may go by a veneer, or reaches all code
 abbrev pub IsServed : Use LabelUse → Type 0
 IsServed u = (has_veneer_of u.kind ≡ true) ⊎ (is_far label_kinds u ≡ true)
 
-pub uses_kinds : (context : Context) (start : ℕ) (inst : Inst) → Each IsServed (uses_in context start inst)
-uses_kinds context start inst = each_use IsServed context start inst (λ label. inl (jump_served context.flags)) (λ label. inl refl) (λ label. inl (jump_served context.flags)) (λ label. inr refl) (λ label. inr refl)
+pub uses_kinds : (context : Context) (start end : ℕ) (inst : Inst) → Each IsServed (uses_in context start end inst)
+uses_kinds context start end inst = each_use IsServed context start end inst (λ label. inl (jump_served context.flags)) (λ label. inl (jump_served context.flags)) (λ label. inl refl) (λ label. inl (jump_served context.flags)) (λ label. inr refl) (λ label. inr refl)
 
 -- none has a veneer yet
-pub uses_bare : (context : Context) (start : ℕ) (inst : Inst) → Each (λ u. u.veneer ≡ None) (uses_in context start inst)
-uses_bare context start inst = each_use (λ u. u.veneer ≡ None) context start inst (λ label. refl) (λ label. refl) (λ label. refl) (λ label. refl) (λ label. refl)
+pub uses_bare : (context : Context) (start end : ℕ) (inst : Inst) → Each (λ u. u.veneer ≡ None) (uses_in context start end inst)
+uses_bare context start end inst = each_use (λ u. u.veneer ≡ None) context start end inst (λ label. refl) (λ label. refl) (λ label. refl) (λ label. refl) (λ label. refl) (λ label. refl)
 
 -- ---- bytes of a sequence
 
@@ -202,7 +215,7 @@ short context (AluRRImm12 op rd rs imm) rule asks = op_short (short_rri context.
 short context (Mov rd rm type) rule asks = move_short context.flags _ _
 short context (MovFromPReg rd rm) rule asks = move_short context.flags _ _
 short context (Extend rd rn signed from_bits to_bits) rule asks = extend_short context.flags (number_of rd.reg) (number_of rn) signed from_bits
-short context (Select dst condition x y) rule asks = select_short context.flags dst x y
+short context (Select info) rule asks = select_short context.flags info.dst info.x info.y
 short context (Load rd op flags from) rule asks = load_short context.flags op (number_of rd.reg) (location_of context.frame from)
 short context (Store to op flags src) rule asks = store_short context.flags op (number_of src) (location_of context.frame to)
 short context (LoadAddr rd mem) rule asks = address_short context.flags (number_of rd.reg) (location_of context.frame mem)
@@ -221,6 +234,10 @@ short context (StackProbeLoop guard_size probe_count tmp) rule asks = probe_shor
 short context (LoadExtNameGot rd name) rule asks = omega arith
 short context (LoadExtNameNear rd name offset) rule asks = omega arith
 short context (LoadExtNameFar rd name offset) rule asks = let few = least_few context.flags in omega arith
+short context (Call info) rule asks = call_short context.flags info.callee_pop_size info.try_call_info
+short context (CallInd info) rule asks = call_ind_short context.flags (number_of info.dest) info.callee_pop_size info.try_call_info
+short context (ReturnCall info) rule asks = absurd (cc)
+short context (ReturnCallInd info) rule asks = absurd (cc)
 short context (Unwind inst) rule asks = omega arith
 
 -- as many bytes more as it is long
@@ -245,31 +262,31 @@ pub far_waits : {labels : List MachLabel} (place : ℕ → Option ℕ) (u : Use 
 far_waits place u f = λ i. f.direct i && (is_none u.veneer && not (is_reached label_kinds (place u.label.number) u))
 
 -- so what is pending of the uses that were put is so of those that may go by a veneer
-pub own_deadlines : (context : Context) (inst : Inst) (old new : Buffer) (p : AppendsInst context inst old new) (place : ℕ → Option ℕ) → deadlines (waits place) label_kinds (uses_in context (length (bytes_of old)) inst ++ p.far) ≡ deadlines (waits place) label_kinds (uses_in context (length (bytes_of old)) inst)
+pub own_deadlines : (context : Context) (inst : Inst) (old new : Buffer) (p : AppendsInst context inst old new) (place : ℕ → Option ℕ) → deadlines (waits place) label_kinds (uses_in context (length (bytes_of old)) (length (bytes_of new)) inst ++ p.far) ≡ deadlines (waits place) label_kinds (uses_in context (length (bytes_of old)) (length (bytes_of new)) inst)
 own_deadlines context inst old new p place =
-    let own = uses_in context (length (bytes_of old)) inst in
+    let own = uses_in context (length (bytes_of old)) (length (bytes_of new)) inst in
     deadlines_append (waits place) label_kinds own p.far ∙ ap (λ ds. deadlines (waits place) label_kinds own ++ ds) (none_from (waits place) label_kinds p.far (λ j u h. far_waits place u (p.table j u h))) ∙ append-nil _
 
 -- what is pending after an instruction: what was before, and its own uses that are
-pub pending_adds : (context : Context) (inst : Inst) (old new : Buffer) → AppendsInst context inst old new → pending new ≡ pending old ++ deadlines (waits (place_of old)) label_kinds (uses_in context (length (bytes_of old)) inst)
+pub pending_adds : (context : Context) (inst : Inst) (old new : Buffer) → AppendsInst context inst old new → pending new ≡ pending old ++ deadlines (waits (place_of old)) label_kinds (uses_in context (length (bytes_of old)) (length (bytes_of new)) inst)
 pending_adds context inst old new p =
-    let own = uses_in context (length (bytes_of old)) inst in
+    let own = uses_in context (length (bytes_of old)) (length (bytes_of new)) inst in
     (λ i. deadlines (waits (p.adds.places i)) label_kinds (p.adds.uses i)) ∙ deadlines_append (waits (place_of old)) label_kinds (uses_of old) (own ++ p.far)
     ∙ ap (λ ds. pending old ++ ds) (own_deadlines context inst old new p (place_of old))
 
-pending_whole : (context : Context) (inst : Inst) (old new : Buffer) → AppendsInst context inst old new → length (pending new) ≡ length (pending old) + length (deadlines (waits (place_of old)) label_kinds (uses_in context (length (bytes_of old)) inst))
+pending_whole : (context : Context) (inst : Inst) (old new : Buffer) → AppendsInst context inst old new → length (pending new) ≡ length (pending old) + length (deadlines (waits (place_of old)) label_kinds (uses_in context (length (bytes_of old)) (length (bytes_of new)) inst))
 pending_whole context inst old new p = ap length (pending_adds context inst old new p) ∙ length-append (pending old) _
 
 pub pending_after : (context : Context) (inst : Inst) (old new : Buffer) → AppendsInst context inst old new → length (pending new) ≤ length (pending old) + 2
 pending_after context inst old new p =
     let whole = pending_whole context inst old new p in
-    let few = few_deadlines (waits (place_of old)) label_kinds (uses_in context (length (bytes_of old)) inst) in
-    let two = few_uses context (length (bytes_of old)) inst in
+    let few = few_deadlines (waits (place_of old)) label_kinds (uses_in context (length (bytes_of old)) (length (bytes_of new)) inst) in
+    let two = few_uses context (length (bytes_of old)) (length (bytes_of new)) inst in
     omega arith
 
 -- none more where it goes to no label
-none_pending : (context : Context) (place : ℕ → Option ℕ) (start : ℕ) (inst : Inst) → inst_ways inst ≡ [] → length (deadlines (waits place) label_kinds (uses_in context start inst)) ≡ 0
-none_pending context place start inst e = on (targets_of inst) e
+none_pending : (context : Context) (place : ℕ → Option ℕ) (start end : ℕ) (inst : Inst) → inst_ways inst ≡ [] → length (deadlines (waits place) label_kinds (uses_in context start end inst)) ≡ 0
+none_pending context place start end inst e = by (try_call_of inst) e
   where
     on : (targets : Targets) → ways_of targets ≡ [] → length (deadlines (waits place) label_kinds (target_uses context.flags start targets)) ≡ 0
     on Nowhere e = refl
@@ -280,8 +297,12 @@ none_pending context place start inst e = on (targets_of inst) e
     on (Refers label) e = refl
     on (RefersConstant constant) e = refl
 
+    by : (t : Option TryCallInfo) → ways_by t (targets_of inst) ≡ [] → length (deadlines (waits place) label_kinds (uses_by context.flags start end t (targets_of inst))) ≡ 0
+    by None e = on (targets_of inst) e
+    by (Some t) e = absurd (cc)
+
 pub none_more : (context : Context) (inst : Inst) (old new : Buffer) → inst_ways inst ≡ [] → AppendsInst context inst old new → length (pending new) ≤ length (pending old)
-none_more context inst old new e p = let a = pending_whole context inst old new p in let b = none_pending context (place_of old) (length (bytes_of old)) inst e in omega arith
+none_more context inst old new e p = let a = pending_whole context inst old new p in let b = none_pending context (place_of old) (length (bytes_of old)) (length (bytes_of new)) inst e in omega arith
 
 -- a sequence is within its bounds
 pub block_bounds : (context : Context) (inst : Inst) (old new : Buffer) → inst_rule context inst ≡ None → AppendsInst context inst old new → IsBounded context inst old new
@@ -313,13 +334,13 @@ reach_calm b calm =
 pub reach_after : (context : Context) (inst : Inst) (old new : Buffer) → CanEmit context inst old → island_space context inst ≡ None → AppendsInst context inst old new → CanReach (length (bytes_of new)) (pending new)
 reach_after context inst old new can asks p =
     let start = length (bytes_of old) in
-    let own = uses_in context start inst in
     let cur = length (bytes_of new) in
+    let own = uses_in context start cur inst in
     let near : cur ≤ start + 84 = bytes_after context inst old new can.rule asks p in
-    let few : length own ≤ 2 = few_uses context start inst in
+    let few : length own ≤ 2 = few_uses context start cur inst in
     let spare : HasSlack cur (14 + 8 * length own) (pending old) =
     slack_less (start + line_space) 30 cur (14 + 8 * length own) (pending old) (omega arith) (slack_not_needed start line_space (pending old) can.calm) in
-    let far : Each (λ u. cur + 14 + 8 * length own ≤ deadline label_kinds u) own = λ k u e. let f = uses_far context start inst k u e in omega arith in
+    let far : Each (λ u. cur + 14 + 8 * length own ≤ deadline label_kinds u) own = λ k u e. let f = uses_far context start cur inst near k u e in omega arith in
     let whole : pending new ≡ deadlines (waits (place_of old)) label_kinds (uses_of old ++ own) = pending_adds context inst old new p ∙ sym (deadlines_append (waits (place_of old)) label_kinds (uses_of old) own) in
     reach_from_slack cur (pending new) (subst (HasSlack cur 14) (sym whole) (slack_uses (waits (place_of old)) cur 14 (uses_of old) own far spare))
 

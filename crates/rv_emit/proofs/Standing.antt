@@ -23,8 +23,8 @@ use Rattle.mach_buffer.specs.Growth.{Lasts, RecordsLast}
 use Rattle.mach_buffer.specs.Pieces.{ByVeneer, UseFinished}
 use Rattle.mach_buffer.proofs.Laws.{recorded_at as use_recorded_at, lasts_more, lasts_bytes, lasts_record, piece_finished, use_finished, slice_get-append, slice_get-append_last}
 use Rattle.rv_emit.specs.InstParts.{wide_jump_to}
-use Rattle.rv_emit.specs.Slots.{Symbol, AddressOf, Target, Label, Own, Slot, Op, Aim, Data, Notes, Names, Allocate, Here, Fill, Address, upper_event, lower_event, address_event, Part, Ask, Slots, slot_size, size_of, own_label, label_of, uses_of, between, here_at, IsClosed, AreClosed, IsBlock, AreBlocks}
-use Rattle.rv_emit.specs.Sites.{Site, BytesAt, IsPlacedAt, CodeHas, LeadsOn, Leads, Reaches, AimsFrom, symbol_address, FillsFrom, StandsIn, GapIn, PartsStand}
+use Rattle.rv_emit.specs.Slots.{Symbol, AddressOf, Target, Label, Own, Slot, Op, Aim, Data, Notes, Names, Allocate, Here, Fill, Address, CallTo, upper_event, lower_event, address_event, call_event, Part, Ask, Slots, slot_size, size_of, own_label, label_of, uses_of, between, here_at, IsClosed, AreClosed, IsBlock, AreBlocks}
+use Rattle.rv_emit.specs.Sites.{Site, BytesAt, IsPlacedAt, CodeHas, LeadsOn, Leads, Reaches, AimsFrom, symbol_address, FillsFrom, LinksFrom, StandsIn, GapIn, PartsStand}
 use Rattle.rv_machine.specs.State.{Memory}
 use Rattle.rv_emit.specs.Images.{AllClear, FieldsEnd, FieldsStand, KeepsOutside, IsFilled}
 use Rattle.rv_emit.proofs.Fields.{clear_there, clear_later, slot_fields_end}
@@ -57,6 +57,7 @@ closed_even here at (Allocate ∷ slots) h = let r = closed_even here at slots h
 closed_even here at (Here k ∷ slots) h = let r = closed_even here at slots h in omega arith
 closed_even here at (Fill symbol upper lower ∷ slots) h = let r = closed_even here (at + 8) slots h in omega arith
 closed_even here at (Address name addend ∷ slots) h = let r = closed_even here (at + 8) slots h in omega arith
+closed_even here at (CallTo name ops ∷ slots) h = let r = closed_even here (at + 8) slots h in omega arith
 
 -- ---- reach
 
@@ -247,6 +248,23 @@ module _ (site : Site) (f : Shape LabelUse) (final : List ℕ) (fin : IsFinished
       subst (BytesAt mem (site.base + length s.bytes)) (filled.addresses (length s.records) (length s.bytes) name addend (recorded_at s s1 (address_event name addend) refl l1.records))
       (window_there mem site.base site.bytes (length s.bytes) 8 room placed.bytes)
 
+  -- two words that it fills as one
+  call_stands : IsFilled site final → (allocated : ℕ) (name : ExternalName) (ops : ℤ → List Decoded) (s mid : Shape LabelUse) → PutsSlot site.context.flags allocated (CallTo name ops) s mid → AllEnd label_kinds s → Lasts label_kinds mid f → length s.bytes + 8 ≤ length site.bytes → LinksFrom site (length s.bytes) name ops
+  call_stands filled allocated name ops s mid (code, is, e) ends lasts room =
+      let at = length s.bytes in
+      let s1 = with_record (call_event name) s in
+      let l2 : Lasts label_kinds (with_bytes code s1) f = subst (λ (x : Shape LabelUse). Lasts label_kinds x f) e lasts in
+      let l1 : Lasts label_kinds s1 f = lasts_more (lasts_bytes label_kinds code s1) l2 in
+      let a : length code ≡ 8 = is.long in
+      let x = filled.calls (length s.records) at name (recorded_at s s1 (call_event name) refl l1.records) in
+      let there : window final at 8 ≡ code = ap (window final at) (sym a) ∙ piece_finished s1 ends l2 fin.finishes in
+      record {
+        distance = x.distance;
+        near = x.near;
+        leads = x.leads;
+        has = code_has at 8 (ops x.distance) room (is.patched (window site.bytes at 8) x.distance (window_length site.bytes at 8 room) (window_fits site.bytes at 8 room keeps.bytes) (subst (λ w. SameOutside (marks_of PCRel32) w (window site.bytes at 8)) there x.kept) x.aims);
+      }
+
   stands : FieldsStand f → IsFilled site final → (allocated from : ℕ) (here : ℕ → Option ℕ) (new : Shape LabelUse) → ArePut f allocated from here new → (at : ℕ) (slots : List Slot) (s : Shape LabelUse) → Puts site.context.flags allocated slots s new → AreClosed here at slots → length s.bytes ≡ from + at → AllEnd label_kinds s → FieldsEnd s → StandsIn site allocated (length s.bytes) slots
   stands fields filled allocated from here new put at [] s p closed e ends kept = tt
   stands fields filled allocated from here new put at (Op d ∷ slots) s p closed e ends kept =
@@ -298,6 +316,12 @@ module _ (site : Site) (f : Shape LabelUse) (final : List ℕ) (fin : IsFinished
       let a = after_slot allocated (Address name addend) slots s p.0 new put.lasts p.1 p.2 in
       let long = a.long in (
         address_stands filled allocated name addend s p.0 p.1 a.lasts a.room,
+        subst (λ n. StandsIn site allocated n slots) long (stands fields filled allocated from here new put (at + 8) slots p.0 p.2 closed (omega arith) (a.ends ends) (a.fields kept)),
+      )
+  stands fields filled allocated from here new put at (CallTo name ops ∷ slots) s p closed e ends kept =
+      let a = after_slot allocated (CallTo name ops) slots s p.0 new put.lasts p.1 p.2 in
+      let long = a.long in (
+        call_stands filled allocated name ops s p.0 p.1 ends a.lasts a.room,
         subst (λ n. StandsIn site allocated n slots) long (stands fields filled allocated from here new put (at + 8) slots p.0 p.2 closed (omega arith) (a.ends ends) (a.fields kept)),
       )
 

@@ -30,7 +30,7 @@ use Rattle.rv_emit.specs.Emission.{PutsSlots, EmitsIn}
 use Rattle.rv_emit.specs.Emitted.{Buffer, pending, IsFarUse, AppendsInst, IslandIfNeeded, CanEmit}
 use Rattle.rv_emit.specs.Immediates.{upper_of, lower_of}
 use Rattle.rv_emit.specs.InstParts.{inline_slots, number_slots, table_slots, parts_of}
-use Rattle.rv_emit.specs.Slots.{Target, Label, Own, Ask, Slots, Slot, Op, Aim, Data, Notes, Names, Allocate, Here, Fill, Address, size_of, parts_size, uses_of, records_of, names_of}
+use Rattle.rv_emit.specs.Slots.{Target, Label, Own, Ask, Slots, Slot, Op, Aim, Data, Notes, Names, Allocate, Here, Fill, Address, CallTo, size_of, parts_size, uses_of, records_of, names_of}
 use Rattle.rv_emit.specs.Standing.{GapStandsIn, PartsIn}
 use Rattle.rv_emit.specs.Tables.{far_jump, jump_slots}
 use Rattle.rv_emit.proofs.FineOperands.{fine}
@@ -62,6 +62,7 @@ AreFar labels (Allocate ∷ slots) = ⊥
 AreFar labels (Here k ∷ slots) = ⊥
 AreFar labels (Fill symbol upper lower ∷ slots) = ⊥
 AreFar labels (Address name addend ∷ slots) = ⊥
+AreFar labels (CallTo name ops ∷ slots) = ⊥
 
 far_both : (labels : List MachLabel) (slots more : List Slot) → AreFar labels slots → AreFar labels more → AreFar labels (slots ++ more)
 far_both labels [] more a b = b
@@ -74,6 +75,7 @@ far_both labels (Allocate ∷ slots) more a b = absurd a
 far_both labels (Here k ∷ slots) more a b = absurd a
 far_both labels (Fill symbol upper lower ∷ slots) more a b = absurd a
 far_both labels (Address name addend ∷ slots) more a b = absurd a
+far_both labels (CallTo name ops ∷ slots) more a b = absurd a
 
 far_plain : (labels : List MachLabel) (slots : List Slot) → AreFar labels slots → IsPlain slots
 far_plain labels [] a = tt
@@ -86,6 +88,7 @@ far_plain labels (Allocate ∷ slots) a = absurd a
 far_plain labels (Here k ∷ slots) a = absurd a
 far_plain labels (Fill symbol upper lower ∷ slots) a = absurd a
 far_plain labels (Address name addend ∷ slots) a = absurd a
+far_plain labels (CallTo name ops ∷ slots) a = absurd a
 
 far_use : (labels : List MachLabel) (allocated at : ℕ) (label : MachLabel) (kind : LabelUse) → kind ≡ PCRel32 → IsIn labels label → IsFarUse labels (use_at at label kind)
 far_use labels allocated at label kind is i = subst (λ k. IsFarUse labels (use_at at label k)) (sym is) (record { far = refl; direct = refl; bare = refl; index = i.index; names = i.there })
@@ -102,6 +105,7 @@ far_uses labels allocated at (Allocate ∷ slots) a = absurd a
 far_uses labels allocated at (Here k ∷ slots) a = absurd a
 far_uses labels allocated at (Fill symbol upper lower ∷ slots) a = absurd a
 far_uses labels allocated at (Address name addend ∷ slots) a = absurd a
+far_uses labels allocated at (CallTo name ops ∷ slots) a = absurd a
 
 far_records : (labels : List MachLabel) (at : ℕ) (slots : List Slot) → AreFar labels slots → records_of at slots ≡ []
 far_records labels at [] a = refl
@@ -114,6 +118,7 @@ far_records labels at (Allocate ∷ slots) a = absurd a
 far_records labels at (Here k ∷ slots) a = absurd a
 far_records labels at (Fill symbol upper lower ∷ slots) a = absurd a
 far_records labels at (Address name addend ∷ slots) a = absurd a
+far_records labels at (CallTo name ops ∷ slots) a = absurd a
 
 far_names : (labels : List MachLabel) (named : List VCodeConstant) (slots : List Slot) → AreFar labels slots → names_of slots named ≡ named
 far_names labels named [] a = refl
@@ -126,6 +131,7 @@ far_names labels named (Allocate ∷ slots) a = absurd a
 far_names labels named (Here k ∷ slots) a = absurd a
 far_names labels named (Fill symbol upper lower ∷ slots) a = absurd a
 far_names labels named (Address name addend ∷ slots) a = absurd a
+far_names labels named (CallTo name ops ∷ slots) a = absurd a
 
 -- ---- those of a table
 
@@ -153,12 +159,12 @@ table_far flags index tmp1 tmp2 (default ∷ labels) =
 
 -- ---- what is added
 
--- an island where one is needed before the table, and then its words
-pub record AppendsTable (context : Context) (index : Reg) (tmp1 tmp2 : Writable Reg) (targets : List MachLabel) (old new : Buffer) : Type 0 where
+-- an island where one is needed before so many bytes, and then the words of an instruction
+pub record AppendsAfter (context : Context) (inst : Inst) (space : ℕ) (old new : Buffer) : Type 0 where
   pub mid : Buffer
   pub made : Bool
-  pub room : IslandIfNeeded (table_space (length targets)) old mid made
-  pub words : AppendsInst context (BrTable index tmp1 tmp2 targets) mid new
+  pub room : IslandIfNeeded space old mid made
+  pub words : AppendsInst context inst mid new
 
 appends_words : (context : Context) (index : Reg) (tmp1 tmp2 : Writable Reg) (targets : List MachLabel) (old new : Buffer) → 1 ≤ length targets → PutsSlots context.flags (table_slots context.flags (number_of index) (number_of tmp1.reg) (number_of tmp2.reg) targets) old new → AppendsInst context (BrTable index tmp1 tmp2 targets) old new
 appends_words context index tmp1 tmp2 targets old new some p = record {
@@ -198,7 +204,7 @@ appends_words context index tmp1 tmp2 targets old new some p = record {
     a : Adds (size_of slots) (uses_of allocated start slots) (records_of start slots) (shape_of old) (shape_of new)
     a = plain_adds flags allocated slots (shape_of old) (shape_of new) (far_plain targets slots far) p.puts
 
-pub appends_table : (context : Context) (setting : EmitVState) (index : Reg) (tmp1 tmp2 : Writable Reg) (targets : List MachLabel) (old new : Buffer) → 1 ≤ length targets → EmitsIn context setting (BrTable index tmp1 tmp2 targets) old new → AppendsTable context index tmp1 tmp2 targets old new
+pub appends_table : (context : Context) (setting : EmitVState) (index : Reg) (tmp1 tmp2 : Writable Reg) (targets : List MachLabel) (old new : Buffer) → 1 ≤ length targets → EmitsIn context setting (BrTable index tmp1 tmp2 targets) old new → AppendsAfter context (BrTable index tmp1 tmp2 targets) (table_space (length targets)) old new
 appends_table context setting index tmp1 tmp2 targets old new some (mid, made, room, (last, p, same)) = record {
   mid = mid;
   made = made;
@@ -207,21 +213,12 @@ appends_table context setting index tmp1 tmp2 targets old new some (mid, made, r
 }
 
 -- Reach holds after it
-pub reach_table : (context : Context) (index : Reg) (tmp1 tmp2 : Writable Reg) (targets : List MachLabel) (old new : Buffer) → 1 ≤ length targets → length targets ≤ 2 ^ 30 → AppendsTable context index tmp1 tmp2 targets old new → CanReach (length (bytes_of new)) (pending new)
+pub reach_table : (context : Context) (index : Reg) (tmp1 tmp2 : Writable Reg) (targets : List MachLabel) (old new : Buffer) → 1 ≤ length targets → length targets ≤ 2 ^ 30 → AppendsAfter context (BrTable index tmp1 tmp2 targets) (table_space (length targets)) old new → CanReach (length (bytes_of new)) (pending new)
 reach_table context index tmp1 tmp2 targets old new some few a =
     let long = bytes_put context (BrTable index tmp1 tmp2 targets) a.mid new a.words in
     let short = table_short context.flags (number_of index) (number_of tmp2.reg) (length targets) some few in
     reach_within (table_space (length targets)) a.mid new (calm_after (table_space (length targets)) old a.mid a.made a.room) (omega arith)
     (pending_adds context (BrTable index tmp1 tmp2 targets) a.mid new a.words ∙ append-nil (pending a.mid))
-
--- after an instruction that asks for an island
-pub reach_asking : (context : Context) (setting : EmitVState) (inst : Inst) (old new : Buffer) → CanEmit context inst old → is_some (island_space context inst) ≡ true → EmitsIn context setting inst old new → CanReach (length (bytes_of new)) (pending new)
-reach_asking context setting (EmitIsland space) old new can asks (mid, made, room, same) = subst (λ (b : Buffer). CanReach (length (bytes_of b)) (pending b)) (sym same) (reach_after_island space old mid made room (reach_calm old can.calm))
-reach_asking context setting (BrTable index tmp1 tmp2 targets) old new can asks e =
-    let some = (fine context (BrTable index tmp1 tmp2 targets) can.rule).4 in
-    let room = can.room in
-    reach_table context index tmp1 tmp2 targets old new some (omega arith) (appends_table context setting index tmp1 tmp2 targets old new some e)
-reach_asking context setting _ old new can asks e = absurd (cc)
 
 -- as many bytes as the instruction has
 pub table_parts_long : (context : Context) (setting : EmitVState) (index : Reg) (tmp1 tmp2 : Writable Reg) (targets : List MachLabel) → 1 ≤ length targets → parts_size (parts_of context setting (BrTable index tmp1 tmp2 targets)) ≡ table_size context.flags (number_of index) (number_of tmp2.reg) (length targets)

@@ -38,7 +38,7 @@ use Rattle.rv_emit.proofs.Chains.{goes_first, goes_second, goes_at_least}
 use Rattle.rv_emit.proofs.CodeSteps.{step_at, at_next, code_after, led_on, comes_goes}
 use Rattle.rv_emit.proofs.Distances.{lands}
 use Rattle.rv_emit.proofs.Exits.{starts_beside, goes_out, label_out, led_beside}
-use Rattle.rv_emit.proofs.ImmediateValues.{offset_sums}
+use Rattle.rv_emit.proofs.ImmediateValues.{address_sums}
 use Rattle.rv_emit.proofs.InstJumps.{moved_beside}
 use Rattle.rv_emit.proofs.Operands.{Keeps}
 use Rattle.rv_emit.proofs.Registers.{are_values_set, reads_back, reads_other, temporary_set, spare_set}
@@ -86,14 +86,10 @@ beside_spare {v = v} {s = s} pc n x high lt fits_pc fits b = record {
 within_splits : (from to : ℕ) → from < code_limit → to < code_limit → is_splittable (between from to) ≡ true
 within_splits from to near near_to = grind (arith, ints)
 
--- before a sum
-plus_before : (p a b o : ℕ) → wrap (wrap a + b) ≡ wrap o → wrap (wrap (p + a) + b) ≡ wrap (p + o)
-plus_before p a b o e = omega arith
-
 -- the upper and the lower immediate of a distance sum to it
 far_lands : (base from to : ℕ) → from < code_limit → to < code_limit → wrap (wrap (wrap (base + from) + low64 (upper_of (between from to)) * 2 ^ 12) + low64 (lower_of (between from to))) ≡ wrap (base + to)
 far_lands base from to near near_to =
-    plus_before (wrap (base + from)) (low64 (upper_of (between from to)) * 2 ^ 12) (low64 (lower_of (between from to))) (low64 (between from to)) (offset_sums (between from to) (within_splits from to near near_to))
+    address_sums (wrap (base + from)) (between from to) (within_splits from to near near_to)
     ∙ lands base from to (omega arith)
 
 -- an even address stays

@@ -16,7 +16,7 @@ use Rattle.rv_emit.specs.Choices.{extend_slots}
 use Rattle.rv_emit.specs.Immediates.{upper_of, lower_of}
 use Rattle.rv_emit.specs.InstParts.{inline_slots, number_slots, table_slots}
 use Rattle.rv_emit.specs.Operations.{jump_size}
-use Rattle.rv_emit.specs.Slots.{Label, Own, Slot, Op, Aim, Data, Notes, Names, Allocate, Here, Fill, Address, AreClosed, IsBlock, size_of}
+use Rattle.rv_emit.specs.Slots.{Label, Own, Slot, Op, Aim, Data, Notes, Names, Allocate, Here, Fill, Address, CallTo, AreClosed, IsBlock, size_of}
 use Rattle.rv_emit.specs.Tables.{far_jump, jump_slots}
 use Rattle.rv_emit.proofs.AddressRuns.{size_append}
 use Rattle.rv_emit.proofs.NumberSlots.{numbers, number_few as number_most}
@@ -38,6 +38,7 @@ AreEven (Allocate ∷ slots) = ⊥
 AreEven (Here k ∷ slots) = ⊥
 AreEven (Fill symbol upper lower ∷ slots) = AreEven slots
 AreEven (Address name addend ∷ slots) = AreEven slots
+AreEven (CallTo name ops ∷ slots) = AreEven slots
 
 pub even_plain : (slots : List Slot) → AreEven slots → IsPlain slots
 even_plain [] e = tt
@@ -51,6 +52,7 @@ even_plain (Allocate ∷ slots) e = absurd e
 even_plain (Here k ∷ slots) e = absurd e
 even_plain (Fill symbol upper lower ∷ slots) e = even_plain slots e
 even_plain (Address name addend ∷ slots) e = even_plain slots e
+even_plain (CallTo name ops ∷ slots) e = even_plain slots e
 
 pub even_closed : (here : ℕ → Option ℕ) (at : ℕ) (slots : List Slot) → AreEven slots → AreClosed here at slots
 even_closed here at [] e = tt
@@ -64,6 +66,7 @@ even_closed here at (Allocate ∷ slots) e = absurd e
 even_closed here at (Here k ∷ slots) e = absurd e
 even_closed here at (Fill symbol upper lower ∷ slots) e = even_closed here (at + 8) slots e
 even_closed here at (Address name addend ∷ slots) e = even_closed here (at + 8) slots e
+even_closed here at (CallTo name ops ∷ slots) e = even_closed here (at + 8) slots e
 
 even_both : (slots more : List Slot) → AreEven slots → AreEven more → AreEven (slots ++ more)
 even_both [] more e f = f
@@ -77,6 +80,7 @@ even_both (Allocate ∷ slots) more e f = absurd e
 even_both (Here k ∷ slots) more e f = absurd e
 even_both (Fill symbol upper lower ∷ slots) more e f = even_both slots more e f
 even_both (Address name addend ∷ slots) more e f = even_both slots more e f
+even_both (CallTo name ops ∷ slots) more e f = even_both slots more e f
 
 -- ---- the pieces of a branch by a table
 

@@ -17,6 +17,7 @@ use Rattle.rv_machine.specs.State.{signed}
 use Rattle.rv_encode.specs.Layouts.{IsUType, IsIType}
 use Rattle.rv_encode.specs.Operations.{row}
 use Rattle.rv_encode.proofs.Decoding.{opcode_decodes}
+use Rattle.rv_inst.specs.declared.label_use.LabelUse.{LabelUse}
 use Rattle.rv_inst.specs.declared.label_use.LabelUse.TheVariants.{PCRel32}
 use Rattle.rv_inst.specs.LabelUse.{Aims, marks_of}
 use Rattle.rv_inst.specs.LabelUseBridges.{with_immediate, PairDecodes}
@@ -24,7 +25,7 @@ use Rattle.rv_inst.specs.LabelUseWords.{word_at, word_bytes}
 use Rattle.rv_inst.specs.Uses.{use_at}
 use Rattle.rv_inst.proofs.Bridges.{decode-patched_pair}
 use Rattle.mach_buffer.specs.Buffer.{shape_of, bytes_of}
-use Rattle.mach_buffer.specs.Shape.{with_bytes, with_use}
+use Rattle.mach_buffer.specs.Shape.{Shape, with_bytes, with_use}
 use Rattle.rv_emit.specs.Emission.{PutsAlone, Emits}
 use Rattle.rv_emit.specs.Emitted.{Buffer, IsSoundBuffer, AppendsIsland, IslandIfNeeded, pending}
 use Rattle.rv_emit.specs.Immediates.{upper_of, lower_of}
@@ -58,7 +59,7 @@ use Rattle.rv_emit.proofs.VeneerRuns.{first_bytes}
 
 -- ---- a window of two words
 
--- the words of a far jump before its use is patched
+-- two words before a distance is patched in
 abbrev pub pair_bytes : ℕ → ℕ → List ℕ
 pair_bytes first second = word_bytes first ++ word_bytes second
 
@@ -85,8 +86,8 @@ jalr_decodes : (x : ℕ) → word_funct3 x ≡ 0 → by_opcode JALR x ≡ Some (
 jalr_decodes x z = rw z
 
 -- both words with a distance patched in
-pair_decodes : (flags : IsaFlags) (w x tmp : ℕ) (new : List ℕ) (d : ℤ) → w < 2 ^ 32 → x < 2 ^ 32 → IsUType w AUIPC tmp 0 → IsIType x JALR 0 0 tmp 0 → length new ≡ 8 → AllBytes new → SameOutside (marks_of PCRel32) (pair_bytes w x) new → Aims PCRel32 new d → PairDecodes flags (pair_bytes w x) new d
-pair_decodes flags w x tmp new d fw fx h g long all same aims =
+pair_decodes : (flags : IsaFlags) (w x link tmp : ℕ) (new : List ℕ) (d : ℤ) → w < 2 ^ 32 → x < 2 ^ 32 → IsUType w AUIPC tmp 0 → IsIType x JALR link 0 tmp 0 → length new ≡ 8 → AllBytes new → SameOutside (marks_of PCRel32) (pair_bytes w x) new → Aims PCRel32 new d → PairDecodes flags (pair_bytes w x) new d
+pair_decodes flags w x link tmp new d fw fx h g long all same aims =
     decode-patched_pair flags (pair_bytes w x) new d
     (let b = word_fits w fw in record { first = b.first; second = b.second; third = b.third; fourth = b.fourth }) (first_bytes new (omega arith) all)
     (let b = word_fits x fx in record { first = b.first; second = b.second; third = b.third; fourth = b.fourth }) (first_bytes (drop 4 new) (omega (arith, length-drop 4 new)) (rest_fits new 4 (omega arith) all))
@@ -101,36 +102,37 @@ upper_held {d = d} p fu fl =
     let m = subst (λ z. z ≤ℤ pos 2047) (sym p.lower_is) (lower_high _ fl) in
     (upper_is d p.upper p.lower a b l m p.sum, lower_is d p.upper p.lower a b l m p.sum)
 
-pub pair_patchable : (flags : IsaFlags) (w x tmp : ℕ) → w < 2 ^ 32 → x < 2 ^ 32 → IsUType w AUIPC tmp 0 → IsIType x JALR 0 0 tmp 0 → IsPatchable flags PCRel32 (pair_bytes w x) (λ d. row (Base base.Auipc) tmp 0 0 (upper_of d) ∷ decoded_jalr 0 tmp (lower_of d) ∷ [])
-pair_patchable flags w x tmp fw fx h g = record {
+pub pair_patchable : (flags : IsaFlags) (w x link tmp : ℕ) → w < 2 ^ 32 → x < 2 ^ 32 → IsUType w AUIPC tmp 0 → IsIType x JALR link 0 tmp 0 → IsPatchable flags PCRel32 (pair_bytes w x) (λ d. row (Base base.Auipc) tmp 0 0 (upper_of d) ∷ decoded_jalr link tmp (lower_of d) ∷ [])
+pair_patchable flags w x link tmp fw fx h g = record {
   long = refl;
   fresh = let a = h.imm_is in let b = g.imm_is in
       let f = upper_fresh w (omega arith) in let e = lower_fresh x (omega arith) in
       (f.0, (f.1.0, (f.1.1.0, (f.1.1.1.0, (e.0, (e.1.0, (e.1.1.0, (e.1.1.1.0, tt))))))));
   patched = λ new d long all same aims mem a there.
-      let p = pair_decodes flags w x tmp new d fw fx h g long all same aims in
+      let p = pair_decodes flags w x link tmp new d fw fx h g long all same aims in
       let held = upper_held p (omega arith) (omega arith) in
       let upper : decode flags (word_at new) ≡ Some (row (Base base.Auipc) tmp 0 0 (upper_of d)) = p.first ∙ ap (λ n. option_map (with_immediate p.upper) (decode flags n)) (first_back w x) ∙ ap (option_map (with_immediate p.upper)) (opcode_decodes flags w AUIPC h.opcode_is refl) ∙ (λ i. Some (row (Base base.Auipc) (h.rd_is i) 0 0 (sym held.0 i))) in
-      let lower : decode flags (word_at (drop 4 new)) ≡ Some (decoded_jalr 0 tmp (lower_of d)) = p.second ∙ ap (λ n. option_map (with_immediate p.lower) (decode flags n)) (second_back w x) ∙ ap (option_map (with_immediate p.lower)) (opcode_decodes flags x JALR g.opcode_is refl ∙ jalr_decodes x g.funct3_is) ∙ (λ i. Some (decoded_jalr (g.rd_is i) (g.rs1_is i) (sym held.1 i))) in (
+      let lower : decode flags (word_at (drop 4 new)) ≡ Some (decoded_jalr link tmp (lower_of d)) = p.second ∙ ap (λ n. option_map (with_immediate p.lower) (decode flags n)) (second_back w x) ∙ ap (option_map (with_immediate p.lower)) (opcode_decodes flags x JALR g.opcode_is refl ∙ jalr_decodes x g.funct3_is) ∙ (λ i. Some (decoded_jalr (g.rd_is i) (g.rs1_is i) (sym held.1 i))) in (
         ap (decode flags) (word_there mem a new (omega arith) there) ∙ upper,
         (ap (decode flags) (word_there mem (a + 4) (drop 4 new) (omega (arith, length-drop 4 new)) (rest_there mem a new 4 (omega arith) there)) ∙ lower, tt),
       );
 }
 
--- ---- a jump in eight bytes
-
 -- a word's bytes
-same_bytes : (x : ℕ) → x < 2 ^ 32 → to_le_bytes w32 x ≡ word_bytes x
+pub same_bytes : (x : ℕ) → x < 2 ^ 32 → to_le_bytes w32 x ≡ word_bytes x
 same_bytes x fits = let high : x / 16777216 % 256 ≡ x / 16777216 = omega arith in ap (λ n. x % 256 ∷ x / 256 % 256 ∷ x / 65536 % 256 ∷ n ∷ []) high
+
+-- two words that were put one after the other are put as one
+pub pair_joined : (w x : ℕ) (s mid t : Shape LabelUse) → mid ≡ with_bytes (word_bytes w) s → x < 2 ^ 32 → t ≡ with_bytes (to_le_bytes w32 x) mid → t ≡ with_bytes (pair_bytes w x) s
+pair_joined w x s mid t first fits second = second ∙ (λ i. with_bytes (same_bytes x fits i) (first i)) ∙ ap (λ b. record s { bytes = b }) (append_assoc s.bytes (word_bytes w) (word_bytes x))
+
+-- ---- a jump in eight bytes
 
 pub far_put : (flags : IsaFlags) (tmp : ℕ) (label : MachLabel) (old mid new : Buffer) (w x : ℕ) → IsPatchable flags PCRel32 (pair_bytes w x) (λ d. row (Base base.Auipc) tmp 0 0 (upper_of d) ∷ decoded_jalr 0 tmp (lower_of d) ∷ []) → shape_of mid ≡ with_bytes (word_bytes w) (with_use (use_at (length (bytes_of old)) label PCRel32) (shape_of old)) → x < 2 ^ 32 → shape_of new ≡ with_bytes (to_le_bytes w32 x) (shape_of mid) → IsSoundBuffer new → PutsAlone flags (far_jump tmp label ∷ []) old new
 far_put flags tmp label old mid new w x is first fits second sound = alone (record {
-  puts = (shape_of new, (pair_bytes w x, is, second ∙ (λ i. with_bytes (same_bytes x fits i) (first i)) ∙ joined), refl);
+  puts = (shape_of new, (pair_bytes w x, is, pair_joined w x (with_use (use_at (length (bytes_of old)) label PCRel32) (shape_of old)) (shape_of mid) (shape_of new) first fits second), refl);
   sound = sound;
 })
-  where
-    joined : with_bytes (word_bytes x) (with_bytes (word_bytes w) (with_use (use_at (length (bytes_of old)) label PCRel32) (shape_of old))) ≡ with_bytes (pair_bytes w x) (with_use (use_at (length (bytes_of old)) label PCRel32) (shape_of old))
-    joined = ap (λ b. record (with_use (use_at (length (bytes_of old)) label PCRel32) (shape_of old)) { bytes = b }) (append_assoc (bytes_of old) (word_bytes w) (word_bytes x))
 
 -- ---- the table
 

@@ -12,7 +12,8 @@ use Rattle.rv_inst.specs.declared.label_use.LabelUse.TheVariants.{Jal20}
 use Rattle.rv_inst.specs.LabelUse.{label_kinds, has_veneer_of}
 use Rattle.rv_inst.specs.LabelUseWords.{word_bytes}
 use Rattle.rv_inst.specs.Context.{Context}
-use Rattle.rv_inst.specs.Operands.{table_of, inst_ways, inst_constant}
+use Rattle.rv_inst.specs.Operands.{table_of, inst_ways, inst_constant, tail_call_of}
+use Rattle.rv_inst.specs.Frames.{is_bad_frame_for}
 use Rattle.rv_inst.specs.Rules.{inst_rule}
 use Rattle.rv_inst.specs.Sizes.{words_in, extent_of, line_space, island_space, inst_sum}
 use Rattle.rv_inst.specs.Records.{inst_records}
@@ -79,7 +80,7 @@ pub record IsFarUse (labels : List MachLabel) (u : Use LabelUse) : Type 0 where
 pub record AppendsInst (context : Context) (inst : Inst) (old new : Buffer) : Type 0 where
   pub code : List ℕ
   pub far : List (Use LabelUse)
-  pub adds : AppendsCode code (uses_in context (length (bytes_of old)) inst ++ far) old new
+  pub adds : AppendsCode code (uses_in context (length (bytes_of old)) (length (bytes_of new)) inst ++ far) old new
   pub table : (j : ℕ) (u : Use LabelUse) → slice_get far j ≡ Some u → IsFarUse (table_of inst) u
   pub records : records_of new ≡ records_of old ++ inst_records context (length (bytes_of old)) (length (bytes_of new)) inst
   pub named : named_of new ≡ named_by (inst_constant inst) (named_of old)
@@ -124,6 +125,7 @@ pub record IslandIfNeeded (distance : ℕ) (old new : Buffer) (made : Bool) : Ty
 pub record CanEmit (context : Context) (inst : Inst) (b : Buffer) : Type 0 where
   pub rule : inst_rule context inst ≡ None
   pub frame : sp_to_args_end context.frame < 2 ^ 31
+  pub restores : is_bad_frame_for context.frame (tail_call_of inst) ≡ false
   pub sound : IsSoundBuffer b
   pub calm : is_needed (length (bytes_of b)) line_space (pending b) ≡ false
   pub few : allocated_of b < 2 ^ 29

@@ -4,7 +4,7 @@ use Rattle.std.specs.Int.{to_le_bytes, w64}
 use Rattle.rv_base.specs.declared.external_name.ExternalName.{ExternalName}
 use Rattle.rv_base.specs.LabelUse.{SameOutside}
 use Rattle.mach_buffer.specs.declared.records.Event.{Event}
-use Rattle.mach_buffer.specs.declared.records.Event.TheVariants.{Trap, Reloc, Unwind}
+use Rattle.mach_buffer.specs.declared.records.Event.TheVariants.{Trap, Reloc, Unwind, CallSite, TryCallSite, PatchableCallSite, StackMap}
 use Rattle.mach_buffer.specs.declared.records.MachRecord.{MachRecord}
 use Rattle.mach_buffer.specs.declared.uses.Use.{Use}
 use Rattle.mach_buffer.specs.Shape.{Shape}
@@ -13,9 +13,9 @@ use Rattle.rv_machine.specs.State.{wrap, low64}
 use Rattle.rv_inst.specs.Addresses.{is_splittable}
 use Rattle.rv_inst.specs.Relocations.{field_size}
 use Rattle.rv_inst.specs.declared.label_use.LabelUse.{LabelUse}
-use Rattle.rv_inst.specs.declared.label_use.LabelUse.TheVariants.{PCRelHi20, PCRelLo12I}
+use Rattle.rv_inst.specs.declared.label_use.LabelUse.TheVariants.{PCRel32, PCRelHi20, PCRelLo12I}
 use Rattle.rv_inst.specs.LabelUse.{Aims, marks_of}
-use Rattle.rv_emit.specs.Slots.{Symbol, AddressOf, upper_event, lower_event, address_event}
+use Rattle.rv_emit.specs.Slots.{Symbol, AddressOf, upper_event, lower_event, address_event, call_event}
 use Rattle.rv_emit.specs.Puts.{AllBytes}
 use Rattle.rv_emit.specs.Sites.{Site, symbol_address}
 
@@ -26,11 +26,19 @@ abbrev pub EndsWithin : ℕ → ℕ → Event → Type 0
 EndsWithin size offset (Trap code) = Unit {0}
 EndsWithin size offset (Reloc kind target addend) = offset + field_size kind ≤ size
 EndsWithin size offset (Unwind inst) = Unit {0}
+EndsWithin size offset CallSite = Unit {0}
+EndsWithin size offset (TryCallSite to_fp handlers) = Unit {0}
+EndsWithin size offset (PatchableCallSite len) = Unit {0}
+EndsWithin size offset (StackMap span entries) = Unit {0}
 
 abbrev pub IsClear : ℕ → ℕ → ℕ → Event → Type 0
 IsClear from size offset (Trap code) = Unit {0}
 IsClear from size offset (Reloc kind target addend) = IsApart from size offset (field_size kind)
 IsClear from size offset (Unwind inst) = Unit {0}
+IsClear from size offset CallSite = Unit {0}
+IsClear from size offset (TryCallSite to_fp handlers) = Unit {0}
+IsClear from size offset (PatchableCallSite len) = Unit {0}
+IsClear from size offset (StackMap span entries) = Unit {0}
 
 -- those of all records do
 abbrev pub AllClear : List MachRecord → ℕ → ℕ → Type 0
@@ -66,7 +74,17 @@ pub record IsFilledWith (site : Site) (final : List ℕ) (at : ℕ) (symbol : Sy
   pub leads : wrap (site.base + at + low64 distance) ≡ symbol_address site symbol
   pub holds : HoldsDistance site final at distance
 
--- What relocations ask is filled: where two relocations of one distance follow each other, the distance to the symbol; and an address.
+-- the distance to a symbol is filled into the two words at an offset as one, and all other bits are as they were
+pub record IsLinkedWith (site : Site) (final : List ℕ) (at : ℕ) (name : ExternalName) : Type 0 where
+  pub distance : ℤ
+  pub near : is_splittable distance ≡ true
+  pub leads : wrap (site.base + at + low64 distance) ≡ symbol_address site (AddressOf name (pos 0))
+  pub aims : Aims PCRel32 (window site.bytes at 8) distance
+  pub kept : SameOutside (marks_of PCRel32) (window final at 8) (window site.bytes at 8)
+
+-- What relocations ask is filled: where two relocations of one distance follow each other, the distance to the symbol; an address;
+-- and the distance of a call.
 pub record IsFilled (site : Site) (final : List ℕ) : Type 0 where
   pub distances : (j k at : ℕ) (symbol : Symbol) → slice_get site.records j ≡ Some (record { offset = at; event = upper_event symbol }) → slice_get site.records k ≡ Some (record { offset = at + 4; event = lower_event at }) → IsFilledWith site final at symbol
   pub addresses : (k at : ℕ) (name : ExternalName) (addend : ℤ) → slice_get site.records k ≡ Some (record { offset = at; event = address_event name addend }) → window site.bytes at 8 ≡ to_le_bytes w64 (symbol_address site (AddressOf name addend))
+  pub calls : (k at : ℕ) (name : ExternalName) → slice_get site.records k ≡ Some (record { offset = at; event = call_event name }) → IsLinkedWith site final at name

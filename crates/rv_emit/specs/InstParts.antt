@@ -1,11 +1,17 @@
 -- The parts of each instruction's code: links of the proof.
 use Rattle.std.specs.Prelude.{ℕ, ◌+◌, ◌*◌, ◌%◌, ◌^◌, ◌==◌, ◌&&◌, Bool, false, if◌then◌else◌, List, [], ◌∷◌, ◌++◌, map, length, Option, Some, None, ℤ, pos, true}
 use Rattle.std.specs.Int.{to_le_bytes, cast_signed, w32, w64}
+use Rattle.rv_base.specs.declared.call.CallInfo.{CallInfo}
+use Rattle.rv_base.specs.declared.call.TryCallInfo.{TryCallInfo}
+use Rattle.rv_base.specs.declared.call.UserStackMap.{UserStackMap}
 use Rattle.rv_base.specs.declared.flags.IsaFlags.{IsaFlags}
+use Rattle.rv_base.specs.declared.frame.FrameLayout.{FrameLayout}
 use Rattle.rv_base.specs.declared.ir_type.IrType.{IrType}
 use Rattle.rv_base.specs.declared.label.MachLabel.{MachLabel}
 use Rattle.rv_base.specs.declared.external_name.ExternalName.{ExternalName}
+use Rattle.rv_base.specs.declared.regs.Reg.{Reg}
 use Rattle.rv_base.specs.declared.trap.TrapCode.{TrapCode}
+use Rattle.rv_base.specs.Frame.{sp_to_fp_of}
 use Rattle.rv_base.specs.IrType.{bits_of}
 use Rattle.rv_base.specs.Regs.{number_of}
 use Rattle.rv_ops.specs.declared.alu.AluOPRRR.TheVariants as rrr
@@ -15,9 +21,11 @@ use Rattle.rv_ops.specs.declared.memory.LoadOP.TheVariants as loads
 use Rattle.rv_ops.specs.declared.memory.StoreOP.{StoreOP}
 use Rattle.rv_ops.specs.declared.compare.IntegerCompare.{IntegerCompare}
 use Rattle.rv_inst.specs.Context.{Context}
-use Rattle.rv_inst.specs.Sizes.{trap_size, table_space, bit_shift}
+use Rattle.rv_inst.specs.Returns.{StackLoad, restores, frame_above}
+use Rattle.rv_inst.specs.Records.{site_event}
+use Rattle.rv_inst.specs.Sizes.{trap_size, table_space, bit_shift, fall, call_size, return_size}
 use Rattle.rv_inst.specs.declared.inst.Inst.{Inst}
-use Rattle.rv_inst.specs.declared.inst.Inst.TheVariants.{Nop0, Nop4, EBreak, SequencePoint, Args, Rets, DummyUse, EmitIsland, RawData, Lui, Auipc, LoadInlineConst, AluRRR, AluRRImm12, Mov, MovFromPReg, Extend, Select, Load, Store, LoadAddr, LabelAddress, Ret, TrapIf, Jal, CondBr, BrTable, Udf, Jalr, Popcnt, Cltz, Brev8, StackProbeLoop, LoadExtNameGot, LoadExtNameNear, LoadExtNameFar, Unwind}
+use Rattle.rv_inst.specs.declared.inst.Inst.TheVariants.{Nop0, Nop4, EBreak, SequencePoint, Args, Rets, DummyUse, EmitIsland, RawData, Lui, Auipc, LoadInlineConst, AluRRR, AluRRImm12, Mov, MovFromPReg, Extend, Select, Load, Store, LoadAddr, LabelAddress, Ret, TrapIf, Jal, CondBr, BrTable, Udf, Jalr, Popcnt, Cltz, Brev8, StackProbeLoop, LoadExtNameGot, LoadExtNameNear, LoadExtNameFar, Call, CallInd, ReturnCall, ReturnCallInd, Unwind}
 use Rattle.rv_inst.specs.declared.inst.CondBrTarget.{CondBrTarget}
 use Rattle.rv_inst.specs.declared.inst.CondBrTarget.TheVariants.{Label as ToLabel, Fallthrough}
 use Rattle.rv_inst.specs.declared.label_use.LabelUse.TheVariants.{Jal20, B12, PCRelHi20, PCRelLo12I}
@@ -32,13 +40,13 @@ use Rattle.rv_inst.specs.Addresses.{Location, Based, AtLabel, AtConstant, locati
 use Rattle.rv_emit.specs.Immediates.{upper_of, lower_of, upper_of_distance, lower_of_distance}
 use Rattle.mach_buffer.specs.declared.records.Event.TheVariants as event
 use Rattle.rv_emit.specs.declared.state.EmitVState.{EmitVState}
-use Rattle.rv_emit.specs.Operations.{decoded_addi, decoded_jump, short_jump, jump_size}
+use Rattle.rv_emit.specs.Operations.{decoded_addi, decoded_jalr, decoded_jump, short_jump, jump_size}
 use Rattle.rv_emit.specs.Counts.{start_ops, turn_ops}
 pub use Rattle.rv_emit.specs.Choices.{complement, move_slots, extend_slots, select_slots}
 use Rattle.rv_emit.specs.Loops.{reverse_start, reverse_turn}
 use Rattle.rv_emit.specs.Probes.{probe_turn}
 use Rattle.rv_emit.specs.Tables.{jump_slots}
-use Rattle.rv_emit.specs.Slots.{AddressOf, SlotOf, Target, Label, Slot, Op, Aim, Data, Notes, Names, Fill, Address, Part, Ask, Slots}
+use Rattle.rv_emit.specs.Slots.{AddressOf, SlotOf, Target, Label, Slot, Op, Aim, Data, Notes, Names, Fill, Address, CallTo, Part, Ask, Slots}
 
 -- ---- jumps
 
@@ -191,6 +199,71 @@ near_slots rd name offset = Fill (AddressOf name offset) (λ d. row (Base base.A
 abbrev pub far_slots : IsaFlags → ℕ → ExternalName → ℤ → List Slot
 far_slots flags rd name offset = load_over flags rd loads.Ld 8 ++ Address name offset ∷ []
 
+-- ---- tail calls
+
+-- loads from the stack, one after the other
+abbrev pub stack_load_slots : IsaFlags → List StackLoad → List Slot
+stack_load_slots flags [] = []
+stack_load_slots flags (l ∷ loads) = load_slots flags l.register l.op None (Based 2 l.offset) ++ stack_load_slots flags loads
+
+-- the stack pointer rises: by addi, or by a number in x31; not at all by 0
+abbrev pub far_step_slots : IsaFlags → ℤ → List Slot
+far_step_slots flags z = number_slots flags 31 z ++ Op (short_rrr flags rrr.Add 2 2 31) ∷ []
+
+abbrev pub stack_step_slots : IsaFlags → ℤ → List Slot
+stack_step_slots flags z =
+    if low64 z == 0 then [] else
+    if is_near z then Op (short_rri flags rri.Addi 2 2 z) ∷ [] else
+    far_step_slots flags z
+
+-- a frame is taken away
+abbrev pub return_slots : IsaFlags → FrameLayout → ℕ → List Slot
+return_slots flags frame arguments = stack_load_slots flags (restores frame) ++ stack_step_slots flags (pos (frame_above frame arguments))
+
+-- to a symbol by the distance to it, by way of a register; another one is the address after it
+abbrev pub call_to : ℕ → ℕ → ExternalName → Slot
+call_to link tmp name = CallTo name (λ d. row (Base base.Auipc) tmp 0 0 (upper_of d) ∷ decoded_jalr link tmp (lower_of d) ∷ [])
+
+-- and then a jump goes on: to a symbol by way of x31, at a call site; or to the address in t0
+abbrev pub tail_slots : IsaFlags → FrameLayout → ℕ → ExternalName → List Slot
+tail_slots flags frame arguments name = return_slots flags frame arguments ++ Notes event.CallSite ∷ call_to 0 31 name ∷ []
+
+abbrev pub t0_slots : IsaFlags → FrameLayout → ℕ → List Slot
+t0_slots flags frame arguments = return_slots flags frame arguments ++ Op (short_jalr flags 0 5 (pos 0)) ∷ []
+
+-- ---- calls that return
+
+-- the stack pointer falls by what the callee took away
+abbrev pub after_call : IsaFlags → ℕ → List Slot
+after_call flags popped = stack_step_slots flags (fall popped)
+
+-- the record of a call of so many bytes that may be patched, where it is one
+abbrev pub patch_notes : Bool → ℕ → List Slot
+patch_notes false size = []
+patch_notes true size = Notes (event.PatchableCallSite size) ∷ []
+
+-- the records of a call where it returns: the values on the stack, where it has a map of them; and the call site, with the handlers
+-- where it has some
+abbrev pub map_notes : FrameLayout → Option UserStackMap → List Slot
+map_notes frame None = []
+map_notes frame (Some entries) = Notes (event.StackMap (sp_to_fp_of frame) entries) ∷ []
+
+abbrev pub return_notes : FrameLayout → Option UserStackMap → Option TryCallInfo → List Slot
+return_notes frame entries t = map_notes frame entries ++ Notes (site_event frame t) ∷ []
+
+-- a call that ends its block goes on by a jump
+abbrev pub try_slots : IsaFlags → Option TryCallInfo → List Slot
+try_slots flags None = []
+try_slots flags (Some t) = jump_to flags (Label t.continuation) ∷ []
+
+-- to a symbol, by way of ra, which links
+abbrev pub call_slots : IsaFlags → FrameLayout → CallInfo ExternalName → List Slot
+call_slots flags frame info = call_to 1 1 info.dest ∷ return_notes frame info.stack_map info.try_call_info ++ (after_call flags info.callee_pop_size ++ (patch_notes info.patchable (call_size flags 8 info.callee_pop_size) ++ try_slots flags info.try_call_info))
+
+-- to an address in a register
+abbrev pub call_ind_slots : IsaFlags → FrameLayout → CallInfo Reg → List Slot
+call_ind_slots flags frame info = Op (short_jalr flags 1 (number_of info.dest) (pos 0)) ∷ return_notes frame info.stack_map info.try_call_info ++ (after_call flags info.callee_pop_size ++ try_slots flags info.try_call_info)
+
 -- slots alone
 abbrev pub slots_alone : List Slot → List Part
 slots_alone slots = Slots slots ∷ []
@@ -214,7 +287,7 @@ parts_of context setting (AluRRImm12 op rd rs imm) = slots_alone (Op (short_rri 
 parts_of context setting (Mov rd rm type) = slots_alone (move_slots context.flags (number_of rd.reg) (number_of rm))
 parts_of context setting (MovFromPReg rd rm) = slots_alone (move_slots context.flags (number_of rd.reg) rm.number)
 parts_of context setting (Extend rd rn signed from_bits to_bits) = slots_alone (extend_slots context.flags (number_of rd.reg) (number_of rn) signed from_bits)
-parts_of context setting (Select dst condition x y) = slots_alone (select_slots context.flags dst condition x y)
+parts_of context setting (Select info) = slots_alone (select_slots context.flags info.dst info.condition info.x info.y)
 parts_of context setting (Load rd op flags from) = slots_alone (load_slots context.flags (number_of rd.reg) op flags.trap (location_of context.frame from))
 parts_of context setting (Store to op flags src) = slots_alone (store_slots context.flags op (number_of src) flags.trap (location_of context.frame to))
 parts_of context setting (LoadAddr rd mem) = slots_alone (address_slots context.flags (number_of rd.reg) (location_of context.frame mem))
@@ -233,4 +306,8 @@ parts_of context setting (StackProbeLoop guard_size probe_count tmp) = slots_alo
 parts_of context setting (LoadExtNameGot rd name) = slots_alone (got_slots (number_of rd.reg) name)
 parts_of context setting (LoadExtNameNear rd name offset) = slots_alone (near_slots (number_of rd.reg) name offset)
 parts_of context setting (LoadExtNameFar rd name offset) = slots_alone (far_slots context.flags (number_of rd.reg) name offset)
+parts_of context setting (Call info) = slots_alone (call_slots context.flags context.frame info)
+parts_of context setting (CallInd info) = slots_alone (call_ind_slots context.flags context.frame info)
+parts_of context setting (ReturnCall info) = Ask (return_size context.flags context.frame info.new_stack_arg_size + 8) ∷ Slots (tail_slots context.flags context.frame info.new_stack_arg_size info.dest) ∷ []
+parts_of context setting (ReturnCallInd info) = Ask (return_size context.flags context.frame info.new_stack_arg_size + 4) ∷ Slots (t0_slots context.flags context.frame info.new_stack_arg_size) ∷ []
 parts_of context setting (Unwind inst) = slots_alone (Notes (event.Unwind inst) ∷ [])

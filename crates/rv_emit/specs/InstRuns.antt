@@ -1,12 +1,14 @@
 -- What it is for the parts of an instruction to run as the instruction means: links of the proof.
-use Rattle.std.specs.Prelude.{◌≡◌, ℕ, ◌+◌, ◌%◌, ◌<◌, ◌≤◌, List, length, Some, None, unwrap_or}
+use Rattle.std.specs.Prelude.{◌≡◌, ℕ, ◌+◌, ◌%◌, ◌<◌, ◌≤◌, List, [], length, Some, None, unwrap_or}
 use Rattle.rv_base.specs.LabelUse.{code_limit}
 use Rattle.mach_labels.specs.Table.{first_constant}
 use Rattle.rv_machine.specs.Decode.{decode}
 use Rattle.rv_machine.specs.State.{State, IsState, Values, AreValues, wrap}
 use Rattle.rv_machine.specs.Steps.{fetch, iter, IsBreak}
 use Rattle.rv_inst.specs.declared.inst.Inst.{Inst}
-use Rattle.rv_inst.specs.Meaning.{Environment, Exit, Next, To, Leave, Break, Trap, Data, inst_exit, inst_effect, inst_writes, inst_temporaries, AreOutside}
+use Rattle.rv_inst.specs.Calls.{Return}
+use Rattle.rv_inst.specs.Operands.{try_call_of}
+use Rattle.rv_inst.specs.Meaning.{resumed, try_exit, Environment, Exit, Next, To, Leave, Break, Trap, Data, inst_exit, inst_effect, inst_writes, inst_temporaries, AreOutside}
 use Rattle.rv_inst.specs.SameValues.{Same, SameBut}
 use Rattle.rv_emit.specs.declared.state.EmitVState.{EmitVState}
 use Rattle.mach_buffer.specs.declared.records.Event.TheVariants as event
@@ -63,7 +65,23 @@ pub record ComesOut (site : Site) (start after : ℕ) (exit : Exit) (free : List
 -- what the parts of an instruction are read among that stand between two offsets; a label that isn't bound, and a constant whose
 -- label isn't, is at the base
 abbrev pub environment : Site → ℕ → ℕ → Environment
-environment site start after = record { start = wrap (site.base + start); after = wrap (site.base + after); label = λ label. wrap (site.base + unwrap_or (site.place label) 0); constant = λ number. wrap (site.base + unwrap_or (site.place (first_constant + number)) 0); frame = site.context.frame; symbol = site.symbol; slot = site.slot }
+environment site start after = record { start = wrap (site.base + start); after = wrap (site.base + after); label = λ label. wrap (site.base + unwrap_or (site.place label) 0); constant = λ number. wrap (site.base + unwrap_or (site.place (first_constant + number)) 0); flags = site.context.flags; frame = site.context.frame; symbol = site.symbol; slot = site.slot }
+
+-- a machine where a call returns, at an offset within its parts, beside the values that its callee returns with
+pub record Resumes (site : Site) (start after from : ℕ) (parts : List Part) (s : State) (v : Values) : Type 0 where
+  pub even : start % 2 ≡ 0
+  pub within : after ≤ length site.bytes
+  pub short : length site.bytes < code_limit
+  pub stands : PartsStand site start after parts
+  pub placed : IsPlacedAt site s.values.mem
+  pub pc : s.pc ≡ wrap (site.base + from)
+  pub is_state : IsState s
+  pub are_values : AreValues v
+  pub same : Same v s.values
+
+-- what is left of a call then runs as the call means, wherever it stands in the code
+pub record ResumesIn (site : Site) (setting : EmitVState) (inst : Inst) (r : Return) : Type 0 where
+  pub run : (start after : ℕ) (s : State) (v : Values) → Resumes site start after (start + r.offset) (parts_of site.context setting inst) s v → ComesOut site start after (try_exit (try_call_of inst)) [] (resumed r.popped v) s
 
 -- the parts of an instruction run as it means, wherever they stand in the code, where it writes no byte of the code
 pub record RunsIn (site : Site) (setting : EmitVState) (inst : Inst) : Type 0 where

@@ -5,13 +5,13 @@ use Rattle.rv_base.specs.LabelUse.{IsFresh, SameOutside}
 use Rattle.rv_machine.specs.declared.decoding.Decoded.{Decoded}
 use Rattle.rv_machine.specs.State.{Memory}
 use Rattle.rv_inst.specs.declared.label_use.LabelUse.{LabelUse}
-use Rattle.rv_inst.specs.declared.label_use.LabelUse.TheVariants.{PCRelHi20, PCRelLo12I}
+use Rattle.rv_inst.specs.declared.label_use.LabelUse.TheVariants.{PCRel32, PCRelHi20, PCRelLo12I}
 use Rattle.mach_buffer.specs.declared.records.Event.{Event}
 use Rattle.mach_buffer.specs.declared.records.Event.TheVariants as event
 use Rattle.rv_inst.specs.LabelUse.{Aims, marks_of}
 use Rattle.rv_inst.specs.Uses.{use_at}
 use Rattle.mach_buffer.specs.Shape.{Shape, with_bytes, with_use, with_label, with_allocated, with_record, with_named}
-use Rattle.rv_emit.specs.Slots.{Slot, Op, Aim, Data, Notes, Names, Allocate, Here, Fill, Address, own_label, label_of, upper_event, lower_event, address_event}
+use Rattle.rv_emit.specs.Slots.{Slot, Op, Aim, Data, Notes, Names, Allocate, Here, Fill, Address, CallTo, own_label, label_of, upper_event, lower_event, address_event, call_event}
 use Rattle.rv_emit.specs.Sites.{BytesAt, HasOps}
 
 -- all are bytes
@@ -33,6 +33,10 @@ abbrev pub AsksNothing : Event → Type 0
 AsksNothing (event.Trap code) = Unit {0}
 AsksNothing (event.Reloc kind target addend) = ⊥
 AsksNothing (event.Unwind inst) = Unit {0}
+AsksNothing event.CallSite = Unit {0}
+AsksNothing (event.TryCallSite to_fp handlers) = Unit {0}
+AsksNothing (event.PatchableCallSite len) = Unit {0}
+AsksNothing (event.StackMap span entries) = Unit {0}
 
 -- eight bytes that aren't filled yet
 abbrev pub eight_zeros : List ℕ
@@ -49,6 +53,7 @@ PutsSlot flags allocated Allocate s t = t ≡ with_allocated s
 PutsSlot flags allocated (Here k) s t = (s.place (own_label allocated k).number ≡ None) × (t ≡ with_label (own_label allocated k) s)
 PutsSlot flags allocated (Fill symbol upper lower) s t = (first : List ℕ) × (second : List ℕ) × IsPatchable flags PCRelHi20 first upper × IsPatchable flags PCRelLo12I second lower × (t ≡ with_bytes second (with_record (lower_event (length s.bytes)) (with_bytes first (with_record (upper_event symbol) s))))
 PutsSlot flags allocated (Address name addend) s t = t ≡ with_bytes eight_zeros (with_record (address_event name addend) s)
+PutsSlot flags allocated (CallTo name ops) s t = (code : List ℕ) × IsPatchable flags PCRel32 code ops × (t ≡ with_bytes code (with_record (call_event name) s))
 
 -- slots were put one after the other
 abbrev pub Puts : IsaFlags → ℕ → List Slot → Shape LabelUse → Shape LabelUse → Type 0

@@ -1,6 +1,7 @@
 -- Finished code that stands in the memory, and an instruction's parts in it.
 use Rattle.std.specs.Prelude.{◌≡◌, ℕ, ◌+◌, ◌%◌, ◌^◌, ◌<◌, ◌≤◌, Bool, true, false, List, [], ◌∷◌, length, Option, Some, ℤ, pos, ◌-ℤ◌, slice_index}
 use Rattle.rv_base.specs.declared.flags.IsaFlags.{IsaFlags}
+use Rattle.rv_base.specs.declared.external_name.ExternalName.{ExternalName}
 use Rattle.rv_base.specs.declared.label.MachLabel.{MachLabel}
 use Rattle.mach_buffer.specs.declared.records.MachRecord.{MachRecord}
 use Rattle.rv_machine.specs.declared.decoding.Decoded.{Decoded}
@@ -15,7 +16,7 @@ use Rattle.rv_inst.specs.declared.label_use.LabelUse.{LabelUse}
 use Rattle.rv_inst.specs.LabelUse.{marks_of, has_veneer_of}
 use Rattle.rv_inst.specs.Addresses.{is_splittable}
 use Rattle.rv_inst.specs.SameValues.{Same}
-use Rattle.rv_emit.specs.Slots.{Target, Label, Own, Slot, Op, Aim, Data, Notes, Names, Allocate, Here, Fill, Address, Part, Ask, Slots, size_of, own_label, between}
+use Rattle.rv_emit.specs.Slots.{Target, Label, Own, Slot, Op, Aim, Data, Notes, Names, Allocate, Here, Fill, Address, CallTo, Part, Ask, Slots, size_of, own_label, between}
 
 -- ---- code in the memory
 
@@ -100,6 +101,13 @@ pub record FillsFrom (site : Site) (at : ℕ) (symbol : Symbol) (upper lower : �
   pub has_upper : CodeHas site at (upper distance)
   pub has_lower : CodeHas site (at + 4) (lower (distance -ℤ pos 4))
 
+-- two words go by the distance from the first to a symbol
+pub record LinksFrom (site : Site) (at : ℕ) (name : ExternalName) (ops : ℤ → List Decoded) : Type 0 where
+  pub distance : ℤ
+  pub near : is_splittable distance ≡ true
+  pub leads : wrap (site.base + at + low64 distance) ≡ symbol_address site (AddressOf name (pos 0))
+  pub has : CodeHas site at (ops distance)
+
 -- slots stand in the code from an offset on, where so many labels were allocated before them
 abbrev pub StandsIn : Site → ℕ → ℕ → List Slot → Type 0
 StandsIn site allocated at [] = Unit {0}
@@ -112,6 +120,7 @@ StandsIn site allocated at (Allocate ∷ slots) = StandsIn site allocated at slo
 StandsIn site allocated at (Here k ∷ slots) = (site.place (own_label allocated k).number ≡ Some at) × StandsIn site allocated at slots
 StandsIn site allocated at (Fill symbol upper lower ∷ slots) = FillsFrom site at symbol upper lower × StandsIn site allocated (at + 8) slots
 StandsIn site allocated at (Address name addend ∷ slots) = ((mem : Memory) → IsPlacedAt site mem → BytesAt mem (site.base + at) (to_le_bytes w64 (symbol_address site (AddressOf name addend)))) × StandsIn site allocated (at + 8) slots
+StandsIn site allocated at (CallTo name ops ∷ slots) = LinksFrom site at name ops × StandsIn site allocated (at + 8) slots
 
 -- nothing stands between two offsets, or what leads on
 pub record GapIn (site : Site) (from to : ℕ) : Type 0 where

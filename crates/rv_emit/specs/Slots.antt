@@ -2,7 +2,7 @@
 use Rattle.std.specs.Prelude.{◌≡◌, ℕ, ◌+◌, ◌%◌, ◌≤◌, nat_eq, if◌then◌else◌, List, [], ◌∷◌, length, Option, Some, None, ℤ, pos, ◌-ℤ◌}
 use Rattle.rv_base.specs.declared.label.MachLabel.{MachLabel}
 use Rattle.rv_base.specs.declared.external_name.ExternalName.{ExternalName}
-use Rattle.rv_base.specs.declared.reloc.Reloc.TheVariants.{RiscvGotHi20, RiscvPCRelHi20, RiscvPCRelLo12I, Abs8}
+use Rattle.rv_base.specs.declared.reloc.Reloc.TheVariants.{RiscvCallPlt, RiscvGotHi20, RiscvPCRelHi20, RiscvPCRelLo12I, Abs8}
 use Rattle.rv_base.specs.declared.constant.VCodeConstant.{VCodeConstant}
 use Rattle.mach_labels.specs.Table.{first_inner}
 use Rattle.rv_machine.specs.declared.decoding.Decoded.{Decoded}
@@ -29,7 +29,8 @@ pub data Symbol : Type 0 where
 -- an operation of the machine; the window of a use of a label, with its operations by the distance that it holds; bytes that
 -- are no code; the record of an event here; a constant that is named; an own label that is allocated; one that is bound here; two
 -- words that a linker fills with the upper and the lower part of the distance to a symbol, each with its operations by the
--- distance from its own place; or eight bytes that it fills with a symbol's address plus a number
+-- distance from its own place; eight bytes that it fills with a symbol's address plus a number; or eight bytes, of two instructions that go
+-- to a symbol, that it fills with the distance to the symbol, with its operations by that distance
 pub data Slot : Type 0 where
   Op : Decoded → Slot
   Aim : LabelUse → Target → (ℤ → List Decoded) → Slot
@@ -40,6 +41,7 @@ pub data Slot : Type 0 where
   Here : ℕ → Slot
   Fill : Symbol → (ℤ → List Decoded) → (ℤ → List Decoded) → Slot
   Address : ExternalName → ℤ → Slot
+  CallTo : ExternalName → (ℤ → List Decoded) → Slot
 
 -- an island where one is needed before so many bytes, or slots
 pub data Part : Type 0 where
@@ -58,6 +60,7 @@ slot_size Allocate = 0
 slot_size (Here k) = 0
 slot_size (Fill symbol upper lower) = 8
 slot_size (Address name addend) = 8
+slot_size (CallTo name ops) = 8
 
 abbrev pub size_of : List Slot → ℕ
 size_of [] = 0
@@ -91,6 +94,7 @@ allocations (Allocate ∷ slots) = 1 + allocations slots
 allocations (Here k ∷ slots) = allocations slots
 allocations (Fill symbol upper lower ∷ slots) = allocations slots
 allocations (Address name addend ∷ slots) = allocations slots
+allocations (CallTo name ops ∷ slots) = allocations slots
 
 -- the uses of slots that begin at an offset
 abbrev pub uses_of : ℕ → ℕ → List Slot → List (Use LabelUse)
@@ -104,9 +108,10 @@ uses_of allocated at (Allocate ∷ slots) = uses_of allocated at slots
 uses_of allocated at (Here k ∷ slots) = uses_of allocated at slots
 uses_of allocated at (Fill symbol upper lower ∷ slots) = uses_of allocated (at + 8) slots
 uses_of allocated at (Address name addend ∷ slots) = uses_of allocated (at + 8) slots
+uses_of allocated at (CallTo name ops ∷ slots) = uses_of allocated (at + 8) slots
 
 -- the relocations of two words that hold the distance to a symbol: of its upper part, and of its lower part, which names the place of
--- the first word; and of eight bytes that hold an address
+-- the first word; of eight bytes that hold an address; and of two words that hold the distance to a symbol as one
 abbrev pub upper_event : Symbol → Event
 upper_event (AddressOf name addend) = event.Reloc RiscvPCRelHi20 (target.ExternalName name) addend
 upper_event (SlotOf name) = event.Reloc RiscvGotHi20 (target.ExternalName name) (pos 0)
@@ -116,6 +121,9 @@ lower_event at = event.Reloc RiscvPCRelLo12I (target.Func at) (pos 0)
 
 abbrev pub address_event : ExternalName → ℤ → Event
 address_event name addend = event.Reloc Abs8 (target.ExternalName name) addend
+
+abbrev pub call_event : ExternalName → Event
+call_event name = event.Reloc RiscvCallPlt (target.ExternalName name) (pos 0)
 
 -- the records of slots that begin at an offset
 abbrev pub records_of : ℕ → List Slot → List MachRecord
@@ -129,6 +137,7 @@ records_of at (Allocate ∷ slots) = records_of at slots
 records_of at (Here k ∷ slots) = records_of at slots
 records_of at (Fill symbol upper lower ∷ slots) = record { offset = at; event = upper_event symbol } ∷ record { offset = at + 4; event = lower_event at } ∷ records_of (at + 8) slots
 records_of at (Address name addend ∷ slots) = record { offset = at; event = address_event name addend } ∷ records_of (at + 8) slots
+records_of at (CallTo name ops ∷ slots) = record { offset = at; event = call_event name } ∷ records_of (at + 8) slots
 
 -- the constants that are named, once slots name theirs
 abbrev pub names_of : List Slot → List VCodeConstant → List VCodeConstant
@@ -142,6 +151,7 @@ names_of (Allocate ∷ slots) named = names_of slots named
 names_of (Here k ∷ slots) named = names_of slots named
 names_of (Fill symbol upper lower ∷ slots) named = names_of slots named
 names_of (Address name addend ∷ slots) named = names_of slots named
+names_of (CallTo name ops ∷ slots) named = names_of slots named
 
 -- ---- distances
 
@@ -163,6 +173,7 @@ here_at k at (Allocate ∷ slots) = here_at k at slots
 here_at k at (Here j ∷ slots) = if nat_eq j k then Some at else here_at k at slots
 here_at k at (Fill symbol upper lower ∷ slots) = here_at k (at + 8) slots
 here_at k at (Address name addend ∷ slots) = here_at k (at + 8) slots
+here_at k at (CallTo name ops ∷ slots) = here_at k (at + 8) slots
 
 -- a use at an offset reaches where an own label is bound
 pub record IsBoundNear (bound : Option ℕ) (kind : LabelUse) (at : ℕ) : Type 0 where
@@ -187,6 +198,7 @@ AreClosed here at (Allocate ∷ slots) = AreClosed here at slots
 AreClosed here at (Here k ∷ slots) = AreClosed here at slots
 AreClosed here at (Fill symbol upper lower ∷ slots) = AreClosed here (at + 8) slots
 AreClosed here at (Address name addend ∷ slots) = AreClosed here (at + 8) slots
+AreClosed here at (CallTo name ops ∷ slots) = AreClosed here (at + 8) slots
 
 -- slots that use no own label but theirs
 abbrev pub IsBlock : List Slot → Type 0

@@ -9,7 +9,7 @@ use Rattle.rv_inst.specs.Context.{Context}
 use Rattle.rv_inst.specs.declared.inst.CondBrTarget.{CondBrTarget}
 use Rattle.rv_inst.specs.declared.inst.CondBrTarget.TheVariants.{Label, Fallthrough}
 use Rattle.rv_inst.specs.declared.inst.Inst.{Inst}
-use Rattle.rv_inst.specs.declared.inst.Inst.TheVariants.{Nop0, Nop4, EBreak, SequencePoint, Args, Rets, DummyUse, EmitIsland, RawData, Lui, Auipc, LoadInlineConst, AluRRR, AluRRImm12, Mov, MovFromPReg, Extend, Select, Load, Store, LoadAddr, LabelAddress, Ret, TrapIf, Jal, CondBr, BrTable, Udf, Jalr, Popcnt, Cltz, Brev8, StackProbeLoop, LoadExtNameGot, LoadExtNameNear, LoadExtNameFar, Unwind}
+use Rattle.rv_inst.specs.declared.inst.Inst.TheVariants.{Nop0, Nop4, EBreak, SequencePoint, Args, Rets, DummyUse, EmitIsland, RawData, Lui, Auipc, LoadInlineConst, AluRRR, AluRRImm12, Mov, MovFromPReg, Extend, Select, Load, Store, LoadAddr, LabelAddress, Ret, TrapIf, Jal, CondBr, BrTable, Udf, Jalr, Popcnt, Cltz, Brev8, StackProbeLoop, LoadExtNameGot, LoadExtNameNear, LoadExtNameFar, Call, CallInd, ReturnCall, ReturnCallInd, Unwind}
 use Rattle.rv_emit.specs.Emitted.{Buffer, pending}
 use Rattle.rv_emit.specs.declared.state.EmitVState.{EmitVState}
 use Rattle.rv_emit.specs.declared.state.EmitVState.TheVariants.{Unknown}
@@ -54,7 +54,7 @@ setting_after context b (AluRRImm12 op rd rs imm) setting = setting
 setting_after context b (Mov rd rm type) setting = setting
 setting_after context b (MovFromPReg rd rm) setting = setting
 setting_after context b (Extend rd rn signed from_bits to_bits) setting = setting
-setting_after context b (Select dst condition x y) setting = setting
+setting_after context b (Select info) setting = setting
 setting_after context b (Load rd op flags from) setting = setting_beyond (is_inline (location_of context.frame from) && is_wide context.flags) setting
 setting_after context b (Store to op flags src) setting = setting_beyond (is_inline (location_of context.frame to) && is_wide context.flags) setting
 setting_after context b (LoadAddr rd mem) setting = setting_beyond (is_inline (location_of context.frame mem) && is_wide context.flags) setting
@@ -73,4 +73,8 @@ setting_after context b (StackProbeLoop guard_size probe_count tmp) setting = se
 setting_after context b (LoadExtNameGot rd name) setting = setting
 setting_after context b (LoadExtNameNear rd name offset) setting = setting
 setting_after context b (LoadExtNameFar rd name offset) setting = setting_beyond (is_wide context.flags) setting
+setting_after context b (Call info) setting = Unknown
+setting_after context b (CallInd info) setting = Unknown
+setting_after context b (ReturnCall info) setting = Unknown
+setting_after context b (ReturnCallInd info) setting = Unknown
 setting_after context b (Unwind inst) setting = setting

@@ -1,9 +1,11 @@
 -- What the words of an instruction ask of its registers, labels and numbers.
 use Rattle.std.specs.Prelude.{◌≡◌, ◌≢◌, ◌⊎◌, ◌<◌, ◌≤◌, true, List, [], ◌∷◌, length, Option, Some, None}
 use Rattle.rv_base.specs.declared.amode.AMode.{AMode}
+use Rattle.rv_base.specs.declared.call.TryCallInfo.{TryCallInfo}
 use Rattle.rv_base.specs.declared.constant.Constant.{Constant}
 use Rattle.rv_base.specs.declared.amode.AMode.TheVariants.{RegOffset, SPOffset, FPOffset, SlotOffset, IncomingArg, Const, Label as ToLabel}
 use Rattle.rv_base.specs.AMode.{IsNear, base_of}
+use Rattle.rv_base.specs.declared.regs.PReg.{PReg}
 use Rattle.rv_base.specs.declared.regs.Reg.{Reg}
 use Rattle.rv_base.specs.Regs.{number_of}
 use Rattle.rv_base.specs.declared.regs.Reg.TheVariants.{Real}
@@ -15,7 +17,7 @@ use Rattle.mach_labels.specs.Table.{first_inner}
 use Rattle.rv_ops.specs.declared.compare.IntegerCompare.{IntegerCompare}
 use Rattle.rv_encode.specs.Registers.{IsIntRegister}
 use Rattle.rv_inst.specs.declared.inst.Inst.{Inst}
-use Rattle.rv_inst.specs.declared.inst.Inst.TheVariants.{Nop0, Nop4, EBreak, SequencePoint, Args, Rets, DummyUse, EmitIsland, RawData, Lui, Auipc, LoadInlineConst, AluRRR, AluRRImm12, Mov, MovFromPReg, Extend, Select, Load, Store, LoadAddr, LabelAddress, Ret, TrapIf, Jal, CondBr, BrTable, Udf, Jalr, Popcnt, Cltz, Brev8, StackProbeLoop, LoadExtNameGot, LoadExtNameNear, LoadExtNameFar, Unwind}
+use Rattle.rv_inst.specs.declared.inst.Inst.TheVariants.{Nop0, Nop4, EBreak, SequencePoint, Args, Rets, DummyUse, EmitIsland, RawData, Lui, Auipc, LoadInlineConst, AluRRR, AluRRImm12, Mov, MovFromPReg, Extend, Select, Load, Store, LoadAddr, LabelAddress, Ret, TrapIf, Jal, CondBr, BrTable, Udf, Jalr, Popcnt, Cltz, Brev8, StackProbeLoop, LoadExtNameGot, LoadExtNameNear, LoadExtNameFar, Call, CallInd, ReturnCall, ReturnCallInd, Unwind}
 use Rattle.rv_inst.specs.Operands.{all_of, written_in}
 use Rattle.rv_inst.specs.Rules.{is_int_type}
 use Rattle.rv_inst.specs.declared.inst.CondBrTarget.{CondBrTarget}
@@ -36,6 +38,11 @@ AreListed (l ∷ labels) = IsListed l × AreListed labels
 abbrev pub IsFineTarget : CondBrTarget → Type 0
 IsFineTarget (Label label) = IsListed label
 IsFineTarget Fallthrough = Unit {0}
+
+-- a call goes on to a label of a listing
+abbrev pub IsFineTry : Option TryCallInfo → Type 0
+IsFineTry None = Unit {0}
+IsFineTry (Some t) = IsListed t.continuation
 
 abbrev pub IsFineBranch : IntegerCompare → CondBrTarget → CondBrTarget → Type 0
 IsFineBranch kind taken not_taken = IsIntRegister kind.rs1 × IsIntRegister kind.rs2 × IsFineTarget taken × IsFineTarget not_taken
@@ -60,6 +67,11 @@ IsApart r (Some base) = number_of r ≢ number_of base
 abbrev pub AreInt : List Reg → Type 0
 AreInt [] = Unit {0}
 AreInt (r ∷ rs) = IsIntRegister r × AreInt rs
+
+-- integer registers of the machine
+abbrev pub AreSaved : List (Writable PReg) → Type 0
+AreSaved [] = Unit {0}
+AreSaved (r ∷ saves) = IsIntRegister (Real r.reg) × AreSaved saves
 
 -- values in as many integer registers
 pub record IsFineChoice (to : ValueRegs (Writable Reg)) (condition : IntegerCompare) (first second : ValueRegs Reg) : Type 0 where
@@ -90,7 +102,7 @@ IsFine constants (AluRRImm12 op rd rs imm) = IsIntRegister rd.reg × IsIntRegist
 IsFine constants (Mov rd rm type) = IsIntRegister rd.reg × IsIntRegister rm
 IsFine constants (MovFromPReg rd rm) = IsIntRegister rd.reg × IsIntRegister (Real rm)
 IsFine constants (Extend rd rn signed from_bits to_bits) = IsIntRegister rd.reg × IsIntRegister rn × (1 ≤ from_bits) × (from_bits ≤ 64)
-IsFine constants (Select dst condition x y) = IsFineChoice dst condition x y
+IsFine constants (Select info) = IsFineChoice info.dst info.condition info.x info.y
 IsFine constants (Load rd op flags from) = IsIntRegister rd.reg × IsFineAddress constants from
 IsFine constants (Store to op flags src) = IsIntRegister src × IsFineAddress constants to
 IsFine constants (LoadAddr rd mem) = IsIntRegister rd.reg × IsFineAddress constants mem × IsApart rd.reg (base_of mem)
@@ -109,4 +121,8 @@ IsFine constants (StackProbeLoop guard_size probe_count tmp) = IsIntRegister tmp
 IsFine constants (LoadExtNameGot rd name) = IsIntRegister rd.reg
 IsFine constants (LoadExtNameNear rd name offset) = IsIntRegister rd.reg
 IsFine constants (LoadExtNameFar rd name offset) = IsIntRegister rd.reg
+IsFine constants (Call info) = IsFineTry info.try_call_info
+IsFine constants (CallInd info) = IsIntRegister info.dest × IsFineTry info.try_call_info
+IsFine constants (ReturnCall info) = Unit {0}
+IsFine constants (ReturnCallInd info) = IsIntRegister info.dest × (number_of info.dest ≡ 5)
 IsFine constants (Unwind inst) = Unit {0}

@@ -13,6 +13,7 @@ ghost use Rattle.rv_inst.specs.Sizes.{island_space, table_space};
 use crate::island::emit_island_if_needed;
 use crate::sequence::put_sequence;
 use crate::setting::forgets_setting;
+use crate::stack::{put_tail_call, put_tail_jump};
 use crate::state::{EmitInfo, EmitState};
 use crate::table::put_table;
 use mach_buffer::MachBuffer;
@@ -75,12 +76,12 @@ impl MachInstEmit for Inst {
 
     fn emit(
         &self,
-        _alloc: Global,
+        alloc: Global,
         sink: &mut MachBuffer<LabelUse>,
         info: &EmitInfo,
         state: &mut EmitState,
     ) -> Result<(), EmitError> {
-        match put(sink, info.isa_flags, &state.frame, self) {
+        match put(sink, alloc, info.isa_flags, &state.frame, self) {
             Ok(forgets) => {
                 if forgets {
                     state.clobber_vstate();
@@ -96,6 +97,7 @@ impl MachInstEmit for Inst {
 /// vector unit's setting after it.
 fn put(
     sink: &mut MachBuffer<LabelUse>,
+    alloc: Global,
     flags: IsaFlags,
     frame: &FrameLayout,
     inst: &Inst,
@@ -108,24 +110,25 @@ fn put(
     ensures spoiled { OnErr result (spoiled_of sink.new ≡ true) }
 {
     if inst.asks_for_island() {
-        put_asking(sink, flags, frame, inst)
+        put_asking(sink, alloc, flags, frame, inst)
     } else {
         put_sequence(sink, flags, frame, inst)?;
         Ok(forgets_setting(flags, frame, inst))
     }
 }
 
-/// Puts an island where one is needed before so many bytes, and then the sequence of a branch by a table, whose island is put
-/// before x31 is used. Returns whether nothing is known of the vector unit's setting after it.
+/// Puts an island where one is needed before so many bytes, and then the sequence of a branch by a table or of a tail call, whose
+/// island is put before x31 is used. Returns whether nothing is known of the vector unit's setting after it.
 fn put_asking(
     sink: &mut MachBuffer<LabelUse>,
+    alloc: Global,
     flags: IsaFlags,
-    _frame: &FrameLayout,
+    frame: &FrameLayout,
     inst: &Inst,
 ) -> Result<bool, OutOfMemory>
-    requires { CanEmit (context_by flags _frame.now (registered_of sink.old)) inst.now sink.old }
-    ensures emitted { is_some (island_space (context_by flags _frame.now (registered_of sink.old)) inst.now) ≡ true → OnOk result (Emits (context_by flags _frame.now (registered_of sink.old)) inst.now sink.old sink.new) }
-    ensures setting { is_some (island_space (context_by flags _frame.now (registered_of sink.old)) inst.now) ≡ true → IfOk result (λ forgets. (setting : Setting) → setting_after (context_by flags _frame.now (registered_of sink.old)) sink.old inst.now setting ≡ setting_beyond forgets setting) }
+    requires { CanEmit (context_by flags frame.now (registered_of sink.old)) inst.now sink.old }
+    ensures emitted { is_some (island_space (context_by flags frame.now (registered_of sink.old)) inst.now) ≡ true → OnOk result (Emits (context_by flags frame.now (registered_of sink.old)) inst.now sink.old sink.new) }
+    ensures setting { is_some (island_space (context_by flags frame.now (registered_of sink.old)) inst.now) ≡ true → IfOk result (λ forgets. (setting : Setting) → setting_after (context_by flags frame.now (registered_of sink.old)) sink.old inst.now setting ≡ setting_beyond forgets setting) }
     ensures spoiled { OnErr result (spoiled_of sink.new ≡ true) }
 {
     match inst {
@@ -142,6 +145,14 @@ fn put_asking(
             let space = table_space(targets.len());
             emit_island_if_needed(sink, space)?;
             put_table(sink, flags, *index, *tmp1, *tmp2, targets.as_slice())?;
+            Ok(true)
+        }
+        Inst::ReturnCall { info } => {
+            put_tail_call(sink, alloc, flags, frame, info)?;
+            Ok(true)
+        }
+        Inst::ReturnCallInd { info } => {
+            put_tail_jump(sink, alloc, flags, frame, info)?;
             Ok(true)
         }
         _ => Ok(false),

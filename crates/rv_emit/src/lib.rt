@@ -1,6 +1,7 @@
 //! An instruction becomes a sequence of bytes, with its uses of labels.
 #![tactic(auto)]
 
+mod calls;
 mod choices;
 mod compressed;
 mod compressed_immediates;
@@ -18,6 +19,7 @@ mod reverse;
 mod sequence;
 mod setting;
 mod shortest;
+mod stack;
 mod state;
 mod symbols;
 mod table;

@@ -26,8 +26,9 @@ ghost use Rattle.rv_emit.specs.InstParts.{jump_to, wide_jump_to, branch_to, move
 ghost use Rattle.rv_inst.specs.Sizes.{island_space};
 ghost use Rattle.rv_inst.specs.Uses.{use_at};
 ghost use Rattle.rv_inst.specs.Families.{family_of};
-ghost use Rattle.rv_inst.specs.declared.inst.Family.TheVariants.{Pseudo, Integer, Memory, Control, Loop, Symbols};
+ghost use Rattle.rv_inst.specs.declared.inst.Family.TheVariants.{Pseudo, Integer, Memory, Control, Loop, Symbols, Calls};
 
+use crate::calls::{put_call, put_call_ind};
 use crate::choices::{put_extend, put_select};
 use crate::compressed::number;
 use crate::expansions::{put_bytes, put_constant, put_trap, put_trap_if};
@@ -69,6 +70,28 @@ pub(crate) fn put_sequence(
         Family::Control => put_control(sink, flags, inst),
         Family::Loop => put_loop(sink, flags, inst),
         Family::Symbols => put_symbol(sink, flags, inst),
+        Family::Calls => put_calls(sink, flags, frame, inst),
+    }
+}
+
+/// Those calls that ask for no island.
+fn put_calls(
+    sink: &mut MachBuffer<LabelUse>,
+    flags: IsaFlags,
+    frame: &FrameLayout,
+    inst: &Inst,
+) -> Result<(), OutOfMemory>
+    requires fine { IsFine (registered_of sink.old) inst.now }
+    requires frame { sp_to_args_end frame.now < 2 ^ 31 }
+    requires room { length (bytes_of sink.old) + 84 < code_limit }
+    requires sound { IsSoundBuffer sink.old }
+    ensures parts { family_of inst.now ≡ Calls → (constants : List Constant) → island_space (context_by flags frame.now constants) inst.now ≡ None → OnOk result (Emits (context_by flags frame.now constants) inst.now sink.old sink.new) }
+    ensures refused { OnErr result (spoiled_of sink.new ≡ true) }
+{
+    match inst {
+        Inst::Call { info } => put_call(sink, flags, frame, info.as_ref()),
+        Inst::CallInd { info } => put_call_ind(sink, flags, frame, info.as_ref()),
+        _ => Ok(()),
     }
 }
 
@@ -131,12 +154,10 @@ fn put_integer(
             from_bits,
             to_bits: _,
         } => put_extend(sink, flags, *rd, *rn, *signed, *from_bits),
-        Inst::Select {
-            dst,
-            condition,
-            x,
-            y,
-        } => put_select(sink, flags, *dst, *condition, *x, *y),
+        Inst::Select { info } => {
+            let info = info.as_ref();
+            put_select(sink, flags, info.dst, info.condition, info.x, info.y)
+        }
         _ => Ok(()),
     }
 }
@@ -375,7 +396,7 @@ fn jump_word() -> u32
 }
 
 /// A jump to a label.
-fn put_jump(
+pub(crate) fn put_jump(
     sink: &mut MachBuffer<LabelUse>,
     flags: IsaFlags,
     label: MachLabel,

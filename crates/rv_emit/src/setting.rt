@@ -31,6 +31,7 @@ pub(crate) fn forgets_setting(flags: IsaFlags, frame: &FrameLayout, inst: &Inst)
         Family::Control => control_forgets(flags, inst),
         Family::Loop => loop_forgets(flags, inst),
         Family::Symbols => symbol_forgets(flags, inst),
+        Family::Calls => true,
     }
 }
 

@@ -1,4 +1,4 @@
-//! Addresses of symbols, whose bytes a linker fills, and steps in the making of a frame.
+//! Addresses of symbols and jumps to them, whose bytes a linker fills; call sites, and steps in the making of a frame.
 
 ghost use Rattle.std.specs.Prelude.{◌≡◌, [], ◌∷◌, ◌+◌, ◌<◌, length, OnOk, OnErr, true};
 ghost use Rattle.rv_base.specs.declared.flags.IsaFlags.{IsaFlags};
@@ -6,18 +6,19 @@ ghost use Rattle.rv_base.specs.LabelUse.{code_limit};
 ghost use Rattle.rv_base.specs.Regs.{number_of};
 ghost use Rattle.rv_encode.specs.Registers.{IsIntRegister};
 ghost use Rattle.rv_inst.specs.LabelUseWords.{word_bytes};
-ghost use Rattle.mach_buffer.specs.declared.records.Event.TheVariants.{Reloc as Relocates, Unwind as Unwinds};
+ghost use Rattle.mach_buffer.specs.declared.records.Event.TheVariants.{CallSite, Reloc as Relocates, Unwind as Unwinds};
 ghost use Rattle.mach_buffer.specs.declared.records.FinalizedRelocTarget.TheVariants.{ExternalName as ToName};
 ghost use Rattle.mach_buffer.specs.Buffer.{shape_of, bytes_of, spoiled_of};
 ghost use Rattle.mach_buffer.specs.Shape.{with_bytes, with_record};
 ghost use Rattle.rv_emit.specs.Emission.{PutsAlone};
 ghost use Rattle.rv_emit.specs.Emitted.{IsSoundBuffer};
-ghost use Rattle.rv_emit.specs.InstParts.{far_slots, got_slots, near_slots};
+ghost use Rattle.rv_emit.specs.InstParts.{call_to, far_slots, got_slots, near_slots};
 ghost use Rattle.rv_emit.specs.Puts.{eight_zeros};
-ghost use Rattle.rv_emit.specs.Slots.{Notes, address_event, lower_event};
+ghost use Rattle.rv_emit.specs.Slots.{Notes, address_event, call_event, lower_event};
 
 use crate::expansions::put_load_over;
 use crate::memory::{addition_word, load_word};
+use crate::table::far_word;
 use mach_buffer::MachBuffer;
 use rv_base::{ExternalName, IsaFlags, OutOfMemory, Reloc, RelocTarget, UnwindInst, WritableReg};
 use rv_encode::enc_auipc;
@@ -120,6 +121,37 @@ fn put_symbol_bytes(
 {
     sink.add_reloc(Reloc::Abs8, RelocTarget::Name(name), offset)?;
     sink.put8(0)?;
+    Ok(())
+}
+
+/// To a symbol, by the distance to it, by way of a register; the link is the address after it. Both words are of four bytes
+/// whatever the flags are.
+pub(crate) fn put_call_to(
+    sink: &mut MachBuffer<LabelUse>,
+    link: WritableReg,
+    tmp: WritableReg,
+    name: ExternalName,
+) -> Result<(), OutOfMemory>
+    requires link { IsIntRegister link.reg }
+    requires tmp { IsIntRegister tmp.reg }
+    requires room { length (bytes_of sink.old) + 8 < code_limit }
+    requires sound { IsSoundBuffer sink.old }
+    ensures slots { OnOk result ((flags : IsaFlags) → PutsAlone flags (call_to (number_of link.reg) (number_of tmp.reg) name ∷ []) sink.old sink.new) }
+    ensures refused { OnErr result (spoiled_of sink.new ≡ true) }
+{
+    sink.add_reloc(Reloc::RiscvCallPlt, RelocTarget::Name(name), 0)?;
+    sink.put4(enc_auipc(tmp, Imm20::ZERO))?;
+    sink.put4(far_word(link, tmp.reg))?;
+    Ok(())
+}
+
+/// The record of a call site.
+pub(crate) fn put_call_site(sink: &mut MachBuffer<LabelUse>) -> Result<(), OutOfMemory>
+    requires sound { IsSoundBuffer sink.old }
+    ensures slots { OnOk result ((flags : IsaFlags) → PutsAlone flags (Notes CallSite ∷ []) sink.old sink.new) }
+    ensures refused { OnErr result (spoiled_of sink.new ≡ true) }
+{
+    sink.add_call_site()?;
     Ok(())
 }
 

@@ -115,16 +115,17 @@ fn put_far_jump(
     ensures refused { OnErr result (spoiled_of sink.new ≡ true) }
 {
     put_use(sink, enc_auipc(tmp, Imm20::ZERO), label, LabelUse::PCRel32)?;
-    sink.put4(far_word(tmp.reg))?;
+    sink.put4(far_word(writable_zero_reg(), tmp.reg))?;
     Ok(())
 }
 
-/// The word of a jump past a register whose immediate is still to come.
-fn far_word(tmp: Reg) -> u32
-    requires { IsIntRegister tmp }
-    ensures { IsIType result JALR 0 0 (number_of tmp) 0 }
+/// The word of a jump past a register, which links by another, and whose immediate is still to come.
+pub(crate) fn far_word(link: WritableReg, tmp: Reg) -> u32
+    requires link { IsIntRegister link.reg }
+    requires tmp { IsIntRegister tmp }
+    ensures { IsIType result JALR (number_of link.reg) 0 (number_of tmp) 0 }
 {
-    encode_i_type(JALR, writable_zero_reg(), 0, tmp, Imm12::ZERO)
+    encode_i_type(JALR, link, 0, tmp, Imm12::ZERO)
 }
 
 /// Into the table that comes next, where each label has a jump in eight bytes.

@@ -1,20 +1,22 @@
 -- A buffer of a single instruction can be emitted into and finished.
-use Rattle.std.proofs.Common.{◌≡◌, append-nil, ℕ, ◌+◌, ◌^◌, ◌<◌, ◌≤◌, true, false, List, [], ◌∷◌, ◌++◌, length, Option, Some, None, refl, ap, sym, ◌∙◌, subst, arith, inl, ⊎_elim}
+use Rattle.std.proofs.Common.{◌≡◌, append-nil, ℕ, ◌+◌, ◌-◌, ◌^◌, ◌<◌, ◌≤◌, true, false, List, [], ◌∷◌, ◌++◌, length, Option, Some, None, refl, ap, sym, ◌∙◌, subst, arith, inl, ⊎_elim}
 use Rattle.std.specs.Prelude.{slice_get, is_some}
 use Rattle.std.proofs.lemmas.Bool.{and_parts, eqb-true, true≢false}
 use Rattle.rv_inst.specs.Context.{Context}
 use Rattle.rv_inst.specs.declared.inst.Inst.{Inst}
-use Rattle.rv_inst.specs.declared.inst.Inst.TheVariants.{EmitIsland, BrTable}
+use Rattle.rv_inst.specs.declared.inst.Inst.TheVariants.{EmitIsland, BrTable, ReturnCall, ReturnCallInd}
 use Rattle.rv_base.specs.Frame.{sp_to_args_end}
+use Rattle.rv_base.specs.declared.call.TryCallInfo.{TryCallInfo}
 use Rattle.rv_base.specs.declared.label.MachLabel.{MachLabel}
 use Rattle.rv_inst.specs.declared.targets.Targets.{Targets}
 use Rattle.rv_inst.specs.declared.targets.Targets.TheVariants.{Nowhere, Jumps, Branches, Refers, RefersConstant}
-use Rattle.rv_inst.specs.Operands.{targets_of, table_of}
+use Rattle.rv_inst.specs.Frames.{is_bad_frame_for}
+use Rattle.rv_inst.specs.Operands.{targets_of, table_of, tail_call_of, try_call_of}
 use Rattle.rv_inst.specs.declared.inst.CondBrTarget.TheVariants.{Label, Fallthrough}
 use Rattle.rv_inst.specs.declared.label_use.LabelUse.{LabelUse}
 use Rattle.rv_inst.specs.declared.label_use.LabelUse.TheVariants.{B12, PCRelHi20, PCRelLo12I}
 use Rattle.rv_inst.specs.LabelUse.{label_kinds}
-use Rattle.rv_inst.specs.Forms.{jump_kind}
+use Rattle.rv_inst.specs.Forms.{jump_kind, jump_size}
 use Rattle.rv_inst.specs.Rules.{inst_rule}
 use Rattle.mach_buffer.specs.declared.uses.Use.{Use}
 use Rattle.mach_buffer.specs.Reach.{CanReach, is_needed, deadlines}
@@ -30,9 +32,9 @@ use Rattle.rv_emit.specs.declared.state.EmitVState.{EmitVState}
 use Rattle.rv_emit.specs.Emission.{EmitsIn}
 use Rattle.rv_emit.specs.Images.{FieldsStand}
 use Rattle.rv_emit.specs.InstParts.{parts_of}
-use Rattle.rv_inst.specs.Uses.{use_at, target_uses, uses_in}
+use Rattle.rv_inst.specs.Uses.{use_at, target_uses, uses_by, uses_in}
 use Rattle.rv_inst.specs.Sizes.{line_space, island_space, inst_sum}
-use Rattle.rv_emit_vectors.specs.Single.{are_first, names_first, IsStart, HoldsOne}
+use Rattle.rv_emit_vectors.specs.Single.{are_first, are_first_by, names_first, IsStart, HoldsOne}
 use Rattle.rv_emit.proofs.Laws.{parts_put, are_blocks, appends_inst, Each, waits, each_none, each_more, uses_kinds}
 
 -- ---- at the start
@@ -71,6 +73,8 @@ start_windows b s =
 plain_sum : (context : Context) (inst : Inst) → island_space context inst ≡ None → inst_sum context inst ≡ 128
 plain_sum context (BrTable index tmp1 tmp2 targets) none = absurd (cc)
 plain_sum context (EmitIsland space) none = absurd (cc)
+plain_sum context (ReturnCall info) none = absurd (cc)
+plain_sum context (ReturnCallInd info) none = absurd (cc)
 plain_sum context _ none = refl
 
 no_table : (context : Context) (inst : Inst) → island_space context inst ≡ None → table_of inst ≡ []
@@ -81,11 +85,18 @@ none_far : (labels : List MachLabel) (far : List (Use LabelUse)) → labels ≡ 
 none_far labels [] none each = refl
 none_far labels (u ∷ far) none each = absurd (let f = each 0 u refl in let there = ap (λ ls. slice_get ls f.index) (sym none) ∙ f.names in cc)
 
+-- one that asks for no island is no tail call
+no_tail : (context : Context) (inst : Inst) → island_space context inst ≡ None → is_bad_frame_for context.frame (tail_call_of inst) ≡ false
+no_tail context (ReturnCall info) none = absurd (cc)
+no_tail context (ReturnCallInd info) none = absurd (cc)
+no_tail context _ none = refl
+
 -- any instruction may be put that asks for no island
 pub can_start : (context : Context) (inst : Inst) (b : Buffer) → sp_to_args_end context.frame < 2 ^ 31 → inst_rule context inst ≡ None → island_space context inst ≡ None → IsStart b → CanEmit context inst b
 can_start context inst b frame rule none s = record {
   rule = rule;
   frame = frame;
+  restores = no_tail context inst none;
   sound = s.sound;
   calm = ap (is_needed (length (bytes_of b)) line_space) (start_pending b s);
   few = let d = s.allocated in omega arith;
@@ -111,8 +122,8 @@ start_fields b s = record {
 -- ---- one instruction
 
 -- its uses name the label 0
-uses_first : (context : Context) (start : ℕ) (inst : Inst) → names_first inst ≡ true → Each (λ (u : Use LabelUse). u.label.number ≡ 0) (uses_in context start inst)
-uses_first context start inst h = on (targets_of inst) h
+uses_first : (context : Context) (start end : ℕ) (inst : Inst) → names_first inst ≡ true → Each (λ (u : Use LabelUse). u.label.number ≡ 0) (uses_in context start end inst)
+uses_first context start end inst h = by (try_call_of inst) h
   where
     jump : LabelUse
     jump = jump_kind context.flags
@@ -126,6 +137,10 @@ uses_first context start inst h = on (targets_of inst) h
     on (RefersConstant constant) h = absurd (true≢false (sym h))
     on (Refers label) h = each_more _ (use_at start label PCRelHi20) (use_at (start + 4) label PCRelLo12I ∷ []) (eqb-true _ _ h) (each_more _ (use_at (start + 4) label PCRelLo12I) [] (eqb-true _ _ h) (each_none _))
 
+    by : (t : Option TryCallInfo) → are_first_by t (targets_of inst) ≡ true → Each (λ (u : Use LabelUse). u.label.number ≡ 0) (uses_by context.flags start end t (targets_of inst))
+    by None h = on (targets_of inst) h
+    by (Some t) h = each_more _ (use_at (end - jump_size context.flags) t.continuation jump) [] (eqb-true _ _ h) (each_none _)
+
 pub holds_one : (context : Context) (setting : EmitVState) (inst : Inst) (old new : Buffer) → inst_rule context inst ≡ None → island_space context inst ≡ None → IsStart old → EmitsIn context setting inst old new → CanReach (length (bytes_of new)) (pending new) → IsBounded context inst old new → HoldsOne inst new
 holds_one context setting inst old new rule none s e reach bounded = record {
   sound = p.adds.sound;
@@ -136,12 +151,15 @@ holds_one context setting inst old new rule none s e reach bounded = record {
   constants = p.adds.constants ∙ s.constants;
   long = let l = (bounded none).long in let bytes : length (bytes_of old) ≡ 0 = ap (length {A = ℕ}) s.bytes in omega arith;
   waiting = let w = (bounded none).waiting in let waiting : length (pending old) ≡ 0 = ap (length {A = ℕ}) (start_pending old s) in omega arith;
-  kinds = λ j u h. uses_kinds context start inst j u (own j u h);
-  bound = λ first j u h. ap (λ n. is_some (place_of new n)) (uses_first context start inst first j u (own j u h)) ∙ ap is_some (ap (λ (place : ℕ → Option ℕ). place 0) p.adds.places ∙ s.first);
+  kinds = λ j u h. uses_kinds context start end inst j u (own j u h);
+  bound = λ first j u h. ap (λ n. is_some (place_of new n)) (uses_first context start end inst first j u (own j u h)) ∙ ap is_some (ap (λ (place : ℕ → Option ℕ). place 0) p.adds.places ∙ s.first);
 }
   where
     start : ℕ
     start = length (bytes_of old)
+
+    end : ℕ
+    end = length (bytes_of new)
 
     p : AppendsInst context inst old new
     p = appends_inst context setting inst old new rule s.sound none e
@@ -149,8 +167,8 @@ holds_one context setting inst old new rule none s e reach bounded = record {
     far : p.far ≡ []
     far = none_far (table_of inst) p.far (no_table context inst none) p.table
 
-    own : (j : ℕ) (u : Use LabelUse) → slice_get (uses_of new) j ≡ Some u → slice_get (uses_in context start inst) j ≡ Some u
-    own j u h = ap (λ (us : List (Use LabelUse)). slice_get us j) (sym (p.adds.uses ∙ ap (λ (us : List (Use LabelUse)). us ++ (uses_in context start inst ++ p.far)) s.uses ∙ ap (λ (us : List (Use LabelUse)). uses_in context start inst ++ us) far ∙ append-nil (uses_in context start inst))) ∙ h
+    own : (j : ℕ) (u : Use LabelUse) → slice_get (uses_of new) j ≡ Some u → slice_get (uses_in context start end inst) j ≡ Some u
+    own j u h = ap (λ (us : List (Use LabelUse)). slice_get us j) (sym (p.adds.uses ∙ ap (λ (us : List (Use LabelUse)). us ++ (uses_in context start end inst ++ p.far)) s.uses ∙ ap (λ (us : List (Use LabelUse)). uses_in context start end inst ++ us) far ∙ append-nil (uses_in context start end inst))) ∙ h
 
 -- the buffer can be finished where its labels are bound
 pub can_finish_one : (inst : Inst) (b : Buffer) → HoldsOne inst b → names_first inst ≡ true → CanFinish label_kinds (shape_of b)

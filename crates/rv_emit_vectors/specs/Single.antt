@@ -1,9 +1,10 @@
 -- A buffer of a single instruction, as the tests have it.
-use Rattle.std.specs.Prelude.{◌≡◌, ◌⊎◌, ℕ, ◌≤◌, Bool, true, false, ◌&&◌, ◌==◌, [], length, Some, slice_get, is_some}
+use Rattle.std.specs.Prelude.{◌≡◌, ◌⊎◌, ℕ, ◌≤◌, Bool, true, false, ◌&&◌, ◌==◌, [], length, Option, Some, None, slice_get, is_some}
+use Rattle.rv_base.specs.declared.call.TryCallInfo.{TryCallInfo}
 use Rattle.rv_inst.specs.declared.inst.Inst.{Inst}
 use Rattle.rv_inst.specs.declared.targets.Targets.{Targets}
 use Rattle.rv_inst.specs.declared.targets.Targets.TheVariants.{Nowhere, Jumps, Branches, Refers, RefersConstant}
-use Rattle.rv_inst.specs.Operands.{targets_of}
+use Rattle.rv_inst.specs.Operands.{targets_of, try_call_of}
 use Rattle.rv_inst.specs.declared.inst.CondBrTarget.{CondBrTarget}
 use Rattle.rv_inst.specs.declared.inst.CondBrTarget.TheVariants.{Label, Fallthrough}
 use Rattle.rv_inst.specs.declared.label_use.LabelUse.{LabelUse}
@@ -27,8 +28,13 @@ are_first (Branches taken not_taken) = is_first taken && is_first not_taken
 are_first (Refers label) = label.number == 0
 are_first (RefersConstant constant) = false
 
+-- and so is where a call that ends its block goes on
+abbrev pub are_first_by : Option TryCallInfo → Targets → Bool
+are_first_by None targets = are_first targets
+are_first_by (Some t) targets = t.continuation.number == 0
+
 abbrev pub names_first : Inst → Bool
-names_first inst = are_first (targets_of inst)
+names_first inst = are_first_by (try_call_of inst) (targets_of inst)
 
 -- a buffer in which the label 0 is bound, and nothing else was done
 pub record IsStart (b : Buffer) : Type 0 where

@@ -1,12 +1,12 @@
 //! The words of instructions, as the manual has them, and the islands before them.
 
-ghost use Rattle.std.specs.Prelude.{◌≡◌, IfOk, None, is_some, true};
-ghost use Rattle.rv_emit_vectors.specs.Single.{is_first, names_first, IsStart, HoldsOne};
+ghost use Rattle.std.specs.Prelude.{◌≡◌, IfOk, None, is_some, option_copied, true};
+ghost use Rattle.rv_emit_vectors.specs.Single.{is_first, are_first, are_first_by, names_first, IsStart, HoldsOne};
 
 use mach_buffer::MachBuffer;
 use rv_base::{
-    FrameLayout, IntCC, IrType, IsaFlags, List, MachLabel, OutOfMemory, Reg, TrapCode, a0, a1, a2,
-    px_reg, writable_a0, writable_link_reg, zero_reg,
+    FrameLayout, IntCC, IrType, IsaFlags, List, MachLabel, OutOfMemory, Reg, TrapCode, TryCallInfo,
+    a0, a1, a2, px_reg, writable_a0, writable_link_reg, zero_reg,
 };
 use rv_emit::{
     EmitInfo, EmitState, EmitVState, MachInstEmit, MachInstEmitState, emit_island_if_needed,
@@ -37,11 +37,27 @@ fn is_first(target: CondBrTarget) -> bool
     }
 }
 
-/// Returns whether an instruction names no label but 0.
+/// Returns whether an instruction goes to no label but 0, and names no other as an address.
 fn names_first(inst: &Inst) -> bool
     ensures { result ≡ names_first inst.now }
 {
-    match inst.targets() {
+    goes_to_first(inst.try_call(), inst.targets())
+}
+
+/// Returns whether that at which a call goes on is the label 0, or else each target.
+fn goes_to_first(info: Option<&TryCallInfo>, targets: Targets) -> bool
+    ensures { result ≡ are_first_by (option_copied info.entry) targets }
+{
+    match info {
+        Some(info) => info.continuation.as_u32() == 0,
+        None => are_first(targets),
+    }
+}
+
+fn are_first(targets: Targets) -> bool
+    ensures { result ≡ are_first targets }
+{
+    match targets {
         Targets::Nowhere => true,
         Targets::Jumps(label) => label.as_u32() == 0,
         Targets::Branches(taken, not_taken) => is_first(taken) && is_first(not_taken),

@@ -1,11 +1,13 @@
 //! The words of generated constants, loads, stores and moves. Those of constants are as the manual's layouts of `lui` and `addi` have them.
 
+ghost use Rattle.rv_imms.specs.Splitting.{IsSplittable};
+
 use crate::emission::{assert_code, code_of};
 use rv_base::{
-    AMode, IrType, IsaFlags, MemFlagsData, Reg, RegClass, a0, a1, f_reg, fa1, writable_a0,
-    writable_a2, writable_fa1,
+    AMode, IrType, IsaFlags, MemFlagsData, Reg, RegClass, WritableReg, a0, a1, f_reg, fa1,
+    writable_a0, writable_a2, writable_fa1, writable_link_reg,
 };
-use rv_imms::Imm12;
+use rv_imms::{Imm12, imm_max, imm_min};
 use rv_inst::{Inst, SmallInstVec, gen_moves};
 use std::alloc::Global;
 use std::process::Abort;
@@ -109,6 +111,45 @@ fn constants_of_32_bits(rt: HostRuntime) -> Result<(), Fail> {
 fn an_immediate_of_twelve_bits(rt: HostRuntime) -> Result<(), Fail> {
     let inst = Inst::load_imm12(writable_a0(), Imm12::from_i16(-1));
     assert_code(&rt, rt.alloc(), &inst, &[0x13, 0x05, 0xf0, 0xff])
+}
+
+/// Stops unless these are the words of a jump by an offset.
+fn assert_jump(
+    rt: &impl Abort,
+    alloc: Global,
+    link: Option<WritableReg>,
+    tmp: WritableReg,
+    offset: i64,
+    bytes: &[u8],
+) -> Result<(), Fail>
+    requires { IsSplittable offset }
+{
+    let insts = Inst::construct_auipc_and_jalr(link, tmp, offset);
+    let mut code = Vec::new(alloc);
+    for inst in insts.as_slice() {
+        code.extend_from_slice(code_of(alloc, IsaFlags::none(), inst)?.as_slice())?;
+    }
+    assert_eq!(rt; code.as_slice(), bytes);
+    Ok(())
+}
+
+#[test]
+fn jumps_by_an_offset(rt: HostRuntime) -> Result<(), Fail> {
+    let alloc = rt.alloc();
+    let ra = writable_link_reg();
+    let a2 = writable_a2();
+    assert_jump(
+        &rt,
+        alloc,
+        Some(ra),
+        ra,
+        0,
+        &[0x97, 0, 0, 0, 0xe7, 0x80, 0, 0],
+    )?;
+    let greatest = [0x17, 0xf6, 0xff, 0x7f, 0x67, 0, 0xf6, 0x7f];
+    assert_jump(&rt, alloc, None, a2, imm_max(), &greatest)?;
+    let least = [0x17, 0x06, 0, 0x80, 0x67, 0, 0x06, 0x80];
+    assert_jump(&rt, alloc, None, a2, imm_min(), &least)
 }
 
 #[test]

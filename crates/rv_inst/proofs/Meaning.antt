@@ -1,5 +1,5 @@
 -- What a line means depends on no labels but those that it names, and on where constants, symbols and slots stand.
-use Rattle.std.proofs.Common.{◌≡◌, ◌+◌, ◌*◌, ◌^◌, List, [], ◌∷◌, ◌++◌, refl, ap}
+use Rattle.std.proofs.Common.{◌≡◌, ◌+◌, ◌*◌, ◌/◌, ◌^◌, pos, List, [], ◌∷◌, ◌++◌, refl, ap}
 use Rattle.rv_base.specs.declared.label.MachLabel.{MachLabel}
 use Rattle.rv_base.specs.Regs.{number_of}
 use Rattle.rv_base.specs.declared.amode.AMode.{AMode}
@@ -11,11 +11,12 @@ use Rattle.rv_machine.specs.State.{Values, reg, set_reg, wrap, low64}
 use Rattle.rv_ops.specs.declared.memory.LoadOP.TheVariants.{Ld}
 use Rattle.rv_ops.specs.Memory.{store_size}
 use Rattle.rv_inst.specs.declared.inst.Inst.{Inst}
-use Rattle.rv_inst.specs.declared.inst.Inst.TheVariants.{Nop0, Auipc, Load, Store, LoadAddr, LabelAddress, Jalr, LoadExtNameGot, LoadExtNameNear, LoadExtNameFar}
+use Rattle.rv_inst.specs.declared.inst.Inst.TheVariants.{Auipc, Load, Store, LoadAddr, LabelAddress, Jalr, LoadExtNameGot, LoadExtNameNear, LoadExtNameFar, Call, CallInd, ReturnCall, ReturnCallInd}
 use Rattle.rv_inst.specs.declared.inst.Line.{Line}
 use Rattle.rv_inst.specs.declared.inst.Line.TheVariants.{Inst as Put, Bind}
+use Rattle.rv_inst.specs.Forms.{short_jalr}
 use Rattle.rv_inst.specs.Environments.{SameLabels, AgreeOn}
-use Rattle.rv_inst.specs.Meaning.{Environment, inst_effect, effect_of, inst_writes, writes_of, inst_exit, exit_of, address_of, addresses_from, put_bytes}
+use Rattle.rv_inst.specs.Meaning.{Environment, inst_effect, effect_of, inst_writes, writes_of, Leave, frame_left, inst_exit, exit_of, address_of, addresses_from, put_bytes}
 use Rattle.rv_inst.specs.Operands.{labels_of, address_targets, inst_labels, named_labels}
 
 -- an address depends on no label but its own, and on no constant but its own
@@ -34,7 +35,7 @@ same_first e f [] more s = tt
 same_first e f (l ∷ labels) more s = (s.0, same_first e f labels more s.1)
 
 agree_first : {e f : Environment} (labels more : List MachLabel) → AgreeOn (labels ++ more) e f → AgreeOn labels e f
-agree_first {e} {f} labels more a = record { start = a.start; after = a.after; frame = a.frame; labels_same = same_first e f labels more a.labels_same; constants_same = a.constants_same; symbols_same = a.symbols_same; slots_same = a.slots_same }
+agree_first {e} {f} labels more a = record { start = a.start; after = a.after; flags = a.flags; frame = a.frame; labels_same = same_first e f labels more a.labels_same; constants_same = a.constants_same; symbols_same = a.symbols_same; slots_same = a.slots_same }
 
 inst_effect_agrees : {e f : Environment} (inst : Inst) (v : Values) → AgreeOn (inst_labels inst) e f → inst_effect e inst v ≡ inst_effect f inst v
 inst_effect_agrees (Auipc rd imm) v a = ap (λ n. set_reg v (number_of rd.reg) (wrap (n + low64 imm.value * 2 ^ 12))) a.start
@@ -46,6 +47,10 @@ inst_effect_agrees (Jalr rd base offset) v a = ap (set_reg v (number_of rd.reg))
 inst_effect_agrees (LoadExtNameGot rd name) v a = ap (λ n. set_reg v (number_of rd.reg) (load_result (load_op Ld) v.mem n)) (a.slots_same name.number)
 inst_effect_agrees (LoadExtNameNear rd name offset) v a = ap (λ n. set_reg v (number_of rd.reg) (wrap (n + low64 offset))) (a.symbols_same name.number)
 inst_effect_agrees (LoadExtNameFar rd name offset) v a = ap (λ n. set_reg v (number_of rd.reg) (wrap (n + low64 offset))) (a.symbols_same name.number)
+inst_effect_agrees (Call info) v a = ap (λ n. set_reg v 1 (wrap (n + 8))) a.start
+inst_effect_agrees (CallInd info) v a = λ i. set_reg v 1 (wrap (a.start i + (short_jalr (a.flags i) 1 (number_of info.dest) (pos 0)).len))
+inst_effect_agrees (ReturnCall info) v a = ap (λ frame. frame_left frame info.new_stack_arg_size v) a.frame
+inst_effect_agrees (ReturnCallInd info) v a = ap (λ frame. frame_left frame info.new_stack_arg_size v) a.frame
 inst_effect_agrees _ v a = refl
 
 inst_writes_agree : {e f : Environment} (inst : Inst) (v : Values) → AgreeOn (inst_labels inst) e f → inst_writes e inst v ≡ inst_writes f inst v
@@ -53,7 +58,8 @@ inst_writes_agree (Store to op flags src) v a = ap (λ n. addresses_from n (stor
 inst_writes_agree _ v a = refl
 
 inst_exit_agrees : {e f : Environment} (inst : Inst) (v : Values) → AgreeOn (inst_labels inst) e f → inst_exit e inst v ≡ inst_exit f inst v
-inst_exit_agrees Nop0 v a = refl
+inst_exit_agrees (Call info) v a = ap (λ n. Leave (wrap (n + low64 (pos 0)) / 2 * 2)) (a.symbols_same info.dest.number)
+inst_exit_agrees (ReturnCall info) v a = ap (λ n. Leave (wrap (n + low64 (pos 0)) / 2 * 2)) (a.symbols_same info.dest.number)
 inst_exit_agrees _ v a = refl
 
 pub effect_agrees : {e f : Environment} (line : Line) (v : Values) → AgreeOn (named_labels line) e f → effect_of e line v ≡ effect_of f line v

@@ -4,7 +4,7 @@ use Rattle.std.specs.Prelude.{slice_get}
 use Rattle.std.specs.List.{find}
 use Rattle.rv_inst.specs.declared.inst.Inst.{Inst}
 use Rattle.rv_inst.specs.declared.error.Rule.{Rule}
-use Rattle.rv_inst.specs.declared.error.Rule.TheVariants.{Virtual, Class, Reserved, Zero, Clash, BadType, Range, Constant, EmptyTable, NoTarget, Label, DataSize}
+use Rattle.rv_inst.specs.declared.error.Rule.TheVariants.{Virtual, Class, Reserved, Zero, Clash, BadType, Range, Constant, EmptyTable, NoTarget, Label, TailArgs, DataSize}
 use Rattle.rv_inst.specs.Context.{Context}
 use Rattle.rv_inst.specs.Rules.{every_rule, breaks, inst_rule}
 
@@ -31,4 +31,5 @@ breaks_none context inst e Constant = none_passes (breaks context inst) every_ru
 breaks_none context inst e EmptyTable = none_passes (breaks context inst) every_rule e 8 EmptyTable refl
 breaks_none context inst e NoTarget = none_passes (breaks context inst) every_rule e 9 NoTarget refl
 breaks_none context inst e Label = none_passes (breaks context inst) every_rule e 10 Label refl
-breaks_none context inst e DataSize = none_passes (breaks context inst) every_rule e 11 DataSize refl
+breaks_none context inst e TailArgs = none_passes (breaks context inst) every_rule e 11 TailArgs refl
+breaks_none context inst e DataSize = none_passes (breaks context inst) every_rule e 12 DataSize refl

@@ -12,6 +12,7 @@ SameLabels (l ∷ labels) e f = (e.label l.number ≡ f.label l.number) × SameL
 pub record AgreeOn (labels : List MachLabel) (e f : Environment) : Type 0 where
   pub start : e.start ≡ f.start
   pub after : e.after ≡ f.after
+  pub flags : e.flags ≡ f.flags
   pub frame : e.frame ≡ f.frame
   pub labels_same : SameLabels labels e f
   pub constants_same : (k : ℕ) → e.constant k ≡ f.constant k

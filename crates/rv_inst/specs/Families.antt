@@ -1,8 +1,8 @@
 -- The families of instructions.
 use Rattle.rv_inst.specs.declared.inst.Inst.{Inst}
-use Rattle.rv_inst.specs.declared.inst.Inst.TheVariants.{Nop0, Nop4, EBreak, SequencePoint, Args, Rets, DummyUse, Unwind, EmitIsland, RawData, Lui, Auipc, LoadInlineConst, AluRRR, AluRRImm12, Mov, MovFromPReg, Extend, Select, Load, Store, LoadAddr, LabelAddress, Ret, TrapIf, Jal, CondBr, BrTable, Udf, Jalr, Popcnt, Cltz, Brev8, StackProbeLoop, LoadExtNameGot, LoadExtNameNear, LoadExtNameFar}
+use Rattle.rv_inst.specs.declared.inst.Inst.TheVariants.{Nop0, Nop4, EBreak, SequencePoint, Args, Rets, DummyUse, Unwind, EmitIsland, RawData, Lui, Auipc, LoadInlineConst, AluRRR, AluRRImm12, Mov, MovFromPReg, Extend, Select, Load, Store, LoadAddr, LabelAddress, Ret, TrapIf, Jal, CondBr, BrTable, Udf, Jalr, Popcnt, Cltz, Brev8, StackProbeLoop, LoadExtNameGot, LoadExtNameNear, LoadExtNameFar, Call, CallInd, ReturnCall, ReturnCallInd}
 use Rattle.rv_inst.specs.declared.inst.Family.{Family}
-use Rattle.rv_inst.specs.declared.inst.Family.TheVariants.{Pseudo, Integer, Memory, Control, Loop, Symbols}
+use Rattle.rv_inst.specs.declared.inst.Family.TheVariants.{Pseudo, Integer, Memory, Control, Loop, Symbols, Calls}
 
 abbrev pub family_of : Inst → Family
 family_of Nop0 = Pseudo
@@ -23,7 +23,7 @@ family_of (AluRRImm12 op rd rs imm) = Integer
 family_of (Mov rd rm type) = Integer
 family_of (MovFromPReg rd rm) = Integer
 family_of (Extend rd rn signed from_bits to_bits) = Integer
-family_of (Select dst condition x y) = Integer
+family_of (Select info) = Integer
 family_of (Load rd op flags from) = Memory
 family_of (Store to op flags src) = Memory
 family_of (LoadAddr rd mem) = Memory
@@ -42,3 +42,7 @@ family_of (StackProbeLoop guard_size probe_count tmp) = Loop
 family_of (LoadExtNameGot rd name) = Symbols
 family_of (LoadExtNameNear rd name offset) = Symbols
 family_of (LoadExtNameFar rd name offset) = Symbols
+family_of (Call info) = Calls
+family_of (CallInd info) = Calls
+family_of (ReturnCall info) = Calls
+family_of (ReturnCallInd info) = Calls

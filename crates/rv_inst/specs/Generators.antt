@@ -1,5 +1,5 @@
--- The instructions that put a constant into a register, and those that move registers.
-use Rattle.std.specs.Prelude.{◌≡◌, ℕ, ◌==◌, Bool, false, if◌then◌else◌, List, [], ◌∷◌, ℤ, pos, negsuc}
+-- The instructions that put a constant into a register, those that jump by an offset, and those that move registers.
+use Rattle.std.specs.Prelude.{◌≡◌, ℕ, ◌==◌, Bool, false, if◌then◌else◌, List, [], ◌∷◌, Option, Some, None, ℤ, pos, negsuc}
 use Rattle.std.proofs.Common.{lit<, refl}
 use Rattle.std.specs.Int.{cast_signed, w64}
 use Rattle.rv_base.specs.declared.ir_type.IrType.{IrType}
@@ -16,7 +16,7 @@ use Rattle.rv_imms.specs.Splitting.{IsSplittable}
 use Rattle.rv_ops.specs.declared.alu.AluOPRRI.TheVariants.{Addi}
 use Rattle.rv_inst.specs.Immediates.{upper_of, lower_of}
 use Rattle.rv_inst.specs.declared.inst.Inst.{Inst}
-use Rattle.rv_inst.specs.declared.inst.Inst.TheVariants.{Lui, AluRRImm12, Mov, LoadInlineConst}
+use Rattle.rv_inst.specs.declared.inst.Inst.TheVariants.{Lui, Auipc, AluRRImm12, Jalr, Mov, LoadInlineConst}
 
 -- x0, which reads 0
 abbrev pub zero_register : Reg
@@ -47,6 +47,19 @@ pub record AreSplit (rd : Writable Reg) (z : ℤ) (insts : List Inst) : Type 0 w
 pub record AreConstant (ty : IrType) (rd : Writable Reg) (value : ℕ) (insts : List Inst) : Type 0 where
   pub split : IsSplittable (cast_signed w64 value) → AreSplit rd (cast_signed w64 value) insts
   pub inline : ¬ (IsSplittable (cast_signed w64 value)) → insts ≡ LoadInlineConst rd ty value ∷ []
+
+-- where a jump leaves the address after it: in x0, so nowhere, where no register is named
+abbrev pub link_or_zero : Option (Writable Reg) → Writable Reg
+link_or_zero None = record { reg = zero_register }
+link_or_zero (Some link) = link
+
+-- auipc and jalr with an offset's own two immediates
+pub record AreJump (link : Option (Writable Reg)) (tmp : Writable Reg) (offset : ℤ) (insts : List Inst) : Type 0 where
+  pub upper : Imm20
+  pub lower : Imm12
+  pub upper_part : upper.value ≡ upper_of offset
+  pub lower_part : lower.value ≡ lower_of offset
+  pub in_parts : insts ≡ Auipc tmp upper ∷ Jalr (link_or_zero link) tmp.reg lower ∷ []
 
 -- the type of whole registers of a class
 abbrev pub canonical_type : RegClass → IrType

@@ -10,7 +10,10 @@ pub mod LabelUse
 pub mod LabelUseBridges
 pub mod LabelUseWords
 pub mod Meaning
+pub mod Returns
+pub mod Calls
 pub mod Rules
+pub mod Frames
 pub mod SameValues
 pub mod Sizes
 pub mod OneOperation

@@ -1,7 +1,9 @@
 -- What a line means: what it makes of the values, and how it is left.
-use Rattle.std.specs.Prelude.{◌⊎◌, ℕ, zero, suc, ◌+◌, ◌-◌, ◌*◌, ◌/◌, ◌^◌, ◌<◌, ◌≤◌, ◌==◌, Bool, if◌then◌else◌, List, [], ◌∷◌, length, slice_index, slice_get, unwrap_or, map, ℤ}
+use Rattle.std.specs.Prelude.{◌⊎◌, ℕ, zero, suc, ◌+◌, ◌-◌, ◌*◌, ◌/◌, ◌^◌, ◌<◌, ◌≤◌, ◌==◌, Bool, if◌then◌else◌, List, [], ◌∷◌, length, slice_index, slice_get, unwrap_or, map, Option, Some, None, ℤ, pos}
 use Rattle.rv_base.specs.declared.amode.AMode.{AMode}
+use Rattle.rv_base.specs.declared.call.TryCallInfo.{TryCallInfo}
 use Rattle.rv_base.specs.declared.external_name.ExternalName.{ExternalName}
+use Rattle.rv_base.specs.declared.flags.IsaFlags.{IsaFlags}
 use Rattle.rv_base.specs.declared.frame.FrameLayout.{FrameLayout}
 use Rattle.rv_base.specs.declared.ir_type.IrType.{IrType}
 use Rattle.rv_base.specs.declared.label.MachLabel.{MachLabel}
@@ -18,12 +20,15 @@ use Rattle.rv_ops.specs.Alu.{is_reversed}
 use Rattle.rv_encode.specs.Operations.{rrr_op, rri_op, load_op, store_op}
 use Rattle.rv_inst.specs.Addresses.{Location, Based, AtLabel, AtConstant, location_of}
 use Rattle.rv_ops.specs.Memory.{store_size}
+use Rattle.rv_inst.specs.Calls.{Return, return_of}
+use Rattle.rv_inst.specs.Forms.{short_jalr}
 use Rattle.rv_inst.specs.Bits.{extended, ones, zeros, reversed_bytes}
-use Rattle.rv_inst.specs.Operands.{all_of, written_in}
+use Rattle.rv_inst.specs.Operands.{all_of, written_in, try_call_of}
+use Rattle.rv_inst.specs.Returns.{StackLoad, restores, frame_above}
 use Rattle.rv_inst.specs.declared.inst.Line.{Line}
 use Rattle.rv_inst.specs.declared.inst.Line.TheVariants.{Inst as Put, Bind}
 use Rattle.rv_inst.specs.declared.inst.Inst.{Inst}
-use Rattle.rv_inst.specs.declared.inst.Inst.TheVariants.{Nop0, Nop4, EBreak, SequencePoint, Args, Rets, DummyUse, Unwind, EmitIsland, RawData, Lui, Auipc, LoadInlineConst, AluRRR, AluRRImm12, Mov, MovFromPReg, Extend, Select, Load, Store, LoadAddr, LabelAddress, Ret, TrapIf, Jal, CondBr, BrTable, Udf, Jalr, Popcnt, Cltz, Brev8, StackProbeLoop, LoadExtNameGot, LoadExtNameNear, LoadExtNameFar}
+use Rattle.rv_inst.specs.declared.inst.Inst.TheVariants.{Nop0, Nop4, EBreak, SequencePoint, Args, Rets, DummyUse, Unwind, EmitIsland, RawData, Lui, Auipc, LoadInlineConst, AluRRR, AluRRImm12, Mov, MovFromPReg, Extend, Select, Load, Store, LoadAddr, LabelAddress, Ret, TrapIf, Jal, CondBr, BrTable, Udf, Jalr, Popcnt, Cltz, Brev8, StackProbeLoop, LoadExtNameGot, LoadExtNameNear, LoadExtNameFar, Call, CallInd, ReturnCall, ReturnCallInd}
 use Rattle.rv_inst.specs.declared.inst.CondBrTarget.{CondBrTarget}
 use Rattle.rv_inst.specs.declared.inst.CondBrTarget.TheVariants.{Label, Fallthrough}
 use Rattle.rv_machine.specs.State.{Values, reg, set_reg, store, wrap, low64}
@@ -46,7 +51,7 @@ abbrev pub constant_of : IrType → ℕ → ℕ
 constant_of type n = if bits_of type == 32 then extend_word n else wrap n
 
 -- What a line is read among: the addresses of its first byte, of the byte after its last, of labels, constants and symbols by their
--- numbers, and of the slots that hold the addresses of symbols; and the frame.
+-- numbers, and of the slots that hold the addresses of symbols; the flags, and the frame.
 pub record Environment : Type 0 where
   pub start : ℕ
   pub after : ℕ
@@ -54,6 +59,7 @@ pub record Environment : Type 0 where
   pub constant : ℕ → ℕ
   pub symbol : ℕ → ℕ
   pub slot : ℕ → ℕ
+  pub flags : IsaFlags
   pub frame : FrameLayout
 
 -- the address of a location
@@ -100,11 +106,20 @@ set_regs v [] xs = v
 set_regs v (n ∷ ns) [] = v
 set_regs v (n ∷ ns) (x ∷ xs) = set_regs (set_reg v n x) ns xs
 
+-- registers are loaded, one after the other, each from so far above an address
+abbrev pub stack_loaded : ℕ → List StackLoad → Values → Values
+stack_loaded sp [] v = v
+stack_loaded sp (l ∷ loads) v = stack_loaded sp loads (set_reg v l.register (load_result (load_op l.op) v.mem (wrap (sp + low64 l.offset))))
+
+-- a frame is taken away: what it saved is restored, and the stack pointer, which is x2, rises to the next function's arguments
+abbrev pub frame_left : FrameLayout → ℕ → Values → Values
+frame_left frame arguments v = set_reg (stack_loaded (reg v 2) (restores frame) v) 2 (wrap (reg v 2 + frame_above frame arguments))
+
 -- whether a comparison of two registers holds
 abbrev pub compares : IntegerCompare → Values → Bool
 compares cmp v = holds cmp.kind (reg v (number_of cmp.rs1)) (reg v (number_of cmp.rs2))
 
--- what an instruction makes of the values; a jump to a register links
+-- what an instruction makes of the values; a jump to a register links, and a call leaves in ra, which is x1, where it returns to
 abbrev pub inst_effect : Environment → Inst → Values → Values
 inst_effect env Nop0 v = v
 inst_effect env Nop4 v = v
@@ -124,7 +139,7 @@ inst_effect env (AluRRImm12 op rd rs imm) v = set_reg v (number_of rd.reg) (alu_
 inst_effect env (Mov rd rm type) v = set_reg v (number_of rd.reg) (reg v (number_of rm))
 inst_effect env (MovFromPReg rd rm) v = set_reg v (number_of rd.reg) (reg v rm.number)
 inst_effect env (Extend rd rn signed from_bits to_bits) v = set_reg v (number_of rd.reg) (extended signed from_bits (reg v (number_of rn)))
-inst_effect env (Select dst condition x y) v = set_regs v (map number_of (written_in dst)) (map (λ (r : Reg). reg v (number_of r)) (if compares condition v then all_of x else all_of y))
+inst_effect env (Select info) v = set_regs v (map number_of (written_in info.dst)) (map (λ (r : Reg). reg v (number_of r)) (if compares info.condition v then all_of info.x else all_of info.y))
 inst_effect env (Load rd op flags from) v = set_reg v (number_of rd.reg) (load_result (load_op op) v.mem (address_of env from v))
 inst_effect env (Store to op flags src) v = put_bytes v (address_of env to v) (store_bytes (store_op op) (reg v (number_of src)))
 inst_effect env (LoadAddr rd mem) v = set_reg v (number_of rd.reg) (address_of env mem v)
@@ -143,6 +158,10 @@ inst_effect env (StackProbeLoop guard_size probe_count tmp) v = zero_bytes v (pr
 inst_effect env (LoadExtNameGot rd name) v = set_reg v (number_of rd.reg) (load_result (load_op Ld) v.mem (env.slot name.number))
 inst_effect env (LoadExtNameNear rd name offset) v = set_reg v (number_of rd.reg) (symbol_at env name offset)
 inst_effect env (LoadExtNameFar rd name offset) v = set_reg v (number_of rd.reg) (symbol_at env name offset)
+inst_effect env (Call info) v = set_reg v 1 (wrap (env.start + 8))
+inst_effect env (CallInd info) v = set_reg v 1 (wrap (env.start + (short_jalr env.flags 1 (number_of info.dest) (pos 0)).len))
+inst_effect env (ReturnCall info) v = frame_left env.frame info.new_stack_arg_size v
+inst_effect env (ReturnCallInd info) v = frame_left env.frame info.new_stack_arg_size v
 
 -- what a line makes of the values
 abbrev pub effect_of : Environment → Line → Values → Values
@@ -169,7 +188,7 @@ inst_writes env (AluRRImm12 op rd rs imm) v = []
 inst_writes env (Mov rd rm type) v = []
 inst_writes env (MovFromPReg rd rm) v = []
 inst_writes env (Extend rd rn signed from_bits to_bits) v = []
-inst_writes env (Select dst condition x y) v = []
+inst_writes env (Select info) v = []
 inst_writes env (Load rd op flags from) v = []
 inst_writes env (Store to op flags src) v = addresses_from (address_of env to v) (store_size op)
 inst_writes env (LoadAddr rd mem) v = []
@@ -188,6 +207,10 @@ inst_writes env (StackProbeLoop guard_size probe_count tmp) v = probes_of (reg v
 inst_writes env (LoadExtNameGot rd name) v = []
 inst_writes env (LoadExtNameNear rd name offset) v = []
 inst_writes env (LoadExtNameFar rd name offset) v = []
+inst_writes env (Call info) v = []
+inst_writes env (CallInd info) v = []
+inst_writes env (ReturnCall info) v = []
+inst_writes env (ReturnCallInd info) v = []
 
 abbrev pub writes_of : Environment → Line → Values → List ℕ
 writes_of env (Put inst) v = inst_writes env inst v
@@ -217,7 +240,7 @@ inst_temporaries (AluRRImm12 op rd rs imm) = []
 inst_temporaries (Mov rd rm type) = []
 inst_temporaries (MovFromPReg rd rm) = []
 inst_temporaries (Extend rd rn signed from_bits to_bits) = []
-inst_temporaries (Select dst condition x y) = []
+inst_temporaries (Select info) = []
 inst_temporaries (Load rd op flags from) = []
 inst_temporaries (Store to op flags src) = []
 inst_temporaries (LoadAddr rd mem) = []
@@ -236,10 +259,27 @@ inst_temporaries (StackProbeLoop guard_size probe_count tmp) = number_of tmp.reg
 inst_temporaries (LoadExtNameGot rd name) = []
 inst_temporaries (LoadExtNameNear rd name offset) = []
 inst_temporaries (LoadExtNameFar rd name offset) = []
+inst_temporaries (Call info) = []
+inst_temporaries (CallInd info) = []
+inst_temporaries (ReturnCall info) = []
+inst_temporaries (ReturnCallInd info) = []
 
 abbrev pub temporaries_of : Line → List ℕ
 temporaries_of (Put inst) = inst_temporaries inst
 temporaries_of (Bind label) = []
+
+-- what a call makes of the values that its callee returns with: the stack pointer falls
+abbrev pub resumed : ℕ → Values → Values
+resumed popped v = set_reg v 2 (wrap (reg v 2 + (2 ^ 64 - popped)))
+
+abbrev pub resumed_by : Option Return → Values → Values
+resumed_by None v = v
+resumed_by (Some r) v = resumed r.popped v
+
+-- what a line makes of the values with which it is returned to
+abbrev pub return_effect : Environment → Line → Values → Values
+return_effect env (Put inst) v = resumed_by (return_of env.flags inst) v
+return_effect env (Bind label) v = v
 
 -- ---- ways on
 
@@ -282,7 +322,7 @@ inst_exit env (AluRRImm12 op rd rs imm) v = Next
 inst_exit env (Mov rd rm type) v = Next
 inst_exit env (MovFromPReg rd rm) v = Next
 inst_exit env (Extend rd rn signed from_bits to_bits) v = Next
-inst_exit env (Select dst condition x y) v = Next
+inst_exit env (Select info) v = Next
 inst_exit env (Load rd op flags from) v = Next
 inst_exit env (Store to op flags src) v = Next
 inst_exit env (LoadAddr rd mem) v = Next
@@ -301,6 +341,19 @@ inst_exit env (StackProbeLoop guard_size probe_count tmp) v = Next
 inst_exit env (LoadExtNameGot rd name) v = Next
 inst_exit env (LoadExtNameNear rd name offset) v = Next
 inst_exit env (LoadExtNameFar rd name offset) v = Next
+inst_exit env (Call info) v = Leave (symbol_at env info.dest (pos 0) / 2 * 2)
+inst_exit env (CallInd info) v = Leave (reg v (number_of info.dest) / 2 * 2)
+inst_exit env (ReturnCall info) v = Leave (symbol_at env info.dest (pos 0) / 2 * 2)
+inst_exit env (ReturnCallInd info) v = Leave (reg v (number_of info.dest) / 2 * 2)
+
+-- where a call goes on once it has returned
+abbrev pub try_exit : Option TryCallInfo → Exit
+try_exit None = Next
+try_exit (Some t) = To t.continuation.number
+
+abbrev pub return_exit : Line → Exit
+return_exit (Put inst) = try_exit (try_call_of inst)
+return_exit (Bind label) = Next
 
 -- how a line is left from these values
 abbrev pub exit_of : Environment → Line → Values → Exit

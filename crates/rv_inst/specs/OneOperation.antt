@@ -14,7 +14,7 @@ use Rattle.rv_inst.specs.Context.{Context}
 use Rattle.rv_inst.specs.Sizes.{is_byte}
 use Rattle.rv_inst.specs.Forms.{short_rrr, short_rri, short_lui, short_jalr, short_ebreak, short_load, short_store}
 use Rattle.rv_inst.specs.declared.inst.Inst.{Inst}
-use Rattle.rv_inst.specs.declared.inst.Inst.TheVariants.{Nop0, Nop4, EBreak, SequencePoint, Args, Rets, DummyUse, Unwind, EmitIsland, RawData, Lui, Auipc, LoadInlineConst, AluRRR, AluRRImm12, Mov, MovFromPReg, Extend, Select, Load, Store, LoadAddr, LabelAddress, Ret, TrapIf, Jal, CondBr, BrTable, Udf, Jalr, Popcnt, Cltz, Brev8, StackProbeLoop, LoadExtNameGot, LoadExtNameNear, LoadExtNameFar}
+use Rattle.rv_inst.specs.declared.inst.Inst.TheVariants.{Nop0, Nop4, EBreak, SequencePoint, Args, Rets, DummyUse, Unwind, EmitIsland, RawData, Lui, Auipc, LoadInlineConst, AluRRR, AluRRImm12, Mov, MovFromPReg, Extend, Select, Load, Store, LoadAddr, LabelAddress, Ret, TrapIf, Jal, CondBr, BrTable, Udf, Jalr, Popcnt, Cltz, Brev8, StackProbeLoop, LoadExtNameGot, LoadExtNameNear, LoadExtNameFar, Call, CallInd, ReturnCall, ReturnCallInd}
 
 -- a move is addi of 0; there is none to the same register
 abbrev pub move_operation : IsaFlags → ℕ → ℕ → Option Decoded
@@ -60,7 +60,7 @@ operation_of context (AluRRImm12 op rd rs imm) = Some (short_rri context.flags o
 operation_of context (Mov rd rm type) = move_operation context.flags (number_of rd.reg) (number_of rm)
 operation_of context (MovFromPReg rd rm) = move_operation context.flags (number_of rd.reg) rm.number
 operation_of context (Extend rd rn signed from_bits to_bits) = extend_operation context.flags (number_of rd.reg) (number_of rn) signed from_bits
-operation_of context (Select dst condition x y) = None
+operation_of context (Select info) = None
 operation_of context (Load rd op flags from) = load_operation context.flags op (number_of rd.reg) (location_of context.frame from)
 operation_of context (Store to op flags src) = store_operation context.flags op (number_of src) (location_of context.frame to)
 operation_of context (LoadAddr rd mem) = address_operation context.flags (number_of rd.reg) (location_of context.frame mem)
@@ -79,3 +79,7 @@ operation_of context (StackProbeLoop guard_size probe_count tmp) = None
 operation_of context (LoadExtNameGot rd name) = None
 operation_of context (LoadExtNameNear rd name offset) = None
 operation_of context (LoadExtNameFar rd name offset) = None
+operation_of context (Call info) = None
+operation_of context (CallInd info) = None
+operation_of context (ReturnCall info) = None
+operation_of context (ReturnCallInd info) = None

@@ -1,11 +1,18 @@
 -- The registers, labels and constants that a line names, in the order of its fields.
-use Rattle.std.specs.Prelude.{List, [], ◌∷◌, ◌++◌, Option, Some, None}
+use Rattle.std.specs.Prelude.{true, false, List, [], ◌∷◌, ◌++◌, map, Option, Some, None}
 use Rattle.rv_base.specs.declared.amode.AMode.{AMode}
 use Rattle.rv_base.specs.AMode.{registers_of}
 use Rattle.rv_base.specs.declared.amode.AMode.TheVariants.{RegOffset, SPOffset, FPOffset, SlotOffset, IncomingArg, Const, Label as LabelAt}
 use Rattle.rv_base.specs.declared.constant.VCodeConstant.{VCodeConstant}
 use Rattle.rv_base.specs.declared.call.ArgPair.{ArgPair}
 use Rattle.rv_base.specs.declared.call.RetPair.{RetPair}
+use Rattle.rv_base.specs.declared.call.CallArgPair.{CallArgPair}
+use Rattle.rv_base.specs.declared.call.CallRetPair.{CallRetPair}
+use Rattle.rv_base.specs.declared.call.RetLocation.{RetLocation}
+use Rattle.rv_base.specs.declared.call.RetLocation.TheVariants.{Reg as InReg, Stack as OnStack}
+use Rattle.rv_base.specs.declared.call.TryCallHandler.{TryCallHandler}
+use Rattle.rv_base.specs.declared.call.TryCallHandler.TheVariants.{Tag, Default}
+use Rattle.rv_base.specs.declared.call.TryCallInfo.{TryCallInfo}
 use Rattle.rv_base.specs.declared.label.MachLabel.{MachLabel}
 use Rattle.rv_base.specs.declared.regs.Reg.{Reg}
 use Rattle.rv_base.specs.declared.regs.Reg.TheVariants.{Real}
@@ -17,7 +24,8 @@ use Rattle.rv_base.specs.declared.value_regs.ValueRegs.TheVariants.{One, Two}
 use Rattle.rv_inst.specs.declared.inst.Line.{Line}
 use Rattle.rv_inst.specs.declared.inst.Line.TheVariants.{Inst as Put, Bind}
 use Rattle.rv_inst.specs.declared.inst.Inst.{Inst}
-use Rattle.rv_inst.specs.declared.inst.Inst.TheVariants.{Nop0, Nop4, EBreak, SequencePoint, Args, Rets, DummyUse, Unwind, EmitIsland, RawData, Lui, Auipc, LoadInlineConst, AluRRR, AluRRImm12, Mov, MovFromPReg, Extend, Select, Load, Store, LoadAddr, LabelAddress, Ret, TrapIf, Jal, CondBr, BrTable, Udf, Jalr, Popcnt, Cltz, Brev8, StackProbeLoop, LoadExtNameGot, LoadExtNameNear, LoadExtNameFar}
+use Rattle.rv_inst.specs.declared.inst.Inst.TheVariants.{Nop0, Nop4, EBreak, SequencePoint, Args, Rets, DummyUse, Unwind, EmitIsland, RawData, Lui, Auipc, LoadInlineConst, AluRRR, AluRRImm12, Mov, MovFromPReg, Extend, Select, Load, Store, LoadAddr, LabelAddress, Ret, TrapIf, Jal, CondBr, BrTable, Udf, Jalr, Popcnt, Cltz, Brev8, StackProbeLoop, LoadExtNameGot, LoadExtNameNear, LoadExtNameFar, Call, CallInd, ReturnCall, ReturnCallInd}
+use Rattle.rv_inst.specs.declared.tail_calls.TailCall.{TailCall}
 use Rattle.rv_inst.specs.declared.targets.Targets.{Targets}
 use Rattle.rv_inst.specs.declared.targets.Targets.TheVariants.{Nowhere, Jumps, Branches, Refers, RefersConstant}
 use Rattle.rv_inst.specs.declared.inst.CondBrTarget.{CondBrTarget}
@@ -30,6 +38,18 @@ arg_registers (p ∷ pairs) = p.vreg.reg ∷ p.preg ∷ arg_registers pairs
 abbrev pub ret_registers : List RetPair → List Reg
 ret_registers [] = []
 ret_registers (p ∷ pairs) = p.vreg ∷ p.preg ∷ ret_registers pairs
+
+abbrev pub use_registers : List CallArgPair → List Reg
+use_registers [] = []
+use_registers (p ∷ pairs) = p.vreg ∷ p.preg ∷ use_registers pairs
+
+abbrev pub location_registers : RetLocation → List Reg
+location_registers (InReg r) = r ∷ []
+location_registers (OnStack offset type) = []
+
+abbrev pub def_registers : List CallRetPair → List Reg
+def_registers [] = []
+def_registers (d ∷ defs) = d.vreg.reg ∷ location_registers d.location ++ def_registers defs
 
 -- the registers of a value
 abbrev pub all_of : {R : Type 0} → ValueRegs R → List R
@@ -68,7 +88,7 @@ inst_registers (AluRRImm12 op rd rs imm) = rd.reg ∷ rs ∷ []
 inst_registers (Mov rd rm type) = rd.reg ∷ rm ∷ []
 inst_registers (MovFromPReg rd rm) = rd.reg ∷ Real rm ∷ []
 inst_registers (Extend rd rn signed from_bits to_bits) = rd.reg ∷ rn ∷ []
-inst_registers (Select dst condition x y) = written_in dst ++ condition.rs1 ∷ condition.rs2 ∷ all_of x ++ all_of y
+inst_registers (Select info) = written_in info.dst ++ info.condition.rs1 ∷ info.condition.rs2 ∷ all_of info.x ++ all_of info.y
 inst_registers (Load rd op flags from) = rd.reg ∷ registers_of from
 inst_registers (Store to op flags src) = src ∷ registers_of to
 inst_registers (LoadAddr rd mem) = rd.reg ∷ registers_of mem
@@ -87,6 +107,10 @@ inst_registers (StackProbeLoop guard_size probe_count tmp) = tmp.reg ∷ []
 inst_registers (LoadExtNameGot rd name) = rd.reg ∷ []
 inst_registers (LoadExtNameNear rd name offset) = rd.reg ∷ []
 inst_registers (LoadExtNameFar rd name offset) = rd.reg ∷ []
+inst_registers (Call info) = use_registers info.uses ++ def_registers info.defs
+inst_registers (CallInd info) = info.dest ∷ use_registers info.uses ++ def_registers info.defs
+inst_registers (ReturnCall info) = use_registers info.uses
+inst_registers (ReturnCallInd info) = info.dest ∷ use_registers info.uses
 
 abbrev pub target_labels : CondBrTarget → List MachLabel
 target_labels (Label label) = label ∷ []
@@ -122,7 +146,7 @@ targets_of (AluRRImm12 op rd rs imm) = Nowhere
 targets_of (Mov rd rm type) = Nowhere
 targets_of (MovFromPReg rd rm) = Nowhere
 targets_of (Extend rd rn signed from_bits to_bits) = Nowhere
-targets_of (Select dst condition x y) = Nowhere
+targets_of (Select info) = Nowhere
 targets_of (Load rd op flags from) = address_targets from
 targets_of (Store to op flags src) = address_targets to
 targets_of (LoadAddr rd mem) = address_targets mem
@@ -141,6 +165,10 @@ targets_of (StackProbeLoop guard_size probe_count tmp) = Nowhere
 targets_of (LoadExtNameGot rd name) = Nowhere
 targets_of (LoadExtNameNear rd name offset) = Nowhere
 targets_of (LoadExtNameFar rd name offset) = Nowhere
+targets_of (Call info) = Nowhere
+targets_of (CallInd info) = Nowhere
+targets_of (ReturnCall info) = Nowhere
+targets_of (ReturnCallInd info) = Nowhere
 
 -- the labels of an instruction's table, the default first
 abbrev pub table_of : Inst → List MachLabel
@@ -162,7 +190,7 @@ table_of (AluRRImm12 op rd rs imm) = []
 table_of (Mov rd rm type) = []
 table_of (MovFromPReg rd rm) = []
 table_of (Extend rd rn signed from_bits to_bits) = []
-table_of (Select dst condition x y) = []
+table_of (Select info) = []
 table_of (Load rd op flags from) = []
 table_of (Store to op flags src) = []
 table_of (LoadAddr rd mem) = []
@@ -181,6 +209,107 @@ table_of (StackProbeLoop guard_size probe_count tmp) = []
 table_of (LoadExtNameGot rd name) = []
 table_of (LoadExtNameNear rd name offset) = []
 table_of (LoadExtNameFar rd name offset) = []
+table_of (Call info) = []
+table_of (CallInd info) = []
+table_of (ReturnCall info) = []
+table_of (ReturnCallInd info) = []
+
+-- the tail call that an instruction is
+abbrev pub tail_call_of : Inst → Option TailCall
+tail_call_of Nop0 = None
+tail_call_of Nop4 = None
+tail_call_of EBreak = None
+tail_call_of SequencePoint = None
+tail_call_of (Args args) = None
+tail_call_of (Rets rets) = None
+tail_call_of (DummyUse reg) = None
+tail_call_of (Unwind inst) = None
+tail_call_of (EmitIsland needed_space) = None
+tail_call_of (RawData bytes) = None
+tail_call_of (Lui rd imm) = None
+tail_call_of (Auipc rd imm) = None
+tail_call_of (LoadInlineConst rd type imm) = None
+tail_call_of (AluRRR op rd rs1 rs2) = None
+tail_call_of (AluRRImm12 op rd rs imm) = None
+tail_call_of (Mov rd rm type) = None
+tail_call_of (MovFromPReg rd rm) = None
+tail_call_of (Extend rd rn signed from_bits to_bits) = None
+tail_call_of (Select info) = None
+tail_call_of (Load rd op flags from) = None
+tail_call_of (Store to op flags src) = None
+tail_call_of (LoadAddr rd mem) = None
+tail_call_of (LabelAddress dst label) = None
+tail_call_of Ret = None
+tail_call_of (TrapIf cmp code) = None
+tail_call_of (Jal label) = None
+tail_call_of (CondBr taken not_taken kind) = None
+tail_call_of (BrTable index tmp1 tmp2 targets) = None
+tail_call_of (Udf code) = None
+tail_call_of (Jalr rd base offset) = None
+tail_call_of (Popcnt sum tmp step rs type) = None
+tail_call_of (Cltz sum tmp step rs leading type) = None
+tail_call_of (Brev8 rs type step tmp tmp2 rd) = None
+tail_call_of (StackProbeLoop guard_size probe_count tmp) = None
+tail_call_of (LoadExtNameGot rd name) = None
+tail_call_of (LoadExtNameNear rd name offset) = None
+tail_call_of (LoadExtNameFar rd name offset) = None
+tail_call_of (Call info) = None
+tail_call_of (CallInd info) = None
+tail_call_of (ReturnCall info) = Some (record { stack_arg_size = info.new_stack_arg_size; by_register = false })
+tail_call_of (ReturnCallInd info) = Some (record { stack_arg_size = info.new_stack_arg_size; by_register = true })
+
+-- where control goes after a call that ends its block
+abbrev pub try_call_of : Inst → Option TryCallInfo
+try_call_of Nop0 = None
+try_call_of Nop4 = None
+try_call_of EBreak = None
+try_call_of SequencePoint = None
+try_call_of (Args args) = None
+try_call_of (Rets rets) = None
+try_call_of (DummyUse reg) = None
+try_call_of (Unwind inst) = None
+try_call_of (EmitIsland needed_space) = None
+try_call_of (RawData bytes) = None
+try_call_of (Lui rd imm) = None
+try_call_of (Auipc rd imm) = None
+try_call_of (LoadInlineConst rd type imm) = None
+try_call_of (AluRRR op rd rs1 rs2) = None
+try_call_of (AluRRImm12 op rd rs imm) = None
+try_call_of (Mov rd rm type) = None
+try_call_of (MovFromPReg rd rm) = None
+try_call_of (Extend rd rn signed from_bits to_bits) = None
+try_call_of (Select info) = None
+try_call_of (Load rd op flags from) = None
+try_call_of (Store to op flags src) = None
+try_call_of (LoadAddr rd mem) = None
+try_call_of (LabelAddress dst label) = None
+try_call_of Ret = None
+try_call_of (TrapIf cmp code) = None
+try_call_of (Jal label) = None
+try_call_of (CondBr taken not_taken kind) = None
+try_call_of (BrTable index tmp1 tmp2 targets) = None
+try_call_of (Udf code) = None
+try_call_of (Jalr rd base offset) = None
+try_call_of (Popcnt sum tmp step rs type) = None
+try_call_of (Cltz sum tmp step rs leading type) = None
+try_call_of (Brev8 rs type step tmp tmp2 rd) = None
+try_call_of (StackProbeLoop guard_size probe_count tmp) = None
+try_call_of (LoadExtNameGot rd name) = None
+try_call_of (LoadExtNameNear rd name offset) = None
+try_call_of (LoadExtNameFar rd name offset) = None
+try_call_of (Call info) = info.try_call_info
+try_call_of (CallInd info) = info.try_call_info
+try_call_of (ReturnCall info) = None
+try_call_of (ReturnCallInd info) = None
+
+abbrev pub handler_label : TryCallHandler → MachLabel
+handler_label (Tag tag label) = label
+handler_label (Default label) = label
+
+-- where a call goes on, and those of its handlers
+abbrev pub try_labels : Option TryCallInfo → List MachLabel
+try_labels None = []
+try_labels (Some t) = t.continuation ∷ map handler_label t.handlers
 
 abbrev pub labels_of : Targets → List MachLabel
 labels_of Nowhere = []
@@ -211,11 +340,15 @@ inst_constant inst = constant_named (targets_of inst)
 
 -- the labels that an instruction names
 abbrev pub inst_labels : Inst → List MachLabel
-inst_labels inst = labels_of (targets_of inst) ++ table_of inst
+inst_labels inst = try_labels (try_call_of inst) ++ labels_of (targets_of inst) ++ table_of inst
+
+abbrev pub ways_by : Option TryCallInfo → Targets → List MachLabel
+ways_by None targets = ways_of targets
+ways_by (Some t) targets = t.continuation ∷ []
 
 -- the labels to which an instruction goes, maybe by a veneer
 abbrev pub inst_ways : Inst → List MachLabel
-inst_ways inst = ways_of (targets_of inst)
+inst_ways inst = ways_by (try_call_of inst) (targets_of inst)
 
 -- the labels to which a line goes, maybe by a veneer
 abbrev pub line_ways : Line → List MachLabel

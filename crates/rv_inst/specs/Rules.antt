@@ -1,8 +1,13 @@
 -- The rules of a line, in their order. Each is a test of what a line breaks.
-use Rattle.std.specs.Prelude.{ℕ, Bool, true, false, not, ◌&&◌, ◌||◌, ◌==◌, nat_le, nat_lt, is_none, slice_get, if◌then◌else◌, List, [], ◌∷◌, ◌++◌, length, Option, Some, None, ℤ, pos, negsuc}
+use Rattle.std.specs.Prelude.{ℕ, Bool, true, false, not, ◌&&◌, ◌||◌, ◌==◌, ◌^◌, nat_le, nat_lt, is_none, slice_get, if◌then◌else◌, List, [], ◌∷◌, ◌++◌, length, Option, Some, None, ℤ, pos, negsuc}
 use Rattle.std.specs.List.{list_any, find}
 use Rattle.rv_base.specs.declared.call.ArgPair.{ArgPair}
 use Rattle.rv_base.specs.declared.call.RetPair.{RetPair}
+use Rattle.rv_base.specs.declared.call.CallArgPair.{CallArgPair}
+use Rattle.rv_base.specs.declared.call.CallRetPair.{CallRetPair}
+use Rattle.rv_base.specs.declared.call.RetLocation.{RetLocation}
+use Rattle.rv_base.specs.declared.call.RetLocation.TheVariants.{Reg as InReg, Stack as OnStack}
+use Rattle.rv_base.specs.declared.frame.FrameLayout.{FrameLayout}
 use Rattle.rv_base.specs.declared.ir_type.IrType.{IrType}
 use Rattle.rv_base.specs.declared.ir_type.IrType.TheVariants.{I8, I16, I32, I64, I128, F16, F32, F64, F128, Vector as VectorOf}
 use Rattle.rv_base.specs.declared.label.MachLabel.{MachLabel}
@@ -25,14 +30,15 @@ use Rattle.rv_ops.specs.Alu.{Upper, Number, Shamt6, Shamt5, Fixed, rri_numbers}
 use Rattle.rv_inst.specs.declared.inst.Line.{Line}
 use Rattle.rv_inst.specs.declared.inst.Line.TheVariants.{Inst as Put, Bind}
 use Rattle.rv_inst.specs.declared.inst.Inst.{Inst}
-use Rattle.rv_inst.specs.declared.inst.Inst.TheVariants.{Nop0, Nop4, EBreak, SequencePoint, Args, Rets, DummyUse, Unwind, EmitIsland, RawData, Lui, Auipc, LoadInlineConst, AluRRR, AluRRImm12, Mov, MovFromPReg, Extend, Select, Load, Store, LoadAddr, LabelAddress, Ret, TrapIf, Jal, CondBr, BrTable, Udf, Jalr, Popcnt, Cltz, Brev8, StackProbeLoop, LoadExtNameGot, LoadExtNameNear, LoadExtNameFar}
+use Rattle.rv_inst.specs.declared.inst.Inst.TheVariants.{Nop0, Nop4, EBreak, SequencePoint, Args, Rets, DummyUse, Unwind, EmitIsland, RawData, Lui, Auipc, LoadInlineConst, AluRRR, AluRRImm12, Mov, MovFromPReg, Extend, Select, Load, Store, LoadAddr, LabelAddress, Ret, TrapIf, Jal, CondBr, BrTable, Udf, Jalr, Popcnt, Cltz, Brev8, StackProbeLoop, LoadExtNameGot, LoadExtNameNear, LoadExtNameFar, Call, CallInd, ReturnCall, ReturnCallInd}
 use Rattle.rv_inst.specs.declared.inst.CondBrTarget.{CondBrTarget}
 use Rattle.rv_inst.specs.declared.inst.CondBrTarget.TheVariants.{Label as ToLabel, Fallthrough}
 use Rattle.rv_inst.specs.declared.error.Rule.{Rule}
-use Rattle.rv_inst.specs.declared.error.Rule.TheVariants.{Virtual, Class, Reserved, Zero, Clash, BadType, Range, Constant as ConstantRule, EmptyTable, NoTarget, Label, DataSize}
+use Rattle.rv_inst.specs.declared.error.Rule.TheVariants.{Virtual, Class, Reserved, Zero, Clash, BadType, Range, Constant as ConstantRule, EmptyTable, NoTarget, Label, TailArgs, DataSize}
 use Rattle.rv_inst.specs.Addresses.{constant_in, is_distant}
 use Rattle.rv_inst.specs.Context.{Context}
-use Rattle.rv_inst.specs.Operands.{all_of, written_in, inst_registers, inst_labels}
+use Rattle.rv_inst.specs.Operands.{all_of, written_in, inst_registers, inst_labels, tail_call_of}
+use Rattle.rv_inst.specs.declared.tail_calls.TailCall.{TailCall}
 
 -- ---- registers
 
@@ -113,6 +119,28 @@ is_stack (AVirtual class index) = false
 abbrev pub is_stack_or_frame : PReg → Bool
 is_stack_or_frame p = is_int_class p.class && (p.number == 2 || p.number == 8)
 
+-- whether a register is of another class than that in which a callee leaves a result
+abbrev pub location_differs : Reg → RetLocation → Bool
+location_differs r (InReg s) = differ_in_class r s
+location_differs r (OnStack offset type) = false
+
+-- whether a result is left on the stack
+abbrev pub is_on_stack : RetLocation → Bool
+is_on_stack (InReg s) = false
+is_on_stack (OnStack offset type) = true
+
+abbrev pub is_stacked : CallRetPair → Bool
+is_stacked d = is_on_stack d.location
+
+-- whether the two registers of an argument or of a result are of different classes
+abbrev pub call_differs : List CallArgPair → List CallRetPair → Bool
+call_differs uses defs = list_any (λ (p : CallArgPair). differ_in_class p.vreg p.preg) uses || list_any (λ (d : CallRetPair). location_differs d.vreg.reg d.location) defs
+
+-- t0, which is x5
+abbrev pub is_fifth : Reg → Bool
+is_fifth (Real p) = is_int_class p.class && p.number == 5
+is_fifth (AVirtual class index) = false
+
 -- ---- types and numbers
 
 abbrev pub is_int_type : IrType → Bool
@@ -166,7 +194,7 @@ is_buffer_label label = nat_le first_inner label.number
 
 -- which of these rules are broken: some register has another class than its place asks; x0 stands where a result is computed in
 -- steps; a register that is written before all are read is another's too; a type isn't taken; a shift amount or a bit's index is
--- beyond the register's width; a table has no label; a branch has nowhere to go where its comparison holds; data has a length that isn't taken
+-- beyond the register's width, or a number beyond its range; a table has no label; a branch has nowhere to go where its comparison holds; data has a length that isn't taken
 pub record Faults : Type 0 where
   pub class : Bool
   pub zeroed : Bool
@@ -209,7 +237,7 @@ faults_of (AluRRImm12 op rd rs imm) = record (has_other_class (list_any is_other
 faults_of (Mov rd rm type) = record (has_other_class (differ_in_class rd.reg rm)) { type = not (is_int_class (class_of rm) && is_int_type type) }
 faults_of (MovFromPReg rd rm) = has_other_class (is_other_class rd.reg || not (is_stack_or_frame rm))
 faults_of (Extend rd rn signed from_bits to_bits) = record (has_other_class (list_any is_other_class (rd.reg ∷ rn ∷ []))) { range = not (nat_le 1 from_bits && nat_le from_bits 64) }
-faults_of (Select dst condition x y) = record (has_other_class (list_any is_other_class (written_in dst ++ condition.rs1 ∷ condition.rs2 ∷ all_of x ++ all_of y))) { clashing = is_uneven dst x y || select_clash dst (condition.rs1 ∷ condition.rs2 ∷ []) (all_of x ++ all_of y) }
+faults_of (Select info) = record (has_other_class (list_any is_other_class (written_in info.dst ++ info.condition.rs1 ∷ info.condition.rs2 ∷ all_of info.x ++ all_of info.y))) { clashing = is_uneven info.dst info.x info.y || select_clash info.dst (info.condition.rs1 ∷ info.condition.rs2 ∷ []) (all_of info.x ++ all_of info.y) }
 faults_of (Load rd op flags from) = record (has_other_class (list_any is_other_class (rd.reg ∷ registers_of from))) { zeroed = is_none (base_of from) && is_zero rd.reg; range = is_distant (own_offset from) }
 faults_of (Store to op flags src) = record (has_other_class (list_any is_other_class (src ∷ registers_of to))) { range = is_distant (own_offset to) }
 faults_of (LoadAddr rd mem) = record (has_other_class (list_any is_other_class (rd.reg ∷ registers_of mem))) { zeroed = is_zero rd.reg; clashing = is_base rd.reg (base_of mem); range = is_distant (own_offset mem) }
@@ -236,6 +264,10 @@ faults_of (StackProbeLoop guard_size probe_count tmp) = record (has_other_class 
 faults_of (LoadExtNameGot rd name) = record (has_other_class (list_any is_other_class (rd.reg ∷ []))) { zeroed = list_any is_zero (rd.reg ∷ []) }
 faults_of (LoadExtNameNear rd name offset) = record (has_other_class (list_any is_other_class (rd.reg ∷ []))) { zeroed = list_any is_zero (rd.reg ∷ []) }
 faults_of (LoadExtNameFar rd name offset) = record (has_other_class (list_any is_other_class (rd.reg ∷ []))) { zeroed = list_any is_zero (rd.reg ∷ []) }
+faults_of (Call info) = record (has_other_class (call_differs info.uses info.defs)) { type = list_any is_stacked info.defs; range = nat_le (2 ^ 31) info.callee_pop_size }
+faults_of (CallInd info) = record (has_other_class (is_other_class info.dest || call_differs info.uses info.defs)) { type = list_any is_stacked info.defs; range = nat_le (2 ^ 31) info.callee_pop_size }
+faults_of (ReturnCall info) = has_other_class (list_any (λ (p : CallArgPair). differ_in_class p.vreg p.preg) info.uses)
+faults_of (ReturnCallInd info) = has_other_class (not (is_fifth info.dest) || list_any (λ (p : CallArgPair). differ_in_class p.vreg p.preg) info.uses)
 
 abbrev pub is_misplaced : Inst → Bool
 is_misplaced inst = (faults_of inst).class
@@ -292,7 +324,7 @@ lacks_constant constants (AluRRImm12 op rd rs imm) = false
 lacks_constant constants (Mov rd rm type) = false
 lacks_constant constants (MovFromPReg rd rm) = false
 lacks_constant constants (Extend rd rn signed from_bits to_bits) = false
-lacks_constant constants (Select dst condition x y) = false
+lacks_constant constants (Select info) = false
 lacks_constant constants (Load rd op flags from) = lacks_bytes constants (load_size op) (constant_in from)
 lacks_constant constants (Store to op flags src) = lacks_bytes constants 0 (constant_in to)
 lacks_constant constants (LoadAddr rd mem) = lacks_bytes constants 0 (constant_in mem)
@@ -311,11 +343,22 @@ lacks_constant constants (StackProbeLoop guard_size probe_count tmp) = false
 lacks_constant constants (LoadExtNameGot rd name) = false
 lacks_constant constants (LoadExtNameNear rd name offset) = false
 lacks_constant constants (LoadExtNameFar rd name offset) = false
+lacks_constant constants (Call info) = false
+lacks_constant constants (CallInd info) = false
+lacks_constant constants (ReturnCall info) = false
+lacks_constant constants (ReturnCallInd info) = false
+
+-- ---- frames
+
+-- whether a tail call's arguments on the stack take more bytes than the frame has for them
+abbrev pub exceeds_arguments : FrameLayout → Option TailCall → Bool
+exceeds_arguments frame None = false
+exceeds_arguments frame (Some tail) = nat_lt frame.tail_args_size tail.stack_arg_size
 
 -- ---- the rules in their order
 
 unfoldable pub every_rule : List Rule
-every_rule = Virtual ∷ Class ∷ Reserved ∷ Zero ∷ Clash ∷ BadType ∷ Range ∷ ConstantRule ∷ EmptyTable ∷ NoTarget ∷ Label ∷ DataSize ∷ []
+every_rule = Virtual ∷ Class ∷ Reserved ∷ Zero ∷ Clash ∷ BadType ∷ Range ∷ ConstantRule ∷ EmptyTable ∷ NoTarget ∷ Label ∷ TailArgs ∷ DataSize ∷ []
 
 -- whether an instruction breaks a rule, in its context
 abbrev pub breaks : Context → Inst → Rule → Bool
@@ -330,6 +373,7 @@ breaks context inst ConstantRule = lacks_constant context.constants inst
 breaks context inst EmptyTable = has_empty_table inst
 breaks context inst NoTarget = lacks_target inst
 breaks context inst Label = list_any is_buffer_label (inst_labels inst)
+breaks context inst TailArgs = exceeds_arguments context.frame (tail_call_of inst)
 breaks context inst DataSize = has_bad_size inst
 
 -- ---- the first rule that is broken

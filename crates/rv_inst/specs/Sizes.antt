@@ -1,36 +1,39 @@
 -- How many bytes an instruction puts, and how many it counts for.
-use Rattle.std.specs.Prelude.{ℕ, ◌+◌, ◌-◌, ◌/◌, length, nat_eq, if◌then◌else◌, Option, Some, None, pos, negsuc, ◌*◌, ◌==◌, Bool, true, false, not, ◌&&◌, List, [], ◌∷◌, map, ℤ}
+use Rattle.std.specs.Prelude.{ℕ, ◌+◌, ◌-◌, ◌/◌, length, nat_eq, if◌then◌else◌, Option, Some, None, pos, negsuc, ◌*◌, ◌==◌, Bool, true, false, not, ◌&&◌, List, [], ◌∷◌, map, ℤ, ◌-ℤ◌}
 use Rattle.std.specs.Int.{cast_signed, w64}
 use Rattle.rv_base.specs.IrType.{bits_of}
 use Rattle.rv_base.specs.Regs.{number_of}
 use Rattle.rv_base.specs.declared.regs.Reg.{Reg}
 use Rattle.rv_base.specs.declared.regs.Writable.{Writable}
 use Rattle.rv_base.specs.declared.value_regs.ValueRegs.{ValueRegs}
+use Rattle.rv_base.specs.declared.call.TryCallInfo.{TryCallInfo}
 use Rattle.rv_base.specs.declared.flags.IsaFlags.{IsaFlags}
+use Rattle.rv_base.specs.declared.frame.FrameLayout.{FrameLayout}
 use Rattle.rv_ops.specs.declared.alu.AluOPRRR.TheVariants as rrr
 use Rattle.rv_ops.specs.declared.alu.AluOPRRI.{AluOPRRI}
 use Rattle.rv_ops.specs.declared.alu.AluOPRRI.TheVariants as rri
 use Rattle.rv_ops.specs.declared.memory.StoreOP.TheVariants.{Sb}
 use Rattle.rv_machine.specs.State.{low64}
 use Rattle.rv_machine.specs.Arithmetic.{low_word}
-use Rattle.rv_inst.specs.Addresses.{location_of, is_splittable, inline_size, far_size, address_size, load_size_at, store_size_at}
+use Rattle.rv_inst.specs.Addresses.{Based, location_of, is_near, is_splittable, inline_size, far_size, address_size, load_size_at, store_size_at}
 use Rattle.rv_inst.specs.Forms.{short_rrr, short_rri, short_lui, short_jalr, short_ebreak, short_store, jump_size}
 use Rattle.rv_inst.specs.Immediates.{upper_of, lower_of}
 use Rattle.rv_inst.specs.Operands.{all_of, written_in}
 use Rattle.rv_inst.specs.Context.{Context}
+use Rattle.rv_inst.specs.Returns.{StackLoad, restores, frame_above}
 use Rattle.rv_inst.specs.declared.inst.Line.{Line}
 use Rattle.rv_inst.specs.declared.inst.Line.TheVariants.{Inst as Put, Bind}
 use Rattle.rv_inst.specs.declared.inst.Inst.{Inst}
-use Rattle.rv_inst.specs.declared.inst.Inst.TheVariants.{Nop0, Nop4, EBreak, SequencePoint, Args, Rets, DummyUse, Unwind, EmitIsland, RawData, Lui, Auipc, LoadInlineConst, AluRRR, AluRRImm12, Mov, MovFromPReg, Extend, Select, Load, Store, LoadAddr, LabelAddress, Ret, TrapIf, Jal, CondBr, BrTable, Udf, Jalr, Popcnt, Cltz, Brev8, StackProbeLoop, LoadExtNameGot, LoadExtNameNear, LoadExtNameFar}
+use Rattle.rv_inst.specs.declared.inst.Inst.TheVariants.{Nop0, Nop4, EBreak, SequencePoint, Args, Rets, DummyUse, Unwind, EmitIsland, RawData, Lui, Auipc, LoadInlineConst, AluRRR, AluRRImm12, Mov, MovFromPReg, Extend, Select, Load, Store, LoadAddr, LabelAddress, Ret, TrapIf, Jal, CondBr, BrTable, Udf, Jalr, Popcnt, Cltz, Brev8, StackProbeLoop, LoadExtNameGot, LoadExtNameNear, LoadExtNameFar, Call, CallInd, ReturnCall, ReturnCallInd}
 use Rattle.rv_inst.specs.declared.inst.CondBrTarget.{CondBrTarget}
 use Rattle.rv_inst.specs.declared.inst.CondBrTarget.TheVariants.{Label, Fallthrough}
 
--- what an instruction puts: so many bytes of its own; an island where one is needed before so many bytes; or, of a branch by a
--- table of so many labels, an island where one is needed before it, and then so many bytes of its own
+-- what an instruction puts: so many bytes of its own; an island where one is needed before so many bytes; or an island where one is
+-- needed before so many bytes, and then so many of its own, which count for so many beside 128
 pub data Extent : Type 0 where
   Words : ℕ → Extent
   Island : ℕ → Extent
-  Table : ℕ → ℕ → Extent
+  After : ℕ → ℕ → ℕ → Extent
 
 -- addi of 0; a move to the same register has no instruction
 abbrev pub move_size : IsaFlags → ℕ → ℕ → ℕ
@@ -150,6 +153,44 @@ probe_size flags tmp guard count =
 abbrev pub table_size : IsaFlags → ℕ → ℕ → ℕ → ℕ
 table_size flags index tmp2 labels = extend_size flags 31 index false 32 + number_size flags tmp2 (pos (labels - 1)) + 4 + 8 + 16 + 8 * (labels - 1)
 
+-- loads from the stack, one after the other
+abbrev pub stack_loads_size : IsaFlags → List StackLoad → ℕ
+stack_loads_size flags [] = 0
+stack_loads_size flags (l ∷ loads) = load_size_at flags l.op l.register (Based 2 l.offset) + stack_loads_size flags loads
+
+-- The stack pointer rises by addi, or by the sum with a number in x31; not at all by 0.
+abbrev pub stack_step_size : IsaFlags → ℤ → ℕ
+stack_step_size flags z =
+    if low64 z == 0 then 0 else
+    if is_near z then (short_rri flags rri.Addi 2 2 z).len else
+    number_size flags 31 z + (short_rrr flags rrr.Add 2 2 31).len
+
+-- it falls by so many bytes
+abbrev pub fall : ℕ → ℤ
+fall popped = pos 0 -ℤ pos popped
+
+-- a frame is taken away
+abbrev pub return_size : IsaFlags → FrameLayout → ℕ → ℕ
+return_size flags frame arguments = stack_loads_size flags (restores frame) + stack_step_size flags (pos (frame_above frame arguments))
+
+-- and then comes a jump of so many bytes; an island is asked for before all of them, where a jump by a register counts as one of
+-- four bytes
+abbrev pub tail_extent : Context → ℕ → ℕ → ℕ → Extent
+tail_extent context arguments asked jump = After (return_size context.flags context.frame arguments + asked) (return_size context.flags context.frame arguments + jump) (32 * length context.frame.clobbered_callee_saves)
+
+-- after the words of a call, which are so long, the stack pointer falls by what the callee took away
+abbrev pub call_size : IsaFlags → ℕ → ℕ → ℕ
+call_size flags jump popped = jump + stack_step_size flags (fall popped)
+
+-- where it ends its block, a jump goes on
+abbrev pub try_size : IsaFlags → Option TryCallInfo → ℕ
+try_size flags None = 0
+try_size flags (Some t) = jump_size flags
+
+-- an island is asked for before a branch by a table: twelve words of four bytes, and two for each label beside the default
+abbrev pub table_space : ℕ → ℕ
+table_space labels = 4 * (12 + 2 * (labels - 1))
+
 -- A trap where a comparison holds is a branch over a trap. What a label's or a constant's address is taken by, and auipc, have
 -- no forms of sixteen bits.
 abbrev pub extent_of : Context → Inst → Extent
@@ -171,7 +212,7 @@ extent_of context (AluRRImm12 op rd rs imm) = Words (short_rri context.flags op 
 extent_of context (Mov rd rm type) = Words (move_size context.flags (number_of rd.reg) (number_of rm))
 extent_of context (MovFromPReg rd rm) = Words (move_size context.flags (number_of rd.reg) rm.number)
 extent_of context (Extend rd rn signed from_bits to_bits) = Words (extend_size context.flags (number_of rd.reg) (number_of rn) signed from_bits)
-extent_of context (Select dst condition x y) = Words (select_size context.flags dst x y)
+extent_of context (Select info) = Words (select_size context.flags info.dst info.x info.y)
 extent_of context (Load rd op flags from) = Words (load_size_at context.flags op (number_of rd.reg) (location_of context.frame from))
 extent_of context (Store to op flags src) = Words (store_size_at context.flags op (number_of src) (location_of context.frame to))
 extent_of context (LoadAddr rd mem) = Words (address_size context.flags (number_of rd.reg) (location_of context.frame mem))
@@ -180,7 +221,7 @@ extent_of context Ret = Words (short_jalr context.flags 0 1 (pos 0)).len
 extent_of context (TrapIf cmp code) = Words (4 + trap_size context.flags)
 extent_of context (Jal label) = Words (jump_size context.flags)
 extent_of context (CondBr taken not_taken kind) = Words (branch_size context.flags taken not_taken)
-extent_of context (BrTable index tmp1 tmp2 targets) = Table (length targets) (table_size context.flags (number_of index) (number_of tmp2.reg) (length targets))
+extent_of context (BrTable index tmp1 tmp2 targets) = After (table_space (length targets)) (table_size context.flags (number_of index) (number_of tmp2.reg) (length targets)) (8 * length targets)
 extent_of context (Udf code) = Words (trap_size context.flags)
 extent_of context (Jalr rd base offset) = Words (short_jalr context.flags (number_of rd.reg) (number_of base) offset.value).len
 extent_of context (Popcnt sum tmp step rs type) = Words (count_size context.flags (number_of sum.reg) (number_of tmp.reg) (number_of step.reg) (number_of rs) (bits_of type))
@@ -190,38 +231,39 @@ extent_of context (StackProbeLoop guard_size probe_count tmp) = Words (probe_siz
 extent_of context (LoadExtNameGot rd name) = Words 8
 extent_of context (LoadExtNameNear rd name offset) = Words 8
 extent_of context (LoadExtNameFar rd name offset) = Words (inline_size context.flags 8)
-
--- before a branch by a table: twelve words of four bytes, and two for each label beside the default
-abbrev pub table_space : ℕ → ℕ
-table_space labels = 4 * (12 + 2 * (labels - 1))
+extent_of context (Call info) = Words (call_size context.flags 8 info.callee_pop_size + try_size context.flags info.try_call_info)
+extent_of context (CallInd info) = Words (call_size context.flags (short_jalr context.flags 1 (number_of info.dest) (pos 0)).len info.callee_pop_size + try_size context.flags info.try_call_info)
+extent_of context (ReturnCall info) = tail_extent context info.new_stack_arg_size 8 8
+extent_of context (ReturnCallInd info) = tail_extent context info.new_stack_arg_size 4 (short_jalr context.flags 0 5 (pos 0)).len
 
 abbrev pub space_in : Extent → Option ℕ
 space_in (Words size) = None
 space_in (Island space) = Some space
-space_in (Table labels size) = Some (table_space labels)
+space_in (After space size more) = Some space
 
 -- how many bytes of its own it puts
 abbrev pub words_in : Extent → ℕ
 words_in (Words size) = size
 words_in (Island space) = 0
-words_in (Table labels size) = size
+words_in (After space size more) = size
 
 -- what it counts for beside 128 bytes
 abbrev pub extra_in : Extent → ℕ
 extra_in (Words size) = 0
 extra_in (Island space) = space
-extra_in (Table labels size) = 8 * labels
+extra_in (After space size more) = more
 
 -- how many bytes an instruction asks for an island before, where it does
 abbrev pub island_space : Context → Inst → Option ℕ
 island_space context inst = space_in (extent_of context inst)
 
--- Before each line an island is put where one is needed before so many bytes: but for a branch by a table, no line's own code is
+-- Before each line an island is put where one is needed before so many bytes: but for a branch by a table and a tail call, no line's own code is
 -- longer than 84, and a jump over an island takes four.
 abbrev pub line_space : ℕ
 line_space = 88
 
--- what an instruction counts for, in bytes: 128, those before which an island is asked for, and 8 for each label of a table
+-- what an instruction counts for, in bytes: 128; and those before which an island is asked for, 8 for each label of a table, or 32
+-- for each register that a tail call restores
 abbrev pub inst_sum : Context → Inst → ℕ
 inst_sum context inst = 128 + extra_in (extent_of context inst)
 

@@ -1,5 +1,6 @@
 -- The uses of labels that an instruction makes, those of constants among them, and how far they reach.
-use Rattle.std.specs.Prelude.{ℕ, ◌+◌, if◌then◌else◌, List, [], ◌∷◌, None}
+use Rattle.std.specs.Prelude.{ℕ, ◌+◌, ◌-◌, if◌then◌else◌, List, [], ◌∷◌, Option, Some, None}
+use Rattle.rv_base.specs.declared.call.TryCallInfo.{TryCallInfo}
 use Rattle.rv_base.specs.declared.flags.IsaFlags.{IsaFlags}
 use Rattle.rv_base.specs.declared.label.MachLabel.{MachLabel}
 use Rattle.rv_inst.specs.declared.inst.Line.{Line}
@@ -12,8 +13,8 @@ use Rattle.rv_inst.specs.declared.label_use.LabelUse.TheVariants.{B12, PCRelHi20
 use Rattle.rv_inst.specs.declared.targets.Targets.{Targets}
 use Rattle.rv_inst.specs.declared.targets.Targets.TheVariants.{Nowhere, Jumps, Branches, Refers, RefersConstant}
 use Rattle.rv_inst.specs.Context.{Context}
-use Rattle.rv_inst.specs.Forms.{jump_kind}
-use Rattle.rv_inst.specs.Operands.{targets_of}
+use Rattle.rv_inst.specs.Forms.{jump_kind, jump_size}
+use Rattle.rv_inst.specs.Operands.{targets_of, try_call_of}
 use Rattle.mach_buffer.specs.Shape.{constant_label}
 use Rattle.mach_buffer.specs.declared.uses.Use.{Use}
 
@@ -33,19 +34,32 @@ target_uses flags start (Branches taken not_taken) = branch_uses flags start tak
 target_uses flags start (Refers label) = use_at start label PCRelHi20 ∷ use_at (start + 4) label PCRelLo12I ∷ []
 target_uses flags start (RefersConstant constant) = use_at start (constant_label constant) PCRelHi20 ∷ use_at (start + 4) (constant_label constant) PCRelLo12I ∷ []
 
--- the uses of an instruction that starts at an offset, in the order in which it names their labels, or for its constant
-abbrev pub uses_in : Context → ℕ → Inst → List (Use LabelUse)
-uses_in context start inst = target_uses context.flags start (targets_of inst)
+-- a call that ends its block goes on by a jump, which is its last instruction
+abbrev pub uses_by : IsaFlags → ℕ → ℕ → Option TryCallInfo → Targets → List (Use LabelUse)
+uses_by flags start end None targets = target_uses flags start targets
+uses_by flags start end (Some t) targets = use_at (end - jump_size flags) t.continuation (jump_kind flags) ∷ []
+
+-- the uses of an instruction between two offsets, in the order in which it names their labels, or for its constant
+abbrev pub uses_in : Context → ℕ → ℕ → Inst → List (Use LabelUse)
+uses_in context start end inst = uses_by context.flags start end (try_call_of inst) (targets_of inst)
+
+-- how far a jump reaches
+abbrev pub jump_reach : IsaFlags → ℕ
+jump_reach flags = if flags.has_zca then 2046 else 1048574
 
 -- how far the shortest use that may go by a veneer reaches, counted from the line's start: that of a jump of sixteen bits, or
 -- else a branch's, or else a jump's
 abbrev pub target_reach : IsaFlags → Targets → ℕ
 target_reach flags Nowhere = 1048574
-target_reach flags (Jumps label) = if flags.has_zca then 2046 else 1048574
+target_reach flags (Jumps label) = jump_reach flags
 target_reach flags (Branches taken not_taken) = if flags.has_zca then 2046 else 4094
 target_reach flags (Refers label) = 1048574
 target_reach flags (RefersConstant constant) = 1048574
 
+abbrev pub inst_reach : IsaFlags → Option TryCallInfo → Targets → ℕ
+inst_reach flags None targets = target_reach flags targets
+inst_reach flags (Some t) targets = jump_reach flags
+
 abbrev pub least_reach : Context → Line → ℕ
-least_reach context (Put inst) = target_reach context.flags (targets_of inst)
+least_reach context (Put inst) = inst_reach context.flags (try_call_of inst) (targets_of inst)
 least_reach context (Bind label) = 1048574

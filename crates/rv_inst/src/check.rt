@@ -1,9 +1,9 @@
 //! Which rule a line breaks.
 
-ghost use Rattle.std.specs.Prelude.{◌≡◌, ◌++◌};
+ghost use Rattle.std.specs.Prelude.{◌≡◌, ◌++◌, map, option_copied};
 ghost use Rattle.rv_inst.specs.Rules.{is_buffer_label, is_misplaced, has_bad_type, is_out_of_range, lacks_target, is_fallthrough, every_rule, breaks, inst_rule, broken_rule};
 ghost use Rattle.std.specs.List.{list_any, find};
-ghost use Rattle.rv_inst.specs.Operands.{inst_labels, labels_of, target_labels, targets_of};
+ghost use Rattle.rv_inst.specs.Operands.{handler_label as label_of_handler, inst_labels, labels_of, target_labels, targets_of, try_labels};
 ghost use Rattle.rv_inst.specs.Context.{context_by};
 
 use crate::addresses::lacks_constant;
@@ -13,12 +13,13 @@ use crate::inst::{CondBrTarget, Inst, Line};
 use crate::places::is_misplaced;
 use crate::ranges::{has_bad_size, has_bad_type, has_empty_table, is_out_of_range};
 use crate::registers::{RegisterTest, has_register};
-use crate::targets::Targets;
+use crate::tail_calls::exceeds_arguments;
+use crate::targets::{Targets, handler_label};
 use mach_labels::FIRST_INNER;
-use rv_base::{Constant, FrameLayout, IsaFlags, MachLabel};
+use rv_base::{Constant, FrameLayout, IsaFlags, MachLabel, TryCallHandler, TryCallInfo};
 
 /// The rules, in the order in which a line is checked.
-const EVERY_RULE: [Rule; 12] = [
+const EVERY_RULE: [Rule; 13] = [
     Rule::Virtual,
     Rule::Class,
     Rule::Reserved,
@@ -30,6 +31,7 @@ const EVERY_RULE: [Rule; 12] = [
     Rule::EmptyTable,
     Rule::NoTarget,
     Rule::Label,
+    Rule::TailArgs,
     Rule::DataSize,
 ];
 
@@ -91,10 +93,10 @@ impl Inst {
         &self,
         rule: Rule,
         _flags: IsaFlags,
-        _frame: &FrameLayout,
+        frame: &FrameLayout,
         constants: &[Constant],
     ) -> bool
-        ensures { result ≡ breaks (context_by _flags _frame.now constants.now) self.now rule }
+        ensures { result ≡ breaks (context_by _flags frame.now constants.now) self.now rule }
     {
         match rule {
             Rule::Virtual => has_register(RegisterTest::Virtual, self),
@@ -108,6 +110,7 @@ impl Inst {
             Rule::EmptyTable => has_empty_table(self),
             Rule::NoTarget => lacks_target(self),
             Rule::Label => has_inner_label(self),
+            Rule::TailArgs => exceeds_arguments(self, frame),
             Rule::DataSize => has_bad_size(self),
         }
     }
@@ -166,7 +169,29 @@ fn any_is_inner(labels: &[MachLabel]) -> bool
 fn has_inner_label(inst: &Inst) -> bool
     ensures { result ≡ list_any is_buffer_label (inst_labels inst.now) }
 {
-    names_inner(inst) || any_is_inner(inst.table())
+    goes_on_to_inner(inst.try_call()) || names_inner(inst) || any_is_inner(inst.table())
+}
+
+fn goes_on_to_inner(info: Option<&TryCallInfo>) -> bool
+    ensures { result ≡ list_any is_buffer_label (try_labels (option_copied info.entry)) }
+{
+    match info {
+        Some(info) => {
+            is_buffer_label(info.continuation) || any_handler_is_inner(info.handlers.as_slice())
+        }
+        None => false,
+    }
+}
+
+fn any_handler_is_inner(handlers: &[TryCallHandler]) -> bool
+    ensures { result ≡ list_any is_buffer_label (map label_of_handler handlers.now) }
+{
+    for handler in handlers {
+        if is_buffer_label(handler_label(*handler)) {
+            return true;
+        }
+    }
+    false
 }
 
 fn names_inner(inst: &Inst) -> bool

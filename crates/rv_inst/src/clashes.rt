@@ -216,12 +216,11 @@ pub fn has_clash(inst: &Inst) -> bool
     ensures { result ≡ has_clash inst.now }
 {
     match inst {
-        Inst::Select {
-            dst,
-            condition,
-            x,
-            y,
-        } => is_uneven(*dst, *x, *y) || select_clash(*dst, *condition, *x, *y),
+        Inst::Select { info } => {
+            let info = info.as_ref();
+            is_uneven(info.dst, info.x, info.y)
+                || select_clash(info.dst, info.condition, info.x, info.y)
+        }
         Inst::LoadAddr { rd, mem } => is_base(rd.reg, mem.get_base_register()),
         Inst::BrTable {
             index,

@@ -2,7 +2,10 @@
 
 ghost use Rattle.std.specs.Prelude.{length, ◌<◌, ◌^◌};
 
-pub use mach_buffer::{ConstPlace, LabelPlace, MachReloc, MachTrap, MachUnwind};
+pub use mach_buffer::{
+    ConstPlace, FinalizedMachExceptionHandler, LabelPlace, MachPatchable, MachReloc, MachStackMap,
+    MachTrap, MachTryCallSite, MachUnwind,
+};
 use rv_base::List;
 
 /// Where the bytes of a line begin and end.
@@ -16,13 +19,24 @@ pub struct LineSpan {
     pub end: u32,
 }
 
+/// Where a call returns to.
+#[derive(Clone, Copy, Debug, PartialEq, Eq)]
+pub struct CallReturn {
+    /// The index of its line.
+    pub index: usize,
+    /// In bytes from the code's start.
+    pub offset: u32,
+}
+
 /// Machine code, with a span for each line, a place for each label and each constant, a record for each place that a linker
-/// fills, each instruction that may trap and each step in the making of the frame, and where the last line ends.
+/// fills, each instruction that may trap, each call and each step in the making of the frame, and where the last line ends.
 #[derive(Drop)]
 pub struct Code {
     pub bytes: List<u8>,
     /// One span a line, in order.
     pub lines: List<LineSpan>,
+    /// The return of each call, in the order of their lines.
+    pub returns: List<CallReturn>,
     /// The offset of each label that the listing binds, in order of binding.
     pub labels: List<LabelPlace>,
     /// The offset of each constant that is named, in order of place.
@@ -31,6 +45,14 @@ pub struct Code {
     pub relocs: List<MachReloc>,
     /// The offset and the cause of each instruction that may trap, in the order in which they were recorded.
     pub traps: List<MachTrap>,
+    /// The offset of each call site, in the order in which they were recorded: of a tail call, that of its last eight bytes.
+    pub call_sites: List<u32>,
+    /// The call sites of calls that may throw, with their handlers, in the order in which they were recorded.
+    pub try_call_sites: List<MachTryCallSite>,
+    /// The calls that may be patched, in the order in which they were recorded.
+    pub patchable_call_sites: List<MachPatchable>,
+    /// The values on the stack where calls return, in the order in which they were recorded.
+    pub stack_maps: List<MachStackMap>,
     /// The steps in the making of the frame, in the order in which they were recorded.
     pub unwinds: List<MachUnwind>,
     /// The offset after the last line; veneers may stand after it.

@@ -7,11 +7,11 @@ use thiserror::Error;
 pub enum Rule {
     /// No register is virtual.
     Virtual,
-    /// Each register has the class that its place asks.
+    /// Each register has the class that its place asks; a `MovFromPReg` is from sp or fp, and a `ReturnCallInd` goes through t0.
     Class,
     /// No register is x30 or x31.
     Reserved,
-    /// No result that is computed in several steps, nor a temporary of such steps, is x0.
+    /// No address, no constant and no load from the code, no count or reversal of bits, nor a temporary of several steps, is in x0.
     Zero,
     /// A register that is written before all inputs are read is no input, and no two such registers are the same.
     Clash,
@@ -27,6 +27,8 @@ pub enum Rule {
     NoTarget,
     /// A label's number is below 2^30.
     Label,
+    /// A tail call's arguments on the stack have room in the frame.
+    TailArgs,
     /// Data among code has four or eight bytes.
     DataSize,
 }
@@ -36,7 +38,8 @@ pub enum Rule {
 pub enum EmitError {
     #[error("out of memory")]
     OutOfMemory,
-    /// The frame's sizes sum to 2^31 bytes or more, or it saves a vector register or one of x0, ra, sp, fp, x30 and x31.
+    /// From the stack pointer to the end of the arguments on the stack are 2^31 bytes or more; or the frame saves a vector register or one of x0, ra, sp, fp, x30 and x31; or, where
+    /// a tail call is listed, a float register; or t0, where one goes through t0.
     #[error("the frame is too large, or saves a register that it can't")]
     BadFrame,
     /// The first line, counted from 0, that breaks a rule, and the first rule that it breaks.

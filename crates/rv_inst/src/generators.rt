@@ -1,17 +1,19 @@
-//! Instructions by what they are for: a constant in a register, a load or a store of a type, and moves of registers.
+//! Instructions by what they are for: a constant in a register, a jump by an offset, a load or a store of a type, and moves of
+//! registers.
 
 ghost use Rattle.std.specs.Prelude.{◌≡◌, IsOk, IfOk, OnOk, IsSome, IfSome, ◌++◌, ◌≤◌, length};
 ghost use Rattle.std.specs.Int.{cast_signed, w64};
 ghost use Rattle.smallvec.specs.SmallVec.{HasRoomFor};
 ghost use Rattle.rv_base.specs.declared.ir_type.IrType.TheVariants.{I32, I64};
 ghost use Rattle.rv_ops.specs.Memory.{load_of, store_of};
-ghost use Rattle.rv_inst.specs.Generators.{zero_register, addi_of, split_insts, AreConstant, canonical_type, move_of, moves_of};
+ghost use Rattle.rv_imms.specs.Splitting.{IsSplittable};
+ghost use Rattle.rv_inst.specs.Generators.{zero_register, addi_of, split_insts, AreConstant, AreJump, canonical_type, move_of, moves_of};
 ghost use Rattle.rv_inst.specs.declared.inst.Inst.TheVariants.{Load, Store};
 
 use crate::inst::Inst;
 use rv_base::{
     AMode, IrType, LaneType, MemFlagsData, OutOfMemory, Reg, RegClass, VectorType, WritableReg,
-    zero_reg,
+    writable_zero_reg, zero_reg,
 };
 use rv_imms::{Imm12, Imm20, generate_imm};
 use rv_ops::{AluOPRRI, LoadOP, StoreOP};
@@ -64,6 +66,33 @@ impl Inst {
         ensures succeeds { IsOk result }
     {
         load_constant(alloc, rd, IrType::I64, value)
+    }
+
+    /// `auipc` of an offset's upper immediate into `tmp`, and `jalr` from there by its lower one: together they jump so many bytes
+    /// from the first of them, and leave in `link`, where there is one, the address after both (the manual's chapter "RV32I Base
+    /// Integer Instruction Set", "Integer Register-Immediate Instructions" and "Unconditional Jumps"). The offset is from `imm_min()`
+    /// to `imm_max()`.
+    pub fn construct_auipc_and_jalr(
+        link: Option<WritableReg>,
+        tmp: WritableReg,
+        offset: i64,
+    ) -> [Inst; 2]
+        requires { IsSplittable offset }
+        ensures { AreJump link tmp offset result }
+    {
+        let Some((upper, lower)) = generate_imm(offset.cast_unsigned()) else {
+            unreachable!()
+        };
+        let auipc = Inst::Auipc {
+            rd: tmp,
+            imm: upper,
+        };
+        let jalr = Inst::Jalr {
+            rd: link.unwrap_or(writable_zero_reg()),
+            base: tmp.to_reg(),
+            offset: lower,
+        };
+        [auipc, jalr]
     }
 
     /// The load of an integer of 8, 16, 32 or 64 bits, sign-extended to 64 bits (the manual's chapters "RV32I" and "RV64I Base

@@ -2,9 +2,10 @@
 
 ghost use Rattle.std.specs.Prelude.{◌≡◌};
 
+use crate::boxed::Boxed;
 use rv_base::{
-    AMode, ArgPair, ExternalName, IrType, List, MachLabel, MemFlagsData, PReg, Reg, RetPair,
-    TrapCode, UnwindInst, ValueRegs, WritableReg,
+    AMode, ArgPair, CallInfo, ExternalName, IrType, List, MachLabel, MemFlagsData, PReg, Reg,
+    RetPair, ReturnCallInfo, TrapCode, UnwindInst, ValueRegs, WritableReg,
 };
 use rv_imms::{Imm12, Imm20};
 use rv_ops::{AluOPRRI, AluOPRRR, IntegerCompare, LoadOP, StoreOP};
@@ -51,6 +52,15 @@ impl fmt::Display for CondBrTarget {
             CondBrTarget::Fallthrough => write!(f, "0"),
         }
     }
+}
+
+/// The parts of a `Select`, which stand on the heap, since they are wider than those of any other instruction.
+#[derive(Clone, Copy)]
+pub struct SelectInfo {
+    pub dst: ValueRegs<WritableReg>,
+    pub condition: IntegerCompare,
+    pub x: ValueRegs<Reg>,
+    pub y: ValueRegs<Reg>,
 }
 
 /// An instruction. Each belongs to one `Family`, by which definitions and functions over instructions are parted.
@@ -143,10 +153,7 @@ pub enum Inst {
     /// The registers of `dst` are those of `x` where the comparison holds, and else those of `y`. Moves, and a branch over the
     /// second ones: at most 20 bytes.
     Select {
-        dst: ValueRegs<WritableReg>,
-        condition: IntegerCompare,
-        x: ValueRegs<Reg>,
-        y: ValueRegs<Reg>,
+        info: Boxed<SelectInfo>,
     },
     /// `rd` is what the load reads at the address, extended to 64 bits as the operation says. 4 bytes; where the offset isn't of
     /// twelve bits, signed, up to 28; from a label 8.
@@ -267,6 +274,28 @@ pub enum Inst {
         name: ExternalName,
         offset: i64,
     },
+    /// Leaves the code to the symbol, which returns, with `ra`, to the byte after the call; there the stack pointer falls by as much as
+    /// the callee took away, and control goes on after the call or, where it ends its block, at a label. 8 bytes, an `auipc` and a
+    /// `jalr`, whose immediates a linker fills, at most 24 for the stack pointer, and at most 4 for the jump to the label.
+    Call {
+        info: Boxed<CallInfo<ExternalName>>,
+    },
+    /// The same, leaving the code to the address in a register, with bit 0 clear. 4 bytes, or 2, those for the stack
+    /// pointer, and those for the jump.
+    CallInd {
+        info: Boxed<CallInfo<Reg>>,
+    },
+    /// Restores what the frame saved, from below the frame pointer downwards, with the return address and the frame pointer where
+    /// the frame has room for them; takes the frame away, but for the callee's arguments on the stack; and leaves the code to the
+    /// symbol. At most 28 bytes for each of these and for the stack pointer, and 8 for an `auipc` and a `jalr`, whose immediates a
+    /// linker fills; after an island where one is needed before so many.
+    ReturnCall {
+        info: ReturnCallInfo<ExternalName>,
+    },
+    /// The same, leaving the code to the address in a register, which is t0, with bit 0 clear.
+    ReturnCallInd {
+        info: ReturnCallInfo<Reg>,
+    },
 }
 
 /// `Nop0`, which does nothing.
@@ -291,6 +320,8 @@ pub enum Family {
     Loop,
     /// Those that depend on a symbol outside the code.
     Symbols,
+    /// Those that call a function, or give their own function's place to another.
+    Calls,
 }
 
 impl Inst {
@@ -318,7 +349,7 @@ impl Inst {
             | Inst::Mov { .. }
             | Inst::MovFromPReg { .. }
             | Inst::Extend { .. }
-            | Inst::Select { .. } => Family::Integer,
+            | Inst::Select { info: _ } => Family::Integer,
             Inst::Load { .. }
             | Inst::Store { .. }
             | Inst::LoadAddr { .. }
@@ -337,6 +368,10 @@ impl Inst {
             Inst::LoadExtNameGot { .. }
             | Inst::LoadExtNameNear { .. }
             | Inst::LoadExtNameFar { .. } => Family::Symbols,
+            Inst::Call { info: _ }
+            | Inst::CallInd { info: _ }
+            | Inst::ReturnCall { info: _ }
+            | Inst::ReturnCallInd { info: _ } => Family::Calls,
         }
     }
 }
@@ -347,3 +382,6 @@ pub enum Line {
     Inst(Inst),
     Bind(MachLabel),
 }
+
+// A listing has very many of them. Parts that are wider stand on the heap.
+const _: () = prove!(size_of::<Line>() <= 64);

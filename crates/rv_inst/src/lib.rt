@@ -2,6 +2,8 @@
 #![tactic(auto)]
 
 mod addresses;
+mod boxed;
+mod calls;
 mod check;
 mod clashes;
 mod code;
@@ -14,12 +16,18 @@ mod places;
 mod ranges;
 mod registers;
 mod sizes;
+mod tail_calls;
 mod targets;
 
-pub use code::{Code, ConstPlace, LabelPlace, LineSpan, MachReloc, MachTrap, MachUnwind};
+pub use boxed::Boxed;
+pub use code::{
+    CallReturn, Code, ConstPlace, FinalizedMachExceptionHandler, LabelPlace, LineSpan,
+    MachPatchable, MachReloc, MachStackMap, MachTrap, MachTryCallSite, MachUnwind,
+};
 pub use error::{EmitError, Rule};
 pub use generators::{SmallInstVec, gen_moves};
-pub use inst::{CondBrTarget, Family, Inst, Line};
+pub use inst::{CondBrTarget, Family, Inst, Line, SelectInfo};
 pub use job::Job;
 pub use label_use::LabelUse;
-pub use targets::Targets;
+pub use tail_calls::{TailCall, is_bad_frame, is_bad_frame_for};
+pub use targets::{Targets, handler_label};

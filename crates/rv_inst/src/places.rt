@@ -4,15 +4,20 @@ ghost use Rattle.std.specs.Prelude.{◌≡◌};
 ghost use Rattle.std.specs.List.{list_any};
 ghost use Rattle.rv_base.specs.declared.call.ArgPair.{ArgPair};
 ghost use Rattle.rv_base.specs.declared.call.RetPair.{RetPair};
-ghost use Rattle.rv_inst.specs.Rules.{differ_in_class, is_stack_or_frame, is_misplaced};
-ghost use Rattle.rv_inst.specs.declared.inst.Family.TheVariants.{Pseudo, Integer};
+ghost use Rattle.rv_base.specs.declared.call.CallArgPair.{CallArgPair};
+ghost use Rattle.rv_base.specs.declared.call.CallRetPair.{CallRetPair};
+ghost use Rattle.rv_inst.specs.Rules.{differ_in_class, is_stack_or_frame, is_fifth, location_differs, call_differs, is_misplaced};
+ghost use Rattle.rv_inst.specs.declared.inst.Family.TheVariants.{Pseudo, Integer, Calls};
 ghost use Rattle.rv_inst.specs.Families.{family_of};
 
 use crate::inst::{Family, Inst};
 use crate::registers::{
     RegisterTest, control_has, is_other_class, loop_has, memory_has, plain_has, symbol_has,
 };
-use rv_base::{ArgPair as Arg, PReg, Reg, RegClass, RetPair as Ret};
+use rv_base::{
+    ArgPair as Arg, CallArgPair as Use, CallRetPair as Def, PReg, Reg, RegClass, RetLocation,
+    RetPair as Ret,
+};
 
 /// Returns whether two registers are of different classes.
 pub fn differ_in_class(first: Reg, second: Reg) -> bool
@@ -47,6 +52,24 @@ fn any_ret_differs(rets: &[Ret]) -> bool
     rets.iter().any(|p| differ_in_class(p.vreg, p.preg))
 }
 
+fn any_use_differs(uses: &[Use]) -> bool
+    ensures { result ≡ list_any (λ (p : CallArgPair). differ_in_class p.vreg p.preg) uses.now }
+{
+    uses.iter().any(|p| differ_in_class(p.vreg, p.preg))
+}
+
+fn is_fifth(reg: Reg) -> bool
+    ensures { result ≡ is_fifth reg }
+{
+    match reg {
+        Reg::Real(real) => match real.class {
+            RegClass::Int => real.number == 5,
+            RegClass::Float | RegClass::Vector => false,
+        },
+        Reg::Virtual { .. } => false,
+    }
+}
+
 fn marks_misplaced(inst: &Inst) -> bool
     ensures { family_of inst.now ≡ Pseudo → result ≡ is_misplaced inst.now }
 {
@@ -67,6 +90,48 @@ fn plain_misplaced(inst: &Inst) -> bool
     }
 }
 
+fn call_misplaced(inst: &Inst) -> bool
+    ensures { family_of inst.now ≡ Calls → result ≡ is_misplaced inst.now }
+{
+    match inst {
+        Inst::Call { info } => {
+            let info = info.as_ref();
+            call_differs(info.uses.as_slice(), info.defs.as_slice())
+        }
+        Inst::CallInd { info } => {
+            let info = info.as_ref();
+            is_other_class(info.dest) || call_differs(info.uses.as_slice(), info.defs.as_slice())
+        }
+        Inst::ReturnCall { info } => any_use_differs(info.uses.as_slice()),
+        Inst::ReturnCallInd { info } => {
+            !is_fifth(info.dest) || any_use_differs(info.uses.as_slice())
+        }
+        _ => false,
+    }
+}
+
+fn any_def_differs(defs: &[Def]) -> bool
+    ensures { result ≡ list_any (λ (d : CallRetPair). location_differs d.vreg.reg d.location) defs.now }
+{
+    defs.iter()
+        .any(|d| location_differs(d.vreg.reg, d.location))
+}
+
+fn location_differs(reg: Reg, location: RetLocation) -> bool
+    ensures { result ≡ location_differs reg location }
+{
+    match location {
+        RetLocation::Reg(preg) => differ_in_class(reg, preg),
+        RetLocation::Stack { .. } => false,
+    }
+}
+
+fn call_differs(uses: &[Use], defs: &[Def]) -> bool
+    ensures { result ≡ call_differs uses.now defs.now }
+{
+    any_use_differs(uses) || any_def_differs(defs)
+}
+
 /// Returns whether some register has another class than its place asks.
 pub fn is_misplaced(inst: &Inst) -> bool
     ensures { result ≡ is_misplaced inst.now }
@@ -78,5 +143,6 @@ pub fn is_misplaced(inst: &Inst) -> bool
         Family::Control => control_has(RegisterTest::OtherClass, inst),
         Family::Loop => loop_has(RegisterTest::OtherClass, inst),
         Family::Symbols => symbol_has(RegisterTest::OtherClass, inst),
+        Family::Calls => call_misplaced(inst),
     }
 }

@@ -2,14 +2,17 @@
 
 ghost use Rattle.std.specs.Prelude.{◌≡◌, ◌∷◌, ◌++◌};
 ghost use Rattle.std.specs.List.{list_any};
-ghost use Rattle.rv_inst.specs.Operands.{arg_registers, ret_registers, all_of, written_in, unwind_registers, inst_registers};
-ghost use Rattle.rv_inst.specs.declared.inst.Family.TheVariants.{Pseudo, Integer, Memory, Control, Loop, Symbols};
+ghost use Rattle.rv_inst.specs.Operands.{arg_registers, ret_registers, use_registers, location_registers, def_registers, all_of, written_in, unwind_registers, inst_registers};
+ghost use Rattle.rv_inst.specs.declared.inst.Family.TheVariants.{Pseudo, Integer, Memory, Control, Loop, Symbols, Calls};
 ghost use Rattle.rv_inst.specs.Families.{family_of};
 ghost use Rattle.rv_inst.specs.RegisterTests.{test_of};
 
 use crate::addresses::address_has;
-use crate::inst::{Family, Inst};
-use rv_base::{ArgPair, Reg, RegClass, RetPair, UnwindInst, ValueRegs, WritableReg};
+use crate::inst::{Family, Inst, SelectInfo};
+use rv_base::{
+    ArgPair, CallArgPair, CallRetPair, Reg, RegClass, RetLocation, RetPair, UnwindInst, ValueRegs,
+    WritableReg,
+};
 use rv_ops::IntegerCompare;
 
 /// What is asked of a register.
@@ -93,6 +96,44 @@ fn any_of_rets(test: RegisterTest, pairs: &[RetPair]) -> bool
     false
 }
 
+fn any_of_uses(test: RegisterTest, pairs: &[CallArgPair]) -> bool
+    ensures { result ≡ list_any (test_of test) (use_registers pairs.now) }
+{
+    for pair in pairs {
+        if holds(test, pair.vreg) || holds(test, pair.preg) {
+            return true;
+        }
+    }
+    false
+}
+
+fn any_of_defs(test: RegisterTest, defs: &[CallRetPair]) -> bool
+    ensures { result ≡ list_any (test_of test) (def_registers defs.now) }
+{
+    for def in defs {
+        if holds(test, def.vreg.reg) || location_has(test, def.location) {
+            return true;
+        }
+    }
+    false
+}
+
+fn location_has(test: RegisterTest, location: RetLocation) -> bool
+    ensures { result ≡ list_any (test_of test) (location_registers location) }
+{
+    match location {
+        RetLocation::Reg(reg) => any_of(test, &[reg]),
+        RetLocation::Stack { .. } => false,
+    }
+}
+
+/// Returns whether the test holds of a register of an argument or of a result.
+fn either_of(test: RegisterTest, uses: &[CallArgPair], defs: &[CallRetPair]) -> bool
+    ensures { result ≡ list_any (test_of test) (use_registers uses.now ++ def_registers defs.now) }
+{
+    any_of_uses(test, uses) || any_of_defs(test, defs)
+}
+
 /// Returns whether the test holds of the register that a step in the making of a frame saves.
 fn unwind_has(test: RegisterTest, inst: UnwindInst) -> bool
     ensures { result ≡ list_any (test_of test) (unwind_registers inst) }
@@ -149,12 +190,7 @@ pub fn plain_has(test: RegisterTest, inst: &Inst) -> bool
             from_bits: _,
             to_bits: _,
         } => any_of(test, &[rd.reg, *rn]),
-        Inst::Select {
-            dst,
-            condition,
-            x,
-            y,
-        } => select_has(test, *dst, *condition, *x, *y),
+        Inst::Select { info } => select_has(test, info.as_ref()),
         _ => false,
     }
 }
@@ -197,16 +233,10 @@ fn inputs_have(
     holds(test, condition.rs1) || holds(test, condition.rs2) || either_has(test, x, y)
 }
 
-fn select_has(
-    test: RegisterTest,
-    dst: ValueRegs<WritableReg>,
-    condition: IntegerCompare,
-    x: ValueRegs<Reg>,
-    y: ValueRegs<Reg>,
-) -> bool
-    ensures { result ≡ list_any (test_of test) (written_in dst ++ condition.rs1 ∷ condition.rs2 ∷ all_of x ++ all_of y) }
+fn select_has(test: RegisterTest, info: &SelectInfo) -> bool
+    ensures { result ≡ list_any (test_of test) (written_in info.now.dst ++ info.now.condition.rs1 ∷ info.now.condition.rs2 ∷ all_of info.now.x ++ all_of info.now.y) }
 {
-    written_has(test, dst) || inputs_have(test, condition, x, y)
+    written_has(test, info.dst) || inputs_have(test, info.condition, info.x, info.y)
 }
 
 /// Returns whether the test holds of a register of an instruction that reads or writes memory.
@@ -315,6 +345,27 @@ pub fn symbol_has(test: RegisterTest, inst: &Inst) -> bool
     }
 }
 
+/// Returns whether the test holds of a register of a call.
+fn call_has(test: RegisterTest, inst: &Inst) -> bool
+    ensures { family_of inst.now ≡ Calls → result ≡ list_any (test_of test) (inst_registers inst.now) }
+{
+    match inst {
+        Inst::Call { info } => {
+            let info = info.as_ref();
+            either_of(test, info.uses.as_slice(), info.defs.as_slice())
+        }
+        Inst::CallInd { info } => {
+            let info = info.as_ref();
+            holds(test, info.dest) || either_of(test, info.uses.as_slice(), info.defs.as_slice())
+        }
+        Inst::ReturnCall { info } => any_of_uses(test, info.uses.as_slice()),
+        Inst::ReturnCallInd { info } => {
+            holds(test, info.dest) || any_of_uses(test, info.uses.as_slice())
+        }
+        _ => false,
+    }
+}
+
 /// Returns whether the test holds of a register of the instruction.
 pub fn has_register(test: RegisterTest, inst: &Inst) -> bool
     ensures { result ≡ list_any (test_of test) (inst_registers inst.now) }
@@ -326,5 +377,6 @@ pub fn has_register(test: RegisterTest, inst: &Inst) -> bool
         Family::Control => control_has(test, inst),
         Family::Loop => loop_has(test, inst),
         Family::Symbols => symbol_has(test, inst),
+        Family::Calls => call_has(test, inst),
     }
 }

@@ -1,10 +1,13 @@
 //! How many bytes a line counts for.
 
-ghost use Rattle.std.specs.Prelude.{◌≡◌, is_some};
-ghost use Rattle.rv_inst.specs.Context.{Context};
+ghost use Rattle.std.specs.Prelude.{◌≡◌, is_some, List};
+ghost use Rattle.rv_base.specs.declared.constant.Constant.{Constant};
+ghost use Rattle.rv_base.specs.declared.flags.IsaFlags.{IsaFlags};
+ghost use Rattle.rv_inst.specs.Context.{Context, context_by};
 ghost use Rattle.rv_inst.specs.Sizes.{island_space, inst_sum, line_sum};
 
 use crate::inst::{Inst, Line};
+use rv_base::FrameLayout;
 
 impl Inst {
     /// Returns whether the instruction asks for an island, where one is needed before so many bytes.
@@ -19,12 +22,13 @@ impl Inst {
                 tmp2: _,
                 targets: _,
             } => true,
+            Inst::ReturnCall { info: _ } | Inst::ReturnCallInd { info: _ } => true,
             _ => false,
         }
     }
 
-    fn size_sum(&self) -> u128
-        ensures { (context : Context) → result ≡ inst_sum context self.now }
+    fn size_sum(&self, frame: &FrameLayout) -> u128
+        ensures { (flags : IsaFlags) (constants : List Constant) → result ≡ inst_sum (context_by flags frame.now constants) self.now }
     {
         match self {
             Inst::EmitIsland { needed_space } => 128 + u128::from(*needed_space),
@@ -34,6 +38,9 @@ impl Inst {
                 tmp2: _,
                 targets,
             } => 128 + 8 * (targets.len() as u128),
+            Inst::ReturnCall { info: _ } | Inst::ReturnCallInd { info: _ } => {
+                128 + 32 * (frame.clobbered_callee_saves.len() as u128)
+            }
             _ => 128,
         }
     }
@@ -41,11 +48,11 @@ impl Inst {
 
 impl Line {
     /// The bytes that the line counts for: no line's code, with what is put for its labels, is longer.
-    pub fn size_sum(&self) -> u128
-        ensures { (context : Context) → result ≡ line_sum context self.now }
+    pub fn size_sum(&self, frame: &FrameLayout) -> u128
+        ensures { (flags : IsaFlags) (constants : List Constant) → result ≡ line_sum (context_by flags frame.now constants) self.now }
     {
         match self {
-            Line::Inst(inst) => inst.size_sum(),
+            Line::Inst(inst) => inst.size_sum(frame),
             Line::Bind(_) => 128,
         }
     }

@@ -1,13 +1,13 @@
 //! The labels and constants that instructions name.
 
-ghost use Rattle.std.specs.Prelude.{◌≡◌};
+ghost use Rattle.std.specs.Prelude.{◌≡◌, option_copied};
 ghost use Rattle.rv_inst.specs.Families.{family_of};
-ghost use Rattle.rv_inst.specs.Operands.{table_of, targets_of};
+ghost use Rattle.rv_inst.specs.Operands.{handler_label, table_of, targets_of, try_call_of};
 ghost use Rattle.rv_inst.specs.declared.inst.Family.TheVariants.{Memory, Control};
 
 use crate::addresses::address_targets;
 use crate::inst::{CondBrTarget, Family, Inst};
-use rv_base::{MachLabel, VCodeConstant};
+use rv_base::{MachLabel, TryCallHandler, TryCallInfo, VCodeConstant};
 
 /// The labels, or the constant, that an instruction names, by what it does with them.
 #[derive(Clone, Copy, Debug, PartialEq, Eq)]
@@ -40,15 +40,37 @@ impl Inst {
         }
     }
 
-    /// The labels, or the constant, that the instruction names, but for those of its table.
+    /// Where control goes after the call that the instruction is, where that ends its block.
+    pub fn try_call(&self) -> Option<&TryCallInfo>
+        ensures { option_copied result ≡ try_call_of self.now }
+    {
+        match self {
+            Inst::Call { info } => info.as_ref().try_call_info.as_ref(),
+            Inst::CallInd { info } => info.as_ref().try_call_info.as_ref(),
+            _ => None,
+        }
+    }
+
+    /// The labels, or the constant, that the instruction names, but for those of its table and those to which a call goes on.
     pub fn targets(&self) -> Targets
         ensures { result ≡ targets_of self.now }
     {
         match self.family() {
-            Family::Pseudo | Family::Integer | Family::Loop | Family::Symbols => Targets::Nowhere,
+            Family::Pseudo | Family::Integer | Family::Loop | Family::Symbols | Family::Calls => {
+                Targets::Nowhere
+            },
             Family::Memory => memory_targets(self),
             Family::Control => control_targets(self),
         }
+    }
+}
+
+/// The label to which a handler takes control.
+pub fn handler_label(handler: TryCallHandler) -> MachLabel
+    ensures { result ≡ handler_label handler }
+{
+    match handler {
+        TryCallHandler::Tag(_, label) | TryCallHandler::Default(label) => label,
     }
 }
 

@@ -4,6 +4,8 @@
 #[cfg(test)]
 mod accesses;
 #[cfg(test)]
+mod calls;
+#[cfg(test)]
 mod constants;
 #[cfg(test)]
 mod frames;
@@ -15,5 +17,7 @@ mod refusals;
 mod sequences;
 #[cfg(test)]
 mod symbols;
+#[cfg(test)]
+mod tail_calls;
 #[cfg(test)]
 mod texts;

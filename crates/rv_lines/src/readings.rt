@@ -66,19 +66,17 @@ fn fields_of(inst: &Inst) -> Fields {
             from_bits,
             to_bits,
         } => Fields::Extend(number(rd.reg), number(*rn), *signed, *from_bits, *to_bits),
-        Inst::Select {
-            dst,
-            condition,
-            x,
-            y,
-        } => Fields::Select(
-            written_numbers(*dst),
-            condition.kind,
-            number(condition.rs1),
-            number(condition.rs2),
-            numbers(*x),
-            numbers(*y),
-        ),
+        Inst::Select { info } => {
+            let info = info.as_ref();
+            Fields::Select(
+                written_numbers(info.dst),
+                info.condition.kind,
+                number(info.condition.rs1),
+                number(info.condition.rs2),
+                numbers(info.x),
+                numbers(info.y),
+            )
+        }
         Inst::BrTable {
             index,
             tmp1,

@@ -1,6 +1,6 @@
 //! What tables of lines are read with.
 
-use rv_base::{Reg, ValueRegs, WritableReg};
+use rv_base::{CallArgPair, Reg, ValueRegs, WritableReg};
 use rv_inst::{Job, Rule};
 use rv_listing::{ReadError, read_job};
 use std::alloc::Global;
@@ -44,5 +44,36 @@ pub(crate) fn written_numbers(value: ValueRegs<WritableReg>) -> ValueRegs<u8> {
     match value {
         ValueRegs::One(reg) => ValueRegs::One(number(reg.reg)),
         ValueRegs::Two(low, high) => ValueRegs::Two(number(low.reg), number(high.reg)),
+    }
+}
+
+/// How many pairs of an argument a line has, and the first and the last of them, by the numbers of their registers.
+#[derive(Clone, Copy, Debug, PartialEq, Eq)]
+pub(crate) struct Pairs {
+    pub(crate) count: usize,
+    pub(crate) first: (u8, u8),
+    pub(crate) last: (u8, u8),
+}
+
+pub(crate) const NO_PAIRS: Pairs = Pairs {
+    count: 0,
+    first: (0, 0),
+    last: (0, 0),
+};
+
+fn pair_of(pair: CallArgPair) -> (u8, u8) {
+    (number(pair.vreg), number(pair.preg))
+}
+
+pub(crate) fn pairs_of(all: &[CallArgPair]) -> Pairs {
+    let (first, last) = match all {
+        [first, .., last] => (pair_of(*first), pair_of(*last)),
+        [only] => (pair_of(*only), pair_of(*only)),
+        [] => ((0, 0), (0, 0)),
+    };
+    Pairs {
+        count: all.len(),
+        first,
+        last,
     }
 }

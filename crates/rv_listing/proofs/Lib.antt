@@ -7,9 +7,12 @@ pub mod RegisterNames
 pub mod Ranges
 pub mod ReportWords
 pub mod RecordLines
+pub mod Pieces
+pub mod ListLines
 pub mod OneReport
 pub mod HexLines
 pub mod Vectors
 pub mod ByDigit
 pub mod BySlot
 pub mod TypeNames
+pub mod RegisterSets

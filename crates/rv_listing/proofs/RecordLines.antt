@@ -1,4 +1,5 @@
--- A line of a relocation, of a trap or of a step in the making of the frame opens a text in one way.
+-- A line of a relocation, of a trap, of a call site, of a call that may be patched or of a step in the making of the frame opens
+-- a text in one way.
 use Rattle.std.proofs.Common.{◌≡◌, ℕ, ◌<◌, List, [], ◌∷◌, ◌++◌, get_or, drop, Some, refl, sym, ap, ◌∙◌, append_assoc, lit≤, arith}
 use Rattle.std.specs.Prelude.{codes}
 use Rattle.std.specs.Fmt.{decimal, signed_decimal}
@@ -6,6 +7,7 @@ use Rattle.mach_buffer.specs.declared.records.FinalizedRelocTarget.{FinalizedRel
 use Rattle.mach_buffer.specs.declared.records.FinalizedRelocTarget.TheVariants.{ExternalName, Func}
 use Rattle.mach_buffer.specs.declared.records.MachReloc.{MachReloc}
 use Rattle.mach_buffer.specs.declared.records.MachTrap.{MachTrap}
+use Rattle.mach_buffer.specs.declared.records.MachPatchable.{MachPatchable}
 use Rattle.mach_buffer.specs.declared.records.MachUnwind.{MachUnwind}
 use Rattle.rv_base.specs.declared.reloc.Reloc.{Reloc}
 use Rattle.rv_base.specs.declared.reloc.Reloc.TheVariants.{RiscvCallPlt, RiscvGotHi20, RiscvPCRelHi20, RiscvPCRelLo12I, Abs8}
@@ -22,12 +24,12 @@ use Rattle.rv_base.specs.RegNames.{int_names, float_names, real_name}
 use Rattle.rv_listing.specs.Registers.{register}
 use Rattle.rv_listing.specs.Relocations.{kind_name, kind_named, target_text}
 use Rattle.rv_listing.specs.UnwindSteps.{step_text}
-use Rattle.rv_listing.specs.Report.{reloc_line, trap_line, unwind_line}
-use Rattle.rv_listing.specs.CodeRanges.{RelocFits, TargetFits, TrapFits, StepFits, UnwindFits}
+use Rattle.rv_listing.specs.Report.{reloc_line, trap_line, call_line, patch_line, unwind_line}
+use Rattle.rv_listing.specs.CodeRanges.{RelocFits, TargetFits, TrapFits, CallFits, PatchFits, StepFits, UnwindFits}
 use Rattle.rv_listing.proofs.Ranges.{real_is}
 use Rattle.rv_listing.proofs.RegisterNames.{names_read}
 use Rattle.rv_listing.proofs.TrapNames.{same_trap}
-use Rattle.rv_listing.proofs.ReportWords.{Above, checked, each_checked, Above-decimal, cut, number_opens, two_open, signed_opens, regroup_two, far, near}
+use Rattle.rv_listing.proofs.ReportWords.{Above, checked, each_checked, Above-decimal, cut, number_opens, two_open, signed_opens, regroup_one, regroup_two, far, near}
 
 -- ---- traps
 
@@ -52,6 +54,24 @@ trap_opens x y a b fx fy e =
   where
     made : (x y : MachTrap) → x.offset ≡ y.offset → x.code ≡ y.code → x ≡ y
     made x y p q = λ i. record { offset = p i; code = q i }
+
+-- ---- call sites
+
+pub call_opens : (x y : ℕ) (a b : List ℕ) → CallFits x → CallFits y → call_line x ++ a ≡ call_line y ++ b → (x ≡ y) × (a ≡ b)
+call_opens x y a b fx fy e =
+    let ex = regroup_one (codes "call ") (decimal x) a in
+    let ey = regroup_one (codes "call ") (decimal y) b in
+    let numbers : decimal x ++ 10 ∷ a ≡ decimal y ++ 10 ∷ b = ap (drop 5) (sym ex ∙ e ∙ ey) in
+    number_opens x y a b 10 (omega arith) (omega (arith, fx)) (omega (arith, fy)) numbers
+
+-- ---- calls that may be patched
+
+pub patch_opens : (x y : MachPatchable) (a b : List ℕ) → PatchFits x → PatchFits y → patch_line x ++ a ≡ patch_line y ++ b → (x ≡ y) × (a ≡ b)
+patch_opens x y a b fx fy e =
+    let ex = regroup_two (codes "patch ") (decimal x.offset) (decimal x.len) a in
+    let ey = regroup_two (codes "patch ") (decimal y.offset) (decimal y.len) b in
+    let numbers = two_open x.offset y.offset x.len y.len a b fx.offset fy.offset fx.len fy.len (ap (drop 6) (sym ex ∙ e ∙ ey)) in
+    ((λ i. record { offset = numbers.0 i; len = numbers.1.0 i }), numbers.1.1)
 
 -- ---- relocations
 

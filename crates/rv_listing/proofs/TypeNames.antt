@@ -74,3 +74,10 @@ type_found _ = refl
 
 pub type_by_name : (w : List ℕ) (r : Option IrType) → r ≡ type_named w → (type : IrType) → w ≡ name_of type → r ≡ Some type
 type_by_name w r reads type same = reads ∙ ap type_named same ∙ type_found type
+
+-- types of one name are one
+pub same_type : (x y : IrType) → name_of x ≡ name_of y → x ≡ y
+same_type x y e = some_same (sym (type_found x) ∙ ap type_named e ∙ type_found y)
+  where
+    some_same : Some x ≡ Some y → x ≡ y
+    some_same f = cc

@@ -1,7 +1,7 @@
 -- A vector's type by its lanes, as the constructor's contract has it.
-use Rattle.std.proofs.Common.{◌≡◌, ◌↔◌, IsTrue, ℕ, ◌<◌, Bool, true, false, eqb, Option, Some, None, refl, subst, arith}
+use Rattle.std.proofs.Common.{◌≡◌, ◌↔◌, ◌⊎◌, inl, inr, IsTrue, ℕ, ◌<◌, ◌≤◌, Bool, true, false, eqb, Option, Some, None, refl, subst, arith}
 use Rattle.std.specs.Prelude.{IsSome, IfSome}
-use Rattle.std.proofs.lemmas.Bool.{ne_eqb}
+use Rattle.std.proofs.lemmas.Bool.{cases_lt, ne_eqb}
 use Rattle.std.proofs.Math.Bool.{Bool-set}
 use Rattle.rv_base.specs.declared.ir_type.IrType.{IrType}
 use Rattle.rv_base.specs.declared.ir_type.IrType.TheVariants.{I8, I16, I32, I64, I128, F16, F32, F64, F128, Vector}
@@ -73,3 +73,10 @@ above_counts n high = rw (apart n 2 (omega arith), apart n 4 (omega arith), apar
 
 pub vector_high : (type : IrType) (n : ℕ) → 256 < n → None ≡ vector_of type n
 vector_high type n high = no_vector type n (λ p. false_fails (is_lane_count n) (above_counts n high) p.1)
+
+pub few_lanes : (n : ℕ) → IsTrue (is_lane_count n) → n ≤ 256
+few_lanes n counted = on (cases_lt 256 n)
+  where
+    on : (256 < n) ⊎ (n ≤ 256) → n ≤ 256
+    on (inl high) = absurd (false_fails (is_lane_count n) (above_counts n high) counted)
+    on (inr low) = low

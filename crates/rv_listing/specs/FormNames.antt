@@ -44,6 +44,10 @@ form_name forms.StackProbeLoop = codes "StackProbeLoop"
 form_name forms.LoadExtNameGot = codes "LoadExtNameGot"
 form_name forms.LoadExtNameNear = codes "LoadExtNameNear"
 form_name forms.LoadExtNameFar = codes "LoadExtNameFar"
+form_name forms.Call = codes "Call"
+form_name forms.CallInd = codes "CallInd"
+form_name forms.ReturnCall = codes "ReturnCall"
+form_name forms.ReturnCallInd = codes "ReturnCallInd"
 form_name forms.Bind = codes "Bind"
 
 unfoldable pub every_form : List Form
@@ -52,7 +56,8 @@ every_form =
     forms.RawData ∷ forms.Lui ∷ forms.Auipc ∷ forms.LoadInlineConst ∷ forms.AluRRR ∷ forms.AluRRImm12 ∷ forms.Mov ∷
     forms.MovFromPReg ∷ forms.Extend ∷ forms.Select ∷ forms.Load ∷ forms.Store ∷ forms.LoadAddr ∷ forms.LabelAddress ∷ forms.Ret ∷ forms.TrapIf ∷ forms.Jal ∷
     forms.CondBr ∷ forms.BrTable ∷ forms.Udf ∷ forms.Jalr ∷ forms.Popcnt ∷ forms.Cltz ∷ forms.Brev8 ∷ forms.StackProbeLoop ∷
-    forms.LoadExtNameGot ∷ forms.LoadExtNameNear ∷ forms.LoadExtNameFar ∷ forms.Bind ∷ []
+    forms.LoadExtNameGot ∷ forms.LoadExtNameNear ∷ forms.LoadExtNameFar ∷ forms.Call ∷ forms.CallInd ∷
+    forms.ReturnCall ∷ forms.ReturnCallInd ∷ forms.Bind ∷ []
 
 -- the form of the lines that begin with this word
 unfoldable pub form_named : List ℕ → Option Form

@@ -1,11 +1,14 @@
 -- The forms of lines: a token for each field.
 use Rattle.std.specs.Prelude.{ℕ, List, Option, Some}
+use Rattle.rv_base.specs.declared.call.CallArgPair.{CallArgPair}
+use Rattle.rv_base.specs.declared.external_name.ExternalName.{ExternalName}
 use Rattle.rv_base.specs.declared.regs.Reg.{Reg}
 use Rattle.rv_base.specs.declared.regs.Writable.{Writable}
 use Rattle.rv_base.specs.declared.value_regs.ValueRegs.{ValueRegs}
 use Rattle.rv_base.specs.declared.condcodes.IntCC.{IntCC}
 use Rattle.rv_base.specs.declared.trap.TrapCode.{TrapCode}
 use Rattle.rv_inst.specs.declared.inst.CondBrTarget.{CondBrTarget}
+use Rattle.rv_inst.specs.declared.inst.SelectInfo.{SelectInfo}
 use Rattle.rv_inst.specs.declared.inst.Inst.{Inst}
 use Rattle.rv_inst.specs.declared.inst.Inst.TheVariants as form
 use Rattle.rv_inst.specs.declared.inst.Line.{Line}
@@ -23,9 +26,10 @@ use Rattle.rv_listing.specs.Operations.{alu_rri, alu_rrr, load_op, store_op}
 use Rattle.rv_listing.specs.Types.{type_named}
 use Rattle.rv_listing.specs.HexDigits.{some_bytes}
 use Rattle.rv_listing.specs.Traps.{trap_named, access_flags}
-use Rattle.rv_listing.specs.Pairs.{arg_pair, ret_pair, listed}
+use Rattle.rv_listing.specs.Pairs.{arg_pair, ret_pair, call_arg_pair, listed}
 use Rattle.rv_listing.specs.ValueRegs.{value_regs}
 use Rattle.rv_listing.specs.UnwindSteps.{step_of}
+use Rattle.rv_listing.specs.Calls.{call_info}
 
 -- ---- those that compute nothing
 
@@ -85,11 +89,14 @@ mov_from_preg_form = whole (done form.MovFromPReg ⊛ writable ⊛ real_register
 unfoldable pub extend_form : List (List ℕ) → Option Inst
 extend_form = whole (done form.Extend ⊛ writable ⊛ register ⊛ signedness ⊛ natural_8 ⊛ natural_8)
 
-abbrev pub select : ValueRegs (Writable Reg) → IntCC → Reg → Reg → ValueRegs Reg → ValueRegs Reg → Inst
-select dst cc rs1 rs2 x y = form.Select dst (record { kind = cc; rs1 = rs1; rs2 = rs2 }) x y
+abbrev pub selecting : ValueRegs (Writable Reg) → IntCC → Reg → Reg → ValueRegs Reg → ValueRegs Reg → SelectInfo
+selecting dst cc rs1 rs2 x y = record { dst = dst; condition = record { kind = cc; rs1 = rs1; rs2 = rs2 }; x = x; y = y }
+
+unfoldable pub select_info_form : List (List ℕ) → Option SelectInfo
+select_info_form = whole (done selecting ⊛ value_regs writable ⊛ cond_code ⊛ register ⊛ register ⊛ value_regs register ⊛ value_regs register)
 
 unfoldable pub select_form : List (List ℕ) → Option Inst
-select_form = whole (done select ⊛ value_regs writable ⊛ cond_code ⊛ register ⊛ register ⊛ value_regs register ⊛ value_regs register)
+select_form ws = select_info_form ws >>= λ info. Some (form.Select info)
 
 -- ---- those that read or write memory, or compute an address
 
@@ -161,6 +168,27 @@ load_ext_name_near_form = whole (done form.LoadExtNameNear ⊛ writable ⊛ symb
 unfoldable pub load_ext_name_far_form : List (List ℕ) → Option Inst
 load_ext_name_far_form = whole (done form.LoadExtNameFar ⊛ writable ⊛ symbol ⊛ offset)
 
+-- ---- those that call a function, or give their own function's place to another
+
+unfoldable pub call_form : List (List ℕ) → Option Inst
+call_form ws = call_info symbol ws >>= λ info. Some (form.Call info)
+
+unfoldable pub call_ind_form : List (List ℕ) → Option Inst
+call_ind_form ws = call_info register ws >>= λ info. Some (form.CallInd info)
+
+-- a tail call is three tokens
+abbrev pub return_call : ExternalName → List CallArgPair → ℕ → Inst
+return_call name uses size = form.ReturnCall (record { dest = name; uses = uses; new_stack_arg_size = size })
+
+unfoldable pub return_call_form : List (List ℕ) → Option Inst
+return_call_form = whole (done return_call ⊛ symbol ⊛ listed call_arg_pair ⊛ natural_32)
+
+abbrev pub return_call_ind : Reg → List CallArgPair → ℕ → Inst
+return_call_ind reg uses size = form.ReturnCallInd (record { dest = reg; uses = uses; new_stack_arg_size = size })
+
+unfoldable pub return_call_ind_form : List (List ℕ) → Option Inst
+return_call_ind_form = whole (done return_call_ind ⊛ register ⊛ listed call_arg_pair ⊛ natural_32)
+
 -- ---- lines
 
 unfoldable pub bind_form : List (List ℕ) → Option Line
@@ -209,6 +237,10 @@ by_form forms.StackProbeLoop ws = put (stack_probe_loop_form ws)
 by_form forms.LoadExtNameGot ws = put (load_ext_name_got_form ws)
 by_form forms.LoadExtNameNear ws = put (load_ext_name_near_form ws)
 by_form forms.LoadExtNameFar ws = put (load_ext_name_far_form ws)
+by_form forms.Call ws = put (call_form ws)
+by_form forms.CallInd ws = put (call_ind_form ws)
+by_form forms.ReturnCall ws = put (return_call_form ws)
+by_form forms.ReturnCallInd ws = put (return_call_ind_form ws)
 by_form forms.Bind ws = bind_form ws
 
 unfoldable pub line_form : List ℕ → List (List ℕ) → Option Line

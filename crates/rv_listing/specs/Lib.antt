@@ -11,6 +11,7 @@ pub mod Traps
 pub mod HexDigits
 pub mod Pairs
 pub mod ValueRegs
+pub mod Calls
 pub mod FlagsHeader
 pub mod FrameHeader
 pub mod ConstantHeader

@@ -3,6 +3,7 @@ use Rattle.std.specs.Prelude.{ℕ, List, [], ◌∷◌, ◌++◌, Option, Some, 
 use Rattle.std.specs.Str.{bytes_eq}
 use Rattle.rv_base.specs.declared.call.ArgPair.{ArgPair}
 use Rattle.rv_base.specs.declared.call.RetPair.{RetPair}
+use Rattle.rv_base.specs.declared.call.CallArgPair.{CallArgPair}
 use Rattle.rv_listing.specs.Tokens.{◌>>=◌, parts_of, as_pair}
 use Rattle.rv_listing.specs.Registers.{register}
 
@@ -12,6 +13,9 @@ arg_pair w = as_pair (parts_of 58 w) >>= λ p. register p.0 >>= λ vreg. registe
 
 unfoldable pub ret_pair : List ℕ → Option RetPair
 ret_pair w = as_pair (parts_of 58 w) >>= λ p. register p.0 >>= λ vreg. register p.1 >>= λ preg. Some (record { vreg = vreg; preg = preg })
+
+unfoldable pub call_arg_pair : List ℕ → Option CallArgPair
+call_arg_pair w = as_pair (parts_of 58 w) >>= λ p. register p.0 >>= λ vreg. register p.1 >>= λ preg. Some (record { vreg = vreg; preg = preg })
 
 -- what all parts stand for, after those so far
 abbrev pub each_after : {A : Type 0} → (List ℕ → Option A) → List A → List (List ℕ) → Option (List A)

@@ -9,13 +9,16 @@ ghost use Rattle.rv_listing.specs.CodeRanges.{CodeFits};
 ghost use Rattle.rv_base.specs.RegNames.{name_of as register_name};
 ghost use Rattle.rv_listing.specs.Relocations.{target_text};
 ghost use Rattle.rv_listing.specs.UnwindSteps.{step_text};
-ghost use Rattle.rv_listing.specs.Report.{lf, hex_line, all_hex_lines, span_line, label_line, const_line, reloc_line, trap_line, unwind_line, report};
+ghost use Rattle.rv_listing.specs.Report.{lf, hex_line, all_hex_lines, span_line, return_line, label_line, const_line, reloc_line, trap_line, call_line, frame_text, handler_text, try_line, patch_line, entry_text, map_line, unwind_line, report};
 
 use crate::relocations::kind_name;
 use itoa::Buffer;
 use mach_buffer::FinalizedRelocTarget;
-use rv_base::{OutOfMemory, Reg, UnwindInst, reg_name};
-use rv_inst::{Code, ConstPlace, LabelPlace, LineSpan, MachReloc, MachTrap, MachUnwind};
+use rv_base::{IrType, OutOfMemory, Reg, UnwindInst, reg_name};
+use rv_inst::{
+    CallReturn, Code, ConstPlace, FinalizedMachExceptionHandler, LabelPlace, LineSpan,
+    MachPatchable, MachReloc, MachStackMap, MachTrap, MachTryCallSite, MachUnwind,
+};
 use std::alloc::Global;
 
 fn put(out: &mut Vec<u8>, text: &[u8]) -> Result<(), OutOfMemory>
@@ -114,6 +117,13 @@ fn put_span(out: &mut Vec<u8>, l: &LineSpan) -> Result<(), OutOfMemory>
     end_line(out, b" ", l.end as u64)
 }
 
+fn put_return(out: &mut Vec<u8>, r: &CallReturn) -> Result<(), OutOfMemory>
+    ensures { OnOk result (out.new.items ≡ out.old.items ++ return_line r.now) }
+{
+    put_numbered(out, b"return ", r.index as u64)?;
+    end_line(out, b" ", r.offset as u64)
+}
+
 fn put_label(out: &mut Vec<u8>, l: &LabelPlace) -> Result<(), OutOfMemory>
     ensures { OnOk result (out.new.items ≡ out.old.items ++ label_line l.now) }
 {
@@ -158,6 +168,98 @@ fn put_trap(alloc: Global, out: &mut Vec<u8>, t: &MachTrap) -> Result<(), OutOfM
     put_numbered(out, b"trap ", t.offset as u64)?;
     put(out, b" ")?;
     put(out, name.as_bytes())?;
+    put(out, b"\n")
+}
+
+fn put_call(out: &mut Vec<u8>, offset: u32) -> Result<(), OutOfMemory>
+    ensures { OnOk result (out.new.items ≡ out.old.items ++ call_line offset) }
+{
+    end_line(out, b"call ", offset as u64)
+}
+
+// How far the frame pointer is above the stack pointer, where that is known.
+fn put_frame(out: &mut Vec<u8>, frame_offset: Option<u32>) -> Result<(), OutOfMemory>
+    ensures { OnOk result (out.new.items ≡ out.old.items ++ frame_text frame_offset) }
+{
+    match frame_offset {
+        Some(offset) => put_number(out, offset as u64),
+        None => put(out, b"-"),
+    }
+}
+
+fn put_handler(out: &mut Vec<u8>, handler: FinalizedMachExceptionHandler) -> Result<(), OutOfMemory>
+    ensures { OnOk result (out.new.items ≡ out.old.items ++ handler_text handler) }
+{
+    match handler {
+        FinalizedMachExceptionHandler::Tag(tag, offset) => {
+            put_numbered(out, b" tag", tag as u64)?;
+            put_numbered(out, b":", offset as u64)
+        }
+        FinalizedMachExceptionHandler::Default(offset) => {
+            put_numbered(out, b" default:", offset as u64)
+        }
+    }
+}
+
+fn put_handlers(
+    out: &mut Vec<u8>,
+    handlers: &[FinalizedMachExceptionHandler],
+) -> Result<(), OutOfMemory>
+    ensures { OnOk result (out.new.items ≡ out.old.items ++ flat_map handler_text handlers.now) }
+{
+    for h in handlers {
+        put_handler(out, *h)?;
+    }
+    Ok(())
+}
+
+fn put_try(out: &mut Vec<u8>, t: &MachTryCallSite) -> Result<(), OutOfMemory>
+    ensures { OnOk result (out.new.items ≡ out.old.items ++ try_line t.now) }
+{
+    put_numbered(out, b"try ", t.offset as u64)?;
+    put(out, b" ")?;
+    put_frame(out, t.frame_offset)?;
+    put_handlers(out, t.handlers.as_slice())?;
+    put(out, b"\n")
+}
+
+fn put_patch(out: &mut Vec<u8>, p: &MachPatchable) -> Result<(), OutOfMemory>
+    ensures { OnOk result (out.new.items ≡ out.old.items ++ patch_line p.now) }
+{
+    put_numbered(out, b"patch ", p.offset as u64)?;
+    end_line(out, b" ", p.len as u64)
+}
+
+// A value on the stack, by its type and its offset.
+fn put_entry(alloc: Global, out: &mut Vec<u8>, entry: (IrType, u32)) -> Result<(), OutOfMemory>
+    ensures { OnOk result (out.new.items ≡ out.old.items ++ entry_text entry) }
+{
+    let (ty, offset) = entry;
+    let name = format!(in alloc; "{ty}")?;
+    put(out, b" ")?;
+    put(out, name.as_bytes())?;
+    put_numbered(out, b"@", offset as u64)
+}
+
+fn put_entries(
+    alloc: Global,
+    out: &mut Vec<u8>,
+    entries: &[(IrType, u32)],
+) -> Result<(), OutOfMemory>
+    ensures { OnOk result (out.new.items ≡ out.old.items ++ flat_map entry_text entries.now) }
+{
+    for e in entries {
+        put_entry(alloc, out, *e)?;
+    }
+    Ok(())
+}
+
+fn put_map(alloc: Global, out: &mut Vec<u8>, m: &MachStackMap) -> Result<(), OutOfMemory>
+    ensures { OnOk result (out.new.items ≡ out.old.items ++ map_line m.now) }
+{
+    put_numbered(out, b"map ", m.offset as u64)?;
+    put_numbered(out, b" ", m.span as u64)?;
+    put_entries(alloc, out, m.map.entries.as_slice())?;
     put(out, b"\n")
 }
 
@@ -211,6 +313,15 @@ fn put_spans(out: &mut Vec<u8>, lines: &[LineSpan]) -> Result<(), OutOfMemory>
     Ok(())
 }
 
+fn put_returns(out: &mut Vec<u8>, returns: &[CallReturn]) -> Result<(), OutOfMemory>
+    ensures { OnOk result (out.new.items ≡ out.old.items ++ flat_map return_line returns.now) }
+{
+    for r in returns {
+        put_return(out, r)?;
+    }
+    Ok(())
+}
+
 fn put_labels(out: &mut Vec<u8>, labels: &[LabelPlace]) -> Result<(), OutOfMemory>
     ensures { OnOk result (out.new.items ≡ out.old.items ++ flat_map label_line labels.now) }
 {
@@ -247,6 +358,42 @@ fn put_traps(alloc: Global, out: &mut Vec<u8>, traps: &[MachTrap]) -> Result<(),
     Ok(())
 }
 
+fn put_calls(out: &mut Vec<u8>, call_sites: &[u32]) -> Result<(), OutOfMemory>
+    ensures { OnOk result (out.new.items ≡ out.old.items ++ flat_map call_line call_sites.now) }
+{
+    for offset in call_sites {
+        put_call(out, *offset)?;
+    }
+    Ok(())
+}
+
+fn put_tries(out: &mut Vec<u8>, tries: &[MachTryCallSite]) -> Result<(), OutOfMemory>
+    ensures { OnOk result (out.new.items ≡ out.old.items ++ flat_map try_line tries.now) }
+{
+    for t in tries {
+        put_try(out, t)?;
+    }
+    Ok(())
+}
+
+fn put_patches(out: &mut Vec<u8>, patches: &[MachPatchable]) -> Result<(), OutOfMemory>
+    ensures { OnOk result (out.new.items ≡ out.old.items ++ flat_map patch_line patches.now) }
+{
+    for p in patches {
+        put_patch(out, p)?;
+    }
+    Ok(())
+}
+
+fn put_maps(alloc: Global, out: &mut Vec<u8>, maps: &[MachStackMap]) -> Result<(), OutOfMemory>
+    ensures { OnOk result (out.new.items ≡ out.old.items ++ flat_map map_line maps.now) }
+{
+    for m in maps {
+        put_map(alloc, out, m)?;
+    }
+    Ok(())
+}
+
 fn put_unwinds(alloc: Global, out: &mut Vec<u8>, unwinds: &[MachUnwind]) -> Result<(), OutOfMemory>
     ensures { OnOk result (out.new.items ≡ out.old.items ++ flat_map unwind_line unwinds.now) }
 {
@@ -263,18 +410,24 @@ fn text_of(alloc: Global, code: &Code) -> Result<Vec<u8>, OutOfMemory>
     end_line(&mut out, b"code ", code.bytes.len() as u64)?;
     put_hex_lines(&mut out, code.bytes.as_slice())?;
     put_spans(&mut out, code.lines.as_slice())?;
+    put_returns(&mut out, code.returns.as_slice())?;
     put_labels(&mut out, code.labels.as_slice())?;
     put_constants(&mut out, code.constants.as_slice())?;
     put_relocs(&mut out, code.relocs.as_slice())?;
     put_traps(alloc, &mut out, code.traps.as_slice())?;
+    put_calls(&mut out, code.call_sites.as_slice())?;
+    put_tries(&mut out, code.try_call_sites.as_slice())?;
+    put_patches(&mut out, code.patchable_call_sites.as_slice())?;
+    put_maps(alloc, &mut out, code.stack_maps.as_slice())?;
     put_unwinds(alloc, &mut out, code.unwinds.as_slice())?;
     end_line(&mut out, b"end ", code.end as u64)?;
     Ok(out)
 }
 
-/// The text of the code, in lines that LF ends: its length, its bytes in lines of sixteen, where each line, each
-/// label and each constant stands, each relocation, each trap and its cause, each step in the making of the frame, and where the
-/// last line ends. Numbers are decimal but in the lines of bytes. No other code has this text.
+/// The text of the code, in lines that LF ends: its length, its bytes in lines of sixteen, where each line stands, where each
+/// call returns, where each label and each constant stands, each relocation, each trap and its cause, each call site, each call
+/// that may throw and its handlers, each call that may be patched, the values on the stack where calls return, each step in the
+/// making of the frame, and where the last line ends. Numbers are decimal but in the lines of bytes. No other code has this text.
 pub fn report(alloc: Global, code: &Code) -> Result<Vec<u8>, OutOfMemory>
     ensures text { IfOk result (λ text. text.items ≡ report code.now) }
     ensures one_code { IfOk result (λ text. (other : ACode) → CodeFits code.now → CodeFits other → report other ≡ text.items → other ≡ code.now) }

@@ -45,6 +45,10 @@ pub enum Form {
     LoadExtNameGot,
     LoadExtNameNear,
     LoadExtNameFar,
+    Call,
+    CallInd,
+    ReturnCall,
+    ReturnCallInd,
     Bind,
 }
 
@@ -91,12 +95,16 @@ impl Form {
             Self::LoadExtNameGot => "LoadExtNameGot",
             Self::LoadExtNameNear => "LoadExtNameNear",
             Self::LoadExtNameFar => "LoadExtNameFar",
+            Self::Call => "Call",
+            Self::CallInd => "CallInd",
+            Self::ReturnCall => "ReturnCall",
+            Self::ReturnCallInd => "ReturnCallInd",
             Self::Bind => "Bind",
         }
     }
 }
 
-const EVERY_FORM: [Form; 38] = [
+const EVERY_FORM: [Form; 42] = [
     Form::Nop0,
     Form::Nop4,
     Form::EBreak,
@@ -134,6 +142,10 @@ const EVERY_FORM: [Form; 38] = [
     Form::LoadExtNameGot,
     Form::LoadExtNameNear,
     Form::LoadExtNameFar,
+    Form::Call,
+    Form::CallInd,
+    Form::ReturnCall,
+    Form::ReturnCallInd,
     Form::Bind,
 ];
 
@@ -143,11 +155,11 @@ const FORM_SLOTS: [u8; 256] = [
     0, 0, 0, 0, 0, 0, 35, 0, 0, 0, 0, 18, 0, 0, 0, 1, 0, 19, 0, 0, 16, 0, 0, 33, 0, 0, 0, 0, 0, 3,
     0, 0, 0, 0, 28, 17, 0, 0, 0, 0, 0, 0, 0, 0, 0, 31, 0, 0, 0, 13, 0, 0, 0, 0, 0, 11, 12, 0, 0, 0,
     15, 23, 0, 0, 29, 0, 0, 7, 0, 0, 0, 0, 21, 0, 9, 0, 0, 34, 0, 27, 0, 0, 0, 32, 0, 0, 22, 0, 0,
-    0, 0, 0, 0, 0, 0, 4, 0, 0, 0, 0, 0, 0, 0, 0, 0, 0, 0, 0, 0, 0, 0, 0, 0, 0, 0, 0, 0, 0, 0, 0, 0,
-    0, 0, 0, 36, 0, 0, 0, 0, 0, 0, 0, 0, 0, 0, 0, 0, 10, 0, 0, 0, 0, 0, 0, 0, 0, 0, 0, 0, 26, 0, 0,
-    0, 0, 0, 37, 0, 0, 0, 24, 0, 0, 0, 0, 0, 0, 0, 0, 0, 0, 0, 0, 0, 0, 0, 20, 0, 0, 0, 0, 0, 0, 0,
-    0, 0, 0, 0, 0, 0, 0, 0, 0, 0, 0, 0, 0, 5, 0, 0, 0, 0, 2, 0, 0, 0, 0, 0, 0, 0, 0, 0, 0, 0, 0, 0,
-    0, 0, 0, 0, 0, 0, 0, 0, 0, 0,
+    0, 0, 0, 37, 0, 0, 4, 0, 0, 0, 0, 0, 0, 0, 39, 0, 0, 0, 0, 0, 0, 0, 0, 0, 0, 0, 0, 0, 0, 0, 0,
+    0, 0, 0, 0, 36, 0, 0, 0, 0, 0, 0, 0, 0, 0, 0, 0, 0, 10, 0, 0, 0, 0, 0, 0, 0, 0, 0, 0, 0, 26, 0,
+    0, 0, 0, 0, 41, 0, 0, 0, 24, 0, 0, 0, 0, 0, 0, 38, 0, 0, 0, 0, 0, 0, 0, 0, 20, 0, 40, 0, 0, 0,
+    0, 0, 0, 0, 0, 0, 0, 0, 0, 0, 0, 0, 0, 0, 0, 5, 0, 0, 0, 0, 2, 0, 0, 0, 0, 0, 0, 0, 0, 0, 0, 0,
+    0, 0, 0, 0, 0, 0, 0, 0, 0, 0, 0, 0,
 ];
 
 const FORM_FACTOR: u64 = 12853865251737306535;

@@ -3,15 +3,17 @@
 ghost use Rattle.std.specs.Prelude.{◌≡◌};
 ghost use Rattle.rv_listing.specs.Tokens.{words_after};
 ghost use Rattle.rv_listing.specs.Fields.{Makes};
-ghost use Rattle.rv_listing.specs.Forms.{args_form, rets_form, dummy_use_form, unwind_form, emit_island_form, raw_data_form, lui_form, auipc_form, load_inline_const_form, alu_rrr_form, alu_rr_imm12_form, mov_form, mov_from_preg_form, extend_form, select_form, load_form, store_form, load_addr_form, label_address_form, trap_if_form, jal_form, cond_br_form, br_table_form, udf_form, jalr_form, popcnt_form, cltz_form, brev8_form, stack_probe_loop_form, load_ext_name_got_form, load_ext_name_near_form, load_ext_name_far_form, bind_form, put, by_form, line_form};
+ghost use Rattle.rv_listing.specs.Forms.{args_form, rets_form, dummy_use_form, unwind_form, emit_island_form, raw_data_form, lui_form, auipc_form, load_inline_const_form, alu_rrr_form, alu_rr_imm12_form, mov_form, mov_from_preg_form, extend_form, select_info_form, select_form, load_form, store_form, load_addr_form, label_address_form, trap_if_form, jal_form, cond_br_form, br_table_form, udf_form, jalr_form, popcnt_form, cltz_form, brev8_form, stack_probe_loop_form, load_ext_name_got_form, load_ext_name_near_form, load_ext_name_far_form, call_form, call_ind_form, return_call_form, return_call_ind_form, bind_form, put, by_form, line_form};
 
+use crate::calls::call_info;
 use crate::fields::{LineError, allowed, field, flag, whole};
 use crate::form_names::{Form, form_named};
 use crate::hex_digits::some_bytes;
 use crate::pairs::listed_field;
 use crate::tokens::next_word;
 use crate::unwind_steps::step;
-use rv_inst::{Inst, Line};
+use rv_base::ReturnCallInfo;
+use rv_inst::{Boxed, Inst, Line, SelectInfo};
 use rv_ops::IntegerCompare;
 use std::alloc::Global;
 
@@ -176,9 +178,9 @@ fn extend(rest: &[u8]) -> Option<Inst>
     )
 }
 
-#[tactic(auto, unfolding(crate::specs::Forms::select_form))]
-fn select(rest: &[u8]) -> Option<Inst>
-    ensures { result ≡ select_form (words_after rest.now) }
+#[tactic(auto, unfolding(crate::specs::Forms::select_info_form))]
+fn select_info(rest: &[u8]) -> Option<SelectInfo>
+    ensures { result ≡ select_info_form (words_after rest.now) }
 {
     let (dst, rest) = field(rest)?;
     let (kind, rest) = field(rest)?;
@@ -187,7 +189,7 @@ fn select(rest: &[u8]) -> Option<Inst>
     let (x, rest) = field(rest)?;
     let (y, rest) = field(rest)?;
     whole(
-        Inst::Select {
+        SelectInfo {
             dst,
             condition: IntegerCompare { kind, rs1, rs2 },
             x,
@@ -195,6 +197,19 @@ fn select(rest: &[u8]) -> Option<Inst>
         },
         rest,
     )
+}
+
+#[tactic(auto, unfolding(crate::specs::Forms::select_form))]
+fn select(alloc: Global, rest: &[u8]) -> Result<Inst, LineError>
+    ensures { Makes result (select_form (words_after rest.now)) }
+{
+    let Some(info) = select_info(rest) else {
+        return Err(LineError::NotAllowed);
+    };
+    match Boxed::new(alloc, info) {
+        Ok(info) => Ok(Inst::Select { info }),
+        Err(_) => Err(LineError::OutOfMemory),
+    }
 }
 
 // ---- those that read or write memory, or compute an address
@@ -453,6 +468,68 @@ fn load_ext_name_far(rest: &[u8]) -> Option<Inst>
     whole(Inst::LoadExtNameFar { rd, name, offset }, rest)
 }
 
+// ---- those that call a function, or give their own function's place to another
+
+#[tactic(auto, unfolding(crate::specs::Forms::call_form))]
+fn call(alloc: Global, rest: &[u8]) -> Result<Inst, LineError>
+    ensures { Makes result (call_form (words_after rest.now)) }
+{
+    let info = call_info(alloc, rest)?;
+    match Boxed::new(alloc, info) {
+        Ok(info) => Ok(Inst::Call { info }),
+        Err(_) => Err(LineError::OutOfMemory),
+    }
+}
+
+#[tactic(auto, unfolding(crate::specs::Forms::call_ind_form))]
+fn call_ind(alloc: Global, rest: &[u8]) -> Result<Inst, LineError>
+    ensures { Makes result (call_ind_form (words_after rest.now)) }
+{
+    let info = call_info(alloc, rest)?;
+    match Boxed::new(alloc, info) {
+        Ok(info) => Ok(Inst::CallInd { info }),
+        Err(_) => Err(LineError::OutOfMemory),
+    }
+}
+
+#[tactic(auto, unfolding(crate::specs::Forms::return_call_form))]
+fn return_call(alloc: Global, rest: &[u8]) -> Result<Inst, LineError>
+    ensures { Makes result (return_call_form (words_after rest.now)) }
+{
+    let Some((dest, rest)) = field(rest) else {
+        return Err(LineError::NotAllowed);
+    };
+    let (uses, rest) = listed_field(alloc, rest)?;
+    let Some((new_stack_arg_size, rest)) = field(rest) else {
+        return Err(LineError::NotAllowed);
+    };
+    let info = ReturnCallInfo {
+        dest,
+        uses,
+        new_stack_arg_size,
+    };
+    allowed(whole(Inst::ReturnCall { info }, rest))
+}
+
+#[tactic(auto, unfolding(crate::specs::Forms::return_call_ind_form))]
+fn return_call_ind(alloc: Global, rest: &[u8]) -> Result<Inst, LineError>
+    ensures { Makes result (return_call_ind_form (words_after rest.now)) }
+{
+    let Some((dest, rest)) = field(rest) else {
+        return Err(LineError::NotAllowed);
+    };
+    let (uses, rest) = listed_field(alloc, rest)?;
+    let Some((new_stack_arg_size, rest)) = field(rest) else {
+        return Err(LineError::NotAllowed);
+    };
+    let info = ReturnCallInfo {
+        dest,
+        uses,
+        new_stack_arg_size,
+    };
+    allowed(whole(Inst::ReturnCallInd { info }, rest))
+}
+
 // ---- lines
 
 #[tactic(auto, unfolding(crate::specs::Forms::bind_form))]
@@ -496,7 +573,7 @@ fn line_of(alloc: Global, form: Form, rest: &[u8]) -> Result<Line, LineError>
         Form::Mov => put(mov(rest)),
         Form::MovFromPReg => put(mov_from_preg(rest)),
         Form::Extend => put(extend(rest)),
-        Form::Select => put(select(rest)),
+        Form::Select => Ok(Line::Inst(select(alloc, rest)?)),
         Form::Load => put(load(rest)),
         Form::Store => put(store(rest)),
         Form::LoadAddr => put(load_addr(rest)),
@@ -515,6 +592,10 @@ fn line_of(alloc: Global, form: Form, rest: &[u8]) -> Result<Line, LineError>
         Form::LoadExtNameGot => put(load_ext_name_got(rest)),
         Form::LoadExtNameNear => put(load_ext_name_near(rest)),
         Form::LoadExtNameFar => put(load_ext_name_far(rest)),
+        Form::Call => Ok(Line::Inst(call(alloc, rest)?)),
+        Form::CallInd => Ok(Line::Inst(call_ind(alloc, rest)?)),
+        Form::ReturnCall => Ok(Line::Inst(return_call(alloc, rest)?)),
+        Form::ReturnCallInd => Ok(Line::Inst(return_call_ind(alloc, rest)?)),
         Form::Bind => allowed(bind(rest)),
     }
 }

@@ -2,6 +2,7 @@
 #![tactic(auto)]
 
 mod addresses;
+mod calls;
 mod code_report;
 mod comparisons;
 mod constant_header;
@@ -37,3 +38,4 @@ pub use tokens::{
     two_parts,
 };
 pub use traps::trap_named;
+pub use types::type_named;

@@ -1,14 +1,14 @@
 //! Pairs of registers, and lists of them.
 
-ghost use Rattle.std.specs.Prelude.{◌≡◌};
+ghost use Rattle.std.specs.Prelude.{◌≡◌, []};
 ghost use Rattle.rv_listing.specs.Fields.{Makes, Puts, TakesFirst, field};
-ghost use Rattle.rv_listing.specs.Tokens.{words_after};
-ghost use Rattle.rv_listing.specs.Pairs.{arg_pair, listed, ret_pair};
+ghost use Rattle.rv_listing.specs.Tokens.{parts_after, parts_of, words_after};
+ghost use Rattle.rv_listing.specs.Pairs.{arg_pair, call_arg_pair, each_after, listed, ret_pair};
 
 use crate::fields::{LineError, Token};
 use crate::registers::register;
 use crate::tokens::{first_part, is, next_part, next_word, two_parts};
-use rv_base::{ArgPair, List, RetPair, Writable};
+use rv_base::{ArgPair, CallArgPair, List, RetPair, Writable};
 use std::alloc::Global;
 
 impl Token for ArgPair {
@@ -38,6 +38,18 @@ impl Token for RetPair {
     }
 }
 
+impl Token for CallArgPair {
+    ghost reads = { call_arg_pair };
+
+    #[tactic(auto, unfolding(crate::specs::Pairs::call_arg_pair))]
+    fn read(w: &[u8]) -> Option<CallArgPair> {
+        let (vreg, preg) = two_parts(b':', w)?;
+        let vreg = register(vreg)?;
+        let preg = register(preg)?;
+        Some(CallArgPair { vreg, preg })
+    }
+}
+
 // One more element of a list.
 fn put<T: Token + Drop>(made: &mut List<T>, w: &[u8]) -> Result<(), LineError>
     ensures { Puts made.old made.new (T.reads w.now) result }
@@ -51,22 +63,45 @@ fn put<T: Token + Drop>(made: &mut List<T>, w: &[u8]) -> Result<(), LineError>
     }
 }
 
-/// Tokens a comma apart, or `-` for none.
-pub fn listed<T: Token + Drop>(alloc: Global, w: &[u8]) -> Result<List<T>, LineError>
-    ensures { Makes result (listed T.reads w.now) }
+/// Tokens with a separator before each, after those so far.
+pub fn others<T: Token + Drop>(
+    separator: u8,
+    sofar: List<T>,
+    rest: &[u8],
+) -> Result<List<T>, LineError>
+    ensures { Makes result (each_after T.reads sofar (parts_after separator rest.now)) }
 {
-    let mut made = List::new(alloc);
-    if is(b"-", w) {
-        return Ok(made);
-    }
-    let (part, rest) = first_part(b',', w);
-    put(&mut made, part)?;
+    let mut made = sofar;
     let mut rest = rest;
-    while let Some((part, after)) = next_part(b',', rest) {
+    while let Some((part, after)) = next_part(separator, rest) {
         put(&mut made, part)?;
         rest = after;
     }
     Ok(made)
+}
+
+/// Tokens a separator apart.
+pub fn separated<T: Token + Drop>(
+    alloc: Global,
+    separator: u8,
+    w: &[u8],
+) -> Result<List<T>, LineError>
+    ensures { Makes result (each_after T.reads [] (parts_of separator w.now)) }
+{
+    let mut made = List::new(alloc);
+    let (part, rest) = first_part(separator, w);
+    put(&mut made, part)?;
+    others(separator, made, rest)
+}
+
+/// Tokens a comma apart, or `-` for none.
+pub fn listed<T: Token + Drop>(alloc: Global, w: &[u8]) -> Result<List<T>, LineError>
+    ensures { Makes result (listed T.reads w.now) }
+{
+    if is(b"-", w) {
+        return Ok(List::new(alloc));
+    }
+    separated(alloc, b',', w)
 }
 
 /// The next word, as a list of tokens.

@@ -1,18 +1,23 @@
--- The words of a report's lines of relocations and of steps in the making of the frame.
-use Rattle.std.specs.Prelude.{ℕ, ◌+◌, ◌^◌, List, [], ◌∷◌, drop, Option, Some, None, Bool, true, nat_le, if◌then◌else◌, codes}
+-- The words of a report's lines of relocations, of calls that may throw, of values on the stack and of steps in the making of the
+-- frame.
+use Rattle.std.specs.Prelude.{ℕ, ◌+◌, ◌^◌, List, [], ◌∷◌, take, drop, Option, Some, None, is_some, Bool, true, false, ◌&&◌, nat_le, if◌then◌else◌, codes}
 use Rattle.std.specs.Str.{bytes_eq}
 use Rattle.mach_buffer.specs.declared.records.FinalizedRelocTarget.{FinalizedRelocTarget}
 use Rattle.mach_buffer.specs.declared.records.FinalizedRelocTarget.TheVariants.{ExternalName, Func}
+use Rattle.mach_buffer.specs.declared.records.FinalizedMachExceptionHandler.{FinalizedMachExceptionHandler}
+use Rattle.mach_buffer.specs.declared.records.FinalizedMachExceptionHandler.TheVariants.{Tag, Default}
 use Rattle.rv_base.specs.Regs.{real_of}
+use Rattle.rv_base.specs.declared.ir_type.IrType.{IrType}
 use Rattle.rv_base.specs.declared.regs.PReg.{PReg}
 use Rattle.rv_base.specs.declared.regs.Reg.TheVariants.{Real}
 use Rattle.rv_base.specs.declared.unwind.UnwindInst.{UnwindInst}
 use Rattle.rv_base.specs.declared.unwind.UnwindInst.TheVariants.{PushFrameRegs, DefineNewFrame, StackAlloc, SaveReg}
-use Rattle.rv_listing.specs.Tokens.{◌>>=◌, below, decimal, starts}
+use Rattle.rv_listing.specs.Tokens.{◌>>=◌, as_pair, below, decimal, parts_of, starts}
 use Rattle.rv_listing.specs.Fields.{field, no_more}
 use Rattle.rv_listing.specs.Operands.{symbol}
 use Rattle.rv_listing.specs.Registers.{register}
 use Rattle.rv_listing.specs.Relocations.{kind_named}
+use Rattle.rv_listing.specs.Types.{type_named}
 
 -- a number of 32 bits
 abbrev pub number_32 : List ℕ → Option ℕ
@@ -40,6 +45,50 @@ reloc_words ws =
 abbrev pub is_within : ℕ → FinalizedRelocTarget → Bool
 is_within count (ExternalName name) = true
 is_within count (Func offset) = nat_le offset count
+
+-- ---- calls that may throw
+
+-- how far the frame pointer is above the stack pointer, or `-`
+abbrev pub frame : List ℕ → Option (Option ℕ)
+frame w = if bytes_eq w (codes "-") then Some None else number_32 w >>= λ n. Some (Some n)
+
+-- the offset of a call and that of the frame, before handlers
+abbrev pub try_words : List (List ℕ) → Option (ℕ × List (List ℕ))
+try_words ws = field decimal ws >>= λ offset. field frame offset.1 >>= λ f. Some (offset.0, f.1)
+
+-- `default`, or `tag` and the tag's number
+abbrev pub handler_at : List ℕ → ℕ → Option FinalizedMachExceptionHandler
+handler_at w offset =
+    if bytes_eq w (codes "default") then Some (Default offset) else
+    if bytes_eq (take 3 w) (codes "tag") then (number_32 (drop 3 w) >>= λ tag. Some (Tag tag offset)) else None
+
+-- which exceptions a handler takes, a colon, and its offset
+abbrev pub handler : List ℕ → Option FinalizedMachExceptionHandler
+handler w = as_pair (parts_of 58 w) >>= λ p. number_32 p.1 >>= handler_at p.0
+
+-- its place is at most the code's length
+abbrev pub is_placed : ℕ → Option FinalizedMachExceptionHandler → Bool
+is_placed count None = false
+is_placed count (Some (Tag tag offset)) = nat_le offset count
+is_placed count (Some (Default offset)) = nat_le offset count
+
+abbrev pub are_handlers : ℕ → List (List ℕ) → Bool
+are_handlers count [] = true
+are_handlers count (w ∷ ws) = is_placed count (handler w) && are_handlers count ws
+
+-- ---- values on the stack
+
+-- the offset where a call returns, and how many bytes of the frame its map tells of, before the map's values
+abbrev pub map_words : List (List ℕ) → Option (ℕ × List (List ℕ))
+map_words ws = field decimal ws >>= λ offset. field number_32 offset.1 >>= λ span. Some (offset.0, span.1)
+
+-- a type, `@`, and an offset
+abbrev pub map_entry : List ℕ → Option (IrType × ℕ)
+map_entry w = as_pair (parts_of 64 w) >>= λ p. type_named p.0 >>= λ type. number_32 p.1 >>= λ offset. Some (type, offset)
+
+abbrev pub are_entries : List (List ℕ) → Bool
+are_entries [] = true
+are_entries (w ∷ ws) = is_some (map_entry w) && are_entries ws
 
 -- ---- steps in the making of the frame
 

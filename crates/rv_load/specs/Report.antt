@@ -11,12 +11,12 @@ use Rattle.rv_base.specs.declared.trap.TrapCode.{TrapCode}
 use Rattle.rv_listing.specs.declared.fields.LineError.{LineError}
 use Rattle.rv_listing.specs.declared.fields.LineError.TheVariants as bad
 use Rattle.rv_listing.specs.HexDigits.{hex_bytes}
-use Rattle.rv_load.specs.Records.{number_32, reloc_words, is_within, unwind_words}
+use Rattle.rv_load.specs.Records.{number_32, reloc_words, is_within, try_words, are_handlers, map_words, are_entries, unwind_words}
 use Rattle.rv_load.specs.declared.program.Program.{Program}
 use Rattle.rv_load.specs.declared.program.ProgramError.{ProgramError}
 use Rattle.rv_load.specs.declared.program.ProgramError.TheVariants as errors
 use Rattle.rv_load.specs.declared.report.Part.{Part}
-use Rattle.rv_load.specs.declared.report.Part.TheVariants.{Nothing, Bytes, Lines, Labels, Constants, Relocations, Traps, Unwinds, End}
+use Rattle.rv_load.specs.declared.report.Part.TheVariants.{Nothing, Bytes, Lines, Returns, Labels, Constants, Relocations, Traps, Calls, Tries, Patches, Maps, Unwinds, End}
 use Rattle.rv_load.specs.declared.report.Draft.{Draft}
 
 abbrev pub blank : Draft
@@ -27,12 +27,17 @@ abbrev pub rank : Part → ℕ
 rank Nothing = 0
 rank Bytes = 1
 rank Lines = 2
-rank Labels = 3
-rank Constants = 4
-rank Relocations = 5
-rank Traps = 6
-rank Unwinds = 7
-rank End = 8
+rank Returns = 3
+rank Labels = 4
+rank Constants = 5
+rank Relocations = 6
+rank Traps = 7
+rank Calls = 8
+rank Tries = 9
+rank Patches = 10
+rank Maps = 11
+rank Unwinds = 12
+rank End = 13
 
 -- all bytes have come, and no later part
 abbrev pub may_have : Part → Draft → Bool
@@ -83,6 +88,14 @@ span_line d ws = three ws >>= λ n. span_of d n >>= λ span. Some (record d { pa
 abbrev pub at_offset : Part → Draft → ℕ → Option Draft
 at_offset part d offset = if may_have part d && nat_le offset d.count then Some (record d { part = part }) else None
 
+-- the offset after a line's number
+abbrev pub return_offset : List (List ℕ) → Option ℕ
+return_offset ws = field decimal ws >>= λ i. one i.1
+
+-- `return I OFFSET`
+abbrev pub return_line : Draft → List (List ℕ) → Option Draft
+return_line d ws = return_offset ws >>= at_offset Returns d
+
 -- `L` and a number
 abbrev pub label : List ℕ → Option ℕ
 label w = if starts 76 w then decimal (drop 1 w) else None
@@ -115,6 +128,26 @@ trap_words ws = field decimal ws >>= λ a. field trap_named a.1 >>= λ b. no_mor
 abbrev pub trap_line : Draft → List (List ℕ) → Option Draft
 trap_line d ws = trap_words ws >>= λ t. at_offset Traps d t.0
 
+-- `call OFFSET`
+abbrev pub call_line : Draft → List (List ℕ) → Option Draft
+call_line d ws = one ws >>= at_offset Calls d
+
+-- `try OFFSET FRAME HANDLERS`; a handler's place is at most the code's length
+abbrev pub try_line : Draft → List (List ℕ) → Option Draft
+try_line d ws = try_words ws >>= λ t. if are_handlers d.count t.1 then at_offset Tries d t.0 else None
+
+-- an offset and a length of 32 bits, which is the last word
+abbrev pub patch_words : List (List ℕ) → Option (ℕ × ℕ)
+patch_words ws = field decimal ws >>= λ a. field number_32 a.1 >>= λ b. no_more ((a.0, b.0), b.1)
+
+-- `patch OFFSET LENGTH`
+abbrev pub patch_line : Draft → List (List ℕ) → Option Draft
+patch_line d ws = patch_words ws >>= λ p. at_offset Patches d p.0
+
+-- `map OFFSET SPAN ENTRIES`
+abbrev pub map_line : Draft → List (List ℕ) → Option Draft
+map_line d ws = map_words ws >>= λ m. if are_entries m.1 then at_offset Maps d m.0 else None
+
 -- `unwind OFFSET STEP`
 abbrev pub unwind_line : Draft → List (List ℕ) → Option Draft
 unwind_line d ws = unwind_words ws >>= λ u. at_offset Unwinds d u.0
@@ -126,10 +159,15 @@ end_line d ws = one ws >>= λ n. if may_have Unwinds d && nat_le n d.count then 
 abbrev pub by_name : Draft → List ℕ → List (List ℕ) → Option Draft
 by_name d name ws =
     if bytes_eq name (codes "line") then span_line d ws else
+    if bytes_eq name (codes "return") then return_line d ws else
     if bytes_eq name (codes "label") then label_line d ws else
     if bytes_eq name (codes "const") then const_line d ws else
     if bytes_eq name (codes "reloc") then reloc_line d ws else
     if bytes_eq name (codes "trap") then trap_line d ws else
+    if bytes_eq name (codes "call") then call_line d ws else
+    if bytes_eq name (codes "try") then try_line d ws else
+    if bytes_eq name (codes "patch") then patch_line d ws else
+    if bytes_eq name (codes "map") then map_line d ws else
     if bytes_eq name (codes "unwind") then unwind_line d ws else
     if bytes_eq name (codes "code") then head_line d ws else
     if bytes_eq name (codes "end") then end_line d ws else
@@ -145,7 +183,7 @@ with_line d line = by_words d (words_of line)
 
 -- the code of a report that is whole; the number of the line that is missing, where it isn't
 abbrev pub whole_at : ℕ → Draft → Result Program ℕ
-whole_at n d = if rank d.part == 8 then Ok (record { bytes = d.bytes; lines = d.lines }) else Err n
+whole_at n d = if rank d.part == 13 then Ok (record { bytes = d.bytes; lines = d.lines }) else Err n
 
 -- what comes of a line that is number n
 abbrev pub or_line : ℕ → Option Draft → (Draft → Result Program ℕ) → Result Program ℕ

@@ -1,13 +1,17 @@
-//! The words of a report's lines of relocations and of steps in the making of the frame.
+//! The words of a report's lines of relocations, of calls that may throw, of values on the stack and of steps in the making of the
+//! frame.
 
 ghost use Rattle.std.specs.Prelude.{◌≡◌};
 ghost use Rattle.rv_listing.specs.Tokens.{words_after, decimal};
 ghost use Rattle.rv_listing.specs.Fields.{field, no_more, Takes};
-ghost use Rattle.rv_load.specs.Records.{addend, alloc_step, frame_step, is_within, machine_register, number_32, push_step, reloc_target, reloc_words, save_step, step_of, step_of_kind, unwind_words};
+ghost use Rattle.rv_load.specs.Records.{addend, alloc_step, are_entries, are_handlers, frame, frame_step, handler, handler_at, is_placed, is_within, machine_register, map_entry, map_words, number_32, push_step, reloc_target, reloc_words, save_step, step_of, step_of_kind, try_words, unwind_words};
 
-use mach_buffer::FinalizedRelocTarget;
-use rv_base::{PReg, Reg, UnwindInst};
-use rv_listing::{decimal, next_word, register, reloc_named, starts, symbol_named, tail};
+use mach_buffer::{FinalizedMachExceptionHandler, FinalizedRelocTarget};
+use rv_base::{IrType, PReg, Reg, UnwindInst};
+use rv_listing::{
+    decimal, next_part, next_word, register, reloc_named, starts, symbol_named, tail, two_parts,
+    type_named,
+};
 
 /// The next word, as a decimal number.
 pub fn number(rest: &[u8]) -> Option<(u64, &[u8])>
@@ -24,6 +28,15 @@ pub fn number_32(w: &[u8]) -> Option<u32>
 {
     let n = decimal(w)?;
     if n < 1 << 32 { Some(n as u32) } else { None }
+}
+
+// The next word, as a decimal number of 32 bits.
+fn size(rest: &[u8]) -> Option<(u32, &[u8])>
+    ensures { Takes result (field number_32 (words_after rest.now)) }
+{
+    let (w, rest) = next_word(rest)?;
+    let n = number_32(w)?;
+    Some((n, rest))
 }
 
 // What was made, where no word is left.
@@ -84,16 +97,106 @@ pub fn is_within(count: u64, target: FinalizedRelocTarget) -> bool
     }
 }
 
-// ---- steps in the making of the frame
+// ---- calls that may throw
 
-// The next word, as a decimal number of 32 bits.
-fn size(rest: &[u8]) -> Option<(u32, &[u8])>
-    ensures { Takes result (field number_32 (words_after rest.now)) }
+// How far the frame pointer is above the stack pointer, where that is known.
+fn frame(w: &[u8]) -> Option<Option<u32>>
+    ensures { result ≡ frame w.now }
 {
-    let (w, rest) = next_word(rest)?;
-    let n = number_32(w)?;
-    Some((n, rest))
+    if w == b"-".as_slice() {
+        Some(None)
+    } else {
+        Some(Some(number_32(w)?))
+    }
 }
+
+/// The offset of a call that may throw, and its handlers' words.
+pub fn try_words(rest: &[u8]) -> Option<(u64, &[u8])>
+    ensures { Takes result (try_words (words_after rest.now)) }
+{
+    let (offset, rest) = number(rest)?;
+    let (w, rest) = next_word(rest)?;
+    frame(w)?;
+    Some((offset, rest))
+}
+
+fn handler_at(w: &[u8], offset: u32) -> Option<FinalizedMachExceptionHandler>
+    ensures { result ≡ handler_at w.now offset }
+{
+    if w == b"default".as_slice() {
+        return Some(FinalizedMachExceptionHandler::Default(offset));
+    }
+    let tag = number_32(w.strip_prefix(b"tag")?)?;
+    Some(FinalizedMachExceptionHandler::Tag(tag, offset))
+}
+
+fn handler(w: &[u8]) -> Option<FinalizedMachExceptionHandler>
+    ensures { result ≡ handler w.now }
+{
+    let (exceptions, offset) = two_parts(b':', w)?;
+    let offset = number_32(offset)?;
+    handler_at(exceptions, offset)
+}
+
+fn is_placed(count: u64, handler: Option<FinalizedMachExceptionHandler>) -> bool
+    ensures { result ≡ is_placed count handler }
+{
+    match handler {
+        Some(FinalizedMachExceptionHandler::Tag(_, offset)) => offset as u64 <= count,
+        Some(FinalizedMachExceptionHandler::Default(offset)) => offset as u64 <= count,
+        None => false,
+    }
+}
+
+/// Returns whether the words are handlers, each at most at the end of the code of so many bytes.
+pub fn are_handlers(count: u64, rest: &[u8]) -> bool
+    ensures { result ≡ are_handlers count (words_after rest.now) }
+{
+    let mut rest = rest;
+    while let Some((w, after)) = next_part(b' ', rest) {
+        if !is_placed(count, handler(w)) {
+            return false;
+        }
+        rest = after;
+    }
+    true
+}
+
+// ---- values on the stack
+
+/// The offset where a call returns, and the words of the values that its map names.
+pub fn map_words(rest: &[u8]) -> Option<(u64, &[u8])>
+    ensures { Takes result (map_words (words_after rest.now)) }
+{
+    let (offset, rest) = number(rest)?;
+    let (_, rest) = size(rest)?;
+    Some((offset, rest))
+}
+
+fn map_entry(w: &[u8]) -> Option<(IrType, u32)>
+    ensures { result ≡ map_entry w.now }
+{
+    let (ty, offset) = two_parts(b'@', w)?;
+    let ty = type_named(ty)?;
+    let offset = number_32(offset)?;
+    Some((ty, offset))
+}
+
+/// Returns whether the words are values of a map.
+pub fn are_entries(rest: &[u8]) -> bool
+    ensures { result ≡ are_entries (words_after rest.now) }
+{
+    let mut rest = rest;
+    while let Some((w, after)) = next_part(b' ', rest) {
+        if map_entry(w).is_none() {
+            return false;
+        }
+        rest = after;
+    }
+    true
+}
+
+// ---- steps in the making of the frame
 
 // The next word, as a register of the machine.
 fn saved(rest: &[u8]) -> Option<(PReg, &[u8])>

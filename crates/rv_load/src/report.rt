@@ -6,10 +6,13 @@ ghost use Rattle.hex.specs.Hex.{encode_lower};
 ghost use Rattle.std.specs.Int.{w32, to_be_bytes};
 ghost use Rattle.rv_listing.specs.Tokens.{words_after, words_of, lines_of, decimal};
 ghost use Rattle.rv_listing.specs.Fields.{field, Takes, Makes};
-ghost use Rattle.rv_load.specs.Report.{rank, blank, may_have, is_offset, one, head_line, last_bytes, with_bytes, row_line, three, span_of, span_line, at_offset, label, label_offset, label_line, const_offset, const_line, reloc_line, trap_words, trap_line, unwind_line, end_line, with_line, Turns, ReadsReport};
+ghost use Rattle.rv_load.specs.Report.{rank, blank, may_have, is_offset, one, head_line, last_bytes, with_bytes, row_line, three, span_of, span_line, at_offset, return_offset, return_line, label, label_offset, label_line, const_offset, const_line, reloc_line, trap_words, trap_line, call_line, try_line, patch_words, patch_line, map_line, unwind_line, end_line, with_line, Turns, ReadsReport};
 
 use crate::program::{Program, ProgramError};
-use crate::records::{is_within, number, number_32, reloc_words, unwind_words};
+use crate::records::{
+    are_entries, are_handlers, is_within, map_words, number, number_32, reloc_words, try_words,
+    unwind_words,
+};
 use rv_base::{List, OutOfMemory, TrapCode};
 use rv_inst::LineSpan;
 use rv_listing::{
@@ -23,10 +26,15 @@ pub enum Part {
     Nothing,
     Bytes,
     Lines,
+    Returns,
     Labels,
     Constants,
     Relocations,
     Traps,
+    Calls,
+    Tries,
+    Patches,
+    Maps,
     Unwinds,
     End,
 }
@@ -59,12 +67,17 @@ fn rank(part: Part) -> u8
         Part::Nothing => 0,
         Part::Bytes => 1,
         Part::Lines => 2,
-        Part::Labels => 3,
-        Part::Constants => 4,
-        Part::Relocations => 5,
-        Part::Traps => 6,
-        Part::Unwinds => 7,
-        Part::End => 8,
+        Part::Returns => 3,
+        Part::Labels => 4,
+        Part::Constants => 5,
+        Part::Relocations => 6,
+        Part::Traps => 7,
+        Part::Calls => 8,
+        Part::Tries => 9,
+        Part::Patches => 10,
+        Part::Maps => 11,
+        Part::Unwinds => 12,
+        Part::End => 13,
     }
 }
 
@@ -224,6 +237,23 @@ fn at_offset(part: Part, draft: &mut Draft, offset: u64) -> Result<(), LineError
     }
 }
 
+// The offset after a line's number.
+fn return_offset(rest: &[u8]) -> Option<u64>
+    ensures { result ≡ return_offset (words_after rest.now) }
+{
+    let (_, rest) = number(rest)?;
+    last_number(rest)
+}
+
+fn return_line(draft: &mut Draft, rest: &[u8]) -> Result<(), LineError>
+    ensures { Turns (return_line draft.old (words_after rest.now)) draft.new result }
+{
+    match return_offset(rest) {
+        Some(offset) => at_offset(Part::Returns, draft, offset),
+        None => Err(LineError::NotAllowed),
+    }
+}
+
 fn label(w: &[u8]) -> Option<u64>
     ensures { result ≡ label w.now }
 {
@@ -303,6 +333,57 @@ fn trap_line(draft: &mut Draft, rest: &[u8]) -> Result<(), LineError>
     }
 }
 
+fn call_line(draft: &mut Draft, rest: &[u8]) -> Result<(), LineError>
+    ensures { Turns (call_line draft.old (words_after rest.now)) draft.new result }
+{
+    match last_number(rest) {
+        Some(offset) => at_offset(Part::Calls, draft, offset),
+        None => Err(LineError::NotAllowed),
+    }
+}
+
+fn try_line(draft: &mut Draft, rest: &[u8]) -> Result<(), LineError>
+    ensures { Turns (try_line draft.old (words_after rest.now)) draft.new result }
+{
+    match try_words(rest) {
+        Some((offset, handlers)) if are_handlers(draft.count, handlers) => {
+            at_offset(Part::Tries, draft, offset)
+        }
+        _ => Err(LineError::NotAllowed),
+    }
+}
+
+// An offset and a length, where they are the last words.
+fn patch_words(rest: &[u8]) -> Option<(u64, u32)>
+    ensures { result ≡ patch_words (words_after rest.now) }
+{
+    let (offset, rest) = number(rest)?;
+    let (w, rest) = next_word(rest)?;
+    let length = number_32(w)?;
+    match next_word(rest) {
+        None => Some((offset, length)),
+        Some(_) => None,
+    }
+}
+
+fn patch_line(draft: &mut Draft, rest: &[u8]) -> Result<(), LineError>
+    ensures { Turns (patch_line draft.old (words_after rest.now)) draft.new result }
+{
+    match patch_words(rest) {
+        Some((offset, _)) => at_offset(Part::Patches, draft, offset),
+        None => Err(LineError::NotAllowed),
+    }
+}
+
+fn map_line(draft: &mut Draft, rest: &[u8]) -> Result<(), LineError>
+    ensures { Turns (map_line draft.old (words_after rest.now)) draft.new result }
+{
+    match map_words(rest) {
+        Some((offset, entries)) if are_entries(entries) => at_offset(Part::Maps, draft, offset),
+        _ => Err(LineError::NotAllowed),
+    }
+}
+
 fn unwind_line(draft: &mut Draft, rest: &[u8]) -> Result<(), LineError>
     ensures { Turns (unwind_line draft.old (words_after rest.now)) draft.new result }
 {
@@ -331,6 +412,8 @@ fn take_line(alloc: Global, draft: &mut Draft, line: &[u8]) -> Result<(), LineEr
     let (name, rest) = first_word(line);
     if is(b"line", name) {
         span_line(draft, rest)
+    } else if is(b"return", name) {
+        return_line(draft, rest)
     } else if is(b"label", name) {
         label_line(draft, rest)
     } else if is(b"const", name) {
@@ -339,6 +422,14 @@ fn take_line(alloc: Global, draft: &mut Draft, line: &[u8]) -> Result<(), LineEr
         reloc_line(draft, rest)
     } else if is(b"trap", name) {
         trap_line(draft, rest)
+    } else if is(b"call", name) {
+        call_line(draft, rest)
+    } else if is(b"try", name) {
+        try_line(draft, rest)
+    } else if is(b"patch", name) {
+        patch_line(draft, rest)
+    } else if is(b"map", name) {
+        map_line(draft, rest)
     } else if is(b"unwind", name) {
         unwind_line(draft, rest)
     } else if is(b"code", name) {
@@ -365,7 +456,7 @@ fn read_lines(alloc: Global, text: &[u8]) -> Result<Program, ProgramError>
         number += 1;
         rest = after;
     }
-    if rank(draft.part) == 8 {
+    if rank(draft.part) == 13 {
         Ok(Program {
             bytes: draft.bytes,
             lines: draft.lines,

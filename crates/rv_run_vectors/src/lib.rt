@@ -2,15 +2,21 @@
 #![tactic(auto)]
 
 #[cfg(test)]
+mod calls;
+#[cfg(test)]
 mod counts;
 #[cfg(test)]
 mod halfwords;
+#[cfg(test)]
+mod linked;
 #[cfg(test)]
 mod loaded;
 #[cfg(test)]
 mod machine;
 #[cfg(test)]
 mod memory;
+#[cfg(test)]
+mod mutual_calls;
 #[cfg(test)]
 mod ran;
 #[cfg(test)]
@@ -19,3 +25,5 @@ mod records;
 mod runs;
 #[cfg(test)]
 mod symbols;
+#[cfg(test)]
+mod tail_calls;

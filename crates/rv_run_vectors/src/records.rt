@@ -1,4 +1,5 @@
-//! Reports with lines of relocations and of the frame's making: which of them rvrun takes. It runs the bytes as they are.
+//! Reports with lines of relocations, of calls and of the frame's making: which of them rvrun takes. It runs the bytes as
+//! they are.
 
 use crate::ran::assert_text;
 use std::alloc::AllocError;
@@ -7,9 +8,10 @@ use std::alloc::AllocError;
 const NEAR: &str =
     "code 12\n00000000 170500001305050067800000\nline 0 0 0\nline 1 0 8\nline 2 8 12\nreloc 0 RiscvPCRelHi20 userextname1 8\nreloc 4 RiscvPCRelLo12I @0 0\nunwind 0 push 16\nend 12\n";
 
-/// A word that traps, with each kind of relocation and each step, at the edges of their numbers.
+/// A word that traps, with returns, each kind of relocation, call sites, calls that may be patched and each step, at the edges of
+/// their numbers.
 const ALL_KINDS: &str =
-    "code 4\n00000000 00000000\nconst 0 4\nreloc 0 RiscvCallPlt userextname4294967295 -9223372036854775808\nreloc 0 RiscvGotHi20 userextname0 9223372036854775807\nreloc 4 RiscvPCRelHi20 @4 -1\nreloc 4 RiscvPCRelLo12I @0 0\nreloc 0 Abs8 userextname10 1\ntrap 0 stk_ovf\nunwind 0 push 0\nunwind 4 frame 4294967295 16\nunwind 0 alloc 4294967295\nunwind 0 save 8 s1\nunwind 0 save 0 fs11\nunwind 0 save 4294967295 v31\nend 4\n";
+    "code 4\n00000000 00000000\nreturn 18446744073709551615 4\nreturn 0 0\nconst 0 4\nreloc 0 RiscvCallPlt userextname4294967295 -9223372036854775808\nreloc 0 RiscvGotHi20 userextname0 9223372036854775807\nreloc 4 RiscvPCRelHi20 @4 -1\nreloc 4 RiscvPCRelLo12I @0 0\nreloc 0 Abs8 userextname10 1\ntrap 0 stk_ovf\ncall 4\ncall 0\npatch 4 4294967295\npatch 0 0\nunwind 0 push 0\nunwind 4 frame 4294967295 16\nunwind 0 alloc 4294967295\nunwind 0 save 8 s1\nunwind 0 save 0 fs11\nunwind 0 save 4294967295 v31\nend 4\n";
 
 #[test]
 fn code_with_records_runs(rt: HostRuntime) -> Result<(), AllocError> {
@@ -20,7 +22,7 @@ fn code_with_records_runs(rt: HostRuntime) -> Result<(), AllocError> {
 }
 
 /// The number of the first line that no report has there, and lines after the bytes of a report of four bytes.
-const BAD_LINES: [(u8, &str); 44] = [
+const BAD_LINES: [(u8, &str); 81] = [
     (4, "trap 0 stk_ovf\nreloc 0 Abs8 userextname0 0\nend 4\n"),
     (4, "unwind 0 push 16\nreloc 0 Abs8 userextname0 0\nend 4\n"),
     (4, "unwind 0 push 16\ntrap 0 stk_ovf\nend 4\n"),
@@ -51,6 +53,43 @@ const BAD_LINES: [(u8, &str); 44] = [
     (3, "reloc 0 Abs8 userextname0 9223372036854775808\nend 4\n"),
     (3, "reloc 0 Abs8 userextname0 -9223372036854775809\nend 4\n"),
     (3, "reloc 0 Abs8 userextname0 0 0\nend 4\n"),
+    (4, "call 0\ntrap 0 stk_ovf\nend 4\n"),
+    (4, "call 0\nreloc 0 Abs8 userextname0 0\nend 4\n"),
+    (4, "call 0\nconst 0 0\nend 4\n"),
+    (4, "unwind 0 push 16\ncall 0\nend 4\n"),
+    (4, "end 4\ncall 0\n"),
+    (3, "call 5\nend 4\n"),
+    (3, "call -1\nend 4\n"),
+    (3, "call 00\nend 4\n"),
+    (3, "call 0x0\nend 4\n"),
+    (3, "call\nend 4\n"),
+    (3, "call 0 0\nend 4\n"),
+    (3, "call 0 userextname0\nend 4\n"),
+    (3, "calls 0\nend 4\n"),
+    (3, "Call 0\nend 4\n"),
+    (4, "label L0 0\nreturn 0 0\nend 4\n"),
+    (4, "call 0\nreturn 0 0\nend 4\n"),
+    (4, "return 0 0\nline 0 0 4\nend 4\n"),
+    (4, "end 4\nreturn 0 0\n"),
+    (3, "return 0 5\nend 4\n"),
+    (3, "return 0\nend 4\n"),
+    (3, "return -1 0\nend 4\n"),
+    (3, "return 0 -1\nend 4\n"),
+    (3, "return 0 00\nend 4\n"),
+    (3, "return 0 0 0\nend 4\n"),
+    (3, "return L0 0\nend 4\n"),
+    (3, "return 18446744073709551616 0\nend 4\n"),
+    (3, "returns 0 0\nend 4\n"),
+    (4, "patch 4 4\ncall 4\nend 4\n"),
+    (4, "unwind 0 push 16\npatch 4 4\nend 4\n"),
+    (4, "end 4\npatch 4 4\n"),
+    (3, "patch 5 4\nend 4\n"),
+    (3, "patch 4\nend 4\n"),
+    (3, "patch 4 4 4\nend 4\n"),
+    (3, "patch 4 4294967296\nend 4\n"),
+    (3, "patch 4 04\nend 4\n"),
+    (3, "patch 4 0x4\nend 4\n"),
+    (3, "patch 4 -\nend 4\n"),
     (3, "unwind 5 push 16\nend 4\n"),
     (3, "unwind push 16\nend 4\n"),
     (3, "unwind 0\nend 4\n"),

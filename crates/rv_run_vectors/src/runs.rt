@@ -62,17 +62,22 @@ fn started(alloc: Global, code: &[u8], registers: &Registers) -> Result<IntMachi
     Ok(machine)
 }
 
-/// Returns whether each step is done until the machine is back at its caller.
-pub fn returns(machine: &mut IntMachine) -> Result<bool, OutOfMemory> {
+/// Returns whether each step is done until the machine is at an address.
+pub fn arrives(machine: &mut IntMachine, address: u64) -> Result<bool, OutOfMemory> {
     for _ in 0..10000 {
-        if machine.pc() == CALLER {
+        if machine.pc() == address {
             return Ok(true);
         }
         if machine.step()? != Step::Stepped {
             return Ok(false);
         }
     }
-    Ok(machine.pc() == CALLER)
+    Ok(machine.pc() == address)
+}
+
+/// Returns whether each step is done until the machine is back at its caller.
+pub fn returns(machine: &mut IntMachine) -> Result<bool, OutOfMemory> {
+    arrives(machine, CALLER)
 }
 
 /// The countdown loop.

@@ -2,6 +2,8 @@
 #![tactic(auto)]
 
 #[cfg(test)]
+mod calls;
+#[cfg(test)]
 mod compiler;
 #[cfg(test)]
 mod listings;
@@ -17,3 +19,5 @@ mod samples;
 mod streams;
 #[cfg(test)]
 mod symbols;
+#[cfg(test)]
+mod tail_calls;

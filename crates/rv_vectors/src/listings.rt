@@ -1,9 +1,12 @@
 use mach_buffer::FinalizedRelocTarget;
 use rv_base::{
-    ExternalName, List, MachLabel, OutOfMemory, PReg, Reg, RegClass, Reloc, TrapCode, UnwindInst,
-    VCodeConstant,
+    ExternalName, IrType, List, MachLabel, OutOfMemory, PReg, Reg, RegClass, Reloc, TrapCode,
+    UnwindInst, UserStackMap, VCodeConstant,
 };
-use rv_inst::{Code, ConstPlace, LabelPlace, LineSpan, MachReloc, MachTrap, MachUnwind};
+use rv_inst::{
+    CallReturn, Code, ConstPlace, FinalizedMachExceptionHandler, LabelPlace, LineSpan,
+    MachPatchable, MachReloc, MachStackMap, MachTrap, MachTryCallSite, MachUnwind,
+};
 use rv_listing::{ReadError, read_job, register, report};
 use std::alloc::Global;
 use std::process::Abort;
@@ -221,6 +224,48 @@ fn five_relocs(alloc: Global) -> Result<Vec<MachReloc>, OutOfMemory> {
     Ok(relocs)
 }
 
+/// Calls that may throw: with handlers of both kinds, and with one, where the frame pointer isn't known.
+fn two_tries(alloc: Global) -> Result<Vec<MachTryCallSite>, OutOfMemory> {
+    let both = [
+        FinalizedMachExceptionHandler::Tag(1, 12),
+        FinalizedMachExceptionHandler::Default(0),
+    ];
+    let tag = FinalizedMachExceptionHandler::Tag(4294967295, 4294967295);
+    let mut tries = Vec::new(alloc);
+    tries.push(MachTryCallSite {
+        offset: 8,
+        frame_offset: Some(0),
+        handlers: List::from_slice(alloc, &both)?,
+    })?;
+    tries.push(MachTryCallSite {
+        offset: 4294967295,
+        frame_offset: None,
+        handlers: List::from_slice(alloc, &[tag])?,
+    })?;
+    Ok(tries)
+}
+
+/// Maps of one value and of two.
+fn two_maps(alloc: Global) -> Result<Vec<MachStackMap>, OutOfMemory> {
+    let two = [(IrType::I8, 0), (IrType::F128, 4294967295)];
+    let mut maps = Vec::new(alloc);
+    maps.push(MachStackMap {
+        offset: 8,
+        span: 0,
+        map: UserStackMap {
+            entries: List::from_slice(alloc, &[(IrType::I64, 8)])?,
+        },
+    })?;
+    maps.push(MachStackMap {
+        offset: 12,
+        span: 4294967295,
+        map: UserStackMap {
+            entries: List::from_slice(alloc, &two)?,
+        },
+    })?;
+    Ok(maps)
+}
+
 /// A step of each kind in the making of a frame.
 fn four_unwinds(alloc: Global) -> Result<Vec<MachUnwind>, OutOfMemory> {
     let rows = [
@@ -311,19 +356,46 @@ fn reports(rt: HostRuntime) -> Result<(), OutOfMemory> {
     let code = Code {
         bytes: List::from_vec(bytes),
         lines: List::from_vec(lines),
+        returns: List::from_vec(Vec::from_slice(
+            alloc,
+            &[
+                CallReturn {
+                    index: 1,
+                    offset: 12,
+                },
+                CallReturn {
+                    index: 0,
+                    offset: 4294967295,
+                },
+            ],
+        )?),
         labels: List::from_vec(labels),
         constants: List::from_vec(constants),
         relocs: List::from_vec(five_relocs(alloc)?),
         traps: List::from_vec(traps),
+        call_sites: List::from_vec(Vec::from_slice(alloc, &[12, 0, 4294967295])?),
+        try_call_sites: List::from_vec(two_tries(alloc)?),
+        patchable_call_sites: List::from_vec(Vec::from_slice(
+            alloc,
+            &[
+                MachPatchable { offset: 12, len: 8 },
+                MachPatchable {
+                    offset: 4294967295,
+                    len: 28,
+                },
+            ],
+        )?),
+        stack_maps: List::from_vec(two_maps(alloc)?),
         unwinds: List::from_vec(four_unwinds(alloc)?),
         end: 16,
     };
     let wanted =
-        "code 18\n00000000 1305f5ffe31e05fe6780000001020304\n00000010 05ab\nline 0 0 0\nline 1 0 12\nlabel L7 4\nconst 3 16\n\
+        "code 18\n00000000 1305f5ffe31e05fe6780000001020304\n00000010 05ab\nline 0 0 0\nline 1 0 12\nreturn 1 12\nreturn 0 4294967295\nlabel L7 4\nconst 3 16\n\
 reloc 0 RiscvCallPlt userextname4294967295 -8\nreloc 4 RiscvGotHi20 userextname0 0\n\
 reloc 8 RiscvPCRelHi20 userextname7 9223372036854775807\nreloc 8 RiscvPCRelLo12I @4 0\n\
-reloc 10 Abs8 @12 -9223372036854775808\ntrap 8 heap_oob\ntrap 12 user250\n\
-unwind 0 push 16\nunwind 4 frame 16 32\nunwind 8 alloc 4294967295\nunwind 12 save 24 fs11\nend 16\n";
+reloc 10 Abs8 @12 -9223372036854775808\ntrap 8 heap_oob\ntrap 12 user250\ncall 12\ncall 0\ncall 4294967295\n\
+try 8 0 tag1:12 default:0\ntry 4294967295 - tag4294967295:4294967295\n\
+patch 12 8\npatch 4294967295 28\nmap 8 0 i64@8\nmap 12 4294967295 i8@0 f128@4294967295\nunwind 0 push 16\nunwind 4 frame 16 32\nunwind 8 alloc 4294967295\nunwind 12 save 24 fs11\nend 16\n";
     let text = report(alloc, &code)?;
     assert_eq!(rt; text.as_slice(), wanted.as_bytes());
     Ok(())

@@ -39,10 +39,10 @@ use std::alloc::{AllocError, Global};
 use std::process::Abort;
 
 /// A listing with its report, in short.
-struct Sample {
-    name: &'static str,
-    listing: &'static str,
-    report: &'static str,
+pub struct Sample {
+    pub name: &'static str,
+    pub listing: &'static str,
+    pub report: &'static str,
 }
 
 const SAMPLES: [Sample; 13] = [
@@ -137,11 +137,33 @@ const SHORT_SEQUENCES: Sample = Sample {
     report: SHORT_SEQUENCES_REPORT,
 };
 
+/// The flags of the reports with compressed forms.
+const FLAGS: &str = "flags m zba zbb zca zcb\n";
+
 /// Stops unless the listing of a sample has its report.
-fn assert_sample(rt: &impl Abort, alloc: Global, sample: &Sample) -> Result<(), AllocError> {
+pub fn assert_sample(rt: &impl Abort, alloc: Global, sample: &Sample) -> Result<(), AllocError> {
     let listing = written_out(alloc, sample.listing)?;
     let report = written_out(alloc, sample.report)?;
     assert_reported(rt, alloc, sample.name, listing.as_bytes(), 0, &report);
+    Ok(())
+}
+
+/// Stops unless a listing has this report as it stands, and that with the flags before it. All are in short.
+pub fn assert_both(
+    rt: &impl Abort,
+    alloc: Global,
+    name: &str,
+    listing: &str,
+    reports: [&str; 2],
+) -> Result<(), AllocError> {
+    let [plain, short] = reports;
+    let listing = written_out(alloc, listing)?;
+    let report = written_out(alloc, plain)?;
+    assert_reported(rt, alloc, name, listing.as_bytes(), 0, &report);
+    let mut flagged = String::from_str(alloc, FLAGS)?;
+    flagged.push_str(&listing)?;
+    let report = written_out(alloc, short)?;
+    assert_reported(rt, alloc, name, flagged.as_bytes(), 0, &report);
     Ok(())
 }
 

@@ -4,37 +4,14 @@
 mod drawn;
 mod written;
 
-use crate::reported::assert_reported;
-use crate::samples::written_out;
+use crate::reported::{assert_refused, assert_rules_broken};
+use crate::samples::assert_both;
 use drawn::{DRAWN_LISTING, DRAWN_REPORT, DRAWN_SHORT_REPORT};
-use std::alloc::{AllocError, Global};
-use std::process::Abort;
+use std::alloc::AllocError;
 use written::{
     EDGES_LISTING, EDGES_REPORT, EDGES_SHORT_REPORT, ISLAND_LISTING, ISLAND_REPORT,
     ISLAND_SHORT_REPORT,
 };
-
-/// The flags of the reports with compressed forms.
-const FLAGS: &str = "flags m zba zbb zca zcb\n";
-
-/// Stops unless a listing has this report as it stands, and that with the flags before it. All are in short.
-fn assert_both(
-    rt: &impl Abort,
-    alloc: Global,
-    name: &str,
-    listing: &str,
-    reports: [&str; 2],
-) -> Result<(), AllocError> {
-    let [plain, short] = reports;
-    let listing = written_out(alloc, listing)?;
-    let report = written_out(alloc, plain)?;
-    assert_reported(rt, alloc, name, listing.as_bytes(), 0, &report);
-    let mut flagged = String::from_str(alloc, FLAGS)?;
-    flagged.push_str(&listing)?;
-    let report = written_out(alloc, short)?;
-    assert_reported(rt, alloc, name, flagged.as_bytes(), 0, &report);
-    Ok(())
-}
 
 #[test]
 fn edges_are_reported(rt: HostRuntime) -> Result<(), AllocError> {
@@ -79,29 +56,9 @@ Zero:LoadExtNameFar zero userextname1 0
 Zero:LoadExtNameGot x0 userextname1
 ";
 
-/// Stops unless the listing of a good line and this one is answered so.
-fn assert_refused(
-    rt: &impl Abort,
-    alloc: Global,
-    line: &str,
-    status: u8,
-    answer: &str,
-) -> Result<(), AllocError> {
-    let mut listing = String::new(alloc);
-    write!(listing, "Ret\n{line}\n")?;
-    assert_reported(rt, alloc, line, listing.as_bytes(), status, answer);
-    Ok(())
-}
-
 #[test]
 fn broken_rules_are_named(rt: HostRuntime) -> Result<(), AllocError> {
-    for row in RULE_BREAKS.lines() {
-        let (rule, line) = row.split_once(':').unwrap_or(("", row));
-        let mut answer = String::new(rt.alloc());
-        write!(answer, "rvemit: Malformed 1 {rule}\n")?;
-        assert_refused(&rt, rt.alloc(), line, 4, &answer)?;
-    }
-    Ok(())
+    assert_rules_broken(&rt, rt.alloc(), RULE_BREAKS)
 }
 
 /// Lines that are of no form.

@@ -7,7 +7,7 @@ use Rattle.rv_emit.specs.declared.state.EmitVState.TheVariants.{Unknown}
 use Rattle.rv_emit.proofs.FineOperands.{fine}
 use Rattle.rv_emit.proofs.InstSlots.{inst_appends}
 use Rattle.rv_emit.proofs.ReachKept.{block_bounds, reach_after}
-use Rattle.rv_emit.proofs.TableAppends.{reach_asking}
+use Rattle.rv_emit.proofs.TailAppends.{reach_asking}
 use Rattle.rv_emit.proofs.emit.put.Goals as goal
 
 none_asked : (space : Option ℕ) → false ≡ is_some space → space ≡ None

@@ -1,5 +1,6 @@
-use Rattle.std.proofs.Common.{sym, subst, OnOk}
+use Rattle.std.proofs.Common.{sym, subst, ap, ◌∙◌, OnOk}
 use Rattle.std.proofs.lemmas.Result.{on_ok_weaker}
+use Rattle.rv_inst.specs.declared.inst.Inst.TheVariants.{Select}
 use Rattle.rv_emit.specs.Emission.{EmitsAnyhow}
 use Rattle.rv_emit.proofs.sequence.put_integer.Goals as goal
 
@@ -40,5 +41,5 @@ returns-in-Extend-clause-parts c =
 
 pub returns-in-Select-clause-parts : goal.returns-in-Select-clause-parts
 returns-in-Select-clause-parts c =
-    λ family. subst (λ inst. OnOk c.put_select.result (EmitsAnyhow c.args.flags inst c.args.sink.now c.put_select.new.sink)) (sym c.in-Select.is)
+    λ family. subst (λ inst. OnOk c.put_select.result (EmitsAnyhow c.args.flags inst c.args.sink.now c.put_select.new.sink)) (ap Select c.as_ref-info.ensures ∙ sym c.in-Select.is)
     (on_ok_weaker c.put_select.result (λ p frame constants setting. p) c.put_select.ensures.slots)

@@ -34,3 +34,9 @@ returns-in-Loop-clause-parts c = λ asks. on_ok_weaker c.put_loop.result (λ emi
 
 pub returns-in-Symbols-clause-parts : goal.returns-in-Symbols-clause-parts
 returns-in-Symbols-clause-parts c = λ asks. on_ok_weaker c.put_symbol.result (λ emits. emits c.args.frame.now (registered_of c.args.sink.now)) (c.put_symbol.ensures.parts (sym c.family.ensures ∙ c.in-Symbols.is))
+
+pub returns-in-Calls-clause-parts : goal.returns-in-Calls-clause-parts
+returns-in-Calls-clause-parts c = λ asks. c.put_calls.ensures.parts (sym c.family.ensures ∙ c.in-Calls.is) (registered_of c.args.sink.now) asks
+
+pub put_calls-requires-clause-fine : goal.put_calls-requires-clause-fine
+put_calls-requires-clause-fine c = fine (context_by c.args.flags c.args.frame.now (registered_of c.args.sink.now)) c.args.inst.now c.requires.rule

@@ -1,12 +1,20 @@
 use Rattle.std.proofs.Common.{◌∙◌, ap}
-use Rattle.mach_buffer.proofs.Sound.{sound_allocated, unbound_next, unnamed_next}
+use Rattle.mach_buffer.proofs.Words.{shape_of}
+use Rattle.mach_buffer.proofs.Lists.{none_of}
+use Rattle.mach_buffer.proofs.ConstantOrder.{not_next}
+use Rattle.mach_buffer.proofs.Sound.{sound_allocated}
 use Rattle.mach_buffer.proofs.buffer.MachBuffer.get_label.Goals as goal
 
 pub returns-clause-unbound : goal.returns-clause-unbound
-returns-clause-unbound g c = ap (λ p. p c.allocate-label.result.number) c.allocate-label.ensures.places ∙ unbound_next (c.requires.sound c.in_ok-check.ensures.ok) c.allocate-label.result.number (c.requires.few c.in_ok-check.ensures.ok) c.allocate-label.ensures.number
+returns-clause-unbound g c =
+    let ok = c.in_ok-check.ensures.ok in
+    let e = c.allocate-label.ensures in
+    ap (λ p. p c.allocate-label.result.number) e.places ∙ none_of _ (λ at q. not_next (shape_of c.args.self.now) (c.requires.few ok) e.number ((c.requires.sound ok).places _ at q).2)
 
 pub returns-clause-unnamed : goal.returns-clause-unnamed
-returns-clause-unnamed g c = unnamed_next (c.requires.sound c.in_ok-check.ensures.ok) c.allocate-label.result.number (c.requires.few c.in_ok-check.ensures.ok) c.allocate-label.ensures.number
+returns-clause-unnamed g c =
+    let ok = c.in_ok-check.ensures.ok in
+    λ j u h q. not_next (shape_of c.args.self.now) (c.requires.few ok) (q ∙ c.allocate-label.ensures.number) ((c.requires.sound ok).known j u h)
 
 pub returns-clause-sound : goal.returns-clause-sound
 returns-clause-sound g c =

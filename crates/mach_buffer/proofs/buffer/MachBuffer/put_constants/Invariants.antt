@@ -1,6 +1,6 @@
 use Rattle.std.proofs.Common.{◌≡◌, drop}
 use Rattle.mach_buffer.proofs.Words.{shape_of, inside_of, spoiled_of}
-use Rattle.mach_buffer.proofs.ConstantCalls.{Putting}
+use Rattle.mach_buffer.proofs.ConstantsPut.{Putting}
 use Rattle.mach_buffer.proofs.buffer.MachBuffer.put_constants.Given as goal
 
 abbrev pub invariant-loop-index : goal.invariant-loop-index

@@ -1,6 +1,6 @@
 use Rattle.std.proofs.Common.{◌≡◌, drop, map}
 use Rattle.mach_buffer.proofs.Words.{key_number, shape_of, inside_of, spoiled_of}
-use Rattle.mach_buffer.proofs.VeneersPut.{Going}
+use Rattle.mach_buffer.proofs.VeneersAndConstants.{Going}
 use Rattle.mach_buffer.proofs.buffer.MachBuffer.put_veneers.Given as goal
 
 abbrev pub invariant-loop-key : goal.invariant-loop-key

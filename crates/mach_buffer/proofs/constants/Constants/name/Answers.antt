@@ -1,6 +1,6 @@
 use Rattle.std.proofs.Common.{◌∙◌, sym, arith}
 use Rattle.mach_buffer.proofs.Words.{same_Some, slice_get-get_or}
-use Rattle.mach_buffer.proofs.ConstantCalls.{noted_more, name_again}
+use Rattle.mach_buffer.proofs.ConstantOrder.{noted_more, name_again}
 use Rattle.mach_buffer.proofs.constants.Constants.name.Goals as goal
 
 pub returns-in_ok-push-clause-noted : goal.returns-in_ok-push-clause-noted
@@ -8,9 +8,5 @@ returns-in_ok-push-clause-noted c = rw c.in_ok-push.ensures.items (noted_more c.
 
 pub returns-else-not-index-clause-named : goal.returns-else-not-index-clause-named
 returns-else-not-index-clause-named c =
-    let seen = c.args.self.now.seen.items in
-    let number = c.args.constant.number in
-    let lt = c.requires.known in
-    let long = c.requires.noted.long in
-    name_again c.args.constant c.args.self.now.named.items
-    (same_Some _ _ (sym (c.requires.noted.each number lt) ∙ slice_get-get_or seen number c.index.result.now (omega arith)) ∙ sym c.index.ensures ∙ c.if-not-index.false)
+    let there = slice_get-get_or c.args.self.now.seen.items c.args.constant.number c.index.result.now (omega (arith, c.requires.known, c.requires.noted.long)) in
+    name_again c.args.constant c.args.self.now.named.items (same_Some _ _ (sym (c.requires.noted.each _ c.requires.known) ∙ there) ∙ sym c.index.ensures ∙ c.if-not-index.false)

@@ -1,0 +1,7 @@
+use Rattle.std.proofs.Common.{drop}
+use Rattle.std.specs.List.{AllByRecursion}
+use Rattle.rv_listing.specs.CodeRanges.{CallFits}
+use Rattle.rv_asm.proofs.ranges.call_sites_fit.Given as goal
+
+abbrev pub invariant-loop-call_site : goal.invariant-loop-call_site
+invariant-loop-call_site l = AllByRecursion CallFits (drop l.call_site-index l.call_sites) → AllByRecursion CallFits l.call_sites

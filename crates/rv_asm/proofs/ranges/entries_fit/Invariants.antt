@@ -1,0 +1,7 @@
+use Rattle.std.proofs.Common.{drop}
+use Rattle.std.specs.List.{AllByRecursion}
+use Rattle.rv_listing.specs.CodeRanges.{EntryFits}
+use Rattle.rv_asm.proofs.ranges.entries_fit.Given as goal
+
+abbrev pub invariant-loop-entry : goal.invariant-loop-entry
+invariant-loop-entry l = AllByRecursion EntryFits (drop l.entry-index l.entries) → AllByRecursion EntryFits l.entries

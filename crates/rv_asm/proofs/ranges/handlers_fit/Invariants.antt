@@ -1,0 +1,7 @@
+use Rattle.std.proofs.Common.{drop}
+use Rattle.std.specs.List.{AllByRecursion}
+use Rattle.rv_listing.specs.CodeRanges.{HandlerFits}
+use Rattle.rv_asm.proofs.ranges.handlers_fit.Given as goal
+
+abbrev pub invariant-loop-handler : goal.invariant-loop-handler
+invariant-loop-handler l = AllByRecursion HandlerFits (drop l.handler-index l.handlers) → AllByRecursion HandlerFits l.handlers

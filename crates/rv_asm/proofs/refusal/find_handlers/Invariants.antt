@@ -1,0 +1,8 @@
+use Rattle.std.proofs.Common.{◌≡◌, drop, map}
+use Rattle.rv_inst.specs.Operands.{handler_label}
+use Rattle.rv_asm.specs.BoundLabels.{is_in}
+use Rattle.rv_asm.specs.Refusal.{unbound_among}
+use Rattle.rv_asm.proofs.refusal.find_handlers.Given as goal
+
+abbrev pub invariant-loop-handler : goal.invariant-loop-handler
+invariant-loop-handler l = unbound_among (is_in l.bound) (map handler_label (drop l.handler-index l.handlers)) ≡ unbound_among (is_in l.bound) (map handler_label l.handlers)

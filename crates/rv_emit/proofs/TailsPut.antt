@@ -1,0 +1,299 @@
+-- What a tail call puts: loads of what a frame saved, a step of the stack pointer, and a jump.
+use Rattle.std.proofs.Common.{FitsSigned, ◌≡◌, inl, ℕ, zero, suc, ◌+◌, ◌-◌, ◌*◌, ◌^◌, ◌<◌, ◌≤◌, Bool, true, false, List, [], ◌∷◌, ◌++◌, take, length, Option, Some, None, ℤ, pos, negsuc, ◌≤ℤ◌, refl, ap, sym, subst, ◌∙◌, append_assoc, append-nil, ⊎_elim, arith}
+use Rattle.std.specs.Prelude.{◌≢◌, get_or, slice_index_or, ◌==◌, ◌-ℤ◌, if◌then◌else◌}
+use Rattle.std.proofs.lemmas.Int.{ints, to_z-of_z}
+use Rattle.std.proofs.lemmas.List.{length-append, length-take, take_all, take_more}
+use Rattle.std.proofs.lemmas.Bool.Decides.{nat_tests}
+use Rattle.std.specs.Int.{cast_signed, w64}
+use Rattle.rv_base.specs.declared.call.CallInfo.{CallInfo}
+use Rattle.rv_base.specs.declared.call.TryCallInfo.{TryCallInfo}
+use Rattle.rv_base.specs.declared.call.UserStackMap.{UserStackMap}
+use Rattle.rv_base.specs.declared.external_name.ExternalName.{ExternalName}
+use Rattle.rv_base.specs.declared.regs.Reg.{Reg}
+use Rattle.rv_base.specs.declared.regs.RegClass.TheVariants.{Int}
+use Rattle.rv_base.specs.Regs.{IsReal, number_of}
+use Rattle.mach_buffer.specs.declared.records.Event.TheVariants as event
+use Rattle.rv_base.specs.declared.flags.IsaFlags.{IsaFlags}
+use Rattle.rv_base.specs.declared.frame.FrameLayout.{FrameLayout}
+use Rattle.rv_base.specs.declared.regs.PReg.{PReg}
+use Rattle.rv_base.specs.declared.regs.Reg.TheVariants.{Real, Virtual}
+use Rattle.rv_base.specs.declared.regs.Writable.{Writable}
+use Rattle.rv_base.specs.Frame.{sp_to_fp_of}
+use Rattle.rv_base.specs.LabelUse.{code_limit}
+use Rattle.rv_ops.specs.declared.alu.AluOPRRR.TheVariants.{Add}
+use Rattle.rv_ops.specs.declared.alu.AluOPRRI.TheVariants.{Addi}
+use Rattle.rv_ops.specs.declared.memory.LoadOP.TheVariants.{Ld}
+use Rattle.rv_encode.specs.Registers.{IsIntRegister}
+use Rattle.mach_buffer.specs.Buffer.{shape_of, bytes_of}
+use Rattle.mach_buffer.specs.Constants.{reserve_of}
+use Rattle.rv_machine.specs.State.{low64}
+use Rattle.rv_inst.specs.Addresses.{Based, is_near}
+use Rattle.rv_inst.specs.Forms.{short_rrr, short_rri, short_jalr}
+use Rattle.rv_inst.specs.Returns.{StackLoad, saves_from, setup_loads, restores, frame_above}
+use Rattle.rv_inst.specs.Records.{site_event}
+use Rattle.rv_inst.specs.Sizes.{stack_loads_size, stack_step_size, fall, call_size, return_size}
+use Rattle.rv_emit.specs.Emission.{PutsAlone, PutsParts}
+use Rattle.rv_emit.specs.Emitted.{Buffer, IsSoundBuffer, IslandIfNeeded, AppendsIsland, pending}
+use Rattle.rv_emit.specs.InstParts.{load_slots, number_slots, stack_load_slots, far_step_slots, stack_step_slots, return_slots, call_to, tail_slots, t0_slots, map_notes, return_notes, after_call, patch_notes, try_slots, call_slots, call_ind_slots}
+use Rattle.rv_emit.specs.Slots.{Slot, Op, Notes, Ask, Slots, size_of}
+use Rattle.rv_emit.specs.Usable.{AreSaved}
+use Rattle.rv_emit.proofs.MemorySlots.{AreCounted, none, nothing}
+use Rattle.rv_emit.proofs.PlainSlots.{IsPlain}
+use Rattle.rv_emit.proofs.SlotsJoined.{both_alone, alone_long}
+use Rattle.rv_emit.proofs.SlotsPut.{none_put}
+use Rattle.rv_emit.proofs.NumberSlots.{number_few}
+use Rattle.rv_emit.proofs.TableSlots.{even_plain, number_even, number_long}
+use Rattle.rv_emit.proofs.CallSlots.{steps_counted}
+use Rattle.rv_emit.proofs.TailSlots.{loads_then, step_then, loads_most, saves_long, setup_few, returns_counted, return_most}
+
+-- ---- loads
+
+-- a load of eight bytes
+abbrev pub eight_at : Writable PReg → ℤ → StackLoad
+eight_at r offset = record { register = r.reg.number; op = Ld; offset = offset }
+
+loads_counted : (flags : IsaFlags) (loads : List StackLoad) → AreCounted (stack_loads_size flags loads + 0) 0 none None None (stack_load_slots flags loads)
+loads_counted flags loads = subst (AreCounted (stack_loads_size flags loads + 0) 0 none None None) (append-nil (stack_load_slots flags loads)) (loads_then flags loads nothing)
+
+pub loads_plain : (flags : IsaFlags) (loads : List StackLoad) → IsPlain (stack_load_slots flags loads)
+loads_plain flags loads = (loads_counted flags loads).plain
+
+loads_long : (flags : IsaFlags) (loads : List StackLoad) → size_of (stack_load_slots flags loads) ≤ 28 * length loads
+loads_long flags loads = let a = (loads_counted flags loads).long in let b = loads_most flags loads in omega arith
+
+loads_both : (flags : IsaFlags) (first more : List StackLoad) → stack_load_slots flags (first ++ more) ≡ stack_load_slots flags first ++ stack_load_slots flags more
+loads_both flags [] more = refl
+loads_both flags (l ∷ first) more =
+    let own = load_slots flags l.register l.op None (Based 2 l.offset) in
+    ap (λ slots. own ++ slots) (loads_both flags first more) ∙ sym (append_assoc own (stack_load_slots flags first) (stack_load_slots flags more))
+
+lower : (o : ℤ) (n : ℕ) → o -ℤ pos 8 -ℤ pos (8 * n) ≡ o -ℤ pos (8 * suc n)
+lower o n = omega (arith, ints)
+
+saves_both : (o : ℤ) (first more : List (Writable PReg)) → saves_from o (first ++ more) ≡ saves_from o first ++ saves_from (o -ℤ pos (8 * length first)) more
+saves_both o [] more = let same : o ≡ o -ℤ pos (8 * 0) = omega (arith, ints) in ap (λ x. saves_from x more) same
+saves_both o (r ∷ first) more = ap (λ loads. eight_at r o ∷ loads) (saves_both (o -ℤ pos 8) first more ∙ ap (λ x. saves_from (o -ℤ pos 8) first ++ saves_from x more) (lower o (length first)))
+
+saves_more : (o : ℤ) (saves : List (Writable PReg)) (k : ℕ) (d : Writable PReg) → k < length saves → saves_from o (take (k + 1) saves) ≡ saves_from o (take k saves) ++ eight_at (get_or saves k d) (o -ℤ pos (8 * k)) ∷ []
+saves_more o saves k d lt =
+    let long : length (take k saves) ≡ k = length-take k saves ∙ omega arith in
+    ap (saves_from o) (take_more saves k d lt) ∙ saves_both o (take k saves) (get_or saves k d ∷ []) ∙ ap (λ n. saves_from o (take k saves) ++ eight_at (get_or saves k d) (o -ℤ pos (8 * n)) ∷ []) long
+
+-- one more
+pub saved_put : {flags : IsaFlags} (o at : ℤ) (saves : List (Writable PReg)) (k : ℕ) (d : Writable PReg) (old mid new : Buffer) → k < length saves → at ≡ o -ℤ pos (8 * k) → PutsAlone flags (stack_load_slots flags (saves_from o (take k saves))) old mid → PutsAlone flags (load_slots flags (get_or saves k d).reg.number Ld None (Based 2 at)) mid new → PutsAlone flags (stack_load_slots flags (saves_from o (take (k + 1) saves))) old new
+saved_put {flags} o at saves k d old mid new lt is p q =
+    let before = saves_from o (take k saves) in
+    let own = load_slots flags (get_or saves k d).reg.number Ld None (Based 2 at) in
+    let next = eight_at (get_or saves k d) at ∷ [] in
+    let here = ap (λ x. before ++ eight_at (get_or saves k d) x ∷ []) (sym is) in
+    subst (λ slots. PutsAlone flags slots old new) (sym (ap (stack_load_slots flags) (saves_more o saves k d lt ∙ here) ∙ loads_both flags before next))
+    (both_alone (stack_load_slots flags before) (stack_load_slots flags next) old mid new (loads_plain flags before) p (subst (λ slots. PutsAlone flags slots mid new) (sym (append-nil own)) q))
+
+pub all_saved : {flags : IsaFlags} (o : ℤ) (saves : List (Writable PReg)) (k : ℕ) (old new : Buffer) → length saves ≤ k → PutsAlone flags (stack_load_slots flags (saves_from o (take k saves))) old new → PutsAlone flags (stack_load_slots flags (saves_from o saves)) old new
+all_saved {flags} o saves k old new le p = subst (λ rs. PutsAlone flags (stack_load_slots flags (saves_from o rs)) old new) (take_all k saves le) p
+
+-- how long they are at most
+pub saved_long : {flags : IsaFlags} (o : ℤ) (saves : List (Writable PReg)) (k : ℕ) (old new : Buffer) → k ≤ length saves → PutsAlone flags (stack_load_slots flags (saves_from o (take k saves))) old new → length (bytes_of new) ≤ length (bytes_of old) + 28 * k
+saved_long {flags} o saves k old new le p =
+    let a = alone_long (stack_load_slots flags (saves_from o (take k saves))) old new p in
+    let b = loads_long flags (saves_from o (take k saves)) in
+    let c = saves_long o (take k saves) in
+    let e = length-take k saves in
+    omega arith
+
+-- the register of an index, as the loop reads it
+pub saved_at : (saves : List (Writable PReg)) (k : ℕ) (r : Writable PReg) → k < length saves → r ≡ slice_index_or saves k r → r ≡ get_or saves k r
+saved_at saves k r lt e = e ∙ same saves k r lt
+  where
+    same : (saves : List (Writable PReg)) (k : ℕ) (d : Writable PReg) → k < length saves → slice_index_or saves k d ≡ get_or saves k d
+    same [] k d lt = absurd (omega arith)
+    same (r ∷ saves) zero d lt = refl
+    same (r ∷ saves) (suc k) d lt = same saves k d (omega arith)
+
+-- one more, as the loop puts it
+pub saved_more : {flags : IsaFlags} (o : ℤ) (saves : List (Writable PReg)) (k index : ℕ) (r : Writable PReg) (old mid new : Buffer) → k < length saves → r ≡ slice_index_or saves k r → index ≡ k → PutsAlone flags (stack_load_slots flags (saves_from o (take k saves))) old mid → PutsAlone flags (load_slots flags r.reg.number Ld None (Based 2 (o -ℤ pos (8 * index)))) mid new → PutsAlone flags (stack_load_slots flags (saves_from o (take (k + 1) saves))) old new
+saved_more {flags} o saves k index r old mid new lt read is p q =
+    saved_put o (o -ℤ pos (8 * k)) saves k r old mid new lt refl p
+    (subst (λ x. PutsAlone flags (load_slots flags x.reg.number Ld None (Based 2 (o -ℤ pos (8 * k)))) mid new) (saved_at saves k r lt read)
+    (subst (λ n. PutsAlone flags (load_slots flags r.reg.number Ld None (Based 2 (o -ℤ pos (8 * n)))) mid new) is q))
+
+pub each_saved : (saves : List (Writable PReg)) (k : ℕ) (d : Writable PReg) → AreSaved saves → k < length saves → IsIntRegister (Real (get_or saves k d).reg)
+each_saved [] k d h lt = absurd (omega arith)
+each_saved (r ∷ saves) zero d h lt = h.0
+each_saved (r ∷ saves) (suc k) d h lt = each_saved saves k d h.1 (omega arith)
+
+-- the return address and the frame pointer
+pub no_setup : (flags : IsaFlags) (frame : FrameLayout) (old new : Buffer) → frame.setup_area_size ≡ 0 → PutsAlone flags [] old new → PutsAlone flags (stack_load_slots flags (setup_loads frame)) old new
+no_setup flags frame old new empty p =
+    let e : (frame.setup_area_size == 0) ≡ true = grind (arith, nat_tests) in
+    subst (λ c. PutsAlone flags (stack_load_slots flags (if c then [] else record { register = 1; op = Ld; offset = pos (sp_to_fp_of frame + 8) } ∷ record { register = 8; op = Ld; offset = pos (sp_to_fp_of frame) } ∷ [])) old new) (sym e) p
+
+one_load : (flags : IsaFlags) (l : StackLoad) (old new : Buffer) → PutsAlone flags (load_slots flags l.register l.op None (Based 2 l.offset)) old new → PutsAlone flags (stack_load_slots flags (l ∷ [])) old new
+one_load flags l old new p = subst (λ slots. PutsAlone flags slots old new) (sym (append-nil (load_slots flags l.register l.op None (Based 2 l.offset)))) p
+
+pub setup_put : (flags : IsaFlags) (frame : FrameLayout) (ra fp : ℕ) (above below : ℤ) (old mid new : Buffer) → frame.setup_area_size ≢ 0 → ra ≡ 1 → fp ≡ 8 → above ≡ pos (sp_to_fp_of frame + 8) → below ≡ pos (sp_to_fp_of frame) → PutsAlone flags (load_slots flags ra Ld None (Based 2 above)) old mid → PutsAlone flags (load_slots flags fp Ld None (Based 2 below)) mid new → PutsAlone flags (stack_load_slots flags (setup_loads frame)) old new
+setup_put flags frame ra fp above below old mid new some link pointer up down p q =
+    let e : (frame.setup_area_size == 0) ≡ false = grind (arith, nat_tests) in
+    let link_load : StackLoad = record { register = ra; op = Ld; offset = above } in
+    let frame_load : StackLoad = record { register = fp; op = Ld; offset = below } in
+    let first = link_load ∷ [] in
+    let second = frame_load ∷ [] in
+    let both = subst (λ slots. PutsAlone flags slots old new) (sym (loads_both flags first second)) (both_alone (stack_load_slots flags first) (stack_load_slots flags second) old mid new (loads_plain flags first) (one_load flags link_load old mid p) (one_load flags frame_load mid new q)) in
+    let named : first ++ second ≡ record { register = 1; op = Ld; offset = pos (sp_to_fp_of frame + 8) } ∷ record { register = 8; op = Ld; offset = pos (sp_to_fp_of frame) } ∷ [] = λ i. record { register = link i; op = Ld; offset = up i } ∷ record { register = pointer i; op = Ld; offset = down i } ∷ [] in
+    subst (λ c. PutsAlone flags (stack_load_slots flags (if c then [] else record { register = 1; op = Ld; offset = pos (sp_to_fp_of frame + 8) } ∷ record { register = 8; op = Ld; offset = pos (sp_to_fp_of frame) } ∷ [])) old new) (sym e)
+    (subst (λ loads. PutsAlone flags (stack_load_slots flags loads) old new) named both)
+
+pub load_long : {flags : IsaFlags} (rd : ℕ) (o : ℤ) (old new : Buffer) → PutsAlone flags (load_slots flags rd Ld None (Based 2 o)) old new → length (bytes_of new) ≤ length (bytes_of old) + 28
+load_long {flags} rd o old new p =
+    let l : StackLoad = record { register = rd; op = Ld; offset = o } in
+    let a = alone_long (load_slots flags rd Ld None (Based 2 o)) old new p in
+    let b = loads_long flags (l ∷ []) in
+    let c = ap size_of (append-nil (load_slots flags rd Ld None (Based 2 o))) in
+    omega arith
+
+-- ---- the stack pointer's step
+
+zero_bits : (z : ℤ) → low64 z ≡ 0 → (low64 z == 0) ≡ true
+zero_bits z e = ap (λ n. n == 0) e
+
+-- a number that is 0 as 64 bits is 0
+other_bits : (z : ℤ) → FitsSigned w64 z → z ≢ pos 0 → (low64 z == 0) ≡ false
+other_bits z fits some = let e : low64 z ≢ 0 = λ zeroed. some (sym (to_z-of_z w64 z fits) ∙ ap (cast_signed w64) zeroed) in grind (arith, nat_tests)
+
+abbrev step_by : IsaFlags → ℤ → Bool → Bool → List Slot
+step_by flags z zeroed near = if zeroed then [] else if near then Op (short_rri flags Addi 2 2 z) ∷ [] else far_step_slots flags z
+
+pub no_step : (flags : IsaFlags) (z : ℤ) (old new : Buffer) → low64 z ≡ 0 → PutsAlone flags [] old new → PutsAlone flags (stack_step_slots flags z) old new
+no_step flags z old new none_at_all p = subst (λ c. PutsAlone flags (step_by flags z c (is_near z)) old new) (sym (zero_bits z none_at_all)) p
+
+pub near_step : (flags : IsaFlags) (z imm : ℤ) (old new : Buffer) → FitsSigned w64 z → z ≢ pos 0 → imm ≡ z → is_near imm ≡ true → PutsAlone flags (Op (short_rri flags Addi 2 2 imm) ∷ []) old new → PutsAlone flags (stack_step_slots flags z) old new
+near_step flags z imm old new fits some is near p =
+    subst (λ c. PutsAlone flags (step_by flags z c (is_near z)) old new) (sym (other_bits z fits some))
+    (subst (λ c. PutsAlone flags (step_by flags z false c) old new) (sym (ap is_near (sym is) ∙ near)) (subst (λ x. PutsAlone flags (Op (short_rri flags Addi 2 2 x) ∷ []) old new) is p))
+
+pub far_step : (flags : IsaFlags) (z : ℤ) (old new : Buffer) → FitsSigned w64 z → z ≢ pos 0 → is_near z ≡ false → PutsAlone flags (far_step_slots flags z) old new → PutsAlone flags (stack_step_slots flags z) old new
+far_step flags z old new fits some far p =
+    subst (λ c. PutsAlone flags (step_by flags z c (is_near z)) old new) (sym (other_bits z fits some))
+    (subst (λ c. PutsAlone flags (step_by flags z false c) old new) (sym far) p)
+
+-- a register of the machine is an integer register
+pub real_int : (r : Reg) (n : ℕ) → IsReal r Int n → IsIntRegister r
+real_int (Real p) n h = h.0
+real_int (Virtual class index) n h = absurd h
+
+-- the number of the step, as the code has it
+pub number_there : {flags : IsaFlags} {old new : Buffer} (spare : ℕ) (z : ℤ) → spare ≡ 31 → PutsAlone flags (number_slots flags spare z) old new → PutsAlone flags (number_slots flags 31 z) old new
+number_there {flags} {old} {new} spare z e p = subst (λ r. PutsAlone flags (number_slots flags r z) old new) e p
+
+pub number_room : {flags : IsaFlags} (z : ℤ) (old new : Buffer) → PutsAlone flags (number_slots flags 31 z) old new → length (bytes_of new) ≤ length (bytes_of old) + 20
+number_room {flags} z old new p =
+    let a = alone_long (number_slots flags 31 z) old new p in
+    let b = number_long flags 31 z in
+    let c = number_few flags 31 z in
+    omega arith
+
+pub sum_named : {flags : IsaFlags} {old new : Buffer} (rd rs1 rs2 : ℕ) → rd ≡ 2 → rs1 ≡ 2 → rs2 ≡ 31 → PutsAlone flags (Op (short_rrr flags Add rd rs1 rs2) ∷ []) old new → PutsAlone flags (Op (short_rrr flags Add 2 2 31) ∷ []) old new
+sum_named {flags} {old} {new} rd rs1 rs2 a b c p = subst (λ d. PutsAlone flags (Op d ∷ []) old new) (λ i. short_rrr flags Add (a i) (b i) (c i)) p
+
+pub far_step_put : {flags : IsaFlags} (z : ℤ) (old mid new : Buffer) → PutsAlone flags (number_slots flags 31 z) old mid → PutsAlone flags (Op (short_rrr flags Add 2 2 31) ∷ []) mid new → PutsAlone flags (far_step_slots flags z) old new
+far_step_put {flags} z old mid new p q = both_alone (number_slots flags 31 z) (Op (short_rrr flags Add 2 2 31) ∷ []) old mid new (even_plain (number_slots flags 31 z) (number_even flags 31 z)) p q
+
+pub addi_named : {flags : IsaFlags} {old new : Buffer} (rd rs : ℕ) (imm : ℤ) → rd ≡ 2 → rs ≡ 2 → PutsAlone flags (Op (short_rri flags Addi rd rs imm) ∷ []) old new → PutsAlone flags (Op (short_rri flags Addi 2 2 imm) ∷ []) old new
+addi_named {flags} {old} {new} rd rs imm a b p = subst (λ d. PutsAlone flags (Op d ∷ []) old new) (λ i. short_rri flags Addi (a i) (b i) imm) p
+
+-- ---- the whole frame
+
+pub loads_room : {flags : IsaFlags} (loads : List StackLoad) (old new : Buffer) → PutsAlone flags (stack_load_slots flags loads) old new → length (bytes_of new) ≤ length (bytes_of old) + 28 * length loads
+loads_room {flags} loads old new p = let a = alone_long (stack_load_slots flags loads) old new p in let b = loads_long flags loads in omega arith
+
+pub saves_room : {flags : IsaFlags} (o : ℤ) (saves : List (Writable PReg)) (old new : Buffer) → PutsAlone flags (stack_load_slots flags (saves_from o saves)) old new → length (bytes_of new) ≤ length (bytes_of old) + 28 * length saves
+saves_room o saves old new p = let a = loads_room (saves_from o saves) old new p in let b = saves_long o saves in omega arith
+
+pub setup_room : {flags : IsaFlags} (frame : FrameLayout) (old new : Buffer) → PutsAlone flags (stack_load_slots flags (setup_loads frame)) old new → length (bytes_of new) ≤ length (bytes_of old) + 56
+setup_room frame old new p = let a = loads_room (setup_loads frame) old new p in let b = setup_few frame in omega arith
+
+pub saves_there : {flags : IsaFlags} (frame : FrameLayout) (below : ℕ) (saves : List (Writable PReg)) (old new : Buffer) → below ≡ sp_to_fp_of frame → saves ≡ frame.clobbered_callee_saves → PutsAlone flags (stack_load_slots flags (saves_from (pos below -ℤ pos 8) saves)) old new → PutsAlone flags (stack_load_slots flags (saves_from (pos (sp_to_fp_of frame) -ℤ pos 8) frame.clobbered_callee_saves)) old new
+saves_there {flags} frame below saves old new is all p = subst (λ loads. PutsAlone flags (stack_load_slots flags loads) old new) (λ i. saves_from (pos (is i) -ℤ pos 8) (all i)) p
+
+pub return_put : {flags : IsaFlags} (frame : FrameLayout) (arguments : ℕ) (old a b new : Buffer) → PutsAlone flags (stack_load_slots flags (saves_from (pos (sp_to_fp_of frame) -ℤ pos 8) frame.clobbered_callee_saves)) old a → PutsAlone flags (stack_load_slots flags (setup_loads frame)) a b → PutsAlone flags (stack_step_slots flags (pos (frame_above frame arguments))) b new → PutsAlone flags (return_slots flags frame arguments) old new
+return_put {flags} frame arguments old a b new p q r =
+    let saves = saves_from (pos (sp_to_fp_of frame) -ℤ pos 8) frame.clobbered_callee_saves in
+    let setup = setup_loads frame in
+    let loads = subst (λ slots. PutsAlone flags slots old b) (sym (loads_both flags saves setup)) (both_alone (stack_load_slots flags saves) (stack_load_slots flags setup) old a b (loads_plain flags saves) p q) in
+    both_alone (stack_load_slots flags (restores frame)) (stack_step_slots flags (pos (frame_above frame arguments))) old b new (loads_plain flags (restores frame)) loads r
+
+-- how long it is
+pub return_long : {flags : IsaFlags} (frame : FrameLayout) (arguments : ℕ) (old new : Buffer) → PutsAlone flags (return_slots flags frame arguments) old new → length (bytes_of new) ≡ length (bytes_of old) + return_size flags frame arguments
+return_long {flags} frame arguments old new p = let a = alone_long (return_slots flags frame arguments) old new p in let b = (returns_counted flags frame arguments).long in omega arith
+
+-- ---- an island, and the tail call after it
+
+-- after an island where one is needed, room is left for as many bytes as were counted
+pub after_island : (space extra : ℕ) (old new : Buffer) (made : Bool) → length (bytes_of old) + extra + reserve_of (shape_of old) + 8 * length (pending old) + 160 < code_limit → IslandIfNeeded space old new made → length (bytes_of new) + extra + 143 < code_limit
+after_island space extra old new made room m = ⊎_elim
+    (λ (same : (made ≡ false) × (new ≡ old)). let e : length (bytes_of new) ≡ length (bytes_of old) = ap (λ (b : Buffer). length (bytes_of b)) same.1 in omega arith)
+    (λ (put : (made ≡ true) × AppendsIsland old new). let short = put.1.short in omega arith)
+    m.put
+
+pub tail_put : {flags : IsaFlags} (frame : FrameLayout) (arguments : ℕ) (name : ExternalName) (size link tmp : ℕ) (old mid a b new : Buffer) (made : Bool) → size ≡ return_size flags frame arguments → link ≡ 0 → tmp ≡ 31 → IslandIfNeeded (size + 8) old mid made → PutsAlone flags (return_slots flags frame arguments) mid a → PutsAlone flags (Notes event.CallSite ∷ []) a b → PutsAlone flags (call_to link tmp name ∷ []) b new → PutsParts flags (Ask (return_size flags frame arguments + 8) ∷ Slots (tail_slots flags frame arguments name) ∷ []) old new
+tail_put {flags} frame arguments name size link tmp old mid a b new made measured zero_link spare island p q r =
+    let call = subst (λ s. PutsAlone flags (s ∷ []) b new) (λ i. call_to (zero_link i) (spare i) name) r in
+    let last = both_alone (Notes event.CallSite ∷ []) (call_to 0 31 name ∷ []) a b new tt q call in
+    (mid, made, subst (λ n. IslandIfNeeded (n + 8) old mid made) measured island, both_alone (return_slots flags frame arguments) (Notes event.CallSite ∷ call_to 0 31 name ∷ []) mid a new (returns_counted flags frame arguments).plain p last)
+
+pub t0_put : {flags : IsaFlags} (frame : FrameLayout) (arguments size link target : ℕ) (old mid a new : Buffer) (made : Bool) → size ≡ return_size flags frame arguments → link ≡ 0 → target ≡ 5 → IslandIfNeeded (size + 4) old mid made → PutsAlone flags (return_slots flags frame arguments) mid a → PutsAlone flags (Op (short_jalr flags link target (pos 0)) ∷ []) a new → PutsParts flags (Ask (return_size flags frame arguments + 4) ∷ Slots (t0_slots flags frame arguments) ∷ []) old new
+t0_put {flags} frame arguments size link target old mid a new made measured zero_link fifth island p q =
+    let jump = subst (λ d. PutsAlone flags (Op d ∷ []) a new) (λ i. short_jalr flags (zero_link i) (fifth i) (pos 0)) q in
+    (mid, made, subst (λ n. IslandIfNeeded (n + 4) old mid made) measured island, both_alone (return_slots flags frame arguments) (Op (short_jalr flags 0 5 (pos 0)) ∷ []) mid a new (returns_counted flags frame arguments).plain p jump)
+
+-- ---- calls that return
+
+pub step_long : {flags : IsaFlags} (z : ℤ) (old new : Buffer) → PutsAlone flags (stack_step_slots flags z) old new → length (bytes_of new) ≡ length (bytes_of old) + stack_step_size flags z
+step_long {flags} z old new p = let a = alone_long (stack_step_slots flags z) old new p in let b = (steps_counted flags z).long in omega arith
+
+-- the records of a call's return, and what stands before and after them
+pub returned_put : {flags : IsaFlags} (frame : FrameLayout) (entries : Option UserStackMap) (t : Option TryCallInfo) (old mid new : Buffer) → PutsAlone flags (map_notes frame entries) old mid → PutsAlone flags (Notes (site_event frame t) ∷ []) mid new → PutsAlone flags (return_notes frame entries t) old new
+returned_put frame entries t old mid new p q = both_alone (map_notes frame entries) (Notes (site_event frame t) ∷ []) old mid new (map_plain entries) p q
+  where
+    map_plain : (e : Option UserStackMap) → IsPlain (map_notes frame e)
+    map_plain None = tt
+    map_plain (Some e) = tt
+
+return_plain : (frame : FrameLayout) (entries : Option UserStackMap) (t : Option TryCallInfo) → IsPlain (return_notes frame entries t)
+return_plain frame None t = tt
+return_plain frame (Some entries) t = tt
+
+patch_plain : (patchable : Bool) (n : ℕ) → IsPlain (patch_notes patchable n)
+patch_plain false n = tt
+patch_plain true n = tt
+
+-- records have no bytes
+pub returned_long : {flags : IsaFlags} (frame : FrameLayout) (entries : Option UserStackMap) (t : Option TryCallInfo) (old new : Buffer) → PutsAlone flags (return_notes frame entries t) old new → length (bytes_of new) ≡ length (bytes_of old)
+returned_long frame None t old new p = let a = alone_long _ old new p in omega arith
+returned_long frame (Some entries) t old new p = let a = alone_long _ old new p in omega arith
+
+pub patch_long : {flags : IsaFlags} (patchable : Bool) (n : ℕ) (old new : Buffer) → PutsAlone flags (patch_notes patchable n) old new → length (bytes_of new) ≡ length (bytes_of old)
+patch_long false n old new p = let a = alone_long _ old new p in omega arith
+patch_long true n old new p = let a = alone_long _ old new p in omega arith
+
+-- what comes after the words of a call
+rest_put : {flags : IsaFlags} (frame : FrameLayout) (popped n : ℕ) (patchable : Bool) (entries : Option UserStackMap) (t : Option TryCallInfo) (a b c d new : Buffer) → PutsAlone flags (return_notes frame entries t) a b → PutsAlone flags (stack_step_slots flags (fall popped)) b c → PutsAlone flags (patch_notes patchable n) c d → PutsAlone flags (try_slots flags t) d new → PutsAlone flags (return_notes frame entries t ++ (after_call flags popped ++ (patch_notes patchable n ++ try_slots flags t))) a new
+rest_put {flags} frame popped n patchable entries t a b c d new q r s j =
+    let steps = after_call flags popped in
+    let notes = patch_notes patchable n in
+    let jump = try_slots flags t in
+    both_alone (return_notes frame entries t) (steps ++ (notes ++ jump)) a b new (return_plain frame entries t) q
+    (both_alone steps (notes ++ jump) b c new (steps_counted flags (fall popped)).plain r
+    (both_alone notes jump c d new (patch_plain patchable n) s j))
+
+pub call_put : {flags : IsaFlags} (frame : FrameLayout) (info : CallInfo ExternalName) (link tmp : ℕ) (old a b c d new : Buffer) → link ≡ 1 → tmp ≡ 1 → PutsAlone flags (call_to link tmp info.dest ∷ []) old a → PutsAlone flags (return_notes frame info.stack_map info.try_call_info) a b → PutsAlone flags (stack_step_slots flags (fall info.callee_pop_size)) b c → PutsAlone flags (patch_notes info.patchable (call_size flags 8 info.callee_pop_size)) c d → PutsAlone flags (try_slots flags info.try_call_info) d new → PutsAlone flags (call_slots flags frame info) old new
+call_put {flags} frame info link tmp old a b c d new one spare p q r s j =
+    let call = subst (λ s. PutsAlone flags (s ∷ []) old a) (λ i. call_to (one i) (spare i) info.dest) p in
+    both_alone (call_to 1 1 info.dest ∷ []) _ old a new tt call
+    (rest_put frame info.callee_pop_size (call_size flags 8 info.callee_pop_size) info.patchable info.stack_map info.try_call_info a b c d new q r s j)
+
+pub call_ind_put : {flags : IsaFlags} (frame : FrameLayout) (info : CallInfo Reg) (link : ℕ) (old a b c new : Buffer) → IsSoundBuffer c → link ≡ 1 → PutsAlone flags (Op (short_jalr flags link (number_of info.dest) (pos 0)) ∷ []) old a → PutsAlone flags (return_notes frame info.stack_map info.try_call_info) a b → PutsAlone flags (stack_step_slots flags (fall info.callee_pop_size)) b c → PutsAlone flags (try_slots flags info.try_call_info) c new → PutsAlone flags (call_ind_slots flags frame info) old new
+call_ind_put {flags} frame info link old a b c new sound one p q r j =
+    let jump = subst (λ n. PutsAlone flags (Op (short_jalr flags n (number_of info.dest) (pos 0)) ∷ []) old a) one p in
+    both_alone (Op (short_jalr flags 1 (number_of info.dest) (pos 0)) ∷ []) _ old a new tt jump
+    (rest_put frame info.callee_pop_size 0 false info.stack_map info.try_call_info a b c c new q r (none_put flags c sound) j)

@@ -1,0 +1,184 @@
+//! Calls that return.
+
+ghost use Rattle.std.specs.Prelude.{◌≡◌, ◌∷◌, [], ◌+◌, ◌^◌, ◌<◌, ◌-ℤ◌, length, pos, OnOk, OnErr, true};
+ghost use Rattle.rv_base.specs.LabelUse.{code_limit};
+ghost use Rattle.rv_base.specs.Frame.{sp_to_args_end};
+ghost use Rattle.rv_base.specs.Regs.{number_of};
+ghost use Rattle.rv_base.specs.declared.flags.IsaFlags.{IsaFlags};
+ghost use Rattle.rv_encode.specs.Registers.{IsIntRegister};
+ghost use Rattle.mach_buffer.specs.Buffer.{bytes_of, spoiled_of};
+ghost use Rattle.mach_buffer.specs.declared.records.Event.TheVariants.{PatchableCallSite};
+ghost use Rattle.rv_inst.specs.Records.{site_event};
+ghost use Rattle.rv_inst.specs.Sizes.{fall};
+ghost use Rattle.rv_emit.specs.Emission.{PutsAlone};
+ghost use Rattle.rv_emit.specs.Emitted.{IsSoundBuffer};
+ghost use Rattle.rv_emit.specs.InstParts.{map_notes, return_notes, try_slots, patch_notes, call_slots, call_ind_slots};
+ghost use Rattle.rv_emit.specs.Slots.{Notes};
+ghost use Rattle.rv_emit.specs.Usable.{IsFineTry};
+
+use crate::sequence::put_jump;
+use crate::shortest::put_jalr;
+use crate::stack::put_stack_step;
+use crate::symbols::{put_call_site, put_call_to};
+use mach_buffer::MachBuffer;
+use rv_base::{
+    CallInfo, ExternalName, FrameLayout, IsaFlags, OutOfMemory, Reg, TryCallInfo, UserStackMap,
+    writable_link_reg,
+};
+use rv_imms::Imm12;
+use rv_inst::LabelUse;
+
+/// A call of a symbol, which comes back to the byte after its two words; there the stack pointer falls, and control goes on after
+/// the call or to a label.
+pub(crate) fn put_call(
+    sink: &mut MachBuffer<LabelUse>,
+    flags: IsaFlags,
+    frame: &FrameLayout,
+    info: &CallInfo<ExternalName>,
+) -> Result<(), OutOfMemory>
+    requires frame { sp_to_args_end frame.now < 2 ^ 31 }
+    requires fine { IsFineTry info.now.try_call_info }
+    requires room { length (bytes_of sink.old) + 84 < code_limit }
+    requires sound { IsSoundBuffer sink.old }
+    ensures slots { OnOk result (PutsAlone flags (call_slots flags frame.now info.now) sink.old sink.new) }
+    ensures refused { OnErr result (spoiled_of sink.new ≡ true) }
+{
+    let start = sink.cur_offset();
+    put_call_to(sink, writable_link_reg(), writable_link_reg(), info.dest)?;
+    put_return(sink, frame, &info.stack_map, &info.try_call_info)?;
+    put_stack_step(sink, flags, fallen(info.callee_pop_size))?;
+    let end = sink.cur_offset();
+    put_patchable(sink, info.patchable, end - start)?;
+    put_continuation(sink, flags, &info.try_call_info)?;
+    Ok(())
+}
+
+/// A call of the function at the address in a register.
+pub(crate) fn put_call_ind(
+    sink: &mut MachBuffer<LabelUse>,
+    flags: IsaFlags,
+    frame: &FrameLayout,
+    info: &CallInfo<Reg>,
+) -> Result<(), OutOfMemory>
+    requires frame { sp_to_args_end frame.now < 2 ^ 31 }
+    requires fine { IsFineTry info.now.try_call_info }
+    requires dest { IsIntRegister info.now.dest }
+    requires room { length (bytes_of sink.old) + 84 < code_limit }
+    requires sound { IsSoundBuffer sink.old }
+    ensures slots { OnOk result (PutsAlone flags (call_ind_slots flags frame.now info.now) sink.old sink.new) }
+    ensures refused { OnErr result (spoiled_of sink.new ≡ true) }
+{
+    put_jalr(sink, flags, writable_link_reg(), info.dest, Imm12::ZERO)?;
+    put_return(sink, frame, &info.stack_map, &info.try_call_info)?;
+    put_stack_step(sink, flags, fallen(info.callee_pop_size))?;
+    put_continuation(sink, flags, &info.try_call_info)?;
+    Ok(())
+}
+
+/// How far the stack pointer rises where it falls so far.
+fn fallen(popped: u32) -> i64
+    ensures { result ≡ fall popped }
+{
+    -i64::from(popped)
+}
+
+/// The records of a call where it returns.
+fn put_return(
+    sink: &mut MachBuffer<LabelUse>,
+    frame: &FrameLayout,
+    stack_map: &Option<UserStackMap>,
+    try_call_info: &Option<TryCallInfo>,
+) -> Result<(), OutOfMemory>
+    requires frame { sp_to_args_end frame.now < 2 ^ 31 }
+    requires sound { IsSoundBuffer sink.old }
+    ensures slots { OnOk result ((flags : IsaFlags) → PutsAlone flags (return_notes frame.now stack_map.now try_call_info.now) sink.old sink.new) }
+    ensures refused { OnErr result (spoiled_of sink.new ≡ true) }
+{
+    put_stack_map(sink, frame, stack_map)?;
+    put_site(sink, frame, try_call_info)?;
+    Ok(())
+}
+
+/// The record of the values on the stack, where there is a map of them: of the frame up to its pointer.
+fn put_stack_map(
+    sink: &mut MachBuffer<LabelUse>,
+    frame: &FrameLayout,
+    stack_map: &Option<UserStackMap>,
+) -> Result<(), OutOfMemory>
+    requires frame { sp_to_args_end frame.now < 2 ^ 31 }
+    requires sound { IsSoundBuffer sink.old }
+    ensures slots { OnOk result ((flags : IsaFlags) → PutsAlone flags (map_notes frame.now stack_map.now) sink.old sink.new) }
+    ensures refused { OnErr result (spoiled_of sink.new ≡ true) }
+{
+    match stack_map {
+        Some(map) => {
+            let offset = sink.cur_offset();
+            sink.push_user_stack_map(offset, frame.sp_to_fp(), map)?;
+            Ok(())
+        }
+        None => Ok(()),
+    }
+}
+
+/// The record of a call site, with its handlers where the call ends its block.
+fn put_site(
+    sink: &mut MachBuffer<LabelUse>,
+    frame: &FrameLayout,
+    try_call_info: &Option<TryCallInfo>,
+) -> Result<(), OutOfMemory>
+    requires frame { sp_to_args_end frame.now < 2 ^ 31 }
+    requires sound { IsSoundBuffer sink.old }
+    ensures slots { OnOk result ((flags : IsaFlags) → PutsAlone flags (Notes (site_event frame.now try_call_info.now) ∷ []) sink.old sink.new) }
+    ensures refused { OnErr result (spoiled_of sink.new ≡ true) }
+{
+    match try_call_info {
+        Some(info) => {
+            sink.add_try_call_site(Some(frame.sp_to_fp()), info.handlers.as_slice())?;
+            Ok(())
+        }
+        None => put_call_site(sink),
+    }
+}
+
+/// The record of a call of so many bytes that may be patched, where it is one.
+fn put_patchable(
+    sink: &mut MachBuffer<LabelUse>,
+    patchable: bool,
+    size: u32,
+) -> Result<(), OutOfMemory>
+    requires sound { IsSoundBuffer sink.old }
+    ensures slots { OnOk result ((flags : IsaFlags) → PutsAlone flags (patch_notes patchable size) sink.old sink.new) }
+    ensures refused { OnErr result (spoiled_of sink.new ≡ true) }
+{
+    if patchable {
+        put_patch(sink, size)?;
+    }
+    Ok(())
+}
+
+fn put_patch(sink: &mut MachBuffer<LabelUse>, size: u32) -> Result<(), OutOfMemory>
+    requires sound { IsSoundBuffer sink.old }
+    ensures slots { OnOk result ((flags : IsaFlags) → PutsAlone flags (Notes (PatchableCallSite size) ∷ []) sink.old sink.new) }
+    ensures refused { OnErr result (spoiled_of sink.new ≡ true) }
+{
+    sink.add_patchable_call_site(size)?;
+    Ok(())
+}
+
+/// A jump to where a call goes on, where it ends its block.
+fn put_continuation(
+    sink: &mut MachBuffer<LabelUse>,
+    flags: IsaFlags,
+    try_call_info: &Option<TryCallInfo>,
+) -> Result<(), OutOfMemory>
+    requires fine { IsFineTry try_call_info.now }
+    requires room { length (bytes_of sink.old) + 4 < code_limit }
+    requires sound { IsSoundBuffer sink.old }
+    ensures slots { OnOk result (PutsAlone flags (try_slots flags try_call_info.now) sink.old sink.new) }
+    ensures refused { OnErr result (spoiled_of sink.new ≡ true) }
+{
+    match try_call_info {
+        Some(info) => put_jump(sink, flags, info.continuation),
+        None => Ok(()),
+    }
+}

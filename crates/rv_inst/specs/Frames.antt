@@ -1,0 +1,33 @@
+-- Frames that can't be made, or that no tail call can take away.
+use Rattle.std.specs.Prelude.{◌^◌, Bool, false, not, ◌||◌, ◌&&◌, ◌==◌, nat_lt, nat_le, Option, Some, None}
+use Rattle.std.specs.List.{list_any}
+use Rattle.rv_base.specs.declared.frame.FrameLayout.{FrameLayout}
+use Rattle.rv_base.specs.declared.regs.PReg.{PReg}
+use Rattle.rv_base.specs.declared.regs.Writable.{Writable}
+use Rattle.rv_base.specs.Frame.{sp_to_args_end}
+use Rattle.rv_inst.specs.Rules.{is_int_class, is_vector_class}
+use Rattle.rv_inst.specs.declared.tail_calls.TailCall.{TailCall}
+
+-- a register that a frame can't save: a vector register, or x0, ra, sp, fp, x30 or x31
+abbrev pub is_unsaved : PReg → Bool
+is_unsaved p = is_vector_class p.class || (is_int_class p.class && (nat_lt p.number 3 || p.number == 8 || nat_le 30 p.number))
+
+-- one that a tail call doesn't restore: of floats
+abbrev pub is_unrestored : PReg → Bool
+is_unrestored p = not (is_int_class p.class)
+
+-- t0, through which a tail call to a register's address goes
+abbrev pub is_t0 : PReg → Bool
+is_t0 p = is_int_class p.class && p.number == 5
+
+-- from the stack pointer to the end of the arguments are 2^31 bytes or more, or it saves a register that it can't
+abbrev pub is_bad_frame : FrameLayout → Bool
+is_bad_frame frame = nat_le (2 ^ 31) (sp_to_args_end frame) || list_any (λ (r : Writable PReg). is_unsaved r.reg) frame.clobbered_callee_saves
+
+-- a frame that a tail call can't restore: also one that saves a float register, or the register through which the call goes
+abbrev pub is_unrestorable : FrameLayout → TailCall → Bool
+is_unrestorable frame tail = is_bad_frame frame || (list_any (λ (r : Writable PReg). is_unrestored r.reg) frame.clobbered_callee_saves || (tail.by_register && list_any (λ (r : Writable PReg). is_t0 r.reg) frame.clobbered_callee_saves))
+
+abbrev pub is_bad_frame_for : FrameLayout → Option TailCall → Bool
+is_bad_frame_for frame None = false
+is_bad_frame_for frame (Some tail) = is_unrestorable frame tail

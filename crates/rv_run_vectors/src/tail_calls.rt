@@ -1,0 +1,447 @@
+//! Tail calls on the machine. The wanted values are worked out by hand from what a tail call means: with f the frame's clobber, fixed
+//! and outgoing sizes together, the saved register number j is the eight bytes at sp + f - 8 - 8j, a later one overriding; where the
+//! setup area has a size, ra is those at sp + f + 8 and fp those at sp + f; then sp rises by f, that size, and the incoming arguments'
+//! size less the callee's. It goes to the symbol, or to t0, with bit 0 cleared.
+
+use crate::linked::Placing;
+use crate::runs::arrives;
+use rv_asm::assemble;
+use rv_base::OutOfMemory;
+use rv_inst::{Code, Job};
+use rv_listing::read_job;
+use rv_machine::IntMachine;
+use std::alloc::Global;
+use std::process::Abort;
+use std::test::Fail;
+
+pub(crate) const FLAGS: [&str; 2] = ["", "flags m zba zbb zca zcb\n"];
+
+/// The symbol's address is one more: bit 0 is cleared.
+const CALLEE: u64 = 0x40000;
+
+const PLACING: Placing = Placing {
+    base: 0x10000,
+    symbols: [CALLEE + 1, 0x30000],
+    slots: [0x50010, 0x50008],
+};
+
+/// What a register has before: a number of its own, but for t0, which has the callee's address.
+fn before(number: u8) -> u64 {
+    if number == 5 {
+        CALLEE + 1
+    } else {
+        u64::from(number).wrapping_mul(0x0101_0101_0101_0101)
+    }
+}
+
+/// What a register has after, where these have changed.
+fn after(number: u8, changed: &[(u8, u64)]) -> u64 {
+    for (other, value) in changed {
+        if *other == number {
+            return *value;
+        }
+    }
+    before(number)
+}
+
+/// Stops unless just these of the registers x1 to x29 have changed, to these values.
+fn assert_changed(rt: &impl Abort, machine: &IntMachine, changed: &[(u8, u64)], name: &str) {
+    for number in 1u8..30 {
+        assert_eq!(rt;
+            machine.reg(number),
+            after(number, changed),
+            "x{number} at {name}"
+        );
+    }
+}
+
+/// The eight bytes at an address.
+fn doubleword(machine: &IntMachine, at: u64) -> u64 {
+    u64::from_le_bytes([
+        machine.byte(at),
+        machine.byte(at.wrapping_add(1)),
+        machine.byte(at.wrapping_add(2)),
+        machine.byte(at.wrapping_add(3)),
+        machine.byte(at.wrapping_add(4)),
+        machine.byte(at.wrapping_add(5)),
+        machine.byte(at.wrapping_add(6)),
+        machine.byte(at.wrapping_add(7)),
+    ])
+}
+
+/// Tail calls out of one frame, with the stack pointer and the doublewords on the stack before each, and the registers that have
+/// changed after it, x2 among them where it isn't as it was.
+struct Left {
+    frame: &'static str,
+    tails: &'static [&'static str],
+    sp: u64,
+    stack: &'static [(u64, u64)],
+    changed: &'static [(u8, u64)],
+}
+
+const LEFT: [Left; 12] = [
+    Left {
+        frame: "frame 0 0 0 0 0 0 -",
+        tails: &["ReturnCall userextname0 - 0", "ReturnCallInd t0 - 0"],
+        sp: 0x7fff0000,
+        stack: &[(0x7fff0000, 0x1111111111111111)],
+        changed: &[(2, 0x7fff0000)],
+    },
+    // 24 - 8 bytes of arguments.
+    Left {
+        frame: "frame 24 0 0 0 0 0 -",
+        tails: &[
+            "ReturnCall userextname0 a0:a0,a2:a1 8",
+            "ReturnCallInd t0 a0:a0,a2:a1 8",
+        ],
+        sp: 0x7fff0000,
+        stack: &[(0x7fff0000, 0x1111111111111111)],
+        changed: &[(2, 0x7fff0010)],
+    },
+    // f is 16: s1 at 8, fp at 16 and ra at 24. sp rises by 16 and 16.
+    Left {
+        frame: "frame 0 16 16 0 0 0 s1",
+        tails: &["ReturnCall userextname0 - 0", "ReturnCallInd t0 - 0"],
+        sp: 0x7fff0000,
+        stack: &[
+            (0x7fff0000, 0x1111111111111111),
+            (0x7fff0008, 0x2222222222222222),
+            (0x7fff0010, 0x3333333333333333),
+            (0x7fff0018, 0x4444444444444444),
+            (0x7fff0020, 0x5555555555555555),
+        ],
+        changed: &[
+            (1, 0x4444444444444444),
+            (2, 0x7fff0020),
+            (8, 0x3333333333333333),
+            (9, 0x2222222222222222),
+        ],
+    },
+    // f is 32: s1 at 24, s2 at 16, s1 again at 8, fp at 32 and ra at 40. sp rises by 32, 16, and 48 - 16.
+    Left {
+        frame: "frame 48 16 32 0 0 0 s1,s2,s1",
+        tails: &["ReturnCall userextname0 - 16", "ReturnCallInd t0 - 16"],
+        sp: 0x7fff0000,
+        stack: &[
+            (0x7fff0000, 0x1111111111111111),
+            (0x7fff0008, 0x2222222222222222),
+            (0x7fff0010, 0x3333333333333333),
+            (0x7fff0018, 0x4444444444444444),
+            (0x7fff0020, 0x5555555555555555),
+            (0x7fff0028, 0x6666666666666666),
+            (0x7fff0030, 0x7777777777777777),
+        ],
+        changed: &[
+            (1, 0x6666666666666666),
+            (2, 0x7fff0050),
+            (8, 0x5555555555555555),
+            (9, 0x2222222222222222),
+            (18, 0x3333333333333333),
+        ],
+    },
+    // f is 8, and there is no room for ra and fp: t0 at 0. sp rises by 8.
+    Left {
+        frame: "frame 48 0 8 0 0 0 t0",
+        tails: &["ReturnCall userextname0 - 48"],
+        sp: 0x7fff0000,
+        stack: &[
+            (0x7ffefff8, 0x1111111111111111),
+            (0x7fff0000, 0x2222222222222222),
+            (0x7fff0008, 0x3333333333333333),
+            (0x7fff0010, 0x4444444444444444),
+        ],
+        changed: &[(2, 0x7fff0008), (5, 0x2222222222222222)],
+    },
+    // f is 0: s3 at -8, a1 at -16, tp at -24, fp at 0 and ra at 8. sp rises by 1.
+    Left {
+        frame: "frame 0 1 0 0 0 0 s3,a1,tp",
+        tails: &["ReturnCall userextname0 - 0", "ReturnCallInd t0 - 0"],
+        sp: 0x7fff0000,
+        stack: &[
+            (0x7ffeffe8, 0x1111111111111111),
+            (0x7ffefff0, 0x2222222222222222),
+            (0x7ffefff8, 0x3333333333333333),
+            (0x7fff0000, 0x4444444444444444),
+            (0x7fff0008, 0x5555555555555555),
+        ],
+        changed: &[
+            (1, 0x5555555555555555),
+            (2, 0x7fff0001),
+            (4, 0x1111111111111111),
+            (8, 0x4444444444444444),
+            (11, 0x2222222222222222),
+            (19, 0x3333333333333333),
+        ],
+    },
+    // f is 2040: s1 at 2032, s2 at 2024, s1 again at 2016, fp at 2040 and ra at 2048. sp rises by 2040 and 16.
+    Left {
+        frame: "frame 48 16 24 2016 8 0 s1,s2,s1",
+        tails: &["ReturnCall userextname0 - 48", "ReturnCallInd t0 - 48"],
+        sp: 0x7fff0000,
+        stack: &[
+            (0x7fff07e0, 0x1111111111111111),
+            (0x7fff07e8, 0x2222222222222222),
+            (0x7fff07f0, 0x3333333333333333),
+            (0x7fff07f8, 0x4444444444444444),
+            (0x7fff0800, 0x5555555555555555),
+            (0x7fff0808, 0x6666666666666666),
+        ],
+        changed: &[
+            (1, 0x5555555555555555),
+            (2, 0x7fff0808),
+            (8, 0x4444444444444444),
+            (9, 0x1111111111111111),
+            (18, 0x2222222222222222),
+        ],
+    },
+    // f is 100080, which is 0x186f0: s1 8 below it, and the next five each 8 below. sp rises by f, 16, and 48 - 32.
+    Left {
+        frame: "frame 48 16 48 100000 64 32 s1,s2,s3,s4,s5,s6",
+        tails: &["ReturnCall userextname0 - 32", "ReturnCallInd t0 - 32"],
+        sp: 0x7fff0000,
+        stack: &[
+            (0x800086b8, 0x1111111111111111),
+            (0x800086c0, 0x2222222222222222),
+            (0x800086c8, 0x3333333333333333),
+            (0x800086d0, 0x4444444444444444),
+            (0x800086d8, 0x5555555555555555),
+            (0x800086e0, 0x6666666666666666),
+            (0x800086e8, 0x7777777777777777),
+            (0x800086f0, 0x8888888888888888),
+            (0x800086f8, 0x9999999999999999),
+            (0x80008700, 0xaaaaaaaaaaaaaaaa),
+        ],
+        changed: &[
+            (1, 0x9999999999999999),
+            (2, 0x80008710),
+            (8, 0x8888888888888888),
+            (9, 0x7777777777777777),
+            (18, 0x6666666666666666),
+            (19, 0x5555555555555555),
+            (20, 0x4444444444444444),
+            (21, 0x3333333333333333),
+            (22, 0x2222222222222222),
+        ],
+    },
+    // f is 1000000024, which is 0x3b9aca18. sp rises by f, 16 and 48.
+    Left {
+        frame: "frame 48 16 24 1000000000 0 0 t1,s11,a7",
+        tails: &["ReturnCall userextname0 - 0", "ReturnCallInd t0 - 0"],
+        sp: 0x100000000,
+        stack: &[
+            (0x13b9ac9f8, 0x1111111111111111),
+            (0x13b9aca00, 0x2222222222222222),
+            (0x13b9aca08, 0x3333333333333333),
+            (0x13b9aca10, 0x4444444444444444),
+            (0x13b9aca18, 0x5555555555555555),
+            (0x13b9aca20, 0x6666666666666666),
+            (0x13b9aca28, 0x7777777777777777),
+        ],
+        changed: &[
+            (1, 0x6666666666666666),
+            (2, 0x13b9aca58),
+            (6, 0x4444444444444444),
+            (8, 0x5555555555555555),
+            (17, 0x2222222222222222),
+            (27, 0x3333333333333333),
+        ],
+    },
+    // The sizes sum to 2^31 - 1, and f is 0x7fffffc0. sp rises by f, 16 and 47.
+    Left {
+        frame: "frame 47 16 8 2147483568 0 8 s2",
+        tails: &["ReturnCall userextname0 - 0", "ReturnCallInd t0 - 0"],
+        sp: 0x100000000,
+        stack: &[
+            (0x17fffffb0, 0x1111111111111111),
+            (0x17fffffb8, 0x2222222222222222),
+            (0x17fffffc0, 0x3333333333333333),
+            (0x17fffffc8, 0x4444444444444444),
+            (0x17fffffd0, 0x5555555555555555),
+        ],
+        changed: &[
+            (1, 0x4444444444444444),
+            (2, 0x17fffffff),
+            (8, 0x3333333333333333),
+            (18, 0x2222222222222222),
+        ],
+    },
+    // Addresses go round at 2^64: f is 16, s1 at 8, fp at 16 and ra at 24.
+    Left {
+        frame: "frame 0 16 16 0 0 0 s1",
+        tails: &["ReturnCall userextname0 - 0", "ReturnCallInd t0 - 0"],
+        sp: 0xfffffffffffffff8,
+        stack: &[
+            (0xfffffffffffffff8, 0x1111111111111111),
+            (0, 0x2222222222222222),
+            (8, 0x3333333333333333),
+            (16, 0x4444444444444444),
+        ],
+        changed: &[
+            (1, 0x4444444444444444),
+            (2, 0x18),
+            (8, 0x3333333333333333),
+            (9, 0x2222222222222222),
+        ],
+    },
+    // What is loaded needn't be aligned: f is 16, s1 at 8, fp at 16 and ra at 24.
+    Left {
+        frame: "frame 5 16 16 0 0 0 s1",
+        tails: &["ReturnCall userextname0 - 2", "ReturnCallInd t0 - 2"],
+        sp: 0x7fff0003,
+        stack: &[
+            (0x7fff000b, 0x2222222222222222),
+            (0x7fff0013, 0x3333333333333333),
+            (0x7fff001b, 0x4444444444444444),
+        ],
+        changed: &[
+            (1, 0x4444444444444444),
+            (2, 0x7fff0026),
+            (8, 0x3333333333333333),
+            (9, 0x2222222222222222),
+        ],
+    },
+];
+
+/// A machine before a tail call, with its registers and its stack.
+fn at_tail_call(alloc: Global, job: &Job, code: &Code, left: &Left) -> Result<IntMachine, Fail> {
+    let mut machine = PLACING.linked(alloc, job.flags, code)?;
+    for number in 1u8..32 {
+        machine.set_reg(number, before(number));
+    }
+    machine.set_reg(2, left.sp);
+    for (at, value) in left.stack {
+        machine.load_image(*at, &value.to_le_bytes())?;
+    }
+    Ok(machine)
+}
+
+/// Stops unless a tail call comes to the callee, with these registers changed and with the stack as it was.
+fn assert_left(
+    rt: &impl Abort,
+    alloc: Global,
+    flags: &str,
+    left: &Left,
+    tail: &str,
+) -> Result<(), Fail> {
+    let mut text = String::new(alloc);
+    let frame = left.frame;
+    write!(text, "{flags}{frame}\n{tail}\n")?;
+    let job = read_job(alloc, text.as_bytes())?;
+    let code = assemble(alloc, job.lines.as_slice(), job.flags, &job.frame, &[])?;
+    let mut machine = at_tail_call(alloc, &job, &code, left)?;
+    assert!(rt; arrives(&mut machine, CALLEE)?, "at {text}");
+    assert_changed(rt, &machine, left.changed, &text);
+    for (at, value) in left.stack {
+        assert_eq!(rt; doubleword(&machine, *at), *value, "{at:x} at {text}");
+    }
+    Ok(())
+}
+
+/// Stops unless each tail call of a row leaves its frame so.
+fn assert_all_left(rt: &impl Abort, alloc: Global, left: &Left) -> Result<(), Fail> {
+    for tail in left.tails {
+        for flags in FLAGS {
+            assert_left(rt, alloc, flags, left, *tail)?;
+        }
+    }
+    Ok(())
+}
+
+#[test]
+fn frames_are_left(rt: HostRuntime) -> Result<(), Fail> {
+    for left in &LEFT {
+        assert_all_left(&rt, rt.alloc(), left)?;
+    }
+    Ok(())
+}
+
+/// Where the code is, where the symbol is, and where a call to it leads.
+pub(crate) const GOALS: [(u64, u64, u64); 9] = [
+    // The distances are 2047, 2048, -2048 and -2049.
+    (0x10000, 0x107ff, 0x107fe),
+    (0x10000, 0x10800, 0x10800),
+    (0x10000, 0xf800, 0xf800),
+    (0x10000, 0xf7ff, 0xf7fe),
+    // The least and the greatest.
+    (0x100000000, 0x7ffff800, 0x7ffff800),
+    (0x100000000, 0x17ffff7ff, 0x17ffff7fe),
+    // Addresses go round at 2^64.
+    (0x1000, 0xffffffff80001000, 0xffffffff80001000),
+    (0x1000, 0xffffffffffffffff, 0xfffffffffffffffe),
+    (0xfffffffffffff000, 0x2003, 0x2002),
+];
+
+/// Stops unless a tail call leads to each of the goals, out of no frame.
+fn assert_goals(rt: &impl Abort, alloc: Global, flags: &str) -> Result<(), Fail> {
+    let mut text = String::new(alloc);
+    write!(text, "{flags}ReturnCall userextname0 - 0\n")?;
+    let job = read_job(alloc, text.as_bytes())?;
+    let code = assemble(alloc, job.lines.as_slice(), job.flags, &job.frame, &[])?;
+    for (base, symbol, goal) in GOALS {
+        let placing = Placing {
+            base,
+            symbols: [symbol, 0],
+            slots: [0x50010, 0x50008],
+        };
+        let mut machine = placing.linked(alloc, job.flags, &code)?;
+        assert!(rt; arrives(&mut machine, goal)?, "from {base:x} to {goal:x}");
+    }
+    Ok(())
+}
+
+#[test]
+fn symbols_are_reached(rt: HostRuntime) -> Result<(), Fail> {
+    for flags in FLAGS {
+        assert_goals(&rt, rt.alloc(), flags)?;
+    }
+    Ok(())
+}
+
+/// A function makes its frame, writes the registers that it saved, and gives its place away. f is 64: s1 is at 56, fp at 64 and ra
+/// at 72; and the caller's 16 bytes of arguments go, too.
+const FUNCTION: &str = "\
+frame 16 16 16 32 32 16 s1
+AluRRImm12 addi sp sp -16
+Store sp:8 sd - ra
+Store sp:0 sd - fp
+Mov fp sp i64
+AluRRImm12 addi sp sp -64
+Store sp:56 sd - s1
+LoadInlineConst s1 i64 81985529216486895
+Store slot:8 sd - s1
+CondBr eq a0 a0 L0 -
+EBreak
+Bind L0
+AluRRR add ra s1 s1
+AluRRR add fp ra s1
+";
+
+/// Stops unless the function is left with the registers that it was entered with, but for the stack pointer.
+fn assert_given_away(rt: &impl Abort, alloc: Global, flags: &str, tail: &str) -> Result<(), Fail> {
+    let mut text = String::new(alloc);
+    write!(text, "{flags}{FUNCTION}{tail}\n")?;
+    let job = read_job(alloc, text.as_bytes())?;
+    let code = assemble(alloc, job.lines.as_slice(), job.flags, &job.frame, &[])?;
+    let mut machine = PLACING.linked(alloc, job.flags, &code)?;
+    for number in 1u8..32 {
+        machine.set_reg(number, before(number));
+    }
+    machine.set_reg(2, 0x80000000);
+    assert!(rt; arrives(&mut machine, CALLEE)?, "at {text}");
+    assert_changed(rt, &machine, &[(2, 0x80000010)], &text);
+    assert_eq!(rt;
+        doubleword(&machine, 0x7fffffc8),
+        0x0123456789abcdef,
+        "at {text}"
+    );
+    Ok(())
+}
+
+#[test]
+fn functions_give_their_place_away(rt: HostRuntime) -> Result<(), Fail> {
+    for flags in FLAGS {
+        assert_given_away(&rt, rt.alloc(), flags, "ReturnCall userextname0 a0:a0 0")?;
+        assert_given_away(&rt, rt.alloc(), flags, "ReturnCallInd t0 a0:a0 0")?;
+    }
+    Ok(())
+}
