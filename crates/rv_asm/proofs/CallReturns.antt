@@ -60,24 +60,6 @@ returns_within context (Bind label) old new span p = tt
 
 -- ---- what an instruction tells
 
-abbrev offset_told : Option Return → Option ℕ
-offset_told told = option_map (λ (r : Return). r.offset) told
-
-abbrev returned_to : ℕ → ℕ → List CallReturn
-returned_to i at = record { index = i; offset = at } ∷ []
-
-pub some_return : (i start offset : ℕ) (told : Option Return) → Some offset ≡ offset_told told → return_from i start told ≡ returned_to i (start + offset)
-some_return i start offset None e = absurd (cc)
-some_return i start offset (Some r) e = ap (λ n. returned_to i (start + n)) (sym (same_Some offset r.offset e))
-
-pub no_return : (i start : ℕ) (told : Option Return) → None ≡ offset_told told → return_from i start told ≡ []
-no_return i start None e = refl
-no_return i start (Some r) e = absurd (cc)
-
--- and that fits
-pub return_fits : (flags : IsaFlags) (inst : Inst) (span : LineSpan) (offset : ℕ) → ReturnsWithin flags (Put inst) span → Some offset ≡ offset_told (return_of flags inst) → span.start + offset ≤ span.end
-return_fits flags inst span offset within e = (subst (AllByRecursion (λ (r : CallReturn). r.offset ≤ span.end)) (some_return span.index span.start offset (return_of flags inst) e) within).0
-
 -- ---- the first return with an index
 
 chosen : (c : Bool) (n m : ℕ) → c ≡ true → (if c then n else m) ≡ n

@@ -29,17 +29,6 @@ ended_told c outcome answer due (inl (is, appended)) = subst (λ (o : Outcome). 
 ended_told c outcome answer due (inr (inl (is, rose, front))) = subst (λ (o : Outcome). Ended c o) (sym is) (rose, (outcome, due, front))
 ended_told c outcome answer due (inr (inr (is, front))) = subst (λ (o : Outcome). Ended c o) (sym is) (inr (outcome, due, front))
 
--- an outcome that an input means is due where the input was read
-pub due_read : (c : Call) (outcome : Outcome) → Asked c → Read c outcome → Due c outcome
-due_read c ends.Usage asked read = absurd read.3
-due_read c ends.TooLong asked read = absurd read.3
-due_read c (ends.Syntax line) asked read = (asked, read)
-due_read c (ends.Refused error) asked read = (asked, read)
-due_read c (ends.Done code) asked read = (asked, read)
-due_read c ends.ReadFault asked read = (asked, read)
-due_read c ends.WriteFault asked read = (asked, read)
-due_read c ends.OutOfMemory asked read = (asked, read)
-
 -- ---- refusals
 
 refused_job : (input : List ℕ) (error : EmitError) → IsRefused input error → (job : Job) × (reads input ≡ Ok job) × (refusal job ≡ Some error)
@@ -49,15 +38,6 @@ refused_job input (errors.Malformed index rule) is = is
 refused_job input (errors.LabelTwice label) is = is
 refused_job input (errors.UnboundLabel label) is = is
 refused_job input errors.TooLarge is = is
-
-pub means_refused : (input : List ℕ) (job : Job) (error : EmitError) (r : Result Outcome OutOfMemory) → reads input ≡ Ok job → Finds {X = Code} (refusal job) (Err error) → r ≡ outcome_of error
-    → (outcome : Outcome) → r ≡ Ok outcome → Means input outcome
-means_refused input job errors.OutOfMemory r read found is outcome ok = absurd (cc)
-means_refused input job errors.BadFrame r read found is outcome ok = let same : ends.Refused errors.BadFrame ≡ outcome = cc in subst (Means input) same (job, read, found)
-means_refused input job (errors.Malformed index rule) r read found is outcome ok = let same : ends.Refused (errors.Malformed index rule) ≡ outcome = cc in subst (Means input) same (job, read, found)
-means_refused input job (errors.LabelTwice label) r read found is outcome ok = let same : ends.Refused (errors.LabelTwice label) ≡ outcome = cc in subst (Means input) same (job, read, found)
-means_refused input job (errors.UnboundLabel label) r read found is outcome ok = let same : ends.Refused (errors.UnboundLabel label) ≡ outcome = cc in subst (Means input) same (job, read, found)
-means_refused input job errors.TooLarge r read found is outcome ok = let same : ends.Refused errors.TooLarge ≡ outcome = cc in subst (Means input) same (job, read, found)
 
 -- ---- without a fault
 

@@ -184,10 +184,6 @@ bound_by (Bind a ∷ lines) l e = from (nat_eq a.number l.number) refl e (λ h. 
     from true h g more = (zero, ap (λ (m : MachLabel). Some (Bind m)) (same_label a l h))
     from false h g more = let rest = more g in (suc rest.0, rest.1)
 
--- each label that a line names is bound by some line
-pub named_bound_by : (context : Context) (lines : List Line) → lines_refusal context lines ≡ None → (i : ℕ) (line : Line) → slice_get lines i ≡ Some line → (k : ℕ) (l : MachLabel) → slice_get (named_labels line) k ≡ Some l → BoundBy lines l
-named_bound_by context lines e i line h k l g = bound_by lines l (named_is_bound context lines e i line h k l g)
-
 -- ---- sizes
 
 -- the lines and the constants count for no more bytes than they may

@@ -130,14 +130,6 @@ few_ways context place start end inst = by (try_call_of inst)
     by None = on (targets_of inst)
     by (Some t) = of_uses (use_at (end - jump_size context.flags) t.continuation (jump_kind context.flags) ∷ []) 1 (omega arith)
 
-skip : (c : Bool) (rule : Rule) (rest : Option Rule) → cond c (Some rule) rest ≡ None → rest ≡ None
-skip true rule rest h = absurd (cc)
-skip false rule rest h = h
-
-last_test : (c : Bool) (rule : Rule) → cond c (Some rule) None ≡ None → c ≡ false
-last_test true rule h = absurd (cc)
-last_test false rule h = refl
-
 any_none : {X : Type 0} (f : X → Bool) (xs : List X) → list_any f xs ≡ false → Each (λ x. f x ≡ false) xs
 any_none f [] h = each_none _
 any_none f (x ∷ xs) h = let parts = or_parts (f x) (list_any f xs) h in each_more (λ y. f y ≡ false) x xs parts.0 (any_none f xs parts.1)

@@ -91,9 +91,6 @@ then_op {bound} slots d few s = record { plain = plain slots s.plain; short = le
 pub op_short : (d : Decoded) → HasSize d → IsShort 4 (Op d ∷ [])
 op_short d size = record { plain = tt; short = let few = size.few in omega arith }
 
-pub one_long : {flags : IsaFlags} (d : Decoded) → HasSize d → (old new : Buffer) → PutsAlone flags (Op d ∷ []) old new → length (bytes_of new) ≤ length (bytes_of old) + 4
-one_long {flags} d size old new p = longer (Op d ∷ []) old new (op_short d size) p
-
 lower_short : (flags : IsaFlags) (rd : ℕ) (lower : ℤ) → IsShort 4 (lower_slots flags rd lower)
 lower_short flags rd lower = on (low64 lower == 0)
   where

@@ -1,5 +1,5 @@
 -- What calls that return add to a buffer, and that their parts are blocks.
-use Rattle.std.proofs.Common.{◌≡◌, ℕ, ◌+◌, ◌-◌, ◌≤◌, Bool, true, false, List, [], ◌∷◌, ◌++◌, length, Option, Some, None, ℤ, pos, refl, ap, sym, ◌∙◌, subst, append_assoc, append-nil, arith, lit≤}
+use Rattle.std.proofs.Common.{◌≡◌, ℕ, ◌+◌, ◌-◌, ◌≤◌, Bool, true, false, List, [], ◌∷◌, ◌++◌, length, Option, Some, None, ℤ, pos, refl, ap, ◌∙◌, subst, append-nil, arith, lit≤}
 use Rattle.rv_base.specs.declared.call.CallInfo.{CallInfo}
 use Rattle.rv_base.specs.declared.call.TryCallInfo.{TryCallInfo}
 use Rattle.rv_base.specs.declared.call.UserStackMap.{UserStackMap}
@@ -18,12 +18,12 @@ use Rattle.rv_inst.specs.declared.targets.Targets.TheVariants.{Nowhere}
 use Rattle.rv_inst.specs.Context.{Context}
 use Rattle.rv_inst.specs.Forms.{short_jalr, jump_kind, jump_size}
 use Rattle.rv_inst.specs.LabelUse.{marks_of}
-use Rattle.rv_inst.specs.Records.{map_records, site_event, return_records, patch_records}
+use Rattle.rv_inst.specs.Records.{site_event, return_records, patch_records}
 use Rattle.rv_inst.specs.Sizes.{Words, stack_step_size, fall, call_size, try_size}
 use Rattle.rv_inst.specs.Uses.{use_at, uses_by}
 use Rattle.rv_inst.specs.declared.inst.Inst.TheVariants.{Call, CallInd}
-use Rattle.rv_emit.specs.InstParts.{stack_step_slots, return_notes, map_notes, after_call, patch_notes, try_slots, call_slots, call_ind_slots}
-use Rattle.rv_emit.specs.Slots.{Slot, Notes, IsBlock, size_of, call_event}
+use Rattle.rv_emit.specs.InstParts.{stack_step_slots, return_notes, after_call, patch_notes, try_slots, call_slots, call_ind_slots}
+use Rattle.rv_emit.specs.Slots.{Slot, IsBlock, size_of, call_event}
 use Rattle.rv_emit.proofs.MemorySlots.{AreTold, AreCounted, at_end, none, nothing, of_size, note_then, from_start}
 use Rattle.rv_emit.proofs.PlainSlots.{IsSummed}
 use Rattle.rv_emit.proofs.ShortOps.{jalr_sized, window_long}

@@ -1,5 +1,5 @@
 -- Chains of machine steps: none, one, one after the other, and turns of a loop.
-use Rattle.std.proofs.Common.{◌≡◌, ℕ, zero, suc, ◌+◌, ◌<◌, ◌≤◌, Some, arith, lit≤}
+use Rattle.std.proofs.Common.{◌≡◌, ℕ, ◌+◌, ◌≤◌, Some, arith, lit≤}
 use Rattle.rv_base.specs.declared.flags.IsaFlags.{IsaFlags}
 use Rattle.rv_machine.specs.State.{State}
 use Rattle.rv_machine.specs.Steps.{istep}
@@ -30,11 +30,3 @@ goes_first g h = goes_at_least (omega arith) (goes_both g h)
 -- any of the first, and the steps of the second
 pub goes_second : {flags : IsaFlags} {m n : ℕ} {s t u : State} → Goes flags m s t → Goes flags n t u → Goes flags n s u
 goes_second g h = goes_at_least (omega arith) (goes_both g h)
-
--- the turns of a loop, by what holds before each of them, and after the last
-pub goes_turns : (flags : IsaFlags) (Holds : ℕ → State → Type 0) (turns : ℕ) (s : State) → Holds 0 s → ((k : ℕ) (t : State) → k < turns → Holds k t → (u : State) × Goes flags 0 t u × Holds (suc k) u) → (t : State) × Goes flags 0 s t × Holds turns t
-goes_turns flags Holds zero s first turn = (s, goes_none flags s, first)
-goes_turns flags Holds (suc n) s first turn =
-    let before = goes_turns flags Holds n s first (λ k t lt. turn k t (omega arith)) in
-    let last = turn n before.0 (omega arith) before.2 in
-    (last.0, goes_first before.1 last.1, last.2)

@@ -7,9 +7,8 @@ use Rattle.rv_machine.specs.Decode.{decode}
 use Rattle.rv_machine.specs.Effects.{act}
 use Rattle.rv_machine.specs.Steps.{fetch}
 use Rattle.rv_inst.specs.SameValues.{Same}
-use Rattle.rv_inst.specs.declared.label_use.LabelUse.{LabelUse}
-use Rattle.rv_emit.specs.Slots.{Own, own_label, between}
-use Rattle.rv_emit.specs.Sites.{Site, HasOps, IsPlacedAt, CodeHas, ComesTo, LeadsOn, Reaches}
+use Rattle.rv_emit.specs.Slots.{between}
+use Rattle.rv_emit.specs.Sites.{Site, HasOps, IsPlacedAt, CodeHas, ComesTo, LeadsOn}
 use Rattle.rv_emit.specs.Chains.{Goes, IsAt}
 use Rattle.rv_emit.proofs.Steps.{istep_at}
 use Rattle.rv_emit.proofs.Chains.{goes_one}
@@ -52,10 +51,6 @@ pub aims_at : {site : Site} {offset size : ℕ} {s : State} (to : ℕ) → IsAt 
 aims_at {site} {offset} to h some =
     let whole = h.placed.bytes.room in let room = h.room in
     (λ i. wrap (h.pc i + low64 (between offset to))) ∙ lands site.base offset to (omega arith)
-
--- a use of an own label aims where that label is bound
-pub own_at : (site : Site) (allocated k to there : ℕ) (kind : LabelUse) → Reaches site allocated kind (Own k) to → site.place (own_label allocated k).number ≡ Some there → to ≡ there
-own_at site allocated k to there kind reaches bound = cc
 
 -- ---- what leads on
 

@@ -124,10 +124,6 @@ slot_fields_end flags allocated (CallTo name ops) s t (code, is, e) ends =
     let a : length code ≡ 8 = is.long in
     subst FieldsEnd (sym e) (one_ends s.records (record { offset = here; event = call_event name }) here (length (s.bytes ++ code)) (omega arith) (omega arith) ends)
 
-pub puts_fields_end : (flags : IsaFlags) (allocated : ℕ) (slots : List Slot) (s t : Shape LabelUse) → Puts flags allocated slots s t → FieldsEnd s → FieldsEnd t
-puts_fields_end flags allocated [] s t p ends = subst FieldsEnd (sym p) ends
-puts_fields_end flags allocated (slot ∷ slots) s t (mid, first, rest) ends = puts_fields_end flags allocated slots mid t rest (slot_fields_end flags allocated slot s mid first ends)
-
 -- what is filled stays apart from the windows of uses
 slot_clear : (flags : IsaFlags) (allocated : ℕ) (slot : Slot) (s t : Shape LabelUse) → PutsSlot flags allocated slot s t → AllEnd label_kinds s → FieldsStand s → (j : ℕ) (u : Use LabelUse) → slice_get t.uses j ≡ Some u → AllClear t.records u.offset (length (marks_of u.kind))
 slot_clear flags allocated (Op d) s t p ends f j u h = subst (λ rs. AllClear rs u.offset (length (marks_of u.kind))) (λ i. (sym p.3 i).records) (f.clear j u ((λ i. slice_get (sym p.3 i).uses j) ∙ h))

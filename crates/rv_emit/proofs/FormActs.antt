@@ -1,5 +1,5 @@
 -- What operations do in the form in which they stand: what those of 32 bits do, with the counter moved by the form's length.
-use Rattle.std.proofs.Common.{◌≡◌, ℕ, ◌+◌, ◌*◌, ◌/◌, ◌%◌, ◌^◌, ◌<◌, ◌≤◌, ◌⊎◌, inl, inr, ℤ, pos, negsuc, Bool, true, false, not, Option, Some, None, arith, refl, sym, ap, subst, ◌∙◌, eqb-true}
+use Rattle.std.proofs.Common.{◌≡◌, ℕ, ◌+◌, ◌*◌, ◌/◌, ◌^◌, ◌<◌, ◌⊎◌, inl, inr, ℤ, pos, negsuc, Bool, true, false, not, Option, Some, None, arith, refl, sym, ap, subst, ◌∙◌, eqb-true}
 use Rattle.std.specs.Prelude.{◌==◌, ◌&&◌, ◌||◌, if◌then◌else◌, IfSome, bit_or}
 use Rattle.std.specs.Int.Bits.{or_zero_r}
 use Rattle.std.proofs.lemmas.Bool.{and_parts}
@@ -42,24 +42,10 @@ use Rattle.rv_emit.proofs.OperationActs.{rrr_acts, rrr_len, rri_acts}
 abbrev pub IsLength : ℕ → Type 0
 IsLength len = (len ≡ 2) ⊎ (len ≡ 4)
 
-pub even_length : (len : ℕ) → IsLength len → len % 2 ≡ 0
-even_length len (inl e) = omega arith
-even_length len (inr e) = omega arith
-
-pub small_length : (len : ℕ) → IsLength len → len ≤ 4
-small_length len (inl e) = omega arith
-small_length len (inr e) = omega arith
-
 -- an operation does what is told of a state and the address after it
 pub record Does (work : State → ℕ → State) (d : Decoded) : Type 0 where
   pub long : IsLength d.len
   pub acts : (s : State) → AreValues s.values → act d s ≡ Some (work s (wrap (s.pc + d.len)))
-
-pub even_of : {work : State → ℕ → State} {d : Decoded} → Does work d → d.len % 2 ≡ 0
-even_of {work} {d} does = even_length d.len does.long
-
-pub small_of : {work : State → ℕ → State} {d : Decoded} → Does work d → d.len ≤ 4
-small_of {work} {d} does = small_length d.len does.long
 
 -- of a form under its guard
 guarded : (P : Decoded → Type 0) (guard : Bool) (form : Decoded) → (guard ≡ true → P form) → IfSome (form_where guard form) P

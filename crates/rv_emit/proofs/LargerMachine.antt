@@ -1,11 +1,21 @@
 -- Chains of a larger machine; each chain of the integer machine is one of it, of the same number of steps.
-use Rattle.std.proofs.Common.{◌≡◌, ℕ, zero, suc, ◌+◌, arith, lit≤, Option, Some, None, sym, ap, ◌∙◌, refl}
+use Rattle.std.proofs.Common.{◌≡◌, ℕ, zero, suc, ◌+◌, arith, lit≤, false, length, Option, Some, None, sym, ap, ◌∙◌, refl}
 use Rattle.std.specs.Option.{option_and_then}
 use Rattle.rv_base.specs.declared.flags.IsaFlags.{IsaFlags}
-use Rattle.rv_machine.specs.State.{State}
+use Rattle.rv_machine.specs.State.{State, Values}
 use Rattle.rv_machine.specs.Steps.{iter, then_step, istep}
+use Rattle.rv_inst.specs.declared.inst.Inst.{Inst}
+use Rattle.rv_inst.specs.Frames.{is_bad_frame_for}
+use Rattle.rv_inst.specs.Meaning.{AreOutside, inst_effect, inst_exit, inst_temporaries, inst_writes}
+use Rattle.rv_inst.specs.Operands.{tail_call_of}
+use Rattle.rv_inst.specs.Rules.{inst_rule}
+use Rattle.rv_emit.specs.declared.state.EmitVState.{EmitVState}
 use Rattle.rv_emit.specs.Chains.{Goes}
+use Rattle.rv_emit.specs.InstParts.{parts_of}
+use Rattle.rv_emit.specs.InstRuns.{Enters, ComesOut, environment, least_steps}
 use Rattle.rv_emit.specs.LargerMachine.{LargerMachine, GoesOver, repeat}
+use Rattle.rv_emit.specs.Sites.{Site}
+use Rattle.rv_emit.proofs.InstRuns.{inst_runs}
 
 -- ---- its own chains
 
@@ -44,3 +54,19 @@ larger_runs flags m (suc n) t b ran = after (iter flags n (m.view b)) ran (λ r 
 
 pub larger_goes : {B : Type 0} {flags : IsaFlags} {n : ℕ} {s t : State} (m : LargerMachine flags B) (b : B) → m.view b ≡ s → Goes flags n s t → GoesOver m.step n b (m.put t b)
 larger_goes {B} {flags} {n} {s} {t} m b here g = record { steps = g.steps; moved = g.moved; ran = larger_runs flags m g.steps t b (ap (iter flags g.steps) here ∙ g.ran) }
+
+-- ---- instructions
+
+-- what an instruction's parts come to on the integer machine, a larger one comes to, and keeps the rest of its state
+pub record ComesOver {B : Type 0} (site : Site) (m : LargerMachine site.context.flags B) (start after : ℕ) (inst : Inst) (v : Values) (b : B) : Type 0 where
+  pub out : ComesOut site start after (inst_exit (environment site start after) inst v) (inst_temporaries inst) (inst_effect (environment site start after) inst v) (m.view b)
+  pub goes : GoesOver m.step (least_steps (inst_exit (environment site start after) inst v)) b (m.put out.state b)
+
+-- and so does every instruction that breaks no rule
+pub larger_comes : {B : Type 0} (site : Site) (m : LargerMachine site.context.flags B) (setting : EmitVState) (inst : Inst) → inst_rule site.context inst ≡ None → is_bad_frame_for site.context.frame (tail_call_of inst) ≡ false → (start after : ℕ) (b : B) (v : Values) → Enters site start after (parts_of site.context setting inst) (m.view b) v → AreOutside site.base (length site.bytes) (inst_writes (environment site start after) inst v) → ComesOver site m start after inst v b
+larger_comes site m setting inst rule restores start after b v e clear =
+    let out = (inst_runs site setting inst rule restores).run start after (m.view b) v e clear in
+    record {
+      out = out;
+      goes = larger_goes m b refl (record { steps = out.steps; moved = out.moved; ran = out.ran });
+    }

@@ -88,8 +88,8 @@ mod NumberRuns
 mod NumberSlots
 mod NumbersPut
 mod OffsetSizes
-pub mod TailAppends
-pub mod TailRules
-pub mod TailSlots
-pub mod TailsPut
-pub mod CallSlots
+mod TailAppends
+mod TailRules
+mod TailSlots
+mod TailsPut
+mod CallSlots

@@ -1,9 +1,19 @@
 -- The smallest larger machine: one more register, which no integer operation reads or writes.
-use Rattle.std.proofs.Common.{ℕ, ◌+◌, Option, Some, None, refl, ap}
+use Rattle.std.proofs.Common.{◌≡◌, ℕ, ◌+◌, false, length, Option, Some, None, refl, ap}
 use Rattle.rv_base.specs.declared.flags.IsaFlags.{IsaFlags}
-use Rattle.rv_machine.specs.State.{State, reg, wrap, at}
+use Rattle.rv_machine.specs.State.{State, Values, reg, wrap, at}
 use Rattle.rv_machine.specs.Steps.{istep}
+use Rattle.rv_inst.specs.declared.inst.Inst.{Inst}
+use Rattle.rv_inst.specs.Frames.{is_bad_frame_for}
+use Rattle.rv_inst.specs.Meaning.{AreOutside, inst_writes}
+use Rattle.rv_inst.specs.Operands.{tail_call_of}
+use Rattle.rv_inst.specs.Rules.{inst_rule}
+use Rattle.rv_emit.specs.declared.state.EmitVState.{EmitVState}
+use Rattle.rv_emit.specs.InstParts.{parts_of}
+use Rattle.rv_emit.specs.InstRuns.{Enters, environment}
 use Rattle.rv_emit.specs.LargerMachine.{LargerMachine}
+use Rattle.rv_emit.specs.Sites.{Site}
+use Rattle.rv_emit.proofs.LargerMachine.{ComesOver, larger_comes}
 
 pub record WithOneMore : Type 0 where
   pub state : State
@@ -27,3 +37,8 @@ one_more_register flags = record {
   put_put = λ s t b. refl;
   acts = λ b t e. ap (λ o. step_by o b) e;
 }
+
+-- every instruction that breaks no rule runs on it as on the integer machine, and leaves the further register as it was
+pub more_kept : (site : Site) (setting : EmitVState) (inst : Inst) → inst_rule site.context inst ≡ None → is_bad_frame_for site.context.frame (tail_call_of inst) ≡ false → (start after : ℕ) (b : WithOneMore) (v : Values) → Enters site start after (parts_of site.context setting inst) b.state v → AreOutside site.base (length site.bytes) (inst_writes (environment site start after) inst v) → ComesOver site (one_more_register site.context.flags) start after inst v b
+unfolding one_more_register
+more_kept site setting inst rule restores start after b v e clear = larger_comes site (one_more_register site.context.flags) setting inst rule restores start after b v e clear

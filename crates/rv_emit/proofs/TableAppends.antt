@@ -1,6 +1,6 @@
 -- What a branch by a table adds to a buffer: an island where one is needed, and then its words, whose uses reach everywhere.
 use Rattle.std.proofs.Common.{◌≡◌, ℕ, suc, ◌+◌, ◌^◌, ◌≤◌, Bool, true, false, List, [], ◌∷◌, ◌++◌, map, length, Some, None, refl, ap, sym, ◌∙◌, subst, append-nil, arith}
-use Rattle.std.specs.Prelude.{slice_get, is_some, ◌==◌, ◌&&◌, if◌then◌else◌, ℤ, pos}
+use Rattle.std.specs.Prelude.{slice_get, ◌==◌, ◌&&◌, if◌then◌else◌, ℤ, pos}
 use Rattle.std.specs.Int.{to_le_bytes, w64}
 use Rattle.rv_base.specs.declared.constant.VCodeConstant.{VCodeConstant}
 use Rattle.rv_base.specs.declared.flags.IsaFlags.{IsaFlags}
@@ -16,18 +16,18 @@ use Rattle.rv_inst.specs.Context.{Context}
 use Rattle.rv_inst.specs.Rules.{inst_rule}
 use Rattle.rv_inst.specs.Forms.{short_lui, short_rri}
 use Rattle.rv_inst.specs.declared.inst.Inst.{Inst}
-use Rattle.rv_inst.specs.declared.inst.Inst.TheVariants.{EmitIsland, BrTable}
+use Rattle.rv_inst.specs.declared.inst.Inst.TheVariants.{BrTable}
 use Rattle.rv_inst.specs.declared.label_use.LabelUse.{LabelUse}
 use Rattle.rv_inst.specs.declared.label_use.LabelUse.TheVariants.{PCRel32}
 use Rattle.rv_inst.specs.LabelUse.{marks_of}
-use Rattle.rv_inst.specs.Sizes.{table_space, table_size, island_space}
+use Rattle.rv_inst.specs.Sizes.{table_space, table_size}
 use Rattle.rv_inst.specs.Uses.{use_at}
 use Rattle.mach_buffer.specs.Shape.{Shape}
 use Rattle.mach_buffer.specs.Reach.{CanReach}
 use Rattle.mach_buffer.specs.Buffer.{shape_of, bytes_of, allocated_of, named_of}
 use Rattle.rv_emit.specs.declared.state.EmitVState.{EmitVState}
 use Rattle.rv_emit.specs.Emission.{PutsSlots, EmitsIn}
-use Rattle.rv_emit.specs.Emitted.{Buffer, pending, IsFarUse, AppendsInst, IslandIfNeeded, CanEmit}
+use Rattle.rv_emit.specs.Emitted.{Buffer, pending, IsFarUse, AppendsInst, IslandIfNeeded}
 use Rattle.rv_emit.specs.Immediates.{upper_of, lower_of}
 use Rattle.rv_emit.specs.InstParts.{inline_slots, number_slots, table_slots, parts_of}
 use Rattle.rv_emit.specs.Slots.{Target, Label, Own, Ask, Slots, Slot, Op, Aim, Data, Notes, Names, Allocate, Here, Fill, Address, CallTo, size_of, parts_size, uses_of, records_of, names_of}
@@ -36,7 +36,7 @@ use Rattle.rv_emit.specs.Tables.{far_jump, jump_slots}
 use Rattle.rv_emit.proofs.FineOperands.{fine}
 use Rattle.rv_emit.proofs.PlainSlots.{IsPlain, Adds, plain_adds}
 use Rattle.rv_emit.proofs.PutsLast.{puts_last, puts_bytes, puts_named, puts_constants}
-use Rattle.rv_emit.proofs.ReachKept.{Each, each_none, each_more, bytes_put, pending_adds, calm_after, reach_calm, reach_after_island, reach_within}
+use Rattle.rv_emit.proofs.ReachKept.{Each, each_none, each_more, bytes_put, pending_adds, calm_after, reach_within}
 use Rattle.rv_emit.proofs.TableSlots.{table_long, table_short}
 
 -- ---- slots whose uses reach everywhere

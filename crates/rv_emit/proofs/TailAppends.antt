@@ -1,6 +1,6 @@
 -- What tail calls add to a buffer, and that Reach holds after each instruction that asks for an island.
-use Rattle.std.proofs.Common.{◌≡◌, ℕ, ◌+◌, ◌-◌, ◌≤◌, Bool, true, List, [], ◌∷◌, pos, refl, ap, sym, ◌∙◌, subst, append-nil, arith}
-use Rattle.std.specs.Prelude.{◌^◌, length, is_some}
+use Rattle.std.proofs.Common.{◌≡◌, ℕ, ◌+◌, ◌-◌, ◌≤◌, true, List, [], ◌∷◌, pos, ap, sym, ◌∙◌, subst, append-nil, arith}
+use Rattle.std.specs.Prelude.{length, is_some}
 use Rattle.rv_base.specs.declared.call.ReturnCallInfo.{ReturnCallInfo}
 use Rattle.rv_base.specs.declared.external_name.ExternalName.{ExternalName}
 use Rattle.rv_base.specs.declared.regs.Reg.{Reg}
@@ -13,9 +13,9 @@ use Rattle.mach_buffer.specs.Reach.{CanReach}
 use Rattle.mach_buffer.specs.Buffer.{bytes_of}
 use Rattle.rv_emit.specs.declared.state.EmitVState.{EmitVState}
 use Rattle.rv_emit.specs.Emission.{PutsParts, EmitsIn}
-use Rattle.rv_emit.specs.Emitted.{Buffer, pending, AppendsInst, CanEmit}
+use Rattle.rv_emit.specs.Emitted.{Buffer, pending, CanEmit}
 use Rattle.rv_emit.specs.InstParts.{tail_slots, t0_slots, parts_of}
-use Rattle.rv_emit.specs.Slots.{Slot, Ask, Slots, parts_size, size_of}
+use Rattle.rv_emit.specs.Slots.{Slot, Ask, Slots, parts_size}
 use Rattle.rv_emit.proofs.FineOperands.{fine}
 use Rattle.rv_emit.proofs.PlainSlots.{IsAdded, added}
 use Rattle.rv_emit.proofs.ReachKept.{bytes_put, pending_adds, calm_after, reach_calm, reach_after_island, reach_within}

@@ -24,7 +24,7 @@ use Rattle.rv_inst.specs.Forms.{short_rrr, short_rri, short_jalr, short_load}
 use Rattle.rv_inst.specs.Returns.{StackLoad, saves_from, setup_loads, restores, frame_above}
 use Rattle.rv_inst.specs.Sizes.{number_size, stack_loads_size, stack_step_size, return_size}
 use Rattle.rv_emit.specs.InstParts.{offset_slots, number_slots, load_slots, stack_load_slots, stack_step_slots, return_slots, call_to, tail_slots, t0_slots}
-use Rattle.rv_emit.specs.Slots.{Slot, Op, Notes, IsBlock, size_of, call_event}
+use Rattle.rv_emit.specs.Slots.{Slot, Op, Notes, IsBlock, call_event}
 use Rattle.rv_emit.proofs.MemorySlots.{AreTold, AreCounted, at_end, none, nothing, of_size, op_then, sum_then}
 use Rattle.rv_emit.proofs.NumberSlots.{number_then, number_few}
 use Rattle.rv_emit.proofs.OffsetSizes.{far_short}

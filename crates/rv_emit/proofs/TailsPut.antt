@@ -1,8 +1,8 @@
 -- What a tail call puts: loads of what a frame saved, a step of the stack pointer, and a jump.
-use Rattle.std.proofs.Common.{FitsSigned, ◌≡◌, inl, ℕ, zero, suc, ◌+◌, ◌-◌, ◌*◌, ◌^◌, ◌<◌, ◌≤◌, Bool, true, false, List, [], ◌∷◌, ◌++◌, take, length, Option, Some, None, ℤ, pos, negsuc, ◌≤ℤ◌, refl, ap, sym, subst, ◌∙◌, append_assoc, append-nil, ⊎_elim, arith}
+use Rattle.std.proofs.Common.{FitsSigned, ◌≡◌, ℕ, zero, suc, ◌+◌, ◌*◌, ◌<◌, ◌≤◌, Bool, true, false, List, [], ◌∷◌, ◌++◌, take, length, Option, Some, None, ℤ, pos, refl, ap, sym, subst, ◌∙◌, append_assoc, append-nil, ⊎_elim, arith}
 use Rattle.std.specs.Prelude.{◌≢◌, get_or, slice_index_or, ◌==◌, ◌-ℤ◌, if◌then◌else◌}
 use Rattle.std.proofs.lemmas.Int.{ints, to_z-of_z}
-use Rattle.std.proofs.lemmas.List.{length-append, length-take, take_all, take_more}
+use Rattle.std.proofs.lemmas.List.{length-take, take_all, take_more}
 use Rattle.std.proofs.lemmas.Bool.Decides.{nat_tests}
 use Rattle.std.specs.Int.{cast_signed, w64}
 use Rattle.rv_base.specs.declared.call.CallInfo.{CallInfo}
@@ -44,7 +44,7 @@ use Rattle.rv_emit.proofs.SlotsPut.{none_put}
 use Rattle.rv_emit.proofs.NumberSlots.{number_few}
 use Rattle.rv_emit.proofs.TableSlots.{even_plain, number_even, number_long}
 use Rattle.rv_emit.proofs.CallSlots.{steps_counted}
-use Rattle.rv_emit.proofs.TailSlots.{loads_then, step_then, loads_most, saves_long, setup_few, returns_counted, return_most}
+use Rattle.rv_emit.proofs.TailSlots.{loads_then, loads_most, saves_long, setup_few, returns_counted}
 
 -- ---- loads
 

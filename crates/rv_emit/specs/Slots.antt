@@ -82,20 +82,6 @@ abbrev pub label_of : ℕ → Target → MachLabel
 label_of allocated (Label label) = label
 label_of allocated (Own k) = own_label allocated k
 
--- how many labels slots allocate
-abbrev pub allocations : List Slot → ℕ
-allocations [] = 0
-allocations (Op d ∷ slots) = allocations slots
-allocations (Aim kind target ops ∷ slots) = allocations slots
-allocations (Data bytes ∷ slots) = allocations slots
-allocations (Notes event ∷ slots) = allocations slots
-allocations (Names k ∷ slots) = allocations slots
-allocations (Allocate ∷ slots) = 1 + allocations slots
-allocations (Here k ∷ slots) = allocations slots
-allocations (Fill symbol upper lower ∷ slots) = allocations slots
-allocations (Address name addend ∷ slots) = allocations slots
-allocations (CallTo name ops ∷ slots) = allocations slots
-
 -- the uses of slots that begin at an offset
 abbrev pub uses_of : ℕ → ℕ → List Slot → List (Use LabelUse)
 uses_of allocated at [] = []

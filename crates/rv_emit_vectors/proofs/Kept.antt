@@ -23,18 +23,10 @@ use Rattle.mach_buffer.specs.VeneerConditions.{AddsOwn}
 use Rattle.rv_emit_vectors.specs.Kept.{IsMet, IsKept}
 use Rattle.mach_buffer.proofs.Laws.{append_none, windows_bytes, OwnWindows, windows_block, windows_none, aligned_near, length_padded, Was, recorded_at, append_each, own_idle, due_fewer, deadlines_append, reaches_from_slack, veneers_reach, reach_from_slack, slack_less, slack_none, slack_same, slack_use, placed_same, IslandRest, island_rest, island_reserve, lasts_island, lasts_more, lasts_bytes, lasts_use, lasts_allocated, lasts_record, lasts_named, lasts_label, stands_last, ends_within}
 
-map_append_core : {L : Type 0} (uses : List (Use L)) (u : Use L) → recorded (uses ++ u ∷ []) ≡ recorded uses ++ recorded (u ∷ [])
-map_append_core [] u = refl
-map_append_core (w ∷ uses) u = ap (λ us. core w ∷ us) (map_append_core uses u)
-
 take_short : (n : ℕ) (xs : List ℕ) → length (take n xs) ≤ n
 take_short zero xs = omega arith
 take_short (suc n) [] = omega arith
 take_short (suc n) (x ∷ xs) = let le = take_short n xs in omega arith
-
-none_bound : (o : Option ℕ) → o ≡ None → is_some o ≡ true → ⊥
-none_bound None e s = true≢false (sym s)
-none_bound (Some at) e s = absurd (cc)
 
 pub same_pending : {L : Type 0} (kinds : Kinds L) (b new : MachBuffer L) → uses_of new ≡ uses_of b → place_of new ≡ place_of b → pending_of kinds new ≡ pending_of kinds b
 same_pending kinds b new eu ep = ap (λ us. deadlines (is_pending kinds (place_of new)) kinds us) eu ∙ ap (λ p. deadlines (is_pending kinds p) kinds (uses_of b)) ep

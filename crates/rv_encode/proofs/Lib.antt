@@ -3,4 +3,3 @@ pub mod Numbers
 pub mod Tables
 pub mod Halfwords
 pub mod HalfwordsOfMemory
-pub mod Lengths

@@ -12,7 +12,7 @@ ghost use Rattle.rv_inst.specs.Families.{family_of};
 
 use crate::inst::{Family, Inst};
 use crate::registers::{
-    RegisterTest, control_has, is_other_class, loop_has, memory_has, plain_has, symbol_has,
+    RegisterTest, control_has, is_other_class, loop_has, memory_has, integer_has, symbol_has,
 };
 use rv_base::{
     ArgPair as Arg, CallArgPair as Use, CallRetPair as Def, PReg, Reg, RegClass, RetLocation,
@@ -70,7 +70,7 @@ fn is_fifth(reg: Reg) -> bool
     }
 }
 
-fn marks_misplaced(inst: &Inst) -> bool
+fn pseudo_misplaced(inst: &Inst) -> bool
     ensures { family_of inst.now ≡ Pseudo → result ≡ is_misplaced inst.now }
 {
     match inst {
@@ -80,13 +80,13 @@ fn marks_misplaced(inst: &Inst) -> bool
     }
 }
 
-fn plain_misplaced(inst: &Inst) -> bool
+fn integer_misplaced(inst: &Inst) -> bool
     ensures { family_of inst.now ≡ Integer → result ≡ is_misplaced inst.now }
 {
     match inst {
         Inst::Mov { rd, rm, ty: _ } => differ_in_class(rd.reg, *rm),
         Inst::MovFromPReg { rd, rm } => is_other_class(rd.reg) || !is_stack_or_frame(*rm),
-        _ => plain_has(RegisterTest::OtherClass, inst),
+        _ => integer_has(RegisterTest::OtherClass, inst),
     }
 }
 
@@ -137,8 +137,8 @@ pub fn is_misplaced(inst: &Inst) -> bool
     ensures { result ≡ is_misplaced inst.now }
 {
     match inst.family() {
-        Family::Pseudo => marks_misplaced(inst),
-        Family::Integer => plain_misplaced(inst),
+        Family::Pseudo => pseudo_misplaced(inst),
+        Family::Integer => integer_misplaced(inst),
         Family::Memory => memory_has(RegisterTest::OtherClass, inst),
         Family::Control => control_has(RegisterTest::OtherClass, inst),
         Family::Loop => loop_has(RegisterTest::OtherClass, inst),

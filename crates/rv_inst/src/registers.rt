@@ -149,7 +149,7 @@ fn unwind_has(test: RegisterTest, inst: UnwindInst) -> bool
     }
 }
 
-fn marks_has(test: RegisterTest, inst: &Inst) -> bool
+fn pseudo_has(test: RegisterTest, inst: &Inst) -> bool
     ensures { family_of inst.now ≡ Pseudo → result ≡ list_any (test_of test) (inst_registers inst.now) }
 {
     match inst {
@@ -161,8 +161,8 @@ fn marks_has(test: RegisterTest, inst: &Inst) -> bool
     }
 }
 
-/// Returns whether the test holds of a register of a plain instruction.
-pub fn plain_has(test: RegisterTest, inst: &Inst) -> bool
+/// Returns whether the test holds of a register of an integer instruction.
+pub fn integer_has(test: RegisterTest, inst: &Inst) -> bool
     ensures { family_of inst.now ≡ Integer → result ≡ list_any (test_of test) (inst_registers inst.now) }
 {
     match inst {
@@ -371,8 +371,8 @@ pub fn has_register(test: RegisterTest, inst: &Inst) -> bool
     ensures { result ≡ list_any (test_of test) (inst_registers inst.now) }
 {
     match inst.family() {
-        Family::Pseudo => marks_has(test, inst),
-        Family::Integer => plain_has(test, inst),
+        Family::Pseudo => pseudo_has(test, inst),
+        Family::Integer => integer_has(test, inst),
         Family::Memory => memory_has(test, inst),
         Family::Control => control_has(test, inst),
         Family::Loop => loop_has(test, inst),

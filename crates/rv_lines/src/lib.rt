@@ -4,6 +4,8 @@
 #[cfg(test)]
 mod accesses;
 #[cfg(test)]
+mod bad_calls;
+#[cfg(test)]
 mod calls;
 #[cfg(test)]
 mod constants;

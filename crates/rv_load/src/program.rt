@@ -8,6 +8,7 @@ use rv_base::List;
 use rv_inst::LineSpan;
 use rv_listing::{LineError, hex_bytes};
 use std::alloc::Global;
+use thiserror::Error;
 
 /// Machine code, with where the lines of its listing stand in it, in bytes from its start.
 #[derive(Drop)]
@@ -17,12 +18,15 @@ pub struct Program {
 }
 
 /// Why a text gives no code.
-#[derive(Clone, Copy, Debug, PartialEq, Eq)]
+#[derive(Clone, Copy, Debug, PartialEq, Eq, Error)]
 pub enum ProgramError {
     /// The first line, counted from 1, that no report has there.
+    #[error("no report has line {line} there")]
     NotReport { line: usize },
     /// The text is not an even number of hexadecimal digits, with spaces and ends of lines anywhere.
+    #[error("not hexadecimal digits in pairs")]
     NotHex,
+    #[error("out of memory")]
     OutOfMemory,
 }
 

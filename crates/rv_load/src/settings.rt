@@ -13,6 +13,7 @@ use rv_listing::{
     LineError, first_part, hex_bytes, natural, next_part, register, starts, tail, two_parts,
 };
 use std::alloc::Global;
+use thiserror::Error;
 
 /// Where a run begins.
 #[derive(Clone, Copy, Debug, PartialEq, Eq)]
@@ -54,23 +55,33 @@ pub struct Settings {
 }
 
 /// A word that says nothing of a run. Data and registers are counted from 0.
-#[derive(Clone, Copy, Debug, PartialEq, Eq)]
+#[derive(Clone, Copy, Debug, PartialEq, Eq, Error)]
 pub enum BadWord {
+    #[error("the code's address")]
     Base,
+    #[error("the flags")]
     Flags,
+    #[error("the line to start from")]
     From,
+    #[error("the offset to start at")]
     At,
+    #[error("the number of steps")]
     Steps,
+    #[error("the data with number {index}")]
     Data { index: usize },
+    #[error("the register with number {index}")]
     Register { index: usize },
     /// A register that an earlier word sets.
+    #[error("the register with number {index}, which an earlier word sets")]
     Twice { index: usize },
 }
 
 /// Why words give no settings.
-#[derive(Clone, Copy, Debug, PartialEq, Eq)]
+#[derive(Clone, Copy, Debug, PartialEq, Eq, Error)]
 pub enum SettingsError {
+    #[error("a word says nothing of a run: {word}")]
     Bad { word: BadWord },
+    #[error("out of memory")]
     OutOfMemory,
 }
 

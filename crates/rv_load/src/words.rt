@@ -9,17 +9,29 @@ use clap::error::ErrorKind;
 use clap::{Arg, ArgAction, ArgMatches, Command, Error};
 use rv_base::{List, OutOfMemory};
 use std::alloc::Global;
+use std::fmt;
+use thiserror::Error as ThisError;
 
 /// Why the words give nothing, with the text that says so.
-#[derive(Drop)]
+#[derive(Drop, ThisError)]
 pub enum WordsError {
     /// They ask for help.
+    #[error("help is asked for")]
     Help { text: List<u8> },
     /// They ask for the version.
+    #[error("the version is asked for")]
     Version { text: List<u8> },
     /// They are none of this command.
+    #[error("no words of this command")]
     Wrong { text: List<u8> },
+    #[error("out of memory")]
     OutOfMemory,
+}
+
+impl fmt::Debug for WordsError {
+    fn fmt<W: fmt::Write>(&self, f: &mut fmt::Formatter<W>) -> fmt::Result {
+        write!(f, "{self}")
+    }
 }
 
 fn flag<'a>(alloc: Global, name: &'a str, help: &'a str) -> Arg<'a>

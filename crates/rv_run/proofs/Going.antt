@@ -39,14 +39,6 @@ going_more flags base len limit first k last next going goes step = record {
   on = below_more (On flags base len limit first) k going.on (here flags base len limit first k last going.steps goes);
 }
 
-pub going_ends : (flags : IsaFlags) (base len limit : ℕ) (first : State) (k : ℕ) (last : State) (ending : Ending) → Going flags base len limit first k last
-    → ending_of flags base len limit k last ≡ Some ending → Runs flags base len limit first k last ending
-going_ends flags base len limit first k last ending going ends = record {
-  steps = going.steps;
-  ends = ends;
-  on = λ j s below e. going.on j below s e;
-}
-
 pub record GoingMachine (flags : IsaFlags) (base len limit : ℕ) (first : State) (k : ℕ) (machine : Machine) : Type 0 where
   pub going : Going flags base len limit first k machine.state
   pub same : machine.flags ≡ flags

@@ -16,10 +16,6 @@ took_front a b c all done rest e appended kept =
     let front : take (length done) all ≡ done = ap (take (length done)) e ∙ take_at done rest (length done) refl in
     (length done, long, subst (Appends a c) (sym front) (Appends-kept a b c done appended kept))
 
-pub rose_since : (a b c : ℕ) → a ≤ b → Rose b c → Rose a c
-rose_since a b c le (inl lt) = inl (omega arith)
-rose_since a b c le (inr top) = inr top
-
 pub read_whole : (a b c : Option (List ℕ)) (text buf : List ℕ) → Consumes a b text → Consumes b c (take 0 buf) → IsAtEnd c → IfSome a (λ xs. text ≡ xs)
 read_whole a b c text buf before now ended = Consumes-whole a c (text ++ []) (λ xs. text ≡ xs) (Consumes-trans a b c text [] before now) ended (sym (append-nil text))
 

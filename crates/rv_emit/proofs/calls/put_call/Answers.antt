@@ -1,8 +1,7 @@
-use Rattle.std.proofs.Common.{◌≡◌, ◌+◌, ◌-◌, [], ◌∷◌, FitsSigned, rules, length, subst, arith}
+use Rattle.std.proofs.Common.{◌≡◌, ◌-◌, [], ◌∷◌, FitsSigned, rules, subst, arith}
 use Rattle.std.proofs.lemmas.Int.{to_z-of_z}
 use Rattle.std.specs.Int.{w64}
 use Rattle.rv_base.specs.Flags.{no_flags}
-use Rattle.mach_buffer.specs.Buffer.{bytes_of}
 use Rattle.rv_inst.specs.Sizes.{fall, call_size}
 use Rattle.rv_emit.specs.Emission.{PutsAlone}
 use Rattle.rv_emit.specs.InstParts.{call_to, return_notes, stack_step_slots, patch_notes}

@@ -1,9 +1,8 @@
-use Rattle.std.proofs.Common.{◌+◌, [], ◌∷◌, pos, FitsSigned, rules, length, subst, arith}
+use Rattle.std.proofs.Common.{[], ◌∷◌, pos, FitsSigned, rules, subst, arith}
 use Rattle.std.proofs.lemmas.Int.{to_z-of_z}
 use Rattle.std.specs.Int.{w64}
 use Rattle.rv_base.specs.Flags.{no_flags}
 use Rattle.rv_base.specs.Regs.{number_of}
-use Rattle.mach_buffer.specs.Buffer.{bytes_of}
 use Rattle.rv_inst.specs.Forms.{short_jalr}
 use Rattle.rv_inst.specs.Sizes.{fall}
 use Rattle.rv_emit.specs.Emission.{PutsAlone}

@@ -1,6 +1,4 @@
-use Rattle.std.proofs.Common.{Bool, true, false, ℕ, [], ◌∷◌, sym, subst}
-use Rattle.rv_base.specs.declared.flags.IsaFlags.{IsaFlags}
-use Rattle.mach_buffer.specs.declared.records.Event.TheVariants.{PatchableCallSite}
+use Rattle.std.proofs.Common.{sym, subst}
 use Rattle.rv_emit.specs.Emission.{PutsAlone}
 use Rattle.rv_emit.specs.InstParts.{patch_notes}
 use Rattle.rv_emit.proofs.SlotsPut.{none_put}

@@ -1,4 +1,4 @@
-use Rattle.std.proofs.Common.{[], sym, subst, ◌∙◌}
+use Rattle.std.proofs.Common.{sym, subst, ◌∙◌}
 use Rattle.mach_buffer.specs.Buffer.{shape_of}
 use Rattle.mach_buffer.specs.Shape.{with_record}
 use Rattle.mach_buffer.specs.declared.records.Event.TheVariants.{StackMap}

@@ -1,11 +1,10 @@
-use Rattle.std.proofs.Common.{FitsSigned, ◌*◌, ◌∙◌, ap, pos, length, rules, subst, arith}
+use Rattle.std.proofs.Common.{FitsSigned, ◌∙◌, ap, pos, rules, subst, arith}
 use Rattle.std.proofs.lemmas.Int.{to_z-of_z}
 use Rattle.std.specs.Int.{w64}
 use Rattle.std.specs.Prelude.{◌-ℤ◌}
 use Rattle.rv_base.specs.Frame.{sp_to_fp_of}
-use Rattle.rv_inst.specs.Returns.{saves_from}
 use Rattle.rv_emit.specs.Emission.{PutsAlone}
-use Rattle.rv_emit.specs.InstParts.{stack_load_slots, stack_step_slots}
+use Rattle.rv_emit.specs.InstParts.{stack_step_slots}
 use Rattle.rv_emit.proofs.TailsPut.{saves_there, saves_room, setup_room, return_put}
 use Rattle.rv_emit.proofs.stack.put_return.Goals as goal
 

@@ -1,4 +1,4 @@
-use Rattle.std.proofs.Common.{◌≡◌, ◌∙◌, ◌*◌, pos, ap, sym, subst, arith}
+use Rattle.std.proofs.Common.{pos, sym, subst, arith}
 use Rattle.std.specs.Prelude.{◌-ℤ◌}
 use Rattle.rv_base.specs.declared.regs.Reg.TheVariants.{Real}
 use Rattle.rv_encode.specs.Registers.{IsIntRegister}

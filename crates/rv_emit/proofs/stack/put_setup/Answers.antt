@@ -1,4 +1,4 @@
-use Rattle.std.proofs.Common.{◌+◌, pos, ap, ◌∙◌, arith}
+use Rattle.std.proofs.Common.{◌+◌, pos, ap, arith}
 use Rattle.rv_base.specs.Regs.{number_of}
 use Rattle.rv_emit.proofs.AddressesPut.{real_number}
 use Rattle.rv_emit.proofs.SlotsPut.{none_put}

@@ -1,7 +1,5 @@
-use Rattle.std.proofs.Common.{◌+◌, ◌*◌, ◌<◌, [], ◌∷◌, length, subst, arith}
+use Rattle.std.proofs.Common.{◌+◌, ◌*◌, [], ◌∷◌, length, subst, arith}
 use Rattle.rv_base.specs.Flags.{no_flags}
-use Rattle.rv_base.specs.LabelUse.{code_limit}
-use Rattle.mach_buffer.specs.Buffer.{bytes_of}
 use Rattle.mach_buffer.specs.declared.records.Event.TheVariants as event
 use Rattle.rv_emit.specs.Emitted.{IslandIfNeeded}
 use Rattle.rv_emit.specs.Slots.{Notes}
