@@ -12,7 +12,7 @@ ghost use Rattle.rv_inst.specs.Families.{family_of};
 
 use crate::inst::{Family, Inst};
 use crate::registers::{
-    RegisterTest, control_has, is_other_class, loop_has, memory_has, integer_has, symbol_has,
+    RegisterTest, control_has, integer_has, is_other_class, loop_has, memory_has, symbol_has,
 };
 use rv_base::{
     ArgPair as Arg, CallArgPair as Use, CallRetPair as Def, PReg, Reg, RegClass, RetLocation,
