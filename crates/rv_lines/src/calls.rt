@@ -195,13 +195,9 @@ const READINGS: [(&str, Fields); 19] = [
         Fields::ByName(
             0xffff_ffff,
             Call {
-                uses: NO_PAIRS,
-                defs: NO_RESULTS,
-                clobbers: NO_NUMBERS,
                 pop: 0xffff_ffff,
                 patchable: true,
-                map: None,
-                after: None,
+                ..NO_PARTS
             },
         ),
     ),
@@ -227,8 +223,7 @@ const READINGS: [(&str, Fields); 19] = [
                 },
                 pop: 16,
                 patchable: true,
-                map: None,
-                after: None,
+                ..NO_PARTS
             },
         ),
     ),
@@ -253,9 +248,7 @@ const READINGS: [(&str, Fields); 19] = [
                     vector: 0,
                 },
                 pop: 8,
-                patchable: false,
-                map: None,
-                after: None,
+                ..NO_PARTS
             },
         ),
     ),
@@ -264,7 +257,6 @@ const READINGS: [(&str, Fields); 19] = [
         Fields::ByName(
             1,
             Call {
-                uses: NO_PAIRS,
                 defs: Results {
                     count: 2,
                     first: Place::Stack(10, 0xffff_ffff, IrType::F128),
@@ -275,10 +267,7 @@ const READINGS: [(&str, Fields); 19] = [
                     float: 0x8000_0500,
                     vector: 0,
                 },
-                pop: 0,
-                patchable: false,
-                map: None,
-                after: None,
+                ..NO_PARTS
             },
         ),
     ),
@@ -287,7 +276,6 @@ const READINGS: [(&str, Fields); 19] = [
         Fields::ByName(
             1,
             Call {
-                uses: NO_PAIRS,
                 defs: Results {
                     count: 1,
                     first: Place::Stack(10, 16, IrType::I8),
@@ -298,10 +286,7 @@ const READINGS: [(&str, Fields); 19] = [
                     float: 0,
                     vector: 0x101,
                 },
-                pop: 0,
-                patchable: false,
-                map: None,
-                after: None,
+                ..NO_PARTS
             },
         ),
     ),
@@ -328,8 +313,7 @@ const READINGS: [(&str, Fields); 19] = [
                 },
                 pop: 0x8000_0000,
                 patchable: true,
-                map: None,
-                after: None,
+                ..NO_PARTS
             },
         ),
     ),
@@ -346,17 +330,12 @@ const READINGS: [(&str, Fields); 19] = [
         Fields::ByName(
             0,
             Call {
-                uses: NO_PAIRS,
-                defs: NO_RESULTS,
-                clobbers: NO_NUMBERS,
-                pop: 0,
-                patchable: false,
                 map: Some(Values {
                     count: 1,
                     first: Some((IrType::I64, 0)),
                     last: Some((IrType::I64, 0)),
                 }),
-                after: None,
+                ..NO_PARTS
             },
         ),
     ),
@@ -365,17 +344,12 @@ const READINGS: [(&str, Fields); 19] = [
         Fields::ByName(
             0,
             Call {
-                uses: NO_PAIRS,
-                defs: NO_RESULTS,
-                clobbers: NO_NUMBERS,
-                pop: 0,
-                patchable: false,
                 map: Some(Values {
                     count: 4,
                     first: Some((IrType::I8, 0xffff_ffff)),
                     last: Some((IrType::F64, 8)),
                 }),
-                after: None,
+                ..NO_PARTS
             },
         ),
     ),
@@ -384,18 +358,14 @@ const READINGS: [(&str, Fields); 19] = [
         Fields::ByName(
             0,
             Call {
-                uses: NO_PAIRS,
-                defs: NO_RESULTS,
-                clobbers: NO_NUMBERS,
-                pop: 0,
                 patchable: true,
-                map: None,
                 after: Some(After {
                     continuation: 0,
                     count: 0,
                     first: None,
                     last: None,
                 }),
+                ..NO_PARTS
             },
         ),
     ),
@@ -404,18 +374,13 @@ const READINGS: [(&str, Fields); 19] = [
         Fields::ByName(
             0,
             Call {
-                uses: NO_PAIRS,
-                defs: NO_RESULTS,
-                clobbers: NO_NUMBERS,
-                pop: 0,
-                patchable: false,
-                map: None,
                 after: Some(After {
                     continuation: 0xffff_ffff,
                     count: 3,
                     first: Some(TryCallHandler::Tag(0, MachLabel { number: 1 })),
                     last: Some(TryCallHandler::Default(MachLabel { number: 0 })),
                 }),
+                ..NO_PARTS
             },
         ),
     ),
@@ -424,11 +389,6 @@ const READINGS: [(&str, Fields); 19] = [
         Fields::ByName(
             0,
             Call {
-                uses: NO_PAIRS,
-                defs: NO_RESULTS,
-                clobbers: NO_NUMBERS,
-                pop: 0,
-                patchable: false,
                 map: Some(Values {
                     count: 2,
                     first: Some((IrType::F16, 8)),
@@ -445,6 +405,7 @@ const READINGS: [(&str, Fields); 19] = [
                         },
                     )),
                 }),
+                ..NO_PARTS
             },
         ),
     ),
@@ -453,9 +414,6 @@ const READINGS: [(&str, Fields); 19] = [
         Fields::ByRegister(
             10,
             Call {
-                uses: NO_PAIRS,
-                defs: NO_RESULTS,
-                clobbers: NO_NUMBERS,
                 pop: 16,
                 patchable: true,
                 map: Some(Values {
@@ -469,6 +427,7 @@ const READINGS: [(&str, Fields); 19] = [
                     first: Some(TryCallHandler::Tag(7, MachLabel { number: 3 })),
                     last: Some(TryCallHandler::Tag(7, MachLabel { number: 3 })),
                 }),
+                ..NO_PARTS
             },
         ),
     ),
