@@ -82,13 +82,17 @@ j_imm word = signed (2 ^ 20) (j_bits word)
 
 -- ---- operations with their registers and immediates
 
--- an operation of 32 bits; what it doesn't have is 0
-abbrev pub decoded : MOp → ℕ → ℕ → ℕ → ℤ → Decoded
-decoded op rd rs1 rs2 imm = record { op = op; rd = rd; rs1 = rs1; rs2 = rs2; rs3 = 0; imm = imm; rm = 0; vm = false; len = 4 }
+-- an operation, of an instruction of so many bytes; what it doesn't have is 0
+abbrev pub of_length : ℕ → MOp → ℕ → ℕ → ℕ → ℤ → Decoded
+of_length len op rd rs1 rs2 imm = record { op = op; rd = rd; rs1 = rs1; rs2 = rs2; rs3 = 0; imm = imm; rm = 0; vm = false; len = len }
 
--- the operation that an instruction of 16 bits expands to; what it doesn't have is 0
+-- an operation of 32 bits
+abbrev pub decoded : MOp → ℕ → ℕ → ℕ → ℤ → Decoded
+decoded op rd rs1 rs2 imm = of_length 4 op rd rs1 rs2 imm
+
+-- the operation that an instruction of 16 bits expands to
 abbrev pub compressed : MOp → ℕ → ℕ → ℕ → ℤ → Decoded
-compressed op rd rs1 rs2 imm = record { op = op; rd = rd; rs1 = rs1; rs2 = rs2; rs3 = 0; imm = imm; rm = 0; vm = false; len = 2 }
+compressed op rd rs1 rs2 imm = of_length 2 op rd rs1 rs2 imm
 
 -- all fields fixed
 abbrev pub bare_form : MOp → Decoded

@@ -17,17 +17,7 @@ pub fn compressed(op: MOp, rd: u8, rs1: u8, rs2: u8, imm: i64) -> Decoded
     ensures value { result ≡ compressed op rd rs1 rs2 imm }
     ensures registers { HasFileRegisters result }
 {
-    Decoded {
-        op,
-        rd,
-        rs1,
-        rs2,
-        rs3: 0,
-        imm,
-        rm: 0,
-        vm: false,
-        len: 2,
-    }
+    Decoded::new(op, rd, rs1, rs2, imm, 2)
 }
 
 /// Layout CR: a register and a source, to the register.

@@ -27,10 +27,32 @@ pub struct Decoded {
     pub imm: i64,
     /// The rounding mode.
     pub rm: u8,
-    /// Returns whether a vector operation has no mask.
+    /// Whether a vector operation has no mask.
     pub vm: bool,
     /// The word's length in bytes.
     pub len: u8,
+}
+
+impl Decoded {
+    ghost use Rattle.std.specs.Prelude.{◌≡◌};
+    ghost use Rattle.rv_machine.specs.Layout.{of_length};
+
+    /// An operation with its registers and its immediate, of an instruction of so many bytes.
+    pub fn new(op: MOp, rd: u8, rs1: u8, rs2: u8, imm: i64, len: u8) -> Decoded
+        ensures { result ≡ of_length len op rd rs1 rs2 imm }
+    {
+        Decoded {
+            op,
+            rd,
+            rs1,
+            rs2,
+            rs3: 0,
+            imm,
+            rm: 0,
+            vm: false,
+            len,
+        }
+    }
 }
 
 /// The operation of a word, where it has one under these flags. Where the two lowest bits aren't 11, it is that of the

@@ -1,8 +1,8 @@
 //! An operation with the registers and the immediate that its layout holds: "2.3 Immediate Encoding Variants". The
 //! layouts are drawn beside their definitions, in specs/Layout.antt.
 
-ghost use Rattle.std.specs.Prelude.{◌≡◌};
-ghost use Rattle.rv_machine.specs.Layout.{HasFileRegisters, i_imm, s_bits, s_imm, b_bits, b_imm, u_imm, j_bits, j_imm, bare_form, r_layout, i_layout, shift_layout, shift_32_layout, unary_layout, s_layout, b_layout, u_layout, j_layout, fence_layout};
+ghost use Rattle.std.specs.Prelude.{◌≡◌, ◌<◌};
+ghost use Rattle.rv_machine.specs.Layout.{HasFileRegisters, decoded, i_imm, s_bits, s_imm, b_bits, b_imm, u_imm, j_bits, j_imm, bare_form, r_layout, i_layout, shift_layout, shift_32_layout, unary_layout, s_layout, b_layout, u_layout, j_layout, fence_layout};
 
 use crate::decoding::Decoded;
 use crate::fields::{rd, rs1, rs2, sign_extend};
@@ -64,22 +64,23 @@ fn j_imm(word: u32) -> i64
     sign_extend(1 << 20, j_bits(word))
 }
 
+/// An operation with its registers and its immediate, of an instruction of four bytes.
+fn decoded(op: MOp, rd: u8, rs1: u8, rs2: u8, imm: i64) -> Decoded
+    requires rd { rd < 32 }
+    requires rs1 { rs1 < 32 }
+    requires rs2 { rs2 < 32 }
+    ensures value { result ≡ decoded op rd rs1 rs2 imm }
+    ensures registers { HasFileRegisters result }
+{
+    Decoded::new(op, rd, rs1, rs2, imm, 4)
+}
+
 /// An operation without registers and immediate.
 pub fn bare(op: MOp) -> Decoded
     ensures value { result ≡ bare_form op }
     ensures registers { HasFileRegisters result }
 {
-    Decoded {
-        op,
-        rd: 0,
-        rs1: 0,
-        rs2: 0,
-        rs3: 0,
-        imm: 0,
-        rm: 0,
-        vm: false,
-        len: 4,
-    }
+    decoded(op, 0, 0, 0, 0)
 }
 
 /// Layout R: two sources.
@@ -87,12 +88,7 @@ pub fn register(word: u32, op: MOp) -> Decoded
     ensures value { result ≡ r_layout word op }
     ensures registers { HasFileRegisters result }
 {
-    Decoded {
-        rd: rd(word),
-        rs1: rs1(word),
-        rs2: rs2(word),
-        ..bare(op)
-    }
+    decoded(op, rd(word), rs1(word), rs2(word), 0)
 }
 
 /// Layout I: a source and an immediate of twelve bits.
@@ -100,12 +96,7 @@ pub fn immediate(word: u32, op: MOp) -> Decoded
     ensures value { result ≡ i_layout word op }
     ensures registers { HasFileRegisters result }
 {
-    Decoded {
-        rd: rd(word),
-        rs1: rs1(word),
-        imm: i_imm(word),
-        ..bare(op)
-    }
+    decoded(op, rd(word), rs1(word), 0, i_imm(word))
 }
 
 /// Layout I with a shift amount of six bits.
@@ -113,12 +104,7 @@ pub fn shift(word: u32, op: MOp) -> Decoded
     ensures value { result ≡ shift_layout word op }
     ensures registers { HasFileRegisters result }
 {
-    Decoded {
-        rd: rd(word),
-        rs1: rs1(word),
-        imm: i64::from(word >> 20 & 0x3f),
-        ..bare(op)
-    }
+    decoded(op, rd(word), rs1(word), 0, i64::from(word >> 20 & 0x3f))
 }
 
 /// Layout I with a shift amount of five bits.
@@ -126,12 +112,7 @@ pub fn shift_32(word: u32, op: MOp) -> Decoded
     ensures value { result ≡ shift_32_layout word op }
     ensures registers { HasFileRegisters result }
 {
-    Decoded {
-        rd: rd(word),
-        rs1: rs1(word),
-        imm: i64::from(rs2(word)),
-        ..bare(op)
-    }
+    decoded(op, rd(word), rs1(word), 0, i64::from(rs2(word)))
 }
 
 /// Layout I of one source, and no immediate.
@@ -139,11 +120,7 @@ pub fn unary(word: u32, op: MOp) -> Decoded
     ensures value { result ≡ unary_layout word op }
     ensures registers { HasFileRegisters result }
 {
-    Decoded {
-        rd: rd(word),
-        rs1: rs1(word),
-        ..bare(op)
-    }
+    decoded(op, rd(word), rs1(word), 0, 0)
 }
 
 /// Layout S: two sources and an immediate of twelve bits.
@@ -151,12 +128,7 @@ pub fn store(word: u32, op: MOp) -> Decoded
     ensures value { result ≡ s_layout word op }
     ensures registers { HasFileRegisters result }
 {
-    Decoded {
-        rs1: rs1(word),
-        rs2: rs2(word),
-        imm: s_imm(word),
-        ..bare(op)
-    }
+    decoded(op, 0, rs1(word), rs2(word), s_imm(word))
 }
 
 /// Layout B: two sources and a distance in bytes.
@@ -164,12 +136,7 @@ pub fn branch(word: u32, op: MOp) -> Decoded
     ensures value { result ≡ b_layout word op }
     ensures registers { HasFileRegisters result }
 {
-    Decoded {
-        rs1: rs1(word),
-        rs2: rs2(word),
-        imm: b_imm(word),
-        ..bare(op)
-    }
+    decoded(op, 0, rs1(word), rs2(word), b_imm(word))
 }
 
 /// Layout U: an immediate of twenty bits.
@@ -177,11 +144,7 @@ pub fn upper(word: u32, op: MOp) -> Decoded
     ensures value { result ≡ u_layout word op }
     ensures registers { HasFileRegisters result }
 {
-    Decoded {
-        rd: rd(word),
-        imm: u_imm(word),
-        ..bare(op)
-    }
+    decoded(op, rd(word), 0, 0, u_imm(word))
 }
 
 /// Layout J: a distance in bytes.
@@ -189,11 +152,7 @@ pub fn jump(word: u32, op: MOp) -> Decoded
     ensures value { result ≡ j_layout word op }
     ensures registers { HasFileRegisters result }
 {
-    Decoded {
-        rd: rd(word),
-        imm: j_imm(word),
-        ..bare(op)
-    }
+    decoded(op, rd(word), 0, 0, j_imm(word))
 }
 
 /// `fence`, with its two sets of four bits.
@@ -201,8 +160,5 @@ pub fn fence(word: u32, op: MOp) -> Decoded
     ensures value { result ≡ fence_layout word op }
     ensures registers { HasFileRegisters result }
 {
-    Decoded {
-        imm: i64::from(word >> 20 & 0xff),
-        ..bare(op)
-    }
+    decoded(op, 0, 0, 0, i64::from(word >> 20 & 0xff))
 }
