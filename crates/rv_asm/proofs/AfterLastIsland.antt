@@ -110,9 +110,9 @@ after_ends context inst space mid last new made start end uses starts ends none 
     inl (lt-ltb (start + size) end (omega (arith, starts, ends, long, longer)), block [] (ends_island mid last put.1)))
     room.put
 
--- an instruction: it is an island, or its uses are added
+-- an instruction: its uses are added, to those before it where no island stands in it
 emitted_ends : (context : Context) (inst : Inst) (mid new : Buffer) (start end : ℕ) (uses : List (Use LabelUse)) → start ≡ length (bytes_of mid) → end ≡ length (bytes_of new) → Appends context inst mid new → EndsIn uses mid →
-    ((is_island context (Put inst) start end ≡ true) × EndsIn [] new) ⊎ ((is_island context (Put inst) start end ≡ false) × EndsIn (uses ++ uses_in context start end inst) new)
+    ((is_island context (Put inst) start end ≡ true) × EndsIn (uses_in context start end inst) new) ⊎ ((is_island context (Put inst) start end ≡ false) × EndsIn (uses ++ uses_in context start end inst) new)
 emitted_ends context (EmitIsland space) mid new start end uses starts ends e h = ⊎_elim
     (λ same.
     let level : start ≡ end = starts ∙ sym (ap (λ (b : Buffer). length (bytes_of b)) same.1) ∙ sym ends in

@@ -1,7 +1,7 @@
 -- What is said of lines by their spans stays as lines are added.
-use Rattle.std.proofs.Common.{◌≡◌, ℕ, zero, suc, ◌+◌, ◌-◌, ◌<◌, ◌≤◌, Bool, true, false, cond, not, ◌&&◌, List, [], ◌∷◌, ◌++◌, length, take, drop, Some, refl, ap, sym, ◌∙◌, arith, append_assoc}
+use Rattle.std.proofs.Common.{◌≡◌, ℕ, zero, suc, ◌+◌, ◌-◌, ◌<◌, ◌≤◌, Bool, true, false, cond, not, ◌&&◌, ◌||◌, List, [], ◌∷◌, ◌++◌, length, take, drop, Some, refl, ap, sym, ◌∙◌, arith, append_assoc}
 use Rattle.std.specs.Prelude.{nat_eq, nat_lt}
-use Rattle.std.proofs.lemmas.List.{length-append, length-drop, length-take-le, take-append-le, drop-append-le, drop_all, append-nil}
+use Rattle.std.proofs.lemmas.List.{length-append, length-drop, length-take-le, take-append-le, drop-append-le, append-nil}
 use Rattle.std.proofs.Math.Seq.{drop-append_seam}
 use Rattle.rv_inst.specs.Context.{Context}
 use Rattle.rv_inst.specs.declared.code.LineSpan.{LineSpan}
@@ -55,13 +55,13 @@ open_more context lines more spans more_spans (suc i) count le =
     ap (λ ls. is_island_at context ls (spans ++ more_spans) i) cut ∙ island_more context (drop i lines) more spans more_spans i (omega arith) (omega arith) in
     let b = behind_more spans more_spans i (omega arith) in
     let c = open_more context lines more spans more_spans i count (omega arith) in
-    λ j. cond (a j) (suc i) (cond (b j) i (c j))
+    λ j. cond (a j || b j) i (c j)
 
 pub open_low : (context : Context) (lines : List Line) (spans : List LineSpan) (i : ℕ) → first_after_island context lines spans i ≤ i
 open_low context lines spans zero = omega arith
 open_low context lines spans (suc i) = on (is_island_at context (drop i lines) spans i) (is_after_island spans i) (open_low context lines spans i)
   where
-    on : (a b : Bool) → first_after_island context lines spans i ≤ i → cond a (suc i) (cond b i (first_after_island context lines spans i)) ≤ suc i
+    on : (a b : Bool) → first_after_island context lines spans i ≤ i → cond (a || b) i (first_after_island context lines spans i) ≤ suc i
     on true b le = omega arith
     on false true le = omega arith
     on false false le = omega arith
@@ -74,12 +74,12 @@ last_low spans (suc i) = on (is_after_island spans i) (last_low spans i)
     on true le = omega arith
     on false le = omega arith
 
--- islands in lines only come later
+-- islands in lines come later
 pub last_open : (context : Context) (lines : List Line) (spans : List LineSpan) (i : ℕ) → last_island spans i ≤ first_after_island context lines spans i
 last_open context lines spans zero = omega arith
 last_open context lines spans (suc i) = on (is_island_at context (drop i lines) spans i) (is_after_island spans i) (last_open context lines spans i) (last_low spans i)
   where
-    on : (a b : Bool) → last_island spans i ≤ first_after_island context lines spans i → last_island spans i ≤ i → cond b i (last_island spans i) ≤ cond a (suc i) (cond b i (first_after_island context lines spans i))
+    on : (a b : Bool) → last_island spans i ≤ first_after_island context lines spans i → last_island spans i ≤ i → cond b i (last_island spans i) ≤ cond (a || b) i (first_after_island context lines spans i)
     on true true le low = omega arith
     on true false le low = omega arith
     on false true le low = omega arith
@@ -185,7 +185,7 @@ own_last context spans (Put inst) span = append-nil _ ∙ (λ j. uses_in context
 own_last context spans (Bind label) span = refl
 
 open_next : (context : Context) (lines : List Line) (spans : List LineSpan) (line : Line) (span : LineSpan) → length spans ≡ length lines →
-    first_after_island context (lines ++ line ∷ []) (spans ++ span ∷ []) (length (lines ++ line ∷ [])) ≡ cond (is_island context line span.start span.end) (suc (length lines)) (cond (nat_lt (end_before spans (length lines)) span.start) (length lines) (first_after_island context lines spans (length lines)))
+    first_after_island context (lines ++ line ∷ []) (spans ++ span ∷ []) (length (lines ++ line ∷ [])) ≡ cond (is_island context line span.start span.end || nat_lt (end_before spans (length lines)) span.start) (length lines) (first_after_island context lines spans (length lines))
 open_next context lines spans line span count =
     let all = lines ++ line ∷ [] in
     let all_spans = spans ++ span ∷ [] in
@@ -197,25 +197,23 @@ open_next context lines spans line span count =
     let first : end_before all_spans n ≡ end_before spans n = ends_more spans (span ∷ []) n (omega arith) in
     let rest : first_after_island context all all_spans n ≡ first_after_island context lines spans n = open_more context lines (line ∷ []) spans (span ∷ []) n count (omega arith) in
     let island : is_island_at context (drop n all) all_spans n ≡ is_island context line span.start span.end = ap (λ ls. is_island_at context ls all_spans n) cut ∙ (λ j. is_island context line (start j) (end j)) in
-    ap (first_after_island context all all_spans) long ∙ (λ j. cond (island j) (suc n) (cond (nat_lt (first j) (start j)) n (rest j)))
+    ap (first_after_island context all all_spans) long ∙ (λ j. cond (island j || nat_lt (first j) (start j)) n (rest j))
 
 module _ (context : Context) (lines : List Line) (spans : List LineSpan) (line : Line) (span : LineSpan) (count : length spans ≡ length lines) where
-  -- an island in the line: none
-  pub open_in_island : is_island context line span.start span.end ≡ true → uses_after_island context (lines ++ line ∷ []) (spans ++ span ∷ []) ≡ []
-  open_in_island e =
-      let all = lines ++ line ∷ [] in
-      let from : first_after_island context all (spans ++ span ∷ []) (length all) ≡ suc (length lines) = open_next context lines spans line span count ∙ ap (λ b. cond b (suc (length lines)) (cond (nat_lt (end_before spans (length lines)) span.start) (length lines) (first_after_island context lines spans (length lines)))) e in
-      let long : length all ≡ suc (length lines) = length-append lines (line ∷ []) ∙ omega arith in
-      open_at context all (spans ++ span ∷ []) (suc (length lines)) from ∙ ap (uses_from context (spans ++ span ∷ []) (suc (length lines))) (drop_all (suc (length lines)) all (omega arith))
-
-  -- an island before the line: its own
-  pub open_after : is_island context line span.start span.end ≡ false → nat_lt (end_before spans (length lines)) span.start ≡ true → uses_after_island context (lines ++ line ∷ []) (spans ++ span ∷ []) ≡ own_uses context line span.start span.end
-  open_after e f =
+  -- an island in the line or before it: its own
+  open_own : (is_island context line span.start span.end || nat_lt (end_before spans (length lines)) span.start) ≡ true → uses_after_island context (lines ++ line ∷ []) (spans ++ span ∷ []) ≡ own_uses context line span.start span.end
+  open_own e =
       let all = lines ++ line ∷ [] in
       let all_spans = spans ++ span ∷ [] in
       let n = length lines in
-      let from : first_after_island context all all_spans (length all) ≡ n = open_next context lines spans line span count ∙ (λ j. cond (e j) (suc n) (cond (f j) n (first_after_island context lines spans n))) in
+      let from : first_after_island context all all_spans (length all) ≡ n = open_next context lines spans line span count ∙ (λ j. cond (e j) n (first_after_island context lines spans n)) in
       open_at context all all_spans n from ∙ (λ j. uses_from context all_spans (sym count j) (drop-append_seam lines (line ∷ []) j)) ∙ own_last context spans line span
+
+  pub open_in_island : is_island context line span.start span.end ≡ true → uses_after_island context (lines ++ line ∷ []) (spans ++ span ∷ []) ≡ own_uses context line span.start span.end
+  open_in_island e = open_own (λ j. e j || nat_lt (end_before spans (length lines)) span.start)
+
+  pub open_after : is_island context line span.start span.end ≡ false → nat_lt (end_before spans (length lines)) span.start ≡ true → uses_after_island context (lines ++ line ∷ []) (spans ++ span ∷ []) ≡ own_uses context line span.start span.end
+  open_after e f = open_own (λ j. e j || f j)
 
   -- no island: its own are added
   pub open_on : is_island context line span.start span.end ≡ false → nat_lt (end_before spans (length lines)) span.start ≡ false → uses_after_island context (lines ++ line ∷ []) (spans ++ span ∷ []) ≡ uses_after_island context lines spans ++ own_uses context line span.start span.end
@@ -225,7 +223,7 @@ module _ (context : Context) (lines : List Line) (spans : List LineSpan) (line :
       let n = length lines in
       let k = first_after_island context lines spans n in
       let low : k ≤ n = open_low context lines spans n in
-      let from : first_after_island context all all_spans (length all) ≡ k = open_next context lines spans line span count ∙ (λ j. cond (e j) (suc n) (cond (f j) n k)) in
+      let from : first_after_island context all all_spans (length all) ≡ k = open_next context lines spans line span count ∙ (λ j. cond (e j || f j) n k) in
       let cut : drop k all ≡ drop k lines ++ line ∷ [] = drop-append-le k lines (line ∷ []) low in
       let long : length (drop k lines) ≡ n - k = length-drop k lines in
       let at : k + length (drop k lines) ≡ length spans = omega arith in

@@ -12,7 +12,7 @@ use Rattle.mach_buffer.specs.Buffer.{bytes_of}
 use Rattle.mach_buffer.specs.Reach.{CanReach}
 use Rattle.rv_emit.specs.declared.state.EmitVState.{EmitVState}
 use Rattle.rv_emit.specs.Emission.{EmitsIn}
-use Rattle.rv_emit.specs.Emitted.{Buffer, IsSoundBuffer, pending, AppendsInst, IslandIfNeeded, IsBounded}
+use Rattle.rv_emit.specs.Emitted.{Buffer, IsSoundBuffer, pending, AppendsInst, IslandIfNeeded}
 use Rattle.rv_emit.specs.State.{setting_beyond}
 use Rattle.rv_emit.specs.InstParts.{parts_of}
 use Rattle.rv_emit.proofs.Laws.{appends_inst, appends_table, appends_tail, appends_t0, table_parts_long, tail_parts_long, t0_parts_long, table_some, bytes_put}
@@ -54,7 +54,6 @@ pub record InstAppends (context : Context) (inst : Inst) (old new : Buffer) (spa
   pub made : Bool
   pub room : IslandIfNeeded line_space old mid made
   pub emitted : Appends context inst mid new
-  pub bounds : IsBounded context inst mid new
   pub reach : CanReach (length (bytes_of new)) (pending new)
   pub start : span.start ≡ length (bytes_of mid)
   pub end : span.end ≡ length (bytes_of new)
@@ -69,7 +68,6 @@ line_appends context setting (Put inst) old new span rule sound p = record {
   made = p.made;
   room = p.room;
   emitted = appends context (setting_beyond p.made setting) inst p.mid new rule (room_sound line_space old p.mid p.made p.room sound) p.emitted;
-  bounds = p.bounds;
   reach = p.reach;
   start = p.start;
   end = p.end;

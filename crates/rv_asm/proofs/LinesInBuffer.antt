@@ -53,7 +53,6 @@ stands_last context line old new l before start end h = record {
   even = h.even;
   within = let a = h.within in let b = l.grows.longer in omega arith;
   ends = let a = h.ends in let b = l.grows.longer in omega arith;
-  short = h.short;
 }
 
 -- ---- the constants that are named
@@ -143,7 +142,6 @@ inst_added context setting inst old new span rule s w f p =
         even = room.sound.even;
         within = put.lasts.grows.longer;
         ends = let e = p.end in omega (arith, e);
-        short = λ none. let most = (p.bounds none).long in let e = p.end in omega arith;
       });
       end = p.end;
       windows = put.windows;

@@ -3,10 +3,12 @@ use Rattle.std.proofs.Common.{◌≡◌, ℕ, zero, suc, ◌*◌, ◌≤◌, ◌
 use Rattle.std.specs.Prelude.{◌||◌, nat_eq, nat_lt, nat_le, if◌then◌else◌, slice_get}
 use mathlib.Core.Path.{fun_ext}
 use Rattle.std.proofs.lemmas.Bool.{ltb-false, leb-false}
+use Rattle.std.proofs.lemmas.Option.{same_Some}
 use Rattle.std.proofs.lemmas.Bool.Decides.{nat_tests}
 use Rattle.rv_base.specs.declared.label.MachLabel.{MachLabel}
 use Rattle.rv_base.specs.declared.frame.FrameLayout.{FrameLayout}
 use Rattle.rv_base.specs.Frame.{sp_to_args_end}
+use Rattle.rv_base.specs.LabelUse.{code_limit}
 use Rattle.rv_inst.specs.Frames.{is_bad_frame}
 use Rattle.std.specs.List.{list_any}
 use Rattle.rv_inst.specs.Context.{Context, context_of}
@@ -18,9 +20,10 @@ use Rattle.rv_inst.specs.declared.error.Rule.{Rule}
 use Rattle.rv_inst.specs.declared.error.EmitError.{EmitError}
 use Rattle.rv_inst.specs.Operands.{named_labels}
 use Rattle.rv_inst.specs.Rules.{first_of, broken_rule}
+use Rattle.rv_inst.specs.Sizes.{line_sum}
 use Rattle.rv_base.specs.declared.constant.Constant.{Constant}
 use Rattle.mach_buffer.specs.Shape.{inner_count}
-use Rattle.rv_asm.specs.Refusal.{size_limit, constants_sum, malformed, broken_from, binds, is_bound, twice_of, twice_in, twice_from, unbound_among, unbound_in, size_sum, too_large, is_unfit, has_bad_frame, bad_frame, lines_refusal, refusal, Finds}
+use Rattle.rv_asm.specs.Refusal.{size_limit, constants_sum, lines_sum, malformed, broken_from, binds, is_bound, twice_of, twice_in, twice_from, unbound_among, unbound_in, size_sum, too_large, is_unfit, has_bad_frame, bad_frame, lines_refusal, refusal, Finds}
 
 -- What is looked for among the labels of a set is looked for among those that the lines bind.
 pub finds_by_test : {X : Type 0} (bound test : ℕ → Bool) (lines : List Line) (r : Result X EmitError) → ((label : ℕ) → bound label ≡ test label) → Finds (unbound_in bound lines) r → Finds (unbound_in test lines) r
@@ -193,6 +196,15 @@ sum_small context lines e = from _ (nat_lt size_limit (size_sum context lines)) 
     from : (x : EmitError) (c : Bool) → nat_lt size_limit (size_sum context lines) ≡ c → (if c then Some x else None) ≡ None → size_sum context lines ≤ size_limit
     from x true h g = absurd (cc)
     from x false h g = ltb-false size_limit (size_sum context lines) h
+
+-- and so does each line
+line_counts : (context : Context) (lines : List Line) (i : ℕ) (line : Line) → slice_get lines i ≡ Some line → line_sum context line ≤ lines_sum context lines
+line_counts context [] i line h = absurd (cc)
+line_counts context (first ∷ lines) zero line h = let same : line_sum context first ≡ line_sum context line = ap (line_sum context) (same_Some _ _ h) in omega arith
+line_counts context (first ∷ lines) (suc i) line h = let rest = line_counts context lines i line h in omega arith
+
+pub lines_small : (context : Context) (lines : List Line) → lines_refusal context lines ≡ None → (i : ℕ) (line : Line) → slice_get lines i ≡ Some line → line_sum context line ≤ code_limit
+lines_small context lines e i line h = let all = sum_small context lines e in let one = line_counts context lines i line h in omega arith
 
 count_least : (constants : List Constant) → 16 * length constants ≤ constants_sum constants
 count_least [] = omega arith

@@ -15,10 +15,10 @@ use Rattle.mach_buffer.specs.Reach.{CanReach, HasSlack, deadlines, due_by}
 use Rattle.mach_buffer.specs.Buffer.{shape_of, bytes_of, uses_of, place_of, allocated_of, registered_of}
 use Rattle.mach_buffer.specs.Constants.{reserve_from, reserve_of}
 use Rattle.mach_buffer.proofs.Laws.{slack_same, slack_from_reach, reach_from_slack, total, due_total, reserve_other}
-use Rattle.rv_emit.specs.Emitted.{Buffer, pending, AppendsInst, AppendsIsland, IslandIfNeeded, IsBounded}
+use Rattle.rv_emit.specs.Emitted.{Buffer, pending, AppendsInst, AppendsIsland, IslandIfNeeded}
 use Rattle.rv_base.specs.Regs.{number_of}
 use Rattle.rv_inst.specs.Rules.{inst_rule, broken_rule}
-use Rattle.rv_emit.proofs.Laws.{waits, bytes_put, none_more, table_most, table_some, return_most, jalr_sized}
+use Rattle.rv_emit.proofs.Laws.{waits, bytes_put, ways_more, none_more, ways_few, table_most, table_some, return_most, jalr_sized, words_within, most_in_sequence}
 use Rattle.rv_inst.specs.Sizes.{words_in, extent_of, table_space, line_space, inst_sum, line_sum}
 use Rattle.rv_asm.specs.Refusal.{constants_sum, lines_sum, size_sum}
 use Rattle.rv_asm.specs.LinesInBuffer.{Sized, BindPut}
@@ -106,25 +106,27 @@ after_uses context inst space most old mid new made sum long few room words =
     record { size = omega (arith, a, b, sum); allocated = omega (arith, c, d) }
 
 -- what comes before it apart, an instruction uses no more than it counts for
-pub emitted_uses : (context : Context) (inst : Inst) (old new : Buffer) → inst_rule context inst ≡ None → Appends context inst old new → IsBounded context inst old new → Uses (inst_sum context inst - 17) old new
-emitted_uses context (EmitIsland space) old new rule e bounds = let u = room_uses space old new e.0 e.1 in record { size = let s = u.size in omega arith; allocated = u.allocated }
-emitted_uses context (BrTable index tmp1 tmp2 targets) old new rule (mid, made, room, words) bounds =
+pub emitted_uses : (context : Context) (inst : Inst) (old new : Buffer) → inst_rule context inst ≡ None → Appends context inst old new → Uses (inst_sum context inst - 17) old new
+emitted_uses context (EmitIsland space) old new rule e = let u = room_uses space old new e.0 e.1 in record { size = let s = u.size in omega arith; allocated = u.allocated }
+emitted_uses context (BrTable index tmp1 tmp2 targets) old new rule (mid, made, room, words) =
     let most = table_most context.flags (number_of index) (number_of tmp2.reg) (length targets) (table_some context index tmp1 tmp2 targets rule) in
     after_uses context (BrTable index tmp1 tmp2 targets) (table_space (length targets)) (48 + 8 * length targets) old mid new made (omega arith) most (none_more context (BrTable index tmp1 tmp2 targets) mid new refl words) room words
-emitted_uses context (ReturnCall info) old new rule (mid, made, room, words) bounds =
+emitted_uses context (ReturnCall info) old new rule (mid, made, room, words) =
     let most = return_most context.flags context.frame info.new_stack_arg_size in
     after_uses context (ReturnCall info) _ (88 + 28 * length context.frame.clobbered_callee_saves) old mid new made (omega arith) (omega arith) (none_more context (ReturnCall info) mid new refl words) room words
-emitted_uses context (ReturnCallInd info) old new rule (mid, made, room, words) bounds =
+emitted_uses context (ReturnCallInd info) old new rule (mid, made, room, words) =
     let most = return_most context.flags context.frame info.new_stack_arg_size in
     let few = (jalr_sized context.flags 0 5 (pos 0)).few in
     after_uses context (ReturnCallInd info) _ (88 + 28 * length context.frame.clobbered_callee_saves) old mid new made (omega arith) (omega arith) (none_more context (ReturnCallInd info) mid new refl words) room words
-emitted_uses context inst old new rule e bounds =
-    let within = bounds refl in
-    let long = within.long in
-    let few = within.waiting in
+emitted_uses context inst old new rule e =
+    let bytes = bytes_put context inst old new e in
+    let long = words_within context inst rule (omega arith) in
+    let most = most_in_sequence context inst refl in
+    let more = ways_more context inst old new e in
+    let few = ways_few inst in
     let allocated = e.adds.allocated in
     let reserve = block_reserve context inst old new e in
-    record { size = omega (arith, long, few, reserve); allocated = omega (arith, allocated) }
+    record { size = omega (arith, bytes, long, most, more, few, reserve); allocated = omega (arith, allocated) }
 
 -- ---- the loop's invariant
 
@@ -139,7 +141,7 @@ sized_none context b bytes uses places registered allocated =
 inst_sized : (context : Context) (lines : List Line) (inst : Inst) (old new : Buffer) (span : LineSpan) → inst_rule context inst ≡ None → Sized context lines old → InstAppends context inst old new span → Sized context (lines ++ Put inst ∷ []) new
 inst_sized context lines inst old new span rule s p =
     let room : Uses 17 old p.mid = room_uses line_space old p.mid p.made p.room in
-    let block : Uses (inst_sum context inst - 17) p.mid new = emitted_uses context inst p.mid new rule p.emitted p.bounds in
+    let block : Uses (inst_sum context inst - 17) p.mid new = emitted_uses context inst p.mid new rule p.emitted in
     let sum = sum_next context lines (Put inst) in
     let least = sum_least context (Put inst) in
     let a = room.size in

@@ -35,7 +35,7 @@ use Rattle.mach_buffer.proofs.Laws.{both_lists, deadlines_append, due_le_length}
 use Rattle.rv_emit.specs.Emitted.{Buffer, pending}
 use Rattle.rv_inst.specs.Forms.{jump_kind, jump_size, short_jalr}
 use Rattle.rv_inst.specs.Uses.{use_at, target_uses, target_reach, jump_reach, inst_reach, uses_by, uses_in}
-use Rattle.rv_emit.proofs.Laws.{deadlines_as, Each, each_none, each_more, uses_bare, few_deadlines, waits}
+use Rattle.rv_emit.proofs.Laws.{deadlines_as, Each, each_none, each_more, uses_bare, waits, HasJump, has_jump, uses_least, few_ways}
 use Rattle.rv_asm.specs.Reported.{start_of, end_of}
 use Rattle.rv_asm.specs.LinesInBuffer.{LineStands, LinesStand}
 use Rattle.rv_inst.specs.Uses.{least_reach}
@@ -45,50 +45,6 @@ use Rattle.rv_asm.proofs.LabelNames.{IsOf, uses_labels}
 use Rattle.rv_asm.proofs.FirstLines.{last_open}
 
 -- ---- the uses of one instruction
-
--- a jump, or a branch, reaches as far as the shortest of its line, and so does a jump after a branch
-jump_least : (short : Bool) (start : ℕ) → start + (if short then 2046 else 1048574) ≤ start + forward_of (if short then RVCJump else Jal20)
-jump_least true start = omega arith
-jump_least false start = omega arith
-
-branch_least : (short : Bool) (start : ℕ) → start + (if short then 2046 else 4094) ≤ start + 4094
-branch_least true start = omega arith
-branch_least false start = omega arith
-
-after_least : (short : Bool) (start : ℕ) → start + (if short then 2046 else 4094) ≤ start + 4 + forward_of (if short then RVCJump else Jal20)
-after_least true start = omega arith
-after_least false start = omega arith
-
--- a jump at the end of what begins before it, too
-last_least : (short : Bool) (start end : ℕ) → start + (if short then 2 else 4) ≤ end → start + (if short then 2046 else 1048574) ≤ end - (if short then 2 else 4) + forward_of (if short then RVCJump else Jal20)
-last_least true start end le = omega arith
-last_least false start end le = omega arith
-
--- an instruction has room for the jump with which it goes on, where it is a call that does
-abbrev HasJump : IsaFlags → ℕ → ℕ → Option TryCallInfo → Type 0
-HasJump flags start end None = Unit {0}
-HasJump flags start end (Some t) = start + jump_size flags ≤ end
-
--- each reaches as far as the shortest of its line
-uses_least : (context : Context) (start end : ℕ) (inst : Inst) → HasJump context.flags start end (try_call_of inst) → Each (λ u. start + least_reach context (Put inst) ≤ deadline label_kinds u) (uses_in context start end inst)
-uses_least context start end inst room = by (try_call_of inst) room
-  where
-    on : (targets : Targets) → Each (λ u. start + target_reach context.flags targets ≤ deadline label_kinds u) (target_uses context.flags start targets)
-    on Nowhere = each_none _
-    on (Jumps label) = each_more (λ u. start + target_reach context.flags (Jumps label) ≤ deadline label_kinds u) _ [] (jump_least context.flags.has_zca start) (each_none _)
-    on (Branches Fallthrough not_taken) = each_none _
-    on (Branches (Label t) Fallthrough) = each_more (λ u. start + target_reach context.flags (Branches (Label t) Fallthrough) ≤ deadline label_kinds u) _ [] (branch_least context.flags.has_zca start) (each_none _)
-    on (Branches (Label t) (Label f)) =
-        each_more (λ u. start + target_reach context.flags (Branches (Label t) (Label f)) ≤ deadline label_kinds u) _ (use_at (start + 4) f (jump_kind context.flags) ∷ []) (branch_least context.flags.has_zca start)
-        (each_more (λ u. start + target_reach context.flags (Branches (Label t) (Label f)) ≤ deadline label_kinds u) _ [] (after_least context.flags.has_zca start) (each_none _))
-    on (Refers label) =
-        each_more (λ u. start + 1048574 ≤ deadline label_kinds u) _ (use_at (start + 4) label PCRelLo12I ∷ []) (omega arith) (each_more (λ u. start + 1048574 ≤ deadline label_kinds u) _ [] (omega arith) (each_none _))
-    on (RefersConstant k) =
-        each_more (λ u. start + 1048574 ≤ deadline label_kinds u) _ (use_at (start + 4) (constant_label k) PCRelLo12I ∷ []) (omega arith) (each_more (λ u. start + 1048574 ≤ deadline label_kinds u) _ [] (omega arith) (each_none _))
-
-    by : (t : Option TryCallInfo) → HasJump context.flags start end t → Each (λ u. start + inst_reach context.flags t (targets_of inst) ≤ deadline label_kinds u) (uses_by context.flags start end t (targets_of inst))
-    by None room = on (targets_of inst)
-    by (Some t) room = each_more (λ u. start + jump_reach context.flags ≤ deadline label_kinds u) _ [] (last_least context.flags.has_zca start end room) (each_none _)
 
 -- one that may go by a veneer goes to a label
 uses_ways : (context : Context) (start end : ℕ) (inst : Inst) → Each (λ u. has_veneer_of u.kind ≡ true → 1 ≤ length (inst_ways inst)) (uses_in context start end inst)
@@ -109,26 +65,6 @@ uses_ways context start end inst = by (try_call_of inst)
     by : (t : Option TryCallInfo) → Each (λ u. has_veneer_of u.kind ≡ true → 1 ≤ length (ways_by t (targets_of inst))) (uses_by context.flags start end t (targets_of inst))
     by None = on (targets_of inst)
     by (Some t) = each_more (λ u. has_veneer_of u.kind ≡ true → 1 ≤ 1) _ [] (λ e. omega arith) (each_none _)
-
--- no more are pending than it goes to labels
-few_ways : (context : Context) (place : ℕ → Option ℕ) (start end : ℕ) (inst : Inst) → length (deadlines (waits place) label_kinds (uses_in context start end inst)) ≤ length (inst_ways inst)
-few_ways context place start end inst = by (try_call_of inst)
-  where
-    of_uses : (uses : List (Use LabelUse)) (most : ℕ) → length uses ≤ most → length (deadlines (waits place) label_kinds uses) ≤ most
-    of_uses uses most le = let few = few_deadlines (waits place) label_kinds uses in omega arith
-
-    on : (targets : Targets) → length (deadlines (waits place) label_kinds (target_uses context.flags start targets)) ≤ length (ways_of targets)
-    on Nowhere = omega arith
-    on (Jumps label) = of_uses (use_at start label (jump_kind context.flags) ∷ []) 1 (omega arith)
-    on (Branches Fallthrough not_taken) = omega arith
-    on (Branches (Label t) Fallthrough) = of_uses (use_at start t B12 ∷ []) 1 (omega arith)
-    on (Branches (Label t) (Label f)) = of_uses (use_at start t B12 ∷ use_at (start + 4) f (jump_kind context.flags) ∷ []) 2 (omega arith)
-    on (Refers label) = omega arith
-    on (RefersConstant k) = omega arith
-
-    by : (t : Option TryCallInfo) → length (deadlines (waits place) label_kinds (uses_by context.flags start end t (targets_of inst))) ≤ length (ways_by t (targets_of inst))
-    by None = on (targets_of inst)
-    by (Some t) = of_uses (use_at (end - jump_size context.flags) t.continuation (jump_kind context.flags) ∷ []) 1 (omega arith)
 
 any_none : {X : Type 0} (f : X → Bool) (xs : List X) → list_any f xs ≡ false → Each (λ x. f x ≡ false) xs
 any_none f [] h = each_none _
@@ -286,18 +222,10 @@ and_first true b e = refl
 and_first false b e = absurd (cc)
 
 -- a call that goes on stands with its jump
-has_jump : (context : Context) (inst : Inst) (b : Buffer) (start end : ℕ) → LineStands context (Put inst) b start end → HasJump context.flags start end (try_call_of inst)
-has_jump context (Call info) b start end h = on info.try_call_info h.2
-  where
-    on : (t : Option TryCallInfo) → end ≡ start + (call_size context.flags 8 info.callee_pop_size + try_size context.flags t) → HasJump context.flags start end t
-    on None long = tt
-    on (Some t) long = omega arith
-has_jump context (CallInd info) b start end h = on info.try_call_info h.2
-  where
-    on : (t : Option TryCallInfo) → end ≡ start + (call_size context.flags (short_jalr context.flags 1 (number_of info.dest) (pos 0)).len info.callee_pop_size + try_size context.flags t) → HasJump context.flags start end t
-    on None long = tt
-    on (Some t) long = omega arith
-has_jump context _ b start end h = tt
+stands_jump : (context : Context) (inst : Inst) (b : Buffer) (start end : ℕ) → LineStands context (Put inst) b start end → HasJump context.flags start end (try_call_of inst)
+stands_jump context (Call info) b start end h = let long = h.2 in has_jump context (Call info) start end (omega (arith, long))
+stands_jump context (CallInd info) b start end h = let long = h.2 in has_jump context (CallInd info) start end (omega (arith, long))
+stands_jump context _ b start end h = tt
 
 -- an island that is needed after some lines is due there
 pub due_now : (context : Context) (lines : List Line) (spans : List LineSpan) (b : Buffer) (distance : ℕ) → LinesStand context lines spans b → AfterLastIsland context lines spans b → is_needed (length (bytes_of b)) distance (pending b) ≡ true → IsDue context lines spans (length lines) (length (bytes_of b)) distance
@@ -312,7 +240,7 @@ due_now context lines spans b distance built s needed =
     let f : FromLine context spans k (drop k lines) o.user = open_from_line context lines spans o.index o.user o.there in
     let there : slice_get lines (k + f.index) ≡ Some (Put f.inst) = get_drop lines k f.index (Put f.inst) f.there in
     let some : 1 ≤ length (inst_ways f.inst) = uses_ways context (start_of spans (k + f.index)) (end_of spans (k + f.index)) f.inst f.place o.user f.own (and_first (has_veneer_of o.user.kind) _ o.passes) in
-    let least : start_of spans (k + f.index) + least_reach context (Put f.inst) ≤ deadline label_kinds o.user = uses_least context (start_of spans (k + f.index)) (end_of spans (k + f.index)) f.inst (has_jump context f.inst b (start_of spans (k + f.index)) (end_of spans (k + f.index)) (built.each (k + f.index) (Put f.inst) there).there) f.place o.user f.own in
+    let least : start_of spans (k + f.index) + least_reach context (Put f.inst) ≤ deadline label_kinds o.user = uses_least context (start_of spans (k + f.index)) (end_of spans (k + f.index)) f.inst (stands_jump context f.inst b (start_of spans (k + f.index)) (end_of spans (k + f.index)) (built.each (k + f.index) (Put f.inst) there).there) f.place o.user f.own in
     let is : deadline label_kinds o.user ≡ m.due = o.is in
     let late = m.late in
     let last : last_island spans n ≤ k = last_open context lines spans n in

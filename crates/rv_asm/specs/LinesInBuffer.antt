@@ -23,7 +23,7 @@ use Rattle.mach_buffer.specs.Buffer.{shape_of, bytes_of, uses_of, place_of, labe
 use Rattle.mach_buffer.specs.Shape.{listed}
 use Rattle.mach_buffer.specs.Constants.{reserve_of, AllStand}
 use Rattle.mach_buffer.specs.Islands.{is_far}
-use Rattle.rv_emit.specs.Emitted.{Buffer, IsSoundBuffer, HasWindows, pending, IslandIfNeeded, IsBounded}
+use Rattle.rv_emit.specs.Emitted.{Buffer, IsSoundBuffer, HasWindows, pending, IslandIfNeeded}
 use Rattle.rv_emit.specs.ConstantsAdded.{StandInTurn}
 use Rattle.rv_emit.specs.Emission.{EmitsIn}
 use Rattle.rv_emit.specs.Images.{FieldsStand}
@@ -33,7 +33,7 @@ use Rattle.rv_emit.specs.declared.state.EmitVState.{EmitVState}
 use Rattle.rv_emit.specs.declared.state.EmitVState.TheVariants.{Unknown}
 use Rattle.rv_emit.specs.Slots.{Part, parts_size}
 use Rattle.rv_emit.specs.State.{setting_after, setting_beyond}
-use Rattle.rv_asm.specs.Reported.{start_of, end_of, end_before, binds_from, line_returns, records_from, constants_named, IsShort, StandApart}
+use Rattle.rv_asm.specs.Reported.{start_of, end_of, end_before, binds_from, line_returns, records_from, constants_named, StandApart}
 use Rattle.rv_asm.specs.Refusal.{is_unfit, binds, is_bound, size_sum}
 use Rattle.rv_inst.specs.Sizes.{Extent, Words, Island, After, extent_of, line_space, line_sum}
 
@@ -50,14 +50,13 @@ abbrev pub LineStands : Context → Line → Buffer → ℕ → ℕ → Type 0
 LineStands context (Put inst) b start end = (setting : EmitVState) × PartsIn context.flags (parts_of context setting inst) (shape_of b) start end × IsLong (extent_of context inst) (parts_of context setting inst) start end
 LineStands context (Bind label) b start end = (start ≡ end) × (place_of b label.number ≡ Some start)
 
--- after the offset where the line before ends stands nothing, or an island, and then the line, no longer than it may be
+-- after the offset where the line before ends stands nothing, or an island, and then the line
 pub record StandsAfter (context : Context) (line : Line) (b : Buffer) (before start end : ℕ) : Type 0 where
   pub gap : GapStandsIn context.flags (shape_of b) before start
   pub there : LineStands context line b start end
   pub even : start % 2 ≡ 0
   pub within : start ≤ length (bytes_of b)
   pub ends : end ≤ length (bytes_of b)
-  pub short : IsShort context line start end
 
 -- each line stands at its span, and before it nothing or an island; the constants that islands took with them stand, one after
 -- the other, and apart from the words of instructions; and what relocations fill is apart from the windows of uses
@@ -126,7 +125,6 @@ pub record InstPut (context : Context) (setting : EmitVState) (inst : Inst) (old
   pub made : Bool
   pub room : IslandIfNeeded line_space old mid made
   pub emitted : EmitsIn context (setting_beyond made setting) inst mid new
-  pub bounds : IsBounded context inst mid new
   pub reach : CanReach (length (bytes_of new)) (pending new)
   pub start : span.start ≡ length (bytes_of mid)
   pub end : span.end ≡ length (bytes_of new)

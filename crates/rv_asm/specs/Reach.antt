@@ -1,6 +1,6 @@
 -- Islands by the reported spans: that none stands earlier than it must, that Reach holds after every line, and how
 -- long code may be.
-use Rattle.std.specs.Prelude.{◌≡◌, ℕ, zero, suc, ◌+◌, ◌*◌, ◌<◌, ◌≤◌, Bool, false, not, ◌&&◌, nat_eq, nat_lt, if◌then◌else◌, List, [], ◌∷◌, ◌++◌, length, take, drop, Option, Some, None, slice_get}
+use Rattle.std.specs.Prelude.{◌≡◌, ℕ, zero, suc, ◌+◌, ◌*◌, ◌<◌, ◌≤◌, Bool, false, not, ◌&&◌, ◌||◌, nat_eq, nat_lt, if◌then◌else◌, List, [], ◌∷◌, ◌++◌, length, take, drop, Option, Some, None, slice_get}
 use Rattle.rv_inst.specs.Context.{Context, context_of}
 use Rattle.rv_inst.specs.declared.inst.Line.{Line}
 use Rattle.rv_inst.specs.declared.inst.Line.TheVariants.{Inst as Put, Bind}
@@ -83,10 +83,10 @@ abbrev pub is_island_at : Context → List Line → List LineSpan → ℕ → Bo
 is_island_at context [] spans i = false
 is_island_at context (line ∷ lines) spans i = is_island context line (start_of spans i) (end_of spans i)
 
--- the first of so many lines whose uses no island stands after
+-- the first of so many lines whose uses no island stands after; those of a line in which an island stands come after it
 abbrev pub first_after_island : Context → List Line → List LineSpan → ℕ → ℕ
 first_after_island context lines spans zero = 0
-first_after_island context lines spans (suc i) = if is_island_at context (drop i lines) spans i then suc i else if is_after_island spans i then i else first_after_island context lines spans i
+first_after_island context lines spans (suc i) = if is_island_at context (drop i lines) spans i || is_after_island spans i then i else first_after_island context lines spans i
 
 -- where lines, the first of which has an index, bind a label
 abbrev pub bound_by : List LineSpan → ℕ → List Line → ℕ → Option ℕ

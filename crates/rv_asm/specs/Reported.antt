@@ -10,6 +10,7 @@ use Rattle.rv_inst.specs.declared.job.Job.{Job}
 use Rattle.rv_inst.specs.Islands.{IsIsland}
 use Rattle.rv_inst.specs.Operands.{inst_constant}
 use Rattle.rv_inst.specs.Sizes.{Extent, Words, Island, After, words_in, extent_of, island_space}
+use Rattle.rv_inst.specs.MostBytes.{most_bytes}
 use Rattle.rv_base.specs.declared.flags.IsaFlags.{IsaFlags}
 use Rattle.rv_inst.specs.declared.code.Code.{Code}
 use Rattle.rv_inst.specs.declared.code.LineSpan.{LineSpan}
@@ -111,9 +112,9 @@ abbrev pub IsSpan : Context → List ℕ → Line → ℕ → ℕ → Type 0
 IsSpan context bytes (Put inst) start end = IsSized context.flags bytes (extent_of context inst) start end
 IsSpan context bytes (Bind label) start end = end ≡ start
 
--- but where it asks for an island itself, an instruction has at most 84 bytes
+-- an instruction's words are at most as many bytes as its kind may have, and so is its span, where it asks for no island itself
 abbrev pub IsShort : Context → Line → ℕ → ℕ → Type 0
-IsShort context (Put inst) start end = island_space context inst ≡ None → end ≤ start + 84
+IsShort context (Put inst) start end = (words_in (extent_of context inst) ≤ most_bytes context inst) × (island_space context inst ≡ None → end ≤ start + most_bytes context inst)
 IsShort context (Bind label) start end = Unit {0}
 
 -- two stretches of code share no byte
@@ -135,8 +136,8 @@ pub record FillsInLine (spans : List LineSpan) (r : MachReloc) : Type 0 where
   pub starts : start_of spans index ≤ r.offset
   pub ends : r.offset + field_size r.kind ≤ end_of spans index
 
--- Every line has one span, in order, as long as the line, and of at most 84 bytes unless it asks for an island. The first starts
--- at 0; between two stands nothing, or an island.
+-- Every line has one span, in order, as long as the line, and no longer than lines of its kind may be, an island in it apart. The
+-- first starts at 0; between two stands nothing, or an island.
 -- The code's end is that of the last line, its labels are the binds, its returns are those of the calls, and its records are
 -- those of the lines: what a linker fills, traps, call sites, those of calls that may throw, each handler with the offset of its label,
 -- calls that may be patched, values on the stack, and steps in the making of the frame.

@@ -10,7 +10,7 @@ ghost use Rattle.mach_buffer.specs.Buffer.{shape_of, bytes_of, allocated_of, pla
 ghost use Rattle.mach_buffer.specs.Constants.{reserve_of};
 ghost use Rattle.mach_buffer.specs.Shape.{inner_count};
 ghost use Rattle.mach_labels.specs.Table.{first_inner};
-ghost use Rattle.rv_emit.specs.Emitted.{IsSoundBuffer, pending, IslandIfNeeded, CanEmit, IsBounded};
+ghost use Rattle.rv_emit.specs.Emitted.{IsSoundBuffer, pending, IslandIfNeeded, CanEmit};
 ghost use Rattle.rv_emit.specs.Emission.{EmitsIn};
 ghost use Rattle.rv_emit.specs.declared.state.EmitVState.TheVariants.{Unknown};
 ghost use Rattle.rv_emit.specs.State.{setting_after, setting_beyond};
@@ -123,7 +123,6 @@ fn emit(
 ) -> Result<(), OutOfMemory>
     requires { CanEmit (context_by info.now.isa_flags state.old.frame (registered_of sink.old)) inst.now sink.old }
     ensures emitted { OnOk result (EmitsIn (context_by info.now.isa_flags state.old.frame (registered_of sink.old)) state.old.vstate inst.now sink.old sink.new) }
-    ensures bounds { OnOk result (IsBounded (context_by info.now.isa_flags state.old.frame (registered_of sink.old)) inst.now sink.old sink.new) }
     ensures reach { OnOk result (CanReach (length (bytes_of sink.new)) (pending sink.new)) }
     ensures frame { state.new.frame ≡ state.old.frame }
     ensures setting { OnOk result (state.new.vstate ≡ setting_after (context_by info.now.isa_flags state.old.frame (registered_of sink.old)) sink.old inst.now state.old.vstate) }

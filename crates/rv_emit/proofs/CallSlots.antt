@@ -148,8 +148,8 @@ try_few flags (Some t) = by flags.has_zca
     by true = lit≤ tt
     by false = lit≤ tt
 
-pub call_short : (flags : IsaFlags) (popped : ℕ) (t : Option TryCallInfo) → call_size flags 8 popped + try_size flags t ≤ 84
+pub call_short : (flags : IsaFlags) (popped : ℕ) (t : Option TryCallInfo) → call_size flags 8 popped + try_size flags t ≤ 36
 call_short flags popped t = let most = step_most flags (fall popped) in let few = try_few flags t in omega arith
 
-pub call_ind_short : (flags : IsaFlags) (dest popped : ℕ) (t : Option TryCallInfo) → call_size flags (short_jalr flags 1 dest (pos 0)).len popped + try_size flags t ≤ 84
+pub call_ind_short : (flags : IsaFlags) (dest popped : ℕ) (t : Option TryCallInfo) → call_size flags (short_jalr flags 1 dest (pos 0)).len popped + try_size flags t ≤ 32
 call_ind_short flags dest popped t = let most = step_most flags (fall popped) in let few = (jalr_sized flags 1 dest (pos 0)).few in let jump = try_few flags t in omega arith

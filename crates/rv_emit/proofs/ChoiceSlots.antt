@@ -171,10 +171,10 @@ extend_summed context rd rn signed from_bits to_bits =
 pub extend_block : (flags : IsaFlags) (rd rn : ℕ) (signed : Bool) (bits : ℕ) → IsBlock (extend_slots flags rd rn signed bits)
 extend_block flags rd rn signed bits = ops_block (extend_slots flags rd rn signed bits) (extend_ops flags rd rn signed bits)
 
-pub extend_short : (flags : IsaFlags) (rd rn : ℕ) (signed : Bool) (bits : ℕ) → extend_size flags rd rn signed bits ≤ 84
+pub extend_short : (flags : IsaFlags) (rd rn : ℕ) (signed : Bool) (bits : ℕ) → extend_size flags rd rn signed bits ≤ 8
 extend_short flags rd rn signed bits = on (is_byte signed bits)
   where
-    on : (c : Bool) → (if c then (short_rri flags Andi rd rn (pos 255)).len else (short_rri flags Slli rd rn (pos (64 - bits))).len + (short_rri flags (right_shift signed) rd rd (pos (64 - bits))).len) ≤ 84
+    on : (c : Bool) → (if c then (short_rri flags Andi rd rn (pos 255)).len else (short_rri flags Slli rd rn (pos (64 - bits))).len + (short_rri flags (right_shift signed) rd rd (pos (64 - bits))).len) ≤ 8
     on true = let byte = rri_sized flags Andi rd rn (pos 255) in let few = byte.few in omega arith
     on false =
         let up = rri_sized flags Slli rd rn (pos (64 - bits)) in let up_few = up.few in
@@ -307,7 +307,7 @@ select_summed context info =
 pub select_block : (flags : IsaFlags) (dst : ValueRegs (Writable Reg)) (condition : IntegerCompare) (x y : ValueRegs Reg) → IsBlock (select_slots flags dst condition x y)
 select_block flags dst condition x y = ops_block (select_slots flags dst condition x y) (chosen_ops flags (map number_of (written_in dst)) condition (map number_of (all_of x)) (map number_of (all_of y)))
 
-pub select_short : (flags : IsaFlags) (dst : ValueRegs (Writable Reg)) (x y : ValueRegs Reg) → select_size flags dst x y ≤ 84
+pub select_short : (flags : IsaFlags) (dst : ValueRegs (Writable Reg)) (x y : ValueRegs Reg) → select_size flags dst x y ≤ 24
 select_short flags dst x y =
     let rds = map number_of (written_in dst) in
     let few = results_few dst in

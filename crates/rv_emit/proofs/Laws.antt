@@ -28,7 +28,11 @@ pub use Rattle.rv_emit.proofs.IslandsStand.{island_is, gap_is}
 -- ways on in the finished code
 pub use Rattle.rv_emit.proofs.Ways.{comes_both, leads_here, leads_both}
 -- pending uses and their deadlines
-pub use Rattle.rv_emit.proofs.ReachKept.{Each, waits, each_none, each_more, uses_bare, uses_kinds, few_deadlines, bytes_put, far_waits, own_deadlines, pending_adds, pending_after, none_more, calm_after}
+pub use Rattle.rv_emit.proofs.ReachKept.{Each, waits, each_none, each_more, uses_bare, uses_kinds, few_deadlines, bytes_put, far_waits, own_deadlines, pending_adds, calm_after}
+-- how far the uses of an instruction reach, and how many are pending
+pub use Rattle.rv_emit.proofs.Bounds.{HasJump, has_jump, uses_least, few_ways, ways_more, none_more, ways_few, alone_longer, alone_pending}
+-- how many bytes an instruction has at most
+pub use Rattle.rv_emit.proofs.MostBytes.{words_within, most_in_sequence}
 pub use Rattle.rv_emit.proofs.Islands.{deadlines_as}
 pub use Rattle.rv_emit.proofs.NumberRuns.{bits_back}
 pub use Rattle.rv_emit.proofs.Fields.{ends_later}

@@ -54,6 +54,8 @@ mod TableSlots
 mod TablesPut
 mod PutsLast
 mod ReachKept
+mod MostBytes
+mod Bounds
 mod Registers
 mod Settings
 mod SlotsJoined

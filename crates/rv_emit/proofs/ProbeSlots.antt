@@ -61,7 +61,7 @@ probe_summed context guard count tmp = summed_by (probes_counted context.flags (
 pub probe_block : (flags : IsaFlags) (tmp guard count : ℕ) → IsBlock (probe_slots flags tmp guard count)
 probe_block flags tmp guard count = (probes_counted flags tmp guard count).closed _ 0
 
-pub probe_short : (flags : IsaFlags) (tmp guard count : ℕ) → probe_size flags tmp guard count ≤ 84
+pub probe_short : (flags : IsaFlags) (tmp guard count : ℕ) → probe_size flags tmp guard count ≤ 60
 probe_short flags tmp guard count =
     let a = number_few flags 31 (cast_signed w64 (guard * count)) in
     let b = number_few flags tmp (pos guard) in

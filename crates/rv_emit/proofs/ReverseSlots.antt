@@ -74,7 +74,7 @@ turn_sizes flags rd tmp tmp2 step rs = record {
 
 -- ---- the whole sequence
 
-pub reverse_short : (flags : IsaFlags) (rd tmp tmp2 step rs bits : ℕ) → reverse_size flags rd tmp tmp2 step rs bits ≤ 84
+pub reverse_short : (flags : IsaFlags) (rd tmp tmp2 step rs bits : ℕ) → reverse_size flags rd tmp tmp2 step rs bits ≤ 76
 reverse_short flags rd tmp tmp2 step rs bits =
     let s = start_sizes flags rd tmp tmp2 step bits in
     let t = turn_sizes flags rd tmp tmp2 step rs in

@@ -43,7 +43,7 @@ zeros_summed context sum tmp step rs false type = record {
 pub zeros_block : (flags : IsaFlags) (leading : Bool) (sum tmp step rs bits : ℕ) → IsBlock (zeros_slots flags leading sum tmp step rs bits)
 zeros_block flags leading sum tmp step rs bits = ops_block (start_ops flags leading sum tmp step bits ++ turn_ops flags true (bit_shift leading) sum tmp step rs) (count_even flags leading true (bit_shift leading) sum tmp step rs bits)
 
-pub zeros_short : (flags : IsaFlags) (leading : Bool) (sum tmp step rs bits : ℕ) → zeros_size flags leading sum tmp step rs bits ≤ 84
+pub zeros_short : (flags : IsaFlags) (leading : Bool) (sum tmp step rs bits : ℕ) → zeros_size flags leading sum tmp step rs bits ≤ 44
 zeros_short flags leading sum tmp step rs bits =
     let a = (rri_sized flags Addi sum 0 (pos 0)).few in
     let b = (rri_sized flags Addi step 0 (pos bits)).few in

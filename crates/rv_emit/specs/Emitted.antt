@@ -7,6 +7,7 @@ use Rattle.rv_base.specs.Frame.{sp_to_args_end}
 use Rattle.rv_base.specs.LabelUse.{code_limit}
 use Rattle.mach_labels.specs.Table.{first_inner, first_constant}
 use Rattle.rv_inst.specs.declared.inst.Inst.{Inst}
+use Rattle.rv_inst.specs.declared.inst.Line.TheVariants.{Inst as Put}
 use Rattle.rv_inst.specs.declared.label_use.LabelUse.{LabelUse}
 use Rattle.rv_inst.specs.declared.label_use.LabelUse.TheVariants.{Jal20}
 use Rattle.rv_inst.specs.LabelUse.{label_kinds, has_veneer_of}
@@ -16,12 +17,13 @@ use Rattle.rv_inst.specs.Operands.{table_of, inst_ways, inst_constant, tail_call
 use Rattle.rv_inst.specs.Frames.{is_bad_frame_for}
 use Rattle.rv_inst.specs.Rules.{inst_rule}
 use Rattle.rv_inst.specs.Sizes.{words_in, extent_of, line_space, island_space, inst_sum}
+use Rattle.rv_inst.specs.MostBytes.{most_bytes}
 use Rattle.rv_inst.specs.Records.{inst_records}
-use Rattle.rv_inst.specs.Uses.{use_at, uses_in}
+use Rattle.rv_inst.specs.Uses.{use_at, uses_in, least_reach}
 use Rattle.mach_buffer.specs.declared.buffer.MachBuffer.{MachBuffer}
 use Rattle.mach_buffer.specs.declared.uses.Use.{Use}
 use Rattle.mach_buffer.specs.Islands.{is_far}
-use Rattle.mach_buffer.specs.Reach.{is_needed}
+use Rattle.mach_buffer.specs.Reach.{AllOf, is_needed}
 use Rattle.mach_buffer.specs.Buffer.{shape_of, bytes_of, uses_of, place_of, labels_of, allocated_of, records_of, registered_of, named_of, constants_of, pending_of, IsSound}
 use Rattle.mach_buffer.specs.Shape.{Shape, with_allocated, name_more}
 use Rattle.mach_buffer.specs.Constants.{reserve_of, AllStand}
@@ -133,12 +135,25 @@ pub record CanEmit (context : Context) (inst : Inst) (b : Buffer) : Type 0 where
 
 -- ---- bounds
 
--- how much longer a buffer is, and how many more uses are pending
-pub record EmitBounds (inst : Inst) (old new : Buffer) : Type 0 where
-  pub long : length (bytes_of new) ≤ length (bytes_of old) + 84
-  pub waiting : length (pending new) ≤ length (pending old) + 2
-  pub without : inst_ways inst ≡ [] → length (pending new) ≤ length (pending old)
+-- an island stands between two buffers exactly where one is needed before so many bytes, if so many are asked for
+abbrev pub IslandAsked : Option ℕ → Buffer → Buffer → Type 0
+IslandAsked None old new = new ≡ old
+IslandAsked (Some space) old new = (made : Bool) × IslandIfNeeded space old new made
 
--- the bounds of an instruction that asks for no island
-abbrev pub IsBounded : Context → Inst → Buffer → Buffer → Type 0
-IsBounded context inst old new = island_space context inst ≡ None → EmitBounds inst old new
+-- How much longer a buffer is, an island apart, and what more is pending: bytes before the island that an instruction asks for, where
+-- it asks for one, and bytes after it, both together at most as many as the instruction's kind may have; and at most as many uses as
+-- there are labels to which it goes, maybe by a veneer, each of which reaches as far as the least of its kind.
+pub record IsBounded (context : Context) (inst : Inst) (old new : Buffer) : Type 0 where
+  pub before : Buffer
+  pub after : Buffer
+  pub first : ℕ
+  pub rest : ℕ
+  pub starts : length (bytes_of before) ≡ length (bytes_of old) + first
+  pub island : IslandAsked (island_space context inst) before after
+  pub ends : length (bytes_of new) ≡ length (bytes_of after) + rest
+  pub most : first + rest ≤ most_bytes context inst
+  pub added : List ℕ
+  pub keeps : pending before ≡ pending old
+  pub adds : pending new ≡ pending after ++ added
+  pub few : length added ≤ length (inst_ways inst)
+  pub late : AllOf (λ d. length (bytes_of old) + least_reach context (Put inst) ≤ d) added

@@ -35,7 +35,7 @@ use Rattle.rv_emit.specs.InstParts.{parts_of}
 use Rattle.rv_inst.specs.Uses.{use_at, target_uses, uses_by, uses_in}
 use Rattle.rv_inst.specs.Sizes.{line_space, island_space, inst_sum}
 use Rattle.rv_emit_vectors.specs.Single.{are_first, are_first_by, names_first, IsStart, HoldsOne}
-use Rattle.rv_emit.proofs.Laws.{parts_put, are_blocks, appends_inst, Each, waits, each_none, each_more, uses_kinds}
+use Rattle.rv_emit.proofs.Laws.{parts_put, are_blocks, appends_inst, Each, waits, each_none, each_more, uses_kinds, alone_longer, alone_pending}
 
 -- ---- at the start
 
@@ -149,8 +149,8 @@ holds_one context setting inst old new rule none s e reach bounded = record {
   allocated = p.adds.allocated ∙ s.allocated;
   registered = p.adds.registered ∙ s.registered;
   constants = p.adds.constants ∙ s.constants;
-  long = let l = (bounded none).long in let bytes : length (bytes_of old) ≡ 0 = ap (length {A = ℕ}) s.bytes in omega arith;
-  waiting = let w = (bounded none).waiting in let waiting : length (pending old) ≡ 0 = ap (length {A = ℕ}) (start_pending old s) in omega arith;
+  long = let l = alone_longer context inst old new none bounded in let bytes : length (bytes_of old) ≡ 0 = ap (length {A = ℕ}) s.bytes in omega arith;
+  waiting = let w = alone_pending context inst old new none bounded in let waiting : length (pending old) ≡ 0 = ap (length {A = ℕ}) (start_pending old s) in omega arith;
   kinds = λ j u h. uses_kinds context start end inst j u (own j u h);
   bound = λ first j u h. ap (λ n. is_some (place_of new n)) (uses_first context start end inst first j u (own j u h)) ∙ ap is_some (ap (λ (place : ℕ → Option ℕ). place 0) p.adds.places ∙ s.first);
 }

@@ -16,6 +16,7 @@ pub mod Rules
 pub mod Frames
 pub mod SameValues
 pub mod Sizes
+pub mod MostBytes
 pub mod OneOperation
 pub mod Bits
 pub mod CondBrTargets

@@ -1,6 +1,5 @@
 use Rattle.std.proofs.Common.{◌≡◌, [], sym, ◌∙◌, subst}
 use Rattle.rv_emit.specs.Emission.{EmitsIn}
-use Rattle.rv_emit.specs.Emitted.{IsBounded}
 use Rattle.rv_emit.specs.State.{setting_after, setting_beyond}
 use Rattle.rv_inst.specs.Context.{context_by}
 use Rattle.rv_asm.proofs.lines.put_inst.Goals as goal
@@ -14,7 +13,6 @@ returns-clause-put c = record {
       let room = c.in_ok-emit_needed_island.ensures in
       subst (λ setting. EmitsIn (context_by c.args.info.now.isa_flags c.args.state.now.frame []) setting c.args.inst.now c.emit_needed_island.new.sink c.emit.new.sink) (room.setting ∙ sym (λ i. setting_beyond (room.room.asked i) c.args.state.now.vstate))
       (subst (λ frame. EmitsIn (context_by c.args.info.now.isa_flags frame []) c.emit_needed_island.new.state.vstate c.args.inst.now c.emit_needed_island.new.sink c.emit.new.sink) room.frame c.in_ok-emit.ensures.emitted);
-  bounds = subst (λ frame. IsBounded (context_by c.args.info.now.isa_flags frame []) c.args.inst.now c.emit_needed_island.new.sink c.emit.new.sink) c.in_ok-emit_needed_island.ensures.frame c.in_ok-emit.ensures.bounds;
   reach = c.in_ok-emit.ensures.reach;
   start = c.cur_offset-start.ensures;
   end = c.cur_offset-end.ensures;

@@ -1,4 +1,4 @@
-use Rattle.std.proofs.Common.{◌≡◌, ℕ, false, Option, Some, None, refl, sym}
+use Rattle.std.proofs.Common.{◌≡◌, ℕ, false, Option, Some, None, refl, sym, arith}
 use Rattle.std.specs.Prelude.{is_some}
 use Rattle.std.proofs.lemmas.Result.{on_ok_weaker}
 use Rattle.mach_buffer.specs.Buffer.{registered_of}
@@ -6,7 +6,8 @@ use Rattle.rv_inst.specs.Context.{context_by}
 use Rattle.rv_emit.specs.declared.state.EmitVState.TheVariants.{Unknown}
 use Rattle.rv_emit.proofs.FineOperands.{fine}
 use Rattle.rv_emit.proofs.InstSlots.{inst_appends}
-use Rattle.rv_emit.proofs.ReachKept.{block_bounds, reach_after}
+use Rattle.rv_emit.proofs.Bounds.{alone_bounded, asking_bounded}
+use Rattle.rv_emit.proofs.ReachKept.{reach_after}
 use Rattle.rv_emit.proofs.TailAppends.{reach_asking}
 use Rattle.rv_emit.proofs.emit.put.Goals as goal
 
@@ -20,6 +21,13 @@ returns-then-asks_for_island-clause-reach c =
     let asks = sym (c.if-asks_for_island.ensures context) in
     on_ok_weaker c.put_asking.result (λ emitted. reach_asking context Unknown c.args.inst.now c.args.sink.now c.put_asking.new.sink c.requires asks (emitted Unknown)) (c.put_asking.ensures.emitted asks)
 
+pub returns-then-asks_for_island-clause-bounds : goal.returns-then-asks_for_island-clause-bounds
+returns-then-asks_for_island-clause-bounds c =
+    let context = context_by c.args.flags c.args.frame.now (registered_of c.args.sink.now) in
+    let asks = sym (c.if-asks_for_island.ensures context) in
+    let room = c.requires.room in
+    on_ok_weaker c.put_asking.result (λ emitted. asking_bounded context Unknown c.args.inst.now c.args.sink.now c.put_asking.new.sink c.requires.rule (omega (arith, room)) asks (emitted Unknown)) (c.put_asking.ensures.emitted asks)
+
 pub forgets_setting-requires-clause-fine : goal.forgets_setting-requires-clause-fine
 forgets_setting-requires-clause-fine c = (registered_of c.args.sink.now, fine (context_by c.args.flags c.args.frame.now (registered_of c.args.sink.now)) c.args.inst.now c.requires.rule)
 
@@ -32,7 +40,8 @@ pub returns-in_ok-put_sequence-clause-bounds : goal.returns-in_ok-put_sequence-c
 returns-in_ok-put_sequence-clause-bounds c =
     let context = context_by c.args.flags c.args.frame.now (registered_of c.args.sink.now) in
     let none = none_asked _ (c.if-asks_for_island.ensures context) in
-    block_bounds context c.args.inst.now c.args.sink.now c.put_sequence.new.sink c.requires.rule (inst_appends context c.args.inst.now c.args.sink.now c.put_sequence.new.sink c.requires.rule c.requires.sound none (c.in_ok-put_sequence.ensures.parts none))
+    let room = c.requires.room in
+    alone_bounded context c.args.inst.now c.args.sink.now c.put_sequence.new.sink c.requires.rule (omega (arith, room)) none (inst_appends context c.args.inst.now c.args.sink.now c.put_sequence.new.sink c.requires.rule c.requires.sound none (c.in_ok-put_sequence.ensures.parts none))
 
 pub returns-in_ok-put_sequence-clause-reach : goal.returns-in_ok-put_sequence-clause-reach
 returns-in_ok-put_sequence-clause-reach c =

@@ -1,0 +1,249 @@
+-- An instruction keeps its bounds: how many bytes it puts, how many uses more are pending, and how far they reach.
+use Rattle.std.proofs.Common.{◌≡◌, ℕ, ◌+◌, ◌≤◌, Bool, true, false, cond, List, [], ◌∷◌, length, Option, Some, None, pos, suc, refl, ap, sym, ◌∙◌, subst, arith, ⊎_elim}
+use Rattle.std.specs.Prelude.{is_some, ◌-◌, if◌then◌else◌}
+use Rattle.std.proofs.lemmas.List.{length-append, append-nil}
+use Rattle.rv_base.specs.declared.call.TryCallInfo.{TryCallInfo}
+use Rattle.rv_base.specs.declared.flags.IsaFlags.{IsaFlags}
+use Rattle.rv_base.specs.LabelUse.{code_limit}
+use Rattle.rv_base.specs.Regs.{number_of}
+use Rattle.rv_inst.specs.Context.{Context}
+use Rattle.rv_inst.specs.Forms.{jump_kind, jump_size, short_jalr}
+use Rattle.rv_inst.specs.LabelUse.{label_kinds, forward_of}
+use Rattle.rv_inst.specs.MostBytes.{sequence_limit}
+use Rattle.rv_inst.specs.Operands.{targets_of, ways_of, ways_by, inst_ways, try_call_of}
+use Rattle.rv_inst.specs.Rules.{inst_rule}
+use Rattle.rv_inst.specs.Sizes.{words_in, extent_of, island_space, inst_sum, call_size, try_size}
+use Rattle.rv_inst.specs.Uses.{use_at, target_uses, target_reach, jump_reach, inst_reach, uses_by, uses_in, least_reach}
+use Rattle.rv_inst.specs.declared.inst.CondBrTarget.TheVariants.{Label, Fallthrough}
+use Rattle.rv_inst.specs.declared.inst.Inst.{Inst}
+use Rattle.rv_inst.specs.declared.inst.Inst.TheVariants.{EmitIsland, BrTable, Call, CallInd, ReturnCall, ReturnCallInd}
+use Rattle.rv_inst.specs.declared.inst.Line.TheVariants.{Inst as Put}
+use Rattle.rv_inst.specs.declared.label_use.LabelUse.{LabelUse}
+use Rattle.rv_inst.specs.declared.label_use.LabelUse.TheVariants.{Jal20, B12, PCRelLo12I, RVCJump}
+use Rattle.rv_inst.specs.declared.targets.Targets.{Targets}
+use Rattle.rv_inst.specs.declared.targets.Targets.TheVariants.{Nowhere, Jumps, Branches, Refers, RefersConstant}
+use Rattle.mach_buffer.specs.declared.uses.Use.{Use}
+use Rattle.mach_buffer.specs.Buffer.{bytes_of, place_of}
+use Rattle.mach_buffer.specs.Reach.{AllOf, deadline, deadlines}
+use Rattle.mach_buffer.specs.Shape.{constant_label}
+use Rattle.rv_emit.specs.declared.state.EmitVState.{EmitVState}
+use Rattle.rv_emit.specs.Emission.{EmitsIn}
+use Rattle.rv_emit.specs.Emitted.{Buffer, pending, AppendsInst, IslandIfNeeded, IslandAsked, IsBounded}
+use Rattle.rv_emit.proofs.FineOperands.{fine}
+use Rattle.rv_emit.proofs.MostBytes.{words_within, most_in_sequence}
+use Rattle.rv_emit.proofs.ReachKept.{Each, each_none, each_more, waits, few_deadlines, bytes_put, pending_adds, pending_whole}
+use Rattle.rv_emit.proofs.TableAppends.{AppendsAfter, appends_table}
+use Rattle.rv_emit.proofs.TailAppends.{appends_tail, appends_t0}
+
+-- ---- how far uses reach
+
+-- a jump, or a branch, reaches as far as the shortest of its line, and so does a jump after a branch
+jump_least : (short : Bool) (start : ℕ) → start + (if short then 2046 else 1048574) ≤ start + forward_of (if short then RVCJump else Jal20)
+jump_least true start = omega arith
+jump_least false start = omega arith
+
+branch_least : (short : Bool) (start : ℕ) → start + (if short then 2046 else 4094) ≤ start + 4094
+branch_least true start = omega arith
+branch_least false start = omega arith
+
+after_least : (short : Bool) (start : ℕ) → start + (if short then 2046 else 4094) ≤ start + 4 + forward_of (if short then RVCJump else Jal20)
+after_least true start = omega arith
+after_least false start = omega arith
+
+-- a jump at the end of what begins before it, too
+last_least : (short : Bool) (start end : ℕ) → start + (if short then 2 else 4) ≤ end → start + (if short then 2046 else 1048574) ≤ end - (if short then 2 else 4) + forward_of (if short then RVCJump else Jal20)
+last_least true start end le = omega arith
+last_least false start end le = omega arith
+
+-- an instruction has room for the jump with which it goes on, where it is a call that does
+abbrev pub HasJump : IsaFlags → ℕ → ℕ → Option TryCallInfo → Type 0
+HasJump flags start end None = Unit {0}
+HasJump flags start end (Some t) = start + jump_size flags ≤ end
+
+-- each reaches as far as the shortest of its line
+pub uses_least : (context : Context) (start end : ℕ) (inst : Inst) → HasJump context.flags start end (try_call_of inst) → Each (λ u. start + least_reach context (Put inst) ≤ deadline label_kinds u) (uses_in context start end inst)
+uses_least context start end inst room = by (try_call_of inst) room
+  where
+    on : (targets : Targets) → Each (λ u. start + target_reach context.flags targets ≤ deadline label_kinds u) (target_uses context.flags start targets)
+    on Nowhere = each_none _
+    on (Jumps label) = each_more (λ u. start + target_reach context.flags (Jumps label) ≤ deadline label_kinds u) _ [] (jump_least context.flags.has_zca start) (each_none _)
+    on (Branches Fallthrough not_taken) = each_none _
+    on (Branches (Label t) Fallthrough) = each_more (λ u. start + target_reach context.flags (Branches (Label t) Fallthrough) ≤ deadline label_kinds u) _ [] (branch_least context.flags.has_zca start) (each_none _)
+    on (Branches (Label t) (Label f)) =
+        each_more (λ u. start + target_reach context.flags (Branches (Label t) (Label f)) ≤ deadline label_kinds u) _ (use_at (start + 4) f (jump_kind context.flags) ∷ []) (branch_least context.flags.has_zca start)
+        (each_more (λ u. start + target_reach context.flags (Branches (Label t) (Label f)) ≤ deadline label_kinds u) _ [] (after_least context.flags.has_zca start) (each_none _))
+    on (Refers label) =
+        each_more (λ u. start + 1048574 ≤ deadline label_kinds u) _ (use_at (start + 4) label PCRelLo12I ∷ []) (omega arith) (each_more (λ u. start + 1048574 ≤ deadline label_kinds u) _ [] (omega arith) (each_none _))
+    on (RefersConstant k) =
+        each_more (λ u. start + 1048574 ≤ deadline label_kinds u) _ (use_at (start + 4) (constant_label k) PCRelLo12I ∷ []) (omega arith) (each_more (λ u. start + 1048574 ≤ deadline label_kinds u) _ [] (omega arith) (each_none _))
+
+    by : (t : Option TryCallInfo) → HasJump context.flags start end t → Each (λ u. start + inst_reach context.flags t (targets_of inst) ≤ deadline label_kinds u) (uses_by context.flags start end t (targets_of inst))
+    by None room = on (targets_of inst)
+    by (Some t) room = each_more (λ u. start + jump_reach context.flags ≤ deadline label_kinds u) _ [] (last_least context.flags.has_zca start end room) (each_none _)
+
+-- a call that goes on has room for its jump
+pub has_jump : (context : Context) (inst : Inst) (start end : ℕ) → start + words_in (extent_of context inst) ≤ end → HasJump context.flags start end (try_call_of inst)
+has_jump context (Call info) start end within = on info.try_call_info within
+  where
+    on : (t : Option TryCallInfo) → start + (call_size context.flags 8 info.callee_pop_size + try_size context.flags t) ≤ end → HasJump context.flags start end t
+    on None within = tt
+    on (Some t) within = omega arith
+has_jump context (CallInd info) start end within = on info.try_call_info within
+  where
+    on : (t : Option TryCallInfo) → start + (call_size context.flags (short_jalr context.flags 1 (number_of info.dest) (pos 0)).len info.callee_pop_size + try_size context.flags t) ≤ end → HasJump context.flags start end t
+    on None within = tt
+    on (Some t) within = omega arith
+has_jump context _ start end within = tt
+
+-- what holds of the deadline of each use holds of those that pass a test
+all_deadlines : (P : ℕ → Type 0) (test : Use LabelUse → Bool) (uses : List (Use LabelUse)) → Each (λ u. P (deadline label_kinds u)) uses → AllOf P (deadlines test label_kinds uses)
+all_deadlines P test [] each = tt
+all_deadlines P test (u ∷ uses) each = on (test u) (each 0 u refl) (all_deadlines P test uses (λ k v h. each (suc k) v h))
+  where
+    on : (c : Bool) → P (deadline label_kinds u) → AllOf P (deadlines test label_kinds uses) → AllOf P (cond c (deadline label_kinds u ∷ deadlines test label_kinds uses) (deadlines test label_kinds uses))
+    on true first rest = (first, rest)
+    on false first rest = rest
+
+-- ---- how many
+
+-- no more are pending than it goes to labels
+pub few_ways : (context : Context) (place : ℕ → Option ℕ) (start end : ℕ) (inst : Inst) → length (deadlines (waits place) label_kinds (uses_in context start end inst)) ≤ length (inst_ways inst)
+few_ways context place start end inst = by (try_call_of inst)
+  where
+    of_uses : (uses : List (Use LabelUse)) (most : ℕ) → length uses ≤ most → length (deadlines (waits place) label_kinds uses) ≤ most
+    of_uses uses most le = let few = few_deadlines (waits place) label_kinds uses in omega arith
+
+    on : (targets : Targets) → length (deadlines (waits place) label_kinds (target_uses context.flags start targets)) ≤ length (ways_of targets)
+    on Nowhere = omega arith
+    on (Jumps label) = of_uses (use_at start label (jump_kind context.flags) ∷ []) 1 (omega arith)
+    on (Branches Fallthrough not_taken) = omega arith
+    on (Branches (Label t) Fallthrough) = of_uses (use_at start t B12 ∷ []) 1 (omega arith)
+    on (Branches (Label t) (Label f)) = of_uses (use_at start t B12 ∷ use_at (start + 4) f (jump_kind context.flags) ∷ []) 2 (omega arith)
+    on (Refers label) = omega arith
+    on (RefersConstant k) = omega arith
+
+    by : (t : Option TryCallInfo) → length (deadlines (waits place) label_kinds (uses_by context.flags start end t (targets_of inst))) ≤ length (ways_by t (targets_of inst))
+    by None = on (targets_of inst)
+    by (Some t) = of_uses (use_at (end - jump_size context.flags) t.continuation (jump_kind context.flags) ∷ []) 1 (omega arith)
+
+-- so many more are pending after an instruction at most
+pub ways_more : (context : Context) (inst : Inst) (old new : Buffer) → AppendsInst context inst old new → length (pending new) ≤ length (pending old) + length (inst_ways inst)
+ways_more context inst old new p =
+    let whole = pending_whole context inst old new p in
+    let few = few_ways context (place_of old) (length (bytes_of old)) (length (bytes_of new)) inst in
+    omega (arith, whole, few)
+
+-- none where it goes to no label
+pub none_more : (context : Context) (inst : Inst) (old new : Buffer) → inst_ways inst ≡ [] → AppendsInst context inst old new → length (pending new) ≤ length (pending old)
+none_more context inst old new none p = let more = ways_more context inst old new p in let few : length (inst_ways inst) ≡ 0 = ap length none in omega (arith, more, few)
+
+-- two at most
+pub ways_few : (inst : Inst) → length (inst_ways inst) ≤ 2
+ways_few inst = by (try_call_of inst)
+  where
+    on : (targets : Targets) → length (ways_of targets) ≤ 2
+    on Nowhere = omega arith
+    on (Jumps label) = omega arith
+    on (Branches Fallthrough Fallthrough) = omega arith
+    on (Branches Fallthrough (Label f)) = omega arith
+    on (Branches (Label t) Fallthrough) = omega arith
+    on (Branches (Label t) (Label f)) = omega arith
+    on (Refers label) = omega arith
+    on (RefersConstant constant) = omega arith
+
+    by : (t : Option TryCallInfo) → length (ways_by t (targets_of inst)) ≤ 2
+    by None = on (targets_of inst)
+    by (Some t) = omega arith
+
+-- ---- bounds
+
+-- what an island leaves is as long at least
+island_longer : (space : Option ℕ) (old new : Buffer) → IslandAsked space old new → length (bytes_of old) ≤ length (bytes_of new)
+island_longer None old new same = let level : length (bytes_of new) ≡ length (bytes_of old) = ap (λ (b : Buffer). length (bytes_of b)) same in omega arith
+island_longer (Some space) old new (made, room) = ⊎_elim
+    (λ same. let level : length (bytes_of new) ≡ length (bytes_of old) = ap (λ (b : Buffer). length (bytes_of b)) same.1 in omega (arith, level))
+    (λ put. let longer = put.1.longer in omega (arith, longer))
+    room.put
+
+-- words that stand after an island, where the instruction asks for one
+words_bounded : (context : Context) (inst : Inst) (old mid new : Buffer) → inst_rule context inst ≡ None → inst_sum context inst ≤ code_limit → IslandAsked (island_space context inst) old mid → AppendsInst context inst mid new → IsBounded context inst old new
+words_bounded context inst old mid new rule small island p = record {
+  before = old;
+  after = mid;
+  first = 0;
+  rest = words_in (extent_of context inst);
+  starts = omega arith;
+  island = island;
+  ends = long;
+  most = let most = words_within context inst rule small in omega (arith, most);
+  added = deadlines (waits (place_of mid)) label_kinds own;
+  keeps = refl;
+  adds = pending_adds context inst mid new p;
+  few = few_ways context (place_of mid) (length (bytes_of mid)) (length (bytes_of new)) inst;
+  late = all_deadlines (λ d. length (bytes_of old) + least_reach context (Put inst) ≤ d) (waits (place_of mid)) own each;
+}
+  where
+    own : List (Use LabelUse)
+    own = uses_in context (length (bytes_of mid)) (length (bytes_of new)) inst
+
+    long : length (bytes_of new) ≡ length (bytes_of mid) + words_in (extent_of context inst)
+    long = bytes_put context inst mid new p
+
+    each : Each (λ u. length (bytes_of old) + least_reach context (Put inst) ≤ deadline label_kinds u) own
+    each k u h =
+        let longer = island_longer (island_space context inst) old mid island in
+        let least = uses_least context (length (bytes_of mid)) (length (bytes_of new)) inst (has_jump context inst (length (bytes_of mid)) (length (bytes_of new)) (omega (arith, long))) k u h in
+        omega (arith, longer, least)
+
+-- an instruction that asks for no island
+pub alone_bounded : (context : Context) (inst : Inst) (old new : Buffer) → inst_rule context inst ≡ None → inst_sum context inst ≤ code_limit → island_space context inst ≡ None → AppendsInst context inst old new → IsBounded context inst old new
+alone_bounded context inst old new rule small none p = words_bounded context inst old old new rule small (subst (λ space. IslandAsked space old old) (sym none) refl) p
+
+-- one that does
+pub asking_bounded : (context : Context) (setting : EmitVState) (inst : Inst) (old new : Buffer) → inst_rule context inst ≡ None → inst_sum context inst ≤ code_limit → is_some (island_space context inst) ≡ true → EmitsIn context setting inst old new → IsBounded context inst old new
+asking_bounded context setting (EmitIsland space) old new rule small asks (mid, made, room, same) = record {
+  before = old;
+  after = new;
+  first = 0;
+  rest = 0;
+  starts = omega arith;
+  island = (made, subst (λ (b : Buffer). IslandIfNeeded space old b made) (sym same) room);
+  ends = omega arith;
+  most = omega arith;
+  added = [];
+  keeps = refl;
+  adds = sym (append-nil (pending new));
+  few = omega arith;
+  late = tt;
+}
+asking_bounded context setting (BrTable index tmp1 tmp2 targets) old new rule small asks e =
+    let some = (fine context (BrTable index tmp1 tmp2 targets) rule).4 in
+    let a = appends_table context setting index tmp1 tmp2 targets old new some e in
+    words_bounded context (BrTable index tmp1 tmp2 targets) old a.mid new rule small (a.made, a.room) a.words
+asking_bounded context setting (ReturnCall info) old new rule small asks e =
+    let a = appends_tail context setting info old new e in words_bounded context (ReturnCall info) old a.mid new rule small (a.made, a.room) a.words
+asking_bounded context setting (ReturnCallInd info) old new rule small asks e =
+    let a = appends_t0 context setting info old new e in words_bounded context (ReturnCallInd info) old a.mid new rule small (a.made, a.room) a.words
+asking_bounded context setting _ old new rule small asks e = absurd (cc)
+
+-- what the bounds of an instruction that asks for no island give
+module _ (context : Context) (inst : Inst) (old new : Buffer) (none : island_space context inst ≡ None) (b : IsBounded context inst old new) where
+  level : b.after ≡ b.before
+  level = subst (λ space. IslandAsked space b.before b.after) none b.island
+
+  pub alone_longer : length (bytes_of new) ≤ length (bytes_of old) + sequence_limit
+  alone_longer =
+      let starts = b.starts in
+      let ends = b.ends in
+      let most = b.most in
+      let limit = most_in_sequence context inst none in
+      let same : length (bytes_of b.after) ≡ length (bytes_of b.before) = ap (λ (m : Buffer). length (bytes_of m)) level in
+      omega (arith, starts, ends, most, limit, same)
+
+  pub alone_pending : length (pending new) ≤ length (pending old) + 2
+  alone_pending =
+      let few = b.few in
+      let ways = ways_few inst in
+      let whole : length (pending new) ≡ length (pending b.after) + length b.added = ap length b.adds ∙ length-append (pending b.after) b.added in
+      let same : length (pending b.after) ≡ length (pending old) = ap (λ (m : Buffer). length (pending m)) level ∙ ap length b.keeps in
+      omega (arith, few, ways, whole, same)

@@ -1,0 +1,154 @@
+-- An instruction that breaks no rule has at most as many bytes as its kind may.
+use Rattle.std.proofs.Common.{◌≡◌, ◌⊎◌, inl, inr, ℕ, ◌+◌, ◌-◌, ◌*◌, ◌/◌, ◌<◌, ◌≤◌, Bool, true, false, List, length, None, arith}
+use Rattle.std.specs.Prelude.{nat_eq, ℤ, pos, negsuc, if◌then◌else◌}
+use Rattle.rv_base.specs.declared.flags.IsaFlags.{IsaFlags}
+use Rattle.rv_base.specs.declared.frame.FrameLayout.{FrameLayout}
+use Rattle.rv_base.specs.declared.ir_type.IrType.{IrType}
+use Rattle.rv_base.specs.declared.ir_type.IrType.TheVariants.{I32, I64}
+use Rattle.rv_base.specs.IrType.{bits_of}
+use Rattle.rv_base.specs.LabelUse.{code_limit}
+use Rattle.rv_base.specs.Regs.{number_of}
+use Rattle.rv_machine.specs.Arithmetic.{low_word}
+use Rattle.rv_machine.specs.declared.decoding.Decoded.{Decoded}
+use Rattle.rv_ops.specs.declared.alu.AluOPRRR.TheVariants.{Add, And}
+use Rattle.rv_ops.specs.declared.alu.AluOPRRI.TheVariants.{Addi, Slli, Srli}
+use Rattle.rv_ops.specs.declared.memory.LoadOP.{LoadOP}
+use Rattle.rv_ops.specs.declared.memory.StoreOP.{StoreOP}
+use Rattle.rv_inst.specs.Addresses.{Location, Based, AtLabel, AtConstant, location_of, is_near, inline_size, far_address_size, address_size, load_size_at, store_size_at}
+use Rattle.rv_inst.specs.Context.{Context}
+use Rattle.rv_inst.specs.Forms.{jump_size, short_rrr, short_rri, short_lui, short_jalr, short_ebreak, short_load, short_store}
+use Rattle.rv_inst.specs.MostBytes.{most_bytes, return_limit, sequence_limit}
+use Rattle.rv_inst.specs.Returns.{restores, frame_above}
+use Rattle.rv_inst.specs.Rules.{is_word_type, inst_rule}
+use Rattle.rv_inst.specs.Sizes.{words_in, extent_of, island_space, inst_sum, move_size, branch_size, count_size, trap_size, return_size}
+use Rattle.rv_inst.specs.declared.inst.CondBrTarget.{CondBrTarget}
+use Rattle.rv_inst.specs.declared.inst.CondBrTarget.TheVariants.{Label, Fallthrough}
+use Rattle.rv_inst.specs.declared.inst.Inst.{Inst}
+use Rattle.rv_inst.specs.declared.inst.Inst.TheVariants.{Nop0, Nop4, EBreak, SequencePoint, Args, Rets, DummyUse, EmitIsland, RawData, Lui, Auipc, LoadInlineConst, AluRRR, AluRRImm12, Mov, MovFromPReg, Extend, Select, Load, Store, LoadAddr, LabelAddress, Ret, TrapIf, Jal, CondBr, BrTable, Udf, Jalr, Popcnt, Cltz, Brev8, StackProbeLoop, LoadExtNameGot, LoadExtNameNear, LoadExtNameFar, Call, CallInd, ReturnCall, ReturnCallInd, Unwind}
+use Rattle.rv_emit.proofs.CallSlots.{call_short, call_ind_short}
+use Rattle.rv_emit.proofs.ChoiceSlots.{extend_short, select_short}
+use Rattle.rv_emit.proofs.FineOperands.{fine}
+use Rattle.rv_emit.proofs.OffsetSizes.{far_short}
+use Rattle.rv_emit.proofs.Operands.{keeps, data_kept, constant_kept}
+use Rattle.rv_emit.proofs.ProbeSlots.{probe_short}
+use Rattle.rv_emit.proofs.ReverseSlots.{reverse_short}
+use Rattle.rv_emit.proofs.ShortOps.{HasSize, rrr_sized, rri_sized, lui_sized, jalr_sized, ebreak_sized, load_sized, store_sized, least_few}
+use Rattle.rv_emit.proofs.TableSlots.{table_short}
+use Rattle.rv_emit.proofs.TailSlots.{loads_most, step_most}
+use Rattle.rv_emit.proofs.ZerosSlots.{zeros_short}
+
+-- ---- pieces
+
+move_short : (flags : IsaFlags) (rd rs : ℕ) → move_size flags rd rs ≤ 4
+move_short flags rd rs = on (nat_eq rd rs)
+  where
+    on : (c : Bool) → (if c then 0 else (short_rri flags Addi rd rs (pos 0)).len) ≤ 4
+    on true = omega arith
+    on false = (rri_sized flags Addi rd rs (pos 0)).few
+
+data_short : (bytes : List ℕ) → (length bytes ≡ 4) ⊎ (length bytes ≡ 8) → length bytes ≤ 8
+data_short bytes (inl e) = omega arith
+data_short bytes (inr e) = omega arith
+
+constant_short : (flags : IsaFlags) (type : IrType) → is_word_type type ≡ true → inline_size flags (bits_of type / 8) ≤ 20
+constant_short flags I32 word = let few = least_few flags in omega arith
+constant_short flags I64 word = let few = least_few flags in omega arith
+constant_short flags _ word = absurd (cc)
+
+address_short : (flags : IsaFlags) (rd : ℕ) (at : Location) → address_size flags rd at ≤ 24
+address_short flags rd (Based r o) = on (is_near o)
+  where
+    on : (c : Bool) → (if c then (short_rri flags Addi rd r o).len else far_address_size flags rd r o) ≤ 24
+    on true = let few = (rri_sized flags Addi rd r o).few in omega arith
+    on false = let far = far_short flags rd o in let few = (rrr_sized flags Add rd rd r).few in omega arith
+address_short flags rd (AtLabel l) = omega arith
+address_short flags rd (AtConstant k) = omega arith
+
+access_short : (flags : IsaFlags) (near : Decoded) (r : ℕ) (o : ℤ) (c : Bool) → HasSize near → (if c then near.len else far_address_size flags 31 r o + 4) ≤ 28
+access_short flags near r o true size = let few = size.few in omega arith
+access_short flags near r o false size = let far = far_short flags 31 o in let few = (rrr_sized flags Add 31 31 r).few in omega arith
+
+load_short : (flags : IsaFlags) (op : LoadOP) (rd : ℕ) (at : Location) → load_size_at flags op rd at ≤ 28
+load_short flags op rd (Based r o) = access_short flags (short_load flags op rd r o) r o (is_near o) (load_sized flags op rd r o)
+load_short flags op rd (AtLabel l) = omega arith
+load_short flags op rd (AtConstant k) = omega arith
+
+store_short : (flags : IsaFlags) (op : StoreOP) (src : ℕ) (at : Location) → store_size_at flags op src at ≤ 28
+store_short flags op src (Based r o) = access_short flags (short_store flags op r src o) r o (is_near o) (store_sized flags op r src o)
+store_short flags op src (AtLabel l) = omega arith
+store_short flags op src (AtConstant k) = omega arith
+
+branch_short : (flags : IsaFlags) (t f : CondBrTarget) → branch_size flags t f ≤ 8
+branch_short flags Fallthrough f = omega arith
+branch_short flags (Label t) Fallthrough = omega arith
+branch_short flags (Label t) (Label f) = let few = least_few flags in omega arith
+
+count_short : (flags : IsaFlags) (sum tmp step rs bits : ℕ) → count_size flags sum tmp step rs bits ≤ 44
+count_short flags sum tmp step rs bits =
+    let a = (rri_sized flags Addi sum 0 (pos 0)).few in
+    let b = (rri_sized flags Addi step 0 (pos bits)).few in
+    let c = (rri_sized flags Addi tmp 0 (pos 1)).few in
+    let d = (rri_sized flags Slli tmp tmp (pos (bits - 1))).few in
+    let e = (rrr_sized flags And 30 tmp rs).few in
+    let f = (rri_sized flags Addi sum sum (pos 1)).few in
+    let g = (rri_sized flags Addi step step (negsuc 0)).few in
+    let h = (rri_sized flags Srli tmp tmp (pos 1)).few in
+    let few = least_few flags in
+    omega arith
+
+return_short : (flags : IsaFlags) (frame : FrameLayout) (arguments : ℕ) → return_size flags frame arguments ≤ return_limit frame
+return_short flags frame arguments = let a = loads_most flags (restores frame) in let b = step_most flags (pos (frame_above frame arguments)) in omega arith
+
+-- ---- the table
+
+-- one that counts for no more bytes than code may have
+pub words_within : (context : Context) (inst : Inst) → inst_rule context inst ≡ None → inst_sum context inst ≤ code_limit → words_in (extent_of context inst) ≤ most_bytes context inst
+words_within context Nop0 rule small = omega arith
+words_within context Nop4 rule small = omega arith
+words_within context EBreak rule small = (ebreak_sized context.flags).few
+words_within context SequencePoint rule small = omega arith
+words_within context (Args args) rule small = omega arith
+words_within context (Rets rets) rule small = omega arith
+words_within context (DummyUse reg) rule small = omega arith
+words_within context (Unwind inst) rule small = omega arith
+words_within context (EmitIsland needed_space) rule small = omega arith
+words_within context (RawData bytes) rule small = data_short bytes (data_kept bytes (keeps context _ rule))
+words_within context (Lui rd imm) rule small = (lui_sized context.flags (number_of rd.reg) imm.value).few
+words_within context (Auipc rd imm) rule small = omega arith
+words_within context (LoadInlineConst rd type imm) rule small = constant_short context.flags type (constant_kept rd type imm (keeps context _ rule)).typed
+words_within context (AluRRR op rd rs1 rs2) rule small = (rrr_sized context.flags op (number_of rd.reg) (number_of rs1) (number_of rs2)).few
+words_within context (AluRRImm12 op rd rs imm) rule small = (rri_sized context.flags op (number_of rd.reg) (number_of rs) imm.value).few
+words_within context (Mov rd rm type) rule small = move_short context.flags _ _
+words_within context (MovFromPReg rd rm) rule small = move_short context.flags _ _
+words_within context (Extend rd rn signed from_bits to_bits) rule small = extend_short context.flags (number_of rd.reg) (number_of rn) signed from_bits
+words_within context (Select info) rule small = select_short context.flags info.dst info.x info.y
+words_within context (Load rd op flags from) rule small = load_short context.flags op (number_of rd.reg) (location_of context.frame from)
+words_within context (Store to op flags src) rule small = store_short context.flags op (number_of src) (location_of context.frame to)
+words_within context (LoadAddr rd mem) rule small = address_short context.flags (number_of rd.reg) (location_of context.frame mem)
+words_within context (LabelAddress dst label) rule small = omega arith
+words_within context Ret rule small = (jalr_sized context.flags 0 1 (pos 0)).few
+words_within context (TrapIf cmp code) rule small = let few : trap_size context.flags ≤ 4 = least_few context.flags in omega arith
+words_within context (Jal label) rule small = least_few context.flags
+words_within context (CondBr t f kind) rule small = branch_short context.flags t f
+words_within context (BrTable index tmp1 tmp2 targets) rule small = let some = (fine context (BrTable index tmp1 tmp2 targets) rule).4 in let short = table_short context.flags (number_of index) (number_of tmp2.reg) (length targets) some (omega arith) in omega arith
+words_within context (Udf code) rule small = least_few context.flags
+words_within context (Jalr rd base offset) rule small = (jalr_sized context.flags (number_of rd.reg) (number_of base) offset.value).few
+words_within context (Popcnt sum tmp step rs type) rule small = count_short context.flags (number_of sum.reg) (number_of tmp.reg) (number_of step.reg) (number_of rs) (bits_of type)
+words_within context (Cltz sum tmp step rs leading type) rule small = zeros_short context.flags leading (number_of sum.reg) (number_of tmp.reg) (number_of step.reg) (number_of rs) (bits_of type)
+words_within context (Brev8 rs type step tmp tmp2 rd) rule small = reverse_short context.flags (number_of rd.reg) (number_of tmp.reg) (number_of tmp2.reg) (number_of step.reg) (number_of rs) (bits_of type)
+words_within context (StackProbeLoop guard_size probe_count tmp) rule small = probe_short context.flags (number_of tmp.reg) (low_word guard_size) (low_word probe_count)
+words_within context (LoadExtNameGot rd name) rule small = omega arith
+words_within context (LoadExtNameNear rd name offset) rule small = omega arith
+words_within context (LoadExtNameFar rd name offset) rule small = let few = least_few context.flags in omega arith
+words_within context (Call info) rule small = call_short context.flags info.callee_pop_size info.try_call_info
+words_within context (CallInd info) rule small = call_ind_short context.flags (number_of info.dest) info.callee_pop_size info.try_call_info
+words_within context (ReturnCall info) rule small = let short = return_short context.flags context.frame info.new_stack_arg_size in omega arith
+words_within context (ReturnCallInd info) rule small = let short = return_short context.flags context.frame info.new_stack_arg_size in let few = (jalr_sized context.flags 0 5 (pos 0)).few in omega arith
+
+-- where it asks for no island, no kind has more than so many
+pub most_in_sequence : (context : Context) (inst : Inst) → island_space context inst ≡ None → most_bytes context inst ≤ sequence_limit
+most_in_sequence context (EmitIsland needed_space) asks = absurd (cc)
+most_in_sequence context (BrTable index tmp1 tmp2 targets) asks = absurd (cc)
+most_in_sequence context (ReturnCall info) asks = absurd (cc)
+most_in_sequence context (ReturnCallInd info) asks = absurd (cc)
+most_in_sequence context inst asks = omega arith
