@@ -13,4 +13,5 @@ pub mod LastVeneers
 pub mod Lasting
 pub mod ConstantsPut
 pub mod Pieces
+pub mod SoundBuffers
 pub mod Laws

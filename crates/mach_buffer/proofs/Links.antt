@@ -72,6 +72,7 @@ windows_bytes {L} {kinds} {bytes} w more =
       inside = λ j u h. let i = w.inside j u h in omega arith;
       fresh = λ j u h. subst (IsFresh (kinds.fields u.kind)) (sym (window_stays bytes (bytes ++ more) u.offset (length (kinds.fields u.kind)) (w.inside j u h) (take_front bytes more))) (w.fresh j u h);
       apart = w.apart;
+      veneers = λ j u at h e. let i = w.veneers j u at h e in omega arith;
       clear = w.clear;
     }
 
@@ -94,23 +95,25 @@ pub record OwnWindows {L : Type 0} (kinds : Kinds L) (start : ℕ) (block : List
   pub fresh : (k : ℕ) (u : Use L) → slice_get own k ≡ Some u → IsFresh (kinds.fields u.kind) (window block (u.offset - start) (length (kinds.fields u.kind)))
   pub apart : (j k : ℕ) (u v : Use L) → j ≢ k → slice_get own j ≡ Some u → slice_get own k ≡ Some v → IsApart u.offset (length (kinds.fields u.kind)) v.offset (length (kinds.fields v.kind))
 
-pub windows_block : {L : Type 0} {kinds : Kinds L} {bytes : List ℕ} {uses : List (Use L)} → AreWindows kinds bytes uses → IsLinked kinds bytes uses → (block : List ℕ) (own : List (Use L)) → OwnWindows kinds (length bytes) block own → AreWindows kinds (bytes ++ block) (uses ++ own)
-windows_block {L} {kinds} {bytes} {uses} w l block own o = record {
+pub windows_block : {L : Type 0} {kinds : Kinds L} {bytes : List ℕ} {uses : List (Use L)} → AreWindows kinds bytes uses → (block : List ℕ) (own : List (Use L)) → OwnWindows kinds (length bytes) block own → AreWindows kinds (bytes ++ block) (uses ++ own)
+windows_block {L} {kinds} {bytes} {uses} w block own o = record {
   even = both_lists (λ x. x.offset % 2 ≡ 0) uses own w.even o.even;
   inside = both_lists (λ x. x.offset + length (kinds.fields x.kind) ≤ length (bytes ++ block)) uses own (λ k x q. let i = w.inside k x q in omega (arith, length-append bytes block)) (λ k x q. let i = o.ends k x q in omega (arith, length-append bytes block));
   fresh = both_lists (λ x. IsFresh (kinds.fields x.kind) (window (bytes ++ block) x.offset (length (kinds.fields x.kind)))) uses own (windows_bytes w block).fresh
       (λ k x q. subst (IsFresh (kinds.fields x.kind)) (sym (window_block bytes block x.offset (length (kinds.fields x.kind)) (o.begins k x q))) (o.fresh k x q));
   apart = λ j k u v ne hj hk. grind (arith, locate uses own j u hj, locate uses own k v hk, w.apart j k u v, o.apart, w.inside j u, w.inside k v, o.begins);
-  clear = λ j k u v at hj e hk. grind (arith, locate uses own j u hj, locate uses own k v hk, w.clear j k u v at, l.each j u at, o.begins, o.bare);
+  veneers = λ j u at h e. both_lists (λ x. (to : ℕ) → x.veneer ≡ Some to → to + 8 ≤ length (bytes ++ block)) uses own
+      (λ k x q to v. let i = w.veneers k x to q v in omega (arith, length-append bytes block)) (λ k x q to v. absurd (none_some x.veneer to (o.bare k x q) v)) j u h at e;
+  clear = λ j k u v at hj e hk. grind (arith, locate uses own j u hj, locate uses own k v hk, w.clear j k u v at, w.veneers j u at, o.begins, o.bare);
 }
 
 -- with one use
-pub windows_use : {L : Type 0} {kinds : Kinds L} {bytes : List ℕ} {uses : List (Use L)} → AreWindows kinds bytes uses → IsLinked kinds bytes uses → (block : List ℕ) (u : Use L) (from : ℕ) → u.veneer ≡ None → u.offset % 2 ≡ 0 → u.offset ≡ length bytes + from → from + length (kinds.fields u.kind) ≤ length block →
+pub windows_use : {L : Type 0} {kinds : Kinds L} {bytes : List ℕ} {uses : List (Use L)} → AreWindows kinds bytes uses → (block : List ℕ) (u : Use L) (from : ℕ) → u.veneer ≡ None → u.offset % 2 ≡ 0 → u.offset ≡ length bytes + from → from + length (kinds.fields u.kind) ≤ length block →
     IsFresh (kinds.fields u.kind) (window block from (length (kinds.fields u.kind))) → AreWindows kinds (bytes ++ block) (uses ++ u ∷ [])
-windows_use {L} {kinds} {bytes} w l block u from bare even at ends fresh =
+windows_use {L} {kinds} {bytes} w block u from bare even at ends fresh =
     let start : u.offset - length bytes ≡ from = omega arith in
     let there : IsFresh (kinds.fields u.kind) (window block (u.offset - length bytes) (length (kinds.fields u.kind))) = rw start fresh in
-    windows_block w l block (u ∷ []) (record {
+    windows_block w block (u ∷ []) (record {
       bare = only_one (λ x. x.veneer ≡ None) u bare;
       even = only_one (λ x. x.offset % 2 ≡ 0) u even;
       begins = λ k x h. grind (arith, one_there u k x h);
@@ -122,9 +125,9 @@ windows_use {L} {kinds} {bytes} w l block u from bare even at ends fresh =
 -- ---- a veneer
 
 -- a use gets a veneer that stands
-windows_set : {L : Type 0} {kinds : Kinds L} {bytes : List ℕ} {uses : List (Use L)} → HasLaw kinds → IsLinked kinds bytes uses → (i : ℕ) (u : Use L) → slice_get uses i ≡ Some u → kinds.has_veneer u.kind ≡ true → (at : ℕ) → AreWindows kinds bytes uses →
+windows_set : {L : Type 0} {kinds : Kinds L} {bytes : List ℕ} {uses : List (Use L)} → HasLaw kinds → IsLinked kinds bytes uses → (i : ℕ) (u : Use L) → slice_get uses i ≡ Some u → kinds.has_veneer u.kind ≡ true → (at : ℕ) → at + 8 ≤ length bytes → AreWindows kinds bytes uses →
     ((k : ℕ) (y : Use L) → slice_get uses k ≡ Some y → (y ≡ veneer_use (kinds.veneer u.kind) at u.label) ⊎ IsApart y.offset (length (kinds.fields y.kind)) at 8) → AreWindows kinds bytes (set uses i (record u { veneer = Some at }))
-windows_set {L} {kinds} {bytes} {uses} law l i u there supported at w fits =
+windows_set {L} {kinds} {bytes} {uses} law l i u there supported at within w fits =
     let v : Use L = record u { veneer = Some at } in
     let was = changed uses i v in
     -- a use in a veneer supports none
@@ -134,6 +137,7 @@ windows_set {L} {kinds} {bytes} {uses} law l i u there supported at w fits =
       inside = set_each (λ x. x.offset + length (kinds.fields x.kind) ≤ length bytes) uses i v (w.inside i u there) w.inside;
       fresh = set_each (λ x. IsFresh (kinds.fields x.kind) (window bytes x.offset (length (kinds.fields x.kind)))) uses i v (w.fresh i u there) w.fresh;
       apart = λ j k x y ne hj hk. grind (arith, was j x hj, was k y hk, w.apart j k x y ne, w.apart j k u y ne, w.apart j k x u ne);
+      veneers = λ j x to h e. grind (arith, was j x h, w.veneers j x to, within);
       clear = λ j k x y to hj e hk. grind (arith, was j x hj, was k y hk, w.clear j k x y to, w.clear j k x u to, fits k y, fits k u, final j x to, (law u.kind supported).final);
     }
 
@@ -161,6 +165,6 @@ veneer_put {L} {kinds} {bytes} {uses} law l i u there near supported even =
     let fresh = fresh_in_prefix (kinds.fields V.kind) 0 (length rest) (length (kinds.fields V.kind)) rest (omega (arith, length-drop V.place V.bytes, ok.eight, ok.inside)) (omega arith) (subst (IsFresh (kinds.fields V.kind)) (sym (take_all (length rest) rest (omega arith))) ok.fresh) in
     rw (← set-append_left uses (own ∷ []) i (record u { veneer = Some (length bytes) }) (below uses i u there)) (
       linked_set law more i u still (length bytes) has,
-      λ w. windows_set law more i u still supported (length bytes) (windows_use w l V.bytes own V.place refl (omega (arith, even, ok.place_even)) refl (omega (arith, ok.eight, ok.inside)) fresh)
+      λ w. windows_set law more i u still supported (length bytes) has.inside (windows_use w V.bytes own V.place refl (omega (arith, even, ok.place_even)) refl (omega (arith, ok.eight, ok.inside)) fresh)
           (append_each (λ y. (y ≡ own) ⊎ IsApart y.offset (length (kinds.fields y.kind)) (length bytes) 8) uses own (inl refl) (λ k y h. inr (inl (w.inside k y h)))),
     )

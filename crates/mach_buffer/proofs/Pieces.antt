@@ -1,6 +1,6 @@
 -- A piece of code, with one use or none, as it is put and in finished code.
 use Rattle.std.proofs.Common.{◌≡◌, ℕ, ◌+◌, ◌%◌, ◌≤◌, inl, inr, ⊎_elim, List, [], ◌∷◌, ◌++◌, length, Option, Some, None, refl, ap, sym, ◌∙◌, subst, arith}
-use Rattle.mach_buffer.proofs.Words.{false_from_ne_true, same_Some, length-append, take_all, slice_get, Kinds, Veneer, IsFresh, Patch, Use, Shape, with_bytes, with_use, core, recorded, HasVeneer, IsLinked, window, IsApart, AreWindows, AllEnd, KeepsOthers, patch_of, patches_of, is_pending, IsVia, Arrives, Finishes, Grows, Lasts, IsPiece, UseFinished, AllStand, HasConstants, Inside, AreSound}
+use Rattle.mach_buffer.proofs.Words.{false_from_ne_true, same_Some, length-append, take_all, slice_get, Kinds, Veneer, IsFresh, Patch, Use, Shape, with_bytes, with_use, core, recorded, HasVeneer, window, IsApart, AreWindows, AllEnd, KeepsOthers, patch_of, patches_of, is_pending, IsVia, Arrives, Finishes, Grows, Lasts, IsPiece, UseFinished, AllStand, HasConstants}
 use Rattle.mach_buffer.proofs.Lasting.{grows_more}
 use Rattle.mach_buffer.proofs.LastVeneers.{some_place, finish_keeps}
 use Rattle.mach_buffer.proofs.Links.{window_stays, window_last, recorded_get, windows_bytes, windows_use}
@@ -12,11 +12,11 @@ use Rattle.mach_buffer.proofs.VeneersAndConstants.{recorded_at}
 pub windows_with_bytes : {L : Type 0} {kinds : Kinds L} (s : Shape L) → AreWindows kinds s.bytes s.uses → (piece : List ℕ) → AreWindows kinds (with_bytes piece s).bytes (with_bytes piece s).uses
 windows_with_bytes s w piece = windows_bytes w piece
 
-pub windows_with_use : {L : Type 0} {kinds : Kinds L} (s : Shape L) → AreWindows kinds s.bytes s.uses → IsLinked kinds s.bytes s.uses → length s.bytes % 2 ≡ 0 → (piece : List ℕ) (u : Use L) → IsPiece kinds s piece u → IsFresh (kinds.fields u.kind) piece →
+pub windows_with_use : {L : Type 0} {kinds : Kinds L} (s : Shape L) → AreWindows kinds s.bytes s.uses → length s.bytes % 2 ≡ 0 → (piece : List ℕ) (u : Use L) → IsPiece kinds s piece u → IsFresh (kinds.fields u.kind) piece →
     AreWindows kinds (with_bytes piece (with_use u s)).bytes (with_bytes piece (with_use u s)).uses
-windows_with_use {L} {kinds} s w l even piece u is fresh =
+windows_with_use {L} {kinds} s w even piece u is fresh =
     let whole = take_all (length (kinds.fields u.kind)) piece (omega (arith, is.long)) in
-    windows_use w l piece u 0 is.bare (omega (arith, is.at)) (omega (arith, is.at)) (omega (arith, is.long)) (rw whole fresh)
+    windows_use w piece u 0 is.bare (omega (arith, is.at)) (omega (arith, is.at)) (omega (arith, is.long)) (rw whole fresh)
 
 -- ---- a piece with no use
 
@@ -52,8 +52,8 @@ abbrev has_core : {L : Type 0} {kinds : Kinds L} {bytes : List ℕ} {uses : List
 has_core h = record { inside = h.inside; code = h.code; index = h.index; own = h.own; near = h.near; after = h.after; supported = h.supported; even = h.even }
 
 module _ {L : Type 0} {kinds : Kinds L} {s f : Shape L} {piece bytes : List ℕ} where
-  pub use_finished : {u : Use L} {p : Inside} → IsPiece kinds s piece u → Lasts kinds (with_bytes piece (with_use u s)) f → AreSound kinds f p → (fin : Finishes kinds f bytes) → UseFinished kinds s f fin.put bytes piece u
-  use_finished {u} is lasts sound fin =
+  pub use_finished : {u : Use L} → IsPiece kinds s piece u → Lasts kinds (with_bytes piece (with_use u s)) f → (fin : Finishes kinds f bytes) → UseFinished kinds s f fin.put bytes piece u
+  use_finished {u} is lasts fin =
       let x = grows_more lasts.grows fin.grows in
       let J = length s.uses in
       let here = recorded_get (s.uses ++ u ∷ []) J u (slice_get-append_last s.uses u) in

@@ -21,11 +21,12 @@ pub use Rattle.rv_base.specs.declared.constant.Constant.{Constant}
 pub use Rattle.rv_base.specs.declared.constant.VCodeConstant.{VCodeConstant}
 pub use Rattle.rv_base.specs.declared.label.MachLabel.{MachLabel}
 pub use Rattle.mach_labels.specs.Table.{first_constant, first_inner}
-pub use Rattle.mach_buffer.specs.Buffer.{AreSound, bytes_of, constants_of, Inside, inside_of, named_of, place_of, registered_of, shape_of, spoiled_of, uses_of}
-pub use Rattle.mach_buffer.specs.Constants.{aligned_to, AllStand, AreNoted, AreOrdered, constant_end, constants_end, ConstantStands, end_after, HasConstants, IsOrdered, offset_in, put_constant, put_constant_at, put_constants, put_each, reserve_from, reserve_of, zeros}
+pub use Rattle.mach_buffer.specs.Buffer.{allocated_of, bytes_of, constants_of, named_of, place_of, registered_of, shape_of, spoiled_of, uses_of}
+pub use Rattle.mach_buffer.specs.Constants.{aligned_to, AllStand, constant_end, constants_end, ConstantStands, end_after, HasConstants, offset_in, put_constant, put_constant_at, put_constants, put_each, reserve_from, reserve_of, zeros}
 pub use Rattle.mach_buffer.specs.Finish.{AllArrive, Arrives, before_last, CanFinish, Finishes, IsVia, last_end, padded_for, pending_in}
 pub use Rattle.mach_buffer.specs.Growth.{Grows, Lasts, RecordsLast}
-pub use Rattle.mach_buffer.specs.Islands.{aligned, CanIsland, first_of, is_far, IsJumpOver, island_veneers, Islanded, IsOwn, needs_own, others_of, padded, padding, with_own}
+pub use Rattle.mach_buffer.specs.Inside.{AreNoted, AreOrdered, AreSound, Inside, inside_of, IsOrdered}
+pub use Rattle.mach_buffer.specs.Islands.{AddsOwn, aligned, CanIsland, first_of, is_far, IsJumpOver, island_veneers, Islanded, IsOwn, needs_own, others_of, padded, padding, with_own}
 pub use Rattle.mach_buffer.specs.LastVeneers.{LastPut}
 pub use Rattle.mach_buffer.specs.Links.{HasVeneer, IsLinked}
 pub use Rattle.mach_buffer.specs.Pieces.{IsPiece, UseFinished}
@@ -33,7 +34,7 @@ pub use Rattle.mach_buffer.specs.Places.{place_in}
 pub use Rattle.mach_buffer.specs.Queues.{AreKept, deadline_at, deadline_in, due_in, is_due_at, is_near, is_other_queued, is_queued, Keeps, key_number, keys_where, on_side, passes, shows_slack, slack_after, test_at, use_where, where_it}
 pub use Rattle.mach_buffer.specs.Reach.{AllOf, CanReach, deadline, deadlines, due_by, HasSlack, is_needed, is_needed_from, is_other, is_pending, is_reached, names, StillReaches, VeneersReach}
 pub use Rattle.mach_buffer.specs.Shape.{constant_label, core, inner_count, is_named, IsConstantLabel, IsKnown, IsUsable, name_more, placed, recorded, Shape, veneer_use, waiting_of, with_allocated, with_bytes, with_label, with_named, with_record, with_registered, with_use}
-pub use Rattle.mach_buffer.specs.VeneerConditions.{AddsOwn, CanPut, CanPutAll, CanPutAt, IsNone}
+pub use Rattle.mach_buffer.specs.VeneerConditions.{CanPut, CanPutAll, CanPutAt, IsNone}
 pub use Rattle.mach_buffer.specs.Veneers.{by_deadline, by_number, by_place, IsOrder, IsSooner, numbers_from, numbers_of, put_all, put_at, put_veneer}
 pub use Rattle.mach_buffer.specs.Windows.{AllAim, AllEnd, AllKept, AreWindows, CanPatch, CanPatchAll, ChangesOnly, IsApart, KeepsOthers, or_place, patch_of, patches_of, window}
 pub use Rattle.mach_buffer.specs.declared.patches.Patch.{Patch}

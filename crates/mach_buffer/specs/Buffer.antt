@@ -1,5 +1,5 @@
--- A buffer, by what it shows; what holds of a sound one; and what a call changes.
-use Rattle.std.specs.Prelude.{◌≡◌, ℕ, ◌%◌, ◌≤◌, List, length, Option, Some, Result, Ok, Err, slice_get, Bool, true, false}
+-- For callers: a buffer, by what it shows; and what a call changes.
+use Rattle.std.specs.Prelude.{◌≡◌, ℕ, List, Option, Result, Ok, Err, Bool, true, false}
 use Rattle.rv_base.specs.LabelUse.{Kinds}
 use Rattle.mach_buffer.specs.declared.uses.Use.{Use}
 use Rattle.mach_buffer.specs.declared.uses.LabelPlace.{LabelPlace}
@@ -7,14 +7,11 @@ use Rattle.rv_base.specs.declared.constant.Constant.{Constant}
 use Rattle.rv_base.specs.declared.constant.VCodeConstant.{VCodeConstant}
 use Rattle.mach_buffer.specs.declared.records.ConstPlace.{ConstPlace}
 use Rattle.mach_buffer.specs.declared.records.MachRecord.{MachRecord}
-use Rattle.mach_buffer.specs.declared.pending.Pending.{Pending}
 use Rattle.mach_buffer.specs.declared.buffer.MachBuffer.{MachBuffer}
-use Rattle.mach_buffer.specs.Shape.{Shape, IsUsable}
-use Rattle.mach_buffer.specs.Constants.{IsOrdered, AreNoted}
-use Rattle.mach_buffer.specs.Links.{IsLinked}
+use Rattle.mach_buffer.specs.Shape.{Shape}
 use Rattle.mach_buffer.specs.Finish.{pending_in}
-use Rattle.mach_buffer.specs.Queues.{AreKept}
 use Rattle.mach_buffer.specs.Places.{place_in}
+use Rattle.mach_buffer.specs.Inside.{AreSound, inside_of}
 
 abbrev pub shape_of : {L : Type 0} → MachBuffer L → Shape L
 shape_of b = record { bytes = b.code.bytes.items; uses = b.code.uses.items; place = place_in b.labels; labels = b.labels.bound.items; allocated = b.labels.allocated; records = b.records.items; registered = b.constants.registered.items; named = b.constants.named.items; constants = b.constants.placed.items }
@@ -80,24 +77,7 @@ Takes {L} result change old new = TakesAs result (λ (s t : Shape L). t ≡ chan
 
 -- ---- a sound buffer
 
--- what a buffer doesn't show: its queues, and which constants were named
-pub record Inside : Type 0 where
-  pub pending : Pending
-  pub seen : List Bool
-
-abbrev pub inside_of : {L : Type 0} → MachBuffer L → Inside
-inside_of b = record { pending = b.pending; seen = b.constants.seen.items }
-
--- what holds of what a buffer shows, and of what it doesn't
-pub record AreSound {L : Type 0} (kinds : Kinds L) (s : Shape L) (inside : Inside) : Type 0 where
-  pub linked : IsLinked kinds s.bytes s.uses
-  pub even : length s.bytes % 2 ≡ 0
-  pub places : (label at : ℕ) → s.place label ≡ Some at → (at ≤ length s.bytes) × (at % 2 ≡ 0) × IsUsable s label
-  pub known : (j : ℕ) (u : Use L) → slice_get s.uses j ≡ Some u → IsUsable s u.label.number
-  pub ordered : IsOrdered s
-  pub kept : AreKept kinds s.place s.uses inside.pending
-  pub noted : AreNoted s.registered s.named inside.seen
-
--- what holds of every buffer that was made by its calls and isn't spoiled
-abbrev pub IsSound : {L : Type 0} → Kinds L → MachBuffer L → Type 0
+-- what holds of every buffer that was made by its calls and isn't spoiled. Callers hand it on from call to call, and know of it
+-- what the laws say (proofs/Laws); what it is made of is the inside of this crate
+unfoldable pub IsSound : {L : Type 0} → Kinds L → MachBuffer L → Type 0
 IsSound kinds b = AreSound kinds (shape_of b) (inside_of b)

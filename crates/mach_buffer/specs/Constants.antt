@@ -1,5 +1,5 @@
--- Constants: where they are put, and what stands there.
-use Rattle.std.specs.Prelude.{◌≡◌, ◌≢◌, ℕ, zero, suc, ◌+◌, ◌-◌, ◌*◌, ◌/◌, ◌<◌, ◌≤◌, List, [], ◌∷◌, ◌++◌, length, map, take, Option, Some, None, is_some, if◌then◌else◌, slice_get, nat_eq, Bool}
+-- For callers: where constants are put, and what stands there.
+use Rattle.std.specs.Prelude.{◌≡◌, ℕ, zero, suc, ◌+◌, ◌-◌, ◌*◌, ◌/◌, ◌≤◌, List, [], ◌∷◌, ◌++◌, length, Option, Some, None, is_some, if◌then◌else◌, slice_get, nat_eq}
 use Rattle.rv_base.specs.declared.constant.ConstAlign.{ConstAlign}
 use Rattle.rv_base.specs.declared.constant.ConstAlign.TheVariants.{A1, A2, A4, A8, A16}
 use Rattle.rv_base.specs.declared.constant.Constant.{Constant}
@@ -7,7 +7,7 @@ use Rattle.rv_base.specs.declared.constant.VCodeConstant.{VCodeConstant}
 use Rattle.rv_base.specs.LabelUse.{Kinds}
 use Rattle.mach_labels.specs.Table.{first_constant}
 use Rattle.mach_buffer.specs.declared.records.ConstPlace.{ConstPlace}
-use Rattle.mach_buffer.specs.Shape.{Shape, with_bytes, placed, inner_count, constant_label, waiting_of, is_named}
+use Rattle.mach_buffer.specs.Shape.{Shape, with_bytes, placed, constant_label, waiting_of}
 use Rattle.mach_buffer.specs.Windows.{window, AllEnd}
 use Rattle.mach_buffer.specs.Growth.{Lasts}
 
@@ -74,27 +74,6 @@ reserve_from place i (c ∷ cs) = (if is_some (place (first_constant + i)) then 
 
 abbrev pub reserve_of : {L : Type 0} → Shape L → ℕ
 reserve_of s = reserve_from s.place 0 s.registered
-
--- ---- what holds of the constants of a sound buffer
-
--- those that were named are registered, each once; the first of them stand where their labels are bound, and the others' labels
--- are not bound
-pub record AreOrdered (allocated : ℕ) (place : ℕ → Option ℕ) (registered : List Constant) (named : List VCodeConstant) (constants : List ConstPlace) : Type 0 where
-  pub few : allocated ≤ inner_count
-  pub count : length registered ≤ inner_count
-  pub known : (i : ℕ) (k : VCodeConstant) → slice_get named i ≡ Some k → k.number < length registered
-  pub once : (i j : ℕ) (k l : VCodeConstant) → i ≢ j → slice_get named i ≡ Some k → slice_get named j ≡ Some l → k.number ≢ l.number
-  pub first : map (λ (c : ConstPlace). c.constant) constants ≡ take (length constants) named
-  pub bound : (j : ℕ) (c : ConstPlace) → slice_get constants j ≡ Some c → place (constant_label c.constant).number ≡ Some c.offset
-  pub free : (i : ℕ) (k : VCodeConstant) → length constants ≤ i → slice_get named i ≡ Some k → place (constant_label k).number ≡ None
-
-abbrev pub IsOrdered : {L : Type 0} → Shape L → Type 0
-IsOrdered s = AreOrdered s.allocated s.place s.registered s.named s.constants
-
--- a table says of each registered constant whether it was named
-pub record AreNoted (registered : List Constant) (named : List VCodeConstant) (seen : List Bool) : Type 0 where
-  pub long : length seen ≡ length registered
-  pub each : (number : ℕ) → number < length registered → slice_get seen number ≡ Some (is_named named number)
 
 -- ---- what stands
 

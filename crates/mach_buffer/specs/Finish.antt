@@ -1,4 +1,4 @@
--- The end: the last veneers, and the patches.
+-- For callers: the end, with the last veneers and the patches.
 use Rattle.std.specs.Prelude.{◌≡◌, ℕ, zero, suc, ◌+◌, ◌*◌, ◌%◌, ◌<◌, ◌≤◌, ◌⊎◌, true, false, cond, nat_eq, List, ◌++◌, length, map, take, drop, Option, Some, None, is_some, ◌-◌, slice_get, pos, ◌-ℤ◌}
 use Rattle.rv_base.specs.LabelUse.{code_limit, Kinds, Veneer, SameOutside}
 use Rattle.mach_labels.specs.Table.{first_constant}

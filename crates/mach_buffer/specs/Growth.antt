@@ -1,4 +1,4 @@
--- How a buffer grows, and what lasts in it.
+-- For callers: how a buffer grows, and what lasts in it.
 use Rattle.std.specs.Prelude.{◌≡◌, ℕ, ◌≤◌, ◌⊎◌, true, List, ◌++◌, length, take, Option, Some, None, slice_get}
 use Rattle.rv_base.specs.LabelUse.{Kinds}
 use Rattle.mach_buffer.specs.declared.uses.Use.{Use}

@@ -1,10 +1,10 @@
--- Islands: what one asks, and what it brings.
+-- For callers: what an island asks, and what it brings.
 use Rattle.std.specs.Prelude.{◌≡◌, ◌≢◌, ℕ, ◌+◌, ◌-◌, ◌*◌, ◌/◌, ◌<◌, ◌≤◌, Bool, true, false, cond, nat_le, nat_lt, ◌&&◌, List, [], ◌∷◌, ◌++◌, length, Some, None, slice_get}
 use Rattle.rv_base.specs.declared.label.MachLabel.{MachLabel}
 use Rattle.rv_base.specs.LabelUse.{code_limit, Kinds}
 use Rattle.mach_labels.specs.Table.{first_inner}
 use Rattle.mach_buffer.specs.declared.uses.Use.{Use}
-use Rattle.mach_buffer.specs.Shape.{Shape, with_bytes, with_label, IsKnown}
+use Rattle.mach_buffer.specs.Shape.{Shape, with_bytes, with_label, IsKnown, recorded}
 use Rattle.mach_buffer.specs.Reach.{deadline, is_pending, is_other, deadlines, CanReach}
 use Rattle.mach_buffer.specs.Veneers.{put_all, IsOrder}
 use Rattle.mach_buffer.specs.Constants.{zeros, end_after, put_constants}
@@ -80,6 +80,12 @@ pub record IsOwn {L : Type 0} (kinds : Kinds L) (uses : List (Use L)) (from : �
   pub used : Use L
   pub there : slice_get uses user ≡ Some used
   pub names : used.label ≡ own.label
+
+-- uses in veneers were added
+pub record AddsOwn {L : Type 0} (kinds : Kinds L) (from : ℕ) (uses new_uses : List (Use L)) : Type 0 where
+  pub more : List (Use L)
+  pub grown : recorded new_uses ≡ recorded uses ++ more
+  pub own : (k : ℕ) (u : Use L) → slice_get more k ≡ Some u → IsOwn kinds uses from u
 
 -- the veneers of an island: the jump's own one, where it needs one, and one for each other pending use, in order
 abbrev pub island_veneers : {L : Type 0} → Kinds L → Shape L → Use L → List ℕ → List ℕ

@@ -1,4 +1,4 @@
--- What stands before the last patches.
+-- This crate's inside: what stands before the last patches.
 use Rattle.std.specs.Prelude.{◌≡◌, ℕ, List, length}
 use Rattle.rv_base.specs.LabelUse.{Kinds}
 use Rattle.mach_buffer.specs.Shape.{Shape}

@@ -11,6 +11,7 @@ pub mod Finish
 pub mod Pieces
 pub mod Queues
 pub mod Places
+pub mod Inside
 pub mod Buffer
 pub mod VeneerConditions
 pub mod LastVeneers

@@ -1,4 +1,4 @@
--- Veneers that stand, and the uses that go by them.
+-- For callers: veneers that stand, and the uses that go by them.
 use Rattle.std.specs.Prelude.{◌≡◌, ℕ, ◌+◌, ◌%◌, ◌≤◌, List, length, Some, slice_get, true}
 use Rattle.rv_base.specs.LabelUse.{Kinds}
 use Rattle.mach_buffer.specs.declared.uses.Use.{Use}

@@ -1,4 +1,4 @@
--- One piece of code with one use, in finished code.
+-- For callers: one piece of code with one use, in finished code.
 use Rattle.std.specs.Prelude.{◌≡◌, ℕ, ◌%◌, ◌≤◌, ◌⊎◌, true, List, length, Some, None, slice_get, pos, ◌-ℤ◌}
 use Rattle.rv_base.specs.LabelUse.{Kinds, SameOutside}
 use Rattle.mach_buffer.specs.declared.uses.Use.{Use}

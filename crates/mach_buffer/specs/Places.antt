@@ -1,4 +1,4 @@
--- Where labels stand.
+-- This crate's inside: where labels stand.
 use Rattle.std.specs.Prelude.{ℕ, Option}
 use Rattle.mach_labels.specs.Table.{entry_of}
 use Rattle.mach_buffer.specs.declared.labels.Labels.{Labels}

@@ -1,5 +1,5 @@
--- The queues of pending uses: numbers of uses, among them all that are pending, and how much room there is before their
--- deadlines.
+-- This crate's inside: the queues of pending uses, numbers of uses, among them all that are pending, and how much room there is
+-- before their deadlines.
 use Rattle.std.specs.Prelude.{◌≡◌, ℕ, ◌+◌, ◌-◌, ◌*◌, ◌<◌, ◌≤◌, Bool, true, false, not, ◌&&◌, nat_le, nat_lt, cond, min, max, List, filter, length, Option, Some, None, slice_get}
 use Rattle.std.specs.List.{filter_map}
 use Rattle.rv_base.specs.declared.label.MachLabel.{MachLabel}

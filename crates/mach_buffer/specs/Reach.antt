@@ -1,4 +1,4 @@
--- Which uses are pending, by which offset each must have its veneer, and how far code may go before that.
+-- For callers: which uses are pending, by which offset each must have its veneer, and how far code may go before that.
 use Rattle.std.specs.Prelude.{ℕ, suc, ◌+◌, ◌*◌, ◌≤◌, Bool, false, not, ◌&&◌, ◌||◌, cond, nat_eq, nat_le, nat_lt, List, [], ◌∷◌, Option, Some, None, is_none}
 use Rattle.rv_base.specs.declared.label.MachLabel.{MachLabel}
 use Rattle.rv_base.specs.LabelUse.{Kinds}

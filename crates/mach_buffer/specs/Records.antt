@@ -1,4 +1,4 @@
--- Records, by what they tell.
+-- For callers: records, by what they report.
 use Rattle.std.specs.Prelude.{ℕ, List, [], ◌∷◌, map, Option, unwrap_or}
 use Rattle.std.specs.List.{flat_map}
 use Rattle.rv_base.specs.declared.reloc.RelocTarget.{RelocTarget}

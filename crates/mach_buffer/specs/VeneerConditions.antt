@@ -1,12 +1,12 @@
--- What is asked of uses that get their veneers, and what they bring.
-use Rattle.std.specs.Prelude.{◌≡◌, ◌≢◌, ℕ, ◌+◌, ◌*◌, ◌%◌, ◌<◌, ◌≤◌, true, List, [], ◌∷◌, ◌++◌, length, Some, slice_get}
+-- This crate's inside: what is asked of uses that get their veneers.
+use Rattle.std.specs.Prelude.{◌≡◌, ◌≢◌, ℕ, ◌+◌, ◌*◌, ◌%◌, ◌<◌, ◌≤◌, true, List, [], ◌∷◌, length, Some, slice_get}
 use Rattle.rv_base.specs.LabelUse.{code_limit, Kinds}
 use Rattle.mach_buffer.specs.declared.uses.Use.{Use}
-use Rattle.mach_buffer.specs.Shape.{Shape, recorded}
+use Rattle.mach_buffer.specs.Shape.{Shape}
 use Rattle.mach_buffer.specs.Reach.{deadline}
 use Rattle.mach_buffer.specs.Links.{IsLinked}
-use Rattle.mach_buffer.specs.Constants.{end_after, IsOrdered}
-use Rattle.mach_buffer.specs.Islands.{IsOwn}
+use Rattle.mach_buffer.specs.Constants.{end_after}
+use Rattle.mach_buffer.specs.Inside.{IsOrdered}
 
 -- the use of a number supports a veneer, and reaches an offset
 pub record CanPutAt {L : Type 0} (kinds : Kinds L) (uses : List (Use L)) (cur number : ℕ) : Type 0 where
@@ -32,9 +32,3 @@ pub record CanPutAll {L : Type 0} (kinds : Kinds L) (s : Shape L) (order : List 
   pub ordered : IsOrdered s
   pub can : CanPut kinds s.uses (length s.bytes) order
   pub room : end_after s (length s.bytes + 8 * length order) < code_limit
-
--- uses in veneers were added
-pub record AddsOwn {L : Type 0} (kinds : Kinds L) (from : ℕ) (uses new_uses : List (Use L)) : Type 0 where
-  pub more : List (Use L)
-  pub grown : recorded new_uses ≡ recorded uses ++ more
-  pub own : (k : ℕ) (u : Use L) → slice_get more k ≡ Some u → IsOwn kinds uses from u

@@ -1,4 +1,4 @@
--- Veneers put one after the other, and their order.
+-- For callers: veneers put one after the other, and their order.
 use Rattle.std.specs.Prelude.{◌≡◌, ℕ, suc, ◌<◌, Bool, cond, List, [], ◌∷◌, ◌++◌, length, Option, Some, None, slice_get, slice_set, IsPermutation}
 use Rattle.rv_base.specs.LabelUse.{Kinds}
 use Rattle.mach_buffer.specs.declared.uses.Use.{Use}

@@ -1,4 +1,4 @@
--- Windows of code, where those of uses stand, and what it means to patch them.
+-- For callers: windows of code, where those of uses stand, and what it means to patch them.
 use Rattle.std.specs.Prelude.{map, Option, None, unwrap_or, ◌≡◌, ◌≢◌, ℕ, ◌+◌, ◌%◌, ◌≤◌, List, length, take, drop, pos, ◌-ℤ◌, ◌⊎◌, Some, slice_get}
 use Rattle.rv_base.specs.LabelUse.{IsFresh, SameOutside}
 use Rattle.rv_base.specs.LabelUse.{Kinds}
@@ -14,13 +14,14 @@ window bytes place size = take size (drop place bytes)
 abbrev pub IsApart : ℕ → ℕ → ℕ → ℕ → Type 0
 IsApart p m q n = (p + m ≤ q) ⊎ (q + n ≤ p)
 
--- the windows of uses stand in the bytes at even places, are fresh, and share no byte with one another; and none but that of a
--- veneer's own use shares a byte with the veneer
+-- the windows of uses stand in the bytes at even places, are fresh, and share no byte with one another; veneers stand in the
+-- bytes; and no window but that of a veneer's own use shares a byte with the veneer
 pub record AreWindows {L : Type 0} (kinds : Kinds L) (bytes : List ℕ) (uses : List (Use L)) : Type 0 where
   pub even : (j : ℕ) (u : Use L) → slice_get uses j ≡ Some u → u.offset % 2 ≡ 0
   pub inside : (j : ℕ) (u : Use L) → slice_get uses j ≡ Some u → u.offset + length (kinds.fields u.kind) ≤ length bytes
   pub fresh : (j : ℕ) (u : Use L) → slice_get uses j ≡ Some u → IsFresh (kinds.fields u.kind) (window bytes u.offset (length (kinds.fields u.kind)))
   pub apart : (j k : ℕ) (u v : Use L) → j ≢ k → slice_get uses j ≡ Some u → slice_get uses k ≡ Some v → IsApart u.offset (length (kinds.fields u.kind)) v.offset (length (kinds.fields v.kind))
+  pub veneers : (j : ℕ) (u : Use L) (at : ℕ) → slice_get uses j ≡ Some u → u.veneer ≡ Some at → at + 8 ≤ length bytes
   pub clear : (j k : ℕ) (u v : Use L) (at : ℕ) → slice_get uses j ≡ Some u → u.veneer ≡ Some at → slice_get uses k ≡ Some v → (v ≡ veneer_use (kinds.veneer u.kind) at u.label) ⊎ IsApart v.offset (length (kinds.fields v.kind)) at 8
 
 -- each use's window ends in the bytes

@@ -47,10 +47,11 @@ impl<L: MachInstLabelUse> MachBuffer<L> {
     ghost use Rattle.mach_buffer.specs.declared.records.Event.TheVariants.{Trap, Reloc as Relocates, Unwind, CallSite, TryCallSite, PatchableCallSite, StackMap};
     ghost use Rattle.mach_buffer.specs.declared.records.FinalizedRelocTarget.TheVariants.{Func};
     ghost use Rattle.mach_buffer.specs.Reach.{island_margin, is_needed, due_by};
-    ghost use Rattle.mach_buffer.specs.Buffer.{shape_of, inside_of, bytes_of, uses_of, place_of, allocated_of, records_of, registered_of, named_of, constants_of, spoiled_of, pending_of, Unless, Takes, IsSound};
+    ghost use Rattle.mach_buffer.specs.Inside.{inside_of};
+    ghost use Rattle.mach_buffer.specs.Buffer.{shape_of, bytes_of, uses_of, place_of, allocated_of, records_of, registered_of, named_of, constants_of, spoiled_of, pending_of, Unless, Takes, IsSound};
 
     /// An empty buffer. Takes no memory.
-    #[tactic(auto, using(crate::proofs::Sound::sound_none))]
+    #[tactic(auto, using(crate::proofs::Sound::sound_none), unfolding(crate::specs::Buffer::IsSound))]
     pub fn new(alloc: Global) -> MachBuffer<L>
         ensures bytes { bytes_of result ≡ [] }
         ensures uses { uses_of result ≡ [] }
@@ -76,6 +77,7 @@ impl<L: MachInstLabelUse> MachBuffer<L> {
     }
 
     /// Makes the constants known that code may name: none are known so far. Keeps copies of them.
+    #[tactic(auto, unfolding(crate::specs::Buffer::IsSound))]
     pub fn register_constants(&mut self, constants: &[Constant]) -> Result<(), OutOfMemory>
         requires none { Unless (spoiled_of self.old) (registered_of self.old ≡ []) }
         requires few { Unless (spoiled_of self.old) (length constants.now ≤ inner_count) }
@@ -94,6 +96,7 @@ impl<L: MachInstLabelUse> MachBuffer<L> {
     }
 
     /// The label of a constant, which is put with the next island or at the end, unless it stands already.
+    #[tactic(auto, unfolding(crate::specs::Buffer::IsSound))]
     pub fn get_label_for_constant(
         &mut self,
         constant: VCodeConstant,
@@ -206,6 +209,7 @@ impl<L: MachInstLabelUse> MachBuffer<L> {
         }
     }
 
+    #[tactic(auto, unfolding(crate::specs::Buffer::IsSound))]
     fn add_bytes(&mut self, bytes: &[u8]) -> Result<(), OutOfMemory>
         requires room { length (bytes_of self.old) + length bytes.now < code_limit }
         requires even { length bytes.now % 2 ≡ 0 }
@@ -222,6 +226,7 @@ impl<L: MachInstLabelUse> MachBuffer<L> {
     }
 
     /// A label that nothing names yet.
+    #[tactic(auto, unfolding(crate::specs::Buffer::IsSound))]
     pub fn get_label(&mut self) -> Result<MachLabel, OutOfMemory>
         requires few { Unless (spoiled_of self.old) (allocated_of self.old < inner_count) }
         requires sound { Unless (spoiled_of self.old) (IsSound L.kinds self.old) }
@@ -237,6 +242,7 @@ impl<L: MachInstLabelUse> MachBuffer<L> {
     }
 
     /// Binds a label here.
+    #[tactic(auto, unfolding(crate::specs::Buffer::IsSound))]
     pub fn bind_label(&mut self, label: MachLabel) -> Result<(), OutOfMemory>
         requires known { Unless (spoiled_of self.old) (IsKnown label.number (allocated_of self.old)) }
         requires unbound { Unless (spoiled_of self.old) (place_of self.old label.number ≡ None) }
@@ -294,6 +300,7 @@ impl<L: MachInstLabelUse> MachBuffer<L> {
         }
     }
 
+    #[tactic(auto, unfolding(crate::specs::Buffer::IsSound))]
     fn add_use(&mut self, u: Use<L>) -> Result<(), OutOfMemory>
         requires there { u.offset ≤ length (bytes_of self.old) }
         requires bare { u.veneer ≡ None }
@@ -437,6 +444,7 @@ impl<L: MachInstLabelUse> MachBuffer<L> {
         }
     }
 
+    #[tactic(auto, unfolding(crate::specs::Buffer::IsSound))]
     fn record(&mut self, event: Event) -> Result<(), OutOfMemory>
         requires sound { IsSound L.kinds self.old }
         ensures shape { OnOk result (shape_of self.new ≡ with_record event (shape_of self.old)) }
@@ -478,6 +486,7 @@ impl<L: MachInstLabelUse> MachBuffer<L> {
     }
 
     /// Returns whether an island is needed before so many bytes.
+    #[tactic(auto, unfolding(crate::specs::Buffer::IsSound))]
     pub fn island_needed(&self, distance: u32) -> bool
         requires sound { IsSound L.kinds self.now }
         ensures { result ≡ is_needed (length (bytes_of self.now)) distance (pending_of L.kinds self.now) }
@@ -487,6 +496,7 @@ impl<L: MachInstLabelUse> MachBuffer<L> {
     }
 
     /// Returns whether so many bytes, and what is still to be put, end below the limit, and half of the inner labels are left.
+    #[tactic(auto, unfolding(crate::specs::Buffer::IsSound))]
     pub fn has_room(&self, part: u64) -> bool
         requires sound { IsSound L.kinds self.now }
         ensures { result ≡ (nat_lt (allocated_of self.now) (inner_count / 2) && nat_lt (length (bytes_of self.now) + part + reserve_of (shape_of self.now) + 8 * length (pending_of L.kinds self.now) + island_margin + 2) code_limit) }

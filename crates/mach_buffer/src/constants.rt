@@ -59,7 +59,8 @@ fn end_of(registered: &[Constant], constant: VCodeConstant, offset: u64) -> u64
 impl Constants {
     ghost use Rattle.std.specs.Prelude.{◌≡◌, ◌<◌, ◌≤◌, [], drop, length, OnOk};
     ghost use Rattle.mach_buffer.specs.Shape.{name_more};
-    ghost use Rattle.mach_buffer.specs.Constants.{constants_end, AreNoted};
+    ghost use Rattle.mach_buffer.specs.Constants.{constants_end};
+    ghost use Rattle.mach_buffer.specs.Inside.{AreNoted};
 
     pub(crate) fn new(alloc: Global) -> Constants
         ensures registered { result.registered.items ≡ [] }

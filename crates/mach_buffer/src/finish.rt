@@ -61,6 +61,7 @@ impl<L: MachInstLabelUse> MachBuffer<L> {
         self.end()
     }
 
+    #[tactic(auto, unfolding(crate::specs::Buffer::IsSound))]
     fn end(mut self) -> Result<Finished, OutOfMemory>
         requires sound { IsSound L.kinds self }
         requires ready { CanFinish L.kinds (shape_of self) }
@@ -113,6 +114,7 @@ impl<L: MachInstLabelUse> MachBuffer<L> {
     }
 
     /// Puts the last veneers, after zero bytes to a multiple of four, where some use is pending; and the constants that wait.
+    #[tactic(auto, unfolding(crate::specs::Buffer::IsSound))]
     fn put_last(&mut self) -> Result<(), OutOfMemory>
         requires sound { IsSound L.kinds self.old }
         requires ready { CanFinish L.kinds (shape_of self.old) }

@@ -11,15 +11,16 @@ impl<L: MachInstLabelUse> MachBuffer<L> {
     ghost use Rattle.std.specs.Prelude.{◌≡◌, ℕ, ◌+◌, ◌-◌, ◌*◌, ◌%◌, ◌<◌, ◌≤◌, [], length, map, OnOk, IsSomeAnd, Some, slice_get, true};
     ghost use Rattle.rv_base.specs.LabelUse.{code_limit};
     ghost use Rattle.mach_buffer.specs.Shape.{Shape, with_label, inner_count};
-    ghost use Rattle.mach_buffer.specs.Constants.{constant_end, end_after, put_constant, put_constants, IsOrdered, AllStand};
+    ghost use Rattle.mach_buffer.specs.Constants.{constant_end, end_after, put_constant, put_constants, AllStand};
     ghost use Rattle.mach_buffer.specs.Windows.{AreWindows};
     ghost use Rattle.mach_buffer.specs.Reach.{deadline as last_of};
     ghost use Rattle.mach_buffer.specs.Veneers.{put_veneer as veneered, put_all};
-    ghost use Rattle.mach_buffer.specs.Islands.{aligned, padded, needs_own as own_needed, with_own, CanIsland, Islanded};
+    ghost use Rattle.mach_buffer.specs.Islands.{aligned, padded, needs_own as own_needed, with_own, CanIsland, Islanded, AddsOwn};
+    ghost use Rattle.mach_buffer.specs.Inside.{inside_of, IsOrdered};
     ghost use Rattle.mach_buffer.specs.Growth.{Grows};
     ghost use Rattle.mach_buffer.specs.Queues.{key_number};
-    ghost use Rattle.mach_buffer.specs.VeneerConditions.{CanPut, CanPutAll, AddsOwn};
-    ghost use Rattle.mach_buffer.specs.Buffer.{shape_of, inside_of, bytes_of, uses_of, place_of, registered_of, spoiled_of, Unless, TakesAs, IsSound};
+    ghost use Rattle.mach_buffer.specs.VeneerConditions.{CanPut, CanPutAll};
+    ghost use Rattle.mach_buffer.specs.Buffer.{shape_of, bytes_of, uses_of, place_of, registered_of, spoiled_of, Unless, TakesAs, IsSound};
 
     /// Makes an island after its jump, whose four bytes stand last: zero bytes to a multiple of four, the jump's own veneer
     /// where it needs one; a veneer for each other pending use, by deadline, then by place, then as recorded; the constants that
@@ -45,6 +46,7 @@ impl<L: MachInstLabelUse> MachBuffer<L> {
         }
     }
 
+    #[tactic(auto, unfolding(crate::specs::Buffer::IsSound))]
     fn put_island(&mut self, after_island: MachLabel) -> Result<(), OutOfMemory>
         requires sound { IsSound L.kinds self.old }
         requires ready { CanIsland L.kinds (shape_of self.old) after_island }

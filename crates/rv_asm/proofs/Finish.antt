@@ -14,7 +14,7 @@ use Rattle.mach_buffer.specs.Shape.{IsUsable, IsConstantLabel}
 use Rattle.mach_buffer.specs.Constants.{reserve_of, end_after, put_constants}
 use Rattle.mach_buffer.specs.Buffer.{shape_of, bytes_of, place_of, named_of}
 use Rattle.mach_buffer.specs.Finish.{before_last, last_end, CanFinish, Finishes}
-use Rattle.mach_buffer.proofs.Laws.{last_near, slack_from_reach, reaches_from_slack, veneers_reach, ends_within}
+use Rattle.mach_buffer.proofs.Laws.{last_near, slack_from_reach, reaches_from_slack, veneers_reach, ends_within, few_allocated, use_usable}
 use Rattle.rv_emit.specs.Emitted.{Buffer, IsSoundBuffer, pending}
 use Rattle.rv_asm.specs.Refusal.{size_limit, is_bound, size_sum}
 use Rattle.rv_asm.specs.LinesInBuffer.{IsNamed, LinesStand, Named, Sized}
@@ -37,13 +37,13 @@ named_place lines spans b number built all n =
 
 -- a label that a use may name, among those of constants, is that of one that was named
 constant_usable : (b : Buffer) (label : ℕ) → IsSoundBuffer b → first_constant ≤ label → IsUsable (shape_of b) label → IsConstantLabel (named_of b) label
-constant_usable b label sound high usable = let few = sound.ordered.few in ⊎_elim (λ known. absurd (omega (arith, few, high, known))) (λ constant. constant) usable
+constant_usable b label sound high usable = let few = few_allocated label_kinds b sound in ⊎_elim (λ known. absurd (omega (arith, few, high, known))) (λ constant. constant) usable
 
 -- the last veneers, and the constants after them, are within the size of lines and constants, but for the zero bytes before them
 last_within : (context : Context) (lines : List Line) (b : Buffer) → IsSoundBuffer b → Sized context lines b → end_after (shape_of b) (last_end label_kinds (shape_of b)) ≤ size_sum context lines + 3
 last_within context lines b sound s =
     let near : length (before_last (bytes_of b) (length (pending b))) ≤ length (bytes_of b) + 3 = last_near (bytes_of b) (length (pending b)) in
-    let constants : end_after (shape_of b) (last_end label_kinds (shape_of b)) + reserve_of (put_constants (shape_of b)) ≤ length (before_last (bytes_of b) (length (pending b))) + 8 * length (pending b) + reserve_of (shape_of b) = ends_within (shape_of b) sound.ordered (last_end label_kinds (shape_of b)) in
+    let constants : end_after (shape_of b) (last_end label_kinds (shape_of b)) + reserve_of (put_constants (shape_of b)) ≤ length (before_last (bytes_of b) (length (pending b))) + 8 * length (pending b) + reserve_of (shape_of b) = ends_within label_kinds b sound (last_end label_kinds (shape_of b)) in
     let size = s.size in
     omega (arith, near, constants, size)
 
@@ -54,7 +54,7 @@ can_finish context lines spans b built n s sum all =
     record {
       windows = built.windows;
       bound = λ j u h. ⊎_elim (λ known. inl known)
-          (λ other. ⊎_elim (λ by_line. inl (named_place lines spans b u.label.number built all by_line)) (λ high. inr (constant_usable b u.label.number built.sound high (built.sound.known j u h))) other)
+          (λ other. ⊎_elim (λ by_line. inl (named_place lines spans b u.label.number built all by_line)) (λ high. inr (constant_usable b u.label.number built.sound high (use_usable label_kinds b built.sound j u h))) other)
           (n.named j u h);
       direct = λ j u h no_veneer near. absurd (⊎_elim (λ yes. true≢false (sym yes ∙ no_veneer)) (λ far. true≢false (sym far ∙ near)) (n.kinds j u h));
       reach = veneers_reach (length (before_last (bytes_of b) (length (pending b)))) (pending b) (reaches_from_slack (length (bytes_of b)) 14 (length (before_last (bytes_of b) (length (pending b)))) (pending b) (omega arith) (slack_from_reach (length (bytes_of b)) (pending b) s.reach));

@@ -5,7 +5,7 @@ use Rattle.mach_buffer.specs.Records.{unwinds_in}
 use Rattle.rv_inst.specs.Context.{context_of}
 use Rattle.rv_inst.specs.declared.job.Job.{Job}
 use Rattle.rv_inst.specs.declared.code.Code.{Code}
-use Rattle.mach_buffer.specs.Buffer.{shape_of, inside_of}
+use Rattle.mach_buffer.specs.Buffer.{shape_of}
 use Rattle.rv_emit.specs.Standing.{IsFinishedTo}
 use Rattle.rv_listing.specs.CodeRanges.{CodeFits}
 use Rattle.rv_asm.specs.Refusal.{refusal, lines_refusal}
@@ -30,7 +30,7 @@ module _ (job : Job) (code : Code) (accepted : refusal job ≡ None) (f : IsFini
   e = accepted_lines job accepted
 
   abbrev finished : IsFinishedTo (shape_of f.sink) code.bytes
-  finished = record { pending = inside_of f.sink; sound = f.built.sound; can = f.ready; finishes = f.finished; all_bytes = all_bytes code.bytes fits.bytes }
+  finished = record { can = f.ready; finishes = f.finished; all_bytes = all_bytes code.bytes fits.bytes }
 
   pub finished_reported : Reported job code
   finished_reported =

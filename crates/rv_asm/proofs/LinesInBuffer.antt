@@ -25,7 +25,7 @@ use Rattle.mach_buffer.specs.Constants.{AllStand}
 use Rattle.mach_buffer.specs.Growth.{Lasts}
 use Rattle.mach_buffer.specs.Shape.{recorded}
 use Rattle.mach_buffer.specs.Windows.{AreWindows}
-use Rattle.mach_buffer.proofs.Laws.{append_none, grows_put, lasts_more, stands_last as constants_last}
+use Rattle.mach_buffer.proofs.Laws.{append_none, grows_put, lasts_more, stands_last as constants_last, even_length}
 use Rattle.rv_emit.specs.ConstantsAdded.{StandInTurn, AddsConstants}
 use Rattle.rv_emit.specs.declared.state.EmitVState.{EmitVState}
 use Rattle.rv_emit.specs.Emitted.{Buffer, IsSoundBuffer, HasWindows, AppendsInst, IslandIfNeeded, named_by}
@@ -139,7 +139,7 @@ inst_added context setting inst old new span rule s w f p =
       stands = subst (λ n. StandsAfter context (Put inst) new (length (bytes_of old)) n span.end) (sym p.start) (record {
         gap = gap_last (length (bytes_of old)) (length (bytes_of p.mid)) room.gap put.lasts;
         there = subst (LineStands context (Put inst) new (length (bytes_of p.mid))) (sym p.end) (now, put.stand, long);
-        even = room.sound.even;
+        even = even_length label_kinds p.mid room.sound;
         within = put.lasts.grows.longer;
         ends = let e = p.end in omega (arith, e);
       });
@@ -179,7 +179,7 @@ bind_added context label old new span s w f p = record {
   stands = record {
     gap = inl (sym p.start);
     there = (p.start ∙ sym p.end, subst (λ n. place_of new label.number ≡ Some n) (sym p.start) p.bound);
-    even = ap (λ n. n % 2) p.start ∙ s.even;
+    even = ap (λ n. n % 2) p.start ∙ even_length label_kinds old s;
     within = let e = p.start in let same : length (bytes_of new) ≡ length (bytes_of old) = ap (length {A = ℕ}) p.bytes in omega arith;
     ends = let e = p.end in let same : length (bytes_of new) ≡ length (bytes_of old) = ap (length {A = ℕ}) p.bytes in omega arith;
     short = tt;

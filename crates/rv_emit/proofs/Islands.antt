@@ -14,9 +14,9 @@ use Rattle.mach_buffer.specs.declared.uses.Use.{Use}
 use Rattle.mach_buffer.specs.Reach.{CanReach, deadline, deadlines, is_pending, is_other}
 use Rattle.mach_buffer.specs.Buffer.{shape_of, bytes_of, uses_of, place_of, allocated_of, registered_of}
 use Rattle.mach_buffer.specs.Shape.{Shape, IsUsable}
-use Rattle.mach_buffer.specs.Constants.{end_after, reserve_from, reserve_of, IsOrdered}
+use Rattle.mach_buffer.specs.Constants.{end_after, reserve_from, reserve_of}
 use Rattle.mach_buffer.specs.Islands.{CanIsland, IsJumpOver, aligned, island_end, first_of, needs_own, others_of}
-use Rattle.mach_buffer.proofs.Laws.{deadlines_append, own_idle, aligned_near, ends_within}
+use Rattle.mach_buffer.proofs.Laws.{deadlines_append, own_idle, aligned_near, ends_within, even_length, few_allocated, use_usable, bound_usable}
 use Rattle.rv_emit.specs.Emitted.{Buffer, IsSoundBuffer, pending}
 use Rattle.rv_inst.specs.Uses.{use_at}
 
@@ -53,11 +53,11 @@ not_usable old new after_island p label (inr c) e =
     let is = c.is in
     let at = p.fresh in
     let one_more = p.allocated in
-    let few = p.sound.ordered.few in
+    let few = few_allocated label_kinds new p.sound in
     absurd (omega arith)
 
 not_named : (old new : Buffer) (after_island : MachLabel) → JumpPut old new after_island → (j : ℕ) (u : Use LabelUse) → slice_get (uses_of old) j ≡ Some u → u.label.number ≢ after_island.number
-not_named old new after_island p j u h = not_usable old new after_island p u.label.number (p.before.known j u h)
+not_named old new after_island p j u h = not_usable old new after_island p u.label.number (use_usable label_kinds old p.before j u h)
 
 -- what is pending beside the jump is what was pending before it
 pub others_pending : (old new : Buffer) (after_island : MachLabel) → JumpPut old new after_island → others_of label_kinds (shape_of new) after_island ≡ pending old
@@ -89,10 +89,10 @@ pub same_reserve : {old new : Buffer} {after_island : MachLabel} → JumpPut old
 same_reserve p = λ i. reserve_from (p.places i) 0 (p.registered i)
 
 -- how far an island reaches: its own veneer, the others, the constants, and zero bytes to a multiple of four
-pub end_near : (s : Shape LabelUse) (start count last : ℕ) → IsOrdered s → island_end (end_after s) start count last ≤ start + 8 + 8 * count + reserve_of s + 3
-end_near s start count last o =
-    let first = on (needs_own (end_after s) start count last) in
-    let rest = ends_within s o (first_of (end_after s) start count last + 8 * count) in
+pub end_near : (b : Buffer) (start count last : ℕ) → IsSoundBuffer b → island_end (end_after (shape_of b)) start count last ≤ start + 8 + 8 * count + reserve_of (shape_of b) + 3
+end_near b start count last sound =
+    let first = on (needs_own (end_after (shape_of b)) start count last) in
+    let rest = ends_within label_kinds b sound (first_of (end_after (shape_of b)) start count last + 8 * count) in
     omega (arith, first, rest)
   where
     on : (c : Bool) → cond c (start + 8) start ≤ start + 8
@@ -104,7 +104,7 @@ unbound_fresh old new after_island p = ap (λ (place : ℕ → Option ℕ). plac
   where
     on : (o : Option ℕ) → place_of old after_island.number ≡ o → o ≡ None
     on None e = refl
-    on (Some at) e = absurd (not_usable old new after_island p after_island.number (p.before.places after_island.number at e).2 refl)
+    on (Some at) e = absurd (not_usable old new after_island p after_island.number (bound_usable label_kinds old p.before after_island.number at e) refl)
 
 pub can_island : (old new : Buffer) (after_island : MachLabel) → JumpPut old new after_island → CanReach (length (bytes_of old)) (pending old) → length (bytes_of old) + reserve_of (shape_of old) + 8 * length (pending old) + 32 < code_limit → CanIsland label_kinds (shape_of new) after_island
 unfolding jump_round
@@ -114,10 +114,10 @@ can_island old new after_island p reach room =
     let fresh = p.fresh in
     let allocated = p.allocated in
     let less : length (bytes_of old) ≡ length (bytes_of new) - 4 = omega arith in
-    let near : aligned (length (bytes_of new)) ≤ length (bytes_of new) + 2 = aligned_near (length (bytes_of new)) p.sound.even in
+    let near : aligned (length (bytes_of new)) ≤ length (bytes_of new) + 2 = aligned_near (length (bytes_of new)) (even_length label_kinds new p.sound) in
     let last = length (bytes_of old) + 1048574 in
     let reserve : reserve_of (shape_of new) ≡ reserve_of (shape_of old) = same_reserve p in
-    let end : island_end (end_after (shape_of new)) (aligned (length (bytes_of new))) (length (pending old)) last < code_limit = let e = end_near (shape_of new) (aligned (length (bytes_of new))) (length (pending old)) last p.sound.ordered in omega (arith, e, near, long, room, reserve) in
+    let end : island_end (end_after (shape_of new)) (aligned (length (bytes_of new))) (length (pending old)) last < code_limit = let e = end_near new (aligned (length (bytes_of new))) (length (pending old)) last p.sound in omega (arith, e, near, long, room, reserve) in
     record {
       inner = omega arith;
       known = omega arith;

@@ -12,15 +12,14 @@ use Rattle.mach_buffer.specs.Buffer.{shape_of, bytes_of, uses_of, place_of, labe
 use Rattle.mach_buffer.specs.Constants.{end_after, AllStand}
 use Rattle.mach_buffer.specs.Shape.{with_allocated, with_bytes, with_use}
 use Rattle.mach_buffer.specs.Reach.{deadline}
-use Rattle.mach_buffer.specs.Islands.{CanIsland, Islanded, others_of, aligned, island_end, first_of}
+use Rattle.mach_buffer.specs.Islands.{CanIsland, Islanded, others_of, aligned, island_end, first_of, AddsOwn}
 use Rattle.mach_buffer.specs.Windows.{AreWindows}
-use Rattle.mach_buffer.specs.VeneerConditions.{AddsOwn}
 use Rattle.mach_buffer.specs.Growth.{Grows}
 use Rattle.rv_base.specs.declared.flags.IsaFlags.{IsaFlags}
 use Rattle.rv_emit.specs.Slots.{Label}
 use Rattle.rv_emit.specs.Puts.{Puts}
 use Rattle.rv_emit.specs.InstParts.{wide_jump_to}
-use Rattle.mach_buffer.proofs.Laws.{island_rest, island_reserve, lasts_more, lasts_allocated, lasts_island, stands_last, windows_with_use}
+use Rattle.mach_buffer.proofs.Laws.{island_rest, island_reserve, lasts_more, lasts_allocated, lasts_island, stands_last, windows_with_use, even_length, few_allocated}
 use Rattle.rv_emit.specs.Emitted.{Buffer, IsSoundBuffer, HasWindows, pending, AppendsCode, AppendsIsland}
 use Rattle.rv_inst.specs.Uses.{use_at}
 use Rattle.rv_emit.proofs.ConstantsAdded.{adds_both, adds_none, adds_island}
@@ -54,7 +53,7 @@ jump_windows old new after_island s a w =
     let u = use_at (length (bytes_of old)) after_island Jal20 in
     subst (λ (bs : List ℕ). AreWindows label_kinds bs (uses_of new)) (sym a.bytes)
     (subst (λ (us : List (Use LabelUse)). AreWindows label_kinds (bytes_of old ++ word_bytes 0x6f) us) (sym a.uses)
-    (windows_with_use (shape_of old) w s.linked s.even (word_bytes 0x6f) u (record { at = refl; bare = refl; long = refl }) (refl, (refl, (refl, (refl, tt))))))
+    (windows_with_use (shape_of old) w (even_length label_kinds old s) (word_bytes 0x6f) u (record { at = refl; bare = refl; long = refl }) (refl, (refl, (refl, (refl, tt))))))
 
 -- an island's end is a multiple of four
 end_whole : (ends : ℕ → ℕ) (start count last : ℕ) → island_end ends start count last % 4 ≡ 0
@@ -68,7 +67,7 @@ pub puts_island : (old allocated mid new : Buffer) (after_island : MachLabel) �
     AppendsCode (word_bytes 0x6f) (use_at (length (bytes_of allocated)) after_island Jal20 ∷ []) allocated mid →
     Islanded label_kinds after_island (shape_of mid) (shape_of new) → Grows (bytes_of mid) (uses_of mid) (place_of mid) (bytes_of new) (uses_of new) (place_of new) → AddsOwn label_kinds (length (bytes_of mid)) (uses_of mid) (uses_of new) → (HasWindows mid → HasWindows new) → (HasWindows mid → AllStand label_kinds (shape_of mid) → AllStand label_kinds (shape_of new)) → IsSoundBuffer new → ((flags : IsaFlags) → Puts flags (allocated_of old + 1) (wide_jump_to (Label after_island) ∷ []) (with_allocated (shape_of old)) (shape_of mid)) → CanIsland label_kinds (shape_of mid) after_island → records_of mid ≡ records_of old → AppendsIsland old new
 puts_island old allocated mid new after_island p labels sound same_bytes windows a i grows own kept stand now puts can records =
-    let rest = island_rest p.sound.ordered i in
+    let rest = island_rest label_kinds mid p.sound i in
     let long : length (bytes_of mid) ≡ length (bytes_of old) + 4 = ap (length {A = ℕ}) p.bytes ∙ length-append (bytes_of old) (word_bytes 0x6f) in
     let count = length (others_of label_kinds (shape_of mid) after_island) in
     let counted : count ≡ length (pending old) = ap (length {A = ℕ}) (others_pending old mid after_island p) in
@@ -76,8 +75,8 @@ puts_island old allocated mid new after_island p labels sound same_bytes windows
     let end : length (bytes_of new) ≡ island_end (end_after (shape_of mid)) (aligned (length (bytes_of mid))) count last = i.end in
     let drawn_fresh = p.fresh in
     let one_more = p.allocated in
-    let few = p.sound.ordered.few in
-    let near = island_reserve p.sound.ordered p.sound.even (omega arith) i in
+    let few = few_allocated label_kinds mid p.sound in
+    let near = island_reserve label_kinds mid p.sound (omega arith) i in
     let reserve = same_reserve p in
     let ahead = grows.longer in
     -- what the jump leaves as it was
@@ -90,7 +89,7 @@ puts_island old allocated mid new after_island p labels sound same_bytes windows
       drawn_label = p.fresh;
       jumped = shape_of mid;
       puts = puts;
-      lasts = lasts_island p.sound.ordered can i;
+      lasts = lasts_island label_kinds mid p.sound can i;
       allocated = rest.allocated ∙ p.allocated;
       jump = ap (λ n. take n (bytes_of new)) (sym long) ∙ grows.before ∙ p.bytes;
       longer = omega (arith, long, ahead);

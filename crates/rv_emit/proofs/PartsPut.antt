@@ -9,11 +9,10 @@ use Rattle.rv_inst.specs.Uses.{use_at}
 use Rattle.mach_buffer.specs.declared.uses.Use.{Use}
 use Rattle.mach_buffer.specs.Shape.{Shape, with_bytes, with_allocated}
 use Rattle.mach_buffer.specs.Windows.{AreWindows}
-use Rattle.mach_buffer.specs.Links.{HasVeneer, IsLinked}
 use Rattle.mach_buffer.specs.Growth.{Lasts}
 use Rattle.mach_buffer.specs.Constants.{AllStand}
 use Rattle.mach_buffer.specs.Buffer.{shape_of, bytes_of, allocated_of}
-use Rattle.mach_buffer.proofs.Laws.{append_each, slice_get-append, take_front, window_stays, lasts_same, lasts_more, lasts_allocated, windows_with_bytes, windows_with_use, stands_last}
+use Rattle.mach_buffer.proofs.Laws.{lasts_same, lasts_more, lasts_allocated, windows_with_bytes, windows_with_use, stands_last, even_length}
 use Rattle.std.specs.Prelude.{Option}
 use Rattle.rv_emit.specs.Slots.{Slot, slot_size, Op, Aim, Data, Notes, Names, Allocate, Here, Fill, Address, CallTo, Part, Ask, Slots, Label, label_of, AreClosed, AreBlocks}
 use Rattle.rv_emit.specs.Puts.{eight_zeros, PutsSlot, Puts}
@@ -43,37 +42,9 @@ parts_last flags (Slots slots ∷ parts) start end (mid, q, rest) l = (mid, slot
 
 -- ---- windows
 
--- the windows of uses stand, and veneers do
-record StandWell (s : Shape LabelUse) : Type 0 where
-  pub windows : AreWindows label_kinds s.bytes s.uses
-  pub linked : IsLinked label_kinds s.bytes s.uses
-
-linked_bytes : (bytes more : List ℕ) (uses : List (Use LabelUse)) → IsLinked label_kinds bytes uses → IsLinked label_kinds (bytes ++ more) uses
-linked_bytes bytes more uses l = record {
-  each = λ j u at h v. let x = l.each j u at h v in record {
-    inside = let i = x.inside in omega (arith, length-append bytes more);
-    code = window_stays bytes (bytes ++ more) at 8 x.inside (take_front bytes more) ∙ x.code;
-    index = x.index;
-    own = x.own;
-    near = x.near;
-    after = x.after;
-    supported = x.supported;
-    even = x.even;
-  };
-  before = λ j u h. let b = l.before j u h in omega (arith, length-append bytes more);
-}
-
-linked_use : (bytes : List ℕ) (uses : List (Use LabelUse)) (u : Use LabelUse) → u.veneer ≡ None → u.offset ≤ length bytes → IsLinked label_kinds bytes uses → IsLinked label_kinds bytes (uses ++ u ∷ [])
-linked_use bytes uses u bare le l = record {
-  each = λ j x at h v. append_each (λ (y : Use LabelUse). (a : ℕ) → y.veneer ≡ Some a → HasVeneer label_kinds bytes (uses ++ u ∷ []) y a) uses u
-      (λ a e. absurd (none_some bare e))
-      (λ i y g a e. let x = l.each i y a g e in record { inside = x.inside; code = x.code; index = x.index; own = slice_get-append uses (u ∷ []) x.index _ x.own; near = x.near; after = x.after; supported = x.supported; even = x.even })
-      j x h at v;
-  before = append_each (λ (y : Use LabelUse). y.offset ≤ length bytes) uses u le l.before;
-}
-  where
-    none_some : {a : ℕ} → u.veneer ≡ None → u.veneer ≡ Some a → ⊥
-    none_some p q = absurd (cc)
+-- the windows of the uses of a shape stand
+abbrev StandWell : Shape LabelUse → Type 0
+StandWell s = AreWindows label_kinds s.bytes s.uses
 
 even_marks : (kind : LabelUse) → length (marks_of kind) % 2 ≡ 0
 even_marks Jal20 = refl
@@ -84,24 +55,18 @@ even_marks PCRelLo12I = refl
 even_marks RVCJump = refl
 
 slot_well : (flags : IsaFlags) (allocated : ℕ) (slot : Slot) (s t : Shape LabelUse) → length s.bytes % 2 ≡ 0 → PutsSlot flags allocated slot s t → StandWell s → StandWell t
-slot_well flags allocated (Op d) s t even (bytes, long, encodes, e) w = subst StandWell (sym e) (record { windows = windows_with_bytes s w.windows bytes; linked = linked_bytes s.bytes bytes s.uses w.linked })
+slot_well flags allocated (Op d) s t even (bytes, long, encodes, e) w = subst StandWell (sym e) (windows_with_bytes s w bytes)
 slot_well flags allocated (Aim kind target ops) s t even (window, is, e) w =
     let u = use_at (length s.bytes) (label_of allocated target) kind in
-    subst StandWell (sym e) (record {
-      windows = windows_with_use s w.windows w.linked even window u (record { at = refl; bare = refl; long = is.long }) is.fresh;
-      linked = linked_bytes s.bytes window (s.uses ++ u ∷ []) (linked_use s.bytes s.uses u refl (omega arith) w.linked);
-    })
-slot_well flags allocated (Data bytes) s t even e w = subst StandWell (sym e) (record { windows = windows_with_bytes s w.windows bytes; linked = linked_bytes s.bytes bytes s.uses w.linked })
-slot_well flags allocated (Notes event) s t even (asks, e) w = subst StandWell (sym e) (record { windows = w.windows; linked = w.linked })
-slot_well flags allocated (Names k) s t even e w = subst StandWell (sym e) (record { windows = w.windows; linked = w.linked })
-slot_well flags allocated Allocate s t even e w = subst StandWell (sym e) (record { windows = w.windows; linked = w.linked })
-slot_well flags allocated (Here k) s t even (unbound, e) w = subst StandWell (sym e) (record { windows = w.windows; linked = w.linked })
-slot_well flags allocated (Fill symbol upper lower) s t even (first, second, hi, lo, e) w = subst StandWell (sym e) (record {
-  windows = windows_with_bytes (with_bytes first s) (windows_with_bytes s w.windows first) second;
-  linked = linked_bytes (s.bytes ++ first) second s.uses (linked_bytes s.bytes first s.uses w.linked);
-})
-slot_well flags allocated (Address name addend) s t even e w = subst StandWell (sym e) (record { windows = windows_with_bytes s w.windows eight_zeros; linked = linked_bytes s.bytes eight_zeros s.uses w.linked })
-slot_well flags allocated (CallTo name ops) s t even (code, is, e) w = subst StandWell (sym e) (record { windows = windows_with_bytes s w.windows code; linked = linked_bytes s.bytes code s.uses w.linked })
+    subst StandWell (sym e) (windows_with_use s w even window u (record { at = refl; bare = refl; long = is.long }) is.fresh)
+slot_well flags allocated (Data bytes) s t even e w = subst StandWell (sym e) (windows_with_bytes s w bytes)
+slot_well flags allocated (Notes event) s t even (asks, e) w = subst StandWell (sym e) w
+slot_well flags allocated (Names k) s t even e w = subst StandWell (sym e) w
+slot_well flags allocated Allocate s t even e w = subst StandWell (sym e) w
+slot_well flags allocated (Here k) s t even (unbound, e) w = subst StandWell (sym e) w
+slot_well flags allocated (Fill symbol upper lower) s t even (first, second, hi, lo, e) w = subst StandWell (sym e) (windows_with_bytes (with_bytes first s) (windows_with_bytes s w first) second)
+slot_well flags allocated (Address name addend) s t even e w = subst StandWell (sym e) (windows_with_bytes s w eight_zeros)
+slot_well flags allocated (CallTo name ops) s t even (code, is, e) w = subst StandWell (sym e) (windows_with_bytes s w code)
 
 -- a piece of a block has an even length
 even_after : (here : ℕ → Option ℕ) (at : ℕ) (slot : Slot) (slots : List Slot) → AreClosed here at (slot ∷ slots) → (slot_size slot % 2 ≡ 0) × ((n : ℕ) × AreClosed here n slots)
@@ -187,8 +152,8 @@ parts_put flags (Ask space ∷ parts) old new blocks s w f (mid, made, r, rest) 
     let q = parts_put flags parts mid new blocks g.sound g.windows g.fields rest in
     record { stand = (length (bytes_of mid), gap_last _ _ g.gap q.lasts, q.stand); windows = q.windows; fields = q.fields; constants = λ all. q.constants (g.constants all); adds = adds_both g.adds q.adds; lasts = lasts_more g.lasts q.lasts; sound = q.sound }
 parts_put flags (Slots slots ∷ parts) old new blocks s w f (mid, p, rest) =
-    let well = puts_well flags (allocated_of old) slots _ 0 (shape_of old) (shape_of mid) blocks.0 s.even p.puts (record { windows = w; linked = s.linked }) in
-    let q = parts_put flags parts mid new blocks.1 p.sound well.windows (puts_fields flags (allocated_of old) slots (shape_of old) (shape_of mid) p.puts w.inside f) rest in
+    let well = puts_well flags (allocated_of old) slots _ 0 (shape_of old) (shape_of mid) blocks.0 (even_length label_kinds old s) p.puts w in
+    let q = parts_put flags parts mid new blocks.1 p.sound well (puts_fields flags (allocated_of old) slots (shape_of old) (shape_of mid) p.puts w.inside f) rest in
     let lasts = puts_last flags (allocated_of old) slots (shape_of old) (shape_of mid) p.puts in
     record {
       stand = (length (bytes_of mid), record { old = shape_of old; new = shape_of mid; puts = p.puts; windows = w; fields = f.ends; starts = refl; ends = refl; lasts = q.lasts }, q.stand);

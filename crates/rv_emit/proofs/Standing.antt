@@ -187,7 +187,7 @@ module _ (site : Site) (f : Shape LabelUse) (final : List ℕ) (fin : IsFinished
   -- what becomes of the window of a use
   pub aim_finished : (allocated : ℕ) (kind : LabelUse) (target : Target) (ops : ℤ → List Decoded) (s mid : Shape LabelUse) (p : PutsSlot site.context.flags allocated (Aim kind target ops) s mid) → Lasts label_kinds mid f → UseFinished label_kinds s f fin.finishes.put final p.0 (use_at (length s.bytes) (label_of allocated target) kind)
   aim_finished allocated kind target ops s mid p lasts =
-      use_finished {s = s} {piece = p.0} {u = use_at (length s.bytes) (label_of allocated target) kind} (record { at = refl; bare = refl; long = p.1.long }) (subst (λ (y : Shape LabelUse). Lasts label_kinds y f) p.2 lasts) fin.sound fin.finishes
+      use_finished {s = s} {piece = p.0} {u = use_at (length s.bytes) (label_of allocated target) kind} (record { at = refl; bare = refl; long = p.1.long }) (subst (λ (y : Shape LabelUse). Lasts label_kinds y f) p.2 lasts) fin.finishes
 
   -- its operations stand in the code, by the distance to where it aims
   pub aim_has : (allocated : ℕ) (kind : LabelUse) (target : Target) (ops : ℤ → List Decoded) (s mid : Shape LabelUse) (p : PutsSlot site.context.flags allocated (Aim kind target ops) s mid) → FieldsEnd s → Lasts label_kinds mid f → length s.bytes + length (marks_of kind) ≤ length site.bytes → (x : UseFinished label_kinds s f fin.finishes.put final p.0 (use_at (length s.bytes) (label_of allocated target) kind)) → CodeHas site (length s.bytes) (ops (between (length s.bytes) x.target))

@@ -22,14 +22,13 @@ use Rattle.rv_inst.specs.Records.{inst_records}
 use Rattle.rv_inst.specs.Uses.{use_at, uses_in, least_reach}
 use Rattle.mach_buffer.specs.declared.buffer.MachBuffer.{MachBuffer}
 use Rattle.mach_buffer.specs.declared.uses.Use.{Use}
-use Rattle.mach_buffer.specs.Islands.{is_far}
+use Rattle.mach_buffer.specs.Islands.{is_far, AddsOwn}
 use Rattle.mach_buffer.specs.Reach.{AllOf, is_needed}
 use Rattle.mach_buffer.specs.Buffer.{shape_of, bytes_of, uses_of, place_of, labels_of, allocated_of, records_of, registered_of, named_of, constants_of, pending_of, IsSound}
 use Rattle.mach_buffer.specs.Shape.{Shape, with_allocated, name_more}
 use Rattle.mach_buffer.specs.Constants.{reserve_of, AllStand}
 use Rattle.mach_buffer.specs.Growth.{Lasts}
 use Rattle.mach_buffer.specs.Windows.{AreWindows}
-use Rattle.mach_buffer.specs.VeneerConditions.{AddsOwn}
 use Rattle.rv_emit.specs.ConstantsAdded.{AddsConstants}
 use Rattle.rv_emit.specs.Slots.{Label}
 use Rattle.rv_emit.specs.Puts.{Puts}

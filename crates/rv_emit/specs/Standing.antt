@@ -6,7 +6,6 @@ use Rattle.rv_inst.specs.declared.label_use.LabelUse.{LabelUse}
 use Rattle.rv_inst.specs.LabelUse.{label_kinds}
 use Rattle.mach_buffer.specs.Shape.{Shape}
 use Rattle.mach_buffer.specs.Windows.{AreWindows}
-use Rattle.mach_buffer.specs.Buffer.{Inside, AreSound}
 use Rattle.mach_buffer.specs.Finish.{CanFinish, Finishes}
 use Rattle.mach_buffer.specs.Growth.{Lasts}
 use Rattle.rv_emit.specs.Slots.{Label, Slot, Part, Ask, Slots}
@@ -42,10 +41,8 @@ PartsIn flags [] f start end = start ≡ end
 PartsIn flags (Ask space ∷ parts) f start end = (mid : ℕ) × GapStandsIn flags f start mid × PartsIn flags parts f mid end
 PartsIn flags (Slots slots ∷ parts) f start end = (mid : ℕ) × SlotsIn flags slots f start mid × PartsIn flags parts f mid end
 
--- what a sound buffer shows was finished to these bytes
+-- what a buffer shows was finished to these bytes
 pub record IsFinishedTo (f : Shape LabelUse) (bytes : List ℕ) : Type 0 where
-  pub pending : Inside
-  pub sound : AreSound label_kinds f pending
   pub can : CanFinish label_kinds f
   pub finishes : Finishes label_kinds f bytes
   pub all_bytes : AllBytes bytes

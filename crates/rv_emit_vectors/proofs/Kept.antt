@@ -17,11 +17,10 @@ use Rattle.mach_buffer.specs.Windows.{window, AreWindows, IsApart}
 use Rattle.mach_buffer.specs.Reach.{deadline, deadlines, due_by, is_pending, is_other, HasSlack}
 use Rattle.mach_buffer.specs.Buffer.{shape_of, bytes_of, uses_of, place_of, allocated_of, constants_of, pending_of, IsSound}
 use Rattle.mach_buffer.specs.Shape.{Shape, with_bytes, with_use, with_label, with_allocated, with_record, with_named, constant_label, placed, core, recorded, IsKnown, IsUsable}
-use Rattle.mach_buffer.specs.Islands.{aligned, padding, needs_own, first_of, others_of, is_far, IsJumpOver, CanIsland, Islanded}
+use Rattle.mach_buffer.specs.Islands.{aligned, padding, needs_own, first_of, others_of, is_far, IsJumpOver, CanIsland, Islanded, AddsOwn}
 use Rattle.mach_buffer.specs.Finish.{before_last, last_end, CanFinish}
-use Rattle.mach_buffer.specs.VeneerConditions.{AddsOwn}
 use Rattle.rv_emit_vectors.specs.Kept.{IsMet, IsKept}
-use Rattle.mach_buffer.proofs.Laws.{append_none, windows_bytes, OwnWindows, windows_block, windows_none, aligned_near, length_padded, Was, recorded_at, append_each, own_idle, due_fewer, deadlines_append, reaches_from_slack, veneers_reach, reach_from_slack, slack_less, slack_none, slack_same, slack_use, placed_same, IslandRest, island_rest, island_reserve, lasts_island, lasts_more, lasts_bytes, lasts_use, lasts_allocated, lasts_record, lasts_named, lasts_label, stands_last, ends_within}
+use Rattle.mach_buffer.proofs.Laws.{even_length, few_allocated, append_none, windows_bytes, OwnWindows, windows_block, windows_none, aligned_near, length_padded, Was, recorded_at, append_each, own_idle, due_fewer, deadlines_append, reaches_from_slack, veneers_reach, reach_from_slack, slack_less, slack_none, slack_same, slack_use, placed_same, IslandRest, island_rest, island_reserve, lasts_island, lasts_more, lasts_bytes, lasts_use, lasts_allocated, lasts_record, lasts_named, lasts_label, stands_last, ends_within}
 
 take_short : (n : ℕ) (xs : List ℕ) → length (take n xs) ≤ n
 take_short zero xs = omega arith
@@ -95,7 +94,7 @@ island_near {L} kinds b mid new {after_island} u code four el same_shape sound l
     let ep : place_of mid ≡ place_of b = ap (λ (x : Shape L). x.place) same_shape in
     let long : length (bytes_of mid) ≡ length (bytes_of b) + 4 = ap (length {A = ℕ}) eb ∙ length-append (bytes_of b) code ∙ ap (λ n. length (bytes_of b) + n) four in
     let kept : reserve_of (shape_of mid) ≡ reserve_of (shape_of b) = ap reserve_of same_shape in
-    let room = island_reserve sound.ordered sound.even low i in
+    let room = island_reserve kinds mid sound low i in
     let few = length_fewer kinds (is_pending kinds (place_of b)) (is_other kinds (place_of b) (Some after_island)) (uses_of b) (other_pending kinds (place_of b) (Some after_island)) in
     let same : length (others_of kinds (shape_of mid) after_island) ≡ length (deadlines (is_other kinds (place_of b) (Some after_island)) kinds (uses_of b)) = ap (length {A = ℕ}) (others_after kinds b mid u after_island el eu ep) in
     omega (arith, long, kept, room, few, same)
@@ -204,12 +203,12 @@ module _ {L : Type 0} {kinds : Kinds L} where
 
   -- so its label is that of a constant that was named
   pub named_met : {labels : ℕ} (new : MachBuffer L) (label : MachLabel) (constant : VCodeConstant) → IsSound kinds new → label ≡ constant_label constant → IsUsable (shape_of new) label.number → IsMet labels (shape_of new) label.number
-  named_met new label constant sound is (inl known) = let few = sound.ordered.few in let e : label.number ≡ first_constant + constant.number = ap (λ (l : MachLabel). l.number) is in absurd (omega arith)
+  named_met new label constant sound is (inl known) = let few = few_allocated kinds new sound in let e : label.number ≡ first_constant + constant.number = ap (λ (l : MachLabel). l.number) is in absurd (omega arith)
   named_met new label constant sound is (inr c) = inr (inr c)
 
   -- the windows with those of a use of one byte, whose bytes are put after it
   pub windows_one : (b : MachBuffer L) → AreWindows kinds (bytes_of b) (uses_of b) → IsSound kinds b → (u : Use L) (rest : List ℕ) → u.offset ≡ length (bytes_of b) → u.veneer ≡ None → kinds.fields u.kind ≡ 255 ∷ [] → AreWindows kinds (bytes_of b ++ 0 ∷ rest) (uses_of b ++ u ∷ [])
-  windows_one b w s u rest at bare one = windows_block w s.linked (0 ∷ rest) (u ∷ []) own
+  windows_one b w s u rest at bare one = windows_block w (0 ∷ rest) (u ∷ []) own
     where
       long : length (kinds.fields u.kind) ≡ 1
       long = ap (length {A = ℕ}) one
@@ -231,7 +230,7 @@ module _ {L : Type 0} {kinds : Kinds L} where
       own : OwnWindows kinds (length (bytes_of b)) (0 ∷ rest) (u ∷ [])
       own = record {
         bare = each (λ v. v.veneer ≡ None) bare;
-        even = each (λ v. v.offset % 2 ≡ 0) (let e = s.even in omega (arith, e, at));
+        even = each (λ v. v.offset % 2 ≡ 0) (let e = even_length kinds b s in omega (arith, e, at));
         begins = each (λ v. length (bytes_of b) ≤ v.offset) (omega (arith, at));
         ends = each (λ v. v.offset + length (kinds.fields v.kind) ≤ length (bytes_of b) + length (0 ∷ rest)) (omega (arith, at, long));
         fresh = each (λ v. IsFresh (kinds.fields v.kind) (window (0 ∷ rest) (v.offset - length (bytes_of b)) (length (kinds.fields v.kind)))) fresh;
@@ -303,13 +302,13 @@ module _ {L : Type 0} {kinds : Kinds L} where
         (subst (λ n. HasSlack n 14 (others_of kinds (shape_of mid) after_island)) start (subst (HasSlack (length (bytes_of b)) 14) (sym others)
         (slack_same (length (bytes_of b)) 14 (pending_of kinds b) _ (λ end. due_fewer (is_pending kinds (place_of b)) (is_other kinds (place_of b) (Some after_island)) kinds end (uses_of b) (other_pending kinds (place_of b) (Some after_island))) k.slack)));
     room =
-        let near = aligned_near (length (bytes_of mid)) sound.even in
+        let near = aligned_near (length (bytes_of mid)) (even_length kinds mid sound) in
         let few = length_fewer kinds (is_pending kinds (place_of b)) (is_other kinds (place_of b) (Some after_island)) (uses_of b) (other_pending kinds (place_of b) (Some after_island)) in
         let same : length (others_of kinds (shape_of mid) after_island) ≡ length (deadlines (is_other kinds (place_of b) (Some after_island)) kinds (uses_of b)) = ap (length {A = ℕ}) others in
         let count = length (others_of kinds (shape_of mid) after_island) in
         let first = first_near (needs_own (end_after (shape_of mid)) (aligned (length (bytes_of mid))) count (deadline kinds u)) (aligned (length (bytes_of mid))) in
         let n = first_of (end_after (shape_of mid)) (aligned (length (bytes_of mid))) count (deadline kinds u) + 8 * count in
-        let ends = ends_within (shape_of mid) sound.ordered n in
+        let ends = ends_within kinds mid sound n in
         let kept : reserve_of (shape_of mid) ≡ reserve_of (shape_of b) = ap reserve_of same_shape in
         let up = aligned_up (end_after (shape_of mid) n) in
         omega (arith, near, few, same, first, ends, kept, up, long, room);
@@ -365,13 +364,13 @@ module _ {L : Type 0} {kinds : Kinds L} where
   }
     where
       rest : IslandRest after_island (shape_of mid) (shape_of new)
-      rest = island_rest was.ordered i
+      rest = island_rest kinds mid was i
 
       put : Lasts kinds (shape_of b) (with_bytes code (with_use u (shape_of b)))
       put = lasts_more (lasts_use kinds u (shape_of b) (omega (arith, at))) (lasts_bytes kinds code (with_use u (shape_of b)))
 
       last : Lasts kinds (shape_of b) (shape_of new)
-      last = lasts_more (subst (Lasts kinds (shape_of b)) (sym same) put) (lasts_island was.ordered can i)
+      last = lasts_more (subst (Lasts kinds (shape_of b)) (sym same) put) (lasts_island kinds mid was can i)
 
       eu : uses_of mid ≡ uses_of b ++ u ∷ []
       eu = ap (λ (x : Shape L). x.uses) same
@@ -395,13 +394,13 @@ module _ {L : Type 0} {kinds : Kinds L} where
   pub can_finish : {labels : ℕ} {b : MachBuffer L} → IsKept kinds labels b → ((label : ℕ) → label < labels → is_some (place_of b label) ≡ true) → length (bytes_of b) + 8 * length (pending_of kinds b) + reserve_of (shape_of b) + 2 < code_limit → CanFinish kinds (shape_of b)
   can_finish {labels} {b} k all room =
       let pending = pending_of kinds b in
-      let near = before_near (bytes_of b) (length pending) k.sound.even in
+      let near = before_near (bytes_of b) (length pending) (even_length kinds b k.sound) in
       record {
         windows = k.windows;
         bound = λ j u h. ⊎_elim (λ lt. inl (all u.label.number lt)) (λ s. s) (k.named j u h);
         direct = λ j u h no_veneer short. absurd (⊎_elim (λ yes. true≢false (sym yes ∙ no_veneer)) (λ far. true≢false (sym far ∙ short)) (k.supported j u h));
         reach = veneers_reach (length (before_last (bytes_of b) (length pending))) pending (reaches_from_slack (length (bytes_of b)) 14 (length (before_last (bytes_of b) (length pending))) pending (omega (arith, near)) k.slack);
-        short = let ends = ends_within (shape_of b) k.sound.ordered (last_end kinds (shape_of b)) in omega (arith, near, ends, room);
+        short = let ends = ends_within kinds b k.sound (last_end kinds (shape_of b)) in omega (arith, near, ends, room);
         constants = k.stand;
       }
 

@@ -20,14 +20,14 @@ use Rattle.rv_inst.specs.Forms.{jump_kind, jump_size}
 use Rattle.rv_inst.specs.Rules.{inst_rule}
 use Rattle.mach_buffer.specs.declared.uses.Use.{Use}
 use Rattle.mach_buffer.specs.Reach.{CanReach, is_needed, deadlines}
-use Rattle.mach_buffer.specs.Buffer.{shape_of, bytes_of, uses_of, place_of, records_of, constants_of}
+use Rattle.mach_buffer.specs.Buffer.{shape_of, bytes_of, uses_of, place_of, records_of, registered_of, constants_of}
 use Rattle.mach_buffer.specs.Windows.{AreWindows}
 use Rattle.mach_buffer.specs.Shape.{Shape}
 use Rattle.mach_buffer.specs.declared.records.ConstPlace.{ConstPlace}
-use Rattle.mach_buffer.specs.Constants.{end_after, reserve_from, reserve_of, IsOrdered, AllStand}
+use Rattle.mach_buffer.specs.Constants.{end_after, reserve_from, reserve_of, AllStand}
 use Rattle.mach_buffer.specs.Finish.{before_last, last_end, CanFinish}
 use Rattle.mach_buffer.proofs.Laws.{windows_none, slack_from_reach, reaches_from_slack, veneers_reach, last_near, ends_within}
-use Rattle.rv_emit.specs.Emitted.{Buffer, HasWindows, pending, IsFarUse, AppendsInst, CanEmit, IsBounded}
+use Rattle.rv_emit.specs.Emitted.{Buffer, IsSoundBuffer, HasWindows, pending, IsFarUse, AppendsInst, CanEmit, IsBounded}
 use Rattle.rv_emit.specs.declared.state.EmitVState.{EmitVState}
 use Rattle.rv_emit.specs.Emission.{EmitsIn}
 use Rattle.rv_emit.specs.Images.{FieldsStand}
@@ -50,8 +50,8 @@ none_kept : {L : Type 0} (s : Shape L) → s.registered ≡ [] → reserve_of s 
 none_kept s none = ap (reserve_from s.place 0) none
 
 -- and none comes after the veneers
-none_ends : {L : Type 0} (s : Shape L) → IsOrdered s → s.registered ≡ [] → (n : ℕ) → end_after s n ≤ n
-none_ends s ordered none n = let within = ends_within s ordered n in let zero = none_kept s none in omega (arith, within, zero)
+none_ends : (b : Buffer) → IsSoundBuffer b → registered_of b ≡ [] → (n : ℕ) → end_after (shape_of b) n ≤ n
+none_ends b sound none n = let within = ends_within label_kinds b sound n in let zero = none_kept (shape_of b) none in omega (arith, within, zero)
 
 none_stand : (b : Buffer) → constants_of b ≡ [] → AllStand label_kinds (shape_of b)
 none_stand b none j c h = absurd (on (constants_of b) none h)
@@ -181,6 +181,6 @@ can_finish_one inst b one first =
       bound = λ j u h. inl (one.bound first j u h);
       direct = λ j u h none near. absurd (⊎_elim (λ yes. true≢false (sym yes ∙ none)) (λ far. true≢false (sym far ∙ near)) (one.kinds j u h));
       reach = veneers_reach (length (before_last (bytes_of b) (length (pending b)))) (pending b) (reaches_from_slack (length (bytes_of b)) 14 (length (before_last (bytes_of b) (length (pending b)))) (pending b) (omega (arith, near)) (slack_from_reach (length (bytes_of b)) (pending b) one.reach));
-      short = let ends = none_ends (shape_of b) one.sound.ordered one.registered (last_end label_kinds (shape_of b)) in omega (arith, near, long, waiting, ends);
+      short = let ends = none_ends b one.sound one.registered (last_end label_kinds (shape_of b)) in omega (arith, near, long, waiting, ends);
       constants = none_stand b one.constants;
     }

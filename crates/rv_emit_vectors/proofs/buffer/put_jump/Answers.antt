@@ -105,4 +105,4 @@ returns-clause-registered g c =
     let e = c.in_ok-use_label_at_offset.ensures in
     let p = c.in_ok-put4.ensures in
     let registered = λ (x : Shape g.row.L.Denot). x.registered in
-    (island_rest p.sound.ordered c.in_ok-emit_island.ensures.island.2).registered ∙ ap registered p.put.2 ∙ ap registered e.recorded.2 ∙ ap registered d.allocated.2
+    (island_rest g.L.MachInstLabelUse.kinds c.put4.new.self p.sound c.in_ok-emit_island.ensures.island.2).registered ∙ ap registered p.put.2 ∙ ap registered e.recorded.2 ∙ ap registered d.allocated.2

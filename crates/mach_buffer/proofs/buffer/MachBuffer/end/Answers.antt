@@ -1,4 +1,5 @@
 use Rattle.std.proofs.Common.{◌≡◌, ◌∙◌, ap, length, ℕ}
+use Rattle.mach_buffer.specs.Buffer.{IsSound}
 use Rattle.mach_buffer.proofs.Words.{take_at, Shape, shape_of, bytes_of, place_of, Finishes}
 use Rattle.mach_buffer.specs.Records.{relocs_in, traps_in, calls_in, tries_in, patches_in, maps_in, unwinds_in, offset_or_zero}
 use Rattle.mach_buffer.proofs.Pieces.{constants_kept}
@@ -6,9 +7,11 @@ use Rattle.mach_buffer.proofs.LastVeneers.{last_done, can_patch_all, all_arrive}
 use Rattle.mach_buffer.proofs.buffer.MachBuffer.end.Goals as goal
 
 pub patch_all-requires : goal.patch_all-requires
+unfolding IsSound
 patch_all-requires g c = rw (c.deref_mut.ensures.value, c.deref-2.ensures.value) (can_patch_all (last_done g.met.L.MachInstLabelUse.veneer_ok c.requires.sound c.requires.ready c.in_ok-put_last.ensures))
 
 pub returns : goal.returns
+unfolding IsSound
 returns g c =
     let d = last_done g.met.L.MachInstLabelUse.veneer_ok c.requires.sound c.requires.ready c.in_ok-put_last.ensures in
     let e = c.in_ok-put_last.ensures in

@@ -1,4 +1,5 @@
 use Rattle.std.proofs.Common.{rules, ◌≡◌, ◌+◌, ◌*◌, ◌-◌, ◌<◌, ◌∙◌, ap, sym, subst, map, length, Some, arith}
+use Rattle.mach_buffer.specs.Buffer.{IsSound}
 use Rattle.mach_buffer.proofs.Words.{length-map, slice_get, IsSomeAnd, code_limit, Shape, with_label, is_other, deadline, put_all, IsOrder, aligned, padded, needs_own, with_own, end_after, put_constants, key_number, CanPutAll, Inside, inside_of, shape_of, bytes_of}
 use Rattle.mach_buffer.proofs.OrderOfVeneers.{order_long}
 use Rattle.mach_buffer.proofs.IslandVeneers.{IsReady, IslandDone, before_room, pad_room, end_room, jump_there, island_can, island_done}
@@ -14,6 +15,7 @@ in_order g c =
 
 ready : (g : given.Over) (c : After-needs_own-needed g) → let K = g.L.MachInstLabelUse in let s = shape_of c.args.self.now in let order = map key_number c.in_ok-order.order.items in
     IsOrder K.kinds (is_other K.kinds s.place (Some c.args.after_island)) s.uses order → c.len.result ≡ length order → IsReady K.kinds s (inside_of c.args.self.now) c.args.after_island order c.needs_own-needed.result
+unfolding IsSound
 ready g c order many =
     let K = g.L.MachInstLabelUse in
     let Tells : Shape g.row.L.Denot → Type 0 = λ x. IsSomeAnd (slice_get x.uses (length x.uses - 1)) (λ u. c.needs_own-needed.result ≡ needs_own (end_after x) (length x.bytes) c.len.result (deadline K.kinds u)) in
@@ -29,6 +31,7 @@ needs_own-needed-requires-clause-room g c =
     subst (λ (x : Shape g.row.L.Denot). end_after x (length x.bytes + 8 * c.len.result) < code_limit) (sym c.in_ok-pad.ensures.shape) (rw (length_padded (bytes_of c.args.self.now)) room)
 
 pub put_pending-requires : goal.put_pending-requires
+unfolding IsSound
 put_pending-requires g c =
     let d = goal.at.put_pending-requires g c in
     rw c.deref-2.ensures.value (subst (λ (x : Shape g.row.L.Denot). CanPutAll g.L.MachInstLabelUse.kinds x (with_own c.needs_own-needed.result (length x.uses - 1) (map key_number c.in_ok-order.order.items))) (sym c.in_ok-pad.ensures.shape)
@@ -39,11 +42,13 @@ put : (g : given.Over) (c : In_ok-put_pending g) → let s = shape_of c.args.sel
 put g c = c.in_ok-put_pending.ensures.put ∙ (λ i. let s = c.in_ok-pad.ensures.shape i in put_constants (put_all g.L.MachInstLabelUse.kinds (with_own c.needs_own-needed.result (length s.uses - 1) (map key_number (c.deref-2.ensures.value i))) s))
 
 pub pad-requires-2 : goal.pad-requires-2
+unfolding IsSound
 pad-requires-2 g c =
     let d = goal.at.pad-requires-2 g c in
     record { room = subst (λ (x : Shape g.row.L.Denot). aligned (length x.bytes) < code_limit) (sym (put g d.In_ok-put_pending)) (end_room g.met.L.MachInstLabelUse.veneer_ok (ready g d.After-needs_own-needed (in_order g d.After-len) (grind (arith, length-map)))) }
 
 pub returns : goal.returns
+unfolding IsSound
 returns g c =
     let d = goal.at.returns g c in
     let s = shape_of c.args.self.now in

@@ -1,4 +1,5 @@
 use Rattle.std.proofs.Common.{◌≡◌, map, length, arith}
+use Rattle.mach_buffer.specs.Buffer.{IsSound}
 use Rattle.mach_buffer.proofs.Words.{length-map, key_number, shape_of, place_of}
 use Rattle.mach_buffer.proofs.LastVeneers.{other_none, last_can, last_room}
 use Rattle.mach_buffer.proofs.buffer.MachBuffer.put_last.Goals as goal
@@ -9,6 +10,7 @@ pad_last-requires g c =
     record { room = last_room K (shape_of c.args.self.now) (map key_number c.in_ok-order.order.items) c.requires.ready (rw (← other_none K (place_of c.args.self.now), ← c.deref.ensures.value) c.in_ok-order.ensures) c.len.result (grind (arith, length-map)) }
 
 pub put_pending-requires : goal.put_pending-requires
+unfolding IsSound
 put_pending-requires g c =
     let K = g.L.MachInstLabelUse.kinds in
     let order = map key_number c.in_ok-order.order.items in
