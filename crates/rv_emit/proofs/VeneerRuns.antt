@@ -122,10 +122,10 @@ pair_leads site place to even to_even within p = record {
       let fits = are_values_set s.values 31 x is_state.values (lit< tt) (omega arith) in
       let lands = pair_lands base place to p.upper p.lower (subst IsSmall (sym p.upper_is) (signed_small (2 ^ 19) _ (lit< tt))) (subst IsSmall (sym p.lower_is) (signed_small (2 ^ 11) _ (lit< tt))) p.sum in
       comes_both flags (wrap (s.pc + 4)) (wrap (base + to)) v s
-      (comes_one flags s (wrap (s.pc + 4)) (wrap (s.pc + 4)) v (set_reg s.values 31 x) (istep_at flags s (auipc_row p.upper) (omega arith) first refl) refl (omega arith) spare are_values fits refl)
+      (comes_one flags s (wrap (s.pc + 4)) (wrap (s.pc + 4)) v (set_reg s.values 31 x) (istep_at flags s (auipc_row p.upper) (omega arith) first refl) refl (omega arith) spare are_values fits (get_or-set_other s.values.regs 30 29 x 0 (λ e. omega arith)) refl)
       (comes_one flags (at (wrap (s.pc + 4)) (set_reg s.values 31 x)) (wrap (slice_index (slice_set s.values.regs 30 x) 30 + low64 p.lower) / 2 * 2) (wrap (base + to)) v (set_reg s.values 31 x)
       (istep_at flags (at (wrap (s.pc + 4)) (set_reg s.values 31 x)) (decoded_jalr 0 31 p.lower) (omega arith) second refl)
-      ((λ i. wrap (held i + low64 p.lower) / 2 * 2) ∙ (λ i. wrap (wrap (pc i + low64 p.upper * 2 ^ 12) + low64 p.lower) / 2 * 2) ∙ ap (λ (n : ℕ). n / 2 * 2) lands ∙ omega arith) (omega arith) spare are_values fits refl);
+      ((λ i. wrap (held i + low64 p.lower) / 2 * 2) ∙ (λ i. wrap (wrap (pc i + low64 p.upper * 2 ^ 12) + low64 p.lower) / 2 * 2) ∙ ap (λ (n : ℕ). n / 2 * 2) lands ∙ omega arith) (omega arith) spare are_values fits refl refl);
 }
 
 -- what stands at a veneer of a buffer

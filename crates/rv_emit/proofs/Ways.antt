@@ -2,7 +2,7 @@
 use Rattle.std.proofs.Common.{◌≡◌, ℕ, ◌+◌, ◌%◌, ◌^◌, ◌<◌, ◌≤◌, [], ◌∷◌, length, Some, arith, refl, ap, sym, subst, ◌∙◌, lit≤}
 use Rattle.rv_base.specs.declared.flags.IsaFlags.{IsaFlags}
 use Rattle.rv_machine.specs.Decode.{decode}
-use Rattle.rv_machine.specs.State.{State, Values, AreValues, wrap, low64, at}
+use Rattle.rv_machine.specs.State.{State, Values, AreValues, reg, wrap, low64, at}
 use Rattle.rv_machine.specs.Steps.{fetch, istep}
 use Rattle.rv_inst.specs.SameValues.{Same}
 use Rattle.rv_emit.specs.Operations.{decoded_jump}
@@ -12,8 +12,8 @@ use Rattle.rv_emit.proofs.Steps.{istep_at, iter_none, iter_one, iter_after}
 use Rattle.rv_emit.proofs.Distances.{lands}
 
 -- one step
-abbrev pub comes_one : (flags : IsaFlags) (s : State) (pc address : ℕ) (v w : Values) → istep flags s ≡ Some (at pc w) → pc ≡ address → pc < 2 ^ 64 → Same v w → AreValues v → AreValues w → w.mem ≡ s.values.mem → ComesTo flags 0 address v s
-comes_one flags s pc address v w e is fits same hv hw kept = record {
+abbrev pub comes_one : (flags : IsaFlags) (s : State) (pc address : ℕ) (v w : Values) → istep flags s ≡ Some (at pc w) → pc ≡ address → pc < 2 ^ 64 → Same v w → AreValues v → AreValues w → reg w 30 ≡ reg s.values 30 → w.mem ≡ s.values.mem → ComesTo flags 0 address v s
+comes_one flags s pc address v w e is fits same hv hw spare kept = record {
   steps = 1;
   state = at pc w;
   moved = lit≤ tt;
@@ -22,6 +22,7 @@ comes_one flags s pc address v w e is fits same hv hw kept = record {
   same = same;
   is_state = record { pc = fits; values = hw };
   are_values = hv;
+  spare = spare;
   kept = kept;
 }
 
@@ -36,6 +37,7 @@ comes_both flags first second v s e f = record {
   same = f.same;
   is_state = f.is_state;
   are_values = f.are_values;
+  spare = f.spare ∙ e.spare;
   kept = f.kept ∙ e.kept;
 }
 
@@ -51,6 +53,7 @@ leads_here site from to here = record {
     same = same;
     is_state = is_state;
     are_values = are_values;
+    spare = refl;
     kept = refl;
   };
 }
@@ -75,5 +78,5 @@ jump_leads site from to even within has = record {
       let there : wrap (s.pc + low64 (between from to)) ≡ wrap (site.base + to) = (λ i. wrap (pc i + low64 (between from to))) ∙ lands site.base from to (omega arith) in
       comes_one flags s (wrap (s.pc + low64 (between from to))) (wrap (site.base + to)) v s.values
       (istep_at flags s (decoded_jump (between from to)) (omega arith) (ap (λ a. decode flags (fetch s.values.mem a)) here ∙ (has s.values.mem placed).0) refl)
-      there (omega arith) same are_values is_state.values refl;
+      there (omega arith) same are_values is_state.values refl refl;
 }

@@ -7,7 +7,7 @@ use Rattle.mach_buffer.specs.declared.records.MachRecord.{MachRecord}
 use Rattle.rv_machine.specs.declared.decoding.Decoded.{Decoded}
 use Rattle.rv_machine.specs.Decode.{decode}
 use Rattle.std.specs.Int.{to_le_bytes, w64}
-use Rattle.rv_machine.specs.State.{State, IsState, Values, AreValues, Memory, byte, wrap, low64}
+use Rattle.rv_machine.specs.State.{State, IsState, Values, AreValues, Memory, byte, reg, wrap, low64}
 use Rattle.rv_machine.specs.Steps.{fetch, iter}
 use Rattle.rv_inst.specs.Context.{Context}
 use Rattle.rv_inst.specs.Records.{IsRecorded}
@@ -53,7 +53,8 @@ CodeHas site at ops = (mem : Memory) → IsPlacedAt site mem → HasOps site.con
 
 -- ---- ways on
 
--- in some steps, at least so many, the machine comes to an address with values that are the same as these
+-- in some steps, at least so many, the machine comes to an address with values that are the same as these, and x30 and the memory
+-- as they were
 pub record ComesTo (flags : IsaFlags) (least address : ℕ) (v : Values) (s : State) : Type 0 where
   pub steps : ℕ
   pub state : State
@@ -63,9 +64,10 @@ pub record ComesTo (flags : IsaFlags) (least address : ℕ) (v : Values) (s : St
   pub same : Same v state.values
   pub is_state : IsState state
   pub are_values : AreValues v
+  pub spare : reg state.values 30 ≡ reg s.values 30
   pub kept : state.values.mem ≡ s.values.mem
 
--- from one offset the machine comes to another, and changes at most x30 and x31
+-- from one offset the machine comes to another, and changes at most x31
 pub record LeadsOn (site : Site) (from to : ℕ) : Type 0 where
   pub run : (s : State) (v : Values) → IsPlacedAt site s.values.mem → s.pc ≡ wrap (site.base + from) → IsState s → AreValues v → Same v s.values → ComesTo site.context.flags 0 (wrap (site.base + to)) v s
 
