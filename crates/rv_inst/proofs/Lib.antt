@@ -8,3 +8,4 @@ pub mod PatchCompressed
 pub mod Rules
 pub mod Meaning
 pub mod Moves
+pub mod PlainInsts

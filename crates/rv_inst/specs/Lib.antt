@@ -25,3 +25,4 @@ pub mod Uses
 pub mod Context
 pub mod Environments
 pub mod Addresses
+pub mod Plain

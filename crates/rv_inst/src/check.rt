@@ -117,13 +117,14 @@ impl Inst {
 }
 
 /// Returns whether a label is one of those that a buffer makes for itself.
-fn is_buffer_label(label: MachLabel) -> bool
+pub fn is_buffer_label(label: MachLabel) -> bool
     ensures { result ≡ is_buffer_label label }
 {
     label.number >= FIRST_INNER
 }
 
-fn is_fallthrough(target: CondBrTarget) -> bool
+/// Returns whether a target is the next line.
+pub fn is_fallthrough(target: CondBrTarget) -> bool
     ensures { result ≡ is_fallthrough target }
 {
     match target {
@@ -154,7 +155,8 @@ fn is_inner_target(target: CondBrTarget) -> bool
     }
 }
 
-fn has_inner_target(taken: CondBrTarget, not_taken: CondBrTarget) -> bool
+/// Returns whether one of two targets is a label that a buffer makes for itself.
+pub fn has_inner_target(taken: CondBrTarget, not_taken: CondBrTarget) -> bool
     ensures { result ≡ list_any is_buffer_label (target_labels taken ++ target_labels not_taken) }
 {
     is_inner_target(taken) || is_inner_target(not_taken)

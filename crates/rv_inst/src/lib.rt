@@ -13,6 +13,7 @@ mod inst;
 mod job;
 mod label_use;
 mod places;
+mod plain;
 mod ranges;
 mod registers;
 mod sizes;

@@ -12,7 +12,8 @@ use rv_base::{CallRetPair as Def, IrType, Reg, RegClass, RetLocation};
 use rv_imms::Imm12;
 use rv_ops::AluOPRRI;
 
-fn is_int_type(ty: IrType) -> bool
+/// Returns whether a type is an integer of at most 64 bits.
+pub fn is_int_type(ty: IrType) -> bool
     ensures { result ≡ is_int_type ty }
 {
     match ty {
@@ -94,7 +95,7 @@ pub fn has_bad_type(inst: &Inst) -> bool
 }
 
 /// Returns whether the number is no amount of the operation's width, where it takes one.
-fn is_amount_beyond(op: AluOPRRI, imm12: Imm12) -> bool
+pub fn is_amount_beyond(op: AluOPRRI, imm12: Imm12) -> bool
     ensures { result ≡ is_beyond (shift_limit (rri_numbers op).number) imm12.value }
 {
     if op.option_funct6().is_some() {
