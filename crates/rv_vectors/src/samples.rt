@@ -1,4 +1,7 @@
-//! Listings with the reports of a harness with the Rust's own emission code: each report is compared byte for byte.
+//! Listings with the reports of a harness with the Rust's own emission code: each report is compared byte for byte. The harness
+//! is `rvoracle` of November 2026 (its `patch.py` has the SHA-256 68e5594a..), called with no word. Random listings are of its
+//! generator, `fuzzgen.py` (SHA-256 bc79f6b7..): each file says with which seed and how many lines, and what was left out before
+//! the harness's `--filter` took away the lines that break a rule.
 
 mod accesses;
 mod constants;

@@ -1,12 +1,14 @@
 //! Lines of symbols and of the frame's making. The harness with the Rust's own emission code is the outside source of each report
 //! and of each answer here.
 
-mod drawn;
+mod random;
+mod random_short;
 mod written;
 
 use crate::reported::{assert_refused, assert_rules_broken};
 use crate::samples::assert_both;
-use drawn::{DRAWN_LISTING, DRAWN_REPORT, DRAWN_SHORT_REPORT};
+use random::{RANDOM_LISTING, RANDOM_REPORT};
+use random_short::RANDOM_SHORT_REPORT;
 use std::alloc::AllocError;
 use written::{
     EDGES_LISTING, EDGES_REPORT, EDGES_SHORT_REPORT, ISLAND_LISTING, ISLAND_REPORT,
@@ -26,9 +28,9 @@ fn islands_stand_between_symbols(rt: HostRuntime) -> Result<(), AllocError> {
 }
 
 #[test]
-fn drawn_lines_are_reported(rt: HostRuntime) -> Result<(), AllocError> {
-    let reports = [DRAWN_REPORT, DRAWN_SHORT_REPORT];
-    assert_both(&rt, rt.alloc(), "drawn", DRAWN_LISTING, reports)
+fn random_lines_are_reported(rt: HostRuntime) -> Result<(), AllocError> {
+    let reports = [RANDOM_REPORT, RANDOM_SHORT_REPORT];
+    assert_both(&rt, rt.alloc(), "random", RANDOM_LISTING, reports)
 }
 
 /// Lines that break a rule, after the rule's name and a colon.

@@ -1,17 +1,13 @@
 //! Tail calls, and the frames that they take away. The harness with the Rust's own emission code is the outside source of each report
 //! and of each answer here, but for the frames that save a float register, which it takes: `BadFrame` is this project's own choice.
 
-mod drawn;
 mod frames;
 mod islands;
+mod random_far;
+mod random_near;
 
 use crate::reported::assert_reported;
 use crate::samples::{Sample, assert_both, assert_sample};
-use drawn::{
-    FAR_LISTING as DRAWN_FAR_LISTING, FAR_REPORT as DRAWN_FAR_REPORT,
-    FAR_SHORT_REPORT as DRAWN_FAR_SHORT_REPORT, NEAR_LISTING as DRAWN_NEAR_LISTING,
-    NEAR_REPORT as DRAWN_NEAR_REPORT, NEAR_SHORT_REPORT as DRAWN_NEAR_SHORT_REPORT,
-};
 use frames::{
     ARGUMENTS_LISTING, ARGUMENTS_REPORT, ARGUMENTS_SHORT_REPORT, BARE_LISTING, BARE_REPORT,
     BARE_SHORT_REPORT, BELOW_LISTING, BELOW_REPORT, BELOW_SHORT_REPORT, BOTH_SIDES_LISTING,
@@ -21,6 +17,14 @@ use frames::{
     NO_SETUP_REPORT, NO_SETUP_SHORT_REPORT,
 };
 use islands::{ISLANDS_LISTING, ISLANDS_REPORT, SHORT_ISLANDS_LISTING, SHORT_ISLANDS_REPORT};
+use random_far::{
+    FAR_LISTING as RANDOM_FAR_LISTING, FAR_REPORT as RANDOM_FAR_REPORT,
+    FAR_SHORT_REPORT as RANDOM_FAR_SHORT_REPORT,
+};
+use random_near::{
+    NEAR_LISTING as RANDOM_NEAR_LISTING, NEAR_REPORT as RANDOM_NEAR_REPORT,
+    NEAR_SHORT_REPORT as RANDOM_NEAR_SHORT_REPORT,
+};
 use std::alloc::AllocError;
 
 /// A listing after whose frame tail calls stand, with its reports: as it stands, and with flags.
@@ -77,14 +81,14 @@ const FRAMES: [Framed; 11] = [
         reports: [LARGEST_REPORT, LARGEST_SHORT_REPORT],
     },
     Framed {
-        name: "drawn, near",
-        listing: DRAWN_NEAR_LISTING,
-        reports: [DRAWN_NEAR_REPORT, DRAWN_NEAR_SHORT_REPORT],
+        name: "random, near",
+        listing: RANDOM_NEAR_LISTING,
+        reports: [RANDOM_NEAR_REPORT, RANDOM_NEAR_SHORT_REPORT],
     },
     Framed {
-        name: "drawn, far",
-        listing: DRAWN_FAR_LISTING,
-        reports: [DRAWN_FAR_REPORT, DRAWN_FAR_SHORT_REPORT],
+        name: "random, far",
+        listing: RANDOM_FAR_LISTING,
+        reports: [RANDOM_FAR_REPORT, RANDOM_FAR_SHORT_REPORT],
     },
 ];
 

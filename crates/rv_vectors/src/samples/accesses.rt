@@ -1,5 +1,5 @@
-//! Loads, stores and addresses at the edges of their offsets, and in a frame; each with the report that a harness with the
-//! Rust's own emission code writes for it. Nothing here comes from this project's own output.
+//! Loads, stores and addresses at the edges of their offsets, and in a frame: chosen lines, not random ones. The reports are the
+//! harness's. Nothing here comes from this project's own output.
 
 /// Offsets at the edges of twelve and of thirty-two bits, signed, and near 2^62.
 pub const EDGES_LISTING: &str = "\

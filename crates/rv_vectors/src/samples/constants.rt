@@ -1,5 +1,5 @@
-//! Constants in islands and after the code, each listing with the report that a harness with the Rust's own emission code writes
-//! for it (listings written by hand). Nothing here comes from this project's own output.
+//! Constants in islands and after the code: listings written by hand. The reports are the harness's. Nothing here comes from this
+//! project's own output.
 
 /// Constants of every alignment, and of odd lengths: one that is named before an island and after it, one named twice after it,
 /// one never, and some that are named only after it.

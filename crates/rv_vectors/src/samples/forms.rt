@@ -1,5 +1,5 @@
-//! Compressed forms with all of them allowed: what guards and edges decide. The listing's report, which a harness with the Rust's own
-//! emission code wrote, stands in two files beside this one. Nothing here comes from this project's own output.
+//! Compressed forms with all of them allowed: what guards and edges decide. The lines are chosen, not random. The report is the
+//! harness's, and stands in two files beside this one. Nothing here comes from this project's own output.
 
 /// Operations at the edges of each form's registers and immediate, with all forms.
 pub const EVERY_FORM_LISTING: &str = "\

@@ -1,5 +1,5 @@
-//! Compressed forms under fewer flags, and a compressed jump that goes by a veneer; each listing with the report that a harness with the
-//! Rust's own emission code writes for it. Nothing here comes from this project's own output.
+//! Compressed forms under fewer flags, and a compressed jump that goes by a veneer: chosen lines, not random ones. The reports
+//! are the harness's. Nothing here comes from this project's own output.
 
 /// The operations whose forms need more than compressed instructions alone, without those.
 pub const WITHOUT_ZCB_LISTING: &str = "\

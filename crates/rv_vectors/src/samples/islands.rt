@@ -1,10 +1,10 @@
-//! Listings that need islands, each with the report that a harness with the Rust's own emission code writes for it. The
-//! harness's listing generator (version of November 2026, SHA-256 bc79f6b7..) wrote 100 lines from the seed that each
-//! names. Left out were lines of forms that are not built, those with floating-point or vector registers, and those
-//! that break a rule (the harness's `--filter`). Nothing here comes from this project's own output.
+//! Listings that need islands. The first two are the generator's 100 lines of the seed that each names. Left out were the
+//! operations of Zbc and Zbkb, lines with floating-point or vector registers, flags, frame and constants, and lines of other
+//! forms than those that stand in them or in random.rt. The reports are the harness's. Nothing here comes from this project's own
+//! output.
 //!
-//! The long listing alone is written by hand; it and its report, which the same harness wrote, are in short: a row may
-//! stand for many lines.
+//! The long listing is written by hand; it and its report, which is the harness's too, are in short: a row may stand for many
+//! lines.
 
 /// A listing of the generator, seed 66: a line asks for an island with a wide space.
 pub const ASKED_LISTING: &str = "\

@@ -1,4 +1,4 @@
-//! The report of a random listing, which a harness with the Rust's own emission code wrote.
+//! The harness's report of the random listing of plain_lines.rt.
 
 /// The report of the lines of seed 24.
 pub const PLAIN_SEQUENCES_REPORT: &str = "\

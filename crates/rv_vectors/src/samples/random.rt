@@ -1,8 +1,6 @@
-//! Random listings of the built forms of line, each with the report that a harness with the Rust's own emission code
-//! writes for it. The
-//! harness's listing generator (version of November 2026, SHA-256 bc79f6b7..) wrote 80 lines from the seed that each
-//! names. Left out were lines of forms that are not built, those with floating-point or vector registers, and those
-//! that break a rule (the harness's `--filter`). Nothing here comes from this project's own output.
+//! Random listings: the generator's 80 lines of the seed that each names. Left out were the operations of Zbc and Zbkb, lines
+//! with floating-point or vector registers, flags, frame and constants, and lines of other forms than those that stand here or in
+//! islands.rt. The reports are the harness's. Nothing here comes from this project's own output.
 
 /// A listing of the generator, seed 1.
 pub const FIRST_LISTING: &str = "\

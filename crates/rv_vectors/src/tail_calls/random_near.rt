@@ -1,0 +1,592 @@
+//! Random tail calls out of a frame whose saved registers are near the stack pointer, among jumps and addresses of labels and
+//! symbols: the generator's 1,000 lines of seed 58 with labels at most 30 lines from their uses (`--tie 30`). Left out were the
+//! register fs2 of the frame, lines with floating-point or vector registers, flags and constants, and lines of other forms than
+//! those that stand here. The harness wrote the reports (samples.rt says which one it is): of the listing as it stands, and after
+//! the line `flags m zba zbb zca zcb`. Nothing here comes from this project's own output.
+
+/// The lines of the generator, seed 58.
+pub const NEAR_LISTING: &str = "\
+frame 16 16 16 32 64 16 s1
+Jal L0
+ReturnCallInd t0 - 0
+Bind L0
+Jal L1
+Bind L1
+LabelAddress s10 L2
+ReturnCallInd t0 - 16
+LabelAddress s4 L2
+Jal L1
+Jal L2
+Bind L2
+ReturnCall userextname1 a0:a0 16
+Bind L3
+ReturnCall userextname1 - 16
+ReturnCallInd t0 - 16
+Bind L4
+Bind L5
+Bind L6
+Jal L5
+LabelAddress t4 L6
+LabelAddress s8 L7
+Jal L7
+Bind L7
+Jal L5
+Bind L8
+Jal L5
+LabelAddress ra L5
+LoadExtNameFar s4 userextname2 8
+Bind L9
+ReturnCallInd t0 a0:a0 16
+Bind L10
+Jal L10
+Jal L8
+Jal L8
+Bind L11
+LabelAddress t3 L8
+ReturnCallInd t0 - 16
+Bind L12
+Bind L13
+Jal L9
+Bind L14
+Jal L9
+Bind L15
+LabelAddress a0 L12
+Jal L10
+LabelAddress a5 L10
+Jal L11
+Jal L11
+Bind L16
+Bind L17
+Jal L12
+Jal L18
+Bind L18
+ReturnCallInd t0 - 0
+Jal L13
+Bind L19
+LabelAddress a2 L13
+Jal L13
+ReturnCall userextname1 - 16
+Jal L16
+Jal L15
+Jal L18
+Jal L16
+Jal L17
+Bind L20
+LabelAddress s8 L17
+Bind L21
+Jal L22
+Bind L22
+ReturnCall userextname1 a0:a0 16
+Jal L21
+ReturnCall userextname1 a0:a0 16
+Jal L21
+Jal L21
+ReturnCall userextname1 - 16
+Jal L23
+Bind L23
+ReturnCall userextname1 a0:a0 16
+Bind L24
+Bind L25
+ReturnCall userextname1 - 0
+Jal L24
+LabelAddress gp L25
+Jal L23
+Bind L26
+Jal L27
+Bind L27
+LabelAddress s2 L26
+LabelAddress t4 L28
+Bind L28
+Bind L29
+Bind L30
+LoadExtNameFar a4 userextname3 0
+Jal L27
+ReturnCall userextname1 a0:a0 0
+Bind L31
+Jal L29
+Bind L32
+ReturnCallInd t0 - 0
+Bind L33
+ReturnCallInd t0 - 16
+Jal L33
+Jal L32
+LoadExtNameFar fp userextname1 1099511627776
+LabelAddress s4 L32
+ReturnCall userextname1 - 0
+Bind L34
+ReturnCallInd t0 - 0
+Bind L35
+Jal L34
+Bind L36
+ReturnCallInd t0 - 0
+LabelAddress a4 L37
+LabelAddress gp L37
+Bind L37
+Jal L37
+Bind L38
+LabelAddress s7 L39
+Bind L39
+Jal L38
+";
+
+/// Their report.
+pub const NEAR_REPORT: &str = "\
+code 796
+00000000 6f008001833481038330810403340104
+00000010 13010106678002006f004000170d0000
+00000020 130dcd02833481038330810403340104
+00000030 1301010567800200170a0000130a0a01
+00000040 6ff0dffd6f0040008334810383308104
+00000050 0334010413010105970f000067800f00
+00000060 83348103833081040334010413010105
+00000070 970f000067800f008334810383308104
+00000080 0334010413010105678002006f000000
+00000090 970e0000938eceff170c0000130ccc00
+000000a0 6f0040006ff09ffe6ff05ffe97000000
+000000b0 938000fe170a0000033aca006f00c000
+000000c0 00000000000000008334810383308104
+000000d0 0334010413010105678002006f000000
+000000e0 6ff09ffc6ff05ffc170e0000130e0efc
+000000f0 83348103833081040334010413010105
+00000100 678002006ff05ffc6ff01ffc17050000
+00000110 130585ff6ff09ffc97070000938747fc
+00000120 6ff09ffc6ff05ffc6ff0dffd6f004000
+00000130 83348103833081040334010413010106
+00000140 678002006ff01ffc170600001306c6fb
+00000150 6ff05ffb833481038330810403340104
+00000160 13010105970f000067800f006ff0dffb
+00000170 6ff0dff96ff0dffb6ff01ffb6ff0dffa
+00000180 170c0000130c8cfa6f00400083348103
+00000190 833081040334010413010105970f0000
+000001a0 67800f006ff05ffe8334810383308104
+000001b0 0334010413010105970f000067800f00
+000001c0 6ff09ffc6ff05ffc8334810383308104
+000001d0 0334010413010105970f000067800f00
+000001e0 6f004000833481038330810403340104
+000001f0 13010105970f000067800f0083348103
+00000200 833081040334010413010106970f0000
+00000210 67800f006ff09ffe97010000938141fe
+00000220 6ff05ffc6f004000170900001309c9ff
+00000230 970e0000938e8e00170700000337c700
+00000240 6f00c00000000000000000006ff0dffd
+00000250 83348103833081040334010413010106
+00000260 970f000067800f006ff01ffd83348103
+00000270 83308104033401041301010667800200
+00000280 83348103833081040334010413010105
+00000290 678002006ff0dffe6ff05ffd17040000
+000002a0 0334c4006f00c0000000000000000000
+000002b0 170a0000130acafb8334810383308104
+000002c0 0334010413010106970f000067800f00
+000002d0 83348103833081040334010413010106
+000002e0 678002006ff0dffe8334810383308104
+000002f0 03340104130101066780020017070000
+00000300 1307070197010000938181006f000000
+00000310 970b0000938b8b006ff09fff
+line 0 0 4
+line 1 4 24
+line 2 24 24
+line 3 24 28
+line 4 28 28
+line 5 28 36
+line 6 36 56
+line 7 56 64
+line 8 64 68
+line 9 68 72
+line 10 72 72
+line 11 72 96
+line 12 96 96
+line 13 96 120
+line 14 120 140
+line 15 140 140
+line 16 140 140
+line 17 140 140
+line 18 140 144
+line 19 144 152
+line 20 152 160
+line 21 160 164
+line 22 164 164
+line 23 164 168
+line 24 168 168
+line 25 168 172
+line 26 172 180
+line 27 180 200
+line 28 200 200
+line 29 200 220
+line 30 220 220
+line 31 220 224
+line 32 224 228
+line 33 228 232
+line 34 232 232
+line 35 232 240
+line 36 240 260
+line 37 260 260
+line 38 260 260
+line 39 260 264
+line 40 264 264
+line 41 264 268
+line 42 268 268
+line 43 268 276
+line 44 276 280
+line 45 280 288
+line 46 288 292
+line 47 292 296
+line 48 296 296
+line 49 296 296
+line 50 296 300
+line 51 300 304
+line 52 304 304
+line 53 304 324
+line 54 324 328
+line 55 328 328
+line 56 328 336
+line 57 336 340
+line 58 340 364
+line 59 364 368
+line 60 368 372
+line 61 372 376
+line 62 376 380
+line 63 380 384
+line 64 384 384
+line 65 384 392
+line 66 392 392
+line 67 392 396
+line 68 396 396
+line 69 396 420
+line 70 420 424
+line 71 424 448
+line 72 448 452
+line 73 452 456
+line 74 456 480
+line 75 480 484
+line 76 484 484
+line 77 484 508
+line 78 508 508
+line 79 508 508
+line 80 508 532
+line 81 532 536
+line 82 536 544
+line 83 544 548
+line 84 548 548
+line 85 548 552
+line 86 552 552
+line 87 552 560
+line 88 560 568
+line 89 568 568
+line 90 568 568
+line 91 568 568
+line 92 568 588
+line 93 588 592
+line 94 592 616
+line 95 616 616
+line 96 616 620
+line 97 620 620
+line 98 620 640
+line 99 640 640
+line 100 640 660
+line 101 660 664
+line 102 664 668
+line 103 668 688
+line 104 688 696
+line 105 696 720
+line 106 720 720
+line 107 720 740
+line 108 740 740
+line 109 740 744
+line 110 744 744
+line 111 744 764
+line 112 764 772
+line 113 772 780
+line 114 780 780
+line 115 780 784
+line 116 784 784
+line 117 784 792
+line 118 792 792
+line 119 792 796
+label L0 24
+label L1 28
+label L2 72
+label L3 96
+label L4 140
+label L5 140
+label L6 140
+label L7 164
+label L8 168
+label L9 200
+label L10 220
+label L11 232
+label L12 260
+label L13 260
+label L14 264
+label L15 268
+label L16 296
+label L17 296
+label L18 304
+label L19 328
+label L20 384
+label L21 392
+label L22 396
+label L23 484
+label L24 508
+label L25 508
+label L26 548
+label L27 552
+label L28 568
+label L29 568
+label L30 568
+label L31 616
+label L32 620
+label L33 640
+label L34 720
+label L35 740
+label L36 744
+label L37 780
+label L38 784
+label L39 792
+reloc 88 RiscvCallPlt userextname1 0
+reloc 112 RiscvCallPlt userextname1 0
+reloc 192 Abs8 userextname2 8
+reloc 356 RiscvCallPlt userextname1 0
+reloc 412 RiscvCallPlt userextname1 0
+reloc 440 RiscvCallPlt userextname1 0
+reloc 472 RiscvCallPlt userextname1 0
+reloc 500 RiscvCallPlt userextname1 0
+reloc 524 RiscvCallPlt userextname1 0
+reloc 580 Abs8 userextname3 0
+reloc 608 RiscvCallPlt userextname1 0
+reloc 680 Abs8 userextname1 1099511627776
+reloc 712 RiscvCallPlt userextname1 0
+call 88
+call 112
+call 356
+call 412
+call 440
+call 472
+call 500
+call 524
+call 608
+call 712
+end 796
+";
+
+/// Their report with compressed forms.
+pub const NEAR_SHORT_REPORT: &str = "\
+code 530
+00000000 31a0e274a66006642561828209a0170d
+00000010 0000130ded01e274a660066461618282
+00000020 170a0000130aca00ddb709a0e274a660
+00000030 06646161970f000067800f00e274a660
+00000040 06646161970f000067800f00e274a660
+00000050 06646161828201a0970e0000938eeeff
+00000060 170c0000130cac0009a0f5b7edb79700
+00000070 0000938080fe170a0000033aaa0029a0
+00000080 0000000000000000e274a66006646161
+00000090 828201a0e1bfd9bf170e0000130e4efd
+000000a0 e274a660066461618282f9bff1bf1705
+000000b0 00001305c5fff1bf970700009387a7fd
+000000c0 e1bfd9bfddb709a0e274a66006642561
+000000d0 8282e1bf17060000130666fdf9b7e274
+000000e0 a66006646161970f000067800f00d9bf
+000000f0 7dbfd9bfc1bff9b7170c0000130cccfc
+00000100 09a0e274a66006646161970f00006780
+00000110 0f00fdb7e274a66006646161970f0000
+00000120 67800f00f1bfe9bfe274a66006646161
+00000130 970f000067800f0009a0e274a6600664
+00000140 6161970f000067800f00e274a6600664
+00000150 2561970f000067800f00c5bf97010000
+00000160 9381e1fed9bf09a0170900001309e9ff
+00000170 970e0000938e8e00170700000337a700
+00000180 29a00000000000000000f9bfe274a660
+00000190 06642561970f000067800f00f1bfe274
+000001a0 a660066425618282e274a66006646161
+000001b0 8282ddbfedb7170400000334a40029a0
+000001c0 0000000000000000170a0000130a6afd
+000001d0 e274a66006642561970f000067800f00
+000001e0 e274a660066425618282ddbfe274a660
+000001f0 06642561828217070000130707019701
+00000200 00009381810001a0970b0000938b8b00
+00000210 e5bf
+line 0 0 2
+line 1 2 12
+line 2 12 12
+line 3 12 14
+line 4 14 14
+line 5 14 22
+line 6 22 32
+line 7 32 40
+line 8 40 42
+line 9 42 44
+line 10 44 44
+line 11 44 60
+line 12 60 60
+line 13 60 76
+line 14 76 86
+line 15 86 86
+line 16 86 86
+line 17 86 86
+line 18 86 88
+line 19 88 96
+line 20 96 104
+line 21 104 106
+line 22 106 106
+line 23 106 108
+line 24 108 108
+line 25 108 110
+line 26 110 118
+line 27 118 136
+line 28 136 136
+line 29 136 146
+line 30 146 146
+line 31 146 148
+line 32 148 150
+line 33 150 152
+line 34 152 152
+line 35 152 160
+line 36 160 170
+line 37 170 170
+line 38 170 170
+line 39 170 172
+line 40 172 172
+line 41 172 174
+line 42 174 174
+line 43 174 182
+line 44 182 184
+line 45 184 192
+line 46 192 194
+line 47 194 196
+line 48 196 196
+line 49 196 196
+line 50 196 198
+line 51 198 200
+line 52 200 200
+line 53 200 210
+line 54 210 212
+line 55 212 212
+line 56 212 220
+line 57 220 222
+line 58 222 238
+line 59 238 240
+line 60 240 242
+line 61 242 244
+line 62 244 246
+line 63 246 248
+line 64 248 248
+line 65 248 256
+line 66 256 256
+line 67 256 258
+line 68 258 258
+line 69 258 274
+line 70 274 276
+line 71 276 292
+line 72 292 294
+line 73 294 296
+line 74 296 312
+line 75 312 314
+line 76 314 314
+line 77 314 330
+line 78 330 330
+line 79 330 330
+line 80 330 346
+line 81 346 348
+line 82 348 356
+line 83 356 358
+line 84 358 358
+line 85 358 360
+line 86 360 360
+line 87 360 368
+line 88 368 376
+line 89 376 376
+line 90 376 376
+line 91 376 376
+line 92 376 394
+line 93 394 396
+line 94 396 412
+line 95 412 412
+line 96 412 414
+line 97 414 414
+line 98 414 424
+line 99 424 424
+line 100 424 434
+line 101 434 436
+line 102 436 438
+line 103 438 456
+line 104 456 464
+line 105 464 480
+line 106 480 480
+line 107 480 490
+line 108 490 490
+line 109 490 492
+line 110 492 492
+line 111 492 502
+line 112 502 510
+line 113 510 518
+line 114 518 518
+line 115 518 520
+line 116 520 520
+line 117 520 528
+line 118 528 528
+line 119 528 530
+label L0 12
+label L1 14
+label L2 44
+label L3 60
+label L4 86
+label L5 86
+label L6 86
+label L7 106
+label L8 108
+label L9 136
+label L10 146
+label L11 152
+label L12 170
+label L13 170
+label L14 172
+label L15 174
+label L16 196
+label L17 196
+label L18 200
+label L19 212
+label L20 248
+label L21 256
+label L22 258
+label L23 314
+label L24 330
+label L25 330
+label L26 358
+label L27 360
+label L28 376
+label L29 376
+label L30 376
+label L31 412
+label L32 414
+label L33 424
+label L34 480
+label L35 490
+label L36 492
+label L37 518
+label L38 520
+label L39 528
+reloc 52 RiscvCallPlt userextname1 0
+reloc 68 RiscvCallPlt userextname1 0
+reloc 128 Abs8 userextname2 8
+reloc 230 RiscvCallPlt userextname1 0
+reloc 266 RiscvCallPlt userextname1 0
+reloc 284 RiscvCallPlt userextname1 0
+reloc 304 RiscvCallPlt userextname1 0
+reloc 322 RiscvCallPlt userextname1 0
+reloc 338 RiscvCallPlt userextname1 0
+reloc 386 Abs8 userextname3 0
+reloc 404 RiscvCallPlt userextname1 0
+reloc 448 Abs8 userextname1 1099511627776
+reloc 472 RiscvCallPlt userextname1 0
+call 52
+call 68
+call 230
+call 266
+call 284
+call 304
+call 322
+call 338
+call 404
+call 472
+end 530
+";
