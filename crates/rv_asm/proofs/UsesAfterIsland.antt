@@ -29,7 +29,7 @@ use Rattle.rv_inst.specs.declared.error.Rule.TheVariants as rule_of
 use Rattle.rv_inst.proofs.Rules.{breaks_none}
 use Rattle.rv_inst.specs.Rules.{inst_rule, is_buffer_label}
 use Rattle.mach_buffer.specs.declared.uses.Use.{Use}
-use Rattle.mach_buffer.specs.Reach.{deadline, deadlines, due_by, is_needed, is_needed_from, is_reached}
+use Rattle.mach_buffer.specs.Reach.{deadline, deadlines, due_by, is_needed, is_needed_from, is_reached, island_front}
 use Rattle.mach_buffer.specs.Buffer.{bytes_of, uses_of, place_of}
 use Rattle.mach_buffer.proofs.Laws.{both_lists, deadlines_append, due_le_length}
 use Rattle.rv_emit.specs.Emitted.{Buffer, pending}
@@ -188,13 +188,13 @@ record Missed (cur : ℕ) (all ds : List ℕ) : Type 0 where
   pub due : ℕ
   pub index : ℕ
   pub there : slice_get ds index ≡ Some due
-  pub late : due < cur + 14 + 8 * (due_by due all + 2)
+  pub late : due < cur + island_front + 8 * (due_by due all + 2)
 
 missed : (cur : ℕ) (all ds : List ℕ) → is_needed_from cur all ds ≡ true → Missed cur all ds
 missed cur all [] h = absurd (true≢false (sym h))
-missed cur all (d ∷ ds) h = on (nat_lt d (cur + 14 + 8 * (due_by d all + 2))) refl h (missed cur all ds)
+missed cur all (d ∷ ds) h = on (nat_lt d (cur + island_front + 8 * (due_by d all + 2))) refl h (missed cur all ds)
   where
-    on : (c : Bool) → nat_lt d (cur + 14 + 8 * (due_by d all + 2)) ≡ c → (c || is_needed_from cur all ds) ≡ true → (is_needed_from cur all ds ≡ true → Missed cur all ds) → Missed cur all (d ∷ ds)
+    on : (c : Bool) → nat_lt d (cur + island_front + 8 * (due_by d all + 2)) ≡ c → (c || is_needed_from cur all ds) ≡ true → (is_needed_from cur all ds ≡ true → Missed cur all ds) → Missed cur all (d ∷ ds)
     on true e h rest = record { due = d; index = 0; there = refl; late = ltb-true _ _ e }
     on false e h rest = let m = rest h in record { due = m.due; index = suc m.index; there = m.there; late = m.late }
 

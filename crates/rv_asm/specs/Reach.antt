@@ -11,7 +11,7 @@ use Rattle.rv_inst.specs.declared.label_use.LabelUse.{LabelUse}
 use Rattle.rv_inst.specs.Operands.{line_ways}
 use Rattle.rv_inst.specs.LabelUse.{label_kinds, has_veneer_of}
 use Rattle.mach_buffer.specs.declared.uses.Use.{Use}
-use Rattle.mach_buffer.specs.Reach.{is_reached, deadlines, CanReach}
+use Rattle.mach_buffer.specs.Reach.{is_reached, deadlines, CanReach, island_front}
 use Rattle.rv_inst.specs.Sizes.{line_space, Extent, Words, Island, After, extent_of}
 use Rattle.rv_inst.specs.Uses.{uses_in, least_reach}
 use Rattle.rv_asm.specs.Reported.{start_of, end_of, end_before}
@@ -54,7 +54,7 @@ pub record IsDue (context : Context) (lines : List Line) (spans : List LineSpan)
   pub jumps : 1 ≤ length (line_ways line)
   pub since : last_island spans i ≤ index
   pub before : index < i
-  pub due : start_of spans index + least_reach context line < at + distance + 14 + 8 * (way_count (drop (last_island spans i) (take i lines)) + 2)
+  pub due : start_of spans index + least_reach context line < at + distance + island_front + 8 * (way_count (drop (last_island spans i) (take i lines)) + 2)
 
 abbrev pub IsDueOf : Context → List Line → List LineSpan → ℕ → Extent → Type 0
 IsDueOf context lines spans i (Words size) = Unit {0}

@@ -166,10 +166,6 @@ constant_put {flags} rd o old new h p = subst (λ t. PutsAlone flags (if t then 
 
 -- ---- registers
 
-pub real_int : (r : Reg) (n : ℕ) → IsReal r Int n → IsIntRegister r
-real_int (Real p) n h = h.0
-real_int (Virtual class index) n h = absurd h
-
 pub real_number : (r : Reg) (class : RegClass) (n : ℕ) → IsReal r class n → number_of r ≡ n
 real_number (Real p) class n h = h.1
 real_number (Virtual file index) class n h = absurd h

@@ -20,13 +20,13 @@ use Rattle.rv_machine.specs.State.{State, Values, AreValues, reg, set_reg, wrap,
 use Rattle.rv_machine.proofs.Ranges.{alu_result_fits}
 use Rattle.rv_ops.specs.declared.alu.AluOPRRI.TheVariants.{Addi, Andi, Slli, Srli, Srai}
 use Rattle.rv_ops.specs.declared.compare.IntegerCompare.{IntegerCompare}
-use Rattle.rv_ops.specs.Alu.{rri_numbers}
-use Rattle.rv_encode.specs.Operations.{decoded_branch, rri_op}
+use Rattle.rv_ops.specs.Operations.{rri_op, immediate_of, shift_limit}
+use Rattle.rv_encode.specs.Operations.{decoded_branch}
 use Rattle.rv_inst.specs.Bits.{extended}
 use Rattle.rv_inst.specs.Forms.{short_rri}
 use Rattle.rv_inst.specs.Meaning.{Next, alu_rri, compares, set_regs}
 use Rattle.rv_inst.specs.Operands.{all_of, written_in}
-use Rattle.rv_inst.specs.Rules.{is_beyond, shift_limit}
+use Rattle.rv_inst.specs.Rules.{is_beyond}
 use Rattle.rv_inst.specs.SameValues.{Same, SameBut, is_among}
 use Rattle.rv_inst.specs.Sizes.{is_byte, move_size, moves_size, right_shift}
 use Rattle.rv_inst.specs.declared.inst.SelectInfo.{SelectInfo}
@@ -147,11 +147,11 @@ twice_same v w (suc n) x back hv hw lt same =
     let read = reads_back w (suc n) x hw (omega arith) lt in
     subst (Same (set_reg v (suc n) (back x))) (sym (set_twice w (suc n) x (back (reg (set_reg w (suc n) x) (suc n))) ∙ ap (λ y. set_reg w (suc n) (back y)) read)) (same_set v w (suc n) (back x) hv hw lt same)
 
-not_beyond : (sign : Bool) (k : ℕ) → k < 64 → is_beyond (shift_limit (rri_numbers (right_shift sign)).number) (pos k) ≡ false
+not_beyond : (sign : Bool) (k : ℕ) → k < 64 → is_beyond (shift_limit (immediate_of (right_shift sign))) (pos k) ≡ false
 not_beyond true k lt = grind (arith, nat_tests)
 not_beyond false k lt = grind (arith, nat_tests)
 
-not_beyond_left : (k : ℕ) → k < 64 → is_beyond (shift_limit (rri_numbers Slli).number) (pos k) ≡ false
+not_beyond_left : (k : ℕ) → k < 64 → is_beyond (shift_limit (immediate_of Slli)) (pos k) ≡ false
 not_beyond_left k lt = grind (arith, nat_tests)
 
 -- by andi

@@ -9,6 +9,7 @@ use Rattle.rv_base.specs.IrType.{bits_of}
 use Rattle.rv_base.specs.Regs.{number_of}
 use Rattle.rv_machine.specs.State.{Values, AreValues, reg, set_reg}
 use Rattle.rv_inst.specs.SameValues.{SameBut, is_among}
+use Rattle.rv_emit.proofs.NumberTests.{equals_itself, or_true}
 use Rattle.rv_emit.proofs.Registers.{reads_back, reads_other, temporary_set, spare_set}
 
 -- the registers of a count, by their numbers, and how many bits there are
@@ -55,21 +56,14 @@ pub record BitHolds (c : Count) (left next count bit : ℕ) (v w : Values) : Typ
   pub holds : CountHolds c left next count v w
   pub tested : reg w 30 ≡ bit * next
 
-or_true : (a : Bool) → (a || true) ≡ true
-or_true true = refl
-or_true false = refl
-
-own_among : (n : ℕ) → nat_eq n n ≡ true
-own_among n = grind (arith, nat_tests)
-
 sum_among : (c : Count) → is_among (written c) c.sum ≡ true
-sum_among c = (λ i. own_among c.sum i || (nat_eq c.tmp c.sum || (nat_eq c.step c.sum || false)))
+sum_among c = (λ i. equals_itself c.sum i || (nat_eq c.tmp c.sum || (nat_eq c.step c.sum || false)))
 
 tmp_among : (c : Count) → is_among (written c) c.tmp ≡ true
-tmp_among c = (λ i. nat_eq c.sum c.tmp || (own_among c.tmp i || (nat_eq c.step c.tmp || false))) ∙ or_true (nat_eq c.sum c.tmp)
+tmp_among c = (λ i. nat_eq c.sum c.tmp || (equals_itself c.tmp i || (nat_eq c.step c.tmp || false))) ∙ or_true (nat_eq c.sum c.tmp)
 
 step_among : (c : Count) → is_among (written c) c.step ≡ true
-step_among c = (λ i. nat_eq c.sum c.step || (nat_eq c.tmp c.step || (own_among c.step i || false))) ∙ ap (λ b. nat_eq c.sum c.step || b) (or_true (nat_eq c.tmp c.step)) ∙ or_true (nat_eq c.sum c.step)
+step_among c = (λ i. nat_eq c.sum c.step || (nat_eq c.tmp c.step || (equals_itself c.step i || false))) ∙ ap (λ b. nat_eq c.sum c.step || b) (or_true (nat_eq c.tmp c.step)) ∙ or_true (nat_eq c.sum c.step)
 
 rs_other : (c : Count) → IsCount c → is_among (written c) c.rs ≡ false
 rs_other c h = let a = h.sum_rs in let b = h.tmp_rs in let d = h.step_rs in grind (arith, nat_tests)

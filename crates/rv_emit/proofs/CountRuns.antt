@@ -1,24 +1,21 @@
 -- Steps of a sequence that counts bits of a register in a loop: each operation, and how the loop begins and ends.
 use Rattle.std.proofs.Common.{◌≡◌, ℕ, ◌+◌, ◌-◌, ◌*◌, ◌/◌, ◌%◌, ◌^◌, ◌<◌, ◌≤◌, ℤ, pos, negsuc, true, false, [], ◌∷◌, List, Some, arith, refl, sym, ap, ◌∙◌, lit<}
-use Rattle.std.specs.Prelude.{suc, nat_eq, nat_le, int_lt, if◌then◌else◌, not, bit_and, ◌-ℤ◌}
+use Rattle.std.specs.Prelude.{suc, if◌then◌else◌, not, bit_and, ◌-ℤ◌}
 use Rattle.std.specs.Int.{bit_at}
-use Rattle.std.proofs.lemmas.Bool.{lt-ltb}
-use Rattle.std.proofs.lemmas.Bool.Decides.{nat_tests}
 use Rattle.std.proofs.lemmas.Int.{ints}
 use Rattle.std.proofs.lemmas.Nat.{pow_below, and_comm}
 use Rattle.std.proofs.lemmas.Nat.Bits.{and_pow}
-use Rattle.std.proofs.Math.Nat.{pow-suc}
 use Rattle.rv_base.specs.declared.flags.IsaFlags.{IsaFlags}
-use Rattle.rv_base.specs.CondCodes.{signed64, signed_below}
+use Rattle.rv_base.specs.CondCodes.{signed_below}
 use Rattle.rv_machine.specs.declared.decoding.Decoded.{Decoded}
 use Rattle.rv_machine.specs.State.{State, Values, reg, set_reg, wrap, low64, at}
-use Rattle.rv_ops.specs.Alu.{rri_numbers}
+use Rattle.rv_ops.specs.Operations.{immediate_of, shift_limit}
 use Rattle.rv_ops.specs.declared.alu.AluOPRRR.TheVariants.{And}
 use Rattle.rv_ops.specs.declared.alu.AluOPRRI.{AluOPRRI}
 use Rattle.rv_ops.specs.declared.alu.AluOPRRI.TheVariants.{Addi, Slli}
 use Rattle.rv_inst.specs.Forms.{short_rri}
 use Rattle.rv_inst.specs.Meaning.{Next, alu_rri}
-use Rattle.rv_inst.specs.Rules.{shift_limit, is_beyond}
+use Rattle.rv_inst.specs.Rules.{is_beyond}
 use Rattle.rv_emit.specs.Counts.{bit_op, more_op, less_op, next_op, turn_size}
 use Rattle.rv_emit.specs.InstParts.{slots_alone}
 use Rattle.rv_emit.specs.InstRuns.{Enters, ComesOut}
@@ -28,26 +25,14 @@ use Rattle.rv_emit.specs.Slots.{Slot, size_of}
 use Rattle.rv_emit.proofs.CountRegisters.{Count, IsCount, CountHolds, BitHolds, Counted, counted, written, source_kept, sum_set, tmp_set, step_set, spare_kept, same_beside}
 use Rattle.rv_emit.proofs.Courses.{InCourse, Comes, comes_on, course_of, rri_writes, rrr_writes, goes_ahead, goes_back}
 use Rattle.rv_emit.proofs.Exits.{same_but, starts_at, comes_out}
+use Rattle.rv_emit.proofs.NumberTests.{half_power, none_below, small_shift}
 use Rattle.rv_emit.proofs.Registers.{are_values_set, reads_back}
 use Rattle.rv_emit.proofs.ShortOps.{HasSize, jump_acts, rrr_sized, rri_sized, least_even, least_some, least_few, small_number, back_number}
 
 -- ---- numbers
 
--- 0 is below the bits that are left, read as signed numbers
-none_below : (k : ℕ) → k < 64 → signed_below 0 (suc k) ≡ true
-none_below k lt = let e : signed64 (suc k) ≡ pos (suc k) = omega (arith, ints) in ap (int_lt (pos 0)) e ∙ lt-ltb 0 (suc k) (omega arith)
-
-pub half_power : (k : ℕ) → 2 ^ suc k / 2 ≡ 2 ^ k
-half_power k = let e = pow-suc 2 k in omega arith
-
 pub power_fits : (k : ℕ) → k < 64 → 2 ^ k < 2 ^ 64
 power_fits k lt = pow_below k 64 lt
-
-small_shift : (n : ℕ) → n < 64 → nat_le 64 n ≡ false
-small_shift n lt = grind (arith, nat_tests)
-
-pub not_zero : (n : ℕ) → 0 < n → nat_eq 0 n ≡ false
-not_zero n some = grind (arith, nat_tests)
 
 -- ---- steps
 
@@ -241,7 +226,7 @@ abbrev pub down_at : IsaFlags → Count → ℕ → ℕ
 down_at flags c loop = loop + 4 + (bit_of flags c).len + 4 + (more_of flags c).len
 
 -- one bit less is left, another is the next, and a turn begins
-pub counts_down : {site : Site} {loop : ℕ} {c : Count} {next count : ℕ} {v : Values} {s : State} (shift : AluOPRRI) (left after : ℕ) → left < 64 → is_beyond (shift_limit (rri_numbers shift).number) (pos 1) ≡ false → alu_rri shift next (pos 1) ≡ after → after < 2 ^ 64 → IsCount c → CodeHas site (down_at site.context.flags c loop) (less_of site.context.flags c ∷ []) → CodeHas site (down_at site.context.flags c loop + (less_of site.context.flags c).len) (next_of site.context.flags shift c ∷ []) → CodeHas site (down_at site.context.flags c loop + (less_of site.context.flags c).len + (next_of site.context.flags shift c).len) (jump_of site.context.flags shift c ∷ []) → loop % 2 ≡ 0 → InCount site (down_at site.context.flags c loop) (down_of site.context.flags shift c) c (suc left) next count v s → CountGoes site loop (4 + rest_of site.context.flags shift c) c left after count v s
+pub counts_down : {site : Site} {loop : ℕ} {c : Count} {next count : ℕ} {v : Values} {s : State} (shift : AluOPRRI) (left after : ℕ) → left < 64 → is_beyond (shift_limit (immediate_of shift)) (pos 1) ≡ false → alu_rri shift next (pos 1) ≡ after → after < 2 ^ 64 → IsCount c → CodeHas site (down_at site.context.flags c loop) (less_of site.context.flags c ∷ []) → CodeHas site (down_at site.context.flags c loop + (less_of site.context.flags c).len) (next_of site.context.flags shift c ∷ []) → CodeHas site (down_at site.context.flags c loop + (less_of site.context.flags c).len + (next_of site.context.flags shift c).len) (jump_of site.context.flags shift c ∷ []) → loop % 2 ≡ 0 → InCount site (down_at site.context.flags c loop) (down_of site.context.flags shift c) c (suc left) next count v s → CountGoes site loop (4 + rest_of site.context.flags shift c) c left after count v s
 counts_down {site} {loop} {c} {next} {count} {v} {s} shift left after lt range is fits h has_less has_next has_jump even k = comes_on (less s k) (λ t1 k1. comes_on (shifted t1 k1) (λ t2 k2. back t2 k2))
   where
     flags : IsaFlags

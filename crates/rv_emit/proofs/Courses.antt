@@ -5,10 +5,10 @@ use Rattle.rv_machine.specs.State.{State, IsState, Values, reg, set_reg, wrap, a
 use Rattle.rv_machine.specs.Effects.{act}
 use Rattle.rv_ops.specs.declared.alu.AluOPRRR.{AluOPRRR}
 use Rattle.rv_ops.specs.declared.alu.AluOPRRI.{AluOPRRI}
-use Rattle.rv_ops.specs.Alu.{rri_numbers}
+use Rattle.rv_ops.specs.Operations.{immediate_of, shift_limit}
 use Rattle.rv_inst.specs.Forms.{short_rrr, short_rri}
 use Rattle.rv_inst.specs.Meaning.{alu_rrr, alu_rri}
-use Rattle.rv_inst.specs.Rules.{shift_limit, is_beyond}
+use Rattle.rv_inst.specs.Rules.{is_beyond}
 use Rattle.rv_emit.specs.Sites.{Site, CodeHas}
 use Rattle.rv_emit.specs.Chains.{Goes, IsAt}
 use Rattle.rv_emit.proofs.AddressRuns.{Sets, set_at, shorter}
@@ -74,7 +74,7 @@ sets_comes {s = s} After k n x even lt fits goes c after = record {
 }
 
 -- one of a register and an immediate
-pub rri_writes : {site : Site} {offset size : ℕ} {Such : Values → Type 0} {s : State} (After : Values → Type 0) (op : AluOPRRI) (rd rs : ℕ) (imm : ℤ) (x : ℕ) → is_beyond (shift_limit (rri_numbers op).number) imm ≡ false → CodeHas site offset (short_rri site.context.flags op rd rs imm ∷ []) → alu_rri op (reg s.values rs) imm ≡ x → rd < 32 → x < 2 ^ 64 → InCourse site offset ((short_rri site.context.flags op rd rs imm).len + size) Such s → After (set_reg s.values rd x) → Comes site (offset + (short_rri site.context.flags op rd rs imm).len) size After s
+pub rri_writes : {site : Site} {offset size : ℕ} {Such : Values → Type 0} {s : State} (After : Values → Type 0) (op : AluOPRRI) (rd rs : ℕ) (imm : ℤ) (x : ℕ) → is_beyond (shift_limit (immediate_of op)) imm ≡ false → CodeHas site offset (short_rri site.context.flags op rd rs imm ∷ []) → alu_rri op (reg s.values rs) imm ≡ x → rd < 32 → x < 2 ^ 64 → InCourse site offset ((short_rri site.context.flags op rd rs imm).len + size) Such s → After (set_reg s.values rd x) → Comes site (offset + (short_rri site.context.flags op rd rs imm).len) size After s
 rri_writes {site} {s = s} After op rd rs imm x range has is lt fits k after =
     let flags = site.context.flags in
     let d = short_rri flags op rd rs imm in

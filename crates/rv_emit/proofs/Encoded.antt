@@ -20,7 +20,7 @@ use Rattle.rv_inst.specs.LabelUse.{Aims, marks_of}
 use Rattle.rv_inst.specs.LabelUseWords.{word_at, half_at, word_bytes, AreBytes}
 use Rattle.rv_inst.specs.LabelUseBridges.{with_immediate}
 use Rattle.rv_inst.proofs.Bridges.{decode-patched_branch, decode-patched_jump, decode-patched_compressed_jump}
-use Rattle.rv_emit.specs.Operations.{decoded_jump}
+use Rattle.rv_emit.specs.Operations.{decoded_jump, jump_word}
 use Rattle.rv_machine.specs.Opcodes.{JAL, BRANCH}
 use Rattle.rv_emit.specs.Sites.{BytesAt}
 use Rattle.rv_emit.specs.Puts.{AllBytes, Encodes, IsPatchable}
@@ -70,11 +70,11 @@ one_word kind opcode bridge flags w row four fits is e new d long all kept aims 
     ∙ ap (λ x. option_map (with_immediate d) (decode flags x)) (word_back w) ∙ ap (option_map (with_immediate d)) e)
 
 -- the window of a jump
-pub jump_patchable : (flags : IsaFlags) → IsPatchable flags Jal20 (word_bytes 0x6f) (λ d. decoded_jump d ∷ [])
+pub jump_patchable : (flags : IsaFlags) → IsPatchable flags Jal20 (word_bytes jump_word) (λ d. decoded_jump d ∷ [])
 jump_patchable flags = record {
   long = refl;
   fresh = (refl, (refl, (refl, (refl, tt))));
-  patched = one_word Jal20 JAL decode-patched_jump flags 0x6f (decoded_jump (pos 0)) refl (lit< tt) refl (jump_decodes flags);
+  patched = one_word Jal20 JAL decode-patched_jump flags jump_word (decoded_jump (pos 0)) refl (lit< tt) refl (jump_decodes flags);
 }
 
 -- the window of a branch

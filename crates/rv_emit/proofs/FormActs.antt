@@ -23,14 +23,14 @@ use Rattle.rv_ops.specs.declared.alu.AluOPRRR.{AluOPRRR}
 use Rattle.rv_ops.specs.declared.alu.AluOPRRR.TheVariants as rrr
 use Rattle.rv_ops.specs.declared.alu.AluOPRRI.{AluOPRRI}
 use Rattle.rv_ops.specs.declared.alu.AluOPRRI.TheVariants as rri
-use Rattle.rv_ops.specs.Alu.{rri_numbers}
+use Rattle.rv_ops.specs.Operations.{rri_op, immediate_of, kept_bits}
 use Rattle.rv_ops.specs.declared.memory.LoadOP.{LoadOP}
 use Rattle.rv_ops.specs.declared.memory.LoadOP.TheVariants as loads
 use Rattle.rv_ops.specs.declared.memory.StoreOP.{StoreOP}
 use Rattle.rv_ops.specs.declared.memory.StoreOP.TheVariants as stores
 use Rattle.rv_ops.specs.Memory.{load_size, store_size}
 use Rattle.rv_inst.specs.Meaning.{alu_rrr}
-use Rattle.rv_encode.specs.Operations.{row, rri_op, kept_bits, decoded_rrr, decoded_rri, load_op, store_op, decoded_load, decoded_store}
+use Rattle.rv_encode.specs.Operations.{row, decoded_rrr, decoded_rri, load_op, store_op, decoded_load, decoded_store}
 use Rattle.rv_machine.specs.Layout.{bare_form, compressed}
 use Rattle.rv_machine.specs.Memory.{load_result, store_bytes}
 use Rattle.rv_inst.specs.Forms.{form_where, chosen, is_either, is_short, other_source, add_form, either_form, first_form, zext_w_form, zca_rrr, form_rrr, short_rrr, sp, ra, shift_amount, is_equal, is_six_bits, is_scaled, is_move, move_form, is_addi16sp, is_addi4spn, is_li, is_addi, addi_form, ori_form, addiw_form, slli_form, right_shift_form, andi_form, not_form, extend_form, zca_rri, form_rri, short_rri, form_lui, short_lui, form_jalr, short_jalr, form_ebreak, short_ebreak, load_form, word_load_form, narrow_load_form, zca_load, form_load, short_load, store_form, word_store_form, narrow_store_form, zca_store, form_store, short_store}
@@ -157,17 +157,17 @@ short_rrr_does flags op rd rs1 rs2 =
 -- ---- a register and an immediate
 
 abbrev pub rri_work : AluOPRRI → ℕ → ℕ → ℤ → State → ℕ → State
-rri_work op rd rs imm s next = at next (set_reg s.values rd (alu_result (rri_op op) (reg s.values rs) 0 (low64 (kept_bits (rri_numbers op).number imm))))
+rri_work op rd rs imm s next = at next (set_reg s.values rd (alu_result (rri_op op) (reg s.values rs) 0 (low64 (kept_bits (immediate_of op) imm))))
 
 -- a form whose source is rd, and whose immediate is the one that is kept
-own_does : (op : AluOPRRI) (row : AluOp) (rd rs : ℕ) (imm z : ℤ) → rri_op op ≡ row → rd ≡ rs → kept_bits (rri_numbers op).number imm ≡ z → Does (rri_work op rd rs imm) (compressed (Alu row) rd rd 0 z)
+own_does : (op : AluOPRRI) (row : AluOp) (rd rs : ℕ) (imm z : ℤ) → rri_op op ≡ row → rd ≡ rs → kept_bits (immediate_of op) imm ≡ z → Does (rri_work op rd rs imm) (compressed (Alu row) rd rd 0 z)
 own_does op row rd rs imm z same own kept = record {
   long = inl refl;
   acts = λ s v i. Some (at (wrap (s.pc + 2)) (set_reg s.values rd (alu_result (sym same i) (reg s.values (own i)) 0 (low64 (sym kept i)))));
 }
 
 -- c.mv
-moves : (op : AluOPRRI) (rd rs : ℕ) (imm : ℤ) → ((x : ℕ) → x < 2 ^ 64 → wrap (0 + x) ≡ alu_result (rri_op op) x 0 (low64 (kept_bits (rri_numbers op).number (pos 0)))) → imm ≡ pos 0 → Does (rri_work op rd rs imm) (compressed (Alu (Int int.Add)) rd 0 rs (pos 0))
+moves : (op : AluOPRRI) (rd rs : ℕ) (imm : ℤ) → ((x : ℕ) → x < 2 ^ 64 → wrap (0 + x) ≡ alu_result (rri_op op) x 0 (low64 (kept_bits (immediate_of op) (pos 0)))) → imm ≡ pos 0 → Does (rri_work op rd rs imm) (compressed (Alu (Int int.Add)) rd 0 rs (pos 0))
 moves op rd rs imm same none = subst (λ z. Does (rri_work op rd rs z) (compressed (Alu (Int int.Add)) rd 0 rs (pos 0))) (sym none) (record {
   long = inl refl;
   acts = λ s v. ap (λ n. Some (at (wrap (s.pc + 2)) (set_reg s.values rd n))) (same (reg s.values rs) (v.fits rs));
@@ -179,7 +179,7 @@ add_none x h = omega arith
 or_none : (x : ℕ) → x < 2 ^ 64 → wrap (0 + x) ≡ bit_or x 0
 or_none x h = (let e : wrap (0 + x) ≡ x = omega arith in e) ∙ sym (or_zero_r x)
 
-move_does : (op : AluOPRRI) (rd rs : ℕ) (imm : ℤ) → ((x : ℕ) → x < 2 ^ 64 → wrap (0 + x) ≡ alu_result (rri_op op) x 0 (low64 (kept_bits (rri_numbers op).number (pos 0)))) → is_move rd rs imm ≡ true → Does (rri_work op rd rs imm) (compressed (Alu (Int int.Add)) rd 0 rs (pos 0))
+move_does : (op : AluOPRRI) (rd rs : ℕ) (imm : ℤ) → ((x : ℕ) → x < 2 ^ 64 → wrap (0 + x) ≡ alu_result (rri_op op) x 0 (low64 (kept_bits (immediate_of op) (pos 0)))) → is_move rd rs imm ≡ true → Does (rri_work op rd rs imm) (compressed (Alu (Int int.Add)) rd 0 rs (pos 0))
 move_does op rd rs imm same h = let none : imm ≡ pos 0 = grind (arith, ints) in moves op rd rs imm same none
 
 -- an addition to rs, in whichever of its forms
@@ -233,7 +233,7 @@ slli_form_does rd rs imm =
     guarded (Does (rri_work rri.Slli rd rs imm)) ((rd == rs) && not (rs == 0) && not (is_equal imm (pos 0))) (compressed (Alu (Int int.Slli)) rd rd 0 (shift_amount imm))
     (λ h. let own : rd ≡ rs = grind (arith, nat_tests) in own_does rri.Slli (Int int.Slli) rd rs imm (shift_amount imm) refl own refl)
 
-right_shift_form_does : (op : AluOPRRI) (alu : AluOp) (rd rs : ℕ) (imm : ℤ) → rri_op op ≡ alu → kept_bits (rri_numbers op).number imm ≡ shift_amount imm → IfSome (right_shift_form alu rd rs imm) (Does (rri_work op rd rs imm))
+right_shift_form_does : (op : AluOPRRI) (alu : AluOp) (rd rs : ℕ) (imm : ℤ) → rri_op op ≡ alu → kept_bits (immediate_of op) imm ≡ shift_amount imm → IfSome (right_shift_form alu rd rs imm) (Does (rri_work op rd rs imm))
 right_shift_form_does op alu rd rs imm same kept =
     guarded (Does (rri_work op rd rs imm)) ((rd == rs) && is_short rs && not (is_equal imm (pos 0))) (compressed (Alu alu) rd rd 0 (shift_amount imm))
     (λ h. let own : rd ≡ rs = grind (arith, nat_tests) in own_does op alu rd rs imm (shift_amount imm) same own kept)
@@ -254,7 +254,7 @@ not_form_does flags rd rs imm =
     guarded (Does (rri_work rri.Xori rd rs imm)) (flags.has_zcb && (rd == rs) && is_short rs && is_equal imm (negsuc 0)) (compressed (Alu (Int int.Xori)) rd rd 0 (negsuc 0))
     (λ h. let own : rd ≡ rs = grind (arith, nat_tests) in own_does rri.Xori (Int int.Xori) rd rs imm (negsuc 0) refl own (let same : imm ≡ negsuc 0 = grind (arith, ints) in same))
 
-extend_form_does : (flags : IsaFlags) (op : AluOPRRI) (alu : AluOp) (rd rs : ℕ) (imm : ℤ) → rri_op op ≡ alu → kept_bits (rri_numbers op).number imm ≡ pos 0 → IfSome (extend_form flags alu rd rs imm) (Does (rri_work op rd rs imm))
+extend_form_does : (flags : IsaFlags) (op : AluOPRRI) (alu : AluOp) (rd rs : ℕ) (imm : ℤ) → rri_op op ≡ alu → kept_bits (immediate_of op) imm ≡ pos 0 → IfSome (extend_form flags alu rd rs imm) (Does (rri_work op rd rs imm))
 extend_form_does flags op alu rd rs imm same kept =
     guarded (Does (rri_work op rd rs imm)) (flags.has_zcb && flags.has_zbb && (rd == rs) && is_short rs && is_equal imm (pos 0)) (compressed (Alu alu) rd rd 0 (pos 0))
     (λ h. let own : rd ≡ rs = grind (arith, nat_tests) in own_does op alu rd rs imm (pos 0) same own kept)

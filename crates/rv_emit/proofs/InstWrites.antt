@@ -21,7 +21,8 @@ use Rattle.rv_machine.specs.declared.ops.BaseOp.TheVariants as base_op
 use Rattle.rv_machine.specs.State.{State, Values, reg, set_reg, wrap, low64, at}
 use Rattle.rv_machine.specs.Effects.{act}
 use Rattle.rv_machine.proofs.Ranges.{alu_result_fits}
-use Rattle.rv_encode.specs.Operations.{row, rri_op}
+use Rattle.rv_ops.specs.Operations.{rri_op}
+use Rattle.rv_encode.specs.Operations.{row}
 use Rattle.rv_inst.specs.Forms.{short_rrr, short_rri, short_lui, short_jalr}
 use Rattle.rv_emit.specs.declared.state.EmitVState.{EmitVState}
 use Rattle.rv_emit.specs.Operations.{decoded_addi}

@@ -18,6 +18,7 @@ use Rattle.mach_buffer.specs.Constants.{end_after, reserve_from, reserve_of}
 use Rattle.mach_buffer.specs.Islands.{CanIsland, IsJumpOver, aligned, island_end, first_of, needs_own, others_of}
 use Rattle.mach_buffer.proofs.Laws.{deadlines_append, own_idle, aligned_near, ends_within, even_length, few_allocated, use_usable, bound_usable}
 use Rattle.rv_emit.specs.Emitted.{Buffer, IsSoundBuffer, pending}
+use Rattle.rv_emit.specs.Operations.{jump_word}
 use Rattle.rv_inst.specs.Uses.{use_at}
 
 -- tests that agree on each use have the same deadlines
@@ -39,7 +40,7 @@ other_label place after_island u n = ap (λ b. is_pending label_kinds place u &&
 pub record JumpPut (old new : Buffer) (after_island : MachLabel) : Type 0 where
   pub fresh : after_island.number ≡ first_inner + allocated_of old
   pub allocated : allocated_of new ≡ allocated_of old + 1
-  pub bytes : bytes_of new ≡ bytes_of old ++ word_bytes 0x6f
+  pub bytes : bytes_of new ≡ bytes_of old ++ word_bytes jump_word
   pub uses : uses_of new ≡ uses_of old ++ use_at (length (bytes_of old)) after_island Jal20 ∷ []
   pub places : place_of new ≡ place_of old
   pub registered : registered_of new ≡ registered_of old
@@ -78,7 +79,7 @@ jump_round old new after_island p = record {
   stands = p.uses;
   names = refl;
   bare = refl;
-  last = let long : length (bytes_of new) ≡ length (bytes_of old) + 4 = ap length p.bytes ∙ length-append (bytes_of old) (word_bytes 0x6f) in omega arith;
+  last = let long : length (bytes_of new) ≡ length (bytes_of old) + 4 = ap length p.bytes ∙ length-append (bytes_of old) (word_bytes jump_word) in omega arith;
   supported = refl;
   reach = omega arith;
   only = not_named old new after_island p;
@@ -110,7 +111,7 @@ pub can_island : (old new : Buffer) (after_island : MachLabel) → JumpPut old n
 unfolding jump_round
 can_island old new after_island p reach room =
     let others = others_pending old new after_island p in
-    let long : length (bytes_of new) ≡ length (bytes_of old) + 4 = ap length p.bytes ∙ length-append (bytes_of old) (word_bytes 0x6f) in
+    let long : length (bytes_of new) ≡ length (bytes_of old) + 4 = ap length p.bytes ∙ length-append (bytes_of old) (word_bytes jump_word) in
     let fresh = p.fresh in
     let allocated = p.allocated in
     let less : length (bytes_of old) ≡ length (bytes_of new) - 4 = omega arith in

@@ -21,6 +21,7 @@ use Rattle.rv_emit.specs.Puts.{Puts}
 use Rattle.rv_emit.specs.InstParts.{wide_jump_to}
 use Rattle.mach_buffer.proofs.Laws.{island_rest, island_reserve, lasts_more, lasts_allocated, lasts_island, stands_last, windows_with_use, even_length, few_allocated}
 use Rattle.rv_emit.specs.Emitted.{Buffer, IsSoundBuffer, HasWindows, pending, AppendsCode, AppendsIsland}
+use Rattle.rv_emit.specs.Operations.{jump_word}
 use Rattle.rv_inst.specs.Uses.{use_at}
 use Rattle.rv_emit.proofs.ConstantsAdded.{adds_both, adds_none, adds_island}
 use Rattle.rv_emit.proofs.Islands.{JumpPut, others_pending, same_reserve}
@@ -29,11 +30,11 @@ use Rattle.rv_base.specs.Flags.{no_flags}
 
 -- a label was allocated, and a jump to it put
 pub jump_put : (old mid new : Buffer) (after_island : MachLabel) → IsSoundBuffer old → after_island.number ≡ first_inner + allocated_of old → allocated_of mid ≡ allocated_of old + 1 → bytes_of mid ≡ bytes_of old → uses_of mid ≡ uses_of old → place_of mid ≡ place_of old → registered_of mid ≡ registered_of old →
-    AppendsCode (word_bytes 0x6f) (use_at (length (bytes_of mid)) after_island Jal20 ∷ []) mid new → JumpPut old new after_island
+    AppendsCode (word_bytes jump_word) (use_at (length (bytes_of mid)) after_island Jal20 ∷ []) mid new → JumpPut old new after_island
 jump_put old mid new after_island sound fresh allocated bytes uses places registered a = record {
   fresh = fresh;
   allocated = a.allocated ∙ allocated;
-  bytes = a.bytes ∙ ap (λ b. b ++ word_bytes 0x6f) bytes;
+  bytes = a.bytes ∙ ap (λ b. b ++ word_bytes jump_word) bytes;
   uses = a.uses ∙ (λ i. uses i ++ use_at (length (bytes i)) after_island Jal20 ∷ []);
   places = a.places ∙ places;
   registered = a.registered ∙ registered;
@@ -48,12 +49,12 @@ same_windows old new bytes uses w =
     (subst (λ (us : List (Use LabelUse)). AreWindows label_kinds (bytes_of old) us) (sym uses) w)
 
 -- the jump's window stands fresh
-jump_windows : (old new : Buffer) (after_island : MachLabel) → IsSoundBuffer old → AppendsCode (word_bytes 0x6f) (use_at (length (bytes_of old)) after_island Jal20 ∷ []) old new → HasWindows old → HasWindows new
+jump_windows : (old new : Buffer) (after_island : MachLabel) → IsSoundBuffer old → AppendsCode (word_bytes jump_word) (use_at (length (bytes_of old)) after_island Jal20 ∷ []) old new → HasWindows old → HasWindows new
 jump_windows old new after_island s a w =
     let u = use_at (length (bytes_of old)) after_island Jal20 in
     subst (λ (bs : List ℕ). AreWindows label_kinds bs (uses_of new)) (sym a.bytes)
-    (subst (λ (us : List (Use LabelUse)). AreWindows label_kinds (bytes_of old ++ word_bytes 0x6f) us) (sym a.uses)
-    (windows_with_use (shape_of old) w (even_length label_kinds old s) (word_bytes 0x6f) u (record { at = refl; bare = refl; long = refl }) (refl, (refl, (refl, (refl, tt))))))
+    (subst (λ (us : List (Use LabelUse)). AreWindows label_kinds (bytes_of old ++ word_bytes jump_word) us) (sym a.uses)
+    (windows_with_use (shape_of old) w (even_length label_kinds old s) (word_bytes jump_word) u (record { at = refl; bare = refl; long = refl }) (refl, (refl, (refl, (refl, tt))))))
 
 -- an island's end is a multiple of four
 end_whole : (ends : ℕ → ℕ) (start count last : ℕ) → island_end ends start count last % 4 ≡ 0
@@ -64,11 +65,11 @@ end_whole ends start count last = whole (ends (first_of ends start count last + 
 
 -- a jump was put, and the island after it
 pub puts_island : (old allocated mid new : Buffer) (after_island : MachLabel) → JumpPut old mid after_island → labels_of allocated ≡ labels_of old → IsSoundBuffer allocated → bytes_of allocated ≡ bytes_of old → (HasWindows old → HasWindows allocated) →
-    AppendsCode (word_bytes 0x6f) (use_at (length (bytes_of allocated)) after_island Jal20 ∷ []) allocated mid →
+    AppendsCode (word_bytes jump_word) (use_at (length (bytes_of allocated)) after_island Jal20 ∷ []) allocated mid →
     Islanded label_kinds after_island (shape_of mid) (shape_of new) → Grows (bytes_of mid) (uses_of mid) (place_of mid) (bytes_of new) (uses_of new) (place_of new) → AddsOwn label_kinds (length (bytes_of mid)) (uses_of mid) (uses_of new) → (HasWindows mid → HasWindows new) → (HasWindows mid → AllStand label_kinds (shape_of mid) → AllStand label_kinds (shape_of new)) → IsSoundBuffer new → ((flags : IsaFlags) → Puts flags (allocated_of old + 1) (wide_jump_to (Label after_island) ∷ []) (with_allocated (shape_of old)) (shape_of mid)) → CanIsland label_kinds (shape_of mid) after_island → records_of mid ≡ records_of old → AppendsIsland old new
 puts_island old allocated mid new after_island p labels sound same_bytes windows a i grows own kept stand now puts can records =
     let rest = island_rest label_kinds mid p.sound i in
-    let long : length (bytes_of mid) ≡ length (bytes_of old) + 4 = ap (length {A = ℕ}) p.bytes ∙ length-append (bytes_of old) (word_bytes 0x6f) in
+    let long : length (bytes_of mid) ≡ length (bytes_of old) + 4 = ap (length {A = ℕ}) p.bytes ∙ length-append (bytes_of old) (word_bytes jump_word) in
     let count = length (others_of label_kinds (shape_of mid) after_island) in
     let counted : count ≡ length (pending old) = ap (length {A = ℕ}) (others_pending old mid after_island p) in
     let last = deadline label_kinds i.jump in

@@ -95,3 +95,4 @@ mod TailRules
 mod TailSlots
 mod TailsPut
 mod CallSlots
+mod NumberTests

@@ -3,7 +3,6 @@ use Rattle.std.proofs.Common.{◌≡◌, ◌⊎◌, inl, inr, ℕ, ◌+◌, ◌%
 use Rattle.std.proofs.lemmas.List.{length-append}
 use Rattle.rv_base.specs.declared.flags.IsaFlags.{IsaFlags}
 use Rattle.rv_inst.specs.declared.label_use.LabelUse.{LabelUse}
-use Rattle.rv_inst.specs.declared.label_use.LabelUse.TheVariants.{Jal20, PCRel32, B12, PCRelHi20, PCRelLo12I, RVCJump}
 use Rattle.rv_inst.specs.LabelUse.{label_kinds, marks_of}
 use Rattle.rv_inst.specs.Uses.{use_at}
 use Rattle.mach_buffer.specs.declared.uses.Use.{Use}
@@ -24,7 +23,7 @@ use Rattle.rv_emit.specs.Standing.{SlotsIn, IslandIn, GapStandsIn, PartsIn}
 use Rattle.rv_emit.specs.ConstantsAdded.{AddsConstants}
 use Rattle.rv_emit.proofs.ConstantsAdded.{adds_both, adds_none, adds_same}
 use Rattle.rv_emit.proofs.Fields.{puts_fields, island_fields}
-use Rattle.rv_emit.proofs.PutsLast.{slot_bytes, puts_last, puts_bytes, puts_constants}
+use Rattle.rv_emit.proofs.PutsLast.{marks_even, slot_bytes, puts_last, puts_bytes, puts_constants}
 
 -- ---- what stands stays
 
@@ -46,14 +45,6 @@ parts_last flags (Slots slots ∷ parts) start end (mid, q, rest) l = (mid, slot
 abbrev StandWell : Shape LabelUse → Type 0
 StandWell s = AreWindows label_kinds s.bytes s.uses
 
-even_marks : (kind : LabelUse) → length (marks_of kind) % 2 ≡ 0
-even_marks Jal20 = refl
-even_marks PCRel32 = refl
-even_marks B12 = refl
-even_marks PCRelHi20 = refl
-even_marks PCRelLo12I = refl
-even_marks RVCJump = refl
-
 slot_well : (flags : IsaFlags) (allocated : ℕ) (slot : Slot) (s t : Shape LabelUse) → length s.bytes % 2 ≡ 0 → PutsSlot flags allocated slot s t → StandWell s → StandWell t
 slot_well flags allocated (Op d) s t even (bytes, long, encodes, e) w = subst StandWell (sym e) (windows_with_bytes s w bytes)
 slot_well flags allocated (Aim kind target ops) s t even (window, is, e) w =
@@ -71,7 +62,7 @@ slot_well flags allocated (CallTo name ops) s t even (code, is, e) w = subst Sta
 -- a piece of a block has an even length
 even_after : (here : ℕ → Option ℕ) (at : ℕ) (slot : Slot) (slots : List Slot) → AreClosed here at (slot ∷ slots) → (slot_size slot % 2 ≡ 0) × ((n : ℕ) × AreClosed here n slots)
 even_after here at (Op d) slots c = (c.0, (at + d.len, c.1))
-even_after here at (Aim kind target ops) slots c = (even_marks kind, (at + length (marks_of kind), c.1))
+even_after here at (Aim kind target ops) slots c = (marks_even kind, (at + length (marks_of kind), c.1))
 even_after here at (Data bytes) slots c = (c.0, (at + length bytes, c.1))
 even_after here at (Notes event) slots c = (refl, (at, c))
 even_after here at (Names k) slots c = (refl, (at, c))

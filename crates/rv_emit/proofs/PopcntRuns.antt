@@ -22,8 +22,9 @@ use Rattle.rv_emit.specs.Operations.{decoded_beq, jump_size}
 use Rattle.rv_emit.specs.Sites.{Site, CodeHas, StandsIn}
 use Rattle.rv_emit.specs.Slots.{Slot, Op, size_of}
 use Rattle.rv_emit.proofs.CountRegisters.{Count, IsCount, BitHolds, Counted, count_of}
-use Rattle.rv_emit.proofs.CountRuns.{InCount, CountGoes, half_power, power_fits, not_zero, zero_of, full_of, one_of, highest_of, more_of, turn_of, down_of, rest_of, short_count, starts_highest, none_left, tests, counts_more, counts_down, enters_count, count_out}
+use Rattle.rv_emit.proofs.CountRuns.{InCount, CountGoes, power_fits, zero_of, full_of, one_of, highest_of, more_of, turn_of, down_of, rest_of, short_count, starts_highest, none_left, tests, counts_more, counts_down, enters_count, count_out}
 use Rattle.rv_emit.proofs.Courses.{InCourse, Comes, comes_on, course_of, goes_ahead}
+use Rattle.rv_emit.proofs.NumberTests.{half_power, not_zero}
 use Rattle.rv_emit.proofs.ShortOps.{jump_len, small_number}
 
 -- ---- numbers

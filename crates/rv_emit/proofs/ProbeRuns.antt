@@ -34,6 +34,7 @@ use Rattle.rv_emit.proofs.Courses.{InCourse, Comes, comes_on, rrr_writes, goes_a
 use Rattle.rv_emit.proofs.Exits.{same_but, starts_at, comes_out}
 use Rattle.rv_emit.proofs.MemoryKept.{placed_after, put_same, put_values}
 use Rattle.rv_emit.proofs.NumberRuns.{number_comes, bits_back}
+use Rattle.rv_emit.proofs.NumberTests.{not_below}
 use Rattle.rv_emit.proofs.Operands.{Keeps}
 use Rattle.rv_emit.proofs.ProbeRules.{IsProbe, is_probe}
 use Rattle.rv_emit.proofs.ProbeSlots.{probe_sized, zero_sized, nearer_sized}
@@ -45,9 +46,6 @@ use Rattle.rv_emit.proofs.ShortOps.{store_acts, jump_acts, jump_len, least_even,
 -- a guard more
 guard_more : (k guard : ℕ) → suc k * guard ≡ k * guard + guard
 guard_more k guard = omega arith
-
-not_below : (m n : ℕ) → n ≤ m → nat_lt m n ≡ false
-not_below m n le = grind (arith, nat_tests)
 
 -- ---- values
 

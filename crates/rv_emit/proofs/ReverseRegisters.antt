@@ -4,6 +4,7 @@ use Rattle.std.specs.Prelude.{nat_eq, ◌||◌}
 use Rattle.std.proofs.lemmas.Bool.Decides.{nat_tests}
 use Rattle.rv_machine.specs.State.{Values, AreValues, reg, set_reg}
 use Rattle.rv_inst.specs.SameValues.{SameBut, is_among}
+use Rattle.rv_emit.proofs.NumberTests.{equals_itself, or_true}
 use Rattle.rv_emit.proofs.Registers.{reads_back, reads_other, temporary_set, spare_set}
 
 -- the registers, by their numbers, and how many bits are reversed
@@ -58,25 +59,18 @@ pub record Tests (c : Reversal) (left next place got tested : ℕ) (v w : Values
 
 -- ---- which are written
 
-or_true : (a : Bool) → (a || true) ≡ true
-or_true true = refl
-or_true false = refl
-
-own_among : (n : ℕ) → nat_eq n n ≡ true
-own_among n = grind (arith, nat_tests)
-
 rd_among : (c : Reversal) → is_among (written c) c.rd ≡ true
-rd_among c = (λ i. own_among c.rd i || is_among (c.step ∷ c.tmp ∷ c.tmp2 ∷ []) c.rd)
+rd_among c = (λ i. equals_itself c.rd i || is_among (c.step ∷ c.tmp ∷ c.tmp2 ∷ []) c.rd)
 
 step_among : (c : Reversal) → is_among (written c) c.step ≡ true
-step_among c = (λ i. nat_eq c.rd c.step || (own_among c.step i || is_among (c.tmp ∷ c.tmp2 ∷ []) c.step)) ∙ or_true (nat_eq c.rd c.step)
+step_among c = (λ i. nat_eq c.rd c.step || (equals_itself c.step i || is_among (c.tmp ∷ c.tmp2 ∷ []) c.step)) ∙ or_true (nat_eq c.rd c.step)
 
 tmp_among : (c : Reversal) → is_among (written c) c.tmp ≡ true
-tmp_among c = (λ i. nat_eq c.rd c.tmp || (nat_eq c.step c.tmp || (own_among c.tmp i || is_among (c.tmp2 ∷ []) c.tmp))) ∙ ap (λ b. nat_eq c.rd c.tmp || b) (or_true (nat_eq c.step c.tmp)) ∙ or_true (nat_eq c.rd c.tmp)
+tmp_among c = (λ i. nat_eq c.rd c.tmp || (nat_eq c.step c.tmp || (equals_itself c.tmp i || is_among (c.tmp2 ∷ []) c.tmp))) ∙ ap (λ b. nat_eq c.rd c.tmp || b) (or_true (nat_eq c.step c.tmp)) ∙ or_true (nat_eq c.rd c.tmp)
 
 tmp2_among : (c : Reversal) → is_among (written c) c.tmp2 ≡ true
 tmp2_among c =
-    let last : is_among (c.tmp ∷ c.tmp2 ∷ []) c.tmp2 ≡ true = (λ i. nat_eq c.tmp c.tmp2 || (own_among c.tmp2 i || false)) ∙ or_true (nat_eq c.tmp c.tmp2) in
+    let last : is_among (c.tmp ∷ c.tmp2 ∷ []) c.tmp2 ≡ true = (λ i. nat_eq c.tmp c.tmp2 || (equals_itself c.tmp2 i || false)) ∙ or_true (nat_eq c.tmp c.tmp2) in
     (λ i. nat_eq c.rd c.tmp2 || (nat_eq c.step c.tmp2 || last i)) ∙ ap (λ b. nat_eq c.rd c.tmp2 || b) (or_true (nat_eq c.step c.tmp2)) ∙ or_true (nat_eq c.rd c.tmp2)
 
 rs_other : (c : Reversal) → IsReversal c → is_among (written c) c.rs ≡ false

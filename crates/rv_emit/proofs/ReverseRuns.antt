@@ -1,18 +1,15 @@
 -- The bits of a register's bytes are set in reverse order, from the highest bit on.
 use Rattle.std.proofs.Common.{◌≡◌, ℕ, zero, suc, ◌+◌, ◌-◌, ◌*◌, ◌/◌, ◌%◌, ◌^◌, ◌<◌, ◌≤◌, pos, true, false, [], ◌∷◌, List, map, length, Some, arith, refl, sym, ap, subst, ◌∙◌}
-use Rattle.std.specs.Prelude.{nat_eq, int_lt, if◌then◌else◌, not, bit_or, bit_and, ◌-ℤ◌}
+use Rattle.std.specs.Prelude.{nat_eq, if◌then◌else◌, not, bit_or, bit_and, ◌-ℤ◌}
 use Rattle.std.specs.Int.{bit_at}
-use Rattle.std.proofs.lemmas.Bool.{lt-ltb}
 use Rattle.std.proofs.lemmas.Bool.Decides.{nat_tests}
-use Rattle.std.proofs.lemmas.Int.{ints}
 use Rattle.std.proofs.lemmas.Nat.{pow_pos, and_comm}
 use Rattle.std.proofs.lemmas.Nat.Bits.{and_pow, bit_at-lt}
-use Rattle.std.proofs.Math.Nat.{pow-suc}
 use Rattle.rv_base.specs.declared.flags.IsaFlags.{IsaFlags}
 use Rattle.rv_base.specs.declared.ir_type.IrType.{IrType}
 use Rattle.rv_base.specs.declared.regs.Reg.{Reg}
 use Rattle.rv_base.specs.declared.regs.Writable.{Writable}
-use Rattle.rv_base.specs.CondCodes.{signed64, signed_below}
+use Rattle.rv_base.specs.CondCodes.{signed_below}
 use Rattle.rv_machine.specs.declared.decoding.Decoded.{Decoded}
 use Rattle.rv_machine.specs.State.{State, Values, reg, set_reg, wrap, low64, at}
 use Rattle.rv_inst.specs.Bits.{reversed_bytes}
@@ -31,6 +28,7 @@ use Rattle.rv_emit.specs.Slots.{Slot, Op, size_of}
 use Rattle.rv_emit.specs.Chains.{IsAt}
 use Rattle.rv_emit.proofs.Courses.{InCourse, Comes, comes_on, course_of, goes_ahead, goes_back}
 use Rattle.rv_emit.proofs.Exits.{same_but, starts_at, comes_out}
+use Rattle.rv_emit.proofs.NumberTests.{half_power, none_below, not_zero}
 use Rattle.rv_emit.proofs.Operands.{Keeps}
 use Rattle.rv_emit.proofs.Registers.{are_values_set}
 use Rattle.rv_emit.proofs.ReverseRegisters.{Reversal, IsReversal, Holds, Tests, written, same_beside}
@@ -135,10 +133,6 @@ turn_slots flags c = map Op (reverse_turn flags c.rd c.tmp c.tmp2 c.step c.rs)
 
 -- ---- the end
 
--- 0 is below the bits that are left, read as signed numbers
-none_below : (k : ℕ) → k < 64 → signed_below 0 (suc k) ≡ true
-none_below k lt = let e : signed64 (suc k) ≡ pos (suc k) = omega (arith, ints) in ap (int_lt (pos 0)) e ∙ lt-ltb 0 (suc k) (omega arith)
-
 -- some bits are left
 more_left : {site : Site} {loop : ℕ} {c : Reversal} {next place got : ℕ} {v : Values} {s : State} (allocated left : ℕ) → left < 64 → StandsIn site allocated loop (turn_slots site.context.flags c) → InCourse site loop (4 + test_long site.context.flags c) (Holds c (suc left) next place got v) s → Comes site (loop + 4) (test_long site.context.flags c) (Holds c (suc left) next place got v) s
 more_left {site} {loop} {c} {s = s} allocated left lt stands k =
@@ -164,9 +158,6 @@ none_left {site} {loop} {c} {s = s} allocated stands k =
     goes_ahead (end_of flags c) n (loop + (4 + test_long flags c)) 0 stands.0 (λ i. Some (at (if not (e i) then wrap (s.pc + far i) else wrap (s.pc + 4)) s.values)) (omega arith) (omega arith) (omega arith) (omega arith) k
 
 -- ---- the next bit
-
-not_zero : (n : ℕ) → 0 < n → nat_eq 0 n ≡ false
-not_zero n some = grind (arith, nat_tests)
 
 -- x30 holds the next bit's power or 0: the bit is set where it goes, or isn't
 by_bit : {site : Site} {offset size : ℕ} {c : Reversal} {left next place got : ℕ} {v : Values} {s : State} (power b : ℕ) → b < 2 → 0 < power → bit_or got place ≡ got + place → IsReversal c → CodeHas site offset (skip_of site.context.flags c ∷ []) → CodeHas site (offset + 4) (set_of site.context.flags c ∷ []) → InCourse site offset (4 + ((set_of site.context.flags c).len + size)) (Tests c left next place got (b * power) v) s → Comes site (offset + 4 + (set_of site.context.flags c).len) size (Holds c left next place (got + b * place) v) s
@@ -280,9 +271,6 @@ turn {loop = loop} {c} allocated left lt clear h stands k =
     comes_on (tested loop allocated left clear h stands k1) (λ t2 k2.
     comes_on (goes_down loop allocated left lt h stands k2) (λ t3 k3.
     comes_on (by_rest (left % 8) refl lt h stands.1.1.1.1.1.1.1.1.0 stands.1.1.1.1.1.1.1.1.1.0 stands.1.1.1.1.1.1.1.1.1.1.0 stands.1.1.1.1.1.1.1.1.1.1.1.0 k3) (λ t4 k4. goes_round c loop allocated room even stands k4))))
-
-half_power : (k : ℕ) → 2 ^ suc k / 2 ≡ 2 ^ k
-half_power k = let e = pow-suc 2 k in omega arith
 
 -- what all bits give
 abbrev whole_of : Reversal → Values → ℕ

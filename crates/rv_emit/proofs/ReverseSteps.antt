@@ -1,7 +1,6 @@
 -- What each operation does that reverses bits, wherever it stands.
-use Rattle.std.proofs.Common.{◌≡◌, ℕ, suc, ◌+◌, ◌-◌, ◌*◌, ◌/◌, ◌%◌, ◌^◌, ◌<◌, pos, negsuc, false, [], ◌∷◌, arith, refl, ap, ◌∙◌, lit<}
-use Rattle.std.specs.Prelude.{nat_le, int_rem, bit_and, bit_or}
-use Rattle.std.proofs.lemmas.Bool.Decides.{nat_tests}
+use Rattle.std.proofs.Common.{◌≡◌, ℕ, suc, ◌+◌, ◌-◌, ◌*◌, ◌/◌, ◌%◌, ◌^◌, ◌<◌, pos, negsuc, [], ◌∷◌, arith, refl, ap, ◌∙◌, lit<}
+use Rattle.std.specs.Prelude.{int_rem, bit_and, bit_or}
 use Rattle.std.proofs.lemmas.Int.{ints}
 use Rattle.std.proofs.lemmas.Nat.{pow_below}
 use Rattle.rv_base.specs.CondCodes.{signed64}
@@ -14,14 +13,12 @@ use Rattle.rv_emit.specs.Loops.{set_op, eight_op, rest_op, down_op, up_op}
 use Rattle.rv_emit.specs.Counts.{bit_op, less_op, half_op}
 use Rattle.rv_emit.specs.Sites.{Site, CodeHas}
 use Rattle.rv_emit.proofs.Courses.{InCourse, Comes, rri_writes, rrr_writes}
+use Rattle.rv_emit.proofs.NumberTests.{small_shift}
 use Rattle.rv_emit.proofs.ReverseRegisters.{Reversal, IsReversal, Holds, Tests, source_kept, rd_set, tmp_set, tmp2_set, step_set, spare_tests}
 use Rattle.rv_emit.proofs.ReversedBytes.{place_of, place_fits, place_first}
 use Rattle.rv_emit.proofs.ShortOps.{small_number}
 
 -- ---- numbers
-
-small_shift : (n : ℕ) → n < 64 → nat_le 64 n ≡ false
-small_shift n lt = grind (arith, nat_tests)
 
 -- a small number's rest by 8, both read as signed numbers
 rest_of_eight : (n : ℕ) → n < 64 → alu_rrr Rem n 8 ≡ n % 8

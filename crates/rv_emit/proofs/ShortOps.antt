@@ -7,8 +7,8 @@ use Rattle.rv_ops.specs.declared.alu.AluOPRRR.{AluOPRRR}
 use Rattle.rv_ops.specs.declared.alu.AluOPRRI.{AluOPRRI}
 use Rattle.rv_ops.specs.declared.memory.LoadOP.{LoadOP}
 use Rattle.rv_ops.specs.declared.memory.StoreOP.{StoreOP}
-use Rattle.rv_ops.specs.Alu.{rri_numbers}
-use Rattle.rv_inst.specs.Rules.{shift_limit, is_beyond}
+use Rattle.rv_ops.specs.Operations.{immediate_of, shift_limit}
+use Rattle.rv_inst.specs.Rules.{is_beyond}
 use Rattle.rv_inst.specs.Forms.{jump_kind, short_rrr, short_rri, short_lui, short_jalr, short_ebreak, short_load, short_store}
 use Rattle.rv_inst.specs.LabelUse.{marks_of}
 use Rattle.rv_inst.specs.Meaning.{alu_rrr, alu_rri, put_bytes}
@@ -61,7 +61,7 @@ store_sized flags op base src offset = sized (short_store flags op base src offs
 pub rrr_acts : (flags : IsaFlags) (op : AluOPRRR) (rd rs1 rs2 : ℕ) (s : State) → IsState s → act (short_rrr flags op rd rs1 rs2) s ≡ Some (at (wrap (s.pc + (short_rrr flags op rd rs1 rs2).len)) (set_reg s.values rd (alu_rrr op (reg s.values rs1) (reg s.values rs2))))
 rrr_acts flags op rd rs1 rs2 s h = (short_rrr_does flags op rd rs1 rs2).acts s h.values
 
-pub rri_acts : (flags : IsaFlags) (op : AluOPRRI) (rd rs : ℕ) (imm : ℤ) (s : State) → is_beyond (shift_limit (rri_numbers op).number) imm ≡ false → IsState s → act (short_rri flags op rd rs imm) s ≡ Some (at (wrap (s.pc + (short_rri flags op rd rs imm).len)) (set_reg s.values rd (alu_rri op (reg s.values rs) imm)))
+pub rri_acts : (flags : IsaFlags) (op : AluOPRRI) (rd rs : ℕ) (imm : ℤ) (s : State) → is_beyond (shift_limit (immediate_of op)) imm ≡ false → IsState s → act (short_rri flags op rd rs imm) s ≡ Some (at (wrap (s.pc + (short_rri flags op rd rs imm).len)) (set_reg s.values rd (alu_rri op (reg s.values rs) imm)))
 rri_acts flags op rd rs imm s range h = (short_rri_does flags op rd rs imm).acts s h.values ∙ ap (λ x. Some (at (wrap (s.pc + (short_rri flags op rd rs imm).len)) (set_reg s.values rd x))) (rri_same op (reg s.values rs) imm range)
 
 pub lui_acts : (flags : IsaFlags) (rd : ℕ) (imm : ℤ) (s : State) → IsState s → act (short_lui flags rd imm) s ≡ Some (at (wrap (s.pc + (short_lui flags rd imm).len)) (set_reg s.values rd (wrap (low64 imm * 2 ^ 12))))

@@ -13,7 +13,7 @@ use Rattle.rv_machine.specs.declared.ops.MOp.TheVariants.{Base}
 use Rattle.rv_machine.specs.declared.ops.BaseOp.TheVariants.{Jal}
 use Rattle.rv_ops.specs.declared.alu.AluOPRRI.TheVariants.{Addi}
 use Rattle.rv_inst.specs.Forms.{short_rri}
-use Rattle.rv_emit.specs.Operations.{decoded_jump}
+use Rattle.rv_emit.specs.Operations.{decoded_jump, jump_word}
 use Rattle.rv_ops.specs.declared.compare.IntegerCompare.{IntegerCompare}
 use Rattle.rv_inst.specs.declared.inst.CondBrTarget.{CondBrTarget}
 use Rattle.rv_inst.specs.declared.inst.CondBrTarget.TheVariants.{Label as ToLabel, Fallthrough}
@@ -47,9 +47,9 @@ op_put flags old new w bytes d four e is put sound = alone (record {
 })
 
 -- a jump, in a word
-pub jump_put_at : (flags : IsaFlags) (old new : Buffer) (w : ℕ) (label : MachLabel) → w ≡ 0x6f → shape_of new ≡ with_bytes (word_bytes w) (with_use (use_at (length (bytes_of old)) label Jal20) (shape_of old)) → IsSoundBuffer new → PutsSlots flags (wide_jump_to (Label label) ∷ []) old new
+pub jump_put_at : (flags : IsaFlags) (old new : Buffer) (w : ℕ) (label : MachLabel) → w ≡ jump_word → shape_of new ≡ with_bytes (word_bytes w) (with_use (use_at (length (bytes_of old)) label Jal20) (shape_of old)) → IsSoundBuffer new → PutsSlots flags (wide_jump_to (Label label) ∷ []) old new
 jump_put_at flags old new w label is put sound = record {
-  puts = (shape_of new, (word_bytes 0x6f, jump_patchable flags, put ∙ ap (λ x. with_bytes (word_bytes x) (with_use (use_at (length (bytes_of old)) label Jal20) (shape_of old))) is), refl);
+  puts = (shape_of new, (word_bytes jump_word, jump_patchable flags, put ∙ ap (λ x. with_bytes (word_bytes x) (with_use (use_at (length (bytes_of old)) label Jal20) (shape_of old))) is), refl);
   sound = sound;
 }
 

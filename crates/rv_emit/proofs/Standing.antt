@@ -10,7 +10,7 @@ use Rattle.rv_base.specs.LabelUse.{SameOutside}
 use Rattle.rv_base.specs.declared.external_name.ExternalName.{ExternalName}
 use Rattle.rv_machine.specs.declared.decoding.Decoded.{Decoded}
 use Rattle.rv_inst.specs.declared.label_use.LabelUse.{LabelUse}
-use Rattle.rv_inst.specs.declared.label_use.LabelUse.TheVariants.{Jal20, PCRel32, B12, PCRelHi20, PCRelLo12I, RVCJump}
+use Rattle.rv_inst.specs.declared.label_use.LabelUse.TheVariants.{PCRel32, PCRelHi20, PCRelLo12I}
 use Rattle.rv_inst.specs.LabelUse.{label_kinds, Aims, marks_of, has_veneer_of, veneer_of, forward_of, backward_of}
 use Rattle.rv_inst.specs.Uses.{use_at}
 use Rattle.mach_buffer.specs.declared.uses.Use.{Use}
@@ -32,19 +32,11 @@ use Rattle.rv_emit.specs.Puts.{Encodes, eight_zeros, PutsSlot, Puts}
 use Rattle.rv_emit.specs.Standing.{SlotsIn, IslandIn, GapStandsIn, PartsIn, IsFinishedTo}
 use Rattle.rv_emit.proofs.OwnLabels.{bound_here, own_bound}
 use Rattle.rv_emit.proofs.PlacedBytes.{window_length, window_fits, window_there}
-use Rattle.rv_emit.proofs.PutsLast.{slot_bytes, slot_ends, puts_last, puts_bytes, puts_uses}
+use Rattle.rv_emit.proofs.PutsLast.{marks_even, slot_bytes, slot_ends, puts_last, puts_bytes, puts_uses}
 use Rattle.rv_emit.proofs.VeneerRuns.{veneer_leads}
 use Rattle.rv_emit.proofs.Ways.{leads_here, leads_both, jump_leads}
 
 -- ---- even lengths
-
-marks_even : (kind : LabelUse) → length (marks_of kind) % 2 ≡ 0
-marks_even Jal20 = refl
-marks_even PCRel32 = refl
-marks_even B12 = refl
-marks_even PCRelHi20 = refl
-marks_even PCRelLo12I = refl
-marks_even RVCJump = refl
 
 pub closed_even : (here : ℕ → Option ℕ) (at : ℕ) (slots : List Slot) → AreClosed here at slots → size_of slots % 2 ≡ 0
 closed_even here at [] h = refl

@@ -45,23 +45,17 @@ use Rattle.rv_emit.proofs.Registers.{are_values_set, reads_back, reads_other, te
 use Rattle.rv_emit.proofs.ShortOps.{rri_acts, rri_sized, small_number}
 use Rattle.rv_emit.proofs.TableRules.{IsTable, is_table}
 use Rattle.rv_emit.proofs.NumberRuns.{number_even, number_goes}
+use Rattle.rv_emit.proofs.NumberTests.{equals_itself, not_below, or_true}
 use Rattle.rv_emit.proofs.Standing.{closed_even}
 use Rattle.rv_emit.proofs.TableSlots.{AreEven, even_closed, extend_even, jumps_long}
 
 -- ---- registers
 
-own_among : (n : ℕ) → nat_eq n n ≡ true
-own_among n = grind (arith, nat_tests)
-
 first_among : (m n : ℕ) → is_among (m ∷ n ∷ []) m ≡ true
-first_among m n = (λ i. own_among m i || (nat_eq n m || false))
-
-or_true : (a : Bool) → (a || true) ≡ true
-or_true true = refl
-or_true false = refl
+first_among m n = (λ i. equals_itself m i || (nat_eq n m || false))
 
 second_among : (m n : ℕ) → is_among (m ∷ n ∷ []) n ≡ true
-second_among m n = (λ i. nat_eq m n || (own_among n i || false)) ∙ or_true (nat_eq m n)
+second_among m n = (λ i. nat_eq m n || (equals_itself n i || false)) ∙ or_true (nat_eq m n)
 
 -- a temporary is written
 beside_temporary : {site : Site} {free : List ℕ} {v : Values} {s : State} (pc n x : ℕ) → is_among free n ≡ true → n < 32 → pc < 2 ^ 64 → x < 2 ^ 64 → IsBeside site free v s → IsBeside site free v (at pc (set_reg s.values n x))
@@ -208,9 +202,6 @@ not_found : (labels : List MachLabel) (index : ℕ) → slice_get labels index �
 not_found [] index e = omega arith
 not_found (label ∷ labels) zero e = absurd (cc)
 not_found (label ∷ labels) (suc index) e = let rest = not_found labels index e in omega arith
-
-not_below : (m n : ℕ) → n ≤ m → nat_lt m n ≡ false
-not_below m n le = grind (arith, nat_tests)
 
 is_below : (m n : ℕ) → m < n → nat_lt m n ≡ true
 is_below m n lt = grind (arith, nat_tests)

@@ -22,14 +22,14 @@ use Rattle.rv_encode.proofs.Decoding.{branch_decodes}
 use Rattle.rv_inst.specs.declared.label_use.LabelUse.TheVariants.{B12}
 use Rattle.rv_inst.specs.LabelUse.{marks_of}
 use Rattle.rv_inst.specs.LabelUseWords.{word_bytes}
-use Rattle.rv_emit.specs.Operations.{decoded_jump}
+use Rattle.rv_emit.specs.Operations.{decoded_jump, jump_word}
 
 -- a word's bytes, the least first
 pub bytes_of_word : (w : ℕ) → w < 2 ^ 32 → to_le_bytes w32 w ≡ word_bytes w
 bytes_of_word w h = let e : w / 16777216 % 256 ≡ w / 16777216 = omega arith in ap (λ (b : ℕ). w % 256 ∷ w / 256 % 256 ∷ w / 65536 % 256 ∷ b ∷ []) e
 
 -- the jump with no distance
-pub jump_decodes : (flags : IsaFlags) → decode flags 0x6f ≡ Some (decoded_jump (pos 0))
+pub jump_decodes : (flags : IsaFlags) → decode flags jump_word ≡ Some (decoded_jump (pos 0))
 unfolding decode
 jump_decodes flags = refl
 

@@ -10,12 +10,12 @@ use Rattle.rv_base.specs.declared.ir_type.IrType.{IrType}
 use Rattle.rv_base.specs.declared.regs.Reg.{Reg}
 use Rattle.rv_base.specs.declared.regs.Writable.{Writable}
 use Rattle.rv_machine.specs.State.{State, Values, reg, set_reg, wrap, low64, at}
-use Rattle.rv_ops.specs.Alu.{rri_numbers}
+use Rattle.rv_ops.specs.Operations.{immediate_of, shift_limit}
 use Rattle.rv_ops.specs.declared.alu.AluOPRRI.TheVariants.{Srli, Slli}
 use Rattle.rv_inst.specs.declared.inst.Inst.TheVariants.{Cltz}
 use Rattle.rv_inst.specs.Bits.{leading_zeros, trailing_zeros, zeros}
 use Rattle.rv_inst.specs.Meaning.{Next, alu_rri}
-use Rattle.rv_inst.specs.Rules.{shift_limit, is_beyond}
+use Rattle.rv_inst.specs.Rules.{is_beyond}
 use Rattle.rv_inst.specs.Sizes.{bit_shift}
 use Rattle.rv_emit.specs.declared.state.EmitVState.{EmitVState}
 use Rattle.rv_emit.specs.Counts.{counted_size, turn_ops}
@@ -25,8 +25,9 @@ use Rattle.rv_emit.specs.Operations.{decoded_bne, jump_size}
 use Rattle.rv_emit.specs.Sites.{Site, StandsIn}
 use Rattle.rv_emit.specs.Slots.{Slot, Op, size_of}
 use Rattle.rv_emit.proofs.CountRegisters.{Count, IsCount, BitHolds, Counted, counted, count_of}
-use Rattle.rv_emit.proofs.CountRuns.{InCount, half_power, power_fits, not_zero, zero_of, full_of, one_of, highest_of, bit_of, turn_of, count_size, rest_of, short_count, after_one, starts_lowest, starts_highest, none_left, tests, counts_more, counts_down, enters_count, count_out}
+use Rattle.rv_emit.proofs.CountRuns.{InCount, power_fits, zero_of, full_of, one_of, highest_of, bit_of, turn_of, count_size, rest_of, short_count, after_one, starts_lowest, starts_highest, none_left, tests, counts_more, counts_down, enters_count, count_out}
 use Rattle.rv_emit.proofs.Courses.{InCourse, Comes, comes_on, course_of, goes_ahead}
+use Rattle.rv_emit.proofs.NumberTests.{half_power, not_zero}
 use Rattle.rv_emit.proofs.Operands.{Keeps}
 use Rattle.rv_emit.proofs.ShortOps.{jump_len, least_even, least_few, small_number}
 use Rattle.rv_emit.proofs.ZerosRules.{zeros_count}
@@ -68,7 +69,7 @@ power_next : (leading : Bool) (bits left : ℕ) → left < bits → alu_rri (bit
 power_next true bits left lt = refl
 power_next false bits left lt = ap wrap (power_up bits left lt)
 
-in_range : (leading : Bool) → is_beyond (shift_limit (rri_numbers (bit_shift leading)).number) (pos 1) ≡ false
+in_range : (leading : Bool) → is_beyond (shift_limit (immediate_of (bit_shift leading))) (pos 1) ≡ false
 in_range true = refl
 in_range false = refl
 

@@ -33,6 +33,7 @@ use Rattle.rv_emit.specs.ConstantsAdded.{AddsConstants}
 use Rattle.rv_emit.specs.Slots.{Label}
 use Rattle.rv_emit.specs.Puts.{Puts}
 use Rattle.rv_emit.specs.InstParts.{wide_jump_to}
+use Rattle.rv_emit.specs.Operations.{jump_word}
 
 -- ---- buffers of code
 
@@ -98,7 +99,7 @@ pub record AppendsIsland (old new : Buffer) : Type 0 where
   pub puts : (flags : IsaFlags) → Puts flags (allocated_of old + 1) (wide_jump_to (Label after_island) ∷ []) (with_allocated (shape_of old)) jumped
   pub lasts : Lasts label_kinds jumped (shape_of new)
   pub allocated : allocated_of new ≡ allocated_of old + 1
-  pub jump : take (length (bytes_of old) + 4) (bytes_of new) ≡ bytes_of old ++ word_bytes 0x6f
+  pub jump : take (length (bytes_of old) + 4) (bytes_of new) ≡ bytes_of old ++ word_bytes jump_word
   pub longer : length (bytes_of old) + 4 ≤ length (bytes_of new)
   pub own : AddsOwn label_kinds (length (bytes_of old) + 4) (uses_of old ++ use_at (length (bytes_of old)) after_island Jal20 ∷ []) (uses_of new)
   pub bound : place_of new after_island.number ≡ Some (length (bytes_of new))

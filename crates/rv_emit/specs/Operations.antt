@@ -6,6 +6,7 @@ use Rattle.rv_machine.specs.declared.ops.MOp.TheVariants.{Base, Alu}
 use Rattle.rv_machine.specs.declared.ops.BaseOp.TheVariants as base
 use Rattle.rv_machine.specs.declared.ops.AluOp.TheVariants.{Int}
 use Rattle.rv_machine.specs.declared.ops.IntOp.TheVariants as int
+use Rattle.rv_machine.specs.Opcodes.{JAL}
 use Rattle.rv_machine.specs.Layout.{compressed}
 use Rattle.rv_encode.specs.Operations.{row}
 pub use Rattle.rv_inst.specs.Forms.{jump_size}
@@ -25,6 +26,10 @@ decoded_jump d = row (Base base.Jal) 0 0 0 d
 -- the same in the shortest form, which is c.j where there is one
 abbrev pub short_jump : IsaFlags → ℤ → Decoded
 short_jump flags d = if flags.has_zca then compressed (Base base.Jal) 0 0 0 d else decoded_jump d
+
+-- the word of a jump by no distance that links nothing: its opcode alone, since each other field is 0
+abbrev pub jump_word : ℕ
+jump_word = JAL
 
 -- branches where two registers are equal, where they aren't, and where the first isn't less than the second, signed and unsigned
 abbrev pub decoded_beq : ℕ → ℕ → ℤ → Decoded

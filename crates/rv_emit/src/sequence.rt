@@ -23,6 +23,7 @@ ghost use Rattle.rv_emit.specs.Emitted.{IsSoundBuffer};
 ghost use Rattle.rv_emit.specs.Emission.{PutsAlone, PutsSlots, Emits, EmitsAnyhow};
 ghost use Rattle.rv_emit.specs.Slots.{Label, Op};
 ghost use Rattle.rv_emit.specs.InstParts.{jump_to, wide_jump_to, branch_to, move_slots, branch_slots};
+ghost use Rattle.rv_emit.specs.Operations.{jump_word};
 ghost use Rattle.rv_inst.specs.Sizes.{island_space};
 ghost use Rattle.rv_inst.specs.Uses.{use_at};
 ghost use Rattle.rv_inst.specs.Families.{family_of};
@@ -390,7 +391,7 @@ fn compare_word(kind: IntegerCompare) -> u32
 
 /// The word of a jump whose distance is still to come.
 fn jump_word() -> u32
-    ensures { result ≡ 0x6f }
+    ensures { result ≡ jump_word }
 {
     encode_jal(writable_zero_reg(), 0)
 }
@@ -445,7 +446,7 @@ pub(crate) fn put_wide_jump(
     requires room { length (bytes_of sink.old) + 4 < code_limit }
     requires sound { IsSoundBuffer sink.old }
     ensures slot { OnOk result ((flags : IsaFlags) → PutsSlots flags (wide_jump_to (Label label) ∷ []) sink.old sink.new) }
-    ensures word { OnOk result (shape_of sink.new ≡ with_bytes (word_bytes 0x6f) (with_use (use_at (length (bytes_of sink.old)) label Jal20) (shape_of sink.old))) }
+    ensures word { OnOk result (shape_of sink.new ≡ with_bytes (word_bytes jump_word) (with_use (use_at (length (bytes_of sink.old)) label Jal20) (shape_of sink.old))) }
     ensures sound { OnOk result (IsSoundBuffer sink.new) }
     ensures refused { OnErr result (spoiled_of sink.new ≡ true) }
 {

@@ -14,9 +14,10 @@ use Rattle.rv_ops.specs.declared.alu.AluOPRRI.TheVariants as rri
 use Rattle.rv_ops.specs.declared.compare.IntegerCompare.{IntegerCompare}
 use Rattle.rv_ops.specs.declared.memory.LoadOP.{LoadOP}
 use Rattle.rv_ops.specs.declared.memory.StoreOP.{StoreOP}
-use Rattle.rv_ops.specs.Alu.{rrr_numbers, rri_numbers, is_reversed, imm12_of}
+use Rattle.rv_ops.specs.Alu.{rrr_numbers, rri_numbers, imm12_of}
 use Rattle.rv_ops.specs.Compare.{funct3_of, branch_of, rs1_of, rs2_of}
 use Rattle.rv_ops.specs.Memory.{load_funct3, store_funct3}
+use Rattle.rv_ops.specs.Operations.{is_exchanged}
 use Rattle.rv_machine.specs.declared.ops.MOp.TheVariants.{Base, Load, Store}
 use Rattle.rv_machine.specs.declared.ops.BaseOp.TheVariants as base
 use Rattle.rv_machine.specs.State.{signed}
@@ -43,10 +44,10 @@ rri_wide rri.Addi = refl
 rri_wide _ = refl
 
 -- an operation of two registers, whose word has them as they are or exchanged
-pub rrr_straight : (flags : IsaFlags) (op : AluOPRRR) (w rd rs1 rs2 : ℕ) → is_reversed op ≡ false → IsRType w (rrr_numbers op).opcode rd (rrr_numbers op).funct3 rs1 rs2 (rrr_numbers op).funct7 → decode flags w ≡ Some (decoded_rrr op rd rs1 rs2)
+pub rrr_straight : (flags : IsaFlags) (op : AluOPRRR) (w rd rs1 rs2 : ℕ) → is_exchanged op ≡ false → IsRType w (rrr_numbers op).opcode rd (rrr_numbers op).funct3 rs1 rs2 (rrr_numbers op).funct7 → decode flags w ≡ Some (decoded_rrr op rd rs1 rs2)
 rrr_straight flags op w rd rs1 rs2 straight h = rw straight (opcode_decodes flags w _ h.opcode_is (rrr_wide op) ∙ rrr_fields op w rd rs1 rs2 h)
 
-pub rrr_exchanged : (flags : IsaFlags) (op : AluOPRRR) (w rd rs1 rs2 : ℕ) → is_reversed op ≡ true → IsRType w (rrr_numbers op).opcode rd (rrr_numbers op).funct3 rs2 rs1 (rrr_numbers op).funct7 → decode flags w ≡ Some (decoded_rrr op rd rs1 rs2)
+pub rrr_exchanged : (flags : IsaFlags) (op : AluOPRRR) (w rd rs1 rs2 : ℕ) → is_exchanged op ≡ true → IsRType w (rrr_numbers op).opcode rd (rrr_numbers op).funct3 rs2 rs1 (rrr_numbers op).funct7 → decode flags w ≡ Some (decoded_rrr op rd rs1 rs2)
 rrr_exchanged flags op w rd rs1 rs2 exchanged h = rw exchanged (opcode_decodes flags w _ h.opcode_is (rrr_wide op) ∙ rrr_fields op w rd rs2 rs1 h)
 
 pub rri_decodes : (flags : IsaFlags) (op : AluOPRRI) (w rd rs : ℕ) (imm : Imm12) → IsIType w (rri_numbers op).opcode rd (rri_numbers op).funct3 rs (imm12_of (rri_numbers op).number (low_bits (2 ^ 12) imm.value)) → decode flags w ≡ Some (decoded_rri op rd rs imm.value)

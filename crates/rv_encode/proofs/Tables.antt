@@ -15,6 +15,7 @@ use Rattle.rv_ops.specs.declared.memory.StoreOP.TheVariants as stores
 use Rattle.rv_ops.specs.Alu.{rrr_numbers, rri_numbers, imm12_of}
 use Rattle.rv_ops.specs.Compare.{funct3_of}
 use Rattle.rv_ops.specs.Memory.{load_funct3, store_funct3}
+use Rattle.rv_ops.specs.Operations.{rrr_op}
 use Rattle.rv_machine.specs.declared.decoding.Decoded.{Decoded}
 use Rattle.rv_machine.specs.declared.ops.MOp.TheVariants.{Alu}
 use Rattle.rv_machine.specs.State.{signed}
@@ -23,7 +24,7 @@ use Rattle.rv_machine.specs.Layout.{bits, word_rd, word_funct3, word_rs1, word_r
 use Rattle.rv_machine.specs.Tables.{branch_entry, load_entry, store_entry, imm_entry, imm_32_entry, shift_entry, unary_entry, long_shift_32_entry, shift_32_entry, unary_32_entry, op_entry, op_32_entry, unary_op_32_entry}
 use Rattle.rv_machine.specs.Decode.{or_else, by_opcode}
 use Rattle.rv_encode.specs.Layouts.{IsRType, IsIType}
-use Rattle.rv_encode.specs.Operations.{row, rrr_op, decoded_rri, branch_op, load_op, store_op}
+use Rattle.rv_encode.specs.Operations.{row, decoded_rri, branch_op, load_op, store_op}
 use Rattle.rv_encode.proofs.Numbers.{signed-low_bits, funct6_above, amount6_below, funct7_above, amount5_below, funct6_over}
 
 -- ---- operations of two registers

@@ -21,7 +21,7 @@ use Rattle.rv_ops.specs.declared.alu.AluOPRRR.{AluOPRRR}
 use Rattle.rv_ops.specs.declared.alu.AluOPRRI.{AluOPRRI}
 use Rattle.rv_ops.specs.declared.memory.LoadOP.{LoadOP}
 use Rattle.rv_ops.specs.declared.memory.StoreOP.{StoreOP}
-use Rattle.rv_ops.specs.Alu.{rri_numbers}
+use Rattle.rv_ops.specs.Operations.{immediate_of, shift_limit}
 use Rattle.rv_ops.specs.Memory.{load_size}
 use Rattle.rv_ops.specs.declared.compare.IntegerCompare.{IntegerCompare}
 use Rattle.rv_inst.specs.declared.inst.Inst.{Inst}
@@ -33,7 +33,7 @@ use Rattle.rv_inst.specs.declared.targets.Targets.TheVariants.{Nowhere}
 use Rattle.rv_inst.specs.Operands.{inst_registers, inst_labels, tail_call_of, target_labels, labels_of, address_targets}
 use Rattle.rv_inst.specs.Addresses.{constant_in, is_distant}
 use Rattle.rv_inst.specs.Context.{Context}
-use Rattle.rv_inst.specs.Rules.{is_virtual, is_other_class, is_reserved, is_int_class, same_class, differ_in_class, is_int_type, is_buffer_label, shift_limit, is_beyond, is_fallthrough, has_other_class, faults_of, is_zero, lacks_bytes, lacks_constant, exceeds_arguments, every_rule, breaks}
+use Rattle.rv_inst.specs.Rules.{is_virtual, is_other_class, is_reserved, is_int_class, same_class, differ_in_class, is_int_type, is_buffer_label, is_beyond, is_fallthrough, has_other_class, faults_of, is_zero, lacks_bytes, lacks_constant, exceeds_arguments, every_rule, breaks}
 use Rattle.rv_inst.specs.Sizes.{inst_sum}
 use Rattle.rv_inst.specs.Plain.{is_usable, is_plain_address, IsPlain}
 
@@ -118,7 +118,7 @@ plain inst usable sound named labels tail size = record {
 pub plain_rrr : (op : AluOPRRR) (rd : Writable Reg) (rs1 rs2 : Reg) → list_all is_usable (rd.reg ∷ rs1 ∷ rs2 ∷ []) ≡ true → IsPlain (AluRRR op rd rs1 rs2)
 plain_rrr op rd rs1 rs2 e = plain (AluRRR op rd rs1 rs2) e (ap has_other_class (none_of is_other_class not_other (rd.reg ∷ rs1 ∷ rs2 ∷ []) e)) (λ constants. refl) refl refl (λ context. refl)
 
-pub plain_rri : (op : AluOPRRI) (rd : Writable Reg) (rs : Reg) (imm : Imm12) → list_all is_usable (rd.reg ∷ rs ∷ []) ≡ true → is_beyond (shift_limit (rri_numbers op).number) imm.value ≡ false → IsPlain (AluRRImm12 op rd rs imm)
+pub plain_rri : (op : AluOPRRI) (rd : Writable Reg) (rs : Reg) (imm : Imm12) → list_all is_usable (rd.reg ∷ rs ∷ []) ≡ true → is_beyond (shift_limit (immediate_of op)) imm.value ≡ false → IsPlain (AluRRImm12 op rd rs imm)
 plain_rri op rd rs imm e near = plain (AluRRImm12 op rd rs imm) e (λ i. record (has_other_class (none_of is_other_class not_other (rd.reg ∷ rs ∷ []) e i)) { range = near i }) (λ constants. refl) refl refl (λ context. refl)
 
 pub plain_lui : (rd : Writable Reg) (imm : Imm20) → is_usable rd.reg ≡ true → IsPlain (Lui rd imm)

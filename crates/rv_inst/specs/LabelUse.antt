@@ -1,5 +1,5 @@
 -- The kinds of use: what a window of each encodes, which bits hold it, how far it reaches, and the veneer.
-use Rattle.std.specs.Prelude.{◌≡◌, Option, Some, None, ℕ, ◌-◌, ◌/◌, ◌%◌, List, [], ◌∷◌, drop, ℤ, pos, negsuc, ◌+ℤ◌, ◌*ℤ◌, ◌-ℤ◌, int_le, Bool, true, false, ◌&&◌}
+use Rattle.std.specs.Prelude.{◌≡◌, Option, Some, None, ℕ, ◌+◌, ◌-◌, ◌*◌, ◌^◌, ◌/◌, ◌%◌, List, [], ◌∷◌, drop, ℤ, pos, negsuc, ◌+ℤ◌, ◌*ℤ◌, ◌-ℤ◌, int_le, Bool, true, false, ◌&&◌}
 use Rattle.rv_base.specs.LabelUse.{Veneer, Kinds}
 use Rattle.rv_base.specs.declared.reloc.Reloc.{Reloc}
 use Rattle.rv_base.specs.declared.reloc.Reloc.TheVariants.{RiscvCallPlt, RiscvGotHi20, RiscvPCRelHi20, RiscvPCRelLo12I, Abs8}
@@ -40,21 +40,28 @@ marks_of PCRelHi20 = 0x00 ∷ 0xf0 ∷ 0xff ∷ 0xff ∷ []
 marks_of PCRelLo12I = 0x00 ∷ 0x00 ∷ 0xf0 ∷ 0xff ∷ []
 marks_of RVCJump = 0xfc ∷ 0x1f ∷ []
 
-abbrev pub forward_of : LabelUse → ℕ
-forward_of Jal20 = 1048574
-forward_of B12 = 4094
-forward_of PCRel32 = 2147481599
-forward_of PCRelHi20 = 2147481599
-forward_of PCRelLo12I = 2147481599
-forward_of RVCJump = 2046
+-- how far an auipc and the signed twelve bits of the instruction after it reach forward: the largest upper part, and the largest
+-- lower one
+abbrev pub pair_forward : ℕ
+pair_forward = (2 ^ 19 - 1) * 2 ^ 12 + (2 ^ 11 - 1)
 
+-- how far a use reaches forward: by one below the half of what its signed field holds, in steps of two bytes but for a pair's
+abbrev pub forward_of : LabelUse → ℕ
+forward_of Jal20 = (2 ^ 19 - 1) * 2
+forward_of B12 = (2 ^ 11 - 1) * 2
+forward_of PCRel32 = pair_forward
+forward_of PCRelHi20 = pair_forward
+forward_of PCRelLo12I = pair_forward
+forward_of RVCJump = (2 ^ 10 - 1) * 2
+
+-- and backward: by the half; the two that hold one part of a distance are taken to reach only two bytes further than forward
 abbrev pub backward_of : LabelUse → ℕ
-backward_of Jal20 = 1048576
-backward_of B12 = 4096
-backward_of PCRel32 = 2147485696
-backward_of PCRelHi20 = 2147481601
-backward_of PCRelLo12I = 2147481601
-backward_of RVCJump = 2048
+backward_of Jal20 = 2 ^ 19 * 2
+backward_of B12 = 2 ^ 11 * 2
+backward_of PCRel32 = 2 ^ 19 * 2 ^ 12 + 2 ^ 11
+backward_of PCRelHi20 = pair_forward + 2
+backward_of PCRelLo12I = pair_forward + 2
+backward_of RVCJump = 2 ^ 10 * 2
 
 -- whether a distance is in reach
 abbrev pub in_range : LabelUse → ℤ → Bool

@@ -16,8 +16,8 @@ use Rattle.rv_ops.specs.declared.alu.AluOPRRR.{AluOPRRR}
 use Rattle.rv_ops.specs.declared.alu.AluOPRRI.{AluOPRRI}
 use Rattle.rv_ops.specs.declared.compare.IntegerCompare.{IntegerCompare}
 use Rattle.rv_ops.specs.declared.memory.LoadOP.TheVariants.{Ld}
-use Rattle.rv_ops.specs.Alu.{is_reversed}
-use Rattle.rv_encode.specs.Operations.{rrr_op, rri_op, load_op, store_op}
+use Rattle.rv_ops.specs.Operations.{is_exchanged, rrr_op, rri_op}
+use Rattle.rv_encode.specs.Operations.{load_op, store_op}
 use Rattle.rv_inst.specs.Addresses.{Location, Based, AtLabel, AtConstant, location_of}
 use Rattle.rv_ops.specs.Memory.{store_size}
 use Rattle.rv_inst.specs.Calls.{Return, return_of}
@@ -40,7 +40,7 @@ use Rattle.rv_machine.specs.Effects.{alu_result}
 
 -- an operation of two registers: the manual's operation of that name, of which sgt and sgtu exchange the sources
 abbrev pub alu_rrr : AluOPRRR → ℕ → ℕ → ℕ
-alu_rrr op x y = if is_reversed op then alu_result (rrr_op op) y x 0 else alu_result (rrr_op op) x y 0
+alu_rrr op x y = if is_exchanged op then alu_result (rrr_op op) y x 0 else alu_result (rrr_op op) x y 0
 
 -- an operation of a register and an immediate: the manual's operation of that name
 abbrev pub alu_rri : AluOPRRI → ℕ → ℤ → ℕ

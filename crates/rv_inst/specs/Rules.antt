@@ -26,7 +26,7 @@ use Rattle.rv_base.specs.AMode.{registers_of, own_offset, base_of}
 use Rattle.rv_base.specs.Regs.{class_of}
 use Rattle.mach_labels.specs.Table.{first_inner}
 use Rattle.rv_ops.specs.Memory.{load_size}
-use Rattle.rv_ops.specs.Alu.{Upper, Number, Shamt6, Shamt5, Fixed, rri_numbers}
+use Rattle.rv_ops.specs.Operations.{immediate_of, shift_limit}
 use Rattle.rv_inst.specs.declared.inst.Line.{Line}
 use Rattle.rv_inst.specs.declared.inst.Line.TheVariants.{Inst as Put, Bind}
 use Rattle.rv_inst.specs.declared.inst.Inst.{Inst}
@@ -168,13 +168,6 @@ is_word_type F64 = false
 is_word_type F128 = false
 is_word_type (VectorOf v) = false
 
--- one more than the largest immediate that an operation takes, where that is a shift amount or a bit's index
-abbrev pub shift_limit : Upper → Option ℕ
-shift_limit (Shamt6 funct6) = Some 64
-shift_limit (Shamt5 funct7) = Some 32
-shift_limit Number = None
-shift_limit (Fixed funct12) = None
-
 abbrev pub is_beyond : Option ℕ → ℤ → Bool
 is_beyond None n = false
 is_beyond (Some limit) (pos n) = nat_le limit n
@@ -233,7 +226,7 @@ faults_of (Lui rd imm) = has_other_class (list_any is_other_class (rd.reg ∷ []
 faults_of (Auipc rd imm) = has_other_class (list_any is_other_class (rd.reg ∷ []))
 faults_of (LoadInlineConst rd type imm) = record (has_other_class (list_any is_other_class (rd.reg ∷ []))) { zeroed = list_any is_zero (rd.reg ∷ []); type = not (is_word_type type) }
 faults_of (AluRRR op rd rs1 rs2) = has_other_class (list_any is_other_class (rd.reg ∷ rs1 ∷ rs2 ∷ []))
-faults_of (AluRRImm12 op rd rs imm) = record (has_other_class (list_any is_other_class (rd.reg ∷ rs ∷ []))) { range = is_beyond (shift_limit (rri_numbers op).number) imm.value }
+faults_of (AluRRImm12 op rd rs imm) = record (has_other_class (list_any is_other_class (rd.reg ∷ rs ∷ []))) { range = is_beyond (shift_limit (immediate_of op)) imm.value }
 faults_of (Mov rd rm type) = record (has_other_class (differ_in_class rd.reg rm)) { type = not (is_int_class (class_of rm) && is_int_type type) }
 faults_of (MovFromPReg rd rm) = has_other_class (is_other_class rd.reg || not (is_stack_or_frame rm))
 faults_of (Extend rd rn signed from_bits to_bits) = record (has_other_class (list_any is_other_class (rd.reg ∷ rn ∷ []))) { range = not (nat_le 1 from_bits && nat_le from_bits 64) }

@@ -9,11 +9,12 @@ use Rattle.rv_inst.specs.declared.inst.Inst.{Inst}
 use Rattle.rv_inst.specs.declared.inst.CondBrTarget.{CondBrTarget}
 use Rattle.rv_inst.specs.declared.inst.CondBrTarget.TheVariants.{Label, Fallthrough}
 use Rattle.rv_inst.specs.declared.label_use.LabelUse.{LabelUse}
-use Rattle.rv_inst.specs.declared.label_use.LabelUse.TheVariants.{B12, PCRelHi20, PCRelLo12I}
+use Rattle.rv_inst.specs.declared.label_use.LabelUse.TheVariants.{Jal20, B12, PCRelHi20, PCRelLo12I, RVCJump}
 use Rattle.rv_inst.specs.declared.targets.Targets.{Targets}
 use Rattle.rv_inst.specs.declared.targets.Targets.TheVariants.{Nowhere, Jumps, Branches, Refers, RefersConstant}
 use Rattle.rv_inst.specs.Context.{Context}
 use Rattle.rv_inst.specs.Forms.{jump_kind, jump_size}
+use Rattle.rv_inst.specs.LabelUse.{forward_of}
 use Rattle.rv_inst.specs.Operands.{targets_of, try_call_of}
 use Rattle.mach_buffer.specs.Shape.{constant_label}
 use Rattle.mach_buffer.specs.declared.uses.Use.{Use}
@@ -45,16 +46,16 @@ uses_in context start end inst = uses_by context.flags start end (try_call_of in
 
 -- how far a jump reaches
 abbrev pub jump_reach : IsaFlags → ℕ
-jump_reach flags = if flags.has_zca then 2046 else 1048574
+jump_reach flags = if flags.has_zca then forward_of RVCJump else forward_of Jal20
 
 -- how far the shortest use that may go by a veneer reaches, counted from the line's start: that of a jump of sixteen bits, or
 -- else a branch's, or else a jump's
 abbrev pub target_reach : IsaFlags → Targets → ℕ
-target_reach flags Nowhere = 1048574
+target_reach flags Nowhere = forward_of Jal20
 target_reach flags (Jumps label) = jump_reach flags
-target_reach flags (Branches taken not_taken) = if flags.has_zca then 2046 else 4094
-target_reach flags (Refers label) = 1048574
-target_reach flags (RefersConstant constant) = 1048574
+target_reach flags (Branches taken not_taken) = if flags.has_zca then forward_of RVCJump else forward_of B12
+target_reach flags (Refers label) = forward_of Jal20
+target_reach flags (RefersConstant constant) = forward_of Jal20
 
 abbrev pub inst_reach : IsaFlags → Option TryCallInfo → Targets → ℕ
 inst_reach flags None targets = target_reach flags targets
@@ -62,4 +63,4 @@ inst_reach flags (Some t) targets = jump_reach flags
 
 abbrev pub least_reach : Context → Line → ℕ
 least_reach context (Put inst) = inst_reach context.flags (try_call_of inst) (targets_of inst)
-least_reach context (Bind label) = 1048574
+least_reach context (Bind label) = forward_of Jal20

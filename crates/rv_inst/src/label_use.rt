@@ -26,6 +26,10 @@ pub enum LabelUse {
     RVCJump,
 }
 
+/// How far an `auipc` and the signed twelve bits of the instruction after it reach forward: the largest upper part, and the
+/// largest lower one.
+const PAIR_FORWARD: u32 = ((1 << 19) - 1 << 12) + ((1 << 11) - 1);
+
 impl LabelUse {
     ghost use Rattle.rv_inst.specs.LabelUse.{in_range};
 
@@ -56,23 +60,20 @@ impl MachInstLabelUse for LabelUse {
 
     fn max_pos_range(self) -> u32 {
         match self {
-            LabelUse::Jal20 => 1048574,
-            LabelUse::B12 => 4094,
-            LabelUse::PCRel32 => 2147481599,
-            LabelUse::PCRelHi20 => 2147481599,
-            LabelUse::PCRelLo12I => 2147481599,
-            LabelUse::RVCJump => 2046,
+            LabelUse::Jal20 => ((1 << 19) - 1) * 2,
+            LabelUse::B12 => ((1 << 11) - 1) * 2,
+            LabelUse::PCRel32 | LabelUse::PCRelHi20 | LabelUse::PCRelLo12I => PAIR_FORWARD,
+            LabelUse::RVCJump => ((1 << 10) - 1) * 2,
         }
     }
 
     fn max_neg_range(self) -> u32 {
         match self {
-            LabelUse::Jal20 => 1048576,
-            LabelUse::B12 => 4096,
-            LabelUse::PCRel32 => 2147485696,
-            LabelUse::PCRelHi20 => 2147481601,
-            LabelUse::PCRelLo12I => 2147481601,
-            LabelUse::RVCJump => 2048,
+            LabelUse::Jal20 => (1 << 19) * 2,
+            LabelUse::B12 => (1 << 11) * 2,
+            LabelUse::PCRel32 => (1 << 31) + (1 << 11),
+            LabelUse::PCRelHi20 | LabelUse::PCRelLo12I => PAIR_FORWARD + 2,
+            LabelUse::RVCJump => (1 << 10) * 2,
         }
     }
 

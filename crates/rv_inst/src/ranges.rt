@@ -3,8 +3,8 @@
 ghost use Rattle.std.specs.Prelude.{◌≡◌, not, ◌&&◌};
 ghost use Rattle.std.specs.List.{list_any};
 ghost use Rattle.rv_base.specs.Regs.{class_of};
-ghost use Rattle.rv_ops.specs.Alu.{rri_numbers};
-ghost use Rattle.rv_inst.specs.Rules.{is_on_stack, is_stacked, is_int_class, is_int_type, is_word_type, has_bad_type, shift_limit, is_beyond, is_out_of_range, has_empty_table, has_bad_size};
+ghost use Rattle.rv_ops.specs.Operations.{immediate_of, shift_limit};
+ghost use Rattle.rv_inst.specs.Rules.{is_on_stack, is_stacked, is_int_class, is_int_type, is_word_type, has_bad_type, is_beyond, is_out_of_range, has_empty_table, has_bad_size};
 
 use crate::addresses::is_distant;
 use crate::inst::Inst;
@@ -94,16 +94,13 @@ pub fn has_bad_type(inst: &Inst) -> bool
     }
 }
 
-/// Returns whether the number is no amount of the operation's width, where it takes one.
+/// Returns whether the immediate is no shift amount or bit's index of the operation, where it takes one.
 pub fn is_amount_beyond(op: AluOPRRI, imm12: Imm12) -> bool
-    ensures { result ≡ is_beyond (shift_limit (rri_numbers op).number) imm12.value }
+    ensures { result ≡ is_beyond (shift_limit (immediate_of op)) imm12.value }
 {
-    if op.option_funct6().is_some() {
-        imm12.value < 0 || imm12.value >= 64
-    } else if op.option_funct7().is_some() {
-        imm12.value < 0 || imm12.value >= 32
-    } else {
-        false
+    match op.shift_limit() {
+        Some(limit) => imm12.value < 0 || imm12.value as u32 >= limit,
+        None => false,
     }
 }
 

@@ -11,6 +11,7 @@ use Rattle.rv_base.specs.declared.regs.PReg.{PReg}
 use Rattle.rv_base.specs.declared.regs.Reg.{Reg}
 use Rattle.rv_base.specs.declared.regs.Reg.TheVariants.{Real, Virtual}
 use Rattle.rv_listing.specs.Tokens.{◌>>=◌, as_pair, parts_of, natural, starts}
+use Rattle.rv_listing.specs.FlagsHeader.{flags_form}
 use Rattle.rv_listing.specs.Registers.{register}
 use Rattle.rv_listing.specs.HexDigits.{hex_bytes}
 use Rattle.rv_load.specs.declared.given.Given.{Given}
@@ -63,29 +64,10 @@ start_of (Some line) (Some offset) = Err bad.At
 
 -- ---- flags
 
-abbrev pub with_flag : IsaFlags → List ℕ → Option IsaFlags
-with_flag f w =
-    if bytes_eq w (codes "m") then new f.has_m (record f { has_m = true }) else
-    if bytes_eq w (codes "zba") then new f.has_zba (record f { has_zba = true }) else
-    if bytes_eq w (codes "zbb") then new f.has_zbb (record f { has_zbb = true }) else
-    if bytes_eq w (codes "zca") then new f.has_zca (record f { has_zca = true }) else
-    if bytes_eq w (codes "zcb") then new f.has_zcb (record f { has_zcb = true }) else
-    if bytes_eq w (codes "zcd") then new f.has_zcd (record f { has_zcd = true }) else
-    if bytes_eq w (codes "zfhmin") then new f.has_zfhmin (record f { has_zfhmin = true }) else
-    None
-  where
-    -- the flags with one more, where it was off
-    new : Bool → IsaFlags → Option IsaFlags
-    new was flags = if was then None else Some flags
-
-abbrev pub with_flags : IsaFlags → List (List ℕ) → Option IsaFlags
-with_flags f [] = Some f
-with_flags f (w ∷ ws) = with_flag f w >>= λ g. with_flags g ws
-
 -- distinct names, a comma apart
 abbrev pub flags_of : Option (Bor (List ℕ)) → Result IsaFlags BadWord
 flags_of None = Ok no_flags
-flags_of (Some w) = or_bad bad.Flags (with_flags no_flags (parts_of 44 w.now))
+flags_of (Some w) = or_bad bad.Flags (flags_form (parts_of 44 w.now))
 
 -- ---- registers
 

@@ -3,14 +3,15 @@
 ghost use Rattle.std.specs.Prelude.{◌≡◌, ℕ, ◌==◌, []};
 ghost use Rattle.std.specs.List.{list_any};
 ghost use Rattle.std.specs.Str.{bytes_eq};
-ghost use Rattle.rv_base.specs.Flags.{no_flags};
 ghost use Rattle.rv_listing.specs.Tokens.{parts_of};
-ghost use Rattle.rv_load.specs.Words.{value, number_or, base_of, steps_of, start_of, with_flag, with_flags, flags_of, int_register, named_register, register_value, with_register, put_register, registers_from, or_bad, data_bytes, data_from, settings_of, Reads, Leaves};
+ghost use Rattle.rv_listing.specs.FlagsHeader.{flags_form};
+ghost use Rattle.rv_load.specs.Words.{value, number_or, base_of, steps_of, start_of, flags_of, int_register, named_register, register_value, with_register, put_register, registers_from, or_bad, data_bytes, data_from, settings_of, Reads, Leaves};
 
 use crate::given::Given;
 use rv_base::{IsaFlags, List, OutOfMemory, PReg, Reg, RegClass};
 use rv_listing::{
     LineError, first_part, hex_bytes, natural, next_part, register, starts, tail, two_parts,
+    with_flag,
 };
 use std::alloc::Global;
 use thiserror::Error;
@@ -151,40 +152,8 @@ fn is(word: &[u8], w: &[u8]) -> bool
     w == word
 }
 
-// Where the name's flag was off, the flags with it on.
-fn with_flag(flags: IsaFlags, name: &[u8]) -> Option<IsaFlags>
-    ensures { result ≡ with_flag flags name.now }
-{
-    let mut new = flags;
-    let was_on = if is(b"m", name) {
-        new.has_m = true;
-        flags.has_m
-    } else if is(b"zba", name) {
-        new.has_zba = true;
-        flags.has_zba
-    } else if is(b"zbb", name) {
-        new.has_zbb = true;
-        flags.has_zbb
-    } else if is(b"zca", name) {
-        new.has_zca = true;
-        flags.has_zca
-    } else if is(b"zcb", name) {
-        new.has_zcb = true;
-        flags.has_zcb
-    } else if is(b"zcd", name) {
-        new.has_zcd = true;
-        flags.has_zcd
-    } else if is(b"zfhmin", name) {
-        new.has_zfhmin = true;
-        flags.has_zfhmin
-    } else {
-        true
-    };
-    if was_on { None } else { Some(new) }
-}
-
 fn with_flags(names: &[u8]) -> Option<IsaFlags>
-    ensures { result ≡ with_flags no_flags (parts_of 44 names.now) }
+    ensures { result ≡ flags_form (parts_of 44 names.now) }
 {
     let (first, mut rest) = first_part(b',', names);
     let mut flags = with_flag(IsaFlags::none(), first)?;

@@ -1,6 +1,6 @@
 -- Integer operations: their mnemonics, and the fields of their words, as in the manual's chapter "RV32/64G Instruction
 -- Set Listings" and those of Zba, Zbb, Zbs and Zicond.
-use Rattle.std.specs.Prelude.{ℕ, ◌+◌, ◌*◌, ◌%◌, ◌^◌, Bool, true, false, Option, Some, None, List, codes}
+use Rattle.std.specs.Prelude.{ℕ, ◌+◌, ◌*◌, ◌%◌, ◌^◌, Option, Some, None, List, codes}
 use Rattle.rv_machine.specs.Opcodes.{OP, OP_32, OP_IMM, OP_IMM_32}
 use Rattle.rv_ops.specs.declared.alu.AluOPRRR.{AluOPRRR}
 use Rattle.rv_ops.specs.declared.alu.AluOPRRR.TheVariants as rrr
@@ -9,32 +9,28 @@ use Rattle.rv_ops.specs.declared.alu.AluOPRRI.TheVariants as rri
 
 -- ---- two registers
 
--- the fields of an R-type word that tell its operation, and whether the word has the sources exchanged
+-- the fields of an R-type word that name its operation
 pub record RegisterNumbers : Type 0 where
   pub opcode : ℕ
   pub funct3 : ℕ
   pub funct7 : ℕ
-  pub exchanged : Bool
 
 -- OP and OP-32
 abbrev pub op : ℕ → ℕ → RegisterNumbers
-op funct7 funct3 = record { opcode = OP; funct3 = funct3; funct7 = funct7; exchanged = false }
+op funct7 funct3 = record { opcode = OP; funct3 = funct3; funct7 = funct7 }
 
 abbrev pub op32 : ℕ → ℕ → RegisterNumbers
-op32 funct7 funct3 = record { opcode = OP_32; funct3 = funct3; funct7 = funct7; exchanged = false }
+op32 funct7 funct3 = record { opcode = OP_32; funct3 = funct3; funct7 = funct7 }
 
--- OP, with the sources exchanged: a pseudo-instruction
-abbrev pub op_exchanged : ℕ → ℕ → RegisterNumbers
-op_exchanged funct7 funct3 = record { opcode = OP; funct3 = funct3; funct7 = funct7; exchanged = true }
-
+-- sgt and sgtu are pseudo-instructions: slt and sltu, whose words have the sources exchanged
 abbrev pub rrr_numbers : AluOPRRR → RegisterNumbers
 rrr_numbers rrr.Add = op 0x00 0
 rrr_numbers rrr.Sub = op 0x20 0
 rrr_numbers rrr.Sll = op 0x00 1
 rrr_numbers rrr.Slt = op 0x00 2
-rrr_numbers rrr.Sgt = op_exchanged 0x00 2
+rrr_numbers rrr.Sgt = op 0x00 2
 rrr_numbers rrr.SltU = op 0x00 3
-rrr_numbers rrr.Sgtu = op_exchanged 0x00 3
+rrr_numbers rrr.Sgtu = op 0x00 3
 rrr_numbers rrr.Xor = op 0x00 4
 rrr_numbers rrr.Srl = op 0x00 5
 rrr_numbers rrr.Sra = op 0x20 5
@@ -82,10 +78,6 @@ rrr_numbers rrr.Sh3adduw = op32 0x10 6
 rrr_numbers rrr.Xnor = op 0x20 4
 rrr_numbers rrr.CzeroEqz = op 0x07 5
 rrr_numbers rrr.CzeroNez = op 0x07 7
-
--- whether the word has the sources exchanged
-abbrev pub is_reversed : AluOPRRR → Bool
-is_reversed operation = (rrr_numbers operation).exchanged
 
 abbrev pub rrr_name : AluOPRRR → List ℕ
 rrr_name rrr.Add = codes "add"

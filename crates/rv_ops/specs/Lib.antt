@@ -2,3 +2,4 @@ pub mod Alu
 pub mod Compare
 pub mod Compressed
 pub mod Memory
+pub mod Operations

@@ -66,7 +66,8 @@ pub enum AluOPRRR {
 
 impl AluOPRRR {
     ghost use Rattle.std.specs.Prelude.{◌≡◌, ◌<◌, ◌^◌};
-    ghost use Rattle.rv_ops.specs.Alu.{rrr_name, rrr_numbers, is_reversed};
+    ghost use Rattle.rv_ops.specs.Alu.{rrr_name, rrr_numbers};
+    ghost use Rattle.rv_ops.specs.Operations.{is_exchanged};
 
     /// The mnemonic.
     pub fn op_name(self) -> &'static str
@@ -298,7 +299,7 @@ impl AluOPRRR {
 
     /// Returns whether its word has the sources exchanged: `sgt` and `sgtu` are `slt` and `sltu` of them.
     pub fn reverse_rs(self) -> bool
-        ensures { result ≡ is_reversed self }
+        ensures { result ≡ is_exchanged self }
     {
         matches!(self, Self::Sgt | Self::Sgtu)
     }
@@ -344,6 +345,7 @@ impl AluOPRRI {
     ghost use Rattle.std.specs.Prelude.{◌≡◌, ◌<◌, ◌^◌};
     ghost use Rattle.rv_imms.specs.Bits.{low_bits};
     ghost use Rattle.rv_ops.specs.Alu.{rri_name, rri_numbers, funct6_of, funct7_of, funct12_of, imm12_of};
+    ghost use Rattle.rv_ops.specs.Operations.{immediate_of, shift_limit};
 
     /// The mnemonic.
     pub fn op_name(self) -> &'static str
@@ -503,6 +505,25 @@ impl AluOPRRI {
             Self::Sextb => Some(0b011000000100),
             Self::Sexth => Some(0b011000000101),
             Self::Rev8 => Some(0b011010111000),
+            _ => None,
+        }
+    }
+
+    /// One more than the largest immediate, where that is a shift amount or a bit's index.
+    pub fn shift_limit(self) -> Option<u32>
+        ensures { result ≡ shift_limit (immediate_of self) }
+    {
+        match self {
+            Self::Slli
+            | Self::Srli
+            | Self::Srai
+            | Self::Bclri
+            | Self::Bexti
+            | Self::Binvi
+            | Self::Bseti
+            | Self::Rori
+            | Self::SlliUw => Some(64),
+            Self::Slliw | Self::SrliW | Self::Sraiw | Self::Roriw => Some(32),
             _ => None,
         }
     }

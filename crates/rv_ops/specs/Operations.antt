@@ -1,0 +1,163 @@
+-- Integer operations: the machine's operation of each, and what it takes of its sources or its immediate.
+use Rattle.std.specs.Prelude.{ℕ, ◌%◌, ◌^◌, ℤ, pos, Bool, true, false, Option, Some, None}
+use Rattle.rv_imms.specs.Bits.{low_bits}
+use Rattle.rv_ops.specs.declared.alu.AluOPRRR.{AluOPRRR}
+use Rattle.rv_ops.specs.declared.alu.AluOPRRR.TheVariants as rrr
+use Rattle.rv_ops.specs.declared.alu.AluOPRRI.{AluOPRRI}
+use Rattle.rv_ops.specs.declared.alu.AluOPRRI.TheVariants as rri
+use Rattle.rv_machine.specs.declared.ops.AluOp.{AluOp}
+use Rattle.rv_machine.specs.declared.ops.AluOp.TheVariants.{Int, Mul, Bit}
+use Rattle.rv_machine.specs.declared.ops.IntOp.TheVariants as int
+use Rattle.rv_machine.specs.declared.ops.MulOp.TheVariants as mul
+use Rattle.rv_machine.specs.declared.ops.BitOp.TheVariants as bit
+
+-- ---- two registers
+
+-- the machine's operation, and whether it takes the two sources exchanged
+pub record RegisterOperation : Type 0 where
+  pub op : AluOp
+  pub is_exchanged : Bool
+
+abbrev pub straight : AluOp → RegisterOperation
+straight op = record { op = op; is_exchanged = false }
+
+abbrev pub exchanged : AluOp → RegisterOperation
+exchanged op = record { op = op; is_exchanged = true }
+
+-- sgt and sgtu are slt and sltu with the sources exchanged
+abbrev pub rrr_operation : AluOPRRR → RegisterOperation
+rrr_operation rrr.Add = straight (Int int.Add)
+rrr_operation rrr.Sub = straight (Int int.Sub)
+rrr_operation rrr.Sll = straight (Int int.Sll)
+rrr_operation rrr.Slt = straight (Int int.Slt)
+rrr_operation rrr.Sgt = exchanged (Int int.Slt)
+rrr_operation rrr.SltU = straight (Int int.Sltu)
+rrr_operation rrr.Sgtu = exchanged (Int int.Sltu)
+rrr_operation rrr.Xor = straight (Int int.Xor)
+rrr_operation rrr.Srl = straight (Int int.Srl)
+rrr_operation rrr.Sra = straight (Int int.Sra)
+rrr_operation rrr.Or = straight (Int int.Or)
+rrr_operation rrr.And = straight (Int int.And)
+rrr_operation rrr.Addw = straight (Int int.Addw)
+rrr_operation rrr.Subw = straight (Int int.Subw)
+rrr_operation rrr.Sllw = straight (Int int.Sllw)
+rrr_operation rrr.Srlw = straight (Int int.Srlw)
+rrr_operation rrr.Sraw = straight (Int int.Sraw)
+rrr_operation rrr.Mul = straight (Mul mul.Mul)
+rrr_operation rrr.Mulh = straight (Mul mul.Mulh)
+rrr_operation rrr.Mulhsu = straight (Mul mul.Mulhsu)
+rrr_operation rrr.Mulhu = straight (Mul mul.Mulhu)
+rrr_operation rrr.Div = straight (Mul mul.Div)
+rrr_operation rrr.DivU = straight (Mul mul.Divu)
+rrr_operation rrr.Rem = straight (Mul mul.Rem)
+rrr_operation rrr.RemU = straight (Mul mul.Remu)
+rrr_operation rrr.Mulw = straight (Mul mul.Mulw)
+rrr_operation rrr.Divw = straight (Mul mul.Divw)
+rrr_operation rrr.Divuw = straight (Mul mul.Divuw)
+rrr_operation rrr.Remw = straight (Mul mul.Remw)
+rrr_operation rrr.Remuw = straight (Mul mul.Remuw)
+rrr_operation rrr.Adduw = straight (Bit bit.AddUw)
+rrr_operation rrr.Andn = straight (Bit bit.Andn)
+rrr_operation rrr.Bclr = straight (Bit bit.Bclr)
+rrr_operation rrr.Bext = straight (Bit bit.Bext)
+rrr_operation rrr.Binv = straight (Bit bit.Binv)
+rrr_operation rrr.Bset = straight (Bit bit.Bset)
+rrr_operation rrr.Max = straight (Bit bit.Max)
+rrr_operation rrr.Maxu = straight (Bit bit.Maxu)
+rrr_operation rrr.Min = straight (Bit bit.Min)
+rrr_operation rrr.Minu = straight (Bit bit.Minu)
+rrr_operation rrr.Orn = straight (Bit bit.Orn)
+rrr_operation rrr.Rol = straight (Bit bit.Rol)
+rrr_operation rrr.Rolw = straight (Bit bit.Rolw)
+rrr_operation rrr.Ror = straight (Bit bit.Ror)
+rrr_operation rrr.Rorw = straight (Bit bit.Rorw)
+rrr_operation rrr.Sh1add = straight (Bit bit.Sh1add)
+rrr_operation rrr.Sh1adduw = straight (Bit bit.Sh1addUw)
+rrr_operation rrr.Sh2add = straight (Bit bit.Sh2add)
+rrr_operation rrr.Sh2adduw = straight (Bit bit.Sh2addUw)
+rrr_operation rrr.Sh3add = straight (Bit bit.Sh3add)
+rrr_operation rrr.Sh3adduw = straight (Bit bit.Sh3addUw)
+rrr_operation rrr.Xnor = straight (Bit bit.Xnor)
+rrr_operation rrr.CzeroEqz = straight (Int int.CzeroEqz)
+rrr_operation rrr.CzeroNez = straight (Int int.CzeroNez)
+
+abbrev pub rrr_op : AluOPRRR → AluOp
+rrr_op operation = (rrr_operation operation).op
+
+abbrev pub is_exchanged : AluOPRRR → Bool
+is_exchanged operation = (rrr_operation operation).is_exchanged
+
+-- ---- a register and an immediate
+
+-- what an operation takes of an immediate
+pub data Immediate : Type 0 where
+  -- all of it
+  Whole : Immediate
+  -- so many low bits: a shift amount, or a bit's index
+  Amount : ℕ → Immediate
+  -- nothing: it has one source
+  Without : Immediate
+
+pub record ImmediateOperation : Type 0 where
+  pub op : AluOp
+  pub immediate : Immediate
+
+abbrev pub whole : AluOp → ImmediateOperation
+whole op = record { op = op; immediate = Whole }
+
+abbrev pub amount : ℕ → AluOp → ImmediateOperation
+amount bits op = record { op = op; immediate = Amount bits }
+
+abbrev pub alone : AluOp → ImmediateOperation
+alone op = record { op = op; immediate = Without }
+
+abbrev pub rri_operation : AluOPRRI → ImmediateOperation
+rri_operation rri.Addi = whole (Int int.Addi)
+rri_operation rri.Slti = whole (Int int.Slti)
+rri_operation rri.SltiU = whole (Int int.Sltiu)
+rri_operation rri.Xori = whole (Int int.Xori)
+rri_operation rri.Ori = whole (Int int.Ori)
+rri_operation rri.Andi = whole (Int int.Andi)
+rri_operation rri.Slli = amount 6 (Int int.Slli)
+rri_operation rri.Srli = amount 6 (Int int.Srli)
+rri_operation rri.Srai = amount 6 (Int int.Srai)
+rri_operation rri.Addiw = whole (Int int.Addiw)
+rri_operation rri.Slliw = amount 5 (Int int.Slliw)
+rri_operation rri.SrliW = amount 5 (Int int.Srliw)
+rri_operation rri.Sraiw = amount 5 (Int int.Sraiw)
+rri_operation rri.Bclri = amount 6 (Bit bit.Bclri)
+rri_operation rri.Bexti = amount 6 (Bit bit.Bexti)
+rri_operation rri.Binvi = amount 6 (Bit bit.Binvi)
+rri_operation rri.Bseti = amount 6 (Bit bit.Bseti)
+rri_operation rri.Rori = amount 6 (Bit bit.Rori)
+rri_operation rri.Roriw = amount 5 (Bit bit.Roriw)
+rri_operation rri.SlliUw = amount 6 (Bit bit.SlliUw)
+rri_operation rri.Clz = alone (Bit bit.Clz)
+rri_operation rri.Clzw = alone (Bit bit.Clzw)
+rri_operation rri.Cpop = alone (Bit bit.Cpop)
+rri_operation rri.Cpopw = alone (Bit bit.Cpopw)
+rri_operation rri.Ctz = alone (Bit bit.Ctz)
+rri_operation rri.Ctzw = alone (Bit bit.Ctzw)
+rri_operation rri.Rev8 = alone (Bit bit.Rev8)
+rri_operation rri.Sextb = alone (Bit bit.SextB)
+rri_operation rri.Sexth = alone (Bit bit.SextH)
+rri_operation rri.Zexth = alone (Bit bit.ZextH)
+rri_operation rri.Orcb = alone (Bit bit.OrcB)
+
+abbrev pub rri_op : AluOPRRI → AluOp
+rri_op operation = (rri_operation operation).op
+
+abbrev pub immediate_of : AluOPRRI → Immediate
+immediate_of operation = (rri_operation operation).immediate
+
+-- what a word keeps of an immediate
+abbrev pub kept_bits : Immediate → ℤ → ℤ
+kept_bits Whole imm = imm
+kept_bits (Amount bits) imm = pos (low_bits (2 ^ 12) imm % 2 ^ bits)
+kept_bits Without imm = pos 0
+
+-- one more than the largest immediate that an operation takes, where that is a shift amount or a bit's index
+abbrev pub shift_limit : Immediate → Option ℕ
+shift_limit Whole = None
+shift_limit (Amount bits) = Some (2 ^ bits)
+shift_limit Without = None
