@@ -182,7 +182,6 @@ bind_added context label old new span s w f p = record {
     even = ap (λ n. n % 2) p.start ∙ even_length label_kinds old s;
     within = let e = p.start in let same : length (bytes_of new) ≡ length (bytes_of old) = ap (length {A = ℕ}) p.bytes in omega arith;
     ends = let e = p.end in let same : length (bytes_of new) ≡ length (bytes_of old) = ap (length {A = ℕ}) p.bytes in omega arith;
-    short = tt;
   };
   end = p.end ∙ ap (length {A = ℕ}) (sym p.bytes);
   windows = subst (λ (bs : List ℕ). AreWindows label_kinds bs (uses_of new)) (sym p.bytes)
