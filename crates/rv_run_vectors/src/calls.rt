@@ -5,10 +5,9 @@
 use crate::linked::Placing;
 use crate::runs::{CALLER, arrives};
 use crate::tail_calls::{FLAGS, GOALS};
+use crate::texts::assembled;
 use mach_buffer::MachPatchable;
-use rv_asm::assemble;
-use rv_inst::{CallReturn, Code, Job, LineSpan};
-use rv_listing::read_job;
+use rv_inst::{CallReturn, Code, LineSpan};
 use rv_machine::IntMachine;
 use std::alloc::Global;
 use std::process::Abort;
@@ -22,13 +21,6 @@ const PLACING: Placing = Placing {
     symbols: [CALLEE, 0x30000],
     slots: [0x50010, 0x50008],
 };
-
-/// The listing as it is read, and its code.
-pub fn assembled(alloc: Global, text: &str) -> Result<(Job, Code), Fail> {
-    let job = read_job(alloc, text.as_bytes())?;
-    let code = assemble(alloc, job.lines.as_slice(), job.flags, &job.frame, &[])?;
-    Ok((job, code))
-}
 
 /// How a function calls the first symbol, which takes so many bytes off the stack.
 struct Calling {

@@ -2,42 +2,30 @@
 //! digests are of a few lines of Python, with its integers' `bit_length` and its texts of bits.
 
 use crate::runs::{BASE, CALLER, returns};
-use rv_asm::assemble;
-use rv_base::{
-    FrameLayout, IrType, IsaFlags, OutOfMemory, Reg, Writable, writable_a0, writable_a2, x_reg,
-};
-use rv_inst::{EmitError, Inst, Line};
+use crate::texts::assembled;
+use rv_base::{IsaFlags, OutOfMemory};
 use rv_machine::IntMachine;
 use std::alloc::Global;
 use std::test::Fail;
 
-/// What is computed of the low bits of a3.
-#[derive(Clone, Copy, Debug)]
-enum Answer {
-    Ones,
-    Leading,
-    Trailing,
-    Reversed,
-}
-
-/// The digests of all answers, by their types.
-const DIGESTS: [(Answer, IrType, u64); 16] = [
-    (Answer::Ones, IrType::I8, 0x2cf01b3e34569668),
-    (Answer::Ones, IrType::I16, 0xd2f3066a1ec14b1c),
-    (Answer::Ones, IrType::I32, 0xe6ac9cf96cc47d6f),
-    (Answer::Ones, IrType::I64, 0x80d2265a398bd9fe),
-    (Answer::Leading, IrType::I8, 0xa642ddadd8d06f2d),
-    (Answer::Leading, IrType::I16, 0xb67158e2926bbd55),
-    (Answer::Leading, IrType::I32, 0xa2fe4d7fff11d038),
-    (Answer::Leading, IrType::I64, 0x55320ae59e32c603),
-    (Answer::Trailing, IrType::I8, 0x8ec3984d1b8f565e),
-    (Answer::Trailing, IrType::I16, 0xd74e2113a404dfba),
-    (Answer::Trailing, IrType::I32, 0x63e2a5b990062cbf),
-    (Answer::Trailing, IrType::I64, 0x8aa75685095dd081),
-    (Answer::Reversed, IrType::I8, 0xd8deed5d573e2420),
-    (Answer::Reversed, IrType::I16, 0xd121aafeaa1f4220),
-    (Answer::Reversed, IrType::I32, 0x4e152f1881af4220),
-    (Answer::Reversed, IrType::I64, 0xc5aa9ac481af4220),
+/// Lines that put an answer about the low bits of a3 into a0, with the digests of all their answers.
+const DIGESTS: [(&str, u64); 16] = [
+    ("Popcnt a0 a1 a2 a3 i8", 0x2cf01b3e34569668),
+    ("Popcnt a0 a1 a2 a3 i16", 0xd2f3066a1ec14b1c),
+    ("Popcnt a0 a1 a2 a3 i32", 0xe6ac9cf96cc47d6f),
+    ("Popcnt a0 a1 a2 a3 i64", 0x80d2265a398bd9fe),
+    ("Cltz a0 a1 a2 a3 1 i8", 0xa642ddadd8d06f2d),
+    ("Cltz a0 a1 a2 a3 1 i16", 0xb67158e2926bbd55),
+    ("Cltz a0 a1 a2 a3 1 i32", 0xa2fe4d7fff11d038),
+    ("Cltz a0 a1 a2 a3 1 i64", 0x55320ae59e32c603),
+    ("Cltz a0 a1 a2 a3 0 i8", 0x8ec3984d1b8f565e),
+    ("Cltz a0 a1 a2 a3 0 i16", 0xd74e2113a404dfba),
+    ("Cltz a0 a1 a2 a3 0 i32", 0x63e2a5b990062cbf),
+    ("Cltz a0 a1 a2 a3 0 i64", 0x8aa75685095dd081),
+    ("Brev8 a3 i8 a1 a2 a4 a0", 0xd8deed5d573e2420),
+    ("Brev8 a3 i16 a1 a2 a4 a0", 0xd121aafeaa1f4220),
+    ("Brev8 a3 i32 a1 a2 a4 a0", 0x4e152f1881af4220),
+    ("Brev8 a3 i64 a1 a2 a4 a0", 0xc5aa9ac481af4220),
 ];
 
 /// Numbers with ones at the ends of each type, or at every second place.
@@ -66,54 +54,13 @@ const EDGES: [u64; 22] = [
     0xaaaaaaaaaaaaaaaa,
 ];
 
-fn writable_a1() -> Writable<Reg> {
-    Writable::from_reg(x_reg(11))
-}
-
-/// The instruction that puts the answer of a3 into a0.
-fn inst(answer: Answer, ty: IrType) -> Inst {
-    match answer {
-        Answer::Ones => Inst::Popcnt {
-            sum: writable_a0(),
-            tmp: writable_a1(),
-            step: writable_a2(),
-            rs: x_reg(13),
-            ty,
-        },
-        Answer::Leading => zeros(true, ty),
-        Answer::Trailing => zeros(false, ty),
-        Answer::Reversed => Inst::Brev8 {
-            rs: x_reg(13),
-            ty,
-            step: writable_a1(),
-            tmp: writable_a2(),
-            tmp2: Writable::from_reg(x_reg(14)),
-            rd: writable_a0(),
-        },
-    }
-}
-
-fn zeros(leading: bool, ty: IrType) -> Inst {
-    Inst::Cltz {
-        sum: writable_a0(),
-        tmp: writable_a1(),
-        step: writable_a2(),
-        rs: x_reg(13),
-        leading,
-        ty,
-    }
-}
-
-/// A machine that holds the instruction and a return.
-fn machine_of(alloc: Global, inst: Inst) -> Result<IntMachine, EmitError> {
-    let lines = [Line::Inst(inst), Line::Inst(Inst::Ret)];
-    let frame = FrameLayout::none(alloc);
-    let code = assemble(alloc, &lines, IsaFlags::none(), &frame, &[])?;
+/// A machine that holds the code of the line and of a return.
+fn machine_of(alloc: Global, line: &str) -> Result<IntMachine, Fail> {
+    let text = format!(in alloc; "{line}\nRet\n")?;
+    let (_, code) = assembled(alloc, &text)?;
     let mut machine = IntMachine::new(alloc, IsaFlags::none(), BASE);
-    match machine.load_image(BASE, code.bytes.as_slice()) {
-        Ok(()) => Ok(machine),
-        Err(OutOfMemory) => Err(EmitError::OutOfMemory),
-    }
+    machine.load_image(BASE, code.bytes.as_slice())?;
+    Ok(machine)
 }
 
 /// The digest with one answer more; none where the code doesn't return.
@@ -132,7 +79,7 @@ fn with_answer(
 }
 
 /// The i-th of a thousand random numbers, from a state: fewer and fewer bits at the upper end, or at the lower.
-fn drawn(state: u64, i: u32) -> u64 {
+fn random_number(state: u64, i: u32) -> u64 {
     let bits = state.rotate_left(32);
     let amount = i / 2 % 64;
     if i % 2 == 0 {
@@ -156,7 +103,7 @@ fn digest(machine: &mut IntMachine) -> Result<Option<u64>, OutOfMemory> {
         state = state
             .wrapping_mul(6364136223846793005)
             .wrapping_add(1442695040888963407);
-        match with_answer(machine, hash, drawn(state, i))? {
+        match with_answer(machine, hash, random_number(state, i))? {
             Some(more) => hash = more,
             None => return Ok(None),
         }
@@ -166,10 +113,10 @@ fn digest(machine: &mut IntMachine) -> Result<Option<u64>, OutOfMemory> {
 
 #[test]
 fn low_bits_are_counted(rt: HostRuntime) -> Result<(), Fail> {
-    for (answer, ty, expected) in &DIGESTS {
-        let mut machine = machine_of(rt.alloc(), inst(*answer, *ty))?;
+    for (line, expected) in &DIGESTS {
+        let mut machine = machine_of(rt.alloc(), *line)?;
         let found = digest(&mut machine)?;
-        assert!(rt; found == Some(*expected), "{answer:?} of {ty:?}");
+        assert!(rt; found == Some(*expected), "at {line}");
     }
     Ok(())
 }

@@ -27,3 +27,5 @@ mod runs;
 mod symbols;
 #[cfg(test)]
 mod tail_calls;
+#[cfg(test)]
+mod texts;

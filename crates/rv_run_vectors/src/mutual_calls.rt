@@ -1,9 +1,9 @@
 //! Two functions that call each other by their symbols, each placed at its own. The wanted values are which numbers are even.
 
-use crate::calls::assembled;
 use crate::linked::Placing;
 use crate::runs::{CALLER, returns};
 use crate::tail_calls::FLAGS;
+use crate::texts::assembled;
 use std::alloc::Global;
 use std::process::Abort;
 use std::test::Fail;

@@ -16,9 +16,9 @@ const ALL_KINDS: &str =
 #[test]
 fn code_with_records_runs(rt: HostRuntime) -> Result<(), AllocError> {
     let left = "left the code to 0x8000000000010000\nsteps 3\na0 65536 0x10000\n";
-    assert_text(&rt, rt.alloc(), &[], NEAR, (0, left))?;
+    assert_text(&rt, rt.alloc(), "", NEAR, (0, left))?;
     let trapped = "no operation at 0: 0x0\nsteps 0\n";
-    assert_text(&rt, rt.alloc(), &[], ALL_KINDS, (0, trapped))
+    assert_text(&rt, rt.alloc(), "", ALL_KINDS, (0, trapped))
 }
 
 /// The number of the first line that no report has there, and lines after the bytes of a report of four bytes.
@@ -111,7 +111,7 @@ fn misplaced_and_bad_records_are_found(rt: HostRuntime) -> Result<(), AllocError
     for (line, after) in &BAD_LINES {
         let input = format!(in rt.alloc(); "code 4\n00000000 00000000\n{after}")?;
         let text = format!(in rt.alloc(); "rvrun: no report at line {line}\n")?;
-        assert_text(&rt, rt.alloc(), &[], &input, (3, &text))?;
+        assert_text(&rt, rt.alloc(), "", &input, (3, &text))?;
     }
     Ok(())
 }

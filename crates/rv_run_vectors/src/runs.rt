@@ -2,13 +2,9 @@
 
 ghost use Rattle.std.specs.Prelude.{◌<◌, ◌≤◌, length};
 
-use rv_asm::assemble;
-use rv_base::{
-    FrameLayout, IntCC, IsaFlags, List, MachLabel, OutOfMemory, Reg, Writable, a0, link_reg, x_reg,
-    zero_reg,
-};
-use rv_imms::{Imm12, Imm20};
-use rv_inst::{CondBrTarget, EmitError, Inst, Line};
+use crate::texts::assembled;
+use rv_base::{IntCC, IsaFlags, MachLabel, OutOfMemory, Reg, a0, link_reg, x_reg};
+use rv_inst::{CondBrTarget, Inst, Line};
 use rv_machine::{IntMachine, Step};
 use rv_ops::{AluOPRRI, AluOPRRR, IntegerCompare};
 use std::alloc::{AllocError, Global};
@@ -19,38 +15,6 @@ use thiserror::Error;
 pub const BASE: u64 = 0x1000;
 
 pub const CALLER: u64 = 0x20000;
-
-fn addi(rd: Reg, rs: Reg, value: i16) -> Line {
-    Line::Inst(Inst::AluRRImm12 {
-        alu_op: AluOPRRI::Addi,
-        rd: Writable::from_reg(rd),
-        rs,
-        imm12: Imm12::maybe_from_i64(i64::from(value)).unwrap_or(Imm12::ZERO),
-    })
-}
-
-fn branch(kind: IntCC, rs1: Reg, rs2: Reg, taken: CondBrTarget, not_taken: CondBrTarget) -> Line {
-    Line::Inst(Inst::CondBr {
-        taken,
-        not_taken,
-        kind: IntegerCompare { kind, rs1, rs2 },
-    })
-}
-
-fn label(number: u32) -> CondBrTarget {
-    CondBrTarget::Label(MachLabel::from_u32(number))
-}
-
-fn bind(number: u32) -> Line {
-    Line::Bind(MachLabel::from_u32(number))
-}
-
-/// The bytes of a listing's code.
-fn code_of(alloc: Global, lines: &[Line]) -> Result<List<u8>, EmitError> {
-    let frame = FrameLayout::none(alloc);
-    let code = assemble(alloc, lines, IsaFlags::none(), &frame, &[])?;
-    Ok(code.bytes)
-}
 
 /// A machine that is to run this code at `BASE`, with these registers.
 fn started(alloc: Global, code: &[u8], registers: &Registers) -> Result<IntMachine, OutOfMemory> {
@@ -81,20 +45,7 @@ pub fn returns(machine: &mut IntMachine) -> Result<bool, OutOfMemory> {
 }
 
 /// The countdown loop.
-fn countdown(alloc: Global) -> Result<Vec<Line>, AllocError> {
-    let mut lines = Vec::new(alloc);
-    lines.push(bind(0))?;
-    lines.push(addi(a0(), a0(), -1))?;
-    lines.push(branch(
-        IntCC::NotEqual,
-        a0(),
-        zero_reg(),
-        label(0),
-        CondBrTarget::Fallthrough,
-    ))?;
-    lines.push(Line::Inst(Inst::Ret))?;
-    Ok(lines)
-}
+const COUNTDOWN_LISTING: &str = "Bind L0\nAluRRImm12 addi a0 a0 -1\nCondBr ne a0 zero L0 -\nRet\n";
 
 /// Its bytes.
 const COUNTDOWN: [u8; 12] = [
@@ -103,9 +54,8 @@ const COUNTDOWN: [u8; 12] = [
 
 #[test]
 fn the_countdown_has_its_bytes(rt: HostRuntime) -> Result<(), Fail> {
-    let lines = countdown(rt.alloc())?;
-    let code = code_of(rt.alloc(), &lines)?;
-    assert_eq!(rt; code.as_slice(), COUNTDOWN.as_slice());
+    let (_, code) = assembled(rt.alloc(), COUNTDOWN_LISTING)?;
+    assert_eq!(rt; code.bytes.as_slice(), COUNTDOWN.as_slice());
     Ok(())
 }
 
@@ -127,11 +77,11 @@ fn counts_down(rt: HostRuntime) -> Result<(), OutOfMemory> {
 
 /// A sequence of small numbers that looks random.
 #[derive(Drop)]
-struct Draws {
+struct Random {
     state: u64,
 }
 
-impl Draws {
+impl Random {
     /// A number below `limit`.
     fn below(&mut self, limit: u64) -> u64
         requires { 0 < limit }
@@ -144,102 +94,88 @@ impl Draws {
         (self.state >> 33) % limit
     }
 
-    /// One of a0 to a5.
-    fn register(&mut self) -> Reg {
-        x_reg(10 + self.below(6) as usize)
+    /// One of a0 to a5, by its number there.
+    fn register(&mut self) -> u64 {
+        self.below(6)
     }
 
-    fn comparison(&mut self) -> IntCC {
+    fn comparison(&mut self) -> &'static str {
         match self.below(10) {
-            0 => IntCC::Equal,
-            1 => IntCC::NotEqual,
-            2 => IntCC::SignedLessThan,
-            3 => IntCC::SignedGreaterThanOrEqual,
-            4 => IntCC::SignedGreaterThan,
-            5 => IntCC::SignedLessThanOrEqual,
-            6 => IntCC::UnsignedLessThan,
-            7 => IntCC::UnsignedGreaterThanOrEqual,
-            8 => IntCC::UnsignedGreaterThan,
-            _ => IntCC::UnsignedLessThanOrEqual,
+            0 => "eq",
+            1 => "ne",
+            2 => "slt",
+            3 => "sge",
+            4 => "sgt",
+            5 => "sle",
+            6 => "ult",
+            7 => "uge",
+            8 => "ugt",
+            _ => "ule",
         }
     }
 
     /// A line that writes one register and goes on.
-    fn straight(&mut self) -> Line {
+    fn put_straight(&mut self, text: &mut String) -> Result<(), AllocError> {
         let rd = self.register();
         match self.below(3) {
-            0 => Line::Inst(Inst::Lui {
-                rd: Writable::from_reg(rd),
-                imm: Imm20::maybe_from_i64(self.below(1048576) as i64 - 524288).unwrap_or(
-                    Imm20::ZERO,
-                ),
-            }),
-            1 => Line::Inst(Inst::AluRRR {
-                alu_op: AluOPRRR::Add,
-                rd: Writable::from_reg(rd),
-                rs1: self.register(),
-                rs2: self.register(),
-            }),
+            0 => {
+                let value = self.below(1048576) as i64 - 524288;
+                write!(text, "Lui a{rd} {value}\n")
+            }
+            1 => {
+                let rs1 = self.register();
+                let rs2 = self.register();
+                write!(text, "AluRRR add a{rd} a{rs1} a{rs2}\n")
+            }
             _ => {
                 let rs = self.register();
-                addi(rd, rs, self.below(4096) as i16 - 2048)
+                let value = self.below(4096) as i64 - 2048;
+                write!(text, "AluRRImm12 addi a{rd} a{rs} {value}\n")
             }
         }
     }
 
     /// A few such lines.
-    fn straights(&mut self, lines: &mut Vec<Line>) -> Result<(), AllocError> {
+    fn put_straights(&mut self, text: &mut String) -> Result<(), AllocError> {
         for _ in 0..self.below(4) {
-            lines.push(self.straight())?;
+            self.put_straight(text)?;
         }
         Ok(())
     }
 
-    fn branch(&mut self, taken: CondBrTarget, not_taken: CondBrTarget) -> Line {
+    /// A branch to these targets.
+    fn put_branch(&mut self, text: &mut String, targets: &str) -> Result<(), AllocError> {
         let kind = self.comparison();
         let rs1 = self.register();
-        branch(kind, rs1, self.register(), taken, not_taken)
+        let rs2 = self.register();
+        write!(text, "CondBr {kind} a{rs1} a{rs2} {targets}\n")
     }
 
     /// A loop of one to five turns, counted in t0.
-    fn listing(&mut self, alloc: Global, gap: usize) -> Result<Vec<Line>, AllocError> {
-        let t0 = x_reg(5);
-        let mut lines = Vec::new(alloc);
-        lines.push(addi(t0, zero_reg(), self.below(5) as i16 + 1))?;
-        lines.push(bind(7))?;
-        self.turn(&mut lines, gap)?;
-        lines.push(addi(t0, t0, -1))?;
-        lines.push(branch(
-            IntCC::NotEqual,
-            t0,
-            zero_reg(),
-            label(7),
-            CondBrTarget::Fallthrough,
-        ))?;
-        lines.push(Line::Inst(Inst::Ret))?;
-        Ok(lines)
+    fn listing(&mut self, alloc: Global, gap: usize) -> Result<String, AllocError> {
+        let count = self.below(5) + 1;
+        let mut text = format!(in alloc; "AluRRImm12 addi t0 zero {count}\nBind L7\n")?;
+        self.put_turn(&mut text, gap)?;
+        text.push_str("AluRRImm12 addi t0 t0 -1\nCondBr ne t0 zero L7 -\nRet\n")?;
+        Ok(text)
     }
 
     /// A turn: branches forward, and `gap` lines that the branches go round.
-    fn turn(&mut self, lines: &mut Vec<Line>, gap: usize) -> Result<(), AllocError> {
-        self.straights(lines)?;
-        lines.push(self.branch(label(1), label(2)))?;
+    fn put_turn(&mut self, text: &mut String, gap: usize) -> Result<(), AllocError> {
+        self.put_straights(text)?;
+        self.put_branch(text, "L1 L2")?;
         for _ in 0..gap {
-            lines.push(Line::Inst(Inst::Nop4))?;
+            text.push_str("Nop4\n")?;
         }
-        self.straights(lines)?;
-        lines.push(bind(1))?;
-        self.straights(lines)?;
-        lines.push(self.branch(label(3), CondBrTarget::Fallthrough))?;
-        self.straights(lines)?;
-        lines.push(bind(2))?;
-        lines.push(Line::Inst(Inst::Jal {
-            label: MachLabel::from_u32(4),
-        }))?;
-        lines.push(bind(3))?;
-        self.straights(lines)?;
-        lines.push(bind(4))?;
-        self.straights(lines)
+        self.put_straights(text)?;
+        text.push_str("Bind L1\n")?;
+        self.put_straights(text)?;
+        self.put_branch(text, "L3 -")?;
+        self.put_straights(text)?;
+        text.push_str("Bind L2\nJal L4\nBind L3\n")?;
+        self.put_straights(text)?;
+        text.push_str("Bind L4\n")?;
+        self.put_straights(text)
     }
 
     /// The caller's address in ra, and numbers in a0 to a5.
@@ -395,14 +331,17 @@ fn assert_registers(rt: &impl Abort, machine: &IntMachine, registers: &Registers
     }
 }
 
-/// Stops unless the listing that is drawn from a seed ends on the machine as in the plain interpreter.
+/// Stops unless the random listing of a seed ends on the machine as in the plain interpreter.
 fn assert_runs(rt: &impl Abort, alloc: Global, seed: u64, gap: usize) -> Result<(), Fail> {
-    let mut draws = Draws { state: seed };
-    let lines = draws.listing(alloc, gap)?;
-    let code = code_of(alloc, &lines)?;
-    let mut registers = draws.registers();
-    let mut machine = started(alloc, code.as_slice(), &registers)?;
-    assert!(rt; interpret(&lines, &mut registers)?, "at {seed}");
+    let mut random = Random { state: seed };
+    let text = random.listing(alloc, gap)?;
+    let (job, code) = assembled(alloc, &text)?;
+    let mut registers = random.registers();
+    let mut machine = started(alloc, code.bytes.as_slice(), &registers)?;
+    assert!(rt;
+        interpret(job.lines.as_slice(), &mut registers)?,
+        "at {seed}"
+    );
     assert!(rt; returns(&mut machine)?, "at {seed}");
     assert_registers(rt, &machine, &registers, seed);
     Ok(())

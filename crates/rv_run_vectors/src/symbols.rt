@@ -3,9 +3,7 @@
 
 use crate::linked::{Placing, far_from};
 use crate::runs::{CALLER, returns};
-use rv_asm::assemble;
-use rv_inst::Job;
-use rv_listing::read_job;
+use crate::texts::assembled;
 use rv_machine::IntMachine;
 use std::alloc::Global;
 use std::process::Abort;
@@ -89,18 +87,11 @@ fn found(machine: &IntMachine) -> [u64; 6] {
     ]
 }
 
-/// The job of the listing under these flags.
-fn job(alloc: Global, flags: &str) -> Result<Job, Fail> {
-    let mut text = String::from_str(alloc, flags)?;
-    text.push_str(LISTING)?;
-    let job = read_job(alloc, text.as_bytes())?;
-    Ok(job)
-}
-
 /// Stops unless the listing leaves the symbols' addresses plus its offsets, wherever it is placed.
 fn assert_addresses(rt: &impl Abort, alloc: Global, flags: &str) -> Result<(), Fail> {
-    let job = job(alloc, flags)?;
-    let code = assemble(alloc, job.lines.as_slice(), job.flags, &job.frame, &[])?;
+    let mut text = String::from_str(alloc, flags)?;
+    text.push_str(LISTING)?;
+    let (job, code) = assembled(alloc, &text)?;
     for placing in &PLACINGS {
         let base = placing.base;
         let mut machine = placing.linked(alloc, job.flags, &code)?;

@@ -4,11 +4,10 @@
 //! size less the callee's. It goes to the symbol, or to t0, with bit 0 cleared.
 
 use crate::linked::Placing;
+use crate::machine::number;
 use crate::runs::arrives;
-use rv_asm::assemble;
-use rv_base::OutOfMemory;
+use crate::texts::assembled;
 use rv_inst::{Code, Job};
-use rv_listing::read_job;
 use rv_machine::IntMachine;
 use std::alloc::Global;
 use std::process::Abort;
@@ -26,31 +25,38 @@ const PLACING: Placing = Placing {
 };
 
 /// What a register has before: a number of its own, but for t0, which has the callee's address.
-fn before(number: u8) -> u64 {
-    if number == 5 {
+fn before(register: u8) -> u64 {
+    if register == 5 {
         CALLEE + 1
     } else {
-        u64::from(number).wrapping_mul(0x0101_0101_0101_0101)
+        u64::from(register).wrapping_mul(0x0101_0101_0101_0101)
     }
+}
+
+/// The address and the doubleword of a text `ADDRESS:DOUBLEWORD`.
+fn placed(text: &str) -> (u64, u64) {
+    let (address, value) = text.split_once(':').unwrap_or((text, ""));
+    (number(address), number(value))
 }
 
 /// What a register has after, where these have changed.
-fn after(number: u8, changed: &[(u8, u64)]) -> u64 {
-    for (other, value) in changed {
-        if *other == number {
-            return *value;
+fn after(register: u8, changed: &str) -> u64 {
+    for text in changed.split(' ') {
+        let (other, value) = text.split_once(':').unwrap_or((text, ""));
+        if other.parse().unwrap_or(0u8) == register {
+            return number(value);
         }
     }
-    before(number)
+    before(register)
 }
 
 /// Stops unless just these of the registers x1 to x29 have changed, to these values.
-fn assert_changed(rt: &impl Abort, machine: &IntMachine, changed: &[(u8, u64)], name: &str) {
-    for number in 1u8..30 {
+fn assert_changed(rt: &impl Abort, machine: &IntMachine, changed: &str, name: &str) {
+    for register in 1u8..30 {
         assert_eq!(rt;
-            machine.reg(number),
-            after(number, changed),
-            "x{number} at {name}"
+            machine.reg(register),
+            after(register, changed),
+            "x{register} at {name}"
         );
     }
 }
@@ -69,248 +75,125 @@ fn doubleword(machine: &IntMachine, at: u64) -> u64 {
     ])
 }
 
-/// Tail calls out of one frame, with the stack pointer and the doublewords on the stack before each, and the registers that have
-/// changed after it, x2 among them where it isn't as it was.
+/// Tail calls out of one frame, a line each, with the stack pointer and the doublewords on the stack before each, by their addresses,
+/// and the registers that have changed after it, by their numbers, x2 among them where it isn't as it was. What comes before a colon is
+/// an address in hex or a register's number, and what comes after it is in hex.
 struct Left {
     frame: &'static str,
-    tails: &'static [&'static str],
+    tails: &'static str,
     sp: u64,
-    stack: &'static [(u64, u64)],
-    changed: &'static [(u8, u64)],
+    stack: &'static str,
+    changed: &'static str,
 }
 
 const LEFT: [Left; 12] = [
     Left {
         frame: "frame 0 0 0 0 0 0 -",
-        tails: &["ReturnCall userextname0 - 0", "ReturnCallInd t0 - 0"],
+        tails: "ReturnCall userextname0 - 0\nReturnCallInd t0 - 0",
         sp: 0x7fff0000,
-        stack: &[(0x7fff0000, 0x1111111111111111)],
-        changed: &[(2, 0x7fff0000)],
+        stack: "7fff0000:1111111111111111",
+        changed: "2:7fff0000",
     },
     // 24 - 8 bytes of arguments.
     Left {
         frame: "frame 24 0 0 0 0 0 -",
-        tails: &[
-            "ReturnCall userextname0 a0:a0,a2:a1 8",
-            "ReturnCallInd t0 a0:a0,a2:a1 8",
-        ],
+        tails: "ReturnCall userextname0 a0:a0,a2:a1 8\nReturnCallInd t0 a0:a0,a2:a1 8",
         sp: 0x7fff0000,
-        stack: &[(0x7fff0000, 0x1111111111111111)],
-        changed: &[(2, 0x7fff0010)],
+        stack: "7fff0000:1111111111111111",
+        changed: "2:7fff0010",
     },
     // f is 16: s1 at 8, fp at 16 and ra at 24. sp rises by 16 and 16.
     Left {
         frame: "frame 0 16 16 0 0 0 s1",
-        tails: &["ReturnCall userextname0 - 0", "ReturnCallInd t0 - 0"],
+        tails: "ReturnCall userextname0 - 0\nReturnCallInd t0 - 0",
         sp: 0x7fff0000,
-        stack: &[
-            (0x7fff0000, 0x1111111111111111),
-            (0x7fff0008, 0x2222222222222222),
-            (0x7fff0010, 0x3333333333333333),
-            (0x7fff0018, 0x4444444444444444),
-            (0x7fff0020, 0x5555555555555555),
-        ],
-        changed: &[
-            (1, 0x4444444444444444),
-            (2, 0x7fff0020),
-            (8, 0x3333333333333333),
-            (9, 0x2222222222222222),
-        ],
+        stack: "7fff0000:1111111111111111 7fff0008:2222222222222222 7fff0010:3333333333333333 7fff0018:4444444444444444 7fff0020:5555555555555555",
+        changed: "1:4444444444444444 2:7fff0020 8:3333333333333333 9:2222222222222222",
     },
     // f is 32: s1 at 24, s2 at 16, s1 again at 8, fp at 32 and ra at 40. sp rises by 32, 16, and 48 - 16.
     Left {
         frame: "frame 48 16 32 0 0 0 s1,s2,s1",
-        tails: &["ReturnCall userextname0 - 16", "ReturnCallInd t0 - 16"],
+        tails: "ReturnCall userextname0 - 16\nReturnCallInd t0 - 16",
         sp: 0x7fff0000,
-        stack: &[
-            (0x7fff0000, 0x1111111111111111),
-            (0x7fff0008, 0x2222222222222222),
-            (0x7fff0010, 0x3333333333333333),
-            (0x7fff0018, 0x4444444444444444),
-            (0x7fff0020, 0x5555555555555555),
-            (0x7fff0028, 0x6666666666666666),
-            (0x7fff0030, 0x7777777777777777),
-        ],
-        changed: &[
-            (1, 0x6666666666666666),
-            (2, 0x7fff0050),
-            (8, 0x5555555555555555),
-            (9, 0x2222222222222222),
-            (18, 0x3333333333333333),
-        ],
+        stack: "7fff0000:1111111111111111 7fff0008:2222222222222222 7fff0010:3333333333333333 7fff0018:4444444444444444 7fff0020:5555555555555555 7fff0028:6666666666666666 7fff0030:7777777777777777",
+        changed: "1:6666666666666666 2:7fff0050 8:5555555555555555 9:2222222222222222 18:3333333333333333",
     },
     // f is 8, and there is no room for ra and fp: t0 at 0. sp rises by 8.
     Left {
         frame: "frame 48 0 8 0 0 0 t0",
-        tails: &["ReturnCall userextname0 - 48"],
+        tails: "ReturnCall userextname0 - 48",
         sp: 0x7fff0000,
-        stack: &[
-            (0x7ffefff8, 0x1111111111111111),
-            (0x7fff0000, 0x2222222222222222),
-            (0x7fff0008, 0x3333333333333333),
-            (0x7fff0010, 0x4444444444444444),
-        ],
-        changed: &[(2, 0x7fff0008), (5, 0x2222222222222222)],
+        stack: "7ffefff8:1111111111111111 7fff0000:2222222222222222 7fff0008:3333333333333333 7fff0010:4444444444444444",
+        changed: "2:7fff0008 5:2222222222222222",
     },
     // f is 0: s3 at -8, a1 at -16, tp at -24, fp at 0 and ra at 8. sp rises by 1.
     Left {
         frame: "frame 0 1 0 0 0 0 s3,a1,tp",
-        tails: &["ReturnCall userextname0 - 0", "ReturnCallInd t0 - 0"],
+        tails: "ReturnCall userextname0 - 0\nReturnCallInd t0 - 0",
         sp: 0x7fff0000,
-        stack: &[
-            (0x7ffeffe8, 0x1111111111111111),
-            (0x7ffefff0, 0x2222222222222222),
-            (0x7ffefff8, 0x3333333333333333),
-            (0x7fff0000, 0x4444444444444444),
-            (0x7fff0008, 0x5555555555555555),
-        ],
-        changed: &[
-            (1, 0x5555555555555555),
-            (2, 0x7fff0001),
-            (4, 0x1111111111111111),
-            (8, 0x4444444444444444),
-            (11, 0x2222222222222222),
-            (19, 0x3333333333333333),
-        ],
+        stack: "7ffeffe8:1111111111111111 7ffefff0:2222222222222222 7ffefff8:3333333333333333 7fff0000:4444444444444444 7fff0008:5555555555555555",
+        changed: "1:5555555555555555 2:7fff0001 4:1111111111111111 8:4444444444444444 11:2222222222222222 19:3333333333333333",
     },
     // f is 2040: s1 at 2032, s2 at 2024, s1 again at 2016, fp at 2040 and ra at 2048. sp rises by 2040 and 16.
     Left {
         frame: "frame 48 16 24 2016 8 0 s1,s2,s1",
-        tails: &["ReturnCall userextname0 - 48", "ReturnCallInd t0 - 48"],
+        tails: "ReturnCall userextname0 - 48\nReturnCallInd t0 - 48",
         sp: 0x7fff0000,
-        stack: &[
-            (0x7fff07e0, 0x1111111111111111),
-            (0x7fff07e8, 0x2222222222222222),
-            (0x7fff07f0, 0x3333333333333333),
-            (0x7fff07f8, 0x4444444444444444),
-            (0x7fff0800, 0x5555555555555555),
-            (0x7fff0808, 0x6666666666666666),
-        ],
-        changed: &[
-            (1, 0x5555555555555555),
-            (2, 0x7fff0808),
-            (8, 0x4444444444444444),
-            (9, 0x1111111111111111),
-            (18, 0x2222222222222222),
-        ],
+        stack: "7fff07e0:1111111111111111 7fff07e8:2222222222222222 7fff07f0:3333333333333333 7fff07f8:4444444444444444 7fff0800:5555555555555555 7fff0808:6666666666666666",
+        changed: "1:5555555555555555 2:7fff0808 8:4444444444444444 9:1111111111111111 18:2222222222222222",
     },
     // f is 100080, which is 0x186f0: s1 8 below it, and the next five each 8 below. sp rises by f, 16, and 48 - 32.
     Left {
         frame: "frame 48 16 48 100000 64 32 s1,s2,s3,s4,s5,s6",
-        tails: &["ReturnCall userextname0 - 32", "ReturnCallInd t0 - 32"],
+        tails: "ReturnCall userextname0 - 32\nReturnCallInd t0 - 32",
         sp: 0x7fff0000,
-        stack: &[
-            (0x800086b8, 0x1111111111111111),
-            (0x800086c0, 0x2222222222222222),
-            (0x800086c8, 0x3333333333333333),
-            (0x800086d0, 0x4444444444444444),
-            (0x800086d8, 0x5555555555555555),
-            (0x800086e0, 0x6666666666666666),
-            (0x800086e8, 0x7777777777777777),
-            (0x800086f0, 0x8888888888888888),
-            (0x800086f8, 0x9999999999999999),
-            (0x80008700, 0xaaaaaaaaaaaaaaaa),
-        ],
-        changed: &[
-            (1, 0x9999999999999999),
-            (2, 0x80008710),
-            (8, 0x8888888888888888),
-            (9, 0x7777777777777777),
-            (18, 0x6666666666666666),
-            (19, 0x5555555555555555),
-            (20, 0x4444444444444444),
-            (21, 0x3333333333333333),
-            (22, 0x2222222222222222),
-        ],
+        stack: "800086b8:1111111111111111 800086c0:2222222222222222 800086c8:3333333333333333 800086d0:4444444444444444 800086d8:5555555555555555 800086e0:6666666666666666 800086e8:7777777777777777 800086f0:8888888888888888 800086f8:9999999999999999 80008700:aaaaaaaaaaaaaaaa",
+        changed: "1:9999999999999999 2:80008710 8:8888888888888888 9:7777777777777777 18:6666666666666666 19:5555555555555555 20:4444444444444444 21:3333333333333333 22:2222222222222222",
     },
     // f is 1000000024, which is 0x3b9aca18. sp rises by f, 16 and 48.
     Left {
         frame: "frame 48 16 24 1000000000 0 0 t1,s11,a7",
-        tails: &["ReturnCall userextname0 - 0", "ReturnCallInd t0 - 0"],
+        tails: "ReturnCall userextname0 - 0\nReturnCallInd t0 - 0",
         sp: 0x100000000,
-        stack: &[
-            (0x13b9ac9f8, 0x1111111111111111),
-            (0x13b9aca00, 0x2222222222222222),
-            (0x13b9aca08, 0x3333333333333333),
-            (0x13b9aca10, 0x4444444444444444),
-            (0x13b9aca18, 0x5555555555555555),
-            (0x13b9aca20, 0x6666666666666666),
-            (0x13b9aca28, 0x7777777777777777),
-        ],
-        changed: &[
-            (1, 0x6666666666666666),
-            (2, 0x13b9aca58),
-            (6, 0x4444444444444444),
-            (8, 0x5555555555555555),
-            (17, 0x2222222222222222),
-            (27, 0x3333333333333333),
-        ],
+        stack: "13b9ac9f8:1111111111111111 13b9aca00:2222222222222222 13b9aca08:3333333333333333 13b9aca10:4444444444444444 13b9aca18:5555555555555555 13b9aca20:6666666666666666 13b9aca28:7777777777777777",
+        changed: "1:6666666666666666 2:13b9aca58 6:4444444444444444 8:5555555555555555 17:2222222222222222 27:3333333333333333",
     },
     // The sizes sum to 2^31 - 1, and f is 0x7fffffc0. sp rises by f, 16 and 47.
     Left {
         frame: "frame 47 16 8 2147483568 0 8 s2",
-        tails: &["ReturnCall userextname0 - 0", "ReturnCallInd t0 - 0"],
+        tails: "ReturnCall userextname0 - 0\nReturnCallInd t0 - 0",
         sp: 0x100000000,
-        stack: &[
-            (0x17fffffb0, 0x1111111111111111),
-            (0x17fffffb8, 0x2222222222222222),
-            (0x17fffffc0, 0x3333333333333333),
-            (0x17fffffc8, 0x4444444444444444),
-            (0x17fffffd0, 0x5555555555555555),
-        ],
-        changed: &[
-            (1, 0x4444444444444444),
-            (2, 0x17fffffff),
-            (8, 0x3333333333333333),
-            (18, 0x2222222222222222),
-        ],
+        stack: "17fffffb0:1111111111111111 17fffffb8:2222222222222222 17fffffc0:3333333333333333 17fffffc8:4444444444444444 17fffffd0:5555555555555555",
+        changed: "1:4444444444444444 2:17fffffff 8:3333333333333333 18:2222222222222222",
     },
     // Addresses go round at 2^64: f is 16, s1 at 8, fp at 16 and ra at 24.
     Left {
         frame: "frame 0 16 16 0 0 0 s1",
-        tails: &["ReturnCall userextname0 - 0", "ReturnCallInd t0 - 0"],
+        tails: "ReturnCall userextname0 - 0\nReturnCallInd t0 - 0",
         sp: 0xfffffffffffffff8,
-        stack: &[
-            (0xfffffffffffffff8, 0x1111111111111111),
-            (0, 0x2222222222222222),
-            (8, 0x3333333333333333),
-            (16, 0x4444444444444444),
-        ],
-        changed: &[
-            (1, 0x4444444444444444),
-            (2, 0x18),
-            (8, 0x3333333333333333),
-            (9, 0x2222222222222222),
-        ],
+        stack: "fffffffffffffff8:1111111111111111 0:2222222222222222 8:3333333333333333 10:4444444444444444",
+        changed: "1:4444444444444444 2:18 8:3333333333333333 9:2222222222222222",
     },
     // What is loaded needn't be aligned: f is 16, s1 at 8, fp at 16 and ra at 24.
     Left {
         frame: "frame 5 16 16 0 0 0 s1",
-        tails: &["ReturnCall userextname0 - 2", "ReturnCallInd t0 - 2"],
+        tails: "ReturnCall userextname0 - 2\nReturnCallInd t0 - 2",
         sp: 0x7fff0003,
-        stack: &[
-            (0x7fff000b, 0x2222222222222222),
-            (0x7fff0013, 0x3333333333333333),
-            (0x7fff001b, 0x4444444444444444),
-        ],
-        changed: &[
-            (1, 0x4444444444444444),
-            (2, 0x7fff0026),
-            (8, 0x3333333333333333),
-            (9, 0x2222222222222222),
-        ],
+        stack: "7fff000b:2222222222222222 7fff0013:3333333333333333 7fff001b:4444444444444444",
+        changed: "1:4444444444444444 2:7fff0026 8:3333333333333333 9:2222222222222222",
     },
 ];
 
 /// A machine before a tail call, with its registers and its stack.
 fn at_tail_call(alloc: Global, job: &Job, code: &Code, left: &Left) -> Result<IntMachine, Fail> {
     let mut machine = PLACING.linked(alloc, job.flags, code)?;
-    for number in 1u8..32 {
-        machine.set_reg(number, before(number));
+    for register in 1u8..32 {
+        machine.set_reg(register, before(register));
     }
     machine.set_reg(2, left.sp);
-    for (at, value) in left.stack {
-        machine.load_image(*at, &value.to_le_bytes())?;
+    for text in left.stack.split(' ') {
+        let (at, value) = placed(text);
+        machine.load_image(at, &value.to_le_bytes())?;
     }
     Ok(machine)
 }
@@ -326,22 +209,22 @@ fn assert_left(
     let mut text = String::new(alloc);
     let frame = left.frame;
     write!(text, "{flags}{frame}\n{tail}\n")?;
-    let job = read_job(alloc, text.as_bytes())?;
-    let code = assemble(alloc, job.lines.as_slice(), job.flags, &job.frame, &[])?;
+    let (job, code) = assembled(alloc, &text)?;
     let mut machine = at_tail_call(alloc, &job, &code, left)?;
     assert!(rt; arrives(&mut machine, CALLEE)?, "at {text}");
     assert_changed(rt, &machine, left.changed, &text);
-    for (at, value) in left.stack {
-        assert_eq!(rt; doubleword(&machine, *at), *value, "{at:x} at {text}");
+    for place in left.stack.split(' ') {
+        let (at, value) = placed(place);
+        assert_eq!(rt; doubleword(&machine, at), value, "{at:x} at {text}");
     }
     Ok(())
 }
 
 /// Stops unless each tail call of a row leaves its frame so.
 fn assert_all_left(rt: &impl Abort, alloc: Global, left: &Left) -> Result<(), Fail> {
-    for tail in left.tails {
+    for tail in left.tails.lines() {
         for flags in FLAGS {
-            assert_left(rt, alloc, flags, left, *tail)?;
+            assert_left(rt, alloc, flags, left, tail)?;
         }
     }
     Ok(())
@@ -375,8 +258,7 @@ pub(crate) const GOALS: [(u64, u64, u64); 9] = [
 fn assert_goals(rt: &impl Abort, alloc: Global, flags: &str) -> Result<(), Fail> {
     let mut text = String::new(alloc);
     write!(text, "{flags}ReturnCall userextname0 - 0\n")?;
-    let job = read_job(alloc, text.as_bytes())?;
-    let code = assemble(alloc, job.lines.as_slice(), job.flags, &job.frame, &[])?;
+    let (job, code) = assembled(alloc, &text)?;
     for (base, symbol, goal) in GOALS {
         let placing = Placing {
             base,
@@ -420,15 +302,14 @@ AluRRR add fp ra s1
 fn assert_given_away(rt: &impl Abort, alloc: Global, flags: &str, tail: &str) -> Result<(), Fail> {
     let mut text = String::new(alloc);
     write!(text, "{flags}{FUNCTION}{tail}\n")?;
-    let job = read_job(alloc, text.as_bytes())?;
-    let code = assemble(alloc, job.lines.as_slice(), job.flags, &job.frame, &[])?;
+    let (job, code) = assembled(alloc, &text)?;
     let mut machine = PLACING.linked(alloc, job.flags, &code)?;
-    for number in 1u8..32 {
-        machine.set_reg(number, before(number));
+    for register in 1u8..32 {
+        machine.set_reg(register, before(register));
     }
     machine.set_reg(2, 0x80000000);
     assert!(rt; arrives(&mut machine, CALLEE)?, "at {text}");
-    assert_changed(rt, &machine, &[(2, 0x80000010)], &text);
+    assert_changed(rt, &machine, "2:80000010", &text);
     assert_eq!(rt;
         doubleword(&machine, 0x7fffffc8),
         0x0123456789abcdef,
