@@ -17,23 +17,23 @@ struct Datum {
 const DATA: [Datum; 7] = [
     Datum {
         align: ConstAlign::A1,
-        bytes: &[0xc0],
+        bytes: b"\xc0",
     },
     Datum {
         align: ConstAlign::A16,
-        bytes: &[0xc1; 5],
+        bytes: b"\xc1\xc1\xc1\xc1\xc1",
     },
     Datum {
         align: ConstAlign::A2,
-        bytes: &[0xc2; 3],
+        bytes: b"\xc2\xc2\xc2",
     },
     Datum {
         align: ConstAlign::A8,
-        bytes: &[0xc3; 7],
+        bytes: b"\xc3\xc3\xc3\xc3\xc3\xc3\xc3",
     },
     Datum {
         align: ConstAlign::A4,
-        bytes: &[0xc4; 4],
+        bytes: b"\xc4\xc4\xc4\xc4",
     },
     Datum {
         align: ConstAlign::A1,
@@ -41,7 +41,7 @@ const DATA: [Datum; 7] = [
     },
     Datum {
         align: ConstAlign::A2,
-        bytes: &[0xc6; 9],
+        bytes: b"\xc6\xc6\xc6\xc6\xc6\xc6\xc6\xc6\xc6",
     },
 ];
 
@@ -74,7 +74,7 @@ const POOLS: [Pool; 8] = [
         long: 2,
         constants: &[],
         at: 0,
-        bytes: &[0x44, 0x44],
+        bytes: b"\x44\x44",
     },
     // A use at 0 goes by a veneer at 4 to a constant at 12.
     Pool {
@@ -82,9 +82,7 @@ const POOLS: [Pool; 8] = [
         long: 16,
         constants: &[(4, 12)],
         at: 0,
-        bytes: &[
-            2, 0x11, 0, 0, 8, 0, 0, 0, 0xee, 0xee, 0xee, 0xee, 0xc4, 0xc4, 0xc4, 0xc4,
-        ],
+        bytes: b"\x02\x11\x00\x00\x08\x00\x00\x00\xee\xee\xee\xee\xc4\xc4\xc4\xc4",
     },
     // Six uses go by veneers from 12 on; the first and the fourth to one constant.
     Pool {
@@ -92,13 +90,7 @@ const POOLS: [Pool; 8] = [
         long: 89,
         constants: &[(3, 64), (0, 72), (4, 76), (1, 80), (2, 86)],
         at: 0,
-        bytes: &[
-            6, 0x11, 9, 0x11, 12, 0x11, 15, 0x11, 18, 0x11, 21, 0x11, 52, 0, 0, 0, 0xee, 0xee,
-            0xee, 0xee, 52, 0, 0, 0, 0xee, 0xee, 0xee, 0xee, 48, 0, 0, 0, 0xee, 0xee, 0xee, 0xee,
-            28, 0, 0, 0, 0xee, 0xee, 0xee, 0xee, 36, 0, 0, 0, 0xee, 0xee, 0xee, 0xee, 34, 0, 0, 0,
-            0xee, 0xee, 0xee, 0xee, 0, 0, 0, 0, 0xc3, 0xc3, 0xc3, 0xc3, 0xc3, 0xc3, 0xc3, 0, 0xc0,
-            0, 0, 0, 0xc4, 0xc4, 0xc4, 0xc4, 0xc1, 0xc1, 0xc1, 0xc1, 0xc1, 0, 0xc2, 0xc2, 0xc2,
-        ],
+        bytes: b"\x06\x11\x09\x11\x0c\x11\x0f\x11\x12\x11\x15\x11\x34\x00\x00\x00\xee\xee\xee\xee\x34\x00\x00\x00\xee\xee\xee\xee\x30\x00\x00\x00\xee\xee\xee\xee\x1c\x00\x00\x00\xee\xee\xee\xee\x24\x00\x00\x00\xee\xee\xee\xee\x22\x00\x00\x00\xee\xee\xee\xee\x00\x00\x00\x00\xc3\xc3\xc3\xc3\xc3\xc3\xc3\x00\xc0\x00\x00\x00\xc4\xc4\xc4\xc4\xc1\xc1\xc1\xc1\xc1\x00\xc2\xc2\xc2",
     },
     // A jump at 2 round an island, which has a veneer at 8 and a constant at 16, and ends at 24.
     Pool {
@@ -106,10 +98,7 @@ const POOLS: [Pool; 8] = [
         long: 255,
         constants: &[(1, 16), (2, 252)],
         at: 0,
-        bytes: &[
-            4, 0x11, 11, 0xaa, 0xaa, 0xaa, 0, 0, 8, 0, 0, 0, 0xee, 0xee, 0xee, 0xee, 0xc1, 0xc1,
-            0xc1, 0xc1, 0xc1, 0, 0, 0, 0x44,
-        ],
+        bytes: b"\x04\x11\x0b\xaa\xaa\xaa\x00\x00\x08\x00\x00\x00\xee\xee\xee\xee\xc1\xc1\xc1\xc1\xc1\x00\x00\x00\x44",
     },
     // After it a use at 240 goes by a veneer at 244 to a constant at 252, and one at 242 goes 226 bytes back.
     Pool {
@@ -117,9 +106,7 @@ const POOLS: [Pool; 8] = [
         long: 255,
         constants: &[(1, 16), (2, 252)],
         at: 239,
-        bytes: &[
-            0x44, 2, 0x11, 0x8f, 0x11, 8, 0, 0, 0, 0xee, 0xee, 0xee, 0xee, 0xc2, 0xc2, 0xc2,
-        ],
+        bytes: b"\x44\x02\x11\x8f\x11\x08\x00\x00\x00\xee\xee\xee\xee\xc2\xc2\xc2",
     },
     // With a constant of 251 bytes at 16 the island would end at 268, and a jump at 2 reaches 256: so it goes by a veneer of its
     // own at 8 to the end at 276.
@@ -128,17 +115,14 @@ const POOLS: [Pool; 8] = [
         long: 492,
         constants: &[(5, 24)],
         at: 0,
-        bytes: &[
-            8, 0x11, 3, 0xaa, 0xaa, 0xaa, 0, 0, 12, 1, 0, 0, 0xee, 0xee, 0xee, 0xee, 8, 0, 0, 0,
-            0xee, 0xee, 0xee, 0xee, 0xc5,
-        ],
+        bytes: b"\x08\x11\x03\xaa\xaa\xaa\x00\x00\x0c\x01\x00\x00\xee\xee\xee\xee\x08\x00\x00\x00\xee\xee\xee\xee\xc5",
     },
     Pool {
         items: &[Name(5), Fill(216)],
         long: 492,
         constants: &[(5, 24)],
         at: 272,
-        bytes: &[0xc5, 0xc5, 0xc5, 0, 0x44],
+        bytes: b"\xc5\xc5\xc5\x00\x44",
     },
     // A label's veneer at 8, and then a constant's at 16 to 24, and an island's end at 28.
     Pool {
@@ -146,10 +130,7 @@ const POOLS: [Pool; 8] = [
         long: 238,
         constants: &[(2, 24)],
         at: 0,
-        bytes: &[
-            4, 0x11, 7, 0x11, 12, 0xaa, 0xaa, 0xaa, 0xe6, 0, 0, 0, 0xee, 0xee, 0xee, 0xee, 8, 0, 0,
-            0, 0xee, 0xee, 0xee, 0xee, 0xc2, 0xc2, 0xc2, 0, 0x44,
-        ],
+        bytes: b"\x04\x11\x07\x11\x0c\xaa\xaa\xaa\xe6\x00\x00\x00\xee\xee\xee\xee\x08\x00\x00\x00\xee\xee\xee\xee\xc2\xc2\xc2\x00\x44",
     },
 ];
 
@@ -181,11 +162,11 @@ fn constants_stand_after_veneers(rt: HostRuntime) -> Result<(), Fail> {
 const TWO: [Datum; 2] = [
     Datum {
         align: ConstAlign::A1,
-        bytes: &[0xc0; 3],
+        bytes: b"\xc0\xc0\xc0",
     },
     Datum {
         align: ConstAlign::A1,
-        bytes: &[0xc1; 5],
+        bytes: b"\xc1\xc1\xc1\xc1\xc1",
     },
 ];
 

@@ -22,55 +22,46 @@ struct Constant {
 const DOUBLES: [Constant; 8] = [
     Constant {
         value: 0,
-        bytes: &[0x13, 0x05, 0x00, 0x00],
+        bytes: b"\x13\x05\x00\x00",
     },
     Constant {
         value: 5,
-        bytes: &[0x13, 0x05, 0x50, 0x00],
+        bytes: b"\x13\x05\x50\x00",
     },
     Constant {
         value: 0xffff_ffff_ffff_ffff,
-        bytes: &[0x13, 0x05, 0xf0, 0xff],
+        bytes: b"\x13\x05\xf0\xff",
     },
     Constant {
         value: 2048,
-        bytes: &[0x37, 0x15, 0x00, 0x00, 0x13, 0x05, 0x05, 0x80],
+        bytes: b"\x37\x15\x00\x00\x13\x05\x05\x80",
     },
     Constant {
         value: 4096,
-        bytes: &[0x37, 0x15, 0x00, 0x00],
+        bytes: b"\x37\x15\x00\x00",
     },
     Constant {
         value: 2_147_481_599,
-        bytes: &[0x37, 0xf5, 0xff, 0x7f, 0x13, 0x05, 0xf5, 0x7f],
+        bytes: b"\x37\xf5\xff\x7f\x13\x05\xf5\x7f",
     },
     Constant {
         value: 2_147_481_600,
-        bytes: &[
-            0x17, 0x05, 0x00, 0x00, 0x03, 0x35, 0xc5, 0x00, 0x6f, 0x00, 0xc0, 0x00, 0x00, 0xf8,
-            0xff, 0x7f, 0, 0, 0, 0,
-        ],
+        bytes: b"\x17\x05\x00\x00\x03\x35\xc5\x00\x6f\x00\xc0\x00\x00\xf8\xff\x7f\x00\x00\x00\x00",
     },
     Constant {
         value: 0xffff_ffff_7fff_f7ff,
-        bytes: &[
-            0x17, 0x05, 0x00, 0x00, 0x03, 0x35, 0xc5, 0x00, 0x6f, 0x00, 0xc0, 0x00, 0xff, 0xf7,
-            0xff, 0x7f, 0xff, 0xff, 0xff, 0xff,
-        ],
+        bytes: b"\x17\x05\x00\x00\x03\x35\xc5\x00\x6f\x00\xc0\x00\xff\xf7\xff\x7f\xff\xff\xff\xff",
     },
 ];
 
 const WORDS: [Constant; 2] = [
     Constant {
         value: 5,
-        bytes: &[0x13, 0x05, 0x50, 0x00],
+        bytes: b"\x13\x05\x50\x00",
     },
     Constant {
         value: 0x8000_0000,
-        bytes: &[
-            0x17, 0x05, 0x00, 0x00, 0x03, 0x25, 0xc5, 0x00, 0x6f, 0x00, 0x80, 0x00, 0x00, 0x00,
-            0x00, 0x80,
-        ],
+        bytes: b"\x17\x05\x00\x00\x03\x25\xc5\x00\x6f\x00\x80\x00\x00\x00\x00\x80",
     },
 ];
 

@@ -99,31 +99,25 @@ const AIMS: [Aim; 4] = [
     Aim {
         items: &[Use(0), Fill(2), Bind(0)],
         at: 0,
-        bytes: &[2, 0x11, 0x44, 0x44],
+        bytes: b"\x02\x11\x44\x44",
     },
     // A jump at 2 round an island, whose veneer at 8 goes to 232.
     Aim {
         items: &[Use(0), Fill(216)],
         at: 0,
-        bytes: &[
-            4, 0x11, 7, 0xaa, 0xaa, 0xaa, 0, 0, 0xe0, 0, 0, 0, 0xee, 0xee, 0xee, 0xee, 0x44,
-        ],
+        bytes: b"\x04\x11\x07\xaa\xaa\xaa\x00\x00\xe0\x00\x00\x00\xee\xee\xee\xee\x44",
     },
     // A jump at 4; the earlier use has the earlier veneer.
     Aim {
         items: &[Use(0), Use(0), Fill(208)],
         at: 0,
-        bytes: &[
-            4, 0x11, 7, 0x11, 10, 0xaa, 0xaa, 0xaa, 0xe0, 0, 0, 0, 0xee, 0xee, 0xee, 0xee, 0xd8,
-        ],
+        bytes: b"\x04\x11\x07\x11\x0a\xaa\xaa\xaa\xe0\x00\x00\x00\xee\xee\xee\xee\xd8",
     },
     // A use at 260 of a label at 0 goes by a veneer at 264, which is put at the end.
     Aim {
         items: &[Bind(0), Fill(250), Fill(10), Use(0)],
         at: 260,
-        bytes: &[
-            2, 0x11, 0, 0, 0xf8, 0xfe, 0xff, 0xff, 0xee, 0xee, 0xee, 0xee,
-        ],
+        bytes: b"\x02\x11\x00\x00\xf8\xfe\xff\xff\xee\xee\xee\xee",
     },
 ];
 
@@ -145,7 +139,7 @@ fn windows_aim_at_labels_and_veneers(rt: HostRuntime) -> Result<(), Fail> {
     Ok(())
 }
 
-/// The first labels that a buffer draws.
+/// The first labels that a buffer gives.
 fn allocated(alloc: Global) -> Result<[u32; 2], OutOfMemory> {
     let mut buffer = MachBuffer::<Toy>::new(alloc);
     let first = buffer.get_label()?;
@@ -154,7 +148,7 @@ fn allocated(alloc: Global) -> Result<[u32; 2], OutOfMemory> {
 }
 
 #[test]
-fn labels_are_drawn_in_order(rt: HostRuntime) -> Result<(), OutOfMemory> {
+fn labels_are_given_in_order(rt: HostRuntime) -> Result<(), OutOfMemory> {
     assert_eq!(rt; allocated(rt.alloc())?, [0x40000000, 0x40000001]);
     Ok(())
 }
