@@ -1,6 +1,6 @@
 -- The constants of a sound buffer, as they are registered, named and put; and the places of labels.
 use Rattle.std.proofs.Common.{arith, ◌≡◌, ◌≢◌, ℕ, zero, suc, ◌+◌, ◌<◌, ◌≤◌, ◌⊎◌, ⊎_elim, true, false, List, [], ◌∷◌, ◌++◌, length, map, take, drop, Option, Some, None, refl, ap, sym, ◌∙◌, append-nil, Bool, set}
-use Rattle.mach_buffer.proofs.Words.{nat_tests, common_steps, cases_eq, eq-eqb, ne_eqb, true≢false, slice_get-map, gets, get_or_from_slice_get, length-drop, length-append, map-append, take-append-le, take_all, slice_get, is_some, if◌then◌else◌, Constant, VCodeConstant, first_inner, first_constant, ConstPlace, Shape, placed, constant_label, inner_count, is_named, with_named, waiting_of, IsUsable, IsConstantLabel, offset_in, AreOrdered, IsOrdered, cases_Bool, drop_more, nil_from_length, length-map, length-set, option_map, nat_eq, ◌||◌, name_more, AreNoted, take_more}
+use Rattle.mach_buffer.proofs.Words.{nat_tests, common_steps, cases_eq, eq-eqb, ne_eqb, true≢false, slice_get-map, gets, get_or_from_slice_get, length-drop, length-append, map-append, take-append-le, take_all, slice_get, is_some, if◌then◌else◌, Constant, VCodeConstant, first_inner, first_constant, ConstPlace, Shape, placed, constant_label, inner_count, is_named, with_named, unplaced_of, IsUsable, IsConstantLabel, offset_in, AreOrdered, IsOrdered, cases_Bool, drop_more, nil_from_length, length-map, length-set, option_map, nat_eq, ◌||◌, name_more, AreNoted, take_more}
 use Rattle.mach_buffer.proofs.Lists.{append_each, below, none_of, comes_from, pushed, found_at, slice_get-append_last, slice_get-set_other}
 
 -- ---- the places of labels
@@ -67,15 +67,15 @@ name_there k named = ⊎_elim
 
 -- ---- the next constant is put
 
--- what stands is one more, the first of those that wait
-pub next_there : {L : Type 0} (s : Shape L) (k : VCodeConstant) (ks : List VCodeConstant) → waiting_of s ≡ k ∷ ks → slice_get s.named (length s.constants) ≡ Some k
+-- what stands is one more, the first of those that didn't stand yet
+pub next_there : {L : Type 0} (s : Shape L) (k : VCodeConstant) (ks : List VCodeConstant) → unplaced_of s ≡ k ∷ ks → slice_get s.named (length s.constants) ≡ Some k
 next_there s k ks e = grind (arith, common_steps, gets)
 
--- the others wait
-pub next_waits : {L : Type 0} (s : Shape L) (k : VCodeConstant) (ks : List VCodeConstant) (c : ConstPlace) → waiting_of s ≡ k ∷ ks → drop (length (s.constants ++ c ∷ [])) s.named ≡ ks
-next_waits s k ks c e = grind (arith, length-append s.constants (c ∷ []), drop_more s.named (length s.constants) k (below s.named _ k (next_there s k ks e)))
+-- the others are still to be put
+pub next_unplaced : {L : Type 0} (s : Shape L) (k : VCodeConstant) (ks : List VCodeConstant) (c : ConstPlace) → unplaced_of s ≡ k ∷ ks → drop (length (s.constants ++ c ∷ [])) s.named ≡ ks
+next_unplaced s k ks c e = grind (arith, length-append s.constants (c ∷ []), drop_more s.named (length s.constants) k (below s.named _ k (next_there s k ks e)))
 
-pub ordered_constant : {L : Type 0} (s : Shape L) (k : VCodeConstant) (ks : List VCodeConstant) (at : ℕ) → waiting_of s ≡ k ∷ ks → IsOrdered s → AreOrdered s.allocated (placed s.place (constant_label k).number at) s.registered s.named (s.constants ++ record { constant = k; offset = at } ∷ [])
+pub ordered_constant : {L : Type 0} (s : Shape L) (k : VCodeConstant) (ks : List VCodeConstant) (at : ℕ) → unplaced_of s ≡ k ∷ ks → IsOrdered s → AreOrdered s.allocated (placed s.place (constant_label k).number at) s.registered s.named (s.constants ++ record { constant = k; offset = at } ∷ [])
 ordered_constant {L} s k ks at e o =
     let there = next_there s k ks e in
     let c : ConstPlace = record { constant = k; offset = at } in
@@ -89,7 +89,7 @@ ordered_constant {L} s k ks at e o =
     let free : (i : ℕ) (l : VCodeConstant) → length (s.constants ++ c ∷ []) ≤ i → slice_get s.named i ≡ Some l → placed s.place (constant_label k).number at (constant_label l).number ≡ None = λ i l le h. grind (arith, nat_tests, o.once i (length s.constants) l k, o.free i l) in
     assumption
 
--- ---- once none waits
+-- ---- once all stand
 
 -- the first constant of a number, where there is one
 offset_found : (cs : List ConstPlace) (number at : ℕ) → offset_in cs number ≡ Some at → (j : ℕ) × (c : ConstPlace) × (slice_get cs j ≡ Some c) × (c.constant.number ≡ number) × (c.offset ≡ at)
@@ -101,10 +101,10 @@ offset_missing [] number e j c h q = absurd (cc)
 offset_missing (d ∷ cs) number e zero c h q = absurd (grind (arith, nat_tests))
 offset_missing (d ∷ cs) number e (suc j) c h q = offset_missing cs number (grind (arith, nat_tests)) j c h q
 
-module _ {L : Type 0} (s : Shape L) (o : IsOrdered s) (waiting : waiting_of s ≡ []) where
+module _ {L : Type 0} (s : Shape L) (o : IsOrdered s) (unplaced : unplaced_of s ≡ []) where
   -- all that were named stand, in their order
   pub all_listed : map (λ (c : ConstPlace). c.constant) s.constants ≡ s.named
-  all_listed = o.first ∙ take_all (length s.constants) s.named (omega (arith, length-drop (length s.constants) s.named, ap (length {A = VCodeConstant}) waiting))
+  all_listed = o.first ∙ take_all (length s.constants) s.named (omega (arith, length-drop (length s.constants) s.named, ap (length {A = VCodeConstant}) unplaced))
 
   -- one that was named stands
   stands_named : (i : ℕ) (k : VCodeConstant) → slice_get s.named i ≡ Some k → (c : ConstPlace) × (j : ℕ) × (slice_get s.constants j ≡ Some c) × (c.constant ≡ k)

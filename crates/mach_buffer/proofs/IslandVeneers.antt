@@ -1,16 +1,16 @@
 -- An island: that its veneers can be put, and what it brings.
 use Rattle.std.proofs.Common.{◌≡◌, ◌≢◌, ℕ, ◌+◌, ◌-◌, ◌*◌, ◌%◌, ◌<◌, ◌≤◌, ⊎_elim, Bool, true, false, List, [], ◌∷◌, length, Option, Some, None, refl, ap, sym, ◌∙◌, subst, arith}
-use Rattle.mach_buffer.proofs.Words.{nat_tests, true≢false, cases_eq, and_parts, length-append, slice_get, first_inner, first_constant, MachLabel, code_limit, Kinds, Use, Shape, with_label, placed, waiting_of, deadline, is_reached, is_pending, is_other, AreWindows, put_all, IsOrder, aligned, padding, padded, needs_own, first_of, with_own, island_veneers, IsJumpOver, CanIsland, Islanded, others_of, Grows, Lasts, IsNone, CanPut, CanPutAll, AddsOwn, Inside, AreSound, end_after, put_constants, reserve_of, IsOrdered, AreNoted, AllStand, reserve_from, IsUsable, CanPutAt}
+use Rattle.mach_buffer.proofs.Words.{nat_tests, true≢false, cases_eq, and_parts, length-append, slice_get, first_inner, first_constant, MachLabel, code_limit, Kinds, Use, Shape, with_label, placed, unplaced_of, deadline, is_reached, is_pending, is_other, AreWindows, put_all, IsOrder, aligned, padding, padded, needs_own, first_of, with_own, island_veneers, IsJumpOver, CanIsland, Islanded, others_of, Grows, Lasts, IsNone, CanPut, CanPutAll, AddsOwn, Inside, AreSound, HoldNone, IsWhole, island_front, end_after, put_constants, reserve_of, IsOrdered, AreNoted, AllStand, reserve_from, IsUsable, CanPutAt}
 use Rattle.mach_buffer.proofs.QueueContents.{kept_none}
 use Rattle.mach_buffer.proofs.Links.{HasLaw, linked_bytes, windows_bytes}
 use Rattle.mach_buffer.proofs.Lasting.{veneers_last, lasts_bytes, lasts_label, lasts_more, lasts_veneers}
 use Rattle.mach_buffer.proofs.Lists.{append_none, slice_get-append_last, pushed}
 use Rattle.mach_buffer.proofs.OrderOfVeneers.{order_none, order_has, order_long, can_order, not_pending}
-use Rattle.mach_buffer.proofs.VeneersAndConstants.{length_padded, padding_even, aligned_near, grown_waits, Extended, extended}
+use Rattle.mach_buffer.proofs.VeneersAndConstants.{length_padded, padding_even, aligned_near, grown_pending, Extended, extended}
 use Rattle.mach_buffer.proofs.Slack.{slack_from_reach, reaches_from_slack, none_from}
 use Rattle.mach_buffer.proofs.ConstantOrder.{placed_same, placed_other}
 use Rattle.mach_buffer.proofs.ConstantsPut.{ends_is, constants_put, ends_within, reserve_other, stands_last}
-use Rattle.mach_buffer.proofs.Sound.{IsWhole, whole_label}
+use Rattle.mach_buffer.proofs.Sound.{whole_label}
 
 -- a use of the label is no other use
 pub own_idle : {L : Type 0} (kinds : Kinds L) (place : ℕ → Option ℕ) (after_island : MachLabel) (u : Use L) → u.label.number ≡ after_island.number → is_other kinds place (Some after_island) u ≡ false
@@ -30,12 +30,12 @@ module _ {L : Type 0} {kinds : Kinds L} {bytes : List ℕ} {uses : List (Use L)}
 
 -- there is room for the veneers and the constants
 pub before_room : {L : Type 0} {kinds : Kinds L} {s : Shape L} {after_island : MachLabel} → CanIsland kinds s after_island → (count : ℕ) → count ≡ length (others_of kinds s after_island) → end_after s (aligned (length s.bytes) + 8 * count) < code_limit
-before_room {s = s} can count e = grind (arith, nat_tests, ends_is s.registered (waiting_of s), can.room)
+before_room {s = s} can count e = grind (arith, nat_tests, ends_is s.registered (unplaced_of s), can.room)
 
 pub pad_room : {L : Type 0} {kinds : Kinds L} {s : Shape L} {after_island : MachLabel} → CanIsland kinds s after_island → aligned (length s.bytes) < code_limit
 pad_room {L} {kinds} {s} {after_island} can =
     let n = length (others_of kinds s after_island) in
-    omega (arith, before_room can n refl, (ends_is s.registered (waiting_of s) (aligned (length s.bytes) + 8 * n)).0)
+    omega (arith, before_room can n refl, (ends_is s.registered (unplaced_of s) (aligned (length s.bytes) + 8 * n)).0)
 
 -- an island's veneers in their order, with the jump's own one where it is needed
 pub record IsReady {L : Type 0} (kinds : Kinds L) (s : Shape L) (p : Inside) (after_island : MachLabel) (order : List ℕ) (needed : Bool) : Type 0 where
@@ -62,29 +62,29 @@ module _ {L : Type 0} {kinds : Kinds L} {s : Shape L} {p : Inside} {after_island
   pub island_can : IsReady kinds s p after_island order needed → CanPutAll kinds (padded s) (with_own needed (length s.uses - 1) order)
   island_can r =
       let start = length_padded s.bytes in
-      let near = aligned_near (length s.bytes) r.sound.even in
+      let near = aligned_near (length s.bytes) r.sound.whole.even in
       let jump = r.can.jump in
       let J = length s.uses - 1 in
       let first : CanPutAt kinds s.uses (aligned (length s.bytes)) J = record { user = jump.jump; there = jump_there jump; supported = jump.supported; near = omega (arith, jump.last, jump.reach) } in
       let none = order_none r.in_order J jump.jump (jump_there jump) (λ h. true≢false (sym h ∙ own_idle kinds s.place after_island jump.jump jump.names)) in
       let slack = slack_from_reach (length s.bytes - 4) (others_of kinds s after_island) r.can.reach in
       let others : (cur : ℕ) → cur ≤ length s.bytes + 10 → CanPut kinds s.uses cur order =
-      λ cur le. let four = r.can.four in can_order cur r.in_order (λ u h. grind (arith, nat_tests)) (reaches_from_slack (length s.bytes - 4) 14 cur _ (omega arith) slack) in
+      λ cur le. let four = r.can.four in can_order cur r.in_order (λ u h. grind (arith, nat_tests)) (reaches_from_slack (length s.bytes - 4) island_front cur _ (omega arith) slack) in
       let all : CanPut kinds s.uses (aligned (length s.bytes)) (with_own needed J order) = elim needed as (λ b. CanPut kinds s.uses (aligned (length s.bytes)) (with_own b J order)) [
         | true ↦ (first, none, others (aligned (length s.bytes) + 8) (omega arith))
         | false ↦ others (aligned (length s.bytes)) (omega arith)
       ] in
       record {
-        linked = linked_bytes r.sound.linked (padding (length s.bytes));
+        linked = linked_bytes r.sound.whole.linked (padding (length s.bytes));
         even = omega (arith, start);
-        ordered = r.sound.ordered;
+        ordered = r.sound.whole.ordered;
         can = rw start all;
         room = rw (start, own_end r) (let room = r.can.room in omega arith);
       }
 
   -- what stands after them and the constants
   island_extended : HasLaw kinds → IsReady kinds s p after_island order needed → Extended kinds (padding (length s.bytes)) (with_own needed (length s.uses - 1) order) s
-  island_extended law r = extended law (padding (length s.bytes)) (with_own needed (length s.uses - 1) order) s r.sound (padding_even (length s.bytes) r.sound.even) (island_can r)
+  island_extended law r = extended law (padding (length s.bytes)) (with_own needed (length s.uses - 1) order) s r.sound.whole (padding_even (length s.bytes) r.sound.whole.even) (island_can r)
 
   -- there is room for zero bytes after the constants
   pub end_room : HasLaw kinds → IsReady kinds s p after_island order needed → aligned (length (put_constants (put_all kinds (with_own needed (length s.uses - 1) order) (padded s))).bytes) < code_limit
@@ -147,8 +147,8 @@ pub record IslandDone {L : Type 0} (kinds : Kinds L) (after_island : MachLabel) 
   pub sound : AreSound kinds new inside
 
 pub island_done : {L : Type 0} {kinds : Kinds L} → HasLaw kinds → (s : Shape L) (p new_p : Inside) (after_island : MachLabel) (order : List ℕ) (needed : Bool) → IsReady kinds s p after_island order needed →
-    new_p.pending.near.numbers.items ≡ [] → new_p.pending.far.numbers.items ≡ [] → new_p.seen ≡ p.seen → IslandDone kinds after_island s (with_label after_island (padded (put_constants (put_all kinds (with_own needed (length s.uses - 1) order) (padded s))))) new_p
-island_done {L} {kinds} law s p new_p after_island order needed r near far seen =
+    HoldNone new_p.pending → new_p.seen ≡ p.seen → IslandDone kinds after_island s (with_label after_island (padded (put_constants (put_all kinds (with_own needed (length s.uses - 1) order) (padded s))))) new_p
+island_done {L} {kinds} law s p new_p after_island order needed r none seen =
     let can = r.can in
     let O = with_own needed (length s.uses - 1) order in
     let x = island_extended law r in
@@ -158,12 +158,12 @@ island_done {L} {kinds} law s p new_p after_island order needed r near far seen 
     let long = length_padded x.bytes in
     let place : ℕ → Option ℕ = placed x.place after_island.number last in
     let end : last ≡ aligned (end_after s (aligned (length s.bytes) + 8 * length O)) = long ∙ ap aligned (rw (length_padded s.bytes) at x.long) in
-    let unbound : x.place after_island.number ≡ None = x.others after_island.number (omega (arith, can.known, r.sound.ordered.few)) ∙ can.unbound in
+    let unbound : x.place after_island.number ≡ None = x.others after_island.number (omega (arith, can.known, r.sound.whole.ordered.few)) ∙ can.unbound in
     let stays : (label to : ℕ) → s.place label ≡ Some to → place label ≡ Some to = λ label to h. grind (arith, nat_tests, x.grows.places label to h) in
     -- the jump is in reach of the end, where it has no veneer; any other use was not pending, or has its veneer
     let idle : (j : ℕ) (u : Use L) → slice_get x.uses j ≡ Some u → is_pending kinds place u ≡ false = x.idle place (λ j u there before none. ⊎_elim
     (λ same. let q = jump_only can.jump j u there same in grind (arith, nat_tests, r.test, placed_same x.place after_island.number last, ap (deadline kinds) q.1))
-    (λ ne. grind (arith, nat_tests, order_has r.in_order j u there, grown_waits kinds s.place place u stays))
+    (λ ne. grind (arith, nat_tests, order_has r.in_order j u there, grown_pending kinds s.place place u stays))
     (cases_eq u.label.number after_island.number)) in
     let island : Islanded kinds after_island s (with_label after_island (padded m)) = record {
       jump = can.jump.jump;
@@ -176,11 +176,15 @@ island_done {L} {kinds} law s p new_p after_island order needed r near far seen 
     } in
     let places : (label at : ℕ) → x.place label ≡ Some at → (at ≤ last) × (at % 2 ≡ 0) × IsUsable s label = λ label at h. let q = x.places label at h in (omega arith, q.1, q.2) in
     let whole : IsWhole kinds (padded m) = record { linked = linked_bytes x.linked pad; even = omega arith; places = places; known = x.known; ordered = x.ordered } in
-    let grows = (lasts_island r.sound.ordered can island).grows in
+    let grows = (lasts_island r.sound.whole.ordered can island).grows in
     let windows : AreWindows kinds s.bytes s.uses → AreWindows kinds (padded m).bytes x.uses = λ w. windows_bytes (x.windows w) pad in
     let lasts = lasts_more (lasts_bytes kinds pad m) (lasts_label kinds after_island (padded m) unbound) in
     let constants : AreWindows kinds s.bytes s.uses → AllStand kinds s → AllStand kinds (with_label after_island (padded m)) = λ w stand. stands_last lasts refl (x.stand (none_reached can needed order r.in_order) w stand) in
-    let wholes = whole_label whole after_island can.known in
-    let kept = kept_none kinds place x.uses new_p.pending near far idle in
-    let noted : AreNoted s.registered s.named new_p.seen = rw seen r.sound.noted in
-    rw x.is assumption
+    rw x.is (record {
+      island = island;
+      grows = grows;
+      own = x.own;
+      windows = windows;
+      constants = constants;
+      sound = record { whole = whole_label whole after_island can.known; kept = kept_none kinds place x.uses new_p.pending none idle; noted = rw seen r.sound.noted };
+    })

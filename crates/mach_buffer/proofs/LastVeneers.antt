@@ -1,13 +1,13 @@
 -- The last veneers: that they can be put, what stands after them, and where each use goes once it is patched.
 use Rattle.std.proofs.Common.{◌≡◌, ◌≢◌, ℕ, zero, suc, ◌+◌, ◌-◌, ◌*◌, ◌%◌, ◌<◌, ◌≤◌, inl, inr, ⊎_elim, true, false, List, [], ◌++◌, length, map, take, drop, Option, Some, None, unwrap_or, refl, ap, sym, ◌∙◌, arith, pos, ◌-ℤ◌}
-use Rattle.mach_buffer.proofs.Words.{nat_tests, take-take, drop-drop, drop-take, length-drop, take_all, true≢false, cases_Bool, false_from_ne_true, slice_get, is_some, code_limit, Kinds, IsVeneer, Patch, Use, first_constant, ConstPlace, Shape, with_bytes, veneer_use, core, waiting_of, IsLinked, end_after, offset_in, AllStand, is_reached, is_pending, is_other, Grows, window, AreWindows, CanPatch, CanPatchAll, IsApart, AllAim, AllKept, KeepsOthers, or_place, patch_of, patches_of, put_all, IsOrder, aligned, padding, is_far, before_last, padded_for, pending_in, last_end, CanFinish, Finishes, Arrives, AllArrive, CanPutAll, Inside, AreSound, MachLabel, length-append, LastPut, CanPut}
+use Rattle.mach_buffer.proofs.Words.{nat_tests, take-take, drop-drop, drop-take, length-drop, take_all, true≢false, cases_Bool, false_from_ne_true, slice_get, is_some, code_limit, Kinds, IsVeneer, Patch, Use, first_constant, ConstPlace, Shape, with_bytes, veneer_use, core, unplaced_of, IsLinked, end_after, offset_in, AllStand, is_reached, is_pending, is_other, Grows, window, AreWindows, CanPatch, CanPatchAll, IsApart, AllAim, AllKept, KeepsOthers, or_place, patch_of, patches_of, put_all, IsOrder, aligned, padding, is_far, before_last, padded_for, pending_in, last_end, CanFinish, Finishes, Arrives, AllArrive, CanPutAll, IsWhole, MachLabel, length-append, LastPut, CanPut}
 use Rattle.mach_buffer.proofs.Links.{HasLaw, linked_bytes}
 use Rattle.mach_buffer.proofs.Lists.{append_none, comes_from, map_each, mapped}
 use Rattle.mach_buffer.proofs.Lasting.{veneers_last}
 use Rattle.mach_buffer.proofs.ConstantOrder.{all_listed, bound_or_named, place_offset}
 use Rattle.mach_buffer.proofs.ConstantsPut.{ends_is, uses_stay}
 use Rattle.mach_buffer.proofs.OrderOfVeneers.{order_none, order_has, order_long, can_order, not_pending}
-use Rattle.mach_buffer.proofs.VeneersAndConstants.{recorded_at, own_labels, length_padded, padding_even, grown_waits, Extended, extended}
+use Rattle.mach_buffer.proofs.VeneersAndConstants.{recorded_at, own_labels, length_padded, padding_even, grown_pending, Extended, extended}
 use Rattle.mach_buffer.proofs.Slack.{reaches_from_each}
 
 -- all that is pending names another label than none
@@ -36,7 +36,7 @@ module _ {L : Type 0} (kinds : Kinds L) (s : Shape L) (order : List ℕ) where
   last_start : IsOrder kinds (is_pending kinds s.place) s.uses order → length (s.bytes ++ (padding_for (length order) s).pad) ≡ length (before_last s.bytes (length (pending_in kinds s)))
   last_start o = ap (length {A = ℕ}) (padding_for (length order) s).bytes ∙ ap (λ n. length (before_last s.bytes n)) (order_long o)
 
-  padded_can : {p : Inside} → AreSound kinds s p → CanFinish kinds s → IsOrder kinds (is_pending kinds s.place) s.uses order → CanPutAll kinds (with_bytes (padding_for (length order) s).pad s) order
+  padded_can : IsWhole kinds s → CanFinish kinds s → IsOrder kinds (is_pending kinds s.place) s.uses order → CanPutAll kinds (with_bytes (padding_for (length order) s).pad s) order
   padded_can sound can o =
       let d = padding_for (length order) s in
       let linked = linked_bytes sound.linked d.pad in
@@ -45,13 +45,13 @@ module _ {L : Type 0} (kinds : Kinds L) (s : Shape L) (order : List ℕ) where
       let room : end_after s (length (s.bytes ++ d.pad) + 8 * length order) < code_limit = rw (last_start o, order_long o) can.short in
       assumption
 
-  pub last_can : {p : Inside} → AreSound kinds s p → CanFinish kinds s → IsOrder kinds (is_pending kinds s.place) s.uses order → CanPutAll kinds (padded_for (length order) s) order
+  pub last_can : IsWhole kinds s → CanFinish kinds s → IsOrder kinds (is_pending kinds s.place) s.uses order → CanPutAll kinds (padded_for (length order) s) order
   last_can sound can o = rw (padding_for (length order) s).is (padded_can sound can o)
 
   pub last_room : CanFinish kinds s → IsOrder kinds (is_pending kinds s.place) s.uses order → (count : ℕ) → count ≡ length order → count ≢ 0 → aligned (length s.bytes) < code_limit
-  last_room can o count e ne = grind (arith, nat_tests, can.short, (ends_is s.registered (waiting_of s) (last_end kinds s)).0, order_long o, length_padded s.bytes)
+  last_room can o count e ne = grind (arith, nat_tests, can.short, (ends_is s.registered (unplaced_of s) (last_end kinds s)).0, order_long o, length_padded s.bytes)
 
--- ---- what stands after the last veneers, and the constants that wait
+-- ---- what stands after the last veneers and the constants
 
 pub some_place : (o : Option ℕ) → is_some o ≡ true → (to : ℕ) × (o ≡ Some to)
 some_place None e = absurd (true≢false (sym e))
@@ -71,7 +71,7 @@ pub record LastDone {L : Type 0} (kinds : Kinds L) (s put : Shape L) : Type 0 wh
   pub listed : map (λ (c : ConstPlace). c.constant) put.constants ≡ s.named
   pub offsets : (number : ℕ) → put.place (first_constant + number) ≡ offset_in put.constants number
 
-pub last_done : {L : Type 0} {kinds : Kinds L} {s put : Shape L} {p : Inside} → HasLaw kinds → AreSound kinds s p → CanFinish kinds s → LastPut kinds s put → LastDone kinds s put
+pub last_done : {L : Type 0} {kinds : Kinds L} {s put : Shape L} → HasLaw kinds → IsWhole kinds s → CanFinish kinds s → LastPut kinds s put → LastDone kinds s put
 last_done {L} {kinds} {s} law sound can e =
     let order = e.order in
     let o = e.in_order in
@@ -80,7 +80,7 @@ last_done {L} {kinds} {s} law sound can e =
     let m : Shape L = record s { bytes = x.bytes; uses = x.uses; place = x.place; constants = x.constants } in
     let long : length x.bytes ≡ end_after s (last_end kinds s) = x.long ∙ (λ i. end_after s (last_start kinds s order o i + 8 * order_long o i)) in
     let Bound : MachLabel → Type 0 = λ l. is_some (x.place l.number) ≡ true in
-    let bound : (j : ℕ) (u : Use L) → slice_get x.uses j ≡ Some u → Bound u.label = own_labels x.own Bound (λ j u h. bound_or_named m x.ordered x.waiting u.label.number (⊎_elim
+    let bound : (j : ℕ) (u : Use L) → slice_get x.uses j ≡ Some u → Bound u.label = own_labels x.own Bound (λ j u h. bound_or_named m x.ordered x.unplaced u.label.number (⊎_elim
     (λ a. inl (let to = some_place (s.place u.label.number) a in ap is_some (x.grows.places u.label.number to.0 to.1)))
     (λ a. inr a)
     (can.bound j u h))) in
@@ -94,10 +94,10 @@ last_done {L} {kinds} {s} law sound can e =
     (cases_Bool (is_far kinds u)) in
     let places : (label at : ℕ) → x.place label ≡ Some at → (at ≤ length x.bytes) × (at % 2 ≡ 0) = λ label at h. let q = x.places label at h in (q.0, q.1) in
     let windows = x.windows can.windows in
-    let idle = x.idle x.place (λ j u there before none. false_from_ne_true (is_pending kinds x.place u) (λ w. order_has o j u there (grown_waits kinds s.place x.place u x.grows.places w) none)) in
+    let idle = x.idle x.place (λ j u there before none. false_from_ne_true (is_pending kinds x.place u) (λ w. order_has o j u there (grown_pending kinds s.place x.place u x.grows.places w) none)) in
     let stand = x.stand (λ j u h reached. order_none o j u h (not_pending kinds s.place u reached)) can.windows can.constants in
-    let listed = all_listed m x.ordered x.waiting in
-    let offsets = place_offset m x.ordered x.waiting (λ label at h. (x.places label at h).2) in
+    let listed = all_listed m x.ordered x.unplaced in
+    let offsets = place_offset m x.ordered x.unplaced (λ label at h. (x.places label at h).2) in
     rw (e.whole, d.is, x.is) assumption
 
 -- a use that isn't pending stays as it is before the patches
@@ -105,7 +105,7 @@ pub finish_keeps : {L : Type 0} {kinds : Kinds L} {s : Shape L} {bytes : List �
 finish_keeps {L} {kinds} {s} f j u h idle =
     let t = put_all kinds f.order (padded_for (length f.order) s) in
     let kept = (veneers_last kinds f.order (with_bytes (padding_for (length f.order) s).pad s)).keeps j u (order_none f.in_order j u h (λ w. true≢false (sym w ∙ idle))) h in
-    ap (λ (x : Shape L). slice_get x.uses j) f.whole ∙ ap (λ (us : List (Use L)). slice_get us j) (uses_stay (waiting_of t) t) ∙ (rw (padding_for (length f.order) s).is kept)
+    ap (λ (x : Shape L). slice_get x.uses j) f.whole ∙ ap (λ (us : List (Use L)). slice_get us j) (uses_stay (unplaced_of t) t) ∙ (rw (padding_for (length f.order) s).is kept)
 
 -- ---- from there to where each use goes
 

@@ -1,6 +1,6 @@
--- What the order of veneers tells of uses, that each reaches its veneer, and how sorted keys give the order.
-use Rattle.std.proofs.Common.{◌≡◌, ◌≢◌, ℕ, suc, ◌+◌, ◌<◌, ◌≤◌, Bool, true, cond, List, [], ◌∷◌, length, map, Option, Some, refl, ap, sym, ◌∙◌, arith, false, ◌++◌, None, subst, Ordering}
-use Rattle.mach_buffer.proofs.Words.{nat_tests, get_or_from_slice_get, length-map, map-append, is_count_by, IsPermutation-map, length_permutation, sum_by-IsPermutation, ranks_by, sorted_far, IsPermutation-trans, All-permutation, nat_cmp_total, on_total, then_total, All-map, slice_get, nat_le, IsPermutation, slice_index_or, filter, IsSorted, Kinds, Use, is_reached, is_pending, deadlines, due_by, StillReaches, is_other, numbers_of, by_deadline, by_place, by_number, IsOrder, deadline_in, deadline_at, test_at, keys_where, is_near, is_queued, is_other_queued, key_number, Keeps, AreKept, IsNone, CanPut, IsStrictWeakOrder, nat_cmp, ordering_then, is_lt, MachLabel, PendingKey, Pending}
+-- What the order of veneers says of uses, that each reaches its veneer, and how sorted keys give the order.
+use Rattle.std.proofs.Common.{◌≡◌, ◌≢◌, ℕ, suc, ◌+◌, ◌<◌, ◌≤◌, Bool, true, cond, List, [], ◌∷◌, length, map, Option, Some, refl, ap, sym, ◌∙◌, arith, false, ◌++◌, None, subst, Ordering, not, ◌&&◌, append_assoc}
+use Rattle.mach_buffer.proofs.Words.{nat_tests, get_or_from_slice_get, length-map, map-append, is_count_by, IsPermutation-map, length_permutation, sum_by-IsPermutation, ranks_by, sorted_far, IsPermutation-append_right, IsPermutation-trans, All-permutation, nat_cmp_total, on_total, then_total, All-map, slice_get, nat_eq, nat_le, IsPermutation, slice_index_or, filter, IsSorted, Kinds, Use, is_reached, is_pending, deadlines, due_by, StillReaches, is_other, numbers_of, by_deadline, by_place, by_number, IsOrder, deadline_in, deadline_at, test_at, keys_where, is_queued, queue_of, is_other_queued, key_number, Keeps, AreKept, IsNone, CanPut, IsStrictWeakOrder, nat_cmp, ordering_then, is_lt, MachLabel, PendingKey, Pending}
 use Rattle.mach_buffer.proofs.Slack.{reaches_next, reaches_due}
 use Rattle.mach_buffer.proofs.QueueContents.{IsNumber, number_is, numbers_differ, number_there, none_by, deadlines_from, numbers_parts, keeps_fewer}
 use Rattle.mach_buffer.proofs.Lists.{below, comes_from}
@@ -88,21 +88,33 @@ in_order ts up a b s t lt ha hb =
     let there : is_lt (key_cmp (slice_index_or ts b s) (slice_index_or ts a s)) ≡ is_lt (key_cmp t s) = λ i. is_lt (key_cmp (get_or_from_slice_get ts b t s hb i) (get_or_from_slice_get ts a s s ha i)) in
     sym there ∙ sorted_far (λ c d. is_lt (key_cmp c d)) key_order ts up a b s (omega arith) (below ts b t hb)
 
--- ---- the order of both queues
+-- ---- the order of all queues
+
+-- the numbers of a test are those of its uses in each queue
+numbers_queues : {L : Type 0} (kinds : Kinds L) (place : ℕ → Option ℕ) (after_island : Option MachLabel) (uses : List (Use L)) → let Q : ℕ → Use L → Bool = λ n. is_other_queued kinds place n after_island in IsPermutation (numbers_of (is_other kinds place after_island) uses) (numbers_of (Q 0) uses ++ numbers_of (Q 1) uses ++ numbers_of (Q 2) uses)
+numbers_queues {L} kinds place after_island uses =
+    let test = is_other kinds place after_island in
+    let Q : ℕ → Use L → Bool = λ n. is_other_queued kinds place n after_island in
+    let rest : Use L → Bool = λ u. test u && not (nat_eq (queue_of kinds u) 0) in
+    let first = numbers_parts test (Q 0) rest (λ u. nat_eq (queue_of kinds u) 0) (λ u. grind (arith, nat_tests)) (λ u. refl) 0 uses in
+    let second = numbers_parts rest (Q 1) (Q 2) (λ u. nat_eq (queue_of kinds u) 1) (λ u. grind (arith, nat_tests)) (λ u. grind (arith, nat_tests)) 0 uses in
+    let both = IsPermutation-append_right (numbers_of (Q 0) uses) (numbers_of rest uses) (numbers_of (Q 1) uses ++ numbers_of (Q 2) uses) second in
+    IsPermutation-trans (numbers_of test uses) (numbers_of (Q 0) uses ++ numbers_of rest uses) (numbers_of (Q 0) uses ++ numbers_of (Q 1) uses ++ numbers_of (Q 2) uses) first (rw (append_assoc (numbers_of (Q 0) uses) (numbers_of (Q 1) uses) (numbers_of (Q 2) uses)) both)
 
 module _ {L : Type 0} {kinds : Kinds L} {place : ℕ → Option ℕ} {uses : List (Use L)} {p : Pending} where
-  pub order_is : (after_island : Option MachLabel) (near_keys keys sorted : List PendingKey) → AreKept kinds place uses p → near_keys ≡ [] ++ keys_where kinds (is_other_queued kinds place true after_island) uses p.near.numbers.items →
-      keys ≡ near_keys ++ keys_where kinds (is_other_queued kinds place false after_island) uses p.far.numbers.items → IsPermutation keys sorted → IsSorted key_cmp sorted → IsOrder kinds (is_other kinds place after_island) uses (map key_number sorted)
-  order_is after_island near_keys keys sorted k en et perm up =
-      let Q : Bool → Use L → Bool = λ near. is_other_queued kinds place near after_island in
+  pub order_is : (after_island : Option MachLabel) (short_keys near_keys keys sorted : List PendingKey) → let Q : ℕ → Use L → Bool = λ n. is_other_queued kinds place n after_island in AreKept kinds place uses p → short_keys ≡ [] ++ keys_where kinds (Q 0) uses p.short.numbers.items →
+      near_keys ≡ short_keys ++ keys_where kinds (Q 1) uses p.near.numbers.items → keys ≡ near_keys ++ keys_where kinds (Q 2) uses p.far.numbers.items → IsPermutation keys sorted → IsSorted key_cmp sorted → IsOrder kinds (is_other kinds place after_island) uses (map key_number sorted)
+  order_is after_island short_keys near_keys keys sorted k es en et perm up =
+      let Q : ℕ → Use L → Bool = λ n. is_other_queued kinds place n after_island in
       let K : ℕ → PendingKey = key_at kinds uses in
-      let N = numbers_of (Q true) uses ++ numbers_of (Q false) uses in
-      let queue : (near : Bool) (ns : List ℕ) (slack : ℕ) → Keeps kinds (is_queued kinds place near) uses ns slack → keys_where kinds (Q near) uses ns ≡ map K (numbers_of (Q near) uses) =
-      λ near ns slack q. keys_are kinds (Q near) uses ns ∙ ap (map K) (keeps_fewer (Q near) (λ u h. grind (arith, nat_tests)) q).same in
-      let whole : keys ≡ map K N = et ∙ (λ i. (en ∙ queue true _ _ k.near) i ++ queue false _ _ k.far i) ∙ sym (map-append K (numbers_of (Q true) uses) (numbers_of (Q false) uses)) in
-      let parts = numbers_parts (is_other kinds place after_island) (Q true) (Q false) (is_near kinds) (λ u. grind (arith, nat_tests)) (λ u. grind (arith, nat_tests)) 0 uses in
+      let N = (numbers_of (Q 0) uses ++ numbers_of (Q 1) uses) ++ numbers_of (Q 2) uses in
+      let queue : (n : ℕ) (ns : List ℕ) (slack : ℕ) → Keeps kinds (is_queued kinds place n) uses ns slack → keys_where kinds (Q n) uses ns ≡ map K (numbers_of (Q n) uses) =
+      λ n ns slack q. keys_are kinds (Q n) uses ns ∙ ap (map K) (keeps_fewer (Q n) (λ u h. grind (arith, nat_tests)) q).same in
+      let first : short_keys ≡ map K (numbers_of (Q 0) uses) = es ∙ queue 0 _ _ k.short in
+      let second : near_keys ≡ map K (numbers_of (Q 0) uses ++ numbers_of (Q 1) uses) = en ∙ (λ i. first i ++ queue 1 _ _ k.near i) ∙ sym (map-append K (numbers_of (Q 0) uses) (numbers_of (Q 1) uses)) in
+      let whole : keys ≡ map K N = et ∙ (λ i. second i ++ queue 2 _ _ k.far i) ∙ sym (map-append K (numbers_of (Q 0) uses ++ numbers_of (Q 1) uses) (numbers_of (Q 2) uses)) in
       let exactly : IsPermutation (numbers_of (is_other kinds place after_island) uses) (map key_number sorted) =
-      IsPermutation-trans _ N (map key_number sorted) parts (rw (whole, numbers_back kinds uses N) at (IsPermutation-map key_number keys sorted perm)) in
+      IsPermutation-trans _ N (map key_number sorted) (numbers_queues kinds place after_island uses) (rw (whole, numbers_back kinds uses N) at (IsPermutation-map key_number keys sorted perm)) in
       -- each key is that of the use of its number
       let IsKey : PendingKey → Type 0 = λ t. K t.index ≡ t in
       let each : (j : ℕ) (t : PendingKey) → slice_get sorted j ≡ Some t → K t.index ≡ t = λ j t h.

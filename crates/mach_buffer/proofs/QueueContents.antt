@@ -1,6 +1,6 @@
 -- Uses by their numbers, and the queues of pending uses, as uses and labels come, and the search in them for a deadline that might be missed.
 use Rattle.std.proofs.Common.{◌≡◌, ℕ, ◌+◌, ◌*◌, ◌<◌, ◌≤◌, Bool, true, false, List, [], ◌∷◌, ◌++◌, length, map, Option, Some, None, ap, sym, ◌∙◌, arith, ◌-◌, refl, ◌≢◌, zero, suc, not, ◌&&◌, cond, take, get_or, append_assoc, add-one}
-use Rattle.mach_buffer.proofs.Words.{nat_tests, and_left, true_from_ne_false, nil_from_length, length-append, map-append, length-map, filter-append, is_count_by, count_by-le-length, IsPermutation-refl, slice_get, filter, count_by, is_some, Kinds, Use, Pending, deadline, is_pending, deadlines, due_by, HasSlack, AllOf, is_needed_from, numbers_of, test_at, use_where, is_due_at, deadline_at, is_near, on_side, is_queued, slack_after, Keeps, AreKept, due_in, shows_slack, true≢false, get_or_from_slice_get, slice_get-get_or, length_push, length-take-le, get_or-take, get_or-le-sum_by, sum_by_more_le, IsPermutation-cons, IsPermutation-sym, IsPermutation-trans, IsPermutation-middle, sum_by-IsPermutation, nat_eq, IsPermutation, numbers_from, passes, IsNone}
+use Rattle.mach_buffer.proofs.Words.{nat_tests, and_left, true_from_ne_false, nil_from_length, length-append, map-append, length-map, filter-append, is_count_by, count_by-le-length, IsPermutation-refl, slice_get, filter, count_by, is_some, Kinds, Use, Pending, deadline, is_pending, deadlines, due_by, HasSlack, AllOf, island_margin, is_needed_from, numbers_of, test_at, use_where, is_due_at, deadline_at, is_queued, queue_of, HoldNone, slack_after, Keeps, AreKept, due_in, shows_slack, true≢false, get_or_from_slice_get, slice_get-get_or, length_push, length-take-le, get_or-take, get_or-le-sum_by, sum_by_more_le, IsPermutation-cons, IsPermutation-sym, IsPermutation-trans, IsPermutation-middle, sum_by-IsPermutation, nat_eq, IsPermutation, numbers_from, passes, IsNone}
 use Rattle.mach_buffer.proofs.Lists.{below, append_each, append_none, slice_get-append_last, slice_get-append, slice_get-append_at}
 use Rattle.mach_buffer.proofs.Slack.{due_append, due_fewer, due_le_length, deadlines_append, slack_same, none_from, each_due, slack_not_needed}
 
@@ -136,7 +136,7 @@ module _ {L : Type 0} {kinds : Kinds L} {test : Use L → Bool} {uses : List (Us
 
   -- and one that is
   pub keeps_push : (u : Use L) → test u ≡ true → Keeps kinds test uses numbers slack → Keeps kinds test (uses ++ u ∷ []) (numbers ++ length uses ∷ []) (slack_after slack (deadline kinds u) (length numbers + 1))
-  keeps_push u waits k =
+  keeps_push u holds k =
       let long = length-append uses (u ∷ []) in
       let few = kept_few k in
       let last = slice_get-append_last uses u in
@@ -176,56 +176,57 @@ module _ {L : Type 0} {kinds : Kinds L} {test : Use L → Bool} {uses : List (Us
       let same = numbers_fewer test test (λ u h. h) [] uses in
       grind (arith, deadlines_from kinds test [] uses)
 
--- ---- both queues
+-- ---- all queues
 
 -- nothing is pending
-pub kept_none : {L : Type 0} (kinds : Kinds L) (place : ℕ → Option ℕ) (uses : List (Use L)) (p : Pending) → p.near.numbers.items ≡ [] → p.far.numbers.items ≡ [] → ((j : ℕ) (u : Use L) → slice_get uses j ≡ Some u → is_pending kinds place u ≡ false) → AreKept kinds place uses p
-kept_none {L} kinds place uses p near far idle =
-    let not_queued : (near : Bool) (j : ℕ) (u : Use L) → slice_get uses j ≡ Some u → is_queued kinds place near u ≡ false = λ near j u h. and_left (is_pending kinds place u) (on_side near (is_near kinds u)) (idle j u h) in
-    record { near = keeps_none kinds _ uses _ _ near (not_queued true); far = keeps_none kinds _ uses _ _ far (not_queued false) }
+pub kept_none : {L : Type 0} (kinds : Kinds L) (place : ℕ → Option ℕ) (uses : List (Use L)) (p : Pending) → HoldNone p → ((j : ℕ) (u : Use L) → slice_get uses j ≡ Some u → is_pending kinds place u ≡ false) → AreKept kinds place uses p
+kept_none {L} kinds place uses p none idle =
+    let not_queued : (n : ℕ) (j : ℕ) (u : Use L) → slice_get uses j ≡ Some u → is_queued kinds place n u ≡ false = λ n j u h. and_left (is_pending kinds place u) (nat_eq (queue_of kinds u) n) (idle j u h) in
+    record { short = keeps_none kinds _ uses _ _ none.short (not_queued 0); near = keeps_none kinds _ uses _ _ none.near (not_queued 1); far = keeps_none kinds _ uses _ _ none.far (not_queued 2) }
 
 -- fewer are pending
 pub kept_fewer : {L : Type 0} {kinds : Kinds L} {place : ℕ → Option ℕ} {uses : List (Use L)} {p : Pending} (new_place : ℕ → Option ℕ) → ((u : Use L) → is_pending kinds new_place u ≡ true → is_pending kinds place u ≡ true) → AreKept kinds place uses p → AreKept kinds new_place uses p
 kept_fewer {L} {kinds} {place} {uses} {p} new_place sub k =
-    let side : (near : Bool) (u : Use L) → is_queued kinds new_place near u ≡ true → is_queued kinds place near u ≡ true = λ near u h. grind (arith, nat_tests, sub u) in
-    record { near = keeps_fewer (is_queued kinds new_place true) (side true) k.near; far = keeps_fewer (is_queued kinds new_place false) (side false) k.far }
+    let queue : (n : ℕ) (u : Use L) → is_queued kinds new_place n u ≡ true → is_queued kinds place n u ≡ true = λ n u h. grind (arith, nat_tests, sub u) in
+    record { short = keeps_fewer (is_queued kinds new_place 0) (queue 0) k.short; near = keeps_fewer (is_queued kinds new_place 1) (queue 1) k.near; far = keeps_fewer (is_queued kinds new_place 2) (queue 2) k.far }
 
--- ---- the pending uses are those of both queues
+-- ---- the pending uses are those of all queues
 
-pub due_parts : {L : Type 0} (kinds : Kinds L) (place : ℕ → Option ℕ) (uses : List (Use L)) (end : ℕ) → due_in kinds place uses end ≡ due_by end (deadlines (is_queued kinds place true) kinds uses) + due_by end (deadlines (is_queued kinds place false) kinds uses)
+pub due_parts : {L : Type 0} (kinds : Kinds L) (place : ℕ → Option ℕ) (uses : List (Use L)) (end : ℕ) → due_in kinds place uses end ≡ due_by end (deadlines (is_queued kinds place 0) kinds uses) + due_by end (deadlines (is_queued kinds place 1) kinds uses) + due_by end (deadlines (is_queued kinds place 2) kinds uses)
 due_parts kinds place [] end = refl
 due_parts kinds place (u ∷ uses) end = grind (arith, nat_tests, due_parts kinds place uses end)
 
-pub count_parts : {L : Type 0} (kinds : Kinds L) (place : ℕ → Option ℕ) (uses : List (Use L)) → length (deadlines (is_pending kinds place) kinds uses) ≡ length (deadlines (is_queued kinds place true) kinds uses) + length (deadlines (is_queued kinds place false) kinds uses)
+pub count_parts : {L : Type 0} (kinds : Kinds L) (place : ℕ → Option ℕ) (uses : List (Use L)) → length (deadlines (is_pending kinds place) kinds uses) ≡ length (deadlines (is_queued kinds place 0) kinds uses) + length (deadlines (is_queued kinds place 1) kinds uses) + length (deadlines (is_queued kinds place 2) kinds uses)
 count_parts kinds place [] = refl
 count_parts kinds place (u ∷ uses) = grind (arith, nat_tests, count_parts kinds place uses)
 
 -- ---- where slack is and isn't
 
-not_needed_from : (cur : ℕ) (all ds : List ℕ) → AllOf (λ d. cur + 30 + 8 * due_by d all ≤ d) ds → is_needed_from cur all ds ≡ false
+not_needed_from : (cur : ℕ) (all ds : List ℕ) → AllOf (λ d. cur + island_margin + 8 * due_by d all ≤ d) ds → is_needed_from cur all ds ≡ false
 not_needed_from cur all [] h = refl
 not_needed_from cur all (d ∷ ds) h = grind (arith, nat_tests, h.0, not_needed_from cur all ds h.1)
 
-pub not_needed : (cur : ℕ) (ds : List ℕ) → HasSlack cur 30 ds → is_needed_from cur ds ds ≡ false
-not_needed cur ds h = not_needed_from cur ds ds (each_due (λ d. cur + 30 + 8 * due_by d ds ≤ d) ds ds (λ end. omega arith) h.each)
+pub not_needed : (cur : ℕ) (ds : List ℕ) → HasSlack cur island_margin ds → is_needed_from cur ds ds ≡ false
+not_needed cur ds h = not_needed_from cur ds ds (each_due (λ d. cur + island_margin + 8 * due_by d ds ≤ d) ds ds (λ end. omega arith) h.each)
 
 module _ {L : Type 0} {kinds : Kinds L} {place : ℕ → Option ℕ} {uses : List (Use L)} {p : Pending} where
   -- no island is needed then
-  pub slack_shown : AreKept kinds place uses p → (start : ℕ) → 30 ≤ start → shows_slack p start ≡ true → is_needed_from (start - 30) (deadlines (is_pending kinds place) kinds uses) (deadlines (is_pending kinds place) kinds uses) ≡ false
+  pub slack_shown : AreKept kinds place uses p → (start : ℕ) → island_margin ≤ start → shows_slack p start ≡ true → is_needed_from (start - island_margin) (deadlines (is_pending kinds place) kinds uses) (deadlines (is_pending kinds place) kinds uses) ≡ false
   slack_shown k start some shows =
       let sum = due_parts kinds place uses in
-      let few = kept_few k.near in
-      not_needed (start - 30) (deadlines (is_pending kinds place) kinds uses) (record { each = λ end one. grind (arith, nat_tests, due_le_length) })
+      let short = kept_few k.short in
+      let near = kept_few k.near in
+      not_needed (start - island_margin) (deadlines (is_pending kinds place) kinds uses) (record { each = λ end one. grind (arith, nat_tests, due_le_length) })
 
 -- wherever too many are due, at most so many are
 pub record IsBound (start count : ℕ) (ds : List ℕ) : Type 0 where
   pub each : (end : ℕ) → end < start + 8 * due_by end ds → due_by end ds ≤ count
 
-pub bound_none : (start : ℕ) (ds : List ℕ) → 30 ≤ start → IsBound start 0 ds → is_needed_from (start - 30) ds ds ≡ false
-bound_none start ds some b = not_needed (start - 30) ds (record { each = λ end one. grind (arith, nat_tests, b.each end) })
+pub bound_none : (start : ℕ) (ds : List ℕ) → island_margin ≤ start → IsBound start 0 ds → is_needed_from (start - island_margin) ds ds ≡ false
+bound_none start ds some b = not_needed (start - island_margin) ds (record { each = λ end one. grind (arith, nat_tests, b.each end) })
 
-pub bound_many : (start count due end : ℕ) (ds : List ℕ) → 30 ≤ start → 1 ≤ count → end + 1 ≡ start + 8 * count → due ≡ due_by end ds → count ≤ due → is_needed_from (start - 30) ds ds ≡ true
-bound_many start count due end ds some one e d many = true_from_ne_false (is_needed_from (start - 30) ds ds) (λ q.
-    let same : (start - 30) + 0 ≡ start - 30 = omega arith in
-    let h = slack_not_needed (start - 30) 0 ds (ap (λ (n : ℕ). is_needed_from n ds ds) same ∙ q) in
+pub bound_many : (start count due end : ℕ) (ds : List ℕ) → island_margin ≤ start → 1 ≤ count → end + 1 ≡ start + 8 * count → due ≡ due_by end ds → count ≤ due → is_needed_from (start - island_margin) ds ds ≡ true
+bound_many start count due end ds some one e d many = true_from_ne_false (is_needed_from (start - island_margin) ds ds) (λ q.
+    let same : (start - island_margin) + 0 ≡ start - island_margin = omega arith in
+    let h = slack_not_needed (start - island_margin) 0 ds (ap (λ (n : ℕ). is_needed_from n ds ds) same ∙ q) in
     absurd (omega (arith, h.each end)))

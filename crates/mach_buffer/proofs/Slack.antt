@@ -1,6 +1,6 @@
 -- Deadlines and the room before them.
 use Rattle.std.proofs.Common.{◌≡◌, ◌≢◌, ℕ, zero, suc, ◌+◌, ◌*◌, ◌≤◌, Bool, true, false, List, [], ◌∷◌, ◌++◌, length, Option, Some, None, refl, subst, ⊎_elim, arith}
-use Rattle.mach_buffer.proofs.Words.{nat_tests, cases_lt, or_parts, Use, slice_get, Kinds, AllOf, CanReach, VeneersReach, StillReaches, deadline, is_pending, deadlines, due_by, HasSlack, is_needed_from, is_needed}
+use Rattle.mach_buffer.proofs.Words.{nat_tests, cases_lt, or_parts, Use, slice_get, Kinds, AllOf, CanReach, VeneersReach, StillReaches, deadline, is_pending, deadlines, due_by, HasSlack, island_front, island_margin, is_needed_from, is_needed}
 
 -- ---- how many are due
 
@@ -53,12 +53,12 @@ each_due P all [] part h = tt
 each_due P all (d ∷ ds) part h = (h d (grind (arith, nat_tests, part d)), each_due P all ds (λ end. grind (arith, nat_tests, part end)) h)
 
 -- where no island is needed before so many bytes, there is slack for them
-not_needed_each : (cur : ℕ) (all ds : List ℕ) → is_needed_from cur all ds ≡ false → AllOf (λ d. cur + 30 + 8 * due_by d all ≤ d) ds
+not_needed_each : (cur : ℕ) (all ds : List ℕ) → is_needed_from cur all ds ≡ false → AllOf (λ d. cur + island_margin + 8 * due_by d all ≤ d) ds
 not_needed_each cur all [] h = tt
 not_needed_each cur all (d ∷ ds) h = (grind (arith, nat_tests), not_needed_each cur all ds (or_parts _ _ h).1)
 
-pub slack_not_needed : (cur distance : ℕ) (ds : List ℕ) → is_needed cur distance ds ≡ false → HasSlack (cur + distance) 30 ds
-slack_not_needed cur distance ds h = record { each = each_end (λ d n. cur + distance + 30 + 8 * n ≤ d) (λ d n le. omega arith) ds (not_needed_each (cur + distance) ds ds h) }
+pub slack_not_needed : (cur distance : ℕ) (ds : List ℕ) → is_needed cur distance ds ≡ false → HasSlack (cur + distance) island_margin ds
+slack_not_needed cur distance ds h = record { each = each_end (λ d n. cur + distance + island_margin + 8 * n ≤ d) (λ d n le. omega arith) ds (not_needed_each (cur + distance) ds ds h) }
 
 -- ---- the deadlines of uses
 
@@ -67,15 +67,15 @@ pub deadlines_append : {L : Type 0} (test : Use L → Bool) (kinds : Kinds L) (u
 deadlines_append test kinds [] more = refl
 deadlines_append test kinds (u ∷ uses) more = grind (arith, nat_tests, deadlines_append test kinds uses more)
 
--- a label is bound: fewer wait
+-- a label is bound: fewer uses are pending
 pub due_fewer : {L : Type 0} (test new_test : Use L → Bool) (kinds : Kinds L) (end : ℕ) (uses : List (Use L)) → ((u : Use L) → new_test u ≡ true → test u ≡ true) → due_by end (deadlines new_test kinds uses) ≤ due_by end (deadlines test kinds uses)
 due_fewer test new_test kinds end [] h = omega arith
 due_fewer test new_test kinds end (u ∷ uses) h = grind (arith, nat_tests, h u, due_fewer test new_test kinds end uses h)
 
--- bound where none was: what is pending now waited before
-pub bound_waits : {L : Type 0} (kinds : Kinds L) (place new_place : ℕ → Option ℕ) (label : ℕ) → place label ≡ None → ((other : ℕ) → other ≢ label → new_place other ≡ place other) → (u : Use L) →
+-- bound where none was: what is pending now was pending before
+pub bound_pending : {L : Type 0} (kinds : Kinds L) (place new_place : ℕ → Option ℕ) (label : ℕ) → place label ≡ None → ((other : ℕ) → other ≢ label → new_place other ≡ place other) → (u : Use L) →
     is_pending kinds new_place u ≡ true → is_pending kinds place u ≡ true
-bound_waits kinds place new_place label none kept u h = grind (arith, nat_tests, none, kept u.label.number)
+bound_pending kinds place new_place label none kept u h = grind (arith, nat_tests, none, kept u.label.number)
 
 -- a use is recorded: eight bytes of slack for it
 pub slack_use : {L : Type 0} (test : Use L → Bool) (kinds : Kinds L) (cur slack : ℕ) (uses : List (Use L)) (u : Use L) → cur + slack + 8 ≤ deadline kinds u → HasSlack cur (slack + 8) (deadlines test kinds uses) → HasSlack cur slack (deadlines test kinds (uses ++ u ∷ []))
@@ -98,12 +98,12 @@ reaches_from_slack cur slack new_cur ds le h = record { each = λ end one. let g
 pub veneers_reach : (start : ℕ) (ds : List ℕ) → StillReaches start ds → VeneersReach start ds
 veneers_reach start ds h = each_due (λ d. start + 8 * due_by d ds ≤ d + 8) ds ds (λ end. omega arith) h.each
 
--- Reach is slack of 14 bytes
-pub slack_from_reach : (cur : ℕ) (ds : List ℕ) → CanReach cur ds → HasSlack cur 14 ds
-slack_from_reach cur ds h = record { each = each_end (λ d n. cur + 14 + 8 * n ≤ d) (λ d n le. omega arith) ds h }
+-- Reach is slack of an island's front
+pub slack_from_reach : (cur : ℕ) (ds : List ℕ) → CanReach cur ds → HasSlack cur island_front ds
+slack_from_reach cur ds h = record { each = each_end (λ d n. cur + island_front + 8 * n ≤ d) (λ d n le. omega arith) ds h }
 
-pub reach_from_slack : (cur : ℕ) (ds : List ℕ) → HasSlack cur 14 ds → CanReach cur ds
-reach_from_slack cur ds h = each_due (λ d. cur + 14 + 8 * due_by d ds ≤ d) ds ds (λ end. omega arith) h.each
+pub reach_from_slack : (cur : ℕ) (ds : List ℕ) → HasSlack cur island_front ds → CanReach cur ds
+reach_from_slack cur ds h = each_due (λ d. cur + island_front + 8 * due_by d ds ≤ d) ds ds (λ end. omega arith) h.each
 
 -- ---- counts that agree everywhere
 
@@ -115,14 +115,19 @@ pub due_total : (ds : List ℕ) (end : ℕ) → total ds ≤ end → due_by end 
 due_total [] end le = refl
 due_total (d ∷ ds) end le = grind (arith, nat_tests, due_total ds end)
 
-pub none_waits : {L : Type 0} (test : Use L → Bool) (kinds : Kinds L) (uses : List (Use L)) → deadlines test kinds uses ≡ [] → (j : ℕ) (u : Use L) → slice_get uses j ≡ Some u → test u ≡ false
-none_waits test kinds [] e j u h = absurd (cc)
-none_waits test kinds (w ∷ uses) e zero u h = grind (arith, nat_tests)
-none_waits test kinds (w ∷ uses) e (suc j) u h = grind (arith, nat_tests, none_waits test kinds uses)
+pub none_pending : {L : Type 0} (test : Use L → Bool) (kinds : Kinds L) (uses : List (Use L)) → deadlines test kinds uses ≡ [] → (j : ℕ) (u : Use L) → slice_get uses j ≡ Some u → test u ≡ false
+none_pending test kinds [] e j u h = absurd (cc)
+none_pending test kinds (w ∷ uses) e zero u h = grind (arith, nat_tests)
+none_pending test kinds (w ∷ uses) e (suc j) u h = grind (arith, nat_tests, none_pending test kinds uses)
 
 pub none_from : {L : Type 0} (test : Use L → Bool) (kinds : Kinds L) (uses : List (Use L)) → ((j : ℕ) (u : Use L) → slice_get uses j ≡ Some u → test u ≡ false) → deadlines test kinds uses ≡ []
 none_from test kinds [] h = refl
 none_from test kinds (w ∷ uses) h = rw (h 0 w refl) (none_from test kinds uses (λ j u e. h (suc j) u e))
+
+-- no more than there are uses
+pub deadlines_few : {L : Type 0} (test : Use L → Bool) (kinds : Kinds L) (uses : List (Use L)) → length (deadlines test kinds uses) ≤ length uses
+deadlines_few test kinds [] = omega arith
+deadlines_few test kinds (u ∷ uses) = grind (arith, nat_tests, deadlines_few test kinds uses)
 
 pub due_le_length : (end : ℕ) (ds : List ℕ) → due_by end ds ≤ length ds
 due_le_length end [] = omega arith

@@ -1,28 +1,20 @@
 -- A sound buffer, as calls are made.
 use Rattle.std.proofs.Common.{Bool, inl, ◌<◌, ◌≡◌, ℕ, ◌+◌, ◌%◌, ◌≤◌, List, [], ◌∷◌, ◌++◌, length, Some, None, sym, subst, arith, ⊎_elim}
-use Rattle.mach_buffer.proofs.Words.{cases_eq, length-append, slice_get, Kinds, MachLabel, Constant, VCodeConstant, Use, Pending, Shape, with_bytes, with_use, with_label, with_allocated, with_named, with_registered, name_more, placed, inner_count, IsKnown, IsUsable, IsOrdered, AreNoted, is_pending, due_by, IsLinked, pending_in, AreKept, Inside, AreSound, nat_tests, AreOrdered}
+use Rattle.mach_buffer.proofs.Words.{cases_eq, length-append, slice_get, Kinds, MachLabel, Constant, VCodeConstant, Use, Pending, Shape, with_bytes, with_use, with_label, with_allocated, with_named, with_registered, name_more, placed, inner_count, IsKnown, IsUsable, IsOrdered, AreNoted, is_pending, due_by, IsLinked, pending_in, AreKept, HoldNone, Inside, AreSound, IsWhole, nat_tests, AreOrdered}
 use Rattle.mach_buffer.proofs.ConstantOrder.{placed_other, ordered_named}
 use Rattle.mach_buffer.proofs.QueueContents.{kept_none, kept_fewer}
 use Rattle.mach_buffer.proofs.Links.{linked_bytes, linked_use}
 use Rattle.mach_buffer.proofs.Lists.{append_each, slice_get-append}
-use Rattle.mach_buffer.proofs.Slack.{bound_waits, due_fewer}
+use Rattle.mach_buffer.proofs.Slack.{bound_pending, due_fewer}
 
 -- a buffer in which nothing is
 abbrev pub empty : {L : Type 0} → Shape L
 empty = record { bytes = []; uses = []; place = λ label. None; labels = []; allocated = 0; records = []; registered = []; named = []; constants = [] }
 
-pub sound_none : {L : Type 0} (kinds : Kinds L) (p : Inside) → p.pending.near.numbers.items ≡ [] → p.pending.far.numbers.items ≡ [] → p.seen ≡ [] → AreSound kinds empty p
-sound_none {L} kinds p near far seen =
-    let kept = kept_none {L = L} kinds (λ label. None) [] p.pending near far (λ j u h. absurd (cc)) in
+pub sound_none : {L : Type 0} (kinds : Kinds L) (p : Inside) → HoldNone p.pending → p.seen ≡ [] → AreSound kinds empty p
+sound_none {L} kinds p none seen =
+    let kept = kept_none {L = L} kinds (λ label. None) [] p.pending none (λ j u h. absurd (cc)) in
     grind (arith, nat_tests)
-
--- all that holds of a sound buffer but for its queues
-pub record IsWhole {L : Type 0} (kinds : Kinds L) (s : Shape L) : Type 0 where
-  pub linked : IsLinked kinds s.bytes s.uses
-  pub even : length s.bytes % 2 ≡ 0
-  pub places : (label at : ℕ) → s.place label ≡ Some at → (at ≤ length s.bytes) × (at % 2 ≡ 0) × IsUsable s label
-  pub known : (j : ℕ) (u : Use L) → slice_get s.uses j ≡ Some u → IsUsable s u.label.number
-  pub ordered : IsOrdered s
 
 -- a label is bound
 pub whole_label : {L : Type 0} {kinds : Kinds L} {s : Shape L} → IsWhole kinds s → (label : MachLabel) → IsKnown label.number s.allocated → IsWhole kinds (with_label label s)
@@ -35,52 +27,62 @@ whole_label {L} {kinds} {s} h label known =
     let ordered : AreOrdered s.allocated (placed s.place label.number (length s.bytes)) s.registered s.named s.constants = grind (arith, nat_tests) in
     assumption
 
+-- a label that may be used still may once a constant is named
+usable_named : {L : Type 0} (s : Shape L) (k : VCodeConstant) (label : ℕ) → IsUsable s label → IsUsable (with_named k s) label
+usable_named s k label u = grind (arith, nat_tests, slice_get-append)
+
+-- fewer uses are due once a label is bound
+pub label_fewer : {L : Type 0} (kinds : Kinds L) (s : Shape L) (label : MachLabel) → s.place label.number ≡ None → (t : Shape L) → t ≡ with_label label s → (end : ℕ) → due_by end (pending_in kinds t) ≤ due_by end (pending_in kinds s)
+label_fewer kinds s label none t e end = rw e (due_fewer (is_pending kinds s.place) (is_pending kinds (placed s.place label.number (length s.bytes))) kinds end s.uses (bound_pending kinds s.place _ label.number none (placed_other s.place label.number (length s.bytes))))
+
 module _ {L : Type 0} {kinds : Kinds L} {s : Shape L} {p : Inside} where
   -- more labels may be named
   sound_known : AreSound kinds s p → (allocated : ℕ) (registered : List Constant) (named : List VCodeConstant) (seen : List Bool) →
       let t : Shape L = record s { allocated = allocated; registered = registered; named = named } in
       ((label : ℕ) → IsUsable s label → IsUsable t label) → IsOrdered t → AreNoted registered named seen → AreSound kinds t (record { pending = p.pending; seen = seen })
   sound_known h allocated registered named seen more ordered noted =
-      let t : Shape L = record s { allocated = allocated; registered = registered; named = named } in
-      let places : (label at : ℕ) → s.place label ≡ Some at → (at ≤ length s.bytes) × (at % 2 ≡ 0) × IsUsable t label =
-      λ label at e. let q = h.places label at e in (q.0, q.1, more label q.2) in
-      let known : (j : ℕ) (u : Use L) → slice_get s.uses j ≡ Some u → IsUsable t u.label.number = λ j u e. more u.label.number (h.known j u e) in
-      assumption
+      let w = h.whole in
+      record {
+        whole = record { linked = w.linked; even = w.even; places = λ label at e. let q = w.places label at e in (q.0, q.1, more label q.2); known = λ j u e. more u.label.number (w.known j u e); ordered = ordered };
+        kept = h.kept;
+        noted = noted;
+      }
 
   pub sound_allocated : AreSound kinds s p → s.allocated < inner_count → AreSound kinds (with_allocated s) p
-  sound_allocated h few = sound_known h (s.allocated + 1) s.registered s.named p.seen (λ label u. grind arith) (grind arith) h.noted
+  sound_allocated h few = sound_known h (s.allocated + 1) s.registered s.named p.seen (λ label u. grind arith) (let o = h.whole.ordered in grind arith) h.noted
 
   -- a constant is named
   pub sound_named : AreSound kinds s p → (k : VCodeConstant) → k.number < length s.registered → (seen : List Bool) → AreNoted s.registered (name_more k s.named) seen → AreSound kinds (with_named k s) (record { pending = p.pending; seen = seen })
-  sound_named h k known seen noted = sound_known h s.allocated s.registered (name_more k s.named) seen (λ label u. grind (arith, nat_tests, slice_get-append)) (ordered_named s k known (λ label at e. (h.places label at e).2) h.ordered) noted
+  sound_named h k known seen noted = sound_known h s.allocated s.registered (name_more k s.named) seen (usable_named s k) (ordered_named s k known (λ label at e. (h.whole.places label at e).2) h.whole.ordered) noted
 
   -- constants become known
   pub sound_registered : AreSound kinds s p → (constants : List Constant) → s.registered ≡ [] → length constants ≤ inner_count → (seen : List Bool) → AreNoted constants s.named seen → AreSound kinds (with_registered constants s) (record { pending = p.pending; seen = seen })
-  sound_registered h constants none few seen noted = sound_known h s.allocated constants s.named seen (λ label u. u) (grind (arith, nat_tests)) noted
+  sound_registered h constants none few seen noted = sound_known h s.allocated constants s.named seen (λ label u. u) (let o = h.whole.ordered in grind (arith, nat_tests)) noted
 
   pub sound_label : AreSound kinds s p → (label : MachLabel) → IsKnown label.number s.allocated → s.place label.number ≡ None → AreSound kinds (with_label label s) p
-  sound_label h label known none =
-      let was : IsWhole kinds s = assumption in
-      let whole = whole_label was label known in
-      let kept = kept_fewer (placed s.place label.number (length s.bytes)) (bound_waits kinds s.place _ label.number none (placed_other s.place label.number (length s.bytes))) h.kept in
-      assumption
-
-  pub label_fewer : AreSound kinds s p → (label : MachLabel) → s.place label.number ≡ None → (t : Shape L) → t ≡ with_label label s → (end : ℕ) → due_by end (pending_in kinds t) ≤ due_by end (pending_in kinds s)
-  label_fewer h label none t e end = rw e (due_fewer (is_pending kinds s.place) (is_pending kinds (placed s.place label.number (length s.bytes))) kinds end s.uses (bound_waits kinds s.place _ label.number none (placed_other s.place label.number (length s.bytes))))
+  sound_label h label known none = record {
+    whole = whole_label h.whole label known;
+    kept = kept_fewer (placed s.place label.number (length s.bytes)) (bound_pending kinds s.place _ label.number none (placed_other s.place label.number (length s.bytes))) h.kept;
+    noted = h.noted;
+  }
 
   -- an even number of bytes is put
   pub sound_bytes : AreSound kinds s p → (more : List ℕ) → length more % 2 ≡ 0 → (new : Pending) → AreKept kinds s.place s.uses new → AreSound kinds (with_bytes more s) (record { pending = new; seen = p.seen })
   sound_bytes h more even new kept =
+      let w = h.whole in
       let long = length-append s.bytes more in
-      let linked = linked_bytes h.linked more in
-      let even : length (s.bytes ++ more) % 2 ≡ 0 = omega (arith, h.even) in
-      let places : (label at : ℕ) → s.place label ≡ Some at → (at ≤ length (s.bytes ++ more)) × (at % 2 ≡ 0) × IsUsable s label =
-      λ label at e. let q = h.places label at e in (omega arith, q.1, q.2) in
-      assumption
+      record {
+        whole = record { linked = linked_bytes w.linked more; even = omega (arith, w.even); places = λ label at e. let q = w.places label at e in (omega arith, q.1, q.2); known = w.known; ordered = w.ordered };
+        kept = kept;
+        noted = h.noted;
+      }
 
   -- a use is recorded
   pub sound_use : AreSound kinds s p → (u : Use L) → u.veneer ≡ None → u.offset ≤ length s.bytes → IsUsable s u.label.number → (new : Pending) → AreKept kinds s.place (s.uses ++ u ∷ []) new → AreSound kinds (with_use u s) (record { pending = new; seen = p.seen })
   sound_use h u bare there known new kept =
-      let linked = linked_use h.linked u bare there in
-      let known = append_each (λ x. IsUsable s x.label.number) s.uses u known h.known in
-      assumption
+      let w = h.whole in
+      record {
+        whole = record { linked = linked_use w.linked u bare there; even = w.even; places = w.places; known = append_each (λ x. IsUsable s x.label.number) s.uses u known w.known; ordered = w.ordered };
+        kept = kept;
+        noted = h.noted;
+      }

@@ -1,6 +1,6 @@
--- Zero bytes, veneers, and constants that wait, put one after the other.
+-- Zero bytes, veneers, and constants, put one after the other.
 use Rattle.std.proofs.Common.{◌≡◌, ℕ, ◌+◌, ◌-◌, ◌*◌, ◌%◌, ◌<◌, ◌≤◌, inr, ⊎_elim, Bool, true, false, List, [], ◌++◌, length, drop, Option, Some, refl, ap, sym, ◌∙◌, subst, arith, ◌⊎◌, inl, ◌∷◌, set, None, append_assoc}
-use Rattle.mach_buffer.proofs.Words.{take-append-drop, nat_tests, length-append, slice_get, IsSomeAnd, first_constant, code_limit, Kinds, Use, ConstPlace, Shape, with_bytes, waiting_of, IsUsable, is_reached, is_pending, AreWindows, IsLinked, put_all, aligned, padding, with_own, Grows, Lasts, end_after, put_constants, AreOrdered, IsOrdered, AllStand, IsNone, CanPutAll, AddsOwn, le-leb, and_from, length-map, map-append, MachLabel, veneer_use, core, recorded, put_veneer, IsOwn, CanPutAt, CanPut, AreSound, Inside}
+use Rattle.mach_buffer.proofs.Words.{take-append-drop, nat_tests, length-append, slice_get, IsSomeAnd, first_constant, code_limit, Kinds, Use, ConstPlace, Shape, with_bytes, unplaced_of, IsUsable, is_reached, is_pending, AreWindows, IsLinked, put_all, aligned, padding, with_own, Grows, Lasts, end_after, put_constants, AreOrdered, IsOrdered, AllStand, IsNone, CanPutAll, AddsOwn, le-leb, and_from, length-map, map-append, MachLabel, veneer_use, core, recorded, put_veneer, IsOwn, CanPutAt, CanPut, IsWhole}
 use Rattle.mach_buffer.proofs.Lists.{below, append_none, both_lists, changed, comes_from, locate, only_one, slice_get-append, slice_get-set_other, pushed}
 use Rattle.mach_buffer.proofs.Links.{HasLaw, linked_bytes, windows_bytes, recorded_get, recorded_set, veneer_put}
 use Rattle.mach_buffer.proofs.Lasting.{stays_reached, grows_more, lasts_bytes, lasts_more, lasts_veneers, veneers_last}
@@ -134,7 +134,7 @@ module _ {L : Type 0} {kinds : Kinds L} {all : List ℕ} {first now : Shape L} w
 
 module _ {L : Type 0} {kinds : Kinds L} {s : Shape L} {order : List ℕ} where
   pub going_from : CanPutAll kinds s order → Going kinds order order s s
-  going_from c = record { whole = refl; even = c.even; can = c.can; room = omega (arith, c.room, (ends_is s.registered (waiting_of s) (length s.bytes + 8 * length order)).0) }
+  going_from c = record { whole = refl; even = c.even; can = c.can; room = omega (arith, c.room, (ends_is s.registered (unplaced_of s) (length s.bytes + 8 * length order)).0) }
 
   -- the constants can be put after them
   pub after_veneers : HasLaw kinds → CanPutAll kinds s order → (t : Shape L) → t ≡ put_all kinds order s → IsOrdered t × (end_after t (length t.bytes) < code_limit)
@@ -142,10 +142,10 @@ module _ {L : Type 0} {kinds : Kinds L} {s : Shape L} {order : List ℕ} where
 
 -- ---- what stands after them
 
-pub grown_waits : {L : Type 0} (kinds : Kinds L) (place new_place : ℕ → Option ℕ) (u : Use L) → ((label to : ℕ) → place label ≡ Some to → new_place label ≡ Some to) → is_pending kinds new_place u ≡ true → is_pending kinds place u ≡ true
-grown_waits kinds place new_place u stays h = grind (arith, nat_tests, stays_reached kinds u (place u.label.number) (new_place u.label.number) (stays u.label.number))
+pub grown_pending : {L : Type 0} (kinds : Kinds L) (place new_place : ℕ → Option ℕ) (u : Use L) → ((label to : ℕ) → place label ≡ Some to → new_place label ≡ Some to) → is_pending kinds new_place u ≡ true → is_pending kinds place u ≡ true
+grown_pending kinds place new_place u stays h = grind (arith, nat_tests, stays_reached kinds u (place u.label.number) (new_place u.label.number) (stays u.label.number))
 
--- after zero bytes, these veneers and the constants that wait
+-- after zero bytes, these veneers and the constants that don't stand yet
 pub record Extended {L : Type 0} (kinds : Kinds L) (pad : List ℕ) (order : List ℕ) (s : Shape L) : Type 0 where
   pub bytes : List ℕ
   pub uses : List (Use L)
@@ -156,7 +156,7 @@ pub record Extended {L : Type 0} (kinds : Kinds L) (pad : List ℕ) (order : Lis
   pub places : (label at : ℕ) → place label ≡ Some at → (at ≤ length bytes) × (at % 2 ≡ 0) × IsUsable s label
   pub known : (j : ℕ) (u : Use L) → slice_get uses j ≡ Some u → IsUsable s u.label.number
   pub ordered : AreOrdered s.allocated place s.registered s.named constants
-  pub waiting : drop (length constants) s.named ≡ []
+  pub unplaced : drop (length constants) s.named ≡ []
   pub grows : Grows s.bytes s.uses s.place bytes uses place
   pub own : AddsOwn kinds (length s.bytes) s.uses uses
   pub windows : AreWindows kinds s.bytes s.uses → AreWindows kinds bytes uses
@@ -165,14 +165,14 @@ pub record Extended {L : Type 0} (kinds : Kinds L) (pad : List ℕ) (order : Lis
   pub idle : (new_place : ℕ → Option ℕ) → ((j : ℕ) (u : Use L) → slice_get s.uses j ≡ Some u → u.offset ≤ length bytes → IsNone j order → is_pending kinds new_place u ≡ false) → (j : ℕ) (u : Use L) → slice_get uses j ≡ Some u → is_pending kinds new_place u ≡ false
   pub stand : ((j : ℕ) (u : Use L) → slice_get s.uses j ≡ Some u → is_reached kinds (s.place u.label.number) u ≡ true → IsNone j order) → AreWindows kinds s.bytes s.uses → AllStand kinds s → AllStand kinds (record s { bytes = bytes; uses = uses; place = place; constants = constants })
 
-pub extended : {L : Type 0} {kinds : Kinds L} → HasLaw kinds → (pad order : List ℕ) (s : Shape L) {p : Inside} → AreSound kinds s p → length pad % 2 ≡ 0 → CanPutAll kinds (with_bytes pad s) order → Extended kinds pad order s
+pub extended : {L : Type 0} {kinds : Kinds L} → HasLaw kinds → (pad order : List ℕ) (s : Shape L) → IsWhole kinds s → length pad % 2 ≡ 0 → CanPutAll kinds (with_bytes pad s) order → Extended kinds pad order s
 extended {L} {kinds} law pad order s w even can =
     let padded = with_bytes pad s in
     let all = all_put law order padded (linked_bytes w.linked pad) (going_from can) in
     let last = veneers_last kinds order padded in
     let t : Shape L = record s { bytes = (put_all kinds order padded).bytes; uses = (put_all kinds order padded).uses } in
     let d = put_constants t in
-    let c : ConstantsDone kinds t d (waiting_of t) [] = constants_put kinds t w.ordered in
+    let c : ConstantsDone kinds t d (unplaced_of t) [] = constants_put kinds t w.ordered in
     let longer = c.lasts.grows.longer in
     let more = drop (length t.bytes) d.bytes in
     let bytes : t.bytes ++ more ≡ d.bytes = ap (λ bs. bs ++ more) (sym c.lasts.grows.before) ∙ take-append-drop (length t.bytes) d.bytes in
@@ -187,7 +187,7 @@ extended {L} {kinds} law pad order s w even can =
       places = λ label at h. ⊎_elim (λ a. let q = w.places label at a in (omega (arith, q.0, length-append s.bytes pad, all.long, longer), q.1, q.2)) (λ a. (a.0, a.1, inr a.2)) (c.places label at h);
       known = own_labels all.grown (λ l. IsUsable s l.number) w.known;
       ordered = subst (λ (x : Shape L). IsOrdered x) c.same c.ordered;
-      waiting = ap (λ (x : Shape L). waiting_of x) (sym c.same) ∙ c.waiting;
+      unplaced = ap (λ (x : Shape L). unplaced_of x) (sym c.same) ∙ c.unplaced;
       grows = grows_more (lasts_bytes kinds pad s).grows (grows_more last.grows (subst (λ (x : Shape L). Grows t.bytes t.uses t.place x.bytes x.uses x.place) c.same c.lasts.grows));
       own = adds_more (omega (arith, length-append s.bytes pad)) (adds_none (length s.bytes) s.uses) all.grown;
       windows = λ x. subst (λ (bs : List ℕ). AreWindows kinds bs t.uses) bytes (windows_bytes (put_windows x) more);

@@ -7,7 +7,7 @@ use Rattle.rv_base.specs.declared.constant.VCodeConstant.{VCodeConstant}
 use Rattle.rv_base.specs.LabelUse.{Kinds}
 use Rattle.mach_labels.specs.Table.{first_constant}
 use Rattle.mach_buffer.specs.declared.records.ConstPlace.{ConstPlace}
-use Rattle.mach_buffer.specs.Shape.{Shape, with_bytes, placed, constant_label, waiting_of}
+use Rattle.mach_buffer.specs.Shape.{Shape, with_bytes, placed, constant_label, unplaced_of}
 use Rattle.mach_buffer.specs.Windows.{window, AllEnd}
 use Rattle.mach_buffer.specs.Growth.{Lasts}
 
@@ -34,9 +34,9 @@ abbrev pub constants_end : List Constant → List VCodeConstant → ℕ → ℕ
 constants_end registered [] n = n
 constants_end registered (k ∷ ks) n = constants_end registered ks (constant_end (slice_get registered k.number) n)
 
--- and those that wait in a buffer
+-- and those of a buffer that don't stand yet
 abbrev pub end_after : {L : Type 0} → Shape L → ℕ → ℕ
-end_after s n = constants_end s.registered (waiting_of s) n
+end_after s n = constants_end s.registered (unplaced_of s) n
 
 -- a constant is put: its bytes after zero bytes to its alignment, with its label and its offset where they begin
 abbrev pub put_constant_at : {L : Type 0} → Option Constant → VCodeConstant → Shape L → Shape L
@@ -56,9 +56,9 @@ abbrev pub put_each : {L : Type 0} → List VCodeConstant → Shape L → Shape 
 put_each [] s = s
 put_each (k ∷ ks) s = put_each ks (put_constant k s)
 
--- and all that wait
+-- and all that don't stand yet
 abbrev pub put_constants : {L : Type 0} → Shape L → Shape L
-put_constants s = put_each (waiting_of s) s
+put_constants s = put_each (unplaced_of s) s
 
 -- where a constant stands, by its number
 abbrev pub offset_in : List ConstPlace → ℕ → Option ℕ
@@ -67,10 +67,14 @@ offset_in (c ∷ constants) number = if nat_eq c.constant.number number then Som
 
 -- ---- room for constants that don't stand yet
 
--- of a constant, by whether it stands: its bytes, and 16 that its alignment may take
+-- what is kept for the alignment of a constant: less than that many zero bytes are put before it
+abbrev pub alignment_reserve : ℕ
+alignment_reserve = 16
+
+-- of each constant from a number on that doesn't stand: its bytes, and what its alignment may take
 abbrev pub reserve_from : (ℕ → Option ℕ) → ℕ → List Constant → ℕ
 reserve_from place i [] = 0
-reserve_from place i (c ∷ cs) = (if is_some (place (first_constant + i)) then 0 else length c.bytes + 16) + reserve_from place (suc i) cs
+reserve_from place i (c ∷ cs) = (if is_some (place (first_constant + i)) then 0 else length c.bytes + alignment_reserve) + reserve_from place (suc i) cs
 
 abbrev pub reserve_of : {L : Type 0} → Shape L → ℕ
 reserve_of s = reserve_from s.place 0 s.registered

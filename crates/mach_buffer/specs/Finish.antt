@@ -62,7 +62,7 @@ pub record CanFinish {L : Type 0} (kinds : Kinds L) (s : Shape L) : Type 0 where
   pub constants : AllStand kinds s
 
 -- what it brings: a veneer for each pending use, in order, after zero bytes to a multiple of four where there is one; then the
--- constants that wait; and then each window is patched, and all other bytes stay, so each constant has its bytes
+-- constants that don't stand yet; and then each window is patched, and all other bytes stay, so each constant has its bytes
 pub record Finishes {L : Type 0} (kinds : Kinds L) (s : Shape L) (bytes : List ℕ) : Type 0 where
   pub order : List ℕ
   pub in_order : IsOrder kinds (is_pending kinds s.place) s.uses order

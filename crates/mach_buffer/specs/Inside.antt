@@ -42,12 +42,16 @@ pub record AreNoted (registered : List Constant) (named : List VCodeConstant) (s
 
 -- ---- all of it
 
--- what holds of what a buffer shows, and of what it doesn't
-pub record AreSound {L : Type 0} (kinds : Kinds L) (s : Shape L) (inside : Inside) : Type 0 where
+-- what holds of what a sound buffer shows
+pub record IsWhole {L : Type 0} (kinds : Kinds L) (s : Shape L) : Type 0 where
   pub linked : IsLinked kinds s.bytes s.uses
   pub even : length s.bytes % 2 ≡ 0
   pub places : (label at : ℕ) → s.place label ≡ Some at → (at ≤ length s.bytes) × (at % 2 ≡ 0) × IsUsable s label
   pub known : (j : ℕ) (u : Use L) → slice_get s.uses j ≡ Some u → IsUsable s u.label.number
   pub ordered : IsOrdered s
+
+-- and of what it doesn't
+pub record AreSound {L : Type 0} (kinds : Kinds L) (s : Shape L) (inside : Inside) : Type 0 where
+  pub whole : IsWhole kinds s
   pub kept : AreKept kinds s.place s.uses inside.pending
   pub noted : AreNoted s.registered s.named inside.seen

@@ -91,8 +91,8 @@ pub record AddsOwn {L : Type 0} (kinds : Kinds L) (from : ℕ) (uses new_uses : 
 abbrev pub island_veneers : {L : Type 0} → Kinds L → Shape L → Use L → List ℕ → List ℕ
 island_veneers kinds s jump order = with_own (needs_own (end_after s) (aligned (length s.bytes)) (length order) (deadline kinds jump)) (length s.uses - 1) order
 
--- what an island brings: zero bytes to a multiple of four; its veneers; the constants that wait; zero bytes to a multiple of four;
--- and its label bound at the end. So it ends where is said, and no use is pending
+-- what an island brings: zero bytes to a multiple of four; its veneers; the constants that don't stand yet; zero bytes to a
+-- multiple of four; and its label bound at the end. So it ends where is said, and no use is pending
 pub record Islanded {L : Type 0} (kinds : Kinds L) (after_island : MachLabel) (old new : Shape L) : Type 0 where
   pub jump : Use L
   pub last : slice_get old.uses (length old.uses - 1) ≡ Some jump

@@ -7,7 +7,7 @@ use Rattle.mach_buffer.specs.Veneers.{put_all, IsOrder}
 use Rattle.mach_buffer.specs.Constants.{put_constants}
 use Rattle.mach_buffer.specs.Finish.{padded_for}
 
--- a veneer was put for each pending use, in order, and then each constant that waits
+-- a veneer was put for each pending use, in order, and then each constant that doesn't stand yet
 pub record LastPut {L : Type 0} (kinds : Kinds L) (s put : Shape L) : Type 0 where
   pub order : List ℕ
   pub in_order : IsOrder kinds (is_pending kinds s.place) s.uses order

@@ -1,6 +1,6 @@
 -- This crate's inside: the queues of pending uses, numbers of uses, among them all that are pending, and how much room there is
 -- before their deadlines.
-use Rattle.std.specs.Prelude.{◌≡◌, ℕ, ◌+◌, ◌-◌, ◌*◌, ◌<◌, ◌≤◌, Bool, true, false, not, ◌&&◌, nat_le, nat_lt, cond, min, max, List, filter, length, Option, Some, None, slice_get}
+use Rattle.std.specs.Prelude.{◌≡◌, ℕ, ◌+◌, ◌-◌, ◌*◌, ◌^◌, ◌<◌, ◌≤◌, Bool, false, not, ◌&&◌, nat_eq, nat_le, nat_lt, cond, if◌then◌else◌, min, max, List, [], filter, length, Option, Some, None, slice_get}
 use Rattle.std.specs.List.{filter_map}
 use Rattle.rv_base.specs.declared.label.MachLabel.{MachLabel}
 use Rattle.rv_base.specs.LabelUse.{Kinds}
@@ -48,23 +48,30 @@ deadline_in kinds (Some u) = deadline kinds u
 abbrev pub deadline_at : {L : Type 0} → Kinds L → List (Use L) → ℕ → ℕ
 deadline_at kinds uses number = deadline_in kinds (slice_get uses number)
 
--- ---- two queues
+-- ---- three queues
 
--- whether a use reaches fewer than 2^16 bytes forward
-abbrev pub is_near : {L : Type 0} → Kinds L → Use L → Bool
-is_near kinds u = nat_lt (kinds.forward u.kind) 65536
+-- the reach, in bytes, from which on a use belongs to the second queue, and to the third. So of the kinds of RISC-V each has a
+-- queue of its own: compressed jumps reach 2046 bytes, branches 4094, and jumps 1048574
+abbrev pub near_reach : ℕ
+near_reach = 2 ^ 11
 
-abbrev pub on_side : Bool → Bool → Bool
-on_side true near = near
-on_side false near = not near
+abbrev pub far_reach : ℕ
+far_reach = 2 ^ 16
 
--- a use is pending and belongs to the queue of those that reach so far
-abbrev pub is_queued : {L : Type 0} → Kinds L → (ℕ → Option ℕ) → Bool → Use L → Bool
-is_queued kinds place near u = is_pending kinds place u && on_side near (is_near kinds u)
+-- the number of the queue of uses that reach so far
+abbrev pub queue_for : ℕ → ℕ
+queue_for reach = if nat_lt reach near_reach then 0 else (if nat_lt reach far_reach then 1 else 2)
+
+abbrev pub queue_of : {L : Type 0} → Kinds L → Use L → ℕ
+queue_of kinds u = queue_for (kinds.forward u.kind)
+
+-- a use is pending and belongs to the queue of that number
+abbrev pub is_queued : {L : Type 0} → Kinds L → (ℕ → Option ℕ) → ℕ → Use L → Bool
+is_queued kinds place queue u = is_pending kinds place u && nat_eq (queue_of kinds u) queue
 
 -- a use is in a queue, and names another label than this one
-abbrev pub is_other_queued : {L : Type 0} → Kinds L → (ℕ → Option ℕ) → Bool → Option MachLabel → Use L → Bool
-is_other_queued kinds place near after_island u = is_queued kinds place near u && not (names after_island u)
+abbrev pub is_other_queued : {L : Type 0} → Kinds L → (ℕ → Option ℕ) → ℕ → Option MachLabel → Use L → Bool
+is_other_queued kinds place queue after_island u = is_queued kinds place queue u && not (names after_island u)
 
 -- the keys of those uses, by their numbers, for which a test holds
 abbrev pub keys_where : {L : Type 0} → Kinds L → (Use L → Bool) → List (Use L) → List ℕ → List PendingKey
@@ -81,10 +88,17 @@ pub record Keeps {L : Type 0} (kinds : Kinds L) (test : Use L → Bool) (uses : 
   pub same : filter (test_at test uses) numbers ≡ numbers_of test uses
   pub room : 1 ≤ slack → HasSlack slack 0 (deadlines test kinds uses)
 
--- both queues do
+-- all queues do
 pub record AreKept {L : Type 0} (kinds : Kinds L) (place : ℕ → Option ℕ) (uses : List (Use L)) (p : Pending) : Type 0 where
-  pub near : Keeps kinds (is_queued kinds place true) uses p.near.numbers.items p.near.slack
-  pub far : Keeps kinds (is_queued kinds place false) uses p.far.numbers.items p.far.slack
+  pub short : Keeps kinds (is_queued kinds place 0) uses p.short.numbers.items p.short.slack
+  pub near : Keeps kinds (is_queued kinds place 1) uses p.near.numbers.items p.near.slack
+  pub far : Keeps kinds (is_queued kinds place 2) uses p.far.numbers.items p.far.slack
+
+-- no queue has any
+pub record HoldNone (p : Pending) : Type 0 where
+  pub short : p.short.numbers.items ≡ []
+  pub near : p.near.numbers.items ≡ []
+  pub far : p.far.numbers.items ≡ []
 
 -- how many pending uses are due by an offset
 abbrev pub due_in : {L : Type 0} → Kinds L → (ℕ → Option ℕ) → List (Use L) → ℕ → ℕ
@@ -93,7 +107,7 @@ due_in kinds place uses end = due_by end (deadlines (is_pending kinds place) kin
 abbrev pub key_number : PendingKey → ℕ
 key_number t = t.index
 
--- whether the slack of both queues shows that all veneers, put from an offset on, end by their deadlines: those of the near
--- uses may all come before one of a far use
+-- whether the slack of all queues shows that all veneers, put from an offset on, end by their deadlines: those of the uses in the
+-- queues before it may all come before one of a queue
 abbrev pub shows_slack : Pending → ℕ → Bool
-shows_slack p start = nat_le start p.near.slack && nat_le (start + 8 * length p.near.numbers.items) p.far.slack
+shows_slack p start = nat_le start p.short.slack && (nat_le (start + 8 * length p.short.numbers.items) p.near.slack && nat_le (start + 8 * (length p.short.numbers.items + length p.near.numbers.items)) p.far.slack)

@@ -71,8 +71,8 @@ abbrev pub with_named : {L : Type 0} → VCodeConstant → Shape L → Shape L
 with_named k s = record s { named = name_more k s.named }
 
 -- the constants that were named and don't stand yet
-abbrev pub waiting_of : {L : Type 0} → Shape L → List VCodeConstant
-waiting_of s = drop (length s.constants) s.named
+abbrev pub unplaced_of : {L : Type 0} → Shape L → List VCodeConstant
+unplaced_of s = drop (length s.constants) s.named
 
 -- how many inner labels a buffer can give out: their numbers are below 2^31
 abbrev pub inner_count : ℕ

@@ -25,7 +25,7 @@ abbrev pub CanPut : {L : Type 0} → Kinds L → List (Use L) → ℕ → List �
 CanPut kinds uses cur [] = Unit {0}
 CanPut kinds uses cur (i ∷ order) = CanPutAt kinds uses cur i × IsNone i order × CanPut kinds uses (cur + 8) order
 
--- each of these veneers can be put, and then the constants that wait
+-- each of these veneers can be put, and then the constants that don't stand yet
 pub record CanPutAll {L : Type 0} (kinds : Kinds L) (s : Shape L) (order : List ℕ) : Type 0 where
   pub linked : IsLinked kinds s.bytes s.uses
   pub even : length s.bytes % 2 ≡ 0

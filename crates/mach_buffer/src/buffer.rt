@@ -14,11 +14,18 @@ use rv_base::{
 };
 use std::alloc::Global;
 
-/// Code is shorter than this many bytes.
-const CODE_LIMIT: u128 = 2147479552;
+/// Code is shorter than this many bytes: an `auipc` and the twelve signed bits of the instruction after it reach each distance
+/// below it.
+const CODE_LIMIT: u128 = (1 << 31) - 4096;
 
-/// How many bytes past the end are counted for when queues are tidied: an instruction's island is asked for 88 bytes ahead.
-const AHEAD: u64 = 88 + ISLAND_MARGIN;
+/// How many bytes an instruction has at most for which no island is asked among its own.
+const INST_SPACE: u64 = 88;
+
+/// How many bytes past the end are counted for when queues are tidied, so that an instruction's island is asked for of tidy ones.
+const AHEAD: u64 = INST_SPACE + ISLAND_MARGIN;
+
+/// What is kept for the alignment of a constant that doesn't stand yet: less than that many zero bytes are put before it.
+const ALIGNMENT_RESERVE: u128 = 16;
 
 /// A buffer of code whose uses of labels are of the kinds `L`. Offsets are in bytes from the code's start.
 ///
@@ -387,7 +394,7 @@ impl<L: MachInstLabelUse> MachBuffer<L> {
     }
 
     /// Records the values on the stack where a call returns, at the current offset: `return_offset` is there, and `span` is how
-    /// many bytes of the frame the map tells of, from the stack pointer upwards. Keeps a copy of the map.
+    /// many bytes of the frame the map covers, from the stack pointer upwards. Keeps a copy of the map.
     pub fn push_user_stack_map(
         &mut self,
         return_offset: u32,
@@ -505,11 +512,11 @@ impl<L: MachInstLabelUse> MachBuffer<L> {
             return false;
         }
         let end = self.code.bytes.len() as u128 + part as u128 + self.reserve();
-        let veneers = 8 * (self.pending.count(&self.code.uses, &self.labels) as u128);
+        let veneers = 8 * self.pending.count(&self.code.uses, &self.labels);
         end + veneers + ISLAND_MARGIN as u128 + 2 < CODE_LIMIT
     }
 
-    /// The bytes of the constants that don't stand yet, and 16 for the alignment of each.
+    /// The bytes of the constants that don't stand yet, and what is kept for the alignment of each.
     fn reserve(&self) -> u128
         requires { length (registered_of self.now) ≤ inner_count }
         ensures value { result ≡ reserve_of (shape_of self.now) }
@@ -520,7 +527,7 @@ impl<L: MachInstLabelUse> MachBuffer<L> {
         for constant in &self.constants.registered {
             let label = constant_label(VCodeConstant::from_u32(number));
             if self.labels.place(label).is_none() {
-                sum += constant.bytes.len() as u128 + 16;
+                sum += constant.bytes.len() as u128 + ALIGNMENT_RESERVE;
             }
             number += 1;
         }

@@ -39,8 +39,8 @@ impl<L: MachInstLabelUse> MachBuffer<L> {
     ghost use Rattle.mach_buffer.specs.Records.{calls_in, maps_in, offset_or_zero, patches_in, relocs_in, traps_in, tries_in, unwinds_in};
     ghost use Rattle.mach_buffer.specs.Buffer.{shape_of, bytes_of, labels_of, place_of, registered_of, records_of, spoiled_of, Unless, IsSound};
 
-    /// Puts a veneer for each use that is pending, by deadline, then by place, then as recorded; then the constants that wait;
-    /// and patches every window: a use then goes by its veneer, and straight to its label where it has none. The constants are
+    /// Puts a veneer for each use that is pending, by deadline, then by place, then as recorded; then the constants that
+    /// don't stand yet; and patches every window: a use then goes by its veneer, and straight to its label where it has none. The constants are
     /// those that were registered. The labels of handlers are by their places before that, or by 0 where they have none.
     pub fn finish(self, constants: &[Constant]) -> Result<Finished, OutOfMemory>
         requires registered { Unless (spoiled_of self) (registered_of self ≡ constants.now) }
@@ -113,7 +113,8 @@ impl<L: MachInstLabelUse> MachBuffer<L> {
         })
     }
 
-    /// Puts the last veneers, after zero bytes to a multiple of four, where some use is pending; and the constants that wait.
+    /// Puts the last veneers, after zero bytes to a multiple of four, where some use is pending; and the constants that
+    /// don't stand yet.
     #[tactic(auto, unfolding(crate::specs::Buffer::IsSound))]
     fn put_last(&mut self) -> Result<(), OutOfMemory>
         requires sound { IsSound L.kinds self.old }

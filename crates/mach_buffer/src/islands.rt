@@ -24,7 +24,7 @@ impl<L: MachInstLabelUse> MachBuffer<L> {
 
     /// Makes an island after its jump, whose four bytes stand last: zero bytes to a multiple of four, the jump's own veneer
     /// where it needs one; a veneer for each other pending use, by deadline, then by place, then as recorded; the constants that
-    /// wait, each after zero bytes to its alignment, in the order of their first use; and zero bytes to a multiple of four. Binds
+    /// don't stand yet, each after zero bytes to its alignment, in the order of their first use; and zero bytes to a multiple of four. Binds
     /// `after_island` at the end.
     pub fn emit_island(&mut self, after_island: MachLabel) -> Result<(), OutOfMemory>
         requires sound { Unless (spoiled_of self.old) (IsSound L.kinds self.old) }
@@ -96,8 +96,8 @@ impl<L: MachInstLabelUse> MachBuffer<L> {
         self.code.put_veneer(index)
     }
 
-    /// Returns whether an island with `count` veneers from here on, and the constants that wait, ends out of reach of the use that
-    /// was recorded last.
+    /// Returns whether an island with `count` veneers from here on, and the constants that don't stand yet, ends out of reach
+    /// of the use that was recorded last.
     #[tactic(auto, using(std::proofs::lemmas::Option::gets, crate::proofs::ConstantsPut::ends_is))]
     fn needs_own(&self, count: usize) -> bool
         requires some { 1 ≤ length (uses_of self.now) }
@@ -111,7 +111,7 @@ impl<L: MachInstLabelUse> MachBuffer<L> {
     }
 
     /// Puts the veneer of the use that was recorded last, where it needs one; the veneers of uses in their order; and the
-    /// constants that wait.
+    /// constants that don't stand yet.
     pub(crate) fn put_pending(
         &mut self,
         needed: bool,
@@ -161,7 +161,7 @@ impl<L: MachInstLabelUse> MachBuffer<L> {
         Ok(())
     }
 
-    /// Puts the constants that wait, in the order of their first use.
+    /// Puts the constants that don't stand yet, in the order of their first use.
     fn put_constants(&mut self) -> Result<(), OutOfMemory>
         requires ordered { IsOrdered (shape_of self.old) }
         requires room { end_after (shape_of self.old) (length (bytes_of self.old)) < code_limit }

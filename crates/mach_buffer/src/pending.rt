@@ -1,7 +1,7 @@
 //! The queues of pending uses.
 
 use crate::labels::Labels;
-use crate::reach::{deadline, is_near, is_pending, names};
+use crate::reach::{deadline, is_pending, names, queue_of};
 use crate::uses::{PendingKey, Use};
 use rv_base::{MachInstLabelUse, MachLabel, OutOfMemory};
 use std::alloc::Global;
@@ -14,33 +14,34 @@ pub struct Queue {
     pub(crate) slack: u64,
 }
 
-/// A queue of the uses that don't reach far, and one of those that do: each is in order of deadlines, where the uses in it
-/// are of one kind.
+/// A queue for each kind that supports a veneer: that of compressed jumps, that of branches and that of jumps. A kind has one
+/// reach, so each is in order of deadlines where it is in order of place.
 #[derive(Drop)]
 pub struct Pending {
+    pub(crate) short: Queue,
     pub(crate) near: Queue,
     pub(crate) far: Queue,
 }
 
-/// Returns whether a use is pending, and reaches as far as those of a queue.
-fn is_queued<L: MachInstLabelUse>(u: &Use<L>, labels: &Labels, near: bool) -> bool
-    ensures { result ≡ queued L.kinds (place_in labels.now) near u.now }
+/// Returns whether a use is pending, and belongs to the queue of a number.
+fn is_queued<L: MachInstLabelUse>(u: &Use<L>, labels: &Labels, queue: usize) -> bool
+    ensures { result ≡ queued L.kinds (place_in labels.now) queue u.now }
 {
-    is_near(u) == near && is_pending(u, labels)
+    queue_of(u) == queue && is_pending(u, labels)
 }
 
 /// The use of a number, where it is pending and belongs to a queue.
 fn queued_use<L: MachInstLabelUse>(
     uses: &[Use<L>],
     labels: &Labels,
-    near: bool,
+    queue: usize,
     number: usize,
 ) -> Option<Use<L>>
-    ensures { result ≡ use_where (queued L.kinds (place_in labels.now) near) uses.now number }
+    ensures { result ≡ use_where (queued L.kinds (place_in labels.now) queue) uses.now number }
 {
     match uses.get(number) {
         Some(u) => {
-            if is_queued(u, labels, near) {
+            if is_queued(u, labels, queue) {
                 Some(*u)
             } else {
                 None
@@ -58,13 +59,13 @@ ghost use Rattle.mach_buffer.specs.Places.{place_in};
 fn is_due<L: MachInstLabelUse>(
     uses: &[Use<L>],
     labels: &Labels,
-    near: bool,
+    queue: usize,
     end: u128,
     number: usize,
 ) -> bool
-    ensures { result ≡ is_due_at L.kinds (queued L.kinds (place_in labels.now) near) uses.now end number }
+    ensures { result ≡ is_due_at L.kinds (queued L.kinds (place_in labels.now) queue) uses.now end number }
 {
-    match queued_use(uses, labels, near, number) {
+    match queued_use(uses, labels, queue, number) {
         Some(u) => deadline(&u) as u128 <= end,
         None => false,
     }
@@ -74,15 +75,15 @@ fn is_due<L: MachInstLabelUse>(
 fn key_of<L: MachInstLabelUse>(
     uses: &[Use<L>],
     labels: &Labels,
-    near: bool,
+    queue: usize,
     after_island: Option<MachLabel>,
     number: usize,
 ) -> Option<PendingKey>
-    ensures { result ≡ key_if L.kinds number (use_where (is_other_queued L.kinds (place_in labels.now) near after_island) uses.now number) }
+    ensures { result ≡ key_if L.kinds number (use_where (is_other_queued L.kinds (place_in labels.now) queue after_island) uses.now number) }
 {
     match uses.get(number) {
         Some(u) => {
-            if is_queued(u, labels, near) && !names(after_island, u) {
+            if is_queued(u, labels, queue) && !names(after_island, u) {
                 Some(PendingKey {
                     deadline: deadline(u),
                     offset: u.offset,
@@ -111,6 +112,14 @@ impl Queue {
         }
     }
 
+    /// Takes out all uses.
+    fn clear(&mut self)
+        ensures { self.new.numbers.items ≡ [] }
+    {
+        self.numbers.clear();
+        self.slack = u64::MAX;
+    }
+
     /// Adds the use of a number, with its deadline.
     pub(crate) fn push(&mut self, number: usize, deadline: u64) -> Result<(), OutOfMemory>
         ensures numbers { OnOk result (self.new.numbers.items ≡ self.old.numbers.items ++ number ∷ []) }
@@ -129,13 +138,13 @@ impl Queue {
         &mut self,
         uses: &[Use<L>],
         labels: &Labels,
-        near: bool,
+        queue: usize,
         u: &Use<L>,
     ) -> Result<(), OutOfMemory>
-        requires { Keeps L.kinds (queued L.kinds (place_in labels.now) near) uses.now self.old.numbers.items self.old.slack }
-        ensures { OnOk result (Keeps L.kinds (queued L.kinds (place_in labels.now) near) (uses.now ++ u.now ∷ []) self.new.numbers.items self.new.slack) }
+        requires { Keeps L.kinds (queued L.kinds (place_in labels.now) queue) uses.now self.old.numbers.items self.old.slack }
+        ensures { OnOk result (Keeps L.kinds (queued L.kinds (place_in labels.now) queue) (uses.now ++ u.now ∷ []) self.new.numbers.items self.new.slack) }
     {
-        if !is_queued(u, labels, near) {
+        if !is_queued(u, labels, queue) {
             return Ok(());
         }
         self.push(uses.len(), deadline(u))?;
@@ -147,14 +156,14 @@ impl Queue {
         &self,
         uses: &[Use<L>],
         labels: &Labels,
-        near: bool,
+        queue: usize,
         end: u128,
     ) -> usize
-        ensures { result ≡ count_by (λ number. is_due_at L.kinds (queued L.kinds (place_in labels.now) near) uses.now end number) self.now.numbers.items }
+        ensures { result ≡ count_by (λ number. is_due_at L.kinds (queued L.kinds (place_in labels.now) queue) uses.now end number) self.now.numbers.items }
     {
         self.numbers
             .iter()
-            .filter(|number| is_due(uses, labels, near, end, **number))
+            .filter(|number| is_due(uses, labels, queue, end, **number))
             .count()
     }
 
@@ -163,35 +172,53 @@ impl Queue {
         &self,
         uses: &[Use<L>],
         labels: &Labels,
-        near: bool,
+        queue: usize,
     ) -> usize
-        ensures { result ≡ count_by (λ number. is_some (use_where (queued L.kinds (place_in labels.now) near) uses.now number)) self.now.numbers.items }
+        ensures { result ≡ count_by (λ number. is_some (use_where (queued L.kinds (place_in labels.now) queue) uses.now number)) self.now.numbers.items }
     {
         self.numbers
             .iter()
-            .filter(|number| queued_use(uses, labels, near, **number).is_some())
+            .filter(|number| queued_use(uses, labels, queue, **number).is_some())
             .count()
     }
 
     /// A queue of those of the uses that are still pending.
-    pub(crate) fn tidied<L: MachInstLabelUse>(
+    fn tidied<L: MachInstLabelUse>(
         &self,
         uses: &[Use<L>],
         labels: &Labels,
-        near: bool,
+        queue: usize,
         alloc: Global,
     ) -> Result<Queue, OutOfMemory>
-        requires { Keeps L.kinds (queued L.kinds (place_in labels.now) near) uses.now self.now.numbers.items self.now.slack }
-        ensures { IfOk result (λ queue. Keeps L.kinds (queued L.kinds (place_in labels.now) near) uses.now queue.numbers.items queue.slack) }
+        requires { Keeps L.kinds (queued L.kinds (place_in labels.now) queue) uses.now self.now.numbers.items self.now.slack }
+        ensures { IfOk result (λ tidied. Keeps L.kinds (queued L.kinds (place_in labels.now) queue) uses.now tidied.numbers.items tidied.slack) }
     {
-        let mut queue = Queue::new(alloc);
+        let mut tidied = Queue::new(alloc);
         for number in &self.numbers {
-            match queued_use(uses, labels, near, *number) {
-                Some(u) => queue.push(*number, deadline(&u))?,
+            match queued_use(uses, labels, queue, *number) {
+                Some(u) => tidied.push(*number, deadline(&u))?,
                 None => {}
             }
         }
-        Ok(queue)
+        Ok(tidied)
+    }
+
+    /// Takes out the uses that are no longer pending, where the slack ends before an offset.
+    fn tidy<L: MachInstLabelUse>(
+        &mut self,
+        uses: &[Use<L>],
+        labels: &Labels,
+        queue: usize,
+        start: u64,
+        alloc: Global,
+    ) -> Result<(), OutOfMemory>
+        requires { Keeps L.kinds (queued L.kinds (place_in labels.now) queue) uses.now self.old.numbers.items self.old.slack }
+        ensures { OnOk result (Keeps L.kinds (queued L.kinds (place_in labels.now) queue) uses.now self.new.numbers.items self.new.slack) }
+    {
+        if self.slack < start {
+            *self = self.tidied(uses, labels, queue, alloc)?;
+        }
+        Ok(())
     }
 
     /// Adds the keys of those of the uses that are pending and name another label than this one.
@@ -199,14 +226,14 @@ impl Queue {
         &self,
         uses: &[Use<L>],
         labels: &Labels,
-        near: bool,
+        queue: usize,
         after_island: Option<MachLabel>,
         keys: &mut Vec<PendingKey>,
     ) -> Result<(), OutOfMemory>
-        ensures { OnOk result (keys.new.items ≡ keys.old.items ++ keys_where L.kinds (is_other_queued L.kinds (place_in labels.now) near after_island) uses.now self.now.numbers.items) }
+        ensures { OnOk result (keys.new.items ≡ keys.old.items ++ keys_where L.kinds (is_other_queued L.kinds (place_in labels.now) queue after_island) uses.now self.now.numbers.items) }
     {
         for number in &self.numbers {
-            match key_of(uses, labels, near, after_island, *number) {
+            match key_of(uses, labels, queue, after_island, *number) {
                 Some(key) => keys.push(key)?,
                 None => {}
             }
@@ -219,14 +246,14 @@ impl Pending {
     ghost use Rattle.std.specs.Prelude.{◌≡◌, ◌+◌, ◌-◌, ◌<◌, ◌≤◌, ◌^◌, ◌++◌, ◌∷◌, [], length, map, OnOk, IfOk, Some};
     ghost use Rattle.mach_buffer.specs.Reach.{is_pending as pending, is_other, deadlines, island_margin, is_needed_from};
     ghost use Rattle.mach_buffer.specs.Veneers.{IsOrder};
-    ghost use Rattle.mach_buffer.specs.Queues.{is_queued as queued, AreKept, due_in, key_number, shows_slack};
+    ghost use Rattle.mach_buffer.specs.Queues.{is_queued as queued, AreKept, HoldNone, due_in, key_number, shows_slack};
     ghost use Rattle.mach_buffer.specs.Places.{place_in};
 
     pub(crate) fn new(alloc: Global) -> Pending
-        ensures near { result.near.numbers.items ≡ [] }
-        ensures far { result.far.numbers.items ≡ [] }
+        ensures { HoldNone result }
     {
         Pending {
+            short: Queue::new(alloc),
             near: Queue::new(alloc),
             far: Queue::new(alloc),
         }
@@ -242,8 +269,9 @@ impl Pending {
         requires { AreKept L.kinds (place_in labels.now) uses.now self.old }
         ensures { OnOk result (AreKept L.kinds (place_in labels.now) (uses.now ++ u.now ∷ []) self.new) }
     {
-        self.near.add(uses, labels, true, u)?;
-        self.far.add(uses, labels, false, u)?;
+        self.short.add(uses, labels, 0, u)?;
+        self.near.add(uses, labels, 1, u)?;
+        self.far.add(uses, labels, 2, u)?;
         Ok(())
     }
 
@@ -258,61 +286,57 @@ impl Pending {
         requires { AreKept L.kinds (place_in labels.now) uses.now self.old }
         ensures { OnOk result (AreKept L.kinds (place_in labels.now) uses.now self.new) }
     {
-        if self.near.slack < start {
-            self.near = self.near.tidied(uses, labels, true, alloc)?;
-        }
-        if self.far.slack < start {
-            self.far = self.far.tidied(uses, labels, false, alloc)?;
-        }
+        self.short.tidy(uses, labels, 0, start, alloc)?;
+        self.near.tidy(uses, labels, 1, start, alloc)?;
+        self.far.tidy(uses, labels, 2, start, alloc)?;
         Ok(())
     }
 
     /// Takes out all uses.
     pub(crate) fn clear(&mut self)
-        ensures near { self.new.near.numbers.items ≡ [] }
-        ensures far { self.new.far.numbers.items ≡ [] }
+        ensures { HoldNone self.new }
     {
-        self.near.numbers.clear();
-        self.near.slack = u64::MAX;
-        self.far.numbers.clear();
-        self.far.slack = u64::MAX;
-    }
-
-    /// How many uses there are at most.
-    pub(crate) fn len(&self) -> usize
-        ensures { result ≡ length self.now.near.numbers.items + length self.now.far.numbers.items }
-    {
-        self.near.numbers.len() + self.far.numbers.len()
+        self.short.clear();
+        self.near.clear();
+        self.far.clear();
     }
 
     /// How many uses are pending.
     #[tactic(auto, using(crate::proofs::QueueContents::kept_count, crate::proofs::QueueContents::count_parts))]
-    pub(crate) fn count<L: MachInstLabelUse>(&self, uses: &[Use<L>], labels: &Labels) -> usize
+    pub(crate) fn count<L: MachInstLabelUse>(&self, uses: &[Use<L>], labels: &Labels) -> u128
         requires { AreKept L.kinds (place_in labels.now) uses.now self.now }
-        ensures { result ≡ length (deadlines (pending L.kinds (place_in labels.now)) L.kinds uses.now) }
+        ensures value { result ≡ length (deadlines (pending L.kinds (place_in labels.now)) L.kinds uses.now) }
+        ensures small { result < 2 ^ 66 }
     {
-        self.near.count(uses, labels, true) + self.far.count(uses, labels, false)
+        self.short.count(uses, labels, 0) as u128
+            + self.near.count(uses, labels, 1) as u128
+            + self.far.count(uses, labels, 2) as u128
     }
 
     /// How many pending uses are due by an offset.
     #[tactic(auto, using(crate::proofs::QueueContents::kept_due, crate::proofs::QueueContents::due_parts))]
-    fn count_due<L: MachInstLabelUse>(&self, uses: &[Use<L>], labels: &Labels, end: u128) -> usize
+    fn count_due<L: MachInstLabelUse>(&self, uses: &[Use<L>], labels: &Labels, end: u128) -> u128
         requires { AreKept L.kinds (place_in labels.now) uses.now self.now }
         ensures { result ≡ due_in L.kinds (place_in labels.now) uses.now end }
     {
-        self.near.count_due(uses, labels, true, end) + self.far.count_due(uses, labels, false, end)
+        self.short.count_due(uses, labels, 0, end) as u128
+            + self.near.count_due(uses, labels, 1, end) as u128
+            + self.far.count_due(uses, labels, 2, end) as u128
     }
 
-    /// Returns whether the slack of both queues shows that all veneers, put from `start` on, end by their deadlines.
+    /// Returns whether the slack of all queues shows that all veneers, put from `start` on, end by their deadlines.
     fn has_slack(&self, start: u64) -> bool
         ensures { result ≡ shows_slack self.now start }
     {
-        start <= self.near.slack
-            && start as u128 + 8 * self.near.numbers.len() as u128 <= self.far.slack as u128
+        let short = self.short.numbers.len() as u128;
+        let near = self.near.numbers.len() as u128;
+        start <= self.short.slack
+            && start as u128 + 8 * short <= self.near.slack as u128
+            && start as u128 + 8 * (short + near) <= self.far.slack as u128
     }
 
     /// Returns whether the veneers of all that is due by some deadline, put from `start` on, end past it.
-    #[tactic(auto, using(crate::proofs::QueueContents::slack_shown, crate::proofs::QueueContents::bound_none, crate::proofs::Slack::due_le_length, crate::proofs::Slack::due_mono, crate::proofs::QueueContents::kept_few, crate::proofs::QueueContents::count_parts))]
+    #[tactic(auto, using(crate::proofs::QueueContents::slack_shown, crate::proofs::QueueContents::bound_none, crate::proofs::Slack::due_le_length, crate::proofs::Slack::due_mono, crate::proofs::Slack::deadlines_few))]
     pub(crate) fn is_tight<L: MachInstLabelUse>(
         &self,
         uses: &[Use<L>],
@@ -326,13 +350,13 @@ impl Pending {
         if self.has_slack(start) {
             return false;
         }
-        let mut count = self.len();
+        let mut count = uses.len();
         'fewer: while count > 0 {
             let due = self.count_due(uses, labels, start as u128 + 8 * count as u128 - 1);
-            if due >= count {
+            if due >= count as u128 {
                 return true;
             }
-            count = due;
+            count = due as usize;
         }
         false
     }
@@ -349,10 +373,10 @@ impl Pending {
         ensures { IfOk result (λ keys. IsOrder L.kinds (is_other L.kinds (place_in labels.now) after_island) uses.now (map key_number keys.items)) }
     {
         let mut keys = Vec::new(alloc);
-        self.near
-            .collect(uses, labels, true, after_island, &mut keys)?;
-        self.far
-            .collect(uses, labels, false, after_island, &mut keys)?;
+        self.short
+            .collect(uses, labels, 0, after_island, &mut keys)?;
+        self.near.collect(uses, labels, 1, after_island, &mut keys)?;
+        self.far.collect(uses, labels, 2, after_island, &mut keys)?;
         keys.sort_unstable();
         Ok(keys)
     }

@@ -1,25 +1,30 @@
 //! How far uses reach, and which of them are pending.
 
-ghost use Rattle.std.specs.Prelude.{◌≡◌, ◌<◌};
+ghost use Rattle.std.specs.Prelude.{◌≡◌, ◌<◌, ◌^◌};
 ghost use Rattle.mach_buffer.specs.Reach.{deadline as last_of, is_reached as reached, is_pending as pending, names as names_label};
-ghost use Rattle.mach_buffer.specs.Queues.{is_near as near_to};
+ghost use Rattle.mach_buffer.specs.Queues.{queue_of as queue_number};
 ghost use Rattle.mach_buffer.specs.Places.{place_in};
 
 use crate::labels::Labels;
 use crate::uses::Use;
 use rv_base::{MachInstLabelUse, MachLabel};
 
-/// The reach, in bytes, from which on a use is kept apart from those that reach less far.
-const FAR: u32 = 65536;
+/// The reach, in bytes, from which on a use belongs to the second queue. Compressed jumps reach less far, branches further.
+const NEAR_REACH: u32 = 1 << 11;
 
-/// What is kept free for an island: its jump, at most two bytes of padding, the jump's own veneer, and the veneers of two uses
-/// more.
-pub(crate) const ISLAND_MARGIN: u64 = 30;
+/// The reach, in bytes, from which on a use belongs to the third queue. Branches reach less far, jumps further.
+const FAR_REACH: u32 = 1 << 16;
+
+/// What stands in an island before the veneers of pending uses: its jump, at most two bytes of padding, and the jump's own veneer.
+const ISLAND_FRONT: u64 = 4 + 2 + 8;
+
+/// What is kept free for an island: its front, and the veneers of two uses more.
+pub(crate) const ISLAND_MARGIN: u64 = ISLAND_FRONT + 8 * 2;
 
 /// The last offset that a use reaches.
 pub(crate) fn deadline<L: MachInstLabelUse>(u: &Use<L>) -> u64
     ensures value { result ≡ last_of L.kinds u.now }
-    ensures small { result < 8589934592 }
+    ensures small { result < 2 ^ 33 }
 {
     u.offset as u64 + u.kind.max_pos_range() as u64
 }
@@ -45,11 +50,18 @@ pub(crate) fn is_pending<L: MachInstLabelUse>(u: &Use<L>, labels: &Labels) -> bo
     u.kind.supports_veneer() && u.veneer.is_none() && !is_reached(u, labels)
 }
 
-/// Returns whether a use belongs to those that don't reach far.
-pub(crate) fn is_near<L: MachInstLabelUse>(u: &Use<L>) -> bool
-    ensures { result ≡ near_to L.kinds u.now }
+/// The number of the queue that a use belongs to.
+pub(crate) fn queue_of<L: MachInstLabelUse>(u: &Use<L>) -> usize
+    ensures { result ≡ queue_number L.kinds u.now }
 {
-    u.kind.max_pos_range() < FAR
+    let reach = u.kind.max_pos_range();
+    if reach < NEAR_REACH {
+        0
+    } else if reach < FAR_REACH {
+        1
+    } else {
+        2
+    }
 }
 
 /// Returns whether a use names this label.

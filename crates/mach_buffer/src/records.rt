@@ -23,7 +23,7 @@ pub enum FinalizedMachExceptionHandler {
     Default(u32),
 }
 
-/// What a record tells of the code at its offset.
+/// What a record reports of the code at its offset.
 #[derive(Drop)]
 pub enum Event {
     /// The instruction there may trap, for this cause.
@@ -39,7 +39,7 @@ pub enum Event {
     TryCallSite(Option<u32>, List<TryCallHandler>),
     /// A call that may be patched ends there, of so many bytes.
     PatchableCallSite(u32),
-    /// A call returns there; the map tells of so many bytes of the frame, from the stack pointer upwards.
+    /// A call returns there; the map covers so many bytes of the frame, from the stack pointer upwards.
     StackMap(u32, UserStackMap),
 }
 
@@ -93,7 +93,7 @@ pub struct MachTryCallSite {
 #[derive(Drop)]
 pub struct MachStackMap {
     pub offset: u32,
-    /// How many bytes of the frame it tells of, from the stack pointer upwards.
+    /// How many bytes of the frame it covers, from the stack pointer upwards.
     pub span: u32,
     pub map: UserStackMap,
 }

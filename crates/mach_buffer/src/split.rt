@@ -1,4 +1,4 @@
-//! Records parted by what they tell.
+//! Records split by what they report.
 #![tactic(auto, using(std::proofs::lemmas::Grind::common_steps))]
 
 ghost use Rattle.std.specs.Prelude.{◌≡◌, map, IfOk};

@@ -17,7 +17,7 @@ use Rattle.rv_inst.specs.Sizes.{words_in, extent_of, line_space}
 use Rattle.mach_buffer.specs.declared.uses.Use.{Use}
 use Rattle.mach_buffer.specs.Buffer.{bytes_of, uses_of, place_of}
 use Rattle.mach_buffer.specs.Windows.{or_place}
-use Rattle.mach_buffer.proofs.Laws.{append_each, none_waits, bound_waits}
+use Rattle.mach_buffer.proofs.Laws.{append_each, none_pending, bound_pending}
 use Rattle.rv_emit.specs.Emitted.{Buffer, AppendsInst, AppendsIsland, IslandIfNeeded}
 use Rattle.rv_inst.specs.Uses.{uses_in}
 use Rattle.rv_emit.proofs.Laws.{Each, waits, far_waits, bytes_put}
@@ -64,7 +64,7 @@ passing_less test less weaker (u ∷ uses) = on (test u) refl (passing_less test
 
 -- after an island nothing is pending
 ends_island : (old new : Buffer) → AppendsIsland old new → EndsIn [] new
-ends_island old new p = record { same = passing_none (waits (place_of new)) (uses_of new) (none_waits (waits (place_of new)) label_kinds (uses_of new) p.settled) }
+ends_island old new p = record { same = passing_none (waits (place_of new)) (uses_of new) (none_pending (waits (place_of new)) label_kinds (uses_of new) p.settled) }
 
 -- an instruction adds its own uses, of which those of a table are never pending
 ends_block : (context : Context) (inst : Inst) (old new : Buffer) (uses : List (Use LabelUse)) → AppendsInst context inst old new → EndsIn uses old → EndsIn (uses ++ uses_in context (length (bytes_of old)) (length (bytes_of new)) inst) new
@@ -92,7 +92,7 @@ ends_bind label old new span uses p e = record {
       where
         on : (c : Bool) → after u ≡ c → c ≡ false
         on false h = refl
-        on true h = absurd (true≢false (sym (bound_waits label_kinds (place_of old) (place_of new) label.number p.unbound p.kept u h) ∙ none))
+        on true h = absurd (true≢false (sym (bound_pending label_kinds (place_of old) (place_of new) label.number p.unbound p.kept u h) ∙ none))
 
 -- an instruction without uses that may go back, after an island where one is needed
 after_ends : (context : Context) (inst : Inst) (space : ℕ) (mid last new : Buffer) (made : Bool) (start end : ℕ) (uses : List (Use LabelUse)) → start ≡ length (bytes_of mid) → end ≡ length (bytes_of new) → ((at to : ℕ) → uses_in context at to inst ≡ []) → IslandIfNeeded space mid last made → AppendsInst context inst last new → EndsIn uses mid →

@@ -11,7 +11,7 @@ use Rattle.rv_base.specs.declared.constant.VCodeConstant.{VCodeConstant}
 use Rattle.rv_base.specs.declared.label.MachLabel.{MachLabel}
 use Rattle.mach_buffer.specs.declared.records.ConstPlace.{ConstPlace}
 use Rattle.mach_buffer.specs.declared.uses.Use.{Use}
-use Rattle.mach_buffer.specs.Shape.{Shape, with_bytes, waiting_of}
+use Rattle.mach_buffer.specs.Shape.{Shape, with_bytes, unplaced_of}
 use Rattle.mach_buffer.specs.Constants.{zeros, aligned_to, put_constant_at, put_constant, put_each, put_constants}
 use Rattle.mach_buffer.specs.Veneers.{put_at, put_veneer, put_all}
 use Rattle.mach_buffer.specs.Islands.{Islanded, padding, padded, island_veneers}
@@ -161,7 +161,7 @@ adds_veneers kinds (index ∷ order) s = adds_both (adds_veneer kinds index (sli
 
 -- veneers, and the constants that wait
 adds_last : {L : Type 0} (kinds : Kinds L) (order : List ℕ) (s : Shape L) → AddsConstants s (put_constants (put_all kinds order s))
-adds_last kinds order s = adds_both (adds_veneers kinds order s) (adds_each (waiting_of (put_all kinds order s)) (put_all kinds order s))
+adds_last kinds order s = adds_both (adds_veneers kinds order s) (adds_each (unplaced_of (put_all kinds order s)) (put_all kinds order s))
 
 -- ---- an island, and the end
 

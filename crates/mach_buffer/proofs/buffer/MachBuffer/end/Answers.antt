@@ -8,12 +8,12 @@ use Rattle.mach_buffer.proofs.buffer.MachBuffer.end.Goals as goal
 
 pub patch_all-requires : goal.patch_all-requires
 unfolding IsSound
-patch_all-requires g c = rw (c.deref_mut.ensures.value, c.deref-2.ensures.value) (can_patch_all (last_done g.met.L.MachInstLabelUse.veneer_ok c.requires.sound c.requires.ready c.in_ok-put_last.ensures))
+patch_all-requires g c = rw (c.deref_mut.ensures.value, c.deref-2.ensures.value) (can_patch_all (last_done g.met.L.MachInstLabelUse.veneer_ok c.requires.sound.whole c.requires.ready c.in_ok-put_last.ensures))
 
 pub returns : goal.returns
 unfolding IsSound
 returns g c =
-    let d = last_done g.met.L.MachInstLabelUse.veneer_ok c.requires.sound c.requires.ready c.in_ok-put_last.ensures in
+    let d = last_done g.met.L.MachInstLabelUse.veneer_ok c.requires.sound.whole c.requires.ready c.in_ok-put_last.ensures in
     let e = c.in_ok-put_last.ensures in
     let now = c.put_last.new.self in
     let q = c.patch_all.ensures in

@@ -11,13 +11,13 @@ unfolding IsSound
 returns-clause-unbound g c =
     let ok = c.in_ok-check.ensures.ok in
     let e = c.allocate-label.ensures in
-    ap (λ p. p c.allocate-label.result.number) e.places ∙ none_of _ (λ at q. not_next (shape_of c.args.self.now) (c.requires.few ok) e.number ((c.requires.sound ok).places _ at q).2)
+    ap (λ p. p c.allocate-label.result.number) e.places ∙ none_of _ (λ at q. not_next (shape_of c.args.self.now) (c.requires.few ok) e.number ((c.requires.sound ok).whole.places _ at q).2)
 
 pub returns-clause-unnamed : goal.returns-clause-unnamed
 unfolding IsSound
 returns-clause-unnamed g c =
     let ok = c.in_ok-check.ensures.ok in
-    λ j u h q. not_next (shape_of c.args.self.now) (c.requires.few ok) (q ∙ c.allocate-label.ensures.number) ((c.requires.sound ok).known j u h)
+    λ j u h q. not_next (shape_of c.args.self.now) (c.requires.few ok) (q ∙ c.allocate-label.ensures.number) ((c.requires.sound ok).whole.known j u h)
 
 pub returns-clause-sound : goal.returns-clause-sound
 unfolding IsSound

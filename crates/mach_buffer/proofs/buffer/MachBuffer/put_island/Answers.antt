@@ -57,5 +57,5 @@ returns g c =
     let inside = c.in_ok-pad-2.ensures.inside ∙ c.in_ok-put_pending.ensures.inside ∙ c.in_ok-pad.ensures.inside in
     let new : Inside = record { pending = c.clear.new.self; seen = c.pad-2.new.self.constants.seen.items } in
     let x : IslandDone g.L.MachInstLabelUse.kinds c.args.after_island s (shape_of c.place_label.new.self) (inside_of c.place_label.new.self) =
-    rw (l.inside, whole) (island_done g.met.L.MachInstLabelUse.veneer_ok s (inside_of c.args.self.now) new c.args.after_island _ c.needs_own-needed.result (ready g d.After-needs_own-needed (in_order g d.After-len) (grind (arith, length-map))) c.clear.ensures.near c.clear.ensures.far (ap (λ (i : Inside). i.seen) inside)) in
+    rw (l.inside, whole) (island_done g.met.L.MachInstLabelUse.veneer_ok s (inside_of c.args.self.now) new c.args.after_island _ c.needs_own-needed.result (ready g d.After-needs_own-needed (in_order g d.After-len) (grind (arith, length-map))) c.clear.ensures (ap (λ (i : Inside). i.seen) inside)) in
     record { island = x.island; grows = x.grows; own = x.own; windows = x.windows; constants = x.constants; sound = x.sound; spoiled = search rules }

@@ -15,7 +15,7 @@ put_pending-requires g c =
     let K = g.L.MachInstLabelUse.kinds in
     let order = map key_number c.in_ok-order.order.items in
     let count : c.len.result ≡ length order = grind (arith, length-map) in
-    rw (c.in_ok-pad_last.ensures.shape, count, c.deref-2.ensures.value) (last_can K (shape_of c.args.self.now) order c.requires.sound c.requires.ready (rw (← other_none K (place_of c.args.self.now), ← c.deref.ensures.value) c.in_ok-order.ensures))
+    rw (c.in_ok-pad_last.ensures.shape, count, c.deref-2.ensures.value) (last_can K (shape_of c.args.self.now) order c.requires.sound.whole c.requires.ready (rw (← other_none K (place_of c.args.self.now), ← c.deref.ensures.value) c.in_ok-order.ensures))
 
 pub returns : goal.returns
 returns g c =

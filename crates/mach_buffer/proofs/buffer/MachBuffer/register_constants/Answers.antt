@@ -7,7 +7,7 @@ use Rattle.mach_buffer.proofs.buffer.MachBuffer.register_constants.Goals as goal
 
 pub register-requires-clause-named : goal.register-requires-clause-named
 unfolding IsSound
-register-requires-clause-named g c = let ok = c.in_ok-check.ensures.ok in none_named (shape_of c.args.self.now) (c.requires.sound ok).ordered (c.requires.none ok)
+register-requires-clause-named g c = let ok = c.in_ok-check.ensures.ok in none_named (shape_of c.args.self.now) (c.requires.sound ok).whole.ordered (c.requires.none ok)
 
 pub returns-in-Ok-clause-sound : goal.returns-in-Ok-clause-sound
 unfolding IsSound

@@ -11,8 +11,8 @@ loop-number-preserved g c =
     let i = c.loop-number.number-index in
     let next : take (i + 1) all ≡ take i all ++ get_or items i 0 ∷ [] = rw c.deref-number-items.ensures.value (take_more all i 0 (rw c.deref-number-items.ensures.value at c.loop-number-test.true)) in
     elim c.match-queued_use.branch [
-      | in-Some+in_ok-push-in-Some w ↦ rw (next, w.queue-is, w.in_ok-push-in-Some.ensures.numbers, w.in_ok-push-in-Some.ensures.slack, w.deadline.ensures.value) (tidy_take (get_or items i 0) w.in-Some.u w.in-Some.ensures c.loop-number.invariant)
-      | in-None w ↦ rw (next, w.queue-is) (tidy_skip (get_or items i 0) w.in-None.ensures c.loop-number.invariant)
+      | in-Some+in_ok-push-in-Some w ↦ rw (next, w.tidied-is, w.in_ok-push-in-Some.ensures.numbers, w.in_ok-push-in-Some.ensures.slack, w.deadline.ensures.value) (tidy_take (get_or items i 0) w.in-Some.u w.in-Some.ensures c.loop-number.invariant)
+      | in-None w ↦ rw (next, w.tidied-is) (tidy_skip (get_or items i 0) w.in-None.ensures c.loop-number.invariant)
     ]
 
 pub returns : goal.returns

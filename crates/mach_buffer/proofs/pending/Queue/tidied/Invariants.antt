@@ -4,4 +4,4 @@ use Rattle.mach_buffer.proofs.QueueContents.{Tidied}
 use Rattle.mach_buffer.proofs.pending.Queue.tidied.Given as goal
 
 abbrev pub invariant-loop-number : goal.invariant-loop-number
-invariant-loop-number g l = let K = g.L.MachInstLabelUse in Tidied K.kinds (is_queued K.kinds (place_in l.labels) l.near) l.uses l.queue.numbers.items l.queue.slack (take l.number-index l.self.numbers.items)
+invariant-loop-number g l = let K = g.L.MachInstLabelUse in Tidied K.kinds (is_queued K.kinds (place_in l.labels) l.queue) l.uses l.tidied.numbers.items l.tidied.slack (take l.number-index l.self.numbers.items)
