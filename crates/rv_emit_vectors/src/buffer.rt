@@ -9,8 +9,8 @@ ghost use Rattle.mach_buffer.specs.Buffer.{bytes_of, place_of, allocated_of, IsS
 use crate::toy::Toy;
 use mach_buffer::{Finished, MachBuffer};
 use rv_base::{
-    Constant, MachInstLabelUse, MachLabel, OutOfMemory, Reloc, RelocTarget, TrapCode, UnwindInst,
-    VCodeConstant, f_reg,
+    Constant, IrType, List, MachInstLabelUse, MachLabel, OutOfMemory, Reloc, RelocTarget, TrapCode,
+    TryCallHandler, UnwindInst, UserStackMap, VCodeConstant, f_reg,
 };
 use std::alloc::Global;
 use std::test::Fail;
@@ -164,6 +164,14 @@ pub enum Note {
     RefersTo(Reloc, u32, i64),
     /// A step in the making of the frame.
     Makes(Step),
+    /// A call site.
+    Calls,
+    /// The call site of a call that may throw: the distance to the frame pointer, where it is known, and the handlers.
+    Throws(Option<u32>, &'static [TryCallHandler]),
+    /// A call of so many bytes that may be patched.
+    Patches(u32),
+    /// How many bytes of the frame a stack map covers, and the values that it holds.
+    Maps(u32, &'static [(IrType, u32)]),
 }
 
 /// A step in the making of a frame, with its distances or sizes.
@@ -346,7 +354,11 @@ fn bind<L: MachInstLabelUse>(buffer: &mut MachBuffer<L>, label: u32) -> Result<(
 }
 
 /// Records what a note asks.
-fn put_note<L: MachInstLabelUse>(buffer: &mut MachBuffer<L>, note: Note) -> Result<(), OutOfMemory>
+fn put_note<L: MachInstLabelUse>(
+    alloc: Global,
+    buffer: &mut MachBuffer<L>,
+    note: Note,
+) -> Result<(), OutOfMemory>
     requires kept { IsKept L.kinds 4 buffer.old }
     ensures kept { OnOk result (IsKept L.kinds 4 buffer.new) }
     ensures registered { OnOk result (registered_of buffer.new ≡ registered_of buffer.old) }
@@ -356,12 +368,21 @@ fn put_note<L: MachInstLabelUse>(buffer: &mut MachBuffer<L>, note: Note) -> Resu
         Note::Refers(kind, target, addend) => buffer.add_reloc(kind, target, addend)?,
         Note::RefersTo(kind, offset, addend) => buffer.add_reloc_to(kind, offset, addend)?,
         Note::Makes(step) => buffer.add_unwind(inst_of(step))?,
+        Note::Calls => buffer.add_call_site()?,
+        Note::Throws(frame_offset, handlers) => buffer.add_try_call_site(frame_offset, handlers)?,
+        Note::Patches(len) => buffer.add_patchable_call_site(len)?,
+        Note::Maps(span, entries) => {
+            let entries = List::from_slice(alloc, entries)?;
+            let here = buffer.cur_offset();
+            buffer.push_user_stack_map(here, span, &UserStackMap { entries })?
+        }
     }
     Ok(())
 }
 
 /// Puts what an item asks.
 pub fn put_item<L: MachInstLabelUse>(
+    alloc: Global,
     buffer: &mut MachBuffer<L>,
     kind: L,
     constants: &[Constant],
@@ -392,7 +413,7 @@ pub fn put_item<L: MachInstLabelUse>(
             put_name(buffer, kind, VCodeConstant::from_u32(number), islands)
         }
         Item::Record(note) => {
-            put_note(buffer, note)?;
+            put_note(alloc, buffer, note)?;
             Ok(())
         }
     }
@@ -457,7 +478,7 @@ pub fn assemble<L: MachInstLabelUse>(
     }
     let mut buffer = empty::<L>(alloc, constants)?;
     for item in items {
-        put_item(&mut buffer, kind, constants, *item, islands)?;
+        put_item(alloc, &mut buffer, kind, constants, *item, islands)?;
     }
     end(buffer, constants)
 }

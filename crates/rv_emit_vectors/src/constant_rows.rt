@@ -181,7 +181,14 @@ fn room_for_constants(alloc: Global) -> Result<[bool; 4], Fail> {
     let mut buffer = empty::<Toy>(alloc, &constants)?;
     let too_many = buffer.has_room(CODE_LIMIT - 72);
     let most = buffer.has_room(CODE_LIMIT - 73);
-    put_item(&mut buffer, Toy::Short, &constants, Name(1), &mut islands)?;
+    put_item(
+        alloc,
+        &mut buffer,
+        Toy::Short,
+        &constants,
+        Name(1),
+        &mut islands,
+    )?;
     // The constant stands from 16 to 21, and the island ends at 24.
     make_way(&mut buffer, Toy::Short, 250, &mut islands)?;
     let more = buffer.has_room(CODE_LIMIT - 75);

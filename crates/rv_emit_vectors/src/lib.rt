@@ -4,6 +4,8 @@
 #[cfg(test)]
 mod buffer;
 #[cfg(test)]
+mod call_record_rows;
+#[cfg(test)]
 mod constant_rows;
 #[cfg(test)]
 mod emission;

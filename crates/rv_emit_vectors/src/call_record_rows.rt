@@ -1,0 +1,137 @@
+//! What a finished buffer reports of calls: their sites, those that may throw, those that may be patched, and the values on the
+//! stack where they return. The offsets are counted by hand from the bytes of the items.
+
+use crate::buffer::Item::{Bind, Fill, Record, Use};
+use crate::buffer::Note::{Calls, Maps, Patches, Throws};
+use crate::buffer::{Item, assemble};
+use crate::toy::Toy;
+use mach_buffer::{FinalizedMachExceptionHandler, MachPatchable, MachStackMap, MachTryCallSite};
+use rv_base::{IrType, MachLabel, TryCallHandler};
+use std::alloc::Global;
+use std::process::Abort;
+use std::test::Fail;
+
+/// A call that may throw: its offset, the distance to the frame pointer, and its handlers.
+type Thrower = (u32, Option<u32>, &'static [FinalizedMachExceptionHandler]);
+
+/// A stack map: its offset, how many bytes of the frame it covers, and its values.
+type Map = (u32, u32, &'static [(IrType, u32)]);
+
+/// Items with the records of their calls.
+struct Row {
+    items: &'static [Item],
+    call_sites: &'static [u32],
+    throwers: &'static [Thrower],
+    patchable: &'static [MachPatchable],
+    maps: &'static [Map],
+}
+
+const FIRST: MachLabel = MachLabel { number: 0 };
+
+const SECOND: MachLabel = MachLabel { number: 1 };
+
+const THIRD: MachLabel = MachLabel { number: 2 };
+
+const ROWS: [Row; 2] = [
+    // Calls at 4, 6 and 12; the first handler is at 6, as the call itself, and the second at 12.
+    Row {
+        items: &[
+            Fill(4),
+            Record(Calls),
+            Fill(2),
+            Record(Throws(
+                Some(32),
+                &[
+                    TryCallHandler::Tag(5, FIRST),
+                    TryCallHandler::Default(SECOND),
+                ],
+            )),
+            Record(Maps(48, &[(IrType::I64, 8), (IrType::I32, 4294967295)])),
+            Bind(0),
+            Fill(6),
+            Bind(1),
+            Record(Patches(12)),
+            Record(Calls),
+        ],
+        call_sites: &[4, 12],
+        throwers: &[(
+            6,
+            Some(32),
+            &[
+                FinalizedMachExceptionHandler::Tag(5, 6),
+                FinalizedMachExceptionHandler::Default(12),
+            ],
+        )],
+        patchable: &[MachPatchable {
+            offset: 12,
+            len: 12,
+        }],
+        maps: &[(6, 48, &[(IrType::I64, 8), (IrType::I32, 4294967295)])],
+    },
+    // The island from 18 to 32 comes before all records, and the handler's label is bound at the end, at 250.
+    Row {
+        items: &[
+            Fill(16),
+            Use(1),
+            Fill(216),
+            Record(Throws(None, &[TryCallHandler::Default(THIRD)])),
+            Record(Calls),
+            Record(Patches(8)),
+            Record(Maps(0, &[])),
+            Record(Patches(4)),
+            Fill(2),
+        ],
+        call_sites: &[248],
+        throwers: &[(248, None, &[FinalizedMachExceptionHandler::Default(250)])],
+        patchable: &[
+            MachPatchable {
+                offset: 248,
+                len: 8,
+            },
+            MachPatchable {
+                offset: 248,
+                len: 4,
+            },
+        ],
+        maps: &[(248, 0, &[])],
+    },
+];
+
+/// Stops unless these are the calls that may throw.
+fn assert_throwers(rt: &impl Abort, found: &[MachTryCallSite], throwers: &[Thrower]) {
+    assert_eq!(rt; found.len(), throwers.len());
+    for (site, (offset, frame_offset, handlers)) in found.iter().zip(throwers) {
+        assert_eq!(rt; site.offset, *offset);
+        assert_eq!(rt; site.frame_offset, *frame_offset);
+        assert_eq!(rt; site.handlers.as_slice(), *handlers);
+    }
+}
+
+/// Stops unless these are the stack maps.
+fn assert_maps(rt: &impl Abort, found: &[MachStackMap], maps: &[Map]) {
+    assert_eq!(rt; found.len(), maps.len());
+    for (map, (offset, span, entries)) in found.iter().zip(maps) {
+        assert_eq!(rt; map.offset, *offset);
+        assert_eq!(rt; map.span, *span);
+        assert_eq!(rt; map.map.entries.as_slice(), *entries);
+    }
+}
+
+/// Stops unless the code of a row has its records.
+fn assert_row(rt: &impl Abort, alloc: Global, row: &Row) -> Result<(), Fail> {
+    let mut islands = Vec::new(alloc);
+    let code = assemble(alloc, Toy::Short, &[], row.items, &mut islands)?;
+    assert_eq!(rt; code.call_sites.as_slice(), row.call_sites);
+    assert_throwers(rt, code.try_call_sites.as_slice(), row.throwers);
+    assert_eq!(rt; code.patchable_call_sites.as_slice(), row.patchable);
+    assert_maps(rt, code.stack_maps.as_slice(), row.maps);
+    Ok(())
+}
+
+#[test]
+fn records_of_calls_are_split_in_order(rt: HostRuntime) -> Result<(), Fail> {
+    for row in &ROWS {
+        assert_row(&rt, rt.alloc(), row)?;
+    }
+    Ok(())
+}
