@@ -170,8 +170,8 @@ pub enum Note {
     Throws(Option<u32>, &'static [TryCallHandler]),
     /// A call of so many bytes that may be patched.
     Patches(u32),
-    /// How many bytes of the frame a stack map covers, and the values that it holds.
-    Maps(u32, &'static [(IrType, u32)]),
+    /// How many bytes of the frame a stack map covers, and the offsets of the integers of 64 bits that it holds.
+    Maps(u32, &'static [u32]),
 }
 
 /// A step in the making of a frame, with its distances or sizes.
@@ -353,6 +353,17 @@ fn bind<L: MachInstLabelUse>(buffer: &mut MachBuffer<L>, label: u32) -> Result<(
     Ok(())
 }
 
+/// A stack map of integers of 64 bits at these offsets.
+fn map_of(alloc: Global, offsets: &[u32]) -> Result<UserStackMap, OutOfMemory> {
+    let mut entries = Vec::new(alloc);
+    for offset in offsets {
+        entries.push((IrType::I64, *offset))?;
+    }
+    Ok(UserStackMap {
+        entries: List::from_vec(entries),
+    })
+}
+
 /// Records what a note asks.
 fn put_note<L: MachInstLabelUse>(
     alloc: Global,
@@ -371,10 +382,10 @@ fn put_note<L: MachInstLabelUse>(
         Note::Calls => buffer.add_call_site()?,
         Note::Throws(frame_offset, handlers) => buffer.add_try_call_site(frame_offset, handlers)?,
         Note::Patches(len) => buffer.add_patchable_call_site(len)?,
-        Note::Maps(span, entries) => {
-            let entries = List::from_slice(alloc, entries)?;
+        Note::Maps(span, offsets) => {
+            let map = map_of(alloc, offsets)?;
             let here = buffer.cur_offset();
-            buffer.push_user_stack_map(here, span, &UserStackMap { entries })?
+            buffer.push_user_stack_map(here, span, &map)?
         }
     }
     Ok(())
