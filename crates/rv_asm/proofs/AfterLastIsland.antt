@@ -1,5 +1,5 @@
 -- What is pending since the last island, as lines are put.
-use Rattle.std.proofs.Common.{◌≡◌, ℕ, suc, ◌+◌, ◌⊎◌, inl, inr, Bool, true, false, cond, List, [], ◌∷◌, ◌++◌, length, Option, Some, None, refl, ap, sym, ◌∙◌, subst, arith, ⊎_elim}
+use Rattle.std.proofs.Common.{◌≡◌, ℕ, suc, ◌+◌, ◌<◌, ◌⊎◌, inl, inr, Bool, true, false, cond, List, [], ◌∷◌, ◌++◌, length, Option, Some, None, refl, ap, sym, ◌∙◌, subst, arith, ⊎_elim}
 use Rattle.std.specs.Prelude.{slice_get, nat_eq, nat_lt}
 use Rattle.std.proofs.lemmas.Bool.{true≢false, eq-eqb, ne_eqb, cases_eq, lt-ltb, ltb-true}
 use Rattle.std.proofs.lemmas.List.{append-nil}
@@ -7,26 +7,26 @@ use Rattle.rv_base.specs.declared.label.MachLabel.{MachLabel}
 use Rattle.rv_inst.specs.Context.{Context}
 use Rattle.rv_inst.specs.declared.code.LineSpan.{LineSpan}
 use Rattle.rv_inst.specs.declared.inst.Inst.{Inst}
-use Rattle.rv_inst.specs.declared.inst.Inst.TheVariants.{EmitIsland, BrTable, ReturnCall, ReturnCallInd}
 use Rattle.rv_inst.specs.declared.inst.Line.{Line}
 use Rattle.rv_inst.specs.declared.inst.Line.TheVariants.{Inst as Put, Bind}
 use Rattle.rv_inst.specs.declared.label_use.LabelUse.{LabelUse}
 use Rattle.rv_inst.specs.LabelUse.{label_kinds}
 use Rattle.rv_inst.specs.Rules.{broken_rule}
-use Rattle.rv_inst.specs.Sizes.{words_in, extent_of, line_space}
+use Rattle.rv_inst.specs.Sizes.{Extent, Words, Island, After, Around, words_in, extent_of, line_space}
 use Rattle.mach_buffer.specs.declared.uses.Use.{Use}
 use Rattle.mach_buffer.specs.Buffer.{bytes_of, uses_of, place_of}
 use Rattle.mach_buffer.specs.Windows.{or_place}
 use Rattle.mach_buffer.proofs.Laws.{append_each, none_pending, bound_pending}
-use Rattle.rv_emit.specs.Emitted.{Buffer, AppendsInst, AppendsIsland, IslandIfNeeded}
+use Rattle.rv_emit.specs.Emitted.{Buffer, AppendsCode, AppendsInst, AppendsIsland, IslandIfNeeded, AppendsBy, Appends}
 use Rattle.rv_inst.specs.Uses.{uses_in}
-use Rattle.rv_emit.proofs.Laws.{Each, waits, far_waits, bytes_put}
+use Rattle.rv_emit.proofs.Laws.{Each, waits, far_waits, bytes_put, words_long}
 use Rattle.rv_asm.specs.Reported.{start_of}
 use Rattle.rv_asm.specs.Reported.{end_before}
 use Rattle.rv_asm.specs.LinesInBuffer.{LinesStand, BindPut}
-use Rattle.rv_asm.specs.Reach.{is_island, bound_by}
+use Rattle.rv_asm.specs.Reach.{is_island_of, is_island, bound_by}
 use Rattle.rv_asm.specs.AfterLastIsland.{uses_after_island, passing, EndsIn, AfterLastIsland}
-use Rattle.rv_asm.proofs.LinesAppended.{Appends, InstAppends, LineAppends}
+use Rattle.rv_asm.proofs.LinesAppended.{InstAppends, LineAppends}
+use Rattle.rv_asm.proofs.Extents.{Lacks, lacks}
 use Rattle.rv_asm.proofs.LabelNames.{start_last, room_keeps, emitted_keeps}
 use Rattle.rv_asm.proofs.FirstLines.{own_uses, open_in_island, open_after, open_on, bound_by_more, bound_by_append}
 
@@ -66,14 +66,22 @@ passing_less test less weaker (u ∷ uses) = on (test u) refl (passing_less test
 ends_island : (old new : Buffer) → AppendsIsland old new → EndsIn [] new
 ends_island old new p = record { same = passing_none (waits (place_of new)) (uses_of new) (none_pending (waits (place_of new)) label_kinds (uses_of new) p.settled) }
 
--- an instruction adds its own uses, of which those of a table are never pending
+-- code adds its own uses
+ends_code : (code : List ℕ) (own uses : List (Use LabelUse)) (old new : Buffer) → AppendsCode code own old new → EndsIn uses old → EndsIn (uses ++ own) new
+ends_code code own uses old new p e =
+    let test = waits (place_of old) in
+    let whole : passing test (uses_of old ++ own) ≡ passing test (uses ++ own) = passing_both test (uses_of old) own ∙ ap (λ us. us ++ passing test own) e.same ∙ sym (passing_both test uses own) in
+    record { same = (λ i. passing (waits (p.places i)) (p.uses i)) ∙ whole ∙ (λ i. passing (waits (sym p.places i)) (uses ++ own)) }
+
+-- an instruction adds its own, of which those of a table are never pending
 ends_block : (context : Context) (inst : Inst) (old new : Buffer) (uses : List (Use LabelUse)) → AppendsInst context inst old new → EndsIn uses old → EndsIn (uses ++ uses_in context (length (bytes_of old)) (length (bytes_of new)) inst) new
 ends_block context inst old new uses p e =
     let own = uses_in context (length (bytes_of old)) (length (bytes_of new)) inst in
-    let test = waits (place_of old) in
-    let far : passing test (own ++ p.far) ≡ passing test own = passing_both test own p.far ∙ ap (λ us. passing test own ++ us) (passing_none test p.far (λ j u h. far_waits (place_of old) u (p.table j u h))) ∙ append-nil (passing test own) in
-    let whole : passing test (uses_of old ++ (own ++ p.far)) ≡ passing test (uses ++ own) = passing_both test (uses_of old) (own ++ p.far) ∙ (λ i. e.same i ++ far i) ∙ sym (passing_both test uses own) in
-    record { same = (λ i. passing (waits (p.adds.places i)) (p.adds.uses i)) ∙ whole ∙ (λ i. passing (waits (sym p.adds.places i)) (uses ++ own)) }
+    let test = waits (place_of new) in
+    let none : passing test p.far ≡ [] = passing_none test p.far (λ j u h. far_waits (place_of new) u (p.table j u h)) in
+    let far : passing test (own ++ p.far) ≡ passing test own = passing_both test own p.far ∙ ap (λ us. passing test own ++ us) none ∙ append-nil (passing test own) in
+    let all = ends_code p.code (own ++ p.far) uses old new p.adds e in
+    record { same = all.same ∙ passing_both test uses (own ++ p.far) ∙ ap (λ us. passing test uses ++ us) far ∙ sym (passing_both test uses own) }
 
 -- what was not pending is not pending once a label more is bound
 ends_bind : (label : MachLabel) (old new : Buffer) (span : LineSpan) (uses : List (Use LabelUse)) → BindPut label old new span → EndsIn uses old → EndsIn uses new
@@ -94,37 +102,51 @@ ends_bind label old new span uses p e = record {
         on false h = refl
         on true h = absurd (true≢false (sym (bound_pending label_kinds (place_of old) (place_of new) label.number p.unbound p.kept u h) ∙ none))
 
--- an instruction without uses that may go back, after an island where one is needed
-after_ends : (context : Context) (inst : Inst) (space : ℕ) (mid last new : Buffer) (made : Bool) (start end : ℕ) (uses : List (Use LabelUse)) → start ≡ length (bytes_of mid) → end ≡ length (bytes_of new) → ((at to : ℕ) → uses_in context at to inst ≡ []) → IslandIfNeeded space mid last made → AppendsInst context inst last new → EndsIn uses mid →
-    ((nat_lt (start + words_in (extent_of context inst)) end ≡ true) × EndsIn [] new) ⊎ ((nat_lt (start + words_in (extent_of context inst)) end ≡ false) × EndsIn (uses ++ []) new)
-after_ends context inst space mid last new made start end uses starts ends none room words h =
-    let size = words_in (extent_of context inst) in
-    let long = bytes_put context inst last new words in
-    let block : (more : List (Use LabelUse)) → EndsIn more last → EndsIn (more ++ []) new = λ more e. subst (λ own. EndsIn (more ++ own) new) (none (length (bytes_of last)) (length (bytes_of new))) (ends_block context inst last new more words e) in
-    ⊎_elim
-    (λ same.
-    let level : length (bytes_of last) ≡ length (bytes_of mid) = ap (λ (b : Buffer). length (bytes_of b)) same.1 in
-    inr (not_less (start + size) end (omega (arith, starts, ends, long, level)), block uses (subst (EndsIn uses) (sym same.1) h)))
-    (λ put.
-    let longer = put.1.longer in
-    inl (lt-ltb (start + size) end (omega (arith, starts, ends, long, longer)), block [] (ends_island mid last put.1)))
+-- an island where one is needed before so many bytes leaves nothing that is pending
+room_empty : (space : ℕ) (old new : Buffer) (made : Bool) (uses : List (Use LabelUse)) → IslandIfNeeded space old new made → EndsIn uses old → ((length (bytes_of old) < length (bytes_of new)) × EndsIn [] new) ⊎ ((length (bytes_of new) ≡ length (bytes_of old)) × EndsIn uses new)
+room_empty space old new made uses room h = ⊎_elim
+    (λ same. inr (ap (λ (b : Buffer). length (bytes_of b)) same.1, subst (EndsIn uses) (sym same.1) h))
+    (λ put. let longer = put.1.longer in inl (omega (arith, longer), ends_island old new put.1))
     room.put
 
 -- an instruction: its uses are added, to those before it where no island stands in it
 emitted_ends : (context : Context) (inst : Inst) (mid new : Buffer) (start end : ℕ) (uses : List (Use LabelUse)) → start ≡ length (bytes_of mid) → end ≡ length (bytes_of new) → Appends context inst mid new → EndsIn uses mid →
     ((is_island context (Put inst) start end ≡ true) × EndsIn (uses_in context start end inst) new) ⊎ ((is_island context (Put inst) start end ≡ false) × EndsIn (uses ++ uses_in context start end inst) new)
-emitted_ends context (EmitIsland space) mid new start end uses starts ends e h = ⊎_elim
-    (λ same.
-    let level : start ≡ end = starts ∙ sym (ap (λ (b : Buffer). length (bytes_of b)) same.1) ∙ sym ends in
-    inr (not_less start end level, subst (λ us. EndsIn us new) (sym (append-nil uses)) (subst (EndsIn uses) (sym same.1) h)))
-    (λ put.
-    let longer = put.1.longer in
-    inl (lt-ltb start end (omega arith), ends_island mid new put.1))
-    e.1.put
-emitted_ends context (BrTable index tmp1 tmp2 targets) mid new start end uses starts ends (last, made, room, words) h = after_ends context (BrTable index tmp1 tmp2 targets) _ mid last new made start end uses starts ends (λ at to. refl) room words h
-emitted_ends context (ReturnCall info) mid new start end uses starts ends (last, made, room, words) h = after_ends context (ReturnCall info) _ mid last new made start end uses starts ends (λ at to. refl) room words h
-emitted_ends context (ReturnCallInd info) mid new start end uses starts ends (last, made, room, words) h = after_ends context (ReturnCallInd info) _ mid last new made start end uses starts ends (λ at to. refl) room words h
-emitted_ends context inst mid new start end uses starts ends e h = inr (refl, subst (λ n. EndsIn (uses ++ uses_in context n end inst) new) (sym starts) (subst (λ n. EndsIn (uses ++ uses_in context (length (bytes_of mid)) n inst) new) (sym ends) (ends_block context inst mid new uses e h)))
+emitted_ends context inst mid new start end uses starts ends e h = by (extent_of context inst) refl (lacks context inst) e
+  where
+    own : List (Use LabelUse)
+    own = uses_in context start end inst
+
+    -- by its offsets
+    placed : (more : List (Use LabelUse)) → EndsIn (more ++ uses_in context (length (bytes_of mid)) (length (bytes_of new)) inst) new → EndsIn (more ++ own) new
+    placed more g = subst (λ n. EndsIn (more ++ uses_in context n end inst) new) (sym starts) (subst (λ n. EndsIn (more ++ uses_in context (length (bytes_of mid)) n inst) new) (sym ends) g)
+
+    -- without uses
+    bare : (more : List (Use LabelUse)) → own ≡ [] → EndsIn more new → EndsIn (more ++ own) new
+    bare more none g = subst (λ us. EndsIn (more ++ us) new) (sym none) (subst (λ us. EndsIn us new) (sym (append-nil more)) g)
+
+    by : (e : Extent) → extent_of context inst ≡ e → Lacks context e inst → AppendsBy context e inst mid new → ((is_island_of e start end ≡ true) × EndsIn own new) ⊎ ((is_island_of e start end ≡ false) × EndsIn (uses ++ own) new)
+    by (Words size) is lack words = inr (refl, placed uses (ends_block context inst mid new uses words h))
+    by (Island space) is lack (made, room) = ⊎_elim
+        (λ put. let longer = put.0 in inl (lt-ltb start end (omega (arith, starts, ends, longer)), bare [] (lack.0 start end) put.1))
+        (λ none. let level = none.0 in inr (not_less start end (omega (arith, starts, ends, level)), bare uses (lack.0 start end) none.1))
+        (room_empty space mid new made uses room h)
+    by (After space size more) is lack (last, made, room, words) =
+        let long = bytes_put context inst last new words ∙ ap (λ e. length (bytes_of last) + words_in e) is in
+        let block : (us : List (Use LabelUse)) → EndsIn us last → EndsIn us new = λ us g. subst (λ us. EndsIn us new) (append-nil us) (subst (λ own. EndsIn (us ++ own) new) (lack.0 (length (bytes_of last)) (length (bytes_of new))) (ends_block context inst last new us words g)) in
+        ⊎_elim
+        (λ put. let longer = put.0 in inl (lt-ltb (start + size) end (omega (arith, starts, ends, long, longer)), bare [] (lack.0 start end) (block [] put.1)))
+        (λ none. let level = none.0 in inr (not_less (start + size) end (omega (arith, starts, ends, long, level)), bare uses (lack.0 start end) (block uses none.1)))
+        (room_empty space mid last made uses room h)
+    by (Around before space after) is lack a =
+        let first_long = words_long before [] _ mid a.mid a.first in
+        let second_long = words_long after _ [] a.last new a.second in
+        let first : EndsIn uses a.mid = subst (λ us. EndsIn us a.mid) (append-nil uses) (ends_code a.first.code [] uses mid a.mid a.first.adds h) in
+        let second : (us : List (Use LabelUse)) → EndsIn us a.last → EndsIn (us ++ own) new = λ us g. placed us (ends_code a.second.code _ us a.last new a.second.adds g) in
+        ⊎_elim
+        (λ put. let longer = put.0 in inl (lt-ltb (start + (before + after)) end (omega (arith, starts, ends, first_long, second_long, longer)), second [] put.1))
+        (λ none. let level = none.0 in inr (not_less (start + (before + after)) end (omega (arith, starts, ends, first_long, second_long, level)), second uses none.1))
+        (room_empty space a.mid a.last a.made uses a.room first)
 
 -- ---- labels
 

@@ -24,7 +24,7 @@ use Rattle.rv_asm.specs.Reported.{line_returns, returns_from}
 use Rattle.rv_asm.specs.AfterLastIsland.{AfterLastIsland}
 use Rattle.rv_asm.specs.Reach.{NotEarly, ReachesOn}
 use Rattle.rv_asm.specs.FinishedCode.{IsFinished}
-use Rattle.rv_asm.proofs.RefusalOrder.{frame_small, none_unfit, no_rule_broken, bound_once, bound_by, named_is_bound, sum_small}
+use Rattle.rv_asm.proofs.RefusalOrder.{frame_small, none_unfit, no_rule_broken, bound_once, bound_by, named_is_bound, sum_small, lines_small}
 use Rattle.rv_asm.proofs.Finish.{can_finish, finished_short}
 use Rattle.rv_asm.proofs.LinesAppended.{line_appends}
 use Rattle.rv_asm.proofs.CallReturns.{returns_next, returns_within}
@@ -148,7 +148,7 @@ so_far_next context setting lines n spans new_spans old new line span e s h inde
     let p = line_appends context setting line old new span rule s.built.sound put in
     let built = built_next context setting (take n lines) line spans span old new rule s.built put at in
     let named = named_next context (take n lines) spans line span old new rule s.named s.built.count p in
-    let sized = sized_next context (take n lines) line old new span rule s.sized p in
+    let sized = sized_next context (take n lines) line old new span rule (lines_small context lines e n line h) s.sized p in
     let since = since_next context (take n lines) spans line span old new s.built s.since rule p in
     let early = early_next context (take n lines) spans line span old new s.built s.since p s.early in
     let reach = reaches_next context (take n lines) spans line span old new s.built p since sized s.reach in

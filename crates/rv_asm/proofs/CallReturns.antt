@@ -1,5 +1,5 @@
 -- Where the calls of lines return: of one line more, and the one that is found by a line's index.
-use Rattle.std.proofs.Common.{◌≡◌, ℕ, zero, suc, ◌+◌, ◌<◌, ◌≤◌, Bool, true, false, List, [], ◌∷◌, ◌++◌, length, Option, Some, None, refl, ap, sym, ◌∙◌, subst, arith, append_assoc, append-nil}
+use Rattle.std.proofs.Common.{◌≡◌, ℕ, zero, suc, ◌+◌, ◌<◌, ◌≤◌, Bool, true, false, List, [], ◌∷◌, ◌++◌, length, Option, Some, None, pos, refl, ap, sym, ◌∙◌, subst, arith, append_assoc, append-nil}
 use Rattle.std.specs.Prelude.{slice_get, nat_eq, option_map, if◌then◌else◌}
 use Rattle.std.specs.List.{AllByRecursion}
 use Rattle.std.proofs.lemmas.Bool.{eq-eqb, ne_eqb}
@@ -13,13 +13,19 @@ use Rattle.rv_inst.specs.declared.inst.Inst.{Inst}
 use Rattle.rv_inst.specs.declared.inst.Inst.TheVariants.{Call, CallInd}
 use Rattle.rv_inst.specs.declared.inst.Line.{Line}
 use Rattle.rv_inst.specs.declared.inst.Line.TheVariants.{Inst as Put, Bind}
-use Rattle.rv_emit.specs.Emitted.{Buffer}
-use Rattle.rv_emit.proofs.Laws.{bytes_put}
+use Rattle.mach_buffer.specs.Buffer.{bytes_of}
+use Rattle.rv_base.specs.declared.call.TryCallInfo.{TryCallInfo}
+use Rattle.rv_base.specs.Regs.{number_of}
+use Rattle.rv_inst.specs.Forms.{short_jalr}
+use Rattle.rv_inst.specs.Returns.{StackLoad, result_loads, loads_unless}
+use Rattle.rv_inst.specs.Sizes.{Extent, Words, Island, After, Around, words_in, extent_of, call_extent}
+use Rattle.rv_emit.specs.Emitted.{Buffer, AppendsBy, Appends}
+use Rattle.rv_emit.proofs.Laws.{bytes_put, words_long}
 use Rattle.rv_asm.specs.LinesInBuffer.{ReturnsWithin}
 use Rattle.rv_asm.specs.Reported.{start_of, return_from, line_returns, returns_from}
 use Rattle.rv_asm.specs.Simulation.{return_at}
 use Rattle.rv_asm.proofs.LabelNames.{start_more, start_last}
-use Rattle.rv_asm.proofs.LinesAppended.{InstAppends, LineAppends}
+use Rattle.rv_asm.proofs.LinesAppended.{room_longer, InstAppends, LineAppends}
 
 -- ---- one line more
 
@@ -49,9 +55,41 @@ returns_next flags lines n spans line span count index =
 
 -- ---- a call returns within its line
 
+-- its words are put before it ends
+appended_within : (context : Context) (inst : Inst) (old new : Buffer) → Appends context inst old new → length (bytes_of old) + words_in (extent_of context inst) ≤ length (bytes_of new)
+appended_within context inst old new e = by (extent_of context inst) refl e
+  where
+    by : (e : Extent) → extent_of context inst ≡ e → AppendsBy context e inst old new → length (bytes_of old) + words_in e ≤ length (bytes_of new)
+    by (Words size) is words = let long = bytes_put context inst old new words ∙ ap (λ e. length (bytes_of old) + words_in e) is in omega (arith, long)
+    by (Island space) is (made, room) = let longer = room_longer space old new made room in omega (arith, longer)
+    by (After space size more) is (mid, made, room, words) =
+        let longer = room_longer space old mid made room in
+        let long = bytes_put context inst mid new words ∙ ap (λ e. length (bytes_of mid) + words_in e) is in
+        omega (arith, longer, long)
+    by (Around before space after) is a =
+        let first = words_long before [] _ old a.mid a.first in
+        let longer = room_longer space a.mid a.last a.made a.room in
+        let second = words_long after _ [] a.last new a.second in
+        omega (arith, first, longer, second)
+
+-- a call's first words are its own instructions
+call_least : (flags : IsaFlags) (jump popped : ℕ) (loads : List StackLoad) (t : Option TryCallInfo) → jump ≤ words_in (call_extent flags jump popped loads t)
+call_least flags jump popped [] t = omega arith
+call_least flags jump popped (l ∷ loads) t = omega arith
+
 inst_returns : (context : Context) (inst : Inst) (i : ℕ) (old new : Buffer) (span : LineSpan) → InstAppends context inst old new span → AllByRecursion (λ (r : CallReturn). r.offset ≤ span.end) (line_returns context.flags i span.start (Put inst))
-inst_returns context (Call info) i old new span p = let long = bytes_put context (Call info) p.mid new p.emitted in let start = p.start in let end = p.end in (omega (arith, long, start, end), tt)
-inst_returns context (CallInd info) i old new span p = let long = bytes_put context (CallInd info) p.mid new p.emitted in let start = p.start in let end = p.end in (omega (arith, long, start, end), tt)
+inst_returns context (Call info) i old new span p =
+    let least = call_least context.flags 8 info.callee_pop_size (loads_unless info.patchable info.defs) info.try_call_info in
+    let within = appended_within context (Call info) p.mid new p.emitted in
+    let start = p.start in
+    let end = p.end in
+    (omega (arith, least, within, start, end), tt)
+inst_returns context (CallInd info) i old new span p =
+    let least = call_least context.flags (short_jalr context.flags 1 (number_of info.dest) (pos 0)).len info.callee_pop_size (result_loads info.defs) info.try_call_info in
+    let within = appended_within context (CallInd info) p.mid new p.emitted in
+    let start = p.start in
+    let end = p.end in
+    (omega (arith, least, within, start, end), tt)
 inst_returns context inst i old new span p = tt
 
 pub returns_within : (context : Context) (line : Line) (old new : Buffer) (span : LineSpan) → LineAppends context line old new span → ReturnsWithin context.flags line span

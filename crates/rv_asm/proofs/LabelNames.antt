@@ -9,7 +9,6 @@ use Rattle.mach_labels.specs.Table.{first_inner, first_constant}
 use Rattle.rv_inst.specs.Context.{Context}
 use Rattle.rv_inst.specs.declared.code.LineSpan.{LineSpan}
 use Rattle.rv_inst.specs.declared.inst.Inst.{Inst}
-use Rattle.rv_inst.specs.declared.inst.Inst.TheVariants.{EmitIsland, BrTable, ReturnCall, ReturnCallInd}
 use Rattle.rv_inst.specs.declared.inst.CondBrTarget.TheVariants.{Label, Fallthrough}
 use Rattle.rv_inst.specs.declared.inst.Line.{Line}
 use Rattle.rv_inst.specs.declared.inst.Line.TheVariants.{Inst as Put, Bind}
@@ -21,20 +20,20 @@ use Rattle.rv_inst.specs.declared.targets.Targets.{Targets}
 use Rattle.rv_inst.specs.declared.targets.Targets.TheVariants.{Nowhere, Jumps, Branches, Refers, RefersConstant}
 use Rattle.rv_inst.specs.Operands.{targets_of, table_of, labels_of as target_names, inst_labels, try_call_of, try_labels}
 use Rattle.rv_inst.specs.LabelUse.{label_kinds, has_veneer_of}
-use Rattle.rv_inst.specs.Sizes.{line_space}
+use Rattle.rv_inst.specs.Sizes.{Extent, Words, Island, After, Around, extent_of, line_space}
 use Rattle.mach_buffer.specs.declared.uses.Use.{Use}
 use Rattle.mach_buffer.specs.Buffer.{bytes_of, uses_of, place_of, labels_of}
 use Rattle.mach_buffer.specs.Shape.{recorded, core, listed, constant_label}
 use Rattle.mach_buffer.specs.Islands.{is_far}
 use Rattle.mach_buffer.proofs.Laws.{both_lists, comes_from, slice_get-append, slice_get-append_last, append_each, recorded_get}
-use Rattle.rv_emit.specs.Emitted.{Buffer, IsFarUse, AppendsInst, AppendsIsland, IslandIfNeeded}
+use Rattle.rv_emit.specs.Emitted.{Buffer, IsFarUse, AppendsCode, AppendsInst, AppendsIsland, IslandIfNeeded, AppendsBy, Appends}
 use Rattle.rv_inst.specs.Forms.{jump_kind}
 use Rattle.rv_inst.specs.Uses.{use_at, target_uses, uses_by, uses_in}
 use Rattle.rv_emit.proofs.Laws.{Each, each_none, each_more, uses_kinds}
 use Rattle.rv_asm.specs.Reported.{start_of, end_of, binds_from}
 use Rattle.rv_asm.specs.Refusal.{binds, is_bound}
 use Rattle.rv_asm.specs.LinesInBuffer.{IsNamed, Named, BindPut}
-use Rattle.rv_asm.proofs.LinesAppended.{Appends, InstAppends, LineAppends}
+use Rattle.rv_asm.proofs.LinesAppended.{InstAppends, LineAppends}
 
 -- ---- the binds of lines
 
@@ -235,30 +234,45 @@ own_named lines inst number o = record {
   is = o.is;
 }
 
-good_block : (context : Context) (lines : List Line) (inst : Inst) (old new : Buffer) → AppendsInst context inst old new → AreGood lines old → AreGood (lines ++ Put inst ∷ []) new
-good_block context lines inst old new p h =
-    let start = length (bytes_of old) in
-    let end = length (bytes_of new) in
-    let all = lines ++ Put inst ∷ [] in
-    let own = uses_in context start end inst ++ p.far in
-    let whole : recorded (uses_of new) ≡ recorded (uses_of old) ++ recorded own = ap recorded p.adds.uses ∙ map-append core (uses_of old) own in
-    let keeps : Keeps old new = λ label low e. ap (λ (place : ℕ → Option ℕ). is_some (place label)) p.adds.places ∙ e in
-    let good : Each (IsGood all new) own = both_lists (IsGood all new) (uses_in context start end inst) p.far
-    (λ j u e. (uses_kinds context start end inst j u e, inr (⊎_elim (λ o. inl (own_named lines inst u.label.number o)) (λ high. inr high.0) (uses_labels context start end inst j u e))))
-    (λ j u e. let f = p.table j u e in (inr f.far, inr (inl (own_named lines inst u.label.number (table_named inst u f))))) in
+-- uses are put that are good
+good_code : (lines more : List Line) (code : List ℕ) (own : List (Use LabelUse)) (old new : Buffer) → AppendsCode code own old new → Each (IsGood (lines ++ more) new) own → AreGood lines old → AreGood (lines ++ more) new
+good_code lines more code own old new p good h =
+    let all = lines ++ more in
+    let whole : recorded (uses_of new) ≡ recorded (uses_of old) ++ recorded own = ap recorded p.uses ∙ map-append core (uses_of old) own in
+    let keeps : Keeps old new = λ label low e. ap (λ (place : ℕ → Option ℕ). is_some (place label)) p.places ∙ e in
     let each : Each (IsGood all new) (recorded own) = λ j u e. let from = comes_from core own j u e in subst (IsGood all new) from.is (good j from.from from.there) in
     good_as all new (recorded (uses_of old) ++ recorded own) whole
-    (both_lists (IsGood all new) (recorded (uses_of old)) (recorded own) (λ j u e. good_kept lines (Put inst ∷ []) old new keeps u (h j u e)) each)
+    (both_lists (IsGood all new) (recorded (uses_of old)) (recorded own) (λ j u e. good_kept lines more old new keeps u (h j u e)) each)
+
+-- those of an instruction are
+own_good : (context : Context) (lines : List Line) (inst : Inst) (start end : ℕ) (new : Buffer) → Each (IsGood (lines ++ Put inst ∷ []) new) (uses_in context start end inst)
+own_good context lines inst start end new j u e = (uses_kinds context start end inst j u e, inr (⊎_elim (λ o. inl (own_named lines inst u.label.number o)) (λ high. inr high.0) (uses_labels context start end inst j u e)))
+
+good_block : (context : Context) (lines : List Line) (inst : Inst) (old new : Buffer) → AppendsInst context inst old new → AreGood lines old → AreGood (lines ++ Put inst ∷ []) new
+good_block context lines inst old new p h =
+    let own = uses_in context (length (bytes_of old)) (length (bytes_of new)) inst in
+    good_code lines (Put inst ∷ []) p.code (own ++ p.far) old new p.adds
+    (both_lists (IsGood (lines ++ Put inst ∷ []) new) own p.far (own_good context lines inst (length (bytes_of old)) (length (bytes_of new)) new)
+    (λ j u e. let f = p.table j u e in (inr f.far, inr (inl (own_named lines inst u.label.number (table_named inst u f))))))
+    h
 
 good_line : (lines more : List Line) (b : Buffer) → AreGood lines b → AreGood (lines ++ more) b
 good_line lines more b h j u e = good_kept lines more b b (λ label low g. g) u (h j u e)
 
 pub good_emitted : (context : Context) (lines : List Line) (inst : Inst) (old new : Buffer) → Appends context inst old new → AreGood lines old → AreGood (lines ++ Put inst ∷ []) new
-good_emitted context lines (EmitIsland space) old new e h = good_line lines (Put (EmitIsland space) ∷ []) new (good_room lines space old new e.0 e.1 h)
-good_emitted context lines (BrTable index tmp1 tmp2 targets) old new (mid, made, room, words) h = good_block context lines (BrTable index tmp1 tmp2 targets) mid new words (good_room lines _ old mid made room h)
-good_emitted context lines (ReturnCall info) old new (mid, made, room, words) h = good_block context lines (ReturnCall info) mid new words (good_room lines _ old mid made room h)
-good_emitted context lines (ReturnCallInd info) old new (mid, made, room, words) h = good_block context lines (ReturnCallInd info) mid new words (good_room lines _ old mid made room h)
-good_emitted context lines inst old new e h = good_block context lines inst old new e h
+good_emitted context lines inst old new e h = by (extent_of context inst) e
+  where
+    all : List Line
+    all = lines ++ Put inst ∷ []
+
+    by : (e : Extent) → AppendsBy context e inst old new → AreGood all new
+    by (Words size) words = good_block context lines inst old new words h
+    by (Island space) (made, room) = good_line lines (Put inst ∷ []) new (good_room lines space old new made room h)
+    by (After space size more) (mid, made, room, words) = good_block context lines inst mid new words (good_room lines space old mid made room h)
+    by (Around before space after) a =
+        let first = no_more lines a.mid (good_code lines [] a.first.code [] old a.mid a.first.adds (each_none _) h) in
+        good_code lines (Put inst ∷ []) a.second.code (uses_in context (length (bytes_of old)) (length (bytes_of new)) inst) a.last new a.second.adds (own_good context lines inst (length (bytes_of old)) (length (bytes_of new)) new)
+        (good_room lines space a.mid a.last a.made a.room first)
 
 -- ---- the loop's invariant
 
@@ -272,21 +286,21 @@ room_keeps distance old new made m = ⊎_elim
     (λ put. (put.1.labels, λ label low. put.1.places label (omega arith) (λ e. let at = put.1.drawn_label in absurd (omega arith))))
     m.put
 
-block_keeps : (context : Context) (inst : Inst) (old new : Buffer) → AppendsInst context inst old new → (labels_of new ≡ labels_of old) × KeepsLow old new
-block_keeps context inst old new p = (p.adds.labels, λ label low. ap (λ (place : ℕ → Option ℕ). place label) p.adds.places)
+code_keeps : (code : List ℕ) (own : List (Use LabelUse)) (old new : Buffer) → AppendsCode code own old new → (labels_of new ≡ labels_of old) × KeepsLow old new
+code_keeps code own old new p = (p.labels, λ label low. ap (λ (place : ℕ → Option ℕ). place label) p.places)
 
-after_keeps : (context : Context) (inst : Inst) (space : ℕ) (old mid new : Buffer) (made : Bool) → IslandIfNeeded space old mid made → AppendsInst context inst mid new → (labels_of new ≡ labels_of old) × KeepsLow old new
-after_keeps context inst space old mid new made room words =
-    let first = room_keeps space old mid made room in
-    let next = block_keeps context inst mid new words in
-    (next.0 ∙ first.0, λ label low. next.1 label low ∙ first.1 label low)
+-- one thing after another
+both_keep : (old mid new : Buffer) → (labels_of mid ≡ labels_of old) × KeepsLow old mid → (labels_of new ≡ labels_of mid) × KeepsLow mid new → (labels_of new ≡ labels_of old) × KeepsLow old new
+both_keep old mid new first next = (next.0 ∙ first.0, λ label low. next.1 label low ∙ first.1 label low)
 
 pub emitted_keeps : (context : Context) (inst : Inst) (old new : Buffer) → Appends context inst old new → (labels_of new ≡ labels_of old) × KeepsLow old new
-emitted_keeps context (EmitIsland space) old new e = room_keeps space old new e.0 e.1
-emitted_keeps context (BrTable index tmp1 tmp2 targets) old new (mid, made, room, words) = after_keeps context (BrTable index tmp1 tmp2 targets) _ old mid new made room words
-emitted_keeps context (ReturnCall info) old new (mid, made, room, words) = after_keeps context (ReturnCall info) _ old mid new made room words
-emitted_keeps context (ReturnCallInd info) old new (mid, made, room, words) = after_keeps context (ReturnCallInd info) _ old mid new made room words
-emitted_keeps context inst old new e = block_keeps context inst old new e
+emitted_keeps context inst old new e = by (extent_of context inst) e
+  where
+    by : (e : Extent) → AppendsBy context e inst old new → (labels_of new ≡ labels_of old) × KeepsLow old new
+    by (Words size) words = code_keeps words.code _ old new words.adds
+    by (Island space) (made, room) = room_keeps space old new made room
+    by (After space size more) (mid, made, room, words) = both_keep old mid new (room_keeps space old mid made room) (code_keeps words.code _ mid new words.adds)
+    by (Around before space after) a = both_keep old a.mid new (code_keeps a.first.code [] old a.mid a.first.adds) (both_keep a.mid a.last new (room_keeps space a.mid a.last a.made a.room) (code_keeps a.second.code _ a.last new a.second.adds))
 
 pub named_none : (b : Buffer) → uses_of b ≡ [] → labels_of b ≡ [] → ((label : ℕ) → place_of b label ≡ None) → Named [] [] b
 named_none b uses labels none = record {

@@ -21,7 +21,8 @@ pub mod LinesJoin
 pub mod AssemblyLoop
 pub mod ValuesKept
 pub mod LinesAppended
-pub mod LineRecords
+pub mod Extents
+mod LineRecords
 pub mod CallReturns
 pub mod Relocations
 pub mod Handlers

@@ -15,8 +15,7 @@ use Rattle.rv_inst.specs.LabelUse.{label_kinds, marks_of}
 use Rattle.rv_inst.specs.Rules.{inst_rule, broken_rule}
 use Rattle.rv_inst.specs.Records.{inst_records}
 use Rattle.rv_inst.specs.Operands.{inst_constant}
-use Rattle.rv_inst.specs.declared.inst.Inst.TheVariants.{EmitIsland, BrTable, ReturnCall, ReturnCallInd}
-use Rattle.rv_inst.specs.Sizes.{words_in, extent_of, line_space}
+use Rattle.rv_inst.specs.Sizes.{Extent, Words, Island, After, Around, words_in, extent_of, line_space}
 use Rattle.mach_buffer.specs.declared.records.ConstPlace.{ConstPlace}
 use Rattle.mach_buffer.specs.declared.uses.Use.{Use}
 use Rattle.mach_buffer.specs.Reach.{is_pending, is_needed, deadlines}
@@ -28,22 +27,30 @@ use Rattle.mach_buffer.specs.Windows.{AreWindows}
 use Rattle.mach_buffer.proofs.Laws.{append_none, grows_put, lasts_more, stands_last as constants_last, even_length}
 use Rattle.rv_emit.specs.ConstantsAdded.{StandInTurn, AddsConstants}
 use Rattle.rv_emit.specs.declared.state.EmitVState.{EmitVState}
-use Rattle.rv_emit.specs.Emitted.{Buffer, IsSoundBuffer, HasWindows, AppendsInst, IslandIfNeeded, named_by}
+use Rattle.rv_emit.specs.Emitted.{Buffer, IsSoundBuffer, HasWindows, IslandIfNeeded, AppendsBy, Appends, named_by}
 use Rattle.rv_emit.specs.Images.{EndsWithin, AllClear, FieldsStand}
 use Rattle.rv_emit.specs.InstParts.{parts_of}
+use Rattle.rv_emit.specs.Standing.{SpansIn}
 use Rattle.rv_emit.specs.State.{setting_beyond}
-use Rattle.rv_emit.proofs.Laws.{adds_both, adds_none, gap_last, parts_last, gap_put, parts_put, are_blocks, bytes_put}
+use Rattle.rv_emit.proofs.Laws.{adds_both, adds_none, appends, gap_last, parts_last, gap_put, parts_put, are_blocks, bytes_put, words_long}
 use Rattle.rv_asm.specs.LinesInBuffer.{LineStands, StandsAfter, InstPut, BindPut, LinePut}
-use Rattle.rv_asm.specs.Reported.{line_records, line_constant, with_constant, StandOutside}
-use Rattle.rv_asm.proofs.LinesAppended.{Appends, appends, appended_long}
+use Rattle.rv_asm.specs.Reported.{line_records, line_constant, with_constant, StandOutside, WordsApart}
+use Rattle.rv_asm.proofs.Extents.{Lacks, lacks}
+use Rattle.rv_asm.proofs.LinesAppended.{appended_spans}
 use Rattle.rv_asm.proofs.LineRecords.{room_records, appended_records}
 
 -- what lasts from one buffer to another
 abbrev pub LastsTo : Buffer → Buffer → Type 0
 LastsTo old new = Lasts label_kinds (shape_of old) (shape_of new)
 
+spans_last : (flags : IsaFlags) (old new : Buffer) → LastsTo old new → (e : Extent) (start end : ℕ) → SpansIn flags (shape_of old) e start end → SpansIn flags (shape_of new) e start end
+spans_last flags old new l (Words size) start end h = h
+spans_last flags old new l (Island space) start end h = gap_last start end h l
+spans_last flags old new l (After space size more) start end (mid, gap, same) = (mid, gap_last start mid gap l, same)
+spans_last flags old new l (Around before space after) start end (mid, gap, same) = (mid, gap_last (start + before) mid gap l, same)
+
 line_lasts : (context : Context) (line : Line) (old new : Buffer) → LastsTo old new → (start end : ℕ) → LineStands context line old start end → LineStands context line new start end
-line_lasts context (Put inst) old new l start end (setting, parts, long) = (setting, parts_last context.flags (parts_of context setting inst) start end parts l, long)
+line_lasts context (Put inst) old new l start end (setting, parts, spans) = (setting, parts_last context.flags (parts_of context setting inst) start end parts l, spans_last context.flags old new l (extent_of context inst) start end spans)
 line_lasts context (Bind label) old new l start end (same, bound) = (same, l.grows.places label.number start bound)
 
 pub stands_last : (context : Context) (line : Line) (old new : Buffer) → LastsTo old new → (before start end : ℕ) → StandsAfter context line old before start end → StandsAfter context line new before start end
@@ -67,41 +74,58 @@ named_with (Some k) named = refl
 
 -- an instruction names its own
 appended_named : (context : Context) (inst : Inst) (old new : Buffer) → Appends context inst old new → named_of new ≡ with_constant (inst_constant inst) (named_of old)
-appended_named context (EmitIsland space) old new (made, room) = room_named space old new made room
-appended_named context (BrTable index tmp1 tmp2 targets) old new (mid, made, room, words) = words.named ∙ room_named _ old mid made room
-appended_named context (ReturnCall info) old new (mid, made, room, words) = words.named ∙ room_named _ old mid made room
-appended_named context (ReturnCallInd info) old new (mid, made, room, words) = words.named ∙ room_named _ old mid made room
-appended_named context inst old new e = e.named ∙ named_with (inst_constant inst) (named_of old)
+appended_named context inst old new e = by (extent_of context inst) (lacks context inst) e
+  where
+    by : (e : Extent) → Lacks context e inst → AppendsBy context e inst old new → named_of new ≡ with_constant (inst_constant inst) (named_of old)
+    by (Words size) lack words = words.named ∙ named_with (inst_constant inst) (named_of old)
+    by (Island space) lack (made, room) = room_named space old new made room ∙ sym (ap (λ k. with_constant k (named_of old)) lack.2)
+    by (After space size more) lack (mid, made, room, words) = words.named ∙ named_with (inst_constant inst) (named_of mid) ∙ ap (with_constant (inst_constant inst)) (room_named space old mid made room)
+    by (Around before space after) lack a = a.second.named ∙ room_named space a.mid a.last a.made a.room ∙ a.first.named ∙ sym (ap (λ k. with_constant k (named_of old)) lack)
 
 -- ---- the constants that come to stand
 
 -- no constant has a byte among the words of an instruction
-abbrev pub HoldsNone : Context → Line → Buffer → ℕ → Type 0
-HoldsNone context (Put inst) b end = StandOutside (registered_of b) (constants_of b) (end - words_in (extent_of context inst)) end
-HoldsNone context (Bind label) b end = Unit {0}
+abbrev pub HoldsNone : Context → Line → Buffer → ℕ → ℕ → Type 0
+HoldsNone context (Put inst) b start end = WordsApart (registered_of b) (constants_of b) (extent_of context inst) start end
+HoldsNone context (Bind label) b start end = Unit {0}
 
--- those that stand end before words that are put, or within what was put before them
-words_apart : (old new : Buffer) (size : ℕ) → StandInTurn (shape_of old) → constants_of new ≡ constants_of old → registered_of new ≡ registered_of old → length (bytes_of new) ≡ length (bytes_of old) + size → StandOutside (registered_of new) (constants_of new) (length (bytes_of new) - size) (length (bytes_of new))
-words_apart old new size turn same known long j c k hc hk =
-    let le = turn.within j c k (ap (λ (cs : List ConstPlace). slice_get cs j) (sym same) ∙ hc) (ap (λ (ks : List Constant). slice_get ks c.constant.number) (sym known) ∙ hk) in
-    inr (omega (arith, le, long))
+-- those that stand end before words that are put, or begin after them
+words_apart : (old mid new : Buffer) → StandInTurn (shape_of old) → constants_of mid ≡ constants_of old → registered_of new ≡ registered_of old → AddsConstants (shape_of mid) (shape_of new) → StandOutside (registered_of new) (constants_of new) (length (bytes_of old)) (length (bytes_of mid))
+words_apart old mid new turn same known adds j c k hc hk = ⊎_elim
+    (λ stood. inr (turn.within j c k (ap (λ (cs : List ConstPlace). slice_get cs j) (sym same) ∙ stood) (ap (λ (ks : List Constant). slice_get ks c.constant.number) (sym known) ∙ hk)))
+    (λ after. inl after)
+    (adds.fresh j c hc)
 
-inst_apart : (context : Context) (inst : Inst) (old new : Buffer) → StandInTurn (shape_of old) → AppendsInst context inst old new → StandOutside (registered_of new) (constants_of new) (length (bytes_of new) - words_in (extent_of context inst)) (length (bytes_of new))
-inst_apart context inst old new turn p = words_apart old new (words_in (extent_of context inst)) turn p.adds.constants p.adds.registered (bytes_put context inst old new p)
+-- none come to stand
+adds_nothing : (b : Buffer) → AddsConstants (shape_of b) (shape_of b)
+adds_nothing b = adds_none (omega arith) refl refl
 
--- an island has no words of the instruction's own
-room_apart : (b : Buffer) → StandInTurn (shape_of b) → StandOutside (registered_of b) (constants_of b) (length (bytes_of b) - 0) (length (bytes_of b))
-room_apart b turn = words_apart b b 0 turn refl refl (omega arith)
+-- those of a buffer alone end before words that are its last
+last_apart : (old new : Buffer) (size : ℕ) → StandInTurn (shape_of old) → constants_of new ≡ constants_of old → registered_of new ≡ registered_of old → length (bytes_of new) ≡ length (bytes_of old) + size → StandOutside (registered_of new) (constants_of new) (length (bytes_of new) - size) (length (bytes_of new))
+last_apart old new size turn same known long =
+    let from : length (bytes_of old) ≡ length (bytes_of new) - size = omega (arith, long) in
+    subst (λ n. StandOutside (registered_of new) (constants_of new) n (length (bytes_of new))) from (words_apart old new new turn same known (adds_nothing new))
 
-room_turn : (flags : IsaFlags) (distance : ℕ) (old new : Buffer) (made : Bool) → IsSoundBuffer old → HasWindows old → FieldsStand (shape_of old) → IslandIfNeeded distance old new made → StandInTurn (shape_of old) → StandInTurn (shape_of new)
-room_turn flags distance old new made s w f room turn = (gap_put flags distance old new made s w f room).adds.in_turn turn
+-- an island adds those that didn't stand yet
+room_adds : (distance : ℕ) (old new : Buffer) (made : Bool) → IslandIfNeeded distance old new made → AddsConstants (shape_of old) (shape_of new)
+room_adds distance old new made m = ⊎_elim (λ same. subst (λ (b : Buffer). AddsConstants (shape_of old) (shape_of b)) (sym same.1) (adds_nothing old)) (λ put. put.1.adds) m.put
 
-appended_apart : (context : Context) (inst : Inst) (old new : Buffer) → IsSoundBuffer old → HasWindows old → FieldsStand (shape_of old) → StandInTurn (shape_of old) → Appends context inst old new → StandOutside (registered_of new) (constants_of new) (length (bytes_of new) - words_in (extent_of context inst)) (length (bytes_of new))
-appended_apart context (EmitIsland space) old new s w f turn (made, room) = room_apart new (room_turn context.flags space old new made s w f room turn)
-appended_apart context (BrTable index tmp1 tmp2 targets) old new s w f turn (mid, made, room, words) = inst_apart context (BrTable index tmp1 tmp2 targets) mid new (room_turn context.flags _ old mid made s w f room turn) words
-appended_apart context (ReturnCall info) old new s w f turn (mid, made, room, words) = inst_apart context (ReturnCall info) mid new (room_turn context.flags _ old mid made s w f room turn) words
-appended_apart context (ReturnCallInd info) old new s w f turn (mid, made, room, words) = inst_apart context (ReturnCallInd info) mid new (room_turn context.flags _ old mid made s w f room turn) words
-appended_apart context inst old new s w f turn e = inst_apart context inst old new turn e
+appended_apart : (context : Context) (inst : Inst) (old new : Buffer) → StandInTurn (shape_of old) → Appends context inst old new → WordsApart (registered_of new) (constants_of new) (extent_of context inst) (length (bytes_of old)) (length (bytes_of new))
+appended_apart context inst old new turn e = by (extent_of context inst) refl e
+  where
+    by : (e : Extent) → extent_of context inst ≡ e → AppendsBy context e inst old new → WordsApart (registered_of new) (constants_of new) e (length (bytes_of old)) (length (bytes_of new))
+    by (Words size) is words = words_apart old new new turn words.adds.constants words.adds.registered (adds_nothing new)
+    by (Island space) is room = tt
+    by (After space size more) is (mid, made, room, words) =
+        let adds = room_adds space old mid made room in
+        last_apart mid new size (adds.in_turn turn) words.adds.constants words.adds.registered (bytes_put context inst mid new words ∙ ap (λ e. length (bytes_of mid) + words_in e) is)
+    by (Around before space after) is a =
+        let first : AddsConstants (shape_of old) (shape_of a.mid) = let long = words_long before [] _ old a.mid a.first in adds_none (omega (arith, long)) a.first.adds.constants a.first.adds.registered in
+        let island = room_adds space a.mid a.last a.made a.room in
+        let last : AddsConstants (shape_of a.last) (shape_of new) = let long = words_long after _ [] a.last new a.second in adds_none (omega (arith, long)) a.second.adds.constants a.second.adds.registered in (
+          subst (λ n. StandOutside (registered_of new) (constants_of new) (length (bytes_of old)) n) (words_long before [] _ old a.mid a.first) (words_apart old a.mid new turn a.first.adds.constants (last.registered ∙ island.registered ∙ first.registered) (adds_both island last)),
+          last_apart a.last new after (island.in_turn (first.in_turn turn)) a.second.adds.constants a.second.adds.registered (words_long after _ [] a.last new a.second),
+        )
 
 -- ---- a line
 
@@ -118,7 +142,7 @@ pub record LineAdded (context : Context) (line : Line) (old new : Buffer) (span 
   pub named : named_of new ≡ with_constant (line_constant line) (named_of old)
   pub constants : AllStand label_kinds (shape_of old) → AllStand label_kinds (shape_of new)
   pub adds : AddsConstants (shape_of old) (shape_of new)
-  pub apart : StandInTurn (shape_of old) → HoldsNone context line new span.end
+  pub apart : StandInTurn (shape_of old) → HoldsNone context line new span.start span.end
 
 -- where no use is, no island is put
 none_put : (distance : ℕ) (old new : Buffer) (made : Bool) → IslandIfNeeded distance old new made → uses_of old ≡ [] → length (bytes_of new) ≡ length (bytes_of old)
@@ -132,14 +156,14 @@ inst_added context setting inst old new span rule s w f p =
     let now = setting_beyond p.made setting in
     let room = gap_put context.flags line_space old p.mid p.made s w f p.room in
     let appended = appends context now inst p.mid new rule room.sound p.emitted in
-    let long = appended_long context now inst p.mid new rule appended in
     let put = parts_put context.flags (parts_of context now inst) p.mid new (are_blocks context now inst rule) room.sound room.windows room.fields p.emitted in
+    let spans = appended_spans context now inst p.mid new rule appended put.stand in
     record {
       lasts = lasts_more room.lasts put.lasts;
       stands = subst (λ n. StandsAfter context (Put inst) new (length (bytes_of old)) n span.end) (sym p.start) (record {
         gap = gap_last (length (bytes_of old)) (length (bytes_of p.mid)) room.gap put.lasts;
-        there = subst (LineStands context (Put inst) new (length (bytes_of p.mid))) (sym p.end) (now, put.stand, long);
-        even = even_length label_kinds p.mid room.sound;
+      there = subst (LineStands context (Put inst) new (length (bytes_of p.mid))) (sym p.end) (now, put.stand, spans);
+      even = even_length label_kinds p.mid room.sound;
         within = put.lasts.grows.longer;
         ends = let e = p.end in omega (arith, e);
       });
@@ -152,7 +176,7 @@ inst_added context setting inst old new span rule s w f p =
       named = appended_named context inst p.mid new appended ∙ ap (with_constant (inst_constant inst)) (room_named line_space old p.mid p.made p.room);
       constants = λ h. put.constants (room.constants h);
       adds = adds_both room.adds put.adds;
-      apart = λ turn. subst (λ n. StandOutside (registered_of new) (constants_of new) (n - words_in (extent_of context inst)) n) (sym p.end) (appended_apart context inst p.mid new room.sound room.windows room.fields (room.adds.in_turn turn) appended);
+      apart = λ turn. subst (λ n. WordsApart (registered_of new) (constants_of new) (extent_of context inst) span.start n) (sym p.end) (subst (λ n. WordsApart (registered_of new) (constants_of new) (extent_of context inst) n (length (bytes_of new))) (sym p.start) (appended_apart context inst p.mid new (room.adds.in_turn turn) appended));
     }
 
 -- ---- a bind

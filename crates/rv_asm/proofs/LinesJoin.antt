@@ -238,7 +238,7 @@ resumes job code known t base symbols slots i inst r s v e told placed is_state 
       are_values = are_values;
       same = same;
     }) in
-    let ends = reaches job code known t base symbols slots mem placed i (slice_get_within job.lines i (Put inst) e) [] (resumed r.popped v) s (return_exit (Put inst)) (return_bound job.lines inst (t.named i (Put inst) e)) out in
+    let ends = reaches job code known t base symbols slots mem placed i (slice_get_within job.lines i (Put inst) e) [] (resumed r v) s (return_exit (Put inst)) (return_bound job.lines inst (t.named i (Put inst) e)) out in
     let reached = ends.reached in
     record {
       steps = reached.steps;

@@ -3,23 +3,21 @@ use Rattle.std.proofs.Common.{◌≡◌, ℕ, zero, suc, ◌+◌, ◌<◌, Bool,
 use Rattle.std.specs.Prelude.{slice_get, nat_lt}
 use Rattle.std.proofs.lemmas.Bool.{true≢false, ltb-true, ltb-false}
 use Rattle.std.proofs.lemmas.Option.{same_Some, slice_get_within}
-use Rattle.std.proofs.lemmas.List.{length-append}
+use Rattle.std.proofs.lemmas.List.{length-append, append-nil}
 use Rattle.rv_inst.specs.Context.{Context}
 use Rattle.rv_inst.specs.declared.code.LineSpan.{LineSpan}
-use Rattle.rv_inst.specs.declared.inst.Inst.{Inst}
-use Rattle.rv_inst.specs.declared.inst.Inst.TheVariants.{EmitIsland, BrTable, ReturnCall, ReturnCallInd}
 use Rattle.rv_inst.specs.declared.inst.Line.{Line}
 use Rattle.rv_inst.specs.declared.inst.Line.TheVariants.{Inst as Put, Bind}
-use Rattle.rv_inst.specs.Sizes.{table_space, return_size, words_in, extent_of, line_space}
-use Rattle.mach_buffer.specs.Reach.{CanReach, is_needed}
+use Rattle.rv_inst.specs.Sizes.{Extent, Words, Island, After, Around, words_in, extent_of, line_space}
+use Rattle.mach_buffer.specs.Reach.{CanReach, is_needed, is_needed_from}
 use Rattle.mach_buffer.specs.Buffer.{bytes_of}
 use Rattle.mach_buffer.proofs.Laws.{slice_get-append_last}
-use Rattle.rv_emit.proofs.Laws.{bytes_put}
-use Rattle.rv_emit.specs.Emitted.{Buffer, pending, AppendsInst, IslandIfNeeded}
+use Rattle.rv_emit.proofs.Laws.{bytes_put, words_long, words_pending}
+use Rattle.rv_emit.specs.Emitted.{Buffer, pending, IslandIfNeeded, AppendsBy}
 use Rattle.rv_asm.specs.Reported.{start_of, end_of}
 use Rattle.rv_asm.specs.Reported.{end_before}
 use Rattle.rv_asm.specs.LinesInBuffer.{LinesStand, Sized}
-use Rattle.rv_asm.specs.Reach.{pending_deadlines, IsDue, IslandDue, NotEarly, ReachesOn}
+use Rattle.rv_asm.specs.Reach.{pending_deadlines, IsDue, IsDueOf, IslandDue, NotEarly, ReachesOn}
 use Rattle.rv_asm.specs.AfterLastIsland.{AfterLastIsland}
 use Rattle.rv_asm.proofs.LinesAppended.{InstAppends, LineAppends}
 use Rattle.rv_asm.proofs.LabelNames.{start_more, end_more, start_last, end_last}
@@ -67,11 +65,26 @@ reaches_next context lines spans line span old new b p s sized h i le = by_place
 
 -- ---- no island is early
 
--- where one was put before so many bytes, it is due
-room_due : (context : Context) (lines : List Line) (spans : List LineSpan) (distance : ℕ) (old new : Buffer) (made : Bool) → LinesStand context lines spans old → AfterLastIsland context lines spans old → IslandIfNeeded distance old new made → length (bytes_of old) < length (bytes_of new) → IsDue context lines spans (length lines) (length (bytes_of old)) distance
-room_due context lines spans distance old new made b s m longer = ⊎_elim
-    (λ same. let level : length (bytes_of new) ≡ length (bytes_of old) = ap (λ (b : Buffer). length (bytes_of b)) same.1 in absurd (omega (arith, level, longer)))
-    (λ put. due_now context lines spans old distance b s (sym m.asked ∙ put.0))
+-- bytes that are put before an island count for its distance
+due_after : (context : Context) (lines : List Line) (spans : List LineSpan) (i at first distance : ℕ) → IsDue context lines spans i at (first + distance) → IsDue context lines spans i (at + first) distance
+due_after context lines spans i at first distance d = record {
+  index = d.index;
+  line = d.line;
+  there = d.there;
+  jumps = d.jumps;
+  since = d.since;
+  before = d.before;
+  due = let due = d.due in omega (arith, due);
+}
+
+-- where one was put before so many bytes, after so many, it is due
+room_due : (context : Context) (lines : List Line) (spans : List LineSpan) (first distance : ℕ) (old mid new : Buffer) (made : Bool) → LinesStand context lines spans old → AfterLastIsland context lines spans old → length (bytes_of mid) ≡ length (bytes_of old) + first → pending mid ≡ pending old → IslandIfNeeded distance mid new made → length (bytes_of mid) < length (bytes_of new) → IsDue context lines spans (length lines) (length (bytes_of old) + first) distance
+room_due context lines spans first distance old mid new made b s long same m longer = ⊎_elim
+    (λ none. let level : length (bytes_of new) ≡ length (bytes_of mid) = ap (λ (b : Buffer). length (bytes_of b)) none.1 in absurd (omega (arith, level, longer)))
+    (λ put.
+    let at : length (bytes_of mid) + distance ≡ length (bytes_of old) + (first + distance) = omega (arith, long) in
+    let needed : is_needed (length (bytes_of old)) (first + distance) (pending old) ≡ true = (λ j. is_needed_from (sym at j) (sym same j) (sym same j)) ∙ sym m.asked ∙ put.0 in
+    due_after context lines spans (length lines) (length (bytes_of old)) first distance (due_now context lines spans old (first + distance) b s needed))
     m.put
 
 -- before the line
@@ -79,27 +92,28 @@ before_line : (context : Context) (lines : List Line) (spans : List LineSpan) (l
 before_line context lines spans (Put inst) span old new b s p gap =
     let ends = b.ends in
     let start = p.start in
-    subst (λ at. IsDue context lines spans (length lines) at line_space) ends (room_due context lines spans line_space old p.mid p.made b s p.room (omega (arith, ends, start, gap)))
+    let none : length (bytes_of old) ≡ length (bytes_of old) + 0 = omega arith in
+    subst (λ at. IsDue context lines spans (length lines) at line_space) (sym none ∙ ends) (room_due context lines spans 0 line_space old old p.mid p.made b s none refl p.room (omega (arith, ends, start, gap)))
 before_line context lines spans (Bind label) span old new b s p gap = let ends = b.ends in let start = p.start in absurd (omega (arith, ends, start, gap))
 
--- in the line, before its words
-in_line : (context : Context) (lines : List Line) (spans : List LineSpan) (space start : ℕ) (old mid last : Buffer) (first second : Bool) → LinesStand context lines spans old → AfterLastIsland context lines spans old → IslandIfNeeded line_space old mid first → start ≡ length (bytes_of mid) → IslandIfNeeded space mid last second → length (bytes_of mid) < length (bytes_of last) → IsDue context lines spans (length lines) start space
-in_line context lines spans space start old mid last first second b s before at within longer = ⊎_elim
+-- in the line, after so many of its words
+in_line : (context : Context) (lines : List Line) (spans : List LineSpan) (space start first : ℕ) (old mid next last : Buffer) (made second : Bool) → LinesStand context lines spans old → AfterLastIsland context lines spans old → IslandIfNeeded line_space old mid made → start ≡ length (bytes_of mid) → length (bytes_of next) ≡ length (bytes_of mid) + first → pending next ≡ pending mid → IslandIfNeeded space next last second → length (bytes_of next) < length (bytes_of last) → IsDue context lines spans (length lines) (start + first) space
+in_line context lines spans space start first old mid next last made second b s before at long keeps within longer = ⊎_elim
     (λ same.
-    let room : IslandIfNeeded space old last second = subst (λ (x : Buffer). IslandIfNeeded space x last second) same.1 within in
     let level : length (bytes_of mid) ≡ length (bytes_of old) = ap (λ (b : Buffer). length (bytes_of b)) same.1 in
-    subst (λ n. IsDue context lines spans (length lines) n space) (sym level ∙ sym at) (room_due context lines spans space old last second b s room (omega (arith, level, longer))))
+    let due = room_due context lines spans first space old next last second b s (omega (arith, long, level)) (keeps ∙ ap pending same.1) within longer in
+    subst (λ n. IsDue context lines spans (length lines) (n + first) space) (sym level ∙ sym at) due)
     (λ put. absurd (no_second put.1.settled))
     before.put
   where
     no_second : pending mid ≡ [] → ⊥
     no_second settled = ⊎_elim
-        (λ same. let level : length (bytes_of last) ≡ length (bytes_of mid) = ap (λ (b : Buffer). length (bytes_of b)) same.1 in absurd (omega (arith, level, longer)))
-        (λ put. true≢false (sym put.0 ∙ within.asked ∙ ap (is_needed (length (bytes_of mid)) space) settled))
+        (λ same. let level : length (bytes_of last) ≡ length (bytes_of next) = ap (λ (b : Buffer). length (bytes_of b)) same.1 in absurd (omega (arith, level, longer)))
+        (λ put. true≢false (sym put.0 ∙ within.asked ∙ ap (is_needed (length (bytes_of next)) space) (keeps ∙ settled)))
         within.put
 
 within_line : (context : Context) (lines : List Line) (spans : List LineSpan) (line : Line) (span : LineSpan) (old new : Buffer) → LinesStand context lines spans old → AfterLastIsland context lines spans old → LineAppends context line old new span → IslandDue context (lines ++ line ∷ []) (spans ++ span ∷ []) (length lines) line
-within_line context lines spans (Put inst) span old new b s p = on inst p
+within_line context lines spans (Put inst) span old new b s p = by (extent_of context inst) refl p.emitted
   where
     all_spans : List LineSpan
     all_spans = spans ++ span ∷ []
@@ -110,26 +124,38 @@ within_line context lines spans (Put inst) span old new b s p = on inst p
     end : end_of all_spans (length lines) ≡ span.end
     end = ap (end_of all_spans) (sym b.count) ∙ end_last spans span
 
-    due : (line : Line) (space : ℕ) → IsDue context lines spans (length lines) span.start space → IsDue context (lines ++ line ∷ []) all_spans (length lines) (start_of all_spans (length lines)) space
-    due line space h = subst (λ at. IsDue context (lines ++ line ∷ []) all_spans (length lines) at space) (sym start) (due_more context lines (line ∷ []) spans (span ∷ []) (length lines) span.start space b.count (omega arith) h)
+    -- an island after so many words
+    due : (space first : ℕ) (next last : Buffer) (second : Bool) → length (bytes_of next) ≡ length (bytes_of p.mid) + first → pending next ≡ pending p.mid → IslandIfNeeded space next last second → length (bytes_of next) < length (bytes_of last) → IsDue context (lines ++ Put inst ∷ []) all_spans (length lines) (start_of all_spans (length lines) + first) space
+    due space first next last second long keeps room longer =
+        let in_old = in_line context lines spans space span.start first old p.mid next last p.made second b s p.room p.start long keeps room longer in
+        subst (λ at. IsDue context (lines ++ Put inst ∷ []) all_spans (length lines) (at + first) space) (sym start) (due_more context lines (Put inst ∷ []) spans (span ∷ []) (length lines) (span.start + first) space b.count (omega arith) in_old)
 
-    -- before the words of an instruction that asks for one before so many bytes
-    after : (inst : Inst) (space : ℕ) (mid last : Buffer) (first second : Bool) → IslandIfNeeded line_space old mid first → span.start ≡ length (bytes_of mid) → IslandIfNeeded space mid last second → AppendsInst context inst last new → span.end ≡ length (bytes_of new) → start_of all_spans (length lines) + words_in (extent_of context inst) < end_of all_spans (length lines) →
-        IsDue context (lines ++ Put inst ∷ []) all_spans (length lines) (start_of all_spans (length lines)) space
-    after inst space mid last first second before at room words ends gap =
-        let long = bytes_put context inst last new words in
-        due (Put inst) space (in_line context lines spans space span.start old mid last first second b s before at room (omega (arith, start, end, gap, at, ends, long)))
+    -- before all of them
+    due_first : (space : ℕ) (last : Buffer) (second : Bool) → IslandIfNeeded space p.mid last second → length (bytes_of p.mid) < length (bytes_of last) → IsDue context (lines ++ Put inst ∷ []) all_spans (length lines) (start_of all_spans (length lines)) space
+    due_first space last second room longer =
+        let none : start_of all_spans (length lines) + 0 ≡ start_of all_spans (length lines) = omega arith in
+        subst (λ at. IsDue context (lines ++ Put inst ∷ []) all_spans (length lines) at space) none (due space 0 p.mid last second (omega arith) refl room longer)
 
-    on : (inst : Inst) → InstAppends context inst old new span → IslandDue context (lines ++ Put inst ∷ []) (spans ++ span ∷ []) (length lines) (Put inst)
-    on (EmitIsland space) p = λ gap. let at = p.start in let last = p.end in due (Put (EmitIsland space)) space (in_line context lines spans space span.start old p.mid new p.made p.emitted.0 b s p.room p.start p.emitted.1 (omega (arith, start, end, gap, at, last)))
-    on (BrTable index tmp1 tmp2 targets) p = after (BrTable index tmp1 tmp2 targets) (table_space (length targets)) p.mid p.emitted.0 p.made p.emitted.1 p.room p.start p.emitted.2 p.emitted.3 p.end
-    on (ReturnCall info) p = after (ReturnCall info) (return_size context.flags context.frame info.new_stack_arg_size + 8) p.mid p.emitted.0 p.made p.emitted.1 p.room p.start p.emitted.2 p.emitted.3 p.end
-    on (ReturnCallInd info) p = after (ReturnCallInd info) (return_size context.flags context.frame info.new_stack_arg_size + 4) p.mid p.emitted.0 p.made p.emitted.1 p.room p.start p.emitted.2 p.emitted.3 p.end
-    on inst p = tt
+    starts : span.start ≡ length (bytes_of p.mid)
+    starts = p.start
+
+    ends : span.end ≡ length (bytes_of new)
+    ends = p.end
+
+    by : (e : Extent) → extent_of context inst ≡ e → AppendsBy context e inst p.mid new → IsDueOf context (lines ++ Put inst ∷ []) all_spans (length lines) e
+    by (Words size) is words = tt
+    by (Island space) is (made, room) = λ gap. due_first space new made room (omega (arith, start, end, starts, ends, gap))
+    by (After space size more) is (last, made, room, words) = λ gap.
+        let long = bytes_put context inst last new words ∙ ap (λ e. length (bytes_of last) + words_in e) is in
+        due_first space last made room (omega (arith, start, end, starts, ends, gap, long))
+    by (Around before space after) is a = λ gap.
+        let first = words_long before [] _ p.mid a.mid a.first in
+        let second = words_long after _ [] a.last new a.second in
+        due space before a.mid a.last a.made first (words_pending before [] _ p.mid a.mid a.first ∙ append-nil (pending p.mid)) a.room (omega (arith, start, end, starts, ends, gap, first, second))
 within_line context lines spans (Bind label) span old new b s p = tt
 
 island_due_more : (context : Context) (lines more : List Line) (spans more_spans : List LineSpan) (i : ℕ) (line : Line) → length spans ≡ length lines → i < length lines → IslandDue context lines spans i line → IslandDue context (lines ++ more) (spans ++ more_spans) i line
-island_due_more context lines more spans more_spans i (Put inst) count lt h = on inst h
+island_due_more context lines more spans more_spans i (Put inst) count lt h = by (extent_of context inst) h
   where
     start : start_of (spans ++ more_spans) i ≡ start_of spans i
     start = start_more spans more_spans i (omega arith)
@@ -137,15 +163,14 @@ island_due_more context lines more spans more_spans i (Put inst) count lt h = on
     end : end_of (spans ++ more_spans) i ≡ end_of spans i
     end = end_more spans more_spans i (omega arith)
 
-    due : (space : ℕ) → IsDue context lines spans i (start_of spans i) space → IsDue context (lines ++ more) (spans ++ more_spans) i (start_of (spans ++ more_spans) i) space
-    due space d = subst (λ at. IsDue context (lines ++ more) (spans ++ more_spans) i at space) (sym start) (due_more context lines more spans more_spans i (start_of spans i) space count (omega arith) d)
+    due : (at space : ℕ) → IsDue context lines spans i at space → IsDue context (lines ++ more) (spans ++ more_spans) i at space
+    due at space d = due_more context lines more spans more_spans i at space count (omega arith) d
 
-    on : (inst : Inst) → IslandDue context lines spans i (Put inst) → IslandDue context (lines ++ more) (spans ++ more_spans) i (Put inst)
-    on (EmitIsland space) h = λ gap. due space (h (omega (arith, start, end, gap)))
-    on (BrTable index tmp1 tmp2 targets) h = λ gap. due (table_space (length targets)) (h (omega (arith, start, end, gap)))
-    on (ReturnCall info) h = λ gap. due (return_size context.flags context.frame info.new_stack_arg_size + 8) (h (omega (arith, start, end, gap)))
-    on (ReturnCallInd info) h = λ gap. due (return_size context.flags context.frame info.new_stack_arg_size + 4) (h (omega (arith, start, end, gap)))
-    on inst h = tt
+    by : (e : Extent) → IsDueOf context lines spans i e → IsDueOf context (lines ++ more) (spans ++ more_spans) i e
+    by (Words size) h = tt
+    by (Island space) h = λ gap. subst (λ at. IsDue context (lines ++ more) (spans ++ more_spans) i at space) (sym start) (due (start_of spans i) space (h (omega (arith, start, end, gap))))
+    by (After space size last) h = λ gap. subst (λ at. IsDue context (lines ++ more) (spans ++ more_spans) i at space) (sym start) (due (start_of spans i) space (h (omega (arith, start, end, gap))))
+    by (Around before space after) h = λ gap. subst (λ at. IsDue context (lines ++ more) (spans ++ more_spans) i (at + before) space) (sym start) (due (start_of spans i + before) space (h (omega (arith, start, end, gap))))
 island_due_more context lines more spans more_spans i (Bind label) count lt h = tt
 
 pub early_none : (context : Context) → NotEarly context [] []

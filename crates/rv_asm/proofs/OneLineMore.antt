@@ -1,5 +1,5 @@
 -- What the loop of `assemble` keeps: of no lines, and of one line more.
-use Rattle.std.proofs.Common.{◌≡◌, ℕ, suc, ◌+◌, ◌-◌, ◌⊎◌, inl, inr, ⊎_elim, List, [], ◌∷◌, ◌++◌, length, Some, None, refl, ap, sym, ◌∙◌, subst, arith}
+use Rattle.std.proofs.Common.{◌≡◌, ℕ, suc, ◌+◌, ◌⊎◌, inl, inr, ⊎_elim, List, [], ◌∷◌, ◌++◌, length, Some, None, refl, ap, sym, ◌∙◌, subst, arith}
 use Rattle.std.specs.Prelude.{slice_get}
 use Rattle.std.proofs.lemmas.List.{length-append}
 use Rattle.rv_inst.specs.Context.{Context}
@@ -9,18 +9,19 @@ use Rattle.rv_inst.specs.declared.inst.Line.TheVariants.{Inst as Put}
 use Rattle.rv_inst.specs.declared.code.LineSpan.{LineSpan}
 use Rattle.rv_inst.specs.declared.label_use.LabelUse.{LabelUse}
 use Rattle.rv_inst.specs.LabelUse.{label_kinds}
-use Rattle.rv_inst.specs.Sizes.{words_in, extent_of}
+use Rattle.rv_inst.specs.Sizes.{Extent, extent_of}
 use Rattle.mach_buffer.specs.declared.uses.Use.{Use}
 use Rattle.mach_buffer.specs.declared.records.ConstPlace.{ConstPlace}
 use Rattle.mach_buffer.specs.declared.records.MachRecord.{MachRecord}
-use Rattle.mach_buffer.specs.Buffer.{bytes_of, uses_of, records_of, registered_of, named_of, constants_of}
+use Rattle.mach_buffer.specs.Buffer.{shape_of, bytes_of, uses_of, records_of, registered_of, named_of, constants_of}
 use Rattle.mach_buffer.specs.Windows.{AreWindows}
 use Rattle.mach_buffer.proofs.Laws.{windows_none, below}
 use Rattle.rv_emit.specs.declared.state.EmitVState.{EmitVState}
 use Rattle.rv_emit.specs.Emitted.{Buffer, IsSoundBuffer}
 use Rattle.rv_emit.proofs.Laws.{before_or_last}
 use Rattle.rv_base.specs.declared.constant.VCodeConstant.{VCodeConstant}
-use Rattle.rv_asm.specs.Reported.{start_of, end_of, end_before, line_records, line_constant, with_constant, constants_after, StandOutside}
+use Rattle.rv_asm.specs.Reported.{start_of, end_of, end_before, line_records, line_constant, with_constant, constants_after, WordsApart}
+use Rattle.rv_asm.proofs.Extents.{spans_within, words_more}
 use Rattle.rv_asm.specs.LinesInBuffer.{StandsAfter, LinesStand, LinePut}
 use Rattle.rv_asm.proofs.FirstLines.{ends_more}
 use Rattle.rv_asm.proofs.LabelNames.{start_more, end_more, start_last, end_last}
@@ -98,21 +99,22 @@ module _ (context : Context) (lines : List Line) (line : Line) (spans : List Lin
   first [] e = start_here 0 (ap length (sym e)) ∙ a.first (b.nothing (ap length e)) ∙ b.ends ∙ ap (λ ls. end_before spans (length ls)) e
   first (l ∷ ls) e = let some : length lines ≡ suc (length ls) = ap length e in start_more spans (span ∷ []) 0 (omega (arith, same, some)) ∙ b.first
 
-  -- constants stand apart from words that end at the same offset
-  moved_apart : (i end size : ℕ) → end_of all i ≡ end → StandOutside context.constants (constants_of new) (end - size) end → StandOutside context.constants (constants_of new) (end_of all i - size) (end_of all i)
-  moved_apart i end size q h = subst (λ n. StandOutside context.constants (constants_of new) (n - size) n) (sym q) h
+  -- constants stand apart from words between the same offsets
+  moved_apart : (i : ℕ) (e : Extent) (start end : ℕ) → start_of all i ≡ start → end_of all i ≡ end → WordsApart context.constants (constants_of new) e start end → WordsApart context.constants (constants_of new) e (start_of all i) (end_of all i)
+  moved_apart i e start end p q h = subst (λ n. WordsApart context.constants (constants_of new) e n (end_of all i)) (sym p) (subst (WordsApart context.constants (constants_of new) e start) (sym q) h)
 
   -- from a line that stood, since it ends before constants that are new begin; from the last, since those that stand end before it
-  apart : (i : ℕ) (inst : Inst) → (slice_get lines i ≡ Some (Put inst)) ⊎ ((i ≡ length lines) × (line ≡ Put inst)) → StandOutside context.constants (constants_of new) (end_of all i - words_in (extent_of context inst)) (end_of all i)
+  apart : (i : ℕ) (inst : Inst) → (slice_get lines i ≡ Some (Put inst)) ⊎ ((i ≡ length lines) × (line ≡ Put inst)) → WordsApart context.constants (constants_of new) (extent_of context inst) (start_of all i) (end_of all i)
   apart i inst (inl h) =
       let lt = below lines i (Put inst) h in
-      let ends = (b.each i (Put inst) h).ends in
-      moved_apart i _ (words_in (extent_of context inst)) (end_more spans (span ∷ []) i (omega (arith, same, lt)))
-      (λ j c k hc hk. ⊎_elim (λ stood. b.apart i inst h j c k stood hk) (λ after. inl (omega (arith, ends, after))) (a.adds.fresh j c hc))
+      let stood = b.each i (Put inst) h in
+      let within = spans_within context.flags (shape_of old) (extent_of context inst) (start_of spans i) (end_of spans i) stood.there.2 in
+      moved_apart i (extent_of context inst) _ _ (start_more spans (span ∷ []) i (omega (arith, same, lt))) (end_more spans (span ∷ []) i (omega (arith, same, lt)))
+      (words_more context.constants (constants_of old) (constants_of new) (length (bytes_of old)) (extent_of context inst) (start_of spans i) (end_of spans i) within stood.ends a.adds.fresh (b.apart i inst h))
   apart i inst (inr (e, is)) =
-      moved_apart i _ (words_in (extent_of context inst)) (ap (end_of all) (e ∙ sym same) ∙ end_last spans span)
-      (subst (λ known. StandOutside known (constants_of new) (span.end - words_in (extent_of context inst)) span.end) (a.lasts.registered ∙ b.registered)
-      (subst (λ l. HoldsNone context l new span.end) is (a.apart b.in_turn)))
+      moved_apart i (extent_of context inst) _ _ (start_here i e) (ap (end_of all) (e ∙ sym same) ∙ end_last spans span)
+      (subst (λ known. WordsApart known (constants_of new) (extent_of context inst) span.start span.end) (a.lasts.registered ∙ b.registered)
+      (subst (λ l. HoldsNone context l new span.start span.end) is (a.apart b.in_turn)))
 
   pub built_more : span.index ≡ length lines → LinesStand context (lines ++ line ∷ []) all new
   built_more index = record {

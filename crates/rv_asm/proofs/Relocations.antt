@@ -16,7 +16,8 @@ use Rattle.mach_buffer.proofs.Laws.{locate}
 use Rattle.rv_inst.specs.Context.{Context}
 use Rattle.rv_inst.specs.Records.{access_records, patch_records, return_records, inst_records}
 use Rattle.rv_inst.specs.Relocations.{field_size}
-use Rattle.rv_inst.specs.Sizes.{Extent, Words, Island, After, extent_of}
+use Rattle.rv_inst.specs.Sizes.{Extent, Words, Island, After, Around, extent_of, call_size, call_extent}
+use Rattle.rv_inst.specs.Returns.{StackLoad, loads_unless}
 use Rattle.rv_inst.specs.declared.code.LineSpan.{LineSpan}
 use Rattle.rv_inst.specs.declared.inst.Inst.{Inst}
 use Rattle.rv_inst.specs.declared.inst.Inst.TheVariants.{Load, Store, LoadExtNameGot, LoadExtNameNear, LoadExtNameFar, Call, CallInd, ReturnCall}
@@ -71,6 +72,12 @@ sized_ascends : (flags : IsaFlags) (bytes : List ℕ) (extent : Extent) (start e
 sized_ascends flags bytes (Words size) start end h = omega arith
 sized_ascends flags bytes (Island space) start end h = gap_ascends flags bytes start end h
 sized_ascends flags bytes (After space size more) start end (mid, gap, same) = let before = gap_ascends flags bytes start mid gap in omega arith
+sized_ascends flags bytes (Around before space after) start end (mid, gap, same) = let ascends = gap_ascends flags bytes (start + before) mid gap in omega (arith, ascends, same)
+
+-- a call's own instructions are within its span
+call_within : (flags : IsaFlags) (bytes : List ℕ) (jump popped : ℕ) (loads : List StackLoad) (t : Option TryCallInfo) (start end : ℕ) → IsSized flags bytes (call_extent flags jump popped loads t) start end → start + call_size flags jump popped ≤ end
+call_within flags bytes jump popped [] t start end long = omega (arith, long)
+call_within flags bytes jump popped (l ∷ loads) t start end (mid, gap, long) = let ascends = gap_ascends flags bytes _ mid gap in omega (arith, ascends, long)
 
 access_fill : (at : ℕ) (trap : Option TrapCode) (start end : ℕ) → start ≤ end → FillInTurn (relocs_in (access_records at trap)) start end
 access_fill at None start end le = le
@@ -96,10 +103,12 @@ inst_fill context bytes (Store to op flags src) start end h = access_fill _ flag
 inst_fill context bytes (LoadExtNameGot rd name) start end h = (omega arith, (omega arith, omega arith))
 inst_fill context bytes (LoadExtNameNear rd name offset) start end h = (omega arith, (omega arith, omega arith))
 inst_fill context bytes (LoadExtNameFar rd name offset) start end h = (omega arith, omega arith)
-inst_fill context bytes (Call info) start end h = (omega arith, return_fill context.frame _ info.stack_map info.try_call_info (patch_records info.patchable _ _) (start + 8) end (patch_fill info.patchable _ _ (start + 8) end (omega arith)))
+inst_fill context bytes (Call info) start end h =
+    let within = call_within context.flags bytes 8 info.callee_pop_size (loads_unless info.patchable info.defs) info.try_call_info start end h in
+    (omega arith, return_fill context.frame _ info.stack_map info.try_call_info (patch_records info.patchable _ _) (start + 8) end (patch_fill info.patchable _ _ (start + 8) end (omega (arith, within))))
 inst_fill context bytes (CallInd info) start end h =
     subst (λ rs. FillInTurn (relocs_in rs) start end) (append-nil (return_records context.frame _ info.stack_map info.try_call_info))
-    (return_fill context.frame _ info.stack_map info.try_call_info [] start end (omega arith))
+    (return_fill context.frame _ info.stack_map info.try_call_info [] start end (sized_ascends context.flags bytes (extent_of context (CallInd info)) start end h))
 inst_fill context bytes (ReturnCall info) start end (mid, gap, same) = let before = gap_ascends context.flags bytes start mid gap in (omega arith, omega arith)
 inst_fill context bytes inst start end h = sized_ascends context.flags bytes (extent_of context inst) start end h
 

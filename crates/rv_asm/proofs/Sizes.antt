@@ -1,13 +1,14 @@
 -- How long code may be, and that an instruction finds its room.
 use Rattle.std.proofs.Common.{◌≡◌, ℕ, suc, ◌+◌, ◌-◌, ◌*◌, ◌≤◌, Bool, cond, List, [], ◌∷◌, ◌++◌, length, Option, None, pos, refl, ap, sym, ◌∙◌, subst, arith, ⊎_elim}
 use Rattle.std.specs.Prelude.{is_some}
+use Rattle.std.proofs.lemmas.List.{length-append, append-nil}
+use Rattle.rv_base.specs.LabelUse.{code_limit}
 use Rattle.rv_base.specs.declared.constant.Constant.{Constant}
 use Rattle.rv_base.specs.declared.label.MachLabel.{MachLabel}
 use Rattle.mach_labels.specs.Table.{first_constant}
 use Rattle.rv_inst.specs.Context.{Context}
 use Rattle.rv_inst.specs.declared.code.LineSpan.{LineSpan}
 use Rattle.rv_inst.specs.declared.inst.Inst.{Inst}
-use Rattle.rv_inst.specs.declared.inst.Inst.TheVariants.{EmitIsland, BrTable, ReturnCall, ReturnCallInd}
 use Rattle.rv_inst.specs.declared.inst.Line.{Line}
 use Rattle.rv_inst.specs.declared.inst.Line.TheVariants.{Inst as Put, Bind}
 use Rattle.rv_inst.specs.LabelUse.{label_kinds}
@@ -15,14 +16,16 @@ use Rattle.mach_buffer.specs.Reach.{CanReach, HasSlack, deadlines, due_by}
 use Rattle.mach_buffer.specs.Buffer.{shape_of, bytes_of, uses_of, place_of, allocated_of, registered_of}
 use Rattle.mach_buffer.specs.Constants.{reserve_from, reserve_of}
 use Rattle.mach_buffer.proofs.Laws.{slack_same, slack_from_reach, reach_from_slack, total, due_total, reserve_other}
-use Rattle.rv_emit.specs.Emitted.{Buffer, pending, AppendsInst, AppendsIsland, IslandIfNeeded}
-use Rattle.rv_base.specs.Regs.{number_of}
+use Rattle.rv_emit.specs.Emitted.{Buffer, pending, AppendsCode, AppendsIsland, IslandIfNeeded, AppendsBy, Appends}
 use Rattle.rv_inst.specs.Rules.{inst_rule, broken_rule}
-use Rattle.rv_emit.proofs.Laws.{waits, bytes_put, ways_more, none_more, ways_few, table_most, table_some, return_most, jalr_sized, words_within, most_in_sequence}
-use Rattle.rv_inst.specs.Sizes.{words_in, extent_of, table_space, line_space, inst_sum, line_sum}
+use Rattle.rv_emit.proofs.Laws.{waits, bytes_put, words_long, words_pending, ways_more, few_ways, words_within, most_counts}
+use Rattle.rv_inst.specs.Sizes.{Extent, Words, Island, After, Around, words_in, extent_of, line_space, inst_sum, line_sum}
+use Rattle.rv_inst.specs.Operands.{inst_ways}
+use Rattle.rv_inst.specs.declared.label_use.LabelUse.{LabelUse}
+use Rattle.mach_buffer.specs.declared.uses.Use.{Use}
 use Rattle.rv_asm.specs.Refusal.{constants_sum, lines_sum, size_sum}
 use Rattle.rv_asm.specs.LinesInBuffer.{Sized, BindPut}
-use Rattle.rv_asm.proofs.LinesAppended.{Appends, InstAppends, LineAppends}
+use Rattle.rv_asm.proofs.LinesAppended.{InstAppends, LineAppends}
 
 -- ---- sums
 
@@ -85,48 +88,62 @@ room_uses distance old new made m = ⊎_elim
     (λ put. island_uses old new put.1)
     m.put
 
--- code puts no constant
-block_reserve : (context : Context) (inst : Inst) (old new : Buffer) → AppendsInst context inst old new → reserve_of (shape_of new) ≡ reserve_of (shape_of old)
-block_reserve context inst old new p = λ j. reserve_from (p.adds.places j) 0 (p.adds.registered j)
+-- so many bytes, and veneers for so many uses more
+code_uses : (code : List ℕ) (own : List (Use LabelUse)) (size more : ℕ) (old new : Buffer) → AppendsCode code own old new → length (bytes_of new) ≡ length (bytes_of old) + size → length (pending new) ≤ length (pending old) + more → Uses (size + 8 * more) old new
+code_uses code own size more old new p long few =
+    let allocated = p.allocated in
+    -- code puts no constant
+    let reserve : reserve_of (shape_of new) ≡ reserve_of (shape_of old) = λ j. reserve_from (p.places j) 0 (p.registered j) in
+    record { size = omega (arith, long, few, reserve); allocated = omega (arith, allocated) }
 
--- words that are put
-words_uses : (context : Context) (inst : Inst) (most : ℕ) (old new : Buffer) → words_in (extent_of context inst) ≤ most → length (pending new) ≤ length (pending old) → AppendsInst context inst old new → Uses most old new
-words_uses context inst most old new long few p =
-    let bytes = bytes_put context inst old new p in
-    let allocated = p.adds.allocated in
-    let reserve = block_reserve context inst old new p in
-    record { size = omega (arith, bytes, long, few, reserve); allocated = omega (arith, allocated) }
+-- one thing after another, of which one allocates no label
+island_then : (first rest : ℕ) (old mid new : Buffer) → Uses first old mid → allocated_of new ≡ allocated_of mid → Uses rest mid new → Uses (first + rest) old new
+island_then first rest old mid new a same b =
+    let x = a.size in let y = b.size in let z = a.allocated in
+    record { size = omega (arith, x, y); allocated = omega (arith, z, same) }
 
--- and those that are put after an island where one is needed
-after_uses : (context : Context) (inst : Inst) (space most : ℕ) (old mid new : Buffer) (made : Bool) → most + 34 ≤ inst_sum context inst → words_in (extent_of context inst) ≤ most → length (pending new) ≤ length (pending mid) → IslandIfNeeded space old mid made → AppendsInst context inst mid new → Uses (inst_sum context inst - 17) old new
-after_uses context inst space most old mid new made sum long few room words =
-    let u = room_uses space old mid made room in
-    let w = words_uses context inst most mid new long few words in
-    let a = u.size in let b = w.size in let c = u.allocated in let d = words.adds.allocated in
-    record { size = omega (arith, a, b, sum); allocated = omega (arith, c, d) }
+code_then : (first rest : ℕ) (old mid new : Buffer) → allocated_of mid ≡ allocated_of old → Uses first old mid → Uses rest mid new → Uses (first + rest) old new
+code_then first rest old mid new same a b =
+    let x = a.size in let y = b.size in let z = b.allocated in
+    record { size = omega (arith, x, y); allocated = omega (arith, z, same) }
+
+more_uses : (least most : ℕ) (old new : Buffer) → least ≤ most → Uses least old new → Uses most old new
+more_uses least most old new le u = let x = u.size in record { size = omega (arith, le, x); allocated = u.allocated }
+
+-- an instruction's words, an island and the veneers of the labels to which it goes
+appended_uses : (context : Context) (inst : Inst) (old new : Buffer) → Appends context inst old new → Uses (words_in (extent_of context inst) + 8 * length (inst_ways inst) + 17) old new
+appended_uses context inst old new e = by (extent_of context inst) refl e
+  where
+    ways : ℕ
+    ways = length (inst_ways inst)
+
+    by : (e : Extent) → extent_of context inst ≡ e → AppendsBy context e inst old new → Uses (words_in e + 8 * ways + 17) old new
+    by (Words size) is words =
+        more_uses (size + 8 * ways) _ old new (omega arith)
+        (code_uses words.code _ size ways old new words.adds (bytes_put context inst old new words ∙ ap (λ e. length (bytes_of old) + words_in e) is) (ways_more context inst old new words))
+    by (Island space) is (made, room) = more_uses 17 _ old new (omega arith) (room_uses space old new made room)
+    by (After space size more) is (mid, made, room, words) =
+        more_uses (17 + (size + 8 * ways)) _ old new (omega arith)
+        (island_then 17 (size + 8 * ways) old mid new (room_uses space old mid made room) words.adds.allocated
+        (code_uses words.code _ size ways mid new words.adds (bytes_put context inst mid new words ∙ ap (λ e. length (bytes_of mid) + words_in e) is) (ways_more context inst mid new words)))
+    by (Around before space after) is a =
+        let none : length (pending a.mid) ≤ length (pending old) + 0 = let same : length (pending a.mid) ≡ length (pending old) = ap length (words_pending before [] _ old a.mid a.first ∙ append-nil (pending old)) in omega (arith, same) in
+        let few : length (pending new) ≤ length (pending a.last) + ways =
+        let whole = ap length (words_pending after _ [] a.last new a.second) ∙ length-append (pending a.last) _ in
+        let own = few_ways context (place_of a.last) (length (bytes_of old)) (length (bytes_of new)) inst in
+        omega (arith, whole, own) in
+        more_uses (before + 8 * 0 + (17 + (after + 8 * ways))) _ old new (omega arith)
+        (code_then (before + 8 * 0) (17 + (after + 8 * ways)) old a.mid new a.first.adds.allocated
+        (code_uses a.first.code [] before 0 old a.mid a.first.adds (words_long before [] _ old a.mid a.first) none)
+        (island_then 17 (after + 8 * ways) a.mid a.last new (room_uses space a.mid a.last a.made a.room) a.second.adds.allocated
+        (code_uses a.second.code _ after ways a.last new a.second.adds (words_long after _ [] a.last new a.second) few)))
 
 -- what comes before it apart, an instruction uses no more than it counts for
-pub emitted_uses : (context : Context) (inst : Inst) (old new : Buffer) → inst_rule context inst ≡ None → Appends context inst old new → Uses (inst_sum context inst - 17) old new
-emitted_uses context (EmitIsland space) old new rule e = let u = room_uses space old new e.0 e.1 in record { size = let s = u.size in omega arith; allocated = u.allocated }
-emitted_uses context (BrTable index tmp1 tmp2 targets) old new rule (mid, made, room, words) =
-    let most = table_most context.flags (number_of index) (number_of tmp2.reg) (length targets) (table_some context index tmp1 tmp2 targets rule) in
-    after_uses context (BrTable index tmp1 tmp2 targets) (table_space (length targets)) (48 + 8 * length targets) old mid new made (omega arith) most (none_more context (BrTable index tmp1 tmp2 targets) mid new refl words) room words
-emitted_uses context (ReturnCall info) old new rule (mid, made, room, words) =
-    let most = return_most context.flags context.frame info.new_stack_arg_size in
-    after_uses context (ReturnCall info) _ (88 + 28 * length context.frame.clobbered_callee_saves) old mid new made (omega arith) (omega arith) (none_more context (ReturnCall info) mid new refl words) room words
-emitted_uses context (ReturnCallInd info) old new rule (mid, made, room, words) =
-    let most = return_most context.flags context.frame info.new_stack_arg_size in
-    let few = (jalr_sized context.flags 0 5 (pos 0)).few in
-    after_uses context (ReturnCallInd info) _ (88 + 28 * length context.frame.clobbered_callee_saves) old mid new made (omega arith) (omega arith) (none_more context (ReturnCallInd info) mid new refl words) room words
-emitted_uses context inst old new rule e =
-    let bytes = bytes_put context inst old new e in
-    let long = words_within context inst rule (omega arith) in
-    let most = most_in_sequence context inst refl in
-    let more = ways_more context inst old new e in
-    let few = ways_few inst in
-    let allocated = e.adds.allocated in
-    let reserve = block_reserve context inst old new e in
-    record { size = omega (arith, bytes, long, most, more, few, reserve); allocated = omega (arith, allocated) }
+pub emitted_uses : (context : Context) (inst : Inst) (old new : Buffer) → inst_rule context inst ≡ None → inst_sum context inst ≤ code_limit → Appends context inst old new → Uses (inst_sum context inst - 17) old new
+emitted_uses context inst old new rule small e =
+    let words = words_within context inst rule small in
+    let counts = most_counts context inst in
+    more_uses _ (inst_sum context inst - 17) old new (omega (arith, words, counts)) (appended_uses context inst old new e)
 
 -- ---- the loop's invariant
 
@@ -138,10 +155,10 @@ sized_none context b bytes uses places registered allocated =
     let reserve : reserve_of (shape_of b) ≡ constants_sum context.constants = reserve_all (place_of b) 0 (registered_of b) places ∙ ap constants_sum registered in
     record { reach = subst (CanReach (length (bytes_of b))) (sym none) tt; size = omega (arith, waiting, long, reserve); allocated = omega arith }
 
-inst_sized : (context : Context) (lines : List Line) (inst : Inst) (old new : Buffer) (span : LineSpan) → inst_rule context inst ≡ None → Sized context lines old → InstAppends context inst old new span → Sized context (lines ++ Put inst ∷ []) new
-inst_sized context lines inst old new span rule s p =
+inst_sized : (context : Context) (lines : List Line) (inst : Inst) (old new : Buffer) (span : LineSpan) → inst_rule context inst ≡ None → inst_sum context inst ≤ code_limit → Sized context lines old → InstAppends context inst old new span → Sized context (lines ++ Put inst ∷ []) new
+inst_sized context lines inst old new span rule small s p =
     let room : Uses 17 old p.mid = room_uses line_space old p.mid p.made p.room in
-    let block : Uses (inst_sum context inst - 17) p.mid new = emitted_uses context inst p.mid new rule p.emitted in
+    let block : Uses (inst_sum context inst - 17) p.mid new = emitted_uses context inst p.mid new rule small p.emitted in
     let sum = sum_next context lines (Put inst) in
     let least = sum_least context (Put inst) in
     let a = room.size in
@@ -166,6 +183,6 @@ bind_sized context lines label old new span s p =
     let same = p.allocated in
     record { reach = subst (λ n. CanReach n (pending new)) (sym long) reach; size = omega (arith, sum, long, few, reserve, size); allocated = omega (arith, sum, same, allocated) }
 
-pub sized_next : (context : Context) (lines : List Line) (line : Line) (old new : Buffer) (span : LineSpan) → broken_rule context line ≡ None → Sized context lines old → LineAppends context line old new span → Sized context (lines ++ line ∷ []) new
-sized_next context lines (Put inst) old new span rule s p = inst_sized context lines inst old new span rule s p
-sized_next context lines (Bind label) old new span rule s p = bind_sized context lines label old new span s p
+pub sized_next : (context : Context) (lines : List Line) (line : Line) (old new : Buffer) (span : LineSpan) → broken_rule context line ≡ None → line_sum context line ≤ code_limit → Sized context lines old → LineAppends context line old new span → Sized context (lines ++ line ∷ []) new
+sized_next context lines (Put inst) old new span rule small s p = inst_sized context lines inst old new span rule small s p
+sized_next context lines (Bind label) old new span rule small s p = bind_sized context lines label old new span s p

@@ -9,29 +9,26 @@ use Rattle.rv_inst.specs.Context.{context_of}
 use Rattle.rv_inst.specs.declared.inst.Line.{Line}
 use Rattle.rv_inst.specs.declared.inst.Line.TheVariants.{Inst as Put, Bind}
 use Rattle.rv_inst.specs.declared.inst.Inst.{Inst}
-use Rattle.rv_inst.specs.declared.inst.Inst.TheVariants.{EmitIsland, BrTable, ReturnCall, ReturnCallInd}
 use Rattle.rv_inst.specs.declared.job.Job.{Job}
 use Rattle.rv_inst.specs.declared.code.Code.{Code}
 use Rattle.rv_inst.specs.LabelUse.{label_kinds}
-use Rattle.rv_inst.specs.Sizes.{Extent, Words, Island, After, space_in, words_in, extent_of, line_sum, table_space, return_size}
+use Rattle.rv_inst.specs.Sizes.{Extent, Words, Island, After, Around, space_in, words_in, extent_of, line_sum}
 use Rattle.rv_inst.specs.Rules.{broken_rule}
 use Rattle.mach_buffer.specs.declared.records.ConstPlace.{ConstPlace}
 use Rattle.mach_buffer.specs.declared.records.MachReloc.{MachReloc}
-use Rattle.mach_buffer.specs.Buffer.{shape_of, bytes_of, place_of, records_of}
+use Rattle.mach_buffer.specs.Buffer.{shape_of, bytes_of, place_of, records_of, constants_of}
 use Rattle.mach_buffer.specs.Records.{relocs_in, traps_in, calls_in, tries_in, patches_in, maps_in, unwinds_in, offset_or_zero}
 use Rattle.rv_inst.specs.Operands.{named_labels}
 use Rattle.mach_buffer.specs.Constants.{HasConstants}
 use Rattle.rv_emit.specs.ConstantsAdded.{AddsConstants}
 use Rattle.rv_emit.specs.Emitted.{Buffer}
-use Rattle.rv_base.specs.Regs.{number_of}
-use Rattle.rv_emit.specs.InstParts.{table_slots, tail_slots, t0_slots}
 use Rattle.rv_emit.specs.Puts.{AllBytes}
-use Rattle.rv_emit.specs.Slots.{size_of}
-use Rattle.rv_emit.specs.Standing.{IsFinishedTo}
-use Rattle.rv_emit.proofs.Laws.{adds_end, gap_is, table_stands, words_within}
+use Rattle.rv_emit.specs.Standing.{SpansIn, IsFinishedTo}
+use Rattle.rv_emit.proofs.Laws.{adds_end, gap_is, words_within}
 use Rattle.rv_asm.specs.Reported.{start_of, end_of, end_before, binds_from, returns_from, records_from, IsGap, IsSized, IsSpan, IsShort, Reported}
 use Rattle.rv_asm.specs.LinesInBuffer.{LineStands, LinesStand}
 use Rattle.rv_asm.proofs.ExitPoints.{AllBound}
+use Rattle.rv_asm.proofs.Extents.{spans_within, words_more}
 use Rattle.rv_asm.proofs.Handlers.{handlers_told}
 use Rattle.rv_asm.proofs.LinesJoin.{line_at}
 use Rattle.rv_asm.proofs.Relocations.{fields_in_lines, fields_apart}
@@ -46,35 +43,23 @@ alone_long : (flags : IsaFlags) (bytes : List ℕ) (e : Extent) (start end : ℕ
 alone_long flags bytes (Words size) start end none h = h
 alone_long flags bytes (Island space) start end none h = absurd (cc)
 alone_long flags bytes (After space size more) start end none h = absurd (cc)
+alone_long flags bytes (Around before space after) start end none h = absurd (cc)
 
 module _ (job : Job) (code : Code) (b : Buffer) (built : LinesStand (context_of job) job.lines code.lines b) (f : IsFinishedTo (shape_of b) code.bytes) (constants : code.constants ≡ f.finishes.put.constants) (small : length code.bytes ≤ 2 ^ 64) where
-  inst_sized : (inst : Inst) (start end : ℕ) → LineStands (context_of job) (Put inst) b start end → IsSized job.flags code.bytes (extent_of (context_of job) inst) start end
-  inst_sized (EmitIsland space) start end (setting, (mid, gap, same), long) = subst (IsSized job.flags code.bytes (Island space) start) same (gap_is (context_of job) (shape_of b) code.bytes f small start mid gap)
-  inst_sized (BrTable index tmp1 tmp2 targets) start end (setting, parts, long) =
-      let slots = table_slots job.flags (number_of index) (number_of tmp1.reg) (number_of tmp2.reg) targets in
-      let t = table_stands job.flags (table_space (length targets)) slots (shape_of b) start end parts in
-      let size : size_of slots + 0 ≡ words_in (extent_of (context_of job) (BrTable index tmp1 tmp2 targets)) = long in
-      (t.0, gap_is (context_of job) (shape_of b) code.bytes f small start t.0 t.1, let ends = t.2 in omega arith)
-  inst_sized (ReturnCall info) start end (setting, parts, long) =
-      let slots = tail_slots job.flags job.frame info.new_stack_arg_size info.dest in
-      let t = table_stands job.flags (return_size job.flags job.frame info.new_stack_arg_size + 8) slots (shape_of b) start end parts in
-      let size : size_of slots + 0 ≡ words_in (extent_of (context_of job) (ReturnCall info)) = long in
-      (t.0, gap_is (context_of job) (shape_of b) code.bytes f small start t.0 t.1, let ends = t.2 in omega arith)
-  inst_sized (ReturnCallInd info) start end (setting, parts, long) =
-      let slots = t0_slots job.flags job.frame info.new_stack_arg_size in
-      let t = table_stands job.flags (return_size job.flags job.frame info.new_stack_arg_size + 4) slots (shape_of b) start end parts in
-      let size : size_of slots + 0 ≡ words_in (extent_of (context_of job) (ReturnCallInd info)) = long in
-      (t.0, gap_is (context_of job) (shape_of b) code.bytes f small start t.0 t.1, let ends = t.2 in omega arith)
-  inst_sized inst start end (setting, parts, long) = long
+  spans_sized : (e : Extent) (start end : ℕ) → SpansIn job.flags (shape_of b) e start end → IsSized job.flags code.bytes e start end
+  spans_sized (Words size) start end long = long
+  spans_sized (Island space) start end gap = gap_is (context_of job) (shape_of b) code.bytes f small start end gap
+  spans_sized (After space size more) start end (mid, gap, long) = (mid, gap_is (context_of job) (shape_of b) code.bytes f small start mid gap, long)
+  spans_sized (Around before space after) start end (mid, gap, long) = (mid, gap_is (context_of job) (shape_of b) code.bytes f small (start + before) mid gap, long)
 
   line_long : (line : Line) (start end : ℕ) → LineStands (context_of job) line b start end → IsSpan (context_of job) code.bytes line start end
-  line_long (Put inst) start end h = inst_sized inst start end h
+  line_long (Put inst) start end h = spans_sized (extent_of (context_of job) inst) start end h.2
   line_long (Bind label) start end (same, bound) = sym same
 
   line_short : (line : Line) (start end : ℕ) → broken_rule (context_of job) line ≡ None → line_sum (context_of job) line ≤ code_limit → LineStands (context_of job) line b start end → IsShort (context_of job) line start end
   line_short (Put inst) start end rule counted h =
       let most = words_within (context_of job) inst rule counted in
-      (most, λ none. let long = alone_long job.flags code.bytes (extent_of (context_of job) inst) start end none (inst_sized inst start end h) in omega (arith, most, long))
+      (most, λ none. let long = alone_long job.flags code.bytes (extent_of (context_of job) inst) start end none (spans_sized (extent_of (context_of job) inst) start end h.2) in omega (arith, most, long))
   line_short (Bind label) start end rule counted h = tt
 
   -- the constants that the end puts come after all lines
@@ -109,7 +94,7 @@ module _ (job : Job) (code : Code) (b : Buffer) (built : LinesStand (context_of 
     constants = ap (map (λ (c : ConstPlace). c.constant)) constants ∙ f.finishes.listed ∙ built.named;
     placed = subst (HasConstants job.constants code.bytes) (sym constants) (subst (λ (cs : List Constant). HasConstants cs code.bytes f.finishes.put.constants) built.registered f.finishes.constants);
     ascend = λ i j c d k lt hc hd hk. (put_after.in_turn built.in_turn).ascend i j c d k lt (constant_put i c hc) (constant_put j d hd) (ap (λ (ks : List Constant). slice_get ks c.constant.number) (put_after.registered ∙ built.registered) ∙ hk);
-    apart = λ i inst h j c k hc hk. let ends = (built.each i (Put inst) h).ends in ⊎_elim (λ stood. built.apart i inst h j c k stood hk) (λ after. inl (omega (arith, ends, after))) (put_after.fresh j c (constant_put j c hc));
+    apart = λ i inst h. let stood = built.each i (Put inst) h in words_more job.constants (constants_of b) code.constants (length (bytes_of b)) (extent_of (context_of job) inst) (start_of code.lines i) (end_of code.lines i) (spans_within job.flags (shape_of b) (extent_of (context_of job) inst) (start_of code.lines i) (end_of code.lines i) stood.there.2) stood.ends (λ j c hc. put_after.fresh j c (constant_put j c hc)) (built.apart i inst h);
     relocs = relocs ∙ ap relocs_in built.records;
     traps = traps ∙ ap traps_in built.records;
     call_sites = call_sites ∙ ap calls_in built.records;

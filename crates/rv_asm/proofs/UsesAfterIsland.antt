@@ -19,8 +19,7 @@ use Rattle.rv_inst.specs.declared.inst.Line.TheVariants.{Inst as Put, Bind}
 use Rattle.rv_inst.specs.declared.label_use.LabelUse.{LabelUse}
 use Rattle.rv_inst.specs.declared.label_use.LabelUse.TheVariants.{Jal20, B12, PCRelLo12I, RVCJump}
 use Rattle.rv_inst.specs.Operands.{targets_of, ways_of, ways_by, inst_ways, inst_labels, try_call_of}
-use Rattle.rv_inst.specs.Sizes.{call_size, try_size}
-use Rattle.rv_inst.specs.declared.inst.Inst.TheVariants.{Call, CallInd}
+use Rattle.rv_inst.specs.Sizes.{extent_of}
 use Rattle.rv_inst.specs.declared.targets.Targets.{Targets}
 use Rattle.rv_inst.specs.declared.targets.Targets.TheVariants.{Nowhere, Jumps, Branches, Refers, RefersConstant}
 use Rattle.mach_buffer.specs.Shape.{constant_label}
@@ -30,7 +29,7 @@ use Rattle.rv_inst.proofs.Rules.{breaks_none}
 use Rattle.rv_inst.specs.Rules.{inst_rule, is_buffer_label}
 use Rattle.mach_buffer.specs.declared.uses.Use.{Use}
 use Rattle.mach_buffer.specs.Reach.{deadline, deadlines, due_by, is_needed, is_needed_from, is_reached, island_front}
-use Rattle.mach_buffer.specs.Buffer.{bytes_of, uses_of, place_of}
+use Rattle.mach_buffer.specs.Buffer.{shape_of, bytes_of, uses_of, place_of}
 use Rattle.mach_buffer.proofs.Laws.{both_lists, deadlines_append, due_le_length}
 use Rattle.rv_emit.specs.Emitted.{Buffer, pending}
 use Rattle.rv_inst.specs.Forms.{jump_kind, jump_size, short_jalr}
@@ -42,6 +41,7 @@ use Rattle.rv_inst.specs.Uses.{least_reach}
 use Rattle.rv_asm.specs.Reach.{way_count, last_island, first_after_island, uses_from, bound_by, pending_deadlines, IsDue}
 use Rattle.rv_asm.specs.AfterLastIsland.{uses_after_island, passing, AfterLastIsland}
 use Rattle.rv_asm.proofs.LabelNames.{IsOf, uses_labels}
+use Rattle.rv_asm.proofs.Extents.{spans_within}
 use Rattle.rv_asm.proofs.FirstLines.{last_open}
 
 -- ---- the uses of one instruction
@@ -223,9 +223,7 @@ and_first false b e = absurd (cc)
 
 -- a call that goes on stands with its jump
 stands_jump : (context : Context) (inst : Inst) (b : Buffer) (start end : ℕ) → LineStands context (Put inst) b start end → HasJump context.flags start end (try_call_of inst)
-stands_jump context (Call info) b start end h = let long = h.2 in has_jump context (Call info) start end (omega (arith, long))
-stands_jump context (CallInd info) b start end h = let long = h.2 in has_jump context (CallInd info) start end (omega (arith, long))
-stands_jump context _ b start end h = tt
+stands_jump context inst b start end h = has_jump context inst start end (spans_within context.flags (shape_of b) (extent_of context inst) start end h.2)
 
 -- an island that is needed after some lines is due there
 pub due_now : (context : Context) (lines : List Line) (spans : List LineSpan) (b : Buffer) (distance : ℕ) → LinesStand context lines spans b → AfterLastIsland context lines spans b → is_needed (length (bytes_of b)) distance (pending b) ≡ true → IsDue context lines spans (length lines) (length (bytes_of b)) distance

@@ -28,26 +28,20 @@ use Rattle.rv_emit.specs.ConstantsAdded.{StandInTurn}
 use Rattle.rv_emit.specs.Emission.{EmitsIn}
 use Rattle.rv_emit.specs.Images.{FieldsStand}
 use Rattle.rv_emit.specs.InstParts.{parts_of}
-use Rattle.rv_emit.specs.Standing.{GapStandsIn, PartsIn}
+use Rattle.rv_emit.specs.Standing.{GapStandsIn, PartsIn, SpansIn}
 use Rattle.rv_emit.specs.declared.state.EmitVState.{EmitVState}
 use Rattle.rv_emit.specs.declared.state.EmitVState.TheVariants.{Unknown}
-use Rattle.rv_emit.specs.Slots.{Part, parts_size}
 use Rattle.rv_emit.specs.State.{setting_after, setting_beyond}
 use Rattle.rv_asm.specs.Reported.{start_of, end_of, end_before, binds_from, line_returns, records_from, constants_named, StandApart}
 use Rattle.rv_asm.specs.Refusal.{is_unfit, binds, is_bound, size_sum}
-use Rattle.rv_inst.specs.Sizes.{Extent, Words, Island, After, extent_of, line_space, line_sum}
+use Rattle.rv_inst.specs.Sizes.{extent_of, line_space, line_sum}
 
 -- ---- where lines stand
 
--- words are as long as they must be, and so are those that may stand after an island
-abbrev pub IsLong : Extent → List Part → ℕ → ℕ → Type 0
-IsLong (Words size) parts start end = end ≡ start + size
-IsLong (Island space) parts start end = Unit {0}
-IsLong (After space size more) parts start end = parts_size parts ≡ size
-
--- the parts of an instruction stand between two offsets, by some setting of the vector unit; a bind has no bytes
+-- the parts of an instruction stand between two offsets, by some setting of the vector unit, and are as long as they must be; a bind
+-- has no bytes
 abbrev pub LineStands : Context → Line → Buffer → ℕ → ℕ → Type 0
-LineStands context (Put inst) b start end = (setting : EmitVState) × PartsIn context.flags (parts_of context setting inst) (shape_of b) start end × IsLong (extent_of context inst) (parts_of context setting inst) start end
+LineStands context (Put inst) b start end = (setting : EmitVState) × PartsIn context.flags (parts_of context setting inst) (shape_of b) start end × SpansIn context.flags (shape_of b) (extent_of context inst) start end
 LineStands context (Bind label) b start end = (start ≡ end) × (place_of b label.number ≡ Some start)
 
 -- after the offset where the line before ends stands nothing, or an island, and then the line

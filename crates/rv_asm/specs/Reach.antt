@@ -12,7 +12,7 @@ use Rattle.rv_inst.specs.Operands.{line_ways}
 use Rattle.rv_inst.specs.LabelUse.{label_kinds, has_veneer_of}
 use Rattle.mach_buffer.specs.declared.uses.Use.{Use}
 use Rattle.mach_buffer.specs.Reach.{is_reached, deadlines, CanReach, island_front}
-use Rattle.rv_inst.specs.Sizes.{line_space, Extent, Words, Island, After, extent_of}
+use Rattle.rv_inst.specs.Sizes.{line_space, Extent, Words, Island, After, Around, extent_of}
 use Rattle.rv_inst.specs.Uses.{uses_in, least_reach}
 use Rattle.rv_asm.specs.Reported.{start_of, end_of, end_before}
 use Rattle.rv_asm.specs.Refusal.{size_sum}
@@ -28,6 +28,7 @@ abbrev pub is_island_of : Extent → ℕ → ℕ → Bool
 is_island_of (Words size) start end = false
 is_island_of (Island space) start end = nat_lt start end
 is_island_of (After space size more) start end = nat_lt (start + size) end
+is_island_of (Around before space after) start end = nat_lt (start + (before + after)) end
 
 abbrev pub is_island : Context → Line → ℕ → ℕ → Bool
 is_island context (Put inst) start end = is_island_of (extent_of context inst) start end
@@ -60,6 +61,7 @@ abbrev pub IsDueOf : Context → List Line → List LineSpan → ℕ → Extent 
 IsDueOf context lines spans i (Words size) = Unit {0}
 IsDueOf context lines spans i (Island space) = start_of spans i < end_of spans i → IsDue context lines spans i (start_of spans i) space
 IsDueOf context lines spans i (After space size more) = start_of spans i + size < end_of spans i → IsDue context lines spans i (start_of spans i) space
+IsDueOf context lines spans i (Around before space after) = start_of spans i + (before + after) < end_of spans i → IsDue context lines spans i (start_of spans i + before) space
 
 abbrev pub IslandDue : Context → List Line → List LineSpan → ℕ → Line → Type 0
 IslandDue context lines spans i (Put inst) = IsDueOf context lines spans i (extent_of context inst)

@@ -9,7 +9,7 @@ use Rattle.rv_inst.specs.declared.inst.Line.TheVariants.{Inst as Put, Bind}
 use Rattle.rv_inst.specs.declared.job.Job.{Job}
 use Rattle.rv_inst.specs.Islands.{IsIsland}
 use Rattle.rv_inst.specs.Operands.{inst_constant}
-use Rattle.rv_inst.specs.Sizes.{Extent, Words, Island, After, words_in, extent_of, island_space}
+use Rattle.rv_inst.specs.Sizes.{Extent, Words, Island, After, Around, words_in, extent_of, island_space}
 use Rattle.rv_inst.specs.MostBytes.{most_bytes}
 use Rattle.rv_base.specs.declared.flags.IsaFlags.{IsaFlags}
 use Rattle.rv_inst.specs.declared.code.Code.{Code}
@@ -101,11 +101,13 @@ binding_line (Put inst ∷ lines) label = suc (binding_line lines label)
 abbrev pub label_start : List LineSpan → List Line → ℕ → ℕ
 label_start spans lines label = start_of spans (binding_line lines label)
 
--- an instruction's words are as long as they must be; where it asks for an island, nothing stands before them, or an island
+-- an instruction's words are as long as they must be; where it asks for an island, nothing stands before them or among them, or an
+-- island
 abbrev pub IsSized : IsaFlags → List ℕ → Extent → ℕ → ℕ → Type 0
 IsSized flags bytes (Words size) start end = end ≡ start + size
 IsSized flags bytes (Island space) start end = IsGap flags bytes start end
 IsSized flags bytes (After space size more) start end = (mid : ℕ) × IsGap flags bytes start mid × (end ≡ mid + size)
+IsSized flags bytes (Around before space after) start end = (mid : ℕ) × IsGap flags bytes (start + before) mid × (end ≡ mid + after)
 
 -- a line's span is as long as the line; that of a bind is empty
 abbrev pub IsSpan : Context → List ℕ → Line → ℕ → ℕ → Type 0
@@ -125,9 +127,15 @@ AreApart start end from to = (end ≤ from) ⊎ (to ≤ start)
 abbrev pub StandOutside : List Constant → List ConstPlace → ℕ → ℕ → Type 0
 StandOutside registered constants start end = (j : ℕ) (c : ConstPlace) (k : Constant) → slice_get constants j ≡ Some c → slice_get registered c.constant.number ≡ Some k → AreApart start end c.offset (c.offset + length k.bytes)
 
--- nor has one a byte among the words of an instruction, which are the last of its span
+-- nor has one a byte among the words of an instruction: those before an island in it, and those after
+abbrev pub WordsApart : List Constant → List ConstPlace → Extent → ℕ → ℕ → Type 0
+WordsApart registered constants (Words size) start end = StandOutside registered constants start end
+WordsApart registered constants (Island space) start end = Unit {0}
+WordsApart registered constants (After space size more) start end = StandOutside registered constants (end - size) end
+WordsApart registered constants (Around before space after) start end = StandOutside registered constants start (start + before) × StandOutside registered constants (end - after) end
+
 abbrev pub StandApart : Context → List Line → List LineSpan → List ConstPlace → Type 0
-StandApart context lines spans constants = (i : ℕ) (inst : Inst) → slice_get lines i ≡ Some (Put inst) → StandOutside context.constants constants (end_of spans i - words_in (extent_of context inst)) (end_of spans i)
+StandApart context lines spans constants = (i : ℕ) (inst : Inst) → slice_get lines i ≡ Some (Put inst) → WordsApart context.constants constants (extent_of context inst) (start_of spans i) (end_of spans i)
 
 -- the bytes that a relocation fills are all in the span of one of the lines
 pub record FillsInLine (spans : List LineSpan) (r : MachReloc) : Type 0 where

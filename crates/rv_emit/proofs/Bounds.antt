@@ -1,6 +1,6 @@
 -- An instruction keeps its bounds: how many bytes it puts, how many uses more are pending, and how far they reach.
 use Rattle.std.proofs.Common.{◌≡◌, ℕ, ◌+◌, ◌≤◌, Bool, true, false, cond, List, [], ◌∷◌, length, Option, Some, None, pos, suc, refl, ap, sym, ◌∙◌, subst, arith, ⊎_elim}
-use Rattle.std.specs.Prelude.{is_some, ◌-◌, if◌then◌else◌}
+use Rattle.std.specs.Prelude.{◌-◌, if◌then◌else◌}
 use Rattle.std.proofs.lemmas.List.{length-append, append-nil}
 use Rattle.rv_base.specs.declared.call.TryCallInfo.{TryCallInfo}
 use Rattle.rv_base.specs.declared.flags.IsaFlags.{IsaFlags}
@@ -12,11 +12,12 @@ use Rattle.rv_inst.specs.LabelUse.{label_kinds, forward_of}
 use Rattle.rv_inst.specs.MostBytes.{sequence_limit}
 use Rattle.rv_inst.specs.Operands.{targets_of, ways_of, ways_by, inst_ways, try_call_of}
 use Rattle.rv_inst.specs.Rules.{inst_rule}
-use Rattle.rv_inst.specs.Sizes.{words_in, extent_of, island_space, inst_sum, call_size, try_size}
+use Rattle.rv_inst.specs.Sizes.{Extent, Words, Island, After, Around, space_in, words_in, extent_of, island_space, inst_sum, call_extent}
 use Rattle.rv_inst.specs.Uses.{use_at, target_uses, target_reach, jump_reach, inst_reach, uses_by, uses_in, least_reach}
 use Rattle.rv_inst.specs.declared.inst.CondBrTarget.TheVariants.{Label, Fallthrough}
 use Rattle.rv_inst.specs.declared.inst.Inst.{Inst}
-use Rattle.rv_inst.specs.declared.inst.Inst.TheVariants.{EmitIsland, BrTable, Call, CallInd, ReturnCall, ReturnCallInd}
+use Rattle.rv_inst.specs.declared.inst.Inst.TheVariants.{Call, CallInd}
+use Rattle.rv_inst.specs.Returns.{StackLoad, result_loads, loads_unless}
 use Rattle.rv_inst.specs.declared.inst.Line.TheVariants.{Inst as Put}
 use Rattle.rv_inst.specs.declared.label_use.LabelUse.{LabelUse}
 use Rattle.rv_inst.specs.declared.label_use.LabelUse.TheVariants.{Jal20, B12, PCRelLo12I, RVCJump}
@@ -26,14 +27,11 @@ use Rattle.mach_buffer.specs.declared.uses.Use.{Use}
 use Rattle.mach_buffer.specs.Buffer.{bytes_of, place_of}
 use Rattle.mach_buffer.specs.Reach.{AllOf, deadline, deadlines}
 use Rattle.mach_buffer.specs.Shape.{constant_label}
-use Rattle.rv_emit.specs.declared.state.EmitVState.{EmitVState}
-use Rattle.rv_emit.specs.Emission.{EmitsIn}
-use Rattle.rv_emit.specs.Emitted.{Buffer, pending, AppendsInst, IslandIfNeeded, IslandAsked, IsBounded}
-use Rattle.rv_emit.proofs.FineOperands.{fine}
+use Rattle.rv_emit.specs.Emitted.{Buffer, pending, AppendsInst, AppendsBy, Appends, IslandAsked, IsBounded}
+use Rattle.rv_emit.proofs.CallAppends.{words_pending}
+use Rattle.rv_emit.proofs.PlainSlots.{words_long}
 use Rattle.rv_emit.proofs.MostBytes.{words_within, most_in_sequence}
 use Rattle.rv_emit.proofs.ReachKept.{Each, each_none, each_more, waits, few_deadlines, bytes_put, pending_adds, pending_whole}
-use Rattle.rv_emit.proofs.TableAppends.{AppendsAfter, appends_table}
-use Rattle.rv_emit.proofs.TailAppends.{appends_tail, appends_t0}
 
 -- ---- how far uses reach
 
@@ -82,17 +80,14 @@ uses_least context start end inst room = by (try_call_of inst) room
     by (Some t) room = each_more (λ u. start + jump_reach context.flags ≤ deadline label_kinds u) _ [] (last_least context.flags.has_zca start end room) (each_none _)
 
 -- a call that goes on has room for its jump
+call_jump : (flags : IsaFlags) (jump popped : ℕ) (loads : List StackLoad) (t : Option TryCallInfo) (start end : ℕ) → start + words_in (call_extent flags jump popped loads t) ≤ end → HasJump flags start end t
+call_jump flags jump popped loads None start end within = tt
+call_jump flags jump popped [] (Some t) start end within = omega (arith, within)
+call_jump flags jump popped (l ∷ loads) (Some t) start end within = omega (arith, within)
+
 pub has_jump : (context : Context) (inst : Inst) (start end : ℕ) → start + words_in (extent_of context inst) ≤ end → HasJump context.flags start end (try_call_of inst)
-has_jump context (Call info) start end within = on info.try_call_info within
-  where
-    on : (t : Option TryCallInfo) → start + (call_size context.flags 8 info.callee_pop_size + try_size context.flags t) ≤ end → HasJump context.flags start end t
-    on None within = tt
-    on (Some t) within = omega arith
-has_jump context (CallInd info) start end within = on info.try_call_info within
-  where
-    on : (t : Option TryCallInfo) → start + (call_size context.flags (short_jalr context.flags 1 (number_of info.dest) (pos 0)).len info.callee_pop_size + try_size context.flags t) ≤ end → HasJump context.flags start end t
-    on None within = tt
-    on (Some t) within = omega arith
+has_jump context (Call info) start end within = call_jump context.flags 8 info.callee_pop_size (loads_unless info.patchable info.defs) info.try_call_info start end within
+has_jump context (CallInd info) start end within = call_jump context.flags (short_jalr context.flags 1 (number_of info.dest) (pos 0)).len info.callee_pop_size (result_loads info.defs) info.try_call_info start end within
 has_jump context _ start end within = tt
 
 -- what holds of the deadline of each use holds of those that pass a test
@@ -195,36 +190,56 @@ words_bounded context inst old mid new rule small island p = record {
         let least = uses_least context (length (bytes_of mid)) (length (bytes_of new)) inst (has_jump context inst (length (bytes_of mid)) (length (bytes_of new)) (omega (arith, long))) k u h in
         omega (arith, longer, least)
 
--- an instruction that asks for no island
-pub alone_bounded : (context : Context) (inst : Inst) (old new : Buffer) → inst_rule context inst ≡ None → inst_sum context inst ≤ code_limit → island_space context inst ≡ None → AppendsInst context inst old new → IsBounded context inst old new
-alone_bounded context inst old new rule small none p = words_bounded context inst old old new rule small (subst (λ space. IslandAsked space old old) (sym none) refl) p
+-- what an instruction adds keeps its bounds
+pub emit_bounded : (context : Context) (inst : Inst) (old new : Buffer) → inst_rule context inst ≡ None → inst_sum context inst ≤ code_limit → Appends context inst old new → IsBounded context inst old new
+emit_bounded context inst old new rule small e = by (extent_of context inst) refl e
+  where
+    by : (e : Extent) → extent_of context inst ≡ e → AppendsBy context e inst old new → IsBounded context inst old new
+    by (Words size) is words = words_bounded context inst old old new rule small (subst (λ e. IslandAsked (space_in e) old old) (sym is) refl) words
+    by (Island space) is (made, room) = record {
+      before = old;
+      after = new;
+      first = 0;
+      rest = 0;
+      starts = omega arith;
+      island = subst (λ e. IslandAsked (space_in e) old new) (sym is) (made, room);
+      ends = omega arith;
+      most = omega arith;
+      added = [];
+      keeps = refl;
+      adds = sym (append-nil (pending new));
+      few = omega arith;
+      late = tt;
+    }
+    by (After space size more) is (mid, made, room, words) = words_bounded context inst old mid new rule small (subst (λ e. IslandAsked (space_in e) old mid) (sym is) (made, room)) words
+    by (Around before space after) is a = record {
+      before = a.mid;
+      after = a.last;
+      first = before;
+      rest = after;
+      starts = starts;
+      island = island;
+      ends = ends;
+      most = let most = words_within context inst rule small in let size : words_in (extent_of context inst) ≡ before + after = ap words_in is in omega (arith, most, size);
+      added = deadlines (waits (place_of a.last)) label_kinds own;
+      keeps = words_pending before [] _ old a.mid a.first ∙ append-nil (pending old);
+      adds = words_pending after own [] a.last new a.second;
+      few = few_ways context (place_of a.last) (length (bytes_of old)) (length (bytes_of new)) inst;
+      late = all_deadlines (λ d. length (bytes_of old) + least_reach context (Put inst) ≤ d) (waits (place_of a.last)) own
+          (uses_least context (length (bytes_of old)) (length (bytes_of new)) inst (has_jump context inst (length (bytes_of old)) (length (bytes_of new)) (let size : words_in (extent_of context inst) ≡ before + after = ap words_in is in let longer = island_longer (island_space context inst) a.mid a.last island in omega (arith, size, starts, ends, longer))));
+    }
+      where
+        own : List (Use LabelUse)
+        own = uses_in context (length (bytes_of old)) (length (bytes_of new)) inst
 
--- one that does
-pub asking_bounded : (context : Context) (setting : EmitVState) (inst : Inst) (old new : Buffer) → inst_rule context inst ≡ None → inst_sum context inst ≤ code_limit → is_some (island_space context inst) ≡ true → EmitsIn context setting inst old new → IsBounded context inst old new
-asking_bounded context setting (EmitIsland space) old new rule small asks (mid, made, room, same) = record {
-  before = old;
-  after = new;
-  first = 0;
-  rest = 0;
-  starts = omega arith;
-  island = (made, subst (λ (b : Buffer). IslandIfNeeded space old b made) (sym same) room);
-  ends = omega arith;
-  most = omega arith;
-  added = [];
-  keeps = refl;
-  adds = sym (append-nil (pending new));
-  few = omega arith;
-  late = tt;
-}
-asking_bounded context setting (BrTable index tmp1 tmp2 targets) old new rule small asks e =
-    let some = (fine context (BrTable index tmp1 tmp2 targets) rule).4 in
-    let a = appends_table context setting index tmp1 tmp2 targets old new some e in
-    words_bounded context (BrTable index tmp1 tmp2 targets) old a.mid new rule small (a.made, a.room) a.words
-asking_bounded context setting (ReturnCall info) old new rule small asks e =
-    let a = appends_tail context setting info old new e in words_bounded context (ReturnCall info) old a.mid new rule small (a.made, a.room) a.words
-asking_bounded context setting (ReturnCallInd info) old new rule small asks e =
-    let a = appends_t0 context setting info old new e in words_bounded context (ReturnCallInd info) old a.mid new rule small (a.made, a.room) a.words
-asking_bounded context setting _ old new rule small asks e = absurd (cc)
+        starts : length (bytes_of a.mid) ≡ length (bytes_of old) + before
+        starts = words_long before [] _ old a.mid a.first
+
+        ends : length (bytes_of new) ≡ length (bytes_of a.last) + after
+        ends = words_long after _ [] a.last new a.second
+
+        island : IslandAsked (island_space context inst) a.mid a.last
+        island = subst (λ e. IslandAsked (space_in e) a.mid a.last) (sym is) (a.made, a.room)
 
 -- what the bounds of an instruction that asks for no island give
 module _ (context : Context) (inst : Inst) (old new : Buffer) (none : island_space context inst ≡ None) (b : IsBounded context inst old new) where

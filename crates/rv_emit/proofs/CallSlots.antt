@@ -1,5 +1,5 @@
--- What calls that return add to a buffer, and that their parts are blocks.
-use Rattle.std.proofs.Common.{◌≡◌, ℕ, ◌+◌, ◌-◌, ◌≤◌, Bool, true, false, List, [], ◌∷◌, ◌++◌, length, Option, Some, None, ℤ, pos, refl, ap, ◌∙◌, subst, append-nil, arith, lit≤}
+-- What calls that return add to a buffer: their words, and where they load results an island among them; and that their parts are blocks.
+use Rattle.std.proofs.Common.{◌≡◌, ℕ, ◌+◌, ◌-◌, ◌*◌, ◌≤◌, Bool, true, false, List, [], ◌∷◌, ◌++◌, length, Option, Some, None, ℤ, pos, refl, ap, sym, ◌∙◌, subst, append-nil, arith, lit≤}
 use Rattle.rv_base.specs.declared.call.CallInfo.{CallInfo}
 use Rattle.rv_base.specs.declared.call.TryCallInfo.{TryCallInfo}
 use Rattle.rv_base.specs.declared.call.UserStackMap.{UserStackMap}
@@ -9,25 +9,37 @@ use Rattle.rv_base.specs.declared.frame.FrameLayout.{FrameLayout}
 use Rattle.rv_base.specs.declared.regs.Reg.{Reg}
 use Rattle.rv_base.specs.Regs.{number_of}
 use Rattle.rv_base.specs.Frame.{sp_to_fp_of}
-use Rattle.std.specs.Prelude.{if◌then◌else◌}
+use Rattle.std.specs.Prelude.{is_some, count_by, if◌then◌else◌}
 use Rattle.mach_buffer.specs.declared.records.Event.TheVariants as event
 use Rattle.mach_buffer.specs.declared.records.MachRecord.{MachRecord}
 use Rattle.mach_buffer.specs.declared.uses.Use.{Use}
+use Rattle.mach_buffer.specs.Buffer.{bytes_of, allocated_of}
+use Rattle.mach_buffer.specs.Shape.{Shape}
+use Rattle.rv_base.specs.declared.constant.VCodeConstant.{VCodeConstant}
 use Rattle.rv_inst.specs.declared.label_use.LabelUse.{LabelUse}
 use Rattle.rv_inst.specs.declared.targets.Targets.TheVariants.{Nowhere}
 use Rattle.rv_inst.specs.Context.{Context}
 use Rattle.rv_inst.specs.Forms.{short_jalr, jump_kind, jump_size}
 use Rattle.rv_inst.specs.LabelUse.{marks_of}
-use Rattle.rv_inst.specs.Records.{site_event, return_records, patch_records}
-use Rattle.rv_inst.specs.Sizes.{Words, stack_step_size, fall, call_size, try_size}
-use Rattle.rv_inst.specs.Uses.{use_at, uses_by}
+use Rattle.rv_inst.specs.Records.{site_event, return_records, patch_records, inst_records}
+use Rattle.rv_inst.specs.Returns.{StackLoad, result_loads, loads_unless}
+use Rattle.rv_inst.specs.Sizes.{Extent, Words, Island, After, Around, stack_loads_size, stack_step_size, fall, call_size, try_size, results_space, call_extent, extent_of, words_in, space_in, island_space, inst_sum}
+use Rattle.rv_inst.specs.Rules.{is_stacked}
+use Rattle.rv_inst.proofs.ResultLoads.{no_extra}
+use Rattle.rv_inst.specs.Uses.{use_at, uses_by, uses_in}
+use Rattle.rv_inst.specs.declared.inst.Inst.{Inst}
 use Rattle.rv_inst.specs.declared.inst.Inst.TheVariants.{Call, CallInd}
-use Rattle.rv_emit.specs.InstParts.{stack_step_slots, return_notes, after_call, patch_notes, try_slots, call_slots, call_ind_slots}
-use Rattle.rv_emit.specs.Slots.{Slot, IsBlock, size_of, call_event}
+use Rattle.rv_emit.specs.declared.state.EmitVState.{EmitVState}
+use Rattle.rv_emit.specs.Emission.{PutsAlone, PutsParts, Emits}
+use Rattle.rv_emit.specs.Emitted.{Buffer, AppendsInst, Appends, AppendsBy, AppendsAround, AppendsWords}
+use Rattle.rv_emit.specs.InstParts.{stack_load_slots, stack_step_slots, return_notes, after_call, patch_notes, try_slots, call_slots, call_ind_slots, loading_parts, call_parts, parts_of}
+use Rattle.rv_emit.specs.Standing.{GapStandsIn, PartsIn, SlotsIn, SpansIn}
+use Rattle.rv_emit.specs.Slots.{Slot, Ask, Slots, IsBlock, AreBlocks, size_of, uses_of, records_of, names_of, call_event}
 use Rattle.rv_emit.proofs.MemorySlots.{AreTold, AreCounted, at_end, none, nothing, of_size, note_then, from_start}
-use Rattle.rv_emit.proofs.PlainSlots.{IsSummed}
+use Rattle.rv_emit.proofs.PlainSlots.{IsPlain, IsSummed, summed, appends_words, words_long}
+use Rattle.rv_emit.proofs.PutsLast.{puts_bytes}
 use Rattle.rv_emit.proofs.ShortOps.{jalr_sized, window_long}
-use Rattle.rv_emit.proofs.TailSlots.{step_then, step_most}
+use Rattle.rv_emit.proofs.TailSlots.{loads_then, step_then, loads_most, step_most}
 
 -- ---- pieces
 
@@ -43,8 +55,12 @@ try_use flags (Some t) end = use_at (end - jump_size flags) t.continuation (jump
 abbrev no_records : ℕ → List MachRecord
 no_records at = []
 
+-- slots that record nothing, and whose uses depend on their end alone
+abbrev AreLast : ℕ → (ℕ → List (Use LabelUse)) → List Slot → Type 0
+AreLast size rest last = AreTold size size (at_end rest) no_records None last
+
 -- the jump, where there is one
-jump_told : (flags : IsaFlags) (t : Option TryCallInfo) → AreTold (try_size flags t) (try_size flags t) (at_end (try_use flags t)) no_records None (try_slots flags t)
+jump_told : (flags : IsaFlags) (t : Option TryCallInfo) → AreLast (try_size flags t) (try_use flags t) (try_slots flags t)
 jump_told flags None = record { plain = tt; long = refl; within = lit≤ tt; uses = λ allocated start. refl; records = λ start. refl; names = λ named. refl; closed = λ here start. tt }
 jump_told flags (Some t) =
     let w = window_long flags in
@@ -59,88 +75,251 @@ jump_told flags (Some t) =
       closed = λ here start. (tt, tt);
     }
 
--- and the record of a call of so many bytes that may be patched before it
-patch_told : (flags : IsaFlags) (patchable : Bool) (n : ℕ) (t : Option TryCallInfo) → AreTold (try_size flags t) (try_size flags t) (at_end (try_use flags t)) (λ at. patch_records patchable at n) None (patch_notes patchable n ++ try_slots flags t)
-patch_told flags false n t = jump_told flags t
-patch_told flags true n t = note_then (event.PatchableCallSite n) (jump_told flags t)
+-- ---- what comes after the words of a call
+
+-- the record of a call of so many bytes that may be patched, before other slots
+patch_told : {size : ℕ} {rest : ℕ → List (Use LabelUse)} {last : List Slot} (patchable : Bool) (n : ℕ) → AreLast size rest last → AreTold size size (at_end rest) (λ at. patch_records patchable at n) None (patch_notes patchable n ++ last)
+patch_told false n c = c
+patch_told true n c = note_then (event.PatchableCallSite n) c
 
 -- and the step of the stack pointer before that
-fallen_told : (flags : IsaFlags) (popped : ℕ) (patchable : Bool) (n : ℕ) (t : Option TryCallInfo) → AreTold (stack_step_size flags (fall popped) + try_size flags t) (stack_step_size flags (fall popped) + try_size flags t) (at_end (try_use flags t)) (λ at. patch_records patchable (at + (stack_step_size flags (fall popped) + try_size flags t) - try_size flags t) n) None (after_call flags popped ++ (patch_notes patchable n ++ try_slots flags t))
-fallen_told flags popped patchable n t = from_start (step_then flags (fall popped) (patch_told flags patchable n t))
+fallen_told : {size : ℕ} {rest : ℕ → List (Use LabelUse)} {last : List Slot} (flags : IsaFlags) (popped : ℕ) (patchable : Bool) (n : ℕ) → AreLast size rest last → AreTold (stack_step_size flags (fall popped) + size) (stack_step_size flags (fall popped) + size) (at_end rest) (λ at. patch_records patchable (at + (stack_step_size flags (fall popped) + size) - size) n) None (after_call flags popped ++ (patch_notes patchable n ++ last))
+fallen_told flags popped patchable n c = from_start (step_then flags (fall popped) (patch_told patchable n c))
 
 -- and the records of the call's return before that
 returned_told : {size : ℕ} {rest : ℕ → List (Use LabelUse)} {told : ℕ → List MachRecord} {slots : List Slot} (frame : FrameLayout) (entries : Option UserStackMap) (t : Option TryCallInfo) → AreTold size size (at_end rest) told None slots → AreTold size size (at_end rest) (λ at. return_records frame at entries t ++ told at) None (return_notes frame entries t ++ slots)
 returned_told frame None t c = note_then (site_event frame t) c
 returned_told frame (Some entries) t c = note_then (event.StackMap (sp_to_fp_of frame) entries) (note_then (site_event frame t) c)
 
--- all that comes after the words of a call
-rest_told : (flags : IsaFlags) (frame : FrameLayout) (popped : ℕ) (patchable : Bool) (n : ℕ) (entries : Option UserStackMap) (t : Option TryCallInfo) → AreTold (stack_step_size flags (fall popped) + try_size flags t) (stack_step_size flags (fall popped) + try_size flags t) (at_end (try_use flags t)) (λ at. return_records frame at entries t ++ patch_records patchable (at + (stack_step_size flags (fall popped) + try_size flags t) - try_size flags t) n) None (return_notes frame entries t ++ (after_call flags popped ++ (patch_notes patchable n ++ try_slots flags t)))
-rest_told flags frame popped patchable n entries t = returned_told frame entries t (fallen_told flags popped patchable n t)
+-- all of it
+rest_told : {size : ℕ} {rest : ℕ → List (Use LabelUse)} {last : List Slot} (flags : IsaFlags) (frame : FrameLayout) (popped : ℕ) (patchable : Bool) (n : ℕ) (entries : Option UserStackMap) (t : Option TryCallInfo) → AreLast size rest last → AreTold (stack_step_size flags (fall popped) + size) (stack_step_size flags (fall popped) + size) (at_end rest) (λ at. return_records frame at entries t ++ patch_records patchable (at + (stack_step_size flags (fall popped) + size) - size) n) None (return_notes frame entries t ++ (after_call flags popped ++ (patch_notes patchable n ++ last)))
+rest_told flags frame popped patchable n entries t c = returned_told frame entries t (fallen_told flags popped patchable n c)
 
--- ---- the instructions
+-- ---- a call with what comes after it
+
+-- what the slots of a call add, with slots after it of so many bytes that record nothing
+pub record AreCall (context : Context) (inst : Inst) (before size : ℕ) (rest : ℕ → List (Use LabelUse)) (slots : List Slot) : Type 0 where
+  pub plain : IsPlain slots
+  pub long : before + size ≡ size_of slots
+  pub uses : (allocated start : ℕ) → uses_of allocated start slots ≡ rest (start + size_of slots)
+  pub records : (start end : ℕ) → records_of start slots ≡ inst_records context start end inst
+  pub names : (named : List VCodeConstant) → names_of slots named ≡ named
+  pub block : IsBlock slots
+
+pub call_told : {size : ℕ} {rest : ℕ → List (Use LabelUse)} {last : List Slot} (context : Context) (info : CallInfo ExternalName) → AreLast size rest last → AreCall context (Call info) (call_size context.flags 8 info.callee_pop_size) size rest (call_slots context.flags context.frame info last)
+call_told {size} {rest} {last} context info c =
+    let flags = context.flags in
+    let t = info.try_call_info in
+    let n = call_size flags 8 info.callee_pop_size in
+    let step = stack_step_size flags (fall info.callee_pop_size) in
+    let all = rest_told flags context.frame info.callee_pop_size info.patchable n info.stack_map t c in
+    let slots = call_slots flags context.frame info last in
+    let long : n + size ≡ size_of slots = (let e = all.long in omega arith) in
+    record {
+      plain = all.plain;
+      long = long;
+      uses = λ allocated start.
+          let e : start + 8 + (step + size) ≡ start + size_of slots = omega arith in
+          all.uses allocated (start + 8) ∙ ap rest e;
+      records = λ start end.
+          let whole = step + size in
+          let at : start + 8 + whole - whole ≡ start + 8 = omega arith in
+          let ends : start + 8 + whole - whole + whole - size ≡ start + n = omega arith in
+          ap (λ more. record { offset = start; event = call_event info.dest } ∷ more)
+          (all.records (start + 8) ∙ (λ i. return_records context.frame (at i) info.stack_map t ++ patch_records info.patchable (ends i) n));
+      names = all.names;
+      block = all.closed _ 8;
+    }
+
+pub call_ind_told : {size : ℕ} {rest : ℕ → List (Use LabelUse)} {last : List Slot} (context : Context) (info : CallInfo Reg) → AreLast size rest last → AreCall context (CallInd info) (call_size context.flags (short_jalr context.flags 1 (number_of info.dest) (pos 0)).len info.callee_pop_size) size rest (call_ind_slots context.flags context.frame info last)
+call_ind_told {size} {rest} {last} context info c =
+    let flags = context.flags in
+    let t = info.try_call_info in
+    let jump = short_jalr flags 1 (number_of info.dest) (pos 0) in
+    let step = stack_step_size flags (fall info.callee_pop_size) in
+    let all = rest_told flags context.frame info.callee_pop_size false 0 info.stack_map t c in
+    let slots = call_ind_slots flags context.frame info last in
+    let long : call_size flags jump.len info.callee_pop_size + size ≡ size_of slots = (let e = all.long in omega arith) in
+    record {
+      plain = all.plain;
+      long = long;
+      uses = λ allocated start.
+          let e : start + jump.len + (step + size) ≡ start + size_of slots = omega arith in
+          all.uses allocated (start + jump.len) ∙ ap rest e;
+      records = λ start end.
+          let whole = step + size in
+          let at : start + jump.len + whole - whole ≡ start + jump.len = omega arith in
+          all.records (start + jump.len) ∙ append-nil _ ∙ ap (λ n. return_records context.frame n info.stack_map t) at;
+      names = all.names;
+      block = ((jalr_sized flags 1 (number_of info.dest) (pos 0)).even, all.closed _ (0 + jump.len));
+    }
+
+-- ---- one that loads nothing
 
 -- a call goes to its continuation alone
 same_use : (flags : IsaFlags) (start end : ℕ) (t : Option TryCallInfo) → try_use flags t end ≡ uses_by flags start end t Nowhere
 same_use flags start end None = refl
 same_use flags start end (Some t) = refl
 
-pub call_summed : (context : Context) (info : CallInfo ExternalName) → IsSummed context (Call info) (call_slots context.flags context.frame info)
-call_summed context info =
+call_summed : (context : Context) (info : CallInfo ExternalName) → loads_unless info.patchable info.defs ≡ [] → IsSummed context (Call info) (call_slots context.flags context.frame info (try_slots context.flags info.try_call_info))
+call_summed context info none =
     let flags = context.flags in
     let t = info.try_call_info in
-    let n = call_size flags 8 info.callee_pop_size in
-    let step = stack_step_size flags (fall info.callee_pop_size) in
-    let rest = rest_told flags context.frame info.callee_pop_size info.patchable n info.stack_map t in
-    let slots = call_slots flags context.frame info in
-    let long : n + try_size flags t ≡ size_of slots = (let e = rest.long in omega arith) in
+    let c = call_told context info (jump_told flags t) in
     record {
-      plain = rest.plain;
-      long = ap Words long;
-      uses = λ allocated start.
-          let e : start + 8 + (step + try_size flags t) ≡ start + size_of slots = omega arith in
-          rest.uses allocated (start + 8) ∙ ap (try_use flags t) e ∙ same_use flags start (start + size_of slots) t;
-      records = λ start.
-          let size = step + try_size flags t in
-          let at : start + 8 + size - size ≡ start + 8 = omega arith in
-          let ends : start + 8 + size - size + size - try_size flags t ≡ start + n = omega arith in
-          ap (λ more. record { offset = start; event = call_event info.dest } ∷ more)
-          (rest.records (start + 8) ∙ (λ i. return_records context.frame (at i) info.stack_map t ++ patch_records info.patchable (ends i) n));
-      names = rest.names;
+      plain = c.plain;
+      long = ap (λ loads. call_extent flags 8 info.callee_pop_size loads t) none ∙ ap Words c.long;
+      uses = λ allocated start. c.uses allocated start ∙ same_use flags start (start + size_of (call_slots flags context.frame info (try_slots flags t))) t;
+      records = λ start. c.records start (start + size_of (call_slots flags context.frame info (try_slots flags t)));
+      names = c.names;
     }
 
-pub call_ind_summed : (context : Context) (info : CallInfo Reg) → IsSummed context (CallInd info) (call_ind_slots context.flags context.frame info)
-call_ind_summed context info =
+call_ind_summed : (context : Context) (info : CallInfo Reg) → result_loads info.defs ≡ [] → IsSummed context (CallInd info) (call_ind_slots context.flags context.frame info (try_slots context.flags info.try_call_info))
+call_ind_summed context info none =
     let flags = context.flags in
     let t = info.try_call_info in
-    let jump = short_jalr flags 1 (number_of info.dest) (pos 0) in
-    let step = stack_step_size flags (fall info.callee_pop_size) in
-    let rest = rest_told flags context.frame info.callee_pop_size false 0 info.stack_map t in
-    let slots = call_ind_slots flags context.frame info in
-    let long : call_size flags jump.len info.callee_pop_size + try_size flags t ≡ size_of slots = (let e = rest.long in omega arith) in
+    let c = call_ind_told context info (jump_told flags t) in
     record {
-      plain = rest.plain;
-      long = ap Words long;
-      uses = λ allocated start.
-          let e : start + jump.len + (step + try_size flags t) ≡ start + size_of slots = omega arith in
-          rest.uses allocated (start + jump.len) ∙ ap (try_use flags t) e ∙ same_use flags start (start + size_of slots) t;
-      records = λ start.
-          let size = step + try_size flags t in
-          let at : start + jump.len + size - size ≡ start + jump.len = omega arith in
-          rest.records (start + jump.len) ∙ append-nil _ ∙ ap (λ n. return_records context.frame n info.stack_map t) at;
-      names = rest.names;
+      plain = c.plain;
+      long = ap (λ loads. call_extent flags (short_jalr flags 1 (number_of info.dest) (pos 0)).len info.callee_pop_size loads t) none ∙ ap Words c.long;
+      uses = λ allocated start. c.uses allocated start ∙ same_use flags start (start + size_of (call_ind_slots flags context.frame info (try_slots flags t))) t;
+      records = λ start. c.records start (start + size_of (call_ind_slots flags context.frame info (try_slots flags t)));
+      names = c.names;
     }
 
-pub call_block : (flags : IsaFlags) (frame : FrameLayout) (info : CallInfo ExternalName) → IsBlock (call_slots flags frame info)
-call_block flags frame info = (rest_told flags frame info.callee_pop_size info.patchable (call_size flags 8 info.callee_pop_size) info.stack_map info.try_call_info).closed _ 8
+-- ---- loads of results
 
-pub call_ind_block : (flags : IsaFlags) (frame : FrameLayout) (info : CallInfo Reg) → IsBlock (call_ind_slots flags frame info)
-call_ind_block flags frame info =
-    let jump = jalr_sized flags 1 (number_of info.dest) (pos 0) in
-    (jump.even, (rest_told flags frame info.callee_pop_size false 0 info.stack_map info.try_call_info).closed _ (0 + (short_jalr flags 1 (number_of info.dest) (pos 0)).len))
+loads_told : (flags : IsaFlags) (loads : List StackLoad) (t : Option TryCallInfo) → AreTold (stack_loads_size flags loads + try_size flags t) (try_size flags t) (at_end (try_use flags t)) no_records None (stack_load_slots flags loads ++ try_slots flags t)
+loads_told flags loads t = loads_then flags loads (jump_told flags t)
+
+-- ---- what is added
+
+-- so many words were put, an island where one is needed, and loads and a jump
+around : {before : ℕ} (context : Context) (inst : Inst) (call : List Slot → List Slot) (loads : List StackLoad) (t : Option TryCallInfo) (old new : Buffer) → AreCall context inst before 0 (λ end. []) (call []) → ((start end : ℕ) → uses_in context start end inst ≡ uses_by context.flags start end t Nowhere) → PutsParts context.flags (Slots (call []) ∷ Ask (results_space loads) ∷ Slots (stack_load_slots context.flags loads ++ try_slots context.flags t) ∷ []) old new → AppendsAround context inst before (results_space loads) (stack_loads_size context.flags loads + try_size context.flags t) old new
+around {before} context inst call loads t old new c uses (mid, first, (last, made, room, second)) =
+    let flags = context.flags in
+    let slots = stack_load_slots flags loads ++ try_slots flags t in
+    let l = loads_told flags loads t in
+    let size = stack_loads_size flags loads + try_size flags t in
+    let long : size_of (call []) ≡ before = (let e = c.long in omega arith) in
+    let w = appends_words flags slots size (try_use flags t (length (bytes_of last) + size)) [] last new l.plain (sym l.long) (l.uses (allocated_of last) (length (bytes_of last))) (l.records (length (bytes_of last))) l.names second in
+    let ends : length (bytes_of last) + size ≡ length (bytes_of new) = sym (words_long size _ [] last new w) in
+    record {
+      mid = mid;
+      last = last;
+      made = made;
+      first = appends_words flags (call []) before [] (inst_records context (length (bytes_of old)) (length (bytes_of new)) inst) old mid c.plain long (c.uses (allocated_of old) (length (bytes_of old))) (c.records (length (bytes_of old)) (length (bytes_of new))) c.names (mid, first, refl);
+      room = room;
+      second = subst (λ own. AppendsWords size own [] last new) (ap (try_use flags t) ends ∙ same_use flags (length (bytes_of old)) (length (bytes_of new)) t ∙ sym (uses (length (bytes_of old)) (length (bytes_of new)))) w;
+    }
+
+-- by what it loads
+pub call_appends : (context : Context) (info : CallInfo ExternalName) (old new : Buffer) → PutsParts context.flags (call_parts context.flags (call_slots context.flags context.frame info) (loads_unless info.patchable info.defs) info.try_call_info) old new → Appends context (Call info) old new
+call_appends context info old new = by (loads_unless info.patchable info.defs) refl
+  where
+    t : Option TryCallInfo
+    t = info.try_call_info
+
+    by : (loads : List StackLoad) → loads_unless info.patchable info.defs ≡ loads → PutsParts context.flags (call_parts context.flags (call_slots context.flags context.frame info) loads t) old new → AppendsBy context (call_extent context.flags 8 info.callee_pop_size loads t) (Call info) old new
+    by [] none p = summed context (Call info) _ old new (call_summed context info none) context.flags p
+    by (l ∷ loads) some p = around context (Call info) (call_slots context.flags context.frame info) (l ∷ loads) t old new (call_told context info nothing) (λ start end. refl) p
+
+pub call_ind_appends : (context : Context) (info : CallInfo Reg) (old new : Buffer) → PutsParts context.flags (call_parts context.flags (call_ind_slots context.flags context.frame info) (result_loads info.defs) info.try_call_info) old new → Appends context (CallInd info) old new
+call_ind_appends context info old new = by (result_loads info.defs) refl
+  where
+    t : Option TryCallInfo
+    t = info.try_call_info
+
+    by : (loads : List StackLoad) → result_loads info.defs ≡ loads → PutsParts context.flags (call_parts context.flags (call_ind_slots context.flags context.frame info) loads t) old new → AppendsBy context (call_extent context.flags (short_jalr context.flags 1 (number_of info.dest) (pos 0)).len info.callee_pop_size loads t) (CallInd info) old new
+    by [] none p = summed context (CallInd info) _ old new (call_ind_summed context info none) context.flags p
+    by (l ∷ loads) some p = around context (CallInd info) (call_ind_slots context.flags context.frame info) (l ∷ loads) t old new (call_ind_told context info nothing) (λ start end. refl) p
+
+-- what an instruction that asks for no island adds
+pub words_alone : (context : Context) (extent : Extent) (inst : Inst) (old new : Buffer) → space_in extent ≡ None → AppendsBy context extent inst old new → AppendsInst context inst old new
+words_alone context (Words size) inst old new asks a = a
+words_alone context (Island space) inst old new asks a = absurd (cc)
+words_alone context (After space size more) inst old new asks a = absurd (cc)
+words_alone context (Around before space after) inst old new asks a = absurd (cc)
+
+-- a call that asks for no island loads nothing
+no_loads : (flags : IsaFlags) (jump popped : ℕ) (loads : List StackLoad) (t : Option TryCallInfo) → space_in (call_extent flags jump popped loads t) ≡ None → loads ≡ []
+no_loads flags jump popped [] t asks = refl
+no_loads flags jump popped (l ∷ loads) t asks = absurd (cc)
+
+pub call_emits : (context : Context) (inst : Inst) (info : CallInfo ExternalName) (old new : Buffer) → inst ≡ Call info → island_space context inst ≡ None → PutsAlone context.flags (call_slots context.flags context.frame info (try_slots context.flags info.try_call_info)) old new → Emits context inst old new
+call_emits context inst info old new is asks p =
+    let none = no_loads context.flags 8 info.callee_pop_size (loads_unless info.patchable info.defs) info.try_call_info (ap (island_space context) (sym is) ∙ asks) in
+    subst (λ i. Emits context i old new) (sym is) (λ setting. subst (λ loads. PutsParts context.flags (call_parts context.flags (call_slots context.flags context.frame info) loads info.try_call_info) old new) (sym none) p)
+
+pub call_ind_emits : (context : Context) (inst : Inst) (info : CallInfo Reg) (old new : Buffer) → inst ≡ CallInd info → island_space context inst ≡ None → PutsAlone context.flags (call_ind_slots context.flags context.frame info (try_slots context.flags info.try_call_info)) old new → Emits context inst old new
+call_ind_emits context inst info old new is asks p =
+    let none = no_loads context.flags (short_jalr context.flags 1 (number_of info.dest) (pos 0)).len info.callee_pop_size (result_loads info.defs) info.try_call_info (ap (island_space context) (sym is) ∙ asks) in
+    subst (λ i. Emits context i old new) (sym is) (λ setting. subst (λ loads. PutsParts context.flags (call_parts context.flags (call_ind_slots context.flags context.frame info) loads info.try_call_info) old new) (sym none) p)
+
+-- and one that asks for one loads results
+some_parts : (flags : IsaFlags) (jump popped : ℕ) (call : List Slot → List Slot) (loads : List StackLoad) (t : Option TryCallInfo) (old new : Buffer) → is_some (space_in (call_extent flags jump popped loads t)) ≡ true → PutsParts flags (loading_parts flags call loads t) old new → PutsParts flags (call_parts flags call loads t) old new
+some_parts flags jump popped call [] t old new asks p = absurd (cc)
+some_parts flags jump popped call (l ∷ loads) t old new asks p = p
+
+pub loading_emits : (context : Context) (inst : Inst) (info : CallInfo ExternalName) (old new : Buffer) → inst ≡ Call info → is_some (island_space context inst) ≡ true → PutsParts context.flags (loading_parts context.flags (call_slots context.flags context.frame info) (result_loads info.defs) info.try_call_info) old new → Emits context inst old new
+loading_emits context inst info old new is asks p = subst (λ i. Emits context i old new) (sym is) (λ setting. by info.patchable (ap (λ i. is_some (island_space context i)) (sym is) ∙ asks))
+  where
+    call : List Slot → List Slot
+    call = call_slots context.flags context.frame info
+
+    by : (patchable : Bool) → is_some (space_in (call_extent context.flags 8 info.callee_pop_size (loads_unless patchable info.defs) info.try_call_info)) ≡ true → PutsParts context.flags (call_parts context.flags call (loads_unless patchable info.defs) info.try_call_info) old new
+    by true some = absurd (cc)
+    by false some = some_parts context.flags 8 info.callee_pop_size call (result_loads info.defs) info.try_call_info old new some p
+
+pub loading_ind_emits : (context : Context) (inst : Inst) (info : CallInfo Reg) (old new : Buffer) → inst ≡ CallInd info → is_some (island_space context inst) ≡ true → PutsParts context.flags (loading_parts context.flags (call_ind_slots context.flags context.frame info) (result_loads info.defs) info.try_call_info) old new → Emits context inst old new
+loading_ind_emits context inst info old new is asks p =
+    subst (λ i. Emits context i old new) (sym is) (λ setting. some_parts context.flags (short_jalr context.flags 1 (number_of info.dest) (pos 0)).len info.callee_pop_size (call_ind_slots context.flags context.frame info) (result_loads info.defs) info.try_call_info old new (ap (λ i. is_some (island_space context i)) (sym is) ∙ asks) p)
+
+-- how many bytes they count for
+pub call_sum : (context : Context) (inst : Inst) (info : CallInfo ExternalName) → inst ≡ Call info → inst_sum context inst ≡ 128 + 32 * count_by is_stacked info.defs
+call_sum context inst info is = ap (inst_sum context) is ∙ ap (λ n. 128 + n + 32 * count_by is_stacked info.defs) (no_extra context.flags 8 info.callee_pop_size (loads_unless info.patchable info.defs) info.try_call_info)
+
+pub call_ind_sum : (context : Context) (inst : Inst) (info : CallInfo Reg) → inst ≡ CallInd info → inst_sum context inst ≡ 128 + 32 * count_by is_stacked info.defs
+call_ind_sum context inst info is = ap (inst_sum context) is ∙ ap (λ n. 128 + n + 32 * count_by is_stacked info.defs) (no_extra context.flags (short_jalr context.flags 1 (number_of info.dest) (pos 0)).len info.callee_pop_size (result_loads info.defs) info.try_call_info)
+
+-- ---- blocks
+
+parts_blocks : (flags : IsaFlags) (call : List Slot → List Slot) (loads : List StackLoad) (t : Option TryCallInfo) → IsBlock (call (try_slots flags t)) → IsBlock (call []) → AreBlocks (call_parts flags call loads t)
+parts_blocks flags call [] t whole first = (whole, tt)
+parts_blocks flags call (l ∷ loads) t whole first = (first, ((loads_told flags (l ∷ loads) t).closed _ 0, tt))
+
+pub call_blocks : (context : Context) (info : CallInfo ExternalName) → AreBlocks (call_parts context.flags (call_slots context.flags context.frame info) (loads_unless info.patchable info.defs) info.try_call_info)
+call_blocks context info = parts_blocks context.flags (call_slots context.flags context.frame info) (loads_unless info.patchable info.defs) info.try_call_info (call_told context info (jump_told context.flags info.try_call_info)).block (call_told context info nothing).block
+
+pub call_ind_blocks : (context : Context) (info : CallInfo Reg) → AreBlocks (call_parts context.flags (call_ind_slots context.flags context.frame info) (result_loads info.defs) info.try_call_info)
+call_ind_blocks context info = parts_blocks context.flags (call_ind_slots context.flags context.frame info) (result_loads info.defs) info.try_call_info (call_ind_told context info (jump_told context.flags info.try_call_info)).block (call_ind_told context info nothing).block
+
+-- ---- where the words stand
+
+slots_size : (flags : IsaFlags) (slots : List Slot) (f : Shape LabelUse) (start end : ℕ) → SlotsIn flags slots f start end → end ≡ start + size_of slots
+slots_size flags slots f start end s = let long = puts_bytes flags s.old.allocated slots s.old s.new s.puts in let starts = s.starts in let ends = s.ends in omega arith
+
+parts_span : (flags : IsaFlags) (jump popped : ℕ) (call : List Slot → List Slot) (loads : List StackLoad) (t : Option TryCallInfo) (f : Shape LabelUse) (start end : ℕ) → call_size flags jump popped + try_size flags t ≡ size_of (call (try_slots flags t)) → call_size flags jump popped + 0 ≡ size_of (call []) → PartsIn flags (call_parts flags call loads t) f start end → SpansIn flags f (call_extent flags jump popped loads t) start end
+parts_span flags jump popped call [] t f start end whole first (last, s, same) = let size = slots_size flags (call (try_slots flags t)) f start last s in omega arith
+parts_span flags jump popped call (l ∷ loads) t f start end whole first (from, s, (mid, gap, (last, u, same))) =
+    let size = slots_size flags (call []) f start from s in
+    let more = slots_size flags (stack_load_slots flags (l ∷ loads) ++ try_slots flags t) f mid last u in
+    let long = (loads_told flags (l ∷ loads) t).long in
+    let here : from ≡ start + call_size flags jump popped = omega arith in
+    (mid, subst (λ n. GapStandsIn flags f n mid) here gap, omega arith)
+
+-- the words of a call stand where its parts do
+pub call_stands : (context : Context) (setting : EmitVState) (info : CallInfo ExternalName) (f : Shape LabelUse) (start end : ℕ) → PartsIn context.flags (parts_of context setting (Call info)) f start end → SpansIn context.flags f (extent_of context (Call info)) start end
+call_stands context setting info f start end p =
+    parts_span context.flags 8 info.callee_pop_size (call_slots context.flags context.frame info) (loads_unless info.patchable info.defs) info.try_call_info f start end (call_told context info (jump_told context.flags info.try_call_info)).long (call_told context info nothing).long p
+
+pub call_ind_stands : (context : Context) (setting : EmitVState) (info : CallInfo Reg) (f : Shape LabelUse) (start end : ℕ) → PartsIn context.flags (parts_of context setting (CallInd info)) f start end → SpansIn context.flags f (extent_of context (CallInd info)) start end
+call_ind_stands context setting info f start end p =
+    parts_span context.flags (short_jalr context.flags 1 (number_of info.dest) (pos 0)).len info.callee_pop_size (call_ind_slots context.flags context.frame info) (result_loads info.defs) info.try_call_info f start end (call_ind_told context info (jump_told context.flags info.try_call_info)).long (call_ind_told context info nothing).long p
 
 -- ---- how many bytes at most
 
-try_few : (flags : IsaFlags) (t : Option TryCallInfo) → try_size flags t ≤ 4
+pub try_few : (flags : IsaFlags) (t : Option TryCallInfo) → try_size flags t ≤ 4
 try_few flags None = lit≤ tt
 try_few flags (Some t) = by flags.has_zca
   where
@@ -148,8 +327,10 @@ try_few flags (Some t) = by flags.has_zca
     by true = lit≤ tt
     by false = lit≤ tt
 
-pub call_short : (flags : IsaFlags) (popped : ℕ) (t : Option TryCallInfo) → call_size flags 8 popped + try_size flags t ≤ 36
-call_short flags popped t = let most = step_most flags (fall popped) in let few = try_few flags t in omega arith
+-- before its loads a call has at most 32
+pub call_few : (flags : IsaFlags) (jump popped : ℕ) → jump ≤ 8 → call_size flags jump popped ≤ 32
+call_few flags jump popped few = let most = step_most flags (fall popped) in omega arith
 
-pub call_ind_short : (flags : IsaFlags) (dest popped : ℕ) (t : Option TryCallInfo) → call_size flags (short_jalr flags 1 dest (pos 0)).len popped + try_size flags t ≤ 32
-call_ind_short flags dest popped t = let most = step_most flags (fall popped) in let few = (jalr_sized flags 1 dest (pos 0)).few in let jump = try_few flags t in omega arith
+-- and from there on it has no more than are asked for
+pub results_few : (flags : IsaFlags) (l : StackLoad) (loads : List StackLoad) (t : Option TryCallInfo) → stack_loads_size flags (l ∷ loads) + try_size flags t ≤ results_space (l ∷ loads)
+results_few flags l loads t = let most = loads_most flags (l ∷ loads) in let few = try_few flags t in omega arith

@@ -9,6 +9,7 @@ use Rattle.rv_inst.specs.declared.inst.Inst.TheVariants.{Nop0, Nop4, EBreak, Seq
 use Rattle.rv_emit.specs.Usable.{IsFine}
 use Rattle.rv_emit.proofs.Operands.{Keeps, keeps, are_usable, data_kept, constant_kept, move_usable, preg_usable, trap_if_usable, call_usable, not_false, listed, listed_targets, listed_try}
 use Rattle.rv_emit.proofs.AddressOperands.{load_fine, store_fine, load_addr_fine, label_address_fine}
+use Rattle.rv_emit.proofs.CallRules.{call_kept, call_ind_kept}
 use Rattle.rv_emit.proofs.ChoiceRules.{extend_fine, select_fine}
 use Rattle.rv_emit.proofs.ZerosRules.{zeros_fine}
 use Rattle.rv_emit.proofs.ReverseRules.{reverse_fine}
@@ -58,8 +59,8 @@ fine context inst e = kept inst (keeps context inst e) (breaks_none context inst
     kept (LoadExtNameGot rd name) k there = (are_usable (rd.reg ∷ []) k.real k.placed k.free).0.0
     kept (LoadExtNameNear rd name offset) k there = (are_usable (rd.reg ∷ []) k.real k.placed k.free).0.0
     kept (LoadExtNameFar rd name offset) k there = (are_usable (rd.reg ∷ []) k.real k.placed k.free).0.0
-    kept (Call info) k there = listed_try info.try_call_info k.listed_try
-    kept (CallInd info) k there = ((call_usable info k).0, listed_try info.try_call_info k.listed_try)
+    kept (Call info) k there = (listed_try info.try_call_info k.listed_try, (call_kept info k).results)
+    kept (CallInd info) k there = ((call_usable info k).0, listed_try info.try_call_info k.listed_try, (call_ind_kept info k).results)
     kept (ReturnCall info) k there = tt
     kept (ReturnCallInd info) k there = target_fine info k
     kept (Unwind inst) k there = tt

@@ -52,7 +52,7 @@ use Rattle.rv_emit.proofs.ProbeSlots.{probe_summed, probe_block}
 use Rattle.rv_emit.proofs.SymbolSlots.{got_summed, near_summed, far_summed, unwind_summed, far_block}
 use Rattle.rv_emit.proofs.TableSlots.{table_block}
 use Rattle.rv_emit.proofs.TailSlots.{tail_block, t0_block}
-use Rattle.rv_emit.proofs.CallSlots.{call_summed, call_ind_summed, call_block, call_ind_block}
+use Rattle.rv_emit.proofs.CallSlots.{words_alone, call_appends, call_ind_appends, call_blocks, call_ind_blocks}
 
 one : (context : Context) (inst : Inst) (d : Decoded) → extent_of context inst ≡ Words d.len → ((start end : ℕ) → [] ≡ uses_in context start end inst) → ((start end : ℕ) → [] ≡ inst_records context start end inst) → ((named : List VCodeConstant) → named ≡ named_by (inst_constant inst) named) → IsSummed context inst (Op d ∷ [])
 one context inst d long uses records names = record { plain = tt; long = long ∙ (let e : d.len ≡ d.len + 0 = omega arith in ap Words e); uses = λ allocated start. uses start (start + (d.len + 0)); records = λ start. records start (start + (d.len + 0)); names = names }
@@ -152,8 +152,8 @@ appends_inst context setting (StackProbeLoop guard_size probe_count tmp) old new
 appends_inst context setting (LoadExtNameGot rd name) old new rule s asks p = summed context (LoadExtNameGot rd name) _ old new (got_summed context rd name) context.flags p
 appends_inst context setting (LoadExtNameNear rd name offset) old new rule s asks p = summed context (LoadExtNameNear rd name offset) _ old new (near_summed context rd name offset) context.flags p
 appends_inst context setting (LoadExtNameFar rd name offset) old new rule s asks p = summed context (LoadExtNameFar rd name offset) _ old new (far_summed context rd name offset) context.flags p
-appends_inst context setting (Call info) old new rule s asks p = summed context (Call info) _ old new (call_summed context info) context.flags p
-appends_inst context setting (CallInd info) old new rule s asks p = summed context (CallInd info) _ old new (call_ind_summed context info) context.flags p
+appends_inst context setting (Call info) old new rule s asks p = words_alone context (extent_of context (Call info)) (Call info) old new asks (call_appends context info old new p)
+appends_inst context setting (CallInd info) old new rule s asks p = words_alone context (extent_of context (CallInd info)) (CallInd info) old new asks (call_ind_appends context info old new p)
 appends_inst context setting (ReturnCall info) old new rule s asks p = absurd (cc)
 appends_inst context setting (ReturnCallInd info) old new rule s asks p = absurd (cc)
 appends_inst context setting (Unwind inst) old new rule s asks p = summed context (Unwind inst) _ old new (unwind_summed context inst) context.flags p
@@ -243,8 +243,8 @@ are_blocks context setting (StackProbeLoop guard_size probe_count tmp) rule = (p
 are_blocks context setting (LoadExtNameGot rd name) rule = (tt, tt)
 are_blocks context setting (LoadExtNameNear rd name offset) rule = (tt, tt)
 are_blocks context setting (LoadExtNameFar rd name offset) rule = (far_block context.flags (number_of rd.reg) name offset, tt)
-are_blocks context setting (Call info) rule = (call_block context.flags context.frame info, tt)
-are_blocks context setting (CallInd info) rule = (call_ind_block context.flags context.frame info, tt)
+are_blocks context setting (Call info) rule = call_blocks context info
+are_blocks context setting (CallInd info) rule = call_ind_blocks context info
 are_blocks context setting (ReturnCall info) rule = (tail_block context.flags context.frame info.new_stack_arg_size info.dest, tt)
 are_blocks context setting (ReturnCallInd info) rule = (t0_block context.flags context.frame info.new_stack_arg_size, tt)
 are_blocks context setting (Unwind inst) rule = (tt, tt)

@@ -21,7 +21,11 @@ pub use Rattle.rv_emit.proofs.InstSlots.{are_blocks, appends_inst}
 pub use Rattle.rv_emit.proofs.TableSlots.{table_most}
 pub use Rattle.rv_emit.proofs.TableAppends.{AppendsAfter, appends_table, table_parts_long, table_some, table_stands}
 pub use Rattle.rv_emit.proofs.TailSlots.{return_most}
-pub use Rattle.rv_emit.proofs.TailAppends.{appends_tail, appends_t0, tail_parts_long, t0_parts_long}
+pub use Rattle.rv_emit.proofs.TailAppends.{appends, appends_tail, appends_t0, tail_parts_long, t0_parts_long}
+-- a call: where its words stand, and how many they are at most
+pub use Rattle.rv_emit.proofs.CallSlots.{call_stands, call_ind_stands, call_few, results_few, call_sum, call_ind_sum}
+pub use Rattle.rv_emit.proofs.CallAppends.{words_pending}
+pub use Rattle.rv_emit.proofs.PlainSlots.{words_long}
 -- what was put into a buffer, in the finished code
 pub use Rattle.rv_emit.proofs.Standing.{place_within, slots_stand, gap_stands, parts_stand}
 pub use Rattle.rv_emit.proofs.IslandsStand.{island_is, gap_is}
@@ -32,7 +36,7 @@ pub use Rattle.rv_emit.proofs.ReachKept.{Each, waits, each_none, each_more, uses
 -- how far the uses of an instruction reach, and how many are pending
 pub use Rattle.rv_emit.proofs.Bounds.{HasJump, has_jump, uses_least, few_ways, ways_more, none_more, ways_few, alone_longer, alone_pending}
 -- how many bytes an instruction has at most
-pub use Rattle.rv_emit.proofs.MostBytes.{words_within, most_in_sequence}
+pub use Rattle.rv_emit.proofs.MostBytes.{words_within, most_in_sequence, most_counts}
 pub use Rattle.rv_emit.proofs.Islands.{deadlines_as}
 pub use Rattle.rv_emit.proofs.NumberRuns.{bits_back}
 pub use Rattle.rv_emit.proofs.Fields.{ends_later}

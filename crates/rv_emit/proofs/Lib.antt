@@ -96,3 +96,7 @@ mod TailSlots
 mod TailsPut
 mod CallSlots
 mod NumberTests
+mod CallAppends
+mod CallRules
+mod CallsPut
+mod ResultsPut

@@ -1,6 +1,19 @@
 -- An instruction that breaks no rule has at most as many bytes as its kind may.
-use Rattle.std.proofs.Common.{◌≡◌, ◌⊎◌, inl, inr, ℕ, ◌+◌, ◌-◌, ◌*◌, ◌/◌, ◌<◌, ◌≤◌, Bool, true, false, List, length, None, arith}
-use Rattle.std.specs.Prelude.{nat_eq, ℤ, pos, negsuc, if◌then◌else◌}
+use Rattle.std.proofs.Common.{◌≡◌, ◌⊎◌, inl, inr, ℕ, ◌+◌, ◌-◌, ◌*◌, ◌/◌, ◌<◌, ◌≤◌, Bool, true, false, List, [], ◌∷◌, ◌++◌, length, Option, Some, None, refl, subst, arith, lit≤}
+use Rattle.std.specs.Prelude.{nat_eq, ℤ, pos, negsuc, ◌-ℤ◌, cond, count_by, if◌then◌else◌}
+use Rattle.std.proofs.lemmas.List.{length-append}
+use Rattle.std.proofs.lemmas.List.Recursion.{is_count_by}
+use Rattle.rv_base.specs.Frame.{sp_to_fp_of}
+use Rattle.rv_base.specs.declared.amode.AMode.{AMode}
+use Rattle.rv_base.specs.declared.amode.AMode.TheVariants.{RegOffset, SPOffset, FPOffset, SlotOffset, IncomingArg, Const, Label as LabelAt}
+use Rattle.rv_base.specs.declared.call.CallRetPair.{CallRetPair}
+use Rattle.rv_base.specs.declared.call.RetLocation.{RetLocation}
+use Rattle.rv_base.specs.declared.call.RetLocation.TheVariants.{Reg as InReg, Stack as OnStack}
+use Rattle.rv_base.specs.declared.call.TryCallInfo.{TryCallInfo}
+use Rattle.rv_base.specs.declared.regs.Reg.{Reg}
+use Rattle.rv_ops.specs.Memory.{load_of}
+use Rattle.rv_inst.specs.Operands.{ways_of, ways_by, inst_ways, address_targets}
+use Rattle.rv_inst.specs.declared.targets.Targets.TheVariants.{Nowhere, Branches}
 use Rattle.rv_base.specs.declared.flags.IsaFlags.{IsaFlags}
 use Rattle.rv_base.specs.declared.frame.FrameLayout.{FrameLayout}
 use Rattle.rv_base.specs.declared.ir_type.IrType.{IrType}
@@ -17,15 +30,15 @@ use Rattle.rv_ops.specs.declared.memory.StoreOP.{StoreOP}
 use Rattle.rv_inst.specs.Addresses.{Location, Based, AtLabel, AtConstant, location_of, is_near, inline_size, far_address_size, address_size, load_size_at, store_size_at}
 use Rattle.rv_inst.specs.Context.{Context}
 use Rattle.rv_inst.specs.Forms.{jump_size, short_rrr, short_rri, short_lui, short_jalr, short_ebreak, short_load, short_store}
-use Rattle.rv_inst.specs.MostBytes.{most_bytes, return_limit, sequence_limit}
-use Rattle.rv_inst.specs.Returns.{restores, frame_above}
-use Rattle.rv_inst.specs.Rules.{is_word_type, inst_rule}
-use Rattle.rv_inst.specs.Sizes.{words_in, extent_of, island_space, inst_sum, move_size, branch_size, count_size, trap_size, return_size}
+use Rattle.rv_inst.specs.MostBytes.{most_bytes, return_limit, call_limit, sequence_limit}
+use Rattle.rv_inst.specs.Returns.{StackLoad, saves_from, setup_loads, restores, frame_above, typed_loads, location_loads, result_loads, loads_unless}
+use Rattle.rv_inst.specs.Rules.{is_word_type, is_on_stack, is_stacked, inst_rule}
+use Rattle.rv_inst.specs.Sizes.{space_in, extra_in, words_in, extent_of, island_space, inst_sum, move_size, branch_size, count_size, trap_size, return_size, fall, call_extent}
 use Rattle.rv_inst.specs.declared.inst.CondBrTarget.{CondBrTarget}
 use Rattle.rv_inst.specs.declared.inst.CondBrTarget.TheVariants.{Label, Fallthrough}
 use Rattle.rv_inst.specs.declared.inst.Inst.{Inst}
 use Rattle.rv_inst.specs.declared.inst.Inst.TheVariants.{Nop0, Nop4, EBreak, SequencePoint, Args, Rets, DummyUse, EmitIsland, RawData, Lui, Auipc, LoadInlineConst, AluRRR, AluRRImm12, Mov, MovFromPReg, Extend, Select, Load, Store, LoadAddr, LabelAddress, Ret, TrapIf, Jal, CondBr, BrTable, Udf, Jalr, Popcnt, Cltz, Brev8, StackProbeLoop, LoadExtNameGot, LoadExtNameNear, LoadExtNameFar, Call, CallInd, ReturnCall, ReturnCallInd, Unwind}
-use Rattle.rv_emit.proofs.CallSlots.{call_short, call_ind_short}
+use Rattle.rv_emit.proofs.CallSlots.{try_few}
 use Rattle.rv_emit.proofs.ChoiceSlots.{extend_short, select_short}
 use Rattle.rv_emit.proofs.FineOperands.{fine}
 use Rattle.rv_emit.proofs.OffsetSizes.{far_short}
@@ -34,7 +47,7 @@ use Rattle.rv_emit.proofs.ProbeSlots.{probe_short}
 use Rattle.rv_emit.proofs.ReverseSlots.{reverse_short}
 use Rattle.rv_emit.proofs.ShortOps.{HasSize, rrr_sized, rri_sized, lui_sized, jalr_sized, ebreak_sized, load_sized, store_sized, least_few}
 use Rattle.rv_emit.proofs.TableSlots.{table_short}
-use Rattle.rv_emit.proofs.TailSlots.{loads_most, step_most}
+use Rattle.rv_emit.proofs.TailSlots.{loads_most, step_most, saves_long, setup_few}
 use Rattle.rv_emit.proofs.ZerosSlots.{zeros_short}
 
 -- ---- pieces
@@ -99,6 +112,79 @@ count_short flags sum tmp step rs bits =
 return_short : (flags : IsaFlags) (frame : FrameLayout) (arguments : ℕ) → return_size flags frame arguments ≤ return_limit frame
 return_short flags frame arguments = let a = loads_most flags (restores frame) in let b = step_most flags (pos (frame_above frame arguments)) in omega arith
 
+call_words : (flags : IsaFlags) (own jump popped : ℕ) (loads : List StackLoad) (t : Option TryCallInfo) → jump ≤ own → words_in (call_extent flags jump popped loads t) ≤ call_limit own loads
+call_words flags own jump popped [] t le = let step = step_most flags (fall popped) in let few = try_few flags t in omega (arith, le, step, few)
+call_words flags own jump popped (l ∷ loads) t le =
+    let step = step_most flags (fall popped) in
+    let most = loads_most flags (l ∷ loads) in
+    let few = try_few flags t in
+    omega (arith, le, step, most, few)
+
+call_extra : (flags : IsaFlags) (jump popped : ℕ) (loads : List StackLoad) (t : Option TryCallInfo) → extra_in (call_extent flags jump popped loads t) ≡ 0
+call_extra flags jump popped [] t = refl
+call_extra flags jump popped (l ∷ loads) t = refl
+
+-- one that asks for no island loads nothing
+call_alone : (flags : IsaFlags) (own jump popped : ℕ) (loads : List StackLoad) (t : Option TryCallInfo) → own ≤ 8 → space_in (call_extent flags jump popped loads t) ≡ None → call_limit own loads ≤ sequence_limit
+call_alone flags own jump popped [] t few asks = omega (arith, few)
+call_alone flags own jump popped (l ∷ loads) t few asks = absurd (cc)
+
+-- no more is loaded than counts for the call
+type_counts : (register offset : ℕ) (op : Option LoadOP) → length (typed_loads register offset op) ≤ 1
+type_counts register offset None = lit≤ tt
+type_counts register offset (Some op) = lit≤ tt
+
+-- how many results are on the stack, one after the other
+abbrev stacked_count : List CallRetPair → ℕ
+stacked_count [] = 0
+stacked_count (d ∷ defs) = cond (is_on_stack d.location) (1 + stacked_count defs) (stacked_count defs)
+
+loads_few : (defs : List CallRetPair) → length (result_loads defs) ≤ stacked_count defs
+loads_few [] = lit≤ tt
+loads_few (d ∷ defs) = by d.vreg.reg d.location (loads_few defs)
+  where
+    by : (r : Reg) (location : RetLocation) → length (result_loads defs) ≤ stacked_count defs → length (location_loads r location ++ result_loads defs) ≤ cond (is_on_stack location) (1 + stacked_count defs) (stacked_count defs)
+    by r (InReg s) rest = rest
+    by r (OnStack offset type) rest =
+        let both = length-append (location_loads r (OnStack offset type)) (result_loads defs) in
+        let one = type_counts (number_of r) offset (load_of type) in
+        omega (arith, both, one, rest)
+
+loads_counted : (defs : List CallRetPair) → length (result_loads defs) ≤ count_by is_stacked defs
+loads_counted defs = subst (λ n. length (result_loads defs) ≤ n) (is_count_by stacked_count is_stacked refl (λ d more. refl) defs) (loads_few defs)
+
+unless_counted : (patchable : Bool) (defs : List CallRetPair) → length (loads_unless patchable defs) ≤ count_by is_stacked defs
+unless_counted true defs = omega arith
+unless_counted false defs = loads_counted defs
+
+-- how many labels some kinds go to, and how many registers a frame restores
+try_ways : (t : Option TryCallInfo) → length (ways_by t Nowhere) ≤ 1
+try_ways None = lit≤ tt
+try_ways (Some t) = lit≤ tt
+
+branch_ways : (t f : CondBrTarget) → length (ways_of (Branches t f)) ≤ 2
+branch_ways Fallthrough Fallthrough = lit≤ tt
+branch_ways Fallthrough (Label f) = lit≤ tt
+branch_ways (Label t) Fallthrough = lit≤ tt
+branch_ways (Label t) (Label f) = lit≤ tt
+
+address_ways : (at : AMode) → length (ways_of (address_targets at)) ≡ 0
+address_ways (RegOffset r o) = refl
+address_ways (SPOffset o) = refl
+address_ways (FPOffset o) = refl
+address_ways (SlotOffset o) = refl
+address_ways (IncomingArg o) = refl
+address_ways (Const k) = refl
+address_ways (LabelAt l) = refl
+
+restores_few : (frame : FrameLayout) → length (restores frame) ≤ length frame.clobbered_callee_saves + 2
+restores_few frame =
+    let from = pos (sp_to_fp_of frame) -ℤ pos 8 in
+    let both = length-append (saves_from from frame.clobbered_callee_saves) (setup_loads frame) in
+    let saves = saves_long from frame.clobbered_callee_saves in
+    let few = setup_few frame in
+    omega (arith, both, saves, few)
+
 -- ---- the table
 
 -- one that counts for no more bytes than code may have
@@ -140,8 +226,8 @@ words_within context (StackProbeLoop guard_size probe_count tmp) rule small = pr
 words_within context (LoadExtNameGot rd name) rule small = omega arith
 words_within context (LoadExtNameNear rd name offset) rule small = omega arith
 words_within context (LoadExtNameFar rd name offset) rule small = let few = least_few context.flags in omega arith
-words_within context (Call info) rule small = call_short context.flags info.callee_pop_size info.try_call_info
-words_within context (CallInd info) rule small = call_ind_short context.flags (number_of info.dest) info.callee_pop_size info.try_call_info
+words_within context (Call info) rule small = call_words context.flags 8 8 info.callee_pop_size (loads_unless info.patchable info.defs) info.try_call_info (lit≤ tt)
+words_within context (CallInd info) rule small = call_words context.flags 4 (short_jalr context.flags 1 (number_of info.dest) (pos 0)).len info.callee_pop_size (result_loads info.defs) info.try_call_info (jalr_sized context.flags 1 (number_of info.dest) (pos 0)).few
 words_within context (ReturnCall info) rule small = let short = return_short context.flags context.frame info.new_stack_arg_size in omega arith
 words_within context (ReturnCallInd info) rule small = let short = return_short context.flags context.frame info.new_stack_arg_size in let few = (jalr_sized context.flags 0 5 (pos 0)).few in omega arith
 
@@ -149,6 +235,20 @@ words_within context (ReturnCallInd info) rule small = let short = return_short 
 pub most_in_sequence : (context : Context) (inst : Inst) → island_space context inst ≡ None → most_bytes context inst ≤ sequence_limit
 most_in_sequence context (EmitIsland needed_space) asks = absurd (cc)
 most_in_sequence context (BrTable index tmp1 tmp2 targets) asks = absurd (cc)
+most_in_sequence context (Call info) asks = call_alone context.flags 8 8 info.callee_pop_size (loads_unless info.patchable info.defs) info.try_call_info (lit≤ tt) asks
+most_in_sequence context (CallInd info) asks = call_alone context.flags 4 (short_jalr context.flags 1 (number_of info.dest) (pos 0)).len info.callee_pop_size (result_loads info.defs) info.try_call_info (lit≤ tt) asks
 most_in_sequence context (ReturnCall info) asks = absurd (cc)
 most_in_sequence context (ReturnCallInd info) asks = absurd (cc)
 most_in_sequence context inst asks = omega arith
+
+-- with a veneer for each label to which it goes, and two islands, it counts for as many
+pub most_counts : (context : Context) (inst : Inst) → most_bytes context inst + 8 * length (inst_ways inst) + 34 ≤ inst_sum context inst
+most_counts context (Call info) = let counted = unless_counted info.patchable info.defs in let extra = call_extra context.flags 8 info.callee_pop_size (loads_unless info.patchable info.defs) info.try_call_info in let few = try_ways info.try_call_info in omega (arith, counted, extra, few)
+most_counts context (CallInd info) = let counted = loads_counted info.defs in let extra = call_extra context.flags (short_jalr context.flags 1 (number_of info.dest) (pos 0)).len info.callee_pop_size (result_loads info.defs) info.try_call_info in let few = try_ways info.try_call_info in omega (arith, counted, extra, few)
+most_counts context (CondBr t f kind) = let few = branch_ways t f in omega (arith, few)
+most_counts context (ReturnCall info) = let few = restores_few context.frame in omega (arith, few)
+most_counts context (ReturnCallInd info) = let few = restores_few context.frame in omega (arith, few)
+most_counts context (Load rd op flags from) = let none = address_ways from in omega (arith, none)
+most_counts context (Store to op flags src) = let none = address_ways to in omega (arith, none)
+most_counts context (LoadAddr rd mem) = let none = address_ways mem in omega (arith, none)
+most_counts context inst = omega arith

@@ -49,7 +49,7 @@ int_usable Int n h g = (refl, below_30 n g)
 int_usable Float n h g = absurd (cc)
 int_usable Vector n h g = absurd (cc)
 
-is_usable : (r : Reg) → is_virtual r ≡ false → is_other_class r ≡ false → is_reserved r ≡ false → IsUsable r
+pub is_usable : (r : Reg) → is_virtual r ≡ false → is_other_class r ≡ false → is_reserved r ≡ false → IsUsable r
 is_usable (Real p) v h g = int_usable p.class p.number h g
 is_usable (AVirtual class index) v h g = absurd (cc)
 
@@ -61,7 +61,7 @@ are_usable (r ∷ rs) v h g = (
 )
 
 -- a test that holds of none of two lists holds of none of either
-none_of_both : {A : Type 0} (test : A → Bool) (xs ys : List A) → list_any test (xs ++ ys) ≡ false → (list_any test xs ≡ false) × (list_any test ys ≡ false)
+pub none_of_both : {A : Type 0} (test : A → Bool) (xs ys : List A) → list_any test (xs ++ ys) ≡ false → (list_any test xs ≡ false) × (list_any test ys ≡ false)
 none_of_both test [] ys e = (refl, e)
 none_of_both test (x ∷ xs) ys e =
     let rest = none_of_both test xs ys (or_right (test x) _ e) in

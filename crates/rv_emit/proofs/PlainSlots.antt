@@ -13,7 +13,7 @@ use Rattle.mach_buffer.specs.declared.records.MachRecord.{MachRecord}
 use Rattle.mach_buffer.specs.declared.uses.Use.{Use}
 use Rattle.mach_buffer.specs.Shape.{Shape}
 use Rattle.mach_buffer.specs.Buffer.{shape_of, bytes_of, allocated_of, named_of}
-use Rattle.rv_emit.specs.Emitted.{Buffer, IsSoundBuffer, AppendsInst, named_by}
+use Rattle.rv_emit.specs.Emitted.{Buffer, IsSoundBuffer, AppendsInst, AppendsWords, named_by}
 use Rattle.rv_emit.specs.Slots.{Slot, Op, Aim, Data, Notes, Names, Allocate, Here, Fill, Address, CallTo, size_of, uses_of, records_of, names_of, upper_event, lower_event, address_event, call_event}
 use Rattle.rv_emit.specs.Puts.{Puts, eight_zeros}
 use Rattle.rv_emit.specs.InstParts.{slots_alone}
@@ -179,6 +179,31 @@ added context inst slots old new is flags (mid, p, same) = subst (AppendsInst co
 
 pub summed : (context : Context) (inst : Inst) (slots : List Slot) (old new : Buffer) → IsSummed context inst slots → (flags : IsaFlags) → PutsParts flags (slots_alone slots) old new → AppendsInst context inst old new
 summed context inst slots old new is flags p = added context inst slots old new (record { plain = is.plain; long = ap words_in is.long; uses = is.uses; records = is.records; names = is.names }) flags p
+
+-- slots alone add their words, uses and records, where they name no constant
+pub appends_words : (flags : IsaFlags) (slots : List Slot) (size : ℕ) (own : List (Use LabelUse)) (recorded : List MachRecord) (old new : Buffer) → IsPlain slots → size_of slots ≡ size → uses_of (allocated_of old) (length (bytes_of old)) slots ≡ own → records_of (length (bytes_of old)) slots ≡ recorded → ((named : List VCodeConstant) → names_of slots named ≡ named) → PutsParts flags (slots_alone slots) old new → AppendsWords size own recorded old new
+appends_words flags slots size own recorded old new plain sized used told names (mid, p, same) = subst (AppendsWords size own recorded old) (sym same) (record {
+  code = a.code;
+  adds = record {
+    bytes = a.bytes;
+    uses = a.uses ∙ ap (λ us. (shape_of old).uses ++ us) used;
+    places = a.place;
+    labels = a.labels;
+    allocated = a.allocated;
+    registered = (puts_last flags (allocated_of old) slots (shape_of old) (shape_of mid) p.puts).registered;
+    constants = puts_constants flags (allocated_of old) slots (shape_of old) (shape_of mid) p.puts;
+    sound = p.sound;
+  };
+  records = a.records ∙ ap (λ more. (shape_of old).records ++ more) told;
+  named = puts_named flags (allocated_of old) slots (shape_of old) (shape_of mid) p.puts ∙ names (named_of old);
+  long = a.long ∙ sized;
+})
+  where
+    a : Adds (size_of slots) (uses_of (allocated_of old) (length (bytes_of old)) slots) (records_of (length (bytes_of old)) slots) (shape_of old) (shape_of mid)
+    a = plain_adds flags (allocated_of old) slots (shape_of old) (shape_of mid) plain p.puts
+
+pub words_long : (size : ℕ) (own : List (Use LabelUse)) (recorded : List MachRecord) (old new : Buffer) → AppendsWords size own recorded old new → length (bytes_of new) ≡ length (bytes_of old) + size
+words_long size own recorded old new w = ap length w.adds.bytes ∙ length-append (bytes_of old) w.code ∙ ap (λ n. length (bytes_of old) + n) w.long
 
 -- nothing was put
 pub nothing : (context : Context) (inst : Inst) (old new : Buffer) → IsSoundBuffer old → extent_of context inst ≡ Words 0 → uses_in context (length (bytes_of old)) (length (bytes_of old)) inst ≡ [] → inst_records context (length (bytes_of old)) (length (bytes_of old)) inst ≡ [] → named_of old ≡ named_by (inst_constant inst) (named_of old) → new ≡ old → AppendsInst context inst old new

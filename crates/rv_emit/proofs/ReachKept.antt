@@ -78,7 +78,7 @@ each_use P context start end inst continued jump branch second upper lower =
     (λ label. each_more P _ (use_at (start + 4) label PCRelLo12I ∷ []) (upper label) (each_more P _ [] (lower label) (each_none P)))
 
 -- how far a jump reaches at least, and that it may go by a veneer
-jump_far : (flags : IsaFlags) → 2046 ≤ forward_of (jump_kind flags)
+pub jump_far : (flags : IsaFlags) → 2046 ≤ forward_of (jump_kind flags)
 jump_far flags = by flags.has_zca
   where
     by : (c : Bool) → 2046 ≤ forward_of (if c then RVCJump else Jal20)
@@ -92,7 +92,7 @@ jump_served flags = by flags.has_zca
     by true = refl
     by false = refl
 
-jump_few : (flags : IsaFlags) → jump_size flags ≤ 4
+pub jump_few : (flags : IsaFlags) → jump_size flags ≤ 4
 jump_few flags = by flags.has_zca
   where
     by : (c : Bool) → (if c then 2 else 4) ≤ 4

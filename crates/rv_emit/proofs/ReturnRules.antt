@@ -44,7 +44,7 @@ class_other Vector n apart restored = absurd (cc)
 
 -- ---- all of them
 
-of_both : {A : Type 0} (P : A → Type 0) (xs ys : List A) → AllByRecursion P xs → AllByRecursion P ys → AllByRecursion P (xs ++ ys)
+pub of_both : {A : Type 0} (P : A → Type 0) (xs ys : List A) → AllByRecursion P xs → AllByRecursion P ys → AllByRecursion P (xs ++ ys)
 of_both P [] ys h g = g
 of_both P (x ∷ xs) ys h g = (h.0, of_both P xs ys h.1 g)
 

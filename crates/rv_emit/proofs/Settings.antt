@@ -2,6 +2,7 @@
 use Rattle.std.proofs.Common.{◌≡◌, ℕ, Bool, true, List, length, sym, ap, ◌∙◌}
 use Rattle.mach_buffer.specs.Buffer.{bytes_of}
 use Rattle.mach_buffer.specs.Reach.{is_needed}
+use Rattle.rv_base.specs.declared.call.CallInfo.{CallInfo}
 use Rattle.rv_base.specs.declared.call.ReturnCallInfo.{ReturnCallInfo}
 use Rattle.rv_base.specs.declared.external_name.ExternalName.{ExternalName}
 use Rattle.rv_base.specs.declared.label.MachLabel.{MachLabel}
@@ -9,7 +10,7 @@ use Rattle.rv_base.specs.declared.regs.Reg.{Reg}
 use Rattle.rv_base.specs.declared.regs.Writable.{Writable}
 use Rattle.rv_inst.specs.Context.{Context}
 use Rattle.rv_inst.specs.declared.inst.Inst.{Inst}
-use Rattle.rv_inst.specs.declared.inst.Inst.TheVariants.{EmitIsland, BrTable, ReturnCall, ReturnCallInd}
+use Rattle.rv_inst.specs.declared.inst.Inst.TheVariants.{EmitIsland, BrTable, Call, CallInd, ReturnCall, ReturnCallInd}
 use Rattle.rv_emit.specs.declared.state.EmitVState.{EmitVState}
 use Rattle.rv_emit.specs.Emitted.{Buffer, pending}
 use Rattle.rv_emit.specs.State.{setting_after, setting_beyond}
@@ -21,6 +22,13 @@ island_asked context inst space b made setting is asked = ap (λ i. setting_afte
 -- a branch by a table forgets it
 pub table_asked : (context : Context) (inst : Inst) (index : Reg) (tmp1 tmp2 : Writable Reg) (targets : List MachLabel) (b : Buffer) (setting : EmitVState) → inst ≡ BrTable index tmp1 tmp2 targets → setting_after context b inst setting ≡ setting_beyond true setting
 table_asked context inst index tmp1 tmp2 targets b setting is = ap (λ i. setting_after context b i setting) is
+
+-- so do calls that load results
+pub call_asked : (context : Context) (inst : Inst) (info : CallInfo ExternalName) (b : Buffer) (setting : EmitVState) → inst ≡ Call info → setting_after context b inst setting ≡ setting_beyond true setting
+call_asked context inst info b setting is = ap (λ i. setting_after context b i setting) is
+
+pub call_ind_asked : (context : Context) (inst : Inst) (info : CallInfo Reg) (b : Buffer) (setting : EmitVState) → inst ≡ CallInd info → setting_after context b inst setting ≡ setting_beyond true setting
+call_ind_asked context inst info b setting is = ap (λ i. setting_after context b i setting) is
 
 -- and so do tail calls
 pub tail_asked : (context : Context) (inst : Inst) (info : ReturnCallInfo ExternalName) (b : Buffer) (setting : EmitVState) → inst ≡ ReturnCall info → setting_after context b inst setting ≡ setting_beyond true setting

@@ -210,7 +210,7 @@ table_kept context inst index tmp1 tmp2 targets is rule = table_fine index tmp1 
 
 -- how many bytes it counts for
 pub table_sum : (context : Context) (inst : Inst) (index : Reg) (tmp1 tmp2 : Writable Reg) (targets : List MachLabel) → inst ≡ BrTable index tmp1 tmp2 targets → inst_sum context inst ≡ 128 + 8 * length targets
-table_sum context inst index tmp1 tmp2 targets is = ap (inst_sum context) is
+table_sum context inst index tmp1 tmp2 targets is = ap (inst_sum context) is ∙ omega arith
 
 -- after an island where one is needed, room is left for as many bytes as were counted
 pub island_room : (space extra : ℕ) (old new : Buffer) (made : Bool) → length (bytes_of old) + (128 + extra) + reserve_of (shape_of old) + 8 * length (pending old) + 32 < code_limit → IslandIfNeeded space old new made → length (bytes_of new) + 40 + extra < code_limit

@@ -1,26 +1,30 @@
--- What tail calls add to a buffer, and that Reach holds after each instruction that asks for an island.
-use Rattle.std.proofs.Common.{◌≡◌, ℕ, ◌+◌, ◌-◌, ◌≤◌, true, List, [], ◌∷◌, pos, ap, sym, ◌∙◌, subst, append-nil, arith}
+-- What tail calls add to a buffer, and so each instruction; and that Reach holds after each that asks for an island.
+use Rattle.std.proofs.Common.{◌≡◌, ℕ, ◌+◌, ◌-◌, ◌≤◌, true, List, [], ◌∷◌, None, pos, refl, ap, sym, ◌∙◌, subst, append-nil, arith}
 use Rattle.std.specs.Prelude.{length, is_some}
 use Rattle.rv_base.specs.declared.call.ReturnCallInfo.{ReturnCallInfo}
 use Rattle.rv_base.specs.declared.external_name.ExternalName.{ExternalName}
 use Rattle.rv_base.specs.declared.regs.Reg.{Reg}
 use Rattle.rv_inst.specs.Context.{Context}
 use Rattle.rv_inst.specs.Forms.{short_jalr}
+use Rattle.rv_inst.specs.Rules.{inst_rule}
 use Rattle.rv_inst.specs.Sizes.{island_space, return_size}
 use Rattle.rv_inst.specs.declared.inst.Inst.{Inst}
-use Rattle.rv_inst.specs.declared.inst.Inst.TheVariants.{EmitIsland, BrTable, ReturnCall, ReturnCallInd}
+use Rattle.rv_inst.specs.declared.inst.Inst.TheVariants.{EmitIsland, BrTable, Call, CallInd, ReturnCall, ReturnCallInd}
 use Rattle.mach_buffer.specs.Reach.{CanReach}
 use Rattle.mach_buffer.specs.Buffer.{bytes_of}
 use Rattle.rv_emit.specs.declared.state.EmitVState.{EmitVState}
 use Rattle.rv_emit.specs.Emission.{PutsParts, EmitsIn}
-use Rattle.rv_emit.specs.Emitted.{Buffer, pending, CanEmit}
+use Rattle.rv_emit.specs.Emitted.{Buffer, IsSoundBuffer, pending, CanEmit, IslandIfNeeded, Appends}
 use Rattle.rv_emit.specs.InstParts.{tail_slots, t0_slots, parts_of}
 use Rattle.rv_emit.specs.Slots.{Slot, Ask, Slots, parts_size}
+use Rattle.rv_emit.proofs.CallAppends.{reach_call, reach_call_ind}
+use Rattle.rv_emit.proofs.CallSlots.{call_appends, call_ind_appends}
 use Rattle.rv_emit.proofs.FineOperands.{fine}
+use Rattle.rv_emit.proofs.InstSlots.{appends_inst}
 use Rattle.rv_emit.proofs.PlainSlots.{IsAdded, added}
 use Rattle.rv_emit.proofs.ReachKept.{bytes_put, pending_adds, calm_after, reach_calm, reach_after_island, reach_within}
 use Rattle.rv_emit.proofs.ShortOps.{jalr_sized}
-use Rattle.rv_emit.proofs.TableAppends.{AppendsAfter, appends_table, reach_table}
+use Rattle.rv_emit.proofs.TableAppends.{AppendsAfter, appends_table, reach_table, table_some}
 use Rattle.rv_emit.proofs.TailSlots.{call_records, tail_told, t0_told}
 
 -- ---- what is added
@@ -51,6 +55,20 @@ tail_parts_long context setting info = let long = (tail_added context info).long
 pub t0_parts_long : (context : Context) (setting : EmitVState) (info : ReturnCallInfo Reg) → parts_size (parts_of context setting (ReturnCallInd info)) ≡ return_size context.flags context.frame info.new_stack_arg_size + (short_jalr context.flags 0 5 (pos 0)).len
 t0_parts_long context setting info = let long = (t0_added context info).long in omega arith
 
+-- ---- any instruction
+
+-- what an instruction that breaks no rule adds, by its extent
+pub appends : (context : Context) (setting : EmitVState) (inst : Inst) (old new : Buffer) → inst_rule context inst ≡ None → IsSoundBuffer old → EmitsIn context setting inst old new → Appends context inst old new
+appends context setting (EmitIsland space) old new rule sound (mid, made, room, same) = (made, subst (λ b. IslandIfNeeded space old b made) (sym same) room)
+appends context setting (BrTable index tmp1 tmp2 targets) old new rule sound e =
+    let a = appends_table context setting index tmp1 tmp2 targets old new (table_some context index tmp1 tmp2 targets rule) e in
+    (a.mid, a.made, a.room, a.words)
+appends context setting (Call info) old new rule sound e = call_appends context info old new e
+appends context setting (CallInd info) old new rule sound e = call_ind_appends context info old new e
+appends context setting (ReturnCall info) old new rule sound e = let a = appends_tail context setting info old new e in (a.mid, a.made, a.room, a.words)
+appends context setting (ReturnCallInd info) old new rule sound e = let a = appends_t0 context setting info old new e in (a.mid, a.made, a.room, a.words)
+appends context setting inst old new rule sound e = appends_inst context setting inst old new rule sound refl e
+
 -- ---- Reach
 
 reach_tail : (context : Context) (info : ReturnCallInfo ExternalName) (space : ℕ) (old new : Buffer) → return_size context.flags context.frame info.new_stack_arg_size + 8 ≤ space → AppendsAfter context (ReturnCall info) space old new → CanReach (length (bytes_of new)) (pending new)
@@ -71,6 +89,8 @@ reach_asking context setting (BrTable index tmp1 tmp2 targets) old new can asks 
     let some = (fine context (BrTable index tmp1 tmp2 targets) can.rule).4 in
     let room = can.room in
     reach_table context index tmp1 tmp2 targets old new some (omega arith) (appends_table context setting index tmp1 tmp2 targets old new some e)
+reach_asking context setting (Call info) old new can asks e = reach_call context info old new asks (call_appends context info old new e)
+reach_asking context setting (CallInd info) old new can asks e = reach_call_ind context info old new asks (call_ind_appends context info old new e)
 reach_asking context setting (ReturnCall info) old new can asks e = reach_tail context info _ old new (omega arith) (appends_tail context setting info old new e)
 reach_asking context setting (ReturnCallInd info) old new can asks e = reach_t0 context info _ old new (omega arith) (appends_t0 context setting info old new e)
 reach_asking context setting _ old new can asks e = absurd (cc)

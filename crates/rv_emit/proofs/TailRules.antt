@@ -83,10 +83,10 @@ tail_kept context inst tail is rule fit = record {
 
 -- how many bytes it counts for
 pub tail_sum : (context : Context) (inst : Inst) (info : ReturnCallInfo ExternalName) → inst ≡ ReturnCall info → inst_sum context inst ≡ 128 + 32 * length context.frame.clobbered_callee_saves
-tail_sum context inst info is = ap (inst_sum context) is
+tail_sum context inst info is = ap (inst_sum context) is ∙ omega arith
 
 pub jump_sum : (context : Context) (inst : Inst) (info : ReturnCallInfo Reg) → inst ≡ ReturnCallInd info → inst_sum context inst ≡ 128 + 32 * length context.frame.clobbered_callee_saves
-jump_sum context inst info is = ap (inst_sum context) is
+jump_sum context inst info is = ap (inst_sum context) is ∙ omega arith
 
 -- ---- the instruction
 

@@ -61,7 +61,7 @@ loads_plain flags loads = (loads_counted flags loads).plain
 loads_long : (flags : IsaFlags) (loads : List StackLoad) → size_of (stack_load_slots flags loads) ≤ 28 * length loads
 loads_long flags loads = let a = (loads_counted flags loads).long in let b = loads_most flags loads in omega arith
 
-loads_both : (flags : IsaFlags) (first more : List StackLoad) → stack_load_slots flags (first ++ more) ≡ stack_load_slots flags first ++ stack_load_slots flags more
+pub loads_both : (flags : IsaFlags) (first more : List StackLoad) → stack_load_slots flags (first ++ more) ≡ stack_load_slots flags first ++ stack_load_slots flags more
 loads_both flags [] more = refl
 loads_both flags (l ∷ first) more =
     let own = load_slots flags l.register l.op None (Based 2 l.offset) in
@@ -277,23 +277,22 @@ patch_long false n old new p = let a = alone_long _ old new p in omega arith
 patch_long true n old new p = let a = alone_long _ old new p in omega arith
 
 -- what comes after the words of a call
-rest_put : {flags : IsaFlags} (frame : FrameLayout) (popped n : ℕ) (patchable : Bool) (entries : Option UserStackMap) (t : Option TryCallInfo) (a b c d new : Buffer) → PutsAlone flags (return_notes frame entries t) a b → PutsAlone flags (stack_step_slots flags (fall popped)) b c → PutsAlone flags (patch_notes patchable n) c d → PutsAlone flags (try_slots flags t) d new → PutsAlone flags (return_notes frame entries t ++ (after_call flags popped ++ (patch_notes patchable n ++ try_slots flags t))) a new
-rest_put {flags} frame popped n patchable entries t a b c d new q r s j =
+rest_put : {flags : IsaFlags} (frame : FrameLayout) (popped n : ℕ) (patchable : Bool) (entries : Option UserStackMap) (t : Option TryCallInfo) (a b c new : Buffer) → PutsAlone flags (return_notes frame entries t) a b → PutsAlone flags (stack_step_slots flags (fall popped)) b c → PutsAlone flags (patch_notes patchable n) c new → PutsAlone flags (return_notes frame entries t ++ (after_call flags popped ++ (patch_notes patchable n ++ []))) a new
+rest_put {flags} frame popped n patchable entries t a b c new q r s =
     let steps = after_call flags popped in
     let notes = patch_notes patchable n in
-    let jump = try_slots flags t in
-    both_alone (return_notes frame entries t) (steps ++ (notes ++ jump)) a b new (return_plain frame entries t) q
-    (both_alone steps (notes ++ jump) b c new (steps_counted flags (fall popped)).plain r
-    (both_alone notes jump c d new (patch_plain patchable n) s j))
+    both_alone (return_notes frame entries t) (steps ++ (notes ++ [])) a b new (return_plain frame entries t) q
+    (both_alone steps (notes ++ []) b c new (steps_counted flags (fall popped)).plain r
+    (subst (λ slots. PutsAlone flags slots c new) (sym (append-nil notes)) s))
 
-pub call_put : {flags : IsaFlags} (frame : FrameLayout) (info : CallInfo ExternalName) (link tmp : ℕ) (old a b c d new : Buffer) → link ≡ 1 → tmp ≡ 1 → PutsAlone flags (call_to link tmp info.dest ∷ []) old a → PutsAlone flags (return_notes frame info.stack_map info.try_call_info) a b → PutsAlone flags (stack_step_slots flags (fall info.callee_pop_size)) b c → PutsAlone flags (patch_notes info.patchable (call_size flags 8 info.callee_pop_size)) c d → PutsAlone flags (try_slots flags info.try_call_info) d new → PutsAlone flags (call_slots flags frame info) old new
-call_put {flags} frame info link tmp old a b c d new one spare p q r s j =
+pub call_begun : {flags : IsaFlags} (frame : FrameLayout) (info : CallInfo ExternalName) (link tmp : ℕ) (old a b c new : Buffer) → link ≡ 1 → tmp ≡ 1 → PutsAlone flags (call_to link tmp info.dest ∷ []) old a → PutsAlone flags (return_notes frame info.stack_map info.try_call_info) a b → PutsAlone flags (stack_step_slots flags (fall info.callee_pop_size)) b c → PutsAlone flags (patch_notes info.patchable (call_size flags 8 info.callee_pop_size)) c new → PutsAlone flags (call_slots flags frame info []) old new
+call_begun {flags} frame info link tmp old a b c new one spare p q r s =
     let call = subst (λ s. PutsAlone flags (s ∷ []) old a) (λ i. call_to (one i) (spare i) info.dest) p in
     both_alone (call_to 1 1 info.dest ∷ []) _ old a new tt call
-    (rest_put frame info.callee_pop_size (call_size flags 8 info.callee_pop_size) info.patchable info.stack_map info.try_call_info a b c d new q r s j)
+    (rest_put frame info.callee_pop_size (call_size flags 8 info.callee_pop_size) info.patchable info.stack_map info.try_call_info a b c new q r s)
 
-pub call_ind_put : {flags : IsaFlags} (frame : FrameLayout) (info : CallInfo Reg) (link : ℕ) (old a b c new : Buffer) → IsSoundBuffer c → link ≡ 1 → PutsAlone flags (Op (short_jalr flags link (number_of info.dest) (pos 0)) ∷ []) old a → PutsAlone flags (return_notes frame info.stack_map info.try_call_info) a b → PutsAlone flags (stack_step_slots flags (fall info.callee_pop_size)) b c → PutsAlone flags (try_slots flags info.try_call_info) c new → PutsAlone flags (call_ind_slots flags frame info) old new
-call_ind_put {flags} frame info link old a b c new sound one p q r j =
+pub call_ind_begun : {flags : IsaFlags} (frame : FrameLayout) (info : CallInfo Reg) (link : ℕ) (old a b new : Buffer) → IsSoundBuffer new → link ≡ 1 → PutsAlone flags (Op (short_jalr flags link (number_of info.dest) (pos 0)) ∷ []) old a → PutsAlone flags (return_notes frame info.stack_map info.try_call_info) a b → PutsAlone flags (stack_step_slots flags (fall info.callee_pop_size)) b new → PutsAlone flags (call_ind_slots flags frame info []) old new
+call_ind_begun {flags} frame info link old a b new sound one p q r =
     let jump = subst (λ n. PutsAlone flags (Op (short_jalr flags n (number_of info.dest) (pos 0)) ∷ []) old a) one p in
     both_alone (Op (short_jalr flags 1 (number_of info.dest) (pos 0)) ∷ []) _ old a new tt jump
-    (rest_put frame info.callee_pop_size 0 false info.stack_map info.try_call_info a b c c new q r (none_put flags c sound) j)
+    (rest_put frame info.callee_pop_size 0 false info.stack_map info.try_call_info a b new new q r (none_put flags new sound))

@@ -16,11 +16,12 @@ use Rattle.rv_inst.specs.Context.{Context}
 use Rattle.rv_inst.specs.Operands.{table_of, inst_ways, inst_constant, tail_call_of}
 use Rattle.rv_inst.specs.Frames.{is_bad_frame_for}
 use Rattle.rv_inst.specs.Rules.{inst_rule}
-use Rattle.rv_inst.specs.Sizes.{words_in, extent_of, line_space, island_space, inst_sum}
+use Rattle.rv_inst.specs.Sizes.{Extent, Words, Island, After, Around, words_in, extent_of, line_space, island_space, inst_sum}
 use Rattle.rv_inst.specs.MostBytes.{most_bytes}
 use Rattle.rv_inst.specs.Records.{inst_records}
 use Rattle.rv_inst.specs.Uses.{use_at, uses_in, least_reach}
 use Rattle.mach_buffer.specs.declared.buffer.MachBuffer.{MachBuffer}
+use Rattle.mach_buffer.specs.declared.records.MachRecord.{MachRecord}
 use Rattle.mach_buffer.specs.declared.uses.Use.{Use}
 use Rattle.mach_buffer.specs.Islands.{is_far, AddsOwn}
 use Rattle.mach_buffer.specs.Reach.{AllOf, is_needed}
@@ -120,6 +121,37 @@ pub record AppendsIsland (old new : Buffer) : Type 0 where
 pub record IslandIfNeeded (distance : ℕ) (old new : Buffer) (made : Bool) : Type 0 where
   pub asked : made ≡ is_needed (length (bytes_of old)) distance (pending old)
   pub put : ((made ≡ false) × (new ≡ old)) ⊎ ((made ≡ true) × AppendsIsland old new)
+
+-- ---- by an instruction's extent
+
+-- words, uses and records were put at the end, and no constant was named
+pub record AppendsWords (size : ℕ) (own : List (Use LabelUse)) (recorded : List MachRecord) (old new : Buffer) : Type 0 where
+  pub code : List ℕ
+  pub adds : AppendsCode code own old new
+  pub records : records_of new ≡ records_of old ++ recorded
+  pub named : named_of new ≡ named_of old
+  pub long : length code ≡ size
+
+-- so many bytes of an instruction and its records were put at the end; an island exactly where one is needed before so many bytes; and
+-- then so many bytes and its uses
+pub record AppendsAround (context : Context) (inst : Inst) (before space after : ℕ) (old new : Buffer) : Type 0 where
+  pub mid : Buffer
+  pub last : Buffer
+  pub made : Bool
+  pub first : AppendsWords before [] (inst_records context (length (bytes_of old)) (length (bytes_of new)) inst) old mid
+  pub room : IslandIfNeeded space mid last made
+  pub second : AppendsWords after (uses_in context (length (bytes_of old)) (length (bytes_of new)) inst) [] last new
+
+-- an instruction's words were put at the end; an island, where the instruction asks for one and one is needed; both, one after the
+-- other; or an island among its words
+abbrev pub AppendsBy : Context → Extent → Inst → Buffer → Buffer → Type 0
+AppendsBy context (Words size) inst old new = AppendsInst context inst old new
+AppendsBy context (Island space) inst old new = (made : Bool) × IslandIfNeeded space old new made
+AppendsBy context (After space size more) inst old new = (mid : Buffer) × (made : Bool) × IslandIfNeeded space old mid made × AppendsInst context inst mid new
+AppendsBy context (Around before space after) inst old new = AppendsAround context inst before space after old new
+
+abbrev pub Appends : Context → Inst → Buffer → Buffer → Type 0
+Appends context inst old new = AppendsBy context (extent_of context inst) inst old new
 
 -- ---- an instruction
 

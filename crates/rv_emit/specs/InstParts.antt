@@ -21,9 +21,9 @@ use Rattle.rv_ops.specs.declared.memory.LoadOP.TheVariants as loads
 use Rattle.rv_ops.specs.declared.memory.StoreOP.{StoreOP}
 use Rattle.rv_ops.specs.declared.compare.IntegerCompare.{IntegerCompare}
 use Rattle.rv_inst.specs.Context.{Context}
-use Rattle.rv_inst.specs.Returns.{StackLoad, restores, frame_above}
+use Rattle.rv_inst.specs.Returns.{StackLoad, restores, frame_above, result_loads, loads_unless}
 use Rattle.rv_inst.specs.Records.{site_event}
-use Rattle.rv_inst.specs.Sizes.{trap_size, table_space, bit_shift, fall, call_size, return_size}
+use Rattle.rv_inst.specs.Sizes.{trap_size, table_space, bit_shift, fall, call_size, return_size, results_space}
 use Rattle.rv_inst.specs.declared.inst.Inst.{Inst}
 use Rattle.rv_inst.specs.declared.inst.Inst.TheVariants.{Nop0, Nop4, EBreak, SequencePoint, Args, Rets, DummyUse, EmitIsland, RawData, Lui, Auipc, LoadInlineConst, AluRRR, AluRRImm12, Mov, MovFromPReg, Extend, Select, Load, Store, LoadAddr, LabelAddress, Ret, TrapIf, Jal, CondBr, BrTable, Udf, Jalr, Popcnt, Cltz, Brev8, StackProbeLoop, LoadExtNameGot, LoadExtNameNear, LoadExtNameFar, Call, CallInd, ReturnCall, ReturnCallInd, Unwind}
 use Rattle.rv_inst.specs.declared.inst.CondBrTarget.{CondBrTarget}
@@ -256,17 +256,26 @@ abbrev pub try_slots : IsaFlags → Option TryCallInfo → List Slot
 try_slots flags None = []
 try_slots flags (Some t) = jump_to flags (Label t.continuation) ∷ []
 
--- to a symbol, by way of ra, which links
-abbrev pub call_slots : IsaFlags → FrameLayout → CallInfo ExternalName → List Slot
-call_slots flags frame info = call_to 1 1 info.dest ∷ return_notes frame info.stack_map info.try_call_info ++ (after_call flags info.callee_pop_size ++ (patch_notes info.patchable (call_size flags 8 info.callee_pop_size) ++ try_slots flags info.try_call_info))
+-- to a symbol, by way of ra, which links; and these slots after it
+abbrev pub call_slots : IsaFlags → FrameLayout → CallInfo ExternalName → List Slot → List Slot
+call_slots flags frame info last = call_to 1 1 info.dest ∷ return_notes frame info.stack_map info.try_call_info ++ (after_call flags info.callee_pop_size ++ (patch_notes info.patchable (call_size flags 8 info.callee_pop_size) ++ last))
 
 -- to an address in a register
-abbrev pub call_ind_slots : IsaFlags → FrameLayout → CallInfo Reg → List Slot
-call_ind_slots flags frame info = Op (short_jalr flags 1 (number_of info.dest) (pos 0)) ∷ return_notes frame info.stack_map info.try_call_info ++ (after_call flags info.callee_pop_size ++ try_slots flags info.try_call_info)
+abbrev pub call_ind_slots : IsaFlags → FrameLayout → CallInfo Reg → List Slot → List Slot
+call_ind_slots flags frame info last = Op (short_jalr flags 1 (number_of info.dest) (pos 0)) ∷ return_notes frame info.stack_map info.try_call_info ++ (after_call flags info.callee_pop_size ++ last)
 
 -- slots alone
 abbrev pub slots_alone : List Slot → List Part
 slots_alone slots = Slots slots ∷ []
+
+-- a call that loads results, after an island where one is needed before the loads and the jump that goes on
+abbrev pub loading_parts : IsaFlags → (List Slot → List Slot) → List StackLoad → Option TryCallInfo → List Part
+loading_parts flags call loads t = Slots (call []) ∷ Ask (results_space loads) ∷ Slots (stack_load_slots flags loads ++ try_slots flags t) ∷ []
+
+-- a call, by what it loads
+abbrev pub call_parts : IsaFlags → (List Slot → List Slot) → List StackLoad → Option TryCallInfo → List Part
+call_parts flags call [] t = slots_alone (call (try_slots flags t))
+call_parts flags call (l ∷ loads) t = loading_parts flags call (l ∷ loads) t
 
 -- by the context, and the vector unit's setting known before the instruction
 abbrev pub parts_of : Context → EmitVState → Inst → List Part
@@ -306,8 +315,8 @@ parts_of context setting (StackProbeLoop guard_size probe_count tmp) = slots_alo
 parts_of context setting (LoadExtNameGot rd name) = slots_alone (got_slots (number_of rd.reg) name)
 parts_of context setting (LoadExtNameNear rd name offset) = slots_alone (near_slots (number_of rd.reg) name offset)
 parts_of context setting (LoadExtNameFar rd name offset) = slots_alone (far_slots context.flags (number_of rd.reg) name offset)
-parts_of context setting (Call info) = slots_alone (call_slots context.flags context.frame info)
-parts_of context setting (CallInd info) = slots_alone (call_ind_slots context.flags context.frame info)
+parts_of context setting (Call info) = call_parts context.flags (call_slots context.flags context.frame info) (loads_unless info.patchable info.defs) info.try_call_info
+parts_of context setting (CallInd info) = call_parts context.flags (call_ind_slots context.flags context.frame info) (result_loads info.defs) info.try_call_info
 parts_of context setting (ReturnCall info) = Ask (return_size context.flags context.frame info.new_stack_arg_size + 8) ∷ Slots (tail_slots context.flags context.frame info.new_stack_arg_size info.dest) ∷ []
 parts_of context setting (ReturnCallInd info) = Ask (return_size context.flags context.frame info.new_stack_arg_size + 4) ∷ Slots (t0_slots context.flags context.frame info.new_stack_arg_size) ∷ []
 parts_of context setting (Unwind inst) = slots_alone (Notes (event.Unwind inst) ∷ [])

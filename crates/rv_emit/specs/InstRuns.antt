@@ -81,7 +81,7 @@ pub record Resumes (site : Site) (start after from : ℕ) (parts : List Part) (s
 
 -- what is left of a call then runs as the call means, wherever it stands in the code
 pub record ResumesIn (site : Site) (setting : EmitVState) (inst : Inst) (r : Return) : Type 0 where
-  pub run : (start after : ℕ) (s : State) (v : Values) → Resumes site start after (start + r.offset) (parts_of site.context setting inst) s v → ComesOut site start after (try_exit (try_call_of inst)) [] (resumed r.popped v) s
+  pub run : (start after : ℕ) (s : State) (v : Values) → Resumes site start after (start + r.offset) (parts_of site.context setting inst) s v → ComesOut site start after (try_exit (try_call_of inst)) [] (resumed r v) s
 
 -- the parts of an instruction run as it means, wherever they stand in the code, where it writes no byte of the code
 pub record RunsIn (site : Site) (setting : EmitVState) (inst : Inst) : Type 0 where

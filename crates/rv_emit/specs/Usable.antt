@@ -1,6 +1,9 @@
 -- What the words of an instruction ask of its registers, labels and numbers.
-use Rattle.std.specs.Prelude.{◌≡◌, ◌≢◌, ◌⊎◌, ◌<◌, ◌≤◌, true, List, [], ◌∷◌, length, Option, Some, None}
+use Rattle.std.specs.Prelude.{◌≡◌, ◌≢◌, ◌⊎◌, ◌<◌, ◌≤◌, true, List, [], ◌∷◌, length, Option, Some, None, IsSome}
 use Rattle.rv_base.specs.declared.amode.AMode.{AMode}
+use Rattle.rv_base.specs.declared.call.CallRetPair.{CallRetPair}
+use Rattle.rv_base.specs.declared.call.RetLocation.{RetLocation}
+use Rattle.rv_base.specs.declared.call.RetLocation.TheVariants.{Reg as InReg, Stack as OnStack}
 use Rattle.rv_base.specs.declared.call.TryCallInfo.{TryCallInfo}
 use Rattle.rv_base.specs.declared.constant.Constant.{Constant}
 use Rattle.rv_base.specs.declared.amode.AMode.TheVariants.{RegOffset, SPOffset, FPOffset, SlotOffset, IncomingArg, Const, Label as ToLabel}
@@ -14,6 +17,7 @@ use Rattle.rv_base.specs.declared.value_regs.ValueRegs.{ValueRegs}
 use Rattle.rv_base.specs.ValueRegs.{count_of}
 use Rattle.rv_base.specs.declared.label.MachLabel.{MachLabel}
 use Rattle.mach_labels.specs.Table.{first_inner}
+use Rattle.rv_ops.specs.Memory.{load_of}
 use Rattle.rv_ops.specs.declared.compare.IntegerCompare.{IntegerCompare}
 use Rattle.rv_encode.specs.Registers.{IsIntRegister}
 use Rattle.rv_inst.specs.declared.inst.Inst.{Inst}
@@ -43,6 +47,15 @@ IsFineTarget Fallthrough = Unit {0}
 abbrev pub IsFineTry : Option TryCallInfo → Type 0
 IsFineTry None = Unit {0}
 IsFineTry (Some t) = IsListed t.continuation
+
+-- a result on the stack is loaded, by its type, into an integer register
+abbrev pub IsFineResult : Reg → RetLocation → Type 0
+IsFineResult r (InReg s) = Unit {0}
+IsFineResult r (OnStack offset type) = IsIntRegister r × IsSome (load_of type)
+
+abbrev pub AreFineResults : List CallRetPair → Type 0
+AreFineResults [] = Unit {0}
+AreFineResults (d ∷ defs) = IsFineResult d.vreg.reg d.location × AreFineResults defs
 
 abbrev pub IsFineBranch : IntegerCompare → CondBrTarget → CondBrTarget → Type 0
 IsFineBranch kind taken not_taken = IsIntRegister kind.rs1 × IsIntRegister kind.rs2 × IsFineTarget taken × IsFineTarget not_taken
@@ -121,8 +134,8 @@ IsFine constants (StackProbeLoop guard_size probe_count tmp) = IsIntRegister tmp
 IsFine constants (LoadExtNameGot rd name) = IsIntRegister rd.reg
 IsFine constants (LoadExtNameNear rd name offset) = IsIntRegister rd.reg
 IsFine constants (LoadExtNameFar rd name offset) = IsIntRegister rd.reg
-IsFine constants (Call info) = IsFineTry info.try_call_info
-IsFine constants (CallInd info) = IsIntRegister info.dest × IsFineTry info.try_call_info
+IsFine constants (Call info) = IsFineTry info.try_call_info × AreFineResults info.defs
+IsFine constants (CallInd info) = IsIntRegister info.dest × IsFineTry info.try_call_info × AreFineResults info.defs
 IsFine constants (ReturnCall info) = Unit {0}
 IsFine constants (ReturnCallInd info) = IsIntRegister info.dest × (number_of info.dest ≡ 5)
 IsFine constants (Unwind inst) = Unit {0}

@@ -1,21 +1,27 @@
 //! Calls that return.
 
-ghost use Rattle.std.specs.Prelude.{◌≡◌, ◌∷◌, [], ◌+◌, ◌^◌, ◌<◌, ◌-ℤ◌, length, pos, OnOk, OnErr, true};
+ghost use Rattle.std.specs.Prelude.{◌≡◌, ◌∷◌, [], ◌+◌, ◌*◌, ◌^◌, ◌<◌, ◌-ℤ◌, length, pos, count_by, OnOk, OnErr, true, false};
 ghost use Rattle.rv_base.specs.LabelUse.{code_limit};
 ghost use Rattle.rv_base.specs.Frame.{sp_to_args_end};
 ghost use Rattle.rv_base.specs.Regs.{number_of};
 ghost use Rattle.rv_base.specs.declared.flags.IsaFlags.{IsaFlags};
 ghost use Rattle.rv_encode.specs.Registers.{IsIntRegister};
-ghost use Rattle.mach_buffer.specs.Buffer.{bytes_of, spoiled_of};
+ghost use Rattle.mach_buffer.specs.Buffer.{shape_of, bytes_of, allocated_of, spoiled_of};
+ghost use Rattle.mach_buffer.specs.Constants.{reserve_of};
+ghost use Rattle.mach_buffer.specs.Reach.{is_needed};
+ghost use Rattle.mach_buffer.specs.Shape.{inner_count};
 ghost use Rattle.mach_buffer.specs.declared.records.Event.TheVariants.{PatchableCallSite};
 ghost use Rattle.rv_inst.specs.Records.{site_event};
-ghost use Rattle.rv_inst.specs.Sizes.{fall};
-ghost use Rattle.rv_emit.specs.Emission.{PutsAlone};
-ghost use Rattle.rv_emit.specs.Emitted.{IsSoundBuffer};
-ghost use Rattle.rv_emit.specs.InstParts.{map_notes, return_notes, try_slots, patch_notes, call_slots, call_ind_slots};
+ghost use Rattle.rv_inst.specs.Returns.{result_loads};
+ghost use Rattle.rv_inst.specs.Rules.{is_stacked};
+ghost use Rattle.rv_inst.specs.Sizes.{fall, line_space};
+ghost use Rattle.rv_emit.specs.Emission.{PutsAlone, PutsParts};
+ghost use Rattle.rv_emit.specs.Emitted.{IsSoundBuffer, pending};
+ghost use Rattle.rv_emit.specs.InstParts.{map_notes, return_notes, try_slots, patch_notes, call_slots, call_ind_slots, loading_parts};
 ghost use Rattle.rv_emit.specs.Slots.{Notes};
-ghost use Rattle.rv_emit.specs.Usable.{IsFineTry};
+ghost use Rattle.rv_emit.specs.Usable.{IsFineTry, AreFineResults};
 
+use crate::results::put_results;
 use crate::sequence::put_jump;
 use crate::shortest::put_jalr;
 use crate::stack::put_stack_step;
@@ -28,8 +34,7 @@ use rv_base::{
 use rv_imms::Imm12;
 use rv_inst::LabelUse;
 
-/// A call of a symbol, which comes back to the byte after its two words; there the stack pointer falls, and control goes on after
-/// the call or to a label.
+/// A call of a symbol that loads no result: control goes on after it, or at a label.
 pub(crate) fn put_call(
     sink: &mut MachBuffer<LabelUse>,
     flags: IsaFlags,
@@ -40,20 +45,15 @@ pub(crate) fn put_call(
     requires fine { IsFineTry info.now.try_call_info }
     requires room { length (bytes_of sink.old) + 84 < code_limit }
     requires sound { IsSoundBuffer sink.old }
-    ensures slots { OnOk result (PutsAlone flags (call_slots flags frame.now info.now) sink.old sink.new) }
+    ensures slots { OnOk result (PutsAlone flags (call_slots flags frame.now info.now (try_slots flags info.now.try_call_info)) sink.old sink.new) }
     ensures refused { OnErr result (spoiled_of sink.new ≡ true) }
 {
-    let start = sink.cur_offset();
-    put_call_to(sink, writable_link_reg(), writable_link_reg(), info.dest)?;
-    put_return(sink, frame, &info.stack_map, &info.try_call_info)?;
-    put_stack_step(sink, flags, fallen(info.callee_pop_size))?;
-    let end = sink.cur_offset();
-    put_patchable(sink, info.patchable, end - start)?;
+    begin_call(sink, flags, frame, info)?;
     put_continuation(sink, flags, &info.try_call_info)?;
     Ok(())
 }
 
-/// A call of the function at the address in a register.
+/// A call of the function at the address in a register, where it loads no result.
 pub(crate) fn put_call_ind(
     sink: &mut MachBuffer<LabelUse>,
     flags: IsaFlags,
@@ -65,13 +65,96 @@ pub(crate) fn put_call_ind(
     requires dest { IsIntRegister info.now.dest }
     requires room { length (bytes_of sink.old) + 84 < code_limit }
     requires sound { IsSoundBuffer sink.old }
-    ensures slots { OnOk result (PutsAlone flags (call_ind_slots flags frame.now info.now) sink.old sink.new) }
+    ensures slots { OnOk result (PutsAlone flags (call_ind_slots flags frame.now info.now (try_slots flags info.now.try_call_info)) sink.old sink.new) }
+    ensures refused { OnErr result (spoiled_of sink.new ≡ true) }
+{
+    begin_call_ind(sink, flags, frame, info)?;
+    put_continuation(sink, flags, &info.try_call_info)?;
+    Ok(())
+}
+
+/// A call of a symbol that loads results: before the loads comes an island where one is needed.
+pub(crate) fn put_loading_call(
+    sink: &mut MachBuffer<LabelUse>,
+    flags: IsaFlags,
+    frame: &FrameLayout,
+    info: &CallInfo<ExternalName>,
+) -> Result<(), OutOfMemory>
+    requires frame { sp_to_args_end frame.now < 2 ^ 31 }
+    requires fine { IsFineTry info.now.try_call_info }
+    requires results { AreFineResults info.now.defs }
+    requires calm { is_needed (length (bytes_of sink.old)) line_space (pending sink.old) ≡ false }
+    requires few { allocated_of sink.old < inner_count }
+    requires room { length (bytes_of sink.old) + 32 * count_by is_stacked info.now.defs + reserve_of (shape_of sink.old) + 8 * length (pending sink.old) + 160 < code_limit }
+    requires sound { IsSoundBuffer sink.old }
+    ensures parts { OnOk result (PutsParts flags (loading_parts flags (call_slots flags frame.now info.now) (result_loads info.now.defs) info.now.try_call_info) sink.old sink.new) }
+    ensures refused { OnErr result (spoiled_of sink.new ≡ true) }
+{
+    begin_call(sink, flags, frame, info)?;
+    put_results(sink, flags, info.defs.as_slice(), &info.try_call_info)
+}
+
+/// One of the function at the address in a register.
+pub(crate) fn put_loading_call_ind(
+    sink: &mut MachBuffer<LabelUse>,
+    flags: IsaFlags,
+    frame: &FrameLayout,
+    info: &CallInfo<Reg>,
+) -> Result<(), OutOfMemory>
+    requires frame { sp_to_args_end frame.now < 2 ^ 31 }
+    requires fine { IsFineTry info.now.try_call_info }
+    requires dest { IsIntRegister info.now.dest }
+    requires results { AreFineResults info.now.defs }
+    requires calm { is_needed (length (bytes_of sink.old)) line_space (pending sink.old) ≡ false }
+    requires few { allocated_of sink.old < inner_count }
+    requires room { length (bytes_of sink.old) + 32 * count_by is_stacked info.now.defs + reserve_of (shape_of sink.old) + 8 * length (pending sink.old) + 160 < code_limit }
+    requires sound { IsSoundBuffer sink.old }
+    ensures parts { OnOk result (PutsParts flags (loading_parts flags (call_ind_slots flags frame.now info.now) (result_loads info.now.defs) info.now.try_call_info) sink.old sink.new) }
+    ensures refused { OnErr result (spoiled_of sink.new ≡ true) }
+{
+    begin_call_ind(sink, flags, frame, info)?;
+    put_results(sink, flags, info.defs.as_slice(), &info.try_call_info)
+}
+
+/// The two words of a call of a symbol, which comes back to the byte after them, and the fall of the stack pointer there.
+fn begin_call(
+    sink: &mut MachBuffer<LabelUse>,
+    flags: IsaFlags,
+    frame: &FrameLayout,
+    info: &CallInfo<ExternalName>,
+) -> Result<(), OutOfMemory>
+    requires frame { sp_to_args_end frame.now < 2 ^ 31 }
+    requires room { length (bytes_of sink.old) + 84 < code_limit }
+    requires sound { IsSoundBuffer sink.old }
+    ensures slots { OnOk result (PutsAlone flags (call_slots flags frame.now info.now []) sink.old sink.new) }
+    ensures refused { OnErr result (spoiled_of sink.new ≡ true) }
+{
+    let start = sink.cur_offset();
+    put_call_to(sink, writable_link_reg(), writable_link_reg(), info.dest)?;
+    put_return(sink, frame, &info.stack_map, &info.try_call_info)?;
+    put_stack_step(sink, flags, fallen(info.callee_pop_size))?;
+    let end = sink.cur_offset();
+    put_patchable(sink, info.patchable, end - start)?;
+    Ok(())
+}
+
+/// The word of a call of the function at the address in a register, and the fall of the stack pointer after it.
+fn begin_call_ind(
+    sink: &mut MachBuffer<LabelUse>,
+    flags: IsaFlags,
+    frame: &FrameLayout,
+    info: &CallInfo<Reg>,
+) -> Result<(), OutOfMemory>
+    requires frame { sp_to_args_end frame.now < 2 ^ 31 }
+    requires dest { IsIntRegister info.now.dest }
+    requires room { length (bytes_of sink.old) + 84 < code_limit }
+    requires sound { IsSoundBuffer sink.old }
+    ensures slots { OnOk result (PutsAlone flags (call_ind_slots flags frame.now info.now []) sink.old sink.new) }
     ensures refused { OnErr result (spoiled_of sink.new ≡ true) }
 {
     put_jalr(sink, flags, writable_link_reg(), info.dest, Imm12::ZERO)?;
     put_return(sink, frame, &info.stack_map, &info.try_call_info)?;
     put_stack_step(sink, flags, fallen(info.callee_pop_size))?;
-    put_continuation(sink, flags, &info.try_call_info)?;
     Ok(())
 }
 
@@ -166,7 +249,7 @@ fn put_patch(sink: &mut MachBuffer<LabelUse>, size: u32) -> Result<(), OutOfMemo
 }
 
 /// A jump to where a call goes on, where it ends its block.
-fn put_continuation(
+pub(crate) fn put_continuation(
     sink: &mut MachBuffer<LabelUse>,
     flags: IsaFlags,
     try_call_info: &Option<TryCallInfo>,

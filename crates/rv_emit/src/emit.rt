@@ -10,6 +10,7 @@ ghost use Rattle.rv_emit.specs.declared.state.EmitVState.{EmitVState as Setting}
 ghost use Rattle.rv_inst.specs.Context.{context_by};
 ghost use Rattle.rv_inst.specs.Sizes.{island_space, table_space};
 
+use crate::calls::{put_loading_call, put_loading_call_ind};
 use crate::island::emit_island_if_needed;
 use crate::sequence::put_sequence;
 use crate::setting::forgets_setting;
@@ -117,8 +118,8 @@ fn put(
     }
 }
 
-/// Puts an island where one is needed before so many bytes, and then the sequence of a branch by a table or of a tail call, whose
-/// island is put before x31 is used. Returns whether nothing is known of the vector unit's setting after it.
+/// Puts an island where one is needed before so many bytes, and the sequence of a branch by a table, of a tail call, or of a call
+/// that loads results, whose island is put before x31 is used. Returns whether nothing is known of the vector unit's setting after it.
 fn put_asking(
     sink: &mut MachBuffer<LabelUse>,
     alloc: Global,
@@ -145,6 +146,14 @@ fn put_asking(
             let space = table_space(targets.len());
             emit_island_if_needed(sink, space)?;
             put_table(sink, flags, *index, *tmp1, *tmp2, targets.as_slice())?;
+            Ok(true)
+        }
+        Inst::Call { info } => {
+            put_loading_call(sink, flags, frame, info.as_ref())?;
+            Ok(true)
+        }
+        Inst::CallInd { info } => {
+            put_loading_call_ind(sink, flags, frame, info.as_ref())?;
             Ok(true)
         }
         Inst::ReturnCall { info } => {

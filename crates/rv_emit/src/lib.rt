@@ -15,6 +15,7 @@ mod memory;
 mod numbers;
 mod popcnt;
 mod probes;
+mod results;
 mod reverse;
 mod sequence;
 mod setting;

@@ -209,7 +209,7 @@ fn put_save(
     let rd = Writable {
         reg: Reg::Real(save.reg),
     };
-    put_restore(sink, flags, rd, saved_offset(below, index))
+    put_stack_load(sink, flags, rd, LoadOP::Ld, saved_offset(below, index))
 }
 
 /// Where a frame has a register that it saves, by its index, in bytes above the stack pointer.
@@ -252,30 +252,24 @@ fn put_above(
     ensures slots { OnOk result (PutsAlone flags (load_slots flags (number_of rd.reg) Ld None (Based 2 (pos above))) sink.old sink.new) }
     ensures refused { OnErr result (spoiled_of sink.new ≡ true) }
 {
-    put_restore(sink, flags, rd, i64::from(above))
+    put_stack_load(sink, flags, rd, LoadOP::Ld, i64::from(above))
 }
 
-/// Loads eight bytes from so far above the stack pointer.
-fn put_restore(
+/// Loads from so far above the stack pointer.
+pub(crate) fn put_stack_load(
     sink: &mut MachBuffer<LabelUse>,
     flags: IsaFlags,
     rd: WritableReg,
+    op: LoadOP,
     offset: i64,
 ) -> Result<(), OutOfMemory>
     requires rd { IsIntRegister rd.reg }
     requires room { length (bytes_of sink.old) + 28 < code_limit }
     requires sound { IsSoundBuffer sink.old }
-    ensures slots { OnOk result (PutsAlone flags (load_slots flags (number_of rd.reg) Ld None (Based 2 offset)) sink.old sink.new) }
+    ensures slots { OnOk result (PutsAlone flags (load_slots flags (number_of rd.reg) op None (Based 2 offset)) sink.old sink.new) }
     ensures refused { OnErr result (spoiled_of sink.new ≡ true) }
 {
-    put_load(
-        sink,
-        flags,
-        rd,
-        LoadOP::Ld,
-        None,
-        Place::Based(stack_reg(), offset),
-    )
+    put_load(sink, flags, rd, op, None, Place::Based(stack_reg(), offset))
 }
 
 /// The stack pointer rises by so many bytes.

@@ -1,15 +1,17 @@
--- Calls that return: where, and how far the stack pointer falls then.
-use Rattle.std.specs.Prelude.{ℕ, Option, Some, None, pos}
+-- Calls that return: where, how far the stack pointer falls then, and what is loaded from above it.
+use Rattle.std.specs.Prelude.{ℕ, List, Option, Some, None, pos}
 use Rattle.rv_base.specs.declared.flags.IsaFlags.{IsaFlags}
 use Rattle.rv_base.specs.Regs.{number_of}
 use Rattle.rv_inst.specs.Forms.{short_jalr}
+use Rattle.rv_inst.specs.Returns.{StackLoad, result_loads, loads_unless}
 use Rattle.rv_inst.specs.declared.inst.Inst.{Inst}
 use Rattle.rv_inst.specs.declared.inst.Inst.TheVariants.{Nop0, Nop4, EBreak, SequencePoint, Args, Rets, DummyUse, EmitIsland, RawData, Lui, Auipc, LoadInlineConst, AluRRR, AluRRImm12, Mov, MovFromPReg, Extend, Select, Load, Store, LoadAddr, LabelAddress, Ret, TrapIf, Jal, CondBr, BrTable, Udf, Jalr, Popcnt, Cltz, Brev8, StackProbeLoop, LoadExtNameGot, LoadExtNameNear, LoadExtNameFar, Call, CallInd, ReturnCall, ReturnCallInd, Unwind}
 
--- so many bytes after the start of its line a call returns, and then the stack pointer falls by so many
+-- so many bytes after the start of its line a call returns; then the stack pointer falls by so many, and results are loaded
 pub record Return : Type 0 where
   pub offset : ℕ
   pub popped : ℕ
+  pub loads : List StackLoad
 
 -- of an auipc and a jalr, or of a jalr alone
 abbrev pub return_of : IsaFlags → Inst → Option Return
@@ -50,7 +52,7 @@ return_of flags (StackProbeLoop guard_size probe_count tmp) = None
 return_of flags (LoadExtNameGot rd name) = None
 return_of flags (LoadExtNameNear rd name offset) = None
 return_of flags (LoadExtNameFar rd name offset) = None
-return_of flags (Call info) = Some (record { offset = 8; popped = info.callee_pop_size })
-return_of flags (CallInd info) = Some (record { offset = (short_jalr flags 1 (number_of info.dest) (pos 0)).len; popped = info.callee_pop_size })
+return_of flags (Call info) = Some (record { offset = 8; popped = info.callee_pop_size; loads = loads_unless info.patchable info.defs })
+return_of flags (CallInd info) = Some (record { offset = (short_jalr flags 1 (number_of info.dest) (pos 0)).len; popped = info.callee_pop_size; loads = result_loads info.defs })
 return_of flags (ReturnCall info) = None
 return_of flags (ReturnCallInd info) = None

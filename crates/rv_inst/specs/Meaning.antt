@@ -268,13 +268,17 @@ abbrev pub temporaries_of : Line → List ℕ
 temporaries_of (Put inst) = inst_temporaries inst
 temporaries_of (Bind label) = []
 
--- what a call makes of the values that its callee returns with: the stack pointer falls
-abbrev pub resumed : ℕ → Values → Values
-resumed popped v = set_reg v 2 (wrap (reg v 2 + (2 ^ 64 - popped)))
+-- the stack pointer falls
+abbrev pub fallen : ℕ → Values → Values
+fallen popped v = set_reg v 2 (wrap (reg v 2 + (2 ^ 64 - popped)))
+
+-- what a call makes of the values that its callee returns with: the stack pointer falls, and results are loaded from above it
+abbrev pub resumed : Return → Values → Values
+resumed r v = stack_loaded (reg (fallen r.popped v) 2) r.loads (fallen r.popped v)
 
 abbrev pub resumed_by : Option Return → Values → Values
 resumed_by None v = v
-resumed_by (Some r) v = resumed r.popped v
+resumed_by (Some r) v = resumed r v
 
 -- what a line makes of the values with which it is returned to
 abbrev pub return_effect : Environment → Line → Values → Values

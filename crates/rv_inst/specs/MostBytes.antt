@@ -1,8 +1,8 @@
 -- How many bytes an instruction puts at most, an island that it asks for apart.
-use Rattle.std.specs.Prelude.{ℕ, ◌+◌, ◌*◌, length}
+use Rattle.std.specs.Prelude.{ℕ, ◌+◌, ◌*◌, List, length}
 use Rattle.rv_base.specs.declared.frame.FrameLayout.{FrameLayout}
 use Rattle.rv_inst.specs.Context.{Context}
-use Rattle.rv_inst.specs.Returns.{restores}
+use Rattle.rv_inst.specs.Returns.{StackLoad, restores, result_loads, loads_unless}
 use Rattle.rv_inst.specs.Sizes.{table_space}
 use Rattle.rv_inst.specs.declared.inst.Inst.{Inst}
 use Rattle.rv_inst.specs.declared.inst.Inst.TheVariants.{Nop0, Nop4, EBreak, SequencePoint, Args, Rets, DummyUse, Unwind, EmitIsland, RawData, Lui, Auipc, LoadInlineConst, AluRRR, AluRRImm12, Mov, MovFromPReg, Extend, Select, Load, Store, LoadAddr, LabelAddress, Ret, TrapIf, Jal, CondBr, BrTable, Udf, Jalr, Popcnt, Cltz, Brev8, StackProbeLoop, LoadExtNameGot, LoadExtNameNear, LoadExtNameFar, Call, CallInd, ReturnCall, ReturnCallInd}
@@ -27,13 +27,17 @@ step_limit = number_limit + 4
 abbrev pub return_limit : FrameLayout → ℕ
 return_limit frame = access_limit * length (restores frame) + step_limit
 
+-- a call: its own words, a step, a load for each result, and a jump where it goes on elsewhere
+abbrev pub call_limit : ℕ → List StackLoad → ℕ
+call_limit own loads = own + step_limit + access_limit * length loads + 4
+
 -- No instruction that asks for no island has more bytes. Before each line there is room for so many, and for a jump over an island;
 -- a line that might have more asks for an island itself.
 abbrev pub sequence_limit : ℕ
 sequence_limit = 84
 
 -- Loops count each of their words as four bytes: eleven where bits are counted, nineteen where they are reversed, and five and two
--- numbers where the stack is probed. A call is two words, or one by a register, a step, and a jump where it goes on elsewhere.
+-- numbers where the stack is probed. A call is two words, or one by a register.
 abbrev pub most_bytes : Context → Inst → ℕ
 most_bytes context Nop0 = 0
 most_bytes context Nop4 = 4
@@ -72,7 +76,7 @@ most_bytes context (StackProbeLoop guard_size probe_count tmp) = number_limit + 
 most_bytes context (LoadExtNameGot rd name) = 8
 most_bytes context (LoadExtNameNear rd name offset) = 8
 most_bytes context (LoadExtNameFar rd name offset) = number_limit
-most_bytes context (Call info) = 8 + step_limit + 4
-most_bytes context (CallInd info) = 4 + step_limit + 4
+most_bytes context (Call info) = call_limit 8 (loads_unless info.patchable info.defs)
+most_bytes context (CallInd info) = call_limit 4 (result_loads info.defs)
 most_bytes context (ReturnCall info) = return_limit context.frame + 8
 most_bytes context (ReturnCallInd info) = return_limit context.frame + 4

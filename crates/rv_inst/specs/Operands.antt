@@ -47,6 +47,10 @@ abbrev pub location_registers : RetLocation → List Reg
 location_registers (InReg r) = r ∷ []
 location_registers (OnStack offset type) = []
 
+-- the registers of a result
+abbrev pub result_registers : CallRetPair → List Reg
+result_registers d = d.vreg.reg ∷ location_registers d.location
+
 abbrev pub def_registers : List CallRetPair → List Reg
 def_registers [] = []
 def_registers (d ∷ defs) = d.vreg.reg ∷ location_registers d.location ++ def_registers defs
@@ -301,6 +305,50 @@ try_call_of (Call info) = info.try_call_info
 try_call_of (CallInd info) = info.try_call_info
 try_call_of (ReturnCall info) = None
 try_call_of (ReturnCallInd info) = None
+
+-- the results of a call
+abbrev pub results_of : Inst → List CallRetPair
+results_of Nop0 = []
+results_of Nop4 = []
+results_of EBreak = []
+results_of SequencePoint = []
+results_of (Args args) = []
+results_of (Rets rets) = []
+results_of (DummyUse reg) = []
+results_of (Unwind inst) = []
+results_of (EmitIsland needed_space) = []
+results_of (RawData bytes) = []
+results_of (Lui rd imm) = []
+results_of (Auipc rd imm) = []
+results_of (LoadInlineConst rd type imm) = []
+results_of (AluRRR op rd rs1 rs2) = []
+results_of (AluRRImm12 op rd rs imm) = []
+results_of (Mov rd rm type) = []
+results_of (MovFromPReg rd rm) = []
+results_of (Extend rd rn signed from_bits to_bits) = []
+results_of (Select info) = []
+results_of (Load rd op flags from) = []
+results_of (Store to op flags src) = []
+results_of (LoadAddr rd mem) = []
+results_of (LabelAddress dst label) = []
+results_of Ret = []
+results_of (TrapIf cmp code) = []
+results_of (Jal label) = []
+results_of (CondBr taken not_taken kind) = []
+results_of (BrTable index tmp1 tmp2 targets) = []
+results_of (Udf code) = []
+results_of (Jalr rd base offset) = []
+results_of (Popcnt sum tmp step rs type) = []
+results_of (Cltz sum tmp step rs leading type) = []
+results_of (Brev8 rs type step tmp tmp2 rd) = []
+results_of (StackProbeLoop guard_size probe_count tmp) = []
+results_of (LoadExtNameGot rd name) = []
+results_of (LoadExtNameNear rd name offset) = []
+results_of (LoadExtNameFar rd name offset) = []
+results_of (Call info) = info.defs
+results_of (CallInd info) = info.defs
+results_of (ReturnCall info) = []
+results_of (ReturnCallInd info) = []
 
 abbrev pub handler_label : TryCallHandler → MachLabel
 handler_label (Tag tag label) = label

@@ -1,9 +1,15 @@
--- What is loaded from the stack, and how far the stack pointer rises, before another function takes a frame's place.
-use Rattle.std.specs.Prelude.{ℕ, ◌+◌, ◌-◌, ◌==◌, if◌then◌else◌, List, [], ◌∷◌, ◌++◌, ℤ, pos, ◌-ℤ◌}
+-- What is loaded from the stack: before another function takes a frame's place, where the stack pointer rises too, and after a call.
+use Rattle.std.specs.Prelude.{ℕ, ◌+◌, ◌-◌, ◌==◌, Bool, true, false, if◌then◌else◌, List, [], ◌∷◌, ◌++◌, Option, Some, None, ℤ, pos, ◌-ℤ◌}
+use Rattle.rv_base.specs.declared.call.CallRetPair.{CallRetPair}
+use Rattle.rv_base.specs.declared.call.RetLocation.{RetLocation}
+use Rattle.rv_base.specs.declared.call.RetLocation.TheVariants.{Reg as InReg, Stack as OnStack}
 use Rattle.rv_base.specs.declared.frame.FrameLayout.{FrameLayout}
 use Rattle.rv_base.specs.declared.regs.PReg.{PReg}
+use Rattle.rv_base.specs.declared.regs.Reg.{Reg}
 use Rattle.rv_base.specs.declared.regs.Writable.{Writable}
 use Rattle.rv_base.specs.Frame.{sp_to_fp_of}
+use Rattle.rv_base.specs.Regs.{number_of}
+use Rattle.rv_ops.specs.Memory.{load_of}
 use Rattle.rv_ops.specs.declared.memory.LoadOP.{LoadOP}
 use Rattle.rv_ops.specs.declared.memory.LoadOP.TheVariants.{Ld}
 
@@ -12,6 +18,8 @@ pub record StackLoad : Type 0 where
   pub register : ℕ
   pub op : LoadOP
   pub offset : ℤ
+
+-- ---- before a tail call
 
 -- the registers that a frame saves, eight bytes each, from an offset downwards
 abbrev pub saves_from : ℤ → List (Writable PReg) → List StackLoad
@@ -32,3 +40,25 @@ restores frame = saves_from (pos (sp_to_fp_of frame) -ℤ pos 8) frame.clobbered
 -- how far the stack pointer rises to the arguments of the next function, which take so many bytes
 abbrev pub frame_above : FrameLayout → ℕ → ℕ
 frame_above frame arguments = sp_to_fp_of frame + frame.setup_area_size + (frame.tail_args_size - arguments)
+
+-- ---- after a call
+
+-- a result on the stack, by the load of its type; none where the type has none, which a rule refuses
+abbrev pub typed_loads : ℕ → ℕ → Option LoadOP → List StackLoad
+typed_loads register offset None = []
+typed_loads register offset (Some op) = record { register = register; op = op; offset = pos offset } ∷ []
+
+-- a result in a register isn't loaded
+abbrev pub location_loads : Reg → RetLocation → List StackLoad
+location_loads r (InReg s) = []
+location_loads r (OnStack offset type) = typed_loads (number_of r) offset (load_of type)
+
+-- the results that a callee leaves on the stack, in order
+abbrev pub result_loads : List CallRetPair → List StackLoad
+result_loads [] = []
+result_loads (d ∷ defs) = location_loads d.vreg.reg d.location ++ result_loads defs
+
+-- those of a call of a symbol: one that may be patched loads none
+abbrev pub loads_unless : Bool → List CallRetPair → List StackLoad
+loads_unless true defs = []
+loads_unless false defs = result_loads defs

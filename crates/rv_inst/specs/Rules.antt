@@ -37,7 +37,7 @@ use Rattle.rv_inst.specs.declared.error.Rule.{Rule}
 use Rattle.rv_inst.specs.declared.error.Rule.TheVariants.{Virtual, Class, Reserved, Zero, Clash, BadType, Range, Constant as ConstantRule, EmptyTable, NoTarget, Label, TailArgs, DataSize}
 use Rattle.rv_inst.specs.Addresses.{constant_in, is_distant}
 use Rattle.rv_inst.specs.Context.{Context}
-use Rattle.rv_inst.specs.Operands.{all_of, written_in, inst_registers, inst_labels, tail_call_of}
+use Rattle.rv_inst.specs.Operands.{all_of, written_in, result_registers, inst_registers, inst_labels, tail_call_of}
 use Rattle.rv_inst.specs.declared.tail_calls.TailCall.{TailCall}
 
 -- ---- registers
@@ -119,10 +119,27 @@ is_stack (AVirtual class index) = false
 abbrev pub is_stack_or_frame : PReg → Bool
 is_stack_or_frame p = is_int_class p.class && (p.number == 2 || p.number == 8)
 
--- whether a register is of another class than that in which a callee leaves a result
+-- the class of a type's registers; integers and floating-point numbers of 128 bits have none
+abbrev pub class_for : IrType → Option RegClass
+class_for I8 = Some Int
+class_for I16 = Some Int
+class_for I32 = Some Int
+class_for I64 = Some Int
+class_for I128 = None
+class_for F16 = Some Float
+class_for F32 = Some Float
+class_for F64 = Some Float
+class_for F128 = None
+class_for (VectorOf v) = Some Vector
+
+abbrev pub is_outside : Option RegClass → RegClass → Bool
+is_outside None class = false
+is_outside (Some asked) class = not (same_class class asked)
+
+-- whether a register is of another class than that in which a callee leaves a result, or than that of the type of one on the stack
 abbrev pub location_differs : Reg → RetLocation → Bool
 location_differs r (InReg s) = differ_in_class r s
-location_differs r (OnStack offset type) = false
+location_differs r (OnStack offset type) = is_outside (class_for type) (class_of r)
 
 -- whether a result is left on the stack
 abbrev pub is_on_stack : RetLocation → Bool
@@ -131,6 +148,28 @@ is_on_stack (OnStack offset type) = true
 
 abbrev pub is_stacked : CallRetPair → Bool
 is_stacked d = is_on_stack d.location
+
+-- whether a result that is on the stack is loaded into sp, or into a register of another result
+abbrev pub is_into_stack : CallRetPair → Bool
+is_into_stack d = is_stacked d && is_stack d.vreg.reg
+
+abbrev pub is_into_result : CallRetPair → CallRetPair → Bool
+is_into_result d other = is_stacked d && is_one_of d.vreg.reg (result_registers other)
+
+abbrev pub either_into : CallRetPair → CallRetPair → Bool
+either_into d other = is_into_result d other || is_into_result other d
+
+abbrev pub results_clash : List CallRetPair → Bool
+results_clash [] = false
+results_clash (d ∷ defs) = is_into_stack d || (list_any (either_into d) defs || results_clash defs)
+
+-- whether a result is further above the stack pointer than 2^30 bytes
+abbrev pub is_high_at : RetLocation → Bool
+is_high_at (InReg s) = false
+is_high_at (OnStack offset type) = nat_lt (2 ^ 30) offset
+
+abbrev pub is_high : CallRetPair → Bool
+is_high d = is_high_at d.location
 
 -- whether the two registers of an argument or of a result are of different classes
 abbrev pub call_differs : List CallArgPair → List CallRetPair → Bool
@@ -154,6 +193,18 @@ is_int_type F32 = false
 is_int_type F64 = false
 is_int_type F128 = false
 is_int_type (VectorOf v) = false
+
+-- whether a result is on the stack, and of a type that is loaded from there
+abbrev pub is_loaded_from : RetLocation → Bool
+is_loaded_from (InReg s) = false
+is_loaded_from (OnStack offset type) = is_int_type type
+
+abbrev pub is_loaded : CallRetPair → Bool
+is_loaded d = is_loaded_from d.location
+
+-- whether it is on the stack, and of another type
+abbrev pub is_unloadable : CallRetPair → Bool
+is_unloadable d = is_stacked d && not (is_loaded d)
 
 -- of 32 or 64 bits
 abbrev pub is_word_type : IrType → Bool
@@ -209,8 +260,8 @@ count_faults sum tmp step rs type = record (has_other_class (list_any is_other_c
   type = not (is_int_type type);
 }
 
--- A register's place asks the class Int, but the two of a pair or of a move have one class. A move of an integer register
--- has an integer type of at most 64 bits; of other registers none is built. Data has four or eight bytes.
+-- A register's place asks the class Int, but the two of a pair or of a move have one class, and a result on the stack that of its
+-- type. A move of an integer register, and a result on the stack, have an integer type of at most 64 bits; of others none is built. Data has four or eight bytes.
 abbrev pub faults_of : Inst → Faults
 faults_of Nop0 = has_other_class false
 faults_of Nop4 = has_other_class false
@@ -257,8 +308,8 @@ faults_of (StackProbeLoop guard_size probe_count tmp) = record (has_other_class 
 faults_of (LoadExtNameGot rd name) = record (has_other_class (list_any is_other_class (rd.reg ∷ []))) { zeroed = list_any is_zero (rd.reg ∷ []) }
 faults_of (LoadExtNameNear rd name offset) = record (has_other_class (list_any is_other_class (rd.reg ∷ []))) { zeroed = list_any is_zero (rd.reg ∷ []) }
 faults_of (LoadExtNameFar rd name offset) = record (has_other_class (list_any is_other_class (rd.reg ∷ []))) { zeroed = list_any is_zero (rd.reg ∷ []) }
-faults_of (Call info) = record (has_other_class (call_differs info.uses info.defs)) { type = list_any is_stacked info.defs; range = nat_le (2 ^ 31) info.callee_pop_size }
-faults_of (CallInd info) = record (has_other_class (is_other_class info.dest || call_differs info.uses info.defs)) { type = list_any is_stacked info.defs; range = nat_le (2 ^ 31) info.callee_pop_size }
+faults_of (Call info) = record (has_other_class (call_differs info.uses info.defs)) { clashing = results_clash info.defs; type = list_any is_unloadable info.defs; range = nat_le (2 ^ 31) info.callee_pop_size || list_any is_high info.defs }
+faults_of (CallInd info) = record (has_other_class (is_other_class info.dest || call_differs info.uses info.defs)) { clashing = results_clash info.defs; type = list_any is_unloadable info.defs; range = nat_le (2 ^ 31) info.callee_pop_size || list_any is_high info.defs }
 faults_of (ReturnCall info) = has_other_class (list_any (λ (p : CallArgPair). differ_in_class p.vreg p.preg) info.uses)
 faults_of (ReturnCallInd info) = has_other_class (not (is_fifth info.dest) || list_any (λ (p : CallArgPair). differ_in_class p.vreg p.preg) info.uses)
 

@@ -1,5 +1,5 @@
 -- How many bytes an instruction puts, and how many it counts for.
-use Rattle.std.specs.Prelude.{ℕ, ◌+◌, ◌-◌, ◌/◌, length, nat_eq, if◌then◌else◌, Option, Some, None, pos, negsuc, ◌*◌, ◌==◌, Bool, true, false, not, ◌&&◌, List, [], ◌∷◌, map, ℤ, ◌-ℤ◌}
+use Rattle.std.specs.Prelude.{ℕ, ◌+◌, ◌-◌, ◌/◌, length, nat_eq, if◌then◌else◌, Option, Some, None, pos, negsuc, ◌*◌, ◌==◌, Bool, true, false, not, ◌&&◌, List, [], ◌∷◌, map, count_by, ℤ, ◌-ℤ◌}
 use Rattle.std.specs.Int.{cast_signed, w64}
 use Rattle.rv_base.specs.IrType.{bits_of}
 use Rattle.rv_base.specs.Regs.{number_of}
@@ -18,9 +18,10 @@ use Rattle.rv_machine.specs.Arithmetic.{low_word}
 use Rattle.rv_inst.specs.Addresses.{Based, location_of, is_near, is_splittable, inline_size, far_size, address_size, load_size_at, store_size_at}
 use Rattle.rv_inst.specs.Forms.{short_rrr, short_rri, short_lui, short_jalr, short_ebreak, short_store, jump_size}
 use Rattle.rv_inst.specs.Immediates.{upper_of, lower_of}
-use Rattle.rv_inst.specs.Operands.{all_of, written_in}
+use Rattle.rv_inst.specs.Operands.{all_of, written_in, results_of}
 use Rattle.rv_inst.specs.Context.{Context}
-use Rattle.rv_inst.specs.Returns.{StackLoad, restores, frame_above}
+use Rattle.rv_inst.specs.Returns.{StackLoad, restores, frame_above, result_loads, loads_unless}
+use Rattle.rv_inst.specs.Rules.{is_stacked}
 use Rattle.rv_inst.specs.declared.inst.Line.{Line}
 use Rattle.rv_inst.specs.declared.inst.Line.TheVariants.{Inst as Put, Bind}
 use Rattle.rv_inst.specs.declared.inst.Inst.{Inst}
@@ -28,12 +29,14 @@ use Rattle.rv_inst.specs.declared.inst.Inst.TheVariants.{Nop0, Nop4, EBreak, Seq
 use Rattle.rv_inst.specs.declared.inst.CondBrTarget.{CondBrTarget}
 use Rattle.rv_inst.specs.declared.inst.CondBrTarget.TheVariants.{Label, Fallthrough}
 
--- what an instruction puts: so many bytes of its own; an island where one is needed before so many bytes; or an island where one is
--- needed before so many bytes, and then so many of its own, which count for so many beside 128
+-- what an instruction puts: so many bytes of its own; an island where one is needed before so many bytes; an island where one is
+-- needed before so many bytes, and then so many of its own, which count for so many beside 128; or so many of its own, an island
+-- where one is needed before so many bytes, and then so many of its own again
 pub data Extent : Type 0 where
   Words : ℕ → Extent
   Island : ℕ → Extent
   After : ℕ → ℕ → ℕ → Extent
+  Around : ℕ → ℕ → ℕ → Extent
 
 -- addi of 0; a move to the same register has no instruction
 abbrev pub move_size : IsaFlags → ℕ → ℕ → ℕ
@@ -187,6 +190,15 @@ abbrev pub try_size : IsaFlags → Option TryCallInfo → ℕ
 try_size flags None = 0
 try_size flags (Some t) = jump_size flags
 
+-- Results on the stack are loaded, and then a jump goes on; a load has at most 28 bytes, and the jump four.
+abbrev pub results_space : List StackLoad → ℕ
+results_space loads = 32 * length loads
+
+-- where a call loads results, an island is asked for before the loads
+abbrev pub call_extent : IsaFlags → ℕ → ℕ → List StackLoad → Option TryCallInfo → Extent
+call_extent flags jump popped [] t = Words (call_size flags jump popped + try_size flags t)
+call_extent flags jump popped (l ∷ loads) t = Around (call_size flags jump popped) (results_space (l ∷ loads)) (stack_loads_size flags (l ∷ loads) + try_size flags t)
+
 -- an island is asked for before a branch by a table: twelve words of four bytes, and two for each label beside the default
 abbrev pub table_space : ℕ → ℕ
 table_space labels = 4 * (12 + 2 * (labels - 1))
@@ -231,8 +243,8 @@ extent_of context (StackProbeLoop guard_size probe_count tmp) = Words (probe_siz
 extent_of context (LoadExtNameGot rd name) = Words 8
 extent_of context (LoadExtNameNear rd name offset) = Words 8
 extent_of context (LoadExtNameFar rd name offset) = Words (inline_size context.flags 8)
-extent_of context (Call info) = Words (call_size context.flags 8 info.callee_pop_size + try_size context.flags info.try_call_info)
-extent_of context (CallInd info) = Words (call_size context.flags (short_jalr context.flags 1 (number_of info.dest) (pos 0)).len info.callee_pop_size + try_size context.flags info.try_call_info)
+extent_of context (Call info) = call_extent context.flags 8 info.callee_pop_size (loads_unless info.patchable info.defs) info.try_call_info
+extent_of context (CallInd info) = call_extent context.flags (short_jalr context.flags 1 (number_of info.dest) (pos 0)).len info.callee_pop_size (result_loads info.defs) info.try_call_info
 extent_of context (ReturnCall info) = tail_extent context info.new_stack_arg_size 8 8
 extent_of context (ReturnCallInd info) = tail_extent context info.new_stack_arg_size 4 (short_jalr context.flags 0 5 (pos 0)).len
 
@@ -240,32 +252,35 @@ abbrev pub space_in : Extent → Option ℕ
 space_in (Words size) = None
 space_in (Island space) = Some space
 space_in (After space size more) = Some space
+space_in (Around before space after) = Some space
 
 -- how many bytes of its own it puts
 abbrev pub words_in : Extent → ℕ
 words_in (Words size) = size
 words_in (Island space) = 0
 words_in (After space size more) = size
+words_in (Around before space after) = before + after
 
 -- what it counts for beside 128 bytes
 abbrev pub extra_in : Extent → ℕ
 extra_in (Words size) = 0
 extra_in (Island space) = space
 extra_in (After space size more) = more
+extra_in (Around before space after) = 0
 
 -- how many bytes an instruction asks for an island before, where it does
 abbrev pub island_space : Context → Inst → Option ℕ
 island_space context inst = space_in (extent_of context inst)
 
--- Before each line an island is put where one is needed before so many bytes: but for a branch by a table and a tail call, no line's own code is
--- longer than 84, and a jump over an island takes four.
+-- Before each line an island is put where one is needed before so many bytes: but for a line that asks for an island itself, no
+-- line's own code is longer than 84, and a jump over an island takes four.
 abbrev pub line_space : ℕ
 line_space = 88
 
--- what an instruction counts for, in bytes: 128; and those before which an island is asked for, 8 for each label of a table, or 32
--- for each register that a tail call restores
+-- what an instruction counts for, in bytes: 128; an island before so many bytes, those; a branch by a table, 8 for each label; a tail
+-- call, 32 for each register that it restores; and a call, 32 for each result on the stack, loaded or not
 abbrev pub inst_sum : Context → Inst → ℕ
-inst_sum context inst = 128 + extra_in (extent_of context inst)
+inst_sum context inst = 128 + extra_in (extent_of context inst) + 32 * count_by is_stacked (results_of inst)
 
 -- what a line counts for; a bind like an instruction
 abbrev pub line_sum : Context → Line → ℕ

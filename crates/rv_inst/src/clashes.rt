@@ -6,6 +6,7 @@ ghost use Rattle.rv_inst.specs.Operands.{all_of};
 ghost use Rattle.rv_inst.specs.Rules.{is_zero, same_class, same_register, is_base, is_one_of, clash, is_uneven, select_clash, is_stack, has_zero, has_clash};
 
 use crate::inst::Inst;
+use crate::results::results_clash;
 use rv_base::{Reg, RegClass, ValueRegs, WritableReg};
 use rv_ops::IntegerCompare;
 
@@ -21,7 +22,7 @@ fn is_zero(reg: Reg) -> bool
     }
 }
 
-fn same_class(first: RegClass, second: RegClass) -> bool
+pub fn same_class(first: RegClass, second: RegClass) -> bool
     ensures { result ≡ same_class first second }
 {
     match (first, second) {
@@ -32,7 +33,7 @@ fn same_class(first: RegClass, second: RegClass) -> bool
     }
 }
 
-fn same_register(first: Reg, second: Reg) -> bool
+pub fn same_register(first: Reg, second: Reg) -> bool
     ensures { result ≡ same_register first second }
 {
     match (first, second) {
@@ -53,7 +54,7 @@ fn is_base(reg: Reg, base: Option<Reg>) -> bool
     }
 }
 
-fn is_one_of(reg: Reg, others: &[Reg]) -> bool
+pub fn is_one_of(reg: Reg, others: &[Reg]) -> bool
     ensures { result ≡ is_one_of reg others.now }
 {
     others.iter().any(|other| same_register(reg, *other))
@@ -136,7 +137,7 @@ fn select_clash(
     }
 }
 
-fn is_stack(reg: Reg) -> bool
+pub fn is_stack(reg: Reg) -> bool
     ensures { result ≡ is_stack reg }
 {
     match reg {
@@ -211,7 +212,8 @@ pub fn has_zero(inst: &Inst) -> bool
     }
 }
 
-/// Returns whether a register that is written before all inputs are read is an input, or another such register.
+/// Returns whether a register that is written before all inputs are read is an input, or another such register; or a result on the
+/// stack is loaded into the stack pointer, or into a register of another result.
 pub fn has_clash(inst: &Inst) -> bool
     ensures { result ≡ has_clash inst.now }
 {
@@ -256,6 +258,8 @@ pub fn has_clash(inst: &Inst) -> bool
             probe_count: _,
             tmp,
         } => is_stack(tmp.reg),
+        Inst::Call { info } => results_clash(info.as_ref().defs.as_slice()),
+        Inst::CallInd { info } => results_clash(info.as_ref().defs.as_slice()),
         _ => false,
     }
 }

@@ -7,13 +7,14 @@ use thiserror::Error;
 pub enum Rule {
     /// No register is virtual.
     Virtual,
-    /// Each register has the class that its place asks; a `MovFromPReg` is from sp or fp, and a `ReturnCallInd` goes through t0.
+    /// Each register has the class that its place or its type asks; a `MovFromPReg` is from sp or fp, and a `ReturnCallInd` goes through t0.
     Class,
     /// No register is x30 or x31.
     Reserved,
     /// No address, no constant and no load from the code, no count or reversal of bits, nor a temporary of several steps, is in x0.
     Zero,
-    /// A register that is written before all inputs are read is no input, and no two such registers are the same.
+    /// A register that is written before all inputs are read is no input, and no two such registers are the same; and a result on the
+    /// stack is loaded into no register of another result, nor into sp.
     Clash,
     /// The type is one that the instruction takes.
     BadType,

@@ -275,13 +275,14 @@ pub enum Inst {
         offset: i64,
     },
     /// Leaves the code to the symbol, which returns, with `ra`, to the byte after the call; there the stack pointer falls by as much as
-    /// the callee took away, and control goes on after the call or, where it ends its block, at a label. 8 bytes, an `auipc` and a
-    /// `jalr`, whose immediates a linker fills, at most 24 for the stack pointer, and at most 4 for the jump to the label.
+    /// the callee took away, results on the stack are loaded, unless the call may be patched, and control goes on after the call or,
+    /// where it ends its block, at a label. 8 bytes, an `auipc` and a `jalr`, whose immediates a linker fills, at most 24 for the stack
+    /// pointer, at most 28 for each load, and at most 4 for the jump to the label. Before loads an island is put where one is needed.
     Call {
         info: Boxed<CallInfo<ExternalName>>,
     },
-    /// The same, leaving the code to the address in a register, with bit 0 clear. 4 bytes, or 2, those for the stack
-    /// pointer, and those for the jump.
+    /// The same, leaving the code to the address in a register, with bit 0 clear; results on the stack are loaded even where the call
+    /// may be patched. 4 bytes, or 2, those for the stack pointer, those for the loads, and those for the jump.
     CallInd {
         info: Boxed<CallInfo<Reg>>,
     },

@@ -16,6 +16,7 @@ mod places;
 mod plain;
 mod ranges;
 mod registers;
+mod results;
 mod sizes;
 mod tail_calls;
 mod targets;

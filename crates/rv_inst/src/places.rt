@@ -6,17 +6,18 @@ ghost use Rattle.rv_base.specs.declared.call.ArgPair.{ArgPair};
 ghost use Rattle.rv_base.specs.declared.call.RetPair.{RetPair};
 ghost use Rattle.rv_base.specs.declared.call.CallArgPair.{CallArgPair};
 ghost use Rattle.rv_base.specs.declared.call.CallRetPair.{CallRetPair};
-ghost use Rattle.rv_inst.specs.Rules.{differ_in_class, is_stack_or_frame, is_fifth, location_differs, call_differs, is_misplaced};
+ghost use Rattle.rv_inst.specs.Rules.{differ_in_class, is_stack_or_frame, is_fifth, class_for, is_outside, location_differs, call_differs, is_misplaced};
 ghost use Rattle.rv_inst.specs.declared.inst.Family.TheVariants.{Pseudo, Integer, Calls};
 ghost use Rattle.rv_inst.specs.Families.{family_of};
 
+use crate::clashes::same_class;
 use crate::inst::{Family, Inst};
 use crate::registers::{
     RegisterTest, control_has, integer_has, is_other_class, loop_has, memory_has, symbol_has,
 };
 use rv_base::{
-    ArgPair as Arg, CallArgPair as Use, CallRetPair as Def, PReg, Reg, RegClass, RetLocation,
-    RetPair as Ret,
+    ArgPair as Arg, CallArgPair as Use, CallRetPair as Def, IrType, PReg, Reg, RegClass,
+    RetLocation, RetPair as Ret,
 };
 
 /// Returns whether two registers are of different classes.
@@ -122,7 +123,28 @@ fn location_differs(reg: Reg, location: RetLocation) -> bool
 {
     match location {
         RetLocation::Reg(preg) => differ_in_class(reg, preg),
-        RetLocation::Stack { .. } => false,
+        RetLocation::Stack { offset: _, ty } => is_outside(class_for(ty), reg.class()),
+    }
+}
+
+/// The class of a type's registers, where it has one.
+fn class_for(ty: IrType) -> Option<RegClass>
+    ensures { result ≡ class_for ty }
+{
+    match ty {
+        IrType::I8 | IrType::I16 | IrType::I32 | IrType::I64 => Some(RegClass::Int),
+        IrType::F16 | IrType::F32 | IrType::F64 => Some(RegClass::Float),
+        IrType::Vector(_) => Some(RegClass::Vector),
+        IrType::I128 | IrType::F128 => None,
+    }
+}
+
+fn is_outside(asked: Option<RegClass>, class: RegClass) -> bool
+    ensures { result ≡ is_outside asked class }
+{
+    match asked {
+        Some(asked) => !same_class(class, asked),
+        None => false,
     }
 }
 

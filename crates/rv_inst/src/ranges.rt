@@ -1,14 +1,15 @@
 //! Whether types and numbers are those that an instruction takes.
 
-ghost use Rattle.std.specs.Prelude.{◌≡◌, not, ◌&&◌};
+ghost use Rattle.std.specs.Prelude.{◌≡◌, ◌^◌, not, nat_le, ◌&&◌, ◌||◌};
 ghost use Rattle.std.specs.List.{list_any};
 ghost use Rattle.rv_base.specs.Regs.{class_of};
 ghost use Rattle.rv_ops.specs.Operations.{immediate_of, shift_limit};
-ghost use Rattle.rv_inst.specs.Rules.{is_on_stack, is_stacked, is_int_class, is_int_type, is_word_type, has_bad_type, is_beyond, is_out_of_range, has_empty_table, has_bad_size};
+ghost use Rattle.rv_inst.specs.Rules.{is_high, is_int_class, is_int_type, is_word_type, has_bad_type, is_beyond, is_out_of_range, has_empty_table, has_bad_size};
 
 use crate::addresses::is_distant;
 use crate::inst::Inst;
-use rv_base::{CallRetPair as Def, IrType, Reg, RegClass, RetLocation};
+use crate::results::{any_is_high, any_is_unloadable};
+use rv_base::{CallRetPair as Def, IrType, Reg, RegClass};
 use rv_imms::Imm12;
 use rv_ops::AluOPRRI;
 
@@ -43,21 +44,6 @@ fn is_bad_move(rm: Reg, ty: IrType) -> bool
     }
 }
 
-fn is_on_stack(location: RetLocation) -> bool
-    ensures { result ≡ is_on_stack location }
-{
-    match location {
-        RetLocation::Reg(_) => false,
-        RetLocation::Stack { .. } => true,
-    }
-}
-
-fn any_is_stacked(defs: &[Def]) -> bool
-    ensures { result ≡ list_any is_stacked defs.now }
-{
-    defs.iter().any(|d| is_on_stack(d.location))
-}
-
 /// Returns whether the instruction has a type that it doesn't take.
 pub fn has_bad_type(inst: &Inst) -> bool
     ensures { result ≡ has_bad_type inst.now }
@@ -88,8 +74,8 @@ pub fn has_bad_type(inst: &Inst) -> bool
             tmp2: _,
             rd: _,
         } => !is_int_type(*ty),
-        Inst::Call { info } => any_is_stacked(info.as_ref().defs.as_slice()),
-        Inst::CallInd { info } => any_is_stacked(info.as_ref().defs.as_slice()),
+        Inst::Call { info } => any_is_unloadable(info.as_ref().defs.as_slice()),
+        Inst::CallInd { info } => any_is_unloadable(info.as_ref().defs.as_slice()),
         _ => false,
     }
 }
@@ -102,6 +88,13 @@ pub fn is_amount_beyond(op: AluOPRRI, imm12: Imm12) -> bool
         Some(limit) => imm12.value < 0 || imm12.value as u32 >= limit,
         None => false,
     }
+}
+
+/// Returns whether the stack pointer falls by 2^31 bytes or more, or a result is too far above it.
+fn is_call_beyond(popped: u32, defs: &[Def]) -> bool
+    ensures { result ≡ (nat_le (2 ^ 31) popped || list_any is_high defs.now) }
+{
+    popped >= 1 << 31 || any_is_high(defs)
 }
 
 /// Returns whether the instruction has a number outside its range.
@@ -135,8 +128,14 @@ pub fn is_out_of_range(inst: &Inst) -> bool
             src: _,
         } => is_distant(*to),
         Inst::LoadAddr { rd: _, mem } => is_distant(*mem),
-        Inst::Call { info } => info.as_ref().callee_pop_size >= 1 << 31,
-        Inst::CallInd { info } => info.as_ref().callee_pop_size >= 1 << 31,
+        Inst::Call { info } => {
+            let info = info.as_ref();
+            is_call_beyond(info.callee_pop_size, info.defs.as_slice())
+        }
+        Inst::CallInd { info } => {
+            let info = info.as_ref();
+            is_call_beyond(info.callee_pop_size, info.defs.as_slice())
+        }
         _ => false,
     }
 }

@@ -1,13 +1,15 @@
 //! How many bytes a line counts for.
 
-ghost use Rattle.std.specs.Prelude.{◌≡◌, is_some, List};
+ghost use Rattle.std.specs.Prelude.{◌≡◌, ◌+◌, ◌*◌, is_some, count_by, List};
 ghost use Rattle.rv_base.specs.declared.constant.Constant.{Constant};
 ghost use Rattle.rv_base.specs.declared.flags.IsaFlags.{IsaFlags};
 ghost use Rattle.rv_inst.specs.Context.{Context, context_by};
+ghost use Rattle.rv_inst.specs.Rules.{is_stacked};
 ghost use Rattle.rv_inst.specs.Sizes.{island_space, inst_sum, line_sum};
 
 use crate::inst::{Inst, Line};
-use rv_base::FrameLayout;
+use crate::results::{any_is_loaded, is_on_stack};
+use rv_base::{CallRetPair as Def, FrameLayout};
 
 impl Inst {
     /// Returns whether the instruction asks for an island, where one is needed before so many bytes.
@@ -22,6 +24,11 @@ impl Inst {
                 tmp2: _,
                 targets: _,
             } => true,
+            Inst::Call { info } => {
+                let info = info.as_ref();
+                !info.patchable && any_is_loaded(info.defs.as_slice())
+            }
+            Inst::CallInd { info } => any_is_loaded(info.as_ref().defs.as_slice()),
             Inst::ReturnCall { info: _ } | Inst::ReturnCallInd { info: _ } => true,
             _ => false,
         }
@@ -38,6 +45,8 @@ impl Inst {
                 tmp2: _,
                 targets,
             } => 128 + 8 * (targets.len() as u128),
+            Inst::Call { info } => results_sum(info.as_ref().defs.as_slice()),
+            Inst::CallInd { info } => results_sum(info.as_ref().defs.as_slice()),
             Inst::ReturnCall { info: _ } | Inst::ReturnCallInd { info: _ } => {
                 128 + 32 * (frame.clobbered_callee_saves.len() as u128)
             }
@@ -56,4 +65,11 @@ impl Line {
             Line::Bind(_) => 128,
         }
     }
+}
+
+/// The bytes that a call with these results counts for.
+fn results_sum(defs: &[Def]) -> u128
+    ensures { result ≡ 128 + 32 * count_by is_stacked defs.now }
+{
+    128 + 32 * (defs.iter().filter(|d| is_on_stack(d.location)).count() as u128)
 }

@@ -177,7 +177,7 @@ fn bad_lines_are_found(rt: HostRuntime) -> Result<(), ReadError> {
 }
 
 /// Lines, and the first rule that each breaks.
-const REFUSALS: [(&str, Option<Rule>); 46] = [
+const REFUSALS: [(&str, Option<Rule>); 69] = [
     ("Call userextname0 - - - 0 0 - -", None),
     (
         "Call userextname4294967295 a0:a0,fa0:fa7,v8:v9 a0:a0,fa0:fa0,v8:v8 ra,t6,fa0,v0 2147483647 1 - -",
@@ -211,17 +211,75 @@ const REFUSALS: [(&str, Option<Rule>); 46] = [
         Some(Rule::Class),
     ),
     ("Call userextname0 x31:fa0 - - 0 0 - -", Some(Rule::Class)),
+    ("Call userextname0 - a0@0:i64 - 0 0 - -", None),
     (
-        "Call userextname0 - a0@0:i64 - 0 0 - -",
-        Some(Rule::BadType),
+        "Call userextname0 - zero@0:i64,a0:a0,ra@8:i32,a1@10:i16,a2@11:i8 - 0 1 - -",
+        None,
+    ),
+    ("Call userextname0 - a0@1073741824:i8 - 0 0 - -", None),
+    ("Call userextname0 - sp:sp,a0:a0,a0:a0 - 0 0 - -", None),
+    (
+        "Call userextname0 - fa0@0:i64 - 4294967295 0 - -",
+        Some(Rule::Class),
+    ),
+    (
+        "Call userextname0 - v8@0:i8,v8@0:i8 - 0 0 - -",
+        Some(Rule::Class),
+    ),
+    ("Call userextname0 - a0@8:f64 - 0 0 - -", Some(Rule::Class)),
+    ("Call userextname0 - v8@8:f16 - 0 0 - -", Some(Rule::Class)),
+    (
+        "Call userextname0 - fa0@0:i8x16 - 0 0 - -",
+        Some(Rule::Class),
+    ),
+    ("Call userextname0 - sp@0:i64 - 0 0 - -", Some(Rule::Clash)),
+    (
+        "Call userextname0 - a0@0:i128,sp@1073741825:i64 - 2147483648 0 - -",
+        Some(Rule::Clash),
+    ),
+    (
+        "Call userextname0 - a0@0:i64,a1@8:i64,a0@16:i8 - 0 1 - -",
+        Some(Rule::Clash),
+    ),
+    (
+        "Call userextname0 - a0@0:i64,a0:a1 - 0 0 - -",
+        Some(Rule::Clash),
+    ),
+    (
+        "Call userextname0 - a1:a0,a2@0:i64,a0@8:i32 - 0 0 - -",
+        Some(Rule::Clash),
+    ),
+    (
+        "Call userextname0 - fa0@0:i128,fa0@8:f128 - 0 0 - -",
+        Some(Rule::Clash),
     ),
     (
         "Call userextname0 - a0:a0,fa0@8:f64 - 0 0 - -",
         Some(Rule::BadType),
     ),
     (
-        "Call userextname0 - fa0@0:i64 - 4294967295 0 - -",
+        "Call userextname0 - v8@16:i64x2 - 0 0 - -",
         Some(Rule::BadType),
+    ),
+    (
+        "Call userextname0 - a0@0:i128 - 2147483648 0 - -",
+        Some(Rule::BadType),
+    ),
+    (
+        "Call userextname0 - fa0@0:i128 - 0 0 - -",
+        Some(Rule::BadType),
+    ),
+    (
+        "Call userextname0 - v0@1073741825:f128 - 0 0 - -",
+        Some(Rule::BadType),
+    ),
+    (
+        "Call userextname0 - a0@1073741825:i8 - 0 1 - -",
+        Some(Rule::Range),
+    ),
+    (
+        "Call userextname0 - a0:a0,a1@4294967295:i64 - 0 0 - L1073741824",
+        Some(Rule::Range),
     ),
     ("Call userextname0 %192:a0 - - 0 0 - -", Some(Rule::Virtual)),
     ("Call userextname0 a0:%192 - - 0 0 - -", Some(Rule::Virtual)),
@@ -282,7 +340,14 @@ const REFUSALS: [(&str, Option<Rule>); 46] = [
     ("CallInd fa0 a0:%192 - - 0 0 - -", Some(Rule::Virtual)),
     ("CallInd x31 - - - 0 0 - -", Some(Rule::Reserved)),
     ("CallInd a0 - a0:t5 - 0 0 - -", Some(Rule::Reserved)),
-    ("CallInd a0 - a0@8:i32 - 0 0 - -", Some(Rule::BadType)),
+    ("CallInd a0 - a0@8:i32 - 0 1 - -", None),
+    ("CallInd a0 - a0@8:f32 - 0 0 - -", Some(Rule::Class)),
+    ("CallInd a0 - a0@0:i8,a0@0:i8 - 0 1 - -", Some(Rule::Clash)),
+    ("CallInd a0 - fa0@8:f32 - 0 0 - -", Some(Rule::BadType)),
+    (
+        "CallInd a0 - a0@1073741825:i32 - 0 1 - -",
+        Some(Rule::Range),
+    ),
     ("CallInd a0 - - - 2147483648 0 - -", Some(Rule::Range)),
 ];
 

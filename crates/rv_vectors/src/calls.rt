@@ -1,11 +1,17 @@
 //! Calls that return. The harness with the Rust's own emission code is the outside source of each report and of each answer here, but
-//! for results on the stack, which it takes: they aren't built.
+//! for results of float and vector types on the stack, which it takes: their loads aren't built.
 
+mod results;
 mod tries;
 mod written;
 
 use crate::reported::{assert_refused, assert_reported, assert_rules_broken};
-use crate::samples::assert_both;
+use crate::samples::{Sample, assert_both, assert_sample};
+use results::{
+    FUNCTION_LISTING, FUNCTION_REPORT, ISLANDS_LISTING as RESULT_ISLANDS_LISTING,
+    ISLANDS_REPORT as RESULT_ISLANDS_REPORT, ISLANDS_SHORT_REPORT as RESULT_ISLANDS_SHORT_REPORT,
+    RESULTS_LISTING, RESULTS_REPORT, RESULTS_SHORT_REPORT,
+};
 use std::alloc::AllocError;
 use tries::{TRIES_LISTING, TRIES_REPORT, TRIES_SHORT_REPORT};
 use written::{
@@ -33,8 +39,37 @@ fn islands_stand_between_calls(rt: HostRuntime) -> Result<(), AllocError> {
     assert_both(&rt, rt.alloc(), "islands", ISLANDS_LISTING, reports)
 }
 
+#[test]
+fn results_are_loaded(rt: HostRuntime) -> Result<(), AllocError> {
+    let reports = [RESULTS_REPORT, RESULTS_SHORT_REPORT];
+    assert_both(&rt, rt.alloc(), "results", RESULTS_LISTING, reports)
+}
+
+#[test]
+fn islands_stand_before_loads(rt: HostRuntime) -> Result<(), AllocError> {
+    let reports = [RESULT_ISLANDS_REPORT, RESULT_ISLANDS_SHORT_REPORT];
+    assert_both(
+        &rt,
+        rt.alloc(),
+        "results and islands",
+        RESULT_ISLANDS_LISTING,
+        reports,
+    )
+}
+
+const FUNCTION: Sample = Sample {
+    name: "a function",
+    listing: FUNCTION_LISTING,
+    report: FUNCTION_REPORT,
+};
+
+#[test]
+fn a_function_is_reported(rt: HostRuntime) -> Result<(), AllocError> {
+    assert_sample(&rt, rt.alloc(), &FUNCTION)
+}
+
 /// Listings with their text; each is taken.
-const TAKEN: [(&str, &str); 4] = [
+const TAKEN: [(&str, &str); 6] = [
     (
         "Call userextname0 - - - 0 0 - -\nEmitIsland 1073741568\n",
         "code 8\n00000000 97000000e7800000\nline 0 0 8\nline 1 8 8\nreturn 0 8\nreloc 0 RiscvCallPlt userextname0 0\ncall 8\nend 8\n",
@@ -42,6 +77,14 @@ const TAKEN: [(&str, &str); 4] = [
     (
         "CallInd a0 - - - 2147483647 1 - -\nEmitIsland 1073741568\n",
         "code 16\n00000000 e7000500b70f0080938f1f003301f101\nline 0 0 16\nline 1 16 16\nreturn 0 4\ncall 4\nend 16\n",
+    ),
+    (
+        "Call userextname0 - a0@0:i64 - 0 0 - -\nEmitIsland 1073741536\n",
+        "code 12\n00000000 97000000e780000003350100\nline 0 0 12\nline 1 12 12\nreturn 0 8\nreloc 0 RiscvCallPlt userextname0 0\ncall 8\nend 12\n",
+    ),
+    (
+        "Call userextname0 - a0@0:i64,a1:a1,a2@8:i8 - 0 1 - -\nEmitIsland 1073741504\n",
+        "code 8\n00000000 97000000e7800000\nline 0 0 8\nline 1 8 8\nreturn 0 8\nreloc 0 RiscvCallPlt userextname0 0\ncall 8\npatch 8 8\nend 8\n",
     ),
     (
         "Call userextname0 - - - 0 1 i64@8 L0;tag1:L0;default:L0\nBind L0\nUnwind push 16\n",
@@ -63,13 +106,21 @@ fn calls_are_taken(rt: HostRuntime) {
 }
 
 /// Listings of more than one such line with their text; each is refused. A line counts for 128 bytes.
-const REFUSED: [(&str, &str); 6] = [
+const REFUSED: [(&str, &str); 8] = [
     (
         "Call userextname0 - - - 0 0 - -\nEmitIsland 1073741569\n",
         "rvemit: TooLarge\n",
     ),
     (
         "CallInd a0 - - - 2147483647 1 - -\nEmitIsland 1073741569\n",
+        "rvemit: TooLarge\n",
+    ),
+    (
+        "Call userextname0 - a0@0:i64 - 0 0 - -\nEmitIsland 1073741537\n",
+        "rvemit: TooLarge\n",
+    ),
+    (
+        "Call userextname0 - a0@0:i64,a1:a1,a2@8:i8 - 0 1 - -\nEmitIsland 1073741505\n",
         "rvemit: TooLarge\n",
     ),
     (
@@ -117,24 +168,34 @@ Reserved:Call userextname0 - t6:a0 - 0 0 - -
 Reserved:Call userextname0 - x31@0:i64 - 0 0 - -
 Reserved:CallInd x31 - - - 0 0 - -
 Reserved:CallInd a0 - a0:x30 - 0 0 - -
+Class:Call userextname0 - fa0@0:i64 - 4294967295 0 - -
+Class:CallInd a0 - a0@8:f32 - 0 0 - -
+Class:Call userextname0 - fa0@0:i8x16 - 0 0 - -
+Clash:Call userextname0 - sp@0:i64,a0@1073741825:i8 - 2147483648 0 - L1073741824
+Clash:Call userextname0 - a0@0:i64,a1@8:i64,a0@0:i8 - 0 1 - -
+Clash:Call userextname0 - a1:a0,a2@0:i64,a0@8:i32 - 0 0 - -
+Clash:Call userextname0 - a0@0:i64,a0:a1 - 0 0 - -
+Clash:CallInd a0 - zero@0:i64,zero@8:i8 - 0 1 - -
 BadType:Call userextname0 - a0@0:i128 - 2147483648 0 - -
+Range:Call userextname0 - a0@1073741825:i8 - 0 1 - -
+Range:CallInd a0 - a0:a0,a1@4294967295:i64 - 0 0 - -
 Label:Call userextname0 - - - 0 0 - L2147483648
 Label:Call userextname0 - - - 0 0 - L0;default:L2147483648
 Label:CallInd a0 - - - 0 0 - L0;tag1:L3221225472
 Range:Call userextname0 - - - 2147483648 0 - L2147483648
 ";
 
-/// Calls with a result on the stack: loads after a call aren't built. The harness takes these.
-const STACK_RESULTS: &str = "\
-BadType:Call userextname0 - a0@0:i64 - 0 0 - -
+/// Results of float and vector types on the stack, whose loads aren't built. The harness takes these.
+const FLOAT_RESULTS: &str = "\
 BadType:Call userextname0 - a0:a0,fa0@8:f64 - 0 1 - -
-BadType:CallInd a0 - a0:a0,a1@1073741824:i8 - 16 1 - -
+BadType:Call userextname0 - fa0@0:f16 - 2147483648 0 - -
+BadType:CallInd a0 - a0:a0,v8@16:i64x2 - 16 1 - -
 ";
 
 #[test]
 fn broken_rules_are_named(rt: HostRuntime) -> Result<(), AllocError> {
     assert_rules_broken(&rt, rt.alloc(), RULE_BREAKS)?;
-    assert_rules_broken(&rt, rt.alloc(), STACK_RESULTS)
+    assert_rules_broken(&rt, rt.alloc(), FLOAT_RESULTS)
 }
 
 /// Lines that are of no form.

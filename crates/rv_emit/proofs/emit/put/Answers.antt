@@ -6,9 +6,9 @@ use Rattle.rv_inst.specs.Context.{context_by}
 use Rattle.rv_emit.specs.declared.state.EmitVState.TheVariants.{Unknown}
 use Rattle.rv_emit.proofs.FineOperands.{fine}
 use Rattle.rv_emit.proofs.InstSlots.{inst_appends}
-use Rattle.rv_emit.proofs.Bounds.{alone_bounded, asking_bounded}
+use Rattle.rv_emit.proofs.Bounds.{emit_bounded}
 use Rattle.rv_emit.proofs.ReachKept.{reach_after}
-use Rattle.rv_emit.proofs.TailAppends.{reach_asking}
+use Rattle.rv_emit.proofs.TailAppends.{appends, reach_asking}
 use Rattle.rv_emit.proofs.emit.put.Goals as goal
 
 none_asked : (space : Option ℕ) → false ≡ is_some space → space ≡ None
@@ -26,7 +26,7 @@ returns-then-asks_for_island-clause-bounds c =
     let context = context_by c.args.flags c.args.frame.now (registered_of c.args.sink.now) in
     let asks = sym (c.if-asks_for_island.ensures context) in
     let room = c.requires.room in
-    on_ok_weaker c.put_asking.result (λ emitted. asking_bounded context Unknown c.args.inst.now c.args.sink.now c.put_asking.new.sink c.requires.rule (omega (arith, room)) asks (emitted Unknown)) (c.put_asking.ensures.emitted asks)
+    on_ok_weaker c.put_asking.result (λ emitted. emit_bounded context c.args.inst.now c.args.sink.now c.put_asking.new.sink c.requires.rule (omega (arith, room)) (appends context Unknown c.args.inst.now c.args.sink.now c.put_asking.new.sink c.requires.rule c.requires.sound (emitted Unknown))) (c.put_asking.ensures.emitted asks)
 
 pub forgets_setting-requires-clause-fine : goal.forgets_setting-requires-clause-fine
 forgets_setting-requires-clause-fine c = (registered_of c.args.sink.now, fine (context_by c.args.flags c.args.frame.now (registered_of c.args.sink.now)) c.args.inst.now c.requires.rule)
@@ -41,7 +41,7 @@ returns-in_ok-put_sequence-clause-bounds c =
     let context = context_by c.args.flags c.args.frame.now (registered_of c.args.sink.now) in
     let none = none_asked _ (c.if-asks_for_island.ensures context) in
     let room = c.requires.room in
-    alone_bounded context c.args.inst.now c.args.sink.now c.put_sequence.new.sink c.requires.rule (omega (arith, room)) none (inst_appends context c.args.inst.now c.args.sink.now c.put_sequence.new.sink c.requires.rule c.requires.sound none (c.in_ok-put_sequence.ensures.parts none))
+    emit_bounded context c.args.inst.now c.args.sink.now c.put_sequence.new.sink c.requires.rule (omega (arith, room)) (appends context Unknown c.args.inst.now c.args.sink.now c.put_sequence.new.sink c.requires.rule c.requires.sound (c.in_ok-put_sequence.ensures.parts none Unknown))
 
 pub returns-in_ok-put_sequence-clause-reach : goal.returns-in_ok-put_sequence-clause-reach
 returns-in_ok-put_sequence-clause-reach c =

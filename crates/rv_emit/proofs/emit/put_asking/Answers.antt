@@ -6,7 +6,9 @@ use Rattle.mach_buffer.specs.Buffer.{registered_of}
 use Rattle.rv_emit.specs.Usable.{AreListed}
 use Rattle.rv_emit.proofs.ReachKept.{reach_calm}
 use Rattle.rv_emit.proofs.TablesPut.{table_kept, table_sum, island_room, island_sound, island_emits, table_emits}
-use Rattle.rv_emit.proofs.Settings.{island_asked, table_asked, tail_asked, jump_asked}
+use Rattle.rv_emit.proofs.CallRules.{call_asks, call_ind_asks}
+use Rattle.rv_emit.proofs.CallSlots.{loading_emits, loading_ind_emits, call_sum, call_ind_sum}
+use Rattle.rv_emit.proofs.Settings.{island_asked, table_asked, call_asked, call_ind_asked, tail_asked, jump_asked}
 use Rattle.rv_emit.proofs.TailRules.{tail_kept, tail_sum, jump_sum, target_kept, tail_emits, jump_emits}
 use Rattle.rv_emit.proofs.emit.put_asking.Goals as goal
 
@@ -98,3 +100,36 @@ put_tail_jump-requires-clause-target c = (target_kept (context_by c.args.flags c
 
 pub put_tail_jump-requires-clause-fifth : goal.put_tail_jump-requires-clause-fifth
 put_tail_jump-requires-clause-fifth c = (target_kept (context_by c.args.flags c.args.frame.now (registered_of c.args.sink.now)) c.args.inst.now c.in-ReturnCallInd.info c.in-ReturnCallInd.is c.requires.rule).1
+
+pub put_loading_call-requires-clause-fine : goal.put_loading_call-requires-clause-fine
+put_loading_call-requires-clause-fine c = rw c.as_ref.ensures (call_asks (context_by c.args.flags c.args.frame.now (registered_of c.args.sink.now)) c.args.inst.now _ c.in-Call.is c.requires.rule).goes_on
+
+pub put_loading_call-requires-clause-results : goal.put_loading_call-requires-clause-results
+put_loading_call-requires-clause-results c = rw c.as_ref.ensures (call_asks (context_by c.args.flags c.args.frame.now (registered_of c.args.sink.now)) c.args.inst.now _ c.in-Call.is c.requires.rule).results
+
+pub put_loading_call-requires-clause-room : goal.put_loading_call-requires-clause-room
+put_loading_call-requires-clause-room c = rw c.as_ref.ensures (let sum = call_sum (context_by c.args.flags c.args.frame.now (registered_of c.args.sink.now)) c.args.inst.now _ c.in-Call.is in let room = c.requires.room in omega arith)
+
+pub returns-in_ok-put_loading_call-in-Call-clause-emitted : goal.returns-in_ok-put_loading_call-in-Call-clause-emitted
+returns-in_ok-put_loading_call-in-Call-clause-emitted c = λ asks. loading_emits (context_by c.args.flags c.args.frame.now (registered_of c.args.sink.now)) c.args.inst.now _ c.args.sink.now c.put_loading_call.new.sink c.in-Call.is asks (rw c.as_ref.ensures at c.in_ok-put_loading_call-in-Call.ensures.parts)
+
+pub returns-in_ok-put_loading_call-in-Call-clause-setting : goal.returns-in_ok-put_loading_call-in-Call-clause-setting
+returns-in_ok-put_loading_call-in-Call-clause-setting c = λ asks setting. call_asked (context_by c.args.flags c.args.frame.now (registered_of c.args.sink.now)) c.args.inst.now _ c.args.sink.now setting c.in-Call.is
+
+pub put_loading_call_ind-requires-clause-fine : goal.put_loading_call_ind-requires-clause-fine
+put_loading_call_ind-requires-clause-fine c = rw c.as_ref-in-CallInd.ensures (call_ind_asks (context_by c.args.flags c.args.frame.now (registered_of c.args.sink.now)) c.args.inst.now _ c.in-CallInd.is c.requires.rule).goes_on
+
+pub put_loading_call_ind-requires-clause-results : goal.put_loading_call_ind-requires-clause-results
+put_loading_call_ind-requires-clause-results c = rw c.as_ref-in-CallInd.ensures (call_ind_asks (context_by c.args.flags c.args.frame.now (registered_of c.args.sink.now)) c.args.inst.now _ c.in-CallInd.is c.requires.rule).results
+
+pub put_loading_call_ind-requires-clause-room : goal.put_loading_call_ind-requires-clause-room
+put_loading_call_ind-requires-clause-room c = rw c.as_ref-in-CallInd.ensures (let sum = call_ind_sum (context_by c.args.flags c.args.frame.now (registered_of c.args.sink.now)) c.args.inst.now _ c.in-CallInd.is in let room = c.requires.room in omega arith)
+
+pub returns-in_ok-put_loading_call_ind-in-CallInd-clause-emitted : goal.returns-in_ok-put_loading_call_ind-in-CallInd-clause-emitted
+returns-in_ok-put_loading_call_ind-in-CallInd-clause-emitted c = λ asks. loading_ind_emits (context_by c.args.flags c.args.frame.now (registered_of c.args.sink.now)) c.args.inst.now _ c.args.sink.now c.put_loading_call_ind.new.sink c.in-CallInd.is asks (rw c.as_ref-in-CallInd.ensures at c.in_ok-put_loading_call_ind-in-CallInd.ensures.parts)
+
+pub returns-in_ok-put_loading_call_ind-in-CallInd-clause-setting : goal.returns-in_ok-put_loading_call_ind-in-CallInd-clause-setting
+returns-in_ok-put_loading_call_ind-in-CallInd-clause-setting c = λ asks setting. call_ind_asked (context_by c.args.flags c.args.frame.now (registered_of c.args.sink.now)) c.args.inst.now _ c.args.sink.now setting c.in-CallInd.is
+
+pub put_loading_call_ind-requires-clause-dest : goal.put_loading_call_ind-requires-clause-dest
+put_loading_call_ind-requires-clause-dest c = rw c.as_ref-in-CallInd.ensures (call_ind_asks (context_by c.args.flags c.args.frame.now (registered_of c.args.sink.now)) c.args.inst.now _ c.in-CallInd.is c.requires.rule).dest

@@ -12,4 +12,4 @@ use Rattle.rv_emit.proofs.stack.put_above.Goals as goal
 pub returns-clause-slots : goal.returns-clause-slots
 returns-clause-slots c =
     let f : FitsSigned w64 c.from.result = search rules in
-    on_ok_weaker c.put_restore.result (λ p. subst (λ o. PutsAlone c.args.flags (load_slots c.args.flags (number_of c.args.rd.reg) Ld None (Based 2 o)) c.args.sink.now c.put_restore.new.sink) c.from.ensures p) (rw (to_z-of_z w64 c.from.result f) at c.put_restore.ensures.slots)
+    on_ok_weaker c.put_stack_load.result (λ p. subst (λ o. PutsAlone c.args.flags (load_slots c.args.flags (number_of c.args.rd.reg) Ld None (Based 2 o)) c.args.sink.now c.put_stack_load.new.sink) c.from.ensures p) (rw (to_z-of_z w64 c.from.result f) at c.put_stack_load.ensures.slots)

@@ -1,0 +1,76 @@
+-- Results of calls on the stack: how many of them are loaded, and whether their call asks for an island.
+use Rattle.std.proofs.Common.{◌≡◌, ℕ, Bool, true, false, List, [], ◌∷◌, ◌++◌, Option, pos, refl, ap, sym, ◌∙◌}
+use Rattle.std.specs.Prelude.{is_some, not, ◌&&◌, ◌||◌}
+use Rattle.std.specs.List.{list_any}
+use Rattle.rv_base.specs.declared.call.CallInfo.{CallInfo}
+use Rattle.rv_base.specs.declared.call.CallRetPair.{CallRetPair}
+use Rattle.rv_base.specs.declared.call.RetLocation.TheVariants.{Reg as InReg, Stack as OnStack}
+use Rattle.rv_base.specs.declared.call.TryCallInfo.{TryCallInfo}
+use Rattle.rv_base.specs.declared.external_name.ExternalName.{ExternalName}
+use Rattle.rv_base.specs.declared.flags.IsaFlags.{IsaFlags}
+use Rattle.rv_base.specs.declared.ir_type.IrType.{IrType}
+use Rattle.rv_base.specs.declared.ir_type.IrType.TheVariants.{I8, I16, I32, I64, I128, F16, F32, F64, F128, Vector}
+use Rattle.rv_base.specs.declared.regs.Reg.{Reg}
+use Rattle.rv_base.specs.Regs.{number_of}
+use Rattle.rv_inst.specs.Context.{Context}
+use Rattle.rv_inst.specs.Forms.{short_jalr}
+use Rattle.rv_inst.specs.declared.inst.Inst.{Inst}
+use Rattle.rv_inst.specs.declared.inst.Inst.TheVariants.{Call, CallInd}
+use Rattle.rv_inst.specs.Returns.{StackLoad, location_loads, result_loads, loads_unless}
+use Rattle.rv_inst.specs.Rules.{is_loaded, is_loaded_from}
+use Rattle.rv_inst.specs.Sizes.{call_extent, space_in, extra_in, island_space}
+use Rattle.rv_base.specs.declared.call.RetLocation.{RetLocation}
+
+-- whether there is something to load
+abbrev some_load : List StackLoad → Bool
+some_load [] = false
+some_load (l ∷ loads) = true
+
+any_loaded : (defs : List CallRetPair) → some_load (result_loads defs) ≡ list_any is_loaded defs
+any_loaded [] = refl
+any_loaded (d ∷ defs) = by d.vreg.reg d.location (any_loaded defs)
+  where
+    by : (r : Reg) (location : RetLocation) → some_load (result_loads defs) ≡ list_any is_loaded defs → some_load (location_loads r location ++ result_loads defs) ≡ (is_loaded_from location || list_any is_loaded defs)
+    by r (InReg s) rest = rest
+    by r (OnStack offset I8) rest = refl
+    by r (OnStack offset I16) rest = refl
+    by r (OnStack offset I32) rest = refl
+    by r (OnStack offset I64) rest = refl
+    by r (OnStack offset I128) rest = rest
+    by r (OnStack offset F16) rest = rest
+    by r (OnStack offset F32) rest = rest
+    by r (OnStack offset F64) rest = rest
+    by r (OnStack offset F128) rest = rest
+    by r (OnStack offset (Vector v)) rest = rest
+
+asks : (flags : IsaFlags) (jump popped : ℕ) (loads : List StackLoad) (t : Option TryCallInfo) → is_some (space_in (call_extent flags jump popped loads t)) ≡ some_load loads
+asks flags jump popped [] t = refl
+asks flags jump popped (l ∷ loads) t = refl
+
+-- a call that loads a result asks for an island
+pub asks_to_load : (flags : IsaFlags) (jump popped : ℕ) (defs : List CallRetPair) (t : Option TryCallInfo) → is_some (space_in (call_extent flags jump popped (result_loads defs) t)) ≡ list_any is_loaded defs
+asks_to_load flags jump popped defs t = asks flags jump popped (result_loads defs) t ∙ any_loaded defs
+
+-- so does one of a symbol, unless it may be patched
+pub asks_unless : (flags : IsaFlags) (jump popped : ℕ) (patchable : Bool) (defs : List CallRetPair) (t : Option TryCallInfo) → is_some (space_in (call_extent flags jump popped (loads_unless patchable defs) t)) ≡ (not patchable && list_any is_loaded defs)
+asks_unless flags jump popped true defs t = refl
+asks_unless flags jump popped false defs t = asks_to_load flags jump popped defs t
+
+-- as the code asks it
+pub call_asks : (context : Context) (inst : Inst) (info : CallInfo ExternalName) (defs : List CallRetPair) → inst ≡ Call info → defs ≡ info.defs → info.patchable ≡ false → list_any is_loaded defs ≡ is_some (island_space context inst)
+call_asks context inst info defs is all fixed =
+    ap (list_any is_loaded) all
+    ∙ ap (λ p. not p && list_any is_loaded info.defs) (sym fixed)
+    ∙ sym (asks_unless context.flags 8 info.callee_pop_size info.patchable info.defs info.try_call_info)
+    ∙ ap (λ i. is_some (island_space context i)) (sym is)
+
+pub call_ind_asks : (context : Context) (inst : Inst) (info : CallInfo Reg) (defs : List CallRetPair) → inst ≡ CallInd info → defs ≡ info.defs → list_any is_loaded defs ≡ is_some (island_space context inst)
+call_ind_asks context inst info defs is all =
+    ap (list_any is_loaded) all
+    ∙ sym (asks_to_load context.flags (short_jalr context.flags 1 (number_of info.dest) (pos 0)).len info.callee_pop_size info.defs info.try_call_info)
+    ∙ ap (λ i. is_some (island_space context i)) (sym is)
+
+-- what its results count for is no part of its extent
+pub no_extra : (flags : IsaFlags) (jump popped : ℕ) (loads : List StackLoad) (t : Option TryCallInfo) → extra_in (call_extent flags jump popped loads t) ≡ 0
+no_extra flags jump popped [] t = refl
+no_extra flags jump popped (l ∷ loads) t = refl
