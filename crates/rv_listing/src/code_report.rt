@@ -1,6 +1,6 @@
 //! The report of a code: what the program writes.
 
-ghost use Rattle.std.specs.Prelude.{◌≡◌, ◌<◌, ◌≤◌, ◌^◌, [], ◌∷◌, ◌++◌, codes, length, take, drop, IfOk, OnOk};
+ghost use Rattle.std.specs.Prelude.{◌≡◌, ◌+◌, ◌<◌, ◌≤◌, ◌^◌, [], ◌∷◌, ◌++◌, codes, length, take, drop, IfOk, OnOk};
 ghost use Rattle.std.specs.List.{flat_map};
 ghost use Rattle.std.specs.Fmt.{decimal, signed_decimal};
 ghost use Rattle.hex.specs.Hex.{encode_lower};
@@ -12,7 +12,7 @@ ghost use Rattle.rv_listing.specs.UnwindSteps.{step_text};
 ghost use Rattle.rv_listing.specs.Report.{lf, hex_line, all_hex_lines, span_line, return_line, label_line, const_line, reloc_line, trap_line, call_line, frame_text, handler_text, try_line, patch_line, entry_text, map_line, unwind_line, report};
 
 use crate::relocations::kind_name;
-use itoa::Buffer;
+use itoa::{Buffer, write_digits};
 use mach_buffer::FinalizedRelocTarget;
 use rv_base::{IrType, OutOfMemory, Reg, UnwindInst, reg_name};
 use rv_inst::{
@@ -109,12 +109,35 @@ fn put_hex_lines(out: &mut Vec<u8>, bytes: &[u8]) -> Result<(), OutOfMemory>
     Ok(())
 }
 
-fn put_span(out: &mut Vec<u8>, l: &LineSpan) -> Result<(), OutOfMemory>
+/// Room for what a line of a span has after its first word: three spaces, each with at most twenty digits after it, and LF.
+const SPAN_ROOM: usize = 64;
+
+// A space and a number, which end where `end` is. Returns where they begin.
+#[inline(always)]
+fn write_number(n: u64, room: &mut [u8; SPAN_ROOM], end: usize) -> usize
+    requires { (21 ≤ end) × (end ≤ 64) }
+    ensures text { drop result room.new ≡ 32 ∷ decimal n ++ drop end room.old }
+    ensures start { (result ≤ end) × (end ≤ result + 21) }
+{
+    let start = write_digits(n, room, end) - 1;
+    room[start] = b' ';
+    start
+}
+
+// The line is written from its end to its front, and put at once, since a report has very many of them.
+fn put_span(
+    out: &mut Vec<u8>,
+    room: &mut [u8; SPAN_ROOM],
+    l: &LineSpan,
+) -> Result<(), OutOfMemory>
     ensures { OnOk result (out.new.items ≡ out.old.items ++ span_line l.now) }
 {
-    put_numbered(out, b"line ", l.index as u64)?;
-    put_numbered(out, b" ", l.start as u64)?;
-    end_line(out, b" ", l.end as u64)
+    room[63] = b'\n';
+    let at = write_number(l.end as u64, room, 63);
+    let at = write_number(l.start as u64, room, at);
+    let at = write_number(l.index as u64, room, at);
+    put(out, b"line")?;
+    put(out, &room[at..])
 }
 
 fn put_return(out: &mut Vec<u8>, r: &CallReturn) -> Result<(), OutOfMemory>
@@ -307,8 +330,9 @@ fn put_unwind(alloc: Global, out: &mut Vec<u8>, u: &MachUnwind) -> Result<(), Ou
 fn put_spans(out: &mut Vec<u8>, lines: &[LineSpan]) -> Result<(), OutOfMemory>
     ensures { OnOk result (out.new.items ≡ out.old.items ++ flat_map span_line lines.now) }
 {
+    let mut room = [0u8; SPAN_ROOM];
     for l in lines {
-        put_span(out, l)?;
+        put_span(out, &mut room, l)?;
     }
     Ok(())
 }
