@@ -26,3 +26,4 @@ mod LineRecords
 pub mod CallReturns
 pub mod Relocations
 pub mod Handlers
+pub mod SurveyedJobs

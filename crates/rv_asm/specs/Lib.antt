@@ -10,3 +10,4 @@ pub mod Simulation
 pub mod AfterLastIsland
 pub mod Reported
 pub mod SavedRegisters
+pub mod Survey

@@ -9,6 +9,7 @@ mod program;
 mod ranges;
 mod refusal;
 mod returns;
+mod survey;
 
 pub use assembly::assemble;
 pub use outcome::Outcome;

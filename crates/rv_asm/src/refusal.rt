@@ -10,6 +10,7 @@ ghost use Rattle.rv_asm.specs.Refusal.{is_unfit, size_limit, is_bound, broken_fr
 ghost use Rattle.rv_asm.specs.Job.{job_of};
 ghost use Rattle.rv_asm.specs.BoundLabels.{is_in};
 
+use crate::survey::survey;
 use mach_labels::LabelTable;
 use rv_base::{Constant, FrameLayout, IsaFlags, MachLabel, TryCallHandler, TryCallInfo};
 use rv_inst::{
@@ -17,9 +18,26 @@ use rv_inst::{
 };
 use std::alloc::Global;
 
-/// Refuses a job for its first cause, where it has one.
-#[tactic(auto, unfolding(crate::specs::Refusal::refusal))]
+/// Refuses a job for its first cause, where it has one. One pass over the lines tells of nearly every job that it has no cause
+/// but labels that aren't bound; of the others each cause is looked for, in their order.
 pub fn refuse(
+    alloc: Global,
+    lines: &[Line],
+    flags: IsaFlags,
+    frame: &FrameLayout,
+    constants: &[Constant],
+) -> Result<(), EmitError>
+    ensures { Finds (refusal (job_of lines.now flags frame.now constants.now)) result }
+{
+    match survey(alloc, lines, flags, frame, constants) {
+        Some(bound) => find_all(&bound, lines),
+        None => refuse_in_order(alloc, lines, flags, frame, constants),
+    }
+}
+
+/// The same, looking for each cause by itself.
+#[tactic(auto, unfolding(crate::specs::Refusal::refusal))]
+fn refuse_in_order(
     alloc: Global,
     lines: &[Line],
     flags: IsaFlags,
@@ -41,7 +59,8 @@ fn any_is_unfit(lines: &[Line], frame: &FrameLayout) -> bool
     lines.iter().any(|line| is_unfit(line, frame))
 }
 
-fn is_unfit(line: &Line, frame: &FrameLayout) -> bool
+/// Returns whether a line is a tail call that can't restore the frame.
+pub fn is_unfit(line: &Line, frame: &FrameLayout) -> bool
     ensures { result ≡ is_unfit frame.now line.now }
 {
     match line {
@@ -99,7 +118,8 @@ fn bind_labels(alloc: Global, lines: &[Line]) -> Result<LabelTable<()>, EmitErro
     Ok(bound)
 }
 
-fn bind_label_of(bound: &mut LabelTable<()>, line: &Line) -> Result<(), EmitError>
+/// Binds the label of a line that binds one.
+pub fn bind_label_of(bound: &mut LabelTable<()>, line: &Line) -> Result<(), EmitError>
     ensures once { Finds (twice_in (is_in bound.old) line.now) result }
     ensures added { OnOk result ((label : ℕ) → is_in bound.new label ≡ binds line.now label || is_in bound.old label) }
 {
@@ -242,7 +262,7 @@ fn is_too_large(lines: &[Line], frame: &FrameLayout, constants: &[Constant]) -> 
 }
 
 /// How many bytes the constants leave for lines, unless they count for more than they may.
-fn left_by_constants(constants: &[Constant]) -> Option<u64>
+pub fn left_by_constants(constants: &[Constant]) -> Option<u64>
     ensures left { IfSome result (λ left. left + constants_sum constants.now ≡ size_limit) }
     ensures none { IfNone result (size_limit < constants_sum constants.now) }
 {
