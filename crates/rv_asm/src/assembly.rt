@@ -64,7 +64,7 @@ fn build(
     let mut state = EmitState::new(copy_of(alloc, frame)?);
     let mut sink = MachBuffer::<LabelUse>::new(alloc);
     sink.register_constants(constants)?;
-    let mut spans = Vec::new(alloc);
+    let mut spans = Vec::with_capacity(alloc, lines.len())?;
     let mut returns = Vec::new(alloc);
     for (index, line) in lines.iter().enumerate() {
         let span = put_line(alloc, &mut sink, &info, &mut state, index, line)?;

@@ -33,7 +33,7 @@ loop-index-init c =
     let s = c.in_ok-register_constants.ensures.registered.2 in
     record {
       frame = c.new-state.ensures.frame ∙ c.in_ok-copy_of.ensures;
-      so_far = subst (λ (spans : List LineSpan). SoFar (context_by c.new-info.result.isa_flags c.args.frame.now c.args.constants.now) c.args.lines.now 0 spans c.register_constants.new.self) (sym c.new-spans.ensures.items)
+      so_far = subst (λ (spans : List LineSpan). SoFar (context_by c.new-info.result.isa_flags c.args.frame.now c.args.constants.now) c.args.lines.now 0 spans c.register_constants.new.self) (sym c.in_ok-spans.ensures.items)
           (so_far_none (context_by c.new-info.result.isa_flags c.args.frame.now c.args.constants.now) c.args.lines.now c.register_constants.new.self
           (ap (λ x. x.bytes) s ∙ new.bytes) (ap (λ x. x.uses) s ∙ new.uses) (λ label. ap (λ x. x.place label) s ∙ new.places label) (ap (λ x. x.labels) s ∙ new.labels)
           (ap (λ x. x.allocated) s ∙ new.allocated) (ap (λ x. x.records) s ∙ new.records) (ap (λ x. x.registered) s) (ap (λ x. x.named) s ∙ new.named) (ap (λ x. x.constants) s ∙ new.constants)
