@@ -19,13 +19,13 @@ use Rattle.mach_buffer.specs.Windows.{or_place}
 use Rattle.mach_buffer.proofs.Laws.{append_each, none_pending, bound_pending}
 use Rattle.rv_emit.specs.Emitted.{Buffer, AppendsCode, AppendsInst, AppendsIsland, IslandIfNeeded, AppendsBy, Appends}
 use Rattle.rv_inst.specs.Uses.{uses_in}
-use Rattle.rv_emit.proofs.Laws.{Each, waits, far_waits, bytes_put, words_long}
+use Rattle.rv_emit.proofs.Laws.{Each, pending_at, far_never_pending, bytes_put, words_long}
 use Rattle.rv_asm.specs.Reported.{start_of}
 use Rattle.rv_asm.specs.Reported.{end_before}
 use Rattle.rv_asm.specs.LinesInBuffer.{LinesStand, BindPut}
 use Rattle.rv_asm.specs.Reach.{is_island_of, is_island, bound_by}
 use Rattle.rv_asm.specs.AfterLastIsland.{uses_after_island, passing, EndsIn, AfterLastIsland}
-use Rattle.rv_asm.proofs.LinesAppended.{InstAppends, LineAppends}
+use Rattle.rv_asm.proofs.AppendedLines.{InstAppends, LineAppends}
 use Rattle.rv_asm.proofs.Extents.{Lacks, lacks}
 use Rattle.rv_asm.proofs.LabelNames.{start_last, room_keeps, emitted_keeps}
 use Rattle.rv_asm.proofs.FirstLines.{own_uses, open_in_island, open_after, open_on, bound_by_more, bound_by_append}
@@ -64,21 +64,21 @@ passing_less test less weaker (u ∷ uses) = on (test u) refl (passing_less test
 
 -- after an island nothing is pending
 ends_island : (old new : Buffer) → AppendsIsland old new → EndsIn [] new
-ends_island old new p = record { same = passing_none (waits (place_of new)) (uses_of new) (none_pending (waits (place_of new)) label_kinds (uses_of new) p.settled) }
+ends_island old new p = record { same = passing_none (pending_at (place_of new)) (uses_of new) (none_pending (pending_at (place_of new)) label_kinds (uses_of new) p.settled) }
 
 -- code adds its own uses
 ends_code : (code : List ℕ) (own uses : List (Use LabelUse)) (old new : Buffer) → AppendsCode code own old new → EndsIn uses old → EndsIn (uses ++ own) new
 ends_code code own uses old new p e =
-    let test = waits (place_of old) in
+    let test = pending_at (place_of old) in
     let whole : passing test (uses_of old ++ own) ≡ passing test (uses ++ own) = passing_both test (uses_of old) own ∙ ap (λ us. us ++ passing test own) e.same ∙ sym (passing_both test uses own) in
-    record { same = (λ i. passing (waits (p.places i)) (p.uses i)) ∙ whole ∙ (λ i. passing (waits (sym p.places i)) (uses ++ own)) }
+    record { same = (λ i. passing (pending_at (p.places i)) (p.uses i)) ∙ whole ∙ (λ i. passing (pending_at (sym p.places i)) (uses ++ own)) }
 
 -- an instruction adds its own, of which those of a table are never pending
-ends_block : (context : Context) (inst : Inst) (old new : Buffer) (uses : List (Use LabelUse)) → AppendsInst context inst old new → EndsIn uses old → EndsIn (uses ++ uses_in context (length (bytes_of old)) (length (bytes_of new)) inst) new
-ends_block context inst old new uses p e =
+ends_inst : (context : Context) (inst : Inst) (old new : Buffer) (uses : List (Use LabelUse)) → AppendsInst context inst old new → EndsIn uses old → EndsIn (uses ++ uses_in context (length (bytes_of old)) (length (bytes_of new)) inst) new
+ends_inst context inst old new uses p e =
     let own = uses_in context (length (bytes_of old)) (length (bytes_of new)) inst in
-    let test = waits (place_of new) in
-    let none : passing test p.far ≡ [] = passing_none test p.far (λ j u h. far_waits (place_of new) u (p.table j u h)) in
+    let test = pending_at (place_of new) in
+    let none : passing test p.far ≡ [] = passing_none test p.far (λ j u h. far_never_pending (place_of new) u (p.table j u h)) in
     let far : passing test (own ++ p.far) ≡ passing test own = passing_both test own p.far ∙ ap (λ us. passing test own ++ us) none ∙ append-nil (passing test own) in
     let all = ends_code p.code (own ++ p.far) uses old new p.adds e in
     record { same = all.same ∙ passing_both test uses (own ++ p.far) ∙ ap (λ us. passing test uses ++ us) far ∙ sym (passing_both test uses own) }
@@ -90,10 +90,10 @@ ends_bind label old new span uses p e = record {
 }
   where
     before : Use LabelUse → Bool
-    before = waits (place_of old)
+    before = pending_at (place_of old)
 
     after : Use LabelUse → Bool
-    after = waits (place_of new)
+    after = pending_at (place_of new)
 
     weaker : (u : Use LabelUse) → before u ≡ false → after u ≡ false
     weaker u none = on (after u) refl
@@ -126,14 +126,14 @@ emitted_ends context inst mid new start end uses starts ends e h = by (extent_of
     bare more none g = subst (λ us. EndsIn (more ++ us) new) (sym none) (subst (λ us. EndsIn us new) (sym (append-nil more)) g)
 
     by : (e : Extent) → extent_of context inst ≡ e → Lacks context e inst → AppendsBy context e inst mid new → ((is_island_of e start end ≡ true) × EndsIn own new) ⊎ ((is_island_of e start end ≡ false) × EndsIn (uses ++ own) new)
-    by (Words size) is lack words = inr (refl, placed uses (ends_block context inst mid new uses words h))
+    by (Words size) is lack words = inr (refl, placed uses (ends_inst context inst mid new uses words h))
     by (Island space) is lack (made, room) = ⊎_elim
         (λ put. let longer = put.0 in inl (lt-ltb start end (omega (arith, starts, ends, longer)), bare [] (lack.0 start end) put.1))
         (λ none. let level = none.0 in inr (not_less start end (omega (arith, starts, ends, level)), bare uses (lack.0 start end) none.1))
         (room_empty space mid new made uses room h)
     by (After space size more) is lack (last, made, room, words) =
         let long = bytes_put context inst last new words ∙ ap (λ e. length (bytes_of last) + words_in e) is in
-        let block : (us : List (Use LabelUse)) → EndsIn us last → EndsIn us new = λ us g. subst (λ us. EndsIn us new) (append-nil us) (subst (λ own. EndsIn (us ++ own) new) (lack.0 (length (bytes_of last)) (length (bytes_of new))) (ends_block context inst last new us words g)) in
+        let block : (us : List (Use LabelUse)) → EndsIn us last → EndsIn us new = λ us g. subst (λ us. EndsIn us new) (append-nil us) (subst (λ own. EndsIn (us ++ own) new) (lack.0 (length (bytes_of last)) (length (bytes_of new))) (ends_inst context inst last new us words g)) in
         ⊎_elim
         (λ put. let longer = put.0 in inl (lt-ltb (start + size) end (omega (arith, starts, ends, long, longer)), bare [] (lack.0 start end) (block [] put.1)))
         (λ none. let level = none.0 in inr (not_less (start + size) end (omega (arith, starts, ends, long, level)), bare uses (lack.0 start end) (block uses none.1)))
@@ -182,7 +182,7 @@ bound_bind lines spans l span old new label count p places = ⊎_elim
 
 pub since_none : (context : Context) (b : Buffer) → uses_of b ≡ [] → ((label : ℕ) → place_of b label ≡ None) → AfterLastIsland context [] [] b
 since_none context b uses none = record {
-  ends = record { same = ap (passing (waits (place_of b))) uses };
+  ends = record { same = ap (passing (pending_at (place_of b))) uses };
   places = λ label low. none label;
   ruled = λ i line h. absurd (no_line i line h);
 }

@@ -26,7 +26,7 @@ use Rattle.rv_asm.specs.Reach.{NotEarly, ReachesOn}
 use Rattle.rv_asm.specs.FinishedCode.{IsFinished}
 use Rattle.rv_asm.proofs.RefusalOrder.{frame_small, none_unfit, no_rule_broken, bound_once, bound_by, named_is_bound, sum_small, lines_small}
 use Rattle.rv_asm.proofs.Finish.{can_finish, finished_short}
-use Rattle.rv_asm.proofs.LinesAppended.{line_appends}
+use Rattle.rv_asm.proofs.AppendedLines.{line_appends}
 use Rattle.rv_asm.proofs.CallReturns.{returns_next, returns_within}
 use Rattle.rv_asm.proofs.OneLineMore.{built_none, built_next}
 use Rattle.rv_asm.proofs.LabelNames.{named_none, named_next, low_label}

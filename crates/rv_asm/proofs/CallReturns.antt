@@ -25,7 +25,7 @@ use Rattle.rv_asm.specs.LinesInBuffer.{ReturnsWithin}
 use Rattle.rv_asm.specs.Reported.{start_of, return_from, line_returns, returns_from}
 use Rattle.rv_asm.specs.Simulation.{return_at}
 use Rattle.rv_asm.proofs.LabelNames.{start_more, start_last}
-use Rattle.rv_asm.proofs.LinesAppended.{room_longer, InstAppends, LineAppends}
+use Rattle.rv_asm.proofs.AppendedLines.{room_longer, InstAppends, LineAppends}
 
 -- ---- one line more
 
@@ -96,7 +96,7 @@ pub returns_within : (context : Context) (line : Line) (old new : Buffer) (span 
 returns_within context (Put inst) old new span p = inst_returns context inst span.index old new span p
 returns_within context (Bind label) old new span p = tt
 
--- ---- what an instruction tells
+-- ---- where an instruction returns
 
 -- ---- the first return with an index
 
@@ -108,11 +108,11 @@ passed : (c : Bool) (n m : ℕ) → c ≡ false → (if c then n else m) ≡ m
 passed true n m e = absurd (cc)
 passed false n m e = refl
 
-first_return : (i start : ℕ) (told : Option Return) (r : Return) (more : List CallReturn) → told ≡ Some r → return_at (return_from i start told ++ more) i ≡ start + r.offset
+first_return : (i start : ℕ) (returned : Option Return) (r : Return) (more : List CallReturn) → returned ≡ Some r → return_at (return_from i start returned ++ more) i ≡ start + r.offset
 first_return i start None r more e = absurd (cc)
 first_return i start (Some x) r more e = chosen (nat_eq i i) (start + x.offset) (return_at more i) (eq-eqb i i refl) ∙ ap (λ (y : Return). start + y.offset) (same_Some x r e)
 
-later_return : (i j start : ℕ) (told : Option Return) (more : List CallReturn) → i < j → return_at (return_from i start told ++ more) j ≡ return_at more j
+later_return : (i j start : ℕ) (returned : Option Return) (more : List CallReturn) → i < j → return_at (return_from i start returned ++ more) j ≡ return_at more j
 later_return i j start None more lt = refl
 later_return i j start (Some x) more lt = passed (nat_eq i j) (start + x.offset) (return_at more j) (ne_eqb i j (λ same. absurd (omega arith)))
 
@@ -122,20 +122,20 @@ later_line flags i j start (Bind label) more lt = refl
 
 -- of a line, whose index is i and some
 found_from : (flags : IsaFlags) (spans : List LineSpan) (i k : ℕ) (lines : List Line) (inst : Inst) (r : Return) → slice_get lines k ≡ Some (Put inst) → return_of flags inst ≡ Some r → return_at (returns_from flags spans i lines) (i + k) ≡ start_of spans (i + k) + r.offset
-found_from flags spans i k [] inst r e told = absurd (cc)
-found_from flags spans i zero (line ∷ lines) inst r e told =
+found_from flags spans i k [] inst r e returned = absurd (cc)
+found_from flags spans i zero (line ∷ lines) inst r e returned =
     let here : i ≡ i + 0 = omega arith in
     let more = returns_from flags spans (suc i) lines in
     subst (λ n. return_at (returns_from flags spans i (line ∷ lines)) n ≡ start_of spans n + r.offset) here
-    (ap (λ l. return_at (line_returns flags i (start_of spans i) l ++ more) i) (same_Some line (Put inst) e) ∙ first_return i (start_of spans i) (return_of flags inst) r more told)
-found_from flags spans i (suc k) (line ∷ lines) inst r e told =
+    (ap (λ l. return_at (line_returns flags i (start_of spans i) l ++ more) i) (same_Some line (Put inst) e) ∙ first_return i (start_of spans i) (return_of flags inst) r more returned)
+found_from flags spans i (suc k) (line ∷ lines) inst r e returned =
     let there : suc i + k ≡ i + suc k = omega arith in
     let more = returns_from flags spans (suc i) lines in
     later_line flags i (i + suc k) (start_of spans i) line more (omega arith)
-    ∙ subst (λ n. return_at more n ≡ start_of spans n + r.offset) there (found_from flags spans (suc i) k lines inst r e told)
+    ∙ subst (λ n. return_at more n ≡ start_of spans n + r.offset) there (found_from flags spans (suc i) k lines inst r e returned)
 
 -- where the call of a line returns
 pub return_found : (flags : IsaFlags) (spans : List LineSpan) (i : ℕ) (lines : List Line) (inst : Inst) (r : Return) → slice_get lines i ≡ Some (Put inst) → return_of flags inst ≡ Some r → return_at (returns_from flags spans 0 lines) i ≡ start_of spans i + r.offset
-return_found flags spans i lines inst r e told =
+return_found flags spans i lines inst r e returned =
     let here : 0 + i ≡ i = omega arith in
-    subst (λ n. return_at (returns_from flags spans 0 lines) n ≡ start_of spans n + r.offset) here (found_from flags spans 0 i lines inst r e told)
+    subst (λ n. return_at (returns_from flags spans 0 lines) n ≡ start_of spans n + r.offset) here (found_from flags spans 0 i lines inst r e returned)

@@ -19,14 +19,14 @@ use Rattle.rv_emit.specs.Emitted.{Buffer}
 use Rattle.rv_emit.specs.InstParts.{parts_of}
 use Rattle.rv_emit.specs.Sites.{Site, GapIn}
 use Rattle.rv_emit.specs.Standing.{IsFinishedTo}
-use Rattle.rv_emit.proofs.Laws.{are_blocks, gap_stands, parts_stand}
+use Rattle.rv_emit.proofs.Laws.{parts_are_self_contained, gap_stands, parts_stand}
 use Rattle.rv_asm.specs.Reported.{start_of, end_of, end_before, returns_from}
 use Rattle.rv_asm.specs.Refusal.{is_unfit}
 use Rattle.rv_asm.specs.Simulation.{RunsAsListed, HasOperations}
 use Rattle.rv_asm.specs.LinesInBuffer.{StandsAfter, LinesStand}
 use Rattle.rv_asm.specs.Placed.{Addresses, IsPlaced}
 use Rattle.rv_asm.proofs.ExitPoints.{AllBound}
-use Rattle.rv_asm.proofs.Images.{placed_at, keeps_outside, is_filled, fields_within, trap_told}
+use Rattle.rv_asm.proofs.Images.{placed_at, keeps_outside, is_filled, fields_within, trap_reported}
 use Rattle.rv_asm.proofs.Finish.{bound_place}
 use Rattle.rv_asm.proofs.OneOperations.{has_operation}
 use Rattle.rv_asm.proofs.LinesJoin.{Known, site_of, LineIn, line_at, threaded_runs}
@@ -54,7 +54,7 @@ module _ (job : Job) (code : Code) (b : Buffer) (built : LinesStand (context_of 
         let longer = f.finishes.grows.longer in
         let long = f.finishes.same_length in
         let same = keeps.long in
-        let p = parts_stand site (shape_of b) code.bytes f keeps refl refl built.fields filled (parts_of (context_of job) setting inst) start end (are_blocks (context_of job) setting inst rule) h.even (omega arith) h.there.1 in
+        let p = parts_stand site (shape_of b) code.bytes f keeps refl refl built.fields filled (parts_of (context_of job) setting inst) start end (parts_are_self_contained (context_of job) setting inst rule) h.even (omega arith) h.there.1 in
         (record { setting = setting; even = h.even; within = p.3; stands = p.0 }, p.1)
     line_in (Bind label) before start end rule h = let same = h.there.0 in let even = h.even in (same, omega arith)
 
@@ -87,7 +87,7 @@ module _ (job : Job) (code : Code) (b : Buffer) (built : LinesStand (context_of 
     returns = returns;
     bound = λ label e. f.finishes.grows.places label _ (bound_place job.lines code.lines b label built e);
     constants = λ number. f.finishes.offsets number ∙ ap (λ places. offset_in places number) (sym constants);
-    traps = λ at cause r. subst (λ ts. IsTrapAt ts at cause) (sym traps) (trap_told (records_of b) at cause r);
+    traps = λ at cause r. subst (λ ts. IsTrapAt ts at cause) (sym traps) (trap_reported (records_of b) at cause r);
     short = short;
     placed = λ label at e.
         let inside = (f.finishes.places label at e).0 in

@@ -18,7 +18,7 @@ use Rattle.rv_asm.specs.Reach.{InReach}
 use Rattle.rv_asm.proofs.Finish.{finished_short}
 use Rattle.rv_asm.proofs.FinishedLines.{built_runs, built_operations}
 use Rattle.rv_asm.proofs.RefusalOrder.{accepted_lines, accepted_frame, none_unfit, parts, no_rule_broken, sum_small, lines_small}
-use Rattle.rv_asm.proofs.RulesKept.{names_bound}
+use Rattle.rv_asm.proofs.RulesOfLines.{names_bound}
 use Rattle.rv_asm.proofs.SpanLengths.{all_bytes, built_reported}
 
 -- saved registers are the machine's

@@ -131,24 +131,24 @@ bound_by_append spans i (Bind l ∷ lines) more label =
 -- ---- what is pending
 
 -- what is pending after some lines, from the first that is open
-abbrev waiting_at : (context : Context) → List LineSpan → List Line → ℕ → List ℕ
-waiting_at context spans front k = deadlines (λ (u : Use LabelUse). has_veneer_of u.kind && not (is_reached label_kinds (bound_by spans 0 front u.label.number) u)) label_kinds (uses_from context spans k (drop k front))
+abbrev open_deadlines : (context : Context) → List LineSpan → List Line → ℕ → List ℕ
+open_deadlines context spans front k = deadlines (λ (u : Use LabelUse). has_veneer_of u.kind && not (is_reached label_kinds (bound_by spans 0 front u.label.number) u)) label_kinds (uses_from context spans k (drop k front))
 
-waiting_spans : (context : Context) (spans more : List LineSpan) (front : List Line) (k : ℕ) → length front ≤ length spans → k ≤ length front → waiting_at context (spans ++ more) front k ≡ waiting_at context spans front k
-waiting_spans context spans more front k le low =
+open_deadlines_spans : (context : Context) (spans more : List LineSpan) (front : List Line) (k : ℕ) → length front ≤ length spans → k ≤ length front → open_deadlines context (spans ++ more) front k ≡ open_deadlines context spans front k
+open_deadlines_spans context spans more front k le low =
     let long : length (drop k front) ≡ length front - k = length-drop k front in
     let uses : uses_from context (spans ++ more) k (drop k front) ≡ uses_from context spans k (drop k front) = uses_more context spans more k (drop k front) (omega arith) in
     let bound : (label : ℕ) → bound_by (spans ++ more) 0 front label ≡ bound_by spans 0 front label = λ label. bound_by_more spans more 0 front label (omega arith) in
     λ j. deadlines (λ (u : Use LabelUse). has_veneer_of u.kind && not (is_reached label_kinds (bound u.label.number j) u)) label_kinds (uses j)
 
-pub waiting_more : (context : Context) (lines more : List Line) (spans more_spans : List LineSpan) (n : ℕ) → length spans ≡ length lines → n ≤ length lines → pending_deadlines context (lines ++ more) (spans ++ more_spans) n ≡ pending_deadlines context lines spans n
-waiting_more context lines more spans more_spans n count le =
+pub pending_more : (context : Context) (lines more : List Line) (spans more_spans : List LineSpan) (n : ℕ) → length spans ≡ length lines → n ≤ length lines → pending_deadlines context (lines ++ more) (spans ++ more_spans) n ≡ pending_deadlines context lines spans n
+pending_more context lines more spans more_spans n count le =
     let k = first_after_island context lines spans n in
     let front : take n (lines ++ more) ≡ take n lines = take-append-le n lines more le in
     let from : first_after_island context (lines ++ more) (spans ++ more_spans) n ≡ k = open_more context lines more spans more_spans n count le in
     let low = open_low context lines spans n in
     let long : length (take n lines) ≡ n = length-take-le n lines le in
-    (λ j. waiting_at context (spans ++ more_spans) (front j) (from j)) ∙ waiting_spans context spans more_spans (take n lines) k (omega arith) (omega arith)
+    (λ j. open_deadlines context (spans ++ more_spans) (front j) (from j)) ∙ open_deadlines_spans context spans more_spans (take n lines) k (omega arith) (omega arith)
 
 -- an island that is due stays so
 pub due_more : (context : Context) (lines more : List Line) (spans more_spans : List LineSpan) (i at distance : ℕ) → length spans ≡ length lines → i ≤ length lines → IsDue context lines spans i at distance → IsDue context (lines ++ more) (spans ++ more_spans) i at distance

@@ -91,5 +91,5 @@ bound_agree : {context : Context} (lines : List Line) (spans : List LineSpan) (b
 bound_agree lines spans b built [] h = tt
 bound_agree lines spans b built (l ∷ labels) h = (ap (λ o. unwrap_or o 0) (bound_place lines spans b l.number built h.0), bound_agree lines spans b built labels h.1)
 
-pub handlers_told : {context : Context} (lines : List Line) (spans : List LineSpan) (b : Buffer) → LinesStand context lines spans b → ((i : ℕ) (line : Line) → slice_get lines i ≡ Some line → AllBound lines (named_labels line)) → tries_in (offset_or_zero (place_of b)) (records_from context spans 0 lines) ≡ tries_in (label_start spans lines) (records_from context spans 0 lines)
-handlers_told {context} lines spans b built named = lines_agree (offset_or_zero (place_of b)) (label_start spans lines) context spans 0 lines (λ i line e. bound_agree lines spans b built (named_labels line) (named i line e))
+pub handlers_reported : {context : Context} (lines : List Line) (spans : List LineSpan) (b : Buffer) → LinesStand context lines spans b → ((i : ℕ) (line : Line) → slice_get lines i ≡ Some line → AllBound lines (named_labels line)) → tries_in (offset_or_zero (place_of b)) (records_from context spans 0 lines) ≡ tries_in (label_start spans lines) (records_from context spans 0 lines)
+handlers_reported {context} lines spans b built named = lines_agree (offset_or_zero (place_of b)) (label_start spans lines) context spans 0 lines (λ i line e. bound_agree lines spans b built (named_labels line) (named i line e))

@@ -65,34 +65,34 @@ window_from mem a n from size le =
     let e : a + (from + k) ≡ a + from + k = omega arith in
     window_byte (bytes_from mem a n) from size k short ∙ from_byte mem a n (from + k) (omega arith) ∙ ap (byte mem) e ∙ sym (from_byte mem (a + from) size k short))
 
--- ---- what records tell
+-- ---- what records give
 
-record Told {X Y : Type 0} (f : X → List Y) (xs : List X) (y : Y) : Type 0 where
+record ComesFrom {X Y : Type 0} (f : X → List Y) (xs : List X) (y : Y) : Type 0 where
   index : ℕ
   from : X
   there : slice_get xs index ≡ Some from
   place : ℕ
-  tells : slice_get (f from) place ≡ Some y
+  gives : slice_get (f from) place ≡ Some y
 
-told_by : {X Y : Type 0} (f : X → List Y) (xs : List X) (j : ℕ) (y : Y) → slice_get (flat_map f xs) j ≡ Some y → Told f xs y
-told_by f [] j y h = absurd (cc)
-told_by f (x ∷ xs) j y h = ⊎_elim
-    (λ first. record { index = 0; from = x; there = refl; place = j; tells = first })
-    (λ rest. let t = told_by f xs rest.index y rest.there in record { index = suc t.index; from = t.from; there = t.there; place = t.place; tells = t.tells })
+comes_from : {X Y : Type 0} (f : X → List Y) (xs : List X) (j : ℕ) (y : Y) → slice_get (flat_map f xs) j ≡ Some y → ComesFrom f xs y
+comes_from f [] j y h = absurd (cc)
+comes_from f (x ∷ xs) j y h = ⊎_elim
+    (λ first. record { index = 0; from = x; there = refl; place = j; gives = first })
+    (λ rest. let t = comes_from f xs rest.index y rest.there in record { index = suc t.index; from = t.from; there = t.there; place = t.place; gives = t.gives })
     (locate (f x) (flat_map f xs) j y h)
 
 get_after : {Y : Type 0} (ys zs : List Y) (j : ℕ) (y : Y) → slice_get zs j ≡ Some y → slice_get (ys ++ zs) (length ys + j) ≡ Some y
 get_after [] zs j y h = let e : 0 + j ≡ j = omega arith in ap (slice_get zs) e ∙ h
 get_after (x ∷ ys) zs j y h = let e : suc (length ys) + j ≡ suc (length ys + j) = omega arith in ap (slice_get (x ∷ (ys ++ zs))) e ∙ get_after ys zs j y h
 
-tells : {X Y : Type 0} (f : X → List Y) (xs : List X) (k : ℕ) (x : X) (y : Y) → slice_get xs k ≡ Some x → slice_get (f x) 0 ≡ Some y → (j : ℕ) × (slice_get (flat_map f xs) j ≡ Some y)
-tells f [] k x y h first = absurd (cc)
-tells f (z ∷ xs) zero x y h first = (0, slice_get-append (f z) (flat_map f xs) 0 y (ap (λ w. slice_get (f w) 0) (same_Some z x h) ∙ first))
-tells f (z ∷ xs) (suc k) x y h first = let t = tells f xs k x y h first in (length (f z) + t.0, get_after (f z) (flat_map f xs) t.0 y t.1)
+gives : {X Y : Type 0} (f : X → List Y) (xs : List X) (k : ℕ) (x : X) (y : Y) → slice_get xs k ≡ Some x → slice_get (f x) 0 ≡ Some y → (j : ℕ) × (slice_get (flat_map f xs) j ≡ Some y)
+gives f [] k x y h first = absurd (cc)
+gives f (z ∷ xs) zero x y h first = (0, slice_get-append (f z) (flat_map f xs) 0 y (ap (λ w. slice_get (f w) 0) (same_Some z x h) ∙ first))
+gives f (z ∷ xs) (suc k) x y h first = let t = gives f xs k x y h first in (length (f z) + t.0, get_after (f z) (flat_map f xs) t.0 y t.1)
 
--- a trap that was recorded is told
-pub trap_told : (records : List MachRecord) (at : ℕ) (cause : TrapCode) → IsRecorded records at (event.Trap cause) → IsTrapAt (traps_in records) at cause
-trap_told records at cause r = let t = tells record_traps records r.index _ (record { offset = at; code = cause }) r.there refl in record { index = t.0; there = t.1 }
+-- a trap that was recorded is reported
+pub trap_reported : (records : List MachRecord) (at : ℕ) (cause : TrapCode) → IsRecorded records at (event.Trap cause) → IsTrapAt (traps_in records) at cause
+trap_reported records at cause r = let t = gives record_traps records r.index _ (record { offset = at; code = cause }) r.there refl in record { index = t.0; there = t.1 }
 
 -- ---- distances
 
@@ -133,20 +133,20 @@ module _ (code : Code) (base : ℕ) (symbols slots : Addresses) (mem : Memory) (
   -- a byte of a stretch that is clear of all records is outside what relocations fill
   outside : code.relocs ≡ relocs_in records → (from size k : ℕ) → k < size → AllClear records from size → IsOutside code.relocs (from + k) 1
   outside same from size k lt clear j r h =
-      let t = told_by record_relocs records j r (ap (λ rs. slice_get rs j) (sym same) ∙ h) in
-      on t.from.offset t.from.event t.place t.tells (clear t.index t.from t.there)
+      let t = comes_from record_relocs records j r (ap (λ rs. slice_get rs j) (sym same) ∙ h) in
+      on t.from.offset t.from.event t.place t.gives (clear t.index t.from t.there)
     where
       on : (offset : ℕ) (e : Event) (i : ℕ) → slice_get (event_relocs offset e) i ≡ Some r → IsClear from size offset e → IsApart (from + k) 1 r.offset (field_size r.kind)
-      on offset (event.Trap cause) i tells c = absurd (cc)
-      on offset (event.Unwind u) i tells c = absurd (cc)
-      on offset event.CallSite i tells c = absurd (cc)
-      on offset (event.TryCallSite to_fp handlers) i tells c = absurd (cc)
-      on offset (event.PatchableCallSite len) i tells c = absurd (cc)
-      on offset (event.StackMap span entries) i tells c = absurd (cc)
-      on offset (event.Reloc kind to addend) zero tells c =
-          let is : record { offset = offset; kind = kind; target = to; addend = addend } ≡ r = same_Some _ _ tells in
+      on offset (event.Trap cause) i gives c = absurd (cc)
+      on offset (event.Unwind u) i gives c = absurd (cc)
+      on offset event.CallSite i gives c = absurd (cc)
+      on offset (event.TryCallSite to_fp handlers) i gives c = absurd (cc)
+      on offset (event.PatchableCallSite len) i gives c = absurd (cc)
+      on offset (event.StackMap span entries) i gives c = absurd (cc)
+      on offset (event.Reloc kind to addend) zero gives c =
+          let is : record { offset = offset; kind = kind; target = to; addend = addend } ≡ r = same_Some _ _ gives in
           subst (λ (x : MachReloc). IsApart (from + k) 1 x.offset (field_size x.kind)) is (⊎_elim (λ before. inl (omega arith)) (λ after. inr (omega arith)) c)
-      on offset (event.Reloc kind to addend) (suc i) tells c = absurd (cc)
+      on offset (event.Reloc kind to addend) (suc i) gives c = absurd (cc)
 
   pub keeps_outside : code.relocs ≡ relocs_in records → IsPlaced code base symbols slots mem → KeepsOutside site code.bytes
   keeps_outside same placed = record {
@@ -173,9 +173,9 @@ module _ (code : Code) (base : ℕ) (symbols slots : Addresses) (mem : Memory) (
         lower_kept = subst (SameOutside (marks_of PCRelLo12I) (window code.bytes (at + 4) 4)) second e;
       }
 
-  -- a relocation that was recorded is told
-  reloc_told : code.relocs ≡ relocs_in records → (k : ℕ) (at : ℕ) (kind : Reloc) (to : FinalizedRelocTarget) (addend : ℤ) → slice_get records k ≡ Some (record { offset = at; event = event.Reloc kind to addend }) → (j : ℕ) × (slice_get code.relocs j ≡ Some (record { offset = at; kind = kind; target = to; addend = addend }))
-  reloc_told same k at kind to addend h = let t = tells record_relocs records k _ (record { offset = at; kind = kind; target = to; addend = addend }) h refl in (t.0, ap (λ rs. slice_get rs t.0) same ∙ t.1)
+  -- a relocation that was recorded is reported
+  reloc_reported : code.relocs ≡ relocs_in records → (k : ℕ) (at : ℕ) (kind : Reloc) (to : FinalizedRelocTarget) (addend : ℤ) → slice_get records k ≡ Some (record { offset = at; event = event.Reloc kind to addend }) → (j : ℕ) × (slice_get code.relocs j ≡ Some (record { offset = at; kind = kind; target = to; addend = addend }))
+  reloc_reported same k at kind to addend h = let t = gives record_relocs records k _ (record { offset = at; kind = kind; target = to; addend = addend }) h refl in (t.0, ap (λ rs. slice_get rs t.0) same ∙ t.1)
 
   module _ (same : code.relocs ≡ relocs_in records) (ends : (k : ℕ) (r : MachRecord) → slice_get records k ≡ Some r → EndsWithin (length code.bytes) r.offset r.event) (placed : IsPlaced code base symbols slots mem) where
     -- the distance from an address to where two words lead
@@ -184,8 +184,8 @@ module _ (code : Code) (base : ℕ) (symbols slots : Addresses) (mem : Memory) (
 
     distances : (j k at : ℕ) (symbol : Symbol) → slice_get records j ≡ Some (record { offset = at; event = upper_event symbol }) → slice_get records k ≡ Some (record { offset = at + 4; event = lower_event at }) → IsFilledWith site code.bytes at symbol
     distances j k at (AddressOf name addend) hj hk =
-        let u = reloc_told same j at RiscvPCRelHi20 (target.ExternalName name) addend hj in
-        let l = reloc_told same k (at + 4) RiscvPCRelLo12I (target.Func at) (pos 0) hk in
+        let u = reloc_reported same j at RiscvPCRelHi20 (target.ExternalName name) addend hj in
+        let l = reloc_reported same k (at + 4) RiscvPCRelLo12I (target.Func at) (pos 0) hk in
         let f = placed.filled u.0 _ u.1 in
         let g = placed.filled l.0 _ l.1 u.0 _ f.0 u.1 refl f.1 in
         let sum = sum_leads (address_of_name symbols name.number) addend f.0 f.1 in
@@ -198,8 +198,8 @@ module _ (code : Code) (base : ℕ) (symbols slots : Addresses) (mem : Memory) (
           holds = holds_both at (distance_to (wrap (base + at)) f.0) (omega arith) f.2.1.aims f.2.1.kept g.aims g.kept;
         }
     distances j k at (SlotOf name) hj hk =
-        let u = reloc_told same j at RiscvGotHi20 (target.ExternalName name) (pos 0) hj in
-        let l = reloc_told same k (at + 4) RiscvPCRelLo12I (target.Func at) (pos 0) hk in
+        let u = reloc_reported same j at RiscvGotHi20 (target.ExternalName name) (pos 0) hj in
+        let l = reloc_reported same k (at + 4) RiscvPCRelLo12I (target.Func at) (pos 0) hk in
         let f = placed.filled u.0 _ u.1 in
         let g = placed.filled l.0 _ l.1 u.0 _ f.0 u.1 refl f.1 in
         let there = name_leads _ f.0 f.1 in
@@ -214,7 +214,7 @@ module _ (code : Code) (base : ℕ) (symbols slots : Addresses) (mem : Memory) (
     -- the distance of a call is whole in its two words
     calls : (k at : ℕ) (name : ExternalName) → slice_get records k ≡ Some (record { offset = at; event = call_event name }) → IsLinkedWith site code.bytes at name
     calls k at name h =
-        let u = reloc_told same k at RiscvCallPlt (target.ExternalName name) (pos 0) h in
+        let u = reloc_reported same k at RiscvCallPlt (target.ExternalName name) (pos 0) h in
         let f = placed.filled u.0 _ u.1 in
         let sum = sum_leads (address_of_name symbols name.number) (pos 0) f.0 f.1 in
         let fits : f.0 < 2 ^ 64 = omega arith in
@@ -232,7 +232,7 @@ module _ (code : Code) (base : ℕ) (symbols slots : Addresses) (mem : Memory) (
     is_filled = record {
       distances = distances;
       addresses = λ k at name addend h.
-          let u = reloc_told same k at Abs8 (target.ExternalName name) addend h in
+          let u = reloc_reported same k at Abs8 (target.ExternalName name) addend h in
           let f = placed.filled u.0 _ u.1 in
           let sum = sum_leads (address_of_name symbols name.number) addend f.0 f.1 in
           let le : at + 8 ≤ length code.bytes = ends k _ h in

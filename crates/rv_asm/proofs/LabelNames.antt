@@ -33,7 +33,7 @@ use Rattle.rv_emit.proofs.Laws.{Each, each_none, each_more, uses_kinds}
 use Rattle.rv_asm.specs.Reported.{start_of, end_of, binds_from}
 use Rattle.rv_asm.specs.Refusal.{binds, is_bound}
 use Rattle.rv_asm.specs.LinesInBuffer.{IsNamed, Named, BindPut}
-use Rattle.rv_asm.proofs.LinesAppended.{InstAppends, LineAppends}
+use Rattle.rv_asm.proofs.AppendedLines.{InstAppends, LineAppends}
 
 -- ---- the binds of lines
 
@@ -248,8 +248,8 @@ good_code lines more code own old new p good h =
 own_good : (context : Context) (lines : List Line) (inst : Inst) (start end : ℕ) (new : Buffer) → Each (IsGood (lines ++ Put inst ∷ []) new) (uses_in context start end inst)
 own_good context lines inst start end new j u e = (uses_kinds context start end inst j u e, inr (⊎_elim (λ o. inl (own_named lines inst u.label.number o)) (λ high. inr high.0) (uses_labels context start end inst j u e)))
 
-good_block : (context : Context) (lines : List Line) (inst : Inst) (old new : Buffer) → AppendsInst context inst old new → AreGood lines old → AreGood (lines ++ Put inst ∷ []) new
-good_block context lines inst old new p h =
+good_inst : (context : Context) (lines : List Line) (inst : Inst) (old new : Buffer) → AppendsInst context inst old new → AreGood lines old → AreGood (lines ++ Put inst ∷ []) new
+good_inst context lines inst old new p h =
     let own = uses_in context (length (bytes_of old)) (length (bytes_of new)) inst in
     good_code lines (Put inst ∷ []) p.code (own ++ p.far) old new p.adds
     (both_lists (IsGood (lines ++ Put inst ∷ []) new) own p.far (own_good context lines inst (length (bytes_of old)) (length (bytes_of new)) new)
@@ -266,9 +266,9 @@ good_emitted context lines inst old new e h = by (extent_of context inst) e
     all = lines ++ Put inst ∷ []
 
     by : (e : Extent) → AppendsBy context e inst old new → AreGood all new
-    by (Words size) words = good_block context lines inst old new words h
+    by (Words size) words = good_inst context lines inst old new words h
     by (Island space) (made, room) = good_line lines (Put inst ∷ []) new (good_room lines space old new made room h)
-    by (After space size more) (mid, made, room, words) = good_block context lines inst mid new words (good_room lines space old mid made room h)
+    by (After space size more) (mid, made, room, words) = good_inst context lines inst mid new words (good_room lines space old mid made room h)
     by (Around before space after) a =
         let first = no_more lines a.mid (good_code lines [] a.first.code [] old a.mid a.first.adds (each_none _) h) in
         good_code lines (Put inst ∷ []) a.second.code (uses_in context (length (bytes_of old)) (length (bytes_of new)) inst) a.last new a.second.adds (own_good context lines inst (length (bytes_of old)) (length (bytes_of new)) new)
@@ -283,7 +283,7 @@ KeepsLow old new = (label : ℕ) → label < first_inner → place_of new label 
 pub room_keeps : (distance : ℕ) (old new : Buffer) (made : Bool) → IslandIfNeeded distance old new made → (labels_of new ≡ labels_of old) × KeepsLow old new
 room_keeps distance old new made m = ⊎_elim
     (λ same. (ap labels_of same.1, λ label low. ap (λ (b : Buffer). place_of b label) same.1))
-    (λ put. (put.1.labels, λ label low. put.1.places label (omega arith) (λ e. let at = put.1.drawn_label in absurd (omega arith))))
+    (λ put. (put.1.labels, λ label low. put.1.places label (omega arith) (λ e. let at = put.1.allocated_label in absurd (omega arith))))
     m.put
 
 code_keeps : (code : List ℕ) (own : List (Use LabelUse)) (old new : Buffer) → AppendsCode code own old new → (labels_of new ≡ labels_of old) × KeepsLow old new

@@ -3,7 +3,7 @@ pub mod NoEarlyIsland
 pub mod Outcomes
 pub mod ExitPoints
 pub mod Finish
-pub mod RulesKept
+pub mod RulesOfLines
 pub mod LabelNames
 pub mod UsesAfterIsland
 pub mod FirstLines
@@ -19,8 +19,8 @@ pub mod Images
 pub mod SavedRegisters
 pub mod LinesJoin
 pub mod AssemblyLoop
-pub mod ValuesKept
-pub mod LinesAppended
+pub mod EqualValues
+pub mod AppendedLines
 pub mod Extents
 mod LineRecords
 pub mod CallReturns

@@ -25,18 +25,18 @@ use Rattle.mach_buffer.specs.Growth.{Lasts}
 use Rattle.mach_buffer.specs.Shape.{recorded}
 use Rattle.mach_buffer.specs.Windows.{AreWindows}
 use Rattle.mach_buffer.proofs.Laws.{append_none, grows_put, lasts_more, stands_last as constants_last, even_length}
-use Rattle.rv_emit.specs.ConstantsAdded.{StandInTurn, AddsConstants}
+use Rattle.rv_emit.specs.NewConstants.{StandInTurn, AddsConstants}
 use Rattle.rv_emit.specs.declared.state.EmitVState.{EmitVState}
 use Rattle.rv_emit.specs.Emitted.{Buffer, IsSoundBuffer, HasWindows, IslandIfNeeded, AppendsBy, Appends, named_by}
 use Rattle.rv_emit.specs.Images.{EndsWithin, AllClear, FieldsStand}
 use Rattle.rv_emit.specs.InstParts.{parts_of}
 use Rattle.rv_emit.specs.Standing.{SpansIn}
 use Rattle.rv_emit.specs.State.{setting_beyond}
-use Rattle.rv_emit.proofs.Laws.{adds_both, adds_none, appends, gap_last, parts_last, gap_put, parts_put, are_blocks, bytes_put, words_long}
+use Rattle.rv_emit.proofs.Laws.{adds_both, adds_none, appends, gap_last, parts_last, gap_put, parts_put, parts_are_self_contained, bytes_put, words_long}
 use Rattle.rv_asm.specs.LinesInBuffer.{LineStands, StandsAfter, InstPut, BindPut, LinePut}
 use Rattle.rv_asm.specs.Reported.{line_records, line_constant, with_constant, StandOutside, WordsApart}
 use Rattle.rv_asm.proofs.Extents.{Lacks, lacks}
-use Rattle.rv_asm.proofs.LinesAppended.{appended_spans}
+use Rattle.rv_asm.proofs.AppendedLines.{appended_spans}
 use Rattle.rv_asm.proofs.LineRecords.{room_records, appended_records}
 
 -- what lasts from one buffer to another
@@ -156,14 +156,14 @@ inst_added context setting inst old new span rule s w f p =
     let now = setting_beyond p.made setting in
     let room = gap_put context.flags line_space old p.mid p.made s w f p.room in
     let appended = appends context now inst p.mid new rule room.sound p.emitted in
-    let put = parts_put context.flags (parts_of context now inst) p.mid new (are_blocks context now inst rule) room.sound room.windows room.fields p.emitted in
+    let put = parts_put context.flags (parts_of context now inst) p.mid new (parts_are_self_contained context now inst rule) room.sound room.windows room.fields p.emitted in
     let spans = appended_spans context now inst p.mid new rule appended put.stand in
     record {
       lasts = lasts_more room.lasts put.lasts;
       stands = subst (λ n. StandsAfter context (Put inst) new (length (bytes_of old)) n span.end) (sym p.start) (record {
         gap = gap_last (length (bytes_of old)) (length (bytes_of p.mid)) room.gap put.lasts;
-      there = subst (LineStands context (Put inst) new (length (bytes_of p.mid))) (sym p.end) (now, put.stand, spans);
-      even = even_length label_kinds p.mid room.sound;
+        there = subst (LineStands context (Put inst) new (length (bytes_of p.mid))) (sym p.end) (now, put.stand, spans);
+        even = even_length label_kinds p.mid room.sound;
         within = put.lasts.grows.longer;
         ends = let e = p.end in omega (arith, e);
       });

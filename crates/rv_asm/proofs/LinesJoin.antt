@@ -39,9 +39,9 @@ use Rattle.rv_asm.specs.Placed.{Addresses, address_of_name, bytes_from, IsPlaced
 use Rattle.rv_asm.proofs.Images.{from_long, placed_at}
 use Rattle.rv_asm.proofs.ExitPoints.{AllBound, ExitBound, exit_bound, return_bound}
 use Rattle.rv_asm.proofs.CallReturns.{return_found}
-use Rattle.rv_asm.proofs.ValuesKept.{same_itself}
+use Rattle.rv_asm.proofs.EqualValues.{same_itself}
 
--- what a buffer knows of the code of a job beside what the code tells: the places of labels, and the records in their order
+-- what a buffer knows of the code of a job beside what the code says: the places of labels, and the records in their order
 pub record Known : Type 0 where
   pub place : ℕ → Option ℕ
   pub records : List MachRecord
@@ -66,7 +66,7 @@ LineIn site (Put inst) start after = InstIn site inst start after
 LineIn site (Bind label) start after = start ≡ after
 
 -- each line stands in the code, keeps the rules, can restore the frame where it has to, and names labels that are bound; what
--- stands after it leads to the next one; the last line ends the code; calls return where the code tells; and labels stand where
+-- stands after it leads to the next one; the last line ends the code; calls return where the code says; and labels stand where
 -- they are bound, and constants at their offsets
 pub record IsThreaded (job : Job) (code : Code) (known : Known) : Type 0 where
   pub line : (base : ℕ) (symbols slots : Addresses) (mem : Memory) → IsPlaced code base symbols slots mem → (i : ℕ) (line : Line) → slice_get job.lines i ≡ Some line → LineIn (site_of job code known base symbols slots mem) line (start_of code.lines i) (end_of code.lines i)
@@ -221,13 +221,13 @@ comes job code known t base symbols slots i line s v lt e outside placed is_stat
 
 -- from where the call of a line returns it goes on to the next line
 resumes : (job : Job) (code : Code) (known : Known) → IsThreaded job code known → (base : ℕ) (symbols slots : Addresses) (i : ℕ) (inst : Inst) (r : Return) (s : State) (v : Values) → slice_get job.lines i ≡ Some (Put inst) → return_of job.flags inst ≡ Some r → IsPlaced code base symbols slots s.values.mem → IsState s → AreValues v → s.pc ≡ address_of code base (Returned i) → Same v s.values → Comes job code base symbols slots (Returned i) v s
-resumes job code known t base symbols slots i inst r s v e told placed is_state are_values pc same =
+resumes job code known t base symbols slots i inst r s v e returned placed is_state are_values pc same =
     let mem = s.values.mem in
     let site = site_of job code known base symbols slots mem in
     let long = from_long mem base (length code.bytes) in
     let h = t.line base symbols slots mem placed i (Put inst) e in
-    let from : return_at code.returns i ≡ start_of code.lines i + r.offset = ap (λ rs. return_at rs i) t.returns ∙ return_found job.flags code.lines i job.lines inst r e told in
-    let out = (inst_resumes site h.setting inst r (t.ruled i (Put inst) e) told).run (start_of code.lines i) (end_of code.lines i) s v (record {
+    let from : return_at code.returns i ≡ start_of code.lines i + r.offset = ap (λ rs. return_at rs i) t.returns ∙ return_found job.flags code.lines i job.lines inst r e returned in
+    let out = (inst_resumes site h.setting inst r (t.ruled i (Put inst) e) returned).run (start_of code.lines i) (end_of code.lines i) s v (record {
       even = h.even;
       within = h.within;
       short = subst (λ n. n < code_limit) (sym long) t.short;
@@ -245,7 +245,7 @@ resumes job code known t base symbols slots i inst r s v e told placed is_state 
       point = ends.point;
       values = reached.state.values;
       state = reached.state;
-      line = record { index = i; line = Put inst; entry = AtReturn; at = refl; listed = e; leads = ends.leads; effect = subst (λ w. SameBut [] w reached.state.values) (sym (ap (λ o. resumed_by o v) told)) reached.same };
+      line = record { index = i; line = Put inst; entry = AtReturn; at = refl; listed = e; leads = ends.leads; effect = subst (λ w. SameBut [] w reached.state.values) (sym (ap (λ o. resumed_by o v) returned)) reached.same };
       ran = reached.ran;
       moved = reached.moved;
       stands = reached.stands;
@@ -265,5 +265,5 @@ pub threaded_runs : (job : Job) (code : Code) (known : Known) → IsThreaded job
 threaded_runs job code known t = record {
   from = λ base symbols slots i line s v e outside placed is_state are_values pc same.
       comes job code known t base symbols slots i line s v (slice_get_within job.lines i line e) e outside placed is_state are_values pc same;
-  back = λ base symbols slots i inst r s v e told placed is_state are_values pc same. resumes job code known t base symbols slots i inst r s v e told placed is_state are_values pc same;
+  back = λ base symbols slots i inst r s v e returned placed is_state are_values pc same. resumes job code known t base symbols slots i inst r s v e returned placed is_state are_values pc same;
 }

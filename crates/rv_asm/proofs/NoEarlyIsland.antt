@@ -19,10 +19,10 @@ use Rattle.rv_asm.specs.Reported.{end_before}
 use Rattle.rv_asm.specs.LinesInBuffer.{LinesStand, Sized}
 use Rattle.rv_asm.specs.Reach.{pending_deadlines, IsDue, IsDueOf, IslandDue, NotEarly, ReachesOn}
 use Rattle.rv_asm.specs.AfterLastIsland.{AfterLastIsland}
-use Rattle.rv_asm.proofs.LinesAppended.{InstAppends, LineAppends}
+use Rattle.rv_asm.proofs.AppendedLines.{InstAppends, LineAppends}
 use Rattle.rv_asm.proofs.LabelNames.{start_more, end_more, start_last, end_last}
-use Rattle.rv_asm.proofs.UsesAfterIsland.{pending_waiting, due_now}
-use Rattle.rv_asm.proofs.FirstLines.{ends_more, waiting_more, due_more}
+use Rattle.rv_asm.proofs.UsesAfterIsland.{pending_reported, due_now}
+use Rattle.rv_asm.proofs.FirstLines.{ends_more, pending_more, due_more}
 use Rattle.rv_asm.proofs.AfterLastIsland.{line_end}
 
 -- below one more: below, or it
@@ -53,15 +53,15 @@ reaches_next context lines spans line span old new b p s sized h i le = by_place
     before lt =
         let count = b.count in
         let ends : end_before (spans ++ span ∷ []) i ≡ end_before spans i = ends_more spans (span ∷ []) i (omega arith) in
-        let waits : pending_deadlines context (lines ++ line ∷ []) (spans ++ span ∷ []) i ≡ pending_deadlines context lines spans i = waiting_more context lines (line ∷ []) spans (span ∷ []) i count (omega arith) in
-        subst (λ (ds : List ℕ). CanReach (end_before (spans ++ span ∷ []) i) ds) (sym waits) (subst (λ m. CanReach m (pending_deadlines context lines spans i)) (sym ends) (h i (omega arith)))
+        let same_pending : pending_deadlines context (lines ++ line ∷ []) (spans ++ span ∷ []) i ≡ pending_deadlines context lines spans i = pending_more context lines (line ∷ []) spans (span ∷ []) i count (omega arith) in
+        subst (λ (ds : List ℕ). CanReach (end_before (spans ++ span ∷ []) i) ds) (sym same_pending) (subst (λ m. CanReach m (pending_deadlines context lines spans i)) (sym ends) (h i (omega arith)))
 
     last : CanReach (end_before (spans ++ span ∷ []) (suc (length lines))) (pending_deadlines context (lines ++ line ∷ []) (spans ++ span ∷ []) (suc (length lines)))
     last =
         let end : end_of (spans ++ span ∷ []) (length lines) ≡ span.end = ap (end_of (spans ++ span ∷ [])) (sym b.count) ∙ end_last spans span in
         let cur : length (bytes_of new) ≡ end_of (spans ++ span ∷ []) (length lines) = line_end context line old new span p ∙ sym end in
-        let waits : pending new ≡ pending_deadlines context (lines ++ line ∷ []) (spans ++ span ∷ []) (suc (length lines)) = pending_waiting context (lines ++ line ∷ []) (spans ++ span ∷ []) new s ∙ ap (pending_deadlines context (lines ++ line ∷ []) (spans ++ span ∷ [])) long in
-        subst (CanReach (end_of (spans ++ span ∷ []) (length lines))) waits (subst (λ m. CanReach m (pending new)) cur sized.reach)
+        let same_pending : pending new ≡ pending_deadlines context (lines ++ line ∷ []) (spans ++ span ∷ []) (suc (length lines)) = pending_reported context (lines ++ line ∷ []) (spans ++ span ∷ []) new s ∙ ap (pending_deadlines context (lines ++ line ∷ []) (spans ++ span ∷ [])) long in
+        subst (CanReach (end_of (spans ++ span ∷ []) (length lines))) same_pending (subst (λ m. CanReach m (pending new)) cur sized.reach)
 
 -- ---- no island is early
 

@@ -24,10 +24,10 @@ written c ends.ReadFault due appended = absurd due.1.3
 written c ends.WriteFault due appended = absurd due.1.3
 written c ends.OutOfMemory due appended = absurd due.1.3
 
-pub ended_told : (c : Call) (outcome answer : Outcome) → Due c outcome → WritesOutcome outcome c.taken c.taken_after c.write_faults c.write_faults_after answer → Ended c answer
-ended_told c outcome answer due (inl (is, appended)) = subst (λ (o : Outcome). Ended c o) (sym is) (written c outcome due appended)
-ended_told c outcome answer due (inr (inl (is, rose, front))) = subst (λ (o : Outcome). Ended c o) (sym is) (rose, (outcome, due, front))
-ended_told c outcome answer due (inr (inr (is, front))) = subst (λ (o : Outcome). Ended c o) (sym is) (inr (outcome, due, front))
+pub ended_written : (c : Call) (outcome returned : Outcome) → Due c outcome → WritesOutcome outcome c.taken c.taken_after c.write_faults c.write_faults_after returned → Ended c returned
+ended_written c outcome returned due (inl (is, appended)) = subst (λ (o : Outcome). Ended c o) (sym is) (written c outcome due appended)
+ended_written c outcome returned due (inr (inl (is, rose, front))) = subst (λ (o : Outcome). Ended c o) (sym is) (rose, (outcome, due, front))
+ended_written c outcome returned due (inr (inr (is, front))) = subst (λ (o : Outcome). Ended c o) (sym is) (inr (outcome, due, front))
 
 -- ---- refusals
 
@@ -41,9 +41,9 @@ refused_job input errors.TooLarge is = is
 
 -- ---- without a fault
 
-told : (left : Option (List ℕ)) (P : List ℕ → Type 0) → ((input : List ℕ) → left ≡ Some input → P input) → IfSome left P
-told None P f = tt
-told (Some input) P f = f input refl
+where_left : (left : Option (List ℕ)) (P : List ℕ → Type 0) → ((input : List ℕ) → left ≡ Some input → P input) → IfSome left P
+where_left None P f = tt
+where_left (Some input) P f = f input refl
 
 at_left : (left : Option (List ℕ)) (P : List ℕ → Type 0) (input : List ℕ) → IfSome left P → left ≡ Some input → P input
 at_left left P input holds is = subst (λ (l : Option (List ℕ)). IfSome l P) is holds
@@ -61,7 +61,7 @@ short_input c outcome input is read = subst (λ (xs : List ℕ). length xs ≤ i
 long_input : (c : Call) (input : List ℕ) → c.left ≡ Some input → IfSome c.left (λ left. input_limit < length left) → input_limit < length input
 long_input c input is long = at_left c.left (λ left. input_limit < length left) input long is
 
-settles_usage : (c : Call) (answer : Outcome) → Ended c answer → 0 < c.words → ¬ Rose c.write_faults c.write_faults_after → IsOrOutOfMemory answer ends.Usage
+settles_usage : (c : Call) (returned : Outcome) → Ended c returned → 0 < c.words → ¬ Rose c.write_faults c.write_faults_after → IsOrOutOfMemory returned ends.Usage
 settles_usage c ends.Usage ended words fine = inl refl
 settles_usage c ends.OutOfMemory ended words fine = inr refl
 settles_usage c ends.WriteFault ended words fine = absurd (fine ended.0)
@@ -71,7 +71,7 @@ settles_usage c (ends.Syntax line) ended words fine = absurd (omega (arith, ende
 settles_usage c (ends.Refused error) ended words fine = absurd (omega (arith, ended.0.0))
 settles_usage c (ends.Done code) ended words fine = absurd (omega (arith, ended.0.0))
 
-settles_long : (c : Call) (answer : Outcome) (input : List ℕ) → c.left ≡ Some input → Ended c answer → Asked c → NoFault c → input_limit < length input → IsOrOutOfMemory answer ends.TooLong
+settles_long : (c : Call) (returned : Outcome) (input : List ℕ) → c.left ≡ Some input → Ended c returned → Asked c → NoFault c → input_limit < length input → IsOrOutOfMemory returned ends.TooLong
 settles_long c ends.Usage input is ended asked fine long = absurd (omega (arith, ended.0))
 settles_long c ends.OutOfMemory input is ended asked fine long = inr refl
 settles_long c ends.WriteFault input is ended asked fine long = absurd (fine.writes ended.0)
@@ -81,7 +81,7 @@ settles_long c (ends.Syntax line) input is ended asked fine long = absurd (omega
 settles_long c (ends.Refused error) input is ended asked fine long = absurd (omega (arith, short_input c (ends.Refused error) input is ended.0.1))
 settles_long c (ends.Done code) input is ended asked fine long = absurd (omega (arith, short_input c (ends.Done code) input is ended.0.1))
 
-settles_syntax : (c : Call) (answer : Outcome) (input : List ℕ) (line : ℕ) → c.left ≡ Some input → Ended c answer → Asked c → NoFault c → length input ≤ input_limit → reads input ≡ Err line → IsOrOutOfMemory answer (ends.Syntax line)
+settles_syntax : (c : Call) (returned : Outcome) (input : List ℕ) (line : ℕ) → c.left ≡ Some input → Ended c returned → Asked c → NoFault c → length input ≤ input_limit → reads input ≡ Err line → IsOrOutOfMemory returned (ends.Syntax line)
 settles_syntax c ends.Usage input line is ended asked fine short bad = absurd (omega (arith, ended.0))
 settles_syntax c ends.OutOfMemory input line is ended asked fine short bad = inr refl
 settles_syntax c ends.WriteFault input line is ended asked fine short bad = absurd (fine.writes ended.0)
@@ -95,10 +95,10 @@ settles_syntax c (ends.Refused error) input line is ended asked fine short bad =
     let (job, read, found) = refused_job input error (means_input c (ends.Refused error) input is ended.0.1) in
     absurd (cc)
 settles_syntax c (ends.Done code) input line is ended asked fine short bad =
-    let (job, read, found, told, runs, operations, reach, ranges) = means_input c (ends.Done code) input is ended.0.1 in
+    let (job, read, found, reported, runs, operations, reach, ranges) = means_input c (ends.Done code) input is ended.0.1 in
     absurd (cc)
 
-settles_refused : (c : Call) (answer : Outcome) (input : List ℕ) (job : Job) (error : EmitError) → c.left ≡ Some input → Ended c answer → Asked c → NoFault c → length input ≤ input_limit → reads input ≡ Ok job → refusal job ≡ Some error → IsOrOutOfMemory answer (ends.Refused error)
+settles_refused : (c : Call) (returned : Outcome) (input : List ℕ) (job : Job) (error : EmitError) → c.left ≡ Some input → Ended c returned → Asked c → NoFault c → length input ≤ input_limit → reads input ≡ Ok job → refusal job ≡ Some error → IsOrOutOfMemory returned (ends.Refused error)
 settles_refused c ends.Usage input job error is ended asked fine short good due = absurd (omega (arith, ended.0))
 settles_refused c ends.OutOfMemory input job error is ended asked fine short good due = inr refl
 settles_refused c ends.WriteFault input job error is ended asked fine short good due = absurd (fine.writes ended.0)
@@ -113,11 +113,11 @@ settles_refused c (ends.Refused other) input job error is ended asked fine short
     let same : other ≡ error = cc (ap (λ (j : Job). refusal j) jobs) in
     inl (ap (λ (e : EmitError). ends.Refused e) same)
 settles_refused c (ends.Done code) input job error is ended asked fine short good due =
-    let (own, read, found, told, runs, operations, reach, ranges) = means_input c (ends.Done code) input is ended.0.1 in
+    let (own, read, found, reported, runs, operations, reach, ranges) = means_input c (ends.Done code) input is ended.0.1 in
     let jobs : own ≡ job = cc in
     absurd (cc (ap (λ (j : Job). refusal j) jobs))
 
-completes : (c : Call) (answer : Outcome) (input : List ℕ) (job : Job) → c.left ≡ Some input → Ended c answer → Asked c → NoFault c → length input ≤ input_limit → reads input ≡ Ok job → refusal job ≡ None → IsDone answer
+completes : (c : Call) (returned : Outcome) (input : List ℕ) (job : Job) → c.left ≡ Some input → Ended c returned → Asked c → NoFault c → length input ≤ input_limit → reads input ≡ Ok job → refusal job ≡ None → IsDone returned
 completes c ends.Usage input job is ended asked fine short good valid = absurd (omega (arith, ended.0))
 completes c ends.OutOfMemory input job is ended asked fine short good valid = tt
 completes c ends.WriteFault input job is ended asked fine short good valid = absurd (fine.writes ended.0)
@@ -132,11 +132,11 @@ completes c (ends.Refused other) input job is ended asked fine short good valid 
     absurd (cc (ap (λ (j : Job). refusal j) jobs))
 completes c (ends.Done code) input job is ended asked fine short good valid = tt
 
-pub settled : (c : Call) (answer : Outcome) → Ended c answer → IsSettled c answer
-settled c answer ended = record {
-  usage = settles_usage c answer ended;
-  too_long = λ asked fine. told c.left _ (λ input is long. settles_long c answer input is ended asked fine long);
-  syntax_line = λ asked fine. told c.left _ (λ input is short line bad. settles_syntax c answer input line is ended asked fine short bad);
-  refused = λ asked fine. told c.left _ (λ input is short job error good due. settles_refused c answer input job error is ended asked fine short good due);
-  complete = λ asked fine. told c.left _ (λ input is short job good valid. completes c answer input job is ended asked fine short good valid);
+pub settled : (c : Call) (returned : Outcome) → Ended c returned → IsSettled c returned
+settled c returned ended = record {
+  usage = settles_usage c returned ended;
+  too_long = λ asked fine. where_left c.left _ (λ input is long. settles_long c returned input is ended asked fine long);
+  syntax_line = λ asked fine. where_left c.left _ (λ input is short line bad. settles_syntax c returned input line is ended asked fine short bad);
+  refused = λ asked fine. where_left c.left _ (λ input is short job error good due. settles_refused c returned input job error is ended asked fine short good due);
+  complete = λ asked fine. where_left c.left _ (λ input is short job good valid. completes c returned input job is ended asked fine short good valid);
 }

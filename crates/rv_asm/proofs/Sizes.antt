@@ -18,14 +18,14 @@ use Rattle.mach_buffer.specs.Constants.{reserve_from, reserve_of}
 use Rattle.mach_buffer.proofs.Laws.{slack_same, slack_from_reach, reach_from_slack, total, due_total, reserve_other}
 use Rattle.rv_emit.specs.Emitted.{Buffer, pending, AppendsCode, AppendsIsland, IslandIfNeeded, AppendsBy, Appends}
 use Rattle.rv_inst.specs.Rules.{inst_rule, broken_rule}
-use Rattle.rv_emit.proofs.Laws.{waits, bytes_put, words_long, words_pending, ways_more, few_ways, words_within, most_counts}
+use Rattle.rv_emit.proofs.Laws.{pending_at, bytes_put, words_long, words_pending, ways_more, few_ways, words_within, most_counts}
 use Rattle.rv_inst.specs.Sizes.{Extent, Words, Island, After, Around, words_in, extent_of, line_space, inst_sum, line_sum}
 use Rattle.rv_inst.specs.Operands.{inst_ways}
 use Rattle.rv_inst.specs.declared.label_use.LabelUse.{LabelUse}
 use Rattle.mach_buffer.specs.declared.uses.Use.{Use}
 use Rattle.rv_asm.specs.Refusal.{constants_sum, lines_sum, size_sum}
 use Rattle.rv_asm.specs.LinesInBuffer.{Sized, BindPut}
-use Rattle.rv_asm.proofs.LinesAppended.{InstAppends, LineAppends}
+use Rattle.rv_asm.proofs.AppendedLines.{InstAppends, LineAppends}
 
 -- ---- sums
 
@@ -149,11 +149,11 @@ emitted_uses context inst old new rule small e =
 
 pub sized_none : (context : Context) (b : Buffer) → bytes_of b ≡ [] → uses_of b ≡ [] → ((label : ℕ) → place_of b label ≡ None) → registered_of b ≡ context.constants → allocated_of b ≡ 0 → Sized context [] b
 sized_none context b bytes uses places registered allocated =
-    let none : pending b ≡ [] = ap (deadlines (waits (place_of b)) label_kinds) uses in
-    let waiting : length (pending b) ≡ 0 = ap length none in
+    let none : pending b ≡ [] = ap (deadlines (pending_at (place_of b)) label_kinds) uses in
+    let few_pending : length (pending b) ≡ 0 = ap length none in
     let long : length (bytes_of b) ≡ 0 = ap length bytes in
     let reserve : reserve_of (shape_of b) ≡ constants_sum context.constants = reserve_all (place_of b) 0 (registered_of b) places ∙ ap constants_sum registered in
-    record { reach = subst (CanReach (length (bytes_of b))) (sym none) tt; size = omega (arith, waiting, long, reserve); allocated = omega arith }
+    record { reach = subst (CanReach (length (bytes_of b))) (sym none) tt; size = omega (arith, few_pending, long, reserve); allocated = omega arith }
 
 inst_sized : (context : Context) (lines : List Line) (inst : Inst) (old new : Buffer) (span : LineSpan) → inst_rule context inst ≡ None → inst_sum context inst ≤ code_limit → Sized context lines old → InstAppends context inst old new span → Sized context (lines ++ Put inst ∷ []) new
 inst_sized context lines inst old new span rule small s p =

@@ -20,7 +20,7 @@ use Rattle.mach_buffer.specs.Buffer.{shape_of, bytes_of, place_of, records_of, c
 use Rattle.mach_buffer.specs.Records.{relocs_in, traps_in, calls_in, tries_in, patches_in, maps_in, unwinds_in, offset_or_zero}
 use Rattle.rv_inst.specs.Operands.{named_labels}
 use Rattle.mach_buffer.specs.Constants.{HasConstants}
-use Rattle.rv_emit.specs.ConstantsAdded.{AddsConstants}
+use Rattle.rv_emit.specs.NewConstants.{AddsConstants}
 use Rattle.rv_emit.specs.Emitted.{Buffer}
 use Rattle.rv_emit.specs.Puts.{AllBytes}
 use Rattle.rv_emit.specs.Standing.{SpansIn, IsFinishedTo}
@@ -29,7 +29,7 @@ use Rattle.rv_asm.specs.Reported.{start_of, end_of, end_before, binds_from, retu
 use Rattle.rv_asm.specs.LinesInBuffer.{LineStands, LinesStand}
 use Rattle.rv_asm.proofs.ExitPoints.{AllBound}
 use Rattle.rv_asm.proofs.Extents.{spans_within, words_more}
-use Rattle.rv_asm.proofs.Handlers.{handlers_told}
+use Rattle.rv_asm.proofs.Handlers.{handlers_reported}
 use Rattle.rv_asm.proofs.LinesJoin.{line_at}
 use Rattle.rv_asm.proofs.Relocations.{fields_in_lines, fields_apart}
 
@@ -98,7 +98,7 @@ module _ (job : Job) (code : Code) (b : Buffer) (built : LinesStand (context_of 
     relocs = relocs ∙ ap relocs_in built.records;
     traps = traps ∙ ap traps_in built.records;
     call_sites = call_sites ∙ ap calls_in built.records;
-    try_call_sites = try_call_sites ∙ ap (tries_in (offset_or_zero (place_of b))) built.records ∙ handlers_told job.lines code.lines b built named;
+    try_call_sites = try_call_sites ∙ ap (tries_in (offset_or_zero (place_of b))) built.records ∙ handlers_reported job.lines code.lines b built named;
     patchable_call_sites = patchable_call_sites ∙ ap patches_in built.records;
     stack_maps = stack_maps ∙ ap maps_in built.records;
     unwinds = unwinds ∙ ap unwinds_in built.records;

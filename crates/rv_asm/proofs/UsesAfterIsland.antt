@@ -34,7 +34,7 @@ use Rattle.mach_buffer.proofs.Laws.{both_lists, deadlines_append, due_le_length}
 use Rattle.rv_emit.specs.Emitted.{Buffer, pending}
 use Rattle.rv_inst.specs.Forms.{jump_kind, jump_size, short_jalr}
 use Rattle.rv_inst.specs.Uses.{use_at, target_uses, target_reach, jump_reach, inst_reach, uses_by, uses_in}
-use Rattle.rv_emit.proofs.Laws.{deadlines_as, Each, each_none, each_more, uses_bare, waits, HasJump, has_jump, uses_least, few_ways}
+use Rattle.rv_emit.proofs.Laws.{deadlines_as, Each, each_none, each_more, uses_bare, pending_at, HasJump, has_jump, uses_least, few_ways}
 use Rattle.rv_asm.specs.Reported.{start_of, end_of}
 use Rattle.rv_asm.specs.LinesInBuffer.{LineStands, LinesStand}
 use Rattle.rv_inst.specs.Uses.{least_reach}
@@ -108,14 +108,14 @@ from_line context spans first (Put inst ∷ lines) =
     (λ j u h. later_line context spans first (Put inst) lines u (from_line context spans (suc first) lines j u h))
 from_line context spans first (Bind label ∷ lines) = λ j u h. later_line context spans first (Bind label) lines u (from_line context spans (suc first) lines j u h)
 
-few_in_lines : (context : Context) (place : ℕ → Option ℕ) (spans : List LineSpan) (first : ℕ) (lines : List Line) → length (deadlines (waits place) label_kinds (uses_from context spans first lines)) ≤ way_count lines
+few_in_lines : (context : Context) (place : ℕ → Option ℕ) (spans : List LineSpan) (first : ℕ) (lines : List Line) → length (deadlines (pending_at place) label_kinds (uses_from context spans first lines)) ≤ way_count lines
 few_in_lines context place spans first [] = omega arith
 few_in_lines context place spans first (Put inst ∷ lines) =
     let rest = few_in_lines context place spans (suc first) lines in
     let own = few_ways context place (start_of spans first) (end_of spans first) inst in
-    let front = deadlines (waits place) label_kinds (uses_in context (start_of spans first) (end_of spans first) inst) in
-    let back = deadlines (waits place) label_kinds (uses_from context spans (suc first) lines) in
-    let whole : length (deadlines (waits place) label_kinds (uses_from context spans first (Put inst ∷ lines))) ≡ length front + length back = ap length (deadlines_append (waits place) label_kinds (uses_in context (start_of spans first) (end_of spans first) inst) (uses_from context spans (suc first) lines)) ∙ length-append front back in
+    let front = deadlines (pending_at place) label_kinds (uses_in context (start_of spans first) (end_of spans first) inst) in
+    let back = deadlines (pending_at place) label_kinds (uses_from context spans (suc first) lines) in
+    let whole : length (deadlines (pending_at place) label_kinds (uses_from context spans first (Put inst ∷ lines))) ≡ length front + length back = ap length (deadlines_append (pending_at place) label_kinds (uses_in context (start_of spans first) (end_of spans first) inst) (uses_from context spans (suc first) lines)) ∙ length-append front back in
     omega (arith, rest, own, whole)
 few_in_lines context place spans first (Bind label ∷ lines) = let rest = few_in_lines context place spans (suc first) lines in omega (arith, rest)
 
@@ -147,25 +147,25 @@ deadlines_passing test (u ∷ uses) = on (test u) (deadlines_passing test uses)
     on false e = e
 
 -- of the open uses alone
-open_waits : (context : Context) (lines : List Line) (spans : List LineSpan) (b : Buffer) → AfterLastIsland context lines spans b → pending b ≡ deadlines (waits (place_of b)) label_kinds (uses_after_island context lines spans)
-open_waits context lines spans b s =
-    let test = waits (place_of b) in
+pending_open : (context : Context) (lines : List Line) (spans : List LineSpan) (b : Buffer) → AfterLastIsland context lines spans b → pending b ≡ deadlines (pending_at (place_of b)) label_kinds (uses_after_island context lines spans)
+pending_open context lines spans b s =
+    let test = pending_at (place_of b) in
     deadlines_passing test (uses_of b) ∙ ap (map (deadline label_kinds)) s.ends.same ∙ sym (deadlines_passing test (uses_after_island context lines spans))
 
 pub open_from_line : (context : Context) (lines : List Line) (spans : List LineSpan) → Each (FromLine context spans (first_after_island context lines spans (length lines)) (drop (first_after_island context lines spans (length lines)) lines)) (uses_after_island context lines spans)
 open_from_line context lines spans = from_line context spans (first_after_island context lines spans (length lines)) (drop (first_after_island context lines spans (length lines)) lines)
 
 -- what is pending in the buffer is what is pending by the spans
-pub pending_waiting : (context : Context) (lines : List Line) (spans : List LineSpan) (b : Buffer) → AfterLastIsland context lines spans b → pending b ≡ pending_deadlines context lines spans (length lines)
-pending_waiting context lines spans b s =
+pub pending_reported : (context : Context) (lines : List Line) (spans : List LineSpan) (b : Buffer) → AfterLastIsland context lines spans b → pending b ≡ pending_deadlines context lines spans (length lines)
+pending_reported context lines spans b s =
     let n = length lines in
     let k = first_after_island context lines spans n in
     let whole : take n lines ≡ lines = take_all n lines (omega arith) in
     let test : Use LabelUse → Bool = λ u. has_veneer_of u.kind && not (is_reached label_kinds (bound_by spans 0 lines u.label.number) u) in
-    let same : deadlines (waits (place_of b)) label_kinds (uses_after_island context lines spans) ≡ deadlines test label_kinds (uses_after_island context lines spans) = deadlines_as (waits (place_of b)) test label_kinds (uses_after_island context lines spans) each in
-    open_waits context lines spans b s ∙ same ∙ sym (λ j. deadlines (λ (u : Use LabelUse). has_veneer_of u.kind && not (is_reached label_kinds (bound_by spans 0 (whole j) u.label.number) u)) label_kinds (uses_from context spans k (drop k (whole j))))
+    let same : deadlines (pending_at (place_of b)) label_kinds (uses_after_island context lines spans) ≡ deadlines test label_kinds (uses_after_island context lines spans) = deadlines_as (pending_at (place_of b)) test label_kinds (uses_after_island context lines spans) each in
+    pending_open context lines spans b s ∙ same ∙ sym (λ j. deadlines (λ (u : Use LabelUse). has_veneer_of u.kind && not (is_reached label_kinds (bound_by spans 0 (whole j) u.label.number) u)) label_kinds (uses_from context spans k (drop k (whole j))))
   where
-    each : (j : ℕ) (u : Use LabelUse) → slice_get (uses_after_island context lines spans) j ≡ Some u → waits (place_of b) u ≡ (has_veneer_of u.kind && not (is_reached label_kinds (bound_by spans 0 lines u.label.number) u))
+    each : (j : ℕ) (u : Use LabelUse) → slice_get (uses_after_island context lines spans) j ≡ Some u → pending_at (place_of b) u ≡ (has_veneer_of u.kind && not (is_reached label_kinds (bound_by spans 0 lines u.label.number) u))
     each j u h =
         let f = open_from_line context lines spans j u h in
         let start = start_of spans (first_after_island context lines spans (length lines) + f.index) in
@@ -232,9 +232,9 @@ due_now context lines spans b distance built s needed =
     let k = first_after_island context lines spans n in
     let cur = length (bytes_of b) in
     let us = uses_after_island context lines spans in
-    let ds = deadlines (waits (place_of b)) label_kinds us in
-    let m : Missed (cur + distance) ds ds = missed (cur + distance) ds ds (sym (ap (is_needed cur distance) (open_waits context lines spans b s)) ∙ needed) in
-    let o : OfUse (waits (place_of b)) us m.due = of_use (waits (place_of b)) us m.index m.due m.there in
+    let ds = deadlines (pending_at (place_of b)) label_kinds us in
+    let m : Missed (cur + distance) ds ds = missed (cur + distance) ds ds (sym (ap (is_needed cur distance) (pending_open context lines spans b s)) ∙ needed) in
+    let o : OfUse (pending_at (place_of b)) us m.due = of_use (pending_at (place_of b)) us m.index m.due m.there in
     let f : FromLine context spans k (drop k lines) o.user = open_from_line context lines spans o.index o.user o.there in
     let there : slice_get lines (k + f.index) ≡ Some (Put f.inst) = get_drop lines k f.index (Put f.inst) f.there in
     let some : 1 ≤ length (inst_ways f.inst) = uses_ways context (start_of spans (k + f.index)) (end_of spans (k + f.index)) f.inst f.place o.user f.own (and_first (has_veneer_of o.user.kind) _ o.passes) in

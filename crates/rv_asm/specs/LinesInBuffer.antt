@@ -24,7 +24,7 @@ use Rattle.mach_buffer.specs.Shape.{listed}
 use Rattle.mach_buffer.specs.Constants.{reserve_of, AllStand}
 use Rattle.mach_buffer.specs.Islands.{is_far}
 use Rattle.rv_emit.specs.Emitted.{Buffer, IsSoundBuffer, HasWindows, pending, IslandIfNeeded}
-use Rattle.rv_emit.specs.ConstantsAdded.{StandInTurn}
+use Rattle.rv_emit.specs.NewConstants.{StandInTurn}
 use Rattle.rv_emit.specs.Emission.{EmitsIn}
 use Rattle.rv_emit.specs.Images.{FieldsStand}
 use Rattle.rv_emit.specs.InstParts.{parts_of}

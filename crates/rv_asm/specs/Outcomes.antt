@@ -140,9 +140,9 @@ Ended call outcome = Wrote call outcome
 
 -- ---- where no fault rose
 
--- the answer is this outcome, or out of memory
+-- what is returned is this outcome, or out of memory
 abbrev pub IsOrOutOfMemory : Outcome → Outcome → Type 0
-IsOrOutOfMemory answer outcome = (answer ≡ outcome) ⊎ (answer ≡ ends.OutOfMemory)
+IsOrOutOfMemory returned outcome = (returned ≡ outcome) ⊎ (returned ≡ ends.OutOfMemory)
 
 abbrev pub IsDone : Outcome → Type 0
 IsDone (ends.Done code) = Unit {0}
@@ -154,19 +154,19 @@ pub record NoFault (call : Call) : Type 0 where
   pub writes : ¬ Rose call.write_faults call.write_faults_after
 
 -- Without a fault the words and the input settle how a call ends, out of memory aside.
-pub record IsSettled (call : Call) (answer : Outcome) : Type 0 where
-  pub usage : 0 < call.words → ¬ Rose call.write_faults call.write_faults_after → IsOrOutOfMemory answer ends.Usage
-  pub too_long : Asked call → NoFault call → IfSome call.left (λ input. input_limit < length input → IsOrOutOfMemory answer ends.TooLong)
-  pub syntax_line : Asked call → NoFault call → IfSome call.left (λ input. length input ≤ input_limit → (line : ℕ) → reads input ≡ Err line → IsOrOutOfMemory answer (ends.Syntax line))
-  pub refused : Asked call → NoFault call → IfSome call.left (λ input. length input ≤ input_limit → (job : Job) (error : EmitError) → reads input ≡ Ok job → refusal job ≡ Some error → IsOrOutOfMemory answer (ends.Refused error))
-  pub complete : Asked call → NoFault call → IfSome call.left (λ input. length input ≤ input_limit → (job : Job) → reads input ≡ Ok job → refusal job ≡ None → IsDone answer)
+pub record IsSettled (call : Call) (returned : Outcome) : Type 0 where
+  pub usage : 0 < call.words → ¬ Rose call.write_faults call.write_faults_after → IsOrOutOfMemory returned ends.Usage
+  pub too_long : Asked call → NoFault call → IfSome call.left (λ input. input_limit < length input → IsOrOutOfMemory returned ends.TooLong)
+  pub syntax_line : Asked call → NoFault call → IfSome call.left (λ input. length input ≤ input_limit → (line : ℕ) → reads input ≡ Err line → IsOrOutOfMemory returned (ends.Syntax line))
+  pub refused : Asked call → NoFault call → IfSome call.left (λ input. length input ≤ input_limit → (job : Job) (error : EmitError) → reads input ≡ Ok job → refusal job ≡ Some error → IsOrOutOfMemory returned (ends.Refused error))
+  pub complete : Asked call → NoFault call → IfSome call.left (λ input. length input ≤ input_limit → (job : Job) → reads input ≡ Ok job → refusal job ≡ None → IsDone returned)
 
--- A text was written and the answer is the outcome meant, or a fault of the sink or memory ran out.
+-- A text was written and the outcome meant is returned, or a fault of the sink or memory ran out.
 abbrev pub WritesOutcome : Outcome → Option (List ℕ) → Option (List ℕ) → ℕ → ℕ → Outcome → Type 0
-WritesOutcome outcome old new before after answer =
-    ((answer ≡ outcome) × Appends old new (text_of outcome))
-    ⊎ ((answer ≡ ends.WriteFault) × Rose before after × TookFront old new (text_of outcome))
-    ⊎ ((answer ≡ ends.OutOfMemory) × TookFront old new (text_of outcome))
+WritesOutcome outcome old new before after returned =
+    ((returned ≡ outcome) × Appends old new (text_of outcome))
+    ⊎ ((returned ≡ ends.WriteFault) × Rose before after × TookFront old new (text_of outcome))
+    ⊎ ((returned ≡ ends.OutOfMemory) × TookFront old new (text_of outcome))
 
 -- the outcome of a job that is refused so
 abbrev pub outcome_of : EmitError → Result Outcome OutOfMemory

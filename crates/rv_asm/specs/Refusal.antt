@@ -100,7 +100,7 @@ lines_refusal context lines = first_of (broken_from context 0 lines) (first_of (
 unfoldable pub refusal : Job → Option EmitError
 refusal job = first_of (bad_frame job.frame job.lines) (lines_refusal (context_of job) job.lines)
 
--- what a look for an error answers; out of memory may come at any time
+-- what a look for an error returns; out of memory may come at any time
 abbrev pub Finds : {X : Type 0} → Option EmitError → Result X EmitError → Type 0
 Finds found (Ok x) = found ≡ None
 Finds found (Err OutOfMemory) = Unit {0}

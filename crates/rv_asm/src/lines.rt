@@ -93,7 +93,7 @@ fn put_inst(
     Ok(LineSpan { index, start, end })
 }
 
-/// Puts an island where one is needed before a line. Returns whether it did.
+/// Puts an island where one is needed before a line. Returns whether one was put.
 fn emit_needed_island(
     sink: &mut MachBuffer<LabelUse>,
     state: &mut EmitState,

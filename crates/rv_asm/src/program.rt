@@ -42,7 +42,7 @@ fn outcome_of_input(alloc: Global, input: Vec<u8>) -> Result<Outcome, OutOfMemor
     }
 }
 
-/// Writes the text of an outcome, and answers how the call ends.
+/// Writes the text of an outcome, and returns how the call ends.
 fn write_outcome<K: Sink>(alloc: Global, sink: &mut K, outcome: Outcome) -> Outcome
     ensures { WritesOutcome outcome (K.taken sink.old) (K.taken sink.new) (K.faults sink.old) (K.faults sink.new) result }
 {

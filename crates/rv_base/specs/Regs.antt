@@ -35,9 +35,9 @@ IsVirtualOf (Real p) index class = ⊥
 IsVirtualOf (Virtual file at) index class = (at.value ≡ index) × (file ≡ class)
 
 -- a register's place in the order of its file: a real one's number, and above it a virtual one's index
-abbrev pub place_of : Reg → ℕ
-place_of (Real p) = p.number
-place_of (Virtual class index) = index.value
+abbrev pub index_of : Reg → ℕ
+index_of (Real p) = p.number
+index_of (Virtual class index) = index.value
 
 -- the integer register of a number
 abbrev pub int_reg : (number : ℕ) → number < 32 → Reg

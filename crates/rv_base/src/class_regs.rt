@@ -2,7 +2,7 @@
 
 ghost use Rattle.std.specs.Prelude.{◌≡◌, ◌≢◌, ◌↔◌, IsTrue, MatchOption};
 ghost use Rattle.std.specs.Ordering.{nat_cmp};
-ghost use Rattle.rv_base.specs.Regs.{class_of, place_of};
+ghost use Rattle.rv_base.specs.Regs.{class_of, index_of};
 ghost use Rattle.rv_base.specs.declared.regs.RegClass.TheVariants.{Int, Float, Vector};
 
 use crate::regs::{Reg, RegClass, Writable};
@@ -19,7 +19,7 @@ pub type WritableXReg = Writable<XReg>;
 impl XReg {
     ghost use Rattle.std.specs.Prelude.{◌≡◌, ◌≢◌, ◌↔◌, IsTrue, MatchOption};
     ghost use Rattle.std.specs.Ordering.{nat_cmp};
-    ghost use Rattle.rv_base.specs.Regs.{class_of, place_of};
+    ghost use Rattle.rv_base.specs.Regs.{class_of, index_of};
     ghost use Rattle.rv_base.specs.declared.class_regs.XReg.{XReg as Same};
 
     /// The same register; none where it is of another file.
@@ -38,7 +38,7 @@ impl XReg {
         ensures reg { result ≡ self.reg }
         ensures of_file { class_of result ≡ RegClass.Int }
         ensures equal { (other : Same) → IsTrue (⟦<XReg as PartialEq>⟧.eq self other) ↔ (result ≡ other.reg) }
-        ensures ordered { (other : Same) → ⟦<XReg as Ord>⟧.cmp self other ≡ nat_cmp (place_of result) (place_of other.reg) }
+        ensures ordered { (other : Same) → ⟦<XReg as Ord>⟧.cmp self other ≡ nat_cmp (index_of result) (index_of other.reg) }
     {
         self.reg
     }
@@ -71,7 +71,7 @@ pub type WritableFReg = Writable<FReg>;
 impl FReg {
     ghost use Rattle.std.specs.Prelude.{◌≡◌, ◌≢◌, ◌↔◌, IsTrue, MatchOption};
     ghost use Rattle.std.specs.Ordering.{nat_cmp};
-    ghost use Rattle.rv_base.specs.Regs.{class_of, place_of};
+    ghost use Rattle.rv_base.specs.Regs.{class_of, index_of};
     ghost use Rattle.rv_base.specs.declared.class_regs.FReg.{FReg as Same};
 
     /// The same register; none where it is of another file.
@@ -90,7 +90,7 @@ impl FReg {
         ensures reg { result ≡ self.reg }
         ensures of_file { class_of result ≡ RegClass.Float }
         ensures equal { (other : Same) → IsTrue (⟦<FReg as PartialEq>⟧.eq self other) ↔ (result ≡ other.reg) }
-        ensures ordered { (other : Same) → ⟦<FReg as Ord>⟧.cmp self other ≡ nat_cmp (place_of result) (place_of other.reg) }
+        ensures ordered { (other : Same) → ⟦<FReg as Ord>⟧.cmp self other ≡ nat_cmp (index_of result) (index_of other.reg) }
     {
         self.reg
     }
@@ -123,7 +123,7 @@ pub type WritableVReg = Writable<VReg>;
 impl VReg {
     ghost use Rattle.std.specs.Prelude.{◌≡◌, ◌≢◌, ◌↔◌, IsTrue, MatchOption};
     ghost use Rattle.std.specs.Ordering.{nat_cmp};
-    ghost use Rattle.rv_base.specs.Regs.{class_of, place_of};
+    ghost use Rattle.rv_base.specs.Regs.{class_of, index_of};
     ghost use Rattle.rv_base.specs.declared.class_regs.VReg.{VReg as Same};
 
     /// The same register; none where it is of another file.
@@ -142,7 +142,7 @@ impl VReg {
         ensures reg { result ≡ self.reg }
         ensures of_file { class_of result ≡ RegClass.Vector }
         ensures equal { (other : Same) → IsTrue (⟦<VReg as PartialEq>⟧.eq self other) ↔ (result ≡ other.reg) }
-        ensures ordered { (other : Same) → ⟦<VReg as Ord>⟧.cmp self other ≡ nat_cmp (place_of result) (place_of other.reg) }
+        ensures ordered { (other : Same) → ⟦<VReg as Ord>⟧.cmp self other ≡ nat_cmp (index_of result) (index_of other.reg) }
     {
         self.reg
     }

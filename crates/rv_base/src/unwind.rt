@@ -1,4 +1,4 @@
-//! What is told of a frame to those that unwind it.
+//! What is recorded of a frame for those that unwind it.
 
 use crate::regs::Reg;
 

@@ -17,7 +17,7 @@ use Rattle.rv_machine.specs.declared.decoding.Decoded.{Decoded}
 use Rattle.rv_machine.specs.Effects.{act}
 use Rattle.rv_machine.specs.Memory.{load_bytes, load_result}
 use Rattle.rv_machine.specs.State.{Memory, State, IsState, Values, byte, reg, set_reg, wrap, low64, at}
-use Rattle.rv_encode.specs.Operations.{row, load_op, decoded_load}
+use Rattle.rv_encode.specs.Operations.{decoded, load_op, decoded_load}
 use Rattle.rv_inst.specs.Addresses.{Location, Based, AtLabel, AtConstant, is_near, is_splittable}
 use Rattle.rv_inst.specs.declared.label_use.LabelUse.TheVariants.{PCRelHi20}
 use Rattle.mach_buffer.specs.Shape.{constant_label}
@@ -153,7 +153,7 @@ over_goes {site} {offset} {s} allocated rd size x op bytes some lt little long r
     let back : reg s1.values rd ≡ a = reads_back s.values rd a is_state.values some lt in
     let address : wrap (reg s1.values rd + low64 (pos (8 + j))) ≡ site.base + (offset + 4 + 4 + jump.len) = (λ i. wrap (back i + low64 (pos (8 + j)))) ∙ omega (arith, none, ahead, here, room, filled, long, jump_long) in
     let read : load_result (load_op op) s.values.mem (wrap (reg s1.values rd + low64 (pos (8 + j)))) ≡ x = ap (load_result (load_op op) s.values.mem) address ∙ reads s.values.mem (site.base + (offset + 4 + 4 + jump.len)) there in
-    let loaded : Sets flags 8 s rd x = sets_both 4 4 rd a x (sets_one (row (Base base.Auipc) rd 0 0 (pos 0)) rd a h (omega arith) stands.0 refl)
+    let loaded : Sets flags 8 s rd x = sets_both 4 4 rd a x (sets_one (decoded (Base base.Auipc) rd 0 0 (pos 0)) rd a h (omega arith) stands.0 refl)
     (sets_one (decoded_load op rd rd (pos (8 + j))) rd x h1 (omega arith) stands.1.0 (λ i. Some (at (wrap (s1.pc + 4)) (set_reg s1.values rd (read i))))) in
     let h2 : IsAt site (offset + 8) jump.len s2 = set_at 8 rd x (shorter (8 + jump.len) h (omega arith)) refl in
     let jumped : wrap (s2.pc + low64 far) ≡ wrap (s.pc + (8 + j + size)) = (λ i. wrap (s2.pc + over i)) ∙ omega arith in
@@ -266,8 +266,8 @@ pub record AreShort (site : Site) : Type 0 where
   pub labels : (label at : ℕ) → site.place label ≡ Some at → at ≤ length site.bytes
 
 -- the first of two words, whatever the second one does
-pub upper_goes : {site : Site} {offset size allocated : ℕ} {s : State} (rd : ℕ) (l : MachLabel) → IsAt site offset size s → 0 < size → (a : AimsFrom site allocated offset PCRelHi20 (Label l) (λ d. row (Base base.Auipc) rd 0 0 (upper_of_distance d) ∷ [])) → Sets site.context.flags 4 s rd (upper_sum s.pc offset a.to)
-upper_goes {offset = offset} {s = s} rd l h some a = sets_one (row (Base base.Auipc) rd 0 0 (upper_of_distance (between offset a.to))) rd (upper_sum s.pc offset a.to) h some a.has refl
+pub upper_goes : {site : Site} {offset size allocated : ℕ} {s : State} (rd : ℕ) (l : MachLabel) → IsAt site offset size s → 0 < size → (a : AimsFrom site allocated offset PCRelHi20 (Label l) (λ d. decoded (Base base.Auipc) rd 0 0 (upper_of_distance d) ∷ [])) → Sets site.context.flags 4 s rd (upper_sum s.pc offset a.to)
+upper_goes {offset = offset} {s = s} rd l h some a = sets_one (decoded (Base base.Auipc) rd 0 0 (upper_of_distance (between offset a.to))) rd (upper_sum s.pc offset a.to) h some a.has refl
 
 -- the second one adds the lower part
 pub lower_sums : {site : Site} {offset size : ℕ} {s : State} (rd : ℕ) (l : MachLabel) (to to_next : ℕ) → 0 < rd → rd < 32 → AreShort site → IsState s → IsAt site offset size s → site.place l.number ≡ Some to → site.place l.number ≡ Some to_next →

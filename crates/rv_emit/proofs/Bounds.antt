@@ -31,7 +31,7 @@ use Rattle.rv_emit.specs.Emitted.{Buffer, pending, AppendsInst, AppendsBy, Appen
 use Rattle.rv_emit.proofs.CallAppends.{words_pending}
 use Rattle.rv_emit.proofs.PlainSlots.{words_long}
 use Rattle.rv_emit.proofs.MostBytes.{words_within, most_in_sequence}
-use Rattle.rv_emit.proofs.ReachKept.{Each, each_none, each_more, waits, few_deadlines, bytes_put, pending_adds, pending_whole}
+use Rattle.rv_emit.proofs.ReachAfterInst.{Each, each_none, each_more, pending_at, few_deadlines, bytes_put, pending_adds, pending_whole}
 
 -- ---- how far uses reach
 
@@ -102,13 +102,13 @@ all_deadlines P test (u ∷ uses) each = on (test u) (each 0 u refl) (all_deadli
 -- ---- how many
 
 -- no more are pending than it goes to labels
-pub few_ways : (context : Context) (place : ℕ → Option ℕ) (start end : ℕ) (inst : Inst) → length (deadlines (waits place) label_kinds (uses_in context start end inst)) ≤ length (inst_ways inst)
+pub few_ways : (context : Context) (place : ℕ → Option ℕ) (start end : ℕ) (inst : Inst) → length (deadlines (pending_at place) label_kinds (uses_in context start end inst)) ≤ length (inst_ways inst)
 few_ways context place start end inst = by (try_call_of inst)
   where
-    of_uses : (uses : List (Use LabelUse)) (most : ℕ) → length uses ≤ most → length (deadlines (waits place) label_kinds uses) ≤ most
-    of_uses uses most le = let few = few_deadlines (waits place) label_kinds uses in omega arith
+    of_uses : (uses : List (Use LabelUse)) (most : ℕ) → length uses ≤ most → length (deadlines (pending_at place) label_kinds uses) ≤ most
+    of_uses uses most le = let few = few_deadlines (pending_at place) label_kinds uses in omega arith
 
-    on : (targets : Targets) → length (deadlines (waits place) label_kinds (target_uses context.flags start targets)) ≤ length (ways_of targets)
+    on : (targets : Targets) → length (deadlines (pending_at place) label_kinds (target_uses context.flags start targets)) ≤ length (ways_of targets)
     on Nowhere = omega arith
     on (Jumps label) = of_uses (use_at start label (jump_kind context.flags) ∷ []) 1 (omega arith)
     on (Branches Fallthrough not_taken) = omega arith
@@ -117,7 +117,7 @@ few_ways context place start end inst = by (try_call_of inst)
     on (Refers label) = omega arith
     on (RefersConstant k) = omega arith
 
-    by : (t : Option TryCallInfo) → length (deadlines (waits place) label_kinds (uses_by context.flags start end t (targets_of inst))) ≤ length (ways_by t (targets_of inst))
+    by : (t : Option TryCallInfo) → length (deadlines (pending_at place) label_kinds (uses_by context.flags start end t (targets_of inst))) ≤ length (ways_by t (targets_of inst))
     by None = on (targets_of inst)
     by (Some t) = of_uses (use_at (end - jump_size context.flags) t.continuation (jump_kind context.flags) ∷ []) 1 (omega arith)
 
@@ -171,11 +171,11 @@ words_bounded context inst old mid new rule small island p = record {
   island = island;
   ends = long;
   most = let most = words_within context inst rule small in omega (arith, most);
-  added = deadlines (waits (place_of mid)) label_kinds own;
+  added = deadlines (pending_at (place_of mid)) label_kinds own;
   keeps = refl;
   adds = pending_adds context inst mid new p;
   few = few_ways context (place_of mid) (length (bytes_of mid)) (length (bytes_of new)) inst;
-  late = all_deadlines (λ d. length (bytes_of old) + least_reach context (Put inst) ≤ d) (waits (place_of mid)) own each;
+  late = all_deadlines (λ d. length (bytes_of old) + least_reach context (Put inst) ≤ d) (pending_at (place_of mid)) own each;
 }
   where
     own : List (Use LabelUse)
@@ -221,11 +221,11 @@ emit_bounded context inst old new rule small e = by (extent_of context inst) ref
       island = island;
       ends = ends;
       most = let most = words_within context inst rule small in let size : words_in (extent_of context inst) ≡ before + after = ap words_in is in omega (arith, most, size);
-      added = deadlines (waits (place_of a.last)) label_kinds own;
+      added = deadlines (pending_at (place_of a.last)) label_kinds own;
       keeps = words_pending before [] _ old a.mid a.first ∙ append-nil (pending old);
       adds = words_pending after own [] a.last new a.second;
       few = few_ways context (place_of a.last) (length (bytes_of old)) (length (bytes_of new)) inst;
-      late = all_deadlines (λ d. length (bytes_of old) + least_reach context (Put inst) ≤ d) (waits (place_of a.last)) own
+      late = all_deadlines (λ d. length (bytes_of old) + least_reach context (Put inst) ≤ d) (pending_at (place_of a.last)) own
           (uses_least context (length (bytes_of old)) (length (bytes_of new)) inst (has_jump context inst (length (bytes_of old)) (length (bytes_of new)) (let size : words_in (extent_of context inst) ≡ before + after = ap words_in is in let longer = island_longer (island_space context inst) a.mid a.last island in omega (arith, size, starts, ends, longer))));
     }
       where

@@ -25,12 +25,12 @@ use Rattle.mach_buffer.proofs.Laws.{deadlines_append, slack_less, slack_not_need
 use Rattle.rv_emit.specs.Emitted.{Buffer, pending, AppendsBy, AppendsAround, AppendsWords}
 use Rattle.rv_emit.proofs.CallSlots.{call_few, results_few}
 use Rattle.rv_emit.proofs.PlainSlots.{words_long}
-use Rattle.rv_emit.proofs.ReachKept.{Each, each_none, each_more, waits, jump_far, jump_few, slack_uses, calm_after, reach_within}
+use Rattle.rv_emit.proofs.ReachAfterInst.{Each, each_none, each_more, pending_at, jump_far, jump_few, slack_uses, calm_after, reach_within}
 use Rattle.rv_emit.proofs.ShortOps.{jalr_sized}
 
 -- what is pending after words: what was before, and their uses that are
-pub words_pending : (size : ℕ) (own : List (Use LabelUse)) (recorded : List MachRecord) (old new : Buffer) → AppendsWords size own recorded old new → pending new ≡ pending old ++ deadlines (waits (place_of old)) label_kinds own
-words_pending size own recorded old new w = (λ i. deadlines (waits (w.adds.places i)) label_kinds (w.adds.uses i)) ∙ deadlines_append (waits (place_of old)) label_kinds (uses_of old) own
+pub words_pending : (size : ℕ) (own : List (Use LabelUse)) (recorded : List MachRecord) (old new : Buffer) → AppendsWords size own recorded old new → pending new ≡ pending old ++ deadlines (pending_at (place_of old)) label_kinds own
+words_pending size own recorded old new w = (λ i. deadlines (pending_at (w.adds.places i)) label_kinds (w.adds.uses i)) ∙ deadlines_append (pending_at (place_of old)) label_kinds (uses_of old) own
 
 -- a call goes to one label at most, whose use is in its last bytes
 one_use : (flags : IsaFlags) (start end : ℕ) (t : Option TryCallInfo) → length (uses_by flags start end t Nowhere) ≤ 1
@@ -57,8 +57,8 @@ reach_last flags start size space t old new le calm w =
     let one : length own ≤ 1 = one_use flags start cur t in
     let spare : HasSlack cur (14 + 8 * length own) (pending old) = slack_less (from + space) 30 cur (14 + 8 * length own) (pending old) (omega arith) (slack_not_needed from space (pending old) calm) in
     let far : Each (λ u. cur + 14 + 8 * length own ≤ deadline label_kinds u) own = λ k u e. let f = use_far flags start cur t k u e in omega arith in
-    let whole : pending new ≡ deadlines (waits (place_of old)) label_kinds (uses_of old ++ own) = words_pending size own [] old new w ∙ sym (deadlines_append (waits (place_of old)) label_kinds (uses_of old) own) in
-    reach_from_slack cur (pending new) (subst (HasSlack cur 14) (sym whole) (slack_uses (waits (place_of old)) cur 14 (uses_of old) own far spare))
+    let whole : pending new ≡ deadlines (pending_at (place_of old)) label_kinds (uses_of old ++ own) = words_pending size own [] old new w ∙ sym (deadlines_append (pending_at (place_of old)) label_kinds (uses_of old) own) in
+    reach_from_slack cur (pending new) (subst (HasSlack cur 14) (sym whole) (slack_uses (pending_at (place_of old)) cur 14 (uses_of old) own far spare))
 
 -- by what a call loads
 reach_loading : (context : Context) (inst : Inst) (jump popped : ℕ) (loads : List StackLoad) (t : Option TryCallInfo) (old new : Buffer) → is_some (space_in (call_extent context.flags jump popped loads t)) ≡ true → ((start end : ℕ) → uses_in context start end inst ≡ uses_by context.flags start end t Nowhere) → AppendsBy context (call_extent context.flags jump popped loads t) inst old new → CanReach (length (bytes_of new)) (pending new)

@@ -1,4 +1,4 @@
--- What calls that return add to a buffer: their words, and where they load results an island among them; and that their parts are blocks.
+-- What calls that return add to a buffer: their words, and where they load results an island among them; and that their parts are self-contained.
 use Rattle.std.proofs.Common.{◌≡◌, ℕ, ◌+◌, ◌-◌, ◌*◌, ◌≤◌, Bool, true, false, List, [], ◌∷◌, ◌++◌, length, Option, Some, None, ℤ, pos, refl, ap, sym, ◌∙◌, subst, append-nil, arith, lit≤}
 use Rattle.rv_base.specs.declared.call.CallInfo.{CallInfo}
 use Rattle.rv_base.specs.declared.call.TryCallInfo.{TryCallInfo}
@@ -34,18 +34,18 @@ use Rattle.rv_emit.specs.Emission.{PutsAlone, PutsParts, Emits}
 use Rattle.rv_emit.specs.Emitted.{Buffer, AppendsInst, Appends, AppendsBy, AppendsAround, AppendsWords}
 use Rattle.rv_emit.specs.InstParts.{stack_load_slots, stack_step_slots, return_notes, after_call, patch_notes, try_slots, call_slots, call_ind_slots, loading_parts, call_parts, parts_of}
 use Rattle.rv_emit.specs.Standing.{GapStandsIn, PartsIn, SlotsIn, SpansIn}
-use Rattle.rv_emit.specs.Slots.{Slot, Ask, Slots, IsBlock, AreBlocks, size_of, uses_of, records_of, names_of, call_event}
-use Rattle.rv_emit.proofs.MemorySlots.{AreTold, AreCounted, at_end, none, nothing, of_size, note_then, from_start}
+use Rattle.rv_emit.specs.Slots.{Slot, Ask, Slots, AreSelfContained, PartsAreSelfContained, size_of, uses_of, records_of, names_of, call_event}
+use Rattle.rv_emit.proofs.MemorySlots.{HaveContents, HaveAccess, at_end, none, nothing, of_size, note_then, from_start}
 use Rattle.rv_emit.proofs.PlainSlots.{IsPlain, IsSummed, summed, appends_words, words_long}
-use Rattle.rv_emit.proofs.PutsLast.{puts_bytes}
+use Rattle.rv_emit.proofs.BufferAfterSlots.{puts_bytes}
 use Rattle.rv_emit.proofs.ShortOps.{jalr_sized, window_long}
 use Rattle.rv_emit.proofs.TailSlots.{loads_then, step_then, loads_most, step_most}
 
 -- ---- pieces
 
 -- a step of the stack pointer, alone
-pub steps_counted : (flags : IsaFlags) (z : ℤ) → AreCounted (stack_step_size flags z) 0 none None None (stack_step_slots flags z)
-steps_counted flags z = of_size (omega arith) (subst (AreCounted (stack_step_size flags z + 0) 0 none None None) (append-nil (stack_step_slots flags z)) (step_then flags z nothing))
+pub steps_counted : (flags : IsaFlags) (z : ℤ) → HaveAccess (stack_step_size flags z) 0 none None None (stack_step_slots flags z)
+steps_counted flags z = of_size (omega arith) (subst (HaveAccess (stack_step_size flags z + 0) 0 none None None) (append-nil (stack_step_slots flags z)) (step_then flags z nothing))
 
 -- the use of a jump that goes on, by where it ends
 abbrev try_use : IsaFlags → Option TryCallInfo → ℕ → List (Use LabelUse)
@@ -57,12 +57,12 @@ no_records at = []
 
 -- slots that record nothing, and whose uses depend on their end alone
 abbrev AreLast : ℕ → (ℕ → List (Use LabelUse)) → List Slot → Type 0
-AreLast size rest last = AreTold size size (at_end rest) no_records None last
+AreLast size rest last = HaveContents size size (at_end rest) no_records None last
 
 -- the jump, where there is one
-jump_told : (flags : IsaFlags) (t : Option TryCallInfo) → AreLast (try_size flags t) (try_use flags t) (try_slots flags t)
-jump_told flags None = record { plain = tt; long = refl; within = lit≤ tt; uses = λ allocated start. refl; records = λ start. refl; names = λ named. refl; closed = λ here start. tt }
-jump_told flags (Some t) =
+jump_contents : (flags : IsaFlags) (t : Option TryCallInfo) → AreLast (try_size flags t) (try_use flags t) (try_slots flags t)
+jump_contents flags None = record { plain = tt; long = refl; within = lit≤ tt; uses = λ allocated start. refl; records = λ start. refl; names = λ named. refl; closed = λ here start. tt }
+jump_contents flags (Some t) =
     let w = window_long flags in
     let long : jump_size flags ≡ length (marks_of (jump_kind flags)) + 0 = omega arith in
     record {
@@ -78,22 +78,22 @@ jump_told flags (Some t) =
 -- ---- what comes after the words of a call
 
 -- the record of a call of so many bytes that may be patched, before other slots
-patch_told : {size : ℕ} {rest : ℕ → List (Use LabelUse)} {last : List Slot} (patchable : Bool) (n : ℕ) → AreLast size rest last → AreTold size size (at_end rest) (λ at. patch_records patchable at n) None (patch_notes patchable n ++ last)
-patch_told false n c = c
-patch_told true n c = note_then (event.PatchableCallSite n) c
+patch_contents : {size : ℕ} {rest : ℕ → List (Use LabelUse)} {last : List Slot} (patchable : Bool) (n : ℕ) → AreLast size rest last → HaveContents size size (at_end rest) (λ at. patch_records patchable at n) None (patch_notes patchable n ++ last)
+patch_contents false n c = c
+patch_contents true n c = note_then (event.PatchableCallSite n) c
 
 -- and the step of the stack pointer before that
-fallen_told : {size : ℕ} {rest : ℕ → List (Use LabelUse)} {last : List Slot} (flags : IsaFlags) (popped : ℕ) (patchable : Bool) (n : ℕ) → AreLast size rest last → AreTold (stack_step_size flags (fall popped) + size) (stack_step_size flags (fall popped) + size) (at_end rest) (λ at. patch_records patchable (at + (stack_step_size flags (fall popped) + size) - size) n) None (after_call flags popped ++ (patch_notes patchable n ++ last))
-fallen_told flags popped patchable n c = from_start (step_then flags (fall popped) (patch_told patchable n c))
+fallen_contents : {size : ℕ} {rest : ℕ → List (Use LabelUse)} {last : List Slot} (flags : IsaFlags) (popped : ℕ) (patchable : Bool) (n : ℕ) → AreLast size rest last → HaveContents (stack_step_size flags (fall popped) + size) (stack_step_size flags (fall popped) + size) (at_end rest) (λ at. patch_records patchable (at + (stack_step_size flags (fall popped) + size) - size) n) None (after_call flags popped ++ (patch_notes patchable n ++ last))
+fallen_contents flags popped patchable n c = from_start (step_then flags (fall popped) (patch_contents patchable n c))
 
 -- and the records of the call's return before that
-returned_told : {size : ℕ} {rest : ℕ → List (Use LabelUse)} {told : ℕ → List MachRecord} {slots : List Slot} (frame : FrameLayout) (entries : Option UserStackMap) (t : Option TryCallInfo) → AreTold size size (at_end rest) told None slots → AreTold size size (at_end rest) (λ at. return_records frame at entries t ++ told at) None (return_notes frame entries t ++ slots)
-returned_told frame None t c = note_then (site_event frame t) c
-returned_told frame (Some entries) t c = note_then (event.StackMap (sp_to_fp_of frame) entries) (note_then (site_event frame t) c)
+returned_contents : {size : ℕ} {rest : ℕ → List (Use LabelUse)} {records_at : ℕ → List MachRecord} {slots : List Slot} (frame : FrameLayout) (entries : Option UserStackMap) (t : Option TryCallInfo) → HaveContents size size (at_end rest) records_at None slots → HaveContents size size (at_end rest) (λ at. return_records frame at entries t ++ records_at at) None (return_notes frame entries t ++ slots)
+returned_contents frame None t c = note_then (site_event frame t) c
+returned_contents frame (Some entries) t c = note_then (event.StackMap (sp_to_fp_of frame) entries) (note_then (site_event frame t) c)
 
 -- all of it
-rest_told : {size : ℕ} {rest : ℕ → List (Use LabelUse)} {last : List Slot} (flags : IsaFlags) (frame : FrameLayout) (popped : ℕ) (patchable : Bool) (n : ℕ) (entries : Option UserStackMap) (t : Option TryCallInfo) → AreLast size rest last → AreTold (stack_step_size flags (fall popped) + size) (stack_step_size flags (fall popped) + size) (at_end rest) (λ at. return_records frame at entries t ++ patch_records patchable (at + (stack_step_size flags (fall popped) + size) - size) n) None (return_notes frame entries t ++ (after_call flags popped ++ (patch_notes patchable n ++ last)))
-rest_told flags frame popped patchable n entries t c = returned_told frame entries t (fallen_told flags popped patchable n c)
+rest_contents : {size : ℕ} {rest : ℕ → List (Use LabelUse)} {last : List Slot} (flags : IsaFlags) (frame : FrameLayout) (popped : ℕ) (patchable : Bool) (n : ℕ) (entries : Option UserStackMap) (t : Option TryCallInfo) → AreLast size rest last → HaveContents (stack_step_size flags (fall popped) + size) (stack_step_size flags (fall popped) + size) (at_end rest) (λ at. return_records frame at entries t ++ patch_records patchable (at + (stack_step_size flags (fall popped) + size) - size) n) None (return_notes frame entries t ++ (after_call flags popped ++ (patch_notes patchable n ++ last)))
+rest_contents flags frame popped patchable n entries t c = returned_contents frame entries t (fallen_contents flags popped patchable n c)
 
 -- ---- a call with what comes after it
 
@@ -104,15 +104,15 @@ pub record AreCall (context : Context) (inst : Inst) (before size : ℕ) (rest :
   pub uses : (allocated start : ℕ) → uses_of allocated start slots ≡ rest (start + size_of slots)
   pub records : (start end : ℕ) → records_of start slots ≡ inst_records context start end inst
   pub names : (named : List VCodeConstant) → names_of slots named ≡ named
-  pub block : IsBlock slots
+  pub block : AreSelfContained slots
 
-pub call_told : {size : ℕ} {rest : ℕ → List (Use LabelUse)} {last : List Slot} (context : Context) (info : CallInfo ExternalName) → AreLast size rest last → AreCall context (Call info) (call_size context.flags 8 info.callee_pop_size) size rest (call_slots context.flags context.frame info last)
-call_told {size} {rest} {last} context info c =
+pub call_contents : {size : ℕ} {rest : ℕ → List (Use LabelUse)} {last : List Slot} (context : Context) (info : CallInfo ExternalName) → AreLast size rest last → AreCall context (Call info) (call_size context.flags 8 info.callee_pop_size) size rest (call_slots context.flags context.frame info last)
+call_contents {size} {rest} {last} context info c =
     let flags = context.flags in
     let t = info.try_call_info in
     let n = call_size flags 8 info.callee_pop_size in
     let step = stack_step_size flags (fall info.callee_pop_size) in
-    let all = rest_told flags context.frame info.callee_pop_size info.patchable n info.stack_map t c in
+    let all = rest_contents flags context.frame info.callee_pop_size info.patchable n info.stack_map t c in
     let slots = call_slots flags context.frame info last in
     let long : n + size ≡ size_of slots = (let e = all.long in omega arith) in
     record {
@@ -131,13 +131,13 @@ call_told {size} {rest} {last} context info c =
       block = all.closed _ 8;
     }
 
-pub call_ind_told : {size : ℕ} {rest : ℕ → List (Use LabelUse)} {last : List Slot} (context : Context) (info : CallInfo Reg) → AreLast size rest last → AreCall context (CallInd info) (call_size context.flags (short_jalr context.flags 1 (number_of info.dest) (pos 0)).len info.callee_pop_size) size rest (call_ind_slots context.flags context.frame info last)
-call_ind_told {size} {rest} {last} context info c =
+pub call_ind_contents : {size : ℕ} {rest : ℕ → List (Use LabelUse)} {last : List Slot} (context : Context) (info : CallInfo Reg) → AreLast size rest last → AreCall context (CallInd info) (call_size context.flags (short_jalr context.flags 1 (number_of info.dest) (pos 0)).len info.callee_pop_size) size rest (call_ind_slots context.flags context.frame info last)
+call_ind_contents {size} {rest} {last} context info c =
     let flags = context.flags in
     let t = info.try_call_info in
     let jump = short_jalr flags 1 (number_of info.dest) (pos 0) in
     let step = stack_step_size flags (fall info.callee_pop_size) in
-    let all = rest_told flags context.frame info.callee_pop_size false 0 info.stack_map t c in
+    let all = rest_contents flags context.frame info.callee_pop_size false 0 info.stack_map t c in
     let slots = call_ind_slots flags context.frame info last in
     let long : call_size flags jump.len info.callee_pop_size + size ≡ size_of slots = (let e = all.long in omega arith) in
     record {
@@ -165,7 +165,7 @@ call_summed : (context : Context) (info : CallInfo ExternalName) → loads_unles
 call_summed context info none =
     let flags = context.flags in
     let t = info.try_call_info in
-    let c = call_told context info (jump_told flags t) in
+    let c = call_contents context info (jump_contents flags t) in
     record {
       plain = c.plain;
       long = ap (λ loads. call_extent flags 8 info.callee_pop_size loads t) none ∙ ap Words c.long;
@@ -178,7 +178,7 @@ call_ind_summed : (context : Context) (info : CallInfo Reg) → result_loads inf
 call_ind_summed context info none =
     let flags = context.flags in
     let t = info.try_call_info in
-    let c = call_ind_told context info (jump_told flags t) in
+    let c = call_ind_contents context info (jump_contents flags t) in
     record {
       plain = c.plain;
       long = ap (λ loads. call_extent flags (short_jalr flags 1 (number_of info.dest) (pos 0)).len info.callee_pop_size loads t) none ∙ ap Words c.long;
@@ -189,8 +189,8 @@ call_ind_summed context info none =
 
 -- ---- loads of results
 
-loads_told : (flags : IsaFlags) (loads : List StackLoad) (t : Option TryCallInfo) → AreTold (stack_loads_size flags loads + try_size flags t) (try_size flags t) (at_end (try_use flags t)) no_records None (stack_load_slots flags loads ++ try_slots flags t)
-loads_told flags loads t = loads_then flags loads (jump_told flags t)
+loads_contents : (flags : IsaFlags) (loads : List StackLoad) (t : Option TryCallInfo) → HaveContents (stack_loads_size flags loads + try_size flags t) (try_size flags t) (at_end (try_use flags t)) no_records None (stack_load_slots flags loads ++ try_slots flags t)
+loads_contents flags loads t = loads_then flags loads (jump_contents flags t)
 
 -- ---- what is added
 
@@ -199,7 +199,7 @@ around : {before : ℕ} (context : Context) (inst : Inst) (call : List Slot → 
 around {before} context inst call loads t old new c uses (mid, first, (last, made, room, second)) =
     let flags = context.flags in
     let slots = stack_load_slots flags loads ++ try_slots flags t in
-    let l = loads_told flags loads t in
+    let l = loads_contents flags loads t in
     let size = stack_loads_size flags loads + try_size flags t in
     let long : size_of (call []) ≡ before = (let e = c.long in omega arith) in
     let w = appends_words flags slots size (try_use flags t (length (bytes_of last) + size)) [] last new l.plain (sym l.long) (l.uses (allocated_of last) (length (bytes_of last))) (l.records (length (bytes_of last))) l.names second in
@@ -222,7 +222,7 @@ call_appends context info old new = by (loads_unless info.patchable info.defs) r
 
     by : (loads : List StackLoad) → loads_unless info.patchable info.defs ≡ loads → PutsParts context.flags (call_parts context.flags (call_slots context.flags context.frame info) loads t) old new → AppendsBy context (call_extent context.flags 8 info.callee_pop_size loads t) (Call info) old new
     by [] none p = summed context (Call info) _ old new (call_summed context info none) context.flags p
-    by (l ∷ loads) some p = around context (Call info) (call_slots context.flags context.frame info) (l ∷ loads) t old new (call_told context info nothing) (λ start end. refl) p
+    by (l ∷ loads) some p = around context (Call info) (call_slots context.flags context.frame info) (l ∷ loads) t old new (call_contents context info nothing) (λ start end. refl) p
 
 pub call_ind_appends : (context : Context) (info : CallInfo Reg) (old new : Buffer) → PutsParts context.flags (call_parts context.flags (call_ind_slots context.flags context.frame info) (result_loads info.defs) info.try_call_info) old new → Appends context (CallInd info) old new
 call_ind_appends context info old new = by (result_loads info.defs) refl
@@ -232,7 +232,7 @@ call_ind_appends context info old new = by (result_loads info.defs) refl
 
     by : (loads : List StackLoad) → result_loads info.defs ≡ loads → PutsParts context.flags (call_parts context.flags (call_ind_slots context.flags context.frame info) loads t) old new → AppendsBy context (call_extent context.flags (short_jalr context.flags 1 (number_of info.dest) (pos 0)).len info.callee_pop_size loads t) (CallInd info) old new
     by [] none p = summed context (CallInd info) _ old new (call_ind_summed context info none) context.flags p
-    by (l ∷ loads) some p = around context (CallInd info) (call_ind_slots context.flags context.frame info) (l ∷ loads) t old new (call_ind_told context info nothing) (λ start end. refl) p
+    by (l ∷ loads) some p = around context (CallInd info) (call_ind_slots context.flags context.frame info) (l ∷ loads) t old new (call_ind_contents context info nothing) (λ start end. refl) p
 
 -- what an instruction that asks for no island adds
 pub words_alone : (context : Context) (extent : Extent) (inst : Inst) (old new : Buffer) → space_in extent ≡ None → AppendsBy context extent inst old new → AppendsInst context inst old new
@@ -282,17 +282,17 @@ call_sum context inst info is = ap (inst_sum context) is ∙ ap (λ n. 128 + n +
 pub call_ind_sum : (context : Context) (inst : Inst) (info : CallInfo Reg) → inst ≡ CallInd info → inst_sum context inst ≡ 128 + 32 * count_by is_stacked info.defs
 call_ind_sum context inst info is = ap (inst_sum context) is ∙ ap (λ n. 128 + n + 32 * count_by is_stacked info.defs) (no_extra context.flags (short_jalr context.flags 1 (number_of info.dest) (pos 0)).len info.callee_pop_size (result_loads info.defs) info.try_call_info)
 
--- ---- blocks
+-- ---- self-contained slots
 
-parts_blocks : (flags : IsaFlags) (call : List Slot → List Slot) (loads : List StackLoad) (t : Option TryCallInfo) → IsBlock (call (try_slots flags t)) → IsBlock (call []) → AreBlocks (call_parts flags call loads t)
+parts_blocks : (flags : IsaFlags) (call : List Slot → List Slot) (loads : List StackLoad) (t : Option TryCallInfo) → AreSelfContained (call (try_slots flags t)) → AreSelfContained (call []) → PartsAreSelfContained (call_parts flags call loads t)
 parts_blocks flags call [] t whole first = (whole, tt)
-parts_blocks flags call (l ∷ loads) t whole first = (first, ((loads_told flags (l ∷ loads) t).closed _ 0, tt))
+parts_blocks flags call (l ∷ loads) t whole first = (first, ((loads_contents flags (l ∷ loads) t).closed _ 0, tt))
 
-pub call_blocks : (context : Context) (info : CallInfo ExternalName) → AreBlocks (call_parts context.flags (call_slots context.flags context.frame info) (loads_unless info.patchable info.defs) info.try_call_info)
-call_blocks context info = parts_blocks context.flags (call_slots context.flags context.frame info) (loads_unless info.patchable info.defs) info.try_call_info (call_told context info (jump_told context.flags info.try_call_info)).block (call_told context info nothing).block
+pub call_blocks : (context : Context) (info : CallInfo ExternalName) → PartsAreSelfContained (call_parts context.flags (call_slots context.flags context.frame info) (loads_unless info.patchable info.defs) info.try_call_info)
+call_blocks context info = parts_blocks context.flags (call_slots context.flags context.frame info) (loads_unless info.patchable info.defs) info.try_call_info (call_contents context info (jump_contents context.flags info.try_call_info)).block (call_contents context info nothing).block
 
-pub call_ind_blocks : (context : Context) (info : CallInfo Reg) → AreBlocks (call_parts context.flags (call_ind_slots context.flags context.frame info) (result_loads info.defs) info.try_call_info)
-call_ind_blocks context info = parts_blocks context.flags (call_ind_slots context.flags context.frame info) (result_loads info.defs) info.try_call_info (call_ind_told context info (jump_told context.flags info.try_call_info)).block (call_ind_told context info nothing).block
+pub call_ind_blocks : (context : Context) (info : CallInfo Reg) → PartsAreSelfContained (call_parts context.flags (call_ind_slots context.flags context.frame info) (result_loads info.defs) info.try_call_info)
+call_ind_blocks context info = parts_blocks context.flags (call_ind_slots context.flags context.frame info) (result_loads info.defs) info.try_call_info (call_ind_contents context info (jump_contents context.flags info.try_call_info)).block (call_ind_contents context info nothing).block
 
 -- ---- where the words stand
 
@@ -304,18 +304,18 @@ parts_span flags jump popped call [] t f start end whole first (last, s, same) =
 parts_span flags jump popped call (l ∷ loads) t f start end whole first (from, s, (mid, gap, (last, u, same))) =
     let size = slots_size flags (call []) f start from s in
     let more = slots_size flags (stack_load_slots flags (l ∷ loads) ++ try_slots flags t) f mid last u in
-    let long = (loads_told flags (l ∷ loads) t).long in
+    let long = (loads_contents flags (l ∷ loads) t).long in
     let here : from ≡ start + call_size flags jump popped = omega arith in
     (mid, subst (λ n. GapStandsIn flags f n mid) here gap, omega arith)
 
 -- the words of a call stand where its parts do
 pub call_stands : (context : Context) (setting : EmitVState) (info : CallInfo ExternalName) (f : Shape LabelUse) (start end : ℕ) → PartsIn context.flags (parts_of context setting (Call info)) f start end → SpansIn context.flags f (extent_of context (Call info)) start end
 call_stands context setting info f start end p =
-    parts_span context.flags 8 info.callee_pop_size (call_slots context.flags context.frame info) (loads_unless info.patchable info.defs) info.try_call_info f start end (call_told context info (jump_told context.flags info.try_call_info)).long (call_told context info nothing).long p
+    parts_span context.flags 8 info.callee_pop_size (call_slots context.flags context.frame info) (loads_unless info.patchable info.defs) info.try_call_info f start end (call_contents context info (jump_contents context.flags info.try_call_info)).long (call_contents context info nothing).long p
 
 pub call_ind_stands : (context : Context) (setting : EmitVState) (info : CallInfo Reg) (f : Shape LabelUse) (start end : ℕ) → PartsIn context.flags (parts_of context setting (CallInd info)) f start end → SpansIn context.flags f (extent_of context (CallInd info)) start end
 call_ind_stands context setting info f start end p =
-    parts_span context.flags (short_jalr context.flags 1 (number_of info.dest) (pos 0)).len info.callee_pop_size (call_ind_slots context.flags context.frame info) (result_loads info.defs) info.try_call_info f start end (call_ind_told context info (jump_told context.flags info.try_call_info)).long (call_ind_told context info nothing).long p
+    parts_span context.flags (short_jalr context.flags 1 (number_of info.dest) (pos 0)).len info.callee_pop_size (call_ind_slots context.flags context.frame info) (result_loads info.defs) info.try_call_info f start end (call_ind_contents context info (jump_contents context.flags info.try_call_info)).long (call_ind_contents context info nothing).long p
 
 -- ---- how many bytes at most
 

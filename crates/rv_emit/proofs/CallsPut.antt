@@ -23,11 +23,11 @@ use Rattle.rv_emit.specs.Emitted.{Buffer, IsSoundBuffer, AppendsWords, pending}
 use Rattle.rv_emit.specs.InstParts.{return_notes, after_call, patch_notes, try_slots, stack_load_slots, call_to, call_slots, call_ind_slots, loading_parts}
 use Rattle.rv_emit.specs.Slots.{Slot, Op, Ask, Slots}
 use Rattle.rv_emit.proofs.CallAppends.{reach_first, words_pending}
-use Rattle.rv_emit.proofs.CallSlots.{AreCall, call_told, call_ind_told, call_few}
+use Rattle.rv_emit.proofs.CallSlots.{AreCall, call_contents, call_ind_contents, call_few}
 use Rattle.rv_emit.proofs.MemorySlots.{nothing}
 use Rattle.rv_emit.proofs.PlainSlots.{appends_words, words_long}
 use Rattle.rv_emit.proofs.ShortOps.{jalr_sized}
-use Rattle.rv_emit.proofs.SlotsJoined.{both_alone, alone_long}
+use Rattle.rv_emit.proofs.SlotsOfSeveralPuts.{both_alone, alone_long}
 
 -- ---- a call without loads
 
@@ -44,7 +44,7 @@ call_put {flags} frame info last old mid new p q =
     let patch = patch_notes info.patchable (call_size flags 8 info.callee_pop_size) in
     let first = call_slots flags frame info [] in
     let same : first ++ last ≡ call_slots flags frame info last = ap (λ more. call_to 1 1 info.dest ∷ more) (rest_then notes steps patch last) in
-    subst (λ slots. PutsAlone flags slots old new) same (both_alone first last old mid new (call_told (context_by flags frame []) info nothing).plain p q)
+    subst (λ slots. PutsAlone flags slots old new) same (both_alone first last old mid new (call_contents (context_by flags frame []) info nothing).plain p q)
 
 pub call_ind_put : {flags : IsaFlags} (frame : FrameLayout) (info : CallInfo Reg) (last : List Slot) (old mid new : Buffer) → PutsAlone flags (call_ind_slots flags frame info []) old mid → PutsAlone flags last mid new → PutsAlone flags (call_ind_slots flags frame info last) old new
 call_ind_put {flags} frame info last old mid new p q =
@@ -52,20 +52,20 @@ call_ind_put {flags} frame info last old mid new p q =
     let steps = after_call flags info.callee_pop_size in
     let first = call_ind_slots flags frame info [] in
     let same : first ++ last ≡ call_ind_slots flags frame info last = ap (λ more. Op (short_jalr flags 1 (number_of info.dest) (pos 0)) ∷ more) (rest_then notes steps [] last) in
-    subst (λ slots. PutsAlone flags slots old new) same (both_alone first last old mid new (call_ind_told (context_by flags frame []) info nothing).plain p q)
+    subst (λ slots. PutsAlone flags slots old new) same (both_alone first last old mid new (call_ind_contents (context_by flags frame []) info nothing).plain p q)
 
 -- how long its words are at most
 pub call_few_after : {flags : IsaFlags} (frame : FrameLayout) (info : CallInfo ExternalName) (old mid : Buffer) → PutsAlone flags (call_slots flags frame info []) old mid → length (bytes_of mid) ≤ length (bytes_of old) + 32
 call_few_after {flags} frame info old mid p =
     let a = alone_long (call_slots flags frame info []) old mid p in
-    let b = (call_told (context_by flags frame []) info nothing).long in
+    let b = (call_contents (context_by flags frame []) info nothing).long in
     let few = call_few flags 8 info.callee_pop_size (lit≤ tt) in
     omega arith
 
 pub call_ind_few_after : {flags : IsaFlags} (frame : FrameLayout) (info : CallInfo Reg) (old mid : Buffer) → PutsAlone flags (call_ind_slots flags frame info []) old mid → length (bytes_of mid) ≤ length (bytes_of old) + 32
 call_ind_few_after {flags} frame info old mid p =
     let a = alone_long (call_ind_slots flags frame info []) old mid p in
-    let b = (call_ind_told (context_by flags frame []) info nothing).long in
+    let b = (call_ind_contents (context_by flags frame []) info nothing).long in
     let size = (jalr_sized flags 1 (number_of info.dest) (pos 0)).few in
     let few = call_few flags (short_jalr flags 1 (number_of info.dest) (pos 0)).len info.callee_pop_size (omega arith) in
     omega arith
@@ -78,7 +78,7 @@ loading_put {flags} call loads t old mid new p q = (p.0, p.1, subst (λ (b : Buf
 -- what holds after the words of a call, where no island was needed before the line
 pub record Begun (old mid : Buffer) : Type 0 where
   pub few : length (bytes_of mid) ≤ length (bytes_of old) + 32
-  pub waiting : length (pending mid) ≡ length (pending old)
+  pub few_pending : length (pending mid) ≡ length (pending old)
   pub reserve : reserve_of (shape_of mid) ≡ reserve_of (shape_of old)
   pub allocated : allocated_of mid ≡ allocated_of old
   pub reach : CanReach (length (bytes_of mid)) (pending mid)
@@ -87,7 +87,7 @@ pub record Begun (old mid : Buffer) : Type 0 where
 begun : (size : ℕ) (recorded : List MachRecord) (old mid : Buffer) → size ≤ 32 → is_needed (length (bytes_of old)) line_space (pending old) ≡ false → AppendsWords size [] recorded old mid → Begun old mid
 begun size recorded old mid few calm w = record {
   few = let long = words_long size [] recorded old mid w in omega arith;
-  waiting = ap length (words_pending size [] recorded old mid w ∙ append-nil (pending old));
+  few_pending = ap length (words_pending size [] recorded old mid w ∙ append-nil (pending old));
   reserve = λ j. reserve_from (w.adds.places j) 0 (w.adds.registered j);
   allocated = w.adds.allocated;
   reach = reach_first size recorded old mid few calm w;
@@ -101,11 +101,11 @@ pub call_begins : {flags : IsaFlags} (frame : FrameLayout) (info : CallInfo Exte
 call_begins {flags} frame info old mid calm p =
     let context = context_by flags frame [] in
     begun (call_size flags 8 info.callee_pop_size) _ old mid (call_few flags 8 info.callee_pop_size (lit≤ tt)) calm
-    (words_of context (Call info) (call_slots flags frame info []) old mid (call_told context info nothing) p)
+    (words_of context (Call info) (call_slots flags frame info []) old mid (call_contents context info nothing) p)
 
 pub call_ind_begins : {flags : IsaFlags} (frame : FrameLayout) (info : CallInfo Reg) (old mid : Buffer) → is_needed (length (bytes_of old)) line_space (pending old) ≡ false → PutsAlone flags (call_ind_slots flags frame info []) old mid → Begun old mid
 call_ind_begins {flags} frame info old mid calm p =
     let context = context_by flags frame [] in
     let few = (jalr_sized flags 1 (number_of info.dest) (pos 0)).few in
     begun (call_size flags (short_jalr flags 1 (number_of info.dest) (pos 0)).len info.callee_pop_size) _ old mid (call_few flags (short_jalr flags 1 (number_of info.dest) (pos 0)).len info.callee_pop_size (omega arith)) calm
-    (words_of context (CallInd info) (call_ind_slots flags frame info []) old mid (call_ind_told context info nothing) p)
+    (words_of context (CallInd info) (call_ind_slots flags frame info []) old mid (call_ind_contents context info nothing) p)

@@ -25,11 +25,11 @@ use Rattle.rv_emit.specs.Choices.{chosen_slots, choice_slots, complement, moves_
 use Rattle.rv_emit.specs.Emission.{PutsAlone}
 use Rattle.rv_emit.specs.Emitted.{Buffer, named_by}
 use Rattle.rv_emit.specs.InstParts.{extend_slots, move_slots, select_slots}
-use Rattle.rv_emit.specs.Slots.{Slot, Op, Aim, Data, Notes, Names, Allocate, Here, Fill, Address, CallTo, AreClosed, IsBlock, names_of, size_of, records_of, uses_of}
+use Rattle.rv_emit.specs.Slots.{Slot, Op, Aim, Data, Notes, Names, Allocate, Here, Fill, Address, CallTo, AreClosed, AreSelfContained, names_of, size_of, records_of, uses_of}
 use Rattle.rv_emit.proofs.AddressRuns.{size_append}
 use Rattle.rv_emit.proofs.PlainSlots.{IsPlain, IsSummed}
 use Rattle.rv_emit.proofs.ShortOps.{HasSize, rri_sized}
-use Rattle.rv_emit.proofs.SlotsJoined.{both_alone, alone_long}
+use Rattle.rv_emit.proofs.SlotsOfSeveralPuts.{both_alone, alone_long}
 
 -- ---- operations alone
 
@@ -73,8 +73,8 @@ ops_plain (Fill symbol upper lower ∷ slots) a = absurd a
 ops_plain (Address name addend ∷ slots) a = absurd a
 ops_plain (CallTo name ops ∷ slots) a = absurd a
 
-ops_block : (slots : List Slot) → AreOps slots → IsBlock slots
-ops_block slots a = closed _ 0 slots a
+ops_contained : (slots : List Slot) → AreOps slots → AreSelfContained slots
+ops_contained slots a = closed _ 0 slots a
   where
     closed : (here : ℕ → Option ℕ) (at : ℕ) (slots : List Slot) → AreOps slots → AreClosed here at slots
     closed here at [] a = tt
@@ -168,8 +168,8 @@ pub extend_summed : (context : Context) (rd : Writable Reg) (rn : Reg) (signed :
 extend_summed context rd rn signed from_bits to_bits =
     ops_summed context (Extend rd rn signed from_bits to_bits) _ (extend_ops context.flags (number_of rd.reg) (number_of rn) signed from_bits) (ap Words (extend_long context.flags (number_of rd.reg) (number_of rn) signed from_bits)) (λ start end. refl) (λ start end. refl) (λ named. refl)
 
-pub extend_block : (flags : IsaFlags) (rd rn : ℕ) (signed : Bool) (bits : ℕ) → IsBlock (extend_slots flags rd rn signed bits)
-extend_block flags rd rn signed bits = ops_block (extend_slots flags rd rn signed bits) (extend_ops flags rd rn signed bits)
+pub extend_contained : (flags : IsaFlags) (rd rn : ℕ) (signed : Bool) (bits : ℕ) → AreSelfContained (extend_slots flags rd rn signed bits)
+extend_contained flags rd rn signed bits = ops_contained (extend_slots flags rd rn signed bits) (extend_ops flags rd rn signed bits)
 
 pub extend_short : (flags : IsaFlags) (rd rn : ℕ) (signed : Bool) (bits : ℕ) → extend_size flags rd rn signed bits ≤ 8
 extend_short flags rd rn signed bits = on (is_byte signed bits)
@@ -304,8 +304,8 @@ select_summed context info =
     let ys = map number_of (all_of info.y) in
     ops_summed context (Select info) _ (chosen_ops context.flags rds info.condition xs ys) (ap Words (chosen_long context.flags rds info.condition xs ys)) (λ start end. refl) (λ start end. refl) (λ named. refl)
 
-pub select_block : (flags : IsaFlags) (dst : ValueRegs (Writable Reg)) (condition : IntegerCompare) (x y : ValueRegs Reg) → IsBlock (select_slots flags dst condition x y)
-select_block flags dst condition x y = ops_block (select_slots flags dst condition x y) (chosen_ops flags (map number_of (written_in dst)) condition (map number_of (all_of x)) (map number_of (all_of y)))
+pub select_contained : (flags : IsaFlags) (dst : ValueRegs (Writable Reg)) (condition : IntegerCompare) (x y : ValueRegs Reg) → AreSelfContained (select_slots flags dst condition x y)
+select_contained flags dst condition x y = ops_contained (select_slots flags dst condition x y) (chosen_ops flags (map number_of (written_in dst)) condition (map number_of (all_of x)) (map number_of (all_of y)))
 
 pub select_short : (flags : IsaFlags) (dst : ValueRegs (Writable Reg)) (x y : ValueRegs Reg) → select_size flags dst x y ≤ 24
 select_short flags dst x y =

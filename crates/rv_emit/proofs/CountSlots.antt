@@ -8,8 +8,8 @@ use Rattle.rv_ops.specs.declared.alu.AluOPRRI.TheVariants.{Addi, Slli}
 use Rattle.rv_machine.specs.declared.decoding.Decoded.{Decoded}
 use Rattle.rv_emit.specs.Counts.{start_ops, turn_size, test_op, turn_ops}
 use Rattle.rv_emit.specs.Operations.{short_jump}
-use Rattle.rv_emit.specs.Slots.{Op, here_at, AreClosed, IsBlock}
-use Rattle.rv_emit.proofs.AddressesPut.{IsShort}
+use Rattle.rv_emit.specs.Slots.{Op, here_at, AreClosed, AreSelfContained}
+use Rattle.rv_emit.proofs.AddressCode.{IsShort}
 use Rattle.rv_emit.proofs.ShortOps.{rrr_sized, rri_sized, jump_len, least_even}
 
 -- at most four operations come before the loop
@@ -42,8 +42,8 @@ abbrev pub AreEven : List Decoded → Type 0
 AreEven [] = Unit {0}
 AreEven (d ∷ ops) = (d.len % 2 ≡ 0) × AreEven ops
 
-pub ops_block : (ops : List Decoded) → AreEven ops → IsBlock (map Op ops)
-ops_block ops all = closed (λ k. here_at k 0 (map Op ops)) 0 ops all
+pub ops_contained : (ops : List Decoded) → AreEven ops → AreSelfContained (map Op ops)
+ops_contained ops all = closed (λ k. here_at k 0 (map Op ops)) 0 ops all
   where
     closed : (here : ℕ → Option ℕ) (offset : ℕ) (ops : List Decoded) → AreEven ops → AreClosed here offset (map Op ops)
     closed here offset [] all = tt

@@ -61,11 +61,11 @@ word_fits w h = record { first = omega arith; second = omega arith; third = omeg
 abbrev Bridge : LabelUse → ℕ → Type 0
 Bridge kind opcode = (flags : IsaFlags) (old new : List ℕ) (d : ℤ) → AreBytes old → AreBytes new → SameOutside (marks_of kind) old new → word_opcode (word_at old) ≡ opcode → Aims kind new d → decode flags (word_at new) ≡ option_map (with_immediate d) (decode flags (word_at old))
 
-one_word : (kind : LabelUse) (opcode : ℕ) → Bridge kind opcode → (flags : IsaFlags) (w : ℕ) (row : Decoded) → length (marks_of kind) ≡ 4 → w < 2 ^ 32 → word_opcode w ≡ opcode → decode flags w ≡ Some row →
-    (new : List ℕ) (d : ℤ) → length new ≡ length (marks_of kind) → AllBytes new → SameOutside (marks_of kind) (word_bytes w) new → Aims kind new d → Encodes flags new (with_immediate d row ∷ [])
-one_word kind opcode bridge flags w row four fits is e new d long all kept aims =
+one_word : (kind : LabelUse) (opcode : ℕ) → Bridge kind opcode → (flags : IsaFlags) (w : ℕ) (decoded : Decoded) → length (marks_of kind) ≡ 4 → w < 2 ^ 32 → word_opcode w ≡ opcode → decode flags w ≡ Some decoded →
+    (new : List ℕ) (d : ℤ) → length new ≡ length (marks_of kind) → AllBytes new → SameOutside (marks_of kind) (word_bytes w) new → Aims kind new d → Encodes flags new (with_immediate d decoded ∷ [])
+one_word kind opcode bridge flags w decoded four fits is e new d long all kept aims =
     let same : length new ≡ 4 = long ∙ four in
-    encodes flags new (with_immediate d row) same
+    encodes flags new (with_immediate d decoded) same
     (bridge flags (word_bytes w) new d (word_fits w fits) (are_bytes new same all) kept (ap word_opcode (word_back w) ∙ is) aims
     ∙ ap (λ x. option_map (with_immediate d) (decode flags x)) (word_back w) ∙ ap (option_map (with_immediate d)) e)
 

@@ -30,7 +30,7 @@ use Rattle.rv_ops.specs.declared.memory.StoreOP.{StoreOP}
 use Rattle.rv_ops.specs.declared.memory.StoreOP.TheVariants as stores
 use Rattle.rv_ops.specs.Memory.{load_size, store_size}
 use Rattle.rv_inst.specs.Meaning.{alu_rrr}
-use Rattle.rv_encode.specs.Operations.{row, decoded_rrr, decoded_rri, load_op, store_op, decoded_load, decoded_store}
+use Rattle.rv_encode.specs.Operations.{decoded, decoded_rrr, decoded_rri, load_op, store_op, decoded_load, decoded_store}
 use Rattle.rv_machine.specs.Layout.{bare_form, compressed}
 use Rattle.rv_machine.specs.Memory.{load_result, store_bytes}
 use Rattle.rv_inst.specs.Forms.{form_where, chosen, is_either, is_short, other_source, add_form, either_form, first_form, zext_w_form, zca_rrr, form_rrr, short_rrr, sp, ra, shift_amount, is_equal, is_six_bits, is_scaled, is_move, move_form, is_addi16sp, is_addi4spn, is_li, is_addi, addi_form, ori_form, addiw_form, slli_form, right_shift_form, andi_form, not_form, extend_form, zca_rri, form_rri, short_rri, form_lui, short_lui, form_jalr, short_jalr, form_ebreak, short_ebreak, load_form, word_load_form, narrow_load_form, zca_load, form_load, short_load, store_form, word_store_form, narrow_store_form, zca_store, form_store, short_store}
@@ -42,7 +42,7 @@ use Rattle.rv_emit.proofs.OperationActs.{rrr_acts, rrr_len, rri_acts}
 abbrev pub IsLength : ℕ → Type 0
 IsLength len = (len ≡ 2) ⊎ (len ≡ 4)
 
--- an operation does what is told of a state and the address after it
+-- an operation does what is said of a state and the address after it
 pub record Does (work : State → ℕ → State) (d : Decoded) : Type 0 where
   pub long : IsLength d.len
   pub acts : (s : State) → AreValues s.values → act d s ≡ Some (work s (wrap (s.pc + d.len)))
@@ -85,10 +85,10 @@ exchanged f comm rd rs1 rs2 v h = by (rd == rs1) refl h
     by false e g = ap (λ r. f (reg v r) (reg v rs1)) (eqb-true rd rs2 g) ∙ comm (reg v rs2) (reg v rs1)
 
 -- a form of an operation whose sources may be exchanged
-either_does : (op : AluOPRRR) (row : AluOp) (rd rs1 rs2 : ℕ) → ((x y : ℕ) → alu_result row x y 0 ≡ alu_result row y x 0) → ((x y : ℕ) → alu_rrr op x y ≡ alu_result row x y 0) → is_either rd rs1 rs2 ≡ true → Does (rrr_work op rd rs1 rs2) (compressed (Alu row) rd rd (other_source rd rs1 rs2) (pos 0))
-either_does op row rd rs1 rs2 comm same h = record {
+either_does : (op : AluOPRRR) (alu : AluOp) (rd rs1 rs2 : ℕ) → ((x y : ℕ) → alu_result alu x y 0 ≡ alu_result alu y x 0) → ((x y : ℕ) → alu_rrr op x y ≡ alu_result alu x y 0) → is_either rd rs1 rs2 ≡ true → Does (rrr_work op rd rs1 rs2) (compressed (Alu alu) rd rd (other_source rd rs1 rs2) (pos 0))
+either_does op alu rd rs1 rs2 comm same h = record {
   long = inl refl;
-  acts = λ s v. ap (λ n. Some (at (wrap (s.pc + 2)) (set_reg s.values rd n))) (exchanged (λ x y. alu_result row x y 0) comm rd rs1 rs2 s.values h ∙ sym (same (reg s.values rs1) (reg s.values rs2)));
+  acts = λ s v. ap (λ n. Some (at (wrap (s.pc + 2)) (set_reg s.values rd n))) (exchanged (λ x y. alu_result alu x y 0) comm rd rs1 rs2 s.values h ∙ sym (same (reg s.values rs1) (reg s.values rs2)));
 }
 
 add_exchanged : (x y : ℕ) → wrap (x + y) ≡ wrap (y + x)
@@ -101,11 +101,11 @@ mul_exchanged : (x y : ℕ) → wrap (x * y) ≡ wrap (y * x)
 mul_exchanged x y = ap wrap (mul_comm x y)
 
 -- a form whose first source is rd
-first_does : (op : AluOPRRR) (row : AluOp) (rd rs1 rs2 : ℕ) → ((x y : ℕ) → alu_rrr op x y ≡ alu_result row x y 0) → (rd == rs1) ≡ true → Does (rrr_work op rd rs1 rs2) (compressed (Alu row) rd rd rs2 (pos 0))
-first_does op row rd rs1 rs2 same h = record {
+first_does : (op : AluOPRRR) (alu : AluOp) (rd rs1 rs2 : ℕ) → ((x y : ℕ) → alu_rrr op x y ≡ alu_result alu x y 0) → (rd == rs1) ≡ true → Does (rrr_work op rd rs1 rs2) (compressed (Alu alu) rd rd rs2 (pos 0))
+first_does op alu rd rs1 rs2 same h = record {
   long = inl refl;
   acts = λ s v. ap (λ n. Some (at (wrap (s.pc + 2)) (set_reg s.values rd n)))
-      (ap (λ r. alu_result row (reg s.values r) (reg s.values rs2) 0) (eqb-true rd rs1 h) ∙ sym (same (reg s.values rs1) (reg s.values rs2)));
+      (ap (λ r. alu_result alu (reg s.values r) (reg s.values rs2) 0) (eqb-true rd rs1 h) ∙ sym (same (reg s.values rs1) (reg s.values rs2)));
 }
 
 add_form_does : (rd rs1 rs2 : ℕ) → IfSome (add_form rd rs1 rs2) (Does (rrr_work rrr.Add rd rs1 rs2))
@@ -113,15 +113,15 @@ add_form_does rd rs1 rs2 =
     guarded (Does (rrr_work rrr.Add rd rs1 rs2)) (is_either rd rs1 rs2 && not (rs1 == 0) && not (rs2 == 0)) (compressed (Alu (Int int.Add)) rd rd (other_source rd rs1 rs2) (pos 0))
     (λ h. either_does rrr.Add (Int int.Add) rd rs1 rs2 add_exchanged (λ x y. refl) (first_of (is_either rd rs1 rs2) (not (rs1 == 0)) (not (rs2 == 0)) h))
 
-either_form_does : (op : AluOPRRR) (row : AluOp) (rd rs1 rs2 : ℕ) → ((x y : ℕ) → alu_result row x y 0 ≡ alu_result row y x 0) → ((x y : ℕ) → alu_rrr op x y ≡ alu_result row x y 0) → IfSome (either_form row rd rs1 rs2) (Does (rrr_work op rd rs1 rs2))
-either_form_does op row rd rs1 rs2 comm same =
-    guarded (Does (rrr_work op rd rs1 rs2)) (is_either rd rs1 rs2 && is_short rs1 && is_short rs2) (compressed (Alu row) rd rd (other_source rd rs1 rs2) (pos 0))
-    (λ h. either_does op row rd rs1 rs2 comm same (first_of (is_either rd rs1 rs2) (is_short rs1) (is_short rs2) h))
+either_form_does : (op : AluOPRRR) (alu : AluOp) (rd rs1 rs2 : ℕ) → ((x y : ℕ) → alu_result alu x y 0 ≡ alu_result alu y x 0) → ((x y : ℕ) → alu_rrr op x y ≡ alu_result alu x y 0) → IfSome (either_form alu rd rs1 rs2) (Does (rrr_work op rd rs1 rs2))
+either_form_does op alu rd rs1 rs2 comm same =
+    guarded (Does (rrr_work op rd rs1 rs2)) (is_either rd rs1 rs2 && is_short rs1 && is_short rs2) (compressed (Alu alu) rd rd (other_source rd rs1 rs2) (pos 0))
+    (λ h. either_does op alu rd rs1 rs2 comm same (first_of (is_either rd rs1 rs2) (is_short rs1) (is_short rs2) h))
 
-first_form_does : (op : AluOPRRR) (row : AluOp) (rd rs1 rs2 : ℕ) → ((x y : ℕ) → alu_rrr op x y ≡ alu_result row x y 0) → IfSome (first_form row rd rs1 rs2) (Does (rrr_work op rd rs1 rs2))
-first_form_does op row rd rs1 rs2 same =
-    guarded (Does (rrr_work op rd rs1 rs2)) ((rd == rs1) && is_short rs1 && is_short rs2) (compressed (Alu row) rd rd rs2 (pos 0))
-    (λ h. first_does op row rd rs1 rs2 same (first_of (rd == rs1) (is_short rs1) (is_short rs2) h))
+first_form_does : (op : AluOPRRR) (alu : AluOp) (rd rs1 rs2 : ℕ) → ((x y : ℕ) → alu_rrr op x y ≡ alu_result alu x y 0) → IfSome (first_form alu rd rs1 rs2) (Does (rrr_work op rd rs1 rs2))
+first_form_does op alu rd rs1 rs2 same =
+    guarded (Does (rrr_work op rd rs1 rs2)) ((rd == rs1) && is_short rs1 && is_short rs2) (compressed (Alu alu) rd rd rs2 (pos 0))
+    (λ h. first_does op alu rd rs1 rs2 same (first_of (rd == rs1) (is_short rs1) (is_short rs2) h))
 
 zext_w_form_does : (rd rs1 rs2 : ℕ) → IfSome (zext_w_form rd rs1 rs2) (Does (rrr_work rrr.Adduw rd rs1 rs2))
 zext_w_form_does rd rs1 rs2 =
@@ -160,8 +160,8 @@ abbrev pub rri_work : AluOPRRI → ℕ → ℕ → ℤ → State → ℕ → Sta
 rri_work op rd rs imm s next = at next (set_reg s.values rd (alu_result (rri_op op) (reg s.values rs) 0 (low64 (kept_bits (immediate_of op) imm))))
 
 -- a form whose source is rd, and whose immediate is the one that is kept
-own_does : (op : AluOPRRI) (row : AluOp) (rd rs : ℕ) (imm z : ℤ) → rri_op op ≡ row → rd ≡ rs → kept_bits (immediate_of op) imm ≡ z → Does (rri_work op rd rs imm) (compressed (Alu row) rd rd 0 z)
-own_does op row rd rs imm z same own kept = record {
+own_does : (op : AluOPRRI) (alu : AluOp) (rd rs : ℕ) (imm z : ℤ) → rri_op op ≡ alu → rd ≡ rs → kept_bits (immediate_of op) imm ≡ z → Does (rri_work op rd rs imm) (compressed (Alu alu) rd rd 0 z)
+own_does op alu rd rs imm z same own kept = record {
   long = inl refl;
   acts = λ s v i. Some (at (wrap (s.pc + 2)) (set_reg s.values rd (alu_result (sym same i) (reg s.values (own i)) 0 (low64 (sym kept i)))));
 }
@@ -289,7 +289,7 @@ lui_work rd imm s next = at next (set_reg s.values rd (wrap (low64 imm * 2 ^ 12)
 
 pub short_lui_does : (flags : IsaFlags) (rd : ℕ) (imm : ℤ) → Does (lui_work rd imm) (short_lui flags rd imm)
 short_lui_does flags rd imm =
-    on_chosen (Does (lui_work rd imm)) (form_lui flags rd imm) (row (Base Lui) rd 0 0 imm)
+    on_chosen (Does (lui_work rd imm)) (form_lui flags rd imm) (decoded (Base Lui) rd 0 0 imm)
     (guarded (Does (lui_work rd imm)) (flags.has_zca && not (rd == 0) && not (rd == sp) && not (is_equal imm (pos 0)) && is_six_bits imm) (compressed (Base Lui) rd 0 0 imm) (λ h. record { long = inl refl; acts = λ s v. refl }))
     (record { long = inr refl; acts = λ s v. refl })
 
@@ -299,7 +299,7 @@ jalr_work rd base offset s next = at (wrap (reg s.values base + low64 offset) / 
 
 pub short_jalr_does : (flags : IsaFlags) (rd base : ℕ) (offset : ℤ) → Does (jalr_work rd base offset) (short_jalr flags rd base offset)
 short_jalr_does flags rd base offset =
-    on_chosen (Does (jalr_work rd base offset)) (form_jalr flags rd base offset) (row (Base Jalr) rd base 0 offset)
+    on_chosen (Does (jalr_work rd base offset)) (form_jalr flags rd base offset) (decoded (Base Jalr) rd base 0 offset)
     (guarded (Does (jalr_work rd base offset)) (flags.has_zca && is_either rd 0 ra && not (base == 0) && is_equal offset (pos 0)) (compressed (Base Jalr) rd base 0 (pos 0))
     (λ h. let none : offset ≡ pos 0 = grind (arith, ints) in subst (λ z. Does (jalr_work rd base z) (compressed (Base Jalr) rd base 0 (pos 0))) (sym none) (record { long = inl refl; acts = λ s v. refl })))
     (record { long = inr refl; acts = λ s v. refl })

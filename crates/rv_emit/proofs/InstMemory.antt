@@ -36,7 +36,7 @@ use Rattle.rv_emit.proofs.AddressRules.{IsUsableAt, IsRealAt, IsApartAt}
 use Rattle.rv_emit.proofs.AddressRuns.{size_append, stands_split, Sets, sets_one, sets_both, shorter, set_at, label_address, AreShort, upper_sum, upper_goes, lower_sums, address_goes, address_even, address_same, address_fits}
 use Rattle.rv_emit.proofs.Chains.{goes_both, goes_at_least}
 use Rattle.rv_emit.proofs.CodeSteps.{step_at}
-use Rattle.rv_emit.proofs.MemoryKept.{placed_after, put_same, put_values, stored_bytes, stored_length, load_same, load_fits}
+use Rattle.rv_emit.proofs.SameMemory.{placed_after, put_same, put_values, stored_bytes, stored_length, load_same, load_fits}
 use Rattle.rv_emit.proofs.OperationActs.{plus_none}
 use Rattle.rv_emit.proofs.Exits.{same_but, starts_at, comes_out}
 use Rattle.rv_emit.proofs.Registers.{are_values_set, same_set, but_set, spare_set, reads_back, reads_other}

@@ -1,4 +1,4 @@
--- What an instruction adds to a buffer, and that its parts are blocks.
+-- What an instruction adds to a buffer, and that its parts are self-contained.
 use Rattle.std.proofs.Common.{◌≡◌, ◌⊎◌, inl, inr, ℕ, ◌+◌, ◌%◌, Bool, true, false, nat_eq, List, [], ◌∷◌, ◌++◌, length, None, pos, refl, ap, sym, ◌∙◌, arith}
 use Rattle.std.specs.Prelude.{if◌then◌else◌, ◌^◌, ◌-ℤ◌}
 use Rattle.rv_base.specs.Regs.{number_of}
@@ -34,7 +34,7 @@ use Rattle.rv_emit.specs.Counts.{start_ops, turn_ops, turn_size}
 use Rattle.rv_inst.specs.Forms.{jump_kind, short_rrr, short_rri, short_lui, short_jalr, short_ebreak}
 use Rattle.rv_inst.specs.LabelUse.{marks_of}
 use Rattle.rv_emit.specs.Emitted.{Buffer, IsSoundBuffer, AppendsInst, IslandIfNeeded, named_by}
-use Rattle.rv_emit.specs.Slots.{Label, Op, Data, IsBlock, AreBlocks, size_of}
+use Rattle.rv_emit.specs.Slots.{Label, Op, Data, AreSelfContained, PartsAreSelfContained, size_of}
 use Rattle.rv_emit.specs.InstParts.{move_slots, branch_slots, jump_to, branch_over, trap_bytes, trap_slots, inline_slots, constant_slots, count_slots, parts_of}
 use Rattle.rv_emit.specs.declared.state.EmitVState.TheVariants.{Unknown}
 use Rattle.rv_emit.specs.Emission.{EmitsIn, Emits}
@@ -43,15 +43,15 @@ use Rattle.rv_emit.proofs.ShortOps.{HasSize, rrr_sized, rri_sized, lui_sized, ja
 use Rattle.rv_emit.proofs.Operands.{keeps, data_kept, constant_kept}
 use Rattle.rv_inst.specs.Addresses.{AtLabel, location_of}
 use Rattle.rv_emit.proofs.PlainSlots.{IsSummed, summed, nothing}
-use Rattle.rv_emit.proofs.MemorySlots.{load_summed, store_summed, load_addr_summed, label_address_summed, load_block, store_block, address_block}
-use Rattle.rv_emit.proofs.CountSlots.{count_even, ops_block}
-use Rattle.rv_emit.proofs.ChoiceSlots.{extend_summed, extend_block, select_summed, select_block}
-use Rattle.rv_emit.proofs.ZerosSlots.{zeros_summed, zeros_block}
-use Rattle.rv_emit.proofs.ReverseSlots.{reverse_summed, reverse_block}
-use Rattle.rv_emit.proofs.ProbeSlots.{probe_summed, probe_block}
-use Rattle.rv_emit.proofs.SymbolSlots.{got_summed, near_summed, far_summed, unwind_summed, far_block}
-use Rattle.rv_emit.proofs.TableSlots.{table_block}
-use Rattle.rv_emit.proofs.TailSlots.{tail_block, t0_block}
+use Rattle.rv_emit.proofs.MemorySlots.{load_summed, store_summed, load_addr_summed, label_address_summed, load_contained, store_contained, address_contained}
+use Rattle.rv_emit.proofs.CountSlots.{count_even, ops_contained}
+use Rattle.rv_emit.proofs.ChoiceSlots.{extend_summed, extend_contained, select_summed, select_contained}
+use Rattle.rv_emit.proofs.ZerosSlots.{zeros_summed, zeros_contained}
+use Rattle.rv_emit.proofs.ReverseSlots.{reverse_summed, reverse_contained}
+use Rattle.rv_emit.proofs.ProbeSlots.{probe_summed, probe_contained}
+use Rattle.rv_emit.proofs.SymbolSlots.{got_summed, near_summed, far_summed, unwind_summed, far_contained}
+use Rattle.rv_emit.proofs.TableSlots.{table_contained}
+use Rattle.rv_emit.proofs.TailSlots.{tail_contained, t0_contained}
 use Rattle.rv_emit.proofs.CallSlots.{words_alone, call_appends, call_ind_appends, call_blocks, call_ind_blocks}
 
 one : (context : Context) (inst : Inst) (d : Decoded) → extent_of context inst ≡ Words d.len → ((start end : ℕ) → [] ≡ uses_in context start end inst) → ((start end : ℕ) → [] ≡ inst_records context start end inst) → ((named : List VCodeConstant) → named ≡ named_by (inst_constant inst) named) → IsSummed context inst (Op d ∷ [])
@@ -165,35 +165,35 @@ inst_appends context inst old new rule s asks p = appends_inst context Unknown i
 pub asked : (context : Context) (space : ℕ) (old new : Buffer) (made : Bool) → IslandIfNeeded space old new made → Emits context (EmitIsland space) old new
 asked context space old new made r setting = (new, made, r, refl)
 
--- ---- blocks
+-- ---- self-contained slots
 
-op_block : (d : Decoded) → HasSize d → IsBlock (Op d ∷ [])
-op_block d size = (size.even, tt)
+op_contained : (d : Decoded) → HasSize d → AreSelfContained (Op d ∷ [])
+op_contained d size = (size.even, tt)
 
-move_block : (flags : IsaFlags) (rd rs : ℕ) → IsBlock (move_slots flags rd rs)
-move_block flags rd rs = on (nat_eq rd rs)
+move_contained : (flags : IsaFlags) (rd rs : ℕ) → AreSelfContained (move_slots flags rd rs)
+move_contained flags rd rs = on (nat_eq rd rs)
   where
-    on : (c : Bool) → IsBlock (if c then [] else Op (short_rri flags Addi rd rs (pos 0)) ∷ [])
+    on : (c : Bool) → AreSelfContained (if c then [] else Op (short_rri flags Addi rd rs (pos 0)) ∷ [])
     on true = tt
-    on false = op_block (short_rri flags Addi rd rs (pos 0)) (rri_sized flags Addi rd rs (pos 0))
+    on false = op_contained (short_rri flags Addi rd rs (pos 0)) (rri_sized flags Addi rd rs (pos 0))
 
-branch_block : (flags : IsaFlags) (kind : IntegerCompare) (taken not_taken : CondBrTarget) → IsBlock (branch_slots flags kind taken not_taken)
-branch_block flags kind Fallthrough not_taken = tt
-branch_block flags kind (ToLabel t) Fallthrough = (tt, tt)
-branch_block flags kind (ToLabel t) (ToLabel f) = (tt, (tt, tt))
+branch_contained : (flags : IsaFlags) (kind : IntegerCompare) (taken not_taken : CondBrTarget) → AreSelfContained (branch_slots flags kind taken not_taken)
+branch_contained flags kind Fallthrough not_taken = tt
+branch_contained flags kind (ToLabel t) Fallthrough = (tt, tt)
+branch_contained flags kind (ToLabel t) (ToLabel f) = (tt, (tt, tt))
 
 data_even : (bytes : List ℕ) → (length bytes ≡ 4) ⊎ (length bytes ≡ 8) → length bytes % 2 ≡ 0
 data_even bytes (inl e) = omega arith
 data_even bytes (inr e) = omega arith
 
 -- the code that loads what stands after it, and its bytes
-inline_block : (flags : IsaFlags) (rd : ℕ) (op : LoadOP) (size : ℕ) (bytes : List ℕ) → length bytes % 2 ≡ 0 → IsBlock (inline_slots flags rd op size bytes)
-inline_block flags rd op size bytes even = let jump = jump_len flags (pos (size + jump_size flags)) in let least = least_even flags in (refl, (refl, (omega arith, (even, tt))))
+inline_contained : (flags : IsaFlags) (rd : ℕ) (op : LoadOP) (size : ℕ) (bytes : List ℕ) → length bytes % 2 ≡ 0 → AreSelfContained (inline_slots flags rd op size bytes)
+inline_contained flags rd op size bytes even = let jump = jump_len flags (pos (size + jump_size flags)) in let least = least_even flags in (refl, (refl, (omega arith, (even, tt))))
 
-constant_block : (flags : IsaFlags) (rd : ℕ) (type : IrType) (imm : ℕ) → is_word_type type ≡ true → IsBlock (constant_slots flags rd type imm)
-constant_block flags rd I32 imm word = inline_block flags rd loads.Lw 4 (to_le_bytes w32 (imm % 2 ^ 32)) refl
-constant_block flags rd I64 imm word = inline_block flags rd loads.Ld 8 (to_le_bytes w64 imm) refl
-constant_block flags rd _ imm word = absurd (cc)
+constant_contained : (flags : IsaFlags) (rd : ℕ) (type : IrType) (imm : ℕ) → is_word_type type ≡ true → AreSelfContained (constant_slots flags rd type imm)
+constant_contained flags rd I32 imm word = inline_contained flags rd loads.Lw 4 (to_le_bytes w32 (imm % 2 ^ 32)) refl
+constant_contained flags rd I64 imm word = inline_contained flags rd loads.Ld 8 (to_le_bytes w64 imm) refl
+constant_contained flags rd _ imm word = absurd (cc)
 
 trap_even : (flags : IsaFlags) → length (trap_bytes flags) % 2 ≡ 0
 trap_even flags = by flags.has_zca
@@ -202,49 +202,49 @@ trap_even flags = by flags.has_zca
     by true = refl
     by false = refl
 
-count_block : (flags : IsaFlags) (sum tmp step rs bits : ℕ) → IsBlock (count_slots flags sum tmp step rs bits)
-count_block flags sum tmp step rs bits = ops_block (start_ops flags true sum tmp step bits ++ turn_ops flags false Srli sum tmp step rs) (count_even flags true false Srli sum tmp step rs bits)
+count_contained : (flags : IsaFlags) (sum tmp step rs bits : ℕ) → AreSelfContained (count_slots flags sum tmp step rs bits)
+count_contained flags sum tmp step rs bits = ops_contained (start_ops flags true sum tmp step bits ++ turn_ops flags false Srli sum tmp step rs) (count_even flags true false Srli sum tmp step rs bits)
 
--- each part of an instruction is a block
-pub are_blocks : (context : Context) (setting : EmitVState) (inst : Inst) → inst_rule context inst ≡ None → AreBlocks (parts_of context setting inst)
-are_blocks context setting Nop0 rule = tt
-are_blocks context setting Nop4 rule = ((refl, tt), tt)
-are_blocks context setting EBreak rule = (op_block (short_ebreak context.flags) (ebreak_sized context.flags), tt)
-are_blocks context setting SequencePoint rule = tt
-are_blocks context setting (Args args) rule = tt
-are_blocks context setting (Rets rets) rule = tt
-are_blocks context setting (DummyUse reg) rule = tt
-are_blocks context setting (EmitIsland space) rule = tt
-are_blocks context setting (RawData bytes) rule = ((data_even bytes (data_kept bytes (keeps context _ rule)), tt), tt)
-are_blocks context setting (Lui rd imm) rule = (op_block (short_lui context.flags (number_of rd.reg) imm.value) (lui_sized context.flags (number_of rd.reg) imm.value), tt)
-are_blocks context setting (Auipc rd imm) rule = ((refl, tt), tt)
-are_blocks context setting (LoadInlineConst rd type imm) rule = (constant_block context.flags (number_of rd.reg) type imm (constant_kept rd type imm (keeps context _ rule)).typed, tt)
-are_blocks context setting (AluRRR op rd rs1 rs2) rule = (op_block (short_rrr context.flags op (number_of rd.reg) (number_of rs1) (number_of rs2)) (rrr_sized context.flags op (number_of rd.reg) (number_of rs1) (number_of rs2)), tt)
-are_blocks context setting (AluRRImm12 op rd rs imm) rule = (op_block (short_rri context.flags op (number_of rd.reg) (number_of rs) imm.value) (rri_sized context.flags op (number_of rd.reg) (number_of rs) imm.value), tt)
-are_blocks context setting (Mov rd rm type) rule = (move_block context.flags (number_of rd.reg) (number_of rm), tt)
-are_blocks context setting (MovFromPReg rd rm) rule = (move_block context.flags (number_of rd.reg) rm.number, tt)
-are_blocks context setting (Extend rd rn signed from_bits to_bits) rule = (extend_block context.flags (number_of rd.reg) (number_of rn) signed from_bits, tt)
-are_blocks context setting (Select info) rule = (select_block context.flags info.dst info.condition info.x info.y, tt)
-are_blocks context setting (Load rd op flags from) rule = (load_block context.flags (number_of rd.reg) op flags.trap (location_of context.frame from), tt)
-are_blocks context setting (Store to op flags src) rule = (store_block context.flags op (number_of src) flags.trap (location_of context.frame to), tt)
-are_blocks context setting (LoadAddr rd mem) rule = (address_block context.flags (number_of rd.reg) (location_of context.frame mem), tt)
-are_blocks context setting (LabelAddress dst label) rule = (address_block context.flags (number_of dst.reg) (AtLabel label), tt)
-are_blocks context setting Ret rule = (op_block (short_jalr context.flags 0 1 (pos 0)) (jalr_sized context.flags 0 1 (pos 0)), tt)
-are_blocks context setting (TrapIf cmp code) rule = ((refl, (trap_even context.flags, tt)), tt)
-are_blocks context setting (Jal label) rule = ((tt, tt), tt)
-are_blocks context setting (CondBr taken not_taken kind) rule = (branch_block context.flags kind taken not_taken, tt)
-are_blocks context setting (BrTable index tmp1 tmp2 targets) rule = (table_block context.flags (number_of index) (number_of tmp1.reg) (number_of tmp2.reg) targets, tt)
-are_blocks context setting (Udf code) rule = ((trap_even context.flags, tt), tt)
-are_blocks context setting (Jalr rd base offset) rule = (op_block (short_jalr context.flags (number_of rd.reg) (number_of base) offset.value) (jalr_sized context.flags (number_of rd.reg) (number_of base) offset.value), tt)
-are_blocks context setting (Popcnt sum tmp step rs type) rule = (count_block context.flags (number_of sum.reg) (number_of tmp.reg) (number_of step.reg) (number_of rs) (bits_of type), tt)
-are_blocks context setting (Cltz sum tmp step rs leading type) rule = (zeros_block context.flags leading (number_of sum.reg) (number_of tmp.reg) (number_of step.reg) (number_of rs) (bits_of type), tt)
-are_blocks context setting (Brev8 rs type step tmp tmp2 rd) rule = (reverse_block context.flags (number_of rd.reg) (number_of tmp.reg) (number_of tmp2.reg) (number_of step.reg) (number_of rs) (bits_of type), tt)
-are_blocks context setting (StackProbeLoop guard_size probe_count tmp) rule = (probe_block context.flags (number_of tmp.reg) (low_word guard_size) (low_word probe_count), tt)
-are_blocks context setting (LoadExtNameGot rd name) rule = (tt, tt)
-are_blocks context setting (LoadExtNameNear rd name offset) rule = (tt, tt)
-are_blocks context setting (LoadExtNameFar rd name offset) rule = (far_block context.flags (number_of rd.reg) name offset, tt)
-are_blocks context setting (Call info) rule = call_blocks context info
-are_blocks context setting (CallInd info) rule = call_ind_blocks context info
-are_blocks context setting (ReturnCall info) rule = (tail_block context.flags context.frame info.new_stack_arg_size info.dest, tt)
-are_blocks context setting (ReturnCallInd info) rule = (t0_block context.flags context.frame info.new_stack_arg_size, tt)
-are_blocks context setting (Unwind inst) rule = (tt, tt)
+-- each part of an instruction is self-contained
+pub parts_are_self_contained : (context : Context) (setting : EmitVState) (inst : Inst) → inst_rule context inst ≡ None → PartsAreSelfContained (parts_of context setting inst)
+parts_are_self_contained context setting Nop0 rule = tt
+parts_are_self_contained context setting Nop4 rule = ((refl, tt), tt)
+parts_are_self_contained context setting EBreak rule = (op_contained (short_ebreak context.flags) (ebreak_sized context.flags), tt)
+parts_are_self_contained context setting SequencePoint rule = tt
+parts_are_self_contained context setting (Args args) rule = tt
+parts_are_self_contained context setting (Rets rets) rule = tt
+parts_are_self_contained context setting (DummyUse reg) rule = tt
+parts_are_self_contained context setting (EmitIsland space) rule = tt
+parts_are_self_contained context setting (RawData bytes) rule = ((data_even bytes (data_kept bytes (keeps context _ rule)), tt), tt)
+parts_are_self_contained context setting (Lui rd imm) rule = (op_contained (short_lui context.flags (number_of rd.reg) imm.value) (lui_sized context.flags (number_of rd.reg) imm.value), tt)
+parts_are_self_contained context setting (Auipc rd imm) rule = ((refl, tt), tt)
+parts_are_self_contained context setting (LoadInlineConst rd type imm) rule = (constant_contained context.flags (number_of rd.reg) type imm (constant_kept rd type imm (keeps context _ rule)).typed, tt)
+parts_are_self_contained context setting (AluRRR op rd rs1 rs2) rule = (op_contained (short_rrr context.flags op (number_of rd.reg) (number_of rs1) (number_of rs2)) (rrr_sized context.flags op (number_of rd.reg) (number_of rs1) (number_of rs2)), tt)
+parts_are_self_contained context setting (AluRRImm12 op rd rs imm) rule = (op_contained (short_rri context.flags op (number_of rd.reg) (number_of rs) imm.value) (rri_sized context.flags op (number_of rd.reg) (number_of rs) imm.value), tt)
+parts_are_self_contained context setting (Mov rd rm type) rule = (move_contained context.flags (number_of rd.reg) (number_of rm), tt)
+parts_are_self_contained context setting (MovFromPReg rd rm) rule = (move_contained context.flags (number_of rd.reg) rm.number, tt)
+parts_are_self_contained context setting (Extend rd rn signed from_bits to_bits) rule = (extend_contained context.flags (number_of rd.reg) (number_of rn) signed from_bits, tt)
+parts_are_self_contained context setting (Select info) rule = (select_contained context.flags info.dst info.condition info.x info.y, tt)
+parts_are_self_contained context setting (Load rd op flags from) rule = (load_contained context.flags (number_of rd.reg) op flags.trap (location_of context.frame from), tt)
+parts_are_self_contained context setting (Store to op flags src) rule = (store_contained context.flags op (number_of src) flags.trap (location_of context.frame to), tt)
+parts_are_self_contained context setting (LoadAddr rd mem) rule = (address_contained context.flags (number_of rd.reg) (location_of context.frame mem), tt)
+parts_are_self_contained context setting (LabelAddress dst label) rule = (address_contained context.flags (number_of dst.reg) (AtLabel label), tt)
+parts_are_self_contained context setting Ret rule = (op_contained (short_jalr context.flags 0 1 (pos 0)) (jalr_sized context.flags 0 1 (pos 0)), tt)
+parts_are_self_contained context setting (TrapIf cmp code) rule = ((refl, (trap_even context.flags, tt)), tt)
+parts_are_self_contained context setting (Jal label) rule = ((tt, tt), tt)
+parts_are_self_contained context setting (CondBr taken not_taken kind) rule = (branch_contained context.flags kind taken not_taken, tt)
+parts_are_self_contained context setting (BrTable index tmp1 tmp2 targets) rule = (table_contained context.flags (number_of index) (number_of tmp1.reg) (number_of tmp2.reg) targets, tt)
+parts_are_self_contained context setting (Udf code) rule = ((trap_even context.flags, tt), tt)
+parts_are_self_contained context setting (Jalr rd base offset) rule = (op_contained (short_jalr context.flags (number_of rd.reg) (number_of base) offset.value) (jalr_sized context.flags (number_of rd.reg) (number_of base) offset.value), tt)
+parts_are_self_contained context setting (Popcnt sum tmp step rs type) rule = (count_contained context.flags (number_of sum.reg) (number_of tmp.reg) (number_of step.reg) (number_of rs) (bits_of type), tt)
+parts_are_self_contained context setting (Cltz sum tmp step rs leading type) rule = (zeros_contained context.flags leading (number_of sum.reg) (number_of tmp.reg) (number_of step.reg) (number_of rs) (bits_of type), tt)
+parts_are_self_contained context setting (Brev8 rs type step tmp tmp2 rd) rule = (reverse_contained context.flags (number_of rd.reg) (number_of tmp.reg) (number_of tmp2.reg) (number_of step.reg) (number_of rs) (bits_of type), tt)
+parts_are_self_contained context setting (StackProbeLoop guard_size probe_count tmp) rule = (probe_contained context.flags (number_of tmp.reg) (low_word guard_size) (low_word probe_count), tt)
+parts_are_self_contained context setting (LoadExtNameGot rd name) rule = (tt, tt)
+parts_are_self_contained context setting (LoadExtNameNear rd name offset) rule = (tt, tt)
+parts_are_self_contained context setting (LoadExtNameFar rd name offset) rule = (far_contained context.flags (number_of rd.reg) name offset, tt)
+parts_are_self_contained context setting (Call info) rule = call_blocks context info
+parts_are_self_contained context setting (CallInd info) rule = call_ind_blocks context info
+parts_are_self_contained context setting (ReturnCall info) rule = (tail_contained context.flags context.frame info.new_stack_arg_size info.dest, tt)
+parts_are_self_contained context setting (ReturnCallInd info) rule = (t0_contained context.flags context.frame info.new_stack_arg_size, tt)
+parts_are_self_contained context setting (Unwind inst) rule = (tt, tt)

@@ -22,7 +22,7 @@ use Rattle.rv_machine.specs.State.{State, Values, reg, set_reg, wrap, low64, at}
 use Rattle.rv_machine.specs.Effects.{act}
 use Rattle.rv_machine.proofs.Ranges.{alu_result_fits}
 use Rattle.rv_ops.specs.Operations.{rri_op}
-use Rattle.rv_encode.specs.Operations.{row}
+use Rattle.rv_encode.specs.Operations.{decoded}
 use Rattle.rv_inst.specs.Forms.{short_rrr, short_rri, short_lui, short_jalr}
 use Rattle.rv_emit.specs.declared.state.EmitVState.{EmitVState}
 use Rattle.rv_emit.specs.Operations.{decoded_addi}
@@ -95,7 +95,7 @@ pub auipc_runs : (site : Site) (setting : EmitVState) (rd : Writable Reg) (imm :
 auipc_runs site setting rd imm h = record {
   run = λ start after s v e clear.
       let n = number_of rd.reg in
-      next_out (row (Base base_op.Auipc) n 0 0 imm.value) n (wrap (wrap (site.base + start) + low64 imm.value * 2 ^ 12)) e (lit< tt)
+      next_out (decoded (Base base_op.Auipc) n 0 0 imm.value) n (wrap (wrap (site.base + start) + low64 imm.value * 2 ^ 12)) e (lit< tt)
       (λ i. Some (at (wrap (s.pc + 4)) (set_reg s.values n (wrap (e.pc i + low64 imm.value * 2 ^ 12)))))
       h.1 (omega arith);
 }

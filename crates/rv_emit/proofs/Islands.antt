@@ -72,8 +72,8 @@ others_pending old new after_island p =
     let same : deadlines test label_kinds (uses_of old) ≡ pending old = deadlines_as test _ label_kinds (uses_of old) (λ j u h. other_label (place_of old) after_island u (not_named old new after_island p j u h)) in
     first ∙ deadlines_append test label_kinds (uses_of old) (jump ∷ []) ∙ ap (λ ds. deadlines test label_kinds (uses_of old) ++ ds) last ∙ append-nil _ ∙ same
 
-pub jump_round : (old new : Buffer) (after_island : MachLabel) → JumpPut old new after_island → IsJumpOver label_kinds (bytes_of new) (uses_of new) after_island.number
-jump_round old new after_island p = record {
+pub jumps_over : (old new : Buffer) (after_island : MachLabel) → JumpPut old new after_island → IsJumpOver label_kinds (bytes_of new) (uses_of new) after_island.number
+jumps_over old new after_island p = record {
   before = uses_of old;
   jump = use_at (length (bytes_of old)) after_island Jal20;
   stands = p.uses;
@@ -108,7 +108,7 @@ unbound_fresh old new after_island p = ap (λ (place : ℕ → Option ℕ). plac
     on (Some at) e = absurd (not_usable old new after_island p after_island.number (bound_usable label_kinds old p.before after_island.number at e) refl)
 
 pub can_island : (old new : Buffer) (after_island : MachLabel) → JumpPut old new after_island → CanReach (length (bytes_of old)) (pending old) → length (bytes_of old) + reserve_of (shape_of old) + 8 * length (pending old) + 32 < code_limit → CanIsland label_kinds (shape_of new) after_island
-unfolding jump_round
+unfolding jumps_over
 can_island old new after_island p reach room =
     let others = others_pending old new after_island p in
     let long : length (bytes_of new) ≡ length (bytes_of old) + 4 = ap length p.bytes ∙ length-append (bytes_of old) (word_bytes jump_word) in
@@ -124,7 +124,7 @@ can_island old new after_island p reach room =
       known = omega arith;
       unbound = unbound_fresh old new after_island p;
       four = omega arith;
-      jump = jump_round old new after_island p;
+      jump = jumps_over old new after_island p;
       reach = subst (λ (ds : List ℕ). CanReach (length (bytes_of new) - 4) ds) (sym others) (subst (λ n. CanReach n (pending old)) less reach);
       room = subst (λ (ds : List ℕ). island_end (end_after (shape_of new)) (aligned (length (bytes_of new))) (length ds) last < code_limit) (sym others) end;
     }

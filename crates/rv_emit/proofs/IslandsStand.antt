@@ -29,7 +29,7 @@ use Rattle.rv_emit.specs.Images.{KeepsOutside}
 use Rattle.rv_emit.specs.Puts.{AllBytes}
 use Rattle.rv_emit.specs.Standing.{IslandIn, GapStandsIn, IsFinishedTo}
 use Rattle.rv_emit.proofs.PlacedBytes.{window_length, window_there}
-use Rattle.rv_emit.proofs.PutsLast.{slot_bytes, puts_last}
+use Rattle.rv_emit.proofs.BufferAfterSlots.{slot_bytes, lasts_after_slots}
 use Rattle.rv_emit.proofs.Standing.{aim_finished, aim_has, within}
 use Rattle.rv_emit.proofs.VeneerRuns.{via_decodes, pair_there}
 
@@ -113,7 +113,7 @@ module _ (context : Context) (f : Shape LabelUse) (bytes : List ℕ) (fin : IsFi
       u = use_at (length old.bytes) i.after_island Jal20
 
       lasts : Lasts label_kinds mid f
-      lasts = lasts_more (puts_last context.flags old.allocated [] mid i.jump.new i.jump.puts.2) i.jump.lasts
+      lasts = lasts_more (lasts_after_slots context.flags old.allocated [] mid i.jump.new i.jump.puts.2) i.jump.lasts
 
       room : length old.bytes + 4 ≤ length bytes
       room = let l = slot_bytes context.flags old.allocated (wide_jump_to (Label i.after_island)) old mid i.jump.puts.1 in let w = within site f bytes fin unfilled refl refl mid lasts in omega arith

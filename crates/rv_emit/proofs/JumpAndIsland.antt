@@ -23,9 +23,9 @@ use Rattle.mach_buffer.proofs.Laws.{island_rest, island_reserve, lasts_more, las
 use Rattle.rv_emit.specs.Emitted.{Buffer, IsSoundBuffer, HasWindows, pending, AppendsCode, AppendsIsland}
 use Rattle.rv_emit.specs.Operations.{jump_word}
 use Rattle.rv_inst.specs.Uses.{use_at}
-use Rattle.rv_emit.proofs.ConstantsAdded.{adds_both, adds_none, adds_island}
+use Rattle.rv_emit.proofs.NewConstants.{adds_both, adds_none, adds_island}
 use Rattle.rv_emit.proofs.Islands.{JumpPut, others_pending, same_reserve}
-use Rattle.rv_emit.proofs.PutsLast.{puts_last, puts_named, puts_constants}
+use Rattle.rv_emit.proofs.BufferAfterSlots.{lasts_after_slots, puts_named, puts_constants}
 use Rattle.rv_base.specs.Flags.{no_flags}
 
 -- a label was allocated, and a jump to it put
@@ -74,7 +74,7 @@ puts_island old allocated mid new after_island p labels sound same_bytes windows
     let counted : count ≡ length (pending old) = ap (length {A = ℕ}) (others_pending old mid after_island p) in
     let last = deadline label_kinds i.jump in
     let end : length (bytes_of new) ≡ island_end (end_after (shape_of mid)) (aligned (length (bytes_of mid))) count last = i.end in
-    let drawn_fresh = p.fresh in
+    let allocated_fresh = p.fresh in
     let one_more = p.allocated in
     let few = few_allocated label_kinds mid p.sound in
     let near = island_reserve label_kinds mid p.sound (omega arith) i in
@@ -82,12 +82,12 @@ puts_island old allocated mid new after_island p labels sound same_bytes windows
     let ahead = grows.longer in
     -- what the jump leaves as it was
     let jump = wide_jump_to (Label after_island) ∷ [] in
-    let before = lasts_more (lasts_allocated label_kinds (shape_of old)) (puts_last no_flags (allocated_of old + 1) jump (with_allocated (shape_of old)) (shape_of mid) (puts no_flags)) in
+    let before = lasts_more (lasts_allocated label_kinds (shape_of old)) (lasts_after_slots no_flags (allocated_of old + 1) jump (with_allocated (shape_of old)) (shape_of mid) (puts no_flags)) in
     let named = puts_named no_flags (allocated_of old + 1) jump (with_allocated (shape_of old)) (shape_of mid) (puts no_flags) in
     let constants = puts_constants no_flags (allocated_of old + 1) jump (with_allocated (shape_of old)) (shape_of mid) (puts no_flags) in
     record {
       after_island = after_island;
-      drawn_label = p.fresh;
+      allocated_label = p.fresh;
       jumped = shape_of mid;
       puts = puts;
       lasts = lasts_island label_kinds mid p.sound can i;
@@ -97,7 +97,7 @@ puts_island old allocated mid new after_island p labels sound same_bytes windows
       own = subst (λ (n : ℕ). AddsOwn label_kinds n (uses_of old ++ use_at (length (bytes_of old)) after_island Jal20 ∷ []) (uses_of new)) long (subst (λ (us : List (Use LabelUse)). AddsOwn label_kinds (length (bytes_of mid)) us (uses_of new)) p.uses own);
       bound = rest.bound;
       places = λ label low ne. rest.places label low ne ∙ ap (λ (place : ℕ → Option ℕ). place label) p.places;
-      labels = rest.labels (omega (arith, drawn_fresh)) ∙ a.labels ∙ labels;
+      labels = rest.labels (omega (arith, allocated_fresh)) ∙ a.labels ∙ labels;
       records = rest.records ∙ records;
       registered = rest.registered ∙ p.registered;
       named = rest.named ∙ named;

@@ -1,4 +1,4 @@
--- What loads, stores and addresses add to a buffer, and that their parts are blocks.
+-- What loads, stores and addresses add to a buffer, and that their parts are self-contained.
 use Rattle.std.proofs.Common.{◌≡◌, ℕ, ◌+◌, ◌-◌, ◌%◌, ◌≤◌, Bool, true, false, List, [], ◌∷◌, ◌++◌, length, Option, Some, None, ℤ, pos, refl, ap, sym, ◌∙◌, subst, append_assoc, arith, lit≤}
 use Rattle.std.specs.Prelude.{◌==◌, if◌then◌else◌}
 use Rattle.std.specs.Int.{to_le_bytes, w64}
@@ -25,7 +25,7 @@ use Rattle.mach_buffer.specs.declared.records.Event.{Event}
 use Rattle.mach_buffer.specs.declared.records.Event.TheVariants as event
 use Rattle.mach_buffer.specs.declared.records.MachRecord.{MachRecord}
 use Rattle.mach_buffer.specs.declared.uses.Use.{Use}
-use Rattle.rv_encode.specs.Operations.{row, decoded_load, decoded_store}
+use Rattle.rv_encode.specs.Operations.{decoded, decoded_load, decoded_store}
 use Rattle.rv_inst.specs.Addresses.{Location, Based, AtLabel, AtConstant, location_of, is_near, is_splittable, inline_size, far_size, far_address_size, address_size, load_size_at, store_size_at, load_own_size, store_own_size}
 use Rattle.rv_inst.specs.Forms.{short_rrr, short_rri, short_lui, short_load, short_store}
 use Rattle.rv_inst.specs.declared.inst.Inst.{Inst}
@@ -42,25 +42,25 @@ use Rattle.rv_inst.specs.Context.{Context}
 use Rattle.rv_inst.specs.declared.inst.Inst.TheVariants.{Load, Store, LoadAddr, LabelAddress}
 use Rattle.rv_emit.specs.Immediates.{upper_of, lower_of}
 use Rattle.rv_emit.specs.Operations.{short_jump, jump_size}
-use Rattle.rv_emit.specs.Slots.{Slot, Op, Data, Notes, size_of, uses_of, records_of, names_of, AreClosed, IsBlock}
+use Rattle.rv_emit.specs.Slots.{Slot, Op, Data, Notes, size_of, uses_of, records_of, names_of, AreClosed, AreSelfContained}
 use Rattle.rv_emit.specs.InstParts.{inline_slots, offset_slots, access_slots, load_slots, store_slots, address_slots}
 use Rattle.rv_emit.proofs.PlainSlots.{IsPlain, IsSummed}
 use Rattle.rv_emit.proofs.ShortOps.{rrr_sized, rri_sized, lui_sized, load_sized, store_sized, jump_len, least_even}
 
 -- Slots of a size, with these uses between their start and their end, with these records so many bytes before the end, that name this constant; and they use no own
 -- label.
-pub record AreTold (size last : ℕ) (own : ℕ → ℕ → List (Use LabelUse)) (told : ℕ → List MachRecord) (constant : Option VCodeConstant) (slots : List Slot) : Type 0 where
+pub record HaveContents (size last : ℕ) (own : ℕ → ℕ → List (Use LabelUse)) (records_at : ℕ → List MachRecord) (constant : Option VCodeConstant) (slots : List Slot) : Type 0 where
   pub plain : IsPlain slots
   pub long : size ≡ size_of slots
   pub within : last ≤ size
   pub uses : (allocated start : ℕ) → uses_of allocated start slots ≡ own start (start + size)
-  pub records : (start : ℕ) → records_of start slots ≡ told (start + size - last)
+  pub records : (start : ℕ) → records_of start slots ≡ records_at (start + size - last)
   pub names : (named : List VCodeConstant) → names_of slots named ≡ named_by constant named
   pub closed : (here : ℕ → Option ℕ) (start : ℕ) → AreClosed here start slots
 
 -- the last of them, of so many bytes, may trap
-abbrev pub AreCounted : ℕ → ℕ → (ℕ → ℕ → List (Use LabelUse)) → Option TrapCode → Option VCodeConstant → List Slot → Type 0
-AreCounted size last own trap constant slots = AreTold size last own (λ at. access_records at trap) constant slots
+abbrev pub HaveAccess : ℕ → ℕ → (ℕ → ℕ → List (Use LabelUse)) → Option TrapCode → Option VCodeConstant → List Slot → Type 0
+HaveAccess size last own trap constant slots = HaveContents size last own (λ at. access_records at trap) constant slots
 
 -- the record of a trap at an offset, alone
 abbrev trap_at : TrapCode → ℕ → List MachRecord
@@ -75,11 +75,11 @@ none = at_end (λ end. [])
 
 -- ---- pieces
 
-pub nothing : AreCounted 0 0 none None None []
+pub nothing : HaveAccess 0 0 none None None []
 nothing = record { plain = tt; long = refl; within = lit≤ tt; uses = λ allocated start. refl; records = λ start. refl; names = λ named. refl; closed = λ here start. tt }
 
 -- the trap of an access is recorded where it is
-accessed : (trap : Option TrapCode) (d : Decoded) → d.len % 2 ≡ 0 → AreCounted d.len d.len none trap None (access_slots trap ++ Op d ∷ [])
+accessed : (trap : Option TrapCode) (d : Decoded) → d.len % 2 ≡ 0 → HaveAccess d.len d.len none trap None (access_slots trap ++ Op d ∷ [])
 accessed None d even = record { plain = tt; long = omega arith; within = omega arith; uses = λ allocated start. refl; records = λ start. refl; names = λ named. refl; closed = λ here start. (even, tt) }
 accessed (Some code) d even = record {
   plain = tt;
@@ -92,32 +92,32 @@ accessed (Some code) d even = record {
 }
 
 -- an operation before slots without uses
-pub op_then : {size last : ℕ} {rest : ℕ → List (Use LabelUse)} {told : ℕ → List MachRecord} {slots : List Slot} (d : Decoded) → d.len % 2 ≡ 0 → AreTold size last (at_end rest) told None slots → AreTold (d.len + size) last (at_end rest) told None (Op d ∷ slots)
-op_then {size} {last} {rest} {told} d even c = record {
+pub op_then : {size last : ℕ} {rest : ℕ → List (Use LabelUse)} {records_at : ℕ → List MachRecord} {slots : List Slot} (d : Decoded) → d.len % 2 ≡ 0 → HaveContents size last (at_end rest) records_at None slots → HaveContents (d.len + size) last (at_end rest) records_at None (Op d ∷ slots)
+op_then {size} {last} {rest} {records_at} d even c = record {
   plain = c.plain;
   long = ap (λ n. d.len + n) c.long;
   within = let w = c.within in omega arith;
   uses = λ allocated start. c.uses allocated (start + d.len) ∙ (let e : start + d.len + size ≡ start + (d.len + size) = omega arith in ap rest e);
-  records = λ start. c.records (start + d.len) ∙ (let e : start + d.len + size - last ≡ start + (d.len + size) - last = omega arith in ap told e);
+  records = λ start. c.records (start + d.len) ∙ (let e : start + d.len + size - last ≡ start + (d.len + size) - last = omega arith in ap records_at e);
   names = c.names;
   closed = λ here start. (even, c.closed here (start + d.len));
 }
 
 -- eight bytes before slots without uses
-data_then : {size last : ℕ} {rest : ℕ → List (Use LabelUse)} {told : ℕ → List MachRecord} {slots : List Slot} (bytes : List ℕ) → length bytes ≡ 8 → AreTold size last (at_end rest) told None slots → AreTold (8 + size) last (at_end rest) told None (Data bytes ∷ slots)
-data_then {size} {last} {rest} {told} bytes eight c = record {
+data_then : {size last : ℕ} {rest : ℕ → List (Use LabelUse)} {records_at : ℕ → List MachRecord} {slots : List Slot} (bytes : List ℕ) → length bytes ≡ 8 → HaveContents size last (at_end rest) records_at None slots → HaveContents (8 + size) last (at_end rest) records_at None (Data bytes ∷ slots)
+data_then {size} {last} {rest} {records_at} bytes eight c = record {
   plain = c.plain;
   long = (λ i. sym eight i + c.long i);
   within = let w = c.within in omega arith;
   uses = λ allocated start. c.uses allocated (start + length bytes) ∙ (let e : start + length bytes + size ≡ start + (8 + size) = omega arith in ap rest e);
-  records = λ start. c.records (start + length bytes) ∙ (let e : start + length bytes + size - last ≡ start + (8 + size) - last = omega arith in ap told e);
+  records = λ start. c.records (start + length bytes) ∙ (let e : start + length bytes + size - last ≡ start + (8 + size) - last = omega arith in ap records_at e);
   names = c.names;
   closed = λ here start. (ap (λ n. n % 2) eight, c.closed here (start + length bytes));
 }
 
 -- a record before slots whose own records are said from their start
-pub note_then : {size : ℕ} {rest : ℕ → List (Use LabelUse)} {told : ℕ → List MachRecord} {slots : List Slot} (noted : Event) → AreTold size size (at_end rest) told None slots → AreTold size size (at_end rest) (λ at. record { offset = at; event = noted } ∷ told at) None (Notes noted ∷ slots)
-note_then {size} {rest} {told} {slots} noted c = record {
+pub note_then : {size : ℕ} {rest : ℕ → List (Use LabelUse)} {records_at : ℕ → List MachRecord} {slots : List Slot} (noted : Event) → HaveContents size size (at_end rest) records_at None slots → HaveContents size size (at_end rest) (λ at. record { offset = at; event = noted } ∷ records_at at) None (Notes noted ∷ slots)
+note_then {size} {rest} {records_at} {slots} noted c = record {
   plain = c.plain;
   long = let long = c.long in let e : size ≡ 0 + size_of slots = omega arith in e;
   within = c.within;
@@ -128,26 +128,26 @@ note_then {size} {rest} {told} {slots} noted c = record {
 }
 
 -- records are said from the start
-pub from_start : {size last : ℕ} {rest : ℕ → List (Use LabelUse)} {told : ℕ → List MachRecord} {slots : List Slot} → AreTold size last (at_end rest) told None slots → AreTold size size (at_end rest) (λ at. told (at + size - last)) None slots
-from_start {size} {last} {rest} {told} c = record {
+pub from_start : {size last : ℕ} {rest : ℕ → List (Use LabelUse)} {records_at : ℕ → List MachRecord} {slots : List Slot} → HaveContents size last (at_end rest) records_at None slots → HaveContents size size (at_end rest) (λ at. records_at (at + size - last)) None slots
+from_start {size} {last} {rest} {records_at} c = record {
   plain = c.plain;
   long = c.long;
   within = omega arith;
   uses = c.uses;
-  records = λ start. c.records start ∙ (let e : start + size - last ≡ start + size - size + size - last = omega arith in ap told e);
+  records = λ start. c.records start ∙ (let e : start + size - last ≡ start + size - size + size - last = omega arith in ap records_at e);
   names = c.names;
   closed = c.closed;
 }
 
 -- the same slots, their size said otherwise
-pub of_size : {n m last : ℕ} {rest : ℕ → List (Use LabelUse)} {told : ℕ → List MachRecord} {slots : List Slot} → n ≡ m → AreTold n last (at_end rest) told None slots → AreTold m last (at_end rest) told None slots
-of_size {n} {m} {last} {rest} {told} {slots} e c = subst (λ size. AreTold size last (at_end rest) told None slots) e c
+pub of_size : {n m last : ℕ} {rest : ℕ → List (Use LabelUse)} {records_at : ℕ → List MachRecord} {slots : List Slot} → n ≡ m → HaveContents n last (at_end rest) records_at None slots → HaveContents m last (at_end rest) records_at None slots
+of_size {n} {m} {last} {rest} {records_at} {slots} e c = subst (λ size. HaveContents size last (at_end rest) records_at None slots) e c
 
 -- ---- offsets
 
 -- an offset is put into a register before other slots
-pub offset_then : {size last : ℕ} {rest : ℕ → List (Use LabelUse)} {told : ℕ → List MachRecord} {slots : List Slot} (flags : IsaFlags) (rd : ℕ) (o : ℤ) → AreTold size last (at_end rest) told None slots → AreTold (far_size flags rd o + size) last (at_end rest) told None (offset_slots flags rd o ++ slots)
-offset_then {size} {last} {rest} {told} {slots} flags rd o c = by (is_splittable o) (low64 (lower_of o) == 0)
+pub offset_then : {size last : ℕ} {rest : ℕ → List (Use LabelUse)} {records_at : ℕ → List MachRecord} {slots : List Slot} (flags : IsaFlags) (rd : ℕ) (o : ℤ) → HaveContents size last (at_end rest) records_at None slots → HaveContents (far_size flags rd o + size) last (at_end rest) records_at None (offset_slots flags rd o ++ slots)
+offset_then {size} {last} {rest} {records_at} {slots} flags rd o c = by (is_splittable o) (low64 (lower_of o) == 0)
   where
     up : Decoded
     up = short_lui flags rd (upper_of o)
@@ -164,11 +164,11 @@ offset_then {size} {last} {rest} {told} {slots} flags rd o c = by (is_splittable
     jump_even : (short_jump flags far).len % 2 ≡ 0
     jump_even = let jump = jump_len flags far in let even = least_even flags in omega arith
 
-    by : (s n : Bool) → AreTold ((if s then up.len + (if n then 0 else down.len) else inline_size flags 8) + size) last (at_end rest) told None ((if s then Op up ∷ (if n then [] else Op down ∷ []) else inline_slots flags rd loads.Ld 8 (to_le_bytes w64 (low64 o))) ++ slots)
+    by : (s n : Bool) → HaveContents ((if s then up.len + (if n then 0 else down.len) else inline_size flags 8) + size) last (at_end rest) records_at None ((if s then Op up ∷ (if n then [] else Op down ∷ []) else inline_slots flags rd loads.Ld 8 (to_le_bytes w64 (low64 o))) ++ slots)
     by true true = of_size (omega arith) (op_then up up_even c)
     by true false = of_size (omega arith) (op_then up up_even (op_then down (rri_sized flags Addi rd rd (lower_of o)).even c))
     by false n = of_size (let jump = jump_len flags far in omega arith)
-        (op_then (row (Base base.Auipc) rd 0 0 (pos 0)) refl
+        (op_then (decoded (Base base.Auipc) rd 0 0 (pos 0)) refl
         (op_then (decoded_load loads.Ld rd rd (pos (8 + jump_size flags))) refl
         (op_then (short_jump flags far) jump_even
         (data_then (to_le_bytes w64 (low64 o)) refl c))))
@@ -188,41 +188,41 @@ constant_at (AtLabel l) = None
 constant_at (AtConstant k) = Some k
 
 -- the sum of an offset and a register, after it
-pub sum_then : {size last : ℕ} {rest : ℕ → List (Use LabelUse)} {told : ℕ → List MachRecord} {slots : List Slot} (flags : IsaFlags) (rd r : ℕ) (o : ℤ) → AreTold size last (at_end rest) told None slots → AreTold (far_address_size flags rd r o + size) last (at_end rest) told None (offset_slots flags rd o ++ Op (short_rrr flags Add rd rd r) ∷ slots)
+pub sum_then : {size last : ℕ} {rest : ℕ → List (Use LabelUse)} {records_at : ℕ → List MachRecord} {slots : List Slot} (flags : IsaFlags) (rd r : ℕ) (o : ℤ) → HaveContents size last (at_end rest) records_at None slots → HaveContents (far_address_size flags rd r o + size) last (at_end rest) records_at None (offset_slots flags rd o ++ Op (short_rrr flags Add rd rd r) ∷ slots)
 sum_then flags rd r o c = of_size (omega arith) (offset_then flags rd o (op_then (short_rrr flags Add rd rd r) (rrr_sized flags Add rd rd r).even c))
 
 -- an access to a register plus an offset
-based : (flags : IsaFlags) (near far : Decoded) (trap : Option TrapCode) (r : ℕ) (o : ℤ) → near.len % 2 ≡ 0 → far.len ≡ 4 → AreCounted (if is_near o then near.len else far_address_size flags 31 r o + 4) (if is_near o then near.len else 4) none trap None (if is_near o then access_slots trap ++ Op near ∷ [] else address_slots flags 31 (Based r o) ++ access_slots trap ++ Op far ∷ [])
+based : (flags : IsaFlags) (near far : Decoded) (trap : Option TrapCode) (r : ℕ) (o : ℤ) → near.len % 2 ≡ 0 → far.len ≡ 4 → HaveAccess (if is_near o then near.len else far_address_size flags 31 r o + 4) (if is_near o then near.len else 4) none trap None (if is_near o then access_slots trap ++ Op near ∷ [] else address_slots flags 31 (Based r o) ++ access_slots trap ++ Op far ∷ [])
 based flags near far trap r o near_even four = by (is_near o)
   where
     d : Decoded
     d = short_rrr flags Add 31 31 r
 
-    last : AreCounted 4 4 none trap None (access_slots trap ++ Op far ∷ [])
-    last = subst (λ n. AreCounted n n none trap None (access_slots trap ++ Op far ∷ [])) four (accessed trap far (ap (λ n. n % 2) four))
+    last : HaveAccess 4 4 none trap None (access_slots trap ++ Op far ∷ [])
+    last = subst (λ n. HaveAccess n n none trap None (access_slots trap ++ Op far ∷ [])) four (accessed trap far (ap (λ n. n % 2) four))
 
-    by : (t : Bool) → AreCounted (if t then near.len else far_address_size flags 31 r o + 4) (if t then near.len else 4) none trap None (if t then access_slots trap ++ Op near ∷ [] else (if t then Op (short_rri flags Addi 31 r o) ∷ [] else offset_slots flags 31 o ++ Op d ∷ []) ++ access_slots trap ++ Op far ∷ [])
+    by : (t : Bool) → HaveAccess (if t then near.len else far_address_size flags 31 r o + 4) (if t then near.len else 4) none trap None (if t then access_slots trap ++ Op near ∷ [] else (if t then Op (short_rri flags Addi 31 r o) ∷ [] else offset_slots flags 31 o ++ Op d ∷ []) ++ access_slots trap ++ Op far ∷ [])
     by true = accessed trap near near_even
-    by false = subst (AreCounted (far_address_size flags 31 r o + 4) 4 none trap None) (sym (append_assoc (offset_slots flags 31 o ++ Op d ∷ []) (access_slots trap) (Op far ∷ []) ∙ append_assoc (offset_slots flags 31 o) (Op d ∷ []) (access_slots trap ++ Op far ∷ [])))
+    by false = subst (HaveAccess (far_address_size flags 31 r o + 4) 4 none trap None) (sym (append_assoc (offset_slots flags 31 o ++ Op d ∷ []) (access_slots trap) (Op far ∷ []) ∙ append_assoc (offset_slots flags 31 o) (Op d ∷ []) (access_slots trap ++ Op far ∷ [])))
         (sum_then flags 31 r o last)
 
-addresses : (flags : IsaFlags) (rd : ℕ) (at : Location) → AreCounted (address_size flags rd at) 0 (uses_at at) None (constant_at at) (address_slots flags rd at)
+addresses : (flags : IsaFlags) (rd : ℕ) (at : Location) → HaveAccess (address_size flags rd at) 0 (uses_at at) None (constant_at at) (address_slots flags rd at)
 addresses flags rd (Based r o) = by (is_near o)
   where
-    by : (t : Bool) → AreCounted (if t then (short_rri flags Addi rd r o).len else far_address_size flags rd r o) 0 none None None (if t then Op (short_rri flags Addi rd r o) ∷ [] else offset_slots flags rd o ++ Op (short_rrr flags Add rd rd r) ∷ [])
+    by : (t : Bool) → HaveAccess (if t then (short_rri flags Addi rd r o).len else far_address_size flags rd r o) 0 none None None (if t then Op (short_rri flags Addi rd r o) ∷ [] else offset_slots flags rd o ++ Op (short_rrr flags Add rd rd r) ∷ [])
     by true = of_size (omega arith) (op_then (short_rri flags Addi rd r o) (rri_sized flags Addi rd r o).even nothing)
     by false = of_size (omega arith) (sum_then flags rd r o nothing)
 addresses flags rd (AtLabel l) = record { plain = tt; long = refl; within = lit≤ tt; uses = λ allocated start. refl; records = λ start. refl; names = λ named. refl; closed = λ here start. (tt, (tt, tt)) }
 addresses flags rd (AtConstant k) = record { plain = tt; long = refl; within = lit≤ tt; uses = λ allocated start. refl; records = λ start. refl; names = λ named. refl; closed = λ here start. (tt, (tt, tt)) }
 
-loaded : (flags : IsaFlags) (rd : ℕ) (op : LoadOP) (trap : Option TrapCode) (at : Location) → AreCounted (load_size_at flags op rd at) (load_own_size flags op rd at) (uses_at at) trap (constant_at at) (load_slots flags rd op trap at)
+loaded : (flags : IsaFlags) (rd : ℕ) (op : LoadOP) (trap : Option TrapCode) (at : Location) → HaveAccess (load_size_at flags op rd at) (load_own_size flags op rd at) (uses_at at) trap (constant_at at) (load_slots flags rd op trap at)
 loaded flags rd op trap (Based r o) = based flags (short_load flags op rd r o) (decoded_load op rd 31 (pos 0)) trap r o (load_sized flags op rd r o).even refl
 loaded flags rd op None (AtLabel l) = record { plain = tt; long = refl; within = lit≤ tt; uses = λ allocated start. refl; records = λ start. refl; names = λ named. refl; closed = λ here start. (tt, (tt, tt)) }
 loaded flags rd op None (AtConstant k) = record { plain = tt; long = refl; within = lit≤ tt; uses = λ allocated start. refl; records = λ start. refl; names = λ named. refl; closed = λ here start. (tt, (tt, tt)) }
 loaded flags rd op (Some code) (AtLabel l) = record { plain = tt; long = refl; within = lit≤ tt; uses = λ allocated start. refl; records = λ start. let e : start + 4 ≡ start + 8 - 4 = omega arith in ap (trap_at code) e; names = λ named. refl; closed = λ here start. (tt, (tt, tt)) }
 loaded flags rd op (Some code) (AtConstant k) = record { plain = tt; long = refl; within = lit≤ tt; uses = λ allocated start. refl; records = λ start. let e : start + 4 ≡ start + 8 - 4 = omega arith in ap (trap_at code) e; names = λ named. refl; closed = λ here start. (tt, (tt, tt)) }
 
-stored : (flags : IsaFlags) (op : StoreOP) (src : ℕ) (trap : Option TrapCode) (at : Location) → AreCounted (store_size_at flags op src at) (store_own_size flags op src at) (uses_at at) trap (constant_at at) (store_slots flags op src trap at)
+stored : (flags : IsaFlags) (op : StoreOP) (src : ℕ) (trap : Option TrapCode) (at : Location) → HaveAccess (store_size_at flags op src at) (store_own_size flags op src at) (uses_at at) trap (constant_at at) (store_slots flags op src trap at)
 stored flags op src trap (Based r o) = based flags (short_store flags op r src o) (decoded_store op 31 src (pos 0)) trap r o (store_sized flags op r src o).even refl
 stored flags op src None (AtLabel l) = record { plain = tt; long = refl; within = lit≤ tt; uses = λ allocated start. refl; records = λ start. refl; names = λ named. refl; closed = λ here start. (tt, (tt, (refl, tt))) }
 stored flags op src None (AtConstant k) = record { plain = tt; long = refl; within = lit≤ tt; uses = λ allocated start. refl; records = λ start. refl; names = λ named. refl; closed = λ here start. (tt, (tt, (refl, tt))) }
@@ -231,12 +231,12 @@ stored flags op src (Some code) (AtConstant k) = record { plain = tt; long = ref
 
 -- ---- each instruction
 
-pub summed_by : {context : Context} {inst : Inst} {slots : List Slot} {size last : ℕ} {own : ℕ → ℕ → List (Use LabelUse)} {told : ℕ → List MachRecord} {constant : Option VCodeConstant} → AreTold size last own told constant slots → extent_of context inst ≡ Words size → ((start end : ℕ) → own start end ≡ uses_in context start end inst) → ((start end : ℕ) → told (end - last) ≡ inst_records context start end inst) → constant ≡ inst_constant inst → IsSummed context inst slots
-summed_by {context} {inst} {slots} {size} {last} {own} {told} c long uses records constant = record {
+pub summed_by : {context : Context} {inst : Inst} {slots : List Slot} {size last : ℕ} {own : ℕ → ℕ → List (Use LabelUse)} {records_at : ℕ → List MachRecord} {constant : Option VCodeConstant} → HaveContents size last own records_at constant slots → extent_of context inst ≡ Words size → ((start end : ℕ) → own start end ≡ uses_in context start end inst) → ((start end : ℕ) → records_at (end - last) ≡ inst_records context start end inst) → constant ≡ inst_constant inst → IsSummed context inst slots
+summed_by {context} {inst} {slots} {size} {last} {own} {records_at} c long uses records constant = record {
   plain = c.plain;
   long = long ∙ ap Words c.long;
   uses = λ allocated start. c.uses allocated start ∙ ap (λ n. own start (start + n)) c.long ∙ uses start (start + size_of slots);
-  records = λ start. c.records start ∙ ap (λ n. told (start + n - last)) c.long ∙ records start (start + size_of slots);
+  records = λ start. c.records start ∙ ap (λ n. records_at (start + n - last)) c.long ∙ records start (start + size_of slots);
   names = λ named. c.names named ∙ ap (λ o. named_by o named) constant;
 }
 
@@ -271,11 +271,11 @@ load_addr_summed context rd mem = summed_by (addresses context.flags (number_of 
 pub label_address_summed : (context : Context) (dst : Writable Reg) (label : MachLabel) → IsSummed context (LabelAddress dst label) (address_slots context.flags (number_of dst.reg) (AtLabel label))
 label_address_summed context dst label = summed_by (addresses context.flags (number_of dst.reg) (AtLabel label)) refl (λ start end. refl) (λ start end. refl) refl
 
-pub load_block : (flags : IsaFlags) (rd : ℕ) (op : LoadOP) (trap : Option TrapCode) (at : Location) → IsBlock (load_slots flags rd op trap at)
-load_block flags rd op trap at = (loaded flags rd op trap at).closed _ 0
+pub load_contained : (flags : IsaFlags) (rd : ℕ) (op : LoadOP) (trap : Option TrapCode) (at : Location) → AreSelfContained (load_slots flags rd op trap at)
+load_contained flags rd op trap at = (loaded flags rd op trap at).closed _ 0
 
-pub store_block : (flags : IsaFlags) (op : StoreOP) (src : ℕ) (trap : Option TrapCode) (at : Location) → IsBlock (store_slots flags op src trap at)
-store_block flags op src trap at = (stored flags op src trap at).closed _ 0
+pub store_contained : (flags : IsaFlags) (op : StoreOP) (src : ℕ) (trap : Option TrapCode) (at : Location) → AreSelfContained (store_slots flags op src trap at)
+store_contained flags op src trap at = (stored flags op src trap at).closed _ 0
 
-pub address_block : (flags : IsaFlags) (rd : ℕ) (at : Location) → IsBlock (address_slots flags rd at)
-address_block flags rd at = (addresses flags rd at).closed _ 0
+pub address_contained : (flags : IsaFlags) (rd : ℕ) (at : Location) → AreSelfContained (address_slots flags rd at)
+address_contained flags rd at = (addresses flags rd at).closed _ 0

@@ -17,7 +17,7 @@ use Rattle.rv_emit.specs.Slots.{size_of}
 use Rattle.rv_emit.proofs.AddressRuns.{Sets, sets_one, shorter, offset_even, offset_goes}
 use Rattle.rv_emit.proofs.Courses.{InCourse, Comes, sets_comes}
 use Rattle.rv_emit.proofs.ImmediateValues.{offset_sums}
-use Rattle.rv_emit.proofs.NumbersPut.{is_low, slots_by}
+use Rattle.rv_emit.proofs.NumberCode.{is_low, slots_by}
 use Rattle.rv_emit.proofs.ShortOps.{rri_acts, rri_sized}
 
 -- a number without an upper immediate is its lower one

@@ -12,22 +12,22 @@ use Rattle.rv_inst.specs.Sizes.{number_size}
 use Rattle.rv_emit.specs.Immediates.{lower_of}
 use Rattle.rv_emit.specs.InstParts.{number_slots}
 use Rattle.rv_emit.specs.Slots.{Slot}
-use Rattle.rv_emit.proofs.MemorySlots.{AreCounted, AreTold, at_end, none, nothing, of_size, op_then, offset_then}
-use Rattle.rv_emit.proofs.NumbersPut.{is_low, slots_by}
+use Rattle.rv_emit.proofs.MemorySlots.{HaveAccess, HaveContents, at_end, none, nothing, of_size, op_then, offset_then}
+use Rattle.rv_emit.proofs.NumberCode.{is_low, slots_by}
 use Rattle.rv_emit.proofs.OffsetSizes.{far_short}
 use Rattle.rv_emit.proofs.ShortOps.{rri_sized}
 
 -- a number is put into a register before other slots
-pub number_then : {size last : ℕ} {rest : ℕ → List (Use LabelUse)} {told : ℕ → List MachRecord} {slots : List Slot} (flags : IsaFlags) (rd : ℕ) (z : ℤ) → AreTold size last (at_end rest) told None slots → AreTold (number_size flags rd z + size) last (at_end rest) told None (number_slots flags rd z ++ slots)
-number_then {size} {last} {rest} {told} {slots} flags rd z c = by (is_low z)
+pub number_then : {size last : ℕ} {rest : ℕ → List (Use LabelUse)} {records_at : ℕ → List MachRecord} {slots : List Slot} (flags : IsaFlags) (rd : ℕ) (z : ℤ) → HaveContents size last (at_end rest) records_at None slots → HaveContents (number_size flags rd z + size) last (at_end rest) records_at None (number_slots flags rd z ++ slots)
+number_then {size} {last} {rest} {records_at} {slots} flags rd z c = by (is_low z)
   where
-    by : (low : Bool) → AreTold ((if low then (short_rri flags Addi rd 0 (lower_of z)).len else far_size flags rd z) + size) last (at_end rest) told None (slots_by flags rd z low ++ slots)
+    by : (low : Bool) → HaveContents ((if low then (short_rri flags Addi rd 0 (lower_of z)).len else far_size flags rd z) + size) last (at_end rest) records_at None (slots_by flags rd z low ++ slots)
     by true = op_then (short_rri flags Addi rd 0 (lower_of z)) (rri_sized flags Addi rd 0 (lower_of z)).even c
     by false = offset_then flags rd z c
 
 -- alone
-pub numbers : (flags : IsaFlags) (rd : ℕ) (z : ℤ) → AreCounted (number_size flags rd z) 0 none None None (number_slots flags rd z)
-numbers flags rd z = of_size (omega arith) (subst (AreCounted (number_size flags rd z + 0) 0 none None None) (append-nil (number_slots flags rd z)) (number_then flags rd z nothing))
+pub numbers : (flags : IsaFlags) (rd : ℕ) (z : ℤ) → HaveAccess (number_size flags rd z) 0 none None None (number_slots flags rd z)
+numbers flags rd z = of_size (omega arith) (subst (HaveAccess (number_size flags rd z + 0) 0 none None None) (append-nil (number_slots flags rd z)) (number_then flags rd z nothing))
 
 -- at most 20 bytes
 pub number_few : (flags : IsaFlags) (rd : ℕ) (z : ℤ) → number_size flags rd z ≤ 20

@@ -9,12 +9,12 @@ use Rattle.mach_buffer.specs.Shape.{Shape}
 use Rattle.mach_buffer.proofs.Laws.{placed_same}
 use Rattle.rv_emit.specs.Slots.{Slot, Op, Aim, Data, Notes, Names, Allocate, Here, Fill, Address, CallTo, own_label, here_at}
 use Rattle.rv_emit.specs.Puts.{PutsSlot, Puts}
-use Rattle.rv_emit.proofs.PutsLast.{slot_bytes, puts_last}
+use Rattle.rv_emit.proofs.BufferAfterSlots.{slot_bytes, lasts_after_slots}
 
 -- a label that is bound at the end of the bytes is bound there from then on
 pub bound_here : (flags : IsaFlags) (allocated k : ℕ) (slots : List Slot) (s mid t : Shape LabelUse) → PutsSlot flags allocated (Here k) s mid → Puts flags allocated slots mid t → t.place (own_label allocated k).number ≡ Some (length s.bytes)
 bound_here flags allocated k slots s mid t p q =
-    (puts_last flags allocated slots mid t q).grows.places (own_label allocated k).number (length s.bytes)
+    (lasts_after_slots flags allocated slots mid t q).grows.places (own_label allocated k).number (length s.bytes)
     ((λ i. (p.1 i).place (own_label allocated k).number) ∙ placed_same s.place (own_label allocated k).number (length s.bytes))
 
 -- each own label of slots is bound where they say, counted from an offset

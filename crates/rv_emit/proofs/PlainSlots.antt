@@ -1,4 +1,4 @@
--- What an instruction without labels of its own adds to a buffer, and that its parts are blocks.
+-- What an instruction without labels of its own adds to a buffer, and that its parts are self-contained.
 use Rattle.std.proofs.Common.{◌≡◌, ℕ, ◌+◌, List, [], ◌∷◌, ◌++◌, length, refl, ap, sym, ◌∙◌, subst, append_assoc, append-nil}
 use Rattle.std.proofs.lemmas.List.{length-append}
 use Rattle.rv_base.specs.declared.flags.IsaFlags.{IsaFlags}
@@ -20,7 +20,7 @@ use Rattle.rv_emit.specs.InstParts.{slots_alone}
 use Rattle.rv_emit.specs.Emission.{PutsParts}
 use Rattle.rv_base.specs.declared.constant.VCodeConstant.{VCodeConstant}
 use Rattle.rv_inst.specs.Operands.{inst_constant}
-use Rattle.rv_emit.proofs.PutsLast.{puts_last, puts_named, puts_constants}
+use Rattle.rv_emit.proofs.BufferAfterSlots.{lasts_after_slots, puts_named, puts_constants}
 
 -- slots that allocate and bind no label
 abbrev pub IsPlain : List Slot → Type 0
@@ -162,7 +162,7 @@ added context inst slots old new is flags (mid, p, same) = subst (AppendsInst co
     places = a.place;
     labels = a.labels;
     allocated = a.allocated;
-    registered = (puts_last flags (allocated_of old) slots (shape_of old) (shape_of mid) p.puts).registered;
+    registered = (lasts_after_slots flags (allocated_of old) slots (shape_of old) (shape_of mid) p.puts).registered;
     constants = puts_constants flags (allocated_of old) slots (shape_of old) (shape_of mid) p.puts;
     sound = p.sound;
   };
@@ -182,7 +182,7 @@ summed context inst slots old new is flags p = added context inst slots old new 
 
 -- slots alone add their words, uses and records, where they name no constant
 pub appends_words : (flags : IsaFlags) (slots : List Slot) (size : ℕ) (own : List (Use LabelUse)) (recorded : List MachRecord) (old new : Buffer) → IsPlain slots → size_of slots ≡ size → uses_of (allocated_of old) (length (bytes_of old)) slots ≡ own → records_of (length (bytes_of old)) slots ≡ recorded → ((named : List VCodeConstant) → names_of slots named ≡ named) → PutsParts flags (slots_alone slots) old new → AppendsWords size own recorded old new
-appends_words flags slots size own recorded old new plain sized used told names (mid, p, same) = subst (AppendsWords size own recorded old) (sym same) (record {
+appends_words flags slots size own recorded old new plain sized used records_at names (mid, p, same) = subst (AppendsWords size own recorded old) (sym same) (record {
   code = a.code;
   adds = record {
     bytes = a.bytes;
@@ -190,11 +190,11 @@ appends_words flags slots size own recorded old new plain sized used told names 
     places = a.place;
     labels = a.labels;
     allocated = a.allocated;
-    registered = (puts_last flags (allocated_of old) slots (shape_of old) (shape_of mid) p.puts).registered;
+    registered = (lasts_after_slots flags (allocated_of old) slots (shape_of old) (shape_of mid) p.puts).registered;
     constants = puts_constants flags (allocated_of old) slots (shape_of old) (shape_of mid) p.puts;
     sound = p.sound;
   };
-  records = a.records ∙ ap (λ more. (shape_of old).records ++ more) told;
+  records = a.records ∙ ap (λ more. (shape_of old).records ++ more) records_at;
   named = puts_named flags (allocated_of old) slots (shape_of old) (shape_of mid) p.puts ∙ names (named_of old);
   long = a.long ∙ sized;
 })

@@ -32,7 +32,7 @@ use Rattle.rv_emit.proofs.Chains.{goes_at_least}
 use Rattle.rv_emit.proofs.CodeSteps.{step_at, at_next}
 use Rattle.rv_emit.proofs.Courses.{InCourse, Comes, comes_on, rrr_writes, goes_ahead, goes_back}
 use Rattle.rv_emit.proofs.Exits.{same_but, starts_at, comes_out}
-use Rattle.rv_emit.proofs.MemoryKept.{placed_after, put_same, put_values}
+use Rattle.rv_emit.proofs.SameMemory.{placed_after, put_same, put_values}
 use Rattle.rv_emit.proofs.NumberRuns.{number_comes, bits_back}
 use Rattle.rv_emit.proofs.NumberTests.{not_below}
 use Rattle.rv_emit.proofs.Operands.{Keeps}

@@ -15,8 +15,8 @@ use Rattle.rv_inst.specs.declared.inst.Inst.TheVariants.{StackProbeLoop}
 use Rattle.rv_emit.specs.InstParts.{number_slots, probe_slots}
 use Rattle.rv_emit.specs.Operations.{decoded_bgeu, short_jump, jump_size}
 use Rattle.rv_emit.specs.Probes.{probe_op, zero_op, nearer_op, probe_turn, probe_turn_size}
-use Rattle.rv_emit.specs.Slots.{Op, IsBlock}
-use Rattle.rv_emit.proofs.MemorySlots.{AreCounted, none, nothing, op_then, of_size, summed_by}
+use Rattle.rv_emit.specs.Slots.{Op, AreSelfContained}
+use Rattle.rv_emit.proofs.MemorySlots.{HaveAccess, none, nothing, op_then, of_size, summed_by}
 use Rattle.rv_emit.proofs.NumberSlots.{number_then, number_few}
 use Rattle.rv_emit.proofs.PlainSlots.{IsSummed}
 use Rattle.rv_emit.proofs.ShortOps.{HasSize, rrr_sized, store_sized, jump_len, least_even, least_few}
@@ -34,7 +34,7 @@ nearer_sized flags tmp = rrr_sized flags Sub 31 31 tmp
 abbrev whole_turn : IsaFlags → ℕ → ℕ
 whole_turn flags tmp = probe_turn_size flags tmp + jump_size flags
 
-turn_counted : (flags : IsaFlags) (tmp : ℕ) → AreCounted (whole_turn flags tmp) 0 none None None (map Op (probe_turn flags tmp))
+turn_counted : (flags : IsaFlags) (tmp : ℕ) → HaveAccess (whole_turn flags tmp) 0 none None None (map Op (probe_turn flags tmp))
 turn_counted flags tmp =
     let far = pos 0 -ℤ pos (probe_turn_size flags tmp) in
     let jump = jump_len flags far in
@@ -47,19 +47,19 @@ turn_counted flags tmp =
     (op_then (nearer_op flags tmp) (nearer_sized flags tmp).even
     (op_then (short_jump flags far) even nothing)))))
 
-probes_counted : (flags : IsaFlags) (tmp guard count : ℕ) → AreCounted (probe_size flags tmp guard count) 0 none None None (probe_slots flags tmp guard count)
+probes_counted : (flags : IsaFlags) (tmp guard count : ℕ) → HaveAccess (probe_size flags tmp guard count) 0 none None None (probe_slots flags tmp guard count)
 probes_counted flags tmp guard count =
     let first = number_slots flags 31 (cast_signed w64 (guard * count)) in
     let second = number_slots flags tmp (pos guard) in
     let turn = map Op (probe_turn flags tmp) in
-    subst (AreCounted (probe_size flags tmp guard count) 0 none None None) (sym (append_assoc first second turn))
+    subst (HaveAccess (probe_size flags tmp guard count) 0 none None None) (sym (append_assoc first second turn))
     (of_size (omega arith) (number_then flags 31 (cast_signed w64 (guard * count)) (number_then flags tmp (pos guard) (turn_counted flags tmp))))
 
 pub probe_summed : (context : Context) (guard count : ℕ) (tmp : Writable Reg) → IsSummed context (StackProbeLoop guard count tmp) (probe_slots context.flags (number_of tmp.reg) (low_word guard) (low_word count))
 probe_summed context guard count tmp = summed_by (probes_counted context.flags (number_of tmp.reg) (low_word guard) (low_word count)) refl (λ start end. refl) (λ start end. refl) refl
 
-pub probe_block : (flags : IsaFlags) (tmp guard count : ℕ) → IsBlock (probe_slots flags tmp guard count)
-probe_block flags tmp guard count = (probes_counted flags tmp guard count).closed _ 0
+pub probe_contained : (flags : IsaFlags) (tmp guard count : ℕ) → AreSelfContained (probe_slots flags tmp guard count)
+probe_contained flags tmp guard count = (probes_counted flags tmp guard count).closed _ 0
 
 pub probe_short : (flags : IsaFlags) (tmp guard count : ℕ) → probe_size flags tmp guard count ≤ 60
 probe_short flags tmp guard count =

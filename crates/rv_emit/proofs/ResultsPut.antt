@@ -25,8 +25,8 @@ use Rattle.rv_emit.specs.Emitted.{Buffer, AppendsIsland, IslandIfNeeded, pending
 use Rattle.rv_emit.specs.InstParts.{load_slots, stack_load_slots, try_slots}
 use Rattle.rv_emit.specs.Slots.{Ask, Slots}
 use Rattle.rv_emit.specs.Usable.{IsFineResult, AreFineResults}
-use Rattle.rv_emit.proofs.SlotsJoined.{both_alone}
-use Rattle.rv_emit.proofs.TailsPut.{loads_both, loads_plain, loads_room}
+use Rattle.rv_emit.proofs.SlotsOfSeveralPuts.{both_alone}
+use Rattle.rv_emit.proofs.TailCallCode.{loads_both, loads_plain, loads_room}
 
 -- ---- how many there are
 

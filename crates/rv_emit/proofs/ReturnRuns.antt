@@ -9,7 +9,7 @@ use Rattle.mach_buffer.specs.declared.records.Event.TheVariants as event
 use Rattle.rv_machine.specs.declared.ops.MOp.TheVariants.{Base}
 use Rattle.rv_machine.specs.declared.ops.BaseOp.TheVariants as base
 use Rattle.rv_machine.specs.State.{State, IsState, Values, reg, set_reg, wrap, low64, at}
-use Rattle.rv_encode.specs.Operations.{row}
+use Rattle.rv_encode.specs.Operations.{decoded}
 use Rattle.rv_inst.specs.Forms.{short_jalr}
 use Rattle.rv_inst.specs.Frames.{is_unrestorable}
 use Rattle.rv_inst.specs.Meaning.{Leave, stack_loaded, frame_left, symbol_at}
@@ -95,7 +95,7 @@ frame_leaves {site} {start} {after} {s} {v} space arguments rest h e =
 
 -- two words that go to a symbol by way of a register
 abbrev GoesTo : Site → ℕ → ℕ → ℕ → ExternalName → Type 0
-GoesTo site offset link tmp name = LinksFrom site offset name (λ d. row (Base base.Auipc) tmp 0 0 (upper_of d) ∷ decoded_jalr link tmp (lower_of d) ∷ [])
+GoesTo site offset link tmp name = LinksFrom site offset name (λ d. decoded (Base base.Auipc) tmp 0 0 (upper_of d) ∷ decoded_jalr link tmp (lower_of d) ∷ [])
 
 -- the upper part of a distance, added to an address
 abbrev pub upper_sum : ℕ → ℤ → ℕ
@@ -116,7 +116,7 @@ pub call_goes : {site : Site} {offset : ℕ} {s : State} (link tmp : ℕ) (name 
     Goes site.context.flags 1 s (at (symbol_address site (AddressOf name (pos 0)) / 2 * 2) (set_reg (set_reg s.values tmp (upper_sum s.pc f.distance)) link (wrap (s.pc + 8))))
 call_goes {site} {offset} {s} link tmp name some lt is_state h f =
     let d = f.distance in
-    let first = row (Base base.Auipc) tmp 0 0 (upper_of d) in
+    let first = decoded (Base base.Auipc) tmp 0 0 (upper_of d) in
     let second = decoded_jalr link tmp (lower_of d) in
     let x = upper_sum s.pc d in
     let s1 = at (wrap (s.pc + 4)) (set_reg s.values tmp x) in

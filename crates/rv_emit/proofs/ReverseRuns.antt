@@ -250,8 +250,8 @@ by_rest {site} {offset} {size} {c} {left} {next} {got} {v} {s} (suc r) rest lt h
 -- ---- all turns
 
 -- a turn ends where it began
-goes_round : {site : Site} {Such : Values → Type 0} {s : State} (c : Reversal) (loop allocated : ℕ) → loop + (4 + test_long site.context.flags c) ≤ length site.bytes → loop % 2 ≡ 0 → StandsIn site allocated loop (turn_slots site.context.flags c) → InCourse site (back_at site.context.flags c loop) (back_of site.context.flags c).len Such s → Comes site loop (4 + test_long site.context.flags c) Such s
-goes_round {site} {s = s} c loop allocated room even stands k =
+turn_restarts : {site : Site} {Such : Values → Type 0} {s : State} (c : Reversal) (loop allocated : ℕ) → loop + (4 + test_long site.context.flags c) ≤ length site.bytes → loop % 2 ≡ 0 → StandsIn site allocated loop (turn_slots site.context.flags c) → InCourse site (back_at site.context.flags c loop) (back_of site.context.flags c).len Such s → Comes site loop (4 + test_long site.context.flags c) Such s
+turn_restarts {site} {s = s} c loop allocated room even stands k =
     let flags = site.context.flags in
     let n = turn_of flags c in
     let short = short_turn flags c in
@@ -270,7 +270,7 @@ turn {loop = loop} {c} allocated left lt clear h stands k =
     comes_on (more_left allocated left lt stands k) (λ t1 k1.
     comes_on (tested loop allocated left clear h stands k1) (λ t2 k2.
     comes_on (goes_down loop allocated left lt h stands k2) (λ t3 k3.
-    comes_on (by_rest (left % 8) refl lt h stands.1.1.1.1.1.1.1.1.0 stands.1.1.1.1.1.1.1.1.1.0 stands.1.1.1.1.1.1.1.1.1.1.0 stands.1.1.1.1.1.1.1.1.1.1.1.0 k3) (λ t4 k4. goes_round c loop allocated room even stands k4))))
+    comes_on (by_rest (left % 8) refl lt h stands.1.1.1.1.1.1.1.1.0 stands.1.1.1.1.1.1.1.1.1.0 stands.1.1.1.1.1.1.1.1.1.1.0 stands.1.1.1.1.1.1.1.1.1.1.1.0 k3) (λ t4 k4. turn_restarts c loop allocated room even stands k4))))
 
 -- what all bits give
 abbrev whole_of : Reversal → Values → ℕ

@@ -19,8 +19,8 @@ use Rattle.rv_emit.specs.InstParts.{reverse_slots}
 use Rattle.rv_emit.specs.Loops.{reverse_start, reverse_test, reverse_turn, reverse_turn_size, set_op, eight_op, rest_op, down_op, up_op}
 use Rattle.rv_emit.specs.Operations.{short_jump, jump_size}
 use Rattle.rv_emit.specs.Counts.{bit_op, less_op, half_op}
-use Rattle.rv_emit.specs.Slots.{Op, IsBlock, size_of}
-use Rattle.rv_emit.proofs.AddressesPut.{IsShort}
+use Rattle.rv_emit.specs.Slots.{Op, AreSelfContained, size_of}
+use Rattle.rv_emit.proofs.AddressCode.{IsShort}
 use Rattle.rv_emit.proofs.PlainSlots.{IsSummed}
 use Rattle.rv_emit.proofs.ShortOps.{HasSize, rrr_sized, rri_sized, jump_len, least_even, least_few}
 
@@ -108,15 +108,15 @@ reverse_summed context rs type step tmp tmp2 rd = record {
   names = λ named. refl;
 }
 
-pub reverse_block : (flags : IsaFlags) (rd tmp tmp2 step rs bits : ℕ) → IsBlock (reverse_slots flags rd tmp tmp2 step rs bits)
-reverse_block flags rd tmp tmp2 step rs bits =
+pub reverse_contained : (flags : IsaFlags) (rd tmp tmp2 step rs bits : ℕ) → AreSelfContained (reverse_slots flags rd tmp tmp2 step rs bits)
+reverse_contained flags rd tmp tmp2 step rs bits =
     let s = start_sizes flags rd tmp tmp2 step bits in
     let t = turn_sizes flags rd tmp tmp2 step rs in
     let over : (short_jump flags (pos (jump_size flags + (up_op flags tmp2).len))).len % 2 ≡ 0 = ap (λ n. n % 2) (jump_len flags (pos (jump_size flags + (up_op flags tmp2).len))) ∙ t.jump_even in
     let back : (short_jump flags (pos 0 -ℤ pos (reverse_turn_size flags rd tmp tmp2 step rs))).len % 2 ≡ 0 = ap (λ n. n % 2) (jump_len flags (pos 0 -ℤ pos (reverse_turn_size flags rd tmp tmp2 step rs))) ∙ t.jump_even in
     (s.none.even, (s.full.even, (s.one.even, (s.shift.even, (s.low.even, (s.byte.even, turn t over back))))))
   where
-    turn : AreTurnSizes flags rd tmp tmp2 step rs → (short_jump flags (pos (jump_size flags + (up_op flags tmp2).len))).len % 2 ≡ 0 → (short_jump flags (pos 0 -ℤ pos (reverse_turn_size flags rd tmp tmp2 step rs))).len % 2 ≡ 0 → IsBlock (map Op (reverse_turn flags rd tmp tmp2 step rs))
+    turn : AreTurnSizes flags rd tmp tmp2 step rs → (short_jump flags (pos (jump_size flags + (up_op flags tmp2).len))).len % 2 ≡ 0 → (short_jump flags (pos 0 -ℤ pos (reverse_turn_size flags rd tmp tmp2 step rs))).len % 2 ≡ 0 → AreSelfContained (map Op (reverse_turn flags rd tmp tmp2 step rs))
     turn t over back = (refl, (t.bit.even, (refl, (t.set.even, (t.less.even, (t.half.even, (t.eight.even, (t.rest.even, (refl, (t.down.even, (over, (t.up.even, (back, tt)))))))))))))
 
 -- ---- its parts

@@ -20,7 +20,7 @@ use Rattle.rv_emit.specs.Sites.{Site, CodeHas, StandsIn}
 use Rattle.rv_emit.specs.Slots.{Slot, Op, size_of}
 use Rattle.rv_emit.proofs.AddressRuns.{size_append, stands_split, shorter, based_goes, address_even}
 use Rattle.rv_emit.proofs.Courses.{InCourse, Comes, comes_on, comes_here, course_before, writes, sets_comes, rrr_writes, rri_writes}
-use Rattle.rv_emit.proofs.MemoryKept.{load_same, load_fits}
+use Rattle.rv_emit.proofs.SameMemory.{load_same, load_fits}
 use Rattle.rv_emit.proofs.NumberRuns.{number_comes}
 use Rattle.rv_emit.proofs.OperationActs.{plus_none, set_own}
 use Rattle.rv_emit.proofs.Registers.{are_values_set, but_set, spare_set, reads_back, reads_other}

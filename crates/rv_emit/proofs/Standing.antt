@@ -23,7 +23,7 @@ use Rattle.mach_buffer.specs.Growth.{Lasts, RecordsLast}
 use Rattle.mach_buffer.specs.Pieces.{ByVeneer, UseFinished}
 use Rattle.mach_buffer.proofs.Laws.{recorded_at as use_recorded_at, lasts_more, lasts_bytes, lasts_record, piece_finished, use_finished, slice_get-append, slice_get-append_last}
 use Rattle.rv_emit.specs.InstParts.{wide_jump_to}
-use Rattle.rv_emit.specs.Slots.{Symbol, AddressOf, Target, Label, Own, Slot, Op, Aim, Data, Notes, Names, Allocate, Here, Fill, Address, CallTo, upper_event, lower_event, address_event, call_event, Part, Ask, Slots, slot_size, size_of, own_label, label_of, uses_of, between, here_at, IsClosed, AreClosed, IsBlock, AreBlocks}
+use Rattle.rv_emit.specs.Slots.{Symbol, AddressOf, Target, Label, Own, Slot, Op, Aim, Data, Notes, Names, Allocate, Here, Fill, Address, CallTo, upper_event, lower_event, address_event, call_event, Part, Ask, Slots, slot_size, size_of, own_label, label_of, uses_of, between, here_at, IsClosed, AreClosed, AreSelfContained, PartsAreSelfContained}
 use Rattle.rv_emit.specs.Sites.{Site, BytesAt, IsPlacedAt, CodeHas, LeadsOn, Leads, Reaches, AimsFrom, symbol_address, FillsFrom, LinksFrom, StandsIn, GapIn, PartsStand}
 use Rattle.rv_machine.specs.State.{Memory}
 use Rattle.rv_emit.specs.Images.{AllClear, FieldsEnd, FieldsStand, KeepsOutside, IsFilled}
@@ -32,7 +32,7 @@ use Rattle.rv_emit.specs.Puts.{Encodes, eight_zeros, PutsSlot, Puts}
 use Rattle.rv_emit.specs.Standing.{SlotsIn, IslandIn, GapStandsIn, PartsIn, IsFinishedTo}
 use Rattle.rv_emit.proofs.OwnLabels.{bound_here, own_bound}
 use Rattle.rv_emit.proofs.PlacedBytes.{window_length, window_fits, window_there}
-use Rattle.rv_emit.proofs.PutsLast.{marks_even, slot_bytes, slot_ends, puts_last, puts_bytes, puts_uses}
+use Rattle.rv_emit.proofs.BufferAfterSlots.{marks_even, slot_bytes, slot_ends, lasts_after_slots, puts_bytes, puts_uses}
 use Rattle.rv_emit.proofs.VeneerRuns.{veneer_leads}
 use Rattle.rv_emit.proofs.Ways.{leads_here, leads_both, jump_leads}
 
@@ -172,7 +172,7 @@ module _ (site : Site) (f : Shape LabelUse) (final : List ℕ) (fin : IsFinished
 
   after_slot : (allocated : ℕ) (slot : Slot) (slots : List Slot) (s mid new : Shape LabelUse) → Lasts label_kinds new f → PutsSlot site.context.flags allocated slot s mid → Puts site.context.flags allocated slots mid new → IsAfter s mid (slot_size slot)
   after_slot allocated slot slots s mid new lasts p q =
-      let here = lasts_more (puts_last site.context.flags allocated slots mid new q) lasts in
+      let here = lasts_more (lasts_after_slots site.context.flags allocated slots mid new q) lasts in
       let long = slot_bytes site.context.flags allocated slot s mid p in
       record { lasts = here; long = long; ends = slot_ends site.context.flags allocated slot s mid p; fields = slot_fields_end site.context.flags allocated slot s mid p; room = let w = within mid here in omega arith }
 
@@ -318,7 +318,7 @@ module _ (site : Site) (f : Shape LabelUse) (final : List ℕ) (fin : IsFinished
       )
 
   -- slots that were put between two offsets
-  pub slots_stand : FieldsStand f → IsFilled site final → (slots : List Slot) (start end : ℕ) → IsBlock slots → (q : SlotsIn site.context.flags slots f start end) → StandsIn site q.old.allocated start slots × (end ≡ start + size_of slots)
+  pub slots_stand : FieldsStand f → IsFilled site final → (slots : List Slot) (start end : ℕ) → AreSelfContained slots → (q : SlotsIn site.context.flags slots f start end) → StandsIn site q.old.allocated start slots × (end ≡ start + size_of slots)
   slots_stand fields filled slots start end closed q =
       let long = puts_bytes site.context.flags q.old.allocated slots q.old q.new q.puts in
       let starts = q.starts in
@@ -355,16 +355,16 @@ module _ (site : Site) (f : Shape LabelUse) (final : List ℕ) (fin : IsFinished
   -- ---- parts
 
   -- parts that were put between two offsets, the first of which is even and in the code; and so is the second
-  pub parts_stand : FieldsStand f → IsFilled site final → (parts : List Part) (start end : ℕ) → AreBlocks parts → start % 2 ≡ 0 → start ≤ length site.bytes → PartsIn site.context.flags parts f start end → PartsStand site start end parts × (end % 2 ≡ 0) × (start ≤ end) × (end ≤ length site.bytes)
-  parts_stand fields filled [] start end blocks even le here = (here, omega arith, omega arith, omega arith)
-  parts_stand fields filled (Ask space ∷ parts) start end blocks even le (mid, gap, more) =
+  pub parts_stand : FieldsStand f → IsFilled site final → (parts : List Part) (start end : ℕ) → PartsAreSelfContained parts → start % 2 ≡ 0 → start ≤ length site.bytes → PartsIn site.context.flags parts f start end → PartsStand site start end parts × (end % 2 ≡ 0) × (start ≤ end) × (end ≤ length site.bytes)
+  parts_stand fields filled [] start end contained even le here = (here, omega arith, omega arith, omega arith)
+  parts_stand fields filled (Ask space ∷ parts) start end contained even le (mid, gap, more) =
       let g = gap_stands fields filled start mid even gap in
-      let rest = parts_stand fields filled parts mid end blocks (g.even even) (gap_within start mid le gap) more in
+      let rest = parts_stand fields filled parts mid end contained (g.even even) (gap_within start mid le gap) more in
       let a = g.within in
       let b = rest.2 in ((mid, g, rest.0), rest.1, omega arith, rest.3)
-  parts_stand fields filled (Slots slots ∷ parts) start end blocks even le (mid, put, more) =
-      let s = slots_stand fields filled slots start mid blocks.0 put in
+  parts_stand fields filled (Slots slots ∷ parts) start end contained even le (mid, put, more) =
+      let s = slots_stand fields filled slots start mid contained.0 put in
       let long = s.1 in
-      let size = closed_even (λ k. here_at k 0 slots) 0 slots blocks.0 in
-      let rest = parts_stand fields filled parts mid end blocks.1 (omega arith) (slots_within slots start mid put) more in
+      let size = closed_even (λ k. here_at k 0 slots) 0 slots contained.0 in
+      let rest = parts_stand fields filled parts mid end contained.1 (omega arith) (slots_within slots start mid put) more in
       let b = rest.2 in ((put.old.allocated, s.0, subst (λ n. PartsStand site n end parts) long rest.0), rest.1, omega arith, rest.3)

@@ -12,7 +12,7 @@ use Rattle.rv_machine.specs.declared.ops.MOp.TheVariants.{Base}
 use Rattle.rv_machine.specs.declared.ops.BaseOp.TheVariants as base
 use Rattle.rv_machine.specs.Memory.{load_result}
 use Rattle.rv_machine.specs.State.{State, IsState, Values, reg, set_reg, wrap, low64, at}
-use Rattle.rv_encode.specs.Operations.{row, load_op, decoded_load}
+use Rattle.rv_encode.specs.Operations.{decoded, load_op, decoded_load}
 use Rattle.rv_inst.specs.Meaning.{Next}
 use Rattle.rv_inst.specs.declared.inst.Inst.TheVariants.{LoadExtNameGot, LoadExtNameNear, LoadExtNameFar, Unwind}
 use Rattle.rv_emit.specs.declared.state.EmitVState.{EmitVState}
@@ -29,7 +29,7 @@ use Rattle.rv_emit.proofs.Exits.{starts_at}
 use Rattle.rv_emit.proofs.ImmediateValues.{parts_sum}
 use Rattle.rv_emit.proofs.InstMemory.{sets_out}
 use Rattle.rv_emit.proofs.InstWrites.{nothing_out}
-use Rattle.rv_emit.proofs.MemoryKept.{load_same, load_fits}
+use Rattle.rv_emit.proofs.SameMemory.{load_same, load_fits}
 use Rattle.rv_emit.proofs.Registers.{reads_back}
 use Rattle.rv_emit.proofs.SymbolSlots.{far_long}
 
@@ -41,11 +41,11 @@ upper_sum pc d = wrap (pc + low64 (upper_of_distance d) * 2 ^ 12)
 
 -- two words that hold the distance to a symbol, the first of which is auipc
 abbrev HoldsSymbol : Site → ℕ → ℕ → Symbol → (ℤ → List Decoded) → Type 0
-HoldsSymbol site offset rd symbol lower = FillsFrom site offset symbol (λ d. row (Base base.Auipc) rd 0 0 (upper_of_distance d) ∷ []) lower
+HoldsSymbol site offset rd symbol lower = FillsFrom site offset symbol (λ d. decoded (Base base.Auipc) rd 0 0 (upper_of_distance d) ∷ []) lower
 
 -- the first of them is done
 first_goes : {site : Site} {offset size : ℕ} {s : State} (rd : ℕ) (symbol : Symbol) (lower : ℤ → List Decoded) → IsAt site offset size s → 0 < size → (f : HoldsSymbol site offset rd symbol lower) → Sets site.context.flags 4 s rd (upper_sum s.pc f.distance)
-first_goes {s = s} rd symbol lower h some f = sets_one (row (Base base.Auipc) rd 0 0 (upper_of_distance f.distance)) rd (upper_sum s.pc f.distance) h some f.has_upper refl
+first_goes {s = s} rd symbol lower h some f = sets_one (decoded (Base base.Auipc) rd 0 0 (upper_of_distance f.distance)) rd (upper_sum s.pc f.distance) h some f.has_upper refl
 
 -- the lower part, which the second one has, makes it the symbol's address
 second_sums : {site : Site} {offset size : ℕ} {s : State} (rd : ℕ) (symbol : Symbol) (lower : ℤ → List Decoded) → 0 < rd → rd < 32 → IsState s → IsAt site offset size s → (f : HoldsSymbol site offset rd symbol lower) →

@@ -1,4 +1,4 @@
--- What symbols' addresses and steps in the making of a frame add to a buffer, and that their parts are blocks.
+-- What symbols' addresses and steps in the making of a frame add to a buffer, and that their parts are self-contained.
 use Rattle.std.proofs.Common.{◌≡◌, ℕ, ◌+◌, [], ◌∷◌, List, ℤ, pos, refl, ap, sym, arith}
 use Rattle.rv_base.specs.declared.external_name.ExternalName.{ExternalName}
 use Rattle.rv_base.specs.declared.flags.IsaFlags.{IsaFlags}
@@ -13,7 +13,7 @@ use Rattle.rv_inst.specs.declared.inst.Inst.TheVariants.{LoadExtNameGot, LoadExt
 use Rattle.mach_buffer.specs.declared.records.Event.TheVariants as event
 use Rattle.mach_buffer.specs.declared.records.MachRecord.{MachRecord}
 use Rattle.rv_emit.specs.Operations.{jump_size}
-use Rattle.rv_emit.specs.Slots.{Notes, size_of, address_event, IsBlock}
+use Rattle.rv_emit.specs.Slots.{Notes, size_of, address_event, AreSelfContained}
 use Rattle.rv_emit.specs.InstParts.{got_slots, near_slots, far_slots}
 use Rattle.rv_emit.proofs.PlainSlots.{IsSummed}
 use Rattle.rv_emit.proofs.ShortOps.{jump_len, least_even}
@@ -44,5 +44,5 @@ far_summed context rd name offset = record {
 pub unwind_summed : (context : Context) (inst : UnwindInst) → IsSummed context (Unwind inst) (Notes (event.Unwind inst) ∷ [])
 unwind_summed context inst = record { plain = tt; long = refl; uses = λ allocated start. refl; records = λ start. refl; names = λ named. refl }
 
-pub far_block : (flags : IsaFlags) (rd : ℕ) (name : ExternalName) (offset : ℤ) → IsBlock (far_slots flags rd name offset)
-far_block flags rd name offset = let jump = jump_len flags (pos (8 + jump_size flags)) in let least = least_even flags in (refl, (refl, (omega arith, tt)))
+pub far_contained : (flags : IsaFlags) (rd : ℕ) (name : ExternalName) (offset : ℤ) → AreSelfContained (far_slots flags rd name offset)
+far_contained flags rd name offset = let jump = jump_len flags (pos (8 + jump_size flags)) in let least = least_even flags in (refl, (refl, (omega arith, tt)))

@@ -35,8 +35,8 @@ use Rattle.rv_emit.specs.Standing.{GapStandsIn, PartsIn}
 use Rattle.rv_emit.specs.Tables.{far_jump, jump_slots}
 use Rattle.rv_emit.proofs.FineOperands.{fine}
 use Rattle.rv_emit.proofs.PlainSlots.{IsPlain, Adds, plain_adds}
-use Rattle.rv_emit.proofs.PutsLast.{puts_last, puts_bytes, puts_named, puts_constants}
-use Rattle.rv_emit.proofs.ReachKept.{Each, each_none, each_more, bytes_put, pending_adds, calm_after, reach_within}
+use Rattle.rv_emit.proofs.BufferAfterSlots.{lasts_after_slots, puts_bytes, puts_named, puts_constants}
+use Rattle.rv_emit.proofs.ReachAfterInst.{Each, each_none, each_more, bytes_put, pending_adds, calm_after, reach_within}
 use Rattle.rv_emit.proofs.TableSlots.{table_long, table_short}
 
 -- ---- slots whose uses reach everywhere
@@ -176,7 +176,7 @@ appends_words context index tmp1 tmp2 targets old new some p = record {
     places = a.place;
     labels = a.labels;
     allocated = a.allocated;
-    registered = (puts_last flags allocated slots (shape_of old) (shape_of new) p.puts).registered;
+    registered = (lasts_after_slots flags allocated slots (shape_of old) (shape_of new) p.puts).registered;
     constants = puts_constants flags allocated slots (shape_of old) (shape_of new) p.puts;
     sound = p.sound;
   };

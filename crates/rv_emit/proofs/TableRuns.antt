@@ -16,7 +16,7 @@ use Rattle.rv_machine.specs.Arithmetic.{low_word}
 use Rattle.rv_machine.specs.State.{State, IsState, Values, reg, set_reg, wrap, low64, at}
 use Rattle.rv_ops.specs.declared.alu.AluOPRRI.TheVariants.{Slli, Srli}
 use Rattle.rv_ops.specs.declared.alu.AluOPRRR.TheVariants.{Add}
-use Rattle.rv_encode.specs.Operations.{row, decoded_rri, decoded_rrr}
+use Rattle.rv_encode.specs.Operations.{decoded, decoded_rri, decoded_rrr}
 use Rattle.rv_inst.specs.Addresses.{is_splittable}
 use Rattle.rv_inst.specs.Forms.{short_rri}
 use Rattle.rv_inst.specs.Meaning.{To, table_exit}
@@ -96,10 +96,10 @@ record IsWithin (site : Site) : Type 0 where
   labels : (label at : ℕ) → site.place label ≡ Some at → at ≤ length site.bytes
 
 -- it comes to its label's place, and changes its temporary alone
-far_out : {site : Site} {start after offset allocated : ℕ} {free : List ℕ} {v : Values} {s : State} (tmp : ℕ) (label : MachLabel) → IsWithin site → is_among free tmp ≡ true → 0 < tmp → tmp < 30 → IsAt site offset 8 s → (a : AimsFrom site allocated offset PCRel32 (Label label) (λ d. row (Base base.Auipc) tmp 0 0 (upper_of d) ∷ decoded_jalr 0 tmp (lower_of d) ∷ [])) → IsBeside site free v s → ComesOut site start after (To label.number) free v s
+far_out : {site : Site} {start after offset allocated : ℕ} {free : List ℕ} {v : Values} {s : State} (tmp : ℕ) (label : MachLabel) → IsWithin site → is_among free tmp ≡ true → 0 < tmp → tmp < 30 → IsAt site offset 8 s → (a : AimsFrom site allocated offset PCRel32 (Label label) (λ d. decoded (Base base.Auipc) tmp 0 0 (upper_of d) ∷ decoded_jalr 0 tmp (lower_of d) ∷ [])) → IsBeside site free v s → ComesOut site start after (To label.number) free v s
 far_out {site} {offset = offset} {s = s} tmp label within among some usable h a b =
     let d = between offset a.to in
-    let first = row (Base base.Auipc) tmp 0 0 (upper_of d) in
+    let first = decoded (Base base.Auipc) tmp 0 0 (upper_of d) in
     let second = decoded_jalr 0 tmp (lower_of d) in
     let x = wrap (s.pc + low64 (upper_of d) * 2 ^ 12) in
     let s1 = at (wrap (s.pc + 4)) (set_reg s.values tmp x) in
@@ -117,16 +117,16 @@ far_out {site} {offset = offset} {s = s} tmp label within among some usable h a 
     refl (moved_beside (wrap (site.base + a.to)) (omega arith) (beside_temporary (wrap (s.pc + 4)) tmp x among (omega arith) (omega arith) (omega arith) b))
 
 -- that of an index stands so many times eight bytes on
-far_at : {site : Site} {allocated : ℕ} (tmp offset index : ℕ) (labels : List MachLabel) (label : MachLabel) → slice_get labels index ≡ Some label → StandsIn site allocated offset (map (far_jump tmp) labels) → AimsFrom site allocated (offset + 8 * index) PCRel32 (Label label) (λ d. row (Base base.Auipc) tmp 0 0 (upper_of d) ∷ decoded_jalr 0 tmp (lower_of d) ∷ [])
+far_at : {site : Site} {allocated : ℕ} (tmp offset index : ℕ) (labels : List MachLabel) (label : MachLabel) → slice_get labels index ≡ Some label → StandsIn site allocated offset (map (far_jump tmp) labels) → AimsFrom site allocated (offset + 8 * index) PCRel32 (Label label) (λ d. decoded (Base base.Auipc) tmp 0 0 (upper_of d) ∷ decoded_jalr 0 tmp (lower_of d) ∷ [])
 far_at tmp offset index [] label e stands = absurd (cc)
 far_at {site} {allocated} tmp offset zero (first ∷ labels) label e stands =
     let here : offset ≡ offset + 8 * 0 = omega arith in
     let same : first ≡ label = same_Some first label e in
-    subst (λ n. AimsFrom site allocated n PCRel32 (Label label) (λ d. row (Base base.Auipc) tmp 0 0 (upper_of d) ∷ decoded_jalr 0 tmp (lower_of d) ∷ [])) here
-    (subst (λ l. AimsFrom site allocated offset PCRel32 (Label l) (λ d. row (Base base.Auipc) tmp 0 0 (upper_of d) ∷ decoded_jalr 0 tmp (lower_of d) ∷ [])) same stands.0)
+    subst (λ n. AimsFrom site allocated n PCRel32 (Label label) (λ d. decoded (Base base.Auipc) tmp 0 0 (upper_of d) ∷ decoded_jalr 0 tmp (lower_of d) ∷ [])) here
+    (subst (λ l. AimsFrom site allocated offset PCRel32 (Label l) (λ d. decoded (Base base.Auipc) tmp 0 0 (upper_of d) ∷ decoded_jalr 0 tmp (lower_of d) ∷ [])) same stands.0)
 far_at {site} {allocated} tmp offset (suc index) (first ∷ labels) label e stands =
     let there : offset + 8 + 8 * index ≡ offset + 8 * suc index = omega arith in
-    subst (λ n. AimsFrom site allocated n PCRel32 (Label label) (λ d. row (Base base.Auipc) tmp 0 0 (upper_of d) ∷ decoded_jalr 0 tmp (lower_of d) ∷ [])) there
+    subst (λ n. AimsFrom site allocated n PCRel32 (Label label) (λ d. decoded (Base base.Auipc) tmp 0 0 (upper_of d) ∷ decoded_jalr 0 tmp (lower_of d) ∷ [])) there
     (far_at tmp (offset + 8) index labels label e stands.1)
 
 -- ---- the jump into the table
@@ -143,7 +143,7 @@ enters : {site : Site} {offset : ℕ} {v : Values} {s : State} (allocated source
 enters {site} {offset} {s = s} allocated source tmp1 tmp2 index more r few held h stands b =
     let lt1 = r.tmp1_usable in
     let lt2 = r.tmp2_usable in
-    let here = row (Base base.Auipc) tmp1 0 0 (pos 0) in
+    let here = decoded (Base base.Auipc) tmp1 0 0 (pos 0) in
     let eights = decoded_rri Slli tmp2 31 (pos 3) in
     let sum = decoded_rrr Add tmp1 tmp1 tmp2 in
     let jump = decoded_jalr 0 tmp1 (pos 16) in

@@ -16,7 +16,7 @@ use Rattle.rv_emit.specs.Choices.{extend_slots}
 use Rattle.rv_emit.specs.Immediates.{upper_of, lower_of}
 use Rattle.rv_emit.specs.InstParts.{inline_slots, number_slots, table_slots}
 use Rattle.rv_emit.specs.Operations.{jump_size}
-use Rattle.rv_emit.specs.Slots.{Label, Own, Slot, Op, Aim, Data, Notes, Names, Allocate, Here, Fill, Address, CallTo, AreClosed, IsBlock, size_of}
+use Rattle.rv_emit.specs.Slots.{Label, Own, Slot, Op, Aim, Data, Notes, Names, Allocate, Here, Fill, Address, CallTo, AreClosed, AreSelfContained, size_of}
 use Rattle.rv_emit.specs.Tables.{far_jump, jump_slots}
 use Rattle.rv_emit.proofs.AddressRuns.{size_append}
 use Rattle.rv_emit.proofs.NumberSlots.{numbers, number_few as number_most}
@@ -151,9 +151,9 @@ table_long flags index tmp1 tmp2 (default ∷ labels) some =
     let jumps = jumps_long tmp1 tmp2 default labels in
     omega arith
 
-pub table_block : (flags : IsaFlags) (index tmp1 tmp2 : ℕ) (targets : List MachLabel) → IsBlock (table_slots flags index tmp1 tmp2 targets)
-table_block flags index tmp1 tmp2 [] = tt
-table_block flags index tmp1 tmp2 (default ∷ labels) =
+pub table_contained : (flags : IsaFlags) (index tmp1 tmp2 : ℕ) (targets : List MachLabel) → AreSelfContained (table_slots flags index tmp1 tmp2 targets)
+table_contained flags index tmp1 tmp2 [] = tt
+table_contained flags index tmp1 tmp2 (default ∷ labels) =
     even_closed _ 0 (table_slots flags index tmp1 tmp2 (default ∷ labels))
     (even_both (extend_slots flags 31 index false 32) (number_slots flags tmp2 (pos (length labels)) ++ jump_slots tmp1 tmp2 default labels) (extend_even flags 31 index)
     (even_both (number_slots flags tmp2 (pos (length labels))) (jump_slots tmp1 tmp2 default labels) (number_even flags tmp2 (pos (length labels))) (jumps_even tmp1 tmp2 default labels)))

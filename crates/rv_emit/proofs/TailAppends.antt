@@ -22,21 +22,21 @@ use Rattle.rv_emit.proofs.CallSlots.{call_appends, call_ind_appends}
 use Rattle.rv_emit.proofs.FineOperands.{fine}
 use Rattle.rv_emit.proofs.InstSlots.{appends_inst}
 use Rattle.rv_emit.proofs.PlainSlots.{IsAdded, added}
-use Rattle.rv_emit.proofs.ReachKept.{bytes_put, pending_adds, calm_after, reach_calm, reach_after_island, reach_within}
+use Rattle.rv_emit.proofs.ReachAfterInst.{bytes_put, pending_adds, calm_after, reach_calm, reach_after_island, reach_within}
 use Rattle.rv_emit.proofs.ShortOps.{jalr_sized}
 use Rattle.rv_emit.proofs.TableAppends.{AppendsAfter, appends_table, reach_table, table_some}
-use Rattle.rv_emit.proofs.TailSlots.{call_records, tail_told, t0_told}
+use Rattle.rv_emit.proofs.TailSlots.{call_records, tail_contents, t0_contents}
 
 -- ---- what is added
 
 tail_added : (context : Context) (info : ReturnCallInfo ExternalName) → IsAdded context (ReturnCall info) (tail_slots context.flags context.frame info.new_stack_arg_size info.dest)
 tail_added context info =
-    let c = tail_told context.flags context.frame info.new_stack_arg_size info.dest in
+    let c = tail_contents context.flags context.frame info.new_stack_arg_size info.dest in
     record { plain = c.plain; long = c.long; uses = c.uses; records = λ start. c.records start ∙ ap (λ n. call_records info.dest (start + n - 8)) c.long; names = c.names }
 
 t0_added : (context : Context) (info : ReturnCallInfo Reg) → IsAdded context (ReturnCallInd info) (t0_slots context.flags context.frame info.new_stack_arg_size)
 t0_added context info =
-    let c = t0_told context.flags context.frame info.new_stack_arg_size in
+    let c = t0_contents context.flags context.frame info.new_stack_arg_size in
     record { plain = c.plain; long = c.long; uses = c.uses; records = c.records; names = c.names }
 
 appends_after : (context : Context) (inst : Inst) (space : ℕ) (slots : List Slot) (old new : Buffer) → IsAdded context inst slots → PutsParts context.flags (Ask space ∷ Slots slots ∷ []) old new → AppendsAfter context inst space old new

@@ -1,4 +1,4 @@
--- What tail calls add to a buffer: an island where one is needed, and then their words; and that their parts are blocks.
+-- What tail calls add to a buffer: an island where one is needed, and then their words; and that their parts are self-contained.
 use Rattle.std.proofs.Common.{◌≡◌, ℕ, suc, ◌+◌, ◌-◌, ◌*◌, ◌≤◌, Bool, true, false, List, [], ◌∷◌, ◌++◌, length, None, ℤ, pos, refl, ap, sym, ◌∙◌, subst, append_assoc, append-nil, arith, lit≤}
 use Rattle.std.specs.Prelude.{◌==◌, ◌-ℤ◌, if◌then◌else◌}
 use Rattle.std.proofs.lemmas.List.{length-append}
@@ -24,8 +24,8 @@ use Rattle.rv_inst.specs.Forms.{short_rrr, short_rri, short_jalr, short_load}
 use Rattle.rv_inst.specs.Returns.{StackLoad, saves_from, setup_loads, restores, frame_above}
 use Rattle.rv_inst.specs.Sizes.{number_size, stack_loads_size, stack_step_size, return_size}
 use Rattle.rv_emit.specs.InstParts.{offset_slots, number_slots, load_slots, stack_load_slots, stack_step_slots, return_slots, call_to, tail_slots, t0_slots}
-use Rattle.rv_emit.specs.Slots.{Slot, Op, Notes, IsBlock, call_event}
-use Rattle.rv_emit.proofs.MemorySlots.{AreTold, AreCounted, at_end, none, nothing, of_size, op_then, sum_then}
+use Rattle.rv_emit.specs.Slots.{Slot, Op, Notes, AreSelfContained, call_event}
+use Rattle.rv_emit.proofs.MemorySlots.{HaveContents, HaveAccess, at_end, none, nothing, of_size, op_then, sum_then}
 use Rattle.rv_emit.proofs.NumberSlots.{number_then, number_few}
 use Rattle.rv_emit.proofs.OffsetSizes.{far_short}
 use Rattle.rv_emit.proofs.ShortOps.{rrr_sized, rri_sized, jalr_sized, load_sized}
@@ -33,8 +33,8 @@ use Rattle.rv_emit.proofs.ShortOps.{rrr_sized, rri_sized, jalr_sized, load_sized
 -- ---- pieces
 
 -- a load by a register, before slots without uses
-load_then : {size last : ℕ} {rest : ℕ → List (Use LabelUse)} {told : ℕ → List MachRecord} {slots : List Slot} (flags : IsaFlags) (rd : ℕ) (op : LoadOP) (r : ℕ) (o : ℤ) → AreTold size last (at_end rest) told None slots → AreTold (load_size_at flags op rd (Based r o) + size) last (at_end rest) told None (load_slots flags rd op None (Based r o) ++ slots)
-load_then {size} {last} {rest} {told} {slots} flags rd op r o c = by (is_near o)
+load_then : {size last : ℕ} {rest : ℕ → List (Use LabelUse)} {records_at : ℕ → List MachRecord} {slots : List Slot} (flags : IsaFlags) (rd : ℕ) (op : LoadOP) (r : ℕ) (o : ℤ) → HaveContents size last (at_end rest) records_at None slots → HaveContents (load_size_at flags op rd (Based r o) + size) last (at_end rest) records_at None (load_slots flags rd op None (Based r o) ++ slots)
+load_then {size} {last} {rest} {records_at} {slots} flags rd op r o c = by (is_near o)
   where
     near : Decoded
     near = short_load flags op rd r o
@@ -45,21 +45,21 @@ load_then {size} {last} {rest} {told} {slots} flags rd op r o c = by (is_near o)
     sum : Decoded
     sum = short_rrr flags Add 31 31 r
 
-    by : (t : Bool) → AreTold ((if t then near.len else far_address_size flags 31 r o + 4) + size) last (at_end rest) told None ((if t then Op near ∷ [] else (if t then Op (short_rri flags Addi 31 r o) ∷ [] else offset_slots flags 31 o ++ Op sum ∷ []) ++ [] ++ Op far ∷ []) ++ slots)
+    by : (t : Bool) → HaveContents ((if t then near.len else far_address_size flags 31 r o + 4) + size) last (at_end rest) records_at None ((if t then Op near ∷ [] else (if t then Op (short_rri flags Addi 31 r o) ∷ [] else offset_slots flags 31 o ++ Op sum ∷ []) ++ [] ++ Op far ∷ []) ++ slots)
     by true = op_then near (load_sized flags op rd r o).even c
-    by false = subst (AreTold (far_address_size flags 31 r o + 4 + size) last (at_end rest) told None) (sym (ap (λ front. front ++ Op far ∷ [] ++ slots) (append-nil (offset_slots flags 31 o ++ Op sum ∷ [])) ∙ append_assoc (offset_slots flags 31 o ++ Op sum ∷ []) (Op far ∷ []) slots ∙ append_assoc (offset_slots flags 31 o) (Op sum ∷ []) (Op far ∷ slots)))
+    by false = subst (HaveContents (far_address_size flags 31 r o + 4 + size) last (at_end rest) records_at None) (sym (ap (λ front. front ++ Op far ∷ [] ++ slots) (append-nil (offset_slots flags 31 o ++ Op sum ∷ [])) ∙ append_assoc (offset_slots flags 31 o ++ Op sum ∷ []) (Op far ∷ []) slots ∙ append_assoc (offset_slots flags 31 o) (Op sum ∷ []) (Op far ∷ slots)))
         (of_size (omega arith) (sum_then flags 31 r o (op_then far refl c)))
 
 -- loads from the stack
-pub loads_then : {size last : ℕ} {rest : ℕ → List (Use LabelUse)} {told : ℕ → List MachRecord} {slots : List Slot} (flags : IsaFlags) (loads : List StackLoad) → AreTold size last (at_end rest) told None slots → AreTold (stack_loads_size flags loads + size) last (at_end rest) told None (stack_load_slots flags loads ++ slots)
+pub loads_then : {size last : ℕ} {rest : ℕ → List (Use LabelUse)} {records_at : ℕ → List MachRecord} {slots : List Slot} (flags : IsaFlags) (loads : List StackLoad) → HaveContents size last (at_end rest) records_at None slots → HaveContents (stack_loads_size flags loads + size) last (at_end rest) records_at None (stack_load_slots flags loads ++ slots)
 loads_then flags [] c = of_size (omega arith) c
-loads_then {size} {last} {rest} {told} {slots} flags (l ∷ loads) c =
-    subst (AreTold (stack_loads_size flags (l ∷ loads) + size) last (at_end rest) told None) (sym (append_assoc (load_slots flags l.register l.op None (Based 2 l.offset)) (stack_load_slots flags loads) slots))
+loads_then {size} {last} {rest} {records_at} {slots} flags (l ∷ loads) c =
+    subst (HaveContents (stack_loads_size flags (l ∷ loads) + size) last (at_end rest) records_at None) (sym (append_assoc (load_slots flags l.register l.op None (Based 2 l.offset)) (stack_load_slots flags loads) slots))
     (of_size (omega arith) (load_then flags l.register l.op 2 l.offset (loads_then flags loads c)))
 
 -- a step of the stack pointer
-pub step_then : {size last : ℕ} {rest : ℕ → List (Use LabelUse)} {told : ℕ → List MachRecord} {slots : List Slot} (flags : IsaFlags) (z : ℤ) → AreTold size last (at_end rest) told None slots → AreTold (stack_step_size flags z + size) last (at_end rest) told None (stack_step_slots flags z ++ slots)
-step_then {size} {last} {rest} {told} {slots} flags z c = by (low64 z == 0) (is_near z)
+pub step_then : {size last : ℕ} {rest : ℕ → List (Use LabelUse)} {records_at : ℕ → List MachRecord} {slots : List Slot} (flags : IsaFlags) (z : ℤ) → HaveContents size last (at_end rest) records_at None slots → HaveContents (stack_step_size flags z + size) last (at_end rest) records_at None (stack_step_slots flags z ++ slots)
+step_then {size} {last} {rest} {records_at} {slots} flags z c = by (low64 z == 0) (is_near z)
   where
     sum : Decoded
     sum = short_rrr flags Add 2 2 31
@@ -67,21 +67,21 @@ step_then {size} {last} {rest} {told} {slots} flags z c = by (low64 z == 0) (is_
     near : Decoded
     near = short_rri flags Addi 2 2 z
 
-    by : (none_at_all small : Bool) → AreTold ((if none_at_all then 0 else if small then near.len else number_size flags 31 z + sum.len) + size) last (at_end rest) told None ((if none_at_all then [] else if small then Op near ∷ [] else number_slots flags 31 z ++ Op sum ∷ []) ++ slots)
+    by : (none_at_all small : Bool) → HaveContents ((if none_at_all then 0 else if small then near.len else number_size flags 31 z + sum.len) + size) last (at_end rest) records_at None ((if none_at_all then [] else if small then Op near ∷ [] else number_slots flags 31 z ++ Op sum ∷ []) ++ slots)
     by true small = of_size (omega arith) c
     by false true = op_then near (rri_sized flags Addi 2 2 z).even c
-    by false false = subst (AreTold (number_size flags 31 z + sum.len + size) last (at_end rest) told None) (sym (append_assoc (number_slots flags 31 z) (Op sum ∷ []) slots))
+    by false false = subst (HaveContents (number_size flags 31 z + sum.len + size) last (at_end rest) records_at None) (sym (append_assoc (number_slots flags 31 z) (Op sum ∷ []) slots))
         (of_size (omega arith) (number_then flags 31 z (op_then sum (rrr_sized flags Add 2 2 31).even c)))
 
 -- a frame is taken away
-return_then : {size last : ℕ} {rest : ℕ → List (Use LabelUse)} {told : ℕ → List MachRecord} {slots : List Slot} (flags : IsaFlags) (frame : FrameLayout) (arguments : ℕ) → AreTold size last (at_end rest) told None slots → AreTold (return_size flags frame arguments + size) last (at_end rest) told None (return_slots flags frame arguments ++ slots)
-return_then {size} {last} {rest} {told} {slots} flags frame arguments c =
-    subst (AreTold (return_size flags frame arguments + size) last (at_end rest) told None) (sym (append_assoc (stack_load_slots flags (restores frame)) (stack_step_slots flags (pos (frame_above frame arguments))) slots))
+return_then : {size last : ℕ} {rest : ℕ → List (Use LabelUse)} {records_at : ℕ → List MachRecord} {slots : List Slot} (flags : IsaFlags) (frame : FrameLayout) (arguments : ℕ) → HaveContents size last (at_end rest) records_at None slots → HaveContents (return_size flags frame arguments + size) last (at_end rest) records_at None (return_slots flags frame arguments ++ slots)
+return_then {size} {last} {rest} {records_at} {slots} flags frame arguments c =
+    subst (HaveContents (return_size flags frame arguments + size) last (at_end rest) records_at None) (sym (append_assoc (stack_load_slots flags (restores frame)) (stack_step_slots flags (pos (frame_above frame arguments))) slots))
     (of_size (omega arith) (loads_then flags (restores frame) (step_then flags (pos (frame_above frame arguments)) c)))
 
 -- alone
-pub returns_counted : (flags : IsaFlags) (frame : FrameLayout) (arguments : ℕ) → AreCounted (return_size flags frame arguments) 0 none None None (return_slots flags frame arguments)
-returns_counted flags frame arguments = of_size (omega arith) (subst (AreCounted (return_size flags frame arguments + 0) 0 none None None) (append-nil (return_slots flags frame arguments)) (return_then flags frame arguments nothing))
+pub returns_counted : (flags : IsaFlags) (frame : FrameLayout) (arguments : ℕ) → HaveAccess (return_size flags frame arguments) 0 none None None (return_slots flags frame arguments)
+returns_counted flags frame arguments = of_size (omega arith) (subst (HaveAccess (return_size flags frame arguments + 0) 0 none None None) (append-nil (return_slots flags frame arguments)) (return_then flags frame arguments nothing))
 
 -- ---- the whole
 
@@ -89,20 +89,20 @@ returns_counted flags frame arguments = of_size (omega arith) (subst (AreCounted
 abbrev pub call_records : ExternalName → ℕ → List MachRecord
 call_records name at = record { offset = at; event = event.CallSite } ∷ record { offset = at; event = call_event name } ∷ []
 
-pair_told : (name : ExternalName) → AreTold 8 8 none (call_records name) None (Notes event.CallSite ∷ call_to 0 31 name ∷ [])
-pair_told name = record { plain = tt; long = refl; within = lit≤ tt; uses = λ allocated start. refl; records = λ start. let e : start ≡ start + 8 - 8 = omega arith in ap (call_records name) e; names = λ named. refl; closed = λ here start. tt }
+pair_contents : (name : ExternalName) → HaveContents 8 8 none (call_records name) None (Notes event.CallSite ∷ call_to 0 31 name ∷ [])
+pair_contents name = record { plain = tt; long = refl; within = lit≤ tt; uses = λ allocated start. refl; records = λ start. let e : start ≡ start + 8 - 8 = omega arith in ap (call_records name) e; names = λ named. refl; closed = λ here start. tt }
 
-pub tail_told : (flags : IsaFlags) (frame : FrameLayout) (arguments : ℕ) (name : ExternalName) → AreTold (return_size flags frame arguments + 8) 8 none (call_records name) None (tail_slots flags frame arguments name)
-tail_told flags frame arguments name = return_then flags frame arguments (pair_told name)
+pub tail_contents : (flags : IsaFlags) (frame : FrameLayout) (arguments : ℕ) (name : ExternalName) → HaveContents (return_size flags frame arguments + 8) 8 none (call_records name) None (tail_slots flags frame arguments name)
+tail_contents flags frame arguments name = return_then flags frame arguments (pair_contents name)
 
-pub t0_told : (flags : IsaFlags) (frame : FrameLayout) (arguments : ℕ) → AreCounted (return_size flags frame arguments + (short_jalr flags 0 5 (pos 0)).len) 0 none None None (t0_slots flags frame arguments)
-t0_told flags frame arguments = return_then flags frame arguments (of_size (omega arith) (op_then (short_jalr flags 0 5 (pos 0)) (jalr_sized flags 0 5 (pos 0)).even nothing))
+pub t0_contents : (flags : IsaFlags) (frame : FrameLayout) (arguments : ℕ) → HaveAccess (return_size flags frame arguments + (short_jalr flags 0 5 (pos 0)).len) 0 none None None (t0_slots flags frame arguments)
+t0_contents flags frame arguments = return_then flags frame arguments (of_size (omega arith) (op_then (short_jalr flags 0 5 (pos 0)) (jalr_sized flags 0 5 (pos 0)).even nothing))
 
-pub tail_block : (flags : IsaFlags) (frame : FrameLayout) (arguments : ℕ) (name : ExternalName) → IsBlock (tail_slots flags frame arguments name)
-tail_block flags frame arguments name = (tail_told flags frame arguments name).closed _ 0
+pub tail_contained : (flags : IsaFlags) (frame : FrameLayout) (arguments : ℕ) (name : ExternalName) → AreSelfContained (tail_slots flags frame arguments name)
+tail_contained flags frame arguments name = (tail_contents flags frame arguments name).closed _ 0
 
-pub t0_block : (flags : IsaFlags) (frame : FrameLayout) (arguments : ℕ) → IsBlock (t0_slots flags frame arguments)
-t0_block flags frame arguments = (t0_told flags frame arguments).closed _ 0
+pub t0_contained : (flags : IsaFlags) (frame : FrameLayout) (arguments : ℕ) → AreSelfContained (t0_slots flags frame arguments)
+t0_contained flags frame arguments = (t0_contents flags frame arguments).closed _ 0
 
 -- ---- how many bytes at most
 

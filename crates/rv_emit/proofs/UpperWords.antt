@@ -19,7 +19,7 @@ use Rattle.rv_machine.specs.Decode.{decode, by_opcode, or_else, decode_jalr, dec
 use Rattle.rv_machine.specs.Compressed.{decode_half}
 use Rattle.rv_machine.proofs.DecodeLaws.{decode_low}
 use Rattle.rv_encode.specs.Layouts.{IsUType}
-use Rattle.rv_encode.specs.Operations.{row}
+use Rattle.rv_encode.specs.Operations.{decoded}
 use Rattle.rv_encode.proofs.Decoding.{opcode_decodes}
 
 abbrev is_auipc : MOp → Bool
@@ -123,13 +123,13 @@ none_narrow w narrow =
     ap (decode no_flags) split ∙ decode_low no_flags (w % 2 ^ 16) (w / 2 ^ 16) (omega arith) (ap (λ n. nat_eq n 3) (sym same) ∙ narrow) ∙ none_half (w % 2 ^ 16)
 
 -- a word that decodes to auipc with immediate 0 has its layout
-pub auipc_layout : (w rd : ℕ) → decode no_flags w ≡ Some (row (Base base.Auipc) rd 0 0 (pos 0)) → IsUType w AUIPC rd 0
+pub auipc_layout : (w rd : ℕ) → decode no_flags w ≡ Some (decoded (Base base.Auipc) rd 0 0 (pos 0)) → IsUType w AUIPC rd 0
 auipc_layout w rd e = by (nat_eq (word_opcode w % 4) 3) refl
   where
     wide_layout : nat_eq (word_opcode w % 4) 3 ≡ true → IsUType w AUIPC rd 0
     wide_layout wide =
         let is : word_opcode w ≡ AUIPC = auipc_opcode (word_opcode w) w (ap has_auipc (sym (opcode_decodes no_flags w (word_opcode w) refl wide) ∙ e)) in
-        let same : u_layout w (Base base.Auipc) ≡ row (Base base.Auipc) rd 0 0 (pos 0) = same_Some _ _ (sym (opcode_decodes no_flags w AUIPC is refl) ∙ e) in
+        let same : u_layout w (Base base.Auipc) ≡ decoded (Base base.Auipc) rd 0 0 (pos 0) = same_Some _ _ (sym (opcode_decodes no_flags w AUIPC is refl) ∙ e) in
         record {
           opcode_is = is;
           rd_is = ap (λ (d : Decoded). d.rd) same;

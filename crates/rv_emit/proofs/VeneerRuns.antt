@@ -22,7 +22,7 @@ use Rattle.rv_machine.specs.declared.ops.BaseOp.TheVariants.{Auipc}
 use Rattle.rv_machine.specs.State.{Memory, Values, reg, set_reg, wrap, low64, signed, at}
 use Rattle.rv_machine.specs.Decode.{decode}
 use Rattle.rv_machine.specs.Steps.{fetch}
-use Rattle.rv_encode.specs.Operations.{row}
+use Rattle.rv_encode.specs.Operations.{decoded}
 use Rattle.mach_buffer.specs.declared.uses.Use.{Use}
 use Rattle.mach_buffer.specs.Windows.{window}
 use Rattle.mach_buffer.specs.Finish.{IsVia}
@@ -36,11 +36,11 @@ use Rattle.rv_emit.proofs.Ways.{comes_one, comes_both}
 
 -- ---- the two operations of a veneer
 
-abbrev pub auipc_row : ℤ → Decoded
-auipc_row imm = row (Base Auipc) 31 0 0 imm
+abbrev pub decoded_auipc : ℤ → Decoded
+decoded_auipc imm = decoded (Base Auipc) 31 0 0 imm
 
 -- the words of a veneer before its use is patched
-old_first : (flags : IsaFlags) → decode flags (word_at (veneer_of PCRel32).bytes) ≡ Some (auipc_row (pos 0))
+old_first : (flags : IsaFlags) → decode flags (word_at (veneer_of PCRel32).bytes) ≡ Some (decoded_auipc (pos 0))
 unfolding decode
 old_first flags = refl
 
@@ -60,7 +60,7 @@ pair_decodes flags new d long fits kept aims =
     kept refl (inl refl) aims
 
 -- the same operations, wherever the bytes stand
-pub pair_there : (flags : IsaFlags) (mem : Memory) (a : ℕ) (new : List ℕ) (d : ℤ) → length new ≡ 8 → BytesAt mem a new → (p : PairDecodes flags (veneer_of PCRel32).bytes new d) → HasOps flags mem a (auipc_row p.upper ∷ decoded_jalr 0 31 p.lower ∷ [])
+pub pair_there : (flags : IsaFlags) (mem : Memory) (a : ℕ) (new : List ℕ) (d : ℤ) → length new ≡ 8 → BytesAt mem a new → (p : PairDecodes flags (veneer_of PCRel32).bytes new d) → HasOps flags mem a (decoded_auipc p.upper ∷ decoded_jalr 0 31 p.lower ∷ [])
 pair_there flags mem a new d long placed p = (
   ap (decode flags) (word_there mem a new (omega arith) placed) ∙ p.first ∙ ap (option_map (with_immediate p.upper)) (old_first flags),
   (
@@ -116,13 +116,13 @@ pair_leads site place to even to_even within p = record {
       let x = wrap (s.pc + low64 p.upper * 2 ^ 12) in
       let held : slice_index (slice_set s.values.regs 30 x) 30 ≡ x = get_or-set_at s.values.regs 30 30 x 0 refl (let n = is_state.values.count in omega arith) in
       let has = pair_there flags s.values.mem (base + place) (window site.bytes place 8) (pos to -ℤ pos place) (window_length site.bytes place 8 within) (window_there s.values.mem base site.bytes place 8 within placed.bytes) p in
-      let first : decode flags (fetch s.values.mem s.pc) ≡ Some (auipc_row p.upper) = ap (λ a. decode flags (fetch s.values.mem a)) here ∙ has.0 in
+      let first : decode flags (fetch s.values.mem s.pc) ≡ Some (decoded_auipc p.upper) = ap (λ a. decode flags (fetch s.values.mem a)) here ∙ has.0 in
       let second : decode flags (fetch s.values.mem (wrap (s.pc + 4))) ≡ Some (decoded_jalr 0 31 p.lower) = ap (λ a. decode flags (fetch s.values.mem a)) next ∙ has.1.0 in
       let spare = same_spare v s.values x same in
       let fits = are_values_set s.values 31 x is_state.values (lit< tt) (omega arith) in
       let lands = pair_lands base place to p.upper p.lower (subst IsSmall (sym p.upper_is) (signed_small (2 ^ 19) _ (lit< tt))) (subst IsSmall (sym p.lower_is) (signed_small (2 ^ 11) _ (lit< tt))) p.sum in
       comes_both flags (wrap (s.pc + 4)) (wrap (base + to)) v s
-      (comes_one flags s (wrap (s.pc + 4)) (wrap (s.pc + 4)) v (set_reg s.values 31 x) (istep_at flags s (auipc_row p.upper) (omega arith) first refl) refl (omega arith) spare are_values fits (get_or-set_other s.values.regs 30 29 x 0 (λ e. omega arith)) refl)
+      (comes_one flags s (wrap (s.pc + 4)) (wrap (s.pc + 4)) v (set_reg s.values 31 x) (istep_at flags s (decoded_auipc p.upper) (omega arith) first refl) refl (omega arith) spare are_values fits (get_or-set_other s.values.regs 30 29 x 0 (λ e. omega arith)) refl)
       (comes_one flags (at (wrap (s.pc + 4)) (set_reg s.values 31 x)) (wrap (slice_index (slice_set s.values.regs 30 x) 30 + low64 p.lower) / 2 * 2) (wrap (base + to)) v (set_reg s.values 31 x)
       (istep_at flags (at (wrap (s.pc + 4)) (set_reg s.values 31 x)) (decoded_jalr 0 31 p.lower) (omega arith) second refl)
       ((λ i. wrap (held i + low64 p.lower) / 2 * 2) ∙ (λ i. wrap (wrap (pc i + low64 p.upper * 2 ^ 12) + low64 p.lower) / 2 * 2) ∙ ap (λ (n : ℕ). n / 2 * 2) lands ∙ omega arith) (omega arith) spare are_values fits refl refl);

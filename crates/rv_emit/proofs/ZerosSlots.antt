@@ -15,8 +15,8 @@ use Rattle.rv_inst.specs.Sizes.{Words, zeros_size, bit_shift}
 use Rattle.rv_inst.specs.declared.inst.Inst.TheVariants.{Cltz}
 use Rattle.rv_emit.specs.Counts.{start_ops, turn_ops, turn_size}
 use Rattle.rv_emit.specs.InstParts.{zeros_slots}
-use Rattle.rv_emit.specs.Slots.{IsBlock, size_of}
-use Rattle.rv_emit.proofs.CountSlots.{count_even, ops_block}
+use Rattle.rv_emit.specs.Slots.{AreSelfContained, size_of}
+use Rattle.rv_emit.proofs.CountSlots.{count_even, ops_contained}
 use Rattle.rv_emit.proofs.PlainSlots.{IsSummed}
 use Rattle.rv_emit.proofs.ShortOps.{rrr_sized, rri_sized, jump_len, least_few}
 
@@ -40,8 +40,8 @@ zeros_summed context sum tmp step rs false type = record {
   names = λ named. refl;
 }
 
-pub zeros_block : (flags : IsaFlags) (leading : Bool) (sum tmp step rs bits : ℕ) → IsBlock (zeros_slots flags leading sum tmp step rs bits)
-zeros_block flags leading sum tmp step rs bits = ops_block (start_ops flags leading sum tmp step bits ++ turn_ops flags true (bit_shift leading) sum tmp step rs) (count_even flags leading true (bit_shift leading) sum tmp step rs bits)
+pub zeros_contained : (flags : IsaFlags) (leading : Bool) (sum tmp step rs bits : ℕ) → AreSelfContained (zeros_slots flags leading sum tmp step rs bits)
+zeros_contained flags leading sum tmp step rs bits = ops_contained (start_ops flags leading sum tmp step bits ++ turn_ops flags true (bit_shift leading) sum tmp step rs) (count_even flags leading true (bit_shift leading) sum tmp step rs bits)
 
 pub zeros_short : (flags : IsaFlags) (leading : Bool) (sum tmp step rs bits : ℕ) → zeros_size flags leading sum tmp step rs bits ≤ 44
 zeros_short flags leading sum tmp step rs bits =

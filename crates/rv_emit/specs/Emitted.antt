@@ -30,7 +30,7 @@ use Rattle.mach_buffer.specs.Shape.{Shape, with_allocated, name_more}
 use Rattle.mach_buffer.specs.Constants.{reserve_of, AllStand}
 use Rattle.mach_buffer.specs.Growth.{Lasts}
 use Rattle.mach_buffer.specs.Windows.{AreWindows}
-use Rattle.rv_emit.specs.ConstantsAdded.{AddsConstants}
+use Rattle.rv_emit.specs.NewConstants.{AddsConstants}
 use Rattle.rv_emit.specs.Slots.{Label}
 use Rattle.rv_emit.specs.Puts.{Puts}
 use Rattle.rv_emit.specs.InstParts.{wide_jump_to}
@@ -95,7 +95,7 @@ pub record AppendsInst (context : Context) (inst : Inst) (old new : Buffer) : Ty
 -- waited
 pub record AppendsIsland (old new : Buffer) : Type 0 where
   pub after_island : MachLabel
-  pub drawn_label : after_island.number ≡ first_inner + allocated_of old
+  pub allocated_label : after_island.number ≡ first_inner + allocated_of old
   pub jumped : Shape LabelUse
   pub puts : (flags : IsaFlags) → Puts flags (allocated_of old + 1) (wide_jump_to (Label after_island) ∷ []) (with_allocated (shape_of old)) jumped
   pub lasts : Lasts label_kinds jumped (shape_of new)

@@ -31,7 +31,7 @@ use Rattle.rv_inst.specs.declared.inst.CondBrTarget.TheVariants.{Label as ToLabe
 use Rattle.rv_inst.specs.declared.label_use.LabelUse.TheVariants.{Jal20, B12, PCRelHi20, PCRelLo12I}
 use Rattle.rv_machine.specs.declared.ops.MOp.TheVariants.{Base}
 use Rattle.rv_machine.specs.declared.ops.BaseOp.TheVariants as base
-use Rattle.rv_encode.specs.Operations.{row, decoded_branch, decoded_load, decoded_store}
+use Rattle.rv_encode.specs.Operations.{decoded, decoded_branch, decoded_load, decoded_store}
 use Rattle.rv_inst.specs.Forms.{jump_kind, short_rrr, short_rri, short_lui, short_jalr, short_ebreak, short_load, short_store}
 use Rattle.rv_machine.specs.State.{low64}
 use Rattle.rv_machine.specs.Arithmetic.{low_word}
@@ -62,7 +62,7 @@ jump_to flags target = Aim (jump_kind flags) target (λ d. short_jump flags d �
 
 -- a register is the upper part of the distance to a label, added to the word's own address
 abbrev pub upper_at : ℕ → MachLabel → Slot
-upper_at rd l = Aim PCRelHi20 (Label l) (λ d. row (Base base.Auipc) rd 0 0 (upper_of_distance d) ∷ [])
+upper_at rd l = Aim PCRelHi20 (Label l) (λ d. decoded (Base base.Auipc) rd 0 0 (upper_of_distance d) ∷ [])
 
 -- a branch to a target where a comparison holds
 abbrev pub branch_to : IntegerCompare → Target → Slot
@@ -87,7 +87,7 @@ branch_over flags cmp = Op (decoded_branch (complement cmp) (pos (4 + trap_size 
 
 -- a load of so many bytes that stand after it and a jump over them
 abbrev pub load_over : IsaFlags → ℕ → LoadOP → ℕ → List Slot
-load_over flags rd op size = Op (row (Base base.Auipc) rd 0 0 (pos 0)) ∷ Op (decoded_load op rd rd (pos (8 + jump_size flags))) ∷ Op (short_jump flags (pos (size + jump_size flags))) ∷ []
+load_over flags rd op size = Op (decoded (Base base.Auipc) rd 0 0 (pos 0)) ∷ Op (decoded_load op rd rd (pos (8 + jump_size flags))) ∷ Op (short_jump flags (pos (size + jump_size flags))) ∷ []
 
 -- a constant of so many bytes after the code that loads it, which jumps over it
 abbrev pub inline_slots : IsaFlags → ℕ → LoadOP → ℕ → List ℕ → List Slot
@@ -189,11 +189,11 @@ table_slots flags index tmp1 tmp2 (default ∷ labels) = extend_slots flags 31 i
 
 -- the address of a symbol's slot by the distance to it, and a load from there
 abbrev pub got_slots : ℕ → ExternalName → List Slot
-got_slots rd name = Fill (SlotOf name) (λ d. row (Base base.Auipc) rd 0 0 (upper_of_distance d) ∷ []) (λ d. decoded_load loads.Ld rd rd (lower_of_distance d) ∷ []) ∷ []
+got_slots rd name = Fill (SlotOf name) (λ d. decoded (Base base.Auipc) rd 0 0 (upper_of_distance d) ∷ []) (λ d. decoded_load loads.Ld rd rd (lower_of_distance d) ∷ []) ∷ []
 
 -- the address of a symbol by the distance to it
 abbrev pub near_slots : ℕ → ExternalName → ℤ → List Slot
-near_slots rd name offset = Fill (AddressOf name offset) (λ d. row (Base base.Auipc) rd 0 0 (upper_of_distance d) ∷ []) (λ d. decoded_addi rd rd (lower_of_distance d) ∷ []) ∷ []
+near_slots rd name offset = Fill (AddressOf name offset) (λ d. decoded (Base base.Auipc) rd 0 0 (upper_of_distance d) ∷ []) (λ d. decoded_addi rd rd (lower_of_distance d) ∷ []) ∷ []
 
 -- the address of a symbol from among the code
 abbrev pub far_slots : IsaFlags → ℕ → ExternalName → ℤ → List Slot
@@ -222,7 +222,7 @@ return_slots flags frame arguments = stack_load_slots flags (restores frame) ++ 
 
 -- to a symbol by the distance to it, by way of a register; another one is the address after it
 abbrev pub call_to : ℕ → ℕ → ExternalName → Slot
-call_to link tmp name = CallTo name (λ d. row (Base base.Auipc) tmp 0 0 (upper_of d) ∷ decoded_jalr link tmp (lower_of d) ∷ [])
+call_to link tmp name = CallTo name (λ d. decoded (Base base.Auipc) tmp 0 0 (upper_of d) ∷ decoded_jalr link tmp (lower_of d) ∷ [])
 
 -- and then a jump goes on: to a symbol by way of x31, at a call site; or to the address in t0
 abbrev pub tail_slots : IsaFlags → FrameLayout → ℕ → ExternalName → List Slot
@@ -289,7 +289,7 @@ parts_of context setting (DummyUse reg) = []
 parts_of context setting (EmitIsland needed_space) = Ask needed_space ∷ []
 parts_of context setting (RawData bytes) = slots_alone (Data bytes ∷ [])
 parts_of context setting (Lui rd imm) = slots_alone (Op (short_lui context.flags (number_of rd.reg) imm.value) ∷ [])
-parts_of context setting (Auipc rd imm) = slots_alone (Op (row (Base base.Auipc) (number_of rd.reg) 0 0 imm.value) ∷ [])
+parts_of context setting (Auipc rd imm) = slots_alone (Op (decoded (Base base.Auipc) (number_of rd.reg) 0 0 imm.value) ∷ [])
 parts_of context setting (LoadInlineConst rd type imm) = slots_alone (constant_slots context.flags (number_of rd.reg) type imm)
 parts_of context setting (AluRRR op rd rs1 rs2) = slots_alone (Op (short_rrr context.flags op (number_of rd.reg) (number_of rs1) (number_of rs2)) ∷ [])
 parts_of context setting (AluRRImm12 op rd rs imm) = slots_alone (Op (short_rri context.flags op (number_of rd.reg) (number_of rs) imm.value) ∷ [])

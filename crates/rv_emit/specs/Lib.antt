@@ -18,7 +18,7 @@ pub mod InstParts
 pub mod InstRuns
 pub mod Standing
 pub mod Chains
-pub mod ConstantsAdded
+pub mod NewConstants
 pub mod LargerMachine
 pub mod Immediates
 pub mod Places

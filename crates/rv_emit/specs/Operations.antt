@@ -8,20 +8,20 @@ use Rattle.rv_machine.specs.declared.ops.AluOp.TheVariants.{Int}
 use Rattle.rv_machine.specs.declared.ops.IntOp.TheVariants as int
 use Rattle.rv_machine.specs.Opcodes.{JAL}
 use Rattle.rv_machine.specs.Layout.{compressed}
-use Rattle.rv_encode.specs.Operations.{row}
+use Rattle.rv_encode.specs.Operations.{decoded}
 pub use Rattle.rv_inst.specs.Forms.{jump_size}
 
 -- rd is rs plus an immediate
 abbrev pub decoded_addi : ℕ → ℕ → ℤ → Decoded
-decoded_addi rd rs imm = row (Alu (Int int.Addi)) rd rs 0 imm
+decoded_addi rd rs imm = decoded (Alu (Int int.Addi)) rd rs 0 imm
 
 -- to a register's address plus an immediate
 abbrev pub decoded_jalr : ℕ → ℕ → ℤ → Decoded
-decoded_jalr rd rs imm = row (Base base.Jalr) rd rs 0 imm
+decoded_jalr rd rs imm = decoded (Base base.Jalr) rd rs 0 imm
 
 -- a jump that doesn't link
 abbrev pub decoded_jump : ℤ → Decoded
-decoded_jump d = row (Base base.Jal) 0 0 0 d
+decoded_jump d = decoded (Base base.Jal) 0 0 0 d
 
 -- the same in the shortest form, which is c.j where there is one
 abbrev pub short_jump : IsaFlags → ℤ → Decoded
@@ -33,13 +33,13 @@ jump_word = JAL
 
 -- branches where two registers are equal, where they aren't, and where the first isn't less than the second, signed and unsigned
 abbrev pub decoded_beq : ℕ → ℕ → ℤ → Decoded
-decoded_beq rs1 rs2 d = row (Base base.Beq) 0 rs1 rs2 d
+decoded_beq rs1 rs2 d = decoded (Base base.Beq) 0 rs1 rs2 d
 
 abbrev pub decoded_bge : ℕ → ℕ → ℤ → Decoded
-decoded_bge rs1 rs2 d = row (Base base.Bge) 0 rs1 rs2 d
+decoded_bge rs1 rs2 d = decoded (Base base.Bge) 0 rs1 rs2 d
 
 abbrev pub decoded_bne : ℕ → ℕ → ℤ → Decoded
-decoded_bne rs1 rs2 d = row (Base base.Bne) 0 rs1 rs2 d
+decoded_bne rs1 rs2 d = decoded (Base base.Bne) 0 rs1 rs2 d
 
 abbrev pub decoded_bgeu : ℕ → ℕ → ℤ → Decoded
-decoded_bgeu rs1 rs2 d = row (Base base.Bgeu) 0 rs1 rs2 d
+decoded_bgeu rs1 rs2 d = decoded (Base base.Bgeu) 0 rs1 rs2 d

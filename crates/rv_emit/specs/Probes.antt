@@ -31,7 +31,7 @@ probe_turn flags tmp =
     decoded_bgeu tmp 31 (pos (probe_turn_size flags tmp + jump_size flags)) ∷ probe_op flags ∷ zero_op flags ∷ nearer_op flags tmp ∷ short_jump flags (pos 0 -ℤ pos (probe_turn_size flags tmp)) ∷ []
 
 -- each operation between the branch of a turn and its jump was chosen
-pub record IsTurn (flags : IsaFlags) (tmp : ℕ) (t : Turn) : Type 0 where
+pub record IsProbeTurn (flags : IsaFlags) (tmp : ℕ) (t : Turn) : Type 0 where
   pub probe : Holds flags t.probe (probe_op flags)
   pub zero : Holds flags t.zero (zero_op flags)
   pub nearer : Holds flags t.nearer (nearer_op flags tmp)

@@ -16,7 +16,7 @@ pub record AreIntRegisters (r : Registers) : Type 0 where
   pub rs : IsIntRegister r.rs
 
 -- each operation was chosen
-pub record IsTurn (flags : IsaFlags) (t : Turn) : Type 0 where
+pub record IsReversalTurn (flags : IsaFlags) (t : Turn) : Type 0 where
   pub registers : AreIntRegisters t.registers
   pub bit : Holds flags t.bit (bit_op flags (number_of t.registers.tmp.reg) (number_of t.registers.rs))
   pub set : Holds flags t.set (set_op flags (number_of t.registers.rd.reg) (number_of t.registers.tmp2.reg))

@@ -187,10 +187,10 @@ AreClosed here at (Address name addend ∷ slots) = AreClosed here (at + 8) slot
 AreClosed here at (CallTo name ops ∷ slots) = AreClosed here (at + 8) slots
 
 -- slots that use no own label but theirs
-abbrev pub IsBlock : List Slot → Type 0
-IsBlock slots = AreClosed (λ k. here_at k 0 slots) 0 slots
+abbrev pub AreSelfContained : List Slot → Type 0
+AreSelfContained slots = AreClosed (λ k. here_at k 0 slots) 0 slots
 
-abbrev pub AreBlocks : List Part → Type 0
-AreBlocks [] = Unit {0}
-AreBlocks (Ask space ∷ parts) = AreBlocks parts
-AreBlocks (Slots slots ∷ parts) = IsBlock slots × AreBlocks parts
+abbrev pub PartsAreSelfContained : List Part → Type 0
+PartsAreSelfContained [] = Unit {0}
+PartsAreSelfContained (Ask space ∷ parts) = PartsAreSelfContained parts
+PartsAreSelfContained (Slots slots ∷ parts) = AreSelfContained slots × PartsAreSelfContained parts

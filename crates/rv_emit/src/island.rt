@@ -1,4 +1,4 @@
-//! Islands: where one is needed, a jump over it, the veneers of all that is pending, and the constants that wait.
+//! Islands: where one is needed, a jump over it, the veneers of all that is pending, and the constants that don't stand yet.
 
 ghost use Rattle.std.specs.Prelude.{◌≡◌, ◌+◌, ◌*◌, ◌<◌, ◌^◌, length, IfOk, OnOk, OnErr, true};
 ghost use Rattle.rv_base.specs.LabelUse.{code_limit};
@@ -13,7 +13,7 @@ use mach_buffer::MachBuffer;
 use rv_base::OutOfMemory;
 use rv_inst::LabelUse;
 
-/// Puts an island where one is needed before so many bytes. Returns whether it did.
+/// Puts an island where one is needed before so many bytes. Returns whether one was put.
 pub fn emit_island_if_needed(
     sink: &mut MachBuffer<LabelUse>,
     distance: u32,

@@ -45,7 +45,7 @@ pub(crate) enum Place {
 }
 
 /// Where an address is in a frame. A constant is where its label is, which is got here, before any code that names it.
-pub(crate) fn place_of(
+pub(crate) fn resolved_address(
     sink: &mut MachBuffer<LabelUse>,
     frame: &FrameLayout,
     mode: AMode,

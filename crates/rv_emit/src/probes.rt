@@ -12,7 +12,7 @@ ghost use Rattle.rv_emit.specs.Emitted.{IsSoundBuffer};
 ghost use Rattle.rv_emit.specs.Emission.{PutsAlone};
 ghost use Rattle.rv_emit.specs.InstParts.{probe_slots};
 ghost use Rattle.rv_emit.specs.Operations.{decoded_bgeu};
-ghost use Rattle.rv_emit.specs.Probes.{IsTurn, probe_turn, probe_turn_size};
+ghost use Rattle.rv_emit.specs.Probes.{IsProbeTurn, probe_turn, probe_turn_size};
 ghost use Rattle.rv_emit.specs.Slots.{Op};
 
 use crate::compressed::{Encoded, encoded_rrr, encoded_store};
@@ -94,7 +94,7 @@ fn put_turn(
 /// The operations, each chosen once.
 fn turn_of(flags: IsaFlags, tmp: WritableReg) -> Turn
     requires { IsIntRegister tmp.reg }
-    ensures { IsTurn flags (number_of tmp.reg) result }
+    ensures { IsProbeTurn flags (number_of tmp.reg) result }
 {
     let left = writable_spilltmp_reg();
     let address = writable_spilltmp_reg2();
@@ -107,7 +107,7 @@ fn turn_of(flags: IsaFlags, tmp: WritableReg) -> Turn
 
 /// How long a turn is, up to its jump back.
 fn turn_size_of(flags: IsaFlags, tmp: WritableReg, turn: Turn) -> u8
-    requires { IsTurn flags (number_of tmp.reg) turn }
+    requires { IsProbeTurn flags (number_of tmp.reg) turn }
     ensures size { result ≡ probe_turn_size flags (number_of tmp.reg) }
     ensures even { result % 2 ≡ 0 }
     ensures few { result ≤ 16 }

@@ -14,7 +14,7 @@ ghost use Rattle.rv_emit.specs.Emission.{PutsAlone};
 ghost use Rattle.rv_emit.specs.InstParts.{reverse_slots};
 ghost use Rattle.rv_emit.specs.Loops.{reverse_start, reverse_test, reverse_down, reverse_turn_size};
 ghost use Rattle.rv_emit.specs.Operations.{decoded_bne};
-ghost use Rattle.rv_emit.specs.Reversal.{AreIntRegisters, IsTurn};
+ghost use Rattle.rv_emit.specs.Reversal.{AreIntRegisters, IsReversalTurn};
 ghost use Rattle.rv_emit.specs.Slots.{Op};
 
 use crate::compressed::{Encoded, encoded_rri, encoded_rrr};
@@ -129,7 +129,7 @@ fn put_start(
 
 /// The next bit is set where it is one; where none is left, the sequence ends.
 fn put_test(sink: &mut MachBuffer<LabelUse>, flags: IsaFlags, turn: Turn) -> Result<(), OutOfMemory>
-    requires turn { IsTurn flags turn }
+    requires turn { IsReversalTurn flags turn }
     requires room { length (bytes_of sink.old) + 16 < code_limit }
     requires sound { IsSoundBuffer sink.old }
     ensures slots { OnOk result (PutsAlone flags (map Op (reverse_test flags (number_of turn.registers.rd.reg) (number_of turn.registers.tmp.reg) (number_of turn.registers.tmp2.reg) (number_of turn.registers.step.reg) (number_of turn.registers.rs))) sink.old sink.new) }
@@ -145,7 +145,7 @@ fn put_test(sink: &mut MachBuffer<LabelUse>, flags: IsaFlags, turn: Turn) -> Res
 
 /// One bit less is left, and the one below is the next, which goes elsewhere.
 fn put_down(sink: &mut MachBuffer<LabelUse>, flags: IsaFlags, turn: Turn) -> Result<(), OutOfMemory>
-    requires turn { IsTurn flags turn }
+    requires turn { IsReversalTurn flags turn }
     requires room { length (bytes_of sink.old) + 36 < code_limit }
     requires sound { IsSoundBuffer sink.old }
     ensures slots { OnOk result (PutsAlone flags (map Op (reverse_down flags (number_of turn.registers.rd.reg) (number_of turn.registers.tmp.reg) (number_of turn.registers.tmp2.reg) (number_of turn.registers.step.reg) (number_of turn.registers.rs))) sink.old sink.new) }
@@ -169,7 +169,7 @@ fn put_down(sink: &mut MachBuffer<LabelUse>, flags: IsaFlags, turn: Turn) -> Res
 /// The operations, each chosen once.
 fn turn_of(flags: IsaFlags, registers: Registers) -> Turn
     requires { AreIntRegisters registers }
-    ensures turn { IsTurn flags result }
+    ensures turn { IsReversalTurn flags result }
     ensures same { result.registers ≡ registers }
 {
     let Registers {
@@ -197,7 +197,7 @@ fn turn_of(flags: IsaFlags, registers: Registers) -> Turn
 
 /// How long a turn is, up to its jump back.
 fn turn_size_of(flags: IsaFlags, turn: Turn) -> u8
-    requires { IsTurn flags turn }
+    requires { IsReversalTurn flags turn }
     ensures size { result ≡ reverse_turn_size flags (number_of turn.registers.rd.reg) (number_of turn.registers.tmp.reg) (number_of turn.registers.tmp2.reg) (number_of turn.registers.step.reg) (number_of turn.registers.rs) }
     ensures even { result % 2 ≡ 0 }
     ensures few { result ≤ 48 }

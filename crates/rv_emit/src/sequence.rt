@@ -33,7 +33,7 @@ use crate::calls::{put_call, put_call_ind};
 use crate::choices::{put_extend, put_select};
 use crate::compressed::number;
 use crate::expansions::{put_bytes, put_constant, put_trap, put_trap_if};
-use crate::memory::{place_of, put_address, put_label_address, put_load, put_store};
+use crate::memory::{put_address, put_label_address, put_load, put_store, resolved_address};
 use crate::popcnt::put_popcnt;
 use crate::probes::put_probe_loop;
 use crate::reverse::put_reverse;
@@ -229,7 +229,7 @@ fn put_memory(
             flags: access,
             from,
         } => {
-            let place = place_of(sink, frame, *from)?;
+            let place = resolved_address(sink, frame, *from)?;
             put_load(sink, flags, *rd, *op, access.trap_code(), place)
         }
         Inst::Store {
@@ -238,11 +238,11 @@ fn put_memory(
             flags: access,
             src,
         } => {
-            let place = place_of(sink, frame, *to)?;
+            let place = resolved_address(sink, frame, *to)?;
             put_store(sink, flags, *op, *src, access.trap_code(), place)
         }
         Inst::LoadAddr { rd, mem } => {
-            let place = place_of(sink, frame, *mem)?;
+            let place = resolved_address(sink, frame, *mem)?;
             put_address(sink, flags, *rd, place)
         }
         Inst::LabelAddress { dst, label } => put_label_address(sink, *dst, *label),

@@ -94,7 +94,7 @@ pub(crate) fn put_tail_jump(
     Ok(())
 }
 
-/// How many bytes it takes to take the frame away. Where they can't be measured for want of memory, the buffer is spoiled.
+/// How many bytes it takes to take the frame away. Where that is out of memory, the buffer is spoiled.
 fn measured(
     sink: &mut MachBuffer<LabelUse>,
     alloc: Global,

@@ -85,7 +85,7 @@ others_after {L} kinds b mid u after_island el eu ep =
     ∙ ap (λ c. deadlines test kinds (uses_of b) ++ cond c (deadline kinds u ∷ []) []) (own_idle kinds (place_of b) after_island u (ap (λ (l : MachLabel). l.number) el))
     ∙ append_none (deadlines test kinds (uses_of b))
 
--- an island, with room for the constants that still wait, ends near its jump and its veneers
+-- an island, with room for the constants that don't stand yet, ends near its jump and its veneers
 pub island_near : {L : Type 0} (kinds : Kinds L) (b mid new : MachBuffer L) {after_island : MachLabel} (u : Use L) (code : List ℕ) → length code ≡ 4 → u.label ≡ after_island → shape_of mid ≡ with_bytes code (with_use u (shape_of b)) → IsSound kinds mid → after_island.number < first_constant → Islanded kinds after_island (shape_of mid) (shape_of new) →
     length (bytes_of new) + reserve_of (shape_of new) ≤ length (bytes_of b) + 17 + 8 * length (pending_of kinds b) + reserve_of (shape_of b)
 island_near {L} kinds b mid new {after_island} u code four el same_shape sound low i =
@@ -156,9 +156,9 @@ module _ {L : Type 0} {kinds : Kinds L} where
       kept_bytes k new (take n code) sound same
       (slack_less (length (bytes_of b) + n) 30 (length (bytes_of b) + length (take n code)) 14 (pending_of kinds b) (let le = take_short n code in omega arith) slack)
 
-  -- a label is drawn
-  pub kept_drawn : {labels : ℕ} {b : MachBuffer L} → IsKept kinds labels b → (new : MachBuffer L) → IsSound kinds new → shape_of new ≡ with_allocated (shape_of b) → IsKept kinds labels new
-  kept_drawn {labels} {b} k new sound same =
+  -- a label is allocated
+  pub kept_allocated : {labels : ℕ} {b : MachBuffer L} → IsKept kinds labels b → (new : MachBuffer L) → IsSound kinds new → shape_of new ≡ with_allocated (shape_of b) → IsKept kinds labels new
+  kept_allocated {labels} {b} k new sound same =
       let eb : bytes_of new ≡ bytes_of b = ap (λ (x : Shape L). x.bytes) same in
       let eu : uses_of new ≡ uses_of b = ap (λ (x : Shape L). x.uses) same in
       let ep : place_of new ≡ place_of b = ap (λ (x : Shape L). x.place) same in

@@ -35,7 +35,7 @@ use Rattle.rv_emit.specs.InstParts.{parts_of}
 use Rattle.rv_inst.specs.Uses.{use_at, target_uses, uses_by, uses_in}
 use Rattle.rv_inst.specs.Sizes.{line_space, island_space, inst_sum}
 use Rattle.rv_emit_vectors.specs.Single.{are_first, are_first_by, names_first, IsStart, HoldsOne}
-use Rattle.rv_emit.proofs.Laws.{parts_put, are_blocks, appends_inst, Each, waits, each_none, each_more, uses_kinds, alone_longer, alone_pending}
+use Rattle.rv_emit.proofs.Laws.{parts_put, parts_are_self_contained, appends_inst, Each, pending_at, each_none, each_more, uses_kinds, alone_longer, alone_pending}
 
 -- ---- at the start
 
@@ -63,7 +63,7 @@ none_stand b none j c h = absurd (on (constants_of b) none h)
 -- ----
 
 start_pending : (b : Buffer) → IsStart b → pending b ≡ []
-start_pending b s = ap (deadlines (waits (place_of b)) label_kinds) s.uses
+start_pending b s = ap (deadlines (pending_at (place_of b)) label_kinds) s.uses
 
 start_windows : (b : Buffer) → IsStart b → HasWindows b
 start_windows b s =
@@ -103,7 +103,7 @@ can_start context inst b frame rule none s = record {
   room =
       let sum = plain_sum context inst none in
       let bytes : length (bytes_of b) ≡ 0 = ap (length {A = ℕ}) s.bytes in
-      let waiting : length (pending b) ≡ 0 = ap (length {A = ℕ}) (start_pending b s) in
+      let few_pending : length (pending b) ≡ 0 = ap (length {A = ℕ}) (start_pending b s) in
       let kept = none_kept (shape_of b) s.registered in
       omega arith;
 }
@@ -144,13 +144,13 @@ uses_first context start end inst h = by (try_call_of inst) h
 pub holds_one : (context : Context) (setting : EmitVState) (inst : Inst) (old new : Buffer) → inst_rule context inst ≡ None → island_space context inst ≡ None → IsStart old → EmitsIn context setting inst old new → CanReach (length (bytes_of new)) (pending new) → IsBounded context inst old new → HoldsOne inst new
 holds_one context setting inst old new rule none s e reach bounded = record {
   sound = p.adds.sound;
-  windows = (parts_put context.flags (parts_of context setting inst) old new (are_blocks context setting inst rule) s.sound (start_windows old s) (start_fields old s) e).windows;
+  windows = (parts_put context.flags (parts_of context setting inst) old new (parts_are_self_contained context setting inst rule) s.sound (start_windows old s) (start_fields old s) e).windows;
   reach = reach;
   allocated = p.adds.allocated ∙ s.allocated;
   registered = p.adds.registered ∙ s.registered;
   constants = p.adds.constants ∙ s.constants;
   long = let l = alone_longer context inst old new none bounded in let bytes : length (bytes_of old) ≡ 0 = ap (length {A = ℕ}) s.bytes in omega arith;
-  waiting = let w = alone_pending context inst old new none bounded in let waiting : length (pending old) ≡ 0 = ap (length {A = ℕ}) (start_pending old s) in omega arith;
+  few_pending = let w = alone_pending context inst old new none bounded in let few_pending : length (pending old) ≡ 0 = ap (length {A = ℕ}) (start_pending old s) in omega arith;
   kinds = λ j u h. uses_kinds context start end inst j u (own j u h);
   bound = λ first j u h. ap (λ n. is_some (place_of new n)) (uses_first context start end inst first j u (own j u h)) ∙ ap is_some (ap (λ (place : ℕ → Option ℕ). place 0) p.adds.places ∙ s.first);
 }
@@ -175,12 +175,12 @@ pub can_finish_one : (inst : Inst) (b : Buffer) → HoldsOne inst b → names_fi
 can_finish_one inst b one first =
     let near : length (before_last (bytes_of b) (length (pending b))) ≤ length (bytes_of b) + 3 = last_near (bytes_of b) (length (pending b)) in
     let long = one.long in
-    let waiting = one.waiting in
+    let few_pending = one.few_pending in
     record {
       windows = one.windows;
       bound = λ j u h. inl (one.bound first j u h);
       direct = λ j u h none near. absurd (⊎_elim (λ yes. true≢false (sym yes ∙ none)) (λ far. true≢false (sym far ∙ near)) (one.kinds j u h));
       reach = veneers_reach (length (before_last (bytes_of b) (length (pending b)))) (pending b) (reaches_from_slack (length (bytes_of b)) 14 (length (before_last (bytes_of b) (length (pending b)))) (pending b) (omega (arith, near)) (slack_from_reach (length (bytes_of b)) (pending b) one.reach));
-      short = let ends = none_ends b one.sound one.registered (last_end label_kinds (shape_of b)) in omega (arith, near, long, waiting, ends);
+      short = let ends = none_ends b one.sound one.registered (last_end label_kinds (shape_of b)) in omega (arith, near, long, few_pending, ends);
       constants = none_stand b one.constants;
     }

@@ -60,6 +60,6 @@ pub record HoldsOne (inst : Inst) (b : Buffer) : Type 0 where
   pub registered : registered_of b ≡ []
   pub constants : constants_of b ≡ []
   pub long : length (bytes_of b) ≤ 84
-  pub waiting : length (pending b) ≤ 2
+  pub few_pending : length (pending b) ≤ 2
   pub kinds : (j : ℕ) (u : Use LabelUse) → slice_get (uses_of b) j ≡ Some u → IsServed u
   pub bound : names_first inst ≡ true → (j : ℕ) (u : Use LabelUse) → slice_get (uses_of b) j ≡ Some u → is_some (place_of b u.label.number) ≡ true

@@ -16,7 +16,7 @@ use std::alloc::Global;
 use std::test::Fail;
 
 /// A use of one byte, and no bytes.
-fn noted(alloc: Global, label: MachLabel) -> Result<MachBuffer<Toy>, OutOfMemory>
+fn with_use(alloc: Global, label: MachLabel) -> Result<MachBuffer<Toy>, OutOfMemory>
     requires { label.number < first_inner }
     ensures empty { IfOk result (λ b. bytes_of b ≡ []) }
     ensures unbound { IfOk result (λ b. place_of b label.number ≡ None) }
@@ -30,14 +30,14 @@ fn noted(alloc: Global, label: MachLabel) -> Result<MachBuffer<Toy>, OutOfMemory
 }
 
 /// A use of one byte, and 200 bytes.
-fn waiting(alloc: Global, label: MachLabel) -> Result<MachBuffer<Toy>, OutOfMemory>
+fn with_use_and_bytes(alloc: Global, label: MachLabel) -> Result<MachBuffer<Toy>, OutOfMemory>
     requires { label.number < first_inner }
     ensures long { IfOk result (λ b. length (bytes_of b) ≡ 200) }
     ensures unbound { IfOk result (λ b. place_of b label.number ≡ None) }
     ensures allocated { IfOk result (λ b. allocated_of b ≡ 0) }
     ensures sound { IfOk result (λ b. IsSound ⟦<Toy as MachInstLabelUse>⟧.kinds b) }
 {
-    let mut buffer = noted(alloc, label)?;
+    let mut buffer = with_use(alloc, label)?;
     buffer.put2(0x1100)?;
     buffer.put4(0x22222222)?;
     buffer.put8(0x3333333333333333)?;
@@ -48,7 +48,7 @@ fn waiting(alloc: Global, label: MachLabel) -> Result<MachBuffer<Toy>, OutOfMemo
 /// Returns whether an island is needed before 16 bytes and before 17, and before 1000 once the label is bound.
 fn needed(alloc: Global) -> Result<[bool; 3], OutOfMemory> {
     let label = MachLabel::from_u32(5);
-    let mut buffer = waiting(alloc, label)?;
+    let mut buffer = with_use_and_bytes(alloc, label)?;
     let before_16 = buffer.island_needed(16);
     let before_17 = buffer.island_needed(17);
     buffer.bind_label(label)?;
@@ -67,7 +67,7 @@ pub const CODE_LIMIT: u64 = 2147479552;
 /// Returns whether there is room for one byte too many and for as many as may be, and for eight more once the label is bound.
 fn room_left(alloc: Global) -> Result<[bool; 3], OutOfMemory> {
     let label = MachLabel::from_u32(5);
-    let mut buffer = waiting(alloc, label)?;
+    let mut buffer = with_use_and_bytes(alloc, label)?;
     let too_many = buffer.has_room(CODE_LIMIT - 240);
     let most = buffer.has_room(CODE_LIMIT - 1 - 240);
     buffer.bind_label(label)?;
@@ -83,7 +83,7 @@ fn room_is_left_by_the_rule(rt: HostRuntime) -> Result<(), OutOfMemory> {
 /// Where the code ends, and where the label stands before it is bound and then.
 fn places(alloc: Global) -> Result<(u32, [Option<u32>; 2]), OutOfMemory> {
     let label = MachLabel::from_u32(5);
-    let mut buffer = waiting(alloc, label)?;
+    let mut buffer = with_use_and_bytes(alloc, label)?;
     let end = buffer.cur_offset();
     let before = buffer.label_offset(label);
     buffer.bind_label(label)?;
@@ -96,8 +96,8 @@ fn labels_are_bound_at_the_end(rt: HostRuntime) -> Result<(), OutOfMemory> {
     Ok(())
 }
 
-/// What a buffer answers to branches that are reported to it.
-fn told_of_branches(buffer: &mut MachBuffer<Toy>) -> [Result<(), OutOfMemory>; 2] {
+/// What a buffer returns for branches that are reported to it.
+fn reported_branches(buffer: &mut MachBuffer<Toy>) -> [Result<(), OutOfMemory>; 2] {
     let label = MachLabel::from_u32(5);
     [
         buffer.add_uncond_branch(196, 200, label),
@@ -105,29 +105,29 @@ fn told_of_branches(buffer: &mut MachBuffer<Toy>) -> [Result<(), OutOfMemory>; 2
     ]
 }
 
-/// What a buffer answers to branches, and where its code ends then.
+/// What a buffer returns for branches, and where its code ends then.
 fn branches(alloc: Global) -> Result<([Result<(), OutOfMemory>; 2], u32), OutOfMemory> {
-    let mut buffer = waiting(alloc, MachLabel::from_u32(5))?;
-    let answers = told_of_branches(&mut buffer);
-    Ok((answers, buffer.cur_offset()))
+    let mut buffer = with_use_and_bytes(alloc, MachLabel::from_u32(5))?;
+    let results = reported_branches(&mut buffer);
+    Ok((results, buffer.cur_offset()))
 }
 
 #[test]
 fn branches_put_nothing(rt: HostRuntime) -> Result<(), OutOfMemory> {
-    let (answers, end) = branches(rt.alloc())?;
-    assert_eq!(rt; answers, [Ok(()); 2]);
+    let (results, end) = branches(rt.alloc())?;
+    assert_eq!(rt; results, [Ok(()); 2]);
     assert_eq!(rt; end, 200);
     Ok(())
 }
 
-/// What a spoiled buffer answers to no constants, and to branches.
+/// What a spoiled buffer returns for no constants, and to branches.
 fn refusals(
     alloc: Global,
 ) -> Result<(Result<(), OutOfMemory>, [Result<(), OutOfMemory>; 2]), OutOfMemory> {
-    let mut buffer = waiting(alloc, MachLabel::from_u32(5))?;
+    let mut buffer = with_use_and_bytes(alloc, MachLabel::from_u32(5))?;
     buffer.spoil();
     let constants = buffer.register_constants(&[]);
-    Ok((constants, told_of_branches(&mut buffer)))
+    Ok((constants, reported_branches(&mut buffer)))
 }
 
 #[test]
@@ -211,7 +211,7 @@ ghost use Rattle.mach_buffer.specs.Shape.{inner_count, IsUsable};
 ghost use Rattle.mach_buffer.specs.Constants.{reserve_of};
 ghost use Rattle.rv_emit_vectors.specs.Kept.{IsMet, IsKept, IsOneByte};
 
-/// Puts a jump of four bytes round an island, and the island.
+/// Puts a jump of four bytes over an island, and the island.
 fn put_jump<L: MachInstLabelUse>(buffer: &mut MachBuffer<L>, kind: L) -> Result<(), OutOfMemory>
     requires kind { IsOneByte L.kinds kind }
     requires kept { IsKept L.kinds 4 buffer.old }
@@ -231,7 +231,7 @@ fn put_jump<L: MachInstLabelUse>(buffer: &mut MachBuffer<L>, kind: L) -> Result<
 }
 
 /// Makes an island where one is needed before so many bytes, and notes where it stands.
-pub fn make_way<L: MachInstLabelUse>(
+pub fn emit_due_island<L: MachInstLabelUse>(
     buffer: &mut MachBuffer<L>,
     kind: L,
     distance: u32,
@@ -270,7 +270,7 @@ fn fill<L: MachInstLabelUse>(
     if count > 250 || count % 2 != 0 {
         return Err(Fail::new("an odd count of filler bytes, or more than 250"));
     }
-    make_way(buffer, kind, count, islands)?;
+    emit_due_island(buffer, kind, count, islands)?;
     let bytes = [0x44; 250];
     buffer.put_data(&bytes[..count as usize])?;
     Ok(())
@@ -312,7 +312,7 @@ fn put_use<L: MachInstLabelUse>(
     if label >= 4 {
         return Err(Fail::new("none of the four labels"));
     }
-    make_way(buffer, kind, 2, islands)?;
+    emit_due_island(buffer, kind, 2, islands)?;
     put_window(buffer, kind, MachLabel::from_u32(label))?;
     Ok(())
 }
@@ -330,7 +330,7 @@ fn put_name<L: MachInstLabelUse>(
     ensures kept { OnOk result (IsKept L.kinds 4 buffer.new) }
     ensures registered { OnOk result (registered_of buffer.new ≡ registered_of buffer.old) }
 {
-    make_way(buffer, kind, 2, islands)?;
+    emit_due_island(buffer, kind, 2, islands)?;
     let label = buffer.get_label_for_constant(constant)?;
     put_window(buffer, kind, label)?;
     Ok(())
@@ -413,7 +413,7 @@ pub fn put_item<L: MachInstLabelUse>(
             if label >= 4 {
                 return Err(Fail::new("none of the four labels"));
             }
-            make_way(buffer, kind, 0, islands)?;
+            emit_due_island(buffer, kind, 0, islands)?;
             bind(buffer, label)?;
             Ok(())
         }
@@ -445,7 +445,7 @@ fn bind_each<L: MachInstLabelUse>(buffer: &mut MachBuffer<L>) -> Result<(), OutO
 }
 
 /// Binds each label that is not bound, and finishes.
-fn end<L: MachInstLabelUse>(
+fn bind_and_finish<L: MachInstLabelUse>(
     mut buffer: MachBuffer<L>,
     constants: &[Constant],
 ) -> Result<Finished, Fail>
@@ -491,5 +491,5 @@ pub fn assemble<L: MachInstLabelUse>(
     for item in items {
         put_item(alloc, &mut buffer, kind, constants, *item, islands)?;
     }
-    end(buffer, constants)
+    bind_and_finish(buffer, constants)
 }

@@ -1,7 +1,7 @@
 //! Where the constants stand that code in a buffer names.
 
 use crate::buffer::Item::{Fill, Name, Use};
-use crate::buffer::{CODE_LIMIT, Item, assemble, empty, make_way, put_item};
+use crate::buffer::{CODE_LIMIT, Item, assemble, emit_due_island, empty, put_item};
 use crate::toy::Toy;
 use rv_base::{ConstAlign, Constant, List, OutOfMemory};
 use std::alloc::Global;
@@ -92,7 +92,7 @@ const POOLS: [Pool; 8] = [
         at: 0,
         bytes: b"\x06\x11\x09\x11\x0c\x11\x0f\x11\x12\x11\x15\x11\x34\x00\x00\x00\xee\xee\xee\xee\x34\x00\x00\x00\xee\xee\xee\xee\x30\x00\x00\x00\xee\xee\xee\xee\x1c\x00\x00\x00\xee\xee\xee\xee\x24\x00\x00\x00\xee\xee\xee\xee\x22\x00\x00\x00\xee\xee\xee\xee\x00\x00\x00\x00\xc3\xc3\xc3\xc3\xc3\xc3\xc3\x00\xc0\x00\x00\x00\xc4\xc4\xc4\xc4\xc1\xc1\xc1\xc1\xc1\x00\xc2\xc2\xc2",
     },
-    // A jump at 2 round an island, which has a veneer at 8 and a constant at 16, and ends at 24.
+    // A jump at 2 over an island, which has a veneer at 8 and a constant at 16, and ends at 24.
     Pool {
         items: &[Name(1), Fill(216), Name(2), Name(1)],
         long: 255,
@@ -190,7 +190,7 @@ fn room_for_constants(alloc: Global) -> Result<[bool; 4], Fail> {
         &mut islands,
     )?;
     // The constant stands from 16 to 21, and the island ends at 24.
-    make_way(&mut buffer, Toy::Short, 250, &mut islands)?;
+    emit_due_island(&mut buffer, Toy::Short, 250, &mut islands)?;
     let more = buffer.has_room(CODE_LIMIT - 75);
     Ok([too_many, most, more, buffer.has_room(CODE_LIMIT - 76)])
 }

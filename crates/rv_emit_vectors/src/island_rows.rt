@@ -101,7 +101,7 @@ const AIMS: [Aim; 4] = [
         at: 0,
         bytes: b"\x02\x11\x44\x44",
     },
-    // A jump at 2 round an island, whose veneer at 8 goes to 232.
+    // A jump at 2 over an island, whose veneer at 8 goes to 232.
     Aim {
         items: &[Use(0), Fill(216)],
         at: 0,

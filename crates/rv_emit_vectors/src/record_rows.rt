@@ -1,4 +1,4 @@
-//! What a finished buffer tells of its records: relocations, traps and steps in the making of the frame. The offsets are counted by
+//! What a finished buffer has of its records: relocations, traps and steps in the making of the frame. The offsets are counted by
 //! hand from the bytes of the items.
 
 use crate::buffer::Item::{Bind, Fill, Record, Use};

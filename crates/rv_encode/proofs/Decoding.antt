@@ -27,7 +27,7 @@ use Rattle.rv_machine.specs.Tables.{branch_entry, load_entry, store_entry}
 use Rattle.rv_machine.specs.Decode.{decode, by_opcode}
 use Rattle.rv_machine.proofs.DecodeLaws.{decode_wide}
 use Rattle.rv_encode.specs.Layouts.{IsRType, IsIType, IsSType, IsBType, IsUType, IsJType}
-use Rattle.rv_encode.specs.Operations.{row, decoded_rrr, decoded_rri, decoded_branch, decoded_load, decoded_store}
+use Rattle.rv_encode.specs.Operations.{decoded, decoded_rrr, decoded_rri, decoded_branch, decoded_load, decoded_store}
 use Rattle.rv_encode.proofs.Numbers.{signed-low_bits}
 use Rattle.rv_encode.proofs.Tables.{rrr_fields, rri_fields, branch_table, load_table, store_table}
 
@@ -50,49 +50,49 @@ rrr_straight flags op w rd rs1 rs2 straight h = rw straight (opcode_decodes flag
 pub rrr_exchanged : (flags : IsaFlags) (op : AluOPRRR) (w rd rs1 rs2 : ℕ) → is_exchanged op ≡ true → IsRType w (rrr_numbers op).opcode rd (rrr_numbers op).funct3 rs2 rs1 (rrr_numbers op).funct7 → decode flags w ≡ Some (decoded_rrr op rd rs1 rs2)
 rrr_exchanged flags op w rd rs1 rs2 exchanged h = rw exchanged (opcode_decodes flags w _ h.opcode_is (rrr_wide op) ∙ rrr_fields op w rd rs2 rs1 h)
 
-pub rri_decodes : (flags : IsaFlags) (op : AluOPRRI) (w rd rs : ℕ) (imm : Imm12) → IsIType w (rri_numbers op).opcode rd (rri_numbers op).funct3 rs (imm12_of (rri_numbers op).number (low_bits (2 ^ 12) imm.value)) → decode flags w ≡ Some (decoded_rri op rd rs imm.value)
+pub rri_decodes : (flags : IsaFlags) (op : AluOPRRI) (w rd rs : ℕ) (imm : Imm12) → IsIType w (rri_numbers op).opcode rd (rri_numbers op).funct3 rs (imm12_of (rri_numbers op).upper (low_bits (2 ^ 12) imm.value)) → decode flags w ≡ Some (decoded_rri op rd rs imm.value)
 rri_decodes flags op w rd rs imm h = opcode_decodes flags w _ h.opcode_is (rri_wide op) ∙ rri_fields op w rd rs imm.value (omega (arith, ints)) (omega (arith, ints)) h
 
 upper_imm : (w : ℕ) (imm : Imm20) → u_bits w ≡ low_bits (2 ^ 20) imm.value → u_imm w ≡ imm.value
 upper_imm w imm h = ap (signed (2 ^ 19)) h ∙ signed-low_bits (2 ^ 19) imm.value (omega (arith, ints)) (omega (arith, ints))
 
-pub lui_decodes : (flags : IsaFlags) (w rd : ℕ) (imm : Imm20) → IsUType w LUI rd (low_bits (2 ^ 20) imm.value) → decode flags w ≡ Some (row (Base base.Lui) rd 0 0 imm.value)
-lui_decodes flags w rd imm h = opcode_decodes flags w LUI h.opcode_is refl ∙ (λ i. Some (row (Base base.Lui) (h.rd_is i) 0 0 (upper_imm w imm h.imm_is i)))
+pub lui_decodes : (flags : IsaFlags) (w rd : ℕ) (imm : Imm20) → IsUType w LUI rd (low_bits (2 ^ 20) imm.value) → decode flags w ≡ Some (decoded (Base base.Lui) rd 0 0 imm.value)
+lui_decodes flags w rd imm h = opcode_decodes flags w LUI h.opcode_is refl ∙ (λ i. Some (decoded (Base base.Lui) (h.rd_is i) 0 0 (upper_imm w imm h.imm_is i)))
 
-pub auipc_decodes : (flags : IsaFlags) (w rd : ℕ) (imm : Imm20) → IsUType w AUIPC rd (low_bits (2 ^ 20) imm.value) → decode flags w ≡ Some (row (Base base.Auipc) rd 0 0 imm.value)
-auipc_decodes flags w rd imm h = opcode_decodes flags w AUIPC h.opcode_is refl ∙ (λ i. Some (row (Base base.Auipc) (h.rd_is i) 0 0 (upper_imm w imm h.imm_is i)))
+pub auipc_decodes : (flags : IsaFlags) (w rd : ℕ) (imm : Imm20) → IsUType w AUIPC rd (low_bits (2 ^ 20) imm.value) → decode flags w ≡ Some (decoded (Base base.Auipc) rd 0 0 imm.value)
+auipc_decodes flags w rd imm h = opcode_decodes flags w AUIPC h.opcode_is refl ∙ (λ i. Some (decoded (Base base.Auipc) (h.rd_is i) 0 0 (upper_imm w imm h.imm_is i)))
 
 i_imm_is : (w : ℕ) (imm : Imm12) → i_bits w ≡ low_bits (2 ^ 12) imm.value → i_imm w ≡ imm.value
 i_imm_is w imm h = ap (signed (2 ^ 11)) h ∙ signed-low_bits (2 ^ 11) imm.value (omega (arith, ints)) (omega (arith, ints))
 
-pub jalr_decodes : (flags : IsaFlags) (w rd rs : ℕ) (imm : Imm12) → IsIType w JALR rd 0 rs (low_bits (2 ^ 12) imm.value) → decode flags w ≡ Some (row (Base base.Jalr) rd rs 0 imm.value)
+pub jalr_decodes : (flags : IsaFlags) (w rd rs : ℕ) (imm : Imm12) → IsIType w JALR rd 0 rs (low_bits (2 ^ 12) imm.value) → decode flags w ≡ Some (decoded (Base base.Jalr) rd rs 0 imm.value)
 jalr_decodes flags w rd rs imm h =
-    opcode_decodes flags w JALR h.opcode_is refl ∙ (λ i. if h.funct3_is i == 0 then Some (row (Base base.Jalr) (h.rd_is i) (h.rs1_is i) 0 (i_imm_is w imm h.imm_is i)) else None)
+    opcode_decodes flags w JALR h.opcode_is refl ∙ (λ i. if h.funct3_is i == 0 then Some (decoded (Base base.Jalr) (h.rd_is i) (h.rs1_is i) 0 (i_imm_is w imm h.imm_is i)) else None)
 
 pub load_decodes : (flags : IsaFlags) (op : LoadOP) (w rd rs : ℕ) (imm : Imm12) → IsIType w LOAD rd (load_funct3 op) rs (low_bits (2 ^ 12) imm.value) → decode flags w ≡ Some (decoded_load op rd rs imm.value)
 load_decodes flags op w rd rs imm h =
     opcode_decodes flags w LOAD h.opcode_is refl
-    ∙ (λ i. option_map (λ op. row (Load op) (h.rd_is i) (h.rs1_is i) 0 (i_imm_is w imm h.imm_is i)) (load_entry (h.funct3_is i)))
-    ∙ ap (option_map (λ op. row (Load op) rd rs 0 imm.value)) (load_table op)
+    ∙ (λ i. option_map (λ op. decoded (Load op) (h.rd_is i) (h.rs1_is i) 0 (i_imm_is w imm h.imm_is i)) (load_entry (h.funct3_is i)))
+    ∙ ap (option_map (λ op. decoded (Load op) rd rs 0 imm.value)) (load_table op)
 
 pub store_decodes : (flags : IsaFlags) (op : StoreOP) (w rs1 rs2 : ℕ) (imm : Imm12) → IsSType w STORE (store_funct3 op) rs1 rs2 (low_bits (2 ^ 12) imm.value) → decode flags w ≡ Some (decoded_store op rs1 rs2 imm.value)
 store_decodes flags op w rs1 rs2 imm h =
     let value : s_imm w ≡ imm.value = ap (signed (2 ^ 11)) h.imm_is ∙ signed-low_bits (2 ^ 11) imm.value (omega (arith, ints)) (omega (arith, ints)) in
     opcode_decodes flags w STORE h.opcode_is refl
-    ∙ (λ i. option_map (λ op. row (Store op) 0 (h.rs1_is i) (h.rs2_is i) (value i)) (store_entry (h.funct3_is i)))
-    ∙ ap (option_map (λ op. row (Store op) 0 rs1 rs2 imm.value)) (store_table op)
+    ∙ (λ i. option_map (λ op. decoded (Store op) 0 (h.rs1_is i) (h.rs2_is i) (value i)) (store_entry (h.funct3_is i)))
+    ∙ ap (option_map (λ op. decoded (Store op) 0 rs1 rs2 imm.value)) (store_table op)
 
-pub jal_decodes : (flags : IsaFlags) (w rd : ℕ) (d : ℤ) → d <ℤ pos (2 ^ 20) → neg_ℤ (pos (2 ^ 20)) ≤ℤ d → IsJType w JAL rd (low_bits (2 ^ 21) d) → decode flags w ≡ Some (row (Base base.Jal) rd 0 0 d)
+pub jal_decodes : (flags : IsaFlags) (w rd : ℕ) (d : ℤ) → d <ℤ pos (2 ^ 20) → neg_ℤ (pos (2 ^ 20)) ≤ℤ d → IsJType w JAL rd (low_bits (2 ^ 21) d) → decode flags w ≡ Some (decoded (Base base.Jal) rd 0 0 d)
 jal_decodes flags w rd d up low h =
     let value : j_imm w ≡ d = ap (signed (2 ^ 20)) h.imm_is ∙ signed-low_bits (2 ^ 20) d up low in
-    opcode_decodes flags w JAL h.opcode_is refl ∙ (λ i. Some (row (Base base.Jal) (h.rd_is i) 0 0 (value i)))
+    opcode_decodes flags w JAL h.opcode_is refl ∙ (λ i. Some (decoded (Base base.Jal) (h.rd_is i) 0 0 (value i)))
 
 pub branch_decodes : (flags : IsaFlags) (w : ℕ) (c : IntegerCompare) (d : ℤ) → d <ℤ pos (2 ^ 12) → neg_ℤ (pos (2 ^ 12)) ≤ℤ d → IsBType w BRANCH (funct3_of (branch_of c.kind)) (number_of (rs1_of c)) (number_of (rs2_of c)) (low_bits (2 ^ 13) d) → decode flags w ≡ Some (decoded_branch c d)
 branch_decodes flags w c d up low h =
     let value : b_imm w ≡ d = ap (signed (2 ^ 12)) h.imm_is ∙ signed-low_bits (2 ^ 12) d up low in
     opcode_decodes flags w BRANCH h.opcode_is refl
-    ∙ (λ i. option_map (λ op. row (Base op) 0 (h.rs1_is i) (h.rs2_is i) (value i)) (branch_entry (h.funct3_is i)))
-    ∙ ap (option_map (λ op. row (Base op) 0 (number_of (rs1_of c)) (number_of (rs2_of c)) d)) (branch_table (branch_of c.kind))
+    ∙ (λ i. option_map (λ op. decoded (Base op) 0 (h.rs1_is i) (h.rs2_is i) (value i)) (branch_entry (h.funct3_is i)))
+    ∙ ap (option_map (λ op. decoded (Base op) 0 (number_of (rs1_of c)) (number_of (rs2_of c)) d)) (branch_table (branch_of c.kind))
 
 pub ebreak_decodes : (flags : IsaFlags) (w : ℕ) → IsIType w SYSTEM 0 0 0 1 → decode flags w ≡ Some (bare_form (Base base.Ebreak))
 ebreak_decodes flags w h =

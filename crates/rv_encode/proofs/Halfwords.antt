@@ -30,7 +30,7 @@ use Rattle.rv_ops.specs.declared.compressed.CsznOp.{CsznOp}
 use Rattle.rv_ops.specs.declared.compressed.CsznOp.TheVariants as cszn
 use Rattle.rv_ops.specs.Compressed.{space_bits, cr_space, cr_funct4, ca_space, ca_funct2, ca_funct6, cj_space, cj_funct3, ci_space, ci_funct3, ciw_space, ciw_funct3, cb_space, cb_funct3, cb_funct2, cszn_space, cszn_funct6, cszn_funct5}
 use Rattle.rv_encode.specs.Layouts.{IsCrType, IsCaType, IsCjType, IsCiType, IsCiwType, IsCbType, IsCuType, cj_low_of, cj_high_of}
-use Rattle.rv_encode.specs.Compressed.{DecodesCr, DecodesCr2, ca_op, ca_needs, DecodesCi, cb_row, cszn_row, cszn_needs}
+use Rattle.rv_encode.specs.Compressed.{DecodesCr, DecodesCr2, ca_op, ca_needs, DecodesCi, decoded_cb, decoded_cszn, cszn_needs}
 use Rattle.rv_encode.proofs.Numbers.{signed-low_bits, low_bits_nonzero, signed_sixteens}
 
 -- ---- tests
@@ -208,7 +208,7 @@ ciw_decodes flags ciw.CAddi4spn half rd imm zca some h = quadrant_decodes flags 
 
 -- ---- CB
 
-pub cb_decodes : (flags : IsaFlags) (op : CbOp) (half rd : ℕ) (imm : Imm6) → flags.has_zca ≡ true → IsCbType half (space_bits (cb_space op)) (low_bits (2 ^ 6) imm.value) rd (cb_funct2 op) (cb_funct3 op) → decode_half flags half ≡ Some (cb_row op (8 + rd) imm.value)
+pub cb_decodes : (flags : IsaFlags) (op : CbOp) (half rd : ℕ) (imm : Imm6) → flags.has_zca ≡ true → IsCbType half (space_bits (cb_space op)) (low_bits (2 ^ 6) imm.value) rd (cb_funct2 op) (cb_funct3 op) → decode_half flags half ≡ Some (decoded_cb op (8 + rd) imm.value)
 cb_decodes flags cb.CSrli half rd imm zca h = quadrant_decodes flags half _ zca h.op_is ∙ rw (h.funct3_is, h.funct2_is, h.rd_is, h.imm_is)
 cb_decodes flags cb.CSrai half rd imm zca h = quadrant_decodes flags half _ zca h.op_is ∙ rw (h.funct3_is, h.funct2_is, h.rd_is, h.imm_is)
 cb_decodes flags cb.CAndi half rd imm zca h = quadrant_decodes flags half _ zca h.op_is ∙ rw (h.funct3_is, h.funct2_is, h.rd_is, ci_imm_is half imm h.imm_is)
@@ -227,7 +227,7 @@ cu_decodes flags half funct5 rd needs h among =
     let (zca, zcb) = both flags.has_zca flags.has_zcb needs in
     quadrant_decodes flags half _ zca h.op_is ∙ rw (f.funct3_is, f.bits11_is, f.bit12_is, high, zcb)
 
-pub cszn_decodes : (flags : IsaFlags) (op : CsznOp) (half rd : ℕ) → cszn_needs flags op ≡ true → IsCuType half (space_bits (cszn_space op)) (cszn_funct5 op) rd (cszn_funct6 op) → decode_half flags half ≡ Some (cszn_row op (8 + rd))
+pub cszn_decodes : (flags : IsaFlags) (op : CsznOp) (half rd : ℕ) → cszn_needs flags op ≡ true → IsCuType half (space_bits (cszn_space op)) (cszn_funct5 op) rd (cszn_funct6 op) → decode_half flags half ≡ Some (decoded_cszn op (8 + rd))
 cszn_decodes flags cszn.CZextb half rd needs h = cu_decodes flags half _ rd needs h refl ∙ rw (low_of half _ h.funct5_is, h.rd_is)
 cszn_decodes flags cszn.CSextb half rd needs h =
     let (zcb, zbb) = both (flags.has_zca && flags.has_zcb) flags.has_zbb needs in

@@ -18,47 +18,47 @@ use Rattle.rv_ops.specs.declared.memory.LoadOP.{LoadOP}
 use Rattle.rv_ops.specs.declared.memory.LoadOP.TheVariants as loads
 use Rattle.rv_ops.specs.Compressed.{space_bits, ci_space, ci_funct3, css_space, css_funct3, cs_space, cs_funct3, cl_space, cl_funct3, zcb_space, zcb_funct6}
 use Rattle.rv_encode.specs.Layouts.{IsCiType, IsCssType, IsClType, IsClbType, IsClhType}
-use Rattle.rv_encode.specs.Compressed.{sp_load, sp_load_row, css_row, cs_row, cl_row, zcb_row, zcb_needs}
+use Rattle.rv_encode.specs.Compressed.{sp_load, decoded_sp_load, decoded_css, decoded_cs, decoded_cl, decoded_zcb, zcb_needs}
 use Rattle.rv_encode.proofs.Halfwords.{quadrant_decodes, quadrant_is, two_guards, nonzero, both}
 
 -- ---- past the stack pointer
 
-pub lwsp_decodes : (flags : IsaFlags) (op : CiOp) (load : LoadOP) (half rd n : ℕ) → op ≡ ci.CLwsp → flags.has_zca ≡ true → sp_load op ≡ Some load → 0 < rd → IsCiType lwsp_imm half (space_bits (ci_space op)) (4 * n) rd (ci_funct3 op) → decode_half flags half ≡ Some (sp_load_row load rd n)
+pub lwsp_decodes : (flags : IsaFlags) (op : CiOp) (load : LoadOP) (half rd n : ℕ) → op ≡ ci.CLwsp → flags.has_zca ≡ true → sp_load op ≡ Some load → 0 < rd → IsCiType lwsp_imm half (space_bits (ci_space op)) (4 * n) rd (ci_funct3 op) → decode_half flags half ≡ Some (decoded_sp_load load rd n)
 lwsp_decodes flags ci.CLwsp loads.Lw half rd n is zca loaded some h = quadrant_decodes flags half _ zca h.op_is ∙ rw (h.funct3_is, h.rd_is, nonzero rd some, h.imm_is)
 lwsp_decodes flags ci.CLwsp _ half rd n is zca loaded some h = absurd (cc)
 lwsp_decodes flags _ load half rd n is zca loaded some h = absurd (cc)
 
-pub ldsp_decodes : (flags : IsaFlags) (op : CiOp) (load : LoadOP) (half rd n : ℕ) → op ≢ ci.CLwsp → flags.has_zca ≡ true → sp_load op ≡ Some load → 0 < rd → IsCiType ldsp_imm half (space_bits (ci_space op)) (8 * n) rd (ci_funct3 op) → decode_half flags half ≡ Some (sp_load_row load rd n)
+pub ldsp_decodes : (flags : IsaFlags) (op : CiOp) (load : LoadOP) (half rd n : ℕ) → op ≢ ci.CLwsp → flags.has_zca ≡ true → sp_load op ≡ Some load → 0 < rd → IsCiType ldsp_imm half (space_bits (ci_space op)) (8 * n) rd (ci_funct3 op) → decode_half flags half ≡ Some (decoded_sp_load load rd n)
 ldsp_decodes flags ci.CLdsp loads.Ld half rd n other zca loaded some h = quadrant_decodes flags half _ zca h.op_is ∙ rw (h.funct3_is, h.rd_is, nonzero rd some, h.imm_is)
 ldsp_decodes flags ci.CLdsp _ half rd n other zca loaded some h = absurd (cc)
 ldsp_decodes flags ci.CLwsp load half rd n other zca loaded some h = absurd (other refl)
 ldsp_decodes flags _ load half rd n other zca loaded some h = absurd (cc)
 
-pub swsp_decodes : (flags : IsaFlags) (op : CssOp) (half rs2 n : ℕ) → op ≡ css.CSwsp → flags.has_zca ≡ true → IsCssType swsp_imm half (space_bits (css_space op)) rs2 (4 * n) (css_funct3 op) → decode_half flags half ≡ Some (css_row op rs2 n)
+pub swsp_decodes : (flags : IsaFlags) (op : CssOp) (half rs2 n : ℕ) → op ≡ css.CSwsp → flags.has_zca ≡ true → IsCssType swsp_imm half (space_bits (css_space op)) rs2 (4 * n) (css_funct3 op) → decode_half flags half ≡ Some (decoded_css op rs2 n)
 swsp_decodes flags css.CSwsp half rs2 n is zca h = quadrant_decodes flags half _ zca h.op_is ∙ rw (h.funct3_is, h.rs2_is, h.imm_is)
 swsp_decodes flags css.CSdsp half rs2 n is zca h = absurd (cc)
 
-pub sdsp_decodes : (flags : IsaFlags) (op : CssOp) (half rs2 n : ℕ) → op ≡ css.CSdsp → flags.has_zca ≡ true → IsCssType sdsp_imm half (space_bits (css_space op)) rs2 (8 * n) (css_funct3 op) → decode_half flags half ≡ Some (css_row op rs2 n)
+pub sdsp_decodes : (flags : IsaFlags) (op : CssOp) (half rs2 n : ℕ) → op ≡ css.CSdsp → flags.has_zca ≡ true → IsCssType sdsp_imm half (space_bits (css_space op)) rs2 (8 * n) (css_funct3 op) → decode_half flags half ≡ Some (decoded_css op rs2 n)
 sdsp_decodes flags css.CSwsp half rs2 n is zca h = absurd (cc)
 sdsp_decodes flags css.CSdsp half rs2 n is zca h = quadrant_decodes flags half _ zca h.op_is ∙ rw (h.funct3_is, h.rs2_is, h.imm_is)
 
 -- ---- CL
 
-pub lw_decodes : (flags : IsaFlags) (op : ClOp) (half rd rs1 n : ℕ) → op ≡ cl.CLw → flags.has_zca ≡ true → IsClType lw_imm half (space_bits (cl_space op)) rd (4 * n) rs1 (cl_funct3 op) → decode_half flags half ≡ Some (cl_row op (8 + rd) (8 + rs1) n)
+pub lw_decodes : (flags : IsaFlags) (op : ClOp) (half rd rs1 n : ℕ) → op ≡ cl.CLw → flags.has_zca ≡ true → IsClType lw_imm half (space_bits (cl_space op)) rd (4 * n) rs1 (cl_funct3 op) → decode_half flags half ≡ Some (decoded_cl op (8 + rd) (8 + rs1) n)
 lw_decodes flags cl.CLw half rd rs1 n is zca h = quadrant_decodes flags half _ zca h.op_is ∙ rw (h.funct3_is, h.r_is, h.rs1_is, h.imm_is)
 lw_decodes flags cl.CLd half rd rs1 n is zca h = absurd (cc)
 
-pub ld_decodes : (flags : IsaFlags) (op : ClOp) (half rd rs1 n : ℕ) → op ≡ cl.CLd → flags.has_zca ≡ true → IsClType ld_imm half (space_bits (cl_space op)) rd (8 * n) rs1 (cl_funct3 op) → decode_half flags half ≡ Some (cl_row op (8 + rd) (8 + rs1) n)
+pub ld_decodes : (flags : IsaFlags) (op : ClOp) (half rd rs1 n : ℕ) → op ≡ cl.CLd → flags.has_zca ≡ true → IsClType ld_imm half (space_bits (cl_space op)) rd (8 * n) rs1 (cl_funct3 op) → decode_half flags half ≡ Some (decoded_cl op (8 + rd) (8 + rs1) n)
 ld_decodes flags cl.CLw half rd rs1 n is zca h = absurd (cc)
 ld_decodes flags cl.CLd half rd rs1 n is zca h = quadrant_decodes flags half _ zca h.op_is ∙ rw (h.funct3_is, h.r_is, h.rs1_is, h.imm_is)
 
 -- ---- CS
 
-pub sw_decodes : (flags : IsaFlags) (op : CsOp) (half rs2 rs1 n : ℕ) → op ≡ cs.CSw → flags.has_zca ≡ true → IsClType lw_imm half (space_bits (cs_space op)) rs2 (4 * n) rs1 (cs_funct3 op) → decode_half flags half ≡ Some (cs_row op (8 + rs2) (8 + rs1) n)
+pub sw_decodes : (flags : IsaFlags) (op : CsOp) (half rs2 rs1 n : ℕ) → op ≡ cs.CSw → flags.has_zca ≡ true → IsClType lw_imm half (space_bits (cs_space op)) rs2 (4 * n) rs1 (cs_funct3 op) → decode_half flags half ≡ Some (decoded_cs op (8 + rs2) (8 + rs1) n)
 sw_decodes flags cs.CSw half rs2 rs1 n is zca h = quadrant_decodes flags half _ zca h.op_is ∙ rw (h.funct3_is, h.r_is, h.rs1_is, h.imm_is)
 sw_decodes flags cs.CSd half rs2 rs1 n is zca h = absurd (cc)
 
-pub sd_decodes : (flags : IsaFlags) (op : CsOp) (half rs2 rs1 n : ℕ) → op ≡ cs.CSd → flags.has_zca ≡ true → IsClType ld_imm half (space_bits (cs_space op)) rs2 (8 * n) rs1 (cs_funct3 op) → decode_half flags half ≡ Some (cs_row op (8 + rs2) (8 + rs1) n)
+pub sd_decodes : (flags : IsaFlags) (op : CsOp) (half rs2 rs1 n : ℕ) → op ≡ cs.CSd → flags.has_zca ≡ true → IsClType ld_imm half (space_bits (cs_space op)) rs2 (8 * n) rs1 (cs_funct3 op) → decode_half flags half ≡ Some (decoded_cs op (8 + rs2) (8 + rs1) n)
 sd_decodes flags cs.CSw half rs2 rs1 n is zca h = absurd (cc)
 sd_decodes flags cs.CSd half rs2 rs1 n is zca h = quadrant_decodes flags half _ zca h.op_is ∙ rw (h.funct3_is, h.r_is, h.rs1_is, h.imm_is)
 
@@ -90,12 +90,12 @@ pub without_sign : (op : ZcbMemOp) → (op ≡ zcb.CLhu) ⊎ (op ≡ zcb.CSh) �
 without_sign op (inl is) = ap funct1_of is
 without_sign op (inr is) = ap funct1_of is
 
-pub bytes_decode : (flags : IsaFlags) (op : ZcbMemOp) (half r rs1 n : ℕ) → funct1_of op ≡ None → zcb_needs flags ≡ true → IsClbType half (space_bits (zcb_space op)) r n rs1 (zcb_funct6 op) → decode_half flags half ≡ Some (zcb_row op (8 + r) (8 + rs1) n)
+pub bytes_decode : (flags : IsaFlags) (op : ZcbMemOp) (half r rs1 n : ℕ) → funct1_of op ≡ None → zcb_needs flags ≡ true → IsClbType half (space_bits (zcb_space op)) r n rs1 (zcb_funct6 op) → decode_half flags half ≡ Some (decoded_zcb op (8 + r) (8 + rs1) n)
 bytes_decode flags zcb.CLbu half r rs1 n is needs h = zcb_decodes flags half _ needs h.op_is h.funct6_is refl ∙ rw (bits12 half _ h.funct6_is, h.r_is, h.rs1_is, h.imm_is)
 bytes_decode flags zcb.CSb half r rs1 n is needs h = zcb_decodes flags half _ needs h.op_is h.funct6_is refl ∙ rw (bits12 half _ h.funct6_is, h.r_is, h.rs1_is, h.imm_is)
 bytes_decode flags _ half r rs1 n is needs h = absurd (cc)
 
-pub halfwords_decode : (flags : IsaFlags) (op : ZcbMemOp) (half r funct1 rs1 n : ℕ) → funct1_of op ≡ Some funct1 → zcb_needs flags ≡ true → IsClhType half (space_bits (zcb_space op)) r (2 * n) funct1 rs1 (zcb_funct6 op) → decode_half flags half ≡ Some (zcb_row op (8 + r) (8 + rs1) n)
+pub halfwords_decode : (flags : IsaFlags) (op : ZcbMemOp) (half r funct1 rs1 n : ℕ) → funct1_of op ≡ Some funct1 → zcb_needs flags ≡ true → IsClhType half (space_bits (zcb_space op)) r (2 * n) funct1 rs1 (zcb_funct6 op) → decode_half flags half ≡ Some (decoded_zcb op (8 + r) (8 + rs1) n)
 halfwords_decode flags zcb.CLhu half r funct1 rs1 n is needs h =
     zcb_decodes flags half _ needs h.op_is h.funct6_is refl ∙ rw (bits12 half _ h.funct6_is, h.funct1_is ∙ ap (λ o. unwrap_or o 0) (sym is), h.r_is, h.rs1_is, h.imm_is)
 halfwords_decode flags zcb.CLh half r funct1 rs1 n is needs h =

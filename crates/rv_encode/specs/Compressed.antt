@@ -100,15 +100,15 @@ sp_load CLwsp = Some loads.Lw
 sp_load CLdsp = Some loads.Ld
 
 -- its immediate counts what the load reads
-abbrev pub sp_load_row : LoadOP → ℕ → ℕ → Decoded
-sp_load_row load rd imm = compressed (Load (load_op load)) rd 2 0 (pos (load_size load * imm))
+abbrev pub decoded_sp_load : LoadOP → ℕ → ℕ → Decoded
+decoded_sp_load load rd imm = compressed (Load (load_op load)) rd 2 0 (pos (load_size load * imm))
 
 -- ---- CB
 
-abbrev pub cb_row : CbOp → ℕ → ℤ → Decoded
-cb_row CSrli rd imm = compressed (Alu (Int int.Srli)) rd rd 0 (pos (low_bits (2 ^ 6) imm))
-cb_row CSrai rd imm = compressed (Alu (Int int.Srai)) rd rd 0 (pos (low_bits (2 ^ 6) imm))
-cb_row CAndi rd imm = compressed (Alu (Int int.Andi)) rd rd 0 imm
+abbrev pub decoded_cb : CbOp → ℕ → ℤ → Decoded
+decoded_cb CSrli rd imm = compressed (Alu (Int int.Srli)) rd rd 0 (pos (low_bits (2 ^ 6) imm))
+decoded_cb CSrai rd imm = compressed (Alu (Int int.Srai)) rd rd 0 (pos (low_bits (2 ^ 6) imm))
+decoded_cb CAndi rd imm = compressed (Alu (Int int.Andi)) rd rd 0 imm
 
 -- ---- CSS, CS and CL: the immediate counts what the access reads or writes
 
@@ -116,32 +116,32 @@ abbrev pub css_store : CssOp → StoreOP
 css_store CSwsp = stores.Sw
 css_store CSdsp = stores.Sd
 
-abbrev pub css_row : CssOp → ℕ → ℕ → Decoded
-css_row op src imm = compressed (Store (store_op (css_store op))) 0 2 src (pos (store_size (css_store op) * imm))
+abbrev pub decoded_css : CssOp → ℕ → ℕ → Decoded
+decoded_css op src imm = compressed (Store (store_op (css_store op))) 0 2 src (pos (store_size (css_store op) * imm))
 
 abbrev pub cs_store : CsOp → StoreOP
 cs_store CSw = stores.Sw
 cs_store CSd = stores.Sd
 
-abbrev pub cs_row : CsOp → ℕ → ℕ → ℕ → Decoded
-cs_row op src base imm = compressed (Store (store_op (cs_store op))) 0 base src (pos (store_size (cs_store op) * imm))
+abbrev pub decoded_cs : CsOp → ℕ → ℕ → ℕ → Decoded
+decoded_cs op src base imm = compressed (Store (store_op (cs_store op))) 0 base src (pos (store_size (cs_store op) * imm))
 
 abbrev pub cl_load : ClOp → LoadOP
 cl_load CLw = loads.Lw
 cl_load CLd = loads.Ld
 
-abbrev pub cl_row : ClOp → ℕ → ℕ → ℕ → Decoded
-cl_row op dest base imm = compressed (Load (load_op (cl_load op))) dest base 0 (pos (load_size (cl_load op) * imm))
+abbrev pub decoded_cl : ClOp → ℕ → ℕ → ℕ → Decoded
+decoded_cl op dest base imm = compressed (Load (load_op (cl_load op))) dest base 0 (pos (load_size (cl_load op) * imm))
 
 -- ---- Zcb
 
-abbrev pub cszn_row : CsznOp → ℕ → Decoded
-cszn_row CZextb rd = compressed (Alu (Int int.Andi)) rd rd 0 (pos 255)
-cszn_row CSextb rd = compressed (Alu (Bit bit.SextB)) rd rd 0 (pos 0)
-cszn_row CZexth rd = compressed (Alu (Bit bit.ZextH)) rd rd 0 (pos 0)
-cszn_row CSexth rd = compressed (Alu (Bit bit.SextH)) rd rd 0 (pos 0)
-cszn_row CZextw rd = compressed (Alu (Bit bit.AddUw)) rd rd 0 (pos 0)
-cszn_row CNot rd = compressed (Alu (Int int.Xori)) rd rd 0 (negsuc 0)
+abbrev pub decoded_cszn : CsznOp → ℕ → Decoded
+decoded_cszn CZextb rd = compressed (Alu (Int int.Andi)) rd rd 0 (pos 255)
+decoded_cszn CSextb rd = compressed (Alu (Bit bit.SextB)) rd rd 0 (pos 0)
+decoded_cszn CZexth rd = compressed (Alu (Bit bit.ZextH)) rd rd 0 (pos 0)
+decoded_cszn CSexth rd = compressed (Alu (Bit bit.SextH)) rd rd 0 (pos 0)
+decoded_cszn CZextw rd = compressed (Alu (Bit bit.AddUw)) rd rd 0 (pos 0)
+decoded_cszn CNot rd = compressed (Alu (Int int.Xori)) rd rd 0 (negsuc 0)
 
 abbrev pub cszn_needs : IsaFlags → CsznOp → Bool
 cszn_needs flags CZextb = flags.has_zca && flags.has_zcb
@@ -152,12 +152,12 @@ cszn_needs flags CZextw = flags.has_zca && flags.has_zcb && flags.has_zba
 cszn_needs flags CNot = flags.has_zca && flags.has_zcb
 
 -- a load's or a store's register, its base and its immediate, which counts what it reads or writes
-abbrev pub zcb_row : ZcbMemOp → ℕ → ℕ → ℕ → Decoded
-zcb_row CLbu r base imm = compressed (Load (load_op loads.Lbu)) r base 0 (pos imm)
-zcb_row CLhu r base imm = compressed (Load (load_op loads.Lhu)) r base 0 (pos (2 * imm))
-zcb_row CLh r base imm = compressed (Load (load_op loads.Lh)) r base 0 (pos (2 * imm))
-zcb_row CSb r base imm = compressed (Store (store_op stores.Sb)) 0 base r (pos imm)
-zcb_row CSh r base imm = compressed (Store (store_op stores.Sh)) 0 base r (pos (2 * imm))
+abbrev pub decoded_zcb : ZcbMemOp → ℕ → ℕ → ℕ → Decoded
+decoded_zcb CLbu r base imm = compressed (Load (load_op loads.Lbu)) r base 0 (pos imm)
+decoded_zcb CLhu r base imm = compressed (Load (load_op loads.Lhu)) r base 0 (pos (2 * imm))
+decoded_zcb CLh r base imm = compressed (Load (load_op loads.Lh)) r base 0 (pos (2 * imm))
+decoded_zcb CSb r base imm = compressed (Store (store_op stores.Sb)) 0 base r (pos imm)
+decoded_zcb CSh r base imm = compressed (Store (store_op stores.Sh)) 0 base r (pos (2 * imm))
 
 abbrev pub zcb_needs : IsaFlags → Bool
 zcb_needs flags = flags.has_zca && flags.has_zcb

@@ -20,15 +20,15 @@ use Rattle.rv_machine.specs.declared.ops.LoadOp.{LoadOp}
 use Rattle.rv_machine.specs.declared.ops.LoadOp.TheVariants as load
 use Rattle.rv_machine.specs.declared.ops.StoreOp.{StoreOp}
 use Rattle.rv_machine.specs.declared.ops.StoreOp.TheVariants as store
-pub use Rattle.rv_machine.specs.Layout.{decoded as row}
+pub use Rattle.rv_machine.specs.Layout.{decoded}
 
 -- an operation of two registers; sgt and sgtu have their sources exchanged
 abbrev pub decoded_rrr : AluOPRRR → ℕ → ℕ → ℕ → Decoded
-decoded_rrr op rd rs1 rs2 = if is_exchanged op then row (Alu (rrr_op op)) rd rs2 rs1 (pos 0) else row (Alu (rrr_op op)) rd rs1 rs2 (pos 0)
+decoded_rrr op rd rs1 rs2 = if is_exchanged op then decoded (Alu (rrr_op op)) rd rs2 rs1 (pos 0) else decoded (Alu (rrr_op op)) rd rs1 rs2 (pos 0)
 
 -- an operation of a register and an immediate, of which the word keeps what the operation takes
 abbrev pub decoded_rri : AluOPRRI → ℕ → ℕ → ℤ → Decoded
-decoded_rri op rd rs imm = row (Alu (rri_op op)) rd rs 0 (kept_bits (immediate_of op) imm)
+decoded_rri op rd rs imm = decoded (Alu (rri_op op)) rd rs 0 (kept_bits (immediate_of op) imm)
 
 abbrev pub load_op : LoadOP → LoadOp
 load_op loads.Lb = load.Lb
@@ -41,7 +41,7 @@ load_op loads.Ld = load.Ld
 
 -- a load into rd, from an offset past a base
 abbrev pub decoded_load : LoadOP → ℕ → ℕ → ℤ → Decoded
-decoded_load op rd base offset = row (Load (load_op op)) rd base 0 offset
+decoded_load op rd base offset = decoded (Load (load_op op)) rd base 0 offset
 
 abbrev pub store_op : StoreOP → StoreOp
 store_op stores.Sb = store.Sb
@@ -51,7 +51,7 @@ store_op stores.Sd = store.Sd
 
 -- a store of a register, to an offset past a base
 abbrev pub decoded_store : StoreOP → ℕ → ℕ → ℤ → Decoded
-decoded_store op base src offset = row (Store (store_op op)) 0 base src offset
+decoded_store op base src offset = decoded (Store (store_op op)) 0 base src offset
 
 abbrev pub branch_op : BranchFunct3 → BaseOp
 branch_op branch.Eq = base.Beq
@@ -63,4 +63,4 @@ branch_op branch.Geu = base.Bgeu
 
 -- the branch by a distance where a comparison holds; some have their registers exchanged
 abbrev pub decoded_branch : IntegerCompare → ℤ → Decoded
-decoded_branch c distance = row (Base (branch_op (branch_of c.kind))) 0 (number_of (rs1_of c)) (number_of (rs2_of c)) distance
+decoded_branch c distance = decoded (Base (branch_op (branch_of c.kind))) 0 (number_of (rs1_of c)) (number_of (rs2_of c)) distance

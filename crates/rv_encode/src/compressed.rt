@@ -5,7 +5,7 @@ ghost use Rattle.rv_base.specs.declared.flags.IsaFlags.{IsaFlags};
 ghost use Rattle.rv_base.specs.Regs.{number_of};
 ghost use Rattle.rv_imms.specs.Bits.{low_bits};
 ghost use Rattle.rv_machine.specs.declared.ops.MOp.TheVariants.{Base, Alu};
-ghost use Rattle.rv_machine.specs.declared.ops.BaseOp.TheVariants as base_row;
+ghost use Rattle.rv_machine.specs.declared.ops.BaseOp.TheVariants as base_op;
 ghost use Rattle.rv_machine.specs.declared.ops.AluOp.TheVariants.{Int};
 ghost use Rattle.rv_machine.specs.declared.ops.IntOp.TheVariants.{Addi};
 ghost use Rattle.rv_machine.specs.Layout.{compressed};
@@ -13,7 +13,7 @@ ghost use Rattle.rv_machine.specs.Compressed.{ci_bits, addi16sp_bits, decode_hal
 ghost use Rattle.rv_ops.specs.Compressed.{space_bits, cr_space, cr_funct4, ci_space, ci_funct3, cj_space, cj_funct3};
 ghost use Rattle.rv_encode.specs.Registers.{IsIntRegister, IsShortRegister};
 ghost use Rattle.rv_encode.specs.Layouts.{IsEven, IsCrType, IsCaType, IsCiType, IsCiwType, IsCbType, IsCuType, IsCjType, IsCjParts, cj_low_of, cj_high_of};
-ghost use Rattle.rv_encode.specs.Compressed.{DecodesCr, DecodesCr2, ca_op, ca_needs, DecodesCi, cb_row, cszn_row, cszn_needs};
+ghost use Rattle.rv_encode.specs.Compressed.{DecodesCr, DecodesCr2, ca_op, ca_needs, DecodesCi, decoded_cb, decoded_cszn, cszn_needs};
 
 use crate::layouts::reg_to_gpr_num;
 use rv_base::{Reg, WritableReg, stack_reg};
@@ -98,7 +98,7 @@ pub fn encode_ca_type(op: CaOp, rd: WritableReg, rs2: Reg) -> u16
 pub fn encode_cj_type(op: CjOp, imm: Imm12) -> u16
     requires { IsEven imm.value }
     ensures layout { IsCjType result (space_bits (cj_space op)) (low_bits (2 ^ 12) imm.value) (cj_funct3 op) }
-    ensures decodes { (flags : IsaFlags) → flags.has_zca ≡ true → decode_half flags result ≡ Some (compressed (Base base_row.Jal) 0 0 0 imm.value) }
+    ensures decodes { (flags : IsaFlags) → flags.has_zca ≡ true → decode_half flags result ≡ Some (compressed (Base base_op.Jal) 0 0 0 imm.value) }
     ensures without { (flags : IsaFlags) → flags.has_zca ≡ false → decode_half flags result ≡ None }
     ensures narrow { nat_eq (result % 4) 3 ≡ false }
 {
@@ -174,7 +174,7 @@ pub fn encode_ciw_type(op: CiwOp, rd: WritableReg, imm: u8) -> u16
 /// ```
 pub fn encode_cb_type(op: CbOp, rd: WritableReg, imm: Imm6) -> u16
     requires { IsShortRegister rd.reg }
-    ensures decodes { (flags : IsaFlags) → flags.has_zca ≡ true → decode_half flags result ≡ Some (cb_row op (number_of rd.reg) imm.value) }
+    ensures decodes { (flags : IsaFlags) → flags.has_zca ≡ true → decode_half flags result ≡ Some (decoded_cb op (number_of rd.reg) imm.value) }
     ensures without { (flags : IsaFlags) → flags.has_zca ≡ false → decode_half flags result ≡ None }
     ensures narrow { nat_eq (result % 4) 3 ≡ false }
 {
@@ -195,7 +195,7 @@ pub fn encode_cb_type(op: CbOp, rd: WritableReg, imm: Imm6) -> u16
 /// ```
 pub fn encode_cszn_type(op: CsznOp, rd: WritableReg) -> u16
     requires { IsShortRegister rd.reg }
-    ensures decodes { (flags : IsaFlags) → cszn_needs flags op ≡ true → decode_half flags result ≡ Some (cszn_row op (number_of rd.reg)) }
+    ensures decodes { (flags : IsaFlags) → cszn_needs flags op ≡ true → decode_half flags result ≡ Some (decoded_cszn op (number_of rd.reg)) }
     ensures without { (flags : IsaFlags) → cszn_needs flags op ≡ false → decode_half flags result ≡ None }
     ensures narrow { nat_eq (result % 4) 3 ≡ false }
 {

@@ -9,7 +9,7 @@ ghost use Rattle.rv_ops.specs.declared.memory.LoadOP.{LoadOP};
 ghost use Rattle.rv_ops.specs.Compressed.{zcb_imm_bits};
 ghost use Rattle.rv_encode.specs.Registers.{IsIntRegister, IsShortRegister};
 ghost use Rattle.rv_encode.specs.Layouts.{IsCiType, IsCssType, IsClType, IsClbType, IsClhType};
-ghost use Rattle.rv_encode.specs.Compressed.{sp_load, sp_load_row, css_row, cs_row, cl_row, zcb_row, zcb_needs};
+ghost use Rattle.rv_encode.specs.Compressed.{sp_load, decoded_sp_load, decoded_css, decoded_cs, decoded_cl, decoded_zcb, zcb_needs};
 
 use crate::compressed::reg_to_compressed_gpr_num;
 use crate::layouts::reg_to_gpr_num;
@@ -27,7 +27,7 @@ use rv_ops::{CiOp, ClOp, CsOp, CssOp, ZcbMemOp};
 pub fn encode_ci_sp_load(op: CiOp, rd: WritableReg, imm: Uimm6) -> u16
     requires op { IsSome (sp_load op) }
     requires rd { IsIntRegister rd.reg }
-    ensures decodes { (flags : IsaFlags) (load : LoadOP) → flags.has_zca ≡ true → sp_load op ≡ Some load → 0 < number_of rd.reg → decode_half flags result ≡ Some (sp_load_row load (number_of rd.reg) imm.value) }
+    ensures decodes { (flags : IsaFlags) (load : LoadOP) → flags.has_zca ≡ true → sp_load op ≡ Some load → 0 < number_of rd.reg → decode_half flags result ≡ Some (decoded_sp_load load (number_of rd.reg) imm.value) }
     ensures without { (flags : IsaFlags) → flags.has_zca ≡ false → decode_half flags result ≡ None }
     ensures narrow { nat_eq (result % 4) 3 ≡ false }
 {
@@ -49,7 +49,7 @@ pub fn encode_ci_sp_load(op: CiOp, rd: WritableReg, imm: Uimm6) -> u16
 /// ```
 pub fn encode_css_type(op: CssOp, src: Reg, imm: Uimm6) -> u16
     requires { IsIntRegister src }
-    ensures decodes { (flags : IsaFlags) → flags.has_zca ≡ true → decode_half flags result ≡ Some (css_row op (number_of src) imm.value) }
+    ensures decodes { (flags : IsaFlags) → flags.has_zca ≡ true → decode_half flags result ≡ Some (decoded_css op (number_of src) imm.value) }
     ensures without { (flags : IsaFlags) → flags.has_zca ≡ false → decode_half flags result ≡ None }
     ensures narrow { nat_eq (result % 4) 3 ≡ false }
 {
@@ -72,7 +72,7 @@ pub fn encode_css_type(op: CssOp, src: Reg, imm: Uimm6) -> u16
 pub fn encode_cs_type(op: CsOp, src: Reg, base: Reg, imm: Uimm5) -> u16
     requires src { IsShortRegister src }
     requires base { IsShortRegister base }
-    ensures decodes { (flags : IsaFlags) → flags.has_zca ≡ true → decode_half flags result ≡ Some (cs_row op (number_of src) (number_of base) imm.value) }
+    ensures decodes { (flags : IsaFlags) → flags.has_zca ≡ true → decode_half flags result ≡ Some (decoded_cs op (number_of src) (number_of base) imm.value) }
     ensures without { (flags : IsaFlags) → flags.has_zca ≡ false → decode_half flags result ≡ None }
     ensures narrow { nat_eq (result % 4) 3 ≡ false }
 {
@@ -96,7 +96,7 @@ pub fn encode_cs_type(op: CsOp, src: Reg, base: Reg, imm: Uimm5) -> u16
 pub fn encode_cl_type(op: ClOp, dest: WritableReg, base: Reg, imm: Uimm5) -> u16
     requires dest { IsShortRegister dest.reg }
     requires base { IsShortRegister base }
-    ensures decodes { (flags : IsaFlags) → flags.has_zca ≡ true → decode_half flags result ≡ Some (cl_row op (number_of dest.reg) (number_of base) imm.value) }
+    ensures decodes { (flags : IsaFlags) → flags.has_zca ≡ true → decode_half flags result ≡ Some (decoded_cl op (number_of dest.reg) (number_of base) imm.value) }
     ensures without { (flags : IsaFlags) → flags.has_zca ≡ false → decode_half flags result ≡ None }
     ensures narrow { nat_eq (result % 4) 3 ≡ false }
 {
@@ -122,7 +122,7 @@ pub fn encode_zcbmem_load(op: ZcbMemOp, rd: WritableReg, base: Reg, imm: Uimm2) 
     requires rd { IsShortRegister rd.reg }
     requires base { IsShortRegister base }
     requires imm { imm.value < 2 ^ zcb_imm_bits op }
-    ensures decodes { (flags : IsaFlags) → zcb_needs flags ≡ true → decode_half flags result ≡ Some (zcb_row op (number_of rd.reg) (number_of base) imm.value) }
+    ensures decodes { (flags : IsaFlags) → zcb_needs flags ≡ true → decode_half flags result ≡ Some (decoded_zcb op (number_of rd.reg) (number_of base) imm.value) }
     ensures without { (flags : IsaFlags) → zcb_needs flags ≡ false → decode_half flags result ≡ None }
     ensures narrow { nat_eq (result % 4) 3 ≡ false }
 {
@@ -140,7 +140,7 @@ pub fn encode_zcbmem_store(op: ZcbMemOp, src: Reg, base: Reg, imm: Uimm2) -> u16
     requires src { IsShortRegister src }
     requires base { IsShortRegister base }
     requires imm { imm.value < 2 ^ zcb_imm_bits op }
-    ensures decodes { (flags : IsaFlags) → zcb_needs flags ≡ true → decode_half flags result ≡ Some (zcb_row op (number_of src) (number_of base) imm.value) }
+    ensures decodes { (flags : IsaFlags) → zcb_needs flags ≡ true → decode_half flags result ≡ Some (decoded_zcb op (number_of src) (number_of base) imm.value) }
     ensures without { (flags : IsaFlags) → zcb_needs flags ≡ false → decode_half flags result ≡ None }
     ensures narrow { nat_eq (result % 4) 3 ≡ false }
 {
@@ -152,7 +152,7 @@ fn zcbmem_half(op: ZcbMemOp, dest_src: Reg, base: Reg, imm: Uimm2) -> u16
     requires dest_src { IsShortRegister dest_src }
     requires base { IsShortRegister base }
     requires imm { imm.value < 2 ^ zcb_imm_bits op }
-    ensures decodes { (flags : IsaFlags) → zcb_needs flags ≡ true → decode_half flags result ≡ Some (zcb_row op (number_of dest_src) (number_of base) imm.value) }
+    ensures decodes { (flags : IsaFlags) → zcb_needs flags ≡ true → decode_half flags result ≡ Some (decoded_zcb op (number_of dest_src) (number_of base) imm.value) }
     ensures without { (flags : IsaFlags) → zcb_needs flags ≡ false → decode_half flags result ≡ None }
     ensures narrow { nat_eq (result % 4) 3 ≡ false }
 {

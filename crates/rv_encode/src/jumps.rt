@@ -5,14 +5,14 @@ ghost use Rattle.rv_base.specs.declared.flags.IsaFlags.{IsaFlags};
 ghost use Rattle.rv_base.specs.Regs.{number_of};
 ghost use Rattle.rv_imms.specs.Bits.{low_bits};
 ghost use Rattle.rv_machine.specs.declared.ops.MOp.TheVariants.{Base};
-ghost use Rattle.rv_machine.specs.declared.ops.BaseOp.TheVariants as base_row;
+ghost use Rattle.rv_machine.specs.declared.ops.BaseOp.TheVariants as base_op;
 ghost use Rattle.rv_machine.specs.Layout.{bare_form};
 ghost use Rattle.rv_machine.specs.Opcodes.{BRANCH, JAL};
 ghost use Rattle.rv_machine.specs.Decode.{decode};
 ghost use Rattle.rv_encode.specs.Registers.{IsIntRegister, IsRealRegister};
 ghost use Rattle.rv_encode.specs.Layouts.{IsEven, IsBType, IsJType};
 ghost use Rattle.rv_ops.specs.Compare.{funct3_of, branch_of, is_reversed as reverses, rs1_of, rs2_of};
-ghost use Rattle.rv_encode.specs.Operations.{row, decoded_branch};
+ghost use Rattle.rv_encode.specs.Operations.{decoded, decoded_branch};
 
 use crate::layouts::{b_word, encode_i_type, i_word, j_word, reg_to_gpr_num, u_word};
 use rv_base::{Reg, WritableReg};
@@ -23,7 +23,7 @@ use rv_ops::IntegerCompare;
 /// The word of `lui`: the immediate times 2^12 into an integer register.
 pub fn encode_lui(rd: WritableReg, imm: Imm20) -> u32
     requires { IsIntRegister rd.reg }
-    ensures { (flags : IsaFlags) → decode flags result ≡ Some (row (Base base_row.Lui) (number_of rd.reg) 0 0 imm.value) }
+    ensures { (flags : IsaFlags) → decode flags result ≡ Some (decoded (Base base_op.Lui) (number_of rd.reg) 0 0 imm.value) }
 {
     u_word(LUI, reg_to_gpr_num(rd.reg), imm.bits())
 }
@@ -31,7 +31,7 @@ pub fn encode_lui(rd: WritableReg, imm: Imm20) -> u32
 /// The word of `auipc`: the immediate times 2^12 past its own address into a real register.
 pub fn enc_auipc(rd: WritableReg, imm: Imm20) -> u32
     requires { IsRealRegister rd.reg }
-    ensures { (flags : IsaFlags) → decode flags result ≡ Some (row (Base base_row.Auipc) (number_of rd.reg) 0 0 imm.value) }
+    ensures { (flags : IsaFlags) → decode flags result ≡ Some (decoded (Base base_op.Auipc) (number_of rd.reg) 0 0 imm.value) }
 {
     u_word(AUIPC, reg_to_gpr_num(rd.reg), imm.bits())
 }
@@ -40,7 +40,7 @@ pub fn enc_auipc(rd: WritableReg, imm: Imm20) -> u32
 pub fn enc_jalr(rd: WritableReg, base: Reg, offset: Imm12) -> u32
     requires rd { IsRealRegister rd.reg }
     requires base { IsRealRegister base }
-    ensures { (flags : IsaFlags) → decode flags result ≡ Some (row (Base base_row.Jalr) (number_of rd.reg) (number_of base) 0 offset.value) }
+    ensures { (flags : IsaFlags) → decode flags result ≡ Some (decoded (Base base_op.Jalr) (number_of rd.reg) (number_of base) 0 offset.value) }
 {
     encode_i_type(JALR, rd, 0, base, offset)
 }
@@ -52,7 +52,7 @@ pub fn encode_jal(rd: WritableReg, distance: i32) -> u32
     requires high { distance <ℤ pos (2 ^ 20) }
     requires even { IsEven distance }
     ensures layout { IsJType result JAL (number_of rd.reg) (low_bits (2 ^ 21) distance) }
-    ensures decodes { (flags : IsaFlags) → decode flags result ≡ Some (row (Base base_row.Jal) (number_of rd.reg) 0 0 distance) }
+    ensures decodes { (flags : IsaFlags) → decode flags result ≡ Some (decoded (Base base_op.Jal) (number_of rd.reg) 0 0 distance) }
 {
     j_word(JAL, reg_to_gpr_num(rd.reg), jump_bits(distance))
 }
@@ -80,7 +80,7 @@ pub fn encode_branch(kind: IntegerCompare, distance: i32) -> u32
 
 /// The word of `ebreak`.
 pub fn encode_ebreak() -> u32
-    ensures { (flags : IsaFlags) → decode flags result ≡ Some (bare_form (Base base_row.Ebreak)) }
+    ensures { (flags : IsaFlags) → decode flags result ≡ Some (bare_form (Base base_op.Ebreak)) }
 {
     i_word(SYSTEM, 0, 0, 0, 1)
 }

@@ -25,7 +25,7 @@ use Rattle.rv_ops.specs.declared.memory.StoreOP.TheVariants as stores
 use Rattle.rv_ops.specs.Memory.{load_size, store_size}
 use Rattle.rv_inst.specs.declared.label_use.LabelUse.{LabelUse}
 use Rattle.rv_inst.specs.declared.label_use.LabelUse.TheVariants.{Jal20, RVCJump}
-use Rattle.rv_encode.specs.Operations.{row, load_op, store_op, decoded_rrr, decoded_rri, decoded_load, decoded_store}
+use Rattle.rv_encode.specs.Operations.{decoded, load_op, store_op, decoded_rrr, decoded_rri, decoded_load, decoded_store}
 
 -- ---- guards
 
@@ -332,10 +332,10 @@ abbrev pub short_rri : IsaFlags → AluOPRRI → ℕ → ℕ → ℤ → Decoded
 short_rri flags op rd rs imm = chosen (form_rri flags op rd rs imm) (decoded_rri op rd rs imm)
 
 abbrev pub short_lui : IsaFlags → ℕ → ℤ → Decoded
-short_lui flags rd imm = chosen (form_lui flags rd imm) (row (Base Lui) rd 0 0 imm)
+short_lui flags rd imm = chosen (form_lui flags rd imm) (decoded (Base Lui) rd 0 0 imm)
 
 abbrev pub short_jalr : IsaFlags → ℕ → ℕ → ℤ → Decoded
-short_jalr flags rd base offset = chosen (form_jalr flags rd base offset) (row (Base Jalr) rd base 0 offset)
+short_jalr flags rd base offset = chosen (form_jalr flags rd base offset) (decoded (Base Jalr) rd base 0 offset)
 
 abbrev pub short_ebreak : IsaFlags → Decoded
 short_ebreak flags = chosen (form_ebreak flags) (bare_form (Base Ebreak))

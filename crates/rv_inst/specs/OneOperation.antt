@@ -8,7 +8,7 @@ use Rattle.rv_ops.specs.declared.alu.AluOPRRI.TheVariants.{Addi, Andi}
 use Rattle.rv_ops.specs.declared.memory.LoadOP.{LoadOP}
 use Rattle.rv_ops.specs.declared.memory.StoreOP.{StoreOP}
 use Rattle.rv_base.specs.declared.flags.IsaFlags.{IsaFlags}
-use Rattle.rv_encode.specs.Operations.{row, decoded_rri}
+use Rattle.rv_encode.specs.Operations.{decoded, decoded_rri}
 use Rattle.rv_inst.specs.Addresses.{Location, Based, AtLabel, AtConstant, location_of, is_near}
 use Rattle.rv_inst.specs.Context.{Context}
 use Rattle.rv_inst.specs.Sizes.{is_byte}
@@ -53,7 +53,7 @@ operation_of context (Unwind inst) = None
 operation_of context (EmitIsland needed_space) = None
 operation_of context (RawData bytes) = None
 operation_of context (Lui rd imm) = Some (short_lui context.flags (number_of rd.reg) imm.value)
-operation_of context (Auipc rd imm) = Some (row (Base base.Auipc) (number_of rd.reg) 0 0 imm.value)
+operation_of context (Auipc rd imm) = Some (decoded (Base base.Auipc) (number_of rd.reg) 0 0 imm.value)
 operation_of context (LoadInlineConst rd type imm) = None
 operation_of context (AluRRR op rd rs1 rs2) = Some (short_rrr context.flags op (number_of rd.reg) (number_of rs1) (number_of rs2))
 operation_of context (AluRRImm12 op rd rs imm) = Some (short_rri context.flags op (number_of rd.reg) (number_of rs) imm.value)

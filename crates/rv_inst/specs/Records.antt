@@ -95,7 +95,7 @@ inst_records context start end (CallInd info) = return_records context.frame (st
 inst_records context start end (ReturnCall info) = record { offset = end - 8; event = event.CallSite } ∷ record { offset = end - 8; event = event.Reloc RiscvCallPlt (ToName info.dest) (pos 0) } ∷ []
 inst_records context start end (ReturnCallInd info) = []
 
--- a trap of a cause is told at an offset
+-- a trap of a cause is reported at an offset
 pub record IsTrapAt (traps : List MachTrap) (at : ℕ) (code : TrapCode) : Type 0 where
   pub index : ℕ
   pub there : slice_get traps index ≡ Some (record { offset = at; code = code })

@@ -1,4 +1,4 @@
--- The number that reading answers is that of the first bad line.
+-- The number that reading returns is that of the first bad line.
 use Rattle.std.proofs.Common.{◌≡◌, ℕ, ◌+◌, List, [], ◌∷◌, ◌++◌, length, Option, Some, None, Result, Ok, Err, refl, ap, ◌∙◌, arith}
 use Rattle.std.specs.Prelude.{IfErr}
 use Rattle.rv_inst.specs.declared.job.Job.{Job}

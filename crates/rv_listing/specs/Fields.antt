@@ -43,7 +43,7 @@ TakesFirst (Err bad.NotAllowed) taken = taken ≡ None
 TakesFirst (Err bad.OutOfMemory) taken = Unit {0}
 
 -- what a reader that puts one more element into a list did; out of memory says nothing
-abbrev pub Puts : {A : Type 0} → List A → List A → Option A → Result Unit LineError → Type 0
-Puts old new element (Ok x) = (element >>= λ e. Some (old ++ e ∷ [])) ≡ Some new
-Puts old new element (Err bad.NotAllowed) = element ≡ None
-Puts old new element (Err bad.OutOfMemory) = Unit {0}
+abbrev pub Pushes : {A : Type 0} → List A → List A → Option A → Result Unit LineError → Type 0
+Pushes old new element (Ok x) = (element >>= λ e. Some (old ++ e ∷ [])) ≡ Some new
+Pushes old new element (Err bad.NotAllowed) = element ≡ None
+Pushes old new element (Err bad.OutOfMemory) = Unit {0}

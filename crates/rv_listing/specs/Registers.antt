@@ -65,8 +65,8 @@ single letter w =
     if letter == 103 then fixed (codes "p") 3 w else None
 
 -- a name that begins with f or v, or with %, or is one of a kind
-unfoldable pub other : ℕ → List ℕ → Option Reg
-other letter w =
+unfoldable pub by_other_letter : ℕ → List ℕ → Option Reg
+by_other_letter letter w =
     if letter == 102 then after_f w else
     if letter == 118 then (decimal w >>= real Vector) else
     if letter == 37 then (decimal w >>= virtual_register) else single letter w
@@ -77,7 +77,7 @@ by_letter letter w =
     if letter == 120 then (decimal w >>= real Int) else
     if letter == 97 then (decimal w >>= argument >>= real Int) else
     if letter == 116 then after_t w else
-    if letter == 115 then after_s w else other letter w
+    if letter == 115 then after_s w else by_other_letter letter w
 
 unfoldable pub register : List ℕ → Option Reg
 register [] = None

@@ -125,11 +125,7 @@ fn write_number(n: u64, room: &mut [u8; SPAN_ROOM], end: usize) -> usize
 }
 
 // The line is written from its end to its front, and put at once, since a report has very many of them.
-fn put_span(
-    out: &mut Vec<u8>,
-    room: &mut [u8; SPAN_ROOM],
-    l: &LineSpan,
-) -> Result<(), OutOfMemory>
+fn put_span(out: &mut Vec<u8>, room: &mut [u8; SPAN_ROOM], l: &LineSpan) -> Result<(), OutOfMemory>
     ensures { OnOk result (out.new.items ≡ out.old.items ++ span_line l.now) }
 {
     room[63] = b'\n';

@@ -1,7 +1,7 @@
 //! Pairs of registers, and lists of them.
 
 ghost use Rattle.std.specs.Prelude.{◌≡◌, []};
-ghost use Rattle.rv_listing.specs.Fields.{Makes, Puts, TakesFirst, field};
+ghost use Rattle.rv_listing.specs.Fields.{Makes, Pushes, TakesFirst, field};
 ghost use Rattle.rv_listing.specs.Tokens.{parts_after, parts_of, words_after};
 ghost use Rattle.rv_listing.specs.Pairs.{arg_pair, call_arg_pair, each_after, listed, ret_pair};
 
@@ -52,7 +52,7 @@ impl Token for CallArgPair {
 
 // One more element of a list.
 fn put<T: Token + Drop>(made: &mut List<T>, w: &[u8]) -> Result<(), LineError>
-    ensures { Puts made.old made.new (T.reads w.now) result }
+    ensures { Pushes made.old made.new (T.reads w.now) result }
 {
     let Some(element) = T::read(w) else {
         return Err(LineError::NotAllowed);

@@ -4,7 +4,7 @@ ghost use Rattle.std.specs.Prelude.{◌≡◌, ℕ, ◌<◌, [], ◌∷◌, Some
 ghost use Rattle.rv_base.specs.declared.regs.RegClass.{RegClass};
 ghost use Rattle.rv_base.specs.RegNames.{real_name};
 ghost use Rattle.rv_listing.specs.Tokens.{◌>>=◌ as and_then, decimal};
-ghost use Rattle.rv_listing.specs.Registers.{after_f, after_s, after_t, argument, by_letter, fixed, float, float_saved, float_temporary, other, real, register, saved, single, temporary, virtual_register};
+ghost use Rattle.rv_listing.specs.Registers.{after_f, after_s, after_t, argument, by_letter, fixed, float, float_saved, float_temporary, by_other_letter, real, register, saved, single, temporary, virtual_register};
 
 use crate::tokens::{decimal, is, starts, tail};
 use rv_base::{PReg, Reg, RegClass, VirtualIndex};
@@ -178,9 +178,9 @@ fn single(letter: u8, w: &[u8]) -> Option<Reg>
     }
 }
 
-#[tactic(auto, unfolding(crate::specs::Registers::other))]
-fn other(letter: u8, w: &[u8]) -> Option<Reg>
-    ensures { result ≡ other letter w.now }
+#[tactic(auto, unfolding(crate::specs::Registers::by_other_letter))]
+fn by_other_letter(letter: u8, w: &[u8]) -> Option<Reg>
+    ensures { result ≡ by_other_letter letter w.now }
 {
     if letter == b'f' {
         after_f(w)
@@ -206,7 +206,7 @@ fn by_letter(letter: u8, w: &[u8]) -> Option<Reg>
     } else if letter == b's' {
         after_s(w)
     } else {
-        other(letter, w)
+        by_other_letter(letter, w)
     }
 }
 

@@ -44,12 +44,12 @@ abbrev pub may_have : Part → Draft → Bool
 may_have part d = nat_lt 0 (rank d.part) && nat_le (rank d.part) (rank part) && length d.bytes == d.count
 
 -- a number that is the last word
-abbrev pub one : List (List ℕ) → Option ℕ
-one ws = field decimal ws >>= no_more
+abbrev pub one_number : List (List ℕ) → Option ℕ
+one_number ws = field decimal ws >>= no_more
 
 -- `code N`: the code has N bytes, fewer than 2^32
 abbrev pub head_line : Draft → List (List ℕ) → Option Draft
-head_line d ws = one ws >>= λ n. below (2 ^ 32) n >>= λ count. if rank d.part == 0 then Some (record d { part = Bytes; count = count }) else None
+head_line d ws = one_number ws >>= λ n. below (2 ^ 32) n >>= λ count. if rank d.part == 0 then Some (record d { part = Bytes; count = count }) else None
 
 -- how many bytes the next row has
 abbrev pub row_length : Draft → ℕ
@@ -71,8 +71,8 @@ abbrev pub row_line : Draft → List ℕ → List (List ℕ) → Option Draft
 row_line d offset ws = last_bytes ws >>= λ bytes. if rank d.part == 1 && is_offset offset (length d.bytes) then with_bytes d bytes else None
 
 -- three numbers that are the last words
-abbrev pub three : List (List ℕ) → Option (ℕ × ℕ × ℕ)
-three ws = field decimal ws >>= λ a. field decimal a.1 >>= λ b. field decimal b.1 >>= λ c. no_more ((a.0, b.0, c.0), c.1)
+abbrev pub three_numbers : List (List ℕ) → Option (ℕ × ℕ × ℕ)
+three_numbers ws = field decimal ws >>= λ a. field decimal a.1 >>= λ b. field decimal b.1 >>= λ c. no_more ((a.0, b.0, c.0), c.1)
 
 -- a line's number, and where its bytes begin and end
 abbrev pub span_of : Draft → ℕ × ℕ × ℕ → Option LineSpan
@@ -82,7 +82,7 @@ span_of d n =
 
 -- `line I START END`
 abbrev pub span_line : Draft → List (List ℕ) → Option Draft
-span_line d ws = three ws >>= λ n. span_of d n >>= λ span. Some (record d { part = Lines; lines = d.lines ++ span ∷ [] })
+span_line d ws = three_numbers ws >>= λ n. span_of d n >>= λ span. Some (record d { part = Lines; lines = d.lines ++ span ∷ [] })
 
 -- a line of this part for an offset, which is at most the code's length
 abbrev pub at_offset : Part → Draft → ℕ → Option Draft
@@ -90,7 +90,7 @@ at_offset part d offset = if may_have part d && nat_le offset d.count then Some 
 
 -- the offset after a line's number
 abbrev pub return_offset : List (List ℕ) → Option ℕ
-return_offset ws = field decimal ws >>= λ i. one i.1
+return_offset ws = field decimal ws >>= λ i. one_number i.1
 
 -- `return I OFFSET`
 abbrev pub return_line : Draft → List (List ℕ) → Option Draft
@@ -102,7 +102,7 @@ label w = if starts 76 w then decimal (drop 1 w) else None
 
 -- the offset after a label
 abbrev pub label_offset : List (List ℕ) → Option ℕ
-label_offset ws = field label ws >>= λ l. one l.1
+label_offset ws = field label ws >>= λ l. one_number l.1
 
 -- `label LN OFFSET`
 abbrev pub label_line : Draft → List (List ℕ) → Option Draft
@@ -110,7 +110,7 @@ label_line d ws = label_offset ws >>= at_offset Labels d
 
 -- the offset after a constant's number, which is of 32 bits
 abbrev pub const_offset : List (List ℕ) → Option ℕ
-const_offset ws = field number_32 ws >>= λ k. one k.1
+const_offset ws = field number_32 ws >>= λ k. one_number k.1
 
 -- `const K OFFSET`
 abbrev pub const_line : Draft → List (List ℕ) → Option Draft
@@ -130,7 +130,7 @@ trap_line d ws = trap_words ws >>= λ t. at_offset Traps d t.0
 
 -- `call OFFSET`
 abbrev pub call_line : Draft → List (List ℕ) → Option Draft
-call_line d ws = one ws >>= at_offset Calls d
+call_line d ws = one_number ws >>= at_offset Calls d
 
 -- `try OFFSET FRAME HANDLERS`; a handler's place is at most the code's length
 abbrev pub try_line : Draft → List (List ℕ) → Option Draft
@@ -154,7 +154,7 @@ unwind_line d ws = unwind_words ws >>= λ u. at_offset Unwinds d u.0
 
 -- `end OFFSET`
 abbrev pub end_line : Draft → List (List ℕ) → Option Draft
-end_line d ws = one ws >>= λ n. if may_have Unwinds d && nat_le n d.count then Some (record d { part = End }) else None
+end_line d ws = one_number ws >>= λ n. if may_have Unwinds d && nat_le n d.count then Some (record d { part = End }) else None
 
 abbrev pub by_name : Draft → List ℕ → List (List ℕ) → Option Draft
 by_name d name ws =
@@ -200,10 +200,10 @@ abbrev pub reads_report : List ℕ → Result Program ℕ
 reads_report text = reading 1 blank (lines_of text)
 
 -- what a reader of a line made of a draft; being out of memory says nothing
-abbrev pub Turns : Option Draft → Draft → Result Unit LineError → Type 0
-Turns made new (Ok x) = made ≡ Some new
-Turns made new (Err bad.NotAllowed) = made ≡ None
-Turns made new (Err bad.OutOfMemory) = Unit {0}
+abbrev pub MakesDraft : Option Draft → Draft → Result Unit LineError → Type 0
+MakesDraft made new (Ok x) = made ≡ Some new
+MakesDraft made new (Err bad.NotAllowed) = made ≡ None
+MakesDraft made new (Err bad.OutOfMemory) = Unit {0}
 
 -- what a reader of a report returned; being out of memory says nothing
 abbrev pub ReadsReport : List ℕ → Result Program ProgramError → Type 0

@@ -6,7 +6,7 @@ ghost use Rattle.hex.specs.Hex.{encode_lower};
 ghost use Rattle.std.specs.Int.{w32, to_be_bytes};
 ghost use Rattle.rv_listing.specs.Tokens.{words_after, words_of, lines_of, decimal};
 ghost use Rattle.rv_listing.specs.Fields.{field, Takes, Makes};
-ghost use Rattle.rv_load.specs.Report.{rank, blank, may_have, is_offset, one, head_line, last_bytes, with_bytes, row_line, three, span_of, span_line, at_offset, return_offset, return_line, label, label_offset, label_line, const_offset, const_line, reloc_line, trap_words, trap_line, call_line, try_line, patch_words, patch_line, map_line, unwind_line, end_line, with_line, Turns, ReadsReport};
+ghost use Rattle.rv_load.specs.Report.{rank, blank, may_have, is_offset, one_number, head_line, last_bytes, with_bytes, row_line, three_numbers, span_of, span_line, at_offset, return_offset, return_line, label, label_offset, label_line, const_offset, const_line, reloc_line, trap_words, trap_line, call_line, try_line, patch_words, patch_line, map_line, unwind_line, end_line, with_line, MakesDraft, ReadsReport};
 
 use crate::program::{Program, ProgramError};
 use crate::records::{
@@ -97,7 +97,7 @@ fn may_have(part: Part, draft: &Draft) -> bool
 
 // The next word as a decimal number, where it is the last.
 fn last_number(rest: &[u8]) -> Option<u64>
-    ensures { result ≡ one (words_after rest.now) }
+    ensures { result ≡ one_number (words_after rest.now) }
 {
     let (n, rest) = number(rest)?;
     match next_word(rest) {
@@ -107,7 +107,7 @@ fn last_number(rest: &[u8]) -> Option<u64>
 }
 
 fn head_line(draft: &mut Draft, rest: &[u8]) -> Result<(), LineError>
-    ensures { Turns (head_line draft.old (words_after rest.now)) draft.new result }
+    ensures { MakesDraft (head_line draft.old (words_after rest.now)) draft.new result }
 {
     match last_number(rest) {
         Some(count) if count < 1 << 32 && rank(draft.part) == 0 => {
@@ -156,7 +156,7 @@ fn extend(list: &mut List<u8>, bytes: &[u8]) -> Result<(), OutOfMemory>
 }
 
 fn put_bytes(draft: &mut Draft, bytes: &[u8]) -> Result<(), LineError>
-    ensures { Turns (with_bytes draft.old bytes.now) draft.new result }
+    ensures { MakesDraft (with_bytes draft.old bytes.now) draft.new result }
 {
     let missing = draft.count.saturating_sub(draft.bytes.len() as u64);
     if bytes.is_empty() || bytes.len() as u64 != missing.min(16) {
@@ -169,7 +169,7 @@ fn put_bytes(draft: &mut Draft, bytes: &[u8]) -> Result<(), LineError>
 }
 
 fn row_line(alloc: Global, draft: &mut Draft, offset: &[u8], rest: &[u8]) -> Result<(), LineError>
-    ensures { Turns (row_line draft.old offset.now (words_after rest.now)) draft.new result }
+    ensures { MakesDraft (row_line draft.old offset.now (words_after rest.now)) draft.new result }
 {
     let bytes = last_bytes(alloc, rest)?;
     if rank(draft.part) == 1 && is_offset(offset, draft.bytes.len()) {
@@ -180,8 +180,8 @@ fn row_line(alloc: Global, draft: &mut Draft, offset: &[u8], rest: &[u8]) -> Res
 }
 
 // Three numbers, where they are the last words.
-fn three(rest: &[u8]) -> Option<(u64, u64, u64)>
-    ensures { result ≡ three (words_after rest.now) }
+fn three_numbers(rest: &[u8]) -> Option<(u64, u64, u64)>
+    ensures { result ≡ three_numbers (words_after rest.now) }
 {
     let (a, rest) = number(rest)?;
     let (b, rest) = number(rest)?;
@@ -208,9 +208,9 @@ fn span_of(draft: &Draft, numbers: (u64, u64, u64)) -> Option<LineSpan>
 }
 
 fn span_line(draft: &mut Draft, rest: &[u8]) -> Result<(), LineError>
-    ensures { Turns (span_line draft.old (words_after rest.now)) draft.new result }
+    ensures { MakesDraft (span_line draft.old (words_after rest.now)) draft.new result }
 {
-    let Some(numbers) = three(rest) else {
+    let Some(numbers) = three_numbers(rest) else {
         return Err(LineError::NotAllowed);
     };
     let Some(span) = span_of(draft, numbers) else {
@@ -227,7 +227,7 @@ fn span_line(draft: &mut Draft, rest: &[u8]) -> Result<(), LineError>
 
 // A line of this part for an offset.
 fn at_offset(part: Part, draft: &mut Draft, offset: u64) -> Result<(), LineError>
-    ensures { Turns (at_offset part draft.old offset) draft.new result }
+    ensures { MakesDraft (at_offset part draft.old offset) draft.new result }
 {
     if may_have(part, draft) && offset <= draft.count {
         draft.part = part;
@@ -246,7 +246,7 @@ fn return_offset(rest: &[u8]) -> Option<u64>
 }
 
 fn return_line(draft: &mut Draft, rest: &[u8]) -> Result<(), LineError>
-    ensures { Turns (return_line draft.old (words_after rest.now)) draft.new result }
+    ensures { MakesDraft (return_line draft.old (words_after rest.now)) draft.new result }
 {
     match return_offset(rest) {
         Some(offset) => at_offset(Part::Returns, draft, offset),
@@ -274,7 +274,7 @@ fn label_offset(rest: &[u8]) -> Option<u64>
 }
 
 fn label_line(draft: &mut Draft, rest: &[u8]) -> Result<(), LineError>
-    ensures { Turns (label_line draft.old (words_after rest.now)) draft.new result }
+    ensures { MakesDraft (label_line draft.old (words_after rest.now)) draft.new result }
 {
     match label_offset(rest) {
         Some(offset) => at_offset(Part::Labels, draft, offset),
@@ -292,7 +292,7 @@ fn const_offset(rest: &[u8]) -> Option<u64>
 }
 
 fn const_line(draft: &mut Draft, rest: &[u8]) -> Result<(), LineError>
-    ensures { Turns (const_line draft.old (words_after rest.now)) draft.new result }
+    ensures { MakesDraft (const_line draft.old (words_after rest.now)) draft.new result }
 {
     match const_offset(rest) {
         Some(offset) => at_offset(Part::Constants, draft, offset),
@@ -301,7 +301,7 @@ fn const_line(draft: &mut Draft, rest: &[u8]) -> Result<(), LineError>
 }
 
 fn reloc_line(draft: &mut Draft, rest: &[u8]) -> Result<(), LineError>
-    ensures { Turns (reloc_line draft.old (words_after rest.now)) draft.new result }
+    ensures { MakesDraft (reloc_line draft.old (words_after rest.now)) draft.new result }
 {
     match reloc_words(rest) {
         Some((offset, target)) if is_within(draft.count, target) => {
@@ -325,7 +325,7 @@ fn trap_words(rest: &[u8]) -> Option<(u64, TrapCode)>
 }
 
 fn trap_line(draft: &mut Draft, rest: &[u8]) -> Result<(), LineError>
-    ensures { Turns (trap_line draft.old (words_after rest.now)) draft.new result }
+    ensures { MakesDraft (trap_line draft.old (words_after rest.now)) draft.new result }
 {
     match trap_words(rest) {
         Some((offset, _)) => at_offset(Part::Traps, draft, offset),
@@ -334,7 +334,7 @@ fn trap_line(draft: &mut Draft, rest: &[u8]) -> Result<(), LineError>
 }
 
 fn call_line(draft: &mut Draft, rest: &[u8]) -> Result<(), LineError>
-    ensures { Turns (call_line draft.old (words_after rest.now)) draft.new result }
+    ensures { MakesDraft (call_line draft.old (words_after rest.now)) draft.new result }
 {
     match last_number(rest) {
         Some(offset) => at_offset(Part::Calls, draft, offset),
@@ -343,7 +343,7 @@ fn call_line(draft: &mut Draft, rest: &[u8]) -> Result<(), LineError>
 }
 
 fn try_line(draft: &mut Draft, rest: &[u8]) -> Result<(), LineError>
-    ensures { Turns (try_line draft.old (words_after rest.now)) draft.new result }
+    ensures { MakesDraft (try_line draft.old (words_after rest.now)) draft.new result }
 {
     match try_words(rest) {
         Some((offset, handlers)) if are_handlers(draft.count, handlers) => {
@@ -367,7 +367,7 @@ fn patch_words(rest: &[u8]) -> Option<(u64, u32)>
 }
 
 fn patch_line(draft: &mut Draft, rest: &[u8]) -> Result<(), LineError>
-    ensures { Turns (patch_line draft.old (words_after rest.now)) draft.new result }
+    ensures { MakesDraft (patch_line draft.old (words_after rest.now)) draft.new result }
 {
     match patch_words(rest) {
         Some((offset, _)) => at_offset(Part::Patches, draft, offset),
@@ -376,7 +376,7 @@ fn patch_line(draft: &mut Draft, rest: &[u8]) -> Result<(), LineError>
 }
 
 fn map_line(draft: &mut Draft, rest: &[u8]) -> Result<(), LineError>
-    ensures { Turns (map_line draft.old (words_after rest.now)) draft.new result }
+    ensures { MakesDraft (map_line draft.old (words_after rest.now)) draft.new result }
 {
     match map_words(rest) {
         Some((offset, entries)) if are_entries(entries) => at_offset(Part::Maps, draft, offset),
@@ -385,7 +385,7 @@ fn map_line(draft: &mut Draft, rest: &[u8]) -> Result<(), LineError>
 }
 
 fn unwind_line(draft: &mut Draft, rest: &[u8]) -> Result<(), LineError>
-    ensures { Turns (unwind_line draft.old (words_after rest.now)) draft.new result }
+    ensures { MakesDraft (unwind_line draft.old (words_after rest.now)) draft.new result }
 {
     match unwind_words(rest) {
         Some((offset, _)) => at_offset(Part::Unwinds, draft, offset),
@@ -394,7 +394,7 @@ fn unwind_line(draft: &mut Draft, rest: &[u8]) -> Result<(), LineError>
 }
 
 fn end_line(draft: &mut Draft, rest: &[u8]) -> Result<(), LineError>
-    ensures { Turns (end_line draft.old (words_after rest.now)) draft.new result }
+    ensures { MakesDraft (end_line draft.old (words_after rest.now)) draft.new result }
 {
     match last_number(rest) {
         Some(offset) if may_have(Part::Unwinds, draft) && offset <= draft.count => {
@@ -407,7 +407,7 @@ fn end_line(draft: &mut Draft, rest: &[u8]) -> Result<(), LineError>
 
 #[tactic(auto, unfolding(crate::specs::Report::with_line))]
 fn take_line(alloc: Global, draft: &mut Draft, line: &[u8]) -> Result<(), LineError>
-    ensures { Turns (with_line draft.old line.now) draft.new result }
+    ensures { MakesDraft (with_line draft.old line.now) draft.new result }
 {
     let (name, rest) = first_word(line);
     if is(b"line", name) {

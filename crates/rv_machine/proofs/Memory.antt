@@ -22,7 +22,7 @@ find_at (e ∷ es) q = ap (cond (is_at (nat_cmp q) e.0) (Some e.1)) (find_at es 
 pub get_at : (es : List (ℕ × ℕ)) (q : ℕ) → get (from_entries {R = nat_cmp} es) q ≡ lookup (is_at (nat_cmp q)) es
 get_at es q = get-from_entries nat_cmp_total es q ∙ find_at es q
 
--- entries that answer as others after an insertion make the map after it
+-- entries that give what others give after an insertion make the map after it
 pub inserted : (es fs : List (ℕ × ℕ)) (k v : ℕ) → ((q : ℕ) → lookup (is_at (nat_cmp q)) fs ≡ cond (is_at (nat_cmp k) q) (Some v) (lookup (is_at (nat_cmp q)) es)) → from_entries {R = nat_cmp} fs ≡ insert (from_entries es) k v
 inserted es fs k v h =
     same_map nat_cmp_total nat_cmp-IsAntisymmetric _ _ (λ q.
@@ -31,7 +31,7 @@ inserted es fs k v h =
     ∙ ap (λ b. cond b (Some v) (lookup (is_at (nat_cmp q)) es)) ((eq_by_cmp_equiv nat_cmp_total).symm k q)
     ∙ sym (get-insert nat_cmp_total (from_entries es) k v q ∙ ap (cond (eq_by_cmp nat_cmp q k) (Some v)) (get_at es q)))
 
--- entries that answer as others after a removal make the map after it
+-- entries that give what others give after a removal make the map after it
 pub removed : (es fs : List (ℕ × ℕ)) (k : ℕ) → ((q : ℕ) → lookup (is_at (nat_cmp q)) fs ≡ cond (is_at (nat_cmp k) q) None (lookup (is_at (nat_cmp q)) es)) → from_entries {R = nat_cmp} fs ≡ remove (from_entries es) k
 removed es fs k h =
     same_map nat_cmp_total nat_cmp-IsAntisymmetric _ _ (λ q.

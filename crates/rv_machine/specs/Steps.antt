@@ -72,7 +72,7 @@ abbrev pub Goes : Step → Option State → Machine → Machine → Type 0
 Goes Stepped next m n = (next ≡ Some n.state) × (n.flags ≡ m.flags)
 Goes Stopped next m n = (next ≡ None) × (n ≡ m)
 
--- what a step answers
+-- what a step returns
 abbrev pub Steps : Step → Machine → Machine → Type 0
 Steps step m n = Goes step (istep m.flags m.state) m n
 

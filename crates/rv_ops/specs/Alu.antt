@@ -140,7 +140,7 @@ rrr_name rrr.CzeroNez = codes "czero.nez"
 -- what bits 31 to 20 of an I-type word are
 pub data Upper : Type 0 where
   -- the immediate
-  Number : Upper
+  WholeImm : Upper
   -- funct6 and a shift amount of six bits
   Shamt6 : ℕ → Upper
   -- funct7 and a shift amount of five bits
@@ -151,26 +151,26 @@ pub data Upper : Type 0 where
 pub record ImmediateNumbers : Type 0 where
   pub opcode : ℕ
   pub funct3 : ℕ
-  pub number : Upper
+  pub upper : Upper
 
 -- OP-IMM and OP-IMM-32
 abbrev pub op_imm : ℕ → Upper → ImmediateNumbers
-op_imm funct3 number = record { opcode = OP_IMM; funct3 = funct3; number = number }
+op_imm funct3 upper = record { opcode = OP_IMM; funct3 = funct3; upper = upper }
 
 abbrev pub op_imm32 : ℕ → Upper → ImmediateNumbers
-op_imm32 funct3 number = record { opcode = OP_IMM_32; funct3 = funct3; number = number }
+op_imm32 funct3 upper = record { opcode = OP_IMM_32; funct3 = funct3; upper = upper }
 
 abbrev pub rri_numbers : AluOPRRI → ImmediateNumbers
-rri_numbers rri.Addi = op_imm 0 Number
-rri_numbers rri.Slti = op_imm 2 Number
-rri_numbers rri.SltiU = op_imm 3 Number
-rri_numbers rri.Xori = op_imm 4 Number
-rri_numbers rri.Ori = op_imm 6 Number
-rri_numbers rri.Andi = op_imm 7 Number
+rri_numbers rri.Addi = op_imm 0 WholeImm
+rri_numbers rri.Slti = op_imm 2 WholeImm
+rri_numbers rri.SltiU = op_imm 3 WholeImm
+rri_numbers rri.Xori = op_imm 4 WholeImm
+rri_numbers rri.Ori = op_imm 6 WholeImm
+rri_numbers rri.Andi = op_imm 7 WholeImm
 rri_numbers rri.Slli = op_imm 1 (Shamt6 0x00)
 rri_numbers rri.Srli = op_imm 5 (Shamt6 0x00)
 rri_numbers rri.Srai = op_imm 5 (Shamt6 0x10)
-rri_numbers rri.Addiw = op_imm32 0 Number
+rri_numbers rri.Addiw = op_imm32 0 WholeImm
 rri_numbers rri.Slliw = op_imm32 1 (Shamt5 0x00)
 rri_numbers rri.SrliW = op_imm32 5 (Shamt5 0x00)
 rri_numbers rri.Sraiw = op_imm32 5 (Shamt5 0x20)
@@ -190,30 +190,30 @@ rri_numbers rri.Ctzw = op_imm32 1 (Fixed 0x601)
 rri_numbers rri.Rev8 = op_imm 5 (Fixed 0x6b8)
 rri_numbers rri.Sextb = op_imm 1 (Fixed 0x604)
 rri_numbers rri.Sexth = op_imm 1 (Fixed 0x605)
-rri_numbers rri.Zexth = record { opcode = OP_32; funct3 = 4; number = Fixed 0x080 }
+rri_numbers rri.Zexth = record { opcode = OP_32; funct3 = 4; upper = Fixed 0x080 }
 rri_numbers rri.Orcb = op_imm 5 (Fixed 0x287)
 
 abbrev pub funct6_of : Upper → Option ℕ
 funct6_of (Shamt6 f) = Some f
-funct6_of Number = None
+funct6_of WholeImm = None
 funct6_of (Shamt5 f) = None
 funct6_of (Fixed f) = None
 
 abbrev pub funct7_of : Upper → Option ℕ
 funct7_of (Shamt5 f) = Some f
-funct7_of Number = None
+funct7_of WholeImm = None
 funct7_of (Shamt6 f) = None
 funct7_of (Fixed f) = None
 
 abbrev pub funct12_of : Upper → Option ℕ
 funct12_of (Fixed f) = Some f
-funct12_of Number = None
+funct12_of WholeImm = None
 funct12_of (Shamt6 f) = None
 funct12_of (Shamt5 f) = None
 
 -- bits 31 to 20 of the word, of an immediate with these twelve bits
 abbrev pub imm12_of : Upper → ℕ → ℕ
-imm12_of Number bits = bits
+imm12_of WholeImm bits = bits
 imm12_of (Shamt6 f) bits = f * 2 ^ 6 + bits % 2 ^ 6
 imm12_of (Shamt5 f) bits = f * 2 ^ 5 + bits % 2 ^ 5
 imm12_of (Fixed f) bits = f

@@ -466,7 +466,7 @@ impl AluOPRRI {
 
     /// Bits 31 to 26 of the word, where a shift amount of six bits is below them.
     pub fn option_funct6(self) -> Option<u32>
-        ensures { result ≡ funct6_of (rri_numbers self).number }
+        ensures { result ≡ funct6_of (rri_numbers self).upper }
     {
         match self {
             Self::Slli | Self::Srli => Some(0b000000),
@@ -482,7 +482,7 @@ impl AluOPRRI {
 
     /// Bits 31 to 25 of the word, where a shift amount of five bits is below them.
     pub fn option_funct7(self) -> Option<u32>
-        ensures { result ≡ funct7_of (rri_numbers self).number }
+        ensures { result ≡ funct7_of (rri_numbers self).upper }
     {
         match self {
             Self::Slliw | Self::SrliW => Some(0b0000000),
@@ -494,7 +494,7 @@ impl AluOPRRI {
 
     /// Bits 31 to 20 of the word, where the operation takes no immediate.
     pub fn option_funct12(self) -> Option<u32>
-        ensures { result ≡ funct12_of (rri_numbers self).number }
+        ensures { result ≡ funct12_of (rri_numbers self).upper }
     {
         match self {
             Self::Zexth => Some(0b000010000000),
@@ -530,7 +530,7 @@ impl AluOPRRI {
 
     /// Bits 31 to 20 of the word: the immediate, or the shift amount below the operation's own bits, or those bits alone.
     pub fn imm12(self, imm12: Imm12) -> u32
-        ensures value { result ≡ imm12_of (rri_numbers self).number (low_bits (2 ^ 12) imm12.value) }
+        ensures value { result ≡ imm12_of (rri_numbers self).upper (low_bits (2 ^ 12) imm12.value) }
         ensures width { result < 2 ^ 12 }
     {
         let bits = imm12.bits();

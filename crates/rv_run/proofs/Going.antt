@@ -5,7 +5,7 @@ use Rattle.rv_base.specs.declared.flags.IsaFlags.{IsaFlags}
 use Rattle.rv_machine.specs.State.{State}
 use Rattle.rv_machine.specs.Steps.{Machine, istep, iter, then_step}
 use Rattle.rv_run.specs.declared.ending.Ending.{Ending}
-use Rattle.rv_run.specs.Running.{ending_of, Runs, Turn}
+use Rattle.rv_run.specs.Running.{ending_of, Runs, StepOrEnding}
 use Rattle.rv_run.specs.Tracing.{line_at, line_from, trace}
 use borrow.Author.Count.{below_more}
 
@@ -45,7 +45,7 @@ pub record GoingMachine (flags : IsaFlags) (base len limit : ℕ) (first : State
 
 -- one turn that does not end the run
 pub going_on : (flags : IsaFlags) (base len limit : ℕ) (first : State) (k : ℕ) (old new : Machine) → Going flags base len limit first k old.state → old.flags ≡ flags
-    → Turn base len limit k old new None → GoingMachine flags base len limit first (k + 1) new
+    → StepOrEnding base len limit k old new None → GoingMachine flags base len limit first (k + 1) new
 going_on flags base len limit first k old new going same turn = record {
   going = going_more flags base len limit first k old.state new.state going
       (subst (λ (f : IsaFlags). ending_of f base len limit k old.state ≡ None) same turn.0)

@@ -27,10 +27,10 @@ written c ends.ReadFault due appended = absurd (meant c ends.ReadFault due).3
 written c ends.WriteFault due appended = absurd (meant c ends.WriteFault due).3
 written c ends.OutOfMemory due appended = absurd (meant c ends.OutOfMemory due).3
 
-pub ended_written : (c : Call) (outcome answer : Outcome) → Due c outcome → WritesText outcome c.taken c.taken_after c.write_faults c.write_faults_after answer → Ended c answer
-ended_written c outcome answer due (inl (is, appended)) = subst (λ (o : Outcome). Ended c o) (sym is) (written c outcome due appended)
-ended_written c outcome answer due (inr (inl (is, rose, front))) = subst (λ (o : Outcome). Ended c o) (sym is) (rose, (outcome, due, front))
-ended_written c outcome answer due (inr (inr (is, front))) = subst (λ (o : Outcome). Ended c o) (sym is) (inr (outcome, due, front))
+pub ended_written : (c : Call) (outcome returned : Outcome) → Due c outcome → WritesText outcome c.taken c.taken_after c.write_faults c.write_faults_after returned → Ended c returned
+ended_written c outcome returned due (inl (is, appended)) = subst (λ (o : Outcome). Ended c o) (sym is) (written c outcome due appended)
+ended_written c outcome returned due (inr (inl (is, rose, front))) = subst (λ (o : Outcome). Ended c o) (sym is) (rose, (outcome, due, front))
+ended_written c outcome returned due (inr (inr (is, front))) = subst (λ (o : Outcome). Ended c o) (sym is) (inr (outcome, due, front))
 
 -- an outcome that an input means is due where the input was read
 pub due_read : (c : Call) (outcome : Outcome) → Read c outcome → Due c outcome

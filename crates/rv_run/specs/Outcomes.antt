@@ -188,9 +188,9 @@ Ended c ends.WriteFault = Rose c.write_faults c.write_faults_after × WroteFront
 Ended c ends.OutOfMemory = Keeps c.taken c.taken_after ⊎ WroteFront c
 Ended c outcome = Wrote c outcome
 
--- A text was written and the answer is the outcome meant, or a fault of the sink came, or there was no memory.
+-- A text was written and the outcome meant is returned, or a fault of the sink came, or memory ran out.
 abbrev pub WritesText : Outcome → Option (List ℕ) → Option (List ℕ) → ℕ → ℕ → Outcome → Type 0
-WritesText outcome old new before after answer =
-    ((answer ≡ outcome) × Appends old new (text_of outcome))
-    ⊎ ((answer ≡ ends.WriteFault) × Rose before after × TookFront old new (text_of outcome))
-    ⊎ ((answer ≡ ends.OutOfMemory) × TookFront old new (text_of outcome))
+WritesText outcome old new before after returned =
+    ((returned ≡ outcome) × Appends old new (text_of outcome))
+    ⊎ ((returned ≡ ends.WriteFault) × Rose before after × TookFront old new (text_of outcome))
+    ⊎ ((returned ≡ ends.OutOfMemory) × TookFront old new (text_of outcome))

@@ -70,9 +70,9 @@ pub record Runs (flags : IsaFlags) (base len limit : ℕ) (first : State) (k : �
   pub on : (j : ℕ) (s : State) → j < k → iter flags j first ≡ Some s → ending_of flags base len limit j s ≡ None
 
 -- one step of a machine, or why there is none
-abbrev pub Turn : ℕ → ℕ → ℕ → ℕ → Machine → Machine → Option Ending → Type 0
-Turn base len limit k old new None = (ending_of old.flags base len limit k old.state ≡ None) × (istep old.flags old.state ≡ Some new.state) × (new.flags ≡ old.flags)
-Turn base len limit k old new (Some ending) = (ending_of old.flags base len limit k old.state ≡ Some ending) × (new ≡ old)
+abbrev pub StepOrEnding : ℕ → ℕ → ℕ → ℕ → Machine → Machine → Option Ending → Type 0
+StepOrEnding base len limit k old new None = (ending_of old.flags base len limit k old.state ≡ None) × (istep old.flags old.state ≡ Some new.state) × (new.flags ≡ old.flags)
+StepOrEnding base len limit k old new (Some ending) = (ending_of old.flags base len limit k old.state ≡ Some ending) × (new ≡ old)
 
 -- a run of a machine
 abbrev pub RunsTo : ℕ → ℕ → ℕ → Machine → ℕ → Machine → Ending → Type 0

@@ -148,7 +148,7 @@ fn word_text(alloc: Global, given: &Given, cause: BadWord) -> Result<List<u8>, O
 }
 
 /// The outcome of an input.
-fn answer<P: Progress>(
+fn outcome_of_input<P: Progress>(
     alloc: Global,
     given: &Given,
     settings: &Settings,
@@ -208,7 +208,7 @@ fn run_given<S: Source, K: Sink, P: Progress>(
         Err(ReadAllError::TooLong) => return write_text(alloc, sink, Outcome::TooLong),
         Err(ReadAllError::OutOfMemory) => return Outcome::OutOfMemory,
     };
-    match answer(alloc, given, settings, &input, progress) {
+    match outcome_of_input(alloc, given, settings, &input, progress) {
         Ok(outcome) => write_text(alloc, sink, outcome),
         Err(OutOfMemory) => Outcome::OutOfMemory,
     }

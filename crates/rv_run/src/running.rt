@@ -2,7 +2,7 @@
 
 ghost use Rattle.std.specs.Prelude.{◌≡◌, ◌<◌, IfOk, Some, None, ℕ};
 ghost use Rattle.rv_base.specs.declared.flags.IsaFlags.{IsaFlags as Flags};
-ghost use Rattle.rv_run.specs.Running.{offset_in, word_at, is_break_base, is_break_op, is_break, stop_of, ending_of, Turn, RunsTo};
+ghost use Rattle.rv_run.specs.Running.{offset_in, word_at, is_break_base, is_break_op, is_break, stop_of, ending_of, StepOrEnding, RunsTo};
 
 use crate::ending::{Ending, Place};
 use crate::progress::{Progress, note_steps};
@@ -93,7 +93,7 @@ pub(crate) fn turn(
 ) -> Result<Option<Ending>, OutOfMemory>
     requires below { done < limit }
     requires flags { machine.old.flags ≡ flags }
-    ensures { IfOk result (Turn place.base place.len limit done machine.old machine.new) }
+    ensures { IfOk result (StepOrEnding place.base place.len limit done machine.old machine.new) }
 {
     let Some(offset) = offset_in(place, machine.pc()) else {
         return Ok(Some(Ending::Left {

@@ -2,7 +2,7 @@
 
 ghost use Rattle.std.specs.Prelude.{◌≡◌, ◌++◌, ◌<◌, [], IfOk, IfSome, OnOk};
 ghost use Rattle.rv_machine.specs.Layout.{HasFileRegisters};
-ghost use Rattle.rv_run.specs.Running.{Turn, RunsTo};
+ghost use Rattle.rv_run.specs.Running.{StepOrEnding, RunsTo};
 ghost use Rattle.rv_run.specs.Tracing.{operation_line, line_to, trace, PutsLine};
 
 use crate::ending::{Ending, Place};
@@ -43,7 +43,7 @@ fn traced_turn(
 ) -> Result<Option<Ending>, OutOfMemory>
     requires below { done < limit }
     requires flags { machine.old.flags ≡ flags }
-    ensures turned { IfOk result (Turn place.base place.len limit done machine.old machine.new) }
+    ensures turned { IfOk result (StepOrEnding place.base place.len limit done machine.old machine.new) }
     ensures line { IfOk result (PutsLine flags place.base machine.old out.old.items out.new.items) }
 {
     let word = word_at(machine);

@@ -1,4 +1,4 @@
-//! Ones and zeros counted and bits reversed by code on the machine, at the edges and of a thousand random numbers each. The answers'
+//! Ones and zeros counted and bits reversed by code on the machine, at the edges and of a thousand random numbers each. The results'
 //! digests are of a few lines of Python, with its integers' `bit_length` and its texts of bits.
 
 use crate::runs::{BASE, CALLER, returns};
@@ -63,8 +63,8 @@ fn machine_of(alloc: Global, line: &str) -> Result<IntMachine, Fail> {
     Ok(machine)
 }
 
-/// The digest with one answer more; none where the code doesn't return.
-fn with_answer(
+/// The digest with one result more; none where the code doesn't return.
+fn with_result(
     machine: &mut IntMachine,
     hash: u64,
     number: u64,
@@ -89,11 +89,11 @@ fn random_number(state: u64, i: u32) -> u64 {
     }
 }
 
-/// FNV-1a over the answers in place of bytes: of the edges, and of the random numbers.
+/// FNV-1a over the results in place of bytes: of the edges, and of the random numbers.
 fn digest(machine: &mut IntMachine) -> Result<Option<u64>, OutOfMemory> {
     let mut hash = 0xcbf29ce484222325;
     for number in &EDGES {
-        match with_answer(machine, hash, *number)? {
+        match with_result(machine, hash, *number)? {
             Some(more) => hash = more,
             None => return Ok(None),
         }
@@ -103,7 +103,7 @@ fn digest(machine: &mut IntMachine) -> Result<Option<u64>, OutOfMemory> {
         state = state
             .wrapping_mul(6364136223846793005)
             .wrapping_add(1442695040888963407);
-        match with_answer(machine, hash, random_number(state, i))? {
+        match with_result(machine, hash, random_number(state, i))? {
             Some(more) => hash = more,
             None => return Ok(None),
         }

@@ -1,4 +1,4 @@
-//! Operations at their edges: the answers were computed from the manual's sentences, by whole numbers, outside this project.
+//! Operations at their edges: the results were computed from the manual's sentences, by whole numbers, outside this project.
 
 use rv_base::{IsaFlags, OutOfMemory};
 use rv_machine::{
@@ -21,7 +21,7 @@ const PAIRS: [(u64, u64); 8] = [
 
 /// The mnemonic and word of `op a2, a0, a1` with what it gives for each of the pairs; and of `op a2, a0` and an
 /// immediate with sources, each with what it gives. All in hex.
-const ANSWERS: &str = "\
+const RESULTS: &str = "\
 add 00b50633 7fffffffffffffff ffffffffffffffff 800000000000003e 180000020 123456789abcdf10 8000000000000000 8000000000000000 ffffffff7fffffff
 sub 40b50633 8000000000000001 ffffffffffffffff 7fffffffffffffc0 17fffffe2 123456789abcded0 8000000000000000 8000000000000002 ffffffff80000001
 sll 00b51633 0 ffffffffffffffff 8000000000000000 c000000080000000 9abcdef000000000 0 8000000000000000 0
@@ -153,7 +153,12 @@ rev8 6b855613 0:0 8000000000000000:80 ff0080010080f1:f18000018000ff00
 ";
 
 /// Does one row, and returns its step and what it leaves in a2.
-fn answer(machine: &mut IntMachine, word: u64, x: u64, y: u64) -> Result<(Step, u64), OutOfMemory> {
+fn stepped(
+    machine: &mut IntMachine,
+    word: u64,
+    x: u64,
+    y: u64,
+) -> Result<(Step, u64), OutOfMemory> {
     machine.load_image(0x1000, &word.to_le_bytes())?;
     machine.set_pc(0x1000);
     machine.set_reg(10, x);
@@ -168,7 +173,7 @@ pub fn number(text: &str) -> u64 {
 }
 
 /// Does one row, and stops unless it leaves `expected` in a2.
-fn assert_answer(
+fn assert_result(
     rt: &impl Abort,
     machine: &mut IntMachine,
     name: &str,
@@ -177,16 +182,16 @@ fn assert_answer(
     y: u64,
     expected: u64,
 ) -> Result<(), OutOfMemory> {
-    let (step, got) = answer(machine, word, x, y)?;
+    let (step, got) = stepped(machine, word, x, y)?;
     assert!(rt; step == Step::Stepped, "{name} of {x:x} and {y:x}");
     assert_eq!(rt; got, expected, "{name} of {x:x} and {y:x}");
     Ok(())
 }
 
-/// The sources and the answer of a column: `x:answer`, or the answer for the pair at its place.
+/// The sources and the result of a column: `x:result`, or the result for the pair at its place.
 fn sources(at: usize, column: &str) -> (u64, u64, u64) {
     match column.split_once(':') {
-        Some((x, answer)) => (number(x), 0, number(answer)),
+        Some((x, stepped)) => (number(x), 0, number(stepped)),
         None => {
             let (x, y) = PAIRS.get(at).copied().unwrap_or((0, 0));
             (x, y, number(column))
@@ -194,7 +199,7 @@ fn sources(at: usize, column: &str) -> (u64, u64, u64) {
     }
 }
 
-/// Does the rows of a line of `ANSWERS`, and returns how many there are.
+/// Does the rows of a line of `RESULTS`, and returns how many there are.
 fn do_line(rt: &impl Abort, machine: &mut IntMachine, line: &str) -> Result<u32, OutOfMemory> {
     let mut columns = line.split(' ');
     let (Some(name), Some(word)) = (columns.next(), columns.next()) else {
@@ -204,17 +209,17 @@ fn do_line(rt: &impl Abort, machine: &mut IntMachine, line: &str) -> Result<u32,
     let mut rows = 0u32;
     for column in columns {
         let (x, y, expected) = sources(rows as usize, column);
-        assert_answer(rt, machine, name, word, x, y, expected)?;
+        assert_result(rt, machine, name, word, x, y, expected)?;
         rows = rows.wrapping_add(1);
     }
     Ok(rows)
 }
 
 #[test]
-fn rows_have_their_answers(rt: HostRuntime) -> Result<(), OutOfMemory> {
+fn rows_have_their_results(rt: HostRuntime) -> Result<(), OutOfMemory> {
     let mut machine = IntMachine::new(rt.alloc(), IsaFlags::none(), 0);
     let mut rows = 0u32;
-    for line in ANSWERS.lines() {
+    for line in RESULTS.lines() {
         let done = do_line(&rt, &mut machine, line)?;
         rows = rows.wrapping_add(done);
     }

@@ -1,4 +1,4 @@
-//! Loads and stores at their edges: the words are those that GNU `as` makes for rv64i, and the answers were computed from
+//! Loads and stores at their edges: the words are those that GNU `as` makes for rv64i, and the results were computed from
 //! the manual's sentences, byte by byte, outside this project.
 
 use crate::machine::number;
@@ -114,7 +114,7 @@ fn do_load(rt: &impl Abort, machine: &mut IntMachine, line: &str) -> Result<bool
     let (Some(_), Some(word), Some(base)) = (columns.next(), columns.next(), columns.next()) else {
         return Ok(false);
     };
-    let (Some(address), Some(bytes), Some(answer)) = (
+    let (Some(address), Some(bytes), Some(loaded)) = (
         columns.next(),
         columns.next(),
         columns.next(),
@@ -124,7 +124,7 @@ fn do_load(rt: &impl Abort, machine: &mut IntMachine, line: &str) -> Result<bool
     machine.load_image(number(address), &number(bytes).to_be_bytes())?;
     let step = do_word(machine, number(word), number(base), 0)?;
     assert!(rt; step == Step::Stepped, "{line}");
-    assert_eq!(rt; machine.reg(12), number(answer), "{line}");
+    assert_eq!(rt; machine.reg(12), number(loaded), "{line}");
     Ok(true)
 }
 
@@ -165,7 +165,7 @@ fn do_store(rt: &impl Abort, machine: &mut IntMachine, line: &str) -> Result<boo
 }
 
 #[test]
-fn loads_have_their_answers(rt: HostRuntime) -> Result<(), OutOfMemory> {
+fn loads_have_their_results(rt: HostRuntime) -> Result<(), OutOfMemory> {
     let mut machine = IntMachine::new(rt.alloc(), IsaFlags::none(), 0);
     let mut done = 0u32;
     for line in LOADS.lines() {

@@ -35,7 +35,7 @@ const ODD: Placing = Placing {
     slots: [0x50010, 0x50008],
 };
 
-/// Where the first call goes, its number, and the answer.
+/// Where the first call goes, its number, and the result.
 const PARITIES: [(u64, u64, u64); 4] = [
     (0x10000, 100, 1),
     (0x10000, 101, 0),

@@ -12,7 +12,7 @@ const GCD: &str =
 const COUNTDOWN: &str =
     "code 12\n00000000 1305f5ffe31e05fe67800000\nline 0 0 0\nline 1 0 4\nline 2 4 8\nline 3 8 12\nlabel L0 0\nend 12\n";
 
-/// A branch to 20 by a veneer at 8, with a jump round the island at 4.
+/// A branch to 20 by a veneer at 8, with a jump over the island at 4.
 const ISLAND: &str =
     "code 24\n00000000 6304b5006f00c000970f00006780cf00\n00000010 1300000067800000\nline 0 0 4\nline 1 4 16\nline 2 16 20\nline 3 20 20\nline 4 20 24\nlabel L0 20\nend 24\n";
 

@@ -31,37 +31,37 @@ abbrev pub low_bits : ℕ → Decoded → ℕ
 low_bits bits d = cast_unsigned w64 d.imm % 2 ^ bits
 
 -- the first operand, and those after it
-abbrev pub first : ℕ → List ℕ
-first n = codes " " ++ register n
+abbrev pub first_register : ℕ → List ℕ
+first_register n = codes " " ++ register n
 
-abbrev pub next : ℕ → List ℕ
-next n = comma ++ register n
+abbrev pub next_register : ℕ → List ℕ
+next_register n = comma ++ register n
 
 abbrev pub next_number : ℤ → List ℕ
 next_number n = comma ++ signed_decimal n
 
 -- an immediate with a register in parentheses, after a register
 abbrev pub based : ℕ → ℤ → ℕ → List ℕ
-based a n b = first a ++ next_number n ++ codes "(" ++ register b ++ codes ")"
+based a n b = first_register a ++ next_number n ++ codes "(" ++ register b ++ codes ")"
 
-abbrev pub two : ℕ → ℕ → List ℕ
-two a b = first a ++ next b
+abbrev pub two_registers : ℕ → ℕ → List ℕ
+two_registers a b = first_register a ++ next_register b
 
-abbrev pub three : ℕ → ℕ → ℕ → List ℕ
-three a b c = first a ++ next b ++ next c
+abbrev pub three_registers : ℕ → ℕ → ℕ → List ℕ
+three_registers a b c = first_register a ++ next_register b ++ next_register c
 
 abbrev pub two_sets : ℕ → ℕ → List ℕ
 two_sets a b = codes " " ++ set a ++ comma ++ set b
 
 abbrev pub operands_text : Operands → Decoded → List ℕ
-operands_text Registers d = three d.rd d.rs1 d.rs2
-operands_text Immediate d = two d.rd d.rs1 ++ next_number d.imm
-operands_text Source d = two d.rd d.rs1
-operands_text Upper d = first d.rd ++ comma ++ decimal (low_bits 20 d)
-operands_text Jump d = first d.rd ++ next_number d.imm
+operands_text Registers d = three_registers d.rd d.rs1 d.rs2
+operands_text Immediate d = two_registers d.rd d.rs1 ++ next_number d.imm
+operands_text Source d = two_registers d.rd d.rs1
+operands_text Upper d = first_register d.rd ++ comma ++ decimal (low_bits 20 d)
+operands_text Jump d = first_register d.rd ++ next_number d.imm
 operands_text Based d = based d.rd d.imm d.rs1
 operands_text StoreBased d = based d.rs2 d.imm d.rs1
-operands_text Branch d = two d.rs1 d.rs2 ++ next_number d.imm
+operands_text Branch d = two_registers d.rs1 d.rs2 ++ next_number d.imm
 operands_text Sets d = two_sets (low_bits 8 d / 16) (low_bits 8 d % 16)
 operands_text Nothing d = []
 

@@ -5,7 +5,7 @@ ghost use Rattle.std.specs.Fmt.{decimal, signed_decimal};
 ghost use Rattle.std.specs.Int.{w16, w32, w64, to_be_bytes, cast_signed};
 ghost use Rattle.hex.specs.Hex.{encode_lower};
 ghost use Rattle.rv_machine.specs.Layout.{HasFileRegisters};
-ghost use Rattle.rv_trace.specs.Instruction.{register, access, accesses, set, low_bits, first, next, next_number, based, two, three, two_sets, operands_text, instruction_text, written_text, word_text, place_text, step_line};
+ghost use Rattle.rv_trace.specs.Instruction.{register, access, accesses, set, low_bits, first_register, next_register, next_number, based, two_registers, three_registers, two_sets, operands_text, instruction_text, written_text, word_text, place_text, step_line};
 
 use crate::operands::{Operands, mnemonic, operands_of};
 use itoa::Buffer;
@@ -99,7 +99,7 @@ fn put_set(out: &mut Vec<u8>, n: u64) -> Result<(), OutOfMemory>
 // A space and a register.
 fn put_first(alloc: Global, out: &mut Vec<u8>, number: u8) -> Result<(), OutOfMemory>
     requires { number < 32 }
-    ensures { OnOk result (out.new.items ≡ out.old.items ++ first number) }
+    ensures { OnOk result (out.new.items ≡ out.old.items ++ first_register number) }
 {
     put(out, b" ")?;
     put_register(alloc, out, number)
@@ -108,7 +108,7 @@ fn put_first(alloc: Global, out: &mut Vec<u8>, number: u8) -> Result<(), OutOfMe
 // A comma and a register.
 fn put_next(alloc: Global, out: &mut Vec<u8>, number: u8) -> Result<(), OutOfMemory>
     requires { number < 32 }
-    ensures { OnOk result (out.new.items ≡ out.old.items ++ next number) }
+    ensures { OnOk result (out.new.items ≡ out.old.items ++ next_register number) }
 {
     put(out, b",")?;
     put_register(alloc, out, number)
@@ -164,7 +164,7 @@ fn put_three(alloc: Global, out: &mut Vec<u8>, a: u8, b: u8, c: u8) -> Result<()
     requires a { a < 32 }
     requires b { b < 32 }
     requires c { c < 32 }
-    ensures { OnOk result (out.new.items ≡ out.old.items ++ three a b c) }
+    ensures { OnOk result (out.new.items ≡ out.old.items ++ three_registers a b c) }
 {
     put_first(alloc, out, a)?;
     put_next(alloc, out, b)?;
@@ -174,7 +174,7 @@ fn put_three(alloc: Global, out: &mut Vec<u8>, a: u8, b: u8, c: u8) -> Result<()
 fn put_two(alloc: Global, out: &mut Vec<u8>, a: u8, b: u8) -> Result<(), OutOfMemory>
     requires a { a < 32 }
     requires b { b < 32 }
-    ensures { OnOk result (out.new.items ≡ out.old.items ++ two a b) }
+    ensures { OnOk result (out.new.items ≡ out.old.items ++ two_registers a b) }
 {
     put_first(alloc, out, a)?;
     put_next(alloc, out, b)
@@ -183,7 +183,7 @@ fn put_two(alloc: Global, out: &mut Vec<u8>, a: u8, b: u8) -> Result<(), OutOfMe
 fn put_two_number(alloc: Global, out: &mut Vec<u8>, a: u8, b: u8, n: i64) -> Result<(), OutOfMemory>
     requires a { a < 32 }
     requires b { b < 32 }
-    ensures { OnOk result (out.new.items ≡ out.old.items ++ (two a b ++ next_number n)) }
+    ensures { OnOk result (out.new.items ≡ out.old.items ++ (two_registers a b ++ next_number n)) }
 {
     put_two(alloc, out, a, b)?;
     put_next_number(out, n)

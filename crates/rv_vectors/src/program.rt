@@ -363,8 +363,8 @@ fn with_failing_read(alloc: Global, listing: &[u8], call: usize) -> (u8, usize) 
 #[test]
 fn each_read_may_fail(rt: HostRuntime) {
     for call in 0..9 {
-        let told = with_failing_read(rt.alloc(), COUNTDOWN.as_bytes(), call);
-        assert_eq!(rt; told, (5, 0), "at {call}");
+        let ended = with_failing_read(rt.alloc(), COUNTDOWN.as_bytes(), call);
+        assert_eq!(rt; ended, (5, 0), "at {call}");
     }
 }
 

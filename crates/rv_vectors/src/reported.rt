@@ -37,11 +37,11 @@ pub fn assert_refused(
     alloc: Global,
     line: &str,
     status: u8,
-    answer: &str,
+    expected: &str,
 ) -> Result<(), AllocError> {
     let mut listing = String::new(alloc);
     write!(listing, "Ret\n{line}\n")?;
-    assert_reported(rt, alloc, line, listing.as_bytes(), status, answer);
+    assert_reported(rt, alloc, line, listing.as_bytes(), status, expected);
     Ok(())
 }
 
@@ -49,9 +49,9 @@ pub fn assert_refused(
 pub fn assert_rules_broken(rt: &impl Abort, alloc: Global, rows: &str) -> Result<(), AllocError> {
     for row in rows.lines() {
         let (rule, line) = row.split_once(':').unwrap_or(("", row));
-        let mut answer = String::new(alloc);
-        write!(answer, "rvemit: Malformed 1 {rule}\n")?;
-        assert_refused(rt, alloc, line, 4, &answer)?;
+        let mut expected = String::new(alloc);
+        write!(expected, "rvemit: Malformed 1 {rule}\n")?;
+        assert_refused(rt, alloc, line, 4, &expected)?;
     }
     Ok(())
 }

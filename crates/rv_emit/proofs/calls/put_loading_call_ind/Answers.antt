@@ -17,7 +17,7 @@ put_results-requires-clause-few c = let same = (call_ind_begins c.args.frame.now
 pub put_results-requires-clause-room : goal.put_results-requires-clause-room
 put_results-requires-clause-room c =
     let b = call_ind_begins c.args.frame.now c.args.info.now c.args.sink.now c.begin_call_ind.new.sink c.requires.calm c.in_ok-begin_call_ind.ensures.slots in
-    let few = b.few in let waiting = b.waiting in let reserve = b.reserve in
+    let few = b.few in let few_pending = b.few_pending in let reserve = b.reserve in
     let room = c.requires.room in
     let same = ap (count_by is_stacked) c.as_slice.ensures in
     omega arith

@@ -1,7 +1,7 @@
 use Rattle.std.proofs.Common.{sym, subst}
 use Rattle.rv_emit.specs.Emission.{PutsAlone}
 use Rattle.rv_emit.specs.InstParts.{patch_notes}
-use Rattle.rv_emit.proofs.SlotsPut.{none_put}
+use Rattle.rv_emit.proofs.SlotsOfOnePut.{none_put}
 use Rattle.rv_emit.proofs.calls.put_patchable.Goals as goal
 
 pub returns-in_ok-put_patch-clause-slots : goal.returns-in_ok-put_patch-clause-slots

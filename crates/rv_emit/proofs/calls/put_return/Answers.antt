@@ -1,7 +1,7 @@
 use Rattle.rv_base.specs.Flags.{no_flags}
 use Rattle.rv_emit.specs.InstParts.{map_notes}
-use Rattle.rv_emit.proofs.SlotsJoined.{alone_sound}
-use Rattle.rv_emit.proofs.TailsPut.{returned_put}
+use Rattle.rv_emit.proofs.SlotsOfSeveralPuts.{alone_sound}
+use Rattle.rv_emit.proofs.TailCallCode.{returned_put}
 use Rattle.rv_emit.proofs.calls.put_return.Goals as goal
 
 pub put_site-requires-clause-sound : goal.put_site-requires-clause-sound

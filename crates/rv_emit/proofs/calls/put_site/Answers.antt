@@ -6,7 +6,7 @@ use Rattle.mach_buffer.specs.declared.records.Event.TheVariants.{TryCallSite}
 use Rattle.rv_inst.specs.Records.{site_event}
 use Rattle.rv_emit.specs.Emission.{PutsAlone}
 use Rattle.rv_emit.specs.Slots.{Notes}
-use Rattle.rv_emit.proofs.SymbolsPut.{note_put}
+use Rattle.rv_emit.proofs.SymbolCode.{note_put}
 use Rattle.rv_emit.proofs.calls.put_site.Goals as goal
 
 pub returns-in_ok-add_try_call_site-in-Some-clause-slots : goal.returns-in_ok-add_try_call_site-in-Some-clause-slots

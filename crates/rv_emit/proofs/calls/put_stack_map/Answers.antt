@@ -4,8 +4,8 @@ use Rattle.mach_buffer.specs.Shape.{with_record}
 use Rattle.mach_buffer.specs.declared.records.Event.TheVariants.{StackMap}
 use Rattle.rv_emit.specs.Emission.{PutsAlone}
 use Rattle.rv_emit.specs.InstParts.{map_notes}
-use Rattle.rv_emit.proofs.SlotsPut.{none_put}
-use Rattle.rv_emit.proofs.SymbolsPut.{note_put}
+use Rattle.rv_emit.proofs.SlotsOfOnePut.{none_put}
+use Rattle.rv_emit.proofs.SymbolCode.{note_put}
 use Rattle.rv_emit.proofs.calls.put_stack_map.Goals as goal
 
 pub returns-in_ok-push_user_stack_map-in-Some-clause-slots : goal.returns-in_ok-push_user_stack_map-in-Some-clause-slots

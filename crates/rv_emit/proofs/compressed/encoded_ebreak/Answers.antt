@@ -3,7 +3,7 @@ use Rattle.rv_machine.specs.declared.ops.MOp.TheVariants.{Base}
 use Rattle.rv_machine.specs.declared.ops.BaseOp.TheVariants.{Ebreak}
 use Rattle.rv_machine.specs.Layout.{bare_form}
 use Rattle.rv_inst.specs.Forms.{form_ebreak}
-use Rattle.rv_emit.proofs.Chosen.{half_holds, word_holds}
+use Rattle.rv_emit.proofs.ChosenForms.{half_holds, word_holds}
 use Rattle.rv_emit.proofs.compressed.encoded_ebreak.Goals as goal
 
 pub returns-in-Some : goal.returns-in-Some

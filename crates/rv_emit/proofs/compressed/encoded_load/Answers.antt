@@ -2,7 +2,7 @@ use Rattle.std.proofs.Common.{refl}
 use Rattle.rv_base.specs.Regs.{number_of}
 use Rattle.rv_encode.specs.Operations.{decoded_load}
 use Rattle.rv_inst.specs.Forms.{form_load}
-use Rattle.rv_emit.proofs.Chosen.{half_holds, word_holds}
+use Rattle.rv_emit.proofs.ChosenForms.{half_holds, word_holds}
 use Rattle.rv_emit.proofs.compressed.encoded_load.Goals as goal
 
 pub returns-in-Some : goal.returns-in-Some

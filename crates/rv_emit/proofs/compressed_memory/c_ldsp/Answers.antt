@@ -1,7 +1,7 @@
 use Rattle.std.proofs.Common.{refl}
 use Rattle.rv_base.specs.Regs.{number_of}
 use Rattle.rv_ops.specs.declared.memory.LoadOP.TheVariants.{Ld}
-use Rattle.rv_emit.proofs.Chosen.{sp_load_is}
+use Rattle.rv_emit.proofs.ChosenForms.{sp_load_is}
 use Rattle.rv_emit.proofs.compressed_memory.c_ldsp.Goals as goal
 
 pub returns-in-Some : goal.returns-in-Some

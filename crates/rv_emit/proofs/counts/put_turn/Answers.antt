@@ -9,7 +9,7 @@ use Rattle.rv_emit.specs.Encoded.{Holds}
 use Rattle.rv_emit.specs.Operations.{decoded_beq, decoded_bne, decoded_bge, short_jump, jump_size}
 use Rattle.rv_emit.specs.Slots.{Op}
 use Rattle.rv_emit.proofs.CountSlots.{test_long}
-use Rattle.rv_emit.proofs.SlotsJoined.{both_alone}
+use Rattle.rv_emit.proofs.SlotsOfSeveralPuts.{both_alone}
 use Rattle.rv_emit.proofs.counts.put_turn.Goals as goal
 
 pub returns-clause-slots : goal.returns-clause-slots

@@ -7,7 +7,7 @@ use Rattle.rv_emit.specs.declared.state.EmitVState.TheVariants.{Unknown}
 use Rattle.rv_emit.proofs.FineOperands.{fine}
 use Rattle.rv_emit.proofs.InstSlots.{inst_appends}
 use Rattle.rv_emit.proofs.Bounds.{emit_bounded}
-use Rattle.rv_emit.proofs.ReachKept.{reach_after}
+use Rattle.rv_emit.proofs.ReachAfterInst.{reach_after}
 use Rattle.rv_emit.proofs.TailAppends.{appends, reach_asking}
 use Rattle.rv_emit.proofs.emit.put.Goals as goal
 

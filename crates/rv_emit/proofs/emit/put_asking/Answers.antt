@@ -4,8 +4,8 @@ use Rattle.rv_inst.specs.Operands.{tail_call_of}
 use Rattle.rv_inst.specs.Sizes.{table_space}
 use Rattle.mach_buffer.specs.Buffer.{registered_of}
 use Rattle.rv_emit.specs.Usable.{AreListed}
-use Rattle.rv_emit.proofs.ReachKept.{reach_calm}
-use Rattle.rv_emit.proofs.TablesPut.{table_kept, table_sum, island_room, island_sound, island_emits, table_emits}
+use Rattle.rv_emit.proofs.ReachAfterInst.{reach_calm}
+use Rattle.rv_emit.proofs.TableCode.{table_kept, table_sum, island_room, island_sound, island_emits, table_emits}
 use Rattle.rv_emit.proofs.CallRules.{call_asks, call_ind_asks}
 use Rattle.rv_emit.proofs.CallSlots.{loading_emits, loading_ind_emits, call_sum, call_ind_sum}
 use Rattle.rv_emit.proofs.Settings.{island_asked, table_asked, call_asked, call_ind_asked, tail_asked, jump_asked}

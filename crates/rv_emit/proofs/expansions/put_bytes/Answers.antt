@@ -1,4 +1,4 @@
-use Rattle.rv_emit.proofs.SlotsJoined.{bytes_put}
+use Rattle.rv_emit.proofs.SlotsOfSeveralPuts.{bytes_put}
 use Rattle.rv_emit.proofs.expansions.put_bytes.Goals as goal
 
 pub returns-clause-slots : goal.returns-clause-slots

@@ -1,7 +1,7 @@
 use Rattle.std.proofs.Common.{sym, ◌∙◌}
 use Rattle.std.proofs.lemmas.Result.{on_ok_weaker}
 use Rattle.rv_base.specs.Regs.{number_of}
-use Rattle.rv_emit.proofs.SlotsJoined.{constant_word, constant_double}
+use Rattle.rv_emit.proofs.SlotsOfSeveralPuts.{constant_word, constant_double}
 use Rattle.rv_emit.proofs.expansions.put_constant.Goals as goal
 
 pub returns-then-bits-eq32-clause-slots : goal.returns-then-bits-eq32-clause-slots

@@ -5,8 +5,8 @@ use Rattle.rv_base.specs.Regs.{number_of}
 use Rattle.rv_ops.specs.declared.memory.LoadOP.TheVariants as loads
 use Rattle.rv_emit.specs.Slots.{Data}
 use Rattle.rv_emit.specs.InstParts.{load_over}
-use Rattle.rv_emit.proofs.SlotsJoined.{bytes_put, both_alone, alone_sound}
-use Rattle.rv_emit.proofs.AddressesPut.{longer, load_over_short}
+use Rattle.rv_emit.proofs.SlotsOfSeveralPuts.{bytes_put, both_alone, alone_sound}
+use Rattle.rv_emit.proofs.AddressCode.{longer, load_over_short}
 use Rattle.rv_emit.proofs.expansions.put_double_constant.Goals as goal
 
 pub put8-requires-clause-room : goal.put8-requires-clause-room

@@ -2,24 +2,24 @@ use Rattle.std.proofs.Common.{[], ◌∷◌, ◌+◌, Some, pos, refl, ap, subst
 use Rattle.rv_base.specs.Regs.{number_of}
 use Rattle.rv_machine.specs.declared.ops.MOp.TheVariants.{Base}
 use Rattle.rv_machine.specs.declared.ops.BaseOp.TheVariants as base
-use Rattle.rv_encode.specs.Operations.{row, decoded_load}
+use Rattle.rv_encode.specs.Operations.{decoded, decoded_load}
 use Rattle.rv_emit.specs.Emission.{PutsAlone}
 use Rattle.rv_emit.specs.Operations.{short_jump, jump_size}
 use Rattle.rv_emit.specs.Slots.{Op}
-use Rattle.rv_emit.proofs.SlotsJoined.{both_alone, alone_long, alone_sound}
+use Rattle.rv_emit.proofs.SlotsOfSeveralPuts.{both_alone, alone_long, alone_sound}
 use Rattle.rv_emit.proofs.expansions.put_load_over.Goals as goal
 
 pub put_word-requires-2-clause-room : goal.put_word-requires-2-clause-room
 put_word-requires-2-clause-room c =
-    let l = alone_long (Op (row (Base base.Auipc) (number_of c.args.rd.reg) 0 0 (pos 0)) ∷ []) c.args.sink.now c.put_word.new.sink (c.in_ok-put_word.ensures.slot c.args.flags _ refl (c.enc_auipc.ensures c.args.flags)) in
+    let l = alone_long (Op (decoded (Base base.Auipc) (number_of c.args.rd.reg) 0 0 (pos 0)) ∷ []) c.args.sink.now c.put_word.new.sink (c.in_ok-put_word.ensures.slot c.args.flags _ refl (c.enc_auipc.ensures c.args.flags)) in
     let r = c.requires.room in omega arith
 
 pub put_word-requires-2-clause-sound : goal.put_word-requires-2-clause-sound
-put_word-requires-2-clause-sound c = alone_sound (Op (row (Base base.Auipc) (number_of c.args.rd.reg) 0 0 (pos 0)) ∷ []) c.args.sink.now c.put_word.new.sink (c.in_ok-put_word.ensures.slot c.args.flags _ refl (c.enc_auipc.ensures c.args.flags))
+put_word-requires-2-clause-sound c = alone_sound (Op (decoded (Base base.Auipc) (number_of c.args.rd.reg) 0 0 (pos 0)) ∷ []) c.args.sink.now c.put_word.new.sink (c.in_ok-put_word.ensures.slot c.args.flags _ refl (c.enc_auipc.ensures c.args.flags))
 
 pub put_short_jump-requires-clause-room : goal.put_short_jump-requires-clause-room
 put_short_jump-requires-clause-room c =
-    let l = alone_long (Op (row (Base base.Auipc) (number_of c.args.rd.reg) 0 0 (pos 0)) ∷ []) c.args.sink.now c.put_word.new.sink (c.in_ok-put_word.ensures.slot c.args.flags _ refl (c.enc_auipc.ensures c.args.flags)) in
+    let l = alone_long (Op (decoded (Base base.Auipc) (number_of c.args.rd.reg) 0 0 (pos 0)) ∷ []) c.args.sink.now c.put_word.new.sink (c.in_ok-put_word.ensures.slot c.args.flags _ refl (c.enc_auipc.ensures c.args.flags)) in
     let m = alone_long (Op (decoded_load c.args.op (number_of c.args.rd.reg) (number_of c.args.rd.reg) c.over_jump.result.value) ∷ []) c.put_word.new.sink c.put_word-2.new.sink (c.in_ok-put_word-2.ensures.slot c.args.flags _ refl (c.encode_load.ensures c.args.flags)) in
     let r = c.requires.room in omega arith
 
@@ -30,7 +30,7 @@ pub returns-clause-slots : goal.returns-clause-slots
 returns-clause-slots c =
     let n = number_of c.args.rd.reg in
     let flags = c.args.flags in
-    both_alone (Op (row (Base base.Auipc) n 0 0 (pos 0)) ∷ []) (Op (decoded_load c.args.op n n (pos (8 + jump_size flags))) ∷ Op (short_jump flags (pos (c.args.size + jump_size flags))) ∷ []) c.args.sink.now c.put_word.new.sink c.put_short_jump.new.sink tt
+    both_alone (Op (decoded (Base base.Auipc) n 0 0 (pos 0)) ∷ []) (Op (decoded_load c.args.op n n (pos (8 + jump_size flags))) ∷ Op (short_jump flags (pos (c.args.size + jump_size flags))) ∷ []) c.args.sink.now c.put_word.new.sink c.put_short_jump.new.sink tt
     (c.in_ok-put_word.ensures.slot flags _ refl (c.enc_auipc.ensures flags))
     (both_alone (Op (decoded_load c.args.op n n (pos (8 + jump_size flags))) ∷ []) (Op (short_jump flags (pos (c.args.size + jump_size flags))) ∷ []) c.put_word.new.sink c.put_word-2.new.sink c.put_short_jump.new.sink tt
     (c.in_ok-put_word-2.ensures.slot flags _ refl (c.encode_load.ensures flags ∙ ap (λ z. Some (decoded_load c.args.op n n z)) c.over_jump.ensures.value))

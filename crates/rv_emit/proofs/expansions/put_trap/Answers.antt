@@ -1,5 +1,5 @@
 use Rattle.std.proofs.Common.{[], ◌∷◌}
-use Rattle.rv_emit.proofs.SlotsJoined.{trap_put, half_trap, whole_trap}
+use Rattle.rv_emit.proofs.SlotsOfSeveralPuts.{trap_put, half_trap, whole_trap}
 use Rattle.rv_emit.proofs.expansions.put_trap.Goals as goal
 
 pub returns-then-flags-clause-slots : goal.returns-then-flags-clause-slots

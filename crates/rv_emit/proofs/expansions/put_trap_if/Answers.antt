@@ -1,6 +1,6 @@
 use Rattle.std.proofs.Common.{[], ◌∷◌, arith}
 use Rattle.rv_emit.specs.InstParts.{branch_over, trap_slots}
-use Rattle.rv_emit.proofs.SlotsJoined.{branch_over_put, over_far, both_alone, alone_long, alone_sound}
+use Rattle.rv_emit.proofs.SlotsOfSeveralPuts.{branch_over_put, over_far, both_alone, alone_long, alone_sound}
 use Rattle.rv_emit.proofs.expansions.put_trap_if.Goals as goal
 
 pub put_trap-requires-clause-room : goal.put_trap-requires-clause-room

@@ -1,4 +1,4 @@
-use Rattle.rv_emit.proofs.AddressesPut.{access_put, no_access}
+use Rattle.rv_emit.proofs.AddressCode.{access_put, no_access}
 use Rattle.rv_emit.proofs.memory.put_access.Goals as goal
 
 pub returns-in_ok-add_trap-in-Some-clause-slots : goal.returns-in_ok-add_trap-in-Some-clause-slots

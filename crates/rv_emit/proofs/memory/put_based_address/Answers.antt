@@ -8,7 +8,7 @@ use Rattle.rv_ops.specs.declared.alu.AluOPRRI.TheVariants.{Addi}
 use Rattle.rv_inst.specs.Forms.{short_rri, short_rrr}
 use Rattle.rv_emit.specs.Slots.{Op}
 use Rattle.rv_emit.specs.InstParts.{offset_slots}
-use Rattle.rv_emit.proofs.AddressesPut.{near_put, far_put}
+use Rattle.rv_emit.proofs.AddressCode.{near_put, far_put}
 use Rattle.rv_emit.proofs.memory.put_based_address.Goals as goal
 
 pub returns-in-Some-clause-slots : goal.returns-in-Some-clause-slots

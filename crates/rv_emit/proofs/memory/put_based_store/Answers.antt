@@ -7,7 +7,7 @@ use Rattle.rv_inst.specs.Addresses.{Based}
 use Rattle.rv_inst.specs.Forms.{short_store}
 use Rattle.rv_emit.specs.Slots.{Op}
 use Rattle.rv_emit.specs.InstParts.{access_slots, far_store_slots}
-use Rattle.rv_emit.proofs.AddressesPut.{near_put, far_put}
+use Rattle.rv_emit.proofs.AddressCode.{near_put, far_put}
 use Rattle.rv_emit.proofs.memory.put_based_store.Goals as goal
 
 pub returns-in-Some-clause-slots : goal.returns-in-Some-clause-slots

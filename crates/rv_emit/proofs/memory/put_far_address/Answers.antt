@@ -6,8 +6,8 @@ use Rattle.rv_ops.specs.declared.alu.AluOPRRR.TheVariants.{Add}
 use Rattle.rv_inst.specs.Forms.{short_rrr}
 use Rattle.rv_emit.specs.Slots.{Op}
 use Rattle.rv_emit.specs.InstParts.{offset_slots}
-use Rattle.rv_emit.proofs.AddressesPut.{longer, offset_short}
-use Rattle.rv_emit.proofs.SlotsJoined.{both_alone, alone_sound}
+use Rattle.rv_emit.proofs.AddressCode.{longer, offset_short}
+use Rattle.rv_emit.proofs.SlotsOfSeveralPuts.{both_alone, alone_sound}
 use Rattle.rv_emit.proofs.memory.put_far_address.Goals as goal
 
 pub put_rrr-requires-clause-room : goal.put_rrr-requires-clause-room

@@ -7,8 +7,8 @@ use Rattle.rv_encode.specs.Operations.{decoded_load}
 use Rattle.rv_emit.specs.Emission.{PutsAlone}
 use Rattle.rv_emit.specs.Slots.{Op}
 use Rattle.rv_emit.specs.InstParts.{access_slots, address_slots}
-use Rattle.rv_emit.proofs.AddressesPut.{longer, address_short, before_both, real_number}
-use Rattle.rv_emit.proofs.SlotsJoined.{alone_sound}
+use Rattle.rv_emit.proofs.AddressCode.{longer, address_short, before_both, real_number}
+use Rattle.rv_emit.proofs.SlotsOfSeveralPuts.{alone_sound}
 use Rattle.rv_emit.proofs.memory.put_far_load.Goals as goal
 
 pub put_spilled_load-requires-clause-room : goal.put_spilled_load-requires-clause-room

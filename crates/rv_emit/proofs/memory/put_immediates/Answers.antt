@@ -3,7 +3,7 @@ use Rattle.rv_base.specs.Regs.{number_of}
 use Rattle.rv_inst.specs.Forms.{short_lui}
 use Rattle.rv_emit.specs.InstParts.{lower_slots}
 use Rattle.rv_emit.specs.Slots.{Op}
-use Rattle.rv_emit.proofs.SlotsJoined.{both_alone}
+use Rattle.rv_emit.proofs.SlotsOfSeveralPuts.{both_alone}
 use Rattle.rv_emit.proofs.memory.put_immediates.Goals as goal
 
 pub returns-clause-slots : goal.returns-clause-slots

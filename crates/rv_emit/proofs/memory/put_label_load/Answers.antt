@@ -5,9 +5,9 @@ use Rattle.rv_inst.specs.declared.label_use.LabelUse.TheVariants.{PCRelLo12I}
 use Rattle.rv_emit.specs.Immediates.{lower_of_distance}
 use Rattle.rv_emit.specs.Slots.{Aim, Label}
 use Rattle.rv_emit.specs.InstParts.{access_slots, upper_at}
-use Rattle.rv_emit.proofs.AddressesPut.{aim_put, longer, access_short}
-use Rattle.rv_emit.proofs.PartsPatched.{load_patchable}
-use Rattle.rv_emit.proofs.SlotsJoined.{both_alone, alone_long, alone_sound, alone_usable}
+use Rattle.rv_emit.proofs.AddressCode.{aim_put, longer, access_short}
+use Rattle.rv_emit.proofs.PatchedWindows.{load_patchable}
+use Rattle.rv_emit.proofs.SlotsOfSeveralPuts.{both_alone, alone_long, alone_sound, alone_usable}
 use Rattle.rv_base.specs.Flags.{no_flags}
 use Rattle.rv_emit.proofs.memory.put_label_load.Goals as goal
 

@@ -3,7 +3,7 @@ use Rattle.std.specs.Int.{cast_unsigned, w16}
 use Rattle.std.proofs.lemmas.Result.{on_ok_weaker}
 use Rattle.rv_base.specs.Regs.{number_of}
 use Rattle.rv_emit.proofs.OffsetParts.{bits_zero}
-use Rattle.rv_emit.proofs.AddressesPut.{lower_zero_put, lower_put}
+use Rattle.rv_emit.proofs.AddressCode.{lower_zero_put, lower_put}
 use Rattle.rv_emit.proofs.memory.put_lower_immediate.Goals as goal
 
 pub returns-then-lower-eq0-clause-slots : goal.returns-then-lower-eq0-clause-slots

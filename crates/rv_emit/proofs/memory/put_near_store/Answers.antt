@@ -3,8 +3,8 @@ use Rattle.rv_base.specs.Regs.{number_of}
 use Rattle.rv_inst.specs.Forms.{short_store}
 use Rattle.rv_emit.specs.Slots.{Op}
 use Rattle.rv_emit.specs.InstParts.{access_slots}
-use Rattle.rv_emit.proofs.AddressesPut.{longer, access_short}
-use Rattle.rv_emit.proofs.SlotsJoined.{both_alone, alone_sound}
+use Rattle.rv_emit.proofs.AddressCode.{longer, access_short}
+use Rattle.rv_emit.proofs.SlotsOfSeveralPuts.{both_alone, alone_sound}
 use Rattle.rv_emit.proofs.memory.put_near_store.Goals as goal
 
 pub put_store_word-requires-clause-room : goal.put_store_word-requires-clause-room

@@ -3,7 +3,7 @@ use Rattle.std.proofs.lemmas.Result.{on_ok_weaker}
 use Rattle.std.specs.Int.{cast_signed, cast_unsigned, w64}
 use Rattle.std.proofs.lemmas.Int.{to_z-of_z}
 use Rattle.rv_base.specs.Regs.{number_of}
-use Rattle.rv_emit.proofs.AddressesPut.{immediates_put, constant_put}
+use Rattle.rv_emit.proofs.AddressCode.{immediates_put, constant_put}
 use Rattle.rv_emit.proofs.memory.put_offset.Goals as goal
 
 pub returns-in-Some-clause-slots : goal.returns-in-Some-clause-slots

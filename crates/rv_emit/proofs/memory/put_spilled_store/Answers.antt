@@ -5,8 +5,8 @@ use Rattle.rv_encode.specs.Operations.{decoded_store}
 use Rattle.rv_emit.specs.Emission.{PutsAlone}
 use Rattle.rv_emit.specs.Slots.{Op}
 use Rattle.rv_emit.specs.InstParts.{access_slots}
-use Rattle.rv_emit.proofs.AddressesPut.{longer, access_short, real_number}
-use Rattle.rv_emit.proofs.SlotsJoined.{both_alone, alone_sound}
+use Rattle.rv_emit.proofs.AddressCode.{longer, access_short, real_number}
+use Rattle.rv_emit.proofs.SlotsOfSeveralPuts.{both_alone, alone_sound}
 use Rattle.rv_emit.proofs.memory.put_spilled_store.Goals as goal
 
 pub put_word-requires-clause-room : goal.put_word-requires-clause-room

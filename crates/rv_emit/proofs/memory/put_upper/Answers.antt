@@ -2,8 +2,8 @@ use Rattle.std.proofs.Common.{arith}
 use Rattle.rv_base.specs.Flags.{no_flags}
 use Rattle.rv_base.specs.Regs.{number_of}
 use Rattle.rv_inst.specs.declared.label_use.LabelUse.TheVariants.{PCRelHi20}
-use Rattle.rv_emit.proofs.AddressesPut.{aim_put}
-use Rattle.rv_emit.proofs.PartsPatched.{upper_patchable}
+use Rattle.rv_emit.proofs.AddressCode.{aim_put}
+use Rattle.rv_emit.proofs.PatchedWindows.{upper_patchable}
 use Rattle.rv_emit.proofs.UpperWords.{auipc_layout}
 use Rattle.rv_emit.proofs.memory.put_upper.Goals as goal
 

@@ -4,8 +4,8 @@ use Rattle.rv_base.specs.Regs.{number_of}
 use Rattle.rv_ops.specs.declared.alu.AluOPRRI.TheVariants.{Srli}
 use Rattle.rv_emit.specs.Counts.{start_ops, turn_ops}
 use Rattle.rv_emit.specs.Slots.{Op}
-use Rattle.rv_emit.proofs.SlotsJoined.{both_alone, alone_sound}
-use Rattle.rv_emit.proofs.AddressesPut.{longer}
+use Rattle.rv_emit.proofs.SlotsOfSeveralPuts.{both_alone, alone_sound}
+use Rattle.rv_emit.proofs.AddressCode.{longer}
 use Rattle.rv_emit.proofs.CountSlots.{start_short}
 use Rattle.rv_emit.proofs.popcnt.put_popcnt.Goals as goal
 

@@ -6,9 +6,9 @@ use Rattle.rv_emit.specs.Emission.{PutsAlone}
 use Rattle.rv_emit.specs.InstParts.{number_slots}
 use Rattle.rv_emit.specs.Probes.{probe_turn}
 use Rattle.rv_emit.specs.Slots.{Op}
-use Rattle.rv_emit.proofs.AddressesPut.{longer, before_both, real_number}
-use Rattle.rv_emit.proofs.NumbersPut.{number_short, own_word, small_signed}
-use Rattle.rv_emit.proofs.SlotsJoined.{both_alone}
+use Rattle.rv_emit.proofs.AddressCode.{longer, before_both, real_number}
+use Rattle.rv_emit.proofs.NumberCode.{number_short, own_word, small_signed}
+use Rattle.rv_emit.proofs.SlotsOfSeveralPuts.{both_alone}
 use Rattle.rv_emit.proofs.probes.put_probe_loop.Goals as goal
 
 pub put_number-requires-2-clause-room : goal.put_number-requires-2-clause-room

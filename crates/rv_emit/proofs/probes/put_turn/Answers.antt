@@ -5,7 +5,7 @@ use Rattle.rv_emit.specs.Emission.{PutsAlone}
 use Rattle.rv_emit.specs.Operations.{decoded_bgeu, short_jump, jump_size}
 use Rattle.rv_emit.specs.Probes.{probe_op, zero_op, nearer_op, probe_turn_size}
 use Rattle.rv_emit.specs.Slots.{Op}
-use Rattle.rv_emit.proofs.SlotsJoined.{both_alone}
+use Rattle.rv_emit.proofs.SlotsOfSeveralPuts.{both_alone}
 use Rattle.rv_emit.proofs.probes.put_turn.Goals as goal
 
 pub returns-clause-slots : goal.returns-clause-slots

@@ -5,8 +5,8 @@ use Rattle.rv_emit.specs.Emission.{PutsAlone}
 use Rattle.rv_emit.specs.Usable.{IsFineResult}
 use Rattle.rv_emit.specs.InstParts.{stack_load_slots}
 use Rattle.rv_emit.proofs.ResultsPut.{result_put, results_put, results_long, each_fine}
-use Rattle.rv_emit.proofs.SlotsJoined.{alone_sound}
-use Rattle.rv_emit.proofs.SlotsPut.{none_put}
+use Rattle.rv_emit.proofs.SlotsOfSeveralPuts.{alone_sound}
+use Rattle.rv_emit.proofs.SlotsOfOnePut.{none_put}
 use Rattle.rv_emit.proofs.results.put_loads.Goals as goal
 
 pub loop-def-init : goal.loop-def-init

@@ -1,6 +1,6 @@
 use Rattle.std.proofs.lemmas.Result.{on_ok_weaker}
 use Rattle.rv_emit.proofs.ResultsPut.{in_register, on_stack}
-use Rattle.rv_emit.proofs.SlotsPut.{none_put}
+use Rattle.rv_emit.proofs.SlotsOfOnePut.{none_put}
 use Rattle.rv_emit.proofs.results.put_result.Goals as goal
 
 pub returns-in-Reg-clause-slots : goal.returns-in-Reg-clause-slots

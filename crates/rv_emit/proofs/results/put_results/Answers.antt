@@ -4,8 +4,8 @@ use Rattle.rv_inst.specs.Returns.{result_loads}
 use Rattle.rv_inst.specs.Rules.{is_stacked}
 use Rattle.rv_emit.specs.InstParts.{stack_load_slots}
 use Rattle.rv_emit.proofs.ResultsPut.{all_long, results_room, asked_put}
-use Rattle.rv_emit.proofs.SlotsJoined.{alone_sound}
-use Rattle.rv_emit.proofs.TablesPut.{island_sound}
+use Rattle.rv_emit.proofs.SlotsOfSeveralPuts.{alone_sound}
+use Rattle.rv_emit.proofs.TableCode.{island_sound}
 use Rattle.rv_emit.proofs.results.put_results.Goals as goal
 
 pub put_loads-requires-clause-room : goal.put_loads-requires-clause-room

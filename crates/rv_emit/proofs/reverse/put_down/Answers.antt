@@ -7,7 +7,7 @@ use Rattle.rv_emit.specs.Loops.{eight_op, rest_op, down_op, up_op, reverse_turn_
 use Rattle.rv_emit.specs.Operations.{decoded_bne, short_jump, jump_size}
 use Rattle.rv_emit.specs.Counts.{less_op, half_op}
 use Rattle.rv_emit.specs.Slots.{Op}
-use Rattle.rv_emit.proofs.SlotsJoined.{both_alone}
+use Rattle.rv_emit.proofs.SlotsOfSeveralPuts.{both_alone}
 use Rattle.rv_emit.proofs.ReverseSlots.{back_even}
 use Rattle.rv_emit.proofs.reverse.put_down.Goals as goal
 

@@ -4,7 +4,7 @@ use Rattle.rv_emit.specs.Loops.{reverse_turn_size, set_op}
 use Rattle.rv_emit.specs.Operations.{decoded_beq, decoded_bge, jump_size}
 use Rattle.rv_emit.specs.Counts.{bit_op}
 use Rattle.rv_emit.specs.Slots.{Op}
-use Rattle.rv_emit.proofs.SlotsJoined.{both_alone}
+use Rattle.rv_emit.proofs.SlotsOfSeveralPuts.{both_alone}
 use Rattle.rv_emit.proofs.reverse.put_test.Goals as goal
 
 pub returns-clause-slots : goal.returns-clause-slots

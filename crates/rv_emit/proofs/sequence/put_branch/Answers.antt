@@ -1,5 +1,5 @@
 use Rattle.std.proofs.lemmas.Result.{on_ok_weaker}
-use Rattle.rv_emit.proofs.SlotsPut.{branch_none, branch_one, branch_two}
+use Rattle.rv_emit.proofs.SlotsOfOnePut.{branch_none, branch_one, branch_two}
 use Rattle.rv_emit.proofs.sequence.put_branch.Goals as goal
 
 pub returns-in-Fallthrough-default-clause-slots : goal.returns-in-Fallthrough-default-clause-slots

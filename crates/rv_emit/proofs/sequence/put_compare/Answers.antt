@@ -1,6 +1,6 @@
 use Rattle.std.proofs.Common.{inl, arith}
 use Rattle.rv_emit.proofs.Words.{branch_word_is}
-use Rattle.rv_emit.proofs.SlotsPut.{branch_put_at}
+use Rattle.rv_emit.proofs.SlotsOfOnePut.{branch_put_at}
 use Rattle.rv_emit.proofs.sequence.put_compare.Goals as goal
 
 pub returns-clause-slot : goal.returns-clause-slot

@@ -1,7 +1,7 @@
 use Rattle.std.proofs.Common.{◌≡◌, ◌+◌, length, arith}
 use Rattle.mach_buffer.specs.Buffer.{bytes_of}
 use Rattle.rv_inst.specs.declared.label_use.LabelUse.TheVariants.{B12}
-use Rattle.rv_emit.proofs.SlotsPut.{branch_and_jump, word_longer}
+use Rattle.rv_emit.proofs.SlotsOfOnePut.{branch_and_jump, word_longer}
 use Rattle.rv_emit.proofs.sequence.put_compare_and_jump.Goals as goal
 
 pub put_jump-requires-clause-room : goal.put_jump-requires-clause-room

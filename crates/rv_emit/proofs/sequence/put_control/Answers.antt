@@ -2,13 +2,13 @@ use Rattle.std.proofs.Common.{sym, subst, OnOk}
 use Rattle.std.proofs.lemmas.Result.{on_ok_weaker}
 use Rattle.rv_inst.specs.Context.{context_by}
 use Rattle.rv_emit.specs.Emission.{Emits}
-use Rattle.rv_emit.proofs.SlotsPut.{alone}
+use Rattle.rv_emit.proofs.SlotsOfOnePut.{alone}
 use Rattle.std.proofs.Common.{[], ◌∷◌, pos}
 use Rattle.rv_base.specs.Regs.{number_of}
 use Rattle.rv_inst.specs.Forms.{short_jalr}
 use Rattle.rv_emit.specs.Emission.{PutsAlone}
 use Rattle.rv_emit.specs.Slots.{Op}
-use Rattle.rv_emit.proofs.AddressesPut.{real_number}
+use Rattle.rv_emit.proofs.AddressCode.{real_number}
 use Rattle.rv_emit.proofs.sequence.put_control.Goals as goal
 
 pub returns-in-Jal-clause-parts : goal.returns-in-Jal-clause-parts

@@ -1,4 +1,4 @@
-use Rattle.rv_emit.proofs.SlotsPut.{half_jump_put}
+use Rattle.rv_emit.proofs.SlotsOfOnePut.{half_jump_put}
 use Rattle.rv_emit.proofs.sequence.put_half_jump.Goals as goal
 
 pub returns-clause-slot : goal.returns-clause-slot

@@ -1,4 +1,4 @@
-use Rattle.rv_emit.proofs.SlotsPut.{whole_jump_put}
+use Rattle.rv_emit.proofs.SlotsOfOnePut.{whole_jump_put}
 use Rattle.rv_emit.proofs.sequence.put_jump.Goals as goal
 
 pub returns-then-flags-clause-slot : goal.returns-then-flags-clause-slot

@@ -1,6 +1,6 @@
 use Rattle.std.proofs.Common.{sym, ◌∙◌}
 use Rattle.std.proofs.lemmas.Result.{on_ok_weaker}
-use Rattle.rv_emit.proofs.SlotsPut.{move_same, move_other}
+use Rattle.rv_emit.proofs.SlotsOfOnePut.{move_same, move_other}
 use Rattle.rv_emit.proofs.sequence.put_move.Goals as goal
 
 pub returns-then-number-clause-slots : goal.returns-then-number-clause-slots

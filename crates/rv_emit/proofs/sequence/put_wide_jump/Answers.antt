@@ -1,5 +1,5 @@
 use Rattle.std.proofs.Common.{inl}
-use Rattle.rv_emit.proofs.SlotsPut.{jump_put_at}
+use Rattle.rv_emit.proofs.SlotsOfOnePut.{jump_put_at}
 use Rattle.rv_emit.proofs.sequence.put_wide_jump.Goals as goal
 
 pub returns-clause-slot : goal.returns-clause-slot

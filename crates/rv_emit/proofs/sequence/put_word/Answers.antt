@@ -1,6 +1,6 @@
 use Rattle.std.proofs.Common.{arith}
 use Rattle.rv_emit.proofs.Words.{bytes_of_word}
-use Rattle.rv_emit.proofs.SlotsPut.{op_put}
+use Rattle.rv_emit.proofs.SlotsOfOnePut.{op_put}
 use Rattle.rv_emit.proofs.sequence.put_word.Goals as goal
 
 pub returns-clause-slot : goal.returns-clause-slot

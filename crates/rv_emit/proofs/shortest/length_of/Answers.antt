@@ -1,4 +1,4 @@
-use Rattle.rv_emit.proofs.HalvesPut.{half_sized, word_sized}
+use Rattle.rv_emit.proofs.HalfwordCode.{half_sized, word_sized}
 use Rattle.rv_emit.proofs.shortest.length_of.Goals as goal
 
 pub returns-in-Half : goal.returns-in-Half

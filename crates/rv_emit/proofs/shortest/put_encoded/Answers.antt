@@ -1,5 +1,5 @@
 use Rattle.std.proofs.lemmas.Result.{on_ok_weaker}
-use Rattle.rv_emit.proofs.HalvesPut.{held_half, held_word}
+use Rattle.rv_emit.proofs.HalfwordCode.{held_half, held_word}
 use Rattle.rv_emit.proofs.shortest.put_encoded.Goals as goal
 
 pub returns-in-Half-clause-slot : goal.returns-in-Half-clause-slot

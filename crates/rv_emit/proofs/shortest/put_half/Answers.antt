@@ -1,4 +1,4 @@
-use Rattle.rv_emit.proofs.HalvesPut.{half_put}
+use Rattle.rv_emit.proofs.HalfwordCode.{half_put}
 use Rattle.rv_emit.proofs.shortest.put_half.Goals as goal
 
 pub returns-clause-slot : goal.returns-clause-slot

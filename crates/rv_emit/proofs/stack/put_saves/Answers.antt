@@ -2,9 +2,9 @@ use Rattle.std.proofs.Common.{pos, sym, subst, arith}
 use Rattle.std.specs.Prelude.{◌-ℤ◌}
 use Rattle.rv_base.specs.declared.regs.Reg.TheVariants.{Real}
 use Rattle.rv_encode.specs.Registers.{IsIntRegister}
-use Rattle.rv_emit.proofs.SlotsJoined.{alone_sound}
-use Rattle.rv_emit.proofs.SlotsPut.{none_put}
-use Rattle.rv_emit.proofs.TailsPut.{saved_at, saved_more, all_saved, saved_long, each_saved}
+use Rattle.rv_emit.proofs.SlotsOfSeveralPuts.{alone_sound}
+use Rattle.rv_emit.proofs.SlotsOfOnePut.{none_put}
+use Rattle.rv_emit.proofs.TailCallCode.{saved_at, saved_more, all_saved, saved_long, each_saved}
 use Rattle.rv_emit.proofs.stack.put_saves.Goals as goal
 
 pub loop-index-init : goal.loop-index-init

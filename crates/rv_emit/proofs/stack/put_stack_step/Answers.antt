@@ -2,8 +2,8 @@ use Rattle.std.proofs.Common.{sym, ap, ◌∙◌}
 use Rattle.std.proofs.lemmas.Int.{to_z-of_z}
 use Rattle.std.specs.Int.{w64}
 use Rattle.rv_machine.specs.State.{low64}
-use Rattle.rv_emit.proofs.SlotsPut.{none_put}
-use Rattle.rv_emit.proofs.TailsPut.{no_step}
+use Rattle.rv_emit.proofs.SlotsOfOnePut.{none_put}
+use Rattle.rv_emit.proofs.TailCallCode.{no_step}
 use Rattle.rv_emit.proofs.stack.put_stack_step.Goals as goal
 
 pub put_some_step-requires-clause-some : goal.put_some_step-requires-clause-some

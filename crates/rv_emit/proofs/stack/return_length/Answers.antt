@@ -1,5 +1,5 @@
 use Rattle.std.proofs.Common.{length, ap, arith}
-use Rattle.rv_emit.proofs.TailsPut.{return_long}
+use Rattle.rv_emit.proofs.TailCallCode.{return_long}
 use Rattle.rv_emit.proofs.stack.return_length.Goals as goal
 
 pub returns : goal.returns

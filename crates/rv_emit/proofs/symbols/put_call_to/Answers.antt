@@ -1,8 +1,8 @@
 use Rattle.std.proofs.Common.{arith}
 use Rattle.rv_base.specs.Flags.{no_flags}
 use Rattle.rv_base.specs.Regs.{number_of}
-use Rattle.rv_emit.proofs.SymbolsPut.{call_put}
-use Rattle.rv_emit.proofs.TablesPut.{pair_patchable}
+use Rattle.rv_emit.proofs.SymbolCode.{call_put}
+use Rattle.rv_emit.proofs.TableCode.{pair_patchable}
 use Rattle.rv_emit.proofs.UpperWords.{auipc_layout}
 use Rattle.rv_emit.proofs.symbols.put_call_to.Goals as goal
 

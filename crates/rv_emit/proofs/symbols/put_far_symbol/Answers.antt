@@ -8,9 +8,9 @@ use Rattle.mach_buffer.specs.Shape.{with_bytes, with_record}
 use Rattle.rv_emit.specs.InstParts.{load_over}
 use Rattle.rv_emit.specs.Puts.{eight_zeros}
 use Rattle.rv_emit.specs.Slots.{Address, address_event}
-use Rattle.rv_emit.proofs.AddressesPut.{longer, load_over_short}
-use Rattle.rv_emit.proofs.SlotsJoined.{both_alone, alone_sound}
-use Rattle.rv_emit.proofs.SymbolsPut.{address_put}
+use Rattle.rv_emit.proofs.AddressCode.{longer, load_over_short}
+use Rattle.rv_emit.proofs.SlotsOfSeveralPuts.{both_alone, alone_sound}
+use Rattle.rv_emit.proofs.SymbolCode.{address_put}
 use Rattle.rv_emit.proofs.symbols.put_far_symbol.Goals as goal
 
 pub put_symbol_bytes-requires-clause-room : goal.put_symbol_bytes-requires-clause-room

@@ -4,8 +4,8 @@ use Rattle.std.specs.Int.{w64}
 use Rattle.rv_base.specs.Flags.{no_flags}
 use Rattle.rv_base.specs.Regs.{number_of}
 use Rattle.rv_emit.specs.Slots.{AddressOf}
-use Rattle.rv_emit.proofs.PartsPatched.{upper_patchable, addi_patchable}
-use Rattle.rv_emit.proofs.SymbolsPut.{fill_put}
+use Rattle.rv_emit.proofs.PatchedWindows.{upper_patchable, addi_patchable}
+use Rattle.rv_emit.proofs.SymbolCode.{fill_put}
 use Rattle.rv_emit.proofs.UpperWords.{auipc_layout}
 use Rattle.rv_emit.proofs.symbols.put_near_symbol.Goals as goal
 

@@ -1,4 +1,4 @@
-use Rattle.rv_emit.proofs.SymbolsPut.{note_put}
+use Rattle.rv_emit.proofs.SymbolCode.{note_put}
 use Rattle.rv_emit.proofs.symbols.put_unwind.Goals as goal
 
 pub returns-clause-slots : goal.returns-clause-slots

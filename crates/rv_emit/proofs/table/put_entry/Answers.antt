@@ -4,10 +4,10 @@ use Rattle.rv_ops.specs.declared.alu.AluOPRRI.TheVariants.{Slli}
 use Rattle.rv_ops.specs.declared.alu.AluOPRRR.TheVariants.{Add}
 use Rattle.rv_machine.specs.declared.ops.MOp.TheVariants.{Base}
 use Rattle.rv_machine.specs.declared.ops.BaseOp.TheVariants as base
-use Rattle.rv_encode.specs.Operations.{row, decoded_rri, decoded_rrr}
+use Rattle.rv_encode.specs.Operations.{decoded, decoded_rri, decoded_rrr}
 use Rattle.rv_emit.specs.Operations.{decoded_jalr}
 use Rattle.rv_emit.specs.Slots.{Op}
-use Rattle.rv_emit.proofs.SlotsJoined.{both_alone}
+use Rattle.rv_emit.proofs.SlotsOfSeveralPuts.{both_alone}
 use Rattle.rv_emit.proofs.table.put_entry.Goals as goal
 
 pub returns-clause-slots : goal.returns-clause-slots
@@ -15,7 +15,7 @@ returns-clause-slots c =
     let flags = c.args.flags in
     let tmp1 = number_of c.args.tmp1.reg in
     let tmp2 = number_of c.args.tmp2.reg in
-    let here = row (Base base.Auipc) tmp1 0 0 (pos 0) in
+    let here = decoded (Base base.Auipc) tmp1 0 0 (pos 0) in
     let eights = decoded_rri Slli tmp2 31 (pos 3) in
     let sum = decoded_rrr Add tmp1 tmp1 tmp2 in
     let jump = decoded_jalr 0 tmp1 (pos 16) in

@@ -1,7 +1,7 @@
 use Rattle.std.proofs.Common.{length, arith}
 use Rattle.rv_base.specs.Regs.{number_of}
-use Rattle.rv_emit.proofs.AddressesPut.{real_number}
-use Rattle.rv_emit.proofs.TablesPut.{others, others_fewer, extended, counted, before_few, table_put}
+use Rattle.rv_emit.proofs.AddressCode.{real_number}
+use Rattle.rv_emit.proofs.TableCode.{others, others_fewer, extended, counted, before_few, table_put}
 use Rattle.rv_emit.proofs.table.put_table.Goals as goal
 
 pub put_jumps-requires-clause-room : goal.put_jumps-requires-clause-room

@@ -6,8 +6,8 @@ use Rattle.rv_inst.specs.Sizes.{bit_shift}
 use Rattle.rv_emit.specs.Counts.{start_ops, turn_ops}
 use Rattle.rv_emit.specs.Emission.{PutsAlone}
 use Rattle.rv_emit.specs.Slots.{Op}
-use Rattle.rv_emit.proofs.SlotsJoined.{both_alone, alone_sound}
-use Rattle.rv_emit.proofs.AddressesPut.{longer}
+use Rattle.rv_emit.proofs.SlotsOfSeveralPuts.{both_alone, alone_sound}
+use Rattle.rv_emit.proofs.AddressCode.{longer}
 use Rattle.rv_emit.proofs.CountSlots.{start_short}
 use Rattle.rv_emit.proofs.zeros.put_zeros.Goals as goal
 

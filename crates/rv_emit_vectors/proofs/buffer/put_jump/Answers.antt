@@ -6,7 +6,7 @@ use Rattle.mach_buffer.specs.declared.uses.Use.{Use}
 use Rattle.mach_buffer.specs.Buffer.{shape_of, bytes_of, uses_of, place_of, allocated_of, pending_of}
 use Rattle.mach_buffer.specs.Shape.{Shape, IsKnown, with_bytes, with_use, with_allocated}
 use Rattle.mach_buffer.specs.Constants.{reserve_of}
-use Rattle.rv_emit_vectors.proofs.Kept.{can_island, island_near, kept_island, kept_drawn, same_pending, windows_one, windows_as}
+use Rattle.rv_emit_vectors.proofs.Kept.{can_island, island_near, kept_island, kept_allocated, same_pending, windows_one, windows_as}
 use Rattle.mach_buffer.proofs.Laws.{island_rest}
 use Rattle.rv_emit_vectors.proofs.buffer.put_jump.Goals as goal
 
@@ -20,7 +20,7 @@ emit_island-requires-clause-ready g c =
     let e = c.in_ok-use_label_at_offset.ensures in
     let p = c.in_ok-put4.ensures in
     let allocated : shape_of b1 ≡ with_allocated (shape_of b) = d.allocated.2 in
-    let k1 = kept_drawn c.requires.kept b1 d.sound allocated in
+    let k1 = kept_allocated c.requires.kept b1 d.sound allocated in
     let u : Use g.row.L.Denot = record { offset = c.cur_offset-at.result; label = c.in_ok-after_island.after_island; kind = c.args.kind; veneer = None } in
     let put : shape_of mid ≡ with_bytes (0 ∷ 170 ∷ 170 ∷ 170 ∷ []) (with_use u (shape_of b1)) = p.put.2 ∙ ap (with_bytes (0 ∷ 170 ∷ 170 ∷ 170 ∷ [])) e.recorded.2 in
     let reach = c.requires.kind.far in
@@ -50,7 +50,7 @@ returns-clause-kept g c =
     let p = c.in_ok-put4.ensures in
     let i = c.in_ok-emit_island.ensures in
     let allocated : shape_of b1 ≡ with_allocated (shape_of b) = d.allocated.2 in
-    let k1 = kept_drawn c.requires.kept b1 d.sound allocated in
+    let k1 = kept_allocated c.requires.kept b1 d.sound allocated in
     let u : Use g.row.L.Denot = record { offset = c.cur_offset-at.result; label = c.in_ok-after_island.after_island; kind = c.args.kind; veneer = None } in
     let put : shape_of mid ≡ with_bytes (0 ∷ 170 ∷ 170 ∷ 170 ∷ []) (with_use u (shape_of b1)) = p.put.2 ∙ ap (with_bytes (0 ∷ 170 ∷ 170 ∷ 170 ∷ [])) e.recorded.2 in
     let bytes : bytes_of mid ≡ bytes_of b1 ++ 0 ∷ 170 ∷ 170 ∷ 170 ∷ [] = ap (λ (x : Shape g.row.L.Denot). x.bytes) put in

@@ -4,7 +4,7 @@ use Rattle.rv_emit_vectors.proofs.buffer.put_name.Goals as goal
 pub put_window-requires-clause-kept : goal.put_window-requires-clause-kept
 put_window-requires-clause-kept g c =
     let e = c.in_ok-label.ensures in
-    kept_named c.in_ok-make_way.ensures.kept c.get_label_for_constant.new.self c.args.constant e.sound e.named.2
+    kept_named c.in_ok-emit_due_island.ensures.kept c.get_label_for_constant.new.self c.args.constant e.sound e.named.2
 
 pub put_window-requires-clause-met : goal.put_window-requires-clause-met
 put_window-requires-clause-met g c =
@@ -15,4 +15,4 @@ pub put_window-requires-clause-slack : goal.put_window-requires-clause-slack
 put_window-requires-clause-slack g c =
     let K = g.L.MachInstLabelUse in
     let e = c.in_ok-label.ensures in
-    slack_named K.kinds c.make_way.new.buffer c.get_label_for_constant.new.self c.args.constant 2 30 e.named.2 c.in_ok-make_way.ensures.slack
+    slack_named K.kinds c.emit_due_island.new.buffer c.get_label_for_constant.new.self c.args.constant 2 30 e.named.2 c.in_ok-emit_due_island.ensures.slack

@@ -12,5 +12,5 @@ put_window-requires-clause-met g c =
 pub put_window-requires-clause-usable : goal.put_window-requires-clause-usable
 put_window-requires-clause-usable g c =
     let number = c.from_u32.ensures in
-    let low : c.from_u32.result.number < first_inner + allocated_of c.make_way.new.buffer = omega (arith, number, c.if-label-ge4.false) in
+    let low : c.from_u32.result.number < first_inner + allocated_of c.emit_due_island.new.buffer = omega (arith, number, c.if-label-ge4.false) in
     inl low

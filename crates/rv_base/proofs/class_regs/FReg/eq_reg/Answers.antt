@@ -5,5 +5,5 @@ use Rattle.rv_base.proofs.class_regs.FReg.eq_reg.Goals as goal
 
 pub returns : goal.returns
 returns c =
-    let told : c.eq.result ≡ (reg_impl.ghosts).eq c.args.self.reg c.args.reg = c.eq.ensures in
-    rw told (same_both_ways c.args.self.reg c.args.reg)
+    let tested : c.eq.result ≡ (reg_impl.ghosts).eq c.args.self.reg c.args.reg = c.eq.ensures in
+    rw tested (same_both_ways c.args.self.reg c.args.reg)

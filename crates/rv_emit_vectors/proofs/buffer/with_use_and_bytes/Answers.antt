@@ -1,7 +1,7 @@
 use Rattle.std.proofs.Common.{ap, ◌∙◌}
 use Rattle.mach_buffer.specs.Shape.{Shape}
 use Rattle.rv_emit_vectors.specs.declared.toy.Toy.{Toy}
-use Rattle.rv_emit_vectors.proofs.buffer.waiting.Goals as goal
+use Rattle.rv_emit_vectors.proofs.buffer.with_use_and_bytes.Goals as goal
 
 pub returns-clause-unbound : goal.returns-clause-unbound
 returns-clause-unbound c =

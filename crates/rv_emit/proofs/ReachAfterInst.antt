@@ -31,8 +31,8 @@ use Rattle.rv_inst.specs.Uses.{use_at, target_uses, uses_by, uses_in}
 use Rattle.rv_emit.proofs.MostBytes.{words_within, most_in_sequence}
 
 -- whether a use is pending
-abbrev pub waits : (ℕ → Option ℕ) → Use LabelUse → Bool
-waits place = is_pending label_kinds place
+abbrev pub pending_at : (ℕ → Option ℕ) → Use LabelUse → Bool
+pending_at place = is_pending label_kinds place
 
 -- ---- uses of an instruction
 
@@ -139,23 +139,23 @@ few_deadlines test kinds (u ∷ uses) = on (test u) (few_deadlines test kinds us
     on false le = omega arith
 
 -- a use that reaches everywhere is never pending
-pub far_waits : {labels : List MachLabel} (place : ℕ → Option ℕ) (u : Use LabelUse) → IsFarUse labels u → waits place u ≡ false
-far_waits place u f = λ i. f.direct i && (is_none u.veneer && not (is_reached label_kinds (place u.label.number) u))
+pub far_never_pending : {labels : List MachLabel} (place : ℕ → Option ℕ) (u : Use LabelUse) → IsFarUse labels u → pending_at place u ≡ false
+far_never_pending place u f = λ i. f.direct i && (is_none u.veneer && not (is_reached label_kinds (place u.label.number) u))
 
 -- so what is pending of the uses that were put is so of those that may go by a veneer
-pub own_deadlines : (context : Context) (inst : Inst) (old new : Buffer) (p : AppendsInst context inst old new) (place : ℕ → Option ℕ) → deadlines (waits place) label_kinds (uses_in context (length (bytes_of old)) (length (bytes_of new)) inst ++ p.far) ≡ deadlines (waits place) label_kinds (uses_in context (length (bytes_of old)) (length (bytes_of new)) inst)
+pub own_deadlines : (context : Context) (inst : Inst) (old new : Buffer) (p : AppendsInst context inst old new) (place : ℕ → Option ℕ) → deadlines (pending_at place) label_kinds (uses_in context (length (bytes_of old)) (length (bytes_of new)) inst ++ p.far) ≡ deadlines (pending_at place) label_kinds (uses_in context (length (bytes_of old)) (length (bytes_of new)) inst)
 own_deadlines context inst old new p place =
     let own = uses_in context (length (bytes_of old)) (length (bytes_of new)) inst in
-    deadlines_append (waits place) label_kinds own p.far ∙ ap (λ ds. deadlines (waits place) label_kinds own ++ ds) (none_from (waits place) label_kinds p.far (λ j u h. far_waits place u (p.table j u h))) ∙ append-nil _
+    deadlines_append (pending_at place) label_kinds own p.far ∙ ap (λ ds. deadlines (pending_at place) label_kinds own ++ ds) (none_from (pending_at place) label_kinds p.far (λ j u h. far_never_pending place u (p.table j u h))) ∙ append-nil _
 
 -- what is pending after an instruction: what was before, and its own uses that are
-pub pending_adds : (context : Context) (inst : Inst) (old new : Buffer) → AppendsInst context inst old new → pending new ≡ pending old ++ deadlines (waits (place_of old)) label_kinds (uses_in context (length (bytes_of old)) (length (bytes_of new)) inst)
+pub pending_adds : (context : Context) (inst : Inst) (old new : Buffer) → AppendsInst context inst old new → pending new ≡ pending old ++ deadlines (pending_at (place_of old)) label_kinds (uses_in context (length (bytes_of old)) (length (bytes_of new)) inst)
 pending_adds context inst old new p =
     let own = uses_in context (length (bytes_of old)) (length (bytes_of new)) inst in
-    (λ i. deadlines (waits (p.adds.places i)) label_kinds (p.adds.uses i)) ∙ deadlines_append (waits (place_of old)) label_kinds (uses_of old) (own ++ p.far)
+    (λ i. deadlines (pending_at (p.adds.places i)) label_kinds (p.adds.uses i)) ∙ deadlines_append (pending_at (place_of old)) label_kinds (uses_of old) (own ++ p.far)
     ∙ ap (λ ds. pending old ++ ds) (own_deadlines context inst old new p (place_of old))
 
-pub pending_whole : (context : Context) (inst : Inst) (old new : Buffer) → AppendsInst context inst old new → length (pending new) ≡ length (pending old) + length (deadlines (waits (place_of old)) label_kinds (uses_in context (length (bytes_of old)) (length (bytes_of new)) inst))
+pub pending_whole : (context : Context) (inst : Inst) (old new : Buffer) → AppendsInst context inst old new → length (pending new) ≡ length (pending old) + length (deadlines (pending_at (place_of old)) label_kinds (uses_in context (length (bytes_of old)) (length (bytes_of new)) inst))
 pending_whole context inst old new p = ap length (pending_adds context inst old new p) ∙ length-append (pending old) _
 
 -- ---- Reach
@@ -188,8 +188,8 @@ reach_after context inst old new can asks p =
     let spare : HasSlack cur (14 + 8 * length own) (pending old) =
     slack_less (start + line_space) 30 cur (14 + 8 * length own) (pending old) (omega arith) (slack_not_needed start line_space (pending old) can.calm) in
     let far : Each (λ u. cur + 14 + 8 * length own ≤ deadline label_kinds u) own = λ k u e. let f = uses_far context start cur inst near k u e in omega arith in
-    let whole : pending new ≡ deadlines (waits (place_of old)) label_kinds (uses_of old ++ own) = pending_adds context inst old new p ∙ sym (deadlines_append (waits (place_of old)) label_kinds (uses_of old) own) in
-    reach_from_slack cur (pending new) (subst (HasSlack cur 14) (sym whole) (slack_uses (waits (place_of old)) cur 14 (uses_of old) own far spare))
+    let whole : pending new ≡ deadlines (pending_at (place_of old)) label_kinds (uses_of old ++ own) = pending_adds context inst old new p ∙ sym (deadlines_append (pending_at (place_of old)) label_kinds (uses_of old) own) in
+    reach_from_slack cur (pending new) (subst (HasSlack cur 14) (sym whole) (slack_uses (pending_at (place_of old)) cur 14 (uses_of old) own far spare))
 
 -- an island leaves nothing that is pending
 pub reach_after_island : (distance : ℕ) (old new : Buffer) (made : Bool) → IslandIfNeeded distance old new made → CanReach (length (bytes_of old)) (pending old) → CanReach (length (bytes_of new)) (pending new)

@@ -17,7 +17,7 @@ use Rattle.rv_machine.specs.Decode.{by_opcode}
 use Rattle.rv_ops.specs.declared.memory.LoadOP.{LoadOP}
 use Rattle.rv_ops.specs.Memory.{load_funct3}
 use Rattle.rv_encode.specs.Layouts.{IsUType, IsIType}
-use Rattle.rv_encode.specs.Operations.{row, decoded_load}
+use Rattle.rv_encode.specs.Operations.{decoded, decoded_load}
 use Rattle.rv_encode.proofs.Decoding.{opcode_decodes}
 use Rattle.rv_encode.proofs.Tables.{load_table}
 use Rattle.rv_inst.specs.declared.label_use.LabelUse.TheVariants.{PCRelHi20, PCRelLo12I}
@@ -60,12 +60,12 @@ upper_in w rd new h four all same =
     let b3 = all 3 (omega arith) in
     upper_kept w rd (slice_index new 0) (slice_index new 1) (slice_index new 2) (slice_index new 3) b0 b1 b2 b3 (same_byte (slice_index new 0) (w % 256) b0 (omega arith) same.0) (same_low (slice_index new 1) (w / 256 % 256) same.1.0) h
 
-pub upper_patchable : (flags : IsaFlags) (w rd : ℕ) → w < 2 ^ 32 → IsUType w AUIPC rd 0 → IsPatchable flags PCRelHi20 (word_bytes w) (λ d. row (Base base.Auipc) rd 0 0 (upper_of_distance d) ∷ [])
+pub upper_patchable : (flags : IsaFlags) (w rd : ℕ) → w < 2 ^ 32 → IsUType w AUIPC rd 0 → IsPatchable flags PCRelHi20 (word_bytes w) (λ d. decoded (Base base.Auipc) rd 0 0 (upper_of_distance d) ∷ [])
 upper_patchable flags w rd fits h = record {
   long = refl;
   fresh = let e = h.imm_is in upper_fresh w (omega arith);
   patched = λ new d long all same aims. let k = upper_in w rd new h long all same in
-      encodes flags new _ long (opcode_decodes flags (word_at new) AUIPC k.opcode_is refl ∙ (λ i. Some (row (Base base.Auipc) (k.rd_is i) 0 0 (signed (2 ^ 19) (aims i)))));
+      encodes flags new _ long (opcode_decodes flags (word_at new) AUIPC k.opcode_is refl ∙ (λ i. Some (decoded (Base base.Auipc) (k.rd_is i) 0 0 (signed (2 ^ 19) (aims i)))));
 }
 
 -- ---- the lower part
@@ -105,6 +105,6 @@ load_patchable flags op w rd rs fits h = record {
   fresh = let e = h.imm_is in lower_fresh w (omega arith);
   patched = λ new d long all same aims. let k = lower_in w LOAD rd (load_funct3 op) rs new h long all same in
       encodes flags new _ long (opcode_decodes flags (word_at new) LOAD k.opcode_is refl
-      ∙ (λ i. option_map (λ x. row (Load x) (k.rd_is i) (k.rs1_is i) 0 (signed (2 ^ 11) (aims i))) (load_entry (k.funct3_is i)))
-      ∙ ap (option_map (λ x. row (Load x) rd rs 0 (lower_of_distance d))) (load_table op));
+      ∙ (λ i. option_map (λ x. decoded (Load x) (k.rd_is i) (k.rs1_is i) 0 (signed (2 ^ 11) (aims i))) (load_entry (k.funct3_is i)))
+      ∙ ap (option_map (λ x. decoded (Load x) rd rs 0 (lower_of_distance d))) (load_table op));
 }

@@ -8,7 +8,7 @@ use Rattle.rv_machine.specs.Decode.{decode}
 use Rattle.rv_ops.specs.declared.memory.LoadOP.{LoadOP}
 use Rattle.rv_ops.specs.Memory.{load_size}
 use Rattle.rv_encode.specs.Operations.{load_op}
-use Rattle.rv_encode.specs.Compressed.{sp_load_row}
+use Rattle.rv_encode.specs.Compressed.{decoded_sp_load}
 use Rattle.rv_inst.specs.Forms.{chosen, sp, is_scaled, form_where, load_form}
 use Rattle.rv_emit.specs.Encoded.{IsForm, IsHalf, IsWord, IsScaledBy}
 
@@ -21,7 +21,7 @@ word_holds flags word None whole h e long = record { decodes = e; long = long }
 word_holds flags word (Some d) whole h e long = absurd h
 
 -- a load past the stack pointer, by its number of sizes
-pub sp_load_is : (flags : IsaFlags) (half rd number : ℕ) (load : LoadOP) (offset : ℤ) → IsScaledBy (load_size load) 63 offset number → nat_eq (half % 4) 3 ≡ false → decode_half flags half ≡ Some (sp_load_row load rd number) → IsForm flags (Some half) (form_where (is_scaled (load_size load) 63 offset) (load_form (load_op load) rd sp offset))
+pub sp_load_is : (flags : IsaFlags) (half rd number : ℕ) (load : LoadOP) (offset : ℤ) → IsScaledBy (load_size load) 63 offset number → nat_eq (half % 4) 3 ≡ false → decode_half flags half ≡ Some (decoded_sp_load load rd number) → IsForm flags (Some half) (form_where (is_scaled (load_size load) 63 offset) (load_form (load_op load) rd sp offset))
 sp_load_is flags half rd number load offset scaled narrow e =
     subst (λ (guard : Bool). IsForm flags (Some half) (form_where guard (load_form (load_op load) rd sp offset))) (sym scaled.is)
     (record { narrow = narrow; decodes = e ∙ (λ i. Some (load_form (load_op load) rd sp (sym scaled.same i))); long = refl })

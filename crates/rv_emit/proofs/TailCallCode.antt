@@ -37,10 +37,10 @@ use Rattle.rv_emit.specs.Emitted.{Buffer, IsSoundBuffer, IslandIfNeeded, Appends
 use Rattle.rv_emit.specs.InstParts.{load_slots, number_slots, stack_load_slots, far_step_slots, stack_step_slots, return_slots, call_to, tail_slots, t0_slots, map_notes, return_notes, after_call, patch_notes, try_slots, call_slots, call_ind_slots}
 use Rattle.rv_emit.specs.Slots.{Slot, Op, Notes, Ask, Slots, size_of}
 use Rattle.rv_emit.specs.Usable.{AreSaved}
-use Rattle.rv_emit.proofs.MemorySlots.{AreCounted, none, nothing}
+use Rattle.rv_emit.proofs.MemorySlots.{HaveAccess, none, nothing}
 use Rattle.rv_emit.proofs.PlainSlots.{IsPlain}
-use Rattle.rv_emit.proofs.SlotsJoined.{both_alone, alone_long}
-use Rattle.rv_emit.proofs.SlotsPut.{none_put}
+use Rattle.rv_emit.proofs.SlotsOfSeveralPuts.{both_alone, alone_long}
+use Rattle.rv_emit.proofs.SlotsOfOnePut.{none_put}
 use Rattle.rv_emit.proofs.NumberSlots.{number_few}
 use Rattle.rv_emit.proofs.TableSlots.{even_plain, number_even, number_long}
 use Rattle.rv_emit.proofs.CallSlots.{steps_counted}
@@ -52,8 +52,8 @@ use Rattle.rv_emit.proofs.TailSlots.{loads_then, loads_most, saves_long, setup_f
 abbrev pub eight_at : Writable PReg → ℤ → StackLoad
 eight_at r offset = record { register = r.reg.number; op = Ld; offset = offset }
 
-loads_counted : (flags : IsaFlags) (loads : List StackLoad) → AreCounted (stack_loads_size flags loads + 0) 0 none None None (stack_load_slots flags loads)
-loads_counted flags loads = subst (AreCounted (stack_loads_size flags loads + 0) 0 none None None) (append-nil (stack_load_slots flags loads)) (loads_then flags loads nothing)
+loads_counted : (flags : IsaFlags) (loads : List StackLoad) → HaveAccess (stack_loads_size flags loads + 0) 0 none None None (stack_load_slots flags loads)
+loads_counted flags loads = subst (HaveAccess (stack_loads_size flags loads + 0) 0 none None None) (append-nil (stack_load_slots flags loads)) (loads_then flags loads nothing)
 
 pub loads_plain : (flags : IsaFlags) (loads : List StackLoad) → IsPlain (stack_load_slots flags loads)
 loads_plain flags loads = (loads_counted flags loads).plain

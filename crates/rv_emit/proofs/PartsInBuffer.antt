@@ -13,17 +13,17 @@ use Rattle.mach_buffer.specs.Constants.{AllStand}
 use Rattle.mach_buffer.specs.Buffer.{shape_of, bytes_of, allocated_of}
 use Rattle.mach_buffer.proofs.Laws.{lasts_same, lasts_more, lasts_allocated, windows_with_bytes, windows_with_use, stands_last, even_length}
 use Rattle.std.specs.Prelude.{Option}
-use Rattle.rv_emit.specs.Slots.{Slot, slot_size, Op, Aim, Data, Notes, Names, Allocate, Here, Fill, Address, CallTo, Part, Ask, Slots, Label, label_of, AreClosed, AreBlocks}
+use Rattle.rv_emit.specs.Slots.{Slot, slot_size, Op, Aim, Data, Notes, Names, Allocate, Here, Fill, Address, CallTo, Part, Ask, Slots, Label, label_of, AreClosed, PartsAreSelfContained}
 use Rattle.rv_emit.specs.Puts.{eight_zeros, PutsSlot, Puts}
 use Rattle.rv_emit.specs.Images.{FieldsEnd, FieldsStand}
 use Rattle.rv_emit.specs.InstParts.{wide_jump_to}
 use Rattle.rv_emit.specs.Emitted.{Buffer, IsSoundBuffer, HasWindows, AppendsIsland, IslandIfNeeded}
 use Rattle.rv_emit.specs.Emission.{PutsParts}
 use Rattle.rv_emit.specs.Standing.{SlotsIn, IslandIn, GapStandsIn, PartsIn}
-use Rattle.rv_emit.specs.ConstantsAdded.{AddsConstants}
-use Rattle.rv_emit.proofs.ConstantsAdded.{adds_both, adds_none, adds_same}
+use Rattle.rv_emit.specs.NewConstants.{AddsConstants}
+use Rattle.rv_emit.proofs.NewConstants.{adds_both, adds_none, adds_same}
 use Rattle.rv_emit.proofs.Fields.{puts_fields, island_fields}
-use Rattle.rv_emit.proofs.PutsLast.{marks_even, slot_bytes, puts_last, puts_bytes, puts_constants}
+use Rattle.rv_emit.proofs.BufferAfterSlots.{marks_even, slot_bytes, lasts_after_slots, puts_bytes, puts_constants}
 
 -- ---- what stands stays
 
@@ -59,7 +59,7 @@ slot_well flags allocated (Fill symbol upper lower) s t even (first, second, hi,
 slot_well flags allocated (Address name addend) s t even e w = subst StandWell (sym e) (windows_with_bytes s w eight_zeros)
 slot_well flags allocated (CallTo name ops) s t even (code, is, e) w = subst StandWell (sym e) (windows_with_bytes s w code)
 
--- a piece of a block has an even length
+-- a piece of self-contained slots has an even length
 even_after : (here : ℕ → Option ℕ) (at : ℕ) (slot : Slot) (slots : List Slot) → AreClosed here at (slot ∷ slots) → (slot_size slot % 2 ≡ 0) × ((n : ℕ) × AreClosed here n slots)
 even_after here at (Op d) slots c = (c.0, (at + d.len, c.1))
 even_after here at (Aim kind target ops) slots c = (marks_even kind, (at + length (marks_of kind), c.1))
@@ -120,7 +120,7 @@ gap_put flags distance old new made s w f r = on r.put
       fields = island_fields old new p f;
       constants = λ all. p.constants w all;
       adds = p.adds;
-      lasts = lasts_more (lasts_allocated label_kinds (shape_of old)) (lasts_more (puts_last flags (allocated_of old + 1) (wide_jump_to (Label p.after_island) ∷ []) (with_allocated (shape_of old)) p.jumped (p.puts flags)) p.lasts);
+      lasts = lasts_more (lasts_allocated label_kinds (shape_of old)) (lasts_more (lasts_after_slots flags (allocated_of old + 1) (wide_jump_to (Label p.after_island) ∷ []) (with_allocated (shape_of old)) p.jumped (p.puts flags)) p.lasts);
       sound = p.sound;
     }
 
@@ -136,16 +136,16 @@ pub record PartsPut (flags : IsaFlags) (parts : List Part) (old new : Buffer) : 
   pub lasts : Lasts label_kinds (shape_of old) (shape_of new)
   pub sound : IsSoundBuffer new
 
-pub parts_put : (flags : IsaFlags) (parts : List Part) (old new : Buffer) → AreBlocks parts → IsSoundBuffer old → HasWindows old → FieldsStand (shape_of old) → PutsParts flags parts old new → PartsPut flags parts old new
-parts_put flags [] old new blocks s w f p = subst (PartsPut flags [] old) (sym p) (record { stand = refl; windows = w; fields = f; constants = λ all. all; adds = adds_same (shape_of old); lasts = lasts_same label_kinds (shape_of old); sound = s })
-parts_put flags (Ask space ∷ parts) old new blocks s w f (mid, made, r, rest) =
+pub parts_put : (flags : IsaFlags) (parts : List Part) (old new : Buffer) → PartsAreSelfContained parts → IsSoundBuffer old → HasWindows old → FieldsStand (shape_of old) → PutsParts flags parts old new → PartsPut flags parts old new
+parts_put flags [] old new contained s w f p = subst (PartsPut flags [] old) (sym p) (record { stand = refl; windows = w; fields = f; constants = λ all. all; adds = adds_same (shape_of old); lasts = lasts_same label_kinds (shape_of old); sound = s })
+parts_put flags (Ask space ∷ parts) old new contained s w f (mid, made, r, rest) =
     let g = gap_put flags space old mid made s w f r in
-    let q = parts_put flags parts mid new blocks g.sound g.windows g.fields rest in
+    let q = parts_put flags parts mid new contained g.sound g.windows g.fields rest in
     record { stand = (length (bytes_of mid), gap_last _ _ g.gap q.lasts, q.stand); windows = q.windows; fields = q.fields; constants = λ all. q.constants (g.constants all); adds = adds_both g.adds q.adds; lasts = lasts_more g.lasts q.lasts; sound = q.sound }
-parts_put flags (Slots slots ∷ parts) old new blocks s w f (mid, p, rest) =
-    let well = puts_well flags (allocated_of old) slots _ 0 (shape_of old) (shape_of mid) blocks.0 (even_length label_kinds old s) p.puts w in
-    let q = parts_put flags parts mid new blocks.1 p.sound well (puts_fields flags (allocated_of old) slots (shape_of old) (shape_of mid) p.puts w.inside f) rest in
-    let lasts = puts_last flags (allocated_of old) slots (shape_of old) (shape_of mid) p.puts in
+parts_put flags (Slots slots ∷ parts) old new contained s w f (mid, p, rest) =
+    let well = puts_well flags (allocated_of old) slots _ 0 (shape_of old) (shape_of mid) contained.0 (even_length label_kinds old s) p.puts w in
+    let q = parts_put flags parts mid new contained.1 p.sound well (puts_fields flags (allocated_of old) slots (shape_of old) (shape_of mid) p.puts w.inside f) rest in
+    let lasts = lasts_after_slots flags (allocated_of old) slots (shape_of old) (shape_of mid) p.puts in
     record {
       stand = (length (bytes_of mid), record { old = shape_of old; new = shape_of mid; puts = p.puts; windows = w; fields = f.ends; starts = refl; ends = refl; lasts = q.lasts }, q.stand);
       windows = q.windows;

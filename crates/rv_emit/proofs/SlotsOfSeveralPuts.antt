@@ -25,8 +25,8 @@ use Rattle.rv_emit.specs.Puts.{Puts}
 use Rattle.rv_emit.specs.InstParts.{trap_bytes, trap_slots, complement, branch_over, inline_slots, constant_slots}
 use Rattle.rv_inst.specs.Sizes.{trap_size}
 use Rattle.rv_emit.proofs.PlainSlots.{IsPlain, plain_adds}
-use Rattle.rv_emit.proofs.PutsLast.{puts_last, puts_bytes}
-use Rattle.rv_emit.proofs.SlotsPut.{alone}
+use Rattle.rv_emit.proofs.BufferAfterSlots.{lasts_after_slots, puts_bytes}
+use Rattle.rv_emit.proofs.SlotsOfOnePut.{alone}
 
 -- ---- one after the other
 
@@ -54,7 +54,7 @@ usable_last label l (inl known) = inl (let more = l.allocated in omega arith)
 usable_last label l (inr c) = inr (record { index = c.index; constant = c.constant; there = l.named c.index c.constant c.there; is = c.is })
 
 pub alone_usable : {flags : IsaFlags} (slots : List Slot) (old new : Buffer) (label : ℕ) → PutsAlone flags slots old new → IsUsable (shape_of old) label → IsUsable (shape_of new) label
-alone_usable {flags} slots old new label q usable = subst (λ (b : Buffer). IsUsable (shape_of b) label) (sym q.2) (usable_last label (puts_last flags (allocated_of old) slots (shape_of old) (shape_of q.0) q.1.puts) usable)
+alone_usable {flags} slots old new label q usable = subst (λ (b : Buffer). IsUsable (shape_of b) label) (sym q.2) (usable_last label (lasts_after_slots flags (allocated_of old) slots (shape_of old) (shape_of q.0) q.1.puts) usable)
 
 -- ---- data and traps
 

@@ -2,8 +2,8 @@ use Rattle.std.proofs.Common.{ap, sym, subst}
 use Rattle.rv_inst.specs.Addresses.{location_of}
 use Rattle.rv_emit.specs.Emission.{PutsAlone}
 use Rattle.rv_emit.specs.InstParts.{naming_slots}
-use Rattle.rv_emit.proofs.AddressesPut.{name_put, unnamed_put}
-use Rattle.rv_emit.proofs.memory.place_of.Goals as goal
+use Rattle.rv_emit.proofs.AddressCode.{name_put, unnamed_put}
+use Rattle.rv_emit.proofs.memory.resolved_address.Goals as goal
 
 pub returns-in-RegOffset-clause-slots : goal.returns-in-RegOffset-clause-slots
 returns-in-RegOffset-clause-slots c = λ flags. unnamed_put flags _ c.args.sink.now (ap (λ mode. naming_slots (location_of c.args.frame.now mode)) c.in-RegOffset.is) c.requires.sound

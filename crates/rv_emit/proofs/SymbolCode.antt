@@ -13,8 +13,8 @@ use Rattle.rv_emit.specs.Emission.{PutsAlone}
 use Rattle.rv_emit.specs.Emitted.{Buffer, IsSoundBuffer}
 use Rattle.rv_emit.specs.Puts.{AsksNothing, IsPatchable, eight_zeros}
 use Rattle.rv_emit.specs.Slots.{Symbol, Notes, Fill, Address, CallTo, upper_event, lower_event, address_event, call_event}
-use Rattle.rv_emit.proofs.SlotsPut.{alone}
-use Rattle.rv_emit.proofs.TablesPut.{pair_bytes, same_bytes, pair_joined}
+use Rattle.rv_emit.proofs.SlotsOfOnePut.{alone}
+use Rattle.rv_emit.proofs.TableCode.{pair_bytes, same_bytes, pair_joined}
 
 -- two words, which a linker fills with the distance to a symbol
 pub fill_put : (flags : IsaFlags) (symbol : Symbol) (upper lower : ℤ → List Decoded) (old new : Buffer) (w x : ℕ) → IsPatchable flags PCRelHi20 (word_bytes w) upper → IsPatchable flags PCRelLo12I (word_bytes x) lower → shape_of new ≡ with_bytes (word_bytes x) (with_record (lower_event (length (bytes_of old))) (with_bytes (word_bytes w) (with_record (upper_event symbol) (shape_of old)))) → IsSoundBuffer new → PutsAlone flags (Fill symbol upper lower ∷ []) old new

@@ -16,7 +16,7 @@ use Rattle.rv_emit.specs.Emission.{PutsAlone}
 use Rattle.rv_emit.specs.Immediates.{upper_of, lower_of}
 use Rattle.rv_emit.specs.InstParts.{immediate_slots, number_slots, offset_slots}
 use Rattle.rv_emit.specs.Slots.{Slot, Op}
-use Rattle.rv_emit.proofs.AddressesPut.{IsShort, op_short, immediates_put, offset_short}
+use Rattle.rv_emit.proofs.AddressCode.{IsShort, op_short, immediates_put, offset_short}
 use Rattle.rv_emit.proofs.OffsetParts.{splits, splits_not, upper_is, lower_is, low64_zero}
 use Rattle.rv_emit.proofs.ShortOps.{rri_sized}
 

@@ -6,7 +6,7 @@ use Rattle.mach_buffer.specs.Reach.{island_margin}
 use Rattle.mach_buffer.specs.Buffer.{shape_of, bytes_of, allocated_of, pending_of}
 use Rattle.mach_buffer.specs.Constants.{reserve_of}
 use Rattle.rv_emit_vectors.proofs.Kept.{can_finish}
-use Rattle.rv_emit_vectors.proofs.buffer.end.Goals as goal
+use Rattle.rv_emit_vectors.proofs.buffer.bind_and_finish.Goals as goal
 
 pub finish-requires-clause-ready : goal.finish-requires-clause-ready
 finish-requires-clause-ready g c =

@@ -37,9 +37,9 @@ use Rattle.rv_emit.specs.Puts.{IsPatchable}
 use Rattle.rv_emit.specs.InstParts.{load_over, access_slots, address_slots, immediate_slots, inline_slots, labelled, lower_slots, naming_slots, offset_slots}
 use Rattle.rv_emit.proofs.OffsetParts.{near, far, splits, splits_not, upper_is, lower_is, low64_zero, low64_other}
 use Rattle.rv_emit.proofs.PlainSlots.{IsPlain}
-use Rattle.rv_emit.proofs.SlotsPut.{alone, none_put}
+use Rattle.rv_emit.proofs.SlotsOfOnePut.{alone, none_put}
 use Rattle.rv_emit.proofs.ShortOps.{HasSize, rrr_sized, rri_sized, lui_sized, jump_len, least_few}
-use Rattle.rv_emit.proofs.SlotsJoined.{both_alone, alone_long}
+use Rattle.rv_emit.proofs.SlotsOfSeveralPuts.{both_alone, alone_long}
 
 -- ---- one slot
 

@@ -15,7 +15,7 @@ use Rattle.rv_machine.specs.Layout.{word_opcode, word_funct3, u_bits, i_bits, i_
 use Rattle.rv_machine.specs.Opcodes.{AUIPC, JALR}
 use Rattle.rv_machine.specs.State.{signed}
 use Rattle.rv_encode.specs.Layouts.{IsUType, IsIType}
-use Rattle.rv_encode.specs.Operations.{row}
+use Rattle.rv_encode.specs.Operations.{decoded}
 use Rattle.rv_encode.proofs.Decoding.{opcode_decodes}
 use Rattle.rv_inst.specs.declared.label_use.LabelUse.{LabelUse}
 use Rattle.rv_inst.specs.declared.label_use.LabelUse.TheVariants.{PCRel32}
@@ -37,7 +37,7 @@ use Rattle.rv_emit.specs.Tables.{far_jump, jump_slots}
 use Rattle.rv_emit.specs.Usable.{AreListed, IsListed}
 use Rattle.rv_emit.proofs.Encoded.{word_fits}
 use Rattle.rv_emit.proofs.OffsetParts.{upper_is, lower_is}
-use Rattle.rv_emit.proofs.PartsPatched.{upper_fresh, lower_fresh}
+use Rattle.rv_emit.proofs.PatchedWindows.{upper_fresh, lower_fresh}
 use Rattle.rv_emit.proofs.PlacedBytes.{word_there, rest_there, rest_fits}
 use Rattle.rv_inst.specs.Context.{Context}
 use Rattle.rv_inst.specs.Rules.{inst_rule}
@@ -52,8 +52,8 @@ use Rattle.rv_base.specs.declared.regs.Reg.{Reg}
 use Rattle.rv_base.specs.declared.regs.Writable.{Writable}
 use Rattle.rv_emit.proofs.Operands.{keeps}
 use Rattle.rv_emit.proofs.TableRules.{table_fine}
-use Rattle.rv_emit.proofs.SlotsPut.{alone}
-use Rattle.rv_emit.proofs.SlotsJoined.{both_alone, alone_long}
+use Rattle.rv_emit.proofs.SlotsOfOnePut.{alone}
+use Rattle.rv_emit.proofs.SlotsOfSeveralPuts.{both_alone, alone_long}
 use Rattle.rv_emit.proofs.TableSlots.{even_plain, extend_even, extend_few, number_even, number_few, number_long, count_splits, far_jumps_even, far_jumps_long}
 use Rattle.rv_emit.proofs.VeneerRuns.{first_bytes}
 
@@ -102,7 +102,7 @@ upper_held {d = d} p fu fl =
     let m = subst (λ z. z ≤ℤ pos 2047) (sym p.lower_is) (lower_high _ fl) in
     (upper_is d p.upper p.lower a b l m p.sum, lower_is d p.upper p.lower a b l m p.sum)
 
-pub pair_patchable : (flags : IsaFlags) (w x link tmp : ℕ) → w < 2 ^ 32 → x < 2 ^ 32 → IsUType w AUIPC tmp 0 → IsIType x JALR link 0 tmp 0 → IsPatchable flags PCRel32 (pair_bytes w x) (λ d. row (Base base.Auipc) tmp 0 0 (upper_of d) ∷ decoded_jalr link tmp (lower_of d) ∷ [])
+pub pair_patchable : (flags : IsaFlags) (w x link tmp : ℕ) → w < 2 ^ 32 → x < 2 ^ 32 → IsUType w AUIPC tmp 0 → IsIType x JALR link 0 tmp 0 → IsPatchable flags PCRel32 (pair_bytes w x) (λ d. decoded (Base base.Auipc) tmp 0 0 (upper_of d) ∷ decoded_jalr link tmp (lower_of d) ∷ [])
 pair_patchable flags w x link tmp fw fx h g = record {
   long = refl;
   fresh = let a = h.imm_is in let b = g.imm_is in
@@ -111,7 +111,7 @@ pair_patchable flags w x link tmp fw fx h g = record {
   patched = λ new d long all same aims mem a there.
       let p = pair_decodes flags w x link tmp new d fw fx h g long all same aims in
       let held = upper_held p (omega arith) (omega arith) in
-      let upper : decode flags (word_at new) ≡ Some (row (Base base.Auipc) tmp 0 0 (upper_of d)) = p.first ∙ ap (λ n. option_map (with_immediate p.upper) (decode flags n)) (first_back w x) ∙ ap (option_map (with_immediate p.upper)) (opcode_decodes flags w AUIPC h.opcode_is refl) ∙ (λ i. Some (row (Base base.Auipc) (h.rd_is i) 0 0 (sym held.0 i))) in
+      let upper : decode flags (word_at new) ≡ Some (decoded (Base base.Auipc) tmp 0 0 (upper_of d)) = p.first ∙ ap (λ n. option_map (with_immediate p.upper) (decode flags n)) (first_back w x) ∙ ap (option_map (with_immediate p.upper)) (opcode_decodes flags w AUIPC h.opcode_is refl) ∙ (λ i. Some (decoded (Base base.Auipc) (h.rd_is i) 0 0 (sym held.0 i))) in
       let lower : decode flags (word_at (drop 4 new)) ≡ Some (decoded_jalr link tmp (lower_of d)) = p.second ∙ ap (λ n. option_map (with_immediate p.lower) (decode flags n)) (second_back w x) ∙ ap (option_map (with_immediate p.lower)) (opcode_decodes flags x JALR g.opcode_is refl ∙ jalr_decodes x g.funct3_is) ∙ (λ i. Some (decoded_jalr (g.rd_is i) (g.rs1_is i) (sym held.1 i))) in (
         ap (decode flags) (word_there mem a new (omega arith) there) ∙ upper,
         (ap (decode flags) (word_there mem (a + 4) (drop 4 new) (omega (arith, length-drop 4 new)) (rest_there mem a new 4 (omega arith) there)) ∙ lower, tt),
@@ -128,7 +128,7 @@ pair_joined w x s mid t first fits second = second ∙ (λ i. with_bytes (same_b
 
 -- ---- a jump in eight bytes
 
-pub far_put : (flags : IsaFlags) (tmp : ℕ) (label : MachLabel) (old mid new : Buffer) (w x : ℕ) → IsPatchable flags PCRel32 (pair_bytes w x) (λ d. row (Base base.Auipc) tmp 0 0 (upper_of d) ∷ decoded_jalr 0 tmp (lower_of d) ∷ []) → shape_of mid ≡ with_bytes (word_bytes w) (with_use (use_at (length (bytes_of old)) label PCRel32) (shape_of old)) → x < 2 ^ 32 → shape_of new ≡ with_bytes (to_le_bytes w32 x) (shape_of mid) → IsSoundBuffer new → PutsAlone flags (far_jump tmp label ∷ []) old new
+pub far_put : (flags : IsaFlags) (tmp : ℕ) (label : MachLabel) (old mid new : Buffer) (w x : ℕ) → IsPatchable flags PCRel32 (pair_bytes w x) (λ d. decoded (Base base.Auipc) tmp 0 0 (upper_of d) ∷ decoded_jalr 0 tmp (lower_of d) ∷ []) → shape_of mid ≡ with_bytes (word_bytes w) (with_use (use_at (length (bytes_of old)) label PCRel32) (shape_of old)) → x < 2 ^ 32 → shape_of new ≡ with_bytes (to_le_bytes w32 x) (shape_of mid) → IsSoundBuffer new → PutsAlone flags (far_jump tmp label ∷ []) old new
 far_put flags tmp label old mid new w x is first fits second sound = alone (record {
   puts = (shape_of new, (pair_bytes w x, is, pair_joined w x (with_use (use_at (length (bytes_of old)) label PCRel32) (shape_of old)) (shape_of mid) (shape_of new) first fits second), refl);
   sound = sound;

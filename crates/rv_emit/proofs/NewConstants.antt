@@ -17,7 +17,7 @@ use Rattle.mach_buffer.specs.Veneers.{put_at, put_veneer, put_all}
 use Rattle.mach_buffer.specs.Islands.{Islanded, padding, padded, island_veneers}
 use Rattle.mach_buffer.specs.Finish.{Finishes, padded_for}
 use Rattle.mach_buffer.proofs.Laws.{below, locate}
-use Rattle.rv_emit.specs.ConstantsAdded.{StandInTurn, AddsConstants}
+use Rattle.rv_emit.specs.NewConstants.{StandInTurn, AddsConstants}
 
 -- ---- several steps
 
@@ -159,7 +159,7 @@ adds_veneers : {L : Type 0} (kinds : Kinds L) (order : List ℕ) (s : Shape L) �
 adds_veneers kinds [] s = adds_none (omega arith) refl refl
 adds_veneers kinds (index ∷ order) s = adds_both (adds_veneer kinds index (slice_get s.uses index) s) (adds_veneers kinds order (put_veneer kinds index s))
 
--- veneers, and the constants that wait
+-- veneers, and the constants that don't stand yet
 adds_last : {L : Type 0} (kinds : Kinds L) (order : List ℕ) (s : Shape L) → AddsConstants s (put_constants (put_all kinds order s))
 adds_last kinds order s = adds_both (adds_veneers kinds order s) (adds_each (unplaced_of (put_all kinds order s)) (put_all kinds order s))
 

@@ -14,7 +14,7 @@ use Rattle.rv_emit.specs.Emission.{PutsAlone}
 use Rattle.rv_emit.specs.Encoded.{Holds, IsHalf, IsSizeOf, IsWord}
 use Rattle.rv_emit.specs.Slots.{Op}
 use Rattle.rv_emit.proofs.Encoded.{half_encodes}
-use Rattle.rv_emit.proofs.SlotsPut.{alone}
+use Rattle.rv_emit.proofs.SlotsOfOnePut.{alone}
 
 -- what an instruction holds, by which it is
 pub held_half : (flags : IsaFlags) (e : Encoded) (half : ℕ) (d : Decoded) → e ≡ Half half → Holds flags e d → IsHalf flags half d

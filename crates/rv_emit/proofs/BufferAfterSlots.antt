@@ -141,9 +141,9 @@ slot_constants flags allocated (CallTo name ops) s t p = λ i. (p.2 i).constants
 
 -- ---- slots
 
-pub puts_last : (flags : IsaFlags) (allocated : ℕ) (slots : List Slot) (s t : Shape LabelUse) → Puts flags allocated slots s t → Lasts label_kinds s t
-puts_last flags allocated [] s t p = subst (Lasts label_kinds s) (sym p) (lasts_same label_kinds s)
-puts_last flags allocated (slot ∷ slots) s t p = lasts_more (slot_lasts flags allocated slot s p.0 p.1) (puts_last flags allocated slots p.0 t p.2)
+pub lasts_after_slots : (flags : IsaFlags) (allocated : ℕ) (slots : List Slot) (s t : Shape LabelUse) → Puts flags allocated slots s t → Lasts label_kinds s t
+lasts_after_slots flags allocated [] s t p = subst (Lasts label_kinds s) (sym p) (lasts_same label_kinds s)
+lasts_after_slots flags allocated (slot ∷ slots) s t p = lasts_more (slot_lasts flags allocated slot s p.0 p.1) (lasts_after_slots flags allocated slots p.0 t p.2)
 
 pub puts_bytes : (flags : IsaFlags) (allocated : ℕ) (slots : List Slot) (s t : Shape LabelUse) → Puts flags allocated slots s t → length t.bytes ≡ length s.bytes + size_of slots
 puts_bytes flags allocated [] s t p = (λ i. length (p i).bytes) ∙ omega arith
