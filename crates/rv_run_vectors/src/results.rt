@@ -2,10 +2,10 @@
 //! returns, sp falls by the bytes that the callee took off the stack, and then each result is loaded from sp plus its offset, sign-extended
 //! from its type; a call by name that may be patched loads none.
 
-use crate::calls::assembled;
 use crate::linked::Placing;
 use crate::runs::{CALLER, arrives};
 use crate::tail_calls::FLAGS;
+use crate::texts::assembled;
 use rv_machine::IntMachine;
 use std::process::Abort;
 use std::test::Fail;
