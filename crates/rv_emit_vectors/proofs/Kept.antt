@@ -114,6 +114,11 @@ windows_as {L} {kinds} {bytes} {new_bytes} {uses} {new_uses} w eb eu = subst (λ
 pub slack_named : {L : Type 0} (kinds : Kinds L) (b new : MachBuffer L) (constant : VCodeConstant) (more slack : ℕ) → shape_of new ≡ with_named constant (shape_of b) → HasSlack (length (bytes_of b) + more) slack (pending_of kinds b) → HasSlack (length (bytes_of new) + more) slack (pending_of kinds new)
 slack_named {L} kinds b new constant more slack same h = subst (λ (x : Shape L). HasSlack (length x.bytes + more) slack (deadlines (is_pending kinds x.place) kinds x.uses)) (sym same) h
 
+-- the label of a constant that may be used is that of one that was named
+pub named_met : {L : Type 0} {labels : ℕ} (kinds : Kinds L) (new : MachBuffer L) (label : MachLabel) (constant : VCodeConstant) → IsSound kinds new → label ≡ constant_label constant → IsUsable (shape_of new) label.number → IsMet labels (shape_of new) label.number
+named_met kinds new label constant sound is (inl known) = let few = few_allocated kinds new sound in let e : label.number ≡ first_constant + constant.number = ap (λ (l : MachLabel). l.number) is in absurd (omega arith)
+named_met kinds new label constant sound is (inr c) = inr (inr c)
+
 module _ {L : Type 0} {kinds : Kinds L} where
   -- nothing yet
   pub kept_none : (labels : ℕ) (b : MachBuffer L) → IsSound kinds b → bytes_of b ≡ [] → uses_of b ≡ [] → constants_of b ≡ [] → IsKept kinds labels b
@@ -200,11 +205,6 @@ module _ {L : Type 0} {kinds : Kinds L} where
         named = λ j u h. subst (λ (x : Shape L). IsMet labels x u.label.number) (sym same) (still_met (lasts_named kinds constant (shape_of b)) u.label.number (k.named j u (ap (λ us. slice_get us j) (sym eu) ∙ h)));
         stand = still_stand (lasts_named kinds constant (shape_of b)) refl same k.stand;
       }
-
-  -- so its label is that of a constant that was named
-  pub named_met : {labels : ℕ} (new : MachBuffer L) (label : MachLabel) (constant : VCodeConstant) → IsSound kinds new → label ≡ constant_label constant → IsUsable (shape_of new) label.number → IsMet labels (shape_of new) label.number
-  named_met new label constant sound is (inl known) = let few = few_allocated kinds new sound in let e : label.number ≡ first_constant + constant.number = ap (λ (l : MachLabel). l.number) is in absurd (omega arith)
-  named_met new label constant sound is (inr c) = inr (inr c)
 
   -- the windows with those of a use of one byte, whose bytes are put after it
   pub windows_one : (b : MachBuffer L) → AreWindows kinds (bytes_of b) (uses_of b) → IsSound kinds b → (u : Use L) (rest : List ℕ) → u.offset ≡ length (bytes_of b) → u.veneer ≡ None → kinds.fields u.kind ≡ 255 ∷ [] → AreWindows kinds (bytes_of b ++ 0 ∷ rest) (uses_of b ++ u ∷ [])

@@ -1,10 +1,12 @@
 -- A buffer of a single instruction can be emitted into and finished.
 use Rattle.std.proofs.Common.{◌≡◌, append-nil, ℕ, ◌+◌, ◌-◌, ◌^◌, ◌<◌, ◌≤◌, true, false, List, [], ◌∷◌, ◌++◌, length, Option, Some, None, refl, ap, sym, ◌∙◌, subst, arith, inl, ⊎_elim}
 use Rattle.std.specs.Prelude.{slice_get, is_some}
+use Rattle.std.specs.Option.{option_map}
+use Rattle.rv_inst.specs.Calls.{Return, return_of}
 use Rattle.std.proofs.lemmas.Bool.{and_parts, eqb-true, true≢false}
 use Rattle.rv_inst.specs.Context.{Context}
 use Rattle.rv_inst.specs.declared.inst.Inst.{Inst}
-use Rattle.rv_inst.specs.declared.inst.Inst.TheVariants.{EmitIsland, BrTable, ReturnCall, ReturnCallInd}
+use Rattle.rv_inst.specs.declared.inst.Inst.TheVariants.{EmitIsland, BrTable, Call, CallInd, ReturnCall, ReturnCallInd}
 use Rattle.rv_base.specs.Frame.{sp_to_args_end}
 use Rattle.rv_base.specs.declared.call.TryCallInfo.{TryCallInfo}
 use Rattle.rv_base.specs.declared.label.MachLabel.{MachLabel}
@@ -70,12 +72,14 @@ start_windows b s =
     subst (λ (bs : List ℕ). AreWindows label_kinds bs (uses_of b)) (sym s.bytes)
     (subst (λ (us : List (Use LabelUse)). AreWindows label_kinds [] us) (sym s.uses) windows_none)
 
-plain_sum : (context : Context) (inst : Inst) → island_space context inst ≡ None → inst_sum context inst ≡ 128
-plain_sum context (BrTable index tmp1 tmp2 targets) none = absurd (cc)
-plain_sum context (EmitIsland space) none = absurd (cc)
-plain_sum context (ReturnCall info) none = absurd (cc)
-plain_sum context (ReturnCallInd info) none = absurd (cc)
-plain_sum context _ none = refl
+plain_sum : (context : Context) (inst : Inst) → is_some (option_map (λ (r : Return). r.offset) (return_of context.flags inst)) ≡ false → island_space context inst ≡ None → inst_sum context inst ≡ 128
+plain_sum context (Call info) stays none = absurd (cc)
+plain_sum context (CallInd info) stays none = absurd (cc)
+plain_sum context (BrTable index tmp1 tmp2 targets) stays none = absurd (cc)
+plain_sum context (EmitIsland space) stays none = absurd (cc)
+plain_sum context (ReturnCall info) stays none = absurd (cc)
+plain_sum context (ReturnCallInd info) stays none = absurd (cc)
+plain_sum context _ stays none = refl
 
 no_table : (context : Context) (inst : Inst) → island_space context inst ≡ None → table_of inst ≡ []
 no_table context (BrTable index tmp1 tmp2 targets) none = absurd (cc)
@@ -91,9 +95,9 @@ no_tail context (ReturnCall info) none = absurd (cc)
 no_tail context (ReturnCallInd info) none = absurd (cc)
 no_tail context _ none = refl
 
--- any instruction may be put that asks for no island
-pub can_start : (context : Context) (inst : Inst) (b : Buffer) → sp_to_args_end context.frame < 2 ^ 31 → inst_rule context inst ≡ None → island_space context inst ≡ None → IsStart b → CanEmit context inst b
-can_start context inst b frame rule none s = record {
+-- any instruction may be put that asks for no island and is no call that returns
+pub can_start : (context : Context) (inst : Inst) (b : Buffer) → sp_to_args_end context.frame < 2 ^ 31 → inst_rule context inst ≡ None → is_some (option_map (λ (r : Return). r.offset) (return_of context.flags inst)) ≡ false → island_space context inst ≡ None → IsStart b → CanEmit context inst b
+can_start context inst b frame rule stays none s = record {
   rule = rule;
   frame = frame;
   restores = no_tail context inst none;
@@ -101,7 +105,7 @@ can_start context inst b frame rule none s = record {
   calm = ap (is_needed (length (bytes_of b)) line_space) (start_pending b s);
   few = let d = s.allocated in omega arith;
   room =
-      let sum = plain_sum context inst none in
+      let sum = plain_sum context inst stays none in
       let bytes : length (bytes_of b) ≡ 0 = ap (length {A = ℕ}) s.bytes in
       let few_pending : length (pending b) ≡ 0 = ap (length {A = ℕ}) (start_pending b s) in
       let kept = none_kept (shape_of b) s.registered in

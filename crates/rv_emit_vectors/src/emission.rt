@@ -1,6 +1,8 @@
 //! The words of instructions, as the manual has them, and the islands before them.
 
 ghost use Rattle.std.specs.Prelude.{◌≡◌, IfOk, None, is_some, option_copied, true};
+ghost use Rattle.std.specs.Option.{option_map};
+ghost use Rattle.rv_inst.specs.Calls.{Return, return_of};
 ghost use Rattle.rv_emit_vectors.specs.Single.{is_first, are_first, are_first_by, names_first, IsStart, HoldsOne};
 
 use mach_buffer::MachBuffer;
@@ -66,12 +68,22 @@ fn are_first(targets: Targets) -> bool
     }
 }
 
-/// A buffer of one instruction, which keeps the rules and asks for no island.
+/// Returns whether an instruction is a call that returns.
+fn is_call(inst: &Inst, flags: IsaFlags) -> bool
+    ensures { result ≡ is_some (option_map (λ (r : Return). r.offset) (return_of flags inst.now)) }
+{
+    inst.return_offset(flags).is_some()
+}
+
+/// A buffer of one instruction, which keeps the rules, asks for no island and is no call that returns.
 fn buffer_of(alloc: Global, flags: IsaFlags, inst: &Inst) -> Result<MachBuffer<LabelUse>, Fail>
     ensures { IfOk result (λ b. HoldsOne inst.now b) }
 {
     let info = EmitInfo::new(flags);
     let mut state = EmitState::new(FrameLayout::none(alloc));
+    if is_call(inst, info.isa_flags) {
+        return Err(Fail::new("the instruction is a call that returns"));
+    }
     if inst.asks_for_island() {
         return Err(Fail::new("the instruction asks for an island"));
     }

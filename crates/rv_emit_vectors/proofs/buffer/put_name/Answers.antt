@@ -8,8 +8,9 @@ put_window-requires-clause-kept g c =
 
 pub put_window-requires-clause-met : goal.put_window-requires-clause-met
 put_window-requires-clause-met g c =
+    let K = g.L.MachInstLabelUse in
     let e = c.in_ok-label.ensures in
-    named_met c.get_label_for_constant.new.self c.in_ok-label.label c.args.constant e.sound e.label e.usable
+    named_met K.kinds c.get_label_for_constant.new.self c.in_ok-label.label c.args.constant e.sound e.label e.usable
 
 pub put_window-requires-clause-slack : goal.put_window-requires-clause-slack
 put_window-requires-clause-slack g c =

@@ -15,7 +15,7 @@ emit-requires c =
     let rule = subst (λ frame. inst_rule (context_by flags frame (registered_of b)) c.args.inst.now ≡ None) c.frame_layout.ensures (subst (λ constants. inst_rule (context_by flags c.frame_layout.result.now constants) c.args.inst.now ≡ None) (sym c.in_ok-buffer.ensures.registered) (sym c.check.ensures ∙ none_there c.check.result (sym c.is_some.ensures ∙ c.if-is_some.false))) in
     let none = none_there (island_space context c.args.inst.now) (sym (c.if-asks_for_island.ensures context)) in
     let small = subst (λ frame. sp_to_args_end frame < 2 ^ 31) (sym (c.new-state.ensures.frame ∙ c.none.ensures)) (omega arith) in
-    can_start context c.args.inst.now c.in_ok-buffer.buffer small rule none c.in_ok-buffer.ensures
+    can_start context c.args.inst.now c.in_ok-buffer.buffer small rule (sym c.is_call.ensures ∙ c.if-is_call.false) none c.in_ok-buffer.ensures
 
 pub returns-in-Ok : goal.returns-in-Ok
 returns-in-Ok c =
