@@ -68,20 +68,23 @@ const BEFORE: [(u8, u64); 6] = [
     (21, 21),
 ];
 
-/// The loaded results.
-const LOADED: [(u8, u64); 4] = [
-    (18, 0x8182838485868788),
-    (19, 0xffffffff85868788),
-    (20, 0xffffffffffff8788),
-    (21, 0xffffffffffffff88),
-];
+/// What x18 to x21 hold where the results are loaded.
+const LOADED: (u64, u64, u64, u64) = (
+    0x8182838485868788,
+    0xffffffff85868788,
+    0xffffffffffff8788,
+    0xffffffffffffff88,
+);
+
+/// And where they aren't.
+const UNCHANGED: (u64, u64, u64, u64) = (18, 19, 20, 21);
 
 /// Stops unless the machine comes to the end of the call with its results, and then back to the function's own caller.
 fn assert_results(
     rt: &impl Abort,
     machine: &mut IntMachine,
     end: u64,
-    wanted: &[(u8, u64)],
+    wanted: (u64, u64, u64, u64),
     text: &str,
 ) -> Result<(), Fail> {
     for (number, value) in BEFORE {
@@ -93,9 +96,11 @@ fn assert_results(
     assert!(rt; arrives(machine, end)?, "to {end:x} at {text}");
     assert_eq!(rt; machine.reg(2), 0x7fffffd0, "at {text}");
     assert_eq!(rt; machine.reg(10), 7, "at {text}");
-    for (number, value) in wanted {
-        assert_eq!(rt; machine.reg(*number), *value, "x{number} at {text}");
-    }
+    let (first, second, third, fourth) = wanted;
+    assert_eq!(rt; machine.reg(18), first, "at {text}");
+    assert_eq!(rt; machine.reg(19), second, "at {text}");
+    assert_eq!(rt; machine.reg(20), third, "at {text}");
+    assert_eq!(rt; machine.reg(21), fourth, "at {text}");
     assert!(rt; arrives(machine, CALLER)?, "at {text}");
     assert_eq!(rt; machine.reg(2), 0x80000000, "at {text}");
     Ok(())
@@ -116,12 +121,7 @@ fn results_are_found_in_registers(rt: HostRuntime) -> Result<(), Fail> {
             machine.load_image(CALLEE, callee.bytes.as_slice())?;
             let [plain, short] = calling.ends;
             let end = if place == 0 { plain } else { short };
-            let unchanged = BEFORE.as_slice().split_at(2).1;
-            let wanted = if calling.loads {
-                LOADED.as_slice()
-            } else {
-                unchanged
-            };
+            let wanted = if calling.loads { LOADED } else { UNCHANGED };
             assert_results(&rt, &mut machine, end, wanted, &text)?;
         }
     }
