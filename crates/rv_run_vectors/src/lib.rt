@@ -22,8 +22,6 @@ mod ran;
 #[cfg(test)]
 mod records;
 #[cfg(test)]
-mod results;
-#[cfg(test)]
 mod runs;
 #[cfg(test)]
 mod symbols;
