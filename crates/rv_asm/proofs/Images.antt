@@ -48,22 +48,16 @@ from_byte mem a zero k lt = absurd (omega arith)
 from_byte mem a (suc n) zero lt = let e : a ≡ a + 0 = omega arith in ap (byte mem) e
 from_byte mem a (suc n) (suc k) lt = let e : a + 1 + k ≡ a + suc k = omega arith in from_byte mem (a + 1) n k (omega arith) ∙ ap (byte mem) e
 
-window_byte : (bytes : List ℕ) (place size i : ℕ) → i < size → slice_index (window bytes place size) i ≡ slice_index bytes (place + i)
-window_byte bytes place size i lt = get_or-take size (drop place bytes) i 0 lt ∙ get_or-drop place bytes i 0
-
-window_long : (bytes : List ℕ) (place size : ℕ) → place + size ≤ length bytes → length (window bytes place size) ≡ size
-window_long bytes place size le = omega (arith, length-take size (drop place bytes), length-drop place bytes)
-
 -- a window of them is such bytes too
 window_from : (mem : Memory) (a n from size : ℕ) → from + size ≤ n → window (bytes_from mem a n) from size ≡ bytes_from mem (a + from) size
 window_from mem a n from size le =
     let whole = from_long mem a n in
-    let long = window_long (bytes_from mem a n) from size (omega arith) in
+    let long : length (window (bytes_from mem a n) from size) ≡ size = omega (arith, length-take size (drop from (bytes_from mem a n)), length-drop from (bytes_from mem a n)) in
     same_number_lists (window (bytes_from mem a n) from size) (bytes_from mem (a + from) size) (long ∙ sym (from_long mem (a + from) size))
     (λ k lt.
     let short : k < size = omega arith in
     let e : a + (from + k) ≡ a + from + k = omega arith in
-    window_byte (bytes_from mem a n) from size k short ∙ from_byte mem a n (from + k) (omega arith) ∙ ap (byte mem) e ∙ sym (from_byte mem (a + from) size k short))
+    get_or-take size (drop from (bytes_from mem a n)) k 0 short ∙ get_or-drop from (bytes_from mem a n) k 0 ∙ from_byte mem a n (from + k) (omega arith) ∙ ap (byte mem) e ∙ sym (from_byte mem (a + from) size k short))
 
 -- ---- what records give
 
@@ -154,11 +148,12 @@ module _ (code : Code) (base : ℕ) (symbols slots : Addresses) (mem : Memory) (
     bytes = λ k lt. let short : k < length code.bytes = let l = from_long mem base (length code.bytes) in omega arith in subst (λ (b : ℕ). b < 256) (sym (from_byte mem base (length code.bytes) k short)) (placed.bytes k short);
     same = λ from size le clear.
         let left = window_from mem base (length code.bytes) from size le in
-        left ∙ same_number_lists (bytes_from mem (base + from) size) (window code.bytes from size) (from_long mem (base + from) size ∙ sym (window_long code.bytes from size le))
+        let long : length (window code.bytes from size) ≡ size = omega (arith, length-take size (drop from code.bytes), length-drop from code.bytes) in
+        left ∙ same_number_lists (bytes_from mem (base + from) size) (window code.bytes from size) (from_long mem (base + from) size ∙ sym long)
         (λ k lt.
         let short : k < size = let l = from_long mem (base + from) size in omega arith in
         let e : base + from + k ≡ base + (from + k) = omega arith in
-        from_byte mem (base + from) size k short ∙ ap (byte mem) e ∙ placed.there (from + k) (omega arith) (outside same from size k short clear) ∙ sym (window_byte code.bytes from size k short));
+        from_byte mem (base + from) size k short ∙ ap (byte mem) e ∙ placed.there (from + k) (omega arith) (outside same from size k short clear) ∙ sym (get_or-take size (drop from code.bytes) k 0 short ∙ get_or-drop from code.bytes k 0));
   }
 
   -- the parts of a distance, in the two words that hold it

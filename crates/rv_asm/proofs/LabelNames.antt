@@ -215,7 +215,7 @@ uses_labels context start end inst = by (try_call_of inst)
     on (Refers label) =
         each_more (UsesOneOf (label ∷ [])) _ (use_at (start + 4) label PCRelLo12I ∷ []) (inl (first label []))
         (each_more (UsesOneOf (label ∷ [])) _ [] (inl (first label [])) (each_none _))
-    on (RefersConstant k) =
+    on (RefersConstant k read) =
         each_more (UsesOneOf []) _ (use_at (start + 4) (constant_label k) PCRelLo12I ∷ []) (inr (omega arith, refl))
         (each_more (UsesOneOf []) _ [] (inr (omega arith, refl)) (each_none _))
 

@@ -14,7 +14,7 @@ use Rattle.rv_inst.specs.declared.label_use.LabelUse.{LabelUse}
 use Rattle.rv_inst.specs.LabelUse.{label_kinds, marks_of}
 use Rattle.rv_inst.specs.Rules.{inst_rule, broken_rule}
 use Rattle.rv_inst.specs.Records.{inst_records}
-use Rattle.rv_inst.specs.Operands.{inst_constant}
+use Rattle.rv_inst.specs.Operands.{inst_constant, named_by}
 use Rattle.rv_inst.specs.Sizes.{Extent, Words, Island, After, Around, words_in, extent_of, line_space}
 use Rattle.mach_buffer.specs.declared.records.ConstPlace.{ConstPlace}
 use Rattle.mach_buffer.specs.declared.uses.Use.{Use}
@@ -27,14 +27,14 @@ use Rattle.mach_buffer.specs.Windows.{AreWindows}
 use Rattle.mach_buffer.proofs.Laws.{append_none, grows_put, lasts_more, stands_last as constants_last, even_length}
 use Rattle.rv_emit.specs.NewConstants.{StandInTurn, AddsConstants}
 use Rattle.rv_emit.specs.declared.state.EmitVState.{EmitVState}
-use Rattle.rv_emit.specs.Emitted.{Buffer, IsSoundBuffer, HasWindows, IslandIfNeeded, AppendsBy, Appends, named_by}
+use Rattle.rv_emit.specs.Emitted.{Buffer, IsSoundBuffer, HasWindows, IslandIfNeeded, AppendsBy, Appends}
 use Rattle.rv_emit.specs.Images.{EndsWithin, AllClear, FieldsStand}
 use Rattle.rv_emit.specs.InstParts.{parts_of}
 use Rattle.rv_emit.specs.Standing.{SpansIn}
 use Rattle.rv_emit.specs.State.{setting_beyond}
 use Rattle.rv_emit.proofs.Laws.{adds_both, adds_none, appends, gap_last, parts_last, gap_put, parts_put, parts_are_self_contained, bytes_put, words_long}
 use Rattle.rv_asm.specs.LinesInBuffer.{LineStands, StandsAfter, InstPut, BindPut, LinePut}
-use Rattle.rv_asm.specs.Reported.{line_records, line_constant, with_constant, StandOutside, WordsApart}
+use Rattle.rv_asm.specs.Reported.{line_records, line_constant, StandOutside, WordsApart}
 use Rattle.rv_asm.proofs.Extents.{Lacks, lacks}
 use Rattle.rv_asm.proofs.AppendedLines.{appended_spans}
 use Rattle.rv_asm.proofs.LineRecords.{room_records, appended_records}
@@ -68,19 +68,15 @@ stands_last context line old new l before start end h = record {
 room_named : (distance : ℕ) (old new : Buffer) (made : Bool) → IslandIfNeeded distance old new made → named_of new ≡ named_of old
 room_named distance old new made m = ⊎_elim (λ same. ap (λ (b : Buffer). named_of b) same.1) (λ put. put.1.named) m.put
 
-named_with : (constant : Option VCodeConstant) (named : List VCodeConstant) → named_by constant named ≡ with_constant constant named
-named_with None named = refl
-named_with (Some k) named = refl
-
 -- an instruction names its own
-appended_named : (context : Context) (inst : Inst) (old new : Buffer) → Appends context inst old new → named_of new ≡ with_constant (inst_constant inst) (named_of old)
+appended_named : (context : Context) (inst : Inst) (old new : Buffer) → Appends context inst old new → named_of new ≡ named_by (inst_constant inst) (named_of old)
 appended_named context inst old new e = by (extent_of context inst) (lacks context inst) e
   where
-    by : (e : Extent) → Lacks context e inst → AppendsBy context e inst old new → named_of new ≡ with_constant (inst_constant inst) (named_of old)
-    by (Words size) lack words = words.named ∙ named_with (inst_constant inst) (named_of old)
-    by (Island space) lack (made, room) = room_named space old new made room ∙ sym (ap (λ k. with_constant k (named_of old)) lack.2)
-    by (After space size more) lack (mid, made, room, words) = words.named ∙ named_with (inst_constant inst) (named_of mid) ∙ ap (with_constant (inst_constant inst)) (room_named space old mid made room)
-    by (Around before space after) lack a = a.second.named ∙ room_named space a.mid a.last a.made a.room ∙ a.first.named ∙ sym (ap (λ k. with_constant k (named_of old)) lack)
+    by : (e : Extent) → Lacks context e inst → AppendsBy context e inst old new → named_of new ≡ named_by (inst_constant inst) (named_of old)
+    by (Words size) lack words = words.named
+    by (Island space) lack (made, room) = room_named space old new made room ∙ sym (ap (λ k. named_by k (named_of old)) lack.2)
+    by (After space size more) lack (mid, made, room, words) = words.named ∙ ap (named_by (inst_constant inst)) (room_named space old mid made room)
+    by (Around before space after) lack a = a.second.named ∙ room_named space a.mid a.last a.made a.room ∙ a.first.named ∙ sym (ap (λ k. named_by k (named_of old)) lack)
 
 -- ---- the constants that come to stand
 
@@ -139,7 +135,7 @@ pub record LineAdded (context : Context) (line : Line) (old new : Buffer) (span 
   pub sound : IsSoundBuffer new
   pub first : uses_of old ≡ [] → span.start ≡ length (bytes_of old)
   pub records : records_of new ≡ records_of old ++ line_records context span.start span.end line
-  pub named : named_of new ≡ with_constant (line_constant line) (named_of old)
+  pub named : named_of new ≡ named_by (line_constant line) (named_of old)
   pub constants : AllStand label_kinds (shape_of old) → AllStand label_kinds (shape_of new)
   pub adds : AddsConstants (shape_of old) (shape_of new)
   pub apart : StandInTurn (shape_of old) → HoldsNone context line new span.start span.end
@@ -173,7 +169,7 @@ inst_added context setting inst old new span rule s w f p =
       sound = put.sound;
       first = λ h. p.start ∙ none_put line_space old p.mid p.made p.room h;
       records = appended_records context inst p.mid new appended ∙ (λ i. room_records line_space old p.mid p.made p.room i ++ inst_records context (sym p.start i) (sym p.end i) inst);
-      named = appended_named context inst p.mid new appended ∙ ap (with_constant (inst_constant inst)) (room_named line_space old p.mid p.made p.room);
+      named = appended_named context inst p.mid new appended ∙ ap (named_by (inst_constant inst)) (room_named line_space old p.mid p.made p.room);
       constants = λ h. put.constants (room.constants h);
       adds = adds_both room.adds put.adds;
       apart = λ turn. subst (λ n. WordsApart (registered_of new) (constants_of new) (extent_of context inst) span.start n) (sym p.end) (subst (λ n. WordsApart (registered_of new) (constants_of new) (extent_of context inst) n (length (bytes_of new))) (sym p.start) (appended_apart context inst p.mid new (room.adds.in_turn turn) appended));

@@ -2,6 +2,7 @@
 use Rattle.std.proofs.Common.{◌≡◌, ℕ, suc, ◌+◌, ◌⊎◌, inl, inr, ⊎_elim, List, [], ◌∷◌, ◌++◌, length, Some, None, refl, ap, sym, ◌∙◌, subst, arith}
 use Rattle.std.specs.Prelude.{slice_get}
 use Rattle.std.proofs.lemmas.List.{length-append}
+use Rattle.rv_inst.specs.Operands.{named_by}
 use Rattle.rv_inst.specs.Context.{Context}
 use Rattle.rv_inst.specs.declared.inst.Inst.{Inst}
 use Rattle.rv_inst.specs.declared.inst.Line.{Line}
@@ -20,7 +21,7 @@ use Rattle.rv_emit.specs.declared.state.EmitVState.{EmitVState}
 use Rattle.rv_emit.specs.Emitted.{Buffer, IsSoundBuffer}
 use Rattle.rv_emit.proofs.Laws.{before_or_last}
 use Rattle.rv_base.specs.declared.constant.VCodeConstant.{VCodeConstant}
-use Rattle.rv_asm.specs.Reported.{start_of, end_of, end_before, line_records, line_constant, with_constant, constants_after, WordsApart}
+use Rattle.rv_asm.specs.Reported.{start_of, end_of, end_before, line_records, line_constant, constants_after, WordsApart}
 use Rattle.rv_asm.proofs.Extents.{spans_within, words_more}
 use Rattle.rv_asm.specs.LinesInBuffer.{StandsAfter, LinesStand, LinePut}
 use Rattle.rv_asm.proofs.FirstLines.{ends_more}
@@ -63,9 +64,9 @@ built_none context b eb eu et er en ec s = record {
     none_there j c h = none_at j c (sym (ap (λ cs. slice_get cs j) ec) ∙ h)
 
 -- the constants that a line more names
-constants_more : (named : List VCodeConstant) (lines : List Line) (line : Line) → constants_after named (lines ++ line ∷ []) ≡ with_constant (line_constant line) (constants_after named lines)
+constants_more : (named : List VCodeConstant) (lines : List Line) (line : Line) → constants_after named (lines ++ line ∷ []) ≡ named_by (line_constant line) (constants_after named lines)
 constants_more named [] line = refl
-constants_more named (first ∷ lines) line = constants_more (with_constant (line_constant first) named) lines line
+constants_more named (first ∷ lines) line = constants_more (named_by (line_constant first) named) lines line
 
 -- ---- one line more
 
@@ -126,7 +127,7 @@ module _ (context : Context) (lines : List Line) (line : Line) (spans : List Lin
     nothing = λ e. absurd (omega (arith, more_lines, e));
     records = a.records ∙ ap (λ ts. ts ++ line_records context span.start span.end line) b.records ∙ sym (records_next context lines spans line span same);
     registered = a.lasts.registered ∙ b.registered;
-    named = a.named ∙ ap (with_constant (line_constant line)) b.named ∙ sym (constants_more [] lines line);
+    named = a.named ∙ ap (named_by (line_constant line)) b.named ∙ sym (constants_more [] lines line);
     stand = a.constants b.stand;
     in_turn = a.adds.in_turn b.in_turn;
     apart = λ i inst h. apart i inst (before_or_last lines line i (Put inst) h);

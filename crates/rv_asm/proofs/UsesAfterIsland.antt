@@ -59,7 +59,7 @@ uses_ways context start end inst = by (try_call_of inst)
         each_more (λ u. has_veneer_of u.kind ≡ true → 1 ≤ 2) _ (use_at (start + 4) f (jump_kind context.flags) ∷ []) (λ e. omega arith) (each_more (λ u. has_veneer_of u.kind ≡ true → 1 ≤ 2) _ [] (λ e. omega arith) (each_none _))
     on (Refers label) =
         each_more (λ u. has_veneer_of u.kind ≡ true → 1 ≤ 0) _ (use_at (start + 4) label PCRelLo12I ∷ []) (λ e. absurd (cc)) (each_more (λ u. has_veneer_of u.kind ≡ true → 1 ≤ 0) _ [] (λ e. absurd (cc)) (each_none _))
-    on (RefersConstant k) =
+    on (RefersConstant k read) =
         each_more (λ u. has_veneer_of u.kind ≡ true → 1 ≤ 0) _ (use_at (start + 4) (constant_label k) PCRelLo12I ∷ []) (λ e. absurd (cc)) (each_more (λ u. has_veneer_of u.kind ≡ true → 1 ≤ 0) _ [] (λ e. absurd (cc)) (each_none _))
 
     by : (t : Option TryCallInfo) → Each (λ u. has_veneer_of u.kind ≡ true → 1 ≤ length (ways_by t (targets_of inst))) (uses_by context.flags start end t (targets_of inst))

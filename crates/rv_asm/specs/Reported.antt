@@ -8,7 +8,7 @@ use Rattle.rv_inst.specs.declared.inst.Line.{Line}
 use Rattle.rv_inst.specs.declared.inst.Line.TheVariants.{Inst as Put, Bind}
 use Rattle.rv_inst.specs.declared.job.Job.{Job}
 use Rattle.rv_inst.specs.Islands.{IsIsland}
-use Rattle.rv_inst.specs.Operands.{inst_constant}
+use Rattle.rv_inst.specs.Operands.{inst_constant, named_by}
 use Rattle.rv_inst.specs.Sizes.{Extent, Words, Island, After, Around, words_in, extent_of, island_space}
 use Rattle.rv_inst.specs.MostBytes.{most_bytes}
 use Rattle.rv_base.specs.declared.flags.IsaFlags.{IsaFlags}
@@ -20,7 +20,6 @@ use Rattle.mach_buffer.specs.declared.uses.LabelPlace.{LabelPlace}
 use Rattle.mach_buffer.specs.declared.records.MachRecord.{MachRecord}
 use Rattle.mach_buffer.specs.Records.{relocs_in, traps_in, calls_in, tries_in, patches_in, maps_in, unwinds_in}
 use Rattle.mach_buffer.specs.declared.records.ConstPlace.{ConstPlace}
-use Rattle.mach_buffer.specs.Shape.{name_more}
 use Rattle.mach_buffer.specs.Constants.{HasConstants}
 use Rattle.mach_buffer.specs.Windows.{IsApart}
 use Rattle.mach_buffer.specs.declared.records.MachReloc.{MachReloc}
@@ -73,15 +72,10 @@ abbrev pub line_constant : Line → Option VCodeConstant
 line_constant (Put inst) = inst_constant inst
 line_constant (Bind label) = None
 
--- a constant that is named comes after those that were, unless it is one of them
-abbrev pub with_constant : Option VCodeConstant → List VCodeConstant → List VCodeConstant
-with_constant None named = named
-with_constant (Some k) named = name_more k named
-
 -- constants that were named, and those that these lines name
 abbrev pub constants_after : List VCodeConstant → List Line → List VCodeConstant
 constants_after named [] = named
-constants_after named (line ∷ lines) = constants_after (with_constant (line_constant line) named) lines
+constants_after named (line ∷ lines) = constants_after (named_by (line_constant line) named) lines
 
 -- the constants that lines name, each once, in the order of their first use
 abbrev pub constants_named : List Line → List VCodeConstant

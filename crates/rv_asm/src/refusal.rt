@@ -213,7 +213,7 @@ fn find_named(bound: &LabelTable<()>, inst: &Inst) -> Result<(), EmitError>
     ensures { Finds (unbound_among (is_in bound.now) (labels_of (targets_of inst.now))) result }
 {
     match inst.targets() {
-        Targets::Nowhere | Targets::RefersConstant(_) => Ok(()),
+        Targets::Nowhere | Targets::RefersConstant(_, _) => Ok(()),
         Targets::Jumps(label) | Targets::Refers(label) => find_label(bound, label),
         Targets::Branches(taken, not_taken) => find_targets(bound, taken, not_taken),
     }

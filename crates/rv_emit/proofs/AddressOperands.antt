@@ -19,9 +19,9 @@ use Rattle.rv_base.specs.Regs.{number_of, stack_pointer, frame_pointer}
 use Rattle.rv_ops.specs.declared.memory.LoadOP.{LoadOP}
 use Rattle.rv_ops.specs.declared.memory.StoreOP.{StoreOP}
 use Rattle.rv_ops.specs.Memory.{load_size}
-use Rattle.rv_inst.specs.Addresses.{constant_in, location_of, is_distant}
+use Rattle.rv_inst.specs.Addresses.{location_of, is_distant}
 use Rattle.rv_inst.specs.Operands.{address_targets, labels_of}
-use Rattle.rv_inst.specs.Rules.{same_class, same_register, is_base, is_zero, is_buffer_label, is_shorter, lacks_bytes, lacks_constant}
+use Rattle.rv_inst.specs.Rules.{same_class, same_register, is_base, is_zero, is_buffer_label, is_shorter, lacks_named, lacks_constant}
 use Rattle.rv_inst.specs.declared.inst.Inst.TheVariants.{Load, Store, LoadAddr, LabelAddress}
 use Rattle.rv_emit.specs.Usable.{IsUsable, IsFine, IsFineAddress, IsApart}
 use Rattle.rv_emit.proofs.AddressRules.{IsUsableAt, IsRealAt, IsApartAt}
@@ -59,7 +59,7 @@ is_there constants size n e = on (slice_get constants n) refl e
     on None there lacks = absurd (cc)
     on (Some c) there lacks = slice_get_within constants n c there
 
-fine_address : (constants : List Constant) (size : ℕ) (mode : AMode) → AreUsable (registers_of mode) → is_distant (own_offset mode) ≡ false → list_any is_buffer_label (labels_of (address_targets mode)) ≡ false → lacks_bytes constants size (constant_in mode) ≡ false → IsFineAddress constants mode
+fine_address : (constants : List Constant) (size : ℕ) (mode : AMode) → AreUsable (registers_of mode) → is_distant (own_offset mode) ≡ false → list_any is_buffer_label (labels_of (address_targets size mode)) ≡ false → lacks_named constants (address_targets size mode) ≡ false → IsFineAddress constants mode
 fine_address constants size (RegOffset r o) all e labels there = (all.0, near o e)
 fine_address constants size (SPOffset o) all e labels there = near o e
 fine_address constants size (FPOffset o) all e labels there = near o e

@@ -72,7 +72,7 @@ uses_least context start end inst room = by (try_call_of inst) room
         (each_more (λ u. start + target_reach context.flags (Branches (Label t) (Label f)) ≤ deadline label_kinds u) _ [] (after_least context.flags.has_zca start) (each_none _))
     on (Refers label) =
         each_more (λ u. start + 1048574 ≤ deadline label_kinds u) _ (use_at (start + 4) label PCRelLo12I ∷ []) (omega arith) (each_more (λ u. start + 1048574 ≤ deadline label_kinds u) _ [] (omega arith) (each_none _))
-    on (RefersConstant k) =
+    on (RefersConstant k read) =
         each_more (λ u. start + 1048574 ≤ deadline label_kinds u) _ (use_at (start + 4) (constant_label k) PCRelLo12I ∷ []) (omega arith) (each_more (λ u. start + 1048574 ≤ deadline label_kinds u) _ [] (omega arith) (each_none _))
 
     by : (t : Option TryCallInfo) → HasJump context.flags start end t → Each (λ u. start + inst_reach context.flags t (targets_of inst) ≤ deadline label_kinds u) (uses_by context.flags start end t (targets_of inst))
@@ -115,7 +115,7 @@ few_ways context place start end inst = by (try_call_of inst)
     on (Branches (Label t) Fallthrough) = of_uses (use_at start t B12 ∷ []) 1 (omega arith)
     on (Branches (Label t) (Label f)) = of_uses (use_at start t B12 ∷ use_at (start + 4) f (jump_kind context.flags) ∷ []) 2 (omega arith)
     on (Refers label) = omega arith
-    on (RefersConstant k) = omega arith
+    on (RefersConstant k read) = omega arith
 
     by : (t : Option TryCallInfo) → length (deadlines (pending_at place) label_kinds (uses_by context.flags start end t (targets_of inst))) ≤ length (ways_by t (targets_of inst))
     by None = on (targets_of inst)
@@ -144,7 +144,7 @@ ways_few inst = by (try_call_of inst)
     on (Branches (Label t) Fallthrough) = omega arith
     on (Branches (Label t) (Label f)) = omega arith
     on (Refers label) = omega arith
-    on (RefersConstant constant) = omega arith
+    on (RefersConstant constant read) = omega arith
 
     by : (t : Option TryCallInfo) → length (ways_by t (targets_of inst)) ≤ 2
     by None = on (targets_of inst)

@@ -14,7 +14,7 @@ use Rattle.rv_encode.specs.Operations.{decoded_branch}
 use Rattle.mach_buffer.specs.Buffer.{bytes_of}
 use Rattle.rv_inst.specs.Context.{Context}
 use Rattle.rv_inst.specs.Forms.{short_rri}
-use Rattle.rv_inst.specs.Operands.{all_of, written_in, inst_constant}
+use Rattle.rv_inst.specs.Operands.{all_of, written_in, inst_constant, named_by}
 use Rattle.rv_inst.specs.Sizes.{Words, extent_of, extend_size, is_byte, move_size, moves_size, right_shift, select_size}
 use Rattle.rv_inst.specs.Records.{inst_records}
 use Rattle.rv_inst.specs.Uses.{uses_in}
@@ -23,7 +23,7 @@ use Rattle.rv_inst.specs.declared.inst.SelectInfo.{SelectInfo}
 use Rattle.rv_inst.specs.declared.inst.Inst.TheVariants.{Extend, Select}
 use Rattle.rv_emit.specs.Choices.{chosen_slots, choice_slots, complement, moves_slots, same_numbers}
 use Rattle.rv_emit.specs.Emission.{PutsAlone}
-use Rattle.rv_emit.specs.Emitted.{Buffer, named_by}
+use Rattle.rv_emit.specs.Emitted.{Buffer}
 use Rattle.rv_emit.specs.InstParts.{extend_slots, move_slots, select_slots}
 use Rattle.rv_emit.specs.Slots.{Slot, Op, Aim, Data, Notes, Names, Allocate, Here, Fill, Address, CallTo, AreClosed, AreSelfContained, names_of, size_of, records_of, uses_of}
 use Rattle.rv_emit.proofs.AddressRuns.{size_append}

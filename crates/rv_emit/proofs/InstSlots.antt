@@ -25,7 +25,7 @@ use Rattle.rv_inst.specs.declared.inst.CondBrTarget.TheVariants.{Label as ToLabe
 use Rattle.rv_inst.specs.Sizes.{Words, extent_of, island_space, move_size, count_size, trap_size}
 use Rattle.rv_inst.specs.Uses.{uses_in}
 use Rattle.rv_base.specs.declared.constant.VCodeConstant.{VCodeConstant}
-use Rattle.rv_inst.specs.Operands.{inst_constant}
+use Rattle.rv_inst.specs.Operands.{inst_constant, named_by}
 use Rattle.rv_inst.specs.Records.{inst_records}
 use Rattle.rv_emit.specs.declared.state.EmitVState.{EmitVState}
 use Rattle.rv_machine.specs.declared.decoding.Decoded.{Decoded}
@@ -33,7 +33,7 @@ use Rattle.rv_emit.specs.Operations.{jump_size}
 use Rattle.rv_emit.specs.Counts.{start_ops, turn_ops, turn_size}
 use Rattle.rv_inst.specs.Forms.{jump_kind, short_rrr, short_rri, short_lui, short_jalr, short_ebreak}
 use Rattle.rv_inst.specs.LabelUse.{marks_of}
-use Rattle.rv_emit.specs.Emitted.{Buffer, IsSoundBuffer, AppendsInst, IslandIfNeeded, named_by}
+use Rattle.rv_emit.specs.Emitted.{Buffer, IsSoundBuffer, AppendsInst, IslandIfNeeded}
 use Rattle.rv_emit.specs.Slots.{Label, Op, Data, AreSelfContained, PartsAreSelfContained, size_of}
 use Rattle.rv_emit.specs.InstParts.{move_slots, branch_slots, jump_to, branch_over, trap_bytes, trap_slots, inline_slots, constant_slots, count_slots, parts_of}
 use Rattle.rv_emit.specs.declared.state.EmitVState.TheVariants.{Unknown}

@@ -26,15 +26,15 @@ use Rattle.mach_buffer.specs.declared.records.Event.TheVariants as event
 use Rattle.mach_buffer.specs.declared.records.MachRecord.{MachRecord}
 use Rattle.mach_buffer.specs.declared.uses.Use.{Use}
 use Rattle.rv_encode.specs.Operations.{decoded, decoded_load, decoded_store}
+use Rattle.rv_ops.specs.Memory.{load_size}
 use Rattle.rv_inst.specs.Addresses.{Location, Based, AtLabel, AtConstant, location_of, is_near, is_splittable, inline_size, far_size, far_address_size, address_size, load_size_at, store_size_at, load_own_size, store_own_size}
 use Rattle.rv_inst.specs.Forms.{short_rrr, short_rri, short_lui, short_load, short_store}
 use Rattle.rv_inst.specs.declared.inst.Inst.{Inst}
 use Rattle.rv_inst.specs.declared.label_use.LabelUse.{LabelUse}
 use Rattle.rv_inst.specs.declared.label_use.LabelUse.TheVariants.{PCRelHi20, PCRelLo12I}
-use Rattle.rv_inst.specs.Operands.{address_targets, constant_named, inst_constant}
+use Rattle.rv_inst.specs.Operands.{address_targets, constant_named, inst_constant, named_by}
 use Rattle.rv_base.specs.declared.constant.VCodeConstant.{VCodeConstant}
 use Rattle.mach_buffer.specs.Shape.{constant_label}
-use Rattle.rv_emit.specs.Emitted.{named_by}
 use Rattle.rv_inst.specs.Sizes.{Words, extent_of}
 use Rattle.rv_inst.specs.Records.{access_records, inst_records}
 use Rattle.rv_inst.specs.Uses.{use_at, uses_in, target_uses}
@@ -241,32 +241,32 @@ summed_by {context} {inst} {slots} {size} {last} {own} {records_at} c long uses 
 }
 
 -- an address has the constant and the uses of its location
-same_constant : (frame : FrameLayout) (mode : AMode) → constant_at (location_of frame mode) ≡ constant_named (address_targets mode)
-same_constant frame (RegOffset r o) = refl
-same_constant frame (SPOffset o) = refl
-same_constant frame (FPOffset o) = refl
-same_constant frame (SlotOffset o) = refl
-same_constant frame (IncomingArg o) = refl
-same_constant frame (Const k) = refl
-same_constant frame (Label l) = refl
+same_constant : (frame : FrameLayout) (read : ℕ) (mode : AMode) → constant_at (location_of frame mode) ≡ constant_named (address_targets read mode)
+same_constant frame read (RegOffset r o) = refl
+same_constant frame read (SPOffset o) = refl
+same_constant frame read (FPOffset o) = refl
+same_constant frame read (SlotOffset o) = refl
+same_constant frame read (IncomingArg o) = refl
+same_constant frame read (Const k) = refl
+same_constant frame read (Label l) = refl
 
-same_uses : (flags : IsaFlags) (frame : FrameLayout) (mode : AMode) (start end : ℕ) → uses_at (location_of frame mode) start end ≡ target_uses flags start (address_targets mode)
-same_uses flags frame (RegOffset r o) start end = refl
-same_uses flags frame (SPOffset o) start end = refl
-same_uses flags frame (FPOffset o) start end = refl
-same_uses flags frame (SlotOffset o) start end = refl
-same_uses flags frame (IncomingArg o) start end = refl
-same_uses flags frame (Const k) start end = refl
-same_uses flags frame (Label l) start end = refl
+same_uses : (flags : IsaFlags) (frame : FrameLayout) (read : ℕ) (mode : AMode) (start end : ℕ) → uses_at (location_of frame mode) start end ≡ target_uses flags start (address_targets read mode)
+same_uses flags frame read (RegOffset r o) start end = refl
+same_uses flags frame read (SPOffset o) start end = refl
+same_uses flags frame read (FPOffset o) start end = refl
+same_uses flags frame read (SlotOffset o) start end = refl
+same_uses flags frame read (IncomingArg o) start end = refl
+same_uses flags frame read (Const k) start end = refl
+same_uses flags frame read (Label l) start end = refl
 
 pub load_summed : (context : Context) (rd : Writable Reg) (op : LoadOP) (flags : MemFlagsData) (from : AMode) → IsSummed context (Load rd op flags from) (load_slots context.flags (number_of rd.reg) op flags.trap (location_of context.frame from))
-load_summed context rd op flags from = summed_by (loaded context.flags (number_of rd.reg) op flags.trap (location_of context.frame from)) refl (same_uses context.flags context.frame from) (λ start end. refl) (same_constant context.frame from)
+load_summed context rd op flags from = summed_by (loaded context.flags (number_of rd.reg) op flags.trap (location_of context.frame from)) refl (same_uses context.flags context.frame (load_size op) from) (λ start end. refl) (same_constant context.frame (load_size op) from)
 
 pub store_summed : (context : Context) (to : AMode) (op : StoreOP) (flags : MemFlagsData) (src : Reg) → IsSummed context (Store to op flags src) (store_slots context.flags op (number_of src) flags.trap (location_of context.frame to))
-store_summed context to op flags src = summed_by (stored context.flags op (number_of src) flags.trap (location_of context.frame to)) refl (same_uses context.flags context.frame to) (λ start end. refl) (same_constant context.frame to)
+store_summed context to op flags src = summed_by (stored context.flags op (number_of src) flags.trap (location_of context.frame to)) refl (same_uses context.flags context.frame 0 to) (λ start end. refl) (same_constant context.frame 0 to)
 
 pub load_addr_summed : (context : Context) (rd : Writable Reg) (mem : AMode) → IsSummed context (LoadAddr rd mem) (address_slots context.flags (number_of rd.reg) (location_of context.frame mem))
-load_addr_summed context rd mem = summed_by (addresses context.flags (number_of rd.reg) (location_of context.frame mem)) refl (same_uses context.flags context.frame mem) (λ start end. refl) (same_constant context.frame mem)
+load_addr_summed context rd mem = summed_by (addresses context.flags (number_of rd.reg) (location_of context.frame mem)) refl (same_uses context.flags context.frame 0 mem) (λ start end. refl) (same_constant context.frame 0 mem)
 
 pub label_address_summed : (context : Context) (dst : Writable Reg) (label : MachLabel) → IsSummed context (LabelAddress dst label) (address_slots context.flags (number_of dst.reg) (AtLabel label))
 label_address_summed context dst label = summed_by (addresses context.flags (number_of dst.reg) (AtLabel label)) refl (λ start end. refl) (λ start end. refl) refl

@@ -11,7 +11,7 @@ use Rattle.rv_base.specs.declared.call.RetLocation.{RetLocation}
 use Rattle.rv_base.specs.declared.call.RetLocation.TheVariants.{Reg as InReg, Stack as OnStack}
 use Rattle.rv_base.specs.declared.call.TryCallInfo.{TryCallInfo}
 use Rattle.rv_base.specs.declared.regs.Reg.{Reg}
-use Rattle.rv_ops.specs.Memory.{load_of}
+use Rattle.rv_ops.specs.Memory.{load_of, load_size}
 use Rattle.rv_inst.specs.Operands.{ways_of, ways_by, inst_ways, address_targets}
 use Rattle.rv_inst.specs.declared.targets.Targets.TheVariants.{Nowhere, Branches}
 use Rattle.rv_base.specs.declared.flags.IsaFlags.{IsaFlags}
@@ -168,14 +168,14 @@ branch_ways Fallthrough (Label f) = lit≤ tt
 branch_ways (Label t) Fallthrough = lit≤ tt
 branch_ways (Label t) (Label f) = lit≤ tt
 
-address_ways : (at : AMode) → length (ways_of (address_targets at)) ≡ 0
-address_ways (RegOffset r o) = refl
-address_ways (SPOffset o) = refl
-address_ways (FPOffset o) = refl
-address_ways (SlotOffset o) = refl
-address_ways (IncomingArg o) = refl
-address_ways (Const k) = refl
-address_ways (LabelAt l) = refl
+address_ways : (read : ℕ) (at : AMode) → length (ways_of (address_targets read at)) ≡ 0
+address_ways read (RegOffset r o) = refl
+address_ways read (SPOffset o) = refl
+address_ways read (FPOffset o) = refl
+address_ways read (SlotOffset o) = refl
+address_ways read (IncomingArg o) = refl
+address_ways read (Const k) = refl
+address_ways read (LabelAt l) = refl
 
 restores_few : (frame : FrameLayout) → length (restores frame) ≤ length frame.clobbered_callee_saves + 2
 restores_few frame =
@@ -248,7 +248,7 @@ most_counts context (CallInd info) = let counted = loads_counted info.defs in le
 most_counts context (CondBr t f kind) = let few = branch_ways t f in omega (arith, few)
 most_counts context (ReturnCall info) = let few = restores_few context.frame in omega (arith, few)
 most_counts context (ReturnCallInd info) = let few = restores_few context.frame in omega (arith, few)
-most_counts context (Load rd op flags from) = let none = address_ways from in omega (arith, none)
-most_counts context (Store to op flags src) = let none = address_ways to in omega (arith, none)
-most_counts context (LoadAddr rd mem) = let none = address_ways mem in omega (arith, none)
+most_counts context (Load rd op flags from) = let none = address_ways (load_size op) from in omega (arith, none)
+most_counts context (Store to op flags src) = let none = address_ways 0 to in omega (arith, none)
+most_counts context (LoadAddr rd mem) = let none = address_ways 0 mem in omega (arith, none)
 most_counts context inst = omega arith

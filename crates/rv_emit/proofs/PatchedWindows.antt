@@ -23,6 +23,7 @@ use Rattle.rv_encode.proofs.Tables.{load_table}
 use Rattle.rv_inst.specs.declared.label_use.LabelUse.TheVariants.{PCRelHi20, PCRelLo12I}
 use Rattle.rv_inst.specs.LabelUse.{marks_of}
 use Rattle.rv_inst.specs.LabelUseWords.{word_at, word_bytes}
+use Rattle.rv_inst.proofs.Bridges.{same_low, same_byte}
 use Rattle.rv_emit.specs.Immediates.{upper_of_distance, lower_of_distance}
 use Rattle.rv_emit.specs.Operations.{decoded_addi}
 use Rattle.rv_emit.specs.Puts.{AllBytes, IsPatchable}
@@ -35,12 +36,6 @@ no_high x h = let e : bit_and x 240 ≡ (x / 16 % 16) * 16 = and_high x 4 4 in o
 
 none : (x : ℕ) → x ≡ 0 → bit_and x 0xff ≡ 0
 none x h = let e : bit_and x 255 ≡ x % 256 = and_mask x 8 in omega (arith, e)
-
-same_byte : (x y : ℕ) → x < 256 → y < 256 → bit_and x 255 ≡ bit_and y 255 → x ≡ y
-same_byte x y h k e = let f : x % 256 ≡ y % 256 = sym (and_mask x 8) ∙ e ∙ and_mask y 8 in omega (arith, f)
-
-same_low : (x y : ℕ) → bit_and x 15 ≡ bit_and y 15 → x % 16 ≡ y % 16
-same_low x y e = sym (and_mask x 4) ∙ e ∙ and_mask y 4
 
 -- ---- the upper part
 

@@ -11,7 +11,7 @@ use Rattle.rv_emit.specs.Puts.{AllBytes}
 
 -- ---- windows
 
-window_byte : (bytes : List ℕ) (place size i : ℕ) → i < size → slice_index (window bytes place size) i ≡ slice_index bytes (place + i)
+pub window_byte : (bytes : List ℕ) (place size i : ℕ) → i < size → slice_index (window bytes place size) i ≡ slice_index bytes (place + i)
 window_byte bytes place size i lt = get_or-take size (drop place bytes) i 0 lt ∙ get_or-drop place bytes i 0
 
 pub window_length : (bytes : List ℕ) (place size : ℕ) → place + size ≤ length bytes → length (window bytes place size) ≡ size

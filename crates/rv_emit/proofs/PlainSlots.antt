@@ -13,13 +13,13 @@ use Rattle.mach_buffer.specs.declared.records.MachRecord.{MachRecord}
 use Rattle.mach_buffer.specs.declared.uses.Use.{Use}
 use Rattle.mach_buffer.specs.Shape.{Shape}
 use Rattle.mach_buffer.specs.Buffer.{shape_of, bytes_of, allocated_of, named_of}
-use Rattle.rv_emit.specs.Emitted.{Buffer, IsSoundBuffer, AppendsInst, AppendsWords, named_by}
+use Rattle.rv_emit.specs.Emitted.{Buffer, IsSoundBuffer, AppendsInst, AppendsWords}
 use Rattle.rv_emit.specs.Slots.{Slot, Op, Aim, Data, Notes, Names, Allocate, Here, Fill, Address, CallTo, size_of, uses_of, records_of, names_of, upper_event, lower_event, address_event, call_event}
 use Rattle.rv_emit.specs.Puts.{Puts, eight_zeros}
 use Rattle.rv_emit.specs.InstParts.{slots_alone}
 use Rattle.rv_emit.specs.Emission.{PutsParts}
 use Rattle.rv_base.specs.declared.constant.VCodeConstant.{VCodeConstant}
-use Rattle.rv_inst.specs.Operands.{inst_constant}
+use Rattle.rv_inst.specs.Operands.{inst_constant, named_by}
 use Rattle.rv_emit.proofs.BufferAfterSlots.{lasts_after_slots, puts_named, puts_constants}
 
 -- slots that allocate and bind no label

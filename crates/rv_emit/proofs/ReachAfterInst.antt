@@ -47,7 +47,7 @@ each_uses P context start end inst continued none jump one two address = by (try
     on (Branches (Label t) Fallthrough) = one t
     on (Branches (Label t) (Label f)) = two t f
     on (Refers label) = address label
-    on (RefersConstant constant) = address (constant_label constant)
+    on (RefersConstant constant read) = address (constant_label constant)
 
     by : (t : Option TryCallInfo) → P (uses_by context.flags start end t (targets_of inst))
     by None = on (targets_of inst)

@@ -13,7 +13,7 @@ use Rattle.rv_inst.specs.declared.label_use.LabelUse.TheVariants.{Jal20}
 use Rattle.rv_inst.specs.LabelUse.{label_kinds, has_veneer_of}
 use Rattle.rv_inst.specs.LabelUseWords.{word_bytes}
 use Rattle.rv_inst.specs.Context.{Context}
-use Rattle.rv_inst.specs.Operands.{table_of, inst_ways, inst_constant, tail_call_of}
+use Rattle.rv_inst.specs.Operands.{table_of, inst_ways, inst_constant, tail_call_of, named_by}
 use Rattle.rv_inst.specs.Frames.{is_bad_frame_for}
 use Rattle.rv_inst.specs.Rules.{inst_rule}
 use Rattle.rv_inst.specs.Sizes.{Extent, Words, Island, After, Around, words_in, extent_of, line_space, island_space, inst_sum}
@@ -26,7 +26,7 @@ use Rattle.mach_buffer.specs.declared.uses.Use.{Use}
 use Rattle.mach_buffer.specs.Islands.{is_far, AddsOwn}
 use Rattle.mach_buffer.specs.Reach.{AllOf, is_needed}
 use Rattle.mach_buffer.specs.Buffer.{shape_of, bytes_of, uses_of, place_of, labels_of, allocated_of, records_of, registered_of, named_of, constants_of, pending_of, IsSound}
-use Rattle.mach_buffer.specs.Shape.{Shape, with_allocated, name_more}
+use Rattle.mach_buffer.specs.Shape.{Shape, with_allocated}
 use Rattle.mach_buffer.specs.Constants.{reserve_of, AllStand}
 use Rattle.mach_buffer.specs.Growth.{Lasts}
 use Rattle.mach_buffer.specs.Windows.{AreWindows}
@@ -64,11 +64,6 @@ pub record AppendsCode (code : List ℕ) (own : List (Use LabelUse)) (old new : 
   pub registered : registered_of new ≡ registered_of old
   pub constants : constants_of new ≡ constants_of old
   pub sound : IsSoundBuffer new
-
--- the constant of an instruction is named, where it has one
-abbrev pub named_by : Option VCodeConstant → List VCodeConstant → List VCodeConstant
-named_by None named = named
-named_by (Some k) named = name_more k named
 
 -- a use of one of these labels that reaches it wherever it stands in code, and never goes by a veneer
 pub record IsFarUse (labels : List MachLabel) (u : Use LabelUse) : Type 0 where

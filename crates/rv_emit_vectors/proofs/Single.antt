@@ -138,7 +138,7 @@ uses_first context start end inst h = by (try_call_of inst) h
     on (Branches Fallthrough not_taken) h = each_none _
     on (Branches (Label t) Fallthrough) h = each_more _ (use_at start t B12) [] (eqb-true _ _ (and_parts _ _ h).0) (each_none _)
     on (Branches (Label t) (Label f)) h = let p = and_parts _ _ h in each_more _ (use_at start t B12) (use_at (start + 4) f jump ∷ []) (eqb-true _ _ p.0) (each_more _ (use_at (start + 4) f jump) [] (eqb-true _ _ p.1) (each_none _))
-    on (RefersConstant constant) h = absurd (true≢false (sym h))
+    on (RefersConstant constant read) h = absurd (true≢false (sym h))
     on (Refers label) h = each_more _ (use_at start label PCRelHi20) (use_at (start + 4) label PCRelLo12I ∷ []) (eqb-true _ _ h) (each_more _ (use_at (start + 4) label PCRelLo12I) [] (eqb-true _ _ h) (each_none _))
 
     by : (t : Option TryCallInfo) → are_first_by t (targets_of inst) ≡ true → Each (λ (u : Use LabelUse). u.label.number ≡ 0) (uses_by context.flags start end t (targets_of inst))

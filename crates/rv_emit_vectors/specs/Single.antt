@@ -26,7 +26,7 @@ are_first Nowhere = true
 are_first (Jumps label) = label.number == 0
 are_first (Branches taken not_taken) = is_first taken && is_first not_taken
 are_first (Refers label) = label.number == 0
-are_first (RefersConstant constant) = false
+are_first (RefersConstant constant read) = false
 
 -- and so is where a call that ends its block goes on
 abbrev pub are_first_by : Option TryCallInfo → Targets → Bool

@@ -64,7 +64,7 @@ fn are_first(targets: Targets) -> bool
         Targets::Jumps(label) => label.as_u32() == 0,
         Targets::Branches(taken, not_taken) => is_first(taken) && is_first(not_taken),
         Targets::Refers(label) => label.as_u32() == 0,
-        Targets::RefersConstant(_) => false,
+        Targets::RefersConstant(_, _) => false,
     }
 }
 

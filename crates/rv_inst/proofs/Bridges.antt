@@ -15,8 +15,8 @@ use Rattle.rv_machine.specs.Layout.{word_opcode, word_rd, word_funct3, word_rs1,
 use Rattle.rv_machine.specs.Opcodes.{AUIPC, JAL, JALR, BRANCH, OP_IMM}
 use Rattle.rv_machine.specs.Tables.{branch_entry}
 use Rattle.rv_machine.specs.Decode.{decode, by_opcode, decode_branch, decode_jalr}
-use Rattle.rv_machine.proofs.DecodeLaws.{decode_wide}
 use Rattle.rv_machine.specs.Compressed.{half_op, half_funct3, cj_imm, decode_half}
+use Rattle.rv_encode.proofs.Decoding.{opcode_decodes}
 use Rattle.rv_inst.specs.declared.label_use.LabelUse.TheVariants.{Jal20, PCRel32, B12, PCRelLo12I, RVCJump}
 use Rattle.rv_inst.specs.LabelUse.{Aims, marks_of}
 use Rattle.rv_inst.specs.LabelUseWords.{word_at, AreBytes, half_at, AreTwoBytes}
@@ -30,10 +30,10 @@ same_seven x y e = sym (and_mask x 7) ∙ e ∙ and_mask y 7
 same_high : (x y : ℕ) → bit_and x 240 ≡ bit_and y 240 → x / 16 % 16 ≡ y / 16 % 16
 same_high x y e = let f : (x / 16 % 16) * 16 ≡ (y / 16 % 16) * 16 = sym (and_high x 4 4) ∙ e ∙ and_high y 4 4 in omega (arith, f)
 
-same_low : (x y : ℕ) → bit_and x 15 ≡ bit_and y 15 → x % 16 ≡ y % 16
+pub same_low : (x y : ℕ) → bit_and x 15 ≡ bit_and y 15 → x % 16 ≡ y % 16
 same_low x y e = sym (and_mask x 4) ∙ e ∙ and_mask y 4
 
-same_byte : (x y : ℕ) → x < 256 → y < 256 → bit_and x 255 ≡ bit_and y 255 → x ≡ y
+pub same_byte : (x y : ℕ) → x < 256 → y < 256 → bit_and x 255 ≡ bit_and y 255 → x ≡ y
 same_byte x y h k e = let f : x % 256 ≡ y % 256 = sym (and_mask x 8) ∙ e ∙ and_mask y 8 in omega (arith, f)
 
 same_one : (x y : ℕ) → bit_and x 1 ≡ bit_and y 1 → x % 2 ≡ y % 2
@@ -91,24 +91,20 @@ same_lower old new b c s =
 
 -- ---- operations by their opcode
 
--- an opcode whose two lowest bits are 11 is that of a word
-by_its_opcode : (flags : IsaFlags) (w opcode : ℕ) → word_opcode w ≡ opcode → nat_eq (opcode % 4) 3 ≡ true → decode flags w ≡ by_opcode opcode w
-by_its_opcode flags w opcode e wide = decode_wide flags w (ap (λ k. nat_eq (k % 4) 3) e ∙ wide) ∙ ap (λ k. by_opcode k w) e
-
 word_branch : (flags : IsaFlags) (w : ℕ) → word_opcode w ≡ BRANCH → decode flags w ≡ decode_branch w
-word_branch flags w e = by_its_opcode flags w BRANCH e refl
+word_branch flags w e = opcode_decodes flags w BRANCH e refl
 
 word_jal : (flags : IsaFlags) (w : ℕ) → word_opcode w ≡ JAL → decode flags w ≡ Some (j_layout w (Base Jal))
-word_jal flags w e = by_its_opcode flags w JAL e refl
+word_jal flags w e = opcode_decodes flags w JAL e refl
 
 word_auipc : (flags : IsaFlags) (w : ℕ) → word_opcode w ≡ AUIPC → decode flags w ≡ Some (u_layout w (Base Auipc))
-word_auipc flags w e = by_its_opcode flags w AUIPC e refl
+word_auipc flags w e = opcode_decodes flags w AUIPC e refl
 
 word_jalr : (flags : IsaFlags) (w : ℕ) → word_opcode w ≡ JALR → decode flags w ≡ decode_jalr w
-word_jalr flags w e = by_its_opcode flags w JALR e refl
+word_jalr flags w e = opcode_decodes flags w JALR e refl
 
 word_addi : (flags : IsaFlags) (w : ℕ) → word_opcode w ≡ OP_IMM → word_funct3 w ≡ 0 → decode flags w ≡ Some (i_layout w (Alu (Int Addi)))
-word_addi flags w e z = by_its_opcode flags w OP_IMM e refl ∙ rw z
+word_addi flags w e z = opcode_decodes flags w OP_IMM e refl ∙ rw z
 
 map_map : {A B C : Type 0} (g : B → C) (f : A → B) (h : A → C) → ((x : A) → h x ≡ g (f x)) → (o : Option A) → option_map h o ≡ option_map g (option_map f o)
 map_map g f h e None = refl

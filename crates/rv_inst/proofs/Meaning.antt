@@ -1,5 +1,5 @@
 -- What a line means depends on no labels but those that it names, and on where constants, symbols and slots stand.
-use Rattle.std.proofs.Common.{◌≡◌, ◌+◌, ◌*◌, ◌/◌, ◌^◌, pos, List, [], ◌∷◌, ◌++◌, refl, ap}
+use Rattle.std.proofs.Common.{ℕ, ◌≡◌, ◌+◌, ◌*◌, ◌/◌, ◌^◌, pos, List, [], ◌∷◌, ◌++◌, refl, ap}
 use Rattle.rv_base.specs.declared.label.MachLabel.{MachLabel}
 use Rattle.rv_base.specs.Regs.{number_of}
 use Rattle.rv_base.specs.declared.amode.AMode.{AMode}
@@ -9,7 +9,7 @@ use Rattle.rv_encode.specs.Operations.{load_op, store_op}
 use Rattle.rv_machine.specs.Memory.{load_result, store_bytes}
 use Rattle.rv_machine.specs.State.{Values, reg, set_reg, wrap, low64}
 use Rattle.rv_ops.specs.declared.memory.LoadOP.TheVariants.{Ld}
-use Rattle.rv_ops.specs.Memory.{store_size}
+use Rattle.rv_ops.specs.Memory.{load_size, store_size}
 use Rattle.rv_inst.specs.declared.inst.Inst.{Inst}
 use Rattle.rv_inst.specs.declared.inst.Inst.TheVariants.{Auipc, Load, Store, LoadAddr, LabelAddress, Jalr, LoadExtNameGot, LoadExtNameNear, LoadExtNameFar, Call, CallInd, ReturnCall, ReturnCallInd}
 use Rattle.rv_inst.specs.declared.inst.Line.{Line}
@@ -20,14 +20,14 @@ use Rattle.rv_inst.specs.Meaning.{Environment, inst_effect, effect_of, inst_writ
 use Rattle.rv_inst.specs.Operands.{labels_of, address_targets, inst_labels, named_labels}
 
 -- an address depends on no label but its own, and on no constant but its own
-address_agrees : {e f : Environment} (at : AMode) (v : Values) → AgreeOn (labels_of (address_targets at)) e f → address_of e at v ≡ address_of f at v
-address_agrees (mode.RegOffset r o) v a = refl
-address_agrees (mode.SPOffset o) v a = refl
-address_agrees (mode.FPOffset o) v a = refl
-address_agrees (mode.SlotOffset o) v a = ap (λ frame. wrap (reg v 2 + low64 (offset_of frame (mode.SlotOffset o)))) a.frame
-address_agrees (mode.IncomingArg o) v a = ap (λ frame. wrap (reg v 2 + low64 (offset_of frame (mode.IncomingArg o)))) a.frame
-address_agrees (mode.Const k) v a = a.constants_same k.number
-address_agrees (mode.Label l) v a = a.labels_same.0
+address_agrees : {e f : Environment} (read : ℕ) (at : AMode) (v : Values) → AgreeOn (labels_of (address_targets read at)) e f → address_of e at v ≡ address_of f at v
+address_agrees read (mode.RegOffset r o) v a = refl
+address_agrees read (mode.SPOffset o) v a = refl
+address_agrees read (mode.FPOffset o) v a = refl
+address_agrees read (mode.SlotOffset o) v a = ap (λ frame. wrap (reg v 2 + low64 (offset_of frame (mode.SlotOffset o)))) a.frame
+address_agrees read (mode.IncomingArg o) v a = ap (λ frame. wrap (reg v 2 + low64 (offset_of frame (mode.IncomingArg o)))) a.frame
+address_agrees read (mode.Const k) v a = a.constants_same k.number
+address_agrees read (mode.Label l) v a = a.labels_same.0
 
 -- labels that are the first of others
 same_first : (e f : Environment) (labels more : List MachLabel) → SameLabels (labels ++ more) e f → SameLabels labels e f
@@ -39,9 +39,9 @@ agree_first {e} {f} labels more a = record { start = a.start; after = a.after; f
 
 inst_effect_agrees : {e f : Environment} (inst : Inst) (v : Values) → AgreeOn (inst_labels inst) e f → inst_effect e inst v ≡ inst_effect f inst v
 inst_effect_agrees (Auipc rd imm) v a = ap (λ n. set_reg v (number_of rd.reg) (wrap (n + low64 imm.value * 2 ^ 12))) a.start
-inst_effect_agrees (Load rd op flags from) v a = ap (λ n. set_reg v (number_of rd.reg) (load_result (load_op op) v.mem n)) (address_agrees from v (agree_first (labels_of (address_targets from)) [] a))
-inst_effect_agrees (Store to op flags src) v a = ap (λ n. put_bytes v n (store_bytes (store_op op) (reg v (number_of src)))) (address_agrees to v (agree_first (labels_of (address_targets to)) [] a))
-inst_effect_agrees (LoadAddr rd mem) v a = ap (set_reg v (number_of rd.reg)) (address_agrees mem v (agree_first (labels_of (address_targets mem)) [] a))
+inst_effect_agrees (Load rd op flags from) v a = ap (λ n. set_reg v (number_of rd.reg) (load_result (load_op op) v.mem n)) (address_agrees (load_size op) from v (agree_first (labels_of (address_targets (load_size op) from)) [] a))
+inst_effect_agrees (Store to op flags src) v a = ap (λ n. put_bytes v n (store_bytes (store_op op) (reg v (number_of src)))) (address_agrees 0 to v (agree_first (labels_of (address_targets 0 to)) [] a))
+inst_effect_agrees (LoadAddr rd mem) v a = ap (set_reg v (number_of rd.reg)) (address_agrees 0 mem v (agree_first (labels_of (address_targets 0 mem)) [] a))
 inst_effect_agrees (LabelAddress dst label) v a = ap (set_reg v (number_of dst.reg)) a.labels_same.0
 inst_effect_agrees (Jalr rd base offset) v a = ap (set_reg v (number_of rd.reg)) a.after
 inst_effect_agrees (LoadExtNameGot rd name) v a = ap (λ n. set_reg v (number_of rd.reg) (load_result (load_op Ld) v.mem n)) (a.slots_same name.number)
@@ -54,7 +54,7 @@ inst_effect_agrees (ReturnCallInd info) v a = ap (λ frame. frame_left frame inf
 inst_effect_agrees _ v a = refl
 
 inst_writes_agree : {e f : Environment} (inst : Inst) (v : Values) → AgreeOn (inst_labels inst) e f → inst_writes e inst v ≡ inst_writes f inst v
-inst_writes_agree (Store to op flags src) v a = ap (λ n. addresses_from n (store_size op)) (address_agrees to v (agree_first (labels_of (address_targets to)) [] a))
+inst_writes_agree (Store to op flags src) v a = ap (λ n. addresses_from n (store_size op)) (address_agrees 0 to v (agree_first (labels_of (address_targets 0 to)) [] a))
 inst_writes_agree _ v a = refl
 
 inst_exit_agrees : {e f : Environment} (inst : Inst) (v : Values) → AgreeOn (inst_labels inst) e f → inst_exit e inst v ≡ inst_exit f inst v

@@ -1,5 +1,5 @@
 -- Instructions with usable registers, and with numbers and labels in their range, break no rule.
-use Rattle.std.proofs.Common.{◌≡◌, Bool, true, false, List, [], ◌∷◌, Some, None, cond, refl, ap, ◌∙◌}
+use Rattle.std.proofs.Common.{ℕ, ◌≡◌, Bool, true, false, List, [], ◌∷◌, Some, None, cond, refl, ap, ◌∙◌}
 use Rattle.std.specs.Prelude.{◌&&◌, ◌||◌, ◌++◌, not, is_none}
 use Rattle.std.proofs.lemmas.List.{append-nil}
 use Rattle.std.specs.List.{list_any, list_all, find}
@@ -31,9 +31,9 @@ use Rattle.rv_inst.specs.declared.error.Rule.{Rule}
 use Rattle.rv_inst.specs.declared.error.Rule.TheVariants as rule
 use Rattle.rv_inst.specs.declared.targets.Targets.TheVariants.{Nowhere}
 use Rattle.rv_inst.specs.Operands.{inst_registers, inst_labels, tail_call_of, target_labels, labels_of, address_targets}
-use Rattle.rv_inst.specs.Addresses.{constant_in, is_distant}
+use Rattle.rv_inst.specs.Addresses.{is_distant}
 use Rattle.rv_inst.specs.Context.{Context}
-use Rattle.rv_inst.specs.Rules.{is_virtual, is_other_class, is_reserved, is_int_class, same_class, differ_in_class, is_int_type, is_buffer_label, is_beyond, is_fallthrough, has_other_class, faults_of, is_zero, lacks_bytes, lacks_constant, exceeds_arguments, every_rule, breaks}
+use Rattle.rv_inst.specs.Rules.{is_virtual, is_other_class, is_reserved, is_int_class, same_class, differ_in_class, is_int_type, is_buffer_label, is_beyond, is_fallthrough, has_other_class, faults_of, is_zero, lacks_named, lacks_constant, exceeds_arguments, every_rule, breaks}
 use Rattle.rv_inst.specs.Sizes.{inst_sum}
 use Rattle.rv_inst.specs.Plain.{is_usable, is_plain_address, IsPlain}
 
@@ -139,15 +139,14 @@ record PlainAddress (mode : AMode) : Type 0 where
   usable : list_all is_usable (registers_of mode) ≡ true
   based : is_none (base_of mode) ≡ false
   near : is_distant (own_offset mode) ≡ false
-  constant : constant_in mode ≡ None
-  targets : address_targets mode ≡ Nowhere
+  targets : (read : ℕ) → address_targets read mode ≡ Nowhere
 
 plain_address : (mode : AMode) → is_plain_address mode ≡ true → PlainAddress mode
-plain_address (RegOffset r o) e = record { usable = ap (λ b. b && true) (and_left _ _ e); based = refl; near = not_true _ (and_right _ _ e); constant = refl; targets = refl }
-plain_address (SPOffset o) e = record { usable = refl; based = refl; near = not_true _ e; constant = refl; targets = refl }
-plain_address (FPOffset o) e = record { usable = refl; based = refl; near = not_true _ e; constant = refl; targets = refl }
-plain_address (SlotOffset o) e = record { usable = refl; based = refl; near = not_true _ e; constant = refl; targets = refl }
-plain_address (IncomingArg o) e = record { usable = refl; based = refl; near = not_true _ e; constant = refl; targets = refl }
+plain_address (RegOffset r o) e = record { usable = ap (λ b. b && true) (and_left _ _ e); based = refl; near = not_true _ (and_right _ _ e); targets = λ read. refl }
+plain_address (SPOffset o) e = record { usable = refl; based = refl; near = not_true _ e; targets = λ read. refl }
+plain_address (FPOffset o) e = record { usable = refl; based = refl; near = not_true _ e; targets = λ read. refl }
+plain_address (SlotOffset o) e = record { usable = refl; based = refl; near = not_true _ e; targets = λ read. refl }
+plain_address (IncomingArg o) e = record { usable = refl; based = refl; near = not_true _ e; targets = λ read. refl }
 plain_address (Const k) e = absurd (cc)
 plain_address (LabelAt l) e = absurd (cc)
 
@@ -161,7 +160,7 @@ plain_load rd op flags from e f =
     let all = usable_and rd.reg (registers_of from) e a.usable in
     plain (Load rd op flags from) all
     (λ i. record (has_other_class (none_of is_other_class not_other (rd.reg ∷ registers_of from) all i)) { zeroed = a.based i && is_zero rd.reg; range = a.near i })
-    (λ constants. ap (lacks_bytes constants (load_size op)) a.constant) (λ i. list_any is_buffer_label (labels_of (a.targets i) ++ [])) refl (λ context. refl)
+    (λ constants. ap (lacks_named constants) (a.targets (load_size op))) (λ i. list_any is_buffer_label (labels_of (a.targets (load_size op) i) ++ [])) refl (λ context. refl)
 
 pub plain_store : (to : AMode) (op : StoreOP) (flags : MemFlagsData) (src : Reg) → is_usable src ≡ true → is_plain_address to ≡ true → IsPlain (Store to op flags src)
 plain_store to op flags src e f =
@@ -169,4 +168,4 @@ plain_store to op flags src e f =
     let all = usable_and src (registers_of to) e a.usable in
     plain (Store to op flags src) all
     (λ i. record (has_other_class (none_of is_other_class not_other (src ∷ registers_of to) all i)) { range = a.near i })
-    (λ constants. ap (lacks_bytes constants 0) a.constant) (λ i. list_any is_buffer_label (labels_of (a.targets i) ++ [])) refl (λ context. refl)
+    (λ constants. ap (lacks_named constants) (a.targets 0)) (λ i. list_any is_buffer_label (labels_of (a.targets 0 i) ++ [])) refl (λ context. refl)

@@ -33,16 +33,6 @@ location_of frame (IncomingArg o) = Based 2 (offset_of frame (IncomingArg o))
 location_of frame (Const k) = AtConstant k
 location_of frame (Label l) = AtLabel l
 
--- the constant of an address
-abbrev pub constant_in : AMode → Option VCodeConstant
-constant_in (RegOffset r o) = None
-constant_in (SPOffset o) = None
-constant_in (FPOffset o) = None
-constant_in (SlotOffset o) = None
-constant_in (IncomingArg o) = None
-constant_in (Const k) = Some k
-constant_in (Label l) = None
-
 -- ---- offsets
 
 -- an offset that a load, a store or addi takes: twelve bits, signed

@@ -1,5 +1,5 @@
 -- The registers, labels and constants that a line names, in the order of its fields.
-use Rattle.std.specs.Prelude.{true, false, List, [], ◌∷◌, ◌++◌, map, Option, Some, None}
+use Rattle.std.specs.Prelude.{ℕ, true, false, List, [], ◌∷◌, ◌++◌, map, Option, Some, None}
 use Rattle.rv_base.specs.declared.amode.AMode.{AMode}
 use Rattle.rv_base.specs.AMode.{registers_of}
 use Rattle.rv_base.specs.declared.amode.AMode.TheVariants.{RegOffset, SPOffset, FPOffset, SlotOffset, IncomingArg, Const, Label as LabelAt}
@@ -21,6 +21,8 @@ use Rattle.rv_base.specs.declared.unwind.UnwindInst.{UnwindInst}
 use Rattle.rv_base.specs.declared.unwind.UnwindInst.TheVariants.{PushFrameRegs, DefineNewFrame, StackAlloc, SaveReg}
 use Rattle.rv_base.specs.declared.value_regs.ValueRegs.{ValueRegs}
 use Rattle.rv_base.specs.declared.value_regs.ValueRegs.TheVariants.{One, Two}
+use Rattle.rv_ops.specs.Memory.{load_size}
+use Rattle.mach_buffer.specs.Shape.{name_more}
 use Rattle.rv_inst.specs.declared.inst.Line.{Line}
 use Rattle.rv_inst.specs.declared.inst.Line.TheVariants.{Inst as Put, Bind}
 use Rattle.rv_inst.specs.declared.inst.Inst.{Inst}
@@ -120,15 +122,15 @@ abbrev pub target_labels : CondBrTarget → List MachLabel
 target_labels (Label label) = label ∷ []
 target_labels Fallthrough = []
 
--- the label or the constant of an address, where it has one
-abbrev pub address_targets : AMode → Targets
-address_targets (RegOffset r o) = Nowhere
-address_targets (SPOffset o) = Nowhere
-address_targets (FPOffset o) = Nowhere
-address_targets (SlotOffset o) = Nowhere
-address_targets (IncomingArg o) = Nowhere
-address_targets (Const k) = RefersConstant k
-address_targets (LabelAt l) = Refers l
+-- the label of an address, or the constant and how many bytes of it are read, where it has one
+abbrev pub address_targets : ℕ → AMode → Targets
+address_targets read (RegOffset r o) = Nowhere
+address_targets read (SPOffset o) = Nowhere
+address_targets read (FPOffset o) = Nowhere
+address_targets read (SlotOffset o) = Nowhere
+address_targets read (IncomingArg o) = Nowhere
+address_targets read (Const k) = RefersConstant k read
+address_targets read (LabelAt l) = Refers l
 
 -- the labels, or the constant, that an instruction names, by what it does with them
 abbrev pub targets_of : Inst → Targets
@@ -151,9 +153,9 @@ targets_of (Mov rd rm type) = Nowhere
 targets_of (MovFromPReg rd rm) = Nowhere
 targets_of (Extend rd rn signed from_bits to_bits) = Nowhere
 targets_of (Select info) = Nowhere
-targets_of (Load rd op flags from) = address_targets from
-targets_of (Store to op flags src) = address_targets to
-targets_of (LoadAddr rd mem) = address_targets mem
+targets_of (Load rd op flags from) = address_targets (load_size op) from
+targets_of (Store to op flags src) = address_targets 0 to
+targets_of (LoadAddr rd mem) = address_targets 0 mem
 targets_of (LabelAddress dst label) = Refers label
 targets_of Ret = Nowhere
 targets_of (TrapIf cmp code) = Nowhere
@@ -364,7 +366,7 @@ labels_of Nowhere = []
 labels_of (Jumps label) = label ∷ []
 labels_of (Branches taken not_taken) = target_labels taken ++ target_labels not_taken
 labels_of (Refers label) = label ∷ []
-labels_of (RefersConstant constant) = []
+labels_of (RefersConstant constant read) = []
 
 -- those to which it goes, maybe by a veneer
 abbrev pub ways_of : Targets → List MachLabel
@@ -372,7 +374,7 @@ ways_of Nowhere = []
 ways_of (Jumps label) = label ∷ []
 ways_of (Branches taken not_taken) = target_labels taken ++ target_labels not_taken
 ways_of (Refers label) = []
-ways_of (RefersConstant constant) = []
+ways_of (RefersConstant constant read) = []
 
 -- the constant whose address is taken
 abbrev pub constant_named : Targets → Option VCodeConstant
@@ -380,11 +382,16 @@ constant_named Nowhere = None
 constant_named (Jumps label) = None
 constant_named (Branches taken not_taken) = None
 constant_named (Refers label) = None
-constant_named (RefersConstant constant) = Some constant
+constant_named (RefersConstant constant read) = Some constant
 
 -- the constant that an instruction names
 abbrev pub inst_constant : Inst → Option VCodeConstant
 inst_constant inst = constant_named (targets_of inst)
+
+-- a constant that is named comes after those that were, unless it is one of them
+abbrev pub named_by : Option VCodeConstant → List VCodeConstant → List VCodeConstant
+named_by None named = named
+named_by (Some k) named = name_more k named
 
 -- the labels that an instruction names
 abbrev pub inst_labels : Inst → List MachLabel

@@ -21,11 +21,9 @@ use Rattle.rv_base.specs.declared.value_regs.ValueRegs.{ValueRegs}
 use Rattle.rv_base.specs.declared.value_regs.ValueRegs.TheVariants.{One, Two}
 use Rattle.rv_base.specs.ValueRegs.{count_of}
 use Rattle.rv_base.specs.declared.constant.Constant.{Constant}
-use Rattle.rv_base.specs.declared.constant.VCodeConstant.{VCodeConstant}
 use Rattle.rv_base.specs.AMode.{registers_of, own_offset, base_of}
 use Rattle.rv_base.specs.Regs.{class_of}
 use Rattle.mach_labels.specs.Table.{first_inner}
-use Rattle.rv_ops.specs.Memory.{load_size}
 use Rattle.rv_ops.specs.Operations.{immediate_of, shift_limit}
 use Rattle.rv_inst.specs.declared.inst.Line.{Line}
 use Rattle.rv_inst.specs.declared.inst.Line.TheVariants.{Inst as Put, Bind}
@@ -35,10 +33,12 @@ use Rattle.rv_inst.specs.declared.inst.CondBrTarget.{CondBrTarget}
 use Rattle.rv_inst.specs.declared.inst.CondBrTarget.TheVariants.{Label as ToLabel, Fallthrough}
 use Rattle.rv_inst.specs.declared.error.Rule.{Rule}
 use Rattle.rv_inst.specs.declared.error.Rule.TheVariants.{Virtual, Class, Reserved, Zero, Clash, BadType, Range, Constant as ConstantRule, EmptyTable, NoTarget, Label, TailArgs, DataSize}
-use Rattle.rv_inst.specs.Addresses.{constant_in, is_distant}
+use Rattle.rv_inst.specs.Addresses.{is_distant}
 use Rattle.rv_inst.specs.Context.{Context}
-use Rattle.rv_inst.specs.Operands.{all_of, written_in, result_registers, inst_registers, inst_labels, tail_call_of}
+use Rattle.rv_inst.specs.Operands.{all_of, written_in, result_registers, inst_registers, inst_labels, tail_call_of, targets_of}
 use Rattle.rv_inst.specs.declared.tail_calls.TailCall.{TailCall}
+use Rattle.rv_inst.specs.declared.targets.Targets.{Targets}
+use Rattle.rv_inst.specs.declared.targets.Targets.TheVariants.{Nowhere, Jumps, Branches, Refers, RefersConstant}
 
 -- ---- registers
 
@@ -344,53 +344,17 @@ abbrev pub is_shorter : Option Constant → ℕ → Bool
 is_shorter None size = true
 is_shorter (Some constant) size = nat_lt (length constant.bytes) size
 
-abbrev pub lacks_bytes : List Constant → ℕ → Option VCodeConstant → Bool
-lacks_bytes constants size None = false
-lacks_bytes constants size (Some k) = is_shorter (slice_get constants k.number) size
+-- whether a constant that is named isn't there, or has fewer bytes than are read of it
+abbrev pub lacks_named : List Constant → Targets → Bool
+lacks_named constants Nowhere = false
+lacks_named constants (Jumps label) = false
+lacks_named constants (Branches taken not_taken) = false
+lacks_named constants (Refers label) = false
+lacks_named constants (RefersConstant constant read) = is_shorter (slice_get constants constant.number) read
 
 -- whether an instruction names a constant that isn't there, or reads more bytes than it has
 abbrev pub lacks_constant : List Constant → Inst → Bool
-lacks_constant constants Nop0 = false
-lacks_constant constants Nop4 = false
-lacks_constant constants EBreak = false
-lacks_constant constants SequencePoint = false
-lacks_constant constants (Args args) = false
-lacks_constant constants (Rets rets) = false
-lacks_constant constants (DummyUse reg) = false
-lacks_constant constants (Unwind inst) = false
-lacks_constant constants (EmitIsland needed_space) = false
-lacks_constant constants (RawData bytes) = false
-lacks_constant constants (Lui rd imm) = false
-lacks_constant constants (Auipc rd imm) = false
-lacks_constant constants (LoadInlineConst rd type imm) = false
-lacks_constant constants (AluRRR op rd rs1 rs2) = false
-lacks_constant constants (AluRRImm12 op rd rs imm) = false
-lacks_constant constants (Mov rd rm type) = false
-lacks_constant constants (MovFromPReg rd rm) = false
-lacks_constant constants (Extend rd rn signed from_bits to_bits) = false
-lacks_constant constants (Select info) = false
-lacks_constant constants (Load rd op flags from) = lacks_bytes constants (load_size op) (constant_in from)
-lacks_constant constants (Store to op flags src) = lacks_bytes constants 0 (constant_in to)
-lacks_constant constants (LoadAddr rd mem) = lacks_bytes constants 0 (constant_in mem)
-lacks_constant constants (LabelAddress dst label) = false
-lacks_constant constants Ret = false
-lacks_constant constants (TrapIf cmp code) = false
-lacks_constant constants (Jal label) = false
-lacks_constant constants (CondBr taken not_taken kind) = false
-lacks_constant constants (BrTable index tmp1 tmp2 targets) = false
-lacks_constant constants (Udf code) = false
-lacks_constant constants (Jalr rd base offset) = false
-lacks_constant constants (Popcnt sum tmp step rs type) = false
-lacks_constant constants (Cltz sum tmp step rs leading type) = false
-lacks_constant constants (Brev8 rs type step tmp tmp2 rd) = false
-lacks_constant constants (StackProbeLoop guard_size probe_count tmp) = false
-lacks_constant constants (LoadExtNameGot rd name) = false
-lacks_constant constants (LoadExtNameNear rd name offset) = false
-lacks_constant constants (LoadExtNameFar rd name offset) = false
-lacks_constant constants (Call info) = false
-lacks_constant constants (CallInd info) = false
-lacks_constant constants (ReturnCall info) = false
-lacks_constant constants (ReturnCallInd info) = false
+lacks_constant constants inst = lacks_named constants (targets_of inst)
 
 -- ---- frames
 

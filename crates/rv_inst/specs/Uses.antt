@@ -33,7 +33,7 @@ target_uses flags start Nowhere = []
 target_uses flags start (Jumps label) = use_at start label (jump_kind flags) ∷ []
 target_uses flags start (Branches taken not_taken) = branch_uses flags start taken not_taken
 target_uses flags start (Refers label) = use_at start label PCRelHi20 ∷ use_at (start + 4) label PCRelLo12I ∷ []
-target_uses flags start (RefersConstant constant) = use_at start (constant_label constant) PCRelHi20 ∷ use_at (start + 4) (constant_label constant) PCRelLo12I ∷ []
+target_uses flags start (RefersConstant constant read) = use_at start (constant_label constant) PCRelHi20 ∷ use_at (start + 4) (constant_label constant) PCRelLo12I ∷ []
 
 -- a call that ends its block goes on by a jump, which is its last instruction
 abbrev pub uses_by : IsaFlags → ℕ → ℕ → Option TryCallInfo → Targets → List (Use LabelUse)
@@ -55,7 +55,7 @@ target_reach flags Nowhere = forward_of Jal20
 target_reach flags (Jumps label) = jump_reach flags
 target_reach flags (Branches taken not_taken) = if flags.has_zca then forward_of RVCJump else forward_of B12
 target_reach flags (Refers label) = forward_of Jal20
-target_reach flags (RefersConstant constant) = forward_of Jal20
+target_reach flags (RefersConstant constant read) = forward_of Jal20
 
 abbrev pub inst_reach : IsaFlags → Option TryCallInfo → Targets → ℕ
 inst_reach flags None targets = target_reach flags targets

@@ -3,23 +3,23 @@
 ghost use Rattle.std.specs.Prelude.{◌≡◌, slice_get};
 ghost use Rattle.std.specs.List.{list_any};
 ghost use Rattle.rv_base.specs.AMode.{registers_of, own_offset};
-ghost use Rattle.rv_inst.specs.Addresses.{constant_in, is_distant};
+ghost use Rattle.rv_inst.specs.Addresses.{is_distant};
 ghost use Rattle.rv_inst.specs.Operands.{address_targets};
 ghost use Rattle.rv_inst.specs.RegisterTests.{test_of};
-ghost use Rattle.rv_inst.specs.Rules.{is_shorter, lacks_bytes, lacks_constant};
+ghost use Rattle.rv_inst.specs.Rules.{is_shorter, lacks_constant};
 
 use crate::inst::Inst;
 use crate::registers::{RegisterTest, holds};
 use crate::targets::Targets;
 use rv_base::{AMode, Constant, VCodeConstant};
 
-/// The label or the constant of an address, where it has one.
-pub fn address_targets(mode: AMode) -> Targets
-    ensures { result ≡ address_targets mode }
+/// The label of an address, or the constant and how many bytes of it are read, where it has one.
+pub fn address_targets(read: u32, mode: AMode) -> Targets
+    ensures { result ≡ address_targets read mode }
 {
     match mode {
         AMode::Label(label) => Targets::Refers(label),
-        AMode::Const(constant) => Targets::RefersConstant(constant),
+        AMode::Const(constant) => Targets::RefersConstant(constant, read),
         AMode::RegOffset(_, _)
         | AMode::SPOffset(_)
         | AMode::FPOffset(_)
@@ -65,26 +65,12 @@ fn own_offset(mode: AMode) -> i64
     }
 }
 
-fn lacks_bytes(constants: &[Constant], size: usize, constant: VCodeConstant) -> bool
-    ensures { result ≡ is_shorter (slice_get constants.now constant.number) size }
+fn is_shorter(constants: &[Constant], constant: VCodeConstant, read: u32) -> bool
+    ensures { result ≡ is_shorter (slice_get constants.now constant.number) read }
 {
     match constants.get(constant.number as usize) {
-        Some(constant) => constant.bytes.len() < size,
+        Some(constant) => constant.bytes.len() < read as usize,
         None => true,
-    }
-}
-
-fn address_lacks(constants: &[Constant], size: usize, mode: AMode) -> bool
-    ensures { result ≡ lacks_bytes constants.now size (constant_in mode) }
-{
-    match mode {
-        AMode::Const(constant) => lacks_bytes(constants, size, constant),
-        AMode::RegOffset(_, _)
-        | AMode::SPOffset(_)
-        | AMode::FPOffset(_)
-        | AMode::SlotOffset(_)
-        | AMode::IncomingArg(_)
-        | AMode::Label(_) => false,
     }
 }
 
@@ -92,20 +78,9 @@ fn address_lacks(constants: &[Constant], size: usize, mode: AMode) -> bool
 pub fn lacks_constant(inst: &Inst, constants: &[Constant]) -> bool
     ensures { result ≡ lacks_constant constants.now inst.now }
 {
-    match inst {
-        Inst::Load {
-            rd: _,
-            op,
-            flags: _,
-            from,
-        } => address_lacks(constants, op.size() as usize, *from),
-        Inst::Store {
-            to,
-            op: _,
-            flags: _,
-            src: _,
-        } => address_lacks(constants, 0, *to),
-        Inst::LoadAddr { rd: _, mem } => address_lacks(constants, 0, *mem),
-        _ => false,
+    match inst.targets() {
+        Targets::RefersConstant(constant, read) => is_shorter(constants, constant, read),
+        Targets::Nowhere | Targets::Jumps(_) | Targets::Branches(_, _) | Targets::Refers(_) =>
+            false,
     }
 }

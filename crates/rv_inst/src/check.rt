@@ -200,7 +200,7 @@ fn names_inner(inst: &Inst) -> bool
     ensures { result ≡ list_any is_buffer_label (labels_of (targets_of inst.now)) }
 {
     match inst.targets() {
-        Targets::Nowhere | Targets::RefersConstant(_) => false,
+        Targets::Nowhere | Targets::RefersConstant(_, _) => false,
         Targets::Jumps(label) | Targets::Refers(label) => is_buffer_label(label),
         Targets::Branches(taken, not_taken) => has_inner_target(taken, not_taken),
     }

@@ -20,8 +20,8 @@ pub enum Targets {
     Branches(CondBrTarget, CondBrTarget),
     /// It takes the label's address.
     Refers(MachLabel),
-    /// It takes the constant's address.
-    RefersConstant(VCodeConstant),
+    /// It takes the constant's address, and reads so many bytes there.
+    RefersConstant(VCodeConstant, u32),
 }
 
 impl Inst {
@@ -80,17 +80,17 @@ fn memory_targets(inst: &Inst) -> Targets
     match inst {
         Inst::Load {
             rd: _,
-            op: _,
+            op,
             flags: _,
             from,
-        } => address_targets(*from),
+        } => address_targets(op.size() as u32, *from),
         Inst::Store {
             to,
             op: _,
             flags: _,
             src: _,
-        } => address_targets(*to),
-        Inst::LoadAddr { rd: _, mem } => address_targets(*mem),
+        } => address_targets(0, *to),
+        Inst::LoadAddr { rd: _, mem } => address_targets(0, *mem),
         Inst::LabelAddress { dst: _, label } => Targets::Refers(*label),
         _ => Targets::Nowhere,
     }

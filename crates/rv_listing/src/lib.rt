@@ -29,7 +29,7 @@ pub use code_report::report;
 pub use fields::LineError;
 pub use flags_header::with_flag;
 pub use hex_digits::hex_bytes;
-pub use operands::symbol_named;
+pub use operands::{real_register, symbol_named};
 pub use reading::{ReadError, read_job};
 pub use registers::register;
 pub use relocations::reloc_named;

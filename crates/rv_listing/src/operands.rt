@@ -35,10 +35,17 @@ impl Token for Writable<Reg> {
 impl Token for PReg {
     ghost reads = { real_register };
 
-    #[tactic(auto, unfolding(crate::specs::Operands::real_register))]
     fn read(w: &[u8]) -> Option<PReg> {
-        register(w)?.to_real_reg()
+        real_register(w)
     }
+}
+
+/// The machine's register of this name.
+#[tactic(auto, unfolding(crate::specs::Operands::real_register))]
+pub fn real_register(w: &[u8]) -> Option<PReg>
+    ensures { result ≡ real_register w.now }
+{
+    register(w)?.to_real_reg()
 }
 
 #[tactic(auto, unfolding(crate::specs::Operands::imm12_of))]

@@ -6,16 +6,13 @@ use Rattle.mach_buffer.specs.declared.records.FinalizedRelocTarget.{FinalizedRel
 use Rattle.mach_buffer.specs.declared.records.FinalizedRelocTarget.TheVariants.{ExternalName, Func}
 use Rattle.mach_buffer.specs.declared.records.FinalizedMachExceptionHandler.{FinalizedMachExceptionHandler}
 use Rattle.mach_buffer.specs.declared.records.FinalizedMachExceptionHandler.TheVariants.{Tag, Default}
-use Rattle.rv_base.specs.Regs.{real_of}
 use Rattle.rv_base.specs.declared.ir_type.IrType.{IrType}
-use Rattle.rv_base.specs.declared.regs.PReg.{PReg}
 use Rattle.rv_base.specs.declared.regs.Reg.TheVariants.{Real}
 use Rattle.rv_base.specs.declared.unwind.UnwindInst.{UnwindInst}
 use Rattle.rv_base.specs.declared.unwind.UnwindInst.TheVariants.{PushFrameRegs, DefineNewFrame, StackAlloc, SaveReg}
 use Rattle.rv_listing.specs.Tokens.{◌>>=◌, as_pair, below, decimal, parts_of, starts}
 use Rattle.rv_listing.specs.Fields.{field, no_more}
-use Rattle.rv_listing.specs.Operands.{symbol}
-use Rattle.rv_listing.specs.Registers.{register}
+use Rattle.rv_listing.specs.Operands.{real_register, symbol}
 use Rattle.rv_listing.specs.Relocations.{kind_named}
 use Rattle.rv_listing.specs.Types.{type_named}
 
@@ -101,12 +98,8 @@ frame_step ws = field number_32 ws >>= λ m. field number_32 m.1 >>= λ n. no_mo
 abbrev pub alloc_step : List (List ℕ) → Option UnwindInst
 alloc_step ws = field number_32 ws >>= λ n. no_more (StackAlloc n.0, n.1)
 
--- a register of the machine, by any of its names
-abbrev pub machine_register : List ℕ → Option PReg
-machine_register w = register w >>= real_of
-
 abbrev pub save_step : List (List ℕ) → Option UnwindInst
-save_step ws = field number_32 ws >>= λ n. field machine_register n.1 >>= λ r. no_more (SaveReg n.0 (Real r.0), r.1)
+save_step ws = field number_32 ws >>= λ n. field real_register n.1 >>= λ r. no_more (SaveReg n.0 (Real r.0), r.1)
 
 abbrev pub step_of_kind : List ℕ → List (List ℕ) → Option UnwindInst
 step_of_kind kind ws =

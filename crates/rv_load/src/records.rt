@@ -4,13 +4,14 @@
 ghost use Rattle.std.specs.Prelude.{◌≡◌};
 ghost use Rattle.rv_listing.specs.Tokens.{words_after, decimal};
 ghost use Rattle.rv_listing.specs.Fields.{field, no_more, Takes};
-ghost use Rattle.rv_load.specs.Records.{addend, alloc_step, are_entries, are_handlers, frame, frame_step, handler, handler_at, is_placed, is_within, machine_register, map_entry, map_words, number_32, push_step, reloc_target, reloc_words, save_step, step_of, step_of_kind, try_words, unwind_words};
+ghost use Rattle.rv_listing.specs.Operands.{real_register};
+ghost use Rattle.rv_load.specs.Records.{addend, alloc_step, are_entries, are_handlers, frame, frame_step, handler, handler_at, is_placed, is_within, map_entry, map_words, number_32, push_step, reloc_target, reloc_words, save_step, step_of, step_of_kind, try_words, unwind_words};
 
 use mach_buffer::{FinalizedMachExceptionHandler, FinalizedRelocTarget};
 use rv_base::{IrType, PReg, Reg, UnwindInst};
 use rv_listing::{
-    decimal, next_part, next_word, register, reloc_named, starts, symbol_named, tail, two_parts,
-    type_named,
+    decimal, next_part, next_word, real_register, reloc_named, starts, symbol_named, tail,
+    two_parts, type_named,
 };
 
 /// The next word, as a decimal number.
@@ -200,17 +201,11 @@ pub fn are_entries(rest: &[u8]) -> bool
 
 // The next word, as a register of the machine.
 fn saved(rest: &[u8]) -> Option<(PReg, &[u8])>
-    ensures { Takes result (field machine_register (words_after rest.now)) }
+    ensures { Takes result (field real_register (words_after rest.now)) }
 {
     let (w, rest) = next_word(rest)?;
-    let reg = machine_register(w)?;
+    let reg = real_register(w)?;
     Some((reg, rest))
-}
-
-fn machine_register(w: &[u8]) -> Option<PReg>
-    ensures { result ≡ machine_register w.now }
-{
-    register(w)?.to_real_reg()
 }
 
 fn push_step(rest: &[u8]) -> Option<UnwindInst>

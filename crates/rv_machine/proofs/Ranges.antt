@@ -24,6 +24,7 @@ use Rattle.rv_machine.specs.Int.{int_result}
 use Rattle.rv_machine.specs.MulDiv.{mul_result}
 use Rattle.rv_machine.specs.Bits.{bit_result, spread}
 use Rattle.rv_machine.specs.Effects.{alu_result}
+use Rattle.rv_machine.proofs.Products.{size_below}
 
 -- ---- by the kind of word
 
@@ -99,11 +100,6 @@ signed64_fits x = read_fits w64 x
 
 signed32_fits : (x : ℕ) → FitsSigned w64 (signed32 x)
 signed32_fits x = sfits_widen tt (read_fits w32 (low_word x))
-
--- the size of a register that is read as a signed number
-size_below : (z : ℤ) → FitsSigned w64 z → unsigned_abs z ≤ 2 ^ 63
-size_below (pos n) h = let g = h.sfits in omega arith
-size_below (negsuc n) h = let g = h.sfits in omega arith
 
 high64_fits : (z : ℤ) → FitsSigned w128 z → high64 z < 2 ^ 64
 high64_fits z h = shr_lt 64 64 (Fits-lt-pow (Fits-of_z h))
