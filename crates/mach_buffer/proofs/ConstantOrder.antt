@@ -1,5 +1,5 @@
 -- The constants of a sound buffer, as they are registered, named and put; and the places of labels.
-use Rattle.std.proofs.Common.{arith, ◌≡◌, ◌≢◌, ℕ, zero, suc, ◌+◌, ◌<◌, ◌≤◌, ◌⊎◌, ⊎_elim, true, false, List, [], ◌∷◌, ◌++◌, length, map, take, drop, Option, Some, None, refl, ap, sym, ◌∙◌, append-nil, Bool, set}
+use Rattle.std.proofs.Common.{[], arith, ◌≡◌, ◌≢◌, ℕ, zero, suc, ◌+◌, ◌<◌, ◌≤◌, ◌⊎◌, ⊎_elim, true, false, List, ◌∷◌, ◌++◌, length, map, take, drop, Option, Some, None, refl, ap, sym, ◌∙◌, append-nil, Bool, set}
 use Rattle.mach_buffer.proofs.Words.{nat_tests, common_steps, cases_eq, eq-eqb, ne_eqb, true≢false, slice_get-map, gets, get_or_from_slice_get, length-drop, length-append, map-append, take-append-le, take_all, slice_get, is_some, if◌then◌else◌, Constant, VCodeConstant, first_inner, first_constant, ConstPlace, Shape, placed, constant_label, inner_count, is_named, with_named, unplaced_of, IsUsable, IsConstantLabel, offset_in, AreOrdered, IsOrdered, cases_Bool, drop_more, nil_from_length, length-map, length-set, option_map, nat_eq, ◌||◌, name_more, AreNoted, take_more}
 use Rattle.mach_buffer.proofs.Lists.{append_each, below, none_of, comes_from, pushed, found_at, slice_get-append_last, slice_get-set_other}
 
@@ -54,9 +54,6 @@ named_append (m ∷ named) k n = grind (arith, nat_tests, named_append named k n
 
 pub noted_more : (registered : List Constant) (named : List VCodeConstant) (seen : List Bool) (k : VCodeConstant) → AreNoted registered named seen → k.number < length registered → AreNoted registered (named ++ k ∷ []) (set seen k.number true)
 noted_more registered named seen k h lt = record { long = length-set seen k.number true ∙ h.long; each = λ n low. grind (arith, nat_tests, common_steps, gets, h.long, h.each n, named_append named k n, slice_get-set_other seen k.number n true) }
-
-pub name_again : (k : VCodeConstant) (named : List VCodeConstant) → is_named named k.number ≡ true → named ≡ name_more k named
-name_again k named e = rw (e, append-nil)
 
 -- the label of a constant that was named may be used
 pub name_there : (k : VCodeConstant) (named : List VCodeConstant) → IsConstantLabel (name_more k named) (constant_label k).number

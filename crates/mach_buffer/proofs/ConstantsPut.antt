@@ -1,11 +1,9 @@
 -- The constants that don't stand yet are put: where they end, what stands after them, and the room that they take.
-use Rattle.std.proofs.Common.{◌≡◌, ℕ, zero, suc, ◌+◌, ◌-◌, ◌%◌, ◌<◌, ◌≤◌, ◌⊎◌, inl, inr, ⊎_elim, List, [], ◌∷◌, ◌++◌, length, Option, Some, None, refl, ap, sym, ◌∙◌, subst, arith, append_assoc, false, take}
-use Rattle.mach_buffer.proofs.Words.{nat_tests, cases_eq, length-append, slice_get, Kinds, ConstAlign, Constant, VCodeConstant, first_constant, ConstPlace, Shape, with_bytes, placed, constant_label, unplaced_of, IsConstantLabel, AllEnd, Lasts, zeros, aligned_to, constant_end, constants_end, end_after, put_constant_at, put_constant, put_each, put_constants, reserve_from, reserve_of, alignment_reserve, IsOrdered, ConstantStands, AllStand, code_limit}
+use Rattle.std.proofs.Common.{[], ◌≡◌, ℕ, zero, suc, ◌+◌, ◌-◌, ◌%◌, ◌<◌, ◌≤◌, ◌⊎◌, inl, inr, ⊎_elim, List, ◌∷◌, ◌++◌, length, Option, Some, None, refl, ap, sym, ◌∙◌, subst, arith, append_assoc, false, take}
+use Rattle.mach_buffer.proofs.Words.{nat_tests, cases_eq, length-append, slice_get, Kinds, ConstAlign, Constant, VCodeConstant, first_constant, ConstPlace, Shape, with_bytes, placed, constant_label, unplaced_of, IsConstantLabel, AllEnd, Lasts, zeros, aligned_to, constants_end, end_after, put_constant_at, put_constant, put_each, put_constants, reserve_from, reserve_of, alignment_reserve, IsOrdered, ConstantStands, AllStand, code_limit}
 use Rattle.mach_buffer.proofs.ConstantOrder.{placed_other, next_there, next_unplaced, ordered_constant}
 use Rattle.mach_buffer.proofs.Lasting.{none_added, some_added, lasts_places, lasts_same, lasts_more}
 use Rattle.mach_buffer.proofs.Lists.{append_each, found_at}
-
--- ---- alignments
 
 -- the next multiple is at most 15 after, is even, is its own next, and only grows
 pub aligned_is : (a : ConstAlign) (n : ℕ) → (n ≤ aligned_to a n) × (aligned_to a n ≤ n + 15) × (aligned_to a n % 2 ≡ 0) × (aligned_to a (aligned_to a n) ≡ aligned_to a n) × ((m : ℕ) → m ≤ n → aligned_to a m ≤ aligned_to a n)
@@ -20,15 +18,10 @@ zeros_taken zero k le = refl
 zeros_taken (suc n) zero le = absurd (omega arith)
 zeros_taken (suc n) (suc k) le = ap (λ (bs : List ℕ). 0 ∷ bs) (zeros_taken n k (omega arith))
 
--- ---- where constants end
-
 -- they end after where they begin, and end later where they begin later
-end_is : (o : Option Constant) (n : ℕ) → (n ≤ constant_end o n) × ((m : ℕ) → m ≤ n → constant_end o m ≤ constant_end o n)
-end_is o n = grind (arith, aligned_is)
-
 pub ends_is : (registered : List Constant) (ks : List VCodeConstant) (n : ℕ) → (n ≤ constants_end registered ks n) × ((m : ℕ) → m ≤ n → constants_end registered ks m ≤ constants_end registered ks n)
 ends_is registered [] n = grind arith
-ends_is registered (k ∷ ks) n = grind (arith, end_is, ends_is registered ks)
+ends_is registered (k ∷ ks) n = grind (arith, aligned_is, ends_is registered ks)
 
 -- ---- room for those that don't stand yet
 
@@ -103,8 +96,8 @@ pub uses_stay : {L : Type 0} (ks : List VCodeConstant) (s : Shape L) → (put_ea
 uses_stay [] s = refl
 uses_stay {L} (k ∷ ks) s = grind (arith, uses_stay ks (put_constant k s))
 
--- several are, and all
-each_done : {L : Type 0} {kinds : Kinds L} (ks : List VCodeConstant) (s : Shape L) → unplaced_of s ≡ ks → IsOrdered s → ConstantsDone kinds s (put_each ks s) ks []
+-- several are, and all where none is left out
+pub each_done : {L : Type 0} {kinds : Kinds L} (ks : List VCodeConstant) (s : Shape L) → unplaced_of s ≡ ks → IsOrdered s → ConstantsDone kinds s (put_each ks s) ks []
 each_done {L} {kinds} [] s unplaced o = let lasts = lasts_same kinds s in grind arith
 each_done {L} {kinds} (k ∷ ks) s unplaced o =
     let a = one_done kinds s k ks unplaced o in
@@ -117,14 +110,11 @@ each_done {L} {kinds} (k ∷ ks) s unplaced o =
     let room : (n : ℕ) → constants_end s.registered (k ∷ ks) n + reserve_of t ≤ n + reserve_of s = λ n. omega (arith, rw a.lasts.registered at (a.room n), rw a.lasts.registered at (b.room (constants_end s.registered (k ∷ []) n))) in
     grind (arith, a.places, b.places, a.others, b.others, b.lasts.grows.longer, ap (λ (x : Shape L). x.named) a.same)
 
-pub constants_put : {L : Type 0} (kinds : Kinds L) (s : Shape L) → IsOrdered s → ConstantsDone kinds s (put_constants s) (unplaced_of s) []
-constants_put kinds s o = each_done (unplaced_of s) s refl o
-
 -- so they take no more room than was kept for them, of whatever kinds the uses are
 pub ends_within : {L : Type 0} (s : Shape L) → IsOrdered s → (n : ℕ) → end_after s n + reserve_of (put_constants s) ≤ n + reserve_of s
 ends_within {L} s o =
     let any : Kinds L = record { aims = λ k bytes to. ⊥; fields = λ k. []; forward = λ k. 0; backward = λ k. 0; has_veneer = λ k. false; veneer = λ k. record { bytes = []; place = 0; kind = k } } in
-    (constants_put any s o).room
+    (each_done {kinds = any} (unplaced_of s) s refl o).room
 
 -- the rest is still to be put
 pub record Putting {L : Type 0} (rest : List VCodeConstant) (first now : Shape L) : Type 0 where
@@ -134,9 +124,6 @@ pub record Putting {L : Type 0} (rest : List VCodeConstant) (first now : Shape L
   pub room : constants_end now.registered rest (length now.bytes) < code_limit
 
 module _ {L : Type 0} {k : VCodeConstant} {all rest : List VCodeConstant} {first now : Shape L} where
-  pub putting_room : Putting all first now → all ≡ k ∷ rest → constant_end (slice_get now.registered k.number) (length now.bytes) < code_limit
-  putting_room w e = omega (arith, rw e at w.room, (ends_is now.registered rest (constant_end (slice_get now.registered k.number) (length now.bytes))).0)
-
   pub putting_next : Kinds L → Putting all first now → all ≡ k ∷ rest → (new : Shape L) → new ≡ put_constant k now → Putting rest first new
   putting_next kinds w e new is =
       let a = one_done kinds now k rest (w.unplaced ∙ e) w.ordered in

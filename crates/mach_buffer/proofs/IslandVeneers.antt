@@ -1,15 +1,15 @@
 -- An island: that its veneers can be put, and what it brings.
-use Rattle.std.proofs.Common.{◌≡◌, ◌≢◌, ℕ, ◌+◌, ◌-◌, ◌*◌, ◌%◌, ◌<◌, ◌≤◌, ⊎_elim, Bool, true, false, List, [], ◌∷◌, length, Option, Some, None, refl, ap, sym, ◌∙◌, subst, arith}
-use Rattle.mach_buffer.proofs.Words.{nat_tests, true≢false, cases_eq, and_parts, length-append, slice_get, first_inner, first_constant, MachLabel, code_limit, Kinds, Use, Shape, with_label, placed, unplaced_of, deadline, is_reached, is_pending, is_other, AreWindows, put_all, IsOrder, aligned, padding, padded, needs_own, first_of, with_own, island_veneers, IsJumpOver, CanIsland, Islanded, others_of, Grows, Lasts, IsNone, CanPut, CanPutAll, AddsOwn, Inside, AreSound, HoldNone, IsWhole, island_front, end_after, put_constants, reserve_of, IsOrdered, AreNoted, AllStand, reserve_from, IsUsable, CanPutAt}
+use Rattle.std.proofs.Common.{[], ◌≡◌, ◌≢◌, ℕ, ◌+◌, ◌-◌, ◌*◌, ◌%◌, ◌<◌, ◌≤◌, ⊎_elim, Bool, true, false, List, ◌∷◌, length, Option, Some, None, refl, ap, sym, ◌∙◌, subst, arith}
+use Rattle.mach_buffer.proofs.Words.{nat_tests, true≢false, cases_eq, and_parts, length-append, slice_get, first_inner, first_constant, MachLabel, code_limit, Kinds, Use, Shape, with_label, placed, unplaced_of, deadline, is_reached, is_pending, is_other, AreWindows, put_all, IsOrder, aligned, padding, padded, needs_own, first_of, with_own, island_veneers, IsJumpOver, CanIsland, Islanded, others_of, Grows, Lasts, IsNone, CanPut, CanPutAll, AddsOwn, Inside, AreSound, HoldNone, IsWhole, island_front, end_after, put_constants, IsOrdered, AllStand, IsUsable, CanPutAt}
 use Rattle.mach_buffer.proofs.QueueContents.{kept_none}
 use Rattle.mach_buffer.proofs.Links.{HasLaw, linked_bytes, windows_bytes}
 use Rattle.mach_buffer.proofs.Lasting.{veneers_last, lasts_bytes, lasts_label, lasts_more, lasts_veneers}
-use Rattle.mach_buffer.proofs.Lists.{append_none, slice_get-append_last, pushed}
+use Rattle.mach_buffer.proofs.Lists.{slice_get-append_last, pushed}
 use Rattle.mach_buffer.proofs.OrderOfVeneers.{order_none, order_has, order_long, can_order, not_pending}
 use Rattle.mach_buffer.proofs.VeneersAndConstants.{length_padded, padding_even, aligned_near, grown_pending, Extended, extended}
 use Rattle.mach_buffer.proofs.Slack.{slack_from_reach, reaches_from_slack, none_from}
-use Rattle.mach_buffer.proofs.ConstantOrder.{placed_same, placed_other}
-use Rattle.mach_buffer.proofs.ConstantsPut.{ends_is, constants_put, ends_within, reserve_other, stands_last}
+use Rattle.mach_buffer.proofs.ConstantOrder.{placed_same}
+use Rattle.mach_buffer.proofs.ConstantsPut.{ends_is, each_done, stands_last}
 use Rattle.mach_buffer.proofs.Sound.{whole_label}
 
 -- a use of the label is no other use
@@ -33,9 +33,7 @@ pub before_room : {L : Type 0} {kinds : Kinds L} {s : Shape L} {after_island : M
 before_room {s = s} can count e = grind (arith, nat_tests, ends_is s.registered (unplaced_of s), can.room)
 
 pub pad_room : {L : Type 0} {kinds : Kinds L} {s : Shape L} {after_island : MachLabel} → CanIsland kinds s after_island → aligned (length s.bytes) < code_limit
-pad_room {L} {kinds} {s} {after_island} can =
-    let n = length (others_of kinds s after_island) in
-    omega (arith, before_room can n refl, (ends_is s.registered (unplaced_of s) (aligned (length s.bytes) + 8 * n)).0)
+pad_room {s = s} can = grind (arith, nat_tests, ends_is s.registered (unplaced_of s), can.room)
 
 -- an island's veneers in their order, with the jump's own one where it is needed
 pub record IsReady {L : Type 0} (kinds : Kinds L) (s : Shape L) (p : Inside) (after_island : MachLabel) (order : List ℕ) (needed : Bool) : Type 0 where
@@ -74,13 +72,10 @@ module _ {L : Type 0} {kinds : Kinds L} {s : Shape L} {p : Inside} {after_island
         | true ↦ (first, none, others (aligned (length s.bytes) + 8) (omega arith))
         | false ↦ others (aligned (length s.bytes)) (omega arith)
       ] in
-      record {
-        linked = linked_bytes r.sound.whole.linked (padding (length s.bytes));
-        even = omega (arith, start);
-        ordered = r.sound.whole.ordered;
-        can = rw start all;
-        room = rw (start, own_end r) (let room = r.can.room in omega arith);
-      }
+      let linked = linked_bytes r.sound.whole.linked (padding (length s.bytes)) in
+      let room : end_after s (length (padded s).bytes + 8 * length (with_own needed J order)) < code_limit = rw (start, own_end r) (omega (arith, r.can.room)) in
+      let put : CanPut kinds s.uses (length (padded s).bytes) (with_own needed J order) = rw start all in
+      grind arith
 
   -- what stands after them and the constants
   island_extended : HasLaw kinds → IsReady kinds s p after_island order needed → Extended kinds (padding (length s.bytes)) (with_own needed (length s.uses - 1) order) s
@@ -93,16 +88,16 @@ module _ {L : Type 0} {kinds : Kinds L} {s : Shape L} {p : Inside} {after_island
 -- ---- what it brings, once it is put
 
 module _ {L : Type 0} {kinds : Kinds L} {after_island : MachLabel} {old new : Shape L} where
-  abbrev veneered : Islanded kinds after_island old new → Shape L
+  abbrev pub veneered : Islanded kinds after_island old new → Shape L
   veneered i = let v = put_all kinds (island_veneers kinds old i.jump i.order) (padded old) in record old { bytes = v.bytes; uses = v.uses }
 
   -- the constants are put after the veneers, then zero bytes, and the label is bound
-  island_is : (i : Islanded kinds after_island old new) → new ≡ with_label after_island (padded (put_constants (veneered i)))
+  pub island_is : (i : Islanded kinds after_island old new) → new ≡ with_label after_island (padded (put_constants (veneered i)))
   island_is i = i.whole ∙ ap (λ (x : Shape L). with_label after_island (padded (put_constants x))) (veneers_last kinds (island_veneers kinds old i.jump i.order) (padded old)).same
 
 pub lasts_island : {L : Type 0} {kinds : Kinds L} {label : MachLabel} {s t : Shape L} → IsOrdered s → CanIsland kinds s label → Islanded kinds label s t → Lasts kinds s t
 lasts_island {L} {kinds} {label} {s} ordered can i =
-    let c = constants_put kinds (veneered i) ordered in
+    let c = each_done {kinds = kinds} (unplaced_of (veneered i)) (veneered i) refl ordered in
     let m = put_constants (veneered i) in
     let veneers = lasts_more (lasts_bytes kinds (padding (length s.bytes)) s) (lasts_veneers kinds (island_veneers kinds s i.jump i.order) (padded s) (none_reached can _ i.order i.in_order)) in
     let same = (veneers_last kinds (island_veneers kinds s i.jump i.order) (padded s)).same in
@@ -119,36 +114,11 @@ pub record IslandRest {L : Type 0} (after_island : MachLabel) (old new : Shape L
   pub registered : new.registered ≡ old.registered
   pub named : new.named ≡ old.named
 
-pub island_rest : {L : Type 0} {kinds : Kinds L} {after_island : MachLabel} {old new : Shape L} → IsOrdered old → Islanded kinds after_island old new → IslandRest after_island old new
-island_rest {L} {kinds} ordered i =
-    let c = constants_put kinds (veneered i) ordered in
-    rw (island_is i, c.same) (grind (arith, nat_tests, append_none, c.others))
-
--- its constants take no more than was kept for them; before them come at most two zero bytes, the veneers and the jump's own one,
--- and after them at most three zero bytes
-pub island_reserve : {L : Type 0} {kinds : Kinds L} {after_island : MachLabel} {old new : Shape L} → IsOrdered old → length old.bytes % 2 ≡ 0 → after_island.number < first_constant → Islanded kinds after_island old new → length new.bytes + reserve_of new ≤ length old.bytes + 13 + 8 * length (others_of kinds old after_island) + reserve_of old
-island_reserve {L} {kinds} {after_island} {old} {new} ordered even low i =
-    let d = put_constants (veneered i) in
-    let count = length (others_of kinds old after_island) in
-    let start = aligned (length old.bytes) in
-    let n = first_of (end_after old) start count (deadline kinds i.jump) + 8 * count in
-    let first : first_of (end_after old) start count (deadline kinds i.jump) ≤ start + 8 = grind (arith, nat_tests) in
-    let same : reserve_from new.place 0 d.registered ≡ reserve_of d = reserve_other d.place new.place 0 d.registered (λ m le. rw (island_is i) (placed_other d.place after_island.number _ (first_constant + m) (λ q. absurd (omega arith)))) in
-    let reserve : reserve_of new ≡ reserve_of d = ap (λ (x : Shape L). reserve_from new.place 0 x.registered) (island_is i) ∙ same in
-    omega (arith, i.end, ends_within (veneered i) ordered n, first, aligned_near (length old.bytes) even, reserve)
-
 -- what an island brings
-pub record IslandDone {L : Type 0} (kinds : Kinds L) (after_island : MachLabel) (old new : Shape L) (inside : Inside) : Type 0 where
-  pub island : Islanded kinds after_island old new
-  pub grows : Grows old.bytes old.uses old.place new.bytes new.uses new.place
-  pub own : AddsOwn kinds (length old.bytes) old.uses new.uses
-  pub windows : AreWindows kinds old.bytes old.uses → AreWindows kinds new.bytes new.uses
-  pub constants : AreWindows kinds old.bytes old.uses → AllStand kinds old → AllStand kinds new
-  pub sound : AreSound kinds new inside
-
 pub island_done : {L : Type 0} {kinds : Kinds L} → HasLaw kinds → (s : Shape L) (p new_p : Inside) (after_island : MachLabel) (order : List ℕ) (needed : Bool) → IsReady kinds s p after_island order needed →
-    HoldNone new_p.pending → new_p.seen ≡ p.seen → IslandDone kinds after_island s (with_label after_island (padded (put_constants (put_all kinds (with_own needed (length s.uses - 1) order) (padded s))))) new_p
-island_done {L} {kinds} law s p new_p after_island order needed r none seen =
+    HoldNone new_p.pending → new_p.seen ≡ p.seen → (t : Shape L) → t ≡ with_label after_island (padded (put_constants (put_all kinds (with_own needed (length s.uses - 1) order) (padded s)))) →
+    Islanded kinds after_island s t × Grows s.bytes s.uses s.place t.bytes t.uses t.place × AddsOwn kinds (length s.bytes) s.uses t.uses × (AreWindows kinds s.bytes s.uses → AreWindows kinds t.bytes t.uses) × (AreWindows kinds s.bytes s.uses → AllStand kinds s → AllStand kinds t) × AreSound kinds t new_p
+island_done {L} {kinds} law s p new_p after_island order needed r none seen t e =
     let can = r.can in
     let O = with_own needed (length s.uses - 1) order in
     let x = island_extended law r in
@@ -180,11 +150,5 @@ island_done {L} {kinds} law s p new_p after_island order needed r none seen =
     let windows : AreWindows kinds s.bytes s.uses → AreWindows kinds (padded m).bytes x.uses = λ w. windows_bytes (x.windows w) pad in
     let lasts = lasts_more (lasts_bytes kinds pad m) (lasts_label kinds after_island (padded m) unbound) in
     let constants : AreWindows kinds s.bytes s.uses → AllStand kinds s → AllStand kinds (with_label after_island (padded m)) = λ w stand. stands_last lasts refl (x.stand (none_reached can needed order r.in_order) w stand) in
-    rw x.is (record {
-      island = island;
-      grows = grows;
-      own = x.own;
-      windows = windows;
-      constants = constants;
-      sound = record { whole = whole_label whole after_island can.known; kept = kept_none kinds place x.uses new_p.pending none idle; noted = rw seen r.sound.noted };
-    })
+    let sound : AreSound kinds (with_label after_island (padded m)) new_p = record { whole = whole_label whole after_island can.known; kept = kept_none kinds place x.uses new_p.pending none idle; noted = rw seen r.sound.noted } in
+    rw (e, x.is) (island, grows, x.own, windows, constants, sound)

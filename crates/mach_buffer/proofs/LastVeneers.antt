@@ -1,5 +1,5 @@
 -- The last veneers: that they can be put, what stands after them, and where each use goes once it is patched.
-use Rattle.std.proofs.Common.{◌≡◌, ◌≢◌, ℕ, zero, suc, ◌+◌, ◌-◌, ◌*◌, ◌%◌, ◌<◌, ◌≤◌, inl, inr, ⊎_elim, true, false, List, [], ◌++◌, length, map, take, drop, Option, Some, None, unwrap_or, refl, ap, sym, ◌∙◌, arith, pos, ◌-ℤ◌}
+use Rattle.std.proofs.Common.{[], ◌≡◌, ◌≢◌, ℕ, zero, suc, ◌+◌, ◌-◌, ◌*◌, ◌%◌, ◌<◌, ◌≤◌, inl, inr, ⊎_elim, true, false, List, ◌++◌, length, map, take, drop, Option, Some, None, unwrap_or, refl, ap, sym, ◌∙◌, arith, pos, ◌-ℤ◌}
 use Rattle.mach_buffer.proofs.Words.{nat_tests, take-take, drop-drop, drop-take, length-drop, take_all, true≢false, cases_Bool, false_from_ne_true, slice_get, is_some, code_limit, Kinds, IsVeneer, Patch, Use, first_constant, ConstPlace, Shape, with_bytes, veneer_use, core, unplaced_of, IsLinked, end_after, offset_in, AllStand, is_reached, is_pending, is_other, Grows, window, AreWindows, CanPatch, CanPatchAll, IsApart, AllAim, AllKept, KeepsOthers, or_place, patch_of, patches_of, put_all, IsOrder, aligned, padding, is_far, before_last, padded_for, pending_in, last_end, CanFinish, Finishes, Arrives, AllArrive, CanPutAll, IsWhole, MachLabel, length-append, LastPut, CanPut}
 use Rattle.mach_buffer.proofs.Links.{HasLaw, linked_bytes}
 use Rattle.mach_buffer.proofs.Lists.{append_none, comes_from, map_each, mapped}
@@ -14,39 +14,28 @@ use Rattle.mach_buffer.proofs.Slack.{reaches_from_each}
 pub other_none : {L : Type 0} (kinds : Kinds L) (place : ℕ → Option ℕ) → is_other kinds place None ≡ is_pending kinds place
 other_none kinds place = let same : (u : _) → is_other kinds place None u ≡ is_pending kinds place u = λ u. grind (arith, nat_tests) in λ i. λ u. same u i
 
--- ---- the padding before
-
 -- at most three bytes of padding stand before the last veneers
 pub last_near : (bytes : List ℕ) (count : ℕ) → length (before_last bytes count) ≤ length bytes + 3
 last_near bytes count = grind (arith, nat_tests, length_padded bytes)
 
-record Padding {L : Type 0} (n : ℕ) (s : Shape L) : Type 0 where
-  pad : List ℕ
-  is : padded_for n s ≡ with_bytes pad s
-  bytes : s.bytes ++ pad ≡ before_last s.bytes n
-  even : length s.bytes % 2 ≡ 0 → length pad % 2 ≡ 0
-
-padding_for : {L : Type 0} (n : ℕ) (s : Shape L) → Padding n s
-padding_for zero s = record { pad = []; is = λ i. record s { bytes = sym (append_none s.bytes) i }; bytes = append_none s.bytes; even = λ e. refl }
-padding_for (suc n) s = record { pad = padding (length s.bytes); is = refl; bytes = grind (arith, nat_tests); even = padding_even (length s.bytes) }
+pub padding_for : {L : Type 0} (n : ℕ) (s : Shape L) → (pad : List ℕ) × (padded_for n s ≡ with_bytes pad s) × (s.bytes ++ pad ≡ before_last s.bytes n) × (length s.bytes % 2 ≡ 0 → length pad % 2 ≡ 0)
+padding_for zero s = ([], λ i. record s { bytes = sym (append_none s.bytes) i }, append_none s.bytes, λ e. refl)
+padding_for (suc n) s = (padding (length s.bytes), refl, grind (arith, nat_tests), padding_even (length s.bytes))
 
 -- ---- the veneers can be put in their order
 
 module _ {L : Type 0} (kinds : Kinds L) (s : Shape L) (order : List ℕ) where
-  last_start : IsOrder kinds (is_pending kinds s.place) s.uses order → length (s.bytes ++ (padding_for (length order) s).pad) ≡ length (before_last s.bytes (length (pending_in kinds s)))
-  last_start o = ap (length {A = ℕ}) (padding_for (length order) s).bytes ∙ ap (λ n. length (before_last s.bytes n)) (order_long o)
+  last_start : IsOrder kinds (is_pending kinds s.place) s.uses order → length (s.bytes ++ (padding_for (length order) s).0) ≡ length (before_last s.bytes (length (pending_in kinds s)))
+  last_start o = ap (length {A = ℕ}) (padding_for (length order) s).2 ∙ ap (λ n. length (before_last s.bytes n)) (order_long o)
 
-  padded_can : IsWhole kinds s → CanFinish kinds s → IsOrder kinds (is_pending kinds s.place) s.uses order → CanPutAll kinds (with_bytes (padding_for (length order) s).pad s) order
+  pub padded_can : IsWhole kinds s → CanFinish kinds s → IsOrder kinds (is_pending kinds s.place) s.uses order → CanPutAll kinds (with_bytes (padding_for (length order) s).0 s) order
   padded_can sound can o =
       let d = padding_for (length order) s in
-      let linked = linked_bytes sound.linked d.pad in
-      let even : length (s.bytes ++ d.pad) % 2 ≡ 0 = omega (arith, d.even sound.even, length-append s.bytes d.pad, sound.even) in
-      let put : CanPut kinds s.uses (length (s.bytes ++ d.pad)) order = can_order (length (s.bytes ++ d.pad)) o (λ u h. grind (arith, nat_tests)) (rw (last_start o) (reaches_from_each _ _ can.reach)) in
-      let room : end_after s (length (s.bytes ++ d.pad) + 8 * length order) < code_limit = rw (last_start o, order_long o) can.short in
+      let linked = linked_bytes sound.linked d.0 in
+      let even : length (s.bytes ++ d.0) % 2 ≡ 0 = omega (arith, d.3 sound.even, length-append s.bytes d.0, sound.even) in
+      let put : CanPut kinds s.uses (length (s.bytes ++ d.0)) order = can_order (length (s.bytes ++ d.0)) o (λ u h. grind (arith, nat_tests)) (rw (last_start o) (reaches_from_each _ _ can.reach)) in
+      let room : end_after s (length (s.bytes ++ d.0) + 8 * length order) < code_limit = rw (last_start o, order_long o) can.short in
       assumption
-
-  pub last_can : IsWhole kinds s → CanFinish kinds s → IsOrder kinds (is_pending kinds s.place) s.uses order → CanPutAll kinds (padded_for (length order) s) order
-  last_can sound can o = rw (padding_for (length order) s).is (padded_can sound can o)
 
   pub last_room : CanFinish kinds s → IsOrder kinds (is_pending kinds s.place) s.uses order → (count : ℕ) → count ≡ length order → count ≢ 0 → aligned (length s.bytes) < code_limit
   last_room can o count e ne = grind (arith, nat_tests, can.short, (ends_is s.registered (unplaced_of s) (last_end kinds s)).0, order_long o, length_padded s.bytes)
@@ -76,7 +65,7 @@ last_done {L} {kinds} {s} law sound can e =
     let order = e.order in
     let o = e.in_order in
     let d = padding_for (length order) s in
-    let x : Extended kinds d.pad order s = extended law d.pad order s sound (d.even sound.even) (padded_can kinds s order sound can o) in
+    let x : Extended kinds d.0 order s = extended law d.0 order s sound (d.3 sound.even) (padded_can kinds s order sound can o) in
     let m : Shape L = record s { bytes = x.bytes; uses = x.uses; place = x.place; constants = x.constants } in
     let long : length x.bytes ≡ end_after s (last_end kinds s) = x.long ∙ (λ i. end_after s (last_start kinds s order o i + 8 * order_long o i)) in
     let Bound : MachLabel → Type 0 = λ l. is_some (x.place l.number) ≡ true in
@@ -98,14 +87,14 @@ last_done {L} {kinds} {s} law sound can e =
     let stand = x.stand (λ j u h reached. order_none o j u h (not_pending kinds s.place u reached)) can.windows can.constants in
     let listed = all_listed m x.ordered x.unplaced in
     let offsets = place_offset m x.ordered x.unplaced (λ label at h. (x.places label at h).2) in
-    rw (e.whole, d.is, x.is) assumption
+    rw (e.whole, d.1, x.is) assumption
 
 -- a use that isn't pending stays as it is before the patches
 pub finish_keeps : {L : Type 0} {kinds : Kinds L} {s : Shape L} {bytes : List ℕ} (f : Finishes kinds s bytes) (j : ℕ) (u : Use L) → slice_get s.uses j ≡ Some u → is_pending kinds s.place u ≡ false → slice_get f.put.uses j ≡ Some u
 finish_keeps {L} {kinds} {s} f j u h idle =
     let t = put_all kinds f.order (padded_for (length f.order) s) in
-    let kept = (veneers_last kinds f.order (with_bytes (padding_for (length f.order) s).pad s)).keeps j u (order_none f.in_order j u h (λ w. true≢false (sym w ∙ idle))) h in
-    ap (λ (x : Shape L). slice_get x.uses j) f.whole ∙ ap (λ (us : List (Use L)). slice_get us j) (uses_stay (unplaced_of t) t) ∙ (rw (padding_for (length f.order) s).is kept)
+    let kept = (veneers_last kinds f.order (with_bytes (padding_for (length f.order) s).0 s)).keeps j u (order_none f.in_order j u h (λ w. true≢false (sym w ∙ idle))) h in
+    ap (λ (x : Shape L). slice_get x.uses j) f.whole ∙ ap (λ (us : List (Use L)). slice_get us j) (uses_stay (unplaced_of t) t) ∙ (rw (padding_for (length f.order) s).1 kept)
 
 -- ---- from there to where each use goes
 

@@ -1,35 +1,28 @@
 -- How a buffer grows, and what lasts in it.
-use Rattle.std.proofs.Common.{◌≡◌, ℕ, ◌+◌, ◌≤◌, true, List, [], ◌∷◌, ◌++◌, length, take, set, Option, Some, None, refl, ap, sym, ◌∙◌, arith, append_assoc}
+use Rattle.std.proofs.Common.{[], ◌≡◌, ℕ, ◌+◌, ◌≤◌, true, List, ◌∷◌, ◌++◌, length, take, set, Option, Some, None, refl, ap, sym, ◌∙◌, arith, append_assoc}
 use Rattle.mach_buffer.proofs.Words.{nat_tests, take-take, length-append, map-append, slice_get, MachLabel, Kinds, VCodeConstant, Event, MachRecord, Use, Shape, with_bytes, with_use, with_label, with_allocated, with_record, with_named, veneer_use, core, recorded, is_reached, put_at, put_veneer, put_all, IsNone, Grows, RecordsLast, Lasts}
 use Rattle.mach_buffer.proofs.Links.{recorded_set}
-use Rattle.mach_buffer.proofs.Lists.{append_none, both_lists, map_each, none_some, only_one, slice_get-append, slice_get-set_other, take_front, pushed}
+use Rattle.mach_buffer.proofs.Lists.{append_none, both_lists, map_each, only_one, slice_get-append, slice_get-set_other, take_front, pushed}
 use Rattle.mach_buffer.proofs.ConstantOrder.{placed_other}
 
 -- ---- growing
 
 -- and then some more
 pub grows_more : {L : Type 0} {b0 b1 b2 : List ℕ} {u0 u1 u2 : List (Use L)} {p0 p1 p2 : ℕ → Option ℕ} → Grows b0 u0 p0 b1 u1 p1 → Grows b1 u1 p1 b2 u2 p2 → Grows b0 u0 p0 b2 u2 p2
-grows_more {L} {b0} {b1} {b2} {u0} {u1} {u2} {p0} {p1} {p2} x y = record {
-  before = sym (take-take (length b0) (length b1) b2 x.longer) ∙ ap (take (length b0)) y.before ∙ x.before;
-  longer = omega (arith, x.longer, y.longer);
-  more = x.more ++ y.more;
-  grown = y.grown ∙ ap (λ us. us ++ y.more) x.grown ∙ append_assoc (recorded u0) x.more y.more;
-  after = both_lists (λ (u : Use L). length b0 ≤ u.offset) x.more y.more x.after (λ k u h. let l = y.after k u h in let a = x.longer in omega arith);
-  places = λ label to h. y.places label to (x.places label to h);
-}
+grows_more {L} {b0} {b1} {b2} {u0} {u1} {u2} {p0} {p1} {p2} x y =
+    let before = sym (take-take (length b0) (length b1) b2 x.longer) ∙ ap (take (length b0)) y.before ∙ x.before in
+    let grown = y.grown ∙ ap (λ us. us ++ y.more) x.grown ∙ append_assoc (recorded u0) x.more y.more in
+    let after = both_lists (λ (u : Use L). length b0 ≤ u.offset) x.more y.more x.after (λ k u h. omega (arith, y.after k u h, x.longer)) in
+    grind (arith, x.longer, y.longer, x.places, y.places)
 
 -- by bytes, and uses whose windows stand among them
 pub grows_put : {L : Type 0} {bytes : List ℕ} {uses : List (Use L)} {place : ℕ → Option ℕ} (block : List ℕ) (own : List (Use L)) → ((k : ℕ) (u : Use L) → slice_get own k ≡ Some u → length bytes ≤ u.offset) →
     (new_bytes : List ℕ) (new_uses : List (Use L)) (new_place : ℕ → Option ℕ) → new_bytes ≡ bytes ++ block → recorded new_uses ≡ recorded uses ++ recorded own → ((label to : ℕ) → place label ≡ Some to → new_place label ≡ Some to) →
     Grows bytes uses place new_bytes new_uses new_place
-grows_put {L} {bytes} {uses} {place} block own after new_bytes new_uses new_place eb eu kept = record {
-  before = ap (take (length bytes)) eb ∙ take_front bytes block;
-  longer = let l : length new_bytes ≡ length bytes + length block = ap (length {A = ℕ}) eb ∙ length-append bytes block in omega arith;
-  more = recorded own;
-  grown = eu;
-  after = map_each (λ (x : Use L). length bytes ≤ x.offset) core own after;
-  places = kept;
-}
+grows_put {L} {bytes} {uses} {place} block own after new_bytes new_uses new_place eb eu kept =
+    let before = ap (take (length bytes)) eb ∙ take_front bytes block in
+    let all_after = map_each (λ (x : Use L). length bytes ≤ x.offset) core own after in
+    grind (arith, ap (length {A = ℕ}) eb, length-append bytes block)
 
 -- what a list becomes as elements are added
 pub record Added {X : Type 0} (xs ys : List X) : Type 0 where
@@ -86,7 +79,7 @@ pub lasts_named : {L : Type 0} (kinds : Kinds L) (k : VCodeConstant) (s : Shape 
 lasts_named kinds k s = lasts_places kinds s (with_named k s) (none_added _) refl (λ label to h. h) (omega arith) (grind arith) refl (some_added _ _) (none_added _)
 
 pub lasts_label : {L : Type 0} (kinds : Kinds L) (label : MachLabel) (s : Shape L) → s.place label.number ≡ None → Lasts kinds s (with_label label s)
-lasts_label kinds label s unbound = lasts_places kinds s (with_label label s) (none_added _) refl (λ other to h. placed_other s.place label.number (length s.bytes) other (λ e. none_some (s.place other) to (ap s.place e ∙ unbound) h) ∙ h) (omega arith) (grind arith) refl (none_added _) (none_added _)
+lasts_label kinds label s unbound = lasts_places kinds s (with_label label s) (none_added _) refl (λ other to h. placed_other s.place label.number (length s.bytes) other (λ e. let none = ap s.place e ∙ unbound in absurd (cc)) ∙ h) (omega arith) (grind arith) refl (none_added _) (none_added _)
 
 -- ---- veneers
 

@@ -1,7 +1,8 @@
 -- Veneers that stand, and the windows of uses, as code and uses are added.
-use Rattle.std.proofs.Common.{◌≡◌, ◌≢◌, ℕ, ◌+◌, ◌-◌, ◌%◌, ◌≤◌, ◌⊎◌, inl, inr, true, false, List, [], ◌∷◌, ◌++◌, length, take, drop, set, Option, Some, None, refl, ap, sym, ◌∙◌, subst, arith}
-use Rattle.mach_buffer.proofs.Words.{true≢false, same_Some, slice_get-map, drop_at, drop-drop, drop-take, take-take, length-append, length-drop, take_all, set-append_left, map-set, set-get_or, slice_get, Kinds, IsVeneer, IsFresh, Use, veneer_use, core, recorded, window, IsApart, AreWindows, deadline, HasVeneer, IsLinked, common_steps, gets}
-use Rattle.mach_buffer.proofs.Lists.{append_each, below, both_lists, changed, locate, none_some, one_there, only_one, set_each, slice_get-append, slice_get-append_last, slice_get-set_other, take_front, mapped}
+use Rattle.std.proofs.Common.{[], ◌≡◌, ◌≢◌, ℕ, ◌+◌, ◌-◌, ◌%◌, ◌≤◌, ◌⊎◌, inl, inr, true, false, List, ◌∷◌, ◌++◌, length, take, drop, set, Option, Some, None, refl, ap, sym, ◌∙◌, subst, arith}
+use Rattle.std.proofs.Math.Seq.{drop-append-add}
+use Rattle.mach_buffer.proofs.Words.{true≢false, same_Some, slice_get-map, drop-take, take-take, length-append, length-drop, take_all, set-append_left, map-set, set-get_or, slice_get, Kinds, IsVeneer, IsFresh, Use, veneer_use, core, recorded, window, IsApart, AreWindows, deadline, HasVeneer, IsLinked, common_steps, gets}
+use Rattle.mach_buffer.proofs.Lists.{append_each, below, both_lists, changed, locate, one_there, only_one, set_each, slice_get-append, slice_get-append_last, slice_get-set_other, take_front, mapped}
 use Rattle.mach_buffer.proofs.Windows.{fresh_in_prefix}
 
 -- the veneer of each kind that has one
@@ -26,16 +27,13 @@ module _ {L : Type 0} {kinds : Kinds L} {bytes : List ℕ} {uses : List (Use L)}
   -- bytes are added
   pub linked_bytes : IsLinked kinds bytes uses → (more : List ℕ) → IsLinked kinds (bytes ++ more) uses
   linked_bytes l more =
-      let long = length-append bytes more in
-      record {
-        each = λ j u at h e. let v = l.each j u at h e in has_stays u.veneer (bytes ++ more) uses (take_front bytes more) (omega arith) v v.own;
-        before = λ j u h. let b = l.before j u h in omega arith;
-      }
+      let longer : length bytes ≤ length (bytes ++ more) = omega (arith, length-append bytes more) in
+      record { each = λ j u at h e. let v = l.each j u at h e in has_stays u.veneer (bytes ++ more) uses (take_front bytes more) longer v v.own; before = λ j u h. omega (arith, l.before j u h, longer) }
 
   -- a use is added, with no veneer yet
   pub linked_use : IsLinked kinds bytes uses → (u : Use L) → u.veneer ≡ None → u.offset ≤ length bytes → IsLinked kinds bytes (uses ++ u ∷ [])
   linked_use l u bare le = record {
-    each = λ j x at h e. append_each (λ x. (at : ℕ) → x.veneer ≡ Some at → HasVeneer kinds bytes (uses ++ u ∷ []) x at) uses u (λ at e. absurd (none_some u.veneer at bare e))
+    each = λ j x at h e. append_each (λ x. (at : ℕ) → x.veneer ≡ Some at → HasVeneer kinds bytes (uses ++ u ∷ []) x at) uses u (λ at e. absurd (cc))
         (λ j x h at e. let v = l.each j x at h e in has_stays x.veneer bytes (uses ++ u ∷ []) (take_all (length bytes) bytes (omega arith)) (omega arith) v (slice_get-append uses (u ∷ []) v.index _ v.own)) j x h at e;
     before = append_each (λ x. x.offset ≤ length bytes) uses u le l.before;
   }
@@ -65,16 +63,11 @@ recorded_get = mapped core
 -- ---- the windows of uses, as a buffer grows
 
 pub windows_bytes : {L : Type 0} {kinds : Kinds L} {bytes : List ℕ} {uses : List (Use L)} → AreWindows kinds bytes uses → (more : List ℕ) → AreWindows kinds (bytes ++ more) uses
-windows_bytes {L} {kinds} {bytes} w more =
+windows_bytes {L} {kinds} {bytes} {uses} w more =
     let long = length-append bytes more in
-    record {
-      even = w.even;
-      inside = λ j u h. let i = w.inside j u h in omega arith;
-      fresh = λ j u h. subst (IsFresh (kinds.fields u.kind)) (sym (window_stays bytes (bytes ++ more) u.offset (length (kinds.fields u.kind)) (w.inside j u h) (take_front bytes more))) (w.fresh j u h);
-      apart = w.apart;
-      veneers = λ j u at h e. let i = w.veneers j u at h e in omega arith;
-      clear = w.clear;
-    }
+    let fresh : (j : ℕ) (u : Use L) → slice_get uses j ≡ Some u → IsFresh (kinds.fields u.kind) (window (bytes ++ more) u.offset (length (kinds.fields u.kind))) =
+    λ j u h. rw (window_stays bytes (bytes ++ more) u.offset (length (kinds.fields u.kind)) (w.inside j u h) (take_front bytes more)) (w.fresh j u h) in
+    grind (arith, w.inside, w.veneers)
 
 pub windows_none : {L : Type 0} {kinds : Kinds L} → AreWindows kinds [] []
 windows_none {L} {kinds} = grind arith
@@ -82,7 +75,7 @@ windows_none {L} {kinds} = grind arith
 window_block : (bytes block : List ℕ) (place size : ℕ) → length bytes ≤ place → window (bytes ++ block) place size ≡ window block (place - length bytes) size
 window_block bytes block place size le =
     let split : length bytes + (place - length bytes) ≡ place = omega arith in
-    ap (take size) (ap (λ n. drop n (bytes ++ block)) (sym split) ∙ sym (drop-drop (place - length bytes) (length bytes) (bytes ++ block)) ∙ ap (drop (place - length bytes)) (drop_at bytes block (length bytes) refl))
+    ap (take size) (ap (λ n. drop n (bytes ++ block)) (sym split) ∙ drop-append-add bytes block (place - length bytes))
 
 -- ---- a sequence with its own uses
 
@@ -103,7 +96,7 @@ windows_block {L} {kinds} {bytes} {uses} w block own o = record {
       (λ k x q. subst (IsFresh (kinds.fields x.kind)) (sym (window_block bytes block x.offset (length (kinds.fields x.kind)) (o.begins k x q))) (o.fresh k x q));
   apart = λ j k u v ne hj hk. grind (arith, locate uses own j u hj, locate uses own k v hk, w.apart j k u v, o.apart, w.inside j u, w.inside k v, o.begins);
   veneers = λ j u at h e. both_lists (λ x. (to : ℕ) → x.veneer ≡ Some to → to + 8 ≤ length (bytes ++ block)) uses own
-      (λ k x q to v. let i = w.veneers k x to q v in omega (arith, length-append bytes block)) (λ k x q to v. absurd (none_some x.veneer to (o.bare k x q) v)) j u h at e;
+      (λ k x q to v. let i = w.veneers k x to q v in omega (arith, length-append bytes block)) (λ k x q to v. let bare = o.bare k x q in absurd (cc)) j u h at e;
   clear = λ j k u v at hj e hk. grind (arith, locate uses own j u hj, locate uses own k v hk, w.clear j k u v at, w.veneers j u at, o.begins, o.bare);
 }
 
@@ -113,14 +106,8 @@ pub windows_use : {L : Type 0} {kinds : Kinds L} {bytes : List ℕ} {uses : List
 windows_use {L} {kinds} {bytes} w block u from bare even at ends fresh =
     let start : u.offset - length bytes ≡ from = omega arith in
     let there : IsFresh (kinds.fields u.kind) (window block (u.offset - length bytes) (length (kinds.fields u.kind))) = rw start fresh in
-    windows_block w block (u ∷ []) (record {
-      bare = only_one (λ x. x.veneer ≡ None) u bare;
-      even = only_one (λ x. x.offset % 2 ≡ 0) u even;
-      begins = λ k x h. grind (arith, one_there u k x h);
-      ends = λ k x h. grind (arith, one_there u k x h);
-      fresh = only_one (λ x. IsFresh (kinds.fields x.kind) (window block (x.offset - length bytes) (length (kinds.fields x.kind)))) u there;
-      apart = λ j k x y ne hj hk. grind (arith, one_there u j x hj, one_there u k y hk);
-    })
+    let alone = only_one (λ x. IsFresh (kinds.fields x.kind) (window block (x.offset - length bytes) (length (kinds.fields x.kind)))) u there in
+    windows_block w block (u ∷ []) (grind (arith, one_there u))
 
 -- ---- a veneer
 
@@ -151,16 +138,8 @@ veneer_put {L} {kinds} {bytes} {uses} law l i u there near supported even =
     let long : length (bytes ++ V.bytes) ≡ length bytes + 8 = length-append bytes V.bytes ∙ ap (λ n. length bytes + n) ok.eight in
     let more = linked_use (linked_bytes l V.bytes) own refl (omega (arith, long, ok.inside)) in
     let still = slice_get-append uses (own ∷ []) i u there in
-    let has : HasVeneer kinds (bytes ++ V.bytes) (uses ++ own ∷ []) u (length bytes) = record {
-      inside = omega (arith, long);
-      code = ap (window (bytes ++ V.bytes) (length bytes)) (sym ok.eight) ∙ window_last bytes V.bytes;
-      index = length uses;
-      own = slice_get-append_last uses own;
-      near = near;
-      after = l.before i u there;
-      supported = supported;
-      even = even;
-    } in
+    let code = ap (window (bytes ++ V.bytes) (length bytes)) (sym ok.eight) ∙ window_last bytes V.bytes in
+    let has : HasVeneer kinds (bytes ++ V.bytes) (uses ++ own ∷ []) u (length bytes) = grind (arith, slice_get-append_last uses own, l.before i u there) in
     let rest = drop V.place V.bytes in
     let fresh = fresh_in_prefix (kinds.fields V.kind) 0 (length rest) (length (kinds.fields V.kind)) rest (omega (arith, length-drop V.place V.bytes, ok.eight, ok.inside)) (omega arith) (subst (IsFresh (kinds.fields V.kind)) (sym (take_all (length rest) rest (omega arith))) ok.fresh) in
     rw (← set-append_left uses (own ∷ []) i (record u { veneer = Some (length bytes) }) (below uses i u there)) (

@@ -1,6 +1,6 @@
 -- Elements of lists by their places.
-use Rattle.std.proofs.Common.{◌≡◌, ◌≢◌, ℕ, zero, suc, ◌+◌, ◌<◌, ◌⊎◌, inl, inr, ⊎_elim, List, [], ◌∷◌, ◌++◌, length, drop, map, set, Option, Some, None, refl, ap, sym, ◌∙◌, subst, arith}
-use Rattle.mach_buffer.proofs.Words.{drop-map, cases_eq, common_steps, same_Some, gets, slice_get, slice_index_or, slice_get-map, option_map}
+use Rattle.std.proofs.Common.{[], ◌≡◌, ◌≢◌, ℕ, zero, suc, ◌+◌, ◌<◌, ◌⊎◌, inl, inr, ⊎_elim, List, ◌∷◌, ◌++◌, length, drop, map, set, Option, Some, None, refl, ap, sym, ◌∙◌, subst, arith}
+use Rattle.mach_buffer.proofs.Words.{drop-map, cases_eq, common_steps, same_Some, gets, slice_get, slice_index_or, slice_get-map, slice_get_cases, option_map}
 pub use Rattle.std.proofs.lemmas.Option.{slice_get_within as below}
 pub use Rattle.std.proofs.lemmas.List.{append-nil as append_none}
 pub use Rattle.std.proofs.Math.Seq.{take-append_seam as take_front}
@@ -72,12 +72,7 @@ append_each P xs y py h j x k = ⊎_elim (λ a. h j x a) (λ a. subst P a.1 py) 
 
 -- one below the length is found
 pub found_at : {X : Type 0} (xs : List X) (n : ℕ) → n < length xs → (x : X) × (slice_get xs n ≡ Some x)
-found_at [] n lt = absurd (omega arith)
-found_at (x ∷ xs) zero lt = (x, refl)
-found_at (x ∷ xs) (suc n) lt = found_at xs n (omega arith)
-
-pub none_some : {X : Type 0} (o : Option X) (x : X) → o ≡ None → o ≡ Some x → ⊥
-none_some o x p q = cc
+found_at xs n lt = ⊎_elim (λ a. (a.0, a.2)) (λ b. absurd (omega (arith, b.0))) (slice_get_cases xs n).1
 
 pub none_of : {X : Type 0} (o : Option X) → ((x : X) → o ≡ Some x → ⊥) → o ≡ None
 none_of o never = grind (arith, never)

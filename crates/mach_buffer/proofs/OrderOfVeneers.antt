@@ -1,7 +1,8 @@
 -- What the order of veneers says of uses, that each reaches its veneer, and how sorted keys give the order.
-use Rattle.std.proofs.Common.{◌≡◌, ◌≢◌, ℕ, suc, ◌+◌, ◌<◌, ◌≤◌, Bool, true, cond, List, [], ◌∷◌, length, map, Option, Some, refl, ap, sym, ◌∙◌, arith, false, ◌++◌, None, subst, Ordering, not, ◌&&◌, append_assoc}
+use Rattle.std.proofs.lemmas.List.{map-id}
+use Rattle.std.proofs.lemmas.Simd.{map-map}
+use Rattle.std.proofs.Common.{[], ◌≡◌, ◌≢◌, ℕ, suc, ◌+◌, ◌<◌, ◌≤◌, Bool, true, cond, List, ◌∷◌, length, map, Option, Some, refl, ap, sym, ◌∙◌, arith, false, ◌++◌, None, subst, Ordering, not, ◌&&◌, append_assoc}
 use Rattle.mach_buffer.proofs.Words.{nat_tests, get_or_from_slice_get, length-map, map-append, is_count_by, IsPermutation-map, length_permutation, sum_by-IsPermutation, ranks_by, sorted_far, IsPermutation-append_right, IsPermutation-trans, All-permutation, nat_cmp_total, on_total, then_total, All-map, slice_get, nat_eq, nat_le, IsPermutation, slice_index_or, filter, IsSorted, Kinds, Use, is_reached, is_pending, deadlines, due_by, StillReaches, is_other, numbers_of, by_deadline, by_place, by_number, IsOrder, deadline_in, deadline_at, test_at, keys_where, is_queued, queue_of, is_other_queued, key_number, Keeps, AreKept, IsNone, CanPut, IsStrictWeakOrder, nat_cmp, ordering_then, is_lt, MachLabel, PendingKey, Pending}
-use Rattle.mach_buffer.proofs.Slack.{reaches_next, reaches_due}
 use Rattle.mach_buffer.proofs.QueueContents.{IsNumber, number_is, numbers_differ, number_there, none_by, deadlines_from, numbers_parts, keeps_fewer}
 use Rattle.mach_buffer.proofs.Lists.{below, comes_from}
 
@@ -26,11 +27,13 @@ module _ {L : Type 0} (kinds : Kinds L) (test : Use L → Bool) (uses : List (Us
   can_list cur (i ∷ order) reach may each pairs =
       let n = each 0 i refl in
       let D : ℕ → ℕ = deadline_at kinds uses in
-      let near = reaches_due cur (D i) (map D order) reach in
-      let sooner : (end : ℕ) → 1 ≤ due_by end (map D order) → D i ≤ end = λ end. none_sooner D (D i) end order (λ k j h. (pairs 0 (suc k) i j (omega arith) refl h).1) in (
+      let near : cur ≤ D i = grind (arith, nat_tests, reach.each (D i)) in
+      let sooner : (end : ℕ) → 1 ≤ due_by end (map D order) → D i ≤ end = λ end. none_sooner D (D i) end order (λ k j h. (pairs 0 (suc k) i j (omega arith) refl h).1) in
+      -- the soonest gets its veneer: eight bytes on, and one less is due
+      let next : StillReaches (cur + 8) (map D order) = record { each = λ end one. grind (arith, nat_tests, sooner end, reach.each end) } in (
         record { user = n.user; there = n.there; supported = may n.user n.holds; near = omega (arith, ap (deadline_in kinds) n.there) },
         none_by i order (λ k j h e. (pairs 0 (suc k) i j (omega arith) refl h).0 (sym e)),
-        can_list (cur + 8) order (reaches_next cur (D i) (map D order) sooner reach) may (λ k j h. each (suc k) j h) (λ a b x y lt ha hb. pairs (suc a) (suc b) x y (omega arith) ha hb),
+        can_list (cur + 8) order next may (λ k j h. each (suc k) j h) (λ a b x y lt ha hb. pairs (suc a) (suc b) x y (omega arith) ha hb),
       )
 
 -- ---- the uses of an order
@@ -71,10 +74,6 @@ keys_are : {L : Type 0} (kinds : Kinds L) (test : Use L → Bool) (uses : List (
 keys_are kinds test uses [] = refl
 keys_are kinds test uses (n ∷ ns) = grind (arith, nat_tests, keys_are kinds test uses ns)
 
-numbers_back : {L : Type 0} (kinds : Kinds L) (uses : List (Use L)) (ns : List ℕ) → map key_number (map (key_at kinds uses) ns) ≡ ns
-numbers_back kinds uses [] = refl
-numbers_back kinds uses (n ∷ ns) = ap (λ is. n ∷ is) (numbers_back kinds uses ns)
-
 -- ---- sorted keys
 
 abbrev key_cmp : PendingKey → PendingKey → Ordering
@@ -96,8 +95,8 @@ numbers_queues {L} kinds place after_island uses =
     let test = is_other kinds place after_island in
     let Q : ℕ → Use L → Bool = λ n. is_other_queued kinds place n after_island in
     let rest : Use L → Bool = λ u. test u && not (nat_eq (queue_of kinds u) 0) in
-    let first = numbers_parts test (Q 0) rest (λ u. nat_eq (queue_of kinds u) 0) (λ u. grind (arith, nat_tests)) (λ u. refl) 0 uses in
-    let second = numbers_parts rest (Q 1) (Q 2) (λ u. nat_eq (queue_of kinds u) 1) (λ u. grind (arith, nat_tests)) (λ u. grind (arith, nat_tests)) 0 uses in
+    let first = numbers_parts test (Q 0) rest (λ u. nat_eq (queue_of kinds u) 0) (λ u. grind (arith, nat_tests)) (λ u. refl) uses in
+    let second = numbers_parts rest (Q 1) (Q 2) (λ u. nat_eq (queue_of kinds u) 1) (λ u. grind (arith, nat_tests)) (λ u. grind (arith, nat_tests)) uses in
     let both = IsPermutation-append_right (numbers_of (Q 0) uses) (numbers_of rest uses) (numbers_of (Q 1) uses ++ numbers_of (Q 2) uses) second in
     IsPermutation-trans (numbers_of test uses) (numbers_of (Q 0) uses ++ numbers_of rest uses) (numbers_of (Q 0) uses ++ numbers_of (Q 1) uses ++ numbers_of (Q 2) uses) first (rw (append_assoc (numbers_of (Q 0) uses) (numbers_of (Q 1) uses) (numbers_of (Q 2) uses)) both)
 
@@ -114,7 +113,7 @@ module _ {L : Type 0} {kinds : Kinds L} {place : ℕ → Option ℕ} {uses : Lis
       let second : near_keys ≡ map K (numbers_of (Q 0) uses ++ numbers_of (Q 1) uses) = en ∙ (λ i. first i ++ queue 1 _ _ k.near i) ∙ sym (map-append K (numbers_of (Q 0) uses) (numbers_of (Q 1) uses)) in
       let whole : keys ≡ map K N = et ∙ (λ i. second i ++ queue 2 _ _ k.far i) ∙ sym (map-append K (numbers_of (Q 0) uses ++ numbers_of (Q 1) uses) (numbers_of (Q 2) uses)) in
       let exactly : IsPermutation (numbers_of (is_other kinds place after_island) uses) (map key_number sorted) =
-      IsPermutation-trans _ N (map key_number sorted) (numbers_queues kinds place after_island uses) (rw (whole, numbers_back kinds uses N) at (IsPermutation-map key_number keys sorted perm)) in
+      IsPermutation-trans _ N (map key_number sorted) (numbers_queues kinds place after_island uses) (rw (whole, map-map key_number K N ∙ map-id N) at (IsPermutation-map key_number keys sorted perm)) in
       -- each key is that of the use of its number
       let IsKey : PendingKey → Type 0 = λ t. K t.index ≡ t in
       let each : (j : ℕ) (t : PendingKey) → slice_get sorted j ≡ Some t → K t.index ≡ t = λ j t h.

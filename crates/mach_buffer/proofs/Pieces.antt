@@ -1,10 +1,10 @@
 -- A piece of code, with one use or none, as it is put and in finished code.
-use Rattle.std.proofs.Common.{◌≡◌, ℕ, ◌+◌, ◌%◌, ◌≤◌, inl, inr, ⊎_elim, List, [], ◌∷◌, ◌++◌, length, Option, Some, None, refl, ap, sym, ◌∙◌, subst, arith}
+use Rattle.std.proofs.Common.{[], ◌≡◌, ℕ, ◌+◌, ◌%◌, ◌≤◌, inl, inr, ⊎_elim, List, ◌∷◌, ◌++◌, length, Option, Some, None, refl, ap, sym, ◌∙◌, subst, arith}
 use Rattle.mach_buffer.proofs.Words.{false_from_ne_true, same_Some, length-append, take_all, slice_get, Kinds, Veneer, IsFresh, Patch, Use, Shape, with_bytes, with_use, core, recorded, HasVeneer, window, IsApart, AreWindows, AllEnd, KeepsOthers, patch_of, patches_of, is_pending, IsVia, Arrives, Finishes, Grows, Lasts, IsPiece, UseFinished, AllStand, HasConstants}
 use Rattle.mach_buffer.proofs.Lasting.{grows_more}
 use Rattle.mach_buffer.proofs.LastVeneers.{some_place, finish_keeps}
 use Rattle.mach_buffer.proofs.Links.{window_stays, window_last, recorded_get, windows_bytes, windows_use}
-use Rattle.mach_buffer.proofs.Lists.{comes_from, map_each, none_some, slice_get-append, slice_get-append_last, mapped}
+use Rattle.mach_buffer.proofs.Lists.{comes_from, map_each, slice_get-append, slice_get-append_last, mapped}
 use Rattle.mach_buffer.proofs.OrderOfVeneers.{not_pending}
 use Rattle.mach_buffer.proofs.VeneersAndConstants.{recorded_at}
 
@@ -80,7 +80,7 @@ module _ {L : Type 0} {kinds : Kinds L} {s f : Shape L} {piece bytes : List ℕ}
               -- one in reach of its label has no veneer
               straight = λ h reached.
                   let put = finish_keeps fin J (core w.from) h (false_from_ne_true (is_pending kinds f.place (core w.from)) (not_pending kinds f.place (core w.from) reached)) in
-                  absurd (none_some w.from.veneer at (ap (λ (y : Use L). y.veneer) (sym (same_Some (core w.from) w.from (sym put ∙ w.there)))) e);
+                  absurd (let bare = ap (λ (y : Use L). y.veneer) (same_Some (core w.from) w.from (sym put ∙ w.there)) in cc);
             }
       ] in
       subst (UseFinished kinds s f fin.put bytes piece) same (finished refl (fin.arrive J w.from to.0 w.there to.1))

@@ -1,8 +1,8 @@
 -- Uses by their numbers, and the queues of pending uses, as uses and labels come, and the search in them for a deadline that might be missed.
-use Rattle.std.proofs.Common.{◌≡◌, ℕ, ◌+◌, ◌*◌, ◌<◌, ◌≤◌, Bool, true, false, List, [], ◌∷◌, ◌++◌, length, map, Option, Some, None, ap, sym, ◌∙◌, arith, ◌-◌, refl, ◌≢◌, zero, suc, not, ◌&&◌, cond, take, get_or, append_assoc, add-one}
-use Rattle.mach_buffer.proofs.Words.{nat_tests, and_left, true_from_ne_false, nil_from_length, length-append, map-append, length-map, filter-append, is_count_by, count_by-le-length, IsPermutation-refl, slice_get, filter, count_by, is_some, Kinds, Use, Pending, deadline, is_pending, deadlines, due_by, HasSlack, AllOf, island_margin, is_needed_from, numbers_of, test_at, use_where, is_due_at, deadline_at, is_queued, queue_of, HoldNone, slack_after, Keeps, AreKept, due_in, shows_slack, true≢false, get_or_from_slice_get, slice_get-get_or, length_push, length-take-le, get_or-take, get_or-le-sum_by, sum_by_more_le, IsPermutation-cons, IsPermutation-sym, IsPermutation-trans, IsPermutation-middle, sum_by-IsPermutation, nat_eq, IsPermutation, numbers_from, passes, IsNone}
+use Rattle.std.proofs.Common.{[], ◌≡◌, ℕ, ◌+◌, ◌*◌, ◌<◌, ◌≤◌, Bool, true, false, List, ◌∷◌, ◌++◌, length, map, Option, Some, None, ap, sym, subst, ◌∙◌, arith, ◌-◌, refl, ◌≢◌, zero, suc, not, ◌&&◌, cond, take, get_or, append_assoc, add-one}
+use Rattle.mach_buffer.proofs.Words.{nat_tests, and_left, true_from_ne_false, nil_from_length, length-append, map-append, length-map, filter-append, is_count_by, count_by-le-length, IsPermutation-refl, slice_get, filter, count_by, is_some, Kinds, Use, Pending, deadline, is_pending, deadlines, due_by, HasSlack, island_margin, is_needed_from, numbers_of, test_at, use_where, is_due_at, deadline_at, is_queued, queue_of, HoldNone, slack_after, Keeps, AreKept, due_in, shows_slack, true≢false, get_or_from_slice_get, slice_get-get_or, length_push, length-take-le, get_or-take, get_or-le-sum_by, sum_by_more_le, IsPermutation-filter_both, sum_by-IsPermutation, nat_eq, IsPermutation, numbers_from, passes, IsNone}
 use Rattle.mach_buffer.proofs.Lists.{below, append_each, append_none, slice_get-append_last, slice_get-append, slice_get-append_at}
-use Rattle.mach_buffer.proofs.Slack.{due_append, due_fewer, due_le_length, deadlines_append, slack_same, none_from, each_due, slack_not_needed}
+use Rattle.mach_buffer.proofs.Slack.{due_append, due_fewer, due_le_length, deadlines_append, slack_same, none_from, slack_not_needed}
 
 -- the deadlines of uses are those at their numbers
 pub deadlines_from : {L : Type 0} (kinds : Kinds L) (test : Use L → Bool) (front uses : List (Use L)) → deadlines test kinds uses ≡ map (deadline_at kinds (front ++ uses)) (numbers_from (length front) test uses)
@@ -11,12 +11,12 @@ deadlines_from kinds test front (u ∷ uses) =
     let rest = rw (append_assoc, length_push, add-one) at (deadlines_from kinds test (front ++ u ∷ []) uses) in
     grind (arith, nat_tests, slice_get-append_at front u uses, rest)
 
--- a test that asks more
-pub numbers_fewer : {L : Type 0} (test new_test : Use L → Bool) → ((u : Use L) → new_test u ≡ true → test u ≡ true) → (front uses : List (Use L)) → filter (test_at new_test (front ++ uses)) (numbers_from (length front) test uses) ≡ numbers_from (length front) new_test uses
-numbers_fewer test new_test sub front [] = refl
-numbers_fewer test new_test sub front (u ∷ uses) =
-    let rest = rw (append_assoc, length_push, add-one) at (numbers_fewer test new_test sub (front ++ u ∷ []) uses) in
-    grind (arith, nat_tests, sub u, slice_get-append_at front u uses, rest)
+-- a test that asks more, of uses or of their numbers
+pub numbers_where : {L : Type 0} (test new_test : Use L → Bool) (passes_too : ℕ → Bool) (front uses : List (Use L)) → ((i : ℕ) (u : Use L) → slice_get (front ++ uses) i ≡ Some u → new_test u ≡ (test u && passes_too i)) → filter passes_too (numbers_from (length front) test uses) ≡ numbers_from (length front) new_test uses
+numbers_where test new_test passes_too front [] same = refl
+numbers_where test new_test passes_too front (u ∷ uses) same =
+    let rest = rw (length_push, add-one) at (numbers_where test new_test passes_too (front ++ u ∷ []) uses (λ i w h. same i w (rw append_assoc at h))) in
+    grind (arith, nat_tests, same (length front) u, slice_get-append_at front u uses, rest)
 
 pub filter_fewer : {L : Type 0} (test new_test : Use L → Bool) → ((u : Use L) → new_test u ≡ true → test u ≡ true) → (uses : List (Use L)) (ns : List ℕ) → filter (test_at new_test uses) (filter (test_at test uses) ns) ≡ filter (test_at new_test uses) ns
 filter_fewer test new_test sub uses [] = refl
@@ -31,17 +31,12 @@ pub filter_more : {L : Type 0} (test : Use L → Bool) (uses : List (Use L)) (u 
 filter_more test uses u [] low = refl
 filter_more test uses u (n ∷ ns) low = grind (arith, nat_tests, slice_get-append uses (u ∷ []) n (get_or uses n u) (slice_get-get_or uses n u (low 0 n refl)), slice_get-get_or uses n u, low 0 n, filter_more test uses u ns (λ k i h. low (suc k) i h))
 
--- ---- two parts of a test
-
-parts_more : (N A B : List ℕ) (n : ℕ) (t s : Bool) → IsPermutation N (A ++ B) → IsPermutation (cond t (n ∷ N) N) (cond (t && s) (n ∷ A) A ++ cond (t && not s) (n ∷ B) B)
-parts_more N A B n true true rest = IsPermutation-cons n N (A ++ B) rest
-parts_more N A B n true false rest = IsPermutation-trans (n ∷ N) (n ∷ (A ++ B)) (A ++ n ∷ B) (IsPermutation-cons n N (A ++ B) rest) (IsPermutation-sym (A ++ n ∷ B) (n ∷ (A ++ B)) (IsPermutation-middle A n B))
-parts_more N A B n false s rest = rest
-
 -- those of a test and those of its two parts
-pub numbers_parts : {L : Type 0} (test a b : Use L → Bool) (c : Use L → Bool) → ((u : Use L) → a u ≡ (test u && c u)) → ((u : Use L) → b u ≡ (test u && not (c u))) → (n : ℕ) (uses : List (Use L)) → IsPermutation (numbers_from n test uses) (numbers_from n a uses ++ numbers_from n b uses)
-numbers_parts test a b c ha hb n [] = IsPermutation-refl []
-numbers_parts test a b c ha hb n (u ∷ uses) = rw (ha u, hb u) (parts_more _ _ _ n (test u) (c u) (numbers_parts test a b c ha hb (suc n) uses))
+pub numbers_parts : {L : Type 0} (test a b : Use L → Bool) (c : Use L → Bool) → ((u : Use L) → a u ≡ (test u && c u)) → ((u : Use L) → b u ≡ (test u && not (c u))) → (uses : List (Use L)) → IsPermutation (numbers_of test uses) (numbers_of a uses ++ numbers_of b uses)
+numbers_parts test a b c ha hb uses =
+    let first = numbers_where test a (test_at c uses) [] uses (λ i u h. grind (arith, nat_tests, ha u)) in
+    let second = numbers_where test b (λ i. not (test_at c uses i)) [] uses (λ i u h. grind (arith, nat_tests, hb u)) in
+    subst (IsPermutation (numbers_of test uses)) (λ i. first i ++ second i) (IsPermutation-filter_both (test_at c uses) (λ i. not (test_at c uses i)) (λ i. refl) (numbers_of test uses))
 
 -- ---- the same numbers in another order
 
@@ -124,17 +119,11 @@ module _ {L : Type 0} {kinds : Kinds L} {test : Use L → Bool} {uses : List (Us
   -- a test that asks more
   pub keeps_fewer : (new_test : Use L → Bool) → ((u : Use L) → new_test u ≡ true → test u ≡ true) → Keeps kinds test uses numbers slack → Keeps kinds new_test uses numbers slack
   keeps_fewer new_test sub k =
-      let same = sym (filter_fewer test new_test sub uses numbers) ∙ ap (filter (test_at new_test uses)) k.same ∙ numbers_fewer test new_test sub [] uses in
+      let same = sym (filter_fewer test new_test sub uses numbers) ∙ ap (filter (test_at new_test uses)) k.same ∙ numbers_where test new_test (test_at new_test uses) [] uses (λ i u h. grind (arith, nat_tests, sub u)) in
       let room : 1 ≤ slack → HasSlack slack 0 (deadlines new_test kinds uses) = λ one. slack_same slack 0 _ _ (λ end. due_fewer test new_test kinds end uses sub) (k.room one) in
       assumption
 
-  -- a use that isn't of this queue
-  pub keeps_skip : (u : Use L) → test u ≡ false → Keeps kinds test uses numbers slack → Keeps kinds test (uses ++ u ∷ []) numbers slack
-  keeps_skip u idle k =
-      let long = length-append uses (u ∷ []) in
-      grind (arith, nat_tests, filter_more, numbers_more, append_none, deadlines_append)
-
-  -- and one that is
+  -- a use of this queue, and one that isn't
   pub keeps_push : (u : Use L) → test u ≡ true → Keeps kinds test uses numbers slack → Keeps kinds test (uses ++ u ∷ []) (numbers ++ length uses ∷ []) (slack_after slack (deadline kinds u) (length numbers + 1))
   keeps_push u holds k =
       let long = length-append uses (u ∷ []) in
@@ -143,6 +132,9 @@ module _ {L : Type 0} {kinds : Kinds L} {test : Use L → Bool} {uses : List (Us
       let low = append_each (λ i. i < length (uses ++ u ∷ [])) numbers (length uses) (omega arith) (λ j i h. let l = k.low j i h in omega arith) in
       let room = room_after slack (deadline kinds u) (length numbers + 1) (deadlines test kinds uses) in
       grind (arith, nat_tests, filter-append, filter_more test uses u numbers k.low, numbers_more 0 test uses u, deadlines_append test kinds uses (u ∷ []))
+
+  pub keeps_skip : (u : Use L) → test u ≡ false → Keeps kinds test uses numbers slack → Keeps kinds test (uses ++ u ∷ []) numbers slack
+  keeps_skip u idle k = grind (arith, nat_tests, filter_more, numbers_more, append_none, deadlines_append, length-append uses (u ∷ []))
 
 -- a queue with nothing in it, where nothing passes the test
 pub keeps_none : {L : Type 0} (kinds : Kinds L) (test : Use L → Bool) (uses : List (Use L)) (numbers : List ℕ) (slack : ℕ) → numbers ≡ [] → ((j : ℕ) (u : Use L) → slice_get uses j ≡ Some u → test u ≡ false) → Keeps kinds test uses numbers slack
@@ -160,9 +152,6 @@ pub record Tidied {L : Type 0} (kinds : Kinds L) (test : Use L → Bool) (uses :
   pub room : 1 ≤ slack → HasSlack slack 0 (map (deadline_at kinds uses) numbers)
 
 module _ {L : Type 0} {kinds : Kinds L} {test : Use L → Bool} {uses : List (Use L)} {numbers taken : List ℕ} {slack : ℕ} where
-  pub tidy_skip : (i : ℕ) → None ≡ use_where test uses i → Tidied kinds test uses numbers slack taken → Tidied kinds test uses numbers slack (taken ++ i ∷ [])
-  tidy_skip i none t = grind (arith, nat_tests, filter-append, append_none)
-
   pub tidy_take : (i : ℕ) (u : Use L) → Some u ≡ use_where test uses i → Tidied kinds test uses numbers slack taken → Tidied kinds test uses (numbers ++ i ∷ []) (slack_after slack (deadline kinds u) (length numbers + 1)) (taken ++ i ∷ [])
   tidy_take i u some t =
       let long = length-map numbers (deadline_at kinds uses) in
@@ -173,7 +162,7 @@ module _ {L : Type 0} {kinds : Kinds L} {test : Use L → Bool} {uses : List (Us
   tidy_end k t =
       let whole : numbers ≡ numbers_of test uses = t.passed ∙ k.same in
       let low : (j i : ℕ) → slice_get numbers j ≡ Some i → i < length uses = λ j i h. let n = number_is test uses (numbers_of test uses) (IsPermutation-refl (numbers_of test uses)) j i (rw whole at h) in below uses i n.user n.there in
-      let same = numbers_fewer test test (λ u h. h) [] uses in
+      let same = numbers_where test test (test_at test uses) [] uses (λ i u h. grind (arith, nat_tests)) in
       grind (arith, deadlines_from kinds test [] uses)
 
 -- ---- all queues
@@ -202,12 +191,9 @@ count_parts kinds place (u ∷ uses) = grind (arith, nat_tests, count_parts kind
 
 -- ---- where slack is and isn't
 
-not_needed_from : (cur : ℕ) (all ds : List ℕ) → AllOf (λ d. cur + island_margin + 8 * due_by d all ≤ d) ds → is_needed_from cur all ds ≡ false
-not_needed_from cur all [] h = refl
-not_needed_from cur all (d ∷ ds) h = grind (arith, nat_tests, h.0, not_needed_from cur all ds h.1)
-
-pub not_needed : (cur : ℕ) (ds : List ℕ) → HasSlack cur island_margin ds → is_needed_from cur ds ds ≡ false
-not_needed cur ds h = not_needed_from cur ds ds (each_due (λ d. cur + island_margin + 8 * due_by d ds ≤ d) ds ds (λ end. omega arith) h.each)
+not_needed : (cur : ℕ) (all ds : List ℕ) → HasSlack cur island_margin all → ((end : ℕ) → due_by end ds ≤ due_by end all) → is_needed_from cur all ds ≡ false
+not_needed cur all [] h part = refl
+not_needed cur all (d ∷ ds) h part = grind (arith, nat_tests, h.each d, part d, not_needed cur all ds h (λ end. grind (arith, nat_tests, part end)))
 
 module _ {L : Type 0} {kinds : Kinds L} {place : ℕ → Option ℕ} {uses : List (Use L)} {p : Pending} where
   -- no island is needed then
@@ -216,14 +202,14 @@ module _ {L : Type 0} {kinds : Kinds L} {place : ℕ → Option ℕ} {uses : Lis
       let sum = due_parts kinds place uses in
       let short = kept_few k.short in
       let near = kept_few k.near in
-      not_needed (start - island_margin) (deadlines (is_pending kinds place) kinds uses) (record { each = λ end one. grind (arith, nat_tests, due_le_length) })
+      not_needed (start - island_margin) (deadlines (is_pending kinds place) kinds uses) _ (record { each = λ end one. grind (arith, nat_tests, due_le_length) }) (λ end. omega arith)
 
 -- wherever too many are due, at most so many are
 pub record IsBound (start count : ℕ) (ds : List ℕ) : Type 0 where
   pub each : (end : ℕ) → end < start + 8 * due_by end ds → due_by end ds ≤ count
 
 pub bound_none : (start : ℕ) (ds : List ℕ) → island_margin ≤ start → IsBound start 0 ds → is_needed_from (start - island_margin) ds ds ≡ false
-bound_none start ds some b = not_needed (start - island_margin) ds (record { each = λ end one. grind (arith, nat_tests, b.each end) })
+bound_none start ds some b = not_needed (start - island_margin) ds ds (record { each = λ end one. grind (arith, nat_tests, b.each end) }) (λ end. omega arith)
 
 pub bound_many : (start count due end : ℕ) (ds : List ℕ) → island_margin ≤ start → 1 ≤ count → end + 1 ≡ start + 8 * count → due ≡ due_by end ds → count ≤ due → is_needed_from (start - island_margin) ds ds ≡ true
 bound_many start count due end ds some one e d many = true_from_ne_false (is_needed_from (start - island_margin) ds ds) (λ q.

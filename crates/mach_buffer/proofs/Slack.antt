@@ -1,5 +1,5 @@
 -- Deadlines and the room before them.
-use Rattle.std.proofs.Common.{◌≡◌, ◌≢◌, ℕ, zero, suc, ◌+◌, ◌*◌, ◌≤◌, Bool, true, false, List, [], ◌∷◌, ◌++◌, length, Option, Some, None, refl, subst, ⊎_elim, arith}
+use Rattle.std.proofs.Common.{[], ◌≡◌, ◌≢◌, ℕ, zero, suc, ◌+◌, ◌*◌, ◌≤◌, Bool, true, false, List, ◌∷◌, ◌++◌, length, Option, Some, None, refl, subst, ⊎_elim, arith}
 use Rattle.mach_buffer.proofs.Words.{nat_tests, cases_lt, or_parts, Use, slice_get, Kinds, AllOf, CanReach, VeneersReach, StillReaches, deadline, is_pending, deadlines, due_by, HasSlack, island_front, island_margin, is_needed_from, is_needed}
 
 -- ---- how many are due
@@ -83,14 +83,6 @@ slack_use test kinds cur slack uses u le h = record { each = λ end one. grind (
 
 -- ---- what is put from here on
 
--- the soonest gets its veneer: eight bytes on, and one less is due
-pub reaches_next : (cur d : ℕ) (ds : List ℕ) → ((end : ℕ) → 1 ≤ due_by end ds → d ≤ end) → StillReaches cur (d ∷ ds) → StillReaches (cur + 8) ds
-reaches_next cur d ds least h = record { each = λ end one. grind (arith, nat_tests, least end, h.each end) }
-
--- and it begins in reach
-pub reaches_due : (cur d : ℕ) (ds : List ℕ) → StillReaches cur (d ∷ ds) → cur ≤ d
-reaches_due cur d ds h = grind (arith, nat_tests, h.each d)
-
 pub reaches_from_slack : (cur slack new_cur : ℕ) (ds : List ℕ) → new_cur ≤ cur + slack + 8 → HasSlack cur slack ds → StillReaches new_cur ds
 reaches_from_slack cur slack new_cur ds le h = record { each = λ end one. let g = h.each end one in omega arith }
 
@@ -104,8 +96,6 @@ slack_from_reach cur ds h = record { each = each_end (λ d n. cur + island_front
 
 pub reach_from_slack : (cur : ℕ) (ds : List ℕ) → HasSlack cur island_front ds → CanReach cur ds
 reach_from_slack cur ds h = each_due (λ d. cur + island_front + 8 * due_by d ds ≤ d) ds ds (λ end. omega arith) h.each
-
--- ---- counts that agree everywhere
 
 abbrev pub total : List ℕ → ℕ
 total [] = 0

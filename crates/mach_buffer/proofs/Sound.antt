@@ -1,6 +1,6 @@
 -- A sound buffer, as calls are made.
-use Rattle.std.proofs.Common.{Bool, inl, ◌<◌, ◌≡◌, ℕ, ◌+◌, ◌%◌, ◌≤◌, List, [], ◌∷◌, ◌++◌, length, Some, None, sym, subst, arith, ⊎_elim}
-use Rattle.mach_buffer.proofs.Words.{cases_eq, length-append, slice_get, Kinds, MachLabel, Constant, VCodeConstant, Use, Pending, Shape, with_bytes, with_use, with_label, with_allocated, with_named, with_registered, name_more, placed, inner_count, IsKnown, IsUsable, IsOrdered, AreNoted, is_pending, due_by, IsLinked, pending_in, AreKept, HoldNone, Inside, AreSound, IsWhole, nat_tests, AreOrdered}
+use Rattle.std.proofs.Common.{[], Bool, inl, inr, ◌<◌, ◌≡◌, ℕ, ◌+◌, ◌%◌, ◌≤◌, List, ◌∷◌, ◌++◌, length, Some, None, sym, subst, arith, ⊎_elim}
+use Rattle.mach_buffer.proofs.Words.{cases_eq, length-append, slice_get, Kinds, MachLabel, Constant, VCodeConstant, Use, Pending, Shape, with_bytes, with_use, with_label, with_allocated, with_named, with_registered, name_more, placed, inner_count, IsKnown, IsUsable, IsOrdered, AreNoted, is_pending, due_by, pending_in, AreKept, HoldNone, Inside, AreSound, IsWhole, nat_tests, AreOrdered}
 use Rattle.mach_buffer.proofs.ConstantOrder.{placed_other, ordered_named}
 use Rattle.mach_buffer.proofs.QueueContents.{kept_none, kept_fewer}
 use Rattle.mach_buffer.proofs.Links.{linked_bytes, linked_use}
@@ -27,10 +27,6 @@ whole_label {L} {kinds} {s} h label known =
     let ordered : AreOrdered s.allocated (placed s.place label.number (length s.bytes)) s.registered s.named s.constants = grind (arith, nat_tests) in
     assumption
 
--- a label that may be used still may once a constant is named
-usable_named : {L : Type 0} (s : Shape L) (k : VCodeConstant) (label : ℕ) → IsUsable s label → IsUsable (with_named k s) label
-usable_named s k label u = grind (arith, nat_tests, slice_get-append)
-
 -- fewer uses are due once a label is bound
 pub label_fewer : {L : Type 0} (kinds : Kinds L) (s : Shape L) (label : MachLabel) → s.place label.number ≡ None → (t : Shape L) → t ≡ with_label label s → (end : ℕ) → due_by end (pending_in kinds t) ≤ due_by end (pending_in kinds s)
 label_fewer kinds s label none t e end = rw e (due_fewer (is_pending kinds s.place) (is_pending kinds (placed s.place label.number (length s.bytes))) kinds end s.uses (bound_pending kinds s.place _ label.number none (placed_other s.place label.number (length s.bytes))))
@@ -53,36 +49,29 @@ module _ {L : Type 0} {kinds : Kinds L} {s : Shape L} {p : Inside} where
 
   -- a constant is named
   pub sound_named : AreSound kinds s p → (k : VCodeConstant) → k.number < length s.registered → (seen : List Bool) → AreNoted s.registered (name_more k s.named) seen → AreSound kinds (with_named k s) (record { pending = p.pending; seen = seen })
-  sound_named h k known seen noted = sound_known h s.allocated s.registered (name_more k s.named) seen (usable_named s k) (ordered_named s k known (λ label at e. (h.whole.places label at e).2) h.whole.ordered) noted
+  sound_named h k known seen noted = sound_known h s.allocated s.registered (name_more k s.named) seen (λ label u. ⊎_elim (λ known. inl known) (λ c. inr (record { index = c.index; constant = c.constant; there = slice_get-append _ _ c.index c.constant c.there; is = c.is })) u) (ordered_named s k known (λ label at e. (h.whole.places label at e).2) h.whole.ordered) noted
 
   -- constants become known
   pub sound_registered : AreSound kinds s p → (constants : List Constant) → s.registered ≡ [] → length constants ≤ inner_count → (seen : List Bool) → AreNoted constants s.named seen → AreSound kinds (with_registered constants s) (record { pending = p.pending; seen = seen })
   sound_registered h constants none few seen noted = sound_known h s.allocated constants s.named seen (λ label u. u) (let o = h.whole.ordered in grind (arith, nat_tests)) noted
 
   pub sound_label : AreSound kinds s p → (label : MachLabel) → IsKnown label.number s.allocated → s.place label.number ≡ None → AreSound kinds (with_label label s) p
-  sound_label h label known none = record {
-    whole = whole_label h.whole label known;
-    kept = kept_fewer (placed s.place label.number (length s.bytes)) (bound_pending kinds s.place _ label.number none (placed_other s.place label.number (length s.bytes))) h.kept;
-    noted = h.noted;
-  }
+  sound_label h label known none =
+      let whole = whole_label h.whole label known in
+      let kept = kept_fewer (placed s.place label.number (length s.bytes)) (bound_pending kinds s.place _ label.number none (placed_other s.place label.number (length s.bytes))) h.kept in
+      assumption
 
   -- an even number of bytes is put
   pub sound_bytes : AreSound kinds s p → (more : List ℕ) → length more % 2 ≡ 0 → (new : Pending) → AreKept kinds s.place s.uses new → AreSound kinds (with_bytes more s) (record { pending = new; seen = p.seen })
   sound_bytes h more even new kept =
-      let w = h.whole in
       let long = length-append s.bytes more in
-      record {
-        whole = record { linked = linked_bytes w.linked more; even = omega (arith, w.even); places = λ label at e. let q = w.places label at e in (omega arith, q.1, q.2); known = w.known; ordered = w.ordered };
-        kept = kept;
-        noted = h.noted;
-      }
+      let linked = linked_bytes h.whole.linked more in
+      let places : (label at : ℕ) → s.place label ≡ Some at → (at ≤ length (s.bytes ++ more)) × (at % 2 ≡ 0) × IsUsable s label = λ label at e. let q = h.whole.places label at e in (omega arith, q.1, q.2) in
+      grind (arith, h.whole.even)
 
   -- a use is recorded
   pub sound_use : AreSound kinds s p → (u : Use L) → u.veneer ≡ None → u.offset ≤ length s.bytes → IsUsable s u.label.number → (new : Pending) → AreKept kinds s.place (s.uses ++ u ∷ []) new → AreSound kinds (with_use u s) (record { pending = new; seen = p.seen })
   sound_use h u bare there known new kept =
-      let w = h.whole in
-      record {
-        whole = record { linked = linked_use w.linked u bare there; even = w.even; places = w.places; known = append_each (λ x. IsUsable s x.label.number) s.uses u known w.known; ordered = w.ordered };
-        kept = kept;
-        noted = h.noted;
-      }
+      let linked = linked_use h.whole.linked u bare there in
+      let all_known = append_each (λ x. IsUsable s x.label.number) s.uses u known h.whole.known in
+      assumption

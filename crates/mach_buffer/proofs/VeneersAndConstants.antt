@@ -1,10 +1,10 @@
 -- Zero bytes, veneers, and constants, put one after the other.
-use Rattle.std.proofs.Common.{◌≡◌, ℕ, ◌+◌, ◌-◌, ◌*◌, ◌%◌, ◌<◌, ◌≤◌, inr, ⊎_elim, Bool, true, false, List, [], ◌++◌, length, drop, Option, Some, refl, ap, sym, ◌∙◌, subst, arith, ◌⊎◌, inl, ◌∷◌, set, None, append_assoc}
+use Rattle.std.proofs.Common.{[], ◌≡◌, ℕ, ◌+◌, ◌-◌, ◌*◌, ◌%◌, ◌<◌, ◌≤◌, inr, ⊎_elim, Bool, true, false, List, ◌++◌, length, drop, Option, Some, refl, ap, sym, ◌∙◌, subst, arith, ◌⊎◌, inl, ◌∷◌, set, None, append_assoc}
 use Rattle.mach_buffer.proofs.Words.{take-append-drop, nat_tests, length-append, slice_get, IsSomeAnd, first_constant, code_limit, Kinds, Use, ConstPlace, Shape, with_bytes, unplaced_of, IsUsable, is_reached, is_pending, AreWindows, IsLinked, put_all, aligned, padding, with_own, Grows, Lasts, end_after, put_constants, AreOrdered, IsOrdered, AllStand, IsNone, CanPutAll, AddsOwn, le-leb, and_from, length-map, map-append, MachLabel, veneer_use, core, recorded, put_veneer, IsOwn, CanPutAt, CanPut, IsWhole}
 use Rattle.mach_buffer.proofs.Lists.{below, append_none, both_lists, changed, comes_from, locate, only_one, slice_get-append, slice_get-set_other, pushed}
 use Rattle.mach_buffer.proofs.Links.{HasLaw, linked_bytes, windows_bytes, recorded_get, recorded_set, veneer_put}
 use Rattle.mach_buffer.proofs.Lasting.{stays_reached, grows_more, lasts_bytes, lasts_more, lasts_veneers, veneers_last}
-use Rattle.mach_buffer.proofs.ConstantsPut.{length_zeros, ends_is, ConstantsDone, constants_put, stands_last}
+use Rattle.mach_buffer.proofs.ConstantsPut.{length_zeros, ends_is, ConstantsDone, each_done, stands_last}
 
 -- ---- padding
 
@@ -41,14 +41,13 @@ pub adds_none : {L : Type 0} {kinds : Kinds L} (from : ℕ) (uses : List (Use L)
 adds_none from uses = grind (arith, append_none)
 
 pub adds_more : {L : Type 0} {kinds : Kinds L} {from next : ℕ} {uses mid new : List (Use L)} → from ≤ next → AddsOwn kinds from uses mid → AddsOwn kinds next mid new → AddsOwn kinds from uses new
-adds_more {L} {kinds} {from} {next} {uses} {mid} le a b = record {
-  more = a.more ++ b.more;
-  grown = b.grown ∙ ap (λ us. us ++ b.more) a.grown ∙ append_assoc (recorded uses) a.more b.more;
-  own = both_lists (IsOwn kinds uses from) a.more b.more a.own (λ k x h.
-      let o = b.own k x h in
-      let w = own_labels a (λ l. (u : Use L) × (k : ℕ) × (slice_get uses k ≡ Some u) × (u.label ≡ l)) (λ j u q. (u, j, q, refl)) o.user o.used o.there in
-      record { after = (let q = o.after in omega arith); bare = o.bare; final = o.final; far = o.far; user = w.1; used = w.0; there = w.2; names = w.3 ∙ o.names });
-}
+adds_more {L} {kinds} {from} {next} {uses} {mid} le a b =
+    let grown = b.grown ∙ ap (λ us. us ++ b.more) a.grown ∙ append_assoc (recorded uses) a.more b.more in
+    let own = both_lists (IsOwn kinds uses from) a.more b.more a.own (λ k x h.
+    let o = b.own k x h in
+    let w = own_labels a (λ l. (u : Use L) × (k : ℕ) × (slice_get uses k ≡ Some u) × (u.label ≡ l)) (λ j u q. (u, j, q, refl)) o.user o.used o.there in
+    record { after = omega (arith, o.after); bare = o.bare; final = o.final; far = o.far; user = w.1; used = w.0; there = w.2; names = w.3 ∙ o.names }) in
+    record { more = a.more ++ b.more; grown = grown; own = own }
 
 -- ---- between two veneers
 
@@ -172,7 +171,7 @@ extended {L} {kinds} law pad order s w even can =
     let last = veneers_last kinds order padded in
     let t : Shape L = record s { bytes = (put_all kinds order padded).bytes; uses = (put_all kinds order padded).uses } in
     let d = put_constants t in
-    let c : ConstantsDone kinds t d (unplaced_of t) [] = constants_put kinds t w.ordered in
+    let c : ConstantsDone kinds t d (unplaced_of t) [] = each_done (unplaced_of t) t refl w.ordered in
     let longer = c.lasts.grows.longer in
     let more = drop (length t.bytes) d.bytes in
     let bytes : t.bytes ++ more ≡ d.bytes = ap (λ bs. bs ++ more) (sym c.lasts.grows.before) ∙ take-append-drop (length t.bytes) d.bytes in

@@ -1,5 +1,5 @@
 -- Windows of bytes, and patches one after the other.
-use Rattle.std.proofs.Common.{◌≡◌, ℕ, ◌+◌, ◌-◌, ◌≤◌, List, [], ◌∷◌, ◌++◌, ◌⊎◌, length, take, drop, ap, sym, subst, ◌∙◌, arith, inl, inr, ◌≢◌, ◌<◌, Some, ⊎_elim, pos, ◌-ℤ◌}
+use Rattle.std.proofs.Common.{[], ◌≡◌, ℕ, ◌+◌, ◌-◌, ◌≤◌, List, ◌∷◌, ◌++◌, ◌⊎◌, length, take, drop, ap, sym, subst, ◌∙◌, arith, inl, inr, ◌≢◌, ◌<◌, Some, ⊎_elim, pos, ◌-ℤ◌}
 use Rattle.mach_buffer.proofs.Words.{get_or-take, drop-take, take-take, take_at, take_rest, drop-drop, drop_at, length-append, length-take-le, slice_get_within, same_Some, cases_lt, IsFreshFrom, SameOutside, SameOutsideFrom, Kinds, window, ChangesOnly, CanPatch, CanPatchAll, KeepsOthers, slice_get, Patch, common_steps}
 use borrow.Rule.Slice.PartMut.{put_mid}
 

@@ -6,14 +6,12 @@ pub use Rattle.std.proofs.lemmas.Grind.{common_steps}
 pub use Rattle.std.proofs.lemmas.List.{append-nil, drop-drop, drop-map, drop-take, drop_at, drop_more, get_or-take, length-append, length-drop, length-map, length-set, length-take-le, length_push, map-append, map-set, nil_from_length, set-append_left, set-get_or, take-append-drop, take-append-le, take-take, take_all, take_at, take_more, take_rest}
 pub use Rattle.std.proofs.lemmas.List.Elements.{All-map, filter-append}
 pub use Rattle.std.proofs.lemmas.List.Recursion.{is_count_by}
-pub use Rattle.std.proofs.lemmas.List.Sorted.{All-permutation, IsPermutation-append_right, IsPermutation-cons, IsPermutation-map, IsPermutation-middle, IsPermutation-refl, IsPermutation-sym, IsPermutation-trans, length_permutation, ranks_by, sorted_far, sum_by-IsPermutation}
+pub use Rattle.std.proofs.lemmas.List.Sorted.{All-permutation, IsPermutation-append_right, IsPermutation-filter_both, IsPermutation-map, IsPermutation-refl, IsPermutation-trans, length_permutation, ranks_by, sorted_far, sum_by-IsPermutation}
 pub use Rattle.std.proofs.lemmas.List.Sums.{count_by-le-length, get_or-le-sum_by, sum_by_more_le}
-pub use Rattle.std.proofs.lemmas.Option.{get_or_from_slice_get, gets, same_Some, slice_get-get_or, slice_get-map, slice_get_read, slice_get_within}
+pub use Rattle.std.proofs.lemmas.Option.{get_or_from_slice_get, gets, same_Some, slice_get-get_or, slice_get-map, slice_get_cases, slice_get_read, slice_get_within}
 pub use Rattle.std.specs.Cmp.{IsStrictWeakOrder}
-pub use Rattle.std.specs.List.{slice_index_or}
-pub use Rattle.std.specs.Option.{IsSomeAnd, option_map}
 pub use Rattle.std.specs.Ordering.{is_lt, nat_cmp, ordering_then}
-pub use Rattle.std.specs.Prelude.{count_by, filter, if◌then◌else◌, is_some, IsPermutation, IsSorted, nat_eq, nat_le, slice_get, ◌||◌}
+pub use Rattle.std.specs.Prelude.{count_by, filter, if◌then◌else◌, is_some, IsSomeAnd, option_map, slice_index_or, IsPermutation, IsSorted, nat_eq, nat_le, slice_get, ◌||◌}
 pub use Rattle.rv_base.specs.LabelUse.{code_limit, IsFresh, IsFreshFrom, IsVeneer, Kinds, SameOutside, SameOutsideFrom, Veneer}
 pub use Rattle.rv_base.specs.declared.constant.ConstAlign.{ConstAlign}
 pub use Rattle.rv_base.specs.declared.constant.Constant.{Constant}
@@ -21,6 +19,7 @@ pub use Rattle.rv_base.specs.declared.constant.VCodeConstant.{VCodeConstant}
 pub use Rattle.rv_base.specs.declared.label.MachLabel.{MachLabel}
 pub use Rattle.mach_labels.specs.Table.{first_constant, first_inner}
 pub use Rattle.mach_buffer.specs.Buffer.{allocated_of, bytes_of, named_of, place_of, registered_of, shape_of, spoiled_of, uses_of}
+unfoldable pub use Rattle.mach_buffer.specs.Buffer.{IsSound}
 pub use Rattle.mach_buffer.specs.Constants.{aligned_to, alignment_reserve, AllStand, constant_end, constants_end, ConstantStands, end_after, HasConstants, offset_in, put_constant, put_constant_at, put_constants, put_each, reserve_from, reserve_of, zeros}
 pub use Rattle.mach_buffer.specs.Finish.{AllArrive, Arrives, before_last, CanFinish, Finishes, IsVia, last_end, padded_for, pending_in}
 pub use Rattle.mach_buffer.specs.Growth.{Grows, Lasts, RecordsLast}
@@ -31,7 +30,8 @@ pub use Rattle.mach_buffer.specs.Links.{HasVeneer, IsLinked}
 pub use Rattle.mach_buffer.specs.Pieces.{IsPiece, UseFinished}
 pub use Rattle.mach_buffer.specs.Places.{place_in}
 pub use Rattle.mach_buffer.specs.Queues.{AreKept, deadline_at, deadline_in, due_in, HoldNone, is_due_at, is_other_queued, is_queued, Keeps, key_number, keys_where, passes, queue_of, shows_slack, slack_after, test_at, use_where}
-pub use Rattle.mach_buffer.specs.Reach.{AllOf, CanReach, deadline, deadlines, due_by, HasSlack, island_front, island_margin, is_needed, is_needed_from, is_other, is_pending, is_reached, names, StillReaches, VeneersReach}
+pub use Rattle.mach_buffer.specs.Reach.{AllOf, CanReach, deadline, deadlines, due_by, HasSlack, island_front, island_margin, is_needed, is_needed_from, is_other, is_pending, is_reached, StillReaches, VeneersReach}
+pub use Rattle.mach_buffer.specs.Records.{calls_in, finalized_handler, maps_in, offset_or_zero, patches_in, relocs_in, traps_in, tries_in, unwinds_in}
 pub use Rattle.mach_buffer.specs.Shape.{constant_label, core, inner_count, is_named, IsConstantLabel, IsKnown, IsUsable, name_more, placed, recorded, Shape, veneer_use, unplaced_of, with_allocated, with_bytes, with_label, with_named, with_record, with_registered, with_use}
 pub use Rattle.mach_buffer.specs.VeneerConditions.{CanPut, CanPutAll, CanPutAt, IsNone}
 pub use Rattle.mach_buffer.specs.Veneers.{by_deadline, by_number, by_place, IsOrder, numbers_from, numbers_of, put_all, put_at, put_veneer}

@@ -1,5 +1,5 @@
 use Rattle.std.proofs.Common.{◌≡◌, map, take}
-use Rattle.mach_buffer.specs.Records.{finalized_handler, offset_or_zero}
+use Rattle.mach_buffer.proofs.Words.{finalized_handler, offset_or_zero}
 use Rattle.mach_buffer.specs.Places.{place_in}
 use Rattle.mach_buffer.proofs.split.finalized_handlers.Given as goal
 

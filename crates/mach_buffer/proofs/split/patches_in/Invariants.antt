@@ -1,5 +1,5 @@
 use Rattle.std.proofs.Common.{◌≡◌, take}
-use Rattle.mach_buffer.specs.Records.{patches_in}
+use Rattle.mach_buffer.proofs.Words.{patches_in}
 use Rattle.mach_buffer.proofs.split.patches_in.Given as goal
 
 abbrev pub invariant-loop-r : goal.invariant-loop-r

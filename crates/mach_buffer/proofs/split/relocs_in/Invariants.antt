@@ -1,5 +1,5 @@
 use Rattle.std.proofs.Common.{◌≡◌, take}
-use Rattle.mach_buffer.specs.Records.{relocs_in}
+use Rattle.mach_buffer.proofs.Words.{relocs_in}
 use Rattle.mach_buffer.proofs.split.relocs_in.Given as goal
 
 abbrev pub invariant-loop-r : goal.invariant-loop-r

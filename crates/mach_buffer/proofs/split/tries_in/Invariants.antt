@@ -1,5 +1,5 @@
 use Rattle.std.proofs.Common.{◌≡◌, take}
-use Rattle.mach_buffer.specs.Records.{offset_or_zero, tries_in}
+use Rattle.mach_buffer.proofs.Words.{offset_or_zero, tries_in}
 use Rattle.mach_buffer.specs.Places.{place_in}
 use Rattle.mach_buffer.proofs.split.tries_in.Given as goal
 

@@ -1,5 +1,5 @@
 use Rattle.std.proofs.Common.{◌≡◌, take}
-use Rattle.mach_buffer.specs.Records.{unwinds_in}
+use Rattle.mach_buffer.proofs.Words.{unwinds_in}
 use Rattle.mach_buffer.proofs.split.unwinds_in.Given as goal
 
 abbrev pub invariant-loop-r : goal.invariant-loop-r

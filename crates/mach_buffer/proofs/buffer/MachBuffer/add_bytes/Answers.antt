@@ -1,5 +1,5 @@
 use Rattle.std.proofs.Common.{ap, arith}
-use Rattle.mach_buffer.specs.Buffer.{IsSound}
+use Rattle.mach_buffer.proofs.Words.{IsSound}
 use Rattle.mach_buffer.proofs.Sound.{sound_bytes}
 use Rattle.mach_buffer.proofs.buffer.MachBuffer.add_bytes.Goals as goal
 

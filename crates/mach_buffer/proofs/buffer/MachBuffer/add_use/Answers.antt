@@ -1,4 +1,4 @@
-use Rattle.mach_buffer.specs.Buffer.{IsSound}
+use Rattle.mach_buffer.proofs.Words.{IsSound}
 use Rattle.mach_buffer.proofs.Sound.{sound_use}
 use Rattle.mach_buffer.proofs.buffer.MachBuffer.add_use.Goals as goal
 

@@ -1,4 +1,4 @@
-use Rattle.mach_buffer.specs.Buffer.{IsSound, shape_of}
+use Rattle.mach_buffer.proofs.Words.{IsSound, shape_of}
 use Rattle.mach_buffer.proofs.Sound.{sound_label, label_fewer}
 use Rattle.mach_buffer.proofs.buffer.MachBuffer.bind_label.Goals as goal
 

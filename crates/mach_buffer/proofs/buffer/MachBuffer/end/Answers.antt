@@ -1,7 +1,6 @@
 use Rattle.std.proofs.Common.{◌≡◌, ◌∙◌, ap, length, ℕ}
-use Rattle.mach_buffer.specs.Buffer.{IsSound}
+use Rattle.mach_buffer.proofs.Words.{IsSound, relocs_in, traps_in, calls_in, tries_in, patches_in, maps_in, unwinds_in, offset_or_zero}
 use Rattle.mach_buffer.proofs.Words.{take_at, Shape, shape_of, bytes_of, place_of, Finishes}
-use Rattle.mach_buffer.specs.Records.{relocs_in, traps_in, calls_in, tries_in, patches_in, maps_in, unwinds_in, offset_or_zero}
 use Rattle.mach_buffer.proofs.Pieces.{constants_kept}
 use Rattle.mach_buffer.proofs.LastVeneers.{last_done, can_patch_all, all_arrive}
 use Rattle.mach_buffer.proofs.buffer.MachBuffer.end.Goals as goal

@@ -1,5 +1,5 @@
 use Rattle.std.proofs.Common.{arith}
-use Rattle.mach_buffer.specs.Buffer.{IsSound}
+use Rattle.mach_buffer.proofs.Words.{IsSound}
 use Rattle.mach_buffer.proofs.ConstantOrder.{name_there}
 use Rattle.mach_buffer.proofs.Sound.{sound_named}
 use Rattle.mach_buffer.proofs.buffer.MachBuffer.get_label_for_constant.Goals as goal

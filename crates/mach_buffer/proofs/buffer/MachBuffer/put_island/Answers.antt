@@ -1,8 +1,8 @@
 use Rattle.std.proofs.Common.{rules, ◌≡◌, ◌+◌, ◌*◌, ◌-◌, ◌<◌, ◌∙◌, ap, sym, subst, map, length, Some, arith}
-use Rattle.mach_buffer.specs.Buffer.{IsSound}
+use Rattle.mach_buffer.proofs.Words.{IsSound}
 use Rattle.mach_buffer.proofs.Words.{length-map, slice_get, IsSomeAnd, code_limit, Shape, with_label, is_other, deadline, put_all, IsOrder, aligned, padded, needs_own, with_own, end_after, put_constants, key_number, CanPutAll, Inside, inside_of, shape_of, bytes_of}
 use Rattle.mach_buffer.proofs.OrderOfVeneers.{order_long}
-use Rattle.mach_buffer.proofs.IslandVeneers.{IsReady, IslandDone, before_room, pad_room, end_room, jump_there, island_can, island_done}
+use Rattle.mach_buffer.proofs.IslandVeneers.{IsReady, before_room, pad_room, end_room, jump_there, island_can, island_done}
 use Rattle.mach_buffer.proofs.VeneersAndConstants.{length_padded}
 use Rattle.mach_buffer.proofs.buffer.MachBuffer.put_island.Given as given
 use Rattle.mach_buffer.proofs.buffer.MachBuffer.put_island.Goals.{After-len, After-needs_own-needed, In_ok-put_pending}
@@ -56,6 +56,5 @@ returns g c =
     let whole = l.shape ∙ ap (with_label c.args.after_island) (c.in_ok-pad-2.ensures.shape ∙ ap padded (put g d.In_ok-put_pending)) in
     let inside = c.in_ok-pad-2.ensures.inside ∙ c.in_ok-put_pending.ensures.inside ∙ c.in_ok-pad.ensures.inside in
     let new : Inside = record { pending = c.clear.new.self; seen = c.pad-2.new.self.constants.seen.items } in
-    let x : IslandDone g.L.MachInstLabelUse.kinds c.args.after_island s (shape_of c.place_label.new.self) (inside_of c.place_label.new.self) =
-    rw (l.inside, whole) (island_done g.met.L.MachInstLabelUse.veneer_ok s (inside_of c.args.self.now) new c.args.after_island _ c.needs_own-needed.result (ready g d.After-needs_own-needed (in_order g d.After-len) (grind (arith, length-map))) c.clear.ensures (ap (λ (i : Inside). i.seen) inside)) in
-    record { island = x.island; grows = x.grows; own = x.own; windows = x.windows; constants = x.constants; sound = x.sound; spoiled = search rules }
+    let x = island_done g.met.L.MachInstLabelUse.veneer_ok s (inside_of c.args.self.now) new c.args.after_island _ c.needs_own-needed.result (ready g d.After-needs_own-needed (in_order g d.After-len) (grind (arith, length-map))) c.clear.ensures (ap (λ (i : Inside). i.seen) inside) _ whole in
+    record { island = x.0; grows = x.1; own = x.2; windows = x.3; constants = x.4; sound = rw l.inside x.5; spoiled = search rules }

@@ -1,5 +1,5 @@
 use Rattle.std.proofs.Common.{ap}
-use Rattle.mach_buffer.specs.Buffer.{IsSound}
+use Rattle.mach_buffer.proofs.Words.{IsSound}
 use Rattle.mach_buffer.proofs.Words.{shape_of}
 use Rattle.mach_buffer.proofs.ConstantOrder.{none_named}
 use Rattle.mach_buffer.proofs.Sound.{sound_registered}

@@ -1,6 +1,6 @@
 use Rattle.std.proofs.Common.{◌∙◌, sym, arith}
-use Rattle.mach_buffer.proofs.Words.{same_Some, slice_get-get_or}
-use Rattle.mach_buffer.proofs.ConstantOrder.{noted_more, name_again}
+use Rattle.mach_buffer.proofs.Words.{append-nil, same_Some, slice_get-get_or}
+use Rattle.mach_buffer.proofs.ConstantOrder.{noted_more}
 use Rattle.mach_buffer.proofs.constants.Constants.name.Goals as goal
 
 pub returns-in_ok-push-clause-noted : goal.returns-in_ok-push-clause-noted
@@ -9,4 +9,4 @@ returns-in_ok-push-clause-noted c = rw c.in_ok-push.ensures.items (noted_more c.
 pub returns-else-not-index-clause-named : goal.returns-else-not-index-clause-named
 returns-else-not-index-clause-named c =
     let there = slice_get-get_or c.args.self.now.seen.items c.args.constant.number c.index.result.now (omega (arith, c.requires.known, c.requires.noted.long)) in
-    name_again c.args.constant c.args.self.now.named.items (same_Some _ _ (sym (c.requires.noted.each _ c.requires.known) ∙ there) ∙ sym c.index.ensures ∙ c.if-not-index.false)
+    rw (same_Some _ _ (sym (c.requires.noted.each _ c.requires.known) ∙ there) ∙ sym c.index.ensures ∙ c.if-not-index.false, append-nil)

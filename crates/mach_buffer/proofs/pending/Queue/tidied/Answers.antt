@@ -1,6 +1,6 @@
-use Rattle.std.proofs.Common.{◌+◌, ◌++◌, ◌∷◌, [], ◌≡◌, ap, take, length, arith, get_or, ℕ}
-use Rattle.mach_buffer.proofs.Words.{take_more, take_all}
-use Rattle.mach_buffer.proofs.QueueContents.{tidy_skip, tidy_take, tidy_end}
+use Rattle.std.proofs.Common.{[], ◌+◌, ◌++◌, ◌∷◌, ◌≡◌, ap, take, length, arith, get_or, ℕ}
+use Rattle.mach_buffer.proofs.Words.{append-nil, filter-append, nat_tests, take_more, take_all}
+use Rattle.mach_buffer.proofs.QueueContents.{tidy_take, tidy_end}
 use Rattle.mach_buffer.proofs.pending.Queue.tidied.Goals.{in-Some+in_ok-push-in-Some, in-None}
 use Rattle.mach_buffer.proofs.pending.Queue.tidied.Goals as goal
 
@@ -12,7 +12,7 @@ loop-number-preserved g c =
     let next : take (i + 1) all ≡ take i all ++ get_or items i 0 ∷ [] = rw c.deref-number-items.ensures.value (take_more all i 0 (rw c.deref-number-items.ensures.value at c.loop-number-test.true)) in
     elim c.match-queued_use.branch [
       | in-Some+in_ok-push-in-Some w ↦ rw (next, w.tidied-is, w.in_ok-push-in-Some.ensures.numbers, w.in_ok-push-in-Some.ensures.slack, w.deadline.ensures.value) (tidy_take (get_or items i 0) w.in-Some.u w.in-Some.ensures c.loop-number.invariant)
-      | in-None w ↦ rw (next, w.tidied-is) (tidy_skip (get_or items i 0) w.in-None.ensures c.loop-number.invariant)
+      | in-None w ↦ rw (next, w.tidied-is) (grind (arith, nat_tests, filter-append, append-nil))
     ]
 
 pub returns : goal.returns
