@@ -10,3 +10,4 @@ pub mod ResultLoads
 pub mod Meaning
 pub mod Moves
 pub mod PlainInsts
+pub mod Queues
