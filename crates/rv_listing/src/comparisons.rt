@@ -6,6 +6,7 @@ ghost use Rattle.rv_listing.specs.Comparisons.{cond_code};
 
 use crate::fields::Token;
 use crate::slots::candidate;
+use crate::tokens::is;
 use rv_base::IntCC;
 
 /// The ten comparisons.
@@ -40,7 +41,7 @@ fn find(w: &[u8]) -> Option<IntCC>
     ensures { result ≡ cond_code w.now }
 {
     let code = candidate(&EVERY, &SLOTS, FACTOR, w)?;
-    if w == code.to_static_str().as_bytes() {
+    if is(code.to_static_str().as_bytes(), w) {
         Some(code)
     } else {
         None

@@ -26,6 +26,7 @@ pub enum LineError {
 }
 
 /// The next word, as a token.
+#[inline(always)]
 pub fn field<T: Token>(rest: &[u8]) -> Option<(T, &[u8])>
     ensures { Takes result (field T.reads (words_after rest.now)) }
 {
@@ -49,6 +50,7 @@ pub fn flag<'a>(first: &[u8], second: &[u8], rest: &'a [u8]) -> Option<(bool, &'
 }
 
 /// What was made, where no word is left.
+#[inline(always)]
 pub fn whole<T: Drop>(made: T, rest: &[u8]) -> Option<T>
     ensures { result ≡ no_more (made, words_after rest.now) }
 {
@@ -59,6 +61,7 @@ pub fn whole<T: Drop>(made: T, rest: &[u8]) -> Option<T>
 }
 
 /// What was made, where the line is allowed.
+#[inline(always)]
 pub fn allowed<T: Drop>(made: Option<T>) -> Result<T, LineError>
     ensures { Makes result made }
 {

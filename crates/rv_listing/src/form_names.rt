@@ -4,6 +4,7 @@ ghost use Rattle.std.specs.Prelude.{◌≡◌};
 ghost use Rattle.rv_listing.specs.FormNames.{form_name, form_named};
 
 use crate::slots::candidate;
+use crate::tokens::is;
 
 /// The form of a line.
 #[derive(Clone, Copy, Debug, PartialEq, Eq)]
@@ -169,7 +170,7 @@ pub fn form_named(w: &[u8]) -> Option<Form>
     ensures { result ≡ form_named w.now }
 {
     let form = candidate(&EVERY_FORM, &FORM_SLOTS, FORM_FACTOR, w)?;
-    if w == form.name().as_bytes() {
+    if is(form.name().as_bytes(), w) {
         Some(form)
     } else {
         None

@@ -540,6 +540,7 @@ fn bind(rest: &[u8]) -> Option<Line>
     whole(Line::Bind(label), rest)
 }
 
+#[inline(always)]
 fn put(made: Option<Inst>) -> Result<Line, LineError>
     ensures { Makes result (put made) }
 {

@@ -7,6 +7,7 @@ ghost use Rattle.rv_listing.specs.Operations.{alu_rri, alu_rrr, load_op, store_o
 
 use crate::fields::Token;
 use crate::slots::candidate;
+use crate::tokens::is;
 use rv_ops::{AluOPRRI, AluOPRRR, LoadOP, StoreOP};
 
 const EVERY_RRR: [AluOPRRR; 54] = [
@@ -134,7 +135,7 @@ fn find_rrr(w: &[u8]) -> Option<AluOPRRR>
     ensures { result ≡ alu_rrr w.now }
 {
     let op = candidate(&EVERY_RRR, &RRR_SLOTS, RRR_FACTOR, w)?;
-    if w == op.op_name().as_bytes() {
+    if is(op.op_name().as_bytes(), w) {
         Some(op)
     } else {
         None
@@ -161,7 +162,7 @@ fn find_rri(w: &[u8]) -> Option<AluOPRRI>
     ensures { result ≡ alu_rri w.now }
 {
     let op = candidate(&EVERY_RRI, &RRI_SLOTS, RRI_FACTOR, w)?;
-    if w == op.op_name().as_bytes() {
+    if is(op.op_name().as_bytes(), w) {
         Some(op)
     } else {
         None
@@ -212,7 +213,7 @@ fn find_load(w: &[u8]) -> Option<LoadOP>
     ensures { result ≡ load_op w.now }
 {
     let op = candidate(&EVERY_LOAD, &LOAD_SLOTS, LOAD_FACTOR, w)?;
-    if w == op.op_name().as_bytes() {
+    if is(op.op_name().as_bytes(), w) {
         Some(op)
     } else {
         None
@@ -255,7 +256,7 @@ fn find_store(w: &[u8]) -> Option<StoreOP>
     ensures { result ≡ store_op w.now }
 {
     let op = candidate(&EVERY_STORE, &STORE_SLOTS, STORE_FACTOR, w)?;
-    if w == op.op_name().as_bytes() {
+    if is(op.op_name().as_bytes(), w) {
         Some(op)
     } else {
         None

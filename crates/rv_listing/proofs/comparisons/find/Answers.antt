@@ -9,14 +9,14 @@ pub returns-in_err-code : goal.returns-in_err-code
 unfolding every
 returns-in_err-code c = c.from_residual.ensures ∙ slot_none name_of c.args.w.now _ _ (cc_by_slot c.args.w.now) (sym c.candidate.ensures ∙ c.in_err-code.was)
 
-pub returns-then-eq : goal.returns-then-eq
+pub returns-then-is : goal.returns-then-is
 unfolding every
-returns-then-eq c =
-    let same : bytes_eq c.args.w.now (name_of c.in_ok-code.code) ≡ true = rw (sym c.to_static_str.ensures, sym c.as_bytes.ensures.value) (sym c.eq.ensures ∙ c.if-eq.true) in
+returns-then-is c =
+    let same : bytes_eq c.args.w.now (name_of c.in_ok-code.code) ≡ true = rw (sym c.to_static_str.ensures, sym c.as_bytes.ensures.value) (sym c.is.ensures ∙ c.if-is.true) in
     slot_same name_of c.args.w.now _ _ c.in_ok-code.code (cc_by_slot c.args.w.now) (sym c.candidate.ensures ∙ c.in_ok-code.was) same
 
-pub returns-else-eq : goal.returns-else-eq
+pub returns-else-is : goal.returns-else-is
 unfolding every
-returns-else-eq c =
-    let other : bytes_eq c.args.w.now (name_of c.in_ok-code.code) ≡ false = rw (sym c.to_static_str.ensures, sym c.as_bytes.ensures.value) (sym c.eq.ensures ∙ c.if-eq.false) in
+returns-else-is c =
+    let other : bytes_eq c.args.w.now (name_of c.in_ok-code.code) ≡ false = rw (sym c.to_static_str.ensures, sym c.as_bytes.ensures.value) (sym c.is.ensures ∙ c.if-is.false) in
     slot_other name_of c.args.w.now _ _ c.in_ok-code.code (cc_by_slot c.args.w.now) (sym c.candidate.ensures ∙ c.in_ok-code.was) other

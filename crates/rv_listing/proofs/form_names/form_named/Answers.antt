@@ -9,14 +9,14 @@ pub returns-in_err-form : goal.returns-in_err-form
 unfolding every_form
 returns-in_err-form c = c.from_residual.ensures ∙ slot_none form_name c.args.w.now _ _ (form_by_slot c.args.w.now) (sym c.candidate.ensures ∙ c.in_err-form.was)
 
-pub returns-then-eq : goal.returns-then-eq
+pub returns-then-is : goal.returns-then-is
 unfolding every_form
-returns-then-eq c =
-    let same : bytes_eq c.args.w.now (form_name c.in_ok-form.form) ≡ true = rw (sym c.name.ensures, sym c.as_bytes.ensures.value) (sym c.eq.ensures ∙ c.if-eq.true) in
+returns-then-is c =
+    let same : bytes_eq c.args.w.now (form_name c.in_ok-form.form) ≡ true = rw (sym c.name.ensures, sym c.as_bytes.ensures.value) (sym c.is.ensures ∙ c.if-is.true) in
     slot_same form_name c.args.w.now _ _ c.in_ok-form.form (form_by_slot c.args.w.now) (sym c.candidate.ensures ∙ c.in_ok-form.was) same
 
-pub returns-else-eq : goal.returns-else-eq
+pub returns-else-is : goal.returns-else-is
 unfolding every_form
-returns-else-eq c =
-    let other : bytes_eq c.args.w.now (form_name c.in_ok-form.form) ≡ false = rw (sym c.name.ensures, sym c.as_bytes.ensures.value) (sym c.eq.ensures ∙ c.if-eq.false) in
+returns-else-is c =
+    let other : bytes_eq c.args.w.now (form_name c.in_ok-form.form) ≡ false = rw (sym c.name.ensures, sym c.as_bytes.ensures.value) (sym c.is.ensures ∙ c.if-is.false) in
     slot_other form_name c.args.w.now _ _ c.in_ok-form.form (form_by_slot c.args.w.now) (sym c.candidate.ensures ∙ c.in_ok-form.was) other
