@@ -2,7 +2,8 @@
 //! they are.
 
 use crate::ran::assert_text;
-use std::alloc::AllocError;
+use std::alloc::{AllocError, Global};
+use std::process::Abort;
 
 /// `Unwind push 16`, `LoadExtNameNear a0 userextname1 8` and `Ret`.
 const NEAR: &str =
@@ -21,97 +22,150 @@ fn code_with_records_runs(rt: HostRuntime) -> Result<(), AllocError> {
     assert_text(&rt, rt.alloc(), "", ALL_KINDS, (0, trapped))
 }
 
-/// The number of the first line that no report has there, and lines after the bytes of a report of four bytes.
-const BAD_LINES: [(u8, &str); 81] = [
-    (4, "trap 0 stk_ovf\nreloc 0 Abs8 userextname0 0\nend 4\n"),
-    (4, "unwind 0 push 16\nreloc 0 Abs8 userextname0 0\nend 4\n"),
-    (4, "unwind 0 push 16\ntrap 0 stk_ovf\nend 4\n"),
-    (4, "reloc 0 Abs8 userextname0 0\nconst 0 0\nend 4\n"),
-    (4, "reloc 0 Abs8 userextname0 0\nlabel L0 0\nend 4\n"),
-    (4, "unwind 0 push 16\nline 0 0 4\nend 4\n"),
-    (4, "end 4\nunwind 0 push 16\n"),
-    (4, "end 4\nreloc 0 Abs8 userextname0 0\n"),
-    (3, "reloc 5 Abs8 userextname0 0\nend 4\n"),
-    (3, "reloc -1 Abs8 userextname0 0\nend 4\n"),
-    (3, "reloc 00 Abs8 userextname0 0\nend 4\n"),
-    (3, "reloc 0 Abs4 userextname0 0\nend 4\n"),
-    (3, "reloc 0 RiscvPcRelHi20 userextname0 0\nend 4\n"),
-    (3, "reloc 0 userextname0 0\nend 4\n"),
-    (3, "reloc 0 Abs8 userextname01 0\nend 4\n"),
-    (3, "reloc 0 Abs8 userextname4294967296 0\nend 4\n"),
-    (3, "reloc 0 Abs8 userextname 0\nend 4\n"),
-    (3, "reloc 0 Abs8 0 0\nend 4\n"),
-    (3, "reloc 0 Abs8 L0 0\nend 4\n"),
-    (3, "reloc 0 Abs8 @ 0\nend 4\n"),
-    (3, "reloc 0 Abs8 @5 0\nend 4\n"),
-    (3, "reloc 0 Abs8 @04 0\nend 4\n"),
-    (3, "reloc 0 Abs8 @userextname0 0\nend 4\n"),
-    (3, "reloc 0 Abs8 userextname0\nend 4\n"),
-    (3, "reloc 0 Abs8 userextname0 -\nend 4\n"),
-    (3, "reloc 0 Abs8 userextname0 +1\nend 4\n"),
-    (3, "reloc 0 Abs8 userextname0 0x1\nend 4\n"),
-    (3, "reloc 0 Abs8 userextname0 9223372036854775808\nend 4\n"),
-    (3, "reloc 0 Abs8 userextname0 -9223372036854775809\nend 4\n"),
-    (3, "reloc 0 Abs8 userextname0 0 0\nend 4\n"),
-    (4, "call 0\ntrap 0 stk_ovf\nend 4\n"),
-    (4, "call 0\nreloc 0 Abs8 userextname0 0\nend 4\n"),
-    (4, "call 0\nconst 0 0\nend 4\n"),
-    (4, "unwind 0 push 16\ncall 0\nend 4\n"),
-    (4, "end 4\ncall 0\n"),
-    (3, "call 5\nend 4\n"),
-    (3, "call -1\nend 4\n"),
-    (3, "call 00\nend 4\n"),
-    (3, "call 0x0\nend 4\n"),
-    (3, "call\nend 4\n"),
-    (3, "call 0 0\nend 4\n"),
-    (3, "call 0 userextname0\nend 4\n"),
-    (3, "calls 0\nend 4\n"),
-    (3, "Call 0\nend 4\n"),
-    (4, "label L0 0\nreturn 0 0\nend 4\n"),
-    (4, "call 0\nreturn 0 0\nend 4\n"),
-    (4, "return 0 0\nline 0 0 4\nend 4\n"),
-    (4, "end 4\nreturn 0 0\n"),
-    (3, "return 0 5\nend 4\n"),
-    (3, "return 0\nend 4\n"),
-    (3, "return -1 0\nend 4\n"),
-    (3, "return 0 -1\nend 4\n"),
-    (3, "return 0 00\nend 4\n"),
-    (3, "return 0 0 0\nend 4\n"),
-    (3, "return L0 0\nend 4\n"),
-    (3, "return 18446744073709551616 0\nend 4\n"),
-    (3, "returns 0 0\nend 4\n"),
-    (4, "patch 4 4\ncall 4\nend 4\n"),
-    (4, "unwind 0 push 16\npatch 4 4\nend 4\n"),
-    (4, "end 4\npatch 4 4\n"),
-    (3, "patch 5 4\nend 4\n"),
-    (3, "patch 4\nend 4\n"),
-    (3, "patch 4 4 4\nend 4\n"),
-    (3, "patch 4 4294967296\nend 4\n"),
-    (3, "patch 4 04\nend 4\n"),
-    (3, "patch 4 0x4\nend 4\n"),
-    (3, "patch 4 -\nend 4\n"),
-    (3, "unwind 5 push 16\nend 4\n"),
-    (3, "unwind push 16\nend 4\n"),
-    (3, "unwind 0\nend 4\n"),
-    (3, "unwind 0 push\nend 4\n"),
-    (3, "unwind 0 pop 16\nend 4\n"),
-    (3, "unwind 0 push 16 16\nend 4\n"),
-    (3, "unwind 0 push 0x10\nend 4\n"),
-    (3, "unwind 0 push 4294967296\nend 4\n"),
-    (3, "unwind 0 frame 32\nend 4\n"),
-    (3, "unwind 0 frame 32 4294967296\nend 4\n"),
-    (3, "unwind 0 alloc -16\nend 4\n"),
-    (3, "unwind 0 save s1 8\nend 4\n"),
-    (3, "unwind 0 save 8 s12\nend 4\n"),
-    (3, "unwind 0 save 8 %192\nend 4\n"),
-];
+/// The number of the first line that no report has there, and the lines after a report's bytes, with a `/` between two.
+const BAD_LINES: &str = "\
+4 trap 0 stk_ovf/reloc 0 Abs8 userextname0 0/end 4
+4 unwind 0 push 16/reloc 0 Abs8 userextname0 0/end 4
+4 unwind 0 push 16/trap 0 stk_ovf/end 4
+4 reloc 0 Abs8 userextname0 0/const 0 0/end 4
+4 reloc 0 Abs8 userextname0 0/label L0 0/end 4
+4 unwind 0 push 16/line 0 0 4/end 4
+4 end 4/unwind 0 push 16
+4 end 4/reloc 0 Abs8 userextname0 0
+3 reloc 5 Abs8 userextname0 0/end 4
+3 reloc -1 Abs8 userextname0 0/end 4
+3 reloc 00 Abs8 userextname0 0/end 4
+3 reloc 0 Abs4 userextname0 0/end 4
+3 reloc 0 RiscvPcRelHi20 userextname0 0/end 4
+3 reloc 0 userextname0 0/end 4
+3 reloc 0 Abs8 userextname01 0/end 4
+3 reloc 0 Abs8 userextname4294967296 0/end 4
+3 reloc 0 Abs8 userextname 0/end 4
+3 reloc 0 Abs8 0 0/end 4
+3 reloc 0 Abs8 L0 0/end 4
+3 reloc 0 Abs8 @ 0/end 4
+3 reloc 0 Abs8 @5 0/end 4
+3 reloc 0 Abs8 @04 0/end 4
+3 reloc 0 Abs8 @userextname0 0/end 4
+3 reloc 0 Abs8 userextname0/end 4
+3 reloc 0 Abs8 userextname0 -/end 4
+3 reloc 0 Abs8 userextname0 +1/end 4
+3 reloc 0 Abs8 userextname0 0x1/end 4
+3 reloc 0 Abs8 userextname0 9223372036854775808/end 4
+3 reloc 0 Abs8 userextname0 -9223372036854775809/end 4
+3 reloc 0 Abs8 userextname0 0 0/end 4
+4 call 0/trap 0 stk_ovf/end 4
+4 call 0/reloc 0 Abs8 userextname0 0/end 4
+4 call 0/const 0 0/end 4
+4 unwind 0 push 16/call 0/end 4
+4 end 4/call 0
+3 call 5/end 4
+3 call -1/end 4
+3 call 00/end 4
+3 call 0x0/end 4
+3 call/end 4
+3 call 0 0/end 4
+3 call 0 userextname0/end 4
+3 calls 0/end 4
+3 Call 0/end 4
+4 label L0 0/return 0 0/end 4
+4 call 0/return 0 0/end 4
+4 return 0 0/line 0 0 4/end 4
+4 end 4/return 0 0
+3 return 0 5/end 4
+3 return 0/end 4
+3 return -1 0/end 4
+3 return 0 -1/end 4
+3 return 0 00/end 4
+3 return 0 0 0/end 4
+3 return L0 0/end 4
+3 return 18446744073709551616 0/end 4
+3 returns 0 0/end 4
+4 patch 4 4/call 4/end 4
+4 unwind 0 push 16/patch 4 4/end 4
+4 end 4/patch 4 4
+3 patch 5 4/end 4
+3 patch 4/end 4
+3 patch 4 4 4/end 4
+3 patch 4 4294967296/end 4
+3 patch 4 04/end 4
+3 patch 4 0x4/end 4
+3 patch 4 -/end 4
+3 unwind 5 push 16/end 4
+3 unwind push 16/end 4
+3 unwind 0/end 4
+3 unwind 0 push/end 4
+3 unwind 0 pop 16/end 4
+3 unwind 0 push 16 16/end 4
+3 unwind 0 push 0x10/end 4
+3 unwind 0 push 4294967296/end 4
+3 unwind 0 frame 32/end 4
+3 unwind 0 frame 32 4294967296/end 4
+3 unwind 0 alloc -16/end 4
+3 unwind 0 save s1 8/end 4
+3 unwind 0 save 8 s12/end 4
+3 unwind 0 save 8 %192/end 4
+4 trap 0 stk_ovf/label L0 0/end 4
+4 trap 0 stk_ovf/const 0 0/end 4
+4 const 0 0/label L0 0/end 4
+3 const 0 5/end 4
+3 const 4294967296 0/end 4
+3 const 00 0/end 4
+3 trap 0 user251/end 4
+";
+
+/// The same where the bytes are a return.
+const BAD_LINES_OF_A_RETURN: &str = "\
+4 trap 0 stk_ovf/reloc 0 Abs8 @0 0/end 4
+4 unwind 0 push 16/trap 0 stk_ovf/end 4
+3 reloc 0 Abs4 userextname1 0/end 4
+3 unwind 0 frame 16/end 4
+";
+
+/// Puts the lines of a row.
+fn put_lines(report: &mut String, lines: &str) -> Result<(), AllocError> {
+    for line in lines.split('/') {
+        report.push_str(line)?;
+        report.push_str("\n")?;
+    }
+    Ok(())
+}
+
+/// The report of a word with the lines of a row.
+fn report_of(alloc: Global, word: &str, lines: &str) -> Result<String, AllocError> {
+    let mut report = format!(in alloc; "code 4\n00000000 {word}\n")?;
+    put_lines(&mut report, lines)?;
+    Ok(report)
+}
+
+/// Reads the report of a row, and returns whether it was one; stops unless the row's line is found.
+fn is_bad(rt: &impl Abort, alloc: Global, word: &str, row: &str) -> Result<bool, AllocError> {
+    let Some((number, lines)) = row.split_once(' ') else {
+        return Ok(false);
+    };
+    let report = report_of(alloc, word, lines)?;
+    let text = format!(in alloc; "rvrun: no report at line {number}\n")?;
+    assert_text(rt, alloc, "", &report, (3, &text))?;
+    Ok(true)
+}
+
+/// Reads the reports of a table, and returns how many there are.
+fn count_bad(rt: &impl Abort, alloc: Global, word: &str, rows: &str) -> Result<u32, AllocError> {
+    let mut read = 0u32;
+    for row in rows.lines() {
+        if is_bad(rt, alloc, word, row)? {
+            read = read.wrapping_add(1);
+        }
+    }
+    Ok(read)
+}
 
 #[test]
 fn misplaced_and_bad_records_are_found(rt: HostRuntime) -> Result<(), AllocError> {
-    for (line, after) in &BAD_LINES {
-        let input = format!(in rt.alloc(); "code 4\n00000000 00000000\n{after}")?;
-        let text = format!(in rt.alloc(); "rvrun: no report at line {line}\n")?;
-        assert_text(&rt, rt.alloc(), "", &input, (3, &text))?;
-    }
+    assert_eq!(rt; count_bad(&rt, rt.alloc(), "00000000", BAD_LINES)?, 88);
+    assert_eq!(rt;
+        count_bad(&rt, rt.alloc(), "67800000", BAD_LINES_OF_A_RETURN)?,
+        4
+    );
     Ok(())
 }
