@@ -3,9 +3,10 @@
 //! by the bytes that the callee took off the stack.
 
 use crate::linked::Placing;
+use crate::registers::{assert_registers, set_registers};
 use crate::runs::{CALLER, arrives};
-use crate::tail_calls::{FLAGS, GOALS};
-use crate::texts::assembled;
+use crate::tail_calls::{FLAGS, GOALS, goal_of};
+use crate::texts::{code_of, put_code};
 use mach_buffer::MachPatchable;
 use rv_inst::{CallReturn, Code, LineSpan};
 use rv_machine::IntMachine;
@@ -14,7 +15,7 @@ use std::process::Abort;
 use std::test::Fail;
 
 /// The callee is at the first symbol.
-const CALLEE: u64 = 0x41000;
+pub(crate) const CALLEE: u64 = 0x41000;
 
 const PLACING: Placing = Placing {
     base: 0x10000,
@@ -32,9 +33,11 @@ struct Calling {
     inner: u64,
     /// The line of a call by name; where it begins, returns and ends, without compressed forms and with them.
     line: usize,
-    direct: [(u32, u32, u32); 2],
+    direct: &'static str,
+    short_direct: &'static str,
     /// The same of a call through a register, whose line is the next.
-    indirect: [(u32, u32, u32); 2],
+    indirect: &'static str,
+    short_indirect: &'static str,
 }
 
 /// The lines before a call have three words, those of the fall, and two; compressed, all halves but what the fall needs. By a
@@ -46,8 +49,10 @@ const CALLING: [Calling; 5] = [
         rises: "",
         inner: 0x7fffffe0,
         line: 5,
-        direct: [(20, 28, 28), (10, 18, 18)],
-        indirect: [(28, 32, 32), (18, 20, 20)],
+        direct: "20 28 28",
+        short_direct: "10 18 18",
+        indirect: "28 32 32",
+        short_indirect: "18 20 20",
     },
     // A word, or c.addi16sp.
     Calling {
@@ -56,8 +61,10 @@ const CALLING: [Calling; 5] = [
         rises: "AluRRImm12 addi sp sp 16\n",
         inner: 0x7fffffd0,
         line: 6,
-        direct: [(24, 32, 36), (12, 20, 22)],
-        indirect: [(32, 36, 40), (20, 22, 24)],
+        direct: "24 32 36",
+        short_direct: "12 20 22",
+        indirect: "32 36 40",
+        short_indirect: "20 22 24",
     },
     // A word.
     Calling {
@@ -66,8 +73,10 @@ const CALLING: [Calling; 5] = [
         rises: "AluRRImm12 addi sp sp 2032\n",
         inner: 0x7ffff7f0,
         line: 6,
-        direct: [(24, 32, 36), (14, 22, 26)],
-        indirect: [(32, 36, 40), (22, 24, 28)],
+        direct: "24 32 36",
+        short_direct: "14 22 26",
+        indirect: "32 36 40",
+        short_indirect: "22 24 28",
     },
     // A word: the least number of twelve bits.
     Calling {
@@ -76,8 +85,10 @@ const CALLING: [Calling; 5] = [
         rises: "AluRRImm12 addi sp sp 1024\nAluRRImm12 addi sp sp 1024\n",
         inner: 0x7ffff7e0,
         line: 6,
-        direct: [(24, 32, 36), (14, 22, 26)],
-        indirect: [(32, 36, 40), (22, 24, 28)],
+        direct: "24 32 36",
+        short_direct: "14 22 26",
+        indirect: "32 36 40",
+        short_indirect: "22 24 28",
     },
     // The listing's two words; the call's lui and add, or c.lui and c.add.
     Calling {
@@ -86,28 +97,20 @@ const CALLING: [Calling; 5] = [
         rises: "Lui t2 1\nAluRRR add sp sp t2\n",
         inner: 0x7fffefe0,
         line: 7,
-        direct: [(28, 36, 44), (18, 26, 30)],
-        indirect: [(36, 40, 48), (26, 28, 32)],
+        direct: "28 36 44",
+        short_direct: "18 26 30",
+        indirect: "36 40 48",
+        short_indirect: "26 28 32",
     },
 ];
 
 /// The listing of the function that has this call.
 fn caller_text(alloc: Global, flags: &str, row: &Calling, call: &str) -> Result<String, Fail> {
-    let mut text = String::new(alloc);
     let falls = row.falls;
     let rises = row.rises;
-    write!(
-        text,
-        "{flags}AluRRImm12 addi sp sp -32\nStore sp:24 sd - ra\n"
-    )?;
-    write!(text, "Store sp:16 sd - s1\n{falls}Mov s1 a1 i64\n")?;
-    write!(
-        text,
-        "Store sp:8 sd - a2\n{call}\nAluRRR add a0 a0 s1\n{rises}"
-    )?;
-    write!(text, "Load ra ld - sp:24\nLoad s1 ld - sp:16\n")?;
-    write!(text, "AluRRImm12 addi sp sp 32\nRet\n")?;
-    Ok(text)
+    Ok(format!(in alloc;
+        "{flags}AluRRImm12 addi sp sp -32\nStore sp:24 sd - ra\nStore sp:16 sd - s1\n{falls}Mov s1 a1 i64\nStore sp:8 sd - a2\n{call}\nAluRRR add a0 a0 s1\n{rises}Load ra ld - sp:24\nLoad s1 ld - sp:16\nAluRRImm12 addi sp sp 32\nRet\n"
+    )?)
 }
 
 /// The listing of the callee: a0 times what the caller put on the stack. It takes its arguments off the stack.
@@ -117,43 +120,85 @@ fn callee_text(alloc: Global, flags: &str, row: &Calling) -> Result<String, Fail
     Ok(format!(in alloc; "{flags}{body}{rises}Ret\n")?)
 }
 
-/// Stops unless the code has just this call, with a record that it may be patched or without.
-fn assert_recorded(
-    rt: &impl Abort,
-    code: &Code,
-    patchable: bool,
+/// A call's line, and where it begins, returns and ends.
+#[derive(Drop)]
+struct Site {
     index: usize,
-    site: (u32, u32, u32),
-    text: &str,
-) {
-    let (start, offset, end) = site;
-    let span = LineSpan { index, start, end };
-    assert!(rt;
-        code.lines.as_slice().iter().any(|line| *line == span),
-        "at {text}"
-    );
-    assert_eq!(rt;
-        code.returns.as_slice(),
-        [CallReturn { index, offset }].as_slice(),
-        "at {text}"
-    );
-    let sites = code.call_sites.as_slice();
-    assert_eq!(rt; sites, [offset].as_slice(), "at {text}");
-    let patches = code.patchable_call_sites.as_slice();
-    if patchable {
-        let len = end.wrapping_sub(start);
-        assert_eq!(rt;
-            patches,
-            [MachPatchable { offset: end, len }].as_slice(),
-            "at {text}"
-        );
-    } else {
-        assert!(rt; patches.is_empty(), "at {text}");
+    start: u32,
+    returned: u32,
+    end: u32,
+}
+
+/// A decimal number; 0 of no word.
+fn offset(word: Option<&str>) -> u32 {
+    match word {
+        Some(text) => text.parse().unwrap_or(0u32),
+        None => 0,
     }
 }
 
+/// The site of a line, of the text of three offsets.
+fn site_of(index: usize, text: &str) -> Site {
+    let mut words = text.split(' ');
+    let start = offset(words.next());
+    let returned = offset(words.next());
+    let end = offset(words.next());
+    Site {
+        index,
+        start,
+        returned,
+        end,
+    }
+}
+
+/// Stops unless something holds.
+fn assert_so(rt: &impl Abort, holds: bool, what: &str, text: &str) {
+    assert!(rt; holds, "{what} at {text}");
+}
+
+/// Stops unless a number is the wanted one.
+fn assert_number(rt: &impl Abort, found: u64, wanted: u64, text: &str) {
+    assert_eq!(rt; found, wanted, "at {text}");
+}
+
+/// Returns whether the code has the site's line.
+fn has_line(code: &Code, site: &Site) -> bool {
+    let span = LineSpan {
+        index: site.index,
+        start: site.start,
+        end: site.end,
+    };
+    code.lines.as_slice().iter().any(|line| *line == span)
+}
+
+/// Returns whether the code has just the site's call.
+fn has_call(code: &Code, site: &Site) -> bool {
+    let index = site.index;
+    let offset = site.returned;
+    let is_returned = code.returns.as_slice() == [CallReturn { index, offset }].as_slice();
+    is_returned && code.call_sites.as_slice() == [offset].as_slice()
+}
+
+/// Returns whether the code has just the site's record of a call that may be patched, or none where it may not.
+fn has_patch(code: &Code, patchable: bool, site: &Site) -> bool {
+    let patches = code.patchable_call_sites.as_slice();
+    if !patchable {
+        return patches.is_empty();
+    }
+    let offset = site.end;
+    let len = offset.wrapping_sub(site.start);
+    patches == [MachPatchable { offset, len }].as_slice()
+}
+
+/// Stops unless the code has just this call, with a record that it may be patched or without.
+fn assert_recorded(rt: &impl Abort, code: &Code, patchable: bool, site: &Site, text: &str) {
+    assert_so(rt, has_line(code, site), "line", text);
+    assert_so(rt, has_call(code, site), "call", text);
+    assert_so(rt, has_patch(code, patchable, site), "patch", text);
+}
+
 /// Stops unless the machine comes to an address with this stack pointer.
-fn assert_comes(
+pub(crate) fn assert_comes(
     rt: &impl Abort,
     machine: &mut IntMachine,
     at: u64,
@@ -165,38 +210,27 @@ fn assert_comes(
     Ok(())
 }
 
-/// The registers of a function's caller.
-const BEFORE: [(u8, u64); 6] = [
-    (1, CALLER),
-    (2, 0x80000000),
-    (9, 0x9999999999999999),
-    (10, 7),
-    (11, 1000),
-    (12, 6),
-];
+/// The registers of a function's caller, in hex.
+const BEFORE: &str = "1:20000 2:80000000 9:9999999999999999 10:7 11:3e8 12:6";
 
 /// Stops unless the function calls, goes on where the call returns, and returns to its own caller.
 fn assert_called(
     rt: &impl Abort,
     machine: &mut IntMachine,
     row: &Calling,
-    site: (u32, u32, u32),
+    site: &Site,
     text: &str,
 ) -> Result<(), Fail> {
-    for (number, value) in BEFORE {
-        machine.set_reg(number, value);
-    }
-    let (_, returned, ended) = site;
-    let back = u64::from(returned).wrapping_add(0x10000);
+    let back = u64::from(site.returned).wrapping_add(0x10000);
+    let next = u64::from(site.end).wrapping_add(0x10000);
+    set_registers(machine, BEFORE);
     assert_comes(rt, machine, CALLEE, row.inner, text)?;
-    assert_eq!(rt; machine.reg(1), back, "at {text}");
+    assert_number(rt, machine.reg(1), back, text);
     assert_comes(rt, machine, back, 0x7fffffe0, text)?;
-    assert_eq!(rt; machine.reg(10), 42, "at {text}");
-    let next = u64::from(ended).wrapping_add(0x10000);
+    assert_registers(rt, machine, "10:2a", text);
     assert_comes(rt, machine, next, row.inner, text)?;
     assert_comes(rt, machine, CALLER, 0x80000000, text)?;
-    assert_eq!(rt; machine.reg(10), 1042, "at {text}");
-    assert_eq!(rt; machine.reg(9), 0x9999999999999999, "at {text}");
+    assert_registers(rt, machine, "9:9999999999999999 10:412", text);
     Ok(())
 }
 
@@ -214,46 +248,119 @@ const BY_REGISTER: [(&str, &str, bool); 5] = [
     ("LoadExtNameNear tp userextname0 0\nCallInd tp", "1", false),
 ];
 
-/// Stops unless each of these calls is made, recorded and returned from.
+/// A machine before a caller, with a callee.
+pub(crate) fn machine_of(alloc: Global, caller: &str, callee: &str) -> Result<IntMachine, Fail> {
+    let mut machine = PLACING.before(alloc, caller)?;
+    put_code(alloc, &mut machine, CALLEE, callee)?;
+    Ok(machine)
+}
+
+/// Stops unless the function of a listing calls the callee, and returns.
+fn assert_returns(
+    rt: &impl Abort,
+    alloc: Global,
+    flags: &str,
+    row: &Calling,
+    site: &Site,
+    text: &str,
+) -> Result<(), Fail> {
+    let callee = callee_text(alloc, flags, row)?;
+    let mut machine = machine_of(alloc, text, &callee)?;
+    assert_called(rt, &mut machine, row, site, text)
+}
+
+/// Stops unless a call is made, recorded where it may be patched, and returned from.
+fn assert_call(
+    rt: &impl Abort,
+    alloc: Global,
+    flags: &str,
+    row: &Calling,
+    call: &str,
+    patchable: bool,
+    site: &Site,
+) -> Result<(), Fail> {
+    let text = caller_text(alloc, flags, row, call)?;
+    let code = code_of(alloc, &text)?;
+    assert_recorded(rt, &code, patchable, site, &text);
+    assert_returns(rt, alloc, flags, row, site, &text)
+}
+
+/// Stops unless each of these calls is so.
 fn assert_calls(
     rt: &impl Abort,
     alloc: Global,
     flags: &str,
     row: &Calling,
     calls: &[(&str, &str, bool)],
-    index: usize,
-    site: (u32, u32, u32),
+    site: &Site,
 ) -> Result<(), Fail> {
     let popped = row.popped;
-    let (_, callee) = assembled(alloc, &callee_text(alloc, flags, row)?)?;
     for (name, bit, patchable) in calls {
         let call = format!(in alloc; "{name} a0:a0 a0:a0 ra,t1,t2 {popped} {bit} - -")?;
-        let text = caller_text(alloc, flags, row, &call)?;
-        let (job, code) = assembled(alloc, &text)?;
-        assert_recorded(rt, &code, *patchable, index, site, &text);
-        let mut machine = PLACING.linked(alloc, job.flags, &code)?;
-        machine.load_image(CALLEE, callee.bytes.as_slice())?;
-        assert_called(rt, &mut machine, row, site, &text)?;
+        assert_call(rt, alloc, flags, row, &call, *patchable, site)?;
     }
     Ok(())
+}
+
+/// Stops unless the calls of a row are so, by name and by register.
+fn assert_row(rt: &impl Abort, alloc: Global, row: &Calling) -> Result<(), Fail> {
+    let [plain, short] = FLAGS;
+    let line = row.line;
+    let next = line.wrapping_add(1);
+    assert_calls(rt, alloc, plain, row, &BY_NAME, &site_of(line, row.direct))?;
+    assert_calls(
+        rt,
+        alloc,
+        short,
+        row,
+        &BY_NAME,
+        &site_of(line, row.short_direct),
+    )?;
+    assert_calls(
+        rt,
+        alloc,
+        plain,
+        row,
+        &BY_REGISTER,
+        &site_of(next, row.indirect),
+    )?;
+    assert_calls(
+        rt,
+        alloc,
+        short,
+        row,
+        &BY_REGISTER,
+        &site_of(next, row.short_indirect),
+    )
 }
 
 #[test]
 fn functions_call(rt: HostRuntime) -> Result<(), Fail> {
-    let [plain, short] = FLAGS;
     for row in &CALLING {
-        let [site, short_site] = row.direct;
-        assert_calls(&rt, rt.alloc(), plain, row, &BY_NAME, row.line, site)?;
-        assert_calls(&rt, rt.alloc(), short, row, &BY_NAME, row.line, short_site)?;
-        let [site, short_site] = row.indirect;
-        let next = row.line.wrapping_add(1);
-        assert_calls(&rt, rt.alloc(), plain, row, &BY_REGISTER, next, site)?;
-        assert_calls(&rt, rt.alloc(), short, row, &BY_REGISTER, next, short_site)?;
+        assert_row(&rt, rt.alloc(), row)?;
     }
     Ok(())
 }
 
-/// Stops unless a call by name, and one through ra, lead to each of the goals, bit 0 cleared, with ra so far after the code's start.
+/// Stops unless a call leads to the goal of a line, bit 0 cleared, with ra so far after the code's start.
+fn assert_goal(
+    rt: &impl Abort,
+    alloc: Global,
+    text: &str,
+    line: &str,
+    length: u64,
+) -> Result<(), Fail> {
+    let (placing, goal) = goal_of(line);
+    let [symbol, _] = placing.symbols;
+    let mut machine = placing.before(alloc, text)?;
+    machine.set_reg(1, symbol);
+    machine.set_reg(2, 0x80000000);
+    assert_comes(rt, &mut machine, goal, 0x80000000, line)?;
+    assert_number(rt, machine.reg(1), placing.base.wrapping_add(length), line);
+    Ok(())
+}
+
+/// Stops unless a call, of which this is all before its arguments, leads to each of the goals so.
 fn assert_goals(
     rt: &impl Abort,
     alloc: Global,
@@ -262,26 +369,13 @@ fn assert_goals(
     length: u64,
 ) -> Result<(), Fail> {
     let text = format!(in alloc; "{flags}{call} - - - 2147483647 0 - -\n")?;
-    let (job, code) = assembled(alloc, &text)?;
-    for (base, symbol, goal) in GOALS {
-        let placing = Placing {
-            base,
-            symbols: [symbol, 0],
-            slots: [0x50010, 0x50008],
-        };
-        let mut machine = placing.linked(alloc, job.flags, &code)?;
-        machine.set_reg(1, symbol);
-        machine.set_reg(2, 0x80000000);
-        assert_comes(rt, &mut machine, goal, 0x80000000, &text)?;
-        assert_eq!(rt;
-            machine.reg(1),
-            base.wrapping_add(length),
-            "from {base:x} to {goal:x}"
-        );
+    for line in GOALS.lines() {
+        assert_goal(rt, alloc, &text, line, length)?;
     }
     Ok(())
 }
 
+/// By name, and through ra.
 #[test]
 fn goals_are_reached(rt: HostRuntime) -> Result<(), Fail> {
     let [plain, short] = FLAGS;

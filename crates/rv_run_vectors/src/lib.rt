@@ -22,6 +22,8 @@ mod ran;
 #[cfg(test)]
 mod records;
 #[cfg(test)]
+mod registers;
+#[cfg(test)]
 mod runs;
 #[cfg(test)]
 mod symbols;

@@ -4,6 +4,8 @@
 //! what is left of the same d into the instruction after it; R_RISCV_CALL_PLT puts both parts of S + A - P into an `auipc` and the
 //! `jalr` after it; and R_RISCV_64 puts S + A.
 
+use crate::machine::number;
+use crate::texts::{assembled, code_of};
 use mach_buffer::FinalizedRelocTarget;
 use rv_base::{IsaFlags, OutOfMemory, Reloc};
 use rv_inst::{Code, MachReloc};
@@ -37,27 +39,62 @@ fn parts(distance: i64) -> (u32, u32) {
     ((upper & 0xfffff) as u32, (lower & 0xfff) as u32)
 }
 
-/// Distances with their parts: by hand, by the psABI.
-const PARTS: [(i64, u32, u32); 9] = [
-    (0, 0, 0),
-    (2047, 0, 0x7ff),
-    (2048, 1, 0x800),
-    (-1, 0, 0xfff),
-    (-2048, 0, 0x800),
-    (-2049, 0xfffff, 0x7ff),
-    (0x12345678, 0x12345, 0x678),
-    (GREATEST, 0x7ffff, 0x7ff),
-    (LEAST, 0x80000, 0x800),
-];
+/// Distances with their parts, these in hex: by hand, by the psABI. The last two are the greatest and the least.
+const PARTS: &str = "\
+0 0 0
+2047 0 7ff
+2048 1 800
+-1 0 fff
+-2048 0 800
+-2049 fffff 7ff
+305419896 12345 678
+2147481599 7ffff 7ff
+-2147485696 80000 800
+";
+
+/// Whether a line of `PARTS` has a distance with its parts.
+fn has_parts(line: &str) -> bool {
+    let mut words = line.split(' ');
+    let Some(distance) = words.next() else {
+        return false;
+    };
+    let (upper, lower) = parts(distance.parse().unwrap_or(0i64));
+    u64::from(upper) == word_number(words.next()) && u64::from(lower) == word_number(words.next())
+}
 
 #[test]
 fn distances_have_their_parts(rt: HostRuntime) {
-    for (distance, upper, lower) in PARTS {
-        assert_eq!(rt; parts(distance), (upper, lower), "at {distance}");
+    let mut done = 0u32;
+    for line in PARTS.lines() {
+        assert!(rt; has_parts(line), "at {line}");
+        done = done.wrapping_add(1);
+    }
+    assert_eq!(rt; done, 9);
+}
+
+/// The number of a word in hex; 0 of none.
+pub fn word_number(word: Option<&str>) -> u64 {
+    match word {
+        Some(text) => number(text),
+        None => 0,
     }
 }
 
 impl Placing {
+    /// The placing of a line: the code, the two symbols and their slots, in hex.
+    pub fn read(line: &str) -> Placing {
+        let mut words = line.split(' ');
+        let base = word_number(words.next());
+        let first = word_number(words.next());
+        let second = word_number(words.next());
+        let slot = word_number(words.next());
+        Placing {
+            base,
+            symbols: [first, second],
+            slots: [slot, word_number(words.next())],
+        }
+    }
+
     /// The address of a symbol by its name's number, and of its slot.
     fn symbol(&self, number: u32) -> Result<(u64, u64), Fail> {
         match number {
@@ -130,6 +167,18 @@ impl Placing {
             self.fill(machine, code, reloc)?;
         }
         Ok(())
+    }
+
+    /// Places the code of a listing.
+    pub fn put(&self, alloc: Global, machine: &mut IntMachine, text: &str) -> Result<(), Fail> {
+        let code = code_of(alloc, text)?;
+        self.place(machine, &code)
+    }
+
+    /// A machine before the code of a listing.
+    pub fn before(&self, alloc: Global, text: &str) -> Result<IntMachine, Fail> {
+        let (job, code) = assembled(alloc, text)?;
+        self.linked(alloc, job.flags, &code)
     }
 
     /// A machine before the code, with the slots and with what relocations ask for.

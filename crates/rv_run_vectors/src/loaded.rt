@@ -42,7 +42,7 @@ fn a_machine_starts(rt: HostRuntime) -> Result<(), Fail> {
     let mut machine = started(rt.alloc(), &[Line::Inst(Inst::Nop4)], 0x1000)?;
     assert_eq!(rt; machine.pc(), 0x1000);
     let step = machine.step()?;
-    assert_eq!(rt; step, Step::Stepped);
+    assert!(rt; step == Step::Stepped);
     assert_eq!(rt; machine.pc(), 0x1004);
     Ok(())
 }

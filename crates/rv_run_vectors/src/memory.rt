@@ -128,20 +128,18 @@ fn do_load(rt: &impl Abort, machine: &mut IntMachine, line: &str) -> Result<bool
     Ok(true)
 }
 
-/// The eight bytes from an address on, and the ones before and after them.
-fn window(machine: &IntMachine, at: u64) -> (u64, [u8; 2]) {
-    let bytes = u64::from_be_bytes([
-        machine.byte(at),
-        machine.byte(at.wrapping_add(1)),
-        machine.byte(at.wrapping_add(2)),
-        machine.byte(at.wrapping_add(3)),
-        machine.byte(at.wrapping_add(4)),
-        machine.byte(at.wrapping_add(5)),
-        machine.byte(at.wrapping_add(6)),
-        machine.byte(at.wrapping_add(7)),
-    ]);
-    let before = machine.byte(at.wrapping_sub(1));
-    (bytes, [before, machine.byte(at.wrapping_add(8))])
+/// The eight bytes from an address on, as a number with the first as the highest.
+pub fn doubleword(machine: &IntMachine, at: u64) -> u64 {
+    let mut value = 0u64;
+    for k in 0..8u64 {
+        value = value << 8 | u64::from(machine.byte(at.wrapping_add(k)));
+    }
+    value
+}
+
+/// Whether the bytes before and after the eight from an address on are 5a.
+fn is_beside_kept(machine: &IntMachine, at: u64) -> bool {
+    machine.byte(at.wrapping_sub(1)) == 0x5a && machine.byte(at.wrapping_add(8)) == 0x5a
 }
 
 /// Does a line of `STORES`, and returns whether it was one.
@@ -157,9 +155,8 @@ fn do_store(rt: &impl Abort, machine: &mut IntMachine, line: &str) -> Result<boo
     machine.load_image(at.wrapping_sub(1), &[0x5a; 10])?;
     let step = do_word(machine, number(word), number(base), 0x8091a2b3c4d5e6f7)?;
     assert!(rt; step == Step::Stepped, "{line}");
-    let (bytes, beside) = window(machine, at);
-    assert_eq!(rt; bytes, number(expected), "{line}");
-    assert_eq!(rt; beside, [0x5a, 0x5a], "{line}");
+    assert_eq!(rt; doubleword(machine, at), number(expected), "{line}");
+    assert!(rt; is_beside_kept(machine, at), "{line}");
     assert_eq!(rt; machine.pc(), 0x1004, "{line}");
     Ok(true)
 }

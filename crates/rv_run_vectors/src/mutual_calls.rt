@@ -3,23 +3,16 @@
 use crate::linked::Placing;
 use crate::runs::{CALLER, returns};
 use crate::tail_calls::FLAGS;
-use crate::texts::assembled;
+use rv_machine::IntMachine;
 use std::alloc::Global;
 use std::process::Abort;
 use std::test::Fail;
 
 /// One of two functions that call each other: 1 or 0 where a0 is 0, else what the other says of one less.
 fn parity_text(alloc: Global, flags: &str, other: u32, zero: u32) -> Result<String, Fail> {
-    let mut text = String::new(alloc);
-    write!(
-        text,
-        "{flags}CondBr eq a0 zero L0 -\nAluRRImm12 addi sp sp -16\n"
-    )?;
-    write!(text, "Store sp:8 sd - ra\nAluRRImm12 addi a0 a0 -1\n")?;
-    write!(text, "Call userextname{other} a0:a0 a0:a0 ra 0 0 - -\n")?;
-    write!(text, "Load ra ld - sp:8\nAluRRImm12 addi sp sp 16\nRet\n")?;
-    write!(text, "Bind L0\nAluRRImm12 addi a0 zero {zero}\nRet\n")?;
-    Ok(text)
+    Ok(format!(in alloc;
+        "{flags}CondBr eq a0 zero L0 -\nAluRRImm12 addi sp sp -16\nStore sp:8 sd - ra\nAluRRImm12 addi a0 a0 -1\nCall userextname{other} a0:a0 a0:a0 ra 0 0 - -\nLoad ra ld - sp:8\nAluRRImm12 addi sp sp 16\nRet\nBind L0\nAluRRImm12 addi a0 zero {zero}\nRet\n"
+    )?)
 }
 
 /// The even function and the odd one, each at its symbol.
@@ -35,36 +28,38 @@ const ODD: Placing = Placing {
     slots: [0x50010, 0x50008],
 };
 
-/// Where the first call goes, its number, and the result.
-const PARITIES: [(u64, u64, u64); 4] = [
-    (0x10000, 100, 1),
-    (0x10000, 101, 0),
-    (0x12345678, 100, 0),
-    (0x12345678, 101, 1),
-];
+/// A machine with both functions, and with their caller's registers.
+fn machine_of(alloc: Global, flags: &str) -> Result<IntMachine, Fail> {
+    let mut machine = EVEN.before(alloc, &parity_text(alloc, flags, 1, 1)?)?;
+    ODD.put(alloc, &mut machine, &parity_text(alloc, flags, 0, 0)?)?;
+    machine.set_reg(1, CALLER);
+    machine.set_reg(2, 0x80000000);
+    Ok(machine)
+}
 
-/// Stops unless the functions that call each other answer, and their caller has its stack pointer back.
-fn assert_parities(rt: &impl Abort, alloc: Global, flags: &str) -> Result<(), Fail> {
-    let (job, even) = assembled(alloc, &parity_text(alloc, flags, 1, 1)?)?;
-    let (_, odd) = assembled(alloc, &parity_text(alloc, flags, 0, 0)?)?;
-    for (start, number, wanted) in PARITIES {
-        let mut machine = EVEN.linked(alloc, job.flags, &even)?;
-        ODD.place(&mut machine, &odd)?;
+/// Stops unless the function at an address has this result of a number, and its caller has its stack pointer back.
+fn assert_parity(
+    rt: &impl Abort,
+    alloc: Global,
+    start: u64,
+    number: u64,
+    wanted: u64,
+) -> Result<(), Fail> {
+    for flags in FLAGS {
+        let mut machine = machine_of(alloc, flags)?;
         machine.set_pc(start);
-        machine.set_reg(1, CALLER);
-        machine.set_reg(2, 0x80000000);
         machine.set_reg(10, number);
-        assert!(rt; returns(&mut machine)?, "of {number} at {start:x}");
+        let is_back = returns(&mut machine)? && machine.reg(2) == 0x80000000;
+        assert!(rt; is_back, "of {number} at {start:x}");
         assert_eq!(rt; machine.reg(10), wanted, "of {number} at {start:x}");
-        assert_eq!(rt; machine.reg(2), 0x80000000, "of {number} at {start:x}");
     }
     Ok(())
 }
 
 #[test]
 fn functions_call_each_other(rt: HostRuntime) -> Result<(), Fail> {
-    for flags in FLAGS {
-        assert_parities(&rt, rt.alloc(), flags)?;
-    }
-    Ok(())
+    assert_parity(&rt, rt.alloc(), EVEN.base, 100, 1)?;
+    assert_parity(&rt, rt.alloc(), EVEN.base, 101, 0)?;
+    assert_parity(&rt, rt.alloc(), ODD.base, 100, 0)?;
+    assert_parity(&rt, rt.alloc(), ODD.base, 101, 1)
 }

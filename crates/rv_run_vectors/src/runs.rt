@@ -2,7 +2,7 @@
 
 ghost use Rattle.std.specs.Prelude.{◌<◌, ◌≤◌, length};
 
-use crate::texts::assembled;
+use crate::texts::{bytes_of, job_of};
 use rv_base::{IntCC, IsaFlags, MachLabel, OutOfMemory, Reg, a0, link_reg, x_reg};
 use rv_inst::{CondBrTarget, Inst, Line};
 use rv_machine::{IntMachine, Step};
@@ -54,8 +54,8 @@ const COUNTDOWN: [u8; 12] = [
 
 #[test]
 fn the_countdown_has_its_bytes(rt: HostRuntime) -> Result<(), Fail> {
-    let (_, code) = assembled(rt.alloc(), COUNTDOWN_LISTING)?;
-    assert_eq!(rt; code.bytes.as_slice(), COUNTDOWN.as_slice());
+    let bytes = bytes_of(rt.alloc(), COUNTDOWN_LISTING)?;
+    assert!(rt; bytes.as_slice() == COUNTDOWN.as_slice());
     Ok(())
 }
 
@@ -331,17 +331,25 @@ fn assert_registers(rt: &impl Abort, machine: &IntMachine, registers: &Registers
     }
 }
 
+/// Runs a listing in the plain interpreter, and returns whether it returned.
+fn interprets(alloc: Global, text: &str, registers: &mut Registers) -> Result<bool, Fail> {
+    let job = job_of(alloc, text)?;
+    Ok(interpret(job.lines.as_slice(), registers)?)
+}
+
+/// A machine that is to run the code of a listing, with these registers.
+fn before(alloc: Global, text: &str, registers: &Registers) -> Result<IntMachine, Fail> {
+    let bytes = bytes_of(alloc, text)?;
+    Ok(started(alloc, bytes.as_slice(), registers)?)
+}
+
 /// Stops unless the random listing of a seed ends on the machine as in the plain interpreter.
 fn assert_runs(rt: &impl Abort, alloc: Global, seed: u64, gap: usize) -> Result<(), Fail> {
     let mut random = Random { state: seed };
     let text = random.listing(alloc, gap)?;
-    let (job, code) = assembled(alloc, &text)?;
     let mut registers = random.registers();
-    let mut machine = started(alloc, code.bytes.as_slice(), &registers)?;
-    assert!(rt;
-        interpret(job.lines.as_slice(), &mut registers)?,
-        "at {seed}"
-    );
+    let mut machine = before(alloc, &text, &registers)?;
+    assert!(rt; interprets(alloc, &text, &mut registers)?, "at {seed}");
     assert!(rt; returns(&mut machine)?, "at {seed}");
     assert_registers(rt, &machine, &registers, seed);
     Ok(())

@@ -3,7 +3,6 @@
 
 use crate::linked::{Placing, far_from};
 use crate::runs::{CALLER, returns};
-use crate::texts::assembled;
 use rv_machine::IntMachine;
 use std::alloc::Global;
 use std::process::Abort;
@@ -23,82 +22,51 @@ Unwind save 8 s1
 Ret
 ";
 
-/// The loads by distance stand at 0 and 8, and those by slot at 16 and 24.
-const PLACINGS: [Placing; 6] = [
-    // One symbol and one slot are before the code, and the others after it.
-    Placing {
-        base: 0x10000,
-        symbols: [0x8004, 0x30000],
-        slots: [0x40010, 0x4008],
-    },
-    // The same, far away.
-    Placing {
-        base: 0x7ffffffff000,
-        symbols: [0x800000000ffc, 0x7fffffff0000],
-        slots: [0x7fffff000000, 0x800001000000],
-    },
-    // The distances are the least and the greatest.
-    Placing {
-        base: 0x100000000,
-        symbols: [0x7ffff800, 0x17ffff80f],
-        slots: [0x7ffff810, 0x17ffff817],
-    },
-    Placing {
-        base: 0x100000000,
-        symbols: [0x17ffff7ff, 0x7ffff810],
-        slots: [0x17ffff80f, 0x7ffff818],
-    },
-    // Addresses go round at 2^64.
-    Placing {
-        base: 0x1000,
-        symbols: [0xffffffffffff0000, 0],
-        slots: [0xfffffffffffffff8, 0xffffffff80001000],
-    },
-    // The lower parts are 2047, -2048, -1 and 0.
-    Placing {
-        base: 0x50000,
-        symbols: [0x507ff, 0x4f810],
-        slots: [0x5100f, 0x4f018],
-    },
-];
+/// Where the code is, the two symbols and their slots, in hex. The loads by distance stand at 0 and 8, and those by slot at 16 and 24.
+const PLACINGS: &str = "\
+10000 8004 30000 40010 4008 one symbol and one slot are before the code, and the others after it
+7ffffffff000 800000000ffc 7fffffff0000 7fffff000000 800001000000 the same, far away
+100000000 7ffff800 17ffff80f 7ffff810 17ffff817 the distances are the least and the greatest
+100000000 17ffff7ff 7ffff810 17ffff80f 7ffff818 the greatest and the least
+1000 ffffffffffff0000 0 fffffffffffffff8 ffffffff80001000 addresses go round at 2^64
+50000 507ff 4f810 5100f 4f018 the lower parts are 2047, -2048, -1 and 0
+";
 
-/// What is in a0 to a5 at the end.
-fn wanted(symbols: [u64; 2]) -> [u64; 6] {
-    let [first, second] = symbols;
-    [
-        first,
-        far_from(second, -8),
-        first,
-        second,
-        far_from(first, 4096),
-        far_from(second, i64::MIN),
-    ]
+/// Stops unless a register has an address.
+fn assert_address(rt: &impl Abort, found: u64, wanted: u64, line: &str) {
+    assert_eq!(rt; found, wanted, "at {line}");
 }
 
-/// What is in a0 to a5.
-fn found(machine: &IntMachine) -> [u64; 6] {
-    [
-        machine.reg(10),
-        machine.reg(11),
-        machine.reg(12),
-        machine.reg(13),
-        machine.reg(14),
-        machine.reg(15),
-    ]
+/// Stops unless a0 to a5 have the symbols' addresses plus the listing's offsets.
+fn assert_wanted(rt: &impl Abort, machine: &IntMachine, placing: &Placing, line: &str) {
+    let [first, second] = placing.symbols;
+    assert_address(rt, machine.reg(10), first, line);
+    assert_address(rt, machine.reg(11), far_from(second, -8), line);
+    assert_address(rt, machine.reg(12), first, line);
+    assert_address(rt, machine.reg(13), second, line);
+    assert_address(rt, machine.reg(14), far_from(first, 4096), line);
+    assert_address(rt, machine.reg(15), far_from(second, i64::MIN), line);
 }
 
-/// Stops unless the listing leaves the symbols' addresses plus its offsets, wherever it is placed.
+/// Stops unless the code of a listing leaves those addresses at a placing.
+fn assert_placed(rt: &impl Abort, alloc: Global, text: &str, line: &str) -> Result<(), Fail> {
+    let placing = Placing::read(line);
+    let mut machine = placing.before(alloc, text)?;
+    machine.set_reg(1, CALLER);
+    assert!(rt; returns(&mut machine)?, "at {line}");
+    assert_wanted(rt, &machine, &placing, line);
+    Ok(())
+}
+
+/// Stops unless the listing leaves these addresses at each placing, of which there are six.
 fn assert_addresses(rt: &impl Abort, alloc: Global, flags: &str) -> Result<(), Fail> {
-    let mut text = String::from_str(alloc, flags)?;
-    text.push_str(LISTING)?;
-    let (job, code) = assembled(alloc, &text)?;
-    for placing in &PLACINGS {
-        let base = placing.base;
-        let mut machine = placing.linked(alloc, job.flags, &code)?;
-        machine.set_reg(1, CALLER);
-        assert!(rt; returns(&mut machine)?, "at {base:x}");
-        assert_eq!(rt; found(&machine), wanted(placing.symbols), "at {base:x}");
+    let text = format!(in alloc; "{flags}{LISTING}")?;
+    let mut done = 0u32;
+    for line in PLACINGS.lines() {
+        assert_placed(rt, alloc, &text, line)?;
+        done = done.wrapping_add(1);
     }
+    assert_eq!(rt; done, 6);
     Ok(())
 }
 

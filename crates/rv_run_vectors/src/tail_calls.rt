@@ -3,11 +3,10 @@
 //! setup area has a size, ra is those at sp + f + 8 and fp those at sp + f; then sp rises by f, that size, and the incoming arguments'
 //! size less the callee's. It goes to the symbol, or to t0, with bit 0 cleared.
 
-use crate::linked::Placing;
+use crate::linked::{Placing, word_number};
 use crate::machine::number;
+use crate::memory::doubleword;
 use crate::runs::arrives;
-use crate::texts::assembled;
-use rv_inst::{Code, Job};
 use rv_machine::IntMachine;
 use std::alloc::Global;
 use std::process::Abort;
@@ -59,20 +58,6 @@ fn assert_changed(rt: &impl Abort, machine: &IntMachine, changed: &str, name: &s
             "x{register} at {name}"
         );
     }
-}
-
-/// The eight bytes at an address.
-fn doubleword(machine: &IntMachine, at: u64) -> u64 {
-    u64::from_le_bytes([
-        machine.byte(at),
-        machine.byte(at.wrapping_add(1)),
-        machine.byte(at.wrapping_add(2)),
-        machine.byte(at.wrapping_add(3)),
-        machine.byte(at.wrapping_add(4)),
-        machine.byte(at.wrapping_add(5)),
-        machine.byte(at.wrapping_add(6)),
-        machine.byte(at.wrapping_add(7)),
-    ])
 }
 
 /// Tail calls out of one frame, a line each, with the stack pointer and the doublewords on the stack before each, by their addresses,
@@ -184,17 +169,40 @@ const LEFT: [Left; 12] = [
     },
 ];
 
-/// A machine before a tail call, with its registers and its stack.
-fn at_tail_call(alloc: Global, job: &Job, code: &Code, left: &Left) -> Result<IntMachine, Fail> {
-    let mut machine = PLACING.linked(alloc, job.flags, code)?;
+/// Sets the registers x1 to x31, x2 to a number of its own.
+fn set_all(machine: &mut IntMachine, sp: u64) {
     for register in 1u8..32 {
         machine.set_reg(register, before(register));
     }
-    machine.set_reg(2, left.sp);
-    for text in left.stack.split(' ') {
+    machine.set_reg(2, sp);
+}
+
+/// Puts doublewords to their addresses.
+fn put_stack(machine: &mut IntMachine, stack: &str) -> Result<(), Fail> {
+    for text in stack.split(' ') {
         let (at, value) = placed(text);
         machine.load_image(at, &value.to_le_bytes())?;
     }
+    Ok(())
+}
+
+/// Stops unless doublewords are at their addresses.
+fn assert_stack(rt: &impl Abort, machine: &IntMachine, stack: &str, text: &str) {
+    for place in stack.split(' ') {
+        let (at, value) = placed(place);
+        assert_eq!(rt;
+            doubleword(machine, at).swap_bytes(),
+            value,
+            "{at:x} at {text}"
+        );
+    }
+}
+
+/// A machine before a tail call, with its registers and its stack.
+fn at_tail_call(alloc: Global, text: &str, left: &Left) -> Result<IntMachine, Fail> {
+    let mut machine = PLACING.before(alloc, text)?;
+    set_all(&mut machine, left.sp);
+    put_stack(&mut machine, left.stack)?;
     Ok(machine)
 }
 
@@ -206,17 +214,12 @@ fn assert_left(
     left: &Left,
     tail: &str,
 ) -> Result<(), Fail> {
-    let mut text = String::new(alloc);
     let frame = left.frame;
-    write!(text, "{flags}{frame}\n{tail}\n")?;
-    let (job, code) = assembled(alloc, &text)?;
-    let mut machine = at_tail_call(alloc, &job, &code, left)?;
+    let text = format!(in alloc; "{flags}{frame}\n{tail}\n")?;
+    let mut machine = at_tail_call(alloc, &text, left)?;
     assert!(rt; arrives(&mut machine, CALLEE)?, "at {text}");
     assert_changed(rt, &machine, left.changed, &text);
-    for place in left.stack.split(' ') {
-        let (at, value) = placed(place);
-        assert_eq!(rt; doubleword(&machine, at), value, "{at:x} at {text}");
-    }
+    assert_stack(rt, &machine, left.stack, &text);
     Ok(())
 }
 
@@ -238,43 +241,56 @@ fn frames_are_left(rt: HostRuntime) -> Result<(), Fail> {
     Ok(())
 }
 
-/// Where the code is, where the symbol is, and where a call to it leads.
-pub(crate) const GOALS: [(u64, u64, u64); 9] = [
-    // The distances are 2047, 2048, -2048 and -2049.
-    (0x10000, 0x107ff, 0x107fe),
-    (0x10000, 0x10800, 0x10800),
-    (0x10000, 0xf800, 0xf800),
-    (0x10000, 0xf7ff, 0xf7fe),
-    // The least and the greatest.
-    (0x100000000, 0x7ffff800, 0x7ffff800),
-    (0x100000000, 0x17ffff7ff, 0x17ffff7fe),
-    // Addresses go round at 2^64.
-    (0x1000, 0xffffffff80001000, 0xffffffff80001000),
-    (0x1000, 0xffffffffffffffff, 0xfffffffffffffffe),
-    (0xfffffffffffff000, 0x2003, 0x2002),
-];
+/// Where the code is, where the symbol is, and where a call to it leads, in hex; and how far.
+pub(crate) const GOALS: &str = "\
+10000 107ff 107fe 2047
+10000 10800 10800 2048
+10000 f800 f800 -2048
+10000 f7ff f7fe -2049
+100000000 7ffff800 7ffff800 the least distance
+100000000 17ffff7ff 17ffff7fe the greatest
+1000 ffffffff80001000 ffffffff80001000 round at 2^64
+1000 ffffffffffffffff fffffffffffffffe round at 2^64
+fffffffffffff000 2003 2002 round at 2^64
+";
 
-/// Stops unless a tail call leads to each of the goals, out of no frame.
-fn assert_goals(rt: &impl Abort, alloc: Global, flags: &str) -> Result<(), Fail> {
-    let mut text = String::new(alloc);
-    write!(text, "{flags}ReturnCall userextname0 - 0\n")?;
-    let (job, code) = assembled(alloc, &text)?;
-    for (base, symbol, goal) in GOALS {
-        let placing = Placing {
-            base,
-            symbols: [symbol, 0],
-            slots: [0x50010, 0x50008],
-        };
-        let mut machine = placing.linked(alloc, job.flags, &code)?;
-        assert!(rt; arrives(&mut machine, goal)?, "from {base:x} to {goal:x}");
+/// The code's place, with the symbol's, and the goal of a line of `GOALS`.
+pub(crate) fn goal_of(line: &str) -> (Placing, u64) {
+    let mut words = line.split(' ');
+    let base = word_number(words.next());
+    let symbol = word_number(words.next());
+    let placing = Placing {
+        base,
+        symbols: [symbol, 0],
+        slots: [0x50010, 0x50008],
+    };
+    (placing, word_number(words.next()))
+}
+
+/// Stops unless a tail call leads to the goal of a line, out of no frame.
+fn assert_goal(rt: &impl Abort, alloc: Global, text: &str, line: &str) -> Result<(), Fail> {
+    let (placing, goal) = goal_of(line);
+    let mut machine = placing.before(alloc, text)?;
+    assert!(rt; arrives(&mut machine, goal)?, "at {line}");
+    Ok(())
+}
+
+/// Stops unless a tail call leads to each of the goals, of which there are nine.
+fn assert_goals(rt: &impl Abort, alloc: Global, text: &str) -> Result<(), Fail> {
+    let mut done = 0u32;
+    for line in GOALS.lines() {
+        assert_goal(rt, alloc, text, line)?;
+        done = done.wrapping_add(1);
     }
+    assert_eq!(rt; done, 9);
     Ok(())
 }
 
 #[test]
 fn symbols_are_reached(rt: HostRuntime) -> Result<(), Fail> {
     for flags in FLAGS {
-        assert_goals(&rt, rt.alloc(), flags)?;
+        let text = format!(in rt.alloc(); "{flags}ReturnCall userextname0 - 0\n")?;
+        assert_goals(&rt, rt.alloc(), &text)?;
     }
     Ok(())
 }
@@ -300,18 +316,13 @@ AluRRR add fp ra s1
 
 /// Stops unless the function is left with the registers that it was entered with, but for the stack pointer.
 fn assert_given_away(rt: &impl Abort, alloc: Global, flags: &str, tail: &str) -> Result<(), Fail> {
-    let mut text = String::new(alloc);
-    write!(text, "{flags}{FUNCTION}{tail}\n")?;
-    let (job, code) = assembled(alloc, &text)?;
-    let mut machine = PLACING.linked(alloc, job.flags, &code)?;
-    for register in 1u8..32 {
-        machine.set_reg(register, before(register));
-    }
-    machine.set_reg(2, 0x80000000);
+    let text = format!(in alloc; "{flags}{FUNCTION}{tail}\n")?;
+    let mut machine = PLACING.before(alloc, &text)?;
+    set_all(&mut machine, 0x80000000);
     assert!(rt; arrives(&mut machine, CALLEE)?, "at {text}");
     assert_changed(rt, &machine, "2:80000010", &text);
     assert_eq!(rt;
-        doubleword(&machine, 0x7fffffc8),
+        doubleword(&machine, 0x7fffffc8).swap_bytes(),
         0x0123456789abcdef,
         "at {text}"
     );
