@@ -24,6 +24,8 @@ mod records;
 #[cfg(test)]
 mod registers;
 #[cfg(test)]
+mod results;
+#[cfg(test)]
 mod runs;
 #[cfg(test)]
 mod symbols;
