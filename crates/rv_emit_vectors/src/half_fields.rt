@@ -3,6 +3,7 @@
 use rv_ops::{
     COpcodeSpace, CaOp, CbOp, CiOp, CiwOp, CjOp, ClOp, CrOp, CsOp, CssOp, CsznOp, ZcbMemOp,
 };
+use std::process::Abort;
 
 const CR: [(CrOp, u32, COpcodeSpace); 5] = [
     (CrOp::CJr, 0b1000, COpcodeSpace::C2),
@@ -60,86 +61,62 @@ const ZCB: [(ZcbMemOp, u32, u8); 5] = [
     (ZcbMemOp::CSh, 0b100011, 1),
 ];
 
-#[test]
-fn quadrants(rt: HostRuntime) {
+fn quadrants(rt: &impl Abort) {
     assert_eq!(rt; COpcodeSpace::C0.bits(), 0b00);
     assert_eq!(rt; COpcodeSpace::C1.bits(), 0b01);
     assert_eq!(rt; COpcodeSpace::C2.bits(), 0b10);
 }
 
-#[test]
-fn operations_of_two_registers(rt: HostRuntime) {
+fn operations_of_two_registers(rt: &impl Abort) {
     for (op, funct4, space) in &CR {
-        assert_eq!(rt; (op.funct4(), op.op()), (*funct4, *space), "{op:?}");
+        assert!(rt; op.funct4() == *funct4 && op.op() == *space, "{op:?}");
     }
     for (op, funct6, funct2, space) in &CA {
-        assert_eq!(rt;
-            (op.funct6(), op.funct2(), op.op()),
-            (*funct6, *funct2, *space),
-            "{op:?}"
-        );
+        assert!(rt; op.funct6() == *funct6 && op.funct2() == *funct2, "{op:?}");
+        assert!(rt; op.op() == *space, "{op:?}");
     }
 }
 
-#[test]
-fn operations_of_immediates(rt: HostRuntime) {
+fn operations_of_immediates(rt: &impl Abort) {
     for (op, funct3, space) in &CI {
-        assert_eq!(rt; (op.funct3(), op.op()), (*funct3, *space), "{op:?}");
+        assert!(rt; op.funct3() == *funct3 && op.op() == *space, "{op:?}");
     }
     for (op, funct3, funct2) in &CB {
-        assert_eq!(rt; (op.funct3(), op.funct2()), (*funct3, *funct2), "{op:?}");
-        assert_eq!(rt; op.op(), COpcodeSpace::C1, "{op:?}");
+        assert!(rt; op.funct3() == *funct3 && op.funct2() == *funct2, "{op:?}");
+        assert!(rt; op.op() == COpcodeSpace::C1, "{op:?}");
     }
-    assert_eq!(rt;
-        (CiwOp::CAddi4spn.funct3(), CiwOp::CAddi4spn.op()),
-        (0b000, COpcodeSpace::C0)
-    );
-    assert_eq!(rt;
-        (CjOp::CJ.funct3(), CjOp::CJ.op()),
-        (0b101, COpcodeSpace::C1)
-    );
+    assert!(rt; CiwOp::CAddi4spn.funct3() == 0b000 && CiwOp::CAddi4spn.op() == COpcodeSpace::C0);
+    assert!(rt; CjOp::CJ.funct3() == 0b101 && CjOp::CJ.op() == COpcodeSpace::C1);
 }
 
-#[test]
-fn loads_and_stores(rt: HostRuntime) {
-    assert_eq!(rt;
-        (CssOp::CSwsp.funct3(), CssOp::CSwsp.op()),
-        (0b110, COpcodeSpace::C2)
-    );
-    assert_eq!(rt;
-        (CssOp::CSdsp.funct3(), CssOp::CSdsp.op()),
-        (0b111, COpcodeSpace::C2)
-    );
-    assert_eq!(rt;
-        (CsOp::CSw.funct3(), CsOp::CSw.op()),
-        (0b110, COpcodeSpace::C0)
-    );
-    assert_eq!(rt;
-        (CsOp::CSd.funct3(), CsOp::CSd.op()),
-        (0b111, COpcodeSpace::C0)
-    );
-    assert_eq!(rt;
-        (ClOp::CLw.funct3(), ClOp::CLw.op()),
-        (0b010, COpcodeSpace::C0)
-    );
-    assert_eq!(rt;
-        (ClOp::CLd.funct3(), ClOp::CLd.op()),
-        (0b011, COpcodeSpace::C0)
-    );
+fn loads_and_stores(rt: &impl Abort) {
+    assert!(rt; CssOp::CSwsp.funct3() == 0b110 && CssOp::CSwsp.op() == COpcodeSpace::C2);
+    assert!(rt; CssOp::CSdsp.funct3() == 0b111 && CssOp::CSdsp.op() == COpcodeSpace::C2);
+    assert!(rt; CsOp::CSw.funct3() == 0b110 && CsOp::CSw.op() == COpcodeSpace::C0);
+    assert!(rt; CsOp::CSd.funct3() == 0b111 && CsOp::CSd.op() == COpcodeSpace::C0);
+    assert!(rt; ClOp::CLw.funct3() == 0b010 && ClOp::CLw.op() == COpcodeSpace::C0);
+    assert!(rt; ClOp::CLd.funct3() == 0b011 && ClOp::CLd.op() == COpcodeSpace::C0);
 }
 
-#[test]
-fn operations_of_zcb(rt: HostRuntime) {
+fn operations_of_zcb(rt: &impl Abort) {
     for (op, funct5) in &CSZN {
-        assert_eq!(rt; (op.funct6(), op.funct5()), (0b100111, *funct5), "{op:?}");
-        assert_eq!(rt; op.op(), COpcodeSpace::C1, "{op:?}");
+        assert!(rt; op.funct6() == 0b100111 && op.funct5() == *funct5, "{op:?}");
+        assert!(rt; op.op() == COpcodeSpace::C1, "{op:?}");
     }
     for (op, funct6, imm_bits) in &ZCB {
-        assert_eq!(rt;
-            (op.funct6(), op.imm_bits()),
-            (*funct6, *imm_bits),
+        assert!(rt;
+            op.funct6() == *funct6 && op.imm_bits() == *imm_bits,
             "{op:?}"
         );
-        assert_eq!(rt; op.op(), COpcodeSpace::C0, "{op:?}");
+        assert!(rt; op.op() == COpcodeSpace::C0, "{op:?}");
     }
+}
+
+#[test]
+fn fixed_fields_are_the_manuals(rt: HostRuntime) {
+    quadrants(&rt);
+    operations_of_two_registers(&rt);
+    operations_of_immediates(&rt);
+    loads_and_stores(&rt);
+    operations_of_zcb(&rt);
 }

@@ -73,10 +73,9 @@ fn zcb_imm(rt: &impl Abort, op: ZcbMemOp, value: u8) -> Uimm2
     }
 }
 
-#[test]
-fn registers_have_short_numbers(rt: HostRuntime) {
+fn registers_have_short_numbers(rt: &impl Abort) {
     for (number, bits) in [(8, 0), (9, 1), (14, 6), (15, 7)] {
-        let got = reg_to_compressed_gpr_num(short(&rt, number));
+        let got = reg_to_compressed_gpr_num(short(rt, number));
         assert_eq!(rt; got, bits, "x{number}");
     }
 }
@@ -90,10 +89,9 @@ const OF_REGISTERS: [(CrOp, u8, u8, u16); 5] = [
     (CrOp::CEbreak, 0, 0, 0x9002),
 ];
 
-#[test]
-fn operations_of_registers(rt: HostRuntime) {
+fn operations_of_registers(rt: &impl Abort) {
     for (op, rd, rs2, half) in &OF_REGISTERS {
-        let got = encode_cr_type(*op, writable_x(&rt, *rd), x(&rt, *rs2));
+        let got = encode_cr_type(*op, writable_x(rt, *rd), x(rt, *rs2));
         assert_eq!(rt; got, *half, "{half:x}");
     }
 }
@@ -106,10 +104,9 @@ const OF_ONE_REGISTER: [(CrOp, u8, u16); 4] = [
     (CrOp::CJalr, 31, 0x9f82),
 ];
 
-#[test]
-fn jumps_to_registers(rt: HostRuntime) {
+fn jumps_to_registers(rt: &impl Abort) {
     for (op, rs1, half) in &OF_ONE_REGISTER {
-        let got = encode_cr2_type(*op, x(&rt, *rs1));
+        let got = encode_cr2_type(*op, x(rt, *rs1));
         assert_eq!(rt; got, *half, "{half:x}");
     }
 }
@@ -132,32 +129,32 @@ const OF_SHORT_REGISTERS: [(CaOp, u8, u8, u16); 14] = [
     (CaOp::CMul, 15, 8, 0x9fc1),
 ];
 
-#[test]
-fn operations_of_short_registers(rt: HostRuntime) {
+fn operations_of_short_registers(rt: &impl Abort) {
     for (op, rd, rs2, half) in &OF_SHORT_REGISTERS {
-        let got = encode_ca_type(*op, writable_short(&rt, *rd), short(&rt, *rs2));
+        let got = encode_ca_type(*op, writable_short(rt, *rd), short(rt, *rs2));
         assert_eq!(rt; got, *half, "{half:x}");
     }
 }
 
-fn jump(half_distance: i16) -> u16
+/// Stops unless this is the halfword of a jump over so many halfwords.
+fn assert_jump(rt: &impl Abort, half_distance: i16, half: u16)
     requires low { negsuc 1023 ≤ℤ half_distance }
     requires high { half_distance ≤ℤ pos 1023 }
 {
-    encode_cj_type(CjOp::CJ, Imm12::from_i16(2 * half_distance))
+    let got = encode_cj_type(CjOp::CJ, Imm12::from_i16(2 * half_distance));
+    assert_eq!(rt; got, half, "{half:x}");
 }
 
-#[test]
-fn jumps(rt: HostRuntime) {
-    assert_eq!(rt; jump(0), 0xa001);
-    assert_eq!(rt; jump(1), 0xa009);
-    assert_eq!(rt; jump(-1), 0xbffd);
-    assert_eq!(rt; jump(1023), 0xaffd);
-    assert_eq!(rt; jump(-1024), 0xb001);
-    assert_eq!(rt; jump(-683), 0xb46d);
-    assert_eq!(rt; jump(-410), 0xb1f1);
-    assert_eq!(rt; jump(120), 0xa8c5);
-    assert_eq!(rt; jump(-128), 0xb701);
+fn jumps(rt: &impl Abort) {
+    assert_jump(rt, 0, 0xa001);
+    assert_jump(rt, 1, 0xa009);
+    assert_jump(rt, -1, 0xbffd);
+    assert_jump(rt, 1023, 0xaffd);
+    assert_jump(rt, -1024, 0xb001);
+    assert_jump(rt, -683, 0xb46d);
+    assert_jump(rt, -410, 0xb1f1);
+    assert_jump(rt, 120, 0xa8c5);
+    assert_jump(rt, -128, 0xb701);
 }
 
 /// Operations with their destination and immediate; a shift by 32 to 63 has its amount less 64.
@@ -184,10 +181,9 @@ const OF_IMMEDIATES: [(CiOp, u8, i16, u16); 20] = [
     (CiOp::CSlli, 21, -1, 0x1afe),
 ];
 
-#[test]
-fn operations_of_immediates(rt: HostRuntime) {
+fn operations_of_immediates(rt: &impl Abort) {
     for (op, rd, imm, half) in &OF_IMMEDIATES {
-        let got = encode_ci_type(*op, writable_x(&rt, *rd), imm6(&rt, *imm));
+        let got = encode_ci_type(*op, writable_x(rt, *rd), imm6(rt, *imm));
         assert_eq!(rt; got, *half, "{half:x}");
     }
 }
@@ -201,10 +197,9 @@ const ADDITIONS_TO_SP: [(i16, u16); 5] = [
     (-8, 0x7119),
 ];
 
-#[test]
-fn additions_to_the_stack_pointer(rt: HostRuntime) {
+fn additions_to_the_stack_pointer(rt: &impl Abort) {
     for (imm, half) in &ADDITIONS_TO_SP {
-        let got = encode_c_addi16sp(imm6(&rt, *imm));
+        let got = encode_c_addi16sp(imm6(rt, *imm));
         assert_eq!(rt; got, *half, "{half:x}");
     }
 }
@@ -219,10 +214,9 @@ const SUMS_OF_SP: [(u8, u8, u16); 6] = [
     (11, 128, 0x040c),
 ];
 
-#[test]
-fn sums_of_the_stack_pointer(rt: HostRuntime) {
+fn sums_of_the_stack_pointer(rt: &impl Abort) {
     for (rd, imm, half) in &SUMS_OF_SP {
-        let got = encode_ciw_type(CiwOp::CAddi4spn, writable_short(&rt, *rd), *imm);
+        let got = encode_ciw_type(CiwOp::CAddi4spn, writable_short(rt, *rd), *imm);
         assert_eq!(rt; got, *half, "{half:x}");
     }
 }
@@ -240,10 +234,9 @@ const OF_SHORT_REGISTERS_AND_IMMEDIATES: [(CbOp, u8, i16, u16); 9] = [
     (CbOp::CAndi, 10, 21, 0x8955),
 ];
 
-#[test]
-fn operations_of_short_registers_and_immediates(rt: HostRuntime) {
+fn operations_of_short_registers_and_immediates(rt: &impl Abort) {
     for (op, rd, imm, half) in &OF_SHORT_REGISTERS_AND_IMMEDIATES {
-        let got = encode_cb_type(*op, writable_short(&rt, *rd), imm6(&rt, *imm));
+        let got = encode_cb_type(*op, writable_short(rt, *rd), imm6(rt, *imm));
         assert_eq!(rt; got, *half, "{half:x}");
     }
 }
@@ -264,10 +257,9 @@ const OF_ONE_SHORT_REGISTER: [(CsznOp, u8, u16); 12] = [
     (CsznOp::CNot, 15, 0x9ff5),
 ];
 
-#[test]
-fn operations_of_one_short_register(rt: HostRuntime) {
+fn operations_of_one_short_register(rt: &impl Abort) {
     for (op, rd, half) in &OF_ONE_SHORT_REGISTER {
-        let got = encode_cszn_type(*op, writable_short(&rt, *rd));
+        let got = encode_cszn_type(*op, writable_short(rt, *rd));
         assert_eq!(rt; got, *half, "{half:x}");
     }
 }
@@ -290,14 +282,13 @@ const DOUBLEWORDS_PAST_SP: [(u8, u8, u16); 5] = [
     (21, 56, 0x6a9e),
 ];
 
-#[test]
-fn loads_past_the_stack_pointer(rt: HostRuntime) {
+fn loads_past_the_stack_pointer(rt: &impl Abort) {
     for (rd, imm, half) in &WORDS_PAST_SP {
-        let got = encode_ci_sp_load(CiOp::CLwsp, writable_x(&rt, *rd), uimm6(&rt, *imm));
+        let got = encode_ci_sp_load(CiOp::CLwsp, writable_x(rt, *rd), uimm6(rt, *imm));
         assert_eq!(rt; got, *half, "{half:x}");
     }
     for (rd, imm, half) in &DOUBLEWORDS_PAST_SP {
-        let got = encode_ci_sp_load(CiOp::CLdsp, writable_x(&rt, *rd), uimm6(&rt, *imm));
+        let got = encode_ci_sp_load(CiOp::CLdsp, writable_x(rt, *rd), uimm6(rt, *imm));
         assert_eq!(rt; got, *half, "{half:x}");
     }
 }
@@ -316,10 +307,9 @@ const SP_STORES: [(CssOp, u8, u8, u16); 10] = [
     (CssOp::CSdsp, 21, 56, 0xe3d6),
 ];
 
-#[test]
-fn stores_past_the_stack_pointer(rt: HostRuntime) {
+fn stores_past_the_stack_pointer(rt: &impl Abort) {
     for (op, src, imm, half) in &SP_STORES {
-        let got = encode_css_type(*op, x(&rt, *src), uimm6(&rt, *imm));
+        let got = encode_css_type(*op, x(rt, *src), uimm6(rt, *imm));
         assert_eq!(rt; got, *half, "{half:x}");
     }
 }
@@ -338,14 +328,13 @@ const LOADS: [(ClOp, u8, u8, u8, u16); 10] = [
     (ClOp::CLd, 12, 9, 24, 0x60f0),
 ];
 
-#[test]
-fn loads(rt: HostRuntime) {
+fn loads(rt: &impl Abort) {
     for (op, dest, base, imm, half) in &LOADS {
         let got = encode_cl_type(
             *op,
-            writable_short(&rt, *dest),
-            short(&rt, *base),
-            uimm5(&rt, *imm),
+            writable_short(rt, *dest),
+            short(rt, *base),
+            uimm5(rt, *imm),
         );
         assert_eq!(rt; got, *half, "{half:x}");
     }
@@ -365,10 +354,9 @@ const STORES: [(CsOp, u8, u8, u8, u16); 10] = [
     (CsOp::CSd, 12, 9, 24, 0xe0f0),
 ];
 
-#[test]
-fn stores(rt: HostRuntime) {
+fn stores(rt: &impl Abort) {
     for (op, src, base, imm, half) in &STORES {
-        let got = encode_cs_type(*op, short(&rt, *src), short(&rt, *base), uimm5(&rt, *imm));
+        let got = encode_cs_type(*op, short(rt, *src), short(rt, *base), uimm5(rt, *imm));
         assert_eq!(rt; got, *half, "{half:x}");
     }
 }
@@ -385,11 +373,10 @@ const ZCB_LOADS: [(ZcbMemOp, u8, u8, u8, u16); 8] = [
     (ZcbMemOp::CLh, 15, 8, 1, 0x847c),
 ];
 
-#[test]
-fn loads_of_bytes_and_halfwords(rt: HostRuntime) {
+fn loads_of_bytes_and_halfwords(rt: &impl Abort) {
     for (op, rd, base, imm, half) in &ZCB_LOADS {
-        let imm = zcb_imm(&rt, *op, *imm);
-        let got = encode_zcbmem_load(*op, writable_short(&rt, *rd), short(&rt, *base), imm);
+        let imm = zcb_imm(rt, *op, *imm);
+        let got = encode_zcbmem_load(*op, writable_short(rt, *rd), short(rt, *base), imm);
         assert_eq!(rt; got, *half, "{half:x}");
     }
 }
@@ -404,11 +391,30 @@ const ZCB_STORES: [(ZcbMemOp, u8, u8, u8, u16); 6] = [
     (ZcbMemOp::CSh, 15, 8, 1, 0x8c3c),
 ];
 
-#[test]
-fn stores_of_bytes_and_halfwords(rt: HostRuntime) {
+fn stores_of_bytes_and_halfwords(rt: &impl Abort) {
     for (op, src, base, imm, half) in &ZCB_STORES {
-        let imm = zcb_imm(&rt, *op, *imm);
-        let got = encode_zcbmem_store(*op, short(&rt, *src), short(&rt, *base), imm);
+        let imm = zcb_imm(rt, *op, *imm);
+        let got = encode_zcbmem_store(*op, short(rt, *src), short(rt, *base), imm);
         assert_eq!(rt; got, *half, "{half:x}");
     }
+}
+
+#[test]
+fn halfwords_are_as_assemblers_make_them(rt: HostRuntime) {
+    registers_have_short_numbers(&rt);
+    operations_of_registers(&rt);
+    jumps_to_registers(&rt);
+    operations_of_short_registers(&rt);
+    jumps(&rt);
+    operations_of_immediates(&rt);
+    additions_to_the_stack_pointer(&rt);
+    sums_of_the_stack_pointer(&rt);
+    operations_of_short_registers_and_immediates(&rt);
+    operations_of_one_short_register(&rt);
+    loads_past_the_stack_pointer(&rt);
+    stores_past_the_stack_pointer(&rt);
+    loads(&rt);
+    stores(&rt);
+    loads_of_bytes_and_halfwords(&rt);
+    stores_of_bytes_and_halfwords(&rt);
 }

@@ -10,6 +10,7 @@ use rv_encode::{
 };
 use rv_imms::{Imm12, Imm20};
 use rv_ops::{IntegerCompare, LoadOP, StoreOP};
+use std::process::Abort;
 
 fn x(number: u8) -> Reg
     requires { number < 32 }
@@ -33,8 +34,7 @@ const OVER_3976: [(IntCC, u32); 4] = [
     (IntCC::UnsignedLessThanOrEqual, 0x78a5f4e3),
 ];
 
-#[test]
-fn branches_forward(rt: HostRuntime) {
+fn branches_forward(rt: &impl Abort) {
     for (kind, word) in &OVER_3976 {
         let kind = *kind;
         let compare = IntegerCompare {
@@ -46,8 +46,7 @@ fn branches_forward(rt: HostRuntime) {
     }
 }
 
-#[test]
-fn branches_back(rt: HostRuntime) {
+fn branches_back(rt: &impl Abort) {
     let compare = IntegerCompare {
         kind: IntCC::NotEqual,
         rs1: x(10),
@@ -56,22 +55,19 @@ fn branches_back(rt: HostRuntime) {
     assert_eq!(rt; encode_branch(compare, -4), 0xfe051ee3);
 }
 
-#[test]
-fn jumps(rt: HostRuntime) {
+fn jumps(rt: &impl Abort) {
     assert_eq!(rt; encode_jal(writable_x(0), 12), 0x00c0006f);
     assert_eq!(rt; encode_jal(writable_x(1), -1048576), 0x800000ef);
     let jalr = enc_jalr(writable_x(10), x(10), Imm12::from_i16(100));
     assert_eq!(rt; jalr, 0x06450567);
 }
 
-#[test]
-fn upper_numbers(rt: HostRuntime) {
+fn upper_numbers(rt: &impl Abort) {
     assert_eq!(rt; encode_lui(writable_x(0), Imm20::from_i32(120)), 0x00078037);
     assert_eq!(rt; enc_auipc(writable_x(31), Imm20::from_i32(-1)), 0xffffff97);
 }
 
-#[test]
-fn stores_and_breaks(rt: HostRuntime) {
+fn stores_and_breaks(rt: &impl Abort) {
     let store = encode_s_type(0x23, 3, x(2), x(10), Imm12::from_i16(100));
     assert_eq!(rt; store, 0x06a13223);
     assert_eq!(rt; encode_ebreak(), 0x00100073);
@@ -88,8 +84,7 @@ const LOADS: [(LoadOP, u32); 7] = [
     (LoadOP::Ld, 0x0645b503),
 ];
 
-#[test]
-fn loads(rt: HostRuntime) {
+fn loads(rt: &impl Abort) {
     for (op, word) in &LOADS {
         let got = encode_load(*op, writable_x(10), x(11), Imm12::from_i16(100));
         assert_eq!(rt; got, *word, "{word:x}");
@@ -106,8 +101,7 @@ const STORES: [(StoreOP, u32); 4] = [
     (StoreOP::Sd, 0x06a13223),
 ];
 
-#[test]
-fn stores(rt: HostRuntime) {
+fn stores(rt: &impl Abort) {
     for (op, word) in &STORES {
         let got = encode_store(*op, x(2), x(10), Imm12::from_i16(100));
         assert_eq!(rt; got, *word, "{word:x}");
@@ -116,4 +110,15 @@ fn stores(rt: HostRuntime) {
     assert_eq!(rt; odd, 0x54008aa3);
     let back = encode_store(StoreOP::Sw, x(31), x(1), Imm12::from_i16(-1366));
     assert_eq!(rt; back, 0xaa1fa523);
+}
+
+#[test]
+fn words_are_as_assemblers_make_them(rt: HostRuntime) {
+    branches_forward(&rt);
+    branches_back(&rt);
+    jumps(&rt);
+    upper_numbers(&rt);
+    stores_and_breaks(&rt);
+    loads(&rt);
+    stores(&rt);
 }
