@@ -5,74 +5,78 @@ use rv_base::{
     OutOfMemory, PRegSet, Reg, RegClass, TrapCode, VCodeConstant, a0, a1, a2, f_reg, pv_reg,
     reg_name, writable_a0, x_reg,
 };
-use std::alloc::AllocError;
+use std::alloc::{AllocError, Global};
+use std::process::Abort;
 
-#[test]
-fn registers_print_their_names(rt: HostRuntime) -> Result<(), OutOfMemory> {
-    let rows = [
-        (x_reg(0), "zero"),
-        (x_reg(8), "fp"),
-        (x_reg(27), "s11"),
-        (f_reg(9), "fs1"),
-        (f_reg(31), "ft11"),
-        (Reg::from_preg(pv_reg(30)), "v30"),
-        (Reg::from_virtual(192, RegClass::Int), "%192"),
-    ];
-    for (reg, name) in rows {
-        let text = reg_name(rt.alloc(), reg)?;
-        assert_eq!(rt; text.as_str(), name);
+/// Puts the names of registers.
+fn put_registers(alloc: Global, text: &mut String) -> Result<(), OutOfMemory> {
+    for reg in [
+        x_reg(0),
+        x_reg(8),
+        x_reg(27),
+        f_reg(9),
+        f_reg(31),
+        Reg::from_preg(pv_reg(30)),
+        Reg::from_virtual(192, RegClass::Int),
+    ] {
+        let name = reg_name(alloc, reg)?;
+        write!(text, "{name} ")?;
     }
     Ok(())
 }
 
-#[test]
-fn addresses_print(rt: HostRuntime) -> Result<(), AllocError> {
-    let rows = [
-        (AMode::RegOffset(a0(), -8), "-8(a0)"),
-        (AMode::SPOffset(16), "16(sp)"),
-        (AMode::FPOffset(0), "0(fp)"),
-        (AMode::SlotOffset(24), "24(slot)"),
-        (AMode::IncomingArg(-5), "--5(incoming_arg)"),
-        (AMode::Const(VCodeConstant::from_u32(2)), "[const(2)]"),
-        (AMode::Label(MachLabel::from_u32(7)), "[label7]"),
-    ];
-    for (mode, expected) in rows {
-        let text = mode.to_string(rt.alloc())?;
-        assert_eq!(rt; text.as_str(), expected);
+/// Puts an address of each kind.
+fn put_addresses(text: &mut String) -> Result<(), AllocError> {
+    for mode in [
+        AMode::RegOffset(a0(), -8),
+        AMode::SPOffset(16),
+        AMode::FPOffset(0),
+        AMode::SlotOffset(24),
+        AMode::IncomingArg(-5),
+        AMode::Const(VCodeConstant::from_u32(2)),
+        AMode::Label(MachLabel::from_u32(7)),
+    ] {
+        write!(text, "{mode} ")?;
     }
     Ok(())
 }
 
-#[test]
-fn types_traps_and_symbols_print(rt: HostRuntime) -> Result<(), AllocError> {
-    let Some(vector) = IrType::vector(IrType::I8, 16) else {
-        assert!(rt; false, "i8x16 is a type");
-        return Ok(());
-    };
+/// Puts the names of trap codes.
+fn put_traps(text: &mut String) -> Result<(), AllocError> {
+    for code in [
+        TrapCode::StackOverflow,
+        TrapCode::HeapOutOfBounds,
+        TrapCode::IntegerOverflow,
+        TrapCode::IntegerDivisionByZero,
+        TrapCode::BadConversionToInteger,
+        TrapCode::user(9).unwrap_or(TrapCode::StackOverflow),
+    ] {
+        write!(text, "{code} ")?;
+    }
+    Ok(())
+}
+
+/// Puts a type, a symbol and a label.
+fn put_names(rt: &impl Abort, text: &mut String) -> Result<(), AllocError> {
+    let vector = IrType::vector(IrType::I8, 16).expect(rt, "i8x16 is a type");
     let name = ExternalName::from_u32(0);
     let label = MachLabel::from_u32(3);
-    let trap = TrapCode::user(9).unwrap_or(TrapCode::StackOverflow);
-    let text = format!(in rt.alloc(); "{vector} {name} {name:?} {label} {label:?} {trap}")?;
-    assert_eq!(rt;
-        text.as_str(),
-        "i8x16 userextname0 User(userextname0) label3 MachLabel(3) user9"
-    );
-    Ok(())
+    write!(text, "{vector} {name} {name:?} {label} {label:?}")
 }
 
+const PRINTED: &str = "zero fp s11 fs1 ft11 v30 %192 \
+    -8(a0) 16(sp) 0(fp) 24(slot) --5(incoming_arg) [const(2)] [label7] \
+    stk_ovf heap_oob int_ovf int_divz bad_toint user9 \
+    i8x16 userextname0 User(userextname0) label3 MachLabel(3)";
+
 #[test]
-fn trap_codes_have_their_names(rt: HostRuntime) -> Result<(), AllocError> {
-    let rows = [
-        (TrapCode::StackOverflow, "stk_ovf"),
-        (TrapCode::HeapOutOfBounds, "heap_oob"),
-        (TrapCode::IntegerOverflow, "int_ovf"),
-        (TrapCode::IntegerDivisionByZero, "int_divz"),
-        (TrapCode::BadConversionToInteger, "bad_toint"),
-    ];
-    for (code, name) in &rows {
-        let text = code.to_string(rt.alloc())?;
-        assert_eq!(rt; text.as_str(), *name);
-    }
+fn values_print(rt: HostRuntime) -> Result<(), OutOfMemory> {
+    let mut text = String::new(rt.alloc());
+    put_registers(rt.alloc(), &mut text)?;
+    put_addresses(&mut text)?;
+    put_traps(&mut text)?;
+    put_names(&rt, &mut text)?;
+    assert_eq!(rt; text.as_str(), PRINTED);
     Ok(())
 }
 
@@ -114,7 +118,7 @@ fn requests_are_recorded_in_order(rt: HostRuntime) -> Result<(), OutOfMemory> {
         Constraint::AnyDef(writable_a0()),
         Constraint::RegClobbers(PRegSet::new()),
     ];
-    assert_eq!(rt; visitor.constraints().as_slice(), expected.as_slice());
+    assert!(rt; visitor.constraints().as_slice() == expected.as_slice());
     Ok(())
 }
 
@@ -123,6 +127,6 @@ fn lists_grow(rt: HostRuntime) -> Result<(), OutOfMemory> {
     let mut list = List::new(rt.alloc());
     list.push(3)?;
     list.push(4)?;
-    assert_eq!(rt; list.as_slice(), [3, 4].as_slice());
+    assert!(rt; list.as_slice() == [3, 4].as_slice());
     Ok(())
 }
