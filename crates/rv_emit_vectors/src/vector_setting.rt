@@ -2,140 +2,78 @@
 //! assembler reads.
 
 use rv_base::{IrType, LaneType, VectorType};
+use rv_vector::VecElementWidth::{E8, E16, E32, E64};
+use rv_vector::VecLmul::{Lmul1, Lmul2, Lmul4, Lmul8, LmulF2, LmulF4, LmulF8};
 use rv_vector::{VState, VType, VecAvl, VecElementWidth, VecLmul, VecMaskMode, VecTailMode};
 use std::alloc::AllocError;
 
+const TA: VecTailMode = VecTailMode::Agnostic;
+
+const TU: VecTailMode = VecTailMode::Undisturbed;
+
+const MA: VecMaskMode = VecMaskMode::Agnostic;
+
+const MU: VecMaskMode = VecMaskMode::Undisturbed;
+
+const SETTINGS: [(VecElementWidth, VecLmul, VecTailMode, VecMaskMode); 14] = [
+    (E8, Lmul1, TU, MU),
+    (E16, Lmul1, TU, MU),
+    (E32, Lmul1, TU, MU),
+    (E64, Lmul1, TU, MU),
+    (E8, Lmul2, TU, MU),
+    (E8, Lmul4, TU, MU),
+    (E8, Lmul8, TU, MU),
+    (E8, LmulF8, TU, MU),
+    (E8, LmulF4, TU, MU),
+    (E8, LmulF2, TU, MU),
+    (E8, Lmul1, TA, MU),
+    (E8, Lmul1, TU, MA),
+    (E32, Lmul1, TA, MA),
+    (E64, LmulF2, TA, MA),
+];
+
+/// The bits and the text of each.
+const SETTING_TEXTS: &str = "\
+00 e8, m1, tu, mu
+08 e16, m1, tu, mu
+10 e32, m1, tu, mu
+18 e64, m1, tu, mu
+01 e8, m2, tu, mu
+02 e8, m4, tu, mu
+03 e8, m8, tu, mu
+05 e8, mf8, tu, mu
+06 e8, mf4, tu, mu
+07 e8, mf2, tu, mu
+40 e8, m1, ta, mu
+80 e8, m1, tu, ma
+d0 e32, m1, ta, ma
+df e64, mf2, ta, ma
+";
+
 #[test]
 fn vector_types_have_their_bits(rt: HostRuntime) -> Result<(), AllocError> {
-    let (ta, tu) = (VecTailMode::Agnostic, VecTailMode::Undisturbed);
-    let (ma, mu) = (VecMaskMode::Agnostic, VecMaskMode::Undisturbed);
-    let rows = [
-        (
-            VecElementWidth::E8,
-            VecLmul::Lmul1,
-            tu,
-            mu,
-            0x00,
-            "e8, m1, tu, mu",
-        ),
-        (
-            VecElementWidth::E16,
-            VecLmul::Lmul1,
-            tu,
-            mu,
-            0x08,
-            "e16, m1, tu, mu",
-        ),
-        (
-            VecElementWidth::E32,
-            VecLmul::Lmul1,
-            tu,
-            mu,
-            0x10,
-            "e32, m1, tu, mu",
-        ),
-        (
-            VecElementWidth::E64,
-            VecLmul::Lmul1,
-            tu,
-            mu,
-            0x18,
-            "e64, m1, tu, mu",
-        ),
-        (
-            VecElementWidth::E8,
-            VecLmul::Lmul2,
-            tu,
-            mu,
-            0x01,
-            "e8, m2, tu, mu",
-        ),
-        (
-            VecElementWidth::E8,
-            VecLmul::Lmul4,
-            tu,
-            mu,
-            0x02,
-            "e8, m4, tu, mu",
-        ),
-        (
-            VecElementWidth::E8,
-            VecLmul::Lmul8,
-            tu,
-            mu,
-            0x03,
-            "e8, m8, tu, mu",
-        ),
-        (
-            VecElementWidth::E8,
-            VecLmul::LmulF8,
-            tu,
-            mu,
-            0x05,
-            "e8, mf8, tu, mu",
-        ),
-        (
-            VecElementWidth::E8,
-            VecLmul::LmulF4,
-            tu,
-            mu,
-            0x06,
-            "e8, mf4, tu, mu",
-        ),
-        (
-            VecElementWidth::E8,
-            VecLmul::LmulF2,
-            tu,
-            mu,
-            0x07,
-            "e8, mf2, tu, mu",
-        ),
-        (
-            VecElementWidth::E8,
-            VecLmul::Lmul1,
-            ta,
-            mu,
-            0x40,
-            "e8, m1, ta, mu",
-        ),
-        (
-            VecElementWidth::E8,
-            VecLmul::Lmul1,
-            tu,
-            ma,
-            0x80,
-            "e8, m1, tu, ma",
-        ),
-        (
-            VecElementWidth::E32,
-            VecLmul::Lmul1,
-            ta,
-            ma,
-            0xd0,
-            "e32, m1, ta, ma",
-        ),
-        (
-            VecElementWidth::E64,
-            VecLmul::LmulF2,
-            ta,
-            ma,
-            0xdf,
-            "e64, mf2, ta, ma",
-        ),
-    ];
-    for (sew, lmul, tail_mode, mask_mode, bits, name) in rows {
+    let mut text = String::new(rt.alloc());
+    for (sew, lmul, tail_mode, mask_mode) in &SETTINGS {
         let vtype = VType {
-            sew,
-            lmul,
-            tail_mode,
-            mask_mode,
+            sew: *sew,
+            lmul: *lmul,
+            tail_mode: *tail_mode,
+            mask_mode: *mask_mode,
         };
-        assert_eq!(rt; vtype.encode(), bits, "at {name}");
-        let text = format!(in rt.alloc(); "{vtype}")?;
-        assert_eq!(rt; text.as_str(), name);
+        let bits = vtype.encode();
+        write!(text, "{bits:02x} {vtype}\n")?;
     }
+    assert_eq!(rt; text.as_str(), SETTING_TEXTS);
     Ok(())
 }
+
+/// The lengths and the settings of `I32`, `F16`, sixteen bytes and two doubles.
+const TYPE_TEXTS: &str = "\
+#avl=1, #vtype=(e32, m1, ta, ma)
+#avl=1, #vtype=(e16, m1, ta, ma)
+#avl=16, #vtype=(e8, m1, ta, ma)
+#avl=2, #vtype=(e64, m1, ta, ma)
+";
 
 #[test]
 fn types_have_their_settings(rt: HostRuntime) -> Result<(), AllocError> {
@@ -147,25 +85,12 @@ fn types_have_their_settings(rt: HostRuntime) -> Result<(), AllocError> {
         lane: LaneType::F64,
         lanes: 2,
     });
-    let rows = [
-        (
-            VState::from_type(IrType::I32),
-            "#avl=1, #vtype=(e32, m1, ta, ma)",
-        ),
-        (
-            VState::from_type(IrType::F16),
-            "#avl=1, #vtype=(e16, m1, ta, ma)",
-        ),
-        (VState::from_type(bytes), "#avl=16, #vtype=(e8, m1, ta, ma)"),
-        (
-            VState::from_type(doubles),
-            "#avl=2, #vtype=(e64, m1, ta, ma)",
-        ),
-    ];
-    for (state, name) in rows {
-        let text = format!(in rt.alloc(); "{state}")?;
-        assert_eq!(rt; text.as_str(), name);
+    let mut text = String::new(rt.alloc());
+    for ty in [IrType::I32, IrType::F16, bytes, doubles] {
+        let state = VState::from_type(ty);
+        write!(text, "{state}\n")?;
     }
+    assert_eq!(rt; text.as_str(), TYPE_TEXTS);
     Ok(())
 }
 
