@@ -78,38 +78,30 @@ const REACHES: [Reach; 12] = [
 ];
 
 #[test]
-fn offsets_are_in_range(rt: HostRuntime) {
+fn offsets_are_in_range_to_the_farthest(rt: HostRuntime) {
     for row in &REACHES {
+        let kind = row.kind;
         assert!(rt;
-            row.kind.offset_in_range(row.farthest),
-            "{:?} at {}",
-            row.kind,
+            kind.offset_in_range(row.farthest),
+            "{kind:?} at {}",
             row.farthest
         );
-    }
-}
-
-#[test]
-fn offsets_are_out_of_range(rt: HostRuntime) {
-    for row in &REACHES {
         assert!(rt;
-            !row.kind.offset_in_range(row.beyond),
-            "{:?} at {}",
-            row.kind,
+            !kind.offset_in_range(row.beyond),
+            "{kind:?} at {}",
             row.beyond
         );
     }
 }
 
-#[test]
-fn jumps_are_patched(rt: HostRuntime) {
+fn jumps_are_patched(rt: &impl Abort) {
     let mut jump = [0x6f, 0, 0, 0];
     LabelUse::Jal20.patch(&mut jump, 3972, 3984);
     assert_eq!(rt; jump, [0x6f, 0, 0xc0, 0]);
 }
 
-/// The bytes of a `c.j` after its patch.
-fn compressed_jump(use_offset: u32, label_offset: u32) -> [u8; 2]
+/// Stops unless these are the bytes of a `c.j` after its patch.
+fn assert_compressed(rt: &impl Abort, use_offset: u32, label_offset: u32, bytes: [u8; 2])
     requires forward { label_offset ≤ use_offset + 2046 }
     requires backward { use_offset ≤ label_offset + 2048 }
     requires use_even { use_offset % 2 ≡ 0 }
@@ -117,47 +109,52 @@ fn compressed_jump(use_offset: u32, label_offset: u32) -> [u8; 2]
 {
     let mut jump = [0x01, 0xa0];
     LabelUse::RVCJump.patch(&mut jump, use_offset, label_offset);
-    jump
+    assert_eq!(rt; jump, bytes, "{use_offset} {label_offset}");
 }
 
-#[test]
-fn compressed_jumps_are_patched(rt: HostRuntime) {
+fn compressed_jumps_are_patched(rt: &impl Abort) {
     // Each pair of bytes is what GNU `as` makes of `c.j` over the distance. The rows tell every two of its bits apart.
-    assert_eq!(rt; compressed_jump(100, 100), [0x01, 0xa0]);
-    assert_eq!(rt; compressed_jump(0, 2046), [0xfd, 0xaf]);
-    assert_eq!(rt; compressed_jump(2048, 0), [0x01, 0xb0]);
-    assert_eq!(rt; compressed_jump(3976, 4216), [0xc5, 0xa8]);
-    assert_eq!(rt; compressed_jump(4216, 3960), [0x01, 0xb7]);
-    assert_eq!(rt; compressed_jump(4216, 3396), [0xf1, 0xb1]);
-    assert_eq!(rt; compressed_jump(1366, 0), [0x6d, 0xb4]);
+    assert_compressed(rt, 100, 100, [0x01, 0xa0]);
+    assert_compressed(rt, 0, 2046, [0xfd, 0xaf]);
+    assert_compressed(rt, 2048, 0, [0x01, 0xb0]);
+    assert_compressed(rt, 3976, 4216, [0xc5, 0xa8]);
+    assert_compressed(rt, 4216, 3960, [0x01, 0xb7]);
+    assert_compressed(rt, 4216, 3396, [0xf1, 0xb1]);
+    assert_compressed(rt, 1366, 0, [0x6d, 0xb4]);
 }
 
-#[test]
-fn branches_are_patched(rt: HostRuntime) {
+fn branches_are_patched(rt: &impl Abort) {
     let mut branch = [0x63, 0, 0xb5, 0];
     LabelUse::B12.patch(&mut branch, 0, 3976);
     assert_eq!(rt; branch, [0xe3, 4, 0xb5, 0x78]);
 }
 
-#[test]
-fn pairs_are_patched(rt: HostRuntime) {
+fn pairs_are_patched(rt: &impl Abort) {
     let mut pair = [0x97, 0xf, 0, 0, 0x67, 0x80, 0xf, 0];
     LabelUse::PCRel32.patch(&mut pair, 3976, 4416);
     assert_eq!(rt; pair, [0x97, 0xf, 0, 0, 0x67, 0x80, 0x8f, 0x1b]);
 }
 
-#[test]
-fn upper_parts_are_patched(rt: HostRuntime) {
+fn upper_parts_are_patched(rt: &impl Abort) {
     let mut upper = [0x17, 5, 0, 0];
     LabelUse::PCRelHi20.patch(&mut upper, 0, 4000);
     assert_eq!(rt; upper, [0x17, 0x15, 0, 0]);
 }
 
-#[test]
-fn lower_parts_are_patched(rt: HostRuntime) {
+fn lower_parts_are_patched(rt: &impl Abort) {
     let mut lower = [0x13, 5, 5, 0];
     LabelUse::PCRelLo12I.patch(&mut lower, 4, 4000);
     assert_eq!(rt; lower, [0x13, 5, 5, 0xfa]);
+}
+
+#[test]
+fn uses_are_patched(rt: HostRuntime) {
+    jumps_are_patched(&rt);
+    compressed_jumps_are_patched(&rt);
+    branches_are_patched(&rt);
+    pairs_are_patched(&rt);
+    upper_parts_are_patched(&rt);
+    lower_parts_are_patched(&rt);
 }
 
 #[test]
@@ -166,13 +163,13 @@ fn veneers_are_made(rt: HostRuntime) {
         let mut veneer = [0; 8];
         let made = kind.generate_veneer(&mut veneer, 3976);
         assert_eq!(rt; veneer, [0x97, 0xf, 0, 0, 0x67, 0x80, 0xf, 0], "{kind:?}");
-        assert_eq!(rt; made, (3976, LabelUse::PCRel32), "{kind:?}");
+        assert!(rt; made == (3976, LabelUse::PCRel32), "{kind:?}");
     }
 }
 
 /// Stops unless a target has this label, where one is given.
 fn assert_label(rt: &impl Abort, target: CondBrTarget, given: Option<MachLabel>) {
-    assert_eq!(rt; target.as_label(), given);
+    assert!(rt; target.as_label() == given, "{target}");
     assert_eq!(rt; target.is_fallthrouh(), given.is_none(), "{target}");
 }
 
