@@ -493,3 +493,13 @@ pub fn assemble<L: MachInstLabelUse>(
     }
     bind_and_finish(buffer, constants)
 }
+
+/// The code of items over the toy.
+pub fn code_of_items(
+    alloc: Global,
+    constants: &[Constant],
+    items: &[Item],
+) -> Result<Finished, Fail> {
+    let mut islands = Vec::new(alloc);
+    assemble(alloc, Toy::Short, constants, items, &mut islands)
+}

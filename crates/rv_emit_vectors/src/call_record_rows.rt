@@ -3,9 +3,10 @@
 
 use crate::buffer::Item::{Bind, Fill, Record, Use};
 use crate::buffer::Note::{Calls, Maps, Patches, Throws};
-use crate::buffer::{Item, assemble};
-use crate::toy::Toy;
-use mach_buffer::{FinalizedMachExceptionHandler, MachPatchable, MachStackMap, MachTryCallSite};
+use crate::buffer::{Item, code_of_items};
+use mach_buffer::{
+    FinalizedMachExceptionHandler, Finished, MachPatchable, MachStackMap, MachTryCallSite,
+};
 use rv_base::{IrType, MachLabel, TryCallHandler};
 use std::alloc::Global;
 use std::process::Abort;
@@ -97,39 +98,59 @@ const ROWS: [Row; 2] = [
     },
 ];
 
+/// Stops unless this is a call that may throw.
+fn assert_thrower(rt: &impl Abort, site: &MachTryCallSite, thrower: &Thrower) {
+    let (offset, frame_offset, handlers) = *thrower;
+    assert!(rt;
+        site.offset == offset && site.frame_offset == frame_offset,
+        "{offset}"
+    );
+    assert!(rt; site.handlers.as_slice() == handlers, "{offset}");
+}
+
 /// Stops unless these are the calls that may throw.
 fn assert_throwers(rt: &impl Abort, found: &[MachTryCallSite], throwers: &[Thrower]) {
     assert_eq!(rt; found.len(), throwers.len());
-    for (site, (offset, frame_offset, handlers)) in found.iter().zip(throwers) {
-        assert_eq!(rt; site.offset, *offset);
-        assert_eq!(rt; site.frame_offset, *frame_offset);
-        assert_eq!(rt; site.handlers.as_slice(), *handlers);
+    for (site, thrower) in found.iter().zip(throwers) {
+        assert_thrower(rt, site, thrower);
     }
+}
+
+/// Stops unless these are integers of 64 bits at these offsets.
+fn assert_entries(rt: &impl Abort, entries: &[(IrType, u32)], values: &[u32]) {
+    assert_eq!(rt; entries.len(), values.len());
+    for ((ty, at), value) in entries.iter().zip(values) {
+        assert!(rt; *ty == IrType::I64 && at == value, "{value}");
+    }
+}
+
+/// Stops unless this is a stack map.
+fn assert_map(rt: &impl Abort, found: &MachStackMap, map: &Map) {
+    let (offset, span, values) = *map;
+    assert!(rt; found.offset == offset && found.span == span, "{offset}");
+    assert_entries(rt, found.map.entries.as_slice(), values);
 }
 
 /// Stops unless these are the stack maps.
 fn assert_maps(rt: &impl Abort, found: &[MachStackMap], maps: &[Map]) {
     assert_eq!(rt; found.len(), maps.len());
-    for (map, (offset, span, values)) in found.iter().zip(maps) {
-        assert_eq!(rt; map.offset, *offset);
-        assert_eq!(rt; map.span, *span);
-        let entries = map.map.entries.as_slice();
-        assert_eq!(rt; entries.len(), values.len());
-        for ((ty, at), value) in entries.iter().zip(*values) {
-            assert!(rt; *ty == IrType::I64);
-            assert_eq!(rt; *at, *value);
-        }
+    for (map, row) in found.iter().zip(maps) {
+        assert_map(rt, map, row);
     }
+}
+
+/// Stops unless code has the records of a row.
+fn assert_records(rt: &impl Abort, code: &Finished, row: &Row) {
+    assert!(rt; code.call_sites.as_slice() == row.call_sites);
+    assert_throwers(rt, code.try_call_sites.as_slice(), row.throwers);
+    assert!(rt; code.patchable_call_sites.as_slice() == row.patchable);
+    assert_maps(rt, code.stack_maps.as_slice(), row.maps);
 }
 
 /// Stops unless the code of a row has its records.
 fn assert_row(rt: &impl Abort, alloc: Global, row: &Row) -> Result<(), Fail> {
-    let mut islands = Vec::new(alloc);
-    let code = assemble(alloc, Toy::Short, &[], row.items, &mut islands)?;
-    assert_eq!(rt; code.call_sites.as_slice(), row.call_sites);
-    assert_throwers(rt, code.try_call_sites.as_slice(), row.throwers);
-    assert_eq!(rt; code.patchable_call_sites.as_slice(), row.patchable);
-    assert_maps(rt, code.stack_maps.as_slice(), row.maps);
+    let code = code_of_items(alloc, &[], row.items)?;
+    assert_records(rt, &code, row);
     Ok(())
 }
 

@@ -1,8 +1,9 @@
 //! Where the constants stand that code in a buffer names.
 
 use crate::buffer::Item::{Fill, Name, Use};
-use crate::buffer::{CODE_LIMIT, Item, assemble, emit_due_island, empty, put_item};
+use crate::buffer::{CODE_LIMIT, Item, code_of_items, emit_due_island, empty, put_item};
 use crate::toy::Toy;
+use mach_buffer::{ConstPlace, Finished};
 use rv_base::{ConstAlign, Constant, List, OutOfMemory};
 use std::alloc::Global;
 use std::process::Abort;
@@ -45,15 +46,18 @@ const DATA: [Datum; 7] = [
     },
 ];
 
+fn constant_of(alloc: Global, datum: &Datum) -> Result<Constant, OutOfMemory> {
+    Ok(Constant {
+        bytes: List::from_slice(alloc, datum.bytes)?,
+        align: datum.align,
+    })
+}
+
 fn constants_of(alloc: Global, data: &[Datum]) -> Result<Vec<Constant>, OutOfMemory> {
     let mut constants = Vec::new(alloc);
     for datum in data {
-        let mut bytes = Vec::new(alloc);
-        bytes.extend_from_slice(datum.bytes)?;
-        constants.push(Constant {
-            bytes: List::from_vec(bytes),
-            align: datum.align,
-        })?;
+        let constant = constant_of(alloc, datum)?;
+        constants.push(constant)?;
     }
     Ok(constants)
 }
@@ -134,27 +138,47 @@ const POOLS: [Pool; 8] = [
     },
 ];
 
-/// Stops unless the code of a row has its constants and its bytes.
-fn assert_pool(rt: &impl Abort, alloc: Global, row: &Pool) -> Result<(), Fail> {
-    let constants = constants_of(alloc, &DATA)?;
-    let mut islands = Vec::new(alloc);
-    let code = assemble(alloc, Toy::Short, &constants, row.items, &mut islands)?;
-    assert_eq!(rt; code.bytes.len(), row.long);
-    let mut places = Vec::new(alloc);
-    for place in code.constants.as_slice() {
-        places.push((place.constant.number, place.offset))?;
+/// Stops unless these are the constants' numbers and offsets.
+fn assert_places(rt: &impl Abort, found: &[ConstPlace], places: &[(u32, u32)]) {
+    assert_eq!(rt; found.len(), places.len());
+    for (place, (number, offset)) in found.iter().zip(places) {
+        assert!(rt;
+            place.constant.number == *number && place.offset == *offset,
+            "{number}"
+        );
     }
-    assert_eq!(rt; places.as_slice(), row.constants);
-    let rest = code.bytes.as_slice().get(row.at..).unwrap_or(&[]);
-    let found = rest.get(..row.bytes.len()).unwrap_or(&[]);
-    assert_eq!(rt; found, row.bytes);
+}
+
+/// Stops unless these bytes stand in a code, from `at` on.
+pub fn assert_bytes(rt: &impl Abort, code: &[u8], at: usize, bytes: &[u8]) {
+    let rest = code.get(at..).unwrap_or(&[]);
+    assert!(rt; rest.starts_with(bytes), "at {at}");
+}
+
+/// Stops unless code has the constants and the bytes of a row.
+fn assert_code(rt: &impl Abort, code: &Finished, row: &Pool) {
+    assert_eq!(rt; code.bytes.len(), row.long);
+    assert_places(rt, code.constants.as_slice(), row.constants);
+    assert_bytes(rt, code.bytes.as_slice(), row.at, row.bytes);
+}
+
+/// Stops unless the code of a row has its constants and its bytes.
+fn assert_pool(
+    rt: &impl Abort,
+    alloc: Global,
+    constants: &[Constant],
+    row: &Pool,
+) -> Result<(), Fail> {
+    let code = code_of_items(alloc, constants, row.items)?;
+    assert_code(rt, &code, row);
     Ok(())
 }
 
 #[test]
 fn constants_stand_after_veneers(rt: HostRuntime) -> Result<(), Fail> {
+    let constants = constants_of(rt.alloc(), &DATA)?;
     for row in &POOLS {
-        assert_pool(&rt, rt.alloc(), row)?;
+        assert_pool(&rt, rt.alloc(), &constants, row)?;
     }
     Ok(())
 }

@@ -1,7 +1,8 @@
 //! Where islands stand in a buffer, and where windows aim, by the rule.
 
 use crate::buffer::Item::{Bind, Fill, Use};
-use crate::buffer::{Item, assemble};
+use crate::buffer::{Item, assemble, code_of_items};
+use crate::constant_rows::assert_bytes;
 use crate::toy::Toy;
 use mach_buffer::MachBuffer;
 use rv_base::OutOfMemory;
@@ -71,12 +72,18 @@ const STANDS: [Stand; 10] = [
     },
 ];
 
+/// How long the code of items is, whose islands are noted.
+fn length_of(alloc: Global, items: &[Item], islands: &mut Vec<u32>) -> Result<usize, Fail> {
+    let code = assemble(alloc, Toy::Short, &[], items, islands)?;
+    Ok(code.bytes.len())
+}
+
 /// Stops unless the islands of a row stand at its offsets, and its code is as long.
 fn assert_stand(rt: &impl Abort, alloc: Global, row: &Stand) -> Result<(), Fail> {
     let mut islands = Vec::new(alloc);
-    let code = assemble(alloc, Toy::Short, &[], row.items, &mut islands)?;
+    let length = length_of(alloc, row.items, &mut islands)?;
     assert_eq!(rt; islands.as_slice(), row.at);
-    assert_eq!(rt; code.bytes.len(), row.long);
+    assert_eq!(rt; length, row.long);
     Ok(())
 }
 
@@ -123,11 +130,8 @@ const AIMS: [Aim; 4] = [
 
 /// Stops unless the code of a row has its bytes.
 fn assert_aim(rt: &impl Abort, alloc: Global, row: &Aim) -> Result<(), Fail> {
-    let mut islands = Vec::new(alloc);
-    let code = assemble(alloc, Toy::Short, &[], row.items, &mut islands)?;
-    let rest = code.bytes.as_slice().get(row.at..).unwrap_or(&[]);
-    let found = rest.get(..row.bytes.len()).unwrap_or(&[]);
-    assert_eq!(rt; found, row.bytes);
+    let code = code_of_items(alloc, &[], row.items)?;
+    assert_bytes(rt, code.bytes.as_slice(), row.at, row.bytes);
     Ok(())
 }
 

@@ -4,9 +4,8 @@
 use crate::buffer::Item::{Bind, Fill, Record, Use};
 use crate::buffer::Note::{Makes, Refers, RefersTo, Trap};
 use crate::buffer::Step::{Alloc, Frame, Push, Save};
-use crate::buffer::{Item, Step, assemble, inst_of};
-use crate::toy::Toy;
-use mach_buffer::{FinalizedRelocTarget, MachReloc, MachUnwind};
+use crate::buffer::{Item, Step, code_of_items, inst_of};
+use mach_buffer::{FinalizedRelocTarget, Finished, MachReloc, MachTrap, MachUnwind};
 use rv_base::{ExternalName, MachLabel, Reloc, RelocTarget, TrapCode};
 use std::alloc::Global;
 use std::process::Abort;
@@ -111,25 +110,35 @@ const ROWS: [Row; 4] = [
     },
 ];
 
+/// Stops unless these are overflows of the stack at these offsets.
+fn assert_traps(rt: &impl Abort, found: &[MachTrap], offsets: &[u32]) {
+    assert_eq!(rt; found.len(), offsets.len());
+    for (trap, offset) in found.iter().zip(offsets) {
+        assert!(rt; trap.code == TrapCode::STACK_OVERFLOW, "{offset}");
+        assert!(rt; trap.offset == *offset, "{offset}");
+    }
+}
+
+/// Stops unless these are the steps in the making of the frame.
+fn assert_unwinds(rt: &impl Abort, found: &[MachUnwind], steps: &[(u32, Step)]) {
+    assert_eq!(rt; found.len(), steps.len());
+    for (unwind, (offset, step)) in found.iter().zip(steps) {
+        assert!(rt; unwind.offset == *offset, "{offset}");
+        assert!(rt; unwind.inst == inst_of(*step), "{offset}");
+    }
+}
+
+/// Stops unless code has the records of a row.
+fn assert_records(rt: &impl Abort, code: &Finished, row: &Row) {
+    assert!(rt; code.relocs.as_slice() == row.relocs);
+    assert_traps(rt, code.traps.as_slice(), row.traps);
+    assert_unwinds(rt, code.unwinds.as_slice(), row.unwinds);
+}
+
 /// Stops unless the code of a row has its records.
 fn assert_row(rt: &impl Abort, alloc: Global, row: &Row) -> Result<(), Fail> {
-    let mut islands = Vec::new(alloc);
-    let code = assemble(alloc, Toy::Short, &[], row.items, &mut islands)?;
-    assert_eq!(rt; code.relocs.as_slice(), row.relocs);
-    let mut traps = Vec::new(alloc);
-    for trap in code.traps.as_slice() {
-        assert!(rt; trap.code == TrapCode::STACK_OVERFLOW);
-        traps.push(trap.offset)?;
-    }
-    assert_eq!(rt; traps.as_slice(), row.traps);
-    let mut unwinds = Vec::new(alloc);
-    for (offset, step) in row.unwinds {
-        unwinds.push(MachUnwind {
-            offset: *offset,
-            inst: inst_of(*step),
-        })?;
-    }
-    assert_eq!(rt; code.unwinds.as_slice(), unwinds.as_slice());
+    let code = code_of_items(alloc, &[], row.items)?;
+    assert_records(rt, &code, row);
     Ok(())
 }
 
