@@ -100,7 +100,7 @@ jump_few flags = by flags.has_zca
     by false = omega arith
 
 -- each reaches over 1900 bytes after the instruction
-pub uses_far : (context : Context) (start end : ℕ) (inst : Inst) → end ≤ start + 84 → Each (λ u. end + 1900 ≤ deadline label_kinds u) (uses_in context start end inst)
+pub uses_far : (context : Context) (start end : ℕ) (inst : Inst) → end ≤ start + sequence_limit → Each (λ u. end + 1900 ≤ deadline label_kinds u) (uses_in context start end inst)
 uses_far context start end inst le = let far = jump_far context.flags in let few = jump_few context.flags in each_use (λ u. end + 1900 ≤ deadline label_kinds u) context start end inst (λ label. omega arith) (λ label. omega arith) (λ label. omega arith) (λ label. omega arith) (λ label. omega arith) (λ label. omega arith)
 
 -- a use may go by a veneer, or reaches all code
@@ -120,7 +120,7 @@ uses_bare context start end inst = each_use (λ u. u.veneer ≡ None) context st
 pub bytes_put : (context : Context) (inst : Inst) (old new : Buffer) → AppendsInst context inst old new → length (bytes_of new) ≡ length (bytes_of old) + words_in (extent_of context inst)
 bytes_put context inst old new p = ap length p.adds.bytes ∙ length-append (bytes_of old) p.code ∙ ap (λ n. length (bytes_of old) + n) (sym p.long)
 
--- at most 84 where it asks for no island
+-- at most the limit of a sequence where it asks for no island
 bytes_after : (context : Context) (inst : Inst) (old new : Buffer) → inst_rule context inst ≡ None → inst_sum context inst ≤ code_limit → island_space context inst ≡ None → AppendsInst context inst old new → length (bytes_of new) ≤ length (bytes_of old) + sequence_limit
 bytes_after context inst old new rule small asks p =
     let a = words_within context inst rule small in
@@ -183,7 +183,7 @@ reach_after context inst old new can asks p =
     let cur = length (bytes_of new) in
     let own = uses_in context start cur inst in
     let room = can.room in
-    let near : cur ≤ start + 84 = bytes_after context inst old new can.rule (omega arith) asks p in
+    let near : cur ≤ start + sequence_limit = bytes_after context inst old new can.rule (omega arith) asks p in
     let few : length own ≤ 2 = few_uses context start cur inst in
     let spare : HasSlack cur (14 + 8 * length own) (pending old) =
     slack_less (start + line_space) 30 cur (14 + 8 * length own) (pending old) (omega arith) (slack_not_needed start line_space (pending old) can.calm) in

@@ -14,6 +14,7 @@ ghost use Rattle.mach_buffer.specs.declared.records.Event.TheVariants.{Patchable
 ghost use Rattle.rv_inst.specs.Records.{site_event};
 ghost use Rattle.rv_inst.specs.Returns.{result_loads};
 ghost use Rattle.rv_inst.specs.Rules.{is_stacked};
+ghost use Rattle.rv_inst.specs.MostBytes.{sequence_limit};
 ghost use Rattle.rv_inst.specs.Sizes.{fall, line_space};
 ghost use Rattle.rv_emit.specs.Emission.{PutsAlone, PutsParts};
 ghost use Rattle.rv_emit.specs.Emitted.{IsSoundBuffer, pending};
@@ -43,7 +44,7 @@ pub(crate) fn put_call(
 ) -> Result<(), OutOfMemory>
     requires frame { sp_to_args_end frame.now < 2 ^ 31 }
     requires fine { IsFineTry info.now.try_call_info }
-    requires room { length (bytes_of sink.old) + 84 < code_limit }
+    requires room { length (bytes_of sink.old) + sequence_limit < code_limit }
     requires sound { IsSoundBuffer sink.old }
     ensures slots { OnOk result (PutsAlone flags (call_slots flags frame.now info.now (try_slots flags info.now.try_call_info)) sink.old sink.new) }
     ensures refused { OnErr result (spoiled_of sink.new ≡ true) }
@@ -63,7 +64,7 @@ pub(crate) fn put_call_ind(
     requires frame { sp_to_args_end frame.now < 2 ^ 31 }
     requires fine { IsFineTry info.now.try_call_info }
     requires dest { IsIntRegister info.now.dest }
-    requires room { length (bytes_of sink.old) + 84 < code_limit }
+    requires room { length (bytes_of sink.old) + sequence_limit < code_limit }
     requires sound { IsSoundBuffer sink.old }
     ensures slots { OnOk result (PutsAlone flags (call_ind_slots flags frame.now info.now (try_slots flags info.now.try_call_info)) sink.old sink.new) }
     ensures refused { OnErr result (spoiled_of sink.new ≡ true) }
@@ -124,7 +125,7 @@ fn begin_call(
     info: &CallInfo<ExternalName>,
 ) -> Result<(), OutOfMemory>
     requires frame { sp_to_args_end frame.now < 2 ^ 31 }
-    requires room { length (bytes_of sink.old) + 84 < code_limit }
+    requires room { length (bytes_of sink.old) + sequence_limit < code_limit }
     requires sound { IsSoundBuffer sink.old }
     ensures slots { OnOk result (PutsAlone flags (call_slots flags frame.now info.now []) sink.old sink.new) }
     ensures refused { OnErr result (spoiled_of sink.new ≡ true) }
@@ -147,7 +148,7 @@ fn begin_call_ind(
 ) -> Result<(), OutOfMemory>
     requires frame { sp_to_args_end frame.now < 2 ^ 31 }
     requires dest { IsIntRegister info.now.dest }
-    requires room { length (bytes_of sink.old) + 84 < code_limit }
+    requires room { length (bytes_of sink.old) + sequence_limit < code_limit }
     requires sound { IsSoundBuffer sink.old }
     ensures slots { OnOk result (PutsAlone flags (call_ind_slots flags frame.now info.now []) sink.old sink.new) }
     ensures refused { OnErr result (spoiled_of sink.new ≡ true) }

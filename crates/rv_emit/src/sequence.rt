@@ -24,6 +24,7 @@ ghost use Rattle.rv_emit.specs.Emission.{PutsAlone, PutsSlots, Emits, EmitsAnyho
 ghost use Rattle.rv_emit.specs.Slots.{Label, Op};
 ghost use Rattle.rv_emit.specs.InstParts.{jump_to, wide_jump_to, branch_to, move_slots, branch_slots};
 ghost use Rattle.rv_emit.specs.Operations.{jump_word};
+ghost use Rattle.rv_inst.specs.MostBytes.{sequence_limit};
 ghost use Rattle.rv_inst.specs.Sizes.{island_space};
 ghost use Rattle.rv_inst.specs.Uses.{use_at};
 ghost use Rattle.rv_inst.specs.Families.{family_of};
@@ -59,7 +60,7 @@ pub(crate) fn put_sequence(
 ) -> Result<(), OutOfMemory>
     requires rule { inst_rule (context_by flags frame.now (registered_of sink.old)) inst.now ≡ None }
     requires frame { sp_to_args_end frame.now < 2 ^ 31 }
-    requires room { length (bytes_of sink.old) + 84 < code_limit }
+    requires room { length (bytes_of sink.old) + sequence_limit < code_limit }
     requires sound { IsSoundBuffer sink.old }
     ensures parts { island_space (context_by flags frame.now (registered_of sink.old)) inst.now ≡ None → OnOk result (Emits (context_by flags frame.now (registered_of sink.old)) inst.now sink.old sink.new) }
     ensures refused { OnErr result (spoiled_of sink.new ≡ true) }
@@ -84,7 +85,7 @@ fn put_calls(
 ) -> Result<(), OutOfMemory>
     requires fine { IsFine (registered_of sink.old) inst.now }
     requires frame { sp_to_args_end frame.now < 2 ^ 31 }
-    requires room { length (bytes_of sink.old) + 84 < code_limit }
+    requires room { length (bytes_of sink.old) + sequence_limit < code_limit }
     requires sound { IsSoundBuffer sink.old }
     ensures parts { family_of inst.now ≡ Calls → (constants : List Constant) → island_space (context_by flags frame.now constants) inst.now ≡ None → OnOk result (Emits (context_by flags frame.now constants) inst.now sink.old sink.new) }
     ensures refused { OnErr result (spoiled_of sink.new ≡ true) }
@@ -102,7 +103,7 @@ fn put_pseudo(
     inst: &Inst,
 ) -> Result<(), OutOfMemory>
     requires fine { IsFine (registered_of sink.old) inst.now }
-    requires room { length (bytes_of sink.old) + 84 < code_limit }
+    requires room { length (bytes_of sink.old) + sequence_limit < code_limit }
     requires sound { IsSoundBuffer sink.old }
     ensures parts { family_of inst.now ≡ Pseudo → (frame : FrameLayout) (constants : List Constant) → island_space (context_by flags frame constants) inst.now ≡ None → OnOk result (Emits (context_by flags frame constants) inst.now sink.old sink.new) }
     ensures refused { OnErr result (spoiled_of sink.new ≡ true) }
@@ -125,7 +126,7 @@ fn put_integer(
     inst: &Inst,
 ) -> Result<(), OutOfMemory>
     requires fine { IsFine (registered_of sink.old) inst.now }
-    requires room { length (bytes_of sink.old) + 84 < code_limit }
+    requires room { length (bytes_of sink.old) + sequence_limit < code_limit }
     requires sound { IsSoundBuffer sink.old }
     ensures parts { family_of inst.now ≡ Integer → OnOk result (EmitsAnyhow flags inst.now sink.old sink.new) }
     ensures refused { OnErr result (spoiled_of sink.new ≡ true) }
@@ -189,7 +190,7 @@ fn put_control(
     inst: &Inst,
 ) -> Result<(), OutOfMemory>
     requires fine { IsFine (registered_of sink.old) inst.now }
-    requires room { length (bytes_of sink.old) + 84 < code_limit }
+    requires room { length (bytes_of sink.old) + sequence_limit < code_limit }
     requires sound { IsSoundBuffer sink.old }
     ensures parts { family_of inst.now ≡ Control → (frame : FrameLayout) (constants : List Constant) → island_space (context_by flags frame constants) inst.now ≡ None → OnOk result (Emits (context_by flags frame constants) inst.now sink.old sink.new) }
     ensures refused { OnErr result (spoiled_of sink.new ≡ true) }
@@ -217,7 +218,7 @@ fn put_memory(
 ) -> Result<(), OutOfMemory>
     requires fine { IsFine (registered_of sink.old) inst.now }
     requires frame { sp_to_args_end frame.now < 2 ^ 31 }
-    requires room { length (bytes_of sink.old) + 84 < code_limit }
+    requires room { length (bytes_of sink.old) + sequence_limit < code_limit }
     requires sound { IsSoundBuffer sink.old }
     ensures parts { family_of inst.now ≡ Memory → OnOk result (Emits (context_by flags frame.now (registered_of sink.old)) inst.now sink.old sink.new) }
     ensures refused { OnErr result (spoiled_of sink.new ≡ true) }
@@ -256,7 +257,7 @@ fn put_loop(
     inst: &Inst,
 ) -> Result<(), OutOfMemory>
     requires fine { IsFine (registered_of sink.old) inst.now }
-    requires room { length (bytes_of sink.old) + 84 < code_limit }
+    requires room { length (bytes_of sink.old) + sequence_limit < code_limit }
     requires sound { IsSoundBuffer sink.old }
     ensures parts { family_of inst.now ≡ Loop → OnOk result (EmitsAnyhow flags inst.now sink.old sink.new) }
     ensures refused { OnErr result (spoiled_of sink.new ≡ true) }
@@ -300,7 +301,7 @@ fn put_symbol(
     inst: &Inst,
 ) -> Result<(), OutOfMemory>
     requires fine { IsFine (registered_of sink.old) inst.now }
-    requires room { length (bytes_of sink.old) + 84 < code_limit }
+    requires room { length (bytes_of sink.old) + sequence_limit < code_limit }
     requires sound { IsSoundBuffer sink.old }
     ensures parts { family_of inst.now ≡ Symbols → OnOk result (EmitsAnyhow flags inst.now sink.old sink.new) }
     ensures refused { OnErr result (spoiled_of sink.new ≡ true) }
