@@ -17,9 +17,9 @@ use Rattle.mach_buffer.specs.declared.uses.Use.{Use}
 use Rattle.mach_buffer.specs.Buffer.{bytes_of, uses_of, place_of}
 use Rattle.mach_buffer.specs.Windows.{or_place}
 use Rattle.mach_buffer.proofs.Laws.{append_each, none_pending, bound_pending}
-use Rattle.rv_emit.specs.Emitted.{Buffer, AppendsCode, AppendsInst, AppendsIsland, IslandIfNeeded, AppendsBy, Appends}
+use Rattle.rv_emit.specs.Emitted.{Buffer, AppendsSequence, AppendsInst, AppendsIsland, IslandIfNeeded, AppendsBy, Appends}
 use Rattle.rv_inst.specs.Uses.{uses_in}
-use Rattle.rv_emit.proofs.Laws.{Each, pending_at, far_never_pending, bytes_put, words_long}
+use Rattle.rv_emit.proofs.Laws.{Each, pending_at, pending_still, direct_never_pending, no_own, bound_kept, bytes_put, words_long}
 use Rattle.rv_asm.specs.Reported.{start_of}
 use Rattle.rv_asm.specs.Reported.{end_before}
 use Rattle.rv_asm.specs.LinesInBuffer.{LinesStand, BindPut}
@@ -66,22 +66,24 @@ passing_less test less weaker (u ∷ uses) = on (test u) refl (passing_less test
 ends_island : (old new : Buffer) → AppendsIsland old new → EndsIn [] new
 ends_island old new p = record { same = passing_none (pending_at (place_of new)) (uses_of new) (none_pending (pending_at (place_of new)) label_kinds (uses_of new) p.settled) }
 
--- code adds its own uses
-ends_code : (code : List ℕ) (own uses : List (Use LabelUse)) (old new : Buffer) → AppendsCode code own old new → EndsIn uses old → EndsIn (uses ++ own) new
+-- code adds its own uses, and leaves fewer of the others pending where it binds labels
+ends_code : {count : ℕ} (code : List ℕ) (own uses : List (Use LabelUse)) (old new : Buffer) → AppendsSequence count code own old new → EndsIn uses old → EndsIn (uses ++ own) new
 ends_code code own uses old new p e =
-    let test = pending_at (place_of old) in
-    let whole : passing test (uses_of old ++ own) ≡ passing test (uses ++ own) = passing_both test (uses_of old) own ∙ ap (λ us. us ++ passing test own) e.same ∙ sym (passing_both test uses own) in
-    record { same = (λ i. passing (pending_at (p.places i)) (p.uses i)) ∙ whole ∙ (λ i. passing (pending_at (sym p.places i)) (uses ++ own)) }
+    let before = pending_at (place_of old) in
+    let after = pending_at (place_of new) in
+    let weaker : (u : Use LabelUse) → before u ≡ false → after u ≡ false = pending_still (place_of old) (place_of new) (bound_kept p) in
+    let still : passing after (uses_of old) ≡ passing after uses = sym (passing_less before after weaker (uses_of old)) ∙ ap (passing after) e.same ∙ passing_less before after weaker uses in
+    record { same = ap (passing after) p.uses ∙ passing_both after (uses_of old) own ∙ ap (λ us. us ++ passing after own) still ∙ sym (passing_both after uses own) }
 
--- an instruction adds its own, of which those of a table are never pending
+-- an instruction adds its own, of which those of a table's and of its own labels are never pending
 ends_inst : (context : Context) (inst : Inst) (old new : Buffer) (uses : List (Use LabelUse)) → AppendsInst context inst old new → EndsIn uses old → EndsIn (uses ++ uses_in context (length (bytes_of old)) (length (bytes_of new)) inst) new
 ends_inst context inst old new uses p e =
     let own = uses_in context (length (bytes_of old)) (length (bytes_of new)) inst in
     let test = pending_at (place_of new) in
-    let none : passing test p.far ≡ [] = passing_none test p.far (λ j u h. far_never_pending (place_of new) u (p.table j u h)) in
-    let far : passing test (own ++ p.far) ≡ passing test own = passing_both test own p.far ∙ ap (λ us. passing test own ++ us) none ∙ append-nil (passing test own) in
-    let all = ends_code p.code (own ++ p.far) uses old new p.adds e in
-    record { same = all.same ∙ passing_both test uses (own ++ p.far) ∙ ap (λ us. passing test uses ++ us) far ∙ sym (passing_both test uses own) }
+    let none : passing test p.direct ≡ [] = passing_none test p.direct (direct_never_pending context inst old new p) in
+    let rest : passing test (own ++ p.direct) ≡ passing test own = passing_both test own p.direct ∙ ap (λ us. passing test own ++ us) none ∙ append-nil (passing test own) in
+    let all = ends_code p.code (own ++ p.direct) uses old new p.adds e in
+    record { same = all.same ∙ passing_both test uses (own ++ p.direct) ∙ ap (λ us. passing test uses ++ us) rest ∙ sym (passing_both test uses own) }
 
 -- what was not pending is not pending once a label more is bound
 ends_bind : (label : MachLabel) (old new : Buffer) (span : LineSpan) (uses : List (Use LabelUse)) → BindPut label old new span → EndsIn uses old → EndsIn uses new
@@ -141,8 +143,8 @@ emitted_ends context inst mid new start end uses starts ends e h = by (extent_of
     by (Around before space after) is lack a =
         let first_long = words_long before [] _ mid a.mid a.first in
         let second_long = words_long after _ [] a.last new a.second in
-        let first : EndsIn uses a.mid = subst (λ us. EndsIn us a.mid) (append-nil uses) (ends_code a.first.code [] uses mid a.mid a.first.adds h) in
-        let second : (us : List (Use LabelUse)) → EndsIn us a.last → EndsIn (us ++ own) new = λ us g. placed us (ends_code a.second.code _ us a.last new a.second.adds g) in
+        let first : EndsIn uses a.mid = subst (λ us. EndsIn us a.mid) (append-nil uses) (ends_code a.first.code [] uses mid a.mid (no_own a.first.code [] mid a.mid a.first.adds) h) in
+        let second : (us : List (Use LabelUse)) → EndsIn us a.last → EndsIn (us ++ own) new = λ us g. placed us (ends_code a.second.code _ us a.last new (no_own a.second.code _ a.last new a.second.adds) g) in
         ⊎_elim
         (λ put. let longer = put.0 in inl (lt-ltb (start + (before + after)) end (omega (arith, starts, ends, first_long, second_long, longer)), second [] put.1))
         (λ none. let level = none.0 in inr (not_less (start + (before + after)) end (omega (arith, starts, ends, first_long, second_long, level)), second uses none.1))

@@ -26,10 +26,10 @@ use Rattle.mach_buffer.specs.Buffer.{bytes_of, uses_of, place_of, labels_of}
 use Rattle.mach_buffer.specs.Shape.{recorded, core, listed, constant_label}
 use Rattle.mach_buffer.specs.Islands.{is_far}
 use Rattle.mach_buffer.proofs.Laws.{both_lists, comes_from, slice_get-append, slice_get-append_last, append_each, recorded_get}
-use Rattle.rv_emit.specs.Emitted.{Buffer, IsFarUse, AppendsCode, AppendsInst, AppendsIsland, IslandIfNeeded, AppendsBy, Appends}
+use Rattle.rv_emit.specs.Emitted.{Buffer, IsFarUse, AppendsSequence, AppendsInst, AppendsIsland, IslandIfNeeded, AppendsBy, Appends}
 use Rattle.rv_inst.specs.Forms.{jump_kind}
 use Rattle.rv_inst.specs.Uses.{use_at, target_uses, uses_by, uses_in}
-use Rattle.rv_emit.proofs.Laws.{Each, each_none, each_more, uses_kinds}
+use Rattle.rv_emit.proofs.Laws.{Each, each_none, each_more, uses_kinds, no_own, low_kept, bound_kept}
 use Rattle.rv_asm.specs.Reported.{start_of, end_of, binds_from}
 use Rattle.rv_asm.specs.Refusal.{binds, is_bound}
 use Rattle.rv_asm.specs.LinesInBuffer.{IsNamed, Named, BindPut}
@@ -234,15 +234,22 @@ own_named lines inst number o = record {
   is = o.is;
 }
 
+-- labels that are bound stay so
+code_bound : {count : ℕ} {code : List ℕ} {own : List (Use LabelUse)} {old new : Buffer} → AppendsSequence count code own old new → Keeps old new
+code_bound {old = old} {new = new} p label low = on (place_of old label) refl
+  where
+    on : (o : Option ℕ) → place_of old label ≡ o → is_some o ≡ true → is_some (place_of new label) ≡ true
+    on None e h = absurd (cc)
+    on (Some at) e h = ap is_some (bound_kept p label at e)
+
 -- uses are put that are good
-good_code : (lines more : List Line) (code : List ℕ) (own : List (Use LabelUse)) (old new : Buffer) → AppendsCode code own old new → Each (IsGood (lines ++ more) new) own → AreGood lines old → AreGood (lines ++ more) new
+good_code : (lines more : List Line) {count : ℕ} (code : List ℕ) (own : List (Use LabelUse)) (old new : Buffer) → AppendsSequence count code own old new → Each (IsGood (lines ++ more) new) own → AreGood lines old → AreGood (lines ++ more) new
 good_code lines more code own old new p good h =
     let all = lines ++ more in
     let whole : recorded (uses_of new) ≡ recorded (uses_of old) ++ recorded own = ap recorded p.uses ∙ map-append core (uses_of old) own in
-    let keeps : Keeps old new = λ label low e. ap (λ (place : ℕ → Option ℕ). is_some (place label)) p.places ∙ e in
     let each : Each (IsGood all new) (recorded own) = λ j u e. let from = comes_from core own j u e in subst (IsGood all new) from.is (good j from.from from.there) in
     good_as all new (recorded (uses_of old) ++ recorded own) whole
-    (both_lists (IsGood all new) (recorded (uses_of old)) (recorded own) (λ j u e. good_kept lines more old new keeps u (h j u e)) each)
+    (both_lists (IsGood all new) (recorded (uses_of old)) (recorded own) (λ j u e. good_kept lines more old new (code_bound p) u (h j u e)) each)
 
 -- those of an instruction are
 own_good : (context : Context) (lines : List Line) (inst : Inst) (start end : ℕ) (new : Buffer) → Each (IsGood (lines ++ Put inst ∷ []) new) (uses_in context start end inst)
@@ -251,9 +258,12 @@ own_good context lines inst start end new j u e = (uses_kinds context start end 
 good_inst : (context : Context) (lines : List Line) (inst : Inst) (old new : Buffer) → AppendsInst context inst old new → AreGood lines old → AreGood (lines ++ Put inst ∷ []) new
 good_inst context lines inst old new p h =
     let own = uses_in context (length (bytes_of old)) (length (bytes_of new)) inst in
-    good_code lines (Put inst ∷ []) p.code (own ++ p.far) old new p.adds
-    (both_lists (IsGood (lines ++ Put inst ∷ []) new) own p.far (own_good context lines inst (length (bytes_of old)) (length (bytes_of new)) new)
-    (λ j u e. let f = p.table j u e in (inr f.far, inr (inl (own_named lines inst u.label.number (table_named inst u f))))))
+    good_code lines (Put inst ∷ []) p.code (own ++ p.direct) old new p.adds
+    (both_lists (IsGood (lines ++ Put inst ∷ []) new) own p.direct (own_good context lines inst (length (bytes_of old)) (length (bytes_of new)) new)
+    (λ j u e. ⊎_elim
+    (λ f. (inr f.far, inr (inl (own_named lines inst u.label.number (table_named inst u f)))))
+    (λ o. (inl o.served, inl (ap (λ (l : MachLabel). is_some (place_of new l.number)) o.names ∙ p.adds.bound o.index o.own)))
+    (p.each j u e)))
     h
 
 good_line : (lines more : List Line) (b : Buffer) → AreGood lines b → AreGood (lines ++ more) b
@@ -270,8 +280,8 @@ good_emitted context lines inst old new e h = by (extent_of context inst) e
     by (Island space) (made, room) = good_line lines (Put inst ∷ []) new (good_room lines space old new made room h)
     by (After space size more) (mid, made, room, words) = good_inst context lines inst mid new words (good_room lines space old mid made room h)
     by (Around before space after) a =
-        let first = no_more lines a.mid (good_code lines [] a.first.code [] old a.mid a.first.adds (each_none _) h) in
-        good_code lines (Put inst ∷ []) a.second.code (uses_in context (length (bytes_of old)) (length (bytes_of new)) inst) a.last new a.second.adds (own_good context lines inst (length (bytes_of old)) (length (bytes_of new)) new)
+        let first = no_more lines a.mid (good_code lines [] a.first.code [] old a.mid (no_own a.first.code [] old a.mid a.first.adds) (each_none _) h) in
+        good_code lines (Put inst ∷ []) a.second.code (uses_in context (length (bytes_of old)) (length (bytes_of new)) inst) a.last new (no_own a.second.code _ a.last new a.second.adds) (own_good context lines inst (length (bytes_of old)) (length (bytes_of new)) new)
         (good_room lines space a.mid a.last a.made a.room first)
 
 -- ---- the loop's invariant
@@ -286,8 +296,8 @@ room_keeps distance old new made m = ⊎_elim
     (λ put. (put.1.labels, λ label low. put.1.places label (omega arith) (λ e. let at = put.1.allocated_label in absurd (omega arith))))
     m.put
 
-code_keeps : (code : List ℕ) (own : List (Use LabelUse)) (old new : Buffer) → AppendsCode code own old new → (labels_of new ≡ labels_of old) × KeepsLow old new
-code_keeps code own old new p = (p.labels, λ label low. ap (λ (place : ℕ → Option ℕ). place label) p.places)
+code_keeps : {count : ℕ} (code : List ℕ) (own : List (Use LabelUse)) (old new : Buffer) → AppendsSequence count code own old new → (labels_of new ≡ labels_of old) × KeepsLow old new
+code_keeps code own old new p = (p.labels, low_kept p)
 
 -- one thing after another
 both_keep : (old mid new : Buffer) → (labels_of mid ≡ labels_of old) × KeepsLow old mid → (labels_of new ≡ labels_of mid) × KeepsLow mid new → (labels_of new ≡ labels_of old) × KeepsLow old new
@@ -300,7 +310,7 @@ emitted_keeps context inst old new e = by (extent_of context inst) e
     by (Words size) words = code_keeps words.code _ old new words.adds
     by (Island space) (made, room) = room_keeps space old new made room
     by (After space size more) (mid, made, room, words) = both_keep old mid new (room_keeps space old mid made room) (code_keeps words.code _ mid new words.adds)
-    by (Around before space after) a = both_keep old a.mid new (code_keeps a.first.code [] old a.mid a.first.adds) (both_keep a.mid a.last new (room_keeps space a.mid a.last a.made a.room) (code_keeps a.second.code _ a.last new a.second.adds))
+    by (Around before space after) a = both_keep old a.mid new (code_keeps a.first.code [] old a.mid (no_own a.first.code [] old a.mid a.first.adds)) (both_keep a.mid a.last new (room_keeps space a.mid a.last a.made a.room) (code_keeps a.second.code _ a.last new (no_own a.second.code _ a.last new a.second.adds)))
 
 pub named_none : (b : Buffer) → uses_of b ≡ [] → labels_of b ≡ [] → ((label : ℕ) → place_of b label ≡ None) → Named [] [] b
 named_none b uses labels none = record {

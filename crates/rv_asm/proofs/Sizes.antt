@@ -16,10 +16,11 @@ use Rattle.mach_buffer.specs.Reach.{CanReach, HasSlack, deadlines, due_by}
 use Rattle.mach_buffer.specs.Buffer.{shape_of, bytes_of, uses_of, place_of, allocated_of, registered_of}
 use Rattle.mach_buffer.specs.Constants.{reserve_from, reserve_of}
 use Rattle.mach_buffer.proofs.Laws.{slack_same, slack_from_reach, reach_from_slack, total, due_total, reserve_other}
-use Rattle.rv_emit.specs.Emitted.{Buffer, pending, AppendsCode, AppendsIsland, IslandIfNeeded, AppendsBy, Appends}
+use Rattle.rv_emit.specs.OwnCounts.{own_count}
+use Rattle.rv_emit.specs.Emitted.{Buffer, pending, AppendsSequence, AppendsIsland, IslandIfNeeded, AppendsBy, Appends}
 use Rattle.rv_inst.specs.Rules.{inst_rule, broken_rule}
-use Rattle.rv_emit.proofs.Laws.{pending_at, bytes_put, words_long, words_pending, ways_more, few_ways, words_within, most_counts}
-use Rattle.rv_inst.specs.Sizes.{Extent, Words, Island, After, Around, words_in, extent_of, line_space, inst_sum, line_sum}
+use Rattle.rv_emit.proofs.Laws.{pending_at, bytes_put, words_long, words_pending, ways_more, few_ways, words_within, most_counts, no_own, high_kept, owns_few, asking_owns_none}
+use Rattle.rv_inst.specs.Sizes.{Extent, Words, Island, After, Around, space_in, words_in, extent_of, line_space, inst_sum, line_sum}
 use Rattle.rv_inst.specs.Operands.{inst_ways}
 use Rattle.rv_inst.specs.declared.label_use.LabelUse.{LabelUse}
 use Rattle.mach_buffer.specs.declared.uses.Use.{Use}
@@ -88,13 +89,13 @@ room_uses distance old new made m = ⊎_elim
     (λ put. island_uses old new put.1)
     m.put
 
--- so many bytes, and veneers for so many uses more
-code_uses : (code : List ℕ) (own : List (Use LabelUse)) (size more : ℕ) (old new : Buffer) → AppendsCode code own old new → length (bytes_of new) ≡ length (bytes_of old) + size → length (pending new) ≤ length (pending old) + more → Uses (size + 8 * more) old new
-code_uses code own size more old new p long few =
+-- so many bytes, veneers for so many uses more, and one own label at most
+code_uses : (count : ℕ) (code : List ℕ) (own : List (Use LabelUse)) (size more : ℕ) (old new : Buffer) → count ≤ 1 → AppendsSequence count code own old new → length (bytes_of new) ≡ length (bytes_of old) + size → length (pending new) ≤ length (pending old) + more → Uses (size + 8 * more) old new
+code_uses count code own size more old new one p long few =
     let allocated = p.allocated in
     -- code puts no constant
-    let reserve : reserve_of (shape_of new) ≡ reserve_of (shape_of old) = λ j. reserve_from (p.places j) 0 (p.registered j) in
-    record { size = omega (arith, long, few, reserve); allocated = omega (arith, allocated) }
+    let reserve = reserve_kept old new p.registered (λ k. high_kept p (first_constant + k) (omega arith)) in
+    record { size = omega (arith, long, few, reserve); allocated = omega (arith, allocated, one) }
 
 -- one thing after another, of which one allocates no label
 island_then : (first rest : ℕ) (old mid new : Buffer) → Uses first old mid → allocated_of new ≡ allocated_of mid → Uses rest mid new → Uses (first + rest) old new
@@ -120,12 +121,14 @@ appended_uses context inst old new e = by (extent_of context inst) refl e
     by : (e : Extent) → extent_of context inst ≡ e → AppendsBy context e inst old new → Uses (words_in e + 8 * ways + 17) old new
     by (Words size) is words =
         more_uses (size + 8 * ways) _ old new (omega arith)
-        (code_uses words.code _ size ways old new words.adds (bytes_put context inst old new words ∙ ap (λ e. length (bytes_of old) + words_in e) is) (ways_more context inst old new words))
+        (code_uses (own_count inst) words.code _ size ways old new (owns_few inst) words.adds (bytes_put context inst old new words ∙ ap (λ e. length (bytes_of old) + words_in e) is) (ways_more context inst old new words))
     by (Island space) is (made, room) = more_uses 17 _ old new (omega arith) (room_uses space old new made room)
     by (After space size more) is (mid, made, room, words) =
+        let none = asking_owns_none context inst (ap (λ e. is_some (space_in e)) is) in
+        let allocated = words.adds.allocated in
         more_uses (17 + (size + 8 * ways)) _ old new (omega arith)
-        (island_then 17 (size + 8 * ways) old mid new (room_uses space old mid made room) words.adds.allocated
-        (code_uses words.code _ size ways mid new words.adds (bytes_put context inst mid new words ∙ ap (λ e. length (bytes_of mid) + words_in e) is) (ways_more context inst mid new words)))
+        (island_then 17 (size + 8 * ways) old mid new (room_uses space old mid made room) (omega (arith, none, allocated))
+        (code_uses (own_count inst) words.code _ size ways mid new (owns_few inst) words.adds (bytes_put context inst mid new words ∙ ap (λ e. length (bytes_of mid) + words_in e) is) (ways_more context inst mid new words)))
     by (Around before space after) is a =
         let none : length (pending a.mid) ≤ length (pending old) + 0 = let same : length (pending a.mid) ≡ length (pending old) = ap length (words_pending before [] _ old a.mid a.first ∙ append-nil (pending old)) in omega (arith, same) in
         let few : length (pending new) ≤ length (pending a.last) + ways =
@@ -134,9 +137,9 @@ appended_uses context inst old new e = by (extent_of context inst) refl e
         omega (arith, whole, own) in
         more_uses (before + 8 * 0 + (17 + (after + 8 * ways))) _ old new (omega arith)
         (code_then (before + 8 * 0) (17 + (after + 8 * ways)) old a.mid new a.first.adds.allocated
-        (code_uses a.first.code [] before 0 old a.mid a.first.adds (words_long before [] _ old a.mid a.first) none)
+        (code_uses 0 a.first.code [] before 0 old a.mid (omega arith) (no_own a.first.code [] old a.mid a.first.adds) (words_long before [] _ old a.mid a.first) none)
         (island_then 17 (after + 8 * ways) a.mid a.last new (room_uses space a.mid a.last a.made a.room) a.second.adds.allocated
-        (code_uses a.second.code _ after ways a.last new a.second.adds (words_long after _ [] a.last new a.second) few)))
+        (code_uses 0 a.second.code _ after ways a.last new (omega arith) (no_own a.second.code _ a.last new a.second.adds) (words_long after _ [] a.last new a.second) few)))
 
 -- what comes before it apart, an instruction uses no more than it counts for
 pub emitted_uses : (context : Context) (inst : Inst) (old new : Buffer) → inst_rule context inst ≡ None → inst_sum context inst ≤ code_limit → Appends context inst old new → Uses (inst_sum context inst - 17) old new

@@ -125,7 +125,7 @@ few_ways context place start end inst = by (try_call_of inst)
 pub ways_more : (context : Context) (inst : Inst) (old new : Buffer) → AppendsInst context inst old new → length (pending new) ≤ length (pending old) + length (inst_ways inst)
 ways_more context inst old new p =
     let whole = pending_whole context inst old new p in
-    let few = few_ways context (place_of old) (length (bytes_of old)) (length (bytes_of new)) inst in
+    let few = few_ways context (place_of new) (length (bytes_of old)) (length (bytes_of new)) inst in
     omega (arith, whole, few)
 
 -- none where it goes to no label
@@ -171,11 +171,11 @@ words_bounded context inst old mid new rule small island p = record {
   island = island;
   ends = long;
   most = let most = words_within context inst rule small in omega (arith, most);
-  added = deadlines (pending_at (place_of mid)) label_kinds own;
+  added = deadlines (pending_at (place_of new)) label_kinds own;
   keeps = refl;
   adds = pending_adds context inst mid new p;
-  few = few_ways context (place_of mid) (length (bytes_of mid)) (length (bytes_of new)) inst;
-  late = all_deadlines (λ d. length (bytes_of old) + least_reach context (Put inst) ≤ d) (pending_at (place_of mid)) own each;
+  few = few_ways context (place_of new) (length (bytes_of mid)) (length (bytes_of new)) inst;
+  late = all_deadlines (λ d. length (bytes_of old) + least_reach context (Put inst) ≤ d) (pending_at (place_of new)) own each;
 }
   where
     own : List (Use LabelUse)

@@ -221,7 +221,7 @@ call_appends context info old new = by (loads_unless info.patchable info.defs) r
     t = info.try_call_info
 
     by : (loads : List StackLoad) → loads_unless info.patchable info.defs ≡ loads → PutsParts context.flags (call_parts context.flags (call_slots context.flags context.frame info) loads t) old new → AppendsBy context (call_extent context.flags 8 info.callee_pop_size loads t) (Call info) old new
-    by [] none p = summed context (Call info) _ old new (call_summed context info none) context.flags p
+    by [] none p = summed context (Call info) _ old new refl (call_summed context info none) context.flags p
     by (l ∷ loads) some p = around context (Call info) (call_slots context.flags context.frame info) (l ∷ loads) t old new (call_contents context info nothing) (λ start end. refl) p
 
 pub call_ind_appends : (context : Context) (info : CallInfo Reg) (old new : Buffer) → PutsParts context.flags (call_parts context.flags (call_ind_slots context.flags context.frame info) (result_loads info.defs) info.try_call_info) old new → Appends context (CallInd info) old new
@@ -231,7 +231,7 @@ call_ind_appends context info old new = by (result_loads info.defs) refl
     t = info.try_call_info
 
     by : (loads : List StackLoad) → result_loads info.defs ≡ loads → PutsParts context.flags (call_parts context.flags (call_ind_slots context.flags context.frame info) loads t) old new → AppendsBy context (call_extent context.flags (short_jalr context.flags 1 (number_of info.dest) (pos 0)).len info.callee_pop_size loads t) (CallInd info) old new
-    by [] none p = summed context (CallInd info) _ old new (call_ind_summed context info none) context.flags p
+    by [] none p = summed context (CallInd info) _ old new refl (call_ind_summed context info none) context.flags p
     by (l ∷ loads) some p = around context (CallInd info) (call_ind_slots context.flags context.frame info) (l ∷ loads) t old new (call_ind_contents context info nothing) (λ start end. refl) p
 
 -- what an instruction that asks for no island adds

@@ -1,6 +1,7 @@
 -- What an instruction adds to a buffer, and that its parts are self-contained.
-use Rattle.std.proofs.Common.{◌≡◌, ◌⊎◌, inl, inr, ℕ, ◌+◌, ◌%◌, Bool, true, false, nat_eq, List, [], ◌∷◌, ◌++◌, length, None, pos, refl, ap, sym, ◌∙◌, arith}
-use Rattle.std.specs.Prelude.{if◌then◌else◌, ◌^◌, ◌-ℤ◌}
+use Rattle.std.proofs.Common.{◌≡◌, ◌⊎◌, inl, inr, ℕ, ◌+◌, ◌%◌, ◌≤◌, Bool, true, false, nat_eq, List, [], ◌∷◌, ◌++◌, length, Option, Some, None, pos, refl, ap, sym, ◌∙◌, subst, arith}
+use Rattle.std.specs.Prelude.{if◌then◌else◌, ◌^◌, ◌-ℤ◌, ◌&&◌}
+use Rattle.std.proofs.lemmas.Bool.{le-leb}
 use Rattle.rv_base.specs.Regs.{number_of}
 use Rattle.rv_base.specs.declared.ir_type.IrType.{IrType}
 use Rattle.rv_base.specs.declared.ir_type.IrType.TheVariants.{I32, I64}
@@ -23,7 +24,12 @@ use Rattle.rv_inst.specs.declared.inst.Inst.TheVariants.{Nop0, Nop4, EBreak, Seq
 use Rattle.rv_inst.specs.declared.inst.CondBrTarget.{CondBrTarget}
 use Rattle.rv_inst.specs.declared.inst.CondBrTarget.TheVariants.{Label as ToLabel, Fallthrough}
 use Rattle.rv_inst.specs.Sizes.{Words, extent_of, island_space, move_size, count_size, trap_size}
-use Rattle.rv_inst.specs.Uses.{uses_in}
+use Rattle.rv_inst.specs.Uses.{use_at, uses_in}
+use Rattle.rv_inst.specs.declared.label_use.LabelUse.{LabelUse}
+use Rattle.rv_inst.specs.declared.label_use.LabelUse.TheVariants.{B12}
+use Rattle.mach_buffer.specs.declared.uses.Use.{Use}
+use Rattle.mach_buffer.specs.Buffer.{shape_of, bytes_of, place_of, allocated_of}
+use Rattle.mach_buffer.specs.Reach.{is_reached}
 use Rattle.rv_base.specs.declared.constant.VCodeConstant.{VCodeConstant}
 use Rattle.rv_inst.specs.Operands.{inst_constant, named_by}
 use Rattle.rv_inst.specs.Records.{inst_records}
@@ -32,17 +38,20 @@ use Rattle.rv_machine.specs.declared.decoding.Decoded.{Decoded}
 use Rattle.rv_emit.specs.Operations.{jump_size}
 use Rattle.rv_emit.specs.Counts.{start_ops, turn_ops, turn_size}
 use Rattle.rv_inst.specs.Forms.{jump_kind, short_rrr, short_rri, short_lui, short_jalr, short_ebreak}
-use Rattle.rv_inst.specs.LabelUse.{marks_of}
-use Rattle.rv_emit.specs.Emitted.{Buffer, IsSoundBuffer, AppendsInst, IslandIfNeeded}
-use Rattle.rv_emit.specs.Slots.{Label, Op, Data, AreSelfContained, PartsAreSelfContained, size_of}
-use Rattle.rv_emit.specs.InstParts.{move_slots, branch_slots, jump_to, branch_over, trap_bytes, trap_slots, inline_slots, constant_slots, count_slots, parts_of}
+use Rattle.rv_inst.specs.LabelUse.{label_kinds, marks_of, forward_of, backward_of}
+use Rattle.rv_emit.specs.Emitted.{Buffer, IsSoundBuffer, IsFarUse, IsOwnUse, AppendsInst, IslandIfNeeded}
+use Rattle.rv_emit.specs.Slots.{Label, Own, Slot, Op, Data, AreSelfContained, PartsAreSelfContained, size_of, own_label}
+use Rattle.rv_emit.specs.InstParts.{move_slots, branch_slots, branch_to, jump_to, trap_bytes, trap_slots, trap_if_slots, complement, slots_alone, inline_slots, constant_slots, count_slots, parts_of}
 use Rattle.rv_emit.specs.declared.state.EmitVState.TheVariants.{Unknown}
-use Rattle.rv_emit.specs.Emission.{EmitsIn, Emits}
+use Rattle.rv_emit.specs.Emission.{PutsParts, EmitsIn, Emits}
 use Rattle.rv_emit.proofs.AddressRuns.{inline_size}
 use Rattle.rv_emit.proofs.ShortOps.{HasSize, rrr_sized, rri_sized, lui_sized, jalr_sized, ebreak_sized, jump_len, window_long, least_even}
 use Rattle.rv_emit.proofs.Operands.{keeps, data_kept, constant_kept}
 use Rattle.rv_inst.specs.Addresses.{AtLabel, location_of}
+use Rattle.rv_emit.proofs.BufferAfterSlots.{puts_named}
 use Rattle.rv_emit.proofs.PlainSlots.{IsSummed, summed, nothing}
+use Rattle.rv_emit.proofs.OwnSlots.{closed_code, closed_long, closed_end, closed_records, closed_adds}
+use Rattle.rv_emit.proofs.ReachAfterInst.{each_none, each_more}
 use Rattle.rv_emit.proofs.MemorySlots.{load_summed, store_summed, load_addr_summed, label_address_summed, load_contained, store_contained, address_contained}
 use Rattle.rv_emit.proofs.CountSlots.{count_even, ops_contained}
 use Rattle.rv_emit.proofs.ChoiceSlots.{extend_summed, extend_contained, select_summed, select_contained}
@@ -94,14 +103,47 @@ trap_long flags = by flags.has_zca
 trap : (context : Context) (code : TrapCode) → IsSummed context (Udf code) (trap_slots context.flags code)
 trap context code = record { plain = tt; long = let t = trap_long context.flags in let e : trap_size context.flags ≡ size_of (trap_slots context.flags code) = omega arith in ap Words e; uses = λ allocated start. refl; records = λ start. refl; names = λ named. refl }
 
-trap_after : (context : Context) (cmp : IntegerCompare) (code : TrapCode) → IsSummed context (TrapIf cmp code) (branch_over context.flags cmp ∷ trap_slots context.flags code)
-trap_after context cmp code = record {
-  plain = tt;
-  long = let t = trap_long context.flags in let e : 4 + trap_size context.flags ≡ size_of (branch_over context.flags cmp ∷ trap_slots context.flags code) = omega arith in ap Words e;
-  uses = λ allocated start. refl;
-  records = λ start. refl;
-  names = λ named. refl;
-}
+-- ---- a trap and a branch over it
+
+trap_few : (flags : IsaFlags) → length (trap_bytes flags) ≤ 4
+trap_few flags = by flags.has_zca
+  where
+    by : (c : Bool) → length {A = ℕ} (if c then 0 ∷ 0 ∷ [] else 0 ∷ 0 ∷ 0 ∷ 0 ∷ []) ≤ 4
+    by true = omega arith
+    by false = omega arith
+
+-- a label that is bound at most eight bytes after it is in reach of a branch
+over_reached : (label : MachLabel) (start size : ℕ) (place : Option ℕ) → place ≡ Some (start + size) → size ≤ 8 → is_reached label_kinds place (use_at start label B12) ≡ true
+over_reached label start size place e few =
+    ap (λ o. is_reached label_kinds o (use_at start label B12)) e
+    ∙ (λ i. le-leb (start + size) (start + forward_of B12) (omega arith) i && le-leb start (start + size + backward_of B12) (omega arith) i)
+
+trap_if_appends : (context : Context) (cmp : IntegerCompare) (code : TrapCode) (old new : Buffer) → IsSoundBuffer old → PutsParts context.flags (slots_alone (trap_if_slots context.flags cmp code)) old new → AppendsInst context (TrapIf cmp code) old new
+trap_if_appends context cmp code old new s (mid, p, same) = subst (AppendsInst context (TrapIf cmp code) old) (sym same) (record {
+  code = closed_code flags slots old mid tt s p.puts p.sound;
+  direct = branch ∷ [];
+  adds = closed_adds flags slots old mid tt s p.puts p.sound;
+  each = each_more (λ u. IsFarUse [] u ⊎ IsOwnUse 1 (allocated_of old) (place_of mid) u) branch [] (inr (record {
+    index = 0;
+    own = omega arith;
+    names = refl;
+    served = refl;
+    bare = refl;
+    reached = over_reached (own_label (allocated_of old) 0) (length (bytes_of old)) (size_of slots) _ (closed_end flags slots old mid tt s p.puts p.sound) (let few = trap_few flags in omega arith);
+  })) (each_none _);
+  records = closed_records flags slots old mid tt s p.puts p.sound;
+  named = puts_named flags (allocated_of old) (trap_if_slots flags cmp code) (shape_of old) (shape_of mid) p.puts;
+  long = let t = trap_long flags in let e = closed_long flags slots old mid tt s p.puts p.sound in omega arith;
+})
+  where
+    flags : IsaFlags
+    flags = context.flags
+
+    slots : List Slot
+    slots = branch_to (complement cmp) (Own 0) ∷ trap_slots flags code
+
+    branch : Use LabelUse
+    branch = use_at (length (bytes_of old)) (own_label (allocated_of old) 0) B12
 
 counts : (context : Context) (sum tmp step : Writable Reg) (rs : Reg) (type : IrType) → IsSummed context (Popcnt sum tmp step rs type) (count_slots context.flags (number_of sum.reg) (number_of tmp.reg) (number_of step.reg) (number_of rs) (bits_of type))
 counts context sum tmp step rs type = record {
@@ -116,47 +158,47 @@ counts context sum tmp step rs type = record {
 
 -- what an instruction that asks for no island adds
 pub appends_inst : (context : Context) (setting : EmitVState) (inst : Inst) (old new : Buffer) → inst_rule context inst ≡ None → IsSoundBuffer old → island_space context inst ≡ None → EmitsIn context setting inst old new → AppendsInst context inst old new
-appends_inst context setting Nop0 old new rule s asks p = nothing context Nop0 old new s refl refl refl refl p
-appends_inst context setting Nop4 old new rule s asks p = summed context Nop4 _ old new (one context Nop4 _ refl (λ start end. refl) (λ start end. refl) (λ named. refl)) context.flags p
-appends_inst context setting EBreak old new rule s asks p = summed context EBreak _ old new (one context EBreak _ refl (λ start end. refl) (λ start end. refl) (λ named. refl)) context.flags p
-appends_inst context setting SequencePoint old new rule s asks p = nothing context SequencePoint old new s refl refl refl refl p
-appends_inst context setting (Args args) old new rule s asks p = nothing context (Args args) old new s refl refl refl refl p
-appends_inst context setting (Rets rets) old new rule s asks p = nothing context (Rets rets) old new s refl refl refl refl p
-appends_inst context setting (DummyUse reg) old new rule s asks p = nothing context (DummyUse reg) old new s refl refl refl refl p
+appends_inst context setting Nop0 old new rule s asks p = nothing context Nop0 old new s refl refl refl refl refl p
+appends_inst context setting Nop4 old new rule s asks p = summed context Nop4 _ old new refl (one context Nop4 _ refl (λ start end. refl) (λ start end. refl) (λ named. refl)) context.flags p
+appends_inst context setting EBreak old new rule s asks p = summed context EBreak _ old new refl (one context EBreak _ refl (λ start end. refl) (λ start end. refl) (λ named. refl)) context.flags p
+appends_inst context setting SequencePoint old new rule s asks p = nothing context SequencePoint old new s refl refl refl refl refl p
+appends_inst context setting (Args args) old new rule s asks p = nothing context (Args args) old new s refl refl refl refl refl p
+appends_inst context setting (Rets rets) old new rule s asks p = nothing context (Rets rets) old new s refl refl refl refl refl p
+appends_inst context setting (DummyUse reg) old new rule s asks p = nothing context (DummyUse reg) old new s refl refl refl refl refl p
 appends_inst context setting (EmitIsland space) old new rule s asks p = absurd (cc)
-appends_inst context setting (RawData bytes) old new rule s asks p = summed context (RawData bytes) _ old new (raw_data context bytes) context.flags p
-appends_inst context setting (Lui rd imm) old new rule s asks p = summed context (Lui rd imm) _ old new (one context (Lui rd imm) _ refl (λ start end. refl) (λ start end. refl) (λ named. refl)) context.flags p
-appends_inst context setting (Auipc rd imm) old new rule s asks p = summed context (Auipc rd imm) _ old new (one context (Auipc rd imm) _ refl (λ start end. refl) (λ start end. refl) (λ named. refl)) context.flags p
-appends_inst context setting (LoadInlineConst rd type imm) old new rule s asks p = summed context (LoadInlineConst rd type imm) _ old new (constants context rd type imm (constant_kept rd type imm (keeps context _ rule)).typed) context.flags p
-appends_inst context setting (AluRRR op rd rs1 rs2) old new rule s asks p = summed context (AluRRR op rd rs1 rs2) _ old new (one context (AluRRR op rd rs1 rs2) _ refl (λ start end. refl) (λ start end. refl) (λ named. refl)) context.flags p
-appends_inst context setting (AluRRImm12 op rd rs imm) old new rule s asks p = summed context (AluRRImm12 op rd rs imm) _ old new (one context (AluRRImm12 op rd rs imm) _ refl (λ start end. refl) (λ start end. refl) (λ named. refl)) context.flags p
-appends_inst context setting (Mov rd rm type) old new rule s asks p = summed context (Mov rd rm type) _ old new (moves context (Mov rd rm type) (number_of rd.reg) (number_of rm) refl (λ start end. refl) (λ start end. refl) (λ named. refl)) context.flags p
-appends_inst context setting (MovFromPReg rd rm) old new rule s asks p = summed context (MovFromPReg rd rm) _ old new (moves context (MovFromPReg rd rm) (number_of rd.reg) rm.number refl (λ start end. refl) (λ start end. refl) (λ named. refl)) context.flags p
-appends_inst context setting (Extend rd rn signed from_bits to_bits) old new rule s asks p = summed context (Extend rd rn signed from_bits to_bits) _ old new (extend_summed context rd rn signed from_bits to_bits) context.flags p
-appends_inst context setting (Select info) old new rule s asks p = summed context (Select info) _ old new (select_summed context info) context.flags p
-appends_inst context setting (Load rd op flags from) old new rule s asks p = summed context (Load rd op flags from) _ old new (load_summed context rd op flags from) context.flags p
-appends_inst context setting (Store to op flags src) old new rule s asks p = summed context (Store to op flags src) _ old new (store_summed context to op flags src) context.flags p
-appends_inst context setting (LoadAddr rd mem) old new rule s asks p = summed context (LoadAddr rd mem) _ old new (load_addr_summed context rd mem) context.flags p
-appends_inst context setting (LabelAddress dst label) old new rule s asks p = summed context (LabelAddress dst label) _ old new (label_address_summed context dst label) context.flags p
-appends_inst context setting Ret old new rule s asks p = summed context Ret _ old new (one context Ret _ refl (λ start end. refl) (λ start end. refl) (λ named. refl)) context.flags p
-appends_inst context setting (TrapIf cmp code) old new rule s asks p = summed context (TrapIf cmp code) _ old new (trap_after context cmp code) context.flags p
-appends_inst context setting (Jal label) old new rule s asks p = summed context (Jal label) _ old new (jumps context label) context.flags p
-appends_inst context setting (CondBr taken not_taken kind) old new rule s asks p = summed context (CondBr taken not_taken kind) _ old new (branches context kind taken not_taken) context.flags p
+appends_inst context setting (RawData bytes) old new rule s asks p = summed context (RawData bytes) _ old new refl (raw_data context bytes) context.flags p
+appends_inst context setting (Lui rd imm) old new rule s asks p = summed context (Lui rd imm) _ old new refl (one context (Lui rd imm) _ refl (λ start end. refl) (λ start end. refl) (λ named. refl)) context.flags p
+appends_inst context setting (Auipc rd imm) old new rule s asks p = summed context (Auipc rd imm) _ old new refl (one context (Auipc rd imm) _ refl (λ start end. refl) (λ start end. refl) (λ named. refl)) context.flags p
+appends_inst context setting (LoadInlineConst rd type imm) old new rule s asks p = summed context (LoadInlineConst rd type imm) _ old new refl (constants context rd type imm (constant_kept rd type imm (keeps context _ rule)).typed) context.flags p
+appends_inst context setting (AluRRR op rd rs1 rs2) old new rule s asks p = summed context (AluRRR op rd rs1 rs2) _ old new refl (one context (AluRRR op rd rs1 rs2) _ refl (λ start end. refl) (λ start end. refl) (λ named. refl)) context.flags p
+appends_inst context setting (AluRRImm12 op rd rs imm) old new rule s asks p = summed context (AluRRImm12 op rd rs imm) _ old new refl (one context (AluRRImm12 op rd rs imm) _ refl (λ start end. refl) (λ start end. refl) (λ named. refl)) context.flags p
+appends_inst context setting (Mov rd rm type) old new rule s asks p = summed context (Mov rd rm type) _ old new refl (moves context (Mov rd rm type) (number_of rd.reg) (number_of rm) refl (λ start end. refl) (λ start end. refl) (λ named. refl)) context.flags p
+appends_inst context setting (MovFromPReg rd rm) old new rule s asks p = summed context (MovFromPReg rd rm) _ old new refl (moves context (MovFromPReg rd rm) (number_of rd.reg) rm.number refl (λ start end. refl) (λ start end. refl) (λ named. refl)) context.flags p
+appends_inst context setting (Extend rd rn signed from_bits to_bits) old new rule s asks p = summed context (Extend rd rn signed from_bits to_bits) _ old new refl (extend_summed context rd rn signed from_bits to_bits) context.flags p
+appends_inst context setting (Select info) old new rule s asks p = summed context (Select info) _ old new refl (select_summed context info) context.flags p
+appends_inst context setting (Load rd op flags from) old new rule s asks p = summed context (Load rd op flags from) _ old new refl (load_summed context rd op flags from) context.flags p
+appends_inst context setting (Store to op flags src) old new rule s asks p = summed context (Store to op flags src) _ old new refl (store_summed context to op flags src) context.flags p
+appends_inst context setting (LoadAddr rd mem) old new rule s asks p = summed context (LoadAddr rd mem) _ old new refl (load_addr_summed context rd mem) context.flags p
+appends_inst context setting (LabelAddress dst label) old new rule s asks p = summed context (LabelAddress dst label) _ old new refl (label_address_summed context dst label) context.flags p
+appends_inst context setting Ret old new rule s asks p = summed context Ret _ old new refl (one context Ret _ refl (λ start end. refl) (λ start end. refl) (λ named. refl)) context.flags p
+appends_inst context setting (TrapIf cmp code) old new rule s asks p = trap_if_appends context cmp code old new s p
+appends_inst context setting (Jal label) old new rule s asks p = summed context (Jal label) _ old new refl (jumps context label) context.flags p
+appends_inst context setting (CondBr taken not_taken kind) old new rule s asks p = summed context (CondBr taken not_taken kind) _ old new refl (branches context kind taken not_taken) context.flags p
 appends_inst context setting (BrTable index tmp1 tmp2 targets) old new rule s asks p = absurd (cc)
-appends_inst context setting (Udf code) old new rule s asks p = summed context (Udf code) _ old new (trap context code) context.flags p
-appends_inst context setting (Jalr rd base offset) old new rule s asks p = summed context (Jalr rd base offset) _ old new (one context (Jalr rd base offset) _ refl (λ start end. refl) (λ start end. refl) (λ named. refl)) context.flags p
-appends_inst context setting (Popcnt sum tmp step rs type) old new rule s asks p = summed context (Popcnt sum tmp step rs type) _ old new (counts context sum tmp step rs type) context.flags p
-appends_inst context setting (Cltz sum tmp step rs leading type) old new rule s asks p = summed context (Cltz sum tmp step rs leading type) _ old new (zeros_summed context sum tmp step rs leading type) context.flags p
-appends_inst context setting (Brev8 rs type step tmp tmp2 rd) old new rule s asks p = summed context (Brev8 rs type step tmp tmp2 rd) _ old new (reverse_summed context rs type step tmp tmp2 rd) context.flags p
-appends_inst context setting (StackProbeLoop guard_size probe_count tmp) old new rule s asks p = summed context (StackProbeLoop guard_size probe_count tmp) _ old new (probe_summed context guard_size probe_count tmp) context.flags p
-appends_inst context setting (LoadExtNameGot rd name) old new rule s asks p = summed context (LoadExtNameGot rd name) _ old new (got_summed context rd name) context.flags p
-appends_inst context setting (LoadExtNameNear rd name offset) old new rule s asks p = summed context (LoadExtNameNear rd name offset) _ old new (near_summed context rd name offset) context.flags p
-appends_inst context setting (LoadExtNameFar rd name offset) old new rule s asks p = summed context (LoadExtNameFar rd name offset) _ old new (far_summed context rd name offset) context.flags p
+appends_inst context setting (Udf code) old new rule s asks p = summed context (Udf code) _ old new refl (trap context code) context.flags p
+appends_inst context setting (Jalr rd base offset) old new rule s asks p = summed context (Jalr rd base offset) _ old new refl (one context (Jalr rd base offset) _ refl (λ start end. refl) (λ start end. refl) (λ named. refl)) context.flags p
+appends_inst context setting (Popcnt sum tmp step rs type) old new rule s asks p = summed context (Popcnt sum tmp step rs type) _ old new refl (counts context sum tmp step rs type) context.flags p
+appends_inst context setting (Cltz sum tmp step rs leading type) old new rule s asks p = summed context (Cltz sum tmp step rs leading type) _ old new refl (zeros_summed context sum tmp step rs leading type) context.flags p
+appends_inst context setting (Brev8 rs type step tmp tmp2 rd) old new rule s asks p = summed context (Brev8 rs type step tmp tmp2 rd) _ old new refl (reverse_summed context rs type step tmp tmp2 rd) context.flags p
+appends_inst context setting (StackProbeLoop guard_size probe_count tmp) old new rule s asks p = summed context (StackProbeLoop guard_size probe_count tmp) _ old new refl (probe_summed context guard_size probe_count tmp) context.flags p
+appends_inst context setting (LoadExtNameGot rd name) old new rule s asks p = summed context (LoadExtNameGot rd name) _ old new refl (got_summed context rd name) context.flags p
+appends_inst context setting (LoadExtNameNear rd name offset) old new rule s asks p = summed context (LoadExtNameNear rd name offset) _ old new refl (near_summed context rd name offset) context.flags p
+appends_inst context setting (LoadExtNameFar rd name offset) old new rule s asks p = summed context (LoadExtNameFar rd name offset) _ old new refl (far_summed context rd name offset) context.flags p
 appends_inst context setting (Call info) old new rule s asks p = words_alone context (extent_of context (Call info)) (Call info) old new asks (call_appends context info old new p)
 appends_inst context setting (CallInd info) old new rule s asks p = words_alone context (extent_of context (CallInd info)) (CallInd info) old new asks (call_ind_appends context info old new p)
 appends_inst context setting (ReturnCall info) old new rule s asks p = absurd (cc)
 appends_inst context setting (ReturnCallInd info) old new rule s asks p = absurd (cc)
-appends_inst context setting (Unwind inst) old new rule s asks p = summed context (Unwind inst) _ old new (unwind_summed context inst) context.flags p
+appends_inst context setting (Unwind inst) old new rule s asks p = summed context (Unwind inst) _ old new refl (unwind_summed context inst) context.flags p
 
 pub inst_appends : (context : Context) (inst : Inst) (old new : Buffer) → inst_rule context inst ≡ None → IsSoundBuffer old → island_space context inst ≡ None → Emits context inst old new → AppendsInst context inst old new
 inst_appends context inst old new rule s asks p = appends_inst context Unknown inst old new rule s asks (p Unknown)
@@ -202,6 +244,10 @@ trap_even flags = by flags.has_zca
     by true = refl
     by false = refl
 
+-- the branch over a trap reaches the label after it
+trap_if_contained : (flags : IsaFlags) (cmp : IntegerCompare) (code : TrapCode) → AreSelfContained (trap_if_slots flags cmp code)
+trap_if_contained flags cmp code = let few = trap_few flags in (record { to = 4 + length (trap_bytes flags); there = refl; forward = omega arith; backward = omega arith }, (trap_even flags, tt))
+
 count_contained : (flags : IsaFlags) (sum tmp step rs bits : ℕ) → AreSelfContained (count_slots flags sum tmp step rs bits)
 count_contained flags sum tmp step rs bits = ops_contained (start_ops flags true sum tmp step bits ++ turn_ops flags false Srli sum tmp step rs) (count_even flags true false Srli sum tmp step rs bits)
 
@@ -230,7 +276,7 @@ parts_are_self_contained context setting (Store to op flags src) rule = (store_c
 parts_are_self_contained context setting (LoadAddr rd mem) rule = (address_contained context.flags (number_of rd.reg) (location_of context.frame mem), tt)
 parts_are_self_contained context setting (LabelAddress dst label) rule = (address_contained context.flags (number_of dst.reg) (AtLabel label), tt)
 parts_are_self_contained context setting Ret rule = (op_contained (short_jalr context.flags 0 1 (pos 0)) (jalr_sized context.flags 0 1 (pos 0)), tt)
-parts_are_self_contained context setting (TrapIf cmp code) rule = ((refl, (trap_even context.flags, tt)), tt)
+parts_are_self_contained context setting (TrapIf cmp code) rule = (trap_if_contained context.flags cmp code, tt)
 parts_are_self_contained context setting (Jal label) rule = ((tt, tt), tt)
 parts_are_self_contained context setting (CondBr taken not_taken kind) rule = (branch_contained context.flags kind taken not_taken, tt)
 parts_are_self_contained context setting (BrTable index tmp1 tmp2 targets) rule = (table_contained context.flags (number_of index) (number_of tmp1.reg) (number_of tmp2.reg) targets, tt)

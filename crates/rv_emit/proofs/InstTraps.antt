@@ -1,6 +1,7 @@
 -- The instructions that trap, and data, which is never entered.
-use Rattle.std.proofs.Common.{◌≡◌, ℕ, ◌+◌, ◌%◌, ◌^◌, ◌<◌, ◌≤◌, ℤ, Bool, true, false, not, pos, List, [], ◌∷◌, length, None, Some, arith, refl, ap, sym, ◌∙◌, lit<}
+use Rattle.std.proofs.Common.{◌≡◌, ℕ, ◌+◌, ◌%◌, ◌^◌, ◌<◌, ◌≤◌, Bool, true, false, not, List, [], ◌∷◌, length, None, arith, refl, ap, sym, ◌∙◌, subst, lit<}
 use Rattle.std.specs.Prelude.{if◌then◌else◌, nat_eq, nat_lt}
+use Rattle.std.proofs.lemmas.Option.{same_Some}
 use Rattle.rv_base.specs.declared.condcodes.IntCC.{IntCC}
 use Rattle.rv_base.specs.declared.condcodes.IntCC.TheVariants.{Equal, NotEqual, SignedLessThan, SignedGreaterThanOrEqual, SignedGreaterThan, SignedLessThanOrEqual, UnsignedLessThan, UnsignedGreaterThanOrEqual, UnsignedGreaterThan, UnsignedLessThanOrEqual}
 use Rattle.rv_base.specs.declared.flags.IsaFlags.{IsaFlags}
@@ -14,22 +15,19 @@ use Rattle.rv_machine.specs.Decode.{decode}
 use Rattle.rv_machine.proofs.DecodeLaws.{decode_zero}
 use Rattle.rv_machine.specs.State.{Memory, State, Values, byte, reg, wrap, low64, at}
 use Rattle.rv_machine.specs.Steps.{fetch}
-use Rattle.rv_encode.specs.Operations.{decoded_branch}
 use Rattle.rv_emit.specs.declared.state.EmitVState.{EmitVState}
 use Rattle.rv_emit.specs.Usable.{IsUsable}
-use Rattle.rv_emit.specs.Slots.{Slot, size_of}
+use Rattle.rv_emit.specs.Slots.{Own, size_of, between}
 use Rattle.rv_emit.specs.Sites.{Site, BytesAt}
 use Rattle.rv_inst.specs.Records.{IsRecorded}
 use Rattle.mach_buffer.specs.declared.records.Event.TheVariants as event
-use Rattle.rv_emit.specs.InstParts.{slots_alone, trap_bytes, trap_slots, complement, branch_over}
-use Rattle.rv_inst.specs.Sizes.{trap_size}
+use Rattle.rv_emit.specs.InstParts.{slots_alone, trap_bytes, trap_slots, trap_if_slots, complement}
 use Rattle.rv_emit.specs.InstRuns.{Enters, ComesOut, RunsIn}
 use Rattle.rv_emit.specs.Chains.{Goes, IsAt, IsBeside}
 use Rattle.rv_emit.proofs.Chains.{goes_none}
-use Rattle.rv_emit.proofs.CodeSteps.{pc_in_code, step_at, at_next}
+use Rattle.rv_emit.proofs.CodeSteps.{pc_in_code, at_next, aims_at}
 use Rattle.rv_emit.proofs.Exits.{starts_beside, starts_at, comes_out, goes_out}
-use Rattle.rv_emit.proofs.InstJumps.{compares, compares_same, moved_beside}
-use Rattle.rv_emit.proofs.OperationActs.{branch_acts}
+use Rattle.rv_emit.proofs.InstJumps.{compares, compares_same, branch_goes, moved_beside}
 
 -- ---- zero bytes, which are no operation
 
@@ -93,44 +91,32 @@ complement_holds UnsignedGreaterThanOrEqual x y = sym (not_not (nat_lt x y))
 complement_holds UnsignedGreaterThan x y = refl
 complement_holds UnsignedLessThanOrEqual x y = sym (not_not (nat_lt y x))
 
-abbrev trap_if_slots : IsaFlags → IntegerCompare → TrapCode → List Slot
-trap_if_slots flags cmp code = branch_over flags cmp ∷ trap_slots flags code
-
--- how far the branch goes
-abbrev over : IsaFlags → ℤ
-over flags = pos (4 + trap_size flags)
-
-over_trap : (flags : IsaFlags) → low64 (over flags) ≡ 4 + length (trap_bytes flags)
-over_trap flags = by flags.has_zca
-  where
-    by : (c : Bool) → low64 (pos (4 + (if c then 2 else 4))) ≡ 4 + length {A = ℕ} (if c then 0 ∷ 0 ∷ [] else 0 ∷ 0 ∷ 0 ∷ 0 ∷ [])
-    by true = refl
-    by false = refl
-
 -- the branch over the trap, by whether the comparison holds
-over_goes : {site : Site} {start after : ℕ} {s : State} {v : Values} (cmp : IntegerCompare) (code : TrapCode) (c : Bool) → compares cmp v ≡ c → IsUsable cmp.rs1 → IsUsable cmp.rs2 → Enters site start after (slots_alone (trap_if_slots site.context.flags cmp code)) s v → Goes site.context.flags 1 s (at (if not c then wrap (s.pc + low64 (over site.context.flags)) else wrap (s.pc + 4)) s.values)
+over_goes : {site : Site} {start after : ℕ} {s : State} {v : Values} (cmp : IntegerCompare) (code : TrapCode) (c : Bool) → compares cmp v ≡ c → IsUsable cmp.rs1 → IsUsable cmp.rs2 → (e : Enters site start after (slots_alone (trap_if_slots site.context.flags cmp code)) s v) → Goes site.context.flags 1 s (at (if not c then wrap (s.pc + low64 (between start e.stands.1.0.to)) else wrap (s.pc + 4)) s.values)
 over_goes {site} {start} {after} {s} {v} cmp code c test h1 h2 e =
-    let d = over site.context.flags in
     let x = reg s.values (number_of cmp.rs1) in
     let y = reg s.values (number_of cmp.rs2) in
     let held : holds (complement_of cmp.kind) x y ≡ not c = complement_holds cmp.kind x y ∙ ap not (sym (compares_same cmp v s.values h1 h2 e.same) ∙ test) in
-    step_at (decoded_branch (complement cmp) d) [] (at (if not c then wrap (s.pc + low64 d) else wrap (s.pc + 4)) s.values) (starts_at (trap_if_slots site.context.flags cmp code) e) (omega arith) e.stands.1.0
-    (branch_acts (complement cmp) d s ∙ (λ i. Some (at (if held i then wrap (s.pc + low64 d) else wrap (s.pc + 4)) s.values)))
+    branch_goes (Own 0) (complement cmp) (not c) held (starts_at (trap_if_slots site.context.flags cmp code) e) (omega arith) e.stands.1.0
 
 trap_if_out : {site : Site} {start after : ℕ} {s : State} {v : Values} (cmp : IntegerCompare) (code : TrapCode) (c : Bool) → compares cmp v ≡ c → IsUsable cmp.rs1 → IsUsable cmp.rs2 → Enters site start after (slots_alone (trap_if_slots site.context.flags cmp code)) s v → ComesOut site start after (if c then Trap code else Next) [] v s
 trap_if_out {site} {start} {after} {s} {v} cmp code true test h1 h2 e =
     let pc = wrap (s.pc + 4) in
     let ends = e.stands.2 in
     let some = trap_some site.context.flags in
+    let long : size_of (trap_if_slots site.context.flags cmp code) ≡ 4 + size_of (trap_slots site.context.flags code) = omega arith in
+    let whole = subst (λ n. IsAt site start n s) long (starts_at (trap_if_slots site.context.flags cmp code) e) in
     goes_out (over_goes cmp code true test h1 h2 e)
-    (trap_out {offset = start + 4} {size = size_of (trap_slots site.context.flags code)} code (at_next 4 (at pc s.values) (starts_at (trap_if_slots site.context.flags cmp code) e) refl refl e.placed) (omega arith) e.stands.1.1.0 (e.stands.1.1.1.0 s.values.mem e.placed) (omega arith) (omega arith) (moved_beside pc (omega arith) (starts_beside [] e)))
+    (trap_out {offset = start + 4} {size = size_of (trap_slots site.context.flags code)} code (at_next 4 (at pc s.values) whole refl refl e.placed) (omega arith) e.stands.1.1.0 (e.stands.1.1.1.0 s.values.mem e.placed) (omega arith) (omega arith) (moved_beside pc (omega arith) (starts_beside [] e)))
 trap_if_out {site} {start} {after} {s} {v} cmp code false test h1 h2 e =
-    let pc = wrap (s.pc + low64 (over site.context.flags)) in
-    let far = over_trap site.context.flags in
-    let here = e.pc in
+    let to = e.stands.1.0.to in
+    let pc = wrap (s.pc + low64 (between start to)) in
     let ends = e.stands.2 in
+    -- the label stands after the trap
+    let there : to ≡ start + 4 + length (trap_bytes site.context.flags) = same_Some to _ (sym e.stands.1.0.reaches ∙ e.stands.1.1.1.1.0) in
+    let over : to ≡ after = omega arith in
     goes_out (over_goes cmp code false test h1 h2 e)
-    (comes_out (at pc s.values) (goes_none site.context.flags (at pc s.values)) (omega arith) (moved_beside pc (omega arith) (starts_beside [] e)))
+    (comes_out (at pc s.values) (goes_none site.context.flags (at pc s.values)) (aims_at to (starts_at (trap_if_slots site.context.flags cmp code) e) (omega arith) ∙ ap (λ n. wrap (site.base + n)) over) (moved_beside pc (omega arith) (starts_beside [] e)))
 
 pub trap_if_runs : (site : Site) (setting : EmitVState) (cmp : IntegerCompare) (code : TrapCode) → IsUsable cmp.rs1 → IsUsable cmp.rs2 → RunsIn site setting (TrapIf cmp code)
 trap_if_runs site setting cmp code h1 h2 = record { run = λ start after s v e clear. trap_if_out cmp code (compares cmp v) refl h1 h2 e }

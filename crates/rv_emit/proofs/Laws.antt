@@ -16,7 +16,7 @@ pub use Rattle.rv_emit.proofs.BufferAfterSlots.{lasts_after_slots, puts_bytes, p
 pub use Rattle.rv_emit.proofs.PartsInBuffer.{gap_last, parts_last, GapPut, gap_put, PartsPut, parts_put}
 -- constants that come to stand; and an element of a list with one more
 pub use Rattle.rv_emit.proofs.NewConstants.{adds_both, adds_none, adds_end, before_or_last}
--- an instruction's parts are self-contained; and what one without labels of its own adds
+-- an instruction's parts are self-contained; and what one that asks for no island adds
 pub use Rattle.rv_emit.proofs.InstSlots.{parts_are_self_contained, appends_inst}
 pub use Rattle.rv_emit.proofs.TableSlots.{table_most}
 pub use Rattle.rv_emit.proofs.TableAppends.{AppendsAfter, appends_table, table_parts_long, table_some, table_stands}
@@ -32,7 +32,10 @@ pub use Rattle.rv_emit.proofs.IslandsStand.{island_is, gap_is}
 -- ways on in the finished code
 pub use Rattle.rv_emit.proofs.Ways.{comes_both, leads_here, leads_both}
 -- pending uses and their deadlines
-pub use Rattle.rv_emit.proofs.ReachAfterInst.{Each, pending_at, each_none, each_more, uses_bare, uses_kinds, few_deadlines, bytes_put, far_never_pending, own_deadlines, pending_adds, calm_after}
+pub use Rattle.rv_emit.proofs.ReachAfterInst.{Each, pending_at, each_none, each_more, uses_bare, uses_kinds, few_deadlines, bytes_put, direct_never_pending, pending_still, pending_adds, calm_after}
+-- and what a sequence leaves as it was, with labels of its own or without
+pub use Rattle.rv_emit.proofs.Sequences.{no_own, low_kept, high_kept, bound_kept}
+pub use Rattle.rv_emit.proofs.OwnCounts.{owns_few, asking_owns_none}
 -- how far the uses of an instruction reach, and how many are pending
 pub use Rattle.rv_emit.proofs.Bounds.{HasJump, has_jump, uses_least, few_ways, ways_more, none_more, ways_few, alone_longer, alone_pending}
 -- how many bytes an instruction has at most

@@ -19,7 +19,10 @@ pub mod Laws
 mod OneMoreRegister
 mod Operands
 mod OperationActs
+mod OwnCounts
 mod OwnLabels
+mod OwnSlots
+mod Sequences
 mod Fields
 mod PartsInBuffer
 mod PlacedBytes

@@ -13,7 +13,8 @@ use Rattle.mach_buffer.specs.declared.records.MachRecord.{MachRecord}
 use Rattle.mach_buffer.specs.declared.uses.Use.{Use}
 use Rattle.mach_buffer.specs.Shape.{Shape}
 use Rattle.mach_buffer.specs.Buffer.{shape_of, bytes_of, allocated_of, named_of}
-use Rattle.rv_emit.specs.Emitted.{Buffer, IsSoundBuffer, AppendsInst, AppendsWords}
+use Rattle.rv_emit.specs.OwnCounts.{own_count}
+use Rattle.rv_emit.specs.Emitted.{Buffer, IsSoundBuffer, AppendsCode, AppendsSequence, AppendsInst, AppendsWords}
 use Rattle.rv_emit.specs.Slots.{Slot, Op, Aim, Data, Notes, Names, Allocate, Here, Fill, Address, CallTo, size_of, uses_of, records_of, names_of, upper_event, lower_event, address_event, call_event}
 use Rattle.rv_emit.specs.Puts.{Puts, eight_zeros}
 use Rattle.rv_emit.specs.InstParts.{slots_alone}
@@ -21,6 +22,7 @@ use Rattle.rv_emit.specs.Emission.{PutsParts}
 use Rattle.rv_base.specs.declared.constant.VCodeConstant.{VCodeConstant}
 use Rattle.rv_inst.specs.Operands.{inst_constant, named_by}
 use Rattle.rv_emit.proofs.BufferAfterSlots.{lasts_after_slots, puts_named, puts_constants}
+use Rattle.rv_emit.proofs.Sequences.{no_own}
 
 -- slots that allocate and bind no label
 abbrev pub IsPlain : List Slot → Type 0
@@ -151,12 +153,16 @@ pub record IsSummed (context : Context) (inst : Inst) (slots : List Slot) : Type
   pub records : (start : ℕ) → records_of start slots ≡ inst_records context start (start + size_of slots) inst
   pub names : (named : List VCodeConstant) → names_of slots named ≡ named_by (inst_constant inst) named
 
-pub added : (context : Context) (inst : Inst) (slots : List Slot) (old new : Buffer) → IsAdded context inst slots → (flags : IsaFlags) → PutsParts flags (slots_alone slots) old new → AppendsInst context inst old new
-added context inst slots old new is flags (mid, p, same) = subst (AppendsInst context inst old) (sym same) (record {
+-- code that allocates no label, of an instruction that has none of its own
+pub unlabelled : (inst : Inst) (code : List ℕ) (own : List (Use LabelUse)) (old new : Buffer) → own_count inst ≡ 0 → AppendsCode code own old new → AppendsSequence (own_count inst) code own old new
+unlabelled inst code own old new none p = subst (λ n. AppendsSequence n code own old new) (sym none) (no_own code own old new p)
+
+pub added : (context : Context) (inst : Inst) (slots : List Slot) (old new : Buffer) → own_count inst ≡ 0 → IsAdded context inst slots → (flags : IsaFlags) → PutsParts flags (slots_alone slots) old new → AppendsInst context inst old new
+added context inst slots old new none is flags (mid, p, same) = subst (AppendsInst context inst old) (sym same) (record {
   code = a.code;
-  far = [];
-  table = λ j u h. absurd (cc);
-  adds = record {
+  direct = [];
+  each = λ j u h. absurd (cc);
+  adds = unlabelled inst a.code _ old mid none (record {
     bytes = a.bytes;
     uses = a.uses ∙ ap (λ own. (shape_of old).uses ++ own) (is.uses (allocated_of old) (length (bytes_of old)) ∙ ap (λ n. uses_in context (length (bytes_of old)) n inst) (sym end) ∙ sym (append-nil (uses_in context (length (bytes_of old)) (length (bytes_of mid)) inst)));
     places = a.place;
@@ -165,7 +171,7 @@ added context inst slots old new is flags (mid, p, same) = subst (AppendsInst co
     registered = (lasts_after_slots flags (allocated_of old) slots (shape_of old) (shape_of mid) p.puts).registered;
     constants = puts_constants flags (allocated_of old) slots (shape_of old) (shape_of mid) p.puts;
     sound = p.sound;
-  };
+  });
   records = a.records ∙ ap (λ more. (shape_of old).records ++ more) (is.records (length (bytes_of old)) ∙ ap (λ n. inst_records context (length (bytes_of old)) n inst) (sym end));
   named = puts_named flags (allocated_of old) slots (shape_of old) (shape_of mid) p.puts ∙ is.names (named_of old);
   long = is.long ∙ sym a.long;
@@ -177,8 +183,8 @@ added context inst slots old new is flags (mid, p, same) = subst (AppendsInst co
     end : length (bytes_of mid) ≡ length (bytes_of old) + size_of slots
     end = ap length a.bytes ∙ length-append (bytes_of old) a.code ∙ ap (λ n. length (bytes_of old) + n) a.long
 
-pub summed : (context : Context) (inst : Inst) (slots : List Slot) (old new : Buffer) → IsSummed context inst slots → (flags : IsaFlags) → PutsParts flags (slots_alone slots) old new → AppendsInst context inst old new
-summed context inst slots old new is flags p = added context inst slots old new (record { plain = is.plain; long = ap words_in is.long; uses = is.uses; records = is.records; names = is.names }) flags p
+pub summed : (context : Context) (inst : Inst) (slots : List Slot) (old new : Buffer) → own_count inst ≡ 0 → IsSummed context inst slots → (flags : IsaFlags) → PutsParts flags (slots_alone slots) old new → AppendsInst context inst old new
+summed context inst slots old new none is flags p = added context inst slots old new none (record { plain = is.plain; long = ap words_in is.long; uses = is.uses; records = is.records; names = is.names }) flags p
 
 -- slots alone add their words, uses and records, where they name no constant
 pub appends_words : (flags : IsaFlags) (slots : List Slot) (size : ℕ) (own : List (Use LabelUse)) (recorded : List MachRecord) (old new : Buffer) → IsPlain slots → size_of slots ≡ size → uses_of (allocated_of old) (length (bytes_of old)) slots ≡ own → records_of (length (bytes_of old)) slots ≡ recorded → ((named : List VCodeConstant) → names_of slots named ≡ named) → PutsParts flags (slots_alone slots) old new → AppendsWords size own recorded old new
@@ -206,12 +212,12 @@ pub words_long : (size : ℕ) (own : List (Use LabelUse)) (recorded : List MachR
 words_long size own recorded old new w = ap length w.adds.bytes ∙ length-append (bytes_of old) w.code ∙ ap (λ n. length (bytes_of old) + n) w.long
 
 -- nothing was put
-pub nothing : (context : Context) (inst : Inst) (old new : Buffer) → IsSoundBuffer old → extent_of context inst ≡ Words 0 → uses_in context (length (bytes_of old)) (length (bytes_of old)) inst ≡ [] → inst_records context (length (bytes_of old)) (length (bytes_of old)) inst ≡ [] → named_of old ≡ named_by (inst_constant inst) (named_of old) → new ≡ old → AppendsInst context inst old new
-nothing context inst old new sound long uses records named same = subst (AppendsInst context inst old) (sym same) (record {
+pub nothing : (context : Context) (inst : Inst) (old new : Buffer) → IsSoundBuffer old → own_count inst ≡ 0 → extent_of context inst ≡ Words 0 → uses_in context (length (bytes_of old)) (length (bytes_of old)) inst ≡ [] → inst_records context (length (bytes_of old)) (length (bytes_of old)) inst ≡ [] → named_of old ≡ named_by (inst_constant inst) (named_of old) → new ≡ old → AppendsInst context inst old new
+nothing context inst old new sound none long uses records named same = subst (AppendsInst context inst old) (sym same) (record {
   code = [];
-  far = [];
-  table = λ j u h. absurd (cc);
-  adds = record {
+  direct = [];
+  each = λ j u h. absurd (cc);
+  adds = unlabelled inst [] _ old old none (record {
     bytes = sym (append-nil (bytes_of old));
     uses = sym (append-nil (shape_of old).uses) ∙ ap (λ own. (shape_of old).uses ++ own) (sym uses ∙ sym (append-nil (uses_in context (length (bytes_of old)) (length (bytes_of old)) inst)));
     places = refl;
@@ -220,7 +226,7 @@ nothing context inst old new sound long uses records named same = subst (Appends
     registered = refl;
     constants = refl;
     sound = sound;
-  };
+  });
   records = sym (append-nil (shape_of old).records) ∙ ap (λ more. (shape_of old).records ++ more) (sym records);
   named = named;
   long = ap words_in long;

@@ -24,11 +24,13 @@ use Rattle.mach_buffer.specs.declared.uses.Use.{Use}
 use Rattle.mach_buffer.specs.Reach.{CanReach, HasSlack, deadline, deadlines, is_pending, is_reached, is_needed}
 use Rattle.mach_buffer.specs.Buffer.{bytes_of, uses_of, place_of}
 use Rattle.mach_buffer.proofs.Laws.{deadlines_append, none_from, slack_use, slack_less, slack_not_needed, reach_from_slack}
-use Rattle.rv_emit.specs.Emitted.{Buffer, pending, IsFarUse, AppendsInst, IslandIfNeeded, CanEmit}
+use Rattle.rv_emit.specs.Emitted.{Buffer, pending, IsFarUse, IsOwnUse, AppendsInst, IslandIfNeeded, CanEmit}
 use Rattle.rv_inst.specs.Sizes.{words_in, line_space, extent_of, island_space, inst_sum}
 use Rattle.rv_inst.specs.MostBytes.{sequence_limit}
 use Rattle.rv_inst.specs.Uses.{use_at, target_uses, uses_by, uses_in}
+use Rattle.rv_emit.proofs.Islands.{deadlines_as}
 use Rattle.rv_emit.proofs.MostBytes.{words_within, most_in_sequence}
+use Rattle.rv_emit.proofs.Sequences.{named_kept}
 
 -- whether a use is pending
 abbrev pub pending_at : (ℕ → Option ℕ) → Use LabelUse → Bool
@@ -142,20 +144,45 @@ few_deadlines test kinds (u ∷ uses) = on (test u) (few_deadlines test kinds us
 pub far_never_pending : {labels : List MachLabel} (place : ℕ → Option ℕ) (u : Use LabelUse) → IsFarUse labels u → pending_at place u ≡ false
 far_never_pending place u f = λ i. f.direct i && (is_none u.veneer && not (is_reached label_kinds (place u.label.number) u))
 
--- so what is pending of the uses that were put is so of those that may go by a veneer
-pub own_deadlines : (context : Context) (inst : Inst) (old new : Buffer) (p : AppendsInst context inst old new) (place : ℕ → Option ℕ) → deadlines (pending_at place) label_kinds (uses_in context (length (bytes_of old)) (length (bytes_of new)) inst ++ p.far) ≡ deadlines (pending_at place) label_kinds (uses_in context (length (bytes_of old)) (length (bytes_of new)) inst)
-own_deadlines context inst old new p place =
-    let own = uses_in context (length (bytes_of old)) (length (bytes_of new)) inst in
-    deadlines_append (pending_at place) label_kinds own p.far ∙ ap (λ ds. deadlines (pending_at place) label_kinds own ++ ds) (none_from (pending_at place) label_kinds p.far (λ j u h. far_never_pending place u (p.table j u h))) ∙ append-nil _
+-- nor is one of an own label
+own_never_pending : {count allocated : ℕ} (place : ℕ → Option ℕ) (u : Use LabelUse) → IsOwnUse count allocated place u → pending_at place u ≡ false
+own_never_pending place u o = (λ i. has_veneer_of u.kind && (is_none u.veneer && not (o.reached i))) ∙ never (has_veneer_of u.kind) (is_none u.veneer)
+  where
+    never : (a b : Bool) → (a && (b && false)) ≡ false
+    never true true = refl
+    never true false = refl
+    never false b = refl
+
+-- so neither is any beside those that may go by a veneer
+pub direct_never_pending : (context : Context) (inst : Inst) (old new : Buffer) (p : AppendsInst context inst old new) → Each (λ u. pending_at (place_of new) u ≡ false) p.direct
+direct_never_pending context inst old new p j u h = ⊎_elim (λ f. far_never_pending (place_of new) u f) (λ o. own_never_pending (place_of new) u o) (p.each j u h)
+
+-- what isn't pending stays so where labels that are bound stay so
+pub pending_still : (place new_place : ℕ → Option ℕ) → ((label at : ℕ) → place label ≡ Some at → new_place label ≡ Some at) → (u : Use LabelUse) → pending_at place u ≡ false → pending_at new_place u ≡ false
+pending_still place new_place kept u none = on (place u.label.number) refl
+  where
+    less : (a b c : Bool) → (a && (b && true)) ≡ false → (a && (b && c)) ≡ false
+    less false b c h = refl
+    less true false c h = refl
+    less true true c h = absurd (cc)
+
+    on : (o : Option ℕ) → place u.label.number ≡ o → pending_at new_place u ≡ false
+    on None e = less (has_veneer_of u.kind) (is_none u.veneer) (not (is_reached label_kinds (new_place u.label.number) u)) (sym (λ i. has_veneer_of u.kind && (is_none u.veneer && not (is_reached label_kinds (e i) u))) ∙ none)
+    on (Some at) e = (λ i. has_veneer_of u.kind && (is_none u.veneer && not (is_reached label_kinds ((kept u.label.number at e ∙ sym e) i) u))) ∙ none
+
+-- the uses that were there before an instruction are pending after it as they were
+before_pending : (context : Context) (inst : Inst) (old new : Buffer) → AppendsInst context inst old new → deadlines (pending_at (place_of new)) label_kinds (uses_of old) ≡ pending old
+before_pending context inst old new p = deadlines_as (pending_at (place_of new)) (pending_at (place_of old)) label_kinds (uses_of old) (λ j u h i. has_veneer_of u.kind && (is_none u.veneer && not (is_reached label_kinds (named_kept p.adds j u h i) u)))
 
 -- what is pending after an instruction: what was before, and its own uses that are
-pub pending_adds : (context : Context) (inst : Inst) (old new : Buffer) → AppendsInst context inst old new → pending new ≡ pending old ++ deadlines (pending_at (place_of old)) label_kinds (uses_in context (length (bytes_of old)) (length (bytes_of new)) inst)
+pub pending_adds : (context : Context) (inst : Inst) (old new : Buffer) → AppendsInst context inst old new → pending new ≡ pending old ++ deadlines (pending_at (place_of new)) label_kinds (uses_in context (length (bytes_of old)) (length (bytes_of new)) inst)
 pending_adds context inst old new p =
+    let test = pending_at (place_of new) in
     let own = uses_in context (length (bytes_of old)) (length (bytes_of new)) inst in
-    (λ i. deadlines (pending_at (p.adds.places i)) label_kinds (p.adds.uses i)) ∙ deadlines_append (pending_at (place_of old)) label_kinds (uses_of old) (own ++ p.far)
-    ∙ ap (λ ds. pending old ++ ds) (own_deadlines context inst old new p (place_of old))
+    let rest : deadlines test label_kinds (own ++ p.direct) ≡ deadlines test label_kinds own = deadlines_append test label_kinds own p.direct ∙ ap (λ ds. deadlines test label_kinds own ++ ds) (none_from test label_kinds p.direct (direct_never_pending context inst old new p)) ∙ append-nil _ in
+    ap (deadlines test label_kinds) p.adds.uses ∙ deadlines_append test label_kinds (uses_of old) (own ++ p.direct) ∙ (λ i. before_pending context inst old new p i ++ rest i)
 
-pub pending_whole : (context : Context) (inst : Inst) (old new : Buffer) → AppendsInst context inst old new → length (pending new) ≡ length (pending old) + length (deadlines (pending_at (place_of old)) label_kinds (uses_in context (length (bytes_of old)) (length (bytes_of new)) inst))
+pub pending_whole : (context : Context) (inst : Inst) (old new : Buffer) → AppendsInst context inst old new → length (pending new) ≡ length (pending old) + length (deadlines (pending_at (place_of new)) label_kinds (uses_in context (length (bytes_of old)) (length (bytes_of new)) inst))
 pending_whole context inst old new p = ap length (pending_adds context inst old new p) ∙ length-append (pending old) _
 
 -- ---- Reach
@@ -188,8 +215,10 @@ reach_after context inst old new can asks p =
     let spare : HasSlack cur (14 + 8 * length own) (pending old) =
     slack_less (start + line_space) 30 cur (14 + 8 * length own) (pending old) (omega arith) (slack_not_needed start line_space (pending old) can.calm) in
     let far : Each (λ u. cur + 14 + 8 * length own ≤ deadline label_kinds u) own = λ k u e. let f = uses_far context start cur inst near k u e in omega arith in
-    let whole : pending new ≡ deadlines (pending_at (place_of old)) label_kinds (uses_of old ++ own) = pending_adds context inst old new p ∙ sym (deadlines_append (pending_at (place_of old)) label_kinds (uses_of old) own) in
-    reach_from_slack cur (pending new) (subst (HasSlack cur 14) (sym whole) (slack_uses (pending_at (place_of old)) cur 14 (uses_of old) own far spare))
+    let test = pending_at (place_of new) in
+    let before = sym (before_pending context inst old new p) in
+    let whole : pending new ≡ deadlines test label_kinds (uses_of old ++ own) = pending_adds context inst old new p ∙ ap (λ ds. ds ++ deadlines test label_kinds own) before ∙ sym (deadlines_append test label_kinds (uses_of old) own) in
+    reach_from_slack cur (pending new) (subst (HasSlack cur 14) (sym whole) (slack_uses test cur 14 (uses_of old) own far (subst (HasSlack cur (14 + 8 * length own)) before spare)))
 
 -- an island leaves nothing that is pending
 pub reach_after_island : (distance : ℕ) (old new : Buffer) (made : Bool) → IslandIfNeeded distance old new made → CanReach (length (bytes_of old)) (pending old) → CanReach (length (bytes_of new)) (pending new)

@@ -1,5 +1,5 @@
 -- What a branch by a table adds to a buffer: an island where one is needed, and then its words, whose uses reach everywhere.
-use Rattle.std.proofs.Common.{◌≡◌, ℕ, suc, ◌+◌, ◌^◌, ◌≤◌, Bool, true, false, List, [], ◌∷◌, ◌++◌, map, length, Some, None, refl, ap, sym, ◌∙◌, subst, append-nil, arith}
+use Rattle.std.proofs.Common.{◌≡◌, ℕ, suc, ◌+◌, ◌^◌, ◌≤◌, inl, Bool, true, false, List, [], ◌∷◌, ◌++◌, map, length, Some, None, refl, ap, sym, ◌∙◌, subst, append-nil, arith}
 use Rattle.std.specs.Prelude.{slice_get, ◌==◌, ◌&&◌, if◌then◌else◌, ℤ, pos}
 use Rattle.std.specs.Int.{to_le_bytes, w64}
 use Rattle.rv_base.specs.declared.constant.VCodeConstant.{VCodeConstant}
@@ -36,6 +36,7 @@ use Rattle.rv_emit.specs.Tables.{far_jump, jump_slots}
 use Rattle.rv_emit.proofs.FineOperands.{fine}
 use Rattle.rv_emit.proofs.PlainSlots.{IsPlain, Adds, plain_adds}
 use Rattle.rv_emit.proofs.BufferAfterSlots.{lasts_after_slots, puts_bytes, puts_named, puts_constants}
+use Rattle.rv_emit.proofs.Sequences.{no_own}
 use Rattle.rv_emit.proofs.ReachAfterInst.{Each, each_none, each_more, bytes_put, pending_adds, calm_after, reach_within}
 use Rattle.rv_emit.proofs.TableSlots.{table_long, table_short}
 
@@ -169,8 +170,8 @@ pub record AppendsAfter (context : Context) (inst : Inst) (space : ℕ) (old new
 appends_words : (context : Context) (index : Reg) (tmp1 tmp2 : Writable Reg) (targets : List MachLabel) (old new : Buffer) → 1 ≤ length targets → PutsSlots context.flags (table_slots context.flags (number_of index) (number_of tmp1.reg) (number_of tmp2.reg) targets) old new → AppendsInst context (BrTable index tmp1 tmp2 targets) old new
 appends_words context index tmp1 tmp2 targets old new some p = record {
   code = a.code;
-  far = uses_of allocated start slots;
-  adds = record {
+  direct = uses_of allocated start slots;
+  adds = no_own a.code _ old new (record {
     bytes = a.bytes;
     uses = a.uses;
     places = a.place;
@@ -179,8 +180,8 @@ appends_words context index tmp1 tmp2 targets old new some p = record {
     registered = (lasts_after_slots flags allocated slots (shape_of old) (shape_of new) p.puts).registered;
     constants = puts_constants flags allocated slots (shape_of old) (shape_of new) p.puts;
     sound = p.sound;
-  };
-  table = far_uses targets allocated start slots far;
+  });
+  each = λ j u h. inl (far_uses targets allocated start slots far j u h);
   records = a.records ∙ ap (λ more. (shape_of old).records ++ more) (far_records targets start slots far);
   named = puts_named flags allocated slots (shape_of old) (shape_of new) p.puts ∙ far_names targets (named_of old) slots far;
   long = sym (table_long flags (number_of index) (number_of tmp1.reg) (number_of tmp2.reg) targets some) ∙ sym a.long;

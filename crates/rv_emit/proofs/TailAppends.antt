@@ -14,6 +14,7 @@ use Rattle.mach_buffer.specs.Reach.{CanReach}
 use Rattle.mach_buffer.specs.Buffer.{bytes_of}
 use Rattle.rv_emit.specs.declared.state.EmitVState.{EmitVState}
 use Rattle.rv_emit.specs.Emission.{PutsParts, EmitsIn}
+use Rattle.rv_emit.specs.OwnCounts.{own_count}
 use Rattle.rv_emit.specs.Emitted.{Buffer, IsSoundBuffer, pending, CanEmit, IslandIfNeeded, Appends}
 use Rattle.rv_emit.specs.InstParts.{tail_slots, t0_slots, parts_of}
 use Rattle.rv_emit.specs.Slots.{Slot, Ask, Slots, parts_size}
@@ -39,14 +40,14 @@ t0_added context info =
     let c = t0_contents context.flags context.frame info.new_stack_arg_size in
     record { plain = c.plain; long = c.long; uses = c.uses; records = c.records; names = c.names }
 
-appends_after : (context : Context) (inst : Inst) (space : ℕ) (slots : List Slot) (old new : Buffer) → IsAdded context inst slots → PutsParts context.flags (Ask space ∷ Slots slots ∷ []) old new → AppendsAfter context inst space old new
-appends_after context inst space slots old new is (mid, made, room, words) = record { mid = mid; made = made; room = room; words = added context inst slots mid new is context.flags words }
+appends_after : (context : Context) (inst : Inst) (space : ℕ) (slots : List Slot) (old new : Buffer) → own_count inst ≡ 0 → IsAdded context inst slots → PutsParts context.flags (Ask space ∷ Slots slots ∷ []) old new → AppendsAfter context inst space old new
+appends_after context inst space slots old new none is (mid, made, room, words) = record { mid = mid; made = made; room = room; words = added context inst slots mid new none is context.flags words }
 
 pub appends_tail : (context : Context) (setting : EmitVState) (info : ReturnCallInfo ExternalName) (old new : Buffer) → EmitsIn context setting (ReturnCall info) old new → AppendsAfter context (ReturnCall info) (return_size context.flags context.frame info.new_stack_arg_size + 8) old new
-appends_tail context setting info old new e = appends_after context (ReturnCall info) _ _ old new (tail_added context info) e
+appends_tail context setting info old new e = appends_after context (ReturnCall info) _ _ old new refl (tail_added context info) e
 
 pub appends_t0 : (context : Context) (setting : EmitVState) (info : ReturnCallInfo Reg) (old new : Buffer) → EmitsIn context setting (ReturnCallInd info) old new → AppendsAfter context (ReturnCallInd info) (return_size context.flags context.frame info.new_stack_arg_size + 4) old new
-appends_t0 context setting info old new e = appends_after context (ReturnCallInd info) _ _ old new (t0_added context info) e
+appends_t0 context setting info old new e = appends_after context (ReturnCallInd info) _ _ old new refl (t0_added context info) e
 
 -- as many bytes as the instruction has
 pub tail_parts_long : (context : Context) (setting : EmitVState) (info : ReturnCallInfo ExternalName) → parts_size (parts_of context setting (ReturnCall info)) ≡ return_size context.flags context.frame info.new_stack_arg_size + 8

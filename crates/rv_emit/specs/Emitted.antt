@@ -1,5 +1,5 @@
 -- What an instruction puts into a buffer: links of the proof.
-use Rattle.std.specs.Prelude.{◌≡◌, ℕ, ◌+◌, ◌*◌, ◌%◌, ◌^◌, ◌<◌, ◌≤◌, ◌⊎◌, ◌≢◌, Bool, true, false, List, [], ◌∷◌, ◌++◌, length, take, Option, Some, None, slice_get}
+use Rattle.std.specs.Prelude.{◌≡◌, ℕ, ◌+◌, ◌*◌, ◌%◌, ◌^◌, ◌<◌, ◌≤◌, ◌⊎◌, ◌≢◌, Bool, true, false, List, [], ◌∷◌, ◌++◌, length, take, Option, Some, None, is_some, slice_get}
 use Rattle.rv_base.specs.declared.flags.IsaFlags.{IsaFlags}
 use Rattle.rv_base.specs.declared.label.MachLabel.{MachLabel}
 use Rattle.rv_base.specs.declared.constant.VCodeConstant.{VCodeConstant}
@@ -24,14 +24,15 @@ use Rattle.mach_buffer.specs.declared.buffer.MachBuffer.{MachBuffer}
 use Rattle.mach_buffer.specs.declared.records.MachRecord.{MachRecord}
 use Rattle.mach_buffer.specs.declared.uses.Use.{Use}
 use Rattle.mach_buffer.specs.Islands.{is_far, AddsOwn}
-use Rattle.mach_buffer.specs.Reach.{AllOf, is_needed}
+use Rattle.mach_buffer.specs.Reach.{AllOf, is_needed, is_reached}
 use Rattle.mach_buffer.specs.Buffer.{shape_of, bytes_of, uses_of, place_of, labels_of, allocated_of, records_of, registered_of, named_of, constants_of, pending_of, IsSound}
 use Rattle.mach_buffer.specs.Shape.{Shape, with_allocated}
 use Rattle.mach_buffer.specs.Constants.{reserve_of, AllStand}
 use Rattle.mach_buffer.specs.Growth.{Lasts}
 use Rattle.mach_buffer.specs.Windows.{AreWindows}
 use Rattle.rv_emit.specs.NewConstants.{AddsConstants}
-use Rattle.rv_emit.specs.Slots.{Label}
+use Rattle.rv_emit.specs.OwnCounts.{own_count}
+use Rattle.rv_emit.specs.Slots.{Label, own_label}
 use Rattle.rv_emit.specs.Puts.{Puts}
 use Rattle.rv_emit.specs.InstParts.{wide_jump_to}
 use Rattle.rv_emit.specs.Operations.{jump_word}
@@ -65,6 +66,21 @@ pub record AppendsCode (code : List ℕ) (own : List (Use LabelUse)) (old new : 
   pub constants : constants_of new ≡ constants_of old
   pub sound : IsSoundBuffer new
 
+-- bytes and uses were put at the end, and so many labels were allocated and bound, which were not bound before and which no use
+-- named; no other label was allocated or bound, and no constant registered or put
+pub record AppendsSequence (count : ℕ) (code : List ℕ) (own : List (Use LabelUse)) (old new : Buffer) : Type 0 where
+  pub bytes : bytes_of new ≡ bytes_of old ++ code
+  pub uses : uses_of new ≡ uses_of old ++ own
+  pub allocated : allocated_of new ≡ allocated_of old + count
+  pub unbound : (k : ℕ) → k < count → place_of old (own_label (allocated_of old) k).number ≡ None
+  pub unnamed : (k : ℕ) → k < count → (j : ℕ) (u : Use LabelUse) → slice_get (uses_of old) j ≡ Some u → u.label.number ≢ (own_label (allocated_of old) k).number
+  pub bound : (k : ℕ) → k < count → is_some (place_of new (own_label (allocated_of old) k).number) ≡ true
+  pub places : (label : ℕ) → ((k : ℕ) → k < count → label ≢ (own_label (allocated_of old) k).number) → place_of new label ≡ place_of old label
+  pub labels : labels_of new ≡ labels_of old
+  pub registered : registered_of new ≡ registered_of old
+  pub constants : constants_of new ≡ constants_of old
+  pub sound : IsSoundBuffer new
+
 -- a use of one of these labels that reaches it wherever it stands in code, and never goes by a veneer
 pub record IsFarUse (labels : List MachLabel) (u : Use LabelUse) : Type 0 where
   pub far : is_far label_kinds u ≡ true
@@ -73,13 +89,22 @@ pub record IsFarUse (labels : List MachLabel) (u : Use LabelUse) : Type 0 where
   pub index : ℕ
   pub names : slice_get labels index ≡ Some u.label
 
--- an instruction's bytes, as many as it is long, its uses, those of its table's labels, and its records were put at the end, and its
--- constant was named
+-- a use of one of so many own labels, which is bound within its reach, so that it never waits for a veneer
+pub record IsOwnUse (count allocated : ℕ) (place : ℕ → Option ℕ) (u : Use LabelUse) : Type 0 where
+  pub index : ℕ
+  pub own : index < count
+  pub names : u.label ≡ own_label allocated index
+  pub served : has_veneer_of u.kind ≡ true
+  pub bare : u.veneer ≡ None
+  pub reached : is_reached label_kinds (place u.label.number) u ≡ true
+
+-- an instruction's bytes, as many as it is long, its uses, those of its table's labels or of its own labels, which it allocates and
+-- binds, and its records were put at the end, and its constant was named
 pub record AppendsInst (context : Context) (inst : Inst) (old new : Buffer) : Type 0 where
   pub code : List ℕ
-  pub far : List (Use LabelUse)
-  pub adds : AppendsCode code (uses_in context (length (bytes_of old)) (length (bytes_of new)) inst ++ far) old new
-  pub table : (j : ℕ) (u : Use LabelUse) → slice_get far j ≡ Some u → IsFarUse (table_of inst) u
+  pub direct : List (Use LabelUse)
+  pub adds : AppendsSequence (own_count inst) code (uses_in context (length (bytes_of old)) (length (bytes_of new)) inst ++ direct) old new
+  pub each : (j : ℕ) (u : Use LabelUse) → slice_get direct j ≡ Some u → IsFarUse (table_of inst) u ⊎ IsOwnUse (own_count inst) (allocated_of old) (place_of new) u
   pub records : records_of new ≡ records_of old ++ inst_records context (length (bytes_of old)) (length (bytes_of new)) inst
   pub named : named_of new ≡ named_by (inst_constant inst) (named_of old)
   pub long : words_in (extent_of context inst) ≡ length code

@@ -23,7 +23,7 @@ use Rattle.rv_ops.specs.declared.compare.IntegerCompare.{IntegerCompare}
 use Rattle.rv_inst.specs.Context.{Context}
 use Rattle.rv_inst.specs.Returns.{StackLoad, restores, frame_above, result_loads, loads_unless}
 use Rattle.rv_inst.specs.Records.{site_event}
-use Rattle.rv_inst.specs.Sizes.{trap_size, table_space, bit_shift, fall, call_size, return_size, results_space}
+use Rattle.rv_inst.specs.Sizes.{table_space, bit_shift, fall, call_size, return_size, results_space}
 use Rattle.rv_inst.specs.declared.inst.Inst.{Inst}
 use Rattle.rv_inst.specs.declared.inst.Inst.TheVariants.{Nop0, Nop4, EBreak, SequencePoint, Args, Rets, DummyUse, EmitIsland, RawData, Lui, Auipc, LoadInlineConst, AluRRR, AluRRImm12, Mov, MovFromPReg, Extend, Select, Load, Store, LoadAddr, LabelAddress, Ret, TrapIf, Jal, CondBr, BrTable, Udf, Jalr, Popcnt, Cltz, Brev8, StackProbeLoop, LoadExtNameGot, LoadExtNameNear, LoadExtNameFar, Call, CallInd, ReturnCall, ReturnCallInd, Unwind}
 use Rattle.rv_inst.specs.declared.inst.CondBrTarget.{CondBrTarget}
@@ -46,7 +46,7 @@ pub use Rattle.rv_emit.specs.Choices.{complement, move_slots, extend_slots, sele
 use Rattle.rv_emit.specs.Loops.{reverse_start, reverse_turn}
 use Rattle.rv_emit.specs.Probes.{probe_turn}
 use Rattle.rv_emit.specs.Tables.{jump_slots}
-use Rattle.rv_emit.specs.Slots.{AddressOf, SlotOf, Target, Label, Slot, Op, Aim, Data, Notes, Names, Fill, Address, CallTo, Part, Ask, Slots}
+use Rattle.rv_emit.specs.Slots.{AddressOf, SlotOf, Target, Label, Own, Slot, Op, Aim, Data, Notes, Names, Allocate, Here, Fill, Address, CallTo, Part, Ask, Slots}
 
 -- ---- jumps
 
@@ -81,9 +81,9 @@ trap_bytes flags = if flags.has_zca then 0 ∷ 0 ∷ [] else 0 ∷ 0 ∷ 0 ∷ 0
 abbrev pub trap_slots : IsaFlags → TrapCode → List Slot
 trap_slots flags code = Notes (event.Trap code) ∷ Data (trap_bytes flags) ∷ []
 
--- a branch over a trap
-abbrev pub branch_over : IsaFlags → IntegerCompare → Slot
-branch_over flags cmp = Op (decoded_branch (complement cmp) (pos (4 + trap_size flags)))
+-- a trap, and before it a branch over it, to a label after it, where a comparison doesn't hold
+abbrev pub trap_if_slots : IsaFlags → IntegerCompare → TrapCode → List Slot
+trap_if_slots flags cmp code = Allocate ∷ branch_to (complement cmp) (Own 0) ∷ trap_slots flags code ++ Here 0 ∷ []
 
 -- a load of so many bytes that stand after it and a jump over them
 abbrev pub load_over : IsaFlags → ℕ → LoadOP → ℕ → List Slot
@@ -302,7 +302,7 @@ parts_of context setting (Store to op flags src) = slots_alone (store_slots cont
 parts_of context setting (LoadAddr rd mem) = slots_alone (address_slots context.flags (number_of rd.reg) (location_of context.frame mem))
 parts_of context setting (LabelAddress dst label) = slots_alone (address_slots context.flags (number_of dst.reg) (AtLabel label))
 parts_of context setting Ret = slots_alone (Op (short_jalr context.flags 0 1 (pos 0)) ∷ [])
-parts_of context setting (TrapIf cmp code) = slots_alone (branch_over context.flags cmp ∷ trap_slots context.flags code)
+parts_of context setting (TrapIf cmp code) = slots_alone (trap_if_slots context.flags cmp code)
 parts_of context setting (Jal label) = slots_alone (jump_to context.flags (Label label) ∷ [])
 parts_of context setting (CondBr taken not_taken kind) = slots_alone (branch_slots context.flags kind taken not_taken)
 parts_of context setting (BrTable index tmp1 tmp2 targets) = Ask (table_space (length targets)) ∷ Slots (table_slots context.flags (number_of index) (number_of tmp1.reg) (number_of tmp2.reg) targets) ∷ []

@@ -22,3 +22,4 @@ pub mod NewConstants
 pub mod LargerMachine
 pub mod Immediates
 pub mod Places
+pub mod OwnCounts

@@ -1,6 +1,6 @@
 //! Instructions that become several pieces of code: traps, constants among the code, and data.
 
-ghost use Rattle.std.specs.Prelude.{◌≡◌, ◌⊎◌, [], ◌∷◌, ◌+◌, ◌*◌, ◌%◌, ◌^◌, ◌<◌, ◌≤ℤ◌, length, pos, OnOk, OnErr, Some, true};
+ghost use Rattle.std.specs.Prelude.{◌≡◌, ◌⊎◌, [], ◌∷◌, ◌+◌, ◌*◌, ◌%◌, ◌^◌, ◌<◌, length, pos, OnOk, OnErr, Some, true};
 ghost use Rattle.std.specs.Int.{to_le_bytes};
 ghost use mir.Syntax.{w32, w64};
 ghost use Rattle.rv_base.specs.declared.flags.IsaFlags.{IsaFlags};
@@ -10,18 +10,18 @@ ghost use Rattle.rv_ops.specs.declared.memory.LoadOP.TheVariants as loads;
 ghost use Rattle.rv_encode.specs.Registers.{IsIntRegister};
 ghost use Rattle.rv_encode.specs.Layouts.{IsEven};
 ghost use Rattle.rv_inst.specs.Forms.{jump_size};
-ghost use Rattle.rv_inst.specs.Sizes.{trap_size};
-ghost use Rattle.mach_buffer.specs.Buffer.{bytes_of, spoiled_of};
+ghost use Rattle.mach_buffer.specs.Buffer.{bytes_of, allocated_of, spoiled_of};
+ghost use Rattle.mach_buffer.specs.Shape.{inner_count};
 ghost use Rattle.rv_emit.specs.Emitted.{IsSoundBuffer};
 ghost use Rattle.rv_emit.specs.Emission.{PutsAlone};
 ghost use Rattle.rv_emit.specs.Slots.{Data};
-ghost use Rattle.rv_emit.specs.InstParts.{branch_over, trap_slots, load_over, inline_slots, constant_slots};
+ghost use Rattle.rv_emit.specs.InstParts.{trap_slots, trap_if_slots, load_over, inline_slots, constant_slots};
 
-use crate::sequence::put_word;
+use crate::sequence::{put_compare, put_word};
 use crate::shortest::put_short_jump;
 use mach_buffer::MachBuffer;
 use rv_base::{IrType, IsaFlags, OutOfMemory, TrapCode, WritableReg};
-use rv_encode::{enc_auipc, encode_branch, encode_load};
+use rv_encode::{enc_auipc, encode_load};
 use rv_imms::{Imm12, Imm20};
 use rv_inst::LabelUse;
 use rv_ops::{IntegerCompare, LoadOP};
@@ -67,23 +67,17 @@ pub(crate) fn put_trap_if(
 ) -> Result<(), OutOfMemory>
     requires rs1 { IsIntRegister cmp.rs1 }
     requires rs2 { IsIntRegister cmp.rs2 }
+    requires few { allocated_of sink.old < inner_count }
     requires room { length (bytes_of sink.old) + 8 < code_limit }
     requires sound { IsSoundBuffer sink.old }
-    ensures slots { OnOk result (PutsAlone flags (branch_over flags cmp ∷ trap_slots flags code) sink.old sink.new) }
+    ensures slots { OnOk result (PutsAlone flags (trap_if_slots flags cmp code) sink.old sink.new) }
     ensures refused { OnErr result (spoiled_of sink.new ≡ true) }
 {
-    put_word(sink, encode_branch(cmp.inverse(), over_trap(flags)))?;
+    let after_trap = sink.get_label()?;
+    put_compare(sink, cmp.inverse(), after_trap)?;
     put_trap(sink, flags, code)?;
+    sink.bind_label(after_trap)?;
     Ok(())
-}
-
-/// How far it is over a branch and a trap.
-fn over_trap(flags: IsaFlags) -> i32
-    ensures value { result ≡ pos (4 + trap_size flags) }
-    ensures even { IsEven result }
-    ensures short { result ≤ℤ pos 8 }
-{
-    if flags.has_zca { 6 } else { 8 }
 }
 
 /// A constant among the code, and before it the code that loads it and jumps over it.

@@ -17,7 +17,7 @@ ghost use Rattle.rv_inst.specs.LabelUseWords.{word_bytes};
 ghost use Rattle.rv_inst.specs.Context.{context_by};
 ghost use Rattle.rv_inst.specs.Rules.{inst_rule};
 ghost use Rattle.mach_buffer.specs.Buffer.{shape_of, bytes_of, allocated_of, registered_of, spoiled_of};
-ghost use Rattle.mach_buffer.specs.Shape.{IsKnown, IsUsable, with_bytes, with_use};
+ghost use Rattle.mach_buffer.specs.Shape.{inner_count, IsKnown, IsUsable, with_bytes, with_use};
 ghost use Rattle.rv_emit.specs.Usable.{IsFine, IsFineBranch};
 ghost use Rattle.rv_emit.specs.Emitted.{IsSoundBuffer};
 ghost use Rattle.rv_emit.specs.Emission.{PutsAlone, PutsSlots, Emits, EmitsAnyhow};
@@ -60,6 +60,7 @@ pub(crate) fn put_sequence(
 ) -> Result<(), OutOfMemory>
     requires rule { inst_rule (context_by flags frame.now (registered_of sink.old)) inst.now ≡ None }
     requires frame { sp_to_args_end frame.now < 2 ^ 31 }
+    requires few { allocated_of sink.old < inner_count }
     requires room { length (bytes_of sink.old) + sequence_limit < code_limit }
     requires sound { IsSoundBuffer sink.old }
     ensures parts { island_space (context_by flags frame.now (registered_of sink.old)) inst.now ≡ None → OnOk result (Emits (context_by flags frame.now (registered_of sink.old)) inst.now sink.old sink.new) }
@@ -190,6 +191,7 @@ fn put_control(
     inst: &Inst,
 ) -> Result<(), OutOfMemory>
     requires fine { IsFine (registered_of sink.old) inst.now }
+    requires few { allocated_of sink.old < inner_count }
     requires room { length (bytes_of sink.old) + sequence_limit < code_limit }
     requires sound { IsSoundBuffer sink.old }
     ensures parts { family_of inst.now ≡ Control → (frame : FrameLayout) (constants : List Constant) → island_space (context_by flags frame constants) inst.now ≡ None → OnOk result (Emits (context_by flags frame constants) inst.now sink.old sink.new) }
@@ -362,14 +364,14 @@ fn put_compare_and_jump(
 }
 
 /// A branch to a label, where a comparison holds.
-fn put_compare(
+pub(crate) fn put_compare(
     sink: &mut MachBuffer<LabelUse>,
     kind: IntegerCompare,
     label: MachLabel,
 ) -> Result<(), OutOfMemory>
     requires rs1 { IsIntRegister kind.rs1 }
     requires rs2 { IsIntRegister kind.rs2 }
-    requires label { label.number < first_inner }
+    requires known { IsKnown label.number (allocated_of sink.old) }
     requires room { length (bytes_of sink.old) + 4 < code_limit }
     requires sound { IsSoundBuffer sink.old }
     ensures slot { OnOk result ((flags : IsaFlags) → PutsSlots flags (branch_to kind (Label label) ∷ []) sink.old sink.new) }

@@ -1,5 +1,5 @@
 -- A buffer of a single instruction can be emitted into and finished.
-use Rattle.std.proofs.Common.{◌≡◌, append-nil, ℕ, ◌+◌, ◌-◌, ◌^◌, ◌<◌, ◌≤◌, true, false, List, [], ◌∷◌, ◌++◌, length, Option, Some, None, refl, ap, sym, ◌∙◌, subst, arith, inl, ⊎_elim}
+use Rattle.std.proofs.Common.{◌≡◌, ℕ, ◌+◌, ◌-◌, ◌^◌, ◌<◌, ◌≤◌, true, false, List, [], ◌∷◌, ◌++◌, length, Option, Some, None, refl, ap, sym, ◌∙◌, subst, arith, inl, ⊎_elim}
 use Rattle.std.specs.Prelude.{slice_get, is_some}
 use Rattle.std.specs.Option.{option_map}
 use Rattle.rv_inst.specs.Calls.{Return, return_of}
@@ -22,22 +22,23 @@ use Rattle.rv_inst.specs.Forms.{jump_kind, jump_size}
 use Rattle.rv_inst.specs.Rules.{inst_rule}
 use Rattle.mach_buffer.specs.declared.uses.Use.{Use}
 use Rattle.mach_buffer.specs.Reach.{CanReach, is_needed, deadlines}
-use Rattle.mach_buffer.specs.Buffer.{shape_of, bytes_of, uses_of, place_of, records_of, registered_of, constants_of}
+use Rattle.mach_buffer.specs.Buffer.{shape_of, bytes_of, uses_of, place_of, allocated_of, records_of, registered_of, constants_of}
 use Rattle.mach_buffer.specs.Windows.{AreWindows}
 use Rattle.mach_buffer.specs.Shape.{Shape}
 use Rattle.mach_buffer.specs.declared.records.ConstPlace.{ConstPlace}
 use Rattle.mach_buffer.specs.Constants.{end_after, reserve_from, reserve_of, AllStand}
 use Rattle.mach_buffer.specs.Finish.{before_last, last_end, CanFinish}
-use Rattle.mach_buffer.proofs.Laws.{windows_none, slack_from_reach, reaches_from_slack, veneers_reach, last_near, ends_within}
-use Rattle.rv_emit.specs.Emitted.{Buffer, IsSoundBuffer, HasWindows, pending, IsFarUse, AppendsInst, CanEmit, IsBounded}
+use Rattle.mach_buffer.proofs.Laws.{both_lists, windows_none, slack_from_reach, reaches_from_slack, veneers_reach, last_near, ends_within}
+use Rattle.rv_emit.specs.OwnCounts.{own_count}
+use Rattle.rv_emit.specs.Emitted.{Buffer, IsSoundBuffer, HasWindows, pending, IsFarUse, IsOwnUse, AppendsInst, CanEmit, IsBounded}
 use Rattle.rv_emit.specs.declared.state.EmitVState.{EmitVState}
 use Rattle.rv_emit.specs.Emission.{EmitsIn}
 use Rattle.rv_emit.specs.Images.{FieldsStand}
 use Rattle.rv_emit.specs.InstParts.{parts_of}
 use Rattle.rv_inst.specs.Uses.{use_at, target_uses, uses_by, uses_in}
 use Rattle.rv_inst.specs.Sizes.{line_space, island_space, inst_sum}
-use Rattle.rv_emit_vectors.specs.Single.{are_first, are_first_by, names_first, IsStart, HoldsOne}
-use Rattle.rv_emit.proofs.Laws.{parts_put, parts_are_self_contained, appends_inst, Each, pending_at, each_none, each_more, uses_kinds, alone_longer, alone_pending}
+use Rattle.rv_emit_vectors.specs.Single.{are_first, are_first_by, names_first, IsStart, IsServed, HoldsOne}
+use Rattle.rv_emit.proofs.Laws.{parts_put, parts_are_self_contained, appends_inst, Each, pending_at, each_none, each_more, uses_kinds, bound_kept, owns_few, alone_longer, alone_pending}
 
 -- ---- at the start
 
@@ -85,9 +86,8 @@ no_table : (context : Context) (inst : Inst) → island_space context inst ≡ N
 no_table context (BrTable index tmp1 tmp2 targets) none = absurd (cc)
 no_table context _ none = refl
 
-none_far : (labels : List MachLabel) (far : List (Use LabelUse)) → labels ≡ [] → ((j : ℕ) (u : Use LabelUse) → slice_get far j ≡ Some u → IsFarUse labels u) → far ≡ []
-none_far labels [] none each = refl
-none_far labels (u ∷ far) none each = absurd (let f = each 0 u refl in let there = ap (λ ls. slice_get ls f.index) (sym none) ∙ f.names in cc)
+none_far : {labels : List MachLabel} (u : Use LabelUse) → labels ≡ [] → IsFarUse labels u → ⊥
+none_far u none f = absurd (let there = ap (λ ls. slice_get ls f.index) (sym none) ∙ f.names in cc)
 
 -- one that asks for no island is no tail call
 no_tail : (context : Context) (inst : Inst) → island_space context inst ≡ None → is_bad_frame_for context.frame (tail_call_of inst) ≡ false
@@ -150,13 +150,16 @@ holds_one context setting inst old new rule none s e reach bounded = record {
   sound = p.adds.sound;
   windows = (parts_put context.flags (parts_of context setting inst) old new (parts_are_self_contained context setting inst rule) s.sound (start_windows old s) (start_fields old s) e).windows;
   reach = reach;
-  allocated = p.adds.allocated ∙ s.allocated;
+  allocated = let few = owns_few inst in let more = p.adds.allocated in let none = s.allocated in omega arith;
   registered = p.adds.registered ∙ s.registered;
   constants = p.adds.constants ∙ s.constants;
   long = let l = alone_longer context inst old new none bounded in let bytes : length (bytes_of old) ≡ 0 = ap (length {A = ℕ}) s.bytes in omega arith;
   few_pending = let w = alone_pending context inst old new none bounded in let few_pending : length (pending old) ≡ 0 = ap (length {A = ℕ}) (start_pending old s) in omega arith;
-  kinds = λ j u h. uses_kinds context start end inst j u (own j u h);
-  bound = λ first j u h. ap (λ n. is_some (place_of new n)) (uses_first context start end inst first j u (own j u h)) ∙ ap is_some (ap (λ (place : ℕ → Option ℕ). place 0) p.adds.places ∙ s.first);
+  kinds = λ j u h. both_lists IsServed (uses_in context start end inst) p.direct (uses_kinds context start end inst) (λ k v g. inl (direct k v g).served) j u (uses j u h);
+  bound = λ first j u h. both_lists (λ v. is_some (place_of new v.label.number) ≡ true) (uses_in context start end inst) p.direct
+      (λ k v g. ap (λ n. is_some (place_of new n)) (uses_first context start end inst first k v g) ∙ ap is_some (bound_kept p.adds 0 0 s.first))
+      (λ k v g. let o = direct k v g in ap (λ (l : MachLabel). is_some (place_of new l.number)) o.names ∙ p.adds.bound o.index o.own)
+      j u (uses j u h);
 }
   where
     start : ℕ
@@ -168,11 +171,12 @@ holds_one context setting inst old new rule none s e reach bounded = record {
     p : AppendsInst context inst old new
     p = appends_inst context setting inst old new rule s.sound none e
 
-    far : p.far ≡ []
-    far = none_far (table_of inst) p.far (no_table context inst none) p.table
+    -- it has no table, so each of these is of an own label
+    direct : (j : ℕ) (u : Use LabelUse) → slice_get p.direct j ≡ Some u → IsOwnUse (own_count inst) (allocated_of old) (place_of new) u
+    direct j u h = ⊎_elim (λ f. absurd (none_far u (no_table context inst none) f)) (λ o. o) (p.each j u h)
 
-    own : (j : ℕ) (u : Use LabelUse) → slice_get (uses_of new) j ≡ Some u → slice_get (uses_in context start end inst) j ≡ Some u
-    own j u h = ap (λ (us : List (Use LabelUse)). slice_get us j) (sym (p.adds.uses ∙ ap (λ (us : List (Use LabelUse)). us ++ (uses_in context start end inst ++ p.far)) s.uses ∙ ap (λ (us : List (Use LabelUse)). uses_in context start end inst ++ us) far ∙ append-nil (uses_in context start end inst))) ∙ h
+    uses : (j : ℕ) (u : Use LabelUse) → slice_get (uses_of new) j ≡ Some u → slice_get (uses_in context start end inst ++ p.direct) j ≡ Some u
+    uses j u h = ap (λ (us : List (Use LabelUse)). slice_get us j) (sym (p.adds.uses ∙ ap (λ (us : List (Use LabelUse)). us ++ (uses_in context start end inst ++ p.direct)) s.uses)) ∙ h
 
 -- the buffer can be finished where its labels are bound
 pub can_finish_one : (inst : Inst) (b : Buffer) → HoldsOne inst b → names_first inst ≡ true → CanFinish label_kinds (shape_of b)

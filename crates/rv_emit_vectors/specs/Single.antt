@@ -56,7 +56,7 @@ pub record HoldsOne (inst : Inst) (b : Buffer) : Type 0 where
   pub sound : IsSoundBuffer b
   pub windows : HasWindows b
   pub reach : CanReach (length (bytes_of b)) (pending b)
-  pub allocated : allocated_of b ≡ 0
+  pub allocated : allocated_of b ≤ 1
   pub registered : registered_of b ≡ []
   pub constants : constants_of b ≡ []
   pub long : length (bytes_of b) ≤ 84
