@@ -19,7 +19,7 @@ use Rattle.rv_emit.specs.Emitted.{Buffer}
 use Rattle.rv_emit.specs.InstParts.{parts_of}
 use Rattle.rv_emit.specs.Sites.{Site, GapIn}
 use Rattle.rv_emit.specs.Standing.{IsFinishedTo}
-use Rattle.rv_emit.proofs.Laws.{parts_are_self_contained, gap_stands, parts_stand}
+use Rattle.rv_emit.proofs.Laws.{parts_are_self_contained, gap_stands, parts_stand, has_operation}
 use Rattle.rv_asm.specs.Reported.{start_of, end_of, end_before, returns_from}
 use Rattle.rv_asm.specs.Refusal.{is_unfit}
 use Rattle.rv_asm.specs.Simulation.{RunsAsListed, HasOperations}
@@ -28,7 +28,6 @@ use Rattle.rv_asm.specs.Placed.{Addresses, IsPlaced}
 use Rattle.rv_asm.proofs.ExitPoints.{AllBound}
 use Rattle.rv_asm.proofs.Images.{placed_at, keeps_outside, is_filled, fields_within, trap_reported}
 use Rattle.rv_asm.proofs.Finish.{bound_place}
-use Rattle.rv_asm.proofs.OneOperations.{has_operation}
 use Rattle.rv_asm.proofs.LinesJoin.{Known, site_of, LineIn, line_at, threaded_runs}
 
 module _ (job : Job) (code : Code) (b : Buffer) (built : LinesStand (context_of job) job.lines code.lines b) (f : IsFinishedTo (shape_of b) code.bytes) (constants : code.constants ≡ f.finishes.put.constants) (relocs : code.relocs ≡ relocs_in (records_of b)) (traps : code.traps ≡ traps_in (records_of b)) (ruled : (i : ℕ) (line : Line) → slice_get job.lines i ≡ Some line → broken_rule (context_of job) line ≡ None) where

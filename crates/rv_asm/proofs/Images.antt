@@ -1,11 +1,10 @@
 -- Code that stands in the memory, filled by a linker, by what relocations ask and by what the buffer recorded.
-use Rattle.std.proofs.Common.{◌≡◌, inl, inr, ⊎_elim, ℕ, zero, suc, ◌+◌, ◌-◌, ◌^◌, ◌<◌, ◌≤◌, ℤ, pos, ◌-ℤ◌, List, [], ◌∷◌, ◌++◌, length, drop, Option, Some, None, arith, refl, sym, ap, subst, ◌∙◌}
+use Rattle.std.proofs.Common.{◌≡◌, inl, inr, ⊎_elim, ℕ, zero, suc, ◌+◌, ◌-◌, ◌^◌, ◌<◌, ◌≤◌, ℤ, pos, ◌-ℤ◌, List, [], ◌∷◌, ◌++◌, length, Option, Some, None, arith, refl, sym, ap, subst, ◌∙◌}
 use Rattle.std.specs.Prelude.{slice_get, slice_index, unwrap_or}
 use Rattle.std.specs.Int.{cast_signed, to_le_bytes, w64}
 use Rattle.std.specs.List.{flat_map}
 use Rattle.std.specs.Option.{option_map}
 use Rattle.std.proofs.lemmas.Grind.{same_number_lists}
-use Rattle.std.proofs.lemmas.List.{get_or-take, get_or-drop, length-take, length-drop}
 use Rattle.std.proofs.lemmas.Option.{same_Some}
 use Rattle.rv_base.specs.LabelUse.{SameOutside}
 use Rattle.rv_base.specs.declared.reloc.Reloc.{Reloc}
@@ -34,7 +33,7 @@ use Rattle.rv_emit.specs.Images.{EndsWithin, IsClear, AllClear, FieldsStand, Kee
 use Rattle.rv_emit.specs.Sites.{Site, IsPlacedAt}
 use Rattle.rv_emit.specs.Slots.{Symbol, AddressOf, SlotOf, upper_event, lower_event, call_event}
 use Rattle.rv_emit.specs.Standing.{IsFinishedTo}
-use Rattle.rv_emit.proofs.Laws.{bits_back, ends_later}
+use Rattle.rv_emit.proofs.Laws.{window_byte, window_length, bits_back, ends_later}
 use Rattle.rv_asm.specs.Placed.{Addresses, address_of_name, bytes_from, distance_to, IsPlaced}
 
 -- ---- bytes of a memory
@@ -52,12 +51,12 @@ from_byte mem a (suc n) (suc k) lt = let e : a + 1 + k ≡ a + suc k = omega ari
 window_from : (mem : Memory) (a n from size : ℕ) → from + size ≤ n → window (bytes_from mem a n) from size ≡ bytes_from mem (a + from) size
 window_from mem a n from size le =
     let whole = from_long mem a n in
-    let long : length (window (bytes_from mem a n) from size) ≡ size = omega (arith, length-take size (drop from (bytes_from mem a n)), length-drop from (bytes_from mem a n)) in
+    let long : length (window (bytes_from mem a n) from size) ≡ size = window_length (bytes_from mem a n) from size (omega arith) in
     same_number_lists (window (bytes_from mem a n) from size) (bytes_from mem (a + from) size) (long ∙ sym (from_long mem (a + from) size))
     (λ k lt.
     let short : k < size = omega arith in
     let e : a + (from + k) ≡ a + from + k = omega arith in
-    get_or-take size (drop from (bytes_from mem a n)) k 0 short ∙ get_or-drop from (bytes_from mem a n) k 0 ∙ from_byte mem a n (from + k) (omega arith) ∙ ap (byte mem) e ∙ sym (from_byte mem (a + from) size k short))
+    window_byte (bytes_from mem a n) from size k short ∙ from_byte mem a n (from + k) (omega arith) ∙ ap (byte mem) e ∙ sym (from_byte mem (a + from) size k short))
 
 -- ---- what records give
 
@@ -148,12 +147,12 @@ module _ (code : Code) (base : ℕ) (symbols slots : Addresses) (mem : Memory) (
     bytes = λ k lt. let short : k < length code.bytes = let l = from_long mem base (length code.bytes) in omega arith in subst (λ (b : ℕ). b < 256) (sym (from_byte mem base (length code.bytes) k short)) (placed.bytes k short);
     same = λ from size le clear.
         let left = window_from mem base (length code.bytes) from size le in
-        let long : length (window code.bytes from size) ≡ size = omega (arith, length-take size (drop from code.bytes), length-drop from code.bytes) in
+        let long : length (window code.bytes from size) ≡ size = window_length code.bytes from size le in
         left ∙ same_number_lists (bytes_from mem (base + from) size) (window code.bytes from size) (from_long mem (base + from) size ∙ sym long)
         (λ k lt.
         let short : k < size = let l = from_long mem (base + from) size in omega arith in
         let e : base + from + k ≡ base + (from + k) = omega arith in
-        from_byte mem (base + from) size k short ∙ ap (byte mem) e ∙ placed.there (from + k) (omega arith) (outside same from size k short clear) ∙ sym (get_or-take size (drop from code.bytes) k 0 short ∙ get_or-drop from code.bytes k 0));
+        from_byte mem (base + from) size k short ∙ ap (byte mem) e ∙ placed.there (from + k) (omega arith) (outside same from size k short clear) ∙ sym (window_byte code.bytes from size k short));
   }
 
   -- the parts of a distance, in the two words that hold it

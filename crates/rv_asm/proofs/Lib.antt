@@ -13,7 +13,6 @@ pub mod AfterLastIsland
 pub mod Sizes
 pub mod LinesInBuffer
 pub mod SpanLengths
-pub mod OneOperations
 pub mod FinishedLines
 pub mod Images
 pub mod SavedRegisters

@@ -43,5 +43,9 @@ pub use Rattle.rv_emit.proofs.MostBytes.{words_within, most_in_sequence, most_co
 pub use Rattle.rv_emit.proofs.Islands.{deadlines_as}
 pub use Rattle.rv_emit.proofs.NumberRuns.{bits_back}
 pub use Rattle.rv_emit.proofs.Fields.{ends_later}
+-- a window of bytes: its bytes and its length
+pub use Rattle.rv_emit.proofs.PlacedBytes.{window_byte, window_length}
+-- the operation of an instruction of one machine word, where it starts
+pub use Rattle.rv_emit.proofs.OneOperations.{has_operation}
 -- how long the operations of a jump by a register are
 pub use Rattle.rv_emit.proofs.ShortOps.{jalr_sized}

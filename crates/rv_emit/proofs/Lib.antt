@@ -17,6 +17,7 @@ mod JumpAndIsland
 mod LargerMachine
 pub mod Laws
 mod OneMoreRegister
+mod OneOperations
 mod Operands
 mod OperationActs
 mod OwnCounts

@@ -91,15 +91,23 @@ trap_if_put flags cmp inverse code label w old allocated branched trapped new sa
     let p = trap.1.puts in
     let free = still_unbound code label.number w (use_at (length (bytes_of allocated)) label B12) allocated branched trapped put trap unbound in
     alone (record {
-      puts = (shape_of allocated, drawn, (
-        shape_of branched,
-        (word_bytes w, subst (λ kind. IsPatchable flags B12 (word_bytes w) (λ d. decoded_branch kind d ∷ [])) same (branch_patchable flags inverse w b), put ∙ ap (λ l. with_bytes (word_bytes w) (with_use (use_at (length (bytes_of allocated)) l B12) (shape_of allocated))) own),
-        (p.0, p.1, (
-          shape_of trapped,
-          ap shape_of trap.2 ∙ p.2.2 ∙ p.2.1,
-          (shape_of new, (ap (λ (l : MachLabel). place_of trapped l.number) (sym own) ∙ free, bound ∙ ap (λ l. with_label l (shape_of trapped)) own), refl),
-        )),
-      ));
+      puts = (
+        shape_of allocated,
+        drawn,
+        (
+          shape_of branched,
+          (word_bytes w, subst (λ kind. IsPatchable flags B12 (word_bytes w) (λ d. decoded_branch kind d ∷ [])) same (branch_patchable flags inverse w b), put ∙ ap (λ l. with_bytes (word_bytes w) (with_use (use_at (length (bytes_of allocated)) l B12) (shape_of allocated))) own),
+          (
+            p.0,
+            p.1,
+            (
+              shape_of trapped,
+              ap shape_of trap.2 ∙ p.2.2 ∙ p.2.1,
+              (shape_of new, (ap (λ (l : MachLabel). place_of trapped l.number) (sym own) ∙ free, bound ∙ ap (λ l. with_label l (shape_of trapped)) own), refl),
+            ),
+          ),
+        ),
+      );
       sound = sound;
     })
 
