@@ -1,7 +1,7 @@
 -- The constants of a sound buffer, as they are registered, named and put; and the places of labels.
 use Rattle.std.proofs.Common.{[], arith, ◌≡◌, ◌≢◌, ℕ, zero, suc, ◌+◌, ◌<◌, ◌≤◌, ◌⊎◌, ⊎_elim, true, false, List, ◌∷◌, ◌++◌, length, map, take, drop, Option, Some, None, refl, ap, sym, ◌∙◌, append-nil, Bool, set}
 use Rattle.mach_buffer.proofs.Words.{nat_tests, common_steps, cases_eq, eq-eqb, ne_eqb, true≢false, slice_get-map, gets, get_or_from_slice_get, length-drop, length-append, map-append, take-append-le, take_all, slice_get, is_some, if◌then◌else◌, Constant, VCodeConstant, first_inner, first_constant, ConstPlace, Shape, placed, constant_label, inner_count, is_named, with_named, unplaced_of, IsUsable, IsConstantLabel, offset_in, AreOrdered, IsOrdered, cases_Bool, drop_more, nil_from_length, length-map, length-set, option_map, nat_eq, ◌||◌, name_more, AreNoted, take_more}
-use Rattle.mach_buffer.proofs.Lists.{append_each, below, none_of, comes_from, pushed, found_at, slice_get-append_last, slice_get-set_other}
+use Rattle.mach_uses.proofs.Lists.{append_each, below, none_of, comes_from, pushed, found_at, slice_get-append_last, slice_get-set_other}
 
 -- ---- the places of labels
 

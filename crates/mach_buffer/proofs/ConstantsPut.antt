@@ -3,7 +3,7 @@ use Rattle.std.proofs.Common.{[], ◌≡◌, ℕ, zero, suc, ◌+◌, ◌-◌, �
 use Rattle.mach_buffer.proofs.Words.{nat_tests, cases_eq, length-append, slice_get, Kinds, ConstAlign, Constant, VCodeConstant, first_constant, ConstPlace, Shape, with_bytes, placed, constant_label, unplaced_of, IsConstantLabel, AllEnd, Lasts, zeros, aligned_to, constants_end, end_after, put_constant_at, put_constant, put_each, put_constants, reserve_from, reserve_of, alignment_reserve, IsOrdered, ConstantStands, AllStand, code_limit}
 use Rattle.mach_buffer.proofs.ConstantOrder.{placed_other, next_there, next_unplaced, ordered_constant}
 use Rattle.mach_buffer.proofs.Lasting.{none_added, some_added, lasts_places, lasts_same, lasts_more}
-use Rattle.mach_buffer.proofs.Lists.{append_each, found_at}
+use Rattle.mach_uses.proofs.Lists.{append_each, found_at}
 
 -- the next multiple is at most 15 after, is even, is its own next, and only grows
 pub aligned_is : (a : ConstAlign) (n : ℕ) → (n ≤ aligned_to a n) × (aligned_to a n ≤ n + 15) × (aligned_to a n % 2 ≡ 0) × (aligned_to a (aligned_to a n) ≡ aligned_to a n) × ((m : ℕ) → m ≤ n → aligned_to a m ≤ aligned_to a n)

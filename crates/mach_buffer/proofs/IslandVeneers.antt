@@ -1,13 +1,13 @@
 -- An island: that its veneers can be put, and what it brings.
 use Rattle.std.proofs.Common.{[], ◌≡◌, ◌≢◌, ℕ, ◌+◌, ◌-◌, ◌*◌, ◌%◌, ◌<◌, ◌≤◌, ⊎_elim, Bool, true, false, List, ◌∷◌, length, Option, Some, None, refl, ap, sym, ◌∙◌, subst, arith}
 use Rattle.mach_buffer.proofs.Words.{nat_tests, true≢false, cases_eq, and_parts, length-append, slice_get, first_inner, first_constant, MachLabel, code_limit, Kinds, Use, Shape, with_label, placed, unplaced_of, deadline, is_reached, is_pending, is_other, AreWindows, put_all, IsOrder, aligned, padding, padded, needs_own, first_of, with_own, island_veneers, IsJumpOver, CanIsland, Islanded, others_of, Grows, Lasts, IsNone, CanPut, CanPutAll, AddsOwn, Inside, AreSound, HoldNone, IsWhole, island_front, end_after, put_constants, IsOrdered, AllStand, IsUsable, CanPutAt}
-use Rattle.mach_buffer.proofs.QueueContents.{kept_none}
+use Rattle.mach_uses.proofs.QueueContents.{kept_none}
 use Rattle.mach_buffer.proofs.Links.{HasLaw, linked_bytes, windows_bytes}
 use Rattle.mach_buffer.proofs.Lasting.{veneers_last, lasts_bytes, lasts_label, lasts_more, lasts_veneers}
-use Rattle.mach_buffer.proofs.Lists.{slice_get-append_last, pushed}
-use Rattle.mach_buffer.proofs.OrderOfVeneers.{order_none, order_has, order_long, can_order, not_pending}
+use Rattle.mach_uses.proofs.Lists.{slice_get-append_last, pushed}
+use Rattle.mach_uses.proofs.OrderOfVeneers.{order_none, order_has, order_long, can_order, not_pending}
 use Rattle.mach_buffer.proofs.VeneersAndConstants.{length_padded, padding_even, aligned_near, grown_pending, Extended, extended}
-use Rattle.mach_buffer.proofs.Slack.{slack_from_reach, reaches_from_slack, none_from}
+use Rattle.mach_uses.proofs.Slack.{slack_from_reach, reaches_from_slack, none_from}
 use Rattle.mach_buffer.proofs.ConstantOrder.{placed_same}
 use Rattle.mach_buffer.proofs.ConstantsPut.{ends_is, each_done, stands_last}
 use Rattle.mach_buffer.proofs.Sound.{whole_label}

@@ -1,14 +1,14 @@
 -- The last veneers: that they can be put, what stands after them, and where each use goes once it is patched.
 use Rattle.std.proofs.Common.{[], ◌≡◌, ◌≢◌, ℕ, zero, suc, ◌+◌, ◌-◌, ◌*◌, ◌%◌, ◌<◌, ◌≤◌, inl, inr, ⊎_elim, true, false, List, ◌++◌, length, map, take, drop, Option, Some, None, unwrap_or, refl, ap, sym, ◌∙◌, arith, pos, ◌-ℤ◌}
-use Rattle.mach_buffer.proofs.Words.{nat_tests, take-take, drop-drop, drop-take, length-drop, take_all, true≢false, cases_Bool, false_from_ne_true, slice_get, is_some, code_limit, Kinds, IsVeneer, Patch, Use, first_constant, ConstPlace, Shape, with_bytes, veneer_use, core, unplaced_of, IsLinked, end_after, offset_in, AllStand, is_reached, is_pending, is_other, Grows, window, AreWindows, CanPatch, CanPatchAll, IsApart, AllAim, AllKept, KeepsOthers, or_place, patch_of, patches_of, put_all, IsOrder, aligned, padding, is_far, before_last, padded_for, pending_in, last_end, CanFinish, Finishes, Arrives, AllArrive, CanPutAll, IsWhole, MachLabel, length-append, LastPut, CanPut}
+use Rattle.mach_buffer.proofs.Words.{nat_tests, take-take, drop-drop, drop-take, length-drop, take_all, true≢false, cases_Bool, false_from_ne_true, slice_get, is_some, code_limit, Kinds, IsVeneer, Patch, Use, first_constant, ConstPlace, Shape, with_bytes, veneer_use, core, unplaced_of, IsLinked, end_after, offset_in, AllStand, is_reached, is_pending, is_other, Grows, window, AreWindows, CanPatch, CanPatchAll, IsApart, AllAim, AllKept, KeepsOthers, or_place, patch_of, patches_of, put_all, IsOrder, aligned, padding, is_far, before_last, padded, padded_for, pending_in, last_end, CanFinish, Finishes, Arrives, AllArrive, CanPutAll, IsWhole, MachLabel, length-append, LastPut, CanPut}
 use Rattle.mach_buffer.proofs.Links.{HasLaw, linked_bytes}
-use Rattle.mach_buffer.proofs.Lists.{append_none, comes_from, map_each, mapped}
+use Rattle.mach_uses.proofs.Lists.{append_none, comes_from, map_each, mapped}
 use Rattle.mach_buffer.proofs.Lasting.{veneers_last}
 use Rattle.mach_buffer.proofs.ConstantOrder.{all_listed, bound_or_named, place_offset}
 use Rattle.mach_buffer.proofs.ConstantsPut.{ends_is, uses_stay}
-use Rattle.mach_buffer.proofs.OrderOfVeneers.{order_none, order_has, order_long, can_order, not_pending}
+use Rattle.mach_uses.proofs.OrderOfVeneers.{order_none, order_has, order_long, can_order, not_pending}
 use Rattle.mach_buffer.proofs.VeneersAndConstants.{recorded_at, own_labels, length_padded, padding_even, grown_pending, Extended, extended}
-use Rattle.mach_buffer.proofs.Slack.{reaches_from_each}
+use Rattle.mach_uses.proofs.Slack.{reaches_from_each}
 
 -- all that is pending names another label than none
 pub other_none : {L : Type 0} (kinds : Kinds L) (place : ℕ → Option ℕ) → is_other kinds place None ≡ is_pending kinds place
@@ -21,6 +21,10 @@ last_near bytes count = grind (arith, nat_tests, length_padded bytes)
 pub padding_for : {L : Type 0} (n : ℕ) (s : Shape L) → (pad : List ℕ) × (padded_for n s ≡ with_bytes pad s) × (s.bytes ++ pad ≡ before_last s.bytes n) × (length s.bytes % 2 ≡ 0 → length pad % 2 ≡ 0)
 padding_for zero s = ([], λ i. record s { bytes = sym (append_none s.bytes) i }, append_none s.bytes, λ e. refl)
 padding_for (suc n) s = (padding (length s.bytes), refl, grind (arith, nat_tests), padding_even (length s.bytes))
+
+pub padded_some : {L : Type 0} (n : ℕ) (s : Shape L) → (n ≡ 0 → ⊥) → padded_for n s ≡ padded s
+padded_some zero s some = absurd (some refl)
+padded_some (suc n) s some = refl
 
 -- ---- the veneers can be put in their order
 

@@ -2,7 +2,7 @@
 use Rattle.std.proofs.Common.{[], ◌≡◌, ℕ, ◌+◌, ◌≤◌, true, List, ◌∷◌, ◌++◌, length, take, set, Option, Some, None, refl, ap, sym, ◌∙◌, arith, append_assoc}
 use Rattle.mach_buffer.proofs.Words.{nat_tests, take-take, length-append, map-append, slice_get, MachLabel, Kinds, VCodeConstant, Event, MachRecord, Use, Shape, with_bytes, with_use, with_label, with_allocated, with_record, with_named, veneer_use, core, recorded, is_reached, put_at, put_veneer, put_all, IsNone, Grows, RecordsLast, Lasts}
 use Rattle.mach_buffer.proofs.Links.{recorded_set}
-use Rattle.mach_buffer.proofs.Lists.{append_none, both_lists, map_each, only_one, slice_get-append, slice_get-set_other, take_front, pushed}
+use Rattle.mach_uses.proofs.Lists.{append_none, both_lists, map_each, only_one, slice_get-append, slice_get-set_other, take_front, pushed}
 use Rattle.mach_buffer.proofs.ConstantOrder.{placed_other}
 
 -- ---- growing

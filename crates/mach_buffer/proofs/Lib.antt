@@ -1,12 +1,8 @@
 pub mod Words
-pub mod Slack
-pub mod Lists
-pub mod QueueContents
 pub mod Windows
 pub mod Links
 pub mod ConstantOrder
 pub mod Sound
-pub mod OrderOfVeneers
 pub mod VeneersAndConstants
 pub mod IslandVeneers
 pub mod LastVeneers

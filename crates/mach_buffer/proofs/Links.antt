@@ -1,8 +1,8 @@
 -- Veneers that stand, and the windows of uses, as code and uses are added.
 use Rattle.std.proofs.Common.{[], ◌≡◌, ◌≢◌, ℕ, ◌+◌, ◌-◌, ◌%◌, ◌≤◌, ◌⊎◌, inl, inr, true, false, List, ◌∷◌, ◌++◌, length, take, drop, set, Option, Some, None, refl, ap, sym, ◌∙◌, subst, arith}
 use Rattle.std.proofs.Math.Seq.{drop-append-add}
-use Rattle.mach_buffer.proofs.Words.{true≢false, same_Some, slice_get-map, drop-take, take-take, length-append, length-drop, take_all, set-append_left, map-set, set-get_or, slice_get, Kinds, IsVeneer, IsFresh, Use, veneer_use, core, recorded, window, IsApart, AreWindows, deadline, HasVeneer, IsLinked, common_steps, gets}
-use Rattle.mach_buffer.proofs.Lists.{append_each, below, both_lists, changed, locate, one_there, only_one, set_each, slice_get-append, slice_get-append_last, slice_get-set_other, take_front, mapped}
+use Rattle.mach_buffer.proofs.Words.{true≢false, same_Some, slice_get-map, drop-take, take-take, length-append, length-drop, take_all, set-append_left, map-set, set-get_or, slice_get, Kinds, Veneer, IsVeneer, IsFresh, Use, veneer_use, core, recorded, window, IsApart, AreWindows, deadline, HasVeneer, IsLinked, common_steps, gets}
+use Rattle.mach_uses.proofs.Lists.{append_each, below, both_lists, changed, locate, one_there, only_one, set_each, slice_get-append, slice_get-append_last, slice_get-set_other, take_front, mapped}
 use Rattle.mach_buffer.proofs.Windows.{fresh_in_prefix}
 
 -- the veneer of each kind that has one
@@ -147,3 +147,8 @@ veneer_put {L} {kinds} {bytes} {uses} law l i u there near supported even =
       λ w. windows_set law more i u still supported (length bytes) has.inside (windows_use w V.bytes own V.place refl (omega (arith, even, ok.place_even)) refl (omega (arith, ok.eight, ok.inside)) fresh)
           (append_each (λ y. (y ≡ own) ⊎ IsApart y.offset (length (kinds.fields y.kind)) (length bytes) 8) uses own (inl refl) (λ k y h. inr (inl (w.inside k y h)))),
     )
+
+-- the uses after a veneer is put: the one that goes by it, and the veneer's own
+pub uses_veneered : {L : Type 0} {old now new : List (Use L)} {at end : ℕ} {u changed own : Use L} (V : Veneer L) (index : ℕ) → now ≡ old → changed ≡ u → at ≡ end → own ≡ veneer_use V at u.label → new ≡ set now index (record changed { veneer = Some at }) ++ own ∷ [] →
+    new ≡ set old index (record u { veneer = Some end }) ++ veneer_use V end u.label ∷ []
+uses_veneered {L} {old} {now} {new} {at} {end} {u} V index kept same there mine put = put ∙ (λ i. set (kept i) index (record (same i) { veneer = Some (there i) }) ++ mine i ∷ []) ∙ (λ i. set old index (record u { veneer = Some end }) ++ veneer_use V (there i) u.label ∷ [])

@@ -4,8 +4,8 @@ use Rattle.mach_buffer.proofs.Words.{false_from_ne_true, same_Some, length-appen
 use Rattle.mach_buffer.proofs.Lasting.{grows_more}
 use Rattle.mach_buffer.proofs.LastVeneers.{some_place, finish_keeps}
 use Rattle.mach_buffer.proofs.Links.{window_stays, window_last, recorded_get, windows_bytes, windows_use}
-use Rattle.mach_buffer.proofs.Lists.{comes_from, map_each, slice_get-append, slice_get-append_last, mapped}
-use Rattle.mach_buffer.proofs.OrderOfVeneers.{not_pending}
+use Rattle.mach_uses.proofs.Lists.{comes_from, map_each, slice_get-append, slice_get-append_last, mapped}
+use Rattle.mach_uses.proofs.OrderOfVeneers.{not_pending}
 use Rattle.mach_buffer.proofs.VeneersAndConstants.{recorded_at}
 
 -- windows, as a piece is put

@@ -2,10 +2,10 @@
 use Rattle.std.proofs.Common.{[], Bool, inl, inr, ◌<◌, ◌≡◌, ℕ, ◌+◌, ◌%◌, ◌≤◌, List, ◌∷◌, ◌++◌, length, Some, None, sym, subst, arith, ⊎_elim}
 use Rattle.mach_buffer.proofs.Words.{cases_eq, length-append, slice_get, Kinds, MachLabel, Constant, VCodeConstant, Use, Pending, Shape, with_bytes, with_use, with_label, with_allocated, with_named, with_registered, name_more, placed, inner_count, IsKnown, IsUsable, IsOrdered, AreNoted, is_pending, due_by, pending_in, AreKept, HoldNone, Inside, AreSound, IsWhole, nat_tests, AreOrdered}
 use Rattle.mach_buffer.proofs.ConstantOrder.{placed_other, ordered_named}
-use Rattle.mach_buffer.proofs.QueueContents.{kept_none, kept_fewer}
+use Rattle.mach_uses.proofs.QueueContents.{kept_none, kept_fewer}
 use Rattle.mach_buffer.proofs.Links.{linked_bytes, linked_use}
-use Rattle.mach_buffer.proofs.Lists.{append_each, slice_get-append}
-use Rattle.mach_buffer.proofs.Slack.{bound_pending, due_fewer}
+use Rattle.mach_uses.proofs.Lists.{append_each, slice_get-append}
+use Rattle.mach_uses.proofs.Slack.{bound_pending, due_fewer}
 
 -- a buffer in which nothing is
 abbrev pub empty : {L : Type 0} → Shape L

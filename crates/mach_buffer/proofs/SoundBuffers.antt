@@ -4,7 +4,7 @@ use Rattle.mach_buffer.specs.declared.buffer.MachBuffer.{MachBuffer}
 use Rattle.mach_buffer.proofs.Words.{nat_tests, unplaced_of, aligned, first_of, deadline, reserve_from, IsSound, slice_get, first_constant, Kinds, MachLabel, Use, Shape, inner_count, IsUsable, IsWhole, Lasts, CanIsland, Islanded, others_of, end_after, put_constants, reserve_of, shape_of, bytes_of, uses_of, place_of, allocated_of}
 use Rattle.mach_buffer.proofs.ConstantsPut.{each_done, ends_within as ends_before, reserve_other}
 use Rattle.mach_buffer.proofs.ConstantOrder.{placed_other}
-use Rattle.mach_buffer.proofs.Lists.{append_none}
+use Rattle.mach_uses.proofs.Lists.{append_none}
 use Rattle.mach_buffer.proofs.VeneersAndConstants.{aligned_near}
 use Rattle.mach_buffer.proofs.IslandVeneers.{IslandRest, veneered, island_is, lasts_island as lasts_over}
 

@@ -1,7 +1,7 @@
 -- Zero bytes, veneers, and constants, put one after the other.
 use Rattle.std.proofs.Common.{[], ◌≡◌, ℕ, ◌+◌, ◌-◌, ◌*◌, ◌%◌, ◌<◌, ◌≤◌, inr, ⊎_elim, Bool, true, false, List, ◌++◌, length, drop, Option, Some, refl, ap, sym, ◌∙◌, subst, arith, ◌⊎◌, inl, ◌∷◌, set, None, append_assoc}
 use Rattle.mach_buffer.proofs.Words.{take-append-drop, nat_tests, length-append, slice_get, IsSomeAnd, first_constant, code_limit, Kinds, Use, ConstPlace, Shape, with_bytes, unplaced_of, IsUsable, is_reached, is_pending, AreWindows, IsLinked, put_all, aligned, padding, with_own, Grows, Lasts, end_after, put_constants, AreOrdered, IsOrdered, AllStand, IsNone, CanPutAll, AddsOwn, le-leb, and_from, length-map, map-append, MachLabel, veneer_use, core, recorded, put_veneer, IsOwn, CanPutAt, CanPut, IsWhole}
-use Rattle.mach_buffer.proofs.Lists.{below, append_none, both_lists, changed, comes_from, locate, only_one, slice_get-append, slice_get-set_other, pushed}
+use Rattle.mach_uses.proofs.Lists.{below, append_none, both_lists, changed, comes_from, locate, only_one, slice_get-append, slice_get-set_other, pushed}
 use Rattle.mach_buffer.proofs.Links.{HasLaw, linked_bytes, windows_bytes, recorded_get, recorded_set, veneer_put}
 use Rattle.mach_buffer.proofs.Lasting.{stays_reached, grows_more, lasts_bytes, lasts_more, lasts_veneers, veneers_last}
 use Rattle.mach_buffer.proofs.ConstantsPut.{length_zeros, ends_is, ConstantsDone, each_done, stands_last}

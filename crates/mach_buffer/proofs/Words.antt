@@ -28,18 +28,23 @@ pub use Rattle.mach_buffer.specs.Islands.{AddsOwn, aligned, CanIsland, first_of,
 pub use Rattle.mach_buffer.specs.LastVeneers.{LastPut}
 pub use Rattle.mach_buffer.specs.Links.{HasVeneer, IsLinked}
 pub use Rattle.mach_buffer.specs.Pieces.{IsPiece, UseFinished}
-pub use Rattle.mach_buffer.specs.Places.{place_in}
-pub use Rattle.mach_buffer.specs.Queues.{AreKept, deadline_at, deadline_in, due_in, HoldNone, is_due_at, is_other_queued, is_queued, Keeps, key_number, keys_where, passes, queue_of, shows_slack, slack_after, test_at, use_where}
-pub use Rattle.mach_buffer.specs.Reach.{AllOf, CanReach, deadline, deadlines, due_by, HasSlack, island_front, island_margin, is_needed, is_needed_from, is_other, is_pending, is_reached, StillReaches, VeneersReach}
-pub use Rattle.mach_buffer.specs.Records.{calls_in, finalized_handler, maps_in, offset_or_zero, patches_in, relocs_in, traps_in, tries_in, unwinds_in}
-pub use Rattle.mach_buffer.specs.Shape.{constant_label, core, inner_count, is_named, IsConstantLabel, IsKnown, IsUsable, name_more, placed, recorded, Shape, veneer_use, unplaced_of, with_allocated, with_bytes, with_label, with_named, with_record, with_registered, with_use}
-pub use Rattle.mach_buffer.specs.VeneerConditions.{CanPut, CanPutAll, CanPutAt, IsNone}
-pub use Rattle.mach_buffer.specs.Veneers.{by_deadline, by_number, by_place, IsOrder, numbers_from, numbers_of, put_all, put_at, put_veneer}
-pub use Rattle.mach_buffer.specs.Windows.{AllAim, AllEnd, AllKept, AreWindows, CanPatch, CanPatchAll, ChangesOnly, IsApart, KeepsOthers, or_place, patch_of, patches_of, window}
+pub use Rattle.mach_uses.specs.Places.{place_in}
+pub use Rattle.mach_uses.specs.Queues.{AreKept, deadline_at, deadline_in, due_in, HoldNone, is_due_at, is_other_queued, is_queued, Keeps, key_number, keys_where, passes, queue_of, shows_slack, slack_after, test_at, use_where}
+pub use Rattle.mach_uses.specs.Reach.{AllOf, CanReach, deadline, deadlines, due_by, HasSlack, island_front, island_margin, is_needed, is_needed_from, is_other, is_pending, is_reached, StillReaches, VeneersReach}
+pub use Rattle.mach_records.specs.Records.{calls_in, finalized_handler, maps_in, offset_or_zero, patches_in, relocs_in, traps_in, tries_in, unwinds_in}
+pub use Rattle.mach_buffer.specs.Shape.{core, IsConstantLabel, IsKnown, IsUsable, recorded, Shape, veneer_use, unplaced_of, with_allocated, with_bytes, with_label, with_named, with_record, with_registered, with_use}
+pub use Rattle.mach_uses.specs.Labels.{is_named, name_more}
+pub use Rattle.mach_uses.specs.Labels.{constant_label, inner_count, placed}
+pub use Rattle.mach_buffer.specs.VeneerConditions.{CanPutAll}
+pub use Rattle.mach_uses.specs.Order.{CanPut, CanPutAt, IsNone}
+pub use Rattle.mach_buffer.specs.Veneers.{put_all, put_at, put_veneer}
+pub use Rattle.mach_uses.specs.Order.{by_deadline, by_number, by_place, IsOrder, numbers_from, numbers_of}
+pub use Rattle.mach_buffer.specs.Windows.{AllAim, AllEnd, AllKept, AreWindows, CanPatch, CanPatchAll, ChangesOnly, KeepsOthers, or_place, patch_of, patches_of}
+pub use Rattle.mach_uses.specs.Windows.{IsApart, window}
 pub use Rattle.mach_buffer.specs.declared.patches.Patch.{Patch}
-pub use Rattle.mach_buffer.specs.declared.pending.Pending.{Pending}
-pub use Rattle.mach_buffer.specs.declared.records.ConstPlace.{ConstPlace}
-pub use Rattle.mach_buffer.specs.declared.records.Event.{Event}
-pub use Rattle.mach_buffer.specs.declared.records.MachRecord.{MachRecord}
-pub use Rattle.mach_buffer.specs.declared.uses.PendingKey.{PendingKey}
-pub use Rattle.mach_buffer.specs.declared.uses.Use.{Use}
+pub use Rattle.mach_uses.specs.declared.pending.Pending.{Pending}
+pub use Rattle.mach_records.specs.declared.records.ConstPlace.{ConstPlace}
+pub use Rattle.mach_records.specs.declared.records.Event.{Event}
+pub use Rattle.mach_records.specs.declared.records.MachRecord.{MachRecord}
+pub use Rattle.mach_uses.specs.declared.uses.PendingKey.{PendingKey}
+pub use Rattle.mach_uses.specs.declared.uses.Use.{Use}

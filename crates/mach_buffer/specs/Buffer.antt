@@ -1,16 +1,16 @@
 -- For callers: a buffer, by what it shows; and what a call changes.
 use Rattle.std.specs.Prelude.{◌≡◌, ℕ, List, Option, Result, Ok, Err, Bool, true, false}
 use Rattle.rv_base.specs.LabelUse.{Kinds}
-use Rattle.mach_buffer.specs.declared.uses.Use.{Use}
-use Rattle.mach_buffer.specs.declared.uses.LabelPlace.{LabelPlace}
+use Rattle.mach_uses.specs.declared.uses.Use.{Use}
+use Rattle.mach_uses.specs.declared.uses.LabelPlace.{LabelPlace}
 use Rattle.rv_base.specs.declared.constant.Constant.{Constant}
 use Rattle.rv_base.specs.declared.constant.VCodeConstant.{VCodeConstant}
-use Rattle.mach_buffer.specs.declared.records.ConstPlace.{ConstPlace}
-use Rattle.mach_buffer.specs.declared.records.MachRecord.{MachRecord}
+use Rattle.mach_records.specs.declared.records.ConstPlace.{ConstPlace}
+use Rattle.mach_records.specs.declared.records.MachRecord.{MachRecord}
 use Rattle.mach_buffer.specs.declared.buffer.MachBuffer.{MachBuffer}
 use Rattle.mach_buffer.specs.Shape.{Shape}
 use Rattle.mach_buffer.specs.Finish.{pending_in}
-use Rattle.mach_buffer.specs.Places.{place_in}
+use Rattle.mach_uses.specs.Places.{place_in}
 use Rattle.mach_buffer.specs.Inside.{AreSound, inside_of}
 
 abbrev pub shape_of : {L : Type 0} → MachBuffer L → Shape L

@@ -6,9 +6,11 @@ use Rattle.rv_base.specs.declared.constant.Constant.{Constant}
 use Rattle.rv_base.specs.declared.constant.VCodeConstant.{VCodeConstant}
 use Rattle.rv_base.specs.LabelUse.{Kinds}
 use Rattle.mach_labels.specs.Table.{first_constant}
-use Rattle.mach_buffer.specs.declared.records.ConstPlace.{ConstPlace}
-use Rattle.mach_buffer.specs.Shape.{Shape, with_bytes, placed, constant_label, unplaced_of}
-use Rattle.mach_buffer.specs.Windows.{window, AllEnd}
+use Rattle.mach_records.specs.declared.records.ConstPlace.{ConstPlace}
+use Rattle.mach_buffer.specs.Shape.{Shape, with_bytes, unplaced_of}
+use Rattle.mach_uses.specs.Labels.{placed, constant_label}
+use Rattle.mach_buffer.specs.Windows.{AllEnd}
+use Rattle.mach_uses.specs.Windows.{window}
 use Rattle.mach_buffer.specs.Growth.{Lasts}
 
 -- zero bytes

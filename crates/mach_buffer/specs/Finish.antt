@@ -2,13 +2,15 @@
 use Rattle.std.specs.Prelude.{◌≡◌, ℕ, zero, suc, ◌+◌, ◌*◌, ◌%◌, ◌<◌, ◌≤◌, ◌⊎◌, true, false, cond, nat_eq, List, ◌++◌, length, map, take, drop, Option, Some, None, is_some, ◌-◌, slice_get, pos, ◌-ℤ◌}
 use Rattle.rv_base.specs.LabelUse.{code_limit, Kinds, Veneer, SameOutside}
 use Rattle.mach_labels.specs.Table.{first_constant}
-use Rattle.mach_buffer.specs.declared.records.ConstPlace.{ConstPlace}
-use Rattle.mach_buffer.specs.declared.uses.Use.{Use}
+use Rattle.mach_records.specs.declared.records.ConstPlace.{ConstPlace}
+use Rattle.mach_uses.specs.declared.uses.Use.{Use}
 use Rattle.mach_buffer.specs.Shape.{Shape, IsConstantLabel}
-use Rattle.mach_buffer.specs.Windows.{window, AreWindows, AllKept, KeepsOthers, patches_of}
-use Rattle.mach_buffer.specs.Reach.{is_reached, is_pending, deadlines, VeneersReach}
+use Rattle.mach_buffer.specs.Windows.{AreWindows, AllKept, KeepsOthers, patches_of}
+use Rattle.mach_uses.specs.Windows.{window}
+use Rattle.mach_uses.specs.Reach.{is_reached, is_pending, deadlines, VeneersReach}
 use Rattle.mach_buffer.specs.Links.{IsLinked}
-use Rattle.mach_buffer.specs.Veneers.{put_all, IsOrder}
+use Rattle.mach_buffer.specs.Veneers.{put_all}
+use Rattle.mach_uses.specs.Order.{IsOrder}
 use Rattle.mach_buffer.specs.Growth.{Grows}
 use Rattle.mach_buffer.specs.Islands.{padding, padded, is_far}
 use Rattle.mach_buffer.specs.Constants.{end_after, put_constants, offset_in, AllStand, HasConstants}

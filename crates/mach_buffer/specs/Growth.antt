@@ -1,12 +1,12 @@
 -- For callers: how a buffer grows, and what lasts in it.
 use Rattle.std.specs.Prelude.{◌≡◌, ℕ, ◌≤◌, ◌⊎◌, true, List, ◌++◌, length, take, Option, Some, None, slice_get}
 use Rattle.rv_base.specs.LabelUse.{Kinds}
-use Rattle.mach_buffer.specs.declared.uses.Use.{Use}
+use Rattle.mach_uses.specs.declared.uses.Use.{Use}
 use Rattle.rv_base.specs.declared.constant.VCodeConstant.{VCodeConstant}
-use Rattle.mach_buffer.specs.declared.records.ConstPlace.{ConstPlace}
-use Rattle.mach_buffer.specs.declared.records.MachRecord.{MachRecord}
+use Rattle.mach_records.specs.declared.records.ConstPlace.{ConstPlace}
+use Rattle.mach_records.specs.declared.records.MachRecord.{MachRecord}
 use Rattle.mach_buffer.specs.Shape.{Shape, recorded}
-use Rattle.mach_buffer.specs.Reach.{is_reached}
+use Rattle.mach_uses.specs.Reach.{is_reached}
 
 -- what a buffer has stays as it grows, and what is added stands after it
 pub record Grows {L : Type 0} (bytes : List ℕ) (uses : List (Use L)) (place : ℕ → Option ℕ) (new_bytes : List ℕ) (new_uses : List (Use L)) (new_place : ℕ → Option ℕ) : Type 0 where

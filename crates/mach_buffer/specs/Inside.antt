@@ -3,13 +3,15 @@ use Rattle.std.specs.Prelude.{◌≡◌, ◌≢◌, ℕ, ◌%◌, ◌<◌, ◌�
 use Rattle.rv_base.specs.LabelUse.{Kinds}
 use Rattle.rv_base.specs.declared.constant.Constant.{Constant}
 use Rattle.rv_base.specs.declared.constant.VCodeConstant.{VCodeConstant}
-use Rattle.mach_buffer.specs.declared.uses.Use.{Use}
-use Rattle.mach_buffer.specs.declared.records.ConstPlace.{ConstPlace}
-use Rattle.mach_buffer.specs.declared.pending.Pending.{Pending}
+use Rattle.mach_uses.specs.declared.uses.Use.{Use}
+use Rattle.mach_records.specs.declared.records.ConstPlace.{ConstPlace}
+use Rattle.mach_uses.specs.declared.pending.Pending.{Pending}
 use Rattle.mach_buffer.specs.declared.buffer.MachBuffer.{MachBuffer}
-use Rattle.mach_buffer.specs.Shape.{Shape, inner_count, constant_label, is_named, IsUsable}
+use Rattle.mach_buffer.specs.Shape.{Shape, IsUsable}
+use Rattle.mach_uses.specs.Labels.{is_named}
+use Rattle.mach_uses.specs.Labels.{inner_count, constant_label}
 use Rattle.mach_buffer.specs.Links.{IsLinked}
-use Rattle.mach_buffer.specs.Queues.{AreKept}
+use Rattle.mach_uses.specs.Queues.{AreKept}
 
 -- its queues, and which constants were named
 pub record Inside : Type 0 where

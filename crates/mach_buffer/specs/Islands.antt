@@ -3,10 +3,11 @@ use Rattle.std.specs.Prelude.{◌≡◌, ◌≢◌, ℕ, ◌+◌, ◌-◌, ◌*�
 use Rattle.rv_base.specs.declared.label.MachLabel.{MachLabel}
 use Rattle.rv_base.specs.LabelUse.{code_limit, Kinds}
 use Rattle.mach_labels.specs.Table.{first_inner}
-use Rattle.mach_buffer.specs.declared.uses.Use.{Use}
+use Rattle.mach_uses.specs.declared.uses.Use.{Use}
 use Rattle.mach_buffer.specs.Shape.{Shape, with_bytes, with_label, IsKnown, recorded}
-use Rattle.mach_buffer.specs.Reach.{deadline, is_pending, is_other, deadlines, CanReach}
-use Rattle.mach_buffer.specs.Veneers.{put_all, IsOrder}
+use Rattle.mach_uses.specs.Reach.{deadline, is_pending, is_other, deadlines, CanReach}
+use Rattle.mach_buffer.specs.Veneers.{put_all}
+use Rattle.mach_uses.specs.Order.{IsOrder}
 use Rattle.mach_buffer.specs.Constants.{zeros, end_after, put_constants}
 
 -- the next multiple of four

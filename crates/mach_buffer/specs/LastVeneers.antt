@@ -2,8 +2,9 @@
 use Rattle.std.specs.Prelude.{◌≡◌, ℕ, List, length}
 use Rattle.rv_base.specs.LabelUse.{Kinds}
 use Rattle.mach_buffer.specs.Shape.{Shape}
-use Rattle.mach_buffer.specs.Reach.{is_pending}
-use Rattle.mach_buffer.specs.Veneers.{put_all, IsOrder}
+use Rattle.mach_uses.specs.Reach.{is_pending}
+use Rattle.mach_buffer.specs.Veneers.{put_all}
+use Rattle.mach_uses.specs.Order.{IsOrder}
 use Rattle.mach_buffer.specs.Constants.{put_constants}
 use Rattle.mach_buffer.specs.Finish.{padded_for}
 

@@ -1,6 +1,4 @@
 pub mod Shape
-pub mod Records
-pub mod Reach
 pub mod Windows
 pub mod Links
 pub mod Veneers
@@ -9,8 +7,6 @@ pub mod Islands
 pub mod Growth
 pub mod Finish
 pub mod Pieces
-pub mod Queues
-pub mod Places
 pub mod Inside
 pub mod Buffer
 pub mod VeneerConditions

@@ -1,10 +1,10 @@
 -- For callers: veneers that stand, and the uses that go by them.
 use Rattle.std.specs.Prelude.{◌≡◌, ℕ, ◌+◌, ◌%◌, ◌≤◌, List, length, Some, slice_get, true}
 use Rattle.rv_base.specs.LabelUse.{Kinds}
-use Rattle.mach_buffer.specs.declared.uses.Use.{Use}
+use Rattle.mach_uses.specs.declared.uses.Use.{Use}
 use Rattle.mach_buffer.specs.Shape.{veneer_use}
-use Rattle.mach_buffer.specs.Windows.{window}
-use Rattle.mach_buffer.specs.Reach.{deadline}
+use Rattle.mach_uses.specs.Windows.{window}
+use Rattle.mach_uses.specs.Reach.{deadline}
 
 -- a use's veneer stands at an even place after the use and in its reach, and the veneer's own use is among the uses
 pub record HasVeneer {L : Type 0} (kinds : Kinds L) (bytes : List ℕ) (uses : List (Use L)) (u : Use L) (at : ℕ) : Type 0 where

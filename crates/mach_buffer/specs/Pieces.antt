@@ -1,10 +1,10 @@
 -- For callers: one piece of code with one use, in finished code.
 use Rattle.std.specs.Prelude.{◌≡◌, ℕ, ◌%◌, ◌≤◌, ◌⊎◌, true, List, length, Some, None, slice_get, pos, ◌-ℤ◌}
 use Rattle.rv_base.specs.LabelUse.{Kinds, SameOutside}
-use Rattle.mach_buffer.specs.declared.uses.Use.{Use}
+use Rattle.mach_uses.specs.declared.uses.Use.{Use}
 use Rattle.mach_buffer.specs.Shape.{Shape}
-use Rattle.mach_buffer.specs.Windows.{window}
-use Rattle.mach_buffer.specs.Reach.{is_reached}
+use Rattle.mach_uses.specs.Windows.{window}
+use Rattle.mach_uses.specs.Reach.{is_reached}
 use Rattle.mach_buffer.specs.Links.{HasVeneer}
 use Rattle.mach_buffer.specs.Finish.{IsVia}
 

@@ -1,15 +1,16 @@
 -- For callers: what a buffer of code shows, and what its calls make of it.
-use Rattle.std.specs.Prelude.{◌≡◌, ◌⊎◌, ℕ, ◌+◌, ◌^◌, ◌<◌, Bool, false, ◌||◌, List, [], ◌∷◌, ◌++◌, length, map, drop, Option, Some, None, nat_eq, nat_lt, if◌then◌else◌, slice_get}
+use Rattle.std.specs.Prelude.{◌≡◌, ◌⊎◌, ℕ, ◌+◌, ◌<◌, List, [], ◌∷◌, ◌++◌, length, map, drop, Option, Some, None, slice_get}
 use Rattle.rv_base.specs.declared.label.MachLabel.{MachLabel}
 use Rattle.rv_base.specs.LabelUse.{Veneer}
 use Rattle.rv_base.specs.declared.constant.Constant.{Constant}
 use Rattle.rv_base.specs.declared.constant.VCodeConstant.{VCodeConstant}
-use Rattle.mach_labels.specs.Table.{first_inner, first_constant}
-use Rattle.mach_buffer.specs.declared.uses.Use.{Use}
-use Rattle.mach_buffer.specs.declared.uses.LabelPlace.{LabelPlace}
-use Rattle.mach_buffer.specs.declared.records.ConstPlace.{ConstPlace}
-use Rattle.mach_buffer.specs.declared.records.Event.{Event}
-use Rattle.mach_buffer.specs.declared.records.MachRecord.{MachRecord}
+use Rattle.mach_labels.specs.Table.{first_inner}
+use Rattle.mach_uses.specs.Labels.{placed, listed, constant_label, name_more}
+use Rattle.mach_uses.specs.declared.uses.Use.{Use}
+use Rattle.mach_uses.specs.declared.uses.LabelPlace.{LabelPlace}
+use Rattle.mach_records.specs.declared.records.ConstPlace.{ConstPlace}
+use Rattle.mach_records.specs.declared.records.Event.{Event}
+use Rattle.mach_records.specs.declared.records.MachRecord.{MachRecord}
 
 -- its bytes; its uses in the order in which they were recorded, each with its veneer's place where it has one; the places of
 -- labels; the labels below 2^30 that are bound, in order of binding; how many inner labels were allocated; the records, in the
@@ -34,14 +35,6 @@ with_bytes more s = record s { bytes = s.bytes ++ more }
 abbrev pub with_use : {L : Type 0} → Use L → Shape L → Shape L
 with_use u s = record s { uses = s.uses ++ u ∷ [] }
 
--- what a bound label adds to those in order of binding
-abbrev pub listed : MachLabel → ℕ → List LabelPlace
-listed label at = if nat_lt label.number first_inner then record { label = label; offset = at } ∷ [] else []
-
--- the places of labels with one more
-abbrev pub placed : (ℕ → Option ℕ) → ℕ → ℕ → ℕ → Option ℕ
-placed place label at other = if nat_eq other label then Some at else place other
-
 -- a label bound at the end of the bytes
 abbrev pub with_label : {L : Type 0} → MachLabel → Shape L → Shape L
 with_label label s = record s { place = placed s.place label.number (length s.bytes); labels = s.labels ++ listed label (length s.bytes) }
@@ -58,29 +51,13 @@ with_record event s = record s { records = s.records ++ record { offset = length
 abbrev pub with_registered : {L : Type 0} → List Constant → Shape L → Shape L
 with_registered constants s = record s { registered = constants }
 
--- whether a constant of this number is one of these
-abbrev pub is_named : List VCodeConstant → ℕ → Bool
-is_named [] number = false
-is_named (k ∷ named) number = nat_eq k.number number || is_named named number
-
--- a constant is named: it comes after the others, unless it was named before
-abbrev pub name_more : VCodeConstant → List VCodeConstant → List VCodeConstant
-name_more k named = named ++ (if is_named named k.number then [] else k ∷ [])
-
+-- a constant is named
 abbrev pub with_named : {L : Type 0} → VCodeConstant → Shape L → Shape L
 with_named k s = record s { named = name_more k s.named }
 
 -- the constants that were named and don't stand yet
 abbrev pub unplaced_of : {L : Type 0} → Shape L → List VCodeConstant
 unplaced_of s = drop (length s.constants) s.named
-
--- how many inner labels a buffer can give out: their numbers are below 2^31
-abbrev pub inner_count : ℕ
-inner_count = 2 ^ 30
-
--- the label of a constant, by its number
-abbrev pub constant_label : VCodeConstant → MachLabel
-constant_label constant = record { number = first_constant + constant.number }
 
 -- a label that a listing may name, or that the buffer gave out
 abbrev pub IsKnown : ℕ → ℕ → Type 0

@@ -3,16 +3,9 @@ use Rattle.std.specs.Prelude.{map, Option, None, unwrap_or, ◌≡◌, ◌≢◌
 use Rattle.rv_base.specs.LabelUse.{IsFresh, SameOutside}
 use Rattle.rv_base.specs.LabelUse.{Kinds}
 use Rattle.mach_buffer.specs.declared.patches.Patch.{Patch}
-use Rattle.mach_buffer.specs.declared.uses.Use.{Use}
+use Rattle.mach_uses.specs.declared.uses.Use.{Use}
+use Rattle.mach_uses.specs.Windows.{window, IsApart}
 use Rattle.mach_buffer.specs.Shape.{Shape, veneer_use}
-
--- the bytes of a window
-abbrev pub window : List ℕ → ℕ → ℕ → List ℕ
-window bytes place size = take size (drop place bytes)
-
--- two windows share no byte
-abbrev pub IsApart : ℕ → ℕ → ℕ → ℕ → Type 0
-IsApart p m q n = (p + m ≤ q) ⊎ (q + n ≤ p)
 
 -- the windows of uses stand in the bytes at even places, are fresh, and share no byte with one another; veneers stand in the
 -- bytes; and no window but that of a veneer's own use shares a byte with the veneer

@@ -2,12 +2,8 @@
 
 use crate::code::Code;
 use crate::constants::Constants;
-use crate::labels::{INNER_COUNT, Labels, constant_label};
-use crate::pending::Pending;
-use crate::reach::ISLAND_MARGIN;
-use crate::records::{Event, FinalizedRelocTarget, MachRecord};
-use crate::split::copy_of_map;
-use crate::uses::Use;
+use mach_records::{Event, FinalizedRelocTarget, MachRecord, copy_of_map, finalized};
+use mach_uses::{INNER_COUNT, ISLAND_MARGIN, Labels, Pending, Use, constant_label};
 use rv_base::{
     Constant, List, MachInstLabelUse, MachLabel, OutOfMemory, Reloc, RelocTarget, TrapCode,
     TryCallHandler, UnwindInst, UserStackMap, VCodeConstant,
@@ -48,12 +44,13 @@ impl<L: MachInstLabelUse> MachBuffer<L> {
     ghost use mir.Syntax.{w16, w32, w64};
     ghost use Rattle.rv_base.specs.LabelUse.{code_limit};
     ghost use Rattle.mach_labels.specs.Table.{first_inner};
-    ghost use Rattle.mach_buffer.specs.Shape.{with_bytes, with_use, with_label, with_allocated, with_record, with_registered, with_named, constant_label, inner_count, IsKnown, IsUsable};
+    ghost use Rattle.mach_buffer.specs.Shape.{with_bytes, with_use, with_label, with_allocated, with_record, with_registered, with_named, IsKnown, IsUsable};
+    ghost use Rattle.mach_uses.specs.Labels.{constant_label, inner_count};
     ghost use Rattle.mach_buffer.specs.Constants.{reserve_of};
-    ghost use Rattle.mach_buffer.specs.Records.{finalized};
-    ghost use Rattle.mach_buffer.specs.declared.records.Event.TheVariants.{Trap, Reloc as Relocates, Unwind, CallSite, TryCallSite, PatchableCallSite, StackMap};
-    ghost use Rattle.mach_buffer.specs.declared.records.FinalizedRelocTarget.TheVariants.{Func};
-    ghost use Rattle.mach_buffer.specs.Reach.{island_margin, is_needed, due_by};
+    ghost use Rattle.mach_records.specs.Records.{finalized};
+    ghost use Rattle.mach_records.specs.declared.records.Event.TheVariants.{Trap, Reloc as Relocates, Unwind, CallSite, TryCallSite, PatchableCallSite, StackMap};
+    ghost use Rattle.mach_records.specs.declared.records.FinalizedRelocTarget.TheVariants.{Func};
+    ghost use Rattle.mach_uses.specs.Reach.{island_margin, is_needed, due_by};
     ghost use Rattle.mach_buffer.specs.Inside.{inside_of};
     ghost use Rattle.mach_buffer.specs.Buffer.{shape_of, bytes_of, uses_of, place_of, allocated_of, records_of, registered_of, named_of, constants_of, spoiled_of, pending_of, Unless, Takes, IsSound};
 
@@ -342,7 +339,7 @@ impl<L: MachInstLabelUse> MachBuffer<L> {
         ensures recorded { Takes result (with_record (Relocates kind (finalized (place_of self.old) target) addend)) self.old self.new }
         ensures sound { OnOk result (IsSound L.kinds self.new) }
     {
-        let target = self.finalized(target);
+        let target = finalized(target, self.labels.places());
         self.add_record(Event::Reloc(kind, target, addend))
     }
 
@@ -424,18 +421,6 @@ impl<L: MachInstLabelUse> MachBuffer<L> {
         self.add_record(Event::PatchableCallSite(len))
     }
 
-    /// A relocation's target: a label by its place.
-    fn finalized(&self, target: RelocTarget) -> FinalizedRelocTarget
-        ensures { result ≡ finalized (place_of self.now) target }
-    {
-        match target {
-            RelocTarget::Name(name) => FinalizedRelocTarget::ExternalName(name),
-            RelocTarget::Label(label) => {
-                FinalizedRelocTarget::Func(self.labels.place(label).unwrap_or(0))
-            }
-        }
-    }
-
     fn add_record(&mut self, event: Event) -> Result<(), OutOfMemory>
         requires sound { Unless (spoiled_of self.old) (IsSound L.kinds self.old) }
         ensures recorded { Takes result (with_record event) self.old self.new }
@@ -508,7 +493,7 @@ impl<L: MachInstLabelUse> MachBuffer<L> {
         requires sound { IsSound L.kinds self.now }
         ensures { result ≡ (nat_lt (allocated_of self.now) (inner_count / 2) && nat_lt (length (bytes_of self.now) + part + reserve_of (shape_of self.now) + 8 * length (pending_of L.kinds self.now) + island_margin + 2) code_limit) }
     {
-        if self.labels.allocated >= INNER_COUNT / 2 {
+        if self.labels.allocated() >= INNER_COUNT / 2 {
             return false;
         }
         let end = self.code.bytes.len() as u128 + part as u128 + self.reserve();

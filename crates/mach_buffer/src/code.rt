@@ -1,9 +1,10 @@
 //! The bytes of code, and the uses of labels among them.
 
-ghost use Rattle.std.specs.Prelude.{◌<◌, vec_len};
+ghost use Rattle.std.specs.Prelude.{◌≡◌, ◌+◌, ◌%◌, ◌<◌, vec_len, true};
 ghost use Rattle.rv_base.specs.LabelUse.{code_limit};
+ghost use Rattle.mach_buffer.specs.Shape.{veneer_use};
 
-use crate::uses::Use;
+use mach_uses::Use;
 use rv_base::{MachInstLabelUse, OutOfMemory};
 use std::alloc::Global;
 
@@ -69,21 +70,30 @@ impl<L: MachInstLabelUse> Code<L> {
         ensures bytes { OnOk result (IsSomeAnd (slice_get self.old.uses.items index) (λ u. self.new.bytes.items ≡ self.old.bytes.items ++ (L.kinds.veneer u.kind).bytes)) }
         ensures uses { OnOk result (IsSomeAnd (slice_get self.old.uses.items index) (λ u. self.new.uses.items ≡ slice_set self.old.uses.items index (record u { veneer = Some (length self.old.bytes.items) }) ++ veneer_use (L.kinds.veneer u.kind) (length self.old.bytes.items) u.label ∷ [])) }
     {
-        let u = self.uses[index];
         let at = self.bytes.len() as u32;
-        let mut code = [0; 8];
-        let (offset, kind) = u.kind.generate_veneer(&mut code, at);
-        self.bytes.extend_from_slice(&code)?;
-        self.uses[index] = Use {
-            veneer: Some(at),
-            ..u
-        };
-        self.uses.push(Use {
-            offset,
-            label: u.label,
-            kind,
-            veneer: None,
-        })?;
+        let (code, own) = veneer_at(&self.uses[index], at);
+        self.append(&code)?;
+        self.uses[index].veneer = Some(at);
+        self.record_use(own)?;
         Ok(())
     }
+}
+
+/// The veneer of a use that stands at `at`, and the veneer's own use.
+fn veneer_at<L: MachInstLabelUse>(u: &Use<L>, at: u32) -> ([u8; 8], Use<L>)
+    requires may { L.kinds.has_veneer u.now.kind ≡ true }
+    requires even { at % 2 ≡ 0 }
+    requires room { at + 8 < code_limit }
+    ensures bytes { result.0 ≡ (L.kinds.veneer u.now.kind).bytes }
+    ensures own { result.1 ≡ veneer_use (L.kinds.veneer u.now.kind) at u.now.label }
+{
+    let mut code = [0; 8];
+    let (offset, kind) = u.kind.generate_veneer(&mut code, at);
+    let own = Use {
+        offset,
+        label: u.label,
+        kind,
+        veneer: None,
+    };
+    (code, own)
 }

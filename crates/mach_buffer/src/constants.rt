@@ -4,7 +4,7 @@ ghost use Rattle.std.specs.Prelude.{◌≡◌, ◌<◌, ◌≤◌, ◌+◌, ℕ,
 ghost use Rattle.rv_base.specs.LabelUse.{code_limit};
 ghost use Rattle.mach_buffer.specs.Constants.{aligned_to as next_multiple, constant_end};
 
-use crate::records::ConstPlace;
+use mach_records::ConstPlace;
 use rv_base::{ConstAlign, Constant, List, OutOfMemory, VCodeConstant};
 use std::alloc::Global;
 
@@ -37,10 +37,8 @@ pub(crate) fn aligned_to(align: ConstAlign, offset: u64) -> u64
 fn copy_of(constant: &Constant, alloc: Global) -> Result<Constant, OutOfMemory>
     ensures { IfOk result (λ copy. copy ≡ constant.now) }
 {
-    let mut bytes = Vec::new(alloc);
-    bytes.extend_from_slice(constant.bytes.as_slice())?;
     Ok(Constant {
-        bytes: List::from_vec(bytes),
+        bytes: List::from_slice(alloc, constant.bytes.as_slice())?,
         align: constant.align,
     })
 }
@@ -58,7 +56,7 @@ fn end_of(registered: &[Constant], constant: VCodeConstant, offset: u64) -> u64
 
 impl Constants {
     ghost use Rattle.std.specs.Prelude.{◌≡◌, ◌<◌, ◌≤◌, [], drop, length, OnOk};
-    ghost use Rattle.mach_buffer.specs.Shape.{name_more};
+    ghost use Rattle.mach_uses.specs.Labels.{name_more};
     ghost use Rattle.mach_buffer.specs.Constants.{constants_end};
     ghost use Rattle.mach_buffer.specs.Inside.{AreNoted};
 

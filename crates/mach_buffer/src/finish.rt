@@ -3,13 +3,12 @@
 use crate::buffer::MachBuffer;
 use crate::code::Code;
 use crate::constants::Constants;
-use crate::labels::Labels;
 use crate::patches::patch_all;
-use crate::records::{
+use mach_records::{
     ConstPlace, MachPatchable, MachReloc, MachStackMap, MachTrap, MachTryCallSite, MachUnwind,
+    by_kind,
 };
-use crate::split::{calls_in, maps_in, patches_in, relocs_in, traps_in, tries_in, unwinds_in};
-use crate::uses::LabelPlace;
+use mach_uses::LabelPlace;
 use rv_base::{Constant, List, MachInstLabelUse, OutOfMemory};
 
 /// Patched code; where the labels below 2^30 stand, in order of binding; where the constants stand that it names, in order of
@@ -36,7 +35,7 @@ impl<L: MachInstLabelUse> MachBuffer<L> {
     ghost use Rattle.mach_buffer.specs.Islands.{aligned};
     ghost use Rattle.mach_buffer.specs.Finish.{padded_for, CanFinish, Finishes};
     ghost use Rattle.mach_buffer.specs.LastVeneers.{LastPut};
-    ghost use Rattle.mach_buffer.specs.Records.{calls_in, maps_in, offset_or_zero, patches_in, relocs_in, traps_in, tries_in, unwinds_in};
+    ghost use Rattle.mach_records.specs.Records.{calls_in, maps_in, offset_or_zero, patches_in, relocs_in, traps_in, tries_in, unwinds_in};
     ghost use Rattle.mach_buffer.specs.Buffer.{shape_of, bytes_of, labels_of, place_of, registered_of, records_of, spoiled_of, Unless, IsSound};
 
     /// Puts a veneer for each use that is pending, by deadline, then by place, then as recorded; then the constants that
@@ -75,7 +74,7 @@ impl<L: MachInstLabelUse> MachBuffer<L> {
         ensures stack_maps { IfOk result (λ f. f.stack_maps ≡ maps_in (records_of self)) }
         ensures unwinds { IfOk result (λ f. f.unwinds ≡ unwinds_in (records_of self)) }
     {
-        let tries = tries_in(&self.records, &self.labels, self.alloc)?;
+        let recorded = by_kind(&self.records, self.labels.places(), self.alloc)?;
         self.put_last()?;
         let MachBuffer {
             alloc,
@@ -88,11 +87,6 @@ impl<L: MachInstLabelUse> MachBuffer<L> {
         } = self;
         let Code { mut bytes, uses } = code;
         patch_all(&mut bytes, &uses, &labels);
-        let Labels {
-            table,
-            bound,
-            allocated,
-        } = labels;
         let Constants {
             registered,
             seen,
@@ -101,15 +95,15 @@ impl<L: MachInstLabelUse> MachBuffer<L> {
         } = constants;
         Ok(Finished {
             bytes: List::from_vec(bytes),
-            labels: List::from_vec(bound),
+            labels: List::from_vec(labels.into_bound()),
             constants: List::from_vec(placed),
-            relocs: List::from_vec(relocs_in(&records, alloc)?),
-            traps: List::from_vec(traps_in(&records, alloc)?),
-            call_sites: List::from_vec(calls_in(&records, alloc)?),
-            try_call_sites: List::from_vec(tries),
-            patchable_call_sites: List::from_vec(patches_in(&records, alloc)?),
-            stack_maps: List::from_vec(maps_in(&records, alloc)?),
-            unwinds: List::from_vec(unwinds_in(&records, alloc)?),
+            relocs: recorded.relocs,
+            traps: recorded.traps,
+            call_sites: recorded.call_sites,
+            try_call_sites: recorded.try_call_sites,
+            patchable_call_sites: recorded.patchable_call_sites,
+            stack_maps: recorded.stack_maps,
+            unwinds: recorded.unwinds,
         })
     }
 
@@ -134,9 +128,9 @@ impl<L: MachInstLabelUse> MachBuffer<L> {
         requires room { count ≢ 0 → aligned (length (bytes_of self.old)) < code_limit }
         ensures shape { OnOk result (shape_of self.new ≡ padded_for count (shape_of self.old)) }
     {
-        if count != 0 {
-            self.pad()?;
+        if count == 0 {
+            return Ok(());
         }
-        Ok(())
+        self.pad()
     }
 }

@@ -2,24 +2,25 @@
 
 use crate::buffer::MachBuffer;
 use crate::constants::aligned_to;
-use crate::reach::deadline;
-use crate::records::ConstPlace;
-use crate::uses::PendingKey;
+use mach_records::ConstPlace;
+use mach_uses::{PendingKey, deadline};
 use rv_base::{ConstAlign, MachInstLabelUse, MachLabel, OutOfMemory, VCodeConstant};
 
 impl<L: MachInstLabelUse> MachBuffer<L> {
     ghost use Rattle.std.specs.Prelude.{◌≡◌, ℕ, ◌+◌, ◌-◌, ◌*◌, ◌%◌, ◌<◌, ◌≤◌, [], length, map, OnOk, IsSomeAnd, Some, slice_get, true};
     ghost use Rattle.rv_base.specs.LabelUse.{code_limit};
-    ghost use Rattle.mach_buffer.specs.Shape.{Shape, with_label, inner_count};
+    ghost use Rattle.mach_buffer.specs.Shape.{Shape, with_label};
+    ghost use Rattle.mach_uses.specs.Labels.{inner_count};
     ghost use Rattle.mach_buffer.specs.Constants.{constant_end, end_after, put_constant, put_constants, AllStand};
     ghost use Rattle.mach_buffer.specs.Windows.{AreWindows};
-    ghost use Rattle.mach_buffer.specs.Reach.{deadline as last_of};
+    ghost use Rattle.mach_uses.specs.Reach.{deadline as last_of};
     ghost use Rattle.mach_buffer.specs.Veneers.{put_veneer as veneered, put_all};
     ghost use Rattle.mach_buffer.specs.Islands.{aligned, padded, needs_own as own_needed, with_own, CanIsland, Islanded, AddsOwn};
     ghost use Rattle.mach_buffer.specs.Inside.{inside_of, IsOrdered};
     ghost use Rattle.mach_buffer.specs.Growth.{Grows};
-    ghost use Rattle.mach_buffer.specs.Queues.{key_number};
-    ghost use Rattle.mach_buffer.specs.VeneerConditions.{CanPut, CanPutAll};
+    ghost use Rattle.mach_uses.specs.Queues.{key_number};
+    ghost use Rattle.mach_buffer.specs.VeneerConditions.{CanPutAll};
+    ghost use Rattle.mach_uses.specs.Order.{CanPut};
     ghost use Rattle.mach_buffer.specs.Buffer.{shape_of, bytes_of, uses_of, place_of, registered_of, spoiled_of, Unless, TakesAs, IsSound};
 
     /// Makes an island after its jump, whose four bytes stand last: zero bytes to a multiple of four, the jump's own veneer
@@ -146,7 +147,7 @@ impl<L: MachInstLabelUse> MachBuffer<L> {
     }
 
     /// Puts the veneers of uses in their order.
-    #[tactic(auto, using(crate::proofs::VeneersAndConstants::going_may, crate::proofs::VeneersAndConstants::going_room, crate::proofs::Lists::drop_mapped))]
+    #[tactic(auto, using(crate::proofs::VeneersAndConstants::going_may, crate::proofs::VeneersAndConstants::going_room, mach_uses::proofs::Lists::drop_mapped))]
     fn put_veneers(&mut self, order: &[PendingKey]) -> Result<(), OutOfMemory>
         requires can { CanPut L.kinds (uses_of self.old) (length (bytes_of self.old)) (map key_number order.now) }
         requires room { length (bytes_of self.old) + 8 * length order.now < code_limit }

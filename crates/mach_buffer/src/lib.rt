@@ -6,18 +6,12 @@ mod code;
 mod constants;
 mod finish;
 mod islands;
-mod labels;
 mod patches;
-mod pending;
-mod reach;
-mod records;
-mod split;
-mod uses;
 
 pub use buffer::MachBuffer;
 pub use finish::Finished;
-pub use records::{
+pub use mach_records::{
     ConstPlace, Event, FinalizedMachExceptionHandler, FinalizedRelocTarget, MachPatchable,
     MachRecord, MachReloc, MachStackMap, MachTrap, MachTryCallSite, MachUnwind,
 };
-pub use uses::{LabelPlace, Use};
+pub use mach_uses::{LabelPlace, Use};

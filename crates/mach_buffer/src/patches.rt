@@ -2,11 +2,11 @@
 
 ghost use Rattle.std.specs.Prelude.{◌≡◌, ◌-ℤ◌, pos, length};
 ghost use Rattle.rv_base.specs.LabelUse.{SameOutside};
-ghost use Rattle.mach_buffer.specs.Windows.{CanPatch, window, ChangesOnly, CanPatchAll, AllAim, AllKept, KeepsOthers, patch_of, patches_of};
-ghost use Rattle.mach_buffer.specs.Places.{place_in};
+ghost use Rattle.mach_buffer.specs.Windows.{CanPatch, ChangesOnly, CanPatchAll, AllAim, AllKept, KeepsOthers, patch_of, patches_of};
+ghost use Rattle.mach_uses.specs.Windows.{window};
+ghost use Rattle.mach_uses.specs.Places.{place_in};
 
-use crate::labels::Labels;
-use crate::uses::Use;
+use mach_uses::{Labels, Use};
 use rv_base::MachInstLabelUse;
 
 /// The window at `offset` is to aim at `target`.

@@ -13,7 +13,7 @@ use Rattle.rv_inst.specs.declared.label_use.LabelUse.{LabelUse}
 use Rattle.rv_inst.specs.LabelUse.{label_kinds}
 use Rattle.rv_inst.specs.Rules.{broken_rule}
 use Rattle.rv_inst.specs.Sizes.{Extent, Words, Island, After, Around, words_in, extent_of, line_space}
-use Rattle.mach_buffer.specs.declared.uses.Use.{Use}
+use Rattle.mach_uses.specs.declared.uses.Use.{Use}
 use Rattle.mach_buffer.specs.Buffer.{bytes_of, uses_of, place_of}
 use Rattle.mach_buffer.specs.Windows.{or_place}
 use Rattle.mach_buffer.proofs.Laws.{append_each, none_pending, bound_pending}

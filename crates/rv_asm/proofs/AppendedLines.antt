@@ -10,7 +10,7 @@ use Rattle.rv_inst.specs.Rules.{inst_rule, broken_rule}
 use Rattle.rv_base.specs.Regs.{number_of}
 use Rattle.rv_inst.specs.Sizes.{words_in, extent_of, line_space, table_space, return_size}
 use Rattle.mach_buffer.specs.Buffer.{shape_of, bytes_of}
-use Rattle.mach_buffer.specs.Reach.{CanReach}
+use Rattle.mach_uses.specs.Reach.{CanReach}
 use Rattle.rv_emit.specs.declared.state.EmitVState.{EmitVState}
 use Rattle.rv_emit.specs.Emitted.{Buffer, IsSoundBuffer, pending, IslandIfNeeded, Appends}
 use Rattle.rv_emit.specs.State.{setting_beyond}

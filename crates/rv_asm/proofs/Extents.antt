@@ -6,7 +6,7 @@ use Rattle.rv_base.specs.declared.flags.IsaFlags.{IsaFlags}
 use Rattle.rv_base.specs.Regs.{number_of}
 use Rattle.rv_base.specs.declared.constant.Constant.{Constant}
 use Rattle.mach_buffer.specs.Shape.{Shape}
-use Rattle.mach_buffer.specs.declared.records.ConstPlace.{ConstPlace}
+use Rattle.mach_records.specs.declared.records.ConstPlace.{ConstPlace}
 use Rattle.rv_inst.specs.Context.{Context}
 use Rattle.rv_inst.specs.Forms.{short_jalr}
 use Rattle.rv_inst.specs.Operands.{inst_constant}

@@ -10,7 +10,7 @@ use Rattle.rv_inst.specs.declared.code.Code.{Code}
 use Rattle.rv_inst.specs.Operands.{named_labels}
 use Rattle.rv_inst.specs.Rules.{broken_rule}
 use Rattle.mach_buffer.specs.Buffer.{shape_of, bytes_of, records_of}
-use Rattle.mach_buffer.specs.Records.{relocs_in, traps_in}
+use Rattle.mach_records.specs.Records.{relocs_in, traps_in}
 use Rattle.rv_machine.specs.State.{Memory}
 use Rattle.rv_inst.specs.Records.{IsTrapAt}
 use Rattle.rv_emit.specs.Images.{KeepsOutside, IsFilled}

@@ -1,7 +1,7 @@
 -- Code that was built and finished keeps what is promised of it.
 use Rattle.std.proofs.Common.{◌≡◌, None, ◌∙◌, ap, sym, subst, arith}
 use Rattle.std.specs.List.{AllByRecursion}
-use Rattle.mach_buffer.specs.Records.{unwinds_in}
+use Rattle.mach_records.specs.Records.{unwinds_in}
 use Rattle.rv_inst.specs.Context.{context_of}
 use Rattle.rv_inst.specs.declared.job.Job.{Job}
 use Rattle.rv_inst.specs.declared.code.Code.{Code}

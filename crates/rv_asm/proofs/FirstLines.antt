@@ -9,8 +9,8 @@ use Rattle.rv_inst.specs.declared.inst.Line.{Line}
 use Rattle.rv_inst.specs.declared.inst.Line.TheVariants.{Inst as Put, Bind}
 use Rattle.rv_inst.specs.declared.label_use.LabelUse.{LabelUse}
 use Rattle.rv_inst.specs.LabelUse.{label_kinds, has_veneer_of}
-use Rattle.mach_buffer.specs.declared.uses.Use.{Use}
-use Rattle.mach_buffer.specs.Reach.{is_reached, deadlines}
+use Rattle.mach_uses.specs.declared.uses.Use.{Use}
+use Rattle.mach_uses.specs.Reach.{is_reached, deadlines}
 use Rattle.mach_buffer.specs.Windows.{or_place}
 use Rattle.mach_buffer.proofs.Laws.{slice_get-append}
 use Rattle.rv_inst.specs.Uses.{uses_in}

@@ -12,9 +12,9 @@ use Rattle.rv_base.specs.declared.label.MachLabel.{MachLabel}
 use Rattle.rv_base.specs.declared.trap.TrapCode.{TrapCode}
 use Rattle.rv_base.specs.Frame.{sp_to_fp_of}
 use Rattle.mach_buffer.specs.Buffer.{place_of}
-use Rattle.mach_buffer.specs.Records.{finalized_handler, record_tries, tries_in, offset_or_zero}
-use Rattle.mach_buffer.specs.declared.records.FinalizedMachExceptionHandler.TheVariants as to
-use Rattle.mach_buffer.specs.declared.records.MachRecord.{MachRecord}
+use Rattle.mach_records.specs.Records.{finalized_handler, record_tries, tries_in, offset_or_zero}
+use Rattle.mach_records.specs.declared.records.FinalizedMachExceptionHandler.TheVariants as to
+use Rattle.mach_records.specs.declared.records.MachRecord.{MachRecord}
 use Rattle.rv_inst.specs.Context.{Context}
 use Rattle.rv_inst.specs.Operands.{handler_label, inst_labels, named_labels, try_labels}
 use Rattle.rv_inst.specs.Records.{access_records, patch_records, return_records, inst_records}
@@ -66,7 +66,7 @@ module _ (f g : ℕ → ℕ) where
 
   inst_agree : (context : Context) (start end : ℕ) (inst : Inst) → Agree (inst_labels inst) → tries_in f (inst_records context start end inst) ≡ tries_in g (inst_records context start end inst)
   inst_agree context start end (Load rd op flags from) h = access_agree _ flags.trap
-  inst_agree context start end (Store to op flags src) h = access_agree _ flags.trap
+  inst_agree context start end (Store src op flags to) h = access_agree _ flags.trap
   inst_agree context start end (Call info) h = return_agree context.frame _ info.stack_map info.try_call_info (patch_records info.patchable _ _) (own_agree info.try_call_info h) (patch_agree info.patchable _ _)
   inst_agree context start end (CallInd info) h =
       subst (λ rs. tries_in f rs ≡ tries_in g rs) (append-nil (return_records context.frame _ info.stack_map info.try_call_info))

@@ -11,14 +11,14 @@ use Rattle.rv_base.specs.declared.reloc.Reloc.{Reloc}
 use Rattle.rv_base.specs.declared.reloc.Reloc.TheVariants.{RiscvCallPlt, RiscvGotHi20, RiscvPCRelHi20, RiscvPCRelLo12I, Abs8}
 use Rattle.rv_base.specs.declared.external_name.ExternalName.{ExternalName}
 use Rattle.rv_base.specs.declared.trap.TrapCode.{TrapCode}
-use Rattle.mach_buffer.specs.Records.{relocs_in, traps_in, record_relocs, record_traps, event_relocs}
-use Rattle.mach_buffer.specs.Windows.{window, IsApart}
-use Rattle.mach_buffer.specs.declared.records.Event.{Event}
-use Rattle.mach_buffer.specs.declared.records.Event.TheVariants as event
-use Rattle.mach_buffer.specs.declared.records.FinalizedRelocTarget.{FinalizedRelocTarget}
-use Rattle.mach_buffer.specs.declared.records.FinalizedRelocTarget.TheVariants as target
-use Rattle.mach_buffer.specs.declared.records.MachRecord.{MachRecord}
-use Rattle.mach_buffer.specs.declared.records.MachReloc.{MachReloc}
+use Rattle.mach_records.specs.Records.{relocs_in, traps_in, record_relocs, record_traps, event_relocs}
+use Rattle.mach_uses.specs.Windows.{window, IsApart}
+use Rattle.mach_records.specs.declared.records.Event.{Event}
+use Rattle.mach_records.specs.declared.records.Event.TheVariants as event
+use Rattle.mach_records.specs.declared.records.FinalizedRelocTarget.{FinalizedRelocTarget}
+use Rattle.mach_records.specs.declared.records.FinalizedRelocTarget.TheVariants as target
+use Rattle.mach_records.specs.declared.records.MachRecord.{MachRecord}
+use Rattle.mach_records.specs.declared.records.MachReloc.{MachReloc}
 use Rattle.mach_buffer.specs.Shape.{Shape}
 use Rattle.mach_buffer.proofs.Laws.{locate, slice_get-append}
 use Rattle.rv_machine.specs.State.{Memory, byte, wrap, low64}

@@ -21,9 +21,10 @@ use Rattle.rv_inst.specs.declared.targets.Targets.TheVariants.{Nowhere, Jumps, B
 use Rattle.rv_inst.specs.Operands.{targets_of, table_of, labels_of as target_names, inst_labels, try_call_of, try_labels}
 use Rattle.rv_inst.specs.LabelUse.{label_kinds, has_veneer_of}
 use Rattle.rv_inst.specs.Sizes.{Extent, Words, Island, After, Around, extent_of, line_space}
-use Rattle.mach_buffer.specs.declared.uses.Use.{Use}
+use Rattle.mach_uses.specs.declared.uses.Use.{Use}
 use Rattle.mach_buffer.specs.Buffer.{bytes_of, uses_of, place_of, labels_of}
-use Rattle.mach_buffer.specs.Shape.{recorded, core, listed, constant_label}
+use Rattle.mach_buffer.specs.Shape.{recorded, core}
+use Rattle.mach_uses.specs.Labels.{listed, constant_label}
 use Rattle.mach_buffer.specs.Islands.{is_far}
 use Rattle.mach_buffer.proofs.Laws.{both_lists, comes_from, slice_get-append, slice_get-append_last, append_each, recorded_get}
 use Rattle.rv_emit.specs.Emitted.{Buffer, IsFarUse, AppendsSequence, AppendsInst, AppendsIsland, IslandIfNeeded, AppendsBy, Appends}

@@ -7,7 +7,7 @@ use Rattle.rv_inst.specs.declared.inst.Line.{Line}
 use Rattle.rv_inst.specs.Records.{inst_records}
 use Rattle.rv_inst.specs.Sizes.{Extent, Words, Island, After, Around, extent_of}
 use Rattle.mach_buffer.specs.Buffer.{bytes_of, records_of}
-use Rattle.mach_buffer.specs.declared.records.MachRecord.{MachRecord}
+use Rattle.mach_records.specs.declared.records.MachRecord.{MachRecord}
 use Rattle.rv_emit.specs.Emitted.{Buffer, IslandIfNeeded, AppendsBy, Appends}
 use Rattle.rv_asm.specs.Reported.{start_of, end_of, line_records, records_from}
 use Rattle.rv_asm.proofs.LabelNames.{start_more, end_more, start_last, end_last}

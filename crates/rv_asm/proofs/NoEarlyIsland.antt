@@ -9,7 +9,7 @@ use Rattle.rv_inst.specs.declared.code.LineSpan.{LineSpan}
 use Rattle.rv_inst.specs.declared.inst.Line.{Line}
 use Rattle.rv_inst.specs.declared.inst.Line.TheVariants.{Inst as Put, Bind}
 use Rattle.rv_inst.specs.Sizes.{Extent, Words, Island, After, Around, words_in, extent_of, line_space}
-use Rattle.mach_buffer.specs.Reach.{CanReach, is_needed, is_needed_from}
+use Rattle.mach_uses.specs.Reach.{CanReach, is_needed, is_needed_from}
 use Rattle.mach_buffer.specs.Buffer.{bytes_of}
 use Rattle.mach_buffer.proofs.Laws.{slice_get-append_last}
 use Rattle.rv_emit.proofs.Laws.{bytes_put, words_long, words_pending}

@@ -22,7 +22,7 @@ use Rattle.rv_inst.specs.Operands.{named_labels}
 use Rattle.rv_inst.specs.Rules.{first_of, broken_rule}
 use Rattle.rv_inst.specs.Sizes.{line_sum}
 use Rattle.rv_base.specs.declared.constant.Constant.{Constant}
-use Rattle.mach_buffer.specs.Shape.{inner_count}
+use Rattle.mach_uses.specs.Labels.{inner_count}
 use Rattle.rv_asm.specs.Refusal.{size_limit, constants_sum, lines_sum, malformed, broken_from, binds, is_bound, twice_of, twice_in, twice_from, unbound_among, unbound_in, size_sum, too_large, is_unfit, has_bad_frame, bad_frame, lines_refusal, refusal, Finds}
 
 -- What is looked for among the labels of a set is looked for among those that the lines bind.

@@ -8,10 +8,10 @@ use Rattle.rv_base.specs.declared.call.UserStackMap.{UserStackMap}
 use Rattle.rv_base.specs.declared.flags.IsaFlags.{IsaFlags}
 use Rattle.rv_base.specs.declared.frame.FrameLayout.{FrameLayout}
 use Rattle.rv_base.specs.declared.trap.TrapCode.{TrapCode}
-use Rattle.mach_buffer.specs.Records.{record_relocs, relocs_in}
-use Rattle.mach_buffer.specs.Windows.{IsApart}
-use Rattle.mach_buffer.specs.declared.records.MachRecord.{MachRecord}
-use Rattle.mach_buffer.specs.declared.records.MachReloc.{MachReloc}
+use Rattle.mach_records.specs.Records.{record_relocs, relocs_in}
+use Rattle.mach_uses.specs.Windows.{IsApart}
+use Rattle.mach_records.specs.declared.records.MachRecord.{MachRecord}
+use Rattle.mach_records.specs.declared.records.MachReloc.{MachReloc}
 use Rattle.mach_buffer.proofs.Laws.{locate}
 use Rattle.rv_inst.specs.Context.{Context}
 use Rattle.rv_inst.specs.Records.{access_records, patch_records, return_records, inst_records}
@@ -99,7 +99,7 @@ return_fill frame at (Some entries) t more from to h = site_fill frame at t more
 -- what an instruction's relocations fill stands where the instruction does
 inst_fill : (context : Context) (bytes : List ℕ) (inst : Inst) (start end : ℕ) → IsSized context.flags bytes (extent_of context inst) start end → FillInTurn (relocs_in (inst_records context start end inst)) start end
 inst_fill context bytes (Load rd op flags from) start end h = access_fill _ flags.trap start end (omega arith)
-inst_fill context bytes (Store to op flags src) start end h = access_fill _ flags.trap start end (omega arith)
+inst_fill context bytes (Store src op flags to) start end h = access_fill _ flags.trap start end (omega arith)
 inst_fill context bytes (LoadExtNameGot rd name) start end h = (omega arith, (omega arith, omega arith))
 inst_fill context bytes (LoadExtNameNear rd name offset) start end h = (omega arith, (omega arith, omega arith))
 inst_fill context bytes (LoadExtNameFar rd name offset) start end h = (omega arith, omega arith)

@@ -10,9 +10,9 @@ use Rattle.rv_base.specs.declared.regs.Reg.TheVariants.{Real, Virtual}
 use Rattle.rv_base.specs.declared.trap.TrapCode.{TrapCode}
 use Rattle.rv_base.specs.declared.unwind.UnwindInst.{UnwindInst}
 use Rattle.rv_base.specs.declared.unwind.UnwindInst.TheVariants.{PushFrameRegs, DefineNewFrame, StackAlloc, SaveReg}
-use Rattle.mach_buffer.specs.Records.{record_unwinds, unwinds_in}
-use Rattle.mach_buffer.specs.declared.records.MachRecord.{MachRecord}
-use Rattle.mach_buffer.specs.declared.records.MachUnwind.{MachUnwind}
+use Rattle.mach_records.specs.Records.{record_unwinds, unwinds_in}
+use Rattle.mach_records.specs.declared.records.MachRecord.{MachRecord}
+use Rattle.mach_records.specs.declared.records.MachUnwind.{MachUnwind}
 use Rattle.rv_inst.specs.Context.{Context}
 use Rattle.rv_inst.specs.Operands.{inst_registers}
 use Rattle.rv_inst.specs.Records.{access_records, patch_records, return_records, inst_records}
@@ -56,7 +56,7 @@ return_saves frame at (Some entries) t more h = site_saves frame at t more h
 
 inst_saves : (context : Context) (start end : ℕ) (inst : Inst) → inst_rule context inst ≡ None → AllByRecursion SavesReal (unwinds_in (inst_records context start end inst))
 inst_saves context start end (Load rd op flags from) rule = access_saves _ flags.trap
-inst_saves context start end (Store to op flags src) rule = access_saves _ flags.trap
+inst_saves context start end (Store src op flags to) rule = access_saves _ flags.trap
 inst_saves context start end (Call info) rule = return_saves context.frame _ info.stack_map info.try_call_info (patch_records info.patchable _ _) (patch_saves info.patchable _ _)
 inst_saves context start end (CallInd info) rule =
     subst (λ rs. AllByRecursion SavesReal (unwinds_in rs)) (append-nil (return_records context.frame _ info.stack_map info.try_call_info))

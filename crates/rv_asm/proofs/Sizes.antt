@@ -12,7 +12,7 @@ use Rattle.rv_inst.specs.declared.inst.Inst.{Inst}
 use Rattle.rv_inst.specs.declared.inst.Line.{Line}
 use Rattle.rv_inst.specs.declared.inst.Line.TheVariants.{Inst as Put, Bind}
 use Rattle.rv_inst.specs.LabelUse.{label_kinds}
-use Rattle.mach_buffer.specs.Reach.{CanReach, HasSlack, deadlines, due_by}
+use Rattle.mach_uses.specs.Reach.{CanReach, HasSlack, deadlines, due_by}
 use Rattle.mach_buffer.specs.Buffer.{shape_of, bytes_of, uses_of, place_of, allocated_of, registered_of}
 use Rattle.mach_buffer.specs.Constants.{reserve_from, reserve_of}
 use Rattle.mach_buffer.proofs.Laws.{slack_same, slack_from_reach, reach_from_slack, total, due_total, reserve_other}
@@ -23,7 +23,7 @@ use Rattle.rv_emit.proofs.Laws.{pending_at, bytes_put, words_long, words_pending
 use Rattle.rv_inst.specs.Sizes.{Extent, Words, Island, After, Around, space_in, words_in, extent_of, line_space, inst_sum, line_sum}
 use Rattle.rv_inst.specs.Operands.{inst_ways}
 use Rattle.rv_inst.specs.declared.label_use.LabelUse.{LabelUse}
-use Rattle.mach_buffer.specs.declared.uses.Use.{Use}
+use Rattle.mach_uses.specs.declared.uses.Use.{Use}
 use Rattle.rv_asm.specs.Refusal.{constants_sum, lines_sum, size_sum}
 use Rattle.rv_asm.specs.LinesInBuffer.{Sized, BindPut}
 use Rattle.rv_asm.proofs.AppendedLines.{InstAppends, LineAppends}

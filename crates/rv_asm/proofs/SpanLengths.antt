@@ -14,10 +14,10 @@ use Rattle.rv_inst.specs.declared.code.Code.{Code}
 use Rattle.rv_inst.specs.LabelUse.{label_kinds}
 use Rattle.rv_inst.specs.Sizes.{Extent, Words, Island, After, Around, space_in, words_in, extent_of, line_sum}
 use Rattle.rv_inst.specs.Rules.{broken_rule}
-use Rattle.mach_buffer.specs.declared.records.ConstPlace.{ConstPlace}
-use Rattle.mach_buffer.specs.declared.records.MachReloc.{MachReloc}
+use Rattle.mach_records.specs.declared.records.ConstPlace.{ConstPlace}
+use Rattle.mach_records.specs.declared.records.MachReloc.{MachReloc}
 use Rattle.mach_buffer.specs.Buffer.{shape_of, bytes_of, place_of, records_of, constants_of}
-use Rattle.mach_buffer.specs.Records.{relocs_in, traps_in, calls_in, tries_in, patches_in, maps_in, unwinds_in, offset_or_zero}
+use Rattle.mach_records.specs.Records.{relocs_in, traps_in, calls_in, tries_in, patches_in, maps_in, unwinds_in, offset_or_zero}
 use Rattle.rv_inst.specs.Operands.{named_labels}
 use Rattle.mach_buffer.specs.Constants.{HasConstants}
 use Rattle.rv_emit.specs.NewConstants.{AddsConstants}

@@ -22,13 +22,13 @@ use Rattle.rv_inst.specs.Operands.{targets_of, ways_of, ways_by, inst_ways, inst
 use Rattle.rv_inst.specs.Sizes.{extent_of}
 use Rattle.rv_inst.specs.declared.targets.Targets.{Targets}
 use Rattle.rv_inst.specs.declared.targets.Targets.TheVariants.{Nowhere, Jumps, Branches, Refers, RefersConstant}
-use Rattle.mach_buffer.specs.Shape.{constant_label}
+use Rattle.mach_uses.specs.Labels.{constant_label}
 use Rattle.rv_inst.specs.LabelUse.{label_kinds, has_veneer_of, forward_of}
 use Rattle.rv_inst.specs.declared.error.Rule.TheVariants as rule_of
 use Rattle.rv_inst.proofs.Rules.{breaks_none}
 use Rattle.rv_inst.specs.Rules.{inst_rule, is_buffer_label}
-use Rattle.mach_buffer.specs.declared.uses.Use.{Use}
-use Rattle.mach_buffer.specs.Reach.{deadline, deadlines, due_by, is_needed, is_needed_from, is_reached, island_front}
+use Rattle.mach_uses.specs.declared.uses.Use.{Use}
+use Rattle.mach_uses.specs.Reach.{deadline, deadlines, due_by, is_needed, is_needed_from, is_reached, island_front}
 use Rattle.mach_buffer.specs.Buffer.{shape_of, bytes_of, uses_of, place_of}
 use Rattle.mach_buffer.proofs.Laws.{both_lists, deadlines_append, due_le_length}
 use Rattle.rv_emit.specs.Emitted.{Buffer, pending}

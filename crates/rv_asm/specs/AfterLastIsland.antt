@@ -7,8 +7,8 @@ use Rattle.rv_inst.specs.declared.inst.Line.{Line}
 use Rattle.rv_inst.specs.declared.label_use.LabelUse.{LabelUse}
 use Rattle.rv_inst.specs.LabelUse.{label_kinds}
 use Rattle.rv_inst.specs.Rules.{broken_rule}
-use Rattle.mach_buffer.specs.declared.uses.Use.{Use}
-use Rattle.mach_buffer.specs.Reach.{is_pending}
+use Rattle.mach_uses.specs.declared.uses.Use.{Use}
+use Rattle.mach_uses.specs.Reach.{is_pending}
 use Rattle.mach_buffer.specs.Buffer.{uses_of, place_of}
 use Rattle.rv_emit.specs.Emitted.{Buffer}
 use Rattle.rv_asm.specs.Reach.{first_after_island, uses_from, bound_by}

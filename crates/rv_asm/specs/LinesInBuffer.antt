@@ -17,10 +17,10 @@ use Rattle.rv_inst.specs.declared.label_use.LabelUse.{LabelUse}
 use Rattle.rv_inst.specs.Operands.{named_labels}
 use Rattle.rv_inst.specs.Rules.{broken_rule}
 use Rattle.rv_inst.specs.LabelUse.{label_kinds, has_veneer_of}
-use Rattle.mach_buffer.specs.declared.uses.Use.{Use}
-use Rattle.mach_buffer.specs.Reach.{CanReach, due_by}
+use Rattle.mach_uses.specs.declared.uses.Use.{Use}
+use Rattle.mach_uses.specs.Reach.{CanReach, due_by}
 use Rattle.mach_buffer.specs.Buffer.{shape_of, bytes_of, uses_of, place_of, labels_of, allocated_of, records_of, registered_of, named_of, constants_of}
-use Rattle.mach_buffer.specs.Shape.{listed}
+use Rattle.mach_uses.specs.Labels.{listed}
 use Rattle.mach_buffer.specs.Constants.{reserve_of, AllStand}
 use Rattle.mach_buffer.specs.Islands.{is_far}
 use Rattle.rv_emit.specs.Emitted.{Buffer, IsSoundBuffer, HasWindows, pending, IslandIfNeeded}

@@ -7,10 +7,10 @@ use Rattle.std.specs.Ordering.{nat_cmp}
 use Rattle.rv_base.specs.LabelUse.{SameOutside}
 use Rattle.rv_base.specs.declared.reloc.Reloc.{Reloc}
 use Rattle.rv_base.specs.declared.reloc.Reloc.TheVariants.{RiscvCallPlt, RiscvGotHi20, RiscvPCRelHi20, RiscvPCRelLo12I, Abs8}
-use Rattle.mach_buffer.specs.declared.records.FinalizedRelocTarget.{FinalizedRelocTarget}
-use Rattle.mach_buffer.specs.declared.records.FinalizedRelocTarget.TheVariants.{ExternalName, Func}
-use Rattle.mach_buffer.specs.declared.records.MachReloc.{MachReloc}
-use Rattle.mach_buffer.specs.Windows.{window}
+use Rattle.mach_records.specs.declared.records.FinalizedRelocTarget.{FinalizedRelocTarget}
+use Rattle.mach_records.specs.declared.records.FinalizedRelocTarget.TheVariants.{ExternalName, Func}
+use Rattle.mach_records.specs.declared.records.MachReloc.{MachReloc}
+use Rattle.mach_uses.specs.Windows.{window}
 use Rattle.rv_machine.specs.State.{Memory, byte, wrap, low64}
 use Rattle.rv_inst.specs.Addresses.{is_splittable}
 use Rattle.rv_inst.specs.declared.code.Code.{Code}

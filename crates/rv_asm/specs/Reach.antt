@@ -10,8 +10,8 @@ use Rattle.rv_inst.specs.declared.code.LineSpan.{LineSpan}
 use Rattle.rv_inst.specs.declared.label_use.LabelUse.{LabelUse}
 use Rattle.rv_inst.specs.Operands.{line_ways}
 use Rattle.rv_inst.specs.LabelUse.{label_kinds, has_veneer_of}
-use Rattle.mach_buffer.specs.declared.uses.Use.{Use}
-use Rattle.mach_buffer.specs.Reach.{is_reached, deadlines, CanReach, island_front}
+use Rattle.mach_uses.specs.declared.uses.Use.{Use}
+use Rattle.mach_uses.specs.Reach.{is_reached, deadlines, CanReach, island_front}
 use Rattle.rv_inst.specs.Sizes.{line_space, Extent, Words, Island, After, Around, extent_of}
 use Rattle.rv_inst.specs.Uses.{uses_in, least_reach}
 use Rattle.rv_asm.specs.Reported.{start_of, end_of, end_before}

@@ -1,7 +1,7 @@
 -- The registers that steps in the making of a frame save are the machine's: a link of the proof.
 use Rattle.rv_base.specs.declared.unwind.UnwindInst.{UnwindInst}
 use Rattle.rv_base.specs.declared.unwind.UnwindInst.TheVariants.{PushFrameRegs, DefineNewFrame, StackAlloc, SaveReg}
-use Rattle.mach_buffer.specs.declared.records.MachUnwind.{MachUnwind}
+use Rattle.mach_records.specs.declared.records.MachUnwind.{MachUnwind}
 use Rattle.rv_listing.specs.CodeRanges.{IsOfMachine}
 
 abbrev pub StepSaves : UnwindInst → Type 0

@@ -25,8 +25,9 @@ use Rattle.rv_inst.specs.declared.label_use.LabelUse.{LabelUse}
 use Rattle.rv_inst.specs.LabelUseWords.{word_bytes}
 use Rattle.rv_inst.specs.Uses.{use_at}
 use Rattle.mach_buffer.specs.Buffer.{shape_of, bytes_of}
-use Rattle.mach_buffer.specs.declared.records.Event.TheVariants as event
-use Rattle.mach_buffer.specs.Shape.{with_bytes, with_use, with_record, with_named, constant_label}
+use Rattle.mach_records.specs.declared.records.Event.TheVariants as event
+use Rattle.mach_buffer.specs.Shape.{with_bytes, with_use, with_record, with_named}
+use Rattle.mach_uses.specs.Labels.{constant_label}
 use Rattle.rv_emit.specs.Emitted.{Buffer, IsSoundBuffer}
 use Rattle.rv_emit.specs.Emission.{PutsAlone}
 use Rattle.rv_emit.specs.Immediates.{upper_of, lower_of}

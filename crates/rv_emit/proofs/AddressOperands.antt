@@ -109,7 +109,7 @@ load_kept frame rd op flags from k =
     let all = are_usable (rd.reg ∷ registers_of from) k.real k.placed k.free in
     record { usable = all.0; based = usable_at frame from all.1; real = real_at frame rd.reg from all.0 k.counted }
 
-pub store_kept : (frame : FrameLayout) (to : AMode) (op : StoreOP) (flags : MemFlagsData) (src : Reg) → Keeps (Store to op flags src) → IsUsable src × IsUsableAt (location_of frame to)
+pub store_kept : (frame : FrameLayout) (to : AMode) (op : StoreOP) (flags : MemFlagsData) (src : Reg) → Keeps (Store src op flags to) → IsUsable src × IsUsableAt (location_of frame to)
 store_kept frame to op flags src k = let all = are_usable (src ∷ registers_of to) k.real k.placed k.free in (all.0, usable_at frame to all.1)
 
 pub record LoadAddrKept (frame : FrameLayout) (rd : Writable Reg) (mem : AMode) : Type 0 where
@@ -131,7 +131,7 @@ label_address_kept dst label k = let usable = (are_usable (dst.reg ∷ []) k.rea
 pub load_fine : (constants : List Constant) (rd : Writable Reg) (op : LoadOP) (flags : MemFlagsData) (from : AMode) → Keeps (Load rd op flags from) → lacks_constant constants (Load rd op flags from) ≡ false → IsFine constants (Load rd op flags from)
 load_fine constants rd op flags from k there = let all = are_usable (rd.reg ∷ registers_of from) k.real k.placed k.free in (all.0.0, fine_address constants (load_size op) from all.1 k.ranged k.listed there)
 
-pub store_fine : (constants : List Constant) (to : AMode) (op : StoreOP) (flags : MemFlagsData) (src : Reg) → Keeps (Store to op flags src) → lacks_constant constants (Store to op flags src) ≡ false → IsFine constants (Store to op flags src)
+pub store_fine : (constants : List Constant) (to : AMode) (op : StoreOP) (flags : MemFlagsData) (src : Reg) → Keeps (Store src op flags to) → lacks_constant constants (Store src op flags to) ≡ false → IsFine constants (Store src op flags to)
 store_fine constants to op flags src k there = let all = are_usable (src ∷ registers_of to) k.real k.placed k.free in (all.0.0, fine_address constants 0 to all.1 k.ranged k.listed there)
 
 pub load_addr_fine : (constants : List Constant) (rd : Writable Reg) (mem : AMode) → Keeps (LoadAddr rd mem) → lacks_constant constants (LoadAddr rd mem) ≡ false → IsFine constants (LoadAddr rd mem)

@@ -20,7 +20,7 @@ use Rattle.rv_machine.specs.State.{Memory, State, IsState, Values, byte, reg, se
 use Rattle.rv_encode.specs.Operations.{decoded, load_op, decoded_load}
 use Rattle.rv_inst.specs.Addresses.{Location, Based, AtLabel, AtConstant, is_near, is_splittable}
 use Rattle.rv_inst.specs.declared.label_use.LabelUse.TheVariants.{PCRelHi20}
-use Rattle.mach_buffer.specs.Shape.{constant_label}
+use Rattle.mach_uses.specs.Labels.{constant_label}
 use Rattle.rv_inst.specs.LabelUse.{marks_of}
 use Rattle.rv_inst.specs.Meaning.{Environment, address_at}
 use Rattle.rv_emit.specs.Chains.{Goes, IsAt}

@@ -23,10 +23,10 @@ use Rattle.rv_inst.specs.declared.label_use.LabelUse.{LabelUse}
 use Rattle.rv_inst.specs.declared.label_use.LabelUse.TheVariants.{Jal20, B12, PCRelLo12I, RVCJump}
 use Rattle.rv_inst.specs.declared.targets.Targets.{Targets}
 use Rattle.rv_inst.specs.declared.targets.Targets.TheVariants.{Nowhere, Jumps, Branches, Refers, RefersConstant}
-use Rattle.mach_buffer.specs.declared.uses.Use.{Use}
+use Rattle.mach_uses.specs.declared.uses.Use.{Use}
 use Rattle.mach_buffer.specs.Buffer.{bytes_of, place_of}
-use Rattle.mach_buffer.specs.Reach.{AllOf, deadline, deadlines}
-use Rattle.mach_buffer.specs.Shape.{constant_label}
+use Rattle.mach_uses.specs.Reach.{AllOf, deadline, deadlines}
+use Rattle.mach_uses.specs.Labels.{constant_label}
 use Rattle.rv_emit.specs.Emitted.{Buffer, pending, AppendsInst, AppendsBy, Appends, IslandAsked, IsBounded}
 use Rattle.rv_emit.proofs.CallAppends.{words_pending}
 use Rattle.rv_emit.proofs.PlainSlots.{words_long}

@@ -18,9 +18,9 @@ use Rattle.rv_inst.specs.declared.inst.Inst.TheVariants.{Call, CallInd}
 use Rattle.rv_inst.specs.declared.label_use.LabelUse.{LabelUse}
 use Rattle.rv_inst.specs.declared.targets.Targets.TheVariants.{Nowhere}
 use Rattle.mach_buffer.specs.Buffer.{bytes_of, uses_of, place_of}
-use Rattle.mach_buffer.specs.Reach.{CanReach, HasSlack, deadline, deadlines, is_needed}
-use Rattle.mach_buffer.specs.declared.records.MachRecord.{MachRecord}
-use Rattle.mach_buffer.specs.declared.uses.Use.{Use}
+use Rattle.mach_uses.specs.Reach.{CanReach, HasSlack, deadline, deadlines, is_needed}
+use Rattle.mach_records.specs.declared.records.MachRecord.{MachRecord}
+use Rattle.mach_uses.specs.declared.uses.Use.{Use}
 use Rattle.mach_buffer.proofs.Laws.{deadlines_append, slack_less, slack_not_needed, reach_from_slack}
 use Rattle.rv_emit.specs.Emitted.{Buffer, pending, AppendsBy, AppendsAround, AppendsWords}
 use Rattle.rv_emit.proofs.CallSlots.{call_few, results_few}

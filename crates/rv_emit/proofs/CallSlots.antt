@@ -10,9 +10,9 @@ use Rattle.rv_base.specs.declared.regs.Reg.{Reg}
 use Rattle.rv_base.specs.Regs.{number_of}
 use Rattle.rv_base.specs.Frame.{sp_to_fp_of}
 use Rattle.std.specs.Prelude.{is_some, count_by, if◌then◌else◌}
-use Rattle.mach_buffer.specs.declared.records.Event.TheVariants as event
-use Rattle.mach_buffer.specs.declared.records.MachRecord.{MachRecord}
-use Rattle.mach_buffer.specs.declared.uses.Use.{Use}
+use Rattle.mach_records.specs.declared.records.Event.TheVariants as event
+use Rattle.mach_records.specs.declared.records.MachRecord.{MachRecord}
+use Rattle.mach_uses.specs.declared.uses.Use.{Use}
 use Rattle.mach_buffer.specs.Buffer.{bytes_of, allocated_of}
 use Rattle.mach_buffer.specs.Shape.{Shape}
 use Rattle.rv_base.specs.declared.constant.VCodeConstant.{VCodeConstant}

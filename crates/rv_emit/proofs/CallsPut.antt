@@ -16,8 +16,8 @@ use Rattle.rv_inst.specs.declared.inst.Inst.{Inst}
 use Rattle.rv_inst.specs.declared.inst.Inst.TheVariants.{Call, CallInd}
 use Rattle.mach_buffer.specs.Buffer.{shape_of, bytes_of, allocated_of}
 use Rattle.mach_buffer.specs.Constants.{reserve_of, reserve_from}
-use Rattle.mach_buffer.specs.Reach.{CanReach, is_needed}
-use Rattle.mach_buffer.specs.declared.records.MachRecord.{MachRecord}
+use Rattle.mach_uses.specs.Reach.{CanReach, is_needed}
+use Rattle.mach_records.specs.declared.records.MachRecord.{MachRecord}
 use Rattle.rv_emit.specs.Emission.{PutsAlone, PutsParts}
 use Rattle.rv_emit.specs.Emitted.{Buffer, IsSoundBuffer, AppendsWords, pending}
 use Rattle.rv_emit.specs.InstParts.{return_notes, after_call, patch_notes, try_slots, stack_load_slots, call_to, call_slots, call_ind_slots, loading_parts}

@@ -11,10 +11,10 @@ use Rattle.mach_buffer.specs.Buffer.{shape_of, bytes_of, uses_of}
 use Rattle.mach_buffer.specs.Growth.{RecordsLast}
 use Rattle.mach_buffer.specs.Shape.{Shape}
 use Rattle.mach_buffer.specs.Windows.{AllEnd}
-use Rattle.mach_buffer.specs.declared.records.Event.{Event}
-use Rattle.mach_buffer.specs.declared.records.Event.TheVariants.{Trap, Reloc, Unwind, CallSite, TryCallSite, PatchableCallSite, StackMap}
-use Rattle.mach_buffer.specs.declared.records.MachRecord.{MachRecord}
-use Rattle.mach_buffer.specs.declared.uses.Use.{Use}
+use Rattle.mach_records.specs.declared.records.Event.{Event}
+use Rattle.mach_records.specs.declared.records.Event.TheVariants.{Trap, Reloc, Unwind, CallSite, TryCallSite, PatchableCallSite, StackMap}
+use Rattle.mach_records.specs.declared.records.MachRecord.{MachRecord}
+use Rattle.mach_uses.specs.declared.uses.Use.{Use}
 use Rattle.mach_buffer.proofs.Laws.{append_each, recorded_at}
 use Rattle.rv_emit.specs.Emitted.{Buffer, AppendsIsland}
 use Rattle.rv_emit.specs.Images.{EndsWithin, IsClear, AllClear, FieldsEnd, FieldsStand}

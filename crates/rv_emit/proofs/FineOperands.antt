@@ -40,7 +40,7 @@ fine context inst e = kept inst (keeps context inst e) (breaks_none context inst
     kept (Extend rd rn signed from_bits to_bits) k there = extend_fine rd rn signed from_bits to_bits k
     kept (Select info) k there = select_fine info.dst info.condition info.x info.y k
     kept (Load rd op flags from) k there = load_fine context.constants rd op flags from k there
-    kept (Store to op flags src) k there = store_fine context.constants to op flags src k there
+    kept (Store src op flags to) k there = store_fine context.constants to op flags src k there
     kept (LoadAddr rd mem) k there = load_addr_fine context.constants rd mem k there
     kept (LabelAddress dst label) k there = label_address_fine context.constants dst label k
     kept Ret k there = tt
@@ -52,9 +52,9 @@ fine context inst e = kept inst (keeps context inst e) (breaks_none context inst
     kept (BrTable index tmp1 tmp2 targets) k there = table_fine index tmp1 tmp2 targets k
     kept (Udf code) k there = tt
     kept (Jalr rd base offset) k there = let all = are_usable (rd.reg ∷ base ∷ []) k.real k.placed k.free in (all.0.0, all.1.0.0)
-    kept (Popcnt sum tmp step rs type) k there = let all = are_usable (sum.reg ∷ tmp.reg ∷ step.reg ∷ rs ∷ []) k.real k.placed k.free in (all.0.0, all.1.0.0, all.1.1.0.0, all.1.1.1.0.0, not_false (is_int_type type) k.typed)
-    kept (Cltz sum tmp step rs leading type) k there = zeros_fine sum tmp step rs leading type k
-    kept (Brev8 rs type step tmp tmp2 rd) k there = reverse_fine rs type step tmp tmp2 rd k
+    kept (Popcnt info) k there = let all = are_usable (info.sum.reg ∷ info.tmp.reg ∷ info.step.reg ∷ info.rs ∷ []) k.real k.placed k.free in (all.0.0, all.1.0.0, all.1.1.0.0, all.1.1.1.0.0, not_false (is_int_type info.ty) k.typed)
+    kept (Cltz leading info) k there = zeros_fine info.sum info.tmp info.step info.rs leading info.ty k
+    kept (Brev8 info) k there = reverse_fine info.rs info.ty info.step info.tmp info.tmp2 info.rd k
     kept (StackProbeLoop guard_size probe_count tmp) k there = probe_fine guard_size probe_count tmp k
     kept (LoadExtNameGot rd name) k there = (are_usable (rd.reg ∷ []) k.real k.placed k.free).0.0
     kept (LoadExtNameNear rd name offset) k there = (are_usable (rd.reg ∷ []) k.real k.placed k.free).0.0

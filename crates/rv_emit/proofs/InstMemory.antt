@@ -20,7 +20,7 @@ use Rattle.rv_machine.specs.Memory.{load_result, store_bytes}
 use Rattle.rv_encode.specs.Operations.{load_op, store_op, decoded_load, decoded_store}
 use Rattle.rv_inst.specs.Forms.{short_load, short_store}
 use Rattle.rv_inst.specs.Addresses.{Location, Based, AtLabel, AtConstant, location_of, is_near}
-use Rattle.mach_buffer.specs.Shape.{constant_label}
+use Rattle.mach_uses.specs.Labels.{constant_label}
 use Rattle.rv_inst.specs.Meaning.{Next, AreOutside, address_at, addresses_from, put_bytes}
 use Rattle.rv_inst.specs.SameValues.{SameBut}
 use Rattle.rv_inst.specs.declared.inst.Inst.TheVariants.{Load, Store, LoadAddr, LabelAddress}
@@ -243,7 +243,7 @@ store_out {site} {start} {after} {s} {v} op src (Based r o) trap usable based = 
 store_out op src (AtLabel l) trap usable based = λ e clear. store_far_out op src (AtLabel l) trap usable tt e clear
 store_out op src (AtConstant k) trap usable based = λ e clear. store_far_out op src (AtConstant k) trap usable tt e clear
 
-pub store_runs : (site : Site) (setting : EmitVState) (to : AMode) (op : StoreOP) (flags : MemFlagsData) (src : Reg) → IsUsable src → IsUsableAt (location_of site.context.frame to) → RunsIn site setting (Store to op flags src)
+pub store_runs : (site : Site) (setting : EmitVState) (to : AMode) (op : StoreOP) (flags : MemFlagsData) (src : Reg) → IsUsable src → IsUsableAt (location_of site.context.frame to) → RunsIn site setting (Store src op flags to)
 store_runs site setting to op flags src h based = record {
   run = λ start after s v e clear.
       let env = environment site start after in

@@ -1,10 +1,8 @@
 -- Every instruction that breaks no rule runs as it means.
 use Rattle.std.proofs.Common.{◌≡◌, ℕ, false, [], ◌∷◌, None, subst, arith}
+use Rattle.rv_inst.specs.declared.inst.CountInfo.{CountInfo}
 use Rattle.rv_inst.specs.declared.inst.Inst.{Inst}
 use Rattle.rv_inst.specs.declared.inst.Inst.TheVariants.{Nop0, Nop4, EBreak, SequencePoint, Args, Rets, DummyUse, EmitIsland, RawData, Lui, Auipc, LoadInlineConst, AluRRR, AluRRImm12, Mov, MovFromPReg, Extend, Select, Load, Store, LoadAddr, LabelAddress, Ret, TrapIf, Jal, CondBr, BrTable, Udf, Jalr, Popcnt, Cltz, Brev8, StackProbeLoop, LoadExtNameGot, LoadExtNameNear, LoadExtNameFar, Call, CallInd, ReturnCall, ReturnCallInd, Unwind}
-use Rattle.rv_base.specs.declared.ir_type.IrType.{IrType}
-use Rattle.rv_base.specs.declared.regs.Reg.{Reg}
-use Rattle.rv_base.specs.declared.regs.Writable.{Writable}
 use Rattle.rv_inst.specs.Frames.{is_bad_frame_for}
 use Rattle.rv_inst.specs.Operands.{tail_call_of}
 use Rattle.rv_inst.specs.Rules.{is_zero, inst_rule}
@@ -44,8 +42,8 @@ island_runs site setting needed_space = record {
   run = λ start after s v e clear. gap_out start (subst (GapIn site start) e.stands.2 e.stands.1) e.pc (starts_beside [] e);
 }
 
-count_runs : (site : Site) (setting : EmitVState) (sum tmp step : Writable Reg) (rs : Reg) (type : IrType) → Keeps (Popcnt sum tmp step rs type) → RunsIn site setting (Popcnt sum tmp step rs type)
-count_runs site setting sum tmp step rs type k = popcnt_runs site setting sum tmp step rs type (is_count sum tmp step rs type (are_usable (sum.reg ∷ tmp.reg ∷ step.reg ∷ rs ∷ []) k.real k.placed k.free) k.counted k.apart k.typed)
+count_runs : (site : Site) (setting : EmitVState) (info : CountInfo) → Keeps (Popcnt info) → RunsIn site setting (Popcnt info)
+count_runs site setting info k = popcnt_runs site setting info (is_count info.sum info.tmp info.step info.rs info.ty (are_usable (info.sum.reg ∷ info.tmp.reg ∷ info.step.reg ∷ info.rs ∷ []) k.real k.placed k.free) k.counted k.apart k.typed)
 
 kept_runs : (site : Site) (setting : EmitVState) (inst : Inst) → Keeps inst → is_bad_frame_for site.context.frame (tail_call_of inst) ≡ false → RunsIn site setting inst
 kept_runs site setting Nop0 k r = record { run = λ start after s v e clear. nothing_out e.stands e }
@@ -67,7 +65,7 @@ kept_runs site setting (MovFromPReg rd rm) k r = let both = preg_usable rd rm k 
 kept_runs site setting (Extend rd rn signed from_bits to_bits) k r = extend_runs site setting rd rn signed from_bits to_bits k
 kept_runs site setting (Select info) k r = select_runs site setting info k
 kept_runs site setting (Load rd op flags from) k r = let a = load_kept site.context.frame rd op flags from k in load_runs site setting rd op flags from a.usable a.based a.real
-kept_runs site setting (Store to op flags src) k r = let a = store_kept site.context.frame to op flags src k in store_runs site setting to op flags src a.0 a.1
+kept_runs site setting (Store src op flags to) k r = let a = store_kept site.context.frame to op flags src k in store_runs site setting to op flags src a.0 a.1
 kept_runs site setting (LoadAddr rd mem) k r = let a = load_addr_kept site.context.frame rd mem k in load_addr_runs site setting rd mem a.usable a.real a.based a.apart
 kept_runs site setting (LabelAddress dst label) k r = let a = label_address_kept dst label k in label_address_runs site setting dst label a.0 a.1
 kept_runs site setting Ret k r = ret_runs site setting
@@ -77,9 +75,9 @@ kept_runs site setting (CondBr t f kind) k r = let all = are_usable (kind.rs1 �
 kept_runs site setting (BrTable index tmp1 tmp2 targets) k r = table_runs site setting index tmp1 tmp2 targets k
 kept_runs site setting (Udf code) k r = udf_runs site setting code
 kept_runs site setting (Jalr rd base offset) k r = let all = are_usable (rd.reg ∷ base ∷ []) k.real k.placed k.free in jalr_runs site setting rd base offset all.0 all.1.0
-kept_runs site setting (Popcnt sum tmp step rs type) k r = count_runs site setting sum tmp step rs type k
-kept_runs site setting (Cltz sum tmp step rs leading type) k r = zeros_runs site setting sum tmp step rs leading type k
-kept_runs site setting (Brev8 rs type step tmp tmp2 rd) k r = reverse_runs site setting rs type step tmp tmp2 rd k
+kept_runs site setting (Popcnt info) k r = count_runs site setting info k
+kept_runs site setting (Cltz leading info) k r = zeros_runs site setting leading info k
+kept_runs site setting (Brev8 info) k r = reverse_runs site setting info k
 kept_runs site setting (StackProbeLoop guard_size probe_count tmp) k r = probe_runs site setting guard_size probe_count tmp k
 kept_runs site setting (LoadExtNameGot rd name) k r = let h = (are_usable (rd.reg ∷ []) k.real k.placed k.free).0 in got_runs site setting rd name h (not_zero rd.reg h (or_left (is_zero rd.reg) false k.counted))
 kept_runs site setting (LoadExtNameNear rd name offset) k r = let h = (are_usable (rd.reg ∷ []) k.real k.placed k.free).0 in near_runs site setting rd name offset h (not_zero rd.reg h (or_left (is_zero rd.reg) false k.counted))

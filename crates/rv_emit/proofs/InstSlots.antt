@@ -19,6 +19,7 @@ use Rattle.rv_ops.specs.declared.compare.IntegerCompare.{IntegerCompare}
 use Rattle.rv_inst.specs.Context.{Context}
 use Rattle.rv_machine.specs.Arithmetic.{low_word}
 use Rattle.rv_inst.specs.Rules.{is_word_type, inst_rule}
+use Rattle.rv_inst.specs.declared.inst.CountInfo.{CountInfo}
 use Rattle.rv_inst.specs.declared.inst.Inst.{Inst}
 use Rattle.rv_inst.specs.declared.inst.Inst.TheVariants.{Nop0, Nop4, EBreak, SequencePoint, Args, Rets, DummyUse, EmitIsland, RawData, Lui, Auipc, LoadInlineConst, AluRRR, AluRRImm12, Mov, MovFromPReg, Extend, Select, Load, Store, LoadAddr, LabelAddress, Ret, TrapIf, Jal, CondBr, BrTable, Udf, Jalr, Popcnt, Cltz, Brev8, StackProbeLoop, LoadExtNameGot, LoadExtNameNear, LoadExtNameFar, Call, CallInd, ReturnCall, ReturnCallInd, Unwind}
 use Rattle.rv_inst.specs.declared.inst.CondBrTarget.{CondBrTarget}
@@ -27,9 +28,9 @@ use Rattle.rv_inst.specs.Sizes.{Words, extent_of, island_space, move_size, count
 use Rattle.rv_inst.specs.Uses.{use_at, uses_in}
 use Rattle.rv_inst.specs.declared.label_use.LabelUse.{LabelUse}
 use Rattle.rv_inst.specs.declared.label_use.LabelUse.TheVariants.{B12}
-use Rattle.mach_buffer.specs.declared.uses.Use.{Use}
+use Rattle.mach_uses.specs.declared.uses.Use.{Use}
 use Rattle.mach_buffer.specs.Buffer.{shape_of, bytes_of, place_of, allocated_of}
-use Rattle.mach_buffer.specs.Reach.{is_reached}
+use Rattle.mach_uses.specs.Reach.{is_reached}
 use Rattle.rv_base.specs.declared.constant.VCodeConstant.{VCodeConstant}
 use Rattle.rv_inst.specs.Operands.{inst_constant, named_by}
 use Rattle.rv_inst.specs.Records.{inst_records}
@@ -145,11 +146,11 @@ trap_if_appends context cmp code old new s (mid, p, same) = subst (AppendsInst c
     branch : Use LabelUse
     branch = use_at (length (bytes_of old)) (own_label (allocated_of old) 0) B12
 
-counts : (context : Context) (sum tmp step : Writable Reg) (rs : Reg) (type : IrType) → IsSummed context (Popcnt sum tmp step rs type) (count_slots context.flags (number_of sum.reg) (number_of tmp.reg) (number_of step.reg) (number_of rs) (bits_of type))
-counts context sum tmp step rs type = record {
+counts : (context : Context) (info : CountInfo) → IsSummed context (Popcnt info) (count_slots context.flags (number_of info.sum.reg) (number_of info.tmp.reg) (number_of info.step.reg) (number_of info.rs) (bits_of info.ty))
+counts context info = record {
   plain = tt;
-  long = let jump = jump_len context.flags (pos 0 -ℤ pos (turn_size context.flags Srli (number_of sum.reg) (number_of tmp.reg) (number_of step.reg) (number_of rs))) in
-      let e : count_size context.flags (number_of sum.reg) (number_of tmp.reg) (number_of step.reg) (number_of rs) (bits_of type) ≡ size_of (count_slots context.flags (number_of sum.reg) (number_of tmp.reg) (number_of step.reg) (number_of rs) (bits_of type)) = omega arith in
+  long = let jump = jump_len context.flags (pos 0 -ℤ pos (turn_size context.flags Srli (number_of info.sum.reg) (number_of info.tmp.reg) (number_of info.step.reg) (number_of info.rs))) in
+      let e : count_size context.flags (number_of info.sum.reg) (number_of info.tmp.reg) (number_of info.step.reg) (number_of info.rs) (bits_of info.ty) ≡ size_of (count_slots context.flags (number_of info.sum.reg) (number_of info.tmp.reg) (number_of info.step.reg) (number_of info.rs) (bits_of info.ty)) = omega arith in
       ap Words e;
   uses = λ allocated start. refl;
   records = λ start. refl;
@@ -177,7 +178,7 @@ appends_inst context setting (MovFromPReg rd rm) old new rule s asks p = summed 
 appends_inst context setting (Extend rd rn signed from_bits to_bits) old new rule s asks p = summed context (Extend rd rn signed from_bits to_bits) _ old new refl (extend_summed context rd rn signed from_bits to_bits) context.flags p
 appends_inst context setting (Select info) old new rule s asks p = summed context (Select info) _ old new refl (select_summed context info) context.flags p
 appends_inst context setting (Load rd op flags from) old new rule s asks p = summed context (Load rd op flags from) _ old new refl (load_summed context rd op flags from) context.flags p
-appends_inst context setting (Store to op flags src) old new rule s asks p = summed context (Store to op flags src) _ old new refl (store_summed context to op flags src) context.flags p
+appends_inst context setting (Store src op flags to) old new rule s asks p = summed context (Store src op flags to) _ old new refl (store_summed context to op flags src) context.flags p
 appends_inst context setting (LoadAddr rd mem) old new rule s asks p = summed context (LoadAddr rd mem) _ old new refl (load_addr_summed context rd mem) context.flags p
 appends_inst context setting (LabelAddress dst label) old new rule s asks p = summed context (LabelAddress dst label) _ old new refl (label_address_summed context dst label) context.flags p
 appends_inst context setting Ret old new rule s asks p = summed context Ret _ old new refl (one context Ret _ refl (λ start end. refl) (λ start end. refl) (λ named. refl)) context.flags p
@@ -187,9 +188,9 @@ appends_inst context setting (CondBr taken not_taken kind) old new rule s asks p
 appends_inst context setting (BrTable index tmp1 tmp2 targets) old new rule s asks p = absurd (cc)
 appends_inst context setting (Udf code) old new rule s asks p = summed context (Udf code) _ old new refl (trap context code) context.flags p
 appends_inst context setting (Jalr rd base offset) old new rule s asks p = summed context (Jalr rd base offset) _ old new refl (one context (Jalr rd base offset) _ refl (λ start end. refl) (λ start end. refl) (λ named. refl)) context.flags p
-appends_inst context setting (Popcnt sum tmp step rs type) old new rule s asks p = summed context (Popcnt sum tmp step rs type) _ old new refl (counts context sum tmp step rs type) context.flags p
-appends_inst context setting (Cltz sum tmp step rs leading type) old new rule s asks p = summed context (Cltz sum tmp step rs leading type) _ old new refl (zeros_summed context sum tmp step rs leading type) context.flags p
-appends_inst context setting (Brev8 rs type step tmp tmp2 rd) old new rule s asks p = summed context (Brev8 rs type step tmp tmp2 rd) _ old new refl (reverse_summed context rs type step tmp tmp2 rd) context.flags p
+appends_inst context setting (Popcnt info) old new rule s asks p = summed context (Popcnt info) _ old new refl (counts context info) context.flags p
+appends_inst context setting (Cltz leading info) old new rule s asks p = summed context (Cltz leading info) _ old new refl (zeros_summed context leading info) context.flags p
+appends_inst context setting (Brev8 info) old new rule s asks p = summed context (Brev8 info) _ old new refl (reverse_summed context info) context.flags p
 appends_inst context setting (StackProbeLoop guard_size probe_count tmp) old new rule s asks p = summed context (StackProbeLoop guard_size probe_count tmp) _ old new refl (probe_summed context guard_size probe_count tmp) context.flags p
 appends_inst context setting (LoadExtNameGot rd name) old new rule s asks p = summed context (LoadExtNameGot rd name) _ old new refl (got_summed context rd name) context.flags p
 appends_inst context setting (LoadExtNameNear rd name offset) old new rule s asks p = summed context (LoadExtNameNear rd name offset) _ old new refl (near_summed context rd name offset) context.flags p
@@ -272,7 +273,7 @@ parts_are_self_contained context setting (MovFromPReg rd rm) rule = (move_contai
 parts_are_self_contained context setting (Extend rd rn signed from_bits to_bits) rule = (extend_contained context.flags (number_of rd.reg) (number_of rn) signed from_bits, tt)
 parts_are_self_contained context setting (Select info) rule = (select_contained context.flags info.dst info.condition info.x info.y, tt)
 parts_are_self_contained context setting (Load rd op flags from) rule = (load_contained context.flags (number_of rd.reg) op flags.trap (location_of context.frame from), tt)
-parts_are_self_contained context setting (Store to op flags src) rule = (store_contained context.flags op (number_of src) flags.trap (location_of context.frame to), tt)
+parts_are_self_contained context setting (Store src op flags to) rule = (store_contained context.flags op (number_of src) flags.trap (location_of context.frame to), tt)
 parts_are_self_contained context setting (LoadAddr rd mem) rule = (address_contained context.flags (number_of rd.reg) (location_of context.frame mem), tt)
 parts_are_self_contained context setting (LabelAddress dst label) rule = (address_contained context.flags (number_of dst.reg) (AtLabel label), tt)
 parts_are_self_contained context setting Ret rule = (op_contained (short_jalr context.flags 0 1 (pos 0)) (jalr_sized context.flags 0 1 (pos 0)), tt)
@@ -282,9 +283,9 @@ parts_are_self_contained context setting (CondBr taken not_taken kind) rule = (b
 parts_are_self_contained context setting (BrTable index tmp1 tmp2 targets) rule = (table_contained context.flags (number_of index) (number_of tmp1.reg) (number_of tmp2.reg) targets, tt)
 parts_are_self_contained context setting (Udf code) rule = ((trap_even context.flags, tt), tt)
 parts_are_self_contained context setting (Jalr rd base offset) rule = (op_contained (short_jalr context.flags (number_of rd.reg) (number_of base) offset.value) (jalr_sized context.flags (number_of rd.reg) (number_of base) offset.value), tt)
-parts_are_self_contained context setting (Popcnt sum tmp step rs type) rule = (count_contained context.flags (number_of sum.reg) (number_of tmp.reg) (number_of step.reg) (number_of rs) (bits_of type), tt)
-parts_are_self_contained context setting (Cltz sum tmp step rs leading type) rule = (zeros_contained context.flags leading (number_of sum.reg) (number_of tmp.reg) (number_of step.reg) (number_of rs) (bits_of type), tt)
-parts_are_self_contained context setting (Brev8 rs type step tmp tmp2 rd) rule = (reverse_contained context.flags (number_of rd.reg) (number_of tmp.reg) (number_of tmp2.reg) (number_of step.reg) (number_of rs) (bits_of type), tt)
+parts_are_self_contained context setting (Popcnt info) rule = (count_contained context.flags (number_of info.sum.reg) (number_of info.tmp.reg) (number_of info.step.reg) (number_of info.rs) (bits_of info.ty), tt)
+parts_are_self_contained context setting (Cltz leading info) rule = (zeros_contained context.flags leading (number_of info.sum.reg) (number_of info.tmp.reg) (number_of info.step.reg) (number_of info.rs) (bits_of info.ty), tt)
+parts_are_self_contained context setting (Brev8 info) rule = (reverse_contained context.flags (number_of info.rd.reg) (number_of info.tmp.reg) (number_of info.tmp2.reg) (number_of info.step.reg) (number_of info.rs) (bits_of info.ty), tt)
 parts_are_self_contained context setting (StackProbeLoop guard_size probe_count tmp) rule = (probe_contained context.flags (number_of tmp.reg) (low_word guard_size) (low_word probe_count), tt)
 parts_are_self_contained context setting (LoadExtNameGot rd name) rule = (tt, tt)
 parts_are_self_contained context setting (LoadExtNameNear rd name offset) rule = (tt, tt)

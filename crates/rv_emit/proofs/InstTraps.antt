@@ -20,7 +20,7 @@ use Rattle.rv_emit.specs.Usable.{IsUsable}
 use Rattle.rv_emit.specs.Slots.{Own, size_of, between}
 use Rattle.rv_emit.specs.Sites.{Site, BytesAt}
 use Rattle.rv_inst.specs.Records.{IsRecorded}
-use Rattle.mach_buffer.specs.declared.records.Event.TheVariants as event
+use Rattle.mach_records.specs.declared.records.Event.TheVariants as event
 use Rattle.rv_emit.specs.InstParts.{slots_alone, trap_bytes, trap_slots, trap_if_slots, complement}
 use Rattle.rv_emit.specs.InstRuns.{Enters, ComesOut, RunsIn}
 use Rattle.rv_emit.specs.Chains.{Goes, IsAt, IsBeside}

@@ -10,8 +10,8 @@ use Rattle.rv_inst.specs.declared.label_use.LabelUse.TheVariants.{Jal20}
 use Rattle.rv_inst.specs.LabelUse.{label_kinds}
 use Rattle.rv_inst.specs.LabelUseWords.{word_bytes}
 use Rattle.rv_base.specs.LabelUse.{code_limit, Kinds}
-use Rattle.mach_buffer.specs.declared.uses.Use.{Use}
-use Rattle.mach_buffer.specs.Reach.{CanReach, deadline, deadlines, is_pending, is_other}
+use Rattle.mach_uses.specs.declared.uses.Use.{Use}
+use Rattle.mach_uses.specs.Reach.{CanReach, deadline, deadlines, is_pending, is_other}
 use Rattle.mach_buffer.specs.Buffer.{shape_of, bytes_of, uses_of, place_of, allocated_of, registered_of}
 use Rattle.mach_buffer.specs.Shape.{Shape, IsUsable}
 use Rattle.mach_buffer.specs.Constants.{end_after, reserve_from, reserve_of}

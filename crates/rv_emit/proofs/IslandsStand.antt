@@ -14,11 +14,11 @@ use Rattle.rv_inst.specs.declared.label_use.LabelUse.{LabelUse}
 use Rattle.rv_inst.specs.declared.label_use.LabelUse.TheVariants.{Jal20}
 use Rattle.rv_inst.specs.LabelUse.{label_kinds, veneer_of}
 use Rattle.rv_inst.specs.Uses.{use_at}
-use Rattle.mach_buffer.specs.declared.uses.Use.{Use}
+use Rattle.mach_uses.specs.declared.uses.Use.{Use}
 use Rattle.mach_buffer.specs.Shape.{Shape}
 use Rattle.mach_buffer.specs.Finish.{IsVia}
 use Rattle.mach_buffer.specs.Growth.{Lasts}
-use Rattle.mach_buffer.specs.Windows.{window}
+use Rattle.mach_uses.specs.Windows.{window}
 use Rattle.mach_buffer.specs.Pieces.{ByVeneer, UseFinished}
 use Rattle.mach_buffer.proofs.Laws.{lasts_more}
 use Rattle.rv_emit.specs.InstParts.{wide_jump_to}

@@ -7,11 +7,11 @@ use Rattle.rv_inst.specs.declared.label_use.LabelUse.{LabelUse}
 use Rattle.rv_inst.specs.declared.label_use.LabelUse.TheVariants.{Jal20}
 use Rattle.rv_inst.specs.LabelUse.{label_kinds}
 use Rattle.rv_inst.specs.LabelUseWords.{word_bytes}
-use Rattle.mach_buffer.specs.declared.uses.Use.{Use}
+use Rattle.mach_uses.specs.declared.uses.Use.{Use}
 use Rattle.mach_buffer.specs.Buffer.{shape_of, bytes_of, uses_of, place_of, labels_of, allocated_of, records_of, registered_of}
 use Rattle.mach_buffer.specs.Constants.{end_after, AllStand}
 use Rattle.mach_buffer.specs.Shape.{with_allocated, with_bytes, with_use}
-use Rattle.mach_buffer.specs.Reach.{deadline}
+use Rattle.mach_uses.specs.Reach.{deadline}
 use Rattle.mach_buffer.specs.Islands.{CanIsland, Islanded, others_of, aligned, island_end, first_of, AddsOwn}
 use Rattle.mach_buffer.specs.Windows.{AreWindows}
 use Rattle.mach_buffer.specs.Growth.{Grows}

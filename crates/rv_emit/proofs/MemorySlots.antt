@@ -21,10 +21,10 @@ use Rattle.rv_machine.specs.declared.decoding.Decoded.{Decoded}
 use Rattle.rv_machine.specs.declared.ops.MOp.TheVariants.{Base}
 use Rattle.rv_machine.specs.declared.ops.BaseOp.TheVariants as base
 use Rattle.rv_machine.specs.State.{low64}
-use Rattle.mach_buffer.specs.declared.records.Event.{Event}
-use Rattle.mach_buffer.specs.declared.records.Event.TheVariants as event
-use Rattle.mach_buffer.specs.declared.records.MachRecord.{MachRecord}
-use Rattle.mach_buffer.specs.declared.uses.Use.{Use}
+use Rattle.mach_records.specs.declared.records.Event.{Event}
+use Rattle.mach_records.specs.declared.records.Event.TheVariants as event
+use Rattle.mach_records.specs.declared.records.MachRecord.{MachRecord}
+use Rattle.mach_uses.specs.declared.uses.Use.{Use}
 use Rattle.rv_encode.specs.Operations.{decoded, decoded_load, decoded_store}
 use Rattle.rv_ops.specs.Memory.{load_size}
 use Rattle.rv_inst.specs.Addresses.{Location, Based, AtLabel, AtConstant, location_of, is_near, is_splittable, inline_size, far_size, far_address_size, address_size, load_size_at, store_size_at, load_own_size, store_own_size}
@@ -34,7 +34,7 @@ use Rattle.rv_inst.specs.declared.label_use.LabelUse.{LabelUse}
 use Rattle.rv_inst.specs.declared.label_use.LabelUse.TheVariants.{PCRelHi20, PCRelLo12I}
 use Rattle.rv_inst.specs.Operands.{address_targets, constant_named, inst_constant, named_by}
 use Rattle.rv_base.specs.declared.constant.VCodeConstant.{VCodeConstant}
-use Rattle.mach_buffer.specs.Shape.{constant_label}
+use Rattle.mach_uses.specs.Labels.{constant_label}
 use Rattle.rv_inst.specs.Sizes.{Words, extent_of}
 use Rattle.rv_inst.specs.Records.{access_records, inst_records}
 use Rattle.rv_inst.specs.Uses.{use_at, uses_in, target_uses}
@@ -262,7 +262,7 @@ same_uses flags frame read (Label l) start end = refl
 pub load_summed : (context : Context) (rd : Writable Reg) (op : LoadOP) (flags : MemFlagsData) (from : AMode) → IsSummed context (Load rd op flags from) (load_slots context.flags (number_of rd.reg) op flags.trap (location_of context.frame from))
 load_summed context rd op flags from = summed_by (loaded context.flags (number_of rd.reg) op flags.trap (location_of context.frame from)) refl (same_uses context.flags context.frame (load_size op) from) (λ start end. refl) (same_constant context.frame (load_size op) from)
 
-pub store_summed : (context : Context) (to : AMode) (op : StoreOP) (flags : MemFlagsData) (src : Reg) → IsSummed context (Store to op flags src) (store_slots context.flags op (number_of src) flags.trap (location_of context.frame to))
+pub store_summed : (context : Context) (to : AMode) (op : StoreOP) (flags : MemFlagsData) (src : Reg) → IsSummed context (Store src op flags to) (store_slots context.flags op (number_of src) flags.trap (location_of context.frame to))
 store_summed context to op flags src = summed_by (stored context.flags op (number_of src) flags.trap (location_of context.frame to)) refl (same_uses context.flags context.frame 0 to) (λ start end. refl) (same_constant context.frame 0 to)
 
 pub load_addr_summed : (context : Context) (rd : Writable Reg) (mem : AMode) → IsSummed context (LoadAddr rd mem) (address_slots context.flags (number_of rd.reg) (location_of context.frame mem))

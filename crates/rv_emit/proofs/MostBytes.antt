@@ -209,7 +209,7 @@ words_within context (MovFromPReg rd rm) rule small = move_short context.flags _
 words_within context (Extend rd rn signed from_bits to_bits) rule small = extend_short context.flags (number_of rd.reg) (number_of rn) signed from_bits
 words_within context (Select info) rule small = select_short context.flags info.dst info.x info.y
 words_within context (Load rd op flags from) rule small = load_short context.flags op (number_of rd.reg) (location_of context.frame from)
-words_within context (Store to op flags src) rule small = store_short context.flags op (number_of src) (location_of context.frame to)
+words_within context (Store src op flags to) rule small = store_short context.flags op (number_of src) (location_of context.frame to)
 words_within context (LoadAddr rd mem) rule small = address_short context.flags (number_of rd.reg) (location_of context.frame mem)
 words_within context (LabelAddress dst label) rule small = omega arith
 words_within context Ret rule small = (jalr_sized context.flags 0 1 (pos 0)).few
@@ -219,9 +219,9 @@ words_within context (CondBr t f kind) rule small = branch_short context.flags t
 words_within context (BrTable index tmp1 tmp2 targets) rule small = let some = (fine context (BrTable index tmp1 tmp2 targets) rule).4 in let short = table_short context.flags (number_of index) (number_of tmp2.reg) (length targets) some (omega arith) in omega arith
 words_within context (Udf code) rule small = least_few context.flags
 words_within context (Jalr rd base offset) rule small = (jalr_sized context.flags (number_of rd.reg) (number_of base) offset.value).few
-words_within context (Popcnt sum tmp step rs type) rule small = count_short context.flags (number_of sum.reg) (number_of tmp.reg) (number_of step.reg) (number_of rs) (bits_of type)
-words_within context (Cltz sum tmp step rs leading type) rule small = zeros_short context.flags leading (number_of sum.reg) (number_of tmp.reg) (number_of step.reg) (number_of rs) (bits_of type)
-words_within context (Brev8 rs type step tmp tmp2 rd) rule small = reverse_short context.flags (number_of rd.reg) (number_of tmp.reg) (number_of tmp2.reg) (number_of step.reg) (number_of rs) (bits_of type)
+words_within context (Popcnt info) rule small = count_short context.flags (number_of info.sum.reg) (number_of info.tmp.reg) (number_of info.step.reg) (number_of info.rs) (bits_of info.ty)
+words_within context (Cltz leading info) rule small = zeros_short context.flags leading (number_of info.sum.reg) (number_of info.tmp.reg) (number_of info.step.reg) (number_of info.rs) (bits_of info.ty)
+words_within context (Brev8 info) rule small = reverse_short context.flags (number_of info.rd.reg) (number_of info.tmp.reg) (number_of info.tmp2.reg) (number_of info.step.reg) (number_of info.rs) (bits_of info.ty)
 words_within context (StackProbeLoop guard_size probe_count tmp) rule small = probe_short context.flags (number_of tmp.reg) (low_word guard_size) (low_word probe_count)
 words_within context (LoadExtNameGot rd name) rule small = omega arith
 words_within context (LoadExtNameNear rd name offset) rule small = omega arith
@@ -249,6 +249,6 @@ most_counts context (CondBr t f kind) = let few = branch_ways t f in omega (arit
 most_counts context (ReturnCall info) = let few = restores_few context.frame in omega (arith, few)
 most_counts context (ReturnCallInd info) = let few = restores_few context.frame in omega (arith, few)
 most_counts context (Load rd op flags from) = let none = address_ways (load_size op) from in omega (arith, none)
-most_counts context (Store to op flags src) = let none = address_ways 0 to in omega (arith, none)
+most_counts context (Store src op flags to) = let none = address_ways 0 to in omega (arith, none)
 most_counts context (LoadAddr rd mem) = let none = address_ways 0 mem in omega (arith, none)
 most_counts context inst = omega arith

@@ -9,8 +9,8 @@ use Rattle.rv_base.specs.declared.constant.ConstAlign.TheVariants.{A1, A2, A4, A
 use Rattle.rv_base.specs.declared.constant.Constant.{Constant}
 use Rattle.rv_base.specs.declared.constant.VCodeConstant.{VCodeConstant}
 use Rattle.rv_base.specs.declared.label.MachLabel.{MachLabel}
-use Rattle.mach_buffer.specs.declared.records.ConstPlace.{ConstPlace}
-use Rattle.mach_buffer.specs.declared.uses.Use.{Use}
+use Rattle.mach_records.specs.declared.records.ConstPlace.{ConstPlace}
+use Rattle.mach_uses.specs.declared.uses.Use.{Use}
 use Rattle.mach_buffer.specs.Shape.{Shape, with_bytes, unplaced_of}
 use Rattle.mach_buffer.specs.Constants.{zeros, aligned_to, put_constant_at, put_constant, put_each, put_constants}
 use Rattle.mach_buffer.specs.Veneers.{put_at, put_veneer, put_all}

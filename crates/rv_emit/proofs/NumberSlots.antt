@@ -2,8 +2,8 @@
 use Rattle.std.proofs.Common.{ℕ, ◌+◌, ◌≤◌, Bool, true, false, List, ◌++◌, None, ℤ, subst, arith, append-nil}
 use Rattle.std.specs.Prelude.{if◌then◌else◌}
 use Rattle.rv_base.specs.declared.flags.IsaFlags.{IsaFlags}
-use Rattle.mach_buffer.specs.declared.records.MachRecord.{MachRecord}
-use Rattle.mach_buffer.specs.declared.uses.Use.{Use}
+use Rattle.mach_records.specs.declared.records.MachRecord.{MachRecord}
+use Rattle.mach_uses.specs.declared.uses.Use.{Use}
 use Rattle.rv_ops.specs.declared.alu.AluOPRRI.TheVariants.{Addi}
 use Rattle.rv_inst.specs.declared.label_use.LabelUse.{LabelUse}
 use Rattle.rv_inst.specs.Addresses.{far_size}

@@ -77,7 +77,7 @@ module _ (site : Site) (start : ℕ) (d : Decoded) where
   has_operation setting (Extend rd rn signed from_bits to_bits) after e p = near_address p.0 (is_byte signed from_bits) _ _ e p.1
   has_operation setting (Select info) after e p = absurd (cc)
   has_operation setting (Load rd op flags from) after e p = loads site.context.flags p.0 op (number_of rd.reg) flags.trap (location_of site.context.frame from) e p.1
-  has_operation setting (Store to op flags src) after e p = stores site.context.flags p.0 op (number_of src) flags.trap (location_of site.context.frame to) e p.1
+  has_operation setting (Store src op flags to) after e p = stores site.context.flags p.0 op (number_of src) flags.trap (location_of site.context.frame to) e p.1
   has_operation setting (LoadAddr rd mem) after e p = addresses site.context.flags p.0 (number_of rd.reg) (location_of site.context.frame mem) e p.1
   has_operation setting (LabelAddress dst label) after e p = absurd (cc)
   has_operation setting Ret after e p = alone p.0 _ e p.1
@@ -87,9 +87,9 @@ module _ (site : Site) (start : ℕ) (d : Decoded) where
   has_operation setting (BrTable index tmp1 tmp2 targets) after e p = absurd (cc)
   has_operation setting (Udf code) after e p = absurd (cc)
   has_operation setting (Jalr rd base offset) after e p = alone p.0 _ e p.1
-  has_operation setting (Popcnt sum tmp step rs type) after e p = absurd (cc)
-  has_operation setting (Cltz sum tmp step rs leading type) after e p = absurd (cc)
-  has_operation setting (Brev8 rs type step tmp tmp2 rd) after e p = absurd (cc)
+  has_operation setting (Popcnt info) after e p = absurd (cc)
+  has_operation setting (Cltz leading info) after e p = absurd (cc)
+  has_operation setting (Brev8 info) after e p = absurd (cc)
   has_operation setting (StackProbeLoop guard_size probe_count tmp) after e p = absurd (cc)
   has_operation setting (LoadExtNameGot rd name) after e p = absurd (cc)
   has_operation setting (LoadExtNameNear rd name offset) after e p = absurd (cc)

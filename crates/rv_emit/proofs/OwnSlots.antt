@@ -8,7 +8,8 @@ use Rattle.rv_base.specs.declared.label.MachLabel.{MachLabel}
 use Rattle.mach_labels.specs.Table.{first_inner}
 use Rattle.rv_inst.specs.declared.label_use.LabelUse.{LabelUse}
 use Rattle.rv_inst.specs.LabelUse.{label_kinds}
-use Rattle.mach_buffer.specs.Shape.{Shape, IsUsable, inner_count, placed, with_label, with_allocated}
+use Rattle.mach_buffer.specs.Shape.{Shape, IsUsable, with_label, with_allocated}
+use Rattle.mach_uses.specs.Labels.{inner_count, placed}
 use Rattle.mach_buffer.specs.Buffer.{shape_of, bytes_of, place_of, allocated_of, records_of}
 use Rattle.mach_buffer.proofs.Laws.{few_allocated, use_usable, placed_same, placed_other}
 use Rattle.rv_emit.specs.Emitted.{Buffer, IsSoundBuffer, AppendsSequence}

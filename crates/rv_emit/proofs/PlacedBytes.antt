@@ -5,7 +5,7 @@ use Rattle.std.proofs.lemmas.List.{get_or-take, get_or-drop, length-take, length
 use Rattle.rv_machine.specs.State.{Memory, byte, wrap}
 use Rattle.rv_machine.specs.Steps.{fetch}
 use Rattle.rv_inst.specs.LabelUseWords.{word_at}
-use Rattle.mach_buffer.specs.Windows.{window}
+use Rattle.mach_uses.specs.Windows.{window}
 use Rattle.rv_emit.specs.Sites.{BytesAt}
 use Rattle.rv_emit.specs.Puts.{AllBytes}
 

@@ -9,8 +9,8 @@ use Rattle.rv_inst.specs.LabelUse.{marks_of}
 use Rattle.rv_inst.specs.Sizes.{Words, words_in, extent_of}
 use Rattle.rv_inst.specs.Uses.{uses_in}
 use Rattle.rv_inst.specs.Records.{inst_records}
-use Rattle.mach_buffer.specs.declared.records.MachRecord.{MachRecord}
-use Rattle.mach_buffer.specs.declared.uses.Use.{Use}
+use Rattle.mach_records.specs.declared.records.MachRecord.{MachRecord}
+use Rattle.mach_uses.specs.declared.uses.Use.{Use}
 use Rattle.mach_buffer.specs.Shape.{Shape}
 use Rattle.mach_buffer.specs.Buffer.{shape_of, bytes_of, allocated_of, named_of}
 use Rattle.rv_emit.specs.OwnCounts.{own_count}

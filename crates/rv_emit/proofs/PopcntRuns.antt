@@ -5,12 +5,10 @@ use Rattle.std.specs.Int.{bit_at}
 use Rattle.std.proofs.lemmas.Nat.{pow_pos}
 use Rattle.std.proofs.lemmas.Nat.Bits.{bit_at-lt, bit_at-suc, bit_at_lowest}
 use Rattle.rv_base.specs.declared.flags.IsaFlags.{IsaFlags}
-use Rattle.rv_base.specs.declared.ir_type.IrType.{IrType}
-use Rattle.rv_base.specs.declared.regs.Reg.{Reg}
-use Rattle.rv_base.specs.declared.regs.Writable.{Writable}
 use Rattle.rv_machine.specs.declared.decoding.Decoded.{Decoded}
 use Rattle.rv_machine.specs.State.{State, Values, reg, set_reg, wrap, low64, at}
 use Rattle.rv_ops.specs.declared.alu.AluOPRRI.TheVariants.{Srli}
+use Rattle.rv_inst.specs.declared.inst.CountInfo.{CountInfo}
 use Rattle.rv_inst.specs.declared.inst.Inst.TheVariants.{Popcnt}
 use Rattle.rv_inst.specs.Bits.{ones}
 use Rattle.rv_inst.specs.Meaning.{Next}
@@ -108,5 +106,5 @@ popcnt_out {site} {start} {s = s} {v = v} c h e =
     let r = comes_on (starts_highest h e.stands.1.0 e.stands.1.1.0 e.stands.1.1.1.0 e.stands.1.1.1.1.0 first) (λ t k. turns e.stands.0 c.bits 0 t h.few h e.stands.1.1.1.1.1 (omega arith) k) in
     count_out slots h (ones_few c.bits n) (omega arith) e r
 
-pub popcnt_runs : (site : Site) (setting : EmitVState) (sum tmp step : Writable Reg) (rs : Reg) (type : IrType) → IsCount (count_of sum tmp step rs type) → RunsIn site setting (Popcnt sum tmp step rs type)
-popcnt_runs site setting sum tmp step rs type h = record { run = λ start after s v e clear. popcnt_out (count_of sum tmp step rs type) h e }
+pub popcnt_runs : (site : Site) (setting : EmitVState) (info : CountInfo) → IsCount (count_of info.sum info.tmp info.step info.rs info.ty) → RunsIn site setting (Popcnt info)
+popcnt_runs site setting info h = record { run = λ start after s v e clear. popcnt_out (count_of info.sum info.tmp info.step info.rs info.ty) h e }

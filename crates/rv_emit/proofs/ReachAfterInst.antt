@@ -17,11 +17,11 @@ use Rattle.rv_inst.specs.LabelUse.{label_kinds, forward_of, has_veneer_of}
 use Rattle.rv_inst.specs.Operands.{targets_of, try_call_of}
 use Rattle.rv_inst.specs.declared.targets.Targets.{Targets}
 use Rattle.rv_inst.specs.declared.targets.Targets.TheVariants.{Nowhere, Jumps, Branches, Refers, RefersConstant}
-use Rattle.mach_buffer.specs.Shape.{constant_label}
+use Rattle.mach_uses.specs.Labels.{constant_label}
 use Rattle.mach_buffer.specs.Islands.{is_far}
 use Rattle.rv_base.specs.LabelUse.{Kinds, code_limit}
-use Rattle.mach_buffer.specs.declared.uses.Use.{Use}
-use Rattle.mach_buffer.specs.Reach.{CanReach, HasSlack, deadline, deadlines, is_pending, is_reached, is_needed}
+use Rattle.mach_uses.specs.declared.uses.Use.{Use}
+use Rattle.mach_uses.specs.Reach.{CanReach, HasSlack, deadline, deadlines, is_pending, is_reached, is_needed}
 use Rattle.mach_buffer.specs.Buffer.{bytes_of, uses_of, place_of}
 use Rattle.mach_buffer.proofs.Laws.{deadlines_append, none_from, slack_use, slack_less, slack_not_needed, reach_from_slack}
 use Rattle.rv_emit.specs.Emitted.{Buffer, pending, IsFarUse, IsOwnUse, AppendsInst, IslandIfNeeded, CanEmit}

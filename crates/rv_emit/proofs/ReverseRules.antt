@@ -16,7 +16,7 @@ use Rattle.rv_emit.proofs.CountRules.{numbers_differ, some_bits}
 use Rattle.rv_emit.proofs.ReverseRegisters.{Reversal, IsReversal}
 
 -- whatever the constants are
-pub reverse_fine : (rs : Reg) (type : IrType) (step tmp tmp2 rd : Writable Reg) → Keeps (Brev8 rs type step tmp tmp2 rd) → IsFine [] (Brev8 rs type step tmp tmp2 rd)
+pub reverse_fine : (rs : Reg) (type : IrType) (step tmp tmp2 rd : Writable Reg) → Keeps (Brev8 (record { rs = rs; ty = type; step = step; tmp = tmp; tmp2 = tmp2; rd = rd })) → IsFine [] (Brev8 (record { rs = rs; ty = type; step = step; tmp = tmp; tmp2 = tmp2; rd = rd }))
 reverse_fine rs type step tmp tmp2 rd k =
     let all = are_usable (rs ∷ step.reg ∷ tmp.reg ∷ tmp2.reg ∷ rd.reg ∷ []) k.real k.placed k.free in
     (all.1.1.1.1.0.0, all.1.1.0.0, all.1.1.1.0.0, all.1.0.0, all.0.0, not_false (is_int_type type) k.typed)
@@ -37,7 +37,7 @@ whole_bits (Vector v) e = absurd (cc)
 abbrev pub reversal_of : Reg → IrType → Writable Reg → Writable Reg → Writable Reg → Writable Reg → Reversal
 reversal_of rs type step tmp tmp2 rd = record { rd = number_of rd.reg; tmp = number_of tmp.reg; tmp2 = number_of tmp2.reg; step = number_of step.reg; rs = number_of rs; bits = bits_of type }
 
-pub is_reversal : (rs : Reg) (type : IrType) (step tmp tmp2 rd : Writable Reg) → Keeps (Brev8 rs type step tmp tmp2 rd) → IsReversal (reversal_of rs type step tmp tmp2 rd)
+pub is_reversal : (rs : Reg) (type : IrType) (step tmp tmp2 rd : Writable Reg) → Keeps (Brev8 (record { rs = rs; ty = type; step = step; tmp = tmp; tmp2 = tmp2; rd = rd })) → IsReversal (reversal_of rs type step tmp tmp2 rd)
 is_reversal rs type step tmp tmp2 rd k =
     let all = are_usable (rs ∷ step.reg ∷ tmp.reg ∷ tmp2.reg ∷ rd.reg ∷ []) k.real k.placed k.free in
     let h1 = all.1.1.1.1.0 in

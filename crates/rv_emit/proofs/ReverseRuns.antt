@@ -6,9 +6,6 @@ use Rattle.std.proofs.lemmas.Bool.Decides.{nat_tests}
 use Rattle.std.proofs.lemmas.Nat.{pow_pos, and_comm}
 use Rattle.std.proofs.lemmas.Nat.Bits.{and_pow, bit_at-lt}
 use Rattle.rv_base.specs.declared.flags.IsaFlags.{IsaFlags}
-use Rattle.rv_base.specs.declared.ir_type.IrType.{IrType}
-use Rattle.rv_base.specs.declared.regs.Reg.{Reg}
-use Rattle.rv_base.specs.declared.regs.Writable.{Writable}
 use Rattle.rv_base.specs.CondCodes.{signed_below}
 use Rattle.rv_machine.specs.declared.decoding.Decoded.{Decoded}
 use Rattle.rv_machine.specs.State.{State, Values, reg, set_reg, wrap, low64, at}
@@ -16,6 +13,7 @@ use Rattle.rv_inst.specs.Bits.{reversed_bytes}
 use Rattle.rv_ops.specs.declared.alu.AluOPRRI.TheVariants.{Addi, Slli}
 use Rattle.rv_inst.specs.Forms.{short_rri}
 use Rattle.rv_inst.specs.Meaning.{Next}
+use Rattle.rv_inst.specs.declared.inst.Brev8Info.{Brev8Info}
 use Rattle.rv_inst.specs.declared.inst.Inst.TheVariants.{Brev8}
 use Rattle.rv_emit.specs.declared.state.EmitVState.{EmitVState}
 use Rattle.rv_emit.specs.InstParts.{slots_alone, reverse_slots}
@@ -355,5 +353,5 @@ reverse_out {site} {start} {after} {s} {v} c h e =
       placed = r.course.here.placed;
     })
 
-pub reverse_runs : (site : Site) (setting : EmitVState) (rs : Reg) (type : IrType) (step tmp tmp2 rd : Writable Reg) → Keeps (Brev8 rs type step tmp tmp2 rd) → RunsIn site setting (Brev8 rs type step tmp tmp2 rd)
-reverse_runs site setting rs type step tmp tmp2 rd k = record { run = λ start after s v e clear. reverse_out (reversal_of rs type step tmp tmp2 rd) (is_reversal rs type step tmp tmp2 rd k) e }
+pub reverse_runs : (site : Site) (setting : EmitVState) (info : Brev8Info) → Keeps (Brev8 info) → RunsIn site setting (Brev8 info)
+reverse_runs site setting info k = record { run = λ start after s v e clear. reverse_out (reversal_of info.rs info.ty info.step info.tmp info.tmp2 info.rd) (is_reversal info.rs info.ty info.step info.tmp info.tmp2 info.rd k) e }

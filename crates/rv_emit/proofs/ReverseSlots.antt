@@ -3,9 +3,6 @@ use Rattle.std.proofs.Common.{◌≡◌, ℕ, zero, suc, ◌+◌, ◌%◌, ◌�
 use Rattle.std.specs.Prelude.{◌-◌, ◌-ℤ◌}
 use Rattle.std.proofs.lemmas.Int.{ints}
 use Rattle.rv_base.specs.declared.flags.IsaFlags.{IsaFlags}
-use Rattle.rv_base.specs.declared.ir_type.IrType.{IrType}
-use Rattle.rv_base.specs.declared.regs.Reg.{Reg}
-use Rattle.rv_base.specs.declared.regs.Writable.{Writable}
 use Rattle.rv_base.specs.Regs.{number_of}
 use Rattle.rv_base.specs.IrType.{bits_of}
 use Rattle.rv_encode.specs.Layouts.{IsEven}
@@ -14,6 +11,7 @@ use Rattle.rv_ops.specs.declared.alu.AluOPRRI.TheVariants.{Addi, Slli, Srli}
 use Rattle.rv_inst.specs.Context.{Context}
 use Rattle.rv_inst.specs.Forms.{short_rri}
 use Rattle.rv_inst.specs.Sizes.{Words, reverse_size}
+use Rattle.rv_inst.specs.declared.inst.Brev8Info.{Brev8Info}
 use Rattle.rv_inst.specs.declared.inst.Inst.TheVariants.{Brev8}
 use Rattle.rv_emit.specs.InstParts.{reverse_slots}
 use Rattle.rv_emit.specs.Loops.{reverse_start, reverse_test, reverse_turn, reverse_turn_size, set_op, eight_op, rest_op, down_op, up_op}
@@ -95,13 +93,13 @@ reverse_short flags rd tmp tmp2 step rs bits =
     let o = t.jump_few in
     omega arith
 
-pub reverse_summed : (context : Context) (rs : Reg) (type : IrType) (step tmp tmp2 rd : Writable Reg) → IsSummed context (Brev8 rs type step tmp tmp2 rd) (reverse_slots context.flags (number_of rd.reg) (number_of tmp.reg) (number_of tmp2.reg) (number_of step.reg) (number_of rs) (bits_of type))
-reverse_summed context rs type step tmp tmp2 rd = record {
+pub reverse_summed : (context : Context) (info : Brev8Info) → IsSummed context (Brev8 info) (reverse_slots context.flags (number_of info.rd.reg) (number_of info.tmp.reg) (number_of info.tmp2.reg) (number_of info.step.reg) (number_of info.rs) (bits_of info.ty))
+reverse_summed context info = record {
   plain = tt;
   long =
-      let over = jump_len context.flags (pos (jump_size context.flags + (up_op context.flags (number_of tmp2.reg)).len)) in
-      let back = jump_len context.flags (pos 0 -ℤ pos (reverse_turn_size context.flags (number_of rd.reg) (number_of tmp.reg) (number_of tmp2.reg) (number_of step.reg) (number_of rs))) in
-      let e : reverse_size context.flags (number_of rd.reg) (number_of tmp.reg) (number_of tmp2.reg) (number_of step.reg) (number_of rs) (bits_of type) ≡ size_of (reverse_slots context.flags (number_of rd.reg) (number_of tmp.reg) (number_of tmp2.reg) (number_of step.reg) (number_of rs) (bits_of type)) = omega arith in
+      let over = jump_len context.flags (pos (jump_size context.flags + (up_op context.flags (number_of info.tmp2.reg)).len)) in
+      let back = jump_len context.flags (pos 0 -ℤ pos (reverse_turn_size context.flags (number_of info.rd.reg) (number_of info.tmp.reg) (number_of info.tmp2.reg) (number_of info.step.reg) (number_of info.rs))) in
+      let e : reverse_size context.flags (number_of info.rd.reg) (number_of info.tmp.reg) (number_of info.tmp2.reg) (number_of info.step.reg) (number_of info.rs) (bits_of info.ty) ≡ size_of (reverse_slots context.flags (number_of info.rd.reg) (number_of info.tmp.reg) (number_of info.tmp2.reg) (number_of info.step.reg) (number_of info.rs) (bits_of info.ty)) = omega arith in
       ap Words e;
   uses = λ allocated start. refl;
   records = λ start. refl;

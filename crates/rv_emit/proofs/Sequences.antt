@@ -4,7 +4,7 @@ use Rattle.std.specs.Prelude.{slice_get}
 use Rattle.mach_labels.specs.Table.{first_inner, first_constant}
 use Rattle.rv_inst.specs.declared.label_use.LabelUse.{LabelUse}
 use Rattle.rv_inst.specs.LabelUse.{label_kinds}
-use Rattle.mach_buffer.specs.declared.uses.Use.{Use}
+use Rattle.mach_uses.specs.declared.uses.Use.{Use}
 use Rattle.mach_buffer.specs.Buffer.{uses_of, place_of}
 use Rattle.mach_buffer.proofs.Laws.{few_allocated}
 use Rattle.rv_emit.specs.Emitted.{Buffer, AppendsCode, AppendsSequence}

@@ -1,7 +1,7 @@
 -- What is known of the vector unit's setting where an island was asked for.
 use Rattle.std.proofs.Common.{◌≡◌, ℕ, Bool, true, List, length, sym, ap, ◌∙◌}
 use Rattle.mach_buffer.specs.Buffer.{bytes_of}
-use Rattle.mach_buffer.specs.Reach.{is_needed}
+use Rattle.mach_uses.specs.Reach.{is_needed}
 use Rattle.rv_base.specs.declared.call.CallInfo.{CallInfo}
 use Rattle.rv_base.specs.declared.call.ReturnCallInfo.{ReturnCallInfo}
 use Rattle.rv_base.specs.declared.external_name.ExternalName.{ExternalName}

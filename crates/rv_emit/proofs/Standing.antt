@@ -13,12 +13,13 @@ use Rattle.rv_inst.specs.declared.label_use.LabelUse.{LabelUse}
 use Rattle.rv_inst.specs.declared.label_use.LabelUse.TheVariants.{PCRel32, PCRelHi20, PCRelLo12I}
 use Rattle.rv_inst.specs.LabelUse.{label_kinds, Aims, marks_of, has_veneer_of, veneer_of, forward_of, backward_of}
 use Rattle.rv_inst.specs.Uses.{use_at}
-use Rattle.mach_buffer.specs.declared.uses.Use.{Use}
+use Rattle.mach_uses.specs.declared.uses.Use.{Use}
 use Rattle.mach_buffer.specs.Shape.{Shape, with_bytes, with_record, veneer_use}
-use Rattle.mach_buffer.specs.declared.records.Event.{Event}
-use Rattle.mach_buffer.specs.declared.records.MachRecord.{MachRecord}
-use Rattle.mach_buffer.specs.Windows.{window, AllEnd}
-use Rattle.mach_buffer.specs.Reach.{is_reached}
+use Rattle.mach_records.specs.declared.records.Event.{Event}
+use Rattle.mach_records.specs.declared.records.MachRecord.{MachRecord}
+use Rattle.mach_buffer.specs.Windows.{AllEnd}
+use Rattle.mach_uses.specs.Windows.{window}
+use Rattle.mach_uses.specs.Reach.{is_reached}
 use Rattle.mach_buffer.specs.Growth.{Lasts, RecordsLast}
 use Rattle.mach_buffer.specs.Pieces.{ByVeneer, UseFinished}
 use Rattle.mach_buffer.proofs.Laws.{recorded_at as use_recorded_at, lasts_more, lasts_bytes, lasts_record, piece_finished, use_finished, slice_get-append, slice_get-append_last}

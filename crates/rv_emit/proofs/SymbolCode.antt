@@ -6,7 +6,7 @@ use Rattle.rv_base.specs.declared.flags.IsaFlags.{IsaFlags}
 use Rattle.rv_machine.specs.declared.decoding.Decoded.{Decoded}
 use Rattle.rv_inst.specs.declared.label_use.LabelUse.TheVariants.{PCRel32, PCRelHi20, PCRelLo12I}
 use Rattle.rv_inst.specs.LabelUseWords.{word_bytes}
-use Rattle.mach_buffer.specs.declared.records.Event.{Event}
+use Rattle.mach_records.specs.declared.records.Event.{Event}
 use Rattle.mach_buffer.specs.Buffer.{shape_of, bytes_of}
 use Rattle.mach_buffer.specs.Shape.{with_bytes, with_record}
 use Rattle.rv_emit.specs.Emission.{PutsAlone}

@@ -10,8 +10,8 @@ use Rattle.rv_inst.specs.Addresses.{inline_size}
 use Rattle.rv_inst.specs.Context.{Context}
 use Rattle.rv_inst.specs.Sizes.{Words}
 use Rattle.rv_inst.specs.declared.inst.Inst.TheVariants.{LoadExtNameGot, LoadExtNameNear, LoadExtNameFar, Unwind}
-use Rattle.mach_buffer.specs.declared.records.Event.TheVariants as event
-use Rattle.mach_buffer.specs.declared.records.MachRecord.{MachRecord}
+use Rattle.mach_records.specs.declared.records.Event.TheVariants as event
+use Rattle.mach_records.specs.declared.records.MachRecord.{MachRecord}
 use Rattle.rv_emit.specs.Operations.{jump_size}
 use Rattle.rv_emit.specs.Slots.{Notes, size_of, address_event, AreSelfContained}
 use Rattle.rv_emit.specs.InstParts.{got_slots, near_slots, far_slots}

@@ -23,7 +23,7 @@ use Rattle.rv_inst.specs.LabelUse.{marks_of}
 use Rattle.rv_inst.specs.Sizes.{table_space, table_size}
 use Rattle.rv_inst.specs.Uses.{use_at}
 use Rattle.mach_buffer.specs.Shape.{Shape}
-use Rattle.mach_buffer.specs.Reach.{CanReach}
+use Rattle.mach_uses.specs.Reach.{CanReach}
 use Rattle.mach_buffer.specs.Buffer.{shape_of, bytes_of, allocated_of, named_of}
 use Rattle.rv_emit.specs.declared.state.EmitVState.{EmitVState}
 use Rattle.rv_emit.specs.Emission.{PutsSlots, EmitsIn}

@@ -10,7 +10,7 @@ use Rattle.rv_inst.specs.Rules.{inst_rule}
 use Rattle.rv_inst.specs.Sizes.{island_space, return_size}
 use Rattle.rv_inst.specs.declared.inst.Inst.{Inst}
 use Rattle.rv_inst.specs.declared.inst.Inst.TheVariants.{EmitIsland, BrTable, Call, CallInd, ReturnCall, ReturnCallInd}
-use Rattle.mach_buffer.specs.Reach.{CanReach}
+use Rattle.mach_uses.specs.Reach.{CanReach}
 use Rattle.mach_buffer.specs.Buffer.{bytes_of}
 use Rattle.rv_emit.specs.declared.state.EmitVState.{EmitVState}
 use Rattle.rv_emit.specs.Emission.{PutsParts, EmitsIn}

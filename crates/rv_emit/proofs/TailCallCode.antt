@@ -12,7 +12,7 @@ use Rattle.rv_base.specs.declared.external_name.ExternalName.{ExternalName}
 use Rattle.rv_base.specs.declared.regs.Reg.{Reg}
 use Rattle.rv_base.specs.declared.regs.RegClass.TheVariants.{Int}
 use Rattle.rv_base.specs.Regs.{IsReal, number_of}
-use Rattle.mach_buffer.specs.declared.records.Event.TheVariants as event
+use Rattle.mach_records.specs.declared.records.Event.TheVariants as event
 use Rattle.rv_base.specs.declared.flags.IsaFlags.{IsaFlags}
 use Rattle.rv_base.specs.declared.frame.FrameLayout.{FrameLayout}
 use Rattle.rv_base.specs.declared.regs.PReg.{PReg}

@@ -15,9 +15,9 @@ use Rattle.rv_ops.specs.declared.memory.LoadOP.TheVariants.{Ld}
 use Rattle.rv_machine.specs.State.{low64}
 use Rattle.rv_machine.specs.declared.decoding.Decoded.{Decoded}
 use Rattle.rv_encode.specs.Operations.{decoded_load}
-use Rattle.mach_buffer.specs.declared.records.Event.TheVariants as event
-use Rattle.mach_buffer.specs.declared.records.MachRecord.{MachRecord}
-use Rattle.mach_buffer.specs.declared.uses.Use.{Use}
+use Rattle.mach_records.specs.declared.records.Event.TheVariants as event
+use Rattle.mach_records.specs.declared.records.MachRecord.{MachRecord}
+use Rattle.mach_uses.specs.declared.uses.Use.{Use}
 use Rattle.rv_inst.specs.declared.label_use.LabelUse.{LabelUse}
 use Rattle.rv_inst.specs.Addresses.{Based, is_near, far_address_size, load_size_at}
 use Rattle.rv_inst.specs.Forms.{short_rrr, short_rri, short_jalr, short_load}

@@ -23,8 +23,8 @@ use Rattle.rv_machine.specs.State.{Memory, Values, reg, set_reg, wrap, low64, si
 use Rattle.rv_machine.specs.Decode.{decode}
 use Rattle.rv_machine.specs.Steps.{fetch}
 use Rattle.rv_encode.specs.Operations.{decoded}
-use Rattle.mach_buffer.specs.declared.uses.Use.{Use}
-use Rattle.mach_buffer.specs.Windows.{window}
+use Rattle.mach_uses.specs.declared.uses.Use.{Use}
+use Rattle.mach_uses.specs.Windows.{window}
 use Rattle.mach_buffer.specs.Finish.{IsVia}
 use Rattle.rv_emit.specs.Operations.{decoded_jalr}
 use Rattle.rv_emit.specs.Puts.{AllBytes}

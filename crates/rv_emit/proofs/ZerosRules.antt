@@ -11,8 +11,8 @@ use Rattle.rv_emit.proofs.CountRules.{is_count}
 use Rattle.rv_emit.proofs.Operands.{Keeps, are_usable, not_false}
 
 -- whatever the constants are
-pub zeros_fine : (sum tmp step : Writable Reg) (rs : Reg) (leading : Bool) (type : IrType) → Keeps (Cltz sum tmp step rs leading type) → IsFine [] (Cltz sum tmp step rs leading type)
+pub zeros_fine : (sum tmp step : Writable Reg) (rs : Reg) (leading : Bool) (type : IrType) → Keeps (Cltz leading (record { sum = sum; tmp = tmp; step = step; rs = rs; ty = type })) → IsFine [] (Cltz leading (record { sum = sum; tmp = tmp; step = step; rs = rs; ty = type }))
 zeros_fine sum tmp step rs leading type k = let all = are_usable (sum.reg ∷ tmp.reg ∷ step.reg ∷ rs ∷ []) k.real k.placed k.free in (all.0.0, all.1.0.0, all.1.1.0.0, all.1.1.1.0.0, not_false (is_int_type type) k.typed)
 
-pub zeros_count : (sum tmp step : Writable Reg) (rs : Reg) (leading : Bool) (type : IrType) → Keeps (Cltz sum tmp step rs leading type) → IsCount (count_of sum tmp step rs type)
+pub zeros_count : (sum tmp step : Writable Reg) (rs : Reg) (leading : Bool) (type : IrType) → Keeps (Cltz leading (record { sum = sum; tmp = tmp; step = step; rs = rs; ty = type })) → IsCount (count_of sum tmp step rs type)
 zeros_count sum tmp step rs leading type k = is_count sum tmp step rs type (are_usable (sum.reg ∷ tmp.reg ∷ step.reg ∷ rs ∷ []) k.real k.placed k.free) k.counted k.apart k.typed

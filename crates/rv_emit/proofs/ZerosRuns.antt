@@ -6,12 +6,10 @@ use Rattle.std.proofs.lemmas.Nat.{pow_pos}
 use Rattle.std.proofs.lemmas.Nat.Bits.{bit_at-lt}
 use Rattle.std.proofs.Math.Nat.{pow-suc, div-div-eq-div-mul}
 use Rattle.rv_base.specs.declared.flags.IsaFlags.{IsaFlags}
-use Rattle.rv_base.specs.declared.ir_type.IrType.{IrType}
-use Rattle.rv_base.specs.declared.regs.Reg.{Reg}
-use Rattle.rv_base.specs.declared.regs.Writable.{Writable}
 use Rattle.rv_machine.specs.State.{State, Values, reg, set_reg, wrap, low64, at}
 use Rattle.rv_ops.specs.Operations.{immediate_of, shift_limit}
 use Rattle.rv_ops.specs.declared.alu.AluOPRRI.TheVariants.{Srli, Slli}
+use Rattle.rv_inst.specs.declared.inst.CountInfo.{CountInfo}
 use Rattle.rv_inst.specs.declared.inst.Inst.TheVariants.{Cltz}
 use Rattle.rv_inst.specs.Bits.{leading_zeros, trailing_zeros, zeros}
 use Rattle.rv_inst.specs.Meaning.{Next, alu_rri}
@@ -206,5 +204,5 @@ zeros_out {site} {start} {s = s} {v = v} false c h e =
     let r = comes_on (starts_lowest h e.stands.1.0 e.stands.1.1.0 e.stands.1.1.1.0 first) (λ t k. turns false e.stands.0 c.bits 0 t (omega arith) h e.stands.1.1.1.1 all (subst (λ m. InCount site (after_one flags c start) (4 + rest_of flags Slli c) c c.bits m 0 v t) lowest k)) in
     count_out slots h (zeros_few false c.bits n) (omega arith) e r
 
-pub zeros_runs : (site : Site) (setting : EmitVState) (sum tmp step : Writable Reg) (rs : Reg) (leading : Bool) (type : IrType) → Keeps (Cltz sum tmp step rs leading type) → RunsIn site setting (Cltz sum tmp step rs leading type)
-zeros_runs site setting sum tmp step rs leading type k = record { run = λ start after s v e clear. zeros_out leading (count_of sum tmp step rs type) (zeros_count sum tmp step rs leading type k) e }
+pub zeros_runs : (site : Site) (setting : EmitVState) (leading : Bool) (info : CountInfo) → Keeps (Cltz leading info) → RunsIn site setting (Cltz leading info)
+zeros_runs site setting leading info k = record { run = λ start after s v e clear. zeros_out leading (count_of info.sum info.tmp info.step info.rs info.ty) (zeros_count info.sum info.tmp info.step info.rs leading info.ty k) e }

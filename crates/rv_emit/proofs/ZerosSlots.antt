@@ -2,9 +2,6 @@
 use Rattle.std.proofs.Common.{◌≡◌, ℕ, ◌-◌, ◌≤◌, Bool, true, false, ◌++◌, pos, negsuc, refl, ap, arith, lit≤}
 use Rattle.std.specs.Prelude.{if◌then◌else◌, ◌-ℤ◌}
 use Rattle.rv_base.specs.declared.flags.IsaFlags.{IsaFlags}
-use Rattle.rv_base.specs.declared.ir_type.IrType.{IrType}
-use Rattle.rv_base.specs.declared.regs.Reg.{Reg}
-use Rattle.rv_base.specs.declared.regs.Writable.{Writable}
 use Rattle.rv_base.specs.Regs.{number_of}
 use Rattle.rv_base.specs.IrType.{bits_of}
 use Rattle.rv_ops.specs.declared.alu.AluOPRRR.TheVariants.{And}
@@ -12,6 +9,7 @@ use Rattle.rv_ops.specs.declared.alu.AluOPRRI.TheVariants.{Addi, Slli, Srli}
 use Rattle.rv_inst.specs.Context.{Context}
 use Rattle.rv_inst.specs.Forms.{short_rri}
 use Rattle.rv_inst.specs.Sizes.{Words, zeros_size, bit_shift}
+use Rattle.rv_inst.specs.declared.inst.CountInfo.{CountInfo}
 use Rattle.rv_inst.specs.declared.inst.Inst.TheVariants.{Cltz}
 use Rattle.rv_emit.specs.Counts.{start_ops, turn_ops, turn_size}
 use Rattle.rv_emit.specs.InstParts.{zeros_slots}
@@ -24,17 +22,17 @@ zeros_long : (flags : IsaFlags) (leading : Bool) (sum tmp step rs bits : ℕ) �
 zeros_long flags true sum tmp step rs bits = let jump = jump_len flags (pos 0 -ℤ pos (turn_size flags Srli sum tmp step rs)) in omega arith
 zeros_long flags false sum tmp step rs bits = let jump = jump_len flags (pos 0 -ℤ pos (turn_size flags Slli sum tmp step rs)) in omega arith
 
-pub zeros_summed : (context : Context) (sum tmp step : Writable Reg) (rs : Reg) (leading : Bool) (type : IrType) → IsSummed context (Cltz sum tmp step rs leading type) (zeros_slots context.flags leading (number_of sum.reg) (number_of tmp.reg) (number_of step.reg) (number_of rs) (bits_of type))
-zeros_summed context sum tmp step rs true type = record {
+pub zeros_summed : (context : Context) (leading : Bool) (info : CountInfo) → IsSummed context (Cltz leading info) (zeros_slots context.flags leading (number_of info.sum.reg) (number_of info.tmp.reg) (number_of info.step.reg) (number_of info.rs) (bits_of info.ty))
+zeros_summed context true info = record {
   plain = tt;
-  long = ap Words (zeros_long context.flags true (number_of sum.reg) (number_of tmp.reg) (number_of step.reg) (number_of rs) (bits_of type));
+  long = ap Words (zeros_long context.flags true (number_of info.sum.reg) (number_of info.tmp.reg) (number_of info.step.reg) (number_of info.rs) (bits_of info.ty));
   uses = λ allocated start. refl;
   records = λ start. refl;
   names = λ named. refl;
 }
-zeros_summed context sum tmp step rs false type = record {
+zeros_summed context false info = record {
   plain = tt;
-  long = ap Words (zeros_long context.flags false (number_of sum.reg) (number_of tmp.reg) (number_of step.reg) (number_of rs) (bits_of type));
+  long = ap Words (zeros_long context.flags false (number_of info.sum.reg) (number_of info.tmp.reg) (number_of info.step.reg) (number_of info.rs) (bits_of info.ty));
   uses = λ allocated start. refl;
   records = λ start. refl;
   names = λ named. refl;

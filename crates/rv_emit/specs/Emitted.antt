@@ -21,10 +21,10 @@ use Rattle.rv_inst.specs.MostBytes.{most_bytes}
 use Rattle.rv_inst.specs.Records.{inst_records}
 use Rattle.rv_inst.specs.Uses.{use_at, uses_in, least_reach}
 use Rattle.mach_buffer.specs.declared.buffer.MachBuffer.{MachBuffer}
-use Rattle.mach_buffer.specs.declared.records.MachRecord.{MachRecord}
-use Rattle.mach_buffer.specs.declared.uses.Use.{Use}
+use Rattle.mach_records.specs.declared.records.MachRecord.{MachRecord}
+use Rattle.mach_uses.specs.declared.uses.Use.{Use}
 use Rattle.mach_buffer.specs.Islands.{is_far, AddsOwn}
-use Rattle.mach_buffer.specs.Reach.{AllOf, is_needed, is_reached}
+use Rattle.mach_uses.specs.Reach.{AllOf, is_needed, is_reached}
 use Rattle.mach_buffer.specs.Buffer.{shape_of, bytes_of, uses_of, place_of, labels_of, allocated_of, records_of, registered_of, named_of, constants_of, pending_of, IsSound}
 use Rattle.mach_buffer.specs.Shape.{Shape, with_allocated}
 use Rattle.mach_buffer.specs.Constants.{reserve_of, AllStand}

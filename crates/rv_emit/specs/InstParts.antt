@@ -35,10 +35,10 @@ use Rattle.rv_encode.specs.Operations.{decoded, decoded_branch, decoded_load, de
 use Rattle.rv_inst.specs.Forms.{jump_kind, short_rrr, short_rri, short_lui, short_jalr, short_ebreak, short_load, short_store}
 use Rattle.rv_machine.specs.State.{low64}
 use Rattle.rv_machine.specs.Arithmetic.{low_word}
-use Rattle.mach_buffer.specs.Shape.{constant_label}
+use Rattle.mach_uses.specs.Labels.{constant_label}
 use Rattle.rv_inst.specs.Addresses.{Location, Based, AtLabel, AtConstant, location_of, is_near, is_splittable}
 use Rattle.rv_emit.specs.Immediates.{upper_of, lower_of, upper_of_distance, lower_of_distance}
-use Rattle.mach_buffer.specs.declared.records.Event.TheVariants as event
+use Rattle.mach_records.specs.declared.records.Event.TheVariants as event
 use Rattle.rv_emit.specs.declared.state.EmitVState.{EmitVState}
 use Rattle.rv_emit.specs.Operations.{decoded_addi, decoded_jalr, decoded_jump, short_jump, jump_size}
 use Rattle.rv_emit.specs.Counts.{start_ops, turn_ops}
@@ -298,7 +298,7 @@ parts_of context setting (MovFromPReg rd rm) = slots_alone (move_slots context.f
 parts_of context setting (Extend rd rn signed from_bits to_bits) = slots_alone (extend_slots context.flags (number_of rd.reg) (number_of rn) signed from_bits)
 parts_of context setting (Select info) = slots_alone (select_slots context.flags info.dst info.condition info.x info.y)
 parts_of context setting (Load rd op flags from) = slots_alone (load_slots context.flags (number_of rd.reg) op flags.trap (location_of context.frame from))
-parts_of context setting (Store to op flags src) = slots_alone (store_slots context.flags op (number_of src) flags.trap (location_of context.frame to))
+parts_of context setting (Store src op flags to) = slots_alone (store_slots context.flags op (number_of src) flags.trap (location_of context.frame to))
 parts_of context setting (LoadAddr rd mem) = slots_alone (address_slots context.flags (number_of rd.reg) (location_of context.frame mem))
 parts_of context setting (LabelAddress dst label) = slots_alone (address_slots context.flags (number_of dst.reg) (AtLabel label))
 parts_of context setting Ret = slots_alone (Op (short_jalr context.flags 0 1 (pos 0)) ∷ [])
@@ -308,9 +308,9 @@ parts_of context setting (CondBr taken not_taken kind) = slots_alone (branch_slo
 parts_of context setting (BrTable index tmp1 tmp2 targets) = Ask (table_space (length targets)) ∷ Slots (table_slots context.flags (number_of index) (number_of tmp1.reg) (number_of tmp2.reg) targets) ∷ []
 parts_of context setting (Udf code) = slots_alone (trap_slots context.flags code)
 parts_of context setting (Jalr rd base offset) = slots_alone (Op (short_jalr context.flags (number_of rd.reg) (number_of base) offset.value) ∷ [])
-parts_of context setting (Popcnt sum tmp step rs type) = slots_alone (count_slots context.flags (number_of sum.reg) (number_of tmp.reg) (number_of step.reg) (number_of rs) (bits_of type))
-parts_of context setting (Cltz sum tmp step rs leading type) = slots_alone (zeros_slots context.flags leading (number_of sum.reg) (number_of tmp.reg) (number_of step.reg) (number_of rs) (bits_of type))
-parts_of context setting (Brev8 rs type step tmp tmp2 rd) = slots_alone (reverse_slots context.flags (number_of rd.reg) (number_of tmp.reg) (number_of tmp2.reg) (number_of step.reg) (number_of rs) (bits_of type))
+parts_of context setting (Popcnt info) = slots_alone (count_slots context.flags (number_of info.sum.reg) (number_of info.tmp.reg) (number_of info.step.reg) (number_of info.rs) (bits_of info.ty))
+parts_of context setting (Cltz leading info) = slots_alone (zeros_slots context.flags leading (number_of info.sum.reg) (number_of info.tmp.reg) (number_of info.step.reg) (number_of info.rs) (bits_of info.ty))
+parts_of context setting (Brev8 info) = slots_alone (reverse_slots context.flags (number_of info.rd.reg) (number_of info.tmp.reg) (number_of info.tmp2.reg) (number_of info.step.reg) (number_of info.rs) (bits_of info.ty))
 parts_of context setting (StackProbeLoop guard_size probe_count tmp) = slots_alone (probe_slots context.flags (number_of tmp.reg) (low_word guard_size) (low_word probe_count))
 parts_of context setting (LoadExtNameGot rd name) = slots_alone (got_slots (number_of rd.reg) name)
 parts_of context setting (LoadExtNameNear rd name offset) = slots_alone (near_slots (number_of rd.reg) name offset)

@@ -11,7 +11,7 @@ use Rattle.rv_inst.specs.Operands.{try_call_of}
 use Rattle.rv_inst.specs.Meaning.{resumed, try_exit, Environment, Exit, Next, To, Leave, Break, Trap, Data, inst_exit, inst_effect, inst_writes, inst_temporaries, AreOutside}
 use Rattle.rv_inst.specs.SameValues.{Same, SameBut}
 use Rattle.rv_emit.specs.declared.state.EmitVState.{EmitVState}
-use Rattle.mach_buffer.specs.declared.records.Event.TheVariants as event
+use Rattle.mach_records.specs.declared.records.Event.TheVariants as event
 use Rattle.rv_emit.specs.Slots.{Part}
 use Rattle.rv_emit.specs.Sites.{Site, IsPlacedAt, PartsStand}
 use Rattle.rv_inst.specs.Records.{IsRecorded}

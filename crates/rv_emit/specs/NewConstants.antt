@@ -1,7 +1,7 @@
 -- The constants that stand in a buffer, and those that come to stand: links of the proof.
 use Rattle.std.specs.Prelude.{◌≡◌, ◌⊎◌, ℕ, ◌+◌, ◌<◌, ◌≤◌, length, Some, slice_get}
 use Rattle.rv_base.specs.declared.constant.Constant.{Constant}
-use Rattle.mach_buffer.specs.declared.records.ConstPlace.{ConstPlace}
+use Rattle.mach_records.specs.declared.records.ConstPlace.{ConstPlace}
 use Rattle.mach_buffer.specs.Shape.{Shape}
 
 -- each constant ends before the next one begins, and within the bytes

@@ -9,12 +9,12 @@ use Rattle.rv_machine.specs.declared.decoding.Decoded.{Decoded}
 use Rattle.rv_inst.specs.declared.label_use.LabelUse.{LabelUse}
 use Rattle.rv_inst.specs.LabelUse.{marks_of, forward_of, backward_of}
 use Rattle.rv_inst.specs.Uses.{use_at}
-use Rattle.mach_buffer.specs.declared.uses.Use.{Use}
-use Rattle.mach_buffer.specs.declared.records.Event.{Event}
-use Rattle.mach_buffer.specs.declared.records.Event.TheVariants as event
-use Rattle.mach_buffer.specs.declared.records.FinalizedRelocTarget.TheVariants as target
-use Rattle.mach_buffer.specs.declared.records.MachRecord.{MachRecord}
-use Rattle.mach_buffer.specs.Shape.{name_more}
+use Rattle.mach_uses.specs.declared.uses.Use.{Use}
+use Rattle.mach_records.specs.declared.records.Event.{Event}
+use Rattle.mach_records.specs.declared.records.Event.TheVariants as event
+use Rattle.mach_records.specs.declared.records.FinalizedRelocTarget.TheVariants as target
+use Rattle.mach_records.specs.declared.records.MachRecord.{MachRecord}
+use Rattle.mach_uses.specs.Labels.{name_more}
 
 -- a label that may stand far away, or one of the instruction's own, by its number among those
 pub data Target : Type 0 where

@@ -3,7 +3,7 @@
 use Rattle.std.specs.Prelude.{Bool, true, false, not, ◌&&◌, length}
 use Rattle.rv_base.specs.declared.flags.IsaFlags.{IsaFlags}
 use Rattle.mach_buffer.specs.Buffer.{bytes_of}
-use Rattle.mach_buffer.specs.Reach.{is_needed}
+use Rattle.mach_uses.specs.Reach.{is_needed}
 use Rattle.rv_inst.specs.Addresses.{Location, Based, AtLabel, AtConstant, location_of, is_splittable}
 use Rattle.rv_inst.specs.Context.{Context}
 use Rattle.rv_inst.specs.declared.inst.CondBrTarget.{CondBrTarget}
@@ -56,7 +56,7 @@ setting_after context b (MovFromPReg rd rm) setting = setting
 setting_after context b (Extend rd rn signed from_bits to_bits) setting = setting
 setting_after context b (Select info) setting = setting
 setting_after context b (Load rd op flags from) setting = setting_beyond (is_inline (location_of context.frame from) && is_wide context.flags) setting
-setting_after context b (Store to op flags src) setting = setting_beyond (is_inline (location_of context.frame to) && is_wide context.flags) setting
+setting_after context b (Store src op flags to) setting = setting_beyond (is_inline (location_of context.frame to) && is_wide context.flags) setting
 setting_after context b (LoadAddr rd mem) setting = setting_beyond (is_inline (location_of context.frame mem) && is_wide context.flags) setting
 setting_after context b (LabelAddress dst label) setting = setting
 setting_after context b Ret setting = Unknown
@@ -66,9 +66,9 @@ setting_after context b (CondBr taken not_taken kind) setting = setting_beyond (
 setting_after context b (BrTable index tmp1 tmp2 targets) setting = Unknown
 setting_after context b (Udf code) setting = setting
 setting_after context b (Jalr rd base offset) setting = Unknown
-setting_after context b (Popcnt sum tmp step rs type) setting = setting_beyond (is_wide context.flags) setting
-setting_after context b (Cltz sum tmp step rs leading type) setting = setting_beyond (is_wide context.flags) setting
-setting_after context b (Brev8 rs type step tmp tmp2 rd) setting = setting_beyond (is_wide context.flags) setting
+setting_after context b (Popcnt info) setting = setting_beyond (is_wide context.flags) setting
+setting_after context b (Cltz leading info) setting = setting_beyond (is_wide context.flags) setting
+setting_after context b (Brev8 info) setting = setting_beyond (is_wide context.flags) setting
 setting_after context b (StackProbeLoop guard_size probe_count tmp) setting = setting_beyond (is_wide context.flags) setting
 setting_after context b (LoadExtNameGot rd name) setting = setting
 setting_after context b (LoadExtNameNear rd name offset) setting = setting

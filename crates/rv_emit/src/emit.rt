@@ -1,7 +1,7 @@
 //! Emission of an instruction.
 
 ghost use Rattle.std.specs.Prelude.{◌≡◌, ◌≤◌, ◌^◌, is_some, length, OnOk, OnErr, IfOk, true};
-ghost use Rattle.mach_buffer.specs.Reach.{CanReach};
+ghost use Rattle.mach_uses.specs.Reach.{CanReach};
 ghost use Rattle.mach_buffer.specs.Buffer.{bytes_of, registered_of, spoiled_of};
 ghost use Rattle.rv_emit.specs.Emitted.{pending, CanEmit, IsBounded};
 ghost use Rattle.rv_emit.specs.Emission.{Emits};
@@ -26,7 +26,7 @@ use std::alloc::Global;
 pub trait MachInstEmit {
     ghost use Rattle.std.specs.Prelude.{◌≡◌, length, OnOk, OnErr, IfErr, true};
     ghost use Rattle.rv_inst.specs.declared.error.EmitError.TheVariants as error;
-    ghost use Rattle.mach_buffer.specs.Reach.{CanReach};
+    ghost use Rattle.mach_uses.specs.Reach.{CanReach};
     ghost use Rattle.mach_buffer.specs.Buffer.{bytes_of, registered_of, spoiled_of};
     ghost use Rattle.rv_inst.specs.Context.{Context, context_by};
     ghost use Rattle.rv_emit.specs.Emitted.{Buffer, pending};
@@ -143,6 +143,7 @@ fn put_asking(
             tmp2,
             targets,
         } => {
+            let targets = targets.as_ref();
             let space = table_space(targets.len());
             emit_island_if_needed(sink, space)?;
             put_table(sink, flags, *index, *tmp1, *tmp2, targets.as_slice())?;
@@ -157,11 +158,11 @@ fn put_asking(
             Ok(true)
         }
         Inst::ReturnCall { info } => {
-            put_tail_call(sink, alloc, flags, frame, info)?;
+            put_tail_call(sink, alloc, flags, frame, info.as_ref())?;
             Ok(true)
         }
         Inst::ReturnCallInd { info } => {
-            put_tail_jump(sink, alloc, flags, frame, info)?;
+            put_tail_jump(sink, alloc, flags, frame, info.as_ref())?;
             Ok(true)
         }
         _ => Ok(false),

@@ -11,7 +11,7 @@ ghost use Rattle.rv_encode.specs.Registers.{IsIntRegister};
 ghost use Rattle.rv_encode.specs.Layouts.{IsEven};
 ghost use Rattle.rv_inst.specs.Forms.{jump_size};
 ghost use Rattle.mach_buffer.specs.Buffer.{bytes_of, allocated_of, spoiled_of};
-ghost use Rattle.mach_buffer.specs.Shape.{inner_count};
+ghost use Rattle.mach_uses.specs.Labels.{inner_count};
 ghost use Rattle.rv_emit.specs.Emitted.{IsSoundBuffer};
 ghost use Rattle.rv_emit.specs.Emission.{PutsAlone};
 ghost use Rattle.rv_emit.specs.Slots.{Data};

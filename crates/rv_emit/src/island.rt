@@ -2,9 +2,9 @@
 
 ghost use Rattle.std.specs.Prelude.{◌≡◌, ◌+◌, ◌*◌, ◌<◌, ◌^◌, length, IfOk, OnOk, OnErr, true};
 ghost use Rattle.rv_base.specs.LabelUse.{code_limit};
-ghost use Rattle.mach_buffer.specs.Reach.{CanReach};
+ghost use Rattle.mach_uses.specs.Reach.{CanReach};
 ghost use Rattle.mach_buffer.specs.Buffer.{shape_of, bytes_of, allocated_of, spoiled_of};
-ghost use Rattle.mach_buffer.specs.Shape.{inner_count};
+ghost use Rattle.mach_uses.specs.Labels.{inner_count};
 ghost use Rattle.mach_buffer.specs.Constants.{reserve_of};
 ghost use Rattle.rv_emit.specs.Emitted.{IsSoundBuffer, pending, AppendsIsland, IslandIfNeeded};
 

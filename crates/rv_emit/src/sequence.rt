@@ -17,7 +17,8 @@ ghost use Rattle.rv_inst.specs.LabelUseWords.{word_bytes};
 ghost use Rattle.rv_inst.specs.Context.{context_by};
 ghost use Rattle.rv_inst.specs.Rules.{inst_rule};
 ghost use Rattle.mach_buffer.specs.Buffer.{shape_of, bytes_of, allocated_of, registered_of, spoiled_of};
-ghost use Rattle.mach_buffer.specs.Shape.{inner_count, IsKnown, IsUsable, with_bytes, with_use};
+ghost use Rattle.mach_buffer.specs.Shape.{IsKnown, IsUsable, with_bytes, with_use};
+ghost use Rattle.mach_uses.specs.Labels.{inner_count};
 ghost use Rattle.rv_emit.specs.Usable.{IsFine, IsFineBranch};
 ghost use Rattle.rv_emit.specs.Emitted.{IsSoundBuffer};
 ghost use Rattle.rv_emit.specs.Emission.{PutsAlone, PutsSlots, Emits, EmitsAnyhow};
@@ -265,29 +266,22 @@ fn put_loop(
     ensures refused { OnErr result (spoiled_of sink.new ≡ true) }
 {
     match inst {
-        Inst::Popcnt {
-            sum,
-            tmp,
-            step,
-            rs,
-            ty,
-        } => put_popcnt(sink, flags, *sum, *tmp, *step, *rs, *ty),
-        Inst::Cltz {
-            sum,
-            tmp,
-            step,
-            rs,
-            leading,
-            ty,
-        } => put_zeros(sink, flags, *leading, *sum, *tmp, *step, *rs, *ty),
-        Inst::Brev8 {
-            rs,
-            ty,
-            step,
-            tmp,
-            tmp2,
-            rd,
-        } => put_reverse(sink, flags, *rd, *tmp, *tmp2, *step, *rs, *ty),
+        Inst::Popcnt { info } => {
+            let info = info.as_ref();
+            put_popcnt(sink, flags, info.sum, info.tmp, info.step, info.rs, info.ty)
+        }
+        Inst::Cltz { leading, info } => {
+            let info = info.as_ref();
+            put_zeros(
+                sink, flags, *leading, info.sum, info.tmp, info.step, info.rs, info.ty,
+            )
+        }
+        Inst::Brev8 { info } => {
+            let info = info.as_ref();
+            put_reverse(
+                sink, flags, info.rd, info.tmp, info.tmp2, info.step, info.rs, info.ty,
+            )
+        }
         Inst::StackProbeLoop {
             guard_size,
             probe_count,

@@ -79,9 +79,9 @@ fn loop_forgets(flags: IsaFlags, inst: &Inst) -> bool
     ensures { family_of inst.now ≡ Loop → (frame : FrameLayout) (constants : List Constant) (b : Buffer) (setting : Setting) → setting_after (context_by flags frame constants) b inst.now setting ≡ setting_beyond result setting }
 {
     match inst {
-        Inst::Popcnt { .. }
+        Inst::Popcnt { info: _ }
         | Inst::Cltz { .. }
-        | Inst::Brev8 { .. }
+        | Inst::Brev8 { info: _ }
         | Inst::StackProbeLoop { .. } => !flags.has_zca,
         _ => false,
     }

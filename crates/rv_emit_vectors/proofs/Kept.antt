@@ -6,17 +6,19 @@ use Rattle.std.proofs.lemmas.List.{length-append}
 use Rattle.rv_base.specs.declared.label.MachLabel.{MachLabel}
 use Rattle.rv_base.specs.LabelUse.{code_limit, Kinds, IsFresh}
 use Rattle.mach_labels.specs.Table.{first_inner, first_constant}
-use Rattle.mach_buffer.specs.declared.uses.Use.{Use}
+use Rattle.mach_uses.specs.declared.uses.Use.{Use}
 use Rattle.mach_buffer.specs.declared.buffer.MachBuffer.{MachBuffer}
 use Rattle.rv_base.specs.declared.constant.VCodeConstant.{VCodeConstant}
-use Rattle.mach_buffer.specs.declared.records.ConstPlace.{ConstPlace}
-use Rattle.mach_buffer.specs.declared.records.Event.{Event}
+use Rattle.mach_records.specs.declared.records.ConstPlace.{ConstPlace}
+use Rattle.mach_records.specs.declared.records.Event.{Event}
 use Rattle.mach_buffer.specs.Constants.{end_after, reserve_of, AllStand}
 use Rattle.mach_buffer.specs.Growth.{Lasts}
-use Rattle.mach_buffer.specs.Windows.{window, AreWindows, IsApart}
-use Rattle.mach_buffer.specs.Reach.{deadline, deadlines, due_by, is_pending, is_other, HasSlack}
+use Rattle.mach_buffer.specs.Windows.{AreWindows}
+use Rattle.mach_uses.specs.Windows.{window, IsApart}
+use Rattle.mach_uses.specs.Reach.{deadline, deadlines, due_by, is_pending, is_other, HasSlack}
 use Rattle.mach_buffer.specs.Buffer.{shape_of, bytes_of, uses_of, place_of, allocated_of, constants_of, pending_of, IsSound}
-use Rattle.mach_buffer.specs.Shape.{Shape, with_bytes, with_use, with_label, with_allocated, with_record, with_named, constant_label, placed, core, recorded, IsKnown, IsUsable}
+use Rattle.mach_buffer.specs.Shape.{Shape, with_bytes, with_use, with_label, with_allocated, with_record, with_named, core, recorded, IsKnown, IsUsable}
+use Rattle.mach_uses.specs.Labels.{constant_label, placed}
 use Rattle.mach_buffer.specs.Islands.{aligned, padding, needs_own, first_of, others_of, is_far, IsJumpOver, CanIsland, Islanded, AddsOwn}
 use Rattle.mach_buffer.specs.Finish.{before_last, last_end, CanFinish}
 use Rattle.rv_emit_vectors.specs.Kept.{IsMet, IsKept}

@@ -20,12 +20,12 @@ use Rattle.rv_inst.specs.declared.label_use.LabelUse.TheVariants.{B12, PCRelHi20
 use Rattle.rv_inst.specs.LabelUse.{label_kinds}
 use Rattle.rv_inst.specs.Forms.{jump_kind, jump_size}
 use Rattle.rv_inst.specs.Rules.{inst_rule}
-use Rattle.mach_buffer.specs.declared.uses.Use.{Use}
-use Rattle.mach_buffer.specs.Reach.{CanReach, is_needed, deadlines}
+use Rattle.mach_uses.specs.declared.uses.Use.{Use}
+use Rattle.mach_uses.specs.Reach.{CanReach, is_needed, deadlines}
 use Rattle.mach_buffer.specs.Buffer.{shape_of, bytes_of, uses_of, place_of, allocated_of, records_of, registered_of, constants_of}
 use Rattle.mach_buffer.specs.Windows.{AreWindows}
 use Rattle.mach_buffer.specs.Shape.{Shape}
-use Rattle.mach_buffer.specs.declared.records.ConstPlace.{ConstPlace}
+use Rattle.mach_records.specs.declared.records.ConstPlace.{ConstPlace}
 use Rattle.mach_buffer.specs.Constants.{end_after, reserve_from, reserve_of, AllStand}
 use Rattle.mach_buffer.specs.Finish.{before_last, last_end, CanFinish}
 use Rattle.mach_buffer.proofs.Laws.{both_lists, windows_none, slack_from_reach, reaches_from_slack, veneers_reach, last_near, ends_within}

@@ -1,9 +1,9 @@
 -- What a caller keeps of a buffer from one item of code to the next.
 use Rattle.std.specs.Prelude.{◌≡◌, ℕ, ◌<◌, ◌≤◌, ◌⊎◌, true, [], ◌∷◌, length, Some, is_some, slice_get}
 use Rattle.rv_base.specs.LabelUse.{Kinds}
-use Rattle.mach_buffer.specs.declared.uses.Use.{Use}
+use Rattle.mach_uses.specs.declared.uses.Use.{Use}
 use Rattle.mach_buffer.specs.declared.buffer.MachBuffer.{MachBuffer}
-use Rattle.mach_buffer.specs.Reach.{HasSlack}
+use Rattle.mach_uses.specs.Reach.{HasSlack}
 use Rattle.mach_buffer.specs.Buffer.{shape_of, bytes_of, uses_of, pending_of, IsSound}
 use Rattle.mach_buffer.specs.Shape.{Shape, IsConstantLabel}
 use Rattle.mach_buffer.specs.Constants.{AllStand}

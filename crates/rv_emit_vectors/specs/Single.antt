@@ -10,8 +10,8 @@ use Rattle.rv_inst.specs.declared.inst.CondBrTarget.TheVariants.{Label, Fallthro
 use Rattle.rv_inst.specs.declared.label_use.LabelUse.{LabelUse}
 use Rattle.rv_inst.specs.LabelUse.{label_kinds, has_veneer_of}
 use Rattle.mach_buffer.specs.Islands.{is_far}
-use Rattle.mach_buffer.specs.declared.uses.Use.{Use}
-use Rattle.mach_buffer.specs.Reach.{CanReach}
+use Rattle.mach_uses.specs.declared.uses.Use.{Use}
+use Rattle.mach_uses.specs.Reach.{CanReach}
 use Rattle.mach_buffer.specs.Buffer.{bytes_of, uses_of, place_of, allocated_of, records_of, registered_of, constants_of}
 use Rattle.rv_emit.specs.Emitted.{Buffer, IsSoundBuffer, HasWindows, pending}
 

@@ -206,8 +206,9 @@ pub fn inst_of(step: Step) -> UnwindInst {
 
 ghost use Rattle.std.specs.Prelude.{OnOk, ℕ, ◌+◌, ◌*◌, true, is_some};
 ghost use Rattle.mach_buffer.specs.Buffer.{shape_of, registered_of, pending_of};
-ghost use Rattle.mach_buffer.specs.Reach.{HasSlack};
-ghost use Rattle.mach_buffer.specs.Shape.{inner_count, IsUsable};
+ghost use Rattle.mach_uses.specs.Reach.{HasSlack};
+ghost use Rattle.mach_buffer.specs.Shape.{IsUsable};
+ghost use Rattle.mach_uses.specs.Labels.{inner_count};
 ghost use Rattle.mach_buffer.specs.Constants.{reserve_of};
 ghost use Rattle.rv_emit_vectors.specs.Kept.{IsMet, IsKept, IsOneByte};
 

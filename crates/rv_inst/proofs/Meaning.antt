@@ -40,7 +40,7 @@ agree_first {e} {f} labels more a = record { start = a.start; after = a.after; f
 inst_effect_agrees : {e f : Environment} (inst : Inst) (v : Values) → AgreeOn (inst_labels inst) e f → inst_effect e inst v ≡ inst_effect f inst v
 inst_effect_agrees (Auipc rd imm) v a = ap (λ n. set_reg v (number_of rd.reg) (wrap (n + low64 imm.value * 2 ^ 12))) a.start
 inst_effect_agrees (Load rd op flags from) v a = ap (λ n. set_reg v (number_of rd.reg) (load_result (load_op op) v.mem n)) (address_agrees (load_size op) from v (agree_first (labels_of (address_targets (load_size op) from)) [] a))
-inst_effect_agrees (Store to op flags src) v a = ap (λ n. put_bytes v n (store_bytes (store_op op) (reg v (number_of src)))) (address_agrees 0 to v (agree_first (labels_of (address_targets 0 to)) [] a))
+inst_effect_agrees (Store src op flags to) v a = ap (λ n. put_bytes v n (store_bytes (store_op op) (reg v (number_of src)))) (address_agrees 0 to v (agree_first (labels_of (address_targets 0 to)) [] a))
 inst_effect_agrees (LoadAddr rd mem) v a = ap (set_reg v (number_of rd.reg)) (address_agrees 0 mem v (agree_first (labels_of (address_targets 0 mem)) [] a))
 inst_effect_agrees (LabelAddress dst label) v a = ap (set_reg v (number_of dst.reg)) a.labels_same.0
 inst_effect_agrees (Jalr rd base offset) v a = ap (set_reg v (number_of rd.reg)) a.after
@@ -54,7 +54,7 @@ inst_effect_agrees (ReturnCallInd info) v a = ap (λ frame. frame_left frame inf
 inst_effect_agrees _ v a = refl
 
 inst_writes_agree : {e f : Environment} (inst : Inst) (v : Values) → AgreeOn (inst_labels inst) e f → inst_writes e inst v ≡ inst_writes f inst v
-inst_writes_agree (Store to op flags src) v a = ap (λ n. addresses_from n (store_size op)) (address_agrees 0 to v (agree_first (labels_of (address_targets 0 to)) [] a))
+inst_writes_agree (Store src op flags to) v a = ap (λ n. addresses_from n (store_size op)) (address_agrees 0 to v (agree_first (labels_of (address_targets 0 to)) [] a))
 inst_writes_agree _ v a = refl
 
 inst_exit_agrees : {e f : Environment} (inst : Inst) (v : Values) → AgreeOn (inst_labels inst) e f → inst_exit e inst v ≡ inst_exit f inst v

@@ -162,10 +162,10 @@ plain_load rd op flags from e f =
     (λ i. record (has_other_class (none_of is_other_class not_other (rd.reg ∷ registers_of from) all i)) { zeroed = a.based i && is_zero rd.reg; range = a.near i })
     (λ constants. ap (lacks_named constants) (a.targets (load_size op))) (λ i. list_any is_buffer_label (labels_of (a.targets (load_size op) i) ++ [])) refl (λ context. refl)
 
-pub plain_store : (to : AMode) (op : StoreOP) (flags : MemFlagsData) (src : Reg) → is_usable src ≡ true → is_plain_address to ≡ true → IsPlain (Store to op flags src)
+pub plain_store : (to : AMode) (op : StoreOP) (flags : MemFlagsData) (src : Reg) → is_usable src ≡ true → is_plain_address to ≡ true → IsPlain (Store src op flags to)
 plain_store to op flags src e f =
     let a = plain_address to f in
     let all = usable_and src (registers_of to) e a.usable in
-    plain (Store to op flags src) all
+    plain (Store src op flags to) all
     (λ i. record (has_other_class (none_of is_other_class not_other (src ∷ registers_of to) all i)) { range = a.near i })
     (λ constants. ap (lacks_named constants) (a.targets 0)) (λ i. list_any is_buffer_label (labels_of (a.targets 0 i) ++ [])) refl (λ context. refl)

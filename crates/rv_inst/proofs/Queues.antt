@@ -1,7 +1,7 @@
 -- Of the kinds of use that support a veneer each has a queue of its own.
 use Rattle.std.proofs.Common.{◌≡◌, ◌∙◌, ℕ, zero, suc, true, refl, ap, sym}
-use Rattle.mach_buffer.specs.declared.uses.Use.{Use}
-use Rattle.mach_buffer.specs.Queues.{queue_for, queue_of}
+use Rattle.mach_uses.specs.declared.uses.Use.{Use}
+use Rattle.mach_uses.specs.Queues.{queue_for, queue_of}
 use Rattle.rv_inst.specs.declared.label_use.LabelUse.{LabelUse}
 use Rattle.rv_inst.specs.declared.label_use.LabelUse.TheVariants.{Jal20, B12, PCRel32, PCRelHi20, PCRelLo12I, RVCJump}
 use Rattle.rv_inst.specs.LabelUse.{forward_of, has_veneer_of, label_kinds}

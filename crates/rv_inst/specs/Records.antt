@@ -15,11 +15,11 @@ use Rattle.rv_inst.specs.Forms.{short_jalr}
 use Rattle.rv_inst.specs.Sizes.{call_size}
 use Rattle.rv_inst.specs.declared.inst.Inst.{Inst}
 use Rattle.rv_inst.specs.declared.inst.Inst.TheVariants.{Nop0, Nop4, EBreak, SequencePoint, Args, Rets, DummyUse, Unwind, EmitIsland, RawData, Lui, Auipc, LoadInlineConst, AluRRR, AluRRImm12, Mov, MovFromPReg, Extend, Select, Load, Store, LoadAddr, LabelAddress, Ret, TrapIf, Jal, CondBr, BrTable, Udf, Jalr, Popcnt, Cltz, Brev8, StackProbeLoop, LoadExtNameGot, LoadExtNameNear, LoadExtNameFar, Call, CallInd, ReturnCall, ReturnCallInd}
-use Rattle.mach_buffer.specs.declared.records.Event.{Event}
-use Rattle.mach_buffer.specs.declared.records.Event.TheVariants as event
-use Rattle.mach_buffer.specs.declared.records.FinalizedRelocTarget.TheVariants.{ExternalName as ToName, Func as ToPlace}
-use Rattle.mach_buffer.specs.declared.records.MachRecord.{MachRecord}
-use Rattle.mach_buffer.specs.declared.records.MachTrap.{MachTrap}
+use Rattle.mach_records.specs.declared.records.Event.{Event}
+use Rattle.mach_records.specs.declared.records.Event.TheVariants as event
+use Rattle.mach_records.specs.declared.records.FinalizedRelocTarget.TheVariants.{ExternalName as ToName, Func as ToPlace}
+use Rattle.mach_records.specs.declared.records.MachRecord.{MachRecord}
+use Rattle.mach_records.specs.declared.records.MachTrap.{MachTrap}
 
 -- the trap of an access, where it may trap, at the offset of its own instruction
 abbrev pub access_records : ℕ → Option TrapCode → List MachRecord
@@ -73,7 +73,7 @@ inst_records context start end (MovFromPReg rd rm) = []
 inst_records context start end (Extend rd rn signed from_bits to_bits) = []
 inst_records context start end (Select info) = []
 inst_records context start end (Load rd op flags from) = access_records (end - load_own_size context.flags op (number_of rd.reg) (location_of context.frame from)) flags.trap
-inst_records context start end (Store to op flags src) = access_records (end - store_own_size context.flags op (number_of src) (location_of context.frame to)) flags.trap
+inst_records context start end (Store src op flags to) = access_records (end - store_own_size context.flags op (number_of src) (location_of context.frame to)) flags.trap
 inst_records context start end (LoadAddr rd mem) = []
 inst_records context start end (LabelAddress dst label) = []
 inst_records context start end Ret = []
@@ -83,9 +83,9 @@ inst_records context start end (CondBr taken not_taken kind) = []
 inst_records context start end (BrTable index tmp1 tmp2 targets) = []
 inst_records context start end (Udf code) = record { offset = start; event = event.Trap code } ∷ []
 inst_records context start end (Jalr rd base offset) = []
-inst_records context start end (Popcnt sum tmp step rs type) = []
-inst_records context start end (Cltz sum tmp step rs leading type) = []
-inst_records context start end (Brev8 rs type step tmp tmp2 rd) = []
+inst_records context start end (Popcnt info) = []
+inst_records context start end (Cltz leading info) = []
+inst_records context start end (Brev8 info) = []
 inst_records context start end (StackProbeLoop guard_size probe_count tmp) = []
 inst_records context start end (LoadExtNameGot rd name) = part_records start RiscvGotHi20 name (pos 0)
 inst_records context start end (LoadExtNameNear rd name offset) = part_records start RiscvPCRelHi20 name offset

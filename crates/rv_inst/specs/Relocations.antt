@@ -2,8 +2,8 @@
 use Rattle.std.specs.Prelude.{◌≡◌, ℕ, List, slice_get, Some}
 use Rattle.rv_base.specs.declared.reloc.Reloc.{Reloc}
 use Rattle.rv_base.specs.declared.reloc.Reloc.TheVariants.{RiscvCallPlt, RiscvGotHi20, RiscvPCRelHi20, RiscvPCRelLo12I, Abs8}
-use Rattle.mach_buffer.specs.declared.records.MachReloc.{MachReloc}
-use Rattle.mach_buffer.specs.Windows.{IsApart}
+use Rattle.mach_records.specs.declared.records.MachReloc.{MachReloc}
+use Rattle.mach_uses.specs.Windows.{IsApart}
 
 -- how many bytes it fills, from its offset on: those of one instruction, of the two of a call, or of an address
 abbrev pub field_size : Reloc → ℕ

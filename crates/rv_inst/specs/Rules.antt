@@ -283,7 +283,7 @@ faults_of (MovFromPReg rd rm) = has_other_class (is_other_class rd.reg || not (i
 faults_of (Extend rd rn signed from_bits to_bits) = record (has_other_class (list_any is_other_class (rd.reg ∷ rn ∷ []))) { range = not (nat_le 1 from_bits && nat_le from_bits 64) }
 faults_of (Select info) = record (has_other_class (list_any is_other_class (written_in info.dst ++ info.condition.rs1 ∷ info.condition.rs2 ∷ all_of info.x ++ all_of info.y))) { clashing = is_uneven info.dst info.x info.y || select_clash info.dst (info.condition.rs1 ∷ info.condition.rs2 ∷ []) (all_of info.x ++ all_of info.y) }
 faults_of (Load rd op flags from) = record (has_other_class (list_any is_other_class (rd.reg ∷ registers_of from))) { zeroed = is_none (base_of from) && is_zero rd.reg; range = is_distant (own_offset from) }
-faults_of (Store to op flags src) = record (has_other_class (list_any is_other_class (src ∷ registers_of to))) { range = is_distant (own_offset to) }
+faults_of (Store src op flags to) = record (has_other_class (list_any is_other_class (src ∷ registers_of to))) { range = is_distant (own_offset to) }
 faults_of (LoadAddr rd mem) = record (has_other_class (list_any is_other_class (rd.reg ∷ registers_of mem))) { zeroed = is_zero rd.reg; clashing = is_base rd.reg (base_of mem); range = is_distant (own_offset mem) }
 faults_of (LabelAddress dst label) = record (has_other_class (list_any is_other_class (dst.reg ∷ []))) { zeroed = list_any is_zero (dst.reg ∷ []) }
 faults_of Ret = has_other_class false
@@ -297,12 +297,12 @@ faults_of (BrTable index tmp1 tmp2 targets) = record (has_other_class (list_any 
 }
 faults_of (Udf code) = has_other_class false
 faults_of (Jalr rd base offset) = has_other_class (list_any is_other_class (rd.reg ∷ base ∷ []))
-faults_of (Popcnt sum tmp step rs type) = count_faults sum tmp step rs type
-faults_of (Cltz sum tmp step rs leading type) = count_faults sum tmp step rs type
-faults_of (Brev8 rs type step tmp tmp2 rd) = record (has_other_class (list_any is_other_class (rs ∷ step.reg ∷ tmp.reg ∷ tmp2.reg ∷ rd.reg ∷ []))) {
-  zeroed = list_any is_zero (rd.reg ∷ tmp.reg ∷ tmp2.reg ∷ step.reg ∷ []);
-  clashing = clash (rd.reg ∷ tmp.reg ∷ tmp2.reg ∷ step.reg ∷ []) (rs ∷ []);
-  type = not (is_int_type type);
+faults_of (Popcnt info) = count_faults info.sum info.tmp info.step info.rs info.ty
+faults_of (Cltz leading info) = count_faults info.sum info.tmp info.step info.rs info.ty
+faults_of (Brev8 info) = record (has_other_class (list_any is_other_class (info.rs ∷ info.step.reg ∷ info.tmp.reg ∷ info.tmp2.reg ∷ info.rd.reg ∷ []))) {
+  zeroed = list_any is_zero (info.rd.reg ∷ info.tmp.reg ∷ info.tmp2.reg ∷ info.step.reg ∷ []);
+  clashing = clash (info.rd.reg ∷ info.tmp.reg ∷ info.tmp2.reg ∷ info.step.reg ∷ []) (info.rs ∷ []);
+  type = not (is_int_type info.ty);
 }
 faults_of (StackProbeLoop guard_size probe_count tmp) = record (has_other_class (list_any is_other_class (tmp.reg ∷ []))) { zeroed = list_any is_zero (tmp.reg ∷ []); clashing = is_stack tmp.reg }
 faults_of (LoadExtNameGot rd name) = record (has_other_class (list_any is_other_class (rd.reg ∷ []))) { zeroed = list_any is_zero (rd.reg ∷ []) }

@@ -16,8 +16,8 @@ use Rattle.rv_inst.specs.Context.{Context}
 use Rattle.rv_inst.specs.Forms.{jump_kind, jump_size}
 use Rattle.rv_inst.specs.LabelUse.{forward_of}
 use Rattle.rv_inst.specs.Operands.{targets_of, try_call_of}
-use Rattle.mach_buffer.specs.Shape.{constant_label}
-use Rattle.mach_buffer.specs.declared.uses.Use.{Use}
+use Rattle.mach_uses.specs.Labels.{constant_label}
+use Rattle.mach_uses.specs.declared.uses.Use.{Use}
 
 abbrev pub use_at : ℕ → MachLabel → LabelUse → Use LabelUse
 use_at offset label kind = record { offset = offset; label = label; kind = kind; veneer = None }

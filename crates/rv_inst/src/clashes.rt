@@ -5,7 +5,7 @@ ghost use Rattle.std.specs.List.{list_any};
 ghost use Rattle.rv_inst.specs.Operands.{all_of};
 ghost use Rattle.rv_inst.specs.Rules.{is_zero, same_class, same_register, is_base, is_one_of, clash, is_uneven, select_clash, is_stack, has_zero, has_clash};
 
-use crate::inst::Inst;
+use crate::inst::{CountInfo, Inst};
 use crate::results::results_clash;
 use rv_base::{Reg, RegClass, ValueRegs, WritableReg};
 use rv_ops::IntegerCompare;
@@ -89,6 +89,18 @@ fn four_clash(first: Reg, second: Reg, third: Reg, fourth: Reg, input: Reg) -> b
     is_one_of(first, &[second, third, fourth, input]) || three_clash(second, third, fourth, input)
 }
 
+fn count_has_zero(info: &CountInfo) -> bool
+    ensures { result ≡ list_any is_zero (info.now.sum.reg ∷ info.now.tmp.reg ∷ info.now.step.reg ∷ []) }
+{
+    any_is_zero(&[info.sum.reg, info.tmp.reg, info.step.reg])
+}
+
+fn count_clashes(info: &CountInfo) -> bool
+    ensures { result ≡ clash (info.now.sum.reg ∷ info.now.tmp.reg ∷ info.now.step.reg ∷ []) (info.now.rs ∷ []) }
+{
+    three_clash(info.sum.reg, info.tmp.reg, info.step.reg, info.rs)
+}
+
 /// Returns whether values are held in other numbers of registers.
 fn is_uneven(dst: ValueRegs<WritableReg>, x: ValueRegs<Reg>, y: ValueRegs<Reg>) -> bool
     ensures { result ≡ is_uneven dst x y }
@@ -169,29 +181,12 @@ pub fn has_zero(inst: &Inst) -> bool
             tmp2,
             targets: _,
         } => any_is_zero(&[tmp1.reg, tmp2.reg]),
-        Inst::Popcnt {
-            sum,
-            tmp,
-            step,
-            rs: _,
-            ty: _,
-        } => any_is_zero(&[sum.reg, tmp.reg, step.reg]),
-        Inst::Cltz {
-            sum,
-            tmp,
-            step,
-            rs: _,
-            leading: _,
-            ty: _,
-        } => any_is_zero(&[sum.reg, tmp.reg, step.reg]),
-        Inst::Brev8 {
-            rs: _,
-            ty: _,
-            step,
-            tmp,
-            tmp2,
-            rd,
-        } => any_is_zero(&[rd.reg, tmp.reg, tmp2.reg, step.reg]),
+        Inst::Popcnt { info } => count_has_zero(info.as_ref()),
+        Inst::Cltz { leading: _, info } => count_has_zero(info.as_ref()),
+        Inst::Brev8 { info } => {
+            let info = info.as_ref();
+            any_is_zero(&[info.rd.reg, info.tmp.reg, info.tmp2.reg, info.step.reg])
+        }
         Inst::StackProbeLoop {
             guard_size: _,
             probe_count: _,
@@ -230,29 +225,18 @@ pub fn has_clash(inst: &Inst) -> bool
             tmp2,
             targets: _,
         } => two_clash(tmp1.reg, tmp2.reg, *index),
-        Inst::Popcnt {
-            sum,
-            tmp,
-            step,
-            rs,
-            ty: _,
-        } => three_clash(sum.reg, tmp.reg, step.reg, *rs),
-        Inst::Cltz {
-            sum,
-            tmp,
-            step,
-            rs,
-            leading: _,
-            ty: _,
-        } => three_clash(sum.reg, tmp.reg, step.reg, *rs),
-        Inst::Brev8 {
-            rs,
-            ty: _,
-            step,
-            tmp,
-            tmp2,
-            rd,
-        } => four_clash(rd.reg, tmp.reg, tmp2.reg, step.reg, *rs),
+        Inst::Popcnt { info } => count_clashes(info.as_ref()),
+        Inst::Cltz { leading: _, info } => count_clashes(info.as_ref()),
+        Inst::Brev8 { info } => {
+            let info = info.as_ref();
+            four_clash(
+                info.rd.reg,
+                info.tmp.reg,
+                info.tmp2.reg,
+                info.step.reg,
+                info.rs,
+            )
+        }
         Inst::StackProbeLoop {
             guard_size: _,
             probe_count: _,

@@ -2,10 +2,11 @@
 
 ghost use Rattle.std.specs.Prelude.{length, ◌<◌, ◌^◌};
 
-pub use mach_buffer::{
-    ConstPlace, FinalizedMachExceptionHandler, LabelPlace, MachPatchable, MachReloc, MachStackMap,
-    MachTrap, MachTryCallSite, MachUnwind,
+pub use mach_records::{
+    ConstPlace, FinalizedMachExceptionHandler, MachPatchable, MachReloc, MachStackMap, MachTrap,
+    MachTryCallSite, MachUnwind,
 };
+pub use mach_uses::LabelPlace;
 use rv_base::List;
 
 /// Where the bytes of a line begin and end.

@@ -113,7 +113,7 @@ impl Inst {
     /// chapters "RV32I" and "RV64I Base Integer Instruction Set", "Load and Store Instructions").
     pub fn gen_store(mem: AMode, from_reg: Reg, ty: IrType, flags: MemFlagsData) -> Inst
         requires { IsSome (store_of ty) }
-        ensures { IfSome (store_of ty) (λ op. result ≡ Store mem op flags from_reg) }
+        ensures { IfSome (store_of ty) (λ op. result ≡ Store from_reg op flags mem) }
     {
         Inst::Store {
             to: mem,

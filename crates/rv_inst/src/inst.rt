@@ -54,13 +54,34 @@ impl fmt::Display for CondBrTarget {
     }
 }
 
-/// The parts of a `Select`, which stand on the heap, since they are wider than those of any other instruction.
+/// The parts of a `Select`, which stand on the heap, since a line has no room for them.
 #[derive(Clone, Copy)]
 pub struct SelectInfo {
     pub dst: ValueRegs<WritableReg>,
     pub condition: IntegerCompare,
     pub x: ValueRegs<Reg>,
     pub y: ValueRegs<Reg>,
+}
+
+/// The parts of a `Popcnt` or a `Cltz`, which stand on the heap, since a line has no room for them.
+#[derive(Clone, Copy)]
+pub struct CountInfo {
+    pub sum: WritableReg,
+    pub tmp: WritableReg,
+    pub step: WritableReg,
+    pub rs: Reg,
+    pub ty: IrType,
+}
+
+/// The parts of a `Brev8`, which stand on the heap, since a line has no room for them.
+#[derive(Clone, Copy)]
+pub struct Brev8Info {
+    pub rs: Reg,
+    pub ty: IrType,
+    pub step: WritableReg,
+    pub tmp: WritableReg,
+    pub tmp2: WritableReg,
+    pub rd: WritableReg,
 }
 
 /// An instruction. Each belongs to one `Family`, by which definitions and functions over instructions are parted.
@@ -166,10 +187,11 @@ pub enum Inst {
     /// The low bytes of `src` go to the address, as many as the operation says. 4 bytes; where the offset isn't of twelve bits,
     /// signed, up to 28; to a label 12.
     Store {
-        to: AMode,
+        src: Reg,
         op: StoreOP,
         flags: MemFlagsData,
-        src: Reg,
+        /// Last, since a line has no room for the gaps that other orders leave.
+        to: AMode,
     },
     /// `rd` is the address. 4 bytes; where the offset isn't of twelve bits, signed, up to 24; of a label 8.
     LoadAddr {
@@ -205,7 +227,8 @@ pub enum Inst {
         index: Reg,
         tmp1: WritableReg,
         tmp2: WritableReg,
-        targets: List<MachLabel>,
+        /// On the heap, since a line has no room for a list beside three registers.
+        targets: Boxed<List<MachLabel>>,
     },
     /// Traps for the cause: four bytes of zeros, which the manual keeps undefined.
     Udf {
@@ -220,32 +243,19 @@ pub enum Inst {
     /// `sum` is how many of the low bits of `rs` are ones, of as many bits as the type has, which is an integer of at most 64
     /// bits. `tmp` and `step` are temporaries. 44 bytes, with a loop of one turn a bit.
     Popcnt {
-        sum: WritableReg,
-        tmp: WritableReg,
-        step: WritableReg,
-        rs: Reg,
-        ty: IrType,
+        info: Boxed<CountInfo>,
     },
     /// `sum` is how many zeros stand above the highest one of the low bits of `rs`, or below the lowest one: all of the bits,
     /// where none is one. The type is an integer of at most 64 bits, and `tmp` and `step` are temporaries. 44 or 40 bytes, with a
     /// loop of one turn a zero.
     Cltz {
-        sum: WritableReg,
-        tmp: WritableReg,
-        step: WritableReg,
-        rs: Reg,
         leading: bool,
-        ty: IrType,
+        info: Boxed<CountInfo>,
     },
     /// `rd` is the low bits of `rs`, of as many as the type has, which is an integer of at most 64 bits, with the bits of each
     /// byte in reverse order. `step`, `tmp` and `tmp2` are temporaries. 76 bytes, with a loop of one turn a bit.
     Brev8 {
-        rs: Reg,
-        ty: IrType,
-        step: WritableReg,
-        tmp: WritableReg,
-        tmp2: WritableReg,
-        rd: WritableReg,
+        info: Boxed<Brev8Info>,
     },
     /// A byte 0 goes to each address that is `guard_size` bytes times 2, 3 and so on up to `probe_count` below the stack pointer;
     /// none where the size is 0. `tmp` is a temporary. At most 60 bytes, with a loop of one turn a probe.
@@ -291,11 +301,13 @@ pub enum Inst {
     /// symbol. At most 28 bytes for each of these and for the stack pointer, and 8 for an `auipc` and a `jalr`, whose immediates a
     /// linker fills; after an island where one is needed before so many.
     ReturnCall {
-        info: ReturnCallInfo<ExternalName>,
+        /// On the heap, since a line has no room for it.
+        info: Boxed<ReturnCallInfo<ExternalName>>,
     },
     /// The same, leaving the code to the address in a register, which is t0, with bit 0 clear.
     ReturnCallInd {
-        info: ReturnCallInfo<Reg>,
+        /// On the heap, since a line has no room for it.
+        info: Boxed<ReturnCallInfo<Reg>>,
     },
 }
 
@@ -362,9 +374,9 @@ impl Inst {
             | Inst::BrTable { .. }
             | Inst::Udf { trap_code: _ }
             | Inst::Jalr { .. } => Family::Control,
-            Inst::Popcnt { .. }
+            Inst::Popcnt { info: _ }
             | Inst::Cltz { .. }
-            | Inst::Brev8 { .. }
+            | Inst::Brev8 { info: _ }
             | Inst::StackProbeLoop { .. } => Family::Loop,
             Inst::LoadExtNameGot { .. }
             | Inst::LoadExtNameNear { .. }
@@ -385,4 +397,4 @@ pub enum Line {
 }
 
 // A listing has very many of them. Parts that are wider stand on the heap.
-const _: () = prove!(size_of::<Line>() <= 64);
+const _: () = prove!(size_of::<Line>() <= 48);

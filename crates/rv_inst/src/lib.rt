@@ -28,7 +28,7 @@ pub use code::{
 };
 pub use error::{EmitError, Rule};
 pub use generators::{SmallInstVec, gen_moves};
-pub use inst::{CondBrTarget, Family, Inst, Line, SelectInfo};
+pub use inst::{Brev8Info, CondBrTarget, CountInfo, Family, Inst, Line, SelectInfo};
 pub use job::Job;
 pub use label_use::LabelUse;
 pub use tail_calls::{TailCall, is_bad_frame, is_bad_frame_for};

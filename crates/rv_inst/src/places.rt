@@ -103,8 +103,9 @@ fn call_misplaced(inst: &Inst) -> bool
             let info = info.as_ref();
             is_other_class(info.dest) || call_differs(info.uses.as_slice(), info.defs.as_slice())
         }
-        Inst::ReturnCall { info } => any_use_differs(info.uses.as_slice()),
+        Inst::ReturnCall { info } => any_use_differs(info.as_ref().uses.as_slice()),
         Inst::ReturnCallInd { info } => {
+            let info = info.as_ref();
             !is_fifth(info.dest) || any_use_differs(info.uses.as_slice())
         }
         _ => false,

@@ -51,29 +51,9 @@ pub fn has_bad_type(inst: &Inst) -> bool
     match inst {
         Inst::LoadInlineConst { rd: _, ty, imm: _ } => !is_word_type(*ty),
         Inst::Mov { rd: _, rm, ty } => is_bad_move(*rm, *ty),
-        Inst::Popcnt {
-            sum: _,
-            tmp: _,
-            step: _,
-            rs: _,
-            ty,
-        } => !is_int_type(*ty),
-        Inst::Cltz {
-            sum: _,
-            tmp: _,
-            step: _,
-            rs: _,
-            leading: _,
-            ty,
-        } => !is_int_type(*ty),
-        Inst::Brev8 {
-            rs: _,
-            ty,
-            step: _,
-            tmp: _,
-            tmp2: _,
-            rd: _,
-        } => !is_int_type(*ty),
+        Inst::Popcnt { info } => !is_int_type(info.as_ref().ty),
+        Inst::Cltz { leading: _, info } => !is_int_type(info.as_ref().ty),
+        Inst::Brev8 { info } => !is_int_type(info.as_ref().ty),
         Inst::Call { info } => any_is_unloadable(info.as_ref().defs.as_slice()),
         Inst::CallInd { info } => any_is_unloadable(info.as_ref().defs.as_slice()),
         _ => false,
@@ -150,7 +130,7 @@ pub fn has_empty_table(inst: &Inst) -> bool
             tmp1: _,
             tmp2: _,
             targets,
-        } => targets.len() == 0,
+        } => targets.as_ref().len() == 0,
         _ => false,
     }
 }

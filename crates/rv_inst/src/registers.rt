@@ -1,6 +1,6 @@
 //! Tests over the registers of an instruction.
 
-ghost use Rattle.std.specs.Prelude.{◌≡◌, ◌∷◌, ◌++◌};
+ghost use Rattle.std.specs.Prelude.{◌≡◌, [], ◌∷◌, ◌++◌};
 ghost use Rattle.std.specs.List.{list_any};
 ghost use Rattle.rv_inst.specs.Operands.{arg_registers, ret_registers, use_registers, location_registers, def_registers, all_of, written_in, unwind_registers, inst_registers};
 ghost use Rattle.rv_inst.specs.declared.inst.Family.TheVariants.{Pseudo, Integer, Memory, Control, Loop, Symbols, Calls};
@@ -8,7 +8,7 @@ ghost use Rattle.rv_inst.specs.Families.{family_of};
 ghost use Rattle.rv_inst.specs.RegisterTests.{test_of};
 
 use crate::addresses::address_has;
-use crate::inst::{Family, Inst, SelectInfo};
+use crate::inst::{CountInfo, Family, Inst, SelectInfo};
 use rv_base::{
     ArgPair, CallArgPair, CallRetPair, Reg, RegClass, RetLocation, RetPair, UnwindInst, ValueRegs,
     WritableReg,
@@ -288,34 +288,32 @@ pub fn control_has(test: RegisterTest, inst: &Inst) -> bool
     }
 }
 
+fn count_has(test: RegisterTest, info: &CountInfo) -> bool
+    ensures { result ≡ list_any (test_of test) (info.now.sum.reg ∷ info.now.tmp.reg ∷ info.now.step.reg ∷ info.now.rs ∷ []) }
+{
+    any_of(test, &[info.sum.reg, info.tmp.reg, info.step.reg, info.rs])
+}
+
 /// Returns whether the test holds of a register of an instruction that computes by a loop.
 pub fn loop_has(test: RegisterTest, inst: &Inst) -> bool
     ensures { family_of inst.now ≡ Loop → result ≡ list_any (test_of test) (inst_registers inst.now) }
 {
     match inst {
-        Inst::Popcnt {
-            sum,
-            tmp,
-            step,
-            rs,
-            ty: _,
-        } => any_of(test, &[sum.reg, tmp.reg, step.reg, *rs]),
-        Inst::Cltz {
-            sum,
-            tmp,
-            step,
-            rs,
-            leading: _,
-            ty: _,
-        } => any_of(test, &[sum.reg, tmp.reg, step.reg, *rs]),
-        Inst::Brev8 {
-            rs,
-            ty: _,
-            step,
-            tmp,
-            tmp2,
-            rd,
-        } => any_of(test, &[*rs, step.reg, tmp.reg, tmp2.reg, rd.reg]),
+        Inst::Popcnt { info } => count_has(test, info.as_ref()),
+        Inst::Cltz { leading: _, info } => count_has(test, info.as_ref()),
+        Inst::Brev8 { info } => {
+            let info = info.as_ref();
+            any_of(
+                test,
+                &[
+                    info.rs,
+                    info.step.reg,
+                    info.tmp.reg,
+                    info.tmp2.reg,
+                    info.rd.reg,
+                ],
+            )
+        }
         Inst::StackProbeLoop {
             guard_size: _,
             probe_count: _,
@@ -358,8 +356,9 @@ fn call_has(test: RegisterTest, inst: &Inst) -> bool
             let info = info.as_ref();
             holds(test, info.dest) || either_of(test, info.uses.as_slice(), info.defs.as_slice())
         }
-        Inst::ReturnCall { info } => any_of_uses(test, info.uses.as_slice()),
+        Inst::ReturnCall { info } => any_of_uses(test, info.as_ref().uses.as_slice()),
         Inst::ReturnCallInd { info } => {
+            let info = info.as_ref();
             holds(test, info.dest) || any_of_uses(test, info.uses.as_slice())
         }
         _ => false,

@@ -44,7 +44,7 @@ impl Inst {
                 tmp1: _,
                 tmp2: _,
                 targets,
-            } => 128 + 8 * (targets.len() as u128),
+            } => 128 + 8 * (targets.as_ref().len() as u128),
             Inst::Call { info } => results_sum(info.as_ref().defs.as_slice()),
             Inst::CallInd { info } => results_sum(info.as_ref().defs.as_slice()),
             Inst::ReturnCall { info: _ } | Inst::ReturnCallInd { info: _ } => {

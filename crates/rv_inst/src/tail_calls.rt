@@ -27,11 +27,11 @@ impl Inst {
     {
         match self {
             Inst::ReturnCall { info } => Some(TailCall {
-                stack_arg_size: info.new_stack_arg_size,
+                stack_arg_size: info.as_ref().new_stack_arg_size,
                 by_register: false,
             }),
             Inst::ReturnCallInd { info } => Some(TailCall {
-                stack_arg_size: info.new_stack_arg_size,
+                stack_arg_size: info.as_ref().new_stack_arg_size,
                 by_register: true,
             }),
             _ => None,

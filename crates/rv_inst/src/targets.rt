@@ -35,7 +35,7 @@ impl Inst {
                 tmp1: _,
                 tmp2: _,
                 targets,
-            } => targets.as_slice(),
+            } => targets.as_ref().as_slice(),
             _ => &[],
         }
     }

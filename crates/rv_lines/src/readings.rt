@@ -86,7 +86,7 @@ fn fields_of(inst: &Inst) -> Fields {
             number(*index),
             number(tmp1.reg),
             number(tmp2.reg),
-            labels_of(targets.as_slice()),
+            labels_of(targets.as_ref().as_slice()),
         ),
         _ => loop_fields(inst),
     }
@@ -94,49 +94,38 @@ fn fields_of(inst: &Inst) -> Fields {
 
 fn loop_fields(inst: &Inst) -> Fields {
     match inst {
-        Inst::Popcnt {
-            sum,
-            tmp,
-            step,
-            rs,
-            ty,
-        } => Fields::Popcnt(
-            number(sum.reg),
-            number(tmp.reg),
-            number(step.reg),
-            number(*rs),
-            *ty,
-        ),
-        Inst::Cltz {
-            sum,
-            tmp,
-            step,
-            rs,
-            leading,
-            ty,
-        } => Fields::Cltz(
-            number(sum.reg),
-            number(tmp.reg),
-            number(step.reg),
-            number(*rs),
-            *leading,
-            *ty,
-        ),
-        Inst::Brev8 {
-            rs,
-            ty,
-            step,
-            tmp,
-            tmp2,
-            rd,
-        } => Fields::Brev8(
-            number(*rs),
-            *ty,
-            number(step.reg),
-            number(tmp.reg),
-            number(tmp2.reg),
-            number(rd.reg),
-        ),
+        Inst::Popcnt { info } => {
+            let info = info.as_ref();
+            Fields::Popcnt(
+                number(info.sum.reg),
+                number(info.tmp.reg),
+                number(info.step.reg),
+                number(info.rs),
+                info.ty,
+            )
+        }
+        Inst::Cltz { leading, info } => {
+            let info = info.as_ref();
+            Fields::Cltz(
+                number(info.sum.reg),
+                number(info.tmp.reg),
+                number(info.step.reg),
+                number(info.rs),
+                *leading,
+                info.ty,
+            )
+        }
+        Inst::Brev8 { info } => {
+            let info = info.as_ref();
+            Fields::Brev8(
+                number(info.rs),
+                info.ty,
+                number(info.step.reg),
+                number(info.tmp.reg),
+                number(info.tmp2.reg),
+                number(info.rd.reg),
+            )
+        }
         Inst::StackProbeLoop {
             guard_size,
             probe_count,

@@ -16,16 +16,22 @@ enum Fields {
 
 fn fields_of(inst: &Inst) -> Fields {
     match inst {
-        Inst::ReturnCall { info } => Fields::ByName(
-            info.dest.number,
-            pairs_of(info.uses.as_slice()),
-            info.new_stack_arg_size,
-        ),
-        Inst::ReturnCallInd { info } => Fields::ByRegister(
-            number(info.dest),
-            pairs_of(info.uses.as_slice()),
-            info.new_stack_arg_size,
-        ),
+        Inst::ReturnCall { info } => {
+            let info = info.as_ref();
+            Fields::ByName(
+                info.dest.number,
+                pairs_of(info.uses.as_slice()),
+                info.new_stack_arg_size,
+            )
+        }
+        Inst::ReturnCallInd { info } => {
+            let info = info.as_ref();
+            Fields::ByRegister(
+                number(info.dest),
+                pairs_of(info.uses.as_slice()),
+                info.new_stack_arg_size,
+            )
+        }
         _ => Fields::Other,
     }
 }

@@ -6,10 +6,10 @@ use Rattle.std.specs.List.{flat_map, AllByRecursion}
 use Rattle.std.specs.Fmt.{decimal}
 use Rattle.std.proofs.lemmas.Bool.{ne_eqb}
 use Rattle.std.proofs.lemmas.Fmt.{decimal_injective}
-use Rattle.mach_buffer.specs.declared.records.FinalizedMachExceptionHandler.{FinalizedMachExceptionHandler}
-use Rattle.mach_buffer.specs.declared.records.FinalizedMachExceptionHandler.TheVariants.{Tag, Default}
-use Rattle.mach_buffer.specs.declared.records.MachTryCallSite.{MachTryCallSite}
-use Rattle.mach_buffer.specs.declared.records.MachStackMap.{MachStackMap}
+use Rattle.mach_records.specs.declared.records.FinalizedMachExceptionHandler.{FinalizedMachExceptionHandler}
+use Rattle.mach_records.specs.declared.records.FinalizedMachExceptionHandler.TheVariants.{Tag, Default}
+use Rattle.mach_records.specs.declared.records.MachTryCallSite.{MachTryCallSite}
+use Rattle.mach_records.specs.declared.records.MachStackMap.{MachStackMap}
 use Rattle.rv_base.specs.declared.ir_type.IrType.{IrType}
 use Rattle.rv_base.specs.declared.ir_type.IrType.TheVariants.{I8, I16, I32, I64, I128, F16, F32, F64, F128, Vector}
 use Rattle.rv_base.specs.declared.ir_type.LaneType.{LaneType}

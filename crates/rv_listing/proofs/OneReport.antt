@@ -7,8 +7,8 @@ use Rattle.std.specs.Coded.{le_prop}
 use Rattle.std.specs.Fmt.{decimal}
 use Rattle.rv_inst.specs.declared.code.LineSpan.{LineSpan}
 use Rattle.rv_inst.specs.declared.code.CallReturn.{CallReturn}
-use Rattle.mach_buffer.specs.declared.uses.LabelPlace.{LabelPlace}
-use Rattle.mach_buffer.specs.declared.records.ConstPlace.{ConstPlace}
+use Rattle.mach_uses.specs.declared.uses.LabelPlace.{LabelPlace}
+use Rattle.mach_records.specs.declared.records.ConstPlace.{ConstPlace}
 use Rattle.std.specs.Int.{w32, to_be_bytes}
 use Rattle.std.proofs.lemmas.List.{length-take, length-drop, take-append-drop}
 use Rattle.hex.specs.Hex.{IsBytes, encode_lower, lower_digits, decode_of}

@@ -3,12 +3,12 @@
 use Rattle.std.proofs.Common.{◌≡◌, ℕ, ◌<◌, List, [], ◌∷◌, ◌++◌, get_or, drop, Some, refl, sym, ap, ◌∙◌, append_assoc, lit≤, arith}
 use Rattle.std.specs.Prelude.{codes}
 use Rattle.std.specs.Fmt.{decimal, signed_decimal}
-use Rattle.mach_buffer.specs.declared.records.FinalizedRelocTarget.{FinalizedRelocTarget}
-use Rattle.mach_buffer.specs.declared.records.FinalizedRelocTarget.TheVariants.{ExternalName, Func}
-use Rattle.mach_buffer.specs.declared.records.MachReloc.{MachReloc}
-use Rattle.mach_buffer.specs.declared.records.MachTrap.{MachTrap}
-use Rattle.mach_buffer.specs.declared.records.MachPatchable.{MachPatchable}
-use Rattle.mach_buffer.specs.declared.records.MachUnwind.{MachUnwind}
+use Rattle.mach_records.specs.declared.records.FinalizedRelocTarget.{FinalizedRelocTarget}
+use Rattle.mach_records.specs.declared.records.FinalizedRelocTarget.TheVariants.{ExternalName, Func}
+use Rattle.mach_records.specs.declared.records.MachReloc.{MachReloc}
+use Rattle.mach_records.specs.declared.records.MachTrap.{MachTrap}
+use Rattle.mach_records.specs.declared.records.MachPatchable.{MachPatchable}
+use Rattle.mach_records.specs.declared.records.MachUnwind.{MachUnwind}
 use Rattle.rv_base.specs.declared.reloc.Reloc.{Reloc}
 use Rattle.rv_base.specs.declared.reloc.Reloc.TheVariants.{RiscvCallPlt, RiscvGotHi20, RiscvPCRelHi20, RiscvPCRelLo12I, Abs8}
 use Rattle.rv_base.specs.declared.regs.PReg.{PReg}

@@ -3,18 +3,18 @@ use Rattle.std.specs.Prelude.{ℕ, Option, Some, None, ◌<◌, ◌-◌, ◌^◌
 use Rattle.std.specs.List.{AllByRecursion}
 use Rattle.rv_inst.specs.declared.code.LineSpan.{LineSpan}
 use Rattle.rv_inst.specs.declared.code.CallReturn.{CallReturn}
-use Rattle.mach_buffer.specs.declared.uses.LabelPlace.{LabelPlace}
-use Rattle.mach_buffer.specs.declared.records.ConstPlace.{ConstPlace}
-use Rattle.mach_buffer.specs.declared.records.FinalizedRelocTarget.{FinalizedRelocTarget}
-use Rattle.mach_buffer.specs.declared.records.FinalizedRelocTarget.TheVariants.{ExternalName, Func}
-use Rattle.mach_buffer.specs.declared.records.MachReloc.{MachReloc}
-use Rattle.mach_buffer.specs.declared.records.MachTrap.{MachTrap}
-use Rattle.mach_buffer.specs.declared.records.MachPatchable.{MachPatchable}
-use Rattle.mach_buffer.specs.declared.records.MachUnwind.{MachUnwind}
-use Rattle.mach_buffer.specs.declared.records.FinalizedMachExceptionHandler.{FinalizedMachExceptionHandler}
-use Rattle.mach_buffer.specs.declared.records.FinalizedMachExceptionHandler.TheVariants.{Tag, Default}
-use Rattle.mach_buffer.specs.declared.records.MachTryCallSite.{MachTryCallSite}
-use Rattle.mach_buffer.specs.declared.records.MachStackMap.{MachStackMap}
+use Rattle.mach_uses.specs.declared.uses.LabelPlace.{LabelPlace}
+use Rattle.mach_records.specs.declared.records.ConstPlace.{ConstPlace}
+use Rattle.mach_records.specs.declared.records.FinalizedRelocTarget.{FinalizedRelocTarget}
+use Rattle.mach_records.specs.declared.records.FinalizedRelocTarget.TheVariants.{ExternalName, Func}
+use Rattle.mach_records.specs.declared.records.MachReloc.{MachReloc}
+use Rattle.mach_records.specs.declared.records.MachTrap.{MachTrap}
+use Rattle.mach_records.specs.declared.records.MachPatchable.{MachPatchable}
+use Rattle.mach_records.specs.declared.records.MachUnwind.{MachUnwind}
+use Rattle.mach_records.specs.declared.records.FinalizedMachExceptionHandler.{FinalizedMachExceptionHandler}
+use Rattle.mach_records.specs.declared.records.FinalizedMachExceptionHandler.TheVariants.{Tag, Default}
+use Rattle.mach_records.specs.declared.records.MachTryCallSite.{MachTryCallSite}
+use Rattle.mach_records.specs.declared.records.MachStackMap.{MachStackMap}
 use Rattle.rv_base.specs.declared.ir_type.IrType.{IrType}
 use Rattle.rv_base.specs.declared.regs.Reg.{Reg}
 use Rattle.rv_base.specs.declared.regs.Reg.TheVariants.{Real, Virtual}

@@ -1,14 +1,20 @@
 -- The forms of lines: a token for each field.
-use Rattle.std.specs.Prelude.{ℕ, List, Option, Some}
+use Rattle.std.specs.Prelude.{ℕ, Bool, List, Option, Some}
 use Rattle.rv_base.specs.declared.call.CallArgPair.{CallArgPair}
 use Rattle.rv_base.specs.declared.external_name.ExternalName.{ExternalName}
+use Rattle.rv_base.specs.declared.amode.AMode.{AMode}
+use Rattle.rv_base.specs.declared.ir_type.IrType.{IrType}
+use Rattle.rv_base.specs.declared.mem_flags.MemFlagsData.{MemFlagsData}
 use Rattle.rv_base.specs.declared.regs.Reg.{Reg}
 use Rattle.rv_base.specs.declared.regs.Writable.{Writable}
 use Rattle.rv_base.specs.declared.value_regs.ValueRegs.{ValueRegs}
 use Rattle.rv_base.specs.declared.condcodes.IntCC.{IntCC}
 use Rattle.rv_base.specs.declared.trap.TrapCode.{TrapCode}
+use Rattle.rv_ops.specs.declared.memory.StoreOP.{StoreOP}
 use Rattle.rv_inst.specs.declared.inst.CondBrTarget.{CondBrTarget}
 use Rattle.rv_inst.specs.declared.inst.SelectInfo.{SelectInfo}
+use Rattle.rv_inst.specs.declared.inst.CountInfo.{CountInfo}
+use Rattle.rv_inst.specs.declared.inst.Brev8Info.{Brev8Info}
 use Rattle.rv_inst.specs.declared.inst.Inst.{Inst}
 use Rattle.rv_inst.specs.declared.inst.Inst.TheVariants as form
 use Rattle.rv_inst.specs.declared.inst.Line.{Line}
@@ -103,8 +109,12 @@ select_form ws = select_info_form ws >>= λ info. Some (form.Select info)
 unfoldable pub load_form : List (List ℕ) → Option Inst
 load_form = whole (done form.Load ⊛ writable ⊛ load_op ⊛ access_flags ⊛ amode)
 
+-- the address comes first in a line, and last in the instruction
+abbrev pub storing : AMode → StoreOP → MemFlagsData → Reg → Inst
+storing to op flags src = form.Store src op flags to
+
 unfoldable pub store_form : List (List ℕ) → Option Inst
-store_form = whole (done form.Store ⊛ amode ⊛ store_op ⊛ access_flags ⊛ register)
+store_form = whole (done storing ⊛ amode ⊛ store_op ⊛ access_flags ⊛ register)
 
 unfoldable pub load_addr_form : List (List ℕ) → Option Inst
 load_addr_form = whole (done form.LoadAddr ⊛ writable ⊛ amode)
@@ -145,14 +155,33 @@ jalr_form = whole (done form.Jalr ⊛ writable ⊛ register ⊛ imm12)
 
 -- ---- those that compute by a loop
 
+abbrev pub counting : Writable Reg → Writable Reg → Writable Reg → Reg → IrType → CountInfo
+counting sum tmp step rs type = record { sum = sum; tmp = tmp; step = step; rs = rs; ty = type }
+
+unfoldable pub popcnt_info_form : List (List ℕ) → Option CountInfo
+popcnt_info_form = whole (done counting ⊛ writable ⊛ writable ⊛ writable ⊛ register ⊛ type_named)
+
 unfoldable pub popcnt_form : List (List ℕ) → Option Inst
-popcnt_form = whole (done form.Popcnt ⊛ writable ⊛ writable ⊛ writable ⊛ register ⊛ type_named)
+popcnt_form ws = popcnt_info_form ws >>= λ info. Some (form.Popcnt info)
+
+-- which zeros are counted stands between the registers and the type
+abbrev pub counting_zeros : Writable Reg → Writable Reg → Writable Reg → Reg → Bool → IrType → Bool × CountInfo
+counting_zeros sum tmp step rs leading type = (leading, counting sum tmp step rs type)
+
+unfoldable pub cltz_info_form : List (List ℕ) → Option (Bool × CountInfo)
+cltz_info_form = whole (done counting_zeros ⊛ writable ⊛ writable ⊛ writable ⊛ register ⊛ leading ⊛ type_named)
 
 unfoldable pub cltz_form : List (List ℕ) → Option Inst
-cltz_form = whole (done form.Cltz ⊛ writable ⊛ writable ⊛ writable ⊛ register ⊛ leading ⊛ type_named)
+cltz_form ws = cltz_info_form ws >>= λ parts. Some (form.Cltz parts.0 parts.1)
+
+abbrev pub reversing : Reg → IrType → Writable Reg → Writable Reg → Writable Reg → Writable Reg → Brev8Info
+reversing rs type step tmp tmp2 rd = record { rs = rs; ty = type; step = step; tmp = tmp; tmp2 = tmp2; rd = rd }
+
+unfoldable pub brev8_info_form : List (List ℕ) → Option Brev8Info
+brev8_info_form = whole (done reversing ⊛ register ⊛ type_named ⊛ writable ⊛ writable ⊛ writable ⊛ writable)
 
 unfoldable pub brev8_form : List (List ℕ) → Option Inst
-brev8_form = whole (done form.Brev8 ⊛ register ⊛ type_named ⊛ writable ⊛ writable ⊛ writable ⊛ writable)
+brev8_form ws = brev8_info_form ws >>= λ info. Some (form.Brev8 info)
 
 unfoldable pub stack_probe_loop_form : List (List ℕ) → Option Inst
 stack_probe_loop_form = whole (done form.StackProbeLoop ⊛ natural_32 ⊛ natural_32 ⊛ writable)

@@ -5,8 +5,8 @@ use Rattle.std.specs.List.{find}
 use Rattle.std.specs.Str.{bytes_eq}
 use Rattle.rv_base.specs.declared.reloc.Reloc.{Reloc}
 use Rattle.rv_base.specs.declared.reloc.Reloc.TheVariants.{RiscvCallPlt, RiscvGotHi20, RiscvPCRelHi20, RiscvPCRelLo12I, Abs8}
-use Rattle.mach_buffer.specs.declared.records.FinalizedRelocTarget.{FinalizedRelocTarget}
-use Rattle.mach_buffer.specs.declared.records.FinalizedRelocTarget.TheVariants as targets
+use Rattle.mach_records.specs.declared.records.FinalizedRelocTarget.{FinalizedRelocTarget}
+use Rattle.mach_records.specs.declared.records.FinalizedRelocTarget.TheVariants as targets
 
 abbrev pub kind_name : Reloc → List ℕ
 kind_name RiscvCallPlt = codes "RiscvCallPlt"

@@ -13,7 +13,7 @@ ghost use Rattle.rv_listing.specs.Report.{lf, hex_line, all_hex_lines, span_line
 
 use crate::relocations::kind_name;
 use itoa::{Buffer, write_digits};
-use mach_buffer::FinalizedRelocTarget;
+use mach_records::FinalizedRelocTarget;
 use rv_base::{IrType, OutOfMemory, Reg, UnwindInst, reg_name};
 use rv_inst::{
     CallReturn, Code, ConstPlace, FinalizedMachExceptionHandler, LabelPlace, LineSpan,
@@ -109,30 +109,43 @@ fn put_hex_lines(out: &mut Vec<u8>, bytes: &[u8]) -> Result<(), OutOfMemory>
     Ok(())
 }
 
-/// Room for what a line of a span has after its first word: three spaces, each with at most twenty digits after it, and LF.
-const SPAN_ROOM: usize = 64;
+/// Room for the line of a span: its first word, three spaces, each with at most twenty digits after it, and LF.
+const SPAN_ROOM: usize = 68;
+
+// A byte that ends where `end` is. Returns where it begins.
+#[inline(always)]
+fn write_byte(byte: u8, room: &mut [u8; SPAN_ROOM], end: usize) -> usize
+    requires { (1 ≤ end) × (end ≤ 68) }
+    ensures text { drop result room.new ≡ byte ∷ drop end room.old }
+    ensures start { result + 1 ≡ end }
+{
+    room[end - 1] = byte;
+    end - 1
+}
 
 // A space and a number, which end where `end` is. Returns where they begin.
 #[inline(always)]
 fn write_number(n: u64, room: &mut [u8; SPAN_ROOM], end: usize) -> usize
-    requires { (21 ≤ end) × (end ≤ 64) }
+    requires { (21 ≤ end) × (end ≤ 68) }
     ensures text { drop result room.new ≡ 32 ∷ decimal n ++ drop end room.old }
     ensures start { (result ≤ end) × (end ≤ result + 21) }
 {
-    let start = write_digits(n, room, end) - 1;
-    room[start] = b' ';
-    start
+    let start = write_digits(n, room, end);
+    write_byte(b' ', room, start)
 }
 
 // The line is written from its end to its front, and put at once, since a report has very many of them.
 fn put_span(out: &mut Vec<u8>, room: &mut [u8; SPAN_ROOM], l: &LineSpan) -> Result<(), OutOfMemory>
     ensures { OnOk result (out.new.items ≡ out.old.items ++ span_line l.now) }
 {
-    room[63] = b'\n';
-    let at = write_number(l.end as u64, room, 63);
+    let at = write_byte(b'\n', room, SPAN_ROOM);
+    let at = write_number(l.end as u64, room, at);
     let at = write_number(l.start as u64, room, at);
     let at = write_number(l.index as u64, room, at);
-    put(out, b"line")?;
+    let at = write_byte(b'e', room, at);
+    let at = write_byte(b'n', room, at);
+    let at = write_byte(b'i', room, at);
+    let at = write_byte(b'l', room, at);
     put(out, &room[at..])
 }
 
@@ -423,10 +436,17 @@ fn put_unwinds(alloc: Global, out: &mut Vec<u8>, unwinds: &[MachUnwind]) -> Resu
     Ok(())
 }
 
+/// The room for a report's text: about what its lines of bytes and of spans take. A report has very many lines, and a text that grows
+/// by doubling is copied, and touches its pages twice; room that stays untouched costs nothing.
+fn estimated_room(code: &Code) -> usize {
+    let bytes = code.bytes.len().saturating_mul(3);
+    bytes.saturating_add(code.lines.len().saturating_mul(32))
+}
+
 fn text_of(alloc: Global, code: &Code) -> Result<Vec<u8>, OutOfMemory>
     ensures { IfOk result (λ text. text.items ≡ report code.now) }
 {
-    let mut out = Vec::new(alloc);
+    let mut out = Vec::with_capacity(alloc, estimated_room(code))?;
     end_line(&mut out, b"code ", code.bytes.len() as u64)?;
     put_hex_lines(&mut out, code.bytes.as_slice())?;
     put_spans(&mut out, code.lines.as_slice())?;

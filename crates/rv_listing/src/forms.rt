@@ -3,12 +3,13 @@
 ghost use Rattle.std.specs.Prelude.{◌≡◌};
 ghost use Rattle.rv_listing.specs.Tokens.{words_after};
 ghost use Rattle.rv_listing.specs.Fields.{Makes};
-ghost use Rattle.rv_listing.specs.Forms.{args_form, rets_form, dummy_use_form, unwind_form, emit_island_form, raw_data_form, lui_form, auipc_form, load_inline_const_form, alu_rrr_form, alu_rr_imm12_form, mov_form, mov_from_preg_form, extend_form, select_info_form, select_form, load_form, store_form, load_addr_form, label_address_form, trap_if_form, jal_form, cond_br_form, br_table_form, udf_form, jalr_form, popcnt_form, cltz_form, brev8_form, stack_probe_loop_form, load_ext_name_got_form, load_ext_name_near_form, load_ext_name_far_form, call_form, call_ind_form, return_call_form, return_call_ind_form, bind_form, put, by_form, line_form};
+ghost use Rattle.rv_listing.specs.Forms.{args_form, rets_form, dummy_use_form, unwind_form, emit_island_form, raw_data_form, lui_form, auipc_form, load_inline_const_form, alu_rrr_form, alu_rr_imm12_form, mov_form, mov_from_preg_form, extend_form, select_info_form, select_form, load_form, store_form, load_addr_form, label_address_form, trap_if_form, jal_form, cond_br_form, br_table_form, udf_form, jalr_form, load_ext_name_got_form, load_ext_name_near_form, load_ext_name_far_form, call_form, call_ind_form, return_call_form, return_call_ind_form, bind_form, put, by_form, line_form};
 
 use crate::calls::call_info;
 use crate::fields::{LineError, allowed, field, flag, whole};
 use crate::form_names::{Form, form_named};
 use crate::hex_digits::some_bytes;
+use crate::loop_forms::{brev8, cltz, popcnt, stack_probe_loop};
 use crate::pairs::listed_field;
 use crate::tokens::next_word;
 use crate::unwind_steps::step;
@@ -241,7 +242,7 @@ fn store(rest: &[u8]) -> Option<Inst>
     let (op, rest) = field(rest)?;
     let (flags, rest) = field(rest)?;
     let (src, rest) = field(rest)?;
-    whole(Inst::Store { to, op, flags, src }, rest)
+    whole(Inst::Store { src, op, flags, to }, rest)
 }
 
 #[tactic(auto, unfolding(crate::specs::Forms::load_addr_form))]
@@ -322,15 +323,18 @@ fn br_table(alloc: Global, rest: &[u8]) -> Result<Inst, LineError>
         return Err(LineError::NotAllowed);
     };
     let (targets, rest) = listed_field(alloc, rest)?;
-    allowed(whole(
-        Inst::BrTable {
-            index,
-            tmp1,
-            tmp2,
-            targets,
-        },
-        rest,
-    ))
+    match Boxed::new(alloc, targets) {
+        Ok(targets) => allowed(whole(
+            Inst::BrTable {
+                index,
+                tmp1,
+                tmp2,
+                targets,
+            },
+            rest,
+        )),
+        Err(_) => Err(LineError::OutOfMemory),
+    }
 }
 
 #[tactic(auto, unfolding(crate::specs::Forms::jal_form))]
@@ -349,92 +353,6 @@ fn jalr(rest: &[u8]) -> Option<Inst>
     let (base, rest) = field(rest)?;
     let (offset, rest) = field(rest)?;
     whole(Inst::Jalr { rd, base, offset }, rest)
-}
-
-// ---- those that compute by a loop
-
-#[tactic(auto, unfolding(crate::specs::Forms::popcnt_form))]
-fn popcnt(rest: &[u8]) -> Option<Inst>
-    ensures { result ≡ popcnt_form (words_after rest.now) }
-{
-    let (sum, rest) = field(rest)?;
-    let (tmp, rest) = field(rest)?;
-    let (step, rest) = field(rest)?;
-    let (rs, rest) = field(rest)?;
-    let (ty, rest) = field(rest)?;
-    whole(
-        Inst::Popcnt {
-            sum,
-            tmp,
-            step,
-            rs,
-            ty,
-        },
-        rest,
-    )
-}
-
-#[tactic(auto, unfolding(crate::specs::Forms::cltz_form, crate::specs::Operands::leading))]
-fn cltz(rest: &[u8]) -> Option<Inst>
-    ensures { result ≡ cltz_form (words_after rest.now) }
-{
-    let (sum, rest) = field(rest)?;
-    let (tmp, rest) = field(rest)?;
-    let (step, rest) = field(rest)?;
-    let (rs, rest) = field(rest)?;
-    let (leading, rest) = flag(b"1", b"0", rest)?;
-    let (ty, rest) = field(rest)?;
-    whole(
-        Inst::Cltz {
-            sum,
-            tmp,
-            step,
-            rs,
-            leading,
-            ty,
-        },
-        rest,
-    )
-}
-
-#[tactic(auto, unfolding(crate::specs::Forms::brev8_form))]
-fn brev8(rest: &[u8]) -> Option<Inst>
-    ensures { result ≡ brev8_form (words_after rest.now) }
-{
-    let (rs, rest) = field(rest)?;
-    let (ty, rest) = field(rest)?;
-    let (step, rest) = field(rest)?;
-    let (tmp, rest) = field(rest)?;
-    let (tmp2, rest) = field(rest)?;
-    let (rd, rest) = field(rest)?;
-    whole(
-        Inst::Brev8 {
-            rs,
-            ty,
-            step,
-            tmp,
-            tmp2,
-            rd,
-        },
-        rest,
-    )
-}
-
-#[tactic(auto, unfolding(crate::specs::Forms::stack_probe_loop_form))]
-fn stack_probe_loop(rest: &[u8]) -> Option<Inst>
-    ensures { result ≡ stack_probe_loop_form (words_after rest.now) }
-{
-    let (guard_size, rest) = field(rest)?;
-    let (probe_count, rest) = field(rest)?;
-    let (tmp, rest) = field(rest)?;
-    whole(
-        Inst::StackProbeLoop {
-            guard_size,
-            probe_count,
-            tmp,
-        },
-        rest,
-    )
 }
 
 // ---- those that depend on a symbol
@@ -508,7 +426,10 @@ fn return_call(alloc: Global, rest: &[u8]) -> Result<Inst, LineError>
         uses,
         new_stack_arg_size,
     };
-    allowed(whole(Inst::ReturnCall { info }, rest))
+    match Boxed::new(alloc, info) {
+        Ok(info) => allowed(whole(Inst::ReturnCall { info }, rest)),
+        Err(_) => Err(LineError::OutOfMemory),
+    }
 }
 
 #[tactic(auto, unfolding(crate::specs::Forms::return_call_ind_form))]
@@ -527,7 +448,10 @@ fn return_call_ind(alloc: Global, rest: &[u8]) -> Result<Inst, LineError>
         uses,
         new_stack_arg_size,
     };
-    allowed(whole(Inst::ReturnCallInd { info }, rest))
+    match Boxed::new(alloc, info) {
+        Ok(info) => allowed(whole(Inst::ReturnCallInd { info }, rest)),
+        Err(_) => Err(LineError::OutOfMemory),
+    }
 }
 
 // ---- lines
@@ -586,9 +510,9 @@ fn line_of(alloc: Global, form: Form, rest: &[u8]) -> Result<Line, LineError>
         Form::BrTable => Ok(Line::Inst(br_table(alloc, rest)?)),
         Form::Udf => put(udf(rest)),
         Form::Jalr => put(jalr(rest)),
-        Form::Popcnt => put(popcnt(rest)),
-        Form::Cltz => put(cltz(rest)),
-        Form::Brev8 => put(brev8(rest)),
+        Form::Popcnt => Ok(Line::Inst(popcnt(alloc, rest)?)),
+        Form::Cltz => Ok(Line::Inst(cltz(alloc, rest)?)),
+        Form::Brev8 => Ok(Line::Inst(brev8(alloc, rest)?)),
         Form::StackProbeLoop => put(stack_probe_loop(rest)),
         Form::LoadExtNameGot => put(load_ext_name_got(rest)),
         Form::LoadExtNameNear => put(load_ext_name_near(rest)),

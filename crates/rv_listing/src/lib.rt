@@ -12,6 +12,7 @@ mod form_names;
 mod forms;
 mod frame_header;
 mod hex_digits;
+mod loop_forms;
 mod operands;
 mod operations;
 mod pairs;

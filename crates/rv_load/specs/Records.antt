@@ -2,10 +2,10 @@
 -- frame.
 use Rattle.std.specs.Prelude.{ℕ, ◌+◌, ◌^◌, List, [], ◌∷◌, take, drop, Option, Some, None, is_some, Bool, true, false, ◌&&◌, nat_le, if◌then◌else◌, codes}
 use Rattle.std.specs.Str.{bytes_eq}
-use Rattle.mach_buffer.specs.declared.records.FinalizedRelocTarget.{FinalizedRelocTarget}
-use Rattle.mach_buffer.specs.declared.records.FinalizedRelocTarget.TheVariants.{ExternalName, Func}
-use Rattle.mach_buffer.specs.declared.records.FinalizedMachExceptionHandler.{FinalizedMachExceptionHandler}
-use Rattle.mach_buffer.specs.declared.records.FinalizedMachExceptionHandler.TheVariants.{Tag, Default}
+use Rattle.mach_records.specs.declared.records.FinalizedRelocTarget.{FinalizedRelocTarget}
+use Rattle.mach_records.specs.declared.records.FinalizedRelocTarget.TheVariants.{ExternalName, Func}
+use Rattle.mach_records.specs.declared.records.FinalizedMachExceptionHandler.{FinalizedMachExceptionHandler}
+use Rattle.mach_records.specs.declared.records.FinalizedMachExceptionHandler.TheVariants.{Tag, Default}
 use Rattle.rv_base.specs.declared.ir_type.IrType.{IrType}
 use Rattle.rv_base.specs.declared.regs.Reg.TheVariants.{Real}
 use Rattle.rv_base.specs.declared.unwind.UnwindInst.{UnwindInst}

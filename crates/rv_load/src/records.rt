@@ -7,7 +7,7 @@ ghost use Rattle.rv_listing.specs.Fields.{field, no_more, Takes};
 ghost use Rattle.rv_listing.specs.Operands.{real_register};
 ghost use Rattle.rv_load.specs.Records.{addend, alloc_step, are_entries, are_handlers, frame, frame_step, handler, handler_at, is_placed, is_within, map_entry, map_words, number_32, push_step, reloc_target, reloc_words, save_step, step_of, step_of_kind, try_words, unwind_words};
 
-use mach_buffer::{FinalizedMachExceptionHandler, FinalizedRelocTarget};
+use mach_records::{FinalizedMachExceptionHandler, FinalizedRelocTarget};
 use rv_base::{IrType, PReg, Reg, UnwindInst};
 use rv_listing::{
     decimal, next_part, next_word, real_register, reloc_named, starts, symbol_named, tail,

@@ -7,7 +7,7 @@ use crate::registers::{assert_registers, set_registers};
 use crate::runs::{CALLER, arrives};
 use crate::tail_calls::{FLAGS, GOALS, goal_of};
 use crate::texts::{code_of, put_code};
-use mach_buffer::MachPatchable;
+use mach_records::MachPatchable;
 use rv_inst::{CallReturn, Code, LineSpan};
 use rv_machine::IntMachine;
 use std::alloc::Global;

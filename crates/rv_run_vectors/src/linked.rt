@@ -6,7 +6,7 @@
 
 use crate::machine::number;
 use crate::texts::{assembled, code_of};
-use mach_buffer::FinalizedRelocTarget;
+use mach_records::FinalizedRelocTarget;
 use rv_base::{IsaFlags, OutOfMemory, Reloc};
 use rv_inst::{Code, MachReloc};
 use rv_machine::IntMachine;

@@ -1,4 +1,4 @@
-use mach_buffer::FinalizedRelocTarget;
+use mach_records::FinalizedRelocTarget;
 use rv_base::{
     ExternalName, IrType, List, MachLabel, OutOfMemory, PReg, Reg, RegClass, Reloc, TrapCode,
     UnwindInst, UserStackMap, VCodeConstant,

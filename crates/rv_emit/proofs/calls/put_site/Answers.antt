@@ -2,7 +2,7 @@ use Rattle.std.proofs.Common.{[], ◌∷◌, OnOk, Some, sym, subst, ◌∙◌}
 use Rattle.rv_base.specs.declared.flags.IsaFlags.{IsaFlags}
 use Rattle.mach_buffer.specs.Buffer.{shape_of}
 use Rattle.mach_buffer.specs.Shape.{with_record}
-use Rattle.mach_buffer.specs.declared.records.Event.TheVariants.{TryCallSite}
+use Rattle.mach_records.specs.declared.records.Event.TheVariants.{TryCallSite}
 use Rattle.rv_inst.specs.Records.{site_event}
 use Rattle.rv_emit.specs.Emission.{PutsAlone}
 use Rattle.rv_emit.specs.Slots.{Notes}

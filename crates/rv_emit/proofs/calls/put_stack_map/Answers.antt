@@ -1,7 +1,7 @@
 use Rattle.std.proofs.Common.{sym, subst, ◌∙◌}
 use Rattle.mach_buffer.specs.Buffer.{shape_of}
 use Rattle.mach_buffer.specs.Shape.{with_record}
-use Rattle.mach_buffer.specs.declared.records.Event.TheVariants.{StackMap}
+use Rattle.mach_records.specs.declared.records.Event.TheVariants.{StackMap}
 use Rattle.rv_emit.specs.Emission.{PutsAlone}
 use Rattle.rv_emit.specs.InstParts.{map_notes}
 use Rattle.rv_emit.proofs.SlotsOfOnePut.{none_put}

@@ -1,6 +1,6 @@
 use Rattle.std.proofs.Common.{◌+◌, ◌*◌, [], ◌∷◌, length, subst, arith}
 use Rattle.rv_base.specs.Flags.{no_flags}
-use Rattle.mach_buffer.specs.declared.records.Event.TheVariants as event
+use Rattle.mach_records.specs.declared.records.Event.TheVariants as event
 use Rattle.rv_emit.specs.Emitted.{IslandIfNeeded}
 use Rattle.rv_emit.specs.Slots.{Notes}
 use Rattle.rv_emit.proofs.AddressCode.{real_number}

@@ -2,7 +2,7 @@ use Rattle.std.proofs.Common.{arith, sym, ◌∙◌, ◌≡◌, ◌<◌, ◌+◌
 use Rattle.std.specs.Prelude.{nat_lt}
 use Rattle.std.proofs.lemmas.Bool.{and_parts, ltb-true}
 use Rattle.rv_base.specs.LabelUse.{code_limit}
-use Rattle.mach_buffer.specs.Reach.{island_margin}
+use Rattle.mach_uses.specs.Reach.{island_margin}
 use Rattle.mach_buffer.specs.Buffer.{shape_of, bytes_of, allocated_of, pending_of}
 use Rattle.mach_buffer.specs.Constants.{reserve_of}
 use Rattle.rv_emit_vectors.proofs.Kept.{can_finish}

@@ -1,6 +1,6 @@
 use Rattle.std.proofs.Common.{rules, ◌≡◌, false, length}
 use Rattle.mach_buffer.specs.Buffer.{bytes_of, pending_of}
-use Rattle.mach_buffer.specs.Reach.{is_needed}
+use Rattle.mach_uses.specs.Reach.{is_needed}
 use Rattle.mach_buffer.proofs.Laws.{slack_not_needed}
 use Rattle.rv_emit_vectors.proofs.buffer.emit_due_island.Goals as goal
 

@@ -2,7 +2,7 @@ use Rattle.std.proofs.Common.{arith, ◌≡◌, ◌∙◌, ◌∷◌, [], ◌++�
 use Rattle.std.proofs.lemmas.List.{length-append}
 use Rattle.rv_base.specs.LabelUse.{code_limit}
 use Rattle.mach_labels.specs.Table.{first_inner, first_constant}
-use Rattle.mach_buffer.specs.declared.uses.Use.{Use}
+use Rattle.mach_uses.specs.declared.uses.Use.{Use}
 use Rattle.mach_buffer.specs.Buffer.{shape_of, bytes_of, uses_of, place_of, allocated_of, pending_of}
 use Rattle.mach_buffer.specs.Shape.{Shape, IsKnown, with_bytes, with_use, with_allocated}
 use Rattle.mach_buffer.specs.Constants.{reserve_of}

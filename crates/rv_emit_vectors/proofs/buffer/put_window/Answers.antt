@@ -1,5 +1,5 @@
 use Rattle.std.proofs.Common.{arith, ◌∙◌, ◌∷◌, [], ◌+◌, ◌≤◌, None, refl, ap, length, ◌≡◌}
-use Rattle.mach_buffer.specs.declared.uses.Use.{Use}
+use Rattle.mach_uses.specs.declared.uses.Use.{Use}
 use Rattle.mach_buffer.specs.Buffer.{shape_of, bytes_of, pending_of}
 use Rattle.mach_buffer.specs.Shape.{Shape, with_bytes, with_use}
 use Rattle.rv_emit_vectors.proofs.Kept.{kept_use}

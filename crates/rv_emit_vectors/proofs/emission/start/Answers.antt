@@ -1,6 +1,7 @@
 use Rattle.std.proofs.Common.{ℕ, List, Some, length, ap, ◌∙◌}
 use Rattle.rv_inst.specs.declared.label_use.LabelUse.{LabelUse}
-use Rattle.mach_buffer.specs.Shape.{Shape, placed}
+use Rattle.mach_buffer.specs.Shape.{Shape}
+use Rattle.mach_uses.specs.Labels.{placed}
 use Rattle.mach_buffer.specs.Buffer.{bytes_of, place_of}
 use Rattle.mach_buffer.proofs.Laws.{placed_same}
 use Rattle.rv_emit_vectors.proofs.emission.start.Goals as goal

@@ -1,5 +1,8 @@
 use Rattle.std.proofs.Common.{◌≡◌, ◌∙◌, ap, length, ℕ}
-use Rattle.mach_buffer.proofs.Words.{IsSound, relocs_in, traps_in, calls_in, tries_in, patches_in, maps_in, unwinds_in, offset_or_zero}
+use Rattle.mach_records.specs.declared.records.Recorded.{Recorded}
+use Rattle.mach_labels.specs.Table.{entry_of}
+use Rattle.mach_records.specs.Records.{by_kind}
+use Rattle.mach_buffer.proofs.Words.{IsSound}
 use Rattle.mach_buffer.proofs.Words.{take_at, Shape, shape_of, bytes_of, place_of, Finishes}
 use Rattle.mach_buffer.proofs.Pieces.{constants_kept}
 use Rattle.mach_buffer.proofs.LastVeneers.{last_done, can_patch_all, all_arrive}
@@ -21,7 +24,7 @@ returns g c =
     let kept = rw (c.deref-2.ensures.value, c.deref_mut.ensures.value) at q.kept in
     let others = rw (c.deref-2.ensures.value, c.deref_mut.ensures.value) at q.others in
     let whole : c.from_vec.result ≡ final = c.from_vec.ensures ∙ take_at final _ _ (q.same_length ∙ c.deref_mut.ensures.len) in
-    let records = ap (λ (x : Shape g.row.L.Denot). x.records) d.same in
+    let recorded = c.in_ok-recorded.ensures ∙ (λ i. by_kind (entry_of (c.places.ensures i)) (c.deref.ensures.value i)) in
     let finishes : Finishes g.L.MachInstLabelUse.kinds (shape_of c.args.self) final = record {
       order = e.order;
       in_order = e.in_order;
@@ -42,12 +45,12 @@ returns g c =
     } in
     record {
       code = rw whole (finishes, c.from_vec-3.ensures);
-      labels = c.from_vec-2.ensures ∙ ap (λ (x : Shape g.row.L.Denot). x.labels) d.same;
-      relocs = c.from_vec-4.ensures ∙ c.in_ok-relocs_in.ensures ∙ ap relocs_in (c.deref-3.ensures.value ∙ records);
-      traps = c.from_vec-5.ensures ∙ c.in_ok-traps_in.ensures ∙ ap traps_in (c.deref-4.ensures.value ∙ records);
-      call_sites = c.from_vec-6.ensures ∙ c.in_ok-calls_in.ensures ∙ ap calls_in (c.deref-5.ensures.value ∙ records);
-      try_call_sites = c.from_vec-7.ensures ∙ c.in_ok-tries.ensures ∙ ap (tries_in (offset_or_zero (place_of c.args.self))) c.deref.ensures.value;
-      patchable_call_sites = c.from_vec-8.ensures ∙ c.in_ok-patches_in.ensures ∙ ap patches_in (c.deref-6.ensures.value ∙ records);
-      stack_maps = c.from_vec-9.ensures ∙ c.in_ok-maps_in.ensures ∙ ap maps_in (c.deref-7.ensures.value ∙ records);
-      unwinds = c.from_vec-10.ensures ∙ c.in_ok-unwinds_in.ensures ∙ ap unwinds_in (c.deref-8.ensures.value ∙ records);
+      labels = c.from_vec-2.ensures ∙ (λ i. (c.into_bound.ensures i).items) ∙ ap (λ (x : Shape g.row.L.Denot). x.labels) d.same;
+      relocs = ap (λ (r : Recorded). r.relocs) recorded;
+      traps = ap (λ (r : Recorded). r.traps) recorded;
+      call_sites = ap (λ (r : Recorded). r.call_sites) recorded;
+      try_call_sites = ap (λ (r : Recorded). r.try_call_sites) recorded;
+      patchable_call_sites = ap (λ (r : Recorded). r.patchable_call_sites) recorded;
+      stack_maps = ap (λ (r : Recorded). r.stack_maps) recorded;
+      unwinds = ap (λ (r : Recorded). r.unwinds) recorded;
     }

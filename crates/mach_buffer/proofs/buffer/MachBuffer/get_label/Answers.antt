@@ -1,7 +1,7 @@
 use Rattle.std.proofs.Common.{◌∙◌, ap}
 use Rattle.mach_buffer.proofs.Words.{IsSound}
 use Rattle.mach_buffer.proofs.Words.{shape_of}
-use Rattle.mach_buffer.proofs.Lists.{none_of}
+use Rattle.mach_uses.proofs.Lists.{none_of}
 use Rattle.mach_buffer.proofs.ConstantOrder.{not_next}
 use Rattle.mach_buffer.proofs.Sound.{sound_allocated}
 use Rattle.mach_buffer.proofs.buffer.MachBuffer.get_label.Goals as goal

@@ -1,7 +1,7 @@
 use Rattle.std.proofs.Common.{rules, ◌≡◌, ◌+◌, ◌*◌, ◌-◌, ◌<◌, ◌∙◌, ap, sym, subst, map, length, Some, arith}
 use Rattle.mach_buffer.proofs.Words.{IsSound}
 use Rattle.mach_buffer.proofs.Words.{length-map, slice_get, IsSomeAnd, code_limit, Shape, with_label, is_other, deadline, put_all, IsOrder, aligned, padded, needs_own, with_own, end_after, put_constants, key_number, CanPutAll, Inside, inside_of, shape_of, bytes_of}
-use Rattle.mach_buffer.proofs.OrderOfVeneers.{order_long}
+use Rattle.mach_uses.proofs.OrderOfVeneers.{order_long}
 use Rattle.mach_buffer.proofs.IslandVeneers.{IsReady, before_room, pad_room, end_room, jump_there, island_can, island_done}
 use Rattle.mach_buffer.proofs.VeneersAndConstants.{length_padded}
 use Rattle.mach_buffer.proofs.buffer.MachBuffer.put_island.Given as given

@@ -1,6 +1,6 @@
 use Rattle.std.proofs.Common.{◌∙◌}
 use Rattle.mach_buffer.proofs.Words.{key_number, shape_of}
-use Rattle.mach_buffer.proofs.Lists.{drop_mapped}
+use Rattle.mach_uses.proofs.Lists.{drop_mapped}
 use Rattle.mach_buffer.proofs.VeneersAndConstants.{going_next}
 use Rattle.mach_buffer.proofs.buffer.MachBuffer.put_veneers.Goals as goal
 

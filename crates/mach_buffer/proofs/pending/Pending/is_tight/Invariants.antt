@@ -1,9 +1,0 @@
-use Rattle.mach_buffer.proofs.Words.{place_in, is_pending, deadlines}
-use Rattle.mach_buffer.proofs.QueueContents.{IsBound}
-use Rattle.mach_buffer.proofs.pending.Pending.is_tight.Given as goal
-
-abbrev pub invariant-fewer : goal.invariant-fewer
-invariant-fewer g l = IsBound l.start l.count (deadlines (is_pending g.L.MachInstLabelUse.kinds (place_in l.labels)) g.L.MachInstLabelUse.kinds l.uses)
-
-abbrev pub decreases-fewer : goal.decreases-fewer
-decreases-fewer g l = l.count

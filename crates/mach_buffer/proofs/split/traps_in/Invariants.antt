@@ -1,6 +1,0 @@
-use Rattle.std.proofs.Common.{◌≡◌, take}
-use Rattle.mach_buffer.proofs.Words.{traps_in}
-use Rattle.mach_buffer.proofs.split.traps_in.Given as goal
-
-abbrev pub invariant-loop-r : goal.invariant-loop-r
-invariant-loop-r l = l.found.items ≡ traps_in (take l.r-index l.records)

@@ -1,7 +1,0 @@
--- This crate's inside: where labels stand.
-use Rattle.std.specs.Prelude.{ℕ, Option}
-use Rattle.mach_labels.specs.Table.{entry_of}
-use Rattle.mach_buffer.specs.declared.labels.Labels.{Labels}
-
-abbrev pub place_in : Labels → ℕ → Option ℕ
-place_in labels label = entry_of labels.table label

@@ -1,0 +1,7 @@
+use Rattle.std.proofs.Common.{◌≡◌, map, take}
+use Rattle.mach_records.specs.Records.{finalized_handler, offset_or_zero}
+use Rattle.mach_labels.specs.Table.{entry_of}
+use Rattle.mach_records.proofs.split.finalized_handlers.Given as goal
+
+abbrev pub invariant-loop-handler : goal.invariant-loop-handler
+invariant-loop-handler l = l.found.items ≡ map (finalized_handler (offset_or_zero (entry_of l.places))) (take l.handler-index l.handlers)

@@ -1,0 +1,6 @@
+use Rattle.std.proofs.Common.{◌≡◌, take}
+use Rattle.mach_records.specs.Records.{relocs_in}
+use Rattle.mach_records.proofs.split.relocs_in.Given as goal
+
+abbrev pub invariant-loop-r : goal.invariant-loop-r
+invariant-loop-r l = l.found.items ≡ relocs_in (take l.r-index l.records)

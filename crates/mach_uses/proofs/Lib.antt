@@ -1,0 +1,5 @@
+pub mod Words
+pub mod Slack
+pub mod Lists
+pub mod QueueContents
+pub mod OrderOfVeneers
