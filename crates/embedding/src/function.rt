@@ -23,7 +23,7 @@ fn branch_if_greater(label: MachLabel) -> Inst {
     }
 }
 
-/// The stack pointer rises by so many bytes.
+/// Moves the stack pointer by so many bytes.
 fn move_stack_pointer(by: Imm12) -> Inst {
     Inst::AluRRImm12 {
         alu_op: AluOPRRI::Addi,

@@ -9,6 +9,7 @@ ghost use Rattle.rv_asm.specs.Job.{job_of};
 ghost use Rattle.rv_asm.specs.Simulation.{RunsAsListed};
 
 mod function;
+mod timing;
 
 use function::lines;
 use mach_records::FinalizedRelocTarget;
@@ -16,7 +17,9 @@ use rv_asm::assemble;
 use rv_base::{ExternalName, FrameLayout, IsaFlags, Reloc};
 use rv_inst::{Code, EmitError, Line, MachReloc};
 use std::alloc::Global;
+use std::env;
 use std::io;
+use timing::assemble_again;
 
 /// The code of lines of a machine without extensions, with no frame and no constants. What `assemble` promises of it is
 /// promised here.
@@ -75,7 +78,13 @@ fn print_code(rt: &impl Print, code: &Code) -> io::Result<()> {
     Ok(())
 }
 
+/// Prints the code of a function; or, where a word is a number, assembles another one so many times, for `bench/assemble`.
 fn main(rt: HostRuntime) -> anyhow::Result<()> {
+    if let Some(times) = env::args(&rt)?.nth(1) {
+        let size = assemble_again(rt.alloc(), times.parse()?)?;
+        println!(rt; "{size} bytes")?;
+        return Ok(());
+    }
     let host = ExternalName::from_u32(0);
     let lines = lines(rt.alloc(), host)?;
     let code = code_of(rt.alloc(), &lines)?;
