@@ -17,8 +17,7 @@ use rv_asm::assemble;
 use rv_base::{ExternalName, FrameLayout, IsaFlags, Reloc};
 use rv_inst::{Code, EmitError, Line, MachReloc};
 use std::alloc::Global;
-use std::env;
-use std::io;
+use std::{env, io};
 use timing::assemble_again;
 
 /// The code of lines of a machine without extensions, with no frame and no constants. What `assemble` promises of it is
@@ -26,13 +25,8 @@ use timing::assemble_again;
 fn code_of(alloc: Global, lines: &[Line]) -> Result<Code, EmitError>
     ensures runs { IfOk result (λ code. RunsAsListed (job_of lines.now no_flags no_frame []) code) }
 {
-    assemble(
-        alloc,
-        lines,
-        IsaFlags::none(),
-        &FrameLayout::none(alloc),
-        &[],
-    )
+    let frame = FrameLayout::none(alloc);
+    assemble(alloc, lines, IsaFlags::none(), &frame, &[])
 }
 
 fn kind_name(kind: Reloc) -> &'static str {
