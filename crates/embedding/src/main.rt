@@ -20,8 +20,7 @@ use std::alloc::Global;
 use std::{env, io};
 use timing::assemble_again;
 
-/// The code of lines of a machine without extensions, with no frame and no constants. What `assemble` promises of it is
-/// promised here.
+/// The code of lines for a machine without extensions, with no frame and no constants. It runs as they say.
 fn code_of(alloc: Global, lines: &[Line]) -> Result<Code, EmitError>
     ensures runs { IfOk result (λ code. RunsAsListed (job_of lines.now no_flags no_frame []) code) }
 {
