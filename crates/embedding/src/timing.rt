@@ -1,0 +1,75 @@
+//! A function of 200 lines, and how it is assembled many times, for `bench/assemble`.
+
+use crate::code_of;
+use rv_base::{
+    AMode, IntCC, IrType, MachLabel, MemFlagsData, OutOfMemory, a0, a1, a2, stack_reg, writable_a0,
+    writable_a2,
+};
+use rv_imms::Imm12;
+use rv_inst::{CondBrTarget, EmitError, Inst, Line};
+use rv_ops::{AluOPRRI, AluOPRRR, IntegerCompare, LoadOP};
+use std::alloc::Global;
+
+/// How many blocks the function has.
+const BLOCKS: u32 = 33;
+
+/// Five lines that compute, and go to the label where two registers differ.
+fn push_block(lines: &mut Vec<Line>, label: MachLabel) -> Result<(), OutOfMemory> {
+    lines.push(Line::Inst(Inst::AluRRR {
+        alu_op: AluOPRRR::Add,
+        rd: writable_a0(),
+        rs1: a0(),
+        rs2: a1(),
+    }))?;
+    lines.push(Line::Inst(Inst::AluRRImm12 {
+        alu_op: AluOPRRI::Addi,
+        rd: writable_a2(),
+        rs: a2(),
+        imm12: Imm12::ONE,
+    }))?;
+    lines.push(Line::Inst(Inst::Mov {
+        rd: writable_a2(),
+        rm: a0(),
+        ty: IrType::I64,
+    }))?;
+    lines.push(Line::Inst(Inst::Load {
+        rd: writable_a0(),
+        op: LoadOP::Ld,
+        flags: MemFlagsData::trusted(),
+        from: AMode::RegOffset(stack_reg(), 16),
+    }))?;
+    lines.push(Line::Inst(Inst::CondBr {
+        taken: CondBrTarget::Label(label),
+        not_taken: CondBrTarget::Fallthrough,
+        kind: IntegerCompare {
+            kind: IntCC::NotEqual,
+            rs1: a0(),
+            rs2: a2(),
+        },
+    }))?;
+    Ok(())
+}
+
+/// A function of 200 lines: 33 blocks, each of which begins with a label and may go to the next one, the end and a return.
+fn two_hundred(alloc: Global) -> Result<Vec<Line>, OutOfMemory> {
+    let mut lines = Vec::new(alloc);
+    for block in 0..BLOCKS {
+        lines.push(Line::Bind(MachLabel::from_u32(block)))?;
+        push_block(&mut lines, MachLabel::from_u32(block + 1))?;
+    }
+    lines.push(Line::Bind(MachLabel::from_u32(BLOCKS)))?;
+    lines.push(Line::Inst(Inst::Ret))?;
+    Ok(lines)
+}
+
+/// Assembles the function so many times, and returns how many bytes its code has.
+pub fn assemble_again(alloc: Global, times: u32) -> Result<usize, EmitError> {
+    let Ok(lines) = two_hundred(alloc) else {
+        return Err(EmitError::OutOfMemory);
+    };
+    let mut size = 0;
+    for _ in 0..times {
+        size = code_of(alloc, &lines)?.bytes.len();
+    }
+    Ok(size)
+}
