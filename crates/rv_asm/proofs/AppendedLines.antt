@@ -11,11 +11,11 @@ use Rattle.rv_base.specs.Regs.{number_of}
 use Rattle.rv_inst.specs.Sizes.{words_in, extent_of, line_space, table_space, return_size}
 use Rattle.mach_buffer.specs.Buffer.{shape_of, bytes_of}
 use Rattle.mach_uses.specs.Reach.{CanReach}
-use Rattle.rv_emit.specs.declared.state.EmitVState.{EmitVState}
+use Rattle.rv_code.specs.declared.state.EmitVState.{EmitVState}
 use Rattle.rv_emit.specs.Emitted.{Buffer, IsSoundBuffer, pending, IslandIfNeeded, Appends}
 use Rattle.rv_emit.specs.State.{setting_beyond}
-use Rattle.rv_emit.specs.InstParts.{table_slots, tail_slots, t0_slots, parts_of}
-use Rattle.rv_emit.specs.Slots.{size_of}
+use Rattle.rv_code.specs.InstParts.{table_slots, tail_slots, t0_slots, parts_of}
+use Rattle.rv_code.specs.Slots.{size_of}
 use Rattle.rv_emit.specs.Standing.{GapStandsIn, PartsIn, SpansIn}
 use Rattle.rv_emit.proofs.Laws.{appends, table_stands, call_stands, call_ind_stands, table_parts_long, tail_parts_long, t0_parts_long, table_some, bytes_put}
 use Rattle.rv_asm.specs.LinesInBuffer.{BindPut, LinePut}

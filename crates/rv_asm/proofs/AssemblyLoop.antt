@@ -15,7 +15,7 @@ use Rattle.rv_inst.specs.LabelUse.{label_kinds}
 use Rattle.mach_buffer.specs.Finish.{CanFinish, Finishes}
 use Rattle.mach_records.specs.Records.{relocs_in, traps_in, calls_in, tries_in, patches_in, maps_in, unwinds_in, offset_or_zero}
 use Rattle.mach_buffer.specs.Buffer.{shape_of, bytes_of, uses_of, place_of, labels_of, records_of, allocated_of, registered_of, named_of, constants_of}
-use Rattle.rv_emit.specs.declared.state.EmitVState.{EmitVState}
+use Rattle.rv_code.specs.declared.state.EmitVState.{EmitVState}
 use Rattle.rv_emit.specs.Emitted.{Buffer, IsSoundBuffer}
 use Rattle.rv_asm.specs.Refusal.{has_bad_frame, binds, is_bound, lines_sum, size_sum, lines_refusal}
 use Rattle.rv_inst.specs.Sizes.{line_sum}

@@ -16,8 +16,8 @@ use Rattle.rv_inst.specs.Records.{IsTrapAt}
 use Rattle.rv_emit.specs.Images.{KeepsOutside, IsFilled}
 use Rattle.mach_buffer.specs.Constants.{offset_in}
 use Rattle.rv_emit.specs.Emitted.{Buffer}
-use Rattle.rv_emit.specs.InstParts.{parts_of}
-use Rattle.rv_emit.specs.Sites.{Site, GapIn}
+use Rattle.rv_code.specs.InstParts.{parts_of}
+use Rattle.rv_code.specs.Sites.{Site, GapIn}
 use Rattle.rv_emit.specs.Standing.{IsFinishedTo}
 use Rattle.rv_emit.proofs.Laws.{parts_are_self_contained, gap_stands, parts_stand, has_operation}
 use Rattle.rv_asm.specs.Reported.{start_of, end_of, end_before, returns_from}

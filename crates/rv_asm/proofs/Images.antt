@@ -30,8 +30,8 @@ use Rattle.rv_inst.specs.declared.code.Code.{Code}
 use Rattle.rv_inst.specs.declared.label_use.LabelUse.{LabelUse}
 use Rattle.rv_inst.specs.declared.label_use.LabelUse.TheVariants.{PCRel32, PCRelHi20, PCRelLo12I}
 use Rattle.rv_emit.specs.Images.{EndsWithin, IsClear, AllClear, FieldsStand, KeepsOutside, HoldsDistance, IsFilledWith, IsLinkedWith, IsFilled}
-use Rattle.rv_emit.specs.Sites.{Site, IsPlacedAt}
-use Rattle.rv_emit.specs.Slots.{Symbol, AddressOf, SlotOf, upper_event, lower_event, call_event}
+use Rattle.rv_code.specs.Sites.{Site, IsPlacedAt}
+use Rattle.rv_code.specs.Slots.{Symbol, AddressOf, SlotOf, upper_event, lower_event, call_event}
 use Rattle.rv_emit.specs.Standing.{IsFinishedTo}
 use Rattle.rv_emit.proofs.Laws.{window_byte, window_length, bits_back, ends_later}
 use Rattle.rv_asm.specs.Placed.{Addresses, address_of_name, bytes_from, distance_to, IsPlaced}

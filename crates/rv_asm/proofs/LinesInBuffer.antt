@@ -26,10 +26,10 @@ use Rattle.mach_buffer.specs.Shape.{recorded}
 use Rattle.mach_buffer.specs.Windows.{AreWindows}
 use Rattle.mach_buffer.proofs.Laws.{append_none, grows_put, lasts_more, stands_last as constants_last, even_length}
 use Rattle.rv_emit.specs.NewConstants.{StandInTurn, AddsConstants}
-use Rattle.rv_emit.specs.declared.state.EmitVState.{EmitVState}
+use Rattle.rv_code.specs.declared.state.EmitVState.{EmitVState}
 use Rattle.rv_emit.specs.Emitted.{Buffer, IsSoundBuffer, HasWindows, IslandIfNeeded, AppendsBy, Appends}
 use Rattle.rv_emit.specs.Images.{EndsWithin, AllClear, FieldsStand}
-use Rattle.rv_emit.specs.InstParts.{parts_of}
+use Rattle.rv_code.specs.InstParts.{parts_of}
 use Rattle.rv_emit.specs.Standing.{SpansIn}
 use Rattle.rv_emit.specs.State.{setting_beyond}
 use Rattle.rv_emit.proofs.Laws.{adds_both, adds_none, appends, gap_last, parts_last, gap_put, parts_put, parts_are_self_contained, bytes_put, words_long}

@@ -27,10 +27,10 @@ use Rattle.rv_base.specs.declared.label.MachLabel.{MachLabel}
 use Rattle.rv_inst.specs.Operands.{named_labels}
 use Rattle.rv_inst.specs.Rules.{broken_rule}
 use Rattle.rv_inst.specs.SameValues.{Same, SameBut}
-use Rattle.rv_emit.specs.declared.state.EmitVState.{EmitVState}
-use Rattle.rv_emit.specs.InstParts.{parts_of}
-use Rattle.rv_emit.specs.InstRuns.{ComesOut, environment}
-use Rattle.rv_emit.specs.Sites.{Site, IsPlacedAt, LeadsOn, PartsStand}
+use Rattle.rv_code.specs.declared.state.EmitVState.{EmitVState}
+use Rattle.rv_code.specs.InstParts.{parts_of}
+use Rattle.rv_code.specs.InstRuns.{ComesOut, environment}
+use Rattle.rv_code.specs.Sites.{Site, IsPlacedAt, LeadsOn, PartsStand}
 use Rattle.rv_emit.proofs.Laws.{iter_none, iter_after, same_but, but_then_same, inst_runs, inst_resumes}
 use Rattle.rv_asm.specs.Refusal.{is_unfit, is_bound}
 use Rattle.rv_asm.specs.Reported.{start_of, end_of, binding_line, label_start, returns_from}

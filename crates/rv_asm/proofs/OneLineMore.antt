@@ -17,7 +17,7 @@ use Rattle.mach_records.specs.declared.records.MachRecord.{MachRecord}
 use Rattle.mach_buffer.specs.Buffer.{shape_of, bytes_of, uses_of, records_of, registered_of, named_of, constants_of}
 use Rattle.mach_buffer.specs.Windows.{AreWindows}
 use Rattle.mach_buffer.proofs.Laws.{windows_none, below}
-use Rattle.rv_emit.specs.declared.state.EmitVState.{EmitVState}
+use Rattle.rv_code.specs.declared.state.EmitVState.{EmitVState}
 use Rattle.rv_emit.specs.Emitted.{Buffer, IsSoundBuffer}
 use Rattle.rv_emit.proofs.Laws.{before_or_last}
 use Rattle.rv_base.specs.declared.constant.VCodeConstant.{VCodeConstant}

@@ -16,7 +16,7 @@ use Rattle.mach_uses.specs.Reach.{CanReach, HasSlack, deadlines, due_by}
 use Rattle.mach_buffer.specs.Buffer.{shape_of, bytes_of, uses_of, place_of, allocated_of, registered_of}
 use Rattle.mach_buffer.specs.Constants.{reserve_from, reserve_of}
 use Rattle.mach_buffer.proofs.Laws.{slack_same, slack_from_reach, reach_from_slack, total, due_total, reserve_other}
-use Rattle.rv_emit.specs.OwnCounts.{own_count}
+use Rattle.rv_code.specs.OwnCounts.{own_count}
 use Rattle.rv_emit.specs.Emitted.{Buffer, pending, AppendsSequence, AppendsIsland, IslandIfNeeded, AppendsBy, Appends}
 use Rattle.rv_inst.specs.Rules.{inst_rule, broken_rule}
 use Rattle.rv_emit.proofs.Laws.{pending_at, bytes_put, words_long, words_pending, ways_more, few_ways, words_within, most_counts, no_own, high_kept, owns_few, asking_owns_none}

@@ -27,10 +27,10 @@ use Rattle.rv_emit.specs.Emitted.{Buffer, IsSoundBuffer, HasWindows, pending, Is
 use Rattle.rv_emit.specs.NewConstants.{StandInTurn}
 use Rattle.rv_emit.specs.Emission.{EmitsIn}
 use Rattle.rv_emit.specs.Images.{FieldsStand}
-use Rattle.rv_emit.specs.InstParts.{parts_of}
+use Rattle.rv_code.specs.InstParts.{parts_of}
 use Rattle.rv_emit.specs.Standing.{GapStandsIn, PartsIn, SpansIn}
-use Rattle.rv_emit.specs.declared.state.EmitVState.{EmitVState}
-use Rattle.rv_emit.specs.declared.state.EmitVState.TheVariants.{Unknown}
+use Rattle.rv_code.specs.declared.state.EmitVState.{EmitVState}
+use Rattle.rv_code.specs.declared.state.EmitVState.TheVariants.{Unknown}
 use Rattle.rv_emit.specs.State.{setting_after, setting_beyond}
 use Rattle.rv_asm.specs.Reported.{start_of, end_of, end_before, binds_from, line_returns, records_from, constants_named, StandApart}
 use Rattle.rv_asm.specs.Refusal.{is_unfit, binds, is_bound, size_sum}

@@ -12,7 +12,7 @@ ghost use Rattle.mach_uses.specs.Labels.{inner_count};
 ghost use Rattle.mach_labels.specs.Table.{first_inner};
 ghost use Rattle.rv_emit.specs.Emitted.{IsSoundBuffer, pending, IslandIfNeeded, CanEmit};
 ghost use Rattle.rv_emit.specs.Emission.{EmitsIn};
-ghost use Rattle.rv_emit.specs.declared.state.EmitVState.TheVariants.{Unknown};
+ghost use Rattle.rv_code.specs.declared.state.EmitVState.TheVariants.{Unknown};
 ghost use Rattle.rv_emit.specs.State.{setting_after, setting_beyond};
 ghost use Rattle.rv_asm.specs.LinesInBuffer.{CanPut, InstPut, BindPut, InstSetting, LinePut, LineSetting};
 

@@ -1,26 +1,18 @@
 -- What loads, stores and addresses put.
-use Rattle.std.proofs.Common.{◌≡◌, ◌≢◌, ℕ, ◌+◌, ◌≤◌, ◌==◌, Bool, true, false, List, [], ◌∷◌, ◌++◌, length, Option, Some, None, ℤ, pos, negsuc, ◌≤ℤ◌, refl, sym, subst, append_assoc, arith, lit≤}
+use Rattle.std.proofs.Common.{◌≡◌, ◌≢◌, ℕ, ◌+◌, ◌≤◌, ◌==◌, List, [], ◌∷◌, ◌++◌, length, Option, Some, None, ℤ, pos, negsuc, ◌≤ℤ◌, refl, sym, subst, append_assoc, arith}
 use Rattle.std.specs.Prelude.{if◌then◌else◌}
 use Rattle.std.specs.Int.{to_le_bytes, w64}
 use Rattle.rv_base.specs.declared.flags.IsaFlags.{IsaFlags}
 use Rattle.rv_base.specs.declared.constant.VCodeConstant.{VCodeConstant}
 use Rattle.rv_base.specs.declared.label.MachLabel.{MachLabel}
-use Rattle.rv_base.specs.declared.regs.Reg.{Reg}
-use Rattle.rv_base.specs.declared.regs.Reg.TheVariants.{Real, Virtual}
-use Rattle.rv_base.specs.declared.regs.RegClass.{RegClass}
-use Rattle.rv_base.specs.declared.regs.RegClass.TheVariants.{Int}
 use Rattle.rv_base.specs.declared.trap.TrapCode.{TrapCode}
-use Rattle.rv_base.specs.Regs.{IsReal, number_of}
-use Rattle.rv_encode.specs.Registers.{IsIntRegister}
 use Rattle.rv_imms.specs.Bits.{IsSigned}
 use Rattle.rv_imms.specs.Splitting.{value_of, IsSplittable}
 use Rattle.rv_machine.specs.declared.decoding.Decoded.{Decoded}
 use Rattle.rv_machine.specs.State.{low64}
-use Rattle.rv_ops.specs.declared.alu.AluOPRRR.TheVariants.{Add}
 use Rattle.rv_ops.specs.declared.alu.AluOPRRI.TheVariants.{Addi}
-use Rattle.rv_ops.specs.declared.memory.LoadOP.{LoadOP}
 use Rattle.rv_ops.specs.declared.memory.LoadOP.TheVariants as loads
-use Rattle.rv_inst.specs.Addresses.{Location, Based, AtLabel, AtConstant, is_near, is_splittable}
+use Rattle.rv_inst.specs.Addresses.{Location, Based, AtLabel, AtConstant, is_near}
 use Rattle.rv_inst.specs.declared.label_use.LabelUse.{LabelUse}
 use Rattle.rv_inst.specs.LabelUseWords.{word_bytes}
 use Rattle.rv_inst.specs.Uses.{use_at}
@@ -30,17 +22,16 @@ use Rattle.mach_buffer.specs.Shape.{with_bytes, with_use, with_record, with_name
 use Rattle.mach_uses.specs.Labels.{constant_label}
 use Rattle.rv_emit.specs.Emitted.{Buffer, IsSoundBuffer}
 use Rattle.rv_emit.specs.Emission.{PutsAlone}
-use Rattle.rv_emit.specs.Immediates.{upper_of, lower_of}
-use Rattle.rv_inst.specs.Forms.{short_rrr, short_rri}
-use Rattle.rv_emit.specs.Operations.{jump_size}
-use Rattle.rv_emit.specs.Slots.{Slot, Op, Aim, Data, Notes, Names, Allocate, Here, Fill, Address, CallTo, Label, size_of}
+use Rattle.rv_code.specs.Immediates.{upper_of, lower_of}
+use Rattle.rv_inst.specs.Forms.{short_rri}
+use Rattle.rv_code.specs.Slots.{Slot, Op, Aim, Names, Label}
 use Rattle.rv_emit.specs.Puts.{IsPatchable}
-use Rattle.rv_emit.specs.InstParts.{load_over, access_slots, address_slots, immediate_slots, inline_slots, labelled, lower_slots, naming_slots, offset_slots}
+use Rattle.rv_code.specs.InstParts.{access_slots, immediate_slots, inline_slots, labelled, lower_slots, naming_slots, offset_slots}
 use Rattle.rv_emit.proofs.OffsetParts.{near, far, splits, splits_not, upper_is, lower_is, low64_zero, low64_other}
-use Rattle.rv_emit.proofs.PlainSlots.{IsPlain}
+use Rattle.rv_code.proofs.PlainSlots.{IsPlain}
 use Rattle.rv_emit.proofs.SlotsOfOnePut.{alone, none_put}
-use Rattle.rv_emit.proofs.ShortOps.{HasSize, rrr_sized, rri_sized, lui_sized, jump_len, least_few}
 use Rattle.rv_emit.proofs.SlotsOfSeveralPuts.{both_alone, alone_long}
+use Rattle.rv_code.proofs.ShortSlots.{IsShort}
 
 -- ---- one slot
 
@@ -56,71 +47,8 @@ no_access flags b trap is sound = subst (λ t. PutsAlone flags (access_slots t) 
 
 -- ---- none of these slots allocates a label, and how long they are
 
--- slots that allocate no label, so many bytes at most
-pub record IsShort (bound : ℕ) (slots : List Slot) : Type 0 where
-  pub plain : IsPlain slots
-  pub short : size_of slots ≤ bound
-
 pub longer : {flags : IsaFlags} {bound : ℕ} (slots : List Slot) (old new : Buffer) → IsShort bound slots → PutsAlone flags slots old new → length (bytes_of new) ≤ length (bytes_of old) + bound
 longer {flags} slots old new s p = let l = alone_long slots old new p in let h = s.short in omega arith
-
-pub access_short : (trap : Option TrapCode) → IsShort 0 (access_slots trap)
-access_short None = record { plain = tt; short = lit≤ tt }
-access_short (Some code) = record { plain = tt; short = lit≤ tt }
-
-then_op : {bound : ℕ} (slots : List Slot) (d : Decoded) → d.len ≤ 4 → IsShort bound slots → IsShort (bound + 4) (slots ++ Op d ∷ [])
-then_op {bound} slots d few s = record { plain = plain slots s.plain; short = let e = size slots in let h = s.short in omega arith }
-  where
-    plain : (front : List Slot) → IsPlain front → IsPlain (front ++ Op d ∷ [])
-    plain [] p = tt
-    plain (Op x ∷ front) p = plain front p
-    plain (Aim kind target ops ∷ front) p = plain front p
-    plain (Data bytes ∷ front) p = plain front p
-    plain (Notes event ∷ front) p = plain front p
-    plain (Names k ∷ front) p = plain front p
-    plain (Allocate ∷ front) p = absurd p
-    plain (Here k ∷ front) p = absurd p
-    plain (Fill symbol upper lower ∷ front) p = plain front p
-    plain (Address name addend ∷ front) p = plain front p
-    plain (CallTo name ops ∷ front) p = plain front p
-
-    size : (front : List Slot) → size_of (front ++ Op d ∷ []) ≡ size_of front + d.len
-    size [] = omega arith
-    size (x ∷ front) = let e = size front in omega (arith, e)
-
--- one operation
-pub op_short : (d : Decoded) → HasSize d → IsShort 4 (Op d ∷ [])
-op_short d size = record { plain = tt; short = let few = size.few in omega arith }
-
-lower_short : (flags : IsaFlags) (rd : ℕ) (lower : ℤ) → IsShort 4 (lower_slots flags rd lower)
-lower_short flags rd lower = on (low64 lower == 0)
-  where
-    on : (c : Bool) → IsShort 4 (if c then [] else Op (short_rri flags Addi rd rd lower) ∷ [])
-    on true = record { plain = tt; short = lit≤ tt }
-    on false = op_short (short_rri flags Addi rd rd lower) (rri_sized flags Addi rd rd lower)
-
--- the code that loads a constant
-pub load_over_short : (flags : IsaFlags) (rd : ℕ) (op : LoadOP) (size : ℕ) → IsShort 12 (load_over flags rd op size)
-load_over_short flags rd op size = record { plain = tt; short = let jump = jump_len flags (pos (size + jump_size flags)) in let few = least_few flags in omega arith }
-
-inline_short : (flags : IsaFlags) (rd : ℕ) (o : ℕ) → IsShort 20 (inline_slots flags rd loads.Ld 8 (to_le_bytes w64 o))
-inline_short flags rd o = record { plain = tt; short = let jump = jump_len flags (pos (8 + jump_size flags)) in let few = least_few flags in omega arith }
-
-pub offset_short : (flags : IsaFlags) (rd : ℕ) (o : ℤ) → IsShort 20 (offset_slots flags rd o)
-offset_short flags rd o = on (is_splittable o)
-  where
-    on : (c : Bool) → IsShort 20 (if c then immediate_slots flags rd (upper_of o) (lower_of o) else inline_slots flags rd loads.Ld 8 (to_le_bytes w64 (low64 o)))
-    on true = let s = lower_short flags rd (lower_of o) in record { plain = s.plain; short = let h = s.short in let few = (lui_sized flags rd (upper_of o)).few in omega arith }
-    on false = inline_short flags rd (low64 o)
-
-pub address_short : (flags : IsaFlags) (rd : ℕ) (location : Location) → IsShort 24 (address_slots flags rd location)
-address_short flags rd (AtLabel l) = record { plain = tt; short = lit≤ tt }
-address_short flags rd (AtConstant k) = record { plain = tt; short = lit≤ tt }
-address_short flags rd (Based r o) = on (is_near o)
-  where
-    on : (c : Bool) → IsShort 24 (if c then Op (short_rri flags Addi rd r o) ∷ [] else offset_slots flags rd o ++ Op (short_rrr flags Add rd rd r) ∷ [])
-    on true = record { plain = tt; short = let few = (rri_sized flags Addi rd r o).few in omega arith }
-    on false = then_op (offset_slots flags rd o) (short_rrr flags Add rd rd r) (rrr_sized flags Add rd rd r).few (offset_short flags rd o)
 
 -- slots that allocate no label, and two more pieces after them
 pub before_both : {flags : IsaFlags} (slots more last : List Slot) (old mid new : Buffer) → IsPlain slots → PutsAlone flags slots old mid → PutsAlone flags (more ++ last) mid new → PutsAlone flags (slots ++ more ++ last) old new
@@ -166,7 +94,3 @@ pub constant_put : {flags : IsaFlags} (rd : ℕ) (o : ℤ) (old new : Buffer) �
 constant_put {flags} rd o old new h p = subst (λ t. PutsAlone flags (if t then immediate_slots flags rd (upper_of o) (lower_of o) else inline_slots flags rd loads.Ld 8 (to_le_bytes w64 (low64 o))) old new) (sym (splits_not o h)) p
 
 -- ---- registers
-
-pub real_number : (r : Reg) (class : RegClass) (n : ℕ) → IsReal r class n → number_of r ≡ n
-real_number (Real p) class n h = h.1
-real_number (Virtual file index) class n h = absurd h

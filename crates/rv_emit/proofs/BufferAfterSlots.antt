@@ -5,7 +5,6 @@ use Rattle.std.proofs.lemmas.List.{length-append}
 use Rattle.rv_base.specs.declared.flags.IsaFlags.{IsaFlags}
 use Rattle.rv_base.specs.declared.constant.VCodeConstant.{VCodeConstant}
 use Rattle.rv_inst.specs.declared.label_use.LabelUse.{LabelUse}
-use Rattle.rv_inst.specs.declared.label_use.LabelUse.TheVariants.{Jal20, PCRel32, B12, PCRelHi20, PCRelLo12I, RVCJump}
 use Rattle.rv_inst.specs.LabelUse.{label_kinds, marks_of}
 use Rattle.rv_inst.specs.Uses.{use_at}
 use Rattle.mach_uses.specs.declared.uses.Use.{Use}
@@ -13,17 +12,8 @@ use Rattle.mach_buffer.specs.Shape.{Shape, with_bytes, with_use, with_record}
 use Rattle.mach_buffer.specs.Growth.{Lasts}
 use Rattle.mach_buffer.specs.Windows.{AllEnd}
 use Rattle.mach_buffer.proofs.Laws.{append_none, append_each, lasts_same, lasts_more, lasts_bytes, lasts_use, lasts_allocated, lasts_record, lasts_named, lasts_label}
-use Rattle.rv_emit.specs.Slots.{Slot, Op, Aim, Data, Notes, Names, Allocate, Here, Fill, Address, CallTo, slot_size, size_of, own_label, label_of, uses_of, names_of, upper_event, lower_event, address_event, call_event}
+use Rattle.rv_code.specs.Slots.{Slot, Op, Aim, Data, Notes, Names, Allocate, Here, Fill, Address, CallTo, slot_size, size_of, own_label, label_of, uses_of, names_of, upper_event, lower_event, address_event, call_event}
 use Rattle.rv_emit.specs.Puts.{PutsSlot, Puts, eight_zeros}
-
--- the window of each kind of use has an even length
-pub marks_even : (kind : LabelUse) → length (marks_of kind) % 2 ≡ 0
-marks_even Jal20 = refl
-marks_even PCRel32 = refl
-marks_even B12 = refl
-marks_even PCRelHi20 = refl
-marks_even PCRelLo12I = refl
-marks_even RVCJump = refl
 
 -- ---- one slot
 

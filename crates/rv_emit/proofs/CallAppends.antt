@@ -26,7 +26,7 @@ use Rattle.rv_emit.specs.Emitted.{Buffer, pending, AppendsBy, AppendsAround, App
 use Rattle.rv_emit.proofs.CallSlots.{call_few, results_few}
 use Rattle.rv_emit.proofs.PlainSlots.{words_long}
 use Rattle.rv_emit.proofs.ReachAfterInst.{Each, each_none, each_more, pending_at, jump_far, jump_few, slack_uses, calm_after, reach_within}
-use Rattle.rv_emit.proofs.ShortOps.{jalr_sized}
+use Rattle.rv_code.proofs.ShortOps.{jalr_sized}
 
 -- what is pending after words: what was before, and their uses that are
 pub words_pending : (size : ℕ) (own : List (Use LabelUse)) (recorded : List MachRecord) (old new : Buffer) → AppendsWords size own recorded old new → pending new ≡ pending old ++ deadlines (pending_at (place_of old)) label_kinds own

@@ -29,17 +29,18 @@ use Rattle.rv_inst.proofs.ResultLoads.{no_extra}
 use Rattle.rv_inst.specs.Uses.{use_at, uses_by, uses_in}
 use Rattle.rv_inst.specs.declared.inst.Inst.{Inst}
 use Rattle.rv_inst.specs.declared.inst.Inst.TheVariants.{Call, CallInd}
-use Rattle.rv_emit.specs.declared.state.EmitVState.{EmitVState}
+use Rattle.rv_code.specs.declared.state.EmitVState.{EmitVState}
 use Rattle.rv_emit.specs.Emission.{PutsAlone, PutsParts, Emits}
 use Rattle.rv_emit.specs.Emitted.{Buffer, AppendsInst, Appends, AppendsBy, AppendsAround, AppendsWords}
-use Rattle.rv_emit.specs.InstParts.{stack_load_slots, stack_step_slots, return_notes, after_call, patch_notes, try_slots, call_slots, call_ind_slots, loading_parts, call_parts, parts_of}
+use Rattle.rv_code.specs.InstParts.{stack_load_slots, stack_step_slots, return_notes, after_call, patch_notes, try_slots, call_slots, call_ind_slots, loading_parts, call_parts, parts_of}
 use Rattle.rv_emit.specs.Standing.{GapStandsIn, PartsIn, SlotsIn, SpansIn}
-use Rattle.rv_emit.specs.Slots.{Slot, Ask, Slots, AreSelfContained, PartsAreSelfContained, size_of, uses_of, records_of, names_of, call_event}
-use Rattle.rv_emit.proofs.MemorySlots.{HaveContents, HaveAccess, at_end, none, nothing, of_size, note_then, from_start}
-use Rattle.rv_emit.proofs.PlainSlots.{IsPlain, IsSummed, summed, appends_words, words_long}
+use Rattle.rv_code.specs.Slots.{Slot, Ask, Slots, AreSelfContained, PartsAreSelfContained, size_of, uses_of, records_of, names_of, call_event}
+use Rattle.rv_code.proofs.MemorySlots.{HaveContents, HaveAccess, at_end, none, nothing, of_size, note_then, from_start}
+use Rattle.rv_code.proofs.PlainSlots.{IsPlain, IsSummed}
+use Rattle.rv_emit.proofs.PlainSlots.{summed, appends_words, words_long}
 use Rattle.rv_emit.proofs.BufferAfterSlots.{puts_bytes}
-use Rattle.rv_emit.proofs.ShortOps.{jalr_sized, window_long}
-use Rattle.rv_emit.proofs.TailSlots.{loads_then, step_then, loads_most, step_most}
+use Rattle.rv_code.proofs.ShortOps.{jalr_sized, window_long}
+use Rattle.rv_code.proofs.TailSlots.{loads_then, step_then, loads_most, step_most}
 
 -- ---- pieces
 

@@ -20,13 +20,13 @@ use Rattle.mach_uses.specs.Reach.{CanReach, is_needed}
 use Rattle.mach_records.specs.declared.records.MachRecord.{MachRecord}
 use Rattle.rv_emit.specs.Emission.{PutsAlone, PutsParts}
 use Rattle.rv_emit.specs.Emitted.{Buffer, IsSoundBuffer, AppendsWords, pending}
-use Rattle.rv_emit.specs.InstParts.{return_notes, after_call, patch_notes, try_slots, stack_load_slots, call_to, call_slots, call_ind_slots, loading_parts}
-use Rattle.rv_emit.specs.Slots.{Slot, Op, Ask, Slots}
+use Rattle.rv_code.specs.InstParts.{return_notes, after_call, patch_notes, try_slots, stack_load_slots, call_to, call_slots, call_ind_slots, loading_parts}
+use Rattle.rv_code.specs.Slots.{Slot, Op, Ask, Slots}
 use Rattle.rv_emit.proofs.CallAppends.{reach_first, words_pending}
 use Rattle.rv_emit.proofs.CallSlots.{AreCall, call_contents, call_ind_contents, call_few}
-use Rattle.rv_emit.proofs.MemorySlots.{nothing}
+use Rattle.rv_code.proofs.MemorySlots.{nothing}
 use Rattle.rv_emit.proofs.PlainSlots.{appends_words, words_long}
-use Rattle.rv_emit.proofs.ShortOps.{jalr_sized}
+use Rattle.rv_code.proofs.ShortOps.{jalr_sized}
 use Rattle.rv_emit.proofs.SlotsOfSeveralPuts.{both_alone, alone_long}
 
 -- ---- a call without loads

@@ -20,9 +20,9 @@ use Rattle.rv_inst.specs.LabelUse.{Aims, marks_of}
 use Rattle.rv_inst.specs.LabelUseWords.{word_at, half_at, word_bytes, AreBytes}
 use Rattle.rv_inst.specs.LabelUseBridges.{with_immediate}
 use Rattle.rv_inst.proofs.Bridges.{decode-patched_branch, decode-patched_jump, decode-patched_compressed_jump}
-use Rattle.rv_emit.specs.Operations.{decoded_jump, jump_word}
+use Rattle.rv_code.specs.Operations.{decoded_jump, jump_word}
 use Rattle.rv_machine.specs.Opcodes.{JAL, BRANCH}
-use Rattle.rv_emit.specs.Sites.{BytesAt}
+use Rattle.rv_code.specs.Sites.{BytesAt}
 use Rattle.rv_emit.specs.Puts.{AllBytes, Encodes, IsPatchable}
 use Rattle.rv_emit.proofs.Words.{jump_decodes, IsBranch}
 

@@ -20,7 +20,7 @@ use Rattle.rv_emit.specs.Emitted.{Buffer, AppendsIsland}
 use Rattle.rv_emit.specs.Images.{EndsWithin, IsClear, AllClear, FieldsEnd, FieldsStand}
 use Rattle.rv_emit.specs.Puts.{AsksNothing, PutsSlot, Puts}
 use Rattle.rv_emit.proofs.BufferAfterSlots.{slot_ends}
-use Rattle.rv_emit.specs.Slots.{Slot, Op, Aim, Data, Notes, Names, Allocate, Here, Fill, Address, CallTo, label_of, upper_event, lower_event, address_event, call_event, AddressOf, SlotOf, Symbol}
+use Rattle.rv_code.specs.Slots.{Slot, Op, Aim, Data, Notes, Names, Allocate, Here, Fill, Address, CallTo, label_of, upper_event, lower_event, address_event, call_event, AddressOf, SlotOf, Symbol}
 
 -- ---- one event
 

@@ -12,7 +12,7 @@ use Rattle.rv_emit.specs.declared.compressed.Encoded.TheVariants.{Half, Word}
 use Rattle.rv_emit.specs.Emitted.{Buffer, IsSoundBuffer}
 use Rattle.rv_emit.specs.Emission.{PutsAlone}
 use Rattle.rv_emit.specs.Encoded.{Holds, IsHalf, IsSizeOf, IsWord}
-use Rattle.rv_emit.specs.Slots.{Op}
+use Rattle.rv_code.specs.Slots.{Op}
 use Rattle.rv_emit.proofs.Encoded.{half_encodes}
 use Rattle.rv_emit.proofs.SlotsOfOnePut.{alone}
 

@@ -34,34 +34,35 @@ use Rattle.mach_uses.specs.Reach.{is_reached}
 use Rattle.rv_base.specs.declared.constant.VCodeConstant.{VCodeConstant}
 use Rattle.rv_inst.specs.Operands.{inst_constant, named_by}
 use Rattle.rv_inst.specs.Records.{inst_records}
-use Rattle.rv_emit.specs.declared.state.EmitVState.{EmitVState}
+use Rattle.rv_code.specs.declared.state.EmitVState.{EmitVState}
 use Rattle.rv_machine.specs.declared.decoding.Decoded.{Decoded}
-use Rattle.rv_emit.specs.Operations.{jump_size}
-use Rattle.rv_emit.specs.Counts.{start_ops, turn_ops, turn_size}
+use Rattle.rv_code.specs.Operations.{jump_size}
+use Rattle.rv_code.specs.Counts.{start_ops, turn_ops, turn_size}
 use Rattle.rv_inst.specs.Forms.{jump_kind, short_rrr, short_rri, short_lui, short_jalr, short_ebreak}
 use Rattle.rv_inst.specs.LabelUse.{label_kinds, marks_of, forward_of, backward_of}
 use Rattle.rv_emit.specs.Emitted.{Buffer, IsSoundBuffer, IsFarUse, IsOwnUse, AppendsInst, IslandIfNeeded}
-use Rattle.rv_emit.specs.Slots.{Label, Own, Slot, Op, Data, AreSelfContained, PartsAreSelfContained, size_of, own_label}
-use Rattle.rv_emit.specs.InstParts.{move_slots, branch_slots, branch_to, jump_to, trap_bytes, trap_slots, trap_if_slots, complement, slots_alone, inline_slots, constant_slots, count_slots, parts_of}
-use Rattle.rv_emit.specs.declared.state.EmitVState.TheVariants.{Unknown}
+use Rattle.rv_code.specs.Slots.{Label, Own, Slot, Op, Data, AreSelfContained, PartsAreSelfContained, size_of, own_label}
+use Rattle.rv_code.specs.InstParts.{move_slots, branch_slots, branch_to, jump_to, trap_bytes, trap_slots, trap_if_slots, complement, slots_alone, inline_slots, constant_slots, count_slots, parts_of}
+use Rattle.rv_code.specs.declared.state.EmitVState.TheVariants.{Unknown}
 use Rattle.rv_emit.specs.Emission.{PutsParts, EmitsIn, Emits}
-use Rattle.rv_emit.proofs.AddressRuns.{inline_size}
-use Rattle.rv_emit.proofs.ShortOps.{HasSize, rrr_sized, rri_sized, lui_sized, jalr_sized, ebreak_sized, jump_len, window_long, least_even}
-use Rattle.rv_emit.proofs.Operands.{keeps, data_kept, constant_kept}
+use Rattle.rv_code.proofs.AddressRuns.{inline_size}
+use Rattle.rv_code.proofs.ShortOps.{HasSize, rrr_sized, rri_sized, lui_sized, jalr_sized, ebreak_sized, jump_len, window_long, least_even}
+use Rattle.rv_code.proofs.Operands.{keeps, data_kept, constant_kept}
 use Rattle.rv_inst.specs.Addresses.{AtLabel, location_of}
 use Rattle.rv_emit.proofs.BufferAfterSlots.{puts_named}
-use Rattle.rv_emit.proofs.PlainSlots.{IsSummed, summed, nothing}
+use Rattle.rv_code.proofs.PlainSlots.{IsSummed}
+use Rattle.rv_emit.proofs.PlainSlots.{summed, nothing}
 use Rattle.rv_emit.proofs.OwnSlots.{closed_code, closed_long, closed_end, closed_records, closed_adds}
 use Rattle.rv_emit.proofs.ReachAfterInst.{each_none, each_more}
-use Rattle.rv_emit.proofs.MemorySlots.{load_summed, store_summed, load_addr_summed, label_address_summed, load_contained, store_contained, address_contained}
-use Rattle.rv_emit.proofs.CountSlots.{count_even, ops_contained}
-use Rattle.rv_emit.proofs.ChoiceSlots.{extend_summed, extend_contained, select_summed, select_contained}
-use Rattle.rv_emit.proofs.ZerosSlots.{zeros_summed, zeros_contained}
-use Rattle.rv_emit.proofs.ReverseSlots.{reverse_summed, reverse_contained}
-use Rattle.rv_emit.proofs.ProbeSlots.{probe_summed, probe_contained}
-use Rattle.rv_emit.proofs.SymbolSlots.{got_summed, near_summed, far_summed, unwind_summed, far_contained}
-use Rattle.rv_emit.proofs.TableSlots.{table_contained}
-use Rattle.rv_emit.proofs.TailSlots.{tail_contained, t0_contained}
+use Rattle.rv_code.proofs.MemorySlots.{load_summed, store_summed, load_addr_summed, label_address_summed, load_contained, store_contained, address_contained}
+use Rattle.rv_code.proofs.CountSlots.{count_even, ops_contained}
+use Rattle.rv_code.proofs.ChoiceSlots.{extend_summed, extend_contained, select_summed, select_contained}
+use Rattle.rv_code.proofs.ZerosSlots.{zeros_summed, zeros_contained}
+use Rattle.rv_code.proofs.ReverseSlots.{reverse_summed, reverse_contained}
+use Rattle.rv_code.proofs.ProbeSlots.{probe_summed, probe_contained}
+use Rattle.rv_code.proofs.SymbolSlots.{got_summed, near_summed, far_summed, unwind_summed, far_contained}
+use Rattle.rv_code.proofs.TableSlots.{table_contained}
+use Rattle.rv_code.proofs.TailSlots.{tail_contained, t0_contained}
 use Rattle.rv_emit.proofs.CallSlots.{words_alone, call_appends, call_ind_appends, call_blocks, call_ind_blocks}
 
 one : (context : Context) (inst : Inst) (d : Decoded) → extent_of context inst ≡ Words d.len → ((start end : ℕ) → [] ≡ uses_in context start end inst) → ((start end : ℕ) → [] ≡ inst_records context start end inst) → ((named : List VCodeConstant) → named ≡ named_by (inst_constant inst) named) → IsSummed context inst (Op d ∷ [])

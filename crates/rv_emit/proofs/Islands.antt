@@ -18,7 +18,7 @@ use Rattle.mach_buffer.specs.Constants.{end_after, reserve_from, reserve_of}
 use Rattle.mach_buffer.specs.Islands.{CanIsland, IsJumpOver, aligned, island_end, first_of, needs_own, others_of}
 use Rattle.mach_buffer.proofs.Laws.{deadlines_append, own_idle, aligned_near, ends_within, even_length, few_allocated, use_usable, bound_usable}
 use Rattle.rv_emit.specs.Emitted.{Buffer, IsSoundBuffer, pending}
-use Rattle.rv_emit.specs.Operations.{jump_word}
+use Rattle.rv_code.specs.Operations.{jump_word}
 use Rattle.rv_inst.specs.Uses.{use_at}
 
 -- tests that agree on each use have the same deadlines

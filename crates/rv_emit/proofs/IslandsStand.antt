@@ -21,10 +21,10 @@ use Rattle.mach_buffer.specs.Growth.{Lasts}
 use Rattle.mach_uses.specs.Windows.{window}
 use Rattle.mach_buffer.specs.Pieces.{ByVeneer, UseFinished}
 use Rattle.mach_buffer.proofs.Laws.{lasts_more}
-use Rattle.rv_emit.specs.InstParts.{wide_jump_to}
-use Rattle.rv_emit.specs.Operations.{decoded_jump}
-use Rattle.rv_emit.specs.Slots.{Label, between}
-use Rattle.rv_emit.specs.Sites.{Site, BytesAt, CodeHas}
+use Rattle.rv_code.specs.InstParts.{wide_jump_to}
+use Rattle.rv_code.specs.Operations.{decoded_jump}
+use Rattle.rv_code.specs.Slots.{Label, between}
+use Rattle.rv_code.specs.Sites.{Site, BytesAt, CodeHas}
 use Rattle.rv_emit.specs.Images.{KeepsOutside}
 use Rattle.rv_emit.specs.Puts.{AllBytes}
 use Rattle.rv_emit.specs.Standing.{IslandIn, GapStandsIn, IsFinishedTo}

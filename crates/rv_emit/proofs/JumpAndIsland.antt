@@ -16,12 +16,12 @@ use Rattle.mach_buffer.specs.Islands.{CanIsland, Islanded, others_of, aligned, i
 use Rattle.mach_buffer.specs.Windows.{AreWindows}
 use Rattle.mach_buffer.specs.Growth.{Grows}
 use Rattle.rv_base.specs.declared.flags.IsaFlags.{IsaFlags}
-use Rattle.rv_emit.specs.Slots.{Label}
+use Rattle.rv_code.specs.Slots.{Label}
 use Rattle.rv_emit.specs.Puts.{Puts}
-use Rattle.rv_emit.specs.InstParts.{wide_jump_to}
+use Rattle.rv_code.specs.InstParts.{wide_jump_to}
 use Rattle.mach_buffer.proofs.Laws.{island_rest, island_reserve, lasts_more, lasts_allocated, lasts_island, stands_last, windows_with_use, even_length, few_allocated}
 use Rattle.rv_emit.specs.Emitted.{Buffer, IsSoundBuffer, HasWindows, pending, AppendsCode, AppendsIsland}
-use Rattle.rv_emit.specs.Operations.{jump_word}
+use Rattle.rv_code.specs.Operations.{jump_word}
 use Rattle.rv_inst.specs.Uses.{use_at}
 use Rattle.rv_emit.proofs.NewConstants.{adds_both, adds_none, adds_island}
 use Rattle.rv_emit.proofs.Islands.{JumpPut, others_pending, same_reserve}

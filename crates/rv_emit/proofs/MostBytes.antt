@@ -39,16 +39,16 @@ use Rattle.rv_inst.specs.declared.inst.CondBrTarget.TheVariants.{Label, Fallthro
 use Rattle.rv_inst.specs.declared.inst.Inst.{Inst}
 use Rattle.rv_inst.specs.declared.inst.Inst.TheVariants.{Nop0, Nop4, EBreak, SequencePoint, Args, Rets, DummyUse, EmitIsland, RawData, Lui, Auipc, LoadInlineConst, AluRRR, AluRRImm12, Mov, MovFromPReg, Extend, Select, Load, Store, LoadAddr, LabelAddress, Ret, TrapIf, Jal, CondBr, BrTable, Udf, Jalr, Popcnt, Cltz, Brev8, StackProbeLoop, LoadExtNameGot, LoadExtNameNear, LoadExtNameFar, Call, CallInd, ReturnCall, ReturnCallInd, Unwind}
 use Rattle.rv_emit.proofs.CallSlots.{try_few}
-use Rattle.rv_emit.proofs.ChoiceSlots.{extend_short, select_short}
-use Rattle.rv_emit.proofs.FineOperands.{fine}
-use Rattle.rv_emit.proofs.OffsetSizes.{far_short}
-use Rattle.rv_emit.proofs.Operands.{keeps, data_kept, constant_kept}
-use Rattle.rv_emit.proofs.ProbeSlots.{probe_short}
-use Rattle.rv_emit.proofs.ReverseSlots.{reverse_short}
-use Rattle.rv_emit.proofs.ShortOps.{HasSize, rrr_sized, rri_sized, lui_sized, jalr_sized, ebreak_sized, load_sized, store_sized, least_few}
-use Rattle.rv_emit.proofs.TableSlots.{table_short}
-use Rattle.rv_emit.proofs.TailSlots.{loads_most, step_most, saves_long, setup_few}
-use Rattle.rv_emit.proofs.ZerosSlots.{zeros_short}
+use Rattle.rv_code.proofs.ChoiceSlots.{extend_short, select_short}
+use Rattle.rv_code.proofs.FineOperands.{fine}
+use Rattle.rv_code.proofs.OffsetSizes.{far_short}
+use Rattle.rv_code.proofs.Operands.{keeps, data_kept, constant_kept}
+use Rattle.rv_code.proofs.ProbeSlots.{probe_short}
+use Rattle.rv_code.proofs.ReverseSlots.{reverse_short}
+use Rattle.rv_code.proofs.ShortOps.{HasSize, rrr_sized, rri_sized, lui_sized, jalr_sized, ebreak_sized, load_sized, store_sized, least_few}
+use Rattle.rv_code.proofs.TableSlots.{table_short}
+use Rattle.rv_code.proofs.TailSlots.{loads_most, step_most, saves_long, setup_few}
+use Rattle.rv_code.proofs.ZerosSlots.{zeros_short}
 
 -- ---- pieces
 

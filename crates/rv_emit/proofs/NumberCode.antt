@@ -1,24 +1,22 @@
 -- What is put of a number in a register, and how long it is at most.
-use Rattle.std.proofs.Common.{◌≡◌, ◌≢◌, zero, suc, ◌-◌, ◌^◌, ◌<◌, ◌==◌, ℕ, Bool, true, false, List, [], ◌∷◌, ℤ, pos, negsuc, ◌≤ℤ◌, refl, sym, ap, subst, ◌∙◌, arith}
+use Rattle.std.proofs.Common.{◌≡◌, ◌≢◌, zero, suc, ◌-◌, ◌^◌, ◌<◌, ◌==◌, ℕ, true, false, [], ◌∷◌, ℤ, pos, negsuc, ◌≤ℤ◌, refl, sym, ap, subst, ◌∙◌, arith}
 use Rattle.std.specs.Prelude.{◌&&◌, if◌then◌else◌}
-use Rattle.std.specs.Int.{cast_signed, cast_unsigned, w32, w64}
+use Rattle.std.specs.Int.{cast_unsigned, w32}
 use Rattle.std.proofs.lemmas.Bool.Decides.{nat_tests}
 use Rattle.std.proofs.lemmas.Int.{ints}
 use Rattle.rv_base.specs.declared.flags.IsaFlags.{IsaFlags}
 use Rattle.rv_imms.specs.Splitting.{value_of, IsSplittable}
-use Rattle.rv_machine.specs.Arithmetic.{low_word}
 use Rattle.rv_machine.specs.State.{low64}
 use Rattle.rv_ops.specs.declared.alu.AluOPRRI.TheVariants.{Addi}
-use Rattle.rv_inst.specs.Addresses.{is_splittable}
 use Rattle.rv_inst.specs.Forms.{short_rri}
 use Rattle.rv_emit.specs.Emitted.{Buffer}
 use Rattle.rv_emit.specs.Emission.{PutsAlone}
-use Rattle.rv_emit.specs.Immediates.{upper_of, lower_of}
-use Rattle.rv_emit.specs.InstParts.{immediate_slots, number_slots, offset_slots}
-use Rattle.rv_emit.specs.Slots.{Slot, Op}
-use Rattle.rv_emit.proofs.AddressCode.{IsShort, op_short, immediates_put, offset_short}
+use Rattle.rv_code.specs.Immediates.{upper_of}
+use Rattle.rv_code.specs.InstParts.{immediate_slots, number_slots, offset_slots}
+use Rattle.rv_code.specs.Slots.{Op}
+use Rattle.rv_emit.proofs.AddressCode.{immediates_put}
 use Rattle.rv_emit.proofs.OffsetParts.{splits, splits_not, upper_is, lower_is, low64_zero}
-use Rattle.rv_emit.proofs.ShortOps.{rri_sized}
+use Rattle.rv_code.proofs.NumberForms.{is_low, slots_by}
 
 -- ---- an upper immediate
 
@@ -33,14 +31,6 @@ upper_other (pos (suc k)) a b n = grind (arith, nat_tests)
 upper_other (negsuc k) a b n = let l : low64 (negsuc k) ≡ 2 ^ 64 - suc k = refl in let h : k < 524288 = omega (arith, ints) in let m : 0 < 2 ^ 64 - suc k = omega arith in grind (arith, nat_tests)
 
 -- ---- by which way
-
--- a number is its lower immediate
-abbrev pub is_low : ℤ → Bool
-is_low z = is_splittable z && low64 (upper_of z) == 0
-
--- by that alone, or as an offset is
-abbrev pub slots_by : IsaFlags → ℕ → ℤ → Bool → List Slot
-slots_by flags rd z low = if low then Op (short_rri flags Addi rd 0 (lower_of z)) ∷ [] else offset_slots flags rd z
 
 abbrev PutsNumber : IsaFlags → ℕ → ℤ → Buffer → Buffer → Type 0
 PutsNumber flags rd z old new = PutsAlone flags (number_slots flags rd z) old new
@@ -68,22 +58,4 @@ unsplit_put rd z old new h p = as_offset rd z old new (ap (λ s. s && low64 (upp
 
 -- ---- how long it is
 
-pub number_short : (flags : IsaFlags) (rd : ℕ) (z : ℤ) → IsShort 20 (number_slots flags rd z)
-number_short flags rd z = on (is_low z)
-  where
-    one : IsShort 4 (Op (short_rri flags Addi rd 0 (lower_of z)) ∷ [])
-    one = op_short (short_rri flags Addi rd 0 (lower_of z)) (rri_sized flags Addi rd 0 (lower_of z))
-
-    on : (c : Bool) → IsShort 20 (slots_by flags rd z c)
-    on true = record { plain = one.plain; short = let h = one.short in omega arith }
-    on false = offset_short flags rd z
-
 -- ---- the numbers of fewer bits
-
--- in two's complement a number below 2 ^ 63 is itself
-pub small_signed : (n : ℕ) → n < 2 ^ 63 → cast_signed w64 n ≡ pos n
-small_signed n lt = omega (arith, ints)
-
--- 32 bits are their own low word
-pub own_word : (n : ℕ) → n < 2 ^ 32 → low_word n ≡ n
-own_word n lt = omega arith

@@ -7,7 +7,7 @@ use Rattle.rv_base.specs.declared.flags.IsaFlags.{IsaFlags}
 use Rattle.rv_inst.specs.declared.label_use.LabelUse.{LabelUse}
 use Rattle.mach_buffer.specs.Shape.{Shape}
 use Rattle.mach_buffer.proofs.Laws.{placed_same}
-use Rattle.rv_emit.specs.Slots.{Slot, Op, Aim, Data, Notes, Names, Allocate, Here, Fill, Address, CallTo, own_label, here_at}
+use Rattle.rv_code.specs.Slots.{Slot, Op, Aim, Data, Notes, Names, Allocate, Here, Fill, Address, CallTo, own_label, here_at}
 use Rattle.rv_emit.specs.Puts.{PutsSlot, Puts}
 use Rattle.rv_emit.proofs.BufferAfterSlots.{slot_bytes, lasts_after_slots}
 

@@ -13,10 +13,11 @@ use Rattle.mach_uses.specs.Labels.{inner_count, placed}
 use Rattle.mach_buffer.specs.Buffer.{shape_of, bytes_of, place_of, allocated_of, records_of}
 use Rattle.mach_buffer.proofs.Laws.{few_allocated, use_usable, placed_same, placed_other}
 use Rattle.rv_emit.specs.Emitted.{Buffer, IsSoundBuffer, AppendsSequence}
-use Rattle.rv_emit.specs.Slots.{Slot, Allocate, Here, size_of, own_label, uses_of as slots_uses, records_of as slots_records}
+use Rattle.rv_code.specs.Slots.{Slot, Allocate, Here, size_of, own_label, uses_of as slots_uses, records_of as slots_records}
 use Rattle.rv_emit.specs.Puts.{Puts}
 use Rattle.rv_emit.proofs.BufferAfterSlots.{lasts_after_slots, puts_constants}
-use Rattle.rv_emit.proofs.PlainSlots.{IsPlain, Adds, plain_adds}
+use Rattle.rv_code.proofs.PlainSlots.{IsPlain}
+use Rattle.rv_emit.proofs.PlainSlots.{Adds, plain_adds}
 
 -- slots between the two
 abbrev pub closed_slots : List Slot → List Slot

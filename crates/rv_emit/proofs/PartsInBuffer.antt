@@ -13,17 +13,18 @@ use Rattle.mach_buffer.specs.Constants.{AllStand}
 use Rattle.mach_buffer.specs.Buffer.{shape_of, bytes_of, allocated_of}
 use Rattle.mach_buffer.proofs.Laws.{lasts_same, lasts_more, lasts_allocated, windows_with_bytes, windows_with_use, stands_last, even_length}
 use Rattle.std.specs.Prelude.{Option}
-use Rattle.rv_emit.specs.Slots.{Slot, slot_size, Op, Aim, Data, Notes, Names, Allocate, Here, Fill, Address, CallTo, Part, Ask, Slots, Label, label_of, AreClosed, PartsAreSelfContained}
+use Rattle.rv_code.specs.Slots.{Slot, slot_size, Op, Aim, Data, Notes, Names, Allocate, Here, Fill, Address, CallTo, Part, Ask, Slots, Label, label_of, AreClosed, PartsAreSelfContained}
 use Rattle.rv_emit.specs.Puts.{eight_zeros, PutsSlot, Puts}
 use Rattle.rv_emit.specs.Images.{FieldsEnd, FieldsStand}
-use Rattle.rv_emit.specs.InstParts.{wide_jump_to}
+use Rattle.rv_code.specs.InstParts.{wide_jump_to}
 use Rattle.rv_emit.specs.Emitted.{Buffer, IsSoundBuffer, HasWindows, AppendsIsland, IslandIfNeeded}
 use Rattle.rv_emit.specs.Emission.{PutsParts}
 use Rattle.rv_emit.specs.Standing.{SlotsIn, IslandIn, GapStandsIn, PartsIn}
 use Rattle.rv_emit.specs.NewConstants.{AddsConstants}
 use Rattle.rv_emit.proofs.NewConstants.{adds_both, adds_none, adds_same}
 use Rattle.rv_emit.proofs.Fields.{puts_fields, island_fields}
-use Rattle.rv_emit.proofs.BufferAfterSlots.{marks_even, slot_bytes, lasts_after_slots, puts_bytes, puts_constants}
+use Rattle.rv_code.proofs.ClosedSlots.{marks_even}
+use Rattle.rv_emit.proofs.BufferAfterSlots.{slot_bytes, lasts_after_slots, puts_bytes, puts_constants}
 
 -- ---- what stands stays
 

@@ -24,8 +24,8 @@ use Rattle.rv_inst.specs.declared.label_use.LabelUse.TheVariants.{PCRelHi20, PCR
 use Rattle.rv_inst.specs.LabelUse.{marks_of}
 use Rattle.rv_inst.specs.LabelUseWords.{word_at, word_bytes}
 use Rattle.rv_inst.proofs.Bridges.{same_low, same_byte}
-use Rattle.rv_emit.specs.Immediates.{upper_of_distance, lower_of_distance}
-use Rattle.rv_emit.specs.Operations.{decoded_addi}
+use Rattle.rv_code.specs.Immediates.{upper_of_distance, lower_of_distance}
+use Rattle.rv_code.specs.Operations.{decoded_addi}
 use Rattle.rv_emit.specs.Puts.{AllBytes, IsPatchable}
 use Rattle.rv_emit.proofs.Encoded.{encodes}
 

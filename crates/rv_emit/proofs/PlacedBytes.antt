@@ -6,7 +6,7 @@ use Rattle.rv_machine.specs.State.{Memory, byte, wrap}
 use Rattle.rv_machine.specs.Steps.{fetch}
 use Rattle.rv_inst.specs.LabelUseWords.{word_at}
 use Rattle.mach_uses.specs.Windows.{window}
-use Rattle.rv_emit.specs.Sites.{BytesAt}
+use Rattle.rv_code.specs.Sites.{BytesAt}
 use Rattle.rv_emit.specs.Puts.{AllBytes}
 
 -- ---- windows

@@ -13,30 +13,17 @@ use Rattle.mach_records.specs.declared.records.MachRecord.{MachRecord}
 use Rattle.mach_uses.specs.declared.uses.Use.{Use}
 use Rattle.mach_buffer.specs.Shape.{Shape}
 use Rattle.mach_buffer.specs.Buffer.{shape_of, bytes_of, allocated_of, named_of}
-use Rattle.rv_emit.specs.OwnCounts.{own_count}
+use Rattle.rv_code.specs.OwnCounts.{own_count}
 use Rattle.rv_emit.specs.Emitted.{Buffer, IsSoundBuffer, AppendsCode, AppendsSequence, AppendsInst, AppendsWords}
-use Rattle.rv_emit.specs.Slots.{Slot, Op, Aim, Data, Notes, Names, Allocate, Here, Fill, Address, CallTo, size_of, uses_of, records_of, names_of, upper_event, lower_event, address_event, call_event}
+use Rattle.rv_code.specs.Slots.{Slot, Op, Aim, Data, Notes, Names, Allocate, Here, Fill, Address, CallTo, size_of, uses_of, records_of, names_of, upper_event, lower_event, address_event, call_event}
 use Rattle.rv_emit.specs.Puts.{Puts, eight_zeros}
-use Rattle.rv_emit.specs.InstParts.{slots_alone}
+use Rattle.rv_code.specs.InstParts.{slots_alone}
 use Rattle.rv_emit.specs.Emission.{PutsParts}
 use Rattle.rv_base.specs.declared.constant.VCodeConstant.{VCodeConstant}
 use Rattle.rv_inst.specs.Operands.{inst_constant, named_by}
 use Rattle.rv_emit.proofs.BufferAfterSlots.{lasts_after_slots, puts_named, puts_constants}
 use Rattle.rv_emit.proofs.Sequences.{no_own}
-
--- slots that allocate and bind no label
-abbrev pub IsPlain : List Slot → Type 0
-IsPlain [] = Unit {0}
-IsPlain (Op d ∷ slots) = IsPlain slots
-IsPlain (Aim kind target ops ∷ slots) = IsPlain slots
-IsPlain (Data bytes ∷ slots) = IsPlain slots
-IsPlain (Notes event ∷ slots) = IsPlain slots
-IsPlain (Names k ∷ slots) = IsPlain slots
-IsPlain (Allocate ∷ slots) = ⊥
-IsPlain (Here k ∷ slots) = ⊥
-IsPlain (Fill symbol upper lower ∷ slots) = IsPlain slots
-IsPlain (Address name addend ∷ slots) = IsPlain slots
-IsPlain (CallTo name ops ∷ slots) = IsPlain slots
+use Rattle.rv_code.proofs.PlainSlots.{IsPlain, IsAdded, IsSummed}
 
 -- what they add to a shape
 pub record Adds (size : ℕ) (own : List (Use LabelUse)) (more : List MachRecord) (s t : Shape LabelUse) : Type 0 where
@@ -136,22 +123,6 @@ plain_adds flags allocated (CallTo name ops ∷ slots) s t plain (m, put, p) =
     (subst (λ n. Adds (size_of slots) (uses_of allocated n slots) (records_of n slots) m t) long (plain_adds flags allocated slots m t plain p)))
 
 -- ---- an instruction
-
--- an instruction's slots add its uses and records, and as many bytes as it is long, and name its constant
-pub record IsAdded (context : Context) (inst : Inst) (slots : List Slot) : Type 0 where
-  pub plain : IsPlain slots
-  pub long : words_in (extent_of context inst) ≡ size_of slots
-  pub uses : (allocated start : ℕ) → uses_of allocated start slots ≡ uses_in context start (start + size_of slots) inst
-  pub records : (start : ℕ) → records_of start slots ≡ inst_records context start (start + size_of slots) inst
-  pub names : (named : List VCodeConstant) → names_of slots named ≡ named_by (inst_constant inst) named
-
--- and they are all that it puts
-pub record IsSummed (context : Context) (inst : Inst) (slots : List Slot) : Type 0 where
-  pub plain : IsPlain slots
-  pub long : extent_of context inst ≡ Words (size_of slots)
-  pub uses : (allocated start : ℕ) → uses_of allocated start slots ≡ uses_in context start (start + size_of slots) inst
-  pub records : (start : ℕ) → records_of start slots ≡ inst_records context start (start + size_of slots) inst
-  pub names : (named : List VCodeConstant) → names_of slots named ≡ named_by (inst_constant inst) named
 
 -- code that allocates no label, of an instruction that has none of its own
 pub unlabelled : (inst : Inst) (code : List ℕ) (own : List (Use LabelUse)) (old new : Buffer) → own_count inst ≡ 0 → AppendsCode code own old new → AppendsSequence (own_count inst) code own old new

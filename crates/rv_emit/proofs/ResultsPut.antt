@@ -22,9 +22,9 @@ use Rattle.rv_inst.specs.Rules.{is_on_stack, is_stacked}
 use Rattle.rv_inst.specs.Sizes.{results_space}
 use Rattle.rv_emit.specs.Emission.{PutsAlone, PutsParts}
 use Rattle.rv_emit.specs.Emitted.{Buffer, AppendsIsland, IslandIfNeeded, pending}
-use Rattle.rv_emit.specs.InstParts.{load_slots, stack_load_slots, try_slots}
-use Rattle.rv_emit.specs.Slots.{Ask, Slots}
-use Rattle.rv_emit.specs.Usable.{IsFineResult, AreFineResults}
+use Rattle.rv_code.specs.InstParts.{load_slots, stack_load_slots, try_slots}
+use Rattle.rv_code.specs.Slots.{Ask, Slots}
+use Rattle.rv_code.specs.Usable.{IsFineResult, AreFineResults}
 use Rattle.rv_emit.proofs.SlotsOfSeveralPuts.{both_alone}
 use Rattle.rv_emit.proofs.TailCallCode.{loads_both, loads_plain, loads_room}
 

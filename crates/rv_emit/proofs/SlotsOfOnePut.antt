@@ -13,7 +13,7 @@ use Rattle.rv_machine.specs.declared.ops.MOp.TheVariants.{Base}
 use Rattle.rv_machine.specs.declared.ops.BaseOp.TheVariants.{Jal}
 use Rattle.rv_ops.specs.declared.alu.AluOPRRI.TheVariants.{Addi}
 use Rattle.rv_inst.specs.Forms.{short_rri}
-use Rattle.rv_emit.specs.Operations.{decoded_jump, jump_word}
+use Rattle.rv_code.specs.Operations.{decoded_jump, jump_word}
 use Rattle.rv_ops.specs.declared.compare.IntegerCompare.{IntegerCompare}
 use Rattle.rv_inst.specs.declared.inst.CondBrTarget.{CondBrTarget}
 use Rattle.rv_inst.specs.declared.inst.CondBrTarget.TheVariants.{Label as ToLabel, Fallthrough}
@@ -25,9 +25,9 @@ use Rattle.mach_buffer.specs.Buffer.{shape_of, bytes_of, allocated_of}
 use Rattle.mach_buffer.specs.Shape.{with_bytes, with_use}
 use Rattle.rv_emit.specs.Emitted.{Buffer, IsSoundBuffer}
 use Rattle.rv_emit.specs.Emission.{PutsAlone, PutsSlots}
-use Rattle.rv_emit.specs.Slots.{Label, Slot, Op, Aim}
+use Rattle.rv_code.specs.Slots.{Label, Slot, Op, Aim}
 use Rattle.rv_emit.specs.Puts.{PutsSlot}
-use Rattle.rv_emit.specs.InstParts.{jump_to, wide_jump_to, branch_to, move_slots, branch_slots}
+use Rattle.rv_code.specs.InstParts.{jump_to, wide_jump_to, branch_to, move_slots, branch_slots}
 use Rattle.rv_emit.proofs.Encoded.{word_encodes, jump_patchable, half_jump_patchable, branch_patchable}
 use Rattle.rv_emit.proofs.Words.{IsBranch}
 

@@ -24,12 +24,13 @@ use Rattle.mach_buffer.specs.Shape.{Shape, IsUsable, with_bytes, with_use, with_
 use Rattle.mach_buffer.specs.Growth.{Lasts}
 use Rattle.rv_emit.specs.Emitted.{Buffer, IsSoundBuffer}
 use Rattle.rv_emit.specs.Emission.{PutsAlone}
-use Rattle.rv_emit.specs.Slots.{Slot, Data, size_of, own_label}
+use Rattle.rv_code.specs.Slots.{Slot, Data, size_of, own_label}
 use Rattle.rv_emit.specs.Puts.{IsPatchable, Puts}
-use Rattle.rv_emit.specs.InstParts.{trap_bytes, trap_slots, trap_if_slots, complement, inline_slots, constant_slots}
+use Rattle.rv_code.specs.InstParts.{trap_bytes, trap_slots, trap_if_slots, complement, inline_slots, constant_slots}
 use Rattle.rv_emit.proofs.Encoded.{branch_patchable}
 use Rattle.rv_emit.proofs.Words.{IsBranch}
-use Rattle.rv_emit.proofs.PlainSlots.{IsPlain, plain_adds}
+use Rattle.rv_code.proofs.PlainSlots.{IsPlain}
+use Rattle.rv_emit.proofs.PlainSlots.{plain_adds}
 use Rattle.rv_emit.proofs.BufferAfterSlots.{lasts_after_slots, puts_bytes}
 use Rattle.rv_emit.proofs.SlotsOfOnePut.{alone}
 

@@ -23,9 +23,9 @@ use Rattle.mach_uses.specs.Reach.{is_reached}
 use Rattle.mach_buffer.specs.Growth.{Lasts, RecordsLast}
 use Rattle.mach_buffer.specs.Pieces.{ByVeneer, UseFinished}
 use Rattle.mach_buffer.proofs.Laws.{recorded_at as use_recorded_at, lasts_more, lasts_bytes, lasts_record, piece_finished, use_finished, slice_get-append, slice_get-append_last}
-use Rattle.rv_emit.specs.InstParts.{wide_jump_to}
-use Rattle.rv_emit.specs.Slots.{Symbol, AddressOf, Target, Label, Own, Slot, Op, Aim, Data, Notes, Names, Allocate, Here, Fill, Address, CallTo, upper_event, lower_event, address_event, call_event, Part, Ask, Slots, slot_size, size_of, own_label, label_of, uses_of, between, here_at, IsClosed, AreClosed, AreSelfContained, PartsAreSelfContained}
-use Rattle.rv_emit.specs.Sites.{Site, BytesAt, IsPlacedAt, CodeHas, LeadsOn, Leads, Reaches, AimsFrom, symbol_address, FillsFrom, LinksFrom, StandsIn, GapIn, PartsStand}
+use Rattle.rv_code.specs.InstParts.{wide_jump_to}
+use Rattle.rv_code.specs.Slots.{Symbol, AddressOf, Target, Label, Own, Slot, Op, Aim, Data, Notes, Names, Allocate, Here, Fill, Address, CallTo, upper_event, lower_event, address_event, call_event, Part, Ask, Slots, slot_size, size_of, own_label, label_of, uses_of, between, here_at, IsClosed, AreClosed, AreSelfContained, PartsAreSelfContained}
+use Rattle.rv_code.specs.Sites.{Site, BytesAt, IsPlacedAt, CodeHas, LeadsOn, Leads, Reaches, AimsFrom, symbol_address, FillsFrom, LinksFrom, StandsIn, GapIn, PartsStand}
 use Rattle.rv_machine.specs.State.{Memory}
 use Rattle.rv_emit.specs.Images.{AllClear, FieldsEnd, FieldsStand, KeepsOutside, IsFilled}
 use Rattle.rv_emit.proofs.Fields.{clear_there, clear_later, slot_fields_end}
@@ -33,24 +33,12 @@ use Rattle.rv_emit.specs.Puts.{Encodes, eight_zeros, PutsSlot, Puts}
 use Rattle.rv_emit.specs.Standing.{SlotsIn, IslandIn, GapStandsIn, PartsIn, IsFinishedTo}
 use Rattle.rv_emit.proofs.OwnLabels.{bound_here, own_bound}
 use Rattle.rv_emit.proofs.PlacedBytes.{window_length, window_fits, window_there}
-use Rattle.rv_emit.proofs.BufferAfterSlots.{marks_even, slot_bytes, slot_ends, lasts_after_slots, puts_bytes, puts_uses}
+use Rattle.rv_emit.proofs.BufferAfterSlots.{slot_bytes, slot_ends, lasts_after_slots, puts_bytes, puts_uses}
 use Rattle.rv_emit.proofs.VeneerRuns.{veneer_leads}
-use Rattle.rv_emit.proofs.Ways.{leads_here, leads_both, jump_leads}
+use Rattle.rv_code.proofs.Ways.{leads_here, leads_both, jump_leads}
+use Rattle.rv_code.proofs.ClosedSlots.{closed_even}
 
 -- ---- even lengths
-
-pub closed_even : (here : ℕ → Option ℕ) (at : ℕ) (slots : List Slot) → AreClosed here at slots → size_of slots % 2 ≡ 0
-closed_even here at [] h = refl
-closed_even here at (Op d ∷ slots) h = let e = h.0 in let r = closed_even here (at + d.len) slots h.1 in omega arith
-closed_even here at (Aim kind target ops ∷ slots) h = let e = marks_even kind in let r = closed_even here (at + length (marks_of kind)) slots h.1 in omega arith
-closed_even here at (Data bytes ∷ slots) h = let e = h.0 in let r = closed_even here (at + length bytes) slots h.1 in omega arith
-closed_even here at (Notes event ∷ slots) h = let r = closed_even here at slots h in omega arith
-closed_even here at (Names k ∷ slots) h = let r = closed_even here at slots h in omega arith
-closed_even here at (Allocate ∷ slots) h = let r = closed_even here at slots h in omega arith
-closed_even here at (Here k ∷ slots) h = let r = closed_even here at slots h in omega arith
-closed_even here at (Fill symbol upper lower ∷ slots) h = let r = closed_even here (at + 8) slots h in omega arith
-closed_even here at (Address name addend ∷ slots) h = let r = closed_even here (at + 8) slots h in omega arith
-closed_even here at (CallTo name ops ∷ slots) h = let r = closed_even here (at + 8) slots h in omega arith
 
 -- ---- reach
 

@@ -12,7 +12,7 @@ use Rattle.mach_buffer.specs.Shape.{with_bytes, with_record}
 use Rattle.rv_emit.specs.Emission.{PutsAlone}
 use Rattle.rv_emit.specs.Emitted.{Buffer, IsSoundBuffer}
 use Rattle.rv_emit.specs.Puts.{AsksNothing, IsPatchable, eight_zeros}
-use Rattle.rv_emit.specs.Slots.{Symbol, Notes, Fill, Address, CallTo, upper_event, lower_event, address_event, call_event}
+use Rattle.rv_code.specs.Slots.{Symbol, Notes, Fill, Address, CallTo, upper_event, lower_event, address_event, call_event}
 use Rattle.rv_emit.proofs.SlotsOfOnePut.{alone}
 use Rattle.rv_emit.proofs.TableCode.{pair_bytes, same_bytes, pair_joined}
 

@@ -25,20 +25,21 @@ use Rattle.rv_inst.specs.Uses.{use_at}
 use Rattle.mach_buffer.specs.Shape.{Shape}
 use Rattle.mach_uses.specs.Reach.{CanReach}
 use Rattle.mach_buffer.specs.Buffer.{shape_of, bytes_of, allocated_of, named_of}
-use Rattle.rv_emit.specs.declared.state.EmitVState.{EmitVState}
+use Rattle.rv_code.specs.declared.state.EmitVState.{EmitVState}
 use Rattle.rv_emit.specs.Emission.{PutsSlots, EmitsIn}
 use Rattle.rv_emit.specs.Emitted.{Buffer, pending, IsFarUse, AppendsInst, IslandIfNeeded}
-use Rattle.rv_emit.specs.Immediates.{upper_of, lower_of}
-use Rattle.rv_emit.specs.InstParts.{inline_slots, number_slots, table_slots, parts_of}
-use Rattle.rv_emit.specs.Slots.{Target, Label, Own, Ask, Slots, Slot, Op, Aim, Data, Notes, Names, Allocate, Here, Fill, Address, CallTo, size_of, parts_size, uses_of, records_of, names_of}
+use Rattle.rv_code.specs.Immediates.{upper_of, lower_of}
+use Rattle.rv_code.specs.InstParts.{inline_slots, number_slots, table_slots, parts_of}
+use Rattle.rv_code.specs.Slots.{Target, Label, Own, Ask, Slots, Slot, Op, Aim, Data, Notes, Names, Allocate, Here, Fill, Address, CallTo, size_of, parts_size, uses_of, records_of, names_of}
 use Rattle.rv_emit.specs.Standing.{GapStandsIn, PartsIn}
-use Rattle.rv_emit.specs.Tables.{far_jump, jump_slots}
-use Rattle.rv_emit.proofs.FineOperands.{fine}
-use Rattle.rv_emit.proofs.PlainSlots.{IsPlain, Adds, plain_adds}
+use Rattle.rv_code.specs.Tables.{far_jump, jump_slots}
+use Rattle.rv_code.proofs.FineOperands.{fine}
+use Rattle.rv_code.proofs.PlainSlots.{IsPlain}
+use Rattle.rv_emit.proofs.PlainSlots.{Adds, plain_adds}
 use Rattle.rv_emit.proofs.BufferAfterSlots.{lasts_after_slots, puts_bytes, puts_named, puts_constants}
 use Rattle.rv_emit.proofs.Sequences.{no_own}
 use Rattle.rv_emit.proofs.ReachAfterInst.{Each, each_none, each_more, bytes_put, pending_adds, calm_after, reach_within}
-use Rattle.rv_emit.proofs.TableSlots.{table_long, table_short}
+use Rattle.rv_code.proofs.TableSlots.{table_long, table_short}
 
 -- ---- slots whose uses reach everywhere
 

@@ -28,13 +28,13 @@ use Rattle.mach_buffer.specs.Buffer.{shape_of, bytes_of}
 use Rattle.mach_buffer.specs.Shape.{Shape, with_bytes, with_use}
 use Rattle.rv_emit.specs.Emission.{PutsAlone, Emits}
 use Rattle.rv_emit.specs.Emitted.{Buffer, IsSoundBuffer, AppendsIsland, IslandIfNeeded, pending}
-use Rattle.rv_emit.specs.Immediates.{upper_of, lower_of}
-use Rattle.rv_emit.specs.Operations.{decoded_jalr}
+use Rattle.rv_code.specs.Immediates.{upper_of, lower_of}
+use Rattle.rv_code.specs.Operations.{decoded_jalr}
 use Rattle.rv_emit.specs.Puts.{AllBytes, IsPatchable}
-use Rattle.rv_emit.specs.Choices.{extend_slots}
-use Rattle.rv_emit.specs.InstParts.{number_slots, table_slots}
-use Rattle.rv_emit.specs.Tables.{far_jump, jump_slots}
-use Rattle.rv_emit.specs.Usable.{AreListed, IsListed}
+use Rattle.rv_code.specs.Choices.{extend_slots}
+use Rattle.rv_code.specs.InstParts.{number_slots, table_slots}
+use Rattle.rv_code.specs.Tables.{far_jump, jump_slots}
+use Rattle.rv_code.specs.Usable.{AreListed, IsListed}
 use Rattle.rv_emit.proofs.Encoded.{word_fits}
 use Rattle.rv_emit.proofs.OffsetParts.{upper_is, lower_is}
 use Rattle.rv_emit.proofs.PatchedWindows.{upper_fresh, lower_fresh}
@@ -50,11 +50,11 @@ use Rattle.rv_inst.specs.declared.inst.Inst.{Inst}
 use Rattle.rv_inst.specs.declared.inst.Inst.TheVariants.{EmitIsland, BrTable}
 use Rattle.rv_base.specs.declared.regs.Reg.{Reg}
 use Rattle.rv_base.specs.declared.regs.Writable.{Writable}
-use Rattle.rv_emit.proofs.Operands.{keeps}
-use Rattle.rv_emit.proofs.TableRules.{table_fine}
+use Rattle.rv_code.proofs.Operands.{keeps}
+use Rattle.rv_code.proofs.TableRules.{table_fine}
 use Rattle.rv_emit.proofs.SlotsOfOnePut.{alone}
 use Rattle.rv_emit.proofs.SlotsOfSeveralPuts.{both_alone, alone_long}
-use Rattle.rv_emit.proofs.TableSlots.{even_plain, extend_even, extend_few, number_even, number_few, number_long, count_splits, far_jumps_even, far_jumps_long}
+use Rattle.rv_code.proofs.TableSlots.{even_plain, extend_even, extend_few, number_even, number_few, number_long, count_splits, far_jumps_even, far_jumps_long}
 use Rattle.rv_emit.proofs.VeneerRuns.{first_bytes}
 
 -- ---- a window of two words

@@ -12,21 +12,22 @@ use Rattle.rv_inst.specs.declared.inst.Inst.{Inst}
 use Rattle.rv_inst.specs.declared.inst.Inst.TheVariants.{EmitIsland, BrTable, Call, CallInd, ReturnCall, ReturnCallInd}
 use Rattle.mach_uses.specs.Reach.{CanReach}
 use Rattle.mach_buffer.specs.Buffer.{bytes_of}
-use Rattle.rv_emit.specs.declared.state.EmitVState.{EmitVState}
+use Rattle.rv_code.specs.declared.state.EmitVState.{EmitVState}
 use Rattle.rv_emit.specs.Emission.{PutsParts, EmitsIn}
-use Rattle.rv_emit.specs.OwnCounts.{own_count}
+use Rattle.rv_code.specs.OwnCounts.{own_count}
 use Rattle.rv_emit.specs.Emitted.{Buffer, IsSoundBuffer, pending, CanEmit, IslandIfNeeded, Appends}
-use Rattle.rv_emit.specs.InstParts.{tail_slots, t0_slots, parts_of}
-use Rattle.rv_emit.specs.Slots.{Slot, Ask, Slots, parts_size}
+use Rattle.rv_code.specs.InstParts.{tail_slots, t0_slots, parts_of}
+use Rattle.rv_code.specs.Slots.{Slot, Ask, Slots, parts_size}
 use Rattle.rv_emit.proofs.CallAppends.{reach_call, reach_call_ind}
 use Rattle.rv_emit.proofs.CallSlots.{call_appends, call_ind_appends}
-use Rattle.rv_emit.proofs.FineOperands.{fine}
+use Rattle.rv_code.proofs.FineOperands.{fine}
 use Rattle.rv_emit.proofs.InstSlots.{appends_inst}
-use Rattle.rv_emit.proofs.PlainSlots.{IsAdded, added}
+use Rattle.rv_code.proofs.PlainSlots.{IsAdded}
+use Rattle.rv_emit.proofs.PlainSlots.{added}
 use Rattle.rv_emit.proofs.ReachAfterInst.{bytes_put, pending_adds, calm_after, reach_calm, reach_after_island, reach_within}
-use Rattle.rv_emit.proofs.ShortOps.{jalr_sized}
+use Rattle.rv_code.proofs.ShortOps.{jalr_sized}
 use Rattle.rv_emit.proofs.TableAppends.{AppendsAfter, appends_table, reach_table, table_some}
-use Rattle.rv_emit.proofs.TailSlots.{call_records, tail_contents, t0_contents}
+use Rattle.rv_code.proofs.TailSlots.{call_records, tail_contents, t0_contents}
 
 -- ---- what is added
 

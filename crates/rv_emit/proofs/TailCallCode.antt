@@ -34,17 +34,17 @@ use Rattle.rv_inst.specs.Records.{site_event}
 use Rattle.rv_inst.specs.Sizes.{stack_loads_size, stack_step_size, fall, call_size, return_size}
 use Rattle.rv_emit.specs.Emission.{PutsAlone, PutsParts}
 use Rattle.rv_emit.specs.Emitted.{Buffer, IsSoundBuffer, IslandIfNeeded, AppendsIsland, pending}
-use Rattle.rv_emit.specs.InstParts.{load_slots, number_slots, stack_load_slots, far_step_slots, stack_step_slots, return_slots, call_to, tail_slots, t0_slots, map_notes, return_notes, after_call, patch_notes, try_slots, call_slots, call_ind_slots}
-use Rattle.rv_emit.specs.Slots.{Slot, Op, Notes, Ask, Slots, size_of}
-use Rattle.rv_emit.specs.Usable.{AreSaved}
-use Rattle.rv_emit.proofs.MemorySlots.{HaveAccess, none, nothing}
-use Rattle.rv_emit.proofs.PlainSlots.{IsPlain}
+use Rattle.rv_code.specs.InstParts.{load_slots, number_slots, stack_load_slots, far_step_slots, stack_step_slots, return_slots, call_to, tail_slots, t0_slots, map_notes, return_notes, after_call, patch_notes, try_slots, call_slots, call_ind_slots}
+use Rattle.rv_code.specs.Slots.{Slot, Op, Notes, Ask, Slots, size_of}
+use Rattle.rv_code.specs.Usable.{AreSaved}
+use Rattle.rv_code.proofs.MemorySlots.{HaveAccess, none, nothing}
+use Rattle.rv_code.proofs.PlainSlots.{IsPlain}
 use Rattle.rv_emit.proofs.SlotsOfSeveralPuts.{both_alone, alone_long}
 use Rattle.rv_emit.proofs.SlotsOfOnePut.{none_put}
-use Rattle.rv_emit.proofs.NumberSlots.{number_few}
-use Rattle.rv_emit.proofs.TableSlots.{even_plain, number_even, number_long}
+use Rattle.rv_code.proofs.NumberSlots.{number_few}
+use Rattle.rv_code.proofs.TableSlots.{even_plain, number_even, number_long}
 use Rattle.rv_emit.proofs.CallSlots.{steps_counted}
-use Rattle.rv_emit.proofs.TailSlots.{loads_then, loads_most, saves_long, setup_few, returns_counted}
+use Rattle.rv_code.proofs.TailSlots.{loads_then, loads_most, saves_long, setup_few, returns_counted}
 
 -- ---- loads
 

@@ -26,13 +26,13 @@ use Rattle.rv_encode.specs.Operations.{decoded}
 use Rattle.mach_uses.specs.declared.uses.Use.{Use}
 use Rattle.mach_uses.specs.Windows.{window}
 use Rattle.mach_buffer.specs.Finish.{IsVia}
-use Rattle.rv_emit.specs.Operations.{decoded_jalr}
+use Rattle.rv_code.specs.Operations.{decoded_jalr}
 use Rattle.rv_emit.specs.Puts.{AllBytes}
-use Rattle.rv_emit.specs.Sites.{Site, BytesAt, HasOps, LeadsOn}
-use Rattle.rv_emit.proofs.Registers.{are_values_set}
-use Rattle.rv_emit.proofs.Steps.{istep_at}
+use Rattle.rv_code.specs.Sites.{Site, BytesAt, HasOps, LeadsOn}
+use Rattle.rv_code.proofs.Registers.{are_values_set}
+use Rattle.rv_code.proofs.Steps.{istep_at}
 use Rattle.rv_emit.proofs.PlacedBytes.{window_length, window_fits, window_there, word_there, rest_there, rest_fits}
-use Rattle.rv_emit.proofs.Ways.{comes_one, comes_both}
+use Rattle.rv_code.proofs.Ways.{comes_one, comes_both}
 
 -- ---- the two operations of a veneer
 

@@ -22,7 +22,7 @@ use Rattle.rv_encode.proofs.Decoding.{branch_decodes}
 use Rattle.rv_inst.specs.declared.label_use.LabelUse.TheVariants.{B12}
 use Rattle.rv_inst.specs.LabelUse.{marks_of}
 use Rattle.rv_inst.specs.LabelUseWords.{word_bytes}
-use Rattle.rv_emit.specs.Operations.{decoded_jump, jump_word}
+use Rattle.rv_code.specs.Operations.{decoded_jump, jump_word}
 
 -- a word's bytes, the least first
 pub bytes_of_word : (w : ℕ) → w < 2 ^ 32 → to_le_bytes w32 w ≡ word_bytes w

@@ -5,10 +5,10 @@ use Rattle.rv_base.specs.declared.flags.IsaFlags.{IsaFlags}
 use Rattle.rv_base.specs.declared.frame.FrameLayout.{FrameLayout}
 use Rattle.mach_buffer.specs.Buffer.{shape_of, allocated_of}
 use Rattle.rv_emit.specs.Emitted.{Buffer, IsSoundBuffer, IslandIfNeeded}
-use Rattle.rv_emit.specs.Slots.{Slot, Part, Ask, Slots}
+use Rattle.rv_code.specs.Slots.{Slot, Part, Ask, Slots}
 use Rattle.rv_emit.specs.Puts.{Puts}
-use Rattle.rv_emit.specs.InstParts.{slots_alone, parts_of}
-use Rattle.rv_emit.specs.declared.state.EmitVState.{EmitVState}
+use Rattle.rv_code.specs.InstParts.{slots_alone, parts_of}
+use Rattle.rv_code.specs.declared.state.EmitVState.{EmitVState}
 use Rattle.rv_inst.specs.Context.{Context, context_by}
 use Rattle.rv_inst.specs.declared.inst.Inst.{Inst}
 

@@ -31,11 +31,11 @@ use Rattle.mach_buffer.specs.Constants.{reserve_of, AllStand}
 use Rattle.mach_buffer.specs.Growth.{Lasts}
 use Rattle.mach_buffer.specs.Windows.{AreWindows}
 use Rattle.rv_emit.specs.NewConstants.{AddsConstants}
-use Rattle.rv_emit.specs.OwnCounts.{own_count}
-use Rattle.rv_emit.specs.Slots.{Label, own_label}
+use Rattle.rv_code.specs.OwnCounts.{own_count}
+use Rattle.rv_code.specs.Slots.{Label, own_label}
 use Rattle.rv_emit.specs.Puts.{Puts}
-use Rattle.rv_emit.specs.InstParts.{wide_jump_to}
-use Rattle.rv_emit.specs.Operations.{jump_word}
+use Rattle.rv_code.specs.InstParts.{wide_jump_to}
+use Rattle.rv_code.specs.Operations.{jump_word}
 
 -- ---- buffers of code
 

@@ -15,9 +15,9 @@ use Rattle.rv_inst.specs.Relocations.{field_size}
 use Rattle.rv_inst.specs.declared.label_use.LabelUse.{LabelUse}
 use Rattle.rv_inst.specs.declared.label_use.LabelUse.TheVariants.{PCRel32, PCRelHi20, PCRelLo12I}
 use Rattle.rv_inst.specs.LabelUse.{Aims, marks_of}
-use Rattle.rv_emit.specs.Slots.{Symbol, AddressOf, upper_event, lower_event, address_event, call_event}
+use Rattle.rv_code.specs.Slots.{Symbol, AddressOf, upper_event, lower_event, address_event, call_event}
 use Rattle.rv_emit.specs.Puts.{AllBytes}
-use Rattle.rv_emit.specs.Sites.{Site, symbol_address}
+use Rattle.rv_code.specs.Sites.{Site, symbol_address}
 
 -- ---- what relocations fill
 

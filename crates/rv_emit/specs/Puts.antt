@@ -11,8 +11,8 @@ use Rattle.mach_records.specs.declared.records.Event.TheVariants as event
 use Rattle.rv_inst.specs.LabelUse.{Aims, marks_of}
 use Rattle.rv_inst.specs.Uses.{use_at}
 use Rattle.mach_buffer.specs.Shape.{Shape, with_bytes, with_use, with_label, with_allocated, with_record, with_named}
-use Rattle.rv_emit.specs.Slots.{Slot, Op, Aim, Data, Notes, Names, Allocate, Here, Fill, Address, CallTo, own_label, label_of, upper_event, lower_event, address_event, call_event}
-use Rattle.rv_emit.specs.Sites.{BytesAt, HasOps}
+use Rattle.rv_code.specs.Slots.{Slot, Op, Aim, Data, Notes, Names, Allocate, Here, Fill, Address, CallTo, own_label, label_of, upper_event, lower_event, address_event, call_event}
+use Rattle.rv_code.specs.Sites.{BytesAt, HasOps}
 
 -- all are bytes
 abbrev pub AllBytes : List ℕ → Type 0

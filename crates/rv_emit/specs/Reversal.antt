@@ -5,8 +5,8 @@ use Rattle.rv_encode.specs.Registers.{IsIntRegister}
 use Rattle.rv_emit.specs.declared.reverse.Registers.{Registers}
 use Rattle.rv_emit.specs.declared.reverse.Turn.{Turn}
 use Rattle.rv_emit.specs.Encoded.{Holds}
-use Rattle.rv_emit.specs.Counts.{bit_op, less_op, half_op}
-use Rattle.rv_emit.specs.Loops.{set_op, eight_op, rest_op, down_op, up_op}
+use Rattle.rv_code.specs.Counts.{bit_op, less_op, half_op}
+use Rattle.rv_code.specs.Loops.{set_op, eight_op, rest_op, down_op, up_op}
 
 pub record AreIntRegisters (r : Registers) : Type 0 where
   pub rd : IsIntRegister r.rd.reg

@@ -18,9 +18,9 @@ ghost use Rattle.rv_inst.specs.MostBytes.{sequence_limit};
 ghost use Rattle.rv_inst.specs.Sizes.{fall, line_space};
 ghost use Rattle.rv_emit.specs.Emission.{PutsAlone, PutsParts};
 ghost use Rattle.rv_emit.specs.Emitted.{IsSoundBuffer, pending};
-ghost use Rattle.rv_emit.specs.InstParts.{map_notes, return_notes, try_slots, patch_notes, call_slots, call_ind_slots, loading_parts};
-ghost use Rattle.rv_emit.specs.Slots.{Notes};
-ghost use Rattle.rv_emit.specs.Usable.{IsFineTry, AreFineResults};
+ghost use Rattle.rv_code.specs.InstParts.{map_notes, return_notes, try_slots, patch_notes, call_slots, call_ind_slots, loading_parts};
+ghost use Rattle.rv_code.specs.Slots.{Notes};
+ghost use Rattle.rv_code.specs.Usable.{IsFineTry, AreFineResults};
 
 use crate::results::put_results;
 use crate::sequence::put_jump;

@@ -15,9 +15,9 @@ ghost use Rattle.rv_inst.specs.Operands.{all_of, written_in};
 ghost use Rattle.rv_inst.specs.Sizes as sizes;
 ghost use Rattle.rv_emit.specs.Emitted.{IsSoundBuffer};
 ghost use Rattle.rv_emit.specs.Emission.{PutsAlone};
-ghost use Rattle.rv_emit.specs.Choices.{choice_slots, extend_slots, moves_slots, same_numbers, select_slots};
-ghost use Rattle.rv_emit.specs.Slots.{Op};
-ghost use Rattle.rv_emit.specs.Usable.{AreInt, IsFineChoice};
+ghost use Rattle.rv_code.specs.Choices.{choice_slots, extend_slots, moves_slots, same_numbers, select_slots};
+ghost use Rattle.rv_code.specs.Slots.{Op};
+ghost use Rattle.rv_code.specs.Usable.{AreInt, IsFineChoice};
 
 use crate::compressed::{encoded_rri, number};
 use crate::sequence::{put_move, put_word};

@@ -12,12 +12,12 @@ ghost use Rattle.rv_ops.specs.declared.alu.AluOPRRI.TheVariants.{Addi, Slli};
 ghost use Rattle.rv_inst.specs.Forms.{short_rri};
 ghost use Rattle.rv_inst.specs.Rules.{is_int_type};
 ghost use Rattle.mach_buffer.specs.Buffer.{bytes_of, spoiled_of};
-ghost use Rattle.rv_emit.specs.Counts.{start_ops, bit_op, turn_ops};
+ghost use Rattle.rv_code.specs.Counts.{start_ops, bit_op, turn_ops};
 ghost use Rattle.rv_emit.specs.Emitted.{IsSoundBuffer};
 ghost use Rattle.rv_emit.specs.Emission.{PutsAlone};
 ghost use Rattle.rv_emit.specs.Encoded.{Holds, IsSizeOf};
-ghost use Rattle.rv_emit.specs.Operations.{decoded_beq, decoded_bne, decoded_bge};
-ghost use Rattle.rv_emit.specs.Slots.{Op};
+ghost use Rattle.rv_code.specs.Operations.{decoded_beq, decoded_bne, decoded_bge};
+ghost use Rattle.rv_code.specs.Slots.{Op};
 
 use crate::compressed::{Encoded, encoded_rri, encoded_rrr};
 use crate::sequence::put_word;

@@ -6,7 +6,7 @@ ghost use Rattle.mach_buffer.specs.Buffer.{bytes_of, registered_of, spoiled_of};
 ghost use Rattle.rv_emit.specs.Emitted.{pending, CanEmit, IsBounded};
 ghost use Rattle.rv_emit.specs.Emission.{Emits};
 ghost use Rattle.rv_emit.specs.State.{setting_after, setting_beyond};
-ghost use Rattle.rv_emit.specs.declared.state.EmitVState.{EmitVState as Setting};
+ghost use Rattle.rv_code.specs.declared.state.EmitVState.{EmitVState as Setting};
 ghost use Rattle.rv_inst.specs.Context.{context_by};
 ghost use Rattle.rv_inst.specs.Sizes.{island_space, table_space};
 
@@ -30,7 +30,7 @@ pub trait MachInstEmit {
     ghost use Rattle.mach_buffer.specs.Buffer.{bytes_of, registered_of, spoiled_of};
     ghost use Rattle.rv_inst.specs.Context.{Context, context_by};
     ghost use Rattle.rv_emit.specs.Emitted.{Buffer, pending};
-    ghost use Rattle.rv_emit.specs.declared.state.EmitVState.{EmitVState as Setting};
+    ghost use Rattle.rv_code.specs.declared.state.EmitVState.{EmitVState as Setting};
 
     /// What emission asks of the buffer, in a context.
     ghost asks: { Context → Self → Buffer → Type 0 };

@@ -14,8 +14,8 @@ ghost use Rattle.mach_buffer.specs.Buffer.{bytes_of, allocated_of, spoiled_of};
 ghost use Rattle.mach_uses.specs.Labels.{inner_count};
 ghost use Rattle.rv_emit.specs.Emitted.{IsSoundBuffer};
 ghost use Rattle.rv_emit.specs.Emission.{PutsAlone};
-ghost use Rattle.rv_emit.specs.Slots.{Data};
-ghost use Rattle.rv_emit.specs.InstParts.{trap_slots, trap_if_slots, load_over, inline_slots, constant_slots};
+ghost use Rattle.rv_code.specs.Slots.{Data};
+ghost use Rattle.rv_code.specs.InstParts.{trap_slots, trap_if_slots, load_over, inline_slots, constant_slots};
 
 use crate::sequence::{put_compare, put_word};
 use crate::shortest::put_short_jump;

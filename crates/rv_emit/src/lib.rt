@@ -28,4 +28,5 @@ mod zeros;
 
 pub use emit::MachInstEmit;
 pub use island::emit_island_if_needed;
-pub use state::{EmitInfo, EmitState, EmitVState, MachInstEmitState};
+pub use rv_code::EmitVState;
+pub use state::{EmitInfo, EmitState, MachInstEmitState};

@@ -17,10 +17,10 @@ ghost use Rattle.rv_inst.specs.Forms.{short_load, short_rrr, short_store};
 ghost use Rattle.rv_inst.specs.Addresses.{Based, AtLabel, location_of};
 ghost use Rattle.rv_emit.specs.Emission.{PutsAlone};
 ghost use Rattle.rv_emit.specs.Emitted.{IsSoundBuffer};
-ghost use Rattle.rv_emit.specs.InstParts.{access_slots, address_slots, far_store_slots, immediate_slots, labelled, load_slots, lower_slots, naming_slots, offset_slots, store_slots, upper_at};
+ghost use Rattle.rv_code.specs.InstParts.{access_slots, address_slots, far_store_slots, immediate_slots, labelled, load_slots, lower_slots, naming_slots, offset_slots, store_slots, upper_at};
 ghost use Rattle.rv_emit.specs.Places.{location_at, IsFinePlace};
-ghost use Rattle.rv_emit.specs.Slots.{Op};
-ghost use Rattle.rv_emit.specs.Usable.{IsFineAddress};
+ghost use Rattle.rv_code.specs.Slots.{Op};
+ghost use Rattle.rv_code.specs.Usable.{IsFineAddress};
 
 use crate::expansions::put_double_constant;
 use crate::sequence::{put_use, put_word};

@@ -10,7 +10,7 @@ ghost use Rattle.rv_imms.specs.Splitting.{value_of};
 ghost use Rattle.mach_buffer.specs.Buffer.{bytes_of, spoiled_of};
 ghost use Rattle.rv_emit.specs.Emitted.{IsSoundBuffer};
 ghost use Rattle.rv_emit.specs.Emission.{PutsAlone};
-ghost use Rattle.rv_emit.specs.InstParts.{number_slots};
+ghost use Rattle.rv_code.specs.InstParts.{number_slots};
 
 use crate::expansions::put_double_constant;
 use crate::memory::put_immediates;

@@ -9,7 +9,7 @@ ghost use Rattle.rv_inst.specs.Rules.{is_int_type};
 ghost use Rattle.mach_buffer.specs.Buffer.{bytes_of, spoiled_of};
 ghost use Rattle.rv_emit.specs.Emitted.{IsSoundBuffer};
 ghost use Rattle.rv_emit.specs.Emission.{PutsAlone};
-ghost use Rattle.rv_emit.specs.InstParts.{count_slots};
+ghost use Rattle.rv_code.specs.InstParts.{count_slots};
 
 use crate::counts::{put_start, put_turn};
 use mach_buffer::MachBuffer;

@@ -10,10 +10,11 @@ ghost use Rattle.rv_machine.specs.Decode.{decode};
 ghost use Rattle.mach_buffer.specs.Buffer.{bytes_of, spoiled_of};
 ghost use Rattle.rv_emit.specs.Emitted.{IsSoundBuffer};
 ghost use Rattle.rv_emit.specs.Emission.{PutsAlone};
-ghost use Rattle.rv_emit.specs.InstParts.{probe_slots};
-ghost use Rattle.rv_emit.specs.Operations.{decoded_bgeu};
-ghost use Rattle.rv_emit.specs.Probes.{IsProbeTurn, probe_turn, probe_turn_size};
-ghost use Rattle.rv_emit.specs.Slots.{Op};
+ghost use Rattle.rv_code.specs.InstParts.{probe_slots};
+ghost use Rattle.rv_code.specs.Operations.{decoded_bgeu};
+ghost use Rattle.rv_emit.specs.ProbeTurns.{IsProbeTurn};
+ghost use Rattle.rv_code.specs.Probes.{probe_turn, probe_turn_size};
+ghost use Rattle.rv_code.specs.Slots.{Op};
 
 use crate::compressed::{Encoded, encoded_rrr, encoded_store};
 use crate::numbers::put_number;

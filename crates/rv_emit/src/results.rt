@@ -14,9 +14,9 @@ ghost use Rattle.rv_inst.specs.Rules.{is_on_stack, is_stacked};
 ghost use Rattle.rv_inst.specs.Sizes.{results_space};
 ghost use Rattle.rv_emit.specs.Emission.{PutsAlone, PutsParts};
 ghost use Rattle.rv_emit.specs.Emitted.{IsSoundBuffer, pending};
-ghost use Rattle.rv_emit.specs.InstParts.{stack_load_slots, try_slots};
-ghost use Rattle.rv_emit.specs.Slots.{Ask, Slots};
-ghost use Rattle.rv_emit.specs.Usable.{AreFineResults, IsFineResult, IsFineTry};
+ghost use Rattle.rv_code.specs.InstParts.{stack_load_slots, try_slots};
+ghost use Rattle.rv_code.specs.Slots.{Ask, Slots};
+ghost use Rattle.rv_code.specs.Usable.{AreFineResults, IsFineResult, IsFineTry};
 
 use crate::calls::put_continuation;
 use crate::island::emit_island_if_needed;

@@ -11,11 +11,11 @@ ghost use Rattle.rv_machine.specs.Decode.{decode};
 ghost use Rattle.mach_buffer.specs.Buffer.{bytes_of, spoiled_of};
 ghost use Rattle.rv_emit.specs.Emitted.{IsSoundBuffer};
 ghost use Rattle.rv_emit.specs.Emission.{PutsAlone};
-ghost use Rattle.rv_emit.specs.InstParts.{reverse_slots};
-ghost use Rattle.rv_emit.specs.Loops.{reverse_start, reverse_test, reverse_down, reverse_turn_size};
-ghost use Rattle.rv_emit.specs.Operations.{decoded_bne};
+ghost use Rattle.rv_code.specs.InstParts.{reverse_slots};
+ghost use Rattle.rv_code.specs.Loops.{reverse_start, reverse_test, reverse_down, reverse_turn_size};
+ghost use Rattle.rv_code.specs.Operations.{decoded_bne};
 ghost use Rattle.rv_emit.specs.Reversal.{AreIntRegisters, IsReversalTurn};
-ghost use Rattle.rv_emit.specs.Slots.{Op};
+ghost use Rattle.rv_code.specs.Slots.{Op};
 
 use crate::compressed::{Encoded, encoded_rri, encoded_rrr};
 use crate::counts::{back, bits, end_word, highest, less, put_number, skip_word, width};

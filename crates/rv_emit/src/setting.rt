@@ -8,10 +8,10 @@ ghost use Rattle.rv_inst.specs.Context.{context_by};
 ghost use Rattle.rv_inst.specs.Families.{family_of};
 ghost use Rattle.rv_inst.specs.Sizes.{island_space};
 ghost use Rattle.rv_inst.specs.declared.inst.Family.TheVariants.{Integer, Memory, Control, Loop, Symbols};
-ghost use Rattle.rv_emit.specs.declared.state.EmitVState.{EmitVState as Setting};
+ghost use Rattle.rv_code.specs.declared.state.EmitVState.{EmitVState as Setting};
 ghost use Rattle.rv_emit.specs.Emitted.{Buffer};
 ghost use Rattle.rv_emit.specs.State.{setting_after, setting_beyond, is_inline, jumps};
-ghost use Rattle.rv_emit.specs.Usable.{IsFine, IsFineAddress};
+ghost use Rattle.rv_code.specs.Usable.{IsFine, IsFineAddress};
 
 use rv_base::{AMode, FrameLayout, IsaFlags};
 use rv_imms::{imm_max, imm_min};

@@ -12,8 +12,8 @@ ghost use Rattle.mach_buffer.specs.Buffer.{bytes_of, spoiled_of};
 ghost use Rattle.rv_emit.specs.Emitted.{IsSoundBuffer};
 ghost use Rattle.rv_emit.specs.Emission.{PutsAlone};
 ghost use Rattle.rv_emit.specs.Encoded.{Holds, IsHalf, IsSizeOf};
-ghost use Rattle.rv_emit.specs.Operations.{short_jump};
-ghost use Rattle.rv_emit.specs.Slots.{Op};
+ghost use Rattle.rv_code.specs.Operations.{short_jump};
+ghost use Rattle.rv_code.specs.Slots.{Op};
 
 use crate::compressed::{
     Encoded, encoded_ebreak, encoded_jalr, encoded_load, encoded_lui, encoded_rri, encoded_rrr,

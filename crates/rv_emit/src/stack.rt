@@ -16,9 +16,9 @@ ghost use Rattle.rv_inst.specs.Returns.{saves_from, setup_loads, frame_above};
 ghost use Rattle.rv_inst.specs.Sizes.{return_size};
 ghost use Rattle.rv_emit.specs.Emission.{PutsAlone, PutsParts};
 ghost use Rattle.rv_emit.specs.Emitted.{IsSoundBuffer, pending};
-ghost use Rattle.rv_emit.specs.InstParts.{load_slots, stack_load_slots, far_step_slots, stack_step_slots, return_slots, tail_slots, t0_slots};
-ghost use Rattle.rv_emit.specs.Slots.{Ask, Slots};
-ghost use Rattle.rv_emit.specs.Usable.{AreSaved};
+ghost use Rattle.rv_code.specs.InstParts.{load_slots, stack_load_slots, far_step_slots, stack_step_slots, return_slots, tail_slots, t0_slots};
+ghost use Rattle.rv_code.specs.Slots.{Ask, Slots};
+ghost use Rattle.rv_code.specs.Usable.{AreSaved};
 
 use crate::island::emit_island_if_needed;
 use crate::memory::{Place, put_load};

@@ -1,7 +1,7 @@
 //! What emission knows beside the buffer: the flags, the frame, and the setting of the vector unit.
 
 use rv_base::{FrameLayout, IsaFlags};
-use rv_vector::VState;
+use rv_code::EmitVState;
 
 /// What is the same for all of a listing.
 #[derive(Clone, Copy, Debug)]
@@ -19,22 +19,12 @@ impl EmitInfo {
     }
 }
 
-/// What is known of the vector unit's setting.
-#[derive(Clone, Debug, PartialEq, Default, Drop)]
-pub enum EmitVState {
-    /// Nothing, as where a new basic block begins.
-    #[default]
-    Unknown,
-    /// It is this one.
-    Known(VState),
-}
-
 /// What changes from line to line.
 pub trait MachInstEmitState {
     ghost use Rattle.std.specs.Prelude.{◌≡◌};
     ghost use Rattle.rv_base.specs.declared.frame.FrameLayout.{FrameLayout as Frame};
-    ghost use Rattle.rv_emit.specs.declared.state.EmitVState.{EmitVState as Setting};
-    ghost use Rattle.rv_emit.specs.declared.state.EmitVState.TheVariants.{Unknown};
+    ghost use Rattle.rv_code.specs.declared.state.EmitVState.{EmitVState as Setting};
+    ghost use Rattle.rv_code.specs.declared.state.EmitVState.TheVariants.{Unknown};
 
     /// The frame of the function.
     ghost frame_of: { Self → Frame };
@@ -85,7 +75,7 @@ impl MachInstEmitState for EmitState {
 
 impl EmitState {
     ghost use Rattle.std.specs.Prelude.{◌≡◌};
-    ghost use Rattle.rv_emit.specs.declared.state.EmitVState.TheVariants.{Unknown};
+    ghost use Rattle.rv_code.specs.declared.state.EmitVState.TheVariants.{Unknown};
 
     /// What is known of the vector unit's setting.
     pub fn vstate(&self) -> EmitVState

@@ -12,9 +12,9 @@ ghost use Rattle.mach_buffer.specs.Buffer.{shape_of, bytes_of, spoiled_of};
 ghost use Rattle.mach_buffer.specs.Shape.{with_bytes, with_record};
 ghost use Rattle.rv_emit.specs.Emission.{PutsAlone};
 ghost use Rattle.rv_emit.specs.Emitted.{IsSoundBuffer};
-ghost use Rattle.rv_emit.specs.InstParts.{call_to, far_slots, got_slots, near_slots};
+ghost use Rattle.rv_code.specs.InstParts.{call_to, far_slots, got_slots, near_slots};
 ghost use Rattle.rv_emit.specs.Puts.{eight_zeros};
-ghost use Rattle.rv_emit.specs.Slots.{Notes, address_event, call_event, lower_event};
+ghost use Rattle.rv_code.specs.Slots.{Notes, address_event, call_event, lower_event};
 
 use crate::expansions::put_load_over;
 use crate::memory::{addition_word, load_word};

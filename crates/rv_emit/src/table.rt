@@ -13,11 +13,11 @@ ghost use Rattle.rv_ops.specs.declared.alu.AluOPRRI.TheVariants.{Slli};
 ghost use Rattle.mach_buffer.specs.Buffer.{bytes_of, spoiled_of};
 ghost use Rattle.rv_emit.specs.Emitted.{IsSoundBuffer};
 ghost use Rattle.rv_emit.specs.Emission.{PutsAlone};
-ghost use Rattle.rv_emit.specs.InstParts.{table_slots};
-ghost use Rattle.rv_emit.specs.Operations.{decoded_jalr};
-ghost use Rattle.rv_emit.specs.Slots.{Op};
-ghost use Rattle.rv_emit.specs.Tables.{bound_op, enter_ops, far_jump, jump_slots};
-ghost use Rattle.rv_emit.specs.Usable.{AreListed, IsListed};
+ghost use Rattle.rv_code.specs.InstParts.{table_slots};
+ghost use Rattle.rv_code.specs.Operations.{decoded_jalr};
+ghost use Rattle.rv_code.specs.Slots.{Op};
+ghost use Rattle.rv_code.specs.Tables.{bound_op, enter_ops, far_jump, jump_slots};
+ghost use Rattle.rv_code.specs.Usable.{AreListed, IsListed};
 
 use crate::choices::put_extend;
 use crate::numbers::put_number;

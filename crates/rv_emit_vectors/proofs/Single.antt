@@ -29,12 +29,12 @@ use Rattle.mach_records.specs.declared.records.ConstPlace.{ConstPlace}
 use Rattle.mach_buffer.specs.Constants.{end_after, reserve_from, reserve_of, AllStand}
 use Rattle.mach_buffer.specs.Finish.{before_last, last_end, CanFinish}
 use Rattle.mach_buffer.proofs.Laws.{both_lists, windows_none, slack_from_reach, reaches_from_slack, veneers_reach, last_near, ends_within}
-use Rattle.rv_emit.specs.OwnCounts.{own_count}
+use Rattle.rv_code.specs.OwnCounts.{own_count}
 use Rattle.rv_emit.specs.Emitted.{Buffer, IsSoundBuffer, HasWindows, pending, IsFarUse, IsOwnUse, AppendsInst, CanEmit, IsBounded}
-use Rattle.rv_emit.specs.declared.state.EmitVState.{EmitVState}
+use Rattle.rv_code.specs.declared.state.EmitVState.{EmitVState}
 use Rattle.rv_emit.specs.Emission.{EmitsIn}
 use Rattle.rv_emit.specs.Images.{FieldsStand}
-use Rattle.rv_emit.specs.InstParts.{parts_of}
+use Rattle.rv_code.specs.InstParts.{parts_of}
 use Rattle.rv_inst.specs.Uses.{use_at, target_uses, uses_by, uses_in}
 use Rattle.rv_inst.specs.Sizes.{line_space, island_space, inst_sum}
 use Rattle.rv_emit_vectors.specs.Single.{are_first, are_first_by, names_first, IsStart, IsServed, HoldsOne}

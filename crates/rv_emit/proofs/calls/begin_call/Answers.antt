@@ -4,10 +4,10 @@ use Rattle.std.specs.Int.{w64}
 use Rattle.rv_base.specs.Flags.{no_flags}
 use Rattle.rv_inst.specs.Sizes.{fall, call_size}
 use Rattle.rv_emit.specs.Emission.{PutsAlone}
-use Rattle.rv_emit.specs.InstParts.{call_to, return_notes, stack_step_slots, patch_notes}
-use Rattle.rv_emit.proofs.AddressCode.{real_number}
+use Rattle.rv_code.specs.InstParts.{call_to, return_notes, stack_step_slots, patch_notes}
+use Rattle.rv_code.proofs.ShortSlots.{real_number}
 use Rattle.rv_emit.proofs.SlotsOfSeveralPuts.{alone_long, alone_sound}
-use Rattle.rv_emit.proofs.TailSlots.{step_most}
+use Rattle.rv_code.proofs.TailSlots.{step_most}
 use Rattle.rv_emit.proofs.TailCallCode.{real_int, step_long, returned_long, patch_long, call_begun}
 use Rattle.rv_emit.proofs.calls.begin_call.Goals as goal
 

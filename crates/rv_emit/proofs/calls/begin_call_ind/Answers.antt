@@ -6,12 +6,12 @@ use Rattle.rv_base.specs.Regs.{number_of}
 use Rattle.rv_inst.specs.Forms.{short_jalr}
 use Rattle.rv_inst.specs.Sizes.{fall}
 use Rattle.rv_emit.specs.Emission.{PutsAlone}
-use Rattle.rv_emit.specs.InstParts.{return_notes, stack_step_slots}
-use Rattle.rv_emit.specs.Slots.{Op}
-use Rattle.rv_emit.proofs.AddressCode.{real_number}
-use Rattle.rv_emit.proofs.ShortOps.{jalr_sized}
+use Rattle.rv_code.specs.InstParts.{return_notes, stack_step_slots}
+use Rattle.rv_code.specs.Slots.{Op}
+use Rattle.rv_code.proofs.ShortSlots.{real_number}
+use Rattle.rv_code.proofs.ShortOps.{jalr_sized}
 use Rattle.rv_emit.proofs.SlotsOfSeveralPuts.{alone_long, alone_sound}
-use Rattle.rv_emit.proofs.TailSlots.{step_most}
+use Rattle.rv_code.proofs.TailSlots.{step_most}
 use Rattle.rv_emit.proofs.TailCallCode.{real_int, step_long, returned_long, call_ind_begun}
 use Rattle.rv_emit.proofs.calls.begin_call_ind.Goals as goal
 

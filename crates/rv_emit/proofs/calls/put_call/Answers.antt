@@ -1,5 +1,5 @@
 use Rattle.std.proofs.Common.{[], arith}
-use Rattle.rv_emit.specs.InstParts.{try_slots, call_slots}
+use Rattle.rv_code.specs.InstParts.{try_slots, call_slots}
 use Rattle.rv_emit.proofs.CallsPut.{call_put, call_few_after}
 use Rattle.rv_emit.proofs.SlotsOfSeveralPuts.{alone_sound}
 use Rattle.rv_emit.proofs.calls.put_call.Goals as goal

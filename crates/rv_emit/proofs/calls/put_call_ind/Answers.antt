@@ -1,5 +1,5 @@
 use Rattle.std.proofs.Common.{[], arith}
-use Rattle.rv_emit.specs.InstParts.{try_slots, call_ind_slots}
+use Rattle.rv_code.specs.InstParts.{try_slots, call_ind_slots}
 use Rattle.rv_emit.proofs.CallsPut.{call_ind_put, call_ind_few_after}
 use Rattle.rv_emit.proofs.SlotsOfSeveralPuts.{alone_sound}
 use Rattle.rv_emit.proofs.calls.put_call_ind.Goals as goal

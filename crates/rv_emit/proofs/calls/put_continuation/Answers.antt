@@ -1,7 +1,7 @@
 use Rattle.std.proofs.Common.{OnOk, sym, subst}
 use Rattle.std.proofs.lemmas.Result.{on_ok_weaker}
 use Rattle.rv_emit.specs.Emission.{PutsAlone}
-use Rattle.rv_emit.specs.InstParts.{try_slots}
+use Rattle.rv_code.specs.InstParts.{try_slots}
 use Rattle.rv_emit.proofs.SlotsOfOnePut.{alone, none_put}
 use Rattle.rv_emit.proofs.calls.put_continuation.Goals as goal
 

@@ -1,6 +1,6 @@
 use Rattle.std.proofs.Common.{sym, subst}
 use Rattle.rv_emit.specs.Emission.{PutsAlone}
-use Rattle.rv_emit.specs.InstParts.{patch_notes}
+use Rattle.rv_code.specs.InstParts.{patch_notes}
 use Rattle.rv_emit.proofs.SlotsOfOnePut.{none_put}
 use Rattle.rv_emit.proofs.calls.put_patchable.Goals as goal
 

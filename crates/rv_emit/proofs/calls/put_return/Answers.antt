@@ -1,5 +1,5 @@
 use Rattle.rv_base.specs.Flags.{no_flags}
-use Rattle.rv_emit.specs.InstParts.{map_notes}
+use Rattle.rv_code.specs.InstParts.{map_notes}
 use Rattle.rv_emit.proofs.SlotsOfSeveralPuts.{alone_sound}
 use Rattle.rv_emit.proofs.TailCallCode.{returned_put}
 use Rattle.rv_emit.proofs.calls.put_return.Goals as goal

@@ -5,7 +5,7 @@ use Rattle.mach_buffer.specs.Shape.{with_record}
 use Rattle.mach_records.specs.declared.records.Event.TheVariants.{TryCallSite}
 use Rattle.rv_inst.specs.Records.{site_event}
 use Rattle.rv_emit.specs.Emission.{PutsAlone}
-use Rattle.rv_emit.specs.Slots.{Notes}
+use Rattle.rv_code.specs.Slots.{Notes}
 use Rattle.rv_emit.proofs.SymbolCode.{note_put}
 use Rattle.rv_emit.proofs.calls.put_site.Goals as goal
 

@@ -3,7 +3,7 @@ use Rattle.mach_buffer.specs.Buffer.{shape_of}
 use Rattle.mach_buffer.specs.Shape.{with_record}
 use Rattle.mach_records.specs.declared.records.Event.TheVariants.{StackMap}
 use Rattle.rv_emit.specs.Emission.{PutsAlone}
-use Rattle.rv_emit.specs.InstParts.{map_notes}
+use Rattle.rv_code.specs.InstParts.{map_notes}
 use Rattle.rv_emit.proofs.SlotsOfOnePut.{none_put}
 use Rattle.rv_emit.proofs.SymbolCode.{note_put}
 use Rattle.rv_emit.proofs.calls.put_stack_map.Goals as goal

@@ -3,7 +3,7 @@ use Rattle.rv_base.specs.Regs.{number_of}
 use Rattle.rv_encode.specs.Operations.{decoded_branch}
 use Rattle.rv_inst.specs.Operands.{all_of, written_in}
 use Rattle.rv_inst.specs.Sizes.{moves_size}
-use Rattle.rv_emit.proofs.ChoiceSlots.{choice_put, moves_room}
+use Rattle.rv_emit.proofs.ChoicesPut.{choice_put, moves_room}
 use Rattle.rv_emit.proofs.choices.put_choice.Goals as goal
 
 pub put_word-requires-clause-room : goal.put_word-requires-clause-room

@@ -1,7 +1,7 @@
 use Rattle.std.proofs.Common.{sym, ◌∙◌}
 use Rattle.std.proofs.lemmas.Result.{on_ok_weaker}
 use Rattle.rv_base.specs.Regs.{number_of}
-use Rattle.rv_emit.proofs.ChoiceSlots.{byte_put, shifts_put}
+use Rattle.rv_emit.proofs.ChoicesPut.{byte_put, shifts_put}
 use Rattle.rv_emit.proofs.choices.put_extend.Goals as goal
 
 pub returns-then-is_byte-clause-slots : goal.returns-then-is_byte-clause-slots

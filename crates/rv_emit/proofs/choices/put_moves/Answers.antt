@@ -1,6 +1,6 @@
 use Rattle.std.proofs.lemmas.Result.{on_ok_weaker}
 use Rattle.rv_base.specs.Regs.{number_of}
-use Rattle.rv_emit.proofs.ChoiceSlots.{last_move}
+use Rattle.rv_emit.proofs.ChoicesPut.{last_move}
 use Rattle.rv_emit.proofs.choices.put_moves.Goals as goal
 
 pub returns-in-One-One-clause-slots : goal.returns-in-One-One-clause-slots

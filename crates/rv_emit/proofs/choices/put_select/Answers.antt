@@ -2,7 +2,7 @@ use Rattle.std.proofs.Common.{map, sym, ◌∙◌}
 use Rattle.std.proofs.lemmas.Result.{on_ok_weaker}
 use Rattle.rv_base.specs.Regs.{number_of}
 use Rattle.rv_inst.specs.Operands.{all_of, written_in}
-use Rattle.rv_emit.proofs.ChoiceSlots.{exchanged_put, ordered_put}
+use Rattle.rv_emit.proofs.ChoicesPut.{exchanged_put, ordered_put}
 use Rattle.rv_emit.proofs.choices.put_select.Goals as goal
 
 pub returns-then-are_results-clause-slots : goal.returns-then-are_results-clause-slots

@@ -1,6 +1,6 @@
 use Rattle.std.proofs.Common.{[], ◌∷◌}
 use Rattle.rv_base.specs.Regs.{number_of}
-use Rattle.rv_emit.proofs.ChoiceSlots.{first_move, last_move}
+use Rattle.rv_emit.proofs.ChoicesPut.{first_move, last_move}
 use Rattle.rv_emit.proofs.choices.put_two_moves.Goals as goal
 
 pub returns-clause-slots : goal.returns-clause-slots

@@ -2,7 +2,7 @@ use Rattle.rv_base.specs.Regs.{number_of}
 use Rattle.rv_encode.specs.Operations.{decoded_rrr}
 use Rattle.rv_inst.specs.Forms.{form_rrr}
 use Rattle.rv_emit.proofs.ChosenForms.{half_holds, word_holds}
-use Rattle.rv_emit.proofs.OperationActs.{rrr_len}
+use Rattle.rv_code.proofs.OperationActs.{rrr_len}
 use Rattle.rv_emit.proofs.compressed.encoded_rrr.Goals as goal
 
 pub returns-in-Some : goal.returns-in-Some

@@ -5,7 +5,7 @@ use Rattle.rv_base.specs.Regs.{number_of}
 use Rattle.rv_ops.specs.declared.alu.AluOPRRI.TheVariants.{Addi, Slli}
 use Rattle.rv_inst.specs.Forms.{short_rri}
 use Rattle.rv_emit.specs.Emission.{PutsAlone}
-use Rattle.rv_emit.specs.Slots.{Op}
+use Rattle.rv_code.specs.Slots.{Op}
 use Rattle.rv_emit.proofs.SlotsOfSeveralPuts.{both_alone}
 use Rattle.rv_emit.proofs.counts.put_start.Goals as goal
 

@@ -3,12 +3,12 @@ use Rattle.std.specs.Prelude.{if◌then◌else◌, ◌-ℤ◌}
 use Rattle.rv_base.specs.Regs.{number_of}
 use Rattle.rv_ops.specs.declared.alu.AluOPRRI.TheVariants.{Addi}
 use Rattle.rv_inst.specs.Forms.{short_rri}
-use Rattle.rv_emit.specs.Counts.{bit_op, more_op, less_op, next_op, test_op, turn_size}
+use Rattle.rv_code.specs.Counts.{bit_op, more_op, less_op, next_op, test_op, turn_size}
 use Rattle.rv_emit.specs.Emission.{PutsAlone}
 use Rattle.rv_emit.specs.Encoded.{Holds}
-use Rattle.rv_emit.specs.Operations.{decoded_beq, decoded_bne, decoded_bge, short_jump, jump_size}
-use Rattle.rv_emit.specs.Slots.{Op}
-use Rattle.rv_emit.proofs.CountSlots.{test_long}
+use Rattle.rv_code.specs.Operations.{decoded_beq, decoded_bne, decoded_bge, short_jump, jump_size}
+use Rattle.rv_code.specs.Slots.{Op}
+use Rattle.rv_code.proofs.CountSlots.{test_long}
 use Rattle.rv_emit.proofs.SlotsOfSeveralPuts.{both_alone}
 use Rattle.rv_emit.proofs.counts.put_turn.Goals as goal
 

@@ -3,8 +3,8 @@ use Rattle.std.specs.Prelude.{is_some}
 use Rattle.std.proofs.lemmas.Result.{on_ok_weaker}
 use Rattle.mach_buffer.specs.Buffer.{registered_of}
 use Rattle.rv_inst.specs.Context.{context_by}
-use Rattle.rv_emit.specs.declared.state.EmitVState.TheVariants.{Unknown}
-use Rattle.rv_emit.proofs.FineOperands.{fine}
+use Rattle.rv_code.specs.declared.state.EmitVState.TheVariants.{Unknown}
+use Rattle.rv_code.proofs.FineOperands.{fine}
 use Rattle.rv_emit.proofs.InstSlots.{inst_appends}
 use Rattle.rv_emit.proofs.Bounds.{emit_bounded}
 use Rattle.rv_emit.proofs.ReachAfterInst.{reach_after}

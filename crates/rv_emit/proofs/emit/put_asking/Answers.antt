@@ -3,13 +3,14 @@ use Rattle.rv_inst.specs.Context.{context_by}
 use Rattle.rv_inst.specs.Operands.{tail_call_of}
 use Rattle.rv_inst.specs.Sizes.{table_space}
 use Rattle.mach_buffer.specs.Buffer.{registered_of}
-use Rattle.rv_emit.specs.Usable.{AreListed}
+use Rattle.rv_code.specs.Usable.{AreListed}
 use Rattle.rv_emit.proofs.ReachAfterInst.{reach_calm}
 use Rattle.rv_emit.proofs.TableCode.{table_kept, table_sum, island_room, island_sound, island_emits, table_emits}
-use Rattle.rv_emit.proofs.CallRules.{call_asks, call_ind_asks}
+use Rattle.rv_code.proofs.CallRules.{call_asks, call_ind_asks}
 use Rattle.rv_emit.proofs.CallSlots.{loading_emits, loading_ind_emits, call_sum, call_ind_sum}
 use Rattle.rv_emit.proofs.Settings.{island_asked, table_asked, call_asked, call_ind_asked, tail_asked, jump_asked}
-use Rattle.rv_emit.proofs.TailRules.{tail_kept, tail_sum, jump_sum, target_kept, tail_emits, jump_emits}
+use Rattle.rv_code.proofs.TailRules.{tail_kept, tail_sum, jump_sum, target_kept}
+use Rattle.rv_emit.proofs.TailEmits.{tail_emits, jump_emits}
 use Rattle.rv_emit.proofs.emit.put_asking.Goals as goal
 
 pub emit_island_if_needed-requires-clause-reach : goal.emit_island_if_needed-requires-clause-reach

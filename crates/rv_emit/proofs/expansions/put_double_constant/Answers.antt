@@ -3,10 +3,11 @@ use Rattle.std.specs.Int.{to_le_bytes}
 use mir.Syntax.{w64}
 use Rattle.rv_base.specs.Regs.{number_of}
 use Rattle.rv_ops.specs.declared.memory.LoadOP.TheVariants as loads
-use Rattle.rv_emit.specs.Slots.{Data}
-use Rattle.rv_emit.specs.InstParts.{load_over}
+use Rattle.rv_code.specs.Slots.{Data}
+use Rattle.rv_code.specs.InstParts.{load_over}
 use Rattle.rv_emit.proofs.SlotsOfSeveralPuts.{bytes_put, both_alone, alone_sound}
-use Rattle.rv_emit.proofs.AddressCode.{longer, load_over_short}
+use Rattle.rv_emit.proofs.AddressCode.{longer}
+use Rattle.rv_code.proofs.ShortSlots.{load_over_short}
 use Rattle.rv_emit.proofs.expansions.put_double_constant.Goals as goal
 
 pub put8-requires-clause-room : goal.put8-requires-clause-room

@@ -4,8 +4,8 @@ use Rattle.rv_machine.specs.declared.ops.MOp.TheVariants.{Base}
 use Rattle.rv_machine.specs.declared.ops.BaseOp.TheVariants as base
 use Rattle.rv_encode.specs.Operations.{decoded, decoded_load}
 use Rattle.rv_emit.specs.Emission.{PutsAlone}
-use Rattle.rv_emit.specs.Operations.{short_jump, jump_size}
-use Rattle.rv_emit.specs.Slots.{Op}
+use Rattle.rv_code.specs.Operations.{short_jump, jump_size}
+use Rattle.rv_code.specs.Slots.{Op}
 use Rattle.rv_emit.proofs.SlotsOfSeveralPuts.{both_alone, alone_long, alone_sound}
 use Rattle.rv_emit.proofs.expansions.put_load_over.Goals as goal
 

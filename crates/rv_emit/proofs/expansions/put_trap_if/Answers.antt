@@ -3,7 +3,7 @@ use Rattle.std.proofs.lemmas.List.{length-append}
 use Rattle.mach_buffer.specs.Buffer.{bytes_of}
 use Rattle.rv_inst.specs.LabelUseWords.{word_bytes}
 use Rattle.rv_ops.specs.Compare.{branch_word}
-use Rattle.rv_emit.specs.InstParts.{trap_slots}
+use Rattle.rv_code.specs.InstParts.{trap_slots}
 use Rattle.rv_emit.proofs.Words.{branch_word_is}
 use Rattle.rv_emit.proofs.SlotsOfSeveralPuts.{trap_shape, still_unbound, trap_if_put, alone_sound}
 use Rattle.rv_emit.proofs.expansions.put_trap_if.Goals as goal

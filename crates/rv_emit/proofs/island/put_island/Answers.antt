@@ -2,9 +2,9 @@ use Rattle.std.proofs.Common.{[], ◌∷◌, ap, subst, ◌∙◌}
 use Rattle.mach_buffer.specs.Buffer.{shape_of}
 use Rattle.mach_buffer.specs.Shape.{Shape}
 use Rattle.rv_inst.specs.declared.label_use.LabelUse.{LabelUse}
-use Rattle.rv_emit.specs.Slots.{Label}
+use Rattle.rv_code.specs.Slots.{Label}
 use Rattle.rv_emit.specs.Puts.{Puts}
-use Rattle.rv_emit.specs.InstParts.{wide_jump_to}
+use Rattle.rv_code.specs.InstParts.{wide_jump_to}
 use Rattle.rv_emit.proofs.Islands.{can_island}
 use Rattle.rv_emit.proofs.JumpAndIsland.{jump_put, puts_island, same_windows, appends}
 use Rattle.rv_emit.proofs.island.put_island.Goals as goal

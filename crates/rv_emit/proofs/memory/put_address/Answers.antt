@@ -5,7 +5,7 @@ use Rattle.std.proofs.lemmas.Result.{on_ok_weaker}
 use Rattle.rv_base.specs.Regs.{number_of}
 use Rattle.rv_emit.specs.Emission.{PutsAlone}
 use Rattle.rv_emit.specs.Places.{location_at}
-use Rattle.rv_emit.specs.InstParts.{address_slots}
+use Rattle.rv_code.specs.InstParts.{address_slots}
 use Rattle.rv_emit.proofs.memory.put_address.Goals as goal
 
 pub returns-in-Based-clause-slots : goal.returns-in-Based-clause-slots

@@ -6,8 +6,8 @@ use Rattle.rv_base.specs.Regs.{number_of}
 use Rattle.rv_ops.specs.declared.alu.AluOPRRR.TheVariants.{Add}
 use Rattle.rv_ops.specs.declared.alu.AluOPRRI.TheVariants.{Addi}
 use Rattle.rv_inst.specs.Forms.{short_rri, short_rrr}
-use Rattle.rv_emit.specs.Slots.{Op}
-use Rattle.rv_emit.specs.InstParts.{offset_slots}
+use Rattle.rv_code.specs.Slots.{Op}
+use Rattle.rv_code.specs.InstParts.{offset_slots}
 use Rattle.rv_emit.proofs.AddressCode.{near_put, far_put}
 use Rattle.rv_emit.proofs.memory.put_based_address.Goals as goal
 

@@ -6,8 +6,8 @@ use Rattle.rv_base.specs.Regs.{number_of}
 use Rattle.rv_inst.specs.Addresses.{Based}
 use Rattle.rv_encode.specs.Operations.{decoded_load}
 use Rattle.rv_inst.specs.Forms.{short_load}
-use Rattle.rv_emit.specs.Slots.{Op}
-use Rattle.rv_emit.specs.InstParts.{access_slots, address_slots}
+use Rattle.rv_code.specs.Slots.{Op}
+use Rattle.rv_code.specs.InstParts.{access_slots, address_slots}
 use Rattle.rv_emit.proofs.AddressCode.{near_put, far_put}
 use Rattle.rv_emit.proofs.memory.put_based_load.Goals as goal
 

@@ -5,8 +5,8 @@ use Rattle.std.proofs.lemmas.Int.{to_z-of_z}
 use Rattle.rv_base.specs.Regs.{number_of}
 use Rattle.rv_inst.specs.Addresses.{Based}
 use Rattle.rv_inst.specs.Forms.{short_store}
-use Rattle.rv_emit.specs.Slots.{Op}
-use Rattle.rv_emit.specs.InstParts.{access_slots, far_store_slots}
+use Rattle.rv_code.specs.Slots.{Op}
+use Rattle.rv_code.specs.InstParts.{access_slots, far_store_slots}
 use Rattle.rv_emit.proofs.AddressCode.{near_put, far_put}
 use Rattle.rv_emit.proofs.memory.put_based_store.Goals as goal
 

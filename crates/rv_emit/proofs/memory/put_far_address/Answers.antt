@@ -4,9 +4,10 @@ use Rattle.std.specs.Int.{w64}
 use Rattle.rv_base.specs.Regs.{number_of}
 use Rattle.rv_ops.specs.declared.alu.AluOPRRR.TheVariants.{Add}
 use Rattle.rv_inst.specs.Forms.{short_rrr}
-use Rattle.rv_emit.specs.Slots.{Op}
-use Rattle.rv_emit.specs.InstParts.{offset_slots}
-use Rattle.rv_emit.proofs.AddressCode.{longer, offset_short}
+use Rattle.rv_code.specs.Slots.{Op}
+use Rattle.rv_code.specs.InstParts.{offset_slots}
+use Rattle.rv_emit.proofs.AddressCode.{longer}
+use Rattle.rv_code.proofs.ShortSlots.{offset_short}
 use Rattle.rv_emit.proofs.SlotsOfSeveralPuts.{both_alone, alone_sound}
 use Rattle.rv_emit.proofs.memory.put_far_address.Goals as goal
 

@@ -5,9 +5,10 @@ use Rattle.rv_base.specs.Regs.{number_of}
 use Rattle.rv_inst.specs.Addresses.{Based}
 use Rattle.rv_encode.specs.Operations.{decoded_load}
 use Rattle.rv_emit.specs.Emission.{PutsAlone}
-use Rattle.rv_emit.specs.Slots.{Op}
-use Rattle.rv_emit.specs.InstParts.{access_slots, address_slots}
-use Rattle.rv_emit.proofs.AddressCode.{longer, address_short, before_both, real_number}
+use Rattle.rv_code.specs.Slots.{Op}
+use Rattle.rv_code.specs.InstParts.{access_slots, address_slots}
+use Rattle.rv_emit.proofs.AddressCode.{longer, before_both}
+use Rattle.rv_code.proofs.ShortSlots.{address_short, real_number}
 use Rattle.rv_emit.proofs.SlotsOfSeveralPuts.{alone_sound}
 use Rattle.rv_emit.proofs.memory.put_far_load.Goals as goal
 

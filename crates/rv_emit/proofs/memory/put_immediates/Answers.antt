@@ -1,8 +1,8 @@
 use Rattle.std.proofs.Common.{[], ◌∷◌}
 use Rattle.rv_base.specs.Regs.{number_of}
 use Rattle.rv_inst.specs.Forms.{short_lui}
-use Rattle.rv_emit.specs.InstParts.{lower_slots}
-use Rattle.rv_emit.specs.Slots.{Op}
+use Rattle.rv_code.specs.InstParts.{lower_slots}
+use Rattle.rv_code.specs.Slots.{Op}
 use Rattle.rv_emit.proofs.SlotsOfSeveralPuts.{both_alone}
 use Rattle.rv_emit.proofs.memory.put_immediates.Goals as goal
 

@@ -1,10 +1,10 @@
 use Rattle.std.proofs.Common.{[], ◌∷◌, arith}
 use Rattle.rv_base.specs.Regs.{number_of}
 use Rattle.rv_inst.specs.declared.label_use.LabelUse.TheVariants.{PCRelLo12I}
-use Rattle.rv_emit.specs.Immediates.{lower_of_distance}
-use Rattle.rv_emit.specs.Operations.{decoded_addi}
-use Rattle.rv_emit.specs.Slots.{Aim, Label}
-use Rattle.rv_emit.specs.InstParts.{upper_at}
+use Rattle.rv_code.specs.Immediates.{lower_of_distance}
+use Rattle.rv_code.specs.Operations.{decoded_addi}
+use Rattle.rv_code.specs.Slots.{Aim, Label}
+use Rattle.rv_code.specs.InstParts.{upper_at}
 use Rattle.rv_emit.proofs.AddressCode.{aim_put}
 use Rattle.rv_emit.proofs.PatchedWindows.{addi_patchable}
 use Rattle.rv_emit.proofs.SlotsOfSeveralPuts.{both_alone, alone_long, alone_sound, alone_usable}

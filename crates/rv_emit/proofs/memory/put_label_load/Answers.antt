@@ -2,10 +2,11 @@ use Rattle.std.proofs.Common.{[], ◌∷◌, ◌++◌, arith}
 use Rattle.rv_base.specs.Regs.{number_of}
 use Rattle.rv_encode.specs.Operations.{decoded_load}
 use Rattle.rv_inst.specs.declared.label_use.LabelUse.TheVariants.{PCRelLo12I}
-use Rattle.rv_emit.specs.Immediates.{lower_of_distance}
-use Rattle.rv_emit.specs.Slots.{Aim, Label}
-use Rattle.rv_emit.specs.InstParts.{access_slots, upper_at}
-use Rattle.rv_emit.proofs.AddressCode.{aim_put, longer, access_short}
+use Rattle.rv_code.specs.Immediates.{lower_of_distance}
+use Rattle.rv_code.specs.Slots.{Aim, Label}
+use Rattle.rv_code.specs.InstParts.{access_slots, upper_at}
+use Rattle.rv_emit.proofs.AddressCode.{aim_put, longer}
+use Rattle.rv_code.proofs.ShortSlots.{access_short}
 use Rattle.rv_emit.proofs.PatchedWindows.{load_patchable}
 use Rattle.rv_emit.proofs.SlotsOfSeveralPuts.{both_alone, alone_long, alone_sound, alone_usable}
 use Rattle.rv_base.specs.Flags.{no_flags}

@@ -1,9 +1,10 @@
 use Rattle.std.proofs.Common.{[], ◌∷◌, arith}
 use Rattle.rv_base.specs.Regs.{number_of}
 use Rattle.rv_inst.specs.Forms.{short_store}
-use Rattle.rv_emit.specs.Slots.{Op}
-use Rattle.rv_emit.specs.InstParts.{access_slots}
-use Rattle.rv_emit.proofs.AddressCode.{longer, access_short}
+use Rattle.rv_code.specs.Slots.{Op}
+use Rattle.rv_code.specs.InstParts.{access_slots}
+use Rattle.rv_emit.proofs.AddressCode.{longer}
+use Rattle.rv_code.proofs.ShortSlots.{access_short}
 use Rattle.rv_emit.proofs.SlotsOfSeveralPuts.{both_alone, alone_sound}
 use Rattle.rv_emit.proofs.memory.put_near_store.Goals as goal
 

@@ -3,9 +3,10 @@ use Rattle.rv_base.specs.Flags.{no_flags}
 use Rattle.rv_base.specs.Regs.{number_of}
 use Rattle.rv_encode.specs.Operations.{decoded_store}
 use Rattle.rv_emit.specs.Emission.{PutsAlone}
-use Rattle.rv_emit.specs.Slots.{Op}
-use Rattle.rv_emit.specs.InstParts.{access_slots}
-use Rattle.rv_emit.proofs.AddressCode.{longer, access_short, real_number}
+use Rattle.rv_code.specs.Slots.{Op}
+use Rattle.rv_code.specs.InstParts.{access_slots}
+use Rattle.rv_emit.proofs.AddressCode.{longer}
+use Rattle.rv_code.proofs.ShortSlots.{access_short, real_number}
 use Rattle.rv_emit.proofs.SlotsOfSeveralPuts.{both_alone, alone_sound}
 use Rattle.rv_emit.proofs.memory.put_spilled_store.Goals as goal
 

@@ -4,7 +4,7 @@ use Rattle.std.proofs.lemmas.Int.{to_z-of_z}
 use Rattle.rv_base.specs.Regs.{number_of}
 use Rattle.rv_emit.specs.Emission.{PutsAlone}
 use Rattle.rv_emit.specs.Places.{location_at}
-use Rattle.rv_emit.specs.InstParts.{store_slots}
+use Rattle.rv_code.specs.InstParts.{store_slots}
 use Rattle.rv_emit.proofs.memory.put_store.Goals as goal
 
 pub returns-in-Based-clause-slots : goal.returns-in-Based-clause-slots

@@ -1,7 +1,7 @@
 use Rattle.std.proofs.Common.{ap, sym, subst}
 use Rattle.rv_inst.specs.Addresses.{location_of}
 use Rattle.rv_emit.specs.Emission.{PutsAlone}
-use Rattle.rv_emit.specs.InstParts.{naming_slots}
+use Rattle.rv_code.specs.InstParts.{naming_slots}
 use Rattle.rv_emit.proofs.AddressCode.{name_put, unnamed_put}
 use Rattle.rv_emit.proofs.memory.resolved_address.Goals as goal
 

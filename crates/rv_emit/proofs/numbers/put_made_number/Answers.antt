@@ -5,8 +5,8 @@ use Rattle.rv_base.specs.Regs.{number_of}
 use Rattle.rv_ops.specs.declared.alu.AluOPRRI.TheVariants.{Addi}
 use Rattle.rv_inst.specs.Forms.{short_rri}
 use Rattle.rv_emit.specs.Emission.{PutsAlone}
-use Rattle.rv_emit.specs.Slots.{Op}
-use Rattle.rv_emit.proofs.AddressCode.{real_number}
+use Rattle.rv_code.specs.Slots.{Op}
+use Rattle.rv_code.proofs.ShortSlots.{real_number}
 use Rattle.rv_emit.proofs.NumberCode.{lower_alone_put, both_immediates_put}
 use Rattle.rv_emit.proofs.numbers.put_made_number.Goals as goal
 

@@ -5,7 +5,7 @@ use Rattle.std.proofs.lemmas.Result.{on_ok_weaker}
 use Rattle.rv_base.specs.Regs.{number_of}
 use Rattle.rv_ops.specs.declared.memory.LoadOP.TheVariants as loads
 use Rattle.rv_emit.specs.Emission.{PutsAlone}
-use Rattle.rv_emit.specs.InstParts.{inline_slots, number_slots}
+use Rattle.rv_code.specs.InstParts.{inline_slots, number_slots}
 use Rattle.rv_emit.proofs.AddressCode.{constant_put}
 use Rattle.rv_emit.proofs.NumberCode.{unsplit_put}
 use Rattle.rv_emit.proofs.numbers.put_number.Goals as goal

@@ -2,11 +2,11 @@ use Rattle.std.proofs.Common.{true, false, map, arith}
 use Rattle.rv_base.specs.IrType.{bits_of}
 use Rattle.rv_base.specs.Regs.{number_of}
 use Rattle.rv_ops.specs.declared.alu.AluOPRRI.TheVariants.{Srli}
-use Rattle.rv_emit.specs.Counts.{start_ops, turn_ops}
-use Rattle.rv_emit.specs.Slots.{Op}
+use Rattle.rv_code.specs.Counts.{start_ops, turn_ops}
+use Rattle.rv_code.specs.Slots.{Op}
 use Rattle.rv_emit.proofs.SlotsOfSeveralPuts.{both_alone, alone_sound}
 use Rattle.rv_emit.proofs.AddressCode.{longer}
-use Rattle.rv_emit.proofs.CountSlots.{start_short}
+use Rattle.rv_code.proofs.CountSlots.{start_short}
 use Rattle.rv_emit.proofs.popcnt.put_popcnt.Goals as goal
 
 pub put_turn-requires-clause-room : goal.put_turn-requires-clause-room

@@ -3,11 +3,12 @@ use Rattle.std.specs.Int.{cast_signed, w64}
 use Rattle.rv_base.specs.Regs.{number_of}
 use Rattle.rv_machine.specs.Arithmetic.{low_word}
 use Rattle.rv_emit.specs.Emission.{PutsAlone}
-use Rattle.rv_emit.specs.InstParts.{number_slots}
-use Rattle.rv_emit.specs.Probes.{probe_turn}
-use Rattle.rv_emit.specs.Slots.{Op}
-use Rattle.rv_emit.proofs.AddressCode.{longer, before_both, real_number}
-use Rattle.rv_emit.proofs.NumberCode.{number_short, own_word, small_signed}
+use Rattle.rv_code.specs.InstParts.{number_slots}
+use Rattle.rv_code.specs.Probes.{probe_turn}
+use Rattle.rv_code.specs.Slots.{Op}
+use Rattle.rv_emit.proofs.AddressCode.{longer, before_both}
+use Rattle.rv_code.proofs.ShortSlots.{real_number}
+use Rattle.rv_code.proofs.NumberForms.{number_short, own_word, small_signed}
 use Rattle.rv_emit.proofs.SlotsOfSeveralPuts.{both_alone}
 use Rattle.rv_emit.proofs.probes.put_probe_loop.Goals as goal
 

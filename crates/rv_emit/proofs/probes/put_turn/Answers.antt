@@ -2,9 +2,9 @@ use Rattle.std.proofs.Common.{[], ◌∷◌, ◌+◌, Some, pos, refl, ap, subst
 use Rattle.std.specs.Prelude.{◌-ℤ◌}
 use Rattle.rv_base.specs.Regs.{number_of}
 use Rattle.rv_emit.specs.Emission.{PutsAlone}
-use Rattle.rv_emit.specs.Operations.{decoded_bgeu, short_jump, jump_size}
-use Rattle.rv_emit.specs.Probes.{probe_op, zero_op, nearer_op, probe_turn_size}
-use Rattle.rv_emit.specs.Slots.{Op}
+use Rattle.rv_code.specs.Operations.{decoded_bgeu, short_jump, jump_size}
+use Rattle.rv_code.specs.Probes.{probe_op, zero_op, nearer_op, probe_turn_size}
+use Rattle.rv_code.specs.Slots.{Op}
 use Rattle.rv_emit.proofs.SlotsOfSeveralPuts.{both_alone}
 use Rattle.rv_emit.proofs.probes.put_turn.Goals as goal
 

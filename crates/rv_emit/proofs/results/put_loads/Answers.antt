@@ -2,8 +2,8 @@ use Rattle.std.proofs.Common.{take, sym, subst, arith}
 use Rattle.rv_base.specs.declared.call.CallRetPair.{CallRetPair}
 use Rattle.rv_inst.specs.Returns.{location_loads, result_loads}
 use Rattle.rv_emit.specs.Emission.{PutsAlone}
-use Rattle.rv_emit.specs.Usable.{IsFineResult}
-use Rattle.rv_emit.specs.InstParts.{stack_load_slots}
+use Rattle.rv_code.specs.Usable.{IsFineResult}
+use Rattle.rv_code.specs.InstParts.{stack_load_slots}
 use Rattle.rv_emit.proofs.ResultsPut.{result_put, results_put, results_long, each_fine}
 use Rattle.rv_emit.proofs.SlotsOfSeveralPuts.{alone_sound}
 use Rattle.rv_emit.proofs.SlotsOfOnePut.{none_put}

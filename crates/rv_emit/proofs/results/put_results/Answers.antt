@@ -2,7 +2,7 @@ use Rattle.std.proofs.Common.{◌*◌, arith}
 use Rattle.std.specs.Prelude.{count_by}
 use Rattle.rv_inst.specs.Returns.{result_loads}
 use Rattle.rv_inst.specs.Rules.{is_stacked}
-use Rattle.rv_emit.specs.InstParts.{stack_load_slots}
+use Rattle.rv_code.specs.InstParts.{stack_load_slots}
 use Rattle.rv_emit.proofs.ResultsPut.{all_long, results_room, asked_put}
 use Rattle.rv_emit.proofs.SlotsOfSeveralPuts.{alone_sound}
 use Rattle.rv_emit.proofs.TableCode.{island_sound}

@@ -6,7 +6,7 @@ use Rattle.rv_base.specs.Regs.{number_of}
 use Rattle.rv_ops.specs.Memory.{load_of}
 use Rattle.rv_inst.specs.Addresses.{Based}
 use Rattle.rv_emit.specs.Emission.{PutsAlone}
-use Rattle.rv_emit.specs.InstParts.{load_slots}
+use Rattle.rv_code.specs.InstParts.{load_slots}
 use Rattle.rv_emit.proofs.ResultsPut.{typed_put}
 use Rattle.rv_emit.proofs.results.put_typed.Goals as goal
 

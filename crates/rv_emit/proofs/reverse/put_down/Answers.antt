@@ -3,12 +3,12 @@ use Rattle.std.specs.Prelude.{◌-ℤ◌}
 use Rattle.rv_base.specs.Regs.{number_of}
 use Rattle.rv_encode.specs.Layouts.{IsEven}
 use Rattle.rv_emit.specs.Emission.{PutsAlone}
-use Rattle.rv_emit.specs.Loops.{eight_op, rest_op, down_op, up_op, reverse_turn_size}
-use Rattle.rv_emit.specs.Operations.{decoded_bne, short_jump, jump_size}
-use Rattle.rv_emit.specs.Counts.{less_op, half_op}
-use Rattle.rv_emit.specs.Slots.{Op}
+use Rattle.rv_code.specs.Loops.{eight_op, rest_op, down_op, up_op, reverse_turn_size}
+use Rattle.rv_code.specs.Operations.{decoded_bne, short_jump, jump_size}
+use Rattle.rv_code.specs.Counts.{less_op, half_op}
+use Rattle.rv_code.specs.Slots.{Op}
 use Rattle.rv_emit.proofs.SlotsOfSeveralPuts.{both_alone}
-use Rattle.rv_emit.proofs.ReverseSlots.{back_even}
+use Rattle.rv_code.proofs.ReverseSlots.{back_even}
 use Rattle.rv_emit.proofs.reverse.put_down.Goals as goal
 
 pub put_short_jump-requires-2-clause-even : goal.put_short_jump-requires-2-clause-even

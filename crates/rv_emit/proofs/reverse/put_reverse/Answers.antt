@@ -3,11 +3,11 @@ use Rattle.rv_base.specs.IrType.{bits_of}
 use Rattle.rv_base.specs.Regs.{number_of}
 use Rattle.rv_emit.specs.declared.reverse.Registers.{Registers}
 use Rattle.rv_emit.specs.Emission.{PutsAlone}
-use Rattle.rv_emit.specs.Loops.{reverse_start, reverse_test, reverse_down, reverse_turn}
-use Rattle.rv_emit.specs.Slots.{Op}
+use Rattle.rv_code.specs.Loops.{reverse_start, reverse_test, reverse_down, reverse_turn}
+use Rattle.rv_code.specs.Slots.{Op}
 use Rattle.rv_emit.proofs.SlotsOfSeveralPuts.{both_alone}
 use Rattle.rv_emit.proofs.AddressCode.{longer}
-use Rattle.rv_emit.proofs.ReverseSlots.{reverse_start_short, reverse_test_short}
+use Rattle.rv_code.proofs.ReverseSlots.{reverse_start_short, reverse_test_short}
 use Rattle.rv_emit.proofs.reverse.put_reverse.Goals as goal
 
 pub put_test-requires-clause-room : goal.put_test-requires-clause-room

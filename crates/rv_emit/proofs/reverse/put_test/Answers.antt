@@ -1,9 +1,9 @@
 use Rattle.std.proofs.Common.{[], ◌∷◌, ◌+◌, Some, pos, refl, ap, ◌∙◌}
 use Rattle.rv_base.specs.Regs.{number_of}
-use Rattle.rv_emit.specs.Loops.{reverse_turn_size, set_op}
-use Rattle.rv_emit.specs.Operations.{decoded_beq, decoded_bge, jump_size}
-use Rattle.rv_emit.specs.Counts.{bit_op}
-use Rattle.rv_emit.specs.Slots.{Op}
+use Rattle.rv_code.specs.Loops.{reverse_turn_size, set_op}
+use Rattle.rv_code.specs.Operations.{decoded_beq, decoded_bge, jump_size}
+use Rattle.rv_code.specs.Counts.{bit_op}
+use Rattle.rv_code.specs.Slots.{Op}
 use Rattle.rv_emit.proofs.SlotsOfSeveralPuts.{both_alone}
 use Rattle.rv_emit.proofs.reverse.put_test.Goals as goal
 

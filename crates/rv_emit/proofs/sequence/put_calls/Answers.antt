@@ -1,6 +1,6 @@
 use Rattle.std.proofs.lemmas.Result.{on_ok_weaker}
 use Rattle.rv_inst.specs.Context.{context_by}
-use Rattle.rv_emit.proofs.CallRules.{fine_try, fine_ind}
+use Rattle.rv_code.proofs.CallRules.{fine_try, fine_ind}
 use Rattle.rv_emit.proofs.CallSlots.{call_emits, call_ind_emits}
 use Rattle.rv_emit.proofs.sequence.put_calls.Goals as goal
 

@@ -7,8 +7,8 @@ use Rattle.std.proofs.Common.{[], ◌∷◌, pos}
 use Rattle.rv_base.specs.Regs.{number_of}
 use Rattle.rv_inst.specs.Forms.{short_jalr}
 use Rattle.rv_emit.specs.Emission.{PutsAlone}
-use Rattle.rv_emit.specs.Slots.{Op}
-use Rattle.rv_emit.proofs.AddressCode.{real_number}
+use Rattle.rv_code.specs.Slots.{Op}
+use Rattle.rv_code.proofs.ShortSlots.{real_number}
 use Rattle.rv_emit.proofs.sequence.put_control.Goals as goal
 
 pub returns-in-Jal-clause-parts : goal.returns-in-Jal-clause-parts

@@ -5,7 +5,7 @@ use Rattle.rv_inst.specs.Addresses.{location_of}
 use Rattle.rv_inst.specs.Context.{context_by}
 use Rattle.mach_buffer.specs.Buffer.{registered_of}
 use Rattle.rv_emit.specs.Emission.{Emits}
-use Rattle.rv_emit.specs.InstParts.{address_slots, load_slots, store_slots}
+use Rattle.rv_code.specs.InstParts.{address_slots, load_slots, store_slots}
 use Rattle.rv_emit.proofs.AddressCode.{named_put}
 use Rattle.rv_emit.proofs.sequence.put_memory.Goals as goal
 

@@ -1,8 +1,8 @@
 use Rattle.std.proofs.Common.{sym, subst, OnOk, [], ◌∷◌}
 use Rattle.std.proofs.lemmas.Result.{on_ok_weaker}
 use Rattle.rv_emit.specs.Emission.{Emits, PutsParts}
-use Rattle.rv_emit.specs.InstParts.{slots_alone}
-use Rattle.rv_emit.specs.Slots.{Data}
+use Rattle.rv_code.specs.InstParts.{slots_alone}
+use Rattle.rv_code.specs.Slots.{Data}
 use Rattle.rv_inst.specs.Context.{context_by}
 use Rattle.rv_emit.proofs.sequence.put_pseudo.Goals as goal
 

@@ -2,7 +2,7 @@ use Rattle.std.proofs.Common.{sym, ◌∙◌}
 use Rattle.std.proofs.lemmas.Result.{on_ok_weaker}
 use Rattle.rv_inst.specs.Context.{context_by}
 use Rattle.mach_buffer.specs.Buffer.{registered_of}
-use Rattle.rv_emit.proofs.FineOperands.{fine}
+use Rattle.rv_code.proofs.FineOperands.{fine}
 use Rattle.rv_emit.proofs.sequence.put_sequence.Goals as goal
 
 pub put_pseudo-requires-clause-fine : goal.put_pseudo-requires-clause-fine

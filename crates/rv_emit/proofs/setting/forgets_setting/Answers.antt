@@ -1,6 +1,6 @@
 use Rattle.std.proofs.Common.{sym, ◌∙◌}
 use Rattle.rv_inst.specs.Context.{context_by}
-use Rattle.rv_emit.proofs.TailRules.{calls_forget}
+use Rattle.rv_emit.proofs.TailEmits.{calls_forget}
 use Rattle.rv_emit.proofs.setting.forgets_setting.Goals as goal
 
 pub returns-in-Calls : goal.returns-in-Calls

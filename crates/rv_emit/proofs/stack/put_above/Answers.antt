@@ -6,7 +6,7 @@ use Rattle.rv_base.specs.Regs.{number_of}
 use Rattle.rv_ops.specs.declared.memory.LoadOP.TheVariants.{Ld}
 use Rattle.rv_inst.specs.Addresses.{Based}
 use Rattle.rv_emit.specs.Emission.{PutsAlone}
-use Rattle.rv_emit.specs.InstParts.{load_slots}
+use Rattle.rv_code.specs.InstParts.{load_slots}
 use Rattle.rv_emit.proofs.stack.put_above.Goals as goal
 
 pub returns-clause-slots : goal.returns-clause-slots

@@ -1,7 +1,7 @@
 use Rattle.std.proofs.Common.{◌≡◌, ◌∙◌, arith}
 use Rattle.std.specs.Int.{cast_signed, cast_unsigned, w64}
 use Rattle.std.proofs.lemmas.Int.{to_z-of_z}
-use Rattle.rv_emit.proofs.AddressCode.{real_number}
+use Rattle.rv_code.proofs.ShortSlots.{real_number}
 use Rattle.rv_emit.proofs.TailCallCode.{real_int, number_there, number_room, sum_named, far_step_put}
 use Rattle.rv_emit.proofs.stack.put_far_step.Goals as goal
 

@@ -4,7 +4,7 @@ use Rattle.std.specs.Int.{w64}
 use Rattle.std.specs.Prelude.{◌-ℤ◌}
 use Rattle.rv_base.specs.Frame.{sp_to_fp_of}
 use Rattle.rv_emit.specs.Emission.{PutsAlone}
-use Rattle.rv_emit.specs.InstParts.{stack_step_slots}
+use Rattle.rv_code.specs.InstParts.{stack_step_slots}
 use Rattle.rv_emit.proofs.TailCallCode.{saves_there, saves_room, setup_room, return_put}
 use Rattle.rv_emit.proofs.stack.put_return.Goals as goal
 

@@ -5,7 +5,7 @@ use Rattle.std.proofs.lemmas.Result.{on_ok_weaker}
 use Rattle.rv_ops.specs.declared.memory.LoadOP.TheVariants.{Ld}
 use Rattle.rv_inst.specs.Addresses.{Based}
 use Rattle.rv_emit.specs.Emission.{PutsAlone}
-use Rattle.rv_emit.specs.InstParts.{load_slots}
+use Rattle.rv_code.specs.InstParts.{load_slots}
 use Rattle.rv_emit.proofs.stack.put_save.Goals as goal
 
 pub returns-clause-slots : goal.returns-clause-slots

@@ -1,6 +1,6 @@
 use Rattle.std.proofs.Common.{◌+◌, pos, ap, arith}
 use Rattle.rv_base.specs.Regs.{number_of}
-use Rattle.rv_emit.proofs.AddressCode.{real_number}
+use Rattle.rv_code.proofs.ShortSlots.{real_number}
 use Rattle.rv_emit.proofs.SlotsOfOnePut.{none_put}
 use Rattle.rv_emit.proofs.TailCallCode.{no_setup, setup_put, load_long, real_int}
 use Rattle.rv_emit.proofs.stack.put_setup.Goals as goal

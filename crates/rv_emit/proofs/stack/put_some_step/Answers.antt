@@ -2,7 +2,7 @@ use Rattle.std.proofs.Common.{◌∙◌}
 use Rattle.std.specs.Int.{w64}
 use Rattle.std.proofs.lemmas.Int.{to_z-of_z}
 use Rattle.std.proofs.lemmas.Result.{on_ok_weaker}
-use Rattle.rv_emit.proofs.AddressCode.{real_number}
+use Rattle.rv_code.proofs.ShortSlots.{real_number}
 use Rattle.rv_emit.proofs.OffsetParts.{near, far}
 use Rattle.rv_emit.proofs.TailCallCode.{addi_named, near_step, far_step}
 use Rattle.rv_emit.proofs.stack.put_some_step.Goals as goal

@@ -5,8 +5,8 @@ use Rattle.std.proofs.lemmas.Result.{on_ok_weaker}
 use Rattle.rv_base.specs.Regs.{number_of}
 use Rattle.rv_inst.specs.Addresses.{Based}
 use Rattle.rv_emit.specs.Emission.{PutsAlone}
-use Rattle.rv_emit.specs.InstParts.{load_slots}
-use Rattle.rv_emit.proofs.AddressCode.{real_number}
+use Rattle.rv_code.specs.InstParts.{load_slots}
+use Rattle.rv_code.proofs.ShortSlots.{real_number}
 use Rattle.rv_emit.proofs.stack.put_stack_load.Goals as goal
 
 pub returns-clause-slots : goal.returns-clause-slots

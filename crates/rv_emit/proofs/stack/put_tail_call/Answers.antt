@@ -2,10 +2,10 @@ use Rattle.std.proofs.Common.{◌+◌, ◌*◌, [], ◌∷◌, length, subst, ar
 use Rattle.rv_base.specs.Flags.{no_flags}
 use Rattle.mach_records.specs.declared.records.Event.TheVariants as event
 use Rattle.rv_emit.specs.Emitted.{IslandIfNeeded}
-use Rattle.rv_emit.specs.Slots.{Notes}
-use Rattle.rv_emit.proofs.AddressCode.{real_number}
+use Rattle.rv_code.specs.Slots.{Notes}
+use Rattle.rv_code.proofs.ShortSlots.{real_number}
 use Rattle.rv_emit.proofs.SlotsOfSeveralPuts.{alone_long, alone_sound}
-use Rattle.rv_emit.proofs.TailSlots.{return_most}
+use Rattle.rv_code.proofs.TailSlots.{return_most}
 use Rattle.rv_emit.proofs.TailCallCode.{real_int, return_long, after_island, tail_put}
 use Rattle.rv_emit.proofs.stack.put_tail_call.Goals as goal
 

@@ -1,7 +1,7 @@
 use Rattle.std.proofs.Common.{◌+◌, ◌*◌, length, subst, arith}
 use Rattle.rv_emit.specs.Emitted.{IslandIfNeeded}
-use Rattle.rv_emit.proofs.AddressCode.{real_number}
-use Rattle.rv_emit.proofs.TailSlots.{return_most}
+use Rattle.rv_code.proofs.ShortSlots.{real_number}
+use Rattle.rv_code.proofs.TailSlots.{return_most}
 use Rattle.rv_emit.proofs.TailCallCode.{real_int, return_long, after_island, t0_put}
 use Rattle.rv_emit.proofs.stack.put_tail_jump.Goals as goal
 

@@ -5,10 +5,11 @@ use Rattle.rv_base.specs.Regs.{number_of}
 use Rattle.rv_ops.specs.declared.memory.LoadOP.TheVariants.{Ld}
 use Rattle.mach_buffer.specs.Buffer.{shape_of}
 use Rattle.mach_buffer.specs.Shape.{with_bytes, with_record}
-use Rattle.rv_emit.specs.InstParts.{load_over}
+use Rattle.rv_code.specs.InstParts.{load_over}
 use Rattle.rv_emit.specs.Puts.{eight_zeros}
-use Rattle.rv_emit.specs.Slots.{Address, address_event}
-use Rattle.rv_emit.proofs.AddressCode.{longer, load_over_short}
+use Rattle.rv_code.specs.Slots.{Address, address_event}
+use Rattle.rv_emit.proofs.AddressCode.{longer}
+use Rattle.rv_code.proofs.ShortSlots.{load_over_short}
 use Rattle.rv_emit.proofs.SlotsOfSeveralPuts.{both_alone, alone_sound}
 use Rattle.rv_emit.proofs.SymbolCode.{address_put}
 use Rattle.rv_emit.proofs.symbols.put_far_symbol.Goals as goal

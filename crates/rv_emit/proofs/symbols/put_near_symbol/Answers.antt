@@ -3,7 +3,7 @@ use Rattle.std.proofs.lemmas.Int.{to_z-of_z}
 use Rattle.std.specs.Int.{w64}
 use Rattle.rv_base.specs.Flags.{no_flags}
 use Rattle.rv_base.specs.Regs.{number_of}
-use Rattle.rv_emit.specs.Slots.{AddressOf}
+use Rattle.rv_code.specs.Slots.{AddressOf}
 use Rattle.rv_emit.proofs.PatchedWindows.{upper_patchable, addi_patchable}
 use Rattle.rv_emit.proofs.SymbolCode.{fill_put}
 use Rattle.rv_emit.proofs.UpperWords.{auipc_layout}

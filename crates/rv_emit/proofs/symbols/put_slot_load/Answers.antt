@@ -2,7 +2,7 @@ use Rattle.std.proofs.Common.{arith}
 use Rattle.rv_base.specs.Flags.{no_flags}
 use Rattle.rv_base.specs.Regs.{number_of}
 use Rattle.rv_ops.specs.declared.memory.LoadOP.TheVariants.{Ld}
-use Rattle.rv_emit.specs.Slots.{SlotOf}
+use Rattle.rv_code.specs.Slots.{SlotOf}
 use Rattle.rv_emit.proofs.PatchedWindows.{upper_patchable, load_patchable}
 use Rattle.rv_emit.proofs.SymbolCode.{fill_put}
 use Rattle.rv_emit.proofs.UpperWords.{auipc_layout}

@@ -5,8 +5,8 @@ use Rattle.rv_ops.specs.declared.alu.AluOPRRR.TheVariants.{Add}
 use Rattle.rv_machine.specs.declared.ops.MOp.TheVariants.{Base}
 use Rattle.rv_machine.specs.declared.ops.BaseOp.TheVariants as base
 use Rattle.rv_encode.specs.Operations.{decoded, decoded_rri, decoded_rrr}
-use Rattle.rv_emit.specs.Operations.{decoded_jalr}
-use Rattle.rv_emit.specs.Slots.{Op}
+use Rattle.rv_code.specs.Operations.{decoded_jalr}
+use Rattle.rv_code.specs.Slots.{Op}
 use Rattle.rv_emit.proofs.SlotsOfSeveralPuts.{both_alone}
 use Rattle.rv_emit.proofs.table.put_entry.Goals as goal
 

@@ -3,7 +3,7 @@ use Rattle.rv_base.specs.Flags.{no_flags}
 use Rattle.rv_base.specs.Regs.{number_of}
 use Rattle.rv_encode.specs.Layouts.{IsIType}
 use Rattle.rv_machine.specs.Opcodes.{JALR}
-use Rattle.rv_emit.proofs.AddressCode.{real_number}
+use Rattle.rv_code.proofs.ShortSlots.{real_number}
 use Rattle.rv_emit.proofs.TableCode.{pair_patchable, far_put}
 use Rattle.rv_emit.proofs.UpperWords.{auipc_layout}
 use Rattle.rv_emit.proofs.table.put_far_jump.Goals as goal

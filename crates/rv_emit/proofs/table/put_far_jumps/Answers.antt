@@ -1,6 +1,6 @@
 use Rattle.std.proofs.Common.{map, take, arith}
 use Rattle.rv_base.specs.Regs.{number_of}
-use Rattle.rv_emit.specs.Tables.{far_jump}
+use Rattle.rv_code.specs.Tables.{far_jump}
 use Rattle.rv_emit.proofs.SlotsOfSeveralPuts.{alone_sound}
 use Rattle.rv_emit.proofs.SlotsOfOnePut.{none_put}
 use Rattle.rv_emit.proofs.TableCode.{each_listed, one_more, all_put, some_long}

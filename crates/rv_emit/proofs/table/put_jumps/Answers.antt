@@ -1,7 +1,7 @@
 use Rattle.std.proofs.Common.{[], ◌∷◌, ◌++◌, map, refl}
 use Rattle.rv_base.specs.Regs.{number_of}
-use Rattle.rv_emit.specs.Slots.{Op}
-use Rattle.rv_emit.specs.Tables.{bound_op, enter_ops, far_jump}
+use Rattle.rv_code.specs.Slots.{Op}
+use Rattle.rv_code.specs.Tables.{bound_op, enter_ops, far_jump}
 use Rattle.rv_emit.proofs.SlotsOfSeveralPuts.{both_alone}
 use Rattle.rv_emit.proofs.table.put_jumps.Goals as goal
 

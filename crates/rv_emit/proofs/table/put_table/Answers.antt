@@ -1,6 +1,6 @@
 use Rattle.std.proofs.Common.{length, arith}
 use Rattle.rv_base.specs.Regs.{number_of}
-use Rattle.rv_emit.proofs.AddressCode.{real_number}
+use Rattle.rv_code.proofs.ShortSlots.{real_number}
 use Rattle.rv_emit.proofs.TableCode.{others, others_fewer, extended, counted, before_few, table_put}
 use Rattle.rv_emit.proofs.table.put_table.Goals as goal
 

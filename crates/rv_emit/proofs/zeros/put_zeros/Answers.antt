@@ -3,12 +3,12 @@ use Rattle.std.proofs.lemmas.List.{map-append}
 use Rattle.rv_base.specs.IrType.{bits_of}
 use Rattle.rv_base.specs.Regs.{number_of}
 use Rattle.rv_inst.specs.Sizes.{bit_shift}
-use Rattle.rv_emit.specs.Counts.{start_ops, turn_ops}
+use Rattle.rv_code.specs.Counts.{start_ops, turn_ops}
 use Rattle.rv_emit.specs.Emission.{PutsAlone}
-use Rattle.rv_emit.specs.Slots.{Op}
+use Rattle.rv_code.specs.Slots.{Op}
 use Rattle.rv_emit.proofs.SlotsOfSeveralPuts.{both_alone, alone_sound}
 use Rattle.rv_emit.proofs.AddressCode.{longer}
-use Rattle.rv_emit.proofs.CountSlots.{start_short}
+use Rattle.rv_code.proofs.CountSlots.{start_short}
 use Rattle.rv_emit.proofs.zeros.put_zeros.Goals as goal
 
 pub put_turn-requires-clause-room : goal.put_turn-requires-clause-room

@@ -1,0 +1,93 @@
+-- Every instruction that breaks no rule runs as it means.
+use Rattle.std.proofs.Common.{◌≡◌, ℕ, false, [], ◌∷◌, None, subst, arith}
+use Rattle.rv_inst.specs.declared.inst.CountInfo.{CountInfo}
+use Rattle.rv_inst.specs.declared.inst.Inst.{Inst}
+use Rattle.rv_inst.specs.declared.inst.Inst.TheVariants.{Nop0, Nop4, EBreak, SequencePoint, Args, Rets, DummyUse, EmitIsland, RawData, Lui, Auipc, LoadInlineConst, AluRRR, AluRRImm12, Mov, MovFromPReg, Extend, Select, Load, Store, LoadAddr, LabelAddress, Ret, TrapIf, Jal, CondBr, BrTable, Udf, Jalr, Popcnt, Cltz, Brev8, StackProbeLoop, LoadExtNameGot, LoadExtNameNear, LoadExtNameFar, Call, CallInd, ReturnCall, ReturnCallInd, Unwind}
+use Rattle.rv_inst.specs.Frames.{is_bad_frame_for}
+use Rattle.rv_inst.specs.Operands.{tail_call_of}
+use Rattle.rv_inst.specs.Rules.{is_zero, inst_rule}
+use Rattle.rv_code.specs.declared.state.EmitVState.{EmitVState}
+use Rattle.rv_inst.specs.Forms.{short_ebreak}
+use Rattle.rv_code.proofs.ShortOps.{ebreak_sized, ebreak_breaks}
+use Rattle.rv_code.specs.Slots.{Op}
+use Rattle.rv_code.specs.Sites.{Site, GapIn}
+use Rattle.rv_code.specs.InstRuns.{RunsIn}
+use Rattle.rv_code.proofs.Operands.{Keeps, keeps, are_usable, not_zero, or_left, move_usable, preg_usable, constant_kept, trap_if_usable, call_usable}
+use Rattle.rv_code.proofs.AddressOperands.{load_kept, store_kept, load_addr_kept, label_address_kept}
+use Rattle.rv_code.proofs.InstMemory.{load_runs, store_runs, load_addr_runs, label_address_runs}
+use Rattle.rv_code.proofs.Exits.{starts_beside, starts_at, gap_out, break_out}
+use Rattle.rv_code.proofs.InstWrites.{nothing_out, alu_rrr_runs, alu_rri_runs, lui_runs, auipc_runs, mov_runs, mov_from_preg_runs, nop4_runs, ret_runs, jalr_runs}
+use Rattle.rv_code.proofs.InstJumps.{jal_runs, cond_br_runs}
+use Rattle.rv_code.proofs.InstTraps.{udf_runs, raw_data_runs, trap_if_runs}
+use Rattle.rv_code.proofs.InstConstants.{constant_runs}
+use Rattle.rv_code.proofs.PopcntRuns.{popcnt_runs}
+use Rattle.rv_code.proofs.CountRules.{is_count}
+use Rattle.rv_code.proofs.ChoiceRuns.{extend_runs, select_runs}
+use Rattle.rv_code.proofs.ZerosRuns.{zeros_runs}
+use Rattle.rv_code.proofs.ReverseRuns.{reverse_runs}
+use Rattle.rv_code.proofs.ProbeRuns.{probe_runs}
+use Rattle.rv_code.proofs.TableRuns.{table_runs}
+use Rattle.rv_code.proofs.CallRuns.{call_runs, call_ind_runs}
+use Rattle.rv_code.proofs.ReturnRuns.{return_call_runs, return_call_ind_runs}
+use Rattle.rv_code.proofs.TailRules.{target_fine}
+use Rattle.rv_code.proofs.SymbolRuns.{got_runs, near_runs, far_runs, unwind_runs}
+
+ebreak_runs : (site : Site) (setting : EmitVState) → RunsIn site setting EBreak
+ebreak_runs site setting = record {
+  run = λ start after s v e clear. break_out (short_ebreak site.context.flags) (ebreak_breaks site.context.flags) (starts_at (Op (short_ebreak site.context.flags) ∷ []) e) (let some = (ebreak_sized site.context.flags).some in omega arith) e.stands.1.0 (starts_beside [] e);
+}
+
+island_runs : (site : Site) (setting : EmitVState) (needed_space : ℕ) → RunsIn site setting (EmitIsland needed_space)
+island_runs site setting needed_space = record {
+  run = λ start after s v e clear. gap_out start (subst (GapIn site start) e.stands.2 e.stands.1) e.pc (starts_beside [] e);
+}
+
+count_runs : (site : Site) (setting : EmitVState) (info : CountInfo) → Keeps (Popcnt info) → RunsIn site setting (Popcnt info)
+count_runs site setting info k = popcnt_runs site setting info (is_count info.sum info.tmp info.step info.rs info.ty (are_usable (info.sum.reg ∷ info.tmp.reg ∷ info.step.reg ∷ info.rs ∷ []) k.real k.placed k.free) k.counted k.apart k.typed)
+
+kept_runs : (site : Site) (setting : EmitVState) (inst : Inst) → Keeps inst → is_bad_frame_for site.context.frame (tail_call_of inst) ≡ false → RunsIn site setting inst
+kept_runs site setting Nop0 k r = record { run = λ start after s v e clear. nothing_out e.stands e }
+kept_runs site setting Nop4 k r = nop4_runs site setting
+kept_runs site setting EBreak k r = ebreak_runs site setting
+kept_runs site setting SequencePoint k r = record { run = λ start after s v e clear. nothing_out e.stands e }
+kept_runs site setting (Args args) k r = record { run = λ start after s v e clear. nothing_out e.stands e }
+kept_runs site setting (Rets rets) k r = record { run = λ start after s v e clear. nothing_out e.stands e }
+kept_runs site setting (DummyUse reg) k r = record { run = λ start after s v e clear. nothing_out e.stands e }
+kept_runs site setting (EmitIsland needed_space) k r = island_runs site setting needed_space
+kept_runs site setting (RawData bytes) k r = raw_data_runs site setting bytes
+kept_runs site setting (Lui rd imm) k r = lui_runs site setting rd imm (are_usable (rd.reg ∷ []) k.real k.placed k.free).0
+kept_runs site setting (Auipc rd imm) k r = auipc_runs site setting rd imm (are_usable (rd.reg ∷ []) k.real k.placed k.free).0
+kept_runs site setting (LoadInlineConst rd type imm) k r = let c = constant_kept rd type imm k in constant_runs site setting rd type imm c.usable c.counted c.typed
+kept_runs site setting (AluRRR op rd rs1 rs2) k r = let all = are_usable (rd.reg ∷ rs1 ∷ rs2 ∷ []) k.real k.placed k.free in alu_rrr_runs site setting op rd rs1 rs2 all.0 all.1.0 all.1.1.0
+kept_runs site setting (AluRRImm12 op rd rs imm) k r = let all = are_usable (rd.reg ∷ rs ∷ []) k.real k.placed k.free in alu_rri_runs site setting op rd rs imm all.0 all.1.0 k.ranged
+kept_runs site setting (Mov rd rm type) k r = let both = move_usable rd rm type k in mov_runs site setting rd rm type both.0 both.1
+kept_runs site setting (MovFromPReg rd rm) k r = let both = preg_usable rd rm k in mov_from_preg_runs site setting rd rm both.0 both.1
+kept_runs site setting (Extend rd rn signed from_bits to_bits) k r = extend_runs site setting rd rn signed from_bits to_bits k
+kept_runs site setting (Select info) k r = select_runs site setting info k
+kept_runs site setting (Load rd op flags from) k r = let a = load_kept site.context.frame rd op flags from k in load_runs site setting rd op flags from a.usable a.based a.real
+kept_runs site setting (Store src op flags to) k r = let a = store_kept site.context.frame to op flags src k in store_runs site setting to op flags src a.0 a.1
+kept_runs site setting (LoadAddr rd mem) k r = let a = load_addr_kept site.context.frame rd mem k in load_addr_runs site setting rd mem a.usable a.real a.based a.apart
+kept_runs site setting (LabelAddress dst label) k r = let a = label_address_kept dst label k in label_address_runs site setting dst label a.0 a.1
+kept_runs site setting Ret k r = ret_runs site setting
+kept_runs site setting (TrapIf cmp code) k r = let both = trap_if_usable cmp code k in trap_if_runs site setting cmp code both.0 both.1
+kept_runs site setting (Jal label) k r = jal_runs site setting label
+kept_runs site setting (CondBr t f kind) k r = let all = are_usable (kind.rs1 ∷ kind.rs2 ∷ []) k.real k.placed k.free in cond_br_runs site setting kind t f all.0 all.1.0 k.aimed
+kept_runs site setting (BrTable index tmp1 tmp2 targets) k r = table_runs site setting index tmp1 tmp2 targets k
+kept_runs site setting (Udf code) k r = udf_runs site setting code
+kept_runs site setting (Jalr rd base offset) k r = let all = are_usable (rd.reg ∷ base ∷ []) k.real k.placed k.free in jalr_runs site setting rd base offset all.0 all.1.0
+kept_runs site setting (Popcnt info) k r = count_runs site setting info k
+kept_runs site setting (Cltz leading info) k r = zeros_runs site setting leading info k
+kept_runs site setting (Brev8 info) k r = reverse_runs site setting info k
+kept_runs site setting (StackProbeLoop guard_size probe_count tmp) k r = probe_runs site setting guard_size probe_count tmp k
+kept_runs site setting (LoadExtNameGot rd name) k r = let h = (are_usable (rd.reg ∷ []) k.real k.placed k.free).0 in got_runs site setting rd name h (not_zero rd.reg h (or_left (is_zero rd.reg) false k.counted))
+kept_runs site setting (LoadExtNameNear rd name offset) k r = let h = (are_usable (rd.reg ∷ []) k.real k.placed k.free).0 in near_runs site setting rd name offset h (not_zero rd.reg h (or_left (is_zero rd.reg) false k.counted))
+kept_runs site setting (LoadExtNameFar rd name offset) k r = let h = (are_usable (rd.reg ∷ []) k.real k.placed k.free).0 in far_runs site setting rd name offset h (not_zero rd.reg h (or_left (is_zero rd.reg) false k.counted))
+kept_runs site setting (Call info) k r = call_runs site setting info
+kept_runs site setting (CallInd info) k r = call_ind_runs site setting info (call_usable info k)
+kept_runs site setting (ReturnCall info) k r = return_call_runs site setting info r
+kept_runs site setting (ReturnCallInd info) k r = return_call_ind_runs site setting info (target_fine info k).1 r
+kept_runs site setting (Unwind inst) k r = unwind_runs site setting inst
+
+-- where a frame that it takes away can be restored
+pub inst_runs : (site : Site) (setting : EmitVState) (inst : Inst) → inst_rule site.context inst ≡ None → is_bad_frame_for site.context.frame (tail_call_of inst) ≡ false → RunsIn site setting inst
+inst_runs site setting inst rule restores = kept_runs site setting inst (keeps site.context inst rule) restores

@@ -1,0 +1,70 @@
+mod Chains
+mod CodeSteps
+mod Courses
+mod Distances
+pub mod Exits
+mod InstConstants
+mod InstJumps
+pub mod InstRuns
+mod InstTraps
+mod InstWrites
+mod LargerMachine
+mod OneMoreRegister
+pub mod OneOperations
+pub mod Operands
+pub mod OperationActs
+pub mod OwnCounts
+pub mod ShortOps
+mod CountRegisters
+mod CountRules
+mod CountRuns
+pub mod CountSlots
+mod PopcntRuns
+mod ChoiceRules
+mod ChoiceRuns
+pub mod ChoiceSlots
+mod ChoiceSteps
+mod ZerosRules
+mod ZerosRuns
+pub mod ZerosSlots
+mod ReversedBytes
+mod ReverseRegisters
+mod ReverseRules
+mod ReverseRuns
+pub mod ReverseSlots
+mod ReverseSteps
+mod ProbeRules
+mod ProbeRuns
+pub mod ProbeSlots
+pub mod TableRules
+mod TableRuns
+pub mod TableSlots
+pub mod Registers
+mod SymbolRuns
+mod StackRuns
+mod ReturnRules
+mod ReturnRuns
+pub mod CallRuns
+pub mod SymbolSlots
+pub mod Steps
+pub mod Ways
+mod AddressRules
+mod ImmediateValues
+mod SameMemory
+pub mod AddressRuns
+mod InstMemory
+mod AddressOperands
+pub mod FineOperands
+mod FormActs
+pub mod MemorySlots
+pub mod NumberRuns
+pub mod NumberSlots
+pub mod OffsetSizes
+pub mod TailRules
+pub mod TailSlots
+mod NumberTests
+pub mod CallRules
+pub mod PlainSlots
+pub mod ShortSlots
+pub mod NumberForms
+pub mod ClosedSlots

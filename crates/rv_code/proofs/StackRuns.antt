@@ -1,0 +1,209 @@
+-- Registers come from the stack, and the stack pointer rises or falls.
+use Rattle.std.proofs.Common.{◌≡◌, ◌≢◌, ℕ, ◌+◌, ◌^◌, ◌<◌, Bool, true, false, ℤ, pos, List, [], ◌∷◌, ◌++◌, Some, None, arith, refl, sym, ap, subst, ◌∙◌, lit<, lit≤, eqb-true}
+use Rattle.std.specs.Prelude.{if◌then◌else◌, ◌==◌}
+use Rattle.std.specs.List.{AllByRecursion}
+use Rattle.std.proofs.lemmas.List.{append-nil}
+use Rattle.rv_base.specs.declared.flags.IsaFlags.{IsaFlags}
+use Rattle.rv_ops.specs.declared.alu.AluOPRRR.TheVariants.{Add}
+use Rattle.rv_ops.specs.declared.alu.AluOPRRI.TheVariants.{Addi}
+use Rattle.rv_ops.specs.declared.memory.LoadOP.{LoadOP}
+use Rattle.rv_machine.specs.Memory.{load_result}
+use Rattle.rv_machine.specs.State.{State, Values, AreValues, reg, set_reg, wrap, low64, at}
+use Rattle.rv_encode.specs.Operations.{load_op, decoded_load}
+use Rattle.rv_inst.specs.Addresses.{Based, is_near}
+use Rattle.rv_inst.specs.Forms.{short_rrr, short_rri, short_load}
+use Rattle.rv_inst.specs.Meaning.{stack_loaded}
+use Rattle.rv_inst.specs.Returns.{StackLoad}
+use Rattle.rv_inst.specs.SameValues.{SameBut}
+use Rattle.rv_code.specs.InstParts.{number_slots, address_slots, load_slots, stack_load_slots, far_step_slots, stack_step_slots}
+use Rattle.rv_code.specs.Sites.{Site, CodeHas, StandsIn}
+use Rattle.rv_code.specs.Slots.{Slot, Op, size_of}
+use Rattle.rv_code.proofs.AddressRuns.{size_append, stands_split, shorter, based_goes, address_even}
+use Rattle.rv_code.proofs.Courses.{InCourse, Comes, comes_on, comes_here, course_before, writes, sets_comes, rrr_writes, rri_writes}
+use Rattle.rv_code.proofs.SameMemory.{load_same, load_fits}
+use Rattle.rv_code.proofs.NumberRuns.{number_comes}
+use Rattle.rv_code.proofs.OperationActs.{plus_none, set_own}
+use Rattle.rv_code.proofs.Registers.{are_values_set, but_set, spare_set, reads_back, reads_other}
+use Rattle.rv_code.proofs.ShortOps.{load_acts, load_sized}
+
+-- ---- which registers are loaded
+
+-- a register below x30 that isn't the stack pointer
+pub record IsLoadable (n : ℕ) : Type 0 where
+  pub usable : n < 30
+  pub apart : n ≢ 2
+
+abbrev pub AreLoadable : List StackLoad → Type 0
+AreLoadable loads = AllByRecursion (λ (l : StackLoad). IsLoadable l.register) loads
+
+-- none of them is this one
+abbrev pub AreOthers : ℕ → List StackLoad → Type 0
+AreOthers n loads = AllByRecursion (λ (l : StackLoad). l.register ≢ n) loads
+
+-- so it keeps its value
+pub loaded_other : (sp n : ℕ) (loads : List StackLoad) (v : Values) → AreOthers n loads → reg (stack_loaded sp loads v) n ≡ reg v n
+loaded_other sp n [] v others = refl
+loaded_other sp n (l ∷ loads) v others =
+    let x = load_result (load_op l.op) v.mem (wrap (sp + low64 l.offset)) in
+    loaded_other sp n loads (set_reg v l.register x) others.1 ∙ reads_other v l.register n x (λ e. others.0 (sym e))
+
+pub stack_apart : (loads : List StackLoad) → AreLoadable loads → AreOthers 2 loads
+stack_apart [] h = tt
+stack_apart (l ∷ loads) h = (h.0.apart, stack_apart loads h.1)
+
+-- ---- values
+
+-- the same as these, x30 and x31 apart
+pub record IsAs (u w : Values) : Type 0 where
+  pub same : SameBut [] u w
+  pub are_values : AreValues u
+
+-- and x31 holds a number
+record HasSpare (x : ℕ) (u w : Values) : Type 0 where
+  pub as_these : IsAs u w
+  pub spare : reg w 31 ≡ x
+
+as_set : (u w : Values) (n x : ℕ) → n < 32 → x < 2 ^ 64 → AreValues w → IsAs u w → IsAs (set_reg u n x) (set_reg w n x)
+as_set u w n x lt fits hw k = record { same = but_set u w n x k.are_values hw lt k.same; are_values = are_values_set u n x k.are_values lt fits }
+
+spare_holds : (u w : Values) (x : ℕ) → AreValues w → IsAs u w → HasSpare x u (set_reg w 31 x)
+spare_holds u w x hw k = record {
+  as_these = record { same = spare_set u w 31 x (lit≤ tt) k.same; are_values = k.are_values };
+  spare = reads_back w 31 x hw (lit< tt) (lit< tt);
+}
+
+-- ---- one load
+
+-- what is loaded from an address that counts from a register
+abbrev read_at : LoadOP → ℕ → ℤ → Values → ℕ
+read_at op r o v = load_result (load_op op) v.mem (wrap (reg v r + low64 o))
+
+read_same : {u w : Values} (op : LoadOP) (r : ℕ) (o : ℤ) → r < 30 → SameBut [] u w → read_at op r o w ≡ read_at op r o u
+read_same {u} {w} op r o usable same = sym (load_same (load_op op) u.mem w.mem (wrap (reg u r + low64 o)) same.mem ∙ (λ i. load_result (load_op op) w.mem (wrap (same.regs r usable refl i + low64 o))))
+
+near_comes : {site : Site} {offset size : ℕ} {u : Values} {s : State} (rd r : ℕ) (op : LoadOP) (o : ℤ) → rd < 30 → r < 30 → CodeHas site offset (short_load site.context.flags op rd r o ∷ []) → InCourse site offset ((short_load site.context.flags op rd r o).len + size) (IsAs u) s → Comes site (offset + (short_load site.context.flags op rd r o).len) size (IsAs (set_reg u rd (read_at op r o u))) s
+near_comes {site} {u = u} {s} rd r op o usable based has k =
+    let flags = site.context.flags in
+    let d = short_load flags op rd r o in
+    let x = read_at op r o u in
+    let fits = load_fits (load_op op) u.mem (wrap (reg u r + low64 o)) k.values.are_values.bytes in
+    writes (IsAs (set_reg u rd x)) d rd x (load_sized flags op rd r o) has
+    (load_acts flags op rd r o s k.is_state ∙ ap (λ y. Some (at (wrap (s.pc + d.len)) (set_reg s.values rd y))) (read_same op r o based k.values.same))
+    (omega arith) fits k (as_set u s.values rd x (omega arith) fits k.is_state.values k.values)
+
+-- its address is in x31
+last_comes : {site : Site} {offset size a : ℕ} {u : Values} {s : State} (rd : ℕ) (op : LoadOP) → rd < 30 → a < 2 ^ 64 → CodeHas site offset (decoded_load op rd 31 (pos 0) ∷ []) → InCourse site offset (4 + size) (HasSpare a u) s → Comes site (offset + 4) size (IsAs (set_reg u rd (load_result (load_op op) u.mem a))) s
+last_comes {site} {a = a} {u} {s} rd op usable small has k =
+    let d = decoded_load op rd 31 (pos 0) in
+    let x = load_result (load_op op) u.mem a in
+    let fits = load_fits (load_op op) u.mem a k.values.as_these.are_values.bytes in
+    let there : wrap (reg s.values 31 + low64 (pos 0)) ≡ a = ap (λ n. wrap (n + low64 (pos 0))) k.values.spare ∙ plus_none a small in
+    let read : load_result (load_op op) s.values.mem (wrap (reg s.values 31 + low64 (pos 0))) ≡ x = ap (load_result (load_op op) s.values.mem) there ∙ sym (load_same (load_op op) u.mem s.values.mem a k.values.as_these.same.mem) in
+    writes (IsAs (set_reg u rd x)) d rd x (record { even = refl; some = lit< tt; few = lit≤ tt }) has
+    (λ i. Some (at (wrap (s.pc + 4)) (set_reg s.values rd (read i))))
+    (omega arith) fits k (as_set u s.values rd x (omega arith) fits k.is_state.values k.values.as_these)
+
+-- a load at an address that is computed in x31
+abbrev far_load : IsaFlags → ℕ → LoadOP → ℕ → ℤ → List Slot
+far_load flags rd op r o = address_slots flags 31 (Based r o) ++ Op (decoded_load op rd 31 (pos 0)) ∷ []
+
+far_comes : {site : Site} {offset size : ℕ} {u : Values} {s : State} (allocated rd r : ℕ) (op : LoadOP) (o : ℤ) → rd < 30 → r < 30 → StandsIn site allocated offset (far_load site.context.flags rd op r o) → InCourse site offset (size_of (far_load site.context.flags rd op r o) + size) (IsAs u) s → Comes site (offset + size_of (far_load site.context.flags rd op r o)) size (IsAs (set_reg u rd (read_at op r o u))) s
+far_comes {site} {offset} {size} {u} {s} allocated rd r op o usable based stands k =
+    let flags = site.context.flags in
+    let slots = address_slots flags 31 (Based r o) in
+    let d = decoded_load op rd 31 (pos 0) in
+    let n = size_of slots in
+    let a = wrap (reg u r + low64 o) in
+    let long : size_of (far_load flags rd op r o) ≡ n + 4 = size_append slots (Op d ∷ []) in
+    let over : offset + n + 4 ≡ offset + size_of (far_load flags rd op r o) = omega arith in
+    let both = stands_split site allocated offset slots (Op d ∷ []) stands in
+    let k0 = course_before (n + (4 + size)) k (omega arith) in
+    let there : wrap (reg s.values r + low64 o) ≡ a = (λ i. wrap (sym (k.values.same.regs r based refl) i + low64 o)) in
+    let goes = based_goes allocated 31 r o (lit< tt) (lit< tt) (λ e. absurd (omega arith)) k.is_state (shorter n k0.here (omega arith)) both.0 in
+    subst (λ m. Comes site m size (IsAs (set_reg u rd (read_at op r o u))) s) over
+    (comes_on
+    (sets_comes (HasSpare (wrap (reg s.values r + low64 o)) u) n 31 (wrap (reg s.values r + low64 o)) (address_even flags 31 (Based r o)) (lit< tt) (omega arith) goes k0 (spare_holds u s.values (wrap (reg s.values r + low64 o)) k.is_state.values k.values))
+    (λ t k1. last_comes rd op usable (omega arith) both.1.0 (subst (λ b. InCourse site (offset + n) (4 + size) (HasSpare b u) t) there k1)))
+
+-- a load that can't trap sets its register, and beside it x31 at most
+pub load_comes : {site : Site} {offset size : ℕ} {u : Values} {s : State} (allocated rd r : ℕ) (op : LoadOP) (o : ℤ) → rd < 30 → r < 30 → StandsIn site allocated offset (load_slots site.context.flags rd op None (Based r o)) → InCourse site offset (size_of (load_slots site.context.flags rd op None (Based r o)) + size) (IsAs u) s →
+    Comes site (offset + size_of (load_slots site.context.flags rd op None (Based r o))) size (IsAs (set_reg u rd (read_at op r o u))) s
+load_comes {site} {offset} {size} {u} {s} allocated rd r op o usable based = on (is_near o)
+  where
+    slots : Bool → List Slot
+    slots near = if near then Op (short_load site.context.flags op rd r o) ∷ [] else address_slots site.context.flags 31 (Based r o) ++ [] ++ Op (decoded_load op rd 31 (pos 0)) ∷ []
+
+    -- what slots that stand there do
+    Goal : List Slot → Type 0
+    Goal xs = StandsIn site allocated offset xs → InCourse site offset (size_of xs + size) (IsAs u) s → Comes site (offset + size_of xs) size (IsAs (set_reg u rd (read_at op r o u))) s
+
+    on : (near : Bool) → Goal (slots near)
+    on true = λ stands k.
+        let n = (short_load site.context.flags op rd r o).len in
+        subst (λ m. Comes site m size (IsAs (set_reg u rd (read_at op r o u))) s) (omega arith)
+        (near_comes rd r op o usable based stands.0 (course_before (n + size) k (omega arith)))
+    on false = subst (λ xs. Goal (xs ++ Op (decoded_load op rd 31 (pos 0)) ∷ [])) (sym (append-nil (address_slots site.context.flags 31 (Based r o)))) (far_comes allocated rd r op o usable based)
+
+-- ---- loads one after the other
+
+-- each counts from the same stack pointer
+pub loads_come : {site : Site} {size : ℕ} (allocated sp : ℕ) (loads : List StackLoad) (offset : ℕ) (u : Values) (s : State) → AreLoadable loads → reg u 2 ≡ sp → StandsIn site allocated offset (stack_load_slots site.context.flags loads) → InCourse site offset (size_of (stack_load_slots site.context.flags loads) + size) (IsAs u) s →
+    Comes site (offset + size_of (stack_load_slots site.context.flags loads)) size (IsAs (stack_loaded sp loads u)) s
+loads_come {site} {size} allocated sp [] offset u s h from stands k = subst (λ n. Comes site n size (IsAs u) s) (omega arith) (comes_here (course_before size k (omega arith)))
+loads_come {site} {size} allocated sp (l ∷ loads) offset u s h from stands k =
+    let flags = site.context.flags in
+    let first = load_slots flags l.register l.op None (Based 2 l.offset) in
+    let rest = stack_load_slots flags loads in
+    let long : size_of (first ++ rest) ≡ size_of first + size_of rest = size_append first rest in
+    let over : offset + size_of first + size_of rest ≡ offset + size_of (first ++ rest) = omega arith in
+    let both = stands_split site allocated offset first rest stands in
+    let x = load_result (load_op l.op) u.mem (wrap (sp + low64 l.offset)) in
+    let one = load_comes allocated l.register 2 l.op l.offset h.0.usable (lit< tt) both.0 (course_before (size_of first + (size_of rest + size)) k (omega arith)) in
+    subst (λ n. Comes site n size (IsAs (stack_loaded sp (l ∷ loads) u)) s) over
+    (comes_on (subst (λ b. Comes site (offset + size_of first) (size_of rest + size) (IsAs (set_reg u l.register (load_result (load_op l.op) u.mem (wrap (b + low64 l.offset))))) s) from one)
+    (λ t k1. loads_come allocated sp loads (offset + size_of first) (set_reg u l.register x) t h.1 (reads_other u l.register 2 x (λ e. h.0.apart (sym e)) ∙ from) both.1 k1))
+
+-- ---- the stack pointer
+
+abbrev step_by : IsaFlags → ℤ → Bool → Bool → List Slot
+step_by flags z none near =
+    if none then [] else
+    if near then Op (short_rri flags Addi 2 2 z) ∷ [] else
+    far_step_slots flags z
+
+-- by a number in x31
+far_steps : {site : Site} {offset size : ℕ} {u : Values} {s : State} (allocated : ℕ) (z : ℤ) → StandsIn site allocated offset (far_step_slots site.context.flags z) → InCourse site offset (size_of (far_step_slots site.context.flags z) + size) (IsAs u) s →
+    Comes site (offset + size_of (far_step_slots site.context.flags z)) size (IsAs (set_reg u 2 (wrap (reg u 2 + low64 z)))) s
+far_steps {site} {offset} {size} {u} {s} allocated z stands k =
+    let flags = site.context.flags in
+    let number = number_slots flags 31 z in
+    let d = short_rrr flags Add 2 2 31 in
+    let n = wrap (low64 z) in
+    let x = wrap (reg u 2 + low64 z) in
+    let long : size_of (number ++ Op d ∷ []) ≡ size_of number + (d.len + 0) = size_append number (Op d ∷ []) in
+    let over : offset + size_of number + d.len ≡ offset + size_of (number ++ Op d ∷ []) = omega arith in
+    let both = stands_split site allocated offset number (Op d ∷ []) stands in
+    let sum : wrap (reg u 2 + n) ≡ x = omega arith in
+    let k0 = course_before (size_of number + (d.len + size)) k (omega arith) in
+    subst (λ m. Comes site m size (IsAs (set_reg u 2 x)) s) over
+    (comes_on (number_comes (HasSpare n u) allocated 31 n z (lit< tt) (lit< tt) refl both.0 k0 (spare_holds u s.values n k.is_state.values k.values))
+    (λ t k1. rrr_writes (IsAs (set_reg u 2 x)) Add 2 2 31 x both.1.0 ((λ i. wrap (sym (k1.values.as_these.same.regs 2 (lit< tt) refl) i + k1.values.spare i)) ∙ sum) (lit< tt) k1 (as_set u t.values 2 x (lit< tt) (omega arith) k1.is_state.values k1.values.as_these)))
+
+-- it rises or falls by a number, and beside it x31 changes at most
+pub step_comes : {site : Site} {offset size : ℕ} {u : Values} {s : State} (allocated : ℕ) (z : ℤ) → StandsIn site allocated offset (stack_step_slots site.context.flags z) → InCourse site offset (size_of (stack_step_slots site.context.flags z) + size) (IsAs u) s →
+    Comes site (offset + size_of (stack_step_slots site.context.flags z)) size (IsAs (set_reg u 2 (wrap (reg u 2 + low64 z)))) s
+step_comes {site} {offset} {size} {u} {s} allocated z = on (low64 z == 0) (is_near z) refl
+  where
+    on : (none near : Bool) → (low64 z == 0) ≡ none → StandsIn site allocated offset (step_by site.context.flags z none near) → InCourse site offset (size_of (step_by site.context.flags z none near) + size) (IsAs u) s → Comes site (offset + size_of (step_by site.context.flags z none near)) size (IsAs (set_reg u 2 (wrap (reg u 2 + low64 z)))) s
+    on true near test stands k =
+        let none : low64 z ≡ 0 = eqb-true (low64 z) 0 test in
+        let kept : set_reg u 2 (wrap (reg u 2 + low64 z)) ≡ u = (λ i. set_reg u 2 (wrap (reg u 2 + none i))) ∙ ap (set_reg u 2) (plus_none (reg u 2) (k.values.are_values.fits 2)) ∙ set_own u 2 in
+        subst (λ (w : Values). Comes site (offset + 0) size (IsAs w) s) (sym kept)
+        (subst (λ m. Comes site m size (IsAs u) s) (omega arith) (comes_here (course_before size k (omega arith))))
+    on false true test stands k =
+        let d = short_rri site.context.flags Addi 2 2 z in
+        let x = wrap (reg u 2 + low64 z) in
+        subst (λ m. Comes site m size (IsAs (set_reg u 2 x)) s) (omega arith)
+        (rri_writes (IsAs (set_reg u 2 x)) Addi 2 2 z x refl stands.0 (λ i. wrap (sym (k.values.same.regs 2 (lit< tt) refl) i + low64 z)) (lit< tt) (omega arith) (course_before (d.len + size) k (omega arith))
+        (as_set u s.values 2 x (lit< tt) (omega arith) k.is_state.values k.values))
+    on false false test stands k = far_steps allocated z stands k

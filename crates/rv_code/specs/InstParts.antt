@@ -1,0 +1,322 @@
+-- The parts of each instruction's code: links of the proof.
+use Rattle.std.specs.Prelude.{ℕ, ◌+◌, ◌*◌, ◌%◌, ◌^◌, ◌==◌, ◌&&◌, Bool, false, if◌then◌else◌, List, [], ◌∷◌, ◌++◌, map, length, Option, Some, None, ℤ, pos, true}
+use Rattle.std.specs.Int.{to_le_bytes, cast_signed, w32, w64}
+use Rattle.rv_base.specs.declared.call.CallInfo.{CallInfo}
+use Rattle.rv_base.specs.declared.call.TryCallInfo.{TryCallInfo}
+use Rattle.rv_base.specs.declared.call.UserStackMap.{UserStackMap}
+use Rattle.rv_base.specs.declared.flags.IsaFlags.{IsaFlags}
+use Rattle.rv_base.specs.declared.frame.FrameLayout.{FrameLayout}
+use Rattle.rv_base.specs.declared.ir_type.IrType.{IrType}
+use Rattle.rv_base.specs.declared.label.MachLabel.{MachLabel}
+use Rattle.rv_base.specs.declared.external_name.ExternalName.{ExternalName}
+use Rattle.rv_base.specs.declared.regs.Reg.{Reg}
+use Rattle.rv_base.specs.declared.trap.TrapCode.{TrapCode}
+use Rattle.rv_base.specs.Frame.{sp_to_fp_of}
+use Rattle.rv_base.specs.IrType.{bits_of}
+use Rattle.rv_base.specs.Regs.{number_of}
+use Rattle.rv_ops.specs.declared.alu.AluOPRRR.TheVariants as rrr
+use Rattle.rv_ops.specs.declared.alu.AluOPRRI.TheVariants as rri
+use Rattle.rv_ops.specs.declared.memory.LoadOP.{LoadOP}
+use Rattle.rv_ops.specs.declared.memory.LoadOP.TheVariants as loads
+use Rattle.rv_ops.specs.declared.memory.StoreOP.{StoreOP}
+use Rattle.rv_ops.specs.declared.compare.IntegerCompare.{IntegerCompare}
+use Rattle.rv_inst.specs.Context.{Context}
+use Rattle.rv_inst.specs.Returns.{StackLoad, restores, frame_above, result_loads, loads_unless}
+use Rattle.rv_inst.specs.Records.{site_event}
+use Rattle.rv_inst.specs.Sizes.{table_space, bit_shift, fall, call_size, return_size, results_space}
+use Rattle.rv_inst.specs.declared.inst.Inst.{Inst}
+use Rattle.rv_inst.specs.declared.inst.Inst.TheVariants.{Nop0, Nop4, EBreak, SequencePoint, Args, Rets, DummyUse, EmitIsland, RawData, Lui, Auipc, LoadInlineConst, AluRRR, AluRRImm12, Mov, MovFromPReg, Extend, Select, Load, Store, LoadAddr, LabelAddress, Ret, TrapIf, Jal, CondBr, BrTable, Udf, Jalr, Popcnt, Cltz, Brev8, StackProbeLoop, LoadExtNameGot, LoadExtNameNear, LoadExtNameFar, Call, CallInd, ReturnCall, ReturnCallInd, Unwind}
+use Rattle.rv_inst.specs.declared.inst.CondBrTarget.{CondBrTarget}
+use Rattle.rv_inst.specs.declared.inst.CondBrTarget.TheVariants.{Label as ToLabel, Fallthrough}
+use Rattle.rv_inst.specs.declared.label_use.LabelUse.TheVariants.{Jal20, B12, PCRelHi20, PCRelLo12I}
+use Rattle.rv_machine.specs.declared.ops.MOp.TheVariants.{Base}
+use Rattle.rv_machine.specs.declared.ops.BaseOp.TheVariants as base
+use Rattle.rv_encode.specs.Operations.{decoded, decoded_branch, decoded_load, decoded_store}
+use Rattle.rv_inst.specs.Forms.{jump_kind, short_rrr, short_rri, short_lui, short_jalr, short_ebreak, short_load, short_store}
+use Rattle.rv_machine.specs.State.{low64}
+use Rattle.rv_machine.specs.Arithmetic.{low_word}
+use Rattle.mach_uses.specs.Labels.{constant_label}
+use Rattle.rv_inst.specs.Addresses.{Location, Based, AtLabel, AtConstant, location_of, is_near, is_splittable}
+use Rattle.rv_code.specs.Immediates.{upper_of, lower_of, upper_of_distance, lower_of_distance}
+use Rattle.mach_records.specs.declared.records.Event.TheVariants as event
+use Rattle.rv_code.specs.declared.state.EmitVState.{EmitVState}
+use Rattle.rv_code.specs.Operations.{decoded_addi, decoded_jalr, decoded_jump, short_jump, jump_size}
+use Rattle.rv_code.specs.Counts.{start_ops, turn_ops}
+pub use Rattle.rv_code.specs.Choices.{complement, move_slots, extend_slots, select_slots}
+use Rattle.rv_code.specs.Loops.{reverse_start, reverse_turn}
+use Rattle.rv_code.specs.Probes.{probe_turn}
+use Rattle.rv_code.specs.Tables.{jump_slots}
+use Rattle.rv_code.specs.Slots.{AddressOf, SlotOf, Target, Label, Own, Slot, Op, Aim, Data, Notes, Names, Allocate, Here, Fill, Address, CallTo, Part, Ask, Slots}
+
+-- ---- jumps
+
+-- a jump to a target in a word of four bytes, as an island's is whatever the flags are
+abbrev pub wide_jump_to : Target → Slot
+wide_jump_to target = Aim Jal20 target (λ d. decoded_jump d ∷ [])
+
+-- a jump to a target, in the shortest form
+abbrev pub jump_to : IsaFlags → Target → Slot
+jump_to flags target = Aim (jump_kind flags) target (λ d. short_jump flags d ∷ [])
+
+-- ---- pieces of sequences
+
+-- a register is the upper part of the distance to a label, added to the word's own address
+abbrev pub upper_at : ℕ → MachLabel → Slot
+upper_at rd l = Aim PCRelHi20 (Label l) (λ d. decoded (Base base.Auipc) rd 0 0 (upper_of_distance d) ∷ [])
+
+-- a branch to a target where a comparison holds
+abbrev pub branch_to : IntegerCompare → Target → Slot
+branch_to kind target = Aim B12 target (λ d. decoded_branch kind d ∷ [])
+
+-- a branch, and a jump where the comparison doesn't hold
+abbrev pub branch_slots : IsaFlags → IntegerCompare → CondBrTarget → CondBrTarget → List Slot
+branch_slots flags kind Fallthrough not_taken = []
+branch_slots flags kind (ToLabel t) Fallthrough = branch_to kind (Label t) ∷ []
+branch_slots flags kind (ToLabel t) (ToLabel f) = branch_to kind (Label t) ∷ jump_to flags (Label f) ∷ []
+
+-- zero bytes that are no operation, as many as the shortest one has, and the record of their trap
+abbrev pub trap_bytes : IsaFlags → List ℕ
+trap_bytes flags = if flags.has_zca then 0 ∷ 0 ∷ [] else 0 ∷ 0 ∷ 0 ∷ 0 ∷ []
+
+abbrev pub trap_slots : IsaFlags → TrapCode → List Slot
+trap_slots flags code = Notes (event.Trap code) ∷ Data (trap_bytes flags) ∷ []
+
+-- a trap, and before it a branch over it, to a label after it, where a comparison doesn't hold
+abbrev pub trap_if_slots : IsaFlags → IntegerCompare → TrapCode → List Slot
+trap_if_slots flags cmp code = Allocate ∷ branch_to (complement cmp) (Own 0) ∷ trap_slots flags code ++ Here 0 ∷ []
+
+-- a load of so many bytes that stand after it and a jump over them
+abbrev pub load_over : IsaFlags → ℕ → LoadOP → ℕ → List Slot
+load_over flags rd op size = Op (decoded (Base base.Auipc) rd 0 0 (pos 0)) ∷ Op (decoded_load op rd rd (pos (8 + jump_size flags))) ∷ Op (short_jump flags (pos (size + jump_size flags))) ∷ []
+
+-- a constant of so many bytes after the code that loads it, which jumps over it
+abbrev pub inline_slots : IsaFlags → ℕ → LoadOP → ℕ → List ℕ → List Slot
+inline_slots flags rd op size bytes = load_over flags rd op size ++ Data bytes ∷ []
+
+abbrev pub constant_slots : IsaFlags → ℕ → IrType → ℕ → List Slot
+constant_slots flags rd type imm = if bits_of type == 32 then inline_slots flags rd loads.Lw 4 (to_le_bytes w32 (imm % 2 ^ 32)) else inline_slots flags rd loads.Ld 8 (to_le_bytes w64 imm)
+
+-- an offset in a register: by an upper and a lower immediate, by the upper alone where the lower is 0, or from among the code
+abbrev pub lower_slots : IsaFlags → ℕ → ℤ → List Slot
+lower_slots flags rd lower = if low64 lower == 0 then [] else Op (short_rri flags rri.Addi rd rd lower) ∷ []
+
+abbrev pub immediate_slots : IsaFlags → ℕ → ℤ → ℤ → List Slot
+immediate_slots flags rd upper lower = Op (short_lui flags rd upper) ∷ lower_slots flags rd lower
+
+abbrev pub offset_slots : IsaFlags → ℕ → ℤ → List Slot
+offset_slots flags rd o = if is_splittable o then immediate_slots flags rd (upper_of o) (lower_of o) else inline_slots flags rd loads.Ld 8 (to_le_bytes w64 (low64 o))
+
+-- the address of a label in a register
+abbrev pub label_slots : ℕ → MachLabel → List Slot
+label_slots rd l = upper_at rd l ∷ Aim PCRelLo12I (Label l) (λ d. decoded_addi rd rd (lower_of_distance d) ∷ []) ∷ []
+
+-- any address; a constant's is that of its label, once the constant is named
+abbrev pub address_slots : IsaFlags → ℕ → Location → List Slot
+address_slots flags rd (Based r o) = if is_near o then Op (short_rri flags rri.Addi rd r o) ∷ [] else offset_slots flags rd o ++ Op (short_rrr flags rrr.Add rd rd r) ∷ []
+address_slots flags rd (AtLabel l) = label_slots rd l
+address_slots flags rd (AtConstant k) = Names k ∷ label_slots rd (constant_label k)
+
+-- the trap of an access, where it may trap
+abbrev pub access_slots : Option TrapCode → List Slot
+access_slots None = []
+access_slots (Some code) = Notes (event.Trap code) ∷ []
+
+-- a load from a label: the lower part of its distance is in the load's word
+abbrev pub label_load_slots : ℕ → LoadOP → Option TrapCode → MachLabel → List Slot
+label_load_slots rd op trap l = upper_at rd l ∷ access_slots trap ++ Aim PCRelLo12I (Label l) (λ d. decoded_load op rd rd (lower_of_distance d) ∷ []) ∷ []
+
+-- any load: an address that is far from its register is computed in x31, and that of a label or a constant in rd
+abbrev pub load_slots : IsaFlags → ℕ → LoadOP → Option TrapCode → Location → List Slot
+load_slots flags rd op trap (Based r o) = if is_near o then access_slots trap ++ Op (short_load flags op rd r o) ∷ [] else address_slots flags 31 (Based r o) ++ access_slots trap ++ Op (decoded_load op rd 31 (pos 0)) ∷ []
+load_slots flags rd op trap (AtLabel l) = label_load_slots rd op trap l
+load_slots flags rd op trap (AtConstant k) = Names k ∷ label_load_slots rd op trap (constant_label k)
+
+-- a store: an address that is far from its register, or that of a label or a constant, is computed in x31
+abbrev pub far_store_slots : IsaFlags → StoreOP → ℕ → Option TrapCode → Location → List Slot
+far_store_slots flags op src trap location = address_slots flags 31 location ++ access_slots trap ++ Op (decoded_store op 31 src (pos 0)) ∷ []
+
+abbrev pub store_slots : IsaFlags → StoreOP → ℕ → Option TrapCode → Location → List Slot
+store_slots flags op src trap (Based r o) = if is_near o then access_slots trap ++ Op (short_store flags op r src o) ∷ [] else far_store_slots flags op src trap (Based r o)
+store_slots flags op src trap (AtLabel l) = far_store_slots flags op src trap (AtLabel l)
+store_slots flags op src trap (AtConstant k) = far_store_slots flags op src trap (AtConstant k)
+
+-- ---- constants
+
+-- the constant of an address is named before the code that takes the address
+abbrev pub naming_slots : Location → List Slot
+naming_slots (Based r o) = []
+naming_slots (AtLabel l) = []
+naming_slots (AtConstant k) = Names k ∷ []
+
+-- that code takes the address of its label
+abbrev pub labelled : Location → Location
+labelled (Based r o) = Based r o
+labelled (AtLabel l) = AtLabel l
+labelled (AtConstant k) = AtLabel (constant_label k)
+
+-- ---- counts of bits
+
+-- the ones of so many low bits are counted, from the highest on: the step counts down, and a bit moves down with it
+abbrev pub count_slots : IsaFlags → ℕ → ℕ → ℕ → ℕ → ℕ → List Slot
+count_slots flags sum tmp step rs bits = map Op (start_ops flags true sum tmp step bits ++ turn_ops flags false rri.Srli sum tmp step rs)
+
+-- the zeros before the first one are counted, from the highest of so many low bits on or from the lowest
+abbrev pub zeros_slots : IsaFlags → Bool → ℕ → ℕ → ℕ → ℕ → ℕ → List Slot
+zeros_slots flags leading sum tmp step rs bits = map Op (start_ops flags leading sum tmp step bits ++ turn_ops flags true (bit_shift leading) sum tmp step rs)
+
+-- the bits of the low bytes are reversed, from the highest bit on
+abbrev pub reverse_slots : IsaFlags → ℕ → ℕ → ℕ → ℕ → ℕ → ℕ → List Slot
+reverse_slots flags rd tmp tmp2 step rs bits = map Op (reverse_start flags rd tmp tmp2 step bits ++ reverse_turn flags rd tmp tmp2 step rs)
+
+-- ---- probes of the stack
+
+-- a number of 64 bits in a register: by its lower immediate alone where the upper one is 0
+abbrev pub number_slots : IsaFlags → ℕ → ℤ → List Slot
+number_slots flags rd z = if is_splittable z && low64 (upper_of z) == 0 then Op (short_rri flags rri.Addi rd 0 (lower_of z)) ∷ [] else offset_slots flags rd z
+
+-- x31 counts down from the farthest probe's distance, by a guard each turn
+abbrev pub probe_slots : IsaFlags → ℕ → ℕ → ℕ → List Slot
+probe_slots flags tmp guard count = number_slots flags 31 (cast_signed w64 (guard * count)) ++ number_slots flags tmp (pos guard) ++ map Op (probe_turn flags tmp)
+
+-- ---- a branch by a table
+
+-- the low 32 bits of the index in x31, how many labels there are beside the default, and the jumps
+abbrev pub table_slots : IsaFlags → ℕ → ℕ → ℕ → List MachLabel → List Slot
+table_slots flags index tmp1 tmp2 [] = []
+table_slots flags index tmp1 tmp2 (default ∷ labels) = extend_slots flags 31 index false 32 ++ number_slots flags tmp2 (pos (length labels)) ++ jump_slots tmp1 tmp2 default labels
+
+-- ---- symbols
+
+-- the address of a symbol's slot by the distance to it, and a load from there
+abbrev pub got_slots : ℕ → ExternalName → List Slot
+got_slots rd name = Fill (SlotOf name) (λ d. decoded (Base base.Auipc) rd 0 0 (upper_of_distance d) ∷ []) (λ d. decoded_load loads.Ld rd rd (lower_of_distance d) ∷ []) ∷ []
+
+-- the address of a symbol by the distance to it
+abbrev pub near_slots : ℕ → ExternalName → ℤ → List Slot
+near_slots rd name offset = Fill (AddressOf name offset) (λ d. decoded (Base base.Auipc) rd 0 0 (upper_of_distance d) ∷ []) (λ d. decoded_addi rd rd (lower_of_distance d) ∷ []) ∷ []
+
+-- the address of a symbol from among the code
+abbrev pub far_slots : IsaFlags → ℕ → ExternalName → ℤ → List Slot
+far_slots flags rd name offset = load_over flags rd loads.Ld 8 ++ Address name offset ∷ []
+
+-- ---- tail calls
+
+-- loads from the stack, one after the other
+abbrev pub stack_load_slots : IsaFlags → List StackLoad → List Slot
+stack_load_slots flags [] = []
+stack_load_slots flags (l ∷ loads) = load_slots flags l.register l.op None (Based 2 l.offset) ++ stack_load_slots flags loads
+
+-- the stack pointer rises: by addi, or by a number in x31; not at all by 0
+abbrev pub far_step_slots : IsaFlags → ℤ → List Slot
+far_step_slots flags z = number_slots flags 31 z ++ Op (short_rrr flags rrr.Add 2 2 31) ∷ []
+
+abbrev pub stack_step_slots : IsaFlags → ℤ → List Slot
+stack_step_slots flags z =
+    if low64 z == 0 then [] else
+    if is_near z then Op (short_rri flags rri.Addi 2 2 z) ∷ [] else
+    far_step_slots flags z
+
+-- a frame is taken away
+abbrev pub return_slots : IsaFlags → FrameLayout → ℕ → List Slot
+return_slots flags frame arguments = stack_load_slots flags (restores frame) ++ stack_step_slots flags (pos (frame_above frame arguments))
+
+-- to a symbol by the distance to it, by way of a register; another one is the address after it
+abbrev pub call_to : ℕ → ℕ → ExternalName → Slot
+call_to link tmp name = CallTo name (λ d. decoded (Base base.Auipc) tmp 0 0 (upper_of d) ∷ decoded_jalr link tmp (lower_of d) ∷ [])
+
+-- and then a jump goes on: to a symbol by way of x31, at a call site; or to the address in t0
+abbrev pub tail_slots : IsaFlags → FrameLayout → ℕ → ExternalName → List Slot
+tail_slots flags frame arguments name = return_slots flags frame arguments ++ Notes event.CallSite ∷ call_to 0 31 name ∷ []
+
+abbrev pub t0_slots : IsaFlags → FrameLayout → ℕ → List Slot
+t0_slots flags frame arguments = return_slots flags frame arguments ++ Op (short_jalr flags 0 5 (pos 0)) ∷ []
+
+-- ---- calls that return
+
+-- the stack pointer falls by what the callee took away
+abbrev pub after_call : IsaFlags → ℕ → List Slot
+after_call flags popped = stack_step_slots flags (fall popped)
+
+-- the record of a call of so many bytes that may be patched, where it is one
+abbrev pub patch_notes : Bool → ℕ → List Slot
+patch_notes false size = []
+patch_notes true size = Notes (event.PatchableCallSite size) ∷ []
+
+-- the records of a call where it returns: the values on the stack, where it has a map of them; and the call site, with the handlers
+-- where it has some
+abbrev pub map_notes : FrameLayout → Option UserStackMap → List Slot
+map_notes frame None = []
+map_notes frame (Some entries) = Notes (event.StackMap (sp_to_fp_of frame) entries) ∷ []
+
+abbrev pub return_notes : FrameLayout → Option UserStackMap → Option TryCallInfo → List Slot
+return_notes frame entries t = map_notes frame entries ++ Notes (site_event frame t) ∷ []
+
+-- a call that ends its block goes on by a jump
+abbrev pub try_slots : IsaFlags → Option TryCallInfo → List Slot
+try_slots flags None = []
+try_slots flags (Some t) = jump_to flags (Label t.continuation) ∷ []
+
+-- to a symbol, by way of ra, which links; and these slots after it
+abbrev pub call_slots : IsaFlags → FrameLayout → CallInfo ExternalName → List Slot → List Slot
+call_slots flags frame info last = call_to 1 1 info.dest ∷ return_notes frame info.stack_map info.try_call_info ++ (after_call flags info.callee_pop_size ++ (patch_notes info.patchable (call_size flags 8 info.callee_pop_size) ++ last))
+
+-- to an address in a register
+abbrev pub call_ind_slots : IsaFlags → FrameLayout → CallInfo Reg → List Slot → List Slot
+call_ind_slots flags frame info last = Op (short_jalr flags 1 (number_of info.dest) (pos 0)) ∷ return_notes frame info.stack_map info.try_call_info ++ (after_call flags info.callee_pop_size ++ last)
+
+-- slots alone
+abbrev pub slots_alone : List Slot → List Part
+slots_alone slots = Slots slots ∷ []
+
+-- a call that loads results, after an island where one is needed before the loads and the jump that goes on
+abbrev pub loading_parts : IsaFlags → (List Slot → List Slot) → List StackLoad → Option TryCallInfo → List Part
+loading_parts flags call loads t = Slots (call []) ∷ Ask (results_space loads) ∷ Slots (stack_load_slots flags loads ++ try_slots flags t) ∷ []
+
+-- a call, by what it loads
+abbrev pub call_parts : IsaFlags → (List Slot → List Slot) → List StackLoad → Option TryCallInfo → List Part
+call_parts flags call [] t = slots_alone (call (try_slots flags t))
+call_parts flags call (l ∷ loads) t = loading_parts flags call (l ∷ loads) t
+
+-- by the context, and the vector unit's setting known before the instruction
+abbrev pub parts_of : Context → EmitVState → Inst → List Part
+parts_of context setting Nop0 = []
+parts_of context setting Nop4 = slots_alone (Op (decoded_addi 0 0 (pos 0)) ∷ [])
+parts_of context setting EBreak = slots_alone (Op (short_ebreak context.flags) ∷ [])
+parts_of context setting SequencePoint = []
+parts_of context setting (Args args) = []
+parts_of context setting (Rets rets) = []
+parts_of context setting (DummyUse reg) = []
+parts_of context setting (EmitIsland needed_space) = Ask needed_space ∷ []
+parts_of context setting (RawData bytes) = slots_alone (Data bytes ∷ [])
+parts_of context setting (Lui rd imm) = slots_alone (Op (short_lui context.flags (number_of rd.reg) imm.value) ∷ [])
+parts_of context setting (Auipc rd imm) = slots_alone (Op (decoded (Base base.Auipc) (number_of rd.reg) 0 0 imm.value) ∷ [])
+parts_of context setting (LoadInlineConst rd type imm) = slots_alone (constant_slots context.flags (number_of rd.reg) type imm)
+parts_of context setting (AluRRR op rd rs1 rs2) = slots_alone (Op (short_rrr context.flags op (number_of rd.reg) (number_of rs1) (number_of rs2)) ∷ [])
+parts_of context setting (AluRRImm12 op rd rs imm) = slots_alone (Op (short_rri context.flags op (number_of rd.reg) (number_of rs) imm.value) ∷ [])
+parts_of context setting (Mov rd rm type) = slots_alone (move_slots context.flags (number_of rd.reg) (number_of rm))
+parts_of context setting (MovFromPReg rd rm) = slots_alone (move_slots context.flags (number_of rd.reg) rm.number)
+parts_of context setting (Extend rd rn signed from_bits to_bits) = slots_alone (extend_slots context.flags (number_of rd.reg) (number_of rn) signed from_bits)
+parts_of context setting (Select info) = slots_alone (select_slots context.flags info.dst info.condition info.x info.y)
+parts_of context setting (Load rd op flags from) = slots_alone (load_slots context.flags (number_of rd.reg) op flags.trap (location_of context.frame from))
+parts_of context setting (Store src op flags to) = slots_alone (store_slots context.flags op (number_of src) flags.trap (location_of context.frame to))
+parts_of context setting (LoadAddr rd mem) = slots_alone (address_slots context.flags (number_of rd.reg) (location_of context.frame mem))
+parts_of context setting (LabelAddress dst label) = slots_alone (address_slots context.flags (number_of dst.reg) (AtLabel label))
+parts_of context setting Ret = slots_alone (Op (short_jalr context.flags 0 1 (pos 0)) ∷ [])
+parts_of context setting (TrapIf cmp code) = slots_alone (trap_if_slots context.flags cmp code)
+parts_of context setting (Jal label) = slots_alone (jump_to context.flags (Label label) ∷ [])
+parts_of context setting (CondBr taken not_taken kind) = slots_alone (branch_slots context.flags kind taken not_taken)
+parts_of context setting (BrTable index tmp1 tmp2 targets) = Ask (table_space (length targets)) ∷ Slots (table_slots context.flags (number_of index) (number_of tmp1.reg) (number_of tmp2.reg) targets) ∷ []
+parts_of context setting (Udf code) = slots_alone (trap_slots context.flags code)
+parts_of context setting (Jalr rd base offset) = slots_alone (Op (short_jalr context.flags (number_of rd.reg) (number_of base) offset.value) ∷ [])
+parts_of context setting (Popcnt info) = slots_alone (count_slots context.flags (number_of info.sum.reg) (number_of info.tmp.reg) (number_of info.step.reg) (number_of info.rs) (bits_of info.ty))
+parts_of context setting (Cltz leading info) = slots_alone (zeros_slots context.flags leading (number_of info.sum.reg) (number_of info.tmp.reg) (number_of info.step.reg) (number_of info.rs) (bits_of info.ty))
+parts_of context setting (Brev8 info) = slots_alone (reverse_slots context.flags (number_of info.rd.reg) (number_of info.tmp.reg) (number_of info.tmp2.reg) (number_of info.step.reg) (number_of info.rs) (bits_of info.ty))
+parts_of context setting (StackProbeLoop guard_size probe_count tmp) = slots_alone (probe_slots context.flags (number_of tmp.reg) (low_word guard_size) (low_word probe_count))
+parts_of context setting (LoadExtNameGot rd name) = slots_alone (got_slots (number_of rd.reg) name)
+parts_of context setting (LoadExtNameNear rd name offset) = slots_alone (near_slots (number_of rd.reg) name offset)
+parts_of context setting (LoadExtNameFar rd name offset) = slots_alone (far_slots context.flags (number_of rd.reg) name offset)
+parts_of context setting (Call info) = call_parts context.flags (call_slots context.flags context.frame info) (loads_unless info.patchable info.defs) info.try_call_info
+parts_of context setting (CallInd info) = call_parts context.flags (call_ind_slots context.flags context.frame info) (result_loads info.defs) info.try_call_info
+parts_of context setting (ReturnCall info) = Ask (return_size context.flags context.frame info.new_stack_arg_size + 8) ∷ Slots (tail_slots context.flags context.frame info.new_stack_arg_size info.dest) ∷ []
+parts_of context setting (ReturnCallInd info) = Ask (return_size context.flags context.frame info.new_stack_arg_size + 4) ∷ Slots (t0_slots context.flags context.frame info.new_stack_arg_size) ∷ []
+parts_of context setting (Unwind inst) = slots_alone (Notes (event.Unwind inst) ∷ [])

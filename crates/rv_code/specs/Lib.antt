@@ -1,0 +1,15 @@
+pub mod Operations
+pub mod Usable
+pub mod Counts
+pub mod Choices
+pub mod Loops
+pub mod Probes
+pub mod Tables
+pub mod Slots
+pub mod Sites
+pub mod InstParts
+pub mod InstRuns
+pub mod Chains
+pub mod LargerMachine
+pub mod Immediates
+pub mod OwnCounts
