@@ -4,10 +4,9 @@ use Rattle.std.specs.Int.{cast_unsigned, w16}
 use Rattle.std.proofs.lemmas.Bool.Decides.{nat_tests}
 use Rattle.std.proofs.lemmas.Int.{ints}
 use Rattle.rv_imms.specs.Bits.{IsSigned}
-use Rattle.rv_imms.specs.Splitting.{value_of, IsSplittable}
 use Rattle.rv_machine.specs.State.{low64}
 pub use Rattle.rv_inst.proofs.Immediates.{upper_is, lower_is, splits, splits_not}
-use Rattle.rv_inst.specs.Addresses.{is_near, is_splittable}
+use Rattle.rv_inst.specs.Addresses.{is_near}
 
 pub near : (o : ℤ) → negsuc 2047 ≤ℤ o → o ≤ℤ pos 2047 → is_near o ≡ true
 near o low high = grind (arith, ints)

@@ -10,7 +10,6 @@ use Rattle.rv_ops.specs.declared.compare.IntegerCompare.{IntegerCompare}
 use Rattle.rv_ops.specs.declared.memory.LoadOP.{LoadOP}
 use Rattle.rv_ops.specs.declared.memory.LoadOP.TheVariants as loads
 use Rattle.rv_ops.specs.declared.memory.StoreOP.{StoreOP}
-use Rattle.rv_ops.specs.declared.memory.StoreOP.TheVariants as stores
 use Rattle.rv_ops.specs.Compare.{branch_of, rs1_of, rs2_of}
 use Rattle.rv_ops.specs.Operations.{is_exchanged, rrr_op, rri_op, immediate_of, kept_bits}
 use Rattle.rv_machine.specs.declared.decoding.Decoded.{Decoded}
@@ -20,11 +19,10 @@ use Rattle.rv_machine.specs.declared.ops.BaseOp.{BaseOp}
 use Rattle.rv_machine.specs.declared.ops.BaseOp.TheVariants as base
 use Rattle.rv_machine.specs.declared.ops.LoadOp.{LoadOp}
 use Rattle.rv_machine.specs.declared.ops.LoadOp.TheVariants as load
-use Rattle.rv_machine.specs.declared.ops.StoreOp.{StoreOp}
-use Rattle.rv_machine.specs.declared.ops.StoreOp.TheVariants as store
 use Rattle.rv_machine.specs.Opcodes.{JALR, LOAD, STORE, OP_IMM, OP_IMM_32, OP, OP_32}
 use Rattle.rv_machine.specs.Tables.{load_entry, store_entry, imm_entry, imm_32_entry, op_entry, op_32_entry}
 pub use Rattle.rv_machine.specs.Layout.{decoded}
+pub use Rattle.rv_ops.specs.Memory.{store_op}
 
 -- ---- by the fixed fields of a layout
 
@@ -71,12 +69,6 @@ load_op loads.Ld = load.Ld
 -- a load into rd, from an offset past a base
 abbrev pub decoded_load : LoadOP → ℕ → ℕ → ℤ → Decoded
 decoded_load op rd base offset = decoded (Load (load_op op)) rd base 0 offset
-
-abbrev pub store_op : StoreOP → StoreOp
-store_op stores.Sb = store.Sb
-store_op stores.Sh = store.Sh
-store_op stores.Sw = store.Sw
-store_op stores.Sd = store.Sd
 
 -- a store of a register, to an offset past a base
 abbrev pub decoded_store : StoreOP → ℕ → ℕ → ℤ → Decoded
