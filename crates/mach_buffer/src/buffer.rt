@@ -39,7 +39,7 @@ pub struct MachBuffer<L> {
 }
 
 impl<L: MachInstLabelUse> MachBuffer<L> {
-    ghost use Rattle.std.specs.Prelude.{◌≡◌, ◌≢◌, ℕ, ◌+◌, ◌*◌, ◌/◌, ◌%◌, ◌^◌, ◌<◌, ◌≤◌, ◌++◌, ◌∷◌, [], length, slice_get, OnOk, OnErr, IfOk, None, Some, true, false, ◌&&◌, nat_lt};
+    ghost use Rattle.std.specs.Prelude.{◌≡◌, ◌≢◌, ℕ, ◌+◌, ◌*◌, ◌/◌, ◌%◌, ◌^◌, ◌<◌, ◌≤◌, ◌++◌, ◌∷◌, [], length, slice_get, OnOk, OnErr, IfOk, None, Some, true, false, ◌&&◌, ◌||◌, nat_lt};
     ghost use Rattle.std.specs.Int.{to_le_bytes};
     ghost use mir.Syntax.{w16, w32, w64};
     ghost use Rattle.rv_base.specs.LabelUse.{code_limit};
@@ -477,19 +477,29 @@ impl<L: MachInstLabelUse> MachBuffer<L> {
         self.check()
     }
 
-    /// Returns whether an island is needed before so many bytes.
+    /// Returns whether an island is needed before so many bytes; of a spoiled buffer, that one is, so that the call which begins it
+    /// refuses.
     #[tactic(auto, unfolding(crate::specs::Buffer::IsSound))]
     pub fn island_needed(&self, distance: u32) -> bool
-        requires sound { IsSound L.kinds self.now }
-        ensures { result ≡ is_needed (length (bytes_of self.now)) distance (pending_of L.kinds self.now) }
+        requires sound { Unless (spoiled_of self.now) (IsSound L.kinds self.now) }
+        ensures { result ≡ (spoiled_of self.now || is_needed (length (bytes_of self.now)) distance (pending_of L.kinds self.now)) }
     {
         let start = self.code.bytes.len() as u64 + distance as u64 + ISLAND_MARGIN;
-        self.pending.is_tight(&self.code.uses, &self.labels, start)
+        self.spoiled || self.pending.is_tight(&self.code.uses, &self.labels, start)
     }
 
-    /// Returns whether so many bytes, and what is still to be put, end below the limit, and half of the inner labels are left.
-    #[tactic(auto, unfolding(crate::specs::Buffer::IsSound))]
+    /// Returns whether so many bytes, and what is still to be put, end below the limit, and half of the inner labels are left; of a
+    /// spoiled buffer, that they do, so that the call which puts them refuses.
     pub fn has_room(&self, part: u64) -> bool
+        requires sound { Unless (spoiled_of self.now) (IsSound L.kinds self.now) }
+        ensures { result ≡ (spoiled_of self.now || nat_lt (allocated_of self.now) (inner_count / 2) && nat_lt (length (bytes_of self.now) + part + reserve_of (shape_of self.now) + 8 * length (pending_of L.kinds self.now) + island_margin + 2) code_limit) }
+    {
+        self.spoiled || self.fits(part)
+    }
+
+    /// Returns what `has_room` does of a buffer that isn't spoiled.
+    #[tactic(auto, unfolding(crate::specs::Buffer::IsSound))]
+    fn fits(&self, part: u64) -> bool
         requires sound { IsSound L.kinds self.now }
         ensures { result ≡ (nat_lt (allocated_of self.now) (inner_count / 2) && nat_lt (length (bytes_of self.now) + part + reserve_of (shape_of self.now) + 8 * length (pending_of L.kinds self.now) + island_margin + 2) code_limit) }
     {

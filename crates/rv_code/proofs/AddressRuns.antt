@@ -1,8 +1,7 @@
 -- Offsets and addresses that are computed in a register, exactly.
-use Rattle.std.proofs.Common.{◌≡◌, ◌≢◌, ℕ, zero, suc, ◌+◌, ◌*◌, ◌%◌, ◌^◌, ◌<◌, ◌≤◌, Bool, true, false, ℤ, pos, List, [], ◌∷◌, ◌++◌, length, Some, arith, refl, ap, sym, subst, ◌∙◌, lit<, eqb-true}
+use Rattle.std.proofs.Common.{◌≡◌, ◌≢◌, ℕ, ◌+◌, ◌*◌, ◌%◌, ◌^◌, ◌<◌, ◌≤◌, Bool, true, false, ℤ, pos, List, [], ◌∷◌, ◌++◌, length, Some, arith, refl, ap, sym, subst, ◌∙◌, lit<, eqb-true}
 use Rattle.std.specs.Prelude.{if◌then◌else◌, ◌==◌, unwrap_or, slice_index}
 use Rattle.std.specs.Int.{to_le_bytes, w64}
-use Rattle.std.proofs.lemmas.List.{set-set}
 use Rattle.std.proofs.lemmas.Option.{same_Some}
 use Rattle.rv_base.specs.LabelUse.{code_limit}
 use Rattle.rv_base.specs.declared.flags.IsaFlags.{IsaFlags}
@@ -18,6 +17,7 @@ use Rattle.rv_machine.specs.Effects.{act}
 use Rattle.rv_machine.specs.Memory.{load_bytes, load_result}
 use Rattle.rv_machine.specs.State.{Memory, State, IsState, Values, byte, reg, set_reg, wrap, low64, at}
 use Rattle.rv_encode.specs.Operations.{decoded, load_op, decoded_load}
+pub use Rattle.rv_inst.proofs.Sequences.{set_twice}
 use Rattle.rv_inst.specs.Addresses.{Location, Based, AtLabel, AtConstant, is_near, is_splittable}
 use Rattle.rv_inst.specs.declared.label_use.LabelUse.TheVariants.{PCRelHi20}
 use Rattle.mach_uses.specs.Labels.{constant_label}
@@ -60,11 +60,6 @@ stands_split site allocated from (Address name addend ∷ slots) more s = let r 
 stands_split site allocated from (CallTo name ops ∷ slots) more s = let r = stands_split site allocated (from + 8) slots more s.1 in ((s.0, r.0), subst (λ n. StandsIn site allocated n more) (omega arith) r.1)
 
 -- ---- one register, written
-
--- what is written twice is written last
-pub set_twice : (v : Values) (n x y : ℕ) → set_reg (set_reg v n x) n y ≡ set_reg v n y
-set_twice v zero x y = refl
-set_twice v (suc n) x y = λ i. record { regs = set-set v.regs n x y i; mem = v.mem }
 
 -- the machine goes on over so many bytes, and a register holds a number
 abbrev pub Sets : IsaFlags → ℕ → State → ℕ → ℕ → Type 0

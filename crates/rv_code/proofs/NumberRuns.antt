@@ -1,14 +1,13 @@
 -- A number is put into a register.
 use Rattle.std.proofs.Common.{◌≡◌, ℕ, ◌+◌, ◌%◌, ◌^◌, ◌<◌, Bool, true, false, ℤ, Some, arith, refl, ap, subst, ◌∙◌, eqb-true}
 use Rattle.std.specs.Prelude.{◌==◌}
-use Rattle.std.specs.Int.{cast_signed, w64}
 use Rattle.std.proofs.lemmas.Bool.{and_parts}
-use Rattle.std.proofs.lemmas.Int.{of_z-to_z}
 use Rattle.rv_base.specs.declared.flags.IsaFlags.{IsaFlags}
 use Rattle.rv_ops.specs.declared.alu.AluOPRRI.TheVariants.{Addi}
 use Rattle.rv_machine.specs.State.{State, IsState, Values, set_reg, wrap, low64, at}
 use Rattle.rv_inst.specs.Addresses.{is_splittable}
 use Rattle.rv_inst.specs.Forms.{short_rri}
+pub use Rattle.rv_inst.proofs.Sequences.{bits_back}
 use Rattle.rv_code.specs.Chains.{IsAt}
 use Rattle.rv_code.specs.Immediates.{upper_of, lower_of}
 use Rattle.rv_code.specs.InstParts.{number_slots}
@@ -63,7 +62,3 @@ number_comes {site} {s = s} After allocated rd x z some lt is stands k after =
     let n = size_of (number_slots flags rd z) in
     let goes = number_goes allocated rd z some lt k.is_state (shorter n k.here (omega arith)) stands in
     sets_comes After n rd x (number_even flags rd z) lt (wrapped_fits (low64 z) x is) (subst (λ m. Sets flags n s rd m) is goes) k after
-
--- 64 bits, by the number that they are in two's complement
-pub bits_back : (n : ℕ) → n < 2 ^ 64 → wrap (low64 (cast_signed w64 n)) ≡ n
-bits_back n lt = let same = of_z-to_z w64 n lt in omega arith

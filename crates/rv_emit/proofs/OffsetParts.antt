@@ -4,22 +4,15 @@ use Rattle.std.specs.Int.{cast_unsigned, w16}
 use Rattle.std.proofs.lemmas.Bool.Decides.{nat_tests}
 use Rattle.std.proofs.lemmas.Int.{ints}
 use Rattle.rv_imms.specs.Bits.{IsSigned}
-use Rattle.rv_imms.specs.Splitting.{value_of, IsSplittable}
 use Rattle.rv_machine.specs.State.{low64}
-pub use Rattle.rv_inst.proofs.Immediates.{upper_is, lower_is}
-use Rattle.rv_inst.specs.Addresses.{is_near, is_splittable}
+pub use Rattle.rv_inst.proofs.Immediates.{upper_is, lower_is, splits, splits_not}
+use Rattle.rv_inst.specs.Addresses.{is_near}
 
 pub near : (o : ℤ) → negsuc 2047 ≤ℤ o → o ≤ℤ pos 2047 → is_near o ≡ true
 near o low high = grind (arith, ints)
 
 pub far : (o : ℤ) → ¬ (IsSigned 12 o) → is_near o ≡ false
 far o h = grind (arith, ints)
-
-pub splits : (o upper lower : ℤ) → negsuc 524287 ≤ℤ upper → upper ≤ℤ pos 524287 → negsuc 2047 ≤ℤ lower → lower ≤ℤ pos 2047 → value_of upper lower ≡ o → is_splittable o ≡ true
-splits o upper lower a b c d e = grind (arith, ints)
-
-pub splits_not : (o : ℤ) → ¬ (IsSplittable o) → is_splittable o ≡ false
-splits_not o h = grind (arith, ints)
 
 pub low64_zero : (z : ℤ) → z ≡ pos 0 → (low64 z == 0) ≡ true
 low64_zero z e = ap (λ y. low64 y == 0) e

@@ -37,6 +37,11 @@ abbrev pub Holds : IsaFlags → Encoded → Decoded → Type 0
 Holds flags (Half half) d = IsHalf flags half d
 Holds flags (Word word) d = IsWord flags word d
 
+-- what holds of one of sixteen bits
+abbrev pub WhereHalf : Encoded → (ℕ → Type 0) → Type 0
+WhereHalf (Half half) P = P half
+WhereHalf (Word word) P = ⊤
+
 -- how long an operation is: two bytes or four
 pub record IsSizeOf (d : Decoded) (size : ℕ) : Type 0 where
   pub is : size ≡ d.len

@@ -4,8 +4,8 @@
 ghost use Rattle.std.specs.Prelude.{◌≡◌};
 ghost use Rattle.rv_base.specs.Regs.{number_of};
 ghost use Rattle.rv_encode.specs.Registers.{IsIntRegister};
-ghost use Rattle.rv_inst.specs.Forms.{is_short, short_rrr, short_rri, short_lui, short_jalr, short_ebreak, short_load, short_store};
-ghost use Rattle.rv_emit.specs.Encoded.{Holds};
+ghost use Rattle.rv_inst.specs.Forms.{is_short, IsAddi16spFirst, short_rrr, short_rri, short_lui, short_jalr, short_ebreak, short_load, short_store};
+ghost use Rattle.rv_emit.specs.Encoded.{Holds, WhereHalf};
 
 use crate::compressed_immediates::{
     compressed_ebreak, compressed_jalr, compressed_lui, compressed_rri,
@@ -56,7 +56,8 @@ pub(crate) fn encoded_rri(
 ) -> Encoded
     requires rd { IsIntRegister rd.reg }
     requires rs { IsIntRegister rs }
-    ensures { Holds flags result (short_rri flags op (number_of rd.reg) (number_of rs) imm12.value) }
+    ensures holds { Holds flags result (short_rri flags op (number_of rd.reg) (number_of rs) imm12.value) }
+    ensures first { op ≡ AluOPRRI.Addi → WhereHalf result (IsAddi16spFirst (number_of rd.reg) (number_of rs) imm12.value) }
 {
     match compressed_rri(flags, op, rd, rs, imm12) {
         Some(half) => Encoded::Half(half),

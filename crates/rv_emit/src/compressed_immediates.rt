@@ -1,7 +1,7 @@
 //! Forms of operations of a register and an immediate, of `lui`, and of `jalr`: "Integer Computational Instructions" and "Control
 //! Transfer Instructions" of "C", and "Zcb".
 
-ghost use Rattle.std.specs.Prelude.{◌≡◌, ◌^◌, ◌*◌, ◌*ℤ◌, true, false, pos, negsuc, MatchOption, Some};
+ghost use Rattle.std.specs.Prelude.{◌≡◌, ◌^◌, ◌*◌, ◌*ℤ◌, true, false, pos, negsuc, MatchOption, Some, IfSome};
 ghost use Rattle.rv_base.specs.declared.flags.IsaFlags.{IsaFlags as Flags};
 ghost use Rattle.rv_base.specs.Regs.{number_of};
 ghost use Rattle.rv_imms.specs.Bits.{low_bits};
@@ -11,7 +11,7 @@ ghost use Rattle.rv_machine.specs.declared.ops.AluOp.TheVariants.{Int};
 ghost use Rattle.rv_machine.specs.declared.ops.IntOp.TheVariants.{Addi, Andi};
 ghost use Rattle.rv_machine.specs.Layout.{compressed};
 ghost use Rattle.rv_encode.specs.Registers.{IsIntRegister, IsShortRegister};
-ghost use Rattle.rv_inst.specs.Forms.{is_equal, is_six_bits, is_multiple, is_from_to, is_scaled, is_move, is_addi16sp, is_addi4spn, is_li, is_addi, shift_amount, form_where, addi_form, ori_form, addiw_form, slli_form, right_shift_form, andi_form, not_form, extend_form, form_rri, form_lui, form_jalr, form_ebreak};
+ghost use Rattle.rv_inst.specs.Forms.{is_equal, is_six_bits, is_multiple, is_from_to, is_scaled, is_move, is_addi16sp, is_addi4spn, is_li, is_addi, shift_amount, form_where, IsAddi16spFirst, addi_form, ori_form, addiw_form, slli_form, right_shift_form, andi_form, not_form, extend_form, form_rri, form_lui, form_jalr, form_ebreak};
 ghost use Rattle.rv_emit.specs.Encoded.{IsForm, IsSixBits, right_shift, extension};
 
 use crate::compressed::{number, reg_is_compressible};
@@ -33,7 +33,8 @@ pub(crate) fn compressed_rri(
 ) -> Option<u16>
     requires rd { IsIntRegister rd.reg }
     requires rs { IsIntRegister rs }
-    ensures { IsForm flags result (form_rri flags op (number_of rd.reg) (number_of rs) imm12.value) }
+    ensures form { IsForm flags result (form_rri flags op (number_of rd.reg) (number_of rs) imm12.value) }
+    ensures first { op ≡ AluOPRRI.Addi → IfSome result (IsAddi16spFirst (number_of rd.reg) (number_of rs) imm12.value) }
 {
     if !flags.has_zca {
         return None;
@@ -204,7 +205,8 @@ fn is_addi(rd: Reg, rs: Reg, imm12: Imm12) -> bool
 fn compressed_addi(rd: WritableReg, rs: Reg, imm12: Imm12) -> Option<u16>
     requires rd { IsIntRegister rd.reg }
     requires rs { IsIntRegister rs }
-    ensures { (flags : Flags) → flags.has_zca ≡ true → IsForm flags result (addi_form (number_of rd.reg) (number_of rs) imm12.value) }
+    ensures form { (flags : Flags) → flags.has_zca ≡ true → IsForm flags result (addi_form (number_of rd.reg) (number_of rs) imm12.value) }
+    ensures first { IfSome result (IsAddi16spFirst (number_of rd.reg) (number_of rs) imm12.value) }
 {
     if is_move(rd.reg, rs, imm12) {
         Some(encode_cr_type(CrOp::CMv, rd, rs))

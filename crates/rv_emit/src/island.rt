@@ -1,6 +1,6 @@
 //! Islands: where one is needed, a jump over it, the veneers of all that is pending, and the constants that don't stand yet.
 
-ghost use Rattle.std.specs.Prelude.{◌≡◌, ◌+◌, ◌*◌, ◌<◌, ◌^◌, length, IfOk, OnOk, OnErr, true};
+ghost use Rattle.std.specs.Prelude.{◌≡◌, ◌+◌, ◌*◌, ◌<◌, ◌^◌, length, IfOk, OnOk, OnErr, true, false};
 ghost use Rattle.rv_base.specs.LabelUse.{code_limit};
 ghost use Rattle.mach_uses.specs.Reach.{CanReach};
 ghost use Rattle.mach_buffer.specs.Buffer.{shape_of, bytes_of, allocated_of, spoiled_of};
@@ -39,6 +39,7 @@ fn put_island(sink: &mut MachBuffer<LabelUse>) -> Result<(), OutOfMemory>
     requires few { allocated_of sink.old < inner_count }
     requires room { length (bytes_of sink.old) + reserve_of (shape_of sink.old) + 8 * length (pending sink.old) + 32 < code_limit }
     ensures island { OnOk result (AppendsIsland sink.old sink.new) }
+    ensures unspoiled { OnOk result (spoiled_of sink.old ≡ false) }
     ensures refused { OnErr result (spoiled_of sink.new ≡ true) }
 {
     let after_island = sink.get_label()?;

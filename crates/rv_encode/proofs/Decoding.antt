@@ -62,7 +62,7 @@ lui_decodes flags w rd imm h = opcode_decodes flags w LUI h.opcode_is refl ∙ (
 pub auipc_decodes : (flags : IsaFlags) (w rd : ℕ) (imm : Imm20) → IsUType w AUIPC rd (low_bits (2 ^ 20) imm.value) → decode flags w ≡ Some (decoded (Base base.Auipc) rd 0 0 imm.value)
 auipc_decodes flags w rd imm h = opcode_decodes flags w AUIPC h.opcode_is refl ∙ (λ i. Some (decoded (Base base.Auipc) (h.rd_is i) 0 0 (upper_imm w imm h.imm_is i)))
 
-i_imm_is : (w : ℕ) (imm : Imm12) → i_bits w ≡ low_bits (2 ^ 12) imm.value → i_imm w ≡ imm.value
+pub i_imm_is : (w : ℕ) (imm : Imm12) → i_bits w ≡ low_bits (2 ^ 12) imm.value → i_imm w ≡ imm.value
 i_imm_is w imm h = ap (signed (2 ^ 11)) h ∙ signed-low_bits (2 ^ 11) imm.value (omega (arith, ints)) (omega (arith, ints))
 
 pub jalr_decodes : (flags : IsaFlags) (w rd rs : ℕ) (imm : Imm12) → IsIType w JALR rd 0 rs (low_bits (2 ^ 12) imm.value) → decode flags w ≡ Some (decoded (Base base.Jalr) rd rs 0 imm.value)

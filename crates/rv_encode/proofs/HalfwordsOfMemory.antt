@@ -18,21 +18,33 @@ use Rattle.rv_ops.specs.declared.memory.LoadOP.{LoadOP}
 use Rattle.rv_ops.specs.declared.memory.LoadOP.TheVariants as loads
 use Rattle.rv_ops.specs.Compressed.{space_bits, ci_space, ci_funct3, css_space, css_funct3, cs_space, cs_funct3, cl_space, cl_funct3, zcb_space, zcb_funct6}
 use Rattle.rv_encode.specs.Layouts.{IsCiType, IsCssType, IsClType, IsClbType, IsClhType}
-use Rattle.rv_encode.specs.Compressed.{sp_load, decoded_sp_load, decoded_css, decoded_cs, decoded_cl, decoded_zcb, zcb_needs}
+use Rattle.rv_ops.specs.Memory.{load_size}
+use Rattle.rv_encode.specs.Compressed.{read_of, sp_load, decoded_sp_load, decoded_css, decoded_cs, decoded_cl, decoded_zcb, zcb_needs}
 use Rattle.rv_encode.proofs.Halfwords.{quadrant_decodes, quadrant_is, two_guards, nonzero, both}
 
 -- ---- past the stack pointer
 
-pub lwsp_decodes : (flags : IsaFlags) (op : CiOp) (load : LoadOP) (half rd n : ℕ) → op ≡ ci.CLwsp → flags.has_zca ≡ true → sp_load op ≡ Some load → 0 < rd → IsCiType lwsp_imm half (space_bits (ci_space op)) (4 * n) rd (ci_funct3 op) → decode_half flags half ≡ Some (decoded_sp_load load rd n)
-lwsp_decodes flags ci.CLwsp loads.Lw half rd n is zca loaded some h = quadrant_decodes flags half _ zca h.op_is ∙ rw (h.funct3_is, h.rd_is, nonzero rd some, h.imm_is)
-lwsp_decodes flags ci.CLwsp _ half rd n is zca loaded some h = absurd (cc)
-lwsp_decodes flags _ load half rd n is zca loaded some h = absurd (cc)
+-- the layout of a load past the stack pointer
+abbrev IsSpLoad : CiOp → ℕ → ℕ → ℕ → Type 0
+IsSpLoad op half rd n = (load : LoadOP) → sp_load op ≡ Some load → IsCiType (read_of op) half (space_bits (ci_space op)) (load_size load * n) rd (ci_funct3 op)
 
-pub ldsp_decodes : (flags : IsaFlags) (op : CiOp) (load : LoadOP) (half rd n : ℕ) → op ≢ ci.CLwsp → flags.has_zca ≡ true → sp_load op ≡ Some load → 0 < rd → IsCiType ldsp_imm half (space_bits (ci_space op)) (8 * n) rd (ci_funct3 op) → decode_half flags half ≡ Some (decoded_sp_load load rd n)
-ldsp_decodes flags ci.CLdsp loads.Ld half rd n other zca loaded some h = quadrant_decodes flags half _ zca h.op_is ∙ rw (h.funct3_is, h.rd_is, nonzero rd some, h.imm_is)
-ldsp_decodes flags ci.CLdsp _ half rd n other zca loaded some h = absurd (cc)
-ldsp_decodes flags ci.CLwsp load half rd n other zca loaded some h = absurd (other refl)
-ldsp_decodes flags _ load half rd n other zca loaded some h = absurd (cc)
+pub lwsp_layout : (op : CiOp) (half rd n : ℕ) → op ≡ ci.CLwsp → IsCiType lwsp_imm half (space_bits (ci_space op)) (4 * n) rd (ci_funct3 op) → IsSpLoad op half rd n
+lwsp_layout ci.CLwsp half rd n is h loads.Lw loaded = h
+lwsp_layout ci.CLwsp half rd n is h _ loaded = absurd (cc)
+lwsp_layout _ half rd n is h load loaded = absurd (cc)
+
+pub ldsp_layout : (op : CiOp) (half rd n : ℕ) → op ≢ ci.CLwsp → IsCiType ldsp_imm half (space_bits (ci_space op)) (8 * n) rd (ci_funct3 op) → IsSpLoad op half rd n
+ldsp_layout ci.CLdsp half rd n other h loads.Ld loaded = h
+ldsp_layout ci.CLdsp half rd n other h _ loaded = absurd (cc)
+ldsp_layout ci.CLwsp half rd n other h load loaded = absurd (other refl)
+ldsp_layout _ half rd n other h load loaded = absurd (cc)
+
+pub sp_load_decodes : (flags : IsaFlags) (op : CiOp) (load : LoadOP) (half rd n : ℕ) → flags.has_zca ≡ true → sp_load op ≡ Some load → 0 < rd → IsCiType (read_of op) half (space_bits (ci_space op)) (load_size load * n) rd (ci_funct3 op) → decode_half flags half ≡ Some (decoded_sp_load load rd n)
+sp_load_decodes flags ci.CLwsp loads.Lw half rd n zca loaded some h = quadrant_decodes flags half _ zca h.op_is ∙ rw (h.funct3_is, h.rd_is, nonzero rd some, h.imm_is)
+sp_load_decodes flags ci.CLwsp _ half rd n zca loaded some h = absurd (cc)
+sp_load_decodes flags ci.CLdsp loads.Ld half rd n zca loaded some h = quadrant_decodes flags half _ zca h.op_is ∙ rw (h.funct3_is, h.rd_is, nonzero rd some, h.imm_is)
+sp_load_decodes flags ci.CLdsp _ half rd n zca loaded some h = absurd (cc)
+sp_load_decodes flags _ load half rd n zca loaded some h = absurd (cc)
 
 pub swsp_decodes : (flags : IsaFlags) (op : CssOp) (half rs2 n : ℕ) → op ≡ css.CSwsp → flags.has_zca ≡ true → IsCssType swsp_imm half (space_bits (css_space op)) rs2 (4 * n) (css_funct3 op) → decode_half flags half ≡ Some (decoded_css op rs2 n)
 swsp_decodes flags css.CSwsp half rs2 n is zca h = quadrant_decodes flags half _ zca h.op_is ∙ rw (h.funct3_is, h.rs2_is, h.imm_is)

@@ -3,3 +3,4 @@ pub mod Numbers
 pub mod Tables
 pub mod Halfwords
 pub mod HalfwordsOfMemory
+pub mod ByFields

@@ -35,6 +35,7 @@ use Rattle.rv_machine.specs.declared.ops.IntOp.TheVariants as int
 use Rattle.rv_machine.specs.declared.ops.MulOp.TheVariants as mul
 use Rattle.rv_machine.specs.declared.ops.BitOp.TheVariants as bit
 use Rattle.rv_machine.specs.Layout.{compressed}
+use Rattle.rv_machine.specs.Compressed.{ci_bits, addi16sp_bits, lwsp_imm, ldsp_imm}
 use Rattle.rv_encode.specs.Operations.{load_op, store_op}
 
 -- ---- CR
@@ -99,7 +100,18 @@ sp_load CSlli = None
 sp_load CLwsp = Some loads.Lw
 sp_load CLdsp = Some loads.Ld
 
--- its immediate counts what the load reads
+-- how the halfword's immediate is read
+abbrev pub read_of : CiOp → ℕ → ℕ
+read_of CAddi = ci_bits
+read_of CAddiw = ci_bits
+read_of CLi = ci_bits
+read_of CAddi16sp = addi16sp_bits
+read_of CLui = ci_bits
+read_of CSlli = ci_bits
+read_of CLwsp = lwsp_imm
+read_of CLdsp = ldsp_imm
+
+-- a load's immediate counts what it reads
 abbrev pub decoded_sp_load : LoadOP → ℕ → ℕ → Decoded
 decoded_sp_load load rd imm = compressed (Load (load_op load)) rd 2 0 (pos (load_size load * imm))
 

@@ -1,5 +1,6 @@
 -- The operations of the machine that instructions are, with their operands.
-use Rattle.std.specs.Prelude.{ℕ, if◌then◌else◌, ℤ, pos}
+use Rattle.std.specs.Prelude.{ℕ, ◌==◌, if◌then◌else◌, ℤ, pos, Option, Some, None}
+use Rattle.std.specs.Option.{option_map}
 use Rattle.rv_base.specs.Regs.{number_of}
 use Rattle.rv_ops.specs.declared.alu.AluOPRRR.{AluOPRRR}
 use Rattle.rv_ops.specs.declared.alu.AluOPRRI.{AluOPRRI}
@@ -9,18 +10,44 @@ use Rattle.rv_ops.specs.declared.compare.IntegerCompare.{IntegerCompare}
 use Rattle.rv_ops.specs.declared.memory.LoadOP.{LoadOP}
 use Rattle.rv_ops.specs.declared.memory.LoadOP.TheVariants as loads
 use Rattle.rv_ops.specs.declared.memory.StoreOP.{StoreOP}
-use Rattle.rv_ops.specs.declared.memory.StoreOP.TheVariants as stores
 use Rattle.rv_ops.specs.Compare.{branch_of, rs1_of, rs2_of}
 use Rattle.rv_ops.specs.Operations.{is_exchanged, rrr_op, rri_op, immediate_of, kept_bits}
 use Rattle.rv_machine.specs.declared.decoding.Decoded.{Decoded}
+use Rattle.rv_machine.specs.declared.ops.MOp.{MOp}
 use Rattle.rv_machine.specs.declared.ops.MOp.TheVariants.{Base, Load, Store, Alu}
 use Rattle.rv_machine.specs.declared.ops.BaseOp.{BaseOp}
 use Rattle.rv_machine.specs.declared.ops.BaseOp.TheVariants as base
 use Rattle.rv_machine.specs.declared.ops.LoadOp.{LoadOp}
 use Rattle.rv_machine.specs.declared.ops.LoadOp.TheVariants as load
-use Rattle.rv_machine.specs.declared.ops.StoreOp.{StoreOp}
-use Rattle.rv_machine.specs.declared.ops.StoreOp.TheVariants as store
+use Rattle.rv_machine.specs.Opcodes.{JALR, LOAD, STORE, OP_IMM, OP_IMM_32, OP, OP_32}
+use Rattle.rv_machine.specs.Tables.{load_entry, store_entry, imm_entry, imm_32_entry, op_entry, op_32_entry}
 pub use Rattle.rv_machine.specs.Layout.{decoded}
+pub use Rattle.rv_ops.specs.Memory.{store_op}
+
+-- ---- by the fixed fields of a layout
+
+-- the operation of layout R with these fields, where they are one's
+abbrev pub r_op : ℕ → ℕ → ℕ → Option MOp
+r_op opcode funct3 funct7 =
+    if opcode == OP then option_map Alu (op_entry funct7 funct3) else
+    if opcode == OP_32 then option_map Alu (op_32_entry funct7 funct3) else
+    None
+
+-- the operation of layout I with these fields whose immediate is a number of twelve bits, where they are one's; shifts and
+-- operations of one source have fixed fields in the immediate, too
+abbrev pub i_op : ℕ → ℕ → Option MOp
+i_op opcode funct3 =
+    if opcode == JALR then (if funct3 == 0 then Some (Base base.Jalr) else None) else
+    if opcode == LOAD then option_map Load (load_entry funct3) else
+    if opcode == OP_IMM then option_map Alu (imm_entry funct3) else
+    if opcode == OP_IMM_32 then option_map Alu (imm_32_entry funct3) else
+    None
+
+-- the operation of layout S with these fields, where they are one's
+abbrev pub s_op : ℕ → ℕ → Option MOp
+s_op opcode funct3 = if opcode == STORE then option_map Store (store_entry funct3) else None
+
+-- ---- by an instruction's name
 
 -- an operation of two registers; sgt and sgtu have their sources exchanged
 abbrev pub decoded_rrr : AluOPRRR → ℕ → ℕ → ℕ → Decoded
@@ -42,12 +69,6 @@ load_op loads.Ld = load.Ld
 -- a load into rd, from an offset past a base
 abbrev pub decoded_load : LoadOP → ℕ → ℕ → ℤ → Decoded
 decoded_load op rd base offset = decoded (Load (load_op op)) rd base 0 offset
-
-abbrev pub store_op : StoreOP → StoreOp
-store_op stores.Sb = store.Sb
-store_op stores.Sh = store.Sh
-store_op stores.Sw = store.Sw
-store_op stores.Sd = store.Sd
 
 -- a store of a register, to an offset past a base
 abbrev pub decoded_store : StoreOP → ℕ → ℕ → ℤ → Decoded

@@ -13,9 +13,8 @@ IsRealRegister r = IsSome (real_of r)
 abbrev pub IsIntRegister : Reg → Type 0
 IsIntRegister r = IsSomeAnd (real_of r) (λ p. p.class ≡ Int)
 
--- one that three bits of a halfword name: from x8 to x15
+-- one that three bits of a halfword name, of any file: from 8 to 15
 pub record IsShort (p : PReg) : Type 0 where
-  pub is_int : p.class ≡ Int
   pub low : 8 ≤ p.number
   pub high : p.number < 16
 

@@ -1,6 +1,6 @@
 //! The halfwords of compressed operations of registers and immediates, and of jumps: "RVC Instruction Set Listings" and "Zcb".
 
-ghost use Rattle.std.specs.Prelude.{◌≡◌, ◌≢◌, ◌<◌, ◌+◌, ◌*◌, ◌%◌, ◌/◌, ◌^◌, ◌*ℤ◌, nat_eq, pos, true, false, Some, None};
+ghost use Rattle.std.specs.Prelude.{◌≡◌, ◌≢◌, ◌<◌, ◌+◌, ◌-◌, ◌*◌, ◌%◌, ◌/◌, ◌^◌, ◌*ℤ◌, nat_eq, pos, true, false, Some, None};
 ghost use Rattle.rv_base.specs.declared.flags.IsaFlags.{IsaFlags};
 ghost use Rattle.rv_base.specs.Regs.{number_of};
 ghost use Rattle.rv_imms.specs.Bits.{low_bits};
@@ -10,8 +10,9 @@ ghost use Rattle.rv_machine.specs.declared.ops.AluOp.TheVariants.{Int};
 ghost use Rattle.rv_machine.specs.declared.ops.IntOp.TheVariants.{Addi};
 ghost use Rattle.rv_machine.specs.Layout.{compressed};
 ghost use Rattle.rv_machine.specs.Compressed.{ci_bits, addi16sp_bits, decode_half};
-ghost use Rattle.rv_ops.specs.Compressed.{space_bits, cr_space, cr_funct4, ci_space, ci_funct3, cj_space, cj_funct3};
-ghost use Rattle.rv_encode.specs.Registers.{IsIntRegister, IsShortRegister};
+ghost use Rattle.rv_ops.specs.declared.compressed.CiOp.TheVariants.{CAddi16sp};
+ghost use Rattle.rv_ops.specs.Compressed.{space_bits, cr_space, cr_funct4, ci_space, ci_funct3, ciw_space, ciw_funct3, cj_space, cj_funct3};
+ghost use Rattle.rv_encode.specs.Registers.{IsRealRegister, IsShortRegister};
 ghost use Rattle.rv_encode.specs.Layouts.{IsEven, IsCrType, IsCaType, IsCiType, IsCiwType, IsCbType, IsCuType, IsCjType, IsCjParts, cj_low_of, cj_high_of};
 ghost use Rattle.rv_encode.specs.Compressed.{DecodesCr, DecodesCr2, ca_op, ca_needs, DecodesCi, decoded_cb, decoded_cszn, cszn_needs};
 
@@ -20,7 +21,7 @@ use rv_base::{Reg, WritableReg, stack_reg};
 use rv_imms::{Imm6, Imm12};
 use rv_ops::{CaOp, CbOp, CiOp, CiwOp, CjOp, CrOp, CsznOp};
 
-/// The number of a register from x8 to x15, as three bits of a halfword hold it: less 8.
+/// The number of a register from 8 to 15, of any file, as three bits of a halfword hold it: less 8.
 pub fn reg_to_compressed_gpr_num(m: Reg) -> u32
     requires { IsShortRegister m }
     ensures value { 8 + result ≡ number_of m }
@@ -29,15 +30,15 @@ pub fn reg_to_compressed_gpr_num(m: Reg) -> u32
     reg_to_gpr_num(m) - 8
 }
 
-/// Layout CR, of integer registers: `c.mv` and `c.add` of a source other than x0, and `c.ebreak` of x0 and x0.
+/// Layout CR, of real registers: `c.mv` and `c.add` of a source other than x0, and `c.ebreak` of x0 and x0.
 ///
 /// ```text
 /// 15    12 11     7 6   2 1  0
 /// | funct4 | rd/rs1 | rs2 | op |
 /// ```
 pub fn encode_cr_type(op: CrOp, rd: WritableReg, rs2: Reg) -> u16
-    requires rd { IsIntRegister rd.reg }
-    requires rs2 { IsIntRegister rs2 }
+    requires rd { IsRealRegister rd.reg }
+    requires rs2 { IsRealRegister rs2 }
     ensures layout { IsCrType result (space_bits (cr_space op)) (number_of rs2) (number_of rd.reg) (cr_funct4 op) }
     ensures decodes { (flags : IsaFlags) → flags.has_zca ≡ true → DecodesCr op (number_of rd.reg) (number_of rs2) (decode_half flags result) }
     ensures without { (flags : IsaFlags) → flags.has_zca ≡ false → decode_half flags result ≡ None }
@@ -51,14 +52,14 @@ pub fn encode_cr_type(op: CrOp, rd: WritableReg, rs2: Reg) -> u16
     )
 }
 
-/// Layout CR, of one integer register, which is only read, and of x0: `c.jr` and `c.jalr` of a register other than x0.
+/// Layout CR, of one real register, which is only read, and of x0: `c.jr` and `c.jalr` of a register other than x0.
 ///
 /// ```text
 /// 15    12 11  7 6 2 1  0
 /// | funct4 | rs1 | 0 | op |
 /// ```
 pub fn encode_cr2_type(op: CrOp, rs1: Reg) -> u16
-    requires { IsIntRegister rs1 }
+    requires { IsRealRegister rs1 }
     ensures layout { IsCrType result (space_bits (cr_space op)) 0 (number_of rs1) (cr_funct4 op) }
     ensures decodes { (flags : IsaFlags) → flags.has_zca ≡ true → DecodesCr2 op (number_of rs1) (decode_half flags result) }
     ensures without { (flags : IsaFlags) → flags.has_zca ≡ false → decode_half flags result ≡ None }
@@ -105,7 +106,7 @@ pub fn encode_cj_type(op: CjOp, imm: Imm12) -> u16
     cj_half(op.op().bits(), imm.bits(), op.funct3())
 }
 
-/// Layout CI, of an integer register: `c.addi`, `c.li`, `c.slli` by the six bits of the immediate, `c.addiw` of a register
+/// Layout CI, of a real register: `c.addi`, `c.li`, `c.slli` by the six bits of the immediate, `c.addiw` of a register
 /// other than x0, and `c.lui` of a register other than sp and an immediate other than 0.
 ///
 /// ```text
@@ -113,7 +114,7 @@ pub fn encode_cj_type(op: CjOp, imm: Imm12) -> u16
 /// | funct3 | imm[5] | rd/rs1 | imm[4:0] | op |
 /// ```
 pub fn encode_ci_type(op: CiOp, rd: WritableReg, imm: Imm6) -> u16
-    requires { IsIntRegister rd.reg }
+    requires { IsRealRegister rd.reg }
     ensures layout { IsCiType ci_bits result (space_bits (ci_space op)) (low_bits (2 ^ 6) imm.value) (number_of rd.reg) (ci_funct3 op) }
     ensures decodes { (flags : IsaFlags) → flags.has_zca ≡ true → DecodesCi op (number_of rd.reg) imm.value (decode_half flags result) }
     ensures without { (flags : IsaFlags) → flags.has_zca ≡ false → decode_half flags result ≡ None }
@@ -127,13 +128,14 @@ pub fn encode_ci_type(op: CiOp, rd: WritableReg, imm: Imm6) -> u16
     )
 }
 
-/// Layout CI of `c.addi16sp`, which adds an immediate other than 0, counted in sixteens, to the stack pointer.
+/// Layout CI of `c.addi16sp`, which adds an immediate, counted in sixteens, to the stack pointer; the manual reserves that of 0.
 ///
 /// ```text
 /// 15    13 12    12 11     7 6              2 1  0
 /// | funct3 | imm[9] |   2    | imm[4|6|8:7|5] | op |
 /// ```
 pub fn encode_c_addi16sp(imm: Imm6) -> u16
+    ensures layout { IsCiType addi16sp_bits result (space_bits (ci_space CAddi16sp)) (16 * low_bits (2 ^ 6) imm.value) 2 (ci_funct3 CAddi16sp) }
     ensures decodes { (flags : IsaFlags) → flags.has_zca ≡ true → imm.value ≢ pos 0 → decode_half flags result ≡ Some (compressed (Alu (Int Addi)) 2 2 0 (pos 16 *ℤ imm.value)) }
     ensures without { (flags : IsaFlags) → flags.has_zca ≡ false → decode_half flags result ≡ None }
     ensures narrow { nat_eq (result % 4) 3 ≡ false }
@@ -146,7 +148,7 @@ pub fn encode_c_addi16sp(imm: Imm6) -> u16
     )
 }
 
-/// Layout CIW, of a register from x8 to x15: the stack pointer plus an immediate other than 0, counted in fours.
+/// Layout CIW, of a register from x8 to x15: the stack pointer plus an immediate, counted in fours; the manual reserves that of 0.
 ///
 /// ```text
 /// 15    13 12               5 4  2 1  0
@@ -154,6 +156,7 @@ pub fn encode_c_addi16sp(imm: Imm6) -> u16
 /// ```
 pub fn encode_ciw_type(op: CiwOp, rd: WritableReg, imm: u8) -> u16
     requires { IsShortRegister rd.reg }
+    ensures layout { IsCiwType result (space_bits (ciw_space op)) (number_of rd.reg - 8) (4 * imm) (ciw_funct3 op) }
     ensures decodes { (flags : IsaFlags) → flags.has_zca ≡ true → 0 < imm → decode_half flags result ≡ Some (compressed (Alu (Int Addi)) (number_of rd.reg) 2 0 (pos (4 * imm))) }
     ensures without { (flags : IsaFlags) → flags.has_zca ≡ false → decode_half flags result ≡ None }
     ensures narrow { nat_eq (result % 4) 3 ≡ false }

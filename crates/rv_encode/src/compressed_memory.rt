@@ -6,10 +6,11 @@ ghost use Rattle.rv_base.specs.declared.flags.IsaFlags.{IsaFlags};
 ghost use Rattle.rv_base.specs.Regs.{number_of};
 ghost use Rattle.rv_machine.specs.Compressed.{lwsp_imm, ldsp_imm, swsp_imm, sdsp_imm, lw_imm, ld_imm, decode_half};
 ghost use Rattle.rv_ops.specs.declared.memory.LoadOP.{LoadOP};
-ghost use Rattle.rv_ops.specs.Compressed.{zcb_imm_bits};
-ghost use Rattle.rv_encode.specs.Registers.{IsIntRegister, IsShortRegister};
+ghost use Rattle.rv_ops.specs.Compressed.{space_bits, ci_space, ci_funct3, zcb_imm_bits};
+ghost use Rattle.rv_ops.specs.Memory.{load_size};
+ghost use Rattle.rv_encode.specs.Registers.{IsRealRegister, IsShortRegister};
 ghost use Rattle.rv_encode.specs.Layouts.{IsCiType, IsCssType, IsClType, IsClbType, IsClhType};
-ghost use Rattle.rv_encode.specs.Compressed.{sp_load, decoded_sp_load, decoded_css, decoded_cs, decoded_cl, decoded_zcb, zcb_needs};
+ghost use Rattle.rv_encode.specs.Compressed.{read_of, sp_load, decoded_sp_load, decoded_css, decoded_cs, decoded_cl, decoded_zcb, zcb_needs};
 
 use crate::compressed::reg_to_compressed_gpr_num;
 use crate::layouts::reg_to_gpr_num;
@@ -17,7 +18,7 @@ use rv_base::{Reg, WritableReg};
 use rv_imms::{Uimm2, Uimm5, Uimm6};
 use rv_ops::{CiOp, ClOp, CsOp, CssOp, ZcbMemOp};
 
-/// Layout CI of `c.lwsp` and `c.ldsp`: a load past the stack pointer into an integer register other than x0.
+/// Layout CI of `c.lwsp` and `c.ldsp`: a load past the stack pointer into a real register; the manual reserves x0.
 ///
 /// ```text
 /// 15    13 12    12 11  7 6            2 1  0
@@ -26,7 +27,8 @@ use rv_ops::{CiOp, ClOp, CsOp, CssOp, ZcbMemOp};
 /// ```
 pub fn encode_ci_sp_load(op: CiOp, rd: WritableReg, imm: Uimm6) -> u16
     requires op { IsSome (sp_load op) }
-    requires rd { IsIntRegister rd.reg }
+    requires rd { IsRealRegister rd.reg }
+    ensures layout { (load : LoadOP) → sp_load op ≡ Some load → IsCiType (read_of op) result (space_bits (ci_space op)) (load_size load * imm.value) (number_of rd.reg) (ci_funct3 op) }
     ensures decodes { (flags : IsaFlags) (load : LoadOP) → flags.has_zca ≡ true → sp_load op ≡ Some load → 0 < number_of rd.reg → decode_half flags result ≡ Some (decoded_sp_load load (number_of rd.reg) imm.value) }
     ensures without { (flags : IsaFlags) → flags.has_zca ≡ false → decode_half flags result ≡ None }
     ensures narrow { nat_eq (result % 4) 3 ≡ false }
@@ -40,7 +42,7 @@ pub fn encode_ci_sp_load(op: CiOp, rd: WritableReg, imm: Uimm6) -> u16
     }
 }
 
-/// Layout CSS: a store of an integer register past the stack pointer.
+/// Layout CSS: a store of a real register past the stack pointer.
 ///
 /// ```text
 /// 15    13 12            7 6   2 1  0
@@ -48,7 +50,7 @@ pub fn encode_ci_sp_load(op: CiOp, rd: WritableReg, imm: Uimm6) -> u16
 /// | funct3 | imm[5:3|8:6] | src | op |    c.sdsp
 /// ```
 pub fn encode_css_type(op: CssOp, src: Reg, imm: Uimm6) -> u16
-    requires { IsIntRegister src }
+    requires { IsRealRegister src }
     ensures decodes { (flags : IsaFlags) → flags.has_zca ≡ true → decode_half flags result ≡ Some (decoded_css op (number_of src) imm.value) }
     ensures without { (flags : IsaFlags) → flags.has_zca ≡ false → decode_half flags result ≡ None }
     ensures narrow { nat_eq (result % 4) 3 ≡ false }

@@ -1,9 +1,13 @@
 //! Words put together from the fields of the manual's types: "2.2 Base Instruction Formats".
 
-ghost use Rattle.std.specs.Prelude.{◌≡◌, ◌<◌, ◌*◌, ◌/◌, ◌^◌};
+ghost use Rattle.std.specs.Prelude.{◌≡◌, ◌<◌, ◌*◌, ◌/◌, ◌^◌, pos, Some};
+ghost use Rattle.rv_base.specs.declared.flags.IsaFlags.{IsaFlags};
 ghost use Rattle.rv_base.specs.Regs.{number_of};
+ghost use Rattle.rv_machine.specs.declared.ops.MOp.{MOp};
+ghost use Rattle.rv_machine.specs.Decode.{decode};
 ghost use Rattle.rv_imms.specs.Bits.{low_bits};
 ghost use Rattle.rv_encode.specs.Registers.{IsRealRegister};
+ghost use Rattle.rv_encode.specs.Operations.{decoded, r_op, i_op, s_op};
 ghost use Rattle.rv_encode.specs.Layouts.{IsRType, IsIType, IsSType, IsBType, IsUType, IsJType};
 
 use rv_base::{Reg, WritableReg};
@@ -41,7 +45,8 @@ pub fn encode_r_type(
     requires rs1 { IsRealRegister rs1 }
     requires rs2 { IsRealRegister rs2 }
     requires funct7 { funct7 < 2 ^ 7 }
-    ensures { IsRType result opcode (number_of rd.reg) funct3 (number_of rs1) (number_of rs2) funct7 }
+    ensures layout { IsRType result opcode (number_of rd.reg) funct3 (number_of rs1) (number_of rs2) funct7 }
+    ensures decodes { (flags : IsaFlags) (op : MOp) → r_op opcode funct3 funct7 ≡ Some op → decode flags result ≡ Some (decoded op (number_of rd.reg) (number_of rs1) (number_of rs2) (pos 0)) }
 {
     r_word(
         opcode,
@@ -64,7 +69,8 @@ pub fn encode_i_type(opcode: u32, rd: WritableReg, width: u32, rs1: Reg, offset:
     requires rd { IsRealRegister rd.reg }
     requires width { width < 2 ^ 3 }
     requires rs1 { IsRealRegister rs1 }
-    ensures { IsIType result opcode (number_of rd.reg) width (number_of rs1) (low_bits (2 ^ 12) offset.value) }
+    ensures layout { IsIType result opcode (number_of rd.reg) width (number_of rs1) (low_bits (2 ^ 12) offset.value) }
+    ensures decodes { (flags : IsaFlags) (op : MOp) → i_op opcode width ≡ Some op → decode flags result ≡ Some (decoded op (number_of rd.reg) (number_of rs1) 0 offset.value) }
 {
     i_word(
         opcode,
@@ -86,7 +92,8 @@ pub fn encode_s_type(opcode: u32, width: u32, base: Reg, src: Reg, offset: Imm12
     requires width { width < 2 ^ 3 }
     requires base { IsRealRegister base }
     requires src { IsRealRegister src }
-    ensures { IsSType result opcode width (number_of base) (number_of src) (low_bits (2 ^ 12) offset.value) }
+    ensures layout { IsSType result opcode width (number_of base) (number_of src) (low_bits (2 ^ 12) offset.value) }
+    ensures decodes { (flags : IsaFlags) (op : MOp) → s_op opcode width ≡ Some op → decode flags result ≡ Some (decoded op 0 (number_of base) (number_of src) offset.value) }
 {
     s_word(
         opcode,

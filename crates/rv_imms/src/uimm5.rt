@@ -1,11 +1,12 @@
-//! The unsigned immediate of CSR instructions (the manual's chapter "Zicsr").
+//! The unsigned immediate of `vsetivli` and of CSR instructions (the manual's chapters "V" and "Zicsr").
 
 ghost use Rattle.std.specs.Prelude.{◌≡◌, ◌<◌, ◌≤◌, Some, MatchOption};
 ghost use Rattle.std.specs.Fmt.{decimal};
 
 use std::fmt;
 
-/// An immediate from 0 to 31.
+/// An immediate from 0 to 31: the number of elements that `vsetivli` holds, or the number that a CSR instruction writes, sets or
+/// clears.
 #[derive(Clone, Copy, Debug, PartialEq)]
 pub struct UImm5 {
     pub value: u8,

@@ -1,11 +1,11 @@
-//! Unsigned immediates of vector and compressed instructions (the manual's chapters "V" and "C").
+//! Unsigned immediates of compressed loads and stores (the manual's chapters "C" and "Zcb"), which count what the access moves.
 
 ghost use Rattle.std.specs.Prelude.{◌≡◌, ◌<◌, ◌≤◌, Some, MatchOption};
 ghost use Rattle.std.specs.Fmt.{decimal};
 
 use std::fmt;
 
-/// An immediate of two bits, from 0 to 3.
+/// An immediate of two bits, from 0 to 3: of loads and stores of bytes and halfwords.
 #[derive(Clone, Copy, Debug, PartialEq)]
 pub struct Uimm2 {
     pub value: u8,
@@ -42,7 +42,7 @@ impl fmt::Display for Uimm2 {
     }
 }
 
-/// An immediate of five bits, from 0 to 31.
+/// An immediate of five bits, from 0 to 31: of those past a register from x8 to x15.
 #[derive(Clone, Copy, Debug, PartialEq)]
 pub struct Uimm5 {
     pub value: u8,
@@ -79,7 +79,7 @@ impl fmt::Display for Uimm5 {
     }
 }
 
-/// An immediate of six bits, from 0 to 63.
+/// An immediate of six bits, from 0 to 63: of those past the stack pointer.
 #[derive(Clone, Copy, Debug, PartialEq)]
 pub struct Uimm6 {
     pub value: u8,

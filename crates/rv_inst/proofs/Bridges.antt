@@ -14,7 +14,7 @@ use Rattle.rv_machine.specs.declared.ops.IntOp.TheVariants.{Addi}
 use Rattle.rv_machine.specs.Layout.{word_opcode, word_rd, word_funct3, word_rs1, word_rs2, b_imm, j_imm, u_imm, i_imm, decoded, b_layout, j_layout, u_layout, i_layout, compressed}
 use Rattle.rv_machine.specs.Opcodes.{AUIPC, JAL, JALR, BRANCH, OP_IMM}
 use Rattle.rv_machine.specs.Tables.{branch_entry}
-use Rattle.rv_machine.specs.Decode.{decode, by_opcode, decode_branch, decode_jalr}
+use Rattle.rv_machine.specs.Decode.{decode, decode_branch, decode_jalr}
 use Rattle.rv_machine.specs.Compressed.{half_op, half_funct3, cj_imm, decode_half}
 use Rattle.rv_encode.proofs.Decoding.{opcode_decodes}
 use Rattle.rv_inst.specs.declared.label_use.LabelUse.TheVariants.{Jal20, PCRel32, B12, PCRelLo12I, RVCJump}

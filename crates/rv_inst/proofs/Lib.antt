@@ -11,3 +11,5 @@ pub mod Meaning
 pub mod Moves
 pub mod PlainInsts
 pub mod Queues
+pub mod ImmediateSums
+pub mod Sequences

@@ -35,7 +35,7 @@ use Rattle.rv_inst.specs.Addresses.{is_distant}
 use Rattle.rv_inst.specs.Context.{Context}
 use Rattle.rv_inst.specs.Rules.{is_virtual, is_other_class, is_reserved, is_int_class, same_class, differ_in_class, is_int_type, is_buffer_label, is_beyond, is_fallthrough, has_other_class, faults_of, is_zero, lacks_named, lacks_constant, exceeds_arguments, every_rule, breaks}
 use Rattle.rv_inst.specs.Sizes.{inst_sum}
-use Rattle.rv_inst.specs.Plain.{is_usable, is_plain_address, IsPlain}
+use Rattle.rv_inst.specs.Plain.{is_usable, is_plain_address, IsPlain, is_plain}
 
 -- ---- registers
 
@@ -169,3 +169,15 @@ plain_store to op flags src e f =
     plain (Store src op flags to) all
     (λ i. record (has_other_class (none_of is_other_class not_other (src ∷ registers_of to) all i)) { range = a.near i })
     (λ constants. ap (lacks_named constants) (a.targets 0)) (λ i. list_any is_buffer_label (labels_of (a.targets 0 i) ++ [])) refl (λ context. refl)
+
+-- all of them
+pub breaks_none : (inst : Inst) → is_plain inst ≡ true → IsPlain inst
+breaks_none (Lui rd imm) e = plain_lui rd imm e
+breaks_none (AluRRR op rd rs1 rs2) e = plain_rrr op rd rs1 rs2 e
+breaks_none (AluRRImm12 op rd rs imm) e = plain_rri op rd rs imm (and_left _ _ e) (not_true _ (and_right _ _ e))
+breaks_none (Mov rd rm type) e = plain_mov rd rm type (and_left _ _ e) (and_right _ _ e)
+breaks_none (Load rd op access from) e = plain_load rd op access from (and_left _ _ e) (and_right _ _ e)
+breaks_none (Store src op access to) e = plain_store to op access src (and_left _ _ e) (and_right _ _ e)
+breaks_none (Jal label) e = plain_jal label (not_true _ e)
+breaks_none (CondBr taken not_taken kind) e = plain_branch taken not_taken kind (and_left _ _ e) (not_true _ (and_left _ _ (and_right _ _ e))) (not_true _ (and_right _ _ (and_right _ _ e)))
+breaks_none _ e = absurd (cc)

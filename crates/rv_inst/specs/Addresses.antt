@@ -1,5 +1,5 @@
 -- Where addresses of loads and stores are, and in how many bytes of code they are computed.
-use Rattle.std.specs.Prelude.{ℕ, ◌+◌, ◌-◌, ◌^◌, ◌==◌, Bool, ◌&&◌, ◌||◌, if◌then◌else◌, Option, Some, None, ℤ, pos, negsuc, int_le, int_lt}
+use Rattle.std.specs.Prelude.{ℕ, ◌+◌, ◌-◌, ◌^◌, ◌==◌, Bool, ◌&&◌, ◌||◌, if◌then◌else◌, ℤ, pos, negsuc, int_le, int_lt}
 use Rattle.rv_base.specs.declared.amode.AMode.{AMode}
 use Rattle.rv_base.specs.declared.amode.AMode.TheVariants.{RegOffset, SPOffset, FPOffset, SlotOffset, IncomingArg, Const, Label}
 use Rattle.rv_base.specs.declared.constant.VCodeConstant.{VCodeConstant}

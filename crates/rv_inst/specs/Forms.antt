@@ -1,6 +1,6 @@
 -- "C", Compressed Instructions, and "Zcb": which instructions have a form of sixteen bits, and which form it is, as the operation
 -- to which it expands. Registers are numbers, immediates signed.
-use Rattle.std.specs.Prelude.{ℕ, suc, ◌*◌, ◌%◌, ◌^◌, ◌==◌, nat_le, Bool, not, ◌&&◌, ◌||◌, if◌then◌else◌, Option, Some, None, ℤ, pos, negsuc, int_le}
+use Rattle.std.specs.Prelude.{◌≡◌, ℕ, suc, ◌*◌, ◌%◌, ◌^◌, ◌==◌, nat_le, Bool, true, not, ◌&&◌, ◌||◌, if◌then◌else◌, Option, Some, None, ℤ, pos, negsuc, int_le}
 use Rattle.rv_base.specs.declared.flags.IsaFlags.{IsaFlags}
 use Rattle.rv_imms.specs.Bits.{low_bits}
 use Rattle.rv_machine.specs.declared.decoding.Decoded.{Decoded}
@@ -13,7 +13,10 @@ use Rattle.rv_machine.specs.declared.ops.AluOp.TheVariants.{Int, Mul, Bit}
 use Rattle.rv_machine.specs.declared.ops.IntOp.TheVariants as int
 use Rattle.rv_machine.specs.declared.ops.MulOp.TheVariants as mul
 use Rattle.rv_machine.specs.declared.ops.BitOp.TheVariants as bit
+use Rattle.rv_machine.specs.Compressed.{half_funct3}
 use Rattle.rv_machine.specs.Layout.{bare_form, compressed}
+use Rattle.rv_ops.specs.declared.compressed.CiOp.TheVariants.{CAddi16sp}
+use Rattle.rv_ops.specs.Compressed.{ci_funct3}
 use Rattle.rv_ops.specs.declared.alu.AluOPRRR.{AluOPRRR}
 use Rattle.rv_ops.specs.declared.alu.AluOPRRR.TheVariants as rrr
 use Rattle.rv_ops.specs.declared.alu.AluOPRRI.{AluOPRRI}
@@ -175,6 +178,11 @@ is_li rd rs = not (rd == 0) && (rs == 0)
 -- c.addi
 abbrev pub is_addi : ℕ → ℕ → ℤ → Bool
 is_addi rd rs imm = (rd == rs) && not (rs == 0) && not (is_equal imm (pos 0))
+
+-- Which halfword it is: c.addi16sp and c.addi of sp by one immediate expand to one operation, and differ in bits 15 to 13. The form is
+-- c.addi16sp wherever that holds the immediate.
+abbrev pub IsAddi16spFirst : ℕ → ℕ → ℤ → ℕ → Type 0
+IsAddi16spFirst rd rs imm half = is_addi16sp rd rs imm ≡ true → half_funct3 half ≡ ci_funct3 CAddi16sp
 
 abbrev pub addi_form : ℕ → ℕ → ℤ → Option Decoded
 addi_form rd rs imm =

@@ -5,7 +5,7 @@ use Rattle.rv_base.specs.declared.frame.FrameLayout.{FrameLayout}
 use Rattle.rv_base.specs.declared.regs.PReg.{PReg}
 use Rattle.rv_base.specs.declared.regs.Writable.{Writable}
 use Rattle.rv_base.specs.Frame.{sp_to_args_end}
-use Rattle.rv_inst.specs.Rules.{is_int_class, is_vector_class}
+use Rattle.rv_inst.specs.Rules.{is_int_class, is_vector_class, is_x}
 use Rattle.rv_inst.specs.declared.tail_calls.TailCall.{TailCall}
 
 -- a register that a frame can't save: a vector register, or x0, ra, sp, fp, x30 or x31
@@ -18,7 +18,7 @@ is_unrestored p = not (is_int_class p.class)
 
 -- t0, through which a tail call to a register's address goes
 abbrev pub is_t0 : PReg → Bool
-is_t0 p = is_int_class p.class && p.number == 5
+is_t0 p = is_x 5 p
 
 -- from the stack pointer to the end of the arguments are 2^31 bytes or more, or it saves a register that it can't
 abbrev pub is_bad_frame : FrameLayout → Bool

@@ -5,6 +5,7 @@ pub mod Forms
 pub mod Operands
 pub mod Immediates
 pub mod Generators
+pub mod Sequences
 pub mod Islands
 pub mod LabelUse
 pub mod LabelUseBridges

@@ -21,7 +21,6 @@ use Rattle.rv_encode.specs.Operations.{load_op, store_op}
 use Rattle.rv_inst.specs.Addresses.{Location, Based, AtLabel, AtConstant, location_of}
 use Rattle.rv_ops.specs.Memory.{store_size}
 use Rattle.rv_inst.specs.Calls.{Return, return_of}
-use Rattle.rv_inst.specs.Forms.{short_jalr}
 use Rattle.rv_inst.specs.Bits.{extended, ones, zeros, reversed_bytes}
 use Rattle.rv_inst.specs.Operands.{all_of, written_in, try_call_of}
 use Rattle.rv_inst.specs.Returns.{StackLoad, restores, frame_above}
@@ -119,7 +118,12 @@ frame_left frame arguments v = set_reg (stack_loaded (reg v 2) (restores frame) 
 abbrev pub compares : IntegerCompare → Values → Bool
 compares cmp v = holds cmp.kind (reg v (number_of cmp.rs1)) (reg v (number_of cmp.rs2))
 
--- what an instruction makes of the values; a jump to a register links, and a call leaves in ra, which is x1, where it returns to
+-- a call leaves in ra, which is x1, where it returns to
+abbrev pub linked : ℕ → Option Return → Values → Values
+linked start None v = v
+linked start (Some r) v = set_reg v 1 (wrap (start + r.offset))
+
+-- what an instruction makes of the values; a jump to a register links, as a call does
 abbrev pub inst_effect : Environment → Inst → Values → Values
 inst_effect env Nop0 v = v
 inst_effect env Nop4 v = v
@@ -158,8 +162,8 @@ inst_effect env (StackProbeLoop guard_size probe_count tmp) v = zero_bytes v (pr
 inst_effect env (LoadExtNameGot rd name) v = set_reg v (number_of rd.reg) (load_result (load_op Ld) v.mem (env.slot name.number))
 inst_effect env (LoadExtNameNear rd name offset) v = set_reg v (number_of rd.reg) (symbol_at env name offset)
 inst_effect env (LoadExtNameFar rd name offset) v = set_reg v (number_of rd.reg) (symbol_at env name offset)
-inst_effect env (Call info) v = set_reg v 1 (wrap (env.start + 8))
-inst_effect env (CallInd info) v = set_reg v 1 (wrap (env.start + (short_jalr env.flags 1 (number_of info.dest) (pos 0)).len))
+inst_effect env (Call info) v = linked env.start (return_of env.flags (Call info)) v
+inst_effect env (CallInd info) v = linked env.start (return_of env.flags (CallInd info)) v
 inst_effect env (ReturnCall info) v = frame_left env.frame info.new_stack_arg_size v
 inst_effect env (ReturnCallInd info) v = frame_left env.frame info.new_stack_arg_size v
 

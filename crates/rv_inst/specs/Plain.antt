@@ -1,13 +1,16 @@
 -- Instructions of which one look at their fields tells that they break no rule.
-use Rattle.std.specs.Prelude.{◌≡◌, Bool, false, not, ◌&&◌, None}
+use Rattle.std.specs.Prelude.{◌≡◌, Bool, false, not, ◌&&◌, [], ◌∷◌, ◌++◌, None}
+use Rattle.std.specs.List.{list_all, list_any}
 use Rattle.rv_base.specs.declared.amode.AMode.{AMode}
 use Rattle.rv_base.specs.declared.amode.AMode.TheVariants.{RegOffset, SPOffset, FPOffset, SlotOffset, IncomingArg, Const, Label}
 use Rattle.rv_base.specs.declared.regs.Reg.{Reg}
+use Rattle.rv_ops.specs.Operations.{immediate_of, shift_limit}
 use Rattle.rv_inst.specs.declared.inst.Inst.{Inst}
+use Rattle.rv_inst.specs.declared.inst.Inst.TheVariants.{Nop0, Nop4, EBreak, SequencePoint, Args, Rets, DummyUse, Unwind, EmitIsland, RawData, Lui, Auipc, LoadInlineConst, AluRRR, AluRRImm12, Mov, MovFromPReg, Extend, Select, Load, Store, LoadAddr, LabelAddress, Ret, TrapIf, Jal, CondBr, BrTable, Udf, Jalr, Popcnt, Cltz, Brev8, StackProbeLoop, LoadExtNameGot, LoadExtNameNear, LoadExtNameFar, Call, CallInd, ReturnCall, ReturnCallInd}
 use Rattle.rv_inst.specs.Addresses.{is_distant}
 use Rattle.rv_inst.specs.Context.{Context}
-use Rattle.rv_inst.specs.Operands.{tail_call_of}
-use Rattle.rv_inst.specs.Rules.{is_virtual, is_other_class, is_reserved, inst_rule}
+use Rattle.rv_inst.specs.Operands.{tail_call_of, target_labels}
+use Rattle.rv_inst.specs.Rules.{is_virtual, is_other_class, is_reserved, is_int_type, is_beyond, is_fallthrough, is_buffer_label, inst_rule}
 use Rattle.rv_inst.specs.Sizes.{inst_sum}
 
 -- a register of which no rule is broken: an integer register of the machine other than x30 and x31
@@ -23,6 +26,50 @@ is_plain_address (SlotOffset o) = not (is_distant o)
 is_plain_address (IncomingArg o) = not (is_distant o)
 is_plain_address (Const k) = false
 is_plain_address (Label l) = false
+
+-- the most usual instructions, where they are so
+abbrev pub is_plain : Inst → Bool
+is_plain Nop0 = false
+is_plain Nop4 = false
+is_plain EBreak = false
+is_plain SequencePoint = false
+is_plain (Args args) = false
+is_plain (Rets rets) = false
+is_plain (DummyUse reg) = false
+is_plain (Unwind inst) = false
+is_plain (EmitIsland needed_space) = false
+is_plain (RawData bytes) = false
+is_plain (Lui rd imm) = is_usable rd.reg
+is_plain (Auipc rd imm) = false
+is_plain (LoadInlineConst rd type imm) = false
+is_plain (AluRRR op rd rs1 rs2) = list_all is_usable (rd.reg ∷ rs1 ∷ rs2 ∷ [])
+is_plain (AluRRImm12 op rd rs imm) = list_all is_usable (rd.reg ∷ rs ∷ []) && not (is_beyond (shift_limit (immediate_of op)) imm.value)
+is_plain (Mov rd rm type) = list_all is_usable (rd.reg ∷ rm ∷ []) && is_int_type type
+is_plain (MovFromPReg rd rm) = false
+is_plain (Extend rd rn signed from_bits to_bits) = false
+is_plain (Select info) = false
+is_plain (Load rd op access from) = is_usable rd.reg && is_plain_address from
+is_plain (Store src op access to) = is_usable src && is_plain_address to
+is_plain (LoadAddr rd mem) = false
+is_plain (LabelAddress dst label) = false
+is_plain Ret = false
+is_plain (TrapIf cmp code) = false
+is_plain (Jal label) = not (is_buffer_label label)
+is_plain (CondBr taken not_taken kind) = list_all is_usable (kind.rs1 ∷ kind.rs2 ∷ []) && (not (is_fallthrough taken) && not (list_any is_buffer_label (target_labels taken ++ target_labels not_taken)))
+is_plain (BrTable index tmp1 tmp2 targets) = false
+is_plain (Udf code) = false
+is_plain (Jalr rd base offset) = false
+is_plain (Popcnt info) = false
+is_plain (Cltz leading info) = false
+is_plain (Brev8 info) = false
+is_plain (StackProbeLoop guard_size probe_count tmp) = false
+is_plain (LoadExtNameGot rd name) = false
+is_plain (LoadExtNameNear rd name offset) = false
+is_plain (LoadExtNameFar rd name offset) = false
+is_plain (Call info) = false
+is_plain (CallInd info) = false
+is_plain (ReturnCall info) = false
+is_plain (ReturnCallInd info) = false
 
 -- an instruction that breaks no rule in any context, counts for 128 bytes, and is no tail call
 pub record IsPlain (inst : Inst) : Type 0 where

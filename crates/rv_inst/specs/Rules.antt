@@ -76,9 +76,17 @@ same_class Vector Vector = true
 abbrev pub differ_in_class : Reg → Reg → Bool
 differ_in_class r s = not (same_class (class_of r) (class_of s))
 
+-- whether a register is the integer register of a number
+abbrev pub is_x : ℕ → PReg → Bool
+is_x number p = is_int_class p.class && p.number == number
+
+abbrev pub is_real_x : ℕ → Reg → Bool
+is_real_x number (Real p) = is_x number p
+is_real_x number (AVirtual class index) = false
+
+-- x0
 abbrev pub is_zero : Reg → Bool
-is_zero (Real p) = is_int_class p.class && p.number == 0
-is_zero (AVirtual class index) = false
+is_zero r = is_real_x 0 r
 
 abbrev pub same_register : Reg → Reg → Bool
 same_register (Real p) (Real q) = same_class p.class q.class && p.number == q.number
@@ -112,8 +120,7 @@ select_clash (Two r s) compared values = clash (r.reg ∷ s.reg ∷ []) (compare
 
 -- sp
 abbrev pub is_stack : Reg → Bool
-is_stack (Real p) = is_int_class p.class && p.number == 2
-is_stack (AVirtual class index) = false
+is_stack r = is_real_x 2 r
 
 -- sp or fp
 abbrev pub is_stack_or_frame : PReg → Bool
@@ -177,8 +184,7 @@ call_differs uses defs = list_any (λ (p : CallArgPair). differ_in_class p.vreg 
 
 -- t0, which is x5
 abbrev pub is_fifth : Reg → Bool
-is_fifth (Real p) = is_int_class p.class && p.number == 5
-is_fifth (AVirtual class index) = false
+is_fifth r = is_real_x 5 r
 
 -- ---- types and numbers
 

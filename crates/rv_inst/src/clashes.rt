@@ -6,6 +6,7 @@ ghost use Rattle.rv_inst.specs.Operands.{all_of};
 ghost use Rattle.rv_inst.specs.Rules.{is_zero, same_class, same_register, is_base, is_one_of, clash, is_uneven, select_clash, is_stack, has_zero, has_clash};
 
 use crate::inst::{CountInfo, Inst};
+use crate::registers::is_real_x;
 use crate::results::results_clash;
 use rv_base::{Reg, RegClass, ValueRegs, WritableReg};
 use rv_ops::IntegerCompare;
@@ -13,13 +14,7 @@ use rv_ops::IntegerCompare;
 fn is_zero(reg: Reg) -> bool
     ensures { result ≡ is_zero reg }
 {
-    match reg {
-        Reg::Real(real) => match real.class {
-            RegClass::Int => real.number == 0,
-            RegClass::Float | RegClass::Vector => false,
-        },
-        Reg::Virtual { .. } => false,
-    }
+    is_real_x(reg, 0)
 }
 
 pub fn same_class(first: RegClass, second: RegClass) -> bool
@@ -152,13 +147,7 @@ fn select_clash(
 pub fn is_stack(reg: Reg) -> bool
     ensures { result ≡ is_stack reg }
 {
-    match reg {
-        Reg::Real(real) => match real.class {
-            RegClass::Int => real.number == 2,
-            RegClass::Float | RegClass::Vector => false,
-        },
-        Reg::Virtual { .. } => false,
-    }
+    is_real_x(reg, 2)
 }
 
 /// Returns whether x0 stands where a result is computed in steps.

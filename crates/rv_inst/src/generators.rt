@@ -7,6 +7,8 @@ ghost use Rattle.smallvec.specs.SmallVec.{HasRoomFor};
 ghost use Rattle.rv_base.specs.declared.ir_type.IrType.TheVariants.{I32, I64};
 ghost use Rattle.rv_ops.specs.Memory.{load_of, store_of};
 ghost use Rattle.rv_imms.specs.Splitting.{IsSplittable};
+ghost use Rattle.rv_base.specs.Regs.{number_of};
+ghost use Rattle.rv_inst.specs.Sequences.{SetsRegister, left_of, JumpsBy};
 ghost use Rattle.rv_inst.specs.Generators.{zero_register, addi_of, split_insts, AreConstant, AreJump, canonical_type, move_of, moves_of};
 ghost use Rattle.rv_inst.specs.declared.inst.Inst.TheVariants.{Load, Store};
 
@@ -50,6 +52,7 @@ impl Inst {
         value: u64,
     ) -> Result<SmallInstVec, OutOfMemory>
         ensures insts { IfOk result (λ insts. AreConstant I32 rd value insts.items) }
+        ensures sets { IfOk result (λ insts. SetsRegister insts.items (number_of rd.reg) (left_of I32 value)) }
         ensures succeeds { IsOk result }
     {
         load_constant(alloc, rd, IrType::I32, value)
@@ -63,6 +66,7 @@ impl Inst {
         value: u64,
     ) -> Result<SmallInstVec, OutOfMemory>
         ensures insts { IfOk result (λ insts. AreConstant I64 rd value insts.items) }
+        ensures sets { IfOk result (λ insts. SetsRegister insts.items (number_of rd.reg) value) }
         ensures succeeds { IsOk result }
     {
         load_constant(alloc, rd, IrType::I64, value)
@@ -78,7 +82,8 @@ impl Inst {
         offset: i64,
     ) -> [Inst; 2]
         requires { IsSplittable offset }
-        ensures { AreJump link tmp offset result }
+        ensures insts { AreJump link tmp offset result }
+        ensures runs { JumpsBy link tmp offset result }
     {
         let Some((upper, lower)) = generate_imm(offset.cast_unsigned()) else {
             unreachable!()

@@ -313,6 +313,11 @@ pub enum Inst {
 
 /// `Nop0`, which does nothing.
 impl Default for Inst {
+    ghost use Rattle.std.specs.Prelude.{◌≡◌};
+    ghost use Rattle.rv_inst.specs.declared.inst.Inst.TheVariants.{Nop0};
+
+    ghost is_default = { λ inst. inst ≡ Nop0 };
+
     fn default() -> Inst {
         Inst::Nop0
     }

@@ -13,7 +13,8 @@ ghost use Rattle.rv_inst.specs.Families.{family_of};
 use crate::clashes::same_class;
 use crate::inst::{Family, Inst};
 use crate::registers::{
-    RegisterTest, control_has, integer_has, is_other_class, loop_has, memory_has, symbol_has,
+    RegisterTest, control_has, integer_has, is_other_class, is_real_x, loop_has, memory_has,
+    symbol_has,
 };
 use rv_base::{
     ArgPair as Arg, CallArgPair as Use, CallRetPair as Def, IrType, PReg, Reg, RegClass,
@@ -62,13 +63,7 @@ fn any_use_differs(uses: &[Use]) -> bool
 fn is_fifth(reg: Reg) -> bool
     ensures { result ≡ is_fifth reg }
 {
-    match reg {
-        Reg::Real(real) => match real.class {
-            RegClass::Int => real.number == 5,
-            RegClass::Float | RegClass::Vector => false,
-        },
-        Reg::Virtual { .. } => false,
-    }
+    is_real_x(reg, 5)
 }
 
 fn pseudo_misplaced(inst: &Inst) -> bool

@@ -4,7 +4,7 @@ ghost use Rattle.std.specs.Prelude.{◌≡◌, true, not, ◌&&◌, [], ◌∷�
 ghost use Rattle.std.specs.List.{list_all, list_any};
 ghost use Rattle.rv_inst.specs.Operands.{target_labels};
 ghost use Rattle.rv_inst.specs.Rules.{is_buffer_label, is_fallthrough};
-ghost use Rattle.rv_inst.specs.Plain.{is_usable, is_plain_address, IsPlain};
+ghost use Rattle.rv_inst.specs.Plain.{is_usable, is_plain_address, is_plain, IsPlain};
 
 use crate::addresses::is_distant;
 use crate::check::{has_inner_target, is_buffer_label, is_fallthrough};
@@ -57,9 +57,17 @@ fn are_targets(taken: CondBrTarget, not_taken: CondBrTarget) -> bool
 }
 
 impl Inst {
-    /// Returns whether the instruction is one of the most usual ones and breaks no rule. Where it isn't, `check` tells.
+    /// Returns whether the instruction is one of the most usual ones, with usable registers and operands in their ranges. Such a one
+    /// breaks no rule; of any other `check` tells.
     pub fn is_plain(&self) -> bool
-        ensures { result ≡ true → IsPlain self.now }
+        ensures value { result ≡ is_plain self.now }
+        ensures rules { result ≡ true → IsPlain self.now }
+    {
+        self.is_usual()
+    }
+
+    fn is_usual(&self) -> bool
+        ensures { result ≡ is_plain self.now }
     {
         match self {
             Inst::AluRRR {
@@ -94,7 +102,39 @@ impl Inst {
                 not_taken,
                 kind,
             } => two_are_usable(kind.rs1, kind.rs2) && are_targets(*taken, *not_taken),
-            _ => false,
+            Inst::Nop0
+            | Inst::Nop4
+            | Inst::EBreak
+            | Inst::SequencePoint
+            | Inst::Args { args: _ }
+            | Inst::Rets { rets: _ }
+            | Inst::DummyUse { reg: _ }
+            | Inst::Unwind { inst: _ }
+            | Inst::EmitIsland { needed_space: _ }
+            | Inst::RawData { bytes: _ }
+            | Inst::Auipc { .. }
+            | Inst::LoadInlineConst { .. }
+            | Inst::MovFromPReg { .. }
+            | Inst::Extend { .. }
+            | Inst::Select { info: _ }
+            | Inst::LoadAddr { .. }
+            | Inst::LabelAddress { .. }
+            | Inst::Ret
+            | Inst::TrapIf { .. }
+            | Inst::BrTable { .. }
+            | Inst::Udf { trap_code: _ }
+            | Inst::Jalr { .. }
+            | Inst::Popcnt { info: _ }
+            | Inst::Cltz { .. }
+            | Inst::Brev8 { info: _ }
+            | Inst::StackProbeLoop { .. }
+            | Inst::LoadExtNameGot { .. }
+            | Inst::LoadExtNameNear { .. }
+            | Inst::LoadExtNameFar { .. }
+            | Inst::Call { info: _ }
+            | Inst::CallInd { info: _ }
+            | Inst::ReturnCall { info: _ }
+            | Inst::ReturnCallInd { info: _ } => false,
         }
     }
 }

@@ -6,12 +6,13 @@ ghost use Rattle.rv_inst.specs.Operands.{arg_registers, ret_registers, use_regis
 ghost use Rattle.rv_inst.specs.declared.inst.Family.TheVariants.{Pseudo, Integer, Memory, Control, Loop, Symbols, Calls};
 ghost use Rattle.rv_inst.specs.Families.{family_of};
 ghost use Rattle.rv_inst.specs.RegisterTests.{test_of};
+ghost use Rattle.rv_inst.specs.Rules.{is_x, is_real_x};
 
 use crate::addresses::address_has;
 use crate::inst::{CountInfo, Family, Inst, SelectInfo};
 use rv_base::{
-    ArgPair, CallArgPair, CallRetPair, Reg, RegClass, RetLocation, RetPair, UnwindInst, ValueRegs,
-    WritableReg,
+    ArgPair, CallArgPair, CallRetPair, PReg, Reg, RegClass, RetLocation, RetPair, UnwindInst,
+    ValueRegs, WritableReg,
 };
 use rv_ops::IntegerCompare;
 
@@ -64,6 +65,26 @@ fn is_reserved(reg: Reg) -> bool
             RegClass::Int => real.number >= 30,
             RegClass::Float | RegClass::Vector => false,
         },
+        Reg::Virtual { .. } => false,
+    }
+}
+
+/// Returns whether a register of the machine is the integer register of a number.
+pub fn is_x(reg: PReg, number: u8) -> bool
+    ensures { result ≡ is_x number reg }
+{
+    match reg.class {
+        RegClass::Int => reg.number == number,
+        RegClass::Float | RegClass::Vector => false,
+    }
+}
+
+/// Returns whether a register is the machine's integer register of a number.
+pub fn is_real_x(reg: Reg, number: u8) -> bool
+    ensures { result ≡ is_real_x number reg }
+{
+    match reg {
+        Reg::Real(real) => is_x(real, number),
         Reg::Virtual { .. } => false,
     }
 }

@@ -9,6 +9,7 @@ ghost use Rattle.rv_inst.specs.Rules.{exceeds_arguments};
 ghost use Rattle.rv_inst.specs.Frames.{is_unsaved, is_unrestored, is_t0, is_bad_frame, is_unrestorable, is_bad_frame_for};
 
 use crate::inst::Inst;
+use crate::registers::is_x;
 use rv_base::{FrameLayout, PReg, RegClass, Writable};
 
 /// What a tail call asks of the frame that it takes away.
@@ -133,8 +134,5 @@ fn is_unrestored(reg: PReg) -> bool
 fn is_t0(reg: PReg) -> bool
     ensures { result ≡ is_t0 reg }
 {
-    match reg.class {
-        RegClass::Int => reg.number == 5,
-        RegClass::Float | RegClass::Vector => false,
-    }
+    is_x(reg, 5)
 }

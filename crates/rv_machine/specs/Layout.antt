@@ -146,3 +146,4 @@ pub record HasFileRegisters (d : Decoded) : Type 0 where
   pub rd : d.rd < 32
   pub rs1 : d.rs1 < 32
   pub rs2 : d.rs2 < 32
+  pub rs3 : d.rs3 < 32

@@ -7,6 +7,9 @@ use Rattle.rv_ops.specs.declared.memory.LoadOP.{LoadOP}
 use Rattle.rv_ops.specs.declared.memory.LoadOP.TheVariants.{Lb, Lh, Lw, Lbu, Lhu, Lwu, Ld}
 use Rattle.rv_ops.specs.declared.memory.StoreOP.{StoreOP}
 use Rattle.rv_ops.specs.declared.memory.StoreOP.TheVariants.{Sb, Sh, Sw, Sd}
+use Rattle.rv_machine.specs.declared.ops.StoreOp.{StoreOp}
+use Rattle.rv_machine.specs.declared.ops.StoreOp.TheVariants as store
+use Rattle.rv_machine.specs.Memory.{store_width}
 
 -- the load of an integer type, signed where it is narrower than a register, and the store; none for other types
 abbrev pub load_of : IrType → Option LoadOP
@@ -60,17 +63,22 @@ load_name Lbu = codes "lbu"
 load_name Lhu = codes "lhu"
 load_name Lwu = codes "lwu"
 
+-- the machine's store
+abbrev pub store_op : StoreOP → StoreOp
+store_op Sb = store.Sb
+store_op Sh = store.Sh
+store_op Sw = store.Sw
+store_op Sd = store.Sd
+
 abbrev pub store_funct3 : StoreOP → ℕ
 store_funct3 Sb = 0
 store_funct3 Sh = 1
 store_funct3 Sw = 2
 store_funct3 Sd = 3
 
+-- what the machine's store of that name writes
 abbrev pub store_size : StoreOP → ℕ
-store_size Sb = 1
-store_size Sh = 2
-store_size Sw = 4
-store_size Sd = 8
+store_size op = store_width (store_op op)
 
 abbrev pub store_name : StoreOP → List ℕ
 store_name Sb = codes "sb"

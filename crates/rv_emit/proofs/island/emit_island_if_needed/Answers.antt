@@ -1,8 +1,21 @@
-use Rattle.std.proofs.Common.{refl, sym, ◌∙◌, inl, inr}
+use Rattle.std.proofs.Common.{refl, sym, ap, ◌∙◌, inl, inr, length}
+use Rattle.std.specs.Prelude.{◌||◌}
+use Rattle.std.proofs.lemmas.Bool.{or_parts}
+use Rattle.mach_buffer.specs.Buffer.{bytes_of}
+use Rattle.mach_uses.specs.Reach.{is_needed}
+use Rattle.rv_emit.specs.Emitted.{pending}
 use Rattle.rv_emit.proofs.island.emit_island_if_needed.Goals as goal
 
 pub returns-then-not-island_needed-clause-made : goal.returns-then-not-island_needed-clause-made
-returns-then-not-island_needed-clause-made c = record { asked = sym c.if-not-island_needed.true ∙ c.island_needed.ensures; put = inl (refl, refl) }
+returns-then-not-island_needed-clause-made c =
+    let asked = or_parts _ _ (sym c.island_needed.ensures ∙ c.if-not-island_needed.true) in
+    record { asked = sym asked.1; put = inl (refl, refl) }
 
 pub returns-clause-made : goal.returns-clause-made
-returns-clause-made c = record { asked = sym c.if-not-island_needed.false ∙ c.island_needed.ensures; put = inr (refl, c.in_ok-put_island.ensures.island) }
+returns-clause-made c =
+    let put = c.in_ok-put_island.ensures in
+    let sink = c.args.sink.now in
+    record {
+      asked = sym c.if-not-island_needed.false ∙ c.island_needed.ensures ∙ ap (λ spoiled. spoiled || is_needed (length (bytes_of sink)) c.args.distance (pending sink)) put.unspoiled;
+      put = inr (refl, put.island);
+    }

@@ -33,3 +33,6 @@ returns-clause-island c =
     (λ flags. subst (λ (x : Shape LabelUse). Puts flags x.allocated (wide_jump_to (Label c.in_ok-after_island.after_island) ∷ []) x (shape_of c.put_wide_jump.new.sink)) s (j.slot flags).puts)
     (can_island c.args.sink.now c.put_wide_jump.new.sink c.in_ok-after_island.after_island p c.requires.reach c.requires.room)
     (ap (λ x. x.records) j.word ∙ ap (λ x. x.records) s)
+
+pub returns-clause-unspoiled : goal.returns-clause-unspoiled
+returns-clause-unspoiled c = c.in_ok-after_island.ensures.allocated.0

@@ -2,4 +2,4 @@ use Rattle.std.proofs.lemmas.Result.{on_ok_weaker}
 use Rattle.rv_emit.proofs.shortest.put_rri.Goals as goal
 
 pub returns-clause-slots : goal.returns-clause-slots
-returns-clause-slots c = on_ok_weaker c.put_encoded.result (λ puts. puts c.args.flags _ c.encoded_rri.ensures) c.put_encoded.ensures.slot
+returns-clause-slots c = on_ok_weaker c.put_encoded.result (λ puts. puts c.args.flags _ c.encoded_rri.ensures.holds) c.put_encoded.ensures.slot

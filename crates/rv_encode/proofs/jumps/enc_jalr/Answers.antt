@@ -3,4 +3,4 @@ use Rattle.rv_encode.proofs.Decoding.{jalr_decodes}
 use Rattle.rv_encode.proofs.jumps.enc_jalr.Goals as goal
 
 pub returns : goal.returns
-returns c = λ flags. jalr_decodes flags c.encode_i_type.result (number_of c.args.rd.reg) (number_of c.args.base) c.args.offset c.encode_i_type.ensures
+returns c = λ flags. jalr_decodes flags c.encode_i_type.result (number_of c.args.rd.reg) (number_of c.args.base) c.args.offset c.encode_i_type.ensures.layout
