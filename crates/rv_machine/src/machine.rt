@@ -77,7 +77,7 @@ impl IntMachine {
         }
     }
 
-    fn flags(&self) -> IsaFlags
+    pub fn flags(&self) -> IsaFlags
         ensures { result ≡ self.now.flags }
     {
         self.flags

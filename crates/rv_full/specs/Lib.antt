@@ -1,0 +1,5 @@
+pub mod Units
+pub mod Rows
+pub mod Steps
+pub mod Shared
+pub mod View
