@@ -145,6 +145,9 @@ unit_differs flags k w =
 
 -- ---- by opcode
 
+is_opcode : (k : ℕ) → (k == AUIPC) ≡ true → k ≡ AUIPC
+is_opcode k h = grind (arith, nat_tests)
+
 auipc_opcode : (flags : IsaFlags) (k w : ℕ) → has_auipc (by_opcode flags k w) ≡ true → k ≡ AUIPC
 auipc_opcode flags k w e =
     own (k == LUI) (k == AUIPC) _ refl
@@ -158,7 +161,7 @@ auipc_opcode flags k w e =
   where
     own : (c b : Bool) (rest : Option Decoded) → (k == AUIPC) ≡ b → has_auipc rest ≡ false → has_auipc (if c then Some (u_layout w (Base base.Lui)) else if b then Some (u_layout w (Base base.Auipc)) else rest) ≡ true → k ≡ AUIPC
     own true b rest is p f = absurd (cc)
-    own false true rest is p f = grind (arith, nat_tests)
+    own false true rest is p f = is_opcode k is
     own false false rest is p f = absurd (cc)
 
 -- ---- its fields

@@ -1,11 +1,11 @@
 -- The machine with others that write to its memory between its steps: what they write is a schedule, a list of writes for each
 -- of the next steps.
-use Rattle.std.specs.Prelude.{◌≡◌, ℕ, zero, suc, ◌+◌, ◌-◌, ◌^◌, Bool, if◌then◌else◌, nat_lt, List, [], ◌∷◌, Option, Some, None}
+use Rattle.std.specs.Prelude.{ℕ, zero, suc, ◌+◌, ◌-◌, ◌^◌, Bool, if◌then◌else◌, nat_lt, List, [], ◌∷◌, Option, Some, None}
 use Rattle.std.specs.FinMap as map
 use Rattle.rv_base.specs.declared.flags.IsaFlags.{IsaFlags}
 use Rattle.rv_machine.specs.State.{State, at, wrap}
 use Rattle.rv_full.specs.declared.units.Reservation.{Reservation}
-use Rattle.rv_full.specs.Units.{Units, FullState, set_reserved}
+use Rattle.rv_full.specs.Units.{FullState, set_reserved}
 use Rattle.rv_full.specs.Steps.{fstep}
 
 -- an address, and the byte that is written there

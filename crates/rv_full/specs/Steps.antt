@@ -1,5 +1,5 @@
 -- Steps of the machine with all units, one and many.
-use Rattle.std.specs.Prelude.{◌≡◌, ℕ, zero, suc, ◌+◌, ◌%◌, nat_eq, if◌then◌else◌, List, [], ◌∷◌, Option, Some, None}
+use Rattle.std.specs.Prelude.{◌≡◌, ℕ, zero, suc, ◌+◌, ◌%◌, nat_eq, if◌then◌else◌, List, [], Option, Some, None}
 use Rattle.rv_base.specs.declared.flags.IsaFlags.{IsaFlags}
 use Rattle.rv_machine.specs.declared.decoding.Decoded.{Decoded}
 use Rattle.rv_machine.specs.State.{State, wrap, at, store, set_reg}
@@ -9,7 +9,11 @@ use Rattle.rv_full.specs.declared.answer.Answer.{Answer}
 use Rattle.rv_full.specs.declared.machine.FullStep.{FullStep}
 use Rattle.rv_full.specs.declared.machine.FullStep.TheVariants.{Stepped, Stopped, NeedsAnswer}
 use Rattle.rv_full.specs.Units.{FullValues, FullState, Units, values_of, put, full_at, with_units}
-use Rattle.rv_full.specs.Rows.{Kind, fits, Row, Absent, Does, Takes, unit_row}
+use Rattle.rv_full.specs.Rows.{Kind, fits, Row, Absent, Does, Takes, first, rest}
+use Rattle.rv_full.specs.UnitRows.{unit_row}
+use Rattle.rv_full.specs.Rows.{entry_of, noted}
+use Rattle.rv_full.specs.Vectors.{store_some}
+use Rattle.rv_full.specs.declared.answer.Answer.TheVariants.{Stored}
 
 -- what comes next: a state, an answer that is wanted, or nothing
 pub data Next : Type 0 where
@@ -17,15 +21,15 @@ pub data Next : Type 0 where
   Asks : Next
   Halts : Next
 
-abbrev pub taken : ℕ → Kind → (Answer → FullValues) → List Answer → Next
-taken pc kind f [] = Asks
-taken pc kind f (a ∷ more) = if fits kind a then Goes (full_at pc (f a) more) else Asks
+abbrev pub taken : ℕ → Kind → (Answer → FullValues) → Option Answer → List Answer → Next
+taken pc kind f None more = Asks
+taken pc kind f (Some a) more = if fits kind a then Goes (full_at pc (f a) more) else Asks
 
 -- after a row, at the address after its word
 abbrev pub row_next : ℕ → Row → List Answer → Next
 row_next pc Absent answers = Halts
 row_next pc (Does v) answers = Goes (full_at pc v answers)
-row_next pc (Takes kind f) answers = taken pc kind f answers
+row_next pc (Takes kind f) answers = taken pc kind f (first answers) (rest answers)
 
 abbrev pub unit_on : Option Decoded → FullState → Next
 unit_on None b = Halts
@@ -75,6 +79,18 @@ Answers Stepped next m n = (next ≡ Goes n.full) × (n.flags ≡ m.flags)
 Answers Stopped next m n = (next ≡ Halts) × (n ≡ m)
 Answers NeedsAnswer next m n = (next ≡ Asks) × (n ≡ m)
 
+-- the address after an operation's word
+abbrev pub next_of : Decoded → Machine → ℕ
+next_of d m = wrap (m.full.state.pc + d.len)
+
+-- what is answered where a row's operation is at the pc
+abbrev pub Acts : FullStep → Row → Decoded → Machine → Machine → Type 0
+Acts step row d m n = Answers step (row_next (next_of d m) row m.full.answers) m n
+
+-- values, at the address after an operation's word
+abbrev pub goes_on : Machine → Decoded → FullValues → List Answer → Machine
+goes_on m d v answers = with_full m (full_at (next_of d m) v answers)
+
 -- what a step returns
 abbrev pub FullSteps : FullStep → Machine → Machine → Type 0
 FullSteps step m n = Answers step (fnext m.flags m.full) m n
@@ -104,3 +120,12 @@ with_own m u = with_full m (with_units m.full u)
 
 abbrev pub with_answers : Machine → List Answer → Machine
 with_answers m answers = with_full m (record { state = m.full.state; units = m.full.units; answers = answers })
+
+-- bytes put at an address and on, where there is one, and an entry more
+abbrev pub stored_some : Machine → ℕ → List (Option ℕ) → Decoded → List ℕ → List (Option ℕ) → Machine
+stored_some m a bytes d inputs answer =
+    with_full m (record {
+      state = at m.full.state.pc (record { regs = m.full.state.values.regs; mem = store_some m.full.state.values.mem a bytes });
+      units = noted (entry_of d m.full.units inputs [] (Stored answer)) m.full.units;
+      answers = m.full.answers;
+    })

@@ -1,7 +1,11 @@
 //! What is handed to the machine for its units, and what it notes of it.
 
-use rv_base::List;
+ghost use Rattle.std.specs.Prelude.{◌≡◌, IfOk};
+ghost use Rattle.rv_full.specs.Rows.{bits_of, vectors_of, stored_of, success_of, length_of};
+
+use rv_base::{List, OutOfMemory};
 use rv_machine::Decoded;
+use std::alloc::Global;
 
 /// What a unit answers.
 #[derive(Drop)]
@@ -31,4 +35,51 @@ pub struct Entry {
     /// The bytes that a vector load reads.
     pub span: List<u8>,
     pub answer: Answer,
+}
+
+pub fn bits_of(answer: &Answer) -> Option<u64>
+    ensures { result ≡ bits_of answer.now }
+{
+    match answer {
+        Answer::Bits(bits) => Some(*bits),
+        Answer::Vectors(_) | Answer::Stored(_) | Answer::Success(_) | Answer::Length(_) => None,
+    }
+}
+
+pub fn success_of(answer: &Answer) -> Option<bool>
+    ensures { result ≡ success_of answer.now }
+{
+    match answer {
+        Answer::Success(success) => Some(*success),
+        Answer::Bits(_) | Answer::Vectors(_) | Answer::Stored(_) | Answer::Length(_) => None,
+    }
+}
+
+pub fn length_of(answer: &Answer) -> Option<u8>
+    ensures { result ≡ length_of answer.now }
+{
+    match answer {
+        Answer::Length(length) => Some(*length),
+        Answer::Bits(_) | Answer::Vectors(_) | Answer::Stored(_) | Answer::Success(_) => None,
+    }
+}
+
+/// A copy of the registers.
+pub fn vectors_of(alloc: Global, answer: &Answer) -> Result<Option<List<(u8, u128)>>, OutOfMemory>
+    ensures { IfOk result (λ registers. registers ≡ vectors_of answer.now) }
+{
+    match answer {
+        Answer::Vectors(registers) => Ok(Some(List::from_slice(alloc, registers.as_slice())?)),
+        Answer::Bits(_) | Answer::Stored(_) | Answer::Success(_) | Answer::Length(_) => Ok(None),
+    }
+}
+
+/// A copy of the bytes.
+pub fn stored_of(alloc: Global, answer: &Answer) -> Result<Option<List<Option<u8>>>, OutOfMemory>
+    ensures { IfOk result (λ bytes. bytes ≡ stored_of answer.now) }
+{
+    match answer {
+        Answer::Stored(bytes) => Ok(Some(List::from_slice(alloc, bytes.as_slice())?)),
+        Answer::Bits(_) | Answer::Vectors(_) | Answer::Success(_) | Answer::Length(_) => Ok(None),
+    }
 }

@@ -3,18 +3,19 @@
 
 ghost use Rattle.std.specs.Prelude.{◌≡◌, ℕ, ◌+◌, ◌++◌, ◌∷◌, [], ◌<◌, ◌≤◌, length, take, OnOk, OnErr, IfOk, None};
 ghost use Rattle.rv_machine.specs.Layout.{HasFileRegisters};
-ghost use Rattle.rv_machine.specs.State.{byte, reg, wrap};
+ghost use Rattle.rv_machine.specs.State.{byte, reg};
 ghost use Rattle.rv_machine.specs.Steps.{fetch};
 ghost use Rattle.rv_full.specs.Units.{IsFullState, values_of, freg, vreg, set_freg, set_vreg, set_setting};
-ghost use Rattle.rv_full.specs.Rows.{unit_row};
-ghost use Rattle.rv_full.specs.Steps.{row_next, unit_next, fstep, Machine, with_pc, with_reg, with_bytes, with_own, with_answers, with_full, Answers, FullSteps, Ran};
+ghost use Rattle.rv_full.specs.UnitRows.{unit_row};
+ghost use Rattle.rv_full.specs.declared.machine.FullStep.TheVariants.{Stepped};
+ghost use Rattle.rv_full.specs.Steps.{unit_next, fstep, next_of, Acts, with_pc, with_reg, with_bytes, with_own, with_answers, with_full, Answers, FullSteps, Ran};
 ghost use Rattle.rv_full.specs.Shared.{foreign, is_reserved};
 ghost use Rattle.rv_full.specs.View.{zero_full};
 
 use crate::answer::{Answer, Entry};
 use crate::units::{Reservation, Setting};
 use rv_base::{IsaFlags, List, OutOfMemory};
-use rv_machine::{Decoded, IntMachine, Step, decode};
+use rv_machine::{Decoded, IntMachine, MOp, Step, decode};
 use std::alloc::Global;
 use std::marker::Model;
 
@@ -31,18 +32,19 @@ pub enum FullStep {
 /// A hart with integer, floating-point and vector registers.
 #[derive(Drop)]
 pub struct FullMachine {
-    integers: IntMachine,
+    pub(crate) alloc: Global,
+    pub(crate) integers: IntMachine,
     /// The registers f0 to f31.
-    floats: [u64; 32],
+    pub(crate) floats: [u64; 32],
     /// The registers v0 to v31.
-    vectors: [u128; 32],
-    frm: u8,
-    reserved: Option<Reservation>,
-    setting: Setting,
+    pub(crate) vectors: [u128; 32],
+    pub(crate) frm: u8,
+    pub(crate) reserved: Option<Reservation>,
+    pub(crate) setting: Setting,
     /// All answers that were given, of which so many were taken.
-    answers: Vec<Answer>,
-    answers_taken: usize,
-    trace: List<Entry>,
+    pub(crate) answers: Vec<Answer>,
+    pub(crate) answers_taken: usize,
+    pub(crate) trace: List<Entry>,
 }
 
 impl Model for FullMachine {
@@ -80,6 +82,7 @@ impl FullMachine {
         ensures state { IsFullState result.full }
     {
         FullMachine {
+            alloc,
             integers: IntMachine::new(alloc, flags, pc),
             floats: [0; 32],
             vectors: [0; 32],
@@ -229,7 +232,7 @@ impl FullMachine {
         Ok(())
     }
 
-    fn word(&self, at: u64) -> u32
+    pub(crate) fn word(&self, at: u64) -> u32
         ensures { result ≡ fetch self.now.full.state.values.mem at }
     {
         u32::from_le_bytes([
@@ -240,12 +243,31 @@ impl FullMachine {
         ])
     }
 
+    /// To the address after an operation's word.
+    pub(crate) fn go_on(&mut self, d: Decoded) -> FullStep
+        ensures stepped { result ≡ Stepped }
+        ensures state { self.new ≡ with_pc self.old (next_of d self.old) }
+    {
+        self.set_pc(self.pc().wrapping_add(u64::from(d.len)));
+        FullStep::Stepped
+    }
+
     fn act(&mut self, d: Decoded) -> Result<FullStep, OutOfMemory>
         requires { HasFileRegisters d }
-        ensures ok { IfOk result (λ step. Answers step (row_next (wrap (self.old.full.state.pc + d.len)) (unit_row d (values_of self.old.full)) self.old.full.answers) self.old self.new) }
+        ensures ok { IfOk result (λ step. Acts step (unit_row d (values_of self.old.full)) d self.old self.new) }
         ensures err { OnErr result (self.new ≡ self.old) }
     {
-        Ok(FullStep::Stopped)
+        match d.op {
+            MOp::Base(_) | MOp::Load(_) | MOp::Store(_) | MOp::Alu(_) => Ok(FullStep::Stopped),
+            MOp::Carry(op) => Ok(self.act_carry(op, d)),
+            MOp::Atomic(op, width) => self.act_atomic(op, width, d),
+            MOp::Csr(op) => Ok(self.act_csr(op, d)),
+            MOp::FloatLoad(format) => Ok(self.act_float_load(format, d)),
+            MOp::FloatStore(format) => self.act_float_store(format, d),
+            MOp::Float(format, op) => self.act_float(format, op, d),
+            MOp::VecMem(op) => self.act_vector_memory(op, d),
+            MOp::Vec { funct6, funct3 } => self.act_vector(funct6, funct3, d),
+        }
     }
 
     fn unit_step(&mut self) -> Result<FullStep, OutOfMemory>

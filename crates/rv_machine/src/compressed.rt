@@ -52,9 +52,16 @@ fn quadrant_0(flags: IsaFlags, half: u16) -> Option<Decoded>
         4 if flags.has_zcb => zcb_memory(half),
         6 => Some(layouts::store(half, MOp::Store(StoreOp::Sw), lw_imm(half))),
         7 => Some(layouts::store(half, MOp::Store(StoreOp::Sd), ld_imm(half))),
-        1 if flags.has_zcd => Some(layouts::load(half, MOp::FloatLoad(FloatFormat::D), ld_imm(half))),
-        5 if flags.has_zcd =>
-            Some(layouts::store(half, MOp::FloatStore(FloatFormat::D), ld_imm(half))),
+        1 if flags.has_zcd => Some(layouts::load(
+            half,
+            MOp::FloatLoad(FloatFormat::D),
+            ld_imm(half),
+        )),
+        5 if flags.has_zcd => Some(layouts::store(
+            half,
+            MOp::FloatStore(FloatFormat::D),
+            ld_imm(half),
+        )),
         _ => None,
     }
 }
@@ -203,10 +210,16 @@ fn quadrant_2(flags: IsaFlags, half: u16) -> Option<Decoded>
         4 => jalr_add(half),
         6 => Some(layouts::store_sp(half, MOp::Store(StoreOp::Sw), swsp_imm(half))),
         7 => Some(layouts::store_sp(half, MOp::Store(StoreOp::Sd), sdsp_imm(half))),
-        1 if flags.has_zcd =>
-            Some(layouts::load_sp(half, MOp::FloatLoad(FloatFormat::D), ldsp_imm(half))),
-        5 if flags.has_zcd =>
-            Some(layouts::store_sp(half, MOp::FloatStore(FloatFormat::D), sdsp_imm(half))),
+        1 if flags.has_zcd => Some(layouts::load_sp(
+            half,
+            MOp::FloatLoad(FloatFormat::D),
+            ldsp_imm(half),
+        )),
+        5 if flags.has_zcd => Some(layouts::store_sp(
+            half,
+            MOp::FloatStore(FloatFormat::D),
+            sdsp_imm(half),
+        )),
         _ => None,
     }
 }

@@ -23,10 +23,10 @@ pub use compressed::decode_half;
 pub use decoding::{Decoded, decode};
 pub use machine::{IntMachine, Step};
 pub use opcodes::{
-    AMO, AUIPC, BRANCH, JAL, JALR, LOAD, LOAD_FP, LUI, MADD, MISC_MEM, MSUB, NMADD, NMSUB, OP, OP_32,
-    OP_FP, OP_IMM, OP_IMM_32, OP_V, STORE, STORE_FP, SYSTEM,
+    AMO, AUIPC, BRANCH, JAL, JALR, LOAD, LOAD_FP, LUI, MADD, MISC_MEM, MSUB, NMADD, NMSUB, OP,
+    OP_32, OP_FP, OP_IMM, OP_IMM_32, OP_V, STORE, STORE_FP, SYSTEM,
 };
 pub use ops::{
-    AluOp, AtomicOp, AtomicWidth, BaseOp, BitOp, CarryOp, CsrOp, FloatFormat, FloatOp, IntOp, LoadOp,
-    MOp, MulOp, StoreOp, VecFields, VecMemOp,
+    AluOp, AtomicOp, AtomicWidth, BaseOp, BitOp, CarryOp, CsrOp, FloatFormat, FloatOp, IntOp,
+    LoadOp, MOp, MulOp, StoreOp, VecFields, VecMemOp,
 };
