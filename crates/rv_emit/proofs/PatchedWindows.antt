@@ -83,15 +83,15 @@ lower_in w opcode rd funct3 rs new h four all same =
     let b3 = all 3 (omega arith) in
     lower_kept w opcode rd funct3 rs (slice_index new 0) (slice_index new 1) (slice_index new 2) (slice_index new 3) b0 b1 b2 b3 (same_byte (slice_index new 0) (w % 256) b0 (omega arith) same.0) (same_byte (slice_index new 1) (w / 256 % 256) b1 (omega arith) same.1.0) (same_low (slice_index new 2) (w / 65536 % 256) same.1.1.0) h
 
-addi_decodes : (w : ℕ) → word_funct3 w ≡ 0 → by_opcode OP_IMM w ≡ Some (i_layout w (Alu (Int Addi)))
-addi_decodes w z = rw z
+addi_decodes : (flags : IsaFlags) (w : ℕ) → word_funct3 w ≡ 0 → by_opcode flags OP_IMM w ≡ Some (i_layout w (Alu (Int Addi)))
+addi_decodes flags w z = rw z
 
 pub addi_patchable : (flags : IsaFlags) (w rd rs : ℕ) → w < 2 ^ 32 → IsIType w OP_IMM rd 0 rs 0 → IsPatchable flags PCRelLo12I (word_bytes w) (λ d. decoded_addi rd rs (lower_of_distance d) ∷ [])
 addi_patchable flags w rd rs fits h = record {
   long = refl;
   fresh = let e = h.imm_is in lower_fresh w (omega arith);
   patched = λ new d long all same aims. let k = lower_in w OP_IMM rd 0 rs new h long all same in
-      encodes flags new _ long (opcode_decodes flags (word_at new) OP_IMM k.opcode_is refl ∙ addi_decodes (word_at new) k.funct3_is ∙ (λ i. Some (decoded_addi (k.rd_is i) (k.rs1_is i) (signed (2 ^ 11) (aims i)))));
+      encodes flags new _ long (opcode_decodes flags (word_at new) OP_IMM k.opcode_is refl ∙ addi_decodes flags (word_at new) k.funct3_is ∙ (λ i. Some (decoded_addi (k.rd_is i) (k.rs1_is i) (signed (2 ^ 11) (aims i)))));
 }
 
 pub load_patchable : (flags : IsaFlags) (op : LoadOP) (w rd rs : ℕ) → w < 2 ^ 32 → IsIType w LOAD rd (load_funct3 op) rs 0 → IsPatchable flags PCRelLo12I (word_bytes w) (λ d. decoded_load op rd rs (lower_of_distance d) ∷ [])

@@ -25,6 +25,7 @@ use Rattle.rv_machine.specs.Opcodes.{LUI, AUIPC, JAL, JALR, BRANCH, LOAD, STORE,
 use Rattle.rv_machine.specs.Layout.{word_opcode, i_bits, i_imm, s_imm, b_imm, u_bits, u_imm, j_imm, bare_form}
 use Rattle.rv_machine.specs.Tables.{branch_entry, load_entry, store_entry}
 use Rattle.rv_machine.specs.Decode.{decode, by_opcode}
+use Rattle.rv_machine.specs.UnitDecode.{decode_csr}
 use Rattle.rv_machine.proofs.DecodeLaws.{decode_wide}
 use Rattle.rv_encode.specs.Layouts.{IsRType, IsIType, IsSType, IsBType, IsUType, IsJType}
 use Rattle.rv_encode.specs.Operations.{decoded, decoded_rrr, decoded_rri, decoded_branch, decoded_load, decoded_store}
@@ -32,8 +33,8 @@ use Rattle.rv_encode.proofs.Numbers.{signed-low_bits}
 use Rattle.rv_encode.proofs.Tables.{rrr_fields, rri_fields, branch_table, load_table, store_table}
 
 -- a word whose opcode ends in two bits 1 is decoded by it
-pub opcode_decodes : (flags : IsaFlags) (w opcode : ℕ) → word_opcode w ≡ opcode → nat_eq (opcode % 4) 3 ≡ true → decode flags w ≡ by_opcode opcode w
-opcode_decodes flags w opcode h wide = decode_wide flags w (ap (λ k. nat_eq (k % 4) 3) h ∙ wide) ∙ ap (λ k. by_opcode k w) h
+pub opcode_decodes : (flags : IsaFlags) (w opcode : ℕ) → word_opcode w ≡ opcode → nat_eq (opcode % 4) 3 ≡ true → decode flags w ≡ by_opcode flags opcode w
+opcode_decodes flags w opcode h wide = decode_wide flags w (ap (λ k. nat_eq (k % 4) 3) h ∙ wide) ∙ ap (λ k. by_opcode flags k w) h
 
 rrr_wide : (op : AluOPRRR) → nat_eq ((rrr_numbers op).opcode % 4) 3 ≡ true
 rrr_wide rrr.Add = refl
@@ -45,13 +46,13 @@ rri_wide _ = refl
 
 -- an operation of two registers, whose word has them as they are or exchanged
 pub rrr_straight : (flags : IsaFlags) (op : AluOPRRR) (w rd rs1 rs2 : ℕ) → is_exchanged op ≡ false → IsRType w (rrr_numbers op).opcode rd (rrr_numbers op).funct3 rs1 rs2 (rrr_numbers op).funct7 → decode flags w ≡ Some (decoded_rrr op rd rs1 rs2)
-rrr_straight flags op w rd rs1 rs2 straight h = rw straight (opcode_decodes flags w _ h.opcode_is (rrr_wide op) ∙ rrr_fields op w rd rs1 rs2 h)
+rrr_straight flags op w rd rs1 rs2 straight h = rw straight (opcode_decodes flags w _ h.opcode_is (rrr_wide op) ∙ rrr_fields flags op w rd rs1 rs2 h)
 
 pub rrr_exchanged : (flags : IsaFlags) (op : AluOPRRR) (w rd rs1 rs2 : ℕ) → is_exchanged op ≡ true → IsRType w (rrr_numbers op).opcode rd (rrr_numbers op).funct3 rs2 rs1 (rrr_numbers op).funct7 → decode flags w ≡ Some (decoded_rrr op rd rs1 rs2)
-rrr_exchanged flags op w rd rs1 rs2 exchanged h = rw exchanged (opcode_decodes flags w _ h.opcode_is (rrr_wide op) ∙ rrr_fields op w rd rs2 rs1 h)
+rrr_exchanged flags op w rd rs1 rs2 exchanged h = rw exchanged (opcode_decodes flags w _ h.opcode_is (rrr_wide op) ∙ rrr_fields flags op w rd rs2 rs1 h)
 
 pub rri_decodes : (flags : IsaFlags) (op : AluOPRRI) (w rd rs : ℕ) (imm : Imm12) → IsIType w (rri_numbers op).opcode rd (rri_numbers op).funct3 rs (imm12_of (rri_numbers op).upper (low_bits (2 ^ 12) imm.value)) → decode flags w ≡ Some (decoded_rri op rd rs imm.value)
-rri_decodes flags op w rd rs imm h = opcode_decodes flags w _ h.opcode_is (rri_wide op) ∙ rri_fields op w rd rs imm.value (omega (arith, ints)) (omega (arith, ints)) h
+rri_decodes flags op w rd rs imm h = opcode_decodes flags w _ h.opcode_is (rri_wide op) ∙ rri_fields flags op w rd rs imm.value (omega (arith, ints)) (omega (arith, ints)) h
 
 upper_imm : (w : ℕ) (imm : Imm20) → u_bits w ≡ low_bits (2 ^ 20) imm.value → u_imm w ≡ imm.value
 upper_imm w imm h = ap (signed (2 ^ 19)) h ∙ signed-low_bits (2 ^ 19) imm.value (omega (arith, ints)) (omega (arith, ints))
@@ -97,4 +98,4 @@ branch_decodes flags w c d up low h =
 pub ebreak_decodes : (flags : IsaFlags) (w : ℕ) → IsIType w SYSTEM 0 0 0 1 → decode flags w ≡ Some (bare_form (Base base.Ebreak))
 ebreak_decodes flags w h =
     opcode_decodes flags w SYSTEM h.opcode_is refl
-    ∙ (λ i. if (h.funct3_is i == 0) && (h.rd_is i == 0) && (h.rs1_is i == 0) && (h.imm_is i == 1) then Some (bare_form (Base base.Ebreak)) else None)
+    ∙ (λ i. if (h.funct3_is i == 0) && (h.rd_is i == 0) && (h.rs1_is i == 0) && (h.imm_is i == 1) then Some (bare_form (Base base.Ebreak)) else decode_csr w)

@@ -53,7 +53,7 @@ in_quadrant flags half zca op =
     if zca then
     if op == 0 then quadrant_0 flags half else
     if op == 1 then quadrant_1 flags half else
-    if op == 2 then quadrant_2 half else
+    if op == 2 then quadrant_2 flags half else
     None else
     None
 

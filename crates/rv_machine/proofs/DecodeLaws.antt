@@ -9,12 +9,16 @@ use Rattle.rv_machine.specs.Decode.{by_opcode, decode}
 
 -- the width that the two lowest bits give
 abbrev by_width : IsaFlags → ℕ → Bool → Option Decoded
-by_width flags word wide = if wide then by_opcode (word_opcode word) word else decode_half flags (bits word 15 0)
+by_width flags word wide = if wide then by_opcode flags (word_opcode word) word else decode_half flags (bits word 15 0)
 
 -- a word whose two lowest bits are 11 has 32 bits
-pub decode_wide : (flags : IsaFlags) (word : ℕ) → nat_eq (word_opcode word % 4) 3 ≡ true → decode flags word ≡ by_opcode (word_opcode word) word
+pub decode_wide : (flags : IsaFlags) (word : ℕ) → nat_eq (word_opcode word % 4) 3 ≡ true → decode flags word ≡ by_opcode flags (word_opcode word) word
 unfolding decode
 decode_wide flags word wide = ap (by_width flags word) wide
+
+pub decode_narrow : (flags : IsaFlags) (word : ℕ) → nat_eq (word_opcode word % 4) 3 ≡ false → decode flags word ≡ decode_half flags (bits word 15 0)
+unfolding decode
+decode_narrow flags word narrow = ap (by_width flags word) narrow
 
 -- any other is decoded by its low half alone
 pub decode_low : (flags : IsaFlags) (half high : ℕ) → half < 2 ^ 16 → nat_eq (half % 4) 3 ≡ false → decode flags (half + high * 2 ^ 16) ≡ decode_half flags half

@@ -1,14 +1,15 @@
 -- "RVC Instruction Set Listings" of RV64 and "Zcb": the operation that an instruction of 16 bits expands to. Its three-bit
--- register fields name x8 to x15. A hint is its plain expansion, and a reserved spelling has no operation. Floating-point
--- loads and stores, c.beqz and c.bnez have none here.
+-- register fields name x8 to x15. A hint is its plain expansion, and a reserved spelling has no operation. c.beqz and
+-- c.bnez have none here.
 use Rattle.std.specs.Prelude.{ℕ, ◌+◌, ◌*◌, ◌^◌, ◌==◌, ◌&&◌, if◌then◌else◌, ℤ, pos, negsuc, Option, Some, None}
 use Rattle.rv_base.specs.declared.flags.IsaFlags.{IsaFlags}
 use Rattle.rv_machine.specs.declared.decoding.Decoded.{Decoded}
 use Rattle.rv_machine.specs.declared.ops.MOp.{MOp}
-use Rattle.rv_machine.specs.declared.ops.MOp.TheVariants.{Base, Load, Store, Alu}
+use Rattle.rv_machine.specs.declared.ops.MOp.TheVariants.{Base, Load, Store, Alu, FloatLoad, FloatStore}
 use Rattle.rv_machine.specs.declared.ops.BaseOp.TheVariants.{Lui, Jal, Jalr, Ebreak}
 use Rattle.rv_machine.specs.declared.ops.LoadOp.TheVariants.{Lh, Lw, Lbu, Lhu, Ld}
 use Rattle.rv_machine.specs.declared.ops.StoreOp.TheVariants.{Sb, Sh, Sw, Sd}
+use Rattle.rv_machine.specs.declared.ops.FloatFormat.TheVariants.{D}
 use Rattle.rv_machine.specs.declared.ops.AluOp.TheVariants.{Int, Mul, Bit}
 use Rattle.rv_machine.specs.declared.ops.IntOp.TheVariants.{Addi, Xori, Andi, Slli, Srli, Srai, Add, Sub, Xor, Or, And, Addiw, Addw, Subw}
 use Rattle.rv_machine.specs.declared.ops.MulOp.TheVariants.{Mul as Product}
@@ -176,6 +177,9 @@ quadrant_0 flags half =
     if (half_funct3 half == 4) && flags.has_zcb then decode_zcb_memory half else
     if half_funct3 half == 6 then Some (cs_layout half (Store Sw) (lw_imm half)) else
     if half_funct3 half == 7 then Some (cs_layout half (Store Sd) (ld_imm half)) else
+    -- c.fld and c.fsd
+    if (half_funct3 half == 1) && flags.has_zcd then Some (cl_layout half (FloatLoad D) (ld_imm half)) else
+    if (half_funct3 half == 5) && flags.has_zcd then Some (cs_layout half (FloatStore D) (ld_imm half)) else
     None
 
 -- ---- quadrant 1
@@ -264,9 +268,9 @@ decode_jalr_add half =
     if half_rs2 half == 0 then Some (compressed (Base Jalr) 1 (half_rd half) 0 (pos 0)) else
     Some (cr_layout half (Alu (Int Add)))
 
--- c.slli, c.lwsp, c.ldsp, those above by funct4, c.swsp and c.sdsp
-abbrev pub quadrant_2 : ℕ → Option Decoded
-quadrant_2 half =
+-- c.slli, c.lwsp, c.ldsp, those above by funct4, c.swsp, c.sdsp, c.fldsp and c.fsdsp
+abbrev pub quadrant_2 : IsaFlags → ℕ → Option Decoded
+quadrant_2 flags half =
     if half_funct3 half == 0 then Some (decode_slli half) else
     if half_funct3 half == 2 then decode_load_sp half (Load Lw) (lwsp_imm half) else
     if half_funct3 half == 3 then decode_load_sp half (Load Ld) (ldsp_imm half) else
@@ -274,6 +278,8 @@ quadrant_2 half =
     if (half_funct3 half == 4) && (bits half 12 12 == 1) then decode_jalr_add half else
     if half_funct3 half == 6 then Some (css_layout half (Store Sw) (swsp_imm half)) else
     if half_funct3 half == 7 then Some (css_layout half (Store Sd) (sdsp_imm half)) else
+    if (half_funct3 half == 1) && flags.has_zcd then Some (load_sp_layout half (FloatLoad D) (ldsp_imm half)) else
+    if (half_funct3 half == 5) && flags.has_zcd then Some (css_layout half (FloatStore D) (sdsp_imm half)) else
     None
 
 -- ---- all quadrants
@@ -282,7 +288,7 @@ abbrev pub by_quadrant : IsaFlags → ℕ → Option Decoded
 by_quadrant flags half =
     if half_op half == 0 then quadrant_0 flags half else
     if half_op half == 1 then quadrant_1 flags half else
-    if half_op half == 2 then quadrant_2 half else
+    if half_op half == 2 then quadrant_2 flags half else
     None
 
 -- the operation of an instruction of 16 bits, of which there are only those of Zca

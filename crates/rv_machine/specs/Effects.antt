@@ -2,7 +2,7 @@
 use Rattle.std.specs.Prelude.{ℕ, ◌+◌, ◌*◌, ◌/◌, ◌^◌, nat_eq, nat_lt, if◌then◌else◌, Bool, not, List, Option, Some, None}
 use Rattle.rv_machine.specs.declared.decoding.Decoded.{Decoded}
 use Rattle.rv_machine.specs.declared.ops.MOp.{MOp}
-use Rattle.rv_machine.specs.declared.ops.MOp.TheVariants.{Base, Load, Store, Alu}
+use Rattle.rv_machine.specs.declared.ops.MOp.TheVariants.{Base, Load, Store, Alu, Carry, Atomic, Csr, FloatLoad, FloatStore, Float, VecMem, Vec}
 use Rattle.rv_machine.specs.declared.ops.BaseOp.{BaseOp}
 use Rattle.rv_machine.specs.declared.ops.BaseOp.TheVariants.{Lui, Auipc, Jal, Jalr, Beq, Bne, Blt, Bge, Bltu, Bgeu, Fence, Ebreak}
 use Rattle.rv_machine.specs.declared.ops.AluOp.{AluOp}
@@ -75,11 +75,20 @@ base_act Bgeu d s = Some (branches d s (not (nat_lt (x_of d s) (y_of d s))))
 base_act Fence d s = Some (at (next_of d s) s.values)
 base_act Ebreak d s = None
 
+-- the units' operations are none of this machine's
 abbrev pub act_on : MOp → Decoded → State → Option State
 act_on (Base op) d s = base_act op d s
 act_on (Load op) d s = Some (puts d s (load_result op s.values.mem (address_of d s)))
 act_on (Store op) d s = Some (writes d s (store_bytes op (y_of d s)))
 act_on (Alu op) d s = Some (puts d s (alu_result op (x_of d s) (y_of d s) (imm_of d)))
+act_on (Carry op) d s = None
+act_on (Atomic op width) d s = None
+act_on (Csr op) d s = None
+act_on (FloatLoad format) d s = None
+act_on (FloatStore format) d s = None
+act_on (Float format op) d s = None
+act_on (VecMem op) d s = None
+act_on (Vec funct6 funct3) d s = None
 
 -- the state after an operation, where it has a step
 abbrev pub act : Decoded → State → Option State

@@ -1,6 +1,6 @@
 -- "2.2 Base Instruction Formats" and "2.3 Immediate Encoding Variants": the fields of a word of 32 bits, its immediates,
 -- and the operation that each layout holds.
-use Rattle.std.specs.Prelude.{ℕ, ◌+◌, ◌-◌, ◌*◌, ◌/◌, ◌%◌, ◌^◌, ◌<◌, ℤ, pos, false}
+use Rattle.std.specs.Prelude.{ℕ, ◌+◌, ◌-◌, ◌*◌, ◌/◌, ◌%◌, ◌^◌, ◌<◌, ℤ, pos, Bool, false, ◌==◌}
 use Rattle.rv_machine.specs.declared.decoding.Decoded.{Decoded}
 use Rattle.rv_machine.specs.declared.ops.MOp.{MOp}
 use Rattle.rv_machine.specs.State.{signed}
@@ -140,6 +140,60 @@ j_layout word op = decoded op (word_rd word) 0 0 (j_imm word)
 -- The immediate is 16 * pred + succ.
 abbrev pub fence_layout : ℕ → MOp → Decoded
 fence_layout word op = decoded op 0 0 0 (pos (bits word 27 20))
+
+-- ---- operations of the units
+
+-- bits 26:25, a format; bits 31:27, a third source
+abbrev pub word_fmt : ℕ → ℕ
+word_fmt word = bits word 26 25
+
+abbrev pub word_funct5 : ℕ → ℕ
+word_funct5 word = bits word 31 27
+
+-- with a third source, and a rounding mode
+abbrev pub rounded : Decoded → ℕ → ℕ → Decoded
+rounded d rs3 rm = record { op = d.op; rd = d.rd; rs1 = d.rs1; rs2 = d.rs2; rs3 = rs3; imm = d.imm; rm = rm; vm = d.vm; len = d.len }
+
+--  31     27 26 25 24  20 19  15 14 12 11  7 6      0
+--  | funct5 | fmt |  rs2 |  rs1 |  rm |  rd | opcode |   R, with a rounding mode
+abbrev pub rounded_layout : ℕ → MOp → Decoded
+rounded_layout word op = rounded (r_layout word op) 0 (word_funct3 word)
+
+abbrev pub rounded_unary_layout : ℕ → MOp → Decoded
+rounded_unary_layout word op = rounded (unary_layout word op) 0 (word_funct3 word)
+
+--  31  27 26 25 24  20 19  15 14 12 11  7 6      0
+--  |  rs3 | fmt |  rs2 |  rs1 |  rm |  rd | opcode |   R4
+abbrev pub r4_layout : ℕ → MOp → Decoded
+r4_layout word op = rounded (r_layout word op) (word_funct5 word) (word_funct3 word)
+
+--  31     27 26 25 24  20 19  15 14    12 11  7 6      0
+--  | funct5 |aq|rl|  rs2 |  rs1 | funct3 |  rd | opcode |   AMO
+-- The immediate is 2 * aq + rl.
+abbrev pub amo_layout : ℕ → MOp → Decoded
+amo_layout word op = decoded op (word_rd word) (word_rs1 word) (word_rs2 word) (pos (word_fmt word))
+
+-- unmasked where the bit at 25 is 1
+abbrev pub word_vm : ℕ → Bool
+word_vm word = bits word 25 25 == 1
+
+abbrev pub with_mask : Decoded → Bool → Decoded
+with_mask d vm = record { op = d.op; rd = d.rd; rs1 = d.rs1; rs2 = d.rs2; rs3 = d.rs3; imm = d.imm; rm = d.rm; vm = vm; len = d.len }
+
+--  31     26 25 24  20 19  15 14    12 11 7 6      0
+--  | funct6 |vm|  vs2 |  vs1 | funct3 |  vd | opcode |   vector arithmetic
+abbrev pub vector_layout : ℕ → MOp → Decoded
+vector_layout word op = with_mask (r_layout word op) (word_vm word)
+
+--  31     26 25 24  20 19  15 14   12 11 7 6      0
+--  |    0   |vm|   0  |  rs1 | width |  vd | opcode |   a unit-stride load or store of a vector
+abbrev pub vector_memory_layout : ℕ → MOp → Decoded
+vector_memory_layout word op = with_mask (unary_layout word op) (word_vm word)
+
+--  31 30 29       20 19  15 14    12 11  7 6      0
+--  | 11 |   vtype   |  avl | funct3 |  rd | opcode |   vsetivli
+abbrev pub vsetivli_layout : ℕ → MOp → Decoded
+vsetivli_layout word op = decoded op (word_rd word) (word_rs1 word) 0 (pos (bits word 29 20))
 
 -- the registers of an operation are those of a file of 32
 pub record HasFileRegisters (d : Decoded) : Type 0 where

@@ -3,6 +3,9 @@ pub mod Layout
 pub mod Opcodes
 pub mod Tables
 pub mod Compressed
+pub mod UnitTables
+pub mod Vectors
+pub mod UnitDecode
 pub mod Decode
 pub mod Arithmetic
 pub mod Int

@@ -39,3 +39,30 @@ MISC_MEM = 0x0f
 
 abbrev pub SYSTEM : ℕ
 SYSTEM = 0x73
+
+abbrev pub LOAD_FP : ℕ
+LOAD_FP = 0x07
+
+abbrev pub STORE_FP : ℕ
+STORE_FP = 0x27
+
+abbrev pub AMO : ℕ
+AMO = 0x2f
+
+abbrev pub MADD : ℕ
+MADD = 0x43
+
+abbrev pub MSUB : ℕ
+MSUB = 0x47
+
+abbrev pub NMSUB : ℕ
+NMSUB = 0x4b
+
+abbrev pub NMADD : ℕ
+NMADD = 0x4f
+
+abbrev pub OP_FP : ℕ
+OP_FP = 0x53
+
+abbrev pub OP_V : ℕ
+OP_V = 0x57

@@ -11,7 +11,7 @@ use crate::compressed_fields::{
 use crate::compressed_layouts as layouts;
 use crate::compressed_layouts::compressed;
 use crate::decoding::Decoded;
-use crate::ops::{AluOp, BaseOp, BitOp, IntOp, LoadOp, MOp, MulOp, StoreOp};
+use crate::ops::{AluOp, BaseOp, BitOp, FloatFormat, IntOp, LoadOp, MOp, MulOp, StoreOp};
 use rv_base::IsaFlags;
 
 /// The operation that an instruction of 16 bits expands to, where it has one under these flags.
@@ -34,7 +34,7 @@ fn by_quadrant(flags: IsaFlags, half: u16) -> Option<Decoded>
     match op(half) {
         0 => quadrant_0(flags, half),
         1 => quadrant_1(flags, half),
-        2 => quadrant_2(half),
+        2 => quadrant_2(flags, half),
         _ => None,
     }
 }
@@ -52,6 +52,16 @@ fn quadrant_0(flags: IsaFlags, half: u16) -> Option<Decoded>
         4 if flags.has_zcb => zcb_memory(half),
         6 => Some(layouts::store(half, MOp::Store(StoreOp::Sw), lw_imm(half))),
         7 => Some(layouts::store(half, MOp::Store(StoreOp::Sd), ld_imm(half))),
+        1 if flags.has_zcd => Some(layouts::load(
+            half,
+            MOp::FloatLoad(FloatFormat::D),
+            ld_imm(half),
+        )),
+        5 if flags.has_zcd => Some(layouts::store(
+            half,
+            MOp::FloatStore(FloatFormat::D),
+            ld_imm(half),
+        )),
         _ => None,
     }
 }
@@ -188,8 +198,8 @@ fn jump(half: u16) -> Decoded
 
 // ---- quadrant 2
 
-fn quadrant_2(half: u16) -> Option<Decoded>
-    ensures value { result ≡ quadrant_2 half }
+fn quadrant_2(flags: IsaFlags, half: u16) -> Option<Decoded>
+    ensures value { result ≡ quadrant_2 flags half }
     ensures registers { IfSome result HasFileRegisters }
 {
     match funct3(half) {
@@ -200,6 +210,16 @@ fn quadrant_2(half: u16) -> Option<Decoded>
         4 => jalr_add(half),
         6 => Some(layouts::store_sp(half, MOp::Store(StoreOp::Sw), swsp_imm(half))),
         7 => Some(layouts::store_sp(half, MOp::Store(StoreOp::Sd), sdsp_imm(half))),
+        1 if flags.has_zcd => Some(layouts::load_sp(
+            half,
+            MOp::FloatLoad(FloatFormat::D),
+            ldsp_imm(half),
+        )),
+        5 if flags.has_zcd => Some(layouts::store_sp(
+            half,
+            MOp::FloatStore(FloatFormat::D),
+            sdsp_imm(half),
+        )),
         _ => None,
     }
 }

@@ -10,20 +10,22 @@ use crate::opcodes::{
     AUIPC, BRANCH, JAL, JALR, LOAD, LUI, MISC_MEM, OP, OP_32, OP_IMM, OP_IMM_32, STORE, SYSTEM,
 };
 use crate::ops::{BaseOp, MOp};
-use crate::{layouts, tables};
+use crate::unit_decoding::{csr, unit_by_opcode};
+use crate::{layouts, tables, unit_tables};
 use rv_base::IsaFlags;
 
 /// An operation with its registers and its immediate. A field that an operation doesn't have is 0, or false.
 #[derive(Clone, Copy, Debug, PartialEq, Eq)]
 pub struct Decoded {
     pub op: MOp,
-    /// The numbers of the registers, below 32.
+    /// The numbers of the registers, below 32, each of the file that the operation reads or writes. A field `rs1` also has
+    /// the immediate of five bits of an operation on a CSR, of `vsetivli`, of `fli` and of vector arithmetic.
     pub rd: u8,
     pub rs1: u8,
     pub rs2: u8,
     pub rs3: u8,
     /// Of `lui` and `auipc` the number that stands in the word's upper twenty bits, of branches and jumps the distance
-    /// in bytes, of shifts the shift amount in bits.
+    /// in bytes, of shifts the shift amount in bits, of atomic operations 2 * aq + rl, of `vsetivli` the bits of vtype.
     pub imm: i64,
     /// The rounding mode.
     pub rm: u8,
@@ -64,14 +66,14 @@ pub fn decode(flags: IsaFlags, word: u32) -> Option<Decoded>
 {
     let opcode = opcode(word);
     if opcode % 4 == 3 {
-        by_opcode(opcode, word)
+        by_opcode(flags, opcode, word)
     } else {
         decode_half(flags, low_half(word))
     }
 }
 
-fn by_opcode(opcode: u32, word: u32) -> Option<Decoded>
-    ensures value { result ≡ by_opcode opcode word }
+fn by_opcode(flags: IsaFlags, opcode: u32, word: u32) -> Option<Decoded>
+    ensures value { result ≡ by_opcode flags opcode word }
     ensures registers { IfSome result HasFileRegisters }
 {
     match opcode {
@@ -88,7 +90,7 @@ fn by_opcode(opcode: u32, word: u32) -> Option<Decoded>
         OP_32 => op_32(word),
         MISC_MEM => misc_mem(word),
         SYSTEM => system(word),
-        _ => None,
+        _ => unit_by_opcode(flags, opcode, word),
     }
 }
 
@@ -142,8 +144,11 @@ fn op_imm(word: u32) -> Option<Decoded>
     if let Some(op) = tables::shift(funct6(word), funct3(word)) {
         return Some(layouts::shift(word, MOp::Alu(op)));
     }
-    match tables::unary(funct12(word), funct3(word)) {
-        Some(op) => Some(layouts::unary(word, MOp::Alu(op))),
+    if let Some(op) = tables::unary(funct12(word), funct3(word)) {
+        return Some(layouts::unary(word, MOp::Alu(op)));
+    }
+    match unit_tables::carry_unary(funct12(word), funct3(word)) {
+        Some(op) => Some(layouts::unary(word, MOp::Carry(op))),
         None => None,
     }
 }
@@ -171,8 +176,11 @@ fn op(word: u32) -> Option<Decoded>
     ensures value { result ≡ decode_op word }
     ensures registers { IfSome result HasFileRegisters }
 {
-    match tables::op(funct7(word), funct3(word)) {
-        Some(op) => Some(layouts::register(word, MOp::Alu(op))),
+    if let Some(op) = tables::op(funct7(word), funct3(word)) {
+        return Some(layouts::register(word, MOp::Alu(op)));
+    }
+    match unit_tables::carry(funct7(word), funct3(word)) {
+        Some(op) => Some(layouts::register(word, MOp::Carry(op))),
         None => None,
     }
 }
@@ -184,8 +192,11 @@ fn op_32(word: u32) -> Option<Decoded>
     if let Some(op) = tables::op_32(funct7(word), funct3(word)) {
         return Some(layouts::register(word, MOp::Alu(op)));
     }
-    match tables::unary_op_32(funct12(word), funct3(word)) {
-        Some(op) => Some(layouts::unary(word, MOp::Alu(op))),
+    if let Some(op) = tables::unary_op_32(funct12(word), funct3(word)) {
+        return Some(layouts::unary(word, MOp::Alu(op)));
+    }
+    match unit_tables::carry_32(funct7(word), funct3(word)) {
+        Some(op) => Some(layouts::register(word, MOp::Carry(op))),
         None => None,
     }
 }
@@ -208,6 +219,6 @@ fn system(word: u32) -> Option<Decoded>
     if funct3(word) == 0 && rd(word) == 0 && rs1(word) == 0 && funct12(word) == 0x001 {
         Some(layouts::bare(MOp::Base(BaseOp::Ebreak)))
     } else {
-        None
+        csr(word)
     }
 }

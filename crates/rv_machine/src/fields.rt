@@ -2,7 +2,7 @@
 
 ghost use Rattle.std.specs.Prelude.{◌≡◌, ◌<◌, ◌*◌};
 ghost use Rattle.rv_machine.specs.State.{signed};
-ghost use Rattle.rv_machine.specs.Layout.{bits, word_opcode, word_rd, word_funct3, word_rs1, word_rs2, word_funct6, word_funct7, word_funct12};
+ghost use Rattle.rv_machine.specs.Layout.{bits, word_opcode, word_rd, word_funct3, word_rs1, word_rs2, word_funct6, word_funct7, word_funct12, word_fmt, word_funct5};
 
 /// Bits 6:0.
 pub fn opcode(word: u32) -> u32
@@ -40,6 +40,22 @@ pub fn rs2(word: u32) -> u8
     ensures width { result < 32 }
 {
     (word >> 20 & 0x1f) as u8
+}
+
+/// Bits 26:25.
+pub fn fmt(word: u32) -> u8
+    ensures value { result ≡ word_fmt word }
+    ensures width { result < 4 }
+{
+    (word >> 25 & 3) as u8
+}
+
+/// Bits 31:27.
+pub fn funct5(word: u32) -> u8
+    ensures value { result ≡ word_funct5 word }
+    ensures width { result < 32 }
+{
+    (word >> 27) as u8
 }
 
 /// Bits 31:26.

@@ -2,10 +2,10 @@
 //! layouts are drawn beside their definitions, in specs/Layout.antt.
 
 ghost use Rattle.std.specs.Prelude.{◌≡◌, ◌<◌};
-ghost use Rattle.rv_machine.specs.Layout.{HasFileRegisters, decoded, i_imm, s_bits, s_imm, b_bits, b_imm, u_imm, j_bits, j_imm, bare_form, r_layout, i_layout, shift_layout, shift_32_layout, unary_layout, s_layout, b_layout, u_layout, j_layout, fence_layout};
+ghost use Rattle.rv_machine.specs.Layout.{HasFileRegisters, decoded, i_imm, s_bits, s_imm, b_bits, b_imm, u_imm, j_bits, j_imm, bare_form, r_layout, i_layout, shift_layout, shift_32_layout, unary_layout, s_layout, b_layout, u_layout, j_layout, fence_layout, rounded, rounded_layout, rounded_unary_layout, r4_layout, amo_layout, word_vm, with_mask, vector_layout, vector_memory_layout, vsetivli_layout};
 
 use crate::decoding::Decoded;
-use crate::fields::{rd, rs1, rs2, sign_extend};
+use crate::fields::{fmt, funct3, funct5, rd, rs1, rs2, sign_extend};
 use crate::ops::MOp;
 
 /// imm[11:0] of layout I.
@@ -161,4 +161,85 @@ pub fn fence(word: u32, op: MOp) -> Decoded
     ensures registers { HasFileRegisters result }
 {
     decoded(op, 0, 0, 0, i64::from(word >> 20 & 0xff))
+}
+
+/// With a third source, and a rounding mode.
+fn rounded(d: Decoded, rs3: u8, rm: u8) -> Decoded
+    requires registers { HasFileRegisters d }
+    requires rs3 { rs3 < 32 }
+    ensures value { result ≡ rounded d rs3 rm }
+    ensures registers { HasFileRegisters result }
+{
+    Decoded { rs3, rm, ..d }
+}
+
+/// Layout R with a rounding mode: two sources.
+pub fn rounded_register(word: u32, op: MOp) -> Decoded
+    ensures value { result ≡ rounded_layout word op }
+    ensures registers { HasFileRegisters result }
+{
+    rounded(register(word, op), 0, funct3(word))
+}
+
+/// Layout R with a rounding mode: one source.
+pub fn rounded_unary(word: u32, op: MOp) -> Decoded
+    ensures value { result ≡ rounded_unary_layout word op }
+    ensures registers { HasFileRegisters result }
+{
+    rounded(unary(word, op), 0, funct3(word))
+}
+
+/// Layout R4: three sources and a rounding mode.
+pub fn fused(word: u32, op: MOp) -> Decoded
+    ensures value { result ≡ r4_layout word op }
+    ensures registers { HasFileRegisters result }
+{
+    rounded(register(word, op), funct5(word), funct3(word))
+}
+
+/// Of AMO: two sources, and the ordering bits.
+pub fn atomic(word: u32, op: MOp) -> Decoded
+    ensures value { result ≡ amo_layout word op }
+    ensures registers { HasFileRegisters result }
+{
+    decoded(op, rd(word), rs1(word), rs2(word), i64::from(fmt(word)))
+}
+
+/// Returns whether the bit at 25 is 1.
+pub fn vm(word: u32) -> bool
+    ensures { result ≡ word_vm word }
+{
+    word >> 25 & 1 == 1
+}
+
+fn with_mask(d: Decoded, vm: bool) -> Decoded
+    requires { HasFileRegisters d }
+    ensures value { result ≡ with_mask d vm }
+    ensures registers { HasFileRegisters result }
+{
+    Decoded { vm, ..d }
+}
+
+/// Vector arithmetic: two sources, and whether it is unmasked.
+pub fn vector(word: u32, op: MOp) -> Decoded
+    ensures value { result ≡ vector_layout word op }
+    ensures registers { HasFileRegisters result }
+{
+    with_mask(register(word, op), vm(word))
+}
+
+/// A load or a store of a vector: its base, and whether it is unmasked.
+pub fn vector_memory(word: u32, op: MOp) -> Decoded
+    ensures value { result ≡ vector_memory_layout word op }
+    ensures registers { HasFileRegisters result }
+{
+    with_mask(unary(word, op), vm(word))
+}
+
+/// `vsetivli`, with its length in elements and the bits of vtype.
+pub fn vsetivli(word: u32, op: MOp) -> Decoded
+    ensures value { result ≡ vsetivli_layout word op }
+    ensures registers { HasFileRegisters result }
+{
+    decoded(op, rd(word), rs1(word), 0, i64::from(word >> 20 & 0x3ff))
 }

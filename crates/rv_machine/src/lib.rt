@@ -15,11 +15,18 @@ mod muldiv;
 mod opcodes;
 mod ops;
 mod tables;
+mod unit_decoding;
+mod unit_tables;
+mod vectors;
 
 pub use compressed::decode_half;
 pub use decoding::{Decoded, decode};
 pub use machine::{IntMachine, Step};
 pub use opcodes::{
-    AUIPC, BRANCH, JAL, JALR, LOAD, LUI, MISC_MEM, OP, OP_32, OP_IMM, OP_IMM_32, STORE, SYSTEM,
+    AMO, AUIPC, BRANCH, JAL, JALR, LOAD, LOAD_FP, LUI, MADD, MISC_MEM, MSUB, NMADD, NMSUB, OP,
+    OP_32, OP_FP, OP_IMM, OP_IMM_32, OP_V, STORE, STORE_FP, SYSTEM,
 };
-pub use ops::{AluOp, BaseOp, BitOp, IntOp, LoadOp, MOp, MulOp, StoreOp};
+pub use ops::{
+    AluOp, AtomicOp, AtomicWidth, BaseOp, BitOp, CarryOp, CsrOp, FloatFormat, FloatOp, IntOp,
+    LoadOp, MOp, MulOp, StoreOp, VecFields, VecMemOp,
+};

@@ -77,7 +77,7 @@ impl IntMachine {
         }
     }
 
-    fn flags(&self) -> IsaFlags
+    pub fn flags(&self) -> IsaFlags
         ensures { result ≡ self.now.flags }
     {
         self.flags
@@ -130,7 +130,7 @@ impl IntMachine {
     }
 
     /// Writes a byte, and returns the one that was written there before, if any was.
-    fn set_byte(&mut self, at: u64, byte: u8) -> Result<Option<u8>, OutOfMemory>
+    pub fn set_byte(&mut self, at: u64, byte: u8) -> Result<Option<u8>, OutOfMemory>
         ensures ok { OnOk result (self.new ≡ with_memory self.old (map.insert self.old.state.values.mem at byte)) }
         ensures before { IfOk result (λ before. before ≡ map.get self.old.state.values.mem at) }
         ensures absent { OnErr result (map.get self.old.state.values.mem at ≡ None) }
@@ -148,7 +148,7 @@ impl IntMachine {
     }
 
     /// Undoes a write of a byte.
-    fn restore_byte(&mut self, at: u64, before: Option<u8>)
+    pub fn restore_byte(&mut self, at: u64, before: Option<u8>)
         ensures { (m : Machine) (byte : ℕ) → map.get m.state.values.mem at ≡ before → self.old ≡ with_memory m (map.insert m.state.values.mem at byte) → self.new ≡ m }
     {
         match before {
@@ -161,7 +161,7 @@ impl IntMachine {
     }
 
     /// Writes bytes at an address and on, all of them or none; after the last address comes 0.
-    fn store(&mut self, at: u64, bytes: &[u8]) -> Result<(), OutOfMemory>
+    pub fn store(&mut self, at: u64, bytes: &[u8]) -> Result<(), OutOfMemory>
         ensures ok { OnOk result (self.new ≡ with_bytes self.old at bytes.now) }
         ensures err { OnErr result (self.new ≡ self.old) }
     {
@@ -351,6 +351,14 @@ impl IntMachine {
             MOp::Load(op) => Ok(self.act_load(op, d)),
             MOp::Store(op) => self.act_store(op, d),
             MOp::Alu(op) => Ok(self.act_alu(op, d)),
+            MOp::Carry(_)
+            | MOp::Atomic(_, _)
+            | MOp::Csr(_)
+            | MOp::FloatLoad(_)
+            | MOp::FloatStore(_)
+            | MOp::Float(_, _)
+            | MOp::VecMem(_)
+            | MOp::Vec { .. } => Ok(Step::Stopped),
         }
     }
 

@@ -25,3 +25,21 @@ pub const OP_32: u32 = 0x3b;
 pub const MISC_MEM: u32 = 0x0f;
 
 pub const SYSTEM: u32 = 0x73;
+
+pub const LOAD_FP: u32 = 0x07;
+
+pub const STORE_FP: u32 = 0x27;
+
+pub const AMO: u32 = 0x2f;
+
+pub const MADD: u32 = 0x43;
+
+pub const MSUB: u32 = 0x47;
+
+pub const NMSUB: u32 = 0x4b;
+
+pub const NMADD: u32 = 0x4f;
+
+pub const OP_FP: u32 = 0x53;
+
+pub const OP_V: u32 = 0x57;

@@ -1,12 +1,24 @@
 //! The operations of the manual, by mnemonic, each chapter's in its order.
 
-/// An operation: a load, a store, one that computes a register's value of registers and an immediate, or any other.
+/// An operation: a load, a store, one that computes a register's value of registers and an immediate, any other of the
+/// integer machine, or one of the further units.
 #[derive(Clone, Copy, Debug, PartialEq, Eq)]
 pub enum MOp {
     Base(BaseOp),
     Load(LoadOp),
     Store(StoreOp),
     Alu(AluOp),
+    Carry(CarryOp),
+    Atomic(AtomicOp, AtomicWidth),
+    Csr(CsrOp),
+    /// A load of a number in a floating-point format: `flh`, `flw` and `fld`.
+    FloatLoad(FloatFormat),
+    /// A store of one: `fsh`, `fsw` and `fsd`.
+    FloatStore(FloatFormat),
+    Float(FloatFormat, FloatOp),
+    VecMem(VecMemOp),
+    /// Vector arithmetic, by its fields at 31:26 and 14:12.
+    Vec { funct6: u8, funct3: u8 },
 }
 
 /// The operations of RV64I that do more than compute, its loads and stores aside: "2.4 Integer Computational
@@ -172,4 +184,134 @@ pub enum BitOp {
     Binvi,
     Bset,
     Bseti,
+}
+
+/// "Zbc", carry-less multiplication, and what "Zbkb" has beside Zbb.
+#[derive(Clone, Copy, Debug, PartialEq, Eq)]
+pub enum CarryOp {
+    Clmul,
+    Clmulh,
+    Clmulr,
+    Pack,
+    Packh,
+    Packw,
+    Brev8,
+}
+
+/// "A", Atomic Instructions: Zalrsc and Zaamo.
+#[derive(Clone, Copy, Debug, PartialEq, Eq)]
+pub enum AtomicOp {
+    Lr,
+    Sc,
+    Amoswap,
+    Amoadd,
+    Amoxor,
+    Amoand,
+    Amoor,
+    Amomin,
+    Amomax,
+    Amominu,
+    Amomaxu,
+}
+
+/// Of words or of doublewords.
+#[derive(Clone, Copy, Debug, PartialEq, Eq)]
+pub enum AtomicWidth {
+    W,
+    D,
+}
+
+/// "Zicsr", Control and Status Register Instructions, of `frm`.
+#[derive(Clone, Copy, Debug, PartialEq, Eq)]
+pub enum CsrOp {
+    Csrrw,
+    Csrrs,
+    Csrrc,
+    Csrrwi,
+    Csrrsi,
+    Csrrci,
+}
+
+/// The formats of floating-point numbers, of two, four and eight bytes: those of Zfh, F and D.
+#[derive(Clone, Copy, Debug, PartialEq, Eq)]
+pub enum FloatFormat {
+    H,
+    S,
+    D,
+}
+
+/// The operations of "F", Single-Precision Floating-Point, which Zfh and D have in their formats, and of "Zfa". One to or from
+/// a register's integer, or from another format, is named by it.
+#[derive(Clone, Copy, Debug, PartialEq, Eq)]
+pub enum FloatOp {
+    Fmadd,
+    Fmsub,
+    Fnmsub,
+    Fnmadd,
+    Fadd,
+    Fsub,
+    Fmul,
+    Fdiv,
+    Fsqrt,
+    Fsgnj,
+    Fsgnjn,
+    Fsgnjx,
+    Fmin,
+    Fmax,
+    FcvtToW,
+    FcvtToWu,
+    FcvtToL,
+    FcvtToLu,
+    FmvToX,
+    Feq,
+    Flt,
+    Fle,
+    Fclass,
+    FcvtFromW,
+    FcvtFromWu,
+    FcvtFromL,
+    FcvtFromLu,
+    FmvFromX,
+    FcvtFromH,
+    FcvtFromS,
+    FcvtFromD,
+    Fli,
+    Fminm,
+    Fmaxm,
+    Fround,
+}
+
+/// "Configuration-Setting Instructions" and the unit-stride ones of "Vector Loads and Stores".
+#[derive(Clone, Copy, Debug, PartialEq, Eq)]
+pub enum VecMemOp {
+    Vsetivli,
+    Vle8,
+    Vle16,
+    Vle32,
+    Vle64,
+    Vse8,
+    Vse16,
+    Vse32,
+    Vse64,
+}
+
+/// How the further fields of vector arithmetic are used by an operation of some funct6 and funct3.
+#[derive(Clone, Copy, Debug, PartialEq, Eq)]
+pub enum VecFields {
+    /// All registers, masked or not.
+    Any,
+    /// All registers, unmasked.
+    Unmasked,
+    /// Masked, a merge; unmasked, a move, which has 0 at 24:20.
+    Merge,
+    /// To element 0 of a vector: 0 at 24:20, unmasked.
+    FromScalar,
+    /// From element 0 of a vector: 0 at 19:15, unmasked.
+    ToScalar,
+    /// Of one source: an operation by the field at 19:15.
+    IntUnary,
+    FloatUnary,
+    Root,
+    /// Whole registers, one more of them than 19:15 says.
+    Move,
 }

@@ -7,7 +7,7 @@ use Rattle.std.specs.FinMap as map
 use Rattle.rv_base.specs.declared.flags.IsaFlags.{IsaFlags}
 use Rattle.rv_machine.specs.declared.decoding.Decoded.{Decoded}
 use Rattle.rv_machine.specs.declared.ops.MOp.{MOp}
-use Rattle.rv_machine.specs.declared.ops.MOp.TheVariants.{Base, Load, Store, Alu}
+use Rattle.rv_machine.specs.declared.ops.MOp.TheVariants.{Base, Load, Store, Alu, Carry, Atomic, Csr, FloatLoad, FloatStore, Float, VecMem, Vec}
 use Rattle.rv_machine.specs.declared.ops.BaseOp.{BaseOp}
 use Rattle.rv_machine.specs.declared.ops.BaseOp.TheVariants.{Lui, Auipc, Jal, Jalr, Beq, Bne, Blt, Bge, Bltu, Bgeu, Fence, Ebreak}
 use Rattle.rv_machine.specs.Decode.{decode}
@@ -54,6 +54,14 @@ op_grows (Base op) d s = base_grows op d s
 op_grows (Load op) d s = λ a e. e
 op_grows (Store op) d s = store_grows (store_bytes op (y_of d s)) s.values.mem (address_of d s)
 op_grows (Alu op) d s = λ a e. e
+op_grows (Carry op) d s = tt
+op_grows (Atomic op width) d s = tt
+op_grows (Csr op) d s = tt
+op_grows (FloatLoad format) d s = tt
+op_grows (FloatStore format) d s = tt
+op_grows (Float format op) d s = tt
+op_grows (VecMem op) d s = tt
+op_grows (Vec funct6 funct3) d s = tt
 
 decoded_grows : (o : Option Decoded) (s : State) → Has s.values.mem (step_on o s)
 decoded_grows None s = tt

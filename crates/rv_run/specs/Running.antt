@@ -3,7 +3,7 @@ use Rattle.std.specs.Prelude.{◌≡◌, ℕ, ◌-◌, ◌%◌, ◌<◌, Bool, t
 use Rattle.std.specs.Option.{option_map_or}
 use Rattle.rv_base.specs.declared.flags.IsaFlags.{IsaFlags}
 use Rattle.rv_machine.specs.declared.ops.MOp.{MOp}
-use Rattle.rv_machine.specs.declared.ops.MOp.TheVariants.{Base, Load, Store, Alu}
+use Rattle.rv_machine.specs.declared.ops.MOp.TheVariants.{Base, Load, Store, Alu, Carry, Atomic, Csr, FloatLoad, FloatStore, Float, VecMem, Vec}
 use Rattle.rv_machine.specs.declared.ops.BaseOp.{BaseOp}
 use Rattle.rv_machine.specs.declared.ops.BaseOp.TheVariants.{Lui, Auipc, Jal, Jalr, Beq, Bne, Blt, Bge, Bltu, Bgeu, Fence, Ebreak}
 use Rattle.rv_machine.specs.Decode.{decode}
@@ -35,6 +35,14 @@ is_break_op (Base op) = is_break_base op
 is_break_op (Load op) = false
 is_break_op (Store op) = false
 is_break_op (Alu op) = false
+is_break_op (Carry op) = false
+is_break_op (Atomic op width) = false
+is_break_op (Csr op) = false
+is_break_op (FloatLoad format) = false
+is_break_op (FloatStore format) = false
+is_break_op (Float format op) = false
+is_break_op (VecMem op) = false
+is_break_op (Vec funct6 funct3) = false
 
 -- the word at the program counter
 abbrev pub word_at : State → ℕ

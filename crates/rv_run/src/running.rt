@@ -56,7 +56,17 @@ fn is_break_op(op: MOp) -> bool
 {
     match op {
         MOp::Base(op) => is_break_base(op),
-        MOp::Load(_) | MOp::Store(_) | MOp::Alu(_) => false,
+        MOp::Load(_)
+        | MOp::Store(_)
+        | MOp::Alu(_)
+        | MOp::Carry(_)
+        | MOp::Atomic(_, _)
+        | MOp::Csr(_)
+        | MOp::FloatLoad(_)
+        | MOp::FloatStore(_)
+        | MOp::Float(_, _)
+        | MOp::VecMem(_)
+        | MOp::Vec { .. } => false,
     }
 }
 

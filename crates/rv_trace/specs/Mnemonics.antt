@@ -1,7 +1,7 @@
 -- The mnemonics of the manual's instructions, and which operands each is written with.
 use Rattle.std.specs.Prelude.{ℕ, List, codes}
 use Rattle.rv_machine.specs.declared.ops.MOp.{MOp}
-use Rattle.rv_machine.specs.declared.ops.MOp.TheVariants.{Base, Load, Store, Alu}
+use Rattle.rv_machine.specs.declared.ops.MOp.TheVariants.{Base, Load, Store, Alu, Carry, Atomic, Csr, FloatLoad, FloatStore, Float, VecMem, Vec}
 use Rattle.rv_machine.specs.declared.ops.AluOp.{AluOp}
 use Rattle.rv_machine.specs.declared.ops.AluOp.TheVariants.{Int, Mul, Bit}
 use Rattle.rv_machine.specs.declared.ops.BaseOp.{BaseOp}
@@ -16,6 +16,8 @@ use Rattle.rv_machine.specs.declared.ops.MulOp.{MulOp}
 use Rattle.rv_machine.specs.declared.ops.MulOp.TheVariants as mul
 use Rattle.rv_machine.specs.declared.ops.BitOp.{BitOp}
 use Rattle.rv_machine.specs.declared.ops.BitOp.TheVariants as bit
+use Rattle.rv_machine.specs.declared.ops.CarryOp.{CarryOp}
+use Rattle.rv_machine.specs.declared.ops.CarryOp.TheVariants as carry
 use Rattle.rv_trace.specs.declared.operands.Operands.{Operands}
 use Rattle.rv_trace.specs.declared.operands.Operands.TheVariants.{Registers, Immediate, Source, Upper, Jump, Based, StoreBased, Branch, Sets, Nothing}
 
@@ -147,11 +149,33 @@ alu_name (Int op) = int_name op
 alu_name (Mul op) = mul_name op
 alu_name (Bit op) = bit_name op
 
+-- Zbc and Zbkb
+abbrev pub carry_name : CarryOp → List ℕ
+carry_name carry.Clmul = codes "clmul"
+carry_name carry.Clmulh = codes "clmulh"
+carry_name carry.Clmulr = codes "clmulr"
+carry_name carry.Pack = codes "pack"
+carry_name carry.Packh = codes "packh"
+carry_name carry.Packw = codes "packw"
+carry_name carry.Brev8 = codes "brev8"
+
+-- an operation of a floating-point, vector or atomic unit, or on a CSR, is written without its mnemonic and operands
+abbrev pub of_a_unit : List ℕ
+of_a_unit = codes ".insn"
+
 abbrev pub mnemonic : MOp → List ℕ
 mnemonic (Base op) = base_name op
 mnemonic (Load op) = load_name op
 mnemonic (Store op) = store_name op
 mnemonic (Alu op) = alu_name op
+mnemonic (Carry op) = carry_name op
+mnemonic (Atomic op width) = of_a_unit
+mnemonic (Csr op) = of_a_unit
+mnemonic (FloatLoad format) = of_a_unit
+mnemonic (FloatStore format) = of_a_unit
+mnemonic (Float format op) = of_a_unit
+mnemonic (VecMem op) = of_a_unit
+mnemonic (Vec funct6 funct3) = of_a_unit
 
 -- RV64I, but for what only computes, and its loads and stores
 abbrev pub base_operands : BaseOp → Operands
@@ -250,9 +274,26 @@ alu_operands (Int op) = int_operands op
 alu_operands (Mul op) = Registers
 alu_operands (Bit op) = bit_operands op
 
+abbrev pub carry_operands : CarryOp → Operands
+carry_operands carry.Clmul = Registers
+carry_operands carry.Clmulh = Registers
+carry_operands carry.Clmulr = Registers
+carry_operands carry.Pack = Registers
+carry_operands carry.Packh = Registers
+carry_operands carry.Packw = Registers
+carry_operands carry.Brev8 = Source
+
 -- a load is written as jalr, and a store with rs2 in the place of rd
 abbrev pub operands_of : MOp → Operands
 operands_of (Base op) = base_operands op
 operands_of (Load op) = Based
 operands_of (Store op) = StoreBased
 operands_of (Alu op) = alu_operands op
+operands_of (Carry op) = carry_operands op
+operands_of (Atomic op width) = Nothing
+operands_of (Csr op) = Nothing
+operands_of (FloatLoad format) = Nothing
+operands_of (FloatStore format) = Nothing
+operands_of (Float format op) = Nothing
+operands_of (VecMem op) = Nothing
+operands_of (Vec funct6 funct3) = Nothing

@@ -1,9 +1,9 @@
 //! The mnemonics of the manual's instructions, and which operands each is written with.
 
 ghost use Rattle.std.specs.Prelude.{◌≡◌};
-ghost use Rattle.rv_trace.specs.Mnemonics.{base_name, load_name, store_name, int_name, mul_name, bit_name, alu_name, mnemonic, base_operands, int_operands, bit_operands, alu_operands, operands_of};
+ghost use Rattle.rv_trace.specs.Mnemonics.{base_name, load_name, store_name, int_name, mul_name, bit_name, alu_name, carry_name, mnemonic, base_operands, int_operands, bit_operands, alu_operands, carry_operands, operands_of};
 
-use rv_machine::{AluOp, BaseOp, BitOp, IntOp, LoadOp, MOp, MulOp, StoreOp};
+use rv_machine::{AluOp, BaseOp, BitOp, CarryOp, IntOp, LoadOp, MOp, MulOp, StoreOp};
 
 /// The operands of an instruction, in the order in which they are written.
 #[derive(Clone, Copy, Debug, PartialEq, Eq)]
@@ -187,7 +187,21 @@ fn alu_name(op: AluOp) -> &'static str
     }
 }
 
-/// The mnemonic of an instruction.
+fn carry_name(op: CarryOp) -> &'static str
+    ensures { result.now ≡ carry_name op }
+{
+    match op {
+        CarryOp::Clmul => "clmul",
+        CarryOp::Clmulh => "clmulh",
+        CarryOp::Clmulr => "clmulr",
+        CarryOp::Pack => "pack",
+        CarryOp::Packh => "packh",
+        CarryOp::Packw => "packw",
+        CarryOp::Brev8 => "brev8",
+    }
+}
+
+/// The mnemonic of an instruction; of one of a floating-point, vector or atomic unit, or on a CSR, `.insn`.
 pub fn mnemonic(op: MOp) -> &'static str
     ensures { result.now ≡ mnemonic op }
 {
@@ -196,6 +210,14 @@ pub fn mnemonic(op: MOp) -> &'static str
         MOp::Load(op) => load_name(op),
         MOp::Store(op) => store_name(op),
         MOp::Alu(op) => alu_name(op),
+        MOp::Carry(op) => carry_name(op),
+        MOp::Atomic(_, _)
+        | MOp::Csr(_)
+        | MOp::FloatLoad(_)
+        | MOp::FloatStore(_)
+        | MOp::Float(_, _)
+        | MOp::VecMem(_)
+        | MOp::Vec { .. } => ".insn",
     }
 }
 
@@ -307,6 +329,20 @@ fn alu_operands(op: AluOp) -> Operands
     }
 }
 
+fn carry_operands(op: CarryOp) -> Operands
+    ensures { result ≡ carry_operands op }
+{
+    match op {
+        CarryOp::Clmul
+        | CarryOp::Clmulh
+        | CarryOp::Clmulr
+        | CarryOp::Pack
+        | CarryOp::Packh
+        | CarryOp::Packw => Operands::Registers,
+        CarryOp::Brev8 => Operands::Source,
+    }
+}
+
 /// Which operands an instruction is written with.
 pub fn operands_of(op: MOp) -> Operands
     ensures { result ≡ operands_of op }
@@ -316,5 +352,13 @@ pub fn operands_of(op: MOp) -> Operands
         MOp::Load(_) => Operands::Based,
         MOp::Store(_) => Operands::StoreBased,
         MOp::Alu(op) => alu_operands(op),
+        MOp::Carry(op) => carry_operands(op),
+        MOp::Atomic(_, _)
+        | MOp::Csr(_)
+        | MOp::FloatLoad(_)
+        | MOp::FloatStore(_)
+        | MOp::Float(_, _)
+        | MOp::VecMem(_)
+        | MOp::Vec { .. } => Operands::Nothing,
     }
 }

@@ -1,0 +1,4 @@
+pub mod FirstAnswers
+pub mod Products
+pub mod Ranges
+pub mod Runs

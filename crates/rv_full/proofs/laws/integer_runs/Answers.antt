@@ -1,0 +1,5 @@
+use Rattle.rv_full.proofs.Runs.{integer_run}
+use Rattle.rv_full.proofs.laws.integer_runs.Goals as goal
+
+pub returns : goal.returns
+returns c = integer_run

@@ -1,0 +1,10 @@
+pub mod Units
+pub mod Rows
+pub mod Carry
+pub mod Atomics
+pub mod Floats
+pub mod Vectors
+pub mod UnitRows
+pub mod Steps
+pub mod Shared
+pub mod View

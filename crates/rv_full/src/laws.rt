@@ -1,0 +1,19 @@
+//! Laws of the definitions, each the contract of a function that does nothing.
+
+ghost use Rattle.std.specs.Prelude.{◌≡◌, ℕ, [], Some};
+ghost use Rattle.rv_base.specs.declared.flags.IsaFlags as flags_of;
+ghost use Rattle.rv_machine.specs.State.{State};
+ghost use Rattle.rv_machine.specs.Steps.{iter};
+ghost use Rattle.rv_full.specs.Units.{FullState, put};
+ghost use Rattle.rv_full.specs.Steps.{fiter};
+ghost use Rattle.rv_full.specs.Shared.{aiter};
+
+/// A run of the integer machine is one of the machine with all units, which changes the integer part alone.
+pub fn integer_runs()
+    ensures { (flags : flags_of.IsaFlags) (k : ℕ) (t : State) (b : FullState) → iter flags k b.state ≡ Some t → fiter flags k b ≡ Some (put t b) }
+{}
+
+/// Where others write nothing, a shared machine runs as the machine alone.
+pub fn undisturbed_runs()
+    ensures { (flags : flags_of.IsaFlags) (k : ℕ) (b c : FullState) → fiter flags k b ≡ Some c → aiter flags k (record { full = b; later = [] }) ≡ Some (record { full = c; later = [] }) }
+{}
