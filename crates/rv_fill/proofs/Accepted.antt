@@ -137,7 +137,7 @@ module _ (count : ℕ) (relocs : List MachReloc) (base : ℕ) (symbols slots : T
   upper_named Abs8 target upper fine = absurd (cc)
 
   -- what names a place names that of an upper part
-  upper_there : (kind : Reloc) (at : ℕ) → is_bad_target relocs kind (Func at) ≡ false → list_any (is_upper_at at) relocs ≡ true
+  pub upper_there : (kind : Reloc) (at : ℕ) → is_bad_target relocs kind (Func at) ≡ false → list_any (is_upper_at at) relocs ≡ true
   upper_there RiscvCallPlt at fine = absurd (cc)
   upper_there RiscvGotHi20 at fine = absurd (cc)
   upper_there RiscvPCRelHi20 at fine = absurd (cc)
