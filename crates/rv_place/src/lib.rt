@@ -2,6 +2,8 @@
 #![tactic(auto)]
 
 mod placing;
+#[cfg(test)]
+mod rows;
 
 pub use placing::{Image, place};
 pub use rv_fill::PlaceError;

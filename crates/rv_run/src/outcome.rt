@@ -18,17 +18,30 @@ use std::alloc::Global;
 #[derive(Drop)]
 pub enum Outcome {
     /// The code ran, and the text of its run was written.
-    Ran { run: Run },
+    Ran {
+        run: Run,
+    },
     /// The words ask for help.
-    Help { text: List<u8> },
+    Help {
+        text: List<u8>,
+    },
     /// The words ask for the version.
-    Version { text: List<u8> },
+    Version {
+        text: List<u8>,
+    },
     /// The words are none of the command.
-    Usage { text: List<u8> },
+    Usage {
+        text: List<u8>,
+    },
     /// A word says nothing of this run.
-    BadWord { cause: BadWord, word: List<u8> },
+    BadWord {
+        cause: BadWord,
+        word: List<u8>,
+    },
     /// The first line of the input, counted from 1, that no report has there.
-    NotReport { line: usize },
+    NotReport {
+        line: usize,
+    },
     /// The input is not hexadecimal digits in pairs.
     NotHex,
     /// The code has a relocation that the words don't fill.
@@ -187,7 +200,10 @@ fn reloc_text(alloc: Global, reloc: Option<MachReloc>) -> Result<String, OutOfMe
         Some(reloc) => {
             let offset = reloc.offset;
             let target = target_text(alloc, reloc.target)?;
-            Ok(format!(in alloc; " at {offset} ({target})")?)
+            let mut text = format!(in alloc; " at {offset} (")?;
+            text.push_str(target.as_str())?;
+            text.push_str(")")?;
+            Ok(text)
         }
     }
 }
@@ -202,7 +218,12 @@ fn unplaced_line(
     let index = index_of(error);
     let place = reloc_text(alloc, reloc)?;
     let why = unplaced_text(error, reloc);
-    Ok(format!(in alloc; "rvrun: relocation {index}{place}: {why}\n")?)
+    let mut text = format!(in alloc; "rvrun: relocation {index}")?;
+    text.push_str(place.as_str())?;
+    text.push_str(": ")?;
+    text.push_str(why)?;
+    text.push_str("\n")?;
+    Ok(text)
 }
 
 fn bytes_of(alloc: Global, text: &[u8]) -> Result<Vec<u8>, OutOfMemory>
@@ -234,7 +255,9 @@ pub fn text_of(alloc: Global, outcome: &Outcome) -> Result<Vec<u8>, OutOfMemory>
         Outcome::BadWord { cause, word } => word_line(alloc, *cause, word.as_slice()),
         Outcome::NotReport { line } => Ok(report_line(alloc, *line)?.into_bytes()),
         Outcome::NotHex => bytes_of(alloc, b"rvrun: no hexadecimal digits in pairs\n"),
-        Outcome::Unplaced { error, reloc } => Ok(unplaced_line(alloc, *error, *reloc)?.into_bytes()),
+        Outcome::Unplaced { error, reloc } => Ok(unplaced_line(
+            alloc, *error, *reloc,
+        )?.into_bytes()),
         Outcome::TooLong => bytes_of(alloc, b"rvrun: too long\n"),
         Outcome::ReadFault | Outcome::WriteFault | Outcome::OutOfMemory => Ok(Vec::new(alloc)),
     }
