@@ -17,7 +17,7 @@ abbrev pub reads_hex : List ℕ → Option (List ℕ)
 reads_hex text = hex_bytes (filter is_mark text)
 
 abbrev pub code_only : List ℕ → Program
-code_only bytes = record { bytes = bytes; lines = [] }
+code_only bytes = record { bytes = bytes; lines = []; labels = []; relocs = [] }
 
 -- what a reader of such a text returned; being out of memory says nothing
 abbrev pub ReadsHex : List ℕ → Result Program ProgramError → Type 0

@@ -1,11 +1,13 @@
--- The words of a report's lines of relocations, of calls that may throw, of values on the stack and of steps in the making of the
+-- The words of a report's lines of labels, of relocations, of calls that may throw, of values on the stack and of steps in the making of the
 -- frame.
-use Rattle.std.specs.Prelude.{ℕ, ◌+◌, ◌^◌, List, [], ◌∷◌, take, drop, Option, Some, None, is_some, Bool, true, false, ◌&&◌, nat_le, if◌then◌else◌, codes}
+use Rattle.std.specs.Prelude.{ℕ, ◌+◌, ◌^◌, List, [], ◌∷◌, take, drop, Option, Some, None, is_some, Bool, true, false, ◌&&◌, nat_le, if◌then◌else◌, codes, ℤ, pos, ◌-ℤ◌}
 use Rattle.std.specs.Str.{bytes_eq}
 use Rattle.mach_records.specs.declared.records.FinalizedRelocTarget.{FinalizedRelocTarget}
 use Rattle.mach_records.specs.declared.records.FinalizedRelocTarget.TheVariants.{ExternalName, Func}
 use Rattle.mach_records.specs.declared.records.FinalizedMachExceptionHandler.{FinalizedMachExceptionHandler}
 use Rattle.mach_records.specs.declared.records.FinalizedMachExceptionHandler.TheVariants.{Tag, Default}
+use Rattle.mach_records.specs.declared.records.MachReloc.{MachReloc}
+use Rattle.mach_uses.specs.declared.uses.LabelPlace.{LabelPlace}
 use Rattle.rv_base.specs.declared.ir_type.IrType.{IrType}
 use Rattle.rv_base.specs.declared.regs.Reg.TheVariants.{Real}
 use Rattle.rv_base.specs.declared.unwind.UnwindInst.{UnwindInst}
@@ -28,15 +30,28 @@ reloc_target w =
     if starts 64 w then (number_32 (drop 1 w) >>= λ n. Some (Func n)) else
     symbol w >>= λ name. Some (ExternalName name)
 
--- the size of a signed number of 64 bits
-abbrev pub addend : List ℕ → Option ℕ
-addend w = if starts 45 w then (decimal (drop 1 w) >>= below (2 ^ 63 + 1)) else decimal w >>= below (2 ^ 63)
+-- a signed number of 64 bits
+abbrev pub addend : List ℕ → Option ℤ
+addend w =
+    if starts 45 w then (decimal (drop 1 w) >>= below (2 ^ 63 + 1) >>= λ n. Some (pos 0 -ℤ pos n)) else
+    decimal w >>= below (2 ^ 63) >>= λ n. Some (pos n)
 
--- the offset of a relocation and what it refers to, before and after its kind; an addend is the last word
-abbrev pub reloc_words : List (List ℕ) → Option (ℕ × FinalizedRelocTarget)
+-- the offset of a relocation, its kind, what it refers to and its addend, which is the last word
+abbrev pub reloc_words : List (List ℕ) → Option MachReloc
 reloc_words ws =
-    field decimal ws >>= λ offset. field kind_named offset.1 >>= λ kind. field reloc_target kind.1 >>= λ target.
-    field addend target.1 >>= λ addend. no_more ((offset.0, target.0), addend.1)
+    field number_32 ws >>= λ offset. field kind_named offset.1 >>= λ kind. field reloc_target kind.1 >>= λ target.
+    field addend target.1 >>= λ addend. no_more (record { offset = offset.0; kind = kind.0; target = target.0; addend = addend.0 }, addend.1)
+
+-- ---- labels
+
+-- `L` and a number
+abbrev pub label : List ℕ → Option ℕ
+label w = if starts 76 w then number_32 (drop 1 w) else None
+
+-- a label and its offset, which is the last word
+abbrev pub label_words : List (List ℕ) → Option LabelPlace
+label_words ws =
+    field label ws >>= λ l. field number_32 l.1 >>= λ o. no_more (record { label = record { number = l.0 }; offset = o.0 }, o.1)
 
 -- a place in the code is at most its length
 abbrev pub is_within : ℕ → FinalizedRelocTarget → Bool

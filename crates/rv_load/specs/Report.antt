@@ -1,17 +1,20 @@
--- A report read back, line by line: the bytes of the code, and where the lines of its listing stand in it.
-use Rattle.std.specs.Prelude.{◌≡◌, ℕ, ◌+◌, ◌-◌, ◌^◌, Bool, ◌&&◌, List, [], ◌∷◌, ◌++◌, length, min, drop, Option, Some, None, Result, Ok, Err, nat_lt, nat_le, ◌==◌, if◌then◌else◌, codes}
+-- A report read back, line by line: the bytes of the code, where the lines and the labels of its listing stand in it, and what a linker
+-- fills.
+use Rattle.std.specs.Prelude.{◌≡◌, ℕ, ◌+◌, ◌-◌, ◌^◌, Bool, ◌&&◌, List, [], ◌∷◌, ◌++◌, length, min, Option, Some, None, Result, Ok, Err, nat_lt, nat_le, ◌==◌, if◌then◌else◌, codes}
 use Rattle.std.specs.Str.{bytes_eq}
 use Rattle.std.specs.Int.{w32, to_be_bytes}
 use Rattle.hex.specs.Hex.{encode_lower}
+use Rattle.mach_records.specs.declared.records.MachReloc.{MachReloc}
+use Rattle.mach_uses.specs.declared.uses.LabelPlace.{LabelPlace}
 use Rattle.rv_inst.specs.declared.code.LineSpan.{LineSpan}
-use Rattle.rv_listing.specs.Tokens.{◌>>=◌, below, lines_of, words_of, decimal, starts}
+use Rattle.rv_listing.specs.Tokens.{◌>>=◌, below, lines_of, words_of, decimal}
 use Rattle.rv_listing.specs.Fields.{field, no_more}
 use Rattle.rv_listing.specs.Traps.{trap_named}
 use Rattle.rv_base.specs.declared.trap.TrapCode.{TrapCode}
 use Rattle.rv_listing.specs.declared.fields.LineError.{LineError}
 use Rattle.rv_listing.specs.declared.fields.LineError.TheVariants as bad
 use Rattle.rv_listing.specs.HexDigits.{hex_bytes}
-use Rattle.rv_load.specs.Records.{number_32, reloc_words, is_within, try_words, are_handlers, map_words, are_entries, unwind_words}
+use Rattle.rv_load.specs.Records.{number_32, label_words, reloc_words, is_within, try_words, are_handlers, map_words, are_entries, unwind_words}
 use Rattle.rv_load.specs.declared.program.Program.{Program}
 use Rattle.rv_load.specs.declared.program.ProgramError.{ProgramError}
 use Rattle.rv_load.specs.declared.program.ProgramError.TheVariants as errors
@@ -20,7 +23,7 @@ use Rattle.rv_load.specs.declared.report.Part.TheVariants.{Nothing, Bytes, Lines
 use Rattle.rv_load.specs.declared.report.Draft.{Draft}
 
 abbrev pub blank : Draft
-blank = record { part = Nothing; count = 0; bytes = []; lines = [] }
+blank = record { part = Nothing; count = 0; bytes = []; lines = []; labels = []; relocs = [] }
 
 -- the place of a part in a report
 abbrev pub rank : Part → ℕ
@@ -96,17 +99,13 @@ return_offset ws = field decimal ws >>= λ i. one_number i.1
 abbrev pub return_line : Draft → List (List ℕ) → Option Draft
 return_line d ws = return_offset ws >>= at_offset Returns d
 
--- `L` and a number
-abbrev pub label : List ℕ → Option ℕ
-label w = if starts 76 w then decimal (drop 1 w) else None
-
--- the offset after a label
-abbrev pub label_offset : List (List ℕ) → Option ℕ
-label_offset ws = field label ws >>= λ l. one_number l.1
+-- one more label
+abbrev pub with_label : LabelPlace → Draft → Draft
+with_label l d = record d { labels = d.labels ++ l ∷ [] }
 
 -- `label LN OFFSET`
 abbrev pub label_line : Draft → List (List ℕ) → Option Draft
-label_line d ws = label_offset ws >>= at_offset Labels d
+label_line d ws = label_words ws >>= λ l. at_offset Labels d l.offset >>= λ next. Some (with_label l next)
 
 -- the offset after a constant's number, which is of 32 bits
 abbrev pub const_offset : List (List ℕ) → Option ℕ
@@ -116,9 +115,13 @@ const_offset ws = field number_32 ws >>= λ k. one_number k.1
 abbrev pub const_line : Draft → List (List ℕ) → Option Draft
 const_line d ws = const_offset ws >>= at_offset Constants d
 
+-- one more relocation
+abbrev pub with_reloc : MachReloc → Draft → Draft
+with_reloc r d = record d { relocs = d.relocs ++ r ∷ [] }
+
 -- `reloc OFFSET KIND TARGET ADDEND`; a place in the code is at most the code's length
 abbrev pub reloc_line : Draft → List (List ℕ) → Option Draft
-reloc_line d ws = reloc_words ws >>= λ r. if is_within d.count r.1 then at_offset Relocations d r.0 else None
+reloc_line d ws = reloc_words ws >>= λ r. if is_within d.count r.target then (at_offset Relocations d r.offset >>= λ next. Some (with_reloc r next)) else None
 
 -- an offset and a cause, where they are the last words
 abbrev pub trap_words : List (List ℕ) → Option (ℕ × TrapCode)
@@ -183,7 +186,7 @@ with_line d line = by_words d (words_of line)
 
 -- the code of a report that is whole; the number of the line that is missing, where it isn't
 abbrev pub whole_at : ℕ → Draft → Result Program ℕ
-whole_at n d = if rank d.part == 13 then Ok (record { bytes = d.bytes; lines = d.lines }) else Err n
+whole_at n d = if rank d.part == 13 then Ok (record { bytes = d.bytes; lines = d.lines; labels = d.labels; relocs = d.relocs }) else Err n
 
 -- what comes of a line that is number n
 abbrev pub or_line : ℕ → Option Draft → (Draft → Result Program ℕ) → Result Program ℕ

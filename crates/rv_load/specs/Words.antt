@@ -4,6 +4,7 @@ use Rattle.std.specs.List.{list_any}
 use Rattle.std.specs.Str.{bytes_eq}
 use Rattle.std.specs.Borrow.{Bor}
 use Rattle.rv_base.specs.Flags.{no_flags}
+use Rattle.rv_base.specs.declared.external_name.ExternalName.{ExternalName}
 use Rattle.rv_base.specs.declared.flags.IsaFlags.{IsaFlags}
 use Rattle.rv_base.specs.declared.regs.RegClass.{RegClass}
 use Rattle.rv_base.specs.declared.regs.RegClass.TheVariants.{Int, Float, Vector}
@@ -12,6 +13,7 @@ use Rattle.rv_base.specs.declared.regs.Reg.{Reg}
 use Rattle.rv_base.specs.declared.regs.Reg.TheVariants.{Real, Virtual}
 use Rattle.rv_listing.specs.Tokens.{◌>>=◌, as_pair, parts_of, natural, starts}
 use Rattle.rv_listing.specs.FlagsHeader.{flags_form}
+use Rattle.rv_listing.specs.Operands.{symbol}
 use Rattle.rv_listing.specs.Registers.{register}
 use Rattle.rv_listing.specs.HexDigits.{hex_bytes}
 use Rattle.rv_load.specs.declared.given.Given.{Given}
@@ -20,6 +22,8 @@ use Rattle.rv_load.specs.declared.settings.SettingsError.{SettingsError}
 use Rattle.rv_load.specs.declared.settings.SettingsError.TheVariants as errors
 use Rattle.rv_load.specs.declared.settings.BadWord.{BadWord}
 use Rattle.rv_load.specs.declared.settings.BadWord.TheVariants as bad
+use Rattle.rv_load.specs.declared.settings.Named.{Named}
+use Rattle.rv_load.specs.declared.settings.Named.TheVariants.{Symbol, Slot}
 use Rattle.rv_load.specs.declared.settings.Start.{Start}
 use Rattle.rv_load.specs.declared.settings.Start.TheVariants as start
 use Rattle.rv_load.specs.declared.settings.RegisterValue.{RegisterValue}
@@ -112,6 +116,24 @@ abbrev pub data_from : ℕ → List Bytes → List (Bor (List ℕ)) → Result (
 data_from i old [] = Ok old
 data_from i old (w ∷ ws) = or_bad (bad.Data i) (data_bytes w.now) then λ new. data_from (i + 1) (old ++ new ∷ []) ws
 
+-- ---- symbols
+
+-- `userextnameN=ADDRESS`
+abbrev pub name_address : List ℕ → Option (ExternalName × ℕ)
+name_address w = as_pair (parts_of 61 w) >>= λ p. symbol p.0 >>= λ name. natural p.1 >>= λ a. Some (name, a)
+
+-- one more address of symbols, or of slots, whose name was not given before
+abbrev pub with_address : Named → ℕ → List (ExternalName × ℕ) → ExternalName × ℕ → Result (List (ExternalName × ℕ)) BadWord
+with_address named i old p = if list_any (λ o. o.0.number == p.0.number) old then Err (bad.AddressTwice named i) else Ok (old ++ p ∷ [])
+
+abbrev pub put_address : Named → ℕ → List (ExternalName × ℕ) → List ℕ → Result (List (ExternalName × ℕ)) BadWord
+put_address named i old w = or_bad (bad.Address named i) (name_address w) then with_address named i old
+
+-- the words from number i on
+abbrev pub addresses_from : Named → ℕ → List (ExternalName × ℕ) → List (Bor (List ℕ)) → Result (List (ExternalName × ℕ)) BadWord
+addresses_from named i old [] = Ok old
+addresses_from named i old (w ∷ ws) = put_address named i old w.now then λ new. addresses_from named (i + 1) new ws
+
 -- ---- all of them
 
 -- what the words say, or the first bad one in this order
@@ -119,7 +141,8 @@ abbrev pub settings_of : Given → Result Settings BadWord
 settings_of g =
     base_of g then λ base. flags_of g.flags then λ flags. start_of g.from g.at then λ start. steps_of g then λ steps.
     data_from 0 [] g.memory then λ bytes. registers_from 0 [] g.registers then λ registers.
-    Ok (record { base = base; flags = flags; start = start; steps = steps; trace = g.trace; registers = registers; memory = bytes })
+    addresses_from Symbol 0 [] g.symbols then λ symbols. addresses_from Slot 0 [] g.slots then λ slots.
+    Ok (record { base = base; flags = flags; start = start; steps = steps; trace = g.trace; registers = registers; memory = bytes; symbols = symbols; slots = slots })
 
 -- what a reader of words returned; being out of memory says nothing
 abbrev pub Reads : {A : Type 0} → Result A BadWord → Result A SettingsError → Type 0

@@ -14,5 +14,7 @@ pub struct Given<'a> {
     pub at: Option<&'a str>,
     pub steps: Option<&'a str>,
     pub memory: List<&'a str>,
+    pub symbols: List<&'a str>,
+    pub slots: List<&'a str>,
     pub registers: List<&'a str>,
 }

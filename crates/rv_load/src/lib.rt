@@ -11,5 +11,7 @@ mod words;
 
 pub use given::Given;
 pub use program::{Program, ProgramError, read_hex, read_report};
-pub use settings::{BadWord, Data, RegisterValue, Settings, SettingsError, Start, settings_of};
+pub use settings::{
+    BadWord, Data, Named, RegisterValue, Settings, SettingsError, Start, settings_of,
+};
 pub use words::{WordsError, read_words};

@@ -5,16 +5,18 @@ ghost use Rattle.rv_load.specs.Hex.{ReadsHex};
 use crate::digits::marks;
 pub use crate::report::read_report;
 use rv_base::List;
-use rv_inst::LineSpan;
+use rv_inst::{LabelPlace, LineSpan, MachReloc};
 use rv_listing::{LineError, hex_bytes};
 use std::alloc::Global;
 use thiserror::Error;
 
-/// Machine code, with where the lines of its listing stand in it, in bytes from its start.
+/// Machine code, with where the lines and the labels of its listing stand in it, in bytes from its start, and what a linker fills.
 #[derive(Drop)]
 pub struct Program {
     pub bytes: List<u8>,
     pub lines: List<LineSpan>,
+    pub labels: List<LabelPlace>,
+    pub relocs: List<MachReloc>,
 }
 
 /// Why a text gives no code.
@@ -30,7 +32,7 @@ pub enum ProgramError {
     OutOfMemory,
 }
 
-/// The code that hexadecimal digits give; it has no lines.
+/// The code that hexadecimal digits give; it has no lines, no labels and no relocations.
 pub fn read_hex(alloc: Global, text: &[u8]) -> Result<Program, ProgramError>
     ensures { ReadsHex text.now result }
 {
@@ -41,6 +43,8 @@ pub fn read_hex(alloc: Global, text: &[u8]) -> Result<Program, ProgramError>
         Ok(bytes) => Ok(Program {
             bytes,
             lines: List::new(alloc),
+            labels: List::new(alloc),
+            relocs: List::new(alloc),
         }),
         Err(LineError::NotAllowed) => Err(ProgramError::NotHex),
         Err(LineError::OutOfMemory) => Err(ProgramError::OutOfMemory),

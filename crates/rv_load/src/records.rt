@@ -1,14 +1,15 @@
-//! The words of a report's lines of relocations, of calls that may throw, of values on the stack and of steps in the making of the
+//! The words of a report's lines of labels, of relocations, of calls that may throw, of values on the stack and of steps in the making of the
 //! frame.
 
-ghost use Rattle.std.specs.Prelude.{◌≡◌};
+ghost use Rattle.std.specs.Prelude.{◌≡◌, ◌≤◌, ◌^◌, pos, ◌-ℤ◌};
 ghost use Rattle.rv_listing.specs.Tokens.{words_after, decimal};
 ghost use Rattle.rv_listing.specs.Fields.{field, no_more, Takes};
 ghost use Rattle.rv_listing.specs.Operands.{real_register};
-ghost use Rattle.rv_load.specs.Records.{addend, alloc_step, are_entries, are_handlers, frame, frame_step, handler, handler_at, is_placed, is_within, map_entry, map_words, number_32, push_step, reloc_target, reloc_words, save_step, step_of, step_of_kind, try_words, unwind_words};
+ghost use Rattle.rv_load.specs.Records.{label, label_words, addend, alloc_step, are_entries, are_handlers, frame, frame_step, handler, handler_at, is_placed, is_within, map_entry, map_words, number_32, push_step, reloc_target, reloc_words, save_step, step_of, step_of_kind, try_words, unwind_words};
 
-use mach_records::{FinalizedMachExceptionHandler, FinalizedRelocTarget};
-use rv_base::{IrType, PReg, Reg, UnwindInst};
+use mach_records::{FinalizedMachExceptionHandler, FinalizedRelocTarget, MachReloc};
+use mach_uses::LabelPlace;
+use rv_base::{IrType, MachLabel, PReg, Reg, UnwindInst};
 use rv_listing::{
     decimal, next_part, next_word, real_register, reloc_named, starts, symbol_named, tail,
     two_parts, type_named,
@@ -62,30 +63,77 @@ fn reloc_target(w: &[u8]) -> Option<FinalizedRelocTarget>
     }
 }
 
-fn addend(w: &[u8]) -> Option<u64>
+fn negative(n: u64) -> i64
+    requires { n ≤ 2 ^ 63 }
+    ensures { result ≡ pos 0 -ℤ pos n }
+{
+    (-i128::from(n)) as i64
+}
+
+fn addend(w: &[u8]) -> Option<i64>
     ensures { result ≡ addend w.now }
 {
     if starts(b'-', w) {
         let n = decimal(tail(w))?;
-        if n <= 1 << 63 { Some(n) } else { None }
+        if n <= 1 << 63 {
+            Some(negative(n))
+        } else {
+            None
+        }
     } else {
         let n = decimal(w)?;
-        if n < 1 << 63 { Some(n) } else { None }
+        if n < 1 << 63 { Some(n as i64) } else { None }
     }
 }
 
-/// The offset of a relocation, and what it refers to.
-pub fn reloc_words(rest: &[u8]) -> Option<(u64, FinalizedRelocTarget)>
+/// A relocation.
+pub fn reloc_words(rest: &[u8]) -> Option<MachReloc>
     ensures { result ≡ reloc_words (words_after rest.now) }
 {
-    let (offset, rest) = number(rest)?;
+    let (offset, rest) = size(rest)?;
     let (w, rest) = next_word(rest)?;
-    reloc_named(w)?;
+    let kind = reloc_named(w)?;
     let (w, rest) = next_word(rest)?;
     let target = reloc_target(w)?;
     let (w, rest) = next_word(rest)?;
-    addend(w)?;
-    whole((offset, target), rest)
+    let addend = addend(w)?;
+    whole(
+        MachReloc {
+            offset,
+            kind,
+            target,
+            addend,
+        },
+        rest,
+    )
+}
+
+// ---- labels
+
+fn label(w: &[u8]) -> Option<u32>
+    ensures { result ≡ label w.now }
+{
+    if starts(b'L', w) {
+        number_32(tail(w))
+    } else {
+        None
+    }
+}
+
+/// A label and its offset.
+pub fn label_words(rest: &[u8]) -> Option<LabelPlace>
+    ensures { result ≡ label_words (words_after rest.now) }
+{
+    let (w, rest) = next_word(rest)?;
+    let number = label(w)?;
+    let (offset, rest) = size(rest)?;
+    whole(
+        LabelPlace {
+            label: MachLabel::from_u32(number),
+            offset,
+        },
+        rest,
+    )
 }
 
 /// Returns whether a place in the code of so many bytes is at most their number.

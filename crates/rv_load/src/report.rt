@@ -1,23 +1,21 @@
 //! A report read back, line by line.
 
-ghost use Rattle.std.specs.Prelude.{◌≡◌, ◌+◌, ◌<◌, ◌≤◌, ◌^◌, ◌++◌, length, OnOk};
+ghost use Rattle.std.specs.Prelude.{◌≡◌, ◌+◌, ◌<◌, ◌≤◌, ◌^◌, ◌++◌, length, Some, OnOk};
 ghost use Rattle.std.specs.Str.{bytes_eq};
 ghost use Rattle.hex.specs.Hex.{encode_lower};
 ghost use Rattle.std.specs.Int.{w32, to_be_bytes};
 ghost use Rattle.rv_listing.specs.Tokens.{words_after, words_of, lines_of, decimal};
 ghost use Rattle.rv_listing.specs.Fields.{field, Takes, Makes};
-ghost use Rattle.rv_load.specs.Report.{rank, blank, may_have, is_offset, one_number, head_line, last_bytes, with_bytes, row_line, three_numbers, span_of, span_line, at_offset, return_offset, return_line, label, label_offset, label_line, const_offset, const_line, reloc_line, trap_words, trap_line, call_line, try_line, patch_words, patch_line, map_line, unwind_line, end_line, with_line, MakesDraft, ReadsReport};
+ghost use Rattle.rv_load.specs.Report.{rank, blank, may_have, is_offset, one_number, head_line, last_bytes, with_bytes, row_line, three_numbers, span_of, span_line, at_offset, return_offset, return_line, with_label, label_line, const_offset, const_line, with_reloc, reloc_line, trap_words, trap_line, call_line, try_line, patch_words, patch_line, map_line, unwind_line, end_line, with_line, MakesDraft, ReadsReport};
 
 use crate::program::{Program, ProgramError};
 use crate::records::{
-    are_entries, are_handlers, is_within, map_words, number, number_32, reloc_words, try_words,
-    unwind_words,
+    are_entries, are_handlers, is_within, label_words, map_words, number, number_32, reloc_words,
+    try_words, unwind_words,
 };
 use rv_base::{List, OutOfMemory, TrapCode};
-use rv_inst::LineSpan;
-use rv_listing::{
-    LineError, decimal, first_word, hex_bytes, next_line, next_word, starts, tail, trap_named,
-};
+use rv_inst::{LabelPlace, LineSpan, MachReloc};
+use rv_listing::{LineError, decimal, first_word, hex_bytes, next_line, next_word, trap_named};
 use std::alloc::Global;
 
 /// The parts of a report, in their order.
@@ -39,14 +37,16 @@ pub enum Part {
     End,
 }
 
-/// What the lines of a report gave so far: the part that they came to, how many bytes the code has, those that came, and
-/// the spans of lines.
+/// What the lines of a report gave so far: the part that they came to, how many bytes the code has, those that came, the
+/// spans of lines, labels and relocations.
 #[derive(Drop)]
 pub struct Draft {
     pub part: Part,
     pub count: u64,
     pub bytes: List<u8>,
     pub lines: List<LineSpan>,
+    pub labels: List<LabelPlace>,
+    pub relocs: List<MachReloc>,
 }
 
 fn blank(alloc: Global) -> Draft
@@ -57,6 +57,8 @@ fn blank(alloc: Global) -> Draft
         count: 0,
         bytes: List::new(alloc),
         lines: List::new(alloc),
+        labels: List::new(alloc),
+        relocs: List::new(alloc),
     }
 }
 
@@ -254,32 +256,23 @@ fn return_line(draft: &mut Draft, rest: &[u8]) -> Result<(), LineError>
     }
 }
 
-fn label(w: &[u8]) -> Option<u64>
-    ensures { result ≡ label w.now }
+fn put_label(draft: &mut Draft, place: LabelPlace) -> Result<(), LineError>
+    ensures { MakesDraft (Some (with_label place draft.old)) draft.new result }
 {
-    if starts(b'L', w) {
-        decimal(tail(w))
-    } else {
-        None
+    match draft.labels.push(place) {
+        Ok(()) => Ok(()),
+        Err(OutOfMemory) => Err(LineError::OutOfMemory),
     }
-}
-
-// The offset after a label.
-fn label_offset(rest: &[u8]) -> Option<u64>
-    ensures { result ≡ label_offset (words_after rest.now) }
-{
-    let (w, rest) = next_word(rest)?;
-    label(w)?;
-    last_number(rest)
 }
 
 fn label_line(draft: &mut Draft, rest: &[u8]) -> Result<(), LineError>
     ensures { MakesDraft (label_line draft.old (words_after rest.now)) draft.new result }
 {
-    match label_offset(rest) {
-        Some(offset) => at_offset(Part::Labels, draft, offset),
-        None => Err(LineError::NotAllowed),
-    }
+    let Some(place) = label_words(rest) else {
+        return Err(LineError::NotAllowed);
+    };
+    at_offset(Part::Labels, draft, u64::from(place.offset))?;
+    put_label(draft, place)
 }
 
 // The offset after a constant's number.
@@ -300,15 +293,26 @@ fn const_line(draft: &mut Draft, rest: &[u8]) -> Result<(), LineError>
     }
 }
 
+fn put_reloc(draft: &mut Draft, reloc: MachReloc) -> Result<(), LineError>
+    ensures { MakesDraft (Some (with_reloc reloc draft.old)) draft.new result }
+{
+    match draft.relocs.push(reloc) {
+        Ok(()) => Ok(()),
+        Err(OutOfMemory) => Err(LineError::OutOfMemory),
+    }
+}
+
 fn reloc_line(draft: &mut Draft, rest: &[u8]) -> Result<(), LineError>
     ensures { MakesDraft (reloc_line draft.old (words_after rest.now)) draft.new result }
 {
-    match reloc_words(rest) {
-        Some((offset, target)) if is_within(draft.count, target) => {
-            at_offset(Part::Relocations, draft, offset)
-        }
-        _ => Err(LineError::NotAllowed),
+    let Some(reloc) = reloc_words(rest) else {
+        return Err(LineError::NotAllowed);
+    };
+    if !is_within(draft.count, reloc.target) {
+        return Err(LineError::NotAllowed);
     }
+    at_offset(Part::Relocations, draft, u64::from(reloc.offset))?;
+    put_reloc(draft, reloc)
 }
 
 // An offset and a cause, where they are the last words.
@@ -460,6 +464,8 @@ fn read_lines(alloc: Global, text: &[u8]) -> Result<Program, ProgramError>
         Ok(Program {
             bytes: draft.bytes,
             lines: draft.lines,
+            labels: draft.labels,
+            relocs: draft.relocs,
         })
     } else {
         Err(ProgramError::NotReport { line: number })

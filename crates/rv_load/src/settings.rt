@@ -5,13 +5,13 @@ ghost use Rattle.std.specs.List.{list_any};
 ghost use Rattle.std.specs.Str.{bytes_eq};
 ghost use Rattle.rv_listing.specs.Tokens.{parts_of};
 ghost use Rattle.rv_listing.specs.FlagsHeader.{flags_form};
-ghost use Rattle.rv_load.specs.Words.{value, number_or, base_of, steps_of, start_of, flags_of, int_register, named_register, register_value, with_register, put_register, registers_from, or_bad, data_bytes, data_from, settings_of, Reads, Leaves};
+ghost use Rattle.rv_load.specs.Words.{value, number_or, base_of, steps_of, start_of, flags_of, int_register, named_register, register_value, with_register, put_register, registers_from, or_bad, data_bytes, data_from, name_address, with_address, put_address, addresses_from, settings_of, Reads, Leaves};
 
 use crate::given::Given;
-use rv_base::{IsaFlags, List, OutOfMemory, PReg, Reg, RegClass};
+use rv_base::{ExternalName, IsaFlags, List, OutOfMemory, PReg, Reg, RegClass};
 use rv_listing::{
-    LineError, first_part, hex_bytes, natural, next_part, register, starts, tail, two_parts,
-    with_flag,
+    LineError, first_part, hex_bytes, natural, next_part, register, starts, symbol_named, tail,
+    two_parts, with_flag,
 };
 use std::alloc::Global;
 use thiserror::Error;
@@ -41,6 +41,15 @@ pub struct Data {
     pub bytes: List<u8>,
 }
 
+/// What an address is of.
+#[derive(Clone, Copy, Debug, PartialEq, Eq)]
+pub enum Named {
+    /// A symbol.
+    Symbol,
+    /// The slot that holds a symbol's address.
+    Slot,
+}
+
 /// What a run begins with, the code aside.
 #[derive(Drop)]
 pub struct Settings {
@@ -53,9 +62,12 @@ pub struct Settings {
     pub trace: bool,
     pub registers: List<RegisterValue>,
     pub memory: List<Data>,
+    /// The addresses of symbols, and of the slots that hold such addresses.
+    pub symbols: List<(ExternalName, u64)>,
+    pub slots: List<(ExternalName, u64)>,
 }
 
-/// A word that says nothing of a run. Data and registers are counted from 0.
+/// A word that says nothing of a run. Data, registers, symbols and slots are counted from 0.
 #[derive(Clone, Copy, Debug, PartialEq, Eq, Error)]
 pub enum BadWord {
     #[error("the code's address")]
@@ -75,6 +87,11 @@ pub enum BadWord {
     /// A register that an earlier word sets.
     #[error("the register with number {index}, which an earlier word sets")]
     Twice { index: usize },
+    #[error("the address with number {index}")]
+    Address { named: Named, index: usize },
+    /// An address whose name an earlier word gives.
+    #[error("the address with number {index}, whose name an earlier word gives")]
+    AddressTwice { named: Named, index: usize },
 }
 
 /// Why words give no settings.
@@ -291,6 +308,71 @@ fn memory_of(alloc: Global, words: &[&str]) -> Result<List<Data>, SettingsError>
     Ok(memory)
 }
 
+fn name_address(w: &[u8]) -> Option<(ExternalName, u64)>
+    ensures { result ≡ name_address w.now }
+{
+    let (name, address) = two_parts(b'=', w)?;
+    let name = symbol_named(name)?;
+    let address = natural(address)?;
+    Some((name, address))
+}
+
+fn is_given(addresses: &[(ExternalName, u64)], number: u32) -> bool
+    ensures { result ≡ list_any (λ o. o.0.number == number) addresses.now }
+{
+    addresses.iter().any(|o| o.0.number == number)
+}
+
+// One more address, by the word of this number, where no earlier one gives its name.
+fn add_address(
+    named: Named,
+    addresses: &mut List<(ExternalName, u64)>,
+    index: usize,
+    address: (ExternalName, u64),
+) -> Result<(), SettingsError>
+    ensures { Leaves (with_address named index addresses.old address) addresses.new result }
+{
+    if is_given(addresses.as_slice(), address.0.number) {
+        return Err(SettingsError::Bad {
+            word: BadWord::AddressTwice { named, index },
+        });
+    }
+    match addresses.push(address) {
+        Ok(()) => Ok(()),
+        Err(OutOfMemory) => Err(SettingsError::OutOfMemory),
+    }
+}
+
+fn put_address(
+    named: Named,
+    addresses: &mut List<(ExternalName, u64)>,
+    index: usize,
+    w: &[u8],
+) -> Result<(), SettingsError>
+    ensures { Leaves (put_address named index addresses.old w.now) addresses.new result }
+{
+    match name_address(w) {
+        Some(address) => add_address(named, addresses, index, address),
+        None => Err(SettingsError::Bad {
+            word: BadWord::Address { named, index },
+        }),
+    }
+}
+
+fn addresses_of(
+    alloc: Global,
+    named: Named,
+    words: &[&str],
+) -> Result<List<(ExternalName, u64)>, SettingsError>
+    ensures { Reads (addresses_from named 0 [] words.now) result }
+{
+    let mut addresses = List::new(alloc);
+    for (index, w) in words.iter().enumerate() {
+        put_address(named, &mut addresses, index, w.as_bytes())?;
+    }
+    Ok(addresses)
+}
+
 impl From<BadWord> for SettingsError {
     ghost use Rattle.rv_load.specs.declared.settings.SettingsError.TheVariants as errors;
 
@@ -301,7 +383,8 @@ impl From<BadWord> for SettingsError {
     }
 }
 
-/// What the words say; or the first bad one, in the order of base, flags, start, steps, data and registers.
+/// What the words say; or the first bad one, in the order of base, flags, start, steps, data, registers, symbols and
+/// slots.
 pub fn settings_of(alloc: Global, given: &Given) -> Result<Settings, SettingsError>
     ensures { Reads (settings_of given.now) result }
 {
@@ -311,6 +394,8 @@ pub fn settings_of(alloc: Global, given: &Given) -> Result<Settings, SettingsErr
     let steps = steps_of(given)?;
     let memory = memory_of(alloc, given.memory.as_slice())?;
     let registers = registers_of(alloc, given.registers.as_slice())?;
+    let symbols = addresses_of(alloc, Named::Symbol, given.symbols.as_slice())?;
+    let slots = addresses_of(alloc, Named::Slot, given.slots.as_slice())?;
     Ok(Settings {
         base,
         flags,
@@ -319,5 +404,7 @@ pub fn settings_of(alloc: Global, given: &Given) -> Result<Settings, SettingsErr
         trace: given.trace,
         registers,
         memory,
+        symbols,
+        slots,
     })
 }

@@ -150,6 +150,24 @@ fn command<'a>(alloc: Global) -> Result<Command<'a>, OutOfMemory>
         ),
     )?;
     let c = with_arg(c, list(alloc, "data", "ADDRESS=HEX", "Bytes of memory"))?;
+    let c = with_arg(
+        c,
+        list(
+            alloc,
+            "symbol",
+            "NAME=ADDRESS",
+            "Where a symbol is, as userextname0=0x20000",
+        ),
+    )?;
+    let c = with_arg(
+        c,
+        list(
+            alloc,
+            "slot",
+            "NAME=ADDRESS",
+            "Where the slot is that holds a symbol's address",
+        ),
+    )?;
     let c = with_arg(c, flag(alloc, "trace", "Print each step"))?;
     with_arg(
         c,
@@ -209,6 +227,8 @@ fn given_by<'a>(alloc: Global, matches: &ArgMatches<'a>) -> Result<Given<'a>, Ou
         at: given(matches, "at"),
         steps: given(matches, "steps"),
         memory: all_given(alloc, matches, "data")?,
+        symbols: all_given(alloc, matches, "symbol")?,
+        slots: all_given(alloc, matches, "slot")?,
         registers: all_given(alloc, matches, "REGISTER=VALUE")?,
     })
 }

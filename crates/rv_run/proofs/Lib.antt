@@ -1,3 +1,4 @@
 pub mod Going
 pub mod Grows
 pub mod Writing
+pub mod Placing

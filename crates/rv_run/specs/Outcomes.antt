@@ -1,9 +1,17 @@
 -- How a call of the program ends, and why.
-use Rattle.std.specs.Prelude.{◌≡◌, ℕ, ◌<◌, ◌≤◌, ◌⊎◌, Bool, true, false, List, [], ◌++◌, length, slice_get, Option, None, Result, Ok, Err, IfSome, unwrap_or, option_map, codes}
+use Rattle.std.specs.Prelude.{◌≡◌, ℕ, ◌<◌, ◌≤◌, ◌⊎◌, Bool, true, false, List, [], ◌++◌, length, slice_get, if◌then◌else◌, Option, Some, None, Result, Ok, Err, IfSome, unwrap_or, option_map, codes}
 use Rattle.std.specs.Borrow.{Bor}
 use Rattle.std.specs.Io.KnownBytes.{Appends, Keeps}
 use Rattle.std.specs.Fmt.{decimal}
 use Rattle.std.specs.FinMap as map
+use Rattle.mach_records.specs.declared.records.MachReloc.{MachReloc}
+use Rattle.rv_base.specs.declared.reloc.Reloc.{Reloc}
+use Rattle.rv_base.specs.declared.reloc.Reloc.TheVariants.{RiscvCallPlt, RiscvGotHi20, RiscvPCRelHi20, RiscvPCRelLo12I, Abs8}
+use Rattle.rv_fill.specs.declared.error.PlaceError.{PlaceError}
+use Rattle.rv_fill.specs.declared.error.PlaceError.TheVariants as place
+use Rattle.rv_fill.specs.Filled.{table_of, IsFilled}
+use Rattle.rv_fill.specs.Refusal.{refusal}
+use Rattle.rv_listing.specs.Relocations.{target_text}
 use Rattle.rv_machine.specs.State.{byte}
 use Rattle.rv_machine.specs.Steps.{Machine}
 use Rattle.rv_stream.specs.Ends.{Rose, TookFront}
@@ -14,6 +22,8 @@ use Rattle.rv_load.specs.declared.program.ProgramError.TheVariants as program_er
 use Rattle.rv_load.specs.declared.settings.Settings.{Settings}
 use Rattle.rv_load.specs.declared.settings.BadWord.{BadWord}
 use Rattle.rv_load.specs.declared.settings.BadWord.TheVariants as bad
+use Rattle.rv_load.specs.declared.settings.Named.{Named}
+use Rattle.rv_load.specs.declared.settings.Named.TheVariants as named
 use Rattle.rv_load.specs.declared.words.WordsError.TheVariants as words_errors
 use Rattle.rv_load.specs.Command.{Parses}
 use Rattle.rv_load.specs.Hex.{ReadsHex}
@@ -39,9 +49,50 @@ cause_text bad.Steps = codes "no number below 2^64"
 cause_text (bad.Data index) = codes "no ADDRESS=HEX with an address below 2^64 and pairs of digits"
 cause_text (bad.Register index) = codes "no REGISTER=VALUE with a register x1 to x31 and a value of 64 bits"
 cause_text (bad.Twice index) = codes "sets a register that an earlier word sets"
+cause_text (bad.Address named index) = codes "no NAME=ADDRESS with a name as userextname0 and an address below 2^64"
+cause_text (bad.AddressTwice named index) = codes "gives a name that an earlier word gives"
 
 abbrev pub word_line : BadWord → List ℕ → List ℕ
 word_line cause word = codes "rvrun: " ++ word ++ codes ": " ++ cause_text cause ++ codes "\n"
+
+-- the number of the relocation that an error is of
+abbrev pub index_of : PlaceError → ℕ
+index_of place.BadBase = 0
+index_of (place.BadRecord index) = index
+index_of (place.NoSymbol index) = index
+index_of (place.OutOfReach index) = index
+index_of place.OutOfMemory = 0
+
+-- what it asks is the address of a slot
+abbrev pub is_slot_kind : Reloc → Bool
+is_slot_kind RiscvCallPlt = false
+is_slot_kind RiscvGotHi20 = true
+is_slot_kind RiscvPCRelHi20 = false
+is_slot_kind RiscvPCRelLo12I = false
+is_slot_kind Abs8 = false
+
+abbrev pub is_of_slot : Option MachReloc → Bool
+is_of_slot None = false
+is_of_slot (Some r) = is_slot_kind r.kind
+
+abbrev pub missing_text : Bool → List ℕ
+missing_text of_slot = if of_slot then codes "no --slot gives its address" else codes "no --symbol gives its address"
+
+-- why a relocation isn't filled
+abbrev pub unplaced_text : PlaceError → Option MachReloc → List ℕ
+unplaced_text place.BadBase reloc = codes "the code has no room"
+unplaced_text (place.BadRecord index) reloc = codes "none that code of a listing has"
+unplaced_text (place.NoSymbol index) reloc = missing_text (is_of_slot reloc)
+unplaced_text (place.OutOfReach index) reloc = codes "out of reach"
+unplaced_text place.OutOfMemory reloc = codes "out of memory"
+
+-- where it stands, and what it refers to
+abbrev pub reloc_text : Option MachReloc → List ℕ
+reloc_text None = []
+reloc_text (Some r) = codes " at " ++ decimal r.offset ++ codes " (" ++ target_text r.target ++ codes ")"
+
+abbrev pub unplaced_line : PlaceError → Option MachReloc → List ℕ
+unplaced_line error reloc = codes "rvrun: relocation " ++ decimal (index_of error) ++ reloc_text reloc ++ codes ": " ++ unplaced_text error reloc ++ codes "\n"
 
 -- the text that a call with this outcome writes
 abbrev pub text_of : Outcome → List ℕ
@@ -51,6 +102,7 @@ text_of (ends.Version text) = text
 text_of (ends.Usage text) = text
 text_of (ends.BadWord cause word) = word_line cause word
 text_of (ends.NotReport line) = codes "rvrun: no report at line " ++ decimal line ++ codes "\n"
+text_of (ends.Unplaced error reloc) = unplaced_line error reloc
 text_of ends.NotHex = codes "rvrun: no hexadecimal digits in pairs\n"
 text_of ends.TooLong = codes "rvrun: too long\n"
 text_of ends.ReadFault = []
@@ -65,6 +117,7 @@ status_of (ends.Usage text) = 2
 status_of (ends.BadWord cause word) = 2
 status_of (ends.NotReport line) = 3
 status_of ends.NotHex = 3
+status_of (ends.Unplaced error reloc) = 4
 status_of ends.ReadFault = 5
 status_of ends.WriteFault = 6
 status_of ends.TooLong = 7
@@ -99,6 +152,11 @@ given_text given = unwrap_or (option_map (λ s. s.now) given) []
 abbrev pub listed_text : List (Bor (List ℕ)) → ℕ → List ℕ
 listed_text words index = given_text (slice_get words index)
 
+-- the words that give addresses
+abbrev pub addresses_of : Given → Named → List (Bor (List ℕ))
+addresses_of g named.Symbol = g.symbols
+addresses_of g named.Slot = g.slots
+
 -- the text of a bad word
 abbrev pub word_text : Given → BadWord → List ℕ
 word_text g bad.Base = given_text g.base
@@ -109,11 +167,81 @@ word_text g bad.Steps = given_text g.steps
 word_text g (bad.Data index) = listed_text g.memory index
 word_text g (bad.Register index) = listed_text g.registers index
 word_text g (bad.Twice index) = listed_text g.registers index
+word_text g (bad.Address named index) = listed_text (addresses_of g named) index
+word_text g (bad.AddressTwice named index) = listed_text (addresses_of g named) index
+
+-- why the code can't stand at its base with the addresses that the words give, if it can't
+abbrev pub unplaced : Settings → Program → Option PlaceError
+unplaced s p = refusal (length p.bytes) p.relocs s.base (table_of s.symbols) (table_of s.slots)
+
+-- a program that is another one with its relocations filled by these addresses
+pub record IsLinked (s : Settings) (p q : Program) : Type 0 where
+  pub filled : IsFilled p.bytes p.relocs s.base (table_of s.symbols) (table_of s.slots) q.bytes
+  pub lines : q.lines ≡ p.lines
+
+-- the word that doesn't fit a program: there is no room from the base on, or none where the run is to begin
+abbrev pub IsUnfit : Settings → Program → BadWord → Type 0
+IsUnfit s p cause = ((unplaced s p ≡ Some place.BadBase) × (cause ≡ bad.Base)) ⊎ ((q : Program) × IsLinked s p q × (begin s q ≡ Err cause))
+
+-- the relocation that an error is of
+abbrev pub reloc_of : PlaceError → List MachReloc → Option MachReloc
+reloc_of place.BadBase relocs = None
+reloc_of (place.BadRecord index) relocs = slice_get relocs index
+reloc_of (place.NoSymbol index) relocs = slice_get relocs index
+reloc_of (place.OutOfReach index) relocs = slice_get relocs index
+reloc_of place.OutOfMemory relocs = None
+
+-- a relocation is refused so
+abbrev pub IsRefused : Settings → Program → PlaceError → Type 0
+IsRefused s p place.BadBase = ⊥
+IsRefused s p (place.BadRecord index) = unplaced s p ≡ Some (place.BadRecord index)
+IsRefused s p (place.NoSymbol index) = unplaced s p ≡ Some (place.NoSymbol index)
+IsRefused s p (place.OutOfReach index) = unplaced s p ≡ Some (place.OutOfReach index)
+IsRefused s p place.OutOfMemory = ⊥
+
+-- a look for a refusal returned this error; out of memory may come at any time
+abbrev pub IsOrOutOfMemory : Option PlaceError → PlaceError → Type 0
+IsOrOutOfMemory found place.OutOfMemory = Unit {0}
+IsOrOutOfMemory found place.BadBase = found ≡ Some place.BadBase
+IsOrOutOfMemory found (place.BadRecord index) = found ≡ Some (place.BadRecord index)
+IsOrOutOfMemory found (place.NoSymbol index) = found ≡ Some (place.NoSymbol index)
+IsOrOutOfMemory found (place.OutOfReach index) = found ≡ Some (place.OutOfReach index)
+
+-- the outcome of a program whose relocations are filled
+abbrev pub OfLinked : Given → Settings → Program → Outcome → Type 0
+OfLinked g s q (ends.Ran run) = IsRun s q run
+OfLinked g s q (ends.BadWord cause word) = (begin s q ≡ Err cause) × (word ≡ word_text g cause)
+OfLinked g s q (ends.Unplaced error reloc) = ⊥
+OfLinked g s q (ends.NotReport line) = ⊥
+OfLinked g s q ends.NotHex = ⊥
+OfLinked g s q (ends.Help text) = ⊥
+OfLinked g s q (ends.Version text) = ⊥
+OfLinked g s q (ends.Usage text) = ⊥
+OfLinked g s q ends.TooLong = ⊥
+OfLinked g s q ends.ReadFault = ⊥
+OfLinked g s q ends.WriteFault = ⊥
+OfLinked g s q ends.OutOfMemory = ⊥
+
+-- the outcome of a program
+abbrev pub OfProgram : Given → Settings → Program → Outcome → Type 0
+OfProgram g s p (ends.Ran run) = (q : Program) × IsLinked s p q × IsRun s q run
+OfProgram g s p (ends.BadWord cause word) = IsUnfit s p cause × (word ≡ word_text g cause)
+OfProgram g s p (ends.Unplaced error reloc) = IsRefused s p error × (reloc ≡ reloc_of error p.relocs)
+OfProgram g s p (ends.NotReport line) = ⊥
+OfProgram g s p ends.NotHex = ⊥
+OfProgram g s p (ends.Help text) = ⊥
+OfProgram g s p (ends.Version text) = ⊥
+OfProgram g s p (ends.Usage text) = ⊥
+OfProgram g s p ends.TooLong = ⊥
+OfProgram g s p ends.ReadFault = ⊥
+OfProgram g s p ends.WriteFault = ⊥
+OfProgram g s p ends.OutOfMemory = ⊥
 
 -- the outcome of an input that was read
 abbrev pub Means : Given → Settings → List ℕ → Outcome → Type 0
-Means g s input (ends.Ran run) = (p : Program) × Loads g.hex input (Ok p) × IsRun s p run
-Means g s input (ends.BadWord cause word) = (p : Program) × Loads g.hex input (Ok p) × (begin s p ≡ Err cause) × (word ≡ word_text g cause)
+Means g s input (ends.Ran run) = (p : Program) × Loads g.hex input (Ok p) × OfProgram g s p (ends.Ran run)
+Means g s input (ends.BadWord cause word) = (p : Program) × Loads g.hex input (Ok p) × OfProgram g s p (ends.BadWord cause word)
+Means g s input (ends.Unplaced error reloc) = (p : Program) × Loads g.hex input (Ok p) × OfProgram g s p (ends.Unplaced error reloc)
 Means g s input (ends.NotReport line) = Loads g.hex input (Err (program_errors.NotReport line))
 Means g s input ends.NotHex = Loads g.hex input (Err program_errors.NotHex)
 Means g s input (ends.Help text) = ⊥

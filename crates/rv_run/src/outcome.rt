@@ -1,13 +1,16 @@
 //! How a call of the program ends, with its status and its text.
 
 ghost use Rattle.std.specs.Prelude.{◌≡◌, ◌++◌, IfOk, OnOk, codes, string_bytes};
-ghost use Rattle.rv_run.specs.Outcomes.{cause_text, word_line, text_of, status_of};
+ghost use Rattle.rv_run.specs.Outcomes.{cause_text, word_line, index_of, is_of_slot, is_slot_kind, missing_text, unplaced_text, reloc_text, unplaced_line, text_of, status_of};
+ghost use Rattle.rv_listing.specs.Relocations.{target_text};
 ghost use Rattle.std.specs.Fmt.{decimal};
 ghost use Rattle.rv_run.specs.Output.{run_text};
 
 use crate::output::put_run;
 use crate::result::Run;
-use rv_base::{List, OutOfMemory};
+use mach_records::{FinalizedRelocTarget, MachReloc};
+use rv_base::{List, OutOfMemory, Reloc};
+use rv_fill::PlaceError;
 use rv_load::BadWord;
 use std::alloc::Global;
 
@@ -15,19 +18,37 @@ use std::alloc::Global;
 #[derive(Drop)]
 pub enum Outcome {
     /// The code ran, and the text of its run was written.
-    Ran { run: Run },
+    Ran {
+        run: Run,
+    },
     /// The words ask for help.
-    Help { text: List<u8> },
+    Help {
+        text: List<u8>,
+    },
     /// The words ask for the version.
-    Version { text: List<u8> },
+    Version {
+        text: List<u8>,
+    },
     /// The words are none of the command.
-    Usage { text: List<u8> },
+    Usage {
+        text: List<u8>,
+    },
     /// A word says nothing of this run.
-    BadWord { cause: BadWord, word: List<u8> },
+    BadWord {
+        cause: BadWord,
+        word: List<u8>,
+    },
     /// The first line of the input, counted from 1, that no report has there.
-    NotReport { line: usize },
+    NotReport {
+        line: usize,
+    },
     /// The input is not hexadecimal digits in pairs.
     NotHex,
+    /// The code has a relocation that the words don't fill.
+    Unplaced {
+        error: PlaceError,
+        reloc: Option<MachReloc>,
+    },
     ReadFault,
     WriteFault,
     /// The input has more than 16777216 bytes.
@@ -50,6 +71,7 @@ impl Outcome {
             Outcome::BadWord { cause: _, word: _ } => 2,
             Outcome::NotReport { line: _ } => 3,
             Outcome::NotHex => 3,
+            Outcome::Unplaced { error: _, reloc: _ } => 4,
             Outcome::ReadFault => 5,
             Outcome::WriteFault => 6,
             Outcome::TooLong => 7,
@@ -74,6 +96,9 @@ fn cause_text(cause: BadWord) -> &'static str
         BadWord::Register { index: _ } =>
             "no REGISTER=VALUE with a register x1 to x31 and a value of 64 bits",
         BadWord::Twice { index: _ } => "sets a register that an earlier word sets",
+        BadWord::Address { named: _, index: _ } =>
+            "no NAME=ADDRESS with a name as userextname0 and an address below 2^64",
+        BadWord::AddressTwice { named: _, index: _ } => "gives a name that an earlier word gives",
     }
 }
 
@@ -100,6 +125,105 @@ fn report_line(alloc: Global, line: usize) -> Result<String, OutOfMemory>
     ensures { IfOk result (λ text. string_bytes text ≡ codes "rvrun: no report at line " ++ decimal line ++ codes "\n") }
 {
     Ok(format!(in alloc; "rvrun: no report at line {line}\n")?)
+}
+
+fn index_of(error: PlaceError) -> usize
+    ensures { result ≡ index_of error }
+{
+    match error {
+        PlaceError::BadRecord { index } => index,
+        PlaceError::NoSymbol { index } => index,
+        PlaceError::OutOfReach { index } => index,
+        PlaceError::BadBase | PlaceError::OutOfMemory => 0,
+    }
+}
+
+fn is_of_slot(reloc: Option<MachReloc>) -> bool
+    ensures { result ≡ is_of_slot reloc }
+{
+    match reloc {
+        Some(reloc) => is_slot_kind(reloc.kind),
+        None => false,
+    }
+}
+
+fn is_slot_kind(kind: Reloc) -> bool
+    ensures { result ≡ is_slot_kind kind }
+{
+    match kind {
+        Reloc::RiscvGotHi20 => true,
+        Reloc::RiscvCallPlt | Reloc::RiscvPCRelHi20 | Reloc::RiscvPCRelLo12I | Reloc::Abs8 => false,
+    }
+}
+
+fn missing_text(of_slot: bool) -> &'static str
+    ensures { result.now ≡ missing_text of_slot }
+{
+    if of_slot {
+        "no --slot gives its address"
+    } else {
+        "no --symbol gives its address"
+    }
+}
+
+// Why a relocation isn't filled.
+fn unplaced_text(error: PlaceError, reloc: Option<MachReloc>) -> &'static str
+    ensures { result.now ≡ unplaced_text error reloc }
+{
+    match error {
+        PlaceError::BadBase => "the code has no room",
+        PlaceError::BadRecord { index: _ } => "none that code of a listing has",
+        PlaceError::NoSymbol { index: _ } => missing_text(is_of_slot(reloc)),
+        PlaceError::OutOfReach { index: _ } => "out of reach",
+        PlaceError::OutOfMemory => "out of memory",
+    }
+}
+
+fn target_text(alloc: Global, target: FinalizedRelocTarget) -> Result<String, OutOfMemory>
+    ensures { IfOk result (λ text. string_bytes text ≡ target_text target) }
+{
+    match target {
+        FinalizedRelocTarget::ExternalName(name) => {
+            let number = name.number;
+            Ok(format!(in alloc; "userextname{number}")?)
+        }
+        FinalizedRelocTarget::Func(offset) => Ok(format!(in alloc; "@{offset}")?),
+    }
+}
+
+// Where a relocation stands, and what it refers to.
+fn reloc_text(alloc: Global, reloc: Option<MachReloc>) -> Result<String, OutOfMemory>
+    ensures { IfOk result (λ text. string_bytes text ≡ reloc_text reloc) }
+{
+    match reloc {
+        None => Ok(String::new(alloc)),
+        Some(reloc) => {
+            let offset = reloc.offset;
+            let target = target_text(alloc, reloc.target)?;
+            let mut text = format!(in alloc; " at {offset} (")?;
+            text.push_str(target.as_str())?;
+            text.push_str(")")?;
+            Ok(text)
+        }
+    }
+}
+
+fn unplaced_line(
+    alloc: Global,
+    error: PlaceError,
+    reloc: Option<MachReloc>,
+) -> Result<String, OutOfMemory>
+    ensures { IfOk result (λ text. string_bytes text ≡ unplaced_line error reloc) }
+{
+    let index = index_of(error);
+    let place = reloc_text(alloc, reloc)?;
+    let why = unplaced_text(error, reloc);
+    let mut text = format!(in alloc; "rvrun: relocation {index}")?;
+    text.push_str(place.as_str())?;
+    text.push_str(": ")?;
+    text.push_str(why)?;
+    text.push_str("\n")?;
+    Ok(text)
 }
 
 fn bytes_of(alloc: Global, text: &[u8]) -> Result<Vec<u8>, OutOfMemory>
@@ -131,6 +255,9 @@ pub fn text_of(alloc: Global, outcome: &Outcome) -> Result<Vec<u8>, OutOfMemory>
         Outcome::BadWord { cause, word } => word_line(alloc, *cause, word.as_slice()),
         Outcome::NotReport { line } => Ok(report_line(alloc, *line)?.into_bytes()),
         Outcome::NotHex => bytes_of(alloc, b"rvrun: no hexadecimal digits in pairs\n"),
+        Outcome::Unplaced { error, reloc } => Ok(unplaced_line(
+            alloc, *error, *reloc,
+        )?.into_bytes()),
         Outcome::TooLong => bytes_of(alloc, b"rvrun: too long\n"),
         Outcome::ReadFault | Outcome::WriteFault | Outcome::OutOfMemory => Ok(Vec::new(alloc)),
     }

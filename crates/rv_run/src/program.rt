@@ -1,13 +1,14 @@
 //! The program's call: reads the words and the input, runs the code, and writes the text of the run.
 
-ghost use Rattle.std.specs.Prelude.{◌≡◌, ◌<◌, length, map, string_bytes, IfOk, Ok, []};
+ghost use Rattle.std.specs.Prelude.{◌≡◌, ◌<◌, length, map, string_bytes, IfOk, OnOk, OnErr, Ok, []};
+ghost use Rattle.rv_fill.specs.Refusal.{Finds};
 ghost use Rattle.rv_machine.specs.Steps.{Machine};
 ghost use Rattle.rv_run.specs.Memory.{memory_lines};
 ghost use Rattle.rv_run.specs.Output.{file};
 ghost use Rattle.rv_run.specs.Running.{RunsTo};
 ghost use Rattle.rv_run.specs.Starting.{begin};
 ghost use Rattle.rv_run.specs.Tracing.{trace_where};
-ghost use Rattle.rv_run.specs.Outcomes.{Loads, IsRun, given_text, listed_text, word_text, Means, Words, call, Asked, Ended, WritesText};
+ghost use Rattle.rv_run.specs.Outcomes.{Loads, IsRun, given_text, listed_text, word_text, addresses_of, unplaced, IsLinked, IsOrOutOfMemory, reloc_of, OfLinked, OfProgram, Means, Words, call, Asked, Ended, WritesText};
 
 use crate::ending::{Ending, Place};
 use crate::memory::memory_lines;
@@ -18,8 +19,10 @@ use crate::running::run_code;
 use crate::starting::begin;
 use crate::tracing::run_traced;
 use rv_base::{List, OutOfMemory};
+use rv_fill::{PlaceError, fill};
+use rv_inst::MachReloc;
 use rv_load::{
-    BadWord, Given, Program, ProgramError, Settings, SettingsError, WordsError, read_hex,
+    BadWord, Given, Named, Program, ProgramError, Settings, SettingsError, WordsError, read_hex,
     read_report, read_words, settings_of,
 };
 use rv_machine::IntMachine;
@@ -132,6 +135,15 @@ fn listed_text(alloc: Global, words: &[&str], index: usize) -> Result<List<u8>, 
     }
 }
 
+fn addresses_of<'a, 'b>(given: &'b Given<'a>, named: Named) -> &'b [&'a str]
+    ensures { result.now ≡ addresses_of given.now named }
+{
+    match named {
+        Named::Symbol => given.symbols.as_slice(),
+        Named::Slot => given.slots.as_slice(),
+    }
+}
+
 fn word_text(alloc: Global, given: &Given, cause: BadWord) -> Result<List<u8>, OutOfMemory>
     ensures { IfOk result (λ text. text ≡ word_text given.now cause) }
 {
@@ -144,6 +156,107 @@ fn word_text(alloc: Global, given: &Given, cause: BadWord) -> Result<List<u8>, O
         BadWord::Data { index } => listed_text(alloc, given.memory.as_slice(), index),
         BadWord::Register { index } => listed_text(alloc, given.registers.as_slice(), index),
         BadWord::Twice { index } => listed_text(alloc, given.registers.as_slice(), index),
+        BadWord::Address { named, index } | BadWord::AddressTwice { named, index } => listed_text(
+            alloc,
+            addresses_of(given, named),
+            index,
+        ),
+    }
+}
+
+// Fills the relocations of a program, for where it is to stand.
+fn link(alloc: Global, settings: &Settings, program: &mut Program) -> Result<(), PlaceError>
+    ensures linked { OnOk result (IsLinked settings.now program.old program.new) }
+    ensures refused { Finds (unplaced settings.now program.old) result }
+    ensures kept { OnErr result (program.new ≡ program.old) }
+{
+    let bytes = fill(
+        alloc,
+        program.bytes.as_slice(),
+        program.relocs.as_slice(),
+        settings.base,
+        settings.symbols.as_slice(),
+        settings.slots.as_slice(),
+    )?;
+    program.bytes = bytes;
+    Ok(())
+}
+
+fn reloc_of(error: PlaceError, relocs: &[MachReloc]) -> Option<MachReloc>
+    ensures { result ≡ reloc_of error relocs.now }
+{
+    match error {
+        PlaceError::BadRecord { index }
+        | PlaceError::NoSymbol { index }
+        | PlaceError::OutOfReach { index } => relocs.get(index).copied(),
+        PlaceError::BadBase | PlaceError::OutOfMemory => None,
+    }
+}
+
+// The outcome of a program that can't stand at its base with these addresses.
+fn outcome_of_unplaced(
+    alloc: Global,
+    given: &Given,
+    settings: &Settings,
+    program: &Program,
+    error: PlaceError,
+) -> Result<Outcome, OutOfMemory>
+    requires { IsOrOutOfMemory (unplaced settings.now program.now) error }
+    ensures { IfOk result (OfProgram given.now settings.now program.now) }
+{
+    match error {
+        PlaceError::BadBase => {
+            let word = word_text(alloc, given, BadWord::Base)?;
+            Ok(Outcome::BadWord {
+                cause: BadWord::Base,
+                word,
+            })
+        }
+        PlaceError::OutOfMemory => Err(OutOfMemory),
+        PlaceError::BadRecord { index: _ }
+        | PlaceError::NoSymbol { index: _ }
+        | PlaceError::OutOfReach { index: _ } => Ok(Outcome::Unplaced {
+            error,
+            reloc: reloc_of(error, program.relocs.as_slice()),
+        }),
+    }
+}
+
+// The outcome of a program whose relocations are filled.
+fn outcome_of_linked<P: Progress>(
+    alloc: Global,
+    given: &Given,
+    settings: &Settings,
+    program: &Program,
+    progress: &mut P,
+) -> Result<Outcome, OutOfMemory>
+    ensures { IfOk result (OfLinked given.now settings.now program.now) }
+{
+    match begin(alloc, settings, program) {
+        Ok(machine) => {
+            let run = run_from(alloc, settings, program, machine, progress)?;
+            Ok(Outcome::Ran { run })
+        }
+        Err(SettingsError::Bad { word: cause }) => {
+            let word = word_text(alloc, given, cause)?;
+            Ok(Outcome::BadWord { cause, word })
+        }
+        Err(SettingsError::OutOfMemory) => Err(OutOfMemory),
+    }
+}
+
+fn outcome_of_program<P: Progress>(
+    alloc: Global,
+    given: &Given,
+    settings: &Settings,
+    mut program: Program,
+    progress: &mut P,
+) -> Result<Outcome, OutOfMemory>
+    ensures { IfOk result (OfProgram given.now settings.now program) }
+{
+    match link(alloc, settings, &mut program) {
+        Ok(()) => outcome_of_linked(alloc, given, settings, &program, progress),
+        Err(error) => outcome_of_unplaced(alloc, given, settings, &program, error),
     }
 }
 
@@ -157,22 +270,11 @@ fn outcome_of_input<P: Progress>(
 ) -> Result<Outcome, OutOfMemory>
     ensures { IfOk result (Means given.now settings.now input.now) }
 {
-    let program = match load(alloc, given.hex, input) {
-        Ok(program) => program,
-        Err(ProgramError::NotReport { line }) => return Ok(Outcome::NotReport { line }),
-        Err(ProgramError::NotHex) => return Ok(Outcome::NotHex),
-        Err(ProgramError::OutOfMemory) => return Err(OutOfMemory),
-    };
-    match begin(alloc, settings, &program) {
-        Ok(machine) => {
-            let run = run_from(alloc, settings, &program, machine, progress)?;
-            Ok(Outcome::Ran { run })
-        }
-        Err(SettingsError::Bad { word: cause }) => {
-            let word = word_text(alloc, given, cause)?;
-            Ok(Outcome::BadWord { cause, word })
-        }
-        Err(SettingsError::OutOfMemory) => Err(OutOfMemory),
+    match load(alloc, given.hex, input) {
+        Ok(program) => outcome_of_program(alloc, given, settings, program, progress),
+        Err(ProgramError::NotReport { line }) => Ok(Outcome::NotReport { line }),
+        Err(ProgramError::NotHex) => Ok(Outcome::NotHex),
+        Err(ProgramError::OutOfMemory) => Err(OutOfMemory),
     }
 }
 

@@ -15,6 +15,8 @@ returns c =
     let at : rule_of c.option-4.result ≡ option_rule (codes "at") = search rules in
     let steps : rule_of c.option-5.result ≡ option_rule (codes "steps") = search rules in
     let memory : rule_of c.list.result ≡ list_rule (codes "data") = search rules in
+    let symbol : rule_of c.list-2.result ≡ list_rule (codes "symbol") = search rules in
+    let slot : rule_of c.list-3.result ≡ list_rule (codes "slot") = search rules in
     let trace : rule_of c.flag-2.result ≡ flag_rule (codes "trace") = search rules in
     let word : rule_of c.word.result ≡ word_rule (codes "REGISTER=VALUE") = search rules in
     let one = c.in_ok-c.ensures ∙ ap₂ with_rule c.opening-c.ensures hex in
@@ -24,5 +26,7 @@ returns c =
     let five = c.in_ok-c-5.ensures ∙ ap₂ with_rule four at in
     let six = c.in_ok-c-6.ensures ∙ ap₂ with_rule five steps in
     let seven = c.in_ok-c-7.ensures ∙ ap₂ with_rule six memory in
-    let eight = c.in_ok-c-8.ensures ∙ ap₂ with_rule seven trace in
-    IfOk-weaker c.with_arg-9.result _ _ (λ made h. h ∙ ap₂ with_rule eight word) c.with_arg-9.ensures
+    let eight = c.in_ok-c-8.ensures ∙ ap₂ with_rule seven symbol in
+    let nine = c.in_ok-c-9.ensures ∙ ap₂ with_rule eight slot in
+    let ten = c.in_ok-c-10.ensures ∙ ap₂ with_rule nine trace in
+    IfOk-weaker c.with_arg-11.result _ _ (λ made h. h ∙ ap₂ with_rule ten word) c.with_arg-11.ensures

@@ -1,0 +1,4 @@
+pub mod Tables
+pub mod Distances
+pub mod Accepted
+pub mod Images

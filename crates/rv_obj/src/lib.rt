@@ -1,0 +1,8 @@
+//! A relocatable object of a code: its layout, and its symbols and relocations.
+#![tactic(auto)]
+
+mod elf;
+mod headers;
+mod tables;
+
+pub use elf::{Object, Rela, Symbol, object_file};

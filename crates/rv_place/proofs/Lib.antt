@@ -1,0 +1,4 @@
+pub mod Parts
+pub mod Placements
+pub mod Records
+pub mod Runs

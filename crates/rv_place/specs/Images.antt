@@ -1,0 +1,37 @@
+-- What it is for an image to stand in a memory, and for code to run in every memory in which its image stands.
+use Rattle.std.specs.Prelude.{◌≡◌, ℕ, ◌+◌, ◌<◌, List, length, slice_get, slice_index, Some}
+use Rattle.rv_base.specs.declared.external_name.ExternalName.{ExternalName}
+use Rattle.rv_inst.specs.Calls.{Return, return_of}
+use Rattle.rv_inst.specs.declared.code.Code.{Code}
+use Rattle.rv_inst.specs.declared.inst.Inst.{Inst}
+use Rattle.rv_inst.specs.declared.inst.Line.{Line}
+use Rattle.rv_inst.specs.declared.inst.Line.TheVariants.{Inst as Put}
+use Rattle.rv_inst.specs.declared.job.Job.{Job}
+use Rattle.rv_inst.specs.SameValues.{Same}
+use Rattle.rv_machine.specs.State.{State, IsState, Values, AreValues, Memory, byte}
+use Rattle.rv_asm.specs.Placed.{Addresses, IsPlaced}
+use Rattle.rv_asm.specs.Simulation.{At, Returned, WritesOutside, Comes, address_of, RunsAsListed}
+use Rattle.rv_fill.specs.declared.error.PlaceError.{PlaceError}
+use Rattle.rv_fill.specs.declared.error.PlaceError.TheVariants.{BadBase, BadRecord, NoSymbol, OutOfReach, OutOfMemory}
+use Rattle.rv_fill.specs.Filled.{table_of}
+
+-- bytes stand in a memory from an address on
+abbrev pub StandAt : ℕ → List ℕ → Memory → Type 0
+StandAt base bytes mem = (k : ℕ) → k < length bytes → byte mem (base + k) ≡ slice_index bytes k
+
+-- Code is placed in every memory in which its image stands from a base on.
+abbrev pub PlacesIn : Code → ℕ → Addresses → Addresses → List ℕ → Type 0
+PlacesIn code base symbols slots image = (mem : Memory) → StandAt base image mem → IsPlaced code base symbols slots mem
+
+-- So it runs there as its job says: from the start of every line, and from where each call returns, as `RunsAsListed` does.
+pub record RunsIn (job : Job) (code : Code) (base : ℕ) (symbols slots : Addresses) (image : List ℕ) : Type 0 where
+  pub from : (i : ℕ) (line : Line) (s : State) (v : Values) → slice_get job.lines i ≡ Some line → WritesOutside job code base symbols slots i line v → StandAt base image s.values.mem → IsState s → AreValues v → s.pc ≡ address_of code base (At i) → Same v s.values → Comes job code base symbols slots (At i) v s
+  pub back : (i : ℕ) (inst : Inst) (r : Return) (s : State) (v : Values) → slice_get job.lines i ≡ Some (Put inst) → return_of job.flags inst ≡ Some r → StandAt base image s.values.mem → IsState s → AreValues v → s.pc ≡ address_of code base (Returned i) → Same v s.values → Comes job code base symbols slots (Returned i) v s
+
+-- an error that says nothing of a code's own records
+abbrev pub IsOfPlace : PlaceError → Type 0
+IsOfPlace BadBase = Unit {0}
+IsOfPlace (BadRecord index) = ⊥
+IsOfPlace (NoSymbol index) = Unit {0}
+IsOfPlace (OutOfReach index) = Unit {0}
+IsOfPlace OutOfMemory = Unit {0}
