@@ -1,0 +1,9 @@
+pub mod Registers
+pub mod Accepted
+pub mod Memory
+pub mod Validity
+pub mod Steps
+pub mod Effects
+pub mod Operations
+pub mod Programs
+pub mod Outcomes

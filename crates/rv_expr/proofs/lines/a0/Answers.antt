@@ -1,0 +1,6 @@
+use Rattle.std.proofs.Common.{lit<}
+use Rattle.rv_expr.proofs.Registers.{register_is}
+use Rattle.rv_expr.proofs.lines.a0.Goals as goal
+
+pub returns : goal.returns
+returns c = register_is c.x_reg.result 10 (lit< tt) c.x_reg.ensures
