@@ -1,4 +1,5 @@
-//! Cases of several lines each. A line `== NAME` begins one; after it stands what is given, up to a line `-- STATUS`; and then what must come
+//! Cases of several lines each. A line `== NAME` begins one; after it stands what is given, up to a line `-- STATUS`, or `--` where
+//! there is none; and then what must come
 //! of it. What stands before the first says what the cases try.
 
 use crate::error::CaseError;
@@ -23,6 +24,7 @@ fn named(head: &str) -> (&str, &str) {
 fn answer_of(alloc: Global, tail: &str) -> Result<String, AllocError> {
     let (status, text) = tail.split_once('\n').unwrap_or((tail, ""));
     let text = with_end(alloc, text)?;
+    let status = status.trim_start();
     if status.is_empty() {
         return Ok(text);
     }
@@ -31,7 +33,7 @@ fn answer_of(alloc: Global, tail: &str) -> Result<String, AllocError> {
 
 /// The case of a block.
 fn case_of(alloc: Global, path: &str, block: &str) -> Result<Case, CaseError> {
-    let Some((head, tail)) = block.split_once("\n-- ") else {
+    let Some((head, tail)) = block.split_once("\n--") else {
         return Err(CaseError::Form {
             text: format!(in alloc; "{path}: a case without an answer: {block}")?,
         });
