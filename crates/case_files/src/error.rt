@@ -1,5 +1,7 @@
 //! What ends a run of cases.
 
+ghost use Rattle.std.specs.Prelude.{◌≡◌, OnOk};
+
 use std::alloc::{AllocError, Global};
 use std::io;
 use thiserror::Error;
@@ -20,11 +22,15 @@ pub enum CaseError {
     },
     /// A file isn't of a form that holds cases.
     #[error("{text}")]
-    Form { text: String },
+    Form {
+        text: String,
+    },
 }
 
 /// Fails unless a case, by its name, gave the wanted text.
-pub fn expect_text(alloc: Global, case: &str, wanted: &str, got: &str) -> Result<(), CaseError> {
+pub fn expect_text(alloc: Global, case: &str, wanted: &str, got: &str) -> Result<(), CaseError>
+    ensures { OnOk result (wanted.now ≡ got.now) }
+{
     if wanted == got {
         return Ok(());
     }

@@ -1,9 +1,8 @@
 //! Folders of files that hold cases.
 
 use crate::error::CaseError;
-use std::fs;
-use std::io;
 use std::process::ExitCode;
+use std::{fs, io};
 
 /// What goes through the cases of a file.
 pub trait Cases {

@@ -19,7 +19,12 @@ struct Calls;
 /// The status of a call over a listing, and the sink that took its text.
 fn called(alloc: Global, listing: &str) -> (u8, SureSink) {
     let mut sink = SureSink::new(alloc);
-    let outcome = run(alloc, &[], &mut SureSource::new(listing.as_bytes()), &mut sink);
+    let outcome = run(
+        alloc,
+        &[],
+        &mut SureSource::new(listing.as_bytes()),
+        &mut sink,
+    );
     (outcome.status(), sink)
 }
 

@@ -59,11 +59,7 @@ fn answer(
 }
 
 /// Goes through the cases of a question, and returns how many there are.
-fn go_through_cases(
-    alloc: Global,
-    question: Question,
-    cases: &[Case],
-) -> Result<u32, CaseError> {
+fn go_through_cases(alloc: Global, question: Question, cases: &[Case]) -> Result<u32, CaseError> {
     let mut machine = IntMachine::new(alloc, IsaFlags::none(), 0);
     let mut count = 0u32;
     for case in cases {

@@ -19,11 +19,7 @@ use std::process::ExitCode;
 struct Lines;
 
 /// Goes through the cases of a question, and returns how many there are.
-fn go_through_cases(
-    alloc: Global,
-    question: Question,
-    cases: &[Case],
-) -> Result<u32, CaseError> {
+fn go_through_cases(alloc: Global, question: Question, cases: &[Case]) -> Result<u32, CaseError> {
     let mut count = 0u32;
     for case in cases {
         let got = answer(alloc, question, &case.given)?;

@@ -89,7 +89,10 @@ fn stuck(alloc: Global, job: &Job) -> Result<String, AllocError> {
 fn register_named(alloc: Global, name: &str) -> Result<String, AllocError> {
     match register(name.as_bytes()) {
         Some(Reg::Real(real)) => format!(in alloc; "{:?} {}", real.class, real.number),
-        Some(Reg::Virtual { class, index }) => format!(in alloc; "virtual {class:?} {}", index.value),
+        Some(Reg::Virtual { class, index }) => format!(in alloc;
+            "virtual {class:?} {}",
+            index.value
+        ),
         None => String::from_str(alloc, "none"),
     }
 }

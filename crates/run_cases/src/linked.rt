@@ -80,7 +80,12 @@ impl Placing {
     }
 
     /// Fills what a relocation asks for.
-    fn fill(&self, machine: &mut IntMachine, code: &Code, reloc: &MachReloc) -> Result<(), RunError> {
+    fn fill(
+        &self,
+        machine: &mut IntMachine,
+        code: &Code,
+        reloc: &MachReloc,
+    ) -> Result<(), RunError> {
         let at = self.base.wrapping_add(reloc.offset as u64);
         match reloc.kind {
             Reloc::RiscvGotHi20 | Reloc::RiscvPCRelHi20 => {

@@ -127,7 +127,16 @@ impl Play {
 fn is_action(word: &str) -> bool {
     matches!(
         word,
-        "fill" | "set" | "put" | "from" | "run" | "see" | "changed" | "kept" | "doubleword" | "records"
+        "fill"
+            | "set"
+            | "put"
+            | "from"
+            | "run"
+            | "see"
+            | "changed"
+            | "kept"
+            | "doubleword"
+            | "records"
     )
 }
 

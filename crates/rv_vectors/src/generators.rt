@@ -4,8 +4,8 @@ ghost use Rattle.rv_imms.specs.Splitting.{IsSplittable};
 
 use rv_asm::assemble;
 use rv_base::{
-    AMode, FrameLayout, IrType, IsaFlags, MemFlagsData, Reg, RegClass, WritableReg, a0, a1, f_reg, fa1,
-    writable_a0, writable_a2, writable_fa1, writable_link_reg,
+    AMode, FrameLayout, IrType, IsaFlags, MemFlagsData, Reg, RegClass, WritableReg, a0, a1, f_reg,
+    fa1, writable_a0, writable_a2, writable_fa1, writable_link_reg,
 };
 use rv_imms::{Imm12, imm_max, imm_min};
 use rv_inst::{Inst, Line, SmallInstVec, gen_moves};

@@ -65,7 +65,8 @@ fn machines_stop(rt: HostRuntime) -> Result<(), OutOfMemory> {
 }
 
 /// The report of a loop that counts a0 down.
-const COUNTDOWN: &str = "code 12\n00000000 1305f5ffe31e05fe67800000\nline 0 0 0\nline 1 0 4\nline 2 4 8\nline 3 8 12\nlabel L0 0\nend 12\n";
+const COUNTDOWN: &str =
+    "code 12\n00000000 1305f5ffe31e05fe67800000\nline 0 0 0\nline 1 0 4\nline 2 4 8\nline 3 8 12\nlabel L0 0\nend 12\n";
 
 /// The words between the spaces of a text.
 fn words_of(alloc: Global, text: &str) -> Result<Vec<String>, AllocError> {
