@@ -11,3 +11,4 @@ pub mod ConstantsPut
 pub mod Pieces
 pub mod SoundBuffers
 pub mod Laws
+pub mod Kept

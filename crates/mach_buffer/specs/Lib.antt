@@ -11,3 +11,4 @@ pub mod Inside
 pub mod Buffer
 pub mod VeneerConditions
 pub mod LastVeneers
+pub mod Kept

@@ -1,23 +1,36 @@
-//! Worked rows of listings and their reports: by tables of values from outside.
+//! What no file of cases can hold: calls of functions with arguments that no listing gives, long inputs, and streams that fail; by tables
+//! of values from outside.
 #![tactic(auto)]
 
 #[cfg(test)]
-mod calls;
-#[cfg(test)]
 mod compiler;
 #[cfg(test)]
-mod listings;
+mod generators;
 #[cfg(test)]
-mod operations;
+mod half_fields;
+#[cfg(test)]
+mod halves;
+#[cfg(test)]
+mod immediates;
+#[cfg(test)]
+mod label_uses;
+#[cfg(test)]
+mod loaded;
 #[cfg(test)]
 mod program;
 #[cfg(test)]
+mod registers;
+#[cfg(test)]
+mod report;
+#[cfg(test)]
 mod reported;
 #[cfg(test)]
-mod samples;
+mod runs;
 #[cfg(test)]
 mod streams;
 #[cfg(test)]
-mod symbols;
+mod vec_amode;
 #[cfg(test)]
-mod tail_calls;
+mod vector_setting;
+#[cfg(test)]
+mod words;

@@ -2,7 +2,7 @@
 
 use rv_asm::run;
 use rv_stream::{SureSink, SureSource};
-use std::alloc::{AllocError, Global};
+use std::alloc::Global;
 use std::process::Abort;
 
 /// The status of a call with these words over a listing, and the sink that took its text.
@@ -29,29 +29,4 @@ pub fn assert_reported(
     let (found, report) = reported(alloc, listing);
     assert!(rt; found == status, "status {found} at {name}");
     assert_eq!(rt; report.bytes(), text.as_bytes(), "at {name}");
-}
-
-/// Stops unless the listing of a good line and this one is answered so.
-pub fn assert_refused(
-    rt: &impl Abort,
-    alloc: Global,
-    line: &str,
-    status: u8,
-    expected: &str,
-) -> Result<(), AllocError> {
-    let mut listing = String::new(alloc);
-    write!(listing, "Ret\n{line}\n")?;
-    assert_reported(rt, alloc, line, listing.as_bytes(), status, expected);
-    Ok(())
-}
-
-/// Stops unless each line, after a good one, is refused for the rule that its row names before a colon.
-pub fn assert_rules_broken(rt: &impl Abort, alloc: Global, rows: &str) -> Result<(), AllocError> {
-    for row in rows.lines() {
-        let (rule, line) = row.split_once(':').unwrap_or(("", row));
-        let mut expected = String::new(alloc);
-        write!(expected, "rvemit: Malformed 1 {rule}\n")?;
-        assert_refused(rt, alloc, line, 4, &expected)?;
-    }
-    Ok(())
 }

@@ -1,0 +1,90 @@
+//! What halfwords expand to.
+
+use crate::numbers::{flags_of, number};
+use rv_base::{IsaFlags, OutOfMemory};
+use rv_machine::{Decoded, decode, decode_half};
+use rv_trace::put_instruction;
+use std::alloc::Global;
+
+const ALL: IsaFlags = IsaFlags {
+    has_m: true,
+    has_zba: true,
+    has_zbb: true,
+    has_zca: true,
+    has_zcb: true,
+    has_zcd: true,
+    has_zfhmin: true,
+};
+
+/// Puts the text of what a halfword expands to, or `-` where it is no instruction.
+fn put_text(
+    alloc: Global,
+    out: &mut Vec<u8>,
+    flags: IsaFlags,
+    half: u16,
+) -> Result<(), OutOfMemory> {
+    match decode_half(flags, half) {
+        Some(decoded) => put_instruction(alloc, out, decoded),
+        None => {
+            out.push(b'-')?;
+            Ok(())
+        }
+    }
+}
+
+/// What a word is, as an instruction of two bytes.
+fn shortened(word: u32) -> Option<Decoded> {
+    match decode(IsaFlags::none(), word) {
+        Some(wide) => Some(Decoded { len: 2, ..wide }),
+        None => None,
+    }
+}
+
+/// Whether a halfword expands to the operation of a word of these digits; of none, whether it expands to none.
+fn is_as(half: u16, word: &str) -> bool {
+    let wanted = if word.is_empty() {
+        None
+    } else {
+        shortened((number(word) & 0xffff_ffff) as u32)
+    };
+    decode_half(ALL, half) == wanted
+}
+
+/// The text of what the halfword of `HALF WORD` expands to, which has to be the operation of the word; or of `HALF`, none.
+pub(crate) fn expanded(alloc: Global, given: &str) -> Result<String, OutOfMemory> {
+    let (digits, word) = given.split_once(' ').unwrap_or((given, ""));
+    let half = (number(digits) & 0xffff) as u16;
+    let mut out = Vec::new(alloc);
+    put_text(alloc, &mut out, ALL, half)?;
+    if !is_as(half, word) {
+        out.extend_from_slice(b" (another operation)")?;
+    }
+    Ok(String::from_utf8_lossy(alloc, &out)?)
+}
+
+/// FNV-1a of more bytes.
+fn hashed(hash: u64, bytes: &[u8]) -> u64 {
+    let mut hash = hash;
+    for byte in bytes {
+        hash = (hash ^ u64::from(*byte)).wrapping_mul(0x100000001b3);
+    }
+    hash
+}
+
+/// FNV-1a of the texts of all halfwords, each put into one place.
+fn digest_by(alloc: Global, text: &mut Vec<u8>, flags: IsaFlags) -> Result<u64, OutOfMemory> {
+    let mut hash = 0xcbf29ce484222325;
+    for half in 0..=u16::MAX {
+        text.clear();
+        put_text(alloc, text, flags, half)?;
+        hash = hashed(hashed(hash, text), b"\n");
+    }
+    Ok(hash)
+}
+
+/// The digest of the texts of all halfwords under flags of these names.
+pub(crate) fn digest(alloc: Global, given: &str) -> Result<String, OutOfMemory> {
+    let mut text = Vec::new(alloc);
+    let digest = digest_by(alloc, &mut text, flags_of(given))?;
+    Ok(format!(in alloc; "{digest:x}")?)
+}

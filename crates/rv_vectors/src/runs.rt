@@ -1,0 +1,141 @@
+//! The machine where it stops, and calls of rvrun over noise and over streams that fail.
+
+use rv_base::{IsaFlags, OutOfMemory};
+use rv_machine::{IntMachine, Step};
+use rv_run::{Silent, run};
+use rv_stream::{MemSink, MemSource, Sink, Source, SureSink, SureSource};
+use std::alloc::{AllocError, Global};
+
+/// A machine with the loop `addi a0, a0, -1; bne a0, zero, -4; jalr zero, 0(ra)`, before two turns of it.
+fn looping(alloc: Global) -> Result<IntMachine, OutOfMemory> {
+    let mut machine = IntMachine::new(alloc, IsaFlags::none(), 0x1000);
+    machine.load_image(
+        0x1000,
+        &[
+            0x13, 0x05, 0xf5, 0xff, 0xe3, 0x1e, 0x05, 0xfe, 0x67, 0x80, 0, 0,
+        ],
+    )?;
+    machine.set_reg(10, 2);
+    machine.set_reg(1, 0x2001);
+    machine.set_reg(0, 7);
+    Ok(machine)
+}
+
+/// The loop after five steps and three more: how many are done, pc, a0, zero, and how many more are done.
+fn ran(alloc: Global) -> Result<([u64; 5], Step), OutOfMemory> {
+    let mut machine = looping(alloc)?;
+    let done = machine.run(5)?;
+    let (pc, a0, zero) = (machine.pc(), machine.reg(10), machine.reg(0));
+    let more = machine.run(3)?;
+    Ok(([done, pc, a0, zero, more], machine.step()?))
+}
+
+#[test]
+fn machines_run(rt: HostRuntime) -> Result<(), OutOfMemory> {
+    let (numbers, last) = ran(rt.alloc())?;
+    assert_eq!(rt; numbers, [5, 0x2000, 0, 0, 0]);
+    assert!(rt; last == Step::Stopped);
+    Ok(())
+}
+
+/// The step at an odd pc.
+fn odd_step(alloc: Global) -> Result<Step, OutOfMemory> {
+    let mut machine = looping(alloc)?;
+    machine.set_pc(0x1001);
+    machine.step()
+}
+
+/// The step at `ebreak`, which wraps round the end of the memory, and its last two bytes.
+fn break_step(alloc: Global) -> Result<(Step, [u8; 2]), OutOfMemory> {
+    let mut machine = looping(alloc)?;
+    machine.load_image(0xffff_ffff_ffff_fffe, &[0x73, 0x00, 0x10, 0x00])?;
+    machine.set_pc(0xffff_ffff_ffff_fffe);
+    let step = machine.step()?;
+    Ok((step, [machine.byte(0), machine.byte(1)]))
+}
+
+#[test]
+fn machines_stop(rt: HostRuntime) -> Result<(), OutOfMemory> {
+    let odd = odd_step(rt.alloc())?;
+    assert!(rt; odd == Step::Stopped);
+    let (step, bytes) = break_step(rt.alloc())?;
+    assert!(rt; step == Step::Stopped);
+    assert_eq!(rt; bytes, [0x10, 0]);
+    Ok(())
+}
+
+/// The report of a loop that counts a0 down.
+const COUNTDOWN: &str =
+    "code 12\n00000000 1305f5ffe31e05fe67800000\nline 0 0 0\nline 1 0 4\nline 2 4 8\nline 3 8 12\nlabel L0 0\nend 12\n";
+
+/// The words between the spaces of a text.
+fn words_of(alloc: Global, text: &str) -> Result<Vec<String>, AllocError> {
+    let mut words = Vec::new(alloc);
+    for word in text.split(' ') {
+        if !word.is_empty() {
+            words.push(String::from_str(alloc, word)?)?;
+        }
+    }
+    Ok(words)
+}
+
+/// The status of a call with these words.
+fn status_of<S: Source, K: Sink>(
+    alloc: Global,
+    words: &str,
+    source: &mut S,
+    sink: &mut K,
+) -> Result<u8, AllocError> {
+    let words = words_of(alloc, words)?;
+    Ok(run(alloc, &words, source, sink, &mut Silent).status())
+}
+
+/// Puts bytes that look random.
+fn put_noise(noise: &mut Vec<u8>, count: usize) -> Result<(), AllocError> {
+    let mut state = 1u64;
+    for _ in 0..count {
+        state = state
+            .wrapping_mul(6364136223846793005)
+            .wrapping_add(1442695040888963407);
+        noise.push((state >> 56) as u8)?;
+    }
+    Ok(())
+}
+
+/// The status of a call with these words over a million such bytes.
+fn status_of_noise(alloc: Global, words: &str) -> Result<u8, AllocError> {
+    let mut noise = Vec::new(alloc);
+    put_noise(&mut noise, 1000000)?;
+    let mut sink = SureSink::new(alloc);
+    status_of(alloc, words, &mut SureSource::new(&noise), &mut sink)
+}
+
+#[test]
+fn noise_is_no_input(rt: HostRuntime) -> Result<(), AllocError> {
+    assert_eq!(rt; status_of_noise(rt.alloc(), "")?, 3);
+    assert_eq!(rt; status_of_noise(rt.alloc(), "--hex")?, 3);
+    Ok(())
+}
+
+/// The status of a call whose second read fails.
+fn status_of_bad_read(alloc: Global) -> Result<u8, AllocError> {
+    let failing = [1];
+    let mut source = MemSource::new(COUNTDOWN.as_bytes(), 8, &failing);
+    let mut sink = SureSink::new(alloc);
+    status_of(alloc, "a0=5", &mut source, &mut sink)
+}
+
+/// The status of a call whose second write fails.
+fn status_of_bad_write(alloc: Global) -> Result<u8, AllocError> {
+    let failing = [1];
+    let mut source = SureSource::new(COUNTDOWN.as_bytes());
+    let mut sink = MemSink::new(alloc, 4, &failing);
+    status_of(alloc, "a0=5", &mut source, &mut sink)
+}
+
+#[test]
+fn streams_may_fail(rt: HostRuntime) -> Result<(), AllocError> {
+    assert_eq!(rt; status_of_bad_read(rt.alloc())?, 5);
+    assert_eq!(rt; status_of_bad_write(rt.alloc())?, 6);
+    Ok(())
+}
