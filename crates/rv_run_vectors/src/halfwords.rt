@@ -11,13 +11,13 @@ use std::alloc::Global;
 use std::process::Abort;
 
 /// FNV-1a of 64 bits over the texts of the halfwords from 0 on, and flags: a text is what a halfword expands to, or `-` where it
-/// is no instruction, and a line feed.
+/// is no instruction, and a line feed. Floating-point loads and stores have the text `.insn`.
 const DIGESTS: &str = "\
 6f6623a440842325 -
 6f6623a440842325 m zba zbb zcb zcd zfhmin
 43238684f92107bc zca
-43238684f92107bc zca zcd
-43238684f92107bc m zba zbb zca zcd zfhmin
+cbeaf3743df668f4 zca zcd
+cbeaf3743df668f4 m zba zbb zca zcd zfhmin
 238a193794bfd05c zca zcb
 3843c47b6ddac0f6 m zca zcb
 9614213033299e12 zba zca zcb
@@ -102,10 +102,10 @@ ffae 1eb13c23 sd a1,504(sp)
 0081 00008093 addi ra,ra,0
 ";
 
-/// No instructions under any flags: the reserved spellings, and those of floating-point loads and stores, `c.beqz` and
-/// `c.bnez`, which aren't decoded; and the low halves of words of 32 bits.
+/// No instructions under any flags: the reserved spellings, and those of `c.beqz` and `c.bnez`, which aren't decoded; and the
+/// low halves of words of 32 bits.
 const NO_ROWS: &str =
-    "0000 001c 2001 207d 6001 6101 6f81 4002 507e 6002 8002 8c40 9000 9c79 9c7d 2000 a000 2002 a002 c001 fffd 0003 ffff";
+    "0000 001c 2001 207d 6001 6101 6f81 4002 507e 6002 8002 8c40 9000 9c79 9c7d c001 fffd 0003 ffff";
 
 const ALL: IsaFlags = IsaFlags {
     has_m: true,
@@ -261,7 +261,7 @@ fn reserved_halfwords_are_no_instructions(rt: HostRuntime) {
         assert!(rt; is_none, "{half}");
         done = done.wrapping_add(1);
     }
-    assert_eq!(rt; done, 23);
+    assert_eq!(rt; done, 19);
 }
 
 /// A word that begins with a halfword is decoded as it, whatever follows; `c.jr ra` is nothing where no flag is set.
