@@ -1,5 +1,6 @@
 //! Plays the lines of standard input on a machine with all units, and writes what each shows: rows of operations, and digests
-//! of what words decode to. The expected output is from outside: docs/TESTING.md says how it was made.
+//! of what words decode to. The expected output is from outside: bench/rows.py makes it, of an assembler's words and of values and
+//! digests that are computed there.
 #![tactic(auto)]
 
 mod digests;
