@@ -172,6 +172,14 @@ reloc 0 RiscvPCRelHi20 userextname1 -8
 reloc 4 RiscvPCRelLo12I @0 0
 unwind 8 alloc 16
 end 12
+$slot: `LoadExtNameGot a0 userextname0` and `Ret`, by hand
+code 12
+00000000 170500000335050067800000
+line 0 0 8
+line 1 8 12
+reloc 0 RiscvGotHi20 userextname0 0
+reloc 4 RiscvPCRelLo12I @0 0
+end 12
 $ebreak: `ebreak`
 7300 1000
 $cut: A report that ends too soon
@@ -397,6 +405,12 @@ rvrun: 24: no offset within the code, or one beside --from
 $--data 0x20=123
 gcd
 rvrun: 0x20=123: no ADDRESS=HEX with an address below 2^64 and pairs of digits
+$--symbol userextname0=1 --symbol userextname1=1 --symbol userextname0=1
+gcd
+rvrun: userextname0=1: gives a name that an earlier word gives
+$--slot userextname0
+gcd
+rvrun: userextname0: no NAME=ADDRESS with a name as userextname0 and an address below 2^64
 ";
 
 /// Calls with inputs that can't be read.
@@ -412,17 +426,38 @@ $--hex
 rvrun: no hexadecimal digits in pairs
 ";
 
-/// Reports with records of symbols and of frames: nothing is filled, so that the first leaves its own address.
+/// Reports with relocations and with records of frames, and the words that fill them: the first leaves the symbol's address less 8, and
+/// the second what its slot holds.
 const LINKED: &str = "\
-$
+$--symbol userextname1=0x20000
 symbol
 left the code to 0x8000000000010000
 steps 3
-a0 65536 0x10000
+a0 131064 0x1fff8
+$--slot userextname0=0x20000 --data 0x20000=2a00000000000000
+slot
+left the code to 0x8000000000010000
+steps 3
+a0 42 0x2a
+";
+
+/// Reports with relocations that the words don't fill.
+const UNPLACED: &str = "\
+$
+symbol
+rvrun: relocation 0 at 0 (userextname1): no --symbol gives its address
+$--symbol userextname0=0x20000 --slot userextname1=0x20000
+symbol
+rvrun: relocation 0 at 0 (userextname1): no --symbol gives its address
+$--symbol userextname1=0x8000f808
+symbol
+rvrun: relocation 0 at 0 (userextname1): out of reach
+$--symbol userextname0=0x20000
+slot
+rvrun: relocation 0 at 0 (userextname0): no --slot gives its address
 $
 records
-left the code to 0x8000000000010000
-steps 1
+rvrun: relocation 0 at 0 (@0): none that code of a listing has
 ";
 
 /// The input of a name; of another text, that text itself.
@@ -524,14 +559,15 @@ fn code_runs(rt: HostRuntime) -> Result<(), AllocError> {
 }
 
 #[test]
-fn records_are_read_and_left(rt: HostRuntime) -> Result<(), AllocError> {
+fn code_is_placed_or_refused(rt: HostRuntime) -> Result<(), AllocError> {
     assert_eq!(rt; count_calls(&rt, rt.alloc(), LINKED, 0)?, 2);
+    assert_eq!(rt; count_calls(&rt, rt.alloc(), UNPLACED, 4)?, 5);
     Ok(())
 }
 
 #[test]
 fn bad_words_and_inputs_are_refused(rt: HostRuntime) -> Result<(), AllocError> {
-    assert_eq!(rt; count_calls(&rt, rt.alloc(), BAD_WORDS, 2)?, 9);
+    assert_eq!(rt; count_calls(&rt, rt.alloc(), BAD_WORDS, 2)?, 11);
     assert_eq!(rt; count_calls(&rt, rt.alloc(), BAD_INPUTS, 3)?, 3);
     Ok(())
 }

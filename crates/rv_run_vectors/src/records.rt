@@ -1,5 +1,4 @@
-//! Reports with lines of relocations, of calls and of the frame's making: which of them rvrun takes. It runs the bytes as
-//! they are.
+//! Reports with lines of relocations, of calls and of the frame's making: which of them rvrun takes.
 
 use crate::ran::assert_text;
 use std::alloc::{AllocError, Global};
@@ -9,17 +8,18 @@ use std::process::Abort;
 const NEAR: &str =
     "code 12\n00000000 170500001305050067800000\nline 0 0 0\nline 1 0 8\nline 2 8 12\nreloc 0 RiscvPCRelHi20 userextname1 8\nreloc 4 RiscvPCRelLo12I @0 0\nunwind 0 push 16\nend 12\n";
 
-/// A word that traps, with returns, each kind of relocation, call sites, calls that may be patched and each step, at the edges of
-/// their numbers.
+/// A word that traps, with returns, each kind of relocation, the first of which has no room in it, call sites, calls that may be patched
+/// and each step, at the edges of their numbers.
 const ALL_KINDS: &str =
     "code 4\n00000000 00000000\nreturn 18446744073709551615 4\nreturn 0 0\nconst 0 4\nreloc 0 RiscvCallPlt userextname4294967295 -9223372036854775808\nreloc 0 RiscvGotHi20 userextname0 9223372036854775807\nreloc 4 RiscvPCRelHi20 @4 -1\nreloc 4 RiscvPCRelLo12I @0 0\nreloc 0 Abs8 userextname10 1\ntrap 0 stk_ovf\ncall 4\ncall 0\npatch 4 4294967295\npatch 0 0\nunwind 0 push 0\nunwind 4 frame 4294967295 16\nunwind 0 alloc 4294967295\nunwind 0 save 8 s1\nunwind 0 save 0 fs11\nunwind 0 save 4294967295 v31\nend 4\n";
 
 #[test]
 fn code_with_records_runs(rt: HostRuntime) -> Result<(), AllocError> {
-    let left = "left the code to 0x8000000000010000\nsteps 3\na0 65536 0x10000\n";
-    assert_text(&rt, rt.alloc(), "", NEAR, (0, left))?;
-    let trapped = "no operation at 0: 0x0\nsteps 0\n";
-    assert_text(&rt, rt.alloc(), "", ALL_KINDS, (0, trapped))
+    let left = "left the code to 0x8000000000010000\nsteps 3\na0 65552 0x10010\n";
+    assert_text(&rt, rt.alloc(), "--symbol userextname1=0x10008", NEAR, (0, left))?;
+    let refused =
+        "rvrun: relocation 0 at 0 (userextname4294967295): none that code of a listing has\n";
+    assert_text(&rt, rt.alloc(), "", ALL_KINDS, (4, refused))
 }
 
 /// The number of the first line that no report has there, and the lines after a report's bytes, with a `/` between two.
