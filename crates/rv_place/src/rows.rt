@@ -30,9 +30,17 @@ fn refusal(placed: Result<Image, PlaceError>) -> Option<PlaceError> {
 /// Where a call stands, where its symbol is, and why it can't be placed.
 const CALLS: [(u64, u64, Option<PlaceError>); 8] = [
     (0x10000, 0x8000f7ff, None),
-    (0x10000, 0x8000f800, Some(PlaceError::OutOfReach { index: 0 })),
+    (
+        0x10000,
+        0x8000f800,
+        Some(PlaceError::OutOfReach { index: 0 }),
+    ),
     (0x80010000, 0xf800, None),
-    (0x80010000, 0xf7ff, Some(PlaceError::OutOfReach { index: 0 })),
+    (
+        0x80010000,
+        0xf7ff,
+        Some(PlaceError::OutOfReach { index: 0 }),
+    ),
     (2, 0x12345, Some(PlaceError::BadBase)),
     (0xfffffffffffffff8, 0, None),
     (0xfffffffffffffffc, 0, Some(PlaceError::BadBase)),
@@ -50,7 +58,13 @@ fn a_call_is_placed(rt: HostRuntime) -> Result<(), Fail> {
     let found = refusal(place(rt.alloc(), &code, 0x10000, &[], &[(name, 0x12345)]));
     assert!(rt; found == Some(PlaceError::NoSymbol { index: 0 }));
     // auipc ra, 2; jalr ra, 0x345(ra)
-    let image = place(rt.alloc(), &code, 0x10000, &[(name, 0x12345), (name, 0)], &[])?;
+    let image = place(
+        rt.alloc(),
+        &code,
+        0x10000,
+        &[(name, 0x12345), (name, 0)],
+        &[],
+    )?;
     let words = [0x97, 0x20, 0, 0, 0xe7, 0x80, 0x50, 0x34];
     assert_eq!(rt; image.bytes.as_slice(), words.as_slice());
     assert_eq!(rt; image.base, 0x10000);
