@@ -1,11 +1,11 @@
 -- What is known of a program that isn't refused.
-use Rattle.std.proofs.Common.{◌≡◌, ℕ, suc, ◌+◌, ◌<◌, ◌≤◌, ◌==◌, nat_le, nat_lt, Bool, true, false, ◌||◌, if◌then◌else◌, List, [], ◌∷◌, length, Option, Some, None, refl, arith}
+use Rattle.std.proofs.Common.{◌≡◌, ℕ, suc, ◌<◌, ◌≤◌, ◌==◌, nat_le, nat_lt, Bool, true, false, ◌||◌, if◌then◌else◌, List, ◌∷◌, length, Option, Some, None, refl, arith}
 use Rattle.std.proofs.lemmas.Bool.Decides.{nat_tests}
 use Rattle.rv_expr.specs.declared.ops.ExprOp.{ExprOp}
-use Rattle.rv_expr.specs.declared.ops.ExprOp.TheVariants.{Const, Arg, Bin, Pick}
+use Rattle.rv_expr.specs.declared.ops.ExprOp.TheVariants.{Arg}
 use Rattle.rv_expr.specs.declared.error.ExprError.{ExprError}
-use Rattle.rv_expr.specs.declared.error.ExprError.TheVariants.{Empty, TooLong, BadArg, BadRef}
-use Rattle.rv_expr.specs.Refusal.{refusal, fault_of, fault_from, first_of, bad_ref, most}
+use Rattle.rv_expr.specs.declared.error.ExprError.TheVariants.{Empty, TooLong, BadArg}
+use Rattle.rv_expr.specs.Refusal.{refusal, fault_of, fault_from, first_of, bad_ref}
 
 pub record IsAccepted (ops : List ExprOp) : Type 0 where
   pub some : 0 < length ops

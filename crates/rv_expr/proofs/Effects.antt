@@ -1,23 +1,20 @@
 -- What a line of a program leaves: a number in a register, or in a place.
-use Rattle.std.proofs.Common.{◌≡◌, ◌≢◌, ℕ, zero, suc, ◌+◌, ◌-◌, ◌*◌, ◌^◌, ◌<◌, ◌≤◌, ◌⊎◌, ⊎_elim, inl, inr, nat_eq, nat_lt, Bool, true, false, if◌then◌else◌, List, [], ◌∷◌, ◌++◌, length, Option, Some, None, slice_get, slice_index, refl, arith, ap, sym, subst, ◌∙◌, lit<, lit≤}
-use Rattle.std.specs.Prelude.{slice_set}
+use Rattle.std.proofs.Common.{◌≡◌, ◌≢◌, ℕ, zero, suc, ◌+◌, ◌-◌, ◌*◌, ◌^◌, ◌<◌, ◌≤◌, ◌⊎◌, ⊎_elim, inl, inr, true, false, List, [], ◌∷◌, length, Some, slice_get, slice_index, refl, arith, ap, sym, subst, ◌∙◌, lit<}
 use Rattle.std.proofs.Math.Seq.{get_or-set_other}
 use Rattle.std.proofs.lemmas.Grind.{get_or-set_at}
-use Rattle.std.proofs.lemmas.Bool.Decides.{nat_tests}
 use Rattle.std.proofs.lemmas.Bool.{cases_lt}
 use Rattle.rv_base.specs.Regs.{int_reg}
 use Rattle.rv_inst.specs.declared.inst.Line.{Line}
-use Rattle.rv_inst.specs.Meaning.{Environment, Exit, Next, exit_of, effect_of, writes_of, temporaries_of, AreOutside, addresses_from, put_bytes}
-use Rattle.rv_machine.specs.State.{Memory, State, IsState, Values, AreValues, byte, reg, set_reg, store, wrap}
+use Rattle.rv_inst.specs.Meaning.{Environment, Next, exit_of, effect_of, writes_of, temporaries_of, AreOutside, addresses_from, put_bytes}
+use Rattle.rv_machine.specs.State.{State, Values, AreValues, byte, reg, set_reg, store, wrap}
 use Rattle.rv_machine.specs.Memory.{load_result, store_bytes}
 use Rattle.rv_machine.specs.declared.ops.LoadOp.TheVariants.{Ld}
 use Rattle.rv_machine.specs.declared.ops.StoreOp.TheVariants.{Sd}
 use Rattle.rv_machine.specs.Steps.{iter}
 use Rattle.rv_asm.specs.Simulation.{At}
-use Rattle.rv_expr.specs.Frame.{IsOutside}
 use Rattle.rv_expr.specs.Listing.{load_from, store_to}
 use Rattle.rv_expr.proofs.Memory.{place, byte_elsewhere, load_same, load_stored, places_apart, place_inside}
-use Rattle.rv_expr.proofs.Steps.{Run, IsRun, Stands, Came, is_changed, sp_of, line_runs, to_next}
+use Rattle.rv_expr.proofs.Steps.{Run, IsRun, Stands, is_changed, sp_of, line_runs, to_next}
 
 -- ---- what is read after a write
 

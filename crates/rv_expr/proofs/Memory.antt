@@ -1,14 +1,12 @@
 -- What loads and stores of eight bytes leave, and where the places of operations are.
-use Rattle.std.proofs.Common.{◌≡◌, ◌≢◌, ℕ, zero, suc, ◌+◌, ◌-◌, ◌*◌, ◌/◌, ◌%◌, ◌^◌, ◌<◌, ◌≤◌, ◌==◌, ◌⊎◌, inl, inr, true, false, cond, Some, List, [], ◌∷◌, length, arith, refl, ap, sym, ◌∙◌, eq-eqb, slice_index, lit<}
-use Rattle.std.specs.Prelude.{unwrap_or, take, ℤ}
-use Rattle.std.specs.Int.{to_le_bytes}
-use mir.Syntax.{w64}
+use Rattle.std.proofs.Common.{◌≡◌, ◌≢◌, ℕ, zero, suc, ◌+◌, ◌-◌, ◌*◌, ◌^◌, ◌<◌, ◌≤◌, ◌==◌, ◌⊎◌, inl, inr, false, cond, Some, List, [], ◌∷◌, length, arith, refl, ap, sym, ◌∙◌, eq-eqb, slice_index, lit<}
+use Rattle.std.specs.Prelude.{unwrap_or}
 use Rattle.std.proofs.lemmas.Bool.Decides.{nat_tests}
 use Rattle.std.specs.Cmp.{nat_cmp_total, unsigned_tied}
 use Rattle.std.specs.FinMap as map
 use Rattle.std.specs.FinMap.{get-insert}
 use Rattle.rv_machine.specs.State.{Memory, byte, store, wrap, low64}
-use Rattle.rv_machine.specs.Memory.{load_bytes, load_result, store_bytes}
+use Rattle.rv_machine.specs.Memory.{load_result, store_bytes}
 use Rattle.rv_machine.specs.declared.ops.LoadOp.TheVariants.{Ld}
 use Rattle.rv_machine.specs.declared.ops.StoreOp.TheVariants.{Sd}
 use Rattle.rv_expr.specs.Frame.{depth, IsOutside}

@@ -1,14 +1,13 @@
 -- The lines of one operation leave its value in its place.
-use Rattle.std.proofs.Common.{◌≡◌, ◌≢◌, ℕ, zero, suc, ◌+◌, ◌-◌, ◌*◌, ◌/◌, ◌%◌, ◌^◌, ◌<◌, ◌≤◌, ◌==◌, ◌⊎◌, ⊎_elim, inl, inr, nat_eq, not, Bool, true, false, if◌then◌else◌, List, [], ◌∷◌, ◌++◌, length, drop, Option, Some, None, slice_get, slice_index, refl, arith, ap, sym, subst, ◌∙◌, lit<, lit≤, length-append}
+use Rattle.std.proofs.Common.{◌≡◌, ◌≢◌, ℕ, zero, suc, ◌+◌, ◌*◌, ◌%◌, ◌^◌, ◌<◌, ◌≤◌, ◌==◌, ◌⊎◌, ⊎_elim, inl, inr, nat_eq, not, Bool, true, false, if◌then◌else◌, List, [], ◌∷◌, ◌++◌, length, drop, Some, None, slice_get, slice_index, refl, arith, ap, sym, subst, ◌∙◌, lit<, length-append}
 use Rattle.std.proofs.Math.ListN.{get_or-append}
 use Rattle.std.proofs.Math.Seq.{get_or-append_seam}
 use Rattle.std.proofs.lemmas.Bool.{cases_eq}
-use Rattle.std.proofs.lemmas.Bool.Decides.{nat_tests}
 use Rattle.std.specs.Prelude.{map}
 use Rattle.rv_base.specs.declared.regs.Reg.{Reg}
 use Rattle.rv_base.specs.Regs.{int_reg, number_of}
 use Rattle.rv_inst.specs.declared.inst.Line.{Line}
-use Rattle.rv_inst.specs.Meaning.{Environment, alu_rrr, set_regs}
+use Rattle.rv_inst.specs.Meaning.{alu_rrr, set_regs}
 use Rattle.rv_machine.specs.State.{State, Values, reg, set_reg, wrap}
 use Rattle.rv_machine.specs.Memory.{load_result}
 use Rattle.rv_machine.specs.declared.ops.LoadOp.TheVariants.{Ld}
@@ -18,12 +17,12 @@ use Rattle.rv_expr.specs.declared.ops.BinOp.TheVariants.{Add, Sub, Mul, And, Or,
 use Rattle.rv_expr.specs.declared.ops.ExprOp.{ExprOp}
 use Rattle.rv_expr.specs.declared.ops.ExprOp.TheVariants.{Const, Arg, Bin, Pick}
 use Rattle.rv_expr.specs.Value.{binary, value_of}
-use Rattle.rv_expr.specs.Listing.{load_from, store_to, constant, alu, alu_of, choice, argument, op_lines}
+use Rattle.rv_expr.specs.Listing.{load_from, store_to, constant, alu, alu_of, choice, op_lines}
 use Rattle.rv_expr.specs.Refusal.{fault_of}
 use Rattle.rv_expr.proofs.Accepted.{argument_below, binary_earlier, pick_earlier}
 use Rattle.rv_expr.proofs.Memory.{place, load_same}
 use Rattle.rv_expr.proofs.Steps.{Run, IsRun, Stands, is_changed, sp_of, iter_after}
-use Rattle.rv_expr.proofs.Effects.{Computed, computes, loads, Stored, stores}
+use Rattle.rv_expr.proofs.Effects.{Computed, computes, loads, stores}
 
 -- ---- lines in order
 

@@ -1,5 +1,5 @@
 -- The code of a program's listing computes its value.
-use Rattle.std.proofs.Common.{◌≡◌, ◌≢◌, ℕ, zero, suc, ◌+◌, ◌-◌, ◌*◌, ◌/◌, ◌%◌, ◌^◌, ◌<◌, ◌≤◌, ◌==◌, ◌⊎◌, ⊎_elim, inl, inr, Bool, true, false, List, [], ◌∷◌, ◌++◌, length, drop, Option, Some, None, slice_get, slice_index, refl, arith, ap, sym, subst, ◌∙◌, lit<, lit≤, length-append, append_assoc}
+use Rattle.std.proofs.Common.{◌≡◌, ℕ, suc, ◌+◌, ◌-◌, ◌*◌, ◌/◌, ◌<◌, ◌≤◌, inl, inr, false, List, [], ◌∷◌, ◌++◌, length, drop, Some, None, slice_get, slice_index, refl, arith, ap, sym, ◌∙◌, lit<, length-append, append_assoc}
 use Rattle.std.proofs.lemmas.Bool.Decides.{nat_tests}
 use Rattle.rv_base.specs.declared.flags.IsaFlags.{IsaFlags}
 use Rattle.rv_base.specs.Frame.{no_frame}
@@ -9,24 +9,23 @@ use Rattle.rv_inst.specs.declared.code.Code.{Code}
 use Rattle.rv_inst.specs.declared.inst.Line.{Line}
 use Rattle.rv_inst.specs.declared.inst.Line.TheVariants.{Inst as Put}
 use Rattle.rv_inst.specs.declared.inst.Inst.TheVariants.{Ret}
-use Rattle.rv_inst.specs.Meaning.{Environment, Leave}
-use Rattle.rv_machine.specs.State.{State, Values, byte, reg, wrap}
+use Rattle.rv_inst.specs.Meaning.{Leave}
+use Rattle.rv_machine.specs.State.{State, reg, wrap}
 use Rattle.rv_machine.specs.Steps.{iter}
 use Rattle.rv_asm.specs.Job.{job_of}
-use Rattle.rv_asm.specs.Placed.{Addresses, IsPlaced}
+use Rattle.rv_asm.specs.Placed.{Addresses}
 use Rattle.rv_asm.specs.Reported.{Reported, start_of}
 use Rattle.rv_asm.specs.Simulation.{Out, RunsAsListed}
 use Rattle.rv_expr.specs.declared.ops.ExprOp.{ExprOp}
 use Rattle.rv_expr.specs.Value.{value, value_of, values_after}
-use Rattle.rv_expr.specs.Frame.{frame_size, IsOutside}
+use Rattle.rv_expr.specs.Frame.{frame_size}
 use Rattle.rv_expr.specs.Listing.{load_from, op_lines, lines_from, end_lines, listing}
 use Rattle.rv_expr.specs.Refusal.{fault_from}
 use Rattle.rv_expr.specs.Running.{IsEntered, IsKept, Returns, Computes}
 use Rattle.rv_expr.proofs.Accepted.{IsAccepted, head_faultless, rest_faultless}
-use Rattle.rv_expr.proofs.Validity.{AreFine, fine_listing, no_records}
-use Rattle.rv_expr.proofs.Steps.{Run, IsRun, Stands, Came, is_changed, sp_of, iter_after, line_runs}
-use Rattle.rv_expr.proofs.Effects.{Computed}
-use Rattle.rv_expr.proofs.Operations.{Holds, Advanced, advanced_after, start_holds, known_load, listed_at, next_at, more_at, operation_runs}
+use Rattle.rv_expr.proofs.Validity.{fine_listing, no_records}
+use Rattle.rv_expr.proofs.Steps.{Run, IsRun, Stands, is_changed, iter_after, line_runs}
+use Rattle.rv_expr.proofs.Operations.{Holds, Advanced, advanced_after, start_holds, known_load, listed_at, next_at, operation_runs}
 
 -- ---- operations in turn
 

@@ -1,5 +1,5 @@
 -- One line of a program's run.
-use Rattle.std.proofs.Common.{◌≡◌, ◌≢◌, ℕ, zero, suc, ◌+◌, ◌-◌, ◌*◌, ◌^◌, ◌<◌, ◌≤◌, ◌==◌, ◌⊎◌, ⊎_elim, inl, inr, nat_lt, Bool, true, false, ◌||◌, if◌then◌else◌, List, [], ◌∷◌, length, Option, Some, None, slice_get, slice_index, refl, arith, ap, sym, subst, ◌∙◌}
+use Rattle.std.proofs.Common.{◌≡◌, ℕ, zero, suc, ◌+◌, ◌^◌, ◌<◌, ◌==◌, nat_lt, Bool, true, false, ◌||◌, if◌then◌else◌, List, [], ◌∷◌, length, Some, slice_get, refl, arith, ap, subst, ◌∙◌}
 use Rattle.std.proofs.lemmas.Bool.Decides.{nat_tests}
 use Rattle.rv_base.specs.declared.flags.IsaFlags.{IsaFlags}
 use Rattle.rv_base.specs.Frame.{no_frame}
@@ -7,14 +7,14 @@ use Rattle.mach_records.specs.declared.records.MachReloc.{MachReloc}
 use Rattle.rv_inst.specs.declared.code.Code.{Code}
 use Rattle.rv_inst.specs.declared.inst.Line.{Line}
 use Rattle.rv_inst.specs.declared.job.Job.{Job}
-use Rattle.rv_inst.specs.Meaning.{Environment, Exit, Next, Leave, exit_of, effect_of, writes_of, temporaries_of, AreOutside}
+use Rattle.rv_inst.specs.Meaning.{Environment, Exit, Next, exit_of, effect_of, writes_of, temporaries_of, AreOutside}
 use Rattle.rv_inst.specs.SameValues.{Same, SameBut}
-use Rattle.rv_machine.specs.State.{State, IsState, Values, AreValues, Memory, byte, reg, set_reg, wrap}
+use Rattle.rv_machine.specs.State.{State, IsState, Values, byte, reg, wrap}
 use Rattle.rv_machine.specs.Steps.{iter, then_step}
 use Rattle.rv_asm.specs.Job.{job_of}
 use Rattle.rv_asm.specs.Placed.{Addresses, IsPlaced}
 use Rattle.rv_asm.specs.Reported.{start_of}
-use Rattle.rv_asm.specs.Simulation.{Point, At, Returned, Out, End, Entry, AtStart, AtReturn, entry_point, next_point, Leads, environment_of, exit_from, effect_from, temporaries_from, address_of, OneLine, Comes, RunsAsListed}
+use Rattle.rv_asm.specs.Simulation.{Point, At, End, Entry, AtStart, AtReturn, entry_point, Leads, environment_of, exit_from, effect_from, temporaries_from, address_of, RunsAsListed}
 use Rattle.rv_expr.specs.Frame.{IsOutside}
 
 -- ---- runs of the machine, one after the other

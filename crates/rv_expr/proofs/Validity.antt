@@ -1,33 +1,30 @@
 -- The lines of a program break no rule of a listing, and record nothing.
-use Rattle.std.proofs.Common.{◌≡◌, ℕ, suc, ◌+◌, ◌*◌, ◌^◌, ◌<◌, ◌≤◌, nat_le, nat_lt, ◌-◌, ◌%◌, Bool, true, false, ◌||◌, if◌then◌else◌, List, [], ◌∷◌, ◌++◌, length, Option, Some, None, refl, arith, ap, sym, ◌∙◌, lit≤, length-append}
+use Rattle.std.proofs.Common.{◌≡◌, ℕ, suc, ◌+◌, ◌*◌, ◌^◌, ◌<◌, ◌≤◌, nat_le, nat_lt, ◌-◌, ◌%◌, Bool, false, ◌||◌, if◌then◌else◌, List, [], ◌∷◌, ◌++◌, length, Some, None, refl, arith, ap, ◌∙◌, lit≤, length-append}
 use Rattle.std.specs.List.{list_any}
 use Rattle.std.proofs.lemmas.Bool.Decides.{nat_tests}
 use Rattle.rv_base.specs.declared.flags.IsaFlags.{IsaFlags}
-use Rattle.rv_base.specs.declared.label.MachLabel.{MachLabel}
 use Rattle.rv_base.specs.Frame.{no_frame}
 use Rattle.rv_base.specs.Regs.{int_reg}
-use Rattle.mach_records.specs.declared.records.MachRecord.{MachRecord}
 use Rattle.rv_inst.specs.Addresses.{is_distant}
 use Rattle.rv_inst.specs.Context.{Context, context_by}
 use Rattle.rv_inst.specs.declared.inst.Line.{Line}
 use Rattle.rv_inst.specs.declared.inst.Line.TheVariants.{Inst as Put}
 use Rattle.rv_inst.specs.declared.inst.Inst.TheVariants.{Ret}
 use Rattle.rv_inst.specs.declared.code.LineSpan.{LineSpan}
-use Rattle.rv_inst.specs.declared.error.EmitError.{EmitError}
 use Rattle.rv_inst.specs.declared.error.EmitError.TheVariants.{TooLarge}
 use Rattle.rv_inst.specs.declared.error.Rule.TheVariants.{Reserved, Range}
 use Rattle.rv_inst.specs.Operands.{named_labels}
 use Rattle.rv_inst.specs.Rules.{broken_rule, every_rule}
 use Rattle.rv_inst.specs.Sizes.{line_sum}
 use Rattle.rv_asm.specs.Job.{job_of}
-use Rattle.rv_asm.specs.Refusal.{is_bound, is_unfit, has_bad_frame, broken_from, twice_in, twice_from, unbound_among, unbound_in, lines_sum, size_sum, too_large, lines_refusal, refusal}
+use Rattle.rv_asm.specs.Refusal.{is_bound, is_unfit, broken_from, twice_in, twice_from, unbound_in, lines_sum, too_large, lines_refusal, refusal}
 use Rattle.rv_asm.specs.Reported.{line_records, records_from, start_of, end_of}
 use Rattle.rv_expr.specs.declared.ops.BinOp.{BinOp}
 use Rattle.rv_expr.specs.declared.ops.ExprOp.{ExprOp}
 use Rattle.rv_expr.specs.declared.ops.ExprOp.TheVariants.{Const, Arg, Bin, Pick}
 use Rattle.rv_expr.specs.Listing.{load_from, store_to, constant, alu, choice, place_offset, op_lines, lines_from, end_lines, listing}
 use Rattle.rv_expr.specs.Refusal.{fault_of, fault_from}
-use Rattle.rv_expr.proofs.Accepted.{IsAccepted, head_faultless, rest_faultless, AreEarlier2, AreEarlier3, binary_earlier, pick_earlier}
+use Rattle.rv_expr.proofs.Accepted.{IsAccepted, head_faultless, rest_faultless, binary_earlier, pick_earlier}
 
 abbrev pub context : IsaFlags → Context
 context flags = context_by flags no_frame []

@@ -1,6 +1,6 @@
 -- The listing of a program: an operation loads what it names from their places, and stores its value in its own. A link of the proof: no
 -- promise speaks of it.
-use Rattle.std.specs.Prelude.{ℕ, suc, ◌+◌, ◌-◌, ◌*◌, ◌%◌, ◌<◌, List, [], ◌∷◌, ◌++◌, length, None, ℤ, negsuc}
+use Rattle.std.specs.Prelude.{ℕ, suc, ◌+◌, ◌-◌, ◌*◌, ◌%◌, List, [], ◌∷◌, ◌++◌, length, None, ℤ, negsuc}
 use Rattle.std.proofs.Common.{lit<, lit≤}
 use Rattle.std.proofs.Math.Nat.{mod-lt, add-lt-add_of_le_of_lt}
 use Rattle.rv_base.specs.declared.amode.AMode.TheVariants.{SPOffset}

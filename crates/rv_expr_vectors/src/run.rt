@@ -49,6 +49,13 @@ fn has_kept(machine: &IntMachine) -> bool {
         .all(|register| *register < 32 && machine.reg(*register) == marked(*register))
 }
 
+/// Puts the argument of a number into its register.
+fn set_argument(machine: &mut IntMachine, index: usize, argument: u64) {
+    if index < 8 {
+        machine.set_reg(10 + index as u8, argument);
+    }
+}
+
 /// Calls code with arguments in a0 and on.
 pub(crate) fn run_code(
     alloc: Global,
@@ -61,8 +68,8 @@ pub(crate) fn run_code(
     for register in 1..32u8 {
         machine.set_reg(register, marked(register));
     }
-    for (register, argument) in (10..18u8).zip(args.iter()) {
-        machine.set_reg(register, *argument);
+    for (index, argument) in args.iter().enumerate() {
+        set_argument(&mut machine, index, *argument);
     }
     if !run_to(&mut machine, RETURN - 1)? {
         return Ok(Ended::Lost);
