@@ -204,8 +204,8 @@ pub fn inst_of(step: Step) -> UnwindInst {
     }
 }
 
-ghost use Rattle.std.specs.Prelude.{OnOk, ℕ, ◌+◌, ◌*◌, true, is_some};
-ghost use Rattle.mach_buffer.specs.Buffer.{shape_of, registered_of, pending_of};
+ghost use Rattle.std.specs.Prelude.{OnOk, ℕ, ◌+◌, ◌*◌, true, false, is_some};
+ghost use Rattle.mach_buffer.specs.Buffer.{shape_of, registered_of, pending_of, spoiled_of, Unless};
 ghost use Rattle.mach_uses.specs.Reach.{HasSlack};
 ghost use Rattle.mach_buffer.specs.Shape.{IsUsable};
 ghost use Rattle.mach_uses.specs.Labels.{inner_count};
@@ -217,8 +217,9 @@ ghost use Rattle.mach_vectors.specs.OneByte.{IsOneByte};
 fn put_jump<L: MachInstLabelUse>(buffer: &mut MachBuffer<L>, kind: L) -> Result<(), OutOfMemory>
     requires kind { IsOneByte L.kinds kind }
     requires kept { IsKept L.kinds 4 buffer.old }
-    requires few { allocated_of buffer.old < inner_count }
-    requires room { length (bytes_of buffer.old) + 8 * length (pending_of L.kinds buffer.old) + reserve_of (shape_of buffer.old) + 17 < code_limit }
+    requires few { Unless (spoiled_of buffer.old) (allocated_of buffer.old < inner_count) }
+    requires room { Unless (spoiled_of buffer.old) (length (bytes_of buffer.old) + 8 * length (pending_of L.kinds buffer.old) + reserve_of (shape_of buffer.old) + 17 < code_limit) }
+    ensures unspoiled { OnOk result (spoiled_of buffer.old ≡ false) }
     ensures kept { OnOk result (IsKept L.kinds 4 buffer.new) }
     ensures none { OnOk result (pending_of L.kinds buffer.new ≡ []) }
     ensures near { OnOk result (length (bytes_of buffer.new) + reserve_of (shape_of buffer.new) ≤ length (bytes_of buffer.old) + 17 + 8 * length (pending_of L.kinds buffer.old) + reserve_of (shape_of buffer.old)) }

@@ -34,7 +34,7 @@ emit_island-requires-clause-ready g c =
     let bytes : bytes_of b1 ≡ bytes_of b = ap (λ (x : Shape g.row.L.Denot). x.bytes) allocated in
     let pending = ap (length {A = ℕ}) (same_pending K.kinds b b1 uses places) in
     let long = ap (length {A = ℕ}) bytes in
-    let fits = c.requires.room in
+    let fits = c.requires.room d.allocated.0 in
     let kept : reserve_of (shape_of b1) ≡ reserve_of (shape_of b) = ap reserve_of allocated in
     let room : length (bytes_of b1) + 8 * length (pending_of K.kinds b1) + reserve_of (shape_of b1) + 17 < code_limit = omega (arith, pending, long, fits, kept) in
     λ unspoiled. can_island k1 mid p.sound u (0 ∷ 170 ∷ 170 ∷ 170 ∷ []) refl c.cur_offset-at.ensures c.requires.kind.supported refl (omega (arith, reach)) c.in_ok-after_island.after_island refl inner known d.unbound d.unnamed put room
@@ -68,7 +68,7 @@ returns-clause-kept g c =
     let bytes_1 : bytes_of b1 ≡ bytes_of b = ap (λ (x : Shape g.row.L.Denot). x.bytes) allocated in
     let pending = ap (length {A = ℕ}) (same_pending K.kinds b b1 uses_1 places_1) in
     let long = ap (length {A = ℕ}) bytes_1 in
-    let fits = c.requires.room in
+    let fits = c.requires.room d.allocated.0 in
     let kept : reserve_of (shape_of b1) ≡ reserve_of (shape_of b) = ap reserve_of allocated in
     let room : length (bytes_of b1) + 8 * length (pending_of K.kinds b1) + reserve_of (shape_of b1) + 17 < code_limit = omega (arith, pending, long, fits, kept) in
     let can = can_island k1 mid p.sound u (0 ∷ 170 ∷ 170 ∷ 170 ∷ []) refl c.cur_offset-at.ensures c.requires.kind.supported refl (omega (arith, reach)) c.in_ok-after_island.after_island refl inner known d.unbound d.unnamed put room in
@@ -90,7 +90,7 @@ returns-clause-near g c =
     let uses : uses_of mid ≡ uses_of b1 ++ u ∷ [] = ap (λ (x : Shape g.row.L.Denot). x.uses) put in
     let places : place_of mid ≡ place_of b1 = ap (λ (x : Shape g.row.L.Denot). x.place) put in
     let long : length (bytes_of mid) ≡ length (bytes_of b1) + 4 = ap (length {A = ℕ}) bytes ∙ length-append (bytes_of b1) (0 ∷ 170 ∷ 170 ∷ 170 ∷ []) in
-    let few = c.requires.few in
+    let few = c.requires.few d.allocated.0 in
     let number = d.number in
     let low : c.in_ok-after_island.after_island.number < first_constant = omega (arith, few, number) in
     let near = island_near K.kinds b1 mid c.emit_island.new.self u (0 ∷ 170 ∷ 170 ∷ 170 ∷ []) refl refl put p.sound low c.in_ok-emit_island.ensures.island.2 in
@@ -106,3 +106,6 @@ returns-clause-registered g c =
     let p = c.in_ok-put4.ensures in
     let registered = λ (x : Shape g.row.L.Denot). x.registered in
     (island_rest g.L.MachInstLabelUse.kinds c.put4.new.self p.sound c.in_ok-emit_island.ensures.island.2).registered ∙ ap registered p.put.2 ∙ ap registered e.recorded.2 ∙ ap registered d.allocated.2
+
+pub returns-clause-unspoiled : goal.returns-clause-unspoiled
+returns-clause-unspoiled g c = c.in_ok-after_island.ensures.allocated.0
