@@ -299,10 +299,52 @@ def main():
         n = int(sys.argv[3]) if len(sys.argv) > 3 else 100000
         compare(sys.argv[2], list(random_words(77, n)))
 
+def mnemonic(x):
+    """The assembler's name of a unit's operation, and its register operands in order; none of what has names of its own."""
+    op = x['op']
+    args = re.findall(r'\w+', op)[1:]
+    if op.startswith('FloatLoad'): return 'fl' + dict(H='h', S='w', D='d')[args[0]], [x['rd'], x['rs1']]
+    if op.startswith('FloatStore'): return 'fs' + dict(H='h', S='w', D='d')[args[0]], [x['rs2'], x['rs1']]
+    if op.startswith('Carry'): return args[0].lower(), [x['rd'], x['rs1']] + [x['rs2']] * (args[0] != 'Brev8')
+    if op.startswith('Atomic'):
+        order = ['', '.rl', '.aq', '.aqrl'][x['imm']]
+        return f'{args[0].lower()}.{args[1].lower()}{order}', [x['rd']] + [x['rs2']] * (args[0] != 'Lr') + [x['rs1']]
+    if op.startswith('Float('):
+        fmt, name = args[0].lower(), args[1]
+        sources = [x['rs1'], x['rs2'], x['rs3']]
+        wide = dict(h='h', s='w', d='d')[fmt]
+        if name.startswith('FcvtTo'): return f'fcvt.{name[6:].lower()}.{fmt}', [x['rd'], x['rs1']]
+        if name.startswith('FcvtFrom'): return f'fcvt.{fmt}.{name[8:].lower()}', [x['rd'], x['rs1']]
+        if name == 'FmvToX': return f'fmv.x.{wide}', [x['rd'], x['rs1']]
+        if name == 'FmvFromX': return f'fmv.{wide}.x', [x['rd'], x['rs1']]
+        count = 3 if name in ('Fmadd', 'Fmsub', 'Fnmsub', 'Fnmadd') else 1 if name in ('Fsqrt', 'Fclass') else 2
+        return f'{name.lower()}.{fmt}', [x['rd']] + sources[:count]
+    if op.startswith('Vec {'):
+        f6, f3 = map(int, re.findall(r': (\d+)', op))
+        for table, codes in ((VECTOR, dict(v=0, x=4, i=3)), (VECTOR_M, dict(v=2, x=6)), (VECTOR_F, dict(v=1, f=5))):
+            for row in filter(None, table.split('|')):
+                base, forms, number = row.split()
+                for form in forms:
+                    if codes[form] == f3 and int(number, 16) == f6 and '.w' not in base and not base.startswith(('vred', 'vnclip')):
+                        one = [] if form == 'i' else [x['rs1']]
+                        fused = base.endswith(('macc', 'msac', 'nmsac'))
+                        name = base + '.v' + form
+                        return name, [x['rd']] + (one + [x['rs2']] if fused else [x['rs2']] + one)
+    return None, None
+
+NUMBERS = {name: k for k, name in enumerate(REGS)}
+NUMBERS['s0'] = 8
+for k in range(32): NUMBERS[f'v{k}'] = k
+for k, name in enumerate('ft0 ft1 ft2 ft3 ft4 ft5 ft6 ft7 fs0 fs1 fa0 fa1 fa2 fa3 fa4 fa5 fa6 fa7 fs2 fs3 fs4 fs5 fs6 fs7 fs8 fs9 fs10 fs11 ft8 ft9 ft10 ft11'.split()): NUMBERS[name] = k
+
+def theirs(text):
+    name, _, rest = text.partition(' ')
+    return name, [NUMBERS[t] for t in re.findall(r'[a-z]\w*', rest.replace('v0.t', '')) if t in NUMBERS]
+
 def compare(llvm, words):
     attr = '+m,+a,+f,+d,+zba,+zbb,+zbs,+zbc,+v,+zfh,+zbkb'
     feed = '\n'.join(' '.join(f'0x{w >> s & 255:02x}' for s in (0, 8, 16, 24)) for w in words)
-    out = subprocess.run([llvm, '-disassemble', '-triple=riscv64', '-mattr=' + attr, '-show-encoding'], input=feed, capture_output=True, text=True)
+    out = subprocess.run([llvm, '-disassemble', '-triple=riscv64', '-mattr=' + attr, '-show-encoding', '-M', 'no-aliases'], input=feed, capture_output=True, text=True)
     known = {}
     for line in out.stdout.splitlines():
         m = re.search(r'(\S.*?)\s*[#@] encoding: \[(.*?)\]', line)
@@ -310,13 +352,18 @@ def compare(llvm, words):
             bytes_ = [int(x, 16) for x in m.group(2).split(',')]
             if len(bytes_) == 4: known[sum(x << 8 * k for k, x in enumerate(bytes_))] = re.sub(r'\s+', ' ', m.group(1))
     ours_only, theirs_only = {}, {}
-    both = 0
+    both = named = 0
     for w in words:
         ours = decode(w, ALL.split())
-        if ours and w in known: both += 1
+        if ours and w in known:
+            both += 1
+            name, operands = mnemonic(ours)
+            if name:
+                named += 1
+                if theirs(known[w]) != (name, operands): print('differ', f'{w:08x}', known[w], name, operands)
         if ours and w not in known: ours_only.setdefault(ours['op'], []).append(f'{w:08x}')
         if not ours and w in known: theirs_only.setdefault(known[w].split()[0], []).append(f'{w:08x} {known[w]}')
-    print('both', both)
+    print('both', both, 'of which names and registers were compared', named)
     for k, v in sorted(ours_only.items()): print('here alone', k, len(v), v[:2])
     for k, v in sorted(theirs_only.items()): print('there alone', k, len(v), v[:2])
 

@@ -10,7 +10,11 @@ use rv_full::FullMachine;
 use std::io;
 
 fn main(rt: HostRuntime) -> io::Result<()> {
-    let mut machine = FullMachine::new(rt.alloc(), digests::flags_of("m zba zbb zca zcb zcd zfhmin"), 0x1000);
+    let mut machine = FullMachine::new(
+        rt.alloc(),
+        digests::flags_of("m zba zbb zca zcb zcd zfhmin"),
+        0x1000,
+    );
     for line in rt.lines(rt.alloc()) {
         let line = line?;
         match play::play(rt.alloc(), &mut machine, line.as_str()) {

@@ -1,5 +1,7 @@
 //! What a line does to a machine, and what it shows.
 
+ghost use Rattle.std.specs.Prelude.{◌<◌};
+
 use crate::digests::{digest_of_halves, digest_of_words, flags_of};
 use rv_base::{List, OutOfMemory};
 use rv_full::{Answer, Entry, FullMachine};
@@ -73,7 +75,10 @@ fn answer_of(alloc: Global, kind: &str, rest: &str) -> Result<Option<Answer>, Ou
 }
 
 fn entry_text(alloc: Global, entry: &Entry) -> Result<String, OutOfMemory> {
-    let mut text = format!(in alloc; "{:?} avl {} vtype {:x} frm {} inputs", entry.decoded.op, entry.avl, entry.vtype, entry.frm)?;
+    let mut text = format!(in alloc;
+        "{:?} avl {} vtype {:x} frm {} inputs",
+        entry.decoded.op, entry.avl, entry.vtype, entry.frm
+    )?;
     for input in entry.inputs.as_slice() {
         let more = format!(in alloc; " {input:x}")?;
         text.push_str(more.as_str())?;
@@ -107,7 +112,12 @@ fn step_over(alloc: Global, machine: &mut FullMachine, word: u64) -> Result<Stri
     Ok(format!(in alloc; "{step:?}")?)
 }
 
-fn shown(alloc: Global, machine: &FullMachine, what: &str, rest: &str) -> Result<String, OutOfMemory> {
+fn shown(
+    alloc: Global,
+    machine: &FullMachine,
+    what: &str,
+    rest: &str,
+) -> Result<String, OutOfMemory> {
     match what {
         "x" => Ok(format!(in alloc; "{:x}", machine.reg(register(rest)))?),
         "f" => Ok(format!(in alloc; "{:x}", machine.freg(register(rest)))?),
