@@ -14,6 +14,7 @@ mod InstWrites
 mod Islands
 mod IslandsStand
 mod JumpAndIsland
+mod LabelsReached
 mod LargerMachine
 pub mod Laws
 mod OneMoreRegister
