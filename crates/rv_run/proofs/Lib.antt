@@ -1,3 +1,5 @@
 pub mod Going
 pub mod Grows
 pub mod Writing
+mod SameWords
+pub mod Settled
