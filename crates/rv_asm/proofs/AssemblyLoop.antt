@@ -24,6 +24,9 @@ use Rattle.rv_asm.specs.Reported.{line_returns, returns_from}
 use Rattle.rv_asm.specs.AfterLastIsland.{AfterLastIsland}
 use Rattle.rv_asm.specs.Reach.{NotEarly, ReachesOn}
 use Rattle.rv_asm.specs.FinishedCode.{IsFinished}
+use Rattle.rv_asm.specs.StraightUses.{GoStraight}
+use Rattle.rv_asm.proofs.LinesInBuffer.{line_added}
+use Rattle.rv_asm.proofs.StraightUses.{straight_none, straight_next}
 use Rattle.rv_asm.proofs.RefusalOrder.{frame_small, none_unfit, no_rule_broken, bound_once, bound_by, named_is_bound, sum_small, lines_small}
 use Rattle.rv_asm.proofs.Finish.{can_finish, finished_short}
 use Rattle.rv_asm.proofs.AppendedLines.{line_appends}
@@ -42,6 +45,7 @@ pub record SoFar (context : Context) (lines : List Line) (count : ℕ) (spans : 
   pub since : AfterLastIsland context (take count lines) spans b
   pub early : NotEarly context (take count lines) spans
   pub reach : ReachesOn context (take count lines) spans
+  pub straight : GoStraight context (take count lines) spans b
 
 -- before the first
 pub so_far_none : (context : Context) (lines : List Line) (b : Buffer) → bytes_of b ≡ [] → uses_of b ≡ [] → ((label : ℕ) → place_of b label ≡ None) → labels_of b ≡ [] → allocated_of b ≡ 0 → records_of b ≡ [] → registered_of b ≡ context.constants → named_of b ≡ [] → constants_of b ≡ [] → IsSoundBuffer b → SoFar context lines 0 [] b
@@ -52,6 +56,7 @@ so_far_none context lines b bytes uses places labels allocated records registere
   since = since_none context b uses places;
   early = early_none context;
   reach = reaches_none context;
+  straight = straight_none context b;
 }
 
 -- ---- lists by an index
@@ -152,16 +157,18 @@ so_far_next context setting lines n spans new_spans old new line span e s h inde
     let since = since_next context (take n lines) spans line span old new s.built s.since rule p in
     let early = early_next context (take n lines) spans line span old new s.built s.since p s.early in
     let reach = reaches_next context (take n lines) spans line span old new s.built p since sized s.reach in
-    subst (λ ss. SoFar context lines (n + 1) ss new) (sym pushed) (moved (sym (take_next lines n line h)) built named sized since early reach)
+    let straight = straight_next context (take n lines) spans line span old new s.built s.since (line_added context setting line old new span rule s.built.sound s.built.windows s.built.fields put).lasts p s.straight in
+    subst (λ ss. SoFar context lines (n + 1) ss new) (sym pushed) (moved (sym (take_next lines n line h)) built named sized since early reach straight)
   where
-    moved : take n lines ++ line ∷ [] ≡ take (n + 1) lines → LinesStand context (take n lines ++ line ∷ []) (spans ++ span ∷ []) new → Named (take n lines ++ line ∷ []) (spans ++ span ∷ []) new → Sized context (take n lines ++ line ∷ []) new → AfterLastIsland context (take n lines ++ line ∷ []) (spans ++ span ∷ []) new → NotEarly context (take n lines ++ line ∷ []) (spans ++ span ∷ []) → ReachesOn context (take n lines ++ line ∷ []) (spans ++ span ∷ []) → SoFar context lines (n + 1) (spans ++ span ∷ []) new
-    moved more built named sized since early reach = record {
+    moved : take n lines ++ line ∷ [] ≡ take (n + 1) lines → LinesStand context (take n lines ++ line ∷ []) (spans ++ span ∷ []) new → Named (take n lines ++ line ∷ []) (spans ++ span ∷ []) new → Sized context (take n lines ++ line ∷ []) new → AfterLastIsland context (take n lines ++ line ∷ []) (spans ++ span ∷ []) new → NotEarly context (take n lines ++ line ∷ []) (spans ++ span ∷ []) → ReachesOn context (take n lines ++ line ∷ []) (spans ++ span ∷ []) → GoStraight context (take n lines ++ line ∷ []) (spans ++ span ∷ []) new → SoFar context lines (n + 1) (spans ++ span ∷ []) new
+    moved more built named sized since early reach straight = record {
       built = subst (λ ls. LinesStand context ls (spans ++ span ∷ []) new) more built;
       named = subst (λ ls. Named ls (spans ++ span ∷ []) new) more named;
       sized = subst (λ ls. Sized context ls new) more sized;
       since = subst (λ ls. AfterLastIsland context ls (spans ++ span ∷ []) new) more since;
       early = subst (λ ls. NotEarly context ls (spans ++ span ∷ [])) more early;
       reach = subst (λ ls. ReachesOn context ls (spans ++ span ∷ [])) more reach;
+      straight = subst (λ ls. GoStraight context ls (spans ++ span ∷ []) new) more straight;
     }
 
 -- where its call returns is within it
@@ -183,6 +190,7 @@ record AtEnd (context : Context) (lines : List Line) (spans : List LineSpan) (b 
   sized : Sized context lines b
   early : NotEarly context lines spans
   reach : ReachesOn context lines spans
+  straight : GoStraight context lines spans b
 
 at_end : (context : Context) (lines : List Line) (n : ℕ) (spans : List LineSpan) (b : Buffer) → length lines ≤ n → SoFar context lines n spans b → AtEnd context lines spans b
 at_end context lines n spans b le s =
@@ -193,6 +201,7 @@ at_end context lines n spans b le s =
       sized = subst (λ ls. Sized context ls b) whole s.sized;
       early = subst (λ ls. NotEarly context ls spans) whole s.early;
       reach = subst (λ ls. ReachesOn context ls spans) whole s.reach;
+      straight = subst (λ ls. GoStraight context ls spans b) whole s.straight;
     }
 
 -- after the last, the buffer can be finished
@@ -205,7 +214,7 @@ ready context lines n spans b e le s =
 pub finished : (context : Context) (lines : List Line) (n : ℕ) (code : Code) (b : Buffer) → lines_refusal context lines ≡ None → length lines ≤ n → SoFar context lines n code.lines b → code.returns ≡ returns_from context.flags code.lines 0 (take n lines) → (f : Finishes label_kinds (shape_of b) code.bytes) → code.constants ≡ f.put.constants → code.labels ≡ labels_of b → code.relocs ≡ relocs_in (records_of b) → code.traps ≡ traps_in (records_of b) → code.call_sites ≡ calls_in (records_of b) → code.try_call_sites ≡ tries_in (offset_or_zero (place_of b)) (records_of b) → code.patchable_call_sites ≡ patches_in (records_of b) → code.stack_maps ≡ maps_in (records_of b) → code.unwinds ≡ unwinds_in (records_of b) → code.end ≡ length (bytes_of b) → IsFinished context lines code
 finished context lines n code b e le s returns f constants labels relocs traps call_sites try_call_sites patchable_call_sites stack_maps unwinds end =
     let all = at_end context lines n code.lines b le s in
-    record { sink = b; built = all.built; named = all.named; sized = all.sized; early = all.early; reach = all.reach; ready = ready context lines n code.lines b e le s; finished = f; constants = constants; returns = returns ∙ ap (returns_from context.flags code.lines 0) (take_whole lines n le); labels = labels; relocs = relocs; traps = traps; call_sites = call_sites; try_call_sites = try_call_sites; patchable_call_sites = patchable_call_sites; stack_maps = stack_maps; unwinds = unwinds; end = end }
+    record { sink = b; built = all.built; named = all.named; sized = all.sized; early = all.early; reach = all.reach; straight = all.straight; ready = ready context lines n code.lines b e le s; finished = f; constants = constants; returns = returns ∙ ap (returns_from context.flags code.lines 0) (take_whole lines n le); labels = labels; relocs = relocs; traps = traps; call_sites = call_sites; try_call_sites = try_call_sites; patchable_call_sites = patchable_call_sites; stack_maps = stack_maps; unwinds = unwinds; end = end }
 
 -- the code is short
 pub code_short : (context : Context) (lines : List Line) (n : ℕ) (spans : List LineSpan) (b : Buffer) (bytes : List ℕ) → lines_refusal context lines ≡ None → length lines ≤ n → SoFar context lines n spans b → Finishes label_kinds (shape_of b) bytes → length bytes < 2 ^ 32

@@ -26,7 +26,7 @@ use Rattle.rv_asm.specs.Simulation.{RunsAsListed, HasOperations}
 use Rattle.rv_asm.specs.LinesInBuffer.{StandsAfter, LinesStand}
 use Rattle.rv_asm.specs.Placed.{Addresses, IsPlaced}
 use Rattle.rv_asm.proofs.ExitPoints.{AllBound}
-use Rattle.rv_asm.proofs.Images.{placed_at, keeps_outside, is_filled, fields_within, trap_reported}
+use Rattle.rv_asm.proofs.Images.{placed_at, keeps_outside, is_filled, fields_within, reloc_ends, trap_reported}
 use Rattle.rv_asm.proofs.Finish.{bound_place}
 use Rattle.rv_asm.proofs.LinesJoin.{Known, site_of, LineIn, line_at, threaded_runs}
 
@@ -92,4 +92,5 @@ module _ (job : Job) (code : Code) (b : Buffer) (built : LinesStand (context_of 
         let inside = (f.finishes.places label at e).0 in
         let long = f.finishes.same_length in
         omega (arith, inside, long);
+    fields = reloc_ends (length code.bytes) code.relocs (records_of b) relocs (fields_within (shape_of b) code.bytes f built.fields);
   })

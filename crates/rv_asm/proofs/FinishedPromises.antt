@@ -16,7 +16,9 @@ use Rattle.rv_asm.specs.SavedRegisters.{SavesReal}
 use Rattle.rv_asm.proofs.SavedRegisters.{lines_save}
 use Rattle.rv_asm.specs.Reach.{InReach}
 use Rattle.rv_asm.proofs.Finish.{finished_short}
+use Rattle.rv_asm.specs.Jumps.{HasJumps}
 use Rattle.rv_asm.proofs.FinishedLines.{built_runs, built_operations}
+use Rattle.rv_asm.proofs.JumpsStand.{built_jumps}
 use Rattle.rv_asm.proofs.RefusalOrder.{accepted_lines, accepted_frame, none_unfit, parts, no_rule_broken, sum_small, lines_small}
 use Rattle.rv_asm.proofs.RulesOfLines.{names_bound}
 use Rattle.rv_asm.proofs.SpanLengths.{all_bytes, built_reported}
@@ -48,6 +50,12 @@ module _ (job : Job) (code : Code) (accepted : refusal job ≡ None) (f : IsFini
 
   pub finished_operations : HasOperations job code
   finished_operations = built_operations job code f.sink f.built finished f.constants f.relocs f.traps (no_rule_broken (context_of job) job.lines e)
+
+  pub finished_jumps : HasJumps job code
+  finished_jumps =
+      let short = finished_short (context_of job) job.lines f.sink code.bytes f.built.sound f.sized f.finished in
+      let small = sum_small (context_of job) job.lines e in
+      built_jumps job code f.sink f.built finished f.relocs (omega (arith, short, small)) f.straight (names_bound job.lines job.lines (parts (context_of job) job.lines e).unbound)
 
   pub finished_in_reach : InReach job code
   finished_in_reach = record {

@@ -34,7 +34,7 @@ use Rattle.rv_code.specs.Sites.{Site, IsPlacedAt}
 use Rattle.rv_code.specs.Slots.{Symbol, AddressOf, SlotOf, upper_event, lower_event, call_event}
 use Rattle.rv_emit.specs.Standing.{IsFinishedTo}
 use Rattle.rv_emit.proofs.Laws.{window_byte, window_length, bits_back, ends_later}
-use Rattle.rv_asm.specs.Placed.{Addresses, address_of_name, bytes_from, distance_to, IsPlaced}
+use Rattle.rv_asm.specs.Placed.{Addresses, address_of_name, bytes_from, distance_to, IsFilledAt, IsPlaced}
 
 -- ---- bytes of a memory
 
@@ -110,6 +110,40 @@ name_leads (Some a) to h = let e = same_Some (wrap a) to h in (e, omega arith)
 pub fields_within : (s : Shape LabelUse) (bytes : List ℕ) → IsFinishedTo s bytes → FieldsStand s → (k : ℕ) (r : MachRecord) → slice_get s.records k ≡ Some r → EndsWithin (length bytes) r.offset r.event
 fields_within s bytes f fields k r h = ends_later (length s.bytes) (length bytes) r.offset r.event (let a = f.finishes.grows.longer in let b = f.finishes.same_length in omega arith) (fields.ends k r h)
 
+-- and so does what relocations that are reported fill
+pub reloc_ends : (n : ℕ) (relocs : List MachReloc) (records : List MachRecord) → relocs ≡ relocs_in records → ((k : ℕ) (r : MachRecord) → slice_get records k ≡ Some r → EndsWithin n r.offset r.event) → (j : ℕ) (r : MachReloc) → slice_get relocs j ≡ Some r → r.offset + field_size r.kind ≤ n
+reloc_ends n relocs records same ends j r h =
+    let t = comes_from record_relocs records j r (ap (λ rs. slice_get rs j) (sym same) ∙ h) in
+    on t.from.offset t.from.event t.place t.gives (ends t.index t.from t.there)
+  where
+    on : (offset : ℕ) (e : Event) (i : ℕ) → slice_get (event_relocs offset e) i ≡ Some r → EndsWithin n offset e → r.offset + field_size r.kind ≤ n
+    on offset (event.Trap cause) i gives c = absurd (cc)
+    on offset (event.Unwind u) i gives c = absurd (cc)
+    on offset event.CallSite i gives c = absurd (cc)
+    on offset (event.TryCallSite to_fp handlers) i gives c = absurd (cc)
+    on offset (event.PatchableCallSite len) i gives c = absurd (cc)
+    on offset (event.StackMap span entries) i gives c = absurd (cc)
+    on offset (event.Reloc kind to addend) zero gives c =
+        subst (λ (x : MachReloc). x.offset + field_size x.kind ≤ n) (same_Some (record { offset = offset; kind = kind; target = to; addend = addend }) r gives) c
+    on offset (event.Reloc kind to addend) (suc i) gives c = absurd (cc)
+
+-- a stretch that is clear of all records is outside what relocations fill
+pub all_outside : (relocs : List MachReloc) (records : List MachRecord) → relocs ≡ relocs_in records → (from size : ℕ) → AllClear records from size → IsOutside relocs from size
+all_outside relocs records same from size clear j r h =
+    let t = comes_from record_relocs records j r (ap (λ rs. slice_get rs j) (sym same) ∙ h) in
+    on t.from.offset t.from.event t.place t.gives (clear t.index t.from t.there)
+  where
+    on : (offset : ℕ) (e : Event) (i : ℕ) → slice_get (event_relocs offset e) i ≡ Some r → IsClear from size offset e → IsApart from size r.offset (field_size r.kind)
+    on offset (event.Trap cause) i gives c = absurd (cc)
+    on offset (event.Unwind u) i gives c = absurd (cc)
+    on offset event.CallSite i gives c = absurd (cc)
+    on offset (event.TryCallSite to_fp handlers) i gives c = absurd (cc)
+    on offset (event.PatchableCallSite len) i gives c = absurd (cc)
+    on offset (event.StackMap span entries) i gives c = absurd (cc)
+    on offset (event.Reloc kind to addend) zero gives c =
+        subst (λ (x : MachReloc). IsApart from size x.offset (field_size x.kind)) (same_Some (record { offset = offset; kind = kind; target = to; addend = addend }) r gives) c
+    on offset (event.Reloc kind to addend) (suc i) gives c = absurd (cc)
+
 module _ (code : Code) (base : ℕ) (symbols slots : Addresses) (mem : Memory) (context : Context) (place : ℕ → Option ℕ) (records : List MachRecord) where
   abbrev site : Site
   site = record { context = context; base = base; bytes = bytes_from mem base (length code.bytes); place = place; records = records; symbol = λ number. unwrap_or (address_of_name symbols number) 0; slot = λ number. unwrap_or (address_of_name slots number) 0 }
@@ -125,21 +159,7 @@ module _ (code : Code) (base : ℕ) (symbols slots : Addresses) (mem : Memory) (
 
   -- a byte of a stretch that is clear of all records is outside what relocations fill
   outside : code.relocs ≡ relocs_in records → (from size k : ℕ) → k < size → AllClear records from size → IsOutside code.relocs (from + k) 1
-  outside same from size k lt clear j r h =
-      let t = comes_from record_relocs records j r (ap (λ rs. slice_get rs j) (sym same) ∙ h) in
-      on t.from.offset t.from.event t.place t.gives (clear t.index t.from t.there)
-    where
-      on : (offset : ℕ) (e : Event) (i : ℕ) → slice_get (event_relocs offset e) i ≡ Some r → IsClear from size offset e → IsApart (from + k) 1 r.offset (field_size r.kind)
-      on offset (event.Trap cause) i gives c = absurd (cc)
-      on offset (event.Unwind u) i gives c = absurd (cc)
-      on offset event.CallSite i gives c = absurd (cc)
-      on offset (event.TryCallSite to_fp handlers) i gives c = absurd (cc)
-      on offset (event.PatchableCallSite len) i gives c = absurd (cc)
-      on offset (event.StackMap span entries) i gives c = absurd (cc)
-      on offset (event.Reloc kind to addend) zero gives c =
-          let is : record { offset = offset; kind = kind; target = to; addend = addend } ≡ r = same_Some _ _ gives in
-          subst (λ (x : MachReloc). IsApart (from + k) 1 x.offset (field_size x.kind)) is (⊎_elim (λ before. inl (omega arith)) (λ after. inr (omega arith)) c)
-      on offset (event.Reloc kind to addend) (suc i) gives c = absurd (cc)
+  outside same from size k lt clear j r h = ⊎_elim (λ before. inl (omega arith)) (λ after. inr (omega arith)) (all_outside code.relocs records same from size clear j r h)
 
   pub keeps_outside : code.relocs ≡ relocs_in records → IsPlaced code base symbols slots mem → KeepsOutside site code.bytes
   keeps_outside same placed = record {
@@ -154,6 +174,30 @@ module _ (code : Code) (base : ℕ) (symbols slots : Addresses) (mem : Memory) (
         let e : base + from + k ≡ base + (from + k) = omega arith in
         from_byte mem (base + from) size k short ∙ ap (byte mem) e ∙ placed.there (from + k) (omega arith) (outside same from size k short clear) ∙ sym (window_byte code.bytes from size k short));
   }
+
+  -- ---- where its bytes still stand
+
+  module _ (new : Memory) (still : IsPlacedAt site new) where
+    same_byte : (k : ℕ) → k < length code.bytes → byte new (base + k) ≡ byte mem (base + k)
+    same_byte k lt = still.bytes.there k (let l = from_long mem base (length code.bytes) in omega arith) ∙ from_byte mem base (length code.bytes) k lt
+
+    same_bytes : (from size : ℕ) → from + size ≤ length code.bytes → bytes_from new (base + from) size ≡ bytes_from mem (base + from) size
+    same_bytes from size le =
+        same_number_lists (bytes_from new (base + from) size) (bytes_from mem (base + from) size) (from_long new (base + from) size ∙ sym (from_long mem (base + from) size))
+        (λ k lt.
+        let short : k < size = let l = from_long new (base + from) size in omega arith in
+        let e : base + from + k ≡ base + (from + k) = omega arith in
+        from_byte new (base + from) size k short ∙ ap (byte new) e ∙ same_byte (from + k) (omega arith) ∙ ap (byte mem) (sym e) ∙ sym (from_byte mem (base + from) size k short))
+
+    -- the code is still placed, since what relocations fill is among its bytes
+    pub placed_again : ((j : ℕ) (r : MachReloc) → slice_get code.relocs j ≡ Some r → r.offset + field_size r.kind ≤ length code.bytes) → IsPlaced code base symbols slots mem → IsPlaced code base symbols slots new
+    placed_again within placed = record {
+      aligned = placed.aligned;
+      room = placed.room;
+      bytes = λ k lt. subst (λ (b : ℕ). b < 256) (sym (same_byte k lt)) (placed.bytes k lt);
+      there = λ k lt clear. same_byte k lt ∙ placed.there k lt clear;
+      filled = λ j r h. subst (IsFilledAt code base symbols slots r r.target (window code.bytes r.offset (field_size r.kind))) (sym (same_bytes r.offset (field_size r.kind) (within j r h))) (placed.filled j r h);
+    }
 
   -- the parts of a distance, in the two words that hold it
   holds_both : (at : ℕ) (d : ℤ) → at + 8 ≤ length code.bytes → Aims PCRelHi20 (bytes_from mem (base + at) 4) d → SameOutside (marks_of PCRelHi20) (window code.bytes at 4) (bytes_from mem (base + at) 4) → Aims PCRelLo12I (bytes_from mem (base + (at + 4)) 4) (d -ℤ pos 4) → SameOutside (marks_of PCRelLo12I) (window code.bytes (at + 4) 4) (bytes_from mem (base + (at + 4)) 4) → HoldsDistance site code.bytes at d

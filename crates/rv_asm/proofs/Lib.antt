@@ -26,3 +26,6 @@ pub mod CallReturns
 pub mod Relocations
 pub mod Handlers
 pub mod SurveyedJobs
+mod BytesThere
+mod JumpsStand
+mod StraightUses

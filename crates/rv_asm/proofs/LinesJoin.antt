@@ -22,7 +22,9 @@ use Rattle.mach_labels.specs.Table.{first_constant}
 use Rattle.mach_buffer.specs.Constants.{offset_in}
 use Rattle.mach_records.specs.declared.records.Event.TheVariants as event
 use Rattle.mach_records.specs.declared.records.MachRecord.{MachRecord}
+use Rattle.mach_records.specs.declared.records.MachReloc.{MachReloc}
 use Rattle.rv_inst.specs.Records.{IsRecorded, IsTrapAt}
+use Rattle.rv_inst.specs.Relocations.{field_size}
 use Rattle.rv_base.specs.declared.label.MachLabel.{MachLabel}
 use Rattle.rv_inst.specs.Operands.{named_labels}
 use Rattle.rv_inst.specs.Rules.{broken_rule}
@@ -33,10 +35,10 @@ use Rattle.rv_code.specs.InstRuns.{ComesOut, environment}
 use Rattle.rv_code.specs.Sites.{Site, IsPlacedAt, LeadsOn, PartsStand}
 use Rattle.rv_emit.proofs.Laws.{iter_none, iter_after, same_but, but_then_same, inst_runs, inst_resumes}
 use Rattle.rv_asm.specs.Refusal.{is_unfit, is_bound}
-use Rattle.rv_asm.specs.Reported.{start_of, end_of, binding_line, label_start, returns_from}
+use Rattle.rv_asm.specs.Reported.{start_of, end_of, binding_line, returns_from}
 use Rattle.rv_asm.specs.Simulation.{Point, At, Returned, Out, End, Stop, Trapped, InData, IsBack, Leads, next_point, environment_of, WritesOutside, AtStart, AtReturn, return_at, address_of, IsStopped, Comes, RunsAsListed}
 use Rattle.rv_asm.specs.Placed.{Addresses, address_of_name, bytes_from, IsPlaced}
-use Rattle.rv_asm.proofs.Images.{from_long, placed_at}
+use Rattle.rv_asm.proofs.Images.{from_long, placed_at, placed_again}
 use Rattle.rv_asm.proofs.ExitPoints.{AllBound, ExitBound, exit_bound, return_bound}
 use Rattle.rv_asm.proofs.CallReturns.{return_found}
 use Rattle.rv_asm.proofs.EqualValues.{same_itself}
@@ -81,6 +83,7 @@ pub record IsThreaded (job : Job) (code : Code) (known : Known) : Type 0 where
   pub traps : (at : ℕ) (cause : TrapCode) → IsRecorded known.records at (event.Trap cause) → IsTrapAt code.traps at cause
   pub short : length code.bytes < code_limit
   pub placed : (label at : ℕ) → known.place label ≡ Some at → at ≤ length code.bytes
+  pub fields : (j : ℕ) (r : MachReloc) → slice_get code.relocs j ≡ Some r → r.offset + field_size r.kind ≤ length code.bytes
 
 -- ---- one line
 
@@ -112,8 +115,8 @@ line_comes site (Bind label) start after s v short labels h rule fit outside pla
 
 -- ---- where it leads
 
--- from line i the machine has come to a point, with values that are these but for some registers
-record Reached (job : Job) (code : Code) (base i : ℕ) (p : Point) (free : List ℕ) (v : Values) (s : State) : Type 0 where
+-- from line i the machine has come to a point, with values that are these but for some registers, and the code still stands
+record Reached (job : Job) (code : Code) (site : Site) (base i : ℕ) (p : Point) (free : List ℕ) (v : Values) (s : State) : Type 0 where
   steps : ℕ
   state : State
   ran : iter job.flags steps s ≡ Some state
@@ -122,18 +125,22 @@ record Reached (job : Job) (code : Code) (base i : ℕ) (p : Point) (free : List
   stopped : IsStopped job.flags p state
   same : SameBut free v state.values
   is_state : IsState state
+  placed : IsPlacedAt site state.values.mem
 
 module _ (job : Job) (code : Code) (known : Known) (t : IsThreaded job code known) (base : ℕ) (symbols slots : Addresses) (mem : Memory) (stood : IsPlaced code base symbols slots mem) (i : ℕ) (lt : i < length job.lines) (free : List ℕ) (v : Values) (s : State) where
+  abbrev site : Site
+  site = site_of job code known base symbols slots mem
+
   -- the line came out at an exit
   abbrev CameOut : Exit → Type 0
-  CameOut x = ComesOut (site_of job code known base symbols slots mem) (start_of code.lines i) (end_of code.lines i) x free v s
+  CameOut x = ComesOut site (start_of code.lines i) (end_of code.lines i) x free v s
 
   -- and that is where a point is
-  there : (x : Exit) (e : CameOut x) (p : Point) → (IsBack i p → 1 ≤ e.steps) → e.state.pc ≡ address_of code base p → IsStopped job.flags p e.state → Reached job code base i p free v s
-  there x e p moved stands stopped = record { steps = e.steps; state = e.state; ran = e.ran; moved = moved; stands = stands; stopped = stopped; same = e.same; is_state = e.is_state }
+  there : (x : Exit) (e : CameOut x) (p : Point) → (IsBack i p → 1 ≤ e.steps) → e.state.pc ≡ address_of code base p → IsStopped job.flags p e.state → Reached job code site base i p free v s
+  there x e p moved stands stopped = record { steps = e.steps; state = e.state; ran = e.ran; moved = moved; stands = stands; stopped = stopped; same = e.same; is_state = e.is_state; placed = e.placed }
 
   -- to the next line, or to the end
-  goes_on : CameOut Next → (c : Bool) → nat_lt (suc i) (length job.lines) ≡ c → Reached job code base i (if c then At (suc i) else End) free v s
+  goes_on : CameOut Next → (c : Bool) → nat_lt (suc i) (length job.lines) ≡ c → Reached job code site base i (if c then At (suc i) else End) free v s
   goes_on e true h =
       let g = (t.gap base symbols slots mem stood i (ltb-true _ _ h)).run e.state e.state.values e.placed e.arrives e.is_state e.is_state.values (same_itself e.state.values) in
       record {
@@ -145,6 +152,7 @@ module _ (job : Job) (code : Code) (known : Known) (t : IsThreaded job code know
         stopped = tt;
         same = but_then_same e.same g.same;
         is_state = g.is_state;
+        placed = subst (IsPlacedAt site) (sym g.kept) e.placed;
       }
   goes_on e false h =
       let most = ltb-false _ _ h in
@@ -154,7 +162,7 @@ module _ (job : Job) (code : Code) (known : Known) (t : IsThreaded job code know
   record Ends (x : Exit) : Type 0 where
     point : Point
     leads : Leads job.lines code i x point
-    reached : Reached job code base i point free v s
+    reached : Reached job code site base i point free v s
 
   reaches : (x : Exit) → ExitBound job.lines x → CameOut x → Ends x
   reaches Next bound e = record { point = next_point job.lines i; leads = refl; reached = goes_on e (nat_lt (suc i) (length job.lines)) refl }
@@ -217,6 +225,7 @@ comes job code known t base symbols slots i line s v lt e outside placed is_stat
       same = same_itself r.state.values;
       is_state = r.is_state;
       are_values = r.is_state.values;
+      placed = placed_again code base symbols slots mem (context_of job) known.place known.records r.state.values.mem r.placed t.fields placed;
     }
 
 -- from where the call of a line returns it goes on to the next line
@@ -253,6 +262,7 @@ resumes job code known t base symbols slots i inst r s v e returned placed is_st
       same = same_itself reached.state.values;
       is_state = reached.is_state;
       are_values = reached.is_state.values;
+      placed = placed_again code base symbols slots mem (context_of job) known.place known.records reached.state.values.mem reached.placed t.fields placed;
     }
 
 -- an index below the length has its line

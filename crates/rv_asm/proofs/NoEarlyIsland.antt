@@ -19,7 +19,7 @@ use Rattle.rv_asm.specs.Reported.{end_before}
 use Rattle.rv_asm.specs.LinesInBuffer.{LinesStand, Sized}
 use Rattle.rv_asm.specs.Reach.{pending_deadlines, IsDue, IsDueOf, IslandDue, NotEarly, ReachesOn}
 use Rattle.rv_asm.specs.AfterLastIsland.{AfterLastIsland}
-use Rattle.rv_asm.proofs.AppendedLines.{InstAppends, LineAppends}
+use Rattle.rv_asm.proofs.AppendedLines.{LineAppends}
 use Rattle.rv_asm.proofs.LabelNames.{start_more, end_more, start_last, end_last}
 use Rattle.rv_asm.proofs.UsesAfterIsland.{pending_reported, due_now}
 use Rattle.rv_asm.proofs.FirstLines.{ends_more, pending_more, due_more}

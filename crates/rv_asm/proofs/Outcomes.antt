@@ -1,18 +1,16 @@
 -- What was due and is known ends a call, and without a fault the words and the input settle how it ends.
-use Rattle.std.proofs.Common.{◌≡◌, ℕ, ◌<◌, ◌≤◌, inl, inr, List, length, Option, Some, None, Result, Ok, Err, refl, sym, ap, subst, arith}
+use Rattle.std.proofs.Common.{◌≡◌, ℕ, ◌<◌, ◌≤◌, inl, inr, List, length, Option, Some, None, Ok, Err, refl, sym, ap, subst, length-append, arith}
 use Rattle.std.specs.Prelude.{IfSome}
-use Rattle.std.specs.Io.KnownBytes.{Appends}
-use Rattle.rv_base.specs.declared.out_of_memory.OutOfMemory.{OutOfMemory}
-use Rattle.rv_inst.specs.declared.code.Code.{Code}
+use Rattle.std.specs.Io.KnownBytes.{Appends, Consumes}
 use Rattle.rv_inst.specs.declared.error.EmitError.{EmitError}
 use Rattle.rv_inst.specs.declared.error.EmitError.TheVariants as errors
 use Rattle.rv_inst.specs.declared.job.Job.{Job}
 use Rattle.rv_listing.specs.Reading.{reads}
-use Rattle.rv_stream.specs.Ends.{Rose}
-use Rattle.rv_asm.specs.Refusal.{refusal, Finds}
+use Rattle.rv_stream.specs.Ends.{Rose, Gave}
+use Rattle.rv_asm.specs.Refusal.{refusal}
 use Rattle.rv_asm.specs.declared.outcome.Outcome.{Outcome}
 use Rattle.rv_asm.specs.declared.outcome.Outcome.TheVariants as ends
-use Rattle.rv_asm.specs.Outcomes.{Call, input_limit, Asked, Read, Due, Means, IsRefused, WritesOutcome, text_of, Ended, IsOrOutOfMemory, IsDone, NoFault, IsSettled, outcome_of}
+use Rattle.rv_asm.specs.Outcomes.{Call, input_limit, Asked, Read, Due, Means, IsRefused, WritesOutcome, text_of, Ended, IsOrOutOfMemory, IsDone, NoFault, IsSettled}
 
 written : (c : Call) (outcome : Outcome) → Due c outcome → Appends c.taken c.taken_after (text_of outcome) → Ended c outcome
 written c ends.Usage due appended = (due, appended)
@@ -58,8 +56,13 @@ means_input c outcome input is read = subst (λ (xs : List ℕ). Means xs outcom
 short_input : (c : Call) (outcome : Outcome) (input : List ℕ) → c.left ≡ Some input → Read c outcome → length input ≤ input_limit
 short_input c outcome input is read = subst (λ (xs : List ℕ). length xs ≤ input_limit) (input_is c outcome input is read) read.2
 
-long_input : (c : Call) (input : List ℕ) → c.left ≡ Some input → IfSome c.left (λ left. input_limit < length left) → input_limit < length input
-long_input c input is long = at_left c.left (λ left. input_limit < length left) input long is
+gave_more : (a b : Option (List ℕ)) (bytes : List ℕ) (n : ℕ) → Consumes a b bytes → n < length bytes → IfSome a (λ left. n < length left)
+gave_more None b bytes n took more = tt
+gave_more (Some xs) None bytes n took more = absurd took
+gave_more (Some xs) (Some ys) bytes n took more = omega (arith, ap length took, length-append bytes ys)
+
+long_input : (c : Call) (input : List ℕ) → c.left ≡ Some input → Gave (λ n. input_limit < n) c.left c.left_after → input_limit < length input
+long_input c input is long = at_left c.left (λ left. input_limit < length left) input (gave_more c.left c.left_after long.0 input_limit long.1 long.2) is
 
 settles_usage : (c : Call) (returned : Outcome) → Ended c returned → 0 < c.words → ¬ Rose c.write_faults c.write_faults_after → IsOrOutOfMemory returned ends.Usage
 settles_usage c ends.Usage ended words fine = inl refl
@@ -95,7 +98,7 @@ settles_syntax c (ends.Refused error) input line is ended asked fine short bad =
     let (job, read, found) = refused_job input error (means_input c (ends.Refused error) input is ended.0.1) in
     absurd (cc)
 settles_syntax c (ends.Done code) input line is ended asked fine short bad =
-    let (job, read, found, reported, runs, operations, reach, ranges) = means_input c (ends.Done code) input is ended.0.1 in
+    let (job, read, found, reported, runs, operations, jumps, reach, ranges) = means_input c (ends.Done code) input is ended.0.1 in
     absurd (cc)
 
 settles_refused : (c : Call) (returned : Outcome) (input : List ℕ) (job : Job) (error : EmitError) → c.left ≡ Some input → Ended c returned → Asked c → NoFault c → length input ≤ input_limit → reads input ≡ Ok job → refusal job ≡ Some error → IsOrOutOfMemory returned (ends.Refused error)
@@ -113,7 +116,7 @@ settles_refused c (ends.Refused other) input job error is ended asked fine short
     let same : other ≡ error = cc (ap (λ (j : Job). refusal j) jobs) in
     inl (ap (λ (e : EmitError). ends.Refused e) same)
 settles_refused c (ends.Done code) input job error is ended asked fine short good due =
-    let (own, read, found, reported, runs, operations, reach, ranges) = means_input c (ends.Done code) input is ended.0.1 in
+    let (own, read, found, reported, runs, operations, jumps, reach, ranges) = means_input c (ends.Done code) input is ended.0.1 in
     let jobs : own ≡ job = cc in
     absurd (cc (ap (λ (j : Job). refusal j) jobs))
 

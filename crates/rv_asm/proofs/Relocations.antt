@@ -1,9 +1,16 @@
--- The bytes that relocations fill: each relocation's are in the span of its line, and no two share one.
+-- The bytes that relocations fill: each relocation's are in the span of its line, among its words, and no two share one; and none
+-- is a constant's.
 use Rattle.std.proofs.Common.{◌≡◌, ◌≢◌, inl, inr, ⊎_elim, ℕ, zero, suc, ◌+◌, ◌<◌, ◌≤◌, Bool, true, false, List, [], ◌∷◌, ◌++◌, length, Option, Some, None, refl, sym, ap, subst, ◌∙◌, append-nil, arith}
-use Rattle.std.specs.Prelude.{slice_get}
+use Rattle.std.specs.Prelude.{◌-◌, slice_get}
 use Rattle.std.proofs.lemmas.Grind.{flat_map-append}
-use Rattle.std.proofs.lemmas.Option.{same_Some}
+use Rattle.std.proofs.lemmas.Option.{same_Some, slice_get_within}
+use Rattle.rv_base.specs.declared.call.ReturnCallInfo.{ReturnCallInfo}
 use Rattle.rv_base.specs.declared.call.TryCallInfo.{TryCallInfo}
+use Rattle.rv_base.specs.declared.constant.Constant.{Constant}
+use Rattle.rv_base.specs.declared.external_name.ExternalName.{ExternalName}
+use Rattle.rv_base.specs.declared.reloc.Reloc.{Reloc}
+use Rattle.rv_base.specs.declared.reloc.Reloc.TheVariants.{RiscvCallPlt, RiscvGotHi20, RiscvPCRelHi20, RiscvPCRelLo12I, Abs8}
+use Rattle.mach_records.specs.declared.records.ConstPlace.{ConstPlace}
 use Rattle.rv_base.specs.declared.call.UserStackMap.{UserStackMap}
 use Rattle.rv_base.specs.declared.flags.IsaFlags.{IsaFlags}
 use Rattle.rv_base.specs.declared.frame.FrameLayout.{FrameLayout}
@@ -15,7 +22,7 @@ use Rattle.mach_records.specs.declared.records.MachReloc.{MachReloc}
 use Rattle.mach_buffer.proofs.Laws.{locate}
 use Rattle.rv_inst.specs.Context.{Context}
 use Rattle.rv_inst.specs.Records.{access_records, patch_records, return_records, inst_records}
-use Rattle.rv_inst.specs.Relocations.{field_size}
+use Rattle.rv_inst.specs.Relocations.{field_size, IsOutside}
 use Rattle.rv_inst.specs.Sizes.{Extent, Words, Island, After, Around, extent_of, call_size, call_extent}
 use Rattle.rv_inst.specs.Returns.{StackLoad, loads_unless}
 use Rattle.rv_inst.specs.declared.code.LineSpan.{LineSpan}
@@ -23,7 +30,7 @@ use Rattle.rv_inst.specs.declared.inst.Inst.{Inst}
 use Rattle.rv_inst.specs.declared.inst.Inst.TheVariants.{Load, Store, LoadExtNameGot, LoadExtNameNear, LoadExtNameFar, Call, CallInd, ReturnCall}
 use Rattle.rv_inst.specs.declared.inst.Line.{Line}
 use Rattle.rv_inst.specs.declared.inst.Line.TheVariants.{Inst as Put, Bind}
-use Rattle.rv_asm.specs.Reported.{start_of, end_of, line_records, records_from, IsGap, IsSized, IsSpan, FillsInLine}
+use Rattle.rv_asm.specs.Reported.{start_of, end_of, line_records, records_from, IsGap, IsSized, IsSpan, FillsInLine, WordsApart}
 
 -- ---- fields one after the other
 
@@ -112,6 +119,53 @@ inst_fill context bytes (CallInd info) start end h =
 inst_fill context bytes (ReturnCall info) start end (mid, gap, same) = let before = gap_ascends context.flags bytes start mid gap in (omega arith, omega arith)
 inst_fill context bytes inst start end h = sized_ascends context.flags bytes (extent_of context inst) start end h
 
+-- ---- among the words of an instruction
+
+-- before an island in it, or after it; those of a call are its first
+abbrev AreAmong : Extent → ℕ → ℕ → ℕ → ℕ → Type 0
+AreAmong (Words size) start end from to = (start ≤ from) × (to ≤ end)
+AreAmong (Island space) start end from to = ⊥
+AreAmong (After space size more) start end from to = (end - size ≤ from) × (to ≤ end)
+AreAmong (Around before space after) start end from to = (start ≤ from) × (to ≤ start + before)
+
+some_field : (kind : Reloc) → 1 ≤ field_size kind
+some_field RiscvCallPlt = omega arith
+some_field RiscvGotHi20 = omega arith
+some_field RiscvPCRelHi20 = omega arith
+some_field RiscvPCRelLo12I = omega arith
+some_field Abs8 = omega arith
+
+-- between the same offsets nothing is filled
+none_filled : (rs : List MachReloc) (j : ℕ) (r : MachReloc) → FillInTurn rs 0 0 → slice_get rs j ≡ Some r → ⊥
+none_filled rs j r h e = let some = some_field r.kind in let between = fill_between rs 0 0 j r h e in let ends = between.1 in absurd (omega arith)
+
+tail_long : (context : Context) (info : ReturnCallInfo ExternalName) (bytes : List ℕ) (start end : ℕ) → IsSized context.flags bytes (extent_of context (ReturnCall info)) start end → 8 ≤ end
+tail_long context info bytes start end (mid, gap, same) = omega (arith, same)
+
+call_among : (flags : IsaFlags) (bytes : List ℕ) (popped : ℕ) (loads : List StackLoad) (t : Option TryCallInfo) (start end from to : ℕ) → IsSized flags bytes (call_extent flags 8 popped loads t) start end → start ≤ from → to ≤ start + 8 → AreAmong (call_extent flags 8 popped loads t) start end from to
+call_among flags bytes popped [] t start end from to long starts ends = (starts, omega (arith, long, ends))
+call_among flags bytes popped (l ∷ loads) t start end from to h starts ends = (starts, omega (arith, ends))
+
+inst_among : (context : Context) (bytes : List ℕ) (inst : Inst) (start end j : ℕ) (r : MachReloc) → IsSized context.flags bytes (extent_of context inst) start end → slice_get (relocs_in (inst_records context start end inst)) j ≡ Some r → AreAmong (extent_of context inst) start end r.offset (r.offset + field_size r.kind)
+inst_among context bytes (Load rd op flags from) start end j r h e = absurd (none_filled _ j r (access_fill _ flags.trap 0 0 (omega arith)) e)
+inst_among context bytes (Store src op flags to) start end j r h e = absurd (none_filled _ j r (access_fill _ flags.trap 0 0 (omega arith)) e)
+inst_among context bytes (LoadExtNameGot rd name) start end j r h e = fill_between (relocs_in (inst_records context start end (LoadExtNameGot rd name))) start end j r (inst_fill context bytes (LoadExtNameGot rd name) start end h) e
+inst_among context bytes (LoadExtNameNear rd name offset) start end j r h e = fill_between (relocs_in (inst_records context start end (LoadExtNameNear rd name offset))) start end j r (inst_fill context bytes (LoadExtNameNear rd name offset) start end h) e
+inst_among context bytes (LoadExtNameFar rd name offset) start end j r h e = fill_between (relocs_in (inst_records context start end (LoadExtNameFar rd name offset))) start end j r (inst_fill context bytes (LoadExtNameFar rd name offset) start end h) e
+inst_among context bytes (Call info) start end j r h e =
+    let turn : FillInTurn (relocs_in (inst_records context start end (Call info))) start (start + 8) = (omega arith, return_fill context.frame _ info.stack_map info.try_call_info (patch_records info.patchable _ _) (start + 8) (start + 8) (patch_fill info.patchable _ _ (start + 8) (start + 8) (omega arith))) in
+    let own = fill_between (relocs_in (inst_records context start end (Call info))) start (start + 8) j r turn e in
+    call_among context.flags bytes info.callee_pop_size (loads_unless info.patchable info.defs) info.try_call_info start end r.offset (r.offset + field_size r.kind) h own.0 own.1
+inst_among context bytes (CallInd info) start end j r h e =
+    absurd (none_filled _ j r (subst (λ rs. FillInTurn (relocs_in rs) 0 0) (append-nil (return_records context.frame _ info.stack_map info.try_call_info)) (return_fill context.frame _ info.stack_map info.try_call_info [] 0 0 (omega arith))) e)
+inst_among context bytes (ReturnCall info) start end j r h e =
+    let long = tail_long context info bytes start end h in
+    let turn : FillInTurn (relocs_in (inst_records context start end (ReturnCall info))) (end - 8) end = (omega arith, omega (arith, long)) in
+    let own = fill_between (relocs_in (inst_records context start end (ReturnCall info))) (end - 8) end j r turn e in
+    let starts = own.0 in
+    (omega (arith, starts), own.1)
+inst_among context bytes inst start end j r h e = absurd (cc)
+
 line_fill : (context : Context) (bytes : List ℕ) (line : Line) (start end : ℕ) → IsSpan context bytes line start end → FillInTurn (relocs_in (line_records context start end line)) start end
 line_fill context bytes (Put inst) start end h = inst_fill context bytes inst start end h
 line_fill context bytes (Bind label) start end h = omega arith
@@ -154,38 +208,26 @@ module _ (context : Context) (bytes : List ℕ) (spans : List LineSpan) where
       let both = fill_both first more (start_of spans i) (end_of spans i) rest.0 (first_fill i line lines long) rest.1 in
       (rest.0, subst (λ rs. FillInTurn rs from rest.0) (sym (relocs_split i line lines)) (fill_from (first ++ more) from (start_of spans i) rest.0 (starts (omega arith)) both))
 
-  -- a line, whose index is i and some, has the bytes that a relocation fills
-  record Among (i : ℕ) (lines : List Line) (r : MachReloc) : Type 0 where
+  -- a relocation is one of a line, whose index is i and some
+  record OfLine (i : ℕ) (lines : List Line) (r : MachReloc) : Type 0 where
     place : ℕ
-    below : place < length lines
-    starts : start_of spans (i + place) ≤ r.offset
-    ends : r.offset + field_size r.kind ≤ end_of spans (i + place)
+    line : Line
+    there : slice_get lines place ≡ Some line
+    index : ℕ
+    own : slice_get (relocs_in (line_records context (start_of spans (i + place)) (end_of spans (i + place)) line)) index ≡ Some r
 
-  among_lines : (i : ℕ) (lines : List Line) (j : ℕ) (r : MachReloc) → AreLong i lines → slice_get (relocs_in (records_from context spans i lines)) j ≡ Some r → Among i lines r
-  among_lines i [] j r long e = absurd (cc)
-  among_lines i (line ∷ lines) j r long e =
+  of_line : (i : ℕ) (lines : List Line) (j : ℕ) (r : MachReloc) → slice_get (relocs_in (records_from context spans i lines)) j ≡ Some r → OfLine i lines r
+  of_line i [] j r e = absurd (cc)
+  of_line i (line ∷ lines) j r e =
       let first = relocs_in (line_records context (start_of spans i) (end_of spans i) line) in
       let more = relocs_in (records_from context spans (suc i) lines) in
       let here : i ≡ i + 0 = omega arith in
       ⊎_elim
-      (λ own.
-      let between = fill_between first (start_of spans i) (end_of spans i) j r (first_fill i line lines long) own in
-      record {
-        place = 0;
-        below = omega arith;
-        starts = subst (λ n. start_of spans n ≤ r.offset) here between.0;
-        ends = subst (λ n. r.offset + field_size r.kind ≤ end_of spans n) here between.1;
-      })
+      (λ own. record { place = 0; line = line; there = refl; index = j; own = subst (λ n. slice_get (relocs_in (line_records context (start_of spans n) (end_of spans n) line)) j ≡ Some r) here own })
       (λ later.
-      let a = among_lines (suc i) lines later.index r (rest_long i line lines long) later.there in
-      let below = a.below in
+      let a = of_line (suc i) lines later.index r later.there in
       let same : suc i + a.place ≡ i + suc a.place = omega arith in
-      record {
-        place = suc a.place;
-        below = omega arith;
-        starts = subst (λ n. start_of spans n ≤ r.offset) same a.starts;
-        ends = subst (λ n. r.offset + field_size r.kind ≤ end_of spans n) same a.ends;
-      })
+      record { place = suc a.place; line = a.line; there = a.there; index = a.index; own = subst (λ n. slice_get (relocs_in (line_records context (start_of spans n) (end_of spans n) a.line)) a.index ≡ Some r) same a.own })
       (locate first more j r (ap (λ rs. slice_get rs j) (sym (relocs_split i line lines)) ∙ e))
 
   module _ (lines : List Line) (count : length spans ≡ length lines) (long : (i : ℕ) (line : Line) → slice_get lines i ≡ Some line → IsSpan context bytes line (start_of spans i) (end_of spans i)) where
@@ -195,15 +237,28 @@ module _ (context : Context) (bytes : List ℕ) (spans : List LineSpan) where
     -- each relocation's bytes are a line's
     pub fields_in_lines : (j : ℕ) (r : MachReloc) → slice_get (relocs_in (records_from context spans 0 lines)) j ≡ Some r → FillsInLine spans r
     fields_in_lines j r e =
-        let a = among_lines 0 lines j r all_long e in
-        let below = a.below in
+        let a = of_line 0 lines j r e in
         let same : 0 + a.place ≡ a.place = omega arith in
-        record {
-          index = a.place;
-          below = omega arith;
-          starts = subst (λ n. start_of spans n ≤ r.offset) same a.starts;
-          ends = subst (λ n. r.offset + field_size r.kind ≤ end_of spans n) same a.ends;
-        }
+        let below = slice_get_within lines a.place a.line a.there in
+        let between = fill_between _ (start_of spans a.place) (end_of spans a.place) a.index r (line_fill context bytes a.line (start_of spans a.place) (end_of spans a.place) (long a.place a.line a.there)) (subst (λ n. slice_get (relocs_in (line_records context (start_of spans n) (end_of spans n) a.line)) a.index ≡ Some r) same a.own) in
+        record { index = a.place; below = omega arith; starts = between.0; ends = between.1 }
+
+    -- and none of them is a constant's
+    pub constants_unfilled : (registered : List Constant) (constants : List ConstPlace) → ((i : ℕ) (inst : Inst) → slice_get lines i ≡ Some (Put inst) → WordsApart registered constants (extent_of context inst) (start_of spans i) (end_of spans i)) → (j : ℕ) (c : ConstPlace) (k : Constant) → slice_get constants j ≡ Some c → slice_get registered c.constant.number ≡ Some k → IsOutside (relocs_in (records_from context spans 0 lines)) c.offset (length k.bytes)
+    constants_unfilled registered constants apart j c k hc hk i r e =
+        let a = of_line 0 lines i r e in
+        let same : 0 + a.place ≡ a.place = omega arith in
+        on a.line a.place a.index a.there (subst (λ n. slice_get (relocs_in (line_records context (start_of spans n) (end_of spans n) a.line)) a.index ≡ Some r) same a.own)
+      where
+        by : (e : Extent) (start end : ℕ) → WordsApart registered constants e start end → AreAmong e start end r.offset (r.offset + field_size r.kind) → IsApart c.offset (length k.bytes) r.offset (field_size r.kind)
+        by (Words size) start end h among = let starts = among.0 in let ends = among.1 in ⊎_elim (λ before. inr (omega arith)) (λ after. inl (omega arith)) (h j c k hc hk)
+        by (Island space) start end h among = absurd among
+        by (After space size more) start end h among = let starts = among.0 in let ends = among.1 in ⊎_elim (λ before. inr (omega arith)) (λ after. inl (omega arith)) (h j c k hc hk)
+        by (Around before space after) start end h among = let starts = among.0 in let ends = among.1 in ⊎_elim (λ before. inr (omega arith)) (λ after. inl (omega arith)) (h.0 j c k hc hk)
+
+        on : (line : Line) (n m : ℕ) → slice_get lines n ≡ Some line → slice_get (relocs_in (line_records context (start_of spans n) (end_of spans n) line)) m ≡ Some r → IsApart c.offset (length k.bytes) r.offset (field_size r.kind)
+        on (Put inst) n m there own = by (extent_of context inst) (start_of spans n) (end_of spans n) (apart n inst there) (inst_among context bytes inst (start_of spans n) (end_of spans n) m r (long n (Put inst) there) own)
+        on (Bind label) n m there own = absurd (cc)
 
     -- no two share a byte
     pub fields_apart : ((i : ℕ) → suc i < length lines → IsGap context.flags bytes (end_of spans i) (start_of spans (suc i))) → (j k : ℕ) (r s : MachReloc) → j ≢ k → slice_get (relocs_in (records_from context spans 0 lines)) j ≡ Some r → slice_get (relocs_in (records_from context spans 0 lines)) k ≡ Some s → IsApart r.offset (field_size r.kind) s.offset (field_size s.kind)

@@ -1,5 +1,5 @@
 -- What stands in the buffer is what the code reports of its lines: how long each span is, and what stands between two.
-use Rattle.std.proofs.Common.{◌≡◌, ℕ, zero, suc, ◌+◌, ◌^◌, ◌<◌, ◌≤◌, inl, ⊎_elim, List, [], ◌∷◌, length, map, Some, None, sym, ap, subst, ◌∙◌, arith}
+use Rattle.std.proofs.Common.{◌≡◌, ℕ, zero, suc, ◌+◌, ◌^◌, ◌<◌, ◌≤◌, List, [], ◌∷◌, length, map, Some, None, sym, ap, subst, ◌∙◌, arith}
 use Rattle.std.specs.Prelude.{slice_get}
 use Rattle.rv_base.specs.declared.constant.Constant.{Constant}
 use Rattle.rv_base.specs.declared.flags.IsaFlags.{IsaFlags}
@@ -8,11 +8,11 @@ use Rattle.std.specs.List.{AllByRecursion}
 use Rattle.rv_inst.specs.Context.{context_of}
 use Rattle.rv_inst.specs.declared.inst.Line.{Line}
 use Rattle.rv_inst.specs.declared.inst.Line.TheVariants.{Inst as Put, Bind}
-use Rattle.rv_inst.specs.declared.inst.Inst.{Inst}
 use Rattle.rv_inst.specs.declared.job.Job.{Job}
 use Rattle.rv_inst.specs.declared.code.Code.{Code}
 use Rattle.rv_inst.specs.LabelUse.{label_kinds}
 use Rattle.rv_inst.specs.Sizes.{Extent, Words, Island, After, Around, space_in, words_in, extent_of, line_sum}
+use Rattle.rv_inst.specs.Relocations.{IsOutside}
 use Rattle.rv_inst.specs.Rules.{broken_rule}
 use Rattle.mach_records.specs.declared.records.ConstPlace.{ConstPlace}
 use Rattle.mach_records.specs.declared.records.MachReloc.{MachReloc}
@@ -25,13 +25,14 @@ use Rattle.rv_emit.specs.Emitted.{Buffer}
 use Rattle.rv_emit.specs.Puts.{AllBytes}
 use Rattle.rv_emit.specs.Standing.{SpansIn, IsFinishedTo}
 use Rattle.rv_emit.proofs.Laws.{adds_end, gap_is, words_within}
-use Rattle.rv_asm.specs.Reported.{start_of, end_of, end_before, binds_from, returns_from, records_from, IsGap, IsSized, IsSpan, IsShort, Reported}
+use Rattle.rv_asm.specs.Reported.{start_of, end_of, end_before, binds_from, returns_from, records_from, IsGap, IsSized, IsSpan, IsShort, StandApart, Reported}
 use Rattle.rv_asm.specs.LinesInBuffer.{LineStands, LinesStand}
 use Rattle.rv_asm.proofs.ExitPoints.{AllBound}
 use Rattle.rv_asm.proofs.Extents.{spans_within, words_more}
 use Rattle.rv_asm.proofs.Handlers.{handlers_reported}
 use Rattle.rv_asm.proofs.LinesJoin.{line_at}
-use Rattle.rv_asm.proofs.Relocations.{fields_in_lines, fields_apart}
+use Rattle.rv_asm.proofs.BytesThere.{data_there, trap_there, trap_if_there}
+use Rattle.rv_asm.proofs.Relocations.{fields_in_lines, constants_unfilled, fields_apart}
 
 pub all_bytes : (bytes : List ℕ) → AllByRecursion (λ b. b < 256) bytes → AllBytes bytes
 all_bytes [] h k lt = absurd (omega arith)
@@ -75,6 +76,11 @@ module _ (job : Job) (code : Code) (b : Buffer) (built : LinesStand (context_of 
   spans_joined : (i : ℕ) → suc i < length job.lines → IsGap job.flags code.bytes (end_of code.lines i) (start_of code.lines (suc i))
   spans_joined i lt = let next = line_at job.lines (suc i) lt in gap_is (context_of job) (shape_of b) code.bytes f small (end_of code.lines i) (start_of code.lines (suc i)) (built.each (suc i) next.0 next.1).gap
 
+  words_apart : StandApart (context_of job) job.lines code.lines code.constants
+  words_apart i inst h =
+      let stood = built.each i (Put inst) h in
+      words_more job.constants (constants_of b) code.constants (length (bytes_of b)) (extent_of (context_of job) inst) (start_of code.lines i) (end_of code.lines i) (spans_within job.flags (shape_of b) (extent_of (context_of job) inst) (start_of code.lines i) (end_of code.lines i) stood.there.2) stood.ends (λ j c hc. put_after.fresh j c (constant_put j c hc)) (built.apart i inst h)
+
   reloc_of : code.relocs ≡ relocs_in (records_of b) → (j : ℕ) (r : MachReloc) → slice_get code.relocs j ≡ Some r → slice_get (relocs_in (records_from (context_of job) code.lines 0 job.lines)) j ≡ Some r
   reloc_of relocs j r e = ap (λ (rs : List MachReloc). slice_get rs j) (sym (relocs ∙ ap relocs_in built.records)) ∙ e
 
@@ -94,7 +100,8 @@ module _ (job : Job) (code : Code) (b : Buffer) (built : LinesStand (context_of 
     constants = ap (map (λ (c : ConstPlace). c.constant)) constants ∙ f.finishes.listed ∙ built.named;
     placed = subst (HasConstants job.constants code.bytes) (sym constants) (subst (λ (cs : List Constant). HasConstants cs code.bytes f.finishes.put.constants) built.registered f.finishes.constants);
     ascend = λ i j c d k lt hc hd hk. (put_after.in_turn built.in_turn).ascend i j c d k lt (constant_put i c hc) (constant_put j d hd) (ap (λ (ks : List Constant). slice_get ks c.constant.number) (put_after.registered ∙ built.registered) ∙ hk);
-    apart = λ i inst h. let stood = built.each i (Put inst) h in words_more job.constants (constants_of b) code.constants (length (bytes_of b)) (extent_of (context_of job) inst) (start_of code.lines i) (end_of code.lines i) (spans_within job.flags (shape_of b) (extent_of (context_of job) inst) (start_of code.lines i) (end_of code.lines i) stood.there.2) stood.ends (λ j c hc. put_after.fresh j c (constant_put j c hc)) (built.apart i inst h);
+    unfilled = λ j c k hc hk. subst (λ (rs : List MachReloc). IsOutside rs c.offset (length k.bytes)) (sym (relocs ∙ ap relocs_in built.records)) (constants_unfilled (context_of job) code.bytes code.lines job.lines built.count spans_long job.constants code.constants words_apart j c k hc hk);
+    apart = words_apart;
     relocs = relocs ∙ ap relocs_in built.records;
     traps = traps ∙ ap traps_in built.records;
     call_sites = call_sites ∙ ap calls_in built.records;
@@ -104,4 +111,7 @@ module _ (job : Job) (code : Code) (b : Buffer) (built : LinesStand (context_of 
     unwinds = unwinds ∙ ap unwinds_in built.records;
     fields = λ j r e. fields_in_lines (context_of job) code.bytes code.lines job.lines built.count spans_long j r (reloc_of relocs j r e);
     fields_apart = λ j k r s differ e g. fields_apart (context_of job) code.bytes code.lines job.lines built.count spans_long spans_joined j k r s differ (reloc_of relocs j r e) (reloc_of relocs k s g);
+    raw_data = data_there job code b built f relocs;
+    udf = trap_there job code b built f relocs;
+    trap_if = trap_if_there job code b built f relocs;
   }

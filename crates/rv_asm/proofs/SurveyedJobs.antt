@@ -1,6 +1,6 @@
 -- What a pass over lines keeps from one line to the next; and that a surveyed job is refused for a label that isn't bound, if at
 -- all.
-use Rattle.std.proofs.Common.{◌≡◌, ◌≤◌, ℕ, suc, ◌+◌, Bool, true, false, List, [], ◌∷◌, Option, Some, None, Result, refl, sym, ap, ◌∙◌, subst, arith}
+use Rattle.std.proofs.Common.{◌≡◌, ◌≤◌, ℕ, suc, ◌+◌, Bool, true, false, List, ◌∷◌, Option, Some, None, Result, refl, sym, ap, ◌∙◌, subst, arith}
 use Rattle.std.specs.Prelude.{◌||◌, nat_lt, if◌then◌else◌}
 use Rattle.std.specs.List.{list_any}
 use mathlib.Core.Path.{fun_ext}

@@ -1,29 +1,26 @@
 -- The uses after which no island stands: whose they are, how far they reach, and how many.
 use Rattle.std.proofs.Common.{◌≡◌, ℕ, zero, suc, ◌+◌, ◌*◌, ◌<◌, ◌≤◌, ◌⊎◌, inl, inr, ⊎_elim, Bool, true, false, cond, not, ◌&&◌, ◌||◌, List, [], ◌∷◌, length, map, take, drop, Option, Some, None, refl, ap, sym, ◌∙◌, subst, arith}
-use Rattle.std.specs.Prelude.{slice_get, nat_lt, is_none, if◌then◌else◌, ◌-◌, pos}
+use Rattle.std.specs.Prelude.{slice_get, nat_lt, is_none}
 use Rattle.std.specs.List.{list_any}
 use Rattle.std.proofs.lemmas.Bool.{true≢false, ltb-true, leb-false, or_parts}
 use Rattle.std.proofs.lemmas.Option.{slice_get_within}
 use Rattle.std.proofs.lemmas.List.{length-append, take_all}
 use Rattle.mach_labels.specs.Table.{first_inner}
 use Rattle.rv_base.specs.declared.call.TryCallInfo.{TryCallInfo}
-use Rattle.rv_base.specs.declared.flags.IsaFlags.{IsaFlags}
-use Rattle.rv_base.specs.Regs.{number_of}
 use Rattle.rv_inst.specs.Context.{Context}
 use Rattle.rv_inst.specs.declared.code.LineSpan.{LineSpan}
-use Rattle.rv_inst.specs.declared.error.Rule.{Rule}
 use Rattle.rv_inst.specs.declared.inst.Inst.{Inst}
 use Rattle.rv_inst.specs.declared.inst.CondBrTarget.TheVariants.{Label, Fallthrough}
 use Rattle.rv_inst.specs.declared.inst.Line.{Line}
 use Rattle.rv_inst.specs.declared.inst.Line.TheVariants.{Inst as Put, Bind}
 use Rattle.rv_inst.specs.declared.label_use.LabelUse.{LabelUse}
-use Rattle.rv_inst.specs.declared.label_use.LabelUse.TheVariants.{Jal20, B12, PCRelLo12I, RVCJump}
+use Rattle.rv_inst.specs.declared.label_use.LabelUse.TheVariants.{PCRelLo12I}
 use Rattle.rv_inst.specs.Operands.{targets_of, ways_of, ways_by, inst_ways, inst_labels, try_call_of}
 use Rattle.rv_inst.specs.Sizes.{extent_of}
 use Rattle.rv_inst.specs.declared.targets.Targets.{Targets}
 use Rattle.rv_inst.specs.declared.targets.Targets.TheVariants.{Nowhere, Jumps, Branches, Refers, RefersConstant}
 use Rattle.mach_uses.specs.Labels.{constant_label}
-use Rattle.rv_inst.specs.LabelUse.{label_kinds, has_veneer_of, forward_of}
+use Rattle.rv_inst.specs.LabelUse.{label_kinds, has_veneer_of}
 use Rattle.rv_inst.specs.declared.error.Rule.TheVariants as rule_of
 use Rattle.rv_inst.proofs.Rules.{breaks_none}
 use Rattle.rv_inst.specs.Rules.{inst_rule, is_buffer_label}
@@ -32,8 +29,8 @@ use Rattle.mach_uses.specs.Reach.{deadline, deadlines, due_by, is_needed, is_nee
 use Rattle.mach_buffer.specs.Buffer.{shape_of, bytes_of, uses_of, place_of}
 use Rattle.mach_buffer.proofs.Laws.{both_lists, deadlines_append, due_le_length}
 use Rattle.rv_emit.specs.Emitted.{Buffer, pending}
-use Rattle.rv_inst.specs.Forms.{jump_kind, jump_size, short_jalr}
-use Rattle.rv_inst.specs.Uses.{use_at, target_uses, target_reach, jump_reach, inst_reach, uses_by, uses_in}
+use Rattle.rv_inst.specs.Forms.{jump_kind}
+use Rattle.rv_inst.specs.Uses.{use_at, target_uses, uses_by, uses_in}
 use Rattle.rv_emit.proofs.Laws.{deadlines_as, Each, each_none, each_more, uses_bare, pending_at, HasJump, has_jump, uses_least, few_ways}
 use Rattle.rv_asm.specs.Reported.{start_of, end_of}
 use Rattle.rv_asm.specs.LinesInBuffer.{LineStands, LinesStand}

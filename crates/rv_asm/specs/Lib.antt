@@ -11,3 +11,5 @@ pub mod AfterLastIsland
 pub mod Reported
 pub mod SavedRegisters
 pub mod Survey
+pub mod Jumps
+pub mod StraightUses

@@ -12,10 +12,11 @@ use Rattle.rv_inst.specs.declared.job.Job.{Job}
 use Rattle.rv_listing.specs.Reading.{reads}
 use Rattle.rv_listing.specs.CodeRanges.{CodeFits}
 use Rattle.rv_listing.specs.Report.{report}
-use Rattle.rv_stream.specs.Ends.{Rose, TookFront}
+use Rattle.rv_stream.specs.Ends.{Rose, TookFront, Gave}
 use Rattle.rv_asm.specs.Refusal.{refusal}
 use Rattle.rv_asm.specs.Reported.{Reported}
 use Rattle.rv_asm.specs.Simulation.{RunsAsListed, HasOperations}
+use Rattle.rv_asm.specs.Jumps.{HasJumps}
 use Rattle.rv_asm.specs.Reach.{InReach}
 use Rattle.rv_asm.specs.declared.outcome.Outcome.{Outcome}
 use Rattle.rv_asm.specs.declared.outcome.Outcome.TheVariants as ends
@@ -68,10 +69,10 @@ status_of ends.OutOfMemory = 8
 
 -- ---- what an input means
 
--- the code of the job that the input means, which reports its lines and runs as they say, in operations as short as they have, with
--- no island early, and its numbers in the ranges in which no other code has its report
+-- the code of the job that the input means, which reports its lines and runs as they say, in operations as short as they have, whose
+-- jumps go straight where they can, with no island early, and its numbers in the ranges in which no other code has its report
 abbrev pub IsCodeOf : List ℕ → Code → Type 0
-IsCodeOf input code = (job : Job) × (reads input ≡ Ok job) × (refusal job ≡ None) × Reported job code × RunsAsListed job code × HasOperations job code × InReach job code × CodeFits code
+IsCodeOf input code = (job : Job) × (reads input ≡ Ok job) × (refusal job ≡ None) × Reported job code × RunsAsListed job code × HasOperations job code × HasJumps job code × InReach job code × CodeFits code
 
 -- the input means a job that is refused so; never when out of memory
 abbrev pub IsRefused : List ℕ → EmitError → Type 0
@@ -96,6 +97,7 @@ Means input ends.OutOfMemory = ⊥
 pub record Call : Type 0 where
   pub words : ℕ
   pub left : Option (List ℕ)
+  pub left_after : Option (List ℕ)
   pub read_faults : ℕ
   pub read_faults_after : ℕ
   pub taken : Option (List ℕ)
@@ -103,8 +105,8 @@ pub record Call : Type 0 where
   pub write_faults : ℕ
   pub write_faults_after : ℕ
 
-abbrev pub call : ℕ → Option (List ℕ) → ℕ → ℕ → Option (List ℕ) → Option (List ℕ) → ℕ → ℕ → Call
-call words left r r_after taken taken_after w w_after = record { words = words; left = left; read_faults = r; read_faults_after = r_after; taken = taken; taken_after = taken_after; write_faults = w; write_faults_after = w_after }
+abbrev pub call : ℕ → Option (List ℕ) → Option (List ℕ) → ℕ → ℕ → Option (List ℕ) → Option (List ℕ) → ℕ → ℕ → Call
+call words left left_after r r_after taken taken_after w w_after = record { words = words; left = left; left_after = left_after; read_faults = r; read_faults_after = r_after; taken = taken; taken_after = taken_after; write_faults = w; write_faults_after = w_after }
 
 abbrev pub input_limit : ℕ
 input_limit = 16777216
@@ -117,10 +119,11 @@ Asked call = call.words ≡ 0
 abbrev pub Read : Call → Outcome → Type 0
 Read call outcome = (input : List ℕ) × IfSome call.left (λ left. input ≡ left) × (length input ≤ input_limit) × Means input outcome
 
--- why a call has a text to write, and the outcome once it is written
+-- why a call has a text to write, and the outcome once it is written; too long is what gave more bytes than may be read, whatever
+-- would have come after them
 abbrev pub Due : Call → Outcome → Type 0
 Due call ends.Usage = 0 < call.words
-Due call ends.TooLong = Asked call × IfSome call.left (λ left. input_limit < length left)
+Due call ends.TooLong = Asked call × Gave (λ n. input_limit < n) call.left call.left_after
 Due call outcome = Asked call × Read call outcome
 
 -- the text that was due was written
@@ -131,9 +134,9 @@ Wrote call outcome = Due call outcome × Appends call.taken call.taken_after (te
 abbrev pub WroteFront : Call → Type 0
 WroteFront call = (outcome : Outcome) × Due call outcome × TookFront call.taken call.taken_after (text_of outcome)
 
--- why a call ended so, and what it left written
+-- why a call ended so, and what it left written; a fault of the source came before more bytes than may be read
 abbrev pub Ended : Call → Outcome → Type 0
-Ended call ends.ReadFault = Asked call × Rose call.read_faults call.read_faults_after × Keeps call.taken call.taken_after
+Ended call ends.ReadFault = Asked call × Rose call.read_faults call.read_faults_after × Gave (λ n. n ≤ input_limit) call.left call.left_after × Keeps call.taken call.taken_after
 Ended call ends.WriteFault = Rose call.write_faults call.write_faults_after × WroteFront call
 Ended call ends.OutOfMemory = Keeps call.taken call.taken_after ⊎ WroteFront call
 Ended call outcome = Wrote call outcome

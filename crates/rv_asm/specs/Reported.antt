@@ -2,14 +2,17 @@
 use Rattle.std.specs.Prelude.{◌≡◌, ◌≢◌, ℕ, zero, suc, ◌+◌, ◌-◌, ◌<◌, ◌≤◌, ◌⊎◌, nat_eq, if◌then◌else◌, List, [], ◌∷◌, ◌++◌, length, map, slice_get, Option, Some, None, option_map, unwrap_or}
 use Rattle.rv_base.specs.declared.constant.Constant.{Constant}
 use Rattle.rv_base.specs.declared.constant.VCodeConstant.{VCodeConstant}
+use Rattle.rv_base.specs.declared.trap.TrapCode.{TrapCode}
+use Rattle.rv_ops.specs.declared.compare.IntegerCompare.{IntegerCompare}
 use Rattle.rv_inst.specs.Context.{Context, context_of}
 use Rattle.rv_inst.specs.declared.inst.Inst.{Inst}
+use Rattle.rv_inst.specs.declared.inst.Inst.TheVariants.{RawData, TrapIf, Udf}
 use Rattle.rv_inst.specs.declared.inst.Line.{Line}
 use Rattle.rv_inst.specs.declared.inst.Line.TheVariants.{Inst as Put, Bind}
 use Rattle.rv_inst.specs.declared.job.Job.{Job}
 use Rattle.rv_inst.specs.Islands.{IsIsland}
 use Rattle.rv_inst.specs.Operands.{inst_constant, named_by}
-use Rattle.rv_inst.specs.Sizes.{Extent, Words, Island, After, Around, words_in, extent_of, island_space}
+use Rattle.rv_inst.specs.Sizes.{Extent, Words, Island, After, Around, words_in, extent_of, island_space, trap_size}
 use Rattle.rv_inst.specs.MostBytes.{most_bytes}
 use Rattle.rv_base.specs.declared.flags.IsaFlags.{IsaFlags}
 use Rattle.rv_inst.specs.declared.code.Code.{Code}
@@ -20,11 +23,11 @@ use Rattle.mach_uses.specs.declared.uses.LabelPlace.{LabelPlace}
 use Rattle.mach_records.specs.declared.records.MachRecord.{MachRecord}
 use Rattle.mach_records.specs.Records.{relocs_in, traps_in, calls_in, tries_in, patches_in, maps_in, unwinds_in}
 use Rattle.mach_records.specs.declared.records.ConstPlace.{ConstPlace}
-use Rattle.mach_buffer.specs.Constants.{HasConstants}
-use Rattle.mach_uses.specs.Windows.{IsApart}
+use Rattle.mach_buffer.specs.Constants.{HasConstants, zeros}
+use Rattle.mach_uses.specs.Windows.{window, IsApart}
 use Rattle.mach_records.specs.declared.records.MachReloc.{MachReloc}
 use Rattle.rv_inst.specs.Records.{inst_records}
-use Rattle.rv_inst.specs.Relocations.{field_size}
+use Rattle.rv_inst.specs.Relocations.{field_size, IsOutside}
 
 abbrev pub start_of : List LineSpan → ℕ → ℕ
 start_of spans i = unwrap_or (option_map (λ (s : LineSpan). s.start) (slice_get spans i)) 0
@@ -138,6 +141,11 @@ pub record FillsInLine (spans : List LineSpan) (r : MachReloc) : Type 0 where
   pub starts : start_of spans index ≤ r.offset
   pub ends : r.offset + field_size r.kind ≤ end_of spans index
 
+-- these bytes stand in the code at an offset, and no relocation fills one of them
+pub record Stands (code : Code) (at : ℕ) (bytes : List ℕ) : Type 0 where
+  pub there : window code.bytes at (length bytes) ≡ bytes
+  pub unfilled : IsOutside code.relocs at (length bytes)
+
 -- Every line has one span, in order, as long as the line, and no longer than lines of its kind may be, an island in it apart. The
 -- first starts at 0; between two stands nothing, or an island.
 -- The code's end is that of the last line, its labels are the binds, its returns are those of the calls, and its records are
@@ -146,7 +154,8 @@ pub record FillsInLine (spans : List LineSpan) (r : MachReloc) : Type 0 where
 -- Each constant that a line names has one offset, a multiple of its alignment, at which its bytes stand, and no other constant
 -- has one; they are in the order of their first use. In this order each ends before the next one begins, and none has a byte
 -- among an instruction's words, so their bytes are those of islands, or come after all lines. The bytes that a relocation fills
--- are in the span of a line, and no other relocation fills one of them.
+-- are in the span of a line, and neither a constant nor another relocation has one of them. Data stand as they are listed, and traps
+-- are zero bytes, two or four.
 pub record Reported (job : Job) (code : Code) : Type 0 where
   pub count : length code.lines ≡ length job.lines
   pub indices : (i : ℕ) (span : LineSpan) → slice_get code.lines i ≡ Some span → span.index ≡ i
@@ -162,6 +171,7 @@ pub record Reported (job : Job) (code : Code) : Type 0 where
   pub constants : map (λ (c : ConstPlace). c.constant) code.constants ≡ constants_named job.lines
   pub placed : HasConstants job.constants code.bytes code.constants
   pub ascend : (i j : ℕ) (c d : ConstPlace) (k : Constant) → i < j → slice_get code.constants i ≡ Some c → slice_get code.constants j ≡ Some d → slice_get job.constants c.constant.number ≡ Some k → c.offset + length k.bytes ≤ d.offset
+  pub unfilled : (j : ℕ) (c : ConstPlace) (k : Constant) → slice_get code.constants j ≡ Some c → slice_get job.constants c.constant.number ≡ Some k → IsOutside code.relocs c.offset (length k.bytes)
   pub apart : StandApart (context_of job) job.lines code.lines code.constants
   pub relocs : code.relocs ≡ relocs_in (records_from (context_of job) code.lines 0 job.lines)
   pub traps : code.traps ≡ traps_in (records_from (context_of job) code.lines 0 job.lines)
@@ -172,3 +182,6 @@ pub record Reported (job : Job) (code : Code) : Type 0 where
   pub unwinds : code.unwinds ≡ unwinds_in (records_from (context_of job) code.lines 0 job.lines)
   pub fields : (j : ℕ) (r : MachReloc) → slice_get code.relocs j ≡ Some r → FillsInLine code.lines r
   pub fields_apart : (j k : ℕ) (r s : MachReloc) → j ≢ k → slice_get code.relocs j ≡ Some r → slice_get code.relocs k ≡ Some s → IsApart r.offset (field_size r.kind) s.offset (field_size s.kind)
+  pub raw_data : (i : ℕ) (bytes : List ℕ) → slice_get job.lines i ≡ Some (Put (RawData bytes)) → Stands code (start_of code.lines i) bytes
+  pub udf : (i : ℕ) (cause : TrapCode) → slice_get job.lines i ≡ Some (Put (Udf cause)) → Stands code (start_of code.lines i) (zeros (trap_size job.flags))
+  pub trap_if : (i : ℕ) (cmp : IntegerCompare) (cause : TrapCode) → slice_get job.lines i ≡ Some (Put (TrapIf cmp cause)) → Stands code (start_of code.lines i + 4) (zeros (trap_size job.flags))

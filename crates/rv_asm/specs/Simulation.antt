@@ -5,7 +5,7 @@ use Rattle.mach_buffer.specs.Constants.{offset_in}
 use Rattle.rv_inst.specs.Records.{IsTrapAt}
 use Rattle.rv_inst.specs.declared.inst.Inst.{Inst}
 use Rattle.rv_inst.specs.declared.inst.Line.{Line}
-use Rattle.rv_inst.specs.declared.inst.Line.TheVariants.{Inst as Put, Bind}
+use Rattle.rv_inst.specs.declared.inst.Line.TheVariants.{Inst as Put}
 use Rattle.rv_inst.specs.declared.job.Job.{Job}
 use Rattle.rv_inst.specs.Context.{context_of}
 use Rattle.rv_inst.specs.OneOperation.{operation_of}
@@ -127,8 +127,9 @@ IsBack index (Stop i) = ⊥
 IsBack index (Trapped i at) = ⊥
 IsBack index (InData i) = ⊥
 
--- From this point the machine comes, in some steps, where one line leads, with values that are the same. To a line that
--- doesn't stand after this one it takes a step: so where the listing runs without end, the machine does.
+-- From this point the machine comes, in some steps, where one line leads, with values that are the same; and the code still stands
+-- placed, so a run goes on from there. To a line that doesn't stand after this one it takes a step: so where the listing runs without
+-- end, the machine does.
 pub record Comes (job : Job) (code : Code) (base : ℕ) (symbols slots : Addresses) (p : Point) (v : Values) (s : State) : Type 0 where
   pub steps : ℕ
   pub point : Point
@@ -142,6 +143,7 @@ pub record Comes (job : Job) (code : Code) (base : ℕ) (symbols slots : Address
   pub same : Same values state.values
   pub is_state : IsState state
   pub are_values : AreValues values
+  pub placed : IsPlaced code base symbols slots state.values.mem
 
 -- The code runs as its job says: from the start of every line, wherever the code is placed and its symbols are, and from all values
 -- from which the line doesn't write on the code; and from where each call returns, with all values.

@@ -63,7 +63,7 @@ fn outcome_of_call<S: Source, K: Sink>(
     source: &mut S,
     sink: &mut K,
 ) -> Outcome
-    ensures ended { Ended (call (length words.now) (S.left source.old) (S.faults source.old) (S.faults source.new) (K.taken sink.old) (K.taken sink.new) (K.faults sink.old) (K.faults sink.new)) result }
+    ensures ended { Ended (call (length words.now) (S.left source.old) (S.left source.new) (S.faults source.old) (S.faults source.new) (K.taken sink.old) (K.taken sink.new) (K.faults sink.old) (K.faults sink.new)) result }
     ensures unread { 0 < length words.now → source.new ≡ source.old }
 {
     if 0 < words.len() {
@@ -89,9 +89,9 @@ pub fn run<S: Source, K: Sink>(
     source: &mut S,
     sink: &mut K,
 ) -> Outcome
-    ensures ended { Ended (call (length words.now) (S.left source.old) (S.faults source.old) (S.faults source.new) (K.taken sink.old) (K.taken sink.new) (K.faults sink.old) (K.faults sink.new)) result }
+    ensures ended { Ended (call (length words.now) (S.left source.old) (S.left source.new) (S.faults source.old) (S.faults source.new) (K.taken sink.old) (K.taken sink.new) (K.faults sink.old) (K.faults sink.new)) result }
     ensures unread { 0 < length words.now → source.new ≡ source.old }
-    ensures settled { IsSettled (call (length words.now) (S.left source.old) (S.faults source.old) (S.faults source.new) (K.taken sink.old) (K.taken sink.new) (K.faults sink.old) (K.faults sink.new)) result }
+    ensures settled { IsSettled (call (length words.now) (S.left source.old) (S.left source.new) (S.faults source.old) (S.faults source.new) (K.taken sink.old) (K.taken sink.new) (K.faults sink.old) (K.faults sink.new)) result }
 {
     outcome_of_call(alloc, words, source, sink)
 }

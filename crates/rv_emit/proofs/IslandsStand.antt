@@ -78,7 +78,7 @@ via_goes_on flags bytes kind u to g fits small =
 
 module _ (context : Context) (f : Shape LabelUse) (bytes : List ℕ) (fin : IsFinishedTo f bytes) (small : length bytes ≤ 2 ^ 64) where
   -- what a use that goes by a veneer of the buffer finds there
-  veneer_goes_on : (u : Use LabelUse) (at to : ℕ) → fin.finishes.put.place u.label.number ≡ Some to → ByVeneer label_kinds fin.finishes.put bytes u at → GoesOn context.flags bytes at to
+  pub veneer_goes_on : (u : Use LabelUse) (at to : ℕ) → fin.finishes.put.place u.label.number ≡ Some to → ByVeneer label_kinds fin.finishes.put bytes u at → GoesOn context.flags bytes at to
   veneer_goes_on u at to bound g =
       subst (λ n. GoesOn context.flags bytes n to) g.here
       (subst (GoesOn context.flags bytes g.via.at) (same_Some g.to to (sym g.bound ∙ bound)) (via_goes_on context.flags bytes u.kind u g.to g.via fin.all_bytes small))

@@ -29,6 +29,8 @@ pub use Rattle.rv_emit.proofs.PlainSlots.{words_long}
 -- what was put into a buffer, in the finished code
 pub use Rattle.rv_emit.proofs.Standing.{place_within, slots_stand, gap_stands, parts_stand}
 pub use Rattle.rv_emit.proofs.IslandsStand.{island_is, gap_is}
+-- where a jump or a branch aims
+pub use Rattle.rv_emit.proofs.LabelsReached.{GoesToLabel, label_reached}
 -- ways on in the finished code
 pub use Rattle.rv_code.proofs.Ways.{comes_both, leads_here, leads_both}
 -- pending uses and their deadlines
@@ -42,7 +44,7 @@ pub use Rattle.rv_emit.proofs.Bounds.{HasJump, has_jump, uses_least, few_ways, w
 pub use Rattle.rv_emit.proofs.MostBytes.{words_within, most_in_sequence, most_counts}
 pub use Rattle.rv_emit.proofs.Islands.{deadlines_as}
 pub use Rattle.rv_code.proofs.NumberRuns.{bits_back}
-pub use Rattle.rv_emit.proofs.Fields.{ends_later}
+pub use Rattle.rv_emit.proofs.Fields.{ends_later, clear_there, slot_fields_end}
 -- a window of bytes: its bytes and its length
 pub use Rattle.rv_emit.proofs.PlacedBytes.{window_byte, window_length}
 -- the operation of an instruction of one machine word, where it starts

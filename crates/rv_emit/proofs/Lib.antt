@@ -4,6 +4,7 @@ mod Encoded
 mod Islands
 mod IslandsStand
 mod JumpAndIsland
+mod LabelsReached
 pub mod Laws
 mod OwnLabels
 mod OwnSlots
