@@ -149,10 +149,7 @@ fn pad(out: &mut Vec<u8>) -> Result<(), OutOfMemory>
 fn put_names(out: &mut Vec<u8>) -> Result<(), OutOfMemory>
     ensures { OnOk result (out.new.items ≡ out.old.items ++ section_names) }
 {
-    put(
-        out,
-        b"\0.text\0.rela.text\0.symtab\0.strtab\0.shstrtab\0",
-    )
+    put(out, b"\0.text\0.rela.text\0.symtab\0.strtab\0.shstrtab\0")
 }
 
 fn tables(alloc: Global, symbols: &[Symbol]) -> Result<(Vec<u8>, Vec<u8>), OutOfMemory>
