@@ -36,13 +36,13 @@ r_decodes flags op w opcode rd funct3 rs1 rs2 funct7 is h = on (opcode == OP) re
     of_op : opcode ≡ OP → option_map Alu (op_entry funct7 funct3) ≡ Some op → decode flags w ≡ Some (decoded op rd rs1 rs2 (pos 0))
     of_op this is =
         opcode_decodes flags w OP (h.opcode_is ∙ this) refl
-        ∙ (λ i. option_map (λ a. decoded (Alu a) (h.rd_is i) (h.rs1_is i) (h.rs2_is i) (pos 0)) (op_entry (h.funct7_is i) (h.funct3_is i)))
-        ∙ entry Alu (op_entry funct7 funct3) op rd rs1 rs2 (pos 0) is
+        ∙ first _ _ (decoded op rd rs1 rs2 (pos 0))
+        ((λ i. option_map (λ a. decoded (Alu a) (h.rd_is i) (h.rs1_is i) (h.rs2_is i) (pos 0)) (op_entry (h.funct7_is i) (h.funct3_is i))) ∙ entry Alu (op_entry funct7 funct3) op rd rs1 rs2 (pos 0) is)
 
     of_op_32 : opcode ≡ OP_32 → option_map Alu (op_32_entry funct7 funct3) ≡ Some op → decode flags w ≡ Some (decoded op rd rs1 rs2 (pos 0))
     of_op_32 this is =
         opcode_decodes flags w OP_32 (h.opcode_is ∙ this) refl
-        ∙ first _ (option_map (λ op. unary_layout w (Alu op)) (unary_op_32_entry (word_funct12 w) (word_funct3 w))) (decoded op rd rs1 rs2 (pos 0))
+        ∙ first _ _ (decoded op rd rs1 rs2 (pos 0))
         ((λ i. option_map (λ a. decoded (Alu a) (h.rd_is i) (h.rs1_is i) (h.rs2_is i) (pos 0)) (op_32_entry (h.funct7_is i) (h.funct3_is i))) ∙ entry Alu (op_32_entry funct7 funct3) op rd rs1 rs2 (pos 0) is)
 
     on_32 : (b : Bool) → (opcode == OP_32) ≡ b → (if b then option_map Alu (op_32_entry funct7 funct3) else None) ≡ Some op → decode flags w ≡ Some (decoded op rd rs1 rs2 (pos 0))
