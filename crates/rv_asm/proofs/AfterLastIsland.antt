@@ -23,7 +23,8 @@ use Rattle.rv_emit.proofs.Laws.{Each, pending_at, pending_still, direct_never_pe
 use Rattle.rv_asm.specs.Reported.{start_of}
 use Rattle.rv_asm.specs.Reported.{end_before}
 use Rattle.rv_asm.specs.LinesInBuffer.{LinesStand, BindPut}
-use Rattle.rv_asm.specs.Reach.{is_island_of, is_island, bound_by}
+use Rattle.rv_asm.specs.Reach.{is_island_of, is_island}
+use Rattle.rv_asm.specs.AfterLastIsland.{bound_by}
 use Rattle.rv_asm.specs.AfterLastIsland.{uses_after_island, passing, EndsIn, AfterLastIsland}
 use Rattle.rv_asm.proofs.AppendedLines.{InstAppends, LineAppends}
 use Rattle.rv_asm.proofs.Extents.{Lacks, lacks}

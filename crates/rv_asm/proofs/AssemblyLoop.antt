@@ -22,7 +22,7 @@ use Rattle.rv_inst.specs.Sizes.{line_sum}
 use Rattle.rv_asm.specs.LinesInBuffer.{LinesStand, Named, Sized, CanPut, LinePut, ReturnsWithin}
 use Rattle.rv_asm.specs.Reported.{line_returns, returns_from}
 use Rattle.rv_asm.specs.AfterLastIsland.{AfterLastIsland}
-use Rattle.rv_asm.specs.Reach.{NotEarly, ReachesOn}
+use Rattle.rv_asm.specs.Reach.{NotEarly}
 use Rattle.rv_asm.specs.FinishedCode.{IsFinished}
 use Rattle.rv_asm.specs.StraightUses.{GoStraight}
 use Rattle.rv_asm.proofs.LinesInBuffer.{line_added}
@@ -35,7 +35,7 @@ use Rattle.rv_asm.proofs.OneLineMore.{built_none, built_next}
 use Rattle.rv_asm.proofs.LabelNames.{named_none, named_next, low_label}
 use Rattle.rv_asm.proofs.Sizes.{sized_none, sized_next}
 use Rattle.rv_asm.proofs.AfterLastIsland.{since_none, since_next}
-use Rattle.rv_asm.proofs.NoEarlyIsland.{early_none, early_next, reaches_none, reaches_next}
+use Rattle.rv_asm.proofs.NoEarlyIsland.{early_none, early_next}
 
 -- after so many lines
 pub record SoFar (context : Context) (lines : List Line) (count : ℕ) (spans : List LineSpan) (b : Buffer) : Type 0 where
@@ -44,7 +44,6 @@ pub record SoFar (context : Context) (lines : List Line) (count : ℕ) (spans : 
   pub sized : Sized context (take count lines) b
   pub since : AfterLastIsland context (take count lines) spans b
   pub early : NotEarly context (take count lines) spans
-  pub reach : ReachesOn context (take count lines) spans
   pub straight : GoStraight context (take count lines) spans b
 
 -- before the first
@@ -55,7 +54,6 @@ so_far_none context lines b bytes uses places labels allocated records registere
   sized = sized_none context b bytes uses places registered allocated;
   since = since_none context b uses places;
   early = early_none context;
-  reach = reaches_none context;
   straight = straight_none context b;
 }
 
@@ -156,18 +154,16 @@ so_far_next context setting lines n spans new_spans old new line span e s h inde
     let sized = sized_next context (take n lines) line old new span rule (lines_small context lines e n line h) s.sized p in
     let since = since_next context (take n lines) spans line span old new s.built s.since rule p in
     let early = early_next context (take n lines) spans line span old new s.built s.since p s.early in
-    let reach = reaches_next context (take n lines) spans line span old new s.built p since sized s.reach in
     let straight = straight_next context (take n lines) spans line span old new s.built s.since (line_added context setting line old new span rule s.built.sound s.built.windows s.built.fields put).lasts p s.straight in
-    subst (λ ss. SoFar context lines (n + 1) ss new) (sym pushed) (moved (sym (take_next lines n line h)) built named sized since early reach straight)
+    subst (λ ss. SoFar context lines (n + 1) ss new) (sym pushed) (moved (sym (take_next lines n line h)) built named sized since early straight)
   where
-    moved : take n lines ++ line ∷ [] ≡ take (n + 1) lines → LinesStand context (take n lines ++ line ∷ []) (spans ++ span ∷ []) new → Named (take n lines ++ line ∷ []) (spans ++ span ∷ []) new → Sized context (take n lines ++ line ∷ []) new → AfterLastIsland context (take n lines ++ line ∷ []) (spans ++ span ∷ []) new → NotEarly context (take n lines ++ line ∷ []) (spans ++ span ∷ []) → ReachesOn context (take n lines ++ line ∷ []) (spans ++ span ∷ []) → GoStraight context (take n lines ++ line ∷ []) (spans ++ span ∷ []) new → SoFar context lines (n + 1) (spans ++ span ∷ []) new
-    moved more built named sized since early reach straight = record {
+    moved : take n lines ++ line ∷ [] ≡ take (n + 1) lines → LinesStand context (take n lines ++ line ∷ []) (spans ++ span ∷ []) new → Named (take n lines ++ line ∷ []) (spans ++ span ∷ []) new → Sized context (take n lines ++ line ∷ []) new → AfterLastIsland context (take n lines ++ line ∷ []) (spans ++ span ∷ []) new → NotEarly context (take n lines ++ line ∷ []) (spans ++ span ∷ []) → GoStraight context (take n lines ++ line ∷ []) (spans ++ span ∷ []) new → SoFar context lines (n + 1) (spans ++ span ∷ []) new
+    moved more built named sized since early straight = record {
       built = subst (λ ls. LinesStand context ls (spans ++ span ∷ []) new) more built;
       named = subst (λ ls. Named ls (spans ++ span ∷ []) new) more named;
       sized = subst (λ ls. Sized context ls new) more sized;
       since = subst (λ ls. AfterLastIsland context ls (spans ++ span ∷ []) new) more since;
       early = subst (λ ls. NotEarly context ls (spans ++ span ∷ [])) more early;
-      reach = subst (λ ls. ReachesOn context ls (spans ++ span ∷ [])) more reach;
       straight = subst (λ ls. GoStraight context ls (spans ++ span ∷ []) new) more straight;
     }
 
@@ -189,7 +185,6 @@ record AtEnd (context : Context) (lines : List Line) (spans : List LineSpan) (b 
   named : Named lines spans b
   sized : Sized context lines b
   early : NotEarly context lines spans
-  reach : ReachesOn context lines spans
   straight : GoStraight context lines spans b
 
 at_end : (context : Context) (lines : List Line) (n : ℕ) (spans : List LineSpan) (b : Buffer) → length lines ≤ n → SoFar context lines n spans b → AtEnd context lines spans b
@@ -200,7 +195,6 @@ at_end context lines n spans b le s =
       named = subst (λ ls. Named ls spans b) whole s.named;
       sized = subst (λ ls. Sized context ls b) whole s.sized;
       early = subst (λ ls. NotEarly context ls spans) whole s.early;
-      reach = subst (λ ls. ReachesOn context ls spans) whole s.reach;
       straight = subst (λ ls. GoStraight context ls spans b) whole s.straight;
     }
 
@@ -214,7 +208,7 @@ ready context lines n spans b e le s =
 pub finished : (context : Context) (lines : List Line) (n : ℕ) (code : Code) (b : Buffer) → lines_refusal context lines ≡ None → length lines ≤ n → SoFar context lines n code.lines b → code.returns ≡ returns_from context.flags code.lines 0 (take n lines) → (f : Finishes label_kinds (shape_of b) code.bytes) → code.constants ≡ f.put.constants → code.labels ≡ labels_of b → code.relocs ≡ relocs_in (records_of b) → code.traps ≡ traps_in (records_of b) → code.call_sites ≡ calls_in (records_of b) → code.try_call_sites ≡ tries_in (offset_or_zero (place_of b)) (records_of b) → code.patchable_call_sites ≡ patches_in (records_of b) → code.stack_maps ≡ maps_in (records_of b) → code.unwinds ≡ unwinds_in (records_of b) → code.end ≡ length (bytes_of b) → IsFinished context lines code
 finished context lines n code b e le s returns f constants labels relocs traps call_sites try_call_sites patchable_call_sites stack_maps unwinds end =
     let all = at_end context lines n code.lines b le s in
-    record { sink = b; built = all.built; named = all.named; sized = all.sized; early = all.early; reach = all.reach; straight = all.straight; ready = ready context lines n code.lines b e le s; finished = f; constants = constants; returns = returns ∙ ap (returns_from context.flags code.lines 0) (take_whole lines n le); labels = labels; relocs = relocs; traps = traps; call_sites = call_sites; try_call_sites = try_call_sites; patchable_call_sites = patchable_call_sites; stack_maps = stack_maps; unwinds = unwinds; end = end }
+    record { sink = b; built = all.built; named = all.named; sized = all.sized; early = all.early; straight = all.straight; ready = ready context lines n code.lines b e le s; finished = f; constants = constants; returns = returns ∙ ap (returns_from context.flags code.lines 0) (take_whole lines n le); labels = labels; relocs = relocs; traps = traps; call_sites = call_sites; try_call_sites = try_call_sites; patchable_call_sites = patchable_call_sites; stack_maps = stack_maps; unwinds = unwinds; end = end }
 
 -- the code is short
 pub code_short : (context : Context) (lines : List Line) (n : ℕ) (spans : List LineSpan) (b : Buffer) (bytes : List ℕ) → lines_refusal context lines ≡ None → length lines ≤ n → SoFar context lines n spans b → Finishes label_kinds (shape_of b) bytes → length bytes < 2 ^ 32

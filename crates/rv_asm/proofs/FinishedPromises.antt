@@ -60,6 +60,5 @@ module _ (job : Job) (code : Code) (accepted : refusal job ≡ None) (f : IsFini
   pub finished_in_reach : InReach job code
   finished_in_reach = record {
     early = f.early;
-    reach = f.reach;
     short = finished_short (context_of job) job.lines f.sink code.bytes f.built.sound f.sized f.finished;
   }

@@ -1,22 +1,21 @@
 -- What is said of lines by their spans stays as lines are added.
-use Rattle.std.proofs.Common.{◌≡◌, ℕ, zero, suc, ◌+◌, ◌-◌, ◌<◌, ◌≤◌, Bool, true, false, cond, not, ◌&&◌, ◌||◌, List, [], ◌∷◌, ◌++◌, length, take, drop, Some, refl, ap, sym, ◌∙◌, arith, append_assoc}
+use Rattle.std.proofs.Common.{◌≡◌, ℕ, zero, suc, ◌+◌, ◌-◌, ◌<◌, ◌≤◌, Bool, true, false, cond, ◌||◌, List, [], ◌∷◌, ◌++◌, length, take, drop, Some, refl, ap, sym, ◌∙◌, arith, append_assoc}
 use Rattle.std.specs.Prelude.{nat_eq, nat_lt}
-use Rattle.std.proofs.lemmas.List.{length-append, length-drop, length-take-le, take-append-le, drop-append-le, append-nil}
+use Rattle.std.proofs.lemmas.List.{length-append, length-drop, take-append-le, drop-append-le, append-nil}
 use Rattle.std.proofs.Math.Seq.{drop-append_seam}
 use Rattle.rv_inst.specs.Context.{Context}
 use Rattle.rv_inst.specs.declared.code.LineSpan.{LineSpan}
 use Rattle.rv_inst.specs.declared.inst.Line.{Line}
 use Rattle.rv_inst.specs.declared.inst.Line.TheVariants.{Inst as Put, Bind}
 use Rattle.rv_inst.specs.declared.label_use.LabelUse.{LabelUse}
-use Rattle.rv_inst.specs.LabelUse.{label_kinds, has_veneer_of}
 use Rattle.mach_uses.specs.declared.uses.Use.{Use}
-use Rattle.mach_uses.specs.Reach.{is_reached, deadlines}
 use Rattle.mach_buffer.specs.Windows.{or_place}
 use Rattle.mach_buffer.proofs.Laws.{slice_get-append}
 use Rattle.rv_inst.specs.Uses.{uses_in}
 use Rattle.rv_asm.specs.Reported.{start_of, end_of}
 use Rattle.rv_asm.specs.Reported.{end_before}
-use Rattle.rv_asm.specs.Reach.{is_after_island, is_island, last_island, is_island_at, first_after_island, uses_from, bound_by, pending_deadlines, IsDue, way_count}
+use Rattle.rv_asm.specs.Reach.{is_after_island, is_island, last_island, is_island_at, first_after_island, IsDue, way_count}
+use Rattle.rv_asm.specs.AfterLastIsland.{uses_from, bound_by}
 use Rattle.rv_asm.specs.AfterLastIsland.{uses_after_island}
 use Rattle.rv_asm.proofs.LabelNames.{start_more, end_more, start_last, end_last}
 
@@ -127,28 +126,6 @@ bound_by_append spans i (Bind l ∷ lines) more label =
         cond c (Some (start_of spans i)) (bound_by spans (suc i) (lines ++ more) label) ≡ or_place (cond c (Some (start_of spans i)) (bound_by spans (suc i) lines label)) (bound_by spans (i + suc (length lines)) more label)
     on true rest = refl
     on false rest = rest
-
--- ---- what is pending
-
--- what is pending after some lines, from the first that is open
-abbrev open_deadlines : (context : Context) → List LineSpan → List Line → ℕ → List ℕ
-open_deadlines context spans front k = deadlines (λ (u : Use LabelUse). has_veneer_of u.kind && not (is_reached label_kinds (bound_by spans 0 front u.label.number) u)) label_kinds (uses_from context spans k (drop k front))
-
-open_deadlines_spans : (context : Context) (spans more : List LineSpan) (front : List Line) (k : ℕ) → length front ≤ length spans → k ≤ length front → open_deadlines context (spans ++ more) front k ≡ open_deadlines context spans front k
-open_deadlines_spans context spans more front k le low =
-    let long : length (drop k front) ≡ length front - k = length-drop k front in
-    let uses : uses_from context (spans ++ more) k (drop k front) ≡ uses_from context spans k (drop k front) = uses_more context spans more k (drop k front) (omega arith) in
-    let bound : (label : ℕ) → bound_by (spans ++ more) 0 front label ≡ bound_by spans 0 front label = λ label. bound_by_more spans more 0 front label (omega arith) in
-    λ j. deadlines (λ (u : Use LabelUse). has_veneer_of u.kind && not (is_reached label_kinds (bound u.label.number j) u)) label_kinds (uses j)
-
-pub pending_more : (context : Context) (lines more : List Line) (spans more_spans : List LineSpan) (n : ℕ) → length spans ≡ length lines → n ≤ length lines → pending_deadlines context (lines ++ more) (spans ++ more_spans) n ≡ pending_deadlines context lines spans n
-pending_more context lines more spans more_spans n count le =
-    let k = first_after_island context lines spans n in
-    let front : take n (lines ++ more) ≡ take n lines = take-append-le n lines more le in
-    let from : first_after_island context (lines ++ more) (spans ++ more_spans) n ≡ k = open_more context lines more spans more_spans n count le in
-    let low = open_low context lines spans n in
-    let long : length (take n lines) ≡ n = length-take-le n lines le in
-    (λ j. open_deadlines context (spans ++ more_spans) (front j) (from j)) ∙ open_deadlines_spans context spans more_spans (take n lines) k (omega arith) (omega arith)
 
 -- an island that is due stays so
 pub due_more : (context : Context) (lines more : List Line) (spans more_spans : List LineSpan) (i at distance : ℕ) → length spans ≡ length lines → i ≤ length lines → IsDue context lines spans i at distance → IsDue context (lines ++ more) (spans ++ more_spans) i at distance

@@ -1,4 +1,4 @@
--- No island is early, and Reach holds after every line, as lines are put.
+-- No island is early, as lines are put.
 use Rattle.std.proofs.Common.{◌≡◌, ℕ, zero, suc, ◌+◌, ◌<◌, Bool, true, false, List, [], ◌∷◌, ◌++◌, length, Some, refl, ap, sym, ◌∙◌, subst, arith, ⊎_elim}
 use Rattle.std.specs.Prelude.{slice_get, nat_lt}
 use Rattle.std.proofs.lemmas.Bool.{true≢false, ltb-true, ltb-false}
@@ -9,21 +9,20 @@ use Rattle.rv_inst.specs.declared.code.LineSpan.{LineSpan}
 use Rattle.rv_inst.specs.declared.inst.Line.{Line}
 use Rattle.rv_inst.specs.declared.inst.Line.TheVariants.{Inst as Put, Bind}
 use Rattle.rv_inst.specs.Sizes.{Extent, Words, Island, After, Around, words_in, extent_of, line_space}
-use Rattle.mach_uses.specs.Reach.{CanReach, is_needed, is_needed_from}
+use Rattle.mach_uses.specs.Reach.{is_needed, is_needed_from}
 use Rattle.mach_buffer.specs.Buffer.{bytes_of}
 use Rattle.mach_buffer.proofs.Laws.{slice_get-append_last}
 use Rattle.rv_emit.proofs.Laws.{bytes_put, words_long, words_pending}
 use Rattle.rv_emit.specs.Emitted.{Buffer, pending, IslandIfNeeded, AppendsBy}
 use Rattle.rv_asm.specs.Reported.{start_of, end_of}
 use Rattle.rv_asm.specs.Reported.{end_before}
-use Rattle.rv_asm.specs.LinesInBuffer.{LinesStand, Sized}
-use Rattle.rv_asm.specs.Reach.{pending_deadlines, IsDue, IsDueOf, IslandDue, NotEarly, ReachesOn}
+use Rattle.rv_asm.specs.LinesInBuffer.{LinesStand}
+use Rattle.rv_asm.specs.Reach.{IsDue, IsDueOf, IslandDue, NotEarly}
 use Rattle.rv_asm.specs.AfterLastIsland.{AfterLastIsland}
 use Rattle.rv_asm.proofs.AppendedLines.{LineAppends}
 use Rattle.rv_asm.proofs.LabelNames.{start_more, end_more, start_last, end_last}
-use Rattle.rv_asm.proofs.UsesAfterIsland.{pending_reported, due_now}
-use Rattle.rv_asm.proofs.FirstLines.{ends_more, pending_more, due_more}
-use Rattle.rv_asm.proofs.AfterLastIsland.{line_end}
+use Rattle.rv_asm.proofs.UsesAfterIsland.{due_now}
+use Rattle.rv_asm.proofs.FirstLines.{ends_more, due_more}
 
 -- below one more: below, or it
 by_place : (P : ℕ → Type 0) (n i : ℕ) → i < suc n → (i < n → P i) → P n → P i
@@ -37,31 +36,6 @@ get_front : {X : Type 0} (xs ys : List X) (i : ℕ) → i < length xs → slice_
 get_front [] ys i lt = absurd (omega arith)
 get_front (x ∷ xs) ys zero lt = refl
 get_front (x ∷ xs) ys (suc i) lt = get_front xs ys i (omega arith)
-
--- ---- Reach
-
-pub reaches_none : (context : Context) → ReachesOn context [] []
-reaches_none context n le = let none : 0 ≡ n = omega arith in subst (λ m. CanReach (end_before [] m) (pending_deadlines context [] [] m)) none tt
-
-pub reaches_next : (context : Context) (lines : List Line) (spans : List LineSpan) (line : Line) (span : LineSpan) (old new : Buffer) → LinesStand context lines spans old → LineAppends context line old new span → AfterLastIsland context (lines ++ line ∷ []) (spans ++ span ∷ []) new → Sized context (lines ++ line ∷ []) new → ReachesOn context lines spans → ReachesOn context (lines ++ line ∷ []) (spans ++ span ∷ [])
-reaches_next context lines spans line span old new b p s sized h i le = by_place (λ m. CanReach (end_before (spans ++ span ∷ []) m) (pending_deadlines context (lines ++ line ∷ []) (spans ++ span ∷ []) m)) (suc (length lines)) i (omega (arith, le, long)) before last
-  where
-    long : length (lines ++ line ∷ []) ≡ suc (length lines)
-    long = length-append lines (line ∷ []) ∙ omega arith
-
-    before : i < suc (length lines) → CanReach (end_before (spans ++ span ∷ []) i) (pending_deadlines context (lines ++ line ∷ []) (spans ++ span ∷ []) i)
-    before lt =
-        let count = b.count in
-        let ends : end_before (spans ++ span ∷ []) i ≡ end_before spans i = ends_more spans (span ∷ []) i (omega arith) in
-        let same_pending : pending_deadlines context (lines ++ line ∷ []) (spans ++ span ∷ []) i ≡ pending_deadlines context lines spans i = pending_more context lines (line ∷ []) spans (span ∷ []) i count (omega arith) in
-        subst (λ (ds : List ℕ). CanReach (end_before (spans ++ span ∷ []) i) ds) (sym same_pending) (subst (λ m. CanReach m (pending_deadlines context lines spans i)) (sym ends) (h i (omega arith)))
-
-    last : CanReach (end_before (spans ++ span ∷ []) (suc (length lines))) (pending_deadlines context (lines ++ line ∷ []) (spans ++ span ∷ []) (suc (length lines)))
-    last =
-        let end : end_of (spans ++ span ∷ []) (length lines) ≡ span.end = ap (end_of (spans ++ span ∷ [])) (sym b.count) ∙ end_last spans span in
-        let cur : length (bytes_of new) ≡ end_of (spans ++ span ∷ []) (length lines) = line_end context line old new span p ∙ sym end in
-        let same_pending : pending new ≡ pending_deadlines context (lines ++ line ∷ []) (spans ++ span ∷ []) (suc (length lines)) = pending_reported context (lines ++ line ∷ []) (spans ++ span ∷ []) new s ∙ ap (pending_deadlines context (lines ++ line ∷ []) (spans ++ span ∷ [])) long in
-        subst (CanReach (end_of (spans ++ span ∷ []) (length lines))) same_pending (subst (λ m. CanReach m (pending new)) cur sized.reach)
 
 -- ---- no island is early
 

@@ -19,7 +19,8 @@ use Rattle.mach_buffer.proofs.Laws.{below, slice_get-append}
 use Rattle.rv_emit.specs.Emitted.{Buffer, AppendsBy, Appends}
 use Rattle.rv_emit.proofs.Laws.{before_or_last, pending_at, uses_bare}
 use Rattle.rv_asm.specs.LinesInBuffer.{LinesStand, BindPut}
-use Rattle.rv_asm.specs.Reach.{first_after_island, uses_from}
+use Rattle.rv_asm.specs.Reach.{first_after_island}
+use Rattle.rv_asm.specs.AfterLastIsland.{uses_from}
 use Rattle.rv_asm.specs.Reported.{start_of, end_of}
 use Rattle.rv_asm.specs.AfterLastIsland.{uses_after_island, passing, AfterLastIsland}
 use Rattle.rv_asm.specs.StraightUses.{IsIn, GoStraight}

@@ -1,11 +1,9 @@
 -- The uses after which no island stands: whose they are, how far they reach, and how many.
-use Rattle.std.proofs.Common.{◌≡◌, ℕ, zero, suc, ◌+◌, ◌*◌, ◌<◌, ◌≤◌, ◌⊎◌, inl, inr, ⊎_elim, Bool, true, false, cond, not, ◌&&◌, ◌||◌, List, [], ◌∷◌, length, map, take, drop, Option, Some, None, refl, ap, sym, ◌∙◌, subst, arith}
-use Rattle.std.specs.Prelude.{slice_get, nat_lt, is_none}
-use Rattle.std.specs.List.{list_any}
-use Rattle.std.proofs.lemmas.Bool.{true≢false, ltb-true, leb-false, or_parts}
+use Rattle.std.proofs.Common.{◌≡◌, ℕ, zero, suc, ◌+◌, ◌*◌, ◌<◌, ◌≤◌, Bool, true, false, cond, ◌&&◌, ◌||◌, List, [], ◌∷◌, length, map, take, drop, Option, Some, None, refl, ap, sym, ◌∙◌, subst, arith}
+use Rattle.std.specs.Prelude.{slice_get, nat_lt}
+use Rattle.std.proofs.lemmas.Bool.{true≢false, ltb-true}
 use Rattle.std.proofs.lemmas.Option.{slice_get_within}
 use Rattle.std.proofs.lemmas.List.{length-append, take_all}
-use Rattle.mach_labels.specs.Table.{first_inner}
 use Rattle.rv_base.specs.declared.call.TryCallInfo.{TryCallInfo}
 use Rattle.rv_inst.specs.Context.{Context}
 use Rattle.rv_inst.specs.declared.code.LineSpan.{LineSpan}
@@ -15,29 +13,26 @@ use Rattle.rv_inst.specs.declared.inst.Line.{Line}
 use Rattle.rv_inst.specs.declared.inst.Line.TheVariants.{Inst as Put, Bind}
 use Rattle.rv_inst.specs.declared.label_use.LabelUse.{LabelUse}
 use Rattle.rv_inst.specs.declared.label_use.LabelUse.TheVariants.{PCRelLo12I}
-use Rattle.rv_inst.specs.Operands.{targets_of, ways_of, ways_by, inst_ways, inst_labels, try_call_of}
+use Rattle.rv_inst.specs.Operands.{targets_of, ways_of, ways_by, inst_ways, try_call_of}
 use Rattle.rv_inst.specs.Sizes.{extent_of}
 use Rattle.rv_inst.specs.declared.targets.Targets.{Targets}
 use Rattle.rv_inst.specs.declared.targets.Targets.TheVariants.{Nowhere, Jumps, Branches, Refers, RefersConstant}
 use Rattle.mach_uses.specs.Labels.{constant_label}
 use Rattle.rv_inst.specs.LabelUse.{label_kinds, has_veneer_of}
-use Rattle.rv_inst.specs.declared.error.Rule.TheVariants as rule_of
-use Rattle.rv_inst.proofs.Rules.{breaks_none}
-use Rattle.rv_inst.specs.Rules.{inst_rule, is_buffer_label}
 use Rattle.mach_uses.specs.declared.uses.Use.{Use}
-use Rattle.mach_uses.specs.Reach.{deadline, deadlines, due_by, is_needed, is_needed_from, is_reached, island_front}
+use Rattle.mach_uses.specs.Reach.{deadline, deadlines, due_by, is_needed, is_needed_from, island_front}
 use Rattle.mach_buffer.specs.Buffer.{shape_of, bytes_of, uses_of, place_of}
 use Rattle.mach_buffer.proofs.Laws.{both_lists, deadlines_append, due_le_length}
 use Rattle.rv_emit.specs.Emitted.{Buffer, pending}
 use Rattle.rv_inst.specs.Forms.{jump_kind}
 use Rattle.rv_inst.specs.Uses.{use_at, target_uses, uses_by, uses_in}
-use Rattle.rv_emit.proofs.Laws.{deadlines_as, Each, each_none, each_more, uses_bare, pending_at, HasJump, has_jump, uses_least, few_ways}
+use Rattle.rv_emit.proofs.Laws.{Each, each_none, each_more, pending_at, HasJump, has_jump, uses_least, few_ways}
 use Rattle.rv_asm.specs.Reported.{start_of, end_of}
 use Rattle.rv_asm.specs.LinesInBuffer.{LineStands, LinesStand}
 use Rattle.rv_inst.specs.Uses.{least_reach}
-use Rattle.rv_asm.specs.Reach.{way_count, last_island, first_after_island, uses_from, bound_by, pending_deadlines, IsDue}
+use Rattle.rv_asm.specs.Reach.{way_count, last_island, first_after_island, IsDue}
+use Rattle.rv_asm.specs.AfterLastIsland.{uses_from}
 use Rattle.rv_asm.specs.AfterLastIsland.{uses_after_island, passing, AfterLastIsland}
-use Rattle.rv_asm.proofs.LabelNames.{IsOf, uses_labels}
 use Rattle.rv_asm.proofs.Extents.{spans_within}
 use Rattle.rv_asm.proofs.FirstLines.{last_open}
 
@@ -62,24 +57,6 @@ uses_ways context start end inst = by (try_call_of inst)
     by : (t : Option TryCallInfo) → Each (λ u. has_veneer_of u.kind ≡ true → 1 ≤ length (ways_by t (targets_of inst))) (uses_by context.flags start end t (targets_of inst))
     by None = on (targets_of inst)
     by (Some t) = each_more (λ u. has_veneer_of u.kind ≡ true → 1 ≤ 1) _ [] (λ e. omega arith) (each_none _)
-
-any_none : {X : Type 0} (f : X → Bool) (xs : List X) → list_any f xs ≡ false → Each (λ x. f x ≡ false) xs
-any_none f [] h = each_none _
-any_none f (x ∷ xs) h = let parts = or_parts (f x) (list_any f xs) h in each_more (λ y. f y ≡ false) x xs parts.0 (any_none f xs parts.1)
-
-labels_outer : (context : Context) (inst : Inst) → inst_rule context inst ≡ None → list_any is_buffer_label (inst_labels inst) ≡ false
-labels_outer context inst rule = breaks_none context inst rule rule_of.Label
-
--- a label that a line names is one of the listing's
-label_outer : (context : Context) (inst : Inst) (label : ℕ) → inst_rule context inst ≡ None → IsOf (inst_labels inst) label → label < first_inner
-label_outer context inst label rule named =
-    let outer : is_buffer_label named.label ≡ false = any_none is_buffer_label (inst_labels inst) (labels_outer context inst rule) named.place named.label named.names in
-    let low : named.label.number < first_inner = leb-false _ _ outer in
-    subst (λ n. n < first_inner) named.is low
-
--- each names a label of the listing's, or goes by no veneer
-uses_outer : (context : Context) (start end : ℕ) (inst : Inst) → inst_rule context inst ≡ None → Each (λ u. (u.label.number < first_inner) ⊎ (has_veneer_of u.kind ≡ false)) (uses_in context start end inst)
-uses_outer context start end inst rule j u h = ⊎_elim (λ named. inl (label_outer context inst u.label.number rule named)) (λ high. inr high.1) (uses_labels context start end inst j u h)
 
 -- ---- the uses of lines
 
@@ -151,32 +128,6 @@ pending_open context lines spans b s =
 
 pub open_from_line : (context : Context) (lines : List Line) (spans : List LineSpan) → Each (FromLine context spans (first_after_island context lines spans (length lines)) (drop (first_after_island context lines spans (length lines)) lines)) (uses_after_island context lines spans)
 open_from_line context lines spans = from_line context spans (first_after_island context lines spans (length lines)) (drop (first_after_island context lines spans (length lines)) lines)
-
--- what is pending in the buffer is what is pending by the spans
-pub pending_reported : (context : Context) (lines : List Line) (spans : List LineSpan) (b : Buffer) → AfterLastIsland context lines spans b → pending b ≡ pending_deadlines context lines spans (length lines)
-pending_reported context lines spans b s =
-    let n = length lines in
-    let k = first_after_island context lines spans n in
-    let whole : take n lines ≡ lines = take_all n lines (omega arith) in
-    let test : Use LabelUse → Bool = λ u. has_veneer_of u.kind && not (is_reached label_kinds (bound_by spans 0 lines u.label.number) u) in
-    let same : deadlines (pending_at (place_of b)) label_kinds (uses_after_island context lines spans) ≡ deadlines test label_kinds (uses_after_island context lines spans) = deadlines_as (pending_at (place_of b)) test label_kinds (uses_after_island context lines spans) each in
-    pending_open context lines spans b s ∙ same ∙ sym (λ j. deadlines (λ (u : Use LabelUse). has_veneer_of u.kind && not (is_reached label_kinds (bound_by spans 0 (whole j) u.label.number) u)) label_kinds (uses_from context spans k (drop k (whole j))))
-  where
-    each : (j : ℕ) (u : Use LabelUse) → slice_get (uses_after_island context lines spans) j ≡ Some u → pending_at (place_of b) u ≡ (has_veneer_of u.kind && not (is_reached label_kinds (bound_by spans 0 lines u.label.number) u))
-    each j u h =
-        let f = open_from_line context lines spans j u h in
-        let start = start_of spans (first_after_island context lines spans (length lines) + f.index) in
-        let end = end_of spans (first_after_island context lines spans (length lines) + f.index) in
-        let bare : u.veneer ≡ None = uses_bare context start end f.inst f.place u f.own in
-        let rule : inst_rule context f.inst ≡ None = s.ruled (first_after_island context lines spans (length lines) + f.index) (Put f.inst) (get_drop lines (first_after_island context lines spans (length lines)) f.index (Put f.inst) f.there) in
-        ⊎_elim
-        (λ low.
-        let place : place_of b u.label.number ≡ bound_by spans 0 lines u.label.number = s.places u.label.number low in
-        λ i. has_veneer_of u.kind && (is_none (bare i) && not (is_reached label_kinds (place i) u)))
-        (λ none.
-        (λ i. none i && (is_none u.veneer && not (is_reached label_kinds (place_of b u.label.number) u)))
-        ∙ sym (λ i. none i && not (is_reached label_kinds (bound_by spans 0 lines u.label.number) u)))
-        (uses_outer context start end f.inst rule f.place u f.own)
 
 -- ---- an island that is needed
 

@@ -10,7 +10,7 @@ use Rattle.mach_buffer.specs.Finish.{CanFinish, Finishes}
 use Rattle.rv_emit.specs.Emitted.{Buffer}
 use Rattle.rv_asm.specs.LinesInBuffer.{LinesStand, Named, Sized}
 use Rattle.rv_asm.specs.Reported.{returns_from}
-use Rattle.rv_asm.specs.Reach.{NotEarly, ReachesOn}
+use Rattle.rv_asm.specs.Reach.{NotEarly}
 use Rattle.rv_asm.specs.StraightUses.{GoStraight}
 
 pub record IsFinished (context : Context) (lines : List Line) (code : Code) : Type 0 where
@@ -19,7 +19,6 @@ pub record IsFinished (context : Context) (lines : List Line) (code : Code) : Ty
   pub named : Named lines code.lines sink
   pub sized : Sized context lines sink
   pub early : NotEarly context lines code.lines
-  pub reach : ReachesOn context lines code.lines
   pub straight : GoStraight context lines code.lines sink
   pub ready : CanFinish label_kinds (shape_of sink)
   pub finished : Finishes label_kinds (shape_of sink) code.bytes

@@ -1,19 +1,15 @@
--- Islands by the reported spans: that none stands earlier than it must, that Reach holds after every line, and how
--- long code may be.
-use Rattle.std.specs.Prelude.{◌≡◌, ℕ, zero, suc, ◌+◌, ◌*◌, ◌<◌, ◌≤◌, Bool, false, not, ◌&&◌, ◌||◌, nat_eq, nat_lt, if◌then◌else◌, List, [], ◌∷◌, ◌++◌, length, take, drop, Option, Some, None, slice_get}
+-- Islands by the reported spans: that none stands earlier than it must, which lines one stands between, and how long code may be.
+use Rattle.std.specs.Prelude.{◌≡◌, ℕ, zero, suc, ◌+◌, ◌*◌, ◌<◌, ◌≤◌, Bool, false, ◌||◌, nat_lt, if◌then◌else◌, List, [], ◌∷◌, length, take, drop, Some, slice_get}
 use Rattle.rv_inst.specs.Context.{Context, context_of}
 use Rattle.rv_inst.specs.declared.inst.Line.{Line}
 use Rattle.rv_inst.specs.declared.inst.Line.TheVariants.{Inst as Put, Bind}
 use Rattle.rv_inst.specs.declared.job.Job.{Job}
 use Rattle.rv_inst.specs.declared.code.Code.{Code}
 use Rattle.rv_inst.specs.declared.code.LineSpan.{LineSpan}
-use Rattle.rv_inst.specs.declared.label_use.LabelUse.{LabelUse}
 use Rattle.rv_inst.specs.Operands.{line_ways}
-use Rattle.rv_inst.specs.LabelUse.{label_kinds, has_veneer_of}
-use Rattle.mach_uses.specs.declared.uses.Use.{Use}
-use Rattle.mach_uses.specs.Reach.{is_reached, deadlines, CanReach, island_front}
+use Rattle.mach_uses.specs.Reach.{island_front}
 use Rattle.rv_inst.specs.Sizes.{line_space, Extent, Words, Island, After, Around, extent_of}
-use Rattle.rv_inst.specs.Uses.{uses_in, least_reach}
+use Rattle.rv_inst.specs.Uses.{least_reach}
 use Rattle.rv_asm.specs.Reported.{start_of, end_of, end_before}
 use Rattle.rv_asm.specs.Refusal.{size_sum}
 
@@ -72,13 +68,7 @@ pub record NotEarly (context : Context) (lines : List Line) (spans : List LineSp
   pub before : (i : ℕ) → i < length lines → end_before spans i < start_of spans i → IsDue context lines spans i (end_before spans i) line_space
   pub within : (i : ℕ) (line : Line) → slice_get lines i ≡ Some line → IslandDue context lines spans i line
 
--- ---- Reach after every line
-
--- the uses of lines, the first of which has an index
-abbrev pub uses_from : Context → List LineSpan → ℕ → List Line → List (Use LabelUse)
-uses_from context spans i [] = []
-uses_from context spans i (Put inst ∷ lines) = uses_in context (start_of spans i) (end_of spans i) inst ++ uses_from context spans (suc i) lines
-uses_from context spans i (Bind label ∷ lines) = uses_from context spans (suc i) lines
+-- ---- between two lines
 
 -- whether an island stands in the line of an index
 abbrev pub is_island_at : Context → List Line → List LineSpan → ℕ → Bool
@@ -90,27 +80,9 @@ abbrev pub first_after_island : Context → List Line → List LineSpan → ℕ 
 first_after_island context lines spans zero = 0
 first_after_island context lines spans (suc i) = if is_island_at context (drop i lines) spans i || is_after_island spans i then i else first_after_island context lines spans i
 
--- where lines, the first of which has an index, bind a label
-abbrev pub bound_by : List LineSpan → ℕ → List Line → ℕ → Option ℕ
-bound_by spans i [] label = None
-bound_by spans i (Bind l ∷ lines) label = if nat_eq l.number label then Some (start_of spans i) else bound_by spans (suc i) lines label
-bound_by spans i (Put inst ∷ lines) label = bound_by spans (suc i) lines label
-
--- the deadlines of the pending uses after so many lines: no island stands after them, and their labels are not bound
--- within their reach
-abbrev pub pending_deadlines : Context → List Line → List LineSpan → ℕ → List ℕ
-pending_deadlines context lines spans n =
-    deadlines (λ (u : Use LabelUse). has_veneer_of u.kind && not (is_reached label_kinds (bound_by spans 0 (take n lines) u.label.number) u)) label_kinds
-    (uses_from context spans (first_after_island context lines spans n) (drop (first_after_island context lines spans n) (take n lines)))
-
--- after every line, the veneers of all that is pending can still be put in time
-abbrev pub ReachesOn : Context → List Line → List LineSpan → Type 0
-ReachesOn context lines spans = (n : ℕ) → n ≤ length lines → CanReach (end_before spans n) (pending_deadlines context lines spans n)
-
 -- ---- all of it
 
--- no island is early, Reach holds after every line, and the code is no longer than its lines and constants allow
+-- no island is early, and the code is no longer than its lines and constants allow
 pub record InReach (job : Job) (code : Code) : Type 0 where
   pub early : NotEarly (context_of job) job.lines code.lines
-  pub reach : ReachesOn (context_of job) job.lines code.lines
   pub short : length code.bytes ≤ size_sum (context_of job) job.lines + 16
