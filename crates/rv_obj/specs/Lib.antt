@@ -1,3 +1,2 @@
 pub mod Elf
 pub mod Ends
-pub mod Symbols
