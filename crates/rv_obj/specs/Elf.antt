@@ -8,6 +8,17 @@ use Rattle.rv_obj.specs.declared.elf.Rela.{Rela}
 use Rattle.rv_obj.specs.declared.elf.Object.{Object}
 use Rattle.rv_obj.specs.declared.headers.Section.{Section}
 
+-- ---- numbers
+
+unfoldable pub bytes_2 : ℕ → List ℕ
+bytes_2 n = to_le_bytes w16 n
+
+unfoldable pub bytes_4 : ℕ → List ℕ
+bytes_4 n = to_le_bytes w32 n
+
+unfoldable pub bytes_8 : ℕ → List ℕ
+bytes_8 n = to_le_bytes w64 n
+
 -- ---- symbols
 
 -- their names, each with a zero byte after it
@@ -29,7 +40,7 @@ value_of (Some offset) = offset
 
 -- an entry of the symbol table: where its name begins, its binding, its section, its offset, and no size
 abbrev pub symbol_entry : ℕ → Symbol → List ℕ
-symbol_entry at s = to_le_bytes w32 at ++ (info_of s ∷ 0 ∷ []) ++ to_le_bytes w16 (section_of s.place) ++ to_le_bytes w64 (value_of s.place) ++ to_le_bytes w64 0
+symbol_entry at s = bytes_4 at ++ (info_of s ∷ 0 ∷ []) ++ bytes_2 (section_of s.place) ++ bytes_8 (value_of s.place) ++ bytes_8 0
 
 -- the entries of symbols, the names of the first of which begin there
 abbrev pub entries_from : ℕ → List Symbol → List ℕ
@@ -47,7 +58,7 @@ string_table symbols = 0 ∷ [] ++ flat_map name_of symbols
 
 -- place, symbol's number, kind and addend
 abbrev pub rela_entry : Rela → List ℕ
-rela_entry r = to_le_bytes w64 r.offset ++ to_le_bytes w32 r.kind ++ to_le_bytes w32 r.symbol ++ to_le_bytes w64 (cast_unsigned w64 r.addend)
+rela_entry r = bytes_8 r.offset ++ bytes_4 r.kind ++ bytes_4 r.symbol ++ bytes_8 (cast_unsigned w64 r.addend)
 
 -- ---- contents
 
@@ -79,11 +90,17 @@ contents o = named o ++ padding (length (named o))
 
 -- ---- headers
 
--- name, type, flags, no address, offset, size, link, info, alignment and entry size
-abbrev pub section_header : Section → List ℕ
-section_header s =
-    to_le_bytes w32 s.name ++ to_le_bytes w32 s.kind ++ to_le_bytes w64 s.flags ++ to_le_bytes w64 0 ++ to_le_bytes w64 s.offset ++ to_le_bytes w64 s.size
-    ++ to_le_bytes w32 s.link ++ to_le_bytes w32 s.info ++ to_le_bytes w64 s.align ++ to_le_bytes w64 s.entry
+-- name, type, flags and no address
+abbrev pub section_kind : Section → List ℕ
+section_kind s = bytes_4 s.name ++ bytes_4 s.kind ++ bytes_8 s.flags ++ bytes_8 0
+
+-- link, info, alignment and entry size
+abbrev pub section_links : Section → List ℕ
+section_links s = bytes_4 s.link ++ bytes_4 s.info ++ bytes_8 s.align ++ bytes_8 s.entry
+
+-- with offset and size between
+unfoldable pub section_header : Section → List ℕ
+section_header s = section_kind s ++ bytes_8 s.offset ++ bytes_8 s.size ++ section_links s
 
 -- the header of the file has so many bytes
 abbrev pub header_size : ℕ
@@ -107,11 +124,12 @@ string_section o = record { name = 26; kind = 3; flags = 0; offset = header_size
 abbrev pub name_section : Object → Section
 name_section o = record { name = 34; kind = 3; flags = 0; offset = header_size + length (before_names o); size = length section_names; link = 0; info = 0; align = 1; entry = 0 }
 
+abbrev pub table_headers : Object → List ℕ
+table_headers o = section_header (symbol_section o) ++ section_header (string_section o) ++ section_header (name_section o)
+
 -- section 0 is none
 abbrev pub section_headers : Object → List ℕ
-section_headers o =
-    replicate 64 0 ++ section_header (text_section o) ++ section_header (rela_section o) ++ section_header (symbol_section o)
-    ++ section_header (string_section o) ++ section_header (name_section o)
+section_headers o = replicate 64 0 ++ section_header (text_section o) ++ section_header (rela_section o) ++ table_headers o
 
 -- of 64 bits, the least byte first, version 1, System V
 abbrev pub ident : List ℕ
@@ -119,15 +137,18 @@ ident = 0x7f ∷ 0x45 ∷ 0x4c ∷ 0x46 ∷ 2 ∷ 1 ∷ 1 ∷ 0 ∷ 0 ∷ 0 ∷ 
 
 -- relocatable, for RISC-V, version 1, no entry and no program headers
 abbrev pub file_kind : List ℕ
-file_kind = to_le_bytes w16 1 ++ to_le_bytes w16 243 ++ to_le_bytes w32 1 ++ to_le_bytes w64 0 ++ to_le_bytes w64 0
+file_kind = bytes_2 1 ++ bytes_2 243 ++ bytes_4 1 ++ bytes_8 0 ++ bytes_8 0
 
 -- the sizes of headers; no program headers, six sections, the names of which are number 5
 abbrev pub header_sizes : List ℕ
-header_sizes = to_le_bytes w16 64 ++ to_le_bytes w16 0 ++ to_le_bytes w16 0 ++ to_le_bytes w16 64 ++ to_le_bytes w16 6 ++ to_le_bytes w16 5
+header_sizes = bytes_2 64 ++ bytes_2 0 ++ bytes_2 0 ++ bytes_2 64 ++ bytes_2 6 ++ bytes_2 5
 
--- with where the section headers begin, and the flags
+-- where the section headers begin, and the flags
+abbrev pub file_places : Object → List ℕ
+file_places o = bytes_8 (header_size + length (contents o)) ++ bytes_4 o.flags
+
 abbrev pub file_header : Object → List ℕ
-file_header o = ident ++ file_kind ++ to_le_bytes w64 (header_size + length (contents o)) ++ to_le_bytes w32 o.flags ++ header_sizes
+file_header o = ident ++ file_kind ++ file_places o ++ header_sizes
 
 abbrev pub object_file : Object → List ℕ
 object_file o = file_header o ++ contents o ++ section_headers o

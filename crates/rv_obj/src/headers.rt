@@ -1,7 +1,7 @@
 //! The headers of an object's file and of its sections.
 
 ghost use Rattle.std.specs.Prelude.{◌≡◌, ◌+◌, ◌-◌, ◌≤◌, ◌++◌, length, replicate, OnOk};
-ghost use Rattle.rv_obj.specs.Elf.{section_header, text_section, rela_section, symbol_section, string_section, name_section, section_headers, ident, file_kind, header_sizes, file_header};
+ghost use Rattle.rv_obj.specs.Elf.{section_kind, section_links, section_header, table_headers, file_places, text_section, rela_section, symbol_section, string_section, name_section, section_headers, ident, file_kind, header_sizes, file_header};
 ghost use Rattle.rv_obj.specs.Ends.{AreEnds};
 
 use crate::elf::Object;
@@ -43,6 +43,16 @@ fn put_sizes(out: &mut Vec<u8>) -> Result<(), OutOfMemory>
     put_2(out, 5)
 }
 
+// Where the section headers begin, and the flags.
+fn put_places(out: &mut Vec<u8>, object: &Object, ends: Ends) -> Result<(), OutOfMemory>
+    requires { AreEnds object.now ends }
+    ensures { OnOk result (out.new.items ≡ out.old.items ++ file_places object.now) }
+{
+    put_8(out, HEADER_SIZE + ends.all)?;
+    put_4(out, object.flags)?;
+    Ok(())
+}
+
 /// Appends the file's header.
 pub(crate) fn put_file_header(
     out: &mut Vec<u8>,
@@ -54,9 +64,9 @@ pub(crate) fn put_file_header(
 {
     put_ident(out)?;
     put_kind(out)?;
-    put_8(out, HEADER_SIZE + ends.all)?;
-    put_4(out, object.flags)?;
-    put_sizes(out)
+    put_places(out, object, ends)?;
+    put_sizes(out)?;
+    Ok(())
 }
 
 /// The header of a section, by the names of the System V ABI.
@@ -73,19 +83,35 @@ pub struct Section {
     pub entry: u64,
 }
 
-fn put_section(out: &mut Vec<u8>, s: Section) -> Result<(), OutOfMemory>
-    ensures { OnOk result (out.new.items ≡ out.old.items ++ section_header s) }
+fn put_section_kind(out: &mut Vec<u8>, s: Section) -> Result<(), OutOfMemory>
+    ensures { OnOk result (out.new.items ≡ out.old.items ++ section_kind s) }
 {
     put_4(out, s.name)?;
     put_4(out, s.kind)?;
     put_8(out, s.flags)?;
     put_8(out, 0)?;
-    put_8(out, s.offset)?;
-    put_8(out, s.size)?;
+    Ok(())
+}
+
+fn put_section_links(out: &mut Vec<u8>, s: Section) -> Result<(), OutOfMemory>
+    ensures { OnOk result (out.new.items ≡ out.old.items ++ section_links s) }
+{
     put_4(out, s.link)?;
     put_4(out, s.info)?;
     put_8(out, s.align)?;
-    put_8(out, s.entry)
+    put_8(out, s.entry)?;
+    Ok(())
+}
+
+#[tactic(auto, unfolding(crate::specs::Elf::section_header))]
+fn put_section(out: &mut Vec<u8>, s: Section) -> Result<(), OutOfMemory>
+    ensures { OnOk result (out.new.items ≡ out.old.items ++ section_header s) }
+{
+    put_section_kind(out, s)?;
+    put_8(out, s.offset)?;
+    put_8(out, s.size)?;
+    put_section_links(out, s)?;
+    Ok(())
 }
 
 fn text_section(object: &Object) -> Section
@@ -172,6 +198,19 @@ fn name_section(object: &Object, ends: Ends) -> Section
     }
 }
 
+fn put_table_headers(out: &mut Vec<u8>, object: &Object, ends: Ends) -> Result<(), OutOfMemory>
+    requires { AreEnds object.now ends }
+    ensures { OnOk result (out.new.items ≡ out.old.items ++ table_headers object.now) }
+{
+    let symbols = symbol_section(object, ends);
+    let strings = string_section(object, ends);
+    let names = name_section(object, ends);
+    put_section(out, symbols)?;
+    put_section(out, strings)?;
+    put_section(out, names)?;
+    Ok(())
+}
+
 /// Appends the headers of all sections.
 pub(crate) fn put_section_headers(
     out: &mut Vec<u8>,
@@ -181,10 +220,11 @@ pub(crate) fn put_section_headers(
     requires { AreEnds object.now ends }
     ensures { OnOk result (out.new.items ≡ out.old.items ++ section_headers object.now) }
 {
+    let text = text_section(object);
+    let relas = rela_section(object, ends);
     put(out, &[0u8; 64])?;
-    put_section(out, text_section(object))?;
-    put_section(out, rela_section(object, ends))?;
-    put_section(out, symbol_section(object, ends))?;
-    put_section(out, string_section(object, ends))?;
-    put_section(out, name_section(object, ends))
+    put_section(out, text)?;
+    put_section(out, relas)?;
+    put_table_headers(out, object, ends)?;
+    Ok(())
 }

@@ -2,9 +2,8 @@
 
 ghost use Rattle.std.specs.Prelude.{◌≡◌, ◌+◌, ◌-◌, ◌%◌, ◌≤◌, ◌<◌, ◌^◌, ◌++◌, ◌∷◌, [], length, replicate, IfOk, OnOk};
 ghost use Rattle.std.specs.List.{flat_map};
-ghost use Rattle.std.specs.Int.{to_le_bytes, w16, w32, w64};
 ghost use Rattle.rv_obj.specs.Ends.{AreEnds};
-ghost use Rattle.rv_obj.specs.Elf.{name_of, info_of, section_of, value_of, symbol_entry, entries_from, symbol_table, string_table, rela_entry, padding, section_names, before_relas, before_symbols, before_strings, before_names, named, contents};
+ghost use Rattle.rv_obj.specs.Elf.{bytes_2, bytes_4, bytes_8, name_of, info_of, section_of, value_of, symbol_entry, entries_from, symbol_table, string_table, rela_entry, padding, section_names, before_relas, before_symbols, before_strings, before_names, named, contents};
 
 use crate::elf::{Object, Rela, Symbol};
 use rv_base::OutOfMemory;
@@ -30,22 +29,25 @@ pub(crate) fn put(out: &mut Vec<u8>, bytes: &[u8]) -> Result<(), OutOfMemory>
 }
 
 /// Appends a number of two bytes.
+#[tactic(auto, unfolding(crate::specs::Elf::bytes_2))]
 pub(crate) fn put_2(out: &mut Vec<u8>, n: u16) -> Result<(), OutOfMemory>
-    ensures { OnOk result (out.new.items ≡ out.old.items ++ to_le_bytes w16 n) }
+    ensures { OnOk result (out.new.items ≡ out.old.items ++ bytes_2 n) }
 {
     put(out, &n.to_le_bytes())
 }
 
 /// Appends a number of four bytes.
+#[tactic(auto, unfolding(crate::specs::Elf::bytes_4))]
 pub(crate) fn put_4(out: &mut Vec<u8>, n: u32) -> Result<(), OutOfMemory>
-    ensures { OnOk result (out.new.items ≡ out.old.items ++ to_le_bytes w32 n) }
+    ensures { OnOk result (out.new.items ≡ out.old.items ++ bytes_4 n) }
 {
     put(out, &n.to_le_bytes())
 }
 
 /// Appends a number of eight bytes.
+#[tactic(auto, unfolding(crate::specs::Elf::bytes_8))]
 pub(crate) fn put_8(out: &mut Vec<u8>, n: u64) -> Result<(), OutOfMemory>
-    ensures { OnOk result (out.new.items ≡ out.old.items ++ to_le_bytes w64 n) }
+    ensures { OnOk result (out.new.items ≡ out.old.items ++ bytes_8 n) }
 {
     put(out, &n.to_le_bytes())
 }
@@ -58,7 +60,8 @@ fn put_rela(out: &mut Vec<u8>, rela: &Rela) -> Result<(), OutOfMemory>
     put_8(out, u64::from(rela.offset))?;
     put_4(out, rela.kind)?;
     put_4(out, rela.symbol)?;
-    put_8(out, rela.addend.cast_unsigned())
+    put_8(out, rela.addend.cast_unsigned())?;
+    Ok(())
 }
 
 fn put_relas(out: &mut Vec<u8>, relas: &[Rela]) -> Result<(), OutOfMemory>
