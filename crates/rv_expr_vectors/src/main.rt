@@ -6,9 +6,9 @@
 mod run;
 mod text;
 
+use run::{Ended, run_code};
 use rv_base::{IsaFlags, OutOfMemory};
 use rv_expr::{ExprError, ExprOp, compile};
-use run::{Ended, run_code};
 use std::alloc::Global;
 use std::io::{self, BufRead, BufReader, BufWriter, Write};
 use std::process::ExitCode;

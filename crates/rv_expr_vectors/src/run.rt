@@ -45,8 +45,7 @@ fn run_to(machine: &mut IntMachine, target: u64) -> Result<bool, OutOfMemory> {
 }
 
 fn has_kept(machine: &IntMachine) -> bool {
-    KEPT.iter()
-        .all(|register| *register < 32 && machine.reg(*register) == marked(*register))
+    KEPT.iter().all(|register| *register < 32 && machine.reg(*register) == marked(*register))
 }
 
 /// Puts the argument of a number into its register.

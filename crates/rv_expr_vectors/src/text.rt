@@ -49,11 +49,7 @@ fn operation(word: &str) -> Option<ExprOp> {
             named(parts.next())?,
             named(parts.next())?,
         )),
-        name => Some(ExprOp::Bin(
-            bin_op(name)?,
-            named(parts.next())?,
-            named(parts.next())?,
-        )),
+        name => Some(ExprOp::Bin(bin_op(name)?, named(parts.next())?, named(parts.next())?)),
     }
 }
 

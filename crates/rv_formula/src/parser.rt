@@ -160,7 +160,11 @@ impl Parser {
         ensures { length self.new.pending.items ≤ length self.old.pending.items }
     {
         let mut value = operand;
-        'open: while let Some(Pending::Operator { op, left, column }) = self.pending.last().copied() {
+        'open: while let Some(Pending::Operator { op, left, column }) = self
+            .pending
+            .last()
+            .copied()
+        {
             if rank(op) < least {
                 return Ok(value);
             }
@@ -173,7 +177,11 @@ impl Parser {
     /// Puts all operators and choices, up to a parenthesis or a question mark; returns their value.
     fn close_all(&mut self, operand: u32) -> Result<u32, FormulaError> {
         let mut value = self.close_operators(operand, 0)?;
-        'open: while let Some(Pending::Colon { test, then, column }) = self.pending.last().copied() {
+        'open: while let Some(Pending::Colon { test, then, column }) = self
+            .pending
+            .last()
+            .copied()
+        {
             self.pending.pop();
             let choice = put(&mut self.ops, ExprOp::Pick(test, then, value), column)?;
             value = self.close_operators(choice, 0)?;

@@ -46,9 +46,9 @@ fn command<'a>(alloc: Global) -> Result<Command<'a>, OutOfMemory> {
         .action(ArgAction::Set)
         .value_name("NAMES")
         .help("Extensions of the machine, as zca,zcb");
-    let formula = Arg::new(alloc, "FORMULA")
-        .action(ArgAction::Append)
-        .help("Formulas, as 'a0 < 10 ? a0 : a1 + 1'; without one, each line of the input is one");
+    let formula = Arg::new(alloc, "FORMULA").action(ArgAction::Append).help(
+        "Formulas, as 'a0 < 10 ? a0 : a1 + 1'; without one, each line of the input is one",
+    );
     let command = Command::new(alloc, "rvexpr")
         .version("0.1.0")
         .about("Compiles formulas over a0 to a7, and writes the report of each one's code.")
