@@ -40,3 +40,5 @@ mod CallsPut
 mod ResultsPut
 mod TailEmits
 mod ChoicesPut
+mod CodePut
+mod OwnPieces
