@@ -72,10 +72,10 @@ fewer_from_due ds es h =
 abbrev pub used : Buffer → ℕ
 used b = length (bytes_of b) + 8 * length (pending b) + reserve_of (shape_of b)
 
--- at most so many bytes and one inner label more
+-- at most so many bytes and five inner labels more
 pub record Uses (bytes : ℕ) (old new : Buffer) : Type 0 where
   pub size : used new ≤ used old + bytes
-  pub allocated : allocated_of new ≤ allocated_of old + 1
+  pub allocated : allocated_of new ≤ allocated_of old + 5
 
 pub island_uses : (old new : Buffer) → AppendsIsland old new → Uses 17 old new
 island_uses old new p = record {
@@ -89,13 +89,13 @@ room_uses distance old new made m = ⊎_elim
     (λ put. island_uses old new put.1)
     m.put
 
--- so many bytes, veneers for so many uses more, and one own label at most
-code_uses : (count : ℕ) (code : List ℕ) (own : List (Use LabelUse)) (size more : ℕ) (old new : Buffer) → count ≤ 1 → AppendsSequence count code own old new → length (bytes_of new) ≡ length (bytes_of old) + size → length (pending new) ≤ length (pending old) + more → Uses (size + 8 * more) old new
-code_uses count code own size more old new one p long few =
+-- so many bytes, veneers for so many uses more, and five own labels at most
+code_uses : (count : ℕ) (code : List ℕ) (own : List (Use LabelUse)) (size more : ℕ) (old new : Buffer) → count ≤ 5 → AppendsSequence count code own old new → length (bytes_of new) ≡ length (bytes_of old) + size → length (pending new) ≤ length (pending old) + more → Uses (size + 8 * more) old new
+code_uses count code own size more old new own_few p long few =
     let allocated = p.allocated in
     -- code puts no constant
     let reserve = reserve_kept old new p.registered (λ k. high_kept p (first_constant + k) (omega arith)) in
-    record { size = omega (arith, long, few, reserve); allocated = omega (arith, allocated, one) }
+    record { size = omega (arith, long, few, reserve); allocated = omega (arith, allocated, own_few) }
 
 -- one thing after another, of which one allocates no label
 island_then : (first rest : ℕ) (old mid new : Buffer) → Uses first old mid → allocated_of new ≡ allocated_of mid → Uses rest mid new → Uses (first + rest) old new

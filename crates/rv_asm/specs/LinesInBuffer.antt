@@ -98,7 +98,7 @@ pub record Named (lines : List Line) (spans : List LineSpan) (b : Buffer) : Type
 pub record Sized (context : Context) (lines : List Line) (b : Buffer) : Type 0 where
   pub reach : CanReach (length (bytes_of b)) (pending b)
   pub size : length (bytes_of b) + 8 * length (pending b) + reserve_of (shape_of b) ≤ size_sum context lines
-  pub allocated : 64 * allocated_of b ≤ size_sum context lines
+  pub allocated : 8 * allocated_of b ≤ size_sum context lines
 
 -- ---- one line more
 

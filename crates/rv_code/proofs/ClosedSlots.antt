@@ -1,10 +1,8 @@
 -- Slots that go to no label but their own have an even number of bytes.
-use Rattle.std.proofs.Common.{◌≡◌, ◌⊎◌, ℕ, ◌+◌, ◌%◌, ◌≤◌, List, [], ◌∷◌, ◌++◌, length, Option, ◌-ℤ◌, refl, ◌∙◌, arith}
-use Rattle.std.specs.Prelude.{◌&&◌}
+use Rattle.std.proofs.Common.{◌≡◌, ℕ, ◌+◌, ◌%◌, List, [], ◌∷◌, length, Option, refl, arith}
 use Rattle.rv_inst.specs.declared.label_use.LabelUse.{LabelUse}
 use Rattle.rv_inst.specs.declared.label_use.LabelUse.TheVariants.{PCRel32, PCRelHi20, PCRelLo12I, Jal20, B12, RVCJump}
 use Rattle.rv_inst.specs.LabelUse.{marks_of}
-use Rattle.mach_uses.specs.Windows.{window}
 use Rattle.rv_code.specs.Slots.{Slot, Op, Aim, Data, Notes, Names, Allocate, Here, Fill, Address, CallTo, size_of, AreClosed}
 
 -- the window of each kind of use has an even length

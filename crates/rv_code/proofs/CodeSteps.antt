@@ -5,7 +5,7 @@ use Rattle.rv_machine.specs.declared.decoding.Decoded.{Decoded}
 use Rattle.rv_machine.specs.State.{State, Values, IsState, wrap, low64}
 use Rattle.rv_machine.specs.Decode.{decode}
 use Rattle.rv_machine.specs.Effects.{act}
-use Rattle.rv_machine.specs.Steps.{fetch}
+use Rattle.rv_machine.specs.Steps.{fetch, istep}
 use Rattle.rv_inst.specs.SameValues.{Same}
 use Rattle.rv_code.specs.Slots.{between}
 use Rattle.rv_code.specs.Sites.{Site, HasOps, IsPlacedAt, CodeHas, ComesTo, LeadsOn}
@@ -25,11 +25,14 @@ pub decodes_at : {site : Site} {offset size : ℕ} {s : State} (d : Decoded) (ds
 decodes_at {site} {offset} {size} {s} d ds h some has = ap (λ a. decode site.context.flags (fetch s.values.mem a)) (pc_in_code h some) ∙ (has s.values.mem h.placed).0
 
 -- the operation that stands there is done
-pub step_at : {site : Site} {offset size : ℕ} {s : State} (d : Decoded) (ds : List Decoded) (t : State) → IsAt site offset size s → 0 < size → CodeHas site offset (d ∷ ds) → act d s ≡ Some t → Goes site.context.flags 1 s t
-step_at {site} {offset} {size} {s} d ds t h some has acts =
+pub istep_here : {site : Site} {offset size : ℕ} {s : State} (d : Decoded) (ds : List Decoded) (t : State) → IsAt site offset size s → 0 < size → CodeHas site offset (d ∷ ds) → act d s ≡ Some t → istep site.context.flags s ≡ Some t
+istep_here {site} {offset} {size} {s} d ds t h some has acts =
     let here = pc_in_code h some in
     let aligned = h.placed.aligned in let even = h.even in
-    goes_one site.context.flags s t (istep_at site.context.flags s d (omega arith) (decodes_at d ds h some has) acts)
+    istep_at site.context.flags s d (omega arith) (decodes_at d ds h some has) acts
+
+pub step_at : {site : Site} {offset size : ℕ} {s : State} (d : Decoded) (ds : List Decoded) (t : State) → IsAt site offset size s → 0 < size → CodeHas site offset (d ∷ ds) → act d s ≡ Some t → Goes site.context.flags 1 s t
+step_at {site} {s = s} d ds t h some has acts = goes_one site.context.flags s t (istep_here d ds t h some has acts)
 
 -- ---- on to the next
 

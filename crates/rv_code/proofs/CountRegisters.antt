@@ -1,5 +1,5 @@
 -- The registers of a sequence that counts bits of a register in a loop.
-use Rattle.std.proofs.Common.{◌≡◌, ◌≢◌, ℕ, ◌*◌, ◌<◌, ◌≤◌, Bool, true, false, [], ◌∷◌, List, arith, refl, sym, ap, subst, ◌∙◌, lit≤, eqb-true}
+use Rattle.std.proofs.Common.{◌≡◌, ◌≢◌, ℕ, ◌*◌, ◌<◌, ◌≤◌, Bool, true, false, [], ◌∷◌, List, length, arith, refl, sym, ap, subst, ◌∙◌, lit≤, eqb-true}
 use Rattle.std.specs.Prelude.{nat_eq, ◌||◌}
 use Rattle.std.proofs.lemmas.Bool.Decides.{nat_tests}
 use Rattle.rv_base.specs.declared.ir_type.IrType.{IrType}
@@ -10,7 +10,7 @@ use Rattle.rv_base.specs.Regs.{number_of}
 use Rattle.rv_machine.specs.State.{Values, AreValues, reg, set_reg}
 use Rattle.rv_inst.specs.SameValues.{SameBut, is_among}
 use Rattle.rv_code.proofs.NumberTests.{equals_itself, or_true}
-use Rattle.rv_code.proofs.Registers.{reads_back, reads_other, temporary_set, spare_set}
+use Rattle.rv_code.proofs.Registers.{reads_back, reads_set, reads_other, temporary_set, spare_set}
 
 -- the registers of a count, by their numbers, and how many bits there are
 pub record Count : Type 0 where
@@ -51,9 +51,14 @@ pub record CountHolds (c : Count) (left next count : ℕ) (v w : Values) : Type 
   pub sum : reg w c.sum ≡ count
   pub others : SameBut (written c) v w
 
--- and the next bit is in x30, in its own place
-pub record BitHolds (c : Count) (left next count bit : ℕ) (v w : Values) : Type 0 where
+-- and of values with all registers
+pub record InCount (c : Count) (left next count : ℕ) (v w : Values) : Type 0 where
+  pub all : length w.regs ≡ 31
   pub holds : CountHolds c left next count v w
+
+-- and the next bit is in x30, in its own place
+pub record TestsBit (c : Count) (left next count bit : ℕ) (v w : Values) : Type 0 where
+  pub now : InCount c left next count v w
   pub tested : reg w 30 ≡ bit * next
 
 sum_among : (c : Count) → is_among (written c) c.sum ≡ true
@@ -72,25 +77,25 @@ rs_other c h = let a = h.sum_rs in let b = h.tmp_rs in let d = h.step_rs in grin
 pub source_kept : {c : Count} {left next count : ℕ} {v w : Values} → IsCount c → CountHolds c left next count v w → reg w c.rs ≡ reg v c.rs
 source_kept {c} h k = sym (k.others.regs c.rs h.rs_usable (rs_other c h))
 
-pub sum_set : {c : Count} {left next count : ℕ} {v w : Values} (x : ℕ) → IsCount c → AreValues w → CountHolds c left next count v w → CountHolds c left next x v (set_reg w c.sum x)
+pub sum_set : {c : Count} {left next count : ℕ} {v w : Values} (x : ℕ) → IsCount c → length w.regs ≡ 31 → CountHolds c left next count v w → CountHolds c left next x v (set_reg w c.sum x)
 sum_set {c} {v = v} {w = w} x h hw k = record {
   step = reads_other w c.sum c.step x (λ e. h.sum_step (sym e)) ∙ k.step;
   tmp = reads_other w c.sum c.tmp x (λ e. h.sum_tmp (sym e)) ∙ k.tmp;
-  sum = reads_back w c.sum x hw h.sum_written (let a = h.sum_usable in omega arith);
+  sum = reads_set w c.sum x hw h.sum_written (let a = h.sum_usable in omega arith);
   others = temporary_set v w c.sum x (sum_among c) k.others;
 }
 
-pub tmp_set : {c : Count} {left next count : ℕ} {v w : Values} (x : ℕ) → IsCount c → AreValues w → CountHolds c left next count v w → CountHolds c left x count v (set_reg w c.tmp x)
+pub tmp_set : {c : Count} {left next count : ℕ} {v w : Values} (x : ℕ) → IsCount c → length w.regs ≡ 31 → CountHolds c left next count v w → CountHolds c left x count v (set_reg w c.tmp x)
 tmp_set {c} {v = v} {w = w} x h hw k = record {
   step = reads_other w c.tmp c.step x (λ e. h.tmp_step (sym e)) ∙ k.step;
-  tmp = reads_back w c.tmp x hw h.tmp_written (let a = h.tmp_usable in omega arith);
+  tmp = reads_set w c.tmp x hw h.tmp_written (let a = h.tmp_usable in omega arith);
   sum = reads_other w c.tmp c.sum x h.sum_tmp ∙ k.sum;
   others = temporary_set v w c.tmp x (tmp_among c) k.others;
 }
 
-pub step_set : {c : Count} {left next count : ℕ} {v w : Values} (x : ℕ) → IsCount c → AreValues w → CountHolds c left next count v w → CountHolds c x next count v (set_reg w c.step x)
+pub step_set : {c : Count} {left next count : ℕ} {v w : Values} (x : ℕ) → IsCount c → length w.regs ≡ 31 → CountHolds c left next count v w → CountHolds c x next count v (set_reg w c.step x)
 step_set {c} {v = v} {w = w} x h hw k = record {
-  step = reads_back w c.step x hw h.step_written (let a = h.step_usable in omega arith);
+  step = reads_set w c.step x hw h.step_written (let a = h.step_usable in omega arith);
   tmp = reads_other w c.step c.tmp x h.tmp_step ∙ k.tmp;
   sum = reads_other w c.step c.sum x h.sum_step ∙ k.sum;
   others = temporary_set v w c.step x (step_among c) k.others;

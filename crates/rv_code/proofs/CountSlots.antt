@@ -1,78 +1,125 @@
--- The slots of sequences that count bits of a register in a loop: how long they are, and that they are of even pieces.
-use Rattle.std.proofs.Common.{◌≡◌, ℕ, ◌+◌, ◌-◌, ◌%◌, Bool, true, false, List, [], ◌∷◌, ◌++◌, map, Option, pos, negsuc, refl, arith}
-use Rattle.std.specs.Prelude.{◌-ℤ◌}
+-- The instructions that count bits of a register, and that reverse those of its bytes: the pieces that make them, and how long they are.
+use Rattle.std.proofs.Common.{◌≡◌, ℕ, zero, suc, ◌<◌, ◌≤◌, Bool, true, false, refl, ap, sym, subst, arith, lit<, lit≤}
+use Rattle.rv_base.specs.IrType.{bits_of}
+use Rattle.rv_base.specs.Regs.{number_of}
 use Rattle.rv_base.specs.declared.flags.IsaFlags.{IsaFlags}
-use Rattle.rv_ops.specs.declared.alu.AluOPRRR.TheVariants.{And}
-use Rattle.rv_ops.specs.declared.alu.AluOPRRI.{AluOPRRI}
-use Rattle.rv_ops.specs.declared.alu.AluOPRRI.TheVariants.{Addi, Slli}
-use Rattle.rv_machine.specs.declared.decoding.Decoded.{Decoded}
-use Rattle.rv_code.specs.Counts.{start_ops, turn_size, test_op, turn_ops}
-use Rattle.rv_code.specs.Operations.{short_jump}
-use Rattle.rv_code.specs.Slots.{Op, here_at, AreClosed, AreSelfContained}
-use Rattle.rv_code.proofs.ShortSlots.{IsShort}
-use Rattle.rv_code.proofs.ShortOps.{rrr_sized, rri_sized, jump_len, least_even}
+use Rattle.rv_inst.specs.Context.{Context}
+use Rattle.rv_inst.specs.Sizes.{Words, count_size, zeros_size, reverse_size}
+use Rattle.rv_inst.specs.declared.inst.Brev8Info.{Brev8Info}
+use Rattle.rv_inst.specs.declared.inst.CountInfo.{CountInfo}
+use Rattle.rv_inst.specs.declared.inst.Inst.TheVariants.{Popcnt, Cltz, Brev8}
+use Rattle.rv_code.specs.Counts.{ones_pieces, zeros_pieces}
+use Rattle.rv_code.specs.Pieces.{pieces_size, IsBoundIn, AreClosedPieces}
+use Rattle.rv_code.specs.Reversals.{reverse_pieces}
+use Rattle.rv_code.proofs.ClosedPieces.{pieces_few}
+use Rattle.rv_code.proofs.MadeOfPieces.{IsMadeOf}
+use Rattle.rv_code.proofs.ShortOps.{window_long}
 
--- at most four operations come before the loop
-pub start_short : (flags : IsaFlags) (downward : Bool) (sum tmp step bits : ℕ) → IsShort 16 (map Op (start_ops flags downward sum tmp step bits))
-start_short flags true sum tmp step bits = record {
-  plain = tt;
-  short =
-      let a = (rri_sized flags Addi sum 0 (pos 0)).few in
-      let b = (rri_sized flags Addi step 0 (pos bits)).few in
-      let c = (rri_sized flags Addi tmp 0 (pos 1)).few in
-      let d = (rri_sized flags Slli tmp tmp (pos (bits - 1))).few in
-      omega arith;
-}
-start_short flags false sum tmp step bits = record {
-  plain = tt;
-  short =
-      let a = (rri_sized flags Addi sum 0 (pos 0)).few in
-      let b = (rri_sized flags Addi step 0 (pos bits)).few in
-      let c = (rri_sized flags Addi tmp 0 (pos 1)).few in
-      omega arith;
-}
+-- ---- the ones
 
--- a branch has four bytes
-pub test_long : (flags : IsaFlags) (zeros : Bool) (shift : AluOPRRI) (sum tmp step : ℕ) → (test_op flags zeros shift sum tmp step).len ≡ 4
-test_long flags true shift sum tmp step = refl
-test_long flags false shift sum tmp step = refl
+ones_long : (flags : IsaFlags) (sum tmp step rs bits : ℕ) → count_size flags sum tmp step rs bits ≡ pieces_size flags (ones_pieces sum tmp step rs bits)
+ones_long flags sum tmp step rs bits = let jump = window_long flags in omega arith
 
--- each of these operations has an even length
-abbrev pub AreEven : List Decoded → Type 0
-AreEven [] = Unit {0}
-AreEven (d ∷ ops) = (d.len % 2 ≡ 0) × AreEven ops
+pub ones_short : (flags : IsaFlags) (sum tmp step rs bits : ℕ) → count_size flags sum tmp step rs bits ≤ 44
+ones_short flags sum tmp step rs bits = subst (λ n. n ≤ 44) (sym (ones_long flags sum tmp step rs bits)) (pieces_few flags (ones_pieces sum tmp step rs bits))
 
-pub ops_contained : (ops : List Decoded) → AreEven ops → AreSelfContained (map Op ops)
-ops_contained ops all = closed (λ k. here_at k 0 (map Op ops)) 0 ops all
+ones_closed : (sum tmp step rs bits : ℕ) → AreClosedPieces (ones_pieces sum tmp step rs bits)
+ones_closed sum tmp step rs bits = record { among = (lit< tt, (lit< tt, (lit< tt, (lit< tt, (lit< tt, (lit< tt, tt)))))); bound = bound }
   where
-    closed : (here : ℕ → Option ℕ) (offset : ℕ) (ops : List Decoded) → AreEven ops → AreClosed here offset (map Op ops)
-    closed here offset [] all = tt
-    closed here offset (d ∷ ops) all = (all.0, closed here (offset + d.len) ops all.1)
+    bound : (k : ℕ) → k < 3 → IsBoundIn (ones_pieces sum tmp step rs bits) k
+    bound zero lt = (_, refl)
+    bound (suc zero) lt = (_, refl)
+    bound (suc (suc zero)) lt = (_, refl)
+    bound (suc (suc (suc k))) lt = absurd (omega arith)
 
-turn_even : (flags : IsaFlags) (zeros : Bool) (shift : AluOPRRI) (sum tmp step rs : ℕ) → AreEven (turn_ops flags zeros shift sum tmp step rs)
-turn_even flags zeros shift sum tmp step rs =
-    let jump = jump_len flags (pos 0 -ℤ pos (turn_size flags shift sum tmp step rs)) in
-    let least = least_even flags in
-    let test = test_long flags zeros shift sum tmp step in
-    let even : (test_op flags zeros shift sum tmp step).len % 2 ≡ 0 = omega arith in
-    let last : (short_jump flags (pos 0 -ℤ pos (turn_size flags shift sum tmp step rs))).len % 2 ≡ 0 = omega arith in (
-      refl,
-      (
-        (rrr_sized flags And 30 tmp rs).even,
-        (
-          even,
-          ((rri_sized flags Addi sum sum (pos 1)).even, ((rri_sized flags Addi step step (negsuc 0)).even, ((rri_sized flags shift tmp tmp (pos 1)).even, (last, tt)))),
-        ),
-      ),
-    )
+pub popcnt_made : (context : Context) (info : CountInfo) → IsMadeOf context (Popcnt info) (ones_pieces (number_of info.sum.reg) (number_of info.tmp.reg) (number_of info.step.reg) (number_of info.rs) (bits_of info.ty))
+popcnt_made context info = record {
+  closed = ones_closed (number_of info.sum.reg) (number_of info.tmp.reg) (number_of info.step.reg) (number_of info.rs) (bits_of info.ty);
+  short = lit≤ tt;
+  nowhere = tt;
+  owns = refl;
+  long = ap Words (ones_long context.flags (number_of info.sum.reg) (number_of info.tmp.reg) (number_of info.step.reg) (number_of info.rs) (bits_of info.ty));
+  uses = λ start end. refl;
+  records = λ start. refl;
+  names = λ named. refl;
+}
 
--- and each of a whole sequence has
-pub count_even : (flags : IsaFlags) (downward zeros : Bool) (shift : AluOPRRI) (sum tmp step rs bits : ℕ) → AreEven (start_ops flags downward sum tmp step bits ++ turn_ops flags zeros shift sum tmp step rs)
-count_even flags true zeros shift sum tmp step rs bits = (
-  (rri_sized flags Addi sum 0 (pos 0)).even,
-  ((rri_sized flags Addi step 0 (pos bits)).even, ((rri_sized flags Addi tmp 0 (pos 1)).even, ((rri_sized flags Slli tmp tmp (pos (bits - 1))).even, turn_even flags zeros shift sum tmp step rs))),
-)
-count_even flags false zeros shift sum tmp step rs bits = (
-  (rri_sized flags Addi sum 0 (pos 0)).even,
-  ((rri_sized flags Addi step 0 (pos bits)).even, ((rri_sized flags Addi tmp 0 (pos 1)).even, turn_even flags zeros shift sum tmp step rs)),
-)
+-- ---- the zeros before the first one
+
+zeros_long : (flags : IsaFlags) (leading : Bool) (sum tmp step rs bits : ℕ) → zeros_size flags leading sum tmp step rs bits ≡ pieces_size flags (zeros_pieces leading sum tmp step rs bits)
+zeros_long flags true sum tmp step rs bits = let jump = window_long flags in omega arith
+zeros_long flags false sum tmp step rs bits = let jump = window_long flags in omega arith
+
+pub zeros_short : (flags : IsaFlags) (leading : Bool) (sum tmp step rs bits : ℕ) → zeros_size flags leading sum tmp step rs bits ≤ 44
+zeros_short flags true sum tmp step rs bits = subst (λ n. n ≤ 44) (sym (zeros_long flags true sum tmp step rs bits)) (pieces_few flags (zeros_pieces true sum tmp step rs bits))
+zeros_short flags false sum tmp step rs bits = let e = zeros_long flags false sum tmp step rs bits in let few = pieces_few flags (zeros_pieces false sum tmp step rs bits) in omega arith
+
+zeros_closed : (leading : Bool) (sum tmp step rs bits : ℕ) → AreClosedPieces (zeros_pieces leading sum tmp step rs bits)
+zeros_closed true sum tmp step rs bits = record { among = (lit< tt, (lit< tt, (lit< tt, (lit< tt, (lit< tt, tt))))); bound = bound }
+  where
+    bound : (k : ℕ) → k < 2 → IsBoundIn (zeros_pieces true sum tmp step rs bits) k
+    bound zero lt = (_, refl)
+    bound (suc zero) lt = (_, refl)
+    bound (suc (suc k)) lt = absurd (omega arith)
+zeros_closed false sum tmp step rs bits = record { among = (lit< tt, (lit< tt, (lit< tt, (lit< tt, (lit< tt, tt))))); bound = bound }
+  where
+    bound : (k : ℕ) → k < 2 → IsBoundIn (zeros_pieces false sum tmp step rs bits) k
+    bound zero lt = (_, refl)
+    bound (suc zero) lt = (_, refl)
+    bound (suc (suc k)) lt = absurd (omega arith)
+
+pub zeros_made : (context : Context) (leading : Bool) (info : CountInfo) → IsMadeOf context (Cltz leading info) (zeros_pieces leading (number_of info.sum.reg) (number_of info.tmp.reg) (number_of info.step.reg) (number_of info.rs) (bits_of info.ty))
+zeros_made context leading info = by leading
+  where
+    by : (leading : Bool) → IsMadeOf context (Cltz leading info) (zeros_pieces leading (number_of info.sum.reg) (number_of info.tmp.reg) (number_of info.step.reg) (number_of info.rs) (bits_of info.ty))
+    by true = record {
+      closed = zeros_closed true (number_of info.sum.reg) (number_of info.tmp.reg) (number_of info.step.reg) (number_of info.rs) (bits_of info.ty);
+      short = lit≤ tt;
+      nowhere = tt;
+      owns = refl;
+      long = ap Words (zeros_long context.flags true (number_of info.sum.reg) (number_of info.tmp.reg) (number_of info.step.reg) (number_of info.rs) (bits_of info.ty));
+      uses = λ start end. refl;
+      records = λ start. refl;
+      names = λ named. refl;
+    }
+    by false = record {
+      closed = zeros_closed false (number_of info.sum.reg) (number_of info.tmp.reg) (number_of info.step.reg) (number_of info.rs) (bits_of info.ty);
+      short = lit≤ tt;
+      nowhere = tt;
+      owns = refl;
+      long = ap Words (zeros_long context.flags false (number_of info.sum.reg) (number_of info.tmp.reg) (number_of info.step.reg) (number_of info.rs) (bits_of info.ty));
+      uses = λ start end. refl;
+      records = λ start. refl;
+      names = λ named. refl;
+    }
+
+-- ---- bits in reverse order
+
+reverse_long : (flags : IsaFlags) (rd tmp tmp2 step rs bits : ℕ) → reverse_size flags rd tmp tmp2 step rs bits ≡ pieces_size flags (reverse_pieces rd tmp tmp2 step rs bits)
+reverse_long flags rd tmp tmp2 step rs bits = let jump = window_long flags in omega arith
+
+pub reverse_short : (flags : IsaFlags) (rd tmp tmp2 step rs bits : ℕ) → reverse_size flags rd tmp tmp2 step rs bits ≤ 76
+reverse_short flags rd tmp tmp2 step rs bits = subst (λ n. n ≤ 76) (sym (reverse_long flags rd tmp tmp2 step rs bits)) (pieces_few flags (reverse_pieces rd tmp tmp2 step rs bits))
+
+reverse_closed : (rd tmp tmp2 step rs bits : ℕ) → AreClosedPieces (reverse_pieces rd tmp tmp2 step rs bits)
+reverse_closed rd tmp tmp2 step rs bits = record { among = (lit< tt, (lit< tt, (lit< tt, (lit< tt, (lit< tt, (lit< tt, (lit< tt, (lit< tt, (lit< tt, (lit< tt, tt)))))))))); bound = bound }
+  where
+    bound : (k : ℕ) → k < 5 → IsBoundIn (reverse_pieces rd tmp tmp2 step rs bits) k
+    bound zero lt = (_, refl)
+    bound (suc zero) lt = (_, refl)
+    bound (suc (suc zero)) lt = (_, refl)
+    bound (suc (suc (suc zero))) lt = (_, refl)
+    bound (suc (suc (suc (suc zero)))) lt = (_, refl)
+    bound (suc (suc (suc (suc (suc k))))) lt = absurd (omega arith)
+
+pub reverse_made : (context : Context) (info : Brev8Info) → IsMadeOf context (Brev8 info) (reverse_pieces (number_of info.rd.reg) (number_of info.tmp.reg) (number_of info.tmp2.reg) (number_of info.step.reg) (number_of info.rs) (bits_of info.ty))
+reverse_made context info = record {
+  closed = reverse_closed (number_of info.rd.reg) (number_of info.tmp.reg) (number_of info.tmp2.reg) (number_of info.step.reg) (number_of info.rs) (bits_of info.ty);
+  short = lit≤ tt;
+  nowhere = tt;
+  owns = refl;
+  long = ap Words (reverse_long context.flags (number_of info.rd.reg) (number_of info.tmp.reg) (number_of info.tmp2.reg) (number_of info.step.reg) (number_of info.rs) (bits_of info.ty));
+  uses = λ start end. refl;
+  records = λ start. refl;
+  names = λ named. refl;
+}

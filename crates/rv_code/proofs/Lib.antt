@@ -25,14 +25,12 @@ mod ChoiceRuns
 pub mod ChoiceSlots
 mod ChoiceSteps
 mod ZerosRules
+mod ZeroNumbers
 mod ZerosRuns
-pub mod ZerosSlots
 mod ReversedBytes
 mod ReverseRegisters
 mod ReverseRules
 mod ReverseRuns
-pub mod ReverseSlots
-mod ReverseSteps
 mod ProbeRules
 mod ProbeRuns
 pub mod ProbeSlots
@@ -68,3 +66,7 @@ pub mod PlainSlots
 pub mod ShortSlots
 pub mod NumberForms
 pub mod ClosedSlots
+mod Evaluation
+mod Reaching
+pub mod ClosedPieces
+pub mod MadeOfPieces

@@ -1,29 +1,30 @@
 -- The ones of a register are counted, from the highest of its low bits on.
-use Rattle.std.proofs.Common.{◌≡◌, ℕ, zero, suc, ◌+◌, ◌*◌, ◌/◌, ◌^◌, ◌<◌, ◌≤◌, pos, true, false, [], ◌∷◌, List, map, Some, arith, refl, ap, subst, ◌∙◌, lit≤}
-use Rattle.std.specs.Prelude.{nat_eq, if◌then◌else◌, ◌-ℤ◌}
+use Rattle.std.proofs.Common.{◌≡◌, ℕ, zero, suc, ◌+◌, ◌-◌, ◌*◌, ◌/◌, ◌^◌, ◌<◌, ◌≤◌, pos, true, false, [], ◌∷◌, List, Some, arith, refl, sym, ap, subst, ◌∙◌, lit<, lit≤}
+use Rattle.std.specs.Prelude.{nat_eq, if◌then◌else◌}
 use Rattle.std.specs.Int.{bit_at}
 use Rattle.std.proofs.lemmas.Nat.{pow_pos}
 use Rattle.std.proofs.lemmas.Nat.Bits.{bit_at-lt, bit_at-suc, bit_at_lowest}
-use Rattle.rv_base.specs.declared.flags.IsaFlags.{IsaFlags}
-use Rattle.rv_machine.specs.declared.decoding.Decoded.{Decoded}
-use Rattle.rv_machine.specs.State.{State, Values, reg, set_reg, wrap, low64, at}
-use Rattle.rv_ops.specs.declared.alu.AluOPRRI.TheVariants.{Srli}
+use Rattle.rv_base.specs.declared.condcodes.IntCC.TheVariants.{Equal}
+use Rattle.rv_machine.specs.State.{State, Values, AreValues, reg, set_reg}
+use Rattle.rv_ops.specs.declared.alu.AluOPRRI.TheVariants.{Addi, Srli}
 use Rattle.rv_inst.specs.declared.inst.CountInfo.{CountInfo}
 use Rattle.rv_inst.specs.declared.inst.Inst.TheVariants.{Popcnt}
 use Rattle.rv_inst.specs.Bits.{ones}
 use Rattle.rv_inst.specs.Meaning.{Next}
+use Rattle.rv_inst.specs.SameValues.{SameBut}
 use Rattle.rv_code.specs.declared.state.EmitVState.{EmitVState}
-use Rattle.rv_code.specs.Counts.{turn_ops}
-use Rattle.rv_code.specs.InstParts.{slots_alone, count_slots}
+use Rattle.rv_code.specs.Counts.{count_down, ones_pieces, ones_turn}
+use Rattle.rv_code.specs.Evaluation.{point, and_then, evaluate}
+use Rattle.rv_code.specs.InstParts.{slots_alone}
 use Rattle.rv_code.specs.InstRuns.{Enters, ComesOut, RunsIn}
-use Rattle.rv_code.specs.Operations.{decoded_beq, jump_size}
-use Rattle.rv_code.specs.Sites.{Site, CodeHas, StandsIn}
-use Rattle.rv_code.specs.Slots.{Slot, Op, size_of}
-use Rattle.rv_code.proofs.CountRegisters.{Count, IsCount, BitHolds, Counted, count_of}
-use Rattle.rv_code.proofs.CountRuns.{InCount, CountGoes, power_fits, zero_of, full_of, one_of, highest_of, more_of, turn_of, down_of, rest_of, short_count, starts_highest, none_left, tests, counts_more, counts_down, enters_count, count_out}
-use Rattle.rv_code.proofs.Courses.{InCourse, Comes, comes_on, course_of, goes_ahead}
-use Rattle.rv_code.proofs.NumberTests.{half_power, not_zero}
-use Rattle.rv_code.proofs.ShortOps.{jump_len, small_number}
+use Rattle.rv_code.specs.Pieces.{Piece, Rri, Do, Branch, Bind, slots_of, AreInRange}
+use Rattle.rv_code.specs.Sites.{Site}
+use Rattle.rv_code.proofs.CountRegisters.{Count, IsCount, InCount, TestsBit, Counted, count_of, written, same_beside}
+use Rattle.rv_code.proofs.CountRuns.{starts, none_left, tests, counts_one, goes_down}
+use Rattle.rv_code.proofs.Exits.{same_but}
+use Rattle.rv_code.proofs.NumberTests.{half_power, not_zero, small_shift}
+use Rattle.rv_code.proofs.Reaching.{Reaches, goes_on, reaches_such, pieces_out}
+use Rattle.rv_code.proofs.Registers.{are_values_set}
 
 -- ---- numbers
 
@@ -38,73 +39,77 @@ ones_few (suc k) n = let e = ones_few k (n / 2) in omega arith
 
 -- ---- a turn
 
--- past the operation that counts
-abbrev skip_of : IsaFlags → Count → Decoded
-skip_of flags c = decoded_beq 0 30 (pos (4 + (more_of flags c).len))
+abbrev whole_of : Count → List Piece
+whole_of c = ones_pieces c.sum c.tmp c.step c.rs c.bits
 
--- what stands from the first turn on
-abbrev turn_slots : IsaFlags → Count → List Slot
-turn_slots flags c = map Op (turn_ops flags false Srli c.sum c.tmp c.step c.rs)
+abbrev turn_of : Count → List Piece
+turn_of c = ones_turn c.sum c.tmp c.step c.rs
+
+-- what stands in a turn after its tests, and from the test of the bit on
+abbrev down_of : Count → List Piece
+down_of c = count_down Srli c.tmp c.step
+
+abbrev counting : Count → List Piece
+counting c = Do (Rri Addi c.sum c.sum (pos 1)) ∷ Bind 2 ∷ down_of c
+
+abbrev testing : Count → List Piece
+testing c = Branch Equal 0 30 2 ∷ counting c
 
 -- x30 holds the next bit's power or 0: the bit is counted or not
-by_bit : {site : Site} {c : Count} {at_bit left next count : ℕ} {v : Values} {s : State} (b : ℕ) → b < 2 → 0 < next → count < 2 ^ 32 → IsCount c → CodeHas site at_bit (skip_of site.context.flags c ∷ []) → CodeHas site (at_bit + 4) (more_of site.context.flags c ∷ []) → InCourse site at_bit (4 + ((more_of site.context.flags c).len + down_of site.context.flags Srli c)) (BitHolds c left next count b v) s → CountGoes site (at_bit + 4 + (more_of site.context.flags c).len) (down_of site.context.flags Srli c) c left next (b + count) v s
-by_bit {site} {c} {at_bit} {left} {next} {count} {v} {s} zero lt some few h skip more k =
-    let flags = site.context.flags in
-    let m = (more_of flags c).len in
-    let sized = (short_count flags Srli c).more in
-    let m_few = sized.few in
-    let m_even = sized.even in
+by_bit : {c : Count} {left next count : ℕ} {v : Values} (b : ℕ) (w : Values) → b < 2 → 0 < next → count < 2 ^ 32 → IsCount c → TestsBit c left next count b v w → Reaches (whole_of c) (point (testing c) w) (down_of c) (InCount c left next (b + count) v)
+by_bit {c} {left} {next} {count} {v} zero w lt some few h k =
     let none : 0 * next ≡ 0 = omega arith in
-    let e : nat_eq 0 (reg s.values 30) ≡ true = ap (nat_eq 0) (k.values.tested ∙ none) in
-    let far : low64 (pos (4 + m)) ≡ 4 + m = small_number (4 + m) (omega arith) in
+    let e : nat_eq 0 (reg w 30) ≡ true = ap (nat_eq 0) (k.tested ∙ none) in
     let same : count ≡ 0 + count = omega arith in
-    subst (λ n. CountGoes site (at_bit + 4 + m) (down_of flags Srli c) c left next n v s) same
-    (goes_ahead (skip_of flags c) (4 + m) (at_bit + 4 + m) (down_of flags Srli c) skip (λ i. Some (at (if e i then wrap (s.pc + far i) else wrap (s.pc + 4)) s.values)) (omega arith) (omega arith) (omega arith) (omega arith) (course_of (λ w b. b.holds) k))
-by_bit {site} {c} {at_bit} {s = s} (suc zero) lt some few h skip more k =
-    let flags = site.context.flags in
-    let m = (more_of flags c).len in
-    let tested = k.values.tested in
-    let e : nat_eq 0 (reg s.values 30) ≡ false = not_zero (reg s.values 30) (omega arith) in
-    comes_on (goes_ahead (skip_of flags c) 4 (at_bit + 4) (m + down_of flags Srli c) skip (ap (λ b. Some (at (if b then wrap (s.pc + low64 (pos (4 + m))) else wrap (s.pc + 4)) s.values)) e) refl refl (omega arith) (omega arith) (course_of (λ w b. b.holds) k)) (λ t i. counts_more few h more i)
-by_bit (suc (suc b)) lt some few h skip more k = absurd (omega arith)
-
--- one turn
-turn : {site : Site} {loop : ℕ} {c : Count} {count : ℕ} {v : Values} {s : State} (allocated left : ℕ) → left < 64 → count < 2 ^ 32 → IsCount c → StandsIn site allocated loop (turn_slots site.context.flags c) → InCount site loop (4 + rest_of site.context.flags Srli c) c (suc left) (2 ^ left) count v s → CountGoes site loop (4 + rest_of site.context.flags Srli c) c left (2 ^ left / 2) (bit_at (reg v c.rs) left + count) v s
-turn {c = c} {v = v} allocated left lt few h stands k =
-    let fits = power_fits left lt in
-    let bit = bit_at (reg v c.rs) left in
-    comes_on (tests Srli left left lt h stands.0 stands.1.0 k) (λ t1 k1.
-    comes_on (by_bit bit (bit_at-lt (reg v c.rs) left) (pow_pos left) few h stands.1.1.0 stands.1.1.1.0 k1) (λ t2 k2.
-    counts_down Srli left (2 ^ left / 2) lt refl refl (omega arith) h stands.1.1.1.1.0 stands.1.1.1.1.1.0 stands.1.1.1.1.1.1.0 k.here.even k2))
-
--- ---- all turns
+    record { count = 1; values = w; ran = ap (λ b. and_then (if b then Some (point (down_of c) w) else Some (point (counting c) w)) (evaluate 0 (whole_of c))) e; such = subst (λ n. InCount c left next n v w) same k.now }
+by_bit {c} {left} {next} {count} {v} (suc zero) w lt some few h k =
+    let tested = k.tested in
+    let e : nat_eq 0 (reg w 30) ≡ false = not_zero (reg w 30) (omega arith) in
+    goes_on (record { count = 1; values = w; ran = ap (λ b. and_then (if b then Some (point (down_of c) w) else Some (point (counting c) w)) (evaluate 0 (whole_of c))) e; such = k.now })
+    (λ w1 k1. goes_on (counts_one (whole_of c) (Bind 2 ∷ down_of c) w1 few h k1)
+    (λ w2 k2. record { count = 1; values = w2; ran = refl; such = k2 }))
+by_bit (suc (suc b)) w lt some few h k = absurd (omega arith)
 
 -- turns until no bit is left, by the ones that are still to be counted
-turns : {site : Site} {loop : ℕ} {c : Count} {v : Values} (allocated left count : ℕ) (s : State) → left ≤ 64 → IsCount c → StandsIn site allocated loop (turn_slots site.context.flags c) → count + ones left (reg v c.rs) ≡ ones c.bits (reg v c.rs) → InCount site loop (4 + rest_of site.context.flags Srli c) c left (2 ^ left / 2) count v s → Comes site (loop + (turn_of site.context.flags Srli c + jump_size site.context.flags)) 0 (Counted c (ones c.bits (reg v c.rs)) v) s
-turns {site} {loop} {c} {v} allocated zero count s le h stands all k =
-    let flags = site.context.flags in
+turns : {c : Count} {v : Values} (left count : ℕ) (w : Values) → left ≤ 64 → IsCount c → count + ones left (reg v c.rs) ≡ ones c.bits (reg v c.rs) → InCount c left (2 ^ left / 2) count v w → Reaches (whole_of c) (point (turn_of c) w) [] (Counted c (ones c.bits (reg v c.rs)) v)
+turns {c} {v} zero count w le h all k =
     let e : count ≡ ones c.bits (reg v c.rs) = omega arith in
-    subst (λ n. Comes site (loop + (turn_of flags Srli c + jump_size flags)) 0 (Counted c n v) s) e (none_left Srli stands.0 k)
-turns {site} {loop} {c} {v} allocated (suc left) count s le h stands all k =
+    reaches_such (λ w1 k1. subst (λ n. Counted c n v w1) e k1) (none_left (whole_of c) (testing c) w refl k)
+turns {c} {v} (suc left) count w le h all k =
     let n = reg v c.rs in
     let few = ones_few c.bits n in
     let bits = h.few in
     let more = ones_more left n in
-    let k1 = subst (λ m. InCount site loop (4 + rest_of site.context.flags Srli c) c (suc left) m count v s) (half_power left) k in
-    comes_on (turn allocated left (omega arith) (omega arith) h stands k1) (λ t k2. turns allocated left (bit_at n left + count) t (omega arith) h stands (omega arith) k2)
+    goes_on (tests (whole_of c) (testing c) left w (omega arith) h (subst (λ m. InCount c (suc left) m count v w) (half_power left) k))
+    (λ w1 k1. goes_on (by_bit (bit_at n left) w1 (bit_at-lt n left) (pow_pos left) (omega arith) h k1)
+    (λ w2 k2. goes_on (goes_down (whole_of c) (turn_of c) Srli (2 ^ left / 2) w2 (omega arith) refl refl h k2)
+    (λ w3 k3. turns left (bit_at n left + count) w3 (omega arith) h (omega arith) k3)))
 
 -- ---- the whole sequence
 
-popcnt_out : {site : Site} {start after : ℕ} {s : State} {v : Values} (c : Count) → IsCount c → Enters site start after (slots_alone (count_slots site.context.flags c.sum c.tmp c.step c.rs c.bits)) s v → ComesOut site start after Next (c.tmp ∷ c.step ∷ []) (set_reg v c.sum (ones c.bits (reg v c.rs))) s
-popcnt_out {site} {start} {s = s} {v = v} c h e =
-    let flags = site.context.flags in
+ranges : (c : Count) → IsCount c → AreInRange (whole_of c)
+ranges c h =
+    let a = h.sum_usable in
+    let b = h.tmp_usable in
+    let d = h.step_usable in
+    let some = h.some in
+    let few = h.few in
+    let sum : c.sum < 32 = omega arith in
+    let tmp : c.tmp < 32 = omega arith in
+    let step : c.step < 32 = omega arith in
+    ((sum, refl, lit< tt), ((step, refl, (let bits : c.bits < 2 ^ 64 = omega arith in bits)), ((tmp, refl, lit< tt), ((tmp, small_shift (c.bits - 1) (omega arith), (let bits : c.bits - 1 < 2 ^ 64 = omega arith in bits)), (lit< tt, ((sum, refl, lit< tt), ((step, refl, lit< tt), ((tmp, refl, lit< tt), tt))))))))
+
+popcnt_out : {site : Site} {start after : ℕ} {s : State} {v : Values} (c : Count) → IsCount c → Enters site start after (slots_alone (slots_of site.context.flags (whole_of c))) s v → ComesOut site start after Next (c.tmp ∷ c.step ∷ []) (set_reg v c.sum (ones c.bits (reg v c.rs))) s
+popcnt_out {s = s} {v = v} c h e =
     let n = reg v c.rs in
-    let slots = count_slots flags c.sum c.tmp c.step c.rs c.bits in
-    let jump = jump_len flags (pos 0 -ℤ pos (turn_of flags Srli c)) in
-    let long : size_of slots ≡ (zero_of flags c).len + ((full_of flags c).len + ((one_of flags c).len + ((highest_of flags c).len + (4 + rest_of flags Srli c)))) = omega arith in
-    let first = subst (λ size. InCount site start size c (reg s.values c.step) (reg s.values c.tmp) (reg s.values c.sum) v s) long (enters_count c slots e) in
-    let r = comes_on (starts_highest h e.stands.1.0 e.stands.1.1.0 e.stands.1.1.1.0 e.stands.1.1.1.1.0 first) (λ t k. turns e.stands.0 c.bits 0 t h.few h e.stands.1.1.1.1.1 (omega arith) k) in
-    count_out slots h (ones_few c.bits n) (omega arith) e r
+    let whole = whole_of c in
+    let few = ones_few c.bits n in
+    pieces_out whole (c.tmp ∷ c.step ∷ []) (set_reg v c.sum (ones c.bits n)) (ranges c h) e
+    (reaches_such (λ w k. same_beside h e.are_values k) (goes_on {Such = λ w. w ≡ s.values} (record { count = 3; values = s.values; ran = refl; such = refl })
+    (λ w is. goes_on (starts whole (Bind 0 ∷ turn_of c) true w h (subst (λ u. AreValues u) (sym is) e.is_state.values) (subst (λ u. SameBut (written c) v u) (sym is) (same_but (written c) e.same)))
+    (λ w1 k1. goes_on (record { count = 1; values = w1; ran = refl; such = k1 })
+    (λ w2 k2. turns c.bits 0 w2 h.few h (omega arith) k2)))))
+    (λ fits. are_values_set v c.sum (ones c.bits n) e.are_values (let a = h.sum_usable in omega arith) (let bits = h.few in omega arith))
 
 pub popcnt_runs : (site : Site) (setting : EmitVState) (info : CountInfo) → IsCount (count_of info.sum info.tmp info.step info.rs info.ty) → RunsIn site setting (Popcnt info)
 popcnt_runs site setting info h = record { run = λ start after s v e clear. popcnt_out (count_of info.sum info.tmp info.step info.rs info.ty) h e }

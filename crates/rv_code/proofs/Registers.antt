@@ -2,6 +2,7 @@
 use Rattle.std.proofs.Common.{◌≡◌, ℕ, zero, suc, ◌<◌, ◌≢◌, ◌≤◌, true, false, ap, List, length, arith, refl, sym, ◌∙◌, ⊎_elim}
 use Rattle.std.specs.Prelude.{slice_index, slice_set}
 use Rattle.std.proofs.Math.Seq.{get_or-set_other}
+use Rattle.std.proofs.Math.ListN.{length-set}
 use Rattle.std.proofs.lemmas.Grind.{get_or-set_at}
 use Rattle.std.proofs.lemmas.Bool.{cases_eq}
 use Rattle.rv_machine.specs.State.{Values, AreValues, reg, reg_of, set_reg, set_reg_of}
@@ -27,6 +28,15 @@ pub same_set : (v w : Values) (n x : ℕ) → AreValues v → AreValues w → n 
 same_set v w n x hv hw lt same = record { regs = λ m below. reg_set v.regs w.regs n m x hv.count hw.count lt (same.regs m below); mem = same.mem }
 
 -- ---- what is read after a write
+
+pub count_set : (v : Values) (n x : ℕ) → length v.regs ≡ 31 → length (set_reg v n x).regs ≡ 31
+count_set v zero x h = h
+count_set v (suc n) x h = length-set v.regs n x ∙ h
+
+-- of all registers
+pub reads_set : (v : Values) (n x : ℕ) → length v.regs ≡ 31 → 0 < n → n < 32 → reg (set_reg v n x) n ≡ x
+reads_set v zero x h some lt = absurd (omega arith)
+reads_set v (suc n) x h some lt = get_or-set_at v.regs n n x 0 refl (omega arith)
 
 pub reads_back : (v : Values) (n x : ℕ) → AreValues v → 0 < n → n < 32 → reg (set_reg v n x) n ≡ x
 reads_back v n x h some lt = reads_set v n x h.count some lt

@@ -1,11 +1,11 @@
 -- The registers of a reversal of bits, and what they hold in its course.
-use Rattle.std.proofs.Common.{◌≡◌, ◌≢◌, ℕ, ◌%◌, ◌<◌, ◌≤◌, Bool, true, false, [], ◌∷◌, List, arith, refl, sym, ap, subst, ◌∙◌, lit≤, eqb-true}
+use Rattle.std.proofs.Common.{◌≡◌, ◌≢◌, ℕ, ◌%◌, ◌<◌, ◌≤◌, Bool, true, false, [], ◌∷◌, List, length, arith, refl, sym, ap, subst, ◌∙◌, lit≤, eqb-true}
 use Rattle.std.specs.Prelude.{nat_eq, ◌||◌}
 use Rattle.std.proofs.lemmas.Bool.Decides.{nat_tests}
 use Rattle.rv_machine.specs.State.{Values, AreValues, reg, set_reg}
 use Rattle.rv_inst.specs.SameValues.{SameBut, is_among}
 use Rattle.rv_code.proofs.NumberTests.{equals_itself, or_true}
-use Rattle.rv_code.proofs.Registers.{reads_back, reads_other, temporary_set, spare_set}
+use Rattle.rv_code.proofs.Registers.{count_set, reads_back, reads_set, reads_other, temporary_set, spare_set}
 
 -- the registers, by their numbers, and how many bits are reversed
 pub record Reversal : Type 0 where
@@ -52,9 +52,14 @@ pub record Holds (c : Reversal) (left next place got : ℕ) (v w : Values) : Typ
   pub rd : reg w c.rd ≡ got
   pub others : SameBut (written c) v w
 
+-- and of values with all registers
+pub record InReversal (c : Reversal) (left next place got : ℕ) (v w : Values) : Type 0 where
+  pub all : length w.regs ≡ 31
+  pub holds : Holds c left next place got v w
+
 -- and x30 holds a number
 pub record Tests (c : Reversal) (left next place got tested : ℕ) (v w : Values) : Type 0 where
-  pub holds : Holds c left next place got v w
+  pub now : InReversal c left next place got v w
   pub spare : reg w 30 ≡ tested
 
 -- ---- which are written
@@ -82,52 +87,55 @@ source_kept {c} h k = sym (k.others.regs c.rs h.rs_usable (rs_other c h))
 
 -- ---- after a write
 
-pub rd_set : {c : Reversal} {left next place got : ℕ} {v w : Values} (x : ℕ) → IsReversal c → AreValues w → Holds c left next place got v w → Holds c left next place x v (set_reg w c.rd x)
+pub rd_set : {c : Reversal} {left next place got : ℕ} {v w : Values} (x : ℕ) → IsReversal c → length w.regs ≡ 31 → Holds c left next place got v w → Holds c left next place x v (set_reg w c.rd x)
 rd_set {c} {v = v} {w = w} x h hw k = record {
   step = reads_other w c.rd c.step x (λ e. h.rd_step (sym e)) ∙ k.step;
   tmp = reads_other w c.rd c.tmp x (λ e. h.rd_tmp (sym e)) ∙ k.tmp;
   tmp2 = reads_other w c.rd c.tmp2 x (λ e. h.rd_tmp2 (sym e)) ∙ k.tmp2;
-  rd = reads_back w c.rd x hw h.rd_written (let a = h.rd_usable in omega arith);
+  rd = reads_set w c.rd x hw h.rd_written (let a = h.rd_usable in omega arith);
   others = temporary_set v w c.rd x (rd_among c) k.others;
 }
 
-pub tmp_set : {c : Reversal} {left next place got : ℕ} {v w : Values} (x : ℕ) → IsReversal c → AreValues w → Holds c left next place got v w → Holds c left x place got v (set_reg w c.tmp x)
+pub tmp_set : {c : Reversal} {left next place got : ℕ} {v w : Values} (x : ℕ) → IsReversal c → length w.regs ≡ 31 → Holds c left next place got v w → Holds c left x place got v (set_reg w c.tmp x)
 tmp_set {c} {v = v} {w = w} x h hw k = record {
   step = reads_other w c.tmp c.step x (λ e. h.tmp_step (sym e)) ∙ k.step;
-  tmp = reads_back w c.tmp x hw h.tmp_written (let a = h.tmp_usable in omega arith);
+  tmp = reads_set w c.tmp x hw h.tmp_written (let a = h.tmp_usable in omega arith);
   tmp2 = reads_other w c.tmp c.tmp2 x (λ e. h.tmp_tmp2 (sym e)) ∙ k.tmp2;
   rd = reads_other w c.tmp c.rd x h.rd_tmp ∙ k.rd;
   others = temporary_set v w c.tmp x (tmp_among c) k.others;
 }
 
-pub tmp2_set : {c : Reversal} {left next place got : ℕ} {v w : Values} (x : ℕ) → IsReversal c → AreValues w → Holds c left next place got v w → Holds c left next x got v (set_reg w c.tmp2 x)
+pub tmp2_set : {c : Reversal} {left next place got : ℕ} {v w : Values} (x : ℕ) → IsReversal c → length w.regs ≡ 31 → Holds c left next place got v w → Holds c left next x got v (set_reg w c.tmp2 x)
 tmp2_set {c} {v = v} {w = w} x h hw k = record {
   step = reads_other w c.tmp2 c.step x (λ e. h.tmp2_step (sym e)) ∙ k.step;
   tmp = reads_other w c.tmp2 c.tmp x h.tmp_tmp2 ∙ k.tmp;
-  tmp2 = reads_back w c.tmp2 x hw h.tmp2_written (let a = h.tmp2_usable in omega arith);
+  tmp2 = reads_set w c.tmp2 x hw h.tmp2_written (let a = h.tmp2_usable in omega arith);
   rd = reads_other w c.tmp2 c.rd x h.rd_tmp2 ∙ k.rd;
   others = temporary_set v w c.tmp2 x (tmp2_among c) k.others;
 }
 
-pub step_set : {c : Reversal} {left next place got : ℕ} {v w : Values} (x : ℕ) → IsReversal c → AreValues w → Holds c left next place got v w → Holds c x next place got v (set_reg w c.step x)
+pub step_set : {c : Reversal} {left next place got : ℕ} {v w : Values} (x : ℕ) → IsReversal c → length w.regs ≡ 31 → Holds c left next place got v w → Holds c x next place got v (set_reg w c.step x)
 step_set {c} {v = v} {w = w} x h hw k = record {
-  step = reads_back w c.step x hw h.step_written (let a = h.step_usable in omega arith);
+  step = reads_set w c.step x hw h.step_written (let a = h.step_usable in omega arith);
   tmp = reads_other w c.step c.tmp x h.tmp_step ∙ k.tmp;
   tmp2 = reads_other w c.step c.tmp2 x h.tmp2_step ∙ k.tmp2;
   rd = reads_other w c.step c.rd x h.rd_step ∙ k.rd;
   others = temporary_set v w c.step x (step_among c) k.others;
 }
 
-pub spare_tests : {c : Reversal} {left next place got : ℕ} {v w : Values} (x : ℕ) → IsReversal c → AreValues w → Holds c left next place got v w → Tests c left next place got x v (set_reg w 30 x)
+pub spare_tests : {c : Reversal} {left next place got : ℕ} {v w : Values} (x : ℕ) → IsReversal c → length w.regs ≡ 31 → Holds c left next place got v w → Tests c left next place got x v (set_reg w 30 x)
 spare_tests {c} {v = v} {w = w} x h hw k = record {
-  holds = record {
-    step = reads_other w 30 c.step x (λ e. let a = h.step_usable in omega arith) ∙ k.step;
-    tmp = reads_other w 30 c.tmp x (λ e. let a = h.tmp_usable in omega arith) ∙ k.tmp;
-    tmp2 = reads_other w 30 c.tmp2 x (λ e. let a = h.tmp2_usable in omega arith) ∙ k.tmp2;
-    rd = reads_other w 30 c.rd x (λ e. let a = h.rd_usable in omega arith) ∙ k.rd;
-    others = spare_set v w 30 x (lit≤ tt) k.others;
+  now = record {
+    all = count_set w 30 x hw;
+    holds = record {
+      step = reads_other w 30 c.step x (λ e. let a = h.step_usable in omega arith) ∙ k.step;
+      tmp = reads_other w 30 c.tmp x (λ e. let a = h.tmp_usable in omega arith) ∙ k.tmp;
+      tmp2 = reads_other w 30 c.tmp2 x (λ e. let a = h.tmp2_usable in omega arith) ∙ k.tmp2;
+      rd = reads_other w 30 c.rd x (λ e. let a = h.rd_usable in omega arith) ∙ k.rd;
+      others = spare_set v w 30 x (lit≤ tt) k.others;
+    };
   };
-  spare = reads_back w 30 x hw (omega arith) (omega arith);
+  spare = reads_set w 30 x hw (omega arith) (omega arith);
 }
 
 -- ---- at the end

@@ -1,357 +1,278 @@
 -- The bits of a register's bytes are set in reverse order, from the highest bit on.
-use Rattle.std.proofs.Common.{◌≡◌, ℕ, zero, suc, ◌+◌, ◌-◌, ◌*◌, ◌/◌, ◌%◌, ◌^◌, ◌<◌, ◌≤◌, pos, true, false, [], ◌∷◌, List, map, length, Some, arith, refl, sym, ap, subst, ◌∙◌}
-use Rattle.std.specs.Prelude.{nat_eq, if◌then◌else◌, not, bit_or, bit_and, ◌-ℤ◌}
+use Rattle.std.proofs.Common.{◌≡◌, ℕ, zero, suc, ◌+◌, ◌-◌, ◌*◌, ◌/◌, ◌%◌, ◌^◌, ◌<◌, ◌≤◌, pos, negsuc, true, false, [], ◌∷◌, List, length, Some, arith, refl, sym, ap, subst, ◌∙◌, lit<}
+use Rattle.std.specs.Prelude.{nat_eq, if◌then◌else◌, not, bit_or, bit_and, int_rem}
 use Rattle.std.specs.Int.{bit_at}
 use Rattle.std.proofs.lemmas.Bool.Decides.{nat_tests}
-use Rattle.std.proofs.lemmas.Nat.{pow_pos, and_comm}
+use Rattle.std.proofs.lemmas.Int.{ints}
+use Rattle.std.proofs.lemmas.Nat.{pow_pos, pow_below, and_comm}
 use Rattle.std.proofs.lemmas.Nat.Bits.{and_pow, bit_at-lt}
-use Rattle.rv_base.specs.declared.flags.IsaFlags.{IsaFlags}
-use Rattle.rv_base.specs.CondCodes.{signed_below}
-use Rattle.rv_machine.specs.declared.decoding.Decoded.{Decoded}
-use Rattle.rv_machine.specs.State.{State, Values, reg, set_reg, wrap, low64, at}
+use Rattle.rv_base.specs.declared.condcodes.IntCC.TheVariants.{Equal}
+use Rattle.rv_base.specs.CondCodes.{signed_below, signed64}
+use Rattle.rv_machine.specs.State.{State, Values, AreValues, reg, set_reg, wrap, low64}
+use Rattle.rv_ops.specs.declared.alu.AluOPRRR.TheVariants.{And, Or, Rem}
+use Rattle.rv_ops.specs.declared.alu.AluOPRRI.TheVariants.{Addi, Slli, Srli}
 use Rattle.rv_inst.specs.Bits.{reversed_bytes}
-use Rattle.rv_ops.specs.declared.alu.AluOPRRI.TheVariants.{Addi, Slli}
-use Rattle.rv_inst.specs.Forms.{short_rri}
-use Rattle.rv_inst.specs.Meaning.{Next}
+use Rattle.rv_inst.specs.Meaning.{Next, alu_rrr, alu_rri}
+use Rattle.rv_inst.specs.SameValues.{SameBut}
 use Rattle.rv_inst.specs.declared.inst.Brev8Info.{Brev8Info}
 use Rattle.rv_inst.specs.declared.inst.Inst.TheVariants.{Brev8}
 use Rattle.rv_code.specs.declared.state.EmitVState.{EmitVState}
-use Rattle.rv_code.specs.InstParts.{slots_alone, reverse_slots}
+use Rattle.rv_code.specs.Evaluation.{point, and_then, evaluate}
+use Rattle.rv_code.specs.InstParts.{slots_alone}
 use Rattle.rv_code.specs.InstRuns.{Enters, ComesOut, RunsIn}
-use Rattle.rv_code.specs.Loops.{set_op, eight_op, rest_op, down_op, up_op, reverse_turn, reverse_turn_size}
-use Rattle.rv_code.specs.Operations.{decoded_beq, decoded_bge, decoded_bne, short_jump, jump_size}
-use Rattle.rv_code.specs.Counts.{bit_op, less_op, half_op}
-use Rattle.rv_code.specs.Sites.{Site, CodeHas, StandsIn}
-use Rattle.rv_code.specs.Slots.{Slot, Op, size_of}
-use Rattle.rv_code.specs.Chains.{IsAt}
-use Rattle.rv_code.proofs.Courses.{InCourse, Comes, comes_on, course_of, goes_ahead, goes_back}
-use Rattle.rv_code.proofs.Exits.{same_but, starts_at, comes_out}
-use Rattle.rv_code.proofs.NumberTests.{half_power, none_below, not_zero}
+use Rattle.rv_code.specs.Pieces.{Piece, Rrr, Rri, Do, Branch, Jump, Bind, slots_of, AreInRange}
+use Rattle.rv_code.specs.Reversals.{reverse_turn, reverse_down, reverse_move, reverse_pieces}
+use Rattle.rv_code.specs.Sites.{Site}
+use Rattle.rv_code.proofs.Exits.{same_but}
+use Rattle.rv_code.proofs.NumberTests.{half_power, none_below, not_zero, small_shift}
 use Rattle.rv_code.proofs.Operands.{Keeps}
-use Rattle.rv_code.proofs.Registers.{are_values_set}
-use Rattle.rv_code.proofs.ReverseRegisters.{Reversal, IsReversal, Holds, Tests, written, same_beside}
+use Rattle.rv_code.proofs.Reaching.{Reaches, goes_on, reaches_such, pieces_out}
+use Rattle.rv_code.proofs.Registers.{are_values_set, count_set}
+use Rattle.rv_code.proofs.ReverseRegisters.{Reversal, IsReversal, Holds, InReversal, Tests, written, source_kept, rd_set, tmp_set, tmp2_set, step_set, spare_tests, same_beside}
 use Rattle.rv_code.proofs.ReverseRules.{reversal_of, is_reversal}
-use Rattle.rv_code.proofs.ReverseSlots.{turn_sizes}
-use Rattle.rv_code.proofs.ReverseSteps.{none_set, all_left, one_next, highest_next, lowest_place, first_place, bit_tested, bit_set, one_less, halved, eight_tested, rest_tested, place_lower, place_higher}
-use Rattle.rv_code.proofs.ReversedBytes.{mirrored, mirrored_bits, whole_bytes, IsClear, all_clear, clear_after, or_plus, place_of, place_down, place_up, place_fits}
-use Rattle.rv_code.proofs.ShortOps.{jump_acts, jump_len, least_some, small_number, back_number}
+use Rattle.rv_code.proofs.ReversedBytes.{mirrored, mirrored_bits, whole_bytes, IsClear, all_clear, clear_after, or_plus, place_of, place_down, place_up, place_first, place_fits}
+use Rattle.rv_code.proofs.ShortOps.{small_number}
 
--- ---- the operations, and how long they are
+abbrev whole_of : Reversal → List Piece
+whole_of c = reverse_pieces c.rd c.tmp c.tmp2 c.step c.rs c.bits
 
-abbrev bit_of : IsaFlags → Reversal → Decoded
-bit_of flags c = bit_op flags c.tmp c.rs
+abbrev turn_of : Reversal → List Piece
+turn_of c = reverse_turn c.rd c.tmp c.tmp2 c.step c.rs
 
-abbrev set_of : IsaFlags → Reversal → Decoded
-set_of flags c = set_op flags c.rd c.tmp2
+abbrev down_of : Reversal → List Piece
+down_of c = reverse_down c.tmp c.tmp2 c.step
 
-abbrev less_of : IsaFlags → Reversal → Decoded
-less_of flags c = less_op flags c.step
+-- from the operation that sets a bit on, and from the test before it on
+abbrev setting_of : Reversal → List Piece
+setting_of c = Do (Rrr Or c.rd c.rd c.tmp2) ∷ Bind 2 ∷ down_of c
 
-abbrev half_of : IsaFlags → Reversal → Decoded
-half_of flags c = half_op flags c.tmp
+abbrev testing_of : Reversal → List Piece
+testing_of c = Branch Equal 0 30 2 ∷ setting_of c
 
-abbrev rest_of : IsaFlags → Reversal → Decoded
-rest_of flags c = rest_op flags c.step
+-- the end of a turn; and from where the next bit goes to the byte below, or to the bit above in the same
+abbrev last_of : List Piece
+last_of = Bind 4 ∷ Jump 0 ∷ Bind 1 ∷ []
 
-abbrev down_of : IsaFlags → Reversal → Decoded
-down_of flags c = down_op flags c.tmp2
+abbrev higher_of : Reversal → List Piece
+higher_of c = Do (Rri Slli c.tmp2 c.tmp2 (pos 1)) ∷ last_of
 
-abbrev up_of : IsaFlags → Reversal → Decoded
-up_of flags c = up_op flags c.tmp2
+abbrev lower_of : Reversal → List Piece
+lower_of c = Do (Rri Srli c.tmp2 c.tmp2 (pos 15)) ∷ Jump 4 ∷ Bind 3 ∷ higher_of c
 
--- how long a turn is, up to its jump back
-abbrev turn_of : IsaFlags → Reversal → ℕ
-turn_of flags c = reverse_turn_size flags c.rd c.tmp c.tmp2 c.step c.rs
+-- ---- before the first turn
 
--- to the end, past the operation that sets a bit, past the operation and the jump that end a byte, past the operation that goes on
--- in one, and back
-abbrev end_of : IsaFlags → Reversal → Decoded
-end_of flags c = decoded_bge 0 c.step (pos (turn_of flags c + jump_size flags))
-
-abbrev skip_of : IsaFlags → Reversal → Decoded
-skip_of flags c = decoded_beq 0 30 (pos (4 + (set_of flags c).len))
-
-abbrev within_of : IsaFlags → Reversal → Decoded
-within_of flags c = decoded_bne 30 0 (pos (4 + (down_of flags c).len + jump_size flags))
-
-abbrev over_of : IsaFlags → Reversal → Decoded
-over_of flags c = short_jump flags (pos (jump_size flags + (up_of flags c).len))
-
-abbrev back_of : IsaFlags → Reversal → Decoded
-back_of flags c = short_jump flags (pos 0 -ℤ pos (turn_of flags c))
-
--- how many bytes stand from where the next bit goes elsewhere on, from where one bit less is left, and from the next bit's test
-abbrev next_long : IsaFlags → Reversal → ℕ
-next_long flags c = 4 + ((down_of flags c).len + ((over_of flags c).len + ((up_of flags c).len + (back_of flags c).len)))
-
-abbrev less_long : IsaFlags → Reversal → ℕ
-less_long flags c = (less_of flags c).len + ((half_of flags c).len + ((eight_op flags).len + ((rest_of flags c).len + next_long flags c)))
-
-abbrev test_long : IsaFlags → Reversal → ℕ
-test_long flags c = (bit_of flags c).len + (4 + ((set_of flags c).len + less_long flags c))
-
--- a turn with its jump back
-record IsShortTurn (flags : IsaFlags) (c : Reversal) : Type 0 where
-  long : turn_of flags c + jump_size flags ≡ 4 + test_long flags c
-  even : turn_of flags c % 2 ≡ 0
-  some : 0 < turn_of flags c
-  few : turn_of flags c ≤ 48
-
-short_turn : (flags : IsaFlags) (c : Reversal) → IsShortTurn flags c
-short_turn flags c =
-    let t = turn_sizes flags c.rd c.tmp c.tmp2 c.step c.rs in
-    let over = jump_len flags (pos (jump_size flags + (up_of flags c).len)) in
-    let back = jump_len flags (pos 0 -ℤ pos (turn_of flags c)) in
+starts : {c : Reversal} {v : Values} (w : Values) → IsReversal c → AreValues w → SameBut (written c) v w → Reaches (whole_of c) (point (whole_of c) w) (turn_of c) (InReversal c c.bits (2 ^ c.bits / 2) (place_of c.bits) 0 v)
+starts {c} {v} w h hw others =
+    let w1 = set_reg w c.rd 0 in
+    let y = alu_rri Addi 0 (pos c.bits) in
+    let w2 = set_reg w1 c.step y in
+    let w3 = set_reg w2 c.tmp 1 in
+    let x = alu_rri Slli (reg w3 c.tmp) (pos (c.bits - 1)) in
+    let w4 = set_reg w3 c.tmp x in
+    let w5 = set_reg w4 c.tmp2 1 in
+    let z = alu_rri Slli (reg w5 c.tmp2) (pos (c.bits - 8)) in
+    let w6 = set_reg w5 c.tmp2 z in
+    let a1 : length w1.regs ≡ 31 = count_set w c.rd 0 hw.count in
+    let a2 : length w2.regs ≡ 31 = count_set w1 c.step y a1 in
+    let a3 : length w3.regs ≡ 31 = count_set w2 c.tmp 1 a2 in
+    let a4 : length w4.regs ≡ 31 = count_set w3 c.tmp x a3 in
+    let a5 : length w5.regs ≡ 31 = count_set w4 c.tmp2 1 a4 in
+    let k1 : Holds c (reg w c.step) (reg w c.tmp) (reg w c.tmp2) 0 v w1 = rd_set 0 h hw.count (record { step = refl; tmp = refl; tmp2 = refl; rd = refl; others = others }) in
+    let k3 = tmp_set 1 h a2 (step_set y h a1 k1) in
+    let k5 = tmp2_set 1 h a4 (tmp_set x h a3 k3) in
+    let k6 = tmp2_set z h a5 k5 in
+    let few = h.few in
+    let some = h.some in
+    let full : y ≡ c.bits = omega (arith, ints) in
+    let amount : low64 (pos (c.bits - 1)) % 64 ≡ c.bits - 1 = omega (arith, ints) in
+    let power = pow_below (c.bits - 1) 64 (omega arith) in
+    let bits : suc (c.bits - 1) ≡ c.bits = omega arith in
+    let half : 2 ^ (c.bits - 1) ≡ 2 ^ c.bits / 2 = sym (half_power (c.bits - 1)) ∙ ap (λ k. 2 ^ k / 2) bits in
+    let highest : x ≡ 2 ^ c.bits / 2 = (λ i. wrap (k3.tmp i * 2 ^ amount i)) ∙ omega arith in
+    let amount2 : low64 (pos (c.bits - 8)) % 64 ≡ c.bits - 8 = omega (arith, ints) in
+    let first = place_first c.bits h.some h.whole in
+    let fits = place_fits c.bits few in
+    let lowest : z ≡ place_of c.bits = (λ i. wrap (k5.tmp2 i * 2 ^ amount2 i)) ∙ omega arith in
     record {
-      long = omega arith;
-      even =
-          let a = t.bit.even in let b = t.set.even in let d = t.less.even in let e = t.half.even in
-          let f = t.eight.even in let g = t.rest.even in let h = t.down.even in let i = t.up.even in let j = t.jump_even in
-          omega arith;
-      some = omega arith;
-      few =
-          let a = t.bit.few in let b = t.set.few in let d = t.less.few in let e = t.half.few in
-          let f = t.eight.few in let g = t.rest.few in let h = t.down.few in let i = t.up.few in let j = t.jump_few in
-          omega arith;
+      count = 12;
+      values = w6;
+      ran = refl;
+      such = record { all = count_set w5 c.tmp2 z a5; holds = record { step = k6.step ∙ full; tmp = k6.tmp ∙ highest; tmp2 = k6.tmp2 ∙ lowest; rd = k6.rd; others = k6.others } };
     }
-
--- where the parts of a turn stand: the test of the next bit, where one bit less is left, where the next one goes elsewhere, and
--- the jump back
-abbrev less_at : IsaFlags → Reversal → ℕ → ℕ
-less_at flags c loop = loop + 4 + (bit_of flags c).len + 4 + (set_of flags c).len
-
-abbrev next_at : IsaFlags → Reversal → ℕ → ℕ
-next_at flags c loop = less_at flags c loop + (less_of flags c).len + (half_of flags c).len + (eight_op flags).len + (rest_of flags c).len
-
-abbrev back_at : IsaFlags → Reversal → ℕ → ℕ
-back_at flags c loop = next_at flags c loop + 4 + (down_of flags c).len + (over_of flags c).len + (up_of flags c).len
-
-abbrev turn_slots : IsaFlags → Reversal → List Slot
-turn_slots flags c = map Op (reverse_turn flags c.rd c.tmp c.tmp2 c.step c.rs)
-
--- ---- the end
-
--- some bits are left
-more_left : {site : Site} {loop : ℕ} {c : Reversal} {next place got : ℕ} {v : Values} {s : State} (allocated left : ℕ) → left < 64 → StandsIn site allocated loop (turn_slots site.context.flags c) → InCourse site loop (4 + test_long site.context.flags c) (Holds c (suc left) next place got v) s → Comes site (loop + 4) (test_long site.context.flags c) (Holds c (suc left) next place got v) s
-more_left {site} {loop} {c} {s = s} allocated left lt stands k =
-    let flags = site.context.flags in
-    let d = pos (turn_of flags c + jump_size flags) in
-    let e : signed_below 0 (reg s.values c.step) ≡ true = ap (signed_below 0) k.values.step ∙ none_below left lt in
-    goes_ahead (end_of flags c) 4 (loop + 4) (test_long flags c) stands.0 (ap (λ b. Some (at (if not b then wrap (s.pc + low64 d) else wrap (s.pc + 4)) s.values)) e) refl refl (omega arith) (omega arith) k
-
--- no bit is left
-none_left : {site : Site} {loop : ℕ} {c : Reversal} {next place got : ℕ} {v : Values} {s : State} (allocated : ℕ) → StandsIn site allocated loop (turn_slots site.context.flags c) → InCourse site loop (4 + test_long site.context.flags c) (Holds c 0 next place got v) s → Comes site (loop + (4 + test_long site.context.flags c)) 0 (Holds c 0 next place got v) s
-none_left {site} {loop} {c} {s = s} allocated stands k =
-    let flags = site.context.flags in
-    let n = turn_of flags c + jump_size flags in
-    let short = short_turn flags c in
-    let long = short.long in
-    let even = short.even in
-    let few = short.few in
-    let jump = turn_sizes flags c.rd c.tmp c.tmp2 c.step c.rs in
-    let jump_even = jump.jump_even in
-    let jump_few = jump.jump_few in
-    let far : low64 (pos n) ≡ n = small_number n (omega arith) in
-    let e : signed_below 0 (reg s.values c.step) ≡ false = ap (signed_below 0) k.values.step in
-    goes_ahead (end_of flags c) n (loop + (4 + test_long flags c)) 0 stands.0 (λ i. Some (at (if not (e i) then wrap (s.pc + far i) else wrap (s.pc + 4)) s.values)) (omega arith) (omega arith) (omega arith) (omega arith) k
 
 -- ---- the next bit
 
--- x30 holds the next bit's power or 0: the bit is set where it goes, or isn't
-by_bit : {site : Site} {offset size : ℕ} {c : Reversal} {left next place got : ℕ} {v : Values} {s : State} (power b : ℕ) → b < 2 → 0 < power → bit_or got place ≡ got + place → IsReversal c → CodeHas site offset (skip_of site.context.flags c ∷ []) → CodeHas site (offset + 4) (set_of site.context.flags c ∷ []) → InCourse site offset (4 + ((set_of site.context.flags c).len + size)) (Tests c left next place got (b * power) v) s → Comes site (offset + 4 + (set_of site.context.flags c).len) size (Holds c left next place (got + b * place) v) s
-by_bit {site} {offset} {size} {c} {left} {next} {place} {got} {v} {s} power zero lt some plus h skip set k =
-    let flags = site.context.flags in
-    let m = (set_of flags c).len in
-    let sized = (turn_sizes flags c.rd c.tmp c.tmp2 c.step c.rs).set in
-    let few = sized.few in
-    let even = sized.even in
-    let none : 0 * power ≡ 0 = omega arith in
-    let e : nat_eq 0 (reg s.values 30) ≡ true = ap (nat_eq 0) (k.values.spare ∙ none) in
-    let far : low64 (pos (4 + m)) ≡ 4 + m = small_number (4 + m) (omega arith) in
-    let same : got ≡ got + 0 * place = omega arith in
-    subst (λ n. Comes site (offset + 4 + m) size (Holds c left next place n v) s) same
-    (goes_ahead (skip_of flags c) (4 + m) (offset + 4 + m) size skip (λ i. Some (at (if e i then wrap (s.pc + far i) else wrap (s.pc + 4)) s.values)) (omega arith) (omega arith) (omega arith) (omega arith)
-    (course_of (λ w t. t.holds) k))
-by_bit {site} {offset} {size} {c} {left} {next} {place} {got} {v} {s} power (suc zero) lt some plus h skip set k =
-    let flags = site.context.flags in
-    let m = (set_of flags c).len in
-    let spare = k.values.spare in
-    let e : nat_eq 0 (reg s.values 30) ≡ false = not_zero (reg s.values 30) (omega arith) in
-    let one : bit_or got place ≡ got + 1 * place = plus ∙ omega arith in
-    comes_on (goes_ahead (skip_of flags c) 4 (offset + 4) (m + size) skip (ap (λ b. Some (at (if b then wrap (s.pc + low64 (pos (4 + m))) else wrap (s.pc + 4)) s.values)) e) refl refl (omega arith) (omega arith)
-    (course_of (λ w t. t.holds) k)) (λ t k1. subst (λ n. Comes site (offset + 4 + m) size (Holds c left next place n v) t) one (bit_set h set k1))
-by_bit power (suc (suc b)) lt some plus h skip set k = absurd (omega arith)
+-- no bit is left
+none_left : {c : Reversal} {next place got : ℕ} {v : Values} (w : Values) → InReversal c 0 next place got v w → Reaches (whole_of c) (point (turn_of c) w) [] (Holds c 0 next place got v)
+none_left {c} w k =
+    let e : signed_below 0 (reg w c.step) ≡ false = ap (signed_below 0) k.holds.step in
+    record { count = 1; values = w; ran = ap (λ b. and_then (if not b then Some (point [] w) else Some (point (Do (Rrr And 30 c.tmp c.rs) ∷ testing_of c) w)) (evaluate 0 (whole_of c))) e; such = k.holds }
 
--- the next bit is set where it is one
-tested : {site : Site} {c : Reversal} {got : ℕ} {v : Values} {s : State} (loop allocated left : ℕ) → IsClear (suc left) got → IsReversal c → StandsIn site allocated loop (turn_slots site.context.flags c) → InCourse site (loop + 4) (test_long site.context.flags c) (Holds c (suc left) (2 ^ left) (place_of (suc left)) got v) s → Comes site (less_at site.context.flags c loop) (less_long site.context.flags c) (Holds c (suc left) (2 ^ left) (place_of (suc left)) (got + bit_at (reg v c.rs) left * 2 ^ mirrored left) v) s
-tested {site} {c} {got} {v} {s} loop allocated left clear h stands k =
-    let n = reg v c.rs in
-    let bit : bit_and (2 ^ left) n ≡ bit_at n left * 2 ^ left = and_comm (2 ^ left) n ∙ and_pow n left in
-    let plus = or_plus got (mirrored left) (clear left (omega arith)) in
-    comes_on (bit_tested h stands.1.0 k) (λ t k1.
-    by_bit (2 ^ left) (bit_at n left) (bit_at-lt n left) (pow_pos left) plus h stands.1.1.0 stands.1.1.1.0 (subst (λ x. InCourse site (loop + 4 + (bit_of site.context.flags c).len) (4 + ((set_of site.context.flags c).len + less_long site.context.flags c)) (Tests c (suc left) (2 ^ left) (place_of (suc left)) got x v) t) bit k1))
+-- some are left, and the next one goes to x30
+tested : {c : Reversal} {left next place got : ℕ} {v : Values} (w : Values) → left < 64 → IsReversal c → InReversal c (suc left) next place got v w → Reaches (whole_of c) (point (turn_of c) w) (testing_of c) (Tests c (suc left) next place got (bit_and next (reg v c.rs)) v)
+tested {c} {left} {next} {place} {got} {v} w lt h k =
+    let x = bit_and (reg w c.tmp) (reg w c.rs) in
+    let e : signed_below 0 (reg w c.step) ≡ true = ap (signed_below 0) k.holds.step ∙ none_below left lt in
+    let same : x ≡ bit_and next (reg v c.rs) = λ i. bit_and (k.holds.tmp i) (source_kept h k.holds i) in
+    record {
+      count = 2;
+      values = set_reg w 30 x;
+      ran = ap (λ b. and_then (if not b then Some (point [] w) else Some (point (Do (Rrr And 30 c.tmp c.rs) ∷ testing_of c) w)) (evaluate 1 (whole_of c))) e;
+      such = subst (λ n. Tests c (suc left) next place got n v (set_reg w 30 x)) same (spare_tests x h k.all k.holds);
+    }
+
+-- x30 holds the next bit's power or 0: the bit is set where it goes, or isn't
+by_bit : {c : Reversal} {left next place got : ℕ} {v : Values} (power b : ℕ) (w : Values) → b < 2 → 0 < power → bit_or got place ≡ got + place → IsReversal c → Tests c left next place got (b * power) v w → Reaches (whole_of c) (point (testing_of c) w) (down_of c) (InReversal c left next place (got + b * place) v)
+by_bit {c} {left} {next} {place} {got} {v} power zero w lt some plus h k =
+    let none : 0 * power ≡ 0 = omega arith in
+    let e : nat_eq 0 (reg w 30) ≡ true = ap (nat_eq 0) (k.spare ∙ none) in
+    let same : got ≡ got + 0 * place = omega arith in
+    record { count = 1; values = w; ran = ap (λ b. and_then (if b then Some (point (down_of c) w) else Some (point (setting_of c) w)) (evaluate 0 (whole_of c))) e; such = subst (λ n. InReversal c left next place n v w) same k.now }
+by_bit {c} {left} {next} {place} {got} {v} power (suc zero) w lt some plus h k =
+    let spare = k.spare in
+    let e : nat_eq 0 (reg w 30) ≡ false = not_zero (reg w 30) (omega arith) in
+    let x = bit_or (reg w c.rd) (reg w c.tmp2) in
+    let one = rd_set x h k.now.all k.now.holds in
+    let more : x ≡ got + 1 * place = (λ i. bit_or (k.now.holds.rd i) (k.now.holds.tmp2 i)) ∙ plus ∙ omega arith in
+    record {
+      count = 3;
+      values = set_reg w c.rd x;
+      ran = ap (λ b. and_then (if b then Some (point (down_of c) w) else Some (point (setting_of c) w)) (evaluate 2 (whole_of c))) e;
+      such = record { all = count_set w c.rd x k.now.all; holds = record { step = one.step; tmp = one.tmp; tmp2 = one.tmp2; rd = one.rd ∙ more; others = one.others } };
+    }
+by_bit power (suc (suc b)) w lt some plus h k = absurd (omega arith)
 
 -- ---- down to the one below
 
+-- a small number's rest by 8, both read as signed numbers
+rest_of_eight : (n : ℕ) → n < 64 → alu_rrr Rem n 8 ≡ n % 8
+rest_of_eight n lt =
+    let e : signed64 n ≡ pos n = omega (arith, ints) in
+    let small : n % 8 < 2 ^ 63 = omega arith in
+    ap (λ z. low64 (int_rem z (pos 8))) e ∙ small_number (n % 8) small
+
 -- one bit less is left, and it is known how many are of its byte
-goes_down : {site : Site} {c : Reversal} {next place got : ℕ} {v : Values} {s : State} (loop allocated left : ℕ) → left < 64 → IsReversal c → StandsIn site allocated loop (turn_slots site.context.flags c) → InCourse site (less_at site.context.flags c loop) (less_long site.context.flags c) (Holds c (suc left) next place got v) s → Comes site (next_at site.context.flags c loop) (next_long site.context.flags c) (Tests c left (next / 2) place got (left % 8) v) s
-goes_down loop allocated left lt h stands k =
-    comes_on (one_less lt h stands.1.1.1.1.0 k) (λ t1 k1.
-    comes_on (halved h stands.1.1.1.1.1.0 k1) (λ t2 k2.
-    comes_on (eight_tested h stands.1.1.1.1.1.1.0 k2) (λ t3 k3. rest_tested lt h stands.1.1.1.1.1.1.1.0 k3)))
+goes_down : {c : Reversal} {left next place got : ℕ} {v : Values} (w : Values) → left < 64 → IsReversal c → InReversal c (suc left) next place got v w → Reaches (whole_of c) (point (down_of c) w) (reverse_move c.tmp2) (Tests c left (next / 2) place got (left % 8) v)
+goes_down {c} {left} {next} {place} {got} {v} w lt h k =
+    let y = alu_rri Addi (reg w c.step) (negsuc 0) in
+    let w1 = set_reg w c.step y in
+    let z = alu_rri Srli (reg w1 c.tmp) (pos 1) in
+    let w2 = set_reg w1 c.tmp z in
+    let w3 = set_reg w2 30 8 in
+    let x = alu_rrr Rem (reg w3 c.step) (reg w3 30) in
+    let a1 : length w1.regs ≡ 31 = count_set w c.step y k.all in
+    let a2 : length w2.regs ≡ 31 = count_set w1 c.tmp z a1 in
+    let k1 = step_set y h k.all k.holds in
+    let k2 = tmp_set z h a1 k1 in
+    let minus : low64 (negsuc 0) ≡ 2 ^ 64 - 1 = refl in
+    let step = k.holds.step in
+    let less : y ≡ left = omega arith in
+    let half : z ≡ next / 2 = ap (λ n. n / 2) k1.tmp in
+    let k2' : Holds c left (next / 2) place got v w2 = record { step = k2.step ∙ less; tmp = k2.tmp ∙ half; tmp2 = k2.tmp2; rd = k2.rd; others = k2.others } in
+    let t3 = spare_tests 8 h a2 k2' in
+    let t4 = spare_tests x h t3.now.all t3.now.holds in
+    let rest : x ≡ left % 8 = (λ i. alu_rrr Rem (t3.now.holds.step i) (t3.spare i)) ∙ rest_of_eight left lt in
+    record { count = 4; values = set_reg w3 30 x; ran = refl; such = record { now = t4.now; spare = t4.spare ∙ rest } }
 
 not_none : (n r : ℕ) → n ≡ suc r → nat_eq n 0 ≡ false
 not_none n r e = grind (arith, nat_tests)
 
--- x30 holds how many bits are left of the next one's byte: the next one goes to the byte below, or on in the same
-by_rest : {site : Site} {offset size : ℕ} {c : Reversal} {left next got : ℕ} {v : Values} {s : State} (rest : ℕ) → left % 8 ≡ rest → left < 64 → IsReversal c → CodeHas site offset (within_of site.context.flags c ∷ []) → CodeHas site (offset + 4) (down_of site.context.flags c ∷ []) → CodeHas site (offset + 4 + (down_of site.context.flags c).len) (over_of site.context.flags c ∷ []) → CodeHas site (offset + 4 + (down_of site.context.flags c).len + (over_of site.context.flags c).len) (up_of site.context.flags c ∷ []) → InCourse site offset (4 + ((down_of site.context.flags c).len + ((over_of site.context.flags c).len + ((up_of site.context.flags c).len + size)))) (Tests c left next (2 ^ mirrored left) got (left % 8) v) s → Comes site (offset + 4 + (down_of site.context.flags c).len + (over_of site.context.flags c).len + (up_of site.context.flags c).len) size (Holds c left next (place_of left) got v) s
-by_rest {site} {offset} {size} {c} {left} {next} {got} {v} {s} zero rest lt h within down over up k =
-    let flags = site.context.flags in
-    let a = (down_of flags c).len in
-    let b = (over_of flags c).len in
-    let d = (up_of flags c).len in
-    let n = jump_size flags + d in
-    let t = turn_sizes flags c.rd c.tmp c.tmp2 c.step c.rs in
-    let up_even = t.up.even in
-    let up_few = t.up.few in
-    let up_some = t.up.some in
-    let jump_even = t.jump_even in
-    let jump_few = t.jump_few in
-    let long = jump_len flags (pos n) in
-    let far : low64 (pos n) ≡ n = small_number n (omega arith) in
-    let e : nat_eq (reg s.values 30) 0 ≡ true = ap (λ m. nat_eq m 0) (k.values.spare ∙ rest) in
-    comes_on (goes_ahead (within_of flags c) 4 (offset + 4) (a + (b + (d + size))) within (ap (λ m. Some (at (if not m then wrap (s.pc + low64 (pos (4 + a + jump_size flags))) else wrap (s.pc + 4)) s.values)) e) refl refl (omega arith) (omega arith)
-    (course_of (λ w t. t.holds) k)) (λ t1 k1.
-    comes_on (place_lower h down k1) (λ t2 k2.
-    goes_ahead (over_of flags c) n (offset + 4 + a + b + d) size over (jump_acts flags (pos n) t2 ∙ ap (λ m. Some (at (wrap (t2.pc + m)) t2.values)) far) (omega arith) (omega arith) (omega arith) (omega arith)
-    (subst (λ p. InCourse site (offset + 4 + a) (b + (d + size)) (Holds c left next p got v) t2) (place_down left rest) k2)))
-by_rest {site} {offset} {size} {c} {left} {next} {got} {v} {s} (suc r) rest lt h within down over up k =
-    let flags = site.context.flags in
-    let a = (down_of flags c).len in
-    let b = (over_of flags c).len in
-    let d = (up_of flags c).len in
-    let n = 4 + a + jump_size flags in
-    let t = turn_sizes flags c.rd c.tmp c.tmp2 c.step c.rs in
-    let down_even = t.down.even in
-    let down_few = t.down.few in
-    let jump_even = t.jump_even in
-    let jump_few = t.jump_few in
-    let long = jump_len flags (pos (jump_size flags + d)) in
-    let far : low64 (pos n) ≡ n = small_number n (omega arith) in
-    let e : nat_eq (reg s.values 30) 0 ≡ false = not_none (reg s.values 30) r (k.values.spare ∙ rest) in
+-- x30 holds how many bits are left of the next one's byte: the next one goes to the byte below, or on in the same; and a turn begins
+by_rest : {c : Reversal} {left next got : ℕ} {v : Values} (rest : ℕ) (w : Values) → left % 8 ≡ rest → left < 64 → IsReversal c → Tests c left next (2 ^ mirrored left) got (left % 8) v w → Reaches (whole_of c) (point (reverse_move c.tmp2) w) (turn_of c) (InReversal c left next (place_of left) got v)
+by_rest {c} {left} {next} {got} {v} zero w rest lt h k =
+    let e : nat_eq (reg w 30) 0 ≡ true = ap (λ m. nat_eq m 0) (k.spare ∙ rest) in
+    let x = alu_rri Srli (reg w c.tmp2) (pos 15) in
+    let one = tmp2_set x h k.now.all k.now.holds in
+    let lower : x ≡ place_of left = ap (λ y. y / 2 ^ 15) k.now.holds.tmp2 ∙ place_down left rest in
+    record {
+      count = 4;
+      values = set_reg w c.tmp2 x;
+      ran = ap (λ b. and_then (if not b then Some (point (higher_of c) w) else Some (point (lower_of c) w)) (evaluate 3 (whole_of c))) e;
+      such = record { all = count_set w c.tmp2 x k.now.all; holds = record { step = one.step; tmp = one.tmp; tmp2 = one.tmp2 ∙ lower; rd = one.rd; others = one.others } };
+    }
+by_rest {c} {left} {next} {got} {v} (suc r) w rest lt h k =
+    let e : nat_eq (reg w 30) 0 ≡ false = not_none (reg w 30) r (k.spare ∙ rest) in
+    let x = alu_rri Slli (reg w c.tmp2) (pos 1) in
+    let one = tmp2_set x h k.now.all k.now.holds in
     let there = place_up left (λ none. omega arith) in
     let fits = place_fits left (omega arith) in
-    comes_on (goes_ahead (within_of flags c) n (offset + 4 + a + b) (d + size) within (λ i. Some (at (if not (e i) then wrap (s.pc + far i) else wrap (s.pc + 4)) s.values)) (omega arith) (omega arith) (omega arith) (omega arith)
-    (course_of (λ w t. t.holds) k)) (λ t1 k1.
-    subst (λ p. Comes site (offset + 4 + a + b + d) size (Holds c left next p got v) t1) there (place_higher (omega arith) h up k1))
+    let tmp2 = k.now.holds.tmp2 in
+    let higher : x ≡ place_of left = omega arith in
+    record {
+      count = 4;
+      values = set_reg w c.tmp2 x;
+      ran = ap (λ b. and_then (if not b then Some (point (higher_of c) w) else Some (point (lower_of c) w)) (evaluate 3 (whole_of c))) e;
+      such = record { all = count_set w c.tmp2 x k.now.all; holds = record { step = one.step; tmp = one.tmp; tmp2 = one.tmp2 ∙ higher; rd = one.rd; others = one.others } };
+    }
 
 -- ---- all turns
 
--- a turn ends where it began
-turn_restarts : {site : Site} {Such : Values → Type 0} {s : State} (c : Reversal) (loop allocated : ℕ) → loop + (4 + test_long site.context.flags c) ≤ length site.bytes → loop % 2 ≡ 0 → StandsIn site allocated loop (turn_slots site.context.flags c) → InCourse site (back_at site.context.flags c loop) (back_of site.context.flags c).len Such s → Comes site loop (4 + test_long site.context.flags c) Such s
-turn_restarts {site} {s = s} c loop allocated room even stands k =
-    let flags = site.context.flags in
-    let n = turn_of flags c in
-    let short = short_turn flags c in
-    let some = short.some in
-    let few = short.few in
-    let over = jump_len flags (pos (jump_size flags + (up_of flags c).len)) in
-    let back = jump_len flags (pos 0 -ℤ pos n) in
-    let jump = least_some flags in
-    let far : low64 (pos 0 -ℤ pos n) ≡ 2 ^ 64 - n = back_number n some (omega arith) in
-    goes_back (back_of flags c) n loop (4 + test_long flags c) stands.1.1.1.1.1.1.1.1.1.1.1.1.0 (jump_acts flags (pos 0 -ℤ pos n) s ∙ ap (λ m. Some (at (wrap (s.pc + m)) s.values)) far) (omega arith) (omega arith) even room (omega arith) k
-
-turn : {site : Site} {loop : ℕ} {c : Reversal} {got : ℕ} {v : Values} {s : State} (allocated left : ℕ) → left < 64 → IsClear (suc left) got → IsReversal c → StandsIn site allocated loop (turn_slots site.context.flags c) → InCourse site loop (4 + test_long site.context.flags c) (Holds c (suc left) (2 ^ left) (place_of (suc left)) got v) s → Comes site loop (4 + test_long site.context.flags c) (Holds c left (2 ^ left / 2) (place_of left) (got + bit_at (reg v c.rs) left * 2 ^ mirrored left) v) s
-turn {loop = loop} {c} allocated left lt clear h stands k =
-    let room = k.here.room in
-    let even = k.here.even in
-    comes_on (more_left allocated left lt stands k) (λ t1 k1.
-    comes_on (tested loop allocated left clear h stands k1) (λ t2 k2.
-    comes_on (goes_down loop allocated left lt h stands k2) (λ t3 k3.
-    comes_on (by_rest (left % 8) refl lt h stands.1.1.1.1.1.1.1.1.0 stands.1.1.1.1.1.1.1.1.1.0 stands.1.1.1.1.1.1.1.1.1.1.0 stands.1.1.1.1.1.1.1.1.1.1.1.0 k3) (λ t4 k4. turn_restarts c loop allocated room even stands k4))))
-
 -- what all bits give
-abbrev whole_of : Reversal → Values → ℕ
-whole_of c v = reversed_bytes (c.bits / 8) (reg v c.rs)
+abbrev made_of : Reversal → Values → ℕ
+made_of c v = reversed_bytes (c.bits / 8) (reg v c.rs)
 
 -- turns until no bit is left, by what the bits give that are still left
-turns : {site : Site} {loop : ℕ} {c : Reversal} {v : Values} (allocated left got : ℕ) (s : State) → left ≤ 64 → IsClear left got → IsReversal c → StandsIn site allocated loop (turn_slots site.context.flags c) → got + mirrored_bits left (reg v c.rs) ≡ whole_of c v → InCourse site loop (4 + test_long site.context.flags c) (Holds c left (2 ^ left / 2) (place_of left) got v) s → Comes site (loop + (4 + test_long site.context.flags c)) 0 (Holds c 0 (2 ^ 0 / 2) (place_of 0) (whole_of c v) v) s
-turns {site} {loop} {c} {v} allocated zero got s le clear h stands all k =
-    let e : got ≡ whole_of c v = omega arith in
-    subst (λ n. Comes site (loop + (4 + test_long site.context.flags c)) 0 (Holds c 0 (2 ^ 0 / 2) (place_of 0) n v) s) e (none_left allocated stands k)
-turns {site} {loop} {c} {v} allocated (suc left) got s le clear h stands all k =
+turns : {c : Reversal} {v : Values} (left got : ℕ) (w : Values) → left ≤ 64 → IsClear left got → IsReversal c → got + mirrored_bits left (reg v c.rs) ≡ made_of c v → InReversal c left (2 ^ left / 2) (place_of left) got v w → Reaches (whole_of c) (point (turn_of c) w) [] (Holds c 0 (2 ^ 0 / 2) (place_of 0) (made_of c v) v)
+turns {c} {v} zero got w le clear h all k =
+    let e : got ≡ made_of c v = omega arith in
+    reaches_such (λ w1 k1. subst (λ n. Holds c 0 (2 ^ 0 / 2) (place_of 0) n v w1) e k1) (none_left w k)
+turns {c} {v} (suc left) got w le clear h all k =
     let n = reg v c.rs in
-    let k1 = subst (λ m. InCourse site loop (4 + test_long site.context.flags c) (Holds c (suc left) m (place_of (suc left)) got v) s) (half_power left) k in
-    comes_on (turn allocated left (omega arith) clear h stands k1) (λ t k2.
-    turns allocated left (got + bit_at n left * 2 ^ mirrored left) t (omega arith) (clear_after left got (bit_at n left) (bit_at-lt n left) clear) h stands (omega arith) k2)
+    let b = bit_at n left in
+    let bit : bit_and (2 ^ left) n ≡ b * 2 ^ left = and_comm (2 ^ left) n ∙ and_pow n left in
+    let plus = or_plus got (mirrored left) (clear left (omega arith)) in
+    goes_on (tested w (omega arith) h (subst (λ m. InReversal c (suc left) m (place_of (suc left)) got v w) (half_power left) k))
+    (λ w1 k1. goes_on (by_bit (2 ^ left) b w1 (bit_at-lt n left) (pow_pos left) plus h (subst (λ x. Tests c (suc left) (2 ^ left) (place_of (suc left)) got x v w1) bit k1))
+    (λ w2 k2. goes_on (goes_down w2 (omega arith) h k2)
+    (λ w3 k3. goes_on (by_rest (left % 8) w3 refl (omega arith) h k3)
+    (λ w4 k4. turns left (got + b * 2 ^ mirrored left) w4 (omega arith) (clear_after left got b (bit_at-lt n left) clear) h (omega arith) k4))))
 
 -- ---- the whole sequence
 
--- the operations before the first turn
-abbrev none_of : IsaFlags → Reversal → Decoded
-none_of flags c = short_rri flags Addi c.rd 0 (pos 0)
-
-abbrev all_of : IsaFlags → Reversal → Decoded
-all_of flags c = short_rri flags Addi c.step 0 (pos c.bits)
-
-abbrev one_of : IsaFlags → Reversal → Decoded
-one_of flags c = short_rri flags Addi c.tmp 0 (pos 1)
-
-abbrev shift_of : IsaFlags → Reversal → Decoded
-shift_of flags c = short_rri flags Slli c.tmp c.tmp (pos (c.bits - 1))
-
-abbrev low_of : IsaFlags → Reversal → Decoded
-low_of flags c = short_rri flags Addi c.tmp2 0 (pos 1)
-
-abbrev byte_of : IsaFlags → Reversal → Decoded
-byte_of flags c = short_rri flags Slli c.tmp2 c.tmp2 (pos (c.bits - 8))
-
--- how many bytes stand there
-abbrev whole_long : IsaFlags → Reversal → ℕ
-whole_long flags c = (none_of flags c).len + ((all_of flags c).len + ((one_of flags c).len + ((shift_of flags c).len + ((low_of flags c).len + ((byte_of flags c).len + (4 + test_long flags c))))))
-
-abbrev whole_slots : IsaFlags → Reversal → List Slot
-whole_slots flags c = reverse_slots flags c.rd c.tmp c.tmp2 c.step c.rs c.bits
-
-reverse_long : (flags : IsaFlags) (c : Reversal) → size_of (whole_slots flags c) ≡ whole_long flags c
-reverse_long flags c = omega arith
-
--- where turns begin
-abbrev loop_at : IsaFlags → Reversal → ℕ → ℕ
-loop_at flags c start = start + (none_of flags c).len + (all_of flags c).len + (one_of flags c).len + (shift_of flags c).len + (low_of flags c).len + (byte_of flags c).len
-
--- no bit is set, all are left, the highest is the next, and it goes to the lowest bit of its byte
-starts : {site : Site} {start : ℕ} {c : Reversal} {left next place got : ℕ} {v : Values} {s : State} (allocated : ℕ) → IsReversal c → StandsIn site allocated start (whole_slots site.context.flags c) → InCourse site start (whole_long site.context.flags c) (Holds c left next place got v) s → Comes site (loop_at site.context.flags c start) (4 + test_long site.context.flags c) (Holds c c.bits (2 ^ (c.bits - 1)) (place_of c.bits) 0 v) s
-starts allocated h stands k =
-    comes_on (none_set h stands.0 k) (λ t1 k1.
-    comes_on (all_left h stands.1.0 k1) (λ t2 k2.
-    comes_on (one_next h stands.1.1.0 k2) (λ t3 k3.
-    comes_on (highest_next h stands.1.1.1.0 k3) (λ t4 k4.
-    comes_on (lowest_place h stands.1.1.1.1.0 k4) (λ t5 k5. first_place h stands.1.1.1.1.1.0 k5)))))
-
-reverse_out : {site : Site} {start after : ℕ} {s : State} {v : Values} (c : Reversal) → IsReversal c → Enters site start after (slots_alone (whole_slots site.context.flags c)) s v → ComesOut site start after Next (c.step ∷ c.tmp ∷ c.tmp2 ∷ []) (set_reg v c.rd (whole_of c v)) s
-reverse_out {site} {start} {after} {s} {v} c h e =
-    let flags = site.context.flags in
-    let n = reg v c.rs in
-    let long = reverse_long flags c in
-    let first : InCourse site start (whole_long flags c) (Holds c (reg s.values c.step) (reg s.values c.tmp) (reg s.values c.tmp2) (reg s.values c.rd) v) s = record {
-      here = subst (λ size. IsAt site start size s) long (starts_at (whole_slots flags c) e);
-      is_state = e.is_state;
-      values = record { step = refl; tmp = refl; tmp2 = refl; rd = refl; others = same_but (written c) e.same };
-    } in
+ranges : (c : Reversal) → IsReversal c → AreInRange (whole_of c)
+ranges c h =
+    let a = h.rd_usable in
+    let b = h.tmp_usable in
+    let d = h.tmp2_usable in
+    let f = h.step_usable in
     let some = h.some in
-    let bits : suc (c.bits - 1) ≡ c.bits = omega arith in
-    let highest : 2 ^ (c.bits - 1) ≡ 2 ^ c.bits / 2 = sym (half_power (c.bits - 1)) ∙ ap (λ k. 2 ^ k / 2) bits in
+    let few = h.few in
+    let rd : c.rd < 32 = omega arith in
+    let tmp : c.tmp < 32 = omega arith in
+    let tmp2 : c.tmp2 < 32 = omega arith in
+    let step : c.step < 32 = omega arith in
+    let bits : c.bits < 2 ^ 64 = omega arith in
+    let highest : c.bits - 1 < 2 ^ 64 = omega arith in
+    let byte : c.bits - 8 < 2 ^ 64 = omega arith in (
+      (rd, refl, lit< tt),
+      (
+        (step, refl, bits),
+        (
+          (tmp, refl, lit< tt),
+          (
+            (tmp, small_shift (c.bits - 1) (omega arith), highest),
+            (
+              (tmp2, refl, lit< tt),
+              (
+                (tmp2, small_shift (c.bits - 8) (omega arith), byte),
+                (lit< tt, (rd, ((step, refl, lit< tt), ((tmp, refl, lit< tt), ((lit< tt, refl, lit< tt), (lit< tt, ((tmp2, refl, lit< tt), ((tmp2, refl, lit< tt), tt)))))))),
+              ),
+            ),
+          ),
+        ),
+      ),
+    )
+
+reverse_out : {site : Site} {start after : ℕ} {s : State} {v : Values} (c : Reversal) → IsReversal c → Enters site start after (slots_alone (slots_of site.context.flags (whole_of c))) s v → ComesOut site start after Next (c.step ∷ c.tmp ∷ c.tmp2 ∷ []) (set_reg v c.rd (made_of c v)) s
+reverse_out {s = s} {v = v} c h e =
+    let n = reg v c.rs in
     let whole = h.whole in
     let bytes : c.bits ≡ 8 * (c.bits / 8) = omega arith in
-    let all : 0 + mirrored_bits c.bits n ≡ whole_of c v = (let w = ap (λ m. mirrored_bits m n) bytes ∙ whole_bytes (c.bits / 8) n in omega arith) in
-    let r = comes_on (starts e.stands.0 h e.stands.1 first) (λ t k. turns e.stands.0 c.bits 0 t h.few (all_clear c.bits) h e.stands.1.1.1.1.1.1.1 all (subst (λ m. InCourse site (loop_at flags c start) (4 + test_long flags c) (Holds c c.bits m (place_of c.bits) 0 v) t) highest k)) in
-    comes_out r.state r.goes (let pc = r.course.here.pc in let ends = e.stands.2 in omega arith) (record {
-      same = same_beside h e.are_values r.course.values;
-      is_state = r.course.is_state;
-      are_values = are_values_set v c.rd (whole_of c v) e.are_values (let a = h.rd_usable in omega arith) (subst (λ x. x < 2 ^ 64) r.course.values.rd (r.course.is_state.values.fits c.rd));
-      placed = r.course.here.placed;
-    })
+    let all : 0 + mirrored_bits c.bits n ≡ made_of c v = (let w = ap (λ m. mirrored_bits m n) bytes ∙ whole_bytes (c.bits / 8) n in omega arith) in
+    let r = goes_on (starts s.values h e.is_state.values (same_but (written c) e.same)) (λ w k. turns c.bits 0 w h.few (all_clear c.bits) h all k) in
+    pieces_out (whole_of c) (c.step ∷ c.tmp ∷ c.tmp2 ∷ []) (set_reg v c.rd (made_of c v)) (ranges c h) e
+    (record { count = r.count; values = r.values; ran = r.ran; such = same_beside h e.are_values r.such })
+    (λ values. are_values_set v c.rd (made_of c v) e.are_values (let a = h.rd_usable in omega arith) (subst (λ x. x < 2 ^ 64) r.such.rd (values.fits c.rd)))
 
 pub reverse_runs : (site : Site) (setting : EmitVState) (info : Brev8Info) → Keeps (Brev8 info) → RunsIn site setting (Brev8 info)
 reverse_runs site setting info k = record { run = λ start after s v e clear. reverse_out (reversal_of info.rs info.ty info.step info.tmp info.tmp2 info.rd) (is_reversal info.rs info.ty info.step info.tmp info.tmp2 info.rd k) e }

@@ -1,49 +1,34 @@
--- The operations of sequences that count bits of a register in a loop: links of the proof.
-use Rattle.std.specs.Prelude.{ℕ, ◌+◌, ◌-◌, Bool, if◌then◌else◌, List, [], ◌∷◌, pos, negsuc, ◌-ℤ◌}
-use Rattle.rv_base.specs.declared.flags.IsaFlags.{IsaFlags}
-use Rattle.rv_ops.specs.declared.alu.AluOPRRR.TheVariants as rrr
+-- The pieces of sequences that count bits of a register in a loop.
+use Rattle.std.specs.Prelude.{ℕ, ◌-◌, Bool, true, if◌then◌else◌, List, [], ◌∷◌, ◌++◌, pos, negsuc}
+use Rattle.rv_base.specs.declared.condcodes.IntCC.TheVariants.{Equal, NotEqual, SignedGreaterThanOrEqual}
+use Rattle.rv_ops.specs.declared.alu.AluOPRRR.TheVariants.{And}
 use Rattle.rv_ops.specs.declared.alu.AluOPRRI.{AluOPRRI}
-use Rattle.rv_ops.specs.declared.alu.AluOPRRI.TheVariants as rri
-use Rattle.rv_inst.specs.Forms.{short_rrr, short_rri}
-use Rattle.rv_machine.specs.declared.decoding.Decoded.{Decoded}
-use Rattle.rv_code.specs.Operations.{decoded_beq, decoded_bne, decoded_bge, short_jump, jump_size}
+use Rattle.rv_ops.specs.declared.alu.AluOPRRI.TheVariants.{Addi, Slli, Srli}
+use Rattle.rv_inst.specs.Sizes.{bit_shift}
+use Rattle.rv_code.specs.Pieces.{Piece, Rrr, Rri, Do, Branch, Jump, New, Bind}
 
--- none is counted, all bits are left, and the highest is the next, or the lowest
-abbrev pub start_ops : IsaFlags → Bool → ℕ → ℕ → ℕ → ℕ → List Decoded
-start_ops flags downward sum tmp step bits = short_rri flags rri.Addi sum 0 (pos 0) ∷ short_rri flags rri.Addi step 0 (pos bits) ∷ short_rri flags rri.Addi tmp 0 (pos 1) ∷ (if downward then short_rri flags rri.Slli tmp tmp (pos (bits - 1)) ∷ [] else [])
+-- before the loop: none is counted, all bits are left, and the highest is the next where they are counted downward, else the lowest
+abbrev pub count_start : Bool → ℕ → ℕ → ℕ → ℕ → List Piece
+count_start downward sum tmp step bits = Do (Rri Addi sum 0 (pos 0)) ∷ Do (Rri Addi step 0 (pos bits)) ∷ Do (Rri Addi tmp 0 (pos 1)) ∷ (if downward then Do (Rri Slli tmp tmp (pos (bits - 1))) ∷ [] else [])
 
--- the next bit goes to x30
-abbrev pub bit_op : IsaFlags → ℕ → ℕ → Decoded
-bit_op flags tmp rs = short_rrr flags rrr.And 30 tmp rs
+-- to label 1 where no bit is left, else the next one goes to x30
+abbrev pub count_test : ℕ → ℕ → ℕ → List Piece → List Piece
+count_test tmp step rs tail = Branch SignedGreaterThanOrEqual 0 step 1 ∷ Do (Rrr And 30 tmp rs) ∷ tail
 
--- one more is counted
-abbrev pub more_op : IsaFlags → ℕ → Decoded
-more_op flags sum = short_rri flags rri.Addi sum sum (pos 1)
+-- one bit less is left, another is the next, and a turn begins
+abbrev pub count_down : AluOPRRI → ℕ → ℕ → List Piece
+count_down shift tmp step = Do (Rri Addi step step (negsuc 0)) ∷ Do (Rri shift tmp tmp (pos 1)) ∷ Jump 0 ∷ Bind 1 ∷ []
 
--- one bit less is left
-abbrev pub less_op : IsaFlags → ℕ → Decoded
-less_op flags step = short_rri flags rri.Addi step step (negsuc 0)
+-- the zeros before the first one are counted, from the highest of so many low bits on or from the lowest: the sequence ends at a one
+abbrev pub zeros_turn : Bool → ℕ → ℕ → ℕ → ℕ → List Piece
+zeros_turn leading sum tmp step rs = count_test tmp step rs (Branch NotEqual 0 30 1 ∷ Do (Rri Addi sum sum (pos 1)) ∷ count_down (bit_shift leading) tmp step)
 
--- by a shift another bit is the next: the one below, or the one above
-abbrev pub next_op : IsaFlags → AluOPRRI → ℕ → Decoded
-next_op flags shift tmp = short_rri flags shift tmp tmp (pos 1)
+abbrev pub zeros_pieces : Bool → ℕ → ℕ → ℕ → ℕ → ℕ → List Piece
+zeros_pieces leading sum tmp step rs bits = New ∷ New ∷ count_start leading sum tmp step bits ++ Bind 0 ∷ zeros_turn leading sum tmp step rs
 
-abbrev pub half_op : IsaFlags → ℕ → Decoded
-half_op flags tmp = next_op flags rri.Srli tmp
+-- the ones of so many low bits are counted, from the highest on: a zero is passed
+abbrev pub ones_turn : ℕ → ℕ → ℕ → ℕ → List Piece
+ones_turn sum tmp step rs = count_test tmp step rs (Branch Equal 0 30 2 ∷ Do (Rri Addi sum sum (pos 1)) ∷ Bind 2 ∷ count_down Srli tmp step)
 
--- how long a turn is from the operation that counts on, and from its start on, up to its jump back
-abbrev pub counted_size : IsaFlags → AluOPRRI → ℕ → ℕ → ℕ → ℕ
-counted_size flags shift sum tmp step = (more_op flags sum).len + (less_op flags step).len + (next_op flags shift tmp).len
-
-abbrev pub turn_size : IsaFlags → AluOPRRI → ℕ → ℕ → ℕ → ℕ → ℕ
-turn_size flags shift sum tmp step rs = 8 + (bit_op flags tmp rs).len + counted_size flags shift sum tmp step
-
--- where zeros are counted, the sequence ends at a one; where ones are, a zero isn't counted
-abbrev pub test_op : IsaFlags → Bool → AluOPRRI → ℕ → ℕ → ℕ → Decoded
-test_op flags zeros shift sum tmp step = if zeros then decoded_bne 0 30 (pos (4 + counted_size flags shift sum tmp step + jump_size flags)) else decoded_beq 0 30 (pos (4 + (more_op flags sum).len))
-
--- where no bit is left, the sequence ends; the next one is tested, and another is the next
-abbrev pub turn_ops : IsaFlags → Bool → AluOPRRI → ℕ → ℕ → ℕ → ℕ → List Decoded
-turn_ops flags zeros shift sum tmp step rs =
-    decoded_bge 0 step (pos (turn_size flags shift sum tmp step rs + jump_size flags)) ∷ bit_op flags tmp rs ∷ test_op flags zeros shift sum tmp step ∷ more_op flags sum
-    ∷ less_op flags step ∷ next_op flags shift tmp ∷ short_jump flags (pos 0 -ℤ pos (turn_size flags shift sum tmp step rs)) ∷ []
+abbrev pub ones_pieces : ℕ → ℕ → ℕ → ℕ → ℕ → List Piece
+ones_pieces sum tmp step rs bits = New ∷ New ∷ New ∷ count_start true sum tmp step bits ++ Bind 0 ∷ ones_turn sum tmp step rs

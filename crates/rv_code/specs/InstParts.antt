@@ -23,7 +23,7 @@ use Rattle.rv_ops.specs.declared.compare.IntegerCompare.{IntegerCompare}
 use Rattle.rv_inst.specs.Context.{Context}
 use Rattle.rv_inst.specs.Returns.{StackLoad, restores, frame_above, result_loads, loads_unless}
 use Rattle.rv_inst.specs.Records.{site_event}
-use Rattle.rv_inst.specs.Sizes.{table_space, bit_shift, fall, call_size, return_size, results_space}
+use Rattle.rv_inst.specs.Sizes.{table_space, fall, call_size, return_size, results_space}
 use Rattle.rv_inst.specs.declared.inst.Inst.{Inst}
 use Rattle.rv_inst.specs.declared.inst.Inst.TheVariants.{Nop0, Nop4, EBreak, SequencePoint, Args, Rets, DummyUse, EmitIsland, RawData, Lui, Auipc, LoadInlineConst, AluRRR, AluRRImm12, Mov, MovFromPReg, Extend, Select, Load, Store, LoadAddr, LabelAddress, Ret, TrapIf, Jal, CondBr, BrTable, Udf, Jalr, Popcnt, Cltz, Brev8, StackProbeLoop, LoadExtNameGot, LoadExtNameNear, LoadExtNameFar, Call, CallInd, ReturnCall, ReturnCallInd, Unwind}
 use Rattle.rv_inst.specs.declared.inst.CondBrTarget.{CondBrTarget}
@@ -41,9 +41,11 @@ use Rattle.rv_code.specs.Immediates.{upper_of, lower_of, upper_of_distance, lowe
 use Rattle.mach_records.specs.declared.records.Event.TheVariants as event
 use Rattle.rv_code.specs.declared.state.EmitVState.{EmitVState}
 use Rattle.rv_code.specs.Operations.{decoded_addi, decoded_jalr, decoded_jump, short_jump, jump_size}
-use Rattle.rv_code.specs.Counts.{start_ops, turn_ops}
+use Rattle.rv_code.specs.Counts.{ones_pieces, zeros_pieces}
 pub use Rattle.rv_code.specs.Choices.{complement, move_slots, extend_slots, select_slots}
-use Rattle.rv_code.specs.Loops.{reverse_start, reverse_turn}
+use Rattle.rv_code.specs.Reversals.{reverse_pieces}
+pub use Rattle.rv_code.specs.Pieces.{trap_bytes, trap_slots}
+use Rattle.rv_code.specs.Pieces.{slots_of}
 use Rattle.rv_code.specs.Probes.{probe_turn}
 use Rattle.rv_code.specs.Tables.{jump_slots}
 use Rattle.rv_code.specs.Slots.{AddressOf, SlotOf, Target, Label, Own, Slot, Op, Aim, Data, Notes, Names, Allocate, Here, Fill, Address, CallTo, Part, Ask, Slots}
@@ -73,13 +75,6 @@ abbrev pub branch_slots : IsaFlags → IntegerCompare → CondBrTarget → CondB
 branch_slots flags kind Fallthrough not_taken = []
 branch_slots flags kind (ToLabel t) Fallthrough = branch_to kind (Label t) ∷ []
 branch_slots flags kind (ToLabel t) (ToLabel f) = branch_to kind (Label t) ∷ jump_to flags (Label f) ∷ []
-
--- zero bytes that are no operation, as many as the shortest one has, and the record of their trap
-abbrev pub trap_bytes : IsaFlags → List ℕ
-trap_bytes flags = if flags.has_zca then 0 ∷ 0 ∷ [] else 0 ∷ 0 ∷ 0 ∷ 0 ∷ []
-
-abbrev pub trap_slots : IsaFlags → TrapCode → List Slot
-trap_slots flags code = Notes (event.Trap code) ∷ Data (trap_bytes flags) ∷ []
 
 -- a trap, and before it a branch over it, to a label after it, where a comparison doesn't hold
 abbrev pub trap_if_slots : IsaFlags → IntegerCompare → TrapCode → List Slot
@@ -153,20 +148,6 @@ abbrev pub labelled : Location → Location
 labelled (Based r o) = Based r o
 labelled (AtLabel l) = AtLabel l
 labelled (AtConstant k) = AtLabel (constant_label k)
-
--- ---- counts of bits
-
--- the ones of so many low bits are counted, from the highest on: the step counts down, and a bit moves down with it
-abbrev pub count_slots : IsaFlags → ℕ → ℕ → ℕ → ℕ → ℕ → List Slot
-count_slots flags sum tmp step rs bits = map Op (start_ops flags true sum tmp step bits ++ turn_ops flags false rri.Srli sum tmp step rs)
-
--- the zeros before the first one are counted, from the highest of so many low bits on or from the lowest
-abbrev pub zeros_slots : IsaFlags → Bool → ℕ → ℕ → ℕ → ℕ → ℕ → List Slot
-zeros_slots flags leading sum tmp step rs bits = map Op (start_ops flags leading sum tmp step bits ++ turn_ops flags true (bit_shift leading) sum tmp step rs)
-
--- the bits of the low bytes are reversed, from the highest bit on
-abbrev pub reverse_slots : IsaFlags → ℕ → ℕ → ℕ → ℕ → ℕ → ℕ → List Slot
-reverse_slots flags rd tmp tmp2 step rs bits = map Op (reverse_start flags rd tmp tmp2 step bits ++ reverse_turn flags rd tmp tmp2 step rs)
 
 -- ---- probes of the stack
 
@@ -308,9 +289,9 @@ parts_of context setting (CondBr taken not_taken kind) = slots_alone (branch_slo
 parts_of context setting (BrTable index tmp1 tmp2 targets) = Ask (table_space (length targets)) ∷ Slots (table_slots context.flags (number_of index) (number_of tmp1.reg) (number_of tmp2.reg) targets) ∷ []
 parts_of context setting (Udf code) = slots_alone (trap_slots context.flags code)
 parts_of context setting (Jalr rd base offset) = slots_alone (Op (short_jalr context.flags (number_of rd.reg) (number_of base) offset.value) ∷ [])
-parts_of context setting (Popcnt info) = slots_alone (count_slots context.flags (number_of info.sum.reg) (number_of info.tmp.reg) (number_of info.step.reg) (number_of info.rs) (bits_of info.ty))
-parts_of context setting (Cltz leading info) = slots_alone (zeros_slots context.flags leading (number_of info.sum.reg) (number_of info.tmp.reg) (number_of info.step.reg) (number_of info.rs) (bits_of info.ty))
-parts_of context setting (Brev8 info) = slots_alone (reverse_slots context.flags (number_of info.rd.reg) (number_of info.tmp.reg) (number_of info.tmp2.reg) (number_of info.step.reg) (number_of info.rs) (bits_of info.ty))
+parts_of context setting (Popcnt info) = slots_alone (slots_of context.flags (ones_pieces (number_of info.sum.reg) (number_of info.tmp.reg) (number_of info.step.reg) (number_of info.rs) (bits_of info.ty)))
+parts_of context setting (Cltz leading info) = slots_alone (slots_of context.flags (zeros_pieces leading (number_of info.sum.reg) (number_of info.tmp.reg) (number_of info.step.reg) (number_of info.rs) (bits_of info.ty)))
+parts_of context setting (Brev8 info) = slots_alone (slots_of context.flags (reverse_pieces (number_of info.rd.reg) (number_of info.tmp.reg) (number_of info.tmp2.reg) (number_of info.step.reg) (number_of info.rs) (bits_of info.ty)))
 parts_of context setting (StackProbeLoop guard_size probe_count tmp) = slots_alone (probe_slots context.flags (number_of tmp.reg) (low_word guard_size) (low_word probe_count))
 parts_of context setting (LoadExtNameGot rd name) = slots_alone (got_slots (number_of rd.reg) name)
 parts_of context setting (LoadExtNameNear rd name offset) = slots_alone (near_slots (number_of rd.reg) name offset)

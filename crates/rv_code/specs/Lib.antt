@@ -2,11 +2,13 @@ pub mod Operations
 pub mod Usable
 pub mod Counts
 pub mod Choices
-pub mod Loops
+pub mod Reversals
 pub mod Probes
 pub mod Tables
 pub mod Slots
 pub mod Sites
+pub mod Pieces
+pub mod Evaluation
 pub mod InstParts
 pub mod InstRuns
 pub mod Chains

@@ -37,12 +37,11 @@ use Rattle.rv_inst.specs.Records.{inst_records}
 use Rattle.rv_code.specs.declared.state.EmitVState.{EmitVState}
 use Rattle.rv_machine.specs.declared.decoding.Decoded.{Decoded}
 use Rattle.rv_code.specs.Operations.{jump_size}
-use Rattle.rv_code.specs.Counts.{start_ops, turn_ops, turn_size}
 use Rattle.rv_inst.specs.Forms.{jump_kind, short_rrr, short_rri, short_lui, short_jalr, short_ebreak}
 use Rattle.rv_inst.specs.LabelUse.{label_kinds, marks_of, forward_of, backward_of}
 use Rattle.rv_emit.specs.Emitted.{Buffer, IsSoundBuffer, IsFarUse, IsOwnUse, AppendsInst, IslandIfNeeded}
 use Rattle.rv_code.specs.Slots.{Label, Own, Slot, Op, Data, AreSelfContained, PartsAreSelfContained, size_of, own_label}
-use Rattle.rv_code.specs.InstParts.{move_slots, branch_slots, branch_to, jump_to, trap_bytes, trap_slots, trap_if_slots, complement, slots_alone, inline_slots, constant_slots, count_slots, parts_of}
+use Rattle.rv_code.specs.InstParts.{move_slots, branch_slots, branch_to, jump_to, trap_bytes, trap_slots, trap_if_slots, complement, slots_alone, inline_slots, constant_slots, parts_of}
 use Rattle.rv_code.specs.declared.state.EmitVState.TheVariants.{Unknown}
 use Rattle.rv_emit.specs.Emission.{PutsParts, EmitsIn, Emits}
 use Rattle.rv_code.proofs.AddressRuns.{inline_size}
@@ -55,10 +54,10 @@ use Rattle.rv_emit.proofs.PlainSlots.{summed, nothing}
 use Rattle.rv_emit.proofs.OwnSlots.{closed_code, closed_long, closed_end, closed_records, closed_adds}
 use Rattle.rv_emit.proofs.ReachAfterInst.{each_none, each_more}
 use Rattle.rv_code.proofs.MemorySlots.{load_summed, store_summed, load_addr_summed, label_address_summed, load_contained, store_contained, address_contained}
-use Rattle.rv_code.proofs.CountSlots.{count_even, ops_contained}
+use Rattle.rv_code.proofs.CountSlots.{popcnt_made, zeros_made, reverse_made}
+use Rattle.rv_code.proofs.MadeOfPieces.{made_contained}
+use Rattle.rv_emit.proofs.OwnPieces.{made_appends}
 use Rattle.rv_code.proofs.ChoiceSlots.{extend_summed, extend_contained, select_summed, select_contained}
-use Rattle.rv_code.proofs.ZerosSlots.{zeros_summed, zeros_contained}
-use Rattle.rv_code.proofs.ReverseSlots.{reverse_summed, reverse_contained}
 use Rattle.rv_code.proofs.ProbeSlots.{probe_summed, probe_contained}
 use Rattle.rv_code.proofs.SymbolSlots.{got_summed, near_summed, far_summed, unwind_summed, far_contained}
 use Rattle.rv_code.proofs.TableSlots.{table_contained}
@@ -147,17 +146,6 @@ trap_if_appends context cmp code old new s (mid, p, same) = subst (AppendsInst c
     branch : Use LabelUse
     branch = use_at (length (bytes_of old)) (own_label (allocated_of old) 0) B12
 
-counts : (context : Context) (info : CountInfo) → IsSummed context (Popcnt info) (count_slots context.flags (number_of info.sum.reg) (number_of info.tmp.reg) (number_of info.step.reg) (number_of info.rs) (bits_of info.ty))
-counts context info = record {
-  plain = tt;
-  long = let jump = jump_len context.flags (pos 0 -ℤ pos (turn_size context.flags Srli (number_of info.sum.reg) (number_of info.tmp.reg) (number_of info.step.reg) (number_of info.rs))) in
-      let e : count_size context.flags (number_of info.sum.reg) (number_of info.tmp.reg) (number_of info.step.reg) (number_of info.rs) (bits_of info.ty) ≡ size_of (count_slots context.flags (number_of info.sum.reg) (number_of info.tmp.reg) (number_of info.step.reg) (number_of info.rs) (bits_of info.ty)) = omega arith in
-      ap Words e;
-  uses = λ allocated start. refl;
-  records = λ start. refl;
-  names = λ named. refl;
-}
-
 -- what an instruction that asks for no island adds
 pub appends_inst : (context : Context) (setting : EmitVState) (inst : Inst) (old new : Buffer) → inst_rule context inst ≡ None → IsSoundBuffer old → island_space context inst ≡ None → EmitsIn context setting inst old new → AppendsInst context inst old new
 appends_inst context setting Nop0 old new rule s asks p = nothing context Nop0 old new s refl refl refl refl refl p
@@ -189,9 +177,9 @@ appends_inst context setting (CondBr taken not_taken kind) old new rule s asks p
 appends_inst context setting (BrTable index tmp1 tmp2 targets) old new rule s asks p = absurd (cc)
 appends_inst context setting (Udf code) old new rule s asks p = summed context (Udf code) _ old new refl (trap context code) context.flags p
 appends_inst context setting (Jalr rd base offset) old new rule s asks p = summed context (Jalr rd base offset) _ old new refl (one context (Jalr rd base offset) _ refl (λ start end. refl) (λ start end. refl) (λ named. refl)) context.flags p
-appends_inst context setting (Popcnt info) old new rule s asks p = summed context (Popcnt info) _ old new refl (counts context info) context.flags p
-appends_inst context setting (Cltz leading info) old new rule s asks p = summed context (Cltz leading info) _ old new refl (zeros_summed context leading info) context.flags p
-appends_inst context setting (Brev8 info) old new rule s asks p = summed context (Brev8 info) _ old new refl (reverse_summed context info) context.flags p
+appends_inst context setting (Popcnt info) old new rule s asks p = made_appends context (Popcnt info) _ old new (popcnt_made context info) s p
+appends_inst context setting (Cltz leading info) old new rule s asks p = made_appends context (Cltz leading info) _ old new (zeros_made context leading info) s p
+appends_inst context setting (Brev8 info) old new rule s asks p = made_appends context (Brev8 info) _ old new (reverse_made context info) s p
 appends_inst context setting (StackProbeLoop guard_size probe_count tmp) old new rule s asks p = summed context (StackProbeLoop guard_size probe_count tmp) _ old new refl (probe_summed context guard_size probe_count tmp) context.flags p
 appends_inst context setting (LoadExtNameGot rd name) old new rule s asks p = summed context (LoadExtNameGot rd name) _ old new refl (got_summed context rd name) context.flags p
 appends_inst context setting (LoadExtNameNear rd name offset) old new rule s asks p = summed context (LoadExtNameNear rd name offset) _ old new refl (near_summed context rd name offset) context.flags p
@@ -250,9 +238,6 @@ trap_even flags = by flags.has_zca
 trap_if_contained : (flags : IsaFlags) (cmp : IntegerCompare) (code : TrapCode) → AreSelfContained (trap_if_slots flags cmp code)
 trap_if_contained flags cmp code = let few = trap_few flags in (record { to = 4 + length (trap_bytes flags); there = refl; forward = omega arith; backward = omega arith }, (trap_even flags, tt))
 
-count_contained : (flags : IsaFlags) (sum tmp step rs bits : ℕ) → AreSelfContained (count_slots flags sum tmp step rs bits)
-count_contained flags sum tmp step rs bits = ops_contained (start_ops flags true sum tmp step bits ++ turn_ops flags false Srli sum tmp step rs) (count_even flags true false Srli sum tmp step rs bits)
-
 -- each part of an instruction is self-contained
 pub parts_are_self_contained : (context : Context) (setting : EmitVState) (inst : Inst) → inst_rule context inst ≡ None → PartsAreSelfContained (parts_of context setting inst)
 parts_are_self_contained context setting Nop0 rule = tt
@@ -284,9 +269,9 @@ parts_are_self_contained context setting (CondBr taken not_taken kind) rule = (b
 parts_are_self_contained context setting (BrTable index tmp1 tmp2 targets) rule = (table_contained context.flags (number_of index) (number_of tmp1.reg) (number_of tmp2.reg) targets, tt)
 parts_are_self_contained context setting (Udf code) rule = ((trap_even context.flags, tt), tt)
 parts_are_self_contained context setting (Jalr rd base offset) rule = (op_contained (short_jalr context.flags (number_of rd.reg) (number_of base) offset.value) (jalr_sized context.flags (number_of rd.reg) (number_of base) offset.value), tt)
-parts_are_self_contained context setting (Popcnt info) rule = (count_contained context.flags (number_of info.sum.reg) (number_of info.tmp.reg) (number_of info.step.reg) (number_of info.rs) (bits_of info.ty), tt)
-parts_are_self_contained context setting (Cltz leading info) rule = (zeros_contained context.flags leading (number_of info.sum.reg) (number_of info.tmp.reg) (number_of info.step.reg) (number_of info.rs) (bits_of info.ty), tt)
-parts_are_self_contained context setting (Brev8 info) rule = (reverse_contained context.flags (number_of info.rd.reg) (number_of info.tmp.reg) (number_of info.tmp2.reg) (number_of info.step.reg) (number_of info.rs) (bits_of info.ty), tt)
+parts_are_self_contained context setting (Popcnt info) rule = (made_contained (popcnt_made context info), tt)
+parts_are_self_contained context setting (Cltz leading info) rule = (made_contained (zeros_made context leading info), tt)
+parts_are_self_contained context setting (Brev8 info) rule = (made_contained (reverse_made context info), tt)
 parts_are_self_contained context setting (StackProbeLoop guard_size probe_count tmp) rule = (probe_contained context.flags (number_of tmp.reg) (low_word guard_size) (low_word probe_count), tt)
 parts_are_self_contained context setting (LoadExtNameGot rd name) rule = (tt, tt)
 parts_are_self_contained context setting (LoadExtNameNear rd name offset) rule = (tt, tt)

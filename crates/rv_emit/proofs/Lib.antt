@@ -41,3 +41,5 @@ mod CallsPut
 mod ResultsPut
 mod TailEmits
 mod ChoicesPut
+mod CodePut
+mod OwnPieces

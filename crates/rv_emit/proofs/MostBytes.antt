@@ -44,11 +44,10 @@ use Rattle.rv_code.proofs.FineOperands.{fine}
 use Rattle.rv_code.proofs.OffsetSizes.{far_short}
 use Rattle.rv_code.proofs.Operands.{keeps, data_kept, constant_kept}
 use Rattle.rv_code.proofs.ProbeSlots.{probe_short}
-use Rattle.rv_code.proofs.ReverseSlots.{reverse_short}
 use Rattle.rv_code.proofs.ShortOps.{HasSize, rrr_sized, rri_sized, lui_sized, jalr_sized, ebreak_sized, load_sized, store_sized, least_few}
 use Rattle.rv_code.proofs.TableSlots.{table_short}
 use Rattle.rv_code.proofs.TailSlots.{loads_most, step_most, saves_long, setup_few}
-use Rattle.rv_code.proofs.ZerosSlots.{zeros_short}
+use Rattle.rv_code.proofs.CountSlots.{ones_short, zeros_short, reverse_short}
 
 -- ---- pieces
 
@@ -95,19 +94,6 @@ branch_short : (flags : IsaFlags) (t f : CondBrTarget) → branch_size flags t f
 branch_short flags Fallthrough f = omega arith
 branch_short flags (Label t) Fallthrough = omega arith
 branch_short flags (Label t) (Label f) = let few = least_few flags in omega arith
-
-count_short : (flags : IsaFlags) (sum tmp step rs bits : ℕ) → count_size flags sum tmp step rs bits ≤ 44
-count_short flags sum tmp step rs bits =
-    let a = (rri_sized flags Addi sum 0 (pos 0)).few in
-    let b = (rri_sized flags Addi step 0 (pos bits)).few in
-    let c = (rri_sized flags Addi tmp 0 (pos 1)).few in
-    let d = (rri_sized flags Slli tmp tmp (pos (bits - 1))).few in
-    let e = (rrr_sized flags And 30 tmp rs).few in
-    let f = (rri_sized flags Addi sum sum (pos 1)).few in
-    let g = (rri_sized flags Addi step step (negsuc 0)).few in
-    let h = (rri_sized flags Srli tmp tmp (pos 1)).few in
-    let few = least_few flags in
-    omega arith
 
 return_short : (flags : IsaFlags) (frame : FrameLayout) (arguments : ℕ) → return_size flags frame arguments ≤ return_limit frame
 return_short flags frame arguments = let a = loads_most flags (restores frame) in let b = step_most flags (pos (frame_above frame arguments)) in omega arith
@@ -219,7 +205,7 @@ words_within context (CondBr t f kind) rule small = branch_short context.flags t
 words_within context (BrTable index tmp1 tmp2 targets) rule small = let some = (fine context (BrTable index tmp1 tmp2 targets) rule).4 in let short = table_short context.flags (number_of index) (number_of tmp2.reg) (length targets) some (omega arith) in omega arith
 words_within context (Udf code) rule small = least_few context.flags
 words_within context (Jalr rd base offset) rule small = (jalr_sized context.flags (number_of rd.reg) (number_of base) offset.value).few
-words_within context (Popcnt info) rule small = count_short context.flags (number_of info.sum.reg) (number_of info.tmp.reg) (number_of info.step.reg) (number_of info.rs) (bits_of info.ty)
+words_within context (Popcnt info) rule small = ones_short context.flags (number_of info.sum.reg) (number_of info.tmp.reg) (number_of info.step.reg) (number_of info.rs) (bits_of info.ty)
 words_within context (Cltz leading info) rule small = zeros_short context.flags leading (number_of info.sum.reg) (number_of info.tmp.reg) (number_of info.step.reg) (number_of info.rs) (bits_of info.ty)
 words_within context (Brev8 info) rule small = reverse_short context.flags (number_of info.rd.reg) (number_of info.tmp.reg) (number_of info.tmp2.reg) (number_of info.step.reg) (number_of info.rs) (bits_of info.ty)
 words_within context (StackProbeLoop guard_size probe_count tmp) rule small = probe_short context.flags (number_of tmp.reg) (low_word guard_size) (low_word probe_count)

@@ -36,7 +36,7 @@ use Rattle.rv_emit.proofs.SlotsOfOnePut.{alone}
 
 -- ---- one after the other
 
-puts_after : (flags : IsaFlags) (allocated : ℕ) (slots more : List Slot) (s t u : Shape LabelUse) → Puts flags allocated slots s t → Puts flags allocated more t u → Puts flags allocated (slots ++ more) s u
+pub puts_after : (flags : IsaFlags) (allocated : ℕ) (slots more : List Slot) (s t u : Shape LabelUse) → Puts flags allocated slots s t → Puts flags allocated more t u → Puts flags allocated (slots ++ more) s u
 puts_after flags allocated [] more s t u p q = subst (λ (x : Shape LabelUse). Puts flags allocated more x u) p q
 puts_after flags allocated (slot ∷ slots) more s t u p q = (p.0, p.1, puts_after flags allocated slots more p.0 t u p.2 q)
 

@@ -1,7 +1,6 @@
 pub mod Emitted
 pub mod Encoded
 pub mod State
-pub mod Reversal
 pub mod ProbeTurns
 pub mod Images
 pub mod Puts
@@ -9,3 +8,4 @@ pub mod Emission
 pub mod Standing
 pub mod NewConstants
 pub mod Places
+pub mod Code

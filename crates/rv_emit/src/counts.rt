@@ -1,104 +1,195 @@
-//! The sequences that count bits of a register in a loop: what comes before the loop, and a turn of it.
+//! The code that counts bits of a register in a loop. Label 0 is the loop's, 1 the end's, and 2 stands past the operation that counts.
 
-ghost use Rattle.std.specs.Prelude.{◌≡◌, [], ◌∷◌, ◌+◌, ◌-◌, ◌<◌, ◌≤◌, ◌%◌, if◌then◌else◌, length, map, pos, negsuc, ◌-ℤ◌, OnOk, OnErr, true};
-ghost use Rattle.rv_base.specs.declared.flags.IsaFlags.{IsaFlags};
+ghost use Rattle.std.specs.Prelude.{◌≡◌, [], ◌+◌, ◌-◌, ◌<◌, ◌≤◌, ◌^◌, length, pos, negsuc, OnOk, OnErr, true, false};
 ghost use Rattle.rv_base.specs.IrType.{bits_of};
 ghost use Rattle.rv_base.specs.LabelUse.{code_limit};
 ghost use Rattle.rv_base.specs.Regs.{number_of};
-ghost use Rattle.rv_encode.specs.Layouts.{IsEven};
+ghost use Rattle.rv_base.specs.declared.condcodes.IntCC.TheVariants.{Equal, NotEqual, SignedGreaterThanOrEqual};
 ghost use Rattle.rv_encode.specs.Registers.{IsIntRegister};
-ghost use Rattle.rv_machine.specs.Decode.{decode};
-ghost use Rattle.rv_ops.specs.declared.alu.AluOPRRI.TheVariants.{Addi, Slli};
-ghost use Rattle.rv_inst.specs.Forms.{short_rri};
 ghost use Rattle.rv_inst.specs.Rules.{is_int_type};
-ghost use Rattle.mach_buffer.specs.Buffer.{bytes_of, spoiled_of};
-ghost use Rattle.rv_code.specs.Counts.{start_ops, bit_op, turn_ops};
+ghost use Rattle.mach_buffer.specs.Buffer.{bytes_of, allocated_of, spoiled_of};
+ghost use Rattle.rv_code.specs.Counts.{ones_pieces, zeros_pieces};
+ghost use Rattle.rv_code.specs.Pieces.{slots_of};
+ghost use Rattle.rv_emit.specs.Code.{pieces_of, AreSound, IsLabelled};
 ghost use Rattle.rv_emit.specs.Emitted.{IsSoundBuffer};
 ghost use Rattle.rv_emit.specs.Emission.{PutsAlone};
-ghost use Rattle.rv_emit.specs.Encoded.{Holds, IsSizeOf};
-ghost use Rattle.rv_code.specs.Operations.{decoded_beq, decoded_bne, decoded_bge};
-ghost use Rattle.rv_code.specs.Slots.{Op};
 
-use crate::compressed::{Encoded, encoded_rri, encoded_rrr};
-use crate::sequence::put_word;
-use crate::shortest::{jump_size_of, length_of, put_encoded, put_rri, put_short_jump};
+use crate::code::{CodePiece, bind, branch, jump, put_code, rri, rrr};
 use mach_buffer::MachBuffer;
 use rv_base::{
     IntCC, IrType, IsaFlags, OutOfMemory, Reg, WritableReg, spilltmp_reg2, writable_spilltmp_reg2,
     zero_reg,
 };
-use rv_encode::encode_branch;
 use rv_imms::Imm12;
 use rv_inst::LabelUse;
 use rv_ops::{AluOPRRI, AluOPRRR, IntegerCompare};
 
-// ---- before the loop
+// ---- the ones
 
-/// None is counted, all bits are left, and the highest is the next where they are counted downward, else the lowest.
-pub(crate) fn put_start(
+/// Counts the ones of a register's low bits, as many as the type has, from the highest on: `step` counts the bits that are
+/// left, and `tmp` holds the next one.
+pub(crate) fn put_popcnt(
     sink: &mut MachBuffer<LabelUse>,
     flags: IsaFlags,
-    downward: bool,
     sum: WritableReg,
     tmp: WritableReg,
     step: WritableReg,
+    rs: Reg,
     ty: IrType,
 ) -> Result<(), OutOfMemory>
     requires sum { IsIntRegister sum.reg }
     requires tmp { IsIntRegister tmp.reg }
     requires step { IsIntRegister step.reg }
+    requires rs { IsIntRegister rs }
     requires ty { is_int_type ty ≡ true }
-    requires room { length (bytes_of sink.old) + 16 < code_limit }
+    requires few { allocated_of sink.old < 2 ^ 29 }
+    requires room { length (bytes_of sink.old) + 48 < code_limit }
     requires sound { IsSoundBuffer sink.old }
-    ensures slots { OnOk result (PutsAlone flags (map Op (start_ops flags downward (number_of sum.reg) (number_of tmp.reg) (number_of step.reg) (bits_of ty))) sink.old sink.new) }
+    ensures slots { OnOk result (PutsAlone flags (slots_of flags (ones_pieces (number_of sum.reg) (number_of tmp.reg) (number_of step.reg) (number_of rs) (bits_of ty))) sink.old sink.new) }
     ensures refused { OnErr result (spoiled_of sink.new ≡ true) }
 {
-    put_number(sink, flags, sum, Imm12::ZERO)?;
-    put_number(sink, flags, step, width(ty))?;
-    put_number(sink, flags, tmp, Imm12::ONE)?;
-    put_shift(sink, flags, downward, tmp, ty)?;
-    Ok(())
+    put_code(sink, flags, &popcnt_code(sum, tmp, step, rs, ty))
 }
 
-/// An immediate goes to a register.
-pub(crate) fn put_number(
-    sink: &mut MachBuffer<LabelUse>,
-    flags: IsaFlags,
-    rd: WritableReg,
-    imm: Imm12,
-) -> Result<(), OutOfMemory>
-    requires rd { IsIntRegister rd.reg }
-    requires room { length (bytes_of sink.old) + 4 < code_limit }
-    requires sound { IsSoundBuffer sink.old }
-    ensures slots { OnOk result (PutsAlone flags (Op (short_rri flags Addi (number_of rd.reg) 0 imm.value) ∷ []) sink.old sink.new) }
-    ensures long { OnOk result (length (bytes_of sink.new) ≤ length (bytes_of sink.old) + 4) }
-    ensures sound { OnOk result (IsSoundBuffer sink.new) }
-    ensures refused { OnErr result (spoiled_of sink.new ≡ true) }
-{
-    put_rri(sink, flags, AluOPRRI::Addi, rd, zero_reg(), imm)
-}
-
-/// A one in a register's lowest bit goes to the type's highest, where that is the next.
-fn put_shift(
-    sink: &mut MachBuffer<LabelUse>,
-    flags: IsaFlags,
-    downward: bool,
+fn popcnt_code(
+    sum: WritableReg,
     tmp: WritableReg,
+    step: WritableReg,
+    rs: Reg,
+    ty: IrType,
+) -> [CodePiece; 17]
+    requires sum { IsIntRegister sum.reg }
+    requires tmp { IsIntRegister tmp.reg }
+    requires step { IsIntRegister step.reg }
+    requires rs { IsIntRegister rs }
+    requires ty { is_int_type ty ≡ true }
+    ensures pieces { pieces_of result ≡ ones_pieces (number_of sum.reg) (number_of tmp.reg) (number_of step.reg) (number_of rs) (bits_of ty) }
+    ensures registers { AreSound result }
+    ensures labels { IsLabelled 0 [] result }
+{
+    [
+        CodePiece::New,
+        CodePiece::New,
+        CodePiece::New,
+        rri(AluOPRRI::Addi, sum, zero_reg(), Imm12::ZERO),
+        rri(AluOPRRI::Addi, step, zero_reg(), width(ty)),
+        rri(AluOPRRI::Addi, tmp, zero_reg(), Imm12::ONE),
+        rri(AluOPRRI::Slli, tmp, tmp.reg, highest(ty)),
+        bind(0),
+        branch(none_left(step.reg), 1),
+        rrr(AluOPRRR::And, writable_spilltmp_reg2(), tmp.reg, rs),
+        branch(is_zero_bit(), 2),
+        rri(AluOPRRI::Addi, sum, sum.reg, Imm12::ONE),
+        bind(2),
+        rri(AluOPRRI::Addi, step, step.reg, less()),
+        rri(AluOPRRI::Srli, tmp, tmp.reg, Imm12::ONE),
+        jump(0),
+        bind(1),
+    ]
+}
+
+// ---- the zeros before the first one
+
+/// Counts the zeros of a register's low bits, as many as the type has, from the highest on or from the lowest, until one is a
+/// one: `step` counts the bits that are left, and `tmp` holds the next one.
+pub(crate) fn put_zeros(
+    sink: &mut MachBuffer<LabelUse>,
+    flags: IsaFlags,
+    leading: bool,
+    sum: WritableReg,
+    tmp: WritableReg,
+    step: WritableReg,
+    rs: Reg,
     ty: IrType,
 ) -> Result<(), OutOfMemory>
+    requires sum { IsIntRegister sum.reg }
     requires tmp { IsIntRegister tmp.reg }
+    requires step { IsIntRegister step.reg }
+    requires rs { IsIntRegister rs }
     requires ty { is_int_type ty ≡ true }
-    requires room { length (bytes_of sink.old) + 4 < code_limit }
+    requires few { allocated_of sink.old < 2 ^ 29 }
+    requires room { length (bytes_of sink.old) + 48 < code_limit }
     requires sound { IsSoundBuffer sink.old }
-    ensures slots { OnOk result (PutsAlone flags (map Op (if downward then short_rri flags Slli (number_of tmp.reg) (number_of tmp.reg) (pos (bits_of ty - 1)) ∷ [] else [])) sink.old sink.new) }
+    ensures slots { OnOk result (PutsAlone flags (slots_of flags (zeros_pieces leading (number_of sum.reg) (number_of tmp.reg) (number_of step.reg) (number_of rs) (bits_of ty))) sink.old sink.new) }
     ensures refused { OnErr result (spoiled_of sink.new ≡ true) }
 {
-    if downward {
-        put_rri(sink, flags, AluOPRRI::Slli, tmp, tmp.reg, highest(ty))
+    if leading {
+        put_code(sink, flags, &leading_zeros_code(sum, tmp, step, rs, ty))
     } else {
-        Ok(())
+        put_code(sink, flags, &trailing_zeros_code(sum, tmp, step, rs, ty))
     }
 }
+
+fn leading_zeros_code(
+    sum: WritableReg,
+    tmp: WritableReg,
+    step: WritableReg,
+    rs: Reg,
+    ty: IrType,
+) -> [CodePiece; 15]
+    requires sum { IsIntRegister sum.reg }
+    requires tmp { IsIntRegister tmp.reg }
+    requires step { IsIntRegister step.reg }
+    requires rs { IsIntRegister rs }
+    requires ty { is_int_type ty ≡ true }
+    ensures pieces { pieces_of result ≡ zeros_pieces true (number_of sum.reg) (number_of tmp.reg) (number_of step.reg) (number_of rs) (bits_of ty) }
+    ensures registers { AreSound result }
+    ensures labels { IsLabelled 0 [] result }
+{
+    [
+        CodePiece::New,
+        CodePiece::New,
+        rri(AluOPRRI::Addi, sum, zero_reg(), Imm12::ZERO),
+        rri(AluOPRRI::Addi, step, zero_reg(), width(ty)),
+        rri(AluOPRRI::Addi, tmp, zero_reg(), Imm12::ONE),
+        rri(AluOPRRI::Slli, tmp, tmp.reg, highest(ty)),
+        bind(0),
+        branch(none_left(step.reg), 1),
+        rrr(AluOPRRR::And, writable_spilltmp_reg2(), tmp.reg, rs),
+        branch(is_one_bit(), 1),
+        rri(AluOPRRI::Addi, sum, sum.reg, Imm12::ONE),
+        rri(AluOPRRI::Addi, step, step.reg, less()),
+        rri(AluOPRRI::Srli, tmp, tmp.reg, Imm12::ONE),
+        jump(0),
+        bind(1),
+    ]
+}
+
+fn trailing_zeros_code(
+    sum: WritableReg,
+    tmp: WritableReg,
+    step: WritableReg,
+    rs: Reg,
+    ty: IrType,
+) -> [CodePiece; 14]
+    requires sum { IsIntRegister sum.reg }
+    requires tmp { IsIntRegister tmp.reg }
+    requires step { IsIntRegister step.reg }
+    requires rs { IsIntRegister rs }
+    requires ty { is_int_type ty ≡ true }
+    ensures pieces { pieces_of result ≡ zeros_pieces false (number_of sum.reg) (number_of tmp.reg) (number_of step.reg) (number_of rs) (bits_of ty) }
+    ensures registers { AreSound result }
+    ensures labels { IsLabelled 0 [] result }
+{
+    [
+        CodePiece::New,
+        CodePiece::New,
+        rri(AluOPRRI::Addi, sum, zero_reg(), Imm12::ZERO),
+        rri(AluOPRRI::Addi, step, zero_reg(), width(ty)),
+        rri(AluOPRRI::Addi, tmp, zero_reg(), Imm12::ONE),
+        bind(0),
+        branch(none_left(step.reg), 1),
+        rrr(AluOPRRR::And, writable_spilltmp_reg2(), tmp.reg, rs),
+        branch(is_one_bit(), 1),
+        rri(AluOPRRI::Addi, sum, sum.reg, Imm12::ONE),
+        rri(AluOPRRI::Addi, step, step.reg, less()),
+        rri(AluOPRRI::Slli, tmp, tmp.reg, Imm12::ONE),
+        jump(0),
+        bind(1),
+    ]
+}
+
+// ---- immediates
 
 /// How many bits an integer type of at most 64 bits has.
 pub(crate) fn bits(ty: IrType) -> i16
@@ -131,80 +222,6 @@ pub(crate) fn highest(ty: IrType) -> Imm12
     Imm12::from_i16(bits(ty) - 1)
 }
 
-// ---- a turn
-
-/// The next bit is tested, one more is counted or not, and a shift makes another bit the next; where none is left, the sequence
-/// ends. Where zeros are counted, it ends at a one.
-pub(crate) fn put_turn(
-    sink: &mut MachBuffer<LabelUse>,
-    flags: IsaFlags,
-    zeros: bool,
-    shift: AluOPRRI,
-    sum: WritableReg,
-    tmp: WritableReg,
-    step: WritableReg,
-    rs: Reg,
-) -> Result<(), OutOfMemory>
-    requires sum { IsIntRegister sum.reg }
-    requires tmp { IsIntRegister tmp.reg }
-    requires step { IsIntRegister step.reg }
-    requires rs { IsIntRegister rs }
-    requires room { length (bytes_of sink.old) + 28 < code_limit }
-    requires sound { IsSoundBuffer sink.old }
-    ensures slots { OnOk result (PutsAlone flags (map Op (turn_ops flags zeros shift (number_of sum.reg) (number_of tmp.reg) (number_of step.reg) (number_of rs))) sink.old sink.new) }
-    ensures refused { OnErr result (spoiled_of sink.new ≡ true) }
-{
-    let bit = bit_piece(flags, tmp.reg, rs);
-    let more = own_piece(flags, AluOPRRI::Addi, sum, Imm12::ONE);
-    let down = own_piece(flags, AluOPRRI::Addi, step, less());
-    let next = own_piece(flags, shift, tmp, Imm12::ONE);
-    let jump = jump_size_of(flags);
-    let counted = more.size + down.size + next.size;
-    let turn = 8 + bit.size + counted;
-    put_word(sink, end_word(step.reg, turn + jump))?;
-    put_encoded(sink, bit.encoded)?;
-    put_word(sink, test_word(zeros, 4 + counted + jump, 4 + more.size))?;
-    put_encoded(sink, more.encoded)?;
-    put_encoded(sink, down.encoded)?;
-    put_encoded(sink, next.encoded)?;
-    put_short_jump(sink, flags, back(turn))?;
-    Ok(())
-}
-
-/// An operation of a turn, and how many bytes it has.
-#[derive(Clone, Copy)]
-struct Piece {
-    encoded: Encoded,
-    size: u8,
-}
-
-/// The next bit goes to x30.
-fn bit_piece(flags: IsaFlags, tmp: Reg, rs: Reg) -> Piece
-    requires tmp { IsIntRegister tmp }
-    requires rs { IsIntRegister rs }
-    ensures holds { Holds flags result.encoded (bit_op flags (number_of tmp) (number_of rs)) }
-    ensures size { IsSizeOf (bit_op flags (number_of tmp) (number_of rs)) result.size }
-{
-    let encoded = encoded_rrr(flags, AluOPRRR::And, writable_spilltmp_reg2(), tmp, rs);
-    Piece {
-        encoded,
-        size: length_of(encoded),
-    }
-}
-
-/// An operation of a register's own value and an immediate.
-fn own_piece(flags: IsaFlags, op: AluOPRRI, rd: WritableReg, imm: Imm12) -> Piece
-    requires { IsIntRegister rd.reg }
-    ensures holds { Holds flags result.encoded (short_rri flags op (number_of rd.reg) (number_of rd.reg) imm.value) }
-    ensures size { IsSizeOf (short_rri flags op (number_of rd.reg) (number_of rd.reg) imm.value) result.size }
-{
-    let encoded = encoded_rri(flags, op, rd, rd.reg, imm);
-    Piece {
-        encoded,
-        size: length_of(encoded),
-    }
-}
-
 /// One less.
 pub(crate) fn less() -> Imm12
     ensures { result.value ≡ negsuc 0 }
@@ -212,64 +229,49 @@ pub(crate) fn less() -> Imm12
     Imm12::from_i16(-1)
 }
 
-/// To the end where no bit is left, by so many bytes.
-pub(crate) fn end_word(step: Reg, size: u8) -> u32
-    requires step { IsIntRegister step }
-    requires even { size % 2 ≡ 0 }
-    ensures { (flags : IsaFlags) → decode flags result ≡ Some (decoded_bge 0 (number_of step) (pos size)) }
+// ---- comparisons
+
+/// No bit is left.
+pub(crate) fn none_left(step: Reg) -> IntegerCompare
+    requires { IsIntRegister step }
+    ensures kind { result.kind ≡ SignedGreaterThanOrEqual }
+    ensures zero { number_of result.rs1 ≡ 0 }
+    ensures step { result.rs2 ≡ step }
+    ensures rs1 { IsIntRegister result.rs1 }
 {
-    let none_left = IntegerCompare {
+    IntegerCompare {
         kind: IntCC::SignedGreaterThanOrEqual,
         rs1: zero_reg(),
         rs2: step,
-    };
-    encode_branch(none_left, i32::from(size))
-}
-
-/// Where zeros are counted, to the end where x30 is not 0; where ones are, over the operation that counts where it is 0.
-fn test_word(zeros: bool, end: u8, over: u8) -> u32
-    requires end { end % 2 ≡ 0 }
-    requires over { over % 2 ≡ 0 }
-    ensures { (flags : IsaFlags) → decode flags result ≡ Some (if zeros then decoded_bne 0 30 (pos end) else decoded_beq 0 30 (pos over)) }
-{
-    if zeros {
-        leave_word(end)
-    } else {
-        skip_word(over)
     }
 }
 
-/// By so many bytes where x30 is not 0.
-fn leave_word(size: u8) -> u32
-    requires { size % 2 ≡ 0 }
-    ensures { (flags : IsaFlags) → decode flags result ≡ Some (decoded_bne 0 30 (pos size)) }
+/// The next bit, which is in x30, is a one.
+fn is_one_bit() -> IntegerCompare
+    ensures kind { result.kind ≡ NotEqual }
+    ensures zero { number_of result.rs1 ≡ 0 }
+    ensures spare { number_of result.rs2 ≡ 30 }
+    ensures rs1 { IsIntRegister result.rs1 }
+    ensures rs2 { IsIntRegister result.rs2 }
 {
-    let is_one = IntegerCompare {
+    IntegerCompare {
         kind: IntCC::NotEqual,
         rs1: zero_reg(),
         rs2: spilltmp_reg2(),
-    };
-    encode_branch(is_one, i32::from(size))
+    }
 }
 
-/// By so many bytes where x30 is 0.
-pub(crate) fn skip_word(size: u8) -> u32
-    requires { size % 2 ≡ 0 }
-    ensures { (flags : IsaFlags) → decode flags result ≡ Some (decoded_beq 0 30 (pos size)) }
+/// It is a zero.
+pub(crate) fn is_zero_bit() -> IntegerCompare
+    ensures kind { result.kind ≡ Equal }
+    ensures zero { number_of result.rs1 ≡ 0 }
+    ensures spare { number_of result.rs2 ≡ 30 }
+    ensures rs1 { IsIntRegister result.rs1 }
+    ensures rs2 { IsIntRegister result.rs2 }
 {
-    let is_zero = IntegerCompare {
+    IntegerCompare {
         kind: IntCC::Equal,
         rs1: zero_reg(),
         rs2: spilltmp_reg2(),
-    };
-    encode_branch(is_zero, i32::from(size))
-}
-
-/// The distance back by so many bytes.
-pub(crate) fn back(size: u8) -> Imm12
-    requires { size % 2 ≡ 0 }
-    ensures value { result.value ≡ pos 0 -ℤ pos size }
-    ensures even { IsEven result.value }
-{
-    Imm12::from_i16(-i16::from(size))
+    }
 }

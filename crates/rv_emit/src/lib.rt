@@ -3,6 +3,7 @@
 
 mod calls;
 mod choices;
+mod code;
 mod compressed;
 mod compressed_immediates;
 mod compressed_memory;
@@ -13,7 +14,6 @@ mod expansions;
 mod island;
 mod memory;
 mod numbers;
-mod popcnt;
 mod probes;
 mod results;
 mod reverse;
@@ -24,7 +24,6 @@ mod stack;
 mod state;
 mod symbols;
 mod table;
-mod zeros;
 
 pub use emit::MachInstEmit;
 pub use island::emit_island_if_needed;

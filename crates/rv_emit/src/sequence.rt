@@ -34,14 +34,13 @@ ghost use Rattle.rv_inst.specs.declared.inst.Family.TheVariants.{Pseudo, Integer
 use crate::calls::{put_call, put_call_ind};
 use crate::choices::{put_extend, put_select};
 use crate::compressed::number;
+use crate::counts::{put_popcnt, put_zeros};
 use crate::expansions::{put_bytes, put_constant, put_trap, put_trap_if};
 use crate::memory::{put_address, put_label_address, put_load, put_store, resolved_address};
-use crate::popcnt::put_popcnt;
 use crate::probes::put_probe_loop;
 use crate::reverse::put_reverse;
 use crate::shortest::{put_ebreak, put_jalr, put_lui, put_rri, put_rrr};
 use crate::symbols::{put_far_symbol, put_near_symbol, put_slot_load, put_unwind};
-use crate::zeros::put_zeros;
 use mach_buffer::MachBuffer;
 use rv_base::{
     FrameLayout, IsaFlags, MachLabel, OutOfMemory, Reg, WritableReg, link_reg, writable_zero_reg,
@@ -61,7 +60,7 @@ pub(crate) fn put_sequence(
 ) -> Result<(), OutOfMemory>
     requires rule { inst_rule (context_by flags frame.now (registered_of sink.old)) inst.now ≡ None }
     requires frame { sp_to_args_end frame.now < 2 ^ 31 }
-    requires few { allocated_of sink.old < inner_count }
+    requires few { allocated_of sink.old < 2 ^ 29 }
     requires room { length (bytes_of sink.old) + sequence_limit < code_limit }
     requires sound { IsSoundBuffer sink.old }
     ensures parts { island_space (context_by flags frame.now (registered_of sink.old)) inst.now ≡ None → OnOk result (Emits (context_by flags frame.now (registered_of sink.old)) inst.now sink.old sink.new) }
@@ -260,6 +259,7 @@ fn put_loop(
     inst: &Inst,
 ) -> Result<(), OutOfMemory>
     requires fine { IsFine (registered_of sink.old) inst.now }
+    requires few { allocated_of sink.old < 2 ^ 29 }
     requires room { length (bytes_of sink.old) + sequence_limit < code_limit }
     requires sound { IsSoundBuffer sink.old }
     ensures parts { family_of inst.now ≡ Loop → OnOk result (EmitsAnyhow flags inst.now sink.old sink.new) }

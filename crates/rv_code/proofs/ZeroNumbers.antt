@@ -1,0 +1,95 @@
+-- The numbers of a count of zeros: which bit is the next, and how many zeros are left.
+use Rattle.std.proofs.Common.{◌≡◌, ℕ, zero, suc, ◌+◌, ◌-◌, ◌*◌, ◌/◌, ◌%◌, ◌^◌, ◌<◌, ◌≤◌, pos, Bool, true, false, arith, refl, ap, subst, ◌∙◌, lit≤}
+use Rattle.std.specs.Prelude.{◌==◌, if◌then◌else◌}
+use Rattle.std.specs.Int.{bit_at}
+use Rattle.std.proofs.lemmas.Nat.{pow_below}
+use Rattle.std.proofs.Math.Nat.{pow-suc, div-div-eq-div-mul}
+use Rattle.rv_machine.specs.State.{wrap}
+use Rattle.rv_ops.specs.Operations.{immediate_of, shift_limit}
+use Rattle.rv_inst.specs.Bits.{leading_zeros, trailing_zeros, zeros}
+use Rattle.rv_inst.specs.Meaning.{alu_rri}
+use Rattle.rv_inst.specs.Rules.{is_beyond}
+use Rattle.rv_inst.specs.Sizes.{bit_shift}
+use Rattle.rv_code.proofs.NumberTests.{half_power}
+
+power_fits : (k : ℕ) → k < 64 → 2 ^ k < 2 ^ 64
+power_fits k lt = pow_below k 64 lt
+
+-- ---- numbers
+
+-- which bit is the next, where so many are left and one more: the highest of them or the lowest
+abbrev pub index_of : Bool → ℕ → ℕ → ℕ
+index_of true bits left = left
+index_of false bits left = bits - suc left
+
+-- the next one's power, where so many are left; where none is, what a last shift leaves
+abbrev pub power_of : Bool → ℕ → ℕ → ℕ
+power_of true bits left = 2 ^ left / 2
+power_of false bits left = wrap (2 ^ (bits - left))
+
+-- the zeros that are still to be counted
+abbrev pub zeros_left : Bool → ℕ → ℕ → ℕ → ℕ
+zeros_left true bits left n = leading_zeros left n
+zeros_left false bits left n = trailing_zeros left (n / 2 ^ (bits - left))
+
+pub power_is : (leading : Bool) (bits left : ℕ) → bits ≤ 64 → left < bits → power_of leading bits (suc left) ≡ 2 ^ index_of leading bits left
+power_is true bits left few lt = half_power left
+power_is false bits left few lt = let fits = power_fits (bits - suc left) (omega arith) in omega arith
+
+pub power_small : (leading : Bool) (bits left : ℕ) → bits ≤ 64 → left < bits → power_of leading bits left < 2 ^ 64
+power_small true bits left few lt = let fits = power_fits left (omega arith) in omega arith
+power_small false bits left few lt = omega arith
+
+pub power_up : (bits left : ℕ) → left < bits → 2 ^ (bits - suc left) * 2 ≡ 2 ^ (bits - left)
+power_up bits left lt =
+    let one : suc (bits - suc left) ≡ bits - left = omega arith in
+    let twice = pow-suc 2 (bits - suc left) in
+    let e : 2 ^ (bits - suc left) * 2 ≡ 2 ^ suc (bits - suc left) = omega arith in
+    e ∙ ap (λ k. 2 ^ k) one
+
+-- a shift makes another bit the next
+pub power_next : (leading : Bool) (bits left : ℕ) → left < bits → alu_rri (bit_shift leading) (2 ^ index_of leading bits left) (pos 1) ≡ power_of leading bits left
+power_next true bits left lt = refl
+power_next false bits left lt = ap wrap (power_up bits left lt)
+
+pub in_range : (leading : Bool) → is_beyond (shift_limit (immediate_of (bit_shift leading))) (pos 1) ≡ false
+in_range true = refl
+in_range false = refl
+
+-- the zeros where one more bit is left
+pub zeros_more : (leading : Bool) (bits left n : ℕ) → left < bits → zeros_left leading bits (suc left) n ≡ (if bit_at n (index_of leading bits left) == 1 then 0 else suc (zeros_left leading bits left n))
+zeros_more true bits left n lt = refl
+zeros_more false bits left n lt =
+    let e : n / 2 ^ (bits - suc left) / 2 ≡ n / 2 ^ (bits - left) = div-div-eq-div-mul n (2 ^ (bits - suc left)) 2 ∙ ap (λ d. n / d) (power_up bits left lt) in
+    ap (λ m. if bit_at n (bits - suc left) == 1 then 0 else suc (trailing_zeros left m)) e
+
+pub none_to_count : (leading : Bool) (bits n : ℕ) → zeros_left leading bits 0 n ≡ 0
+none_to_count true bits n = refl
+none_to_count false bits n = refl
+
+pub zeros_all : (leading : Bool) (bits n : ℕ) → zeros_left leading bits bits n ≡ zeros leading bits n
+zeros_all true bits n = refl
+zeros_all false bits n = let none : bits - bits ≡ 0 = omega arith in ap (λ k. trailing_zeros bits (n / 2 ^ k)) none ∙ (let whole : n / 1 ≡ n = omega arith in ap (trailing_zeros bits) whole)
+
+pub chosen_few : (b : Bool) (x y : ℕ) → x ≤ y → (if b then 0 else suc x) ≤ suc y
+chosen_few true x y le = omega arith
+chosen_few false x y le = omega arith
+
+pub leading_few : (bits n : ℕ) → leading_zeros bits n ≤ bits
+leading_few zero n = lit≤ tt
+leading_few (suc bits) n = chosen_few (bit_at n bits == 1) (leading_zeros bits n) bits (leading_few bits n)
+
+pub trailing_few : (bits n : ℕ) → trailing_zeros bits n ≤ bits
+trailing_few zero n = lit≤ tt
+trailing_few (suc bits) n = chosen_few (n % 2 == 1) (trailing_zeros bits (n / 2)) bits (trailing_few bits (n / 2))
+
+pub zeros_few : (leading : Bool) (bits n : ℕ) → zeros leading bits n ≤ bits
+zeros_few true bits n = leading_few bits n
+zeros_few false bits n = trailing_few bits n
+
+-- a one ends the count, a zero is counted
+pub ends_at : (b rest count total : ℕ) → count + (if b == 1 then 0 else suc rest) ≡ total → b ≡ 1 → count ≡ total
+ends_at b rest count total all is = let e = subst (λ x. count + (if x == 1 then 0 else suc rest) ≡ total) is all in omega arith
+
+pub counts_on : (b rest count total : ℕ) → count + (if b == 1 then 0 else suc rest) ≡ total → b ≡ 0 → 1 + count + rest ≡ total
+counts_on b rest count total all is = let e = subst (λ x. count + (if x == 1 then 0 else suc rest) ≡ total) is all in omega arith

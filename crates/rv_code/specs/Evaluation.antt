@@ -1,0 +1,106 @@
+-- What pieces compute: values alone, with labels as places in the list.
+use Rattle.std.specs.Prelude.{◌≡◌, ℕ, ℤ, zero, suc, ◌+◌, ◌%◌, ◌*◌, ◌^◌, ◌≤◌, if◌then◌else◌, List, [], ◌∷◌, length, Option, Some, None}
+use Rattle.rv_base.specs.CondCodes.{holds}
+use Rattle.rv_machine.specs.Memory.{load_result, store_bytes}
+use Rattle.rv_machine.specs.State.{State, IsState, Values, reg, set_reg, wrap, low64}
+use Rattle.rv_machine.specs.Steps.{iter}
+use Rattle.rv_encode.specs.Operations.{load_op, store_op}
+use Rattle.rv_inst.specs.Meaning.{alu_rrr, alu_rri, put_bytes, addresses_from, AreOutside}
+use Rattle.rv_code.specs.Chains.{IsAt}
+use Rattle.rv_code.specs.Pieces.{Action, Rrr, Rri, Lui, Load, Store, Piece, Do, Branch, Jump, New, Bind, Go, Trap, after, slots_of, pieces_size, AreInRange}
+use Rattle.rv_code.specs.Sites.{Site, StandsIn}
+
+-- ---- values
+
+-- where a load or a store goes
+abbrev pub address : Values → ℕ → ℤ → ℕ
+address v base offset = wrap (reg v base + low64 offset)
+
+-- what an operation makes of the values
+abbrev pub effect : Action → Values → Values
+effect (Rrr op rd a b) v = set_reg v rd (alu_rrr op (reg v a) (reg v b))
+effect (Rri op rd rs imm) v = set_reg v rd (alu_rri op (reg v rs) imm)
+effect (Lui rd imm) v = set_reg v rd (wrap (low64 imm * 2 ^ 12))
+effect (Load op rd base offset) v = set_reg v rd (load_result (load_op op) v.mem (address v base offset))
+effect (Store op base src offset) v = put_bytes v (address v base offset) (store_bytes (store_op op) (reg v src))
+
+-- the addresses that were written, store by store, once it writes its own
+abbrev pub wrote : Action → Values → List (List ℕ) → List (List ℕ)
+wrote (Rrr op rd a b) v m = m
+wrote (Rri op rd rs imm) v m = m
+wrote (Lui rd imm) v m = m
+wrote (Load op rd base offset) v m = m
+wrote (Store op base src offset) v m = addresses_from (address v base offset) (length (store_bytes (store_op op) (reg v src))) ∷ m
+
+-- the pieces that are still ahead, the values, and the addresses that were written
+pub record Point : Type 0 where
+  pub ahead : List Piece
+  pub values : Values
+  pub written : List (List ℕ)
+
+abbrev pub at : List Piece → Values → List (List ℕ) → Point
+at ps v m = record { ahead = ps; values = v; written = m }
+
+-- where nothing was written
+abbrev pub point : List Piece → Values → Point
+point ps v = at ps v []
+
+abbrev pub to : Option (List Piece) → Values → List (List ℕ) → Option Point
+to None v m = None
+to (Some ps) v m = Some (at ps v m)
+
+-- one piece of a whole; none where it leads out of it
+abbrev pub next : List Piece → List Piece → Values → List (List ℕ) → Option Point
+next whole [] v m = None
+next whole (Do a ∷ ps) v m = Some (at ps (effect a v) (wrote a v m))
+next whole (Branch how a b k ∷ ps) v m = if holds how (reg v a) (reg v b) then to (after k whole) v m else Some (at ps v m)
+next whole (Jump k ∷ ps) v m = to (after k whole) v m
+next whole (New ∷ ps) v m = Some (at ps v m)
+next whole (Bind k ∷ ps) v m = Some (at ps v m)
+next whole (Go l ∷ ps) v m = None
+next whole (Trap code ∷ ps) v m = None
+
+abbrev pub and_then : Option Point → (Point → Option Point) → Option Point
+and_then None f = None
+and_then (Some p) f = f p
+
+-- so many
+abbrev pub evaluate : ℕ → List Piece → Point → Option Point
+evaluate zero whole p = Some p
+evaluate (suc n) whole p = and_then (next whole p.ahead p.values p.written) (evaluate n whole)
+
+-- ---- on the machine
+
+-- slots of a whole stand in finished code, whose end is that offset
+pub record StandIn (site : Site) (allocated start end : ℕ) (whole : List Piece) : Type 0 where
+  pub stand : StandsIn site allocated start (slots_of site.context.flags whole)
+  pub even : start % 2 ≡ 0
+  pub ends : start + pieces_size site.context.flags whole ≡ end
+  pub room : end ≤ length site.bytes
+  pub ranges : AreInRange whole
+
+-- a machine with these values where these pieces are ahead, of code from an offset on
+pub record IsAtPoint (site : Site) (allocated start end : ℕ) (p : Point) (s : State) : Type 0 where
+  pub offset : ℕ
+  pub within : start ≤ offset
+  pub here : IsAt site offset (pieces_size site.context.flags p.ahead) s
+  pub stand : StandIn site allocated offset end p.ahead
+  pub is_state : IsState s
+  pub values : s.values ≡ p.values
+
+-- in at most so many steps the machine comes there
+pub record ComesToPoint (most : ℕ) (site : Site) (allocated start end : ℕ) (p : Point) (s : State) : Type 0 where
+  pub state : State
+  pub steps : ℕ
+  pub few : steps ≤ most
+  pub ran : iter site.context.flags steps s ≡ Some state
+  pub there : IsAtPoint site allocated start end p state
+
+-- all that was written is outside the code
+abbrev pub AllOutside : Site → List (List ℕ) → Type 0
+AllOutside site [] = Unit {0}
+AllOutside site (addresses ∷ m) = AreOutside site.base (length site.bytes) addresses × AllOutside site m
+
+-- where pieces stand that write no byte of the code, the machine's steps over them are what the evaluation says, at most one a piece
+abbrev pub PiecesRun : Type 0
+PiecesRun = (site : Site) (allocated start end : ℕ) (whole : List Piece) → StandIn site allocated start end whole → (n : ℕ) (p q : Point) (s : State) → evaluate n whole p ≡ Some q → AllOutside site q.written → IsAtPoint site allocated start end p s → ComesToPoint n site allocated start end q s

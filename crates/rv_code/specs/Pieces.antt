@@ -1,0 +1,180 @@
+-- The pieces of an instruction's code: they name registers and labels of the sequence's own, but no length, no address and no flag.
+use Rattle.std.specs.Prelude.{◌≡◌, ℕ, ◌+◌, ◌^◌, ◌<◌, ℤ, false, if◌then◌else◌, List, [], ◌∷◌, ◌++◌, length, nat_eq, Option, Some, None}
+use Rattle.rv_base.specs.declared.condcodes.IntCC.{IntCC}
+use Rattle.rv_base.specs.declared.flags.IsaFlags.{IsaFlags}
+use Rattle.rv_base.specs.declared.label.MachLabel.{MachLabel}
+use Rattle.rv_base.specs.declared.trap.TrapCode.{TrapCode}
+use Rattle.rv_ops.specs.declared.alu.AluOPRRR.{AluOPRRR}
+use Rattle.rv_ops.specs.declared.alu.AluOPRRI.{AluOPRRI}
+use Rattle.rv_ops.specs.declared.memory.LoadOP.{LoadOP}
+use Rattle.rv_ops.specs.declared.memory.StoreOP.{StoreOP}
+use Rattle.rv_ops.specs.Compare.{branch_of, is_reversed}
+use Rattle.rv_ops.specs.Operations.{immediate_of, shift_limit}
+use Rattle.rv_machine.specs.declared.decoding.Decoded.{Decoded}
+use Rattle.rv_machine.specs.declared.ops.MOp.TheVariants.{Base}
+use Rattle.rv_machine.specs.State.{low64}
+use Rattle.rv_encode.specs.Operations.{decoded, branch_op}
+use Rattle.rv_inst.specs.Forms.{jump_kind, short_rrr, short_rri, short_lui, short_load, short_store}
+use Rattle.rv_inst.specs.LabelUse.{marks_of}
+use Rattle.rv_inst.specs.Rules.{is_beyond}
+use Rattle.rv_inst.specs.declared.label_use.LabelUse.TheVariants.{B12}
+use Rattle.mach_records.specs.declared.records.Event.TheVariants as event
+use Rattle.rv_code.specs.Operations.{short_jump}
+use Rattle.rv_code.specs.Slots.{Slot, Label, Own, Op, Aim, Data, Notes, Allocate, Here}
+
+-- an operation of the machine after which the next one is done: of two registers, or of a register and an immediate; an upper immediate
+-- in a register; or a load or a store, at a register plus an offset
+pub data Action : Type 0 where
+  Rrr : AluOPRRR → ℕ → ℕ → ℕ → Action
+  Rri : AluOPRRI → ℕ → ℕ → ℤ → Action
+  Lui : ℕ → ℤ → Action
+  Load : LoadOP → ℕ → ℕ → ℤ → Action
+  Store : StoreOP → ℕ → ℕ → ℤ → Action
+
+-- such an operation; a branch to an own label where two registers compare so, and a jump to one; an own label that is allocated, and one
+-- that is bound here; a jump to a label of the listing; or a trap
+pub data Piece : Type 0 where
+  Do : Action → Piece
+  Branch : IntCC → ℕ → ℕ → ℕ → Piece
+  Jump : ℕ → Piece
+  New : Piece
+  Bind : ℕ → Piece
+  Go : MachLabel → Piece
+  Trap : TrapCode → Piece
+
+-- ---- the slots that they become
+
+-- in the shortest form that the flags allow
+abbrev pub op_of : IsaFlags → Action → Decoded
+op_of flags (Rrr op rd a b) = short_rrr flags op rd a b
+op_of flags (Rri op rd rs imm) = short_rri flags op rd rs imm
+op_of flags (Lui rd imm) = short_lui flags rd imm
+op_of flags (Load op rd base offset) = short_load flags op rd base offset
+op_of flags (Store op base src offset) = short_store flags op base src offset
+
+-- the branch by a distance, where two registers compare so
+abbrev pub branches : IntCC → ℕ → ℕ → ℤ → Decoded
+branches how a b d = decoded (Base (branch_op (branch_of how))) 0 (if is_reversed how then b else a) (if is_reversed how then a else b) d
+
+-- zero bytes that are no operation, as many as the shortest one has, and the record of their trap
+abbrev pub trap_bytes : IsaFlags → List ℕ
+trap_bytes flags = if flags.has_zca then 0 ∷ 0 ∷ [] else 0 ∷ 0 ∷ 0 ∷ 0 ∷ []
+
+abbrev pub trap_slots : IsaFlags → TrapCode → List Slot
+trap_slots flags code = Notes (event.Trap code) ∷ Data (trap_bytes flags) ∷ []
+
+abbrev pub slots_for : IsaFlags → Piece → List Slot
+slots_for flags (Do a) = Op (op_of flags a) ∷ []
+slots_for flags (Branch how a b k) = Aim B12 (Own k) (λ d. branches how a b d ∷ []) ∷ []
+slots_for flags (Jump k) = Aim (jump_kind flags) (Own k) (λ d. short_jump flags d ∷ []) ∷ []
+slots_for flags New = Allocate ∷ []
+slots_for flags (Bind k) = Here k ∷ []
+slots_for flags (Go l) = Aim (jump_kind flags) (Label l) (λ d. short_jump flags d ∷ []) ∷ []
+slots_for flags (Trap code) = trap_slots flags code
+
+abbrev pub slots_of : IsaFlags → List Piece → List Slot
+slots_of flags [] = []
+slots_of flags (p ∷ ps) = slots_for flags p ++ slots_of flags ps
+
+-- how long they are
+abbrev pub piece_size : IsaFlags → Piece → ℕ
+piece_size flags (Do a) = (op_of flags a).len
+piece_size flags (Branch how a b k) = 4
+piece_size flags (Jump k) = length (marks_of (jump_kind flags))
+piece_size flags New = 0
+piece_size flags (Bind k) = 0
+piece_size flags (Go l) = length (marks_of (jump_kind flags))
+piece_size flags (Trap code) = length (trap_bytes flags)
+
+abbrev pub pieces_size : IsaFlags → List Piece → ℕ
+pieces_size flags [] = 0
+pieces_size flags (p ∷ ps) = piece_size flags p + pieces_size flags ps
+
+-- and at most, in whatever forms
+abbrev pub piece_most : Piece → ℕ
+piece_most (Do a) = 4
+piece_most (Branch how a b k) = 4
+piece_most (Jump k) = 4
+piece_most New = 0
+piece_most (Bind k) = 0
+piece_most (Go l) = 4
+piece_most (Trap code) = 4
+
+abbrev pub pieces_most : List Piece → ℕ
+pieces_most [] = 0
+pieces_most (p ∷ ps) = piece_most p + pieces_most ps
+
+-- ---- what they ask
+
+-- numbers of registers, shift amounts and immediates in their ranges
+abbrev pub IsInRange : Action → Type 0
+IsInRange (Rrr op rd a b) = rd < 32
+IsInRange (Rri op rd rs imm) = (rd < 32) × (is_beyond (shift_limit (immediate_of op)) imm ≡ false) × (low64 imm < 2 ^ 64)
+IsInRange (Lui rd imm) = rd < 32
+IsInRange (Load op rd base offset) = rd < 32
+IsInRange (Store op base src offset) = Unit {0}
+
+abbrev pub AreInRange : List Piece → Type 0
+AreInRange [] = Unit {0}
+AreInRange (Do a ∷ ps) = IsInRange a × AreInRange ps
+AreInRange (Branch how a b k ∷ ps) = AreInRange ps
+AreInRange (Jump k ∷ ps) = AreInRange ps
+AreInRange (New ∷ ps) = AreInRange ps
+AreInRange (Bind k ∷ ps) = AreInRange ps
+AreInRange (Go l ∷ ps) = AreInRange ps
+AreInRange (Trap code ∷ ps) = AreInRange ps
+
+-- ---- own labels
+
+-- the pieces after an own label's place
+abbrev pub after : ℕ → List Piece → Option (List Piece)
+after k [] = None
+after k (Do a ∷ ps) = after k ps
+after k (Branch how a b j ∷ ps) = after k ps
+after k (Jump j ∷ ps) = after k ps
+after k (New ∷ ps) = after k ps
+after k (Bind j ∷ ps) = if nat_eq j k then Some ps else after k ps
+after k (Go l ∷ ps) = after k ps
+after k (Trap code ∷ ps) = after k ps
+
+-- how many are allocated
+abbrev pub own_labels : List Piece → ℕ
+own_labels [] = 0
+own_labels (Do a ∷ ps) = own_labels ps
+own_labels (Branch how a b k ∷ ps) = own_labels ps
+own_labels (Jump k ∷ ps) = own_labels ps
+own_labels (New ∷ ps) = 1 + own_labels ps
+own_labels (Bind k ∷ ps) = own_labels ps
+own_labels (Go l ∷ ps) = own_labels ps
+own_labels (Trap code ∷ ps) = own_labels ps
+
+-- an own label is bound in a whole
+abbrev pub IsBoundIn : List Piece → ℕ → Type 0
+IsBoundIn whole k = (qs : List Piece) × (after k whole ≡ Some qs)
+
+-- each own label that pieces use or bind is one of so many
+abbrev pub AreAmong : ℕ → List Piece → Type 0
+AreAmong total [] = Unit {0}
+AreAmong total (Do a ∷ ps) = AreAmong total ps
+AreAmong total (Branch how a b k ∷ ps) = (k < total) × AreAmong total ps
+AreAmong total (Jump k ∷ ps) = (k < total) × AreAmong total ps
+AreAmong total (New ∷ ps) = AreAmong total ps
+AreAmong total (Bind k ∷ ps) = (k < total) × AreAmong total ps
+AreAmong total (Go l ∷ ps) = AreAmong total ps
+AreAmong total (Trap code ∷ ps) = AreAmong total ps
+
+-- pieces use and bind no own label but those that they allocate, and bind each of these
+pub record AreClosedPieces (whole : List Piece) : Type 0 where
+  pub among : AreAmong (own_labels whole) whole
+  pub bound : (k : ℕ) → k < own_labels whole → IsBoundIn whole k
+
+-- none of them goes to a label of the listing
+abbrev pub GoNowhere : List Piece → Type 0
+GoNowhere [] = Unit {0}
+GoNowhere (Do a ∷ ps) = GoNowhere ps
+GoNowhere (Branch how a b k ∷ ps) = GoNowhere ps
+GoNowhere (Jump k ∷ ps) = GoNowhere ps
+GoNowhere (New ∷ ps) = GoNowhere ps
+GoNowhere (Bind k ∷ ps) = GoNowhere ps
+GoNowhere (Go l ∷ ps) = ⊥
+GoNowhere (Trap code ∷ ps) = GoNowhere ps

@@ -1,0 +1,201 @@
+-- A sequence's code is put, piece by piece.
+use Rattle.std.proofs.Common.{◌≡◌, ◌≢◌, ℕ, zero, suc, ◌+◌, ◌*◌, ◌^◌, ◌<◌, ◌≤◌, ℤ, Bool, true, false, nat_eq, [], ◌∷◌, List, map, length, drop, None, Some, get_or, drop-cons, arith, refl, sym, ap, subst, ◌∙◌}
+use Rattle.std.specs.Prelude.{if◌then◌else◌, ◌||◌}
+use Rattle.std.proofs.Math.ListN.{drop_of_length-le}
+use Rattle.std.proofs.lemmas.Bool.{or_parts}
+use Rattle.std.proofs.lemmas.Bool.Decides.{nat_tests}
+use Rattle.rv_base.specs.declared.flags.IsaFlags.{IsaFlags}
+use Rattle.rv_base.specs.declared.label.MachLabel.{MachLabel}
+use Rattle.rv_base.specs.declared.regs.Reg.{Reg}
+use Rattle.rv_base.specs.Regs.{number_of}
+use Rattle.rv_ops.specs.Compare.{branch_of, is_reversed}
+use Rattle.rv_ops.specs.declared.compare.IntegerCompare.{IntegerCompare}
+use Rattle.rv_machine.specs.declared.decoding.Decoded.{Decoded}
+use Rattle.rv_machine.specs.declared.ops.MOp.TheVariants.{Base}
+use Rattle.rv_encode.specs.Operations.{decoded, decoded_branch, branch_op}
+use Rattle.rv_inst.specs.SameValues.{is_among}
+use Rattle.rv_inst.specs.Uses.{use_at}
+use Rattle.rv_inst.specs.declared.label_use.LabelUse.{LabelUse}
+use Rattle.rv_inst.specs.declared.label_use.LabelUse.TheVariants.{B12}
+use Rattle.mach_labels.specs.Table.{first_inner}
+use Rattle.mach_uses.specs.Labels.{inner_count}
+use Rattle.mach_buffer.specs.Buffer.{shape_of, allocated_of}
+use Rattle.mach_buffer.specs.Shape.{Shape, with_bytes, with_use, with_label}
+use Rattle.rv_emit.specs.Emitted.{Buffer, IsSoundBuffer}
+use Rattle.rv_emit.specs.Emission.{PutsAlone, PutsSlots}
+use Rattle.rv_code.specs.InstParts.{branch_to, jump_to}
+use Rattle.rv_inst.specs.Forms.{jump_kind}
+use Rattle.rv_emit.specs.Puts.{Puts, IsPatchable}
+use Rattle.rv_code.specs.Slots.{Label, Op, own_label, size_of}
+use Rattle.rv_code.specs.Pieces.{Piece, Branch, Jump, branches, slots_for, slots_of, piece_size, piece_most, pieces_most}
+use Rattle.rv_emit.specs.Code.{shown, pieces_of, IsSound, AreSound, IsLabelled, IsUsableAt, IsBaseFor, IsNext}
+use Rattle.rv_emit.specs.declared.code.CodePiece.{CodePiece}
+use Rattle.rv_emit.specs.declared.code.CodePiece.TheVariants as code
+use Rattle.rv_emit.specs.declared.code.OwnLabels.{OwnLabels}
+use Rattle.rv_code.proofs.ClosedPieces.{piece_few, piece_long}
+use Rattle.rv_emit.proofs.BufferAfterSlots.{puts_bytes}
+use Rattle.rv_emit.proofs.SlotsOfOnePut.{alone}
+use Rattle.rv_emit.proofs.SlotsOfSeveralPuts.{puts_after}
+
+-- ---- a branch
+
+chosen_number : (c : Bool) (x y : Reg) → number_of (if c then x else y) ≡ (if c then number_of x else number_of y)
+chosen_number true x y = refl
+chosen_number false x y = refl
+
+same_branch : (kind : IntegerCompare) → ◌≡◌ {A = ℤ → List Decoded} (λ d. decoded_branch kind d ∷ []) (λ d. branches kind.kind (number_of kind.rs1) (number_of kind.rs2) d ∷ [])
+same_branch kind = λ i d. decoded (Base (branch_op (branch_of kind.kind))) 0 (chosen_number (is_reversed kind.kind) kind.rs2 kind.rs1 i) (chosen_number (is_reversed kind.kind) kind.rs1 kind.rs2 i) d ∷ []
+
+-- the label that a sequence allocated as its k-th, by the number of its first
+is_own : (label : MachLabel) (base k allocated : ℕ) → label.number ≡ base + k → base ≡ first_inner + allocated → label ≡ own_label allocated k
+is_own label base k allocated number is = let e : label.number ≡ first_inner + (allocated + k) = omega (arith, number, is) in λ i. record { number = e i }
+
+pub branch_puts : (flags : IsaFlags) (kind : IntegerCompare) (label : MachLabel) (base k allocated : ℕ) (old new : Buffer) → label.number ≡ base + k → base ≡ first_inner + allocated → PutsSlots flags (branch_to kind (Label label) ∷ []) old new → Puts flags allocated (slots_for flags (Branch kind.kind (number_of kind.rs1) (number_of kind.rs2) k)) (shape_of old) (shape_of new)
+branch_puts flags kind label base k allocated old new number is p =
+    let q = p.puts in
+    (q.0, (q.1.0, subst (IsPatchable flags B12 q.1.0) (same_branch kind) q.1.1, q.1.2 ∙ ap (λ l. with_bytes q.1.0 (with_use (use_at (length (shape_of old).bytes) l B12) (shape_of old))) (is_own label base k allocated number is)), q.2)
+
+-- ---- the loop
+
+-- the buffer where these pieces are left of all: the labels that were allocated, and those of them that are bound
+pub record Putting (flags : IsaFlags) (all : List CodePiece) (start : Shape LabelUse) (left : List CodePiece) (own : OwnLabels) (now : Shape LabelUse) : Type 0 where
+  pub bound : List ℕ
+  pub count : own.count + start.allocated ≡ now.allocated
+  pub base : 0 < own.count → own.base ≡ first_inner + start.allocated
+  pub low : own.base < 2 ^ 31
+  pub unbound : (k : ℕ) → k < own.count → is_among bound k ≡ false → now.place (first_inner + (start.allocated + k)) ≡ None
+  pub sound : AreSound left
+  pub labelled : IsLabelled own.count bound left
+  pub puts : (t : Shape LabelUse) → Puts flags start.allocated (slots_of flags (pieces_of left)) now t → Puts flags start.allocated (slots_of flags (pieces_of all)) start t
+  pub room : length now.bytes + pieces_most (pieces_of left) ≤ length start.bytes + pieces_most (pieces_of all)
+
+pub begins : (flags : IsaFlags) (all : List CodePiece) (start : Shape LabelUse) → AreSound all → IsLabelled 0 [] all → Putting flags all start all (record { base = 0; count = 0 }) start
+begins flags all start sound labelled = record {
+  bound = [];
+  count = omega arith;
+  base = λ some. absurd (omega arith);
+  low = omega arith;
+  unbound = λ k lt other. absurd (omega arith);
+  sound = sound;
+  labelled = labelled;
+  puts = λ t p. p;
+  room = omega arith;
+}
+
+-- the piece that is next
+pub first_left : (xs : List CodePiece) (i : ℕ) (x : CodePiece) → x ≡ get_or xs i x → i < length xs → drop i xs ≡ x ∷ drop (i + 1) xs
+first_left xs i x is lt = let e : suc i ≡ i + 1 = omega arith in drop-cons xs i x lt ∙ (λ j. sym is j ∷ drop (e j) xs)
+
+pub usable : {flags : IsaFlags} {all left : List CodePiece} {start now : Shape LabelUse} {own : OwnLabels} (x : CodePiece) → Putting flags all start (x ∷ left) own now → IsUsableAt own.base x now
+usable (code.Rrr op rd rs1 rs2) k = tt
+usable (code.Rri op rd rs imm) k = tt
+usable (code.Branch kind label) k = let lt = k.labelled.0 in let count = k.count in let base = k.base (omega arith) in omega arith
+usable (code.Jump label) k = let lt = k.labelled.0 in let count = k.count in let base = k.base (omega arith) in omega arith
+usable code.New k = tt
+usable {start = start} {now = now} {own = own} (code.Bind label) k =
+    let lt = k.labelled.0 in let count = k.count in let base = k.base (omega arith) in
+    let e : own.base + label ≡ first_inner + (start.allocated + label) = omega arith in
+    (omega arith, ap now.place e ∙ k.unbound label lt k.labelled.1)
+
+-- where it needs the first label's number, that is known
+pub known_base : {flags : IsaFlags} {all left : List CodePiece} {start now : Shape LabelUse} {own : OwnLabels} (x : CodePiece) → Putting flags all start (x ∷ left) own now → IsBaseFor own.base start.allocated x
+known_base (code.Rrr op rd rs1 rs2) k = tt
+known_base (code.Rri op rd rs imm) k = tt
+known_base (code.Branch kind label) k = let lt = k.labelled.0 in k.base (omega arith)
+known_base (code.Jump label) k = let lt = k.labelled.0 in k.base (omega arith)
+known_base code.New k = tt
+known_base (code.Bind label) k = let lt = k.labelled.0 in k.base (omega arith)
+
+-- a piece has at most so many bytes
+room_left : {flags : IsaFlags} {all left : List CodePiece} {start now : Shape LabelUse} {own : OwnLabels} (next_shape : Shape LabelUse) (x : CodePiece) → Putting flags all start (x ∷ left) own now → Puts flags start.allocated (slots_for flags (shown x)) now next_shape → length next_shape.bytes + pieces_most (pieces_of left) ≤ length start.bytes + pieces_most (pieces_of all)
+room_left {flags} {start = start} {now = now} next_shape x k put =
+    let long = puts_bytes flags start.allocated (slots_for flags (shown x)) now next_shape put in
+    let size = piece_long flags (shown x) in
+    let few = piece_few flags (shown x) in
+    let room = k.room in
+    omega (arith, long, size, few, room)
+
+-- after a piece that leaves all labels as they were
+same_labels : {flags : IsaFlags} {all left : List CodePiece} {start now next_shape : Shape LabelUse} {own next : OwnLabels} (x : CodePiece) (k : Putting flags all start (x ∷ left) own now) → IsLabelled own.count k.bound left → next_shape.allocated ≡ now.allocated → next_shape.place ≡ now.place → next ≡ own → Puts flags start.allocated (slots_for flags (shown x)) now next_shape → Putting flags all start left next next_shape
+same_labels {flags} {all} {left} {start} {now} {next_shape} {own} {next} x k labelled allocated place same put = subst (λ o. Putting flags all start left o next_shape) (sym same) (record {
+  bound = k.bound;
+  count = k.count ∙ sym allocated;
+  base = k.base;
+  low = k.low;
+  unbound = λ j lt other. ap (λ (p : ℕ → _). p (first_inner + (start.allocated + j))) place ∙ k.unbound j lt other;
+  sound = k.sound.1;
+  labelled = labelled;
+  puts = λ t p. k.puts t (puts_after flags start.allocated (slots_for flags (shown x)) (slots_of flags (pieces_of left)) now next_shape t put p);
+  room = room_left next_shape x k put;
+})
+
+goes_on : {flags : IsaFlags} {all left : List CodePiece} {start now next_shape : Shape LabelUse} {own next : OwnLabels} (x : CodePiece) → start.allocated < inner_count → Putting flags all start (x ∷ left) own now → IsNext own next x now next_shape → Puts flags start.allocated (slots_for flags (shown x)) now next_shape → Putting flags all start left next next_shape
+goes_on (code.Rrr op rd rs1 rs2) few k same put = same_labels (code.Rrr op rd rs1 rs2) k k.labelled (ap (λ s. s.allocated) (put.2 ∙ put.1.3)) (ap (λ s. s.place) (put.2 ∙ put.1.3)) same put
+goes_on (code.Rri op rd rs imm) few k same put = same_labels (code.Rri op rd rs imm) k k.labelled (ap (λ s. s.allocated) (put.2 ∙ put.1.3)) (ap (λ s. s.place) (put.2 ∙ put.1.3)) same put
+goes_on (code.Branch kind label) few k same put = same_labels (code.Branch kind label) k k.labelled.1 (ap (λ s. s.allocated) (put.2 ∙ put.1.2)) (ap (λ s. s.place) (put.2 ∙ put.1.2)) same put
+goes_on (code.Jump label) few k same put = same_labels (code.Jump label) k k.labelled.1 (ap (λ s. s.allocated) (put.2 ∙ put.1.2)) (ap (λ s. s.place) (put.2 ∙ put.1.2)) same put
+goes_on {flags} {all} {left} {start} {now} {next_shape} {own} {next} code.New few k n put =
+    let count = k.count in
+    let more = n.0 in
+    let at = n.1 in
+    let base : next.base ≡ first_inner + start.allocated = omega arith in
+    record {
+      bound = k.bound;
+      count = let e = ap (λ s. s.allocated) (put.2 ∙ put.1) in omega arith;
+      base = λ some. base;
+      low = omega arith;
+      unbound = λ j lt other. by j lt other (nat_eq j own.count) refl;
+      sound = k.sound.1;
+      labelled = subst (λ m. IsLabelled m k.bound left) (sym more) k.labelled;
+      puts = λ t p. k.puts t (puts_after flags start.allocated (slots_for flags (shown code.New)) (slots_of flags (pieces_of left)) now next_shape t put p);
+      room = room_left next_shape code.New k put;
+    }
+  where
+    by : (j : ℕ) → j < next.count → is_among k.bound j ≡ false → (c : Bool) → nat_eq j own.count ≡ c → next_shape.place (first_inner + (start.allocated + j)) ≡ None
+    by j lt other true test =
+        let count = k.count in
+        let is : j ≡ own.count = grind (arith, nat_tests) in
+        let e : first_inner + (start.allocated + j) ≡ first_inner + now.allocated = omega arith in
+        ap next_shape.place e ∙ n.2
+    by j lt other false test =
+        let more = n.0 in
+        let differ : j ≢ own.count = grind (arith, nat_tests) in
+        ap (λ s. s.place (first_inner + (start.allocated + j))) (put.2 ∙ put.1) ∙ k.unbound j (omega arith) other
+goes_on {flags} {all} {left} {start} {now} {next_shape} {own} {next} (code.Bind label) few k same put = subst (λ o. Putting flags all start left o next_shape) (sym same) (record {
+  bound = label ∷ k.bound;
+  count = k.count ∙ sym (ap (λ s. s.allocated) (put.2 ∙ put.1.1));
+  base = k.base;
+  low = k.low;
+  unbound = λ j lt other.
+      let parts = or_parts (nat_eq label j) (is_among k.bound j) other in
+      let e : nat_eq (first_inner + (start.allocated + j)) (first_inner + (start.allocated + label)) ≡ false = apart j parts.0 in
+      ap (λ s. s.place (first_inner + (start.allocated + j))) (put.2 ∙ put.1.1) ∙ ap (λ c. if c then Some (length now.bytes) else now.place (first_inner + (start.allocated + j))) e ∙ k.unbound j lt parts.1;
+  sound = k.sound.1;
+  labelled = k.labelled.2;
+  puts = λ t p. k.puts t (puts_after flags start.allocated (slots_for flags (shown (code.Bind label))) (slots_of flags (pieces_of left)) now next_shape t put p);
+  room = room_left next_shape (code.Bind label) k put;
+})
+  where
+    apart : (j : ℕ) → nat_eq label j ≡ false → nat_eq (first_inner + (start.allocated + j)) (first_inner + (start.allocated + label)) ≡ false
+    apart j test = grind (arith, nat_tests)
+
+-- one more piece was put
+pub puts_next : {flags : IsaFlags} {all : List CodePiece} {start now next_shape : Shape LabelUse} {own next : OwnLabels} (i : ℕ) (x : CodePiece) → x ≡ get_or all i x → i < length all → start.allocated < inner_count → Putting flags all start (drop i all) own now → IsNext own next x now next_shape → ((allocated : ℕ) → IsBaseFor own.base allocated x → Puts flags allocated (slots_for flags (shown x)) now next_shape) → Putting flags all start (drop (i + 1) all) next next_shape
+puts_next {flags} {all} {start} {now} {next_shape} {own} {next} i x is lt few k n put =
+    let k1 = subst (λ ps. Putting flags all start ps own now) (first_left all i x is lt) k in
+    goes_on x few k1 n (put start.allocated (known_base x k1))
+
+-- all were
+pub all_put : {flags : IsaFlags} (all : List CodePiece) (i : ℕ) (own : OwnLabels) (old new : Buffer) → length all ≤ i → Putting flags all (shape_of old) (drop i all) own (shape_of new) → IsSoundBuffer new → PutsAlone flags (slots_of flags (pieces_of all)) old new
+all_put {flags} all i own old new le k sound =
+    let k1 = subst (λ ps. Putting flags all (shape_of old) ps own (shape_of new)) (drop_of_length-le all le) k in
+    alone (record { puts = k1.puts (shape_of new) refl; sound = sound })
+
+-- at most one label more
+pub next_few : (own next : OwnLabels) (s t : Shape LabelUse) (x : CodePiece) → IsNext own next x s t → next.count ≤ 1 + own.count
+next_few own next s t (code.Rrr op rd rs1 rs2) same = let e = ap (λ (o : OwnLabels). o.count) same in omega arith
+next_few own next s t (code.Rri op rd rs imm) same = let e = ap (λ (o : OwnLabels). o.count) same in omega arith
+next_few own next s t (code.Branch kind label) same = let e = ap (λ (o : OwnLabels). o.count) same in omega arith
+next_few own next s t (code.Jump label) same = let e = ap (λ (o : OwnLabels). o.count) same in omega arith
+next_few own next s t code.New more = let e = more.0 in omega arith
+next_few own next s t (code.Bind label) same = let e = ap (λ (o : OwnLabels). o.count) same in omega arith

@@ -1,0 +1,15 @@
+use Rattle.std.proofs.Common.{◌+◌, drop, arith}
+use Rattle.mach_buffer.specs.Buffer.{shape_of}
+use Rattle.rv_emit.proofs.CodePut.{puts_next, next_few, all_put}
+use Rattle.rv_emit.proofs.code.put_code.Goals as goal
+
+pub loop-piece-preserved : goal.loop-piece-preserved
+loop-piece-preserved c =
+    let k = c.loop-piece.invariant in
+    let few = c.requires.few in
+    let count = next_few _ _ _ _ c.piece-item.result c.in_ok-own.ensures.next in
+    let counted = k.2 in
+    (puts_next c.loop-piece.piece-index c.piece-item.result c.piece-item.is c.loop-piece-test.true (omega arith) k.0 c.in_ok-own.ensures.next c.in_ok-own.ensures.slot, c.in_ok-own.ensures.sound, omega arith)
+
+pub returns-clause-slots : goal.returns-clause-slots
+returns-clause-slots c = all_put c.args.code.now c.loop-piece.piece-index c.loop-piece.own c.args.sink.now c.loop-piece.sink c.loop-piece-test.false c.loop-piece.invariant.0 c.loop-piece.invariant.1
