@@ -6,7 +6,6 @@ mod IslandsStand
 mod JumpAndIsland
 pub mod Laws
 mod OwnLabels
-mod OwnSlots
 mod Sequences
 mod Fields
 mod PartsInBuffer
