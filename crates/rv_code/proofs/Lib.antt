@@ -7,6 +7,8 @@ mod InstConstants
 mod InstJumps
 pub mod InstRuns
 mod InstTraps
+mod Traps
+pub mod TrapSlots
 mod InstWrites
 mod LargerMachine
 mod OneMoreRegister

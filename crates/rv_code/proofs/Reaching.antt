@@ -1,24 +1,27 @@
 -- How an evaluation goes on, and how an instruction runs by that of its pieces.
 use Rattle.std.proofs.Common.{◌≡◌, ℕ, zero, suc, ◌+◌, [], ◌∷◌, List, Option, Some, None, arith, refl, sym, ap, subst, ◌∙◌}
 use Rattle.rv_base.specs.declared.label.MachLabel.{MachLabel}
+use Rattle.rv_base.specs.declared.trap.TrapCode.{TrapCode}
 use Rattle.rv_machine.specs.State.{State, Values, AreValues, wrap, low64, at}
 use Rattle.rv_inst.specs.Forms.{jump_kind}
 use Rattle.rv_inst.specs.LabelUse.{has_veneer_of}
 use Rattle.rv_inst.specs.Meaning.{Next, To}
+use Rattle.rv_inst.specs.Meaning as exit
 use Rattle.rv_inst.specs.SameValues.{SameBut}
 use Rattle.rv_code.specs.Chains.{Goes}
 use Rattle.rv_code.specs.Evaluation.{Point, point, next, and_then, evaluate, StandIn, ComesToPoint}
 use Rattle.rv_code.specs.InstParts.{slots_alone}
 use Rattle.rv_code.specs.InstRuns.{Enters, ComesOut}
 use Rattle.rv_code.specs.Operations.{short_jump}
-use Rattle.rv_code.specs.Pieces.{Piece, Go, slots_of, AreInRange}
+use Rattle.rv_code.specs.Pieces.{Piece, Go, Trap, slots_of, AreInRange}
 use Rattle.rv_code.specs.Sites.{Site}
 use Rattle.rv_code.specs.Slots.{between}
 use Rattle.rv_code.proofs.Chains.{goes_second}
 use Rattle.rv_code.proofs.ClosedPieces.{pieces_long}
 use Rattle.rv_code.proofs.CodeSteps.{step_at, aims_at}
 use Rattle.rv_code.proofs.Evaluation.{pieces_run}
-use Rattle.rv_code.proofs.Exits.{label_out}
+use Rattle.rv_code.proofs.Exits.{goes_out, label_out}
+use Rattle.rv_code.proofs.Traps.{trap_some, trap_out}
 use Rattle.rv_code.proofs.ShortOps.{jump_acts, window_long, least_some}
 
 -- in some pieces of a whole the evaluation comes where these are ahead, with such values, and nothing is written on the way
@@ -96,3 +99,14 @@ pieces_go {site} {start} {after} {s} {v} whole ps label free made ranges e r are
     (goes_second (comes_goes c) (step_at (short_jump flags (between c.there.offset aim.to)) [] t c.there.here (omega arith) aim.has (jump_acts flags (between c.there.offset aim.to) c.state)))
     (aims_at aim.to c.there.here (omega arith))
     (record { same = subst (SameBut free made) (sym c.there.values) r.such; is_state = record { pc = omega arith; values = c.there.is_state.values }; are_values = are_values (subst AreValues c.there.values c.there.is_state.values); placed = c.there.here.placed })
+
+-- and one whose pieces come to a trap
+pub pieces_trap : {site : Site} {start after : ℕ} {s : State} {v : Values} (whole ps : List Piece) (code : TrapCode) (free : List ℕ) (made : Values) → AreInRange whole → Enters site start after (slots_alone (slots_of site.context.flags whole)) s v → (r : Reaches whole (point whole s.values) (Trap code ∷ ps) (SameBut free made)) → (AreValues r.values → AreValues made) → ComesOut site start after (exit.Trap code) free made s
+pieces_trap {site} {start} {after} {s} {v} whole ps code free made ranges e r are_values =
+    let c = comes whole (Trap code ∷ ps) r.values r.count ranges e r.ran in
+    let some = trap_some site.context.flags in
+    let within = c.there.within in
+    let ends = c.there.stand.ends in
+    goes_out (comes_goes c)
+    (trap_out code c.there.here (omega arith) c.there.stand.stand.0 (c.there.stand.stand.1.0 c.state.values.mem c.there.here.placed) within (omega arith)
+    (record { same = subst (SameBut free made) (sym c.there.values) r.such; is_state = c.there.is_state; are_values = are_values (subst AreValues c.there.values c.there.is_state.values); placed = c.there.here.placed }))

@@ -47,8 +47,9 @@ use Rattle.rv_code.specs.Reversals.{reverse_pieces}
 pub use Rattle.rv_code.specs.Pieces.{trap_bytes, trap_slots}
 use Rattle.rv_code.specs.Pieces.{slots_of}
 use Rattle.rv_code.specs.Probes.{probe_turn}
+use Rattle.rv_code.specs.Traps.{trap_if_pieces}
 use Rattle.rv_code.specs.Tables.{jump_slots}
-use Rattle.rv_code.specs.Slots.{AddressOf, SlotOf, Target, Label, Own, Slot, Op, Aim, Data, Notes, Names, Allocate, Here, Fill, Address, CallTo, Part, Ask, Slots}
+use Rattle.rv_code.specs.Slots.{AddressOf, SlotOf, Target, Label, Slot, Op, Aim, Data, Notes, Names, Fill, Address, CallTo, Part, Ask, Slots}
 
 -- ---- jumps
 
@@ -75,10 +76,6 @@ abbrev pub branch_slots : IsaFlags → IntegerCompare → CondBrTarget → CondB
 branch_slots flags kind Fallthrough not_taken = []
 branch_slots flags kind (ToLabel t) Fallthrough = branch_to kind (Label t) ∷ []
 branch_slots flags kind (ToLabel t) (ToLabel f) = branch_to kind (Label t) ∷ jump_to flags (Label f) ∷ []
-
--- a trap, and before it a branch over it, to a label after it, where a comparison doesn't hold
-abbrev pub trap_if_slots : IsaFlags → IntegerCompare → TrapCode → List Slot
-trap_if_slots flags cmp code = Allocate ∷ branch_to (complement cmp) (Own 0) ∷ trap_slots flags code ++ Here 0 ∷ []
 
 -- a load of so many bytes that stand after it and a jump over them
 abbrev pub load_over : IsaFlags → ℕ → LoadOP → ℕ → List Slot
@@ -283,7 +280,7 @@ parts_of context setting (Store src op flags to) = slots_alone (store_slots cont
 parts_of context setting (LoadAddr rd mem) = slots_alone (address_slots context.flags (number_of rd.reg) (location_of context.frame mem))
 parts_of context setting (LabelAddress dst label) = slots_alone (address_slots context.flags (number_of dst.reg) (AtLabel label))
 parts_of context setting Ret = slots_alone (Op (short_jalr context.flags 0 1 (pos 0)) ∷ [])
-parts_of context setting (TrapIf cmp code) = slots_alone (trap_if_slots context.flags cmp code)
+parts_of context setting (TrapIf cmp code) = slots_alone (slots_of context.flags (trap_if_pieces cmp code))
 parts_of context setting (Jal label) = slots_alone (jump_to context.flags (Label label) ∷ [])
 parts_of context setting (CondBr taken not_taken kind) = slots_alone (branch_slots context.flags kind taken not_taken)
 parts_of context setting (BrTable index tmp1 tmp2 targets) = Ask (table_space (length targets)) ∷ Slots (table_slots context.flags (number_of index) (number_of tmp1.reg) (number_of tmp2.reg) targets) ∷ []

@@ -8,6 +8,7 @@ pub mod Tables
 pub mod Slots
 pub mod Sites
 pub mod Pieces
+pub mod Traps
 pub mod Evaluation
 pub mod InstParts
 pub mod InstRuns

@@ -1,5 +1,5 @@
 -- Reach holds within a call that loads results, and after it.
-use Rattle.std.proofs.Common.{◌≡◌, ℕ, ◌+◌, ◌-◌, ◌*◌, ◌≤◌, Bool, true, false, pos, List, [], ◌∷◌, ◌++◌, length, append-nil, Option, Some, None, refl, ap, sym, ◌∙◌, subst, arith, lit≤}
+use Rattle.std.proofs.Common.{◌≡◌, ℕ, ◌+◌, ◌*◌, ◌≤◌, true, false, pos, List, [], ◌∷◌, ◌++◌, length, append-nil, Option, Some, None, refl, sym, ◌∙◌, subst, arith, lit≤}
 use Rattle.std.specs.Prelude.{is_some}
 use Rattle.rv_base.specs.declared.call.CallInfo.{CallInfo}
 use Rattle.rv_base.specs.declared.call.TryCallInfo.{TryCallInfo}
@@ -11,7 +11,7 @@ use Rattle.rv_inst.specs.Context.{Context}
 use Rattle.rv_inst.specs.Forms.{short_jalr}
 use Rattle.rv_inst.specs.LabelUse.{label_kinds}
 use Rattle.rv_inst.specs.Returns.{StackLoad, result_loads, loads_unless}
-use Rattle.rv_inst.specs.Sizes.{line_space, call_size, try_size, stack_loads_size, results_space, call_extent, island_space, space_in}
+use Rattle.rv_inst.specs.Sizes.{line_space, try_size, stack_loads_size, results_space, call_extent, island_space, space_in}
 use Rattle.rv_inst.specs.Uses.{uses_by, uses_in}
 use Rattle.rv_inst.specs.declared.inst.Inst.{Inst}
 use Rattle.rv_inst.specs.declared.inst.Inst.TheVariants.{Call, CallInd}
@@ -22,11 +22,10 @@ use Rattle.mach_uses.specs.Reach.{CanReach, HasSlack, deadline, deadlines, is_ne
 use Rattle.mach_records.specs.declared.records.MachRecord.{MachRecord}
 use Rattle.mach_uses.specs.declared.uses.Use.{Use}
 use Rattle.mach_buffer.proofs.Laws.{deadlines_append, slack_less, slack_not_needed, reach_from_slack}
-use Rattle.rv_emit.specs.Emitted.{Buffer, pending, AppendsBy, AppendsAround, AppendsWords}
-use Rattle.rv_emit.proofs.CallSlots.{call_few, results_few}
+use Rattle.rv_emit.specs.Emitted.{Buffer, pending, AppendsBy, AppendsWords}
+use Rattle.rv_emit.proofs.CallSlots.{results_few}
 use Rattle.rv_emit.proofs.PlainSlots.{words_long}
 use Rattle.rv_emit.proofs.ReachAfterInst.{Each, each_none, each_more, pending_at, jump_far, jump_few, slack_uses, calm_after, reach_within}
-use Rattle.rv_code.proofs.ShortOps.{jalr_sized}
 
 -- what is pending after words: what was before, and their uses that are
 pub words_pending : (size : ℕ) (own : List (Use LabelUse)) (recorded : List MachRecord) (old new : Buffer) → AppendsWords size own recorded old new → pending new ≡ pending old ++ deadlines (pending_at (place_of old)) label_kinds own

@@ -1,6 +1,6 @@
 -- A sequence's code is put, piece by piece.
-use Rattle.std.proofs.Common.{◌≡◌, ◌≢◌, ℕ, zero, suc, ◌+◌, ◌*◌, ◌^◌, ◌<◌, ◌≤◌, ℤ, Bool, true, false, nat_eq, [], ◌∷◌, List, map, length, drop, None, Some, get_or, drop-cons, arith, refl, sym, ap, subst, ◌∙◌}
-use Rattle.std.specs.Prelude.{if◌then◌else◌, ◌||◌}
+use Rattle.std.proofs.Common.{◌≡◌, ◌≢◌, ℕ, suc, ◌+◌, ◌^◌, ◌<◌, ◌≤◌, ℤ, Bool, true, false, nat_eq, [], ◌∷◌, List, length, drop, None, Some, get_or, drop-cons, arith, refl, sym, ap, subst, ◌∙◌}
+use Rattle.std.specs.Prelude.{if◌then◌else◌}
 use Rattle.std.proofs.Math.ListN.{drop_of_length-le}
 use Rattle.std.proofs.lemmas.Bool.{or_parts}
 use Rattle.std.proofs.lemmas.Bool.Decides.{nat_tests}
@@ -19,16 +19,15 @@ use Rattle.rv_inst.specs.declared.label_use.LabelUse.{LabelUse}
 use Rattle.rv_inst.specs.declared.label_use.LabelUse.TheVariants.{B12}
 use Rattle.mach_labels.specs.Table.{first_inner}
 use Rattle.mach_uses.specs.Labels.{inner_count}
-use Rattle.mach_buffer.specs.Buffer.{shape_of, allocated_of}
-use Rattle.mach_buffer.specs.Shape.{Shape, with_bytes, with_use, with_label}
+use Rattle.mach_buffer.specs.Buffer.{shape_of}
+use Rattle.mach_buffer.specs.Shape.{Shape, with_bytes, with_use}
 use Rattle.rv_emit.specs.Emitted.{Buffer, IsSoundBuffer}
 use Rattle.rv_emit.specs.Emission.{PutsAlone, PutsSlots}
-use Rattle.rv_code.specs.InstParts.{branch_to, jump_to}
-use Rattle.rv_inst.specs.Forms.{jump_kind}
+use Rattle.rv_code.specs.InstParts.{branch_to}
 use Rattle.rv_emit.specs.Puts.{Puts, IsPatchable}
-use Rattle.rv_code.specs.Slots.{Label, Op, own_label, size_of}
-use Rattle.rv_code.specs.Pieces.{Piece, Branch, Jump, branches, slots_for, slots_of, piece_size, piece_most, pieces_most}
-use Rattle.rv_emit.specs.Code.{shown, pieces_of, IsSound, AreSound, IsLabelled, IsUsableAt, IsBaseFor, IsNext}
+use Rattle.rv_code.specs.Slots.{Label, own_label}
+use Rattle.rv_code.specs.Pieces.{Branch, branches, slots_for, slots_of, pieces_most}
+use Rattle.rv_emit.specs.Code.{shown, pieces_of, AreSound, IsLabelled, IsUsableAt, IsBaseFor, IsNext}
 use Rattle.rv_emit.specs.declared.code.CodePiece.{CodePiece}
 use Rattle.rv_emit.specs.declared.code.CodePiece.TheVariants as code
 use Rattle.rv_emit.specs.declared.code.OwnLabels.{OwnLabels}
@@ -92,6 +91,7 @@ usable (code.Rri op rd rs imm) k = tt
 usable (code.Branch kind label) k = let lt = k.labelled.0 in let count = k.count in let base = k.base (omega arith) in omega arith
 usable (code.Jump label) k = let lt = k.labelled.0 in let count = k.count in let base = k.base (omega arith) in omega arith
 usable code.New k = tt
+usable (code.Trap code) k = tt
 usable {start = start} {now = now} {own = own} (code.Bind label) k =
     let lt = k.labelled.0 in let count = k.count in let base = k.base (omega arith) in
     let e : own.base + label ≡ first_inner + (start.allocated + label) = omega arith in
@@ -104,6 +104,7 @@ known_base (code.Rri op rd rs imm) k = tt
 known_base (code.Branch kind label) k = let lt = k.labelled.0 in k.base (omega arith)
 known_base (code.Jump label) k = let lt = k.labelled.0 in k.base (omega arith)
 known_base code.New k = tt
+known_base (code.Trap code) k = tt
 known_base (code.Bind label) k = let lt = k.labelled.0 in k.base (omega arith)
 
 -- a piece has at most so many bytes
@@ -134,6 +135,7 @@ goes_on (code.Rrr op rd rs1 rs2) few k same put = same_labels (code.Rrr op rd rs
 goes_on (code.Rri op rd rs imm) few k same put = same_labels (code.Rri op rd rs imm) k k.labelled (ap (λ s. s.allocated) (put.2 ∙ put.1.3)) (ap (λ s. s.place) (put.2 ∙ put.1.3)) same put
 goes_on (code.Branch kind label) few k same put = same_labels (code.Branch kind label) k k.labelled.1 (ap (λ s. s.allocated) (put.2 ∙ put.1.2)) (ap (λ s. s.place) (put.2 ∙ put.1.2)) same put
 goes_on (code.Jump label) few k same put = same_labels (code.Jump label) k k.labelled.1 (ap (λ s. s.allocated) (put.2 ∙ put.1.2)) (ap (λ s. s.place) (put.2 ∙ put.1.2)) same put
+goes_on (code.Trap trap) few k same put = same_labels (code.Trap trap) k k.labelled (ap (λ s. s.allocated) (put.2.2 ∙ put.2.1 ∙ ap (with_bytes _) put.1.1)) (ap (λ s. s.place) (put.2.2 ∙ put.2.1 ∙ ap (with_bytes _) put.1.1)) same put
 goes_on {flags} {all} {left} {start} {now} {next_shape} {own} {next} code.New few k n put =
     let count = k.count in
     let more = n.0 in
@@ -199,3 +201,4 @@ next_few own next s t (code.Branch kind label) same = let e = ap (λ (o : OwnLab
 next_few own next s t (code.Jump label) same = let e = ap (λ (o : OwnLabels). o.count) same in omega arith
 next_few own next s t code.New more = let e = more.0 in omega arith
 next_few own next s t (code.Bind label) same = let e = ap (λ (o : OwnLabels). o.count) same in omega arith
+next_few own next s t (code.Trap trap) same = let e = ap (λ (o : OwnLabels). o.count) same in omega arith

@@ -1,36 +1,27 @@
 -- What an instruction adds to a buffer, and that its parts are self-contained.
-use Rattle.std.proofs.Common.{◌≡◌, ◌⊎◌, inl, inr, ℕ, ◌+◌, ◌%◌, ◌≤◌, Bool, true, false, nat_eq, List, [], ◌∷◌, ◌++◌, length, Option, Some, None, pos, refl, ap, sym, ◌∙◌, subst, arith}
-use Rattle.std.specs.Prelude.{if◌then◌else◌, ◌^◌, ◌-ℤ◌, ◌&&◌}
-use Rattle.std.proofs.lemmas.Bool.{le-leb}
+use Rattle.std.proofs.Common.{◌≡◌, ◌⊎◌, inl, inr, ℕ, ◌+◌, ◌%◌, Bool, true, false, nat_eq, List, [], ◌∷◌, length, None, pos, refl, ap, sym, ◌∙◌, arith}
+use Rattle.std.specs.Prelude.{if◌then◌else◌, ◌^◌}
 use Rattle.rv_base.specs.Regs.{number_of}
 use Rattle.rv_base.specs.declared.ir_type.IrType.{IrType}
 use Rattle.rv_base.specs.declared.ir_type.IrType.TheVariants.{I32, I64}
 use Rattle.rv_base.specs.declared.regs.Reg.{Reg}
 use Rattle.rv_base.specs.declared.regs.Writable.{Writable}
-use Rattle.rv_base.specs.declared.trap.TrapCode.{TrapCode}
 use Rattle.std.specs.Int.{to_le_bytes, w32, w64}
-use Rattle.rv_base.specs.IrType.{bits_of}
 use Rattle.rv_base.specs.declared.flags.IsaFlags.{IsaFlags}
 use Rattle.rv_base.specs.declared.label.MachLabel.{MachLabel}
-use Rattle.rv_ops.specs.declared.alu.AluOPRRI.TheVariants.{Addi, Srli}
+use Rattle.rv_ops.specs.declared.alu.AluOPRRI.TheVariants.{Addi}
 use Rattle.rv_ops.specs.declared.memory.LoadOP.{LoadOP}
 use Rattle.rv_ops.specs.declared.memory.LoadOP.TheVariants as loads
 use Rattle.rv_ops.specs.declared.compare.IntegerCompare.{IntegerCompare}
 use Rattle.rv_inst.specs.Context.{Context}
 use Rattle.rv_machine.specs.Arithmetic.{low_word}
 use Rattle.rv_inst.specs.Rules.{is_word_type, inst_rule}
-use Rattle.rv_inst.specs.declared.inst.CountInfo.{CountInfo}
 use Rattle.rv_inst.specs.declared.inst.Inst.{Inst}
 use Rattle.rv_inst.specs.declared.inst.Inst.TheVariants.{Nop0, Nop4, EBreak, SequencePoint, Args, Rets, DummyUse, EmitIsland, RawData, Lui, Auipc, LoadInlineConst, AluRRR, AluRRImm12, Mov, MovFromPReg, Extend, Select, Load, Store, LoadAddr, LabelAddress, Ret, TrapIf, Jal, CondBr, BrTable, Udf, Jalr, Popcnt, Cltz, Brev8, StackProbeLoop, LoadExtNameGot, LoadExtNameNear, LoadExtNameFar, Call, CallInd, ReturnCall, ReturnCallInd, Unwind}
 use Rattle.rv_inst.specs.declared.inst.CondBrTarget.{CondBrTarget}
 use Rattle.rv_inst.specs.declared.inst.CondBrTarget.TheVariants.{Label as ToLabel, Fallthrough}
-use Rattle.rv_inst.specs.Sizes.{Words, extent_of, island_space, move_size, count_size, trap_size}
-use Rattle.rv_inst.specs.Uses.{use_at, uses_in}
-use Rattle.rv_inst.specs.declared.label_use.LabelUse.{LabelUse}
-use Rattle.rv_inst.specs.declared.label_use.LabelUse.TheVariants.{B12}
-use Rattle.mach_uses.specs.declared.uses.Use.{Use}
-use Rattle.mach_buffer.specs.Buffer.{shape_of, bytes_of, place_of, allocated_of}
-use Rattle.mach_uses.specs.Reach.{is_reached}
+use Rattle.rv_inst.specs.Sizes.{Words, extent_of, island_space, move_size}
+use Rattle.rv_inst.specs.Uses.{uses_in}
 use Rattle.rv_base.specs.declared.constant.VCodeConstant.{VCodeConstant}
 use Rattle.rv_inst.specs.Operands.{inst_constant, named_by}
 use Rattle.rv_inst.specs.Records.{inst_records}
@@ -38,24 +29,22 @@ use Rattle.rv_code.specs.declared.state.EmitVState.{EmitVState}
 use Rattle.rv_machine.specs.declared.decoding.Decoded.{Decoded}
 use Rattle.rv_code.specs.Operations.{jump_size}
 use Rattle.rv_inst.specs.Forms.{jump_kind, short_rrr, short_rri, short_lui, short_jalr, short_ebreak}
-use Rattle.rv_inst.specs.LabelUse.{label_kinds, marks_of, forward_of, backward_of}
-use Rattle.rv_emit.specs.Emitted.{Buffer, IsSoundBuffer, IsFarUse, IsOwnUse, AppendsInst, IslandIfNeeded}
-use Rattle.rv_code.specs.Slots.{Label, Own, Slot, Op, Data, AreSelfContained, PartsAreSelfContained, size_of, own_label}
-use Rattle.rv_code.specs.InstParts.{move_slots, branch_slots, branch_to, jump_to, trap_bytes, trap_slots, trap_if_slots, complement, slots_alone, inline_slots, constant_slots, parts_of}
+use Rattle.rv_inst.specs.LabelUse.{marks_of}
+use Rattle.rv_emit.specs.Emitted.{Buffer, IsSoundBuffer, AppendsInst, IslandIfNeeded}
+use Rattle.rv_code.specs.Slots.{Label, Op, Data, AreSelfContained, PartsAreSelfContained}
+use Rattle.rv_code.specs.InstParts.{move_slots, branch_slots, jump_to, inline_slots, constant_slots, parts_of}
 use Rattle.rv_code.specs.declared.state.EmitVState.TheVariants.{Unknown}
-use Rattle.rv_emit.specs.Emission.{PutsParts, EmitsIn, Emits}
+use Rattle.rv_emit.specs.Emission.{EmitsIn, Emits}
 use Rattle.rv_code.proofs.AddressRuns.{inline_size}
 use Rattle.rv_code.proofs.ShortOps.{HasSize, rrr_sized, rri_sized, lui_sized, jalr_sized, ebreak_sized, jump_len, window_long, least_even}
 use Rattle.rv_code.proofs.Operands.{keeps, data_kept, constant_kept}
 use Rattle.rv_inst.specs.Addresses.{AtLabel, location_of}
-use Rattle.rv_emit.proofs.BufferAfterSlots.{puts_named}
 use Rattle.rv_code.proofs.PlainSlots.{IsSummed}
 use Rattle.rv_emit.proofs.PlainSlots.{summed, nothing}
-use Rattle.rv_emit.proofs.OwnSlots.{closed_code, closed_long, closed_end, closed_records, closed_adds}
-use Rattle.rv_emit.proofs.ReachAfterInst.{each_none, each_more}
 use Rattle.rv_code.proofs.MemorySlots.{load_summed, store_summed, load_addr_summed, label_address_summed, load_contained, store_contained, address_contained}
 use Rattle.rv_code.proofs.CountSlots.{popcnt_made, zeros_made, reverse_made}
 use Rattle.rv_code.proofs.MadeOfPieces.{made_contained}
+use Rattle.rv_code.proofs.TrapSlots.{udf_made, trap_if_made}
 use Rattle.rv_emit.proofs.OwnPieces.{made_appends}
 use Rattle.rv_code.proofs.ChoiceSlots.{extend_summed, extend_contained, select_summed, select_contained}
 use Rattle.rv_code.proofs.ProbeSlots.{probe_summed, probe_contained}
@@ -94,58 +83,6 @@ constants context rd I32 imm word = record { plain = tt; long = let e = inline_s
 constants context rd I64 imm word = record { plain = tt; long = let e = inline_size context.flags (number_of rd.reg) 8 loads.Ld (to_le_bytes w64 imm) refl in ap Words (sym e); uses = λ allocated start. refl; records = λ start. refl; names = λ named. refl }
 constants context rd _ imm word = absurd (cc)
 
-trap_long : (flags : IsaFlags) → length (trap_bytes flags) ≡ trap_size flags
-trap_long flags = by flags.has_zca
-  where
-    by : (c : Bool) → length {A = ℕ} (if c then 0 ∷ 0 ∷ [] else 0 ∷ 0 ∷ 0 ∷ 0 ∷ []) ≡ (if c then 2 else 4)
-    by true = refl
-    by false = refl
-
-trap : (context : Context) (code : TrapCode) → IsSummed context (Udf code) (trap_slots context.flags code)
-trap context code = record { plain = tt; long = let t = trap_long context.flags in let e : trap_size context.flags ≡ size_of (trap_slots context.flags code) = omega arith in ap Words e; uses = λ allocated start. refl; records = λ start. refl; names = λ named. refl }
-
--- ---- a trap and a branch over it
-
-trap_few : (flags : IsaFlags) → length (trap_bytes flags) ≤ 4
-trap_few flags = by flags.has_zca
-  where
-    by : (c : Bool) → length {A = ℕ} (if c then 0 ∷ 0 ∷ [] else 0 ∷ 0 ∷ 0 ∷ 0 ∷ []) ≤ 4
-    by true = omega arith
-    by false = omega arith
-
--- a label that is bound at most eight bytes after it is in reach of a branch
-over_reached : (label : MachLabel) (start size : ℕ) (place : Option ℕ) → place ≡ Some (start + size) → size ≤ 8 → is_reached label_kinds place (use_at start label B12) ≡ true
-over_reached label start size place e few =
-    ap (λ o. is_reached label_kinds o (use_at start label B12)) e
-    ∙ (λ i. le-leb (start + size) (start + forward_of B12) (omega arith) i && le-leb start (start + size + backward_of B12) (omega arith) i)
-
-trap_if_appends : (context : Context) (cmp : IntegerCompare) (code : TrapCode) (old new : Buffer) → IsSoundBuffer old → PutsParts context.flags (slots_alone (trap_if_slots context.flags cmp code)) old new → AppendsInst context (TrapIf cmp code) old new
-trap_if_appends context cmp code old new s (mid, p, same) = subst (AppendsInst context (TrapIf cmp code) old) (sym same) (record {
-  code = closed_code flags slots old mid tt s p.puts p.sound;
-  direct = branch ∷ [];
-  adds = closed_adds flags slots old mid tt s p.puts p.sound;
-  each = each_more (λ u. IsFarUse [] u ⊎ IsOwnUse 1 (allocated_of old) (place_of mid) u) branch [] (inr (record {
-    index = 0;
-    own = omega arith;
-    names = refl;
-    served = refl;
-    bare = refl;
-    reached = over_reached (own_label (allocated_of old) 0) (length (bytes_of old)) (size_of slots) _ (closed_end flags slots old mid tt s p.puts p.sound) (let few = trap_few flags in omega arith);
-  })) (each_none _);
-  records = closed_records flags slots old mid tt s p.puts p.sound;
-  named = puts_named flags (allocated_of old) (trap_if_slots flags cmp code) (shape_of old) (shape_of mid) p.puts;
-  long = let t = trap_long flags in let e = closed_long flags slots old mid tt s p.puts p.sound in omega arith;
-})
-  where
-    flags : IsaFlags
-    flags = context.flags
-
-    slots : List Slot
-    slots = branch_to (complement cmp) (Own 0) ∷ trap_slots flags code
-
-    branch : Use LabelUse
-    branch = use_at (length (bytes_of old)) (own_label (allocated_of old) 0) B12
-
 -- what an instruction that asks for no island adds
 pub appends_inst : (context : Context) (setting : EmitVState) (inst : Inst) (old new : Buffer) → inst_rule context inst ≡ None → IsSoundBuffer old → island_space context inst ≡ None → EmitsIn context setting inst old new → AppendsInst context inst old new
 appends_inst context setting Nop0 old new rule s asks p = nothing context Nop0 old new s refl refl refl refl refl p
@@ -171,11 +108,11 @@ appends_inst context setting (Store src op flags to) old new rule s asks p = sum
 appends_inst context setting (LoadAddr rd mem) old new rule s asks p = summed context (LoadAddr rd mem) _ old new refl (load_addr_summed context rd mem) context.flags p
 appends_inst context setting (LabelAddress dst label) old new rule s asks p = summed context (LabelAddress dst label) _ old new refl (label_address_summed context dst label) context.flags p
 appends_inst context setting Ret old new rule s asks p = summed context Ret _ old new refl (one context Ret _ refl (λ start end. refl) (λ start end. refl) (λ named. refl)) context.flags p
-appends_inst context setting (TrapIf cmp code) old new rule s asks p = trap_if_appends context cmp code old new s p
+appends_inst context setting (TrapIf cmp code) old new rule s asks p = made_appends context (TrapIf cmp code) _ old new (trap_if_made context cmp code) s p
 appends_inst context setting (Jal label) old new rule s asks p = summed context (Jal label) _ old new refl (jumps context label) context.flags p
 appends_inst context setting (CondBr taken not_taken kind) old new rule s asks p = summed context (CondBr taken not_taken kind) _ old new refl (branches context kind taken not_taken) context.flags p
 appends_inst context setting (BrTable index tmp1 tmp2 targets) old new rule s asks p = absurd (cc)
-appends_inst context setting (Udf code) old new rule s asks p = summed context (Udf code) _ old new refl (trap context code) context.flags p
+appends_inst context setting (Udf code) old new rule s asks p = made_appends context (Udf code) _ old new (udf_made context code) s p
 appends_inst context setting (Jalr rd base offset) old new rule s asks p = summed context (Jalr rd base offset) _ old new refl (one context (Jalr rd base offset) _ refl (λ start end. refl) (λ start end. refl) (λ named. refl)) context.flags p
 appends_inst context setting (Popcnt info) old new rule s asks p = made_appends context (Popcnt info) _ old new (popcnt_made context info) s p
 appends_inst context setting (Cltz leading info) old new rule s asks p = made_appends context (Cltz leading info) _ old new (zeros_made context leading info) s p
@@ -227,17 +164,6 @@ constant_contained flags rd I32 imm word = inline_contained flags rd loads.Lw 4 
 constant_contained flags rd I64 imm word = inline_contained flags rd loads.Ld 8 (to_le_bytes w64 imm) refl
 constant_contained flags rd _ imm word = absurd (cc)
 
-trap_even : (flags : IsaFlags) → length (trap_bytes flags) % 2 ≡ 0
-trap_even flags = by flags.has_zca
-  where
-    by : (c : Bool) → length {A = ℕ} (if c then 0 ∷ 0 ∷ [] else 0 ∷ 0 ∷ 0 ∷ 0 ∷ []) % 2 ≡ 0
-    by true = refl
-    by false = refl
-
--- the branch over a trap reaches the label after it
-trap_if_contained : (flags : IsaFlags) (cmp : IntegerCompare) (code : TrapCode) → AreSelfContained (trap_if_slots flags cmp code)
-trap_if_contained flags cmp code = let few = trap_few flags in (record { to = 4 + length (trap_bytes flags); there = refl; forward = omega arith; backward = omega arith }, (trap_even flags, tt))
-
 -- each part of an instruction is self-contained
 pub parts_are_self_contained : (context : Context) (setting : EmitVState) (inst : Inst) → inst_rule context inst ≡ None → PartsAreSelfContained (parts_of context setting inst)
 parts_are_self_contained context setting Nop0 rule = tt
@@ -263,11 +189,11 @@ parts_are_self_contained context setting (Store src op flags to) rule = (store_c
 parts_are_self_contained context setting (LoadAddr rd mem) rule = (address_contained context.flags (number_of rd.reg) (location_of context.frame mem), tt)
 parts_are_self_contained context setting (LabelAddress dst label) rule = (address_contained context.flags (number_of dst.reg) (AtLabel label), tt)
 parts_are_self_contained context setting Ret rule = (op_contained (short_jalr context.flags 0 1 (pos 0)) (jalr_sized context.flags 0 1 (pos 0)), tt)
-parts_are_self_contained context setting (TrapIf cmp code) rule = (trap_if_contained context.flags cmp code, tt)
+parts_are_self_contained context setting (TrapIf cmp code) rule = (made_contained (trap_if_made context cmp code), tt)
 parts_are_self_contained context setting (Jal label) rule = ((tt, tt), tt)
 parts_are_self_contained context setting (CondBr taken not_taken kind) rule = (branch_contained context.flags kind taken not_taken, tt)
 parts_are_self_contained context setting (BrTable index tmp1 tmp2 targets) rule = (table_contained context.flags (number_of index) (number_of tmp1.reg) (number_of tmp2.reg) targets, tt)
-parts_are_self_contained context setting (Udf code) rule = ((trap_even context.flags, tt), tt)
+parts_are_self_contained context setting (Udf code) rule = (made_contained (udf_made context code), tt)
 parts_are_self_contained context setting (Jalr rd base offset) rule = (op_contained (short_jalr context.flags (number_of rd.reg) (number_of base) offset.value) (jalr_sized context.flags (number_of rd.reg) (number_of base) offset.value), tt)
 parts_are_self_contained context setting (Popcnt info) rule = (made_contained (popcnt_made context info), tt)
 parts_are_self_contained context setting (Cltz leading info) rule = (made_contained (zeros_made context leading info), tt)

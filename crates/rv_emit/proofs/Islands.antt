@@ -13,7 +13,7 @@ use Rattle.rv_base.specs.LabelUse.{code_limit, Kinds}
 use Rattle.mach_uses.specs.declared.uses.Use.{Use}
 use Rattle.mach_uses.specs.Reach.{CanReach, deadline, deadlines, is_pending, is_other}
 use Rattle.mach_buffer.specs.Buffer.{shape_of, bytes_of, uses_of, place_of, allocated_of, registered_of}
-use Rattle.mach_buffer.specs.Shape.{Shape, IsUsable}
+use Rattle.mach_buffer.specs.Shape.{IsUsable}
 use Rattle.mach_buffer.specs.Constants.{end_after, reserve_from, reserve_of}
 use Rattle.mach_buffer.specs.Islands.{CanIsland, IsJumpOver, aligned, island_end, first_of, needs_own, others_of}
 use Rattle.mach_buffer.proofs.Laws.{deadlines_append, own_idle, aligned_near, ends_within, even_length, few_allocated, use_usable, bound_usable}

@@ -7,7 +7,6 @@ mod JumpAndIsland
 mod LabelsReached
 pub mod Laws
 mod OwnLabels
-mod OwnSlots
 mod Sequences
 mod Fields
 mod PartsInBuffer

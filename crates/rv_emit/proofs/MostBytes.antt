@@ -1,6 +1,6 @@
 -- An instruction that breaks no rule has at most as many bytes as its kind may.
-use Rattle.std.proofs.Common.{◌≡◌, ◌⊎◌, inl, inr, ℕ, ◌+◌, ◌-◌, ◌*◌, ◌/◌, ◌<◌, ◌≤◌, Bool, true, false, List, [], ◌∷◌, ◌++◌, length, Option, Some, None, refl, subst, arith, lit≤}
-use Rattle.std.specs.Prelude.{nat_eq, ℤ, pos, negsuc, ◌-ℤ◌, cond, count_by, if◌then◌else◌}
+use Rattle.std.proofs.Common.{◌≡◌, ◌⊎◌, inl, inr, ℕ, ◌+◌, ◌*◌, ◌/◌, ◌≤◌, Bool, true, false, List, [], ◌∷◌, ◌++◌, length, Option, Some, None, refl, subst, arith, lit≤}
+use Rattle.std.specs.Prelude.{nat_eq, ℤ, pos, ◌-ℤ◌, cond, count_by, if◌then◌else◌}
 use Rattle.std.proofs.lemmas.List.{length-append}
 use Rattle.std.proofs.lemmas.List.Recursion.{is_count_by}
 use Rattle.rv_base.specs.Frame.{sp_to_fp_of}
@@ -23,17 +23,17 @@ use Rattle.rv_base.specs.LabelUse.{code_limit}
 use Rattle.rv_base.specs.Regs.{number_of}
 use Rattle.rv_machine.specs.Arithmetic.{low_word}
 use Rattle.rv_machine.specs.declared.decoding.Decoded.{Decoded}
-use Rattle.rv_ops.specs.declared.alu.AluOPRRR.TheVariants.{Add, And}
-use Rattle.rv_ops.specs.declared.alu.AluOPRRI.TheVariants.{Addi, Slli, Srli}
+use Rattle.rv_ops.specs.declared.alu.AluOPRRR.TheVariants.{Add}
+use Rattle.rv_ops.specs.declared.alu.AluOPRRI.TheVariants.{Addi}
 use Rattle.rv_ops.specs.declared.memory.LoadOP.{LoadOP}
 use Rattle.rv_ops.specs.declared.memory.StoreOP.{StoreOP}
 use Rattle.rv_inst.specs.Addresses.{Location, Based, AtLabel, AtConstant, location_of, is_near, inline_size, far_address_size, address_size, load_size_at, store_size_at}
 use Rattle.rv_inst.specs.Context.{Context}
-use Rattle.rv_inst.specs.Forms.{jump_size, short_rrr, short_rri, short_lui, short_jalr, short_ebreak, short_load, short_store}
+use Rattle.rv_inst.specs.Forms.{short_rri, short_jalr, short_load, short_store}
 use Rattle.rv_inst.specs.MostBytes.{most_bytes, return_limit, call_limit, sequence_limit}
 use Rattle.rv_inst.specs.Returns.{StackLoad, saves_from, setup_loads, restores, frame_above, typed_loads, location_loads, result_loads, loads_unless}
 use Rattle.rv_inst.specs.Rules.{is_word_type, is_on_stack, is_stacked, inst_rule}
-use Rattle.rv_inst.specs.Sizes.{space_in, extra_in, words_in, extent_of, island_space, inst_sum, move_size, branch_size, count_size, trap_size, return_size, fall, call_extent}
+use Rattle.rv_inst.specs.Sizes.{space_in, extra_in, words_in, extent_of, island_space, inst_sum, move_size, branch_size, trap_size, return_size, fall, call_extent}
 use Rattle.rv_inst.specs.declared.inst.CondBrTarget.{CondBrTarget}
 use Rattle.rv_inst.specs.declared.inst.CondBrTarget.TheVariants.{Label, Fallthrough}
 use Rattle.rv_inst.specs.declared.inst.Inst.{Inst}

@@ -1,6 +1,6 @@
 -- What is put of a number in a register, and how long it is at most.
 use Rattle.std.proofs.Common.{◌≡◌, ◌≢◌, zero, suc, ◌-◌, ◌^◌, ◌<◌, ◌==◌, ℕ, true, false, [], ◌∷◌, ℤ, pos, negsuc, ◌≤ℤ◌, refl, sym, ap, subst, ◌∙◌, arith}
-use Rattle.std.specs.Prelude.{◌&&◌, if◌then◌else◌}
+use Rattle.std.specs.Prelude.{◌&&◌}
 use Rattle.std.specs.Int.{cast_unsigned, w32}
 use Rattle.std.proofs.lemmas.Bool.Decides.{nat_tests}
 use Rattle.std.proofs.lemmas.Int.{ints}

@@ -1,5 +1,5 @@
 -- What pieces with labels of their own add to a buffer, wherever among them the labels are bound.
-use Rattle.std.proofs.Common.{◌≡◌, ◌≢◌, ◌⊎◌, inl, inr, ℕ, zero, suc, ◌+◌, ◌<◌, ◌≤◌, Bool, true, false, nat_eq, List, [], ◌∷◌, ◌++◌, map, length, Option, Some, None, refl, ap, sym, ◌∙◌, subst, arith, append_assoc, eqb-true, lit≤}
+use Rattle.std.proofs.Common.{◌≡◌, ◌≢◌, inl, inr, ℕ, ◌+◌, ◌<◌, ◌≤◌, Bool, true, false, nat_eq, List, [], ◌∷◌, ◌++◌, length, Option, Some, None, refl, ap, sym, ◌∙◌, subst, arith, append_assoc, eqb-true, lit≤}
 use Rattle.std.specs.Prelude.{if◌then◌else◌, nat_lt, is_some, ◌&&◌}
 use Rattle.std.proofs.lemmas.Bool.{le-leb}
 use Rattle.std.proofs.lemmas.Bool.Decides.{nat_tests}
@@ -10,14 +10,12 @@ use Rattle.mach_labels.specs.Table.{first_inner}
 use Rattle.mach_uses.specs.Labels.{inner_count}
 use Rattle.mach_uses.specs.Reach.{is_reached}
 use Rattle.mach_records.specs.declared.records.Event.TheVariants as event
-use Rattle.mach_uses.specs.declared.uses.Use.{Use}
 use Rattle.mach_buffer.specs.Shape.{Shape, IsUsable}
-use Rattle.mach_buffer.specs.Buffer.{shape_of, bytes_of, place_of, allocated_of, records_of, named_of}
+use Rattle.mach_buffer.specs.Buffer.{shape_of, bytes_of, place_of, allocated_of, named_of}
 use Rattle.mach_buffer.proofs.Laws.{few_allocated, use_usable, placed_same, placed_other}
 use Rattle.rv_inst.specs.Context.{Context}
 use Rattle.rv_inst.specs.Forms.{jump_kind}
 use Rattle.rv_inst.specs.LabelUse.{label_kinds, forward_of, backward_of, has_veneer_of}
-use Rattle.rv_inst.specs.Operands.{table_of}
 use Rattle.rv_inst.specs.Records.{inst_records}
 use Rattle.rv_inst.specs.Sizes.{words_in}
 use Rattle.rv_inst.specs.Uses.{use_at, uses_in}
@@ -26,13 +24,12 @@ use Rattle.rv_inst.specs.declared.label_use.LabelUse.{LabelUse}
 use Rattle.rv_inst.specs.declared.label_use.LabelUse.TheVariants.{B12, Jal20, RVCJump}
 use Rattle.rv_code.specs.InstParts.{slots_alone}
 use Rattle.rv_code.specs.Operations.{short_jump}
-use Rattle.rv_code.specs.OwnCounts.{own_count}
-use Rattle.rv_code.specs.Pieces.{Piece, Do, Branch, Jump, New, Bind, Go, Trap, op_of, branches, slots_for, slots_of, piece_size, pieces_size, after, own_labels, AreAmong, IsBoundIn, AreClosedPieces, trap_bytes, GoNowhere}
+use Rattle.rv_code.specs.Pieces.{Piece, Do, Branch, Jump, New, Bind, Go, Trap, op_of, branches, slots_for, slots_of, piece_size, pieces_size, after, own_labels, AreAmong, trap_bytes, GoNowhere}
 use Rattle.rv_code.specs.Slots.{Label, Own, Op, Aim, Notes, Data, Allocate, Here, own_label, uses_of, records_of as slots_records}
 use Rattle.rv_code.proofs.ClosedPieces.{pieces_long, pieces_few, jump_reach}
 use Rattle.rv_code.proofs.MadeOfPieces.{IsMadeOf, pieces_name}
 use Rattle.rv_emit.specs.Emission.{PutsParts}
-use Rattle.rv_emit.specs.Emitted.{Buffer, IsSoundBuffer, AppendsSequence, AppendsInst, IsFarUse, IsOwnUse}
+use Rattle.rv_emit.specs.Emitted.{Buffer, IsSoundBuffer, AppendsSequence, AppendsInst, IsOwnUse}
 use Rattle.rv_emit.specs.Puts.{Puts}
 use Rattle.rv_emit.proofs.BufferAfterSlots.{slot_bytes, lasts_after_slots, puts_bytes, puts_uses, puts_named, puts_constants}
 use Rattle.rv_emit.proofs.ReachAfterInst.{Each, each_none, each_more}

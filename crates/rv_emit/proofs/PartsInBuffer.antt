@@ -1,11 +1,9 @@
 -- What was put part by part stands in the buffer, its windows with it, and lasts.
-use Rattle.std.proofs.Common.{◌≡◌, ◌⊎◌, inl, inr, ℕ, ◌+◌, ◌%◌, ◌≤◌, Bool, true, false, List, [], ◌∷◌, ◌++◌, length, Some, None, refl, sym, ◌∙◌, subst, arith}
-use Rattle.std.proofs.lemmas.List.{length-append}
+use Rattle.std.proofs.Common.{◌≡◌, ◌⊎◌, inl, inr, ℕ, ◌+◌, ◌%◌, Bool, true, false, List, [], ◌∷◌, length, refl, sym, subst, arith}
 use Rattle.rv_base.specs.declared.flags.IsaFlags.{IsaFlags}
 use Rattle.rv_inst.specs.declared.label_use.LabelUse.{LabelUse}
 use Rattle.rv_inst.specs.LabelUse.{label_kinds, marks_of}
 use Rattle.rv_inst.specs.Uses.{use_at}
-use Rattle.mach_uses.specs.declared.uses.Use.{Use}
 use Rattle.mach_buffer.specs.Shape.{Shape, with_bytes, with_allocated}
 use Rattle.mach_buffer.specs.Windows.{AreWindows}
 use Rattle.mach_buffer.specs.Growth.{Lasts}

@@ -17,7 +17,7 @@ use Rattle.rv_ops.specs.declared.memory.LoadOP.{LoadOP}
 use Rattle.mach_buffer.specs.Buffer.{shape_of, bytes_of}
 use Rattle.mach_buffer.specs.Constants.{reserve_of}
 use Rattle.rv_inst.specs.Addresses.{Based}
-use Rattle.rv_inst.specs.Returns.{StackLoad, typed_loads, location_loads, result_loads}
+use Rattle.rv_inst.specs.Returns.{typed_loads, location_loads, result_loads}
 use Rattle.rv_inst.specs.Rules.{is_on_stack, is_stacked}
 use Rattle.rv_inst.specs.Sizes.{results_space}
 use Rattle.rv_emit.specs.Emission.{PutsAlone, PutsParts}

@@ -1,5 +1,5 @@
 -- Slots that several calls put, one call after the other, and what one call puts of data and traps.
-use Rattle.std.proofs.Common.{◌≡◌, ◌≢◌, inl, inr, ℕ, ◌+◌, true, false, nat_eq, List, [], ◌∷◌, ◌++◌, length, None, refl, ap, sym, ◌∙◌, subst, arith}
+use Rattle.std.proofs.Common.{◌≡◌, ◌≢◌, inl, inr, ℕ, ◌+◌, true, false, nat_eq, List, [], ◌∷◌, ◌++◌, length, refl, ap, sym, ◌∙◌, subst, arith}
 use Rattle.std.specs.Prelude.{if◌then◌else◌, ◌%◌, ◌^◌}
 use Rattle.std.specs.Int.{to_le_bytes, w32, w64}
 use Rattle.std.proofs.lemmas.Bool.Decides.{nat_tests}
@@ -7,28 +7,18 @@ use Rattle.rv_base.specs.IrType.{bits_of}
 use Rattle.rv_base.specs.declared.flags.IsaFlags.{IsaFlags}
 use Rattle.rv_base.specs.declared.ir_type.IrType.{IrType}
 use Rattle.rv_base.specs.declared.trap.TrapCode.{TrapCode}
-use Rattle.rv_ops.specs.declared.compare.IntegerCompare.{IntegerCompare}
 use Rattle.rv_ops.specs.declared.memory.LoadOP.TheVariants as loads
-use Rattle.rv_base.specs.declared.label.MachLabel.{MachLabel}
-use Rattle.mach_labels.specs.Table.{first_inner}
-use Rattle.rv_encode.specs.Operations.{decoded_branch}
 use Rattle.rv_inst.specs.declared.label_use.LabelUse.{LabelUse}
-use Rattle.rv_inst.specs.declared.label_use.LabelUse.TheVariants.{B12}
 use Rattle.rv_inst.specs.LabelUse.{label_kinds}
-use Rattle.rv_inst.specs.LabelUseWords.{word_bytes}
-use Rattle.rv_inst.specs.Uses.{use_at}
-use Rattle.mach_uses.specs.declared.uses.Use.{Use}
-use Rattle.mach_buffer.specs.Buffer.{shape_of, bytes_of, place_of, allocated_of}
+use Rattle.mach_buffer.specs.Buffer.{shape_of, bytes_of, allocated_of}
 use Rattle.mach_records.specs.declared.records.Event.TheVariants as event
-use Rattle.mach_buffer.specs.Shape.{Shape, IsUsable, with_bytes, with_use, with_label, with_allocated, with_record}
+use Rattle.mach_buffer.specs.Shape.{Shape, IsUsable, with_bytes, with_record}
 use Rattle.mach_buffer.specs.Growth.{Lasts}
 use Rattle.rv_emit.specs.Emitted.{Buffer, IsSoundBuffer}
 use Rattle.rv_emit.specs.Emission.{PutsAlone}
-use Rattle.rv_code.specs.Slots.{Slot, Data, size_of, own_label}
-use Rattle.rv_emit.specs.Puts.{IsPatchable, Puts}
-use Rattle.rv_code.specs.InstParts.{trap_bytes, trap_slots, trap_if_slots, complement, inline_slots, constant_slots}
-use Rattle.rv_emit.proofs.Encoded.{branch_patchable}
-use Rattle.rv_emit.proofs.Words.{IsBranch}
+use Rattle.rv_code.specs.Slots.{Slot, Data, size_of}
+use Rattle.rv_emit.specs.Puts.{Puts}
+use Rattle.rv_code.specs.InstParts.{trap_bytes, trap_slots, inline_slots, constant_slots}
 use Rattle.rv_code.proofs.PlainSlots.{IsPlain}
 use Rattle.rv_emit.proofs.PlainSlots.{plain_adds}
 use Rattle.rv_emit.proofs.BufferAfterSlots.{lasts_after_slots, puts_bytes}
@@ -76,43 +66,6 @@ half_trap flags on = ap (λ c. if c then 0 ∷ 0 ∷ [] else 0 ∷ 0 ∷ 0 ∷ 0
 
 pub whole_trap : (flags : IsaFlags) → flags.has_zca ≡ false → 0 ∷ 0 ∷ 0 ∷ 0 ∷ [] ≡ trap_bytes flags
 whole_trap flags off = ap (λ c. if c then 0 ∷ 0 ∷ [] else 0 ∷ 0 ∷ 0 ∷ 0 ∷ []) (sym off)
-
--- what it changes
-pub trap_shape : {flags : IsaFlags} (code : TrapCode) (old new : Buffer) → PutsAlone flags (trap_slots flags code) old new → shape_of new ≡ with_bytes (trap_bytes flags) (with_record (event.Trap code) (shape_of old))
-trap_shape {flags} code old new t = let p = t.1.puts in ap shape_of t.2 ∙ p.2.2 ∙ p.2.1 ∙ ap (λ s. with_bytes (trap_bytes flags) s) p.1.1
-
--- a label that is not bound before a branch and a trap is not bound after them
-pub still_unbound : {flags : IsaFlags} (code : TrapCode) (label w : ℕ) (u : Use LabelUse) (old branched new : Buffer) → shape_of branched ≡ with_bytes (word_bytes w) (with_use u (shape_of old)) → PutsAlone flags (trap_slots flags code) branched new → place_of old label ≡ None → place_of new label ≡ None
-still_unbound code label w u old branched new put trap unbound = ap (λ (s : Shape LabelUse). s.place label) (trap_shape code branched new trap) ∙ ap (λ (s : Shape LabelUse). s.place label) put ∙ unbound
-
--- a branch over a trap, to a label that was allocated before it and is bound after it
-pub trap_if_put : (flags : IsaFlags) (cmp inverse : IntegerCompare) (code : TrapCode) (label : MachLabel) (w : ℕ) (old allocated branched trapped new : Buffer) → inverse ≡ complement cmp → IsBranch w inverse → label.number ≡ first_inner + allocated_of old → shape_of allocated ≡ with_allocated (shape_of old) → shape_of branched ≡ with_bytes (word_bytes w) (with_use (use_at (length (bytes_of allocated)) label B12) (shape_of allocated)) → PutsAlone flags (trap_slots flags code) branched trapped → place_of allocated label.number ≡ None → shape_of new ≡ with_label label (shape_of trapped) → IsSoundBuffer new → PutsAlone flags (trap_if_slots flags cmp code) old new
-trap_if_put flags cmp inverse code label w old allocated branched trapped new same b number drawn put trap unbound bound sound =
-    let own : label ≡ own_label (allocated_of old) 0 = let e : label.number ≡ first_inner + (allocated_of old + 0) = omega (arith, number) in λ i. record { number = e i } in
-    let p = trap.1.puts in
-    let free = still_unbound code label.number w (use_at (length (bytes_of allocated)) label B12) allocated branched trapped put trap unbound in
-    alone (record {
-      puts = (
-        shape_of allocated,
-        drawn,
-        (
-          shape_of branched,
-          (word_bytes w, subst (λ kind. IsPatchable flags B12 (word_bytes w) (λ d. decoded_branch kind d ∷ [])) same (branch_patchable flags inverse w b), put ∙ ap (λ l. with_bytes (word_bytes w) (with_use (use_at (length (bytes_of allocated)) l B12) (shape_of allocated))) own),
-          (
-            p.0,
-            p.1,
-            (
-              shape_of trapped,
-              ap shape_of trap.2 ∙ p.2.2 ∙ p.2.1,
-              (shape_of new, (ap (λ (l : MachLabel). place_of trapped l.number) (sym own) ∙ free, bound ∙ ap (λ l. with_label l (shape_of trapped)) own), refl),
-            ),
-          ),
-        ),
-      );
-      sound = sound;
-    })
-
--- ---- a constant by its type
 
 pub constant_word : {flags : IsaFlags} (rd : ℕ) (type : IrType) (imm : ℕ) (old new : Buffer) → bits_of type ≡ 32 → PutsAlone flags (inline_slots flags rd loads.Lw 4 (to_le_bytes w32 (imm % 2 ^ 32))) old new → PutsAlone flags (constant_slots flags rd type imm) old new
 constant_word {flags} rd type imm old new is p =

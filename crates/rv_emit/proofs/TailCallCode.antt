@@ -34,7 +34,7 @@ use Rattle.rv_inst.specs.Records.{site_event}
 use Rattle.rv_inst.specs.Sizes.{stack_loads_size, stack_step_size, fall, call_size, return_size}
 use Rattle.rv_emit.specs.Emission.{PutsAlone, PutsParts}
 use Rattle.rv_emit.specs.Emitted.{Buffer, IsSoundBuffer, IslandIfNeeded, AppendsIsland, pending}
-use Rattle.rv_code.specs.InstParts.{load_slots, number_slots, stack_load_slots, far_step_slots, stack_step_slots, return_slots, call_to, tail_slots, t0_slots, map_notes, return_notes, after_call, patch_notes, try_slots, call_slots, call_ind_slots}
+use Rattle.rv_code.specs.InstParts.{load_slots, number_slots, stack_load_slots, far_step_slots, stack_step_slots, return_slots, call_to, tail_slots, t0_slots, map_notes, return_notes, after_call, patch_notes, call_slots, call_ind_slots}
 use Rattle.rv_code.specs.Slots.{Slot, Op, Notes, Ask, Slots, size_of}
 use Rattle.rv_code.specs.Usable.{AreSaved}
 use Rattle.rv_code.proofs.MemorySlots.{HaveAccess, none, nothing}

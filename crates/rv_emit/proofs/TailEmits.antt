@@ -1,6 +1,5 @@
 -- What a tail call that asks for an island first puts, and what is known of the setting after a call.
-use Rattle.std.proofs.Common.{◌≡◌, ◌+◌, ◌*◌, ◌≤◌, true, [], ◌∷◌, refl, sym, subst, ◌∙◌}
-use Rattle.std.specs.Prelude.{◌&&◌, ◌||◌, ◌==◌}
+use Rattle.std.proofs.Common.{◌≡◌, ◌+◌, true, [], ◌∷◌, refl, sym, subst}
 use Rattle.rv_base.specs.declared.call.ReturnCallInfo.{ReturnCallInfo}
 use Rattle.rv_base.specs.declared.external_name.ExternalName.{ExternalName}
 use Rattle.rv_base.specs.declared.regs.Reg.{Reg}

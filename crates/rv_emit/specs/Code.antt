@@ -9,7 +9,7 @@ use Rattle.mach_buffer.specs.Shape.{Shape, IsKnown}
 use Rattle.rv_emit.specs.declared.code.CodePiece.{CodePiece}
 use Rattle.rv_emit.specs.declared.code.OwnLabels.{OwnLabels}
 use Rattle.rv_emit.specs.declared.code.CodePiece.TheVariants as code
-use Rattle.rv_code.specs.Pieces.{Piece, Rrr, Rri, Do, Branch, Jump, New, Bind}
+use Rattle.rv_code.specs.Pieces.{Piece, Rrr, Rri, Do, Branch, Jump, New, Bind, Trap}
 
 -- the piece that it is
 abbrev pub shown : CodePiece → Piece
@@ -19,6 +19,7 @@ shown (code.Branch kind label) = Branch kind.kind (number_of kind.rs1) (number_o
 shown (code.Jump label) = Jump label
 shown code.New = New
 shown (code.Bind label) = Bind label
+shown (code.Trap code) = Trap code
 
 abbrev pub pieces_of : List CodePiece → List Piece
 pieces_of pieces = map shown pieces
@@ -31,6 +32,7 @@ IsSound (code.Branch kind label) = IsIntRegister kind.rs1 × IsIntRegister kind.
 IsSound (code.Jump label) = Unit {0}
 IsSound code.New = Unit {0}
 IsSound (code.Bind label) = Unit {0}
+IsSound (code.Trap code) = Unit {0}
 
 -- an own label is used and bound after it was allocated, and bound once: so many were allocated before, and these are bound
 abbrev pub IsLabelled : ℕ → List ℕ → List CodePiece → Type 0
@@ -40,6 +42,7 @@ IsLabelled news bound (code.Rri op rd rs imm ∷ ps) = IsLabelled news bound ps
 IsLabelled news bound (code.Branch kind label ∷ ps) = (label < news) × IsLabelled news bound ps
 IsLabelled news bound (code.Jump label ∷ ps) = (label < news) × IsLabelled news bound ps
 IsLabelled news bound (code.New ∷ ps) = IsLabelled (1 + news) bound ps
+IsLabelled news bound (code.Trap code ∷ ps) = IsLabelled news bound ps
 IsLabelled news bound (code.Bind label ∷ ps) = (label < news) × (is_among bound label ≡ false) × IsLabelled news (label ∷ bound) ps
 
 abbrev pub AreSound : List CodePiece → Type 0
@@ -54,6 +57,7 @@ IsUsableAt base (code.Branch kind label) s = IsKnown (base + label) s.allocated
 IsUsableAt base (code.Jump label) s = IsKnown (base + label) s.allocated
 IsUsableAt base code.New s = Unit {0}
 IsUsableAt base (code.Bind label) s = IsKnown (base + label) s.allocated × (s.place (base + label) ≡ None)
+IsUsableAt base (code.Trap code) s = Unit {0}
 
 -- whether it needs to know that number
 abbrev pub IsBaseFor : ℕ → ℕ → CodePiece → Type 0
@@ -63,6 +67,7 @@ IsBaseFor base allocated (code.Branch kind label) = base ≡ first_inner + alloc
 IsBaseFor base allocated (code.Jump label) = base ≡ first_inner + allocated
 IsBaseFor base allocated code.New = Unit {0}
 IsBaseFor base allocated (code.Bind label) = base ≡ first_inner + allocated
+IsBaseFor base allocated (code.Trap code) = Unit {0}
 
 -- the own labels after a piece: one more after one that is allocated, which isn't bound; else the same
 abbrev pub IsNext : OwnLabels → OwnLabels → CodePiece → Shape LabelUse → Shape LabelUse → Type 0
@@ -72,3 +77,4 @@ IsNext own next (code.Branch kind label) s t = next ≡ own
 IsNext own next (code.Jump label) s t = next ≡ own
 IsNext own next code.New s t = (next.count ≡ 1 + own.count) × (next.base + own.count ≡ first_inner + s.allocated) × (t.place (first_inner + s.allocated) ≡ None)
 IsNext own next (code.Bind label) s t = next ≡ own
+IsNext own next (code.Trap code) s t = next ≡ own

@@ -17,10 +17,11 @@ ghost use Rattle.rv_emit.specs.Puts.{Puts};
 ghost use Rattle.rv_code.specs.Slots.{Label};
 ghost use Rattle.rv_emit.specs.declared.code.CodePiece.TheVariants as code;
 
+use crate::expansions::put_trap;
 use crate::sequence::{put_compare, put_wide_jump};
 use crate::shortest::{put_rri, put_rrr};
 use mach_buffer::MachBuffer;
-use rv_base::{IsaFlags, MachLabel, OutOfMemory, Reg, WritableReg};
+use rv_base::{IsaFlags, MachLabel, OutOfMemory, Reg, TrapCode, WritableReg};
 use rv_encode::encode_cj_type;
 use rv_imms::Imm12;
 use rv_inst::LabelUse;
@@ -51,6 +52,9 @@ pub(crate) enum CodePiece {
     New,
     Bind {
         label: u8,
+    },
+    Trap {
+        code: TrapCode,
     },
 }
 
@@ -151,6 +155,7 @@ fn put_piece(
         CodePiece::Jump { label } => put_own_jump(sink, flags, own_label(base, label)),
         CodePiece::New => put_unused(sink),
         CodePiece::Bind { label } => put_bind(sink, own_label(base, label)),
+        CodePiece::Trap { code } => put_trap(sink, flags, code),
     }
 }
 

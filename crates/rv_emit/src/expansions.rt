@@ -11,13 +11,16 @@ ghost use Rattle.rv_encode.specs.Registers.{IsIntRegister};
 ghost use Rattle.rv_encode.specs.Layouts.{IsEven};
 ghost use Rattle.rv_inst.specs.Forms.{jump_size};
 ghost use Rattle.mach_buffer.specs.Buffer.{bytes_of, allocated_of, spoiled_of};
-ghost use Rattle.mach_uses.specs.Labels.{inner_count};
 ghost use Rattle.rv_emit.specs.Emitted.{IsSoundBuffer};
 ghost use Rattle.rv_emit.specs.Emission.{PutsAlone};
 ghost use Rattle.rv_code.specs.Slots.{Data};
-ghost use Rattle.rv_code.specs.InstParts.{trap_slots, trap_if_slots, load_over, inline_slots, constant_slots};
+ghost use Rattle.rv_code.specs.Pieces.{slots_of};
+ghost use Rattle.rv_code.specs.Traps.{trap_if_pieces};
+ghost use Rattle.rv_emit.specs.Code.{pieces_of, AreSound, IsLabelled};
+ghost use Rattle.rv_code.specs.InstParts.{trap_slots, load_over, inline_slots, constant_slots};
 
-use crate::sequence::{put_compare, put_word};
+use crate::code::{CodePiece, bind, branch, put_code};
+use crate::sequence::put_word;
 use crate::shortest::put_short_jump;
 use mach_buffer::MachBuffer;
 use rv_base::{IrType, IsaFlags, OutOfMemory, TrapCode, WritableReg};
@@ -58,7 +61,7 @@ pub(crate) fn put_trap(
     Ok(())
 }
 
-/// A trap, and before it a branch over it where the comparison doesn't hold.
+/// A trap where the comparison holds. Label 0 stands after it.
 pub(crate) fn put_trap_if(
     sink: &mut MachBuffer<LabelUse>,
     flags: IsaFlags,
@@ -67,17 +70,28 @@ pub(crate) fn put_trap_if(
 ) -> Result<(), OutOfMemory>
     requires rs1 { IsIntRegister cmp.rs1 }
     requires rs2 { IsIntRegister cmp.rs2 }
-    requires few { allocated_of sink.old < inner_count }
-    requires room { length (bytes_of sink.old) + 8 < code_limit }
+    requires few { allocated_of sink.old < 2 ^ 29 }
+    requires room { length (bytes_of sink.old) + 12 < code_limit }
     requires sound { IsSoundBuffer sink.old }
-    ensures slots { OnOk result (PutsAlone flags (trap_if_slots flags cmp code) sink.old sink.new) }
+    ensures slots { OnOk result (PutsAlone flags (slots_of flags (trap_if_pieces cmp code)) sink.old sink.new) }
     ensures refused { OnErr result (spoiled_of sink.new ≡ true) }
 {
-    let after_trap = sink.get_label()?;
-    put_compare(sink, cmp.inverse(), after_trap)?;
-    put_trap(sink, flags, code)?;
-    sink.bind_label(after_trap)?;
-    Ok(())
+    put_code(sink, flags, &trap_if_code(cmp, code))
+}
+
+fn trap_if_code(cmp: IntegerCompare, code: TrapCode) -> [CodePiece; 4]
+    requires rs1 { IsIntRegister cmp.rs1 }
+    requires rs2 { IsIntRegister cmp.rs2 }
+    ensures pieces { pieces_of result ≡ trap_if_pieces cmp code }
+    ensures registers { AreSound result }
+    ensures labels { IsLabelled 0 [] result }
+{
+    [
+        CodePiece::New,
+        branch(cmp.inverse(), 0),
+        CodePiece::Trap { code },
+        bind(0),
+    ]
 }
 
 /// A constant among the code, and before it the code that loads it and jumps over it.

@@ -191,7 +191,7 @@ fn put_control(
     inst: &Inst,
 ) -> Result<(), OutOfMemory>
     requires fine { IsFine (registered_of sink.old) inst.now }
-    requires few { allocated_of sink.old < inner_count }
+    requires few { allocated_of sink.old < 2 ^ 29 }
     requires room { length (bytes_of sink.old) + sequence_limit < code_limit }
     requires sound { IsSoundBuffer sink.old }
     ensures parts { family_of inst.now ≡ Control → (frame : FrameLayout) (constants : List Constant) → island_space (context_by flags frame constants) inst.now ≡ None → OnOk result (Emits (context_by flags frame constants) inst.now sink.old sink.new) }

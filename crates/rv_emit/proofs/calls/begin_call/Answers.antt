@@ -7,8 +7,7 @@ use Rattle.rv_emit.specs.Emission.{PutsAlone}
 use Rattle.rv_code.specs.InstParts.{call_to, return_notes, stack_step_slots, patch_notes}
 use Rattle.rv_code.proofs.ShortSlots.{real_number}
 use Rattle.rv_emit.proofs.SlotsOfSeveralPuts.{alone_long, alone_sound}
-use Rattle.rv_code.proofs.TailSlots.{step_most}
-use Rattle.rv_emit.proofs.TailCallCode.{real_int, step_long, returned_long, patch_long, call_begun}
+use Rattle.rv_emit.proofs.TailCallCode.{real_int, step_long, returned_long, call_begun}
 use Rattle.rv_emit.proofs.calls.begin_call.Goals as goal
 
 pub put_call_to-requires-clause-link : goal.put_call_to-requires-clause-link

@@ -11,8 +11,7 @@ use Rattle.rv_code.specs.Slots.{Op}
 use Rattle.rv_code.proofs.ShortSlots.{real_number}
 use Rattle.rv_code.proofs.ShortOps.{jalr_sized}
 use Rattle.rv_emit.proofs.SlotsOfSeveralPuts.{alone_long, alone_sound}
-use Rattle.rv_code.proofs.TailSlots.{step_most}
-use Rattle.rv_emit.proofs.TailCallCode.{real_int, step_long, returned_long, call_ind_begun}
+use Rattle.rv_emit.proofs.TailCallCode.{real_int, returned_long, call_ind_begun}
 use Rattle.rv_emit.proofs.calls.begin_call_ind.Goals as goal
 
 pub put_jalr-requires-clause-rd : goal.put_jalr-requires-clause-rd

@@ -1,10 +1,9 @@
-use Rattle.std.proofs.Common.{length, sym, ap, subst, arith}
+use Rattle.std.proofs.Common.{ap, arith}
 use Rattle.std.proofs.lemmas.Result.{on_ok_weaker}
 use Rattle.std.specs.Prelude.{count_by}
 use Rattle.rv_inst.specs.Returns.{result_loads}
 use Rattle.rv_inst.specs.Rules.{is_stacked}
 use Rattle.rv_code.specs.InstParts.{call_slots}
-use Rattle.rv_code.specs.Usable.{AreFineResults}
 use Rattle.rv_emit.proofs.CallsPut.{call_begins, loading_put}
 use Rattle.rv_emit.proofs.calls.put_loading_call.Goals as goal
 

@@ -1,5 +1,4 @@
-use Rattle.std.proofs.Common.{◌+◌, drop, arith}
-use Rattle.mach_buffer.specs.Buffer.{shape_of}
+use Rattle.std.proofs.Common.{arith}
 use Rattle.rv_emit.proofs.CodePut.{puts_next, next_few, all_put}
 use Rattle.rv_emit.proofs.code.put_code.Goals as goal
 

@@ -1,4 +1,4 @@
-use Rattle.std.proofs.Common.{ℕ, ◌≤◌, length, drop}
+use Rattle.std.proofs.Common.{◌≤◌, drop}
 use Rattle.mach_buffer.specs.Buffer.{shape_of}
 use Rattle.rv_emit.specs.Emitted.{IsSoundBuffer}
 use Rattle.rv_emit.proofs.CodePut.{Putting}
