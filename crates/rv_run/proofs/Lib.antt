@@ -2,3 +2,5 @@ pub mod Going
 pub mod Grows
 pub mod Writing
 pub mod Placing
+mod SameWords
+pub mod Settled

@@ -4,3 +4,4 @@ pub mod Output
 pub mod Running
 pub mod Starting
 pub mod Tracing
+pub mod Settled

@@ -14,7 +14,7 @@ use Rattle.rv_fill.specs.Refusal.{refusal}
 use Rattle.rv_listing.specs.Relocations.{target_text}
 use Rattle.rv_machine.specs.State.{byte}
 use Rattle.rv_machine.specs.Steps.{Machine}
-use Rattle.rv_stream.specs.Ends.{Rose, TookFront}
+use Rattle.rv_stream.specs.Ends.{Rose, TookFront, Gave}
 use Rattle.rv_load.specs.declared.given.Given.{Given}
 use Rattle.rv_load.specs.declared.program.Program.{Program}
 use Rattle.rv_load.specs.declared.program.ProgramError.{ProgramError}
@@ -262,6 +262,7 @@ Words = List (List ℕ)
 pub record Call : Type 0 where
   pub words : Words
   pub left : Option (List ℕ)
+  pub left_after : Option (List ℕ)
   pub read_faults : ℕ
   pub read_faults_after : ℕ
   pub taken : Option (List ℕ)
@@ -269,8 +270,8 @@ pub record Call : Type 0 where
   pub write_faults : ℕ
   pub write_faults_after : ℕ
 
-abbrev pub call : Words → Option (List ℕ) → ℕ → ℕ → Option (List ℕ) → Option (List ℕ) → ℕ → ℕ → Call
-call words left r r_after taken taken_after w w_after = record { words = words; left = left; read_faults = r; read_faults_after = r_after; taken = taken; taken_after = taken_after; write_faults = w; write_faults_after = w_after }
+abbrev pub call : Words → Option (List ℕ) → Option (List ℕ) → ℕ → ℕ → Option (List ℕ) → Option (List ℕ) → ℕ → ℕ → Call
+call words left left_after r r_after taken taken_after w w_after = record { words = words; left = left; left_after = left_after; read_faults = r; read_faults_after = r_after; taken = taken; taken_after = taken_after; write_faults = w; write_faults_after = w_after }
 
 abbrev pub limit : ℕ
 limit = 16777216
@@ -281,8 +282,11 @@ pub record Asked (words : Words) (g : Given) (s : Settings) : Type 0 where
   pub set : settings_of g ≡ Ok s
 
 -- the words ask for a run
+abbrev pub AskRun : Words → Type 0
+AskRun words = (g : Given) × (s : Settings) × Asked words g s
+
 abbrev pub Asks : Call → Type 0
-Asks c = (g : Given) × (s : Settings) × Asked c.words g s
+Asks c = AskRun c.words
 
 -- all that was left was read, and it has this outcome
 abbrev pub Read : Call → Outcome → Type 0
@@ -292,12 +296,13 @@ Read c outcome = (g : Given) × (s : Settings) × Asked c.words g s × (input : 
 abbrev pub IsBadWord : Call → BadWord → List ℕ → Type 0
 IsBadWord c cause word = (g : Given) × Parses c.words (Ok g) × (settings_of g ≡ Err cause) × (word ≡ word_text g cause)
 
--- why a call has a text to write, and the outcome once it is written
+-- why a call has a text to write, and the outcome once it is written; too long is what gave more bytes than may be read, whatever
+-- would have come after them
 abbrev pub Due : Call → Outcome → Type 0
 Due c (ends.Help text) = Parses c.words (Err (words_errors.Help text))
 Due c (ends.Version text) = Parses c.words (Err (words_errors.Version text))
 Due c (ends.Usage text) = Parses c.words (Err (words_errors.Wrong text))
-Due c ends.TooLong = Asks c × IfSome c.left (λ left. limit < length left)
+Due c ends.TooLong = Asks c × Gave (λ n. limit < n) c.left c.left_after
 Due c (ends.BadWord cause word) = IsBadWord c cause word ⊎ Read c (ends.BadWord cause word)
 Due c outcome = Read c outcome
 
@@ -309,9 +314,9 @@ Wrote c outcome = Due c outcome × Appends c.taken c.taken_after (text_of outcom
 abbrev pub WroteFront : Call → Type 0
 WroteFront c = (outcome : Outcome) × Due c outcome × TookFront c.taken c.taken_after (text_of outcome)
 
--- why a call ended so, and what it left written
+-- why a call ended so, and what it left written; a fault of the source came before more bytes than may be read
 abbrev pub Ended : Call → Outcome → Type 0
-Ended c ends.ReadFault = Asks c × Rose c.read_faults c.read_faults_after × Keeps c.taken c.taken_after
+Ended c ends.ReadFault = Asks c × Rose c.read_faults c.read_faults_after × Gave (λ n. n ≤ limit) c.left c.left_after × Keeps c.taken c.taken_after
 Ended c ends.WriteFault = Rose c.write_faults c.write_faults_after × WroteFront c
 Ended c ends.OutOfMemory = Keeps c.taken c.taken_after ⊎ WroteFront c
 Ended c outcome = Wrote c outcome

@@ -6,9 +6,10 @@ ghost use Rattle.rv_machine.specs.Steps.{Machine};
 ghost use Rattle.rv_run.specs.Memory.{memory_lines};
 ghost use Rattle.rv_run.specs.Output.{file};
 ghost use Rattle.rv_run.specs.Running.{RunsTo};
+ghost use Rattle.rv_run.specs.Settled.{IsSettled};
 ghost use Rattle.rv_run.specs.Starting.{begin};
 ghost use Rattle.rv_run.specs.Tracing.{trace_where};
-ghost use Rattle.rv_run.specs.Outcomes.{Loads, IsRun, given_text, listed_text, word_text, addresses_of, unplaced, IsLinked, IsOrOutOfMemory, reloc_of, OfLinked, OfProgram, Means, Words, call, Asked, Ended, WritesText};
+ghost use Rattle.rv_run.specs.Outcomes.{Loads, IsRun, given_text, listed_text, word_text, addresses_of, unplaced, IsLinked, IsOrOutOfMemory, reloc_of, OfLinked, OfProgram, Means, Words, call, Asked, AskRun, Ended, WritesText};
 
 use crate::ending::{Ending, Place};
 use crate::memory::memory_lines;
@@ -302,7 +303,7 @@ fn run_given<S: Source, K: Sink, P: Progress>(
     sink: &mut K,
     progress: &mut P,
 ) -> Outcome
-    ensures { (words : Words) → Asked words given.now settings.now → Ended (call words (S.left source.old) (S.faults source.old) (S.faults source.new) (K.taken sink.old) (K.taken sink.new) (K.faults sink.old) (K.faults sink.new)) result }
+    ensures { (words : Words) → Asked words given.now settings.now → Ended (call words (S.left source.old) (S.left source.new) (S.faults source.old) (S.faults source.new) (K.taken sink.old) (K.taken sink.new) (K.faults sink.old) (K.faults sink.new)) result }
 {
     let input = match read_all(alloc, source) {
         Ok(input) => input,
@@ -316,17 +317,16 @@ fn run_given<S: Source, K: Sink, P: Progress>(
     }
 }
 
-/// Runs the code that the input gives, as the words ask for, and writes how the run ended, how many steps it had, and the
-/// registers and the memory that it changed; or what else the words ask for, or one line that says why there is no run. The words are
-/// those after the program's name. Of a long run it ticks the progress now and then.
-pub fn run<S: Source, K: Sink, P: Progress>(
+// Does what the words ask for.
+fn run_words<S: Source, K: Sink, P: Progress>(
     alloc: Global,
     words: &[String],
     source: &mut S,
     sink: &mut K,
     progress: &mut P,
 ) -> Outcome
-    ensures { Ended (call (map string_bytes words.now) (S.left source.old) (S.faults source.old) (S.faults source.new) (K.taken sink.old) (K.taken sink.new) (K.faults sink.old) (K.faults sink.new)) result }
+    ensures unread { ¬ AskRun (map string_bytes words.now) → source.new ≡ source.old }
+    ensures ended { Ended (call (map string_bytes words.now) (S.left source.old) (S.left source.new) (S.faults source.old) (S.faults source.new) (K.taken sink.old) (K.taken sink.new) (K.faults sink.old) (K.faults sink.new)) result }
 {
     let given = match read_words(alloc, words) {
         Ok(given) => given,
@@ -348,4 +348,21 @@ pub fn run<S: Source, K: Sink, P: Progress>(
         Ok(word) => write_text(alloc, sink, Outcome::BadWord { cause, word }),
         Err(OutOfMemory) => Outcome::OutOfMemory,
     }
+}
+
+/// Runs the code that the input gives, as the words ask for, and writes how the run ended, how many steps it had, and the
+/// registers and the memory that it changed; or what else the words ask for, or one line that says why there is no run. The words are
+/// those after the program's name. Of a long run it ticks the progress now and then.
+pub fn run<S: Source, K: Sink, P: Progress>(
+    alloc: Global,
+    words: &[String],
+    source: &mut S,
+    sink: &mut K,
+    progress: &mut P,
+) -> Outcome
+    ensures unread { ¬ AskRun (map string_bytes words.now) → source.new ≡ source.old }
+    ensures ended { Ended (call (map string_bytes words.now) (S.left source.old) (S.left source.new) (S.faults source.old) (S.faults source.new) (K.taken sink.old) (K.taken sink.new) (K.faults sink.old) (K.faults sink.new)) result }
+    ensures settled { IsSettled (call (map string_bytes words.now) (S.left source.old) (S.left source.new) (S.faults source.old) (S.faults source.new) (K.taken sink.old) (K.taken sink.new) (K.faults sink.old) (K.faults sink.new)) result }
+{
+    run_words(alloc, words, source, sink, progress)
 }

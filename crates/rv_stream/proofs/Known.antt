@@ -1,10 +1,10 @@
 -- Known bytes that are read and written, and counts of faults.
-use Rattle.std.proofs.Common.{◌≡◌, ℕ, ◌-◌, ◌<◌, ◌≤◌, inl, inr, List, [], ◌++◌, length, take, drop, Option, Some, None, refl, sym, ap, ◌∙◌, subst, append_assoc, append-nil, take-append-drop, length-append, arith}
+use Rattle.std.proofs.Common.{◌≡◌, ℕ, ◌-◌, ◌≤◌, List, [], ◌++◌, length, take, drop, Option, refl, sym, ap, ◌∙◌, subst, append_assoc, append-nil, take-append-drop, length-append, arith}
 use Rattle.std.specs.Prelude.{IfSome}
 use Rattle.std.proofs.lemmas.List.{take_rest, take_at}
 use Rattle.std.specs.Io.KnownBytes.{Appends, Consumes, Keeps, IsAtEnd}
 use Rattle.std.proofs.KnownBytes.{Appends-kept, Consumes-trans, Consumes-whole}
-use Rattle.rv_stream.specs.Ends.{Rose, TookFront}
+use Rattle.rv_stream.specs.Ends.{TookFront}
 
 pub moves_front : (all done rest : List ℕ) (n : ℕ) → all ≡ done ++ rest → all ≡ (done ++ take n rest) ++ take (length rest - n) (drop n rest)
 moves_front all done rest n e =
@@ -18,8 +18,3 @@ took_front a b c all done rest e appended kept =
 
 pub read_whole : (a b c : Option (List ℕ)) (text buf : List ℕ) → Consumes a b text → Consumes b c (take 0 buf) → IsAtEnd c → IfSome a (λ xs. text ≡ xs)
 read_whole a b c text buf before now ended = Consumes-whole a c (text ++ []) (λ xs. text ≡ xs) (Consumes-trans a b c text [] before now) ended (sym (append-nil text))
-
-pub gave_more : (a b : Option (List ℕ)) (text : List ℕ) (n : ℕ) → Consumes a b text → n < length text → IfSome a (λ xs. n < length xs)
-gave_more None b text n took more = tt
-gave_more (Some xs) None text n took more = absurd took
-gave_more (Some xs) (Some ys) text n took more = omega (arith, ap length took, length-append text ys)

@@ -2,7 +2,7 @@
 
 ghost use Rattle.std.specs.Prelude.{◌≡◌, ℕ, ◌<◌, ◌≤◌, List, [], length, IfOk, IfSome, OnOk, IsErrOf};
 ghost use Rattle.std.specs.Io.KnownBytes.{Appends};
-ghost use Rattle.rv_stream.specs.Ends.{Rose, TookFront};
+ghost use Rattle.rv_stream.specs.Ends.{Rose, TookFront, Gave};
 
 use crate::ends::{Sink, Source, WriteError};
 use std::alloc::{AllocError, Global};
@@ -43,8 +43,9 @@ fn read_on<S: Source>(
     requires fresh { text.old.items ≡ [] }
     ensures all { OnOk result (IfSome (S.left source.old) (λ xs. text.new.items ≡ xs)) }
     ensures short { OnOk result (length text.new.items ≤ 16777216) }
-    ensures long { IsErrOf result ReadAllError.TooLong → IfSome (S.left source.old) (λ xs. 16777216 < length xs) }
+    ensures long { IsErrOf result ReadAllError.TooLong → Gave (λ n. 16777216 < n) (S.left source.old) (S.left source.new) }
     ensures failed { IsErrOf result ReadAllError.Failed → Rose (S.faults source.old) (S.faults source.new) }
+    ensures early { IsErrOf result ReadAllError.Failed → Gave (λ n. n ≤ 16777216) (S.left source.old) (S.left source.new) }
 {
     'reading: while text.len() <= LIMIT {
         match source.read(chunk) {
@@ -62,12 +63,13 @@ fn read_on<S: Source>(
     Err(ReadAllError::TooLong)
 }
 
-/// All that the source has, up to 16777216 bytes.
+/// All that the source has, up to 16777216 bytes. It is too long once it gave more of them, whatever comes after; a failure comes before.
 pub fn read_all<S: Source>(alloc: Global, source: &mut S) -> Result<Vec<u8>, ReadAllError>
     ensures all { IfOk result (λ text. IfSome (S.left source.old) (λ xs. text.items ≡ xs)) }
     ensures short { IfOk result (λ text. length text.items ≤ 16777216) }
-    ensures long { IsErrOf result ReadAllError.TooLong → IfSome (S.left source.old) (λ xs. 16777216 < length xs) }
+    ensures long { IsErrOf result ReadAllError.TooLong → Gave (λ n. 16777216 < n) (S.left source.old) (S.left source.new) }
     ensures failed { IsErrOf result ReadAllError.Failed → Rose (S.faults source.old) (S.faults source.new) }
+    ensures early { IsErrOf result ReadAllError.Failed → Gave (λ n. n ≤ 16777216) (S.left source.old) (S.left source.new) }
 {
     let mut text = Vec::new(alloc);
     match new_chunk(alloc) {

@@ -11,7 +11,7 @@ returns-in-Err-TooLong g c words asked =
 pub returns-in-Ok-outcome_of_input : goal.returns-in-Ok-outcome_of_input
 returns-in-Ok-outcome_of_input g c words asked =
     let MeansOf : List ℕ → Type 0 = λ input. Means c.args.given.now c.args.settings.now input c.in-Ok-outcome_of_input.outcome in
-    let the_call : Call = call words (g.S.Source.left c.args.source.now) (g.S.Source.faults c.args.source.now) (g.S.Source.faults c.read_all.new.source)
+    let the_call : Call = call words (g.S.Source.left c.args.source.now) (g.S.Source.left c.read_all.new.source) (g.S.Source.faults c.args.source.now) (g.S.Source.faults c.read_all.new.source)
     (g.K.Sink.taken c.args.sink.now) (g.K.Sink.taken c.write_text-in-Ok-outcome_of_input.new.sink) (g.K.Sink.faults c.args.sink.now) (g.K.Sink.faults c.write_text-in-Ok-outcome_of_input.new.sink) in
     ended_written the_call c.in-Ok-outcome_of_input.outcome _
     (due_read the_call c.in-Ok-outcome_of_input.outcome (c.args.given.now, c.args.settings.now, asked, c.in-Ok.input.items, c.in-Ok.ensures.all, c.in-Ok.ensures.short, subst MeansOf c.deref.ensures.value c.in-Ok-outcome_of_input.ensures))

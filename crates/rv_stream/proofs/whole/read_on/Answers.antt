@@ -1,6 +1,6 @@
 use Rattle.std.proofs.Common.{arith, refl}
-use Rattle.std.proofs.KnownBytes.{Consumes-nil, Consumes-trans}
-use Rattle.rv_stream.proofs.Known.{read_whole, gave_more}
+use Rattle.std.proofs.KnownBytes.{Consumes-kept, Consumes-nil, Consumes-trans}
+use Rattle.rv_stream.proofs.Known.{read_whole}
 use Rattle.rv_stream.proofs.whole.read_on.Goals as goal
 
 pub reading-init : goal.reading-init
@@ -15,4 +15,7 @@ pub reading-preserved : goal.reading-preserved
 reading-preserved g c = (rw c.in-Ok-kept.ensures.items (Consumes-trans _ _ _ _ _ c.reading.invariant.0 c.in-Ok.ensures.bytes.0), omega (arith, c.in-Ok.ensures.count.later))
 
 pub returns-clause-long : goal.returns-clause-long
-returns-clause-long g c = λ _. gave_more _ _ c.reading.text.items 16777216 c.reading.invariant.0 (omega arith)
+returns-clause-long g c = λ _. (c.reading.text.items, c.reading.invariant.0, omega arith)
+
+pub returns-in-Err-clause-early : goal.returns-in-Err-clause-early
+returns-in-Err-clause-early g c = λ _. (c.reading.text.items, Consumes-kept _ _ _ c.reading.text.items c.reading.invariant.0 c.in-Err.ensures.bytes, omega arith)
