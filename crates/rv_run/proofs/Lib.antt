@@ -1,3 +1,4 @@
+mod Beginning
 pub mod Going
 pub mod Grows
 pub mod Writing

@@ -6,10 +6,11 @@ use Rattle.rv_load.specs.declared.settings.Settings.{Settings}
 use Rattle.rv_run.specs.declared.outcome.Outcome.{Outcome}
 use Rattle.rv_run.specs.declared.outcome.Outcome.TheVariants as ends
 use Rattle.rv_run.specs.Outcomes.{Loads, IsLinked, OfLinked, OfProgram, Means}
+use Rattle.rv_run.proofs.Beginning.{unfit_linked}
 
 pub of_linked : (g : Given) (s : Settings) (p q : Program) (outcome : Outcome) → IsLinked s p q → OfLinked g s q outcome → OfProgram g s p outcome
 of_linked g s p q (ends.Ran run) linked h = (q, linked, h)
-of_linked g s p q (ends.BadWord cause word) linked h = (inr (q, linked, h.0), h.1)
+of_linked g s p q (ends.BadWord cause word) linked h = (inr (linked.placed, unfit_linked s p q cause linked h.0), h.1)
 of_linked g s p q (ends.Unplaced error reloc) linked h = absurd h
 of_linked g s p q (ends.NotReport line) linked h = absurd h
 of_linked g s p q ends.NotHex linked h = absurd h

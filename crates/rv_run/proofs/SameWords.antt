@@ -3,18 +3,21 @@ use Rattle.std.proofs.Common.{◌≡◌, ℕ, ◌+◌, List, [], ◌∷◌, ◌+
 use Rattle.std.specs.Prelude.{map, option_map, unwrap_or, slice_get}
 use Rattle.std.specs.Borrow.{Bor}
 use Rattle.std.proofs.lemmas.Option.{same_Some, slice_get-map}
+use Rattle.rv_base.specs.declared.external_name.ExternalName.{ExternalName}
 use Rattle.rv_listing.specs.FlagsHeader.{flags_form}
 use Rattle.rv_listing.specs.Tokens.{◌>>=◌, natural, parts_of}
 use Rattle.rv_load.specs.declared.given.Given.{Given}
 use Rattle.rv_load.specs.declared.settings.BadWord.{BadWord}
 use Rattle.rv_load.specs.declared.settings.BadWord.TheVariants as bad
 use Rattle.rv_load.specs.declared.settings.Data.{Data as Bytes}
+use Rattle.rv_load.specs.declared.settings.Named.{Named}
+use Rattle.rv_load.specs.declared.settings.Named.TheVariants.{Symbol, Slot}
 use Rattle.rv_load.specs.declared.settings.RegisterValue.{RegisterValue}
 use Rattle.rv_load.specs.declared.settings.Settings.{Settings}
 use Rattle.rv_load.specs.declared.settings.Start.TheVariants as start
 use Rattle.rv_load.specs.Command.{Parses}
-use Rattle.rv_load.specs.Words.{or_bad, ◌then◌, number_or, aligned, start_of, flags_of, put_register, registers_from, data_bytes, data_from, settings_of}
-use Rattle.rv_run.specs.Outcomes.{Asked, given_text, listed_text, word_text}
+use Rattle.rv_load.specs.Words.{or_bad, ◌then◌, number_or, aligned, start_of, flags_of, put_register, registers_from, data_bytes, data_from, put_address, addresses_from, settings_of}
+use Rattle.rv_run.specs.Outcomes.{Asked, given_text, listed_text, addresses_of, word_text}
 
 abbrev text : Option (Bor (List ℕ)) → Option (List ℕ)
 text given = option_map (λ s. s.now) given
@@ -33,6 +36,8 @@ pub record Alike (g h : Given) : Type 0 where
   steps : text g.steps ≡ text h.steps
   memory : texts g.memory ≡ texts h.memory
   registers : texts g.registers ≡ texts h.registers
+  symbols : texts g.symbols ≡ texts h.symbols
+  slots : texts g.slots ≡ texts h.slots
 
 pub alike : (words : List (List ℕ)) (g h : Given) → Parses words (Ok g) → Parses words (Ok h) → Alike g h
 alike words g h p q = record {
@@ -45,6 +50,8 @@ alike words g h p q = record {
   steps = p.1.steps ∙ sym q.1.steps;
   memory = p.1.memory ∙ sym q.1.memory;
   registers = p.1.registers ∙ sym q.1.registers;
+  symbols = p.1.symbols ∙ sym q.1.symbols;
+  slots = p.1.slots ∙ sym q.1.slots;
 }
 
 -- ---- settings
@@ -91,11 +98,21 @@ registers_alike i old (x ∷ xs) (y ∷ ys) e =
     let rest : texts xs ≡ texts ys = cc in
     λ j. put_register i old (first j) then λ new. registers_alike (i + 1) new xs ys rest j
 
+addresses_alike : (named : Named) (i : ℕ) (old : List (ExternalName × ℕ)) (xs ys : List (Bor (List ℕ))) → texts xs ≡ texts ys → addresses_from named i old xs ≡ addresses_from named i old ys
+addresses_alike named i old [] [] e = refl
+addresses_alike named i old [] (y ∷ ys) e = absurd (cc)
+addresses_alike named i old (x ∷ xs) [] e = absurd (cc)
+addresses_alike named i old (x ∷ xs) (y ∷ ys) e =
+    let first : x.now ≡ y.now = cc in
+    let rest : texts xs ≡ texts ys = cc in
+    λ j. put_address named i old (first j) then λ new. addresses_alike named (i + 1) new xs ys rest j
+
 pub settings_alike : (g h : Given) → Alike g h → settings_of g ≡ settings_of h
 settings_alike g h a j =
     (number_alike 0x10000 bad.Base g.base h.base a.base j then aligned) then λ base. flags_alike g.flags h.flags a.flags j then λ flags. start_alike g.from h.from g.at h.at a.from a.at j then λ start. number_alike 10000000 bad.Steps g.steps h.steps a.steps j then λ steps.
     data_alike 0 [] g.memory h.memory a.memory j then λ bytes. registers_alike 0 [] g.registers h.registers a.registers j then λ registers.
-    Ok (record { base = base; flags = flags; start = start; steps = steps; trace = a.trace j; registers = registers; memory = bytes })
+    addresses_alike Symbol 0 [] g.symbols h.symbols a.symbols j then λ symbols. addresses_alike Slot 0 [] g.slots h.slots a.slots j then λ slots.
+    Ok (record { base = base; flags = flags; start = start; steps = steps; trace = a.trace j; registers = registers; memory = bytes; symbols = symbols; slots = slots })
 
 -- a result is one
 pub not_both : {X Y : Type 0} (r : Result X Y) (x : X) (y : Y) → r ≡ Ok x → r ≡ Err y → ⊥
@@ -121,6 +138,10 @@ entry_alike i xs ys e = sym (slice_get-map (λ s. s.now) xs i) ∙ ap (λ ts. sl
 listed_alike : (i : ℕ) (xs ys : List (Bor (List ℕ))) → texts xs ≡ texts ys → listed_text xs i ≡ listed_text ys i
 listed_alike i xs ys e = given_alike (slice_get xs i) (slice_get ys i) (entry_alike i xs ys e)
 
+addresses_texts : (g h : Given) → Alike g h → (named : Named) → texts (addresses_of g named) ≡ texts (addresses_of h named)
+addresses_texts g h a Symbol = a.symbols
+addresses_texts g h a Slot = a.slots
+
 pub word_alike : (g h : Given) → Alike g h → (cause : BadWord) → word_text g cause ≡ word_text h cause
 word_alike g h a bad.Base = given_alike g.base h.base a.base
 word_alike g h a bad.Flags = given_alike g.flags h.flags a.flags
@@ -130,3 +151,5 @@ word_alike g h a bad.Steps = given_alike g.steps h.steps a.steps
 word_alike g h a (bad.Data index) = listed_alike index g.memory h.memory a.memory
 word_alike g h a (bad.Register index) = listed_alike index g.registers h.registers a.registers
 word_alike g h a (bad.Twice index) = listed_alike index g.registers h.registers a.registers
+word_alike g h a (bad.Address named index) = listed_alike index (addresses_of g named) (addresses_of h named) (addresses_texts g h a named)
+word_alike g h a (bad.AddressTwice named index) = listed_alike index (addresses_of g named) (addresses_of h named) (addresses_texts g h a named)

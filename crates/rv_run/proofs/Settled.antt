@@ -1,9 +1,12 @@
 -- Without a fault the words and the input settle how a call ends.
 use Rattle.std.proofs.Common.{◌≡◌, ◌⊎◌, inl, inr, ⊎_elim, ℕ, ◌<◌, ◌≤◌, Bool, true, false, List, length, Option, Some, None, Ok, Err, refl, sym, ap, ◌∙◌, subst, length-append, arith}
 use Rattle.std.specs.Prelude.{IfSome}
+use Rattle.std.proofs.lemmas.Option.{same_Some}
 use Rattle.std.specs.Io.KnownBytes.{Consumes}
 use Rattle.rv_stream.specs.Ends.{Rose}
 use Rattle.rv_machine.specs.Steps.{Machine}
+use Rattle.rv_fill.specs.declared.error.PlaceError.{PlaceError}
+use Rattle.rv_fill.specs.declared.error.PlaceError.TheVariants as place
 use Rattle.rv_load.specs.declared.given.Given.{Given}
 use Rattle.rv_load.specs.declared.program.Program.{Program}
 use Rattle.rv_load.specs.declared.program.ProgramError.TheVariants as program_errors
@@ -11,12 +14,12 @@ use Rattle.rv_load.specs.declared.settings.BadWord.{BadWord}
 use Rattle.rv_load.specs.declared.settings.Settings.{Settings}
 use Rattle.rv_load.specs.Command.{Parses}
 use Rattle.rv_load.specs.Words.{settings_of}
-use Rattle.rv_run.specs.Outcomes.{Call, Loads, IsRun, Means, Asked, Read, IsBadWord, Ended, limit, word_text}
+use Rattle.rv_run.specs.Outcomes.{Call, Loads, OfProgram, Means, Asked, Read, IsBadWord, Ended, limit, word_text, unplaced, IsLinked, IsRun, IsUnfit, IsRefused, reloc_of}
 use Rattle.rv_run.specs.Settled.{IsOrOutOfMemory, IsOfWords, IsRan, NoFault, IsSettled}
 use Rattle.rv_run.specs.Starting.{begin}
-use Rattle.rv_run.specs.declared.result.Run.{Run}
 use Rattle.rv_run.specs.declared.outcome.Outcome.{Outcome}
 use Rattle.rv_run.specs.declared.outcome.Outcome.TheVariants as ends
+use Rattle.rv_run.proofs.Beginning.{unfit_unlinked}
 use Rattle.rv_run.proofs.SameWords.{Alike, alike, not_both, one_Err, settings_alike, same_settings, word_alike}
 
 -- ---- what was left
@@ -35,10 +38,14 @@ gave_more (Some xs) (Some ys) bytes n took more = omega (arith, ap length took, 
 
 -- ---- by the words and the input
 
+loads_alike : (g h : Given) (input : List ℕ) (p : Program) → Alike g h → Loads g.hex input (Ok p) → Loads h.hex input (Ok p)
+loads_alike g h input p a loads = subst (λ (hex : Bool). Loads hex input (Ok p)) a.hex loads
+
 -- another reading of the same words means the same
 means_alike : (g h : Given) (s t : Settings) (input : List ℕ) (outcome : Outcome) → Alike h g → t ≡ s → Means h t input outcome → Means g s input outcome
-means_alike g h s t input (ends.Ran run) a same (p, loads, ran) = (p, subst (λ (hex : Bool). Loads hex input (Ok p)) a.hex loads, subst (λ (x : Settings). IsRun x p run) same ran)
-means_alike g h s t input (ends.BadWord cause word) a same (p, loads, begins, is) = (p, subst (λ (hex : Bool). Loads hex input (Ok p)) a.hex loads, ap (λ (x : Settings). begin x p) (sym same) ∙ begins, is ∙ word_alike h g a cause)
+means_alike g h s t input (ends.Ran run) a same (p, loads, made) = (p, loads_alike h g input p a loads, subst (λ (x : Settings). OfProgram g x p (ends.Ran run)) same made)
+means_alike g h s t input (ends.BadWord cause word) a same (p, loads, (unfit, is)) = (p, loads_alike h g input p a loads, (subst (λ (x : Settings). IsUnfit x p cause) same unfit, is ∙ word_alike h g a cause))
+means_alike g h s t input (ends.Unplaced error reloc) a same (p, loads, (refused, is)) = (p, loads_alike h g input p a loads, (subst (λ (x : Settings). IsRefused x p error) same refused, is))
 means_alike g h s t input (ends.NotReport line) a same loads = subst (λ (hex : Bool). Loads hex input (Err (program_errors.NotReport line))) a.hex loads
 means_alike g h s t input ends.NotHex a same loads = subst (λ (hex : Bool). Loads hex input (Err program_errors.NotHex)) a.hex loads
 means_alike g h s t input (ends.Help text) a same m = absurd m
@@ -70,6 +77,7 @@ module _ (c : Call) (g : Given) (s : Settings) (asked : Asked c.words g s) (fine
   settles (ends.Usage text) ended = absurd (rw asked.parsed.0 at ended.0.2)
   settles (ends.BadWord cause word) ended = ⊎_elim (λ bad. absurd (by_word cause word bad)) (λ read. by_read (ends.BadWord cause word) read) ended.0
   settles (ends.NotReport line) ended = by_read (ends.NotReport line) ended.0
+  settles (ends.Unplaced error reloc) ended = by_read (ends.Unplaced error reloc) ended.0
   settles ends.NotHex ended = by_read ends.NotHex ended.0
   settles ends.TooLong ended = inr (inl (refl, at_left c.left (λ left. limit < length left) input (gave_more c.left c.left_after ended.0.1.0 limit ended.0.1.1 ended.0.1.2) is))
   settles ends.ReadFault ended = absurd (fine.0 ended.1)
@@ -99,13 +107,44 @@ line_or_digits : (hex : Bool) (input : List ℕ) (line : ℕ) → Loads hex inpu
 line_or_digits true input line a b = a
 line_or_digits false input line a b = b
 
-begins_run : (s : Settings) (p q : Program) (run : Run) (cause : BadWord) → q ≡ p → IsRun s q run → begin s p ≡ Err cause → ⊥
-begins_run s p q run cause same ran e =
-    not_both (begin s q) ran.first cause ran.begins (ap (λ (x : Program). begin s x) same ∙ e)
+-- a program is refused for one relocation, or doesn't fit by one word, or neither
+found_first : (s : Settings) (p : Program) (error : PlaceError) → IsRefused s p error → unplaced s p ≡ Some error
+found_first s p place.BadBase h = absurd h
+found_first s p (place.BadRecord index) h = h
+found_first s p (place.NoSymbol index) h = h
+found_first s p (place.OutOfReach index) h = h
+found_first s p place.OutOfMemory h = absurd h
 
-same_Err : (s : Settings) (p q : Program) (cause other : BadWord) → q ≡ p → begin s q ≡ Err other → begin s p ≡ Err cause → other ≡ cause
-same_Err s p q cause other same e f =
-    one_Err (begin s q) other cause e (ap (λ (x : Program). begin s x) same ∙ f)
+not_base : (s : Settings) (p : Program) (error : PlaceError) → IsRefused s p error → unplaced s p ≡ Some place.BadBase → ⊥
+not_base s p place.BadBase h e = h
+not_base s p (place.BadRecord index) h e = absurd (cc)
+not_base s p (place.NoSymbol index) h e = absurd (cc)
+not_base s p (place.OutOfReach index) h e = absurd (cc)
+not_base s p place.OutOfMemory h e = h
+
+never_both : (o : Option PlaceError) (error : PlaceError) → o ≡ Some error → o ≡ None → ⊥
+never_both o error e f = absurd (cc)
+
+one_found : (o : Option PlaceError) (error other : PlaceError) → o ≡ Some error → o ≡ Some other → error ≡ other
+one_found o error other e f = same_Some error other (sym e ∙ f)
+
+refused_or_unfit : (s : Settings) (p : Program) (error : PlaceError) (cause : BadWord) → IsRefused s p error → IsUnfit s p cause → ⊥
+refused_or_unfit s p error cause refused (inl (found, is)) = not_base s p error refused found
+refused_or_unfit s p error cause refused (inr (placed, begins)) = never_both (unplaced s p) error (found_first s p error refused) placed
+
+one_unfit : (s : Settings) (p : Program) (cause other : BadWord) → IsUnfit s p cause → IsUnfit s p other → cause ≡ other
+one_unfit s p cause other (inl (found, is)) (inl (again, same)) = is ∙ sym same
+one_unfit s p cause other (inl (found, is)) (inr (placed, begins)) = absurd (never_both (unplaced s p) place.BadBase found placed)
+one_unfit s p cause other (inr (placed, begins)) (inl (found, is)) = absurd (never_both (unplaced s p) place.BadBase found placed)
+one_unfit s p cause other (inr (placed, begins)) (inr (again, same)) = one_Err (begin s p) cause other begins same
+
+begins_run : (s : Settings) (p q : Program) (first : Machine) (cause : BadWord) → IsLinked s p q → begin s q ≡ Ok first → IsUnfit s p cause → ⊥
+begins_run s p q first cause linked begins (inl (found, is)) = never_both (unplaced s p) place.BadBase found linked.placed
+begins_run s p q first cause linked begins (inr (placed, e)) = not_both (begin s q) first cause begins (unfit_unlinked s p q cause linked e)
+
+begins_or_unfit : (s : Settings) (p : Program) (first : Machine) (cause : BadWord) → unplaced s p ≡ None → begin s p ≡ Ok first → IsUnfit s p cause → ⊥
+begins_or_unfit s p first cause placed e (inl (found, is)) = never_both (unplaced s p) place.BadBase found placed
+begins_or_unfit s p first cause placed e (inr (again, begins)) = not_both (begin s p) first cause e begins
 
 module _ (g : Given) (s : Settings) (input : List ℕ) where
   to_long : (returned : Outcome) → limit < length input → Settles g s input returned → IsOrOutOfMemory returned ends.TooLong
@@ -121,7 +160,8 @@ module _ (g : Given) (s : Settings) (input : List ℕ) where
 
   to_line : (returned : Outcome) (line : ℕ) → Loads g.hex input (Err (program_errors.NotReport line)) → Means g s input returned → returned ≡ ends.NotReport line
   to_line (ends.Ran run) line loads (p, own, ran) = absurd (no_line g.hex input p line own loads)
-  to_line (ends.BadWord cause word) line loads (p, own, begins, is) = absurd (no_line g.hex input p line own loads)
+  to_line (ends.BadWord cause word) line loads (p, own, (unfit, is)) = absurd (no_line g.hex input p line own loads)
+  to_line (ends.Unplaced error reloc) line loads (p, own, (refused, is)) = absurd (no_line g.hex input p line own loads)
   to_line (ends.NotReport other) line loads own = ap (λ (n : ℕ). ends.NotReport n) (one_line g.hex input other line own loads)
   to_line ends.NotHex line loads own = absurd (line_or_digits g.hex input line loads own)
   to_line (ends.Help text) line loads m = absurd m
@@ -134,7 +174,8 @@ module _ (g : Given) (s : Settings) (input : List ℕ) where
 
   to_digits : (returned : Outcome) → Loads g.hex input (Err program_errors.NotHex) → Means g s input returned → returned ≡ ends.NotHex
   to_digits (ends.Ran run) loads (p, own, ran) = absurd (no_digits g.hex input p own loads)
-  to_digits (ends.BadWord cause word) loads (p, own, begins, is) = absurd (no_digits g.hex input p own loads)
+  to_digits (ends.BadWord cause word) loads (p, own, (unfit, is)) = absurd (no_digits g.hex input p own loads)
+  to_digits (ends.Unplaced error reloc) loads (p, own, (refused, is)) = absurd (no_digits g.hex input p own loads)
   to_digits (ends.NotReport other) loads own = absurd (line_or_digits g.hex input other own loads)
   to_digits ends.NotHex loads own = refl
   to_digits (ends.Help text) loads m = absurd m
@@ -145,34 +186,62 @@ module _ (g : Given) (s : Settings) (input : List ℕ) where
   to_digits ends.WriteFault loads m = absurd m
   to_digits ends.OutOfMemory loads m = absurd m
 
-  to_word : (returned : Outcome) (p : Program) (cause : BadWord) → Loads g.hex input (Ok p) → begin s p ≡ Err cause → Means g s input returned → returned ≡ ends.BadWord cause (word_text g cause)
-  to_word (ends.Ran run) p cause loads e (q, own, ran) = absurd (begins_run s p q run cause (one_program g.hex input q p own loads) ran e)
-  to_word (ends.BadWord other word) p cause loads e (q, own, begins, is) =
-      let same = same_Err s p q cause other (one_program g.hex input q p own loads) begins e in
-      (λ j. ends.BadWord other (is j)) ∙ (λ j. ends.BadWord (same j) (word_text g (same j)))
-  to_word (ends.NotReport other) p cause loads e own = absurd (no_line g.hex input p other loads own)
-  to_word ends.NotHex p cause loads e own = absurd (no_digits g.hex input p loads own)
-  to_word (ends.Help text) p cause loads e m = absurd m
-  to_word (ends.Version text) p cause loads e m = absurd m
-  to_word (ends.Usage text) p cause loads e m = absurd m
-  to_word ends.TooLong p cause loads e m = absurd m
-  to_word ends.ReadFault p cause loads e m = absurd m
-  to_word ends.WriteFault p cause loads e m = absurd m
-  to_word ends.OutOfMemory p cause loads e m = absurd m
+  -- what is meant is of this program
+  is_own : (p q : Program) → Loads g.hex input (Ok p) → Loads g.hex input (Ok q) → q ≡ p
+  is_own p q loads own = one_program g.hex input q p own loads
 
-  to_run : (returned : Outcome) (p : Program) (first : Machine) → Loads g.hex input (Ok p) → begin s p ≡ Ok first → Means g s input returned → IsRan returned
-  to_run (ends.Ran run) p first loads e m = tt
-  to_run (ends.BadWord other word) p first loads e (q, own, begins, is) =
-      absurd (not_both (begin s q) first other (ap (λ (x : Program). begin s x) (one_program g.hex input q p own loads) ∙ e) begins)
-  to_run (ends.NotReport other) p first loads e own = absurd (no_line g.hex input p other loads own)
-  to_run ends.NotHex p first loads e own = absurd (no_digits g.hex input p loads own)
-  to_run (ends.Help text) p first loads e m = absurd m
-  to_run (ends.Version text) p first loads e m = absurd m
-  to_run (ends.Usage text) p first loads e m = absurd m
-  to_run ends.TooLong p first loads e m = absurd m
-  to_run ends.ReadFault p first loads e m = absurd m
-  to_run ends.WriteFault p first loads e m = absurd m
-  to_run ends.OutOfMemory p first loads e m = absurd m
+  to_refusal : (returned : Outcome) (p : Program) (error : PlaceError) → Loads g.hex input (Ok p) → IsRefused s p error → Means g s input returned → returned ≡ ends.Unplaced error (reloc_of error p.relocs)
+  to_refusal (ends.Ran run) p error loads refused (q, own, (r, linked, ran)) =
+      absurd (never_both (unplaced s p) error (found_first s p error refused) (ap (λ (x : Program). unplaced s x) (sym (is_own p q loads own)) ∙ linked.placed))
+  to_refusal (ends.BadWord other word) p error loads refused (q, own, (unfit, is)) =
+      absurd (refused_or_unfit s p error other refused (subst (λ (x : Program). IsUnfit s x other) (is_own p q loads own) unfit))
+  to_refusal (ends.Unplaced other reloc) p error loads refused (q, own, (others, is)) =
+      let mine = is_own p q loads own in
+      let same : other ≡ error = one_found (unplaced s p) other error (found_first s p other (subst (λ (x : Program). IsRefused s x other) mine others)) (found_first s p error refused) in
+      (λ j. ends.Unplaced other (is j)) ∙ (λ j. ends.Unplaced (same j) (reloc_of (same j) (mine j).relocs))
+  to_refusal (ends.NotReport other) p error loads refused own = absurd (no_line g.hex input p other loads own)
+  to_refusal ends.NotHex p error loads refused own = absurd (no_digits g.hex input p loads own)
+  to_refusal (ends.Help text) p error loads refused m = absurd m
+  to_refusal (ends.Version text) p error loads refused m = absurd m
+  to_refusal (ends.Usage text) p error loads refused m = absurd m
+  to_refusal ends.TooLong p error loads refused m = absurd m
+  to_refusal ends.ReadFault p error loads refused m = absurd m
+  to_refusal ends.WriteFault p error loads refused m = absurd m
+  to_refusal ends.OutOfMemory p error loads refused m = absurd m
+
+  to_word : (returned : Outcome) (p : Program) (cause : BadWord) → Loads g.hex input (Ok p) → IsUnfit s p cause → Means g s input returned → returned ≡ ends.BadWord cause (word_text g cause)
+  to_word (ends.Ran run) p cause loads unfit (q, own, (r, linked, ran)) =
+      absurd (begins_run s p r ran.first cause (subst (λ (x : Program). IsLinked s x r) (is_own p q loads own) linked) ran.begins unfit)
+  to_word (ends.BadWord other word) p cause loads unfit (q, own, (others, is)) =
+      let same = one_unfit s p other cause (subst (λ (x : Program). IsUnfit s x other) (is_own p q loads own) others) unfit in
+      (λ j. ends.BadWord other (is j)) ∙ (λ j. ends.BadWord (same j) (word_text g (same j)))
+  to_word (ends.Unplaced error reloc) p cause loads unfit (q, own, (refused, is)) =
+      absurd (refused_or_unfit s p error cause (subst (λ (x : Program). IsRefused s x error) (is_own p q loads own) refused) unfit)
+  to_word (ends.NotReport other) p cause loads unfit own = absurd (no_line g.hex input p other loads own)
+  to_word ends.NotHex p cause loads unfit own = absurd (no_digits g.hex input p loads own)
+  to_word (ends.Help text) p cause loads unfit m = absurd m
+  to_word (ends.Version text) p cause loads unfit m = absurd m
+  to_word (ends.Usage text) p cause loads unfit m = absurd m
+  to_word ends.TooLong p cause loads unfit m = absurd m
+  to_word ends.ReadFault p cause loads unfit m = absurd m
+  to_word ends.WriteFault p cause loads unfit m = absurd m
+  to_word ends.OutOfMemory p cause loads unfit m = absurd m
+
+  to_run : (returned : Outcome) (p : Program) (first : Machine) → Loads g.hex input (Ok p) → unplaced s p ≡ None → begin s p ≡ Ok first → Means g s input returned → IsRan returned
+  to_run (ends.Ran run) p first loads placed e m = tt
+  to_run (ends.BadWord other word) p first loads placed e (q, own, (unfit, is)) =
+      absurd (begins_or_unfit s p first other placed e (subst (λ (x : Program). IsUnfit s x other) (is_own p q loads own) unfit))
+  to_run (ends.Unplaced error reloc) p first loads placed e (q, own, (refused, is)) =
+      absurd (never_both (unplaced s p) error (found_first s p error (subst (λ (x : Program). IsRefused s x error) (is_own p q loads own) refused)) placed)
+  to_run (ends.NotReport other) p first loads placed e own = absurd (no_line g.hex input p other loads own)
+  to_run ends.NotHex p first loads placed e own = absurd (no_digits g.hex input p loads own)
+  to_run (ends.Help text) p first loads placed e m = absurd m
+  to_run (ends.Version text) p first loads placed e m = absurd m
+  to_run (ends.Usage text) p first loads placed e m = absurd m
+  to_run ends.TooLong p first loads placed e m = absurd m
+  to_run ends.ReadFault p first loads placed e m = absurd m
+  to_run ends.WriteFault p first loads placed e m = absurd m
+  to_run ends.OutOfMemory p first loads placed e m = absurd m
 
   or_memory : (returned outcome : Outcome) → (Means g s input returned → returned ≡ outcome) → (returned ≡ ends.OutOfMemory) ⊎ Means g s input returned → IsOrOutOfMemory returned outcome
   or_memory returned outcome f (inl e) = inr e
@@ -188,6 +257,7 @@ asks_none c ends.OutOfMemory ended none fine = tt
 asks_none c (ends.Ran run) ended none fine = absurd (none ended.0.0 ended.0.2.parsed)
 asks_none c (ends.BadWord cause word) ended none fine = ⊎_elim (λ bad. absurd (none bad.0 bad.1)) (λ read. absurd (none read.0 read.2.parsed)) ended.0
 asks_none c (ends.NotReport line) ended none fine = absurd (none ended.0.0 ended.0.2.parsed)
+asks_none c (ends.Unplaced error reloc) ended none fine = absurd (none ended.0.0 ended.0.2.parsed)
 asks_none c ends.NotHex ended none fine = absurd (none ended.0.0 ended.0.2.parsed)
 asks_none c ends.TooLong ended none fine = absurd (none ended.0.0.0 ended.0.0.2.parsed)
 asks_none c ends.ReadFault ended none fine = absurd (none ended.0.0 ended.0.2.parsed)
@@ -206,6 +276,7 @@ module _ (c : Call) (g : Given) (cause : BadWord) (parsed : Parses c.words (Ok g
   says_word ends.OutOfMemory ended = inr refl
   says_word (ends.Ran run) ended = absurd (not_asked ended.0.0 ended.0.1 ended.0.2)
   says_word (ends.NotReport line) ended = absurd (not_asked ended.0.0 ended.0.1 ended.0.2)
+  says_word (ends.Unplaced error reloc) ended = absurd (not_asked ended.0.0 ended.0.1 ended.0.2)
   says_word ends.NotHex ended = absurd (not_asked ended.0.0 ended.0.1 ended.0.2)
   says_word ends.TooLong ended = absurd (not_asked ended.0.0.0 ended.0.0.1 ended.0.0.2)
   says_word ends.ReadFault ended = absurd (not_asked ended.0.0 ended.0.1 ended.0.2)
@@ -225,10 +296,11 @@ settled c returned ended = record {
   too_long = λ g s asked fine. where_left c.left _ (λ input is long. to_long g s input returned long (settles c g s asked fine input is returned ended));
   not_report = λ g s line asked fine. where_left c.left _ (λ input is short loads. or_memory g s input returned _ (to_line g s input returned line loads) (meant g s input returned short (settles c g s asked fine input is returned ended)));
   not_hex = λ g s asked fine. where_left c.left _ (λ input is short loads. or_memory g s input returned _ (to_digits g s input returned loads) (meant g s input returned short (settles c g s asked fine input is returned ended)));
-  no_start = λ g s p cause asked fine. where_left c.left _ (λ input is short loads e. or_memory g s input returned _ (to_word g s input returned p cause loads e) (meant g s input returned short (settles c g s asked fine input is returned ended)));
-  complete = λ g s p first asked fine. where_left c.left _ (λ input is short loads e. ran_or_memory g s input returned p first loads e (meant g s input returned short (settles c g s asked fine input is returned ended)));
+  not_placed = λ g s p error asked fine. where_left c.left _ (λ input is short loads refused. or_memory g s input returned _ (to_refusal g s input returned p error loads refused) (meant g s input returned short (settles c g s asked fine input is returned ended)));
+  no_start = λ g s p cause asked fine. where_left c.left _ (λ input is short loads unfit. or_memory g s input returned _ (to_word g s input returned p cause loads unfit) (meant g s input returned short (settles c g s asked fine input is returned ended)));
+  complete = λ g s p first asked fine. where_left c.left _ (λ input is short loads placed e. ran_or_memory g s input returned p first loads placed e (meant g s input returned short (settles c g s asked fine input is returned ended)));
 }
   where
-    ran_or_memory : (g : Given) (s : Settings) (input : List ℕ) (o : Outcome) (p : Program) (first : Machine) → Loads g.hex input (Ok p) → begin s p ≡ Ok first → (o ≡ ends.OutOfMemory) ⊎ Means g s input o → IsRan o
-    ran_or_memory g s input o p first loads e (inl is) = subst (λ (x : Outcome). IsRan x) (sym is) tt
-    ran_or_memory g s input o p first loads e (inr m) = to_run g s input o p first loads e m
+    ran_or_memory : (g : Given) (s : Settings) (input : List ℕ) (o : Outcome) (p : Program) (first : Machine) → Loads g.hex input (Ok p) → unplaced s p ≡ None → begin s p ≡ Ok first → (o ≡ ends.OutOfMemory) ⊎ Means g s input o → IsRan o
+    ran_or_memory g s input o p first loads placed e (inl is) = subst (λ (x : Outcome). IsRan x) (sym is) tt
+    ran_or_memory g s input o p first loads placed e (inr m) = to_run g s input o p first loads placed e m

@@ -174,14 +174,16 @@ word_text g (bad.AddressTwice named index) = listed_text (addresses_of g named) 
 abbrev pub unplaced : Settings → Program → Option PlaceError
 unplaced s p = refusal (length p.bytes) p.relocs s.base (table_of s.symbols) (table_of s.slots)
 
--- a program that is another one with its relocations filled by these addresses
+-- a program that is another one with its relocations filled by these addresses, none of which is refused
 pub record IsLinked (s : Settings) (p q : Program) : Type 0 where
+  pub placed : unplaced s p ≡ None
   pub filled : IsFilled p.bytes p.relocs s.base (table_of s.symbols) (table_of s.slots) q.bytes
   pub lines : q.lines ≡ p.lines
 
--- the word that doesn't fit a program: there is no room from the base on, or none where the run is to begin
+-- The word that doesn't fit a program: there is no room from the base on, or none where the run is to begin. That is the same of the
+-- program with its relocations filled, which has as many bytes and the same lines.
 abbrev pub IsUnfit : Settings → Program → BadWord → Type 0
-IsUnfit s p cause = ((unplaced s p ≡ Some place.BadBase) × (cause ≡ bad.Base)) ⊎ ((q : Program) × IsLinked s p q × (begin s q ≡ Err cause))
+IsUnfit s p cause = ((unplaced s p ≡ Some place.BadBase) × (cause ≡ bad.Base)) ⊎ ((unplaced s p ≡ None) × (begin s p ≡ Err cause))
 
 -- the relocation that an error is of
 abbrev pub reloc_of : PlaceError → List MachReloc → Option MachReloc
@@ -198,14 +200,6 @@ IsRefused s p (place.BadRecord index) = unplaced s p ≡ Some (place.BadRecord i
 IsRefused s p (place.NoSymbol index) = unplaced s p ≡ Some (place.NoSymbol index)
 IsRefused s p (place.OutOfReach index) = unplaced s p ≡ Some (place.OutOfReach index)
 IsRefused s p place.OutOfMemory = ⊥
-
--- a look for a refusal returned this error; out of memory may come at any time
-abbrev pub IsOrOutOfMemory : Option PlaceError → PlaceError → Type 0
-IsOrOutOfMemory found place.OutOfMemory = Unit {0}
-IsOrOutOfMemory found place.BadBase = found ≡ Some place.BadBase
-IsOrOutOfMemory found (place.BadRecord index) = found ≡ Some (place.BadRecord index)
-IsOrOutOfMemory found (place.NoSymbol index) = found ≡ Some (place.NoSymbol index)
-IsOrOutOfMemory found (place.OutOfReach index) = found ≡ Some (place.OutOfReach index)
 
 -- the outcome of a program whose relocations are filled
 abbrev pub OfLinked : Given → Settings → Program → Outcome → Type 0

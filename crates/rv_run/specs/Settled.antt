@@ -1,5 +1,6 @@
 -- How a call ends where no fault rose: the words and the input settle it, out of memory aside.
-use Rattle.std.specs.Prelude.{◌≡◌, ℕ, ◌<◌, ◌≤◌, ◌⊎◌, List, length, Ok, Err, IfSome}
+use Rattle.std.specs.Prelude.{◌≡◌, ℕ, ◌<◌, ◌≤◌, ◌⊎◌, List, length, None, Ok, Err, IfSome}
+use Rattle.rv_fill.specs.declared.error.PlaceError.{PlaceError}
 use Rattle.rv_machine.specs.Steps.{Machine}
 use Rattle.rv_stream.specs.Ends.{Rose}
 use Rattle.rv_load.specs.declared.given.Given.{Given}
@@ -9,7 +10,7 @@ use Rattle.rv_load.specs.declared.settings.BadWord.{BadWord}
 use Rattle.rv_load.specs.declared.settings.Settings.{Settings}
 use Rattle.rv_load.specs.Command.{Parses}
 use Rattle.rv_load.specs.Words.{settings_of}
-use Rattle.rv_run.specs.Outcomes.{Call, Loads, Asked, limit, word_text}
+use Rattle.rv_run.specs.Outcomes.{Call, Loads, Asked, limit, word_text, unplaced, IsUnfit, IsRefused, reloc_of}
 use Rattle.rv_run.specs.Starting.{begin}
 use Rattle.rv_run.specs.declared.outcome.Outcome.{Outcome}
 use Rattle.rv_run.specs.declared.outcome.Outcome.TheVariants as ends
@@ -39,13 +40,15 @@ abbrev pub IfShort : Call → (List ℕ → Type 0) → Type 0
 IfShort c P = IfSome c.left (λ input. length input ≤ limit → P input)
 
 -- Words that are none of the command give help, the version or the usage, and a bad one itself. Else a long input is too long, one that
--- is no program is refused by its first bad line or as no digits, and one from which no run begins by the word that doesn't fit it. From any
--- other there is a run.
+-- is no program is refused by its first bad line or as no digits, one that isn't placed by the first relocation that isn't filled, and one
+-- from which no run begins by the word that doesn't fit it. From any other there is a run: where no relocation is refused there is the
+-- program with all of them filled, and a run begins from that one where one begins from the program as it is.
 pub record IsSettled (c : Call) (returned : Outcome) : Type 0 where
   pub of_words : ((g : Given) → ¬ Parses c.words (Ok g)) → ¬ Rose c.write_faults c.write_faults_after → IsOfWords returned
   pub bad_word : (g : Given) (cause : BadWord) → Parses c.words (Ok g) → settings_of g ≡ Err cause → ¬ Rose c.write_faults c.write_faults_after → IsOrOutOfMemory returned (ends.BadWord cause (word_text g cause))
   pub too_long : (g : Given) (s : Settings) → Asked c.words g s → NoFault c → IfSome c.left (λ input. limit < length input → IsOrOutOfMemory returned ends.TooLong)
   pub not_report : (g : Given) (s : Settings) (line : ℕ) → Asked c.words g s → NoFault c → IfShort c (λ input. Loads g.hex input (Err (program_errors.NotReport line)) → IsOrOutOfMemory returned (ends.NotReport line))
   pub not_hex : (g : Given) (s : Settings) → Asked c.words g s → NoFault c → IfShort c (λ input. Loads g.hex input (Err program_errors.NotHex) → IsOrOutOfMemory returned ends.NotHex)
-  pub no_start : (g : Given) (s : Settings) (p : Program) (cause : BadWord) → Asked c.words g s → NoFault c → IfShort c (λ input. Loads g.hex input (Ok p) → begin s p ≡ Err cause → IsOrOutOfMemory returned (ends.BadWord cause (word_text g cause)))
-  pub complete : (g : Given) (s : Settings) (p : Program) (first : Machine) → Asked c.words g s → NoFault c → IfShort c (λ input. Loads g.hex input (Ok p) → begin s p ≡ Ok first → IsRan returned)
+  pub not_placed : (g : Given) (s : Settings) (p : Program) (error : PlaceError) → Asked c.words g s → NoFault c → IfShort c (λ input. Loads g.hex input (Ok p) → IsRefused s p error → IsOrOutOfMemory returned (ends.Unplaced error (reloc_of error p.relocs)))
+  pub no_start : (g : Given) (s : Settings) (p : Program) (cause : BadWord) → Asked c.words g s → NoFault c → IfShort c (λ input. Loads g.hex input (Ok p) → IsUnfit s p cause → IsOrOutOfMemory returned (ends.BadWord cause (word_text g cause)))
+  pub complete : (g : Given) (s : Settings) (p : Program) (first : Machine) → Asked c.words g s → NoFault c → IfShort c (λ input. Loads g.hex input (Ok p) → unplaced s p ≡ None → begin s p ≡ Ok first → IsRan returned)

@@ -1,6 +1,6 @@
 //! The program's call: reads the words and the input, runs the code, and writes the text of the run.
 
-ghost use Rattle.std.specs.Prelude.{◌≡◌, ◌<◌, length, map, string_bytes, IfOk, OnOk, OnErr, Ok, []};
+ghost use Rattle.std.specs.Prelude.{◌≡◌, ◌<◌, length, map, string_bytes, IfOk, OnOk, OnErr, Ok, Err, []};
 ghost use Rattle.rv_fill.specs.Refusal.{Finds};
 ghost use Rattle.rv_machine.specs.Steps.{Machine};
 ghost use Rattle.rv_run.specs.Memory.{memory_lines};
@@ -9,7 +9,7 @@ ghost use Rattle.rv_run.specs.Running.{RunsTo};
 ghost use Rattle.rv_run.specs.Settled.{IsSettled};
 ghost use Rattle.rv_run.specs.Starting.{begin};
 ghost use Rattle.rv_run.specs.Tracing.{trace_where};
-ghost use Rattle.rv_run.specs.Outcomes.{Loads, IsRun, given_text, listed_text, word_text, addresses_of, unplaced, IsLinked, IsOrOutOfMemory, reloc_of, OfLinked, OfProgram, Means, Words, call, Asked, AskRun, Ended, WritesText};
+ghost use Rattle.rv_run.specs.Outcomes.{Loads, IsRun, given_text, listed_text, word_text, addresses_of, unplaced, IsLinked, reloc_of, OfLinked, OfProgram, Means, Words, call, Asked, AskRun, Ended, WritesText};
 
 use crate::ending::{Ending, Place};
 use crate::memory::memory_lines;
@@ -202,7 +202,7 @@ fn outcome_of_unplaced(
     program: &Program,
     error: PlaceError,
 ) -> Result<Outcome, OutOfMemory>
-    requires { IsOrOutOfMemory (unplaced settings.now program.now) error }
+    requires { Finds {X = Unit} (unplaced settings.now program.now) (Err error) }
     ensures { IfOk result (OfProgram given.now settings.now program.now) }
 {
     match error {
