@@ -359,7 +359,7 @@ fn loads_and_stores_are_decoded(rt: HostRuntime) {
 
 /// Words that are no operation.
 const NO_ROWS: [u32; 12] = [
-    0, 0x4501, 0xffffffff, 0x00000073, 0x00200073, 0x0200552b, 0x08b545bb, 0x0240559b, 0x80000033,
+    0, 0x4501, 0xffffffff, 0x00000073, 0x00200073, 0x0200552b, 0x08b555bb, 0x0240559b, 0x80000033,
     0x00052063, 0x0645f503, 0x06a14223,
 ];
 
