@@ -4,8 +4,7 @@ use Rattle.std.specs.Prelude.{Some, None}
 use Rattle.rv_base.specs.declared.flags.IsaFlags.{IsaFlags}
 use Rattle.rv_machine.specs.State.{State}
 use Rattle.rv_machine.specs.Steps.{Machine, istep, iter, then_step}
-use Rattle.rv_run.specs.declared.ending.Ending.{Ending}
-use Rattle.rv_run.specs.Running.{ending_of, Runs, StepOrEnding}
+use Rattle.rv_run.specs.Running.{ending_of, StepOrEnding}
 use Rattle.rv_run.specs.Tracing.{line_at, line_from, trace}
 use borrow.Author.Count.{below_more}
 
