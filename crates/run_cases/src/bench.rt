@@ -1,5 +1,7 @@
 //! A bench on which code is put and run.
 
+ghost use Rattle.std.specs.Prelude.{◌<◌};
+
 use crate::error::RunError;
 use crate::linked::Placing;
 use crate::numbers::pair;

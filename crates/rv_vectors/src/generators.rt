@@ -124,10 +124,10 @@ fn assert_jump(
 ) -> Result<(), Fail>
     requires { IsSplittable offset }
 {
-    let [upper, jump] = Inst::construct_auipc_and_jalr(link, tmp, offset);
     let mut insts = SmallInstVec::new(alloc);
-    insts.push(upper)?;
-    insts.push(jump)?;
+    for inst in Inst::construct_auipc_and_jalr(link, tmp, offset) {
+        insts.push(inst)?;
+    }
     assert_codes(rt, alloc, insts, bytes)
 }
 
