@@ -184,6 +184,7 @@ record AtEnd (context : Context) (lines : List Line) (spans : List LineSpan) (b 
   built : LinesStand context lines spans b
   named : Named lines spans b
   sized : Sized context lines b
+  since : AfterLastIsland context lines spans b
   early : NotEarly context lines spans
   straight : GoStraight context lines spans b
 
@@ -194,6 +195,7 @@ at_end context lines n spans b le s =
       built = subst (λ ls. LinesStand context ls spans b) whole s.built;
       named = subst (λ ls. Named ls spans b) whole s.named;
       sized = subst (λ ls. Sized context ls b) whole s.sized;
+      since = subst (λ ls. AfterLastIsland context ls spans b) whole s.since;
       early = subst (λ ls. NotEarly context ls spans) whole s.early;
       straight = subst (λ ls. GoStraight context ls spans b) whole s.straight;
     }
@@ -208,7 +210,7 @@ ready context lines n spans b e le s =
 pub finished : (context : Context) (lines : List Line) (n : ℕ) (code : Code) (b : Buffer) → lines_refusal context lines ≡ None → length lines ≤ n → SoFar context lines n code.lines b → code.returns ≡ returns_from context.flags code.lines 0 (take n lines) → (f : Finishes label_kinds (shape_of b) code.bytes) → code.constants ≡ f.put.constants → code.labels ≡ labels_of b → code.relocs ≡ relocs_in (records_of b) → code.traps ≡ traps_in (records_of b) → code.call_sites ≡ calls_in (records_of b) → code.try_call_sites ≡ tries_in (offset_or_zero (place_of b)) (records_of b) → code.patchable_call_sites ≡ patches_in (records_of b) → code.stack_maps ≡ maps_in (records_of b) → code.unwinds ≡ unwinds_in (records_of b) → code.end ≡ length (bytes_of b) → IsFinished context lines code
 finished context lines n code b e le s returns f constants labels relocs traps call_sites try_call_sites patchable_call_sites stack_maps unwinds end =
     let all = at_end context lines n code.lines b le s in
-    record { sink = b; built = all.built; named = all.named; sized = all.sized; early = all.early; straight = all.straight; ready = ready context lines n code.lines b e le s; finished = f; constants = constants; returns = returns ∙ ap (returns_from context.flags code.lines 0) (take_whole lines n le); labels = labels; relocs = relocs; traps = traps; call_sites = call_sites; try_call_sites = try_call_sites; patchable_call_sites = patchable_call_sites; stack_maps = stack_maps; unwinds = unwinds; end = end }
+    record { sink = b; built = all.built; named = all.named; sized = all.sized; since = all.since; early = all.early; straight = all.straight; ready = ready context lines n code.lines b e le s; finished = f; constants = constants; returns = returns ∙ ap (returns_from context.flags code.lines 0) (take_whole lines n le); labels = labels; relocs = relocs; traps = traps; call_sites = call_sites; try_call_sites = try_call_sites; patchable_call_sites = patchable_call_sites; stack_maps = stack_maps; unwinds = unwinds; end = end }
 
 -- the code is short
 pub code_short : (context : Context) (lines : List Line) (n : ℕ) (spans : List LineSpan) (b : Buffer) (bytes : List ℕ) → lines_refusal context lines ≡ None → length lines ≤ n → SoFar context lines n spans b → Finishes label_kinds (shape_of b) bytes → length bytes < 2 ^ 32

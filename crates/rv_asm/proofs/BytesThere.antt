@@ -25,9 +25,12 @@ use Rattle.mach_buffer.specs.Windows.{AllEnd}
 use Rattle.mach_buffer.proofs.Laws.{lasts_more, piece_finished}
 use Rattle.rv_emit.specs.Emitted.{Buffer}
 use Rattle.rv_emit.specs.Images.{AllClear, FieldsEnd}
-use Rattle.rv_code.specs.InstParts.{trap_bytes, branch_to, complement, parts_of}
+use Rattle.rv_base.specs.CondCodes.{complement_of}
+use Rattle.rv_base.specs.Regs.{number_of}
+use Rattle.rv_code.specs.InstParts.{trap_bytes, parts_of}
+use Rattle.rv_code.specs.Pieces.{New, Branch, slots_of}
 use Rattle.rv_emit.specs.Puts.{Puts}
-use Rattle.rv_code.specs.Slots.{Slot, Own, Data, Notes, Allocate, Here, size_of}
+use Rattle.rv_code.specs.Slots.{Slot, Data, Notes, Here, size_of}
 use Rattle.rv_emit.specs.Standing.{SlotsIn, PartsIn, IsFinishedTo}
 use Rattle.rv_emit.proofs.Laws.{clear_there, slot_fields_end, lasts_after_slots, puts_bytes, puts_ends}
 use Rattle.rv_asm.specs.Reported.{start_of, end_of, Stands}
@@ -102,6 +105,6 @@ module _ (job : Job) (code : Code) (b : Buffer) (built : LinesStand (context_of 
   trap_if_there i cmp cause e =
       let stood = (built.each i (Put (TrapIf cmp cause)) e).there in
       let parts : PartsIn job.flags (parts_of (context_of job) stood.0 (TrapIf cmp cause)) (shape_of b) (start_of code.lines i) (end_of code.lines i) = stood.1 in
-      let slots = Allocate ∷ branch_to (complement cmp) (Own 0) ∷ Notes (event.Trap cause) ∷ [] in
+      let slots = slots_of job.flags (New ∷ Branch (complement_of cmp.kind) (number_of cmp.rs1) (number_of cmp.rs2) 0 ∷ []) ++ Notes (event.Trap cause) ∷ [] in
       subst (Stands code (start_of code.lines i + 4)) (trap_zeros job.flags)
       (found (start_of code.lines i + size_of slots) (start_of code.lines i + 4) (trap_bytes job.flags) (omega arith) (data_found job.flags (shape_of b) code.bytes fin slots (trap_bytes job.flags) (Here 0 ∷ []) (start_of code.lines i) parts.0 parts.1))

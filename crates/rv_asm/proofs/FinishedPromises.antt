@@ -15,6 +15,7 @@ use Rattle.rv_asm.specs.FinishedCode.{IsFinished}
 use Rattle.rv_asm.specs.SavedRegisters.{SavesReal}
 use Rattle.rv_asm.proofs.SavedRegisters.{lines_save}
 use Rattle.rv_asm.specs.Reach.{InReach}
+use Rattle.rv_asm.proofs.AfterLastLine.{built_tail}
 use Rattle.rv_asm.proofs.Finish.{finished_short}
 use Rattle.rv_asm.specs.Jumps.{HasJumps}
 use Rattle.rv_asm.proofs.FinishedLines.{built_runs, built_operations}
@@ -60,5 +61,6 @@ module _ (job : Job) (code : Code) (accepted : refusal job ≡ None) (f : IsFini
   pub finished_in_reach : InReach job code
   finished_in_reach = record {
     early = f.early;
+    tail = built_tail job code f.sink f.built f.since f.finished f.end f.constants;
     short = finished_short (context_of job) job.lines f.sink code.bytes f.built.sound f.sized f.finished;
   }

@@ -29,3 +29,4 @@ pub mod SurveyedJobs
 mod BytesThere
 mod JumpsStand
 mod StraightUses
+mod AfterLastLine

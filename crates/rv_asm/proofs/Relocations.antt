@@ -241,7 +241,7 @@ module _ (context : Context) (bytes : List ℕ) (spans : List LineSpan) where
         let same : 0 + a.place ≡ a.place = omega arith in
         let below = slice_get_within lines a.place a.line a.there in
         let between = fill_between _ (start_of spans a.place) (end_of spans a.place) a.index r (line_fill context bytes a.line (start_of spans a.place) (end_of spans a.place) (long a.place a.line a.there)) (subst (λ n. slice_get (relocs_in (line_records context (start_of spans n) (end_of spans n) a.line)) a.index ≡ Some r) same a.own) in
-        record { index = a.place; below = omega arith; starts = between.0; ends = between.1 }
+        (a.place, omega arith, between.0, between.1)
 
     -- and none of them is a constant's
     pub constants_unfilled : (registered : List Constant) (constants : List ConstPlace) → ((i : ℕ) (inst : Inst) → slice_get lines i ≡ Some (Put inst) → WordsApart registered constants (extent_of context inst) (start_of spans i) (end_of spans i)) → (j : ℕ) (c : ConstPlace) (k : Constant) → slice_get constants j ≡ Some c → slice_get registered c.constant.number ≡ Some k → IsOutside (relocs_in (records_from context spans 0 lines)) c.offset (length k.bytes)

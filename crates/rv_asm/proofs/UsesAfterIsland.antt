@@ -82,7 +82,7 @@ from_line context spans first (Put inst ∷ lines) =
     (λ j u h. later_line context spans first (Put inst) lines u (from_line context spans (suc first) lines j u h))
 from_line context spans first (Bind label ∷ lines) = λ j u h. later_line context spans first (Bind label) lines u (from_line context spans (suc first) lines j u h)
 
-few_in_lines : (context : Context) (place : ℕ → Option ℕ) (spans : List LineSpan) (first : ℕ) (lines : List Line) → length (deadlines (pending_at place) label_kinds (uses_from context spans first lines)) ≤ way_count lines
+pub few_in_lines : (context : Context) (place : ℕ → Option ℕ) (spans : List LineSpan) (first : ℕ) (lines : List Line) → length (deadlines (pending_at place) label_kinds (uses_from context spans first lines)) ≤ way_count lines
 few_in_lines context place spans first [] = omega arith
 few_in_lines context place spans first (Put inst ∷ lines) =
     let rest = few_in_lines context place spans (suc first) lines in
@@ -121,7 +121,7 @@ deadlines_passing test (u ∷ uses) = on (test u) (deadlines_passing test uses)
     on false e = e
 
 -- of the open uses alone
-pending_open : (context : Context) (lines : List Line) (spans : List LineSpan) (b : Buffer) → AfterLastIsland context lines spans b → pending b ≡ deadlines (pending_at (place_of b)) label_kinds (uses_after_island context lines spans)
+pub pending_open : (context : Context) (lines : List Line) (spans : List LineSpan) (b : Buffer) → AfterLastIsland context lines spans b → pending b ≡ deadlines (pending_at (place_of b)) label_kinds (uses_after_island context lines spans)
 pending_open context lines spans b s =
     let test = pending_at (place_of b) in
     deadlines_passing test (uses_of b) ∙ ap (map (deadline label_kinds)) s.ends.same ∙ sym (deadlines_passing test (uses_after_island context lines spans))

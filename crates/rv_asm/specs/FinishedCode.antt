@@ -10,6 +10,7 @@ use Rattle.mach_buffer.specs.Finish.{CanFinish, Finishes}
 use Rattle.rv_emit.specs.Emitted.{Buffer}
 use Rattle.rv_asm.specs.LinesInBuffer.{LinesStand, Named, Sized}
 use Rattle.rv_asm.specs.Reported.{returns_from}
+use Rattle.rv_asm.specs.AfterLastIsland.{AfterLastIsland}
 use Rattle.rv_asm.specs.Reach.{NotEarly}
 use Rattle.rv_asm.specs.StraightUses.{GoStraight}
 
@@ -18,6 +19,7 @@ pub record IsFinished (context : Context) (lines : List Line) (code : Code) : Ty
   pub built : LinesStand context lines code.lines sink
   pub named : Named lines code.lines sink
   pub sized : Sized context lines sink
+  pub since : AfterLastIsland context lines code.lines sink
   pub early : NotEarly context lines code.lines
   pub straight : GoStraight context lines code.lines sink
   pub ready : CanFinish label_kinds (shape_of sink)

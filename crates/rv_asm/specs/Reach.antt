@@ -1,5 +1,9 @@
 -- Islands by the reported spans: that none stands earlier than it must, which lines one stands between, and how long code may be.
-use Rattle.std.specs.Prelude.{◌≡◌, ℕ, zero, suc, ◌+◌, ◌*◌, ◌<◌, ◌≤◌, Bool, false, ◌||◌, nat_lt, if◌then◌else◌, List, [], ◌∷◌, length, take, drop, Some, slice_get}
+use Rattle.std.specs.Prelude.{◌≡◌, ℕ, zero, suc, ◌+◌, ◌*◌, ◌<◌, ◌≤◌, Bool, false, ◌||◌, nat_eq, nat_lt, if◌then◌else◌, List, [], ◌∷◌, length, take, drop, Some, slice_get}
+use Rattle.rv_base.specs.declared.constant.Constant.{Constant}
+use Rattle.mach_records.specs.declared.records.ConstPlace.{ConstPlace}
+use Rattle.mach_buffer.specs.Constants.{constants_end}
+use Rattle.mach_buffer.specs.Islands.{aligned}
 use Rattle.rv_inst.specs.Context.{Context, context_of}
 use Rattle.rv_inst.specs.declared.inst.Line.{Line}
 use Rattle.rv_inst.specs.declared.inst.Line.TheVariants.{Inst as Put, Bind}
@@ -10,7 +14,7 @@ use Rattle.rv_inst.specs.Operands.{line_ways}
 use Rattle.mach_uses.specs.Reach.{island_front}
 use Rattle.rv_inst.specs.Sizes.{line_space, Extent, Words, Island, After, Around, extent_of}
 use Rattle.rv_inst.specs.Uses.{least_reach}
-use Rattle.rv_asm.specs.Reported.{start_of, end_of, end_before}
+use Rattle.rv_asm.specs.Reported.{start_of, end_of, end_before, constants_named}
 use Rattle.rv_asm.specs.Refusal.{size_sum}
 
 -- ---- where islands stand
@@ -80,9 +84,21 @@ abbrev pub first_after_island : Context → List Line → List LineSpan → ℕ 
 first_after_island context lines spans zero = 0
 first_after_island context lines spans (suc i) = if is_island_at context (drop i lines) spans i || is_after_island spans i then i else first_after_island context lines spans i
 
+-- ---- after the last line
+
+-- What follows the last line: veneers, after zero bytes to a multiple of four where there is one, and no more than labels to which lines go
+-- that no island stands after; then each constant that no island took, after zero bytes to its alignment; and nothing else.
+pub record HasTail (job : Job) (code : Code) : Type 0 where
+  pub veneers : ℕ
+  pub few : veneers ≤ way_count (drop (first_after_island (context_of job) job.lines code.lines (length job.lines)) job.lines)
+  pub taken : ℕ
+  pub before : (j : ℕ) (c : ConstPlace) (k : Constant) → j < taken → slice_get code.constants j ≡ Some c → slice_get job.constants c.constant.number ≡ Some k → c.offset + length k.bytes ≤ code.end
+  pub long : length code.bytes ≡ constants_end job.constants (drop taken (constants_named job.lines)) ((if nat_eq veneers 0 then code.end else aligned code.end) + 8 * veneers)
+
 -- ---- all of it
 
--- no island is early, and the code is no longer than its lines and constants allow
+-- no island is early, nothing else follows the last line, and the code is no longer than its lines and constants allow
 pub record InReach (job : Job) (code : Code) : Type 0 where
   pub early : NotEarly (context_of job) job.lines code.lines
+  pub tail : HasTail job code
   pub short : length code.bytes ≤ size_sum (context_of job) job.lines + 16

@@ -135,11 +135,8 @@ abbrev pub StandApart : Context → List Line → List LineSpan → List ConstPl
 StandApart context lines spans constants = (i : ℕ) (inst : Inst) → slice_get lines i ≡ Some (Put inst) → WordsApart context.constants constants (extent_of context inst) (start_of spans i) (end_of spans i)
 
 -- the bytes that a relocation fills are all in the span of one of the lines
-pub record FillsInLine (spans : List LineSpan) (r : MachReloc) : Type 0 where
-  pub index : ℕ
-  pub below : index < length spans
-  pub starts : start_of spans index ≤ r.offset
-  pub ends : r.offset + field_size r.kind ≤ end_of spans index
+abbrev pub FillsInLine : List LineSpan → MachReloc → Type 0
+FillsInLine spans r = (i : ℕ) × (i < length spans) × (start_of spans i ≤ r.offset) × (r.offset + field_size r.kind ≤ end_of spans i)
 
 -- these bytes stand in the code at an offset, and no relocation fills one of them
 pub record Stands (code : Code) (at : ℕ) (bytes : List ℕ) : Type 0 where

@@ -8,7 +8,7 @@ use Rattle.std.proofs.lemmas.Bool.{cases_eq}
 use Rattle.rv_machine.specs.State.{Values, AreValues, reg, reg_of, set_reg, set_reg_of}
 pub use Rattle.rv_machine.proofs.States.{are_values_set}
 use Rattle.rv_inst.specs.SameValues.{Same, SameBut, is_among}
-use Rattle.rv_inst.proofs.Sequences.{reads_set}
+pub use Rattle.rv_inst.proofs.Sequences.{reads_set}
 
 -- at an index, the same number written to two lists
 index_set : (xs ys : List ℕ) (n m v : ℕ) → length xs ≡ 31 → length ys ≡ 31 → n < 31 → slice_index xs m ≡ slice_index ys m → slice_index (slice_set xs n v) m ≡ slice_index (slice_set ys n v) m
@@ -32,11 +32,6 @@ same_set v w n x hv hw lt same = record { regs = λ m below. reg_set v.regs w.re
 pub count_set : (v : Values) (n x : ℕ) → length v.regs ≡ 31 → length (set_reg v n x).regs ≡ 31
 count_set v zero x h = h
 count_set v (suc n) x h = length-set v.regs n x ∙ h
-
--- of all registers
-pub reads_set : (v : Values) (n x : ℕ) → length v.regs ≡ 31 → 0 < n → n < 32 → reg (set_reg v n x) n ≡ x
-reads_set v zero x h some lt = absurd (omega arith)
-reads_set v (suc n) x h some lt = get_or-set_at v.regs n n x 0 refl (omega arith)
 
 pub reads_back : (v : Values) (n x : ℕ) → AreValues v → 0 < n → n < 32 → reg (set_reg v n x) n ≡ x
 reads_back v n x h some lt = reads_set v n x h.count some lt

@@ -222,11 +222,11 @@ module _ (job : Job) (code : Code) (h : Reported job code) where
   field_within : (j : ℕ) (r : MachReloc) → slice_get code.relocs j ≡ Some r → r.offset + field_size r.kind ≤ length code.bytes
   field_within j r e =
       let f = h.fields j r e in
-      let below = f.below in
+      let below = f.1 in
       let count = h.count in
-      let ends = f.ends in
+      let ends = f.3 in
       let within = h.within in
-      let last = ends_before_last (length job.lines - suc f.index) f.index (omega (arith, below, count)) in
+      let last = ends_before_last (length job.lines - suc f.0) f.0 (omega (arith, below, count)) in
       omega (arith, ends, last, within)
 
   target_fine : (j : ℕ) (r : MachReloc) → slice_get code.relocs j ≡ Some r → is_bad_target code.relocs r.kind r.target ≡ false

@@ -1,6 +1,6 @@
 -- Whether a run begins, and the word that doesn't fit where it doesn't, are the same of a program whose relocations are filled: that has
 -- the same length and the same lines.
-use Rattle.std.proofs.Common.{◌≡◌, ℕ, ◌+◌, ◌^◌, List, length, Option, Some, None, Result, Ok, Err, refl, sym, ap, ◌∙◌}
+use Rattle.std.proofs.Common.{◌≡◌, ℕ, ◌+◌, ◌^◌, length, Some, None, Result, Ok, Err, refl, sym, ap, ◌∙◌}
 use Rattle.std.specs.Prelude.{nat_lt, if◌then◌else◌}
 use Rattle.rv_machine.specs.Steps.{Machine}
 use Rattle.rv_load.specs.declared.program.Program.{Program}
@@ -12,7 +12,6 @@ use Rattle.rv_load.specs.declared.settings.Start.TheVariants.{Beginning, Offset,
 use Rattle.rv_load.specs.Words.{or_bad, ◌then◌}
 use Rattle.rv_run.specs.Outcomes.{IsLinked}
 use Rattle.rv_run.specs.Starting.{begin, first_machine, fits, line_start, start_offset, start_word}
-use Rattle.rv_run.proofs.SameWords.{not_both}
 
 -- the offset that a run begins at
 abbrev offset_of : Settings → Program → Result ℕ BadWord

@@ -1,5 +1,5 @@
 -- What comes of a program is what comes of it once its relocations are filled.
-use Rattle.std.proofs.Common.{◌≡◌, inl, inr, List, ℕ, Ok}
+use Rattle.std.proofs.Common.{inr, List, ℕ, Ok}
 use Rattle.rv_load.specs.declared.given.Given.{Given}
 use Rattle.rv_load.specs.declared.program.Program.{Program}
 use Rattle.rv_load.specs.declared.settings.Settings.{Settings}

@@ -14,7 +14,7 @@ use Rattle.rv_load.specs.declared.settings.BadWord.{BadWord}
 use Rattle.rv_load.specs.declared.settings.Settings.{Settings}
 use Rattle.rv_load.specs.Command.{Parses}
 use Rattle.rv_load.specs.Words.{settings_of}
-use Rattle.rv_run.specs.Outcomes.{Call, Loads, OfProgram, Means, Asked, Read, IsBadWord, Ended, limit, word_text, unplaced, IsLinked, IsRun, IsUnfit, IsRefused, reloc_of}
+use Rattle.rv_run.specs.Outcomes.{Call, Loads, OfProgram, Means, Asked, Read, IsBadWord, Ended, limit, word_text, unplaced, IsLinked, IsUnfit, IsRefused, reloc_of}
 use Rattle.rv_run.specs.Settled.{IsOrOutOfMemory, IsOfWords, IsRan, NoFault, IsSettled}
 use Rattle.rv_run.specs.Starting.{begin}
 use Rattle.rv_run.specs.declared.outcome.Outcome.{Outcome}
