@@ -1,5 +1,7 @@
 //! Why the program ends early, and with which status.
 
+ghost use Rattle.std.specs.Prelude.{◌≡◌};
+
 use crate::making::MakeError;
 use rv_base::OutOfMemory;
 use thiserror::Error;
@@ -38,8 +40,12 @@ pub(crate) enum Failure {
 }
 
 impl Failure {
+    ghost use Rattle.rvobj.specs.Ending.{status_of};
+
     /// The status with which the program ends.
-    pub(crate) fn status(&self) -> u8 {
+    pub(crate) fn status(&self) -> u8
+        ensures { result ≡ status_of self.now }
+    {
         match self {
             Failure::Asked { text: _ } => 0,
             Failure::Words { text: _ }

@@ -1,6 +1,10 @@
 //! `rvobj`: makes of a report from standard input a relocatable object for RV64, and writes it to standard output.
 #![tactic(auto)]
 
+ghost use Rattle.std.specs.Prelude.{◌≡◌};
+ghost use Rattle.std.specs.Process.{exit_status};
+ghost use Rattle.rvobj.specs.Ending.{status_of};
+
 mod failure;
 mod making;
 mod words;
@@ -36,12 +40,18 @@ fn run(rt: &HostRuntime) -> Result<(), Failure> {
     write(rt, bytes.as_slice())
 }
 
+fn exit(failure: &Failure) -> ExitCode
+    ensures { exit_status result ≡ status_of failure.now }
+{
+    ExitCode::from(failure.status())
+}
+
 fn main(rt: HostRuntime) -> ExitCode {
     match run(&rt) {
         Ok(()) => ExitCode::SUCCESS,
         Err(failure) => {
             failure.show(&rt);
-            ExitCode::from(failure.status())
+            exit(&failure)
         }
     }
 }
