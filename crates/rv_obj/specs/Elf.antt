@@ -1,6 +1,6 @@
 -- A relocatable object for RISC-V of 64 bits: the chapter "Object Files" of the System V ABI, and the RISC-V ELF psABI. All numbers stand
 -- with the least byte first. After the file's header come the contents of the sections, one after the other, and then their headers.
-use Rattle.std.specs.Prelude.{ℕ, ◌+◌, ◌-◌, ◌*◌, ◌%◌, ◌^◌, Bool, true, false, List, [], ◌∷◌, ◌++◌, length, replicate, codes, if◌then◌else◌, Option, Some, None, ℤ}
+use Rattle.std.specs.Prelude.{ℕ, ◌+◌, ◌-◌, ◌%◌, ◌^◌, List, [], ◌∷◌, ◌++◌, length, replicate, codes, if◌then◌else◌, Option, Some, None}
 use Rattle.std.specs.Int.{cast_unsigned, to_le_bytes, w16, w32, w64}
 use Rattle.std.specs.List.{flat_map}
 use Rattle.rv_obj.specs.declared.elf.Symbol.{Symbol}

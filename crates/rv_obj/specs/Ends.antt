@@ -1,5 +1,5 @@
 -- A link of the proof: how many bytes of the contents come before each part.
-use Rattle.std.specs.Prelude.{◌≡◌, ℕ, ◌+◌, ◌^◌, ◌<◌, length}
+use Rattle.std.specs.Prelude.{◌≡◌, ◌+◌, ◌^◌, ◌<◌, length}
 use Rattle.std.specs.List.{flat_map}
 use Rattle.rv_obj.specs.declared.elf.Object.{Object}
 use Rattle.rv_obj.specs.declared.tables.Ends.{Ends}

@@ -1,2 +1,3 @@
 pub mod Elf
 pub mod Ends
+pub mod Symbols

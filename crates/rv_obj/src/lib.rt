@@ -3,6 +3,8 @@
 
 mod elf;
 mod headers;
+mod symbols;
 mod tables;
 
 pub use elf::{Object, Rela, Symbol, object_file};
+pub use symbols::object_of;

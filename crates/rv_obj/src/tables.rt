@@ -116,7 +116,7 @@ fn put_name(out: &mut Vec<u8>, symbol: &Symbol) -> Result<(), OutOfMemory>
     put(out, b"\0")
 }
 
-fn low(n: usize) -> u32
+pub(crate) fn low(n: usize) -> u32
     ensures { result ≡ n % 2 ^ 32 }
 {
     (n & 0xffff_ffff) as u32

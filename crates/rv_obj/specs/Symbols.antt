@@ -1,0 +1,68 @@
+-- The symbols and the relocations of an object, by those of a code.
+use Rattle.std.specs.Prelude.{ℕ, true, false, ◌+◌, ◌%◌, ◌^◌, ◌==◌, List, [], ◌∷◌, ◌++◌, length, map, codes, if◌then◌else◌, Some, None}
+use Rattle.std.specs.Fmt.{decimal}
+use Rattle.std.specs.List.{list_any, position_or_len}
+use Rattle.mach_records.specs.declared.records.FinalizedRelocTarget.{FinalizedRelocTarget}
+use Rattle.mach_records.specs.declared.records.FinalizedRelocTarget.TheVariants.{ExternalName as Named, Func}
+use Rattle.mach_records.specs.declared.records.MachReloc.{MachReloc}
+use Rattle.rv_base.specs.declared.reloc.Reloc.{Reloc}
+use Rattle.rv_base.specs.declared.reloc.Reloc.TheVariants.{RiscvCallPlt, RiscvGotHi20, RiscvPCRelHi20, RiscvPCRelLo12I, Abs8}
+use Rattle.rv_obj.specs.declared.elf.Symbol.{Symbol}
+use Rattle.rv_obj.specs.declared.elf.Rela.{Rela}
+use Rattle.rv_obj.specs.declared.elf.Object.{Object}
+
+-- R_RISCV_CALL_PLT, R_RISCV_GOT_HI20, R_RISCV_PCREL_HI20, R_RISCV_PCREL_LO12_I and R_RISCV_64
+abbrev pub kind_number : Reloc → ℕ
+kind_number RiscvCallPlt = 19
+kind_number RiscvGotHi20 = 20
+kind_number RiscvPCRelHi20 = 23
+kind_number RiscvPCRelLo12I = 24
+kind_number Abs8 = 2
+
+-- a relocation that names a place has a local label there; they are numbered in their order
+abbrev pub local_of : ℕ → FinalizedRelocTarget → List Symbol
+local_of k (Named name) = []
+local_of k (Func at) = record { name = codes ".Lpcrel_hi" ++ decimal k; place = Some at; is_global = false } ∷ []
+
+abbrev pub locals_from : ℕ → List MachReloc → List Symbol
+locals_from k [] = []
+locals_from k (r ∷ rs) = local_of k r.target ++ locals_from (k + length (local_of k r.target)) rs
+
+-- the names of relocations, each once, in the order of their first use
+abbrev pub with_number : ℕ → List ℕ → List ℕ
+with_number number names = if list_any (λ n. n == number) names then names else names ++ number ∷ []
+
+abbrev pub with_name : FinalizedRelocTarget → List ℕ → List ℕ
+with_name (Func at) names = names
+with_name (Named name) names = with_number name.number names
+
+abbrev pub names_after : List ℕ → List MachReloc → List ℕ
+names_after names [] = names
+names_after names (r ∷ rs) = names_after (with_name r.target names) rs
+
+-- a symbol that is elsewhere
+abbrev pub undefined : ℕ → Symbol
+undefined number = record { name = codes "userextname" ++ decimal number; place = None; is_global = true }
+
+-- the number of a relocation's symbol: of a place, that of its label, after the empty entry; of a name, after those that are defined
+abbrev pub symbol_number : ℕ → List ℕ → ℕ → FinalizedRelocTarget → ℕ
+symbol_number defined names k (Func at) = 1 + k
+symbol_number defined names k (Named name) = defined + position_or_len (λ n. n == name.number) names
+
+abbrev pub rela_of : ℕ → List ℕ → ℕ → MachReloc → Rela
+rela_of defined names k r = record { offset = r.offset; kind = kind_number r.kind; symbol = symbol_number defined names k r.target % 2 ^ 32; addend = r.addend }
+
+-- relocations, before the first of which so many name places
+abbrev pub relas_from : ℕ → List ℕ → ℕ → List MachReloc → List Rela
+relas_from defined names k [] = []
+relas_from defined names k (r ∷ rs) = rela_of defined names k r ∷ relas_from defined names (k + length (local_of k r.target)) rs
+
+-- the object of a code with its relocations, that defines these global symbols besides
+abbrev pub object_of : List ℕ → List MachReloc → List Symbol → ℕ → Object
+object_of text relocs exports flags = record {
+  text = text;
+  relas = relas_from (1 + length (locals_from 0 relocs) + length exports) (names_after [] relocs) 0 relocs;
+  symbols = locals_from 0 relocs ++ exports ++ map undefined (names_after [] relocs);
+  locals = (1 + length (locals_from 0 relocs)) % 2 ^ 32;
+  flags = flags;
+}
