@@ -2,7 +2,7 @@
 """A decoder of RISC-V, written from the listings of the unprivileged manual and not from the project's text.
 
   decode.py digests                 the lines of data for crates/rv_full_rows: digests over the texts of what is decoded
-  decode.py texts                   digests over the assembler's texts of halfwords, for rv_run_vectors
+  decode.py texts                   digests over the assembler's texts of halfwords, for machine_cases
   decode.py compare LLVM_MC [N]     compares with a disassembler (llvm-mc) which words near every operation, and N random ones,
                                     are operations at all
 """
