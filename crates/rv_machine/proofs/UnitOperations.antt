@@ -6,7 +6,6 @@ use Rattle.rv_base.specs.declared.flags.IsaFlags.{IsaFlags}
 use Rattle.rv_machine.specs.declared.decoding.Decoded.{Decoded}
 use Rattle.rv_machine.specs.declared.ops.MOp.{MOp}
 use Rattle.rv_machine.specs.declared.ops.MOp.TheVariants.{Base, Load, Store, Alu, Carry, Atomic, Csr, FloatLoad, FloatStore, Float, VecMem, Vec}
-use Rattle.rv_machine.specs.declared.ops.FloatFormat.{FloatFormat}
 use Rattle.rv_machine.specs.declared.ops.FloatFormat.TheVariants.{D}
 use Rattle.rv_machine.specs.declared.ops.VecMemOp.TheVariants.{Vsetivli}
 use Rattle.rv_machine.specs.Layout.{bits, word_opcode, word_funct3, word_funct6, word_funct7, word_funct12, word_rs2, word_fmt, word_funct5, r_layout, i_layout, s_layout, unary_layout, rounded_layout, rounded_unary_layout, r4_layout, amo_layout, vector_layout, vector_memory_layout, vsetivli_layout, or_else}
@@ -14,10 +13,10 @@ use Rattle.rv_machine.specs.Opcodes.{OP_IMM, OP, OP_32, SYSTEM, LOAD_FP, STORE_F
 use Rattle.rv_machine.specs.Compressed.{half_op, half_funct3, ld_imm, ldsp_imm, sdsp_imm, cl_layout, cs_layout, load_sp_layout, css_layout, unit_by_quadrant, unit_decode_half}
 use Rattle.rv_machine.specs.UnitTables.{csr_entry, carry_unary_entry, carry_entry, carry_32_entry, atomic_entry, atomic_width_entry, format_entry, width_entry, rounded_entry, rounded_unary_entry, fixed_entry, fixed_unary_entry, fused_entry, vector_load_entry, vector_store_entry}
 use Rattle.rv_machine.specs.Vectors.{vector_fields}
-use Rattle.rv_machine.specs.UnitDecode.{only, decode_carry_unary, decode_carry, decode_carry_32, decode_csr, decode_amo, atomic_of, float_load_of, float_store_of, rounded_of, rounded_unary_of, fixed_of, float_of, decode_op_fp, fused_of, decode_fused, load_of, store_of, decode_load_fp, decode_store_fp, decode_vsetivli, vector_of, decode_op_v, unit_by_opcode, unit_decode}
+use Rattle.rv_machine.specs.UnitDecode.{only, decode_carry_unary, decode_carry, decode_carry_32, decode_csr, decode_amo, atomic_of, float_load_of, float_store_of, rounded_of, rounded_unary_of, float_of, decode_op_fp, fused_of, decode_fused, load_of, store_of, decode_load_fp, decode_store_fp, decode_vsetivli, vector_of, decode_op_v, unit_by_opcode, unit_decode}
 use Rattle.rv_machine.specs.Decode.{int_decode, decode}
 use Rattle.rv_machine.specs.State.{State}
-use Rattle.rv_machine.specs.Effects.{act, act_on}
+use Rattle.rv_machine.specs.Effects.{act_on}
 use Rattle.rv_machine.specs.Steps.{fetch, step_on, istep, step_of_all}
 
 abbrev pub is_integer : MOp → Bool

@@ -1,6 +1,6 @@
 -- Decoding of the operations that the integer machine has no step for: the listings of the chapters "A", "Zicsr", "F", "D", "Zfh",
 -- "Zfa", "V", "Zbc" and "Zbkb".
-use Rattle.std.specs.Prelude.{ℕ, ◌/◌, ◌%◌, ◌^◌, ◌==◌, if◌then◌else◌, ◌&&◌, ◌||◌, not, nat_lt, Bool, true, false, Option, Some, None}
+use Rattle.std.specs.Prelude.{ℕ, ◌/◌, ◌%◌, ◌^◌, ◌==◌, if◌then◌else◌, ◌&&◌, ◌||◌, not, nat_lt, Bool, true, Option, Some, None}
 use Rattle.std.specs.Option.{option_map, option_and_then}
 use Rattle.rv_base.specs.declared.flags.IsaFlags.{IsaFlags}
 use Rattle.rv_machine.specs.declared.decoding.Decoded.{Decoded}
@@ -12,7 +12,7 @@ use Rattle.rv_machine.specs.declared.ops.FloatFormat.{FloatFormat}
 use Rattle.rv_machine.specs.declared.ops.FloatFormat.TheVariants.{H, S, D}
 use Rattle.rv_machine.specs.declared.ops.VecMemOp.TheVariants.{Vsetivli}
 use Rattle.rv_machine.specs.declared.ops.VecFields.{VecFields}
-use Rattle.rv_machine.specs.Opcodes.{OP_IMM, OP, OP_32, SYSTEM, LOAD_FP, STORE_FP, AMO, MADD, MSUB, NMSUB, NMADD, OP_FP, OP_V}
+use Rattle.rv_machine.specs.Opcodes.{OP_IMM, OP, OP_32, SYSTEM, LOAD_FP, STORE_FP, AMO, OP_FP, OP_V}
 use Rattle.rv_machine.specs.Layout.{bits, word_opcode, word_rd, word_funct3, word_rs1, word_rs2, word_funct6, word_funct7, word_funct12, word_fmt, word_funct5, word_vm, r_layout, i_layout, s_layout, unary_layout, rounded_layout, rounded_unary_layout, r4_layout, amo_layout, vector_layout, vector_memory_layout, vsetivli_layout}
 use Rattle.rv_machine.specs.UnitTables.{carry_unary_entry, carry_entry, carry_32_entry, csr_entry, atomic_entry, atomic_width_entry, format_entry, width_entry, rounded_entry, rounded_unary_entry, fixed_entry, fixed_unary_entry, is_own_format, fused_entry, vector_load_entry, vector_store_entry}
 use Rattle.rv_machine.specs.Vectors.{vector_fields, are_fields}
