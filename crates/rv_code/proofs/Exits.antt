@@ -1,5 +1,5 @@
 -- From an exact state at the end of a chain to where an exit leads.
-use Rattle.std.proofs.Common.{◌≡◌, ℕ, ◌+◌, ◌<◌, Bool, true, false, List, [], ◌∷◌, arith, sym, subst, ◌∙◌}
+use Rattle.std.proofs.Common.{◌≡◌, ℕ, ◌+◌, ◌<◌, Bool, true, false, List, [], ◌∷◌, arith, sym, subst, ◌∙◌, ap}
 use Rattle.rv_base.specs.declared.label.MachLabel.{MachLabel}
 use Rattle.rv_machine.specs.State.{State, IsState, Values, wrap}
 use Rattle.rv_inst.specs.Meaning.{Exit, Next, To, Break}
