@@ -30,3 +30,8 @@ mod BytesThere
 mod JumpsStand
 mod StraightUses
 mod AfterLastLine
+pub mod LineLaws
+pub mod FineLines
+pub mod StoredNumbers
+pub mod RegisterNumbers
+pub mod Laws
