@@ -2,6 +2,7 @@
 use Rattle.std.proofs.Common.{◌≡◌, ℕ, ◌+◌, ◌%◌, ◌<◌, ◌≤◌, Bool, false, List, [], length, Option, Some, None, refl, ap, sym, ◌∙◌, subst, arith}
 use Rattle.std.specs.Prelude.{slice_get}
 use Rattle.rv_base.specs.Flags.{no_flags}
+use Rattle.rv_base.specs.declared.flags.IsaFlags.{IsaFlags}
 use Rattle.rv_base.specs.LabelUse.{code_limit}
 use Rattle.rv_base.specs.declared.call.UserStackMap.{UserStackMap}
 use Rattle.rv_inst.specs.Context.{Context}
@@ -32,7 +33,7 @@ use Rattle.rv_emit.specs.StackMaps.{with_map}
 use Rattle.rv_emit.specs.Standing.{PartsIn}
 use Rattle.rv_emit.proofs.InstKeeps.{appended_records, appended_named, emitted_keeps}
 use Rattle.rv_emit.proofs.InstSlots.{parts_are_self_contained}
-use Rattle.rv_emit.proofs.PartsInBuffer.{gap_last, gap_put, parts_last, PartsPut, parts_put}
+use Rattle.rv_emit.proofs.PartsInBuffer.{gap_last, GapPut, gap_put, parts_last, PartsPut, parts_put}
 use Rattle.rv_emit.proofs.StackMaps.{can_given}
 use Rattle.rv_emit.proofs.Standing.{gap_stands, parts_stand}
 use Rattle.rv_emit.proofs.TailAppends.{appends}
@@ -122,7 +123,7 @@ module _ (context : Context) (setting : EmitVState) (map : Option UserStackMap) 
 
 pub gap_leads : (distance : ℕ) (old new : Buffer) (made : Bool) → IslandIfNeeded distance old new made → IsBuilt old → GapLeads old new
 gap_leads distance old new made put built =
-    let gap = λ flags. gap_put flags distance old new made built.sound built.windows built.fields put in
+    let gap : (flags : IsaFlags) → GapPut flags old new = λ flags. gap_put flags distance old new made built.sound built.windows built.fields put in
     let some = gap no_flags in
     record {
       leads = λ context f site lasts code. (gap_stands site f code.bytes code.finished code.keeps code.place code.records code.fields code.filled (length (bytes_of old)) (length (bytes_of new)) (even_length label_kinds old built.sound) (gap_last (length (bytes_of old)) (length (bytes_of new)) (gap site.context.flags).gap lasts)).leads;
