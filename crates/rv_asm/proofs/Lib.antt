@@ -35,3 +35,4 @@ pub mod FineLines
 pub mod StoredNumbers
 pub mod RegisterNumbers
 pub mod Laws
+mod IslandEnds
