@@ -173,6 +173,6 @@ module _ (context : Context) (lines : List Line) (spans : List LineSpan) (line :
       let long : length (drop k lines) ≡ n - k = length-drop k lines in
       let at : k + length (drop k lines) ≡ length spans = omega arith in (
         open_at context all all_spans k from ∙ ap (uses_from context all_spans k) cut ∙ uses_append context all_spans k (drop k lines) (line ∷ [])
-        ∙ (λ j. uses_more context spans (span ∷ []) k (drop k lines) (omega arith) j ++ uses_from context all_spans (at j) (line ∷ [])) ∙ ap (λ us. uses_from context spans k (drop k lines) ++ us) (own_last context spans line span),
+            ∙ (λ j. uses_more context spans (span ∷ []) k (drop k lines) (omega arith) j ++ uses_from context all_spans (at j) (line ∷ [])) ∙ ap (λ us. uses_from context spans k (drop k lines) ++ us) (own_last context spans line span),
         ap (λ m. constants_named (take m all)) from ∙ ap constants_named front,
       )

@@ -137,11 +137,7 @@ fn emit(
 }
 
 /// Makes the map of the values on the stack pending that a call lists.
-fn give_stack_map(
-    alloc: Global,
-    state: &mut EmitState,
-    inst: &Inst,
-) -> Result<(), OutOfMemory>
+fn give_stack_map(alloc: Global, state: &mut EmitState, inst: &Inst) -> Result<(), OutOfMemory>
     ensures safepoint { OnOk result (with_map state.new.user_stack_map inst.now ≡ inst.now) }
     ensures frame { state.new.frame ≡ state.old.frame }
     ensures setting { state.new.vstate ≡ state.old.vstate }

@@ -44,8 +44,8 @@ use crate::shortest::{put_ebreak, put_jalr, put_lui, put_rri, put_rrr};
 use crate::symbols::{put_far_symbol, put_near_symbol, put_slot_load, put_unwind};
 use mach_buffer::MachBuffer;
 use rv_base::{
-    FrameLayout, IsaFlags, MachLabel, OutOfMemory, Reg, UserStackMap, WritableReg, link_reg, writable_zero_reg,
-    zero_reg,
+    FrameLayout, IsaFlags, MachLabel, OutOfMemory, Reg, UserStackMap, WritableReg, link_reg,
+    writable_zero_reg, zero_reg,
 };
 use rv_encode::{enc_auipc, encode_alu_rr_imm12, encode_branch, encode_cj_type, encode_jal};
 use rv_imms::Imm12;

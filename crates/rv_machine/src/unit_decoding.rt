@@ -7,9 +7,7 @@ ghost use Rattle.rv_machine.specs.UnitDecode.{is_source, atomic_of, decode_amo, 
 
 use crate::compressed::unit_decode_half;
 use crate::decoding::Decoded;
-use crate::fields::{
-    fmt, funct3, funct5, funct6, funct7, funct12, low_half, opcode, rd, rs1, rs2,
-};
+use crate::fields::{fmt, funct3, funct5, funct6, funct7, funct12, low_half, opcode, rd, rs1, rs2};
 use crate::opcodes::{AMO, LOAD_FP, OP, OP_32, OP_FP, OP_IMM, OP_V, STORE_FP, SYSTEM};
 use crate::ops::{AtomicOp, AtomicWidth, FloatFormat, MOp, VecFields, VecMemOp};
 use crate::{layouts, unit_tables as tables, vectors};
