@@ -1,0 +1,4 @@
+pub mod Layouts
+pub mod Mnemonics
+pub mod Halfwords
+pub mod Text
