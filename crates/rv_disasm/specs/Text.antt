@@ -24,6 +24,7 @@ use Rattle.rv_disasm.specs.declared.halfwords.HalfOp.{HalfOp}
 use Rattle.rv_disasm.specs.Halfwords.{half_name, half_layout, half_named}
 use Rattle.rv_disasm.specs.declared.forms.Form.{Form}
 use Rattle.rv_disasm.specs.declared.forms.Form.TheVariants as form
+use Rattle.rv_disasm.specs.declared.word.Word.{Word}
 
 -- ---- fields
 
@@ -126,8 +127,11 @@ text_of i = form_name i.0 ++ fields_text space (form_fields i.0) i.1
 
 -- ---- words
 
--- The low half of a word whose two lowest bits aren't 11 is an instruction of 16 bits. The row of an operation of 32 bits is its own; one of
--- 16 bits is expanded from a row of its own.
+-- the low half of a word whose two lowest bits aren't 11 is an instruction of 16 bits
+abbrev pub word_at : ℕ → Word
+word_at word = if word % 4 == 3 then record { bits = word; len = 4 } else record { bits = bits word 15 0; len = 2 }
+
+-- the row of an operation of 32 bits is its own; one of 16 bits is expanded from a row of its own
 abbrev pub form_at : ℕ → MOp → Option Form
 form_at word op = if word % 4 == 3 then Some (form.Word op) else option_map form.Half (half_named (bits word 15 0))
 

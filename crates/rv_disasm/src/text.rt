@@ -1,4 +1,4 @@
-//! The text of an instruction, written.
+//! The text of an instruction, written and taken from the front of a text.
 
 ghost use Rattle.std.specs.Prelude.{◌≡◌, ◌++◌, ◌<◌, pos, OnOk, unsigned_abs, string_bytes};
 ghost use Rattle.std.specs.List.{flat_map};
@@ -20,7 +20,7 @@ use rv_machine::{Decoded, MOp};
 use std::alloc::Global;
 
 /// x0 to x31.
-fn int_name(number: u64) -> &'static str
+pub(crate) fn int_name(number: u64) -> &'static str
     requires { number < 32 }
     ensures { result.now ≡ real_name Int number }
 {
@@ -61,7 +61,7 @@ fn int_name(number: u64) -> &'static str
 }
 
 /// f0 to f31.
-fn float_name(number: u64) -> &'static str
+pub(crate) fn float_name(number: u64) -> &'static str
     requires { number < 32 }
     ensures { result.now ≡ real_name FloatClass number }
 {
