@@ -4,7 +4,7 @@ pub use Rattle.mach_uses.proofs.Lists.{append_none, below, both_lists, comes_fro
 pub use Rattle.mach_buffer.proofs.Links.{recorded_get, OwnWindows, windows_block, windows_bytes, windows_none}
 pub use Rattle.mach_buffer.proofs.VeneersAndConstants.{Was, recorded_at, length_padded, aligned_near}
 pub use Rattle.mach_buffer.proofs.IslandVeneers.{own_idle, IslandRest}
-pub use Rattle.mach_buffer.proofs.SoundBuffers.{even_length, few_allocated, use_usable, bound_usable, ends_within, lasts_island, island_rest, island_reserve}
+pub use Rattle.mach_buffer.proofs.SoundBuffers.{even_length, few_allocated, use_usable, bound_usable, ends_within, lasts_island, island_rest, island_takes, island_reserve}
 pub use Rattle.mach_buffer.proofs.LastVeneers.{last_near}
 pub use Rattle.mach_buffer.proofs.ConstantOrder.{placed_same, placed_other}
 pub use Rattle.mach_buffer.proofs.Lasting.{grows_put, lasts_same, lasts_more, lasts_bytes, lasts_use, lasts_allocated, lasts_record, lasts_named, lasts_label}

@@ -1,9 +1,10 @@
 -- What callers may know of a sound buffer.
-use Rattle.std.proofs.Common.{◌≡◌, ℕ, ◌+◌, ◌*◌, ◌%◌, ◌<◌, ◌≤◌, length, Some, refl, ap, arith, ◌∙◌}
+use Rattle.std.proofs.Common.{◌≡◌, ℕ, ◌+◌, ◌*◌, ◌%◌, ◌<◌, ◌≤◌, length, Some, refl, ap, arith, sym, ◌∙◌}
+use Rattle.mach_records.specs.declared.records.ConstPlace.{ConstPlace}
 use Rattle.mach_buffer.specs.declared.buffer.MachBuffer.{MachBuffer}
-use Rattle.mach_buffer.proofs.Words.{nat_tests, unplaced_of, aligned, first_of, deadline, reserve_from, IsSound, slice_get, first_constant, Kinds, MachLabel, Use, Shape, inner_count, IsUsable, IsWhole, Lasts, CanIsland, Islanded, others_of, end_after, put_constants, reserve_of, shape_of, bytes_of, uses_of, place_of, allocated_of}
+use Rattle.mach_buffer.proofs.Words.{nat_tests, length-map, unplaced_of, aligned, first_of, deadline, reserve_from, IsSound, slice_get, first_constant, Kinds, MachLabel, Use, Shape, inner_count, IsUsable, IsWhole, Lasts, CanIsland, Islanded, others_of, end_after, put_constants, reserve_of, shape_of, bytes_of, uses_of, place_of, allocated_of}
 use Rattle.mach_buffer.proofs.ConstantsPut.{each_done, ends_within as ends_before, reserve_other}
-use Rattle.mach_buffer.proofs.ConstantOrder.{placed_other}
+use Rattle.mach_buffer.proofs.ConstantOrder.{placed_other, all_listed}
 use Rattle.mach_uses.proofs.Lists.{append_none}
 use Rattle.mach_buffer.proofs.VeneersAndConstants.{aligned_near}
 use Rattle.mach_buffer.proofs.IslandVeneers.{IslandRest, veneered, island_is, lasts_island as lasts_over}
@@ -41,6 +42,14 @@ module _ {L : Type 0} (kinds : Kinds L) (b : MachBuffer L) where
     island_rest sound i =
         let c = each_done {kinds = kinds} (unplaced_of (veneered i)) (veneered i) refl (whole sound).ordered in
         rw (island_is i, c.same) (grind (arith, nat_tests, append_none, c.others))
+
+    -- all constants that were named stand
+    pub island_takes : IsSound kinds b → Islanded kinds label (shape_of b) new → length new.constants ≡ length new.named
+    island_takes sound i =
+        let d = put_constants (veneered i) in
+        let c = each_done {kinds = kinds} (unplaced_of (veneered i)) (veneered i) refl (whole sound).ordered in
+        let stand : length d.constants ≡ length d.named = sym (length-map d.constants (λ (k : ConstPlace). k.constant)) ∙ ap length (all_listed d c.ordered c.unplaced) in
+        ap (λ (x : Shape L). length x.constants) (island_is i) ∙ stand ∙ sym (ap (λ (x : Shape L). length x.named) (island_is i))
 
     -- its constants take no more than was kept for them; before them come at most two zero bytes, the veneers and the jump's own
     -- one, and after them at most three zero bytes

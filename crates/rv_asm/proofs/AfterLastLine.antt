@@ -1,5 +1,5 @@
 -- What follows the last line: the last veneers, and the constants that no island took.
-use Rattle.std.proofs.Common.{◌≡◌, ℕ, zero, suc, ◌+◌, ◌*◌, ◌<◌, ◌≤◌, Bool, true, false, cond, List, [], ◌∷◌, ◌++◌, length, drop, Option, Some, None, refl, ap, sym, ◌∙◌, arith}
+use Rattle.std.proofs.Common.{◌≡◌, ℕ, zero, suc, ◌+◌, ◌*◌, ◌<◌, ◌≤◌, false, cond, List, [], ◌∷◌, ◌++◌, length, Option, Some, None, refl, ap, sym, ◌∙◌, arith}
 use Rattle.std.specs.Prelude.{slice_get, nat_eq}
 use Rattle.std.proofs.lemmas.Option.{same_Some}
 use Rattle.rv_base.specs.LabelUse.{Kinds}
@@ -8,10 +8,10 @@ use Rattle.rv_base.specs.declared.constant.VCodeConstant.{VCodeConstant}
 use Rattle.mach_records.specs.declared.records.ConstPlace.{ConstPlace}
 use Rattle.mach_uses.specs.declared.uses.Use.{Use}
 use Rattle.mach_buffer.specs.Shape.{Shape, unplaced_of}
-use Rattle.mach_buffer.specs.Buffer.{shape_of, bytes_of, place_of, constants_of}
+use Rattle.mach_buffer.specs.Buffer.{shape_of, bytes_of, constants_of}
 use Rattle.mach_buffer.specs.Constants.{put_constant_at, put_constant, put_each, constants_end}
 use Rattle.mach_buffer.specs.Finish.{padded_for, Finishes}
-use Rattle.mach_buffer.specs.Islands.{aligned, padding}
+use Rattle.mach_buffer.specs.Islands.{padding}
 use Rattle.mach_buffer.specs.Veneers.{put_at, put_veneer, put_all}
 use Rattle.mach_buffer.proofs.Laws.{length_padded, slice_get-append}
 use Rattle.rv_inst.specs.Context.{context_of}
@@ -21,9 +21,8 @@ use Rattle.rv_inst.specs.declared.job.Job.{Job}
 use Rattle.rv_emit.specs.Emitted.{Buffer, pending}
 use Rattle.rv_asm.specs.AfterLastIsland.{AfterLastIsland}
 use Rattle.rv_asm.specs.LinesInBuffer.{LinesStand}
-use Rattle.rv_asm.specs.Reach.{way_count, first_after_island, HasTail}
-use Rattle.rv_asm.specs.Reported.{constants_named}
-use Rattle.rv_asm.proofs.UsesAfterIsland.{pending_open, few_in_lines}
+use Rattle.rv_asm.specs.Reach.{constants_taken, constants_waiting, veneers_end, HasTail}
+use Rattle.rv_asm.proofs.IslandEnds.{uses_waiting, constants_left}
 
 -- ---- constants stay as more come to stand
 
@@ -60,27 +59,28 @@ there_at [] j lt = absurd (omega arith)
 there_at (x ∷ xs) zero lt = (x, refl)
 there_at (x ∷ xs) (suc j) lt = there_at xs j (omega arith)
 
-padded_long : (c : Bool) (bytes : List ℕ) → length (cond c bytes (bytes ++ padding (length bytes))) ≡ cond c (length bytes) (aligned (length bytes))
-padded_long true bytes = refl
-padded_long false bytes = length_padded bytes
+-- the end of the last veneers
+veneers_long : (n : ℕ) (bytes : List ℕ) → length (cond (nat_eq n 0) bytes (bytes ++ padding (length bytes))) + 8 * n ≡ veneers_end n (length bytes)
+veneers_long zero bytes = omega arith
+veneers_long (suc n) bytes =
+    let some : nat_eq (suc n) 0 ≡ false = grind (arith, nat_tests) in
+    (λ j. length (cond (some j) bytes (bytes ++ padding (length bytes))) + 8 * suc n) ∙ ap (λ m. m + 8 * suc n) (length_padded bytes)
 
 module _ (job : Job) (code : Code) (b : Buffer) (built : LinesStand (context_of job) job.lines code.lines b) (since : AfterLastIsland (context_of job) job.lines code.lines b) (f : Finishes label_kinds (shape_of b) code.bytes) (end : code.end ≡ length (bytes_of b)) (constants : code.constants ≡ f.put.constants) where
-  few : length (pending b) ≤ way_count (drop (first_after_island (context_of job) job.lines code.lines (length job.lines)) job.lines)
-  few = let same = ap length (pending_open (context_of job) job.lines code.lines b since) in let le = few_in_lines (context_of job) (place_of b) code.lines (first_after_island (context_of job) job.lines code.lines (length job.lines)) (drop (first_after_island (context_of job) job.lines code.lines (length job.lines)) job.lines) in omega (arith, same, le)
-
-  before : (j : ℕ) (c : ConstPlace) (k : Constant) → j < length (constants_of b) → slice_get code.constants j ≡ Some c → slice_get job.constants c.constant.number ≡ Some k → c.offset + length k.bytes ≤ code.end
+  before : (j : ℕ) (c : ConstPlace) (k : Constant) → j < length (constants_taken (context_of job) job.lines code.lines) → slice_get code.constants j ≡ Some c → slice_get job.constants c.constant.number ≡ Some k → c.offset + length k.bytes ≤ code.end
   before j c k lt hc hk =
-      let d = there_at (constants_of b) j lt in
+      let stand = since.ends.stand in
+      let d = there_at (constants_of b) j (omega (arith, lt, stand)) in
       let put : slice_get f.put.constants j ≡ Some d.0 = stood label_kinds (shape_of b) code.bytes f j d.0 d.1 in
       let same : d.0 ≡ c = same_Some d.0 c (sym put ∙ ap (λ (cs : List ConstPlace). slice_get cs j) (sym constants) ∙ hc) in
       let within = built.in_turn.within j c k (d.1 ∙ ap (λ (x : ConstPlace). Some x) same) (ap (λ (ks : List Constant). slice_get ks c.constant.number) built.registered ∙ hk) in
       omega (arith, within, end)
 
   pub built_tail : HasTail job code
-  built_tail = record {
-    veneers = length (pending b);
-    few = few;
-    taken = length (constants_of b);
-    before = before;
-    long = f.same_length ∙ f.long ∙ (λ j. constants_end (built.registered j) (drop (length (constants_of b)) (built.named j)) (padded_long (nat_eq (length (pending b)) 0) (bytes_of b) j + 8 * length (pending b))) ∙ (λ j. constants_end job.constants (drop (length (constants_of b)) (constants_named job.lines)) (cond (nat_eq (length (pending b)) 0) (sym end j) (aligned (sym end j)) + 8 * length (pending b)));
-  }
+  built_tail =
+      let left = constants_left (context_of job) job.lines code.lines b built since in
+      let uses = uses_waiting (context_of job) job.lines code.lines b built since in
+      record {
+        before = before;
+        long = f.same_length ∙ f.long ∙ (λ j. constants_end (built.registered j) (sym left j) (veneers_long (length (pending b)) (bytes_of b) j)) ∙ (λ j. constants_end job.constants (constants_waiting (context_of job) job.lines code.lines) (veneers_end (length (sym uses j)) (sym end j)));
+      }

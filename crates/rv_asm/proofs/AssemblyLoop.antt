@@ -52,7 +52,7 @@ so_far_none context lines b bytes uses places labels allocated records registere
   built = built_none context b bytes uses records registered named constants sound;
   named = named_none b uses labels places;
   sized = sized_none context b bytes uses places registered allocated;
-  since = since_none context b uses places;
+  since = since_none context b uses constants places;
   early = early_none context;
   straight = straight_none context b;
 }

@@ -1,47 +1,14 @@
--- What an instruction of each extent lacks, how far its span reaches, and constants apart from its words.
-use Rattle.std.proofs.Common.{◌≡◌, ◌⊎◌, inl, ℕ, ◌+◌, ◌-◌, ◌≤◌, List, [], ◌∷◌, Option, Some, None, pos, refl, ⊎_elim, arith}
+-- How far the span of an instruction reaches, and constants apart from its words.
+use Rattle.std.proofs.Common.{◌≡◌, ℕ, ⊎_elim, ◌⊎◌, inl, ◌+◌, ◌-◌, ◌≤◌, List, [], ◌∷◌, Some, arith}
 use Rattle.std.specs.Prelude.{slice_get}
-use Rattle.rv_base.specs.declared.call.TryCallInfo.{TryCallInfo}
 use Rattle.rv_base.specs.declared.flags.IsaFlags.{IsaFlags}
-use Rattle.rv_base.specs.Regs.{number_of}
 use Rattle.rv_base.specs.declared.constant.Constant.{Constant}
 use Rattle.mach_buffer.specs.Shape.{Shape}
 use Rattle.mach_records.specs.declared.records.ConstPlace.{ConstPlace}
-use Rattle.rv_inst.specs.Context.{Context}
-use Rattle.rv_inst.specs.Forms.{short_jalr}
-use Rattle.rv_inst.specs.Operands.{inst_constant}
-use Rattle.rv_inst.specs.Records.{inst_records}
-use Rattle.rv_inst.specs.Returns.{StackLoad, result_loads, loads_unless}
-use Rattle.rv_inst.specs.Sizes.{Extent, Words, Island, After, Around, words_in, extent_of, call_extent}
-use Rattle.rv_inst.specs.Uses.{uses_in}
-use Rattle.rv_inst.specs.declared.inst.Inst.{Inst}
-use Rattle.rv_inst.specs.declared.inst.Inst.TheVariants.{EmitIsland, BrTable, Call, CallInd, ReturnCall, ReturnCallInd}
+use Rattle.rv_inst.specs.Sizes.{Extent, Words, Island, After, Around, words_in}
 use Rattle.rv_inst.specs.declared.label_use.LabelUse.{LabelUse}
 use Rattle.rv_emit.specs.Standing.{GapStandsIn, SpansIn}
 use Rattle.rv_asm.specs.Reported.{StandOutside, WordsApart}
-
--- ---- what is lacking
-
--- one that asks for an island before its words has no use of its own, and records nothing by where it starts; one that has no words has
--- no records; and one with an island among its words names no constant
-abbrev pub Lacks : Context → Extent → Inst → Type 0
-Lacks context (Words size) inst = Unit {0}
-Lacks context (Island space) inst = ((start end : ℕ) → uses_in context start end inst ≡ []) × ((start end : ℕ) → inst_records context start end inst ≡ []) × (inst_constant inst ≡ None)
-Lacks context (After space size more) inst = ((start end : ℕ) → uses_in context start end inst ≡ []) × ((first second end : ℕ) → inst_records context first end inst ≡ inst_records context second end inst)
-Lacks context (Around before space after) inst = inst_constant inst ≡ None
-
-call_lacks : (context : Context) (inst : Inst) (jump popped : ℕ) (loads : List StackLoad) (t : Option TryCallInfo) → inst_constant inst ≡ None → Lacks context (call_extent context.flags jump popped loads t) inst
-call_lacks context inst jump popped [] t none = tt
-call_lacks context inst jump popped (l ∷ loads) t none = none
-
-pub lacks : (context : Context) (inst : Inst) → Lacks context (extent_of context inst) inst
-lacks context (EmitIsland space) = (λ start end. refl, λ start end. refl, refl)
-lacks context (BrTable index tmp1 tmp2 targets) = (λ start end. refl, λ first second end. refl)
-lacks context (Call info) = call_lacks context (Call info) 8 info.callee_pop_size (loads_unless info.patchable info.defs) info.try_call_info refl
-lacks context (CallInd info) = call_lacks context (CallInd info) (short_jalr context.flags 1 (number_of info.dest) (pos 0)).len info.callee_pop_size (result_loads info.defs) info.try_call_info refl
-lacks context (ReturnCall info) = (λ start end. refl, λ first second end. refl)
-lacks context (ReturnCallInd info) = (λ start end. refl, λ first second end. refl)
-lacks context inst = tt
 
 -- ---- spans
 

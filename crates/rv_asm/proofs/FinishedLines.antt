@@ -72,7 +72,7 @@ module _ (job : Job) (code : Code) (b : Buffer) (built : LinesStand (context_of 
   built_operations = record {
     each = λ i inst d base symbols slots mem listed one placed.
         let line = (each_in base symbols slots mem placed i (Put inst) listed).0 in
-        (has_operation (site_of job code known base symbols slots mem) (start_of code.lines i) d line.setting inst (end_of code.lines i) one line.stands mem (placed_at code base symbols slots mem (context_of job) f.finishes.put.place (records_of b) placed)).0;
+        has_operation (site_of job code known base symbols slots mem) (start_of code.lines i) d line.setting inst (end_of code.lines i) one line.stands mem (placed_at code base symbols slots mem (context_of job) f.finishes.put.place (records_of b) placed);
   }
 
   pub built_runs : length code.bytes < code_limit → code.end ≡ length (bytes_of b) → code.returns ≡ returns_from job.flags code.lines 0 job.lines → ((i : ℕ) (line : Line) → slice_get job.lines i ≡ Some line → is_unfit job.frame line ≡ false) → ((i : ℕ) (line : Line) → slice_get job.lines i ≡ Some line → AllBound job.lines (named_labels line)) → RunsAsListed job code

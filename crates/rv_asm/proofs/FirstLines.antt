@@ -1,7 +1,8 @@
 -- What is said of lines by their spans stays as lines are added.
 use Rattle.std.proofs.Common.{◌≡◌, ℕ, zero, suc, ◌+◌, ◌-◌, ◌<◌, ◌≤◌, Bool, true, false, cond, ◌||◌, List, [], ◌∷◌, ◌++◌, length, take, drop, Some, refl, ap, sym, ◌∙◌, arith, append_assoc}
 use Rattle.std.specs.Prelude.{nat_eq, nat_lt}
-use Rattle.std.proofs.lemmas.List.{length-append, length-drop, take-append-le, drop-append-le, append-nil}
+use Rattle.std.proofs.lemmas.List.{length-append, length-drop, take_all, take-append-le, drop-append-le, append-nil}
+use Rattle.rv_base.specs.declared.constant.VCodeConstant.{VCodeConstant}
 use Rattle.std.proofs.Math.Seq.{drop-append_seam}
 use Rattle.rv_inst.specs.Context.{Context}
 use Rattle.rv_inst.specs.declared.code.LineSpan.{LineSpan}
@@ -10,13 +11,9 @@ use Rattle.rv_inst.specs.declared.inst.Line.TheVariants.{Inst as Put, Bind}
 use Rattle.rv_inst.specs.declared.label_use.LabelUse.{LabelUse}
 use Rattle.mach_uses.specs.declared.uses.Use.{Use}
 use Rattle.mach_buffer.specs.Windows.{or_place}
-use Rattle.mach_buffer.proofs.Laws.{slice_get-append}
 use Rattle.rv_inst.specs.Uses.{uses_in}
-use Rattle.rv_asm.specs.Reported.{start_of, end_of}
-use Rattle.rv_asm.specs.Reported.{end_before}
-use Rattle.rv_asm.specs.Reach.{is_after_island, is_island, last_island, is_island_at, first_after_island, IsDue, way_count}
-use Rattle.rv_asm.specs.AfterLastIsland.{uses_from, bound_by}
-use Rattle.rv_asm.specs.AfterLastIsland.{uses_after_island}
+use Rattle.rv_asm.specs.Reported.{start_of, end_of, end_before, constants_named}
+use Rattle.rv_asm.specs.Reach.{is_after_island, is_island, is_island_at, first_after_island, uses_from, uses_after_island, bound_by, constants_taken}
 use Rattle.rv_asm.proofs.LabelNames.{start_more, end_more, start_last, end_last}
 
 -- ---- where islands stand
@@ -30,13 +27,6 @@ behind_more spans more i lt =
     let a = ends_more spans more i (omega arith) in
     let b = start_more spans more i lt in
     λ j. nat_lt (a j) (b j)
-
-pub last_more : (spans more : List LineSpan) (i : ℕ) → i ≤ length spans → last_island (spans ++ more) i ≡ last_island spans i
-last_more spans more zero le = refl
-last_more spans more (suc i) le =
-    let a = behind_more spans more i (omega arith) in
-    let b = last_more spans more i (omega arith) in
-    λ j. cond (a j) i (b j)
 
 island_more : (context : Context) (lines more : List Line) (spans more_spans : List LineSpan) (i : ℕ) → 1 ≤ length lines → i < length spans → is_island_at context (lines ++ more) (spans ++ more_spans) i ≡ is_island_at context lines spans i
 island_more context [] more spans more_spans i some lt = absurd (omega arith)
@@ -64,25 +54,6 @@ open_low context lines spans (suc i) = on (is_island_at context (drop i lines) s
     on true b le = omega arith
     on false true le = omega arith
     on false false le = omega arith
-
-last_low : (spans : List LineSpan) (i : ℕ) → last_island spans i ≤ i
-last_low spans zero = omega arith
-last_low spans (suc i) = on (is_after_island spans i) (last_low spans i)
-  where
-    on : (b : Bool) → last_island spans i ≤ i → cond b i (last_island spans i) ≤ suc i
-    on true le = omega arith
-    on false le = omega arith
-
--- islands in lines come later
-pub last_open : (context : Context) (lines : List Line) (spans : List LineSpan) (i : ℕ) → last_island spans i ≤ first_after_island context lines spans i
-last_open context lines spans zero = omega arith
-last_open context lines spans (suc i) = on (is_island_at context (drop i lines) spans i) (is_after_island spans i) (last_open context lines spans i) (last_low spans i)
-  where
-    on : (a b : Bool) → last_island spans i ≤ first_after_island context lines spans i → last_island spans i ≤ i → cond b i (last_island spans i) ≤ cond (a || b) i (first_after_island context lines spans i)
-    on true true le low = omega arith
-    on true false le low = omega arith
-    on false true le low = omega arith
-    on false false le low = le
 
 -- ---- uses and binds
 
@@ -127,26 +98,6 @@ bound_by_append spans i (Bind l ∷ lines) more label =
     on true rest = refl
     on false rest = rest
 
--- an island that is due stays so
-pub due_more : (context : Context) (lines more : List Line) (spans more_spans : List LineSpan) (i at distance : ℕ) → length spans ≡ length lines → i ≤ length lines → IsDue context lines spans i at distance → IsDue context (lines ++ more) (spans ++ more_spans) i at distance
-due_more context lines more spans more_spans i at distance count le d =
-    let last : last_island (spans ++ more_spans) i ≡ last_island spans i = last_more spans more_spans i (omega arith) in
-    let front : take i (lines ++ more) ≡ take i lines = take-append-le i lines more le in
-    let before = d.before in
-    let start : start_of (spans ++ more_spans) d.index ≡ start_of spans d.index = start_more spans more_spans d.index (omega arith) in
-    let counts : way_count (drop (last_island (spans ++ more_spans) i) (take i (lines ++ more))) ≡ way_count (drop (last_island spans i) (take i lines)) = λ j. way_count (drop (last j) (front j)) in
-    let since = d.since in
-    let due = d.due in
-    record {
-      index = d.index;
-      line = d.line;
-      there = slice_get-append lines more d.index d.line d.there;
-      jumps = d.jumps;
-      since = omega (arith, last, since);
-      before = d.before;
-      due = omega (arith, start, counts, due);
-    }
-
 -- ---- the uses that are open, as one line is added
 
 -- those of a line between two offsets
@@ -177,32 +128,51 @@ open_next context lines spans line span count =
     ap (first_after_island context all all_spans) long ∙ (λ j. cond (island j || nat_lt (first j) (start j)) n (rest j))
 
 module _ (context : Context) (lines : List Line) (spans : List LineSpan) (line : Line) (span : LineSpan) (count : length spans ≡ length lines) where
+  -- an island in the line or before it: the last one
+  first_own : (is_island context line span.start span.end || nat_lt (end_before spans (length lines)) span.start) ≡ true → first_after_island context (lines ++ line ∷ []) (spans ++ span ∷ []) (length (lines ++ line ∷ [])) ≡ length lines
+  first_own e = open_next context lines spans line span count ∙ (λ j. cond (e j) (length lines) (first_after_island context lines spans (length lines)))
+
+  -- none
+  first_on : is_island context line span.start span.end ≡ false → nat_lt (end_before spans (length lines)) span.start ≡ false → first_after_island context (lines ++ line ∷ []) (spans ++ span ∷ []) (length (lines ++ line ∷ [])) ≡ first_after_island context lines spans (length lines)
+  first_on e f = open_next context lines spans line span count ∙ (λ j. cond (e j || f j) (length lines) (first_after_island context lines spans (length lines)))
+
   -- an island in the line or before it: its own
   open_own : (is_island context line span.start span.end || nat_lt (end_before spans (length lines)) span.start) ≡ true → uses_after_island context (lines ++ line ∷ []) (spans ++ span ∷ []) ≡ own_uses context line span.start span.end
   open_own e =
       let all = lines ++ line ∷ [] in
       let all_spans = spans ++ span ∷ [] in
-      let n = length lines in
-      let from : first_after_island context all all_spans (length all) ≡ n = open_next context lines spans line span count ∙ (λ j. cond (e j) n (first_after_island context lines spans n)) in
-      open_at context all all_spans n from ∙ (λ j. uses_from context all_spans (sym count j) (drop-append_seam lines (line ∷ []) j)) ∙ own_last context spans line span
+      open_at context all all_spans (length lines) (first_own e) ∙ (λ j. uses_from context all_spans (sym count j) (drop-append_seam lines (line ∷ []) j)) ∙ own_last context spans line span
 
-  pub open_in_island : is_island context line span.start span.end ≡ true → uses_after_island context (lines ++ line ∷ []) (spans ++ span ∷ []) ≡ own_uses context line span.start span.end
-  open_in_island e = open_own (λ j. e j || nat_lt (end_before spans (length lines)) span.start)
+  -- it took the constants that all lines before it named
+  taken_own : (is_island context line span.start span.end || nat_lt (end_before spans (length lines)) span.start) ≡ true → constants_taken context (lines ++ line ∷ []) (spans ++ span ∷ []) ≡ constants_named lines
+  taken_own e =
+      let all = lines ++ line ∷ [] in
+      let front : take (length lines) all ≡ lines = take-append-le (length lines) lines (line ∷ []) (omega arith) ∙ take_all (length lines) lines (omega arith) in
+      ap (λ n. constants_named (take n all)) (first_own e) ∙ ap constants_named front
 
-  pub open_after : is_island context line span.start span.end ≡ false → nat_lt (end_before spans (length lines)) span.start ≡ true → uses_after_island context (lines ++ line ∷ []) (spans ++ span ∷ []) ≡ own_uses context line span.start span.end
-  open_after e f = open_own (λ j. e j || f j)
+  abbrev pub OpenAfter : List (Use LabelUse) → List VCodeConstant → Type 0
+  OpenAfter uses taken = (uses_after_island context (lines ++ line ∷ []) (spans ++ span ∷ []) ≡ uses) × (constants_taken context (lines ++ line ∷ []) (spans ++ span ∷ []) ≡ taken)
+
+  pub open_in_island : is_island context line span.start span.end ≡ true → OpenAfter (own_uses context line span.start span.end) (constants_named lines)
+  open_in_island e = let own : (is_island context line span.start span.end || nat_lt (end_before spans (length lines)) span.start) ≡ true = (λ j. e j || nat_lt (end_before spans (length lines)) span.start) in (open_own own, taken_own own)
+
+  pub open_after : is_island context line span.start span.end ≡ false → nat_lt (end_before spans (length lines)) span.start ≡ true → OpenAfter (own_uses context line span.start span.end) (constants_named lines)
+  open_after e f = let own : (is_island context line span.start span.end || nat_lt (end_before spans (length lines)) span.start) ≡ true = (λ j. e j || f j) in (open_own own, taken_own own)
 
   -- no island: its own are added
-  pub open_on : is_island context line span.start span.end ≡ false → nat_lt (end_before spans (length lines)) span.start ≡ false → uses_after_island context (lines ++ line ∷ []) (spans ++ span ∷ []) ≡ uses_after_island context lines spans ++ own_uses context line span.start span.end
+  pub open_on : is_island context line span.start span.end ≡ false → nat_lt (end_before spans (length lines)) span.start ≡ false → OpenAfter (uses_after_island context lines spans ++ own_uses context line span.start span.end) (constants_taken context lines spans)
   open_on e f =
       let all = lines ++ line ∷ [] in
       let all_spans = spans ++ span ∷ [] in
       let n = length lines in
       let k = first_after_island context lines spans n in
       let low : k ≤ n = open_low context lines spans n in
-      let from : first_after_island context all all_spans (length all) ≡ k = open_next context lines spans line span count ∙ (λ j. cond (e j || f j) n k) in
+      let from : first_after_island context all all_spans (length all) ≡ k = first_on e f in
       let cut : drop k all ≡ drop k lines ++ line ∷ [] = drop-append-le k lines (line ∷ []) low in
+      let front : take k all ≡ take k lines = take-append-le k lines (line ∷ []) low in
       let long : length (drop k lines) ≡ n - k = length-drop k lines in
-      let at : k + length (drop k lines) ≡ length spans = omega arith in
-      open_at context all all_spans k from ∙ ap (uses_from context all_spans k) cut ∙ uses_append context all_spans k (drop k lines) (line ∷ [])
-      ∙ (λ j. uses_more context spans (span ∷ []) k (drop k lines) (omega arith) j ++ uses_from context all_spans (at j) (line ∷ [])) ∙ ap (λ us. uses_from context spans k (drop k lines) ++ us) (own_last context spans line span)
+      let at : k + length (drop k lines) ≡ length spans = omega arith in (
+        open_at context all all_spans k from ∙ ap (uses_from context all_spans k) cut ∙ uses_append context all_spans k (drop k lines) (line ∷ [])
+            ∙ (λ j. uses_more context spans (span ∷ []) k (drop k lines) (omega arith) j ++ uses_from context all_spans (at j) (line ∷ [])) ∙ ap (λ us. uses_from context spans k (drop k lines) ++ us) (own_last context spans line span),
+        ap (λ m. constants_named (take m all)) from ∙ ap constants_named front,
+      )

@@ -1,12 +1,17 @@
 -- Jumps and branches in the finished code, and where they go.
-use Rattle.std.proofs.Common.{◌≡◌, ℕ, ◌+◌, ◌^◌, ◌≤◌, ⊎_elim, Bool, true, false, cond, List, [], ◌∷◌, ◌++◌, length, Some, ℤ, refl, ap, sym, ◌∙◌, subst, arith}
-use Rattle.std.specs.Prelude.{slice_get, ◌&&◌}
+use Rattle.std.proofs.Common.{◌≡◌, ℕ, ◌+◌, ◌^◌, ◌≤◌, ⊎_elim, Bool, true, false, cond, List, [], ◌∷◌, ◌++◌, length, Some, ℤ, pos, ◌-ℤ◌, refl, ap, sym, ◌∙◌, subst, arith}
+use Rattle.std.specs.Prelude.{slice_get, if◌then◌else◌, ◌&&◌}
 use Rattle.std.proofs.lemmas.Bool.{cases_eq, le-leb}
 use Rattle.rv_base.specs.declared.flags.IsaFlags.{IsaFlags}
 use Rattle.rv_base.specs.declared.label.MachLabel.{MachLabel}
 use Rattle.rv_encode.specs.Operations.{decoded_branch}
 use Rattle.rv_machine.specs.State.{Memory}
+use Rattle.rv_machine.specs.Steps.{fetch}
+use Rattle.rv_machine.proofs.UnitOperations.{is_integer, integer_decodes}
 use Rattle.rv_machine.specs.declared.decoding.Decoded.{Decoded}
+use Rattle.rv_machine.specs.declared.ops.MOp.TheVariants.{Base}
+use Rattle.rv_machine.specs.declared.ops.BaseOp.TheVariants as base_op
+use Rattle.rv_machine.specs.Layout.{compressed}
 use Rattle.rv_ops.specs.declared.compare.IntegerCompare.{IntegerCompare}
 use Rattle.rv_inst.specs.Context.{context_of}
 use Rattle.rv_inst.specs.Forms.{jump_kind}
@@ -35,7 +40,7 @@ use Rattle.mach_buffer.proofs.Laws.{lasts_more, comes_from, recorded_get, slice_
 use Rattle.rv_emit.specs.Emitted.{Buffer}
 use Rattle.rv_emit.specs.Images.{KeepsOutside}
 use Rattle.rv_code.specs.InstParts.{branch_to, parts_of}
-use Rattle.rv_code.specs.Operations.{short_jump}
+use Rattle.rv_code.specs.Operations.{decoded_jump, short_jump}
 use Rattle.rv_emit.specs.Puts.{Puts}
 use Rattle.rv_code.specs.Sites.{Site}
 use Rattle.rv_code.specs.Slots.{Slot, Label, Aim, size_of}
@@ -89,6 +94,13 @@ served_jump flags = on flags.has_zca
     on true = refl
     on false = refl
 
+short_jump_integer : (flags : IsaFlags) (d : ℤ) → is_integer (short_jump flags d).op ≡ true
+short_jump_integer flags d = on flags.has_zca
+  where
+    on : (c : Bool) → is_integer (if c then compressed (Base base_op.Jal) 0 0 0 d else decoded_jump d).op ≡ true
+    on true = refl
+    on false = refl
+
 module _ (job : Job) (code : Code) (b : Buffer) (built : LinesStand (context_of job) job.lines code.lines b) (fin : IsFinishedTo (shape_of b) code.bytes) (relocs : code.relocs ≡ relocs_in (records_of b)) (small : length code.bytes ≤ 2 ^ 64) (straight : GoStraight (context_of job) job.lines code.lines b) (named : (i : ℕ) (line : Line) → slice_get job.lines i ≡ Some line → AllBound job.lines (named_labels line)) where
   module _ (base : ℕ) (symbols slots : Addresses) (mem : Memory) (placed : IsPlaced code base symbols slots mem) where
     abbrev site : Site
@@ -98,11 +110,11 @@ module _ (job : Job) (code : Code) (b : Buffer) (built : LinesStand (context_of 
     keeps = keeps_outside code base symbols slots mem (context_of job) fin.finishes.put.place (records_of b) relocs placed
 
     -- of a line, after other slots
-    goes : (i : ℕ) (inst : Inst) (front : List Slot) (kind : LabelUse) (label : MachLabel) (operation : ℤ → Decoded) (more : List Slot) (at k end : ℕ) → slice_get job.lines i ≡ Some (Put inst) → SlotsIn job.flags (front ++ Aim kind (Label label) (λ d. operation d ∷ []) ∷ more) (shape_of b) (start_of code.lines i) end → start_of code.lines i + size_of front ≡ at → slice_get (uses_in (context_of job) (start_of code.lines i) (end_of code.lines i) inst) k ≡ Some (use_at at label kind) → has_veneer_of kind ≡ true → is_bound job.lines label.number ≡ true → GoesTo job code base mem i at kind operation label
-    goes i inst front kind label operation more at k end listed q sized own served bound =
+    goes : (i : ℕ) (inst : Inst) (front : List Slot) (kind : LabelUse) (label : MachLabel) (operation : ℤ → Decoded) (more : List Slot) (at k end : ℕ) → ((d : ℤ) → is_integer (operation d).op ≡ true) → slice_get job.lines i ≡ Some (Put inst) → SlotsIn job.flags (front ++ Aim kind (Label label) (λ d. operation d ∷ []) ∷ more) (shape_of b) (start_of code.lines i) end → start_of code.lines i + size_of front ≡ at → slice_get (uses_in (context_of job) (start_of code.lines i) (end_of code.lines i) inst) k ≡ Some (use_at at label kind) → has_veneer_of kind ≡ true → is_bound job.lines label.number ≡ true → GoesTo job code base mem i at kind operation label
+    goes i inst front kind label operation more at k end integer listed q sized own served bound =
         record {
           target = g.target;
-          reads = (g.has mem (placed_at code base symbols slots mem (context_of job) fin.finishes.put.place (records_of b) placed)).0;
+          reads = integer_decodes job.flags (fetch mem (base + at)) (operation (pos g.target -ℤ pos at)) (integer (pos g.target -ℤ pos at)) (g.has mem (placed_at code base symbols slots mem (context_of job) fin.finishes.put.place (records_of b) placed)).0;
           leads = g.leads;
           straight = λ few forward backward. g.straight
               (same_index (shape_of b).bytes (uses_of b) m.uses lasts.grows.more u grown built.windows (straight.each i inst k u (binding_line job.lines label.number) binder.0 listed own served binder.1 binder.2 (reached forward backward) few))
@@ -150,23 +162,23 @@ module _ (job : Job) (code : Code) (b : Buffer) (built : LinesStand (context_of 
     jal_goes i label e =
         let stood = (built.each i (Put (Jal label)) e).there in
         let parts : PartsIn job.flags (parts_of (context_of job) stood.0 (Jal label)) (shape_of b) (start_of code.lines i) (end_of code.lines i) = stood.1 in
-        goes i (Jal label) [] (jump_kind job.flags) label (short_jump job.flags) [] (start_of code.lines i) 0 parts.0 e parts.1 (omega arith) refl (served_jump job.flags) (named i (Put (Jal label)) e).0
+        goes i (Jal label) [] (jump_kind job.flags) label (short_jump job.flags) [] (start_of code.lines i) 0 parts.0 (short_jump_integer job.flags) e parts.1 (omega arith) refl (served_jump job.flags) (named i (Put (Jal label)) e).0
 
     branch_goes : (i : ℕ) (t : MachLabel) (not_taken : CondBrTarget) (kind : IntegerCompare) → slice_get job.lines i ≡ Some (Put (CondBr (ToLabel t) not_taken kind)) → GoesTo job code base mem i (start_of code.lines i) B12 (decoded_branch kind) t
     branch_goes i t Fallthrough kind e =
         let stood = (built.each i (Put (CondBr (ToLabel t) Fallthrough kind)) e).there in
         let parts : PartsIn job.flags (parts_of (context_of job) stood.0 (CondBr (ToLabel t) Fallthrough kind)) (shape_of b) (start_of code.lines i) (end_of code.lines i) = stood.1 in
-        goes i (CondBr (ToLabel t) Fallthrough kind) [] B12 t (decoded_branch kind) [] (start_of code.lines i) 0 parts.0 e parts.1 (omega arith) refl refl (named i (Put (CondBr (ToLabel t) Fallthrough kind)) e).0
+        goes i (CondBr (ToLabel t) Fallthrough kind) [] B12 t (decoded_branch kind) [] (start_of code.lines i) 0 parts.0 (λ d. refl) e parts.1 (omega arith) refl refl (named i (Put (CondBr (ToLabel t) Fallthrough kind)) e).0
     branch_goes i t (ToLabel f) kind e =
         let stood = (built.each i (Put (CondBr (ToLabel t) (ToLabel f) kind)) e).there in
         let parts : PartsIn job.flags (parts_of (context_of job) stood.0 (CondBr (ToLabel t) (ToLabel f) kind)) (shape_of b) (start_of code.lines i) (end_of code.lines i) = stood.1 in
-        goes i (CondBr (ToLabel t) (ToLabel f) kind) [] B12 t (decoded_branch kind) _ (start_of code.lines i) 0 parts.0 e parts.1 (omega arith) refl refl (named i (Put (CondBr (ToLabel t) (ToLabel f) kind)) e).0
+        goes i (CondBr (ToLabel t) (ToLabel f) kind) [] B12 t (decoded_branch kind) _ (start_of code.lines i) 0 parts.0 (λ d. refl) e parts.1 (omega arith) refl refl (named i (Put (CondBr (ToLabel t) (ToLabel f) kind)) e).0
 
     other_goes : (i : ℕ) (t f : MachLabel) (kind : IntegerCompare) → slice_get job.lines i ≡ Some (Put (CondBr (ToLabel t) (ToLabel f) kind)) → GoesTo job code base mem i (start_of code.lines i + 4) (jump_kind job.flags) (short_jump job.flags) f
     other_goes i t f kind e =
         let stood = (built.each i (Put (CondBr (ToLabel t) (ToLabel f) kind)) e).there in
         let parts : PartsIn job.flags (parts_of (context_of job) stood.0 (CondBr (ToLabel t) (ToLabel f) kind)) (shape_of b) (start_of code.lines i) (end_of code.lines i) = stood.1 in
-        goes i (CondBr (ToLabel t) (ToLabel f) kind) (branch_to kind (Label t) ∷ []) (jump_kind job.flags) f (short_jump job.flags) [] (start_of code.lines i + 4) 1 parts.0 e parts.1 (omega arith) refl (served_jump job.flags) (named i (Put (CondBr (ToLabel t) (ToLabel f) kind)) e).1.0
+        goes i (CondBr (ToLabel t) (ToLabel f) kind) (branch_to kind (Label t) ∷ []) (jump_kind job.flags) f (short_jump job.flags) [] (start_of code.lines i + 4) 1 parts.0 (short_jump_integer job.flags) e parts.1 (omega arith) refl (served_jump job.flags) (named i (Put (CondBr (ToLabel t) (ToLabel f) kind)) e).1.0
 
   pub built_jumps : HasJumps job code
   built_jumps = record {

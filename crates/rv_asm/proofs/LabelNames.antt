@@ -1,5 +1,5 @@
 -- Which labels are bound and named, and that a buffer can be finished.
-use Rattle.std.proofs.Common.{◌≡◌, ℕ, zero, suc, ◌+◌, ◌<◌, ◌≤◌, ◌⊎◌, inl, inr, Bool, true, false, cond, ◌||◌, List, [], ◌∷◌, ◌++◌, length, Option, Some, None, refl, ap, sym, ◌∙◌, subst, arith, ⊎_elim}
+use Rattle.std.proofs.Common.{◌≡◌, ℕ, ⊎_elim, zero, suc, ◌+◌, ◌<◌, ◌≤◌, ◌⊎◌, inl, inr, Bool, true, false, cond, ◌||◌, List, [], ◌∷◌, ◌++◌, length, Option, Some, None, refl, ap, sym, ◌∙◌, subst, arith}
 use Rattle.std.specs.Prelude.{slice_get, nat_eq, nat_le, nat_lt, is_some, option_map, unwrap_or}
 use Rattle.std.proofs.lemmas.Bool.{true≢false, eq-eqb, leb-false, ltb-true, ltb-false, or_parts, cases_eq, lt-ltb}
 use Rattle.std.proofs.lemmas.List.{append-nil, map-append}
@@ -30,7 +30,7 @@ use Rattle.mach_buffer.proofs.Laws.{both_lists, comes_from, slice_get-append, sl
 use Rattle.rv_emit.specs.Emitted.{Buffer, IsFarUse, AppendsSequence, AppendsInst, AppendsIsland, IslandIfNeeded, AppendsBy, Appends}
 use Rattle.rv_inst.specs.Forms.{jump_kind}
 use Rattle.rv_inst.specs.Uses.{use_at, target_uses, uses_by, uses_in}
-use Rattle.rv_emit.proofs.Laws.{Each, each_none, each_more, uses_kinds, no_own, low_kept, bound_kept}
+use Rattle.rv_emit.proofs.Laws.{Each, each_none, each_more, uses_kinds, room_keeps, emitted_keeps, no_own, bound_kept}
 use Rattle.rv_asm.specs.Reported.{start_of, end_of, binds_from}
 use Rattle.rv_asm.specs.Refusal.{binds, is_bound}
 use Rattle.rv_asm.specs.LinesInBuffer.{IsNamed, Named, BindPut}
@@ -286,32 +286,6 @@ good_emitted context lines inst old new e h = by (extent_of context inst) e
         (good_room lines space a.mid a.last a.made a.room first)
 
 -- ---- the loop's invariant
-
--- labels of lines stay as they are, but where a line binds one
-abbrev KeepsLow : Buffer → Buffer → Type 0
-KeepsLow old new = (label : ℕ) → label < first_inner → place_of new label ≡ place_of old label
-
-pub room_keeps : (distance : ℕ) (old new : Buffer) (made : Bool) → IslandIfNeeded distance old new made → (labels_of new ≡ labels_of old) × KeepsLow old new
-room_keeps distance old new made m = ⊎_elim
-    (λ same. (ap labels_of same.1, λ label low. ap (λ (b : Buffer). place_of b label) same.1))
-    (λ put. (put.1.labels, λ label low. put.1.places label (omega arith) (λ e. let at = put.1.allocated_label in absurd (omega arith))))
-    m.put
-
-code_keeps : {count : ℕ} (code : List ℕ) (own : List (Use LabelUse)) (old new : Buffer) → AppendsSequence count code own old new → (labels_of new ≡ labels_of old) × KeepsLow old new
-code_keeps code own old new p = (p.labels, low_kept p)
-
--- one thing after another
-both_keep : (old mid new : Buffer) → (labels_of mid ≡ labels_of old) × KeepsLow old mid → (labels_of new ≡ labels_of mid) × KeepsLow mid new → (labels_of new ≡ labels_of old) × KeepsLow old new
-both_keep old mid new first next = (next.0 ∙ first.0, λ label low. next.1 label low ∙ first.1 label low)
-
-pub emitted_keeps : (context : Context) (inst : Inst) (old new : Buffer) → Appends context inst old new → (labels_of new ≡ labels_of old) × KeepsLow old new
-emitted_keeps context inst old new e = by (extent_of context inst) e
-  where
-    by : (e : Extent) → AppendsBy context e inst old new → (labels_of new ≡ labels_of old) × KeepsLow old new
-    by (Words size) words = code_keeps words.code _ old new words.adds
-    by (Island space) (made, room) = room_keeps space old new made room
-    by (After space size more) (mid, made, room, words) = both_keep old mid new (room_keeps space old mid made room) (code_keeps words.code _ mid new words.adds)
-    by (Around before space after) a = both_keep old a.mid new (code_keeps a.first.code [] old a.mid (no_own a.first.code [] old a.mid a.first.adds)) (both_keep a.mid a.last new (room_keeps space a.mid a.last a.made a.room) (code_keeps a.second.code _ a.last new (no_own a.second.code _ a.last new a.second.adds)))
 
 pub named_none : (b : Buffer) → uses_of b ≡ [] → labels_of b ≡ [] → ((label : ℕ) → place_of b label ≡ None) → Named [] [] b
 named_none b uses labels none = record {

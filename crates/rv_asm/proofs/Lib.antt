@@ -30,3 +30,9 @@ mod BytesThere
 mod JumpsStand
 mod StraightUses
 mod AfterLastLine
+pub mod LineLaws
+pub mod FineLines
+pub mod StoredNumbers
+pub mod RegisterNumbers
+pub mod Laws
+mod IslandEnds

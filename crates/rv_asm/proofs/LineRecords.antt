@@ -1,38 +1,10 @@
 -- The records of lines, as they are recorded one line after another.
-use Rattle.std.proofs.Common.{◌≡◌, ℕ, suc, ◌+◌, ◌≤◌, Bool, List, [], ◌∷◌, ◌++◌, length, refl, ap, sym, ◌∙◌, arith, ⊎_elim, append_assoc, append-nil}
+use Rattle.std.proofs.Common.{◌≡◌, ℕ, suc, ◌+◌, ◌≤◌, List, [], ◌∷◌, ◌++◌, length, refl, ap, sym, ◌∙◌, arith, append_assoc, append-nil}
 use Rattle.rv_inst.specs.Context.{Context}
 use Rattle.rv_inst.specs.declared.code.LineSpan.{LineSpan}
-use Rattle.rv_inst.specs.declared.inst.Inst.{Inst}
 use Rattle.rv_inst.specs.declared.inst.Line.{Line}
-use Rattle.rv_inst.specs.Records.{inst_records}
-use Rattle.rv_inst.specs.Sizes.{Extent, Words, Island, After, Around, extent_of}
-use Rattle.mach_buffer.specs.Buffer.{bytes_of, records_of}
-use Rattle.mach_records.specs.declared.records.MachRecord.{MachRecord}
-use Rattle.rv_emit.specs.Emitted.{Buffer, IslandIfNeeded, AppendsBy, Appends}
 use Rattle.rv_asm.specs.Reported.{start_of, end_of, line_records, records_from}
 use Rattle.rv_asm.proofs.LabelNames.{start_more, end_more, start_last, end_last}
-use Rattle.rv_asm.proofs.Extents.{Lacks, lacks}
-
--- an island records none
-pub room_records : (distance : ℕ) (old new : Buffer) (made : Bool) → IslandIfNeeded distance old new made → records_of new ≡ records_of old
-room_records distance old new made m = ⊎_elim (λ same. ap (λ (b : Buffer). records_of b) same.1) (λ put. put.1.records) m.put
-
--- nor does one before other records
-after_room : (distance : ℕ) (old mid new : Buffer) (made : Bool) (own : List MachRecord) → IslandIfNeeded distance old mid made → records_of new ≡ records_of mid ++ own → records_of new ≡ records_of old ++ own
-after_room distance old mid new made own room records = records ∙ ap (λ rs. rs ++ own) (room_records distance old mid made room)
-
--- an instruction records its own
-pub appended_records : (context : Context) (inst : Inst) (old new : Buffer) → Appends context inst old new → records_of new ≡ records_of old ++ inst_records context (length (bytes_of old)) (length (bytes_of new)) inst
-appended_records context inst old new e = by (extent_of context inst) (lacks context inst) e
-  where
-    own : ℕ → List MachRecord
-    own start = inst_records context start (length (bytes_of new)) inst
-
-    by : (e : Extent) → Lacks context e inst → AppendsBy context e inst old new → records_of new ≡ records_of old ++ own (length (bytes_of old))
-    by (Words size) lack words = words.records
-    by (Island space) lack (made, room) = room_records space old new made room ∙ sym (append-nil (records_of old)) ∙ sym (ap (λ rs. records_of old ++ rs) (lack.1 (length (bytes_of old)) (length (bytes_of new))))
-    by (After space size more) lack (mid, made, room, words) = after_room space old mid new made (own (length (bytes_of mid))) room words.records ∙ ap (λ rs. records_of old ++ rs) (lack.1 (length (bytes_of mid)) (length (bytes_of old)) (length (bytes_of new)))
-    by (Around before space after) lack a = a.second.records ∙ append-nil (records_of a.last) ∙ room_records space a.mid a.last a.made a.room ∙ a.first.records
 
 -- a span more changes nothing for the lines before it
 records_spans : (context : Context) (spans more : List LineSpan) (i : ℕ) (lines : List Line) → i + length lines ≤ length spans → records_from context (spans ++ more) i lines ≡ records_from context spans i lines

@@ -1,5 +1,5 @@
 -- What stands in a buffer lasts, and what a line adds.
-use Rattle.std.proofs.Common.{◌≡◌, ℕ, ◌+◌, ◌-◌, ◌%◌, inl, inr, ⊎_elim, Bool, true, false, List, [], ◌++◌, length, append-nil, Option, Some, None, refl, ap, sym, ◌∙◌, subst, arith}
+use Rattle.std.proofs.Common.{◌≡◌, ℕ, ⊎_elim, ◌+◌, ◌-◌, ◌%◌, inl, inr, Bool, true, false, List, [], ◌++◌, length, append-nil, Option, Some, None, refl, ap, sym, ◌∙◌, subst, arith}
 use Rattle.std.specs.Prelude.{slice_get}
 use Rattle.rv_base.specs.declared.constant.Constant.{Constant}
 use Rattle.rv_base.specs.declared.flags.IsaFlags.{IsaFlags}
@@ -31,12 +31,10 @@ use Rattle.rv_emit.specs.Images.{EndsWithin, AllClear, FieldsStand}
 use Rattle.rv_code.specs.InstParts.{parts_of}
 use Rattle.rv_emit.specs.Standing.{SpansIn}
 use Rattle.rv_emit.specs.State.{setting_beyond}
-use Rattle.rv_emit.proofs.Laws.{adds_both, adds_none, appends, gap_last, parts_last, gap_put, parts_put, parts_are_self_contained, bytes_put, words_long}
+use Rattle.rv_emit.proofs.Laws.{room_records, appended_records, room_named, appended_named, adds_both, adds_none, appends, gap_last, parts_last, gap_put, parts_put, parts_are_self_contained, bytes_put, words_long}
 use Rattle.rv_asm.specs.LinesInBuffer.{LineStands, StandsAfter, InstPut, BindPut, LinePut}
 use Rattle.rv_asm.specs.Reported.{line_records, line_constant, StandOutside, WordsApart}
-use Rattle.rv_asm.proofs.Extents.{Lacks, lacks}
 use Rattle.rv_asm.proofs.AppendedLines.{appended_spans}
-use Rattle.rv_asm.proofs.LineRecords.{room_records, appended_records}
 
 -- what lasts from one buffer to another
 abbrev pub LastsTo : Buffer → Buffer → Type 0
@@ -60,22 +58,6 @@ stands_last context line old new l before start end h = record {
   within = let a = h.within in let b = l.grows.longer in omega arith;
   ends = let a = h.ends in let b = l.grows.longer in omega arith;
 }
-
--- ---- the constants that are named
-
--- an island names none
-room_named : (distance : ℕ) (old new : Buffer) (made : Bool) → IslandIfNeeded distance old new made → named_of new ≡ named_of old
-room_named distance old new made m = ⊎_elim (λ same. ap (λ (b : Buffer). named_of b) same.1) (λ put. put.1.named) m.put
-
--- an instruction names its own
-appended_named : (context : Context) (inst : Inst) (old new : Buffer) → Appends context inst old new → named_of new ≡ named_by (inst_constant inst) (named_of old)
-appended_named context inst old new e = by (extent_of context inst) (lacks context inst) e
-  where
-    by : (e : Extent) → Lacks context e inst → AppendsBy context e inst old new → named_of new ≡ named_by (inst_constant inst) (named_of old)
-    by (Words size) lack words = words.named
-    by (Island space) lack (made, room) = room_named space old new made room ∙ sym (ap (λ k. named_by k (named_of old)) lack.2)
-    by (After space size more) lack (mid, made, room, words) = words.named ∙ ap (named_by (inst_constant inst)) (room_named space old mid made room)
-    by (Around before space after) lack a = a.second.named ∙ room_named space a.mid a.last a.made a.room ∙ a.first.named ∙ sym (ap (λ k. named_by k (named_of old)) lack)
 
 -- ---- the constants that come to stand
 

@@ -1,5 +1,5 @@
 -- What the loop of `assemble` keeps: of no lines, and of one line more.
-use Rattle.std.proofs.Common.{◌≡◌, ℕ, suc, ◌+◌, ◌⊎◌, inl, inr, ⊎_elim, List, [], ◌∷◌, ◌++◌, length, Some, None, refl, ap, sym, ◌∙◌, subst, arith}
+use Rattle.std.proofs.Common.{◌≡◌, ℕ, ⊎_elim, suc, ◌+◌, ◌⊎◌, inl, inr, List, [], ◌∷◌, ◌++◌, length, Some, None, refl, ap, sym, ◌∙◌, subst, arith}
 use Rattle.std.specs.Prelude.{slice_get}
 use Rattle.std.proofs.lemmas.List.{length-append}
 use Rattle.rv_inst.specs.Operands.{named_by}
@@ -8,18 +8,14 @@ use Rattle.rv_inst.specs.declared.inst.Inst.{Inst}
 use Rattle.rv_inst.specs.declared.inst.Line.{Line}
 use Rattle.rv_inst.specs.declared.inst.Line.TheVariants.{Inst as Put}
 use Rattle.rv_inst.specs.declared.code.LineSpan.{LineSpan}
-use Rattle.rv_inst.specs.declared.label_use.LabelUse.{LabelUse}
-use Rattle.rv_inst.specs.LabelUse.{label_kinds}
 use Rattle.rv_inst.specs.Sizes.{Extent, extent_of}
-use Rattle.mach_uses.specs.declared.uses.Use.{Use}
 use Rattle.mach_records.specs.declared.records.ConstPlace.{ConstPlace}
-use Rattle.mach_records.specs.declared.records.MachRecord.{MachRecord}
 use Rattle.mach_buffer.specs.Buffer.{shape_of, bytes_of, uses_of, records_of, registered_of, named_of, constants_of}
-use Rattle.mach_buffer.specs.Windows.{AreWindows}
-use Rattle.mach_buffer.proofs.Laws.{windows_none, below}
+use Rattle.mach_buffer.proofs.Laws.{below}
 use Rattle.rv_code.specs.declared.state.EmitVState.{EmitVState}
 use Rattle.rv_emit.specs.Emitted.{Buffer, IsSoundBuffer}
-use Rattle.rv_emit.proofs.Laws.{before_or_last}
+use Rattle.rv_emit.specs.EmitRuns.{IsBuilt}
+use Rattle.rv_emit.proofs.Laws.{before_or_last, empty_built}
 use Rattle.rv_base.specs.declared.constant.VCodeConstant.{VCodeConstant}
 use Rattle.rv_asm.specs.Reported.{start_of, end_of, end_before, line_records, line_constant, constants_after, WordsApart}
 use Rattle.rv_asm.proofs.Extents.{spans_within, words_more}
@@ -42,20 +38,16 @@ built_none context b eb eu et er en ec s = record {
   records = et;
   registered = er;
   named = en;
-  stand = λ j c h. absurd (none_there j c h);
+  stand = built.constants;
   in_turn = record { ascend = λ i j c d k lt h hd hk. absurd (none_there i c h); within = λ j c k h hk. absurd (none_there j c h) };
   apart = λ i inst h. absurd (cc);
-  windows = subst (λ (bs : List ℕ). AreWindows label_kinds bs (uses_of b)) (sym eb)
-      (subst (λ (us : List (Use LabelUse)). AreWindows label_kinds [] us) (sym eu) windows_none);
-  fields = record { ends = λ k r h. absurd (no_record k r (sym (ap (λ rs. slice_get rs k) et) ∙ h)); clear = λ j u h. absurd (no_use j u (sym (ap (λ us. slice_get us j) eu) ∙ h)) };
+  windows = built.windows;
+  fields = built.fields;
   sound = s;
 }
   where
-    no_record : (k : ℕ) (r : MachRecord) → slice_get [] k ≡ Some r → ⊥
-    no_record k r h = absurd (cc)
-
-    no_use : (j : ℕ) (u : Use LabelUse) → slice_get [] j ≡ Some u → ⊥
-    no_use j u h = absurd (cc)
+    built : IsBuilt b
+    built = empty_built b eb eu et ec s
 
     none_at : (j : ℕ) (c : ConstPlace) → slice_get [] j ≡ Some c → ⊥
     none_at j c h = absurd (cc)

@@ -1,5 +1,5 @@
 -- The uses of lines that go straight to their labels, as lines are put.
-use Rattle.std.proofs.Common.{◌≡◌, ◌⊎◌, inl, inr, ℕ, zero, suc, ◌+◌, ◌-◌, ◌<◌, ◌≤◌, Bool, true, false, cond, not, ◌&&◌, List, [], ◌∷◌, ◌++◌, length, drop, Some, None, ap, sym, ◌∙◌, subst, arith}
+use Rattle.std.proofs.Common.{◌≡◌, ℕ, ◌⊎◌, inl, inr, zero, suc, ◌+◌, ◌-◌, ◌<◌, ◌≤◌, Bool, true, false, cond, not, ◌&&◌, List, [], ◌∷◌, ◌++◌, length, drop, Some, None, ap, sym, ◌∙◌, subst, arith}
 use Rattle.std.specs.Prelude.{slice_get, is_none}
 use Rattle.std.proofs.lemmas.Option.{same_Some}
 use Rattle.rv_base.specs.declared.label.MachLabel.{MachLabel}
@@ -17,15 +17,13 @@ use Rattle.mach_uses.specs.Reach.{is_reached}
 use Rattle.mach_buffer.specs.Buffer.{bytes_of, uses_of, place_of}
 use Rattle.mach_buffer.proofs.Laws.{below, slice_get-append}
 use Rattle.rv_emit.specs.Emitted.{Buffer, AppendsBy, Appends}
-use Rattle.rv_emit.proofs.Laws.{before_or_last, pending_at, uses_bare}
+use Rattle.rv_emit.proofs.Laws.{Lacks, lacks, before_or_last, pending_at, uses_bare}
 use Rattle.rv_asm.specs.LinesInBuffer.{LinesStand, BindPut}
-use Rattle.rv_asm.specs.Reach.{first_after_island}
-use Rattle.rv_asm.specs.AfterLastIsland.{uses_from}
+use Rattle.rv_asm.specs.Reach.{first_after_island, uses_from, uses_after_island}
 use Rattle.rv_asm.specs.Reported.{start_of, end_of}
-use Rattle.rv_asm.specs.AfterLastIsland.{uses_after_island, passing, AfterLastIsland}
+use Rattle.rv_asm.specs.AfterLastIsland.{passing, AfterLastIsland}
 use Rattle.rv_asm.specs.StraightUses.{IsIn, GoStraight}
 use Rattle.rv_asm.proofs.AppendedLines.{LineAppends}
-use Rattle.rv_asm.proofs.Extents.{Lacks, lacks}
 use Rattle.rv_asm.proofs.FirstLines.{open_more}
 use Rattle.rv_asm.proofs.LabelNames.{start_more, end_more, start_last, end_last}
 use Rattle.rv_asm.proofs.LinesInBuffer.{LastsTo}

@@ -2,7 +2,7 @@
 use Rattle.std.specs.Prelude.{◌≡◌, ◌⊎◌, ℕ, ◌+◌, ◌≤◌, Some, ℤ, pos, ◌-ℤ◌, slice_get}
 use Rattle.rv_base.specs.declared.label.MachLabel.{MachLabel}
 use Rattle.rv_encode.specs.Operations.{decoded_branch}
-use Rattle.rv_machine.specs.Decode.{decode}
+use Rattle.rv_machine.specs.Decode.{int_decode}
 use Rattle.rv_machine.specs.State.{Memory}
 use Rattle.rv_machine.specs.Steps.{fetch}
 use Rattle.rv_machine.specs.declared.decoding.Decoded.{Decoded}
@@ -28,7 +28,7 @@ use Rattle.rv_asm.specs.Reported.{start_of, binding_line, label_start}
 -- there. It goes straight where the place is in reach, and no island stands between the line and the one that binds the label.
 pub record GoesTo (job : Job) (code : Code) (base : ℕ) (mem : Memory) (i at : ℕ) (kind : LabelUse) (operation : ℤ → Decoded) (label : MachLabel) : Type 0 where
   pub target : ℕ
-  pub reads : decode job.flags (fetch mem (base + at)) ≡ Some (operation (pos target -ℤ pos at))
+  pub reads : int_decode job.flags (fetch mem (base + at)) ≡ Some (operation (pos target -ℤ pos at))
   pub leads : (target ≡ label_start code.lines job.lines label.number) ⊎ GoesOn job.flags code.bytes target (label_start code.lines job.lines label.number)
   pub straight : first_after_island (context_of job) job.lines code.lines (binding_line job.lines label.number) ≤ i → label_start code.lines job.lines label.number ≤ at + forward_of kind → at ≤ label_start code.lines job.lines label.number + backward_of kind → target ≡ label_start code.lines job.lines label.number
 

@@ -13,3 +13,7 @@ pub mod SavedRegisters
 pub mod Survey
 pub mod Jumps
 pub mod StraightUses
+pub mod LineRuns
+pub mod FineLines
+pub mod StoredNumbers
+pub mod Users

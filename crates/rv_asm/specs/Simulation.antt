@@ -16,8 +16,8 @@ use Rattle.rv_inst.specs.Meaning.{Environment, Exit, Next, To, Leave, Break, Tra
 use Rattle.rv_machine.specs.State.{State, IsState, Values, AreValues, Memory, wrap}
 use Rattle.rv_base.specs.declared.flags.IsaFlags.{IsaFlags}
 use Rattle.rv_machine.specs.declared.decoding.Decoded.{Decoded}
-use Rattle.rv_machine.specs.Decode.{decode}
-use Rattle.rv_machine.specs.Steps.{IsBreak, fetch, iter}
+use Rattle.rv_machine.specs.Decode.{int_decode}
+use Rattle.rv_machine.specs.Steps.{IsBreak, IsZeroHalf, fetch, iter}
 use Rattle.rv_inst.specs.SameValues.{Same, SameBut}
 use Rattle.rv_asm.specs.Placed.{Addresses, address_of_name, IsPlaced}
 use Rattle.rv_asm.specs.Reported.{start_of, end_of, binding_line, label_start}
@@ -107,14 +107,14 @@ address_of code base (Stop i) = wrap (base + start_of code.lines i)
 address_of code base (Trapped i at) = wrap (base + at)
 address_of code base (InData i) = wrap (base + start_of code.lines i)
 
--- at a break stands ebreak, and at a trap it is no operation, so the machine has no step
+-- at a break stands ebreak, and at a trap the halfword 0, so the machine has no step
 abbrev pub IsStopped : IsaFlags → Point → State → Type 0
 IsStopped flags (Stop i) s = IsBreak flags s.values.mem s.pc
 IsStopped flags (At i) s = Unit {0}
 IsStopped flags (Returned i) s = Unit {0}
 IsStopped flags (Out a) s = Unit {0}
 IsStopped flags End s = Unit {0}
-IsStopped flags (Trapped i at) s = decode flags (fetch s.values.mem s.pc) ≡ None
+IsStopped flags (Trapped i at) s = IsZeroHalf s.values.mem s.pc
 IsStopped flags (InData i) s = Unit {0}
 
 -- the start of the line of an index, or of one before it, or an address, which may be that of any line
@@ -154,4 +154,4 @@ pub record RunsAsListed (job : Job) (code : Code) : Type 0 where
 -- Wherever the code is placed, the machine reads at the start of a line of one machine word the operation that stands for it: in two
 -- bytes where the instruction has a form of sixteen bits, and then that form's, else in four.
 pub record HasOperations (job : Job) (code : Code) : Type 0 where
-  pub each : (i : ℕ) (inst : Inst) (d : Decoded) (base : ℕ) (symbols slots : Addresses) (mem : Memory) → slice_get job.lines i ≡ Some (Put inst) → operation_of (context_of job) inst ≡ Some d → IsPlaced code base symbols slots mem → decode job.flags (fetch mem (base + start_of code.lines i)) ≡ Some d
+  pub each : (i : ℕ) (inst : Inst) (d : Decoded) (base : ℕ) (symbols slots : Addresses) (mem : Memory) → slice_get job.lines i ≡ Some (Put inst) → operation_of (context_of job) inst ≡ Some d → IsPlaced code base symbols slots mem → int_decode job.flags (fetch mem (base + start_of code.lines i)) ≡ Some d

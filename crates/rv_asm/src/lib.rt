@@ -3,6 +3,7 @@
 
 mod assembly;
 mod frame;
+mod line_laws;
 mod lines;
 mod outcome;
 mod program;
@@ -12,6 +13,11 @@ mod returns;
 mod survey;
 
 pub use assembly::assemble;
+pub use line_laws::{
+    elsewhere_unchanged, entry_is_first_line, fine_lines_accepted, lines_run, nothing_runs,
+    only_memory_left, runs_compose, same_are_loaded_alike, silent_lines_unrecorded,
+    stack_loads_fine, stack_stores_fine, stored_is_loaded,
+};
 pub use outcome::Outcome;
 pub use program::run;
 pub use rv_listing::{ReadError, read_job, report};

@@ -12,12 +12,14 @@ ghost use Rattle.mach_uses.specs.Labels.{inner_count};
 ghost use Rattle.mach_labels.specs.Table.{first_inner};
 ghost use Rattle.rv_emit.specs.Emitted.{IsSoundBuffer, pending, IslandIfNeeded, CanEmit};
 ghost use Rattle.rv_emit.specs.Emission.{EmitsIn};
+ghost use Rattle.rv_emit.specs.StackMaps.{with_map};
 ghost use Rattle.rv_code.specs.declared.state.EmitVState.TheVariants.{Unknown};
 ghost use Rattle.rv_emit.specs.State.{setting_after, setting_beyond};
 ghost use Rattle.rv_asm.specs.LinesInBuffer.{CanPut, InstPut, BindPut, InstSetting, LinePut, LineSetting};
 
 use mach_buffer::MachBuffer;
-use rv_base::{MachLabel, OutOfMemory};
+use mach_records::copy_of_map;
+use rv_base::{MachLabel, OutOfMemory, UserStackMap};
 use rv_emit::{EmitInfo, EmitState, MachInstEmit, MachInstEmitState, emit_island_if_needed};
 use rv_inst::{Inst, LabelUse, Line, LineSpan};
 use std::alloc::Global;
@@ -113,7 +115,7 @@ fn emit_needed_island(
     Ok(made)
 }
 
-/// Emits an instruction.
+/// Emits an instruction: a call with the map of the values on the stack that it lists.
 fn emit(
     alloc: Global,
     sink: &mut MachBuffer<LabelUse>,
@@ -127,8 +129,44 @@ fn emit(
     ensures frame { state.new.frame ≡ state.old.frame }
     ensures setting { OnOk result (state.new.vstate ≡ setting_after (context_by info.now.isa_flags state.old.frame (registered_of sink.old)) sink.old inst.now state.old.vstate) }
 {
+    give_stack_map(alloc, state, inst)?;
     match inst.emit(alloc, sink, info, state) {
         Ok(()) => Ok(()),
         Err(_) => Err(OutOfMemory),
+    }
+}
+
+/// Makes the map of the values on the stack pending that a call lists.
+fn give_stack_map(alloc: Global, state: &mut EmitState, inst: &Inst) -> Result<(), OutOfMemory>
+    ensures safepoint { OnOk result (with_map state.new.user_stack_map inst.now ≡ inst.now) }
+    ensures frame { state.new.frame ≡ state.old.frame }
+    ensures setting { state.new.vstate ≡ state.old.vstate }
+{
+    match inst {
+        Inst::Call { info } => set_stack_map(alloc, state, &info.as_ref().stack_map),
+        Inst::CallInd { info } => set_stack_map(alloc, state, &info.as_ref().stack_map),
+        _ => Ok(()),
+    }
+}
+
+fn set_stack_map(
+    alloc: Global,
+    state: &mut EmitState,
+    stack_map: &Option<UserStackMap>,
+) -> Result<(), OutOfMemory>
+    ensures safepoint { OnOk result (state.new.user_stack_map ≡ stack_map.now) }
+    ensures frame { state.new.frame ≡ state.old.frame }
+    ensures setting { state.new.vstate ≡ state.old.vstate }
+{
+    match stack_map {
+        Some(map) => {
+            let copy = copy_of_map(map, alloc)?;
+            state.pre_safepoint(Some(copy));
+            Ok(())
+        }
+        None => {
+            state.pre_safepoint(None);
+            Ok(())
+        }
     }
 }

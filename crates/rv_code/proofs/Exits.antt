@@ -1,5 +1,5 @@
 -- From an exact state at the end of a chain to where an exit leads.
-use Rattle.std.proofs.Common.{◌≡◌, ℕ, ◌+◌, ◌<◌, Bool, true, false, List, [], ◌∷◌, arith, sym, subst, ◌∙◌}
+use Rattle.std.proofs.Common.{◌≡◌, ℕ, ◌+◌, ◌<◌, Bool, true, false, List, [], ◌∷◌, arith, sym, subst, ◌∙◌, ap}
 use Rattle.rv_base.specs.declared.label.MachLabel.{MachLabel}
 use Rattle.rv_machine.specs.State.{State, IsState, Values, wrap}
 use Rattle.rv_inst.specs.Meaning.{Exit, Next, To, Break}
@@ -14,6 +14,8 @@ use Rattle.rv_code.specs.InstRuns.{Enters, Arrives, ComesOut, least_steps}
 use Rattle.rv_code.specs.Chains.{Goes, IsAt, IsBeside}
 use Rattle.rv_code.proofs.Chains.{goes_none, goes_first, goes_second}
 use Rattle.rv_code.proofs.CodeSteps.{decodes_at, led_on, comes_goes}
+use Rattle.rv_machine.specs.Steps.{fetch}
+use Rattle.rv_machine.proofs.UnitOperations.{is_integer, integer_decodes}
 
 -- ---- values
 
@@ -82,4 +84,4 @@ gap_out from gap pc b =
 
 -- the machine stays where an ebreak stands
 pub break_out : {site : Site} {start after size : ℕ} {free : List ℕ} {v : Values} {s : State} (d : Decoded) → d.op ≡ Base Ebreak → IsAt site start size s → 0 < size → CodeHas site start (d ∷ []) → IsBeside site free v s → ComesOut site start after Break free v s
-break_out {site} {start} {after} {size} {free} {v} {s} d is h some has b = comes_out s (goes_none site.context.flags s) (h.pc, record { d = d; there = decodes_at d [] h some has; is = is }) b
+break_out {site} {start} {after} {size} {free} {v} {s} d is h some has b = comes_out s (goes_none site.context.flags s) (h.pc, record { d = d; there = integer_decodes site.context.flags (fetch s.values.mem s.pc) d (ap is_integer is) (decodes_at d [] h some has); is = is }) b

@@ -1,9 +1,12 @@
 -- Chains of a larger machine; each chain of the integer machine is one of it, of the same number of steps.
-use Rattle.std.proofs.Common.{◌≡◌, ℕ, zero, suc, ◌+◌, arith, lit≤, false, length, Option, Some, None, sym, ap, ◌∙◌, refl}
+use Rattle.std.proofs.Common.{◌≡◌, ℕ, zero, suc, ◌+◌, arith, lit≤, false, length, Option, Some, None, ap, ◌∙◌, refl}
 use Rattle.std.specs.Option.{option_and_then}
 use Rattle.rv_base.specs.declared.flags.IsaFlags.{IsaFlags}
 use Rattle.rv_machine.specs.State.{State, Values}
-use Rattle.rv_machine.specs.Steps.{iter, then_step, istep}
+use Rattle.rv_machine.specs.Steps.{iter}
+use Rattle.rv_full.specs.LargerMachine.{LargerMachine, GoesOver, repeat}
+use Rattle.rv_full.specs.Units.{FullState}
+use Rattle.rv_full.proofs.LargerMachine.{full_machine, larger_runs}
 use Rattle.rv_inst.specs.declared.inst.Inst.{Inst}
 use Rattle.rv_inst.specs.Frames.{is_bad_frame_for}
 use Rattle.rv_inst.specs.Meaning.{AreOutside, inst_effect, inst_exit, inst_temporaries, inst_writes}
@@ -13,7 +16,6 @@ use Rattle.rv_code.specs.declared.state.EmitVState.{EmitVState}
 use Rattle.rv_code.specs.Chains.{Goes}
 use Rattle.rv_code.specs.InstParts.{parts_of}
 use Rattle.rv_code.specs.InstRuns.{Enters, ComesOut, environment, least_steps}
-use Rattle.rv_code.specs.LargerMachine.{LargerMachine, GoesOver, repeat}
 use Rattle.rv_code.specs.Sites.{Site}
 use Rattle.rv_code.proofs.InstRuns.{inst_runs}
 
@@ -39,19 +41,6 @@ over_both {B} {step} {m} {n} {b} {c} g h = record {
 
 -- ---- those of the integer machine
 
--- by the number of steps
-pub larger_runs : {B : Type 0} (flags : IsaFlags) (m : LargerMachine flags B) (n : ℕ) (t : State) (b : B) → iter flags n (m.view b) ≡ Some t → repeat m.step n b ≡ Some (m.put t b)
-unfolding iter
-larger_runs flags m zero t b ran = let here : m.view b ≡ t = cc in ap Some (sym (m.put_view b) ∙ ap (λ s. m.put s b) here)
-larger_runs flags m (suc n) t b ran = after (iter flags n (m.view b)) ran (λ r e. larger_runs flags m n r b e)
-  where
-    after : (o : Option State) → then_step flags o ≡ Some t → ((r : State) → o ≡ Some r → repeat m.step n b ≡ Some (m.put r b)) → option_and_then m.step (repeat m.step n b) ≡ Some (m.put t b)
-    after None last first = absurd (cc)
-    after (Some r) last first =
-        ap (option_and_then m.step) (first r refl)
-        ∙ m.acts (m.put r b) t (ap (istep flags) (m.view_put r b) ∙ last)
-        ∙ ap Some (m.put_put r t b)
-
 pub larger_goes : {B : Type 0} {flags : IsaFlags} {n : ℕ} {s t : State} (m : LargerMachine flags B) (b : B) → m.view b ≡ s → Goes flags n s t → GoesOver m.step n b (m.put t b)
 larger_goes {B} {flags} {n} {s} {t} m b here g = record { steps = g.steps; moved = g.moved; ran = larger_runs flags m g.steps t b (ap (iter flags g.steps) here ∙ g.ran) }
 
@@ -70,3 +59,8 @@ larger_comes site m setting inst rule restores start after b v e clear =
       out = out;
       goes = larger_goes m b refl (record { steps = out.steps; moved = out.moved; ran = out.ran });
     }
+
+-- so it does on the machine with all units, and keeps the units and the answers
+pub full_comes : (site : Site) (setting : EmitVState) (inst : Inst) → inst_rule site.context inst ≡ None → is_bad_frame_for site.context.frame (tail_call_of inst) ≡ false → (start after : ℕ) (b : FullState) (v : Values) → Enters site start after (parts_of site.context setting inst) b.state v → AreOutside site.base (length site.bytes) (inst_writes (environment site start after) inst v) → ComesOver site (full_machine site.context.flags) start after inst v b
+unfolding full_machine
+full_comes site setting inst rule restores start after b v e clear = larger_comes site (full_machine site.context.flags) setting inst rule restores start after b v e clear

@@ -11,7 +11,6 @@ mod Traps
 pub mod TrapSlots
 mod InstWrites
 mod LargerMachine
-mod OneMoreRegister
 pub mod OneOperations
 pub mod Operands
 pub mod OperationActs

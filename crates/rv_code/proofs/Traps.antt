@@ -1,13 +1,11 @@
--- Zero bytes are no operation: the machine stays where the bytes of a recorded trap stand.
-use Rattle.std.proofs.Common.{◌≡◌, ℕ, ◌+◌, ◌%◌, ◌^◌, ◌<◌, ◌≤◌, Bool, true, false, List, [], ◌∷◌, length, None, arith, ap, ◌∙◌, lit<}
+-- The machine stays where the zero bytes of a recorded trap stand.
+use Rattle.std.proofs.Common.{◌≡◌, ℕ, ◌+◌, ◌%◌, ◌^◌, ◌<◌, ◌≤◌, Bool, true, false, List, [], ◌∷◌, length, arith, ap, ◌∙◌, lit<}
 use Rattle.std.specs.Prelude.{if◌then◌else◌}
 use Rattle.rv_base.specs.declared.flags.IsaFlags.{IsaFlags}
 use Rattle.rv_base.specs.declared.trap.TrapCode.{TrapCode}
 use Rattle.rv_inst.specs.Meaning.{Trap}
-use Rattle.rv_machine.specs.Decode.{decode}
-use Rattle.rv_machine.proofs.DecodeLaws.{decode_zero}
 use Rattle.rv_machine.specs.State.{Memory, State, Values, byte, wrap}
-use Rattle.rv_machine.specs.Steps.{fetch}
+use Rattle.rv_machine.specs.Steps.{fetch, IsZeroHalf}
 use Rattle.rv_code.specs.Sites.{Site, BytesAt}
 use Rattle.rv_inst.specs.Records.{IsRecorded}
 use Rattle.mach_records.specs.declared.records.Event.TheVariants as event
@@ -34,10 +32,10 @@ zero_half flags mem a = by flags.has_zca
     by true bytes = both (bytes.there 0 (lit< tt)) (bytes.there 1 (lit< tt)) bytes.room
     by false bytes = both (bytes.there 0 (lit< tt)) (bytes.there 1 (lit< tt)) (let room = bytes.room in omega arith)
 
-no_operation : {site : Site} {offset size : ℕ} {s : State} → IsAt site offset size s → 0 < size → BytesAt s.values.mem (site.base + offset) (trap_bytes site.context.flags) → decode site.context.flags (fetch s.values.mem s.pc) ≡ None
-no_operation {site} {offset} {size} {s} h some bytes =
-    ap (λ a. decode site.context.flags (fetch s.values.mem a)) (pc_in_code h some)
-    ∙ decode_zero site.context.flags (fetch s.values.mem (site.base + offset)) (zero_half site.context.flags s.values.mem (site.base + offset) bytes)
+zero_here : {site : Site} {offset size : ℕ} {s : State} → IsAt site offset size s → 0 < size → BytesAt s.values.mem (site.base + offset) (trap_bytes site.context.flags) → IsZeroHalf s.values.mem s.pc
+zero_here {site} {offset} {size} {s} h some bytes =
+    ap (λ a. fetch s.values.mem a % 2 ^ 16) (pc_in_code h some)
+    ∙ zero_half site.context.flags s.values.mem (site.base + offset) bytes
 
 pub trap_some : (flags : IsaFlags) → 0 < length (trap_bytes flags)
 trap_some flags = by flags.has_zca
@@ -48,4 +46,4 @@ trap_some flags = by flags.has_zca
 
 -- the machine stays where the word of a recorded trap stands
 pub trap_out : {site : Site} {start after offset size : ℕ} {free : List ℕ} {v : Values} {s : State} (code : TrapCode) → IsAt site offset size s → 0 < size → IsRecorded site.records offset (event.Trap code) → BytesAt s.values.mem (site.base + offset) (trap_bytes site.context.flags) → start ≤ offset → offset < after → IsBeside site free v s → ComesOut site start after (Trap code) free v s
-trap_out {site} {start} {after} {offset} {size} {free} {v} {s} code h some recorded bytes le lt b = comes_out s (goes_none site.context.flags s) (offset, recorded, le, lt, h.pc, no_operation h some bytes) b
+trap_out {site} {start} {after} {offset} {size} {free} {v} {s} code h some recorded bytes le lt b = comes_out s (goes_none site.context.flags s) (offset, recorded, le, lt, h.pc, zero_here h some bytes) b

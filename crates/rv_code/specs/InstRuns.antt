@@ -1,10 +1,9 @@
 -- What it is for the parts of an instruction to run as the instruction means: links of the proof.
-use Rattle.std.specs.Prelude.{◌≡◌, ℕ, ◌+◌, ◌%◌, ◌<◌, ◌≤◌, List, [], length, Some, None, unwrap_or}
+use Rattle.std.specs.Prelude.{◌≡◌, ℕ, ◌+◌, ◌%◌, ◌<◌, ◌≤◌, List, [], length, Some, unwrap_or}
 use Rattle.rv_base.specs.LabelUse.{code_limit}
 use Rattle.mach_labels.specs.Table.{first_constant}
-use Rattle.rv_machine.specs.Decode.{decode}
 use Rattle.rv_machine.specs.State.{State, IsState, Values, AreValues, wrap}
-use Rattle.rv_machine.specs.Steps.{fetch, iter, IsBreak}
+use Rattle.rv_machine.specs.Steps.{iter, IsBreak, IsZeroHalf}
 use Rattle.rv_inst.specs.declared.inst.Inst.{Inst}
 use Rattle.rv_inst.specs.Calls.{Return}
 use Rattle.rv_inst.specs.Operands.{try_call_of}
@@ -41,12 +40,12 @@ least_steps (Trap code) = 0
 least_steps Data = 0
 
 -- a machine where an exit leads, from parts that stand between two offsets; at a break stands an ebreak, and at a trap, which is recorded,
--- no operation
+-- the halfword 0
 abbrev pub Arrives : Site → ℕ → ℕ → Exit → State → Type 0
 Arrives site start after Next t = t.pc ≡ wrap (site.base + after)
 Arrives site start after (To label) t = (at : ℕ) × (site.place label ≡ Some at) × (t.pc ≡ wrap (site.base + at))
 Arrives site start after (Leave a) t = t.pc ≡ a
-Arrives site start after (Trap code) t = (at : ℕ) × IsRecorded site.records at (event.Trap code) × (start ≤ at) × (at < after) × (t.pc ≡ wrap (site.base + at)) × (decode site.context.flags (fetch t.values.mem t.pc) ≡ None)
+Arrives site start after (Trap code) t = (at : ℕ) × IsRecorded site.records at (event.Trap code) × (start ≤ at) × (at < after) × (t.pc ≡ wrap (site.base + at)) × IsZeroHalf t.values.mem t.pc
 Arrives site start after Data t = t.pc ≡ wrap (site.base + start)
 Arrives site start after Break t = (t.pc ≡ wrap (site.base + start)) × IsBreak site.context.flags t.values.mem t.pc
 

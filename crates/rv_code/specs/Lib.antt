@@ -13,6 +13,5 @@ pub mod Evaluation
 pub mod InstParts
 pub mod InstRuns
 pub mod Chains
-pub mod LargerMachine
 pub mod Immediates
 pub mod OwnCounts

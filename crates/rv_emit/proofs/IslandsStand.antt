@@ -4,7 +4,8 @@ use Rattle.std.specs.FinMap as map
 use Rattle.std.proofs.lemmas.Option.{same_Some}
 use Rattle.rv_base.specs.declared.flags.IsaFlags.{IsaFlags}
 use Rattle.rv_machine.specs.declared.decoding.Decoded.{Decoded}
-use Rattle.rv_machine.specs.Decode.{decode}
+use Rattle.rv_machine.specs.Decode.{int_decode, decode}
+use Rattle.rv_machine.proofs.UnitOperations.{is_integer, integer_decodes}
 use Rattle.rv_machine.specs.State.{Memory, byte, store, wrap}
 use Rattle.rv_machine.specs.Steps.{fetch}
 use Rattle.rv_machine.proofs.Images.{byte_stored}
@@ -55,8 +56,9 @@ word_fetched mem bytes at le placed =
     omega arith
 
 -- an operation that stands there stands in the bytes
-op_in : (flags : IsaFlags) (mem : Memory) (bytes : List ℕ) (at a : ℕ) (d : Decoded) → at + 4 ≤ length bytes → BytesAt mem 0 bytes → a ≡ 0 + at → decode flags (fetch mem a) ≡ Some d → decode flags (word_in bytes at) ≡ Some d
-op_in flags mem bytes at a d le placed here is = ap (decode flags) (sym (word_fetched mem bytes at le placed)) ∙ ap (λ n. decode flags (fetch mem n)) (sym here) ∙ is
+op_in : (flags : IsaFlags) (mem : Memory) (bytes : List ℕ) (at a : ℕ) (d : Decoded) → is_integer d.op ≡ true → at + 4 ≤ length bytes → BytesAt mem 0 bytes → a ≡ 0 + at → decode flags (fetch mem a) ≡ Some d → int_decode flags (word_in bytes at) ≡ Some d
+op_in flags mem bytes at a d integer le placed here is =
+    integer_decodes flags (word_in bytes at) d integer (ap (decode flags) (sym (word_fetched mem bytes at le placed)) ∙ ap (λ n. decode flags (fetch mem n)) (sym here) ∙ is)
 
 -- ---- a veneer
 
@@ -69,8 +71,8 @@ via_goes_on flags bytes kind u to g fits small =
     record {
       upper = p.upper;
       lower = p.lower;
-      first = op_in flags (memory_of bytes) bytes g.at (0 + g.at) _ (omega arith) placed refl has.0;
-      second = op_in flags (memory_of bytes) bytes (g.at + 4) (0 + g.at + 4) _ (omega arith) placed (omega arith) has.1.0;
+      first = op_in flags (memory_of bytes) bytes g.at (0 + g.at) _ refl (omega arith) placed refl has.0;
+      second = op_in flags (memory_of bytes) bytes (g.at + 4) (0 + g.at + 4) _ refl (omega arith) placed (omega arith) has.1.0;
       sum = p.sum;
     }
 
@@ -87,7 +89,7 @@ module _ (context : Context) (f : Shape LabelUse) (bytes : List ℕ) (fin : IsFi
   island_is from to i = subst (λ n. IsIsland context.flags bytes n to) (sym i.jump.starts) (record {
     longer = let l = i.longer in let e = i.jump.starts in omega arith;
     target = x.target;
-    jump = op_in context.flags (memory_of bytes) bytes (length old.bytes) (0 + length old.bytes) (decoded_jump (between (length old.bytes) x.target)) room placed refl (has (memory_of bytes) (record { aligned = refl; bytes = placed })).0;
+    jump = op_in context.flags (memory_of bytes) bytes (length old.bytes) (0 + length old.bytes) (decoded_jump (between (length old.bytes) x.target)) refl room placed refl (has (memory_of bytes) (record { aligned = refl; bytes = placed })).0;
     leads = ⊎_elim (λ here. inl (same_Some x.target to (sym here ∙ bound))) (λ g. inr (veneer_goes_on u x.target to bound g)) x.goes;
   })
     where

@@ -1,6 +1,8 @@
 -- A jump and an island after it, as the buffer's calls put them.
-use Rattle.std.proofs.Common.{◌≡◌, ℕ, ◌+◌, ◌*◌, ◌%◌, List, [], ◌∷◌, ◌++◌, length, take, Option, refl, ap, sym, ◌∙◌, subst, arith}
+use Rattle.std.proofs.Common.{◌≡◌, ℕ, ◌+◌, ◌-◌, ◌*◌, ◌%◌, List, [], ◌∷◌, ◌++◌, length, take, drop, Option, refl, ap, sym, ◌∙◌, subst, arith}
+use Rattle.std.specs.Prelude.{slice_get}
 use Rattle.std.proofs.lemmas.List.{length-append}
+use Rattle.std.proofs.lemmas.Option.{same_Some}
 use Rattle.rv_base.specs.declared.label.MachLabel.{MachLabel}
 use Rattle.mach_labels.specs.Table.{first_inner}
 use Rattle.rv_inst.specs.declared.label_use.LabelUse.{LabelUse}
@@ -9,7 +11,7 @@ use Rattle.rv_inst.specs.LabelUse.{label_kinds}
 use Rattle.rv_inst.specs.LabelUseWords.{word_bytes}
 use Rattle.mach_uses.specs.declared.uses.Use.{Use}
 use Rattle.mach_buffer.specs.Buffer.{shape_of, bytes_of, uses_of, place_of, labels_of, allocated_of, records_of, registered_of}
-use Rattle.mach_buffer.specs.Constants.{end_after, AllStand}
+use Rattle.mach_buffer.specs.Constants.{constants_end, end_after, AllStand}
 use Rattle.mach_buffer.specs.Shape.{with_allocated, with_bytes, with_use}
 use Rattle.mach_uses.specs.Reach.{deadline}
 use Rattle.mach_buffer.specs.Islands.{CanIsland, Islanded, others_of, aligned, island_end, first_of, AddsOwn}
@@ -19,7 +21,7 @@ use Rattle.rv_base.specs.declared.flags.IsaFlags.{IsaFlags}
 use Rattle.rv_code.specs.Slots.{Label}
 use Rattle.rv_emit.specs.Puts.{Puts}
 use Rattle.rv_code.specs.InstParts.{wide_jump_to}
-use Rattle.mach_buffer.proofs.Laws.{island_rest, island_reserve, lasts_more, lasts_allocated, lasts_island, stands_last, windows_with_use, even_length, few_allocated}
+use Rattle.mach_buffer.proofs.Laws.{slice_get-append_last, island_rest, island_takes, island_reserve, lasts_more, lasts_allocated, lasts_island, stands_last, windows_with_use, even_length, few_allocated}
 use Rattle.rv_emit.specs.Emitted.{Buffer, IsSoundBuffer, HasWindows, pending, AppendsCode, AppendsIsland}
 use Rattle.rv_code.specs.Operations.{jump_word}
 use Rattle.rv_inst.specs.Uses.{use_at}
@@ -63,6 +65,15 @@ end_whole ends start count last = whole (ends (first_of ends start count last + 
     whole : (n : ℕ) → aligned n % 4 ≡ 0
     whole n = omega arith
 
+-- the jump over an island is the use that was recorded last
+jump_is : (old mid new : Buffer) (after_island : MachLabel) → JumpPut old mid after_island → (i : Islanded label_kinds after_island (shape_of mid) (shape_of new)) → use_at (length (bytes_of old)) after_island Jal20 ≡ i.jump
+jump_is old mid new after_island p i =
+    let us = uses_of old in
+    let u = use_at (length (bytes_of old)) after_island Jal20 in
+    let long = length-append us (u ∷ []) in
+    let last : length us ≡ length (us ++ u ∷ []) - 1 = omega (arith, long) in
+    same_Some u i.jump (sym (slice_get-append_last us u) ∙ ap (slice_get (us ++ u ∷ [])) last ∙ ap (λ (vs : List (Use LabelUse)). slice_get vs (length vs - 1)) (sym p.uses) ∙ i.last)
+
 -- a jump was put, and the island after it
 pub puts_island : (old allocated mid new : Buffer) (after_island : MachLabel) → JumpPut old mid after_island → labels_of allocated ≡ labels_of old → IsSoundBuffer allocated → bytes_of allocated ≡ bytes_of old → (HasWindows old → HasWindows allocated) →
     AppendsCode (word_bytes jump_word) (use_at (length (bytes_of allocated)) after_island Jal20 ∷ []) allocated mid →
@@ -102,7 +113,9 @@ puts_island old allocated mid new after_island p labels sound same_bytes windows
       registered = rest.registered ∙ p.registered;
       named = rest.named ∙ named;
       settled = i.settled;
-      aligned = ap (λ n. n % 4) end ∙ end_whole (end_after (shape_of mid)) (aligned (length (bytes_of mid))) count last;
+      end = end ∙ (λ j. island_end (λ n. constants_end (p.registered j) (drop (length (constants j)) (named j)) n) (aligned (long j)) (counted j) (deadline label_kinds (sym (jump_is old mid new after_island p i) j)));
+      taken = island_takes label_kinds mid p.sound i;
+      whole = ap (λ n. n % 4) end ∙ end_whole (end_after (shape_of mid)) (aligned (length (bytes_of mid))) count last;
       short = omega (arith, long, near, counted, reserve);
       adds = adds_both (adds_none (omega (arith, long)) constants p.registered) (adds_island label_kinds after_island (shape_of mid) (shape_of new) i);
       windows = λ w. kept (jump_windows allocated mid after_island sound a (windows w));

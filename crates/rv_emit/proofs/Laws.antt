@@ -6,7 +6,7 @@ pub use Rattle.rv_code.proofs.Steps.{istep_at, iter_none, iter_after}
 pub use Rattle.rv_code.proofs.Exits.{same_but, but_then_same}
 pub use Rattle.rv_code.proofs.Registers.{are_values_set}
 -- what keeping the rules gives
-pub use Rattle.rv_code.proofs.Operands.{keeps}
+pub use Rattle.rv_code.proofs.Operands.{keeps, listed, listed_targets, listed_try}
 -- an instruction's parts, wherever they stand: they run as it means
 pub use Rattle.rv_code.proofs.InstRuns.{inst_runs}
 -- and what is left of a call where it returns
@@ -22,6 +22,10 @@ pub use Rattle.rv_code.proofs.TableSlots.{table_most}
 pub use Rattle.rv_emit.proofs.TableAppends.{AppendsAfter, appends_table, table_parts_long, table_some, table_stands}
 pub use Rattle.rv_code.proofs.TailSlots.{return_most}
 pub use Rattle.rv_emit.proofs.TailAppends.{appends, appends_tail, appends_t0, tail_parts_long, t0_parts_long}
+-- a buffer in which nothing stands yet
+pub use Rattle.rv_emit.proofs.EmitRuns.{empty_built}
+-- what an instruction lacks by its extent, and what records, constants and labels it leaves
+pub use Rattle.rv_emit.proofs.InstKeeps.{Lacks, lacks, room_records, appended_records, room_named, appended_named, room_keeps, emitted_keeps}
 -- a call: where its words stand, and how many they are at most
 pub use Rattle.rv_emit.proofs.CallSlots.{call_stands, call_ind_stands, call_few, results_few, call_sum, call_ind_sum}
 pub use Rattle.rv_emit.proofs.CallAppends.{words_pending}

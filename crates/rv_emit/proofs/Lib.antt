@@ -42,3 +42,6 @@ mod TailEmits
 mod ChoicesPut
 mod CodePut
 mod OwnPieces
+mod InstKeeps
+mod StackMaps
+mod EmitRuns

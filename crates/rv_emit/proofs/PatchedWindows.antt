@@ -13,7 +13,7 @@ use Rattle.rv_machine.specs.State.{signed}
 use Rattle.rv_machine.specs.Layout.{word_funct3, u_bits, i_bits, i_layout}
 use Rattle.rv_machine.specs.Opcodes.{AUIPC, LOAD, OP_IMM}
 use Rattle.rv_machine.specs.Tables.{load_entry}
-use Rattle.rv_machine.specs.Decode.{by_opcode}
+use Rattle.rv_machine.specs.Decode.{int_by_opcode}
 use Rattle.rv_ops.specs.declared.memory.LoadOP.{LoadOP}
 use Rattle.rv_ops.specs.Memory.{load_funct3}
 use Rattle.rv_encode.specs.Layouts.{IsUType, IsIType}
@@ -60,7 +60,7 @@ upper_patchable flags w rd fits h = record {
   long = refl;
   fresh = let e = h.imm_is in upper_fresh w (omega arith);
   patched = λ new d long all same aims. let k = upper_in w rd new h long all same in
-      encodes flags new _ long (opcode_decodes flags (word_at new) AUIPC k.opcode_is refl ∙ (λ i. Some (decoded (Base base.Auipc) (k.rd_is i) 0 0 (signed (2 ^ 19) (aims i)))));
+      encodes flags new _ long (opcode_decodes flags (word_at new) AUIPC k.opcode_is refl (λ i. Some (decoded (Base base.Auipc) (k.rd_is i) 0 0 (signed (2 ^ 19) (aims i)))));
 }
 
 -- ---- the lower part
@@ -83,15 +83,15 @@ lower_in w opcode rd funct3 rs new h four all same =
     let b3 = all 3 (omega arith) in
     lower_kept w opcode rd funct3 rs (slice_index new 0) (slice_index new 1) (slice_index new 2) (slice_index new 3) b0 b1 b2 b3 (same_byte (slice_index new 0) (w % 256) b0 (omega arith) same.0) (same_byte (slice_index new 1) (w / 256 % 256) b1 (omega arith) same.1.0) (same_low (slice_index new 2) (w / 65536 % 256) same.1.1.0) h
 
-addi_decodes : (flags : IsaFlags) (w : ℕ) → word_funct3 w ≡ 0 → by_opcode flags OP_IMM w ≡ Some (i_layout w (Alu (Int Addi)))
-addi_decodes flags w z = rw z
+addi_decodes : (w : ℕ) → word_funct3 w ≡ 0 → int_by_opcode OP_IMM w ≡ Some (i_layout w (Alu (Int Addi)))
+addi_decodes w z = rw z
 
 pub addi_patchable : (flags : IsaFlags) (w rd rs : ℕ) → w < 2 ^ 32 → IsIType w OP_IMM rd 0 rs 0 → IsPatchable flags PCRelLo12I (word_bytes w) (λ d. decoded_addi rd rs (lower_of_distance d) ∷ [])
 addi_patchable flags w rd rs fits h = record {
   long = refl;
   fresh = let e = h.imm_is in lower_fresh w (omega arith);
   patched = λ new d long all same aims. let k = lower_in w OP_IMM rd 0 rs new h long all same in
-      encodes flags new _ long (opcode_decodes flags (word_at new) OP_IMM k.opcode_is refl ∙ addi_decodes flags (word_at new) k.funct3_is ∙ (λ i. Some (decoded_addi (k.rd_is i) (k.rs1_is i) (signed (2 ^ 11) (aims i)))));
+      encodes flags new _ long (opcode_decodes flags (word_at new) OP_IMM k.opcode_is refl (addi_decodes (word_at new) k.funct3_is ∙ (λ i. Some (decoded_addi (k.rd_is i) (k.rs1_is i) (signed (2 ^ 11) (aims i))))));
 }
 
 pub load_patchable : (flags : IsaFlags) (op : LoadOP) (w rd rs : ℕ) → w < 2 ^ 32 → IsIType w LOAD rd (load_funct3 op) rs 0 → IsPatchable flags PCRelLo12I (word_bytes w) (λ d. decoded_load op rd rs (lower_of_distance d) ∷ [])
@@ -100,6 +100,6 @@ load_patchable flags op w rd rs fits h = record {
   fresh = let e = h.imm_is in lower_fresh w (omega arith);
   patched = λ new d long all same aims. let k = lower_in w LOAD rd (load_funct3 op) rs new h long all same in
       encodes flags new _ long (opcode_decodes flags (word_at new) LOAD k.opcode_is refl
-      ∙ (λ i. option_map (λ x. decoded (Load x) (k.rd_is i) (k.rs1_is i) 0 (signed (2 ^ 11) (aims i))) (load_entry (k.funct3_is i)))
-      ∙ ap (option_map (λ x. decoded (Load x) rd rs 0 (lower_of_distance d))) (load_table op));
+      ((λ i. option_map (λ x. decoded (Load x) (k.rd_is i) (k.rs1_is i) 0 (signed (2 ^ 11) (aims i))) (load_entry (k.funct3_is i)))
+      ∙ ap (option_map (λ x. decoded (Load x) rd rs 0 (lower_of_distance d))) (load_table op)));
 }

@@ -10,7 +10,7 @@ use Rattle.rv_base.specs.declared.flags.IsaFlags.{IsaFlags}
 use Rattle.rv_base.specs.declared.label.MachLabel.{MachLabel}
 use Rattle.rv_machine.specs.declared.ops.MOp.TheVariants.{Base}
 use Rattle.rv_machine.specs.declared.ops.BaseOp.TheVariants as base
-use Rattle.rv_machine.specs.Decode.{decode, by_opcode}
+use Rattle.rv_machine.specs.Decode.{decode, int_by_opcode}
 use Rattle.rv_machine.specs.Layout.{word_opcode, word_funct3, u_bits, i_bits, i_layout}
 use Rattle.rv_machine.specs.Opcodes.{AUIPC, JALR}
 use Rattle.rv_machine.specs.State.{signed}
@@ -82,8 +82,8 @@ lower_low n lt = grind (arith, ints)
 lower_high : (n : ℕ) → n < 2 ^ 12 → signed (2 ^ 11) n ≤ℤ pos 2047
 lower_high n lt = grind (arith, ints)
 
-jalr_decodes : (flags : IsaFlags) (x : ℕ) → word_funct3 x ≡ 0 → by_opcode flags JALR x ≡ Some (i_layout x (Base base.Jalr))
-jalr_decodes flags x z = rw z
+jalr_decodes : (x : ℕ) → word_funct3 x ≡ 0 → int_by_opcode JALR x ≡ Some (i_layout x (Base base.Jalr))
+jalr_decodes x z = rw z
 
 -- both words with a distance patched in
 pair_decodes : (flags : IsaFlags) (w x link tmp : ℕ) (new : List ℕ) (d : ℤ) → w < 2 ^ 32 → x < 2 ^ 32 → IsUType w AUIPC tmp 0 → IsIType x JALR link 0 tmp 0 → length new ≡ 8 → AllBytes new → SameOutside (marks_of PCRel32) (pair_bytes w x) new → Aims PCRel32 new d → PairDecodes flags (pair_bytes w x) new d
@@ -111,8 +111,8 @@ pair_patchable flags w x link tmp fw fx h g = record {
   patched = λ new d long all same aims mem a there.
       let p = pair_decodes flags w x link tmp new d fw fx h g long all same aims in
       let held = upper_held p (omega arith) (omega arith) in
-      let upper : decode flags (word_at new) ≡ Some (decoded (Base base.Auipc) tmp 0 0 (upper_of d)) = p.first ∙ ap (λ n. option_map (with_immediate p.upper) (decode flags n)) (first_back w x) ∙ ap (option_map (with_immediate p.upper)) (opcode_decodes flags w AUIPC h.opcode_is refl) ∙ (λ i. Some (decoded (Base base.Auipc) (h.rd_is i) 0 0 (sym held.0 i))) in
-      let lower : decode flags (word_at (drop 4 new)) ≡ Some (decoded_jalr link tmp (lower_of d)) = p.second ∙ ap (λ n. option_map (with_immediate p.lower) (decode flags n)) (second_back w x) ∙ ap (option_map (with_immediate p.lower)) (opcode_decodes flags x JALR g.opcode_is refl ∙ jalr_decodes flags x g.funct3_is) ∙ (λ i. Some (decoded_jalr (g.rd_is i) (g.rs1_is i) (sym held.1 i))) in (
+      let upper : decode flags (word_at new) ≡ Some (decoded (Base base.Auipc) tmp 0 0 (upper_of d)) = p.first ∙ ap (λ n. option_map (with_immediate p.upper) (decode flags n)) (first_back w x) ∙ ap (option_map (with_immediate p.upper)) (opcode_decodes flags w AUIPC h.opcode_is refl refl) ∙ (λ i. Some (decoded (Base base.Auipc) (h.rd_is i) 0 0 (sym held.0 i))) in
+      let lower : decode flags (word_at (drop 4 new)) ≡ Some (decoded_jalr link tmp (lower_of d)) = p.second ∙ ap (λ n. option_map (with_immediate p.lower) (decode flags n)) (second_back w x) ∙ ap (option_map (with_immediate p.lower)) (opcode_decodes flags x JALR g.opcode_is refl (jalr_decodes x g.funct3_is)) ∙ (λ i. Some (decoded_jalr (g.rd_is i) (g.rs1_is i) (sym held.1 i))) in (
         ap (decode flags) (word_there mem a new (omega arith) there) ∙ upper,
         (ap (decode flags) (word_there mem (a + 4) (drop 4 new) (omega (arith, length-drop 4 new)) (rest_there mem a new 4 (omega arith) there)) ∙ lower, tt),
       );

@@ -20,7 +20,7 @@ use Rattle.rv_machine.specs.declared.decoding.Decoded.{Decoded}
 use Rattle.rv_machine.specs.declared.ops.MOp.TheVariants.{Base}
 use Rattle.rv_machine.specs.declared.ops.BaseOp.TheVariants.{Auipc}
 use Rattle.rv_machine.specs.State.{Memory, Values, reg, set_reg, wrap, low64, signed, at}
-use Rattle.rv_machine.specs.Decode.{decode}
+use Rattle.rv_machine.specs.Decode.{int_decode, decode}
 use Rattle.rv_machine.specs.Steps.{fetch}
 use Rattle.rv_encode.specs.Operations.{decoded}
 use Rattle.mach_uses.specs.declared.uses.Use.{Use}
@@ -41,11 +41,11 @@ decoded_auipc imm = decoded (Base Auipc) 31 0 0 imm
 
 -- the words of a veneer before its use is patched
 old_first : (flags : IsaFlags) → decode flags (word_at (veneer_of PCRel32).bytes) ≡ Some (decoded_auipc (pos 0))
-unfolding decode
+unfolding decode int_decode
 old_first flags = refl
 
 old_second : (flags : IsaFlags) → decode flags (word_at (drop 4 (veneer_of PCRel32).bytes)) ≡ Some (decoded_jalr 0 31 (pos 0))
-unfolding decode
+unfolding decode int_decode
 old_second flags = refl
 
 pub first_bytes : (bytes : List ℕ) → 4 ≤ length bytes → AllBytes bytes → AreBytes bytes

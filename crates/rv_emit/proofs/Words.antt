@@ -9,7 +9,7 @@ use Rattle.rv_base.specs.declared.regs.Reg.{Reg}
 use Rattle.rv_base.specs.declared.regs.Reg.TheVariants.{Real, Virtual}
 use Rattle.rv_base.specs.LabelUse.{IsFresh}
 use Rattle.rv_base.specs.Regs.{number_of}
-use Rattle.rv_machine.specs.Decode.{decode}
+use Rattle.rv_machine.specs.Decode.{int_decode, decode}
 use Rattle.rv_machine.specs.Layout.{word_opcode}
 use Rattle.rv_ops.specs.declared.compare.IntegerCompare.{IntegerCompare}
 use Rattle.rv_ops.specs.declared.compare.BranchFunct3.{BranchFunct3}
@@ -30,7 +30,7 @@ bytes_of_word w h = let e : w / 16777216 % 256 ≡ w / 16777216 = omega arith in
 
 -- the jump with no distance
 pub jump_decodes : (flags : IsaFlags) → decode flags jump_word ≡ Some (decoded_jump (pos 0))
-unfolding decode
+unfolding decode int_decode
 jump_decodes flags = refl
 
 -- ---- branches

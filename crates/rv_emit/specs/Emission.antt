@@ -1,5 +1,7 @@
 -- What an instruction puts into a buffer: links of the proof.
-use Rattle.std.specs.Prelude.{◌≡◌, Bool, List, [], ◌∷◌}
+use Rattle.std.specs.Prelude.{◌≡◌, Bool, List, [], ◌∷◌, Option}
+use Rattle.rv_base.specs.declared.call.UserStackMap.{UserStackMap}
+use Rattle.rv_emit.specs.StackMaps.{with_map}
 use Rattle.rv_base.specs.declared.constant.Constant.{Constant}
 use Rattle.rv_base.specs.declared.flags.IsaFlags.{IsaFlags}
 use Rattle.rv_base.specs.declared.frame.FrameLayout.{FrameLayout}
@@ -38,3 +40,7 @@ Emits context inst old new = (setting : EmitVState) → EmitsIn context setting 
 -- and whatever the frame and the constants are
 abbrev pub EmitsAnyhow : IsaFlags → Inst → Buffer → Buffer → Type 0
 EmitsAnyhow flags inst old new = (frame : FrameLayout) (constants : List Constant) → Emits (context_by flags frame constants) inst old new
+
+-- of a call with the map that is given to it
+abbrev pub EmitsGiven : Context → EmitVState → Option UserStackMap → Inst → Buffer → Buffer → Type 0
+EmitsGiven context setting map inst old new = EmitsIn context setting (with_map map inst) old new

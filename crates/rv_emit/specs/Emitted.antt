@@ -9,7 +9,7 @@ use Rattle.rv_inst.specs.declared.inst.Inst.{Inst}
 use Rattle.rv_inst.specs.declared.inst.Line.TheVariants.{Inst as Put}
 use Rattle.rv_inst.specs.declared.label_use.LabelUse.{LabelUse}
 use Rattle.rv_inst.specs.declared.label_use.LabelUse.TheVariants.{Jal20}
-use Rattle.rv_inst.specs.LabelUse.{label_kinds, has_veneer_of}
+use Rattle.rv_inst.specs.LabelUse.{label_kinds, has_veneer_of, forward_of}
 use Rattle.rv_inst.specs.LabelUseWords.{word_bytes}
 use Rattle.rv_inst.specs.Context.{Context}
 use Rattle.rv_inst.specs.Operands.{table_of, inst_ways, inst_constant, tail_call_of, named_by}
@@ -22,11 +22,11 @@ use Rattle.rv_inst.specs.Uses.{use_at, uses_in, least_reach}
 use Rattle.mach_buffer.specs.declared.buffer.MachBuffer.{MachBuffer}
 use Rattle.mach_records.specs.declared.records.MachRecord.{MachRecord}
 use Rattle.mach_uses.specs.declared.uses.Use.{Use}
-use Rattle.mach_buffer.specs.Islands.{is_far, AddsOwn}
+use Rattle.mach_buffer.specs.Islands.{aligned, island_end, is_far, AddsOwn}
 use Rattle.mach_uses.specs.Reach.{AllOf, is_needed, is_reached}
 use Rattle.mach_buffer.specs.Buffer.{shape_of, bytes_of, uses_of, place_of, labels_of, allocated_of, records_of, registered_of, named_of, constants_of, pending_of, IsSound}
 use Rattle.mach_buffer.specs.Shape.{Shape, with_allocated}
-use Rattle.mach_buffer.specs.Constants.{reserve_of, AllStand}
+use Rattle.mach_buffer.specs.Constants.{end_after, reserve_of, AllStand}
 use Rattle.mach_buffer.specs.Growth.{Lasts}
 use Rattle.mach_buffer.specs.Windows.{AreWindows}
 use Rattle.rv_emit.specs.NewConstants.{AddsConstants}
@@ -111,7 +111,7 @@ pub record AppendsInst (context : Context) (inst : Inst) (old new : Buffer) : Ty
 -- ---- an island
 
 -- an island was put: a jump to a new label that is bound at the end, the veneers of all that was pending, and the constants that
--- waited
+-- waited; and nothing else, so it ends where these do
 pub record AppendsIsland (old new : Buffer) : Type 0 where
   pub after_island : MachLabel
   pub allocated_label : after_island.number ≡ first_inner + allocated_of old
@@ -129,7 +129,9 @@ pub record AppendsIsland (old new : Buffer) : Type 0 where
   pub registered : registered_of new ≡ registered_of old
   pub named : named_of new ≡ named_of old
   pub settled : pending new ≡ []
-  pub aligned : length (bytes_of new) % 4 ≡ 0
+  pub end : length (bytes_of new) ≡ island_end (end_after (shape_of old)) (aligned (length (bytes_of old) + 4)) (length (pending old)) (length (bytes_of old) + forward_of Jal20)
+  pub taken : length (constants_of new) ≡ length (named_of new)
+  pub whole : length (bytes_of new) % 4 ≡ 0
   pub short : length (bytes_of new) + reserve_of (shape_of new) ≤ length (bytes_of old) + 17 + 8 * length (pending old) + reserve_of (shape_of old)
   pub windows : HasWindows old → HasWindows new
   pub adds : AddsConstants (shape_of old) (shape_of new)

@@ -9,3 +9,5 @@ pub mod Standing
 pub mod NewConstants
 pub mod Places
 pub mod Code
+pub mod StackMaps
+pub mod EmitRuns

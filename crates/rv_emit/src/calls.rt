@@ -1,4 +1,4 @@
-//! Calls that return.
+//! Calls that return, each with the map of the values on the stack that is given to it.
 
 ghost use Rattle.std.specs.Prelude.{◌≡◌, ◌∷◌, [], ◌+◌, ◌*◌, ◌^◌, ◌<◌, ◌-ℤ◌, length, pos, count_by, OnOk, OnErr, true, false};
 ghost use Rattle.rv_base.specs.LabelUse.{code_limit};
@@ -18,6 +18,7 @@ ghost use Rattle.rv_inst.specs.MostBytes.{sequence_limit};
 ghost use Rattle.rv_inst.specs.Sizes.{fall, line_space};
 ghost use Rattle.rv_emit.specs.Emission.{PutsAlone, PutsParts};
 ghost use Rattle.rv_emit.specs.Emitted.{IsSoundBuffer, pending};
+ghost use Rattle.rv_emit.specs.StackMaps.{call_given};
 ghost use Rattle.rv_code.specs.InstParts.{map_notes, return_notes, try_slots, patch_notes, call_slots, call_ind_slots, loading_parts};
 ghost use Rattle.rv_code.specs.Slots.{Notes};
 ghost use Rattle.rv_code.specs.Usable.{IsFineTry, AreFineResults};
@@ -41,15 +42,16 @@ pub(crate) fn put_call(
     flags: IsaFlags,
     frame: &FrameLayout,
     info: &CallInfo<ExternalName>,
+    stack_map: &Option<UserStackMap>,
 ) -> Result<(), OutOfMemory>
     requires frame { sp_to_args_end frame.now < 2 ^ 31 }
     requires fine { IsFineTry info.now.try_call_info }
     requires room { length (bytes_of sink.old) + sequence_limit < code_limit }
     requires sound { IsSoundBuffer sink.old }
-    ensures slots { OnOk result (PutsAlone flags (call_slots flags frame.now info.now (try_slots flags info.now.try_call_info)) sink.old sink.new) }
+    ensures slots { OnOk result (PutsAlone flags (call_slots flags frame.now (call_given stack_map.now info.now) (try_slots flags info.now.try_call_info)) sink.old sink.new) }
     ensures refused { OnErr result (spoiled_of sink.new ≡ true) }
 {
-    begin_call(sink, flags, frame, info)?;
+    begin_call(sink, flags, frame, info, stack_map)?;
     put_continuation(sink, flags, &info.try_call_info)?;
     Ok(())
 }
@@ -60,16 +62,17 @@ pub(crate) fn put_call_ind(
     flags: IsaFlags,
     frame: &FrameLayout,
     info: &CallInfo<Reg>,
+    stack_map: &Option<UserStackMap>,
 ) -> Result<(), OutOfMemory>
     requires frame { sp_to_args_end frame.now < 2 ^ 31 }
     requires fine { IsFineTry info.now.try_call_info }
     requires dest { IsIntRegister info.now.dest }
     requires room { length (bytes_of sink.old) + sequence_limit < code_limit }
     requires sound { IsSoundBuffer sink.old }
-    ensures slots { OnOk result (PutsAlone flags (call_ind_slots flags frame.now info.now (try_slots flags info.now.try_call_info)) sink.old sink.new) }
+    ensures slots { OnOk result (PutsAlone flags (call_ind_slots flags frame.now (call_given stack_map.now info.now) (try_slots flags info.now.try_call_info)) sink.old sink.new) }
     ensures refused { OnErr result (spoiled_of sink.new ≡ true) }
 {
-    begin_call_ind(sink, flags, frame, info)?;
+    begin_call_ind(sink, flags, frame, info, stack_map)?;
     put_continuation(sink, flags, &info.try_call_info)?;
     Ok(())
 }
@@ -80,6 +83,7 @@ pub(crate) fn put_loading_call(
     flags: IsaFlags,
     frame: &FrameLayout,
     info: &CallInfo<ExternalName>,
+    stack_map: &Option<UserStackMap>,
 ) -> Result<(), OutOfMemory>
     requires frame { sp_to_args_end frame.now < 2 ^ 31 }
     requires fine { IsFineTry info.now.try_call_info }
@@ -88,10 +92,10 @@ pub(crate) fn put_loading_call(
     requires few { allocated_of sink.old < inner_count }
     requires room { length (bytes_of sink.old) + 32 * count_by is_stacked info.now.defs + reserve_of (shape_of sink.old) + 8 * length (pending sink.old) + 160 < code_limit }
     requires sound { IsSoundBuffer sink.old }
-    ensures parts { OnOk result (PutsParts flags (loading_parts flags (call_slots flags frame.now info.now) (result_loads info.now.defs) info.now.try_call_info) sink.old sink.new) }
+    ensures parts { OnOk result (PutsParts flags (loading_parts flags (call_slots flags frame.now (call_given stack_map.now info.now)) (result_loads info.now.defs) info.now.try_call_info) sink.old sink.new) }
     ensures refused { OnErr result (spoiled_of sink.new ≡ true) }
 {
-    begin_call(sink, flags, frame, info)?;
+    begin_call(sink, flags, frame, info, stack_map)?;
     put_results(sink, flags, info.defs.as_slice(), &info.try_call_info)
 }
 
@@ -101,6 +105,7 @@ pub(crate) fn put_loading_call_ind(
     flags: IsaFlags,
     frame: &FrameLayout,
     info: &CallInfo<Reg>,
+    stack_map: &Option<UserStackMap>,
 ) -> Result<(), OutOfMemory>
     requires frame { sp_to_args_end frame.now < 2 ^ 31 }
     requires fine { IsFineTry info.now.try_call_info }
@@ -110,10 +115,10 @@ pub(crate) fn put_loading_call_ind(
     requires few { allocated_of sink.old < inner_count }
     requires room { length (bytes_of sink.old) + 32 * count_by is_stacked info.now.defs + reserve_of (shape_of sink.old) + 8 * length (pending sink.old) + 160 < code_limit }
     requires sound { IsSoundBuffer sink.old }
-    ensures parts { OnOk result (PutsParts flags (loading_parts flags (call_ind_slots flags frame.now info.now) (result_loads info.now.defs) info.now.try_call_info) sink.old sink.new) }
+    ensures parts { OnOk result (PutsParts flags (loading_parts flags (call_ind_slots flags frame.now (call_given stack_map.now info.now)) (result_loads info.now.defs) info.now.try_call_info) sink.old sink.new) }
     ensures refused { OnErr result (spoiled_of sink.new ≡ true) }
 {
-    begin_call_ind(sink, flags, frame, info)?;
+    begin_call_ind(sink, flags, frame, info, stack_map)?;
     put_results(sink, flags, info.defs.as_slice(), &info.try_call_info)
 }
 
@@ -123,16 +128,17 @@ fn begin_call(
     flags: IsaFlags,
     frame: &FrameLayout,
     info: &CallInfo<ExternalName>,
+    stack_map: &Option<UserStackMap>,
 ) -> Result<(), OutOfMemory>
     requires frame { sp_to_args_end frame.now < 2 ^ 31 }
     requires room { length (bytes_of sink.old) + sequence_limit < code_limit }
     requires sound { IsSoundBuffer sink.old }
-    ensures slots { OnOk result (PutsAlone flags (call_slots flags frame.now info.now []) sink.old sink.new) }
+    ensures slots { OnOk result (PutsAlone flags (call_slots flags frame.now (call_given stack_map.now info.now) []) sink.old sink.new) }
     ensures refused { OnErr result (spoiled_of sink.new ≡ true) }
 {
     let start = sink.cur_offset();
     put_call_to(sink, writable_link_reg(), writable_link_reg(), info.dest)?;
-    put_return(sink, frame, &info.stack_map, &info.try_call_info)?;
+    put_return(sink, frame, stack_map, &info.try_call_info)?;
     put_stack_step(sink, flags, fallen(info.callee_pop_size))?;
     let end = sink.cur_offset();
     put_patchable(sink, info.patchable, end - start)?;
@@ -145,16 +151,17 @@ fn begin_call_ind(
     flags: IsaFlags,
     frame: &FrameLayout,
     info: &CallInfo<Reg>,
+    stack_map: &Option<UserStackMap>,
 ) -> Result<(), OutOfMemory>
     requires frame { sp_to_args_end frame.now < 2 ^ 31 }
     requires dest { IsIntRegister info.now.dest }
     requires room { length (bytes_of sink.old) + sequence_limit < code_limit }
     requires sound { IsSoundBuffer sink.old }
-    ensures slots { OnOk result (PutsAlone flags (call_ind_slots flags frame.now info.now []) sink.old sink.new) }
+    ensures slots { OnOk result (PutsAlone flags (call_ind_slots flags frame.now (call_given stack_map.now info.now) []) sink.old sink.new) }
     ensures refused { OnErr result (spoiled_of sink.new ≡ true) }
 {
     put_jalr(sink, flags, writable_link_reg(), info.dest, Imm12::ZERO)?;
-    put_return(sink, frame, &info.stack_map, &info.try_call_info)?;
+    put_return(sink, frame, stack_map, &info.try_call_info)?;
     put_stack_step(sink, flags, fallen(info.callee_pop_size))?;
     Ok(())
 }

@@ -5,6 +5,7 @@ ghost use Rattle.mach_uses.specs.Reach.{CanReach};
 ghost use Rattle.mach_buffer.specs.Buffer.{bytes_of, registered_of, spoiled_of};
 ghost use Rattle.rv_emit.specs.Emitted.{pending, CanEmit, IsBounded};
 ghost use Rattle.rv_emit.specs.Emission.{Emits};
+ghost use Rattle.rv_emit.specs.StackMaps.{with_map, map_given, map_after};
 ghost use Rattle.rv_emit.specs.State.{setting_after, setting_beyond};
 ghost use Rattle.rv_code.specs.declared.state.EmitVState.{EmitVState as Setting};
 ghost use Rattle.rv_inst.specs.Context.{context_by};
@@ -18,13 +19,14 @@ use crate::stack::{put_tail_call, put_tail_jump};
 use crate::state::{EmitInfo, EmitState};
 use crate::table::put_table;
 use mach_buffer::MachBuffer;
-use rv_base::{FrameLayout, IsaFlags, OutOfMemory};
+use rv_base::{FrameLayout, IsaFlags, OutOfMemory, UserStackMap};
 use rv_inst::{EmitError, Inst, LabelUse};
 use std::alloc::Global;
 
 /// What can be emitted into a buffer.
 pub trait MachInstEmit {
-    ghost use Rattle.std.specs.Prelude.{◌≡◌, length, OnOk, OnErr, IfErr, true};
+    ghost use Rattle.std.specs.Prelude.{◌≡◌, length, Option as Maybe, OnOk, OnErr, IfErr, true};
+    ghost use Rattle.rv_base.specs.declared.call.UserStackMap.{UserStackMap as StackMap};
     ghost use Rattle.rv_inst.specs.declared.error.EmitError.TheVariants as error;
     ghost use Rattle.mach_uses.specs.Reach.{CanReach};
     ghost use Rattle.mach_buffer.specs.Buffer.{bytes_of, registered_of, spoiled_of};
@@ -35,8 +37,11 @@ pub trait MachInstEmit {
     /// What emission asks of the buffer, in a context.
     ghost asks: { Context → Self → Buffer → Type 0 };
 
-    /// What it puts there, in a context, by the vector unit's setting known before it.
-    ghost puts: { Context → Setting → Self → Buffer → Buffer → Type 0 };
+    /// What it puts there, in a context, by the vector unit's setting known and the map pending before it.
+    ghost puts: { Context → Setting → Maybe StackMap → Self → Buffer → Buffer → Type 0 };
+
+    /// What a compiler may rest on once it is put, in a context, by the map pending before it.
+    ghost promises: { Context → Maybe StackMap → Self → Buffer → Buffer → Type 0 };
 
     /// How much it puts there at most.
     ghost bounds: { Context → Self → Buffer → Buffer → Type 0 };
@@ -44,7 +49,11 @@ pub trait MachInstEmit {
     /// By the buffer and the vector unit's setting known before it, that known after it, in a context.
     ghost setting_after: { Context → Buffer → Self → Setting → Setting };
 
-    /// Puts the sequence. It fails only when out of memory; the buffer is then spoiled.
+    /// By the map that was pending before it, the one that is after it.
+    ghost map_after: { Self → Maybe StackMap → Maybe StackMap };
+
+    /// Puts the sequence. A call that returns takes the pending map of the values on the stack, in place of the one that it lists. It
+    /// fails only when out of memory; the buffer is then spoiled.
     fn emit(
         &self,
         alloc: Global,
@@ -53,10 +62,12 @@ pub trait MachInstEmit {
         state: &mut EmitState,
     ) -> Result<(), EmitError>
         requires { asks (context_by info.now.isa_flags state.old.frame (registered_of sink.old)) self.now sink.old }
-        ensures emitted { OnOk result (puts (context_by info.now.isa_flags state.old.frame (registered_of sink.old)) state.old.vstate self.now sink.old sink.new) }
+        ensures emitted { OnOk result (puts (context_by info.now.isa_flags state.old.frame (registered_of sink.old)) state.old.vstate state.old.user_stack_map self.now sink.old sink.new) }
+        ensures promised { OnOk result (promises (context_by info.now.isa_flags state.old.frame (registered_of sink.old)) state.old.user_stack_map self.now sink.old sink.new) }
         ensures bounds { OnOk result (bounds (context_by info.now.isa_flags state.old.frame (registered_of sink.old)) self.now sink.old sink.new) }
         ensures reach { OnOk result (CanReach (length (bytes_of sink.new)) (pending sink.new)) }
         ensures frame { state.new.frame ≡ state.old.frame }
+        ensures safepoint { state.new.user_stack_map ≡ map_after self.now state.old.user_stack_map }
         ensures setting { OnOk result (state.new.vstate ≡ setting_after (context_by info.now.isa_flags state.old.frame (registered_of sink.old)) sink.old self.now state.old.vstate) }
         ensures wanting { IfErr result (λ e. e ≡ error.OutOfMemory) }
         ensures spoiled { OnErr result (spoiled_of sink.new ≡ true) };
@@ -64,16 +75,22 @@ pub trait MachInstEmit {
 
 impl MachInstEmit for Inst {
     ghost use Rattle.rv_emit.specs.Emitted.{CanEmit, IsBounded};
-    ghost use Rattle.rv_emit.specs.Emission.{EmitsIn};
+    ghost use Rattle.rv_emit.specs.Emission.{EmitsGiven};
+    ghost use Rattle.rv_emit.specs.EmitRuns.{Promises};
+    ghost use Rattle.rv_emit.specs.StackMaps.{map_after as left};
     ghost use Rattle.rv_emit.specs.State.{setting_after as after};
 
     ghost asks = { CanEmit };
 
-    ghost puts = { EmitsIn };
+    ghost puts = { EmitsGiven };
+
+    ghost promises = { Promises };
 
     ghost bounds = { IsBounded };
 
     ghost setting_after = { after };
+
+    ghost map_after = { left };
 
     fn emit(
         &self,
@@ -82,7 +99,8 @@ impl MachInstEmit for Inst {
         info: &EmitInfo,
         state: &mut EmitState,
     ) -> Result<(), EmitError> {
-        match put(sink, alloc, info.isa_flags, &state.frame, self) {
+        let map = take_stack_map(self, &mut state.user_stack_map);
+        match put(sink, alloc, info.isa_flags, &state.frame, self, &map) {
             Ok(forgets) => {
                 if forgets {
                     state.clobber_vstate();
@@ -94,26 +112,39 @@ impl MachInstEmit for Inst {
     }
 }
 
-/// Puts the sequence of an instruction, or an island where the instruction asks for one. Returns whether nothing is known of the
-/// vector unit's setting after it.
+/// Takes the pending map of the values on the stack, where the instruction is a call that returns.
+fn take_stack_map(inst: &Inst, pending: &mut Option<UserStackMap>) -> Option<UserStackMap>
+    ensures taken { result ≡ map_given inst.now pending.old }
+    ensures left { pending.new ≡ map_after inst.now pending.old }
+{
+    match inst {
+        Inst::Call { .. } => pending.take(),
+        Inst::CallInd { .. } => pending.take(),
+        _ => None,
+    }
+}
+
+/// Puts the sequence of an instruction, with the map given to it, or an island where the instruction asks for one. Returns whether
+/// nothing is known of the vector unit's setting after it.
 fn put(
     sink: &mut MachBuffer<LabelUse>,
     alloc: Global,
     flags: IsaFlags,
     frame: &FrameLayout,
     inst: &Inst,
+    stack_map: &Option<UserStackMap>,
 ) -> Result<bool, OutOfMemory>
     requires { CanEmit (context_by flags frame.now (registered_of sink.old)) inst.now sink.old }
-    ensures emitted { OnOk result (Emits (context_by flags frame.now (registered_of sink.old)) inst.now sink.old sink.new) }
+    ensures emitted { OnOk result (Emits (context_by flags frame.now (registered_of sink.old)) (with_map stack_map.now inst.now) sink.old sink.new) }
     ensures bounds { OnOk result (IsBounded (context_by flags frame.now (registered_of sink.old)) inst.now sink.old sink.new) }
     ensures reach { OnOk result (CanReach (length (bytes_of sink.new)) (pending sink.new)) }
     ensures setting { IfOk result (λ forgets. (setting : Setting) → setting_after (context_by flags frame.now (registered_of sink.old)) sink.old inst.now setting ≡ setting_beyond forgets setting) }
     ensures spoiled { OnErr result (spoiled_of sink.new ≡ true) }
 {
     if inst.asks_for_island() {
-        put_asking(sink, alloc, flags, frame, inst)
+        put_asking(sink, alloc, flags, frame, inst, stack_map)
     } else {
-        put_sequence(sink, flags, frame, inst)?;
+        put_sequence(sink, flags, frame, inst, stack_map)?;
         Ok(forgets_setting(flags, frame, inst))
     }
 }
@@ -126,9 +157,10 @@ fn put_asking(
     flags: IsaFlags,
     frame: &FrameLayout,
     inst: &Inst,
+    stack_map: &Option<UserStackMap>,
 ) -> Result<bool, OutOfMemory>
     requires { CanEmit (context_by flags frame.now (registered_of sink.old)) inst.now sink.old }
-    ensures emitted { is_some (island_space (context_by flags frame.now (registered_of sink.old)) inst.now) ≡ true → OnOk result (Emits (context_by flags frame.now (registered_of sink.old)) inst.now sink.old sink.new) }
+    ensures emitted { is_some (island_space (context_by flags frame.now (registered_of sink.old)) inst.now) ≡ true → OnOk result (Emits (context_by flags frame.now (registered_of sink.old)) (with_map stack_map.now inst.now) sink.old sink.new) }
     ensures setting { is_some (island_space (context_by flags frame.now (registered_of sink.old)) inst.now) ≡ true → IfOk result (λ forgets. (setting : Setting) → setting_after (context_by flags frame.now (registered_of sink.old)) sink.old inst.now setting ≡ setting_beyond forgets setting) }
     ensures spoiled { OnErr result (spoiled_of sink.new ≡ true) }
 {
@@ -150,11 +182,11 @@ fn put_asking(
             Ok(true)
         }
         Inst::Call { info } => {
-            put_loading_call(sink, flags, frame, info.as_ref())?;
+            put_loading_call(sink, flags, frame, info.as_ref(), stack_map)?;
             Ok(true)
         }
         Inst::CallInd { info } => {
-            put_loading_call_ind(sink, flags, frame, info.as_ref())?;
+            put_loading_call_ind(sink, flags, frame, info.as_ref(), stack_map)?;
             Ok(true)
         }
         Inst::ReturnCall { info } => {

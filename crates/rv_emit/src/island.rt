@@ -7,6 +7,7 @@ ghost use Rattle.mach_buffer.specs.Buffer.{shape_of, bytes_of, allocated_of, spo
 ghost use Rattle.mach_uses.specs.Labels.{inner_count};
 ghost use Rattle.mach_buffer.specs.Constants.{reserve_of};
 ghost use Rattle.rv_emit.specs.Emitted.{IsSoundBuffer, pending, AppendsIsland, IslandIfNeeded};
+ghost use Rattle.rv_emit.specs.EmitRuns.{IsBuilt, GapLeads};
 
 use crate::sequence::put_wide_jump;
 use mach_buffer::MachBuffer;
@@ -23,6 +24,7 @@ pub fn emit_island_if_needed(
     requires few { allocated_of sink.old < inner_count }
     requires room { length (bytes_of sink.old) + reserve_of (shape_of sink.old) + 8 * length (pending sink.old) + 32 < code_limit }
     ensures made { IfOk result (λ made. IslandIfNeeded distance sink.old sink.new made) }
+    ensures promised { OnOk result (IsBuilt sink.old → GapLeads sink.old sink.new) }
     ensures refused { OnErr result (spoiled_of sink.new ≡ true) }
 {
     if !sink.island_needed(distance) {

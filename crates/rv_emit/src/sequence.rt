@@ -22,6 +22,7 @@ ghost use Rattle.mach_uses.specs.Labels.{inner_count};
 ghost use Rattle.rv_code.specs.Usable.{IsFine, IsFineBranch};
 ghost use Rattle.rv_emit.specs.Emitted.{IsSoundBuffer};
 ghost use Rattle.rv_emit.specs.Emission.{PutsAlone, PutsSlots, Emits, EmitsAnyhow};
+ghost use Rattle.rv_emit.specs.StackMaps.{with_map};
 ghost use Rattle.rv_code.specs.Slots.{Label, Op};
 ghost use Rattle.rv_code.specs.InstParts.{jump_to, wide_jump_to, branch_to, move_slots, branch_slots};
 ghost use Rattle.rv_code.specs.Operations.{jump_word};
@@ -43,27 +44,28 @@ use crate::shortest::{put_ebreak, put_jalr, put_lui, put_rri, put_rrr};
 use crate::symbols::{put_far_symbol, put_near_symbol, put_slot_load, put_unwind};
 use mach_buffer::MachBuffer;
 use rv_base::{
-    FrameLayout, IsaFlags, MachLabel, OutOfMemory, Reg, WritableReg, link_reg, writable_zero_reg,
-    zero_reg,
+    FrameLayout, IsaFlags, MachLabel, OutOfMemory, Reg, UserStackMap, WritableReg, link_reg,
+    writable_zero_reg, zero_reg,
 };
 use rv_encode::{enc_auipc, encode_alu_rr_imm12, encode_branch, encode_cj_type, encode_jal};
 use rv_imms::Imm12;
 use rv_inst::{CondBrTarget, Family, Inst, LabelUse};
 use rv_ops::{AluOPRRI, CjOp, IntegerCompare};
 
-/// Puts the sequence of an instruction that breaks no rule in its context.
+/// Puts the sequence of an instruction that breaks no rule in its context, with the map given to it.
 pub(crate) fn put_sequence(
     sink: &mut MachBuffer<LabelUse>,
     flags: IsaFlags,
     frame: &FrameLayout,
     inst: &Inst,
+    stack_map: &Option<UserStackMap>,
 ) -> Result<(), OutOfMemory>
     requires rule { inst_rule (context_by flags frame.now (registered_of sink.old)) inst.now ≡ None }
     requires frame { sp_to_args_end frame.now < 2 ^ 31 }
     requires few { allocated_of sink.old < 2 ^ 29 }
     requires room { length (bytes_of sink.old) + sequence_limit < code_limit }
     requires sound { IsSoundBuffer sink.old }
-    ensures parts { island_space (context_by flags frame.now (registered_of sink.old)) inst.now ≡ None → OnOk result (Emits (context_by flags frame.now (registered_of sink.old)) inst.now sink.old sink.new) }
+    ensures parts { island_space (context_by flags frame.now (registered_of sink.old)) inst.now ≡ None → OnOk result (Emits (context_by flags frame.now (registered_of sink.old)) (with_map stack_map.now inst.now) sink.old sink.new) }
     ensures refused { OnErr result (spoiled_of sink.new ≡ true) }
 {
     match inst.family() {
@@ -73,7 +75,7 @@ pub(crate) fn put_sequence(
         Family::Control => put_control(sink, flags, inst),
         Family::Loop => put_loop(sink, flags, inst),
         Family::Symbols => put_symbol(sink, flags, inst),
-        Family::Calls => put_calls(sink, flags, frame, inst),
+        Family::Calls => put_calls(sink, flags, frame, inst, stack_map),
     }
 }
 
@@ -83,17 +85,18 @@ fn put_calls(
     flags: IsaFlags,
     frame: &FrameLayout,
     inst: &Inst,
+    stack_map: &Option<UserStackMap>,
 ) -> Result<(), OutOfMemory>
     requires fine { IsFine (registered_of sink.old) inst.now }
     requires frame { sp_to_args_end frame.now < 2 ^ 31 }
     requires room { length (bytes_of sink.old) + sequence_limit < code_limit }
     requires sound { IsSoundBuffer sink.old }
-    ensures parts { family_of inst.now ≡ Calls → (constants : List Constant) → island_space (context_by flags frame.now constants) inst.now ≡ None → OnOk result (Emits (context_by flags frame.now constants) inst.now sink.old sink.new) }
+    ensures parts { family_of inst.now ≡ Calls → (constants : List Constant) → island_space (context_by flags frame.now constants) inst.now ≡ None → OnOk result (Emits (context_by flags frame.now constants) (with_map stack_map.now inst.now) sink.old sink.new) }
     ensures refused { OnErr result (spoiled_of sink.new ≡ true) }
 {
     match inst {
-        Inst::Call { info } => put_call(sink, flags, frame, info.as_ref()),
-        Inst::CallInd { info } => put_call_ind(sink, flags, frame, info.as_ref()),
+        Inst::Call { info } => put_call(sink, flags, frame, info.as_ref(), stack_map),
+        Inst::CallInd { info } => put_call_ind(sink, flags, frame, info.as_ref(), stack_map),
         _ => Ok(()),
     }
 }

@@ -36,14 +36,13 @@ r_decodes flags op w opcode rd funct3 rs1 rs2 funct7 is h = on (opcode == OP) re
     of_op : opcode ≡ OP → option_map Alu (op_entry funct7 funct3) ≡ Some op → decode flags w ≡ Some (decoded op rd rs1 rs2 (pos 0))
     of_op this is =
         opcode_decodes flags w OP (h.opcode_is ∙ this) refl
-        ∙ first _ _ (decoded op rd rs1 rs2 (pos 0))
         ((λ i. option_map (λ a. decoded (Alu a) (h.rd_is i) (h.rs1_is i) (h.rs2_is i) (pos 0)) (op_entry (h.funct7_is i) (h.funct3_is i))) ∙ entry Alu (op_entry funct7 funct3) op rd rs1 rs2 (pos 0) is)
 
     of_op_32 : opcode ≡ OP_32 → option_map Alu (op_32_entry funct7 funct3) ≡ Some op → decode flags w ≡ Some (decoded op rd rs1 rs2 (pos 0))
     of_op_32 this is =
         opcode_decodes flags w OP_32 (h.opcode_is ∙ this) refl
-        ∙ first _ _ (decoded op rd rs1 rs2 (pos 0))
-        ((λ i. option_map (λ a. decoded (Alu a) (h.rd_is i) (h.rs1_is i) (h.rs2_is i) (pos 0)) (op_32_entry (h.funct7_is i) (h.funct3_is i))) ∙ entry Alu (op_32_entry funct7 funct3) op rd rs1 rs2 (pos 0) is)
+        (first _ _ (decoded op rd rs1 rs2 (pos 0))
+        ((λ i. option_map (λ a. decoded (Alu a) (h.rd_is i) (h.rs1_is i) (h.rs2_is i) (pos 0)) (op_32_entry (h.funct7_is i) (h.funct3_is i))) ∙ entry Alu (op_32_entry funct7 funct3) op rd rs1 rs2 (pos 0) is))
 
     on_32 : (b : Bool) → (opcode == OP_32) ≡ b → (if b then option_map Alu (op_32_entry funct7 funct3) else None) ≡ Some op → decode flags w ≡ Some (decoded op rd rs1 rs2 (pos 0))
     on_32 true this is = of_op_32 (eqb-true opcode OP_32 this) is
@@ -61,8 +60,8 @@ i_decodes flags op w opcode rd funct3 rs1 imm is h = on_jalr (opcode == JALR) re
     of_jalr : opcode ≡ JALR → (if funct3 == 0 then Some (Base base.Jalr) else None) ≡ Some op → decode flags w ≡ Some (decoded op rd rs1 0 imm.value)
     of_jalr this is =
         opcode_decodes flags w JALR (h.opcode_is ∙ this) refl
-        ∙ (λ i. if h.funct3_is i == 0 then Some (decoded (Base base.Jalr) (h.rd_is i) (h.rs1_is i) 0 (i_imm_is w imm h.imm_is i)) else None)
-        ∙ on (funct3 == 0) is
+        ((λ i. if h.funct3_is i == 0 then Some (decoded (Base base.Jalr) (h.rd_is i) (h.rs1_is i) 0 (i_imm_is w imm h.imm_is i)) else None)
+        ∙ on (funct3 == 0) is)
       where
         on : (b : Bool) → (if b then Some (Base base.Jalr) else None) ≡ Some op → (if b then Some (decoded (Base base.Jalr) rd rs1 0 imm.value) else None) ≡ Some (decoded op rd rs1 0 imm.value)
         on true is = ap (option_map (λ m. decoded m rd rs1 0 imm.value)) is
@@ -71,20 +70,20 @@ i_decodes flags op w opcode rd funct3 rs1 imm is h = on_jalr (opcode == JALR) re
     of_load : opcode ≡ LOAD → option_map Load (load_entry funct3) ≡ Some op → decode flags w ≡ Some (decoded op rd rs1 0 imm.value)
     of_load this is =
         opcode_decodes flags w LOAD (h.opcode_is ∙ this) refl
-        ∙ (λ i. option_map (λ a. decoded (Load a) (h.rd_is i) (h.rs1_is i) 0 (i_imm_is w imm h.imm_is i)) (load_entry (h.funct3_is i)))
-        ∙ entry Load (load_entry funct3) op rd rs1 0 imm.value is
+        ((λ i. option_map (λ a. decoded (Load a) (h.rd_is i) (h.rs1_is i) 0 (i_imm_is w imm h.imm_is i)) (load_entry (h.funct3_is i)))
+        ∙ entry Load (load_entry funct3) op rd rs1 0 imm.value is)
 
     of_op_imm : opcode ≡ OP_IMM → option_map Alu (imm_entry funct3) ≡ Some op → decode flags w ≡ Some (decoded op rd rs1 0 imm.value)
     of_op_imm this is =
         opcode_decodes flags w OP_IMM (h.opcode_is ∙ this) refl
-        ∙ first _ _ (decoded op rd rs1 0 imm.value)
-        ((λ i. option_map (λ a. decoded (Alu a) (h.rd_is i) (h.rs1_is i) 0 (i_imm_is w imm h.imm_is i)) (imm_entry (h.funct3_is i))) ∙ entry Alu (imm_entry funct3) op rd rs1 0 imm.value is)
+        (first _ _ (decoded op rd rs1 0 imm.value)
+        ((λ i. option_map (λ a. decoded (Alu a) (h.rd_is i) (h.rs1_is i) 0 (i_imm_is w imm h.imm_is i)) (imm_entry (h.funct3_is i))) ∙ entry Alu (imm_entry funct3) op rd rs1 0 imm.value is))
 
     of_op_imm_32 : opcode ≡ OP_IMM_32 → option_map Alu (imm_32_entry funct3) ≡ Some op → decode flags w ≡ Some (decoded op rd rs1 0 imm.value)
     of_op_imm_32 this is =
         opcode_decodes flags w OP_IMM_32 (h.opcode_is ∙ this) refl
-        ∙ first _ _ (decoded op rd rs1 0 imm.value)
-        ((λ i. option_map (λ a. decoded (Alu a) (h.rd_is i) (h.rs1_is i) 0 (i_imm_is w imm h.imm_is i)) (imm_32_entry (h.funct3_is i))) ∙ entry Alu (imm_32_entry funct3) op rd rs1 0 imm.value is)
+        (first _ _ (decoded op rd rs1 0 imm.value)
+        ((λ i. option_map (λ a. decoded (Alu a) (h.rd_is i) (h.rs1_is i) 0 (i_imm_is w imm h.imm_is i)) (imm_32_entry (h.funct3_is i))) ∙ entry Alu (imm_32_entry funct3) op rd rs1 0 imm.value is))
 
     on_32 : (b : Bool) → (opcode == OP_IMM_32) ≡ b → (if b then option_map Alu (imm_32_entry funct3) else None) ≡ Some op → decode flags w ≡ Some (decoded op rd rs1 0 imm.value)
     on_32 true this is = of_op_imm_32 (eqb-true opcode OP_IMM_32 this) is
@@ -113,6 +112,6 @@ s_decodes flags op w opcode funct3 rs1 rs2 imm is h = on (opcode == STORE) refl 
     on : (b : Bool) → (opcode == STORE) ≡ b → (if b then option_map Store (store_entry funct3) else None) ≡ Some op → decode flags w ≡ Some (decoded op 0 rs1 rs2 imm.value)
     on true this is =
         opcode_decodes flags w STORE (h.opcode_is ∙ eqb-true opcode STORE this) refl
-        ∙ (λ i. option_map (λ a. decoded (Store a) 0 (h.rs1_is i) (h.rs2_is i) (value i)) (store_entry (h.funct3_is i)))
-        ∙ entry Store (store_entry funct3) op 0 rs1 rs2 imm.value is
+        ((λ i. option_map (λ a. decoded (Store a) 0 (h.rs1_is i) (h.rs2_is i) (value i)) (store_entry (h.funct3_is i)))
+        ∙ entry Store (store_entry funct3) op 0 rs1 rs2 imm.value is)
     on false this is = absurd (cc)

@@ -18,23 +18,23 @@ use Rattle.rv_ops.specs.Alu.{rrr_numbers, rri_numbers, imm12_of}
 use Rattle.rv_ops.specs.Compare.{funct3_of, branch_of, rs1_of, rs2_of}
 use Rattle.rv_ops.specs.Memory.{load_funct3, store_funct3}
 use Rattle.rv_ops.specs.Operations.{is_exchanged}
+use Rattle.rv_machine.specs.declared.decoding.Decoded.{Decoded}
 use Rattle.rv_machine.specs.declared.ops.MOp.TheVariants.{Base, Load, Store}
 use Rattle.rv_machine.specs.declared.ops.BaseOp.TheVariants as base
 use Rattle.rv_machine.specs.State.{signed}
 use Rattle.rv_machine.specs.Opcodes.{LUI, AUIPC, JAL, JALR, BRANCH, LOAD, STORE, SYSTEM}
 use Rattle.rv_machine.specs.Layout.{word_opcode, i_bits, i_imm, s_imm, b_imm, u_bits, u_imm, j_imm, bare_form}
 use Rattle.rv_machine.specs.Tables.{branch_entry, load_entry, store_entry}
-use Rattle.rv_machine.specs.Decode.{decode, by_opcode}
-use Rattle.rv_machine.specs.UnitDecode.{decode_csr}
-use Rattle.rv_machine.proofs.DecodeLaws.{decode_wide}
+use Rattle.rv_machine.specs.Decode.{decode, int_by_opcode}
+use Rattle.rv_machine.proofs.DecodeLaws.{decode_integer, decode_wide}
 use Rattle.rv_encode.specs.Layouts.{IsRType, IsIType, IsSType, IsBType, IsUType, IsJType}
 use Rattle.rv_encode.specs.Operations.{decoded, decoded_rrr, decoded_rri, decoded_branch, decoded_load, decoded_store}
 use Rattle.rv_encode.proofs.Numbers.{signed-low_bits}
 use Rattle.rv_encode.proofs.Tables.{rrr_fields, rri_fields, branch_table, load_table, store_table}
 
 -- a word whose opcode ends in two bits 1 is decoded by it
-pub opcode_decodes : (flags : IsaFlags) (w opcode : ℕ) → word_opcode w ≡ opcode → nat_eq (opcode % 4) 3 ≡ true → decode flags w ≡ by_opcode flags opcode w
-opcode_decodes flags w opcode h wide = decode_wide flags w (ap (λ k. nat_eq (k % 4) 3) h ∙ wide) ∙ ap (λ k. by_opcode flags k w) h
+pub opcode_decodes : {d : Decoded} (flags : IsaFlags) (w opcode : ℕ) → word_opcode w ≡ opcode → nat_eq (opcode % 4) 3 ≡ true → int_by_opcode opcode w ≡ Some d → decode flags w ≡ Some d
+opcode_decodes flags w opcode h wide is = decode_integer flags w (decode_wide flags w opcode h wide ∙ is)
 
 rrr_wide : (op : AluOPRRR) → nat_eq ((rrr_numbers op).opcode % 4) 3 ≡ true
 rrr_wide rrr.Add = refl
@@ -46,56 +46,56 @@ rri_wide _ = refl
 
 -- an operation of two registers, whose word has them as they are or exchanged
 pub rrr_straight : (flags : IsaFlags) (op : AluOPRRR) (w rd rs1 rs2 : ℕ) → is_exchanged op ≡ false → IsRType w (rrr_numbers op).opcode rd (rrr_numbers op).funct3 rs1 rs2 (rrr_numbers op).funct7 → decode flags w ≡ Some (decoded_rrr op rd rs1 rs2)
-rrr_straight flags op w rd rs1 rs2 straight h = rw straight (opcode_decodes flags w _ h.opcode_is (rrr_wide op) ∙ rrr_fields flags op w rd rs1 rs2 h)
+rrr_straight flags op w rd rs1 rs2 straight h = rw straight (opcode_decodes flags w _ h.opcode_is (rrr_wide op) (rrr_fields op w rd rs1 rs2 h))
 
 pub rrr_exchanged : (flags : IsaFlags) (op : AluOPRRR) (w rd rs1 rs2 : ℕ) → is_exchanged op ≡ true → IsRType w (rrr_numbers op).opcode rd (rrr_numbers op).funct3 rs2 rs1 (rrr_numbers op).funct7 → decode flags w ≡ Some (decoded_rrr op rd rs1 rs2)
-rrr_exchanged flags op w rd rs1 rs2 exchanged h = rw exchanged (opcode_decodes flags w _ h.opcode_is (rrr_wide op) ∙ rrr_fields flags op w rd rs2 rs1 h)
+rrr_exchanged flags op w rd rs1 rs2 exchanged h = rw exchanged (opcode_decodes flags w _ h.opcode_is (rrr_wide op) (rrr_fields op w rd rs2 rs1 h))
 
 pub rri_decodes : (flags : IsaFlags) (op : AluOPRRI) (w rd rs : ℕ) (imm : Imm12) → IsIType w (rri_numbers op).opcode rd (rri_numbers op).funct3 rs (imm12_of (rri_numbers op).upper (low_bits (2 ^ 12) imm.value)) → decode flags w ≡ Some (decoded_rri op rd rs imm.value)
-rri_decodes flags op w rd rs imm h = opcode_decodes flags w _ h.opcode_is (rri_wide op) ∙ rri_fields flags op w rd rs imm.value (omega (arith, ints)) (omega (arith, ints)) h
+rri_decodes flags op w rd rs imm h = opcode_decodes flags w _ h.opcode_is (rri_wide op) (rri_fields op w rd rs imm.value (omega (arith, ints)) (omega (arith, ints)) h)
 
 upper_imm : (w : ℕ) (imm : Imm20) → u_bits w ≡ low_bits (2 ^ 20) imm.value → u_imm w ≡ imm.value
 upper_imm w imm h = ap (signed (2 ^ 19)) h ∙ signed-low_bits (2 ^ 19) imm.value (omega (arith, ints)) (omega (arith, ints))
 
 pub lui_decodes : (flags : IsaFlags) (w rd : ℕ) (imm : Imm20) → IsUType w LUI rd (low_bits (2 ^ 20) imm.value) → decode flags w ≡ Some (decoded (Base base.Lui) rd 0 0 imm.value)
-lui_decodes flags w rd imm h = opcode_decodes flags w LUI h.opcode_is refl ∙ (λ i. Some (decoded (Base base.Lui) (h.rd_is i) 0 0 (upper_imm w imm h.imm_is i)))
+lui_decodes flags w rd imm h = opcode_decodes flags w LUI h.opcode_is refl (λ i. Some (decoded (Base base.Lui) (h.rd_is i) 0 0 (upper_imm w imm h.imm_is i)))
 
 pub auipc_decodes : (flags : IsaFlags) (w rd : ℕ) (imm : Imm20) → IsUType w AUIPC rd (low_bits (2 ^ 20) imm.value) → decode flags w ≡ Some (decoded (Base base.Auipc) rd 0 0 imm.value)
-auipc_decodes flags w rd imm h = opcode_decodes flags w AUIPC h.opcode_is refl ∙ (λ i. Some (decoded (Base base.Auipc) (h.rd_is i) 0 0 (upper_imm w imm h.imm_is i)))
+auipc_decodes flags w rd imm h = opcode_decodes flags w AUIPC h.opcode_is refl (λ i. Some (decoded (Base base.Auipc) (h.rd_is i) 0 0 (upper_imm w imm h.imm_is i)))
 
 pub i_imm_is : (w : ℕ) (imm : Imm12) → i_bits w ≡ low_bits (2 ^ 12) imm.value → i_imm w ≡ imm.value
 i_imm_is w imm h = ap (signed (2 ^ 11)) h ∙ signed-low_bits (2 ^ 11) imm.value (omega (arith, ints)) (omega (arith, ints))
 
 pub jalr_decodes : (flags : IsaFlags) (w rd rs : ℕ) (imm : Imm12) → IsIType w JALR rd 0 rs (low_bits (2 ^ 12) imm.value) → decode flags w ≡ Some (decoded (Base base.Jalr) rd rs 0 imm.value)
 jalr_decodes flags w rd rs imm h =
-    opcode_decodes flags w JALR h.opcode_is refl ∙ (λ i. if h.funct3_is i == 0 then Some (decoded (Base base.Jalr) (h.rd_is i) (h.rs1_is i) 0 (i_imm_is w imm h.imm_is i)) else None)
+    opcode_decodes flags w JALR h.opcode_is refl (λ i. if h.funct3_is i == 0 then Some (decoded (Base base.Jalr) (h.rd_is i) (h.rs1_is i) 0 (i_imm_is w imm h.imm_is i)) else None)
 
 pub load_decodes : (flags : IsaFlags) (op : LoadOP) (w rd rs : ℕ) (imm : Imm12) → IsIType w LOAD rd (load_funct3 op) rs (low_bits (2 ^ 12) imm.value) → decode flags w ≡ Some (decoded_load op rd rs imm.value)
 load_decodes flags op w rd rs imm h =
     opcode_decodes flags w LOAD h.opcode_is refl
-    ∙ (λ i. option_map (λ op. decoded (Load op) (h.rd_is i) (h.rs1_is i) 0 (i_imm_is w imm h.imm_is i)) (load_entry (h.funct3_is i)))
-    ∙ ap (option_map (λ op. decoded (Load op) rd rs 0 imm.value)) (load_table op)
+    ((λ i. option_map (λ op. decoded (Load op) (h.rd_is i) (h.rs1_is i) 0 (i_imm_is w imm h.imm_is i)) (load_entry (h.funct3_is i)))
+    ∙ ap (option_map (λ op. decoded (Load op) rd rs 0 imm.value)) (load_table op))
 
 pub store_decodes : (flags : IsaFlags) (op : StoreOP) (w rs1 rs2 : ℕ) (imm : Imm12) → IsSType w STORE (store_funct3 op) rs1 rs2 (low_bits (2 ^ 12) imm.value) → decode flags w ≡ Some (decoded_store op rs1 rs2 imm.value)
 store_decodes flags op w rs1 rs2 imm h =
     let value : s_imm w ≡ imm.value = ap (signed (2 ^ 11)) h.imm_is ∙ signed-low_bits (2 ^ 11) imm.value (omega (arith, ints)) (omega (arith, ints)) in
     opcode_decodes flags w STORE h.opcode_is refl
-    ∙ (λ i. option_map (λ op. decoded (Store op) 0 (h.rs1_is i) (h.rs2_is i) (value i)) (store_entry (h.funct3_is i)))
-    ∙ ap (option_map (λ op. decoded (Store op) 0 rs1 rs2 imm.value)) (store_table op)
+    ((λ i. option_map (λ op. decoded (Store op) 0 (h.rs1_is i) (h.rs2_is i) (value i)) (store_entry (h.funct3_is i)))
+    ∙ ap (option_map (λ op. decoded (Store op) 0 rs1 rs2 imm.value)) (store_table op))
 
 pub jal_decodes : (flags : IsaFlags) (w rd : ℕ) (d : ℤ) → d <ℤ pos (2 ^ 20) → neg_ℤ (pos (2 ^ 20)) ≤ℤ d → IsJType w JAL rd (low_bits (2 ^ 21) d) → decode flags w ≡ Some (decoded (Base base.Jal) rd 0 0 d)
 jal_decodes flags w rd d up low h =
     let value : j_imm w ≡ d = ap (signed (2 ^ 20)) h.imm_is ∙ signed-low_bits (2 ^ 20) d up low in
-    opcode_decodes flags w JAL h.opcode_is refl ∙ (λ i. Some (decoded (Base base.Jal) (h.rd_is i) 0 0 (value i)))
+    opcode_decodes flags w JAL h.opcode_is refl (λ i. Some (decoded (Base base.Jal) (h.rd_is i) 0 0 (value i)))
 
 pub branch_decodes : (flags : IsaFlags) (w : ℕ) (c : IntegerCompare) (d : ℤ) → d <ℤ pos (2 ^ 12) → neg_ℤ (pos (2 ^ 12)) ≤ℤ d → IsBType w BRANCH (funct3_of (branch_of c.kind)) (number_of (rs1_of c)) (number_of (rs2_of c)) (low_bits (2 ^ 13) d) → decode flags w ≡ Some (decoded_branch c d)
 branch_decodes flags w c d up low h =
     let value : b_imm w ≡ d = ap (signed (2 ^ 12)) h.imm_is ∙ signed-low_bits (2 ^ 12) d up low in
     opcode_decodes flags w BRANCH h.opcode_is refl
-    ∙ (λ i. option_map (λ op. decoded (Base op) 0 (h.rs1_is i) (h.rs2_is i) (value i)) (branch_entry (h.funct3_is i)))
-    ∙ ap (option_map (λ op. decoded (Base op) 0 (number_of (rs1_of c)) (number_of (rs2_of c)) d)) (branch_table (branch_of c.kind))
+    ((λ i. option_map (λ op. decoded (Base op) 0 (h.rs1_is i) (h.rs2_is i) (value i)) (branch_entry (h.funct3_is i)))
+    ∙ ap (option_map (λ op. decoded (Base op) 0 (number_of (rs1_of c)) (number_of (rs2_of c)) d)) (branch_table (branch_of c.kind)))
 
 pub ebreak_decodes : (flags : IsaFlags) (w : ℕ) → IsIType w SYSTEM 0 0 0 1 → decode flags w ≡ Some (bare_form (Base base.Ebreak))
 ebreak_decodes flags w h =
     opcode_decodes flags w SYSTEM h.opcode_is refl
-    ∙ (λ i. if (h.funct3_is i == 0) && (h.rd_is i == 0) && (h.rs1_is i == 0) && (h.imm_is i == 1) then Some (bare_form (Base base.Ebreak)) else decode_csr w)
+    (λ i. if (h.funct3_is i == 0) && (h.rd_is i == 0) && (h.rs1_is i == 0) && (h.imm_is i == 1) then Some (bare_form (Base base.Ebreak)) else None)

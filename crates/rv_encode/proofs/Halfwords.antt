@@ -12,8 +12,9 @@ use Rattle.rv_machine.specs.declared.ops.BaseOp.TheVariants.{Jal}
 use Rattle.rv_machine.specs.declared.ops.AluOp.TheVariants.{Int}
 use Rattle.rv_machine.specs.declared.ops.IntOp.TheVariants.{Addi}
 use Rattle.rv_machine.specs.State.{signed}
-use Rattle.rv_machine.specs.Layout.{bits, compressed}
-use Rattle.rv_machine.specs.Compressed.{half_op, half_funct3, ci_bits, ci_imm, cj_bits, cj_imm, addi16sp_bits, addi16sp_imm, decode_zcb_unary, decode_half, by_quadrant, quadrant_0, quadrant_1, quadrant_2}
+use Rattle.rv_machine.specs.Layout.{bits, compressed, or_else}
+use Rattle.rv_machine.specs.Compressed.{half_op, half_funct3, ci_bits, ci_imm, cj_bits, cj_imm, addi16sp_bits, addi16sp_imm, decode_zcb_unary, int_decode_half, unit_decode_half, decode_half, by_quadrant, unit_by_quadrant, quadrant_0, quadrant_1, quadrant_2}
+use Rattle.rv_machine.proofs.DecodeLaws.{decode_integer_half}
 use Rattle.rv_ops.specs.declared.compressed.CrOp.{CrOp}
 use Rattle.rv_ops.specs.declared.compressed.CrOp.TheVariants as cr
 use Rattle.rv_ops.specs.declared.compressed.CaOp.{CaOp}
@@ -53,23 +54,35 @@ in_quadrant flags half zca op =
     if zca then
     if op == 0 then quadrant_0 flags half else
     if op == 1 then quadrant_1 flags half else
-    if op == 2 then quadrant_2 flags half else
+    if op == 2 then quadrant_2 half else
     None else
     None
 
-pub quadrant_decodes : (flags : IsaFlags) (half op : ℕ) → flags.has_zca ≡ true → half_op half ≡ op → decode_half flags half ≡ in_quadrant flags half true op
-unfolding decode_half
-quadrant_decodes flags half op zca h = λ i. in_quadrant flags half (zca i) (h i)
+pub quadrant_decodes : {d : Decoded} (flags : IsaFlags) (half op : ℕ) → flags.has_zca ≡ true → half_op half ≡ op → in_quadrant flags half true op ≡ Some d → decode_half flags half ≡ Some d
+unfolding int_decode_half
+quadrant_decodes flags half op zca h is = decode_integer_half flags half ((λ i. in_quadrant flags half (zca i) (h i)) ∙ is)
 
-pub quadrant_is : (flags : IsaFlags) (half op : ℕ) → half_op half ≡ op → decode_half flags half ≡ in_quadrant flags half flags.has_zca op
-unfolding decode_half
-quadrant_is flags half op h = λ i. in_quadrant flags half flags.has_zca (h i)
+-- where no floating-point load or store is
+pub quadrant_is : (flags : IsaFlags) (half op : ℕ) → half_op half ≡ op → unit_by_quadrant half ≡ None → decode_half flags half ≡ in_quadrant flags half flags.has_zca op
+unfolding decode_half int_decode_half unit_decode_half
+quadrant_is flags half op h none =
+    (λ i. or_else (in_quadrant flags half flags.has_zca (h i)) (if flags.has_zca && flags.has_zcd then none i else None))
+    ∙ alone (flags.has_zca && flags.has_zcd) (in_quadrant flags half flags.has_zca op)
+  where
+    alone : (c : Bool) (o : Option Decoded) → or_else o (if c then None else None) ≡ o
+    alone c (Some d) = refl
+    alone true None = refl
+    alone false None = refl
+
+-- none of quadrant 1 is
+quadrant_1_is : (flags : IsaFlags) (half : ℕ) → half_op half ≡ 1 → decode_half flags half ≡ in_quadrant flags half flags.has_zca 1
+quadrant_1_is flags half h = quadrant_is flags half 1 h (rw h)
 
 -- ---- without a flag that it needs, a halfword has no operation
 
 pub without_zca : (flags : IsaFlags) (half : ℕ) → flags.has_zca ≡ false → decode_half flags half ≡ None
-unfolding decode_half
-without_zca flags half off = λ i. if off i then by_quadrant flags half else None
+unfolding decode_half int_decode_half unit_decode_half
+without_zca flags half off = λ i. or_else (if off i then by_quadrant flags half else None) (if off i && flags.has_zcd then unit_by_quadrant half else None)
 
 pub two_guards : (a b : Bool) (o : Option Decoded) → (a && b) ≡ false → (if a then (if b then o else None) else None) ≡ None
 two_guards true true o off = absurd (cc)
@@ -100,20 +113,20 @@ funct4_of half funct4 h = record { funct3_is = omega (arith, h); bit12_is = omeg
 pub cr_decodes : (flags : IsaFlags) (op : CrOp) (half rs2 rd : ℕ) → flags.has_zca ≡ true → IsCrType half (space_bits (cr_space op)) rs2 rd (cr_funct4 op) → DecodesCr op rd rs2 (decode_half flags half)
 cr_decodes flags cr.CJr half rs2 rd zca h = tt
 cr_decodes flags cr.CMv half rs2 rd zca h =
-    λ some. let f = funct4_of half _ h.funct4_is in quadrant_decodes flags half _ zca h.op_is ∙ rw (f.funct3_is, f.bit12_is, h.rs2_is, h.rd_is, nonzero rs2 some)
+    λ some. let f = funct4_of half _ h.funct4_is in quadrant_decodes flags half _ zca h.op_is (rw (f.funct3_is, f.bit12_is, h.rs2_is, h.rd_is, nonzero rs2 some))
 cr_decodes flags cr.CEbreak half rs2 rd zca h =
-    λ x0 none. let f = funct4_of half _ h.funct4_is in quadrant_decodes flags half _ zca h.op_is ∙ rw (f.funct3_is, f.bit12_is, h.rs2_is, h.rd_is, x0, none)
+    λ x0 none. let f = funct4_of half _ h.funct4_is in quadrant_decodes flags half _ zca h.op_is (rw (f.funct3_is, f.bit12_is, h.rs2_is, h.rd_is, x0, none))
 cr_decodes flags cr.CJalr half rs2 rd zca h = tt
 cr_decodes flags cr.CAdd half rs2 rd zca h =
-    λ some. let f = funct4_of half _ h.funct4_is in quadrant_decodes flags half _ zca h.op_is ∙ rw (f.funct3_is, f.bit12_is, h.rs2_is, h.rd_is, nonzero rs2 some)
+    λ some. let f = funct4_of half _ h.funct4_is in quadrant_decodes flags half _ zca h.op_is (rw (f.funct3_is, f.bit12_is, h.rs2_is, h.rd_is, nonzero rs2 some))
 
 pub cr2_decodes : (flags : IsaFlags) (op : CrOp) (half rs1 : ℕ) → flags.has_zca ≡ true → IsCrType half (space_bits (cr_space op)) 0 rs1 (cr_funct4 op) → DecodesCr2 op rs1 (decode_half flags half)
 cr2_decodes flags cr.CJr half rs1 zca h =
-    λ some. let f = funct4_of half _ h.funct4_is in quadrant_decodes flags half _ zca h.op_is ∙ rw (f.funct3_is, f.bit12_is, h.rs2_is, h.rd_is, nonzero rs1 some)
+    λ some. let f = funct4_of half _ h.funct4_is in quadrant_decodes flags half _ zca h.op_is (rw (f.funct3_is, f.bit12_is, h.rs2_is, h.rd_is, nonzero rs1 some))
 cr2_decodes flags cr.CMv half rs1 zca h = tt
 cr2_decodes flags cr.CEbreak half rs1 zca h = tt
 cr2_decodes flags cr.CJalr half rs1 zca h =
-    λ some. let f = funct4_of half _ h.funct4_is in quadrant_decodes flags half _ zca h.op_is ∙ rw (f.funct3_is, f.bit12_is, h.rs2_is, h.rd_is, nonzero rs1 some)
+    λ some. let f = funct4_of half _ h.funct4_is in quadrant_decodes flags half _ zca h.op_is (rw (f.funct3_is, f.bit12_is, h.rs2_is, h.rd_is, nonzero rs1 some))
 cr2_decodes flags cr.CAdd half rs1 zca h = tt
 
 -- ---- CA
@@ -132,13 +145,13 @@ ca_decodes flags ca.CMul half rs2 rd needs h =
     let f = funct6_of half _ h.funct6_is in
     let (further, m) = both (flags.has_zca && flags.has_zcb) flags.has_m needs in
     let (zca, zcb) = both flags.has_zca flags.has_zcb further in
-    quadrant_decodes flags half _ zca h.op_is ∙ rw (f.funct3_is, f.bits11_is, f.bit12_is, h.funct2_is, zcb, m, h.rd_is, h.rs2_is)
-ca_decodes flags _ half rs2 rd needs h = let f = funct6_of half _ h.funct6_is in quadrant_decodes flags half _ needs h.op_is ∙ rw (f.funct3_is, f.bits11_is, f.bit12_is, h.funct2_is, h.rd_is, h.rs2_is)
+    quadrant_decodes flags half _ zca h.op_is (rw (f.funct3_is, f.bits11_is, f.bit12_is, h.funct2_is, zcb, m, h.rd_is, h.rs2_is))
+ca_decodes flags _ half rs2 rd needs h = let f = funct6_of half _ h.funct6_is in quadrant_decodes flags half _ needs h.op_is (rw (f.funct3_is, f.bits11_is, f.bit12_is, h.funct2_is, h.rd_is, h.rs2_is))
 
 pub ca_without : (flags : IsaFlags) (op : CaOp) (half rs2 rd : ℕ) → ca_needs flags op ≡ false → IsCaType half (space_bits (ca_space op)) rs2 (ca_funct2 op) rd (ca_funct6 op) → decode_half flags half ≡ None
 ca_without flags ca.CMul half rs2 rd off h =
     let f = funct6_of half _ h.funct6_is in
-    quadrant_is flags half _ h.op_is ∙ rw (f.funct3_is, f.bits11_is, f.bit12_is, h.funct2_is) (joined_guards flags.has_zca flags.has_zcb flags.has_m _ off)
+    quadrant_1_is flags half h.op_is ∙ rw (f.funct3_is, f.bits11_is, f.bit12_is, h.funct2_is) (joined_guards flags.has_zca flags.has_zcb flags.has_m _ off)
 ca_without flags _ half rs2 rd off h = without_zca flags half off
 
 -- ---- CI
@@ -147,13 +160,13 @@ ci_imm_is : (half : ℕ) (imm : Imm6) → ci_bits half ≡ low_bits (2 ^ 6) imm.
 ci_imm_is half imm h = ap (signed (2 ^ 5)) h ∙ signed-low_bits (2 ^ 5) imm.value (omega (arith, ints)) (omega (arith, ints))
 
 pub ci_decodes : (flags : IsaFlags) (op : CiOp) (half rd : ℕ) (imm : Imm6) → flags.has_zca ≡ true → IsCiType ci_bits half (space_bits (ci_space op)) (low_bits (2 ^ 6) imm.value) rd (ci_funct3 op) → DecodesCi op rd imm.value (decode_half flags half)
-ci_decodes flags ci.CAddi half rd imm zca h = quadrant_decodes flags half _ zca h.op_is ∙ rw (h.funct3_is, h.rd_is, ci_imm_is half imm h.imm_is)
-ci_decodes flags ci.CAddiw half rd imm zca h = λ some. quadrant_decodes flags half _ zca h.op_is ∙ rw (h.funct3_is, h.rd_is, nonzero rd some, ci_imm_is half imm h.imm_is)
-ci_decodes flags ci.CLi half rd imm zca h = quadrant_decodes flags half _ zca h.op_is ∙ rw (h.funct3_is, h.rd_is, ci_imm_is half imm h.imm_is)
+ci_decodes flags ci.CAddi half rd imm zca h = quadrant_decodes flags half _ zca h.op_is (rw (h.funct3_is, h.rd_is, ci_imm_is half imm h.imm_is))
+ci_decodes flags ci.CAddiw half rd imm zca h = λ some. quadrant_decodes flags half _ zca h.op_is (rw (h.funct3_is, h.rd_is, nonzero rd some, ci_imm_is half imm h.imm_is))
+ci_decodes flags ci.CLi half rd imm zca h = quadrant_decodes flags half _ zca h.op_is (rw (h.funct3_is, h.rd_is, ci_imm_is half imm h.imm_is))
 ci_decodes flags ci.CAddi16sp half rd imm zca h = tt
 ci_decodes flags ci.CLui half rd imm zca h =
-    λ other some. quadrant_decodes flags half _ zca h.op_is ∙ rw (h.funct3_is, h.rd_is, unequal rd 2 other, ci_imm_is half imm h.imm_is, h.imm_is, nonzero (low_bits (2 ^ 6) imm.value) (low_bits_nonzero imm some))
-ci_decodes flags ci.CSlli half rd imm zca h = quadrant_decodes flags half _ zca h.op_is ∙ rw (h.funct3_is, h.rd_is, h.imm_is)
+    λ other some. quadrant_decodes flags half _ zca h.op_is (rw (h.funct3_is, h.rd_is, unequal rd 2 other, ci_imm_is half imm h.imm_is, h.imm_is, nonzero (low_bits (2 ^ 6) imm.value) (low_bits_nonzero imm some)))
+ci_decodes flags ci.CSlli half rd imm zca h = quadrant_decodes flags half _ zca h.op_is (rw (h.funct3_is, h.rd_is, h.imm_is))
 ci_decodes flags ci.CLwsp half rd imm zca h = tt
 ci_decodes flags ci.CLdsp half rd imm zca h = tt
 
@@ -163,7 +176,7 @@ addi16sp_decodes flags half imm zca some h =
     let more = low_bits_nonzero imm some in
     let field : 0 < ci_bits half = omega (arith, held, more) in
     let value : addi16sp_imm half ≡ pos 16 *ℤ imm.value = ap (signed (2 ^ 9)) held ∙ signed_sixteens imm in
-    quadrant_decodes flags half _ zca h.op_is ∙ rw (h.funct3_is, h.rd_is, nonzero (ci_bits half) field, value)
+    quadrant_decodes flags half _ zca h.op_is (rw (h.funct3_is, h.rd_is, nonzero (ci_bits half) field, value))
 
 -- ---- CJ
 
@@ -199,19 +212,19 @@ cj_bits_are half n small low high =
 pub cj_decodes : (flags : IsaFlags) (op : CjOp) (half : ℕ) (imm : Imm12) → flags.has_zca ≡ true → IsCjType half (space_bits (cj_space op)) (low_bits (2 ^ 12) imm.value) (cj_funct3 op) → decode_half flags half ≡ Some (compressed (Base Jal) 0 0 0 imm.value)
 cj_decodes flags cj.CJ half imm zca h =
     let value : cj_imm half ≡ imm.value = ap (signed (2 ^ 11)) h.imm_is ∙ signed-low_bits (2 ^ 11) imm.value (omega (arith, ints)) (omega (arith, ints)) in
-    quadrant_decodes flags half _ zca h.op_is ∙ rw (h.funct3_is, value)
+    quadrant_decodes flags half _ zca h.op_is (rw (h.funct3_is, value))
 
 -- ---- CIW
 
 pub ciw_decodes : (flags : IsaFlags) (op : CiwOp) (half rd imm : ℕ) → flags.has_zca ≡ true → 0 < imm → IsCiwType half (space_bits (ciw_space op)) rd (4 * imm) (ciw_funct3 op) → decode_half flags half ≡ Some (compressed (Alu (Int Addi)) (8 + rd) 2 0 (pos (4 * imm)))
-ciw_decodes flags ciw.CAddi4spn half rd imm zca some h = quadrant_decodes flags half _ zca h.op_is ∙ rw (h.funct3_is, h.rd_is, h.imm_is, nonzero (4 * imm) (omega arith))
+ciw_decodes flags ciw.CAddi4spn half rd imm zca some h = quadrant_decodes flags half _ zca h.op_is (rw (h.funct3_is, h.rd_is, h.imm_is, nonzero (4 * imm) (omega arith)))
 
 -- ---- CB
 
 pub cb_decodes : (flags : IsaFlags) (op : CbOp) (half rd : ℕ) (imm : Imm6) → flags.has_zca ≡ true → IsCbType half (space_bits (cb_space op)) (low_bits (2 ^ 6) imm.value) rd (cb_funct2 op) (cb_funct3 op) → decode_half flags half ≡ Some (decoded_cb op (8 + rd) imm.value)
-cb_decodes flags cb.CSrli half rd imm zca h = quadrant_decodes flags half _ zca h.op_is ∙ rw (h.funct3_is, h.funct2_is, h.rd_is, h.imm_is)
-cb_decodes flags cb.CSrai half rd imm zca h = quadrant_decodes flags half _ zca h.op_is ∙ rw (h.funct3_is, h.funct2_is, h.rd_is, h.imm_is)
-cb_decodes flags cb.CAndi half rd imm zca h = quadrant_decodes flags half _ zca h.op_is ∙ rw (h.funct3_is, h.funct2_is, h.rd_is, ci_imm_is half imm h.imm_is)
+cb_decodes flags cb.CSrli half rd imm zca h = quadrant_decodes flags half _ zca h.op_is (rw (h.funct3_is, h.funct2_is, h.rd_is, h.imm_is))
+cb_decodes flags cb.CSrai half rd imm zca h = quadrant_decodes flags half _ zca h.op_is (rw (h.funct3_is, h.funct2_is, h.rd_is, h.imm_is))
+cb_decodes flags cb.CAndi half rd imm zca h = quadrant_decodes flags half _ zca h.op_is (rw (h.funct3_is, h.funct2_is, h.rd_is, ci_imm_is half imm h.imm_is))
 
 -- ---- Zcb, of one register
 
@@ -219,36 +232,36 @@ cb_decodes flags cb.CAndi half rd imm zca h = quadrant_decodes flags half _ zca 
 low_of : (half funct5 : ℕ) → bits half 6 2 ≡ funct5 → bits half 4 2 ≡ funct5 % 8
 low_of half funct5 h = omega (arith, h)
 
-cu_decodes : (flags : IsaFlags) (half funct5 rd : ℕ) → (flags.has_zca && flags.has_zcb) ≡ true → IsCuType half 1 funct5 rd 0b100111 → funct5 / 8 ≡ 3 → decode_half flags half ≡ decode_zcb_unary flags half
-cu_decodes flags half funct5 rd needs h among =
+cu_decodes : {d : Decoded} (flags : IsaFlags) (half funct5 rd : ℕ) → (flags.has_zca && flags.has_zcb) ≡ true → IsCuType half 1 funct5 rd 0b100111 → funct5 / 8 ≡ 3 → decode_zcb_unary flags half ≡ Some d → decode_half flags half ≡ Some d
+cu_decodes flags half funct5 rd needs h among unary =
     let f = funct6_of half _ h.funct6_is in
     let is = h.funct5_is in
     let high : bits half 6 5 ≡ 3 = omega (arith, is, among) in
     let (zca, zcb) = both flags.has_zca flags.has_zcb needs in
-    quadrant_decodes flags half _ zca h.op_is ∙ rw (f.funct3_is, f.bits11_is, f.bit12_is, high, zcb)
+    quadrant_decodes flags half _ zca h.op_is (rw (f.funct3_is, f.bits11_is, f.bit12_is, high, zcb) unary)
 
 pub cszn_decodes : (flags : IsaFlags) (op : CsznOp) (half rd : ℕ) → cszn_needs flags op ≡ true → IsCuType half (space_bits (cszn_space op)) (cszn_funct5 op) rd (cszn_funct6 op) → decode_half flags half ≡ Some (decoded_cszn op (8 + rd))
-cszn_decodes flags cszn.CZextb half rd needs h = cu_decodes flags half _ rd needs h refl ∙ rw (low_of half _ h.funct5_is, h.rd_is)
+cszn_decodes flags cszn.CZextb half rd needs h = cu_decodes flags half _ rd needs h refl (rw (low_of half _ h.funct5_is, h.rd_is))
 cszn_decodes flags cszn.CSextb half rd needs h =
     let (zcb, zbb) = both (flags.has_zca && flags.has_zcb) flags.has_zbb needs in
-    cu_decodes flags half _ rd zcb h refl ∙ rw (low_of half _ h.funct5_is, zbb, h.rd_is)
+    cu_decodes flags half _ rd zcb h refl (rw (low_of half _ h.funct5_is, zbb, h.rd_is))
 cszn_decodes flags cszn.CZexth half rd needs h =
     let (zcb, zbb) = both (flags.has_zca && flags.has_zcb) flags.has_zbb needs in
-    cu_decodes flags half _ rd zcb h refl ∙ rw (low_of half _ h.funct5_is, zbb, h.rd_is)
+    cu_decodes flags half _ rd zcb h refl (rw (low_of half _ h.funct5_is, zbb, h.rd_is))
 cszn_decodes flags cszn.CSexth half rd needs h =
     let (zcb, zbb) = both (flags.has_zca && flags.has_zcb) flags.has_zbb needs in
-    cu_decodes flags half _ rd zcb h refl ∙ rw (low_of half _ h.funct5_is, zbb, h.rd_is)
+    cu_decodes flags half _ rd zcb h refl (rw (low_of half _ h.funct5_is, zbb, h.rd_is))
 cszn_decodes flags cszn.CZextw half rd needs h =
     let (zcb, zba) = both (flags.has_zca && flags.has_zcb) flags.has_zba needs in
-    cu_decodes flags half _ rd zcb h refl ∙ rw (low_of half _ h.funct5_is, zba, h.rd_is)
-cszn_decodes flags cszn.CNot half rd needs h = cu_decodes flags half _ rd needs h refl ∙ rw (low_of half _ h.funct5_is, h.rd_is)
+    cu_decodes flags half _ rd zcb h refl (rw (low_of half _ h.funct5_is, zba, h.rd_is))
+cszn_decodes flags cszn.CNot half rd needs h = cu_decodes flags half _ rd needs h refl (rw (low_of half _ h.funct5_is, h.rd_is))
 
 cu_is : (flags : IsaFlags) (half funct5 rd : ℕ) → IsCuType half 1 funct5 rd 0b100111 → funct5 / 8 ≡ 3 → decode_half flags half ≡ (if flags.has_zca then (if flags.has_zcb then decode_zcb_unary flags half else None) else None)
 cu_is flags half funct5 rd h among =
     let f = funct6_of half _ h.funct6_is in
     let is = h.funct5_is in
     let high : bits half 6 5 ≡ 3 = omega (arith, is, among) in
-    quadrant_is flags half _ h.op_is ∙ rw (f.funct3_is, f.bits11_is, f.bit12_is, high)
+    quadrant_1_is flags half h.op_is ∙ rw (f.funct3_is, f.bits11_is, f.bit12_is, high)
 
 pub cszn_without : (flags : IsaFlags) (op : CsznOp) (half rd : ℕ) → cszn_needs flags op ≡ false → IsCuType half (space_bits (cszn_space op)) (cszn_funct5 op) rd (cszn_funct6 op) → decode_half flags half ≡ None
 cszn_without flags cszn.CZextb half rd off h = cu_is flags half _ rd h refl ∙ two_guards flags.has_zca flags.has_zcb _ off

@@ -2,6 +2,7 @@
 use Rattle.std.proofs.Common.{◌≡◌, ◌≢◌, ℕ, ◌+◌, ◌*◌, ◌/◌, ◌%◌, ◌<◌, true, false, Option, Some, None, refl, sym, ap, ◌∙◌, ◌⊎◌, inl, inr, arith}
 use Rattle.std.specs.Option.{unwrap_or}
 use Rattle.rv_base.specs.declared.flags.IsaFlags.{IsaFlags}
+use Rattle.rv_machine.specs.declared.decoding.Decoded.{Decoded}
 use Rattle.rv_machine.specs.Layout.{bits}
 use Rattle.rv_machine.specs.Compressed.{half_op, half_funct3, lwsp_imm, ldsp_imm, swsp_imm, sdsp_imm, lw_imm, ld_imm, decode_zcb_memory, decode_half}
 use Rattle.rv_ops.specs.declared.compressed.CiOp.{CiOp}
@@ -40,47 +41,47 @@ ldsp_layout ci.CLwsp half rd n other h load loaded = absurd (other refl)
 ldsp_layout _ half rd n other h load loaded = absurd (cc)
 
 pub sp_load_decodes : (flags : IsaFlags) (op : CiOp) (load : LoadOP) (half rd n : ℕ) → flags.has_zca ≡ true → sp_load op ≡ Some load → 0 < rd → IsCiType (read_of op) half (space_bits (ci_space op)) (load_size load * n) rd (ci_funct3 op) → decode_half flags half ≡ Some (decoded_sp_load load rd n)
-sp_load_decodes flags ci.CLwsp loads.Lw half rd n zca loaded some h = quadrant_decodes flags half _ zca h.op_is ∙ rw (h.funct3_is, h.rd_is, nonzero rd some, h.imm_is)
+sp_load_decodes flags ci.CLwsp loads.Lw half rd n zca loaded some h = quadrant_decodes flags half _ zca h.op_is (rw (h.funct3_is, h.rd_is, nonzero rd some, h.imm_is))
 sp_load_decodes flags ci.CLwsp _ half rd n zca loaded some h = absurd (cc)
-sp_load_decodes flags ci.CLdsp loads.Ld half rd n zca loaded some h = quadrant_decodes flags half _ zca h.op_is ∙ rw (h.funct3_is, h.rd_is, nonzero rd some, h.imm_is)
+sp_load_decodes flags ci.CLdsp loads.Ld half rd n zca loaded some h = quadrant_decodes flags half _ zca h.op_is (rw (h.funct3_is, h.rd_is, nonzero rd some, h.imm_is))
 sp_load_decodes flags ci.CLdsp _ half rd n zca loaded some h = absurd (cc)
 sp_load_decodes flags _ load half rd n zca loaded some h = absurd (cc)
 
 pub swsp_decodes : (flags : IsaFlags) (op : CssOp) (half rs2 n : ℕ) → op ≡ css.CSwsp → flags.has_zca ≡ true → IsCssType swsp_imm half (space_bits (css_space op)) rs2 (4 * n) (css_funct3 op) → decode_half flags half ≡ Some (decoded_css op rs2 n)
-swsp_decodes flags css.CSwsp half rs2 n is zca h = quadrant_decodes flags half _ zca h.op_is ∙ rw (h.funct3_is, h.rs2_is, h.imm_is)
+swsp_decodes flags css.CSwsp half rs2 n is zca h = quadrant_decodes flags half _ zca h.op_is (rw (h.funct3_is, h.rs2_is, h.imm_is))
 swsp_decodes flags css.CSdsp half rs2 n is zca h = absurd (cc)
 
 pub sdsp_decodes : (flags : IsaFlags) (op : CssOp) (half rs2 n : ℕ) → op ≡ css.CSdsp → flags.has_zca ≡ true → IsCssType sdsp_imm half (space_bits (css_space op)) rs2 (8 * n) (css_funct3 op) → decode_half flags half ≡ Some (decoded_css op rs2 n)
 sdsp_decodes flags css.CSwsp half rs2 n is zca h = absurd (cc)
-sdsp_decodes flags css.CSdsp half rs2 n is zca h = quadrant_decodes flags half _ zca h.op_is ∙ rw (h.funct3_is, h.rs2_is, h.imm_is)
+sdsp_decodes flags css.CSdsp half rs2 n is zca h = quadrant_decodes flags half _ zca h.op_is (rw (h.funct3_is, h.rs2_is, h.imm_is))
 
 -- ---- CL
 
 pub lw_decodes : (flags : IsaFlags) (op : ClOp) (half rd rs1 n : ℕ) → op ≡ cl.CLw → flags.has_zca ≡ true → IsClType lw_imm half (space_bits (cl_space op)) rd (4 * n) rs1 (cl_funct3 op) → decode_half flags half ≡ Some (decoded_cl op (8 + rd) (8 + rs1) n)
-lw_decodes flags cl.CLw half rd rs1 n is zca h = quadrant_decodes flags half _ zca h.op_is ∙ rw (h.funct3_is, h.r_is, h.rs1_is, h.imm_is)
+lw_decodes flags cl.CLw half rd rs1 n is zca h = quadrant_decodes flags half _ zca h.op_is (rw (h.funct3_is, h.r_is, h.rs1_is, h.imm_is))
 lw_decodes flags cl.CLd half rd rs1 n is zca h = absurd (cc)
 
 pub ld_decodes : (flags : IsaFlags) (op : ClOp) (half rd rs1 n : ℕ) → op ≡ cl.CLd → flags.has_zca ≡ true → IsClType ld_imm half (space_bits (cl_space op)) rd (8 * n) rs1 (cl_funct3 op) → decode_half flags half ≡ Some (decoded_cl op (8 + rd) (8 + rs1) n)
 ld_decodes flags cl.CLw half rd rs1 n is zca h = absurd (cc)
-ld_decodes flags cl.CLd half rd rs1 n is zca h = quadrant_decodes flags half _ zca h.op_is ∙ rw (h.funct3_is, h.r_is, h.rs1_is, h.imm_is)
+ld_decodes flags cl.CLd half rd rs1 n is zca h = quadrant_decodes flags half _ zca h.op_is (rw (h.funct3_is, h.r_is, h.rs1_is, h.imm_is))
 
 -- ---- CS
 
 pub sw_decodes : (flags : IsaFlags) (op : CsOp) (half rs2 rs1 n : ℕ) → op ≡ cs.CSw → flags.has_zca ≡ true → IsClType lw_imm half (space_bits (cs_space op)) rs2 (4 * n) rs1 (cs_funct3 op) → decode_half flags half ≡ Some (decoded_cs op (8 + rs2) (8 + rs1) n)
-sw_decodes flags cs.CSw half rs2 rs1 n is zca h = quadrant_decodes flags half _ zca h.op_is ∙ rw (h.funct3_is, h.r_is, h.rs1_is, h.imm_is)
+sw_decodes flags cs.CSw half rs2 rs1 n is zca h = quadrant_decodes flags half _ zca h.op_is (rw (h.funct3_is, h.r_is, h.rs1_is, h.imm_is))
 sw_decodes flags cs.CSd half rs2 rs1 n is zca h = absurd (cc)
 
 pub sd_decodes : (flags : IsaFlags) (op : CsOp) (half rs2 rs1 n : ℕ) → op ≡ cs.CSd → flags.has_zca ≡ true → IsClType ld_imm half (space_bits (cs_space op)) rs2 (8 * n) rs1 (cs_funct3 op) → decode_half flags half ≡ Some (decoded_cs op (8 + rs2) (8 + rs1) n)
 sd_decodes flags cs.CSw half rs2 rs1 n is zca h = absurd (cc)
-sd_decodes flags cs.CSd half rs2 rs1 n is zca h = quadrant_decodes flags half _ zca h.op_is ∙ rw (h.funct3_is, h.r_is, h.rs1_is, h.imm_is)
+sd_decodes flags cs.CSd half rs2 rs1 n is zca h = quadrant_decodes flags half _ zca h.op_is (rw (h.funct3_is, h.r_is, h.rs1_is, h.imm_is))
 
 -- ---- Zcb
 
-zcb_decodes : (flags : IsaFlags) (half funct6 : ℕ) → zcb_needs flags ≡ true → half_op half ≡ 0 → bits half 15 10 ≡ funct6 → funct6 / 8 ≡ 4 → decode_half flags half ≡ decode_zcb_memory half
-zcb_decodes flags half funct6 needs op is among =
+zcb_decodes : {d : Decoded} (flags : IsaFlags) (half funct6 : ℕ) → zcb_needs flags ≡ true → half_op half ≡ 0 → bits half 15 10 ≡ funct6 → funct6 / 8 ≡ 4 → decode_zcb_memory half ≡ Some d → decode_half flags half ≡ Some d
+zcb_decodes flags half funct6 needs op is among memory =
     let funct3 : half_funct3 half ≡ 4 = omega (arith, is, among) in
     let (zca, zcb) = both flags.has_zca flags.has_zcb needs in
-    quadrant_decodes flags half 0 zca op ∙ rw (funct3, zcb)
+    quadrant_decodes flags half 0 zca op (rw (funct3, zcb) memory)
 
 -- bits 12 to 10 are those of funct6
 bits12 : (half funct6 : ℕ) → bits half 15 10 ≡ funct6 → bits half 12 10 ≡ funct6 % 8
@@ -103,17 +104,17 @@ without_sign op (inl is) = ap funct1_of is
 without_sign op (inr is) = ap funct1_of is
 
 pub bytes_decode : (flags : IsaFlags) (op : ZcbMemOp) (half r rs1 n : ℕ) → funct1_of op ≡ None → zcb_needs flags ≡ true → IsClbType half (space_bits (zcb_space op)) r n rs1 (zcb_funct6 op) → decode_half flags half ≡ Some (decoded_zcb op (8 + r) (8 + rs1) n)
-bytes_decode flags zcb.CLbu half r rs1 n is needs h = zcb_decodes flags half _ needs h.op_is h.funct6_is refl ∙ rw (bits12 half _ h.funct6_is, h.r_is, h.rs1_is, h.imm_is)
-bytes_decode flags zcb.CSb half r rs1 n is needs h = zcb_decodes flags half _ needs h.op_is h.funct6_is refl ∙ rw (bits12 half _ h.funct6_is, h.r_is, h.rs1_is, h.imm_is)
+bytes_decode flags zcb.CLbu half r rs1 n is needs h = zcb_decodes flags half _ needs h.op_is h.funct6_is refl (rw (bits12 half _ h.funct6_is, h.r_is, h.rs1_is, h.imm_is))
+bytes_decode flags zcb.CSb half r rs1 n is needs h = zcb_decodes flags half _ needs h.op_is h.funct6_is refl (rw (bits12 half _ h.funct6_is, h.r_is, h.rs1_is, h.imm_is))
 bytes_decode flags _ half r rs1 n is needs h = absurd (cc)
 
 pub halfwords_decode : (flags : IsaFlags) (op : ZcbMemOp) (half r funct1 rs1 n : ℕ) → funct1_of op ≡ Some funct1 → zcb_needs flags ≡ true → IsClhType half (space_bits (zcb_space op)) r (2 * n) funct1 rs1 (zcb_funct6 op) → decode_half flags half ≡ Some (decoded_zcb op (8 + r) (8 + rs1) n)
 halfwords_decode flags zcb.CLhu half r funct1 rs1 n is needs h =
-    zcb_decodes flags half _ needs h.op_is h.funct6_is refl ∙ rw (bits12 half _ h.funct6_is, h.funct1_is ∙ ap (λ o. unwrap_or o 0) (sym is), h.r_is, h.rs1_is, h.imm_is)
+    zcb_decodes flags half _ needs h.op_is h.funct6_is refl (rw (bits12 half _ h.funct6_is, h.funct1_is ∙ ap (λ o. unwrap_or o 0) (sym is), h.r_is, h.rs1_is, h.imm_is))
 halfwords_decode flags zcb.CLh half r funct1 rs1 n is needs h =
-    zcb_decodes flags half _ needs h.op_is h.funct6_is refl ∙ rw (bits12 half _ h.funct6_is, h.funct1_is ∙ ap (λ o. unwrap_or o 0) (sym is), h.r_is, h.rs1_is, h.imm_is)
+    zcb_decodes flags half _ needs h.op_is h.funct6_is refl (rw (bits12 half _ h.funct6_is, h.funct1_is ∙ ap (λ o. unwrap_or o 0) (sym is), h.r_is, h.rs1_is, h.imm_is))
 halfwords_decode flags zcb.CSh half r funct1 rs1 n is needs h =
-    zcb_decodes flags half _ needs h.op_is h.funct6_is refl ∙ rw (bits12 half _ h.funct6_is, h.funct1_is ∙ ap (λ o. unwrap_or o 0) (sym is), h.r_is, h.rs1_is, h.imm_is)
+    zcb_decodes flags half _ needs h.op_is h.funct6_is refl (rw (bits12 half _ h.funct6_is, h.funct1_is ∙ ap (λ o. unwrap_or o 0) (sym is), h.r_is, h.rs1_is, h.imm_is))
 halfwords_decode flags _ half r funct1 rs1 n is needs h = absurd (cc)
 
 -- the quadrant and funct3
@@ -125,4 +126,5 @@ pub zcb_without : (flags : IsaFlags) (op : ZcbMemOp) (half : ℕ) → zcb_needs 
 zcb_without flags op half off space is =
     let (quadrant, among) = among_zcb op in
     let funct3 : half_funct3 half ≡ 4 = omega (arith, is, among) in
-    quadrant_is flags half 0 (space ∙ quadrant) ∙ rw funct3 (two_guards flags.has_zca flags.has_zcb (decode_zcb_memory half) off)
+    let op : half_op half ≡ 0 = space ∙ quadrant in
+    quadrant_is flags half 0 op (rw (op, funct3)) ∙ rw funct3 (two_guards flags.has_zca flags.has_zcb (decode_zcb_memory half) off)

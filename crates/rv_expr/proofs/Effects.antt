@@ -1,38 +1,24 @@
 -- What a line of a program leaves: a number in a register, or in a place.
 use Rattle.std.proofs.Common.{◌≡◌, ◌≢◌, ℕ, zero, suc, ◌+◌, ◌-◌, ◌*◌, ◌^◌, ◌<◌, ◌≤◌, ◌⊎◌, ⊎_elim, inl, inr, true, false, List, [], ◌∷◌, length, Some, slice_get, slice_index, refl, arith, ap, sym, subst, ◌∙◌, lit<}
-use Rattle.std.proofs.Math.Seq.{get_or-set_other}
-use Rattle.std.proofs.lemmas.Grind.{get_or-set_at}
 use Rattle.std.proofs.lemmas.Bool.{cases_lt}
-use Rattle.rv_base.specs.Regs.{int_reg}
 use Rattle.rv_inst.specs.declared.inst.Line.{Line}
 use Rattle.rv_inst.specs.Meaning.{Environment, Next, exit_of, effect_of, writes_of, temporaries_of, AreOutside, addresses_from, put_bytes}
 use Rattle.rv_machine.specs.State.{State, Values, AreValues, byte, reg, set_reg, store, wrap}
 use Rattle.rv_machine.specs.Memory.{load_result, store_bytes}
 use Rattle.rv_machine.specs.declared.ops.LoadOp.TheVariants.{Ld}
 use Rattle.rv_machine.specs.declared.ops.StoreOp.TheVariants.{Sd}
-use Rattle.rv_machine.specs.Steps.{iter}
 use Rattle.rv_asm.specs.Simulation.{At}
+use Rattle.rv_asm.specs.Users.{int_reg}
+use Rattle.rv_asm.proofs.Laws.{reads_back, reads_other, stored_is_loaded, same_are_loaded_alike, elsewhere_unchanged}
 use Rattle.rv_expr.specs.Listing.{load_from, store_to}
-use Rattle.rv_expr.proofs.Memory.{place, byte_elsewhere, load_same, load_stored, places_apart, place_inside}
-use Rattle.rv_expr.proofs.Steps.{Run, IsRun, Stands, is_changed, sp_of, line_runs, to_next}
-
--- ---- what is read after a write
-
-reads_back : (v : Values) (n x : ℕ) → AreValues v → 0 < n → n < 32 → reg (set_reg v n x) n ≡ x
-reads_back v zero x h some lt = absurd (omega arith)
-reads_back v (suc n) x h some lt = get_or-set_at v.regs n n x 0 refl (let count = h.count in omega arith)
-
-reads_other : (v : Values) (n m x : ℕ) → m ≢ n → reg (set_reg v n x) m ≡ reg v m
-reads_other v zero m x other = refl
-reads_other v (suc n) zero x other = refl
-reads_other v (suc n) (suc m) x other = get_or-set_other v.regs n m x 0 (λ e. other (ap suc e))
+use Rattle.rv_expr.proofs.Places.{place, places_apart, place_inside}
+use Rattle.rv_expr.proofs.Steps.{Run, IsRun, Stands, Goes, is_changed, sp_of, line_runs, to_next}
 
 -- ---- a line that puts a number into a register
 
 pub record Computed (r : Run) (s : State) (k n x : ℕ) : Type 0 where
-  pub steps : ℕ
   pub state : State
-  pub ran : iter r.flags steps s ≡ Some state
+  pub reached : Goes r s (At k) state
   pub stands : Stands r k state
   pub here : reg state.values n ≡ x
   pub others : (m : ℕ) → m < 30 → m ≢ n → reg state.values m ≡ reg s.values m
@@ -49,16 +35,14 @@ computes r k line s n x h at listed more some low changed temps exits writes eff
     let others : (m : ℕ) → m < 30 → m ≢ n → reg c.state.values m ≡ reg s.values m = λ m below other. sym (c.same.regs m below) ∙ reads_other s.values n m x other in
     let mem : (a : ℕ) → byte c.state.values.mem a ≡ byte s.values.mem a = λ a. sym (c.same.mem a) in
     record {
-      steps = c.steps;
       state = c.state;
-      ran = c.ran;
+      reached = c.reached;
       stands = record {
-        pc = c.pc;
-        state = c.is_state;
+        at = c.reached.stands;
         regs = λ m below still. others m below (λ e. differ m still (ap is_changed e)) ∙ at.regs m below still;
         mem = λ a fits outside. mem a ∙ at.mem a fits outside;
       };
-      here = sym (c.same.regs n low) ∙ reads_back s.values n x at.state.values some (omega arith);
+      here = sym (c.same.regs n low) ∙ reads_back s.values n x at.at.state.values some (omega arith);
       others = others;
       mem = mem;
     }
@@ -76,9 +60,8 @@ loads r k s n i in_file h at listed more some low changed =
 -- ---- a line that stores into a place
 
 pub record Stored (r : Run) (s : State) (k i x : ℕ) : Type 0 where
-  pub steps : ℕ
   pub state : State
-  pub ran : iter r.flags steps s ≡ Some state
+  pub reached : Goes r s (At k) state
   pub stands : Stands r k state
   pub here : load_result Ld state.values.mem (place (sp_of r) i) ≡ x
   pub others : (j : ℕ) → j < 254 → j ≢ i → load_result Ld state.values.mem (place (sp_of r) j) ≡ load_result Ld s.values.mem (place (sp_of r) j)
@@ -105,7 +88,7 @@ stores r k s n i in_file h at listed more low few room =
     let small = h.small in
     let sp_fits : sp_of r < 2 ^ 64 = h.state.values.fits 2 in
     let fits : a < 2 ^ 64 = omega arith in
-    let x_fits : x < 2 ^ 64 = at.state.values.fits n in
+    let x_fits : x < 2 ^ 64 = at.at.state.values.fits n in
     let code : (j : ℕ) → j < 8 → (p : ℕ) → p < length r.code.bytes → r.base + p ≢ wrap (a + j) = λ j below p inside. place_inside (sp_of r) r.size i j sp_fits room small below (r.base + p) (h.apart p inside) in
     let c = line_runs r k (store_to (int_reg n in_file) i) s (put_bytes s.values a (store_bytes Sd x)) Next (At (suc k)) h at listed refl (λ env. refl)
     (λ env. ap (λ (p : ℕ). put_bytes s.values (place p i) (store_bytes Sd x)) sp)
@@ -114,16 +97,14 @@ stores r k s n i in_file h at listed more low few room =
     (to_next r k more) in
     let mem : (b : ℕ) → byte (store s.values.mem a (store_bytes Sd x)) b ≡ byte c.state.values.mem b = c.same.mem in
     record {
-      steps = c.steps;
       state = c.state;
-      ran = c.ran;
+      reached = c.reached;
       stands = record {
-        pc = c.pc;
-        state = c.is_state;
+        at = c.reached.stands;
         regs = λ m below still. sym (c.same.regs m below) ∙ at.regs m below still;
-        mem = λ b b_fits outside. sym (mem b) ∙ byte_elsewhere s.values.mem a b (store_bytes Sd x) fits (λ j below. place_inside (sp_of r) r.size i j sp_fits room small below b outside) ∙ at.mem b b_fits outside;
+        mem = λ b b_fits outside. sym (mem b) ∙ elsewhere_unchanged s.values.mem a b (store_bytes Sd x) fits (λ j below. place_inside (sp_of r) r.size i j sp_fits room small below b outside) ∙ at.mem b b_fits outside;
       };
-      here = load_same c.state.values.mem (store s.values.mem a (store_bytes Sd x)) a (λ j below. sym (mem (wrap (a + j)))) ∙ load_stored s.values.mem a x fits x_fits;
-      others = λ j j_few other. load_same c.state.values.mem s.values.mem (place (sp_of r) j) (λ b below. sym (mem (wrap (place (sp_of r) j + b))) ∙ byte_elsewhere s.values.mem a (wrap (place (sp_of r) j + b)) (store_bytes Sd x) fits (λ l l_below. places_apart (sp_of r) j i b l sp_fits (omega arith) (omega arith) below l_below other));
+      here = same_are_loaded_alike c.state.values.mem (store s.values.mem a (store_bytes Sd x)) a (λ j below. sym (mem (wrap (a + j)))) ∙ stored_is_loaded s.values.mem a x fits x_fits;
+      others = λ j j_few other. same_are_loaded_alike c.state.values.mem s.values.mem (place (sp_of r) j) (λ b below. sym (mem (wrap (place (sp_of r) j + b))) ∙ elsewhere_unchanged s.values.mem a (wrap (place (sp_of r) j + b)) (store_bytes Sd x) fits (λ l l_below. places_apart (sp_of r) j i b l sp_fits (omega arith) (omega arith) below l_below other));
       regs = λ m below. sym (c.same.regs m below);
     }

@@ -1,9 +1,7 @@
-pub mod Registers
 pub mod Accepted
-pub mod Memory
+pub mod Places
 pub mod Validity
 pub mod Steps
 pub mod Effects
 pub mod Operations
 pub mod Programs
-pub mod Outcomes

@@ -5,13 +5,14 @@ use Rattle.std.proofs.Math.Seq.{get_or-append_seam}
 use Rattle.std.proofs.lemmas.Bool.{cases_eq}
 use Rattle.std.specs.Prelude.{map}
 use Rattle.rv_base.specs.declared.regs.Reg.{Reg}
-use Rattle.rv_base.specs.Regs.{int_reg, number_of}
 use Rattle.rv_inst.specs.declared.inst.Line.{Line}
 use Rattle.rv_inst.specs.Meaning.{alu_rrr, set_regs}
 use Rattle.rv_machine.specs.State.{State, Values, reg, set_reg, wrap}
 use Rattle.rv_machine.specs.Memory.{load_result}
 use Rattle.rv_machine.specs.declared.ops.LoadOp.TheVariants.{Ld}
-use Rattle.rv_machine.specs.Steps.{iter}
+use Rattle.rv_asm.specs.Simulation.{At}
+use Rattle.rv_asm.specs.Users.{int_reg, number_of}
+use Rattle.rv_asm.proofs.Laws.{same_are_loaded_alike}
 use Rattle.rv_expr.specs.declared.ops.BinOp.{BinOp}
 use Rattle.rv_expr.specs.declared.ops.BinOp.TheVariants.{Add, Sub, Mul, And, Or, Xor, Shl, Shr, Sar, DivU, RemU, Ltu}
 use Rattle.rv_expr.specs.declared.ops.ExprOp.{ExprOp}
@@ -20,8 +21,8 @@ use Rattle.rv_expr.specs.Value.{binary, value_of}
 use Rattle.rv_expr.specs.Listing.{load_from, store_to, constant, alu, alu_of, choice, op_lines}
 use Rattle.rv_expr.specs.Refusal.{fault_of}
 use Rattle.rv_expr.proofs.Accepted.{argument_below, binary_earlier, pick_earlier}
-use Rattle.rv_expr.proofs.Memory.{place, load_same}
-use Rattle.rv_expr.proofs.Steps.{Run, IsRun, Stands, is_changed, sp_of, iter_after}
+use Rattle.rv_expr.proofs.Places.{place}
+use Rattle.rv_expr.proofs.Steps.{Run, IsRun, Stands, Goes, goes_on, is_changed, sp_of}
 use Rattle.rv_expr.proofs.Effects.{Computed, computes, loads, stores}
 
 -- ---- lines in order
@@ -60,7 +61,7 @@ still_holds : {r : Run} {inputs known : List ℕ} {k m n x : ℕ} {s : State} �
 still_holds {r} h low c = record {
   stands = c.stands;
   args = λ j below. c.others (10 + j) (omega arith) (λ e. omega arith) ∙ h.args j below;
-  values = λ j below. load_same c.state.values.mem _ (place (sp_of r) j) (λ b in_place. c.mem (wrap (place (sp_of r) j + b))) ∙ h.values j below;
+  values = λ j below. same_are_loaded_alike c.state.values.mem _ (place (sp_of r) j) (λ b in_place. c.mem (wrap (place (sp_of r) j + b))) ∙ h.values j below;
 }
 
 -- a register gets a known value
@@ -77,18 +78,16 @@ known_load = loads_known
 -- the values are known, and the machine goes on with the rest of the lines
 pub record Advanced (r : Run) (inputs known : List ℕ) (rest : List Line) (s : State) : Type 0 where
   pub line : ℕ
-  pub steps : ℕ
   pub state : State
-  pub ran : iter r.flags steps s ≡ Some state
+  pub reached : Goes r s (At line) state
   pub holds : Holds r inputs known line state
   pub follows : drop line r.lines ≡ rest
 
-pub advanced_after : (r : Run) (inputs known : List ℕ) (rest : List Line) (n : ℕ) (s t : State) → iter r.flags n s ≡ Some t → Advanced r inputs known rest t → Advanced r inputs known rest s
-advanced_after r inputs known rest n s t ran a = record {
+pub advanced_after : (r : Run) (inputs known : List ℕ) (rest : List Line) (k : ℕ) (s t : State) → Goes r s (At k) t → Advanced r inputs known rest t → Advanced r inputs known rest s
+advanced_after r inputs known rest k s t reached a = record {
   line = a.line;
-  steps = n + a.steps;
   state = a.state;
-  ran = iter_after r.flags n a.steps s t a.state ran a.ran;
+  reached = goes_on r (At k) (At a.line) s t a.state reached a.reached;
   holds = a.holds;
   follows = a.follows;
 }
@@ -100,9 +99,8 @@ puts r inputs known k s n v in_file rest h at follows more low is few room =
     let c = stores r k s n (length known) in_file h at.stands (listed_at r.lines k line rest follows) (more_at r.lines k line rest follows more) low few room in
     record {
       line = suc k;
-      steps = c.steps;
       state = c.state;
-      ran = c.ran;
+      reached = c.reached;
       holds = record {
         stands = c.stands;
         args = λ j below. c.regs (10 + j) (omega arith) ∙ at.args j below;
@@ -145,7 +143,7 @@ constant_runs r inputs known n k s rest h at is follows more fine few room =
     let later = store_to (int_reg 5 (lit< tt)) (length known) ∷ rest in
     let v = n % 2 ^ 64 in
     let c = computes r k line s 5 v h at.stands (listed_at r.lines k line later follows) (more_at r.lines k line later follows (omega arith)) (lit< tt) (lit< tt) refl refl (λ env. refl) (λ env. refl) (λ env. refl) in
-    advanced_after r inputs (known ++ v ∷ []) rest c.steps s c.state c.ran
+    advanced_after r inputs (known ++ v ∷ []) rest (suc k) s c.state c.reached
     (puts r inputs known (suc k) c.state 5 v (lit< tt) rest h (still_holds at (lit< tt) c) (next_at r.lines k line later follows) more (lit< tt) c.here few room)
 
 argument_runs : (r : Run) (inputs known : List ℕ) (n : ℕ) → Runs r inputs known (length known) (Arg n)
@@ -156,9 +154,8 @@ argument_runs r inputs known n k s rest h at is follows more fine few room =
 
 -- t0 and t1 hold two known values
 record Loaded (r : Run) (inputs known : List ℕ) (k x y : ℕ) (rest : List Line) (s : State) : Type 0 where
-  steps : ℕ
   state : State
-  ran : iter r.flags steps s ≡ Some state
+  reached : Goes r s (At k) state
   holds : Holds r inputs known k state
   first : reg state.values 5 ≡ slice_index known x
   second : reg state.values 6 ≡ slice_index known y
@@ -174,9 +171,8 @@ loads_both r inputs known k x y s rest h at follows more first second =
     after c at_next f =
         let d = known_load r inputs known (suc k) c.state 6 y (lit< tt) rest h at_next f more (lit< tt) (lit< tt) refl second in
         record {
-          steps = c.steps + d.steps;
           state = d.state;
-          ran = iter_after r.flags c.steps d.steps s c.state d.state c.ran d.ran;
+          reached = goes_on r (At (suc k)) (At (suc (suc k))) s c.state d.state c.reached d.reached;
           holds = still_holds at_next (lit< tt) d;
           first = d.others 5 (lit< tt) (λ e. omega arith) ∙ c.here;
           second = d.here;
@@ -189,14 +185,14 @@ alu_stored r inputs known op k x y s rest h at follows more first second few roo
     let later = store_to (int_reg 5 (lit< tt)) (length known) ∷ rest in
     let made : alu_rrr (alu_of op) (reg s.values 5) (reg s.values 6) ≡ binary op x y = alu_is op (reg s.values 5) (reg s.values 6) ∙ (λ i. binary op (first i) (second i)) in
     let c = computes r k (alu op) s 5 (binary op x y) h at.stands (listed_at r.lines k (alu op) later follows) (more_at r.lines k (alu op) later follows (omega arith)) (lit< tt) (lit< tt) refl refl (λ env. refl) (λ env. refl) (λ env. ap (set_reg s.values 5) made) in
-    advanced_after r inputs (known ++ binary op x y ∷ []) rest c.steps s c.state c.ran
+    advanced_after r inputs (known ++ binary op x y ∷ []) rest (suc k) s c.state c.reached
     (puts r inputs known (suc k) c.state 5 (binary op x y) (lit< tt) rest h (still_holds at (lit< tt) c) (next_at r.lines k (alu op) later follows) more (lit< tt) c.here few room)
 
 binary_runs : (r : Run) (inputs known : List ℕ) (op : BinOp) (x y : ℕ) → Runs r inputs known (length known) (Bin op x y)
 binary_runs r inputs known op x y k s rest h at is follows more fine few room =
     let e = binary_earlier (length known) x y fine in
     let l = loads_both r inputs known k x y s (alu op ∷ store_to (int_reg 5 (lit< tt)) (length known) ∷ rest) h at follows (omega arith) e.first e.second in
-    advanced_after r inputs _ rest l.steps s l.state l.ran
+    advanced_after r inputs _ rest (suc (suc k)) s l.state l.reached
     (alu_stored r inputs known op (suc (suc k)) (slice_index known x) (slice_index known y) l.state rest h l.holds l.follows more l.first l.second few room)
 
 -- ---- choices
@@ -218,21 +214,21 @@ choice_stored r inputs known k t x y s rest h at follows more test first second 
     let picked = (if t == 0 then y else x) in
     let made : (if not (nat_eq (reg v 5) 0) then reg v 6 else reg v 7) ≡ picked = exchanged (nat_eq (reg v 5) 0) (reg v 6) (reg v 7) ∙ (λ i. if test i == 0 then second i else first i) in
     let c = computes r k choice s 6 picked h at.stands (listed_at r.lines k choice later follows) (more_at r.lines k choice later follows (omega arith)) (lit< tt) (lit< tt) refl refl (λ env. refl) (λ env. refl) (λ env. moves v (not (nat_eq (reg v 5) 0)) ∙ ap (set_reg v 6) made) in
-    advanced_after r inputs (known ++ picked ∷ []) rest c.steps s c.state c.ran
+    advanced_after r inputs (known ++ picked ∷ []) rest (suc k) s c.state c.reached
     (puts r inputs known (suc k) c.state 6 picked (lit< tt) rest h (still_holds at (lit< tt) c) (next_at r.lines k choice later follows) more (lit< tt) c.here few room)
 
 third_loaded : (r : Run) (inputs known : List ℕ) (k t x y : ℕ) (s : State) (rest : List Line) → IsRun r → Holds r inputs known k s → drop k r.lines ≡ load_from (int_reg 7 (lit< tt)) y ∷ choice ∷ store_to (int_reg 6 (lit< tt)) (length known) ∷ rest → 0 < length rest → reg s.values 5 ≡ t → reg s.values 6 ≡ x → y < length known → length known < 254 → 8 * length known + 8 ≤ r.size → Advanced r inputs (known ++ (if t == 0 then slice_index known y else x) ∷ []) rest s
 third_loaded r inputs known k t x y s rest h at follows more test first earlier few room =
     let later = choice ∷ store_to (int_reg 6 (lit< tt)) (length known) ∷ rest in
     let c = known_load r inputs known k s 7 y (lit< tt) later h at follows (omega arith) (lit< tt) (lit< tt) refl earlier in
-    advanced_after r inputs _ rest c.steps s c.state c.ran
+    advanced_after r inputs _ rest (suc k) s c.state c.reached
     (choice_stored r inputs known (suc k) t x (slice_index known y) c.state rest h (still_holds at (lit< tt) c) (next_at r.lines k (load_from (int_reg 7 (lit< tt)) y) later follows) more (c.others 5 (lit< tt) (λ e. omega arith) ∙ test) (c.others 6 (lit< tt) (λ e. omega arith) ∙ first) c.here few room)
 
 pick_runs : (r : Run) (inputs known : List ℕ) (t x y : ℕ) → Runs r inputs known (length known) (Pick t x y)
 pick_runs r inputs known t x y k s rest h at is follows more fine few room =
     let e = pick_earlier (length known) t x y fine in
     let l = loads_both r inputs known k t x s (load_from (int_reg 7 (lit< tt)) y ∷ choice ∷ store_to (int_reg 6 (lit< tt)) (length known) ∷ rest) h at follows (omega arith) e.test e.first in
-    advanced_after r inputs _ rest l.steps s l.state l.ran
+    advanced_after r inputs _ rest (suc (suc k)) s l.state l.reached
     (third_loaded r inputs known (suc (suc k)) (slice_index known t) (slice_index known x) y l.state rest h l.holds l.follows more l.first l.second e.second few room)
 
 -- every operation leaves its value

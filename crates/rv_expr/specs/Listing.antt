@@ -10,17 +10,15 @@ use Rattle.rv_base.specs.declared.mem_flags.MemFlagsData.{MemFlagsData}
 use Rattle.rv_base.specs.declared.regs.Reg.{Reg}
 use Rattle.rv_base.specs.declared.regs.Writable.{Writable}
 use Rattle.rv_base.specs.declared.value_regs.ValueRegs.TheVariants.{One}
-use Rattle.rv_base.specs.Regs.{int_reg}
 use Rattle.rv_ops.specs.declared.alu.AluOPRRR.{AluOPRRR}
 use Rattle.rv_ops.specs.declared.alu.AluOPRRR.TheVariants as rrr
 use Rattle.rv_ops.specs.declared.compare.IntegerCompare.{IntegerCompare}
 use Rattle.rv_ops.specs.declared.memory.LoadOP.TheVariants.{Ld}
 use Rattle.rv_ops.specs.declared.memory.StoreOP.TheVariants.{Sd}
 use Rattle.rv_inst.specs.declared.inst.Inst.TheVariants.{Load, Store, LoadInlineConst, AluRRR, Select, Ret}
-use Rattle.rv_inst.specs.declared.error.EmitError.{EmitError}
-use Rattle.rv_inst.specs.declared.error.EmitError.TheVariants.{OutOfMemory, BadFrame, Malformed, LabelTwice, UnboundLabel, TooLarge}
 use Rattle.rv_inst.specs.declared.inst.Line.{Line}
 use Rattle.rv_inst.specs.declared.inst.Line.TheVariants.{Inst as Put}
+use Rattle.rv_asm.specs.Users.{int_reg}
 use Rattle.rv_expr.specs.declared.ops.BinOp.{BinOp}
 use Rattle.rv_expr.specs.declared.ops.BinOp.TheVariants.{Add, Sub, Mul, And, Or, Xor, Shl, Shr, Sar, DivU, RemU, Ltu}
 use Rattle.rv_expr.specs.declared.ops.ExprOp.{ExprOp}
@@ -111,12 +109,3 @@ end_lines i = load_from a0 i ∷ Put Ret ∷ []
 
 abbrev pub listing : List ExprOp → List Line
 listing ops = lines_from 0 ops ++ end_lines (length ops - 1)
-
--- the one error that a listing may give which breaks no rule
-abbrev pub IsOutOfMemory : EmitError → Type 0
-IsOutOfMemory OutOfMemory = Unit {0}
-IsOutOfMemory BadFrame = ⊥
-IsOutOfMemory (Malformed index rule) = ⊥
-IsOutOfMemory (LabelTwice label) = ⊥
-IsOutOfMemory (UnboundLabel label) = ⊥
-IsOutOfMemory TooLarge = ⊥

@@ -1,7 +1,7 @@
 //! From a program to its code.
 
-ghost use Rattle.std.specs.Prelude.{◌≡◌, IfOk};
-ghost use Rattle.rv_expr.specs.Listing.{IsOutOfMemory};
+ghost use Rattle.std.specs.Prelude.{◌≡◌, [], IfOk};
+ghost use Rattle.rv_asm.specs.FineLines.{IsOutOfMemory};
 ghost use Rattle.rv_expr.specs.Refusal.{refusal, Finds};
 ghost use Rattle.rv_expr.specs.Running.{Computes};
 
@@ -15,9 +15,10 @@ use rv_inst::{Code, EmitError};
 use std::alloc::Global;
 
 /// The code of a program, for a machine with these flags: called with the arguments in a0 to a7, it returns with the value of the last
-/// operation in a0. Below the stack pointer it writes eight bytes for each operation, to a multiple of 16.
+/// operation in a0. Below the stack pointer it writes eight bytes for each operation, to a multiple of 16. Nothing of it is left to a linker.
 pub fn compile(alloc: Global, flags: IsaFlags, ops: &[ExprOp]) -> Result<Code, ExprError>
     ensures computes { IfOk result (λ code. Computes flags ops.now code) }
+    ensures whole { IfOk result (λ code. code.relocs ≡ []) }
     ensures refused { Finds (refusal ops.now) result }
 {
     if let Some(error) = refuse(ops) {

@@ -1,1 +1,4 @@
 pub mod Token
+pub mod Formula
+pub mod Parsing
+pub mod Parsers

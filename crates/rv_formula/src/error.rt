@@ -27,6 +27,11 @@ pub enum FormulaError {
 }
 
 impl From<OutOfMemory> for FormulaError {
+    ghost use Rattle.std.specs.Prelude.{◌≡◌};
+    ghost use Rattle.rv_formula.specs.declared.error.FormulaError.TheVariants.{OutOfMemory as NoMemory};
+
+    ghost from_gives = { λ _ error. error ≡ NoMemory };
+
     fn from(_: OutOfMemory) -> FormulaError {
         FormulaError::OutOfMemory
     }

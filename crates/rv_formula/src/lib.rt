@@ -4,8 +4,10 @@
 #![tactic(auto)]
 
 mod error;
+mod laws;
 mod parser;
 mod token;
 
 pub use error::FormulaError;
+pub use laws::no_formula_begins_so;
 pub use parser::parse;

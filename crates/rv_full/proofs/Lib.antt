@@ -1,4 +1,5 @@
 pub mod FirstAnswers
+pub mod LargerMachine
 pub mod Products
 pub mod Ranges
 pub mod Runs

@@ -1,14 +1,24 @@
 -- Runs of the machine with all units.
-use Rattle.std.proofs.Common.{◌≡◌, ℕ, zero, suc, ◌+◌, Option, Some, None, [], refl, ap, sym, subst, ◌∙◌, add-one}
+use Rattle.std.proofs.Common.{◌≡◌, ℕ, zero, suc, ◌+◌, Option, Some, None, [], refl, ap, sym, subst, ◌∙◌, add-one, arith}
 use Rattle.rv_base.specs.declared.flags.IsaFlags.{IsaFlags}
-use Rattle.rv_machine.specs.State.{State}
-use Rattle.rv_machine.specs.Steps.{iter, istep, then_step}
 use Rattle.rv_full.specs.declared.machine.FullStep.TheVariants.{Stepped}
-use Rattle.rv_full.specs.Units.{FullState, put}
-use Rattle.rv_full.specs.Steps.{Machine, Ran, FullSteps, fiter, fstep, fnext, then_fstep, next_by, stepped}
+use Rattle.rv_full.specs.Units.{FullState}
+use Rattle.rv_full.specs.Steps.{Machine, Ran, FullSteps, fiter, fstep, then_fstep, stepped}
 use Rattle.rv_full.specs.Shared.{Shared, aiter, then_astep, shared_by}
 
--- ---- many steps, one by one
+-- ---- many steps
+
+pub fiter_none : (flags : IsaFlags) (b : FullState) → fiter flags 0 b ≡ Some b
+unfolding fiter
+fiter_none flags b = refl
+
+-- some steps, and then others
+pub fiter_after : (flags : IsaFlags) (m n : ℕ) (b c : FullState) → fiter flags n b ≡ Some c → fiter flags (m + n) b ≡ fiter flags m c
+unfolding fiter
+fiter_after flags zero n b c e = let here : 0 + n ≡ n = omega arith in ap (λ k. fiter flags k b) here ∙ e
+fiter_after flags (suc m) n b c e = let more : suc m + n ≡ suc (m + n) = omega arith in ap (λ k. fiter flags k b) more ∙ ap (then_fstep flags) (fiter_after flags m n b c e)
+
+-- ---- one by one
 
 pub ran_none : (m : Machine) → Ran 0 m m
 unfolding fiter
@@ -24,25 +34,6 @@ ran_suc k m n p ran step = record {
 -- one more step
 pub ran_more : (k : ℕ) (m n p : Machine) → Ran k m n → FullSteps Stepped n p → Ran (k + 1) m p
 ran_more k m n p ran step = subst (λ j. Ran j m p) (sym (add-one k)) (ran_suc k m n p ran step)
-
--- ---- a step of the integer machine is one of this
-
-pub integer_step : (flags : IsaFlags) (b : FullState) (t : State) → istep flags b.state ≡ Some t → fstep flags b ≡ Some (put t b)
-unfolding fnext
-integer_step flags b t step = ap (λ o. stepped (next_by flags o b)) step
-
-pub integer_run : (flags : IsaFlags) (k : ℕ) (t : State) (b : FullState) → iter flags k b.state ≡ Some t → fiter flags k b ≡ Some (put t b)
-unfolding iter fiter
-integer_run flags zero t b ran = ap (λ s. option_put s) ran
-  where
-    option_put : Option State → Option FullState
-    option_put None = None
-    option_put (Some s) = Some (put s b)
-integer_run flags (suc k) t b ran = after (iter flags k b.state) ran (λ r e. integer_run flags k r b e)
-  where
-    after : (o : Option State) → then_step flags o ≡ Some t → ((r : State) → o ≡ Some r → fiter flags k b ≡ Some (put r b)) → then_fstep flags (fiter flags k b) ≡ Some (put t b)
-    after None last first = absurd (cc)
-    after (Some r) last first = ap (then_fstep flags) (first r refl) ∙ integer_step flags (put r b) t last
 
 -- ---- others that write nothing
 

@@ -8,3 +8,4 @@ pub mod UnitRows
 pub mod Steps
 pub mod Shared
 pub mod View
+pub mod LargerMachine

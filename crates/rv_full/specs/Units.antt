@@ -1,8 +1,10 @@
 -- The state of the machine with all units: "Programmers' Model" of the chapters "RV32I", "F" and "V", and the reservation of
 -- "Zalrsc". A floating-point register has 64 bits and a vector register 128.
-use Rattle.std.specs.Prelude.{◌≡◌, ℕ, ◌^◌, ◌<◌, List, length, slice_index, slice_set, Option}
+use Rattle.std.specs.Prelude.{◌≡◌, ◌⊎◌, ℕ, ◌^◌, ◌<◌, List, length, slice_index, slice_set, Option, IfSome}
+use Rattle.std.specs.List.{AllByRecursion}
 use Rattle.rv_machine.specs.State.{State, Values, IsState, at}
 use Rattle.rv_full.specs.declared.answer.Answer.{Answer}
+use Rattle.rv_full.specs.declared.answer.Answer.TheVariants.{Bits, Vectors, Stored, Success, Length}
 use Rattle.rv_full.specs.declared.answer.Entry.{Entry}
 use Rattle.rv_full.specs.declared.units.Setting.{Setting}
 use Rattle.rv_full.specs.declared.units.Reservation.{Reservation}
@@ -66,14 +68,38 @@ set_setting u s = record { floats = u.floats; vectors = u.vectors; frm = u.frm; 
 abbrev pub with_trace : Units → List Entry → Units
 with_trace u trace = record { floats = u.floats; vectors = u.vectors; frm = u.frm; reserved = u.reserved; setting = u.setting; trace = trace }
 
--- each number is in its range
+-- ---- each number is in its range
+
+-- a word's or a doubleword's bytes, at an address
+pub record IsReservation (r : Reservation) : Type 0 where
+  pub address : r.address < 2 ^ 64
+  pub size : (r.size ≡ 4) ⊎ (r.size ≡ 8)
+
 pub record AreUnits (u : Units) : Type 0 where
   pub float_count : length u.floats ≡ 32
   pub float_fits : (n : ℕ) → freg u n < 2 ^ 64
   pub vector_count : length u.vectors ≡ 32
   pub vector_fits : (n : ℕ) → vreg u n < 2 ^ 128
   pub frm_fits : u.frm < 8
+  pub reserved_fits : IfSome u.reserved IsReservation
+  pub avl_fits : u.setting.avl < 32
+  pub vtype_fits : u.setting.vtype < 2 ^ 8
+
+-- a register's number and bits, and a byte where there is one
+abbrev pub RegisterFits : ℕ × ℕ → Type 0
+RegisterFits r = (r.0 < 2 ^ 8) × (r.1 < 2 ^ 128)
+
+abbrev pub StoredFits : Option ℕ → Type 0
+StoredFits stored = IfSome stored (λ byte. byte < 2 ^ 8)
+
+abbrev pub AnswerFits : Answer → Type 0
+AnswerFits (Bits x) = x < 2 ^ 64
+AnswerFits (Vectors rs) = AllByRecursion RegisterFits rs
+AnswerFits (Stored bs) = AllByRecursion StoredFits bs
+AnswerFits (Success b) = Unit {0}
+AnswerFits (Length n) = n < 2 ^ 8
 
 pub record IsFullState (b : FullState) : Type 0 where
   pub state : IsState b.state
   pub units : AreUnits b.units
+  pub answers : AllByRecursion AnswerFits b.answers

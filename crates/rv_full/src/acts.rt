@@ -1,9 +1,9 @@
 //! What the operations of "Zbc", "Zbkb", "A", "Zicsr", "F", "D", "Zfh" and "Zfa" do.
 
-ghost use Rattle.std.specs.Prelude.{◌≡◌, ◌≤◌, ◌<◌, ◌∷◌, [], OnOk, OnErr, IfOk, Some, None};
+ghost use Rattle.std.specs.Prelude.{◌≡◌, ◌≤◌, ◌<◌, ◌∷◌, [], OnOk, OnErr, IfOk, IfSome, Some, None};
 ghost use Rattle.rv_machine.specs.Layout.{HasFileRegisters};
 ghost use Rattle.rv_machine.specs.Memory.{load_bytes};
-ghost use Rattle.rv_full.specs.Units.{values_of, set_frm, set_reserved};
+ghost use Rattle.rv_full.specs.Units.{IsReservation, values_of, set_frm, set_reserved};
 ghost use Rattle.rv_full.specs.Rows.{Does, address_of, put_x, put_f};
 ghost use Rattle.rv_full.specs.Carry.{carry_row};
 ghost use Rattle.rv_full.specs.Atomics.{width_bytes, number_at, operand, old_of, reservation_of, has_reserved, conditional, exchange, amo_result, amo_row, lr_row, sc_row, atomic_row, csr_result, csr_row, number_put};
@@ -206,6 +206,7 @@ impl FullMachine {
     }
 
     fn set_reserved(&mut self, reserved: Option<Reservation>)
+        requires { IfSome reserved IsReservation }
         ensures { self.new ≡ with_own self.old (set_reserved self.old.full.units reserved) }
     {
         self.reserved = reserved;
@@ -213,7 +214,8 @@ impl FullMachine {
 
     fn reservation(&self, width: AtomicWidth, d: Decoded) -> Reservation
         requires { HasFileRegisters d }
-        ensures { result ≡ reservation_of width d (values_of self.now.full) }
+        ensures value { result ≡ reservation_of width d (values_of self.now.full) }
+        ensures fits { IsReservation result }
     {
         Reservation {
             address: self.reg(d.rs1),

@@ -4,6 +4,7 @@
 
 mod acts;
 mod answer;
+mod answer_ranges;
 mod carry;
 mod laws;
 mod machine;

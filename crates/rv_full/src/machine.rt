@@ -13,6 +13,7 @@ ghost use Rattle.rv_full.specs.Shared.{foreign, is_reserved};
 ghost use Rattle.rv_full.specs.View.{zero_full};
 
 use crate::answer::{Answer, Entry};
+use crate::answer_ranges::answer_fits;
 use crate::units::{Reservation, Setting};
 use rv_base::{IsaFlags, List, OutOfMemory};
 use rv_machine::{Decoded, IntMachine, MOp, Step, decode};
@@ -49,7 +50,8 @@ pub struct FullMachine {
 
 impl Model for FullMachine {
     ghost use Rattle.std.specs.Prelude.{◌≤◌, length};
-    ghost use Rattle.rv_full.specs.Units.{AreUnits};
+    ghost use Rattle.std.specs.List.{AllByRecursion};
+    ghost use Rattle.rv_full.specs.Units.{AnswerFits, AreUnits};
     ghost use Rattle.rv_full.specs.Steps.{Machine};
     ghost use Rattle.rv_full.specs.View.{machine_code, machine_of, units_of};
     ghost use Rattle.rv_full.specs.contracts.units.Reservation as reservation_row;
@@ -63,7 +65,7 @@ impl Model for FullMachine {
 
     ghost view = { λ m. machine_of m.integers (units_of m.floats m.vectors m.frm m.reserved m.setting m.trace) m.answers.items m.answers_taken };
 
-    ghost invariant = { λ m. (m.answers_taken ≤ length m.answers.items) × AreUnits (units_of m.floats m.vectors m.frm m.reserved m.setting m.trace) };
+    ghost invariant = { λ m. (m.answers_taken ≤ length m.answers.items) × AllByRecursion AnswerFits m.answers.items × AreUnits (units_of m.floats m.vectors m.frm m.reserved m.setting m.trace) };
 }
 
 impl Reservation {
@@ -214,6 +216,7 @@ impl FullMachine {
         ensures ok { OnOk result (self.new ≡ with_answers self.old (self.old.full.answers ++ answer ∷ [])) }
         ensures err { OnErr result (self.new ≡ self.old) }
     {
+        answer_fits(&answer);
         self.answers.push(answer)?;
         Ok(())
     }

@@ -15,7 +15,8 @@ use Rattle.rv_machine.specs.Layout.{word_opcode, word_rd, word_funct3, word_rs1,
 use Rattle.rv_machine.specs.Opcodes.{AUIPC, JAL, JALR, BRANCH, OP_IMM}
 use Rattle.rv_machine.specs.Tables.{branch_entry}
 use Rattle.rv_machine.specs.Decode.{decode, decode_branch, decode_jalr}
-use Rattle.rv_machine.specs.Compressed.{half_op, half_funct3, cj_imm, decode_half}
+use Rattle.rv_machine.specs.Compressed.{half_op, half_funct3, cj_imm, int_decode_half, decode_half}
+use Rattle.rv_machine.proofs.DecodeLaws.{decode_alone, none_fused}
 use Rattle.rv_encode.proofs.Decoding.{opcode_decodes}
 use Rattle.rv_inst.specs.declared.label_use.LabelUse.TheVariants.{Jal20, PCRel32, B12, PCRelLo12I, RVCJump}
 use Rattle.rv_inst.specs.LabelUse.{Aims, marks_of}
@@ -92,19 +93,19 @@ same_lower old new b c s =
 -- ---- operations by their opcode
 
 word_branch : (flags : IsaFlags) (w : ℕ) → word_opcode w ≡ BRANCH → decode flags w ≡ decode_branch w
-word_branch flags w e = opcode_decodes flags w BRANCH e refl
+word_branch flags w e = decode_alone flags w BRANCH e refl (none_fused BRANCH w refl)
 
 word_jal : (flags : IsaFlags) (w : ℕ) → word_opcode w ≡ JAL → decode flags w ≡ Some (j_layout w (Base Jal))
-word_jal flags w e = opcode_decodes flags w JAL e refl
+word_jal flags w e = opcode_decodes flags w JAL e refl refl
 
 word_auipc : (flags : IsaFlags) (w : ℕ) → word_opcode w ≡ AUIPC → decode flags w ≡ Some (u_layout w (Base Auipc))
-word_auipc flags w e = opcode_decodes flags w AUIPC e refl
+word_auipc flags w e = opcode_decodes flags w AUIPC e refl refl
 
 word_jalr : (flags : IsaFlags) (w : ℕ) → word_opcode w ≡ JALR → decode flags w ≡ decode_jalr w
-word_jalr flags w e = opcode_decodes flags w JALR e refl
+word_jalr flags w e = decode_alone flags w JALR e refl (none_fused JALR w refl)
 
 word_addi : (flags : IsaFlags) (w : ℕ) → word_opcode w ≡ OP_IMM → word_funct3 w ≡ 0 → decode flags w ≡ Some (i_layout w (Alu (Int Addi)))
-word_addi flags w e z = opcode_decodes flags w OP_IMM e refl ∙ rw z
+word_addi flags w e z = opcode_decodes flags w OP_IMM e refl (rw z)
 
 map_map : {A B C : Type 0} (g : B → C) (f : A → B) (h : A → C) → ((x : A) → h x ≡ g (f x)) → (o : Option A) → option_map h o ≡ option_map g (option_map f o)
 map_map g f h e None = refl
@@ -190,7 +191,7 @@ same_three : (x y : ℕ) → bit_and x 224 ≡ bit_and y 224 → x / 32 % 8 ≡ 
 same_three x y e = let f : (x / 32 % 8) * 32 ≡ (y / 32 % 8) * 32 = sym (and_high x 3 5) ∙ e ∙ and_high y 3 5 in omega (arith, f)
 
 half_jump : (flags : IsaFlags) (half : ℕ) → flags.has_zca ≡ true → half_op half ≡ 1 → half_funct3 half ≡ 5 → decode_half flags half ≡ Some (compressed (Base Jal) 0 0 0 (cj_imm half))
-unfolding decode_half
+unfolding decode_half int_decode_half
 half_jump flags half zca op funct3 = rw (zca, op, funct3) refl
 
 -- the bytes of c.j by 0, with a distance patched in

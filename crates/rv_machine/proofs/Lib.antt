@@ -5,3 +5,4 @@ pub mod Runs
 pub mod Products
 pub mod Ranges
 pub mod States
+pub mod UnitOperations

@@ -1,5 +1,5 @@
 -- What an operation computes of 64 bits has 64 bits.
-use Rattle.std.proofs.Common.{ℕ, zero, suc, ◌-◌, ◌*◌, ◌/◌, ◌%◌, ◌^◌, ◌<◌, ◌≤◌, Bool, true, false, T, leb, [], ◌∷◌, map, if◌then◌else◌, ◌==◌, ℤ, pos, ◌*ℤ◌, int_div, int_rem, unsigned_abs, negsuc, FitsSigned, bit_and, arith, lit<, lit≤, pow_pos, shr_lt, mul-le-mul, mod-lt, div-le_self, le_trans, lt_of_le_of_lt, lt_of_lt_of_le, w8, w16, w32, w64}
+use Rattle.std.proofs.Common.{ℕ, zero, suc, ◌-◌, ◌*◌, ◌/◌, ◌%◌, ◌^◌, ◌<◌, ◌≤◌, Bool, true, false, T, leb, [], ◌∷◌, map, if◌then◌else◌, ◌==◌, ℤ, pos, ◌*ℤ◌, int_div, int_rem, unsigned_abs, FitsSigned, bit_and, arith, lit<, lit≤, pow_pos, shr_lt, mul-le-mul, mod-lt, div-le_self, le_trans, lt_of_le_of_lt, lt_of_lt_of_le, w8, w16, w32, w64}
 use mir.Syntax.{Width, w128}
 use mir.Val.{bits, hbits}
 use Rattle.std.proofs.Math.Nat.{mod-le}

@@ -15,7 +15,7 @@ use Rattle.rv_machine.specs.declared.ops.IntOp.TheVariants.{Addi, Xori, Andi, Sl
 use Rattle.rv_machine.specs.declared.ops.MulOp.TheVariants.{Mul as Product}
 use Rattle.rv_machine.specs.declared.ops.BitOp.TheVariants.{AddUw, SextB, SextH, ZextH}
 use Rattle.rv_machine.specs.State.{signed}
-use Rattle.rv_machine.specs.Layout.{bits, compressed}
+use Rattle.rv_machine.specs.Layout.{bits, compressed, or_else}
 
 -- ---- fields
 
@@ -177,9 +177,6 @@ quadrant_0 flags half =
     if (half_funct3 half == 4) && flags.has_zcb then decode_zcb_memory half else
     if half_funct3 half == 6 then Some (cs_layout half (Store Sw) (lw_imm half)) else
     if half_funct3 half == 7 then Some (cs_layout half (Store Sd) (ld_imm half)) else
-    -- c.fld and c.fsd
-    if (half_funct3 half == 1) && flags.has_zcd then Some (cl_layout half (FloatLoad D) (ld_imm half)) else
-    if (half_funct3 half == 5) && flags.has_zcd then Some (cs_layout half (FloatStore D) (ld_imm half)) else
     None
 
 -- ---- quadrant 1
@@ -268,9 +265,9 @@ decode_jalr_add half =
     if half_rs2 half == 0 then Some (compressed (Base Jalr) 1 (half_rd half) 0 (pos 0)) else
     Some (cr_layout half (Alu (Int Add)))
 
--- c.slli, c.lwsp, c.ldsp, those above by funct4, c.swsp, c.sdsp, c.fldsp and c.fsdsp
-abbrev pub quadrant_2 : IsaFlags → ℕ → Option Decoded
-quadrant_2 flags half =
+-- c.slli, c.lwsp, c.ldsp, those above by funct4, c.swsp and c.sdsp
+abbrev pub quadrant_2 : ℕ → Option Decoded
+quadrant_2 half =
     if half_funct3 half == 0 then Some (decode_slli half) else
     if half_funct3 half == 2 then decode_load_sp half (Load Lw) (lwsp_imm half) else
     if half_funct3 half == 3 then decode_load_sp half (Load Ld) (ldsp_imm half) else
@@ -278,8 +275,6 @@ quadrant_2 flags half =
     if (half_funct3 half == 4) && (bits half 12 12 == 1) then decode_jalr_add half else
     if half_funct3 half == 6 then Some (css_layout half (Store Sw) (swsp_imm half)) else
     if half_funct3 half == 7 then Some (css_layout half (Store Sd) (sdsp_imm half)) else
-    if (half_funct3 half == 1) && flags.has_zcd then Some (load_sp_layout half (FloatLoad D) (ldsp_imm half)) else
-    if (half_funct3 half == 5) && flags.has_zcd then Some (css_layout half (FloatStore D) (sdsp_imm half)) else
     None
 
 -- ---- all quadrants
@@ -288,9 +283,26 @@ abbrev pub by_quadrant : IsaFlags → ℕ → Option Decoded
 by_quadrant flags half =
     if half_op half == 0 then quadrant_0 flags half else
     if half_op half == 1 then quadrant_1 flags half else
-    if half_op half == 2 then quadrant_2 flags half else
+    if half_op half == 2 then quadrant_2 half else
     None
 
--- the operation of an instruction of 16 bits, of which there are only those of Zca
+-- the integer operation of an instruction of 16 bits, of which there are only those of Zca
+unfoldable pub int_decode_half : IsaFlags → ℕ → Option Decoded
+int_decode_half flags half = if flags.has_zca then by_quadrant flags half else None
+
+-- c.fld, c.fsd, c.fldsp and c.fsdsp, between those of quadrants 0 and 2
+abbrev pub unit_by_quadrant : ℕ → Option Decoded
+unit_by_quadrant half =
+    if (half_op half == 0) && (half_funct3 half == 1) then Some (cl_layout half (FloatLoad D) (ld_imm half)) else
+    if (half_op half == 0) && (half_funct3 half == 5) then Some (cs_layout half (FloatStore D) (ld_imm half)) else
+    if (half_op half == 2) && (half_funct3 half == 1) then Some (load_sp_layout half (FloatLoad D) (ldsp_imm half)) else
+    if (half_op half == 2) && (half_funct3 half == 5) then Some (css_layout half (FloatStore D) (sdsp_imm half)) else
+    None
+
+-- those of Zcd
+unfoldable pub unit_decode_half : IsaFlags → ℕ → Option Decoded
+unit_decode_half flags half = if flags.has_zca && flags.has_zcd then unit_by_quadrant half else None
+
+-- the operation that an instruction of 16 bits expands to
 unfoldable pub decode_half : IsaFlags → ℕ → Option Decoded
-decode_half flags half = if flags.has_zca then by_quadrant flags half else None
+decode_half flags half = or_else (int_decode_half flags half) (unit_decode_half flags half)

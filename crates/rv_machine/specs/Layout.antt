@@ -1,6 +1,6 @@
 -- "2.2 Base Instruction Formats" and "2.3 Immediate Encoding Variants": the fields of a word of 32 bits, its immediates,
 -- and the operation that each layout holds.
-use Rattle.std.specs.Prelude.{ℕ, ◌+◌, ◌-◌, ◌*◌, ◌/◌, ◌%◌, ◌^◌, ◌<◌, ℤ, pos, Bool, false, ◌==◌}
+use Rattle.std.specs.Prelude.{ℕ, ◌+◌, ◌-◌, ◌*◌, ◌/◌, ◌%◌, ◌^◌, ◌<◌, ℤ, pos, Bool, false, ◌==◌, Option, Some, None}
 use Rattle.rv_machine.specs.declared.decoding.Decoded.{Decoded}
 use Rattle.rv_machine.specs.declared.ops.MOp.{MOp}
 use Rattle.rv_machine.specs.State.{signed}
@@ -93,6 +93,11 @@ decoded op rd rs1 rs2 imm = of_length 4 op rd rs1 rs2 imm
 -- the operation that an instruction of 16 bits expands to
 abbrev pub compressed : MOp → ℕ → ℕ → ℕ → ℤ → Decoded
 compressed op rd rs1 rs2 imm = of_length 2 op rd rs1 rs2 imm
+
+-- the first that is there
+abbrev pub or_else : Option Decoded → Option Decoded → Option Decoded
+or_else (Some d) e = Some d
+or_else None e = e
 
 -- all fields fixed
 abbrev pub bare_form : MOp → Decoded

@@ -8,7 +8,7 @@ use Rattle.rv_machine.specs.declared.ops.BaseOp.TheVariants.{Ebreak}
 use Rattle.rv_machine.specs.declared.machine.Step.{Step}
 use Rattle.rv_machine.specs.declared.machine.Step.TheVariants.{Stepped, Stopped}
 use Rattle.rv_machine.specs.State.{Memory, State, byte, store, wrap, at, set_reg}
-use Rattle.rv_machine.specs.Decode.{decode}
+use Rattle.rv_machine.specs.Decode.{int_decode, decode}
 use Rattle.rv_machine.specs.Effects.{act}
 
 -- four bytes, the lowest first
@@ -18,16 +18,25 @@ fetch mem pc = byte mem pc + byte mem (wrap (pc + 1)) * 2 ^ 8 + byte mem (wrap (
 -- an ebreak stands there, of four bytes or of two
 pub record IsBreak (flags : IsaFlags) (mem : Memory) (pc : ℕ) : Type 0 where
   pub d : Decoded
-  pub there : decode flags (fetch mem pc) ≡ Some d
+  pub there : int_decode flags (fetch mem pc) ≡ Some d
   pub is : d.op ≡ Base Ebreak
+
+-- The halfword 0 stands there, which the manual sets aside as no instruction of any extension ("1.5 Base Instruction-Length
+-- Encoding"). A law says that it decodes to none.
+abbrev pub IsZeroHalf : Memory → ℕ → Type 0
+IsZeroHalf mem pc = fetch mem pc % 2 ^ 16 ≡ 0
 
 abbrev pub step_on : Option Decoded → State → Option State
 step_on None s = None
 step_on (Some d) s = act d s
 
--- one step, where the pc is even and the word there is an operation that has one
+-- one step, where the pc is even and the word there is an integer operation that has one
 unfoldable pub istep : IsaFlags → State → Option State
-istep flags s = if nat_eq (s.pc % 2) 0 then step_on (decode flags (fetch s.values.mem s.pc)) s else None
+istep flags s = if nat_eq (s.pc % 2) 0 then step_on (int_decode flags (fetch s.values.mem s.pc)) s else None
+
+-- The same step over the operations of all units, none of which has one on this machine. A law says that it is the same.
+abbrev pub step_of_all : IsaFlags → State → Option State
+step_of_all flags s = if nat_eq (s.pc % 2) 0 then step_on (decode flags (fetch s.values.mem s.pc)) s else None
 
 abbrev pub then_step : IsaFlags → Option State → Option State
 then_step flags None = None

@@ -1,9 +1,10 @@
--- Decoding of the units' operations: the listings of the chapters "A", "Zicsr", "F", "D", "Zfh", "Zfa" and "V".
-use Rattle.std.specs.Prelude.{ℕ, ◌/◌, ◌%◌, ◌^◌, ◌==◌, if◌then◌else◌, ◌&&◌, ◌||◌, not, nat_lt, Bool, true, false, Option, Some, None}
+-- Decoding of the operations that the integer machine has no step for: the listings of the chapters "A", "Zicsr", "F", "D", "Zfh",
+-- "Zfa", "V", "Zbc" and "Zbkb".
+use Rattle.std.specs.Prelude.{ℕ, ◌/◌, ◌%◌, ◌^◌, ◌==◌, if◌then◌else◌, ◌&&◌, ◌||◌, not, nat_lt, Bool, true, Option, Some, None}
 use Rattle.std.specs.Option.{option_map, option_and_then}
 use Rattle.rv_base.specs.declared.flags.IsaFlags.{IsaFlags}
 use Rattle.rv_machine.specs.declared.decoding.Decoded.{Decoded}
-use Rattle.rv_machine.specs.declared.ops.MOp.TheVariants.{Atomic, Csr, FloatLoad, FloatStore, Float, VecMem, Vec}
+use Rattle.rv_machine.specs.declared.ops.MOp.TheVariants.{Carry, Atomic, Csr, FloatLoad, FloatStore, Float, VecMem, Vec}
 use Rattle.rv_machine.specs.declared.ops.AtomicOp.{AtomicOp}
 use Rattle.rv_machine.specs.declared.ops.AtomicOp.TheVariants.{Lr, Sc, Amoswap, Amoadd, Amoxor, Amoand, Amoor, Amomin, Amomax, Amominu, Amomaxu}
 use Rattle.rv_machine.specs.declared.ops.AtomicWidth.{AtomicWidth}
@@ -11,15 +12,12 @@ use Rattle.rv_machine.specs.declared.ops.FloatFormat.{FloatFormat}
 use Rattle.rv_machine.specs.declared.ops.FloatFormat.TheVariants.{H, S, D}
 use Rattle.rv_machine.specs.declared.ops.VecMemOp.TheVariants.{Vsetivli}
 use Rattle.rv_machine.specs.declared.ops.VecFields.{VecFields}
-use Rattle.rv_machine.specs.Opcodes.{LOAD_FP, STORE_FP, AMO, MADD, MSUB, NMSUB, NMADD, OP_FP, OP_V}
-use Rattle.rv_machine.specs.Layout.{bits, word_rd, word_funct3, word_rs1, word_rs2, word_funct6, word_funct12, word_fmt, word_funct5, word_vm, r_layout, i_layout, s_layout, unary_layout, rounded_layout, rounded_unary_layout, r4_layout, amo_layout, vector_layout, vector_memory_layout, vsetivli_layout}
-use Rattle.rv_machine.specs.UnitTables.{csr_entry, atomic_entry, atomic_width_entry, format_entry, width_entry, rounded_entry, rounded_unary_entry, fixed_entry, fixed_unary_entry, is_own_format, fused_entry, vector_load_entry, vector_store_entry}
+use Rattle.rv_machine.specs.Opcodes.{OP_IMM, OP, OP_32, SYSTEM, LOAD_FP, STORE_FP, AMO, OP_FP, OP_V}
+use Rattle.rv_machine.specs.Layout.{bits, word_opcode, word_rd, word_funct3, word_rs1, word_rs2, word_funct6, word_funct7, word_funct12, word_fmt, word_funct5, word_vm, r_layout, i_layout, s_layout, unary_layout, rounded_layout, rounded_unary_layout, r4_layout, amo_layout, vector_layout, vector_memory_layout, vsetivli_layout}
+use Rattle.rv_machine.specs.UnitTables.{carry_unary_entry, carry_entry, carry_32_entry, csr_entry, atomic_entry, atomic_width_entry, format_entry, width_entry, rounded_entry, rounded_unary_entry, fixed_entry, fixed_unary_entry, is_own_format, fused_entry, vector_load_entry, vector_store_entry}
 use Rattle.rv_machine.specs.Vectors.{vector_fields, are_fields}
-
--- the first that is there
-abbrev pub or_else : Option Decoded → Option Decoded → Option Decoded
-or_else (Some d) e = Some d
-or_else None e = e
+use Rattle.rv_machine.specs.Compressed.{unit_decode_half}
+pub use Rattle.rv_machine.specs.Layout.{or_else}
 
 -- where the test holds
 abbrev pub only : Bool → Option Decoded → Option Decoded
@@ -134,13 +132,33 @@ decode_op_v word =
     if word_funct3 word == 7 then decode_vsetivli word else
     option_and_then (vector_of word) (vector_fields (word_funct6 word) (word_funct3 word))
 
+-- ---- "Zbc" and "Zbkb"
+
+abbrev pub decode_carry_unary : ℕ → Option Decoded
+decode_carry_unary word = option_map (λ op. unary_layout word (Carry op)) (carry_unary_entry (word_funct12 word) (word_funct3 word))
+
+abbrev pub decode_carry : ℕ → Option Decoded
+decode_carry word = option_map (λ op. r_layout word (Carry op)) (carry_entry (word_funct7 word) (word_funct3 word))
+
+-- packw; that of x0 is zext.h, an integer operation
+abbrev pub decode_carry_32 : ℕ → Option Decoded
+decode_carry_32 word = option_map (λ op. r_layout word (Carry op)) (carry_32_entry (word_funct7 word) (word_funct3 word))
+
 -- ---- by opcode
 
 abbrev pub unit_by_opcode : IsaFlags → ℕ → ℕ → Option Decoded
 unit_by_opcode flags opcode word =
+    if opcode == OP_IMM then decode_carry_unary word else
+    if opcode == OP then decode_carry word else
+    if opcode == OP_32 then decode_carry_32 word else
+    if opcode == SYSTEM then decode_csr word else
     if opcode == LOAD_FP then decode_load_fp flags word else
     if opcode == STORE_FP then decode_store_fp flags word else
     if opcode == AMO then decode_amo word else
     if opcode == OP_FP then decode_op_fp word else
     if opcode == OP_V then decode_op_v word else
     decode_fused opcode word
+
+-- the unit's operation of a word, of 32 bits or of 16
+unfoldable pub unit_decode : IsaFlags → ℕ → Option Decoded
+unit_decode flags word = if word_opcode word % 4 == 3 then unit_by_opcode flags (word_opcode word) word else unit_decode_half flags (bits word 15 0)

@@ -2,7 +2,7 @@
 
 ghost use Rattle.std.specs.Prelude.{◌≡◌, IfSome};
 ghost use Rattle.rv_machine.specs.Layout.{HasFileRegisters};
-ghost use Rattle.rv_machine.specs.Compressed.{decode_addi4spn, decode_zcb_memory, quadrant_0, decode_addiw, decode_li, decode_j, decode_lui, decode_zcb_unary, decode_two_registers, decode_arithmetic, quadrant_1, decode_slli, decode_load_sp, decode_jr_mv, decode_jalr_add, quadrant_2, by_quadrant, decode_half};
+ghost use Rattle.rv_machine.specs.Compressed.{decode_addi4spn, decode_zcb_memory, quadrant_0, decode_addiw, decode_li, decode_j, decode_lui, decode_zcb_unary, decode_two_registers, decode_arithmetic, quadrant_1, decode_slli, decode_load_sp, decode_jr_mv, decode_jalr_add, quadrant_2, by_quadrant, unit_by_quadrant, int_decode_half, unit_decode_half, decode_half};
 
 use crate::compressed_fields::{
     addi16sp_imm, ci_bits, ci_imm, ciw_imm, cj_imm, funct3, lb_imm, ld_imm, ldsp_imm, lh_imm,
@@ -20,6 +20,18 @@ pub fn decode_half(flags: IsaFlags, half: u16) -> Option<Decoded>
     ensures value { result ≡ decode_half flags half }
     ensures registers { IfSome result HasFileRegisters }
 {
+    if let Some(decoded) = int_decode_half(flags, half) {
+        return Some(decoded);
+    }
+    unit_decode_half(flags, half)
+}
+
+/// The integer operation that an instruction of 16 bits expands to.
+#[tactic(auto, unfolding(crate::specs::Compressed::int_decode_half))]
+pub fn int_decode_half(flags: IsaFlags, half: u16) -> Option<Decoded>
+    ensures value { result ≡ int_decode_half flags half }
+    ensures registers { IfSome result HasFileRegisters }
+{
     if flags.has_zca {
         by_quadrant(flags, half)
     } else {
@@ -34,7 +46,7 @@ fn by_quadrant(flags: IsaFlags, half: u16) -> Option<Decoded>
     match op(half) {
         0 => quadrant_0(flags, half),
         1 => quadrant_1(flags, half),
-        2 => quadrant_2(flags, half),
+        2 => quadrant_2(half),
         _ => None,
     }
 }
@@ -52,16 +64,6 @@ fn quadrant_0(flags: IsaFlags, half: u16) -> Option<Decoded>
         4 if flags.has_zcb => zcb_memory(half),
         6 => Some(layouts::store(half, MOp::Store(StoreOp::Sw), lw_imm(half))),
         7 => Some(layouts::store(half, MOp::Store(StoreOp::Sd), ld_imm(half))),
-        1 if flags.has_zcd => Some(layouts::load(
-            half,
-            MOp::FloatLoad(FloatFormat::D),
-            ld_imm(half),
-        )),
-        5 if flags.has_zcd => Some(layouts::store(
-            half,
-            MOp::FloatStore(FloatFormat::D),
-            ld_imm(half),
-        )),
         _ => None,
     }
 }
@@ -198,8 +200,8 @@ fn jump(half: u16) -> Decoded
 
 // ---- quadrant 2
 
-fn quadrant_2(flags: IsaFlags, half: u16) -> Option<Decoded>
-    ensures value { result ≡ quadrant_2 flags half }
+fn quadrant_2(half: u16) -> Option<Decoded>
+    ensures value { result ≡ quadrant_2 half }
     ensures registers { IfSome result HasFileRegisters }
 {
     match funct3(half) {
@@ -210,16 +212,6 @@ fn quadrant_2(flags: IsaFlags, half: u16) -> Option<Decoded>
         4 => jalr_add(half),
         6 => Some(layouts::store_sp(half, MOp::Store(StoreOp::Sw), swsp_imm(half))),
         7 => Some(layouts::store_sp(half, MOp::Store(StoreOp::Sd), sdsp_imm(half))),
-        1 if flags.has_zcd => Some(layouts::load_sp(
-            half,
-            MOp::FloatLoad(FloatFormat::D),
-            ldsp_imm(half),
-        )),
-        5 if flags.has_zcd => Some(layouts::store_sp(
-            half,
-            MOp::FloatStore(FloatFormat::D),
-            sdsp_imm(half),
-        )),
         _ => None,
     }
 }
@@ -261,5 +253,35 @@ fn jalr_add(half: u16) -> Option<Decoded>
         (0, 0) => Some(compressed(MOp::Base(BaseOp::Ebreak), 0, 0, 0, 0)),
         (base, 0) => Some(compressed(MOp::Base(BaseOp::Jalr), 1, base, 0, 0)),
         _ => Some(layouts::register(half, MOp::Alu(AluOp::Int(IntOp::Add)))),
+    }
+}
+
+// ---- the units'
+
+/// The floating-point load or store that an instruction of 16 bits expands to.
+#[tactic(auto, unfolding(crate::specs::Compressed::unit_decode_half))]
+pub fn unit_decode_half(flags: IsaFlags, half: u16) -> Option<Decoded>
+    ensures value { result ≡ unit_decode_half flags half }
+    ensures registers { IfSome result HasFileRegisters }
+{
+    if flags.has_zca && flags.has_zcd {
+        unit_by_quadrant(half)
+    } else {
+        None
+    }
+}
+
+fn unit_by_quadrant(half: u16) -> Option<Decoded>
+    ensures value { result ≡ unit_by_quadrant half }
+    ensures registers { IfSome result HasFileRegisters }
+{
+    let load = MOp::FloatLoad(FloatFormat::D);
+    let store = MOp::FloatStore(FloatFormat::D);
+    match (op(half), funct3(half)) {
+        (0, 1) => Some(layouts::load(half, load, ld_imm(half))),
+        (0, 5) => Some(layouts::store(half, store, ld_imm(half))),
+        (2, 1) => Some(layouts::load_sp(half, load, ldsp_imm(half))),
+        (2, 5) => Some(layouts::store_sp(half, store, sdsp_imm(half))),
+        _ => None,
     }
 }

@@ -2,16 +2,16 @@
 
 ghost use Rattle.std.specs.Prelude.{◌≡◌, IfSome};
 ghost use Rattle.rv_machine.specs.Layout.{HasFileRegisters};
-ghost use Rattle.rv_machine.specs.Decode.{decode_jalr, decode_branch, decode_load, decode_store, decode_op_imm, decode_op_imm_32, decode_op, decode_op_32, decode_misc_mem, decode_system, by_opcode, decode};
+ghost use Rattle.rv_machine.specs.Decode.{decode_jalr, decode_branch, decode_load, decode_store, decode_op_imm, decode_op_imm_32, decode_op, decode_op_32, decode_misc_mem, decode_system, int_by_opcode, int_decode, decode};
 
-use crate::compressed::decode_half;
+use crate::compressed::int_decode_half;
 use crate::fields::{funct3, funct6, funct7, funct12, low_half, opcode, rd, rs1};
 use crate::opcodes::{
     AUIPC, BRANCH, JAL, JALR, LOAD, LUI, MISC_MEM, OP, OP_32, OP_IMM, OP_IMM_32, STORE, SYSTEM,
 };
 use crate::ops::{BaseOp, MOp};
-use crate::unit_decoding::{csr, unit_by_opcode};
-use crate::{layouts, tables, unit_tables};
+use crate::unit_decoding::unit_decode;
+use crate::{layouts, tables};
 use rv_base::IsaFlags;
 
 /// An operation with its registers and its immediate. A field that an operation doesn't have is 0, or false.
@@ -64,16 +64,28 @@ pub fn decode(flags: IsaFlags, word: u32) -> Option<Decoded>
     ensures value { result ≡ decode flags word }
     ensures registers { IfSome result HasFileRegisters }
 {
+    if let Some(decoded) = int_decode(flags, word) {
+        return Some(decoded);
+    }
+    unit_decode(flags, word)
+}
+
+/// The operation of a word, where it is one that the integer machine may have a step for.
+#[tactic(auto, unfolding(crate::specs::Decode::int_decode))]
+pub fn int_decode(flags: IsaFlags, word: u32) -> Option<Decoded>
+    ensures value { result ≡ int_decode flags word }
+    ensures registers { IfSome result HasFileRegisters }
+{
     let opcode = opcode(word);
     if opcode % 4 == 3 {
-        by_opcode(flags, opcode, word)
+        int_by_opcode(opcode, word)
     } else {
-        decode_half(flags, low_half(word))
+        int_decode_half(flags, low_half(word))
     }
 }
 
-fn by_opcode(flags: IsaFlags, opcode: u32, word: u32) -> Option<Decoded>
-    ensures value { result ≡ by_opcode flags opcode word }
+fn int_by_opcode(opcode: u32, word: u32) -> Option<Decoded>
+    ensures value { result ≡ int_by_opcode opcode word }
     ensures registers { IfSome result HasFileRegisters }
 {
     match opcode {
@@ -90,7 +102,7 @@ fn by_opcode(flags: IsaFlags, opcode: u32, word: u32) -> Option<Decoded>
         OP_32 => op_32(word),
         MISC_MEM => misc_mem(word),
         SYSTEM => system(word),
-        _ => unit_by_opcode(flags, opcode, word),
+        _ => None,
     }
 }
 
@@ -144,11 +156,8 @@ fn op_imm(word: u32) -> Option<Decoded>
     if let Some(op) = tables::shift(funct6(word), funct3(word)) {
         return Some(layouts::shift(word, MOp::Alu(op)));
     }
-    if let Some(op) = tables::unary(funct12(word), funct3(word)) {
-        return Some(layouts::unary(word, MOp::Alu(op)));
-    }
-    match unit_tables::carry_unary(funct12(word), funct3(word)) {
-        Some(op) => Some(layouts::unary(word, MOp::Carry(op))),
+    match tables::unary(funct12(word), funct3(word)) {
+        Some(op) => Some(layouts::unary(word, MOp::Alu(op))),
         None => None,
     }
 }
@@ -176,11 +185,8 @@ fn op(word: u32) -> Option<Decoded>
     ensures value { result ≡ decode_op word }
     ensures registers { IfSome result HasFileRegisters }
 {
-    if let Some(op) = tables::op(funct7(word), funct3(word)) {
-        return Some(layouts::register(word, MOp::Alu(op)));
-    }
-    match unit_tables::carry(funct7(word), funct3(word)) {
-        Some(op) => Some(layouts::register(word, MOp::Carry(op))),
+    match tables::op(funct7(word), funct3(word)) {
+        Some(op) => Some(layouts::register(word, MOp::Alu(op))),
         None => None,
     }
 }
@@ -192,11 +198,8 @@ fn op_32(word: u32) -> Option<Decoded>
     if let Some(op) = tables::op_32(funct7(word), funct3(word)) {
         return Some(layouts::register(word, MOp::Alu(op)));
     }
-    if let Some(op) = tables::unary_op_32(funct12(word), funct3(word)) {
-        return Some(layouts::unary(word, MOp::Alu(op)));
-    }
-    match unit_tables::carry_32(funct7(word), funct3(word)) {
-        Some(op) => Some(layouts::register(word, MOp::Carry(op))),
+    match tables::unary_op_32(funct12(word), funct3(word)) {
+        Some(op) => Some(layouts::unary(word, MOp::Alu(op))),
         None => None,
     }
 }
@@ -219,6 +222,6 @@ fn system(word: u32) -> Option<Decoded>
     if funct3(word) == 0 && rd(word) == 0 && rs1(word) == 0 && funct12(word) == 0x001 {
         Some(layouts::bare(MOp::Base(BaseOp::Ebreak)))
     } else {
-        csr(word)
+        None
     }
 }

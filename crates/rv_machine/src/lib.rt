@@ -9,6 +9,7 @@ mod compressed_layouts;
 mod decoding;
 mod fields;
 mod int;
+mod laws;
 mod layouts;
 mod machine;
 mod muldiv;
@@ -20,7 +21,8 @@ mod unit_tables;
 mod vectors;
 
 pub use compressed::decode_half;
-pub use decoding::{Decoded, decode};
+pub use decoding::{Decoded, decode, int_decode};
+pub use laws::{steps_of_all_units, zero_is_no_operation};
 pub use machine::{IntMachine, Step};
 pub use opcodes::{
     AMO, AUIPC, BRANCH, JAL, JALR, LOAD, LOAD_FP, LUI, MADD, MISC_MEM, MSUB, NMADD, NMSUB, OP,

@@ -11,7 +11,7 @@ ghost use Rattle.rv_machine.specs.Steps.{fetch, istep, Machine, zero_at, with_st
 
 use crate::arithmetic::is_signed_below;
 use crate::bits::bit_result;
-use crate::decoding::{Decoded, decode};
+use crate::decoding::{Decoded, int_decode};
 use crate::int::int_result;
 use crate::muldiv::mul_result;
 use crate::ops::{AluOp, BaseOp, LoadOp, MOp, StoreOp};
@@ -371,7 +371,7 @@ impl IntMachine {
         if self.pc() % 2 != 0 {
             return Ok(Step::Stopped);
         }
-        match decode(self.flags(), self.word(self.pc())) {
+        match int_decode(self.flags(), self.word(self.pc())) {
             Some(decoded) => self.act(decoded),
             None => Ok(Step::Stopped),
         }

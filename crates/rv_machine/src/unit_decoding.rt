@@ -1,21 +1,41 @@
-//! The units' operations: the listings of the chapters "A", "Zicsr", "F", "D", "Zfh", "Zfa" and "V".
+//! The operations that the integer machine has no step for: the listings of the chapters "A", "Zicsr", "F", "D", "Zfh", "Zfa", "V",
+//! "Zbc" and "Zbkb".
 
 ghost use Rattle.std.specs.Prelude.{◌≡◌, IfSome};
 ghost use Rattle.rv_machine.specs.Layout.{HasFileRegisters};
-ghost use Rattle.rv_machine.specs.UnitDecode.{is_source, atomic_of, decode_amo, decode_csr, is_rounding, has_format, float_load_of, float_store_of, rounded_of, rounded_unary_of, fixed_of, float_of, decode_op_fp, fused_of, decode_fused, is_plain, load_of, store_of, decode_load_fp, decode_store_fp, is_vtype, decode_vsetivli, vector_of, decode_op_v, unit_by_opcode};
+ghost use Rattle.rv_machine.specs.UnitDecode.{is_source, atomic_of, decode_amo, decode_csr, is_rounding, has_format, float_load_of, float_store_of, rounded_of, rounded_unary_of, fixed_of, float_of, decode_op_fp, fused_of, decode_fused, is_plain, load_of, store_of, decode_load_fp, decode_store_fp, is_vtype, decode_vsetivli, vector_of, decode_op_v, decode_carry_unary, decode_carry, decode_carry_32, unit_by_opcode, unit_decode};
 
+use crate::compressed::unit_decode_half;
 use crate::decoding::Decoded;
-use crate::fields::{fmt, funct3, funct5, funct6, funct12, rd, rs1, rs2};
-use crate::opcodes::{AMO, LOAD_FP, OP_FP, OP_V, STORE_FP};
+use crate::fields::{fmt, funct3, funct5, funct6, funct7, funct12, low_half, opcode, rd, rs1, rs2};
+use crate::opcodes::{AMO, LOAD_FP, OP, OP_32, OP_FP, OP_IMM, OP_V, STORE_FP, SYSTEM};
 use crate::ops::{AtomicOp, AtomicWidth, FloatFormat, MOp, VecFields, VecMemOp};
 use crate::{layouts, unit_tables as tables, vectors};
 use rv_base::IsaFlags;
 
-pub fn unit_by_opcode(flags: IsaFlags, opcode: u32, word: u32) -> Option<Decoded>
+/// The unit's operation of a word, where it has one under these flags.
+#[tactic(auto, unfolding(crate::specs::UnitDecode::unit_decode))]
+pub fn unit_decode(flags: IsaFlags, word: u32) -> Option<Decoded>
+    ensures value { result ≡ unit_decode flags word }
+    ensures registers { IfSome result HasFileRegisters }
+{
+    let opcode = opcode(word);
+    if opcode % 4 == 3 {
+        unit_by_opcode(flags, opcode, word)
+    } else {
+        unit_decode_half(flags, low_half(word))
+    }
+}
+
+fn unit_by_opcode(flags: IsaFlags, opcode: u32, word: u32) -> Option<Decoded>
     ensures value { result ≡ unit_by_opcode flags opcode word }
     ensures registers { IfSome result HasFileRegisters }
 {
     match opcode {
+        OP_IMM => carry_unary(word),
+        OP => carry(word),
+        OP_32 => carry_32(word),
+        SYSTEM => csr(word),
         LOAD_FP => load_fp(flags, word),
         STORE_FP => store_fp(flags, word),
         AMO => amo(word),
@@ -69,7 +89,7 @@ fn amo(word: u32) -> Option<Decoded>
 }
 
 /// Of `frm`, the CSR 2.
-pub fn csr(word: u32) -> Option<Decoded>
+fn csr(word: u32) -> Option<Decoded>
     ensures value { result ≡ decode_csr word }
     ensures registers { IfSome result HasFileRegisters }
 {
@@ -307,6 +327,37 @@ fn op_v(word: u32) -> Option<Decoded>
     }
     match vectors::vector_fields(funct6(word), funct3(word)) {
         Some(fields) => vector_of(word, fields),
+        None => None,
+    }
+}
+
+fn carry_unary(word: u32) -> Option<Decoded>
+    ensures value { result ≡ decode_carry_unary word }
+    ensures registers { IfSome result HasFileRegisters }
+{
+    match tables::carry_unary(funct12(word), funct3(word)) {
+        Some(op) => Some(layouts::unary(word, MOp::Carry(op))),
+        None => None,
+    }
+}
+
+fn carry(word: u32) -> Option<Decoded>
+    ensures value { result ≡ decode_carry word }
+    ensures registers { IfSome result HasFileRegisters }
+{
+    match tables::carry(funct7(word), funct3(word)) {
+        Some(op) => Some(layouts::register(word, MOp::Carry(op))),
+        None => None,
+    }
+}
+
+/// `packw`; that of x0 is `zext.h`, an integer operation.
+fn carry_32(word: u32) -> Option<Decoded>
+    ensures value { result ≡ decode_carry_32 word }
+    ensures registers { IfSome result HasFileRegisters }
+{
+    match tables::carry_32(funct7(word), funct3(word)) {
+        Some(op) => Some(layouts::register(word, MOp::Carry(op))),
         None => None,
     }
 }

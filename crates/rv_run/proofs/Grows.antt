@@ -10,7 +10,7 @@ use Rattle.rv_machine.specs.declared.ops.MOp.{MOp}
 use Rattle.rv_machine.specs.declared.ops.MOp.TheVariants.{Base, Load, Store, Alu, Carry, Atomic, Csr, FloatLoad, FloatStore, Float, VecMem, Vec}
 use Rattle.rv_machine.specs.declared.ops.BaseOp.{BaseOp}
 use Rattle.rv_machine.specs.declared.ops.BaseOp.TheVariants.{Lui, Auipc, Jal, Jalr, Beq, Bne, Blt, Bge, Bltu, Bgeu, Fence, Ebreak}
-use Rattle.rv_machine.specs.Decode.{decode}
+use Rattle.rv_machine.specs.Decode.{int_decode}
 use Rattle.rv_machine.specs.Effects.{act_on, base_act, address_of, y_of}
 use Rattle.rv_machine.specs.Memory.{store_bytes}
 use Rattle.rv_machine.specs.State.{Memory, State, byte, store, wrap}
@@ -74,7 +74,7 @@ where_grows false mem next has = tt
 step_grows : (flags : IsaFlags) (s : State) → Has s.values.mem (istep flags s)
 unfolding istep
 step_grows flags s =
-    where_grows (nat_eq (s.pc % 2) 0) s.values.mem (step_on (decode flags (fetch s.values.mem s.pc)) s) (decoded_grows (decode flags (fetch s.values.mem s.pc)) s)
+    where_grows (nat_eq (s.pc % 2) 0) s.values.mem (step_on (int_decode flags (fetch s.values.mem s.pc)) s) (decoded_grows (int_decode flags (fetch s.values.mem s.pc)) s)
 
 further : (mem old : Memory) (next : Option State) → Grows mem old → Has old next → Has mem next
 further mem old None grew has = tt

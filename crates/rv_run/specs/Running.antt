@@ -6,7 +6,7 @@ use Rattle.rv_machine.specs.declared.ops.MOp.{MOp}
 use Rattle.rv_machine.specs.declared.ops.MOp.TheVariants.{Base, Load, Store, Alu, Carry, Atomic, Csr, FloatLoad, FloatStore, Float, VecMem, Vec}
 use Rattle.rv_machine.specs.declared.ops.BaseOp.{BaseOp}
 use Rattle.rv_machine.specs.declared.ops.BaseOp.TheVariants.{Lui, Auipc, Jal, Jalr, Beq, Bne, Blt, Bge, Bltu, Bgeu, Fence, Ebreak}
-use Rattle.rv_machine.specs.Decode.{decode}
+use Rattle.rv_machine.specs.Decode.{int_decode}
 use Rattle.rv_machine.specs.State.{State}
 use Rattle.rv_machine.specs.Steps.{Machine, fetch, istep, iter}
 use Rattle.rv_run.specs.declared.ending.Ending.{Ending}
@@ -50,7 +50,7 @@ word_at s = fetch s.values.mem s.pc
 
 -- ebreak stands at the program counter
 abbrev pub is_break : IsaFlags → State → Bool
-is_break flags s = s.pc % 2 == 0 && option_map_or (λ d. is_break_op d.op) (decode flags (word_at s)) false
+is_break flags s = s.pc % 2 == 0 && option_map_or (λ d. is_break_op d.op) (int_decode flags (word_at s)) false
 
 -- why the machine has no step from a state
 abbrev pub stop_of : IsaFlags → ℕ → State → Ending

@@ -2,7 +2,7 @@
 use Rattle.std.specs.Prelude.{◌≡◌, ℕ, zero, suc, ◌-◌, Bool, true, false, List, [], ◌++◌, Option, Some, None}
 use Rattle.rv_base.specs.declared.flags.IsaFlags.{IsaFlags}
 use Rattle.rv_machine.specs.declared.decoding.Decoded.{Decoded}
-use Rattle.rv_machine.specs.Decode.{decode}
+use Rattle.rv_machine.specs.Decode.{int_decode}
 use Rattle.rv_machine.specs.State.{State, reg}
 use Rattle.rv_machine.specs.Steps.{Machine, istep, iter}
 use Rattle.rv_trace.specs.Instruction.{step_line}
@@ -16,7 +16,7 @@ operation_line offset word (Some d) next = step_line offset word d (reg next.val
 
 abbrev pub line_to : IsaFlags → ℕ → State → Option State → List ℕ
 line_to flags base s None = []
-line_to flags base s (Some next) = operation_line (s.pc - base) (word_at s) (decode flags (word_at s)) next
+line_to flags base s (Some next) = operation_line (s.pc - base) (word_at s) (int_decode flags (word_at s)) next
 
 -- the line of the step from a state, where there is one
 abbrev pub line_from : IsaFlags → ℕ → State → List ℕ

@@ -7,7 +7,7 @@ ghost use Rattle.rv_run.specs.Running.{offset_in, word_at, is_break_base, is_bre
 use crate::ending::{Ending, Place};
 use crate::progress::{Progress, note_steps};
 use rv_base::{IsaFlags, OutOfMemory};
-use rv_machine::{BaseOp, IntMachine, MOp, Step, decode};
+use rv_machine::{BaseOp, IntMachine, MOp, Step, int_decode};
 
 fn offset_in(place: Place, address: u64) -> Option<u64>
     ensures { result ≡ offset_in place.base place.len address }
@@ -73,7 +73,7 @@ fn is_break_op(op: MOp) -> bool
 fn is_break(flags: IsaFlags, machine: &IntMachine) -> bool
     ensures { result ≡ is_break flags machine.now.state }
 {
-    match decode(flags, word_at(machine)) {
+    match int_decode(flags, word_at(machine)) {
         Some(decoded) => machine.pc() % 2 == 0 && is_break_op(decoded.op),
         None => false,
     }

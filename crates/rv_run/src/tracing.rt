@@ -9,7 +9,7 @@ use crate::ending::{Ending, Place};
 use crate::progress::{Progress, note_steps};
 use crate::running::{last_ending, turn, word_at};
 use rv_base::{IsaFlags, OutOfMemory};
-use rv_machine::{Decoded, IntMachine, decode};
+use rv_machine::{Decoded, IntMachine, int_decode};
 use rv_trace::put_step;
 use std::alloc::Global;
 
@@ -51,7 +51,7 @@ fn traced_turn(
     match turn(flags, machine, place, limit, done)? {
         Some(ending) => Ok(Some(ending)),
         None => {
-            put_operation(alloc, out, offset, word, decode(flags, word), machine)?;
+            put_operation(alloc, out, offset, word, int_decode(flags, word), machine)?;
             Ok(None)
         }
     }

@@ -8,6 +8,7 @@ use Rattle.rv_code.specs.InstParts.{call_to, return_notes, stack_step_slots, pat
 use Rattle.rv_code.proofs.ShortSlots.{real_number}
 use Rattle.rv_emit.proofs.SlotsOfSeveralPuts.{alone_long, alone_sound}
 use Rattle.rv_emit.proofs.TailCallCode.{real_int, step_long, returned_long, call_begun}
+use Rattle.rv_emit.specs.StackMaps.{call_given}
 use Rattle.rv_emit.proofs.calls.begin_call.Goals as goal
 
 pub put_call_to-requires-clause-link : goal.put_call_to-requires-clause-link
@@ -22,17 +23,17 @@ put_return-requires-clause-sound c = alone_sound {flags = no_flags} (call_to _ _
 pub put_stack_step-requires-clause-room : goal.put_stack_step-requires-clause-room
 put_stack_step-requires-clause-room c =
     let room = c.requires.room in
-    let info = c.args.info.now in
+    let info = call_given c.args.stack_map.now c.args.info.now in
     let call = alone_long {flags = no_flags} (call_to _ _ info.dest ∷ []) c.args.sink.now c.put_call_to.new.sink (c.in_ok-put_call_to.ensures.slots no_flags) in
     let site = returned_long c.args.frame.now info.stack_map info.try_call_info c.put_call_to.new.sink c.put_return.new.sink (c.in_ok-put_return.ensures.slots no_flags) in
     omega arith
 
 pub put_stack_step-requires-clause-sound : goal.put_stack_step-requires-clause-sound
-put_stack_step-requires-clause-sound c = let info = c.args.info.now in alone_sound {flags = no_flags} (return_notes c.args.frame.now info.stack_map info.try_call_info) c.put_call_to.new.sink c.put_return.new.sink (c.in_ok-put_return.ensures.slots no_flags)
+put_stack_step-requires-clause-sound c = let info = call_given c.args.stack_map.now c.args.info.now in alone_sound {flags = no_flags} (return_notes c.args.frame.now info.stack_map info.try_call_info) c.put_call_to.new.sink c.put_return.new.sink (c.in_ok-put_return.ensures.slots no_flags)
 
 pub overflow_sub-end : goal.overflow_sub-end
 overflow_sub-end c =
-    let info = c.args.info.now in
+    let info = call_given c.args.stack_map.now c.args.info.now in
     let fits : FitsSigned w64 c.fallen.result = search rules in
     let step = subst (λ z. PutsAlone c.args.flags (stack_step_slots c.args.flags z) c.put_return.new.sink c.put_stack_step.new.sink) c.fallen.ensures (rw (to_z-of_z w64 c.fallen.result fits) at c.in_ok-put_stack_step.ensures.slots) in
     let call = alone_long {flags = no_flags} (call_to _ _ info.dest ∷ []) c.args.sink.now c.put_call_to.new.sink (c.in_ok-put_call_to.ensures.slots no_flags) in
@@ -44,7 +45,7 @@ overflow_sub-end c =
 
 pub returns-clause-slots : goal.returns-clause-slots
 returns-clause-slots c =
-    let info = c.args.info.now in
+    let info = call_given c.args.stack_map.now c.args.info.now in
     let flags = c.args.flags in
     let link = real_number c.writable_link_reg.result.reg _ 1 c.writable_link_reg.ensures in
     let tmp = real_number c.writable_link_reg-2.result.reg _ 1 c.writable_link_reg-2.ensures in

@@ -12,6 +12,7 @@ use Rattle.rv_code.proofs.ShortSlots.{real_number}
 use Rattle.rv_code.proofs.ShortOps.{jalr_sized}
 use Rattle.rv_emit.proofs.SlotsOfSeveralPuts.{alone_long, alone_sound}
 use Rattle.rv_emit.proofs.TailCallCode.{real_int, returned_long, call_ind_begun}
+use Rattle.rv_emit.specs.StackMaps.{call_given}
 use Rattle.rv_emit.proofs.calls.begin_call_ind.Goals as goal
 
 pub put_jalr-requires-clause-rd : goal.put_jalr-requires-clause-rd
@@ -23,7 +24,7 @@ put_return-requires-clause-sound c = alone_sound (Op (short_jalr c.args.flags (n
 pub put_stack_step-requires-clause-room : goal.put_stack_step-requires-clause-room
 put_stack_step-requires-clause-room c =
     let room = c.requires.room in
-    let info = c.args.info.now in
+    let info = call_given c.args.stack_map.now c.args.info.now in
     let link = number_of c.writable_link_reg.result.reg in
     let few = (jalr_sized c.args.flags link (number_of info.dest) (pos 0)).few in
     let jump = alone_long (Op (short_jalr c.args.flags link (number_of info.dest) (pos 0)) ∷ []) c.args.sink.now c.put_jalr.new.sink c.in_ok-put_jalr.ensures.slots in
@@ -31,11 +32,11 @@ put_stack_step-requires-clause-room c =
     omega arith
 
 pub put_stack_step-requires-clause-sound : goal.put_stack_step-requires-clause-sound
-put_stack_step-requires-clause-sound c = let info = c.args.info.now in alone_sound {flags = no_flags} (return_notes c.args.frame.now info.stack_map info.try_call_info) c.put_jalr.new.sink c.put_return.new.sink (c.in_ok-put_return.ensures.slots no_flags)
+put_stack_step-requires-clause-sound c = let info = call_given c.args.stack_map.now c.args.info.now in alone_sound {flags = no_flags} (return_notes c.args.frame.now info.stack_map info.try_call_info) c.put_jalr.new.sink c.put_return.new.sink (c.in_ok-put_return.ensures.slots no_flags)
 
 pub returns-clause-slots : goal.returns-clause-slots
 returns-clause-slots c =
-    let info = c.args.info.now in
+    let info = call_given c.args.stack_map.now c.args.info.now in
     let flags = c.args.flags in
     let link = real_number c.writable_link_reg.result.reg _ 1 c.writable_link_reg.ensures in
     let fits : FitsSigned w64 c.fallen.result = search rules in

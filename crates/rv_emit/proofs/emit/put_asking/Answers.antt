@@ -11,6 +11,9 @@ use Rattle.rv_emit.proofs.CallSlots.{loading_emits, loading_ind_emits, call_sum,
 use Rattle.rv_emit.proofs.Settings.{island_asked, table_asked, call_asked, call_ind_asked, tail_asked, jump_asked}
 use Rattle.rv_code.proofs.TailRules.{tail_kept, tail_sum, jump_sum, target_kept}
 use Rattle.rv_emit.proofs.TailEmits.{tail_emits, jump_emits}
+use Rattle.std.specs.Prelude.{is_some}
+use Rattle.rv_emit.specs.StackMaps.{with_map}
+use Rattle.rv_emit.proofs.StackMaps.{space_given}
 use Rattle.rv_emit.proofs.emit.put_asking.Goals as goal
 
 pub emit_island_if_needed-requires-clause-reach : goal.emit_island_if_needed-requires-clause-reach
@@ -49,13 +52,13 @@ pub put_table-requires-clause-sound : goal.put_table-requires-clause-sound
 put_table-requires-clause-sound c = island_sound c.table_space-space.result c.args.sink.now c.emit_island_if_needed-in-BrTable.new.sink _ c.requires.sound c.in_ok-emit_island_if_needed-in-BrTable.ensures.made
 
 pub returns-in_ok-made-in-EmitIsland-clause-emitted : goal.returns-in_ok-made-in-EmitIsland-clause-emitted
-returns-in_ok-made-in-EmitIsland-clause-emitted c = λ asks. island_emits (context_by c.args.flags c.args.frame.now (registered_of c.args.sink.now)) c.args.inst.now c.in-EmitIsland.needed_space c.args.sink.now c.emit_island_if_needed.new.sink _ c.in-EmitIsland.is c.in_ok-made-in-EmitIsland.ensures.made
+returns-in_ok-made-in-EmitIsland-clause-emitted c = λ asks. island_emits (context_by c.args.flags c.args.frame.now (registered_of c.args.sink.now)) (with_map c.args.stack_map.now c.args.inst.now) c.in-EmitIsland.needed_space c.args.sink.now c.emit_island_if_needed.new.sink _ (ap (with_map c.args.stack_map.now) c.in-EmitIsland.is) c.in_ok-made-in-EmitIsland.ensures.made
 
 pub returns-in_ok-made-in-EmitIsland-clause-setting : goal.returns-in_ok-made-in-EmitIsland-clause-setting
 returns-in_ok-made-in-EmitIsland-clause-setting c = λ asks setting. island_asked (context_by c.args.flags c.args.frame.now (registered_of c.args.sink.now)) c.args.inst.now c.in-EmitIsland.needed_space c.args.sink.now c.in_ok-made-in-EmitIsland.made setting c.in-EmitIsland.is c.in_ok-made-in-EmitIsland.ensures.made.asked
 
 pub returns-in_ok-put_table-in-BrTable-clause-emitted : goal.returns-in_ok-put_table-in-BrTable-clause-emitted
-returns-in_ok-put_table-in-BrTable-clause-emitted c = λ asks. table_emits (context_by c.args.flags c.args.frame.now (registered_of c.args.sink.now)) c.args.inst.now c.in-BrTable.index c.in-BrTable.tmp1 c.in-BrTable.tmp2 c.in-BrTable.targets c.table_space-space.result c.args.sink.now c.emit_island_if_needed-in-BrTable.new.sink c.put_table.new.sink _ c.in-BrTable.is (c.table_space-space.ensures ∙ ap table_space (c.len.ensures ∙ ap length c.as_ref-targets.ensures)) c.in_ok-emit_island_if_needed-in-BrTable.ensures.made c.as_slice.result.now (c.as_slice.ensures ∙ c.as_ref-targets.ensures) c.in_ok-put_table-in-BrTable.ensures.slots
+returns-in_ok-put_table-in-BrTable-clause-emitted c = λ asks. table_emits (context_by c.args.flags c.args.frame.now (registered_of c.args.sink.now)) (with_map c.args.stack_map.now c.args.inst.now) c.in-BrTable.index c.in-BrTable.tmp1 c.in-BrTable.tmp2 c.in-BrTable.targets c.table_space-space.result c.args.sink.now c.emit_island_if_needed-in-BrTable.new.sink c.put_table.new.sink _ (ap (with_map c.args.stack_map.now) c.in-BrTable.is) (c.table_space-space.ensures ∙ ap table_space (c.len.ensures ∙ ap length c.as_ref-targets.ensures)) c.in_ok-emit_island_if_needed-in-BrTable.ensures.made c.as_slice.result.now (c.as_slice.ensures ∙ c.as_ref-targets.ensures) c.in_ok-put_table-in-BrTable.ensures.slots
 
 pub returns-in_ok-put_table-in-BrTable-clause-setting : goal.returns-in_ok-put_table-in-BrTable-clause-setting
 returns-in_ok-put_table-in-BrTable-clause-setting c = λ asks setting. table_asked (context_by c.args.flags c.args.frame.now (registered_of c.args.sink.now)) c.args.inst.now c.in-BrTable.index c.in-BrTable.tmp1 c.in-BrTable.tmp2 c.in-BrTable.targets c.args.sink.now setting c.in-BrTable.is
@@ -73,7 +76,7 @@ pub put_tail_call-requires-clause-room : goal.put_tail_call-requires-clause-room
 put_tail_call-requires-clause-room c = let sum = tail_sum (context_by c.args.flags c.args.frame.now (registered_of c.args.sink.now)) c.args.inst.now c.in-ReturnCall.info c.in-ReturnCall.is in let room = c.requires.room in omega arith
 
 pub returns-in_ok-put_tail_call-in-ReturnCall-clause-emitted : goal.returns-in_ok-put_tail_call-in-ReturnCall-clause-emitted
-returns-in_ok-put_tail_call-in-ReturnCall-clause-emitted c = λ asks. tail_emits (context_by c.args.flags c.args.frame.now (registered_of c.args.sink.now)) c.args.inst.now c.in-ReturnCall.info c.args.sink.now c.put_tail_call.new.sink c.in-ReturnCall.is (rw c.as_ref-in-ReturnCall.ensures at c.in_ok-put_tail_call-in-ReturnCall.ensures.parts)
+returns-in_ok-put_tail_call-in-ReturnCall-clause-emitted c = λ asks. tail_emits (context_by c.args.flags c.args.frame.now (registered_of c.args.sink.now)) (with_map c.args.stack_map.now c.args.inst.now) c.in-ReturnCall.info c.args.sink.now c.put_tail_call.new.sink (ap (with_map c.args.stack_map.now) c.in-ReturnCall.is) (rw c.as_ref-in-ReturnCall.ensures at c.in_ok-put_tail_call-in-ReturnCall.ensures.parts)
 
 pub returns-in_ok-put_tail_call-in-ReturnCall-clause-setting : goal.returns-in_ok-put_tail_call-in-ReturnCall-clause-setting
 returns-in_ok-put_tail_call-in-ReturnCall-clause-setting c = λ asks setting. tail_asked (context_by c.args.flags c.args.frame.now (registered_of c.args.sink.now)) c.args.inst.now c.in-ReturnCall.info c.args.sink.now setting c.in-ReturnCall.is
@@ -91,7 +94,7 @@ pub put_tail_jump-requires-clause-room : goal.put_tail_jump-requires-clause-room
 put_tail_jump-requires-clause-room c = let sum = jump_sum (context_by c.args.flags c.args.frame.now (registered_of c.args.sink.now)) c.args.inst.now c.in-ReturnCallInd.info c.in-ReturnCallInd.is in let room = c.requires.room in omega arith
 
 pub returns-in_ok-put_tail_jump-in-ReturnCallInd-clause-emitted : goal.returns-in_ok-put_tail_jump-in-ReturnCallInd-clause-emitted
-returns-in_ok-put_tail_jump-in-ReturnCallInd-clause-emitted c = λ asks. jump_emits (context_by c.args.flags c.args.frame.now (registered_of c.args.sink.now)) c.args.inst.now c.in-ReturnCallInd.info c.args.sink.now c.put_tail_jump.new.sink c.in-ReturnCallInd.is (rw c.as_ref-in-ReturnCallInd.ensures at c.in_ok-put_tail_jump-in-ReturnCallInd.ensures.parts)
+returns-in_ok-put_tail_jump-in-ReturnCallInd-clause-emitted c = λ asks. jump_emits (context_by c.args.flags c.args.frame.now (registered_of c.args.sink.now)) (with_map c.args.stack_map.now c.args.inst.now) c.in-ReturnCallInd.info c.args.sink.now c.put_tail_jump.new.sink (ap (with_map c.args.stack_map.now) c.in-ReturnCallInd.is) (rw c.as_ref-in-ReturnCallInd.ensures at c.in_ok-put_tail_jump-in-ReturnCallInd.ensures.parts)
 
 pub returns-in_ok-put_tail_jump-in-ReturnCallInd-clause-setting : goal.returns-in_ok-put_tail_jump-in-ReturnCallInd-clause-setting
 returns-in_ok-put_tail_jump-in-ReturnCallInd-clause-setting c = λ asks setting. jump_asked (context_by c.args.flags c.args.frame.now (registered_of c.args.sink.now)) c.args.inst.now c.in-ReturnCallInd.info c.args.sink.now setting c.in-ReturnCallInd.is
@@ -112,7 +115,7 @@ pub put_loading_call-requires-clause-room : goal.put_loading_call-requires-claus
 put_loading_call-requires-clause-room c = rw c.as_ref.ensures (let sum = call_sum (context_by c.args.flags c.args.frame.now (registered_of c.args.sink.now)) c.args.inst.now _ c.in-Call.is in let room = c.requires.room in omega arith)
 
 pub returns-in_ok-put_loading_call-in-Call-clause-emitted : goal.returns-in_ok-put_loading_call-in-Call-clause-emitted
-returns-in_ok-put_loading_call-in-Call-clause-emitted c = λ asks. loading_emits (context_by c.args.flags c.args.frame.now (registered_of c.args.sink.now)) c.args.inst.now _ c.args.sink.now c.put_loading_call.new.sink c.in-Call.is asks (rw c.as_ref.ensures at c.in_ok-put_loading_call-in-Call.ensures.parts)
+returns-in_ok-put_loading_call-in-Call-clause-emitted c = λ asks. loading_emits (context_by c.args.flags c.args.frame.now (registered_of c.args.sink.now)) (with_map c.args.stack_map.now c.args.inst.now) _ c.args.sink.now c.put_loading_call.new.sink (ap (with_map c.args.stack_map.now) c.in-Call.is) (ap is_some (space_given c.args.stack_map.now (context_by c.args.flags c.args.frame.now (registered_of c.args.sink.now)) c.args.inst.now) ∙ asks) (rw c.as_ref.ensures at c.in_ok-put_loading_call-in-Call.ensures.parts)
 
 pub returns-in_ok-put_loading_call-in-Call-clause-setting : goal.returns-in_ok-put_loading_call-in-Call-clause-setting
 returns-in_ok-put_loading_call-in-Call-clause-setting c = λ asks setting. call_asked (context_by c.args.flags c.args.frame.now (registered_of c.args.sink.now)) c.args.inst.now _ c.args.sink.now setting c.in-Call.is
@@ -127,7 +130,7 @@ pub put_loading_call_ind-requires-clause-room : goal.put_loading_call_ind-requir
 put_loading_call_ind-requires-clause-room c = rw c.as_ref-in-CallInd.ensures (let sum = call_ind_sum (context_by c.args.flags c.args.frame.now (registered_of c.args.sink.now)) c.args.inst.now _ c.in-CallInd.is in let room = c.requires.room in omega arith)
 
 pub returns-in_ok-put_loading_call_ind-in-CallInd-clause-emitted : goal.returns-in_ok-put_loading_call_ind-in-CallInd-clause-emitted
-returns-in_ok-put_loading_call_ind-in-CallInd-clause-emitted c = λ asks. loading_ind_emits (context_by c.args.flags c.args.frame.now (registered_of c.args.sink.now)) c.args.inst.now _ c.args.sink.now c.put_loading_call_ind.new.sink c.in-CallInd.is asks (rw c.as_ref-in-CallInd.ensures at c.in_ok-put_loading_call_ind-in-CallInd.ensures.parts)
+returns-in_ok-put_loading_call_ind-in-CallInd-clause-emitted c = λ asks. loading_ind_emits (context_by c.args.flags c.args.frame.now (registered_of c.args.sink.now)) (with_map c.args.stack_map.now c.args.inst.now) _ c.args.sink.now c.put_loading_call_ind.new.sink (ap (with_map c.args.stack_map.now) c.in-CallInd.is) (ap is_some (space_given c.args.stack_map.now (context_by c.args.flags c.args.frame.now (registered_of c.args.sink.now)) c.args.inst.now) ∙ asks) (rw c.as_ref-in-CallInd.ensures at c.in_ok-put_loading_call_ind-in-CallInd.ensures.parts)
 
 pub returns-in_ok-put_loading_call_ind-in-CallInd-clause-setting : goal.returns-in_ok-put_loading_call_ind-in-CallInd-clause-setting
 returns-in_ok-put_loading_call_ind-in-CallInd-clause-setting c = λ asks setting. call_ind_asked (context_by c.args.flags c.args.frame.now (registered_of c.args.sink.now)) c.args.inst.now _ c.args.sink.now setting c.in-CallInd.is

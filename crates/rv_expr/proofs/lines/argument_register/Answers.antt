@@ -1,7 +1,7 @@
 use Rattle.std.proofs.Common.{◌≡◌, ◌+◌, ◌%◌, arith, subst}
 use Rattle.rv_base.specs.declared.regs.RegClass.TheVariants.{Int}
-use Rattle.rv_base.specs.Regs.{IsReal}
-use Rattle.rv_expr.proofs.Registers.{register_is}
+use Rattle.rv_asm.specs.Users.{IsReal}
+use Rattle.rv_asm.proofs.Laws.{register_is}
 use Rattle.rv_expr.proofs.lines.argument_register.Goals as goal
 
 pub returns : goal.returns

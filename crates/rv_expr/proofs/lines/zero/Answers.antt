@@ -1,5 +1,5 @@
 use Rattle.std.proofs.Common.{lit<}
-use Rattle.rv_expr.proofs.Registers.{register_is}
+use Rattle.rv_asm.proofs.Laws.{register_is}
 use Rattle.rv_expr.proofs.lines.zero.Goals as goal
 
 pub returns : goal.returns

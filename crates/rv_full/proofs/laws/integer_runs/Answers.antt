@@ -1,4 +1,4 @@
-use Rattle.rv_full.proofs.Runs.{integer_run}
+use Rattle.rv_full.proofs.LargerMachine.{integer_run}
 use Rattle.rv_full.proofs.laws.integer_runs.Goals as goal
 
 pub returns : goal.returns

@@ -1,4 +1,4 @@
-use Rattle.std.proofs.Common.{ℕ, List, sym, subst}
+use Rattle.std.proofs.Common.{sym, subst}
 use Rattle.std.specs.Prelude.{replicate}
 use Rattle.std.specs.FinMap as map
 use Rattle.rv_machine.specs.State.{IsState, at}
