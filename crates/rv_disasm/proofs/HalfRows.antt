@@ -16,7 +16,7 @@ use Rattle.rv_machine.specs.declared.ops.IntOp.TheVariants as int
 use Rattle.rv_machine.specs.declared.ops.MulOp.TheVariants as mul
 use Rattle.rv_machine.specs.declared.ops.BitOp.TheVariants as bit
 use Rattle.rv_machine.specs.Layout.{HasFileRegisters, bits, compressed}
-use Rattle.rv_machine.specs.Compressed.{half_op, half_funct3, half_rd, half_rs2, short_low, short_high, ci_bits, ci_imm, addi16sp_bits, addi16sp_imm, lwsp_imm, ldsp_imm, swsp_imm, sdsp_imm, ciw_imm, lw_imm, ld_imm, lb_imm, lh_imm, cj_bits, cj_imm, cr_layout, ci_layout, load_sp_layout, css_layout, cl_layout, cs_layout, ca_layout, cb_layout, cu_layout, decode_addi4spn, decode_zcb_memory, quadrant_0, decode_addiw, decode_li, decode_lui, decode_zcb_unary, decode_two_registers, decode_arithmetic, decode_j, quadrant_1, decode_slli, decode_load_sp, decode_jr_mv, decode_jalr_add, quadrant_2, by_quadrant, decode_half}
+use Rattle.rv_machine.specs.Compressed.{half_op, half_funct3, half_rd, half_rs2, short_low, short_high, ci_bits, ci_imm, addi16sp_bits, addi16sp_imm, lwsp_imm, ldsp_imm, swsp_imm, sdsp_imm, ciw_imm, lw_imm, ld_imm, lb_imm, lh_imm, cj_bits, cj_imm, cr_layout, ci_layout, load_sp_layout, css_layout, cl_layout, cs_layout, ca_layout, cb_layout, cu_layout, decode_addi4spn, decode_zcb_memory, quadrant_0, decode_addiw, decode_li, decode_lui, decode_zcb_unary, decode_two_registers, decode_arithmetic, decode_j, quadrant_1, decode_slli, decode_load_sp, decode_jr_mv, decode_jalr_add, quadrant_2, by_quadrant, int_decode_half, unit_by_quadrant, unit_decode_half, decode_half}
 use Rattle.rv_disasm.specs.declared.halfwords.HalfOp.{HalfOp}
 use Rattle.rv_disasm.specs.declared.halfwords.HalfOp.TheVariants as half
 use Rattle.rv_disasm.specs.Halfwords.{half_at, half_named, short_memory, unary, of_two_registers, arithmetic, jumps_and_moves}
@@ -25,7 +25,7 @@ use Rattle.rv_disasm.specs.Text.{form_fields}
 use Rattle.rv_disasm.specs.Fixed.{half_fixed}
 use Rattle.rv_disasm.specs.Placing.{ci_place, addi16sp_place, lwsp_place, ldsp_place, swsp_place, sdsp_place, ciw_place, lw_place, ld_place, lb_place, lh_place, cj_place}
 use Rattle.rv_disasm.specs.Reading.{filled, Fine}
-use Rattle.rv_disasm.proofs.Options.{every_if, row, row_2, choice}
+use Rattle.rv_disasm.proofs.Options.{every_else, every_if, row, row_2, choice}
 use Rattle.rv_disasm.proofs.Sums.{held, held_5, held_6, held_10, held_12, sum_1, sum_2, sum_3}
 use Rattle.rv_disasm.proofs.WordRows.{SmallFuncts, none, signed_low}
 
@@ -444,8 +444,7 @@ quadrant_0_good flags h low o =
     (row P (half_funct3 h) 2 _ _ (λ g. lw_row h low o g)
     (row P (half_funct3 h) 3 _ _ (λ g. ld_row h low o g)
     (every_if P ((half_funct3 h == 4) && flags.has_zcb) (decode_zcb_memory h) _ (λ t. zcb_memory_good h low o (eqb-true (half_funct3 h) 4 (and_parts (half_funct3 h == 4) flags.has_zcb t).0)) (λ _. row P (half_funct3 h) 6 _ _ (λ g. sw_row h low o g)
-    (row P (half_funct3 h) 7 _ _ (λ g. sd_row h low o g)
-    (every_if P ((half_funct3 h == 1) && flags.has_zcd) (Some _) _ (λ t. fld_row h low o (eqb-true (half_funct3 h) 1 (and_parts (half_funct3 h == 1) flags.has_zcd t).0)) (λ _. every_if P ((half_funct3 h == 5) && flags.has_zcd) (Some _) _ (λ t. fsd_row h low o (eqb-true (half_funct3 h) 5 (and_parts (half_funct3 h == 5) flags.has_zcd t).0)) (λ _. _))))))))
+    (row P (half_funct3 h) 7 _ _ (λ g. sd_row h low o g) _)))))
 
 unary_good : (flags : IsaFlags) (h : ℕ) → h < 2 ^ 16 → half_op h ≡ 1 → half_funct3 h ≡ 4 → bits h 11 10 ≡ 3 → bits h 12 12 ≡ 1 → bits h 6 5 ≡ 3 → IfSome (decode_zcb_unary flags h) (GoodHalf h)
 unary_good flags h low o g s b k =
@@ -513,8 +512,8 @@ jalr_add_good h low o g s =
     second_false true b e n = n
     second_false false b e n = absurd (cc)
 
-quadrant_2_good : (flags : IsaFlags) (h : ℕ) → h < 2 ^ 16 → half_op h ≡ 2 → IfSome (quadrant_2 flags h) (GoodHalf h)
-quadrant_2_good flags h low o =
+quadrant_2_good : (h : ℕ) → h < 2 ^ 16 → half_op h ≡ 2 → IfSome (quadrant_2 h) (GoodHalf h)
+quadrant_2_good h low o =
     let P : Decoded → Type 0 = GoodHalf h in
     row P (half_funct3 h) 0 _ _ (λ g. slli_row h low o g)
     (choice P (half_funct3 h) 2 _ _ (λ g. every_if P (half_rd h == 0) None _ (λ _. _) (λ _. lwsp_row h low o g))
@@ -522,15 +521,29 @@ quadrant_2_good flags h low o =
     (every_if P ((half_funct3 h == 4) && (bits h 12 12 == 0)) (decode_jr_mv h) _ (λ t. let each = and_parts (half_funct3 h == 4) (bits h 12 12 == 0) t in jr_mv_good h low o (eqb-true (half_funct3 h) 4 each.0) (eqb-true (bits h 12 12) 0 each.1)) (λ _.
     every_if P ((half_funct3 h == 4) && (bits h 12 12 == 1)) (decode_jalr_add h) _ (λ t. let each = and_parts (half_funct3 h == 4) (bits h 12 12 == 1) t in jalr_add_good h low o (eqb-true (half_funct3 h) 4 each.0) (eqb-true (bits h 12 12) 1 each.1)) (λ _.
     row P (half_funct3 h) 6 _ _ (λ g. swsp_row h low o g)
-    (row P (half_funct3 h) 7 _ _ (λ g. sdsp_row h low o g)
-    (every_if P ((half_funct3 h == 1) && flags.has_zcd) (Some _) _ (λ t. fldsp_row h low o (eqb-true (half_funct3 h) 1 (and_parts (half_funct3 h == 1) flags.has_zcd t).0)) (λ _.
-    every_if P ((half_funct3 h == 5) && flags.has_zcd) (Some _) None (λ t. fsdsp_row h low o (eqb-true (half_funct3 h) 5 (and_parts (half_funct3 h == 5) flags.has_zcd t).0)) (λ _. _)))))))))
+    (row P (half_funct3 h) 7 _ _ (λ g. sdsp_row h low o g) _))))))
 
-pub half_good : (flags : IsaFlags) (h : ℕ) → h < 2 ^ 16 → IfSome (decode_half flags h) (GoodHalf h)
-unfolding decode_half
-half_good flags h low =
+-- ---- of integers, of units, and of both
+
+int_half_good : (flags : IsaFlags) (h : ℕ) → h < 2 ^ 16 → IfSome (int_decode_half flags h) (GoodHalf h)
+unfolding int_decode_half
+int_half_good flags h low =
     let P : Decoded → Type 0 = GoodHalf h in
     every_if P flags.has_zca (by_quadrant flags h) None (λ _.
     choice P (half_op h) 0 (quadrant_0 flags h) _ (λ o. quadrant_0_good flags h low o)
     (choice P (half_op h) 1 (quadrant_1 flags h) _ (λ o. quadrant_1_good flags h low o)
-    (choice P (half_op h) 2 (quadrant_2 flags h) None (λ o. quadrant_2_good flags h low o) _))) (λ _. _)
+    (choice P (half_op h) 2 (quadrant_2 h) None (λ o. quadrant_2_good h low o) _))) (λ _. _)
+
+unit_half_good : (flags : IsaFlags) (h : ℕ) → h < 2 ^ 16 → IfSome (unit_decode_half flags h) (GoodHalf h)
+unfolding unit_decode_half
+unit_half_good flags h low =
+    let P : Decoded → Type 0 = GoodHalf h in
+    every_if P (flags.has_zca && flags.has_zcd) (unit_by_quadrant h) None (λ _.
+    row_2 P (half_op h) 0 (half_funct3 h) 1 _ _ (λ o g. fld_row h low o g)
+    (row_2 P (half_op h) 0 (half_funct3 h) 5 _ _ (λ o g. fsd_row h low o g)
+    (row_2 P (half_op h) 2 (half_funct3 h) 1 _ _ (λ o g. fldsp_row h low o g)
+    (row_2 P (half_op h) 2 (half_funct3 h) 5 _ _ (λ o g. fsdsp_row h low o g) _)))) (λ _. _)
+
+pub half_good : (flags : IsaFlags) (h : ℕ) → h < 2 ^ 16 → IfSome (decode_half flags h) (GoodHalf h)
+unfolding decode_half
+half_good flags h low = every_else (GoodHalf h) (int_decode_half flags h) (unit_decode_half flags h) (int_half_good flags h low) (unit_half_good flags h low)

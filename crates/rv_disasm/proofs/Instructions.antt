@@ -5,8 +5,9 @@ use Rattle.std.specs.Option.{option_map, option_and_then}
 use Rattle.rv_base.specs.declared.flags.IsaFlags.{IsaFlags}
 use Rattle.rv_machine.specs.declared.decoding.Decoded.{Decoded}
 use Rattle.rv_machine.specs.Layout.{bits, word_opcode}
-use Rattle.rv_machine.specs.Compressed.{decode_half}
-use Rattle.rv_machine.specs.Decode.{by_opcode, decode}
+use Rattle.rv_machine.specs.Compressed.{int_decode_half, unit_decode_half, decode_half}
+use Rattle.rv_machine.specs.UnitDecode.{unit_by_opcode, unit_decode, or_else}
+use Rattle.rv_machine.specs.Decode.{int_by_opcode, int_decode, decode}
 use Rattle.rv_disasm.specs.declared.word.Word.{Word}
 use Rattle.rv_disasm.specs.declared.forms.Form.{Form}
 use Rattle.rv_disasm.specs.declared.forms.Form.TheVariants as form
@@ -15,7 +16,7 @@ use Rattle.rv_disasm.specs.Text.{form_fields, form_at, with_form, instruction, w
 use Rattle.rv_disasm.specs.Placing.{form_fixed}
 use Rattle.rv_disasm.specs.Reading.{plain, filled, Fine}
 use Rattle.rv_disasm.proofs.Options.{every_then}
-use Rattle.rv_disasm.proofs.WordRows.{Good, word_good}
+use Rattle.rv_disasm.proofs.WordRows.{Good, by_opcode, word_good}
 use Rattle.rv_disasm.proofs.HalfRows.{GoodHalf, half_good}
 
 abbrev chosen : ℕ → Bool → Word
@@ -26,8 +27,15 @@ pub record Whole (word : ℕ) (i : Form × Decoded) : Type 0 where
   pub fine : Fine i.1
 
 pub opcode_is : (flags : IsaFlags) (w : ℕ) → decode flags w ≡ (if w % 4 == 3 then by_opcode flags (word_opcode w) w else decode_half flags (bits w 15 0))
-unfolding decode
-opcode_is flags w = let e : word_opcode w % 4 ≡ w % 4 = omega arith in ap (λ x. if x == 3 then by_opcode flags (word_opcode w) w else decode_half flags (bits w 15 0)) e
+unfolding decode int_decode unit_decode decode_half
+opcode_is flags w =
+    let e : word_opcode w % 4 ≡ w % 4 = omega arith in
+    both (word_opcode w % 4 == 3) (int_by_opcode (word_opcode w) w) (unit_by_opcode flags (word_opcode w) w) (int_decode_half flags (bits w 15 0)) (unit_decode_half flags (bits w 15 0))
+    ∙ ap (λ x. if x == 3 then by_opcode flags (word_opcode w) w else or_else (int_decode_half flags (bits w 15 0)) (unit_decode_half flags (bits w 15 0))) e
+  where
+    both : (t : Bool) (a b c d : Option Decoded) → or_else (if t then a else c) (if t then b else d) ≡ (if t then or_else a b else or_else c d)
+    both true a b c d = refl
+    both false a b c d = refl
 
 -- an option's values, where it is another
 carried : {A : Type 0} (P : A → Type 0) (o p : Option A) → o ≡ p → IfSome p P → IfSome o P

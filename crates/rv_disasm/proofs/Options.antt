@@ -4,7 +4,8 @@ use Rattle.std.specs.Prelude.{IfSome, ◌==◌}
 use Rattle.std.specs.Option.{option_map, option_and_then}
 use Rattle.std.proofs.lemmas.Bool.{eqb-true, and_parts}
 use Rattle.rv_machine.specs.declared.decoding.Decoded.{Decoded}
-use Rattle.rv_machine.specs.UnitDecode.{or_else, only}
+use Rattle.rv_machine.specs.Layout.{or_else}
+use Rattle.rv_machine.specs.UnitDecode.{only}
 
 pub every_map : {A B : Type 0} (g : A → B) (P : B → Type 0) (o : Option A) → IfSome o (λ a. P (g a)) → IfSome (option_map g o) P
 every_map g P None h = _

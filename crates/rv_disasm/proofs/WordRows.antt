@@ -43,8 +43,8 @@ use Rattle.rv_machine.specs.Opcodes.{LUI, AUIPC, JAL, JALR, BRANCH, LOAD, STORE,
 use Rattle.rv_machine.specs.Tables.{branch_entry, load_entry, store_entry, imm_entry, imm_32_entry, shift_entry, unary_entry, long_shift_32_entry, shift_32_entry, unary_32_entry, op_entry, op_32_entry, unary_op_32_entry}
 use Rattle.rv_machine.specs.UnitTables.{carry_unary_entry, carry_entry, carry_32_entry, csr_entry, atomic_entry, atomic_width_entry, format_entry, width_entry, rounded_entry, rounded_unary_entry, fixed_entry, fixed_unary_entry, is_own_format, fused_entry, vector_load_entry, vector_store_entry}
 use Rattle.rv_machine.specs.Vectors.{vector_fields, are_fields}
-use Rattle.rv_machine.specs.UnitDecode.{is_source, atomic_of, decode_amo, decode_csr, is_rounding, has_format, float_load_of, float_store_of, rounded_of, rounded_unary_of, fixed_of, float_of, decode_op_fp, fused_of, decode_fused, is_plain, load_of, decode_load_fp, store_of, decode_store_fp, is_vtype, decode_vsetivli, vector_of, decode_op_v, unit_by_opcode}
-use Rattle.rv_machine.specs.Decode.{decode_jalr, decode_branch, decode_load, decode_store, decode_op_imm, decode_op_imm_32, decode_op, decode_op_32, decode_misc_mem, decode_system, by_opcode}
+use Rattle.rv_machine.specs.UnitDecode.{is_source, atomic_of, decode_amo, decode_csr, is_rounding, has_format, float_load_of, float_store_of, rounded_of, rounded_unary_of, fixed_of, float_of, decode_op_fp, fused_of, decode_fused, is_plain, load_of, decode_load_fp, store_of, decode_store_fp, is_vtype, decode_vsetivli, vector_of, decode_op_v, decode_carry_unary, decode_carry, decode_carry_32, unit_by_opcode, or_else}
+use Rattle.rv_machine.specs.Decode.{decode_jalr, decode_branch, decode_load, decode_store, decode_op_imm, decode_op_imm_32, decode_op, decode_op_32, decode_misc_mem, decode_system, int_by_opcode}
 use Rattle.rv_disasm.specs.declared.forms.Form.TheVariants as form
 use Rattle.rv_disasm.specs.Text.{form_fields, functs}
 use Rattle.rv_disasm.specs.Fixed.{format_field}
@@ -327,8 +327,7 @@ op_imm_good : (w : ℕ) → w < 2 ^ 32 → word_opcode w ≡ OP_IMM → IfSome (
 op_imm_good w h o =
     every_else (Good w) _ _ (every_map (λ op. i_layout w (Alu op)) (Good w) (imm_entry (word_funct3 w)) (imm_rows w h o))
     (every_else (Good w) _ _ (every_map (λ op. shift_layout w (Alu op)) (Good w) (shift_entry (word_funct6 w) (word_funct3 w)) (shift_rows w h o))
-    (every_else (Good w) _ _ (every_map (λ op. unary_layout w (Alu op)) (Good w) (unary_entry (word_funct12 w) (word_funct3 w)) (unary_rows w h o))
-    (every_map (λ op. unary_layout w (Carry op)) (Good w) (carry_unary_entry (word_funct12 w) (word_funct3 w)) (carry_unary_rows w h o))))
+    (every_map (λ op. unary_layout w (Alu op)) (Good w) (unary_entry (word_funct12 w) (word_funct3 w)) (unary_rows w h o)))
 
 op_imm_32_good : (w : ℕ) → w < 2 ^ 32 → word_opcode w ≡ OP_IMM_32 → IfSome (decode_op_imm_32 w) (Good w)
 op_imm_32_good w h o =
@@ -338,15 +337,12 @@ op_imm_32_good w h o =
     (every_map (λ op. unary_layout w (Alu op)) (Good w) (unary_32_entry (word_funct12 w) (word_funct3 w)) (unary_32_rows w h o))))
 
 op_good : (w : ℕ) → w < 2 ^ 32 → word_opcode w ≡ OP → IfSome (decode_op w) (Good w)
-op_good w h o =
-    every_else (Good w) _ _ (every_map (λ op. r_layout w (Alu op)) (Good w) (op_entry (word_funct7 w) (word_funct3 w)) (op_rows w h o))
-    (every_map (λ op. r_layout w (Carry op)) (Good w) (carry_entry (word_funct7 w) (word_funct3 w)) (carry_rows w h o))
+op_good w h o = every_map (λ op. r_layout w (Alu op)) (Good w) (op_entry (word_funct7 w) (word_funct3 w)) (op_rows w h o)
 
 op_32_good : (w : ℕ) → w < 2 ^ 32 → word_opcode w ≡ OP_32 → IfSome (decode_op_32 w) (Good w)
 op_32_good w h o =
     every_else (Good w) _ _ (every_map (λ op. r_layout w (Alu op)) (Good w) (op_32_entry (word_funct7 w) (word_funct3 w)) (op_32_rows w h o))
-    (every_else (Good w) _ _ (every_map (λ op. unary_layout w (Alu op)) (Good w) (unary_op_32_entry (word_funct12 w) (word_funct3 w)) (unary_op_32_rows w h o))
-    (every_map (λ op. r_layout w (Carry op)) (Good w) (carry_32_entry (word_funct7 w) (word_funct3 w)) (carry_32_rows w h o)))
+    (every_map (λ op. unary_layout w (Alu op)) (Good w) (unary_op_32_entry (word_funct12 w) (word_funct3 w)) (unary_op_32_rows w h o))
 
 misc_mem_good : (w : ℕ) → w < 2 ^ 32 → word_opcode w ≡ MISC_MEM → IfSome (decode_misc_mem w) (Good w)
 misc_mem_good w h o =
@@ -375,7 +371,7 @@ system_good w h o =
     let a = and_parts ((word_funct3 w == 0) && (word_rd w == 0) && (word_rs1 w == 0)) (word_funct12 w == 0x001) t in
     let b = and_parts ((word_funct3 w == 0) && (word_rd w == 0)) (word_rs1 w == 0) a.0 in
     let c = and_parts (word_funct3 w == 0) (word_rd w == 0) b.0 in
-    good_bare w (Base base.Ebreak) none (of_bare w h o (eqb-true _ 0 c.0) (eqb-true _ 0 c.1) (eqb-true _ 0 b.1) (eqb-true _ 1 a.1))) (λ _. csr_good w h o)
+    good_bare w (Base base.Ebreak) none (of_bare w h o (eqb-true _ 0 c.0) (eqb-true _ 0 c.1) (eqb-true _ 0 b.1) (eqb-true _ 1 a.1))) (λ _. _)
   where
     of_bare : (w : ℕ) → w < 2 ^ 32 → word_opcode w ≡ SYSTEM → word_funct3 w ≡ 0 → word_rd w ≡ 0 → word_rs1 w ≡ 0 → word_funct12 w ≡ 0x001 → 0x00100073 ≡ w
     of_bare w h o a b c d = omega arith
@@ -545,17 +541,30 @@ op_v_good w h o =
     (λ _. every_then (vector_of w) (Good w) (vector_fields (word_funct6 w) (word_funct3 w)) (every_value (λ fields. IfSome (vector_of w fields) (Good w)) (λ fields. every_only (Good w) (are_fields fields (word_vm w) (word_rs2 w) (word_rs1 w) (word_rd w)) (Some (vector_layout w (Vec (word_funct6 w) (word_funct3 w)))) (λ _.
     good_vector w (Vec (word_funct6 w) (word_funct3 w)) (omega arith, omega arith) (of_vector w OP_V h o))) _))
 
+carry_unary_good : (w : ℕ) → w < 2 ^ 32 → word_opcode w ≡ OP_IMM → IfSome (decode_carry_unary w) (Good w)
+carry_unary_good w h o = every_map (λ op. unary_layout w (Carry op)) (Good w) (carry_unary_entry (word_funct12 w) (word_funct3 w)) (carry_unary_rows w h o)
+
+carry_good : (w : ℕ) → w < 2 ^ 32 → word_opcode w ≡ OP → IfSome (decode_carry w) (Good w)
+carry_good w h o = every_map (λ op. r_layout w (Carry op)) (Good w) (carry_entry (word_funct7 w) (word_funct3 w)) (carry_rows w h o)
+
+carry_32_good : (w : ℕ) → w < 2 ^ 32 → word_opcode w ≡ OP_32 → IfSome (decode_carry_32 w) (Good w)
+carry_32_good w h o = every_map (λ op. r_layout w (Carry op)) (Good w) (carry_32_entry (word_funct7 w) (word_funct3 w)) (carry_32_rows w h o)
+
 unit_good : (flags : IsaFlags) (opcode w : ℕ) → w < 2 ^ 32 → word_opcode w ≡ opcode → IfSome (unit_by_opcode flags opcode w) (Good w)
 unit_good flags opcode w h o =
-    choice (Good w) opcode LOAD_FP _ _ (λ e. load_fp_good flags w h (o ∙ e))
+    choice (Good w) opcode OP_IMM _ _ (λ e. carry_unary_good w h (o ∙ e))
+    (choice (Good w) opcode OP _ _ (λ e. carry_good w h (o ∙ e))
+    (choice (Good w) opcode OP_32 _ _ (λ e. carry_32_good w h (o ∙ e))
+    (choice (Good w) opcode SYSTEM _ _ (λ e. csr_good w h (o ∙ e))
+    (choice (Good w) opcode LOAD_FP _ _ (λ e. load_fp_good flags w h (o ∙ e))
     (choice (Good w) opcode STORE_FP _ _ (λ e. store_fp_good flags w h (o ∙ e))
     (choice (Good w) opcode AMO _ _ (λ e. amo_good w h (o ∙ e))
     (choice (Good w) opcode OP_FP _ _ (λ e. op_fp_good w h (o ∙ e))
     (choice (Good w) opcode OP_V _ _ (λ e. op_v_good w h (o ∙ e))
-    (fused_word_good opcode w h o)))))
+    (fused_word_good opcode w h o)))))))))
 
-pub word_good : (flags : IsaFlags) (opcode w : ℕ) → w < 2 ^ 32 → word_opcode w ≡ opcode → IfSome (by_opcode flags opcode w) (Good w)
-word_good flags opcode w h o =
+int_good : (opcode w : ℕ) → w < 2 ^ 32 → word_opcode w ≡ opcode → IfSome (int_by_opcode opcode w) (Good w)
+int_good opcode w h o =
     row (Good w) opcode LUI (u_layout w (Base base.Lui)) _ (λ e. good_u w (Base base.Lui) none (of_u w LUI h (o ∙ e)))
     (row (Good w) opcode AUIPC (u_layout w (Base base.Auipc)) _ (λ e. good_u w (Base base.Auipc) none (of_u w AUIPC h (o ∙ e)))
     (row (Good w) opcode JAL (j_layout w (Base base.Jal)) _ (λ e. good_j w (Base base.Jal) none (of_j w JAL h (o ∙ e)))
@@ -569,4 +578,11 @@ word_good flags opcode w h o =
     (choice (Good w) opcode OP_32 _ _ (λ e. op_32_good w h (o ∙ e))
     (choice (Good w) opcode MISC_MEM _ _ (λ e. misc_mem_good w h (o ∙ e))
     (choice (Good w) opcode SYSTEM _ _ (λ e. system_good w h (o ∙ e))
-    (unit_good flags opcode w h o)))))))))))))
+    _))))))))))))
+
+-- the operation of a word of 32 bits
+abbrev pub by_opcode : IsaFlags → ℕ → ℕ → Option Decoded
+by_opcode flags opcode w = or_else (int_by_opcode opcode w) (unit_by_opcode flags opcode w)
+
+pub word_good : (flags : IsaFlags) (opcode w : ℕ) → w < 2 ^ 32 → word_opcode w ≡ opcode → IfSome (by_opcode flags opcode w) (Good w)
+word_good flags opcode w h o = every_else (Good w) (int_by_opcode opcode w) (unit_by_opcode flags opcode w) (int_good opcode w h o) (unit_good flags opcode w h o)

@@ -8,7 +8,7 @@ use Rattle.rv_base.specs.declared.flags.IsaFlags.{IsaFlags}
 use Rattle.rv_machine.specs.declared.decoding.Decoded.{Decoded}
 use Rattle.rv_machine.specs.Layout.{bits, word_opcode}
 use Rattle.rv_machine.specs.Compressed.{decode_half}
-use Rattle.rv_machine.specs.Decode.{by_opcode, decode}
+use Rattle.rv_machine.specs.Decode.{decode}
 use Rattle.rv_disasm.specs.declared.word.Word.{Word}
 use Rattle.rv_disasm.specs.declared.forms.Form.{Form}
 use Rattle.rv_disasm.specs.declared.forms.Form.TheVariants as form
@@ -16,6 +16,7 @@ use Rattle.rv_disasm.specs.Halfwords.{half_named}
 use Rattle.rv_disasm.specs.Text.{form_fields, text_of, word_at, instruction, with_form, text_or_data, data_text, word_text}
 use Rattle.rv_disasm.specs.Placing.{form_fixed}
 use Rattle.rv_disasm.specs.Reading.{Fine, plain, filled}
+use Rattle.rv_disasm.proofs.WordRows.{by_opcode}
 use Rattle.rv_disasm.proofs.Instructions.{Whole, opcode_is, instruction_whole}
 
 -- ---- by the word's length
