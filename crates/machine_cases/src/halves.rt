@@ -6,7 +6,8 @@ use rv_machine::{Decoded, decode, decode_half};
 use rv_trace::put_instruction;
 use std::alloc::Global;
 
-const ALL: IsaFlags = IsaFlags {
+/// All flags.
+pub(crate) const ALL: IsaFlags = IsaFlags {
     has_m: true,
     has_zba: true,
     has_zbb: true,

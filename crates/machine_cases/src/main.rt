@@ -1,10 +1,11 @@
-//! Goes through words with what they are decoded to, and with what a step of the machine does with them.
+//! Goes through words with what they are decoded to, what a step of the machine does with them, and their texts.
 #![tactic(auto)]
 
 mod decoding;
 mod halves;
 mod numbers;
 mod steps;
+mod texts;
 
 use case_files::{Case, CaseError, Cases, expect_text, read, rows_of, run_cases};
 use rv_base::{IsaFlags, OutOfMemory};
@@ -27,6 +28,10 @@ enum Question {
     Half,
     /// The digest of the texts of all halfwords.
     Digest,
+    /// Its text, read back.
+    Text,
+    /// The word of a text.
+    Read,
 }
 
 fn question_of(ending: &str) -> Option<Question> {
@@ -37,6 +42,8 @@ fn question_of(ending: &str) -> Option<Question> {
         "decoded" => Some(Question::Decoded),
         "half" => Some(Question::Half),
         "digest" => Some(Question::Digest),
+        "text" => Some(Question::Text),
+        "read" => Some(Question::Read),
         _ => None,
     }
 }
@@ -55,6 +62,8 @@ fn answer(
         Question::Decoded => decoding::decoded(alloc, given),
         Question::Half => halves::expanded(alloc, given),
         Question::Digest => halves::digest(alloc, given),
+        Question::Text => texts::shown(alloc, given),
+        Question::Read => texts::read(alloc, given),
     }
 }
 
