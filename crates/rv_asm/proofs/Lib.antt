@@ -30,3 +30,4 @@ mod BytesThere
 mod JumpsStand
 mod StraightUses
 mod AfterLastLine
+mod FullRuns

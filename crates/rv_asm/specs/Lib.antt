@@ -13,3 +13,5 @@ pub mod SavedRegisters
 pub mod Survey
 pub mod Jumps
 pub mod StraightUses
+pub mod FullMeaning
+pub mod FullSimulation
