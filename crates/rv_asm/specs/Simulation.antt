@@ -1,5 +1,5 @@
 -- What it is for code to run as its job says.
-use Rattle.std.specs.Prelude.{◌≡◌, ℕ, suc, ◌+◌, ◌<◌, ◌≤◌, nat_eq, nat_lt, if◌then◌else◌, List, [], ◌∷◌, length, slice_get, Some, None, unwrap_or}
+use Rattle.std.specs.Prelude.{◌≡◌, ℕ, suc, ◌+◌, ◌<◌, ◌≤◌, nat_eq, nat_lt, if◌then◌else◌, List, [], ◌∷◌, length, slice_get, Some, unwrap_or}
 use Rattle.rv_base.specs.declared.trap.TrapCode.{TrapCode}
 use Rattle.mach_buffer.specs.Constants.{offset_in}
 use Rattle.rv_inst.specs.Records.{IsTrapAt}

@@ -7,5 +7,6 @@ pub use Rattle.rv_base.specs.Regs.{int_reg, number_of, IsReal}
 pub use Rattle.rv_inst.specs.SameValues.{Same, SameBut, is_among}
 -- the rules that a line has to keep, in what context, and which distances are out of range
 pub use Rattle.rv_inst.specs.Context.{Context, context_of}
-pub use Rattle.rv_inst.specs.Rules.{broken_rule, every_rule}
+pub use Rattle.rv_inst.specs.Rules.{broken_rule}
+unfoldable pub use Rattle.rv_inst.specs.Rules.{every_rule}
 pub use Rattle.rv_inst.specs.Addresses.{is_distant}

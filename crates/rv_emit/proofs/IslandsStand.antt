@@ -1,5 +1,5 @@
 -- An island of a buffer is one in the finished code.
-use Rattle.std.proofs.Common.{◌≡◌, ◌⊎◌, ℕ, ◌+◌, ◌^◌, ◌≤◌, inl, inr, ⊎_elim, [], ◌∷◌, List, length, Some, pos, ◌-ℤ◌, arith, refl, ap, sym, subst, ◌∙◌}
+use Rattle.std.proofs.Common.{◌≡◌, ◌⊎◌, ℕ, ◌+◌, ◌^◌, ◌≤◌, inl, inr, ⊎_elim, [], ◌∷◌, List, length, Some, pos, ◌-ℤ◌, arith, refl, ap, sym, subst, ◌∙◌, true}
 use Rattle.std.specs.FinMap as map
 use Rattle.std.proofs.lemmas.Option.{same_Some}
 use Rattle.rv_base.specs.declared.flags.IsaFlags.{IsaFlags}

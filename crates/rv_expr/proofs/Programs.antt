@@ -12,6 +12,7 @@ use Rattle.rv_asm.specs.FineLines.{plain_job}
 use Rattle.rv_asm.specs.Placed.{Addresses}
 use Rattle.rv_asm.specs.Reported.{Reported}
 use Rattle.rv_asm.specs.Simulation.{At, Out, RunsAsListed}
+use Rattle.rv_asm.specs.Users.{int_reg}
 use Rattle.rv_asm.proofs.Laws.{entry_is_first_line, nothing_runs, silent_lines_unrecorded}
 use Rattle.rv_expr.specs.declared.ops.ExprOp.{ExprOp}
 use Rattle.rv_expr.specs.Value.{value, value_of, values_after}
