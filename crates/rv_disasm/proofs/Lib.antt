@@ -1,0 +1,15 @@
+pub mod Options
+pub mod Fronts
+pub mod FieldTexts
+pub mod Tokens
+pub mod Cuts
+pub mod Sums
+pub mod WordSums
+pub mod WordRows
+pub mod HalfRows
+pub mod FormsFound
+pub mod Instructions
+pub mod Candidates
+pub mod Words
+pub mod Data
+pub mod WordReads

@@ -1,0 +1,273 @@
+//! The text of an instruction, written and taken from the front of a text.
+
+ghost use Rattle.std.specs.Prelude.{◌≡◌, ◌++◌, ◌<◌, pos, OnOk, unsigned_abs, string_bytes};
+ghost use Rattle.std.specs.List.{flat_map};
+ghost use Rattle.std.specs.Fmt.{decimal, signed_decimal};
+ghost use Rattle.std.specs.Int.{w16, w32, to_be_bytes};
+ghost use Rattle.hex.specs.Hex.{encode_lower};
+ghost use Rattle.rv_base.specs.declared.regs.RegClass.TheVariants.{Int, Float as FloatClass};
+ghost use Rattle.rv_base.specs.RegNames.{real_name};
+ghost use Rattle.rv_machine.specs.Layout.{HasFileRegisters};
+ghost use Rattle.rv_disasm.specs.declared.layouts.File.TheVariants as File;
+ghost use Rattle.rv_disasm.specs.Text.{number, functs, file_of, number_text, field_text, further_text, fields_text, space, text_of, data_text};
+ghost use Rattle.rv_disasm.specs.Text.{IsNamed};
+
+use crate::forms::Form;
+use crate::layouts::{Field, File};
+use itoa::Buffer;
+use rv_base::OutOfMemory;
+use rv_machine::{Decoded, MOp};
+use std::alloc::Global;
+
+/// x0 to x31.
+pub(crate) fn int_name(number: u64) -> &'static str
+    requires { number < 32 }
+    ensures { result.now ≡ real_name Int number }
+{
+    match number {
+        0 => "zero",
+        1 => "ra",
+        2 => "sp",
+        3 => "gp",
+        4 => "tp",
+        5 => "t0",
+        6 => "t1",
+        7 => "t2",
+        8 => "fp",
+        9 => "s1",
+        10 => "a0",
+        11 => "a1",
+        12 => "a2",
+        13 => "a3",
+        14 => "a4",
+        15 => "a5",
+        16 => "a6",
+        17 => "a7",
+        18 => "s2",
+        19 => "s3",
+        20 => "s4",
+        21 => "s5",
+        22 => "s6",
+        23 => "s7",
+        24 => "s8",
+        25 => "s9",
+        26 => "s10",
+        27 => "s11",
+        28 => "t3",
+        29 => "t4",
+        30 => "t5",
+        _ => "t6",
+    }
+}
+
+/// f0 to f31.
+pub(crate) fn float_name(number: u64) -> &'static str
+    requires { number < 32 }
+    ensures { result.now ≡ real_name FloatClass number }
+{
+    match number {
+        0 => "ft0",
+        1 => "ft1",
+        2 => "ft2",
+        3 => "ft3",
+        4 => "ft4",
+        5 => "ft5",
+        6 => "ft6",
+        7 => "ft7",
+        8 => "fs0",
+        9 => "fs1",
+        10 => "fa0",
+        11 => "fa1",
+        12 => "fa2",
+        13 => "fa3",
+        14 => "fa4",
+        15 => "fa5",
+        16 => "fa6",
+        17 => "fa7",
+        18 => "fs2",
+        19 => "fs3",
+        20 => "fs4",
+        21 => "fs5",
+        22 => "fs6",
+        23 => "fs7",
+        24 => "fs8",
+        25 => "fs9",
+        26 => "fs10",
+        27 => "fs11",
+        28 => "ft8",
+        29 => "ft9",
+        30 => "ft10",
+        _ => "ft11",
+    }
+}
+
+fn functs(d: &Decoded) -> (u8, u8)
+    ensures { (result.0, result.1) ≡ functs d.now.op }
+{
+    match d.op {
+        MOp::Vec { funct6, funct3 } => (funct6, funct3),
+        MOp::Base(_)
+        | MOp::Load(_)
+        | MOp::Store(_)
+        | MOp::Alu(_)
+        | MOp::Carry(_)
+        | MOp::Atomic(_, _)
+        | MOp::Csr(_)
+        | MOp::FloatLoad(_)
+        | MOp::FloatStore(_)
+        | MOp::Float(_, _)
+        | MOp::VecMem(_) => (0, 0),
+    }
+}
+
+impl Field {
+    /// The number in the field.
+    pub(crate) fn number(self, d: &Decoded) -> i64
+        ensures { result ≡ number self d.now }
+    {
+        match self {
+            Field::Rd(_) => i64::from(d.rd),
+            Field::Rs1(_) => i64::from(d.rs1),
+            Field::Rs2(_) => i64::from(d.rs2),
+            Field::Rs3(_) => i64::from(d.rs3),
+            Field::Imm | Field::Ordering => d.imm,
+            Field::Rounding => i64::from(d.rm),
+            Field::Mask => i64::from(d.vm),
+            Field::Pred => (d.imm.unsigned_abs() / 16) as i64,
+            Field::Succ => (d.imm.unsigned_abs() % 16) as i64,
+            Field::Funct6 => i64::from(functs(d).0),
+            Field::Funct3 => i64::from(functs(d).1),
+        }
+    }
+
+    /// How its number is written.
+    pub(crate) fn file(self) -> File
+        ensures { result ≡ file_of self }
+    {
+        match self {
+            Field::Rd(file) | Field::Rs1(file) | Field::Rs2(file) | Field::Rs3(file) => file,
+            Field::Imm
+            | Field::Rounding
+            | Field::Ordering
+            | Field::Mask
+            | Field::Pred
+            | Field::Succ
+            | Field::Funct6
+            | Field::Funct3 => File::Number,
+        }
+    }
+}
+
+// ---- written
+
+fn put(out: &mut String, text: &str) -> Result<(), OutOfMemory>
+    ensures { OnOk result (string_bytes out.new ≡ string_bytes out.old ++ text.now) }
+{
+    out.push_str(text)?;
+    Ok(())
+}
+
+fn put_decimal(out: &mut String, n: u64) -> Result<(), OutOfMemory>
+    ensures { OnOk result (string_bytes out.new ≡ string_bytes out.old ++ decimal n) }
+{
+    let mut buffer = Buffer::new();
+    put(out, buffer.format(n))
+}
+
+fn put_signed(out: &mut String, n: i64) -> Result<(), OutOfMemory>
+    ensures { OnOk result (string_bytes out.new ≡ string_bytes out.old ++ signed_decimal n) }
+{
+    let mut buffer = Buffer::new();
+    put(out, buffer.format(n))
+}
+
+fn put_vector(out: &mut String, n: u64) -> Result<(), OutOfMemory>
+    ensures { OnOk result (string_bytes out.new ≡ string_bytes out.old ++ number_text File.V (pos n)) }
+{
+    put(out, "v")?;
+    put_decimal(out, n)
+}
+
+fn put_number(out: &mut String, file: File, n: i64) -> Result<(), OutOfMemory>
+    requires { IsNamed file n }
+    ensures { OnOk result (string_bytes out.new ≡ string_bytes out.old ++ number_text file n) }
+{
+    match file {
+        File::X => put(out, int_name(n.unsigned_abs())),
+        File::F => put(out, float_name(n.unsigned_abs())),
+        File::V => put_vector(out, n.unsigned_abs()),
+        File::Number => put_signed(out, n),
+    }
+}
+
+fn put_field(out: &mut String, field: Field, d: &Decoded) -> Result<(), OutOfMemory>
+    requires { HasFileRegisters d.now }
+    ensures { OnOk result (string_bytes out.new ≡ string_bytes out.old ++ field_text d.now field) }
+{
+    put_number(out, field.file(), field.number(d))
+}
+
+fn put_further_field(out: &mut String, field: Field, d: &Decoded) -> Result<(), OutOfMemory>
+    requires { HasFileRegisters d.now }
+    ensures { OnOk result (string_bytes out.new ≡ string_bytes out.old ++ further_text d.now field) }
+{
+    put(out, ",")?;
+    put_field(out, field, d)
+}
+
+fn put_further(out: &mut String, fields: &[Field], d: &Decoded) -> Result<(), OutOfMemory>
+    requires { HasFileRegisters d.now }
+    ensures { OnOk result (string_bytes out.new ≡ string_bytes out.old ++ flat_map (further_text d.now) fields.now) }
+{
+    for field in fields {
+        put_further_field(out, *field, d)?;
+    }
+    Ok(())
+}
+
+fn put_fields(out: &mut String, fields: &[Field], d: &Decoded) -> Result<(), OutOfMemory>
+    requires { HasFileRegisters d.now }
+    ensures { OnOk result (string_bytes out.new ≡ string_bytes out.old ++ fields_text space fields.now d.now) }
+{
+    match fields {
+        [] => Ok(()),
+        [first, further @ ..] => {
+            put(out, " ")?;
+            put_field(out, *first, d)?;
+            put_further(out, further, d)
+        }
+    }
+}
+
+/// Appends an instruction's text.
+pub(crate) fn put_instruction(out: &mut String, form: Form, d: &Decoded) -> Result<(), OutOfMemory>
+    requires { HasFileRegisters d.now }
+    ensures { OnOk result (string_bytes out.new ≡ string_bytes out.old ++ text_of (form, d.now)) }
+{
+    put(out, form.name())?;
+    put_fields(out, form.layout().fields(), d)
+}
+
+fn put_hex(alloc: Global, out: &mut String, bytes: &[u8]) -> Result<(), OutOfMemory>
+    ensures { OnOk result (string_bytes out.new ≡ string_bytes out.old ++ encode_lower bytes.now) }
+{
+    let digits = hex::encode(alloc, bytes)?;
+    put(out, &digits)
+}
+
+/// Appends a word as data.
+pub(crate) fn put_data(alloc: Global, out: &mut String, word: u32) -> Result<(), OutOfMemory>
+    ensures { OnOk result (string_bytes out.new ≡ string_bytes out.old ++ data_text word) }
+{
+    if word % 4 == 3 {
+        put(out, ".4byte 0x")?;
+        put_hex(alloc, out, word.to_be_bytes().as_slice())
+    } else {
+        put(out, ".2byte 0x")?;
+        put_hex(
+            alloc,
+            out,
+            ((word & 0xffff) as u16).to_be_bytes().as_slice(),
+        )
+    }
+}
