@@ -36,3 +36,4 @@ pub mod StoredNumbers
 pub mod RegisterNumbers
 pub mod Laws
 mod IslandEnds
+mod FullRuns

@@ -10,7 +10,8 @@ use Rattle.rv_stream.specs.Ends.{Rose, Gave}
 use Rattle.rv_asm.specs.Refusal.{refusal}
 use Rattle.rv_asm.specs.declared.outcome.Outcome.{Outcome}
 use Rattle.rv_asm.specs.declared.outcome.Outcome.TheVariants as ends
-use Rattle.rv_asm.specs.Outcomes.{Call, input_limit, Asked, Read, Due, Means, IsRefused, WritesOutcome, text_of, Ended, IsOrOutOfMemory, IsDone, NoFault, IsSettled}
+use Rattle.rv_asm.specs.Outcomes.{Call, input_limit, Asked, Read, Due, Means, IsRefused, WritesOutcome, text_of, Ended, RunsFully, IsOrOutOfMemory, IsDone, NoFault, IsSettled}
+use Rattle.rv_asm.proofs.FullRuns.{accepted_full_runs}
 
 written : (c : Call) (outcome : Outcome) → Due c outcome → Appends c.taken c.taken_after (text_of outcome) → Ended c outcome
 written c ends.Usage due appended = (due, appended)
@@ -36,6 +37,21 @@ refused_job input (errors.Malformed index rule) is = is
 refused_job input (errors.LabelTwice label) is = is
 refused_job input (errors.UnboundLabel label) is = is
 refused_job input errors.TooLarge is = is
+
+-- ---- on the machine with all units
+
+pub runs_fully : (c : Call) (returned : Outcome) → Ended c returned → RunsFully c returned
+runs_fully c (ends.Done code) ended =
+    let read = ended.0.1 in
+    let (job, means, accepted, reported, runs, operations, jumps, reach, ranges) = read.3 in
+    (read.0, read.1, job, means, accepted_full_runs job code accepted runs)
+runs_fully c ends.Usage ended = tt
+runs_fully c ends.TooLong ended = tt
+runs_fully c (ends.Syntax line) ended = tt
+runs_fully c (ends.Refused error) ended = tt
+runs_fully c ends.ReadFault ended = tt
+runs_fully c ends.WriteFault ended = tt
+runs_fully c ends.OutOfMemory ended = tt
 
 -- ---- without a fault
 

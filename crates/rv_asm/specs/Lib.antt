@@ -17,3 +17,5 @@ pub mod LineRuns
 pub mod FineLines
 pub mod StoredNumbers
 pub mod Users
+pub mod FullMeaning
+pub mod FullSimulation

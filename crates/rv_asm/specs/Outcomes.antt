@@ -16,6 +16,7 @@ use Rattle.rv_stream.specs.Ends.{Rose, TookFront, Gave}
 use Rattle.rv_asm.specs.Refusal.{refusal}
 use Rattle.rv_asm.specs.Reported.{Reported}
 use Rattle.rv_asm.specs.Simulation.{RunsAsListed, HasOperations}
+use Rattle.rv_asm.specs.FullSimulation.{FullRuns}
 use Rattle.rv_asm.specs.Jumps.{HasJumps}
 use Rattle.rv_asm.specs.Reach.{InReach}
 use Rattle.rv_asm.specs.declared.outcome.Outcome.{Outcome}
@@ -140,6 +141,19 @@ Ended call ends.ReadFault = Asked call × Rose call.read_faults call.read_faults
 Ended call ends.WriteFault = Rose call.write_faults call.write_faults_after × WroteFront call
 Ended call ends.OutOfMemory = Keeps call.taken call.taken_after ⊎ WroteFront call
 Ended call outcome = Wrote call outcome
+
+-- ---- on the machine with all units
+
+-- a code runs there, too, as the job that the input means says
+abbrev pub RunsFully : Call → Outcome → Type 0
+RunsFully call (ends.Done code) = (input : List ℕ) × IfSome call.left (λ left. input ≡ left) × (job : Job) × (reads input ≡ Ok job) × FullRuns job code
+RunsFully call ends.Usage = Unit {0}
+RunsFully call ends.TooLong = Unit {0}
+RunsFully call (ends.Syntax line) = Unit {0}
+RunsFully call (ends.Refused error) = Unit {0}
+RunsFully call ends.ReadFault = Unit {0}
+RunsFully call ends.WriteFault = Unit {0}
+RunsFully call ends.OutOfMemory = Unit {0}
 
 -- ---- where no fault rose
 

@@ -1,7 +1,7 @@
 //! The program's call: reads all, builds the whole report, then writes.
 
 ghost use Rattle.std.specs.Prelude.{◌≡◌, ◌<◌, length, IfOk};
-ghost use Rattle.rv_asm.specs.Outcomes.{Means, call, Ended, IsSettled, WritesOutcome, outcome_of};
+ghost use Rattle.rv_asm.specs.Outcomes.{Means, call, Ended, IsSettled, RunsFully, WritesOutcome, outcome_of};
 
 use crate::assembly::assemble;
 use crate::outcome::{Outcome, text_of};
@@ -91,6 +91,7 @@ pub fn run<S: Source, K: Sink>(
 ) -> Outcome
     ensures ended { Ended (call (length words.now) (S.left source.old) (S.left source.new) (S.faults source.old) (S.faults source.new) (K.taken sink.old) (K.taken sink.new) (K.faults sink.old) (K.faults sink.new)) result }
     ensures unread { 0 < length words.now → source.new ≡ source.old }
+    ensures full_runs { RunsFully (call (length words.now) (S.left source.old) (S.left source.new) (S.faults source.old) (S.faults source.new) (K.taken sink.old) (K.taken sink.new) (K.faults sink.old) (K.faults sink.new)) result }
     ensures settled { IsSettled (call (length words.now) (S.left source.old) (S.left source.new) (S.faults source.old) (S.faults source.new) (K.taken sink.old) (K.taken sink.new) (K.faults sink.old) (K.faults sink.new)) result }
 {
     outcome_of_call(alloc, words, source, sink)

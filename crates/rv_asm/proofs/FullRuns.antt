@@ -1,0 +1,244 @@
+-- Code that runs as listed on the integer machine runs so on the machine with all units, too: by induction over the lines that are
+-- passed.
+use Rattle.std.proofs.Common.{◌≡◌, ◌⊎◌, ℕ, zero, suc, ◌+◌, ◌<◌, ◌≤◌, Bool, true, false, List, [], ◌∷◌, ◌++◌, length, Some, None, arith, refl, sym, ap, subst, ◌∙◌, inl, inr, lit≤, append_assoc}
+use Rattle.std.specs.Prelude.{slice_get, slice_index, nat_lt, if◌then◌else◌}
+use Rattle.std.proofs.lemmas.Bool.{ltb-true, ltb-false}
+use Rattle.std.proofs.lemmas.Option.{slice_get_within}
+use Rattle.rv_inst.specs.Calls.{Return, return_of}
+use Rattle.rv_inst.specs.Context.{context_of}
+use Rattle.rv_inst.specs.declared.code.Code.{Code}
+use Rattle.rv_inst.specs.declared.inst.Family.{Family}
+use Rattle.rv_inst.specs.declared.inst.Family.TheVariants.{Pseudo, Integer, Memory, Control, Loop, Symbols, Calls}
+use Rattle.rv_inst.specs.declared.inst.Inst.{Inst}
+use Rattle.rv_inst.specs.declared.inst.Line.{Line}
+use Rattle.rv_inst.specs.declared.inst.Line.TheVariants.{Inst as Put, Bind}
+use Rattle.rv_inst.specs.declared.job.Job.{Job}
+use Rattle.rv_inst.specs.Families.{family_of}
+use Rattle.rv_inst.specs.Meaning.{Environment, Exit, Next, To, Leave, Break, Trap, Data, AreOutside, writes_of}
+use Rattle.rv_inst.specs.Operands.{named_labels}
+use Rattle.rv_full.specs.declared.answer.Answer.{Answer}
+use Rattle.rv_full.specs.Steps.{fiter}
+use Rattle.rv_full.specs.Units.{FullState, FullValues, put}
+use Rattle.rv_full.proofs.LargerMachine.{integer_run}
+use Rattle.rv_full.proofs.Runs.{fiter_none, fiter_after}
+use Rattle.rv_asm.specs.FullMeaning.{FullMeaning, of_integers, meaning_by, meaning_of}
+use Rattle.rv_asm.specs.FullSimulation.{Placing, StandsAt, LineAt, OneFullLine, OneMore, Lines, Reached, Stops, IsOn, Overwrites, IsExit, ComesThere, WantsAnswer, WritesOnCode, RunsOn, IsEntry, FullRuns, environment_at, meaning_at}
+use Rattle.rv_asm.specs.Placed.{Addresses}
+use Rattle.rv_asm.specs.Refusal.{refusal}
+use Rattle.rv_asm.specs.Simulation.{Point, At, Returned, Out, End, Stop, Trapped, InData, Entry, AtStart, AtReturn, IsBack, Leads, next_point, environment_of, exit_from, effect_from, Comes, RunsAsListed}
+use Rattle.rv_asm.proofs.ExitPoints.{AllBound, ExitBound, exit_bound, return_bound, bind_at}
+use Rattle.rv_asm.proofs.LinesJoin.{line_at}
+use Rattle.rv_asm.proofs.RefusalOrder.{accepted_lines, parts}
+use Rattle.rv_asm.proofs.RulesOfLines.{names_bound}
+
+-- ---- lines of integers
+
+family_is_of_integers : (family : Family) (entry : Entry) (inst : Inst) → meaning_by family entry inst ≡ of_integers entry (Put inst)
+family_is_of_integers Pseudo entry inst = refl
+family_is_of_integers Integer entry inst = refl
+family_is_of_integers Memory entry inst = refl
+family_is_of_integers Control entry inst = refl
+family_is_of_integers Loop entry inst = refl
+family_is_of_integers Symbols entry inst = refl
+family_is_of_integers Calls entry inst = refl
+
+is_of_integers : (entry : Entry) (line : Line) → meaning_of entry line ≡ of_integers entry line
+is_of_integers entry (Put inst) = family_is_of_integers (family_of inst) entry inst
+is_of_integers entry (Bind label) = refl
+
+-- ---- addresses are outside, or one of them isn't
+
+outside_more : (from size a : ℕ) (addresses : List ℕ) → (a < from) ⊎ (from + size ≤ a) → AreOutside from size addresses → AreOutside from size (a ∷ addresses)
+outside_more from size a addresses first others zero lt = first
+outside_more from size a addresses first others (suc k) lt = others k (omega arith)
+
+pub outside_or_on : (from size : ℕ) (addresses : List ℕ) → AreOutside from size addresses ⊎ IsOn from size addresses
+outside_or_on from size [] = inl (λ k lt. absurd (omega arith))
+outside_or_on from size (a ∷ addresses) = by (nat_lt a from) refl (nat_lt a (from + size)) refl (outside_or_on from size addresses)
+  where
+    with_first : (a < from) ⊎ (from + size ≤ a) → AreOutside from size addresses ⊎ IsOn from size addresses → AreOutside from size (a ∷ addresses) ⊎ IsOn from size (a ∷ addresses)
+    with_first first (inl others) = inl (outside_more from size a addresses first others)
+    with_first first (inr (k, lt, low, high)) = inr (suc k, omega arith, low, high)
+
+    by : (below : Bool) → nat_lt a from ≡ below → (within : Bool) → nat_lt a (from + size) ≡ within → AreOutside from size addresses ⊎ IsOn from size addresses → AreOutside from size (a ∷ addresses) ⊎ IsOn from size (a ∷ addresses)
+    by true e within f others = with_first (inl (ltb-true a from e)) others
+    by false e false f others = with_first (inr (ltb-false a (from + size) f)) others
+    by false e true f others = inr (0, omega arith, ltb-false a from e, ltb-true a (from + size) f)
+
+-- ---- where lines lead there is a line
+
+abbrev IsThere : Job → Point → Type 0
+IsThere job (At i) = (line : Line) × (slice_get job.lines i ≡ Some line)
+IsThere job (Returned i) = (inst : Inst) × (r : Return) × (slice_get job.lines i ≡ Some (Put inst)) × (return_of job.flags inst ≡ Some r)
+IsThere job (Out a) = Unit {0}
+IsThere job End = Unit {0}
+IsThere job (Stop i) = Unit {0}
+IsThere job (Trapped i at) = Unit {0}
+IsThere job (InData i) = Unit {0}
+
+next_there : (job : Job) (i : ℕ) (more : Bool) → nat_lt (suc i) (length job.lines) ≡ more → IsThere job (if more then At (suc i) else End)
+next_there job i true e = line_at job.lines (suc i) (ltb-true _ _ e)
+next_there job i false e = tt
+
+led_there : (job : Job) (code : Code) (i : ℕ) (exit : Exit) (q : Point) → ExitBound job.lines exit → Leads job.lines code i exit q → IsThere job q
+led_there job code i Next q bound led = subst (IsThere job) (sym led) (next_there job i (nat_lt (suc i) (length job.lines)) refl)
+led_there job code i (To label) q bound led = let b = bind_at job.lines label bound in subst (IsThere job) (sym led) (Bind b.0, b.1)
+led_there job code i (Leave a) q bound led = subst (IsThere job) (sym led) tt
+led_there job code i Break q bound led = subst (IsThere job) (sym led) tt
+led_there job code i (Trap cause) q bound led = subst (IsThere job) (sym led.1) tt
+led_there job code i Data q bound led = subst (IsThere job) (sym led) tt
+
+exit_is_bound : (lines : List Line) (env : Environment) (entry : Entry) (line : Line) (v : FullValues) → AllBound lines (named_labels line) → ExitBound lines (exit_from entry env line v.ints)
+exit_is_bound lines env AtStart line v bound = exit_bound lines env line v.ints bound
+exit_is_bound lines env AtReturn (Put inst) v bound = return_bound lines inst bound
+exit_is_bound lines env AtReturn (Bind label) v bound = tt
+
+-- ---- one line
+
+-- the machine has come where one line leads
+record CameOut (x : Placing) (p : Point) (v : FullValues) (b : FullState) : Type 0 where
+  steps : ℕ
+  state : FullState
+  ran : fiter x.job.flags steps b ≡ Some state
+  point : Point
+  values : FullValues
+  took : List Answer
+  line : OneFullLine x p v took point values
+  moved : IsBack line.there.index point → 1 ≤ steps
+  answers : b.answers ≡ took ++ state.answers
+  stands : StandsAt x point values state
+
+-- what comes of the line at a point: it comes out, or stops for want of an answer, or it writes on the code
+abbrev OneComes : Placing → Point → FullValues → FullState → Type 0
+OneComes x p v b = CameOut x p v b ⊎ (Stops x p b ⊎ Overwrites x p v b)
+
+-- what comes on the integer machine comes on this one, with all units as they were
+integers_come : (x : Placing) (p : Point) (v : FullValues) (b : FullState) → StandsAt x p v b → Comes x.job x.code x.base x.symbols x.slots p v.ints b.state → CameOut x p v b
+integers_come x p v b s c =
+    let l = c.line in
+    let env = environment_of x.job x.code x.base x.symbols x.slots l.index in
+    let made : FullValues = record { ints = effect_from l.entry env l.line v.ints; units = v.units } in
+    record {
+      steps = c.steps;
+      state = put c.state b;
+      ran = integer_run x.job.flags c.steps c.state b c.ran;
+      point = c.point;
+      values = record { ints = c.values; units = v.units };
+      took = [];
+      line = record {
+        there = record { index = l.index; line = l.line; entry = l.entry; at = l.at; listed = l.listed };
+        made = made;
+        takes = ap (λ (m : FullMeaning). m.takes env v (m.own_of [])) (is_of_integers l.entry l.line);
+        effect = record { ints = l.effect; units = refl };
+        leads = l.leads;
+      };
+      moved = c.moved;
+      answers = refl;
+      stands = record {
+        pc = c.stands;
+        stopped = c.stopped;
+        same = record { ints = c.same; units = s.same.units };
+        is_state = record { state = c.is_state; units = s.is_state.units; answers = s.is_state.answers };
+        are_values = c.are_values;
+        legal = s.legal;
+        placed = c.placed;
+      };
+    }
+
+module _ (job : Job) (code : Code) (runs : RunsAsListed job code) (named : (i : ℕ) (line : Line) → slice_get job.lines i ≡ Some line → AllBound job.lines (named_labels line)) (base : ℕ) (symbols slots : Addresses) where
+  abbrev placing : Placing
+  placing = record { job = job; code = code; base = base; symbols = symbols; slots = slots }
+
+  abbrev env : ℕ → Environment
+  env i = environment_of job code base symbols slots i
+
+  from_start : (i : ℕ) (line : Line) (v : FullValues) (b : FullState) → slice_get job.lines i ≡ Some line → StandsAt placing (At i) v b → OneComes placing (At i) v b
+  from_start i line v b listed s = by (outside_or_on base (length code.bytes) (writes_of (env i) line v.ints))
+    where
+      by : AreOutside base (length code.bytes) (writes_of (env i) line v.ints) ⊎ IsOn base (length code.bytes) (writes_of (env i) line v.ints) → OneComes placing (At i) v b
+      by (inl outside) = inl (integers_come placing (At i) v b s (runs.from base symbols slots i line b.state v.ints listed outside s.placed s.is_state.state s.are_values s.pc s.same.ints))
+      by (inr on) = inr (inr (record {
+        there = record { index = i; line = line; entry = AtStart; at = refl; listed = listed };
+        took = [];
+        left = b.answers;
+        answers = refl;
+        on = subst (λ (m : FullMeaning). IsOn base (length code.bytes) (m.writes (env i) v (m.own_of []))) (sym (is_of_integers AtStart line)) on;
+      }))
+
+  -- at each point, one line; or the listing's run ends there
+  one_line : (p : Point) (v : FullValues) (b : FullState) → IsThere job p → StandsAt placing p v b → IsExit p ⊎ OneComes placing p v b
+  one_line (At i) v b there s = inr (from_start i there.0 v b there.1 s)
+  one_line (Returned i) v b there s = inr (inl (integers_come placing (Returned i) v b s (runs.back base symbols slots i there.0 there.1 b.state v.ints there.2 there.3 s.placed s.is_state.state s.are_values s.pc s.same.ints)))
+  one_line (Out a) v b there s = inl tt
+  one_line End v b there s = inl tt
+  one_line (Stop i) v b there s = inl tt
+  one_line (Trapped i at) v b there s = inl tt
+  one_line (InData i) v b there s = inl tt
+
+  -- ---- any number of lines
+
+  lines_there : (k : ℕ) (p : Point) (v : FullValues) (least : ℕ) (took : List Answer) (q : Point) (w : FullValues) → IsThere job p → Lines placing k p v least took q w → IsThere job q
+  lines_there zero p v least took q w there l = subst (IsThere job) (sym l.2) there
+  lines_there (suc k) p v least took q w there l =
+      let t = l.line.there in
+      led_there job code t.index (exit_from t.entry (environment_at t) t.line l.values.ints) q (exit_is_bound job.lines (environment_at t) t.entry t.line l.values (named t.index t.line t.listed)) l.line.leads
+
+  one_more : (k : ℕ) (p : Point) (v : FullValues) (b : FullState) (r : Reached placing k p v b) → CameOut placing r.point r.values r.state → Reached placing (suc k) p v b
+  one_more k p v b r o = record {
+    steps = o.steps + r.steps;
+    state = o.state;
+    ran = fiter_after job.flags o.steps r.steps b r.state r.ran ∙ o.ran;
+    point = o.point;
+    values = o.values;
+    least = r.least + o.steps;
+    took = r.took ++ o.took;
+    lines = record { before_least = r.least; before_took = r.took; point = r.point; values = r.values; before = r.lines; here_least = o.steps; here_took = o.took; line = o.line; moved = o.moved; all_least = refl; all_took = refl };
+    moved = let few = r.moved in omega arith;
+    answers = r.answers ∙ ap (λ xs. r.took ++ xs) o.answers ∙ sym (append_assoc r.took o.took o.state.answers);
+    stands = o.stands;
+  }
+
+  next : (k : ℕ) (p : Point) (v : FullValues) (b : FullState) → IsThere job p → RunsOn placing k p v b → RunsOn placing (suc k) p v b
+  next k p v b there (inr (inl c)) = inr (inl (record { count = c.count; before = let lt = c.before in omega arith; reached = c.reached; stops = c.stops }))
+  next k p v b there (inr (inr c)) = inr (inr (record { count = c.count; before = let lt = c.before in omega arith; reached = c.reached; overwrites = c.overwrites }))
+  next k p v b there (inl c) = from c.whole
+    where
+      le : c.count ≤ k
+      le = c.within
+
+      on : c.count ≡ k → IsExit c.reached.point ⊎ OneComes placing c.reached.point c.reached.values c.reached.state → RunsOn placing (suc k) p v b
+      on e (inl end) = inl (record { count = c.count; within = omega arith; reached = c.reached; whole = inr end })
+      on e (inr (inl out)) = inl (record { count = suc c.count; within = omega arith; reached = one_more c.count p v b c.reached out; whole = inl (ap suc e) })
+      on e (inr (inr (inl stops))) = inr (inl (record { count = c.count; before = omega arith; reached = c.reached; stops = stops }))
+      on e (inr (inr (inr off))) = inr (inr (record { count = c.count; before = omega arith; reached = c.reached; overwrites = off }))
+
+      from : (c.count ≡ k) ⊎ IsExit c.reached.point → RunsOn placing (suc k) p v b
+      from (inl e) = on e (one_line c.reached.point c.reached.values c.reached.state (lines_there c.count p v c.reached.least c.reached.took c.reached.point c.reached.values there c.reached.lines) c.reached.stands)
+      from (inr end) = inl (record { count = c.count; within = omega arith; reached = c.reached; whole = inr end })
+
+  runs_on : (k : ℕ) (p : Point) (v : FullValues) (b : FullState) → IsThere job p → StandsAt placing p v b → RunsOn placing k p v b
+  runs_on zero p v b there s = inl (record {
+    count = 0;
+    within = lit≤ tt;
+    reached = record { steps = 0; state = b; ran = fiter_none job.flags b; point = p; values = v; least = 0; took = []; lines = (refl, refl, refl, refl); moved = lit≤ tt; answers = refl; stands = s };
+    whole = inl refl;
+  })
+  runs_on (suc k) p v b there s = next k p v b there (runs_on k p v b there s)
+
+entry_there : (job : Job) (p : Point) → IsEntry job p → IsThere job p
+entry_there job (At i) entry = (entry.0, entry.1)
+entry_there job (Returned i) entry = entry
+entry_there job (Out a) entry = tt
+entry_there job End entry = tt
+entry_there job (Stop i) entry = tt
+entry_there job (Trapped i at) entry = tt
+entry_there job (InData i) entry = tt
+
+full_runs : (job : Job) (code : Code) → RunsAsListed job code → ((i : ℕ) (line : Line) → slice_get job.lines i ≡ Some line → AllBound job.lines (named_labels line)) → FullRuns job code
+full_runs job code runs named = record {
+  from = λ base symbols slots p v b k entry stands. runs_on job code runs named base symbols slots k p v b (entry_there job p entry) stands;
+}
+
+-- of a job that is not refused
+pub accepted_full_runs : (job : Job) (code : Code) → refusal job ≡ None → RunsAsListed job code → FullRuns job code
+accepted_full_runs job code accepted runs = full_runs job code runs (names_bound job.lines job.lines (parts (context_of job) job.lines (accepted_lines job accepted)).unbound)
