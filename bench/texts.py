@@ -3,8 +3,12 @@
 put into the order and the numbers of docs/DISASSEMBLER.md.
 
   texts.py AS OBJDUMP
+  texts.py AS OBJDUMP MACHINE_CASES SEED COUNT
+
+With the program machine_cases it writes nothing, and compares the texts of all halfwords and of COUNT random words near each line with
+objdump's: it prints how many there are, and how many differ by objdump's mnemonic and the text's, with the first of each.
 """
-import re, subprocess, sys, tempfile
+import random, re, subprocess, sys, tempfile
 from pathlib import Path
 
 OUT = Path(__file__).parent.parent / 'crates/machine_cases/data/text'
@@ -32,16 +36,27 @@ c.swsp zero,252(sp); c.sdsp s0,8(sp); c.fsdsp fa0,504(sp)'''
 ROUNDED = re.compile(r'f(add|sub|mul|div|sqrt|n?madd|n?msub|cvt)\.')
 SETS = {'i': 8, 'o': 4, 'r': 2, 'w': 1}
 
-def listed(lines):
-    """The words of the lines, each with its mnemonic, its operands and its place."""
+def shown(directives, count):
+    """What objdump says of the instructions of these directives: of each its word, mnemonic, operands and place."""
     with tempfile.TemporaryDirectory() as folder:
         source, object = Path(folder, 'x.s'), Path(folder, 'x.o')
-        source.write_text('.option norelax\n.option norvc\n.zero 8192\n' + '\n'.join('.option rvc\n' + x + '\n.option norvc' if x.startswith('c.') else x for x in lines) + '\n.balign 4\n.zero 8192\n')
+        source.write_text('\n'.join(['.option norelax', '.zero 8192', *directives, '.balign 4', '.zero 8192', '']))
         subprocess.run([sys.argv[1], '-march=' + MARCH, source, '-o', object], check=True)
         text = subprocess.run([sys.argv[2], '-d', '-M', 'no-aliases', object], capture_output=True, text=True, check=True).stdout
     rows = re.findall(r'^\s*([0-9a-f]+):\s+([0-9a-f]{8}|[0-9a-f]{4})\s+(\S+)[ \t]*([^#<\n]*)', text, re.M)
-    found = [(word, name, operands.strip(), int(at, 16)) for at, word, name, operands in rows if 8192 <= int(at, 16)][:len(lines)]
-    assert len(found) == len(lines)
+    found = [(word, name, operands.strip(), int(at, 16)) for at, word, name, operands in rows if 8192 <= int(at, 16)][:count]
+    assert len(found) == count
+    return found
+
+def listed(lines):
+    """The lines' words, with what objdump says of them."""
+    lines = [x.strip() for x in re.split('[;\n]', lines)]
+    return shown([x if x.startswith('c.') else f'.option norvc\n{x}\n.option rvc' for x in lines], len(lines))
+
+def of_words(words, size):
+    """What objdump says of words of this size in bytes."""
+    found = shown([f'.insn {size}, {x}' for x in words], len(words))
+    assert [int(word, 16) for word, *_ in found] == words
     return found
 
 def number(x): return int(x, 0) if re.fullmatch(r'-?(0x[0-9a-f]+|\d+)', x) else x
@@ -51,7 +66,7 @@ def text(word, name, operands, at):
     """The text of an instruction that objdump gives so."""
     bits, parts = int(word, 16), operands.split(',') if operands else []
     store = re.match(r'(c\.)?f?s[bhwd](sp)?$|vse', name)
-    if re.match(r'(c\.)?j$|jal$|b(eq|ne|ltu?|geu?)$', name): parts[-1] = int(parts[-1], 16) - at
+    if re.match(r'(c\.)?j$|jal$|b(eq|ne|ltu?|geu?)$', name): parts[-1] = (int(parts[-1], 16) - at + 2 ** 63) % 2 ** 64 - 2 ** 63
     if name in ('c.addi4spn', 'c.addi16sp'): parts.remove('sp')
     if name == 'c.nop': name, parts = 'c.addi', ['zero', 0]
     if name.startswith('fence'): parts = [sum(SETS[c] for c in p) for p in parts]
@@ -77,9 +92,55 @@ def text(word, name, operands, at):
     shown = ','.join('fp' if p == 's0' else str(p) for p in parts + rounding + ordering + mask)
     return name + (' ' + shown if shown else '')
 
-for family, lines, flags, about in (('words', WORDS, '', 'Words of 32 bits.'), ('halfwords', HALVES, ' zca zcd', 'Instructions of 16 bits.')):
-    lines = [x.strip() for x in re.split('[;\n]', lines)]
-    some = lambda name: ' zfhmin' if re.match(r'fl?h$|flh|fsh', name) else ''
-    rows = [f'{word}{flags}{some(name)} => {text(word, name, operands, at)}\n' for word, name, operands, at in listed(lines)]
-    (OUT / family).mkdir(parents=True, exist_ok=True)
-    (OUT / family / 'assembled.text').write_text(f'# {about}\n' + ''.join(rows))
+def flags(word):
+    if len(word) == 4: return ' zca zcd'
+    return ' zfhmin' if int(word, 16) & 0x705f == 0x1007 else ''  # flh, fsh
+
+def write():
+    """Writes the rows of the lines."""
+    for family, lines in (('words', WORDS), ('halfwords', HALVES)):
+        rows = [f'{word}{flags(word)} => {text(word, *rest)}\n' for word, *rest in listed(lines)]
+        (OUT / family).mkdir(parents=True, exist_ok=True)
+        (OUT / family / 'assembled.text').write_text(''.join(rows))
+
+def wanted(word, name, operands, at):
+    """The text by objdump's; its own text where it has no such form here, and digits where it has no instruction."""
+    if name in ('.2byte', 'c.beqz', 'c.bnez'): return f'.2byte 0x{word}'  # the decoder knows none of these two branches
+    if name == '.4byte': return f'.4byte 0x{word}'
+    try: return text(word, name, operands, at)
+    except (KeyError, ValueError): return f'{name} {operands}'
+
+def near(count):
+    """Random words, each with some fields of a line's word exchanged."""
+    masks = (0xf80, 0xf8000, 0x1f00000, 0xfff00000, 0xfffff000, 0x1ff8f80, 0xffff8f80, 0xffffff80, 0x7000, 0x6000000, 0xfff8000)
+    for word, *_ in listed(WORDS):
+        for mask in random.choices(masks, k=count):
+            yield int(word, 16) & ~mask | random.getrandbits(32) & mask
+
+def differing(rows):
+    """The rows (a word, its text) of which the program says something else, with what it says."""
+    with tempfile.TemporaryDirectory() as folder:
+        file = Path(folder, 'text/near/near.text')
+        file.parent.mkdir(parents=True)
+        while rows:
+            file.write_text(''.join(f'{word}{flags(word)} => {wanted}\n' for word, wanted in rows))
+            ran = subprocess.run([Path(sys.argv[3]).resolve()], cwd=folder, capture_output=True, text=True)
+            if ran.returncode == 0: return
+            said = ran.stdout + ran.stderr
+            word = re.search(r'near\.text: ([0-9a-f]+)', said)[1]
+            at = [word for word, _ in rows].index(word)
+            yield *rows[at], said.split('--- got:\n')[1].split('\n')[0]
+            rows = rows[at + 1:]
+
+def compare(seed, count):
+    random.seed(seed)
+    halves = [x for x in range(2 ** 16) if x % 4 < 3]
+    for found in (of_words(halves, 2), of_words(list(near(count)), 4)):
+        groups = {}
+        for word, wanting, got in differing([(word, wanted(word, *rest)) for word, *rest in found]):
+            groups.setdefault((wanting.split()[0], got.split()[0]), []).append(f'{word}: {wanting}; {got}')
+        print(len(found), 'compared,', sum(map(len, groups.values())), 'differ')
+        for names, those in groups.items(): print(f'{len(those):6}', *names, '|', those[0])
+
+if len(sys.argv) == 3: write()
+else: compare(*map(int, sys.argv[4:]))
