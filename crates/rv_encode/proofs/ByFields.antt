@@ -12,8 +12,8 @@ use Rattle.rv_machine.specs.declared.ops.MOp.TheVariants.{Base, Load, Store, Alu
 use Rattle.rv_machine.specs.declared.ops.BaseOp.TheVariants as base
 use Rattle.rv_machine.specs.State.{signed}
 use Rattle.rv_machine.specs.Opcodes.{JALR, LOAD, STORE, OP_IMM, OP_IMM_32, OP, OP_32}
-use Rattle.rv_machine.specs.Layout.{s_imm, unary_layout, word_funct3, word_funct12}
-use Rattle.rv_machine.specs.Tables.{load_entry, store_entry, imm_entry, imm_32_entry, op_entry, op_32_entry, unary_op_32_entry}
+use Rattle.rv_machine.specs.Layout.{s_imm}
+use Rattle.rv_machine.specs.Tables.{load_entry, store_entry, imm_entry, imm_32_entry, op_entry, op_32_entry}
 use Rattle.rv_machine.specs.Decode.{or_else, decode}
 use Rattle.rv_encode.specs.Layouts.{IsRType, IsIType, IsSType}
 use Rattle.rv_encode.specs.Operations.{decoded, r_op, i_op, s_op}

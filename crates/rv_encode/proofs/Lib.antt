@@ -4,3 +4,4 @@ pub mod Tables
 pub mod Halfwords
 pub mod HalfwordsOfMemory
 pub mod ByFields
+pub mod FloatDecoding

@@ -10,18 +10,23 @@ use Rattle.rv_ops.specs.declared.compare.IntegerCompare.{IntegerCompare}
 use Rattle.rv_ops.specs.declared.memory.LoadOP.{LoadOP}
 use Rattle.rv_ops.specs.declared.memory.LoadOP.TheVariants as loads
 use Rattle.rv_ops.specs.declared.memory.StoreOP.{StoreOP}
+use Rattle.rv_ops.specs.declared.float_fields.FpuOPWidth.{FpuOPWidth}
+use Rattle.rv_ops.specs.declared.float_fields.FRM.{FRM}
+use Rattle.rv_ops.specs.declared.fpu.FpuOPRRR.{FpuOPRRR}
+use Rattle.rv_ops.specs.FloatFields.{format_of, mode_of}
+use Rattle.rv_ops.specs.Fpu.{fpu_rrr_numbers, fpu_rrr_op}
 use Rattle.rv_ops.specs.Compare.{branch_of, rs1_of, rs2_of}
 use Rattle.rv_ops.specs.Operations.{is_exchanged, rrr_op, rri_op, immediate_of, kept_bits}
 use Rattle.rv_machine.specs.declared.decoding.Decoded.{Decoded}
 use Rattle.rv_machine.specs.declared.ops.MOp.{MOp}
-use Rattle.rv_machine.specs.declared.ops.MOp.TheVariants.{Base, Load, Store, Alu}
+use Rattle.rv_machine.specs.declared.ops.MOp.TheVariants.{Base, Load, Store, Alu, Float}
 use Rattle.rv_machine.specs.declared.ops.BaseOp.{BaseOp}
 use Rattle.rv_machine.specs.declared.ops.BaseOp.TheVariants as base
 use Rattle.rv_machine.specs.declared.ops.LoadOp.{LoadOp}
 use Rattle.rv_machine.specs.declared.ops.LoadOp.TheVariants as load
 use Rattle.rv_machine.specs.Opcodes.{JALR, LOAD, STORE, OP_IMM, OP_IMM_32, OP, OP_32}
 use Rattle.rv_machine.specs.Tables.{load_entry, store_entry, imm_entry, imm_32_entry, op_entry, op_32_entry}
-pub use Rattle.rv_machine.specs.Layout.{decoded}
+pub use Rattle.rv_machine.specs.Layout.{decoded, rounded}
 pub use Rattle.rv_ops.specs.Memory.{store_op}
 
 -- ---- by the fixed fields of a layout
@@ -85,3 +90,9 @@ branch_op branch.Geu = base.Bgeu
 -- the branch by a distance where a comparison holds; some have their registers exchanged
 abbrev pub decoded_branch : IntegerCompare → ℤ → Decoded
 decoded_branch c distance = decoded (Base (branch_op (branch_of c.kind))) 0 (number_of (rs1_of c)) (number_of (rs2_of c)) distance
+
+-- ---- floating-point operations, of a width that the machine has
+
+-- of two sources; one that doesn't round has no rounding mode
+abbrev pub decoded_fpu_rrr : FpuOPRRR → FpuOPWidth → FRM → ℕ → ℕ → ℕ → Decoded
+decoded_fpu_rrr op width frm rd rs1 rs2 = rounded (decoded (Float (format_of width) (fpu_rrr_op op)) rd rs1 rs2 (pos 0)) 0 (mode_of (fpu_rrr_numbers op).rounding frm)

@@ -3,6 +3,7 @@
 
 mod compressed;
 mod compressed_memory;
+mod float;
 mod jumps;
 mod layouts;
 mod memory;
@@ -16,6 +17,7 @@ pub use compressed_memory::{
     encode_ci_sp_load, encode_cl_type, encode_cs_type, encode_css_type, encode_zcbmem_load,
     encode_zcbmem_store,
 };
+pub use float::encode_fp_rrr;
 pub use jumps::{enc_auipc, enc_jalr, encode_branch, encode_ebreak, encode_jal, encode_lui};
 pub use layouts::{encode_i_type, encode_r_type, encode_s_type, reg_to_gpr_num};
 pub use memory::{encode_load, encode_store};
