@@ -5,3 +5,5 @@ pub mod Halfwords
 pub mod HalfwordsOfMemory
 pub mod ByFields
 pub mod FloatDecoding
+pub mod CsrDecoding
+pub mod HalfwordsOfFloat

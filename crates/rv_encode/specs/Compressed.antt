@@ -27,8 +27,9 @@ use Rattle.rv_ops.specs.declared.memory.StoreOP.{StoreOP}
 use Rattle.rv_ops.specs.declared.memory.StoreOP.TheVariants as stores
 use Rattle.rv_ops.specs.Memory.{load_size, store_size}
 use Rattle.rv_machine.specs.declared.decoding.Decoded.{Decoded}
-use Rattle.rv_machine.specs.declared.ops.MOp.TheVariants.{Base, Load, Store, Alu}
+use Rattle.rv_machine.specs.declared.ops.MOp.TheVariants.{Base, Load, Store, Alu, FloatLoad, FloatStore}
 use Rattle.rv_machine.specs.declared.ops.BaseOp.TheVariants as base
+use Rattle.rv_machine.specs.declared.ops.FloatFormat.TheVariants.{D}
 use Rattle.rv_machine.specs.declared.ops.AluOp.{AluOp}
 use Rattle.rv_machine.specs.declared.ops.AluOp.TheVariants.{Int, Mul, Bit}
 use Rattle.rv_machine.specs.declared.ops.IntOp.TheVariants as int
@@ -144,6 +145,20 @@ cl_load CLd = loads.Ld
 
 abbrev pub decoded_cl : ClOp → ℕ → ℕ → ℕ → Decoded
 decoded_cl op dest base imm = compressed (Load (load_op (cl_load op))) dest base 0 (pos (load_size (cl_load op) * imm))
+
+-- ---- loads and stores of floating-point registers, whose immediate counts doublewords
+
+abbrev pub decoded_fld : ℕ → ℕ → ℕ → Decoded
+decoded_fld dest base imm = compressed (FloatLoad D) dest base 0 (pos (8 * imm))
+
+abbrev pub decoded_fsd : ℕ → ℕ → ℕ → Decoded
+decoded_fsd src base imm = compressed (FloatStore D) 0 base src (pos (8 * imm))
+
+abbrev pub decoded_fldsp : ℕ → ℕ → Decoded
+decoded_fldsp rd imm = compressed (FloatLoad D) rd 2 0 (pos (8 * imm))
+
+abbrev pub decoded_fsdsp : ℕ → ℕ → Decoded
+decoded_fsdsp src imm = compressed (FloatStore D) 0 2 src (pos (8 * imm))
 
 -- ---- Zcb
 

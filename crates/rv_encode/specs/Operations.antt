@@ -12,16 +12,22 @@ use Rattle.rv_ops.specs.declared.memory.LoadOP.TheVariants as loads
 use Rattle.rv_ops.specs.declared.memory.StoreOP.{StoreOP}
 use Rattle.rv_ops.specs.declared.float_fields.FpuOPWidth.{FpuOPWidth}
 use Rattle.rv_ops.specs.declared.float_fields.FRM.{FRM}
+use Rattle.rv_ops.specs.declared.fpu_rr.FpuOPRR.{FpuOPRR}
 use Rattle.rv_ops.specs.declared.fpu.FpuOPRRR.{FpuOPRRR}
-use Rattle.rv_ops.specs.FloatFields.{format_of, mode_of}
-use Rattle.rv_ops.specs.Fpu.{fpu_rrr_numbers, fpu_rrr_op}
+use Rattle.rv_ops.specs.declared.fpu.FpuOPRRRR.{FpuOPRRRR}
+use Rattle.rv_ops.specs.declared.csr.CsrRegOP.{CsrRegOP}
+use Rattle.rv_ops.specs.declared.csr.CsrImmOP.{CsrImmOP}
+use Rattle.rv_ops.specs.FloatFields.{format_of, frm_bits, mode_of}
+use Rattle.rv_ops.specs.Fpu.{fpu_rr_numbers, fpu_rr_op, fpu_rrr_numbers, fpu_rrr_op, fpu_rrrr_op}
+use Rattle.rv_ops.specs.Csr.{csr_reg_op, csr_imm_op}
 use Rattle.rv_ops.specs.Compare.{branch_of, rs1_of, rs2_of}
 use Rattle.rv_ops.specs.Operations.{is_exchanged, rrr_op, rri_op, immediate_of, kept_bits}
 use Rattle.rv_machine.specs.declared.decoding.Decoded.{Decoded}
 use Rattle.rv_machine.specs.declared.ops.MOp.{MOp}
-use Rattle.rv_machine.specs.declared.ops.MOp.TheVariants.{Base, Load, Store, Alu, Float}
+use Rattle.rv_machine.specs.declared.ops.MOp.TheVariants.{Base, Load, Store, Alu, Csr, Float}
 use Rattle.rv_machine.specs.declared.ops.BaseOp.{BaseOp}
 use Rattle.rv_machine.specs.declared.ops.BaseOp.TheVariants as base
+use Rattle.rv_machine.specs.declared.ops.FloatOp.TheVariants as float
 use Rattle.rv_machine.specs.declared.ops.LoadOp.{LoadOp}
 use Rattle.rv_machine.specs.declared.ops.LoadOp.TheVariants as load
 use Rattle.rv_machine.specs.Opcodes.{JALR, LOAD, STORE, OP_IMM, OP_IMM_32, OP, OP_32}
@@ -93,6 +99,26 @@ decoded_branch c distance = decoded (Base (branch_op (branch_of c.kind))) 0 (num
 
 -- ---- floating-point operations, of a width that the machine has
 
+-- of one source; one that doesn't round has no rounding mode
+abbrev pub decoded_fpu_rr : FpuOPRR → FpuOPWidth → FRM → ℕ → ℕ → Decoded
+decoded_fpu_rr op width frm rd rs = rounded (decoded (Float (format_of width) (fpu_rr_op op)) rd rs 0 (pos 0)) 0 (mode_of (fpu_rr_numbers op).rounding frm)
+
 -- of two sources; one that doesn't round has no rounding mode
 abbrev pub decoded_fpu_rrr : FpuOPRRR → FpuOPWidth → FRM → ℕ → ℕ → ℕ → Decoded
 decoded_fpu_rrr op width frm rd rs1 rs2 = rounded (decoded (Float (format_of width) (fpu_rrr_op op)) rd rs1 rs2 (pos 0)) 0 (mode_of (fpu_rrr_numbers op).rounding frm)
+
+-- of three sources
+abbrev pub decoded_fpu_rrrr : FpuOPRRRR → FpuOPWidth → FRM → ℕ → ℕ → ℕ → ℕ → Decoded
+decoded_fpu_rrrr op width frm rd rs1 rs2 rs3 = rounded (decoded (Float (format_of width) (fpu_rrrr_op op)) rd rs1 rs2 (pos 0)) rs3 (frm_bits frm)
+
+-- of a constant, whose number stands in the place of rs1
+abbrev pub decoded_fli : FpuOPWidth → ℕ → ℕ → Decoded
+decoded_fli width rd constant = decoded (Float (format_of width) float.Fli) rd constant 0 (pos 0)
+
+-- ---- operations on a CSR, which is frm; an immediate stands in the place of rs1
+
+abbrev pub decoded_csr_reg : CsrRegOP → ℕ → ℕ → Decoded
+decoded_csr_reg op rd rs = decoded (Csr (csr_reg_op op)) rd rs 0 (pos 0)
+
+abbrev pub decoded_csr_imm : CsrImmOP → ℕ → ℕ → Decoded
+decoded_csr_imm op rd imm = decoded (Csr (csr_imm_op op)) rd imm 0 (pos 0)

@@ -186,8 +186,8 @@ fn lwsp_half(op: u32, number: u32, rd: u32, funct3: u32) -> u16
         | funct3 << 13) as u16
 }
 
-/// Layout CI of `c.ldsp`.
-fn ldsp_half(op: u32, number: u32, rd: u32, funct3: u32) -> u16
+/// Layout CI of `c.ldsp` and `c.fldsp`.
+pub(crate) fn ldsp_half(op: u32, number: u32, rd: u32, funct3: u32) -> u16
     requires op { op < 2 ^ 2 }
     requires number { number < 2 ^ 6 }
     requires rd { rd < 2 ^ 5 }
@@ -212,8 +212,8 @@ fn swsp_half(op: u32, rs2: u32, number: u32, funct3: u32) -> u16
     (op | rs2 << 2 | (number >> 4) << 7 | (number & 15) << 9 | funct3 << 13) as u16
 }
 
-/// Layout CSS of `c.sdsp`.
-fn sdsp_half(op: u32, rs2: u32, number: u32, funct3: u32) -> u16
+/// Layout CSS of `c.sdsp` and `c.fsdsp`.
+pub(crate) fn sdsp_half(op: u32, rs2: u32, number: u32, funct3: u32) -> u16
     requires op { op < 2 ^ 2 }
     requires rs2 { rs2 < 2 ^ 5 }
     requires number { number < 2 ^ 6 }
@@ -240,8 +240,8 @@ fn clw_half(op: u32, dest_src: u32, number: u32, base: u32, funct3: u32) -> u16
         | funct3 << 13) as u16
 }
 
-/// Layout CL of `c.ld` and CS of `c.sd`.
-fn cld_half(op: u32, dest_src: u32, number: u32, base: u32, funct3: u32) -> u16
+/// Layout CL of `c.ld` and `c.fld`, and CS of `c.sd` and `c.fsd`.
+pub(crate) fn cld_half(op: u32, dest_src: u32, number: u32, base: u32, funct3: u32) -> u16
     requires op { op < 2 ^ 2 }
     requires dest_src { dest_src < 2 ^ 3 }
     requires number { number < 2 ^ 5 }

@@ -104,7 +104,8 @@ pub fn encode_s_type(opcode: u32, width: u32, base: Reg, src: Reg, offset: Imm12
     )
 }
 
-fn r_word(opcode: u32, rd: u32, funct3: u32, rs1: u32, rs2: u32, funct7: u32) -> u32
+/// Layout R, of the numbers of its fields.
+pub(crate) fn r_word(opcode: u32, rd: u32, funct3: u32, rs1: u32, rs2: u32, funct7: u32) -> u32
     requires opcode { opcode < 2 ^ 7 }
     requires rd { rd < 2 ^ 5 }
     requires funct3 { funct3 < 2 ^ 3 }

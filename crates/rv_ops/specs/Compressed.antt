@@ -21,6 +21,8 @@ use Rattle.rv_ops.specs.declared.compressed.CsOp.{CsOp}
 use Rattle.rv_ops.specs.declared.compressed.CsOp.TheVariants.{CSw, CSd}
 use Rattle.rv_ops.specs.declared.compressed.ClOp.{ClOp}
 use Rattle.rv_ops.specs.declared.compressed.ClOp.TheVariants.{CLw, CLd}
+use Rattle.rv_ops.specs.declared.compressed.CFloatOp.{CFloatOp}
+use Rattle.rv_ops.specs.declared.compressed.CFloatOp.TheVariants.{CFld, CFsd, CFldsp, CFsdsp}
 use Rattle.rv_ops.specs.declared.compressed.CsznOp.{CsznOp}
 use Rattle.rv_ops.specs.declared.compressed.CsznOp.TheVariants.{CNot, CZextb, CZexth, CZextw, CSextb, CSexth}
 use Rattle.rv_ops.specs.declared.compressed.ZcbMemOp.{ZcbMemOp}
@@ -160,6 +162,20 @@ cl_funct3 CLd = 0b011
 abbrev pub cl_space : ClOp → COpcodeSpace
 cl_space CLw = C0
 cl_space CLd = C0
+
+-- ---- loads and stores of floating-point registers
+
+abbrev pub c_float_funct3 : CFloatOp → ℕ
+c_float_funct3 CFld = 0b001
+c_float_funct3 CFsd = 0b101
+c_float_funct3 CFldsp = 0b001
+c_float_funct3 CFsdsp = 0b101
+
+abbrev pub c_float_space : CFloatOp → COpcodeSpace
+c_float_space CFld = C0
+c_float_space CFsd = C0
+c_float_space CFldsp = C2
+c_float_space CFsdsp = C2
 
 -- ---- Zcb, of one register
 

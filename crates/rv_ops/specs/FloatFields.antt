@@ -1,6 +1,6 @@
 -- What the words of all floating-point operations have (chapter "F", "Floating-Point Control and Status Register" and
 -- "Single-Precision Floating-Point Computational Instructions"): the format of the numbers and the rounding mode, with their names.
-use Rattle.std.specs.Prelude.{ℕ, ◌==◌, Bool, true, false, Option, Some, None, List, codes}
+use Rattle.std.specs.Prelude.{ℕ, ◌^◌, ◌==◌, Bool, true, false, Option, Some, None, List, codes}
 use Rattle.rv_base.specs.declared.ir_type.IrType.{IrType}
 use Rattle.rv_base.specs.declared.ir_type.IrType.TheVariants.{I8, I16, I32, I64, I128, F16, F32, F64, F128, Vector}
 use Rattle.rv_machine.specs.declared.ops.FloatFormat.{FloatFormat}
@@ -9,6 +9,10 @@ use Rattle.rv_ops.specs.declared.float_fields.FpuOPWidth.{FpuOPWidth}
 use Rattle.rv_ops.specs.declared.float_fields.FpuOPWidth.TheVariants.{H, S, D, Q}
 use Rattle.rv_ops.specs.declared.float_fields.FRM.{FRM}
 use Rattle.rv_ops.specs.declared.float_fields.FRM.TheVariants.{RNE, RTZ, RDN, RUP, RMM, Fcsr}
+use Rattle.rv_ops.specs.declared.float_fields.FClassResult.{FClassResult}
+use Rattle.rv_ops.specs.declared.float_fields.FClassResult.TheVariants.{NegInfinite, NegNormal, NegSubNormal, NegZero, PosZero, PosSubNormal, PosNormal, PosInfinite, SNaN, QNaN}
+use Rattle.rv_ops.specs.declared.float_fields.FFlagsException.{FFlagsException}
+use Rattle.rv_ops.specs.declared.float_fields.FFlagsException.TheVariants.{NV, DZ, OF, UF, NX}
 
 -- ---- the format
 
@@ -17,6 +21,13 @@ width_name H = codes "h"
 width_name S = codes "s"
 width_name D = codes "d"
 width_name Q = codes "q"
+
+-- in the names of moves of bits
+abbrev pub move_name : FpuOPWidth → List ℕ
+move_name H = codes "h"
+move_name S = codes "w"
+move_name D = codes "d"
+move_name Q = codes "q"
 
 -- fmt, bits 26 to 25
 abbrev pub width_bits : FpuOPWidth → ℕ
@@ -92,3 +103,26 @@ own_number (Own number) = Some number
 abbrev pub mode_of : Rounding → FRM → ℕ
 mode_of Mode frm = frm_bits frm
 mode_of (Own number) frm = 0
+
+-- ---- results
+
+-- what fclass finds, as the bit that it writes
+abbrev pub class_bit : FClassResult → ℕ
+class_bit NegInfinite = 2 ^ 0
+class_bit NegNormal = 2 ^ 1
+class_bit NegSubNormal = 2 ^ 2
+class_bit NegZero = 2 ^ 3
+class_bit PosZero = 2 ^ 4
+class_bit PosSubNormal = 2 ^ 5
+class_bit PosNormal = 2 ^ 6
+class_bit PosInfinite = 2 ^ 7
+class_bit SNaN = 2 ^ 8
+class_bit QNaN = 2 ^ 9
+
+-- the exceptions of fflags: invalid operation, divide by zero, overflow, underflow and inexact
+abbrev pub flag_bit : FFlagsException → ℕ
+flag_bit NV = 2 ^ 4
+flag_bit DZ = 2 ^ 3
+flag_bit OF = 2 ^ 2
+flag_bit UF = 2 ^ 1
+flag_bit NX = 2 ^ 0

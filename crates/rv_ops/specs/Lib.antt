@@ -5,3 +5,5 @@ pub mod Memory
 pub mod Operations
 pub mod FloatFields
 pub mod Fpu
+pub mod Csr
+pub mod Fli

@@ -358,6 +358,42 @@ impl ClOp {
     }
 }
 
+/// A load or a store of a doubleword of the floating-point registers: `c.fld`, `c.fsd`, and `c.fldsp` and `c.fsdsp` past the
+/// stack pointer.
+#[derive(Clone, Copy, Debug, PartialEq, Eq)]
+pub enum CFloatOp {
+    CFld,
+    CFsd,
+    CFldsp,
+    CFsdsp,
+}
+
+impl CFloatOp {
+    ghost use Rattle.std.specs.Prelude.{◌≡◌, ◌<◌, ◌^◌};
+    ghost use Rattle.rv_ops.specs.Compressed.{c_float_funct3, c_float_space};
+
+    /// Bits 15 to 13 of the halfword.
+    pub fn funct3(&self) -> u32
+        ensures value { result ≡ c_float_funct3 self.now }
+        ensures width { result < 2 ^ 3 }
+    {
+        match self {
+            CFloatOp::CFld | CFloatOp::CFldsp => 0b001,
+            CFloatOp::CFsd | CFloatOp::CFsdsp => 0b101,
+        }
+    }
+
+    /// Its quadrant.
+    pub fn op(&self) -> COpcodeSpace
+        ensures { result ≡ c_float_space self.now }
+    {
+        match self {
+            CFloatOp::CFld | CFloatOp::CFsd => COpcodeSpace::C0,
+            CFloatOp::CFldsp | CFloatOp::CFsdsp => COpcodeSpace::C2,
+        }
+    }
+}
+
 /// An operation of Zcb that has one register, from x8 to x15, as source and destination.
 #[derive(Clone, Copy, Debug, PartialEq, Eq)]
 pub enum CsznOp {

@@ -16,7 +16,7 @@ pub enum FpuOPWidth {
 
 impl FpuOPWidth {
     ghost use Rattle.std.specs.Prelude.{◌≡◌, ◌<◌, ◌^◌};
-    ghost use Rattle.rv_ops.specs.FloatFields.{width_name, width_bits, is_width};
+    ghost use Rattle.rv_ops.specs.FloatFields.{width_name, move_name, width_bits, is_width};
 
     /// Its name: `h`, `s`, `d` or `q`.
     pub fn to_static_str(self) -> &'static str
@@ -25,6 +25,18 @@ impl FpuOPWidth {
         match self {
             FpuOPWidth::H => "h",
             FpuOPWidth::S => "s",
+            FpuOPWidth::D => "d",
+            FpuOPWidth::Q => "q",
+        }
+    }
+
+    /// Its name in those of moves of bits, where `w` stands for 32 bits.
+    pub(crate) fn move_name(self) -> &'static str
+        ensures { result.now ≡ move_name self }
+    {
+        match self {
+            FpuOPWidth::H => "h",
+            FpuOPWidth::S => "w",
             FpuOPWidth::D => "d",
             FpuOPWidth::Q => "q",
         }
@@ -144,5 +156,93 @@ impl Default for FRM {
 
     fn default() -> FRM {
         FRM::Fcsr
+    }
+}
+
+/// What `fclass` finds: each result is one bit of it.
+#[derive(Clone, Copy, Debug, PartialEq, Eq)]
+pub enum FClassResult {
+    NegInfinite,
+    NegNormal,
+    NegSubNormal,
+    NegZero,
+    PosZero,
+    PosSubNormal,
+    PosNormal,
+    PosInfinite,
+    SNaN,
+    QNaN,
+}
+
+impl FClassResult {
+    ghost use Rattle.std.specs.Prelude.{◌≡◌, ◌+◌};
+    ghost use Rattle.rv_ops.specs.FloatFields.{class_bit};
+    ghost use Rattle.rv_ops.specs.declared.float_fields.FClassResult.TheVariants as class;
+
+    /// Its bit, in place.
+    pub fn bit(self) -> u32
+        ensures { result ≡ class_bit self }
+    {
+        match self {
+            FClassResult::NegInfinite => 1 << 0,
+            FClassResult::NegNormal => 1 << 1,
+            FClassResult::NegSubNormal => 1 << 2,
+            FClassResult::NegZero => 1 << 3,
+            FClassResult::PosZero => 1 << 4,
+            FClassResult::PosSubNormal => 1 << 5,
+            FClassResult::PosNormal => 1 << 6,
+            FClassResult::PosInfinite => 1 << 7,
+            FClassResult::SNaN => 1 << 8,
+            FClassResult::QNaN => 1 << 9,
+        }
+    }
+
+    /// The bits of what is no number.
+    pub fn is_nan_bits() -> u32
+        ensures { result ≡ class_bit class.SNaN + class_bit class.QNaN }
+    {
+        FClassResult::SNaN.bit() | FClassResult::QNaN.bit()
+    }
+
+    /// The bits of both zeros.
+    pub fn is_zero_bits() -> u32
+        ensures { result ≡ class_bit class.NegZero + class_bit class.PosZero }
+    {
+        FClassResult::NegZero.bit() | FClassResult::PosZero.bit()
+    }
+
+    /// The bits of both infinities.
+    pub fn is_infinite_bits() -> u32
+        ensures { result ≡ class_bit class.NegInfinite + class_bit class.PosInfinite }
+    {
+        FClassResult::PosInfinite.bit() | FClassResult::NegInfinite.bit()
+    }
+}
+
+/// The exceptions that `fflags` accrues, by the manual's mnemonic.
+#[derive(Clone, Copy, Debug, PartialEq, Eq)]
+pub enum FFlagsException {
+    NV,
+    DZ,
+    OF,
+    UF,
+    NX,
+}
+
+impl FFlagsException {
+    ghost use Rattle.std.specs.Prelude.{◌≡◌};
+    ghost use Rattle.rv_ops.specs.FloatFields.{flag_bit};
+
+    /// Its bit of `fflags`, in place.
+    pub fn mask(self) -> u32
+        ensures { result ≡ flag_bit self }
+    {
+        match self {
+            FFlagsException::NV => 1 << 4,
+            FFlagsException::DZ => 1 << 3,
+            FFlagsException::OF => 1 << 2,
+            FFlagsException::UF => 1 << 1,
+            FFlagsException::NX => 1 << 0,
+        }
     }
 }

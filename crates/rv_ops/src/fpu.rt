@@ -1,4 +1,4 @@
-//! Floating-point operations on registers: those of the manual's chapters "F", "D", "Zfh" and "Zfa". The fields are those of the
+//! Floating-point operations of two and of three source registers: those of the manual's chapters "F", "D", "Zfh" and "Zfa". The fields are those of the
 //! chapter "RV32/64G Instruction Set Listings" and of Zfa's own chapter.
 
 ghost use Rattle.std.specs.Prelude.{◌≡◌, ◌<◌, ◌^◌};
@@ -6,7 +6,7 @@ ghost use Rattle.rv_ops.specs.Fpu.{with_width};
 
 use crate::float_fields::{FRM, FpuOPWidth};
 use rv_base::{OutOfMemory, RegClass};
-use rv_machine::OP_FP;
+use rv_machine::{MADD, MSUB, NMADD, NMSUB, OP_FP};
 use std::alloc::Global;
 
 /// Bits 31 to 25 of a word of OP-FP.
@@ -15,7 +15,7 @@ use std::alloc::Global;
 /// 31     27 26 25
 /// | funct5 | fmt |
 /// ```
-fn with_width(funct5: u32, width: FpuOPWidth) -> u32
+pub(crate) fn with_width(funct5: u32, width: FpuOPWidth) -> u32
     requires { funct5 < 2 ^ 5 }
     ensures value { result ≡ with_width funct5 width }
     ensures width { result < 2 ^ 7 }
@@ -179,6 +179,66 @@ impl FpuOPRRR {
         match self {
             Self::Feq | Self::Flt | Self::Fle => RegClass::Int,
             _ => RegClass::Float,
+        }
+    }
+}
+
+/// A fused multiplication, by its mnemonic: the product of two source registers, to which the third is added or from which it
+/// is taken. Each rounds.
+#[derive(Clone, Copy, Debug, PartialEq, Eq)]
+pub enum FpuOPRRRR {
+    Fmadd,
+    Fmsub,
+    Fnmsub,
+    Fnmadd,
+}
+
+impl FpuOPRRRR {
+    ghost use Rattle.std.specs.Prelude.{◌≡◌, ◌<◌, ◌^◌, IfOk, string_bytes};
+    ghost use Rattle.rv_ops.specs.Fpu.{fpu_rrrr_opcode, fpu_rrrr_listed, fpu_rrrr_stem, name_with_width};
+
+    /// The mnemonic with its format, as `fmadd.s`.
+    pub fn op_name(self, alloc: Global, width: FpuOPWidth) -> Result<String, OutOfMemory>
+        ensures { IfOk result (λ name. string_bytes name ≡ name_with_width (fpu_rrrr_stem self) width) }
+    {
+        let stem = self.stem();
+        Ok(format!(in alloc; "{stem}.{width}")?)
+    }
+
+    /// The mnemonic without its format.
+    fn stem(self) -> &'static str
+        ensures { result.now ≡ fpu_rrrr_stem self }
+    {
+        match self {
+            Self::Fmadd => "fmadd",
+            Self::Fmsub => "fmsub",
+            Self::Fnmsub => "fnmsub",
+            Self::Fnmadd => "fnmadd",
+        }
+    }
+
+    /// The name in a listing, as `Fmadd`.
+    pub fn listed_name(self) -> &'static str
+        ensures { result.now ≡ fpu_rrrr_listed self }
+    {
+        match self {
+            Self::Fmadd => "Fmadd",
+            Self::Fmsub => "Fmsub",
+            Self::Fnmsub => "Fnmsub",
+            Self::Fnmadd => "Fnmadd",
+        }
+    }
+
+    /// Bits 6 to 0 of the word.
+    pub fn opcode(self) -> u32
+        ensures value { result ≡ fpu_rrrr_opcode self }
+        ensures width { result < 2 ^ 7 }
+    {
+        match self {
+            Self::Fmadd => MADD,
+            Self::Fmsub => MSUB,
+            Self::Fnmsub => NMSUB,
+            Self::Fnmadd => NMADD,
         }
     }
 }

@@ -1,0 +1,13 @@
+use Rattle.rv_encode.proofs.HalfwordsOfFloat.{fld_decodes, fld_without}
+use Rattle.rv_encode.proofs.compressed_float.encode_c_fld.Goals as goal
+
+pub returns-clause-decodes : goal.returns-clause-decodes
+returns-clause-decodes c =
+    λ flags zca zcd. rw (c.reg_to_compressed_gpr_num.ensures.value, c.reg_to_compressed_gpr_num-2.ensures.value) at
+    (fld_decodes flags c.cld_half.result c.reg_to_compressed_gpr_num.result c.reg_to_compressed_gpr_num-2.result c.args.imm.value zca zcd
+    (rw (c.bits.ensures.value, c.op.ensures, c.from.ensures, c.bits-2.ensures.value, c.funct3.ensures.value) at c.cld_half.ensures))
+
+pub returns-clause-without : goal.returns-clause-without
+returns-clause-without c =
+    λ flags off. fld_without flags c.cld_half.result c.reg_to_compressed_gpr_num.result c.reg_to_compressed_gpr_num-2.result _ off
+    (rw (c.bits.ensures.value, c.op.ensures, c.from.ensures, c.bits-2.ensures.value, c.funct3.ensures.value) at c.cld_half.ensures)
