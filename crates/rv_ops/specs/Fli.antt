@@ -1,6 +1,6 @@
 -- The constants of `fli` (chapter "Zfa", "Load-Immediate Instructions"): their bits in each format, which numbers are found as
 -- them, and their texts.
-use Rattle.std.specs.Prelude.{ℕ, suc, ◌%◌, ◌^◌, ◌==◌, if◌then◌else◌, Bool, false, Option, Some, None, List, [], ◌∷◌, codes}
+use Rattle.std.specs.Prelude.{ℕ, suc, ◌≡◌, ◌%◌, ◌^◌, ◌==◌, if◌then◌else◌, Bool, true, false, Option, Some, None, IsSomeAnd, List, [], ◌∷◌, slice_get, codes}
 use Rattle.rv_base.specs.declared.ir_type.IrType.{IrType}
 use Rattle.rv_base.specs.declared.ir_type.IrType.TheVariants.{I8, I16, I32, I64, I128, F16, F32, F64, F128, Vector}
 use Rattle.rv_base.specs.RegNames.{name_at}
@@ -82,6 +82,10 @@ fli_format (Vector v) = None
 -- the constant that a number's bits are in a format
 abbrev pub fli_row : Format → ℕ → Option ℕ
 fli_row f number = first_row f.width number 0 f.patterns
+
+-- whether the bits of a number are those of a format's constant
+abbrev pub HasRow : Format → ℕ → ℕ → Type 0
+HasRow f row number = IsSomeAnd (slice_get f.patterns row) (λ pattern. has_pattern f.width number pattern ≡ true)
 
 -- ---- texts
 

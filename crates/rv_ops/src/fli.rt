@@ -1,7 +1,7 @@
 //! The constants of `fli` (the manual's chapter "Zfa", "Load-Immediate Instructions"), by their bits in each format.
 
-ghost use Rattle.std.specs.Prelude.{◌≡◌, ◌<◌, Some, IfSome, IsSome, IsSomeAnd, option_map};
-ghost use Rattle.rv_ops.specs.Fli.{fli_format, fli_row, f16_patterns, f32_patterns, f64_patterns, first_row, fli_text};
+ghost use Rattle.std.specs.Prelude.{◌≡◌, ◌<◌, ℕ, Some, None, IfSome, IsSome, IsSomeAnd, option_map};
+ghost use Rattle.rv_ops.specs.Fli.{fli_format, fli_row, HasRow, f16_patterns, f32_patterns, f64_patterns, first_row, fli_text};
 
 use rv_base::IrType;
 use std::fmt;
@@ -25,14 +25,11 @@ impl FliConstant {
     /// The constant whose bits the number's are in a format of 16, 32 or 64 bits, where there is one.
     pub fn maybe_from_u64(ty: IrType, imm: u64) -> Option<FliConstant>
         requires { IsSome (fli_format ty) }
-        ensures { IsSomeAnd (fli_format ty) (λ format. option_map (λ constant. constant.value) result ≡ fli_row format imm) }
+        ensures first { IsSomeAnd (fli_format ty) (λ format. option_map (λ constant. constant.value) result ≡ fli_row format imm) }
+        ensures found { IfSome result (λ constant. IsSomeAnd (fli_format ty) (λ format. HasRow format constant.value imm)) }
+        ensures none { result ≡ None → (row : ℕ) → IsSomeAnd (fli_format ty) (λ format. ¬ (HasRow format row imm)) }
     {
-        let row = match ty {
-            IrType::F16 => f16_row(imm),
-            IrType::F32 => f32_row(imm),
-            _ => f64_row(imm),
-        };
-        match row {
+        match row_of(ty, imm) {
             Some(value) => Some(FliConstant { value }),
             None => None,
         }
@@ -92,6 +89,19 @@ impl fmt::Display for FliConstant {
 
     fn fmt<W: fmt::Write>(&self, f: &mut fmt::Formatter<W>) -> fmt::Result {
         f.write_str(self.format())
+    }
+}
+
+/// The number of the constant, in the format of a type.
+fn row_of(ty: IrType, imm: u64) -> Option<u8>
+    requires { IsSome (fli_format ty) }
+    ensures row { IsSomeAnd (fli_format ty) (λ format. result ≡ fli_row format imm) }
+    ensures small { IfSome result (λ row. row < 32) }
+{
+    match ty {
+        IrType::F16 => f16_row(imm),
+        IrType::F32 => f32_row(imm),
+        _ => f64_row(imm),
     }
 }
 
