@@ -3,6 +3,7 @@
 
 mod accesses;
 mod calls;
+mod floats;
 mod headers;
 mod numbers;
 mod questions;

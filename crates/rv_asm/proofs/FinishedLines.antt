@@ -19,16 +19,19 @@ use Rattle.rv_emit.specs.Emitted.{Buffer}
 use Rattle.rv_code.specs.InstParts.{parts_of}
 use Rattle.rv_code.specs.Sites.{Site, GapIn}
 use Rattle.rv_emit.specs.Standing.{IsFinishedTo}
-use Rattle.rv_emit.proofs.Laws.{parts_are_self_contained, gap_stands, parts_stand, has_operation}
+use Rattle.rv_emit.proofs.Laws.{parts_are_self_contained, gap_stands, parts_stand, has_operation, reads_operation}
 use Rattle.rv_asm.specs.Reported.{start_of, end_of, end_before, returns_from}
 use Rattle.rv_asm.specs.Refusal.{is_unfit}
+use Rattle.rv_asm.specs.FullSimulation.{FullRuns}
 use Rattle.rv_asm.specs.Simulation.{RunsAsListed, HasOperations}
 use Rattle.rv_asm.specs.LinesInBuffer.{StandsAfter, LinesStand}
 use Rattle.rv_asm.specs.Placed.{Addresses, IsPlaced}
 use Rattle.rv_asm.proofs.ExitPoints.{AllBound}
 use Rattle.rv_asm.proofs.Images.{placed_at, keeps_outside, is_filled, fields_within, reloc_ends, trap_reported}
 use Rattle.rv_asm.proofs.Finish.{bound_place}
-use Rattle.rv_asm.proofs.LinesJoin.{Known, site_of, LineIn, line_at, threaded_runs}
+use Rattle.rv_asm.proofs.LinesJoin.{Known, site_of, LineIn, IsThreaded, line_at, threaded_runs}
+use Rattle.rv_asm.proofs.FullRuns.{full_runs}
+use Rattle.rv_asm.proofs.UnitLines.{unit_lines}
 
 module _ (job : Job) (code : Code) (b : Buffer) (built : LinesStand (context_of job) job.lines code.lines b) (f : IsFinishedTo (shape_of b) code.bytes) (constants : code.constants ≡ f.finishes.put.constants) (relocs : code.relocs ≡ relocs_in (records_of b)) (traps : code.traps ≡ traps_in (records_of b)) (ruled : (i : ℕ) (line : Line) → slice_get job.lines i ≡ Some line → broken_rule (context_of job) line ≡ None) where
   abbrev known : Known
@@ -70,13 +73,16 @@ module _ (job : Job) (code : Code) (b : Buffer) (built : LinesStand (context_of 
   -- the operation of a line of one machine word is read at its start
   pub built_operations : HasOperations job code
   built_operations = record {
-    each = λ i inst d base symbols slots mem listed one placed.
+    each = λ i inst d base symbols slots mem listed core one placed.
         let line = (each_in base symbols slots mem placed i (Put inst) listed).0 in
-        has_operation (site_of job code known base symbols slots mem) (start_of code.lines i) d line.setting inst (end_of code.lines i) one line.stands mem (placed_at code base symbols slots mem (context_of job) f.finishes.put.place (records_of b) placed);
+        has_operation (site_of job code known base symbols slots mem) (start_of code.lines i) d line.setting inst (end_of code.lines i) core one line.stands mem (placed_at code base symbols slots mem (context_of job) f.finishes.put.place (records_of b) placed);
+    all = λ i inst d base symbols slots mem listed one placed.
+        let line = (each_in base symbols slots mem placed i (Put inst) listed).0 in
+        reads_operation (site_of job code known base symbols slots mem) (start_of code.lines i) d line.setting inst (end_of code.lines i) one line.stands mem (placed_at code base symbols slots mem (context_of job) f.finishes.put.place (records_of b) placed);
   }
 
-  pub built_runs : length code.bytes < code_limit → code.end ≡ length (bytes_of b) → code.returns ≡ returns_from job.flags code.lines 0 job.lines → ((i : ℕ) (line : Line) → slice_get job.lines i ≡ Some line → is_unfit job.frame line ≡ false) → ((i : ℕ) (line : Line) → slice_get job.lines i ≡ Some line → AllBound job.lines (named_labels line)) → RunsAsListed job code
-  built_runs short end returns fit named = threaded_runs job code known (record {
+  built_threaded : length code.bytes < code_limit → code.end ≡ length (bytes_of b) → code.returns ≡ returns_from job.flags code.lines 0 job.lines → ((i : ℕ) (line : Line) → slice_get job.lines i ≡ Some line → is_unfit job.frame line ≡ false) → ((i : ℕ) (line : Line) → slice_get job.lines i ≡ Some line → AllBound job.lines (named_labels line)) → IsThreaded job code known
+  built_threaded short end returns fit named = record {
     line = λ base symbols slots mem placed i line e. (each_in base symbols slots mem placed i line e).0;
     ruled = ruled;
     fit = fit;
@@ -93,4 +99,12 @@ module _ (job : Job) (code : Code) (b : Buffer) (built : LinesStand (context_of 
         let long = f.finishes.same_length in
         omega (arith, inside, long);
     fields = reloc_ends (length code.bytes) code.relocs (records_of b) relocs (fields_within (shape_of b) code.bytes f built.fields);
-  })
+  }
+
+  pub built_runs : length code.bytes < code_limit → code.end ≡ length (bytes_of b) → code.returns ≡ returns_from job.flags code.lines 0 job.lines → ((i : ℕ) (line : Line) → slice_get job.lines i ≡ Some line → is_unfit job.frame line ≡ false) → ((i : ℕ) (line : Line) → slice_get job.lines i ≡ Some line → AllBound job.lines (named_labels line)) → RunsAsListed job code
+  built_runs short end returns fit named = threaded_runs job code known (built_threaded short end returns fit named)
+
+  pub built_full_runs : length code.bytes < code_limit → code.end ≡ length (bytes_of b) → code.returns ≡ returns_from job.flags code.lines 0 job.lines → ((i : ℕ) (line : Line) → slice_get job.lines i ≡ Some line → is_unfit job.frame line ≡ false) → ((i : ℕ) (line : Line) → slice_get job.lines i ≡ Some line → AllBound job.lines (named_labels line)) → FullRuns job code
+  built_full_runs short end returns fit named =
+      let threaded = built_threaded short end returns fit named in
+      full_runs job code (threaded_runs job code known threaded) (unit_lines job code known threaded) named

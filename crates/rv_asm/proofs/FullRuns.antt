@@ -5,10 +5,10 @@ use Rattle.std.specs.Prelude.{slice_get, slice_index, nat_lt, if◌then◌else�
 use Rattle.std.proofs.lemmas.Bool.{ltb-true, ltb-false}
 use Rattle.std.proofs.lemmas.Option.{slice_get_within}
 use Rattle.rv_inst.specs.Calls.{Return, return_of}
-use Rattle.rv_inst.specs.Context.{context_of}
+use Rattle.rv_inst.specs.Core.{is_integer_family, is_integer, is_integer_line}
 use Rattle.rv_inst.specs.declared.code.Code.{Code}
 use Rattle.rv_inst.specs.declared.inst.Family.{Family}
-use Rattle.rv_inst.specs.declared.inst.Family.TheVariants.{Pseudo, Integer, Memory, Control, Loop, Symbols, Calls}
+use Rattle.rv_inst.specs.declared.inst.Family.TheVariants.{Pseudo, Integer, Memory, Control, Loop, Symbols, Calls, Float}
 use Rattle.rv_inst.specs.declared.inst.Inst.{Inst}
 use Rattle.rv_inst.specs.declared.inst.Line.{Line}
 use Rattle.rv_inst.specs.declared.inst.Line.TheVariants.{Inst as Put, Bind}
@@ -24,27 +24,26 @@ use Rattle.rv_full.proofs.Runs.{fiter_none, fiter_after}
 use Rattle.rv_asm.specs.FullMeaning.{FullMeaning, of_integers, meaning_by, meaning_of}
 use Rattle.rv_asm.specs.FullSimulation.{Placing, StandsAt, LineAt, OneFullLine, OneMore, Lines, Reached, Stops, IsOn, Overwrites, IsExit, ComesThere, WantsAnswer, WritesOnCode, RunsOn, IsEntry, FullRuns, environment_at, meaning_at}
 use Rattle.rv_asm.specs.Placed.{Addresses}
-use Rattle.rv_asm.specs.Refusal.{refusal}
 use Rattle.rv_asm.specs.Simulation.{Point, At, Returned, Out, End, Stop, Trapped, InData, Entry, AtStart, AtReturn, IsBack, Leads, next_point, environment_of, exit_from, effect_from, Comes, RunsAsListed}
 use Rattle.rv_asm.proofs.ExitPoints.{AllBound, ExitBound, exit_bound, return_bound, bind_at}
 use Rattle.rv_asm.proofs.LinesJoin.{line_at}
-use Rattle.rv_asm.proofs.RefusalOrder.{accepted_lines, parts}
-use Rattle.rv_asm.proofs.RulesOfLines.{names_bound}
+use Rattle.rv_asm.proofs.OneComes.{CameOut, OneComes}
 
 -- ---- lines of integers
 
-family_is_of_integers : (family : Family) (entry : Entry) (inst : Inst) → meaning_by family entry inst ≡ of_integers entry (Put inst)
-family_is_of_integers Pseudo entry inst = refl
-family_is_of_integers Integer entry inst = refl
-family_is_of_integers Memory entry inst = refl
-family_is_of_integers Control entry inst = refl
-family_is_of_integers Loop entry inst = refl
-family_is_of_integers Symbols entry inst = refl
-family_is_of_integers Calls entry inst = refl
+family_is_of_integers : (family : Family) (entry : Entry) (inst : Inst) → is_integer_family family ≡ true → meaning_by family entry inst ≡ of_integers entry (Put inst)
+family_is_of_integers Pseudo entry inst core = refl
+family_is_of_integers Integer entry inst core = refl
+family_is_of_integers Memory entry inst core = refl
+family_is_of_integers Control entry inst core = refl
+family_is_of_integers Loop entry inst core = refl
+family_is_of_integers Symbols entry inst core = refl
+family_is_of_integers Calls entry inst core = refl
+family_is_of_integers Float entry inst core = absurd (cc)
 
-is_of_integers : (entry : Entry) (line : Line) → meaning_of entry line ≡ of_integers entry line
-is_of_integers entry (Put inst) = family_is_of_integers (family_of inst) entry inst
-is_of_integers entry (Bind label) = refl
+is_of_integers : (entry : Entry) (line : Line) → is_integer_line line ≡ true → meaning_of entry line ≡ of_integers entry line
+is_of_integers entry (Put inst) core = family_is_of_integers (family_of inst) entry inst core
+is_of_integers entry (Bind label) core = refl
 
 -- ---- addresses are outside, or one of them isn't
 
@@ -95,23 +94,6 @@ exit_is_bound lines env AtReturn (Bind label) v bound = tt
 
 -- ---- one line
 
--- the machine has come where one line leads
-record CameOut (x : Placing) (p : Point) (v : FullValues) (b : FullState) : Type 0 where
-  steps : ℕ
-  state : FullState
-  ran : fiter x.job.flags steps b ≡ Some state
-  point : Point
-  values : FullValues
-  took : List Answer
-  line : OneFullLine x p v took point values
-  moved : IsBack line.there.index point → 1 ≤ steps
-  answers : b.answers ≡ took ++ state.answers
-  stands : StandsAt x point values state
-
--- what comes of the line at a point: it comes out, or stops for want of an answer, or it writes on the code
-abbrev OneComes : Placing → Point → FullValues → FullState → Type 0
-OneComes x p v b = CameOut x p v b ⊎ (Stops x p b ⊎ Overwrites x p v b)
-
 -- what comes on the integer machine comes on this one, with all units as they were
 integers_come : (x : Placing) (p : Point) (v : FullValues) (b : FullState) → StandsAt x p v b → Comes x.job x.code x.base x.symbols x.slots p v.ints b.state → CameOut x p v b
 integers_come x p v b s c =
@@ -128,7 +110,7 @@ integers_come x p v b s c =
       line = record {
         there = record { index = l.index; line = l.line; entry = l.entry; at = l.at; listed = l.listed };
         made = made;
-        takes = ap (λ (m : FullMeaning). m.takes env v (m.own_of [])) (is_of_integers l.entry l.line);
+        takes = ap (λ (m : FullMeaning). m.takes env v (m.own_of [])) (is_of_integers l.entry l.line l.core);
         effect = record { ints = l.effect; units = refl };
         leads = l.leads;
       };
@@ -145,29 +127,38 @@ integers_come x p v b s c =
       };
     }
 
-module _ (job : Job) (code : Code) (runs : RunsAsListed job code) (named : (i : ℕ) (line : Line) → slice_get job.lines i ≡ Some line → AllBound job.lines (named_labels line)) (base : ℕ) (symbols slots : Addresses) where
+-- lines that are not of the integer core come out, stop, or write on the code
+abbrev pub UnitLines : Job → Code → Type 0
+UnitLines job code = (base : ℕ) (symbols slots : Addresses) (i : ℕ) (inst : Inst) (v : FullValues) (b : FullState) → slice_get job.lines i ≡ Some (Put inst) → is_integer inst ≡ false → StandsAt (record { job = job; code = code; base = base; symbols = symbols; slots = slots }) (At i) v b → OneComes (record { job = job; code = code; base = base; symbols = symbols; slots = slots }) (At i) v b
+
+module _ (job : Job) (code : Code) (runs : RunsAsListed job code) (units : UnitLines job code) (named : (i : ℕ) (line : Line) → slice_get job.lines i ≡ Some line → AllBound job.lines (named_labels line)) (base : ℕ) (symbols slots : Addresses) where
   abbrev placing : Placing
   placing = record { job = job; code = code; base = base; symbols = symbols; slots = slots }
 
   abbrev env : ℕ → Environment
   env i = environment_of job code base symbols slots i
 
-  from_start : (i : ℕ) (line : Line) (v : FullValues) (b : FullState) → slice_get job.lines i ≡ Some line → StandsAt placing (At i) v b → OneComes placing (At i) v b
-  from_start i line v b listed s = by (outside_or_on base (length code.bytes) (writes_of (env i) line v.ints))
+  integer_start : (i : ℕ) (line : Line) (v : FullValues) (b : FullState) → is_integer_line line ≡ true → slice_get job.lines i ≡ Some line → StandsAt placing (At i) v b → OneComes placing (At i) v b
+  integer_start i line v b core listed s = by (outside_or_on base (length code.bytes) (writes_of (env i) line v.ints))
     where
       by : AreOutside base (length code.bytes) (writes_of (env i) line v.ints) ⊎ IsOn base (length code.bytes) (writes_of (env i) line v.ints) → OneComes placing (At i) v b
-      by (inl outside) = inl (integers_come placing (At i) v b s (runs.from base symbols slots i line b.state v.ints listed outside s.placed s.is_state.state s.are_values s.pc s.same.ints))
+      by (inl outside) = inl (integers_come placing (At i) v b s (runs.from base symbols slots i line b.state v.ints listed core outside s.placed s.is_state.state s.are_values s.pc s.same.ints))
       by (inr on) = inr (inr (record {
         there = record { index = i; line = line; entry = AtStart; at = refl; listed = listed };
         took = [];
         left = b.answers;
         answers = refl;
-        on = subst (λ (m : FullMeaning). IsOn base (length code.bytes) (m.writes (env i) v (m.own_of []))) (sym (is_of_integers AtStart line)) on;
+        on = subst (λ (m : FullMeaning). IsOn base (length code.bytes) (m.writes (env i) v (m.own_of []))) (sym (is_of_integers AtStart line core)) on;
       }))
+
+  from_start : (i : ℕ) (line : Line) (core : Bool) (v : FullValues) (b : FullState) → is_integer_line line ≡ core → slice_get job.lines i ≡ Some line → StandsAt placing (At i) v b → OneComes placing (At i) v b
+  from_start i line true v b is listed s = integer_start i line v b is listed s
+  from_start i (Put inst) false v b is listed s = units base symbols slots i inst v b listed is s
+  from_start i (Bind label) false v b is listed s = absurd (cc)
 
   -- at each point, one line; or the listing's run ends there
   one_line : (p : Point) (v : FullValues) (b : FullState) → IsThere job p → StandsAt placing p v b → IsExit p ⊎ OneComes placing p v b
-  one_line (At i) v b there s = inr (from_start i there.0 v b there.1 s)
+  one_line (At i) v b there s = inr (from_start i there.0 (is_integer_line there.0) v b refl there.1 s)
   one_line (Returned i) v b there s = inr (inl (integers_come placing (Returned i) v b s (runs.back base symbols slots i there.0 there.1 b.state v.ints there.2 there.3 s.placed s.is_state.state s.are_values s.pc s.same.ints)))
   one_line (Out a) v b there s = inl tt
   one_line End v b there s = inl tt
@@ -234,11 +225,7 @@ entry_there job (Stop i) entry = tt
 entry_there job (Trapped i at) entry = tt
 entry_there job (InData i) entry = tt
 
-full_runs : (job : Job) (code : Code) → RunsAsListed job code → ((i : ℕ) (line : Line) → slice_get job.lines i ≡ Some line → AllBound job.lines (named_labels line)) → FullRuns job code
-full_runs job code runs named = record {
-  from = λ base symbols slots p v b k entry stands. runs_on job code runs named base symbols slots k p v b (entry_there job p entry) stands;
+pub full_runs : (job : Job) (code : Code) → RunsAsListed job code → UnitLines job code → ((i : ℕ) (line : Line) → slice_get job.lines i ≡ Some line → AllBound job.lines (named_labels line)) → FullRuns job code
+full_runs job code runs units named = record {
+  from = λ base symbols slots p v b k entry stands. runs_on job code runs units named base symbols slots k p v b (entry_there job p entry) stands;
 }
-
--- of a job that is not refused
-pub accepted_full_runs : (job : Job) (code : Code) → refusal job ≡ None → RunsAsListed job code → FullRuns job code
-accepted_full_runs job code accepted runs = full_runs job code runs (names_bound job.lines job.lines (parts (context_of job) job.lines (accepted_lines job accepted)).unbound)

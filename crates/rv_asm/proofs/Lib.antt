@@ -37,3 +37,5 @@ pub mod RegisterNumbers
 pub mod Laws
 mod IslandEnds
 mod FullRuns
+mod OneComes
+mod UnitLines

@@ -39,8 +39,8 @@ of_entry job code base symbols slots i j line other v q w AtStart here listed th
 of_entry job code base symbols slots i j line other v q w AtReturn here listed there leads made = absurd (cc)
 
 pub lines_run : LinesRun
-lines_run job code base symbols slots i line s runs listed outside at =
-    let c = runs.from base symbols slots i line s s.values listed outside at.placed at.state at.state.values at.pc (same_itself s.values) in
+lines_run job code base symbols slots i line s runs listed core outside at =
+    let c = runs.from base symbols slots i line s s.values listed core outside at.placed at.state at.state.values at.pc (same_itself s.values) in
     let one = c.line in
     let known = of_entry job code base symbols slots i one.index line one.line s.values c.point c.values one.entry one.at listed one.listed one.leads one.effect in
     record {

@@ -8,10 +8,13 @@ use Rattle.rv_base.specs.declared.trap.TrapCode.{TrapCode}
 use Rattle.rv_machine.specs.State.{Memory, State, IsState, Values, AreValues, wrap}
 use Rattle.rv_machine.specs.Steps.{iter}
 use Rattle.rv_inst.specs.Calls.{Return, return_of}
+use Rattle.rv_base.specs.declared.flags.IsaFlags.{IsaFlags}
 use Rattle.rv_inst.specs.Context.{context_of}
+use Rattle.rv_inst.specs.Core.{is_integer, is_integer_line}
 use Rattle.rv_inst.specs.declared.inst.Line.{Line}
 use Rattle.rv_inst.specs.declared.inst.Line.TheVariants.{Inst as Put, Bind}
 use Rattle.rv_inst.specs.declared.inst.Inst.{Inst}
+use Rattle.rv_inst.specs.declared.inst.Inst.TheVariants.{FpuRRR}
 use Rattle.rv_inst.specs.declared.job.Job.{Job}
 use Rattle.rv_inst.specs.declared.code.Code.{Code}
 use Rattle.rv_inst.specs.Meaning.{Exit, Next, To, Leave, Break, Trap, Data, exit_of, effect_of, writes_of, temporaries_of, resumed, resumed_by, AreOutside, return_exit}
@@ -87,9 +90,9 @@ pub record IsThreaded (job : Job) (code : Code) (known : Known) : Type 0 where
 
 -- ---- one line
 
--- a line of the code runs as it means
-line_comes : (site : Site) (line : Line) (start after : ℕ) (s : State) (v : Values) → length site.bytes < code_limit → ((label at : ℕ) → site.place label ≡ Some at → at ≤ length site.bytes) → LineIn site line start after → broken_rule site.context line ≡ None → is_unfit site.context.frame line ≡ false → AreOutside site.base (length site.bytes) (writes_of (environment site start after) line v) → IsPlacedAt site s.values.mem → s.pc ≡ wrap (site.base + start) → IsState s → AreValues v → Same v s.values → ComesOut site start after (exit_of (environment site start after) line v) (temporaries_of line) (effect_of (environment site start after) line v) s
-line_comes site (Put inst) start after s v short labels h rule fit outside placed pc is_state are_values same = (inst_runs site h.setting inst rule fit).run start after s v (record {
+-- a line of the integer core runs as it means
+line_comes : (site : Site) (line : Line) (start after : ℕ) (s : State) (v : Values) → is_integer_line line ≡ true → length site.bytes < code_limit → ((label at : ℕ) → site.place label ≡ Some at → at ≤ length site.bytes) → LineIn site line start after → broken_rule site.context line ≡ None → is_unfit site.context.frame line ≡ false → AreOutside site.base (length site.bytes) (writes_of (environment site start after) line v) → IsPlacedAt site s.values.mem → s.pc ≡ wrap (site.base + start) → IsState s → AreValues v → Same v s.values → ComesOut site start after (exit_of (environment site start after) line v) (temporaries_of line) (effect_of (environment site start after) line v) s
+line_comes site (Put inst) start after s v core short labels h rule fit outside placed pc is_state are_values same = (inst_runs site h.setting inst core rule fit).run start after s v (record {
   even = h.even;
   within = h.within;
   short = short;
@@ -101,7 +104,7 @@ line_comes site (Put inst) start after s v short labels h rule fit outside place
   are_values = are_values;
   same = same;
 }) outside
-line_comes site (Bind label) start after s v short labels h rule fit outside placed pc is_state are_values same = record {
+line_comes site (Bind label) start after s v core short labels h rule fit outside placed pc is_state are_values same = record {
   steps = 0;
   state = s;
   moved = lit≤ tt;
@@ -116,16 +119,16 @@ line_comes site (Bind label) start after s v short labels h rule fit outside pla
 -- ---- where it leads
 
 -- from line i the machine has come to a point, with values that are these but for some registers, and the code still stands
-record Reached (job : Job) (code : Code) (site : Site) (base i : ℕ) (p : Point) (free : List ℕ) (v : Values) (s : State) : Type 0 where
-  steps : ℕ
-  state : State
-  ran : iter job.flags steps s ≡ Some state
-  moved : IsBack i p → 1 ≤ steps
-  stands : state.pc ≡ address_of code base p
-  stopped : IsStopped job.flags p state
-  same : SameBut free v state.values
-  is_state : IsState state
-  placed : IsPlacedAt site state.values.mem
+pub record Reached (job : Job) (code : Code) (site : Site) (base i : ℕ) (p : Point) (free : List ℕ) (v : Values) (s : State) : Type 0 where
+  pub steps : ℕ
+  pub state : State
+  pub ran : iter job.flags steps s ≡ Some state
+  pub moved : IsBack i p → 1 ≤ steps
+  pub stands : state.pc ≡ address_of code base p
+  pub stopped : IsStopped job.flags p state
+  pub same : SameBut free v state.values
+  pub is_state : IsState state
+  pub placed : IsPlacedAt site state.values.mem
 
 module _ (job : Job) (code : Code) (known : Known) (t : IsThreaded job code known) (base : ℕ) (symbols slots : Addresses) (mem : Memory) (stood : IsPlaced code base symbols slots mem) (i : ℕ) (lt : i < length job.lines) (free : List ℕ) (v : Values) (s : State) where
   abbrev site : Site
@@ -159,12 +162,12 @@ module _ (job : Job) (code : Code) (known : Known) (t : IsThreaded job code know
       there Next e End (λ back. absurd back) (e.arrives ∙ ap (λ n. wrap (base + n)) (sym (t.last i (omega arith)))) tt
 
   -- where the exit leads, and that the machine has come there
-  record Ends (x : Exit) : Type 0 where
-    point : Point
-    leads : Leads job.lines code i x point
-    reached : Reached job code site base i point free v s
+  pub record Ends (x : Exit) : Type 0 where
+    pub point : Point
+    pub leads : Leads job.lines code i x point
+    pub reached : Reached job code site base i point free v s
 
-  reaches : (x : Exit) → ExitBound job.lines x → CameOut x → Ends x
+  pub reaches : (x : Exit) → ExitBound job.lines x → CameOut x → Ends x
   reaches Next bound e = record { point = next_point job.lines i; leads = refl; reached = goes_on e (nat_lt (suc i) (length job.lines)) refl }
   reaches (To label) bound e = record {
     point = At (binding_line job.lines label);
@@ -195,8 +198,8 @@ agrees job code known t base symbols slots mem i line e = record {
   slots_same = λ number. refl;
 }
 
-comes : (job : Job) (code : Code) (known : Known) → IsThreaded job code known → (base : ℕ) (symbols slots : Addresses) (i : ℕ) (line : Line) (s : State) (v : Values) → i < length job.lines → slice_get job.lines i ≡ Some line → WritesOutside job code base symbols slots i line v → IsPlaced code base symbols slots s.values.mem → IsState s → AreValues v → s.pc ≡ address_of code base (At i) → Same v s.values → Comes job code base symbols slots (At i) v s
-comes job code known t base symbols slots i line s v lt e outside placed is_state are_values pc same =
+comes : (job : Job) (code : Code) (known : Known) → IsThreaded job code known → (base : ℕ) (symbols slots : Addresses) (i : ℕ) (line : Line) (s : State) (v : Values) → i < length job.lines → slice_get job.lines i ≡ Some line → is_integer_line line ≡ true → WritesOutside job code base symbols slots i line v → IsPlaced code base symbols slots s.values.mem → IsState s → AreValues v → s.pc ≡ address_of code base (At i) → Same v s.values → Comes job code base symbols slots (At i) v s
+comes job code known t base symbols slots i line s v lt e core outside placed is_state are_values pc same =
     let mem = s.values.mem in
     let site = site_of job code known base symbols slots mem in
     let env = environment_of job code base symbols slots i in
@@ -207,7 +210,7 @@ comes job code known t base symbols slots i line s v lt e outside placed is_stat
     let clear = subst (λ n. AreOutside base n (writes_of (environment site start end) line v)) (sym long) (subst (AreOutside base (length code.bytes)) (sym (writes_agree line v a)) outside) in
     let short : length site.bytes < code_limit = subst (λ n. n < code_limit) (sym long) t.short in
     let within : (label at : ℕ) → site.place label ≡ Some at → at ≤ length site.bytes = λ label at h. subst (λ n. at ≤ n) (sym long) (t.placed label at h) in
-    let out = line_comes site line start end s v short within (t.line base symbols slots mem placed i line e) (t.ruled i line e) (t.fit i line e) clear (placed_at code base symbols slots mem (context_of job) known.place known.records placed) pc is_state are_values same in
+    let out = line_comes site line start end s v core short within (t.line base symbols slots mem placed i line e) (t.ruled i line e) (t.fit i line e) clear (placed_at code base symbols slots mem (context_of job) known.place known.records placed) pc is_state are_values same in
     let led = subst (λ x. ComesOut site start end x (temporaries_of line) (effect_of (environment site start end) line v) s) (exit_agrees line v a) out in
     let came = subst (λ w. ComesOut site start end (exit_of env line v) (temporaries_of line) w s) (effect_agrees line v a) led in
     let ends = reaches job code known t base symbols slots mem placed i lt (temporaries_of line) (effect_of env line v) s (exit_of env line v) (exit_bound job.lines env line v (t.named i line e)) came in
@@ -217,7 +220,7 @@ comes job code known t base symbols slots i line s v lt e outside placed is_stat
       point = ends.point;
       values = r.state.values;
       state = r.state;
-      line = record { index = i; line = line; entry = AtStart; at = refl; listed = e; leads = ends.leads; effect = r.same };
+      line = record { index = i; line = line; entry = AtStart; at = refl; listed = e; core = core; leads = ends.leads; effect = r.same };
       ran = r.ran;
       moved = r.moved;
       stands = r.stands;
@@ -227,6 +230,11 @@ comes job code known t base symbols slots i line s v lt e outside placed is_stat
       are_values = r.is_state.values;
       placed = placed_again code base symbols slots mem (context_of job) known.place known.records r.state.values.mem r.placed t.fields placed;
     }
+
+-- what returns is of the integer core
+returns_integer : (flags : IsaFlags) (inst : Inst) (r : Return) → return_of flags inst ≡ Some r → is_integer inst ≡ true
+returns_integer flags (FpuRRR op width frm rd rs1 rs2) r e = absurd (cc)
+returns_integer flags inst r e = refl
 
 -- from where the call of a line returns it goes on to the next line
 resumes : (job : Job) (code : Code) (known : Known) → IsThreaded job code known → (base : ℕ) (symbols slots : Addresses) (i : ℕ) (inst : Inst) (r : Return) (s : State) (v : Values) → slice_get job.lines i ≡ Some (Put inst) → return_of job.flags inst ≡ Some r → IsPlaced code base symbols slots s.values.mem → IsState s → AreValues v → s.pc ≡ address_of code base (Returned i) → Same v s.values → Comes job code base symbols slots (Returned i) v s
@@ -254,7 +262,7 @@ resumes job code known t base symbols slots i inst r s v e returned placed is_st
       point = ends.point;
       values = reached.state.values;
       state = reached.state;
-      line = record { index = i; line = Put inst; entry = AtReturn; at = refl; listed = e; leads = ends.leads; effect = subst (λ w. SameBut [] w reached.state.values) (sym (ap (λ o. resumed_by o v) returned)) reached.same };
+      line = record { index = i; line = Put inst; entry = AtReturn; at = refl; listed = e; core = returns_integer job.flags inst r returned; leads = ends.leads; effect = subst (λ w. SameBut [] w reached.state.values) (sym (ap (λ o. resumed_by o v) returned)) reached.same };
       ran = reached.ran;
       moved = reached.moved;
       stands = reached.stands;
@@ -273,7 +281,7 @@ line_at (l ∷ lines) (suc i) lt = line_at lines i (omega arith)
 
 pub threaded_runs : (job : Job) (code : Code) (known : Known) → IsThreaded job code known → RunsAsListed job code
 threaded_runs job code known t = record {
-  from = λ base symbols slots i line s v e outside placed is_state are_values pc same.
-      comes job code known t base symbols slots i line s v (slice_get_within job.lines i line e) e outside placed is_state are_values pc same;
+  from = λ base symbols slots i line s v e core outside placed is_state are_values pc same.
+      comes job code known t base symbols slots i line s v (slice_get_within job.lines i line e) e core outside placed is_state are_values pc same;
   back = λ base symbols slots i inst r s v e returned placed is_state are_values pc same. resumes job code known t base symbols slots i inst r s v e returned placed is_state are_values pc same;
 }

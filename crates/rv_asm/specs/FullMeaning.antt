@@ -1,37 +1,32 @@
 -- What a line means on the machine with all units: what it makes of the values with the units' answers. Each family of instructions is
--- a case: those of today are of integers, take no answer, and leave the units as they were.
-use Rattle.std.specs.Prelude.{◌≡◌, ℕ, ◌&&◌, Bool, true, List, [], ◌∷◌, Option, Some}
+-- a case: those of integers take no answer, and leave the units as they were; a float operation does what its row does.
+use Rattle.std.specs.Prelude.{ℕ, ◌&&◌, Bool, true, List, [], ◌∷◌, Option, Some, None}
+use Rattle.rv_inst.specs.Context.{context_by}
+use Rattle.rv_inst.specs.Core.{is_integer_line}
 use Rattle.rv_inst.specs.declared.inst.Family.{Family}
-use Rattle.rv_inst.specs.declared.inst.Family.TheVariants.{Pseudo, Integer, Memory, Control, Loop, Symbols, Calls}
+use Rattle.rv_inst.specs.declared.inst.Family.TheVariants.{Pseudo, Integer, Memory, Control, Loop, Symbols, Calls, Float}
 use Rattle.rv_inst.specs.declared.inst.Inst.{Inst}
 use Rattle.rv_inst.specs.declared.inst.Line.{Line}
 use Rattle.rv_inst.specs.declared.inst.Line.TheVariants.{Inst as Put, Bind}
 use Rattle.rv_inst.specs.Families.{family_of}
 use Rattle.rv_inst.specs.Meaning.{Environment, writes_of}
-use Rattle.rv_inst.specs.SameValues.{Same, SameBut}
+use Rattle.rv_inst.specs.OneOperation.{operation_of}
+use Rattle.rv_machine.specs.declared.decoding.Decoded.{Decoded}
 use Rattle.rv_full.specs.declared.answer.Answer.{Answer}
+use Rattle.rv_full.specs.Rows.{Row, Absent, Does, Takes, row_takes}
+use Rattle.rv_full.specs.UnitRows.{unit_row}
 use Rattle.rv_full.specs.Units.{FullValues}
+pub use Rattle.rv_code.specs.FullValues.{SameFull, SameFullBut}
 use Rattle.rv_asm.specs.Simulation.{Entry, AtStart, AtReturn, effect_from}
 
--- the integers are the same, and the units equal: their registers, frm, the reservation, the setting and the trace
-pub record SameFull (v w : FullValues) : Type 0 where
-  pub ints : Same v.ints w.ints
-  pub units : v.units ≡ w.units
-
--- the same, but for integer registers that may hold anything
-pub record SameFullBut (free : List ℕ) (v w : FullValues) : Type 0 where
-  pub ints : SameBut free v.ints w.ints
-  pub units : v.units ≡ w.units
-
 -- What a line means from where it is entered: the values that come of values and answers, with the answers that are left; the addresses
--- of the bytes that it writes with these answers; how many answers its own operations take; which of those that the machine took in it
--- are theirs; and whether it is of the integer core.
+-- of the bytes that it writes with these answers; how many answers its own operations take; and which of those that the machine took in
+-- it are theirs.
 pub record FullMeaning : Type 0 where
   pub takes : Environment → FullValues → List Answer → Option (FullValues × List Answer)
   pub writes : Environment → FullValues → List Answer → List ℕ
-  pub own_answers : ℕ
+  pub own_answers : Environment → FullValues → ℕ
   pub own_of : List Answer → List Answer
-  pub is_core : Bool
 
 -- where a call returns, nothing is written
 abbrev pub writes_from : Entry → Environment → Line → FullValues → List ℕ
@@ -43,9 +38,32 @@ abbrev pub of_integers : Entry → Line → FullMeaning
 of_integers entry line = record {
   takes = λ env v answers. Some (record { ints = effect_from entry env line v.ints; units = v.units }, answers);
   writes = λ env v answers. writes_from entry env line v;
-  own_answers = 0;
+  own_answers = λ env v. 0;
   own_of = λ took. took;
-  is_core = true;
+}
+
+-- how many answers a row takes
+abbrev pub answers_of : Row → ℕ
+answers_of Absent = 0
+answers_of (Does v) = 0
+answers_of (Takes kind f) = 1
+
+abbrev pub operation_row : Option Decoded → FullValues → Row
+operation_row None v = Absent
+operation_row (Some d) v = unit_row d v
+
+-- the row of a unit's instruction is that of the operation that stands for it, which no constant changes; none returns
+abbrev pub row_from : Entry → Environment → Inst → FullValues → Row
+row_from AtStart env inst v = operation_row (operation_of (context_by env.flags env.frame []) inst) v
+row_from AtReturn env inst v = Absent
+
+-- one operation of a unit, which writes no memory
+abbrev pub of_unit : Entry → Inst → FullMeaning
+of_unit entry inst = record {
+  takes = λ env v answers. row_takes (row_from entry env inst v) answers;
+  writes = λ env v answers. [];
+  own_answers = λ env v. answers_of (row_from entry env inst v);
+  own_of = λ took. took;
 }
 
 abbrev pub meaning_by : Family → Entry → Inst → FullMeaning
@@ -56,6 +74,7 @@ meaning_by Control entry inst = of_integers entry (Put inst)
 meaning_by Loop entry inst = of_integers entry (Put inst)
 meaning_by Symbols entry inst = of_integers entry (Put inst)
 meaning_by Calls entry inst = of_integers entry (Put inst)
+meaning_by Float entry inst = of_unit entry inst
 
 abbrev pub meaning_of : Entry → Line → FullMeaning
 meaning_of entry (Put inst) = meaning_by (family_of inst) entry inst
@@ -64,4 +83,4 @@ meaning_of entry (Bind label) = of_integers entry (Bind label)
 -- each line is of the integer core
 abbrev pub all_core : List Line → Bool
 all_core [] = true
-all_core (line ∷ lines) = (meaning_of AtStart line).is_core && all_core lines
+all_core (line ∷ lines) = is_integer_line line && all_core lines

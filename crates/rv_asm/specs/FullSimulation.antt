@@ -97,7 +97,7 @@ pub record Reached (x : Placing) (k : ℕ) (p : Point) (v : FullValues) (b : Ful
 
 -- in the line at a point it stops, where an operation takes an answer and those that are left don't begin with one of its kind; it took
 -- fewer than twice as many as the line's own operations take, since before each at most one setting is put
-pub record Stops (x : Placing) (p : Point) (b : FullState) : Type 0 where
+pub record Stops (x : Placing) (p : Point) (v : FullValues) (b : FullState) : Type 0 where
   pub there : LineAt x p
   pub steps : ℕ
   pub state : FullState
@@ -105,7 +105,7 @@ pub record Stops (x : Placing) (p : Point) (b : FullState) : Type 0 where
   pub asks : fnext x.job.flags state ≡ Asks
   pub took : List Answer
   pub answers : b.answers ≡ took ++ state.answers
-  pub few : length took < 2 * (meaning_at there).own_answers
+  pub few : length took < 2 * (meaning_at there).own_answers (environment_at there) v
 
 -- one of these addresses is one of so many from another on
 abbrev pub IsOn : ℕ → ℕ → List ℕ → Type 0
@@ -143,7 +143,7 @@ pub record WantsAnswer (x : Placing) (k : ℕ) (p : Point) (v : FullValues) (b :
   pub count : ℕ
   pub before : count < k
   pub reached : Reached x count p v b
-  pub stops : Stops x reached.point reached.state
+  pub stops : Stops x reached.point reached.values reached.state
 
 -- Or it comes where fewer lead, and the next one writes on the code.
 pub record WritesOnCode (x : Placing) (k : ℕ) (p : Point) (v : FullValues) (b : FullState) : Type 0 where

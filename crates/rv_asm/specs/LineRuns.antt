@@ -1,7 +1,8 @@
 -- How a run goes on from line to line, as one who proves something of a listing's code chains it: each law is the contract of a function of
 -- `line_laws`.
-use Rattle.std.specs.Prelude.{◌≡◌, ℕ, Some, slice_get}
+use Rattle.std.specs.Prelude.{◌≡◌, ℕ, true, Some, slice_get}
 use Rattle.rv_base.specs.declared.flags.IsaFlags.{IsaFlags}
+use Rattle.rv_inst.specs.Core.{is_integer_line}
 use Rattle.rv_inst.specs.declared.code.Code.{Code}
 use Rattle.rv_inst.specs.declared.inst.Line.{Line}
 use Rattle.rv_inst.specs.declared.job.Job.{Job}
@@ -41,9 +42,9 @@ pub record LineRan (job : Job) (code : Code) (base : ℕ) (symbols slots : Addre
 abbrev pub EntryIsFirstLine : Type 0
 EntryIsFirstLine = (job : Job) (code : Code) (base : ℕ) (symbols slots : Addresses) (s : State) → Reported job code → IsPlaced code base symbols slots s.values.mem → IsState s → s.pc ≡ base → StandsAt code base symbols slots (At 0) s
 
--- from a line's start that line runs, where it writes none of the code
+-- from the start of a line of the integer core that line runs, where it writes none of the code
 abbrev pub LinesRun : Type 0
-LinesRun = (job : Job) (code : Code) (base : ℕ) (symbols slots : Addresses) (i : ℕ) (line : Line) (s : State) → RunsAsListed job code → slice_get job.lines i ≡ Some line → WritesOutside job code base symbols slots i line s.values → StandsAt code base symbols slots (At i) s → LineRan job code base symbols slots i line s
+LinesRun = (job : Job) (code : Code) (base : ℕ) (symbols slots : Addresses) (i : ℕ) (line : Line) (s : State) → RunsAsListed job code → slice_get job.lines i ≡ Some line → is_integer_line line ≡ true → WritesOutside job code base symbols slots i line s.values → StandsAt code base symbols slots (At i) s → LineRan job code base symbols slots i line s
 
 -- a run of no steps
 abbrev pub NothingRuns : Type 0

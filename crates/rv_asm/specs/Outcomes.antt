@@ -32,6 +32,8 @@ rule_name rules.Zero = codes "Zero"
 rule_name rules.Clash = codes "Clash"
 rule_name rules.BadType = codes "BadType"
 rule_name rules.Range = codes "Range"
+rule_name rules.Rounding = codes "Rounding"
+rule_name rules.Width = codes "Width"
 rule_name rules.Constant = codes "Constant"
 rule_name rules.EmptyTable = codes "EmptyTable"
 rule_name rules.NoTarget = codes "NoTarget"
@@ -73,7 +75,7 @@ status_of ends.OutOfMemory = 8
 -- the code of the job that the input means, which reports its lines and runs as they say, in operations as short as they have, whose
 -- jumps go straight where they can, with no island early, and its numbers in the ranges in which no other code has its report
 abbrev pub IsCodeOf : List ℕ → Code → Type 0
-IsCodeOf input code = (job : Job) × (reads input ≡ Ok job) × (refusal job ≡ None) × Reported job code × RunsAsListed job code × HasOperations job code × HasJumps job code × InReach job code × CodeFits code
+IsCodeOf input code = (job : Job) × (reads input ≡ Ok job) × (refusal job ≡ None) × Reported job code × RunsAsListed job code × FullRuns job code × HasOperations job code × HasJumps job code × InReach job code × CodeFits code
 
 -- the input means a job that is refused so; never when out of memory
 abbrev pub IsRefused : List ℕ → EmitError → Type 0

@@ -1,5 +1,5 @@
 -- What it is for code to run as its job says.
-use Rattle.std.specs.Prelude.{◌≡◌, ℕ, suc, ◌+◌, ◌<◌, ◌≤◌, nat_eq, nat_lt, if◌then◌else◌, List, [], ◌∷◌, length, slice_get, Some, unwrap_or}
+use Rattle.std.specs.Prelude.{◌≡◌, ℕ, suc, true, ◌+◌, ◌<◌, ◌≤◌, nat_eq, nat_lt, if◌then◌else◌, List, [], ◌∷◌, length, slice_get, Some, unwrap_or}
 use Rattle.rv_base.specs.declared.trap.TrapCode.{TrapCode}
 use Rattle.mach_buffer.specs.Constants.{offset_in}
 use Rattle.rv_inst.specs.Records.{IsTrapAt}
@@ -8,6 +8,7 @@ use Rattle.rv_inst.specs.declared.inst.Line.{Line}
 use Rattle.rv_inst.specs.declared.inst.Line.TheVariants.{Inst as Put}
 use Rattle.rv_inst.specs.declared.job.Job.{Job}
 use Rattle.rv_inst.specs.Context.{context_of}
+use Rattle.rv_inst.specs.Core.{is_integer, is_integer_line}
 use Rattle.rv_inst.specs.OneOperation.{operation_of}
 use Rattle.rv_inst.specs.declared.code.Code.{Code}
 use Rattle.rv_inst.specs.declared.code.CallReturn.{CallReturn}
@@ -16,7 +17,7 @@ use Rattle.rv_inst.specs.Meaning.{Environment, Exit, Next, To, Leave, Break, Tra
 use Rattle.rv_machine.specs.State.{State, IsState, Values, AreValues, Memory, wrap}
 use Rattle.rv_base.specs.declared.flags.IsaFlags.{IsaFlags}
 use Rattle.rv_machine.specs.declared.decoding.Decoded.{Decoded}
-use Rattle.rv_machine.specs.Decode.{int_decode}
+use Rattle.rv_machine.specs.Decode.{decode, int_decode}
 use Rattle.rv_machine.specs.Steps.{IsBreak, IsZeroHalf, fetch, iter}
 use Rattle.rv_inst.specs.SameValues.{Same, SameBut}
 use Rattle.rv_asm.specs.Placed.{Addresses, address_of_name, IsPlaced}
@@ -82,13 +83,14 @@ abbrev pub temporaries_from : Entry → Line → List ℕ
 temporaries_from AtStart line = temporaries_of line
 temporaries_from AtReturn line = []
 
--- one line at once, from a point and values to a point and values; the line's temporaries may hold anything after it
+-- one line of the integer core at once, from a point and values to a point and values; the line's temporaries may hold anything after it
 pub record OneLine (job : Job) (code : Code) (base : ℕ) (symbols slots : Addresses) (p : Point) (v : Values) (q : Point) (w : Values) : Type 0 where
   pub index : ℕ
   pub line : Line
   pub entry : Entry
   pub at : p ≡ entry_point entry index
   pub listed : slice_get job.lines index ≡ Some line
+  pub core : is_integer_line line ≡ true
   pub leads : Leads job.lines code index (exit_from entry (environment_of job code base symbols slots index) line v) q
   pub effect : SameBut (temporaries_from entry line) (effect_from entry (environment_of job code base symbols slots index) line v) w
 
@@ -145,13 +147,16 @@ pub record Comes (job : Job) (code : Code) (base : ℕ) (symbols slots : Address
   pub are_values : AreValues values
   pub placed : IsPlaced code base symbols slots state.values.mem
 
--- The code runs as its job says: from the start of every line, wherever the code is placed and its symbols are, and from all values
--- from which the line doesn't write on the code; and from where each call returns, with all values.
+-- The code runs as its job says: from the start of every line of the integer core, wherever the code is placed and its symbols are, and
+-- from all values from which the line doesn't write on the code; and from where each call returns, with all values. What other lines
+-- mean is said of the machine with all units.
 pub record RunsAsListed (job : Job) (code : Code) : Type 0 where
-  pub from : (base : ℕ) (symbols slots : Addresses) (i : ℕ) (line : Line) (s : State) (v : Values) → slice_get job.lines i ≡ Some line → WritesOutside job code base symbols slots i line v → IsPlaced code base symbols slots s.values.mem → IsState s → AreValues v → s.pc ≡ address_of code base (At i) → Same v s.values → Comes job code base symbols slots (At i) v s
+  pub from : (base : ℕ) (symbols slots : Addresses) (i : ℕ) (line : Line) (s : State) (v : Values) → slice_get job.lines i ≡ Some line → is_integer_line line ≡ true → WritesOutside job code base symbols slots i line v → IsPlaced code base symbols slots s.values.mem → IsState s → AreValues v → s.pc ≡ address_of code base (At i) → Same v s.values → Comes job code base symbols slots (At i) v s
   pub back : (base : ℕ) (symbols slots : Addresses) (i : ℕ) (inst : Inst) (r : Return) (s : State) (v : Values) → slice_get job.lines i ≡ Some (Put inst) → return_of job.flags inst ≡ Some r → IsPlaced code base symbols slots s.values.mem → IsState s → AreValues v → s.pc ≡ address_of code base (Returned i) → Same v s.values → Comes job code base symbols slots (Returned i) v s
 
 -- Wherever the code is placed, the machine reads at the start of a line of one machine word the operation that stands for it: in two
--- bytes where the instruction has a form of sixteen bits, and then that form's, else in four.
+-- bytes where the instruction has a form of sixteen bits, and then that form's, else in four. The integer machine reads those of the integer
+-- core, and the machine with all units each.
 pub record HasOperations (job : Job) (code : Code) : Type 0 where
-  pub each : (i : ℕ) (inst : Inst) (d : Decoded) (base : ℕ) (symbols slots : Addresses) (mem : Memory) → slice_get job.lines i ≡ Some (Put inst) → operation_of (context_of job) inst ≡ Some d → IsPlaced code base symbols slots mem → int_decode job.flags (fetch mem (base + start_of code.lines i)) ≡ Some d
+  pub each : (i : ℕ) (inst : Inst) (d : Decoded) (base : ℕ) (symbols slots : Addresses) (mem : Memory) → slice_get job.lines i ≡ Some (Put inst) → is_integer inst ≡ true → operation_of (context_of job) inst ≡ Some d → IsPlaced code base symbols slots mem → int_decode job.flags (fetch mem (base + start_of code.lines i)) ≡ Some d
+  pub all : (i : ℕ) (inst : Inst) (d : Decoded) (base : ℕ) (symbols slots : Addresses) (mem : Memory) → slice_get job.lines i ≡ Some (Put inst) → operation_of (context_of job) inst ≡ Some d → IsPlaced code base symbols slots mem → decode job.flags (fetch mem (base + start_of code.lines i)) ≡ Some d

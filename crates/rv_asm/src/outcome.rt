@@ -61,6 +61,8 @@ fn rule_name(rule: Rule) -> &'static str
         Rule::Clash => "Clash",
         Rule::BadType => "BadType",
         Rule::Range => "Range",
+        Rule::Rounding => "Rounding",
+        Rule::Width => "Width",
         Rule::Constant => "Constant",
         Rule::EmptyTable => "EmptyTable",
         Rule::NoTarget => "NoTarget",

@@ -1,8 +1,9 @@
--- Every instruction that breaks no rule runs as it means.
-use Rattle.std.proofs.Common.{◌≡◌, ℕ, false, [], ◌∷◌, None, subst, arith}
+-- Every instruction of the integer core that breaks no rule runs as it means.
+use Rattle.std.proofs.Common.{◌≡◌, ℕ, true, false, [], ◌∷◌, None, subst, arith}
 use Rattle.rv_inst.specs.declared.inst.CountInfo.{CountInfo}
 use Rattle.rv_inst.specs.declared.inst.Inst.{Inst}
-use Rattle.rv_inst.specs.declared.inst.Inst.TheVariants.{Nop0, Nop4, EBreak, SequencePoint, Args, Rets, DummyUse, EmitIsland, RawData, Lui, Auipc, LoadInlineConst, AluRRR, AluRRImm12, Mov, MovFromPReg, Extend, Select, Load, Store, LoadAddr, LabelAddress, Ret, TrapIf, Jal, CondBr, BrTable, Udf, Jalr, Popcnt, Cltz, Brev8, StackProbeLoop, LoadExtNameGot, LoadExtNameNear, LoadExtNameFar, Call, CallInd, ReturnCall, ReturnCallInd, Unwind}
+use Rattle.rv_inst.specs.declared.inst.Inst.TheVariants.{Nop0, Nop4, EBreak, SequencePoint, Args, Rets, DummyUse, EmitIsland, RawData, Lui, Auipc, LoadInlineConst, AluRRR, AluRRImm12, Mov, MovFromPReg, Extend, Select, Load, Store, LoadAddr, LabelAddress, Ret, TrapIf, Jal, CondBr, BrTable, Udf, Jalr, Popcnt, Cltz, Brev8, StackProbeLoop, LoadExtNameGot, LoadExtNameNear, LoadExtNameFar, Call, CallInd, ReturnCall, ReturnCallInd, FpuRRR, Unwind}
+use Rattle.rv_inst.specs.Core.{is_integer}
 use Rattle.rv_inst.specs.Frames.{is_bad_frame_for}
 use Rattle.rv_inst.specs.Operands.{tail_call_of}
 use Rattle.rv_inst.specs.Rules.{is_zero, inst_rule}
@@ -45,49 +46,50 @@ island_runs site setting needed_space = record {
 count_runs : (site : Site) (setting : EmitVState) (info : CountInfo) → Keeps (Popcnt info) → RunsIn site setting (Popcnt info)
 count_runs site setting info k = popcnt_runs site setting info (is_count info.sum info.tmp info.step info.rs info.ty (are_usable (info.sum.reg ∷ info.tmp.reg ∷ info.step.reg ∷ info.rs ∷ []) k.real k.placed k.free) k.counted k.apart k.typed)
 
-kept_runs : (site : Site) (setting : EmitVState) (inst : Inst) → Keeps inst → is_bad_frame_for site.context.frame (tail_call_of inst) ≡ false → RunsIn site setting inst
-kept_runs site setting Nop0 k r = record { run = λ start after s v e clear. nothing_out e.stands e }
-kept_runs site setting Nop4 k r = nop4_runs site setting
-kept_runs site setting EBreak k r = ebreak_runs site setting
-kept_runs site setting SequencePoint k r = record { run = λ start after s v e clear. nothing_out e.stands e }
-kept_runs site setting (Args args) k r = record { run = λ start after s v e clear. nothing_out e.stands e }
-kept_runs site setting (Rets rets) k r = record { run = λ start after s v e clear. nothing_out e.stands e }
-kept_runs site setting (DummyUse reg) k r = record { run = λ start after s v e clear. nothing_out e.stands e }
-kept_runs site setting (EmitIsland needed_space) k r = island_runs site setting needed_space
-kept_runs site setting (RawData bytes) k r = raw_data_runs site setting bytes
-kept_runs site setting (Lui rd imm) k r = lui_runs site setting rd imm (are_usable (rd.reg ∷ []) k.real k.placed k.free).0
-kept_runs site setting (Auipc rd imm) k r = auipc_runs site setting rd imm (are_usable (rd.reg ∷ []) k.real k.placed k.free).0
-kept_runs site setting (LoadInlineConst rd type imm) k r = let c = constant_kept rd type imm k in constant_runs site setting rd type imm c.usable c.counted c.typed
-kept_runs site setting (AluRRR op rd rs1 rs2) k r = let all = are_usable (rd.reg ∷ rs1 ∷ rs2 ∷ []) k.real k.placed k.free in alu_rrr_runs site setting op rd rs1 rs2 all.0 all.1.0 all.1.1.0
-kept_runs site setting (AluRRImm12 op rd rs imm) k r = let all = are_usable (rd.reg ∷ rs ∷ []) k.real k.placed k.free in alu_rri_runs site setting op rd rs imm all.0 all.1.0 k.ranged
-kept_runs site setting (Mov rd rm type) k r = let both = move_usable rd rm type k in mov_runs site setting rd rm type both.0 both.1
-kept_runs site setting (MovFromPReg rd rm) k r = let both = preg_usable rd rm k in mov_from_preg_runs site setting rd rm both.0 both.1
-kept_runs site setting (Extend rd rn signed from_bits to_bits) k r = extend_runs site setting rd rn signed from_bits to_bits k
-kept_runs site setting (Select info) k r = select_runs site setting info k
-kept_runs site setting (Load rd op flags from) k r = let a = load_kept site.context.frame rd op flags from k in load_runs site setting rd op flags from a.usable a.based a.real
-kept_runs site setting (Store src op flags to) k r = let a = store_kept site.context.frame to op flags src k in store_runs site setting to op flags src a.0 a.1
-kept_runs site setting (LoadAddr rd mem) k r = let a = load_addr_kept site.context.frame rd mem k in load_addr_runs site setting rd mem a.usable a.real a.based a.apart
-kept_runs site setting (LabelAddress dst label) k r = let a = label_address_kept dst label k in label_address_runs site setting dst label a.0 a.1
-kept_runs site setting Ret k r = ret_runs site setting
-kept_runs site setting (TrapIf cmp code) k r = let both = trap_if_usable cmp code k in trap_if_runs site setting cmp code both.0 both.1
-kept_runs site setting (Jal label) k r = jal_runs site setting label
-kept_runs site setting (CondBr t f kind) k r = let all = are_usable (kind.rs1 ∷ kind.rs2 ∷ []) k.real k.placed k.free in cond_br_runs site setting kind t f all.0 all.1.0 k.aimed
-kept_runs site setting (BrTable index tmp1 tmp2 targets) k r = table_runs site setting index tmp1 tmp2 targets k
-kept_runs site setting (Udf code) k r = udf_runs site setting code
-kept_runs site setting (Jalr rd base offset) k r = let all = are_usable (rd.reg ∷ base ∷ []) k.real k.placed k.free in jalr_runs site setting rd base offset all.0 all.1.0
-kept_runs site setting (Popcnt info) k r = count_runs site setting info k
-kept_runs site setting (Cltz leading info) k r = zeros_runs site setting leading info k
-kept_runs site setting (Brev8 info) k r = reverse_runs site setting info k
-kept_runs site setting (StackProbeLoop guard_size probe_count tmp) k r = probe_runs site setting guard_size probe_count tmp k
-kept_runs site setting (LoadExtNameGot rd name) k r = let h = (are_usable (rd.reg ∷ []) k.real k.placed k.free).0 in got_runs site setting rd name h (not_zero rd.reg h (or_left (is_zero rd.reg) false k.counted))
-kept_runs site setting (LoadExtNameNear rd name offset) k r = let h = (are_usable (rd.reg ∷ []) k.real k.placed k.free).0 in near_runs site setting rd name offset h (not_zero rd.reg h (or_left (is_zero rd.reg) false k.counted))
-kept_runs site setting (LoadExtNameFar rd name offset) k r = let h = (are_usable (rd.reg ∷ []) k.real k.placed k.free).0 in far_runs site setting rd name offset h (not_zero rd.reg h (or_left (is_zero rd.reg) false k.counted))
-kept_runs site setting (Call info) k r = call_runs site setting info
-kept_runs site setting (CallInd info) k r = call_ind_runs site setting info (call_usable info k)
-kept_runs site setting (ReturnCall info) k r = return_call_runs site setting info r
-kept_runs site setting (ReturnCallInd info) k r = return_call_ind_runs site setting info (target_fine info k).1 r
-kept_runs site setting (Unwind inst) k r = unwind_runs site setting inst
+kept_runs : (site : Site) (setting : EmitVState) (inst : Inst) → is_integer inst ≡ true → Keeps inst → is_bad_frame_for site.context.frame (tail_call_of inst) ≡ false → RunsIn site setting inst
+kept_runs site setting Nop0 core k r = record { run = λ start after s v e clear. nothing_out e.stands e }
+kept_runs site setting Nop4 core k r = nop4_runs site setting
+kept_runs site setting EBreak core k r = ebreak_runs site setting
+kept_runs site setting SequencePoint core k r = record { run = λ start after s v e clear. nothing_out e.stands e }
+kept_runs site setting (Args args) core k r = record { run = λ start after s v e clear. nothing_out e.stands e }
+kept_runs site setting (Rets rets) core k r = record { run = λ start after s v e clear. nothing_out e.stands e }
+kept_runs site setting (DummyUse reg) core k r = record { run = λ start after s v e clear. nothing_out e.stands e }
+kept_runs site setting (EmitIsland needed_space) core k r = island_runs site setting needed_space
+kept_runs site setting (RawData bytes) core k r = raw_data_runs site setting bytes
+kept_runs site setting (Lui rd imm) core k r = lui_runs site setting rd imm (are_usable (rd.reg ∷ []) k.real k.placed k.free).0
+kept_runs site setting (Auipc rd imm) core k r = auipc_runs site setting rd imm (are_usable (rd.reg ∷ []) k.real k.placed k.free).0
+kept_runs site setting (LoadInlineConst rd type imm) core k r = let c = constant_kept rd type imm k in constant_runs site setting rd type imm c.usable c.counted c.typed
+kept_runs site setting (AluRRR op rd rs1 rs2) core k r = let all = are_usable (rd.reg ∷ rs1 ∷ rs2 ∷ []) k.real k.placed k.free in alu_rrr_runs site setting op rd rs1 rs2 all.0 all.1.0 all.1.1.0
+kept_runs site setting (AluRRImm12 op rd rs imm) core k r = let all = are_usable (rd.reg ∷ rs ∷ []) k.real k.placed k.free in alu_rri_runs site setting op rd rs imm all.0 all.1.0 k.ranged
+kept_runs site setting (Mov rd rm type) core k r = let both = move_usable rd rm type k in mov_runs site setting rd rm type both.0 both.1
+kept_runs site setting (MovFromPReg rd rm) core k r = let both = preg_usable rd rm k in mov_from_preg_runs site setting rd rm both.0 both.1
+kept_runs site setting (Extend rd rn signed from_bits to_bits) core k r = extend_runs site setting rd rn signed from_bits to_bits k
+kept_runs site setting (Select info) core k r = select_runs site setting info k
+kept_runs site setting (Load rd op flags from) core k r = let a = load_kept site.context.frame rd op flags from k in load_runs site setting rd op flags from a.usable a.based a.real
+kept_runs site setting (Store src op flags to) core k r = let a = store_kept site.context.frame to op flags src k in store_runs site setting to op flags src a.0 a.1
+kept_runs site setting (LoadAddr rd mem) core k r = let a = load_addr_kept site.context.frame rd mem k in load_addr_runs site setting rd mem a.usable a.real a.based a.apart
+kept_runs site setting (LabelAddress dst label) core k r = let a = label_address_kept dst label k in label_address_runs site setting dst label a.0 a.1
+kept_runs site setting Ret core k r = ret_runs site setting
+kept_runs site setting (TrapIf cmp code) core k r = let both = trap_if_usable cmp code k in trap_if_runs site setting cmp code both.0 both.1
+kept_runs site setting (Jal label) core k r = jal_runs site setting label
+kept_runs site setting (CondBr t f kind) core k r = let all = are_usable (kind.rs1 ∷ kind.rs2 ∷ []) k.real k.placed k.free in cond_br_runs site setting kind t f all.0 all.1.0 k.aimed
+kept_runs site setting (BrTable index tmp1 tmp2 targets) core k r = table_runs site setting index tmp1 tmp2 targets k
+kept_runs site setting (Udf code) core k r = udf_runs site setting code
+kept_runs site setting (Jalr rd base offset) core k r = let all = are_usable (rd.reg ∷ base ∷ []) k.real k.placed k.free in jalr_runs site setting rd base offset all.0 all.1.0
+kept_runs site setting (Popcnt info) core k r = count_runs site setting info k
+kept_runs site setting (Cltz leading info) core k r = zeros_runs site setting leading info k
+kept_runs site setting (Brev8 info) core k r = reverse_runs site setting info k
+kept_runs site setting (StackProbeLoop guard_size probe_count tmp) core k r = probe_runs site setting guard_size probe_count tmp k
+kept_runs site setting (LoadExtNameGot rd name) core k r = let h = (are_usable (rd.reg ∷ []) k.real k.placed k.free).0 in got_runs site setting rd name h (not_zero rd.reg h (or_left (is_zero rd.reg) false k.counted))
+kept_runs site setting (LoadExtNameNear rd name offset) core k r = let h = (are_usable (rd.reg ∷ []) k.real k.placed k.free).0 in near_runs site setting rd name offset h (not_zero rd.reg h (or_left (is_zero rd.reg) false k.counted))
+kept_runs site setting (LoadExtNameFar rd name offset) core k r = let h = (are_usable (rd.reg ∷ []) k.real k.placed k.free).0 in far_runs site setting rd name offset h (not_zero rd.reg h (or_left (is_zero rd.reg) false k.counted))
+kept_runs site setting (Call info) core k r = call_runs site setting info
+kept_runs site setting (CallInd info) core k r = call_ind_runs site setting info (call_usable info k)
+kept_runs site setting (ReturnCall info) core k r = return_call_runs site setting info r
+kept_runs site setting (ReturnCallInd info) core k r = return_call_ind_runs site setting info (target_fine info k).1 r
+kept_runs site setting (Unwind inst) core k r = unwind_runs site setting inst
+kept_runs site setting (FpuRRR op width frm rd rs1 rs2) core k r = absurd (cc)
 
 -- where a frame that it takes away can be restored
-pub inst_runs : (site : Site) (setting : EmitVState) (inst : Inst) → inst_rule site.context inst ≡ None → is_bad_frame_for site.context.frame (tail_call_of inst) ≡ false → RunsIn site setting inst
-inst_runs site setting inst rule restores = kept_runs site setting inst (keeps site.context inst rule) restores
+pub inst_runs : (site : Site) (setting : EmitVState) (inst : Inst) → is_integer inst ≡ true → inst_rule site.context inst ≡ None → is_bad_frame_for site.context.frame (tail_call_of inst) ≡ false → RunsIn site setting inst
+inst_runs site setting inst core rule restores = kept_runs site setting inst core (keeps site.context inst rule) restores

@@ -1,5 +1,5 @@
 -- Chains of a larger machine; each chain of the integer machine is one of it, of the same number of steps.
-use Rattle.std.proofs.Common.{◌≡◌, ℕ, zero, suc, ◌+◌, arith, lit≤, false, length, Option, Some, None, ap, ◌∙◌, refl}
+use Rattle.std.proofs.Common.{◌≡◌, ℕ, zero, suc, ◌+◌, arith, lit≤, true, false, length, Option, Some, None, ap, ◌∙◌, refl}
 use Rattle.std.specs.Option.{option_and_then}
 use Rattle.rv_base.specs.declared.flags.IsaFlags.{IsaFlags}
 use Rattle.rv_machine.specs.State.{State, Values}
@@ -8,6 +8,7 @@ use Rattle.rv_full.specs.LargerMachine.{LargerMachine, GoesOver, repeat}
 use Rattle.rv_full.specs.Units.{FullState}
 use Rattle.rv_full.proofs.LargerMachine.{full_machine, larger_runs}
 use Rattle.rv_inst.specs.declared.inst.Inst.{Inst}
+use Rattle.rv_inst.specs.Core.{is_integer}
 use Rattle.rv_inst.specs.Frames.{is_bad_frame_for}
 use Rattle.rv_inst.specs.Meaning.{AreOutside, inst_effect, inst_exit, inst_temporaries, inst_writes}
 use Rattle.rv_inst.specs.Operands.{tail_call_of}
@@ -51,16 +52,16 @@ pub record ComesOver {B : Type 0} (site : Site) (m : LargerMachine site.context.
   pub out : ComesOut site start after (inst_exit (environment site start after) inst v) (inst_temporaries inst) (inst_effect (environment site start after) inst v) (m.view b)
   pub goes : GoesOver m.step (least_steps (inst_exit (environment site start after) inst v)) b (m.put out.state b)
 
--- and so does every instruction that breaks no rule
-pub larger_comes : {B : Type 0} (site : Site) (m : LargerMachine site.context.flags B) (setting : EmitVState) (inst : Inst) → inst_rule site.context inst ≡ None → is_bad_frame_for site.context.frame (tail_call_of inst) ≡ false → (start after : ℕ) (b : B) (v : Values) → Enters site start after (parts_of site.context setting inst) (m.view b) v → AreOutside site.base (length site.bytes) (inst_writes (environment site start after) inst v) → ComesOver site m start after inst v b
-larger_comes site m setting inst rule restores start after b v e clear =
-    let out = (inst_runs site setting inst rule restores).run start after (m.view b) v e clear in
+-- and so does every instruction of the integer core that breaks no rule
+pub larger_comes : {B : Type 0} (site : Site) (m : LargerMachine site.context.flags B) (setting : EmitVState) (inst : Inst) → is_integer inst ≡ true → inst_rule site.context inst ≡ None → is_bad_frame_for site.context.frame (tail_call_of inst) ≡ false → (start after : ℕ) (b : B) (v : Values) → Enters site start after (parts_of site.context setting inst) (m.view b) v → AreOutside site.base (length site.bytes) (inst_writes (environment site start after) inst v) → ComesOver site m start after inst v b
+larger_comes site m setting inst core rule restores start after b v e clear =
+    let out = (inst_runs site setting inst core rule restores).run start after (m.view b) v e clear in
     record {
       out = out;
       goes = larger_goes m b refl (record { steps = out.steps; moved = out.moved; ran = out.ran });
     }
 
 -- so it does on the machine with all units, and keeps the units and the answers
-pub full_comes : (site : Site) (setting : EmitVState) (inst : Inst) → inst_rule site.context inst ≡ None → is_bad_frame_for site.context.frame (tail_call_of inst) ≡ false → (start after : ℕ) (b : FullState) (v : Values) → Enters site start after (parts_of site.context setting inst) b.state v → AreOutside site.base (length site.bytes) (inst_writes (environment site start after) inst v) → ComesOver site (full_machine site.context.flags) start after inst v b
+pub full_comes : (site : Site) (setting : EmitVState) (inst : Inst) → is_integer inst ≡ true → inst_rule site.context inst ≡ None → is_bad_frame_for site.context.frame (tail_call_of inst) ≡ false → (start after : ℕ) (b : FullState) (v : Values) → Enters site start after (parts_of site.context setting inst) b.state v → AreOutside site.base (length site.bytes) (inst_writes (environment site start after) inst v) → ComesOver site (full_machine site.context.flags) start after inst v b
 unfolding full_machine
-full_comes site setting inst rule restores start after b v e clear = larger_comes site (full_machine site.context.flags) setting inst rule restores start after b v e clear
+full_comes site setting inst core rule restores start after b v e clear = larger_comes site (full_machine site.context.flags) setting inst core rule restores start after b v e clear

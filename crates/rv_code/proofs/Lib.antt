@@ -71,3 +71,6 @@ mod Evaluation
 mod Reaching
 pub mod ClosedPieces
 pub mod MadeOfPieces
+pub mod UnitRuns
+pub mod FloatRuns
+pub mod FloatRules

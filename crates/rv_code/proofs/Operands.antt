@@ -25,7 +25,7 @@ use Rattle.rv_inst.specs.Context.{Context}
 use Rattle.rv_inst.proofs.Rules.{breaks_none}
 use Rattle.rv_inst.specs.declared.error.Rule.TheVariants as rule
 use Rattle.rv_inst.specs.Operands.{inst_registers, labels_of, targets_of, table_of, target_labels, try_call_of, try_labels}
-use Rattle.rv_inst.specs.Rules.{is_int_class, is_virtual, is_other_class, is_reserved, same_class, is_stack_or_frame, is_zero, is_misplaced, has_zero, has_clash, is_int_type, is_word_type, has_bad_type, is_out_of_range, has_empty_table, lacks_target, has_bad_size, is_buffer_label, inst_rule}
+use Rattle.rv_inst.specs.Rules.{is_int_class, is_virtual, is_other_class, is_reserved, same_class, is_stack_or_frame, is_zero, is_misplaced, has_zero, has_clash, is_int_type, is_word_type, has_bad_type, is_out_of_range, has_bad_rounding, has_bad_width, has_empty_table, lacks_target, has_bad_size, is_buffer_label, inst_rule}
 use Rattle.rv_code.specs.Usable.{IsUsable, IsListed, IsFineTarget, IsFineTry}
 
 abbrev pub AreUsable : List Reg → Type 0
@@ -36,7 +36,7 @@ pub or_left : (a b : Bool) → (a || b) ≡ false → a ≡ false
 or_left true b e = e
 or_left false b e = refl
 
-or_right : (a b : Bool) → (a || b) ≡ false → b ≡ false
+pub or_right : (a b : Bool) → (a || b) ≡ false → b ≡ false
 or_right true b e = absurd (cc)
 or_right false b e = e
 
@@ -76,6 +76,8 @@ pub record Keeps (inst : Inst) : Type 0 where
   pub apart : has_clash inst ≡ false
   pub typed : has_bad_type inst ≡ false
   pub ranged : is_out_of_range inst ≡ false
+  pub rounded : has_bad_rounding inst ≡ false
+  pub wide : has_bad_width inst ≡ false
   pub tabled : has_empty_table inst ≡ false
   pub aimed : lacks_target inst ≡ false
   pub listed_try : list_any is_buffer_label (try_labels (try_call_of inst)) ≡ false
@@ -95,6 +97,8 @@ keeps context inst e = record {
   apart = breaks_none context inst e rule.Clash;
   typed = breaks_none context inst e rule.BadType;
   ranged = breaks_none context inst e rule.Range;
+  rounded = breaks_none context inst e rule.Rounding;
+  wide = breaks_none context inst e rule.Width;
   tabled = breaks_none context inst e rule.EmptyTable;
   aimed = breaks_none context inst e rule.NoTarget;
   listed_try = (none_of_both is_buffer_label (try_labels (try_call_of inst)) (labels_of (targets_of inst)) (all_labels context inst e).0).0;

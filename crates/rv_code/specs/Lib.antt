@@ -15,3 +15,5 @@ pub mod InstRuns
 pub mod Chains
 pub mod Immediates
 pub mod OwnCounts
+pub mod FullValues
+pub mod UnitRuns

@@ -17,11 +17,13 @@ use Rattle.rv_base.specs.declared.value_regs.ValueRegs.{ValueRegs}
 use Rattle.rv_base.specs.ValueRegs.{count_of}
 use Rattle.rv_base.specs.declared.label.MachLabel.{MachLabel}
 use Rattle.mach_labels.specs.Table.{first_inner}
+use Rattle.rv_ops.specs.FloatFields.{is_width, takes_frm}
+use Rattle.rv_ops.specs.Fpu.{fpu_rrr_numbers}
 use Rattle.rv_ops.specs.Memory.{load_of}
 use Rattle.rv_ops.specs.declared.compare.IntegerCompare.{IntegerCompare}
-use Rattle.rv_encode.specs.Registers.{IsIntRegister}
+use Rattle.rv_encode.specs.Registers.{IsIntRegister, IsRealRegister}
 use Rattle.rv_inst.specs.declared.inst.Inst.{Inst}
-use Rattle.rv_inst.specs.declared.inst.Inst.TheVariants.{Nop0, Nop4, EBreak, SequencePoint, Args, Rets, DummyUse, EmitIsland, RawData, Lui, Auipc, LoadInlineConst, AluRRR, AluRRImm12, Mov, MovFromPReg, Extend, Select, Load, Store, LoadAddr, LabelAddress, Ret, TrapIf, Jal, CondBr, BrTable, Udf, Jalr, Popcnt, Cltz, Brev8, StackProbeLoop, LoadExtNameGot, LoadExtNameNear, LoadExtNameFar, Call, CallInd, ReturnCall, ReturnCallInd, Unwind}
+use Rattle.rv_inst.specs.declared.inst.Inst.TheVariants.{Nop0, Nop4, EBreak, SequencePoint, Args, Rets, DummyUse, EmitIsland, RawData, Lui, Auipc, LoadInlineConst, AluRRR, AluRRImm12, Mov, MovFromPReg, Extend, Select, Load, Store, LoadAddr, LabelAddress, Ret, TrapIf, Jal, CondBr, BrTable, Udf, Jalr, Popcnt, Cltz, Brev8, StackProbeLoop, LoadExtNameGot, LoadExtNameNear, LoadExtNameFar, Call, CallInd, ReturnCall, ReturnCallInd, FpuRRR, Unwind}
 use Rattle.rv_inst.specs.Operands.{all_of, written_in}
 use Rattle.rv_inst.specs.Rules.{is_int_type}
 use Rattle.rv_inst.specs.declared.inst.CondBrTarget.{CondBrTarget}
@@ -138,4 +140,5 @@ IsFine constants (Call info) = IsFineTry info.try_call_info × AreFineResults in
 IsFine constants (CallInd info) = IsIntRegister info.dest × IsFineTry info.try_call_info × AreFineResults info.defs
 IsFine constants (ReturnCall info) = Unit {0}
 IsFine constants (ReturnCallInd info) = IsIntRegister info.dest × (number_of info.dest ≡ 5)
+IsFine constants (FpuRRR op width frm rd rs1 rs2) = IsRealRegister rd.reg × IsRealRegister rs1 × IsRealRegister rs2 × (takes_frm (fpu_rrr_numbers op).rounding frm ≡ true) × (is_width width ≡ true)
 IsFine constants (Unwind inst) = Unit {0}

@@ -17,7 +17,7 @@ use Rattle.rv_inst.specs.Context.{Context}
 use Rattle.rv_machine.specs.Arithmetic.{low_word}
 use Rattle.rv_inst.specs.Rules.{is_word_type, inst_rule}
 use Rattle.rv_inst.specs.declared.inst.Inst.{Inst}
-use Rattle.rv_inst.specs.declared.inst.Inst.TheVariants.{Nop0, Nop4, EBreak, SequencePoint, Args, Rets, DummyUse, EmitIsland, RawData, Lui, Auipc, LoadInlineConst, AluRRR, AluRRImm12, Mov, MovFromPReg, Extend, Select, Load, Store, LoadAddr, LabelAddress, Ret, TrapIf, Jal, CondBr, BrTable, Udf, Jalr, Popcnt, Cltz, Brev8, StackProbeLoop, LoadExtNameGot, LoadExtNameNear, LoadExtNameFar, Call, CallInd, ReturnCall, ReturnCallInd, Unwind}
+use Rattle.rv_inst.specs.declared.inst.Inst.TheVariants.{Nop0, Nop4, EBreak, SequencePoint, Args, Rets, DummyUse, EmitIsland, RawData, Lui, Auipc, LoadInlineConst, AluRRR, AluRRImm12, Mov, MovFromPReg, Extend, Select, Load, Store, LoadAddr, LabelAddress, Ret, TrapIf, Jal, CondBr, BrTable, Udf, Jalr, Popcnt, Cltz, Brev8, StackProbeLoop, LoadExtNameGot, LoadExtNameNear, LoadExtNameFar, Call, CallInd, ReturnCall, ReturnCallInd, FpuRRR, Unwind}
 use Rattle.rv_inst.specs.declared.inst.CondBrTarget.{CondBrTarget}
 use Rattle.rv_inst.specs.declared.inst.CondBrTarget.TheVariants.{Label as ToLabel, Fallthrough}
 use Rattle.rv_inst.specs.Sizes.{Words, extent_of, island_space, move_size}
@@ -123,6 +123,7 @@ appends_inst context setting (LoadExtNameNear rd name offset) old new rule s ask
 appends_inst context setting (LoadExtNameFar rd name offset) old new rule s asks p = summed context (LoadExtNameFar rd name offset) _ old new refl (far_summed context rd name offset) context.flags p
 appends_inst context setting (Call info) old new rule s asks p = words_alone context (extent_of context (Call info)) (Call info) old new asks (call_appends context info old new p)
 appends_inst context setting (CallInd info) old new rule s asks p = words_alone context (extent_of context (CallInd info)) (CallInd info) old new asks (call_ind_appends context info old new p)
+appends_inst context setting (FpuRRR op width frm rd rs1 rs2) old new rule s asks p = summed context (FpuRRR op width frm rd rs1 rs2) _ old new refl (one context (FpuRRR op width frm rd rs1 rs2) _ refl (λ start end. refl) (λ start end. refl) (λ named. refl)) context.flags p
 appends_inst context setting (ReturnCall info) old new rule s asks p = absurd (cc)
 appends_inst context setting (ReturnCallInd info) old new rule s asks p = absurd (cc)
 appends_inst context setting (Unwind inst) old new rule s asks p = summed context (Unwind inst) _ old new refl (unwind_summed context inst) context.flags p
@@ -206,4 +207,5 @@ parts_are_self_contained context setting (Call info) rule = call_blocks context 
 parts_are_self_contained context setting (CallInd info) rule = call_ind_blocks context info
 parts_are_self_contained context setting (ReturnCall info) rule = (tail_contained context.flags context.frame info.new_stack_arg_size info.dest, tt)
 parts_are_self_contained context setting (ReturnCallInd info) rule = (t0_contained context.flags context.frame info.new_stack_arg_size, tt)
+parts_are_self_contained context setting (FpuRRR op width frm rd rs1 rs2) rule = ((refl, tt), tt)
 parts_are_self_contained context setting (Unwind inst) rule = (tt, tt)

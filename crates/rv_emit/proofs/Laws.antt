@@ -52,6 +52,10 @@ pub use Rattle.rv_emit.proofs.Fields.{ends_later, clear_there, slot_fields_end}
 -- a window of bytes: its bytes and its length
 pub use Rattle.rv_emit.proofs.PlacedBytes.{window_byte, window_length}
 -- the operation of an instruction of one machine word, where it starts
-pub use Rattle.rv_code.proofs.OneOperations.{has_operation}
+pub use Rattle.rv_code.proofs.OneOperations.{has_operation, reads_operation}
+-- a step at a unit's operation, and what a float operation does
+pub use Rattle.rv_code.proofs.UnitRuns.{unit_next_at, row_comes}
+pub use Rattle.rv_code.proofs.FloatRules.{result_usable}
+pub use Rattle.rv_code.proofs.FloatRuns.{rrr_agrees}
 -- how long the operations of a jump by a register are
 pub use Rattle.rv_code.proofs.ShortOps.{jalr_sized}

@@ -5,7 +5,7 @@ use Rattle.rv_inst.specs.Context.{Context}
 use Rattle.rv_inst.specs.Families.{family_of}
 use Rattle.rv_inst.specs.Sizes.{island_space}
 use Rattle.rv_inst.specs.declared.inst.Family.{Family}
-use Rattle.rv_inst.specs.declared.inst.Family.TheVariants.{Pseudo, Integer, Memory, Control, Loop, Symbols, Calls}
+use Rattle.rv_inst.specs.declared.inst.Family.TheVariants.{Pseudo, Integer, Memory, Control, Loop, Symbols, Calls, Float}
 use Rattle.rv_inst.specs.declared.inst.Inst.{Inst}
 use Rattle.rv_inst.specs.declared.inst.Inst.TheVariants.{Call, CallInd}
 use Rattle.rv_code.specs.declared.state.EmitVState.{EmitVState}
@@ -22,6 +22,7 @@ IsOther Control = Unit {0}
 IsOther Loop = Unit {0}
 IsOther Symbols = Unit {0}
 IsOther Calls = ⊥
+IsOther Float = Unit {0}
 
 pub other_given : (map : Option UserStackMap) (inst : Inst) → IsOther (family_of inst) → with_map map inst ≡ inst
 other_given map (Call info) other = absurd other

@@ -32,6 +32,7 @@ pub(crate) fn forgets_setting(flags: IsaFlags, frame: &FrameLayout, inst: &Inst)
         Family::Loop => loop_forgets(flags, inst),
         Family::Symbols => symbol_forgets(flags, inst),
         Family::Calls => true,
+        Family::Float => false,
     }
 }
 

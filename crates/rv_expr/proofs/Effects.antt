@@ -28,10 +28,10 @@ writes_none : (base size : ℕ) (addresses : List ℕ) → addresses ≡ [] → 
 writes_none base size [] e = λ k below. absurd (omega arith)
 writes_none base size (a ∷ addresses) e = absurd (cc)
 
-pub computes : (r : Run) (k : ℕ) (line : Line) (s : State) (n x : ℕ) → IsRun r → Stands r k s → slice_get r.lines k ≡ Some line → suc k < length r.lines → 0 < n → n < 30 → is_changed n ≡ true → temporaries_of line ≡ [] →
+pub computes : (r : Run) (k : ℕ) (line : Line) (s : State) (n x : ℕ) → IsRun r → Stands r k s → slice_get r.lines k ≡ Some line → suc k < length r.lines → 0 < n → n < 30 → is_changed n ≡ true → is_integer_line line ≡ true → temporaries_of line ≡ [] →
     ((env : Environment) → exit_of env line s.values ≡ Next) → ((env : Environment) → writes_of env line s.values ≡ []) → ((env : Environment) → effect_of env line s.values ≡ set_reg s.values n x) → Computed r s (suc k) n x
-computes r k line s n x h at listed more some low changed temps exits writes effects =
-    let c = line_runs r k line s (set_reg s.values n x) Next (At (suc k)) h at listed temps exits effects (λ env. writes_none r.base (length r.code.bytes) (writes_of env line s.values) (writes env)) (to_next r k more) in
+computes r k line s n x h at listed more some low changed core temps exits writes effects =
+    let c = line_runs r k line s (set_reg s.values n x) Next (At (suc k)) h at listed core temps exits effects (λ env. writes_none r.base (length r.code.bytes) (writes_of env line s.values) (writes env)) (to_next r k more) in
     let others : (m : ℕ) → m < 30 → m ≢ n → reg c.state.values m ≡ reg s.values m = λ m below other. sym (c.same.regs m below) ∙ reads_other s.values n m x other in
     let mem : (a : ℕ) → byte c.state.values.mem a ≡ byte s.values.mem a = λ a. sym (c.same.mem a) in
     record {
@@ -54,7 +54,7 @@ computes r k line s n x h at listed more some low changed temps exits writes eff
 pub loads : (r : Run) (k : ℕ) (s : State) (n i : ℕ) (in_file : n < 32) → IsRun r → Stands r k s → slice_get r.lines k ≡ Some (load_from (int_reg n in_file) i) → suc k < length r.lines → 0 < n → n < 30 → is_changed n ≡ true → Computed r s (suc k) n (load_result Ld s.values.mem (place (sp_of r) i))
 loads r k s n i in_file h at listed more some low changed =
     let sp : reg s.values 2 ≡ sp_of r = at.regs 2 (lit< tt) refl in
-    computes r k (load_from (int_reg n in_file) i) s n (load_result Ld s.values.mem (place (sp_of r) i)) h at listed more some low changed refl (λ env. refl) (λ env. refl)
+    computes r k (load_from (int_reg n in_file) i) s n (load_result Ld s.values.mem (place (sp_of r) i)) h at listed more some low changed refl refl (λ env. refl) (λ env. refl)
     (λ env. ap (λ (p : ℕ). set_reg s.values n (load_result Ld s.values.mem (place p i))) sp)
 
 -- ---- a line that stores into a place
@@ -90,7 +90,7 @@ stores r k s n i in_file h at listed more low few room =
     let fits : a < 2 ^ 64 = omega arith in
     let x_fits : x < 2 ^ 64 = at.at.state.values.fits n in
     let code : (j : ℕ) → j < 8 → (p : ℕ) → p < length r.code.bytes → r.base + p ≢ wrap (a + j) = λ j below p inside. place_inside (sp_of r) r.size i j sp_fits room small below (r.base + p) (h.apart p inside) in
-    let c = line_runs r k (store_to (int_reg n in_file) i) s (put_bytes s.values a (store_bytes Sd x)) Next (At (suc k)) h at listed refl (λ env. refl)
+    let c = line_runs r k (store_to (int_reg n in_file) i) s (put_bytes s.values a (store_bytes Sd x)) Next (At (suc k)) h at listed refl refl (λ env. refl)
     (λ env. ap (λ (p : ℕ). put_bytes s.values (place p i) (store_bytes Sd x)) sp)
     (λ env. subst (λ (p : ℕ). AreOutside r.base (length r.code.bytes) (addresses_from (place p i) 8)) (sym sp)
     (λ j below. subst (λ (q : ℕ). (q < r.base) ⊎ (r.base + length r.code.bytes ≤ q)) (sym (address_at a 8 j fits below)) (outside_code r.base (length r.code.bytes) (wrap (a + j)) (code j below))))

@@ -142,7 +142,7 @@ constant_runs r inputs known n k s rest h at is follows more fine few room =
     let line = constant n in
     let later = store_to (int_reg 5 (lit< tt)) (length known) ∷ rest in
     let v = n % 2 ^ 64 in
-    let c = computes r k line s 5 v h at.stands (listed_at r.lines k line later follows) (more_at r.lines k line later follows (omega arith)) (lit< tt) (lit< tt) refl refl (λ env. refl) (λ env. refl) (λ env. refl) in
+    let c = computes r k line s 5 v h at.stands (listed_at r.lines k line later follows) (more_at r.lines k line later follows (omega arith)) (lit< tt) (lit< tt) refl refl refl (λ env. refl) (λ env. refl) (λ env. refl) in
     advanced_after r inputs (known ++ v ∷ []) rest (suc k) s c.state c.reached
     (puts r inputs known (suc k) c.state 5 v (lit< tt) rest h (still_holds at (lit< tt) c) (next_at r.lines k line later follows) more (lit< tt) c.here few room)
 
@@ -184,7 +184,7 @@ alu_stored : (r : Run) (inputs known : List ℕ) (op : BinOp) (k x y : ℕ) (s :
 alu_stored r inputs known op k x y s rest h at follows more first second few room =
     let later = store_to (int_reg 5 (lit< tt)) (length known) ∷ rest in
     let made : alu_rrr (alu_of op) (reg s.values 5) (reg s.values 6) ≡ binary op x y = alu_is op (reg s.values 5) (reg s.values 6) ∙ (λ i. binary op (first i) (second i)) in
-    let c = computes r k (alu op) s 5 (binary op x y) h at.stands (listed_at r.lines k (alu op) later follows) (more_at r.lines k (alu op) later follows (omega arith)) (lit< tt) (lit< tt) refl refl (λ env. refl) (λ env. refl) (λ env. ap (set_reg s.values 5) made) in
+    let c = computes r k (alu op) s 5 (binary op x y) h at.stands (listed_at r.lines k (alu op) later follows) (more_at r.lines k (alu op) later follows (omega arith)) (lit< tt) (lit< tt) refl refl refl (λ env. refl) (λ env. refl) (λ env. ap (set_reg s.values 5) made) in
     advanced_after r inputs (known ++ binary op x y ∷ []) rest (suc k) s c.state c.reached
     (puts r inputs known (suc k) c.state 5 (binary op x y) (lit< tt) rest h (still_holds at (lit< tt) c) (next_at r.lines k (alu op) later follows) more (lit< tt) c.here few room)
 
@@ -213,7 +213,7 @@ choice_stored r inputs known k t x y s rest h at follows more test first second 
     let v = s.values in
     let picked = (if t == 0 then y else x) in
     let made : (if not (nat_eq (reg v 5) 0) then reg v 6 else reg v 7) ≡ picked = exchanged (nat_eq (reg v 5) 0) (reg v 6) (reg v 7) ∙ (λ i. if test i == 0 then second i else first i) in
-    let c = computes r k choice s 6 picked h at.stands (listed_at r.lines k choice later follows) (more_at r.lines k choice later follows (omega arith)) (lit< tt) (lit< tt) refl refl (λ env. refl) (λ env. refl) (λ env. moves v (not (nat_eq (reg v 5) 0)) ∙ ap (set_reg v 6) made) in
+    let c = computes r k choice s 6 picked h at.stands (listed_at r.lines k choice later follows) (more_at r.lines k choice later follows (omega arith)) (lit< tt) (lit< tt) refl refl refl (λ env. refl) (λ env. refl) (λ env. moves v (not (nat_eq (reg v 5) 0)) ∙ ap (set_reg v 6) made) in
     advanced_after r inputs (known ++ picked ∷ []) rest (suc k) s c.state c.reached
     (puts r inputs known (suc k) c.state 6 picked (lit< tt) rest h (still_holds at (lit< tt) c) (next_at r.lines k choice later follows) more (lit< tt) c.here few room)
 

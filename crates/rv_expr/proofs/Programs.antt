@@ -61,7 +61,7 @@ kept_low n (inr (inr high)) = let to = high.1 in omega arith
 -- from a line that returns
 leaves : (r : Run) (k x : ℕ) (s : State) → IsRun r → Stands r k s → slice_get r.lines k ≡ Some (Put Ret) → reg s.values 10 ≡ x → Goes r r.entry (At k) s → Returns r.flags r.size x r.entry
 leaves r k x s h at listed is reached =
-    let c = line_runs r k (Put Ret) s s.values (Leave (reg s.values 1 / 2 * 2)) (Out (reg s.values 1 / 2 * 2)) h at listed refl (λ env. refl) (λ env. refl) (λ env. λ j below. absurd (omega arith)) (λ p leads. leads) in
+    let c = line_runs r k (Put Ret) s s.values (Leave (reg s.values 1 / 2 * 2)) (Out (reg s.values 1 / 2 * 2)) h at listed refl refl (λ env. refl) (λ env. refl) (λ env. λ j below. absurd (omega arith)) (λ p leads. leads) in
     let all = goes_on r (At k) (Out (reg s.values 1 / 2 * 2)) r.entry s c.state reached c.reached in
     record {
       steps = all.steps;

@@ -11,7 +11,7 @@ use Rattle.rv_asm.specs.FineLines.{plain_job}
 use Rattle.rv_asm.specs.LineRuns.{StandsAt, Reaches}
 use Rattle.rv_asm.specs.Placed.{Addresses}
 use Rattle.rv_asm.specs.Simulation.{Point, At, End, Leads, environment_of, RunsAsListed}
-use Rattle.rv_asm.specs.Users.{Same, SameBut}
+use Rattle.rv_asm.specs.Users.{Same, SameBut, is_integer_line}
 use Rattle.rv_asm.proofs.Laws.{lines_run, runs_compose}
 use Rattle.rv_expr.specs.Frame.{IsOutside}
 
@@ -66,12 +66,12 @@ pub record Came (r : Run) (s : State) (q : Point) (v : Values) : Type 0 where
   pub same : Same v state.values
 
 -- From a line's start, where the line writes none of the code, the machine comes to where the line leads, with the values that it makes.
-pub line_runs : (r : Run) (k : ℕ) (line : Line) (s : State) (v : Values) (e : Exit) (q : Point) → IsRun r → Stands r k s → slice_get r.lines k ≡ Some line → temporaries_of line ≡ [] →
+pub line_runs : (r : Run) (k : ℕ) (line : Line) (s : State) (v : Values) (e : Exit) (q : Point) → IsRun r → Stands r k s → slice_get r.lines k ≡ Some line → is_integer_line line ≡ true → temporaries_of line ≡ [] →
     ((env : Environment) → exit_of env line s.values ≡ e) → ((env : Environment) → effect_of env line s.values ≡ v) → ((env : Environment) → AreOutside r.base (length r.code.bytes) (writes_of env line s.values)) →
     ((p : Point) → Leads r.lines r.code k e p → p ≡ q) → Came r s q v
-line_runs r k line s v e q h at listed temps exits effects outside leads =
+line_runs r k line s v e q h at listed core temps exits effects outside leads =
     let env = environment_of (job_in r) r.code r.base r.symbols r.slots k in
-    let c = lines_run (job_in r) r.code r.base r.symbols r.slots k line s h.runs listed (outside env) at.at in
+    let c = lines_run (job_in r) r.code r.base r.symbols r.slots k line s h.runs listed core (outside env) at.at in
     let there : c.point ≡ q = leads c.point (subst (λ x. Leads r.lines r.code k x c.point) (exits env) c.leads) in
     let same : SameBut [] v c.state.values = subst (λ free. SameBut free v c.state.values) temps (subst (λ x. SameBut (temporaries_of line) x c.state.values) (effects env) c.same) in
     record { state = c.state; reached = subst (λ p. Goes r s p c.state) there c.reached; same = record { regs = λ n below. same.regs n below refl; mem = same.mem } }

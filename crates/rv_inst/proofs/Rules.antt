@@ -4,7 +4,7 @@ use Rattle.std.specs.Prelude.{slice_get}
 use Rattle.std.specs.List.{find}
 use Rattle.rv_inst.specs.declared.inst.Inst.{Inst}
 use Rattle.rv_inst.specs.declared.error.Rule.{Rule}
-use Rattle.rv_inst.specs.declared.error.Rule.TheVariants.{Virtual, Class, Reserved, Zero, Clash, BadType, Range, Constant, EmptyTable, NoTarget, Label, TailArgs, DataSize}
+use Rattle.rv_inst.specs.declared.error.Rule.TheVariants.{Virtual, Class, Reserved, Zero, Clash, BadType, Range, Rounding, Width, Constant, EmptyTable, NoTarget, Label, TailArgs, DataSize}
 use Rattle.rv_inst.specs.Context.{Context}
 use Rattle.rv_inst.specs.Rules.{every_rule, breaks, inst_rule}
 
@@ -27,9 +27,11 @@ breaks_none context inst e Zero = none_passes (breaks context inst) every_rule e
 breaks_none context inst e Clash = none_passes (breaks context inst) every_rule e 4 Clash refl
 breaks_none context inst e BadType = none_passes (breaks context inst) every_rule e 5 BadType refl
 breaks_none context inst e Range = none_passes (breaks context inst) every_rule e 6 Range refl
-breaks_none context inst e Constant = none_passes (breaks context inst) every_rule e 7 Constant refl
-breaks_none context inst e EmptyTable = none_passes (breaks context inst) every_rule e 8 EmptyTable refl
-breaks_none context inst e NoTarget = none_passes (breaks context inst) every_rule e 9 NoTarget refl
-breaks_none context inst e Label = none_passes (breaks context inst) every_rule e 10 Label refl
-breaks_none context inst e TailArgs = none_passes (breaks context inst) every_rule e 11 TailArgs refl
-breaks_none context inst e DataSize = none_passes (breaks context inst) every_rule e 12 DataSize refl
+breaks_none context inst e Rounding = none_passes (breaks context inst) every_rule e 7 Rounding refl
+breaks_none context inst e Width = none_passes (breaks context inst) every_rule e 8 Width refl
+breaks_none context inst e Constant = none_passes (breaks context inst) every_rule e 9 Constant refl
+breaks_none context inst e EmptyTable = none_passes (breaks context inst) every_rule e 10 EmptyTable refl
+breaks_none context inst e NoTarget = none_passes (breaks context inst) every_rule e 11 NoTarget refl
+breaks_none context inst e Label = none_passes (breaks context inst) every_rule e 12 Label refl
+breaks_none context inst e TailArgs = none_passes (breaks context inst) every_rule e 13 TailArgs refl
+breaks_none context inst e DataSize = none_passes (breaks context inst) every_rule e 14 DataSize refl

@@ -5,7 +5,7 @@ use Rattle.rv_base.specs.Regs.{number_of}
 use Rattle.rv_inst.specs.Forms.{short_jalr}
 use Rattle.rv_inst.specs.Returns.{StackLoad, result_loads, loads_unless}
 use Rattle.rv_inst.specs.declared.inst.Inst.{Inst}
-use Rattle.rv_inst.specs.declared.inst.Inst.TheVariants.{Nop0, Nop4, EBreak, SequencePoint, Args, Rets, DummyUse, EmitIsland, RawData, Lui, Auipc, LoadInlineConst, AluRRR, AluRRImm12, Mov, MovFromPReg, Extend, Select, Load, Store, LoadAddr, LabelAddress, Ret, TrapIf, Jal, CondBr, BrTable, Udf, Jalr, Popcnt, Cltz, Brev8, StackProbeLoop, LoadExtNameGot, LoadExtNameNear, LoadExtNameFar, Call, CallInd, ReturnCall, ReturnCallInd, Unwind}
+use Rattle.rv_inst.specs.declared.inst.Inst.TheVariants.{Nop0, Nop4, EBreak, SequencePoint, Args, Rets, DummyUse, EmitIsland, RawData, Lui, Auipc, LoadInlineConst, AluRRR, AluRRImm12, Mov, MovFromPReg, Extend, Select, Load, Store, LoadAddr, LabelAddress, Ret, TrapIf, Jal, CondBr, BrTable, Udf, Jalr, Popcnt, Cltz, Brev8, StackProbeLoop, LoadExtNameGot, LoadExtNameNear, LoadExtNameFar, Call, CallInd, ReturnCall, ReturnCallInd, FpuRRR, Unwind}
 
 -- so many bytes after the start of its line a call returns; then the stack pointer falls by so many, and results are loaded
 pub record Return : Type 0 where
@@ -56,3 +56,4 @@ return_of flags (Call info) = Some (record { offset = 8; popped = info.callee_po
 return_of flags (CallInd info) = Some (record { offset = (short_jalr flags 1 (number_of info.dest) (pos 0)).len; popped = info.callee_pop_size; loads = result_loads info.defs })
 return_of flags (ReturnCall info) = None
 return_of flags (ReturnCallInd info) = None
+return_of flags (FpuRRR op width frm rd rs1 rs2) = None

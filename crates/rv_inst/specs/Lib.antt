@@ -1,4 +1,5 @@
 pub mod Families
+pub mod Core
 pub mod Records
 pub mod Relocations
 pub mod Forms

@@ -27,7 +27,7 @@ use Rattle.rv_inst.specs.Returns.{StackLoad, restores, frame_above}
 use Rattle.rv_inst.specs.declared.inst.Line.{Line}
 use Rattle.rv_inst.specs.declared.inst.Line.TheVariants.{Inst as Put, Bind}
 use Rattle.rv_inst.specs.declared.inst.Inst.{Inst}
-use Rattle.rv_inst.specs.declared.inst.Inst.TheVariants.{Nop0, Nop4, EBreak, SequencePoint, Args, Rets, DummyUse, Unwind, EmitIsland, RawData, Lui, Auipc, LoadInlineConst, AluRRR, AluRRImm12, Mov, MovFromPReg, Extend, Select, Load, Store, LoadAddr, LabelAddress, Ret, TrapIf, Jal, CondBr, BrTable, Udf, Jalr, Popcnt, Cltz, Brev8, StackProbeLoop, LoadExtNameGot, LoadExtNameNear, LoadExtNameFar, Call, CallInd, ReturnCall, ReturnCallInd}
+use Rattle.rv_inst.specs.declared.inst.Inst.TheVariants.{Nop0, Nop4, EBreak, SequencePoint, Args, Rets, DummyUse, Unwind, EmitIsland, RawData, Lui, Auipc, LoadInlineConst, AluRRR, AluRRImm12, Mov, MovFromPReg, Extend, Select, Load, Store, LoadAddr, LabelAddress, Ret, TrapIf, Jal, CondBr, BrTable, Udf, Jalr, Popcnt, Cltz, Brev8, StackProbeLoop, LoadExtNameGot, LoadExtNameNear, LoadExtNameFar, Call, CallInd, ReturnCall, ReturnCallInd, FpuRRR}
 use Rattle.rv_inst.specs.declared.inst.CondBrTarget.{CondBrTarget}
 use Rattle.rv_inst.specs.declared.inst.CondBrTarget.TheVariants.{Label, Fallthrough}
 use Rattle.rv_machine.specs.State.{Values, reg, set_reg, store, wrap, low64}
@@ -123,7 +123,8 @@ abbrev pub linked : ℕ → Option Return → Values → Values
 linked start None v = v
 linked start (Some r) v = set_reg v 1 (wrap (start + r.offset))
 
--- what an instruction makes of the values; a jump to a register links, as a call does
+-- what an instruction makes of the values; a jump to a register links, as a call does. A float operation has no meaning on integers
+-- alone, and is said to leave them; what it does is said of the machine with all units.
 abbrev pub inst_effect : Environment → Inst → Values → Values
 inst_effect env Nop0 v = v
 inst_effect env Nop4 v = v
@@ -166,6 +167,7 @@ inst_effect env (Call info) v = linked env.start (return_of env.flags (Call info
 inst_effect env (CallInd info) v = linked env.start (return_of env.flags (CallInd info)) v
 inst_effect env (ReturnCall info) v = frame_left env.frame info.new_stack_arg_size v
 inst_effect env (ReturnCallInd info) v = frame_left env.frame info.new_stack_arg_size v
+inst_effect env (FpuRRR op width frm rd rs1 rs2) v = v
 
 -- what a line makes of the values
 abbrev pub effect_of : Environment → Line → Values → Values
@@ -215,6 +217,7 @@ inst_writes env (Call info) v = []
 inst_writes env (CallInd info) v = []
 inst_writes env (ReturnCall info) v = []
 inst_writes env (ReturnCallInd info) v = []
+inst_writes env (FpuRRR op width frm rd rs1 rs2) v = []
 
 abbrev pub writes_of : Environment → Line → Values → List ℕ
 writes_of env (Put inst) v = inst_writes env inst v
@@ -267,6 +270,7 @@ inst_temporaries (Call info) = []
 inst_temporaries (CallInd info) = []
 inst_temporaries (ReturnCall info) = []
 inst_temporaries (ReturnCallInd info) = []
+inst_temporaries (FpuRRR op width frm rd rs1 rs2) = []
 
 abbrev pub temporaries_of : Line → List ℕ
 temporaries_of (Put inst) = inst_temporaries inst
@@ -353,6 +357,7 @@ inst_exit env (Call info) v = Leave (symbol_at env info.dest (pos 0) / 2 * 2)
 inst_exit env (CallInd info) v = Leave (reg v (number_of info.dest) / 2 * 2)
 inst_exit env (ReturnCall info) v = Leave (symbol_at env info.dest (pos 0) / 2 * 2)
 inst_exit env (ReturnCallInd info) v = Leave (reg v (number_of info.dest) / 2 * 2)
+inst_exit env (FpuRRR op width frm rd rs1 rs2) v = Next
 
 -- where a call goes on once it has returned
 abbrev pub try_exit : Option TryCallInfo → Exit

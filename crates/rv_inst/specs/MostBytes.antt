@@ -5,7 +5,7 @@ use Rattle.rv_inst.specs.Context.{Context}
 use Rattle.rv_inst.specs.Returns.{StackLoad, restores, result_loads, loads_unless}
 use Rattle.rv_inst.specs.Sizes.{table_space}
 use Rattle.rv_inst.specs.declared.inst.Inst.{Inst}
-use Rattle.rv_inst.specs.declared.inst.Inst.TheVariants.{Nop0, Nop4, EBreak, SequencePoint, Args, Rets, DummyUse, Unwind, EmitIsland, RawData, Lui, Auipc, LoadInlineConst, AluRRR, AluRRImm12, Mov, MovFromPReg, Extend, Select, Load, Store, LoadAddr, LabelAddress, Ret, TrapIf, Jal, CondBr, BrTable, Udf, Jalr, Popcnt, Cltz, Brev8, StackProbeLoop, LoadExtNameGot, LoadExtNameNear, LoadExtNameFar, Call, CallInd, ReturnCall, ReturnCallInd}
+use Rattle.rv_inst.specs.declared.inst.Inst.TheVariants.{Nop0, Nop4, EBreak, SequencePoint, Args, Rets, DummyUse, Unwind, EmitIsland, RawData, Lui, Auipc, LoadInlineConst, AluRRR, AluRRImm12, Mov, MovFromPReg, Extend, Select, Load, Store, LoadAddr, LabelAddress, Ret, TrapIf, Jal, CondBr, BrTable, Udf, Jalr, Popcnt, Cltz, Brev8, StackProbeLoop, LoadExtNameGot, LoadExtNameNear, LoadExtNameFar, Call, CallInd, ReturnCall, ReturnCallInd, FpuRRR}
 
 -- a number that stands among the code: auipc, a load and a jump over it, four bytes each, and its own eight
 abbrev pub number_limit : ℕ
@@ -80,3 +80,4 @@ most_bytes context (Call info) = call_limit 8 (loads_unless info.patchable info.
 most_bytes context (CallInd info) = call_limit 4 (result_loads info.defs)
 most_bytes context (ReturnCall info) = return_limit context.frame + 8
 most_bytes context (ReturnCallInd info) = return_limit context.frame + 4
+most_bytes context (FpuRRR op width frm rd rs1 rs2) = 4

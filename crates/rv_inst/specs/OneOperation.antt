@@ -1,4 +1,4 @@
--- Lines of one machine word: the operation that stands for them, in sixteen bits where it has such a form.
+-- Lines of one machine word: the operation that stands for them, in sixteen bits where it has such a form; of a unit none has.
 use Rattle.std.specs.Prelude.{ℕ, Bool, nat_eq, if◌then◌else◌, Option, Some, None, pos}
 use Rattle.rv_base.specs.Regs.{number_of}
 use Rattle.rv_machine.specs.declared.decoding.Decoded.{Decoded}
@@ -8,13 +8,13 @@ use Rattle.rv_ops.specs.declared.alu.AluOPRRI.TheVariants.{Addi, Andi}
 use Rattle.rv_ops.specs.declared.memory.LoadOP.{LoadOP}
 use Rattle.rv_ops.specs.declared.memory.StoreOP.{StoreOP}
 use Rattle.rv_base.specs.declared.flags.IsaFlags.{IsaFlags}
-use Rattle.rv_encode.specs.Operations.{decoded, decoded_rri}
+use Rattle.rv_encode.specs.Operations.{decoded, decoded_rri, decoded_fpu_rrr}
 use Rattle.rv_inst.specs.Addresses.{Location, Based, AtLabel, AtConstant, location_of, is_near}
 use Rattle.rv_inst.specs.Context.{Context}
 use Rattle.rv_inst.specs.Sizes.{is_byte}
 use Rattle.rv_inst.specs.Forms.{short_rrr, short_rri, short_lui, short_jalr, short_ebreak, short_load, short_store}
 use Rattle.rv_inst.specs.declared.inst.Inst.{Inst}
-use Rattle.rv_inst.specs.declared.inst.Inst.TheVariants.{Nop0, Nop4, EBreak, SequencePoint, Args, Rets, DummyUse, Unwind, EmitIsland, RawData, Lui, Auipc, LoadInlineConst, AluRRR, AluRRImm12, Mov, MovFromPReg, Extend, Select, Load, Store, LoadAddr, LabelAddress, Ret, TrapIf, Jal, CondBr, BrTable, Udf, Jalr, Popcnt, Cltz, Brev8, StackProbeLoop, LoadExtNameGot, LoadExtNameNear, LoadExtNameFar, Call, CallInd, ReturnCall, ReturnCallInd}
+use Rattle.rv_inst.specs.declared.inst.Inst.TheVariants.{Nop0, Nop4, EBreak, SequencePoint, Args, Rets, DummyUse, Unwind, EmitIsland, RawData, Lui, Auipc, LoadInlineConst, AluRRR, AluRRImm12, Mov, MovFromPReg, Extend, Select, Load, Store, LoadAddr, LabelAddress, Ret, TrapIf, Jal, CondBr, BrTable, Udf, Jalr, Popcnt, Cltz, Brev8, StackProbeLoop, LoadExtNameGot, LoadExtNameNear, LoadExtNameFar, Call, CallInd, ReturnCall, ReturnCallInd, FpuRRR}
 
 -- a move is addi of 0; there is none to the same register
 abbrev pub move_operation : IsaFlags → ℕ → ℕ → Option Decoded
@@ -83,3 +83,4 @@ operation_of context (Call info) = None
 operation_of context (CallInd info) = None
 operation_of context (ReturnCall info) = None
 operation_of context (ReturnCallInd info) = None
+operation_of context (FpuRRR op width frm rd rs1 rs2) = Some (decoded_fpu_rrr op width frm (number_of rd.reg) (number_of rs1) (number_of rs2))

@@ -26,7 +26,7 @@ use Rattle.mach_uses.specs.Labels.{name_more}
 use Rattle.rv_inst.specs.declared.inst.Line.{Line}
 use Rattle.rv_inst.specs.declared.inst.Line.TheVariants.{Inst as Put, Bind}
 use Rattle.rv_inst.specs.declared.inst.Inst.{Inst}
-use Rattle.rv_inst.specs.declared.inst.Inst.TheVariants.{Nop0, Nop4, EBreak, SequencePoint, Args, Rets, DummyUse, Unwind, EmitIsland, RawData, Lui, Auipc, LoadInlineConst, AluRRR, AluRRImm12, Mov, MovFromPReg, Extend, Select, Load, Store, LoadAddr, LabelAddress, Ret, TrapIf, Jal, CondBr, BrTable, Udf, Jalr, Popcnt, Cltz, Brev8, StackProbeLoop, LoadExtNameGot, LoadExtNameNear, LoadExtNameFar, Call, CallInd, ReturnCall, ReturnCallInd}
+use Rattle.rv_inst.specs.declared.inst.Inst.TheVariants.{Nop0, Nop4, EBreak, SequencePoint, Args, Rets, DummyUse, Unwind, EmitIsland, RawData, Lui, Auipc, LoadInlineConst, AluRRR, AluRRImm12, Mov, MovFromPReg, Extend, Select, Load, Store, LoadAddr, LabelAddress, Ret, TrapIf, Jal, CondBr, BrTable, Udf, Jalr, Popcnt, Cltz, Brev8, StackProbeLoop, LoadExtNameGot, LoadExtNameNear, LoadExtNameFar, Call, CallInd, ReturnCall, ReturnCallInd, FpuRRR}
 use Rattle.rv_inst.specs.declared.tail_calls.TailCall.{TailCall}
 use Rattle.rv_inst.specs.declared.targets.Targets.{Targets}
 use Rattle.rv_inst.specs.declared.targets.Targets.TheVariants.{Nowhere, Jumps, Branches, Refers, RefersConstant}
@@ -117,6 +117,7 @@ inst_registers (Call info) = use_registers info.uses ++ def_registers info.defs
 inst_registers (CallInd info) = info.dest ∷ use_registers info.uses ++ def_registers info.defs
 inst_registers (ReturnCall info) = use_registers info.uses
 inst_registers (ReturnCallInd info) = info.dest ∷ use_registers info.uses
+inst_registers (FpuRRR op width frm rd rs1 rs2) = rd.reg ∷ rs1 ∷ rs2 ∷ []
 
 abbrev pub target_labels : CondBrTarget → List MachLabel
 target_labels (Label label) = label ∷ []
@@ -175,6 +176,7 @@ targets_of (Call info) = Nowhere
 targets_of (CallInd info) = Nowhere
 targets_of (ReturnCall info) = Nowhere
 targets_of (ReturnCallInd info) = Nowhere
+targets_of (FpuRRR op width frm rd rs1 rs2) = Nowhere
 
 -- the labels of an instruction's table, the default first
 abbrev pub table_of : Inst → List MachLabel
@@ -219,6 +221,7 @@ table_of (Call info) = []
 table_of (CallInd info) = []
 table_of (ReturnCall info) = []
 table_of (ReturnCallInd info) = []
+table_of (FpuRRR op width frm rd rs1 rs2) = []
 
 -- the tail call that an instruction is
 abbrev pub tail_call_of : Inst → Option TailCall
@@ -263,6 +266,7 @@ tail_call_of (Call info) = None
 tail_call_of (CallInd info) = None
 tail_call_of (ReturnCall info) = Some (record { stack_arg_size = info.new_stack_arg_size; by_register = false })
 tail_call_of (ReturnCallInd info) = Some (record { stack_arg_size = info.new_stack_arg_size; by_register = true })
+tail_call_of (FpuRRR op width frm rd rs1 rs2) = None
 
 -- where control goes after a call that ends its block
 abbrev pub try_call_of : Inst → Option TryCallInfo
@@ -307,6 +311,7 @@ try_call_of (Call info) = info.try_call_info
 try_call_of (CallInd info) = info.try_call_info
 try_call_of (ReturnCall info) = None
 try_call_of (ReturnCallInd info) = None
+try_call_of (FpuRRR op width frm rd rs1 rs2) = None
 
 -- the results of a call
 abbrev pub results_of : Inst → List CallRetPair
@@ -351,6 +356,7 @@ results_of (Call info) = info.defs
 results_of (CallInd info) = info.defs
 results_of (ReturnCall info) = []
 results_of (ReturnCallInd info) = []
+results_of (FpuRRR op width frm rd rs1 rs2) = []
 
 abbrev pub handler_label : TryCallHandler → MachLabel
 handler_label (Tag tag label) = label

@@ -6,7 +6,7 @@ use Rattle.rv_base.specs.declared.amode.AMode.TheVariants.{RegOffset, SPOffset, 
 use Rattle.rv_base.specs.declared.regs.Reg.{Reg}
 use Rattle.rv_ops.specs.Operations.{immediate_of, shift_limit}
 use Rattle.rv_inst.specs.declared.inst.Inst.{Inst}
-use Rattle.rv_inst.specs.declared.inst.Inst.TheVariants.{Nop0, Nop4, EBreak, SequencePoint, Args, Rets, DummyUse, Unwind, EmitIsland, RawData, Lui, Auipc, LoadInlineConst, AluRRR, AluRRImm12, Mov, MovFromPReg, Extend, Select, Load, Store, LoadAddr, LabelAddress, Ret, TrapIf, Jal, CondBr, BrTable, Udf, Jalr, Popcnt, Cltz, Brev8, StackProbeLoop, LoadExtNameGot, LoadExtNameNear, LoadExtNameFar, Call, CallInd, ReturnCall, ReturnCallInd}
+use Rattle.rv_inst.specs.declared.inst.Inst.TheVariants.{Nop0, Nop4, EBreak, SequencePoint, Args, Rets, DummyUse, Unwind, EmitIsland, RawData, Lui, Auipc, LoadInlineConst, AluRRR, AluRRImm12, Mov, MovFromPReg, Extend, Select, Load, Store, LoadAddr, LabelAddress, Ret, TrapIf, Jal, CondBr, BrTable, Udf, Jalr, Popcnt, Cltz, Brev8, StackProbeLoop, LoadExtNameGot, LoadExtNameNear, LoadExtNameFar, Call, CallInd, ReturnCall, ReturnCallInd, FpuRRR}
 use Rattle.rv_inst.specs.Addresses.{is_distant}
 use Rattle.rv_inst.specs.Context.{Context}
 use Rattle.rv_inst.specs.Operands.{tail_call_of, target_labels}
@@ -70,6 +70,7 @@ is_plain (Call info) = false
 is_plain (CallInd info) = false
 is_plain (ReturnCall info) = false
 is_plain (ReturnCallInd info) = false
+is_plain (FpuRRR op width frm rd rs1 rs2) = false
 
 -- an instruction that breaks no rule in any context, counts for 128 bytes, and is no tail call
 pub record IsPlain (inst : Inst) : Type 0 where

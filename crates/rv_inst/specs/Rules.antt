@@ -25,14 +25,16 @@ use Rattle.rv_base.specs.AMode.{registers_of, own_offset, base_of}
 use Rattle.rv_base.specs.Regs.{class_of}
 use Rattle.mach_labels.specs.Table.{first_inner}
 use Rattle.rv_ops.specs.Operations.{immediate_of, shift_limit}
+use Rattle.rv_ops.specs.FloatFields.{is_width, takes_frm}
+use Rattle.rv_ops.specs.Fpu.{fpu_rrr_numbers, fpu_rrr_result}
 use Rattle.rv_inst.specs.declared.inst.Line.{Line}
 use Rattle.rv_inst.specs.declared.inst.Line.TheVariants.{Inst as Put, Bind}
 use Rattle.rv_inst.specs.declared.inst.Inst.{Inst}
-use Rattle.rv_inst.specs.declared.inst.Inst.TheVariants.{Nop0, Nop4, EBreak, SequencePoint, Args, Rets, DummyUse, Unwind, EmitIsland, RawData, Lui, Auipc, LoadInlineConst, AluRRR, AluRRImm12, Mov, MovFromPReg, Extend, Select, Load, Store, LoadAddr, LabelAddress, Ret, TrapIf, Jal, CondBr, BrTable, Udf, Jalr, Popcnt, Cltz, Brev8, StackProbeLoop, LoadExtNameGot, LoadExtNameNear, LoadExtNameFar, Call, CallInd, ReturnCall, ReturnCallInd}
+use Rattle.rv_inst.specs.declared.inst.Inst.TheVariants.{Nop0, Nop4, EBreak, SequencePoint, Args, Rets, DummyUse, Unwind, EmitIsland, RawData, Lui, Auipc, LoadInlineConst, AluRRR, AluRRImm12, Mov, MovFromPReg, Extend, Select, Load, Store, LoadAddr, LabelAddress, Ret, TrapIf, Jal, CondBr, BrTable, Udf, Jalr, Popcnt, Cltz, Brev8, StackProbeLoop, LoadExtNameGot, LoadExtNameNear, LoadExtNameFar, Call, CallInd, ReturnCall, ReturnCallInd, FpuRRR}
 use Rattle.rv_inst.specs.declared.inst.CondBrTarget.{CondBrTarget}
 use Rattle.rv_inst.specs.declared.inst.CondBrTarget.TheVariants.{Label as ToLabel, Fallthrough}
 use Rattle.rv_inst.specs.declared.error.Rule.{Rule}
-use Rattle.rv_inst.specs.declared.error.Rule.TheVariants.{Virtual, Class, Reserved, Zero, Clash, BadType, Range, Constant as ConstantRule, EmptyTable, NoTarget, Label, TailArgs, DataSize}
+use Rattle.rv_inst.specs.declared.error.Rule.TheVariants.{Virtual, Class, Reserved, Zero, Clash, BadType, Range, Rounding, Width, Constant as ConstantRule, EmptyTable, NoTarget, Label, TailArgs, DataSize}
 use Rattle.rv_inst.specs.Addresses.{is_distant}
 use Rattle.rv_inst.specs.Context.{Context}
 use Rattle.rv_inst.specs.Operands.{all_of, written_in, result_registers, inst_registers, inst_labels, tail_call_of, targets_of}
@@ -72,6 +74,10 @@ same_class Float Vector = false
 same_class Vector Int = false
 same_class Vector Float = false
 same_class Vector Vector = true
+
+-- whether a register is of another class than this
+abbrev pub is_not_of : RegClass → Reg → Bool
+is_not_of class r = not (same_class (class_of r) class)
 
 abbrev pub differ_in_class : Reg → Reg → Bool
 differ_in_class r s = not (same_class (class_of r) (class_of s))
@@ -244,19 +250,22 @@ is_buffer_label label = nat_le first_inner label.number
 
 -- which of these rules are broken: some register has another class than its place asks; x0 stands where a result is computed in
 -- steps; a register that is written before all are read is another's too; a type isn't taken; a shift amount or a bit's index is
--- beyond the register's width, or a number beyond its range; a table has no label; a branch has nowhere to go where its comparison holds; data has a length that isn't taken
+-- beyond the register's width, or a number beyond its range; a rounding mode is named that the operation doesn't take; the format is one
+-- of which no operation is; a table has no label; a branch has nowhere to go where its comparison holds; data has a length that isn't taken
 pub record Faults : Type 0 where
   pub class : Bool
   pub zeroed : Bool
   pub clashing : Bool
   pub type : Bool
   pub range : Bool
+  pub rounding : Bool
+  pub width : Bool
   pub table : Bool
   pub target : Bool
   pub size : Bool
 
 abbrev pub has_other_class : Bool → Faults
-has_other_class class = record { class = class; zeroed = false; clashing = false; type = false; range = false; table = false; target = false; size = false }
+has_other_class class = record { class = class; zeroed = false; clashing = false; type = false; range = false; rounding = false; width = false; table = false; target = false; size = false }
 
 -- of a count: a sum and two temporaries, which are written before all of what is counted is read
 abbrev pub count_faults : Writable Reg → Writable Reg → Writable Reg → Reg → IrType → Faults
@@ -266,7 +275,8 @@ count_faults sum tmp step rs type = record (has_other_class (list_any is_other_c
   type = not (is_int_type type);
 }
 
--- A register's place asks the class Int, but the two of a pair or of a move have one class, and a result on the stack that of its
+-- A register's place asks the class Int, but the operands of a float operation that class, where its result isn't an integer's; the two
+-- of a pair or of a move have one class, and a result on the stack that of its
 -- type. A move of an integer register, and a result on the stack, have an integer type of at most 64 bits; of others none is built. Data has four or eight bytes.
 abbrev pub faults_of : Inst → Faults
 faults_of Nop0 = has_other_class false
@@ -318,6 +328,7 @@ faults_of (Call info) = record (has_other_class (call_differs info.uses info.def
 faults_of (CallInd info) = record (has_other_class (is_other_class info.dest || call_differs info.uses info.defs)) { clashing = results_clash info.defs; type = list_any is_unloadable info.defs; range = nat_le (2 ^ 31) info.callee_pop_size || list_any is_high info.defs }
 faults_of (ReturnCall info) = has_other_class (list_any (λ (p : CallArgPair). differ_in_class p.vreg p.preg) info.uses)
 faults_of (ReturnCallInd info) = has_other_class (not (is_fifth info.dest) || list_any (λ (p : CallArgPair). differ_in_class p.vreg p.preg) info.uses)
+faults_of (FpuRRR op width frm rd rs1 rs2) = record (has_other_class (is_not_of (fpu_rrr_result op) rd.reg || list_any (is_not_of Float) (rs1 ∷ rs2 ∷ []))) { rounding = not (takes_frm (fpu_rrr_numbers op).rounding frm); width = not (is_width width) }
 
 abbrev pub is_misplaced : Inst → Bool
 is_misplaced inst = (faults_of inst).class
@@ -333,6 +344,12 @@ has_bad_type inst = (faults_of inst).type
 
 abbrev pub is_out_of_range : Inst → Bool
 is_out_of_range inst = (faults_of inst).range
+
+abbrev pub has_bad_rounding : Inst → Bool
+has_bad_rounding inst = (faults_of inst).rounding
+
+abbrev pub has_bad_width : Inst → Bool
+has_bad_width inst = (faults_of inst).width
 
 abbrev pub has_empty_table : Inst → Bool
 has_empty_table inst = (faults_of inst).table
@@ -372,7 +389,7 @@ exceeds_arguments frame (Some tail) = nat_lt frame.tail_args_size tail.stack_arg
 -- ---- the rules in their order
 
 unfoldable pub every_rule : List Rule
-every_rule = Virtual ∷ Class ∷ Reserved ∷ Zero ∷ Clash ∷ BadType ∷ Range ∷ ConstantRule ∷ EmptyTable ∷ NoTarget ∷ Label ∷ TailArgs ∷ DataSize ∷ []
+every_rule = Virtual ∷ Class ∷ Reserved ∷ Zero ∷ Clash ∷ BadType ∷ Range ∷ Rounding ∷ Width ∷ ConstantRule ∷ EmptyTable ∷ NoTarget ∷ Label ∷ TailArgs ∷ DataSize ∷ []
 
 -- whether an instruction breaks a rule, in its context
 abbrev pub breaks : Context → Inst → Rule → Bool
@@ -383,6 +400,8 @@ breaks context inst Zero = has_zero inst
 breaks context inst Clash = has_clash inst
 breaks context inst BadType = has_bad_type inst
 breaks context inst Range = is_out_of_range inst
+breaks context inst Rounding = has_bad_rounding inst
+breaks context inst Width = has_bad_width inst
 breaks context inst ConstantRule = lacks_constant context.constants inst
 breaks context inst EmptyTable = has_empty_table inst
 breaks context inst NoTarget = lacks_target inst

@@ -25,7 +25,7 @@ use Rattle.rv_inst.specs.Rules.{is_stacked}
 use Rattle.rv_inst.specs.declared.inst.Line.{Line}
 use Rattle.rv_inst.specs.declared.inst.Line.TheVariants.{Inst as Put, Bind}
 use Rattle.rv_inst.specs.declared.inst.Inst.{Inst}
-use Rattle.rv_inst.specs.declared.inst.Inst.TheVariants.{Nop0, Nop4, EBreak, SequencePoint, Args, Rets, DummyUse, Unwind, EmitIsland, RawData, Lui, Auipc, LoadInlineConst, AluRRR, AluRRImm12, Mov, MovFromPReg, Extend, Select, Load, Store, LoadAddr, LabelAddress, Ret, TrapIf, Jal, CondBr, BrTable, Udf, Jalr, Popcnt, Cltz, Brev8, StackProbeLoop, LoadExtNameGot, LoadExtNameNear, LoadExtNameFar, Call, CallInd, ReturnCall, ReturnCallInd}
+use Rattle.rv_inst.specs.declared.inst.Inst.TheVariants.{Nop0, Nop4, EBreak, SequencePoint, Args, Rets, DummyUse, Unwind, EmitIsland, RawData, Lui, Auipc, LoadInlineConst, AluRRR, AluRRImm12, Mov, MovFromPReg, Extend, Select, Load, Store, LoadAddr, LabelAddress, Ret, TrapIf, Jal, CondBr, BrTable, Udf, Jalr, Popcnt, Cltz, Brev8, StackProbeLoop, LoadExtNameGot, LoadExtNameNear, LoadExtNameFar, Call, CallInd, ReturnCall, ReturnCallInd, FpuRRR}
 use Rattle.rv_inst.specs.declared.inst.CondBrTarget.{CondBrTarget}
 use Rattle.rv_inst.specs.declared.inst.CondBrTarget.TheVariants.{Label, Fallthrough}
 
@@ -247,6 +247,7 @@ extent_of context (Call info) = call_extent context.flags 8 info.callee_pop_size
 extent_of context (CallInd info) = call_extent context.flags (short_jalr context.flags 1 (number_of info.dest) (pos 0)).len info.callee_pop_size (result_loads info.defs) info.try_call_info
 extent_of context (ReturnCall info) = tail_extent context info.new_stack_arg_size 8 8
 extent_of context (ReturnCallInd info) = tail_extent context info.new_stack_arg_size 4 (short_jalr context.flags 0 5 (pos 0)).len
+extent_of context (FpuRRR op width frm rd rs1 rs2) = Words 4
 
 abbrev pub space_in : Extent → Option ℕ
 space_in (Words size) = None

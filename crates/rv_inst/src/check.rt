@@ -11,7 +11,9 @@ use crate::clashes::{has_clash, has_zero};
 use crate::error::Rule;
 use crate::inst::{CondBrTarget, Inst, Line};
 use crate::places::is_misplaced;
-use crate::ranges::{has_bad_size, has_bad_type, has_empty_table, is_out_of_range};
+use crate::ranges::{
+    has_bad_rounding, has_bad_size, has_bad_type, has_bad_width, has_empty_table, is_out_of_range,
+};
 use crate::registers::{RegisterTest, has_register};
 use crate::tail_calls::exceeds_arguments;
 use crate::targets::{Targets, handler_label};
@@ -19,7 +21,7 @@ use mach_labels::FIRST_INNER;
 use rv_base::{Constant, FrameLayout, IsaFlags, MachLabel, TryCallHandler, TryCallInfo};
 
 /// The rules, in the order in which a line is checked.
-const EVERY_RULE: [Rule; 13] = [
+const EVERY_RULE: [Rule; 15] = [
     Rule::Virtual,
     Rule::Class,
     Rule::Reserved,
@@ -27,6 +29,8 @@ const EVERY_RULE: [Rule; 13] = [
     Rule::Clash,
     Rule::BadType,
     Rule::Range,
+    Rule::Rounding,
+    Rule::Width,
     Rule::Constant,
     Rule::EmptyTable,
     Rule::NoTarget,
@@ -106,6 +110,8 @@ impl Inst {
             Rule::Clash => has_clash(self),
             Rule::BadType => has_bad_type(self),
             Rule::Range => is_out_of_range(self),
+            Rule::Rounding => has_bad_rounding(self),
+            Rule::Width => has_bad_width(self),
             Rule::Constant => lacks_constant(self, constants),
             Rule::EmptyTable => has_empty_table(self),
             Rule::NoTarget => lacks_target(self),

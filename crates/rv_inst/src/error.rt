@@ -20,6 +20,10 @@ pub enum Rule {
     BadType,
     /// Numbers are in their range.
     Range,
+    /// A float operation that isn't rounded has the rounding mode of its own number.
+    Rounding,
+    /// A float operation is of 16, 32 or 64 bits.
+    Width,
     /// A constant that is named is one of the job's, and has as many bytes as are read.
     Constant,
     /// A table has a label.

@@ -8,7 +8,7 @@ use rv_base::{
     RetPair, ReturnCallInfo, TrapCode, UnwindInst, ValueRegs, WritableReg,
 };
 use rv_imms::{Imm12, Imm20};
-use rv_ops::{AluOPRRI, AluOPRRR, IntegerCompare, LoadOP, StoreOP};
+use rv_ops::{AluOPRRI, AluOPRRR, FRM, FpuOPRRR, FpuOPWidth, IntegerCompare, LoadOP, StoreOP};
 use std::fmt;
 
 /// Where a branch goes on one of its two sides.
@@ -309,6 +309,17 @@ pub enum Inst {
         /// On the heap, since a line has no room for it.
         info: Boxed<ReturnCallInfo<Reg>>,
     },
+    /// `rd` is the floating-point operation of `rs1` and `rs2`, which are numbers of the width's format: a floating-point register,
+    /// or of a comparison an integer one. An operation that isn't rounded takes one rounding mode alone, whose bits are its
+    /// own. 4 bytes.
+    FpuRRR {
+        alu_op: FpuOPRRR,
+        width: FpuOPWidth,
+        frm: FRM,
+        rd: WritableReg,
+        rs1: Reg,
+        rs2: Reg,
+    },
 }
 
 /// `Nop0`, which does nothing.
@@ -340,6 +351,8 @@ pub enum Family {
     Symbols,
     /// Those that call a function, or give their own function's place to another.
     Calls,
+    /// Those that compute with floating-point numbers.
+    Float,
 }
 
 impl Inst {
@@ -390,6 +403,7 @@ impl Inst {
             | Inst::CallInd { info: _ }
             | Inst::ReturnCall { info: _ }
             | Inst::ReturnCallInd { info: _ } => Family::Calls,
+            Inst::FpuRRR { .. } => Family::Float,
         }
     }
 }

@@ -134,7 +134,8 @@ impl Inst {
             | Inst::Call { info: _ }
             | Inst::CallInd { info: _ }
             | Inst::ReturnCall { info: _ }
-            | Inst::ReturnCallInd { info: _ } => false,
+            | Inst::ReturnCallInd { info: _ }
+            | Inst::FpuRRR { .. } => false,
         }
     }
 }

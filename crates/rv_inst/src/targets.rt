@@ -56,9 +56,12 @@ impl Inst {
         ensures { result ≡ targets_of self.now }
     {
         match self.family() {
-            Family::Pseudo | Family::Integer | Family::Loop | Family::Symbols | Family::Calls => {
-                Targets::Nowhere
-            },
+            Family::Pseudo
+            | Family::Integer
+            | Family::Loop
+            | Family::Symbols
+            | Family::Calls
+            | Family::Float => Targets::Nowhere,
             Family::Memory => memory_targets(self),
             Family::Control => control_targets(self),
         }

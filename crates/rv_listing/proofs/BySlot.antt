@@ -14,11 +14,21 @@ use Rattle.rv_ops.specs.declared.memory.LoadOP.{LoadOP}
 use Rattle.rv_ops.specs.declared.memory.LoadOP.TheVariants as load
 use Rattle.rv_ops.specs.declared.memory.StoreOP.{StoreOP}
 use Rattle.rv_ops.specs.declared.memory.StoreOP.TheVariants as store
+use Rattle.rv_ops.specs.declared.float_fields.FpuOPWidth.{FpuOPWidth}
+use Rattle.rv_ops.specs.declared.float_fields.FpuOPWidth.TheVariants as width
+use Rattle.rv_ops.specs.declared.float_fields.FRM.{FRM}
+use Rattle.rv_ops.specs.declared.float_fields.FRM.TheVariants as frm
+use Rattle.rv_ops.specs.declared.fpu.FpuOPRRR.{FpuOPRRR}
+use Rattle.rv_ops.specs.declared.fpu.FpuOPRRR.TheVariants as fpu_rrr_op
 use Rattle.rv_ops.specs.Alu.{rrr_name, rri_name}
+use Rattle.rv_ops.specs.FloatFields.{width_name, frm_name}
+use Rattle.rv_ops.specs.Fpu.{fpu_rrr_listed}
 use Rattle.rv_ops.specs.Memory.{load_name, store_name}
 use Rattle.rv_listing.specs.Comparisons.{every, cond_code}
 use Rattle.rv_listing.specs.declared.comparisons.TheConstants.{SLOTS, FACTOR}
 use Rattle.rv_listing.specs.declared.operations.TheConstants.{RRR_SLOTS, RRR_FACTOR, RRI_SLOTS, RRI_FACTOR, LOAD_SLOTS, LOAD_FACTOR, STORE_SLOTS, STORE_FACTOR}
+use Rattle.rv_listing.specs.declared.floats.TheConstants.{FPU_RRR_SLOTS, FPU_RRR_FACTOR, WIDTH_SLOTS, WIDTH_FACTOR, FRM_SLOTS, FRM_FACTOR}
+use Rattle.rv_listing.specs.Floats.{every_fpu_rrr, fpu_rrr, every_width, fpu_width, every_frm, rounding_mode}
 use Rattle.rv_listing.specs.Slots.{candidate, slot, key}
 use Rattle.rv_listing.specs.declared.form_names.TheConstants.{FORM_SLOTS, FORM_FACTOR}
 use Rattle.rv_listing.specs.declared.form_names.Form.{Form}
@@ -166,3 +176,45 @@ form_hit _ = refl
 pub form_by_slot : (w : List ℕ) → checked form_name w (candidate every_form FORM_SLOTS FORM_FACTOR w) ≡ form_named w
 unfolding form_named
 form_by_slot = by_slot form_name every_form (candidate every_form FORM_SLOTS FORM_FACTOR) form_found form_hit
+
+pub fpu_rrr_found : (x : FpuOPRRR) → fpu_rrr (fpu_rrr_listed x) ≡ Some x
+unfolding fpu_rrr every_fpu_rrr
+fpu_rrr_found fpu_rrr_op.Fadd = refl
+fpu_rrr_found _ = refl
+
+fpu_rrr_hit : (x : FpuOPRRR) → candidate every_fpu_rrr FPU_RRR_SLOTS FPU_RRR_FACTOR (fpu_rrr_listed x) ≡ Some x
+unfolding every_fpu_rrr candidate slot key
+fpu_rrr_hit fpu_rrr_op.Fadd = refl
+fpu_rrr_hit _ = refl
+
+pub fpu_rrr_by_slot : (w : List ℕ) → checked fpu_rrr_listed w (candidate every_fpu_rrr FPU_RRR_SLOTS FPU_RRR_FACTOR w) ≡ fpu_rrr w
+unfolding fpu_rrr
+fpu_rrr_by_slot = by_slot fpu_rrr_listed every_fpu_rrr (candidate every_fpu_rrr FPU_RRR_SLOTS FPU_RRR_FACTOR) fpu_rrr_found fpu_rrr_hit
+
+pub width_found : (x : FpuOPWidth) → fpu_width (width_name x) ≡ Some x
+unfolding fpu_width every_width
+width_found width.H = refl
+width_found _ = refl
+
+width_hit : (x : FpuOPWidth) → candidate every_width WIDTH_SLOTS WIDTH_FACTOR (width_name x) ≡ Some x
+unfolding every_width candidate slot key
+width_hit width.H = refl
+width_hit _ = refl
+
+pub width_by_slot : (w : List ℕ) → checked width_name w (candidate every_width WIDTH_SLOTS WIDTH_FACTOR w) ≡ fpu_width w
+unfolding fpu_width
+width_by_slot = by_slot width_name every_width (candidate every_width WIDTH_SLOTS WIDTH_FACTOR) width_found width_hit
+
+pub frm_found : (x : FRM) → rounding_mode (frm_name x) ≡ Some x
+unfolding rounding_mode every_frm
+frm_found frm.RNE = refl
+frm_found _ = refl
+
+frm_hit : (x : FRM) → candidate every_frm FRM_SLOTS FRM_FACTOR (frm_name x) ≡ Some x
+unfolding every_frm candidate slot key
+frm_hit frm.RNE = refl
+frm_hit _ = refl
+
+pub frm_by_slot : (w : List ℕ) → checked frm_name w (candidate every_frm FRM_SLOTS FRM_FACTOR w) ≡ rounding_mode w
+unfolding rounding_mode
+frm_by_slot = by_slot frm_name every_frm (candidate every_frm FRM_SLOTS FRM_FACTOR) frm_found frm_hit

@@ -29,6 +29,7 @@ use Rattle.rv_listing.specs.Operands.{writable, real_register, imm12, imm20, nat
 use Rattle.rv_listing.specs.Comparisons.{cond_code}
 use Rattle.rv_listing.specs.Addresses.{amode}
 use Rattle.rv_listing.specs.Operations.{alu_rri, alu_rrr, load_op, store_op}
+use Rattle.rv_listing.specs.Floats.{fpu_rrr, fpu_width, rounding_mode}
 use Rattle.rv_listing.specs.Types.{type_named}
 use Rattle.rv_listing.specs.HexDigits.{some_bytes}
 use Rattle.rv_listing.specs.Traps.{trap_named, access_flags}
@@ -218,6 +219,11 @@ return_call_ind reg uses size = form.ReturnCallInd (record { dest = reg; uses = 
 unfoldable pub return_call_ind_form : List (List ℕ) → Option Inst
 return_call_ind_form = whole (done return_call_ind ⊛ register ⊛ listed call_arg_pair ⊛ natural_32)
 
+-- ---- those that compute with floating-point numbers
+
+unfoldable pub fpu_rrr_form : List (List ℕ) → Option Inst
+fpu_rrr_form = whole (done form.FpuRRR ⊛ fpu_rrr ⊛ fpu_width ⊛ rounding_mode ⊛ writable ⊛ register ⊛ register)
+
 -- ---- lines
 
 unfoldable pub bind_form : List (List ℕ) → Option Line
@@ -270,6 +276,7 @@ by_form forms.Call ws = put (call_form ws)
 by_form forms.CallInd ws = put (call_ind_form ws)
 by_form forms.ReturnCall ws = put (return_call_form ws)
 by_form forms.ReturnCallInd ws = put (return_call_ind_form ws)
+by_form forms.FpuRRR ws = put (fpu_rrr_form ws)
 by_form forms.Bind ws = bind_form ws
 
 unfoldable pub line_form : List ℕ → List (List ℕ) → Option Line

@@ -22,3 +22,4 @@ pub mod Reading
 pub mod CodeRanges
 pub mod Relocations
 pub mod Report
+pub mod Floats

@@ -8,6 +8,7 @@ mod comparisons;
 mod constant_header;
 mod fields;
 mod flags_header;
+mod floats;
 mod form_names;
 mod forms;
 mod frame_header;

@@ -4,7 +4,7 @@ use Rattle.rv_base.specs.declared.regs.Reg.{Reg}
 use Rattle.rv_base.specs.declared.regs.Writable.{Writable}
 use Rattle.rv_base.specs.declared.call.TryCallInfo.{TryCallInfo}
 use Rattle.rv_inst.specs.declared.inst.Inst.{Inst}
-use Rattle.rv_inst.specs.declared.inst.Inst.TheVariants.{Nop0, Nop4, EBreak, SequencePoint, Args, Rets, DummyUse, Unwind, EmitIsland, RawData, Lui, Auipc, LoadInlineConst, AluRRR, AluRRImm12, Mov, MovFromPReg, Extend, Select, Load, Store, LoadAddr, LabelAddress, Ret, TrapIf, Jal, CondBr, BrTable, Udf, Jalr, Popcnt, Cltz, Brev8, StackProbeLoop, LoadExtNameGot, LoadExtNameNear, LoadExtNameFar, Call, CallInd, ReturnCall, ReturnCallInd}
+use Rattle.rv_inst.specs.declared.inst.Inst.TheVariants.{Nop0, Nop4, EBreak, SequencePoint, Args, Rets, DummyUse, Unwind, EmitIsland, RawData, Lui, Auipc, LoadInlineConst, AluRRR, AluRRImm12, Mov, MovFromPReg, Extend, Select, Load, Store, LoadAddr, LabelAddress, Ret, TrapIf, Jal, CondBr, BrTable, Udf, Jalr, Popcnt, Cltz, Brev8, StackProbeLoop, LoadExtNameGot, LoadExtNameNear, LoadExtNameFar, Call, CallInd, ReturnCall, ReturnCallInd, FpuRRR}
 use Rattle.rv_operands.specs.declared.kinds.CallType.{CallType}
 use Rattle.rv_operands.specs.declared.kinds.CallType.TheVariants.{None as NoCall, Regular, TailCall}
 use Rattle.rv_operands.specs.declared.kinds.MachTerminator.{MachTerminator}
@@ -75,6 +75,7 @@ roles_of (Call info) = that_calls info.try_call_info
 roles_of (CallInd info) = that_calls info.try_call_info
 roles_of (ReturnCall info) = record (that_ends RetCall) { call = TailCall }
 roles_of (ReturnCallInd info) = record (that_ends RetCall) { call = TailCall }
+roles_of (FpuRRR op width frm rd rs1 rs2) = plain
 
 -- a call that returns is a place where a collector may run
 abbrev pub is_regular : CallType → Bool

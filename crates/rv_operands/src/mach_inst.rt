@@ -177,9 +177,8 @@ impl MachInst for Inst {
             Family::Pseudo => pseudo_end(self),
             Family::Control => control_end(self),
             Family::Calls => call_end(self),
-            Family::Integer | Family::Memory | Family::Loop | Family::Symbols => {
-                MachTerminator::None
-            }
+            Family::Integer | Family::Memory | Family::Loop | Family::Symbols | Family::Float =>
+                MachTerminator::None,
         }
     }
 

@@ -1,6 +1,5 @@
 use Rattle.rv_asm.specs.Job.{job_of}
-use Rattle.rv_asm.proofs.FinishedPromises.{finished_saves, finished_reported, finished_runs, finished_operations, finished_jumps, finished_in_reach}
-use Rattle.rv_asm.proofs.FullRuns.{accepted_full_runs}
+use Rattle.rv_asm.proofs.FinishedPromises.{finished_saves, finished_reported, finished_runs, finished_full_runs, finished_operations, finished_jumps, finished_in_reach}
 use Rattle.rv_asm.proofs.RefusalOrder.{accepted_frame, accepted_lines}
 use Rattle.rv_asm.proofs.assembly.assemble.Goals as goal
 
@@ -29,4 +28,4 @@ pub returns-in-Ok-clause-jumps : goal.returns-in-Ok-clause-jumps
 returns-in-Ok-clause-jumps c = finished_jumps (job_of c.args.lines.now c.args.flags c.args.frame.now c.args.constants.now) c.in-Ok.code c.in_ok-refuse.ensures c.in-Ok.ensures c.code_fits.ensures
 
 pub returns-in-Ok-clause-full_runs : goal.returns-in-Ok-clause-full_runs
-returns-in-Ok-clause-full_runs c = accepted_full_runs (job_of c.args.lines.now c.args.flags c.args.frame.now c.args.constants.now) c.in-Ok.code c.in_ok-refuse.ensures (finished_runs (job_of c.args.lines.now c.args.flags c.args.frame.now c.args.constants.now) c.in-Ok.code c.in_ok-refuse.ensures c.in-Ok.ensures c.code_fits.ensures)
+returns-in-Ok-clause-full_runs c = finished_full_runs (job_of c.args.lines.now c.args.flags c.args.frame.now c.args.constants.now) c.in-Ok.code c.in_ok-refuse.ensures c.in-Ok.ensures c.code_fits.ensures

@@ -3,7 +3,7 @@ use Rattle.std.proofs.lemmas.Result.{on_ok_weaker}
 use Rattle.rv_inst.specs.Context.{context_by}
 use Rattle.mach_buffer.specs.Buffer.{registered_of}
 use Rattle.rv_code.proofs.FineOperands.{fine}
-use Rattle.rv_inst.specs.declared.inst.Family.TheVariants.{Pseudo, Integer, Memory, Control, Loop, Symbols}
+use Rattle.rv_inst.specs.declared.inst.Family.TheVariants.{Pseudo, Integer, Memory, Control, Loop, Symbols, Float}
 use Rattle.rv_emit.proofs.StackMaps.{emits_given}
 use Rattle.rv_emit.proofs.sequence.put_sequence.Goals as goal
 
@@ -60,3 +60,11 @@ returns-in-Calls-clause-parts c = λ asks. c.put_calls.ensures.parts (sym c.fami
 
 pub put_calls-requires-clause-fine : goal.put_calls-requires-clause-fine
 put_calls-requires-clause-fine c = fine (context_by c.args.flags c.args.frame.now (registered_of c.args.sink.now)) c.args.inst.now c.requires.rule
+
+pub put_float-requires-clause-fine : goal.put_float-requires-clause-fine
+put_float-requires-clause-fine c = fine (context_by c.args.flags c.args.frame.now (registered_of c.args.sink.now)) c.args.inst.now c.requires.rule
+
+pub returns-in-Float-clause-parts : goal.returns-in-Float-clause-parts
+returns-in-Float-clause-parts c =
+    let family = sym c.family.ensures ∙ c.in-Float.is in
+    λ asks. on_ok_weaker c.put_float.result (λ emits. emits_given c.args.stack_map.now (context_by c.args.flags c.args.frame.now (registered_of c.args.sink.now)) c.args.inst.now Float family tt c.args.sink.now c.put_float.new.sink (emits c.args.frame.now (registered_of c.args.sink.now))) (c.put_float.ensures.parts family c.args.flags)

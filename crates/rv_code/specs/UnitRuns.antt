@@ -1,0 +1,84 @@
+-- What it is for a unit's operation to do the same on the machine and on values of the listing: links of the proof.
+use Rattle.std.specs.Prelude.{◌≡◌, ℕ, ◌<◌, true, List, [], ◌++◌, Some}
+use Rattle.std.specs.List.{AllByRecursion}
+use Rattle.rv_base.specs.declared.regs.RegClass.{RegClass}
+use Rattle.rv_base.specs.declared.regs.RegClass.TheVariants.{Int, Float, Vector}
+use Rattle.rv_machine.specs.declared.decoding.Decoded.{Decoded}
+use Rattle.rv_machine.specs.State.{AreValues}
+use Rattle.rv_full.specs.declared.answer.Answer.{Answer}
+use Rattle.rv_full.specs.declared.shapes.Sources.{Sources}
+use Rattle.rv_full.specs.declared.shapes.Sources.TheVariants as sources
+use Rattle.rv_full.specs.declared.shapes.Target.{Target}
+use Rattle.rv_full.specs.declared.shapes.Target.TheVariants as target
+use Rattle.rv_full.specs.declared.shapes.FloatShape.{FloatShape}
+use Rattle.rv_full.specs.declared.shapes.FloatShape.TheVariants.{Answered, ToInteger, ToFloat, Sign}
+use Rattle.rv_full.specs.Rows.{Kind, Row, Absent, Does, Takes, fits, row_takes}
+use Rattle.rv_full.specs.Steps.{Goes, Asks, row_next}
+use Rattle.rv_full.specs.Units.{FullValues, AreUnits, AnswerFits, full_at}
+use Rattle.rv_code.specs.FullValues.{SameFull}
+
+-- the listing's values and the machine's after an operation that left these of the machine's as they were: the memory and the setting
+pub record Agree (w x y : FullValues) : Type 0 where
+  pub same : SameFull x y
+  pub mem : y.ints.mem ≡ w.ints.mem
+  pub setting : y.units.setting ≡ w.units.setting
+  pub are_values : AreValues x.ints
+  pub is_values : AreValues y.ints
+  pub units : AreUnits y.units
+
+-- from the machine's values w, rows that do something, or take the same kind of answer, and agree with each
+abbrev pub RowsAgree : FullValues → Row → Row → Type 0
+RowsAgree w Absent Absent = ⊥
+RowsAgree w Absent (Does y) = ⊥
+RowsAgree w Absent (Takes l g) = ⊥
+RowsAgree w (Does x) Absent = ⊥
+RowsAgree w (Does x) (Does y) = Agree w x y
+RowsAgree w (Does x) (Takes l g) = ⊥
+RowsAgree w (Takes k f) Absent = ⊥
+RowsAgree w (Takes k f) (Does y) = ⊥
+RowsAgree w (Takes k f) (Takes l g) = (k ≡ l) × ((a : Answer) → fits k a ≡ true → AnswerFits a → Agree w (f a) (g a))
+
+-- an integer register that is read, or written, is below x30
+abbrev pub IsUsableSource : Sources → Decoded → Type 0
+IsUsableSource sources.Constant d = Unit {0}
+IsUsableSource sources.Integer d = d.rs1 < 30
+IsUsableSource sources.One d = Unit {0}
+IsUsableSource sources.Two d = Unit {0}
+IsUsableSource sources.Three d = Unit {0}
+
+abbrev pub IsUsableTarget : Target → Decoded → Type 0
+IsUsableTarget target.Integer d = d.rd < 30
+IsUsableTarget target.Float d = d.rd < 32
+
+-- of a shape that takes an answer, or a sign's; those that move a register between two files are neither
+abbrev pub IsUsableShape : FloatShape → Decoded → Type 0
+IsUsableShape (Answered from to) d = IsUsableSource from d × IsUsableTarget to d
+IsUsableShape ToInteger d = ⊥
+IsUsableShape ToFloat d = ⊥
+IsUsableShape Sign d = d.rd < 32
+
+-- a register of a class, by its number: an integer register is below x30
+abbrev pub IsUsableIn : RegClass → ℕ → Type 0
+IsUsableIn Int n = n < 30
+IsUsableIn Float n = n < 32
+IsUsableIn Vector n = n < 32
+
+-- With the answers that are left the machine goes on to an address, with values that agree with those that the listing's row gives with the
+-- answers that were taken.
+pub record RowGoes (pc : ℕ) (w : FullValues) (x y : Row) (answers : List Answer) : Type 0 where
+  pub took : List Answer
+  pub left : List Answer
+  pub made : FullValues
+  pub after : FullValues
+  pub parted : answers ≡ took ++ left
+  pub takes : row_takes x took ≡ Some (made, [])
+  pub next : row_next pc y answers ≡ Goes (full_at pc after left)
+  pub agree : Agree w made after
+  pub fit : AllByRecursion AnswerFits left
+
+-- Or it asks for an answer, since the listing's row takes one, and those that are left don't begin with one of its kind.
+pub record RowAsks (pc : ℕ) (x y : Row) (answers : List Answer) : Type 0 where
+  pub kind : Kind
+  pub gives : Answer → FullValues
+  pub takes : x ≡ Takes kind gives
+  pub asks : row_next pc y answers ≡ Asks

@@ -1,0 +1,156 @@
+//! Floating-point operations, formats and rounding modes by their names.
+
+ghost use Rattle.std.specs.Prelude.{◌≡◌, Some};
+ghost use Rattle.rv_ops.specs.FloatFields.{width_name, frm_name};
+ghost use Rattle.rv_ops.specs.Fpu.{fpu_rrr_listed};
+ghost use Rattle.rv_listing.specs.Floats.{fpu_rrr, fpu_width, rounding_mode};
+
+use crate::fields::Token;
+use crate::slots::candidate;
+use crate::tokens::is;
+use rv_ops::{FRM, FpuOPRRR, FpuOPWidth};
+
+const EVERY_FPU_RRR: [FpuOPRRR; 14] = [
+    FpuOPRRR::Fadd,
+    FpuOPRRR::Fsub,
+    FpuOPRRR::Fmul,
+    FpuOPRRR::Fdiv,
+    FpuOPRRR::Fsgnj,
+    FpuOPRRR::Fsgnjn,
+    FpuOPRRR::Fsgnjx,
+    FpuOPRRR::Fmin,
+    FpuOPRRR::Fmax,
+    FpuOPRRR::Feq,
+    FpuOPRRR::Flt,
+    FpuOPRRR::Fle,
+    FpuOPRRR::Fminm,
+    FpuOPRRR::Fmaxm,
+];
+
+/// The indices in `EVERY_FPU_RRR` by the names' slots.
+const FPU_RRR_SLOTS: [u8; 256] = [
+    0, 0, 0, 1, 0, 0, 0, 0, 0, 0, 0, 0, 0, 0, 0, 0, 13, 0, 0, 0, 0, 0, 0, 9, 0, 0, 0, 0, 0, 0, 0,
+    0, 0, 11, 0, 0, 0, 0, 0, 0, 0, 0, 0, 0, 0, 0, 0, 0, 0, 0, 0, 0, 0, 0, 0, 7, 0, 0, 0, 0, 0, 0,
+    0, 0, 0, 0, 0, 0, 0, 0, 0, 0, 0, 0, 0, 0, 0, 0, 0, 0, 0, 0, 10, 0, 0, 0, 0, 0, 0, 0, 0, 0, 0,
+    0, 0, 0, 0, 0, 0, 0, 0, 0, 0, 0, 5, 0, 0, 0, 0, 0, 0, 0, 0, 0, 0, 0, 0, 0, 0, 0, 0, 0, 0, 8, 0,
+    0, 0, 0, 0, 0, 0, 0, 0, 0, 0, 0, 0, 0, 0, 0, 0, 0, 0, 2, 0, 0, 0, 0, 0, 0, 0, 0, 3, 0, 0, 0, 0,
+    0, 0, 0, 0, 4, 0, 0, 0, 0, 0, 0, 0, 0, 0, 0, 0, 0, 0, 0, 0, 0, 0, 0, 0, 0, 0, 0, 0, 0, 0, 0, 0,
+    0, 0, 0, 6, 0, 0, 0, 0, 0, 0, 0, 0, 0, 0, 0, 0, 0, 0, 0, 0, 0, 0, 0, 0, 0, 0, 0, 0, 0, 0, 0, 0,
+    0, 0, 0, 0, 0, 0, 0, 0, 0, 0, 0, 0, 0, 0, 0, 0, 12, 0, 0, 0, 0, 0, 0, 0, 0, 0, 0, 0, 0, 0, 0,
+    0, 0, 0, 0,
+];
+
+const FPU_RRR_FACTOR: u64 = 10517972530174996981;
+
+fn find_fpu_rrr(w: &[u8]) -> Option<FpuOPRRR>
+    ensures { result ≡ fpu_rrr w.now }
+{
+    let op = candidate(&EVERY_FPU_RRR, &FPU_RRR_SLOTS, FPU_RRR_FACTOR, w)?;
+    if is(op.listed_name().as_bytes(), w) {
+        Some(op)
+    } else {
+        None
+    }
+}
+
+/// The operation of two floating-point registers that has this name.
+pub fn fpu_rrr_named(w: &[u8]) -> Option<FpuOPRRR>
+    ensures reads { result ≡ fpu_rrr w.now }
+    ensures named { (op : FpuOPRRR) → w.now ≡ fpu_rrr_listed op → result ≡ Some op }
+{
+    find_fpu_rrr(w)
+}
+
+impl Token for FpuOPRRR {
+    ghost reads = { fpu_rrr };
+
+    fn read(w: &[u8]) -> Option<FpuOPRRR> {
+        fpu_rrr_named(w)
+    }
+}
+
+const EVERY_WIDTH: [FpuOPWidth; 4] = [FpuOPWidth::H, FpuOPWidth::S, FpuOPWidth::D, FpuOPWidth::Q];
+
+/// The indices in `EVERY_WIDTH` by the names' slots.
+const WIDTH_SLOTS: [u8; 256] = [
+    0, 0, 0, 0, 0, 0, 0, 0, 0, 0, 0, 0, 0, 0, 0, 0, 0, 0, 0, 0, 0, 0, 0, 0, 0, 0, 0, 0, 0, 0, 0, 0,
+    0, 0, 0, 0, 0, 0, 0, 0, 0, 0, 0, 0, 0, 0, 0, 0, 0, 0, 0, 0, 0, 0, 0, 0, 0, 0, 0, 0, 0, 0, 0, 0,
+    0, 0, 0, 0, 0, 0, 0, 0, 0, 0, 0, 0, 0, 0, 0, 0, 0, 0, 0, 0, 0, 0, 0, 0, 0, 0, 0, 0, 0, 0, 0, 0,
+    0, 0, 0, 0, 0, 0, 0, 0, 0, 0, 0, 0, 0, 0, 0, 0, 0, 0, 0, 0, 0, 0, 0, 0, 0, 0, 0, 0, 0, 0, 0, 0,
+    0, 0, 0, 0, 0, 0, 0, 0, 0, 0, 0, 0, 0, 0, 0, 0, 0, 0, 0, 0, 0, 0, 0, 0, 0, 0, 0, 0, 0, 0, 0, 0,
+    0, 0, 0, 0, 0, 0, 0, 0, 0, 0, 0, 0, 0, 0, 0, 0, 0, 0, 0, 0, 0, 0, 0, 0, 1, 0, 0, 3, 0, 0, 0, 0,
+    0, 0, 0, 0, 0, 0, 0, 0, 0, 0, 0, 0, 0, 0, 0, 2, 0, 0, 0, 0, 0, 0, 0, 0, 0, 0, 0, 0, 0, 0, 0, 0,
+    0, 0, 0, 0, 0, 0, 0, 0, 0, 0, 0, 0, 0, 0, 0, 0, 0, 0, 0, 0, 0, 0, 0, 0, 0, 0, 0, 0, 0, 0, 0, 0,
+];
+
+const WIDTH_FACTOR: u64 = 10517972530174996981;
+
+fn find_width(w: &[u8]) -> Option<FpuOPWidth>
+    ensures { result ≡ fpu_width w.now }
+{
+    let width = candidate(&EVERY_WIDTH, &WIDTH_SLOTS, WIDTH_FACTOR, w)?;
+    if is(width.to_static_str().as_bytes(), w) {
+        Some(width)
+    } else {
+        None
+    }
+}
+
+/// The format of this name.
+pub fn width_named(w: &[u8]) -> Option<FpuOPWidth>
+    ensures reads { result ≡ fpu_width w.now }
+    ensures named { (width : FpuOPWidth) → w.now ≡ width_name width → result ≡ Some width }
+{
+    find_width(w)
+}
+
+impl Token for FpuOPWidth {
+    ghost reads = { fpu_width };
+
+    fn read(w: &[u8]) -> Option<FpuOPWidth> {
+        width_named(w)
+    }
+}
+
+const EVERY_FRM: [FRM; 6] = [FRM::RNE, FRM::RTZ, FRM::RDN, FRM::RUP, FRM::RMM, FRM::Fcsr];
+
+/// The indices in `EVERY_FRM` by the names' slots.
+const FRM_SLOTS: [u8; 256] = [
+    0, 0, 0, 0, 0, 0, 0, 0, 0, 0, 0, 0, 0, 0, 0, 0, 0, 0, 0, 0, 0, 0, 0, 0, 0, 0, 0, 0, 0, 0, 0, 0,
+    0, 0, 0, 0, 0, 0, 0, 0, 0, 0, 0, 0, 0, 0, 0, 0, 0, 0, 0, 0, 0, 0, 0, 0, 0, 0, 0, 0, 0, 0, 0, 0,
+    0, 0, 0, 0, 0, 0, 0, 0, 0, 0, 0, 0, 0, 0, 0, 4, 0, 0, 0, 0, 1, 0, 0, 0, 0, 0, 0, 0, 0, 0, 0, 0,
+    0, 0, 0, 0, 0, 0, 0, 0, 0, 0, 0, 0, 0, 0, 0, 0, 0, 0, 0, 0, 0, 0, 0, 0, 0, 0, 0, 0, 2, 0, 0, 0,
+    0, 0, 0, 0, 0, 0, 0, 0, 0, 0, 0, 0, 0, 0, 0, 0, 0, 0, 0, 0, 0, 0, 0, 0, 0, 0, 0, 0, 0, 0, 0, 0,
+    0, 0, 0, 0, 0, 0, 0, 0, 0, 0, 0, 0, 0, 0, 5, 0, 0, 0, 0, 0, 0, 0, 0, 0, 0, 0, 0, 0, 0, 0, 0, 0,
+    0, 0, 0, 0, 0, 0, 0, 0, 0, 0, 0, 3, 0, 0, 0, 0, 0, 0, 0, 0, 0, 0, 0, 0, 0, 0, 0, 0, 0, 0, 0, 0,
+    0, 0, 0, 0, 0, 0, 0, 0, 0, 0, 0, 0, 0, 0, 0, 0, 0, 0, 0, 0, 0, 0, 0, 0, 0, 0, 0, 0, 0, 0, 0, 0,
+];
+
+const FRM_FACTOR: u64 = 10517972530174996981;
+
+fn find_frm(w: &[u8]) -> Option<FRM>
+    ensures { result ≡ rounding_mode w.now }
+{
+    let frm = candidate(&EVERY_FRM, &FRM_SLOTS, FRM_FACTOR, w)?;
+    if is(frm.to_static_str().as_bytes(), w) {
+        Some(frm)
+    } else {
+        None
+    }
+}
+
+/// The rounding mode of this name.
+pub fn frm_named(w: &[u8]) -> Option<FRM>
+    ensures reads { result ≡ rounding_mode w.now }
+    ensures named { (frm : FRM) → w.now ≡ frm_name frm → result ≡ Some frm }
+{
+    find_frm(w)
+}
+
+impl Token for FRM {
+    ghost reads = { rounding_mode };
+
+    fn read(w: &[u8]) -> Option<FRM> {
+        frm_named(w)
+    }
+}
