@@ -1,6 +1,6 @@
 -- The lines of code: of each instruction where it stands, its digits and its text; labels where they stand; data as data; and relocations after
 -- what they fill.
-use Rattle.std.specs.Prelude.{ℕ, ◌×◌, ◌+◌, ◌-◌, ◌%◌, ◌^◌, ◌==◌, if◌then◌else◌, Bool, true, false, List, [], ◌∷◌, ◌++◌, length, take, drop, codes}
+use Rattle.std.specs.Prelude.{ℕ, ◌+◌, ◌-◌, ◌%◌, ◌^◌, ◌==◌, if◌then◌else◌, Bool, true, false, List, [], ◌∷◌, ◌++◌, length, take, drop, codes, Option, Some, None}
 use Rattle.std.specs.Fmt.{decimal}
 use Rattle.std.specs.Int.{w16, w32, from_le_bytes}
 use Rattle.hex.specs.Hex.{encode_lower}
@@ -45,6 +45,14 @@ code_lines flags address note (a ∷ b ∷ c ∷ []) =
 code_lines flags address note (a ∷ b ∷ c ∷ d ∷ rest) =
     if a % 4 == 3 then word_line flags address note (word a b c d) ++ code_lines flags (further address 4) [] rest else
     word_line flags address note (half a b) ++ code_lines flags (further address 2) [] (c ∷ d ∷ rest)
+
+-- the word that code begins with, and how many bytes it has; none where it is no instruction
+abbrev pub front : List ℕ → Option (ℕ × ℕ)
+front [] = None
+front (a ∷ []) = None
+front (a ∷ b ∷ []) = if a % 4 == 3 then None else Some (half a b, 2)
+front (a ∷ b ∷ c ∷ []) = if a % 4 == 3 then None else Some (half a b, 2)
+front (a ∷ b ∷ c ∷ d ∷ rest) = if a % 4 == 3 then Some (word a b c d, 4) else Some (half a b, 2)
 
 -- ---- data, and notes
 
@@ -94,7 +102,7 @@ data_after is_data kind.Data = true
 -- so many bytes after a place, which end before a mark
 abbrev pub place_after : Place → List ℕ → Marked → Place
 place_after p bytes m =
-    record { at = p.at + length bytes; address = further p.address (length bytes); is_data = data_after p.is_data m.1.0; note = note_left p.note bytes ++ mark_note m.1.0 m.1.1 }
+    record { at = p.at + length bytes; address = further p.address (length bytes); is_data = data_after p.is_data m.1; note = note_left p.note bytes ++ mark_note m.1 m.2 }
 
 -- ---- all of it
 
@@ -102,7 +110,7 @@ place_after p bytes m =
 abbrev pub lines_from : IsaFlags → Place → List Marked → List ℕ → List ℕ
 lines_from flags p [] bytes = bytes_lines flags p bytes ++ note_line (note_left p.note bytes)
 lines_from flags p (m ∷ ms) bytes =
-    bytes_lines flags p (take (m.0 - p.at) bytes) ++ mark_line m.1.0 m.1.1 ++ lines_from flags (place_after p (take (m.0 - p.at) bytes) m) ms (drop (m.0 - p.at) bytes)
+    bytes_lines flags p (take (m.0 - p.at) bytes) ++ mark_line m.1 m.2 ++ lines_from flags (place_after p (take (m.0 - p.at) bytes) m) ms (drop (m.0 - p.at) bytes)
 
 -- the lines of code that stands at this address
 abbrev pub dump_text : IsaFlags → ℕ → List Marked → List ℕ → List ℕ

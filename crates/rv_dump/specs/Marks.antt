@@ -1,10 +1,10 @@
 -- What a report marks in its code.
-use Rattle.std.specs.Prelude.{ℕ, ◌×◌, ◌+◌, ◌==◌, if◌then◌else◌, List, [], ◌∷◌, Option, Some, None, take, drop, codes, map, ◌≡◌, IsPermutation, IsSortedByKey}
+use Rattle.std.specs.Prelude.{ℕ, ◌+◌, ◌^◌, ◌==◌, if◌then◌else◌, List, [], ◌∷◌, Option, Some, None, take, drop, codes, map, ◌≡◌, IsPermutation, IsSortedByKey}
 use Rattle.std.specs.List.Sorted.{IsStableByKey}
 use Rattle.std.specs.List.{flat_map, position_or_len}
 use Rattle.std.specs.Str.{bytes_eq}
 use Rattle.std.specs.Ordering.{nat_cmp}
-use Rattle.rv_listing.specs.Tokens.{lines_of, decimal}
+use Rattle.rv_listing.specs.Tokens.{◌>>=◌, below, lines_of, decimal}
 use Rattle.rv_dump.specs.declared.marks.Kind.{Kind}
 use Rattle.rv_dump.specs.declared.marks.Kind.TheVariants as kind
 use Rattle.rv_dump.specs.declared.marks.Mark.{Mark}
@@ -24,13 +24,17 @@ word text = take (position_or_len (λ c. c == 32) text) text
 abbrev pub after : List ℕ → List ℕ
 after text = drop 1 (drop (position_or_len (λ c. c == 32) text) text)
 
+-- an offset of 32 bits
+abbrev pub offset_of : List ℕ → Option ℕ
+offset_of digits = decimal digits >>= below (2 ^ 32)
+
 abbrev pub mark_at : Kind → List ℕ → Option ℕ → List Marked
 mark_at k text None = []
 mark_at k text (Some offset) = (offset, k, text) ∷ []
 
 -- `NAME OFFSET ..`
 abbrev pub named_mark : Kind → List ℕ → List Marked
-named_mark k rest = mark_at k (word rest) (decimal (word (after rest)))
+named_mark k rest = mark_at k (word rest) (offset_of (word (after rest)))
 
 -- eight bytes for an address
 abbrev pub address_marks : ℕ → List Marked
@@ -46,7 +50,7 @@ marks_named name rest =
     if bytes_eq name (codes "line") then named_mark kind.Line rest else
     if bytes_eq name (codes "label") then named_mark kind.Label rest else
     if bytes_eq name (codes "const") then named_mark kind.Constant rest else
-    if bytes_eq name (codes "reloc") then reloc_marks (after rest) (decimal (word rest)) else []
+    if bytes_eq name (codes "reloc") then reloc_marks (after rest) (offset_of (word rest)) else []
 
 abbrev pub line_marks : List ℕ → List Marked
 line_marks l = marks_named (word l) (after l)

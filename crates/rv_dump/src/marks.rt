@@ -1,8 +1,7 @@
 //! What a report marks in its code.
 
-ghost use Rattle.std.specs.Prelude.{◌≡◌, ◌++◌, ◌∷◌, [], Some, map, OnOk, IfOk};
-ghost use Rattle.rv_dump.specs.Marks.{seen, word, after, mark_at, named_mark, address_marks, reloc_marks, line_marks, marks_in, AreMarks};
-ghost use Rattle.rv_listing.specs.Tokens.{decimal};
+ghost use Rattle.std.specs.Prelude.{◌≡◌, ◌<◌, ◌^◌, ◌++◌, ◌∷◌, [], Some, map, OnOk, IfOk, IfSome};
+ghost use Rattle.rv_dump.specs.Marks.{seen, word, after, offset_of, named_mark, address_marks, reloc_marks, line_marks, marks_in, AreMarks};
 
 use rv_base::OutOfMemory;
 use rv_disasm::cut;
@@ -41,6 +40,15 @@ pub(crate) fn first_word(text: &[u8]) -> (&[u8], &[u8])
     (word, tail(rest))
 }
 
+// A decimal number of 32 bits.
+fn offset_of(digits: &[u8]) -> Option<u64>
+    ensures value { result ≡ offset_of digits.now }
+    ensures small { IfSome result (λ n. n < 2 ^ 32) }
+{
+    let offset = decimal(digits)?;
+    if offset < 1 << 32 { Some(offset) } else { None }
+}
+
 fn push<'a>(
     marks: &mut Vec<Mark<'a>>,
     kind: Kind,
@@ -58,7 +66,7 @@ fn put_named<'a>(marks: &mut Vec<Mark<'a>>, kind: Kind, rest: &'a [u8]) -> Resul
 {
     let (name, rest) = first_word(rest);
     let (digits, _) = first_word(rest);
-    match decimal(digits) {
+    match offset_of(digits) {
         Some(offset) => push(marks, kind, name, offset),
         None => Ok(()),
     }
@@ -66,13 +74,15 @@ fn put_named<'a>(marks: &mut Vec<Mark<'a>>, kind: Kind, rest: &'a [u8]) -> Resul
 
 // Eight bytes for an address.
 fn put_address(marks: &mut Vec<Mark>, offset: u64) -> Result<(), OutOfMemory>
+    requires { offset < 2 ^ 32 }
     ensures { OnOk result (map seen marks.new.items ≡ map seen marks.old.items ++ address_marks offset) }
 {
     push(marks, Kind::Data, b"", offset)?;
-    push(marks, Kind::Line, b"", offset.saturating_add(8))
+    push(marks, Kind::Line, b"", offset + 8)
 }
 
 fn put_reloc<'a>(marks: &mut Vec<Mark<'a>>, text: &'a [u8], offset: u64) -> Result<(), OutOfMemory>
+    requires { offset < 2 ^ 32 }
     ensures { OnOk result (map seen marks.new.items ≡ map seen marks.old.items ++ reloc_marks text.now (Some offset)) }
 {
     push(marks, Kind::Reloc, text, offset)?;
@@ -85,10 +95,10 @@ fn put_reloc<'a>(marks: &mut Vec<Mark<'a>>, text: &'a [u8], offset: u64) -> Resu
 }
 
 fn put_reloc_line<'a>(marks: &mut Vec<Mark<'a>>, rest: &'a [u8]) -> Result<(), OutOfMemory>
-    ensures { OnOk result (map seen marks.new.items ≡ map seen marks.old.items ++ reloc_marks (after rest.now) (decimal (word rest.now))) }
+    ensures { OnOk result (map seen marks.new.items ≡ map seen marks.old.items ++ reloc_marks (after rest.now) (offset_of (word rest.now))) }
 {
     let (digits, text) = first_word(rest);
-    match decimal(digits) {
+    match offset_of(digits) {
         Some(offset) => put_reloc(marks, text, offset),
         None => Ok(()),
     }
@@ -116,7 +126,7 @@ fn in_order<'a>(alloc: Global, report: &'a [u8]) -> Result<Vec<Mark<'a>>, OutOfM
 {
     let mut marks = Vec::new(alloc);
     let mut rest = report;
-    while let Some((line, after)) = next_line(rest) {
+    'line: while let Some((line, after)) = next_line(rest) {
         put_line(&mut marks, line)?;
         rest = after;
     }

@@ -36,6 +36,7 @@ fn number_of(bytes: &[u8]) -> Option<u32>
     }
 }
 
+#[tactic(auto, using(rv_disasm::proofs::Fronts::strip_parts))]
 fn strip_instruction(flags: IsaFlags, text: &[u8], word: u32) -> Option<&[u8]>
     ensures { Strips (instruction_text flags word) text.now result }
 {
@@ -128,6 +129,7 @@ fn begins_with_digit(line: &[u8]) -> bool
     }
 }
 
+#[tactic(auto, using(rv_disasm::proofs::Fronts::strip_parts))]
 fn strip_address(line: &[u8], address: u64) -> Option<&[u8]>
     ensures { Strips (decimal address ++ codes ": ") line.now result }
 {

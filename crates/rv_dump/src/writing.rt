@@ -1,8 +1,8 @@
 //! Code to lines of text.
 
-ghost use Rattle.std.specs.Prelude.{◌≡◌, ◌++◌, ◌<◌, ◌+◌, ◌^◌, [], map, take, drop, length, OnOk, IfOk};
+ghost use Rattle.std.specs.Prelude.{◌≡◌, ◌++◌, ◌<◌, ◌≤◌, ◌+◌, ◌^◌, IfSome, [], map, take, drop, length, OnOk, IfOk};
 ghost use Rattle.rv_dump.specs.Marks.{seen};
-ghost use Rattle.rv_dump.specs.Dump.{word_line, data_line, code_lines, data_lines, bytes_lines, note_left, note_line, mark_line, mark_note, data_after, place_after, lines_from, dump_text};
+ghost use Rattle.rv_dump.specs.Dump.{word_line, data_line, code_lines, data_lines, bytes_lines, front, note_left, note_line, mark_line, mark_note, data_after, place_after, lines_from, dump_text};
 
 use crate::marks::{Kind, Mark};
 use rv_base::{IsaFlags, List, OutOfMemory};
@@ -64,6 +64,18 @@ fn put_data(
     put_bytes(out, b"\n")
 }
 
+// The word that code begins with, and how many bytes it has.
+fn front(bytes: &[u8]) -> Option<(u32, usize)>
+    ensures value { result ≡ front bytes.now }
+    ensures within { IfSome result (λ f. (0 < f.1) × (f.1 ≤ length bytes.now)) }
+{
+    match bytes {
+        [a, b, c, d, ..] if *a % 4 == 3 => Some((u32::from_le_bytes([*a, *b, *c, *d]), 4)),
+        [a, b, ..] if *a % 4 != 3 => Some((u32::from(u16::from_le_bytes([*a, *b])), 2)),
+        _ => None,
+    }
+}
+
 fn put_code(
     alloc: Global,
     out: &mut Vec<u8>,
@@ -74,26 +86,17 @@ fn put_code(
 ) -> Result<(), OutOfMemory>
     ensures { OnOk result (out.new.items ≡ out.old.items ++ code_lines flags address note.now bytes.now) }
 {
-    let mut address = address;
-    let mut note = note;
+    let mut at = address;
+    let mut noted = note;
     let mut rest = bytes;
-    'code: while let [a, ..] = rest {
-        match rest {
-            [_, b, c, d, after @ ..] if *a % 4 == 3 => {
-                let word = u32::from_le_bytes([*a, *b, *c, *d]);
-                put_word(alloc, out, flags, address, note, word)?;
-                address = address.wrapping_add(4);
-                rest = after;
-            }
-            [_, b, after @ ..] if *a % 4 != 3 => {
-                let half = u16::from_le_bytes([*a, *b]);
-                put_word(alloc, out, flags, address, note, u32::from(half))?;
-                address = address.wrapping_add(2);
-                rest = after;
-            }
-            _ => return put_data(alloc, out, address, note, rest),
-        }
-        note = b"";
+    'code: while !rest.is_empty() {
+        let Some((word, len)) = front(rest) else {
+            return put_data(alloc, out, at, noted, rest);
+        };
+        put_word(alloc, out, flags, at, noted, word)?;
+        at = at.wrapping_add(len as u64);
+        noted = b"";
+        rest = &rest[len..];
     }
     Ok(())
 }
