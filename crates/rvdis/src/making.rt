@@ -38,7 +38,7 @@ fn is_report(input: &[u8]) -> bool
     input.starts_with(b"code ")
 }
 
-fn report_lines(alloc: Global, given: &Given, input: &[u8]) -> Result<Vec<u8>, MakeError>
+fn report_lines(alloc: Global, given: &Given, input: &[u8]) -> Result<List<u8>, MakeError>
     ensures { DumpsReport given.now input.now result }
 {
     match read_report(alloc, input) {
@@ -51,14 +51,14 @@ fn report_lines(alloc: Global, given: &Given, input: &[u8]) -> Result<Vec<u8>, M
                 &marks,
                 program.bytes.as_slice(),
             )?;
-            Ok(lines)
+            Ok(List::from_vec(lines))
         }
         Err(ProgramError::NotReport { line }) => Err(MakeError::NotReport { line }),
         Err(ProgramError::NotHex) | Err(ProgramError::OutOfMemory) => Err(MakeError::OutOfMemory),
     }
 }
 
-fn hex_lines(alloc: Global, given: &Given, input: &[u8]) -> Result<Vec<u8>, MakeError>
+fn hex_lines(alloc: Global, given: &Given, input: &[u8]) -> Result<List<u8>, MakeError>
     ensures { DumpsHex given.now input.now result }
 {
     match read_hex(alloc, input) {
@@ -70,7 +70,7 @@ fn hex_lines(alloc: Global, given: &Given, input: &[u8]) -> Result<Vec<u8>, Make
                 &[],
                 program.bytes.as_slice(),
             )?;
-            Ok(lines)
+            Ok(List::from_vec(lines))
         }
         Err(ProgramError::NotHex) => Err(MakeError::NotHex),
         Err(ProgramError::NotReport { line: _ }) | Err(ProgramError::OutOfMemory) => {
@@ -79,14 +79,14 @@ fn hex_lines(alloc: Global, given: &Given, input: &[u8]) -> Result<Vec<u8>, Make
     }
 }
 
-fn raw_lines(alloc: Global, given: &Given, input: &[u8]) -> Result<Vec<u8>, MakeError>
+fn raw_lines(alloc: Global, given: &Given, input: &[u8]) -> Result<List<u8>, MakeError>
     ensures { DumpsRaw given.now input.now result }
 {
     let lines = dump(alloc, given.flags, given.base, &[], input)?;
-    Ok(lines)
+    Ok(List::from_vec(lines))
 }
 
-fn lines_of(alloc: Global, given: &Given, input: &[u8]) -> Result<Vec<u8>, MakeError>
+fn lines_of(alloc: Global, given: &Given, input: &[u8]) -> Result<List<u8>, MakeError>
     ensures { Dumps given.now input.now result }
 {
     if given.is_raw {
@@ -99,25 +99,25 @@ fn lines_of(alloc: Global, given: &Given, input: &[u8]) -> Result<Vec<u8>, MakeE
 }
 
 // A line of hexadecimal digits.
-fn digits_of(alloc: Global, bytes: &[u8]) -> Result<Vec<u8>, OutOfMemory>
-    ensures { IfOk result (λ text. text.items ≡ digits_of bytes.now) }
+fn digits_of(alloc: Global, bytes: &[u8]) -> Result<List<u8>, OutOfMemory>
+    ensures { IfOk result (λ text. text ≡ digits_of bytes.now) }
 {
     let mut text = Vec::from_slice(alloc, hex::encode(alloc, bytes)?.as_bytes())?;
     text.push(b'\n')?;
-    Ok(text)
+    Ok(List::from_vec(text))
 }
 
-fn code_text(alloc: Global, is_raw: bool, code: List<u8>) -> Result<Vec<u8>, OutOfMemory>
-    ensures { IfOk result (λ text. text.items ≡ code_text is_raw code) }
+fn code_text(alloc: Global, is_raw: bool, code: List<u8>) -> Result<List<u8>, OutOfMemory>
+    ensures { IfOk result (λ text. text ≡ code_text is_raw code) }
 {
     if is_raw {
-        Ok(Vec::from_slice(alloc, code.as_slice())?)
+        Ok(code)
     } else {
         digits_of(alloc, code.as_slice())
     }
 }
 
-fn code_of(alloc: Global, given: &Given, input: &[u8]) -> Result<Vec<u8>, MakeError>
+fn code_of(alloc: Global, given: &Given, input: &[u8]) -> Result<List<u8>, MakeError>
     ensures { Reads given.now input.now result }
 {
     match undump(alloc, given.flags, given.base, input) {
@@ -131,7 +131,7 @@ fn code_of(alloc: Global, given: &Given, input: &[u8]) -> Result<Vec<u8>, MakeEr
 }
 
 /// What the program writes for an input: the lines of its code, or the code of its lines.
-pub fn output_of(alloc: Global, given: &Given, input: &[u8]) -> Result<Vec<u8>, MakeError>
+pub fn output_of(alloc: Global, given: &Given, input: &[u8]) -> Result<List<u8>, MakeError>
     ensures { Makes given.now input.now result }
 {
     if given.is_reasm {
