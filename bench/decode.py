@@ -267,12 +267,14 @@ def digest_halves(F):
     return h
 
 REGS = 'zero ra sp gp tp t0 t1 t2 fp s1 a0 a1 a2 a3 a4 a5 a6 a7 s2 s3 s4 s5 s6 s7 s8 s9 s10 s11 t3 t4 t5 t6'.split()
+FREGS = 'ft0 ft1 ft2 ft3 ft4 ft5 ft6 ft7 fs0 fs1 fa0 fa1 fa2 fa3 fa4 fa5 fa6 fa7 fs2 fs3 fs4 fs5 fs6 fs7 fs8 fs9 fs10 fs11 ft8 ft9 ft10 ft11'.split()
 
 def text(x):
     if x is None: return '-'
     op, rd, rs1, rs2, imm = x['op'], REGS[x['rd']], REGS[x['rs1']], REGS[x['rs2']], x['imm']
     name = re.sub(r'[^(]*\(', '', op).rstrip(')').lower()
-    if op.startswith('Float'): return '.insn'
+    if op == 'FloatLoad(D)': return f"fld {FREGS[x['rd']]},{imm}({rs1})"
+    if op == 'FloatStore(D)': return f"fsd {FREGS[x['rs2']]},{imm}({rs1})"
     name = {'adduw': 'add.uw', 'sextb': 'sext.b', 'sexth': 'sext.h', 'zexth': 'zext.h'}.get(name, name)
     if op.startswith('Load') or name == 'jalr': return f'{name} {rd},{imm}({rs1})'
     if op.startswith('Store'): return f'{name} {rs2},{imm}({rs1})'

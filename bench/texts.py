@@ -96,12 +96,19 @@ def flags(word):
     if len(word) == 4: return ' zca zcd'
     return ' zfhmin' if int(word, 16) & 0x705f == 0x1007 else ''  # flh, fsh
 
+def rows_of(found): return [f'{word}{flags(word)} => {text(word, *rest)}\n' for word, *rest in found]
+
+def is_plain(word, name, operands, at):
+    """Whether the decoder knows the word as objdump does: no data, no CSR but frm, no hint and no vector setting."""
+    return name[0] != '.' and not re.match(r'csr|fence|pause|prefetch|v|fl[ih]|fs[hq]|flq', name) and 'unknown' not in operands
+
 def write():
     """Writes the rows of the lines."""
     for family, lines in (('words', WORDS), ('halfwords', HALVES)):
-        rows = [f'{word}{flags(word)} => {text(word, *rest)}\n' for word, *rest in listed(lines)]
         (OUT / family).mkdir(parents=True, exist_ok=True)
-        (OUT / family / 'assembled.text').write_text(''.join(rows))
+        (OUT / family / 'assembled.text').write_text(''.join(rows_of(listed(lines))))
+    random.seed(47)
+    (OUT / 'words/near.text').write_text(''.join(rows_of(x for x in of_words(list(near(4)), 4) if is_plain(*x))))
 
 def wanted(word, name, operands, at):
     """The text by objdump's; its own text where it has no such form here, and digits where it has no instruction."""

@@ -3,6 +3,7 @@
 
 mod decoding;
 mod halves;
+mod lines;
 mod numbers;
 mod steps;
 mod texts;
@@ -32,6 +33,10 @@ enum Question {
     Text,
     /// The word of a text.
     Read,
+    /// The lines of code, read back.
+    Dump,
+    /// The code of lines.
+    Undump,
 }
 
 fn question_of(ending: &str) -> Option<Question> {
@@ -44,6 +49,8 @@ fn question_of(ending: &str) -> Option<Question> {
         "digest" => Some(Question::Digest),
         "text" => Some(Question::Text),
         "read" => Some(Question::Read),
+        "dump" => Some(Question::Dump),
+        "undump" => Some(Question::Undump),
         _ => None,
     }
 }
@@ -64,6 +71,8 @@ fn answer(
         Question::Digest => halves::digest(alloc, given),
         Question::Text => texts::shown(alloc, given),
         Question::Read => texts::read(alloc, given),
+        Question::Dump => lines::dumped(alloc, given),
+        Question::Undump => lines::undumped(alloc, given),
     }
 }
 
