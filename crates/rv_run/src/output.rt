@@ -2,11 +2,13 @@
 
 ghost use Rattle.std.specs.Prelude.{◌≡◌, ◌++◌, ◌<◌, ◌≤◌, length, IfOk, OnOk, codes, string_bytes};
 ghost use Rattle.std.specs.Fmt.{decimal};
+ghost use Rattle.rv_disasm.specs.Text.{word_text};
 ghost use Rattle.rv_run.specs.Output.{hex, ending_line, steps_line, register_line, changes, run_text};
 
 use crate::ending::Ending;
 use crate::result::Run;
-use rv_base::{OutOfMemory, PReg, Reg, RegClass};
+use rv_base::{IsaFlags, OutOfMemory, PReg, Reg, RegClass};
+use rv_disasm::disasm;
 use std::alloc::Global;
 
 fn hex_line(alloc: Global, n: u64) -> Result<String, OutOfMemory>
@@ -23,14 +25,29 @@ fn no_operation_line(alloc: Global, offset: u64, word: u32) -> Result<String, Ou
     Ok(text)
 }
 
-fn ending_line(alloc: Global, ending: Ending) -> Result<String, OutOfMemory>
-    ensures { IfOk result (λ text. string_bytes text ≡ ending_line ending) }
+fn needs_answer_line(
+    alloc: Global,
+    flags: IsaFlags,
+    offset: u64,
+    word: u32,
+) -> Result<String, OutOfMemory>
+    ensures { IfOk result (λ text. string_bytes text ≡ codes "needs an answer at " ++ decimal offset ++ codes ": " ++ word_text flags word ++ codes "\n") }
+{
+    let mut text = format!(in alloc; "needs an answer at {offset}: ")?;
+    text.push_str(disasm(alloc, flags, word)?.as_str())?;
+    text.push_str("\n")?;
+    Ok(text)
+}
+
+fn ending_line(alloc: Global, flags: IsaFlags, ending: Ending) -> Result<String, OutOfMemory>
+    ensures { IfOk result (λ text. string_bytes text ≡ ending_line flags ending) }
 {
     match ending {
         Ending::Left { address } => Ok(format!(in alloc; "left the code to 0x{address:x}\n")?),
         Ending::Limit => Ok(format!(in alloc; "step limit\n")?),
         Ending::Break { offset } => Ok(format!(in alloc; "ebreak at {offset}\n")?),
         Ending::NoOperation { offset, word } => no_operation_line(alloc, offset, word),
+        Ending::NeedsAnswer { offset, word } => needs_answer_line(alloc, flags, offset, word),
     }
 }
 
@@ -82,9 +99,10 @@ pub fn put_run(alloc: Global, out: &mut Vec<u8>, run: &Run) -> Result<(), OutOfM
     ensures { OnOk result (out.new.items ≡ out.old.items ++ run_text run.now) }
 {
     out.extend_from_slice(run.trace.as_slice())?;
-    put(out, ending_line(alloc, run.ending)?.as_str())?;
+    put(out, ending_line(alloc, run.flags, run.ending)?.as_str())?;
     put(out, steps_line(alloc, run.steps)?.as_str())?;
     put_changes(alloc, out, run.before.as_slice(), run.after.as_slice())?;
+    out.extend_from_slice(run.units.as_slice())?;
     out.extend_from_slice(run.memory.as_slice())?;
     Ok(())
 }
