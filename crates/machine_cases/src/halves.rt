@@ -2,6 +2,7 @@
 
 use crate::numbers::{flags_of, number};
 use rv_base::{IsaFlags, OutOfMemory};
+use rv_disasm::put;
 use rv_machine::{Decoded, decode, decode_half};
 use rv_trace::put_instruction;
 use std::alloc::Global;
@@ -18,18 +19,10 @@ pub(crate) const ALL: IsaFlags = IsaFlags {
 };
 
 /// Puts the text of what a halfword expands to, or `-` where it is no instruction.
-fn put_text(
-    alloc: Global,
-    out: &mut Vec<u8>,
-    flags: IsaFlags,
-    half: u16,
-) -> Result<(), OutOfMemory> {
+fn put_text(out: &mut String, flags: IsaFlags, half: u16) -> Result<(), OutOfMemory> {
     match decode_half(flags, half) {
-        Some(decoded) => put_instruction(alloc, out, decoded),
-        None => {
-            out.push(b'-')?;
-            Ok(())
-        }
+        Some(decoded) => put_instruction(out, &decoded),
+        None => put(out, "-"),
     }
 }
 
@@ -55,12 +48,12 @@ fn is_as(half: u16, word: &str) -> bool {
 pub(crate) fn expanded(alloc: Global, given: &str) -> Result<String, OutOfMemory> {
     let (digits, word) = given.split_once(' ').unwrap_or((given, ""));
     let half = (number(digits) & 0xffff) as u16;
-    let mut out = Vec::new(alloc);
-    put_text(alloc, &mut out, ALL, half)?;
+    let mut out = String::new(alloc);
+    put_text(&mut out, ALL, half)?;
     if !is_as(half, word) {
-        out.extend_from_slice(b" (another operation)")?;
+        out.push_str(" (another operation)")?;
     }
-    Ok(String::from_utf8_lossy(alloc, &out)?)
+    Ok(out)
 }
 
 /// FNV-1a of more bytes.
@@ -73,19 +66,19 @@ fn hashed(hash: u64, bytes: &[u8]) -> u64 {
 }
 
 /// FNV-1a of the texts of all halfwords, each put into one place.
-fn digest_by(alloc: Global, text: &mut Vec<u8>, flags: IsaFlags) -> Result<u64, OutOfMemory> {
+fn digest_by(text: &mut String, flags: IsaFlags) -> Result<u64, OutOfMemory> {
     let mut hash = 0xcbf29ce484222325;
     for half in 0..=u16::MAX {
         text.clear();
-        put_text(alloc, text, flags, half)?;
-        hash = hashed(hashed(hash, text), b"\n");
+        put_text(text, flags, half)?;
+        hash = hashed(hashed(hash, text.as_bytes()), b"\n");
     }
     Ok(hash)
 }
 
 /// The digest of the texts of all halfwords under flags of these names.
 pub(crate) fn digest(alloc: Global, given: &str) -> Result<String, OutOfMemory> {
-    let mut text = Vec::new(alloc);
-    let digest = digest_by(alloc, &mut text, flags_of(given))?;
+    let mut text = String::new(alloc);
+    let digest = digest_by(&mut text, flags_of(given))?;
     Ok(format!(in alloc; "{digest:x}")?)
 }

@@ -8,7 +8,7 @@ use Rattle.rv_disasm.specs.declared.layouts.Field.{Field}
 use Rattle.rv_disasm.specs.Text.{field_text, further_text, fields_text}
 use Rattle.std.specs.Option.{option_and_then}
 use Rattle.std.proofs.lemmas.Bool.{eqb-true, eq-eqb, ne_eqb, true≢false}
-use Rattle.rv_disasm.specs.Reading.{strip, Strips}
+use Rattle.rv_disasm.specs.Strip.{strip, Strips}
 
 -- a piece of two parts is one part after the other
 pub strip_parts : (a b t : List ℕ) → strip (a ++ b) t ≡ option_and_then (strip b) (strip a t)

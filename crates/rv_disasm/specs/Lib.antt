@@ -5,3 +5,4 @@ pub mod Text
 pub mod Fixed
 pub mod Placing
 pub mod Reading
+pub mod Strip

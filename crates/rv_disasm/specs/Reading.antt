@@ -1,6 +1,5 @@
 -- How the reader goes over a text. This only links it to its proof: no public clause reaches it.
-use Rattle.std.specs.Prelude.{◌≡◌, ℕ, ◌+◌, ◌%◌, ◌^◌, ◌<◌, ◌==◌, ◌&&◌, not, if◌then◌else◌, Bool, true, List, [], ◌∷◌, Option, Some, None, MatchOption, unsigned_abs, ⊤}
-use Rattle.std.specs.Borrow.{Bor}
+use Rattle.std.specs.Prelude.{◌≡◌, ℕ, ◌+◌, ◌%◌, ◌^◌, ◌<◌, ◌==◌, ◌&&◌, not, Bool, true, List, [], ◌∷◌, Option, Some, None, unsigned_abs, ⊤}
 use Rattle.std.specs.List.{find}
 use Rattle.std.specs.Str.{bytes_eq}
 use Rattle.std.specs.Int.{w64, cast_unsigned}
@@ -14,16 +13,6 @@ use Rattle.rv_disasm.specs.declared.naming.TheConstants.{EVERY}
 use Rattle.rv_disasm.specs.Text.{number, functs, form_name}
 use Rattle.rv_machine.specs.Layout.{HasFileRegisters}
 use Rattle.rv_disasm.specs.Placing.{place}
-
--- what follows a piece, where the text begins with it
-abbrev pub strip : List ℕ → List ℕ → Option (List ℕ)
-strip [] text = Some text
-strip (c ∷ piece) [] = None
-strip (c ∷ piece) (d ∷ text) = if d == c then strip piece text else None
-
--- what a function returned is what follows the piece
-abbrev pub Strips : List ℕ → List ℕ → Option (Bor (List ℕ)) → Type 0
-Strips piece text result = MatchOption result (strip piece text ≡ None) (λ rest. strip piece text ≡ Some rest.now)
 
 -- numbers that an operation of a word may have
 pub record Fine (d : Decoded) : Type 0 where

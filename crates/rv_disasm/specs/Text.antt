@@ -2,7 +2,7 @@
 use Rattle.std.specs.Prelude.{ℕ, ◌/◌, ◌%◌, ◌^◌, ◌==◌, if◌then◌else◌, List, [], ◌∷◌, ◌++◌, codes, ℤ, pos, negsuc, unsigned_abs, ◌<◌, ⊤, Option, Some, None}
 use Rattle.std.specs.List.{flat_map}
 use Rattle.std.specs.Option.{option_map, option_and_then}
-use Rattle.std.specs.Fmt.{signed_decimal}
+use Rattle.std.specs.Fmt.{decimal, signed_decimal}
 use Rattle.std.specs.Int.{w16, w32, from_bool, to_be_bytes}
 use Rattle.hex.specs.Hex.{encode_lower}
 use Rattle.rv_base.specs.declared.flags.IsaFlags.{IsaFlags}
@@ -141,6 +141,14 @@ with_form word d = option_map (λ f. (f, d)) (form_at word d.op)
 -- the row of a word with its operation, where it has one under these flags
 abbrev pub instruction : IsaFlags → ℕ → Option (Form × Decoded)
 instruction flags word = option_and_then (with_form word) (decode flags word)
+
+-- the digits of an instruction of so many bytes, with which the word begins, the highest first: four of two bytes, else eight
+abbrev pub digits_text : ℕ → ℕ → List ℕ
+digits_text len word = if len == 2 then encode_lower (to_be_bytes w16 (word % 2 ^ 16)) else encode_lower (to_be_bytes w32 word)
+
+-- where an instruction of so many bytes stands, and its digits
+abbrev pub place_text : ℕ → ℕ → ℕ → List ℕ
+place_text place len word = decimal place ++ codes ": " ++ digits_text len word ++ codes " "
 
 -- a word without an operation, as data: its digits, the highest first
 abbrev pub data_text : ℕ → List ℕ

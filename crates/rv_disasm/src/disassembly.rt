@@ -1,6 +1,6 @@
 //! Words to texts.
 
-ghost use Rattle.std.specs.Prelude.{◌≡◌, MatchOption, IfOk, IfSome, string_bytes, Some, None};
+ghost use Rattle.std.specs.Prelude.{◌≡◌, ◌++◌, MatchOption, OnOk, IfOk, IfSome, string_bytes, Some, None};
 ghost use Rattle.rv_machine.specs.Layout.{HasFileRegisters};
 ghost use Rattle.rv_disasm.specs.Text.{instruction, word_text};
 
@@ -20,14 +20,26 @@ pub(crate) fn instruction(flags: IsaFlags, word: u32) -> Option<(Form, Decoded)>
     Some((form, d))
 }
 
+/// Appends the text of a word under these flags: its mnemonic and its free fields, or, where it has no operation, its digits.
+pub fn put_text(
+    alloc: Global,
+    out: &mut String,
+    flags: IsaFlags,
+    word: u32,
+) -> Result<(), OutOfMemory>
+    ensures { OnOk result (string_bytes out.new ≡ string_bytes out.old ++ word_text flags word) }
+{
+    match instruction(flags, word) {
+        Some((form, d)) => put_instruction(out, form, &d),
+        None => put_data(alloc, out, word),
+    }
+}
+
 /// The text of a word under these flags: its mnemonic and its free fields, or, where it has no operation, its digits.
 pub fn disasm(alloc: Global, flags: IsaFlags, word: u32) -> Result<String, OutOfMemory>
     ensures { IfOk result (λ text. string_bytes text ≡ word_text flags word) }
 {
     let mut text = String::new(alloc);
-    match instruction(flags, word) {
-        Some((form, d)) => put_instruction(&mut text, form, &d)?,
-        None => put_data(alloc, &mut text, word)?,
-    }
+    put_text(alloc, &mut text, flags, word)?;
     Ok(text)
 }

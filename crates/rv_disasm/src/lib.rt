@@ -15,11 +15,13 @@ mod stripping;
 mod text;
 mod word;
 
-pub use disassembly::disasm;
+pub use disassembly::{disasm, put_text};
 pub use forms::Form;
 pub use halfwords::HalfOp;
 pub use layouts::{Field, File, Layout};
 pub use mnemonics::mnemonic;
 pub use operations::layout_of;
-pub use reading::reasm;
-pub use word::Word;
+pub use reading::{cut, reasm};
+pub use stripping::{strip, strip_decimal, strip_digits, strip_text};
+pub use text::{int_name, put, put_decimal, put_field, put_fields, put_place, put_signed};
+pub use word::{Word, word_at};

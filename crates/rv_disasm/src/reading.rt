@@ -41,8 +41,8 @@ fn index_or_len(byte: u8, text: &[u8]) -> usize
     }
 }
 
-// What stands before the byte, and the rest from it on.
-fn cut(byte: u8, text: &[u8]) -> (&[u8], &[u8])
+/// What stands before the byte, and the rest from it on.
+pub fn cut(byte: u8, text: &[u8]) -> (&[u8], &[u8])
     ensures before { result.0.now ≡ take (position_or_len (λ c. c == byte) text.now) text.now }
     ensures from { result.1.now ≡ drop (position_or_len (λ c. c == byte) text.now) text.now }
 {

@@ -8,8 +8,8 @@ ghost use Rattle.hex.specs.Hex.{encode_lower};
 ghost use Rattle.std.specs.Int.{w16, w32, to_be_bytes};
 ghost use Rattle.rv_machine.specs.Layout.{HasFileRegisters, bits};
 ghost use Rattle.rv_disasm.specs.declared.layouts.File.TheVariants as File;
-ghost use Rattle.rv_disasm.specs.Text.{number_text, field_text, further_text, fields_text, space, text_of, data_text, word_text};
-ghost use Rattle.rv_disasm.specs.Reading.{Strips};
+ghost use Rattle.rv_disasm.specs.Text.{number_text, field_text, further_text, fields_text, space, text_of, digits_text, data_text, word_text};
+ghost use Rattle.rv_disasm.specs.Strip.{Strips};
 ghost use Rattle.rv_disasm.specs.Text.{IsNamed};
 
 use crate::disassembly::instruction;
@@ -20,13 +20,15 @@ use itoa::Buffer;
 use rv_base::IsaFlags;
 use rv_machine::Decoded;
 
-fn strip<'a>(text: &'a [u8], piece: &[u8]) -> Option<&'a [u8]>
+/// What follows a piece, where the text begins with it.
+pub fn strip<'a>(text: &'a [u8], piece: &[u8]) -> Option<&'a [u8]>
     ensures { Strips piece.now text.now result }
 {
     text.strip_prefix(piece)
 }
 
-fn strip_decimal(text: &[u8], n: u64) -> Option<&[u8]>
+/// What follows a number in decimal.
+pub fn strip_decimal(text: &[u8], n: u64) -> Option<&[u8]>
     ensures { Strips (decimal n) text.now result }
 {
     let mut buffer = Buffer::new();
@@ -125,6 +127,17 @@ fn strip_half(text: &[u8], half: u16) -> Option<&[u8]>
     strip(text, &digits)
 }
 
+/// What follows the digits of an instruction of so many bytes, with which the word begins.
+pub fn strip_digits(text: &[u8], len: u8, word: u32) -> Option<&[u8]>
+    ensures { Strips (digits_text len word) text.now result }
+{
+    if len == 2 {
+        strip_half(text, (word & 0xffff) as u16)
+    } else {
+        strip_word(text, word)
+    }
+}
+
 fn low_half(word: u32) -> u16
     ensures { result ≡ bits word 15 0 }
 {
@@ -142,7 +155,8 @@ fn strip_data(text: &[u8], word: u32) -> Option<&[u8]>
     }
 }
 
-fn strip_text(flags: IsaFlags, word: u32, text: &[u8]) -> Option<&[u8]>
+/// What follows the word's text under these flags.
+pub fn strip_text(flags: IsaFlags, word: u32, text: &[u8]) -> Option<&[u8]>
     ensures { Strips (word_text flags word) text.now result }
 {
     match instruction(flags, word) {

@@ -1,6 +1,6 @@
 //! The text of an instruction, written and taken from the front of a text.
 
-ghost use Rattle.std.specs.Prelude.{◌≡◌, ◌++◌, ◌<◌, pos, OnOk, unsigned_abs, string_bytes};
+ghost use Rattle.std.specs.Prelude.{◌≡◌, ◌++◌, ◌<◌, ◌%◌, ◌^◌, pos, OnOk, unsigned_abs, string_bytes};
 ghost use Rattle.std.specs.List.{flat_map};
 ghost use Rattle.std.specs.Fmt.{decimal, signed_decimal};
 ghost use Rattle.std.specs.Int.{w16, w32, to_be_bytes};
@@ -9,7 +9,7 @@ ghost use Rattle.rv_base.specs.declared.regs.RegClass.TheVariants.{Int, Float as
 ghost use Rattle.rv_base.specs.RegNames.{real_name};
 ghost use Rattle.rv_machine.specs.Layout.{HasFileRegisters};
 ghost use Rattle.rv_disasm.specs.declared.layouts.File.TheVariants as File;
-ghost use Rattle.rv_disasm.specs.Text.{number, functs, file_of, number_text, field_text, further_text, fields_text, space, text_of, data_text};
+ghost use Rattle.rv_disasm.specs.Text.{number, functs, file_of, number_text, field_text, further_text, fields_text, space, text_of, digits_text, place_text, data_text};
 ghost use Rattle.rv_disasm.specs.Text.{IsNamed};
 
 use crate::forms::Form;
@@ -20,7 +20,7 @@ use rv_machine::{Decoded, MOp};
 use std::alloc::Global;
 
 /// x0 to x31.
-pub(crate) fn int_name(number: u64) -> &'static str
+pub fn int_name(number: u64) -> &'static str
     requires { number < 32 }
     ensures { result.now ≡ real_name Int number }
 {
@@ -160,21 +160,24 @@ impl Field {
 
 // ---- written
 
-fn put(out: &mut String, text: &str) -> Result<(), OutOfMemory>
+/// Appends a text.
+pub fn put(out: &mut String, text: &str) -> Result<(), OutOfMemory>
     ensures { OnOk result (string_bytes out.new ≡ string_bytes out.old ++ text.now) }
 {
     out.push_str(text)?;
     Ok(())
 }
 
-fn put_decimal(out: &mut String, n: u64) -> Result<(), OutOfMemory>
+/// Appends a number in decimal.
+pub fn put_decimal(out: &mut String, n: u64) -> Result<(), OutOfMemory>
     ensures { OnOk result (string_bytes out.new ≡ string_bytes out.old ++ decimal n) }
 {
     let mut buffer = Buffer::new();
     put(out, buffer.format(n))
 }
 
-fn put_signed(out: &mut String, n: i64) -> Result<(), OutOfMemory>
+/// Appends a number in decimal, with a minus before one below 0.
+pub fn put_signed(out: &mut String, n: i64) -> Result<(), OutOfMemory>
     ensures { OnOk result (string_bytes out.new ≡ string_bytes out.old ++ signed_decimal n) }
 {
     let mut buffer = Buffer::new();
@@ -200,7 +203,8 @@ fn put_number(out: &mut String, file: File, n: i64) -> Result<(), OutOfMemory>
     }
 }
 
-fn put_field(out: &mut String, field: Field, d: &Decoded) -> Result<(), OutOfMemory>
+/// Appends a field of an operation: a register by its name, any other number in decimal.
+pub fn put_field(out: &mut String, field: Field, d: &Decoded) -> Result<(), OutOfMemory>
     requires { HasFileRegisters d.now }
     ensures { OnOk result (string_bytes out.new ≡ string_bytes out.old ++ field_text d.now field) }
 {
@@ -225,7 +229,8 @@ fn put_further(out: &mut String, fields: &[Field], d: &Decoded) -> Result<(), Ou
     Ok(())
 }
 
-fn put_fields(out: &mut String, fields: &[Field], d: &Decoded) -> Result<(), OutOfMemory>
+/// Appends these fields of an operation: a space, and the fields with a comma between each two; nothing where there is none.
+pub fn put_fields(out: &mut String, fields: &[Field], d: &Decoded) -> Result<(), OutOfMemory>
     requires { HasFileRegisters d.now }
     ensures { OnOk result (string_bytes out.new ≡ string_bytes out.old ++ fields_text space fields.now d.now) }
 {
@@ -253,6 +258,39 @@ fn put_hex(alloc: Global, out: &mut String, bytes: &[u8]) -> Result<(), OutOfMem
 {
     let digits = hex::encode(alloc, bytes)?;
     put(out, &digits)
+}
+
+fn put_half(alloc: Global, out: &mut String, word: u32) -> Result<(), OutOfMemory>
+    ensures { OnOk result (string_bytes out.new ≡ string_bytes out.old ++ encode_lower (to_be_bytes w16 (word % 2 ^ 16))) }
+{
+    let half = (word & 0xffff) as u16;
+    put_hex(alloc, out, half.to_be_bytes().as_slice())
+}
+
+fn put_digits(alloc: Global, out: &mut String, len: u8, word: u32) -> Result<(), OutOfMemory>
+    ensures { OnOk result (string_bytes out.new ≡ string_bytes out.old ++ digits_text len word) }
+{
+    if len == 2 {
+        put_half(alloc, out, word)
+    } else {
+        put_hex(alloc, out, word.to_be_bytes().as_slice())
+    }
+}
+
+/// Appends where an instruction of so many bytes stands, and its digits, with which the word begins, the highest first.
+pub fn put_place(
+    alloc: Global,
+    out: &mut String,
+    place: u64,
+    len: u8,
+    word: u32,
+) -> Result<(), OutOfMemory>
+    ensures { OnOk result (string_bytes out.new ≡ string_bytes out.old ++ place_text place len word) }
+{
+    put_decimal(out, place)?;
+    put(out, ": ")?;
+    put_digits(alloc, out, len, word)?;
+    put(out, " ")
 }
 
 /// Appends a word as data.

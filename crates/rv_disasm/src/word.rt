@@ -13,7 +13,7 @@ pub struct Word {
 }
 
 /// The instruction that a word begins with.
-pub(crate) fn word_at(word: u32) -> Word
+pub fn word_at(word: u32) -> Word
     ensures { result ≡ word_at word }
 {
     if word % 4 == 3 {

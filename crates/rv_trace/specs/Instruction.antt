@@ -1,19 +1,19 @@
--- The text of an instruction, and of a step.
-use Rattle.std.specs.Prelude.{ℕ, ◌/◌, ◌%◌, ◌^◌, List, [], ◌++◌, ◌==◌, if◌then◌else◌, codes, ℤ}
+-- The text of an instruction, and of a step. Mnemonics, fields and registers are those of a disassembler.
+use Rattle.std.specs.Prelude.{ℕ, ◌/◌, ◌%◌, ◌^◌, List, [], ◌++◌, ◌==◌, if◌then◌else◌, codes}
 use Rattle.std.specs.Fmt.{decimal, signed_decimal}
-use Rattle.std.specs.Int.{w16, w32, w64, cast_signed, cast_unsigned, to_be_bytes}
-use Rattle.hex.specs.Hex.{encode_lower}
-use Rattle.rv_base.specs.RegNames.{int_names, name_at}
+use Rattle.std.specs.Int.{w64, cast_signed, cast_unsigned}
+use Rattle.rv_base.specs.declared.regs.RegClass.TheVariants.{Int}
+use Rattle.rv_base.specs.RegNames.{real_name}
 use Rattle.rv_machine.specs.declared.decoding.Decoded.{Decoded}
-use Rattle.rv_trace.specs.Mnemonics.{mnemonic, operands_of}
+use Rattle.rv_disasm.specs.declared.layouts.Field.{Field}
+use Rattle.rv_disasm.specs.declared.layouts.Field.TheVariants.{Rd, Rs1, Imm}
+use Rattle.rv_disasm.specs.declared.layouts.File.TheVariants.{X}
+use Rattle.rv_disasm.specs.Layouts.{fields_of, layout_of}
+use Rattle.rv_disasm.specs.Mnemonics.{mnemonic}
+use Rattle.rv_disasm.specs.Text.{space, field_text, fields_text, place_text}
+use Rattle.rv_trace.specs.Operands.{operands_of}
 use Rattle.rv_trace.specs.declared.operands.Operands.{Operands}
-use Rattle.rv_trace.specs.declared.operands.Operands.TheVariants.{Registers, Immediate, Source, Upper, Jump, Based, StoreBased, Branch, Sets, Nothing}
-
-abbrev pub register : ℕ → List ℕ
-register n = name_at int_names n
-
-abbrev pub comma : List ℕ
-comma = codes ","
+use Rattle.rv_trace.specs.declared.operands.Operands.TheVariants.{Fields, Upper, Based, Sets}
 
 -- an access of a fence's set, where its bit is set
 abbrev pub access : ℕ → List ℕ → List ℕ
@@ -30,40 +30,22 @@ set n = if n == 0 then codes "0" else accesses n
 abbrev pub low_bits : ℕ → Decoded → ℕ
 low_bits bits d = cast_unsigned w64 d.imm % 2 ^ bits
 
--- the first operand, and those after it
-abbrev pub first_register : ℕ → List ℕ
-first_register n = codes " " ++ register n
-
-abbrev pub next_register : ℕ → List ℕ
-next_register n = comma ++ register n
-
-abbrev pub next_number : ℤ → List ℕ
-next_number n = comma ++ signed_decimal n
-
--- an immediate with a register in parentheses, after a register
-abbrev pub based : ℕ → ℤ → ℕ → List ℕ
-based a n b = first_register a ++ next_number n ++ codes "(" ++ register b ++ codes ")"
-
-abbrev pub two_registers : ℕ → ℕ → List ℕ
-two_registers a b = first_register a ++ next_register b
-
-abbrev pub three_registers : ℕ → ℕ → ℕ → List ℕ
-three_registers a b c = first_register a ++ next_register b ++ next_register c
-
 abbrev pub two_sets : ℕ → ℕ → List ℕ
-two_sets a b = codes " " ++ set a ++ comma ++ set b
+two_sets a b = codes " " ++ set a ++ codes "," ++ set b
+
+-- the register of this field, and the immediate with rs1 in parentheses
+abbrev pub based : Field → Decoded → List ℕ
+based field d = codes " " ++ field_text d field ++ codes "," ++ field_text d Imm ++ codes "(" ++ field_text d (Rs1 X) ++ codes ")"
+
+-- rd, and the upper immediate of twenty bits
+abbrev pub upper : Decoded → List ℕ
+upper d = codes " " ++ field_text d (Rd X) ++ codes "," ++ decimal (low_bits 20 d)
 
 abbrev pub operands_text : Operands → Decoded → List ℕ
-operands_text Registers d = three_registers d.rd d.rs1 d.rs2
-operands_text Immediate d = two_registers d.rd d.rs1 ++ next_number d.imm
-operands_text Source d = two_registers d.rd d.rs1
-operands_text Upper d = first_register d.rd ++ comma ++ decimal (low_bits 20 d)
-operands_text Jump d = first_register d.rd ++ next_number d.imm
-operands_text Based d = based d.rd d.imm d.rs1
-operands_text StoreBased d = based d.rs2 d.imm d.rs1
-operands_text Branch d = two_registers d.rs1 d.rs2 ++ next_number d.imm
+operands_text Fields d = fields_text space (fields_of (layout_of d.op)) d
+operands_text Upper d = upper d
+operands_text (Based field) d = based field d
 operands_text Sets d = two_sets (low_bits 8 d / 16) (low_bits 8 d % 16)
-operands_text Nothing d = []
 
 -- the mnemonic with its operands
 abbrev pub instruction_text : Decoded → List ℕ
@@ -71,15 +53,7 @@ instruction_text d = mnemonic d.op ++ operands_text (operands_of d.op) d
 
 -- what an instruction wrote to its register, if it has one
 abbrev pub written_text : ℕ → ℕ → List ℕ
-written_text rd value = if rd == 0 then [] else codes "  " ++ register rd ++ codes "=" ++ signed_decimal (cast_signed w64 value)
-
--- the bytes of an instruction of so many, from the word that begins with them, the highest first: four hexadecimal digits, or eight
-abbrev pub word_text : ℕ → ℕ → List ℕ
-word_text len word = if len == 2 then encode_lower (to_be_bytes w16 (word % 2 ^ 16)) else encode_lower (to_be_bytes w32 word)
-
--- the offset, and the instruction's bytes
-abbrev pub place_text : ℕ → ℕ → ℕ → List ℕ
-place_text offset len word = decimal offset ++ codes ": " ++ word_text len word ++ codes " "
+written_text rd value = if rd == 0 then [] else codes "  " ++ real_name Int rd ++ codes "=" ++ signed_decimal (cast_signed w64 value)
 
 -- the offset, the instruction in hexadecimal digits and as text, and the value that its register has after it
 abbrev pub step_line : ℕ → ℕ → Decoded → ℕ → List ℕ

@@ -1,2 +1,2 @@
+pub mod Operands
 pub mod Instruction
-pub mod Mnemonics

@@ -5,4 +5,4 @@ mod instruction;
 mod operands;
 
 pub use instruction::{put_instruction, put_step};
-pub use operands::{Operands, mnemonic, operands_of};
+pub use operands::{Operands, operands_of};

@@ -1,7 +1,7 @@
 use Rattle.std.proofs.Common.{◌≡◌, drop}
 use Rattle.std.specs.List.{flat_map}
 use Rattle.rv_disasm.specs.Text.{further_text}
-use Rattle.rv_disasm.specs.Reading.{strip}
+use Rattle.rv_disasm.specs.Strip.{strip}
 use Rattle.rv_disasm.proofs.stripping.strip_further.Given as goal
 
 abbrev pub invariant-loop-field : goal.invariant-loop-field

@@ -1,0 +1,90 @@
+//! Why the program ends early, and with which status.
+
+ghost use Rattle.std.specs.Prelude.{◌≡◌};
+
+use crate::making::MakeError;
+use rv_base::OutOfMemory;
+use thiserror::Error;
+
+#[derive(Debug, Drop, Error)]
+pub(crate) enum Failure {
+    /// Help or the version, which was asked for.
+    #[error("{text}")]
+    Asked { text: String },
+    /// The words are none of the program's.
+    #[error("{text}")]
+    Words { text: String },
+    #[error("{word}: no distinct names of m, zba, zbb, zca, zcb, zcd and zfhmin with commas between")]
+    Flags { word: String },
+    #[error("{word}: no address below 2^64")]
+    Base { word: String },
+    /// The first line of the input, counted from 1, that no report has there.
+    #[error("no report at line {line}")]
+    NotReport { line: usize },
+    #[error("no hexadecimal digits in pairs")]
+    NotHex,
+    /// The first line of the input, counted from 1, that is none of this code.
+    #[error("no line of this code at line {line}")]
+    NotLine { line: usize },
+    #[error("standard input can't be read")]
+    Read,
+    #[error("standard output can't be written")]
+    Write,
+    /// The input has more than 16777216 bytes.
+    #[error("too long")]
+    TooLong,
+    #[error("out of memory")]
+    OutOfMemory,
+}
+
+impl Failure {
+    ghost use Rattle.rvdis.specs.Ending.{status_of};
+
+    /// The status with which the program ends.
+    pub(crate) fn status(&self) -> u8
+        ensures { result ≡ status_of self.now }
+    {
+        match self {
+            Failure::Asked { text: _ } => 0,
+            Failure::Words { text: _ } | Failure::Flags { word: _ } | Failure::Base { word: _ } =>
+                2,
+            Failure::NotReport { line: _ } | Failure::NotHex | Failure::NotLine { line: _ } => 3,
+            Failure::Read => 5,
+            Failure::Write => 6,
+            Failure::TooLong => 7,
+            Failure::OutOfMemory => 8,
+        }
+    }
+
+    /// Writes what was asked for to standard output, and anything else to standard error.
+    pub(crate) fn show(&self, rt: &HostRuntime) {
+        match self {
+            Failure::Asked { text } => {
+                let _ = print!(rt; "{text}");
+            }
+            Failure::Words { text } => {
+                let _ = eprint!(rt; "{text}");
+            }
+            _ => {
+                let _ = eprintln!(rt; "rvdis: {self}");
+            }
+        }
+    }
+}
+
+impl From<OutOfMemory> for Failure {
+    fn from(_: OutOfMemory) -> Failure {
+        Failure::OutOfMemory
+    }
+}
+
+impl From<MakeError> for Failure {
+    fn from(error: MakeError) -> Failure {
+        match error {
+            MakeError::NotReport { line } => Failure::NotReport { line },
+            MakeError::NotHex => Failure::NotHex,
+            MakeError::NotLine { line } => Failure::NotLine { line },
+            MakeError::OutOfMemory => Failure::OutOfMemory,
+        }
+    }
+}

@@ -1,0 +1,57 @@
+//! `rvdis`: writes the code of standard input as lines of text, an instruction each; or, of such lines, the code.
+#![tactic(auto)]
+
+ghost use Rattle.std.specs.Prelude.{◌≡◌};
+ghost use Rattle.std.specs.Process.{exit_status};
+ghost use Rattle.rvdis.specs.Ending.{status_of};
+
+mod failure;
+mod making;
+mod words;
+
+use failure::Failure;
+use making::output_of;
+use rv_stream::{ReadAllError, StdSink, StdSource, WriteError, read_all, write_all};
+use std::process::ExitCode;
+use words::{command_words, given_by};
+
+fn input_of(rt: &HostRuntime) -> Result<Vec<u8>, Failure> {
+    match read_all(rt.alloc(), &mut StdSource::new(rt.stdin())) {
+        Ok(input) => Ok(input),
+        Err(ReadAllError::Failed) => Err(Failure::Read),
+        Err(ReadAllError::TooLong) => Err(Failure::TooLong),
+        Err(ReadAllError::OutOfMemory) => Err(Failure::OutOfMemory),
+    }
+}
+
+fn write(rt: &HostRuntime, bytes: &[u8]) -> Result<(), Failure> {
+    match write_all(&mut StdSink::new(rt.stdout()), bytes) {
+        Ok(()) => Ok(()),
+        Err(WriteError::Failed) => Err(Failure::Write),
+        Err(WriteError::OutOfMemory) => Err(Failure::OutOfMemory),
+    }
+}
+
+fn run(rt: &HostRuntime) -> Result<(), Failure> {
+    let words = command_words(rt)?;
+    let given = given_by(rt.alloc(), &words)?;
+    let input = input_of(rt)?;
+    let bytes = output_of(rt.alloc(), &given, &input)?;
+    write(rt, bytes.as_slice())
+}
+
+fn exit(failure: &Failure) -> ExitCode
+    ensures { exit_status result ≡ status_of failure.now }
+{
+    ExitCode::from(failure.status())
+}
+
+fn main(rt: HostRuntime) -> ExitCode {
+    match run(&rt) {
+        Ok(()) => ExitCode::SUCCESS,
+        Err(failure) => {
+            failure.show(&rt);
+            exit(&failure)
+        }
+    }
+}
