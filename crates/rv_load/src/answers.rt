@@ -211,8 +211,10 @@ fn vector_answer(alloc: Global, w: &[u8], word: BadWord) -> Result<Answer, Setti
 fn stored_answer(alloc: Global, w: &[u8], word: BadWord) -> Result<Answer, SettingsError>
     ensures { Reads (or_bad word (stored_answer w.now)) result }
 {
-    let bytes = stored_bytes(alloc, w, word)?;
-    Ok(Answer::Stored(bytes))
+    match stored_bytes(alloc, w, word) {
+        Ok(bytes) => Ok(Answer::Stored(bytes)),
+        Err(error) => Err(error),
+    }
 }
 
 fn answer_of_kind(

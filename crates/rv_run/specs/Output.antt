@@ -1,10 +1,12 @@
 -- The text of a run.
-use Rattle.std.specs.Prelude.{ℕ, zero, suc, ◌+◌, List, [], ◌∷◌, ◌++◌, ◌==◌, if◌then◌else◌, codes, false}
+use Rattle.std.specs.Prelude.{ℕ, zero, suc, ◌+◌, List, [], ◌∷◌, ◌++◌, ◌==◌, if◌then◌else◌, codes, false, Option, Some, None}
 use Rattle.std.specs.Fmt.{decimal, signed_decimal, digits}
 use Rattle.std.specs.Int.{w64, cast_signed}
 use Rattle.rv_base.specs.RegNames.{int_names, name_at}
 use Rattle.rv_base.specs.declared.flags.IsaFlags.{IsaFlags}
-use Rattle.rv_disasm.specs.Text.{word_text}
+use Rattle.rv_machine.specs.declared.decoding.Decoded.{Decoded}
+use Rattle.rv_machine.specs.Decode.{decode}
+use Rattle.rv_trace.specs.Instruction.{instruction_text}
 use Rattle.rv_machine.specs.State.{Values, reg}
 use Rattle.rv_run.specs.declared.ending.Ending.{Ending}
 use Rattle.rv_run.specs.declared.ending.Ending.TheVariants.{Left, Limit, Break, NoOperation, NeedsAnswer}
@@ -14,12 +16,16 @@ use Rattle.rv_run.specs.declared.result.Run.{Run}
 abbrev pub hex : ℕ → List ℕ
 hex n = digits 16 false n
 
+abbrev pub operation_text : Option Decoded → List ℕ
+operation_text None = []
+operation_text (Some d) = instruction_text d
+
 abbrev pub ending_line : IsaFlags → Ending → List ℕ
 ending_line flags (Left address) = codes "left the code to 0x" ++ hex address ++ codes "\n"
 ending_line flags Limit = codes "step limit\n"
 ending_line flags (Break offset) = codes "ebreak at " ++ decimal offset ++ codes "\n"
 ending_line flags (NoOperation offset word) = codes "no operation at " ++ decimal offset ++ codes ": 0x" ++ hex word ++ codes "\n"
-ending_line flags (NeedsAnswer offset word) = codes "needs an answer at " ++ decimal offset ++ codes ": " ++ word_text flags word ++ codes "\n"
+ending_line flags (NeedsAnswer offset word) = codes "needs an answer at " ++ decimal offset ++ codes ": " ++ operation_text (decode flags word) ++ codes "\n"
 
 abbrev pub steps_line : ℕ → List ℕ
 steps_line k = codes "steps " ++ decimal k ++ codes "\n"

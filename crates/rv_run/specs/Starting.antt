@@ -60,7 +60,7 @@ with_setting m s = with_own m (set_setting m.full.units (record { avl = s.avl % 
 -- answers given, one after the other
 abbrev pub with_answers_of : Machine → List Answer → Machine
 with_answers_of m [] = m
-with_answers_of m (a ∷ as) = with_answers_of (with_answers m (m.full.answers ++ a ∷ [])) as
+with_answers_of m (a ∷ more) = with_answers_of (with_answers m (m.full.answers ++ a ∷ [])) more
 
 -- the machine that stands at the base and an offset, with an address outside the code in ra
 abbrev pub bare_machine : Settings → ℕ → Machine

@@ -1,25 +1,25 @@
 -- The steps of a run, a line for each.
 use Rattle.std.specs.Prelude.{◌≡◌, ℕ, zero, suc, ◌-◌, Bool, true, false, List, [], ◌++◌, Option, Some, None, codes}
 use Rattle.rv_base.specs.declared.flags.IsaFlags.{IsaFlags}
-use Rattle.rv_disasm.specs.Text.{word_text}
+use Rattle.rv_disasm.specs.Text.{place_text}
 use Rattle.rv_machine.specs.declared.decoding.Decoded.{Decoded}
 use Rattle.rv_machine.specs.Decode.{decode, int_decode}
 use Rattle.rv_machine.specs.State.{reg}
 use Rattle.rv_full.specs.Units.{FullState}
 use Rattle.rv_full.specs.Steps.{Machine, fstep, fiter}
-use Rattle.rv_trace.specs.Instruction.{place_text, step_line}
+use Rattle.rv_trace.specs.Instruction.{instruction_text, step_line}
 use Rattle.rv_run.specs.Running.{word_at}
 use Rattle.rv_run.specs.Written.{unit_written}
 use Rattle.rv_run.specs.declared.ending.Ending.{Ending}
 
 -- the line of a step of a unit's operation, from its offset, its word and the vector registers before it to a state
-abbrev pub unit_line : IsaFlags → ℕ → ℕ → Option Decoded → List ℕ → FullState → List ℕ
-unit_line flags offset word None vectors next = []
-unit_line flags offset word (Some d) vectors next = place_text offset d.len word ++ word_text flags word ++ unit_written d vectors next ++ codes "\n"
+abbrev pub unit_line : ℕ → ℕ → Option Decoded → List ℕ → FullState → List ℕ
+unit_line offset word None vectors next = []
+unit_line offset word (Some d) vectors next = place_text offset d.len word ++ instruction_text d ++ unit_written d vectors next ++ codes "\n"
 
 -- that of a step of this integer operation, or where the word is none, of a unit's
 abbrev pub operation_line : IsaFlags → ℕ → ℕ → Option Decoded → List ℕ → FullState → List ℕ
-operation_line flags offset word None vectors next = unit_line flags offset word (decode flags word) vectors next
+operation_line flags offset word None vectors next = unit_line offset word (decode flags word) vectors next
 operation_line flags offset word (Some d) vectors next = step_line offset word d (reg next.state.values d.rd)
 
 abbrev pub line_to : IsaFlags → ℕ → FullState → Option FullState → List ℕ

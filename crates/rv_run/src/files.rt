@@ -2,6 +2,8 @@
 
 ghost use Rattle.std.specs.Prelude.{◌≡◌, ◌++◌, ◌<◌, ◌≤◌, length, IfOk, OnOk, codes, string_bytes};
 ghost use Rattle.std.specs.Fmt.{decimal};
+ghost use Rattle.std.specs.Int.{w128, to_be_bytes};
+ghost use Rattle.hex.specs.Hex.{encode_lower};
 ghost use Rattle.rv_run.specs.Output.{hex};
 ghost use Rattle.rv_run.specs.Files.{before_name, before_value, after_value, register_text, float_text, vector_text, file_changes, frm_line, setting_line, lines_from};
 ghost use Rattle.rv_run.specs.declared.files.Style.TheVariants as styles;
@@ -102,6 +104,15 @@ pub(crate) fn put_float(
     put_register(alloc, out, style, RegClass::Float, number, digits.as_bytes())
 }
 
+fn vector_digits(value: u128) -> [u8; 32]
+    ensures { result ≡ encode_lower (to_be_bytes w128 value) }
+{
+    let mut digits = [0u8; 32];
+    let bytes = value.to_be_bytes();
+    let _ = hex::encode_to_slice(bytes.as_slice(), &mut digits[..]);
+    digits
+}
+
 fn put_vector(
     alloc: Global,
     out: &mut Vec<u8>,
@@ -112,9 +123,7 @@ fn put_vector(
     requires { number < 32 }
     ensures { OnOk result (out.new.items ≡ out.old.items ++ vector_text style number value) }
 {
-    let mut digits = [0u8; 32];
-    let bytes = value.to_be_bytes();
-    let _ = hex::encode_to_slice(bytes.as_slice(), &mut digits[..]);
+    let digits = vector_digits(value);
     put_register(alloc, out, style, RegClass::Vector, number, &digits)
 }
 

@@ -1,14 +1,16 @@
 //! The text of a run.
 
-ghost use Rattle.std.specs.Prelude.{◌≡◌, ◌++◌, ◌<◌, ◌≤◌, length, IfOk, OnOk, codes, string_bytes};
+ghost use Rattle.std.specs.Prelude.{◌≡◌, ◌++◌, ◌<◌, ◌≤◌, length, IfOk, IfSome, OnOk, codes, string_bytes};
 ghost use Rattle.std.specs.Fmt.{decimal};
-ghost use Rattle.rv_disasm.specs.Text.{word_text};
-ghost use Rattle.rv_run.specs.Output.{hex, ending_line, steps_line, register_line, changes, run_text};
+ghost use Rattle.rv_machine.specs.Decode as decoding;
+ghost use Rattle.rv_machine.specs.Layout.{HasFileRegisters};
+ghost use Rattle.rv_run.specs.Output.{hex, operation_text, ending_line, steps_line, register_line, changes, run_text};
 
 use crate::ending::Ending;
 use crate::result::Run;
 use rv_base::{IsaFlags, OutOfMemory, PReg, Reg, RegClass};
-use rv_disasm::disasm;
+use rv_machine::{Decoded, decode};
+use rv_trace::put_instruction;
 use std::alloc::Global;
 
 fn hex_line(alloc: Global, n: u64) -> Result<String, OutOfMemory>
@@ -25,16 +27,26 @@ fn no_operation_line(alloc: Global, offset: u64, word: u32) -> Result<String, Ou
     Ok(text)
 }
 
+fn put_operation(out: &mut String, decoded: Option<Decoded>) -> Result<(), OutOfMemory>
+    requires { IfSome decoded HasFileRegisters }
+    ensures { OnOk result (string_bytes out.new ≡ string_bytes out.old ++ operation_text decoded) }
+{
+    match decoded {
+        Some(d) => put_instruction(out, &d),
+        None => Ok(()),
+    }
+}
+
 fn needs_answer_line(
     alloc: Global,
     flags: IsaFlags,
     offset: u64,
     word: u32,
 ) -> Result<String, OutOfMemory>
-    ensures { IfOk result (λ text. string_bytes text ≡ codes "needs an answer at " ++ decimal offset ++ codes ": " ++ word_text flags word ++ codes "\n") }
+    ensures { IfOk result (λ text. string_bytes text ≡ codes "needs an answer at " ++ decimal offset ++ codes ": " ++ operation_text (decoding.decode flags word) ++ codes "\n") }
 {
     let mut text = format!(in alloc; "needs an answer at {offset}: ")?;
-    text.push_str(disasm(alloc, flags, word)?.as_str())?;
+    put_operation(&mut text, decode(flags, word))?;
     text.push_str("\n")?;
     Ok(text)
 }

@@ -11,10 +11,10 @@ use crate::progress::{Progress, note_steps};
 use crate::running::{last_ending, turn, word_at};
 use crate::written::put_unit_written;
 use rv_base::{IsaFlags, OutOfMemory};
-use rv_disasm::disasm;
+use rv_disasm::put_place;
 use rv_full::FullMachine;
 use rv_machine::{Decoded, decode, int_decode};
-use rv_trace::{put_place, put_step};
+use rv_trace::{put_instruction, put_step};
 use std::alloc::Global;
 
 // The line of a step of a unit's operation; the vector registers are those before it, and the machine stands after it.
@@ -28,12 +28,14 @@ fn put_unit(
     machine: &FullMachine,
 ) -> Result<(), OutOfMemory>
     requires { length vectors.now ≡ 32 }
-    ensures { OnOk result (out.new.items ≡ out.old.items ++ unit_line flags offset word (decoding.decode flags word) vectors.now machine.now.full) }
+    ensures { OnOk result (out.new.items ≡ out.old.items ++ unit_line offset word (decoding.decode flags word) vectors.now machine.now.full) }
 {
     match decode(flags, word) {
         Some(d) => {
-            put_place(out, offset, d.len, word)?;
-            out.extend_from_slice(disasm(alloc, flags, word)?.as_bytes())?;
+            let mut text = String::new(alloc);
+            put_place(alloc, &mut text, offset, d.len, word)?;
+            put_instruction(&mut text, &d)?;
+            out.extend_from_slice(text.as_bytes())?;
             put_unit_written(alloc, out, d, vectors, machine)?;
             out.extend_from_slice(b"\n")?;
             Ok(())

@@ -1,14 +1,18 @@
 //! What a step of a unit wrote.
 
-ghost use Rattle.std.specs.Prelude.{◌≡◌, ◌++◌, ◌<◌, ◌≤◌, length, OnOk};
+ghost use Rattle.std.specs.Prelude.{◌≡◌, ◌++◌, ◌<◌, length, IfOk, OnOk, codes, string_bytes};
+ghost use Rattle.std.specs.Fmt.{signed_decimal};
+ghost use Rattle.std.specs.Int.{w64, cast_signed};
+ghost use Rattle.rv_base.specs.RegNames.{real_name};
+ghost use Rattle.rv_base.specs.declared.regs.RegClass.TheVariants.{Int};
+ghost use Rattle.rv_trace.specs.Instruction.{written_text};
 ghost use Rattle.rv_machine.specs.Layout.{HasFileRegisters};
 ghost use Rattle.rv_run.specs.Written.{of_target, of_float, of_vector, of_memory, written_by, values_written, unit_written};
 
 use crate::files::{Style, put_float, put_vectors};
-use rv_base::OutOfMemory;
+use rv_base::{OutOfMemory, PReg, Reg, RegClass};
 use rv_full::{FloatShape, FullMachine, Target, VectorShape, float_shape, vector_shape};
 use rv_machine::{Decoded, MOp, VecMemOp};
-use rv_trace::put_written;
 use std::alloc::Global;
 
 /// What an operation writes, memory aside.
@@ -75,6 +79,28 @@ fn written_by(op: MOp) -> Written
     }
 }
 
+// What was written to an integer register, if it is one.
+fn put_integer(alloc: Global, out: &mut Vec<u8>, rd: u8, value: u64) -> Result<(), OutOfMemory>
+    requires { rd < 32 }
+    ensures { OnOk result (out.new.items ≡ out.old.items ++ written_text rd value) }
+{
+    if rd == 0 {
+        return Ok(());
+    }
+    let text = integer_text(alloc, rd, value)?;
+    out.extend_from_slice(text.as_bytes())?;
+    Ok(())
+}
+
+fn integer_text(alloc: Global, rd: u8, value: u64) -> Result<String, OutOfMemory>
+    requires { rd < 32 }
+    ensures { IfOk result (λ text. string_bytes text ≡ codes "  " ++ real_name Int rd ++ codes "=" ++ signed_decimal (cast_signed w64 value)) }
+{
+    let register = Reg::Real(PReg::new(rd, RegClass::Int));
+    let signed = value.cast_signed();
+    Ok(format!(in alloc; "  {register}={signed}")?)
+}
+
 /// What a unit's operation wrote; the vector registers are those before the step, and the machine stands after it.
 pub(crate) fn put_unit_written(
     alloc: Global,
@@ -88,7 +114,7 @@ pub(crate) fn put_unit_written(
     ensures { OnOk result (out.new.items ≡ out.old.items ++ unit_written d vectors.now machine.now.full) }
 {
     match written_by(d.op) {
-        Written::Integer => put_written(alloc, out, d.rd, machine.reg(d.rd)),
+        Written::Integer => put_integer(alloc, out, d.rd, machine.reg(d.rd)),
         Written::Floating => put_float(alloc, out, Style::Step, d.rd, machine.freg(d.rd)),
         Written::Vectors => put_vectors(alloc, out, Style::Step, vectors, machine.vectors()),
         Written::Nothing => Ok(()),

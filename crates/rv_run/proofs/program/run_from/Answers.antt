@@ -1,7 +1,6 @@
 use Rattle.std.proofs.Common.{refl, ap, ◌∙◌, ℕ, length, subst}
 use Rattle.rv_base.specs.declared.flags.IsaFlags.{IsaFlags}
-use Rattle.rv_machine.specs.Steps.{Machine as IntegerMachine}
-use Rattle.rv_full.specs.Steps.{Machine}
+use Rattle.rv_run.specs.Files.{lines_from}
 use Rattle.rv_run.specs.Memory.{memory_lines}
 use Rattle.rv_run.specs.FullRunning.{FullRuns}
 use Rattle.rv_run.proofs.FullGrows.{unwritten}
@@ -28,7 +27,9 @@ returns g c =
       flags = refl;
       before = c.in_ok-before.ensures.values;
       after = c.in_ok-after.ensures.values;
-      units = ?;
-      memory = ?;
+      units = c.from_vec.ensures ∙ c.in_ok-units.ensures
+          ∙ (λ j. lines_from (c.files_of-files.ensures.floats j) (c.files_of-files.ensures.vectors j) (c.files_of-files.ensures.frm j) (c.files_of-files.ensures.setting j) last.full.units);
+      memory = c.from_vec-2.ensures ∙ c.in_ok-memory.ensures
+          ∙ (λ j. memory_lines ((c.in_ok-first.ensures.cases ∙ c.integers.ensures) j).state.values.mem (c.integers-2.ensures j).state.values.mem);
       trace = c.from_vec-3.ensures ∙ c.in_ok-steps.ensures.lines;
     }
