@@ -31,7 +31,7 @@ use Rattle.rv_full.specs.declared.shapes.Sources.TheVariants as sources
 use Rattle.rv_full.specs.Floats.{format_bytes, shape_row, float_shape, number_row, inputs_of, is_move}
 use Rattle.rv_full.specs.Vectors.{is_legal, arithmetic_inputs, arithmetic_row, vector_shape, vector_load_row, vector_store_row, vector_memory_row, store_some}
 use Rattle.rv_full.specs.UnitRows.{row_of, unit_row}
-use Rattle.rv_full.specs.Steps.{Next, Goes, Asks, Halts, taken, row_next, unit_on, unit_next, next_by, fnext, fstep, fiter, then_fstep, stepped}
+use Rattle.rv_full.specs.Steps.{Next, Goes, Asks, Halts, taken, row_next, unit_on, next_by, fnext, fiter, then_fstep, stepped}
 use Rattle.rv_run.proofs.Grows.{Grows, Has, insert_grows, step_grows, store_grows}
 
 same : (mem : Memory) → Grows mem mem

@@ -1,6 +1,6 @@
 -- No step of the integer machine takes a byte's entry away.
-use Rattle.std.proofs.Common.{◌≡◌, ◌∙◌, ℕ, zero, suc, ◌+◌, Bool, true, false, cond, List, [], ◌∷◌, Option, sym, ap, subst}
-use Rattle.std.specs.Prelude.{Some, None, IfSome, if◌then◌else◌, nat_eq, ◌%◌, unwrap_or}
+use Rattle.std.proofs.Common.{◌≡◌, ◌∙◌, ℕ, ◌+◌, Bool, true, false, cond, List, [], ◌∷◌, Option, sym}
+use Rattle.std.specs.Prelude.{Some, None, IfSome, if◌then◌else◌, nat_eq, ◌%◌}
 use Rattle.std.specs.Cmp.{nat_cmp_total}
 use Rattle.std.specs.Ordering.{nat_cmp, eq_by_cmp}
 use Rattle.std.specs.FinMap as map
@@ -13,7 +13,7 @@ use Rattle.rv_machine.specs.declared.ops.BaseOp.TheVariants.{Lui, Auipc, Jal, Ja
 use Rattle.rv_machine.specs.Decode.{int_decode}
 use Rattle.rv_machine.specs.Effects.{act_on, base_act, address_of, y_of}
 use Rattle.rv_machine.specs.Memory.{store_bytes}
-use Rattle.rv_machine.specs.State.{Memory, State, byte, store, wrap}
+use Rattle.rv_machine.specs.State.{Memory, State, store, wrap}
 use Rattle.rv_machine.specs.Steps.{fetch, istep, step_on}
 
 -- what has no entry in one memory has none in the memory before it

@@ -11,13 +11,13 @@ use Rattle.rv_machine.specs.UnitDecode.{unit_decode}
 use Rattle.rv_machine.specs.State.{State, wrap}
 use Rattle.rv_machine.specs.Steps.{fetch, istep, iter, then_step}
 use Rattle.rv_full.specs.Units.{FullState, FullValues, put, values_of}
-use Rattle.rv_full.specs.Rows.{Row, Absent}
-use Rattle.rv_full.specs.UnitRows.{row_of, unit_row}
-use Rattle.rv_full.specs.Steps.{Next, Goes, Asks, Halts, fnext, fiter, next_by, row_next, unit_on, unit_next}
-use Rattle.rv_run.specs.Running.{Runs, ending_of, ending_by, ending_inside, is_break, is_break_op, offset_in, stop_of, word_at}
-use Rattle.rv_run.specs.FullRunning.{FullRuns, IsIntegerEnd, full_ending_of, full_ending_by, full_ending_inside, stop_by}
+use Rattle.rv_full.specs.Rows.{Absent}
+use Rattle.rv_full.specs.UnitRows.{row_of}
+use Rattle.rv_full.specs.Steps.{Next, Halts, fnext, fiter, next_by, row_next, unit_on, unit_next}
+use Rattle.rv_run.specs.Running.{Runs, ending_by, is_break, is_break_op, offset_in, stop_of, word_at}
+use Rattle.rv_run.specs.FullRunning.{FullRuns, IsIntegerEnd, full_ending_of, full_ending_by, stop_by}
 use Rattle.rv_run.specs.declared.ending.Ending.{Ending}
-use Rattle.rv_run.specs.declared.ending.Ending.TheVariants.{Left, Limit, Break, NoOperation, NeedsAnswer}
+use Rattle.rv_run.specs.declared.ending.Ending.TheVariants.{Limit, Break, NoOperation}
 
 -- what is proved of runs of the integer machine
 abbrev pub IntegerLaw : Type 0
@@ -120,6 +120,7 @@ before_some flags (suc more) j s t e = after (iter flags (more + j) s) (sym one_
   where
     one_more : iter flags (suc more + j) s ≡ then_step flags (iter flags (more + j) s)
     one_more = let same : suc more + j ≡ suc (more + j) = omega arith in ap (λ n. iter flags n s) same
+
     after : (o : Option State) → then_step flags o ≡ Some t → ((r : State) → o ≡ Some r → (r : State) × (iter flags j s ≡ Some r)) → (r : State) × (iter flags j s ≡ Some r)
     after None e first = absurd (cc)
     after (Some r) e first = first r refl
@@ -140,11 +141,11 @@ integer_run law flags base len limit b k t ending ran end = record {
   steps = law flags k t b ran.steps;
   ends = by_offset flags limit k (put t b) ending (offset_in base len t.pc) ran.ends end;
   on = λ j c lt reached.
-    let before = earlier flags j k b.state t lt ran.steps in
-    let r = before.0 in
-    let is : put r b ≡ c = same_full (put r b) c (sym (law flags j r b before.1) ∙ reached) in
-    subst (λ (x : FullState). full_ending_of flags base len limit j x ≡ None) is
-    (still_by flags limit j (put r b) (offset_in base len r.pc) (ran.on j r lt before.1));
+      let before = earlier flags j k b.state t lt ran.steps in
+      let r = before.0 in
+      let is : put r b ≡ c = same_full (put r b) c (sym (law flags j r b before.1) ∙ reached) in
+      subst (λ (x : FullState). full_ending_of flags base len limit j x ≡ None) is
+      (still_by flags limit j (put r b) (offset_in base len r.pc) (ran.on j r lt before.1));
 }
 
 -- ---- there is one run
@@ -173,7 +174,9 @@ pub as_integer : (law : IntegerLaw) (flags : IsaFlags) (base len limit : ℕ) (f
 as_integer law flags base len limit first j last ending ran k t other integer end =
     let run = integer_run law flags base len limit first k t other integer end in
     let many : j ≡ k = as_many flags base len limit first j last ending k (put t first) other ran run in
-    let states : last ≡ put t first = same_full last (put t first) (sym ran.steps ∙ ap (λ n. fiter flags n first) many ∙ run.steps) in
-    (many, states,
-    same_ending (full_ending_of flags base len limit j last) ending other ran.ends
-    ((λ i. full_ending_of flags base len limit (many i) (states i)) ∙ run.ends))
+    let states : last ≡ put t first = same_full last (put t first) (sym ran.steps ∙ ap (λ n. fiter flags n first) many ∙ run.steps) in (
+      many,
+      states,
+      same_ending (full_ending_of flags base len limit j last) ending other ran.ends
+          ((λ i. full_ending_of flags base len limit (many i) (states i)) ∙ run.ends),
+    )

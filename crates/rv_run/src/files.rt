@@ -101,7 +101,14 @@ pub(crate) fn put_float(
     ensures { OnOk result (out.new.items ≡ out.old.items ++ float_text style number value) }
 {
     let digits = hex_text(alloc, value)?;
-    put_register(alloc, out, style, RegClass::Float, number, digits.as_bytes())
+    put_register(
+        alloc,
+        out,
+        style,
+        RegClass::Float,
+        number,
+        digits.as_bytes(),
+    )
 }
 
 fn vector_digits(value: u128) -> [u8; 32]
@@ -226,8 +233,20 @@ pub(crate) fn unit_lines(
 {
     let mut out = Vec::new(alloc);
     put_floats(alloc, &mut out, &before.floats, machine.floats())?;
-    put_vectors(alloc, &mut out, Style::Line, &before.vectors, machine.vectors())?;
-    put(&mut out, frm_line(alloc, before.frm, machine.frm())?.as_str())?;
-    put(&mut out, setting_line(alloc, before.setting, setting_of(machine))?.as_str())?;
+    put_vectors(
+        alloc,
+        &mut out,
+        Style::Line,
+        &before.vectors,
+        machine.vectors(),
+    )?;
+    put(
+        &mut out,
+        frm_line(alloc, before.frm, machine.frm())?.as_str(),
+    )?;
+    put(
+        &mut out,
+        setting_line(alloc, before.setting, setting_of(machine))?.as_str(),
+    )?;
     Ok(out)
 }

@@ -70,7 +70,8 @@ fn written_by(op: MOp) -> Written
     ensures { result ≡ written_by op }
 {
     match op {
-        MOp::Base(_) | MOp::Load(_) | MOp::Store(_) | MOp::Alu(_) | MOp::FloatStore(_) => Written::Nothing,
+        MOp::Base(_) | MOp::Load(_) | MOp::Store(_) | MOp::Alu(_) | MOp::FloatStore(_) =>
+            Written::Nothing,
         MOp::Carry(_) | MOp::Atomic(_, _) | MOp::Csr(_) => Written::Integer,
         MOp::FloatLoad(_) => Written::Floating,
         MOp::Float(_, op) => of_float(float_shape(op)),

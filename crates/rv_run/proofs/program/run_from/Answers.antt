@@ -1,4 +1,4 @@
-use Rattle.std.proofs.Common.{refl, ap, ◌∙◌, ℕ, length, subst}
+use Rattle.std.proofs.Common.{refl, ◌∙◌, ℕ, length, subst}
 use Rattle.rv_base.specs.declared.flags.IsaFlags.{IsaFlags}
 use Rattle.rv_run.specs.Files.{lines_from}
 use Rattle.rv_run.specs.Memory.{memory_lines}
