@@ -185,6 +185,18 @@ say('step 00000073', 'Stopped'); say('step 00100073', 'Stopped')
 say('decode 02b57553', 'Decoded { op: Float(D, Fadd), rd: 10, rs1: 10, rs2: 11, rs3: 0, imm: 0, rm: 7, vm: false, len: 4 }')
 say('decode 02b55553', '-')                                                         # a reserved rounding mode
 
+# a run: it stops at an answer that is missing or of another kind, after the end of the code, and goes on over what a store put there
+FADD = '00b50553'
+say('new'); say('set bytes 1000 ' + FADD * 2); say('give bits 1'); say('run 5', '1'); say('show pc', '1004'); say('show f a', '1')
+say('run 5', '0'); say('give success true'); say('run 5', '0'); say('show pc', '1004')
+say('show trace', '1: Float(S, Fadd) avl 0 vtype 0 frm 0 inputs 0 0 span')
+say('new'); say('set bytes 1000 ' + FADD * 2); say('give bits 1'); say('give bits 2'); say('give bits 3'); say('run 64', '2')
+say('show pc', '1008'); say('show f a', '2'); say('run 64', '0'); say('show pc', '1008')
+say('new'); say('set bytes 1000 ' + FADD + '00c5a023'); say('set x b 1004'); say('set x c 150513'); say('give bits 4')        # sw a2, 0(a1)
+say('run 9', '2'); say('show pc', '1008'); say('show x a', '1'); say('show trace', '0')
+say('new'); say('set bytes 1000 c5a227'); say('set x b 1000'); say('set f c 150513')                                      # fsw fa2, 4(a1)
+say('run 9', '2'); say('show pc', '1008'); say('show x a', '1')
+
 digests = subprocess.run([sys.executable, str(HERE / 'decode.py'), 'digests'], capture_output=True, text=True).stdout
 for line in digests.splitlines():
     kind, *rest = line.split(' ')

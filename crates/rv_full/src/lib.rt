@@ -16,5 +16,5 @@ mod vector_acts;
 pub use answer::{Answer, Entry};
 pub use laws::{integer_runs, undisturbed_runs};
 pub use machine::{FullMachine, FullStep};
-pub use shapes::{FloatShape, Sources, Target, VectorShape};
+pub use shapes::{FloatShape, Sources, Target, VectorShape, float_shape, vector_shape};
 pub use units::{Reservation, Setting};

@@ -158,6 +158,27 @@ impl FullMachine {
         (self.setting.avl, self.setting.vtype)
     }
 
+    /// The integer machine within: the integer registers, the memory and the program counter.
+    pub fn integers(&self) -> &IntMachine
+        ensures { result.now ≡ record { flags = self.now.flags; state = self.now.full.state } }
+    {
+        &self.integers
+    }
+
+    /// The registers f0 to f31.
+    pub fn floats(&self) -> &[u64; 32]
+        ensures { result.now ≡ self.now.full.units.floats }
+    {
+        &self.floats
+    }
+
+    /// The registers v0 to v31.
+    pub fn vectors(&self) -> &[u128; 32]
+        ensures { result.now ≡ self.now.full.units.vectors }
+    {
+        &self.vectors
+    }
+
     /// The steps that took an answer, the earliest first.
     pub fn trace(&self) -> &List<Entry>
         ensures { result.now ≡ self.now.full.units.trace }

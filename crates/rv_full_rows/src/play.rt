@@ -180,6 +180,7 @@ pub fn play(alloc: Global, machine: &mut FullMachine, line: &str) -> Result<Stri
             }
             text_of(alloc, "")
         }
+        "run" => Ok(format!(in alloc; "{:x}", machine.run(number(what))?)?),
         "step" => step_over(alloc, machine, number(what)),
         "show" => shown(alloc, machine, what, last),
         "decode" => match decode(flags_of(last), (number(what) & 0xffff_ffff) as u32) {

@@ -1,5 +1,5 @@
 -- What the words of a command say of a run.
-use Rattle.std.specs.Prelude.{◌≡◌, ℕ, ◌+◌, ◌-◌, ◌%◌, ◌^◌, Bool, true, List, [], ◌∷◌, ◌++◌, drop, Option, Some, None, Result, Ok, Err, nat_le, ◌==◌, if◌then◌else◌, codes}
+use Rattle.std.specs.Prelude.{◌≡◌, ℕ, ◌+◌, ◌-◌, ◌%◌, ◌^◌, Bool, true, false, ◌&&◌, List, [], ◌∷◌, ◌++◌, drop, Option, Some, None, Result, Ok, Err, nat_le, ◌==◌, if◌then◌else◌, codes}
 use Rattle.std.specs.List.{list_any}
 use Rattle.std.specs.Str.{bytes_eq}
 use Rattle.std.specs.Borrow.{Bor}
@@ -16,6 +16,9 @@ use Rattle.rv_listing.specs.FlagsHeader.{flags_form}
 use Rattle.rv_listing.specs.Operands.{symbol}
 use Rattle.rv_listing.specs.Registers.{register}
 use Rattle.rv_listing.specs.HexDigits.{hex_bytes}
+use Rattle.rv_full.specs.declared.answer.Answer.{Answer}
+use Rattle.rv_full.specs.declared.units.Setting.{Setting}
+use Rattle.rv_load.specs.Answers.{answer, setting_pair, vector_register}
 use Rattle.rv_load.specs.declared.given.Given.{Given}
 use Rattle.rv_load.specs.declared.settings.Settings.{Settings}
 use Rattle.rv_load.specs.declared.settings.SettingsError.{SettingsError}
@@ -75,19 +78,33 @@ flags_of (Some w) = or_bad bad.Flags (flags_form (parts_of 44 w.now))
 
 -- ---- registers
 
--- x1 to x31
+-- x1 to x31, and f0 to f31
 abbrev pub of_class : RegClass → PReg → Option PReg
 of_class Int p = if p.number == 0 then None else Some p
-of_class Float p = None
+of_class Float p = Some p
 of_class Vector p = None
 
-abbrev pub int_register : Reg → Option PReg
-int_register (Real p) = of_class p.class p
-int_register (Virtual class index) = None
+abbrev pub file_register : Reg → Option PReg
+file_register (Real p) = of_class p.class p
+file_register (Virtual class index) = None
+
+abbrev pub is_same_file : RegClass → RegClass → Bool
+is_same_file Int Int = true
+is_same_file Int Float = false
+is_same_file Int Vector = false
+is_same_file Float Int = false
+is_same_file Float Float = true
+is_same_file Float Vector = false
+is_same_file Vector Int = false
+is_same_file Vector Float = false
+is_same_file Vector Vector = true
+
+abbrev pub is_same : PReg → PReg → Bool
+is_same p q = p.number == q.number && is_same_file p.class q.class
 
 -- the register of a name; s0 is another name of fp
 abbrev pub named_register : List ℕ → Option PReg
-named_register w = register (if bytes_eq w (codes "s0") then codes "fp" else w) >>= int_register
+named_register w = register (if bytes_eq w (codes "s0") then codes "fp" else w) >>= file_register
 
 -- `NAME=VALUE`
 abbrev pub register_value : List ℕ → Option RegisterValue
@@ -95,7 +112,7 @@ register_value w = as_pair (parts_of 61 w) >>= λ p. named_register p.0 >>= λ r
 
 -- one more register, which was not named before
 abbrev pub with_register : ℕ → List RegisterValue → RegisterValue → Result (List RegisterValue) BadWord
-with_register i old r = if list_any (λ o. o.register.number == r.register.number) old then Err (bad.Twice i) else Ok (old ++ r ∷ [])
+with_register i old r = if list_any (λ o. is_same o.register r.register) old then Err (bad.Twice i) else Ok (old ++ r ∷ [])
 
 -- the register that the word of number i sets, after those of the words before it
 abbrev pub put_register : ℕ → List RegisterValue → List ℕ → Result (List RegisterValue) BadWord
@@ -134,6 +151,21 @@ abbrev pub addresses_from : Named → ℕ → List (ExternalName × ℕ) → Lis
 addresses_from named i old [] = Ok old
 addresses_from named i old (w ∷ ws) = put_address named i old w.now then λ new. addresses_from named (i + 1) new ws
 
+-- ---- the setting and the answers
+
+-- the vector setting, 0 and 0 otherwise
+abbrev pub setting_of : Option (Bor (List ℕ)) → Result Setting BadWord
+setting_of None = Ok (record { avl = 0; vtype = 0 })
+setting_of (Some w) = or_bad bad.Setting (setting_pair w.now)
+
+-- one more vector register of an answer, which the word of it gives
+abbrev pub with_vector_register : BadWord → List (ℕ × ℕ) → List ℕ → Result (List (ℕ × ℕ)) BadWord
+with_vector_register word old w = or_bad word (vector_register w) then λ r. Ok (old ++ r ∷ [])
+
+abbrev pub answers_from : ℕ → List Answer → List (Bor (List ℕ)) → Result (List Answer) BadWord
+answers_from i old [] = Ok old
+answers_from i old (w ∷ ws) = or_bad (bad.Answer i) (answer w.now) then λ new. answers_from (i + 1) (old ++ new ∷ []) ws
+
 -- ---- all of them
 
 -- what the words say, or the first bad one in this order
@@ -142,7 +174,8 @@ settings_of g =
     base_of g then λ base. flags_of g.flags then λ flags. start_of g.from g.at then λ start. steps_of g then λ steps.
     data_from 0 [] g.memory then λ bytes. registers_from 0 [] g.registers then λ registers.
     addresses_from Symbol 0 [] g.symbols then λ symbols. addresses_from Slot 0 [] g.slots then λ slots.
-    Ok (record { base = base; flags = flags; start = start; steps = steps; trace = g.trace; registers = registers; memory = bytes; symbols = symbols; slots = slots })
+    setting_of g.setting then λ setting. answers_from 0 [] g.answers then λ answers.
+    Ok (record { base = base; flags = flags; start = start; steps = steps; trace = g.trace; registers = registers; memory = bytes; symbols = symbols; slots = slots; setting = setting; answers = answers })
 
 -- what a reader of words returned; being out of memory says nothing
 abbrev pub Reads : {A : Type 0} → Result A BadWord → Result A SettingsError → Type 0

@@ -16,5 +16,7 @@ pub struct Given<'a> {
     pub memory: List<&'a str>,
     pub symbols: List<&'a str>,
     pub slots: List<&'a str>,
+    pub setting: Option<&'a str>,
+    pub answers: List<&'a str>,
     pub registers: List<&'a str>,
 }

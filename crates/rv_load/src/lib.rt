@@ -1,6 +1,7 @@
 //! What a run begins with: the code that a report or hexadecimal digits give, and what the words ask for.
 #![tactic(auto)]
 
+mod answers;
 mod digits;
 mod given;
 mod program;

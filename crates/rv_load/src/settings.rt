@@ -5,10 +5,12 @@ ghost use Rattle.std.specs.List.{list_any};
 ghost use Rattle.std.specs.Str.{bytes_eq};
 ghost use Rattle.rv_listing.specs.Tokens.{parts_of};
 ghost use Rattle.rv_listing.specs.FlagsHeader.{flags_form};
-ghost use Rattle.rv_load.specs.Words.{value, number_or, base_of, steps_of, start_of, flags_of, int_register, named_register, register_value, with_register, put_register, registers_from, or_bad, data_bytes, data_from, name_address, with_address, put_address, addresses_from, settings_of, Reads, Leaves};
+ghost use Rattle.rv_load.specs.Words.{value, number_or, base_of, steps_of, start_of, flags_of, file_register, is_same_file, is_same, named_register, register_value, with_register, put_register, registers_from, or_bad, data_bytes, data_from, name_address, with_address, put_address, addresses_from, settings_of, Reads, Leaves};
 
+use crate::answers::{answers_of, setting_of};
 use crate::given::Given;
 use rv_base::{ExternalName, IsaFlags, List, OutOfMemory, PReg, Reg, RegClass};
+use rv_full::{Answer, Setting};
 use rv_listing::{
     LineError, first_part, hex_bytes, natural, next_part, register, starts, symbol_named, tail,
     two_parts, with_flag,
@@ -27,7 +29,7 @@ pub enum Start {
     Line { index: u64 },
 }
 
-/// A register, x1 to x31, and its value.
+/// A register, x1 to x31 or f0 to f31, and its value.
 #[derive(Clone, Copy, Debug, PartialEq, Eq)]
 pub struct RegisterValue {
     pub register: PReg,
@@ -65,9 +67,12 @@ pub struct Settings {
     /// The addresses of symbols, and of the slots that hold such addresses.
     pub symbols: List<(ExternalName, u64)>,
     pub slots: List<(ExternalName, u64)>,
+    pub setting: Setting,
+    /// What the units answer, in order.
+    pub answers: List<Answer>,
 }
 
-/// A word that says nothing of a run. Data, registers, symbols and slots are counted from 0.
+/// A word that says nothing of a run. Data, registers, symbols, slots and answers are counted from 0.
 #[derive(Clone, Copy, Debug, PartialEq, Eq, Error)]
 pub enum BadWord {
     #[error("the code's address")]
@@ -92,6 +97,10 @@ pub enum BadWord {
     /// An address whose name an earlier word gives.
     #[error("the address with number {index}, whose name an earlier word gives")]
     AddressTwice { named: Named, index: usize },
+    #[error("the vector setting")]
+    Setting,
+    #[error("the answer with number {index}")]
+    Answer { index: usize },
 }
 
 /// Why words give no settings.
@@ -163,7 +172,7 @@ fn start_of(from: Option<&str>, at: Option<&str>) -> Result<Start, BadWord>
     }
 }
 
-fn is(word: &[u8], w: &[u8]) -> bool
+pub(crate) fn is(word: &[u8], w: &[u8]) -> bool
     ensures { result ≡ bytes_eq w.now word.now }
 {
     w == word
@@ -193,14 +202,14 @@ fn flags_of(given: Option<&str>) -> Result<IsaFlags, BadWord>
     }
 }
 
-fn int_register(reg: Reg) -> Option<PReg>
-    ensures { result ≡ int_register reg }
+fn file_register(reg: Reg) -> Option<PReg>
+    ensures { result ≡ file_register reg }
 {
     match reg {
         Reg::Real(reg) => match reg.class {
             RegClass::Int if reg.number > 0 => Some(reg),
             RegClass::Int => None,
-            RegClass::Float => None,
+            RegClass::Float => Some(reg),
             RegClass::Vector => None,
         },
         Reg::Virtual { .. } => None,
@@ -215,7 +224,7 @@ fn named_register(w: &[u8]) -> Option<PReg>
     } else {
         register(w)?
     };
-    int_register(reg)
+    file_register(reg)
 }
 
 fn register_value(w: &[u8]) -> Option<RegisterValue>
@@ -227,10 +236,26 @@ fn register_value(w: &[u8]) -> Option<RegisterValue>
     Some(RegisterValue { register, value })
 }
 
-fn is_among(registers: &[RegisterValue], number: u8) -> bool
-    ensures { result ≡ list_any (λ r. r.register.number == number) registers.now }
+fn is_same_file(a: RegClass, b: RegClass) -> bool
+    ensures { result ≡ is_same_file a b }
 {
-    registers.iter().any(|r| r.register.number == number)
+    match a {
+        RegClass::Int => matches!(b, RegClass::Int),
+        RegClass::Float => matches!(b, RegClass::Float),
+        RegClass::Vector => matches!(b, RegClass::Vector),
+    }
+}
+
+fn is_same(a: PReg, b: PReg) -> bool
+    ensures { result ≡ is_same a b }
+{
+    a.number == b.number && is_same_file(a.class, b.class)
+}
+
+fn is_among(registers: &[RegisterValue], register: PReg) -> bool
+    ensures { result ≡ list_any (λ r. is_same r.register register) registers.now }
+{
+    registers.iter().any(|r| is_same(r.register, register))
 }
 
 // One more register, by the word of this number, where no earlier one names it.
@@ -241,7 +266,7 @@ fn add_register(
 ) -> Result<(), SettingsError>
     ensures { Leaves (with_register index registers.old register) registers.new result }
 {
-    if is_among(registers.as_slice(), register.register.number) {
+    if is_among(registers.as_slice(), register.register) {
         return Err(SettingsError::Bad {
             word: BadWord::Twice { index },
         });
@@ -383,8 +408,8 @@ impl From<BadWord> for SettingsError {
     }
 }
 
-/// What the words say; or the first bad one, in the order of base, flags, start, steps, data, registers, symbols and
-/// slots.
+/// What the words say; or the first bad one, in the order of base, flags, start, steps, data, registers, symbols, slots,
+/// setting and answers.
 pub fn settings_of(alloc: Global, given: &Given) -> Result<Settings, SettingsError>
     ensures { Reads (settings_of given.now) result }
 {
@@ -396,6 +421,8 @@ pub fn settings_of(alloc: Global, given: &Given) -> Result<Settings, SettingsErr
     let registers = registers_of(alloc, given.registers.as_slice())?;
     let symbols = addresses_of(alloc, Named::Symbol, given.symbols.as_slice())?;
     let slots = addresses_of(alloc, Named::Slot, given.slots.as_slice())?;
+    let setting = setting_of(given.setting)?;
+    let answers = answers_of(alloc, given.answers.as_slice())?;
     Ok(Settings {
         base,
         flags,
@@ -406,5 +433,7 @@ pub fn settings_of(alloc: Global, given: &Given) -> Result<Settings, SettingsErr
         memory,
         symbols,
         slots,
+        setting,
+        answers,
     })
 }

@@ -168,10 +168,32 @@ fn command<'a>(alloc: Global) -> Result<Command<'a>, OutOfMemory>
             "Where the slot is that holds a symbol's address",
         ),
     )?;
+    let c = with_arg(
+        c,
+        option(
+            alloc,
+            "setting",
+            "AVL,VTYPE",
+            "The vector length and vtype that the run begins with, as 4,0xd0 [default: 0,0]",
+        ),
+    )?;
+    let c = with_arg(
+        c,
+        list(
+            alloc,
+            "answer",
+            "ANSWER",
+            "What a unit answers, in order: bits:0x40, success, failure, length:4, vector:8=0x1 or stored:01--",
+        ),
+    )?;
     let c = with_arg(c, flag(alloc, "trace", "Print each step"))?;
     with_arg(
         c,
-        word(alloc, "REGISTER=VALUE", "Registers, as a0=-1 or x10=0xff"),
+        word(
+            alloc,
+            "REGISTER=VALUE",
+            "Registers, as a0=-1, x10=0xff or fa0=0x3f800000",
+        ),
     )
 }
 
@@ -229,6 +251,8 @@ fn given_by<'a>(alloc: Global, matches: &ArgMatches<'a>) -> Result<Given<'a>, Ou
         memory: all_given(alloc, matches, "data")?,
         symbols: all_given(alloc, matches, "symbol")?,
         slots: all_given(alloc, matches, "slot")?,
+        setting: given(matches, "setting"),
+        answers: all_given(alloc, matches, "answer")?,
         registers: all_given(alloc, matches, "REGISTER=VALUE")?,
     })
 }

@@ -1,6 +1,6 @@
--- No step takes a byte's entry away, so a byte that a run changed has one after it.
-use Rattle.std.proofs.Common.{◌≡◌, ◌∙◌, ℕ, zero, suc, ◌+◌, Bool, true, false, cond, List, [], ◌∷◌, Option, sym, ap, subst}
-use Rattle.std.specs.Prelude.{Some, None, IfSome, if◌then◌else◌, nat_eq, ◌%◌, unwrap_or}
+-- No step of the integer machine takes a byte's entry away.
+use Rattle.std.proofs.Common.{◌≡◌, ◌∙◌, ℕ, ◌+◌, Bool, true, false, cond, List, [], ◌∷◌, Option, sym}
+use Rattle.std.specs.Prelude.{Some, None, IfSome, if◌then◌else◌, nat_eq, ◌%◌}
 use Rattle.std.specs.Cmp.{nat_cmp_total}
 use Rattle.std.specs.Ordering.{nat_cmp, eq_by_cmp}
 use Rattle.std.specs.FinMap as map
@@ -13,26 +13,26 @@ use Rattle.rv_machine.specs.declared.ops.BaseOp.TheVariants.{Lui, Auipc, Jal, Ja
 use Rattle.rv_machine.specs.Decode.{int_decode}
 use Rattle.rv_machine.specs.Effects.{act_on, base_act, address_of, y_of}
 use Rattle.rv_machine.specs.Memory.{store_bytes}
-use Rattle.rv_machine.specs.State.{Memory, State, byte, store, wrap}
-use Rattle.rv_machine.specs.Steps.{fetch, istep, iter, step_on, then_step}
+use Rattle.rv_machine.specs.State.{Memory, State, store, wrap}
+use Rattle.rv_machine.specs.Steps.{fetch, istep, step_on}
 
 -- what has no entry in one memory has none in the memory before it
-abbrev Grows : Memory → Memory → Type 0
+abbrev pub Grows : Memory → Memory → Type 0
 Grows old new = (a : ℕ) → map.get new a ≡ None → map.get old a ≡ None
 
-insert_grows : (mem : Memory) (k v : ℕ) → Grows mem (map.insert mem k v)
+pub insert_grows : (mem : Memory) (k v : ℕ) → Grows mem (map.insert mem k v)
 insert_grows mem k v a e = on (eq_by_cmp nat_cmp a k) (sym (map.get-insert nat_cmp_total mem k v a) ∙ e)
   where
     on : (b : Bool) → cond b (Some v) (map.get mem a) ≡ None → map.get mem a ≡ None
     on true e = absurd (cc)
     on false e = e
 
-store_grows : (bytes : List ℕ) (mem : Memory) (at : ℕ) → Grows mem (store mem at bytes)
+pub store_grows : (bytes : List ℕ) (mem : Memory) (at : ℕ) → Grows mem (store mem at bytes)
 store_grows [] mem at a e = e
 store_grows (b ∷ bs) mem at a e = insert_grows mem at b a (store_grows bs (map.insert mem at b) (wrap (at + 1)) a e)
 
 -- a state, where there is one, has a memory that grew from this one
-abbrev Has : Memory → Option State → Type 0
+abbrev pub Has : Memory → Option State → Type 0
 Has mem next = IfSome next (λ s. Grows mem s.values.mem)
 
 base_grows : (op : BaseOp) (d : Decoded) (s : State) → Has s.values.mem (base_act op d s)
@@ -71,28 +71,7 @@ where_grows : (b : Bool) (mem : Memory) (next : Option State) → Has mem next �
 where_grows true mem next has = has
 where_grows false mem next has = tt
 
-step_grows : (flags : IsaFlags) (s : State) → Has s.values.mem (istep flags s)
+pub step_grows : (flags : IsaFlags) (s : State) → Has s.values.mem (istep flags s)
 unfolding istep
 step_grows flags s =
     where_grows (nat_eq (s.pc % 2) 0) s.values.mem (step_on (int_decode flags (fetch s.values.mem s.pc)) s) (decoded_grows (int_decode flags (fetch s.values.mem s.pc)) s)
-
-further : (mem old : Memory) (next : Option State) → Grows mem old → Has old next → Has mem next
-further mem old None grew has = tt
-further mem old (Some s) grew has = λ a e. grew a (has a e)
-
-then_grows : (flags : IsaFlags) (mem : Memory) (now : Option State) → Has mem now → Has mem (then_step flags now)
-then_grows flags mem None has = tt
-then_grows flags mem (Some s) has = further mem s.values.mem (istep flags s) has (step_grows flags s)
-
-all_grows : (flags : IsaFlags) (k : ℕ) (first : State) → Has first.values.mem (iter flags k first)
-unfolding iter
-all_grows flags zero first = λ a e. e
-all_grows flags (suc k) first = then_grows flags first.values.mem (iter flags k first) (all_grows flags k first)
-
-run_grows : (flags : IsaFlags) (k : ℕ) (first last : State) → iter flags k first ≡ Some last → Grows first.values.mem last.values.mem
-run_grows flags k first last steps = subst (Has first.values.mem) steps (all_grows flags k first)
-
--- a byte that has no entry after so many steps is 0 before and after them
-pub unwritten : (flags : IsaFlags) (k : ℕ) (first last : State) → iter flags k first ≡ Some last → (a : ℕ) → map.get last.values.mem a ≡ None → byte last.values.mem a ≡ byte first.values.mem a
-unwritten flags k first last steps a none =
-    ap (λ (o : Option ℕ). unwrap_or o 0) (none ∙ sym (run_grows flags k first last steps a none))

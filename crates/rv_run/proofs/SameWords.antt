@@ -15,8 +15,10 @@ use Rattle.rv_load.specs.declared.settings.Named.TheVariants.{Symbol, Slot}
 use Rattle.rv_load.specs.declared.settings.RegisterValue.{RegisterValue}
 use Rattle.rv_load.specs.declared.settings.Settings.{Settings}
 use Rattle.rv_load.specs.declared.settings.Start.TheVariants as start
+use Rattle.rv_full.specs.declared.answer.Answer.{Answer}
+use Rattle.rv_load.specs.Answers.{answer, setting_pair}
 use Rattle.rv_load.specs.Command.{Parses}
-use Rattle.rv_load.specs.Words.{or_bad, ◌then◌, number_or, aligned, start_of, flags_of, put_register, registers_from, data_bytes, data_from, put_address, addresses_from, settings_of}
+use Rattle.rv_load.specs.Words.{or_bad, ◌then◌, number_or, aligned, start_of, flags_of, put_register, registers_from, data_bytes, data_from, put_address, addresses_from, setting_of, answers_from, settings_of}
 use Rattle.rv_run.specs.Outcomes.{Asked, given_text, listed_text, addresses_of, word_text}
 
 abbrev text : Option (Bor (List ℕ)) → Option (List ℕ)
@@ -38,6 +40,8 @@ pub record Alike (g h : Given) : Type 0 where
   registers : texts g.registers ≡ texts h.registers
   symbols : texts g.symbols ≡ texts h.symbols
   slots : texts g.slots ≡ texts h.slots
+  setting : text g.setting ≡ text h.setting
+  answers : texts g.answers ≡ texts h.answers
 
 pub alike : (words : List (List ℕ)) (g h : Given) → Parses words (Ok g) → Parses words (Ok h) → Alike g h
 alike words g h p q = record {
@@ -52,6 +56,8 @@ alike words g h p q = record {
   registers = p.1.registers ∙ sym q.1.registers;
   symbols = p.1.symbols ∙ sym q.1.symbols;
   slots = p.1.slots ∙ sym q.1.slots;
+  setting = p.1.setting ∙ sym q.1.setting;
+  answers = p.1.answers ∙ sym q.1.answers;
 }
 
 -- ---- settings
@@ -107,12 +113,28 @@ addresses_alike named i old (x ∷ xs) (y ∷ ys) e =
     let rest : texts xs ≡ texts ys = cc in
     λ j. put_address named i old (first j) then λ new. addresses_alike named (i + 1) new xs ys rest j
 
+setting_alike : (a b : Option (Bor (List ℕ))) → text a ≡ text b → setting_of a ≡ setting_of b
+setting_alike None None e = refl
+setting_alike None (Some y) e = absurd (cc)
+setting_alike (Some x) None e = absurd (cc)
+setting_alike (Some x) (Some y) e = ap (λ w. or_bad bad.Setting (setting_pair w)) (same_Some x.now y.now e)
+
+answers_alike : (i : ℕ) (old : List Answer) (xs ys : List (Bor (List ℕ))) → texts xs ≡ texts ys → answers_from i old xs ≡ answers_from i old ys
+answers_alike i old [] [] e = refl
+answers_alike i old [] (y ∷ ys) e = absurd (cc)
+answers_alike i old (x ∷ xs) [] e = absurd (cc)
+answers_alike i old (x ∷ xs) (y ∷ ys) e =
+    let first : x.now ≡ y.now = cc in
+    let rest : texts xs ≡ texts ys = cc in
+    λ j. or_bad (bad.Answer i) (answer (first j)) then λ new. answers_alike (i + 1) (old ++ new ∷ []) xs ys rest j
+
 pub settings_alike : (g h : Given) → Alike g h → settings_of g ≡ settings_of h
 settings_alike g h a j =
     (number_alike 0x10000 bad.Base g.base h.base a.base j then aligned) then λ base. flags_alike g.flags h.flags a.flags j then λ flags. start_alike g.from h.from g.at h.at a.from a.at j then λ start. number_alike 10000000 bad.Steps g.steps h.steps a.steps j then λ steps.
     data_alike 0 [] g.memory h.memory a.memory j then λ bytes. registers_alike 0 [] g.registers h.registers a.registers j then λ registers.
     addresses_alike Symbol 0 [] g.symbols h.symbols a.symbols j then λ symbols. addresses_alike Slot 0 [] g.slots h.slots a.slots j then λ slots.
-    Ok (record { base = base; flags = flags; start = start; steps = steps; trace = a.trace j; registers = registers; memory = bytes; symbols = symbols; slots = slots })
+    setting_alike g.setting h.setting a.setting j then λ setting. answers_alike 0 [] g.answers h.answers a.answers j then λ answers.
+    Ok (record { base = base; flags = flags; start = start; steps = steps; trace = a.trace j; registers = registers; memory = bytes; symbols = symbols; slots = slots; setting = setting; answers = answers })
 
 -- a result is one
 pub not_both : {X Y : Type 0} (r : Result X Y) (x : X) (y : Y) → r ≡ Ok x → r ≡ Err y → ⊥
@@ -153,3 +175,5 @@ word_alike g h a (bad.Register index) = listed_alike index g.registers h.registe
 word_alike g h a (bad.Twice index) = listed_alike index g.registers h.registers a.registers
 word_alike g h a (bad.Address named index) = listed_alike index (addresses_of g named) (addresses_of h named) (addresses_texts g h a named)
 word_alike g h a (bad.AddressTwice named index) = listed_alike index (addresses_of g named) (addresses_of h named) (addresses_texts g h a named)
+word_alike g h a bad.Setting = given_alike g.setting h.setting a.setting
+word_alike g h a (bad.Answer index) = listed_alike index g.answers h.answers a.answers

@@ -4,7 +4,7 @@ use Rattle.std.specs.Prelude.{IfSome}
 use Rattle.std.proofs.lemmas.Option.{same_Some}
 use Rattle.std.specs.Io.KnownBytes.{Consumes}
 use Rattle.rv_stream.specs.Ends.{Rose}
-use Rattle.rv_machine.specs.Steps.{Machine}
+use Rattle.rv_full.specs.Steps.{Machine}
 use Rattle.rv_fill.specs.declared.error.PlaceError.{PlaceError}
 use Rattle.rv_fill.specs.declared.error.PlaceError.TheVariants as place
 use Rattle.rv_load.specs.declared.given.Given.{Given}

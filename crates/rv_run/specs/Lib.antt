@@ -1,3 +1,5 @@
+pub mod Files
+pub mod FullRunning
 pub mod Memory
 pub mod Outcomes
 pub mod Output
@@ -5,3 +7,4 @@ pub mod Running
 pub mod Starting
 pub mod Tracing
 pub mod Settled
+pub mod Written

@@ -12,8 +12,9 @@ use Rattle.rv_fill.specs.declared.error.PlaceError.TheVariants as place
 use Rattle.rv_fill.specs.Filled.{table_of, IsFilled}
 use Rattle.rv_fill.specs.Refusal.{refusal}
 use Rattle.rv_listing.specs.Relocations.{target_text}
-use Rattle.rv_machine.specs.State.{byte}
-use Rattle.rv_machine.specs.Steps.{Machine}
+use Rattle.rv_machine.specs.State.{State, byte}
+use Rattle.rv_full.specs.Units.{put}
+use Rattle.rv_full.specs.Steps.{Machine}
 use Rattle.rv_stream.specs.Ends.{Rose, TookFront, Gave}
 use Rattle.rv_load.specs.declared.given.Given.{Given}
 use Rattle.rv_load.specs.declared.program.Program.{Program}
@@ -29,11 +30,15 @@ use Rattle.rv_load.specs.Command.{Parses}
 use Rattle.rv_load.specs.Hex.{ReadsHex}
 use Rattle.rv_load.specs.Report.{ReadsReport}
 use Rattle.rv_load.specs.Words.{settings_of}
+use Rattle.rv_run.specs.Files.{unit_lines}
+use Rattle.rv_run.specs.FullRunning.{FullRuns, IsIntegerEnd}
 use Rattle.rv_run.specs.Memory.{memory_lines}
 use Rattle.rv_run.specs.Output.{file, run_text}
 use Rattle.rv_run.specs.Running.{Runs}
 use Rattle.rv_run.specs.Starting.{begin}
 use Rattle.rv_run.specs.Tracing.{trace_where}
+use Rattle.rv_run.specs.declared.ending.Ending.{Ending}
+use Rattle.rv_run.specs.declared.ending.Ending.TheVariants.{Left, Limit, Break, NoOperation, NeedsAnswer}
 use Rattle.rv_run.specs.declared.result.Run.{Run}
 use Rattle.rv_run.specs.declared.outcome.Outcome.{Outcome}
 use Rattle.rv_run.specs.declared.outcome.Outcome.TheVariants as ends
@@ -47,10 +52,12 @@ cause_text bad.From = codes "no number of a line of the listing"
 cause_text bad.At = codes "no offset within the code, or one beside --from"
 cause_text bad.Steps = codes "no number below 2^64"
 cause_text (bad.Data index) = codes "no ADDRESS=HEX with an address below 2^64 and pairs of digits"
-cause_text (bad.Register index) = codes "no REGISTER=VALUE with a register x1 to x31 and a value of 64 bits"
+cause_text (bad.Register index) = codes "no REGISTER=VALUE with a register x1 to x31 or f0 to f31 and a value of 64 bits"
 cause_text (bad.Twice index) = codes "sets a register that an earlier word sets"
 cause_text (bad.Address named index) = codes "no NAME=ADDRESS with a name as userextname0 and an address below 2^64"
 cause_text (bad.AddressTwice named index) = codes "gives a name that an earlier word gives"
+cause_text bad.Setting = codes "no AVL,VTYPE with a vector length below 32 and a vtype below 256"
+cause_text (bad.Answer index) = codes "no success, failure, bits:VALUE, length:N, vector:N=0xBITS or stored:HEX"
 
 abbrev pub word_line : BadWord → List ℕ → List ℕ
 word_line cause word = codes "rvrun: " ++ word ++ codes ": " ++ cause_text cause ++ codes "\n"
@@ -109,8 +116,16 @@ text_of ends.ReadFault = []
 text_of ends.WriteFault = []
 text_of ends.OutOfMemory = []
 
+-- 9 where an operation wants an answer
+abbrev pub run_status : Ending → ℕ
+run_status (Left address) = 0
+run_status Limit = 0
+run_status (Break offset) = 0
+run_status (NoOperation offset word) = 0
+run_status (NeedsAnswer offset word) = 9
+
 abbrev pub status_of : Outcome → ℕ
-status_of (ends.Ran run) = 0
+status_of (ends.Ran run) = run_status run.ending
 status_of (ends.Help text) = 0
 status_of (ends.Version text) = 0
 status_of (ends.Usage text) = 2
@@ -136,13 +151,18 @@ pub record IsRun (s : Settings) (p : Program) (run : Run) : Type 0 where
   pub first : Machine
   pub last : Machine
   pub begins : begin s p ≡ Ok first
-  pub ran : Runs s.flags s.base (length p.bytes) s.steps first.state run.steps last.state run.ending
+  pub ran : FullRuns s.flags s.base (length p.bytes) s.steps first.full run.steps last.full run.ending
+  -- a run of the integer machine is this one, where no unit goes on at its end: as many steps, to the same state and cause, and all else as it was
+  pub integer : (k : ℕ) (t : State) (ending : Ending) → Runs s.flags s.base (length p.bytes) s.steps first.full.state k t ending → IsIntegerEnd s.flags (put t first.full) ending
+      → (run.steps ≡ k) × (last.full ≡ put t first.full) × (run.ending ≡ ending)
   -- what has no byte written at the end is as it was
-  pub unwritten : (a : ℕ) → map.get last.state.values.mem a ≡ None → byte last.state.values.mem a ≡ byte first.state.values.mem a
-  pub before : run.before ≡ file 31 first.state.values
-  pub after : run.after ≡ file 31 last.state.values
-  pub memory : run.memory ≡ memory_lines first.state.values.mem last.state.values.mem
-  pub trace : run.trace ≡ trace_where s.trace s.flags s.base run.steps first.state
+  pub unwritten : (a : ℕ) → map.get last.full.state.values.mem a ≡ None → byte last.full.state.values.mem a ≡ byte first.full.state.values.mem a
+  pub flags : run.flags ≡ s.flags
+  pub before : run.before ≡ file 31 first.full.state.values
+  pub after : run.after ≡ file 31 last.full.state.values
+  pub units : run.units ≡ unit_lines first.full.units last.full.units
+  pub memory : run.memory ≡ memory_lines first.full.state.values.mem last.full.state.values.mem
+  pub trace : run.trace ≡ trace_where s.trace s.flags s.base run.steps first.full
 
 -- the text of a word, where it was given
 abbrev pub given_text : Option (Bor (List ℕ)) → List ℕ
@@ -169,6 +189,8 @@ word_text g (bad.Register index) = listed_text g.registers index
 word_text g (bad.Twice index) = listed_text g.registers index
 word_text g (bad.Address named index) = listed_text (addresses_of g named) index
 word_text g (bad.AddressTwice named index) = listed_text (addresses_of g named) index
+word_text g bad.Setting = given_text g.setting
+word_text g (bad.Answer index) = listed_text g.answers index
 
 -- why the code can't stand at its base with the addresses that the words give, if it can't
 abbrev pub unplaced : Settings → Program → Option PlaceError

@@ -1,22 +1,31 @@
 -- The text of a run.
-use Rattle.std.specs.Prelude.{ℕ, zero, suc, ◌+◌, List, [], ◌∷◌, ◌++◌, ◌==◌, if◌then◌else◌, codes, false}
+use Rattle.std.specs.Prelude.{ℕ, zero, suc, ◌+◌, List, [], ◌∷◌, ◌++◌, ◌==◌, if◌then◌else◌, codes, false, Option, Some, None}
 use Rattle.std.specs.Fmt.{decimal, signed_decimal, digits}
 use Rattle.std.specs.Int.{w64, cast_signed}
 use Rattle.rv_base.specs.RegNames.{int_names, name_at}
+use Rattle.rv_base.specs.declared.flags.IsaFlags.{IsaFlags}
+use Rattle.rv_machine.specs.declared.decoding.Decoded.{Decoded}
+use Rattle.rv_machine.specs.Decode.{decode}
+use Rattle.rv_trace.specs.Instruction.{instruction_text}
 use Rattle.rv_machine.specs.State.{Values, reg}
 use Rattle.rv_run.specs.declared.ending.Ending.{Ending}
-use Rattle.rv_run.specs.declared.ending.Ending.TheVariants.{Left, Limit, Break, NoOperation}
+use Rattle.rv_run.specs.declared.ending.Ending.TheVariants.{Left, Limit, Break, NoOperation, NeedsAnswer}
 use Rattle.rv_run.specs.declared.result.Run.{Run}
 
 -- hexadecimal digits, without leading zeros
 abbrev pub hex : ℕ → List ℕ
 hex n = digits 16 false n
 
-abbrev pub ending_line : Ending → List ℕ
-ending_line (Left address) = codes "left the code to 0x" ++ hex address ++ codes "\n"
-ending_line Limit = codes "step limit\n"
-ending_line (Break offset) = codes "ebreak at " ++ decimal offset ++ codes "\n"
-ending_line (NoOperation offset word) = codes "no operation at " ++ decimal offset ++ codes ": 0x" ++ hex word ++ codes "\n"
+abbrev pub operation_text : Option Decoded → List ℕ
+operation_text None = []
+operation_text (Some d) = instruction_text d
+
+abbrev pub ending_line : IsaFlags → Ending → List ℕ
+ending_line flags (Left address) = codes "left the code to 0x" ++ hex address ++ codes "\n"
+ending_line flags Limit = codes "step limit\n"
+ending_line flags (Break offset) = codes "ebreak at " ++ decimal offset ++ codes "\n"
+ending_line flags (NoOperation offset word) = codes "no operation at " ++ decimal offset ++ codes ": 0x" ++ hex word ++ codes "\n"
+ending_line flags (NeedsAnswer offset word) = codes "needs an answer at " ++ decimal offset ++ codes ": " ++ operation_text (decode flags word) ++ codes "\n"
 
 abbrev pub steps_line : ℕ → List ℕ
 steps_line k = codes "steps " ++ decimal k ++ codes "\n"
@@ -38,4 +47,4 @@ changes n (x ∷ xs) (y ∷ ys) = (if x == y then [] else register_line n y) ++ 
 
 -- the steps, how the run ended, how many steps it had, and the registers and the memory that changed
 abbrev pub run_text : Run → List ℕ
-run_text r = r.trace ++ ending_line r.ending ++ steps_line r.steps ++ changes 1 r.before r.after ++ r.memory
+run_text r = r.trace ++ ending_line r.flags r.ending ++ steps_line r.steps ++ changes 1 r.before r.after ++ r.units ++ r.memory

@@ -1,4 +1,4 @@
--- A run of code: its steps, and why it goes no further.
+-- A run of code on the integer machine: its steps, and why it goes no further.
 use Rattle.std.specs.Prelude.{◌≡◌, ℕ, ◌-◌, ◌%◌, ◌<◌, Bool, true, false, ◌&&◌, nat_le, nat_lt, ◌==◌, if◌then◌else◌, Option, Some, None, is_some}
 use Rattle.std.specs.Option.{option_map_or}
 use Rattle.rv_base.specs.declared.flags.IsaFlags.{IsaFlags}
@@ -8,7 +8,7 @@ use Rattle.rv_machine.specs.declared.ops.BaseOp.{BaseOp}
 use Rattle.rv_machine.specs.declared.ops.BaseOp.TheVariants.{Lui, Auipc, Jal, Jalr, Beq, Bne, Blt, Bge, Bltu, Bgeu, Fence, Ebreak}
 use Rattle.rv_machine.specs.Decode.{int_decode}
 use Rattle.rv_machine.specs.State.{State}
-use Rattle.rv_machine.specs.Steps.{Machine, fetch, istep, iter}
+use Rattle.rv_machine.specs.Steps.{fetch, istep, iter}
 use Rattle.rv_run.specs.declared.ending.Ending.{Ending}
 use Rattle.rv_run.specs.declared.ending.Ending.TheVariants.{Left, Limit, Break, NoOperation}
 
@@ -76,12 +76,3 @@ pub record Runs (flags : IsaFlags) (base len limit : ℕ) (first : State) (k : �
   pub steps : iter flags k first ≡ Some last
   pub ends : ending_of flags base len limit k last ≡ Some ending
   pub on : (j : ℕ) (s : State) → j < k → iter flags j first ≡ Some s → ending_of flags base len limit j s ≡ None
-
--- one step of a machine, or why there is none
-abbrev pub StepOrEnding : ℕ → ℕ → ℕ → ℕ → Machine → Machine → Option Ending → Type 0
-StepOrEnding base len limit k old new None = (ending_of old.flags base len limit k old.state ≡ None) × (istep old.flags old.state ≡ Some new.state) × (new.flags ≡ old.flags)
-StepOrEnding base len limit k old new (Some ending) = (ending_of old.flags base len limit k old.state ≡ Some ending) × (new ≡ old)
-
--- a run of a machine
-abbrev pub RunsTo : ℕ → ℕ → ℕ → Machine → ℕ → Machine → Ending → Type 0
-RunsTo base len limit old k new ending = Runs old.flags base len limit old.state k new.state ending × (new.flags ≡ old.flags)

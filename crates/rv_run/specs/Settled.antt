@@ -1,7 +1,7 @@
 -- How a call ends where no fault rose: the words and the input settle it, out of memory aside.
 use Rattle.std.specs.Prelude.{◌≡◌, ℕ, ◌<◌, ◌≤◌, ◌⊎◌, List, length, None, Ok, Err, IfSome}
 use Rattle.rv_fill.specs.declared.error.PlaceError.{PlaceError}
-use Rattle.rv_machine.specs.Steps.{Machine}
+use Rattle.rv_full.specs.Steps.{Machine}
 use Rattle.rv_stream.specs.Ends.{Rose}
 use Rattle.rv_load.specs.declared.given.Given.{Given}
 use Rattle.rv_load.specs.declared.program.Program.{Program}

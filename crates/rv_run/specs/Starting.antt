@@ -1,8 +1,14 @@
 -- The machine that a run begins with.
-use Rattle.std.specs.Prelude.{ℕ, ◌+◌, ◌^◌, List, [], ◌∷◌, length, find, Option, Some, None, Result, Ok, Err, option_map, nat_lt, ◌==◌, if◌then◌else◌}
+use Rattle.std.specs.Prelude.{ℕ, ◌+◌, ◌%◌, ◌^◌, List, [], ◌∷◌, ◌++◌, length, find, Option, Some, None, Result, Ok, Err, option_map, nat_lt, ◌==◌, if◌then◌else◌}
 use Rattle.rv_inst.specs.declared.code.LineSpan.{LineSpan}
 use Rattle.rv_machine.specs.State.{wrap}
-use Rattle.rv_machine.specs.Steps.{Machine, zero_at, with_reg, with_bytes}
+use Rattle.rv_base.specs.declared.regs.RegClass.{RegClass}
+use Rattle.rv_base.specs.declared.regs.RegClass.TheVariants.{Int, Float, Vector}
+use Rattle.rv_full.specs.declared.answer.Answer.{Answer}
+use Rattle.rv_full.specs.declared.units.Setting.{Setting}
+use Rattle.rv_full.specs.Units.{set_freg, set_setting}
+use Rattle.rv_full.specs.Steps.{Machine, with_reg, with_bytes, with_own, with_answers}
+use Rattle.rv_full.specs.View.{zero_full}
 use Rattle.rv_load.specs.declared.program.Program.{Program}
 use Rattle.rv_load.specs.declared.settings.Settings.{Settings}
 use Rattle.rv_load.specs.declared.settings.BadWord.{BadWord}
@@ -38,17 +44,32 @@ abbrev pub with_memory_of : Machine → List Bytes → Machine
 with_memory_of m [] = m
 with_memory_of m (d ∷ ds) = with_memory_of (with_bytes m d.address d.bytes) ds
 
+abbrev pub with_register : Machine → RegClass → ℕ → ℕ → Machine
+with_register m Int n x = with_reg m n x
+with_register m Float n x = with_own m (set_freg m.full.units n x)
+with_register m Vector n x = m
+
 abbrev pub with_registers_of : Machine → List RegisterValue → Machine
 with_registers_of m [] = m
-with_registers_of m (r ∷ rs) = with_registers_of (with_reg m r.register.number r.value) rs
+with_registers_of m (r ∷ rs) = with_registers_of (with_register m r.register.class r.register.number r.value) rs
+
+-- a vector setting, whose length is below 32
+abbrev pub with_setting : Machine → Setting → Machine
+with_setting m s = with_own m (set_setting m.full.units (record { avl = s.avl % 32; vtype = s.vtype }))
+
+-- answers given, one after the other
+abbrev pub with_answers_of : Machine → List Answer → Machine
+with_answers_of m [] = m
+with_answers_of m (a ∷ more) = with_answers_of (with_answers m (m.full.answers ++ a ∷ [])) more
 
 -- the machine that stands at the base and an offset, with an address outside the code in ra
 abbrev pub bare_machine : Settings → ℕ → Machine
-bare_machine s offset = with_reg (record { flags = s.flags; state = zero_at (wrap (s.base + offset)) }) 1 (outside s.base)
+bare_machine s offset = with_reg (record { flags = s.flags; full = zero_full (wrap (s.base + offset)) }) 1 (outside s.base)
 
--- the same with the code, the bytes and the registers that were given, in this order
+-- the same with the code, and the bytes, the registers, the vector setting and the answers that were given, in this order
 abbrev pub first_machine : Settings → Program → ℕ → Machine
-first_machine s p offset = with_registers_of (with_memory_of (with_bytes (bare_machine s offset) s.base p.bytes) s.memory) s.registers
+first_machine s p offset =
+    with_answers_of (with_setting (with_registers_of (with_memory_of (with_bytes (bare_machine s offset) s.base p.bytes) s.memory) s.registers) s.setting) s.answers
 
 -- the code ends below 2^64
 abbrev pub fits : Settings → Program → Result ℕ BadWord

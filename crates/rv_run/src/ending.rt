@@ -18,4 +18,6 @@ pub enum Ending {
     Break { offset: u64 },
     /// There is no operation here that the machine has.
     NoOperation { offset: u64, word: u32 },
+    /// The operation here takes an answer, and the first of those left isn't of its kind, or there is none.
+    NeedsAnswer { offset: u64, word: u32 },
 }

@@ -1,11 +1,12 @@
 //! How a call of the program ends, with its status and its text.
 
 ghost use Rattle.std.specs.Prelude.{◌≡◌, ◌++◌, IfOk, OnOk, codes, string_bytes};
-ghost use Rattle.rv_run.specs.Outcomes.{cause_text, word_line, index_of, is_of_slot, is_slot_kind, missing_text, unplaced_text, reloc_text, unplaced_line, text_of, status_of};
+ghost use Rattle.rv_run.specs.Outcomes.{run_status, cause_text, word_line, index_of, is_of_slot, is_slot_kind, missing_text, unplaced_text, reloc_text, unplaced_line, text_of, status_of};
 ghost use Rattle.rv_listing.specs.Relocations.{target_text};
 ghost use Rattle.std.specs.Fmt.{decimal};
 ghost use Rattle.rv_run.specs.Output.{run_text};
 
+use crate::ending::Ending;
 use crate::output::put_run;
 use crate::result::Run;
 use mach_records::{FinalizedRelocTarget, MachReloc};
@@ -64,7 +65,7 @@ impl Outcome {
         ensures { result ≡ status_of self.now }
     {
         match self {
-            Outcome::Ran { run: _ } => 0,
+            Outcome::Ran { run } => run_status(run.ending),
             Outcome::Help { text: _ } => 0,
             Outcome::Version { text: _ } => 0,
             Outcome::Usage { text: _ } => 2,
@@ -77,6 +78,19 @@ impl Outcome {
             Outcome::TooLong => 7,
             Outcome::OutOfMemory => 8,
         }
+    }
+}
+
+// 9 where an operation wants an answer.
+fn run_status(ending: Ending) -> u8
+    ensures { result ≡ run_status ending }
+{
+    match ending {
+        Ending::NeedsAnswer { offset: _, word: _ } => 9,
+        Ending::Left { address: _ }
+        | Ending::Limit
+        | Ending::Break { offset: _ }
+        | Ending::NoOperation { offset: _, word: _ } => 0,
     }
 }
 
@@ -94,11 +108,14 @@ fn cause_text(cause: BadWord) -> &'static str
         BadWord::Data { index: _ } =>
             "no ADDRESS=HEX with an address below 2^64 and pairs of digits",
         BadWord::Register { index: _ } =>
-            "no REGISTER=VALUE with a register x1 to x31 and a value of 64 bits",
+            "no REGISTER=VALUE with a register x1 to x31 or f0 to f31 and a value of 64 bits",
         BadWord::Twice { index: _ } => "sets a register that an earlier word sets",
         BadWord::Address { named: _, index: _ } =>
             "no NAME=ADDRESS with a name as userextname0 and an address below 2^64",
         BadWord::AddressTwice { named: _, index: _ } => "gives a name that an earlier word gives",
+        BadWord::Setting => "no AVL,VTYPE with a vector length below 32 and a vtype below 256",
+        BadWord::Answer { index: _ } =>
+            "no success, failure, bits:VALUE, length:N, vector:N=0xBITS or stored:HEX",
     }
 }
 

@@ -1,12 +1,16 @@
 //! The text of a run.
 
-ghost use Rattle.std.specs.Prelude.{◌≡◌, ◌++◌, ◌<◌, ◌≤◌, length, IfOk, OnOk, codes, string_bytes};
+ghost use Rattle.std.specs.Prelude.{◌≡◌, ◌++◌, ◌<◌, ◌≤◌, length, IfOk, IfSome, OnOk, codes, string_bytes};
 ghost use Rattle.std.specs.Fmt.{decimal};
-ghost use Rattle.rv_run.specs.Output.{hex, ending_line, steps_line, register_line, changes, run_text};
+ghost use Rattle.rv_machine.specs.Decode as decoding;
+ghost use Rattle.rv_machine.specs.Layout.{HasFileRegisters};
+ghost use Rattle.rv_run.specs.Output.{hex, operation_text, ending_line, steps_line, register_line, changes, run_text};
 
 use crate::ending::Ending;
 use crate::result::Run;
-use rv_base::{OutOfMemory, PReg, Reg, RegClass};
+use rv_base::{IsaFlags, OutOfMemory, PReg, Reg, RegClass};
+use rv_machine::{Decoded, decode};
+use rv_trace::put_instruction;
 use std::alloc::Global;
 
 fn hex_line(alloc: Global, n: u64) -> Result<String, OutOfMemory>
@@ -23,14 +27,39 @@ fn no_operation_line(alloc: Global, offset: u64, word: u32) -> Result<String, Ou
     Ok(text)
 }
 
-fn ending_line(alloc: Global, ending: Ending) -> Result<String, OutOfMemory>
-    ensures { IfOk result (λ text. string_bytes text ≡ ending_line ending) }
+fn put_operation(out: &mut String, decoded: Option<Decoded>) -> Result<(), OutOfMemory>
+    requires { IfSome decoded HasFileRegisters }
+    ensures { OnOk result (string_bytes out.new ≡ string_bytes out.old ++ operation_text decoded) }
+{
+    match decoded {
+        Some(d) => put_instruction(out, &d),
+        None => Ok(()),
+    }
+}
+
+fn needs_answer_line(
+    alloc: Global,
+    flags: IsaFlags,
+    offset: u64,
+    word: u32,
+) -> Result<String, OutOfMemory>
+    ensures { IfOk result (λ text. string_bytes text ≡ codes "needs an answer at " ++ decimal offset ++ codes ": " ++ operation_text (decoding.decode flags word) ++ codes "\n") }
+{
+    let mut text = format!(in alloc; "needs an answer at {offset}: ")?;
+    put_operation(&mut text, decode(flags, word))?;
+    text.push_str("\n")?;
+    Ok(text)
+}
+
+fn ending_line(alloc: Global, flags: IsaFlags, ending: Ending) -> Result<String, OutOfMemory>
+    ensures { IfOk result (λ text. string_bytes text ≡ ending_line flags ending) }
 {
     match ending {
         Ending::Left { address } => Ok(format!(in alloc; "left the code to 0x{address:x}\n")?),
         Ending::Limit => Ok(format!(in alloc; "step limit\n")?),
         Ending::Break { offset } => Ok(format!(in alloc; "ebreak at {offset}\n")?),
         Ending::NoOperation { offset, word } => no_operation_line(alloc, offset, word),
+        Ending::NeedsAnswer { offset, word } => needs_answer_line(alloc, flags, offset, word),
     }
 }
 
@@ -82,9 +111,10 @@ pub fn put_run(alloc: Global, out: &mut Vec<u8>, run: &Run) -> Result<(), OutOfM
     ensures { OnOk result (out.new.items ≡ out.old.items ++ run_text run.now) }
 {
     out.extend_from_slice(run.trace.as_slice())?;
-    put(out, ending_line(alloc, run.ending)?.as_str())?;
+    put(out, ending_line(alloc, run.flags, run.ending)?.as_str())?;
     put(out, steps_line(alloc, run.steps)?.as_str())?;
     put_changes(alloc, out, run.before.as_slice(), run.after.as_slice())?;
+    out.extend_from_slice(run.units.as_slice())?;
     out.extend_from_slice(run.memory.as_slice())?;
     Ok(())
 }

@@ -2,16 +2,16 @@
 
 ghost use Rattle.std.specs.Prelude.{◌≡◌, ◌<◌, length, map, string_bytes, IfOk, OnOk, OnErr, Ok, Err, []};
 ghost use Rattle.rv_fill.specs.Refusal.{Finds};
-ghost use Rattle.rv_machine.specs.Steps.{Machine};
 ghost use Rattle.rv_run.specs.Memory.{memory_lines};
 ghost use Rattle.rv_run.specs.Output.{file};
-ghost use Rattle.rv_run.specs.Running.{RunsTo};
+ghost use Rattle.rv_run.specs.FullRunning.{RunsTo};
 ghost use Rattle.rv_run.specs.Settled.{IsSettled};
 ghost use Rattle.rv_run.specs.Starting.{begin};
 ghost use Rattle.rv_run.specs.Tracing.{trace_where};
 ghost use Rattle.rv_run.specs.Outcomes.{Loads, IsRun, given_text, listed_text, word_text, addresses_of, unplaced, IsLinked, reloc_of, OfLinked, OfProgram, Means, Words, call, Asked, AskRun, Ended, WritesText};
 
 use crate::ending::{Ending, Place};
+use crate::files::{files_of, unit_lines};
 use crate::memory::memory_lines;
 use crate::outcome::{Outcome, text_of};
 use crate::progress::Progress;
@@ -21,12 +21,12 @@ use crate::starting::begin;
 use crate::tracing::run_traced;
 use rv_base::{List, OutOfMemory};
 use rv_fill::{PlaceError, fill};
+use rv_full::{FullMachine, integer_runs};
 use rv_inst::MachReloc;
 use rv_load::{
     BadWord, Given, Named, Program, ProgramError, Settings, SettingsError, WordsError, read_hex,
     read_report, read_words, settings_of,
 };
-use rv_machine::IntMachine;
 use rv_stream::{ReadAllError, Sink, Source, WriteError, read_all, write_all};
 use std::alloc::Global;
 
@@ -41,8 +41,8 @@ fn load(alloc: Global, hex: bool, input: &[u8]) -> Result<Program, ProgramError>
 }
 
 // The registers x1 to x31.
-fn registers_of(alloc: Global, machine: &IntMachine) -> Result<List<u64>, OutOfMemory>
-    ensures values { IfOk result (λ registers. registers ≡ file 31 machine.now.state.values) }
+fn registers_of(alloc: Global, machine: &FullMachine) -> Result<List<u64>, OutOfMemory>
+    ensures values { IfOk result (λ registers. registers ≡ file 31 machine.now.full.state.values) }
     ensures count { IfOk result (λ registers. length registers ≡ 31) }
 {
     let mut registers = List::new(alloc);
@@ -56,7 +56,7 @@ fn registers_of(alloc: Global, machine: &IntMachine) -> Result<List<u64>, OutOfM
 fn run_asked<P: Progress>(
     alloc: Global,
     settings: &Settings,
-    machine: &mut IntMachine,
+    machine: &mut FullMachine,
     place: Place,
     lines: &mut Vec<u8>,
     progress: &mut P,
@@ -64,7 +64,7 @@ fn run_asked<P: Progress>(
     requires flags { machine.old.flags ≡ settings.now.flags }
     requires empty { lines.old.items ≡ [] }
     ensures ran { IfOk result (λ r. RunsTo place.base place.len settings.now.steps machine.old r.0 machine.new r.1) }
-    ensures lines { IfOk result (λ r. lines.new.items ≡ trace_where settings.now.trace settings.now.flags place.base r.0 machine.old.state) }
+    ensures lines { IfOk result (λ r. lines.new.items ≡ trace_where settings.now.trace settings.now.flags place.base r.0 machine.old.full) }
 {
     if settings.trace {
         run_traced(
@@ -85,7 +85,7 @@ fn run_from<P: Progress>(
     alloc: Global,
     settings: &Settings,
     program: &Program,
-    mut machine: IntMachine,
+    mut machine: FullMachine,
     progress: &mut P,
 ) -> Result<Run, OutOfMemory>
     requires begins { begin settings.now program.now ≡ Ok machine }
@@ -97,16 +97,21 @@ fn run_from<P: Progress>(
         len: program.bytes.len() as u64,
     };
     let mut lines = Vec::new(alloc);
-    let first = machine.clone()?;
+    integer_runs();
+    let first = machine.integers().clone()?;
+    let files = files_of(&machine);
     let before = registers_of(alloc, &machine)?;
     let (steps, ending) = run_asked(alloc, settings, &mut machine, place, &mut lines, progress)?;
     let after = registers_of(alloc, &machine)?;
-    let memory = memory_lines(alloc, &first, &machine)?;
+    let units = unit_lines(alloc, &files, &machine)?;
+    let memory = memory_lines(alloc, &first, machine.integers())?;
     Ok(Run {
+        flags: settings.flags,
         ending,
         steps,
         before,
         after,
+        units: List::from_vec(units),
         memory: List::from_vec(memory),
         trace: List::from_vec(lines),
     })
@@ -157,6 +162,8 @@ fn word_text(alloc: Global, given: &Given, cause: BadWord) -> Result<List<u8>, O
         BadWord::Data { index } => listed_text(alloc, given.memory.as_slice(), index),
         BadWord::Register { index } => listed_text(alloc, given.registers.as_slice(), index),
         BadWord::Twice { index } => listed_text(alloc, given.registers.as_slice(), index),
+        BadWord::Setting => given_text(alloc, given.setting),
+        BadWord::Answer { index } => listed_text(alloc, given.answers.as_slice(), index),
         BadWord::Address { named, index } | BadWord::AddressTwice { named, index } => listed_text(
             alloc,
             addresses_of(given, named),

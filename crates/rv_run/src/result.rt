@@ -3,15 +3,18 @@
 ghost use Rattle.std.specs.Prelude.{◌≡◌, length};
 
 use crate::ending::Ending;
-use rv_base::List;
+use rv_base::{IsaFlags, List};
 
-/// A run: how it ended, after how many steps, the registers x1 to x31 before and after it, and the text of its steps.
+/// A run: under which flags, how it ended, after how many steps, the registers x1 to x31 before and after it, and the text of its steps.
 #[derive(Drop)]
 pub struct Run {
+    pub flags: IsaFlags,
     pub ending: Ending,
     pub steps: u64,
     pub before: List<u64>,
     pub after: List<u64>,
+    /// A line for each register of the units that changed.
+    pub units: List<u8>,
     /// A line for each row of 16 bytes of memory that changed.
     pub memory: List<u8>,
     /// A line for each step, where that was asked for.

@@ -2,12 +2,14 @@
 
 ghost use Rattle.std.specs.Prelude.{◌≡◌, ◌<◌, IfOk, Some, None, ℕ};
 ghost use Rattle.rv_base.specs.declared.flags.IsaFlags.{IsaFlags as Flags};
-ghost use Rattle.rv_run.specs.Running.{offset_in, word_at, is_break_base, is_break_op, is_break, stop_of, ending_of, StepOrEnding, RunsTo};
+ghost use Rattle.rv_run.specs.Running.{offset_in, word_at, is_break_base, is_break_op, is_break, stop_of};
+ghost use Rattle.rv_run.specs.FullRunning.{full_ending_of, StepOrEnding, RunsTo};
 
 use crate::ending::{Ending, Place};
 use crate::progress::{Progress, note_steps};
 use rv_base::{IsaFlags, OutOfMemory};
-use rv_machine::{BaseOp, IntMachine, MOp, Step, int_decode};
+use rv_full::{FullMachine, FullStep};
+use rv_machine::{BaseOp, MOp, int_decode};
 
 fn offset_in(place: Place, address: u64) -> Option<u64>
     ensures { result ≡ offset_in place.base place.len address }
@@ -20,8 +22,8 @@ fn offset_in(place: Place, address: u64) -> Option<u64>
 }
 
 // The word at the program counter.
-pub(crate) fn word_at(machine: &IntMachine) -> u32
-    ensures { result ≡ word_at machine.now.state }
+pub(crate) fn word_at(machine: &FullMachine) -> u32
+    ensures { result ≡ word_at machine.now.full.state }
 {
     let pc = machine.pc();
     u32::from_le_bytes([
@@ -70,8 +72,8 @@ fn is_break_op(op: MOp) -> bool
     }
 }
 
-fn is_break(flags: IsaFlags, machine: &IntMachine) -> bool
-    ensures { result ≡ is_break flags machine.now.state }
+fn is_break(flags: IsaFlags, machine: &FullMachine) -> bool
+    ensures { result ≡ is_break flags machine.now.full.state }
 {
     match int_decode(flags, word_at(machine)) {
         Some(decoded) => machine.pc() % 2 == 0 && is_break_op(decoded.op),
@@ -80,8 +82,8 @@ fn is_break(flags: IsaFlags, machine: &IntMachine) -> bool
 }
 
 // Why the machine has no step.
-fn stop_of(flags: IsaFlags, machine: &IntMachine, offset: u64) -> Ending
-    ensures { result ≡ stop_of flags offset machine.now.state }
+fn stop_of(flags: IsaFlags, machine: &FullMachine, offset: u64) -> Ending
+    ensures { result ≡ stop_of flags offset machine.now.full.state }
 {
     if is_break(flags, machine) {
         Ending::Break { offset }
@@ -96,7 +98,7 @@ fn stop_of(flags: IsaFlags, machine: &IntMachine, offset: u64) -> Ending
 // One step, or why there is none; after so many steps, fewer than the limit.
 pub(crate) fn turn(
     flags: IsaFlags,
-    machine: &mut IntMachine,
+    machine: &mut FullMachine,
     place: Place,
     limit: u64,
     done: u64,
@@ -111,14 +113,18 @@ pub(crate) fn turn(
         }));
     };
     match machine.step()? {
-        Step::Stepped => Ok(None),
-        Step::Stopped => Ok(Some(stop_of(flags, machine, offset))),
+        FullStep::Stepped => Ok(None),
+        FullStep::Stopped => Ok(Some(stop_of(flags, machine, offset))),
+        FullStep::NeedsAnswer => Ok(Some(Ending::NeedsAnswer {
+            offset,
+            word: word_at(machine),
+        })),
     }
 }
 
 // Why a run goes no further after as many steps as it may have.
-pub(crate) fn last_ending(machine: &IntMachine, place: Place) -> Ending
-    ensures { (flags : Flags) (limit : ℕ) → ending_of flags place.base place.len limit limit machine.now.state ≡ Some result }
+pub(crate) fn last_ending(machine: &FullMachine, place: Place) -> Ending
+    ensures { (flags : Flags) (limit : ℕ) → full_ending_of flags place.base place.len limit limit machine.now.full ≡ Some result }
 {
     match offset_in(place, machine.pc()) {
         Some(_) => Ending::Limit,
@@ -131,7 +137,7 @@ pub(crate) fn last_ending(machine: &IntMachine, place: Place) -> Ending
 /// Runs the code at its place, with at most so many steps. Returns how many were done, and why it went no further.
 pub fn run_code<P: Progress>(
     flags: IsaFlags,
-    machine: &mut IntMachine,
+    machine: &mut FullMachine,
     place: Place,
     limit: u64,
     progress: &mut P,

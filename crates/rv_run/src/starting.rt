@@ -2,12 +2,12 @@
 
 ghost use Rattle.std.specs.Prelude.{◌≡◌, OnOk, IfOk};
 ghost use Rattle.rv_load.specs.Words.{Reads};
-ghost use Rattle.rv_run.specs.Starting.{outside, line_start, start_offset, start_word, with_memory_of, with_registers_of, first_machine, begin};
+ghost use Rattle.rv_run.specs.Starting.{outside, line_start, start_offset, start_word, with_memory_of, with_register, with_registers_of, with_setting, with_answers_of, first_machine, begin};
 
-use rv_base::OutOfMemory;
+use rv_base::{List, OutOfMemory, RegClass};
+use rv_full::{Answer, FullMachine, Setting};
 use rv_inst::LineSpan;
 use rv_load::{BadWord, Data, Program, RegisterValue, Settings, SettingsError, Start};
-use rv_machine::IntMachine;
 use std::alloc::Global;
 
 // Where the line of this number begins.
@@ -46,7 +46,7 @@ fn start_word(start: Start) -> BadWord
     }
 }
 
-fn put_memory(machine: &mut IntMachine, memory: &[Data]) -> Result<(), OutOfMemory>
+fn put_memory(machine: &mut FullMachine, memory: &[Data]) -> Result<(), OutOfMemory>
     ensures put { OnOk result (machine.new ≡ with_memory_of machine.old memory.now) }
     ensures flags { OnOk result (machine.new.flags ≡ machine.old.flags) }
 {
@@ -56,13 +56,61 @@ fn put_memory(machine: &mut IntMachine, memory: &[Data]) -> Result<(), OutOfMemo
     Ok(())
 }
 
-fn put_registers(machine: &mut IntMachine, registers: &[RegisterValue])
+fn put_register(machine: &mut FullMachine, register: RegisterValue)
+    ensures put { machine.new ≡ with_register machine.old register.register.class register.register.number register.value }
+    ensures flags { machine.new.flags ≡ machine.old.flags }
+{
+    match register.register.class {
+        RegClass::Int => machine.set_reg(register.register.number, register.value),
+        RegClass::Float => machine.set_freg(register.register.number, register.value),
+        RegClass::Vector => {}
+    }
+}
+
+fn put_registers(machine: &mut FullMachine, registers: &[RegisterValue])
     ensures put { machine.new ≡ with_registers_of machine.old registers.now }
     ensures flags { machine.new.flags ≡ machine.old.flags }
 {
     for register in registers {
-        machine.set_reg(register.register.number, register.value);
+        put_register(machine, *register);
     }
+}
+
+fn put_setting(machine: &mut FullMachine, setting: Setting)
+    ensures put { machine.new ≡ with_setting machine.old setting }
+    ensures flags { machine.new.flags ≡ machine.old.flags }
+{
+    machine.set_setting(setting.avl % 32, setting.vtype);
+}
+
+fn copy_of(alloc: Global, answer: &Answer) -> Result<Answer, OutOfMemory>
+    ensures { IfOk result (λ copy. copy ≡ answer.now) }
+{
+    match answer {
+        Answer::Bits(bits) => Ok(Answer::Bits(*bits)),
+        Answer::Vectors(registers) => Ok(Answer::Vectors(List::from_slice(
+            alloc,
+            registers.as_slice(),
+        )?)),
+        Answer::Stored(bytes) => Ok(Answer::Stored(List::from_slice(alloc, bytes.as_slice())?)),
+        Answer::Success(success) => Ok(Answer::Success(*success)),
+        Answer::Length(length) => Ok(Answer::Length(*length)),
+    }
+}
+
+fn give_answers(
+    alloc: Global,
+    machine: &mut FullMachine,
+    answers: &[Answer],
+) -> Result<(), OutOfMemory>
+    ensures given { OnOk result (machine.new ≡ with_answers_of machine.old answers.now) }
+    ensures flags { OnOk result (machine.new.flags ≡ machine.old.flags) }
+{
+    for answer in answers {
+        let answer = copy_of(alloc, answer)?;
+        machine.give(answer)?;
+    }
+    Ok(())
 }
 
 fn first_machine(
@@ -70,16 +118,18 @@ fn first_machine(
     settings: &Settings,
     program: &Program,
     offset: u64,
-) -> Result<IntMachine, OutOfMemory>
+) -> Result<FullMachine, OutOfMemory>
     ensures made { IfOk result (λ machine. machine ≡ first_machine settings.now program.now offset) }
     ensures flags { IfOk result (λ machine. machine.flags ≡ settings.now.flags) }
 {
     let base = settings.base;
-    let mut machine = IntMachine::new(alloc, settings.flags, base.wrapping_add(offset));
+    let mut machine = FullMachine::new(alloc, settings.flags, base.wrapping_add(offset));
     machine.set_reg(1, base.wrapping_add(1 << 63));
     machine.load_image(base, program.bytes.as_slice())?;
     put_memory(&mut machine, settings.memory.as_slice())?;
     put_registers(&mut machine, settings.registers.as_slice());
+    put_setting(&mut machine, settings.setting);
+    give_answers(alloc, &mut machine, settings.answers.as_slice())?;
     Ok(machine)
 }
 
@@ -88,7 +138,7 @@ pub fn begin(
     alloc: Global,
     settings: &Settings,
     program: &Program,
-) -> Result<IntMachine, SettingsError>
+) -> Result<FullMachine, SettingsError>
     ensures made { Reads (begin settings.now program.now) result }
     ensures flags { IfOk result (λ machine. machine.flags ≡ settings.now.flags) }
 {

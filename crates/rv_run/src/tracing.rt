@@ -1,33 +1,67 @@
 //! Runs code, and writes a line for each step.
 
-ghost use Rattle.std.specs.Prelude.{◌≡◌, ◌++◌, ◌<◌, [], IfOk, IfSome, OnOk};
+ghost use Rattle.std.specs.Prelude.{◌≡◌, ◌++◌, ◌<◌, [], length, IfOk, IfSome, OnOk};
+ghost use Rattle.rv_machine.specs.Decode as decoding;
 ghost use Rattle.rv_machine.specs.Layout.{HasFileRegisters};
-ghost use Rattle.rv_run.specs.Running.{StepOrEnding, RunsTo};
-ghost use Rattle.rv_run.specs.Tracing.{operation_line, line_to, trace, PutsLine};
+ghost use Rattle.rv_run.specs.FullRunning.{StepOrEnding, RunsTo};
+ghost use Rattle.rv_run.specs.Tracing.{unit_line, operation_line, line_to, trace, PutsLine};
 
 use crate::ending::{Ending, Place};
 use crate::progress::{Progress, note_steps};
 use crate::running::{last_ending, turn, word_at};
+use crate::written::put_unit_written;
 use rv_base::{IsaFlags, OutOfMemory};
-use rv_machine::{Decoded, IntMachine, int_decode};
-use rv_trace::put_step;
+use rv_disasm::put_place;
+use rv_full::FullMachine;
+use rv_machine::{Decoded, decode, int_decode};
+use rv_trace::{put_instruction, put_step};
 use std::alloc::Global;
 
-// The line of a step of this operation; the machine stands after it.
+// The line of a step of a unit's operation; the vector registers are those before it, and the machine stands after it.
+fn put_unit(
+    alloc: Global,
+    flags: IsaFlags,
+    out: &mut Vec<u8>,
+    offset: u64,
+    word: u32,
+    vectors: &[u128],
+    machine: &FullMachine,
+) -> Result<(), OutOfMemory>
+    requires { length vectors.now ≡ 32 }
+    ensures { OnOk result (out.new.items ≡ out.old.items ++ unit_line offset word (decoding.decode flags word) vectors.now machine.now.full) }
+{
+    match decode(flags, word) {
+        Some(d) => {
+            let mut text = String::new(alloc);
+            put_place(alloc, &mut text, offset, d.len, word)?;
+            put_instruction(&mut text, &d)?;
+            out.extend_from_slice(text.as_bytes())?;
+            put_unit_written(alloc, out, d, vectors, machine)?;
+            out.extend_from_slice(b"\n")?;
+            Ok(())
+        }
+        None => Ok(()),
+    }
+}
+
+// The line of a step of this integer operation, or where there is none, of a unit's.
 fn put_operation(
     alloc: Global,
+    flags: IsaFlags,
     out: &mut Vec<u8>,
     offset: u64,
     word: u32,
     decoded: Option<Decoded>,
-    machine: &IntMachine,
+    vectors: &[u128],
+    machine: &FullMachine,
 ) -> Result<(), OutOfMemory>
-    requires { IfSome decoded HasFileRegisters }
-    ensures { OnOk result (out.new.items ≡ out.old.items ++ operation_line offset word decoded machine.now.state) }
+    requires registers { IfSome decoded HasFileRegisters }
+    requires count { length vectors.now ≡ 32 }
+    ensures { OnOk result (out.new.items ≡ out.old.items ++ operation_line flags offset word decoded vectors.now machine.now.full) }
 {
     match decoded {
         Some(d) => put_step(alloc, out, offset, word, d, machine.reg(d.rd)),
-        None => Ok(()),
+        None => put_unit(alloc, flags, out, offset, word, vectors, machine),
     }
 }
 
@@ -35,7 +69,7 @@ fn put_operation(
 fn traced_turn(
     alloc: Global,
     flags: IsaFlags,
-    machine: &mut IntMachine,
+    machine: &mut FullMachine,
     place: Place,
     limit: u64,
     done: u64,
@@ -48,10 +82,12 @@ fn traced_turn(
 {
     let word = word_at(machine);
     let offset = machine.pc().saturating_sub(place.base);
+    let vectors = *machine.vectors();
     match turn(flags, machine, place, limit, done)? {
         Some(ending) => Ok(Some(ending)),
         None => {
-            put_operation(alloc, out, offset, word, int_decode(flags, word), machine)?;
+            let decoded = int_decode(flags, word);
+            put_operation(alloc, flags, out, offset, word, decoded, &vectors, machine)?;
             Ok(None)
         }
     }
@@ -61,7 +97,7 @@ fn traced_turn(
 pub fn run_traced<P: Progress>(
     alloc: Global,
     flags: IsaFlags,
-    machine: &mut IntMachine,
+    machine: &mut FullMachine,
     place: Place,
     limit: u64,
     out: &mut Vec<u8>,
@@ -70,7 +106,7 @@ pub fn run_traced<P: Progress>(
     requires flags { machine.old.flags ≡ flags }
     requires empty { out.old.items ≡ [] }
     ensures ran { IfOk result (λ r. RunsTo place.base place.len limit machine.old r.0 machine.new r.1) }
-    ensures lines { IfOk result (λ r. out.new.items ≡ trace flags place.base r.0 machine.old.state) }
+    ensures lines { IfOk result (λ r. out.new.items ≡ trace flags place.base r.0 machine.old.full) }
 {
     for done in 0..limit {
         note_steps(progress, done);

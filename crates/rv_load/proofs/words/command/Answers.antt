@@ -17,6 +17,8 @@ returns c =
     let memory : rule_of c.list.result ≡ list_rule (codes "data") = search rules in
     let symbol : rule_of c.list-2.result ≡ list_rule (codes "symbol") = search rules in
     let slot : rule_of c.list-3.result ≡ list_rule (codes "slot") = search rules in
+    let setting : rule_of c.option-6.result ≡ option_rule (codes "setting") = search rules in
+    let answer : rule_of c.list-4.result ≡ list_rule (codes "answer") = search rules in
     let trace : rule_of c.flag-2.result ≡ flag_rule (codes "trace") = search rules in
     let word : rule_of c.word.result ≡ word_rule (codes "REGISTER=VALUE") = search rules in
     let one = c.in_ok-c.ensures ∙ ap₂ with_rule c.opening-c.ensures hex in
@@ -28,5 +30,7 @@ returns c =
     let seven = c.in_ok-c-7.ensures ∙ ap₂ with_rule six memory in
     let eight = c.in_ok-c-8.ensures ∙ ap₂ with_rule seven symbol in
     let nine = c.in_ok-c-9.ensures ∙ ap₂ with_rule eight slot in
-    let ten = c.in_ok-c-10.ensures ∙ ap₂ with_rule nine trace in
-    IfOk-weaker c.with_arg-11.result _ _ (λ made h. h ∙ ap₂ with_rule ten word) c.with_arg-11.ensures
+    let ten = c.in_ok-c-10.ensures ∙ ap₂ with_rule nine setting in
+    let eleven = c.in_ok-c-11.ensures ∙ ap₂ with_rule ten answer in
+    let twelve = c.in_ok-c-12.ensures ∙ ap₂ with_rule eleven trace in
+    IfOk-weaker c.with_arg-13.result _ _ (λ made h. h ∙ ap₂ with_rule twelve word) c.with_arg-13.ensures

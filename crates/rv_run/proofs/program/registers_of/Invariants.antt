@@ -4,6 +4,6 @@ use Rattle.rv_run.proofs.program.registers_of.Given as goal
 
 abbrev pub invariant-loop-n : goal.invariant-loop-n
 invariant-loop-n l = record {
-  values : l.registers ≡ file l.n l.machine.state.values;
+  values : l.registers ≡ file l.n l.machine.full.state.values;
   count : length l.registers ≡ l.n;
 }
