@@ -1,13 +1,11 @@
 -- Registers that are chosen as an instruction asks keep its rules on registers.
 use Rattle.std.specs.Prelude.{◌≢◌, ◌++◌, ◌&&◌, ◌||◌, ◌==◌, not, true, false, Bool, ℕ, List, [], ◌∷◌, map, Option, Some, None}
-use Rattle.std.proofs.Common.{◌≡◌, ◌<◌, ◌≤◌, refl, ap, sym, ◌∙◌, subst, arith, rules}
+use Rattle.std.proofs.Common.{◌≡◌, ◌<◌, ◌≤◌, refl, ap, sym, ◌∙◌, subst, arith}
 use Rattle.std.proofs.Math.Bridge.{le_prop}
-use Rattle.std.specs.List.{flat_map, list_any}
+use Rattle.std.specs.List.{list_any}
 use Rattle.std.proofs.lemmas.Grind.{flat_map-append}
 use Rattle.std.proofs.lemmas.Bool.Decides.{nat_tests}
 use Rattle.std.proofs.lemmas.List.{append-nil, map-append}
-use Rattle.rv_base.specs.declared.amode.AMode.{AMode}
-use Rattle.rv_base.specs.declared.amode.AMode.TheVariants.{RegOffset, SPOffset, FPOffset, SlotOffset, IncomingArg, Const, Label}
 use Rattle.rv_base.specs.declared.call.ArgPair.{ArgPair}
 use Rattle.rv_base.specs.declared.call.RetPair.{RetPair}
 use Rattle.rv_base.specs.declared.call.CallArgPair.{CallArgPair}
@@ -15,23 +13,18 @@ use Rattle.rv_base.specs.declared.call.CallRetPair.{CallRetPair}
 use Rattle.rv_base.specs.declared.call.RetLocation.{RetLocation}
 use Rattle.rv_base.specs.declared.call.RetLocation.TheVariants.{Reg as InReg, Stack as OnStack}
 use Rattle.rv_base.specs.declared.constraint.Constraint.{Constraint}
-use Rattle.rv_base.specs.declared.constraint.Constraint.TheVariants.{RegUse, RegFixedUse, RegClobbers}
 use Rattle.rv_base.specs.declared.regs.PReg.{PReg}
 use Rattle.rv_base.specs.declared.regs.Reg.{Reg}
 use Rattle.rv_base.specs.declared.regs.Reg.TheVariants.{Real, Virtual}
 use Rattle.rv_base.specs.declared.regs.VirtualIndex.{VirtualIndex}
 use Rattle.rv_base.specs.declared.regs.RegClass.{RegClass}
 use Rattle.rv_base.specs.declared.regs.RegClass.TheVariants.{Int, Float, Vector}
-use Rattle.rv_base.specs.declared.regs.Writable.{Writable}
-use Rattle.rv_base.specs.declared.value_regs.ValueRegs.{ValueRegs}
-use Rattle.rv_base.specs.declared.value_regs.ValueRegs.TheVariants.{One, Two}
 use Rattle.rv_base.specs.Regs.{class_of, stack_pointer, frame_pointer}
-use Rattle.rv_ops.specs.declared.compare.IntegerCompare.{IntegerCompare}
-use Rattle.rv_inst.specs.Operands.{all_of, written_in, location_registers}
-use Rattle.rv_inst.specs.Rules.{is_int_class, is_other_class, same_class, same_register, is_one_of, is_real_x, is_stack, is_stacked, is_into_stack, is_into_result, either_into, results_clash, clash, select_clash, differ_in_class, location_differs, is_on_stack, is_outside, class_for}
+use Rattle.rv_inst.specs.Operands.{location_registers}
+use Rattle.rv_inst.specs.Rules.{is_int_class, is_other_class, same_class, same_register, is_one_of, is_real_x, is_stack, is_into_result, either_into, results_clash, clash, differ_in_class, location_differs, is_on_stack, is_outside, class_for}
 use Rattle.rv_operands.specs.Operand.{Operand, constraint_of}
-use Rattle.rv_operands.specs.Operands.{arg_operand, ret_operand, use_operand, def_operand, located_operand, select_operands}
-use Rattle.rv_operands.specs.Meeting.{written_by, definitions, IsApart, AreApart, AreDistinct, IsPlaced, ArePlaced, AreMet, IsFree, AreFree, IsOfClass, AreOfClasses}
+use Rattle.rv_operands.specs.Operands.{arg_operand, ret_operand, use_operand, def_operand, located_operand}
+use Rattle.rv_operands.specs.Meeting.{written_by, definitions, IsApart, AreApart, AreDistinct, IsPlaced, ArePlaced, AreFree, IsOfClass, AreOfClasses}
 
 -- ---- tests
 

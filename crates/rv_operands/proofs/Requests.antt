@@ -1,11 +1,11 @@
 -- What a visitor has done, request by request.
 use Rattle.std.specs.Prelude.{List, [], ◌∷◌, ◌++◌, Result, Ok, Err, IsErr}
-use Rattle.std.proofs.Common.{◌≡◌, refl, ap, sym, ◌∙◌, append_assoc}
+use Rattle.std.proofs.Common.{refl, ap, sym, ◌∙◌, append_assoc}
 use Rattle.rv_base.specs.declared.regs.Reg.{Reg}
 use Rattle.rv_base.specs.declared.constraint.Constraint.{Constraint}
 use Rattle.rv_base.specs.declared.out_of_memory.OutOfMemory.{OutOfMemory}
 use Rattle.rv_base.specs.Operands.{registers_of, register_of}
-use Rattle.rv_operands.specs.Visits.{AreVisited, IsStopped, AreHandedOver, IsUnasked, IsHandedOver}
+use Rattle.rv_operands.specs.Visits.{AreVisited, IsStopped, AreHandedOver, IsHandedOver}
 use Rattle.std.proofs.lemmas.Grind.{flat_map-append}
 use Rattle.std.proofs.lemmas.List.{append-nil}
 

@@ -1,8 +1,6 @@
 -- What registers that are chosen as they are asked for do for each kind of instruction.
-use Rattle.std.specs.Prelude.{◌≢◌, ◌++◌, ◌||◌, not, Bool, ℕ, false, List, [], ◌∷◌, map}
+use Rattle.std.specs.Prelude.{◌++◌, ◌||◌, not, Bool, ℕ, false, List, [], ◌∷◌, map}
 use Rattle.std.proofs.Common.{◌≡◌, refl, ap, sym, ◌∙◌, subst}
-use Rattle.std.specs.List.{list_any}
-use Rattle.std.proofs.lemmas.List.{append-nil}
 use Rattle.rv_base.specs.declared.amode.AMode.{AMode}
 use Rattle.rv_base.specs.declared.amode.AMode.TheVariants.{RegOffset, SPOffset, FPOffset, SlotOffset, IncomingArg, Const, Label}
 use Rattle.rv_base.specs.declared.call.CallInfo.{CallInfo}
@@ -11,7 +9,6 @@ use Rattle.rv_base.specs.declared.call.CallArgPair.{CallArgPair}
 use Rattle.rv_base.specs.declared.call.CallRetPair.{CallRetPair}
 use Rattle.rv_base.specs.declared.constraint.Constraint.{Constraint}
 use Rattle.rv_base.specs.declared.constraint.Constraint.TheVariants.{RegClobbers}
-use Rattle.rv_base.specs.declared.ir_type.IrType.{IrType}
 use Rattle.rv_base.specs.declared.mem_flags.MemFlagsData.{MemFlagsData}
 use Rattle.rv_base.specs.declared.regs.Reg.{Reg}
 use Rattle.rv_base.specs.declared.regs.Writable.{Writable}
@@ -27,9 +24,9 @@ use Rattle.rv_inst.specs.declared.inst.SelectInfo.{SelectInfo}
 use Rattle.rv_inst.specs.declared.inst.Inst.{Inst}
 use Rattle.rv_inst.specs.declared.inst.Inst.TheVariants.{Nop0, Nop4, EBreak, SequencePoint, Args, Rets, DummyUse, Unwind, EmitIsland, RawData, Lui, Auipc, LoadInlineConst, AluRRR, AluRRImm12, Mov, MovFromPReg, Extend, Select, Load, Store, LoadAddr, LabelAddress, Ret, TrapIf, Jal, CondBr, BrTable, Udf, Jalr, Popcnt, Cltz, Brev8, StackProbeLoop, LoadExtNameGot, LoadExtNameNear, LoadExtNameFar, Call, CallInd, ReturnCall, ReturnCallInd}
 use Rattle.rv_inst.specs.Operands.{all_of, written_in}
-use Rattle.rv_inst.specs.Rules.{is_other_class, is_uneven, select_clash, clash, is_fifth, is_stack_or_frame, call_differs, results_clash}
+use Rattle.rv_inst.specs.Rules.{is_uneven, select_clash, clash, is_fifth, is_stack_or_frame, results_clash}
 use Rattle.rv_operands.specs.Operand.{constraint_of}
-use Rattle.rv_operands.specs.Operands.{use_operand, def_operand, fifth, select_operands}
+use Rattle.rv_operands.specs.Operands.{use_operand, def_operand, select_operands}
 use Rattle.rv_operands.specs.Meeting.{definitions, AreDistinct, AreApart, AreMet, AreFree, ArePlaced, AreOfClasses, AreChosen, KeepsRules}
 use Rattle.rv_operands.proofs.Keeping.{either, or_none, apart, absent, no_clash, same_stack, same_frame, AreInt, not_other, all_int, alike, args_alike, rets_alike, uses_alike, defs_alike, both_classes, into, call_written, results_placed, no_results_clash}
 

@@ -1,9 +1,7 @@
 -- The temporaries of an instruction are operands that are scratched, or its own.
 use Rattle.std.specs.Prelude.{◌++◌, List, [], ◌∷◌, map}
 use Rattle.std.proofs.Common.{◌≡◌, refl, ap, sym, ◌∙◌}
-use Rattle.std.specs.List.{flat_map}
 use Rattle.std.proofs.lemmas.Grind.{flat_map-append}
-use Rattle.std.proofs.lemmas.List.{append-nil}
 use Rattle.rv_base.specs.declared.amode.AMode.{AMode}
 use Rattle.rv_base.specs.declared.amode.AMode.TheVariants.{RegOffset, SPOffset, FPOffset, SlotOffset, IncomingArg, Const, Label}
 use Rattle.rv_base.specs.declared.call.CallArgPair.{CallArgPair}

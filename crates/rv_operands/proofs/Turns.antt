@@ -1,16 +1,13 @@
 -- The loop that hands over a list, turn by turn.
-use Rattle.std.specs.Prelude.{List, [], ◌∷◌, ◌++◌, Result, Ok, Err, IsErr, map, slice_get, slice_set, Some, length, ℕ, ◌+◌}
-use Rattle.std.proofs.Common.{◌≡◌, refl, ap, sym, ◌∙◌, append_assoc, arith, cond, subst, set, suc, zero, rules}
-use Rattle.std.proofs.lemmas.Grind.{common_steps}
+use Rattle.std.specs.Prelude.{List, [], ◌∷◌, ◌++◌, Ok, map, slice_get, Some, length, ℕ, ◌+◌}
+use Rattle.std.proofs.Common.{◌≡◌, refl, ap, sym, ◌∙◌, append_assoc, subst, set}
 use Rattle.std.proofs.lemmas.List.{append-nil, map-append, length-append, length-set}
 use Rattle.std.proofs.Math.Seq.{set-append_seam}
 use Rattle.rv_base.specs.declared.regs.Reg.{Reg}
 use Rattle.rv_base.specs.declared.constraint.Constraint.{Constraint}
-use Rattle.rv_base.specs.declared.out_of_memory.OutOfMemory.{OutOfMemory}
-use Rattle.rv_base.specs.Operands.{registers_of}
 use Rattle.rv_operands.specs.Operand.{Operand, constraint_of}
-use Rattle.rv_operands.specs.Visits.{AreVisited, IsStopped, AreHandedOver, IsUnasked, IsHandedOver}
-use Rattle.rv_operands.proofs.Requests.{visited_both, only_one, ends_within}
+use Rattle.rv_operands.specs.Visits.{AreVisited, IsHandedOver}
+use Rattle.rv_operands.proofs.Requests.{visited_both}
 
 -- the requests of a list
 abbrev pub requests : {X : Type 0} → (X → Operand) → List X → List Constraint

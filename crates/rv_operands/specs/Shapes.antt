@@ -1,5 +1,5 @@
 -- What a register allocator leaves of an instruction: all but the registers of its operands, of which it keeps the class.
-use Rattle.std.specs.Prelude.{List, map}
+use Rattle.std.specs.Prelude.{map}
 use Rattle.std.proofs.Common.{lit<}
 use Rattle.rv_base.specs.declared.amode.AMode.{AMode}
 use Rattle.rv_base.specs.declared.amode.AMode.TheVariants.{RegOffset, SPOffset, FPOffset, SlotOffset, IncomingArg, Const, Label}

@@ -1,4 +1,3 @@
-use Rattle.std.proofs.Common.{◌≡◌}
 use Rattle.rv_operands.proofs.Turns.{AreDone}
 use Rattle.rv_operands.proofs.pairs.hand_all.Given as goal
 
