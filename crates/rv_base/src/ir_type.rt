@@ -20,6 +20,18 @@ pub enum IrType {
     Vector(VectorType),
 }
 
+/// `I64`, the type of a whole integer register.
+impl Default for IrType {
+    ghost use Rattle.std.specs.Prelude.{◌≡◌};
+    ghost use Rattle.rv_base.specs.declared.ir_type.IrType.TheVariants.{I64};
+
+    ghost is_default = { λ type. type ≡ I64 };
+
+    fn default() -> IrType {
+        IrType::I64
+    }
+}
+
 /// The types that the lanes of a vector may have.
 #[derive(Clone, Copy, Debug, PartialEq, Eq)]
 pub enum LaneType {

@@ -1,6 +1,6 @@
 //! A list that contracts see as its elements, wherever they lie in memory.
 
-ghost use Rattle.std.specs.Prelude.{◌≡◌, ◌++◌, ◌∷◌, [], ◌==◌, length, OnOk, OnErr, IfOk};
+ghost use Rattle.std.specs.Prelude.{◌≡◌, ◌<◌, ◌++◌, ◌∷◌, [], ◌==◌, length, Some, slice_get, slice_set, OnOk, OnErr, IfOk};
 
 use crate::out_of_memory::OutOfMemory;
 use std::alloc::Global;
@@ -75,6 +75,22 @@ impl<T: Drop> List<T> {
 }
 
 impl<T: Copy> List<T> {
+    /// The element at an index, which is below the number of elements.
+    pub fn get(&self, index: usize) -> T
+        requires { index < length self.now }
+        ensures { slice_get self.now index ≡ Some result }
+    {
+        self.items[index]
+    }
+
+    /// Puts another element at an index, which is below the number of elements.
+    pub fn set(&mut self, index: usize, element: T)
+        requires { index < length self.old }
+        ensures { self.new ≡ slice_set self.old index element }
+    {
+        self.items[index] = element;
+    }
+
     /// A copy of the elements.
     pub fn from_slice(alloc: Global, elements: &[T]) -> Result<List<T>, OutOfMemory>
         ensures { IfOk result (λ list. list ≡ elements.now) }

@@ -10,6 +10,18 @@ pub enum RegClass {
     Vector,
 }
 
+/// `Int`, which most registers are of.
+impl Default for RegClass {
+    ghost use Rattle.std.specs.Prelude.{◌≡◌};
+    ghost use Rattle.rv_base.specs.declared.regs.RegClass.TheVariants.{Int};
+
+    ghost is_default = { λ class. class ≡ Int };
+
+    fn default() -> RegClass {
+        RegClass::Int
+    }
+}
+
 /// A register of the machine, by its file and its number, which is below 32.
 #[derive(Clone, Copy, Debug, PartialEq, Eq, PartialOrd, Ord, Hash)]
 pub struct PReg {

@@ -28,3 +28,4 @@ pub mod Context
 pub mod Environments
 pub mod Addresses
 pub mod Plain
+pub mod Lending

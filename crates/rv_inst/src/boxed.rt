@@ -28,9 +28,20 @@ impl<T: Drop> Boxed<T> {
 }
 
 impl<T> Boxed<T> {
+    ghost use Rattle.std.specs.Borrow.{sem};
+    ghost use Rattle.rv_inst.specs.Lending.{LendsHeld};
+
     pub fn as_ref(&self) -> &T
         ensures { result.now ≡ self.now }
     {
         self.held.as_ref()
+    }
+
+    /// The value, for writing.
+    pub fn as_mut(&mut self) -> &mut T
+        ensures* writes_back { sem 𝓛 (LendsHeld T.row self.entry result) }
+        ensures value { result.now ≡ self.old }
+    {
+        self.held.as_mut()
     }
 }

@@ -1,1 +1,7 @@
 pub mod Roles
+pub mod Operand
+pub mod Operands
+pub mod Visits
+pub mod Shapes
+pub mod Meeting
+pub mod RegClasses

@@ -1,5 +1,5 @@
 -- What an instruction is to a compiler's back end: the move, the call or the end of a block that it is.
-use Rattle.std.specs.Prelude.{Bool, true, false, not, Option, Some, None, is_some}
+use Rattle.std.specs.Prelude.{Bool, true, false, Option, Some, None}
 use Rattle.rv_base.specs.declared.regs.Reg.{Reg}
 use Rattle.rv_base.specs.declared.regs.Writable.{Writable}
 use Rattle.rv_base.specs.declared.call.TryCallInfo.{TryCallInfo}

@@ -1,23 +1,52 @@
 //! What a back end asks of an instruction.
 
-ghost use Rattle.std.specs.Prelude.{◌≡◌, ◌==◌, [], ◌∷◌, not, if◌then◌else◌};
+ghost use Rattle.std.specs.Prelude.{◌≡◌, ◌==◌, [], ◌∷◌, ◌++◌, Some, None, not, if◌then◌else◌, OnOk, OnErr, IfOk, IfErr};
 ghost use Rattle.rv_inst.specs.declared.inst.Inst.TheVariants.{Nop0, Nop4, DummyUse, Jal, Mov};
+ghost use Rattle.rv_base.specs.Operands.{registers_of};
+ghost use Rattle.rv_operands.specs.Operands.{constraints_of};
+ghost use Rattle.rv_operands.specs.RegClasses.{Holding, holding_of};
 ghost use Rattle.rv_operands.specs.Roles.{is_regular, end_by, roles_of};
+ghost use Rattle.rv_operands.specs.Shapes.{shape_of};
+ghost use Rattle.rv_operands.specs.Visits.{IsStopped};
 ghost use Rattle.rv_inst.specs.Generators.{canonical_type};
 ghost use Rattle.rv_inst.specs.Families.{family_of};
 ghost use Rattle.rv_inst.specs.declared.inst.Family.TheVariants.{Pseudo, Control, Calls};
 
+use crate::get_operands::handed_over;
 use crate::kinds::{CallType, MachTerminator};
-use rv_base::{IrType, MachLabel, Reg, RegClass, TryCallInfo, WritableReg};
+use crate::reg_classes::{RegClasses, RegTypes, holding};
+use rv_base::{
+    CodegenError, IrType, MachLabel, OperandVisitor, OutOfMemory, Reg, RegClass, TryCallInfo,
+    WritableReg,
+};
 use rv_inst::{Family, Inst};
+use std::alloc::Global;
+use std::mem;
 
 /// An instruction, as a back end's parts that know no machine see it.
 pub trait MachInst {
-    ghost use Rattle.std.specs.Prelude.{◌≡◌, ◌≤◌, ◌⊎◌, Some, not};
+    ghost use Rattle.std.specs.Prelude.{◌≡◌, ◌≤◌, ◌⊎◌, ◌++◌, List, Some, not, OnOk, OnErr};
+    ghost use Rattle.rv_base.specs.declared.constraint.Constraint.{Constraint as Request};
+    ghost use Rattle.rv_base.specs.Operands.{registers_of};
     ghost use Rattle.rv_operands.specs.Roles.{Roles, is_regular};
+    ghost use Rattle.rv_operands.specs.Visits.{IsStopped};
 
     /// The move, the call or the end of a block that it is.
     ghost roles: { Self → Roles };
+
+    /// What it asks of a register allocator, in order.
+    ghost constraints: { Self → List Request };
+
+    /// All of it but the registers that it asks for, of which only the class stays.
+    ghost shape: { Self → Self };
+
+    /// Hands over each register that it asks for, and keeps the one that the visitor gives in its place. Out of memory, the first
+    /// registers have been handed over, and the others are as they were.
+    fn get_operands<V: OperandVisitor>(&mut self, collector: &mut V) -> Result<(), OutOfMemory>
+        ensures ok { OnOk result (V.recorded collector.new ≡ V.recorded collector.old ++ constraints self.old) }
+        ensures given { OnOk result (V.given collector.new ≡ V.given collector.old ++ registers_of (constraints self.new)) }
+        ensures err { OnErr result (IsStopped V.recorded V.given collector.old collector.new (constraints self.old) (constraints self.new)) }
+        ensures same { shape self.new ≡ shape self.old };
 
     /// The register that it writes and the one that it copies, where it is a move.
     fn is_move(&self) -> Option<(WritableReg, Reg)>
@@ -67,6 +96,10 @@ pub trait MachInst {
 
     /// The bytes of each length of one that does nothing.
     fn gen_nop_units() -> [[u8; 4]; 1];
+
+    /// The classes of the registers that hold a value of a type, and the type of the part that each holds: one register, or two of an
+    /// integer or a floating-point number of 128 bits. Refuses exactly vectors of more than 64 bytes. Takes no memory.
+    fn rc_for_type(alloc: Global, ty: IrType) -> Result<(RegClasses, RegTypes), CodegenError>;
 
     /// The type of whole registers of a class.
     fn canonical_type_for_rc(rc: RegClass) -> IrType;
@@ -126,6 +159,21 @@ fn call_end(inst: &Inst) -> MachTerminator
 
 impl MachInst for Inst {
     ghost roles = { roles_of };
+
+    ghost constraints = { constraints_of };
+
+    ghost shape = { shape_of };
+
+    fn get_operands<V: OperandVisitor>(&mut self, collector: &mut V) -> Result<(), OutOfMemory>
+        ensures ok { OnOk result (V.recorded collector.new ≡ V.recorded collector.old ++ constraints_of self.old) }
+        ensures given { OnOk result (V.given collector.new ≡ V.given collector.old ++ registers_of (constraints_of self.new)) }
+        ensures err { OnErr result (IsStopped V.recorded V.given collector.old collector.new (constraints_of self.old) (constraints_of self.new)) }
+        ensures same { shape_of self.new ≡ shape_of self.old }
+    {
+        let (inst, handed) = handed_over(mem::replace(self, Inst::Nop0), collector);
+        *self = inst;
+        handed
+    }
 
     fn is_move(&self) -> Option<(WritableReg, Reg)>
         ensures { result ≡ (roles_of self.now).moved }
@@ -221,6 +269,13 @@ impl MachInst for Inst {
         ensures { result ≡ (0x13 ∷ 0 ∷ 0 ∷ 0 ∷ []) ∷ [] }
     {
         [[0x13, 0, 0, 0]]
+    }
+
+    fn rc_for_type(alloc: Global, ty: IrType) -> Result<(RegClasses, RegTypes), CodegenError>
+        ensures ok { IfOk result (λ found. holding_of ty ≡ Some (record { classes = found.0.items; types = found.1.items })) }
+        ensures refused { IfErr result (λ cause. (cause ≡ CodegenError.Unsupported) × (holding_of ty ≡ None)) }
+    {
+        holding(alloc, ty)
     }
 
     fn canonical_type_for_rc(rc: RegClass) -> IrType

@@ -1,0 +1,6 @@
+pub mod Requests
+pub mod Turns
+pub mod Keeping
+pub mod RulesKept
+pub mod Temporaries
+pub mod Parts

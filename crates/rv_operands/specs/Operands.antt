@@ -1,0 +1,137 @@
+-- The table of operands: the registers of an instruction that are chosen for it, in the order in which a register allocator is asked for
+-- them, and what it is told beside.
+use Rattle.std.specs.Prelude.{Bool, false, not, List, [], ◌∷◌, ◌++◌, map, Some, None}
+use Rattle.std.proofs.Common.{lit<}
+use Rattle.rv_base.specs.declared.amode.AMode.{AMode}
+use Rattle.rv_base.specs.declared.amode.AMode.TheVariants.{RegOffset, SPOffset, FPOffset, SlotOffset, IncomingArg, Const, Label}
+use Rattle.rv_base.specs.declared.call.ArgPair.{ArgPair}
+use Rattle.rv_base.specs.declared.call.RetPair.{RetPair}
+use Rattle.rv_base.specs.declared.call.CallArgPair.{CallArgPair}
+use Rattle.rv_base.specs.declared.call.CallRetPair.{CallRetPair}
+use Rattle.rv_base.specs.declared.call.RetLocation.{RetLocation}
+use Rattle.rv_base.specs.declared.call.RetLocation.TheVariants.{Reg as InReg, Stack as OnStack}
+use Rattle.rv_base.specs.declared.constraint.Constraint.{Constraint}
+use Rattle.rv_base.specs.declared.constraint.Constraint.TheVariants.{RegClobbers}
+use Rattle.rv_base.specs.declared.regs.Reg.{Reg}
+use Rattle.rv_base.specs.declared.regs.Writable.{Writable}
+use Rattle.rv_base.specs.declared.value_regs.ValueRegs.{ValueRegs}
+use Rattle.rv_base.specs.declared.value_regs.ValueRegs.TheVariants.{One, Two}
+use Rattle.rv_base.specs.Regs.{class_of, int_reg}
+use Rattle.rv_inst.specs.declared.inst.Inst.{Inst}
+use Rattle.rv_inst.specs.declared.inst.Inst.TheVariants.{Nop0, Nop4, EBreak, SequencePoint, Args, Rets, DummyUse, Unwind, EmitIsland, RawData, Lui, Auipc, LoadInlineConst, AluRRR, AluRRImm12, Mov, MovFromPReg, Extend, Select, Load, Store, LoadAddr, LabelAddress, Ret, TrapIf, Jal, CondBr, BrTable, Udf, Jalr, Popcnt, Cltz, Brev8, StackProbeLoop, LoadExtNameGot, LoadExtNameNear, LoadExtNameFar, Call, CallInd, ReturnCall, ReturnCallInd}
+use Rattle.rv_inst.specs.declared.inst.SelectInfo.{SelectInfo}
+use Rattle.rv_inst.specs.Rules.{class_for, is_stack_or_frame, is_uneven}
+use Rattle.rv_operands.specs.Operand.{Operand, Reads, ReadsIn, Writes, WritesIn, WritesAnywhere, of_int, reads, reads_late, writes, writes_early, scratches, constraint_of}
+
+-- ---- parts of instructions
+
+-- the register of an address
+abbrev pub address_operands : AMode → List Operand
+address_operands (RegOffset r o) = reads r ∷ []
+address_operands (SPOffset o) = []
+address_operands (FPOffset o) = []
+address_operands (SlotOffset o) = []
+address_operands (IncomingArg o) = []
+address_operands (Const k) = []
+address_operands (Label l) = []
+
+-- the registers of a value that is read
+abbrev pub read_operands : ValueRegs Reg → List Operand
+read_operands (One r) = reads r ∷ []
+read_operands (Two r s) = reads r ∷ reads s ∷ []
+
+-- those of one that is written; of two the first is written before the value of the second is read
+abbrev pub written_operands : ValueRegs (Writable Reg) → List Operand
+written_operands (One w) = writes w ∷ []
+written_operands (Two v w) = writes_early v ∷ writes_early w ∷ []
+
+-- those of a choice: the compared ones are read after a result may have been written
+abbrev pub select_operands : SelectInfo → List Operand
+select_operands info = reads_late info.condition.rs1 ∷ reads_late info.condition.rs2 ∷ read_operands info.x ++ read_operands info.y ++ written_operands info.dst
+
+-- the two registers of a pair have one class
+abbrev pub arg_operand : ArgPair → Operand
+arg_operand p = record { register = p.vreg.reg; class = Some (class_of p.preg); access = WritesIn p.preg }
+
+abbrev pub ret_operand : RetPair → Operand
+ret_operand p = record { register = p.vreg; class = Some (class_of p.preg); access = ReadsIn p.preg }
+
+abbrev pub use_operand : CallArgPair → Operand
+use_operand p = record { register = p.vreg; class = Some (class_of p.preg); access = ReadsIn p.preg }
+
+-- a result that is left on the stack has the class of its type
+abbrev pub located_operand : Reg → RetLocation → Operand
+located_operand r (InReg s) = record { register = r; class = Some (class_of s); access = WritesIn s }
+located_operand r (OnStack offset type) = record { register = r; class = class_for type; access = WritesAnywhere }
+
+abbrev pub def_operand : CallRetPair → Operand
+def_operand d = located_operand d.vreg.reg d.location
+
+-- the register that a tail call through a register goes through: x5
+abbrev pub fifth : Reg
+fifth = int_reg 5 (lit< tt)
+
+-- ---- the table
+
+-- The operands; the registers that the instruction overwrites beside; temporaries of its own that no allocator is asked for, since who
+-- makes the instruction chooses them; and, of what rules say of registers, what no choice of the operands can mend: whether a register
+-- that the instruction names by itself is another than its place asks, and whether lists of registers differ in length.
+pub record Row : Type 0 where
+  pub operands : List Operand
+  pub clobbers : List Constraint
+  pub own : List Operand
+  pub misnamed : Bool
+  pub uneven : Bool
+
+abbrev pub row : List Operand → Row
+row operands = record { operands = operands; clobbers = []; own = []; misnamed = false; uneven = false }
+
+abbrev pub row_of : Inst → Row
+row_of Nop0 = row []
+row_of Nop4 = row []
+row_of EBreak = row []
+row_of SequencePoint = row []
+row_of (Args args) = row (map arg_operand args)
+row_of (Rets rets) = row (map ret_operand rets)
+row_of (DummyUse reg) = row (record { register = reg; class = None; access = Reads } ∷ [])
+row_of (Unwind inst) = row []
+row_of (EmitIsland needed_space) = row []
+row_of (RawData bytes) = row []
+row_of (Lui rd imm) = row (writes rd ∷ [])
+row_of (Auipc rd imm) = row (writes rd ∷ [])
+row_of (LoadInlineConst rd type imm) = row (writes rd ∷ [])
+row_of (AluRRR op rd rs1 rs2) = row (reads rs1 ∷ reads rs2 ∷ writes rd ∷ [])
+row_of (AluRRImm12 op rd rs imm) = row (reads rs ∷ writes rd ∷ [])
+row_of (Mov rd rm type) = row (record { register = rm; class = Some (class_of rd.reg); access = Reads } ∷ record { register = rd.reg; class = Some (class_of rm); access = Writes } ∷ [])
+row_of (MovFromPReg rd rm) = record (row (writes rd ∷ [])) { misnamed = not (is_stack_or_frame rm) }
+row_of (Extend rd rn signed from_bits to_bits) = row (reads rn ∷ writes rd ∷ [])
+row_of (Select info) = record (row (select_operands info)) { uneven = is_uneven info.dst info.x info.y }
+row_of (Load rd op flags from) = row (address_operands from ++ writes rd ∷ [])
+row_of (Store src op flags to) = row (address_operands to ++ reads src ∷ [])
+row_of (LoadAddr rd mem) = row (address_operands mem ++ writes_early rd ∷ [])
+row_of (LabelAddress dst label) = row (writes dst ∷ [])
+row_of Ret = row []
+row_of (TrapIf cmp code) = row (reads cmp.rs1 ∷ reads cmp.rs2 ∷ [])
+row_of (Jal label) = row []
+row_of (CondBr taken not_taken kind) = row (reads kind.rs1 ∷ reads kind.rs2 ∷ [])
+row_of (BrTable index tmp1 tmp2 targets) = row (reads index ∷ scratches tmp1 ∷ scratches tmp2 ∷ [])
+row_of (Udf code) = row []
+row_of (Jalr rd base offset) = row (reads base ∷ writes rd ∷ [])
+row_of (Popcnt info) = row (reads info.rs ∷ scratches info.tmp ∷ scratches info.step ∷ writes_early info.sum ∷ [])
+row_of (Cltz leading info) = row (reads info.rs ∷ scratches info.tmp ∷ scratches info.step ∷ writes_early info.sum ∷ [])
+row_of (Brev8 info) = row (reads info.rs ∷ scratches info.step ∷ scratches info.tmp ∷ scratches info.tmp2 ∷ writes_early info.rd ∷ [])
+row_of (StackProbeLoop guard_size probe_count tmp) = record (row []) { own = scratches tmp ∷ [] }
+row_of (LoadExtNameGot rd name) = row (writes rd ∷ [])
+row_of (LoadExtNameNear rd name offset) = row (writes rd ∷ [])
+row_of (LoadExtNameFar rd name offset) = row (writes rd ∷ [])
+row_of (Call info) = record (row (map use_operand info.uses ++ map def_operand info.defs)) { clobbers = RegClobbers info.clobbers ∷ [] }
+row_of (CallInd info) = record (row (reads info.dest ∷ map use_operand info.uses ++ map def_operand info.defs)) { clobbers = RegClobbers info.clobbers ∷ [] }
+row_of (ReturnCall info) = row (map use_operand info.uses)
+row_of (ReturnCallInd info) = row (of_int info.dest (ReadsIn fifth) ∷ map use_operand info.uses)
+
+abbrev pub operands_of : Inst → List Operand
+operands_of inst = (row_of inst).operands
+
+-- what a register allocator is asked: a constraint for each operand, and then the registers that are overwritten
+abbrev pub constraints_of : Inst → List Constraint
+constraints_of inst = map constraint_of (operands_of inst) ++ (row_of inst).clobbers

@@ -1,0 +1,135 @@
+-- What a register allocator leaves of an instruction: all but the registers of its operands, of which it keeps the class.
+use Rattle.std.specs.Prelude.{map}
+use Rattle.std.proofs.Common.{lit<}
+use Rattle.rv_base.specs.declared.amode.AMode.{AMode}
+use Rattle.rv_base.specs.declared.amode.AMode.TheVariants.{RegOffset, SPOffset, FPOffset, SlotOffset, IncomingArg, Const, Label}
+use Rattle.rv_base.specs.declared.call.ArgPair.{ArgPair}
+use Rattle.rv_base.specs.declared.call.RetPair.{RetPair}
+use Rattle.rv_base.specs.declared.call.CallArgPair.{CallArgPair}
+use Rattle.rv_base.specs.declared.call.CallRetPair.{CallRetPair}
+use Rattle.rv_base.specs.declared.call.CallInfo.{CallInfo}
+use Rattle.rv_base.specs.declared.call.ReturnCallInfo.{ReturnCallInfo}
+use Rattle.rv_base.specs.declared.regs.Reg.{Reg}
+use Rattle.rv_base.specs.declared.regs.Reg.TheVariants.{Real}
+use Rattle.rv_base.specs.declared.regs.RegClass.{RegClass}
+use Rattle.rv_base.specs.declared.regs.Writable.{Writable}
+use Rattle.rv_base.specs.declared.value_regs.ValueRegs.{ValueRegs}
+use Rattle.rv_base.specs.declared.value_regs.ValueRegs.TheVariants.{One, Two}
+use Rattle.rv_base.specs.Regs.{class_of}
+use Rattle.rv_ops.specs.declared.compare.IntegerCompare.{IntegerCompare}
+use Rattle.rv_inst.specs.declared.inst.Brev8Info.{Brev8Info}
+use Rattle.rv_inst.specs.declared.inst.CountInfo.{CountInfo}
+use Rattle.rv_inst.specs.declared.inst.SelectInfo.{SelectInfo}
+use Rattle.rv_inst.specs.declared.inst.Inst.{Inst}
+use Rattle.rv_inst.specs.declared.inst.Inst.TheVariants.{Nop0, Nop4, EBreak, SequencePoint, Args, Rets, DummyUse, Unwind, EmitIsland, RawData, Lui, Auipc, LoadInlineConst, AluRRR, AluRRImm12, Mov, MovFromPReg, Extend, Select, Load, Store, LoadAddr, LabelAddress, Ret, TrapIf, Jal, CondBr, BrTable, Udf, Jalr, Popcnt, Cltz, Brev8, StackProbeLoop, LoadExtNameGot, LoadExtNameNear, LoadExtNameFar, Call, CallInd, ReturnCall, ReturnCallInd}
+
+-- ---- parts of instructions
+
+-- the first register of a register's class
+abbrev pub first_of_class : RegClass → Reg
+first_of_class class = Real (record { class = class; number = 0; in_file = lit< tt })
+
+abbrev pub blank : Reg → Reg
+blank r = first_of_class (class_of r)
+
+abbrev pub blanked : Writable Reg → Writable Reg
+blanked w = record { reg = blank w.reg }
+
+abbrev pub address_shape : AMode → AMode
+address_shape (RegOffset r o) = RegOffset (blank r) o
+address_shape (SPOffset o) = SPOffset o
+address_shape (FPOffset o) = FPOffset o
+address_shape (SlotOffset o) = SlotOffset o
+address_shape (IncomingArg o) = IncomingArg o
+address_shape (Const k) = Const k
+address_shape (Label l) = Label l
+
+abbrev pub read_shape : ValueRegs Reg → ValueRegs Reg
+read_shape (One r) = One (blank r)
+read_shape (Two r s) = Two (blank r) (blank s)
+
+abbrev pub written_shape : ValueRegs (Writable Reg) → ValueRegs (Writable Reg)
+written_shape (One w) = One (blanked w)
+written_shape (Two v w) = Two (blanked v) (blanked w)
+
+abbrev pub compare_shape : IntegerCompare → IntegerCompare
+compare_shape c = record c { rs1 = blank c.rs1; rs2 = blank c.rs2 }
+
+abbrev pub select_shape : SelectInfo → SelectInfo
+select_shape info = record { dst = written_shape info.dst; condition = compare_shape info.condition; x = read_shape info.x; y = read_shape info.y }
+
+abbrev pub count_shape : CountInfo → CountInfo
+count_shape info = record info { sum = blanked info.sum; tmp = blanked info.tmp; step = blanked info.step; rs = blank info.rs }
+
+abbrev pub brev8_shape : Brev8Info → Brev8Info
+brev8_shape info = record info { rs = blank info.rs; step = blanked info.step; tmp = blanked info.tmp; tmp2 = blanked info.tmp2; rd = blanked info.rd }
+
+abbrev pub arg_shape : ArgPair → ArgPair
+arg_shape p = record p { vreg = blanked p.vreg }
+
+abbrev pub ret_shape : RetPair → RetPair
+ret_shape p = record p { vreg = blank p.vreg }
+
+abbrev pub use_shape : CallArgPair → CallArgPair
+use_shape p = record p { vreg = blank p.vreg }
+
+abbrev pub def_shape : CallRetPair → CallRetPair
+def_shape d = record d { vreg = blanked d.vreg }
+
+-- of a call; of one through a register; and of a tail call
+abbrev pub call_shape : {T : Type 0} → CallInfo T → CallInfo T
+call_shape info = record info { uses = map use_shape info.uses; defs = map def_shape info.defs }
+
+abbrev pub call_through_shape : CallInfo Reg → CallInfo Reg
+call_through_shape info = record (call_shape info) { dest = blank info.dest }
+
+abbrev pub tail_call_shape : {T : Type 0} → ReturnCallInfo T → ReturnCallInfo T
+tail_call_shape info = record info { uses = map use_shape info.uses }
+
+abbrev pub tail_call_through_shape : ReturnCallInfo Reg → ReturnCallInfo Reg
+tail_call_through_shape info = record (tail_call_shape info) { dest = blank info.dest }
+
+-- ---- instructions
+
+abbrev pub shape_of : Inst → Inst
+shape_of Nop0 = Nop0
+shape_of Nop4 = Nop4
+shape_of EBreak = EBreak
+shape_of SequencePoint = SequencePoint
+shape_of (Args args) = Args (map arg_shape args)
+shape_of (Rets rets) = Rets (map ret_shape rets)
+shape_of (DummyUse reg) = DummyUse (blank reg)
+shape_of (Unwind inst) = Unwind inst
+shape_of (EmitIsland needed_space) = EmitIsland needed_space
+shape_of (RawData bytes) = RawData bytes
+shape_of (Lui rd imm) = Lui (blanked rd) imm
+shape_of (Auipc rd imm) = Auipc (blanked rd) imm
+shape_of (LoadInlineConst rd type imm) = LoadInlineConst (blanked rd) type imm
+shape_of (AluRRR op rd rs1 rs2) = AluRRR op (blanked rd) (blank rs1) (blank rs2)
+shape_of (AluRRImm12 op rd rs imm) = AluRRImm12 op (blanked rd) (blank rs) imm
+shape_of (Mov rd rm type) = Mov (blanked rd) (blank rm) type
+shape_of (MovFromPReg rd rm) = MovFromPReg (blanked rd) rm
+shape_of (Extend rd rn signed from_bits to_bits) = Extend (blanked rd) (blank rn) signed from_bits to_bits
+shape_of (Select info) = Select (select_shape info)
+shape_of (Load rd op flags from) = Load (blanked rd) op flags (address_shape from)
+shape_of (Store src op flags to) = Store (blank src) op flags (address_shape to)
+shape_of (LoadAddr rd mem) = LoadAddr (blanked rd) (address_shape mem)
+shape_of (LabelAddress dst label) = LabelAddress (blanked dst) label
+shape_of Ret = Ret
+shape_of (TrapIf cmp code) = TrapIf (compare_shape cmp) code
+shape_of (Jal label) = Jal label
+shape_of (CondBr taken not_taken kind) = CondBr taken not_taken (compare_shape kind)
+shape_of (BrTable index tmp1 tmp2 targets) = BrTable (blank index) (blanked tmp1) (blanked tmp2) targets
+shape_of (Udf code) = Udf code
+shape_of (Jalr rd base offset) = Jalr (blanked rd) (blank base) offset
+shape_of (Popcnt info) = Popcnt (count_shape info)
+shape_of (Cltz leading info) = Cltz leading (count_shape info)
+shape_of (Brev8 info) = Brev8 (brev8_shape info)
+shape_of (StackProbeLoop guard_size probe_count tmp) = StackProbeLoop guard_size probe_count tmp
+shape_of (LoadExtNameGot rd name) = LoadExtNameGot (blanked rd) name
+shape_of (LoadExtNameNear rd name offset) = LoadExtNameNear (blanked rd) name offset
+shape_of (LoadExtNameFar rd name offset) = LoadExtNameFar (blanked rd) name offset
+shape_of (Call info) = Call (call_shape info)
+shape_of (CallInd info) = CallInd (call_through_shape info)
+shape_of (ReturnCall info) = ReturnCall (tail_call_shape info)
+shape_of (ReturnCallInd info) = ReturnCallInd (tail_call_through_shape info)

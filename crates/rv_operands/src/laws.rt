@@ -1,0 +1,21 @@
+//! What who proves something of a register allocator, or of an emission after it, can cite: laws of the definitions, each the contract
+//! of a function that does nothing.
+
+ghost use Rattle.std.specs.Prelude.{◌≡◌, ◌++◌, map};
+ghost use Rattle.rv_base.specs.Regs.{number_of};
+ghost use Rattle.rv_inst.specs.declared.inst.Inst.{Inst as Instruction};
+ghost use Rattle.rv_inst.specs.Meaning.{inst_temporaries};
+ghost use Rattle.rv_operands.specs.Operands.{row_of, operands_of};
+ghost use Rattle.rv_operands.specs.Meeting.{AreChosen, KeepsRules, scratched_in};
+
+/// Registers that are chosen as an instruction asks keep its rules on classes, on x0 and on registers that clash, but for what no choice
+/// mends: a register that it names by itself, and lists of different lengths.
+pub fn chosen_registers_keep_rules()
+    ensures { (inst : Instruction) → AreChosen inst → KeepsRules inst }
+{}
+
+/// The temporaries of an instruction, which may hold anything after it, are the operands that are scratched, in order, and then those of
+/// its own.
+pub fn temporaries_are_scratched()
+    ensures { (inst : Instruction) → inst_temporaries inst ≡ map number_of (scratched_in (operands_of inst) ++ scratched_in (row_of inst).own) }
+{}
