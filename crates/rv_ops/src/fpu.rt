@@ -57,7 +57,7 @@ impl FpuOPRRR {
     }
 
     /// The mnemonic without its format.
-    fn stem(self) -> &'static str
+    pub fn stem(self) -> &'static str
         ensures { result.now ≡ fpu_rrr_stem self }
     {
         match self {

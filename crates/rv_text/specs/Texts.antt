@@ -23,6 +23,12 @@ use Rattle.rv_ops.specs.declared.alu.AluOPRRI.{AluOPRRI}
 use Rattle.rv_ops.specs.declared.alu.AluOPRRI.TheVariants as rri
 use Rattle.rv_ops.specs.declared.compare.IntegerCompare.{IntegerCompare}
 use Rattle.rv_ops.specs.Alu.{rrr_name, rri_name, rri_numbers, funct12_of}
+use Rattle.rv_ops.specs.declared.float_fields.FpuOPWidth.{FpuOPWidth}
+use Rattle.rv_ops.specs.declared.float_fields.FRM.{FRM}
+use Rattle.rv_ops.specs.declared.fpu.FpuOPRRR.{FpuOPRRR}
+use Rattle.rv_ops.specs.declared.fpu.FpuOPRRR.TheVariants as fpu
+use Rattle.rv_ops.specs.FloatFields.{frm_name}
+use Rattle.rv_ops.specs.Fpu.{name_with_width, fpu_rrr_stem, fpu_rrr_shows_frm}
 use Rattle.rv_ops.specs.Memory.{load_name, store_name}
 use Rattle.rv_ops.specs.Compare.{branch_name}
 use Rattle.rv_inst.specs.declared.inst.CondBrTarget.{CondBrTarget}
@@ -31,9 +37,9 @@ use Rattle.rv_inst.specs.CondBrTargets.{text_of as target_text}
 use Rattle.rv_inst.specs.declared.inst.SelectInfo.{SelectInfo}
 use Rattle.rv_inst.specs.declared.inst.CountInfo.{CountInfo}
 use Rattle.rv_inst.specs.declared.inst.Brev8Info.{Brev8Info}
-use Rattle.rv_inst.specs.Rules.{is_zero}
+use Rattle.rv_inst.specs.Rules.{is_zero, same_register}
 use Rattle.rv_inst.specs.declared.inst.Inst.{Inst}
-use Rattle.rv_inst.specs.declared.inst.Inst.TheVariants.{Nop0, Nop4, EBreak, SequencePoint, Args, Rets, DummyUse, Unwind, EmitIsland, RawData, Lui, Auipc, LoadInlineConst, AluRRR, AluRRImm12, Mov, MovFromPReg, Extend, Select, Load, Store, LoadAddr, LabelAddress, Ret, TrapIf, Jal, CondBr, BrTable, Udf, Jalr, Popcnt, Cltz, Brev8, StackProbeLoop, LoadExtNameGot, LoadExtNameNear, LoadExtNameFar, Call, CallInd, ReturnCall, ReturnCallInd}
+use Rattle.rv_inst.specs.declared.inst.Inst.TheVariants.{Nop0, Nop4, EBreak, SequencePoint, Args, Rets, DummyUse, Unwind, EmitIsland, RawData, Lui, Auipc, LoadInlineConst, AluRRR, AluRRImm12, Mov, MovFromPReg, Extend, Select, Load, Store, LoadAddr, LabelAddress, Ret, TrapIf, Jal, CondBr, BrTable, Udf, Jalr, Popcnt, Cltz, Brev8, StackProbeLoop, LoadExtNameGot, LoadExtNameNear, LoadExtNameFar, Call, CallInd, ReturnCall, ReturnCallInd, FpuRRR}
 use Rattle.rv_text.specs.Operands.{two, three, hex, label_text, listed, compare_text, value_text, written, table_text, arg_text, ret_text, use_text, unwind_text, try_text}
 
 -- four bytes or eight as one number, the lowest byte first; others one by one
@@ -122,6 +128,28 @@ brev8_text b =
 abbrev pub symbol_text : ExternalName → List ℕ
 symbol_text name = codes "userextname" ++ decimal name.number
 
+-- the rounding mode, where an operation's text shows it
+abbrev pub mode_text : Bool → FRM → List ℕ
+mode_text true frm = codes "," ++ frm_name frm
+mode_text false frm = []
+
+abbrev pub plain_fpu_rrr_text : FpuOPRRR → FpuOPWidth → FRM → Reg → Reg → Reg → List ℕ
+plain_fpu_rrr_text op width frm rd rs1 rs2 =
+    three (name_with_width (fpu_rrr_stem op) width) (name_of rd) (name_of rs1) (name_of rs2) ++ mode_text (fpu_rrr_shows_frm op) frm
+
+abbrev pub same_source_text : List ℕ → FpuOPWidth → Reg → Reg → List ℕ
+same_source_text name width rd rs = two (name_with_width name width) (name_of rd) (name_of rs)
+
+-- fmv, fneg and fabs are pseudo-instructions: the sign of a register, put on itself as it is, turned or cleared
+abbrev pub fpu_rrr_text : FpuOPRRR → FpuOPWidth → FRM → Reg → Reg → Reg → List ℕ
+fpu_rrr_text fpu.Fsgnj width frm rd rs1 rs2 =
+    if same_register rs1 rs2 then same_source_text (codes "fmv") width rd rs1 else plain_fpu_rrr_text fpu.Fsgnj width frm rd rs1 rs2
+fpu_rrr_text fpu.Fsgnjn width frm rd rs1 rs2 =
+    if same_register rs1 rs2 then same_source_text (codes "fneg") width rd rs1 else plain_fpu_rrr_text fpu.Fsgnjn width frm rd rs1 rs2
+fpu_rrr_text fpu.Fsgnjx width frm rd rs1 rs2 =
+    if same_register rs1 rs2 then same_source_text (codes "fabs") width rd rs1 else plain_fpu_rrr_text fpu.Fsgnjx width frm rd rs1 rs2
+fpu_rrr_text op width frm rd rs1 rs2 = plain_fpu_rrr_text op width frm rd rs1 rs2
+
 abbrev pub text_of : Inst → List ℕ
 text_of Nop0 = codes "##zero length nop"
 text_of Nop4 = codes "##fixed 4-size nop"
@@ -168,3 +196,4 @@ text_of (ReturnCall info) =
     codes "return_call User(" ++ symbol_text info.dest ++ codes ") new_stack_arg_size:" ++ decimal info.new_stack_arg_size ++ flat_map use_text info.uses
 text_of (ReturnCallInd info) =
     codes "return_call_ind " ++ name_of info.dest ++ codes " new_stack_arg_size:" ++ decimal info.new_stack_arg_size ++ flat_map use_text info.uses
+text_of (FpuRRR op width frm rd rs1 rs2) = fpu_rrr_text op width frm rd.reg rs1 rs2

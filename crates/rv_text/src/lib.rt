@@ -4,6 +4,7 @@
 
 mod calls;
 mod control;
+mod floats;
 mod integer;
 mod lines;
 mod loops;

@@ -34,7 +34,8 @@ fn same_class(first: RegClass, second: RegClass) -> bool
     }
 }
 
-fn same_register(first: Reg, second: Reg) -> bool
+/// Returns whether two registers are the same one.
+pub(crate) fn same_register(first: Reg, second: Reg) -> bool
     ensures { result ≡ same_register first second }
 {
     match (first, second) {

@@ -5,6 +5,7 @@ ghost use Rattle.rv_text.specs.Texts.{text_of};
 
 use crate::calls::put_call;
 use crate::control::put_control;
+use crate::floats::put_float;
 use crate::integer::put_integer;
 use crate::loops::put_loop;
 use crate::memory::put_memory;
@@ -26,6 +27,7 @@ pub fn put_text(out: &mut String, inst: &Inst) -> Result<(), OutOfMemory>
         Family::Loop => put_loop(out, inst),
         Family::Symbols => put_symbol(out, inst),
         Family::Calls => put_call(out, inst),
+        Family::Float => put_float(out, inst),
     }
 }
 
