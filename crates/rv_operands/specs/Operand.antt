@@ -2,7 +2,7 @@
 use Rattle.std.specs.Prelude.{Option, Some}
 use Rattle.rv_base.specs.declared.regs.Reg.{Reg}
 use Rattle.rv_base.specs.declared.regs.RegClass.{RegClass}
-use Rattle.rv_base.specs.declared.regs.RegClass.TheVariants.{Int}
+use Rattle.rv_base.specs.declared.regs.RegClass.TheVariants.{Int, Float}
 use Rattle.rv_base.specs.declared.regs.Writable.{Writable}
 use Rattle.rv_base.specs.declared.constraint.Constraint.{Constraint}
 use Rattle.rv_base.specs.declared.constraint.Constraint.TheVariants.{RegUse, RegLateUse, RegFixedUse, RegDef, RegEarlyDef, RegFixedDef, AnyDef}
@@ -44,6 +44,14 @@ writes_early w = of_int w.reg WritesEarly
 
 abbrev pub scratches : Writable Reg → Operand
 scratches w = of_int w.reg Scratches
+
+-- ---- operands of the other files
+
+abbrev pub reads_float : Reg → Operand
+reads_float r = record { register = r; class = Some Float; access = Reads }
+
+abbrev pub writes_in : RegClass → Writable Reg → Operand
+writes_in class w = record { register = w.reg; class = Some class; access = Writes }
 
 -- ---- what is asked of a register allocator
 

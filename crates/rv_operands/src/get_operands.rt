@@ -3,7 +3,7 @@
 
 ghost use Rattle.std.specs.Prelude.{◌≡◌};
 ghost use Rattle.rv_inst.specs.Families.{family_of};
-ghost use Rattle.rv_inst.specs.declared.inst.Family.TheVariants.{Pseudo, Integer, Memory, Control, Loop, Symbols, Calls};
+ghost use Rattle.rv_inst.specs.declared.inst.Family.TheVariants.{Pseudo, Integer, Memory, Control, Loop, Symbols, Calls, Float};
 ghost use Rattle.rv_operands.specs.Visits.{AreHandedOver};
 ghost use Rattle.rv_operands.specs.Operands.{constraints_of};
 ghost use Rattle.rv_operands.specs.Shapes.{shape_of};
@@ -306,6 +306,37 @@ fn call_operands<V: OperandVisitor>(inst: Inst, collector: &mut V) -> Handed
     }
 }
 
+/// Of one that computes with floating-point registers.
+fn float_operands<V: OperandVisitor>(inst: Inst, collector: &mut V) -> Handed
+    ensures handed { family_of inst ≡ Float → AreHandedOver V.recorded V.given result.1 collector.old collector.new (constraints_of inst) (constraints_of result.0) }
+    ensures same { family_of inst ≡ Float → shape_of result.0 ≡ shape_of inst }
+{
+    match inst {
+        Inst::FpuRRR {
+            alu_op,
+            width,
+            frm,
+            mut rd,
+            mut rs1,
+            mut rs2,
+        } => {
+            let handed = reads_two_and_writes(&mut rs1, &mut rs2, &mut rd, collector);
+            (
+                Inst::FpuRRR {
+                    alu_op,
+                    width,
+                    frm,
+                    rd,
+                    rs1,
+                    rs2,
+                },
+                handed,
+            )
+        }
+        other => (other, Ok(())),
+    }
+}
+
 /// Hands over the registers of an instruction, which comes back with those that were given.
 pub fn handed_over<V: OperandVisitor>(inst: Inst, collector: &mut V) -> Handed
     ensures handed { AreHandedOver V.recorded V.given result.1 collector.old collector.new (constraints_of inst) (constraints_of result.0) }
@@ -319,5 +350,6 @@ pub fn handed_over<V: OperandVisitor>(inst: Inst, collector: &mut V) -> Handed
         Family::Loop => loop_operands(inst, collector),
         Family::Symbols => symbol_operands(inst, collector),
         Family::Calls => call_operands(inst, collector),
+        Family::Float => float_operands(inst, collector),
     }
 }
