@@ -1,7 +1,6 @@
 -- Words as data, read.
-use Rattle.std.proofs.Common.{◌≡◌, ℕ, zero, suc, ◌+◌, ◌/◌, ◌%◌, ◌^◌, ◌<◌, List, [], ◌∷◌, length, refl, sym, ap, subst, ◌∙◌, arith, lit<, w16, w32, MatchResult, Result, Ok, Err}
-use Rattle.std.specs.Prelude.{slice_index}
-use Rattle.std.specs.Int.{to_be_bytes, from_be_bytes}
+use Rattle.std.proofs.Common.{◌≡◌, ℕ, zero, suc, ◌^◌, ◌<◌, List, [], ◌∷◌, refl, ap, subst, ◌∙◌, arith, lit<, w16, w32, MatchResult, Ok}
+use Rattle.std.specs.Int.{to_be_bytes}
 use Rattle.hex.specs.declared.error.FromHexError.{FromHexError}
 use Rattle.hex.specs.Hex.{encode_lower, decode_sized, IsBytes}
 use Rattle.hex.proofs.HexLemmas.{decode_sized-encode_lower}

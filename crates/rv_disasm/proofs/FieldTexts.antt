@@ -1,8 +1,7 @@
 -- The numbers in fields have names, and the texts of fields follow one another.
-use Rattle.std.proofs.Common.{◌≡◌, ℕ, ◌/◌, ◌%◌, ◌^◌, ◌<◌, Bool, true, false, List, [], ◌∷◌, ◌++◌, ℤ, pos, negsuc, unsigned_abs, refl, arith, lit<}
+use Rattle.std.proofs.Common.{◌≡◌, ℕ, ◌/◌, ◌%◌, ◌^◌, ◌<◌, Bool, true, false, List, [], ◌∷◌, ℤ, pos, negsuc, unsigned_abs, refl, arith, lit<}
 use Rattle.std.specs.List.{flat_map}
 use Rattle.std.specs.Int.{from_bool}
-use Rattle.std.proofs.lemmas.Int.{ints}
 use Rattle.rv_machine.specs.declared.decoding.Decoded.{Decoded}
 use Rattle.rv_machine.specs.Layout.{HasFileRegisters}
 use Rattle.rv_disasm.specs.declared.layouts.File.{File}

@@ -1,5 +1,5 @@
 -- Each row is found by its mnemonic.
-use Rattle.std.proofs.Common.{◌≡◌, ℕ, true, Option, Some, refl}
+use Rattle.std.proofs.Common.{◌≡◌, ℕ, true, Some, refl}
 use Rattle.rv_machine.specs.declared.ops.MOp.{MOp}
 use Rattle.rv_machine.specs.declared.ops.MOp.TheVariants.{Base, Load, Store, Alu, Carry, Atomic, Csr, FloatLoad, FloatStore, Float, VecMem, Vec}
 use Rattle.rv_machine.specs.declared.ops.AluOp.{AluOp}
@@ -35,7 +35,7 @@ use Rattle.rv_disasm.specs.declared.halfwords.HalfOp.TheVariants as half
 use Rattle.rv_disasm.specs.declared.forms.Form.{Form}
 use Rattle.rv_disasm.specs.declared.forms.Form.TheVariants as form
 use Rattle.rv_disasm.specs.Text.{form_name}
-use Rattle.rv_disasm.specs.Reading.{form_named, plain, plain_op, lacks}
+use Rattle.rv_disasm.specs.Reading.{form_named, plain, lacks}
 
 -- found by its mnemonic, in which no space stands
 abbrev pub IsFound : Form → Type 0

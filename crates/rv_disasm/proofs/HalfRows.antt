@@ -1,8 +1,8 @@
 -- Every operation of an instruction of 16 bits, put together again from its own row, is that instruction.
-use Rattle.std.proofs.Common.{◌≡◌, ℕ, suc, ◌+◌, ◌-◌, ◌*◌, ◌/◌, ◌%◌, ◌^◌, ◌<◌, ◌≤◌, Bool, true, false, cond, ℤ, pos, negsuc, unsigned_abs, Option, Some, None, refl, sym, ap, ◌∙◌, arith, lit<, w64}
-use Rattle.std.specs.Prelude.{IfSome, if◌then◌else◌, ◌==◌, ◌&&◌, nat_lt}
+use Rattle.std.proofs.Common.{◌≡◌, ℕ, ◌+◌, ◌*◌, ◌%◌, ◌^◌, ◌<◌, Bool, true, false, ℤ, pos, negsuc, unsigned_abs, Some, None, ◌∙◌, arith, lit<}
+use Rattle.std.specs.Prelude.{IfSome, if◌then◌else◌, ◌==◌, ◌&&◌}
 use Rattle.std.proofs.lemmas.Int.{ints}
-use Rattle.std.proofs.lemmas.Bool.{eqb-true, eqb-false, and_parts}
+use Rattle.std.proofs.lemmas.Bool.{eqb-true, and_parts}
 use Rattle.rv_base.specs.declared.flags.IsaFlags.{IsaFlags}
 use Rattle.rv_machine.specs.declared.decoding.Decoded.{Decoded}
 use Rattle.rv_machine.specs.declared.ops.MOp.{MOp}
@@ -15,8 +15,8 @@ use Rattle.rv_machine.specs.declared.ops.AluOp.TheVariants.{Int, Mul, Bit}
 use Rattle.rv_machine.specs.declared.ops.IntOp.TheVariants as int
 use Rattle.rv_machine.specs.declared.ops.MulOp.TheVariants as mul
 use Rattle.rv_machine.specs.declared.ops.BitOp.TheVariants as bit
-use Rattle.rv_machine.specs.Layout.{HasFileRegisters, bits, compressed}
-use Rattle.rv_machine.specs.Compressed.{half_op, half_funct3, half_rd, half_rs2, short_low, short_high, ci_bits, ci_imm, addi16sp_bits, addi16sp_imm, lwsp_imm, ldsp_imm, swsp_imm, sdsp_imm, ciw_imm, lw_imm, ld_imm, lb_imm, lh_imm, cj_bits, cj_imm, cr_layout, ci_layout, load_sp_layout, css_layout, cl_layout, cs_layout, ca_layout, cb_layout, cu_layout, decode_addi4spn, decode_zcb_memory, quadrant_0, decode_addiw, decode_li, decode_lui, decode_zcb_unary, decode_two_registers, decode_arithmetic, decode_j, quadrant_1, decode_slli, decode_load_sp, decode_jr_mv, decode_jalr_add, quadrant_2, by_quadrant, int_decode_half, unit_by_quadrant, unit_decode_half, decode_half}
+use Rattle.rv_machine.specs.Layout.{bits, compressed}
+use Rattle.rv_machine.specs.Compressed.{half_op, half_funct3, half_rd, half_rs2, short_low, short_high, ci_bits, ci_imm, addi16sp_bits, addi16sp_imm, lwsp_imm, ldsp_imm, swsp_imm, sdsp_imm, ciw_imm, lw_imm, ld_imm, lb_imm, lh_imm, cj_bits, cj_imm, cr_layout, ci_layout, load_sp_layout, css_layout, cl_layout, cs_layout, ca_layout, cb_layout, cu_layout, decode_addi4spn, decode_zcb_memory, quadrant_0, decode_addiw, decode_li, decode_lui, decode_zcb_unary, decode_two_registers, decode_arithmetic, decode_j, quadrant_1, decode_slli, decode_jr_mv, decode_jalr_add, quadrant_2, by_quadrant, int_decode_half, unit_by_quadrant, unit_decode_half, decode_half}
 use Rattle.rv_disasm.specs.declared.halfwords.HalfOp.{HalfOp}
 use Rattle.rv_disasm.specs.declared.halfwords.HalfOp.TheVariants as half
 use Rattle.rv_disasm.specs.Halfwords.{half_at, half_named, short_memory, unary, of_two_registers, arithmetic, jumps_and_moves}
@@ -27,7 +27,7 @@ use Rattle.rv_disasm.specs.Placing.{ci_place, addi16sp_place, lwsp_place, ldsp_p
 use Rattle.rv_disasm.specs.Reading.{filled, Fine}
 use Rattle.rv_disasm.proofs.Options.{every_else, every_if, row, row_2, choice}
 use Rattle.rv_disasm.proofs.Sums.{held, held_5, held_6, held_10, held_12, sum_1, sum_2, sum_3}
-use Rattle.rv_disasm.proofs.WordRows.{SmallFuncts, none, signed_low}
+use Rattle.rv_disasm.proofs.WordRows.{SmallFuncts, signed_low}
 
 -- an instruction's row, with the operation's numbers put to it, is the instruction
 pub record GoodHalf (h : ℕ) (d : Decoded) : Type 0 where

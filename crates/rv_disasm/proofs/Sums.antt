@@ -1,12 +1,12 @@
 -- A word is the sum of its fields, each where it stands.
-use Rattle.std.proofs.Common.{◌≡◌, ℕ, suc, ◌+◌, ◌-◌, ◌*◌, ◌/◌, ◌%◌, ◌^◌, ◌<◌, ◌≤◌, Bool, true, false, cond, ltb, ℤ, pos, negsuc, unsigned_abs, refl, arith, w64}
-use Rattle.std.specs.Prelude.{nat_lt, ◌==◌}
+use Rattle.std.proofs.Common.{◌≡◌, ℕ, suc, ◌+◌, ◌-◌, ◌*◌, ◌%◌, ◌^◌, ◌<◌, ◌≤◌, Bool, true, false, cond, ℤ, pos, negsuc, refl, arith, w64}
+use Rattle.std.specs.Prelude.{nat_lt}
 use Rattle.std.specs.Int.{cast_unsigned}
 use Rattle.std.proofs.lemmas.Int.{ints}
 use Rattle.std.proofs.lemmas.Bool.{ltb-true, ltb-false}
 use Rattle.rv_machine.specs.State.{signed}
-use Rattle.rv_machine.specs.Layout.{bits, word_opcode, word_rd, word_funct3, word_rs1, word_rs2, word_funct7, word_funct6, word_funct12, word_funct5, word_fmt, i_bits, s_bits, b_bits, u_bits, j_bits, i_imm, s_imm, b_imm, u_imm, j_imm}
-use Rattle.rv_disasm.specs.Placing.{i_place, s_place, b_place, u_place, j_place}
+use Rattle.rv_machine.specs.Layout.{bits, word_opcode, word_rd, word_funct3, word_rs1, word_rs2, word_funct7, word_funct12, u_bits}
+use Rattle.rv_disasm.specs.Placing.{s_place, b_place, j_place}
 
 -- ---- numbers in fields
 

@@ -1,8 +1,8 @@
 -- Tokens: what the text of a number is, and where it ends.
-use Rattle.std.proofs.Common.{◌≡◌, ℕ, suc, ◌+◌, ◌*◌, ◌/◌, ◌%◌, ◌^◌, ◌<◌, ◌≤◌, Bool, true, false, cond, not, ◌&&◌, List, [], ◌∷◌, ◌++◌, length, take, drop, ℤ, pos, negsuc, unsigned_abs, refl, sym, ap, subst, ◌∙◌, arith, lit<, lit≤, Option, Some, None, Ok, Err, w64, to_z, of_z, to_z-of_z}
+use Rattle.std.proofs.Common.{◌≡◌, ℕ, suc, ◌+◌, ◌%◌, ◌^◌, ◌<◌, Bool, true, false, cond, not, ◌&&◌, List, [], ◌∷◌, ◌++◌, length, take, drop, ℤ, pos, negsuc, unsigned_abs, refl, sym, ap, subst, ◌∙◌, arith, Option, Some, None, Ok, Err, w64, to_z, of_z, to_z-of_z}
 use Rattle.std.specs.Prelude.{◌==◌}
 use Rattle.std.specs.Prelude.{Result}
-use Rattle.std.specs.Str.{IsUtf8, IsAscii}
+use Rattle.std.specs.Str.{IsUtf8}
 use Rattle.std.specs.Prelude.{FitsSigned}
 use lib.Signed.{mag}
 use Rattle.std.proofs.lemmas.Fmt.{IsAscii-signed}
@@ -11,13 +11,11 @@ use Rattle.std.specs.Str.Parse.{ParsesSigned}
 use Rattle.std.specs.List.{position_or_len}
 use Rattle.std.specs.Str.{bytes_eq}
 use Rattle.std.specs.Fmt.{decimal, signed_decimal}
-use Rattle.std.proofs.lemmas.Fmt.{decimal_by_steps, decimal_digit, decimal_step, parse-signed_decimal}
+use Rattle.std.proofs.lemmas.Fmt.{decimal_by_steps, parse-signed_decimal}
 use Rattle.std.proofs.lemmas.Int.{ints}
 use Rattle.std.proofs.lemmas.Bool.{eq-eqb, ne_eqb, and_parts, not-true, and_from}
 use borrow.Author.Count.{below_none, below_more}
-use Rattle.rv_base.specs.declared.regs.RegClass.{RegClass}
-use Rattle.rv_base.specs.declared.regs.RegClass.TheVariants.{Int, Float, Vector}
-use Rattle.rv_base.specs.RegNames.{real_name, int_names, float_names, name_at}
+use Rattle.rv_base.specs.RegNames.{int_names, float_names, name_at}
 use Rattle.rv_disasm.specs.declared.layouts.File.{File}
 use Rattle.rv_disasm.specs.declared.layouts.File.TheVariants as file
 use Rattle.rv_disasm.specs.Text.{number_text}

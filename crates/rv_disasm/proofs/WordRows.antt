@@ -1,27 +1,23 @@
 -- Every operation of 32 bits that a word may have, put together again, is the word.
-use Rattle.std.proofs.Common.{◌≡◌, ℕ, suc, ◌+◌, ◌-◌, ◌*◌, ◌/◌, ◌%◌, ◌^◌, ◌<◌, ◌≤◌, Bool, true, false, cond, ℤ, pos, negsuc, unsigned_abs, Option, Some, None, refl, sym, ◌∙◌, arith, lit<, w64}
+use Rattle.std.proofs.Common.{◌≡◌, ℕ, suc, ◌-◌, ◌*◌, ◌^◌, ◌<◌, Bool, true, false, cond, pos, negsuc, unsigned_abs, Option, Some, refl, ◌∙◌, arith, lit<}
 use Rattle.std.specs.Prelude.{IfSome, ◌==◌, ◌&&◌, nat_lt}
-use Rattle.std.specs.Option.{option_map, option_and_then}
+use Rattle.std.specs.Option.{option_and_then}
 use Rattle.std.proofs.lemmas.Int.{ints}
-use Rattle.std.proofs.lemmas.Bool.{ltb-true, ltb-false, eqb-true, and_parts}
+use Rattle.std.proofs.lemmas.Bool.{ltb-true, eqb-true, and_parts}
 use Rattle.rv_base.specs.declared.flags.IsaFlags.{IsaFlags}
 use Rattle.rv_machine.specs.declared.decoding.Decoded.{Decoded}
 use Rattle.rv_machine.specs.declared.ops.MOp.{MOp}
 use Rattle.rv_machine.specs.declared.ops.MOp.TheVariants.{Base, Load, Store, Alu, Carry, Atomic, Csr, FloatLoad, FloatStore, Float, VecMem, Vec}
 use Rattle.rv_machine.specs.declared.ops.AluOp.{AluOp}
 use Rattle.rv_machine.specs.declared.ops.AluOp.TheVariants.{Int, Mul, Bit}
-use Rattle.rv_machine.specs.declared.ops.VecFields.{VecFields}
 use Rattle.rv_machine.specs.declared.ops.BaseOp.{BaseOp}
 use Rattle.rv_machine.specs.declared.ops.BaseOp.TheVariants as base
 use Rattle.rv_machine.specs.declared.ops.LoadOp.{LoadOp}
 use Rattle.rv_machine.specs.declared.ops.LoadOp.TheVariants as load
 use Rattle.rv_machine.specs.declared.ops.StoreOp.{StoreOp}
 use Rattle.rv_machine.specs.declared.ops.StoreOp.TheVariants as store
-use Rattle.rv_machine.specs.declared.ops.IntOp.{IntOp}
 use Rattle.rv_machine.specs.declared.ops.IntOp.TheVariants as int
-use Rattle.rv_machine.specs.declared.ops.MulOp.{MulOp}
 use Rattle.rv_machine.specs.declared.ops.MulOp.TheVariants as mul
-use Rattle.rv_machine.specs.declared.ops.BitOp.{BitOp}
 use Rattle.rv_machine.specs.declared.ops.BitOp.TheVariants as bit
 use Rattle.rv_machine.specs.declared.ops.CarryOp.{CarryOp}
 use Rattle.rv_machine.specs.declared.ops.CarryOp.TheVariants as carry
@@ -38,12 +34,12 @@ use Rattle.rv_machine.specs.declared.ops.FloatOp.TheVariants as float
 use Rattle.rv_machine.specs.declared.ops.VecMemOp.{VecMemOp}
 use Rattle.rv_machine.specs.declared.ops.VecMemOp.TheVariants as vector
 use Rattle.rv_machine.specs.State.{signed}
-use Rattle.rv_machine.specs.Layout.{HasFileRegisters, bits, word_opcode, word_rd, word_funct3, word_rs1, word_rs2, word_funct7, word_funct6, word_funct12, word_funct5, word_fmt, word_vm, i_bits, s_bits, b_bits, u_bits, j_bits, i_imm, s_imm, b_imm, u_imm, j_imm, bare_form, r_layout, i_layout, shift_layout, shift_32_layout, unary_layout, s_layout, b_layout, u_layout, j_layout, fence_layout, rounded_layout, rounded_unary_layout, r4_layout, amo_layout, vector_layout, vector_memory_layout, vsetivli_layout}
+use Rattle.rv_machine.specs.Layout.{bits, word_opcode, word_rd, word_funct3, word_rs1, word_rs2, word_funct7, word_funct6, word_funct12, word_funct5, word_fmt, word_vm, i_bits, s_bits, b_bits, u_bits, j_bits, bare_form, r_layout, i_layout, shift_layout, shift_32_layout, unary_layout, s_layout, b_layout, u_layout, j_layout, fence_layout, rounded_layout, rounded_unary_layout, r4_layout, amo_layout, vector_layout, vector_memory_layout, vsetivli_layout}
 use Rattle.rv_machine.specs.Opcodes.{LUI, AUIPC, JAL, JALR, BRANCH, LOAD, STORE, OP_IMM, OP_IMM_32, OP, OP_32, MISC_MEM, SYSTEM, LOAD_FP, STORE_FP, AMO, MADD, MSUB, NMSUB, NMADD, OP_FP, OP_V}
 use Rattle.rv_machine.specs.Tables.{branch_entry, load_entry, store_entry, imm_entry, imm_32_entry, shift_entry, unary_entry, long_shift_32_entry, shift_32_entry, unary_32_entry, op_entry, op_32_entry, unary_op_32_entry}
-use Rattle.rv_machine.specs.UnitTables.{carry_unary_entry, carry_entry, carry_32_entry, csr_entry, atomic_entry, atomic_width_entry, format_entry, width_entry, rounded_entry, rounded_unary_entry, fixed_entry, fixed_unary_entry, is_own_format, fused_entry, vector_load_entry, vector_store_entry}
+use Rattle.rv_machine.specs.UnitTables.{carry_unary_entry, carry_entry, carry_32_entry, csr_entry, atomic_entry, atomic_width_entry, format_entry, width_entry, rounded_entry, rounded_unary_entry, fixed_entry, fixed_unary_entry, fused_entry, vector_load_entry, vector_store_entry}
 use Rattle.rv_machine.specs.Vectors.{vector_fields, are_fields}
-use Rattle.rv_machine.specs.UnitDecode.{is_source, atomic_of, decode_amo, decode_csr, is_rounding, has_format, float_load_of, float_store_of, rounded_of, rounded_unary_of, fixed_of, float_of, decode_op_fp, fused_of, decode_fused, is_plain, load_of, decode_load_fp, store_of, decode_store_fp, is_vtype, decode_vsetivli, vector_of, decode_op_v, decode_carry_unary, decode_carry, decode_carry_32, unit_by_opcode, or_else}
+use Rattle.rv_machine.specs.UnitDecode.{atomic_of, decode_amo, decode_csr, is_rounding, has_format, float_load_of, float_store_of, rounded_of, rounded_unary_of, float_of, decode_op_fp, fused_of, decode_fused, is_plain, load_of, decode_load_fp, store_of, decode_store_fp, is_vtype, decode_vsetivli, vector_of, decode_op_v, decode_carry_unary, decode_carry, decode_carry_32, unit_by_opcode, or_else}
 use Rattle.rv_machine.specs.Decode.{decode_jalr, decode_branch, decode_load, decode_store, decode_op_imm, decode_op_imm_32, decode_op, decode_op_32, decode_misc_mem, decode_system, int_by_opcode}
 use Rattle.rv_disasm.specs.declared.forms.Form.TheVariants as form
 use Rattle.rv_disasm.specs.Text.{form_fields, functs}

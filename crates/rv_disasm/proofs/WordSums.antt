@@ -1,12 +1,12 @@
 -- A word is put together again from the fields of its layout and the bits that its row fixes.
-use Rattle.std.proofs.Common.{◌≡◌, ℕ, ◌+◌, ◌*◌, ◌/◌, ◌%◌, ◌^◌, ◌<◌, Bool, true, false, ℤ, pos, unsigned_abs, refl, arith, w64}
+use Rattle.std.proofs.Common.{◌≡◌, ℕ, ◌+◌, ◌*◌, ◌/◌, ◌%◌, ◌^◌, ◌<◌, Bool, true, false, pos, unsigned_abs, refl, arith}
 use Rattle.std.specs.Prelude.{◌==◌}
-use Rattle.std.specs.Int.{cast_unsigned, from_bool}
+use Rattle.std.specs.Int.{from_bool}
 use Rattle.std.proofs.lemmas.Int.{ints}
 use Rattle.std.proofs.lemmas.Bool.{eqb-true, eqb-false}
 use Rattle.rv_machine.specs.Layout.{bits, word_opcode, word_rd, word_funct3, word_rs1, word_rs2, word_funct7, word_funct6, word_funct12, word_funct5, word_fmt, word_vm, i_bits, s_bits, b_bits, u_bits, j_bits, i_imm, s_imm, b_imm, u_imm, j_imm}
 use Rattle.rv_disasm.specs.Placing.{i_place, s_place, b_place, u_place, j_place}
-use Rattle.rv_disasm.proofs.Sums.{held, held_5, held_pos, held_12, held_13, held_20, held_21, sum_1, sum_2, sum_3, sum_4, sum_5, sum_6, s_placed, b_placed, j_placed, r_split, i_split, u_split, j_split, b_split}
+use Rattle.rv_disasm.proofs.Sums.{held, held_5, held_12, held_13, held_20, held_21, sum_2, sum_3, sum_4, sum_5, sum_6, s_placed, b_placed, j_placed, r_split, i_split, u_split, j_split, b_split}
 
 -- ---- fields
 

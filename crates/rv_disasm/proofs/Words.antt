@@ -1,5 +1,5 @@
 -- A word's text is that of what it begins with, and the word that a text may have is the word of the text.
-use Rattle.std.proofs.Common.{◌≡◌, ℕ, ◌+◌, ◌%◌, ◌^◌, ◌<◌, Bool, true, false, cond, List, ◌++◌, Option, Some, None, refl, sym, ap, ◌∙◌, arith, w16, w32, IfSome, if◌then◌else◌}
+use Rattle.std.proofs.Common.{◌≡◌, ℕ, ◌%◌, ◌^◌, ◌<◌, Bool, true, false, List, ◌++◌, Option, Some, None, refl, sym, ap, ◌∙◌, arith, w16, w32, IfSome, if◌then◌else◌}
 use Rattle.std.specs.Prelude.{◌==◌, codes}
 use Rattle.std.specs.Option.{option_map, option_and_then}
 use Rattle.std.specs.Int.{to_be_bytes}
@@ -8,7 +8,6 @@ use Rattle.rv_base.specs.declared.flags.IsaFlags.{IsaFlags}
 use Rattle.rv_machine.specs.declared.decoding.Decoded.{Decoded}
 use Rattle.rv_machine.specs.Layout.{bits, word_opcode}
 use Rattle.rv_machine.specs.Compressed.{decode_half}
-use Rattle.rv_machine.specs.Decode.{decode}
 use Rattle.rv_disasm.specs.declared.word.Word.{Word}
 use Rattle.rv_disasm.specs.declared.forms.Form.{Form}
 use Rattle.rv_disasm.specs.declared.forms.Form.TheVariants as form

@@ -1,5 +1,5 @@
 -- "RVC Instruction Set Listings" of RV64 and "Zcb": the instructions of 16 bits, their mnemonics and their free fields.
-use Rattle.std.specs.Prelude.{ℕ, ◌+◌, ◌*◌, ◌==◌, ◌&&◌, if◌then◌else◌, List, codes, Option, Some, None}
+use Rattle.std.specs.Prelude.{ℕ, ◌==◌, ◌&&◌, if◌then◌else◌, List, codes, Option, Some, None}
 use Rattle.rv_machine.specs.Layout.{bits}
 use Rattle.rv_machine.specs.Compressed.{half_op, half_funct3, half_rd, half_rs2}
 use Rattle.rv_disasm.specs.declared.layouts.Layout.{Layout}

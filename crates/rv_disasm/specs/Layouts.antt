@@ -1,6 +1,6 @@
 -- Which fields a row of the manual's listings leaves free, in the order in which a text has them: rd, rs1, rs2, rs3, immediate,
 -- rounding field, ordering bits, mask bit, predecessor and successor set. Vector arithmetic has its functs first, and vs2 before vs1.
-use Rattle.std.specs.Prelude.{ℕ, List, [], ◌∷◌}
+use Rattle.std.specs.Prelude.{List, [], ◌∷◌}
 use Rattle.rv_machine.specs.declared.ops.MOp.{MOp}
 use Rattle.rv_machine.specs.declared.ops.MOp.TheVariants.{Base, Load, Store, Alu, Carry, Atomic, Csr, FloatLoad, FloatStore, Float, VecMem, Vec}
 use Rattle.rv_machine.specs.declared.ops.AluOp.{AluOp}

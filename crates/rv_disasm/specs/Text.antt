@@ -20,7 +20,6 @@ use Rattle.rv_disasm.specs.declared.layouts.Field.TheVariants.{Rd, Rs1, Rs2, Rs3
 use Rattle.rv_disasm.specs.declared.layouts.Layout.{Layout}
 use Rattle.rv_disasm.specs.Layouts.{fields_of, layout_of}
 use Rattle.rv_disasm.specs.Mnemonics.{mnemonic}
-use Rattle.rv_disasm.specs.declared.halfwords.HalfOp.{HalfOp}
 use Rattle.rv_disasm.specs.Halfwords.{half_name, half_layout, half_named}
 use Rattle.rv_disasm.specs.declared.forms.Form.{Form}
 use Rattle.rv_disasm.specs.declared.forms.Form.TheVariants as form

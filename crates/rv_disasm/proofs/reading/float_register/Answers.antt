@@ -1,4 +1,4 @@
-use Rattle.std.proofs.Common.{◌≡◌, ℕ, sym, ◌∙◌, below_more, lt_of_lt_of_le}
+use Rattle.std.proofs.Common.{◌≡◌, sym, ◌∙◌, below_more, lt_of_lt_of_le}
 use Rattle.std.proofs.lemmas.Bool.{both_ways}
 use Rattle.std.proofs.lemmas.Slice.Eq.{bytes_eq-Decides}
 use Rattle.rv_base.specs.declared.regs.RegClass.TheVariants.{Float}

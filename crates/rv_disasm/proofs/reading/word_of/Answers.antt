@@ -1,11 +1,10 @@
-use Rattle.std.proofs.Common.{◌≡◌, w64, sym, ap, ◌∙◌, drop, get_or, ◌+◌, arith, ◌%◌, ◌^◌, ◌<◌}
-use Rattle.rv_machine.specs.declared.decoding.Decoded.{Decoded}
+use Rattle.std.proofs.Common.{w64, sym, ap, ◌∙◌, drop, ◌+◌, arith, ◌%◌, ◌^◌}
 use Rattle.rv_disasm.specs.Layouts.{fields_of}
-use Rattle.rv_disasm.specs.Text.{number, file_of, fields_text, space}
-use Rattle.rv_disasm.specs.Placing.{form_fixed, place}
+use Rattle.rv_disasm.specs.Text.{fields_text, space}
+use Rattle.rv_disasm.specs.Placing.{place}
 use Rattle.rv_disasm.specs.Reading.{filled}
 use Rattle.rv_disasm.proofs.FieldTexts.{field_small}
-use Rattle.rv_disasm.proofs.WordReads.{AtField, begins_comma, next_named, next_text_in, moved, all_read}
+use Rattle.rv_disasm.proofs.WordReads.{begins_comma, next_named, next_text_in, moved, all_read}
 use Rattle.std.specs.Int.{cast_unsigned}
 use Rattle.rv_disasm.proofs.Tokens.{kept_z}
 use Rattle.rv_disasm.proofs.reading.word_of.Goals as goal
