@@ -4,3 +4,4 @@ pub mod Keeping
 pub mod RulesKept
 pub mod Temporaries
 pub mod Parts
+pub mod ClearRegisters

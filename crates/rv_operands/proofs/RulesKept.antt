@@ -26,11 +26,18 @@ use Rattle.rv_inst.specs.declared.inst.SelectInfo.{SelectInfo}
 use Rattle.rv_inst.specs.declared.inst.Inst.{Inst}
 use Rattle.rv_inst.specs.declared.inst.Inst.TheVariants.{Nop0, Nop4, EBreak, SequencePoint, Args, Rets, DummyUse, Unwind, EmitIsland, RawData, Lui, Auipc, LoadInlineConst, AluRRR, AluRRImm12, Mov, MovFromPReg, Extend, Select, Load, Store, LoadAddr, LabelAddress, Ret, TrapIf, Jal, CondBr, BrTable, Udf, Jalr, Popcnt, Cltz, Brev8, StackProbeLoop, LoadExtNameGot, LoadExtNameNear, LoadExtNameFar, Call, CallInd, ReturnCall, ReturnCallInd, FpuRRR}
 use Rattle.rv_inst.specs.Operands.{all_of, written_in}
-use Rattle.rv_inst.specs.Rules.{is_uneven, select_clash, clash, is_fifth, is_stack_or_frame, results_clash}
+use Rattle.rv_inst.specs.Rules.{is_virtual, is_reserved, is_misplaced, has_zero, has_clash, is_uneven, select_clash, clash, is_fifth, is_stack_or_frame, results_clash}
 use Rattle.rv_operands.specs.Operand.{constraint_of}
-use Rattle.rv_operands.specs.Operands.{use_operand, def_operand, select_operands}
-use Rattle.rv_operands.specs.Meeting.{definitions, AreDistinct, AreApart, AreMet, AreFree, ArePlaced, AreOfClasses, AreChosen, KeepsRules}
+use Rattle.rv_operands.specs.Operands.{row_of, operands_of, use_operand, def_operand, select_operands}
+use Rattle.rv_operands.specs.Meeting.{chosen, definitions, AreDistinct, AreApart, AreMet, AreFree, ArePlaced, AreOfClasses, AreChosen, KeepsRules}
+use Rattle.rv_operands.proofs.ClearRegisters.{quiet, virtual_clear, reserved_clear}
 use Rattle.rv_operands.proofs.Keeping.{either, or_none, apart, absent, no_clash, same_stack, same_frame, AreInt, not_other, all_int, alike, args_alike, rets_alike, uses_alike, defs_alike, both_classes, into, call_written, results_placed, no_results_clash}
+
+-- the rules on classes, on x0 and on clashes
+record KeepsThree (inst : Inst) : Type 0 where
+  pub class : is_misplaced inst ≡ (row_of inst).misnamed
+  pub zero : has_zero inst ≡ false
+  pub clash : has_clash inst ≡ (row_of inst).uneven
 
 -- ---- choices
 
@@ -54,7 +61,7 @@ select_apart (Two v w) c (One a) (Two b b2) m = no_clash (v.reg ∷ w.reg ∷ []
 select_apart (Two v w) c (Two a a2) (One b) m = no_clash (v.reg ∷ w.reg ∷ []) (c.rs1 ∷ c.rs2 ∷ a ∷ a2 ∷ b ∷ []) m.distinct m.early
 select_apart (Two v w) c (Two a a2) (Two b b2) m = no_clash (v.reg ∷ w.reg ∷ []) (c.rs1 ∷ c.rs2 ∷ a ∷ a2 ∷ b ∷ b2 ∷ []) m.distinct m.early
 
-select_keeps : (info : SelectInfo) → AreChosen (Select info) → KeepsRules (Select info)
+select_keeps : (info : SelectInfo) → AreChosen (Select info) → KeepsThree (Select info)
 select_keeps info c = record {
   class = all_int (written_in info.dst ++ info.condition.rs1 ∷ info.condition.rs2 ∷ all_of info.x ++ all_of info.y) (select_class info.dst info.condition info.x info.y c.classes);
   zero = refl;
@@ -63,7 +70,7 @@ select_keeps info c = record {
 
 -- ---- addresses
 
-load_keeps : (rd : Writable Reg) (op : LoadOP) (flags : MemFlagsData) (from : AMode) → AreChosen (Load rd op flags from) → KeepsRules (Load rd op flags from)
+load_keeps : (rd : Writable Reg) (op : LoadOP) (flags : MemFlagsData) (from : AMode) → AreChosen (Load rd op flags from) → KeepsThree (Load rd op flags from)
 load_keeps rd op flags (RegOffset r o) c = record { class = either (not_other rd.reg c.classes.1.0) (either (not_other r c.classes.0) refl); zero = refl; clash = refl }
 load_keeps rd op flags (SPOffset o) c = record { class = either (not_other rd.reg c.classes.0) refl; zero = refl; clash = refl }
 load_keeps rd op flags (FPOffset o) c = record { class = either (not_other rd.reg c.classes.0) refl; zero = refl; clash = refl }
@@ -72,7 +79,7 @@ load_keeps rd op flags (IncomingArg o) c = record { class = either (not_other rd
 load_keeps rd op flags (Const k) c = record { class = either (not_other rd.reg c.classes.0) refl; zero = c.free.0.not_zero; clash = refl }
 load_keeps rd op flags (Label l) c = record { class = either (not_other rd.reg c.classes.0) refl; zero = c.free.0.not_zero; clash = refl }
 
-store_keeps : (src : Reg) (op : StoreOP) (flags : MemFlagsData) (to : AMode) → AreChosen (Store src op flags to) → KeepsRules (Store src op flags to)
+store_keeps : (src : Reg) (op : StoreOP) (flags : MemFlagsData) (to : AMode) → AreChosen (Store src op flags to) → KeepsThree (Store src op flags to)
 store_keeps src op flags (RegOffset r o) c = record { class = either (not_other src c.classes.1.0) (either (not_other r c.classes.0) refl); zero = refl; clash = refl }
 store_keeps src op flags (SPOffset o) c = record { class = either (not_other src c.classes.0) refl; zero = refl; clash = refl }
 store_keeps src op flags (FPOffset o) c = record { class = either (not_other src c.classes.0) refl; zero = refl; clash = refl }
@@ -81,7 +88,7 @@ store_keeps src op flags (IncomingArg o) c = record { class = either (not_other 
 store_keeps src op flags (Const k) c = record { class = either (not_other src c.classes.0) refl; zero = refl; clash = refl }
 store_keeps src op flags (Label l) c = record { class = either (not_other src c.classes.0) refl; zero = refl; clash = refl }
 
-load_addr_keeps : (rd : Writable Reg) (mem : AMode) → AreChosen (LoadAddr rd mem) → KeepsRules (LoadAddr rd mem)
+load_addr_keeps : (rd : Writable Reg) (mem : AMode) → AreChosen (LoadAddr rd mem) → KeepsThree (LoadAddr rd mem)
 load_addr_keeps rd (RegOffset r o) c = record { class = either (not_other rd.reg c.classes.1.0) (either (not_other r c.classes.0) refl); zero = c.free.0.not_zero; clash = apart rd.reg r c.met.early.0.0 }
 load_addr_keeps rd (SPOffset o) c = record { class = either (not_other rd.reg c.classes.0) refl; zero = c.free.0.not_zero; clash = same_stack rd.reg ∙ c.free.0.not_stack }
 load_addr_keeps rd (FPOffset o) c = record { class = either (not_other rd.reg c.classes.0) refl; zero = c.free.0.not_zero; clash = same_frame rd.reg ∙ c.free.0.not_frame }
@@ -102,21 +109,21 @@ four_in_order rd tmp tmp2 step rs d a = no_clash (rd ∷ tmp ∷ tmp2 ∷ step �
     (((λ e. d.1.0.1.0 (sym e)), ((λ e. d.1.1.0.0 (sym e)), ((λ e. d.0.1.1.0 (sym e)), tt))), ((d.1.0.0, ((λ e. d.0.0 (sym e)), tt)), (((λ e. d.0.1.0 (sym e)), tt), (tt, tt))))
     (a.1.1.1.0, (a.1.0, (a.1.1.0, (a.0, tt))))
 
-popcnt_keeps : (info : CountInfo) → AreChosen (Popcnt info) → KeepsRules (Popcnt info)
+popcnt_keeps : (info : CountInfo) → AreChosen (Popcnt info) → KeepsThree (Popcnt info)
 popcnt_keeps info c = record {
   class = either (not_other info.sum.reg c.classes.1.1.1.0) (either (not_other info.tmp.reg c.classes.1.0) (either (not_other info.step.reg c.classes.1.1.0) (either (not_other info.rs c.classes.0) refl)));
   zero = either c.free.1.1.0.not_zero (either c.free.0.not_zero (either c.free.1.0.not_zero refl));
   clash = in_order info.sum.reg info.tmp.reg info.step.reg info.rs c.met.distinct c.met.early;
 }
 
-cltz_keeps : (leading : Bool) (info : CountInfo) → AreChosen (Cltz leading info) → KeepsRules (Cltz leading info)
+cltz_keeps : (leading : Bool) (info : CountInfo) → AreChosen (Cltz leading info) → KeepsThree (Cltz leading info)
 cltz_keeps leading info c = record {
   class = either (not_other info.sum.reg c.classes.1.1.1.0) (either (not_other info.tmp.reg c.classes.1.0) (either (not_other info.step.reg c.classes.1.1.0) (either (not_other info.rs c.classes.0) refl)));
   zero = either c.free.1.1.0.not_zero (either c.free.0.not_zero (either c.free.1.0.not_zero refl));
   clash = in_order info.sum.reg info.tmp.reg info.step.reg info.rs c.met.distinct c.met.early;
 }
 
-brev8_keeps : (info : Brev8Info) → AreChosen (Brev8 info) → KeepsRules (Brev8 info)
+brev8_keeps : (info : Brev8Info) → AreChosen (Brev8 info) → KeepsThree (Brev8 info)
 brev8_keeps info c = record {
   class = either (not_other info.rs c.classes.0) (either (not_other info.step.reg c.classes.1.0) (either (not_other info.tmp.reg c.classes.1.1.0) (either (not_other info.tmp2.reg c.classes.1.1.1.0) (either (not_other info.rd.reg c.classes.1.1.1.1.0) refl))));
   zero = either c.free.1.1.1.0.not_zero (either c.free.1.0.not_zero (either c.free.1.1.0.not_zero (either c.free.0.not_zero refl)));
@@ -131,7 +138,7 @@ call_apart before uses defs after none all same met placed free =
     let written : definitions all ≡ map into defs = same ∙ call_written uses defs after none in
     no_results_clash all defs (subst AreDistinct written met.distinct) (subst AreFree written free) (results_placed all uses defs after placed)
 
-call_keeps : (info : CallInfo _) → AreChosen (Call info) → KeepsRules (Call info)
+call_keeps : (info : CallInfo _) → AreChosen (Call info) → KeepsThree (Call info)
 call_keeps info c =
     let classes = both_classes (map use_operand info.uses) (map def_operand info.defs) c.classes in
     record {
@@ -140,7 +147,7 @@ call_keeps info c =
       clash = call_apart [] info.uses info.defs (RegClobbers info.clobbers ∷ []) refl _ refl c.met c.met.placed c.free;
     }
 
-call_through_keeps : (info : CallInfo Reg) → AreChosen (CallInd info) → KeepsRules (CallInd info)
+call_through_keeps : (info : CallInfo Reg) → AreChosen (CallInd info) → KeepsThree (CallInd info)
 call_through_keeps info c =
     let classes = both_classes (map use_operand info.uses) (map def_operand info.defs) c.classes.1 in
     record {
@@ -149,7 +156,7 @@ call_through_keeps info c =
       clash = call_apart [] info.uses info.defs (RegClobbers info.clobbers ∷ []) refl _ refl c.met c.met.placed.1 c.free;
     }
 
-tail_call_through_keeps : (info : ReturnCallInfo Reg) → AreChosen (ReturnCallInd info) → KeepsRules (ReturnCallInd info)
+tail_call_through_keeps : (info : ReturnCallInfo Reg) → AreChosen (ReturnCallInd info) → KeepsThree (ReturnCallInd info)
 tail_call_through_keeps info c = record {
   class = either (ap (λ r. not (is_fifth r)) c.met.placed.0) (uses_alike info.uses c.classes.1);
   zero = refl;
@@ -158,49 +165,60 @@ tail_call_through_keeps info c = record {
 
 -- ---- every kind
 
-probe_keeps : (guard_size probe_count : ℕ) (tmp : Writable Reg) → AreChosen (StackProbeLoop guard_size probe_count tmp) → KeepsRules (StackProbeLoop guard_size probe_count tmp)
+probe_keeps : (guard_size probe_count : ℕ) (tmp : Writable Reg) → AreChosen (StackProbeLoop guard_size probe_count tmp) → KeepsThree (StackProbeLoop guard_size probe_count tmp)
 probe_keeps guard_size probe_count tmp c = record { class = either (not_other tmp.reg c.own_classes.0) refl; zero = either c.own_free.0.not_zero refl; clash = c.own_free.0.not_stack }
 
+three : (inst : Inst) → AreChosen inst → KeepsThree inst
+three Nop0 c = record { class = refl; zero = refl; clash = refl }
+three Nop4 c = record { class = refl; zero = refl; clash = refl }
+three EBreak c = record { class = refl; zero = refl; clash = refl }
+three SequencePoint c = record { class = refl; zero = refl; clash = refl }
+three (Args args) c = record { class = args_alike args c.classes; zero = refl; clash = refl }
+three (Rets rets) c = record { class = rets_alike rets c.classes; zero = refl; clash = refl }
+three (DummyUse reg) c = record { class = refl; zero = refl; clash = refl }
+three (Unwind inst) c = record { class = refl; zero = refl; clash = refl }
+three (EmitIsland needed_space) c = record { class = refl; zero = refl; clash = refl }
+three (RawData bytes) c = record { class = refl; zero = refl; clash = refl }
+three (Lui rd imm) c = record { class = either (not_other rd.reg c.classes.0) refl; zero = refl; clash = refl }
+three (Auipc rd imm) c = record { class = either (not_other rd.reg c.classes.0) refl; zero = refl; clash = refl }
+three (LoadInlineConst rd type imm) c = record { class = either (not_other rd.reg c.classes.0) refl; zero = either c.free.0.not_zero refl; clash = refl }
+three (AluRRR op rd rs1 rs2) c = record { class = either (not_other rd.reg c.classes.1.1.0) (either (not_other rs1 c.classes.0) (either (not_other rs2 c.classes.1.0) refl)); zero = refl; clash = refl }
+three (AluRRImm12 op rd rs imm) c = record { class = either (not_other rd.reg c.classes.1.0) (either (not_other rs c.classes.0) refl); zero = refl; clash = refl }
+three (Mov rd rm type) c = record { class = alike (class_of rd.reg) (class_of rm) c.classes.1.0; zero = refl; clash = refl }
+three (MovFromPReg rd rm) c = record { class = ap (λ b. b || not (is_stack_or_frame rm)) (not_other rd.reg c.classes.0); zero = refl; clash = refl }
+three (Extend rd rn signed from_bits to_bits) c = record { class = either (not_other rd.reg c.classes.1.0) (either (not_other rn c.classes.0) refl); zero = refl; clash = refl }
+three (Select info) c = select_keeps info c
+three (Load rd op flags from) c = load_keeps rd op flags from c
+three (Store src op flags to) c = store_keeps src op flags to c
+three (LoadAddr rd mem) c = load_addr_keeps rd mem c
+three (LabelAddress dst label) c = record { class = either (not_other dst.reg c.classes.0) refl; zero = either c.free.0.not_zero refl; clash = refl }
+three Ret c = record { class = refl; zero = refl; clash = refl }
+three (TrapIf cmp code) c = record { class = either (not_other cmp.rs1 c.classes.0) (either (not_other cmp.rs2 c.classes.1.0) refl); zero = refl; clash = refl }
+three (Jal label) c = record { class = refl; zero = refl; clash = refl }
+three (CondBr taken not_taken kind) c = record { class = either (not_other kind.rs1 c.classes.0) (either (not_other kind.rs2 c.classes.1.0) refl); zero = refl; clash = refl }
+three (BrTable index tmp1 tmp2 targets) c = record { class = either (not_other index c.classes.0) (either (not_other tmp1.reg c.classes.1.0) (either (not_other tmp2.reg c.classes.1.1.0) refl)); zero = either c.free.0.not_zero (either c.free.1.0.not_zero refl); clash = no_clash (tmp1.reg ∷ tmp2.reg ∷ []) (index ∷ []) c.met.distinct c.met.early }
+three (Udf code) c = record { class = refl; zero = refl; clash = refl }
+three (Jalr rd base offset) c = record { class = either (not_other rd.reg c.classes.1.0) (either (not_other base c.classes.0) refl); zero = refl; clash = refl }
+three (Popcnt info) c = popcnt_keeps info c
+three (Cltz leading info) c = cltz_keeps leading info c
+three (Brev8 info) c = brev8_keeps info c
+three (StackProbeLoop guard_size probe_count tmp) c = probe_keeps guard_size probe_count tmp c
+three (LoadExtNameGot rd name) c = record { class = either (not_other rd.reg c.classes.0) refl; zero = either c.free.0.not_zero refl; clash = refl }
+three (LoadExtNameNear rd name offset) c = record { class = either (not_other rd.reg c.classes.0) refl; zero = either c.free.0.not_zero refl; clash = refl }
+three (LoadExtNameFar rd name offset) c = record { class = either (not_other rd.reg c.classes.0) refl; zero = either c.free.0.not_zero refl; clash = refl }
+three (Call info) c = call_keeps info c
+three (CallInd info) c = call_through_keeps info c
+three (ReturnCall info) c = record { class = uses_alike info.uses c.classes; zero = refl; clash = refl }
+three (ReturnCallInd info) c = tail_call_through_keeps info c
+three (FpuRRR op width frm rd rs1 rs2) c = record { class = either (alike (class_of rd.reg) (fpu_rrr_result op) c.classes.1.1.0) (either (alike (class_of rs1) Float c.classes.0) (either (alike (class_of rs2) Float c.classes.1.0) refl)); zero = refl; clash = refl }
+
 pub keeps : (inst : Inst) → AreChosen inst → KeepsRules inst
-keeps Nop0 c = record { class = refl; zero = refl; clash = refl }
-keeps Nop4 c = record { class = refl; zero = refl; clash = refl }
-keeps EBreak c = record { class = refl; zero = refl; clash = refl }
-keeps SequencePoint c = record { class = refl; zero = refl; clash = refl }
-keeps (Args args) c = record { class = args_alike args c.classes; zero = refl; clash = refl }
-keeps (Rets rets) c = record { class = rets_alike rets c.classes; zero = refl; clash = refl }
-keeps (DummyUse reg) c = record { class = refl; zero = refl; clash = refl }
-keeps (Unwind inst) c = record { class = refl; zero = refl; clash = refl }
-keeps (EmitIsland needed_space) c = record { class = refl; zero = refl; clash = refl }
-keeps (RawData bytes) c = record { class = refl; zero = refl; clash = refl }
-keeps (Lui rd imm) c = record { class = either (not_other rd.reg c.classes.0) refl; zero = refl; clash = refl }
-keeps (Auipc rd imm) c = record { class = either (not_other rd.reg c.classes.0) refl; zero = refl; clash = refl }
-keeps (LoadInlineConst rd type imm) c = record { class = either (not_other rd.reg c.classes.0) refl; zero = either c.free.0.not_zero refl; clash = refl }
-keeps (AluRRR op rd rs1 rs2) c = record { class = either (not_other rd.reg c.classes.1.1.0) (either (not_other rs1 c.classes.0) (either (not_other rs2 c.classes.1.0) refl)); zero = refl; clash = refl }
-keeps (AluRRImm12 op rd rs imm) c = record { class = either (not_other rd.reg c.classes.1.0) (either (not_other rs c.classes.0) refl); zero = refl; clash = refl }
-keeps (Mov rd rm type) c = record { class = alike (class_of rd.reg) (class_of rm) c.classes.1.0; zero = refl; clash = refl }
-keeps (MovFromPReg rd rm) c = record { class = ap (λ b. b || not (is_stack_or_frame rm)) (not_other rd.reg c.classes.0); zero = refl; clash = refl }
-keeps (Extend rd rn signed from_bits to_bits) c = record { class = either (not_other rd.reg c.classes.1.0) (either (not_other rn c.classes.0) refl); zero = refl; clash = refl }
-keeps (Select info) c = select_keeps info c
-keeps (Load rd op flags from) c = load_keeps rd op flags from c
-keeps (Store src op flags to) c = store_keeps src op flags to c
-keeps (LoadAddr rd mem) c = load_addr_keeps rd mem c
-keeps (LabelAddress dst label) c = record { class = either (not_other dst.reg c.classes.0) refl; zero = either c.free.0.not_zero refl; clash = refl }
-keeps Ret c = record { class = refl; zero = refl; clash = refl }
-keeps (TrapIf cmp code) c = record { class = either (not_other cmp.rs1 c.classes.0) (either (not_other cmp.rs2 c.classes.1.0) refl); zero = refl; clash = refl }
-keeps (Jal label) c = record { class = refl; zero = refl; clash = refl }
-keeps (CondBr taken not_taken kind) c = record { class = either (not_other kind.rs1 c.classes.0) (either (not_other kind.rs2 c.classes.1.0) refl); zero = refl; clash = refl }
-keeps (BrTable index tmp1 tmp2 targets) c = record { class = either (not_other index c.classes.0) (either (not_other tmp1.reg c.classes.1.0) (either (not_other tmp2.reg c.classes.1.1.0) refl)); zero = either c.free.0.not_zero (either c.free.1.0.not_zero refl); clash = no_clash (tmp1.reg ∷ tmp2.reg ∷ []) (index ∷ []) c.met.distinct c.met.early }
-keeps (Udf code) c = record { class = refl; zero = refl; clash = refl }
-keeps (Jalr rd base offset) c = record { class = either (not_other rd.reg c.classes.1.0) (either (not_other base c.classes.0) refl); zero = refl; clash = refl }
-keeps (Popcnt info) c = popcnt_keeps info c
-keeps (Cltz leading info) c = cltz_keeps leading info c
-keeps (Brev8 info) c = brev8_keeps info c
-keeps (StackProbeLoop guard_size probe_count tmp) c = probe_keeps guard_size probe_count tmp c
-keeps (LoadExtNameGot rd name) c = record { class = either (not_other rd.reg c.classes.0) refl; zero = either c.free.0.not_zero refl; clash = refl }
-keeps (LoadExtNameNear rd name offset) c = record { class = either (not_other rd.reg c.classes.0) refl; zero = either c.free.0.not_zero refl; clash = refl }
-keeps (LoadExtNameFar rd name offset) c = record { class = either (not_other rd.reg c.classes.0) refl; zero = either c.free.0.not_zero refl; clash = refl }
-keeps (Call info) c = call_keeps info c
-keeps (CallInd info) c = call_through_keeps info c
-keeps (ReturnCall info) c = record { class = uses_alike info.uses c.classes; zero = refl; clash = refl }
-keeps (ReturnCallInd info) c = tail_call_through_keeps info c
-keeps (FpuRRR op width frm rd rs1 rs2) c = record { class = either (alike (class_of rd.reg) (fpu_rrr_result op) c.classes.1.1.0) (either (alike (class_of rs1) Float c.classes.0) (either (alike (class_of rs2) Float c.classes.1.0) refl)); zero = refl; clash = refl }
+keeps inst c =
+    let t = three inst c in
+    record {
+      virtual = quiet is_virtual inst c.met.placed (virtual_clear (chosen (operands_of inst)) c.usable) (virtual_clear (chosen (row_of inst).own) c.own_usable);
+      class = t.class;
+      reserved = quiet is_reserved inst c.met.placed (reserved_clear (chosen (operands_of inst)) c.usable) (reserved_clear (chosen (row_of inst).own) c.own_usable);
+      zero = t.zero;
+      clash = t.clash;
+    }

@@ -1,6 +1,6 @@
 -- Registers that meet what an instruction asks of a register allocator, and the rules on registers that they then keep.
 use Rattle.std.specs.Prelude.{◌≡◌, ◌≢◌, false, List, [], ◌∷◌, take, drop, map, Option, Some, None}
-use Rattle.std.specs.List.{flat_map}
+use Rattle.std.specs.List.{flat_map, list_any}
 use Rattle.rv_base.specs.declared.constraint.Constraint.{Constraint}
 use Rattle.rv_base.specs.declared.constraint.Constraint.TheVariants.{RegUse, RegLateUse, RegFixedUse, RegFixedLateUse, RegDef, RegEarlyDef, RegFixedDef, RegReuseDef, AnyDef, RegClobbers}
 use Rattle.rv_base.specs.declared.regs.Reg.{Reg}
@@ -8,7 +8,8 @@ use Rattle.rv_base.specs.declared.regs.RegClass.{RegClass}
 use Rattle.rv_base.specs.Operands.{registers_of}
 use Rattle.rv_base.specs.Regs.{class_of}
 use Rattle.rv_inst.specs.declared.inst.Inst.{Inst}
-use Rattle.rv_inst.specs.Rules.{is_zero, is_stack, is_real_x, is_reserved, is_misplaced, has_zero, has_clash}
+use Rattle.rv_inst.specs.Operands.{inst_registers}
+use Rattle.rv_inst.specs.Rules.{is_virtual, is_zero, is_stack, is_real_x, is_reserved, is_misplaced, has_zero, has_clash}
 use Rattle.rv_operands.specs.Operand.{Access, Reads, ReadsLate, ReadsIn, Writes, WritesEarly, Scratches, WritesIn, WritesAnywhere, Operand}
 use Rattle.rv_operands.specs.Operands.{row_of, operands_of, constraints_of}
 
@@ -121,12 +122,20 @@ pub record AreMet (requests : List Constraint) : Type 0 where
 
 -- ---- registers that an allocator may choose
 
--- neither x0, nor the stack or the frame pointer, nor x30 or x31
+-- one of the machine's, and neither x30 nor x31
+pub record IsUsable (r : Reg) : Type 0 where
+  pub real : is_virtual r ≡ false
+  pub not_reserved : is_reserved r ≡ false
+
+abbrev pub AreUsable : List Reg → Type 0
+AreUsable [] = Unit {0}
+AreUsable (r ∷ rs) = IsUsable r × AreUsable rs
+
+-- neither x0, nor the stack or the frame pointer
 pub record IsFree (r : Reg) : Type 0 where
   pub not_zero : is_zero r ≡ false
   pub not_stack : is_stack r ≡ false
   pub not_frame : is_real_x 8 r ≡ false
-  pub not_reserved : is_reserved r ≡ false
 
 abbrev pub AreFree : List Reg → Type 0
 AreFree [] = Unit {0}
@@ -145,20 +154,24 @@ AreOfClasses (o ∷ operands) = IsOfClass o.class o.register × AreOfClasses ope
 abbrev pub chosen : List Operand → List Reg
 chosen operands = map (λ (o : Operand). o.register) operands
 
--- The registers of an instruction as an allocator chooses them: they meet what it asks, what is written is free, and each has the class
--- that its place asks. Temporaries of its own are free and of their class, too.
+-- The registers of an instruction as an allocator chooses them: they meet what it asks, are usable, and each has the class that its place
+-- asks; and what is written is free. So are temporaries of the instruction's own.
 pub record AreChosen (inst : Inst) : Type 0 where
   pub met : AreMet (constraints_of inst)
-  pub free : AreFree (definitions (constraints_of inst))
+  pub usable : AreUsable (chosen (operands_of inst))
   pub classes : AreOfClasses (operands_of inst)
-  pub own_free : AreFree (chosen (row_of inst).own)
+  pub free : AreFree (definitions (constraints_of inst))
+  pub own_usable : AreUsable (chosen (row_of inst).own)
   pub own_classes : AreOfClasses (row_of inst).own
+  pub own_free : AreFree (chosen (row_of inst).own)
 
 -- ---- the rules that they keep
 
--- of the rules on classes, on x0 and on registers that clash, an instruction breaks only what no choice of registers mends
+-- of the five rules on registers, an instruction breaks only what no choice of registers mends
 pub record KeepsRules (inst : Inst) : Type 0 where
+  pub virtual : list_any is_virtual (inst_registers inst) ≡ list_any is_virtual (row_of inst).named
   pub class : is_misplaced inst ≡ (row_of inst).misnamed
+  pub reserved : list_any is_reserved (inst_registers inst) ≡ list_any is_reserved (row_of inst).named
   pub zero : has_zero inst ≡ false
   pub clash : has_clash inst ≡ (row_of inst).uneven
 

@@ -13,6 +13,7 @@ use Rattle.rv_base.specs.declared.call.RetLocation.TheVariants.{Reg as InReg, St
 use Rattle.rv_base.specs.declared.constraint.Constraint.{Constraint}
 use Rattle.rv_base.specs.declared.constraint.Constraint.TheVariants.{RegClobbers}
 use Rattle.rv_base.specs.declared.regs.Reg.{Reg}
+use Rattle.rv_base.specs.declared.regs.Reg.TheVariants.{Real}
 use Rattle.rv_base.specs.declared.regs.Writable.{Writable}
 use Rattle.rv_base.specs.declared.value_regs.ValueRegs.{ValueRegs}
 use Rattle.rv_base.specs.declared.value_regs.ValueRegs.TheVariants.{One, Two}
@@ -21,6 +22,7 @@ use Rattle.rv_ops.specs.Fpu.{fpu_rrr_result}
 use Rattle.rv_inst.specs.declared.inst.Inst.{Inst}
 use Rattle.rv_inst.specs.declared.inst.Inst.TheVariants.{Nop0, Nop4, EBreak, SequencePoint, Args, Rets, DummyUse, Unwind, EmitIsland, RawData, Lui, Auipc, LoadInlineConst, AluRRR, AluRRImm12, Mov, MovFromPReg, Extend, Select, Load, Store, LoadAddr, LabelAddress, Ret, TrapIf, Jal, CondBr, BrTable, Udf, Jalr, Popcnt, Cltz, Brev8, StackProbeLoop, LoadExtNameGot, LoadExtNameNear, LoadExtNameFar, Call, CallInd, ReturnCall, ReturnCallInd, FpuRRR}
 use Rattle.rv_inst.specs.declared.inst.SelectInfo.{SelectInfo}
+use Rattle.rv_inst.specs.Operands.{unwind_registers}
 use Rattle.rv_inst.specs.Rules.{class_for, is_stack_or_frame, is_uneven}
 use Rattle.rv_operands.specs.Operand.{Operand, Reads, ReadsIn, Writes, WritesIn, WritesAnywhere, of_int, reads, reads_late, writes, writes_early, scratches, reads_float, writes_in, constraint_of}
 
@@ -75,17 +77,18 @@ fifth = int_reg 5 (lit< tt)
 -- ---- the table
 
 -- The operands; the registers that the instruction overwrites beside; temporaries of its own that no allocator is asked for, since who
--- makes the instruction chooses them; and, of what rules say of registers, what no choice of the operands can mend: whether a register
--- that the instruction names by itself is another than its place asks, and whether lists of registers differ in length.
+-- makes the instruction chooses them; registers that it names by itself, and whether one of these is another than its place asks; and
+-- whether lists of registers differ in length.
 pub record Row : Type 0 where
   pub operands : List Operand
   pub clobbers : List Constraint
   pub own : List Operand
+  pub named : List Reg
   pub misnamed : Bool
   pub uneven : Bool
 
 abbrev pub row : List Operand → Row
-row operands = record { operands = operands; clobbers = []; own = []; misnamed = false; uneven = false }
+row operands = record { operands = operands; clobbers = []; own = []; named = []; misnamed = false; uneven = false }
 
 abbrev pub row_of : Inst → Row
 row_of Nop0 = row []
@@ -95,7 +98,7 @@ row_of SequencePoint = row []
 row_of (Args args) = row (map arg_operand args)
 row_of (Rets rets) = row (map ret_operand rets)
 row_of (DummyUse reg) = row (record { register = reg; class = None; access = Reads } ∷ [])
-row_of (Unwind inst) = row []
+row_of (Unwind inst) = record (row []) { named = unwind_registers inst }
 row_of (EmitIsland needed_space) = row []
 row_of (RawData bytes) = row []
 row_of (Lui rd imm) = row (writes rd ∷ [])
@@ -104,7 +107,7 @@ row_of (LoadInlineConst rd type imm) = row (writes rd ∷ [])
 row_of (AluRRR op rd rs1 rs2) = row (reads rs1 ∷ reads rs2 ∷ writes rd ∷ [])
 row_of (AluRRImm12 op rd rs imm) = row (reads rs ∷ writes rd ∷ [])
 row_of (Mov rd rm type) = row (record { register = rm; class = Some (class_of rd.reg); access = Reads } ∷ record { register = rd.reg; class = Some (class_of rm); access = Writes } ∷ [])
-row_of (MovFromPReg rd rm) = record (row (writes rd ∷ [])) { misnamed = not (is_stack_or_frame rm) }
+row_of (MovFromPReg rd rm) = record (row (writes rd ∷ [])) { named = Real rm ∷ []; misnamed = not (is_stack_or_frame rm) }
 row_of (Extend rd rn signed from_bits to_bits) = row (reads rn ∷ writes rd ∷ [])
 row_of (Select info) = record (row (select_operands info)) { uneven = is_uneven info.dst info.x info.y }
 row_of (Load rd op flags from) = row (address_operands from ++ writes rd ∷ [])

@@ -8,8 +8,8 @@ ghost use Rattle.rv_inst.specs.Meaning.{inst_temporaries};
 ghost use Rattle.rv_operands.specs.Operands.{row_of, operands_of};
 ghost use Rattle.rv_operands.specs.Meeting.{AreChosen, KeepsRules, scratched_in};
 
-/// Registers that are chosen as an instruction asks keep its rules on classes, on x0 and on registers that clash, but for what no choice
-/// mends: a register that it names by itself, and lists of different lengths.
+/// Registers that are chosen as an instruction asks keep the five rules on registers, but for what no choice mends: registers that it
+/// names by itself, and lists of different lengths.
 pub fn chosen_registers_keep_rules()
     ensures { (inst : Instruction) → AreChosen inst → KeepsRules inst }
 {}
