@@ -4,12 +4,12 @@ use Rattle.std.specs.Prelude.{◌≡◌, ℕ, ◌+◌, ◌<◌, List, [], ◌++�
 use Rattle.rv_base.specs.declared.call.UserStackMap.{UserStackMap}
 use Rattle.mach_labels.specs.Table.{first_inner}
 use Rattle.rv_machine.specs.State.{State, IsState, Values, AreValues, wrap}
-use Rattle.rv_inst.specs.Calls.{Return, return_of}
+use Rattle.rv_inst.specs.Sizes.{inst_records}
+use Rattle.rv_inst.specs.Operands.{Return, return_of, inst_temporaries}
 use Rattle.rv_inst.specs.Context.{Context}
 use Rattle.rv_inst.specs.LabelUse.{label_kinds}
-use Rattle.rv_inst.specs.Meaning.{AreOutside, inst_effect, inst_exit, inst_temporaries, inst_writes, resumed, try_exit}
+use Rattle.rv_inst.specs.Meaning.{AreOutside, inst_effect, inst_exit, inst_writes, resumed, try_exit}
 use Rattle.rv_inst.specs.Operands.{inst_constant, named_by, try_call_of}
-use Rattle.rv_inst.specs.Records.{inst_records}
 use Rattle.rv_inst.specs.SameValues.{Same}
 use Rattle.rv_inst.specs.declared.inst.Inst.{Inst}
 use Rattle.rv_inst.specs.declared.label_use.LabelUse.{LabelUse}
